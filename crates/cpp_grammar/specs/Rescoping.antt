@@ -179,6 +179,23 @@ left_at place number state = elim (is_by_some (counted_so_far by_all state.candi
 unfoldable pub with_lists : Lists → State → State
 with_lists lists state = record state { counting = record state.counting { lists = lists } }
 
+-- ## Modules
+
+-- A module's name is a candidate, which is named before a component of a nested name alone.
+unfoldable pub is_module : Term → Bool
+is_module (operation a b x y) = nat_eq a 87
+is_module _ = false
+
+unfoldable pub named_by_both : List Candidate → (number : ℕ) → Option Candidate
+named_by_both cs number = elim (nat_eq (place_in false cs number) (place_in true cs number)) [ true ↦ named_in false cs number | false ↦ None ]
+
+unfoldable pub module_of : Option Candidate → Option Term
+module_of None = None
+module_of (Some c) = elim (is_module c.tree) [ true ↦ Some c.tree | false ↦ None ]
+
+unfoldable pub module_named : (number : ℕ) → State → Option Term
+module_named number state = module_of (named_by_both state.candidates number)
+
 -- ## Substitutions
 
 -- A candidate's free parameters may denote others here than where it was made: in another encoding, or in a lambda's signature.
@@ -220,11 +237,6 @@ restated around place t state = elim around.in_lambda [
   | false ↦ with_free (free_in t) around place t state
 ]
 
--- A module's name is a candidate, which no substitution may name: what it is before would be needed.
-unfoldable pub is_module : Term → Bool
-is_module (operation a b x y) = nat_eq a 87
-is_module _ = false
-
 -- a substitution names a candidate
 unfoldable pub substituted_wide : Around → (place : ℕ) → Option Candidate → State → Result (Found Value State) Refusal
 substituted_wide around place None state = Err (BadReference place)
@@ -249,6 +261,13 @@ numbered around place number state = elim (nat_eq (place_in false state.candidat
   | false ↦ let lists = left_at place number state in listed_by lists around place number (with_lists lists state)
 ]
 
+-- a module that a substitution names before a component of a nested name
+unfoldable pub module_so_far : Around → (place : ℕ) → (number : ℕ) → State → Going
+module_so_far around place number state = elim (module_named number state) [
+  | None ↦ Err (BadReference place)
+  | Some t ↦ listed_so_far around t [] state
+]
+
 -- ## The unfolding
 
 -- Where all compilers count alike so far, nothing need be expected.
@@ -271,6 +290,7 @@ between_wide Production.ParameterArgument around place (v ∷ []) state = parame
 between_wide Production.ParameterExpression around place (v ∷ []) state = argument_here around (place - 1) (index_of v) state
 between_wide Production.HeldArguments around place [] state = next [] (inside around) (counted_unless (prefix_listed around.prefix) by_some around (prefix_tree around.prefix) state)
 between_wide Production.Holder around place (v ∷ []) state = holder_so_far around place state
+between_wide Production.NamedModule around place (v ∷ []) state = module_so_far around (place - 1) (counted_value Seq36 (text_of v)) state
 between_wide production around place vs state = between production around place vs state
 
 unfoldable pub close_wide : Production → (byte : ℕ) → Around → (place : ℕ) → (began : State) → List Value → State → Result (Found Value State) Refusal

@@ -168,185 +168,189 @@ const NEST_REST_ALONE: Sym = Sym::Kind(77);
 
 const FIRST_MODULE: Sym = Sym::Kind(78);
 
-const MORE_MODULE: Sym = Sym::Kind(79);
+const NAMED_MODULE: Sym = Sym::Kind(79);
 
-const MAYBE_PARTITION: Sym = Sym::Kind(80);
+const MORE_MODULE: Sym = Sym::Kind(80);
 
-const NAME_AFTER_MODULE: Sym = Sym::Kind(81);
+const MAYBE_PARTITION: Sym = Sym::Kind(81);
 
-const NAME_IN_MODULE: Sym = Sym::Kind(82);
+const NAME_AFTER_MODULE: Sym = Sym::Kind(82);
 
-const HOLDER_MARK: Sym = Sym::Kind(83);
+const NAME_IN_MODULE: Sym = Sym::Kind(83);
 
-const HELD_COMPONENT: Sym = Sym::Kind(84);
+const NEST_ON: Sym = Sym::Kind(84);
 
-const FLOAT_END: Sym = Sym::Kind(85);
+const HOLDER_MARK: Sym = Sym::Kind(85);
 
-const COMPONENT_AFTER_C: Sym = Sym::Kind(86);
+const HELD_COMPONENT: Sym = Sym::Kind(86);
 
-const OTHER_OPERATOR: Sym = Sym::Kind(87);
+const FLOAT_END: Sym = Sym::Kind(87);
 
-const HELD_ARGUMENTS: Sym = Sym::Kind(88);
+const COMPONENT_AFTER_C: Sym = Sym::Kind(88);
 
-const BASE_CLASS: Sym = Sym::Kind(89);
+const OTHER_OPERATOR: Sym = Sym::Kind(89);
 
-const UNNESTED_NAME: Sym = Sym::Kind(90);
+const HELD_ARGUMENTS: Sym = Sym::Kind(90);
 
-const BASE_ARGUMENTS: Sym = Sym::Kind(91);
+const BASE_CLASS: Sym = Sym::Kind(91);
 
-const ARGUMENTS_FIRST: Sym = Sym::Kind(92);
+const UNNESTED_NAME: Sym = Sym::Kind(92);
 
-const PLAIN_ENTITY: Sym = Sym::Kind(93);
+const BASE_ARGUMENTS: Sym = Sym::Kind(93);
 
-const PLAIN_TYPE_ENTITY: Sym = Sym::Kind(94);
+const ARGUMENTS_FIRST: Sym = Sym::Kind(94);
 
-const SPECIAL_MARK: Sym = Sym::Kind(95);
+const PLAIN_ENTITY: Sym = Sym::Kind(95);
 
-const SPECIAL_AFTER_G: Sym = Sym::Kind(96);
+const PLAIN_TYPE_ENTITY: Sym = Sym::Kind(96);
 
-const TEMPORARY_NAME: Sym = Sym::Kind(97);
+const SPECIAL_MARK: Sym = Sym::Kind(97);
 
-const CLONE_LETTER: Sym = Sym::Kind(98);
+const SPECIAL_AFTER_G: Sym = Sym::Kind(98);
 
-const TYPE_IN_STD: Sym = Sym::Kind(99);
+const TEMPORARY_NAME: Sym = Sym::Kind(99);
 
-const MAYBE_TAGS: Sym = Sym::Kind(100);
+const CLONE_LETTER: Sym = Sym::Kind(100);
 
-const ARGUMENT: Sym = Sym::Kind(101);
+const TYPE_IN_STD: Sym = Sym::Kind(101);
 
-const ARGUMENT_AFTER_T: Sym = Sym::Kind(102);
+const MAYBE_TAGS: Sym = Sym::Kind(102);
 
-const LEVELED_PARAMETER: Sym = Sym::Kind(103);
+const ARGUMENT: Sym = Sym::Kind(103);
 
-const ONE_ARGUMENT: Sym = Sym::Kind(104);
+const ARGUMENT_AFTER_T: Sym = Sym::Kind(104);
 
-const DECLARATION_AFTER_T: Sym = Sym::Kind(105);
+const LEVELED_PARAMETER: Sym = Sym::Kind(105);
 
-const DECLARATIONS: Sym = Sym::Kind(106);
+const ONE_ARGUMENT: Sym = Sym::Kind(106);
 
-const CONCEPT: Sym = Sym::Kind(107);
+const DECLARATION_AFTER_T: Sym = Sym::Kind(107);
 
-const SOLID_BUT_T: Sym = Sym::Kind(108);
+const DECLARATIONS: Sym = Sym::Kind(108);
 
-const EXPRESSION: Sym = Sym::Kind(109);
+const CONCEPT: Sym = Sym::Kind(109);
 
-const EXPRESSION_PARAMETER: Sym = Sym::Kind(110);
+const SOLID_BUT_T: Sym = Sym::Kind(110);
 
-const UNLEVELED_EXPRESSION: Sym = Sym::Kind(111);
+const EXPRESSION: Sym = Sym::Kind(111);
 
-const ADDRESSED_EXPRESSION: Sym = Sym::Kind(112);
+const EXPRESSION_PARAMETER: Sym = Sym::Kind(112);
 
-const ADDRESSED_LITERAL: Sym = Sym::Kind(113);
+const UNLEVELED_EXPRESSION: Sym = Sym::Kind(113);
 
-const EXPRESSION_AFTER_A: Sym = Sym::Kind(114);
+const ADDRESSED_EXPRESSION: Sym = Sym::Kind(114);
 
-const EXPRESSION_AFTER_C: Sym = Sym::Kind(115);
+const ADDRESSED_LITERAL: Sym = Sym::Kind(115);
 
-const EXPRESSION_AFTER_D: Sym = Sym::Kind(116);
+const EXPRESSION_AFTER_A: Sym = Sym::Kind(116);
 
-const EXPRESSION_AFTER_E: Sym = Sym::Kind(117);
+const EXPRESSION_AFTER_C: Sym = Sym::Kind(117);
 
-const EXPRESSION_AFTER_F: Sym = Sym::Kind(118);
+const EXPRESSION_AFTER_D: Sym = Sym::Kind(118);
 
-const EXPRESSION_AFTER_G: Sym = Sym::Kind(119);
+const EXPRESSION_AFTER_E: Sym = Sym::Kind(119);
 
-const EXPRESSION_AFTER_I: Sym = Sym::Kind(120);
+const EXPRESSION_AFTER_F: Sym = Sym::Kind(120);
 
-const EXPRESSION_AFTER_L: Sym = Sym::Kind(121);
+const EXPRESSION_AFTER_G: Sym = Sym::Kind(121);
 
-const EXPRESSION_AFTER_M: Sym = Sym::Kind(122);
+const EXPRESSION_AFTER_I: Sym = Sym::Kind(122);
 
-const EXPRESSION_AFTER_N: Sym = Sym::Kind(123);
+const EXPRESSION_AFTER_L: Sym = Sym::Kind(123);
 
-const EXPRESSION_AFTER_O: Sym = Sym::Kind(124);
+const EXPRESSION_AFTER_M: Sym = Sym::Kind(124);
 
-const EXPRESSION_AFTER_P: Sym = Sym::Kind(125);
+const EXPRESSION_AFTER_N: Sym = Sym::Kind(125);
 
-const EXPRESSION_AFTER_Q: Sym = Sym::Kind(126);
+const EXPRESSION_AFTER_O: Sym = Sym::Kind(126);
 
-const EXPRESSION_AFTER_R: Sym = Sym::Kind(127);
+const EXPRESSION_AFTER_P: Sym = Sym::Kind(127);
 
-const EXPRESSION_AFTER_S: Sym = Sym::Kind(128);
+const EXPRESSION_AFTER_Q: Sym = Sym::Kind(128);
 
-const EXPRESSION_AFTER_T: Sym = Sym::Kind(129);
+const EXPRESSION_AFTER_R: Sym = Sym::Kind(129);
 
-const EXPRESSIONS: Sym = Sym::Kind(130);
+const EXPRESSION_AFTER_S: Sym = Sym::Kind(130);
 
-const MAYBE_BEFORE: Sym = Sym::Kind(131);
+const EXPRESSION_AFTER_T: Sym = Sym::Kind(131);
 
-const FOLD_OPERATOR: Sym = Sym::Kind(132);
+const EXPRESSIONS: Sym = Sym::Kind(132);
 
-const FOLD_OPERATOR_AFTER_L: Sym = Sym::Kind(133);
+const MAYBE_BEFORE: Sym = Sym::Kind(133);
 
-const FOLD_OPERAND: Sym = Sym::Kind(134);
+const FOLD_OPERATOR: Sym = Sym::Kind(134);
 
-const FOLD_PACK: Sym = Sym::Kind(135);
+const FOLD_OPERATOR_AFTER_L: Sym = Sym::Kind(135);
 
-const VALUE_PACK: Sym = Sym::Kind(136);
+const FOLD_OPERAND: Sym = Sym::Kind(136);
 
-const TYPE_PACK: Sym = Sym::Kind(137);
+const FOLD_PACK: Sym = Sym::Kind(137);
 
-const DESIGNATED_VALUE: Sym = Sym::Kind(138);
+const VALUE_PACK: Sym = Sym::Kind(138);
 
-const DESIGNATOR_AFTER_D: Sym = Sym::Kind(139);
+const TYPE_PACK: Sym = Sym::Kind(139);
 
-const PLAIN_VALUE: Sym = Sym::Kind(140);
+const DESIGNATED_VALUE: Sym = Sym::Kind(140);
 
-const FIELD_NAME: Sym = Sym::Kind(141);
+const DESIGNATOR_AFTER_D: Sym = Sym::Kind(141);
 
-const PLACEMENT: Sym = Sym::Kind(142);
+const PLAIN_VALUE: Sym = Sym::Kind(142);
 
-const SOME_EXPRESSIONS: Sym = Sym::Kind(143);
+const FIELD_NAME: Sym = Sym::Kind(143);
 
-const INITIALIZER: Sym = Sym::Kind(144);
+const PLACEMENT: Sym = Sym::Kind(144);
 
-const INITIALIZER_AFTER_P: Sym = Sym::Kind(145);
+const SOME_EXPRESSIONS: Sym = Sym::Kind(145);
 
-const INITIALIZER_AFTER_I: Sym = Sym::Kind(146);
+const INITIALIZER: Sym = Sym::Kind(146);
 
-const OUTER_REST: Sym = Sym::Kind(147);
+const INITIALIZER_AFTER_P: Sym = Sym::Kind(147);
 
-const PARAMETER_NUMBER: Sym = Sym::Kind(148);
+const INITIALIZER_AFTER_I: Sym = Sym::Kind(148);
 
-const CONVERTED_TYPE: Sym = Sym::Kind(149);
+const OUTER_REST: Sym = Sym::Kind(149);
 
-const CONVERTED_SOLID: Sym = Sym::Kind(150);
+const PARAMETER_NUMBER: Sym = Sym::Kind(150);
 
-const PARAMETER_AFTER_T: Sym = Sym::Kind(151);
+const CONVERTED_TYPE: Sym = Sym::Kind(151);
 
-const DECLTYPE_AFTER_D: Sym = Sym::Kind(152);
+const CONVERTED_SOLID: Sym = Sym::Kind(152);
 
-const CONVERT_REST: Sym = Sym::Kind(153);
+const PARAMETER_AFTER_T: Sym = Sym::Kind(153);
 
-const UNRESOLVED: Sym = Sym::Kind(154);
+const DECLTYPE_AFTER_D: Sym = Sym::Kind(154);
 
-const UNRESOLVED_TYPE: Sym = Sym::Kind(155);
+const CONVERT_REST: Sym = Sym::Kind(155);
 
-const DESTRUCTOR_NAME: Sym = Sym::Kind(156);
+const UNRESOLVED: Sym = Sym::Kind(156);
 
-const REQUIREMENTS: Sym = Sym::Kind(157);
+const UNRESOLVED_TYPE: Sym = Sym::Kind(157);
 
-const AFTER_EXPRESSION: Sym = Sym::Kind(158);
+const DESTRUCTOR_NAME: Sym = Sym::Kind(158);
 
-const AFTER_NOEXCEPT: Sym = Sym::Kind(159);
+const REQUIREMENTS: Sym = Sym::Kind(159);
 
-const REQUIRED_TYPES: Sym = Sym::Kind(160);
+const AFTER_EXPRESSION: Sym = Sym::Kind(160);
 
-const LEVEL: Sym = Sym::Kind(161);
+const AFTER_NOEXCEPT: Sym = Sym::Kind(161);
 
-const MORE_LEVELS: Sym = Sym::Kind(162);
+const REQUIRED_TYPES: Sym = Sym::Kind(162);
 
-const UNRESOLVED_NAME: Sym = Sym::Kind(163);
+const LEVEL: Sym = Sym::Kind(163);
 
-const OPERATOR_NAME: Sym = Sym::Kind(164);
+const MORE_LEVELS: Sym = Sym::Kind(164);
 
-const ANY_ARRAY: Sym = Sym::Kind(165);
+const UNRESOLVED_NAME: Sym = Sym::Kind(165);
 
-const ARRAY_REST: Sym = Sym::Kind(166);
+const OPERATOR_NAME: Sym = Sym::Kind(166);
 
-const BOUND: Sym = Sym::Kind(167);
+const ANY_ARRAY: Sym = Sym::Kind(167);
 
-const NEST_MORE_OR_END: Sym = Sym::Kind(168);
+const ARRAY_REST: Sym = Sym::Kind(168);
+
+const BOUND: Sym = Sym::Kind(169);
+
+const NEST_MORE_OR_END: Sym = Sym::Kind(170);
 
 const NAME: Sym = Sym::Name;
 
@@ -361,70 +365,70 @@ const DIGITS: Sym = Sym::Number(NumberKind::Digits);
 pub const FIRST_LETTER: u8 = b'!';
 
 // For each kind a row: for each byte from `$` to `z` the letter of the production that the kind takes there.
-static LETTERS: [[u8; 87]; 169] = [
+static LETTERS: [[u8; 87]; 171] = [
     // $%&'()*+,-./0123456789:;<=>?@ABCDEFGHIJKLMNOPQRSTUVWXYZ[\]^_`abcdefghijklmnopqrstuvwxyz
-    *b"                                                           +                           ", // Symbol
-    *b"          ,                                                                            ", // MaybeSuffix
-    *b"-         - ----------       --------------------------    - --------------------------", // SuffixFirst
-    *b"-         - ----------       --------------------------    - --------------------------", // SuffixMore
-    *b"            0000000000             /    0 0    0.0    0      0 000 0 0  00000 00       ", // Encoding
-    *b"                                     1         11 1            4    2             3    ", // Special
-    *b"                                                                    8             9    ", // CallOffset
-    *b"            ;;;;;;;;;;                                                    :            ", // Integer
-    *b"            $$$$$$$$$$                  \" *    < #    =      % %%% % %  %%%%% %%       ", // CompleteName
+    *b"                                                           ,                           ", // Symbol
+    *b"          -                                                                            ", // MaybeSuffix
+    *b".         . ..........       ..........................    . ..........................", // SuffixFirst
+    *b".         . ..........       ..........................    . ..........................", // SuffixMore
+    *b"            1111111111             0    1 1    1/1    1      1 111 1 1  11111 11       ", // Encoding
+    *b"                                     2         22 2            5    3             4    ", // Special
+    *b"                                                                    9             :    ", // CallOffset
+    *b"            <<<<<<<<<<                                                    ;            ", // Integer
+    *b"            $$$$$$$$$$                  \" +    = #    >      % %%% % %  %%%%% %%       ", // CompleteName
     *b"                                                                              !        ", // MaybeRestrict
     *b"                                                  !                                    ", // MaybeVolatile
     *b"                                       !                                               ", // MaybeConst
     *b"                                           !  !                                        ", // MaybeRef
-    *b"            ??????????       ??????????????????????????    ? ?? ?    ?     ?   ?>      ", // NameAfterS
-    *b"            ((((((((((                  &        '           @ @@@ @ @  @@@@@ @@       ", // Unqualified
-    *b"            EEEEEEEEEE                  C      ABD                                     ", // Nest
-    *b"            IIIIIIIIII       IIIIIIIIIIIIIIIIIIIIIIIIII    I II I    I     I   IH      ", // NestAfterS
-    *b"            KKKKKKKKKK         KK    J  K        K           K KKK K K  KKKKK KK       ", // NestRest
-    *b"            KKKKKKKKKK         KKM      K        K           K KKK K K  KKKKK KK       ", // NestTail
-    *b"            $$$$$$$$$$         NO       \"        #           Q PQQ Q Q  QQQQQ QQ       ", // Component
-    *b"             UUU                                                                       ", // ConstructorAfterC
+    *b"            @@@@@@@@@@       @@@@@@@@@@@@@@@@@@@@@@@@@@    @ @@ @    @     @   @?      ", // NameAfterS
+    *b"            ((((((((((                  &        '           A AAA A A  AAAAA AA       ", // Unqualified
+    *b"            FFFFFFFFFF                  D      BCE                                     ", // Nest
+    *b"            JJJJJJJJJJ       JJJJJJJJJJJJJJJJJJJJJJJJJJ    J JJ J    J     J   JI      ", // NestAfterS
+    *b"            LLLLLLLLLL         LL    K  L        L           L LLL L L  LLLLL LL       ", // NestRest
+    *b"            LLLLLLLLLL         LLN      L        L           L LLL L L  LLLLL LL       ", // NestTail
+    *b"            $$$$$$$$$$         OP       \"        #           R QRR R R  RRRRR RR       ", // Component
+    *b"             VVV                                                                       ", // ConstructorAfterC
     *b"             !!!                                                                       ", // ConstructorDigit
     *b"             !! !!                                                                     ", // InheritedDigit
     *b"            !!!                                                                        ", // DestructorDigit
-    *b"            WWWWWWWWWW       WWWWWWWWWWWWWWWWWWWWWWWWWW    W VV V    V     V   V       ", // Abbreviation
-    *b"            $$$$$$$$$$                  \" *      #                             Y       ", // Entity
-    *b"            $$$$$$$$$$                  \" X      #                                     ", // TypeEntity
-    *b"                                                           \\                           ", // MaybeDiscriminator
-    *b"            ]]]]]]]]]]                                     ^                           ", // DiscriminatorRest
-    *b"                                                                        _       `      ", // Anonymous
-    *b"            ffffffffff       f fg f    d ffef efffc   f      ffffffffff ffff  bffffffff", // Type
-    *b"            iiiiiiiiii       i ih i      iiei eiii    i      iiiiiiiiii iiii   iiiiiiii", // Plain
-    *b"            ffffffffff       f fj f    d ffef efffc   f      ffffffffff ffff  bffffffff", // Item
-    *b"            ffffffffff       f fj f    d ff f  fffc   f      ffffffffff ffff  bffffffff", // ItemButRef
-    *b"                                                             l l     l    llk  l ll    ", // ItemAfterD
-    *b"                                                             m m     m    mo   m mn    ", // AfterD
-    *b"            $$$$$$$$$$       | ~  }      vX u  xw#    y      zzzzzzzzzz zzzz   zz{zzzzz", // Solid
+    *b"            XXXXXXXXXX       XXXXXXXXXXXXXXXXXXXXXXXXXX    X WW W    W     W   W       ", // Abbreviation
+    *b"            $$$$$$$$$$                  \" +      #                             Z       ", // Entity
+    *b"            $$$$$$$$$$                  \" Y      #                                     ", // TypeEntity
+    *b"                                                           ]                           ", // MaybeDiscriminator
+    *b"            ^^^^^^^^^^                                     _                           ", // DiscriminatorRest
+    *b"                                                                        `       a      ", // Anonymous
+    *b"            gggggggggg       g gh g    e ggfg fgggd   g      gggggggggg gggg  cgggggggg", // Type
+    *b"            jjjjjjjjjj       j ji j      jjfj fjjj    j      jjjjjjjjjj jjjj   jjjjjjjj", // Plain
+    *b"            gggggggggg       g gk g    e ggfg fgggd   g      gggggggggg gggg  cgggggggg", // Item
+    *b"            gggggggggg       g gk g    e gg g  gggd   g      gggggggggg gggg  cgggggggg", // ItemButRef
+    *b"                                                             m m     m    mml  m mm    ", // ItemAfterD
+    *b"                                                             n n     n    np   n no    ", // AfterD
+    *b"            $$$$$$$$$$       } \x7f  ~      wY v  yx#    z      {{{{{{{{{{ {{{{   {{|{{{{{", // Solid
     *b"                                                     !                                 ", // MaybeCLinkage
-    *b"            \x7f\x7f\x7f\x7f\x7f\x7f\x7f\x7f\x7f\x7f                                                                 ", // BitWidth
-    *b"            \x81\x81\x81\x81\x81\x81\x81\x81\x81\x81       \x81\x81\x81\x81\x81\x81\x81\x81\x81\x81\x81\x81\x81\x81\x81\x81\x81\x81\x81\x81\x81\x81\x81\x81\x81\x81    \x81 \x81\x81 \x81    \x81     \x81   \x81\x80      ", // TypeAfterS
+    *b"            \x80\x80\x80\x80\x80\x80\x80\x80\x80\x80                                                                 ", // BitWidth
+    *b"            \x82\x82\x82\x82\x82\x82\x82\x82\x82\x82       \x82\x82\x82\x82\x82\x82\x82\x82\x82\x82\x82\x82\x82\x82\x82\x82\x82\x82\x82\x82\x82\x82\x82\x82\x82\x82    \x82 \x82\x82 \x82    \x82     \x82   \x82\x81      ", // TypeAfterS
     *b"            ((((((((((                  &        '                                     ", // SourceOrLocal
-    *b"            \x85\x85\x85\x85\x85\x85\x85\x85\x85\x85       \x85 \x85\x85\x82\x85    \x85 \x85\x85\x84\x85 \x83\x85\x85\x85\x85   \x85      \x85\x85\x85\x85\x85\x85\x85\x85\x85\x85 \x85\x85\x85\x85  \x85\x85\x85\x85\x85\x85\x85\x85\x85", // FunctionRest
-    *b"            \x87\x87\x87\x87\x87\x87\x87\x87\x87\x87       \x87 \x87\x87\x86\x87    \x87 \x87\x87\x87\x87 \x87\x87\x87\x87\x87   \x87      \x87\x87\x87\x87\x87\x87\x87\x87\x87\x87 \x87\x87\x87\x87  \x87\x87\x87\x87\x87\x87\x87\x87\x87", // AfterR
-    *b"            \x88\x88\x88\x88\x88\x88\x88\x88\x88\x88       \x88 \x88\x88\x86\x88    \x88 \x88\x88\x88\x88 \x88\x88\x88\x88\x88   \x88      \x88\x88\x88\x88\x88\x88\x88\x88\x88\x88 \x88\x88\x88\x88  \x88\x88\x88\x88\x88\x88\x88\x88\x88", // AfterO
-    *b"            \x8a\x8a\x8a\x8a\x8a\x8a\x8a\x8a\x8a\x8a       \x8a \x8a\x8a \x8a    \x8a \x8a\x8a\x8a\x8a \x8a\x8a\x8a\x8a\x8a   \x8a      \x8a\x8a\x8a\x8a\x8a\x8a\x8a\x8a\x8a\x8a \x8a\x8a\x8a\x8a  \x8a\x8a\x8a\x8a\x8a\x8a\x8a\x8a\x8a", // Items
-    *b"                                     \x8b                                                 ", // MaybeArguments
-    *b"                                     \x8b                                                 ", // Arguments
-    *b"            \x8f\x8f\x8f\x8f\x8f\x8f\x8f\x8f\x8f\x8f       \x8f \x8f\x8f \x8f   \x8d\x8f\x8e\x8f\x8f\x8f\x8f \x8f\x8f\x8f\x8f\x8f \x8f \x8f      \x8f\x8f\x8f\x8f\x8f\x8f\x8f\x8f\x8f\x8f \x8f\x8f\x8f\x8f  \x8f\x8f\x8f\x8f\x8f\x8f\x8f\x8f\x8f", // ArgumentList
-    *b"            \x91\x91\x91\x91\x91\x91\x91\x91\x91\x91       \x91 \x91\x91 \x91    \x91\x90\x91\x91\x91\x91 \x91\x91\x91\x91\x91 \x91 \x91      \x91\x91\x91\x91\x91\x91\x91\x91\x91\x91 \x91\x91\x91\x91  \x91\x91\x91\x91\x91\x91\x91\x91\x91", // PackList
-    *b"            \x95\x95\x95\x95\x95\x95\x95\x95\x95\x95          \x94        \x95\x95 \x95  \x95\x95\x95    \x95    \x92 \x95\x93\x95    \x95\x95\x95 \x95\x95\x95\x95   \x95\x95  \x95\x95\x95 ", // Literal
+    *b"            \x86\x86\x86\x86\x86\x86\x86\x86\x86\x86       \x86 \x86\x86\x83\x86    \x86 \x86\x86\x85\x86 \x84\x86\x86\x86\x86   \x86      \x86\x86\x86\x86\x86\x86\x86\x86\x86\x86 \x86\x86\x86\x86  \x86\x86\x86\x86\x86\x86\x86\x86\x86", // FunctionRest
+    *b"            \x88\x88\x88\x88\x88\x88\x88\x88\x88\x88       \x88 \x88\x88\x87\x88    \x88 \x88\x88\x88\x88 \x88\x88\x88\x88\x88   \x88      \x88\x88\x88\x88\x88\x88\x88\x88\x88\x88 \x88\x88\x88\x88  \x88\x88\x88\x88\x88\x88\x88\x88\x88", // AfterR
+    *b"            \x89\x89\x89\x89\x89\x89\x89\x89\x89\x89       \x89 \x89\x89\x87\x89    \x89 \x89\x89\x89\x89 \x89\x89\x89\x89\x89   \x89      \x89\x89\x89\x89\x89\x89\x89\x89\x89\x89 \x89\x89\x89\x89  \x89\x89\x89\x89\x89\x89\x89\x89\x89", // AfterO
+    *b"            \x8b\x8b\x8b\x8b\x8b\x8b\x8b\x8b\x8b\x8b       \x8b \x8b\x8b \x8b    \x8b \x8b\x8b\x8b\x8b \x8b\x8b\x8b\x8b\x8b   \x8b      \x8b\x8b\x8b\x8b\x8b\x8b\x8b\x8b\x8b\x8b \x8b\x8b\x8b\x8b  \x8b\x8b\x8b\x8b\x8b\x8b\x8b\x8b\x8b", // Items
+    *b"                                     \x8c                                                 ", // MaybeArguments
+    *b"                                     \x8c                                                 ", // Arguments
+    *b"            \x90\x90\x90\x90\x90\x90\x90\x90\x90\x90       \x90 \x90\x90 \x90   \x8e\x90\x8f\x90\x90\x90\x90 \x90\x90\x90\x90\x90 \x90 \x90      \x90\x90\x90\x90\x90\x90\x90\x90\x90\x90 \x90\x90\x90\x90  \x90\x90\x90\x90\x90\x90\x90\x90\x90", // ArgumentList
+    *b"            \x92\x92\x92\x92\x92\x92\x92\x92\x92\x92       \x92 \x92\x92 \x92    \x92\x91\x92\x92\x92\x92 \x92\x92\x92\x92\x92 \x92 \x92      \x92\x92\x92\x92\x92\x92\x92\x92\x92\x92 \x92\x92\x92\x92  \x92\x92\x92\x92\x92\x92\x92\x92\x92", // PackList
+    *b"            \x96\x96\x96\x96\x96\x96\x96\x96\x96\x96          \x95        \x96\x96 \x96  \x96\x96\x96    \x96    \x93 \x96\x94\x96    \x96\x96\x96 \x96\x96\x96\x96   \x96\x96  \x96\x96\x96 ", // Literal
     *b"            !!                                                                         ", // Bit
-    *b"                                                                     \x98    \x97    \x98 \x98     ", // LiteralAfterD
-    *b"                                                                zzzz                   ", // FloatType
-    *b"                                  p                                                    ", // SizedFloatType
-    *b"            \x9a\x9a\x9a\x9a\x9a\x9a\x9a\x9a\x9a\x9a                                       \x9a\x9a\x9a\x9a\x9a\x9a                    ", // HexText
-    *b"            \x9b\x9b\x9b\x9b\x9b\x9b\x9b\x9b\x9b\x9b                                       \x9b\x9b\x9b\x9b\x9b\x9b                    ", // HexDigits
-    *b"            \x9b\x9b\x9b\x9b\x9b\x9b\x9b\x9b\x9b\x9b                                       \x9b\x9b\x9b\x9b\x9b\x9b                    ", // HexMore
+    *b"                                                                     \x99    \x98    \x99 \x99     ", // LiteralAfterD
+    *b"                                                                {{{{                   ", // FloatType
+    *b"                                  q                                                    ", // SizedFloatType
+    *b"            \x9b\x9b\x9b\x9b\x9b\x9b\x9b\x9b\x9b\x9b                                       \x9b\x9b\x9b\x9b\x9b\x9b                    ", // HexText
+    *b"            \x9c\x9c\x9c\x9c\x9c\x9c\x9c\x9c\x9c\x9c                                       \x9c\x9c\x9c\x9c\x9c\x9c                    ", // HexDigits
+    *b"            \x9c\x9c\x9c\x9c\x9c\x9c\x9c\x9c\x9c\x9c                                       \x9c\x9c\x9c\x9c\x9c\x9c                    ", // HexMore
     *b"            !                                                                          ", // MaybeZero
-    *b"            $$$$$$$$$$                   vX u  xw#    y      z z    zzz zzzz   zz  zzz ", // LiteralType
-    *b"            \x9e\x9e\x9e\x9e\x9e\x9e\x9e\x9e\x9e\x9e                   \x9e\x9e \x9e  \x9e\x9e\x9e    \x9e      \x9e \x9e    \x9e\x9e\x9e \x9e\x9e\x9e\x9e   \x9e\x9e  \x9e\x9e\x9e ", // LiteralPlain
-    *b"            $$$$$$$$$$                   vX u  xw#    y      z z    zzz zzzz   zz  zzz ", // LiteralSolid
-    *b"                                                             \xa1 \xa3\xa0\xa7 \xab \xaa  \xa8\xa4\x9f\xa6\xa2 \xa5\xa9       ", // Operator
+    *b"            $$$$$$$$$$                   wY v  yx#    z      { {    {{{ {{{{   {{  {{{ ", // LiteralType
+    *b"            \x9f\x9f\x9f\x9f\x9f\x9f\x9f\x9f\x9f\x9f                   \x9f\x9f \x9f  \x9f\x9f\x9f    \x9f      \x9f \x9f    \x9f\x9f\x9f \x9f\x9f\x9f\x9f   \x9f\x9f  \x9f\x9f\x9f ", // LiteralPlain
+    *b"            $$$$$$$$$$                   wY v  yx#    z      { {    {{{ {{{{   {{  {{{ ", // LiteralSolid
+    *b"                                                             \xa2 \xa4\xa1\xa8 \xac \xab  \xa9\xa5\xa0\xa7\xa3 \xa6\xaa       ", // Operator
     *b"                                                             !   ! !            !  !   ", // OperatorAfterN
     *b"                                                  !          !   !      !         !    ", // OperatorAfterD
     *b"                                          !    !             !  !         !        !   ", // OperatorAfterA
@@ -434,104 +438,106 @@ static LETTERS: [[u8; 87]; 169] = [
     *b"                                         !     !                         !     !       ", // OperatorAfterR
     *b"                                              !                            !  !        ", // OperatorAfterO
     *b"                                           !                               ! !         ", // OperatorAfterE
-    *b"                                               !                 !   \xac         !!      ", // OperatorAfterL
+    *b"                                               !                 !   \xad         !!      ", // OperatorAfterL
     *b"                                                                               !       ", // OperatorAfterS
     *b"                                                                                    !  ", // OperatorAfterI
     *b"                                                                 !              !      ", // OperatorAfterG
-    *b"            KKKKKKKKKK         KK    \xad  K        K           K KKK K K  KKKKK KK       ", // NestRestOrEnd
-    *b"                                     \x8b                                                 ", // ArgumentsAlone
-    *b"            KKKKKKKKKK         KK    J  K        K           K KKK K K  KKKKK KK       ", // NestRestAlone
-    *b"            \xae\xae\xae\xae\xae\xae\xae\xae\xae\xae                                                                 ", // FirstModule
-    *b"                                                   \xaf                                   ", // MoreModule
+    *b"            LLLLLLLLLL         LL    \xae  L        L           L LLL L L  LLLLL LL       ", // NestRestOrEnd
+    *b"                                     \x8c                                                 ", // ArgumentsAlone
+    *b"            LLLLLLLLLL         LL    K  L        L           L LLL L L  LLLLL LL       ", // NestRestAlone
+    *b"            \xaf\xaf\xaf\xaf\xaf\xaf\xaf\xaf\xaf\xaf                                                                 ", // FirstModule
+    *b"            \xb0\xb0\xb0\xb0\xb0\xb0\xb0\xb0\xb0\xb0       \xb0\xb0\xb0\xb0\xb0\xb0\xb0\xb0\xb0\xb0\xb0\xb0\xb0\xb0\xb0\xb0\xb0\xb0\xb0\xb0\xb0\xb0\xb0\xb0\xb0\xb0    \xb0                           ", // NamedModule
+    *b"                                                   \xb1                                   ", // MoreModule
     *b"                                            !                                          ", // MaybePartition
     *b"            $$$$$$$$$$                  \"        #           % %%% % %  %%%%% %%       ", // NameAfterModule
     *b"                                                   )                                   ", // NameInModule
+    *b"            LLLLLLLLLL         LL       L        L           L LLL L L  LLLLL LL       ", // NestOn
     *b"                                         !                                             ", // HolderMark
-    *b"            $$$$$$$$$$         NO       \"        # )         Q PQQ Q Q  QQQQQ QQ       ", // HeldComponent
+    *b"            $$$$$$$$$$         OP       \"      * # )         R QRR R R  RRRRR RR       ", // HeldComponent
     *b"                                                           !  !                     !  ", // FloatEnd
-    *b"                                                                        \xb1\xb1 \xb1           ", // ComponentAfterC
-    *b"                                                             \xa1  \xa0\xa7 \xab \xaa  \xa8\xa4\x9f\xa6\xa2 \xa5\xa9       ", // OtherOperator
-    *b"                                     \xb2                                                 ", // HeldArguments
-    *b"            \xb4\xb4\xb4\xb4\xb4\xb4\xb4\xb4\xb4\xb4                    \xb3    \xb4      y                                ", // BaseClass
-    *b"            \xb6\xb6\xb6\xb6\xb6\xb6\xb6\xb6\xb6\xb6                         \xb5                                       ", // UnnestedName
-    *b"                                     \xb7                                                 ", // BaseArguments
-    *b"            \x8f\x8f\x8f\x8f\x8f\x8f\x8f\x8f\x8f\x8f       \x8f \x8f\x8f \x8f   \x8d\x8f\x8e\x8f\x8f\x8f\x8f \x8f\x8f\x8f\x8f\x8f \x8f \x8f      \x8f\x8f\x8f\x8f\x8f\x8f\x8f\x8f\x8f\x8f \x8f\x8f\x8f\x8f  \x8f\x8f\x8f\x8f\x8f\x8f\x8f\x8f\x8f", // ArgumentsFirst
-    *b"            $$$$$$$$$$                  \" *      #                                     ", // PlainEntity
-    *b"            $$$$$$$$$$                  \" X      #                                     ", // PlainTypeEntity
+    *b"                                                                        \xb3\xb3 \xb3           ", // ComponentAfterC
+    *b"                                                             \xa2  \xa1\xa8 \xac \xab  \xa9\xa5\xa0\xa7\xa3 \xa6\xaa       ", // OtherOperator
+    *b"                                     \xb4                                                 ", // HeldArguments
+    *b"            \xb6\xb6\xb6\xb6\xb6\xb6\xb6\xb6\xb6\xb6                    \xb5    \xb6      z                                ", // BaseClass
+    *b"            \xb8\xb8\xb8\xb8\xb8\xb8\xb8\xb8\xb8\xb8                         \xb7                                       ", // UnnestedName
+    *b"                                     \xb9                                                 ", // BaseArguments
+    *b"            \x90\x90\x90\x90\x90\x90\x90\x90\x90\x90       \x90 \x90\x90 \x90   \x8e\x90\x8f\x90\x90\x90\x90 \x90\x90\x90\x90\x90 \x90 \x90      \x90\x90\x90\x90\x90\x90\x90\x90\x90\x90 \x90\x90\x90\x90  \x90\x90\x90\x90\x90\x90\x90\x90\x90", // ArgumentsFirst
+    *b"            $$$$$$$$$$                  \" +      #                                     ", // PlainEntity
+    *b"            $$$$$$$$$$                  \" Y      #                                     ", // PlainTypeEntity
     *b"                                   !                                                   ", // SpecialMark
-    *b"                                                  5                                    ", // SpecialAfterG
-    *b"            $$$$$$$$$$                  \" *    < #    \xbb                                ", // TemporaryName
+    *b"                                                  6                                    ", // SpecialAfterG
+    *b"            $$$$$$$$$$                  \" +    = #    \xbd                                ", // TemporaryName
     *b"                                                                          !     !      ", // CloneLetter
-    *b"                                                                                \xbc      ", // TypeInStd
+    *b"                                                                                \xbe      ", // TypeInStd
     *b"                                                                                       ", // MaybeTags
-    *b"            \xc0\xc0\xc0\xc0\xc0\xc0\xc0\xc0\xc0\xc0       \xc0 \xc0j \xc0    d \xc0\xc0e\xc0 e\xc0\xbf\xc0c \xbe \xc0      \xc0\xc0\xc0\xc0\xc0\xc0\xc0\xc0\xc0\xc0 \xc0\xc0\xc0\xc0  b\xc0\xc0\xc0\xc0\xc0\xc0\xc0\xc0", // Argument
-    *b"            \xc1\xc1\xc1\xc1\xc1\xc1\xc1\xc1\xc1\xc1                                     \xc1                           ", // ArgumentAfterT
-    *b"            \xc1\xc1\xc1\xc1\xc1\xc1\xc1\xc1\xc1\xc1                                     \xc1                           ", // LeveledParameter
-    *b"            \xc0\xc0\xc0\xc0\xc0\xc0\xc0\xc0\xc0\xc0       \xc0 \xc0j \xc0   \xc5d\xc4\xc0\xc0e\xc0 e\xc0\xbf\xc0c \xbe \xc0      \xc0\xc0\xc0\xc0\xc0\xc0\xc0\xc0\xc0\xc0 \xc0\xc0\xc0\xc0  b\xc0\xc0\xc0\xc0\xc0\xc0\xc0\xc0", // OneArgument
-    *b"                                                                       \xc8  \xc7 \xca   \xc9    \xc6 ", // DeclarationAfterT
-    *b"                                                \xcb                                      ", // Declarations
-    *b"            \xcc\xcc\xcc\xcc\xcc\xcc\xcc\xcc\xcc\xcc                    X    \xcc                                       ", // Concept
-    *b"            $$$$$$$$$$       | ~  }      vX u  x #    y      zzzzzzzzzz zzzz   zz{zzzzz", // SolidButT
-    *b"                                                             \xe9                         ", // Expression
-    *b"            \xfa\xfa\xfa\xfa\xfa\xfa\xfa\xfa\xfa\xfa                  \xfb                  \xfa                           ", // ExpressionParameter
-    *b"            \xfa\xfa\xfa\xfa\xfa\xfa\xfa\xfa\xfa\xfa                                     \xfa                           ", // UnleveledExpression
-    *b"                                        \xfc                                              ", // AddressedExpression
-    *b"                                                           \x92                           ", // AddressedLiteral
-    *b"                                                                \xd1                      ", // ExpressionAfterA
-    *b"                                                               \xcd        \xd5\xd2 \xd3\xd5     \xd6    ", // ExpressionAfterC
-    *b"                                                  \xd2          \xd3 \xcd \xd3   \xd7  \xd3 \xd9    \xd2\xd2 \xd2 \xd8  ", // ExpressionAfterD
-    *b"                                           \xd2                               \xd2 \xd2         ", // ExpressionAfterE
-    *b"                                        \xda                               \xdb   \xd0 \xdc        ", // ExpressionAfterF
-    *b"                                                                 \xd2             \xd3\xd2      ", // ExpressionAfterG
-    *b"                                                                        \xdd           \xd2  ", // ExpressionAfterI
-    *b"                                               \xd2                 \xd2             \xd2\xd2      ", // ExpressionAfterL
-    *b"                                     \xd2  \xd2                            \xd2  \xd2\xde             ", // ExpressionAfterM
-    *b"                                                             \xdf   \xd2 \xd3            \xd3  \xdf\xd3  ", // ExpressionAfterN
-    *b"                                              \xd2                           \xce\xd2  \xd2        ", // ExpressionAfterO
-    *b"                                        \xd2                               \xd2\xd2  \xde  \xd3\xd2      ", // ExpressionAfterP
-    *b"                                                                                 \xe0     ", // ExpressionAfterQ
-    *b"                                         \xd2   \xe2 \xd2               \xcd         \xd2   \xe1 \xd2       ", // ExpressionAfterR
-    *b"                                                      \xe4        \xcd            \xe3 \xe5\xd2\xd4    \xe6\xd3", // ExpressionAfterS
-    *b"                                                                 \xd3   \xd4  \xe7     \xe8    \xd3   ", // ExpressionAfterT
-    *b"                                                             \xfd                         ", // Expressions
+    *b"            \xc2\xc2\xc2\xc2\xc2\xc2\xc2\xc2\xc2\xc2       \xc2 \xc2k \xc2    e \xc2\xc2f\xc2 f\xc2\xc1\xc2d \xc0 \xc2      \xc2\xc2\xc2\xc2\xc2\xc2\xc2\xc2\xc2\xc2 \xc2\xc2\xc2\xc2  c\xc2\xc2\xc2\xc2\xc2\xc2\xc2\xc2", // Argument
+    *b"            \xc3\xc3\xc3\xc3\xc3\xc3\xc3\xc3\xc3\xc3                                     \xc3                           ", // ArgumentAfterT
+    *b"            \xc3\xc3\xc3\xc3\xc3\xc3\xc3\xc3\xc3\xc3                                     \xc3                           ", // LeveledParameter
+    *b"            \xc2\xc2\xc2\xc2\xc2\xc2\xc2\xc2\xc2\xc2       \xc2 \xc2k \xc2   \xc7e\xc6\xc2\xc2f\xc2 f\xc2\xc1\xc2d \xc0 \xc2      \xc2\xc2\xc2\xc2\xc2\xc2\xc2\xc2\xc2\xc2 \xc2\xc2\xc2\xc2  c\xc2\xc2\xc2\xc2\xc2\xc2\xc2\xc2", // OneArgument
+    *b"                                                                       \xca  \xc9 \xcc   \xcb    \xc8 ", // DeclarationAfterT
+    *b"                                                \xcd                                      ", // Declarations
+    *b"            \xce\xce\xce\xce\xce\xce\xce\xce\xce\xce                    Y    \xce                                       ", // Concept
+    *b"            $$$$$$$$$$       } \x7f  ~      wY v  y #    z      {{{{{{{{{{ {{{{   {{|{{{{{", // SolidButT
+    *b"                                                             \xeb                         ", // Expression
+    *b"            \xfc\xfc\xfc\xfc\xfc\xfc\xfc\xfc\xfc\xfc                  \xfd                  \xfc                           ", // ExpressionParameter
+    *b"            \xfc\xfc\xfc\xfc\xfc\xfc\xfc\xfc\xfc\xfc                                     \xfc                           ", // UnleveledExpression
+    *b"                                        \xfe                                              ", // AddressedExpression
+    *b"                                                           \x93                           ", // AddressedLiteral
+    *b"                                                                \xd3                      ", // ExpressionAfterA
+    *b"                                                               \xcf        \xd7\xd4 \xd5\xd7     \xd8    ", // ExpressionAfterC
+    *b"                                                  \xd4          \xd5 \xcf \xd5   \xd9  \xd5 \xdb    \xd4\xd4 \xd4 \xda  ", // ExpressionAfterD
+    *b"                                           \xd4                               \xd4 \xd4         ", // ExpressionAfterE
+    *b"                                        \xdc                               \xdd   \xd2 \xde        ", // ExpressionAfterF
+    *b"                                                                 \xd4             \xd5\xd4      ", // ExpressionAfterG
+    *b"                                                                        \xdf           \xd4  ", // ExpressionAfterI
+    *b"                                               \xd4                 \xd4             \xd4\xd4      ", // ExpressionAfterL
+    *b"                                     \xd4  \xd4                            \xd4  \xd4\xe0             ", // ExpressionAfterM
+    *b"                                                             \xe1   \xd4 \xd5            \xd5  \xe1\xd5  ", // ExpressionAfterN
+    *b"                                              \xd4                           \xd0\xd4  \xd4        ", // ExpressionAfterO
+    *b"                                        \xd4                               \xd4\xd4  \xe0  \xd5\xd4      ", // ExpressionAfterP
+    *b"                                                                                 \xe2     ", // ExpressionAfterQ
+    *b"                                         \xd4   \xe4 \xd4               \xcf         \xd4   \xe3 \xd4       ", // ExpressionAfterR
+    *b"                                                      \xe6        \xcf            \xe5 \xe7\xd4\xd6    \xe8\xd5", // ExpressionAfterS
+    *b"                                                                 \xd5   \xd6  \xe9     \xea    \xd5   ", // ExpressionAfterT
+    *b"                                                             \xff                         ", // Expressions
     *b"                                                           !                           ", // MaybeBefore
-    *b"                                                             \xa1 \xa3\xa0\xa7 \xab \xaa  \xfe\xa4\x9f\xa6\xa2 \xa5\xa9       ", // FoldOperator
+    *b"                                                             \xa2 \xa4\xa1\xa8 \xac \xab  \x00\xa5\xa0\xa7\xa3 \xa6\xaa       ", // FoldOperator
     *b"                                               !                 !             !!      ", // FoldOperatorAfterL
-    *b"                                                             \xff                         ", // FoldOperand
-    *b"                                                             \x00                         ", // FoldPack
-    *b"                                      \xc5                      \x00                         ", // ValuePack
-    *b"            \x01\x01\x01\x01\x01\x01\x01\x01\x01\x01       \x01 \x01\x01 \x01   \xc5\x01 \x01\x01\x01\x01 \x01\x01\x01\x01\x01   \x01      \x01\x01\x01\x01\x01\x01\x01\x01\x01\x01 \x01\x01\x01\x01  \x01\x01\x01\x01\x01\x01\x01\x01\x01", // TypePack
-    *b"            \x03\x03\x03\x03\x03\x03\x03\x03\x03\x03                  \x03       \x03            \x03 \x03\x02\x03\x03\x03 \x03  \x03\x03\x03\x03\x03\x03\x03\x03\x03      ", // DesignatedValue
-    *b"                                                                     \xd7              \xd8  ", // DesignatorAfterD
-    *b"            \xcf\xcf\xcf\xcf\xcf\xcf\xcf\xcf\xcf\xcf                  \xc4       \xf9            \xe9 \xea \xec\xed\xee \xef  \xf0\xf1\xf2\xf3\xf4\xf5\xf6\xf7\xf8      ", // PlainValue
-    *b"            \x04\x04\x04\x04\x04\x04\x04\x04\x04\x04                                                                 ", // FieldName
-    *b"                                                           ! \x05                         ", // Placement
-    *b"                                                             \xfd                         ", // SomeExpressions
-    *b"                                 \x86                                   \x07      \x06          ", // Initializer
-    *b"                                                                     \xdd                 ", // InitializerAfterP
-    *b"                                                                        \xdd              ", // InitializerAfterI
-    *b"                                                                            \xd0          ", // OuterRest
-    *b"            \x09\x09\x09\x09\x09\x09\x09\x09\x09\x09                          \x08          \x09                           ", // ParameterNumber
-    *b"            \x0e\x0e\x0e\x0e\x0e\x0e\x0e\x0e\x0e\x0e          \x0a \x0e    \x0b  \x0e\x0d\x0c \x0d\x0e\x0e\x0e           \x0e\x0e\x0e\x0e\x0e\x0e\x0e\x0e\x0e\x0e \x0e\x0e\x0e\x0e   \x0e\x0e \x0e\x0e\x0e\x0e\x0e", // ConvertedType
-    *b"            $$$$$$$$$$            }       X    x\x0f#           zzzzzzzzzz zzzz   zz zzzzz", // ConvertedSolid
-    *b"            \xc1\xc1\xc1\xc1\xc1\xc1\xc1\xc1\xc1\xc1                  \xc3                  \xc1                           ", // ParameterAfterT
-    *b"                                                s                               s      ", // DecltypeAfterD
-    *b"            \xcf\xcf\xcf\xcf\xcf\xcf\xcf\xcf\xcf\xcf                  \xc4       \xf9          \xdd \xe9 \xea\xeb\xec\xed\xee \xef  \xf0\xf1\xf2\xf3\xf4\xf5\xf6\xf7\xf8      ", // ConvertRest
-    *b"            \x11\x11\x11\x11\x11\x11\x11\x11\x11\x11          \x10         \x10    \x10\x10                                      ", // Unresolved
-    *b"                                \x0a         X    x\x0f                                      ", // UnresolvedType
-    *b"            \xcf\xcf\xcf\xcf\xcf\xcf\xcf\xcf\xcf\xcf          \x12         \x12    \x12\x12                                      ", // DestructorName
-    *b"                                             \x15  \x14   \x13                                  ", // Requirements
-    *b"                                          \x17  \x15\x16 \x14   \x13                                  ", // AfterExpression
-    *b"                                             \x15\x16 \x14   \x13                                  ", // AfterNoexcept
-    *b"            \x18\x18\x18\x18\x18\x18\x18\x18\x18\x18          \x18 \x18    \x18  \x18\x18\x18 \x18\x18\x18\x18         \xe1 \x18\x18\x18\x18\x18\x18\x18\x18\x18\x18 \x18\x18\x18\x18   \x18\x18 \x18\x18\x18\x18\x18", // RequiredTypes
-    *b"            \xcf\xcf\xcf\xcf\xcf\xcf\xcf\xcf\xcf\xcf                                                                 ", // Level
-    *b"            \x11\x11\x11\x11\x11\x11\x11\x11\x11\x11           \x19                                                     ", // MoreLevels
-    *b"            \xcf\xcf\xcf\xcf\xcf\xcf\xcf\xcf\xcf\xcf                                                     \x1a           ", // UnresolvedName
-    *b"                                                                          \xce            ", // OperatorName
-    *b"                             \x1b                                                         ", // AnyArray
-    *b"            \x1d\x1d\x1d\x1d\x1d\x1d\x1d\x1d\x1d\x1d                                     \x1d                           ", // ArrayRest
-    *b"                                        \xc4       \xf9            \xe9 \xea\xeb\xec\xed\xee \xef  \xf0\xf1\xf2\xf3\xf4\xf5\xf6\xf7\xf8      ", // Bound
-    *b"            KKKKKKKKKK         KK       K        K           K KKK K K  KKKKK KK       ", // NestMoreOrEnd
+    *b"                                                             \x01                         ", // FoldOperand
+    *b"                                                             \x02                         ", // FoldPack
+    *b"                                      \xc7                      \x02                         ", // ValuePack
+    *b"            \x03\x03\x03\x03\x03\x03\x03\x03\x03\x03       \x03 \x03\x03 \x03   \xc7\x03 \x03\x03\x03\x03 \x03\x03\x03\x03\x03   \x03      \x03\x03\x03\x03\x03\x03\x03\x03\x03\x03 \x03\x03\x03\x03  \x03\x03\x03\x03\x03\x03\x03\x03\x03", // TypePack
+    *b"            \x05\x05\x05\x05\x05\x05\x05\x05\x05\x05                  \x05       \x05            \x05 \x05\x04\x05\x05\x05 \x05  \x05\x05\x05\x05\x05\x05\x05\x05\x05      ", // DesignatedValue
+    *b"                                                                     \xd9              \xda  ", // DesignatorAfterD
+    *b"            \xd1\xd1\xd1\xd1\xd1\xd1\xd1\xd1\xd1\xd1                  \xc6       \xfb            \xeb \xec \xee\xef\xf0 \xf1  \xf2\xf3\xf4\xf5\xf6\xf7\xf8\xf9\xfa      ", // PlainValue
+    *b"            \x06\x06\x06\x06\x06\x06\x06\x06\x06\x06                                                                 ", // FieldName
+    *b"                                                           ! \x07                         ", // Placement
+    *b"                                                             \xff                         ", // SomeExpressions
+    *b"                                 \x87                                   \x09      \x08          ", // Initializer
+    *b"                                                                     \xdf                 ", // InitializerAfterP
+    *b"                                                                        \xdf              ", // InitializerAfterI
+    *b"                                                                            \xd2          ", // OuterRest
+    *b"            \x0b\x0b\x0b\x0b\x0b\x0b\x0b\x0b\x0b\x0b                          \x0a          \x0b                           ", // ParameterNumber
+    *b"            \x10\x10\x10\x10\x10\x10\x10\x10\x10\x10          \x0c \x10    \x0d  \x10\x0f\x0e \x0f\x10\x10\x10           \x10\x10\x10\x10\x10\x10\x10\x10\x10\x10 \x10\x10\x10\x10   \x10\x10 \x10\x10\x10\x10\x10", // ConvertedType
+    *b"            $$$$$$$$$$            ~       Y    y\x11#           {{{{{{{{{{ {{{{   {{ {{{{{", // ConvertedSolid
+    *b"            \xc3\xc3\xc3\xc3\xc3\xc3\xc3\xc3\xc3\xc3                  \xc5                  \xc3                           ", // ParameterAfterT
+    *b"                                                t                               t      ", // DecltypeAfterD
+    *b"            \xd1\xd1\xd1\xd1\xd1\xd1\xd1\xd1\xd1\xd1                  \xc6       \xfb          \xdf \xeb \xec\xed\xee\xef\xf0 \xf1  \xf2\xf3\xf4\xf5\xf6\xf7\xf8\xf9\xfa      ", // ConvertRest
+    *b"            \x13\x13\x13\x13\x13\x13\x13\x13\x13\x13          \x12         \x12    \x12\x12                                      ", // Unresolved
+    *b"                                \x0c         Y    y\x11                                      ", // UnresolvedType
+    *b"            \xd1\xd1\xd1\xd1\xd1\xd1\xd1\xd1\xd1\xd1          \x14         \x14    \x14\x14                                      ", // DestructorName
+    *b"                                             \x17  \x16   \x15                                  ", // Requirements
+    *b"                                          \x19  \x17\x18 \x16   \x15                                  ", // AfterExpression
+    *b"                                             \x17\x18 \x16   \x15                                  ", // AfterNoexcept
+    *b"            \x1a\x1a\x1a\x1a\x1a\x1a\x1a\x1a\x1a\x1a          \x1a \x1a    \x1a  \x1a\x1a\x1a \x1a\x1a\x1a\x1a         \xe3 \x1a\x1a\x1a\x1a\x1a\x1a\x1a\x1a\x1a\x1a \x1a\x1a\x1a\x1a   \x1a\x1a \x1a\x1a\x1a\x1a\x1a", // RequiredTypes
+    *b"            \xd1\xd1\xd1\xd1\xd1\xd1\xd1\xd1\xd1\xd1                                                                 ", // Level
+    *b"            \x13\x13\x13\x13\x13\x13\x13\x13\x13\x13           \x1b                                                     ", // MoreLevels
+    *b"            \xd1\xd1\xd1\xd1\xd1\xd1\xd1\xd1\xd1\xd1                                                     \x1c           ", // UnresolvedName
+    *b"                                                                          \xd0            ", // OperatorName
+    *b"                             \x1d                                                         ", // AnyArray
+    *b"            \x1f\x1f\x1f\x1f\x1f\x1f\x1f\x1f\x1f\x1f                                     \x1f                           ", // ArrayRest
+    *b"                                        \xc6       \xfb            \xeb \xec\xed\xee\xef\xf0 \xf1  \xf2\xf3\xf4\xf5\xf6\xf7\xf8\xf9\xfa      ", // Bound
+    *b"            LLLLLLLLLL         LL       L        L           L LLL L L  LLLLL LL       ", // NestMoreOrEnd
 ];
 
 /// A rule without its number and its symbols.
@@ -561,7 +567,7 @@ macro_rules! chains {
 }
 
 // The rules of the productions, in the order of their numbers.
-pub static HEADS: [Head; 253] = [
+pub static HEADS: [Head; 255] = [
     takes!(0), // ! Mark
     takes!(2), // \" InternalName
     takes!(2), // # LocalTypeName
@@ -571,254 +577,256 @@ pub static HEADS: [Head; 253] = [
     takes!(1), // ' LocalTypePiece
     chains!(1), // ( SourcePiece
     takes!(2), // ) InModule
-    takes!(5), // * NestedName
-    takes!(3), // + Symbol
-    takes!(1), // , Suffix
-    takes!(1), // - SuffixByte
-    takes!(1), // . Special
-    chains!(2), // / OtherSpecial
-    chains!(2), // 0 Encoding
-    takes!(1), // 1 SpecialType
-    takes!(3), // 2 NonVirtualThunk
-    takes!(5), // 3 VirtualThunk
-    takes!(3), // 4 CovariantThunk
-    takes!(1), // 5 SpecialName
-    takes!(1), // 6 ParameterObject
-    takes!(4), // 7 ConstructionVtable
-    takes!(2), // 8 NonVirtualOffset
-    takes!(4), // 9 VirtualOffset
-    takes!(1), // : Negative
-    chains!(1), // ; Positive
-    takes!(1), // < NameWithS
-    takes!(4), // = LocalName
-    takes!(2), // > StdName
-    chains!(2), // ? AbbreviatedName
-    chains!(1), // @ OperatorPiece
-    takes!(1), // A NestWithS
-    takes!(2), // B NestParameter
-    takes!(2), // C NestInternal
-    takes!(2), // D NestLocalType
-    chains!(2), // E NestSource
-    chains!(2), // F NestModule
-    takes!(2), // G NestDecltype
-    takes!(3), // H NestStd
-    chains!(2), // I NestTemplate
-    takes!(4), // J NestArguments
-    chains!(2), // K NestNext
-    takes!(2), // L NestTag
-    takes!(0), // M NestEnd
-    takes!(1), // N AnyConstructor
-    takes!(2), // O Destructor
-    takes!(1), // P ComponentWithC
-    chains!(2), // Q OtherOperatorName
-    chains!(2), // R Holder
-    takes!(2), // S Friend
-    takes!(2), // T Inheriting
-    chains!(2), // U Constructor
-    takes!(0), // V Abbreviation
-    chains!(1), // W Substitution
-    takes!(1), // X NestedType
-    takes!(0), // Y StringLiteral
-    takes!(2), // Z DefaultEntity
-    takes!(2), // [ DefaultTypeEntity
-    takes!(1), // \\ Discriminator
-    takes!(0), // ] OneDigit
-    takes!(2), // ^ ManyDigits
-    takes!(4), // _ Lambda
-    takes!(1), // ` Unnamed
-    takes!(2), // a Enumeration
-    takes!(3), // b RestrictType
-    takes!(2), // c VolatileType
-    takes!(1), // d ConstType
-    takes!(1), // e ReferenceType
-    chains!(1), // f PlainType
-    takes!(1), // g TypeWithD
-    takes!(1), // h PlainWithD
-    chains!(1), // i QualifiedPlain
-    takes!(1), // j ItemWithD
-    takes!(1), // k Expansion
-    chains!(1), // l ItemIsType
-    takes!(0), // m BuiltinWithD
-    takes!(3), // n Vector
-    takes!(4), // o NoexceptFunction
-    takes!(2), // p SizedFloat
-    takes!(1), // q ConstrainedAuto
-    takes!(2), // r BitInt
-    takes!(2), // s Decltype
-    takes!(2), // t IndexedType
-    takes!(1), // u Pointer
-    takes!(2), // v MemberPointer
-    takes!(2), // w Parameter
-    takes!(2), // x TypeWithS
-    takes!(4), // y LocalType
-    takes!(0), // z Builtin
-    takes!(1), // { Vendor
-    chains!(1), // | ArrayType
-    takes!(3), // } Function
-    takes!(1), // ~ Complex
-    chains!(1), // \x7f BitWidth
-    chains!(1), // \x80 TypeInStd
-    chains!(1), // \x81 AbbreviatedType
-    takes!(0), // \x82 RestEnd
-    takes!(1), // \x83 RestLvalue
-    takes!(1), // \x84 RestRvalue
-    chains!(2), // \x85 RestItem
-    takes!(0), // \x86 RefEnd
-    chains!(2), // \x87 LvalueItem
-    chains!(2), // \x88 RvalueItem
-    takes!(1), // \x89 Constraint
-    chains!(2), // \x8a Items
-    takes!(2), // \x8b Arguments
-    takes!(2), // \x8c Tag
-    takes!(3), // \x8d PackArgument
-    takes!(3), // \x8e LiteralArgument
-    chains!(2), // \x8f AnyArgument
-    takes!(3), // \x90 LiteralElement
-    chains!(2), // \x91 AnyElement
-    takes!(2), // \x92 EncodingLiteral
-    takes!(1), // \x93 BoolLiteral
-    takes!(1), // \x94 LiteralWithD
-    chains!(2), // \x95 IntegerLiteral
-    chains!(2), // \x96 FloatLiteral
-    takes!(1), // \x97 NullLiteral
-    takes!(1), // \x98 CharLiteral
-    chains!(2), // \x99 SizedFloatLiteral
-    chains!(1), // \x9a HexText
-    takes!(1), // \x9b HexDigit
-    takes!(2), // \x9c VolatileLiteral
-    takes!(1), // \x9d ConstLiteral
-    chains!(1), // \x9e QualifiedLiteral
-    takes!(1), // \x9f OperatorN
-    takes!(1), // \xa0 OperatorD
-    takes!(1), // \xa1 OperatorA
-    takes!(1), // \xa2 OperatorP
-    takes!(1), // \xa3 OperatorC
-    takes!(1), // \xa4 OperatorM
-    takes!(1), // \xa5 OperatorR
-    takes!(1), // \xa6 OperatorO
-    takes!(1), // \xa7 OperatorE
-    takes!(1), // \xa8 OperatorL
-    takes!(1), // \xa9 OperatorS
-    takes!(1), // \xaa OperatorI
-    takes!(1), // \xab OperatorG
-    takes!(1), // \xac LiteralOperator
-    takes!(3), // \xad NestInstance
-    chains!(2), // \xae FirstModule
-    takes!(3), // \xaf MoreModule
-    takes!(1), // \xb0 Conversion
-    chains!(2), // \xb1 OperatorNameWithC
-    takes!(2), // \xb2 HeldArguments
-    takes!(2), // \xb3 NestedBase
-    chains!(2), // \xb4 UnnestedBase
-    takes!(1), // \xb5 UnnestedWithS
-    chains!(2), // \xb6 TaggedSource
-    takes!(3), // \xb7 BaseArguments
-    takes!(2), // \xb8 Temporary
-    takes!(2), // \xb9 ModuleInitializer
-    takes!(2), // \xba Clone
-    takes!(3), // \xbb LocalTemporary
-    takes!(2), // \xbc TaggedStdType
-    takes!(2), // \xbd TypeTag
-    takes!(2), // \xbe Expression
-    takes!(1), // \xbf ArgumentWithT
-    chains!(1), // \xc0 PlainArgument
-    chains!(2), // \xc1 ParameterArgument
-    chains!(2), // \xc2 DeclaredArgument
-    takes!(2), // \xc3 LeveledParameter
-    takes!(2), // \xc4 OneLiteral
-    takes!(2), // \xc5 OnePack
-    takes!(0), // \xc6 AnyType
-    takes!(1), // \xc7 ValueOf
-    takes!(1), // \xc8 OfConcept
-    takes!(2), // \xc9 TemplateOf
-    takes!(2), // \xca PackOf
-    takes!(2), // \xcb Declarations
-    chains!(2), // \xcc NamedConcept
-    takes!(2), // \xcd Cast
-    takes!(2), // \xce OperatorReference
-    chains!(2), // \xcf SimpleId
-    takes!(4), // \xd0 FunctionParameter
-    takes!(1), // \xd1 AddressExpression
-    takes!(2), // \xd2 Binary
-    takes!(1), // \xd3 Unary
-    takes!(1), // \xd4 OfType
-    takes!(3), // \xd5 Call
-    takes!(2), // \xd6 Convert
-    takes!(2), // \xd7 Designated
-    takes!(2), // \xd8 DesignatedElement
-    takes!(1), // \xd9 DestructorName
-    takes!(2), // \xda OuterParameter
-    takes!(2), // \xdb LeftFold
-    takes!(2), // \xdc RightFold
-    takes!(2), // \xdd Braces
-    takes!(2), // \xde Step
-    takes!(3), // \xdf New
-    takes!(3), // \xe0 Conditional
-    takes!(2), // \xe1 Requires
-    takes!(1), // \xe2 RequiresOf
-    takes!(1), // \xe3 ExpandExpression
-    takes!(1), // \xe4 PackSize
-    takes!(1), // \xe5 Unresolved
-    takes!(2), // \xe6 PackIndex
-    takes!(3), // \xe7 TypedBraces
-    takes!(0), // \xe8 Rethrow
-    takes!(1), // \xe9 ExpressionA
-    takes!(1), // \xea ExpressionC
-    takes!(1), // \xeb ExpressionD
-    takes!(1), // \xec ExpressionE
-    takes!(1), // \xed ExpressionF
-    takes!(1), // \xee ExpressionG
-    takes!(1), // \xef ExpressionI
-    takes!(1), // \xf0 ExpressionL
-    takes!(1), // \xf1 ExpressionM
-    takes!(1), // \xf2 ExpressionN
-    takes!(1), // \xf3 ExpressionO
-    takes!(1), // \xf4 ExpressionP
-    takes!(1), // \xf5 ExpressionQ
-    takes!(1), // \xf6 ExpressionR
-    takes!(1), // \xf7 ExpressionS
-    takes!(1), // \xf8 ExpressionT
-    takes!(1), // \xf9 ExpressionWithT
-    chains!(2), // \xfa ParameterExpression
-    takes!(2), // \xfb LeveledExpression
-    takes!(2), // \xfc AddressedLiteral
-    chains!(2), // \xfd Expressions
-    takes!(1), // \xfe FoldOperatorL
-    chains!(1), // \xff FoldOperand
-    chains!(1), // \x00 FoldPack
-    chains!(1), // \x01 TypePack
-    takes!(1), // \x02 Designators
-    chains!(1), // \x03 DesignatedValue
-    chains!(1), // \x04 FieldName
-    chains!(2), // \x05 Placed
-    takes!(1), // \x06 Initializer
-    takes!(1), // \x07 BracedInitializer
-    takes!(0), // \x08 This
-    chains!(1), // \x09 ParameterNumber
-    takes!(1), // \x0a ConvertedDecltype
-    takes!(1), // \x0b ConvertedConst
-    takes!(1), // \x0c ConvertedPointer
-    takes!(1), // \x0d ConvertedReference
-    chains!(1), // \x0e ConvertedType
-    takes!(1), // \x0f ConvertedWithT
-    chains!(2), // \x10 UnresolvedInType
-    chains!(2), // \x11 Levels
-    chains!(1), // \x12 DestroyedType
-    takes!(2), // \x13 ExpressionRequirement
-    takes!(2), // \x14 TypeRequirement
-    takes!(2), // \x15 NestedRequirement
-    takes!(2), // \x16 ResultRequirement
-    takes!(1), // \x17 NoexceptRequirement
-    chains!(2), // \x18 RequiredType
-    takes!(1), // \x19 LevelsEnd
-    takes!(1), // \x1a UnresolvedOperator
-    takes!(1), // \x1b AnyArray
-    chains!(3), // \x1c BoundedArray
-    chains!(2), // \x1d LengthArray
+    takes!(2), // * InNamedModule
+    takes!(5), // + NestedName
+    takes!(3), // , Symbol
+    takes!(1), // - Suffix
+    takes!(1), // . SuffixByte
+    takes!(1), // / Special
+    chains!(2), // 0 OtherSpecial
+    chains!(2), // 1 Encoding
+    takes!(1), // 2 SpecialType
+    takes!(3), // 3 NonVirtualThunk
+    takes!(5), // 4 VirtualThunk
+    takes!(3), // 5 CovariantThunk
+    takes!(1), // 6 SpecialName
+    takes!(1), // 7 ParameterObject
+    takes!(4), // 8 ConstructionVtable
+    takes!(2), // 9 NonVirtualOffset
+    takes!(4), // : VirtualOffset
+    takes!(1), // ; Negative
+    chains!(1), // < Positive
+    takes!(1), // = NameWithS
+    takes!(4), // > LocalName
+    takes!(2), // ? StdName
+    chains!(2), // @ AbbreviatedName
+    chains!(1), // A OperatorPiece
+    takes!(1), // B NestWithS
+    takes!(2), // C NestParameter
+    takes!(2), // D NestInternal
+    takes!(2), // E NestLocalType
+    chains!(2), // F NestSource
+    chains!(2), // G NestModule
+    takes!(2), // H NestDecltype
+    takes!(3), // I NestStd
+    chains!(2), // J NestTemplate
+    takes!(4), // K NestArguments
+    chains!(2), // L NestNext
+    takes!(2), // M NestTag
+    takes!(0), // N NestEnd
+    takes!(1), // O AnyConstructor
+    takes!(2), // P Destructor
+    takes!(1), // Q ComponentWithC
+    chains!(2), // R OtherOperatorName
+    chains!(2), // S Holder
+    takes!(2), // T Friend
+    takes!(2), // U Inheriting
+    chains!(2), // V Constructor
+    takes!(0), // W Abbreviation
+    chains!(1), // X Substitution
+    takes!(1), // Y NestedType
+    takes!(0), // Z StringLiteral
+    takes!(2), // [ DefaultEntity
+    takes!(2), // \\ DefaultTypeEntity
+    takes!(1), // ] Discriminator
+    takes!(0), // ^ OneDigit
+    takes!(2), // _ ManyDigits
+    takes!(4), // ` Lambda
+    takes!(1), // a Unnamed
+    takes!(2), // b Enumeration
+    takes!(3), // c RestrictType
+    takes!(2), // d VolatileType
+    takes!(1), // e ConstType
+    takes!(1), // f ReferenceType
+    chains!(1), // g PlainType
+    takes!(1), // h TypeWithD
+    takes!(1), // i PlainWithD
+    chains!(1), // j QualifiedPlain
+    takes!(1), // k ItemWithD
+    takes!(1), // l Expansion
+    chains!(1), // m ItemIsType
+    takes!(0), // n BuiltinWithD
+    takes!(3), // o Vector
+    takes!(4), // p NoexceptFunction
+    takes!(2), // q SizedFloat
+    takes!(1), // r ConstrainedAuto
+    takes!(2), // s BitInt
+    takes!(2), // t Decltype
+    takes!(2), // u IndexedType
+    takes!(1), // v Pointer
+    takes!(2), // w MemberPointer
+    takes!(2), // x Parameter
+    takes!(2), // y TypeWithS
+    takes!(4), // z LocalType
+    takes!(0), // { Builtin
+    takes!(1), // | Vendor
+    chains!(1), // } ArrayType
+    takes!(3), // ~ Function
+    takes!(1), // \x7f Complex
+    chains!(1), // \x80 BitWidth
+    chains!(1), // \x81 TypeInStd
+    chains!(1), // \x82 AbbreviatedType
+    takes!(0), // \x83 RestEnd
+    takes!(1), // \x84 RestLvalue
+    takes!(1), // \x85 RestRvalue
+    chains!(2), // \x86 RestItem
+    takes!(0), // \x87 RefEnd
+    chains!(2), // \x88 LvalueItem
+    chains!(2), // \x89 RvalueItem
+    takes!(1), // \x8a Constraint
+    chains!(2), // \x8b Items
+    takes!(2), // \x8c Arguments
+    takes!(2), // \x8d Tag
+    takes!(3), // \x8e PackArgument
+    takes!(3), // \x8f LiteralArgument
+    chains!(2), // \x90 AnyArgument
+    takes!(3), // \x91 LiteralElement
+    chains!(2), // \x92 AnyElement
+    takes!(2), // \x93 EncodingLiteral
+    takes!(1), // \x94 BoolLiteral
+    takes!(1), // \x95 LiteralWithD
+    chains!(2), // \x96 IntegerLiteral
+    chains!(2), // \x97 FloatLiteral
+    takes!(1), // \x98 NullLiteral
+    takes!(1), // \x99 CharLiteral
+    chains!(2), // \x9a SizedFloatLiteral
+    chains!(1), // \x9b HexText
+    takes!(1), // \x9c HexDigit
+    takes!(2), // \x9d VolatileLiteral
+    takes!(1), // \x9e ConstLiteral
+    chains!(1), // \x9f QualifiedLiteral
+    takes!(1), // \xa0 OperatorN
+    takes!(1), // \xa1 OperatorD
+    takes!(1), // \xa2 OperatorA
+    takes!(1), // \xa3 OperatorP
+    takes!(1), // \xa4 OperatorC
+    takes!(1), // \xa5 OperatorM
+    takes!(1), // \xa6 OperatorR
+    takes!(1), // \xa7 OperatorO
+    takes!(1), // \xa8 OperatorE
+    takes!(1), // \xa9 OperatorL
+    takes!(1), // \xaa OperatorS
+    takes!(1), // \xab OperatorI
+    takes!(1), // \xac OperatorG
+    takes!(1), // \xad LiteralOperator
+    takes!(3), // \xae NestInstance
+    chains!(2), // \xaf FirstModule
+    chains!(2), // \xb0 NamedModule
+    takes!(3), // \xb1 MoreModule
+    takes!(1), // \xb2 Conversion
+    chains!(2), // \xb3 OperatorNameWithC
+    takes!(2), // \xb4 HeldArguments
+    takes!(2), // \xb5 NestedBase
+    chains!(2), // \xb6 UnnestedBase
+    takes!(1), // \xb7 UnnestedWithS
+    chains!(2), // \xb8 TaggedSource
+    takes!(3), // \xb9 BaseArguments
+    takes!(2), // \xba Temporary
+    takes!(2), // \xbb ModuleInitializer
+    takes!(2), // \xbc Clone
+    takes!(3), // \xbd LocalTemporary
+    takes!(2), // \xbe TaggedStdType
+    takes!(2), // \xbf TypeTag
+    takes!(2), // \xc0 Expression
+    takes!(1), // \xc1 ArgumentWithT
+    chains!(1), // \xc2 PlainArgument
+    chains!(2), // \xc3 ParameterArgument
+    chains!(2), // \xc4 DeclaredArgument
+    takes!(2), // \xc5 LeveledParameter
+    takes!(2), // \xc6 OneLiteral
+    takes!(2), // \xc7 OnePack
+    takes!(0), // \xc8 AnyType
+    takes!(1), // \xc9 ValueOf
+    takes!(1), // \xca OfConcept
+    takes!(2), // \xcb TemplateOf
+    takes!(2), // \xcc PackOf
+    takes!(2), // \xcd Declarations
+    chains!(2), // \xce NamedConcept
+    takes!(2), // \xcf Cast
+    takes!(2), // \xd0 OperatorReference
+    chains!(2), // \xd1 SimpleId
+    takes!(4), // \xd2 FunctionParameter
+    takes!(1), // \xd3 AddressExpression
+    takes!(2), // \xd4 Binary
+    takes!(1), // \xd5 Unary
+    takes!(1), // \xd6 OfType
+    takes!(3), // \xd7 Call
+    takes!(2), // \xd8 Convert
+    takes!(2), // \xd9 Designated
+    takes!(2), // \xda DesignatedElement
+    takes!(1), // \xdb DestructorName
+    takes!(2), // \xdc OuterParameter
+    takes!(2), // \xdd LeftFold
+    takes!(2), // \xde RightFold
+    takes!(2), // \xdf Braces
+    takes!(2), // \xe0 Step
+    takes!(3), // \xe1 New
+    takes!(3), // \xe2 Conditional
+    takes!(2), // \xe3 Requires
+    takes!(1), // \xe4 RequiresOf
+    takes!(1), // \xe5 ExpandExpression
+    takes!(1), // \xe6 PackSize
+    takes!(1), // \xe7 Unresolved
+    takes!(2), // \xe8 PackIndex
+    takes!(3), // \xe9 TypedBraces
+    takes!(0), // \xea Rethrow
+    takes!(1), // \xeb ExpressionA
+    takes!(1), // \xec ExpressionC
+    takes!(1), // \xed ExpressionD
+    takes!(1), // \xee ExpressionE
+    takes!(1), // \xef ExpressionF
+    takes!(1), // \xf0 ExpressionG
+    takes!(1), // \xf1 ExpressionI
+    takes!(1), // \xf2 ExpressionL
+    takes!(1), // \xf3 ExpressionM
+    takes!(1), // \xf4 ExpressionN
+    takes!(1), // \xf5 ExpressionO
+    takes!(1), // \xf6 ExpressionP
+    takes!(1), // \xf7 ExpressionQ
+    takes!(1), // \xf8 ExpressionR
+    takes!(1), // \xf9 ExpressionS
+    takes!(1), // \xfa ExpressionT
+    takes!(1), // \xfb ExpressionWithT
+    chains!(2), // \xfc ParameterExpression
+    takes!(2), // \xfd LeveledExpression
+    takes!(2), // \xfe AddressedLiteral
+    chains!(2), // \xff Expressions
+    takes!(1), // \x00 FoldOperatorL
+    chains!(1), // \x01 FoldOperand
+    chains!(1), // \x02 FoldPack
+    chains!(1), // \x03 TypePack
+    takes!(1), // \x04 Designators
+    chains!(1), // \x05 DesignatedValue
+    chains!(1), // \x06 FieldName
+    chains!(2), // \x07 Placed
+    takes!(1), // \x08 Initializer
+    takes!(1), // \x09 BracedInitializer
+    takes!(0), // \x0a This
+    chains!(1), // \x0b ParameterNumber
+    takes!(1), // \x0c ConvertedDecltype
+    takes!(1), // \x0d ConvertedConst
+    takes!(1), // \x0e ConvertedPointer
+    takes!(1), // \x0f ConvertedReference
+    chains!(1), // \x10 ConvertedType
+    takes!(1), // \x11 ConvertedWithT
+    chains!(2), // \x12 UnresolvedInType
+    chains!(2), // \x13 Levels
+    chains!(1), // \x14 DestroyedType
+    takes!(2), // \x15 ExpressionRequirement
+    takes!(2), // \x16 TypeRequirement
+    takes!(2), // \x17 NestedRequirement
+    takes!(2), // \x18 ResultRequirement
+    takes!(1), // \x19 NoexceptRequirement
+    chains!(2), // \x1a RequiredType
+    takes!(1), // \x1b LevelsEnd
+    takes!(1), // \x1c UnresolvedOperator
+    takes!(1), // \x1d AnyArray
+    chains!(3), // \x1e BoundedArray
+    chains!(2), // \x1f LengthArray
 ];
 
 // The symbols of the rules, in the same order.
-pub static SYMBOLS: [Sym; 1524] = symbols_listed! {
+pub static SYMBOLS: [Sym; 1536] = symbols_listed! {
     [NONE, NONE, NONE, NONE, NONE], // ! Mark
     [NAME, MAYBE_ARGUMENTS, NONE, NONE, NONE], // \" InternalName
     [ANONYMOUS, MAYBE_ARGUMENTS, NONE, NONE, NONE], // # LocalTypeName
@@ -828,309 +836,311 @@ pub static SYMBOLS: [Sym; 1524] = symbols_listed! {
     [ANONYMOUS, NONE, NONE, NONE, NONE], // ' LocalTypePiece
     [NAME, NONE, NONE, NONE, NONE], // ( SourcePiece
     [FIRST_MODULE, NAME_AFTER_MODULE, NONE, NONE, NONE], // ) InModule
-    [MAYBE_RESTRICT, MAYBE_VOLATILE, MAYBE_CONST, MAYBE_REF, NEST], // * NestedName
-    [Sym::Byte(b'Z'), ENCODING, MAYBE_SUFFIX, NONE, NONE], // + Symbol
-    [SUFFIX_FIRST, NONE, NONE, NONE, NONE], // , Suffix
-    [SUFFIX_MORE, NONE, NONE, NONE, NONE], // - SuffixByte
-    [SPECIAL, NONE, NONE, NONE, NONE], // . Special
-    [SPECIAL_MARK, SPECIAL_AFTER_G, NONE, NONE, NONE], // / OtherSpecial
-    [COMPLETE_NAME, ITEMS, NONE, NONE, NONE], // 0 Encoding
-    [TYPE, NONE, NONE, NONE, NONE], // 1 SpecialType
-    [INTEGER, Sym::Byte(b'_'), ENCODING, NONE, NONE], // 2 NonVirtualThunk
-    [INTEGER, Sym::Byte(b'_'), INTEGER, Sym::Byte(b'_'), ENCODING], // 3 VirtualThunk
-    [CALL_OFFSET, CALL_OFFSET, ENCODING, NONE, NONE], // 4 CovariantThunk
-    [COMPLETE_NAME, NONE, NONE, NONE, NONE], // 5 SpecialName
-    [ONE_ARGUMENT, NONE, NONE, NONE, NONE], // 6 ParameterObject
-    [TYPE, DIGITS, Sym::Byte(b'_'), TYPE, NONE], // 7 ConstructionVtable
-    [INTEGER, Sym::Byte(b'_'), NONE, NONE, NONE], // 8 NonVirtualOffset
-    [INTEGER, Sym::Byte(b'_'), INTEGER, Sym::Byte(b'_'), NONE], // 9 VirtualOffset
-    [DIGITS, NONE, NONE, NONE, NONE], // : Negative
-    [DIGITS, NONE, NONE, NONE, NONE], // ; Positive
-    [NAME_AFTER_S, NONE, NONE, NONE, NONE], // < NameWithS
-    [ENCODING, Sym::Byte(b'E'), ENTITY, MAYBE_DISCRIMINATOR, NONE], // = LocalName
-    [UNQUALIFIED, MAYBE_ARGUMENTS, NONE, NONE, NONE], // > StdName
-    [ABBREVIATION, ARGUMENTS, NONE, NONE, NONE], // ? AbbreviatedName
-    [OPERATOR, NONE, NONE, NONE, NONE], // @ OperatorPiece
-    [NEST_AFTER_S, NONE, NONE, NONE, NONE], // A NestWithS
-    [DECIMAL, NEST_REST_ALONE, NONE, NONE, NONE], // B NestParameter
-    [NAME, NEST_REST, NONE, NONE, NONE], // C NestInternal
-    [ANONYMOUS, NEST_REST, NONE, NONE, NONE], // D NestLocalType
-    [NAME, NEST_REST, NONE, NONE, NONE], // E NestSource
-    [NAME_IN_MODULE, NEST_TAIL, NONE, NONE, NONE], // F NestModule
-    [DECLTYPE_AFTER_D, NEST_REST_ALONE, NONE, NONE, NONE], // G NestDecltype
-    [UNQUALIFIED, MAYBE_ARGUMENTS, NEST_TAIL, NONE, NONE], // H NestStd
-    [ABBREVIATION, NEST_REST_OR_END, NONE, NONE, NONE], // I NestTemplate
-    [ARGUMENTS_FIRST, Sym::Byte(b'E'), COMPONENT, NEST_TAIL, NONE], // J NestArguments
-    [COMPONENT, NEST_TAIL, NONE, NONE, NONE], // K NestNext
-    [NAME, NEST_REST, NONE, NONE, NONE], // L NestTag
-    [NONE, NONE, NONE, NONE, NONE], // M NestEnd
-    [CONSTRUCTOR_AFTER_C, NONE, NONE, NONE, NONE], // N AnyConstructor
-    [DESTRUCTOR_DIGIT, MAYBE_ARGUMENTS, NONE, NONE, NONE], // O Destructor
-    [COMPONENT_AFTER_C, NONE, NONE, NONE, NONE], // P ComponentWithC
-    [OTHER_OPERATOR, MAYBE_ARGUMENTS, NONE, NONE, NONE], // Q OtherOperatorName
-    [HOLDER_MARK, HELD_COMPONENT, NONE, NONE, NONE], // R Holder
-    [UNQUALIFIED, MAYBE_ARGUMENTS, NONE, NONE, NONE], // S Friend
-    [INHERITED_DIGIT, BASE_CLASS, NONE, NONE, NONE], // T Inheriting
-    [CONSTRUCTOR_DIGIT, MAYBE_ARGUMENTS, NONE, NONE, NONE], // U Constructor
-    [NONE, NONE, NONE, NONE, NONE], // V Abbreviation
-    [SEQ36, NONE, NONE, NONE, NONE], // W Substitution
-    [NEST, NONE, NONE, NONE, NONE], // X NestedType
-    [NONE, NONE, NONE, NONE, NONE], // Y StringLiteral
-    [DECIMAL, PLAIN_ENTITY, NONE, NONE, NONE], // Z DefaultEntity
-    [DECIMAL, PLAIN_TYPE_ENTITY, NONE, NONE, NONE], // [ DefaultTypeEntity
-    [DISCRIMINATOR_REST, NONE, NONE, NONE, NONE], // \\ Discriminator
-    [NONE, NONE, NONE, NONE, NONE], // ] OneDigit
-    [DIGITS, Sym::Byte(b'_'), NONE, NONE, NONE], // ^ ManyDigits
-    [ITEM, ITEMS, Sym::Byte(b'E'), DECIMAL, NONE], // _ Lambda
-    [DECIMAL, NONE, NONE, NONE, NONE], // ` Unnamed
-    [TYPE, NAME, NONE, NONE, NONE], // a Enumeration
-    [MAYBE_VOLATILE, MAYBE_CONST, PLAIN, NONE, NONE], // b RestrictType
-    [MAYBE_CONST, PLAIN, NONE, NONE, NONE], // c VolatileType
-    [PLAIN, NONE, NONE, NONE, NONE], // d ConstType
-    [TYPE, NONE, NONE, NONE, NONE], // e ReferenceType
-    [SOLID, NONE, NONE, NONE, NONE], // f PlainType
-    [AFTER_D, NONE, NONE, NONE, NONE], // g TypeWithD
-    [AFTER_D, NONE, NONE, NONE, NONE], // h PlainWithD
-    [SOLID, NONE, NONE, NONE, NONE], // i QualifiedPlain
-    [ITEM_AFTER_D, NONE, NONE, NONE, NONE], // j ItemWithD
-    [TYPE, NONE, NONE, NONE, NONE], // k Expansion
-    [AFTER_D, NONE, NONE, NONE, NONE], // l ItemIsType
-    [NONE, NONE, NONE, NONE, NONE], // m BuiltinWithD
-    [DIGITS, Sym::Byte(b'_'), TYPE, NONE, NONE], // n Vector
-    [Sym::Byte(b'F'), MAYBE_C_LINKAGE, TYPE, FUNCTION_REST, NONE], // o NoexceptFunction
-    [DIGITS, FLOAT_END, NONE, NONE, NONE], // p SizedFloat
-    [CONCEPT, NONE, NONE, NONE, NONE], // q ConstrainedAuto
-    [BIT_WIDTH, Sym::Byte(b'_'), NONE, NONE, NONE], // r BitInt
-    [EXPRESSION, Sym::Byte(b'E'), NONE, NONE, NONE], // s Decltype
-    [TYPE_PACK, EXPRESSION, NONE, NONE, NONE], // t IndexedType
-    [TYPE, NONE, NONE, NONE, NONE], // u Pointer
-    [TYPE, TYPE, NONE, NONE, NONE], // v MemberPointer
-    [DECIMAL, ARGUMENTS_ALONE, NONE, NONE, NONE], // w Parameter
-    [TYPE_AFTER_S, ARGUMENTS_ALONE, NONE, NONE, NONE], // x TypeWithS
-    [ENCODING, Sym::Byte(b'E'), TYPE_ENTITY, MAYBE_DISCRIMINATOR, NONE], // y LocalType
-    [NONE, NONE, NONE, NONE, NONE], // z Builtin
-    [NAME, NONE, NONE, NONE, NONE], // { Vendor
-    [ANY_ARRAY, NONE, NONE, NONE, NONE], // | ArrayType
-    [MAYBE_C_LINKAGE, TYPE, FUNCTION_REST, NONE, NONE], // } Function
-    [TYPE, NONE, NONE, NONE, NONE], // ~ Complex
-    [DIGITS, NONE, NONE, NONE, NONE], // \x7f BitWidth
-    [TYPE_IN_STD, NONE, NONE, NONE, NONE], // \x80 TypeInStd
-    [ABBREVIATION, NONE, NONE, NONE, NONE], // \x81 AbbreviatedType
-    [NONE, NONE, NONE, NONE, NONE], // \x82 RestEnd
-    [AFTER_R, NONE, NONE, NONE, NONE], // \x83 RestLvalue
-    [AFTER_O, NONE, NONE, NONE, NONE], // \x84 RestRvalue
-    [ITEM_BUT_REF, FUNCTION_REST, NONE, NONE, NONE], // \x85 RestItem
-    [NONE, NONE, NONE, NONE, NONE], // \x86 RefEnd
-    [TYPE, FUNCTION_REST, NONE, NONE, NONE], // \x87 LvalueItem
-    [TYPE, FUNCTION_REST, NONE, NONE, NONE], // \x88 RvalueItem
-    [EXPRESSION, NONE, NONE, NONE, NONE], // \x89 Constraint
-    [ITEM, ITEMS, NONE, NONE, NONE], // \x8a Items
-    [ARGUMENTS_FIRST, Sym::Byte(b'E'), NONE, NONE, NONE], // \x8b Arguments
-    [NAME, MAYBE_ARGUMENTS, NONE, NONE, NONE], // \x8c Tag
-    [PACK_LIST, Sym::Byte(b'E'), ARGUMENT_LIST, NONE, NONE], // \x8d PackArgument
-    [LITERAL, Sym::Byte(b'E'), ARGUMENT_LIST, NONE, NONE], // \x8e LiteralArgument
-    [ARGUMENT, ARGUMENT_LIST, NONE, NONE, NONE], // \x8f AnyArgument
-    [LITERAL, Sym::Byte(b'E'), PACK_LIST, NONE, NONE], // \x90 LiteralElement
-    [ARGUMENT, PACK_LIST, NONE, NONE, NONE], // \x91 AnyElement
-    [Sym::Byte(b'Z'), ENCODING, NONE, NONE, NONE], // \x92 EncodingLiteral
-    [BIT, NONE, NONE, NONE, NONE], // \x93 BoolLiteral
-    [LITERAL_AFTER_D, NONE, NONE, NONE, NONE], // \x94 LiteralWithD
-    [LITERAL_TYPE, INTEGER, NONE, NONE, NONE], // \x95 IntegerLiteral
-    [FLOAT_TYPE, HEX_TEXT, NONE, NONE, NONE], // \x96 FloatLiteral
-    [MAYBE_ZERO, NONE, NONE, NONE, NONE], // \x97 NullLiteral
-    [INTEGER, NONE, NONE, NONE, NONE], // \x98 CharLiteral
-    [SIZED_FLOAT_TYPE, HEX_TEXT, NONE, NONE, NONE], // \x99 SizedFloatLiteral
-    [HEX_DIGITS, NONE, NONE, NONE, NONE], // \x9a HexText
-    [HEX_MORE, NONE, NONE, NONE, NONE], // \x9b HexDigit
-    [MAYBE_CONST, LITERAL_PLAIN, NONE, NONE, NONE], // \x9c VolatileLiteral
-    [LITERAL_PLAIN, NONE, NONE, NONE, NONE], // \x9d ConstLiteral
-    [LITERAL_SOLID, NONE, NONE, NONE, NONE], // \x9e QualifiedLiteral
-    [OPERATOR_AFTER_N, NONE, NONE, NONE, NONE], // \x9f OperatorN
-    [OPERATOR_AFTER_D, NONE, NONE, NONE, NONE], // \xa0 OperatorD
-    [OPERATOR_AFTER_A, NONE, NONE, NONE, NONE], // \xa1 OperatorA
-    [OPERATOR_AFTER_P, NONE, NONE, NONE, NONE], // \xa2 OperatorP
-    [OPERATOR_AFTER_C, NONE, NONE, NONE, NONE], // \xa3 OperatorC
-    [OPERATOR_AFTER_M, NONE, NONE, NONE, NONE], // \xa4 OperatorM
-    [OPERATOR_AFTER_R, NONE, NONE, NONE, NONE], // \xa5 OperatorR
-    [OPERATOR_AFTER_O, NONE, NONE, NONE, NONE], // \xa6 OperatorO
-    [OPERATOR_AFTER_E, NONE, NONE, NONE, NONE], // \xa7 OperatorE
-    [OPERATOR_AFTER_L, NONE, NONE, NONE, NONE], // \xa8 OperatorL
-    [OPERATOR_AFTER_S, NONE, NONE, NONE, NONE], // \xa9 OperatorS
-    [OPERATOR_AFTER_I, NONE, NONE, NONE, NONE], // \xaa OperatorI
-    [OPERATOR_AFTER_G, NONE, NONE, NONE, NONE], // \xab OperatorG
-    [NAME, NONE, NONE, NONE, NONE], // \xac LiteralOperator
-    [ARGUMENTS_FIRST, Sym::Byte(b'E'), NEST_MORE_OR_END, NONE, NONE], // \xad NestInstance
-    [FIELD_NAME, MORE_MODULE, NONE, NONE, NONE], // \xae FirstModule
-    [MAYBE_PARTITION, FIELD_NAME, MORE_MODULE, NONE, NONE], // \xaf MoreModule
-    [TYPE, NONE, NONE, NONE, NONE], // \xb0 Conversion
-    [OPERATOR_AFTER_C, MAYBE_ARGUMENTS, NONE, NONE, NONE], // \xb1 OperatorNameWithC
-    [ARGUMENTS_FIRST, Sym::Byte(b'E'), NONE, NONE, NONE], // \xb2 HeldArguments
-    [NEST, HELD_ARGUMENTS, NONE, NONE, NONE], // \xb3 NestedBase
-    [UNNESTED_NAME, BASE_ARGUMENTS, NONE, NONE, NONE], // \xb4 UnnestedBase
-    [TYPE_AFTER_S, NONE, NONE, NONE, NONE], // \xb5 UnnestedWithS
-    [NAME, MAYBE_TAGS, NONE, NONE, NONE], // \xb6 TaggedSource
-    [ARGUMENTS_FIRST, Sym::Byte(b'E'), HELD_ARGUMENTS, NONE, NONE], // \xb7 BaseArguments
-    [TEMPORARY_NAME, Sym::Byte(b'_'), NONE, NONE, NONE], // \xb8 Temporary
-    [Sym::Byte(b'W'), FIRST_MODULE, NONE, NONE, NONE], // \xb9 ModuleInitializer
-    [CLONE_LETTER, ENCODING, NONE, NONE, NONE], // \xba Clone
-    [ENCODING, Sym::Byte(b'E'), ENTITY, NONE, NONE], // \xbb LocalTemporary
-    [SOURCE_OR_LOCAL, MAYBE_TAGS, NONE, NONE, NONE], // \xbc TaggedStdType
-    [NAME, MAYBE_TAGS, NONE, NONE, NONE], // \xbd TypeTag
-    [EXPRESSION, Sym::Byte(b'E'), NONE, NONE, NONE], // \xbe Expression
-    [ARGUMENT_AFTER_T, NONE, NONE, NONE, NONE], // \xbf ArgumentWithT
-    [SOLID_BUT_T, NONE, NONE, NONE, NONE], // \xc0 PlainArgument
-    [DECIMAL, ARGUMENTS_ALONE, NONE, NONE, NONE], // \xc1 ParameterArgument
-    [DECLARATION_AFTER_T, ONE_ARGUMENT, NONE, NONE, NONE], // \xc2 DeclaredArgument
-    [DECIMAL, LEVELED_PARAMETER, NONE, NONE, NONE], // \xc3 LeveledParameter
-    [LITERAL, Sym::Byte(b'E'), NONE, NONE, NONE], // \xc4 OneLiteral
-    [PACK_LIST, Sym::Byte(b'E'), NONE, NONE, NONE], // \xc5 OnePack
-    [NONE, NONE, NONE, NONE, NONE], // \xc6 AnyType
-    [TYPE, NONE, NONE, NONE, NONE], // \xc7 ValueOf
-    [CONCEPT, NONE, NONE, NONE, NONE], // \xc8 OfConcept
-    [DECLARATIONS, Sym::Byte(b'E'), NONE, NONE, NONE], // \xc9 TemplateOf
-    [Sym::Byte(b'T'), DECLARATION_AFTER_T, NONE, NONE, NONE], // \xca PackOf
-    [DECLARATION_AFTER_T, DECLARATIONS, NONE, NONE, NONE], // \xcb Declarations
-    [UNNESTED_NAME, HELD_ARGUMENTS, NONE, NONE, NONE], // \xcc NamedConcept
-    [TYPE, EXPRESSION, NONE, NONE, NONE], // \xcd Cast
-    [OPERATOR, ARGUMENTS_ALONE, NONE, NONE, NONE], // \xce OperatorReference
-    [NAME, ARGUMENTS_ALONE, NONE, NONE, NONE], // \xcf SimpleId
-    [MAYBE_RESTRICT, MAYBE_VOLATILE, MAYBE_CONST, PARAMETER_NUMBER, NONE], // \xd0 FunctionParameter
-    [ADDRESSED_EXPRESSION, NONE, NONE, NONE, NONE], // \xd1 AddressExpression
-    [EXPRESSION, EXPRESSION, NONE, NONE, NONE], // \xd2 Binary
-    [EXPRESSION, NONE, NONE, NONE, NONE], // \xd3 Unary
-    [CONVERTED_TYPE, NONE, NONE, NONE, NONE], // \xd4 OfType
-    [EXPRESSION, EXPRESSIONS, Sym::Byte(b'E'), NONE, NONE], // \xd5 Call
-    [CONVERTED_TYPE, CONVERT_REST, NONE, NONE, NONE], // \xd6 Convert
-    [FIELD_NAME, DESIGNATED_VALUE, NONE, NONE, NONE], // \xd7 Designated
-    [EXPRESSION, DESIGNATED_VALUE, NONE, NONE, NONE], // \xd8 DesignatedElement
-    [DESTRUCTOR_NAME, NONE, NONE, NONE, NONE], // \xd9 DestructorName
-    [DIGITS, OUTER_REST, NONE, NONE, NONE], // \xda OuterParameter
-    [FOLD_OPERATOR, FOLD_OPERAND, NONE, NONE, NONE], // \xdb LeftFold
-    [FOLD_OPERATOR, FOLD_OPERAND, NONE, NONE, NONE], // \xdc RightFold
-    [EXPRESSIONS, Sym::Byte(b'E'), NONE, NONE, NONE], // \xdd Braces
-    [MAYBE_BEFORE, EXPRESSION, NONE, NONE, NONE], // \xde Step
-    [PLACEMENT, TYPE, INITIALIZER, NONE, NONE], // \xdf New
-    [EXPRESSION, EXPRESSION, EXPRESSION, NONE, NONE], // \xe0 Conditional
-    [REQUIREMENTS, Sym::Byte(b'E'), NONE, NONE, NONE], // \xe1 Requires
-    [REQUIRED_TYPES, NONE, NONE, NONE, NONE], // \xe2 RequiresOf
-    [EXPRESSION, NONE, NONE, NONE, NONE], // \xe3 ExpandExpression
-    [EXPRESSION, NONE, NONE, NONE, NONE], // \xe4 PackSize
-    [UNRESOLVED, NONE, NONE, NONE, NONE], // \xe5 Unresolved
-    [VALUE_PACK, EXPRESSION, NONE, NONE, NONE], // \xe6 PackIndex
-    [TYPE, EXPRESSIONS, Sym::Byte(b'E'), NONE, NONE], // \xe7 TypedBraces
-    [NONE, NONE, NONE, NONE, NONE], // \xe8 Rethrow
-    [EXPRESSION_AFTER_A, NONE, NONE, NONE, NONE], // \xe9 ExpressionA
-    [EXPRESSION_AFTER_C, NONE, NONE, NONE, NONE], // \xea ExpressionC
-    [EXPRESSION_AFTER_D, NONE, NONE, NONE, NONE], // \xeb ExpressionD
-    [EXPRESSION_AFTER_E, NONE, NONE, NONE, NONE], // \xec ExpressionE
-    [EXPRESSION_AFTER_F, NONE, NONE, NONE, NONE], // \xed ExpressionF
-    [EXPRESSION_AFTER_G, NONE, NONE, NONE, NONE], // \xee ExpressionG
-    [EXPRESSION_AFTER_I, NONE, NONE, NONE, NONE], // \xef ExpressionI
-    [EXPRESSION_AFTER_L, NONE, NONE, NONE, NONE], // \xf0 ExpressionL
-    [EXPRESSION_AFTER_M, NONE, NONE, NONE, NONE], // \xf1 ExpressionM
-    [EXPRESSION_AFTER_N, NONE, NONE, NONE, NONE], // \xf2 ExpressionN
-    [EXPRESSION_AFTER_O, NONE, NONE, NONE, NONE], // \xf3 ExpressionO
-    [EXPRESSION_AFTER_P, NONE, NONE, NONE, NONE], // \xf4 ExpressionP
-    [EXPRESSION_AFTER_Q, NONE, NONE, NONE, NONE], // \xf5 ExpressionQ
-    [EXPRESSION_AFTER_R, NONE, NONE, NONE, NONE], // \xf6 ExpressionR
-    [EXPRESSION_AFTER_S, NONE, NONE, NONE, NONE], // \xf7 ExpressionS
-    [EXPRESSION_AFTER_T, NONE, NONE, NONE, NONE], // \xf8 ExpressionT
-    [EXPRESSION_PARAMETER, NONE, NONE, NONE, NONE], // \xf9 ExpressionWithT
-    [DECIMAL, ARGUMENTS_ALONE, NONE, NONE, NONE], // \xfa ParameterExpression
-    [DECIMAL, UNLEVELED_EXPRESSION, NONE, NONE, NONE], // \xfb LeveledExpression
-    [ADDRESSED_LITERAL, Sym::Byte(b'E'), NONE, NONE, NONE], // \xfc AddressedLiteral
-    [EXPRESSION, EXPRESSIONS, NONE, NONE, NONE], // \xfd Expressions
-    [FOLD_OPERATOR_AFTER_L, NONE, NONE, NONE, NONE], // \xfe FoldOperatorL
-    [FOLD_PACK, NONE, NONE, NONE, NONE], // \xff FoldOperand
-    [EXPRESSION, NONE, NONE, NONE, NONE], // \x00 FoldPack
-    [TYPE, NONE, NONE, NONE, NONE], // \x01 TypePack
-    [DESIGNATOR_AFTER_D, NONE, NONE, NONE, NONE], // \x02 Designators
-    [PLAIN_VALUE, NONE, NONE, NONE, NONE], // \x03 DesignatedValue
-    [NAME, NONE, NONE, NONE, NONE], // \x04 FieldName
-    [SOME_EXPRESSIONS, Sym::Byte(b'_'), NONE, NONE, NONE], // \x05 Placed
-    [INITIALIZER_AFTER_P, NONE, NONE, NONE, NONE], // \x06 Initializer
-    [INITIALIZER_AFTER_I, NONE, NONE, NONE, NONE], // \x07 BracedInitializer
-    [NONE, NONE, NONE, NONE, NONE], // \x08 This
-    [DECIMAL, NONE, NONE, NONE, NONE], // \x09 ParameterNumber
-    [DECLTYPE_AFTER_D, NONE, NONE, NONE, NONE], // \x0a ConvertedDecltype
-    [CONVERTED_TYPE, NONE, NONE, NONE, NONE], // \x0b ConvertedConst
-    [CONVERTED_TYPE, NONE, NONE, NONE, NONE], // \x0c ConvertedPointer
-    [CONVERTED_TYPE, NONE, NONE, NONE, NONE], // \x0d ConvertedReference
-    [CONVERTED_SOLID, NONE, NONE, NONE, NONE], // \x0e ConvertedType
-    [PARAMETER_AFTER_T, NONE, NONE, NONE, NONE], // \x0f ConvertedWithT
-    [UNRESOLVED_TYPE, UNRESOLVED_NAME, NONE, NONE, NONE], // \x10 UnresolvedInType
-    [LEVEL, MORE_LEVELS, NONE, NONE, NONE], // \x11 Levels
-    [UNRESOLVED_TYPE, NONE, NONE, NONE, NONE], // \x12 DestroyedType
-    [EXPRESSION, AFTER_EXPRESSION, NONE, NONE, NONE], // \x13 ExpressionRequirement
-    [TYPE, REQUIREMENTS, NONE, NONE, NONE], // \x14 TypeRequirement
-    [EXPRESSION, REQUIREMENTS, NONE, NONE, NONE], // \x15 NestedRequirement
-    [CONCEPT, REQUIREMENTS, NONE, NONE, NONE], // \x16 ResultRequirement
-    [AFTER_NOEXCEPT, NONE, NONE, NONE, NONE], // \x17 NoexceptRequirement
-    [CONVERTED_TYPE, REQUIRED_TYPES, NONE, NONE, NONE], // \x18 RequiredType
-    [UNRESOLVED_NAME, NONE, NONE, NONE, NONE], // \x19 LevelsEnd
-    [OPERATOR_NAME, NONE, NONE, NONE, NONE], // \x1a UnresolvedOperator
-    [ARRAY_REST, NONE, NONE, NONE, NONE], // \x1b AnyArray
-    [BOUND, Sym::Byte(b'_'), TYPE, NONE, NONE], // \x1c BoundedArray
-    [DECIMAL, TYPE, NONE, NONE, NONE], // \x1d LengthArray
+    [NAMED_MODULE, NAME_AFTER_MODULE, NONE, NONE, NONE], // * InNamedModule
+    [MAYBE_RESTRICT, MAYBE_VOLATILE, MAYBE_CONST, MAYBE_REF, NEST], // + NestedName
+    [Sym::Byte(b'Z'), ENCODING, MAYBE_SUFFIX, NONE, NONE], // , Symbol
+    [SUFFIX_FIRST, NONE, NONE, NONE, NONE], // - Suffix
+    [SUFFIX_MORE, NONE, NONE, NONE, NONE], // . SuffixByte
+    [SPECIAL, NONE, NONE, NONE, NONE], // / Special
+    [SPECIAL_MARK, SPECIAL_AFTER_G, NONE, NONE, NONE], // 0 OtherSpecial
+    [COMPLETE_NAME, ITEMS, NONE, NONE, NONE], // 1 Encoding
+    [TYPE, NONE, NONE, NONE, NONE], // 2 SpecialType
+    [INTEGER, Sym::Byte(b'_'), ENCODING, NONE, NONE], // 3 NonVirtualThunk
+    [INTEGER, Sym::Byte(b'_'), INTEGER, Sym::Byte(b'_'), ENCODING], // 4 VirtualThunk
+    [CALL_OFFSET, CALL_OFFSET, ENCODING, NONE, NONE], // 5 CovariantThunk
+    [COMPLETE_NAME, NONE, NONE, NONE, NONE], // 6 SpecialName
+    [ONE_ARGUMENT, NONE, NONE, NONE, NONE], // 7 ParameterObject
+    [TYPE, DIGITS, Sym::Byte(b'_'), TYPE, NONE], // 8 ConstructionVtable
+    [INTEGER, Sym::Byte(b'_'), NONE, NONE, NONE], // 9 NonVirtualOffset
+    [INTEGER, Sym::Byte(b'_'), INTEGER, Sym::Byte(b'_'), NONE], // : VirtualOffset
+    [DIGITS, NONE, NONE, NONE, NONE], // ; Negative
+    [DIGITS, NONE, NONE, NONE, NONE], // < Positive
+    [NAME_AFTER_S, NONE, NONE, NONE, NONE], // = NameWithS
+    [ENCODING, Sym::Byte(b'E'), ENTITY, MAYBE_DISCRIMINATOR, NONE], // > LocalName
+    [UNQUALIFIED, MAYBE_ARGUMENTS, NONE, NONE, NONE], // ? StdName
+    [ABBREVIATION, ARGUMENTS, NONE, NONE, NONE], // @ AbbreviatedName
+    [OPERATOR, NONE, NONE, NONE, NONE], // A OperatorPiece
+    [NEST_AFTER_S, NONE, NONE, NONE, NONE], // B NestWithS
+    [DECIMAL, NEST_REST_ALONE, NONE, NONE, NONE], // C NestParameter
+    [NAME, NEST_REST, NONE, NONE, NONE], // D NestInternal
+    [ANONYMOUS, NEST_REST, NONE, NONE, NONE], // E NestLocalType
+    [NAME, NEST_REST, NONE, NONE, NONE], // F NestSource
+    [NAME_IN_MODULE, NEST_ON, NONE, NONE, NONE], // G NestModule
+    [DECLTYPE_AFTER_D, NEST_REST_ALONE, NONE, NONE, NONE], // H NestDecltype
+    [UNQUALIFIED, MAYBE_ARGUMENTS, NEST_TAIL, NONE, NONE], // I NestStd
+    [ABBREVIATION, NEST_REST_OR_END, NONE, NONE, NONE], // J NestTemplate
+    [ARGUMENTS_FIRST, Sym::Byte(b'E'), COMPONENT, NEST_TAIL, NONE], // K NestArguments
+    [COMPONENT, NEST_TAIL, NONE, NONE, NONE], // L NestNext
+    [NAME, NEST_REST, NONE, NONE, NONE], // M NestTag
+    [NONE, NONE, NONE, NONE, NONE], // N NestEnd
+    [CONSTRUCTOR_AFTER_C, NONE, NONE, NONE, NONE], // O AnyConstructor
+    [DESTRUCTOR_DIGIT, MAYBE_ARGUMENTS, NONE, NONE, NONE], // P Destructor
+    [COMPONENT_AFTER_C, NONE, NONE, NONE, NONE], // Q ComponentWithC
+    [OTHER_OPERATOR, MAYBE_ARGUMENTS, NONE, NONE, NONE], // R OtherOperatorName
+    [HOLDER_MARK, HELD_COMPONENT, NONE, NONE, NONE], // S Holder
+    [UNQUALIFIED, MAYBE_ARGUMENTS, NONE, NONE, NONE], // T Friend
+    [INHERITED_DIGIT, BASE_CLASS, NONE, NONE, NONE], // U Inheriting
+    [CONSTRUCTOR_DIGIT, MAYBE_ARGUMENTS, NONE, NONE, NONE], // V Constructor
+    [NONE, NONE, NONE, NONE, NONE], // W Abbreviation
+    [SEQ36, NONE, NONE, NONE, NONE], // X Substitution
+    [NEST, NONE, NONE, NONE, NONE], // Y NestedType
+    [NONE, NONE, NONE, NONE, NONE], // Z StringLiteral
+    [DECIMAL, PLAIN_ENTITY, NONE, NONE, NONE], // [ DefaultEntity
+    [DECIMAL, PLAIN_TYPE_ENTITY, NONE, NONE, NONE], // \\ DefaultTypeEntity
+    [DISCRIMINATOR_REST, NONE, NONE, NONE, NONE], // ] Discriminator
+    [NONE, NONE, NONE, NONE, NONE], // ^ OneDigit
+    [DIGITS, Sym::Byte(b'_'), NONE, NONE, NONE], // _ ManyDigits
+    [ITEM, ITEMS, Sym::Byte(b'E'), DECIMAL, NONE], // ` Lambda
+    [DECIMAL, NONE, NONE, NONE, NONE], // a Unnamed
+    [TYPE, NAME, NONE, NONE, NONE], // b Enumeration
+    [MAYBE_VOLATILE, MAYBE_CONST, PLAIN, NONE, NONE], // c RestrictType
+    [MAYBE_CONST, PLAIN, NONE, NONE, NONE], // d VolatileType
+    [PLAIN, NONE, NONE, NONE, NONE], // e ConstType
+    [TYPE, NONE, NONE, NONE, NONE], // f ReferenceType
+    [SOLID, NONE, NONE, NONE, NONE], // g PlainType
+    [AFTER_D, NONE, NONE, NONE, NONE], // h TypeWithD
+    [AFTER_D, NONE, NONE, NONE, NONE], // i PlainWithD
+    [SOLID, NONE, NONE, NONE, NONE], // j QualifiedPlain
+    [ITEM_AFTER_D, NONE, NONE, NONE, NONE], // k ItemWithD
+    [TYPE, NONE, NONE, NONE, NONE], // l Expansion
+    [AFTER_D, NONE, NONE, NONE, NONE], // m ItemIsType
+    [NONE, NONE, NONE, NONE, NONE], // n BuiltinWithD
+    [DIGITS, Sym::Byte(b'_'), TYPE, NONE, NONE], // o Vector
+    [Sym::Byte(b'F'), MAYBE_C_LINKAGE, TYPE, FUNCTION_REST, NONE], // p NoexceptFunction
+    [DIGITS, FLOAT_END, NONE, NONE, NONE], // q SizedFloat
+    [CONCEPT, NONE, NONE, NONE, NONE], // r ConstrainedAuto
+    [BIT_WIDTH, Sym::Byte(b'_'), NONE, NONE, NONE], // s BitInt
+    [EXPRESSION, Sym::Byte(b'E'), NONE, NONE, NONE], // t Decltype
+    [TYPE_PACK, EXPRESSION, NONE, NONE, NONE], // u IndexedType
+    [TYPE, NONE, NONE, NONE, NONE], // v Pointer
+    [TYPE, TYPE, NONE, NONE, NONE], // w MemberPointer
+    [DECIMAL, ARGUMENTS_ALONE, NONE, NONE, NONE], // x Parameter
+    [TYPE_AFTER_S, ARGUMENTS_ALONE, NONE, NONE, NONE], // y TypeWithS
+    [ENCODING, Sym::Byte(b'E'), TYPE_ENTITY, MAYBE_DISCRIMINATOR, NONE], // z LocalType
+    [NONE, NONE, NONE, NONE, NONE], // { Builtin
+    [NAME, NONE, NONE, NONE, NONE], // | Vendor
+    [ANY_ARRAY, NONE, NONE, NONE, NONE], // } ArrayType
+    [MAYBE_C_LINKAGE, TYPE, FUNCTION_REST, NONE, NONE], // ~ Function
+    [TYPE, NONE, NONE, NONE, NONE], // \x7f Complex
+    [DIGITS, NONE, NONE, NONE, NONE], // \x80 BitWidth
+    [TYPE_IN_STD, NONE, NONE, NONE, NONE], // \x81 TypeInStd
+    [ABBREVIATION, NONE, NONE, NONE, NONE], // \x82 AbbreviatedType
+    [NONE, NONE, NONE, NONE, NONE], // \x83 RestEnd
+    [AFTER_R, NONE, NONE, NONE, NONE], // \x84 RestLvalue
+    [AFTER_O, NONE, NONE, NONE, NONE], // \x85 RestRvalue
+    [ITEM_BUT_REF, FUNCTION_REST, NONE, NONE, NONE], // \x86 RestItem
+    [NONE, NONE, NONE, NONE, NONE], // \x87 RefEnd
+    [TYPE, FUNCTION_REST, NONE, NONE, NONE], // \x88 LvalueItem
+    [TYPE, FUNCTION_REST, NONE, NONE, NONE], // \x89 RvalueItem
+    [EXPRESSION, NONE, NONE, NONE, NONE], // \x8a Constraint
+    [ITEM, ITEMS, NONE, NONE, NONE], // \x8b Items
+    [ARGUMENTS_FIRST, Sym::Byte(b'E'), NONE, NONE, NONE], // \x8c Arguments
+    [NAME, MAYBE_ARGUMENTS, NONE, NONE, NONE], // \x8d Tag
+    [PACK_LIST, Sym::Byte(b'E'), ARGUMENT_LIST, NONE, NONE], // \x8e PackArgument
+    [LITERAL, Sym::Byte(b'E'), ARGUMENT_LIST, NONE, NONE], // \x8f LiteralArgument
+    [ARGUMENT, ARGUMENT_LIST, NONE, NONE, NONE], // \x90 AnyArgument
+    [LITERAL, Sym::Byte(b'E'), PACK_LIST, NONE, NONE], // \x91 LiteralElement
+    [ARGUMENT, PACK_LIST, NONE, NONE, NONE], // \x92 AnyElement
+    [Sym::Byte(b'Z'), ENCODING, NONE, NONE, NONE], // \x93 EncodingLiteral
+    [BIT, NONE, NONE, NONE, NONE], // \x94 BoolLiteral
+    [LITERAL_AFTER_D, NONE, NONE, NONE, NONE], // \x95 LiteralWithD
+    [LITERAL_TYPE, INTEGER, NONE, NONE, NONE], // \x96 IntegerLiteral
+    [FLOAT_TYPE, HEX_TEXT, NONE, NONE, NONE], // \x97 FloatLiteral
+    [MAYBE_ZERO, NONE, NONE, NONE, NONE], // \x98 NullLiteral
+    [INTEGER, NONE, NONE, NONE, NONE], // \x99 CharLiteral
+    [SIZED_FLOAT_TYPE, HEX_TEXT, NONE, NONE, NONE], // \x9a SizedFloatLiteral
+    [HEX_DIGITS, NONE, NONE, NONE, NONE], // \x9b HexText
+    [HEX_MORE, NONE, NONE, NONE, NONE], // \x9c HexDigit
+    [MAYBE_CONST, LITERAL_PLAIN, NONE, NONE, NONE], // \x9d VolatileLiteral
+    [LITERAL_PLAIN, NONE, NONE, NONE, NONE], // \x9e ConstLiteral
+    [LITERAL_SOLID, NONE, NONE, NONE, NONE], // \x9f QualifiedLiteral
+    [OPERATOR_AFTER_N, NONE, NONE, NONE, NONE], // \xa0 OperatorN
+    [OPERATOR_AFTER_D, NONE, NONE, NONE, NONE], // \xa1 OperatorD
+    [OPERATOR_AFTER_A, NONE, NONE, NONE, NONE], // \xa2 OperatorA
+    [OPERATOR_AFTER_P, NONE, NONE, NONE, NONE], // \xa3 OperatorP
+    [OPERATOR_AFTER_C, NONE, NONE, NONE, NONE], // \xa4 OperatorC
+    [OPERATOR_AFTER_M, NONE, NONE, NONE, NONE], // \xa5 OperatorM
+    [OPERATOR_AFTER_R, NONE, NONE, NONE, NONE], // \xa6 OperatorR
+    [OPERATOR_AFTER_O, NONE, NONE, NONE, NONE], // \xa7 OperatorO
+    [OPERATOR_AFTER_E, NONE, NONE, NONE, NONE], // \xa8 OperatorE
+    [OPERATOR_AFTER_L, NONE, NONE, NONE, NONE], // \xa9 OperatorL
+    [OPERATOR_AFTER_S, NONE, NONE, NONE, NONE], // \xaa OperatorS
+    [OPERATOR_AFTER_I, NONE, NONE, NONE, NONE], // \xab OperatorI
+    [OPERATOR_AFTER_G, NONE, NONE, NONE, NONE], // \xac OperatorG
+    [NAME, NONE, NONE, NONE, NONE], // \xad LiteralOperator
+    [ARGUMENTS_FIRST, Sym::Byte(b'E'), NEST_MORE_OR_END, NONE, NONE], // \xae NestInstance
+    [FIELD_NAME, MORE_MODULE, NONE, NONE, NONE], // \xaf FirstModule
+    [SEQ36, MORE_MODULE, NONE, NONE, NONE], // \xb0 NamedModule
+    [MAYBE_PARTITION, FIELD_NAME, MORE_MODULE, NONE, NONE], // \xb1 MoreModule
+    [TYPE, NONE, NONE, NONE, NONE], // \xb2 Conversion
+    [OPERATOR_AFTER_C, MAYBE_ARGUMENTS, NONE, NONE, NONE], // \xb3 OperatorNameWithC
+    [ARGUMENTS_FIRST, Sym::Byte(b'E'), NONE, NONE, NONE], // \xb4 HeldArguments
+    [NEST, HELD_ARGUMENTS, NONE, NONE, NONE], // \xb5 NestedBase
+    [UNNESTED_NAME, BASE_ARGUMENTS, NONE, NONE, NONE], // \xb6 UnnestedBase
+    [TYPE_AFTER_S, NONE, NONE, NONE, NONE], // \xb7 UnnestedWithS
+    [NAME, MAYBE_TAGS, NONE, NONE, NONE], // \xb8 TaggedSource
+    [ARGUMENTS_FIRST, Sym::Byte(b'E'), HELD_ARGUMENTS, NONE, NONE], // \xb9 BaseArguments
+    [TEMPORARY_NAME, Sym::Byte(b'_'), NONE, NONE, NONE], // \xba Temporary
+    [Sym::Byte(b'W'), FIRST_MODULE, NONE, NONE, NONE], // \xbb ModuleInitializer
+    [CLONE_LETTER, ENCODING, NONE, NONE, NONE], // \xbc Clone
+    [ENCODING, Sym::Byte(b'E'), ENTITY, NONE, NONE], // \xbd LocalTemporary
+    [SOURCE_OR_LOCAL, MAYBE_TAGS, NONE, NONE, NONE], // \xbe TaggedStdType
+    [NAME, MAYBE_TAGS, NONE, NONE, NONE], // \xbf TypeTag
+    [EXPRESSION, Sym::Byte(b'E'), NONE, NONE, NONE], // \xc0 Expression
+    [ARGUMENT_AFTER_T, NONE, NONE, NONE, NONE], // \xc1 ArgumentWithT
+    [SOLID_BUT_T, NONE, NONE, NONE, NONE], // \xc2 PlainArgument
+    [DECIMAL, ARGUMENTS_ALONE, NONE, NONE, NONE], // \xc3 ParameterArgument
+    [DECLARATION_AFTER_T, ONE_ARGUMENT, NONE, NONE, NONE], // \xc4 DeclaredArgument
+    [DECIMAL, LEVELED_PARAMETER, NONE, NONE, NONE], // \xc5 LeveledParameter
+    [LITERAL, Sym::Byte(b'E'), NONE, NONE, NONE], // \xc6 OneLiteral
+    [PACK_LIST, Sym::Byte(b'E'), NONE, NONE, NONE], // \xc7 OnePack
+    [NONE, NONE, NONE, NONE, NONE], // \xc8 AnyType
+    [TYPE, NONE, NONE, NONE, NONE], // \xc9 ValueOf
+    [CONCEPT, NONE, NONE, NONE, NONE], // \xca OfConcept
+    [DECLARATIONS, Sym::Byte(b'E'), NONE, NONE, NONE], // \xcb TemplateOf
+    [Sym::Byte(b'T'), DECLARATION_AFTER_T, NONE, NONE, NONE], // \xcc PackOf
+    [DECLARATION_AFTER_T, DECLARATIONS, NONE, NONE, NONE], // \xcd Declarations
+    [UNNESTED_NAME, HELD_ARGUMENTS, NONE, NONE, NONE], // \xce NamedConcept
+    [TYPE, EXPRESSION, NONE, NONE, NONE], // \xcf Cast
+    [OPERATOR, ARGUMENTS_ALONE, NONE, NONE, NONE], // \xd0 OperatorReference
+    [NAME, ARGUMENTS_ALONE, NONE, NONE, NONE], // \xd1 SimpleId
+    [MAYBE_RESTRICT, MAYBE_VOLATILE, MAYBE_CONST, PARAMETER_NUMBER, NONE], // \xd2 FunctionParameter
+    [ADDRESSED_EXPRESSION, NONE, NONE, NONE, NONE], // \xd3 AddressExpression
+    [EXPRESSION, EXPRESSION, NONE, NONE, NONE], // \xd4 Binary
+    [EXPRESSION, NONE, NONE, NONE, NONE], // \xd5 Unary
+    [CONVERTED_TYPE, NONE, NONE, NONE, NONE], // \xd6 OfType
+    [EXPRESSION, EXPRESSIONS, Sym::Byte(b'E'), NONE, NONE], // \xd7 Call
+    [CONVERTED_TYPE, CONVERT_REST, NONE, NONE, NONE], // \xd8 Convert
+    [FIELD_NAME, DESIGNATED_VALUE, NONE, NONE, NONE], // \xd9 Designated
+    [EXPRESSION, DESIGNATED_VALUE, NONE, NONE, NONE], // \xda DesignatedElement
+    [DESTRUCTOR_NAME, NONE, NONE, NONE, NONE], // \xdb DestructorName
+    [DIGITS, OUTER_REST, NONE, NONE, NONE], // \xdc OuterParameter
+    [FOLD_OPERATOR, FOLD_OPERAND, NONE, NONE, NONE], // \xdd LeftFold
+    [FOLD_OPERATOR, FOLD_OPERAND, NONE, NONE, NONE], // \xde RightFold
+    [EXPRESSIONS, Sym::Byte(b'E'), NONE, NONE, NONE], // \xdf Braces
+    [MAYBE_BEFORE, EXPRESSION, NONE, NONE, NONE], // \xe0 Step
+    [PLACEMENT, TYPE, INITIALIZER, NONE, NONE], // \xe1 New
+    [EXPRESSION, EXPRESSION, EXPRESSION, NONE, NONE], // \xe2 Conditional
+    [REQUIREMENTS, Sym::Byte(b'E'), NONE, NONE, NONE], // \xe3 Requires
+    [REQUIRED_TYPES, NONE, NONE, NONE, NONE], // \xe4 RequiresOf
+    [EXPRESSION, NONE, NONE, NONE, NONE], // \xe5 ExpandExpression
+    [EXPRESSION, NONE, NONE, NONE, NONE], // \xe6 PackSize
+    [UNRESOLVED, NONE, NONE, NONE, NONE], // \xe7 Unresolved
+    [VALUE_PACK, EXPRESSION, NONE, NONE, NONE], // \xe8 PackIndex
+    [TYPE, EXPRESSIONS, Sym::Byte(b'E'), NONE, NONE], // \xe9 TypedBraces
+    [NONE, NONE, NONE, NONE, NONE], // \xea Rethrow
+    [EXPRESSION_AFTER_A, NONE, NONE, NONE, NONE], // \xeb ExpressionA
+    [EXPRESSION_AFTER_C, NONE, NONE, NONE, NONE], // \xec ExpressionC
+    [EXPRESSION_AFTER_D, NONE, NONE, NONE, NONE], // \xed ExpressionD
+    [EXPRESSION_AFTER_E, NONE, NONE, NONE, NONE], // \xee ExpressionE
+    [EXPRESSION_AFTER_F, NONE, NONE, NONE, NONE], // \xef ExpressionF
+    [EXPRESSION_AFTER_G, NONE, NONE, NONE, NONE], // \xf0 ExpressionG
+    [EXPRESSION_AFTER_I, NONE, NONE, NONE, NONE], // \xf1 ExpressionI
+    [EXPRESSION_AFTER_L, NONE, NONE, NONE, NONE], // \xf2 ExpressionL
+    [EXPRESSION_AFTER_M, NONE, NONE, NONE, NONE], // \xf3 ExpressionM
+    [EXPRESSION_AFTER_N, NONE, NONE, NONE, NONE], // \xf4 ExpressionN
+    [EXPRESSION_AFTER_O, NONE, NONE, NONE, NONE], // \xf5 ExpressionO
+    [EXPRESSION_AFTER_P, NONE, NONE, NONE, NONE], // \xf6 ExpressionP
+    [EXPRESSION_AFTER_Q, NONE, NONE, NONE, NONE], // \xf7 ExpressionQ
+    [EXPRESSION_AFTER_R, NONE, NONE, NONE, NONE], // \xf8 ExpressionR
+    [EXPRESSION_AFTER_S, NONE, NONE, NONE, NONE], // \xf9 ExpressionS
+    [EXPRESSION_AFTER_T, NONE, NONE, NONE, NONE], // \xfa ExpressionT
+    [EXPRESSION_PARAMETER, NONE, NONE, NONE, NONE], // \xfb ExpressionWithT
+    [DECIMAL, ARGUMENTS_ALONE, NONE, NONE, NONE], // \xfc ParameterExpression
+    [DECIMAL, UNLEVELED_EXPRESSION, NONE, NONE, NONE], // \xfd LeveledExpression
+    [ADDRESSED_LITERAL, Sym::Byte(b'E'), NONE, NONE, NONE], // \xfe AddressedLiteral
+    [EXPRESSION, EXPRESSIONS, NONE, NONE, NONE], // \xff Expressions
+    [FOLD_OPERATOR_AFTER_L, NONE, NONE, NONE, NONE], // \x00 FoldOperatorL
+    [FOLD_PACK, NONE, NONE, NONE, NONE], // \x01 FoldOperand
+    [EXPRESSION, NONE, NONE, NONE, NONE], // \x02 FoldPack
+    [TYPE, NONE, NONE, NONE, NONE], // \x03 TypePack
+    [DESIGNATOR_AFTER_D, NONE, NONE, NONE, NONE], // \x04 Designators
+    [PLAIN_VALUE, NONE, NONE, NONE, NONE], // \x05 DesignatedValue
+    [NAME, NONE, NONE, NONE, NONE], // \x06 FieldName
+    [SOME_EXPRESSIONS, Sym::Byte(b'_'), NONE, NONE, NONE], // \x07 Placed
+    [INITIALIZER_AFTER_P, NONE, NONE, NONE, NONE], // \x08 Initializer
+    [INITIALIZER_AFTER_I, NONE, NONE, NONE, NONE], // \x09 BracedInitializer
+    [NONE, NONE, NONE, NONE, NONE], // \x0a This
+    [DECIMAL, NONE, NONE, NONE, NONE], // \x0b ParameterNumber
+    [DECLTYPE_AFTER_D, NONE, NONE, NONE, NONE], // \x0c ConvertedDecltype
+    [CONVERTED_TYPE, NONE, NONE, NONE, NONE], // \x0d ConvertedConst
+    [CONVERTED_TYPE, NONE, NONE, NONE, NONE], // \x0e ConvertedPointer
+    [CONVERTED_TYPE, NONE, NONE, NONE, NONE], // \x0f ConvertedReference
+    [CONVERTED_SOLID, NONE, NONE, NONE, NONE], // \x10 ConvertedType
+    [PARAMETER_AFTER_T, NONE, NONE, NONE, NONE], // \x11 ConvertedWithT
+    [UNRESOLVED_TYPE, UNRESOLVED_NAME, NONE, NONE, NONE], // \x12 UnresolvedInType
+    [LEVEL, MORE_LEVELS, NONE, NONE, NONE], // \x13 Levels
+    [UNRESOLVED_TYPE, NONE, NONE, NONE, NONE], // \x14 DestroyedType
+    [EXPRESSION, AFTER_EXPRESSION, NONE, NONE, NONE], // \x15 ExpressionRequirement
+    [TYPE, REQUIREMENTS, NONE, NONE, NONE], // \x16 TypeRequirement
+    [EXPRESSION, REQUIREMENTS, NONE, NONE, NONE], // \x17 NestedRequirement
+    [CONCEPT, REQUIREMENTS, NONE, NONE, NONE], // \x18 ResultRequirement
+    [AFTER_NOEXCEPT, NONE, NONE, NONE, NONE], // \x19 NoexceptRequirement
+    [CONVERTED_TYPE, REQUIRED_TYPES, NONE, NONE, NONE], // \x1a RequiredType
+    [UNRESOLVED_NAME, NONE, NONE, NONE, NONE], // \x1b LevelsEnd
+    [OPERATOR_NAME, NONE, NONE, NONE, NONE], // \x1c UnresolvedOperator
+    [ARRAY_REST, NONE, NONE, NONE, NONE], // \x1d AnyArray
+    [BOUND, Sym::Byte(b'_'), TYPE, NONE, NONE], // \x1e BoundedArray
+    [DECIMAL, TYPE, NONE, NONE, NONE], // \x1f LengthArray
 };
 
 // How many symbols follow each of them, up to an end.
-static AFTER: [u8; 1524] = [
+static AFTER: [u8; 1536] = [
     0, 0, 0, 0, 0, 0, 0, 0, 0, 0, 0, 2, 1, 0, 0, 0, 0, 2, 1, 0, 0, 0, 0, 2, 1, 0, 0, 0, 0, 2, 1, 0,
-    0, 0, 0, 1, 0, 0, 0, 0, 0, 1, 0, 0, 0, 0, 0, 1, 0, 0, 0, 0, 0, 2, 1, 0, 0, 0, 0, 5, 4, 3, 2, 1,
-    0, 3, 2, 1, 0, 0, 0, 1, 0, 0, 0, 0, 0, 1, 0, 0, 0, 0, 0, 1, 0, 0, 0, 0, 0, 2, 1, 0, 0, 0, 0, 2,
-    1, 0, 0, 0, 0, 1, 0, 0, 0, 0, 0, 3, 2, 1, 0, 0, 0, 5, 4, 3, 2, 1, 0, 3, 2, 1, 0, 0, 0, 1, 0, 0,
-    0, 0, 0, 1, 0, 0, 0, 0, 0, 4, 3, 2, 1, 0, 0, 2, 1, 0, 0, 0, 0, 4, 3, 2, 1, 0, 0, 1, 0, 0, 0, 0,
-    0, 1, 0, 0, 0, 0, 0, 1, 0, 0, 0, 0, 0, 4, 3, 2, 1, 0, 0, 2, 1, 0, 0, 0, 0, 2, 1, 0, 0, 0, 0, 1,
-    0, 0, 0, 0, 0, 1, 0, 0, 0, 0, 0, 2, 1, 0, 0, 0, 0, 2, 1, 0, 0, 0, 0, 2, 1, 0, 0, 0, 0, 2, 1, 0,
-    0, 0, 0, 2, 1, 0, 0, 0, 0, 2, 1, 0, 0, 0, 0, 3, 2, 1, 0, 0, 0, 2, 1, 0, 0, 0, 0, 4, 3, 2, 1, 0,
-    0, 2, 1, 0, 0, 0, 0, 2, 1, 0, 0, 0, 0, 0, 0, 0, 0, 0, 0, 1, 0, 0, 0, 0, 0, 2, 1, 0, 0, 0, 0, 1,
-    0, 0, 0, 0, 0, 2, 1, 0, 0, 0, 0, 2, 1, 0, 0, 0, 0, 2, 1, 0, 0, 0, 0, 2, 1, 0, 0, 0, 0, 2, 1, 0,
-    0, 0, 0, 0, 0, 0, 0, 0, 0, 1, 0, 0, 0, 0, 0, 1, 0, 0, 0, 0, 0, 0, 0, 0, 0, 0, 0, 2, 1, 0, 0, 0,
-    0, 2, 1, 0, 0, 0, 0, 1, 0, 0, 0, 0, 0, 0, 0, 0, 0, 0, 0, 2, 1, 0, 0, 0, 0, 4, 3, 2, 1, 0, 0, 1,
-    0, 0, 0, 0, 0, 2, 1, 0, 0, 0, 0, 3, 2, 1, 0, 0, 0, 2, 1, 0, 0, 0, 0, 1, 0, 0, 0, 0, 0, 1, 0, 0,
+    0, 0, 0, 1, 0, 0, 0, 0, 0, 1, 0, 0, 0, 0, 0, 1, 0, 0, 0, 0, 0, 2, 1, 0, 0, 0, 0, 2, 1, 0, 0, 0,
+    0, 5, 4, 3, 2, 1, 0, 3, 2, 1, 0, 0, 0, 1, 0, 0, 0, 0, 0, 1, 0, 0, 0, 0, 0, 1, 0, 0, 0, 0, 0, 2,
+    1, 0, 0, 0, 0, 2, 1, 0, 0, 0, 0, 1, 0, 0, 0, 0, 0, 3, 2, 1, 0, 0, 0, 5, 4, 3, 2, 1, 0, 3, 2, 1,
+    0, 0, 0, 1, 0, 0, 0, 0, 0, 1, 0, 0, 0, 0, 0, 4, 3, 2, 1, 0, 0, 2, 1, 0, 0, 0, 0, 4, 3, 2, 1, 0,
+    0, 1, 0, 0, 0, 0, 0, 1, 0, 0, 0, 0, 0, 1, 0, 0, 0, 0, 0, 4, 3, 2, 1, 0, 0, 2, 1, 0, 0, 0, 0, 2,
+    1, 0, 0, 0, 0, 1, 0, 0, 0, 0, 0, 1, 0, 0, 0, 0, 0, 2, 1, 0, 0, 0, 0, 2, 1, 0, 0, 0, 0, 2, 1, 0,
+    0, 0, 0, 2, 1, 0, 0, 0, 0, 2, 1, 0, 0, 0, 0, 2, 1, 0, 0, 0, 0, 3, 2, 1, 0, 0, 0, 2, 1, 0, 0, 0,
+    0, 4, 3, 2, 1, 0, 0, 2, 1, 0, 0, 0, 0, 2, 1, 0, 0, 0, 0, 0, 0, 0, 0, 0, 0, 1, 0, 0, 0, 0, 0, 2,
+    1, 0, 0, 0, 0, 1, 0, 0, 0, 0, 0, 2, 1, 0, 0, 0, 0, 2, 1, 0, 0, 0, 0, 2, 1, 0, 0, 0, 0, 2, 1, 0,
+    0, 0, 0, 2, 1, 0, 0, 0, 0, 0, 0, 0, 0, 0, 0, 1, 0, 0, 0, 0, 0, 1, 0, 0, 0, 0, 0, 0, 0, 0, 0, 0,
+    0, 2, 1, 0, 0, 0, 0, 2, 1, 0, 0, 0, 0, 1, 0, 0, 0, 0, 0, 0, 0, 0, 0, 0, 0, 2, 1, 0, 0, 0, 0, 4,
+    3, 2, 1, 0, 0, 1, 0, 0, 0, 0, 0, 2, 1, 0, 0, 0, 0, 3, 2, 1, 0, 0, 0, 2, 1, 0, 0, 0, 0, 1, 0, 0,
     0, 0, 0, 1, 0, 0, 0, 0, 0, 1, 0, 0, 0, 0, 0, 1, 0, 0, 0, 0, 0, 1, 0, 0, 0, 0, 0, 1, 0, 0, 0, 0,
-    0, 1, 0, 0, 0, 0, 0, 1, 0, 0, 0, 0, 0, 0, 0, 0, 0, 0, 0, 3, 2, 1, 0, 0, 0, 4, 3, 2, 1, 0, 0, 2,
-    1, 0, 0, 0, 0, 1, 0, 0, 0, 0, 0, 2, 1, 0, 0, 0, 0, 2, 1, 0, 0, 0, 0, 2, 1, 0, 0, 0, 0, 1, 0, 0,
-    0, 0, 0, 2, 1, 0, 0, 0, 0, 2, 1, 0, 0, 0, 0, 2, 1, 0, 0, 0, 0, 4, 3, 2, 1, 0, 0, 0, 0, 0, 0, 0,
-    0, 1, 0, 0, 0, 0, 0, 1, 0, 0, 0, 0, 0, 3, 2, 1, 0, 0, 0, 1, 0, 0, 0, 0, 0, 1, 0, 0, 0, 0, 0, 1,
-    0, 0, 0, 0, 0, 1, 0, 0, 0, 0, 0, 0, 0, 0, 0, 0, 0, 1, 0, 0, 0, 0, 0, 1, 0, 0, 0, 0, 0, 2, 1, 0,
-    0, 0, 0, 0, 0, 0, 0, 0, 0, 2, 1, 0, 0, 0, 0, 2, 1, 0, 0, 0, 0, 1, 0, 0, 0, 0, 0, 2, 1, 0, 0, 0,
-    0, 2, 1, 0, 0, 0, 0, 2, 1, 0, 0, 0, 0, 3, 2, 1, 0, 0, 0, 3, 2, 1, 0, 0, 0, 2, 1, 0, 0, 0, 0, 3,
-    2, 1, 0, 0, 0, 2, 1, 0, 0, 0, 0, 2, 1, 0, 0, 0, 0, 1, 0, 0, 0, 0, 0, 1, 0, 0, 0, 0, 0, 2, 1, 0,
-    0, 0, 0, 2, 1, 0, 0, 0, 0, 1, 0, 0, 0, 0, 0, 1, 0, 0, 0, 0, 0, 2, 1, 0, 0, 0, 0, 1, 0, 0, 0, 0,
-    0, 1, 0, 0, 0, 0, 0, 2, 1, 0, 0, 0, 0, 1, 0, 0, 0, 0, 0, 1, 0, 0, 0, 0, 0, 1, 0, 0, 0, 0, 0, 1,
+    0, 1, 0, 0, 0, 0, 0, 1, 0, 0, 0, 0, 0, 1, 0, 0, 0, 0, 0, 0, 0, 0, 0, 0, 0, 3, 2, 1, 0, 0, 0, 4,
+    3, 2, 1, 0, 0, 2, 1, 0, 0, 0, 0, 1, 0, 0, 0, 0, 0, 2, 1, 0, 0, 0, 0, 2, 1, 0, 0, 0, 0, 2, 1, 0,
+    0, 0, 0, 1, 0, 0, 0, 0, 0, 2, 1, 0, 0, 0, 0, 2, 1, 0, 0, 0, 0, 2, 1, 0, 0, 0, 0, 4, 3, 2, 1, 0,
+    0, 0, 0, 0, 0, 0, 0, 1, 0, 0, 0, 0, 0, 1, 0, 0, 0, 0, 0, 3, 2, 1, 0, 0, 0, 1, 0, 0, 0, 0, 0, 1,
+    0, 0, 0, 0, 0, 1, 0, 0, 0, 0, 0, 1, 0, 0, 0, 0, 0, 0, 0, 0, 0, 0, 0, 1, 0, 0, 0, 0, 0, 1, 0, 0,
+    0, 0, 0, 2, 1, 0, 0, 0, 0, 0, 0, 0, 0, 0, 0, 2, 1, 0, 0, 0, 0, 2, 1, 0, 0, 0, 0, 1, 0, 0, 0, 0,
+    0, 2, 1, 0, 0, 0, 0, 2, 1, 0, 0, 0, 0, 2, 1, 0, 0, 0, 0, 3, 2, 1, 0, 0, 0, 3, 2, 1, 0, 0, 0, 2,
+    1, 0, 0, 0, 0, 3, 2, 1, 0, 0, 0, 2, 1, 0, 0, 0, 0, 2, 1, 0, 0, 0, 0, 1, 0, 0, 0, 0, 0, 1, 0, 0,
+    0, 0, 0, 2, 1, 0, 0, 0, 0, 2, 1, 0, 0, 0, 0, 1, 0, 0, 0, 0, 0, 1, 0, 0, 0, 0, 0, 2, 1, 0, 0, 0,
+    0, 1, 0, 0, 0, 0, 0, 1, 0, 0, 0, 0, 0, 2, 1, 0, 0, 0, 0, 1, 0, 0, 0, 0, 0, 1, 0, 0, 0, 0, 0, 1,
     0, 0, 0, 0, 0, 1, 0, 0, 0, 0, 0, 1, 0, 0, 0, 0, 0, 1, 0, 0, 0, 0, 0, 1, 0, 0, 0, 0, 0, 1, 0, 0,
     0, 0, 0, 1, 0, 0, 0, 0, 0, 1, 0, 0, 0, 0, 0, 1, 0, 0, 0, 0, 0, 1, 0, 0, 0, 0, 0, 1, 0, 0, 0, 0,
-    0, 1, 0, 0, 0, 0, 0, 1, 0, 0, 0, 0, 0, 3, 2, 1, 0, 0, 0, 2, 1, 0, 0, 0, 0, 3, 2, 1, 0, 0, 0, 1,
-    0, 0, 0, 0, 0, 2, 1, 0, 0, 0, 0, 2, 1, 0, 0, 0, 0, 2, 1, 0, 0, 0, 0, 2, 1, 0, 0, 0, 0, 1, 0, 0,
-    0, 0, 0, 2, 1, 0, 0, 0, 0, 3, 2, 1, 0, 0, 0, 2, 1, 0, 0, 0, 0, 2, 1, 0, 0, 0, 0, 2, 1, 0, 0, 0,
-    0, 3, 2, 1, 0, 0, 0, 2, 1, 0, 0, 0, 0, 2, 1, 0, 0, 0, 0, 2, 1, 0, 0, 0, 0, 1, 0, 0, 0, 0, 0, 1,
-    0, 0, 0, 0, 0, 2, 1, 0, 0, 0, 0, 2, 1, 0, 0, 0, 0, 2, 1, 0, 0, 0, 0, 2, 1, 0, 0, 0, 0, 2, 1, 0,
-    0, 0, 0, 0, 0, 0, 0, 0, 0, 1, 0, 0, 0, 0, 0, 1, 0, 0, 0, 0, 0, 2, 1, 0, 0, 0, 0, 2, 1, 0, 0, 0,
-    0, 2, 1, 0, 0, 0, 0, 2, 1, 0, 0, 0, 0, 2, 1, 0, 0, 0, 0, 2, 1, 0, 0, 0, 0, 2, 1, 0, 0, 0, 0, 4,
-    3, 2, 1, 0, 0, 1, 0, 0, 0, 0, 0, 2, 1, 0, 0, 0, 0, 1, 0, 0, 0, 0, 0, 1, 0, 0, 0, 0, 0, 3, 2, 1,
-    0, 0, 0, 2, 1, 0, 0, 0, 0, 2, 1, 0, 0, 0, 0, 2, 1, 0, 0, 0, 0, 1, 0, 0, 0, 0, 0, 2, 1, 0, 0, 0,
-    0, 2, 1, 0, 0, 0, 0, 2, 1, 0, 0, 0, 0, 2, 1, 0, 0, 0, 0, 2, 1, 0, 0, 0, 0, 3, 2, 1, 0, 0, 0, 3,
-    2, 1, 0, 0, 0, 2, 1, 0, 0, 0, 0, 1, 0, 0, 0, 0, 0, 1, 0, 0, 0, 0, 0, 1, 0, 0, 0, 0, 0, 1, 0, 0,
-    0, 0, 0, 2, 1, 0, 0, 0, 0, 3, 2, 1, 0, 0, 0, 0, 0, 0, 0, 0, 0, 1, 0, 0, 0, 0, 0, 1, 0, 0, 0, 0,
+    0, 1, 0, 0, 0, 0, 0, 1, 0, 0, 0, 0, 0, 1, 0, 0, 0, 0, 0, 3, 2, 1, 0, 0, 0, 2, 1, 0, 0, 0, 0, 2,
+    1, 0, 0, 0, 0, 3, 2, 1, 0, 0, 0, 1, 0, 0, 0, 0, 0, 2, 1, 0, 0, 0, 0, 2, 1, 0, 0, 0, 0, 2, 1, 0,
+    0, 0, 0, 2, 1, 0, 0, 0, 0, 1, 0, 0, 0, 0, 0, 2, 1, 0, 0, 0, 0, 3, 2, 1, 0, 0, 0, 2, 1, 0, 0, 0,
+    0, 2, 1, 0, 0, 0, 0, 2, 1, 0, 0, 0, 0, 3, 2, 1, 0, 0, 0, 2, 1, 0, 0, 0, 0, 2, 1, 0, 0, 0, 0, 2,
+    1, 0, 0, 0, 0, 1, 0, 0, 0, 0, 0, 1, 0, 0, 0, 0, 0, 2, 1, 0, 0, 0, 0, 2, 1, 0, 0, 0, 0, 2, 1, 0,
+    0, 0, 0, 2, 1, 0, 0, 0, 0, 2, 1, 0, 0, 0, 0, 0, 0, 0, 0, 0, 0, 1, 0, 0, 0, 0, 0, 1, 0, 0, 0, 0,
+    0, 2, 1, 0, 0, 0, 0, 2, 1, 0, 0, 0, 0, 2, 1, 0, 0, 0, 0, 2, 1, 0, 0, 0, 0, 2, 1, 0, 0, 0, 0, 2,
+    1, 0, 0, 0, 0, 2, 1, 0, 0, 0, 0, 4, 3, 2, 1, 0, 0, 1, 0, 0, 0, 0, 0, 2, 1, 0, 0, 0, 0, 1, 0, 0,
+    0, 0, 0, 1, 0, 0, 0, 0, 0, 3, 2, 1, 0, 0, 0, 2, 1, 0, 0, 0, 0, 2, 1, 0, 0, 0, 0, 2, 1, 0, 0, 0,
+    0, 1, 0, 0, 0, 0, 0, 2, 1, 0, 0, 0, 0, 2, 1, 0, 0, 0, 0, 2, 1, 0, 0, 0, 0, 2, 1, 0, 0, 0, 0, 2,
+    1, 0, 0, 0, 0, 3, 2, 1, 0, 0, 0, 3, 2, 1, 0, 0, 0, 2, 1, 0, 0, 0, 0, 1, 0, 0, 0, 0, 0, 1, 0, 0,
+    0, 0, 0, 1, 0, 0, 0, 0, 0, 1, 0, 0, 0, 0, 0, 2, 1, 0, 0, 0, 0, 3, 2, 1, 0, 0, 0, 0, 0, 0, 0, 0,
     0, 1, 0, 0, 0, 0, 0, 1, 0, 0, 0, 0, 0, 1, 0, 0, 0, 0, 0, 1, 0, 0, 0, 0, 0, 1, 0, 0, 0, 0, 0, 1,
     0, 0, 0, 0, 0, 1, 0, 0, 0, 0, 0, 1, 0, 0, 0, 0, 0, 1, 0, 0, 0, 0, 0, 1, 0, 0, 0, 0, 0, 1, 0, 0,
-    0, 0, 0, 1, 0, 0, 0, 0, 0, 1, 0, 0, 0, 0, 0, 1, 0, 0, 0, 0, 0, 1, 0, 0, 0, 0, 0, 2, 1, 0, 0, 0,
-    0, 2, 1, 0, 0, 0, 0, 2, 1, 0, 0, 0, 0, 2, 1, 0, 0, 0, 0, 1, 0, 0, 0, 0, 0, 1, 0, 0, 0, 0, 0, 1,
-    0, 0, 0, 0, 0, 1, 0, 0, 0, 0, 0, 1, 0, 0, 0, 0, 0, 1, 0, 0, 0, 0, 0, 1, 0, 0, 0, 0, 0, 2, 1, 0,
-    0, 0, 0, 1, 0, 0, 0, 0, 0, 1, 0, 0, 0, 0, 0, 0, 0, 0, 0, 0, 0, 1, 0, 0, 0, 0, 0, 1, 0, 0, 0, 0,
-    0, 1, 0, 0, 0, 0, 0, 1, 0, 0, 0, 0, 0, 1, 0, 0, 0, 0, 0, 1, 0, 0, 0, 0, 0, 1, 0, 0, 0, 0, 0, 2,
-    1, 0, 0, 0, 0, 2, 1, 0, 0, 0, 0, 1, 0, 0, 0, 0, 0, 2, 1, 0, 0, 0, 0, 2, 1, 0, 0, 0, 0, 2, 1, 0,
-    0, 0, 0, 2, 1, 0, 0, 0, 0, 1, 0, 0, 0, 0, 0, 2, 1, 0, 0, 0, 0, 1, 0, 0, 0, 0, 0, 1, 0, 0, 0, 0,
-    0, 1, 0, 0, 0, 0, 0, 3, 2, 1, 0, 0, 0, 2, 1, 0, 0, 0, 0, 0,
+    0, 0, 0, 1, 0, 0, 0, 0, 0, 1, 0, 0, 0, 0, 0, 1, 0, 0, 0, 0, 0, 1, 0, 0, 0, 0, 0, 1, 0, 0, 0, 0,
+    0, 1, 0, 0, 0, 0, 0, 2, 1, 0, 0, 0, 0, 2, 1, 0, 0, 0, 0, 2, 1, 0, 0, 0, 0, 2, 1, 0, 0, 0, 0, 1,
+    0, 0, 0, 0, 0, 1, 0, 0, 0, 0, 0, 1, 0, 0, 0, 0, 0, 1, 0, 0, 0, 0, 0, 1, 0, 0, 0, 0, 0, 1, 0, 0,
+    0, 0, 0, 1, 0, 0, 0, 0, 0, 2, 1, 0, 0, 0, 0, 1, 0, 0, 0, 0, 0, 1, 0, 0, 0, 0, 0, 0, 0, 0, 0, 0,
+    0, 1, 0, 0, 0, 0, 0, 1, 0, 0, 0, 0, 0, 1, 0, 0, 0, 0, 0, 1, 0, 0, 0, 0, 0, 1, 0, 0, 0, 0, 0, 1,
+    0, 0, 0, 0, 0, 1, 0, 0, 0, 0, 0, 2, 1, 0, 0, 0, 0, 2, 1, 0, 0, 0, 0, 1, 0, 0, 0, 0, 0, 2, 1, 0,
+    0, 0, 0, 2, 1, 0, 0, 0, 0, 2, 1, 0, 0, 0, 0, 2, 1, 0, 0, 0, 0, 1, 0, 0, 0, 0, 0, 2, 1, 0, 0, 0,
+    0, 1, 0, 0, 0, 0, 0, 1, 0, 0, 0, 0, 0, 1, 0, 0, 0, 0, 0, 3, 2, 1, 0, 0, 0, 2, 1, 0, 0, 0, 0, 0,
 ];
 
 /// The number of the rule that a kind takes at a byte, if it takes one.
 #[inline]
 fn number(kind: u16, byte: u8) -> Option<usize>
     requires { kind < abi.kinds }
-    ensures few { IfSome result (λ number. number < 253) }
+    ensures few { IfSome result (λ number. number < 255) }
     ensures rule { (head : Head) → MatchOption result (abi.rule kind byte ≡ None) (λ number. abi.rule kind byte ≡ Some (listed_rule head number)) }
 {
     match letter_in(&LETTERS[kind as usize], byte) {

@@ -8,70 +8,70 @@ use crate::table::{FIRST_LETTER, HEADS, SYMBOLS};
 use sym_shape::{Rule, letter_in, place_of, symbols_from};
 
 // For each kind a row: for each byte from `$` to `z` the letter of the production that the kind takes there.
-static WIDE_LETTERS: [[u8; 87]; 169] = [
+static WIDE_LETTERS: [[u8; 87]; 171] = [
     // $%&'()*+,-./0123456789:;<=>?@ABCDEFGHIJKLMNOPQRSTUVWXYZ[\]^_`abcdefghijklmnopqrstuvwxyz
-    *b"                                                           +                           ", // Symbol
-    *b"          ,                                                                            ", // MaybeSuffix
-    *b"-         - ----------       --------------------------    - --------------------------", // SuffixFirst
-    *b"-         - ----------       --------------------------    - --------------------------", // SuffixMore
-    *b"            0000000000             /    0 0    0.0 0  0      0 000 0 0  00000 00       ", // Encoding
-    *b"                             6 7    51         11 15           4    2             3    ", // Special
-    *b"                                                                    8             9    ", // CallOffset
-    *b"            ;;;;;;;;;;                                                    :            ", // Integer
-    *b"            $$$$$$$$$$                  \" *    < # )  =      % %%% % %  %%%%% %%       ", // CompleteName
+    *b"                                                           ,                           ", // Symbol
+    *b"          -                                                                            ", // MaybeSuffix
+    *b".         . ..........       ..........................    . ..........................", // SuffixFirst
+    *b".         . ..........       ..........................    . ..........................", // SuffixMore
+    *b"            1111111111             0    1 1    1/1 1  1      1 111 1 1  11111 11       ", // Encoding
+    *b"                             7 8    62         22 26           5    3             4    ", // Special
+    *b"                                                                    9             :    ", // CallOffset
+    *b"            <<<<<<<<<<                                                    ;            ", // Integer
+    *b"            $$$$$$$$$$                  \" +    = # )  >      % %%% % %  %%%%% %%       ", // CompleteName
     *b"                                                                              !        ", // MaybeRestrict
     *b"                                                  !                                    ", // MaybeVolatile
     *b"                                       !                                               ", // MaybeConst
     *b"                                    !      !  !                                        ", // MaybeRef
-    *b"            ??????????       ??????????????????????????    ? ?? ?    ?     ?   ?>      ", // NameAfterS
-    *b"            ((((((((((                  &        '           @ @@@ @ @  @@@@@ @@       ", // Unqualified
-    *b"            EEEEEEEEEE          G       C      ABD F                                   ", // Nest
-    *b"            IIIIIIIIII       IIIIIIIIIIIIIIIIIIIIIIIIII    I II I    I     I   IH      ", // NestAfterS
-    *b"            KKKKKKKKKK        LKK K  J  KK       K K         K KKK K K  KKKKK KK       ", // NestRest
-    *b"            KKKKKKKKKK         KKMK     KK       K K         K KKK K K  KKKKK KK       ", // NestTail
-    *b"            $$$$$$$$$$         NO S     \"R       # )         Q PQQ Q Q  QQQQQ QQ       ", // Component
-    *b"             UUUUU                   T                                                 ", // ConstructorAfterC
+    *b"            @@@@@@@@@@       @@@@@@@@@@@@@@@@@@@@@@@@@@    @ @@ @    @     @   @?      ", // NameAfterS
+    *b"            ((((((((((                  &        '           A AAA A A  AAAAA AA       ", // Unqualified
+    *b"            FFFFFFFFFF          H       D      BCE G                                   ", // Nest
+    *b"            JJJJJJJJJJ       JJJJJJJJJJJJJJJJJJJJJJJJJJ    J JJ J    J     J   JI      ", // NestAfterS
+    *b"            LLLLLLLLLL        MLL L  K  LL     L L L         L LLL L L  LLLLL LL       ", // NestRest
+    *b"            LLLLLLLLLL         LLNL     LL     L L L         L LLL L L  LLLLL LL       ", // NestTail
+    *b"            $$$$$$$$$$         OP T     \"S     * # )         R QRR R R  RRRRR RR       ", // Component
+    *b"             VVVVV                   U                                                 ", // ConstructorAfterC
     *b"             !!!!!                                                                     ", // ConstructorDigit
     *b"             !! !!                                                                     ", // InheritedDigit
     *b"            !!! !!                                                                     ", // DestructorDigit
-    *b"            WWWWWWWWWW       WWWWWWWWWWWWWWWWWWWWWWWWWW    W VV V    V     V   V       ", // Abbreviation
-    *b"            $$$$$$$$$$                  \" *      #              Z              Y       ", // Entity
-    *b"            $$$$$$$$$$                  \" X      #              [                      ", // TypeEntity
-    *b"                                                           \\                           ", // MaybeDiscriminator
-    *b"            ]]]]]]]]]]                                     ^                           ", // DiscriminatorRest
-    *b"                                                                 a      _       `      ", // Anonymous
-    *b"            ffffffffff       f fg f    d ffef efffcf  f      ffffffffff ffff  bffffffff", // Type
-    *b"            iiiiiiiiii       i ih i      iiei eiii i  i      iiiiiiiiii iiii   iiiiiiii", // Plain
-    *b"            ffffffffff       f fj f    d ffef efffcf  f      ffffffffff ffff  bffffffff", // Item
-    *b"            ffffffffff       f fj f    d ff f  fffcf  f      ffffffffff ffff  bffffffff", // ItemButRef
-    *b"                              l   l    l        ll           l llll ll l  llk  llll  l ", // ItemAfterD
-    *b"                              r   p    q        sr           m mmmm mm q  mo   msmn  t ", // AfterD
-    *b"            $$$$$$$$$$       | ~  }      vX u  xw# )  y      zzzzzzzzzz zzzz   zz{zzzzz", // Solid
+    *b"            XXXXXXXXXX       XXXXXXXXXXXXXXXXXXXXXXXXXX    X WW W    W     W   W       ", // Abbreviation
+    *b"            $$$$$$$$$$                  \" +      #              [              Z       ", // Entity
+    *b"            $$$$$$$$$$                  \" Y      #              \\                      ", // TypeEntity
+    *b"                                                           ]                           ", // MaybeDiscriminator
+    *b"            ^^^^^^^^^^                                     _                           ", // DiscriminatorRest
+    *b"                                                                 b      `       a      ", // Anonymous
+    *b"            gggggggggg       g gh g    e ggfg fgggdg  g      gggggggggg gggg  cgggggggg", // Type
+    *b"            jjjjjjjjjj       j ji j      jjfj fjjj j  j      jjjjjjjjjj jjjj   jjjjjjjj", // Plain
+    *b"            gggggggggg       g gk g    e ggfg fgggdg  g      gggggggggg gggg  cgggggggg", // Item
+    *b"            gggggggggg       g gk g    e gg g  gggdg  g      gggggggggg gggg  cgggggggg", // ItemButRef
+    *b"                              m   m    m        mm           m mmmm mm m  mml  mmmm  m ", // ItemAfterD
+    *b"                              s   q    r        ts           n nnnn nn r  np   ntno  u ", // AfterD
+    *b"            $$$$$$$$$$       } \x7f  ~      wY v  yx# )  z      {{{{{{{{{{ {{{{   {{|{{{{{", // Solid
     *b"                                                     !                                 ", // MaybeCLinkage
-    *b"            \x7f\x7f\x7f\x7f\x7f\x7f\x7f\x7f\x7f\x7f                                                                 ", // BitWidth
-    *b"            \x81\x81\x81\x81\x81\x81\x81\x81\x81\x81       \x81\x81\x81\x81\x81\x81\x81\x81\x81\x81\x81\x81\x81\x81\x81\x81\x81\x81\x81\x81\x81\x81\x81\x81\x81\x81    \x81 \x81\x81 \x81    \x81     \x81   \x81\x80      ", // TypeAfterS
+    *b"            \x80\x80\x80\x80\x80\x80\x80\x80\x80\x80                                                                 ", // BitWidth
+    *b"            \x82\x82\x82\x82\x82\x82\x82\x82\x82\x82       \x82\x82\x82\x82\x82\x82\x82\x82\x82\x82\x82\x82\x82\x82\x82\x82\x82\x82\x82\x82\x82\x82\x82\x82\x82\x82    \x82 \x82\x82 \x82    \x82     \x82   \x82\x81      ", // TypeAfterS
     *b"            ((((((((((                  &        '                                     ", // SourceOrLocal
-    *b"            \x85\x85\x85\x85\x85\x85\x85\x85\x85\x85       \x85 \x85\x85\x82\x85    \x85 \x85\x85\x84\x85 \x83\x85\x85\x85\x85\x85  \x85      \x85\x85\x85\x85\x85\x85\x85\x85\x85\x85 \x85\x85\x85\x85  \x85\x85\x85\x85\x85\x85\x85\x85\x85", // FunctionRest
-    *b"            \x87\x87\x87\x87\x87\x87\x87\x87\x87\x87       \x87 \x87\x87\x86\x87    \x87 \x87\x87\x87\x87 \x87\x87\x87\x87\x87\x87  \x87      \x87\x87\x87\x87\x87\x87\x87\x87\x87\x87 \x87\x87\x87\x87  \x87\x87\x87\x87\x87\x87\x87\x87\x87", // AfterR
-    *b"            \x88\x88\x88\x88\x88\x88\x88\x88\x88\x88       \x88 \x88\x88\x86\x88    \x88 \x88\x88\x88\x88 \x88\x88\x88\x88\x88\x88  \x88      \x88\x88\x88\x88\x88\x88\x88\x88\x88\x88 \x88\x88\x88\x88  \x88\x88\x88\x88\x88\x88\x88\x88\x88", // AfterO
-    *b"            \x8a\x8a\x8a\x8a\x8a\x8a\x8a\x8a\x8a\x8a       \x8a \x8a\x8a \x8a    \x8a \x8a\x8a\x8a\x8a\x89\x8a\x8a\x8a\x8a\x8a\x8a  \x8a      \x8a\x8a\x8a\x8a\x8a\x8a\x8a\x8a\x8a\x8a \x8a\x8a\x8a\x8a  \x8a\x8a\x8a\x8a\x8a\x8a\x8a\x8a\x8a", // Items
-    *b"                              \x8c      \x8b                                                 ", // MaybeArguments
-    *b"                                     \x8b                                                 ", // Arguments
-    *b"            \x8f\x8f\x8f\x8f\x8f\x8f\x8f\x8f\x8f\x8f       \x8f \x8f\x8f \x8f   \x8d\x8f\x8e\x8f\x8f\x8f\x8f\x89\x8f\x8f\x8f\x8f\x8f\x8f\x8f \x8f      \x8f\x8f\x8f\x8f\x8f\x8f\x8f\x8f\x8f\x8f \x8f\x8f\x8f\x8f  \x8f\x8f\x8f\x8f\x8f\x8f\x8f\x8f\x8f", // ArgumentList
-    *b"            \x91\x91\x91\x91\x91\x91\x91\x91\x91\x91       \x91 \x91\x91 \x91    \x91\x90\x91\x91\x91\x91 \x91\x91\x91\x91\x91\x91\x91 \x91      \x91\x91\x91\x91\x91\x91\x91\x91\x91\x91 \x91\x91\x91\x91  \x91\x91\x91\x91\x91\x91\x91\x91\x91", // PackList
-    *b"            \x95\x95\x95\x95\x95\x95\x95\x95\x95\x95          \x94      \x95 \x95\x95 \x95  \x95\x95\x95\x95\x95  \x95    \x92 \x95\x93\x95\x96\x96\x96\x96\x95\x95\x95 \x95\x95\x95\x95   \x95\x95  \x95\x95\x95 ", // Literal
+    *b"            \x86\x86\x86\x86\x86\x86\x86\x86\x86\x86       \x86 \x86\x86\x83\x86    \x86 \x86\x86\x85\x86 \x84\x86\x86\x86\x86\x86  \x86      \x86\x86\x86\x86\x86\x86\x86\x86\x86\x86 \x86\x86\x86\x86  \x86\x86\x86\x86\x86\x86\x86\x86\x86", // FunctionRest
+    *b"            \x88\x88\x88\x88\x88\x88\x88\x88\x88\x88       \x88 \x88\x88\x87\x88    \x88 \x88\x88\x88\x88 \x88\x88\x88\x88\x88\x88  \x88      \x88\x88\x88\x88\x88\x88\x88\x88\x88\x88 \x88\x88\x88\x88  \x88\x88\x88\x88\x88\x88\x88\x88\x88", // AfterR
+    *b"            \x89\x89\x89\x89\x89\x89\x89\x89\x89\x89       \x89 \x89\x89\x87\x89    \x89 \x89\x89\x89\x89 \x89\x89\x89\x89\x89\x89  \x89      \x89\x89\x89\x89\x89\x89\x89\x89\x89\x89 \x89\x89\x89\x89  \x89\x89\x89\x89\x89\x89\x89\x89\x89", // AfterO
+    *b"            \x8b\x8b\x8b\x8b\x8b\x8b\x8b\x8b\x8b\x8b       \x8b \x8b\x8b \x8b    \x8b \x8b\x8b\x8b\x8b\x8a\x8b\x8b\x8b\x8b\x8b\x8b  \x8b      \x8b\x8b\x8b\x8b\x8b\x8b\x8b\x8b\x8b\x8b \x8b\x8b\x8b\x8b  \x8b\x8b\x8b\x8b\x8b\x8b\x8b\x8b\x8b", // Items
+    *b"                              \x8d      \x8c                                                 ", // MaybeArguments
+    *b"                                     \x8c                                                 ", // Arguments
+    *b"            \x90\x90\x90\x90\x90\x90\x90\x90\x90\x90       \x90 \x90\x90 \x90   \x8e\x90\x8f\x90\x90\x90\x90\x8a\x90\x90\x90\x90\x90\x90\x90 \x90      \x90\x90\x90\x90\x90\x90\x90\x90\x90\x90 \x90\x90\x90\x90  \x90\x90\x90\x90\x90\x90\x90\x90\x90", // ArgumentList
+    *b"            \x92\x92\x92\x92\x92\x92\x92\x92\x92\x92       \x92 \x92\x92 \x92    \x92\x91\x92\x92\x92\x92 \x92\x92\x92\x92\x92\x92\x92 \x92      \x92\x92\x92\x92\x92\x92\x92\x92\x92\x92 \x92\x92\x92\x92  \x92\x92\x92\x92\x92\x92\x92\x92\x92", // PackList
+    *b"            \x96\x96\x96\x96\x96\x96\x96\x96\x96\x96          \x95      \x96 \x96\x96 \x96  \x96\x96\x96\x96\x96  \x96    \x93 \x96\x94\x96\x97\x97\x97\x97\x96\x96\x96 \x96\x96\x96\x96   \x96\x96  \x96\x96\x96 ", // Literal
     *b"            !!                                                                         ", // Bit
-    *b"                                  \x99                                  \x98    \x97    \x98 \x98     ", // LiteralAfterD
-    *b"                                                                zzzz                   ", // FloatType
-    *b"                                  p                                                    ", // SizedFloatType
-    *b"            \x9a\x9a\x9a\x9a\x9a\x9a\x9a\x9a\x9a\x9a                                       \x9a\x9a\x9a\x9a\x9a\x9a                    ", // HexText
-    *b"            \x9b\x9b\x9b\x9b\x9b\x9b\x9b\x9b\x9b\x9b                                       \x9b\x9b\x9b\x9b\x9b\x9b                    ", // HexDigits
-    *b"            \x9b\x9b\x9b\x9b\x9b\x9b\x9b\x9b\x9b\x9b                                       \x9b\x9b\x9b\x9b\x9b\x9b                    ", // HexMore
+    *b"                                  \x9a                                  \x99    \x98    \x99 \x99     ", // LiteralAfterD
+    *b"                                                                {{{{                   ", // FloatType
+    *b"                                  q                                                    ", // SizedFloatType
+    *b"            \x9b\x9b\x9b\x9b\x9b\x9b\x9b\x9b\x9b\x9b                                       \x9b\x9b\x9b\x9b\x9b\x9b                    ", // HexText
+    *b"            \x9c\x9c\x9c\x9c\x9c\x9c\x9c\x9c\x9c\x9c                                       \x9c\x9c\x9c\x9c\x9c\x9c                    ", // HexDigits
+    *b"            \x9c\x9c\x9c\x9c\x9c\x9c\x9c\x9c\x9c\x9c                                       \x9c\x9c\x9c\x9c\x9c\x9c                    ", // HexMore
     *b"            !                                                                          ", // MaybeZero
-    *b"            $$$$$$$$$$                 \x9d vX u  xw#\x9c)  y      z z    zzz zzzz   zz  zzz ", // LiteralType
-    *b"            \x9e\x9e\x9e\x9e\x9e\x9e\x9e\x9e\x9e\x9e                   \x9e\x9e \x9e  \x9e\x9e\x9e \x9e  \x9e      \x9e \x9e    \x9e\x9e\x9e \x9e\x9e\x9e\x9e   \x9e\x9e  \x9e\x9e\x9e ", // LiteralPlain
-    *b"            $$$$$$$$$$                   vX u  xw# )  y      z z    zzz zzzz   zz  zzz ", // LiteralSolid
-    *b"                                                             \xa1 \xa3\xa0\xa7 \xab \xaa  \xa8\xa4\x9f\xa6\xa2 \xa5\xa9       ", // Operator
+    *b"            $$$$$$$$$$                 \x9e wY v  yx#\x9d)  z      { {    {{{ {{{{   {{  {{{ ", // LiteralType
+    *b"            \x9f\x9f\x9f\x9f\x9f\x9f\x9f\x9f\x9f\x9f                   \x9f\x9f \x9f  \x9f\x9f\x9f \x9f  \x9f      \x9f \x9f    \x9f\x9f\x9f \x9f\x9f\x9f\x9f   \x9f\x9f  \x9f\x9f\x9f ", // LiteralPlain
+    *b"            $$$$$$$$$$                   wY v  yx# )  z      { {    {{{ {{{{   {{  {{{ ", // LiteralSolid
+    *b"                                                             \xa2 \xa4\xa1\xa8 \xac \xab  \xa9\xa5\xa0\xa7\xa3 \xa6\xaa       ", // Operator
     *b"                                                             !   ! !            !  !   ", // OperatorAfterN
     *b"                                                  !          !   !      !         !    ", // OperatorAfterD
     *b"                                          !    !             !  !         !        !   ", // OperatorAfterA
@@ -81,111 +81,113 @@ static WIDE_LETTERS: [[u8; 87]; 169] = [
     *b"                                         !     !                         !     !       ", // OperatorAfterR
     *b"                                              !                            !  !        ", // OperatorAfterO
     *b"                                           !                               ! !         ", // OperatorAfterE
-    *b"                                               !                 !   \xac         !!      ", // OperatorAfterL
+    *b"                                               !                 !   \xad         !!      ", // OperatorAfterL
     *b"                                                                               !       ", // OperatorAfterS
     *b"                                                                                    !  ", // OperatorAfterI
     *b"                                                                 !              !      ", // OperatorAfterG
-    *b"            KKKKKKKKKK         KK K  \xad  KK       K K         K KKK K K  KKKKK KK       ", // NestRestOrEnd
-    *b"                                     \x8b                                                 ", // ArgumentsAlone
-    *b"            KKKKKKKKKK         KK K  J  KK       K K         K KKK K K  KKKKK KK       ", // NestRestAlone
-    *b"            \xae\xae\xae\xae\xae\xae\xae\xae\xae\xae                                                                 ", // FirstModule
-    *b"                                                   \xaf                                   ", // MoreModule
+    *b"            LLLLLLLLLL         LL L  \xae  LL     L L L         L LLL L L  LLLLL LL       ", // NestRestOrEnd
+    *b"                                     \x8c                                                 ", // ArgumentsAlone
+    *b"            LLLLLLLLLL         LL L  K  LL     L L L         L LLL L L  LLLLL LL       ", // NestRestAlone
+    *b"            \xaf\xaf\xaf\xaf\xaf\xaf\xaf\xaf\xaf\xaf                                                                 ", // FirstModule
+    *b"            \xb0\xb0\xb0\xb0\xb0\xb0\xb0\xb0\xb0\xb0       \xb0\xb0\xb0\xb0\xb0\xb0\xb0\xb0\xb0\xb0\xb0\xb0\xb0\xb0\xb0\xb0\xb0\xb0\xb0\xb0\xb0\xb0\xb0\xb0\xb0\xb0    \xb0                           ", // NamedModule
+    *b"                                                   \xb1                                   ", // MoreModule
     *b"                                            !                                          ", // MaybePartition
     *b"            $$$$$$$$$$                  \"        #           % %%% % %  %%%%% %%       ", // NameAfterModule
     *b"                                                   )                                   ", // NameInModule
+    *b"            LLLLLLLLLL         LL L     LL     L L L         L LLL L L  LLLLL LL       ", // NestOn
     *b"                                         !                                             ", // HolderMark
-    *b"            $$$$$$$$$$         NO       \"        # )         Q PQQ Q Q  QQQQQ QQ       ", // HeldComponent
+    *b"            $$$$$$$$$$         OP       \"      * # )         R QRR R R  RRRRR RR       ", // HeldComponent
     *b"                                                           !  !                     !  ", // FloatEnd
-    *b"                                                                        \xb1\xb1 \xb1      \xb0    ", // ComponentAfterC
-    *b"                                                             \xa1  \xa0\xa7 \xab \xaa  \xa8\xa4\x9f\xa6\xa2 \xa5\xa9       ", // OtherOperator
-    *b"                                     \xb2                                                 ", // HeldArguments
-    *b"            \xb4\xb4\xb4\xb4\xb4\xb4\xb4\xb4\xb4\xb4                    \xb3    \xb4      y                                ", // BaseClass
-    *b"            \xb6\xb6\xb6\xb6\xb6\xb6\xb6\xb6\xb6\xb6                         \xb5                                       ", // UnnestedName
-    *b"                                     \xb7                                                 ", // BaseArguments
-    *b"            \x8f\x8f\x8f\x8f\x8f\x8f\x8f\x8f\x8f\x8f       \x8f \x8f\x8f \x8f  \x8d\x8d\x8f\x8e\x8f\x8f\x8f\x8f\x89\x8f\x8f\x8f\x8f\x8f\x8f\x8f \x8f      \x8f\x8f\x8f\x8f\x8f\x8f\x8f\x8f\x8f\x8f \x8f\x8f\x8f\x8f  \x8f\x8f\x8f\x8f\x8f\x8f\x8f\x8f\x8f", // ArgumentsFirst
-    *b"            $$$$$$$$$$                  \" *      #                                     ", // PlainEntity
-    *b"            $$$$$$$$$$                  \" X      #                                     ", // PlainTypeEntity
+    *b"                                                                        \xb3\xb3 \xb3      \xb2    ", // ComponentAfterC
+    *b"                                                             \xa2  \xa1\xa8 \xac \xab  \xa9\xa5\xa0\xa7\xa3 \xa6\xaa       ", // OtherOperator
+    *b"                                     \xb4                                                 ", // HeldArguments
+    *b"            \xb6\xb6\xb6\xb6\xb6\xb6\xb6\xb6\xb6\xb6                    \xb5    \xb6      z                                ", // BaseClass
+    *b"            \xb8\xb8\xb8\xb8\xb8\xb8\xb8\xb8\xb8\xb8                         \xb7                                       ", // UnnestedName
+    *b"                                     \xb9                                                 ", // BaseArguments
+    *b"            \x90\x90\x90\x90\x90\x90\x90\x90\x90\x90       \x90 \x90\x90 \x90  \x8e\x8e\x90\x8f\x90\x90\x90\x90\x8a\x90\x90\x90\x90\x90\x90\x90 \x90      \x90\x90\x90\x90\x90\x90\x90\x90\x90\x90 \x90\x90\x90\x90  \x90\x90\x90\x90\x90\x90\x90\x90\x90", // ArgumentsFirst
+    *b"            $$$$$$$$$$                  \" +      #                                     ", // PlainEntity
+    *b"            $$$$$$$$$$                  \" Y      #                                     ", // PlainTypeEntity
     *b"                                   !                                                   ", // SpecialMark
-    *b"                                     \xb9        \xb8 \xba 5                                    ", // SpecialAfterG
-    *b"            $$$$$$$$$$                  \" *    < #    \xbb                                ", // TemporaryName
+    *b"                                     \xbb        \xba \xbc 6                                    ", // SpecialAfterG
+    *b"            $$$$$$$$$$                  \" +    = #    \xbd                                ", // TemporaryName
     *b"                                                                          !     !      ", // CloneLetter
-    *b"                                                                                \xbc      ", // TypeInStd
-    *b"                              \xbd                                                        ", // MaybeTags
-    *b"            \xc0\xc0\xc0\xc0\xc0\xc0\xc0\xc0\xc0\xc0       \xc0 \xc0j \xc0    d \xc0\xc0e\xc0 e\xc0\xbf\xc0c\xc0\xbe \xc0      \xc0\xc0\xc0\xc0\xc0\xc0\xc0\xc0\xc0\xc0 \xc0\xc0\xc0\xc0  b\xc0\xc0\xc0\xc0\xc0\xc0\xc0\xc0", // Argument
-    *b"            \xc1\xc1\xc1\xc1\xc1\xc1\xc1\xc1\xc1\xc1                  \xc3                  \xc1           \xc2  \xc2 \xc2   \xc2    \xc2 ", // ArgumentAfterT
-    *b"            \xc1\xc1\xc1\xc1\xc1\xc1\xc1\xc1\xc1\xc1                                     \xc1                           ", // LeveledParameter
-    *b"            \xc0\xc0\xc0\xc0\xc0\xc0\xc0\xc0\xc0\xc0       \xc0 \xc0j \xc0   \xc5d\xc4\xc0\xc0e\xc0 e\xc0\xbf\xc0c\xc0\xbe \xc0      \xc0\xc0\xc0\xc0\xc0\xc0\xc0\xc0\xc0\xc0 \xc0\xc0\xc0\xc0  b\xc0\xc0\xc0\xc0\xc0\xc0\xc0\xc0", // OneArgument
-    *b"                                                                       \xc8  \xc7 \xca   \xc9    \xc6 ", // DeclarationAfterT
-    *b"                                                \xcb                                      ", // Declarations
-    *b"            \xcc\xcc\xcc\xcc\xcc\xcc\xcc\xcc\xcc\xcc                    X    \xcc                                       ", // Concept
-    *b"            $$$$$$$$$$       | ~  }      vX u  x # )  y      zzzzzzzzzz zzzz   zz{zzzzz", // SolidButT
-    *b"            \xcf\xcf\xcf\xcf\xcf\xcf\xcf\xcf\xcf\xcf                  \xc4       \xf9            \xe9 \xea\xeb\xec\xed\xee \xef  \xf0\xf1\xf2\xf3\xf4\xf5\xf6\xf7\xf8      ", // Expression
-    *b"            \xfa\xfa\xfa\xfa\xfa\xfa\xfa\xfa\xfa\xfa                  \xfb                  \xfa                           ", // ExpressionParameter
-    *b"            \xfa\xfa\xfa\xfa\xfa\xfa\xfa\xfa\xfa\xfa                                     \xfa                           ", // UnleveledExpression
-    *b"            \xcf\xcf\xcf\xcf\xcf\xcf\xcf\xcf\xcf\xcf                  \xfc       \xf9            \xe9 \xea\xeb\xec\xed\xee \xef  \xf0\xf1\xf2\xf3\xf4\xf5\xf6\xf7\xf8      ", // AddressedExpression
-    *b"            \x95\x95\x95\x95\x95\x95\x95\x95\x95\x95          \x94      \x95 \x95\x95 \x95  \x95\x95\x95\x95\x95  \x95    \x92 \x95\x93\x95\x96\x96\x96\x96\x95\x95\x95 \x95\x95\x95\x95   \x95\x95  \x95\x95\x95 ", // AddressedLiteral
-    *b"                                          \xd2    \xd2             \xd2  \xd1         \xd2     \xd4  \xd3  \xd3", // ExpressionAfterA
-    *b"                                                               \xcd        \xd5\xd2 \xd3\xd5     \xd6    ", // ExpressionAfterC
-    *b"                                                  \xd2          \xd3 \xcd \xd3   \xd7  \xd3 \xd9    \xd2\xd2 \xd2 \xd8  ", // ExpressionAfterD
-    *b"                                           \xd2                               \xd2 \xd2         ", // ExpressionAfterE
-    *b"                                        \xda                               \xdb   \xd0 \xdc        ", // ExpressionAfterF
-    *b"                                                                 \xd2             \xd3\xd2      ", // ExpressionAfterG
-    *b"                                                                        \xdd           \xd2  ", // ExpressionAfterI
-    *b"                                               \xd2                 \xd2             \xd2\xd2      ", // ExpressionAfterL
-    *b"                                     \xd2  \xd2                            \xd2  \xd2\xde             ", // ExpressionAfterM
-    *b"                                                             \xdf   \xd2 \xd3            \xd3  \xdf\xd3  ", // ExpressionAfterN
-    *b"                                              \xd2                           \xce\xd2  \xd2        ", // ExpressionAfterO
-    *b"                                        \xd2                               \xd2\xd2  \xde  \xd3\xd2      ", // ExpressionAfterP
-    *b"                                                                                 \xe0     ", // ExpressionAfterQ
-    *b"                                         \xd2   \xe2 \xd2               \xcd         \xd2   \xe1 \xd2       ", // ExpressionAfterR
-    *b"                                                      \xe4        \xcd            \xe3 \xe5\xd2\xd4    \xe6\xd3", // ExpressionAfterS
-    *b"                                                                 \xd3   \xd4  \xe7     \xe8    \xd3   ", // ExpressionAfterT
-    *b"            \xfd\xfd\xfd\xfd\xfd\xfd\xfd\xfd\xfd\xfd                  \xfd       \xfd            \xfd \xfd\xfd\xfd\xfd\xfd \xfd  \xfd\xfd\xfd\xfd\xfd\xfd\xfd\xfd\xfd      ", // Expressions
+    *b"                                                                                \xbe      ", // TypeInStd
+    *b"                              \xbf                                                        ", // MaybeTags
+    *b"            \xc2\xc2\xc2\xc2\xc2\xc2\xc2\xc2\xc2\xc2       \xc2 \xc2k \xc2    e \xc2\xc2f\xc2 f\xc2\xc1\xc2d\xc2\xc0 \xc2      \xc2\xc2\xc2\xc2\xc2\xc2\xc2\xc2\xc2\xc2 \xc2\xc2\xc2\xc2  c\xc2\xc2\xc2\xc2\xc2\xc2\xc2\xc2", // Argument
+    *b"            \xc3\xc3\xc3\xc3\xc3\xc3\xc3\xc3\xc3\xc3                  \xc5                  \xc3           \xc4  \xc4 \xc4   \xc4    \xc4 ", // ArgumentAfterT
+    *b"            \xc3\xc3\xc3\xc3\xc3\xc3\xc3\xc3\xc3\xc3                                     \xc3                           ", // LeveledParameter
+    *b"            \xc2\xc2\xc2\xc2\xc2\xc2\xc2\xc2\xc2\xc2       \xc2 \xc2k \xc2   \xc7e\xc6\xc2\xc2f\xc2 f\xc2\xc1\xc2d\xc2\xc0 \xc2      \xc2\xc2\xc2\xc2\xc2\xc2\xc2\xc2\xc2\xc2 \xc2\xc2\xc2\xc2  c\xc2\xc2\xc2\xc2\xc2\xc2\xc2\xc2", // OneArgument
+    *b"                                                                       \xca  \xc9 \xcc   \xcb    \xc8 ", // DeclarationAfterT
+    *b"                                                \xcd                                      ", // Declarations
+    *b"            \xce\xce\xce\xce\xce\xce\xce\xce\xce\xce                    Y    \xce                                       ", // Concept
+    *b"            $$$$$$$$$$       } \x7f  ~      wY v  y # )  z      {{{{{{{{{{ {{{{   {{|{{{{{", // SolidButT
+    *b"            \xd1\xd1\xd1\xd1\xd1\xd1\xd1\xd1\xd1\xd1                  \xc6       \xfb            \xeb \xec\xed\xee\xef\xf0 \xf1  \xf2\xf3\xf4\xf5\xf6\xf7\xf8\xf9\xfa      ", // Expression
+    *b"            \xfc\xfc\xfc\xfc\xfc\xfc\xfc\xfc\xfc\xfc                  \xfd                  \xfc                           ", // ExpressionParameter
+    *b"            \xfc\xfc\xfc\xfc\xfc\xfc\xfc\xfc\xfc\xfc                                     \xfc                           ", // UnleveledExpression
+    *b"            \xd1\xd1\xd1\xd1\xd1\xd1\xd1\xd1\xd1\xd1                  \xfe       \xfb            \xeb \xec\xed\xee\xef\xf0 \xf1  \xf2\xf3\xf4\xf5\xf6\xf7\xf8\xf9\xfa      ", // AddressedExpression
+    *b"            \x96\x96\x96\x96\x96\x96\x96\x96\x96\x96          \x95      \x96 \x96\x96 \x96  \x96\x96\x96\x96\x96  \x96    \x93 \x96\x94\x96\x97\x97\x97\x97\x96\x96\x96 \x96\x96\x96\x96   \x96\x96  \x96\x96\x96 ", // AddressedLiteral
+    *b"                                          \xd4    \xd4             \xd4  \xd3         \xd4     \xd6  \xd5  \xd5", // ExpressionAfterA
+    *b"                                                               \xcf        \xd7\xd4 \xd5\xd7     \xd8    ", // ExpressionAfterC
+    *b"                                                  \xd4          \xd5 \xcf \xd5   \xd9  \xd5 \xdb    \xd4\xd4 \xd4 \xda  ", // ExpressionAfterD
+    *b"                                           \xd4                               \xd4 \xd4         ", // ExpressionAfterE
+    *b"                                        \xdc                               \xdd   \xd2 \xde        ", // ExpressionAfterF
+    *b"                                                                 \xd4             \xd5\xd4      ", // ExpressionAfterG
+    *b"                                                                        \xdf           \xd4  ", // ExpressionAfterI
+    *b"                                               \xd4                 \xd4             \xd4\xd4      ", // ExpressionAfterL
+    *b"                                     \xd4  \xd4                            \xd4  \xd4\xe0             ", // ExpressionAfterM
+    *b"                                                             \xe1   \xd4 \xd5            \xd5  \xe1\xd5  ", // ExpressionAfterN
+    *b"                                              \xd4                           \xd0\xd4  \xd4        ", // ExpressionAfterO
+    *b"                                        \xd4                               \xd4\xd4  \xe0  \xd5\xd4      ", // ExpressionAfterP
+    *b"                                                                                 \xe2     ", // ExpressionAfterQ
+    *b"                                         \xd4   \xe4 \xd4               \xcf         \xd4   \xe3 \xd4       ", // ExpressionAfterR
+    *b"                                                      \xe6        \xcf            \xe5 \xe7\xd4\xd6    \xe8\xd5", // ExpressionAfterS
+    *b"                                                                 \xd5   \xd6  \xe9     \xea    \xd5   ", // ExpressionAfterT
+    *b"            \xff\xff\xff\xff\xff\xff\xff\xff\xff\xff                  \xff       \xff            \xff \xff\xff\xff\xff\xff \xff  \xff\xff\xff\xff\xff\xff\xff\xff\xff      ", // Expressions
     *b"                                                           !                           ", // MaybeBefore
-    *b"                                                             \xa1 \xa3\xa0\xa7 \xab \xaa  \xfe\xa4\x9f\xa6\xa2 \xa5\xa9       ", // FoldOperator
+    *b"                                                             \xa2 \xa4\xa1\xa8 \xac \xab  \x00\xa5\xa0\xa7\xa3 \xa6\xaa       ", // FoldOperator
     *b"                                               !                 !             !!      ", // FoldOperatorAfterL
-    *b"            \xff\xff\xff\xff\xff\xff\xff\xff\xff\xff                  \xff       \xff            \xff \xff\xff\xff\xff\xff \xff  \xff\xff\xff\xff\xff\xff\xff\xff\xff      ", // FoldOperand
-    *b"            \x00\x00\x00\x00\x00\x00\x00\x00\x00\x00                  \x00       \x00            \x00 \x00\x00\x00\x00\x00 \x00  \x00\x00\x00\x00\x00\x00\x00\x00\x00      ", // FoldPack
-    *b"            \x00\x00\x00\x00\x00\x00\x00\x00\x00\x00                \xc5 \x00       \x00            \x00 \x00\x00\x00\x00\x00 \x00  \x00\x00\x00\x00\x00\x00\x00\x00\x00      ", // ValuePack
-    *b"            \x01\x01\x01\x01\x01\x01\x01\x01\x01\x01       \x01 \x01\x01 \x01   \xc5\x01 \x01\x01\x01\x01 \x01\x01\x01\x01\x01\x01  \x01      \x01\x01\x01\x01\x01\x01\x01\x01\x01\x01 \x01\x01\x01\x01  \x01\x01\x01\x01\x01\x01\x01\x01\x01", // TypePack
-    *b"            \x03\x03\x03\x03\x03\x03\x03\x03\x03\x03                  \x03       \x03            \x03 \x03\x02\x03\x03\x03 \x03  \x03\x03\x03\x03\x03\x03\x03\x03\x03      ", // DesignatedValue
-    *b"                                                                     \xd7              \xd8  ", // DesignatorAfterD
-    *b"            \xcf\xcf\xcf\xcf\xcf\xcf\xcf\xcf\xcf\xcf                  \xc4       \xf9            \xe9 \xea \xec\xed\xee \xef  \xf0\xf1\xf2\xf3\xf4\xf5\xf6\xf7\xf8      ", // PlainValue
-    *b"            \x04\x04\x04\x04\x04\x04\x04\x04\x04\x04                                                                 ", // FieldName
-    *b"            \x05\x05\x05\x05\x05\x05\x05\x05\x05\x05                  \x05       \x05          ! \x05 \x05\x05\x05\x05\x05 \x05  \x05\x05\x05\x05\x05\x05\x05\x05\x05      ", // Placement
-    *b"            \xfd\xfd\xfd\xfd\xfd\xfd\xfd\xfd\xfd\xfd                  \xfd       \xfd            \xfd \xfd\xfd\xfd\xfd\xfd \xfd  \xfd\xfd\xfd\xfd\xfd\xfd\xfd\xfd\xfd      ", // SomeExpressions
-    *b"                                 \x86                                   \x07      \x06          ", // Initializer
-    *b"                                                                     \xdd                 ", // InitializerAfterP
-    *b"                                                                        \xdd              ", // InitializerAfterI
-    *b"                                                                            \xd0          ", // OuterRest
-    *b"            \x09\x09\x09\x09\x09\x09\x09\x09\x09\x09                          \x08          \x09                           ", // ParameterNumber
-    *b"            \x0e\x0e\x0e\x0e\x0e\x0e\x0e\x0e\x0e\x0e          \x0a \x0e    \x0b  \x0e\x0d\x0c \x0d\x0e\x0e\x0e           \x0e\x0e\x0e\x0e\x0e\x0e\x0e\x0e\x0e\x0e \x0e\x0e\x0e\x0e   \x0e\x0e \x0e\x0e\x0e\x0e\x0e", // ConvertedType
-    *b"            $$$$$$$$$$            }       X    x\x0f#           zzzzzzzzzz zzzz   zz zzzzz", // ConvertedSolid
-    *b"            \xc1\xc1\xc1\xc1\xc1\xc1\xc1\xc1\xc1\xc1                  \xc3                  \xc1                           ", // ParameterAfterT
-    *b"                                                s                               s      ", // DecltypeAfterD
-    *b"            \xcf\xcf\xcf\xcf\xcf\xcf\xcf\xcf\xcf\xcf                  \xc4       \xf9          \xdd \xe9 \xea\xeb\xec\xed\xee \xef  \xf0\xf1\xf2\xf3\xf4\xf5\xf6\xf7\xf8      ", // ConvertRest
-    *b"            \x11\x11\x11\x11\x11\x11\x11\x11\x11\x11          \x10         \x10    \x10\x10                                      ", // Unresolved
-    *b"                                \x0a         X    x\x0f                                      ", // UnresolvedType
-    *b"            \xcf\xcf\xcf\xcf\xcf\xcf\xcf\xcf\xcf\xcf          \x12         \x12    \x12\x12                                      ", // DestructorName
-    *b"                                             \x15  \x14   \x13                                  ", // Requirements
-    *b"                                          \x17  \x15\x16 \x14   \x13                                  ", // AfterExpression
-    *b"                                             \x15\x16 \x14   \x13                                  ", // AfterNoexcept
-    *b"            \x18\x18\x18\x18\x18\x18\x18\x18\x18\x18          \x18 \x18    \x18  \x18\x18\x18 \x18\x18\x18\x18         \xe1 \x18\x18\x18\x18\x18\x18\x18\x18\x18\x18 \x18\x18\x18\x18   \x18\x18 \x18\x18\x18\x18\x18", // RequiredTypes
-    *b"            \xcf\xcf\xcf\xcf\xcf\xcf\xcf\xcf\xcf\xcf                                                                 ", // Level
-    *b"            \x11\x11\x11\x11\x11\x11\x11\x11\x11\x11           \x19                                                     ", // MoreLevels
-    *b"            \xcf\xcf\xcf\xcf\xcf\xcf\xcf\xcf\xcf\xcf                                                     \x1a           ", // UnresolvedName
-    *b"                                                                          \xce            ", // OperatorName
-    *b"                             \x1b                                                         ", // AnyArray
-    *b"            \x1d\x1d\x1d\x1d\x1d\x1d\x1d\x1d\x1d\x1d                  \x1c       \x1c          \x1d \x1c \x1c\x1c\x1c\x1c\x1c \x1c  \x1c\x1c\x1c\x1c\x1c\x1c\x1c\x1c\x1c      ", // ArrayRest
-    *b"                                        \xc4       \xf9            \xe9 \xea\xeb\xec\xed\xee \xef  \xf0\xf1\xf2\xf3\xf4\xf5\xf6\xf7\xf8      ", // Bound
-    *b"            KKKKKKKKKK         KKMK     KK       K K         K KKK K K  KKKKK KK       ", // NestMoreOrEnd
+    *b"            \x01\x01\x01\x01\x01\x01\x01\x01\x01\x01                  \x01       \x01            \x01 \x01\x01\x01\x01\x01 \x01  \x01\x01\x01\x01\x01\x01\x01\x01\x01      ", // FoldOperand
+    *b"            \x02\x02\x02\x02\x02\x02\x02\x02\x02\x02                  \x02       \x02            \x02 \x02\x02\x02\x02\x02 \x02  \x02\x02\x02\x02\x02\x02\x02\x02\x02      ", // FoldPack
+    *b"            \x02\x02\x02\x02\x02\x02\x02\x02\x02\x02                \xc7 \x02       \x02            \x02 \x02\x02\x02\x02\x02 \x02  \x02\x02\x02\x02\x02\x02\x02\x02\x02      ", // ValuePack
+    *b"            \x03\x03\x03\x03\x03\x03\x03\x03\x03\x03       \x03 \x03\x03 \x03   \xc7\x03 \x03\x03\x03\x03 \x03\x03\x03\x03\x03\x03  \x03      \x03\x03\x03\x03\x03\x03\x03\x03\x03\x03 \x03\x03\x03\x03  \x03\x03\x03\x03\x03\x03\x03\x03\x03", // TypePack
+    *b"            \x05\x05\x05\x05\x05\x05\x05\x05\x05\x05                  \x05       \x05            \x05 \x05\x04\x05\x05\x05 \x05  \x05\x05\x05\x05\x05\x05\x05\x05\x05      ", // DesignatedValue
+    *b"                                                                     \xd9              \xda  ", // DesignatorAfterD
+    *b"            \xd1\xd1\xd1\xd1\xd1\xd1\xd1\xd1\xd1\xd1                  \xc6       \xfb            \xeb \xec \xee\xef\xf0 \xf1  \xf2\xf3\xf4\xf5\xf6\xf7\xf8\xf9\xfa      ", // PlainValue
+    *b"            \x06\x06\x06\x06\x06\x06\x06\x06\x06\x06                                                                 ", // FieldName
+    *b"            \x07\x07\x07\x07\x07\x07\x07\x07\x07\x07                  \x07       \x07          ! \x07 \x07\x07\x07\x07\x07 \x07  \x07\x07\x07\x07\x07\x07\x07\x07\x07      ", // Placement
+    *b"            \xff\xff\xff\xff\xff\xff\xff\xff\xff\xff                  \xff       \xff            \xff \xff\xff\xff\xff\xff \xff  \xff\xff\xff\xff\xff\xff\xff\xff\xff      ", // SomeExpressions
+    *b"                                 \x87                                   \x09      \x08          ", // Initializer
+    *b"                                                                     \xdf                 ", // InitializerAfterP
+    *b"                                                                        \xdf              ", // InitializerAfterI
+    *b"                                                                            \xd2          ", // OuterRest
+    *b"            \x0b\x0b\x0b\x0b\x0b\x0b\x0b\x0b\x0b\x0b                          \x0a          \x0b                           ", // ParameterNumber
+    *b"            \x10\x10\x10\x10\x10\x10\x10\x10\x10\x10          \x0c \x10    \x0d  \x10\x0f\x0e \x0f\x10\x10\x10           \x10\x10\x10\x10\x10\x10\x10\x10\x10\x10 \x10\x10\x10\x10   \x10\x10 \x10\x10\x10\x10\x10", // ConvertedType
+    *b"            $$$$$$$$$$            ~       Y    y\x11#           {{{{{{{{{{ {{{{   {{ {{{{{", // ConvertedSolid
+    *b"            \xc3\xc3\xc3\xc3\xc3\xc3\xc3\xc3\xc3\xc3                  \xc5                  \xc3                           ", // ParameterAfterT
+    *b"                                                t                               t      ", // DecltypeAfterD
+    *b"            \xd1\xd1\xd1\xd1\xd1\xd1\xd1\xd1\xd1\xd1                  \xc6       \xfb          \xdf \xeb \xec\xed\xee\xef\xf0 \xf1  \xf2\xf3\xf4\xf5\xf6\xf7\xf8\xf9\xfa      ", // ConvertRest
+    *b"            \x13\x13\x13\x13\x13\x13\x13\x13\x13\x13          \x12         \x12    \x12\x12                                      ", // Unresolved
+    *b"                                \x0c         Y    y\x11                                      ", // UnresolvedType
+    *b"            \xd1\xd1\xd1\xd1\xd1\xd1\xd1\xd1\xd1\xd1          \x14         \x14    \x14\x14                                      ", // DestructorName
+    *b"                                             \x17  \x16   \x15                                  ", // Requirements
+    *b"                                          \x19  \x17\x18 \x16   \x15                                  ", // AfterExpression
+    *b"                                             \x17\x18 \x16   \x15                                  ", // AfterNoexcept
+    *b"            \x1a\x1a\x1a\x1a\x1a\x1a\x1a\x1a\x1a\x1a          \x1a \x1a    \x1a  \x1a\x1a\x1a \x1a\x1a\x1a\x1a         \xe3 \x1a\x1a\x1a\x1a\x1a\x1a\x1a\x1a\x1a\x1a \x1a\x1a\x1a\x1a   \x1a\x1a \x1a\x1a\x1a\x1a\x1a", // RequiredTypes
+    *b"            \xd1\xd1\xd1\xd1\xd1\xd1\xd1\xd1\xd1\xd1                                                                 ", // Level
+    *b"            \x13\x13\x13\x13\x13\x13\x13\x13\x13\x13           \x1b                                                     ", // MoreLevels
+    *b"            \xd1\xd1\xd1\xd1\xd1\xd1\xd1\xd1\xd1\xd1                                                     \x1c           ", // UnresolvedName
+    *b"                                                                          \xd0            ", // OperatorName
+    *b"                             \x1d                                                         ", // AnyArray
+    *b"            \x1f\x1f\x1f\x1f\x1f\x1f\x1f\x1f\x1f\x1f                  \x1e       \x1e          \x1f \x1e \x1e\x1e\x1e\x1e\x1e \x1e  \x1e\x1e\x1e\x1e\x1e\x1e\x1e\x1e\x1e      ", // ArrayRest
+    *b"                                        \xc6       \xfb            \xeb \xec\xed\xee\xef\xf0 \xf1  \xf2\xf3\xf4\xf5\xf6\xf7\xf8\xf9\xfa      ", // Bound
+    *b"            LLLLLLLLLL         LLNL     LL     L L L         L LLL L L  LLLLL LL       ", // NestMoreOrEnd
 ];
 
 /// The number of the rule that a kind takes at a byte, if it takes one.
 #[inline]
 fn number(kind: u16, byte: u8) -> Option<usize>
     requires { kind < wide.kinds }
-    ensures few { IfSome result (λ number. number < 253) }
+    ensures few { IfSome result (λ number. number < 255) }
     ensures rule { (head : Head) → MatchOption result (wide.rule kind byte ≡ None) (λ number. wide.rule kind byte ≡ Some (listed_rule head number)) }
 {
     match letter_in(&WIDE_LETTERS[kind as usize], byte) {

@@ -23,32 +23,36 @@ pub given_name : (p : Production) → family_of p ≡ Family.GivenName
     → (p ≡ Production.NestInstance → ⊥)
     → (p ≡ Production.Holder → ⊥)
     → (p ≡ Production.InModule → ⊥)
+    → (p ≡ Production.InNamedModule → ⊥)
     → (p ≡ Production.NestModule → ⊥)
     → (p ≡ Production.FirstModule → ⊥)
+    → (p ≡ Production.NamedModule → ⊥)
     → (p ≡ Production.MoreModule → ⊥)
     → (p ≡ Production.ComponentWithC → ⊥)
     → (p ≡ Production.AnyConstructor → ⊥)
     → ⊥
 unfolding family_of
-given_name Production.NameWithS is n0 n1 n2 n3 n4 n5 n6 n7 n8 n9 n10 n11 n12 n13 n14 n15 n16 n17 = n0 refl
-given_name Production.LocalTypePiece is n0 n1 n2 n3 n4 n5 n6 n7 n8 n9 n10 n11 n12 n13 n14 n15 n16 n17 = n1 refl
-given_name Production.OperatorPiece is n0 n1 n2 n3 n4 n5 n6 n7 n8 n9 n10 n11 n12 n13 n14 n15 n16 n17 = n2 refl
-given_name Production.NestParameter is n0 n1 n2 n3 n4 n5 n6 n7 n8 n9 n10 n11 n12 n13 n14 n15 n16 n17 = n3 refl
-given_name Production.NestDecltype is n0 n1 n2 n3 n4 n5 n6 n7 n8 n9 n10 n11 n12 n13 n14 n15 n16 n17 = n4 refl
-given_name Production.NestInternal is n0 n1 n2 n3 n4 n5 n6 n7 n8 n9 n10 n11 n12 n13 n14 n15 n16 n17 = n5 refl
-given_name Production.NestLocalType is n0 n1 n2 n3 n4 n5 n6 n7 n8 n9 n10 n11 n12 n13 n14 n15 n16 n17 = n6 refl
-given_name Production.NestTag is n0 n1 n2 n3 n4 n5 n6 n7 n8 n9 n10 n11 n12 n13 n14 n15 n16 n17 = n7 refl
-given_name Production.NestStd is n0 n1 n2 n3 n4 n5 n6 n7 n8 n9 n10 n11 n12 n13 n14 n15 n16 n17 = n8 refl
-given_name Production.NestArguments is n0 n1 n2 n3 n4 n5 n6 n7 n8 n9 n10 n11 n12 n13 n14 n15 n16 n17 = n9 refl
-given_name Production.NestInstance is n0 n1 n2 n3 n4 n5 n6 n7 n8 n9 n10 n11 n12 n13 n14 n15 n16 n17 = n10 refl
-given_name Production.Holder is n0 n1 n2 n3 n4 n5 n6 n7 n8 n9 n10 n11 n12 n13 n14 n15 n16 n17 = n11 refl
-given_name Production.InModule is n0 n1 n2 n3 n4 n5 n6 n7 n8 n9 n10 n11 n12 n13 n14 n15 n16 n17 = n12 refl
-given_name Production.NestModule is n0 n1 n2 n3 n4 n5 n6 n7 n8 n9 n10 n11 n12 n13 n14 n15 n16 n17 = n13 refl
-given_name Production.FirstModule is n0 n1 n2 n3 n4 n5 n6 n7 n8 n9 n10 n11 n12 n13 n14 n15 n16 n17 = n14 refl
-given_name Production.MoreModule is n0 n1 n2 n3 n4 n5 n6 n7 n8 n9 n10 n11 n12 n13 n14 n15 n16 n17 = n15 refl
-given_name Production.ComponentWithC is n0 n1 n2 n3 n4 n5 n6 n7 n8 n9 n10 n11 n12 n13 n14 n15 n16 n17 = n16 refl
-given_name Production.AnyConstructor is n0 n1 n2 n3 n4 n5 n6 n7 n8 n9 n10 n11 n12 n13 n14 n15 n16 n17 = n17 refl
-given_name _ is n0 n1 n2 n3 n4 n5 n6 n7 n8 n9 n10 n11 n12 n13 n14 n15 n16 n17 = subst IsGivenName (sym is) tt
+given_name Production.NameWithS is n0 n1 n2 n3 n4 n5 n6 n7 n8 n9 n10 n11 n12 n13 n14 n15 n16 n17 n18 n19 = n0 refl
+given_name Production.LocalTypePiece is n0 n1 n2 n3 n4 n5 n6 n7 n8 n9 n10 n11 n12 n13 n14 n15 n16 n17 n18 n19 = n1 refl
+given_name Production.OperatorPiece is n0 n1 n2 n3 n4 n5 n6 n7 n8 n9 n10 n11 n12 n13 n14 n15 n16 n17 n18 n19 = n2 refl
+given_name Production.NestParameter is n0 n1 n2 n3 n4 n5 n6 n7 n8 n9 n10 n11 n12 n13 n14 n15 n16 n17 n18 n19 = n3 refl
+given_name Production.NestDecltype is n0 n1 n2 n3 n4 n5 n6 n7 n8 n9 n10 n11 n12 n13 n14 n15 n16 n17 n18 n19 = n4 refl
+given_name Production.NestInternal is n0 n1 n2 n3 n4 n5 n6 n7 n8 n9 n10 n11 n12 n13 n14 n15 n16 n17 n18 n19 = n5 refl
+given_name Production.NestLocalType is n0 n1 n2 n3 n4 n5 n6 n7 n8 n9 n10 n11 n12 n13 n14 n15 n16 n17 n18 n19 = n6 refl
+given_name Production.NestTag is n0 n1 n2 n3 n4 n5 n6 n7 n8 n9 n10 n11 n12 n13 n14 n15 n16 n17 n18 n19 = n7 refl
+given_name Production.NestStd is n0 n1 n2 n3 n4 n5 n6 n7 n8 n9 n10 n11 n12 n13 n14 n15 n16 n17 n18 n19 = n8 refl
+given_name Production.NestArguments is n0 n1 n2 n3 n4 n5 n6 n7 n8 n9 n10 n11 n12 n13 n14 n15 n16 n17 n18 n19 = n9 refl
+given_name Production.NestInstance is n0 n1 n2 n3 n4 n5 n6 n7 n8 n9 n10 n11 n12 n13 n14 n15 n16 n17 n18 n19 = n10 refl
+given_name Production.Holder is n0 n1 n2 n3 n4 n5 n6 n7 n8 n9 n10 n11 n12 n13 n14 n15 n16 n17 n18 n19 = n11 refl
+given_name Production.InModule is n0 n1 n2 n3 n4 n5 n6 n7 n8 n9 n10 n11 n12 n13 n14 n15 n16 n17 n18 n19 = n12 refl
+given_name Production.InNamedModule is n0 n1 n2 n3 n4 n5 n6 n7 n8 n9 n10 n11 n12 n13 n14 n15 n16 n17 n18 n19 = n13 refl
+given_name Production.NestModule is n0 n1 n2 n3 n4 n5 n6 n7 n8 n9 n10 n11 n12 n13 n14 n15 n16 n17 n18 n19 = n14 refl
+given_name Production.FirstModule is n0 n1 n2 n3 n4 n5 n6 n7 n8 n9 n10 n11 n12 n13 n14 n15 n16 n17 n18 n19 = n15 refl
+given_name Production.NamedModule is n0 n1 n2 n3 n4 n5 n6 n7 n8 n9 n10 n11 n12 n13 n14 n15 n16 n17 n18 n19 = n16 refl
+given_name Production.MoreModule is n0 n1 n2 n3 n4 n5 n6 n7 n8 n9 n10 n11 n12 n13 n14 n15 n16 n17 n18 n19 = n17 refl
+given_name Production.ComponentWithC is n0 n1 n2 n3 n4 n5 n6 n7 n8 n9 n10 n11 n12 n13 n14 n15 n16 n17 n18 n19 = n18 refl
+given_name Production.AnyConstructor is n0 n1 n2 n3 n4 n5 n6 n7 n8 n9 n10 n11 n12 n13 n14 n15 n16 n17 n18 n19 = n19 refl
+given_name _ is n0 n1 n2 n3 n4 n5 n6 n7 n8 n9 n10 n11 n12 n13 n14 n15 n16 n17 n18 n19 = subst IsGivenName (sym is) tt
 
 abbrev IsAppliedName : Family → Type 0
 IsAppliedName Family.AppliedName = Unit {0}

@@ -69,10 +69,14 @@ impl Linked {
             Production::Holder => Outcome::Given(self.given(symbol, parts, 1)),
             // <unqualified-name> ::= <module-name> <source-name>, and the like: the name has the module as a prefix after the one that it has
             Production::InModule => Outcome::Given(self.given(symbol, parts, 1)),
+            // <unqualified-name> ::= <module-name> <source-name>, where the module is, or begins with, <substitution>
+            Production::InNamedModule => Outcome::Given(self.given(symbol, parts, 1)),
             // <prefix> ::= <module-name> <unqualified-name>
             Production::NestModule => Outcome::Given(self.given(symbol, parts, 1)),
             // <module-name> ::= W <source-name>, after the W
             Production::FirstModule => Outcome::Given(self.either(symbol, parts, 1, 0)),
+            // <module-name> ::= <substitution>, after the S
+            Production::NamedModule => Outcome::Given(self.either(symbol, parts, 1, 0)),
             // <module-name> ::= <module-name> W [P] <source-name>
             Production::MoreModule => Outcome::Given(self.either(symbol, parts, 2, 0)),
             // of operators those that begin with c stand apart, since one of them is a type's

@@ -14,7 +14,7 @@ ghost use Rattle.cpp_grammar.specs.declared.production.Production.{Production as
 ghost use Rattle.cpp_grammar.specs.Rescoping.{is_by_all, generic_number};
 ghost use Rattle.cpp_grammar.specs.Unfolding.{production_at};
 ghost use Rattle.cpp_term.specs.Values as values;
-ghost use Rattle.cpp_term.specs.Rescoping.{is_foreign, is_module, restated, numbered, as_generic_lambda, between_wide};
+ghost use Rattle.cpp_term.specs.Rescoping.{is_foreign, is_module, module_named, restated, numbered, as_generic_lambda, between_wide};
 ghost use Rattle.cpp_tree.specs.Nodes.{over, tree_at, bytes_at, piece_of, IsThereBelow, IsPieceBelow, IsWithin, IsTable};
 ghost use Rattle.cpp_link.specs.Grows.{HasPlace};
 ghost use Rattle.cpp_link.specs.LinkRescoping.{is_parameter, is_parameter_argument, steps_apart, counted_before, counts_again, with_mark, going_marked, generic_read, number_in, named_by, substituted_nodes, wide_ends, wide_view};
@@ -211,7 +211,7 @@ impl Linked {
     ///
     /// # Errors
     ///
-    /// `BadReference` at the `M` after arguments.
+    /// `BadReference` at the `M` after arguments, and at the `S` of a module that isn't one, or not by all compilers.
     fn step_apart(
         &self,
         symbol: &[u8],
@@ -247,12 +247,43 @@ impl Linked {
                 then: self.inside(kept),
                 packs: self.packs,
             }),
+            // <module-name> ::= <substitution>
+            Production::NamedModule => {
+                let at = place.saturating_sub(1);
+                let digits = self.text(symbol, parts, 0);
+                let Some(node) = self.named_module(symbol, digits) else {
+                    return Err(Refusal::BadReference { at });
+                };
+                Ok(Step::Named {
+                    node,
+                    listed: true,
+                    is_name: true,
+                })
+            }
             // <template-param> ::= T_ | T <parameter number> _
             _ => {
                 let digits = self.text(symbol, parts, 0);
                 let is_argument = is_parameter_argument(production);
                 Ok(self.generic(symbol, kept, digits, is_argument))
             }
+        }
+    }
+
+    /// The module that these digits name, if they name one by both lists.
+    fn named_module(&self, symbol: &[u8], digits: Span) -> Option<u32>
+        requires table { IsTable (over symbol.now self.now.nodes) }
+        requires digits { IsWithin digits symbol.now }
+        ensures is { (state : values.State) → state.candidates ≡ candidates_of (trees_in symbol.now self.now.nodes) self.now.candidates.list.items → MatchOption result (module_named (counted_value kinds.Seq36 (bytes_at symbol.now digits)) state ≡ None) (λ node. module_named (counted_value kinds.Seq36 (bytes_at symbol.now digits)) state ≡ Some (tree_at (trees_in symbol.now self.now.nodes) node)) }
+        ensures there { IsThereBelow (length self.now.nodes.nodes) result }
+    {
+        match self.named_by_both(symbol, digits) {
+            Some(candidate) => {
+                if self.is_module(symbol, candidate.node) {
+                    return Some(candidate.node);
+                }
+                None
+            }
+            None => None,
         }
     }
 

@@ -3,7 +3,7 @@
 use cpp_grammar::production::Production;
 
 /// The productions.
-pub(crate) const PRODUCTIONS: [Production; 253] = [
+pub(crate) const PRODUCTIONS: [Production; 255] = [
     Production::Mark,
     Production::InternalName,
     Production::LocalTypeName,
@@ -13,6 +13,7 @@ pub(crate) const PRODUCTIONS: [Production; 253] = [
     Production::LocalTypePiece,
     Production::SourcePiece,
     Production::InModule,
+    Production::InNamedModule,
     Production::NestedName,
     Production::Symbol,
     Production::Suffix,
@@ -146,6 +147,7 @@ pub(crate) const PRODUCTIONS: [Production; 253] = [
     Production::LiteralOperator,
     Production::NestInstance,
     Production::FirstModule,
+    Production::NamedModule,
     Production::MoreModule,
     Production::Conversion,
     Production::OperatorNameWithC,
@@ -260,7 +262,7 @@ pub(crate) const PRODUCTIONS: [Production; 253] = [
 ];
 
 /// How many parts each has.
-pub(crate) const PART_COUNTS: [u8; 253] = [
+pub(crate) const PART_COUNTS: [u8; 255] = [
     0, // Mark
     2, // InternalName
     2, // LocalTypeName
@@ -270,6 +272,7 @@ pub(crate) const PART_COUNTS: [u8; 253] = [
     1, // LocalTypePiece
     1, // SourcePiece
     2, // InModule
+    2, // InNamedModule
     5, // NestedName
     3, // Symbol
     1, // Suffix
@@ -403,6 +406,7 @@ pub(crate) const PART_COUNTS: [u8; 253] = [
     1, // LiteralOperator
     3, // NestInstance
     2, // FirstModule
+    2, // NamedModule
     3, // MoreModule
     1, // Conversion
     2, // OperatorNameWithC
@@ -517,7 +521,7 @@ pub(crate) const PART_COUNTS: [u8; 253] = [
 ];
 
 /// Whether some part of each but the last may have no row: a fixed byte, or a kind that may be empty.
-pub(crate) const SKIPS_PARTS: [bool; 253] = [
+pub(crate) const SKIPS_PARTS: [bool; 255] = [
     false, // Mark
     false, // InternalName
     false, // LocalTypeName
@@ -527,6 +531,7 @@ pub(crate) const SKIPS_PARTS: [bool; 253] = [
     false, // LocalTypePiece
     false, // SourcePiece
     false, // InModule
+    false, // InNamedModule
     true, // NestedName
     true, // Symbol
     false, // Suffix
@@ -660,6 +665,7 @@ pub(crate) const SKIPS_PARTS: [bool; 253] = [
     false, // LiteralOperator
     true, // NestInstance
     false, // FirstModule
+    false, // NamedModule
     true, // MoreModule
     false, // Conversion
     false, // OperatorNameWithC
@@ -774,7 +780,7 @@ pub(crate) const SKIPS_PARTS: [bool; 253] = [
 ];
 
 /// Before how many of its parts nothing is done in each: before none, the first, or all, which are five at most.
-pub(crate) const QUIET_PARTS: [u8; 253] = [
+pub(crate) const QUIET_PARTS: [u8; 255] = [
     5, // Mark
     1, // InternalName
     1, // LocalTypeName
@@ -784,6 +790,7 @@ pub(crate) const QUIET_PARTS: [u8; 253] = [
     5, // LocalTypePiece
     5, // SourcePiece
     0, // InModule
+    0, // InNamedModule
     5, // NestedName
     5, // Symbol
     5, // Suffix
@@ -917,6 +924,7 @@ pub(crate) const QUIET_PARTS: [u8; 253] = [
     5, // LiteralOperator
     0, // NestInstance
     1, // FirstModule
+    1, // NamedModule
     2, // MoreModule
     0, // Conversion
     1, // OperatorNameWithC

@@ -10,6 +10,7 @@ step_second_of_name-requires c = record {
   holder = c.requires.holder;
   parameter = c.requires.parameter;
   pack_argument = c.requires.pack_argument;
+  named_module = c.requires.named_module;
   parameter_argument = c.requires.parameter_argument;
   parameter_expression = c.requires.parameter_expression;
   special = c.in_default.not-Special;
