@@ -195,22 +195,23 @@ number_of_kind Kind.ConvertedType = 151
 number_of_kind Kind.ConvertedSolid = 152
 number_of_kind Kind.ParameterAfterT = 153
 number_of_kind Kind.DecltypeAfterD = 154
-number_of_kind Kind.ConvertRest = 155
-number_of_kind Kind.Unresolved = 156
-number_of_kind Kind.UnresolvedType = 157
-number_of_kind Kind.DestructorName = 158
-number_of_kind Kind.Requirements = 159
-number_of_kind Kind.AfterExpression = 160
-number_of_kind Kind.AfterNoexcept = 161
-number_of_kind Kind.RequiredTypes = 162
-number_of_kind Kind.Level = 163
-number_of_kind Kind.MoreLevels = 164
-number_of_kind Kind.UnresolvedName = 165
-number_of_kind Kind.OperatorName = 166
-number_of_kind Kind.AnyArray = 167
-number_of_kind Kind.ArrayRest = 168
-number_of_kind Kind.Bound = 169
-number_of_kind Kind.NestMoreOrEnd = 170
+number_of_kind Kind.ConvertedAfterD = 155
+number_of_kind Kind.ConvertRest = 156
+number_of_kind Kind.Unresolved = 157
+number_of_kind Kind.UnresolvedType = 158
+number_of_kind Kind.DestructorName = 159
+number_of_kind Kind.Requirements = 160
+number_of_kind Kind.AfterExpression = 161
+number_of_kind Kind.AfterNoexcept = 162
+number_of_kind Kind.RequiredTypes = 163
+number_of_kind Kind.Level = 164
+number_of_kind Kind.MoreLevels = 165
+number_of_kind Kind.UnresolvedName = 166
+number_of_kind Kind.OperatorName = 167
+number_of_kind Kind.AnyArray = 168
+number_of_kind Kind.ArrayRest = 169
+number_of_kind Kind.Bound = 170
+number_of_kind Kind.NestMoreOrEnd = 171
 
 -- a kind as a symbol of a rule
 abbrev part : Kind → Sym
@@ -373,6 +374,7 @@ alternatives Kind.ConvertedType = on "D" Production.ConvertedDecltype ∷ on "K"
 alternatives Kind.ConvertedSolid = on_ranges "a-jl-ov-z" "st" Production.Builtin ∷ on "F" Production.Function ∷ on "S" Production.TypeWithS ∷ on "N" Production.NestedType ∷ on "U" Production.LocalTypeName ∷ on_ranges "0-9" "" Production.SourceName ∷ on "T" Production.ConvertedWithT ∷ []
 alternatives Kind.ParameterAfterT = on_ranges "0-9" "_" Production.ParameterArgument ∷ on "L" Production.LeveledParameter ∷ []
 alternatives Kind.DecltypeAfterD = on "Tt" Production.Decltype ∷ []
+alternatives Kind.ConvertedAfterD = on "Tt" Production.Decltype ∷ on "ac" Production.BuiltinWithD ∷ []
 alternatives Kind.ConvertRest = on "_" Production.Braces ∷ on "a" Production.ExpressionA ∷ on "c" Production.ExpressionC ∷ on "d" Production.ExpressionD ∷ on "e" Production.ExpressionE ∷ on "f" Production.ExpressionF ∷ on "g" Production.ExpressionG ∷ on "i" Production.ExpressionI ∷ on "l" Production.ExpressionL ∷ on "m" Production.ExpressionM ∷ on "n" Production.ExpressionN ∷ on "o" Production.ExpressionO ∷ on "p" Production.ExpressionP ∷ on "q" Production.ExpressionQ ∷ on "r" Production.ExpressionR ∷ on "s" Production.ExpressionS ∷ on "t" Production.ExpressionT ∷ on "T" Production.ExpressionWithT ∷ on "L" Production.OneLiteral ∷ on_ranges "0-9" "" Production.SimpleId ∷ []
 alternatives Kind.Unresolved = on "DNST" Production.UnresolvedInType ∷ on_ranges "0-9" "" Production.Levels ∷ []
 alternatives Kind.UnresolvedType = on "D" Production.ConvertedDecltype ∷ on "T" Production.ConvertedWithT ∷ on "S" Production.TypeWithS ∷ on "N" Production.NestedType ∷ []
@@ -631,7 +633,7 @@ parts_of Production.Initializer = part Kind.InitializerAfterP ∷ []
 parts_of Production.BracedInitializer = part Kind.InitializerAfterI ∷ []
 parts_of Production.This = []
 parts_of Production.ParameterNumber = Number Decimal ∷ []
-parts_of Production.ConvertedDecltype = part Kind.DecltypeAfterD ∷ []
+parts_of Production.ConvertedDecltype = part Kind.ConvertedAfterD ∷ []
 parts_of Production.ConvertedConst = part Kind.ConvertedType ∷ []
 parts_of Production.ConvertedPointer = part Kind.ConvertedType ∷ []
 parts_of Production.ConvertedReference = part Kind.ConvertedType ∷ []
@@ -749,7 +751,7 @@ may_be_empty _ = false
 
 -- the kinds in the order of their numbers
 unfoldable pub kinds : List Kind
-kinds = Kind.Symbol ∷ Kind.MaybeSuffix ∷ Kind.SuffixFirst ∷ Kind.SuffixMore ∷ Kind.Encoding ∷ Kind.Special ∷ Kind.CallOffset ∷ Kind.Integer ∷ Kind.CompleteName ∷ Kind.MaybeRestrict ∷ Kind.MaybeVolatile ∷ Kind.MaybeConst ∷ Kind.MaybeRef ∷ Kind.NameAfterS ∷ Kind.Unqualified ∷ Kind.Nest ∷ Kind.NestAfterS ∷ Kind.NestRest ∷ Kind.NestTail ∷ Kind.Component ∷ Kind.ConstructorAfterC ∷ Kind.ConstructorDigit ∷ Kind.InheritedDigit ∷ Kind.DestructorDigit ∷ Kind.Abbreviation ∷ Kind.Entity ∷ Kind.TypeEntity ∷ Kind.MaybeDiscriminator ∷ Kind.DiscriminatorRest ∷ Kind.Anonymous ∷ Kind.Type ∷ Kind.Plain ∷ Kind.Item ∷ Kind.ItemButRef ∷ Kind.ItemAfterD ∷ Kind.AfterD ∷ Kind.Solid ∷ Kind.MaybeCLinkage ∷ Kind.BitWidth ∷ Kind.TypeAfterS ∷ Kind.SourceOrLocal ∷ Kind.FunctionRest ∷ Kind.AfterR ∷ Kind.AfterO ∷ Kind.Items ∷ Kind.MaybeArguments ∷ Kind.Arguments ∷ Kind.ArgumentList ∷ Kind.PackList ∷ Kind.Literal ∷ Kind.Bit ∷ Kind.LiteralAfterD ∷ Kind.FloatType ∷ Kind.SizedFloatType ∷ Kind.HexText ∷ Kind.HexDigits ∷ Kind.HexMore ∷ Kind.MaybeZero ∷ Kind.LiteralType ∷ Kind.LiteralPlain ∷ Kind.LiteralSolid ∷ Kind.Operator ∷ Kind.OperatorAfterN ∷ Kind.OperatorAfterD ∷ Kind.OperatorAfterA ∷ Kind.OperatorAfterP ∷ Kind.OperatorAfterC ∷ Kind.OperatorAfterM ∷ Kind.OperatorAfterR ∷ Kind.OperatorAfterO ∷ Kind.OperatorAfterE ∷ Kind.OperatorAfterL ∷ Kind.OperatorAfterS ∷ Kind.OperatorAfterI ∷ Kind.OperatorAfterG ∷ Kind.NestRestOrEnd ∷ Kind.ArgumentsAlone ∷ Kind.NestRestAlone ∷ Kind.FirstModule ∷ Kind.NamedModule ∷ Kind.MoreModule ∷ Kind.MaybePartition ∷ Kind.NameAfterModule ∷ Kind.NameInModule ∷ Kind.NestOn ∷ Kind.HolderMark ∷ Kind.HeldComponent ∷ Kind.FloatEnd ∷ Kind.ComponentAfterC ∷ Kind.OtherOperator ∷ Kind.HeldArguments ∷ Kind.BaseClass ∷ Kind.UnnestedName ∷ Kind.BaseArguments ∷ Kind.ArgumentsFirst ∷ Kind.PlainEntity ∷ Kind.PlainTypeEntity ∷ Kind.SpecialMark ∷ Kind.SpecialAfterG ∷ Kind.TemporaryName ∷ Kind.CloneLetter ∷ Kind.TypeInStd ∷ Kind.MaybeTags ∷ Kind.Argument ∷ Kind.ArgumentAfterT ∷ Kind.LeveledParameter ∷ Kind.OneArgument ∷ Kind.DeclarationAfterT ∷ Kind.Declarations ∷ Kind.Concept ∷ Kind.SolidButT ∷ Kind.Expression ∷ Kind.ExpressionParameter ∷ Kind.UnleveledExpression ∷ Kind.AddressedExpression ∷ Kind.AddressedLiteral ∷ Kind.ExpressionAfterA ∷ Kind.ExpressionAfterC ∷ Kind.ExpressionAfterD ∷ Kind.ExpressionAfterE ∷ Kind.ExpressionAfterF ∷ Kind.ExpressionAfterG ∷ Kind.ExpressionAfterI ∷ Kind.ExpressionAfterL ∷ Kind.ExpressionAfterM ∷ Kind.ExpressionAfterN ∷ Kind.ExpressionAfterO ∷ Kind.ExpressionAfterP ∷ Kind.ExpressionAfterQ ∷ Kind.ExpressionAfterR ∷ Kind.ExpressionAfterS ∷ Kind.ExpressionAfterT ∷ Kind.Expressions ∷ Kind.MaybeBefore ∷ Kind.FoldOperator ∷ Kind.FoldOperatorAfterL ∷ Kind.FoldOperand ∷ Kind.FoldPack ∷ Kind.ValuePack ∷ Kind.TypePack ∷ Kind.DesignatedValue ∷ Kind.DesignatorAfterD ∷ Kind.PlainValue ∷ Kind.FieldName ∷ Kind.Placement ∷ Kind.SomeExpressions ∷ Kind.Initializer ∷ Kind.InitializerAfterP ∷ Kind.InitializerAfterI ∷ Kind.OuterRest ∷ Kind.ParameterNumber ∷ Kind.ConvertedType ∷ Kind.ConvertedSolid ∷ Kind.ParameterAfterT ∷ Kind.DecltypeAfterD ∷ Kind.ConvertRest ∷ Kind.Unresolved ∷ Kind.UnresolvedType ∷ Kind.DestructorName ∷ Kind.Requirements ∷ Kind.AfterExpression ∷ Kind.AfterNoexcept ∷ Kind.RequiredTypes ∷ Kind.Level ∷ Kind.MoreLevels ∷ Kind.UnresolvedName ∷ Kind.OperatorName ∷ Kind.AnyArray ∷ Kind.ArrayRest ∷ Kind.Bound ∷ Kind.NestMoreOrEnd ∷ []
+kinds = Kind.Symbol ∷ Kind.MaybeSuffix ∷ Kind.SuffixFirst ∷ Kind.SuffixMore ∷ Kind.Encoding ∷ Kind.Special ∷ Kind.CallOffset ∷ Kind.Integer ∷ Kind.CompleteName ∷ Kind.MaybeRestrict ∷ Kind.MaybeVolatile ∷ Kind.MaybeConst ∷ Kind.MaybeRef ∷ Kind.NameAfterS ∷ Kind.Unqualified ∷ Kind.Nest ∷ Kind.NestAfterS ∷ Kind.NestRest ∷ Kind.NestTail ∷ Kind.Component ∷ Kind.ConstructorAfterC ∷ Kind.ConstructorDigit ∷ Kind.InheritedDigit ∷ Kind.DestructorDigit ∷ Kind.Abbreviation ∷ Kind.Entity ∷ Kind.TypeEntity ∷ Kind.MaybeDiscriminator ∷ Kind.DiscriminatorRest ∷ Kind.Anonymous ∷ Kind.Type ∷ Kind.Plain ∷ Kind.Item ∷ Kind.ItemButRef ∷ Kind.ItemAfterD ∷ Kind.AfterD ∷ Kind.Solid ∷ Kind.MaybeCLinkage ∷ Kind.BitWidth ∷ Kind.TypeAfterS ∷ Kind.SourceOrLocal ∷ Kind.FunctionRest ∷ Kind.AfterR ∷ Kind.AfterO ∷ Kind.Items ∷ Kind.MaybeArguments ∷ Kind.Arguments ∷ Kind.ArgumentList ∷ Kind.PackList ∷ Kind.Literal ∷ Kind.Bit ∷ Kind.LiteralAfterD ∷ Kind.FloatType ∷ Kind.SizedFloatType ∷ Kind.HexText ∷ Kind.HexDigits ∷ Kind.HexMore ∷ Kind.MaybeZero ∷ Kind.LiteralType ∷ Kind.LiteralPlain ∷ Kind.LiteralSolid ∷ Kind.Operator ∷ Kind.OperatorAfterN ∷ Kind.OperatorAfterD ∷ Kind.OperatorAfterA ∷ Kind.OperatorAfterP ∷ Kind.OperatorAfterC ∷ Kind.OperatorAfterM ∷ Kind.OperatorAfterR ∷ Kind.OperatorAfterO ∷ Kind.OperatorAfterE ∷ Kind.OperatorAfterL ∷ Kind.OperatorAfterS ∷ Kind.OperatorAfterI ∷ Kind.OperatorAfterG ∷ Kind.NestRestOrEnd ∷ Kind.ArgumentsAlone ∷ Kind.NestRestAlone ∷ Kind.FirstModule ∷ Kind.NamedModule ∷ Kind.MoreModule ∷ Kind.MaybePartition ∷ Kind.NameAfterModule ∷ Kind.NameInModule ∷ Kind.NestOn ∷ Kind.HolderMark ∷ Kind.HeldComponent ∷ Kind.FloatEnd ∷ Kind.ComponentAfterC ∷ Kind.OtherOperator ∷ Kind.HeldArguments ∷ Kind.BaseClass ∷ Kind.UnnestedName ∷ Kind.BaseArguments ∷ Kind.ArgumentsFirst ∷ Kind.PlainEntity ∷ Kind.PlainTypeEntity ∷ Kind.SpecialMark ∷ Kind.SpecialAfterG ∷ Kind.TemporaryName ∷ Kind.CloneLetter ∷ Kind.TypeInStd ∷ Kind.MaybeTags ∷ Kind.Argument ∷ Kind.ArgumentAfterT ∷ Kind.LeveledParameter ∷ Kind.OneArgument ∷ Kind.DeclarationAfterT ∷ Kind.Declarations ∷ Kind.Concept ∷ Kind.SolidButT ∷ Kind.Expression ∷ Kind.ExpressionParameter ∷ Kind.UnleveledExpression ∷ Kind.AddressedExpression ∷ Kind.AddressedLiteral ∷ Kind.ExpressionAfterA ∷ Kind.ExpressionAfterC ∷ Kind.ExpressionAfterD ∷ Kind.ExpressionAfterE ∷ Kind.ExpressionAfterF ∷ Kind.ExpressionAfterG ∷ Kind.ExpressionAfterI ∷ Kind.ExpressionAfterL ∷ Kind.ExpressionAfterM ∷ Kind.ExpressionAfterN ∷ Kind.ExpressionAfterO ∷ Kind.ExpressionAfterP ∷ Kind.ExpressionAfterQ ∷ Kind.ExpressionAfterR ∷ Kind.ExpressionAfterS ∷ Kind.ExpressionAfterT ∷ Kind.Expressions ∷ Kind.MaybeBefore ∷ Kind.FoldOperator ∷ Kind.FoldOperatorAfterL ∷ Kind.FoldOperand ∷ Kind.FoldPack ∷ Kind.ValuePack ∷ Kind.TypePack ∷ Kind.DesignatedValue ∷ Kind.DesignatorAfterD ∷ Kind.PlainValue ∷ Kind.FieldName ∷ Kind.Placement ∷ Kind.SomeExpressions ∷ Kind.Initializer ∷ Kind.InitializerAfterP ∷ Kind.InitializerAfterI ∷ Kind.OuterRest ∷ Kind.ParameterNumber ∷ Kind.ConvertedType ∷ Kind.ConvertedSolid ∷ Kind.ParameterAfterT ∷ Kind.DecltypeAfterD ∷ Kind.ConvertedAfterD ∷ Kind.ConvertRest ∷ Kind.Unresolved ∷ Kind.UnresolvedType ∷ Kind.DestructorName ∷ Kind.Requirements ∷ Kind.AfterExpression ∷ Kind.AfterNoexcept ∷ Kind.RequiredTypes ∷ Kind.Level ∷ Kind.MoreLevels ∷ Kind.UnresolvedName ∷ Kind.OperatorName ∷ Kind.AnyArray ∷ Kind.ArrayRest ∷ Kind.Bound ∷ Kind.NestMoreOrEnd ∷ []
 
 -- the productions in the order of their numbers
 unfoldable pub productions : List Production

@@ -584,7 +584,7 @@ row_of Production.BracedInitializer = plain (own by_letters (nodes 1))
 row_of Production.This = plain (makes (of new_operation (fixed 102 ∷ fixed 84 ∷ no_tree ∷ no_tree ∷ [])) listed)
 -- <function-param> ::= fp [<number>] _, its number
 row_of Production.ParameterNumber = plain (makes (of new_function_parameter (digits_at 0 ∷ [])) listed)
--- <type> ::= <decltype>
+-- <type> ::= <decltype>, or <builtin-type> ::= Da | Dc
 row_of Production.ConvertedDecltype = gains (type_of 0) (plain (finished 0))
 -- <type> ::= K <type>
 row_of Production.ConvertedConst = gains itself (plain (makes (of new_qualified (qualified_by (restrict no) (volatile no) (const yes) ∷ tree_at 0 ∷ [])) listed))

@@ -168,6 +168,7 @@ wide_alternatives Kind.ConvertedType = on "D" Production.ConvertedDecltype ∷ o
 wide_alternatives Kind.ConvertedSolid = on_ranges "a-jl-ov-z" "st" Production.Builtin ∷ on "F" Production.Function ∷ on "S" Production.TypeWithS ∷ on "N" Production.NestedType ∷ on "U" Production.LocalTypeName ∷ on_ranges "0-9" "" Production.SourceName ∷ on "T" Production.ConvertedWithT ∷ []
 wide_alternatives Kind.ParameterAfterT = on_ranges "0-9" "_" Production.ParameterArgument ∷ on "L" Production.LeveledParameter ∷ []
 wide_alternatives Kind.DecltypeAfterD = on "Tt" Production.Decltype ∷ []
+wide_alternatives Kind.ConvertedAfterD = on "Tt" Production.Decltype ∷ on "ac" Production.BuiltinWithD ∷ []
 wide_alternatives Kind.ConvertRest = on "_" Production.Braces ∷ on "a" Production.ExpressionA ∷ on "c" Production.ExpressionC ∷ on "d" Production.ExpressionD ∷ on "e" Production.ExpressionE ∷ on "f" Production.ExpressionF ∷ on "g" Production.ExpressionG ∷ on "i" Production.ExpressionI ∷ on "l" Production.ExpressionL ∷ on "m" Production.ExpressionM ∷ on "n" Production.ExpressionN ∷ on "o" Production.ExpressionO ∷ on "p" Production.ExpressionP ∷ on "q" Production.ExpressionQ ∷ on "r" Production.ExpressionR ∷ on "s" Production.ExpressionS ∷ on "t" Production.ExpressionT ∷ on "T" Production.ExpressionWithT ∷ on "L" Production.OneLiteral ∷ on_ranges "0-9" "" Production.SimpleId ∷ []
 wide_alternatives Kind.Unresolved = on "DNST" Production.UnresolvedInType ∷ on_ranges "0-9" "" Production.Levels ∷ []
 wide_alternatives Kind.UnresolvedType = on "D" Production.ConvertedDecltype ∷ on "T" Production.ConvertedWithT ∷ on "S" Production.TypeWithS ∷ on "N" Production.NestedType ∷ []

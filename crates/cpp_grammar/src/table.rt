@@ -320,37 +320,39 @@ const PARAMETER_AFTER_T: Sym = Sym::Kind(153);
 
 const DECLTYPE_AFTER_D: Sym = Sym::Kind(154);
 
-const CONVERT_REST: Sym = Sym::Kind(155);
+const CONVERTED_AFTER_D: Sym = Sym::Kind(155);
 
-const UNRESOLVED: Sym = Sym::Kind(156);
+const CONVERT_REST: Sym = Sym::Kind(156);
 
-const UNRESOLVED_TYPE: Sym = Sym::Kind(157);
+const UNRESOLVED: Sym = Sym::Kind(157);
 
-const DESTRUCTOR_NAME: Sym = Sym::Kind(158);
+const UNRESOLVED_TYPE: Sym = Sym::Kind(158);
 
-const REQUIREMENTS: Sym = Sym::Kind(159);
+const DESTRUCTOR_NAME: Sym = Sym::Kind(159);
 
-const AFTER_EXPRESSION: Sym = Sym::Kind(160);
+const REQUIREMENTS: Sym = Sym::Kind(160);
 
-const AFTER_NOEXCEPT: Sym = Sym::Kind(161);
+const AFTER_EXPRESSION: Sym = Sym::Kind(161);
 
-const REQUIRED_TYPES: Sym = Sym::Kind(162);
+const AFTER_NOEXCEPT: Sym = Sym::Kind(162);
 
-const LEVEL: Sym = Sym::Kind(163);
+const REQUIRED_TYPES: Sym = Sym::Kind(163);
 
-const MORE_LEVELS: Sym = Sym::Kind(164);
+const LEVEL: Sym = Sym::Kind(164);
 
-const UNRESOLVED_NAME: Sym = Sym::Kind(165);
+const MORE_LEVELS: Sym = Sym::Kind(165);
 
-const OPERATOR_NAME: Sym = Sym::Kind(166);
+const UNRESOLVED_NAME: Sym = Sym::Kind(166);
 
-const ANY_ARRAY: Sym = Sym::Kind(167);
+const OPERATOR_NAME: Sym = Sym::Kind(167);
 
-const ARRAY_REST: Sym = Sym::Kind(168);
+const ANY_ARRAY: Sym = Sym::Kind(168);
 
-const BOUND: Sym = Sym::Kind(169);
+const ARRAY_REST: Sym = Sym::Kind(169);
 
-const NEST_MORE_OR_END: Sym = Sym::Kind(170);
+const BOUND: Sym = Sym::Kind(170);
+
+const NEST_MORE_OR_END: Sym = Sym::Kind(171);
 
 const NAME: Sym = Sym::Name;
 
@@ -365,7 +367,7 @@ const DIGITS: Sym = Sym::Number(NumberKind::Digits);
 pub const FIRST_LETTER: u8 = b'!';
 
 // For each kind a row: for each byte from `$` to `z` the letter of the production that the kind takes there.
-static LETTERS: [[u8; 87]; 171] = [
+static LETTERS: [[u8; 87]; 172] = [
     // $%&'()*+,-./0123456789:;<=>?@ABCDEFGHIJKLMNOPQRSTUVWXYZ[\]^_`abcdefghijklmnopqrstuvwxyz
     *b"                                                           ,                           ", // Symbol
     *b"          -                                                                            ", // MaybeSuffix
@@ -522,6 +524,7 @@ static LETTERS: [[u8; 87]; 171] = [
     *b"            $$$$$$$$$$            ~       Y    y\x11#           {{{{{{{{{{ {{{{   {{ {{{{{", // ConvertedSolid
     *b"            \xc3\xc3\xc3\xc3\xc3\xc3\xc3\xc3\xc3\xc3                  \xc5                  \xc3                           ", // ParameterAfterT
     *b"                                                t                               t      ", // DecltypeAfterD
+    *b"                                                t            n n                t      ", // ConvertedAfterD
     *b"            \xd1\xd1\xd1\xd1\xd1\xd1\xd1\xd1\xd1\xd1                  \xc6       \xfb          \xdf \xeb \xec\xed\xee\xef\xf0 \xf1  \xf2\xf3\xf4\xf5\xf6\xf7\xf8\xf9\xfa      ", // ConvertRest
     *b"            \x13\x13\x13\x13\x13\x13\x13\x13\x13\x13          \x12         \x12    \x12\x12                                      ", // Unresolved
     *b"                                \x0c         Y    y\x11                                      ", // UnresolvedType
@@ -1062,7 +1065,7 @@ pub static SYMBOLS: [Sym; 1536] = symbols_listed! {
     [INITIALIZER_AFTER_I, NONE, NONE, NONE, NONE], // \x09 BracedInitializer
     [NONE, NONE, NONE, NONE, NONE], // \x0a This
     [DECIMAL, NONE, NONE, NONE, NONE], // \x0b ParameterNumber
-    [DECLTYPE_AFTER_D, NONE, NONE, NONE, NONE], // \x0c ConvertedDecltype
+    [CONVERTED_AFTER_D, NONE, NONE, NONE, NONE], // \x0c ConvertedDecltype
     [CONVERTED_TYPE, NONE, NONE, NONE, NONE], // \x0d ConvertedConst
     [CONVERTED_TYPE, NONE, NONE, NONE, NONE], // \x0e ConvertedPointer
     [CONVERTED_TYPE, NONE, NONE, NONE, NONE], // \x0f ConvertedReference
