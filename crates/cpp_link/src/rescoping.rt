@@ -14,7 +14,7 @@ ghost use Rattle.cpp_grammar.specs.declared.production.Production.{Production as
 ghost use Rattle.cpp_grammar.specs.Rescoping.{is_by_all, generic_number};
 ghost use Rattle.cpp_grammar.specs.Unfolding.{production_at};
 ghost use Rattle.cpp_term.specs.Values as values;
-ghost use Rattle.cpp_term.specs.Rescoping.{is_foreign, is_module, module_named, restated, numbered, as_generic_lambda, between_wide};
+ghost use Rattle.cpp_term.specs.Rescoping.{is_foreign, module_named, restated, numbered, as_generic_lambda, between_wide};
 ghost use Rattle.cpp_tree.specs.Nodes.{over, tree_at, bytes_at, piece_of, IsThereBelow, IsPieceBelow, IsWithin, IsTable};
 ghost use Rattle.cpp_link.specs.Grows.{HasPlace};
 ghost use Rattle.cpp_link.specs.LinkRescoping.{is_parameter, is_parameter_argument, steps_apart, counted_before, counts_again, with_mark, going_marked, generic_read, number_in, named_by, substituted_nodes, wide_ends, wide_view};
@@ -34,7 +34,7 @@ use crate::dispatch::production_of;
 use crate::linked::Linked;
 use crate::part::{Candidate, Naming, Part, Step, Surroundings};
 use cpp_grammar::production::Production;
-use cpp_references::candidates::substituted;
+use cpp_references::candidates::{is_module, substituted};
 use cpp_references::elsewhere::argument_here;
 use cpp_tree::node::{Node, Piece};
 use cpp_tree::nodes::AUTO;
@@ -278,7 +278,7 @@ impl Linked {
     {
         match self.named_by_both(symbol, digits) {
             Some(candidate) => {
-                if self.is_module(symbol, candidate.node) {
+                if is_module(&self.nodes, symbol, candidate.node) {
                     return Some(candidate.node);
                 }
                 None
@@ -353,18 +353,6 @@ impl Linked {
         self.nodes.is_open(symbol, candidate.node) && (kept.in_lambda() || elsewhere)
     }
 
-    /// Whether a candidate is a module's name, which no `S` may name.
-    fn is_module(&self, symbol: &[u8], node: u32) -> bool
-        requires table { IsTable (over symbol.now self.now.nodes) }
-        requires below { node < length self.now.nodes.nodes }
-        ensures { result ≡ is_module (tree_at (trees_in symbol.now self.now.nodes) node) }
-    {
-        match self.nodes.node(symbol, node) {
-            Node::Operation { first, .. } => first == b'W',
-            _ => false,
-        }
-    }
-
     /// A tree that was made elsewhere, with the arguments that are meant here: an alias with another argument, which is one
     /// more node whatever the tree is.
     ///
@@ -431,9 +419,6 @@ impl Linked {
         let Some(candidate) = named else {
             return Err(Refusal::BadReference { at });
         };
-        if self.is_module(symbol, candidate.node) {
-            return Err(Refusal::BadReference { at });
-        }
         if self.is_foreign(symbol, kept, candidate) {
             return self.restate(symbol, kept, at, candidate.node);
         }

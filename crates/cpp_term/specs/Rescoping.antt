@@ -11,12 +11,12 @@ use Rattle.sym_shape.specs.Tree.{Tree, Forest}
 use Rattle.sym_link.specs.Reading.{Found, Reading, ◌>>=◌}
 use Rattle.sym_link.specs.Unfold.{found, unfold_tree}
 use Rattle.cpp_grammar.specs.declared.production.Production.{Production}
-use Rattle.cpp_term.specs.Term.{Term, instance, holder, lvalue, rvalue, parameter, lambda, generic_lambda, operation}
+use Rattle.cpp_term.specs.Term.{Term, instance, holder, lvalue, rvalue, parameter, lambda, generic_lambda}
 use Rattle.cpp_term.specs.Scope.{count, element, is_list, has_pack, is_open, free_in, pack_length}
 use Rattle.cpp_grammar.specs.Scope.{Free, none_free, one_free, several_free}
 use Rattle.cpp_term.specs.Values.{Candidate, State, Around, prefix_tree, prefix_listed, Value, nothing_there, tree, piece, pair, text, tree_of, is_listed, text_of, part}
 use Rattle.cpp_grammar.specs.Values.{Counted, by_all, by_newer, by_gcc, by_some, Lists, longer_list, shorter_list, no_list, Expected, prefix_at, qualified_at}
-use Rattle.cpp_term.specs.References.{appended, appended_by, with_packs, substituted}
+use Rattle.cpp_term.specs.References.{appended, appended_by, is_module, with_packs, substituted}
 use Rattle.cpp_term.specs.Between.{Going, next, inside, listed_so_far, parameter_so_far, argument_so_far, index_of, between}
 use Rattle.cpp_term.specs.Meaning.{meaning}
 use Rattle.cpp_term.specs.Unfolding.{opening, close, first_around, first_state, first_tree}
@@ -148,10 +148,6 @@ with_lists lists state = record state { counting = record state.counting { lists
 -- ## Modules
 
 -- A module's name is a candidate, which is named before a component of a nested name alone.
-unfoldable pub is_module : Term → Bool
-is_module (operation a b x y) = nat_eq a 87
-is_module _ = false
-
 unfoldable pub named_by_both : List Candidate → (number : ℕ) → Option Candidate
 named_by_both cs number = elim (nat_eq (place_in false cs number) (place_in true cs number)) [ true ↦ named_in false cs number | false ↦ None ]
 
@@ -206,12 +202,9 @@ restated around place t state = elim around.in_lambda [
 -- a substitution names a candidate
 unfoldable pub substituted_wide : Around → (place : ℕ) → Option Candidate → State → Result (Found Value State) Refusal
 substituted_wide around place None state = Err (BadReference place)
-substituted_wide around place (Some c) state = elim (is_module c.tree) [
-  | true ↦ Err (BadReference place)
-  | false ↦ elim (is_foreign around c) [
-    | true ↦ restated around place c.tree state
-    | false ↦ substituted around place (Some c) state
-  ]
+substituted_wide around place (Some c) state = elim (is_foreign around c) [
+  | true ↦ restated around place c.tree state
+  | false ↦ substituted around place (Some c) state
 ]
 
 -- by the list that is left
