@@ -278,7 +278,9 @@ impl Linked {
     {
         match self.named_by_both(symbol, digits) {
             Some(candidate) => {
-                if is_module(&self.nodes, symbol, candidate.node) {
+                if is_module(&self.nodes, symbol, candidate.node)
+                    && !self.nodes.is_open(symbol, candidate.node)
+                {
                     return Some(candidate.node);
                 }
                 None

@@ -147,13 +147,13 @@ with_lists lists state = record state { counting = record state.counting { lists
 
 -- ## Modules
 
--- A module's name is a candidate, which is named before a component of a nested name alone.
+-- A module's name is a candidate, which is named before a component of a nested name alone. It has no free parameters.
 unfoldable pub named_by_both : List Candidate → (number : ℕ) → Option Candidate
 named_by_both cs number = elim (nat_eq (place_in false cs number) (place_in true cs number)) [ true ↦ named_in false cs number | false ↦ None ]
 
 unfoldable pub module_of : Option Candidate → Option Term
 module_of None = None
-module_of (Some c) = elim (is_module c.tree) [ true ↦ Some c.tree | false ↦ None ]
+module_of (Some c) = elim (is_module c.tree && not (is_open c.tree)) [ true ↦ Some c.tree | false ↦ None ]
 
 unfoldable pub module_named : (number : ℕ) → State → Option Term
 module_named number state = module_of (named_by_both state.candidates number)
