@@ -17,7 +17,7 @@ use Rattle.cpp_grammar.specs.Values as plain
 use Rattle.cpp_term.specs.Term.{Term, parameter}
 use Rattle.cpp_term.specs.Scope.{count, element, is_open, length_if_pack, pack_length}
 use Rattle.cpp_term.specs.Values.{State, Around, Candidate, prefix_tree, prefix_listed, Value, nothing_there, tree, named, tree_of, is_listed, is_there, part}
-use Rattle.cpp_term.specs.References.{appended, is_function_type, with_type, with_unqualified, with_prefix, with_packs, substituted, parameter_named}
+use Rattle.cpp_term.specs.References.{appended, is_function_type, with_type, with_unqualified, with_prefix, with_packs, is_module, substituted, parameter_named}
 use Rattle.cpp_term.specs.Between.{Going, after, argument_at, index_of, between}
 use Rattle.cpp_term.specs.Meant.{made, meant, around_part, packs_within, gained, replaced, tested, done, state_after}
 use Rattle.cpp_term.specs.Meaning.{meaning}
@@ -262,7 +262,7 @@ pub substituted-none : (around : Around) (place : ℕ) (o : Option Candidate) (s
     → length one.state.candidates + unlisted one.value ≤ length state.candidates
 unfolding substituted unlisted is_listed
 substituted-none around place None state one e = absurd cc
-substituted-none around place (Some c) state one e = go (is_open c.tree && (around.in_lambda || not (nat_eq c.encoding around.encoding))) e
+substituted-none around place (Some c) state one e = go (is_module c.tree || (is_open c.tree && (around.in_lambda || not (nat_eq c.encoding around.encoding)))) e
   where
     go : (b : Bool) → ◌≡◌ {A = Result (Found Value State) Refusal} (elim b [
       | true ↦ Err (BadReference place)
