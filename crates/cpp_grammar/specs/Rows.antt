@@ -108,6 +108,72 @@ const is = is
 -- ## The rows, each below its production in the ABI
 
 unfoldable pub row_of : Production → Row
+-- <expression>*
+row_of Production.Expressions = plain (own elements (nodes 2))
+-- an operator of two letters, between the elements of a pack
+row_of Production.FoldOperatorL = plain (a_piece (of new_operator (taken ∷ letter_at 0 ∷ [])))
+-- <fold-expr>, the pack that it folds
+row_of Production.FoldOperand = plain (makes (of new_operation (fixed 40 ∷ fixed 41 ∷ tree_at 0 ∷ no_tree ∷ [])) listed)
+-- <expression>, a pack by itself
+row_of Production.FoldPack = with_own_packs (after_steps (enters under_it ∷ []) (makes (of new_expansion (tree_at 0 ∷ [])) listed))
+-- <type>, a pack by itself
+row_of Production.TypePack = with_own_packs (after_steps (enters under_it ∷ []) (makes (of new_expansion (tree_at 0 ∷ [])) listed))
+-- <braced-expression> ::= di .. | dx .., after a designator
+row_of Production.Designators = plain (own by_letters (nodes 1))
+-- <braced-expression> ::= <expression>, after a designator
+row_of Production.DesignatedValue = plain (makes (of new_operation (fixed 61 ∷ fixed 32 ∷ tree_at 0 ∷ no_tree ∷ [])) listed)
+-- <field source-name>
+row_of Production.FieldName = plain (makes (of new_vendor (text_at 0 ∷ [])) listed)
+-- after new where it is placed, which may not be said
+row_of Production.Placed = plain (makes (of new_operation (fixed 110 ∷ fixed 40 ∷ tree_at 0 ∷ no_tree ∷ [])) listed)
+-- <initializer> ::= pi <expression>* E
+row_of Production.Initializer = plain (own by_letters (nodes 1))
+-- <initializer> ::= il <expression>* E
+row_of Production.BracedInitializer = plain (own by_letters (nodes 1))
+-- <function-param> ::= fpT
+row_of Production.This = plain (makes (of new_operation (fixed 102 ∷ fixed 84 ∷ no_tree ∷ no_tree ∷ [])) listed)
+-- <function-param> ::= fp [<number>] _, its number
+row_of Production.ParameterNumber = plain (makes (of new_function_parameter (digits_at 0 ∷ [])) listed)
+-- <type> ::= <decltype>, or <builtin-type> ::= Da | Dc
+row_of Production.ConvertedDecltype = gains (type_of 0) (plain (finished 0))
+-- <type> ::= K <type>
+row_of Production.ConvertedConst = gains itself (plain (makes (of new_qualified (qualified_by (restrict no) (volatile no) (const yes) ∷ tree_at 0 ∷ [])) listed))
+-- <type> ::= P <type>
+row_of Production.ConvertedPointer = gains itself (plain (makes (of new_pointer (tree_at 0 ∷ [])) listed))
+-- <type> ::= R <type> | O <type>
+row_of Production.ConvertedReference = gains itself (plain (own reference (nodes 1)))
+-- <type>
+row_of Production.ConvertedType = gains (type_of 0) (plain (finished 0))
+-- <type> ::= <template-param> [<template-args>]
+row_of Production.ConvertedWithT = plain (handed 0)
+-- <unresolved-name> ::= sr <unresolved-type> <base-unresolved-name>
+row_of Production.UnresolvedInType = after_steps (quiet ∷ goes (type_of 0) as_before ∷ []) (makes (of new_operation (fixed 115 ∷ fixed 114 ∷ tree_at 0 ∷ tree_at 1 ∷ [])) listed)
+-- <unresolved-name> ::= sr <unresolved-qualifier-level>+ E <base-unresolved-name>
+row_of Production.Levels = plain (makes (of new_operation (fixed 115 ∷ fixed 114 ∷ tree_at 0 ∷ tree_at 1 ∷ [])) listed)
+-- <destructor-name> ::= <unresolved-type> | <simple-id>
+row_of Production.DestroyedType = gains (type_of 0) (plain (finished 0))
+-- <requirement> ::= X <expression> [N] [R <type-constraint>]
+row_of Production.ExpressionRequirement = plain the_byte
+-- <requirement> ::= T <type>
+row_of Production.TypeRequirement = plain the_byte
+-- <requirement> ::= Q <constraint-expression>
+row_of Production.NestedRequirement = plain the_byte
+-- <requirement> ::= X <expression> [N] R <type-constraint>, from the R on
+row_of Production.ResultRequirement = plain the_byte
+-- <requirement> ::= X <expression> N [R <type-constraint>], from the N on
+row_of Production.NoexceptRequirement = plain the_byte
+-- <expression> ::= rQ <bare-function-type> _ <requirement>+ E, a type of it
+row_of Production.RequiredType = plain (handed 1)
+-- <unresolved-name> ::= sr <unresolved-qualifier-level>+ E <base-unresolved-name>, from the E on
+row_of Production.LevelsEnd = plain (handed 0)
+-- <base-unresolved-name> ::= on <operator-name> [<template-args>], after the o
+row_of Production.UnresolvedOperator = plain (handed 0)
+-- <array-type>, with a length that is a parameter, or a number, or isn't said
+row_of Production.AnyArray = plain (handed 0)
+-- <array-type> ::= A <number> _ <element type>, after the A
+row_of Production.LengthArray = plain (makes (of new_array (digits_at 0 ∷ tree_at 1 ∷ [])) unlisted)
+-- <special-name> ::= TA <template-arg>
+row_of Production.ParameterObject = plain (makes (of new_special (taken ∷ tree_at 0 ∷ [])) listed)
 -- one letter, as a qualifier or the second of an operator
 row_of Production.Mark = plain the_byte
 -- <unscoped-name> ::= L <source-name>, perhaps with <template-args>
@@ -153,10 +219,6 @@ row_of Production.VirtualThunk = plain (own virtual_thunk (nodes 1))
 row_of Production.CovariantThunk = plain (own covariant_thunk (nodes 1))
 -- <special-name> ::= TH <object name> | TW <object name>
 row_of Production.SpecialName = plain (makes (of new_of_name (taken ∷ tree_at 0 ∷ qualifiers_at 0 ∷ ref_at 0 ∷ [])) listed)
--- <special-name> ::= TA <template-arg>
-row_of Production.ParameterObject = plain (makes (of new_special (taken ∷ tree_at 0 ∷ [])) listed)
--- <special-name> ::= TC <derived type> <offset number> _ <base type>
-row_of Production.ConstructionVtable = plain (makes (of new_construction (tree_at 0 ∷ digits_at 1 ∷ tree_at 3 ∷ [])) listed)
 -- <call-offset> ::= h <nv-offset> _
 row_of Production.NonVirtualOffset = plain (own non_virtual_offset (nodes 0))
 -- <call-offset> ::= v <offset number> _ <virtual offset number> _
@@ -186,10 +248,6 @@ row_of Production.NestInternal = after_steps (quiet ∷ becomes_name (extending 
 row_of Production.NestLocalType = after_steps (quiet ∷ becomes_name (extending (only (piece_at 0))) ∷ []) (handed 1)
 -- <prefix> ::= <source-name>
 row_of Production.NestSource = after_steps (quiet ∷ becomes_name (extending (of new_source (no ∷ text_at 0 ∷ []))) ∷ []) (handed 1)
--- <prefix> ::= <module-name> <unqualified-name>
-row_of Production.NestModule = after_steps (quiet ∷ enters (after_part 0 unlisted) ∷ []) (handed 1)
--- <prefix> ::= <decltype>
-row_of Production.NestDecltype = after_steps (quiet ∷ enters (after_part 0 (as_part 0)) ∷ []) (handed 1)
 -- <prefix> ::= St <unqualified-name>
 row_of Production.NestStd = after_steps (quiet ∷ becomes_name (of new_in_std (piece_at 0 ∷ [])) ∷ becomes_name (applying (only (tree_at 0)) (arguments 1)) ∷ []) (handed 2)
 -- <prefix> ::= <substitution>, and what is within it, or <template-prefix> ::= <substitution>, and its arguments
@@ -198,8 +256,6 @@ row_of Production.NestTemplate = after_steps (quiet ∷ becomes_listed_name (onl
 row_of Production.NestArguments = after_steps (goes the_prefix nameless ∷ quiet ∷ becomes_name_and_candidate (of new_instance (the_name ∷ list_at 0 ∷ [])) ∷ enters (after_part 2 unlisted) ∷ []) (handed 3)
 -- <prefix> ::= <prefix> <unqualified-name>; each proper prefix is a candidate
 row_of Production.NestNext = after_steps (goes the_prefix as_before ∷ enters (after_part 0 unlisted) ∷ []) (handed 1)
--- <prefix> ::= <prefix> <abi-tags>; a name without its tags is no candidate
-row_of Production.NestTag = after_steps (quiet ∷ becomes_name (tagging 0) ∷ []) (handed 1)
 -- <nested-name> ::= N .. E
 row_of Production.NestEnd = plain (own nest_end (nodes 0))
 -- <ctor-dtor-name> ::= C1 | C2 | .., which begins with C
@@ -210,12 +266,6 @@ row_of Production.Destructor = after_steps (quiet ∷ becomes_name (extending (o
 row_of Production.ComponentWithC = plain (handed 0)
 -- <unqualified-name> ::= <operator-name>, within a nested name, perhaps with <template-args>
 row_of Production.OtherOperatorName = after_steps (quiet ∷ becomes_name (extending (only (piece_at 0))) ∷ []) (a_name unlisted)
--- <prefix> ::= <data-member-prefix> <unqualified-name>, with <data-member-prefix> ::= <prefix> M
-row_of Production.Holder = after_steps (quiet ∷ holds ∷ []) (handed 1)
--- <unqualified-name> ::= F <source-name> | F <operator-name>, a friend, perhaps with <template-args>
-row_of Production.Friend = after_steps (quiet ∷ becomes_name (extending (only (piece_at 0))) ∷ []) (a_name unlisted)
--- <ctor-dtor-name> ::= CI1 <base class type> | CI2 <base class type>, after the C, perhaps with <template-args>
-row_of Production.Inheriting = after_steps (quiet ∷ enters nameless ∷ []) (own inheriting (nodes 2))
 -- <ctor-dtor-name> ::= C1 | C2 | C3, after the C
 row_of Production.Constructor = after_steps (quiet ∷ becomes_name (extending (of new_constructor (letter_at 0 ∷ []))) ∷ []) (a_name unlisted)
 -- <substitution> ::= Sa | Sb | Ss | Si | So | Sd
@@ -226,10 +276,6 @@ row_of Production.Substitution = plain (own substitution (nodes 2))
 row_of Production.NestedType = plain (handed 0)
 -- <local-name> ::= Z <function encoding> E s [<discriminator>]
 row_of Production.StringLiteral = plain (makes (extending (of new_string_literal [])) listed)
--- <local-name> ::= Z <function encoding> E d [<parameter number>] _ <entity name>
-row_of Production.DefaultEntity = plain (own in_default (nodes 1))
--- <local-name> ::= Z <function encoding> E d [<parameter number>] _ <entity name>, as a type
-row_of Production.DefaultTypeEntity = plain (own in_default (nodes 1))
 -- <discriminator> ::= _ <digit> | __ <number> _
 row_of Production.Discriminator = plain (handed 0)
 -- <discriminator> ::= _ <digit>, after its _
@@ -240,8 +286,6 @@ row_of Production.ManyDigits = plain (own many_digits (nodes 0))
 row_of Production.Lambda = with_number_tested (throughout (enters in_a_signature) (own closure (nodes 1)))
 -- <unnamed-type-name> ::= Ut [ <nonnegative number> ] _
 row_of Production.Unnamed = with_number_tested (plain (a_piece (of new_unnamed (number_at 0 ∷ []))))
--- <unnamed-type-name> ::= Ue <underlying type> <source-name of the first enumerator>
-row_of Production.Enumeration = after_steps (enters nameless ∷ []) (a_piece (of new_enumeration (tree_at 0 ∷ text_at 1 ∷ [])))
 -- <CV-qualifiers> ::= [r] [V] [K]; what they qualify is without more of them, and no candidate
 row_of Production.RestrictType = gains itself (plain (makes (of new_qualified (qualified_by (restrict yes) (volatile (there_at 0)) (const (there_at 1)) ∷ tree_at 2 ∷ [])) listed))
 -- <CV-qualifiers> ::= V [K]
@@ -272,14 +316,8 @@ row_of Production.Vector = plain (makes (of new_vector (digits_at 0 ∷ tree_at 
 row_of Production.NoexceptFunction = plain (makes (of new_function_type (there_at 1 ∷ yes ∷ ref_at 3 ∷ tree_at 2 ∷ parameters_at 3 ∷ [])) unlisted)
 -- <builtin-type> ::= DF <number> _ | DF <number> x | DF <number> b
 row_of Production.SizedFloat = plain (makes (of new_sized_float (digits_at 0 ∷ letter_at 1 ∷ [])) listed)
--- <builtin-type> ::= Dk <type-constraint> | DK <type-constraint>
-row_of Production.ConstrainedAuto = plain (makes (of new_constrained (taken ∷ tree_at 0 ∷ [])) listed)
--- <builtin-type> ::= DB <number> _ | DU <number> _
-row_of Production.BitInt = plain (makes (of new_operation (fixed 68 ∷ taken ∷ tree_at 0 ∷ no_tree ∷ [])) listed)
 -- <decltype> ::= Dt <expression> E | DT <expression> E
 row_of Production.Decltype = plain (makes (of new_decltype (tree_at 0 ∷ [])) unlisted)
--- <type> ::= Dy <type> <expression>
-row_of Production.IndexedType = plain (makes (of new_operation (fixed 68 ∷ fixed 121 ∷ tree_at 0 ∷ tree_at 1 ∷ [])) unlisted)
 -- <type> ::= P <type>
 row_of Production.Pointer = plain (makes (of new_pointer (tree_at 0 ∷ [])) unlisted)
 -- <pointer-to-member-type> ::= M <class type> <member type>
@@ -320,14 +358,10 @@ row_of Production.RefEnd = plain (own no_value (nodes 0))
 row_of Production.LvalueItem = after_steps (quiet ∷ becomes_candidate (of new_lvalue (tree_at 0 ∷ [])) ∷ []) (item (first 0) (rest 1))
 -- <type> ::= O <type>, a parameter, and those after it
 row_of Production.RvalueItem = after_steps (quiet ∷ becomes_candidate (of new_rvalue (tree_at 0 ∷ [])) ∷ []) (item (first 0) (rest 1))
--- Q <constraint-expression>. What it says isn't in the tree; parameters in it are those of no encoding, as in a lambda's signature
-row_of Production.Constraint = throughout (enters in_a_signature) (own no_value (nodes 0))
 -- <bare-function-type> ::= <signature type>+, perhaps with what is asked of the template's arguments
 row_of Production.Items = plain (cell (first 0) (rest 1))
 -- <template-args> ::= I <template-arg>* E; the template name before them is a candidate
 row_of Production.Arguments = after_steps (goes the_prefix nameless ∷ []) (makes (only (list_at 0)) listed)
--- <unqualified-name> ::= <unqualified-name> <abi-tags>, perhaps with <template-args>; a name without its tags is no candidate
-row_of Production.Tag = after_steps (quiet ∷ becomes_name (tagging 0) ∷ []) in_place
 -- <template-arg> ::= J <template-arg>* E
 row_of Production.PackArgument = after_steps (quiet ∷ becomes_listed (packing 0) ∷ []) (cell (first 0) (rest 2))
 -- <template-arg> ::= <expr-primary>
@@ -346,22 +380,14 @@ row_of Production.BoolLiteral = plain (makes (of new_boolean (letter_is 0 (lette
 row_of Production.LiteralWithD = plain (handed 0)
 -- <expr-primary> ::= L <type> <value number> E
 row_of Production.IntegerLiteral = after_steps (quiet ∷ goes (type_of 0) as_before ∷ []) (makes (of new_integer (tree_at 0 ∷ signed_at 1 ∷ [])) listed)
--- <expr-primary> ::= L <type> <value float> E
-row_of Production.FloatLiteral = plain (makes (of new_operation (fixed 76 ∷ fixed 102 ∷ tree_at 0 ∷ tree_at 1 ∷ [])) listed)
 -- <expr-primary> ::= LDn [0] E
 row_of Production.NullLiteral = plain (makes (of new_null_pointer []) listed)
 -- <expr-primary> ::= L <type> <value number> E, of char8_t, char16_t or char32_t
 row_of Production.CharLiteral = plain (own character (nodes 2))
--- <expr-primary> ::= L <type> <value float> E, of a type of a size that is said
-row_of Production.SizedFloatLiteral = plain (makes (of new_operation (fixed 76 ∷ fixed 102 ∷ tree_at 0 ∷ tree_at 1 ∷ [])) listed)
 -- <value float>, as digits of base 16
 row_of Production.HexText = plain (makes (of new_vendor (text_at 0 ∷ [])) listed)
 -- <value float>, digit by digit
 row_of Production.HexDigit = plain (own suffix (nodes 0))
--- <type> ::= <CV-qualifiers> <type>
-row_of Production.VolatileLiteral = gains itself (plain (makes (of new_qualified (qualified_by (restrict no) (volatile yes) (const (there_at 0)) ∷ tree_at 1 ∷ [])) listed))
--- <type> ::= <CV-qualifiers> <type>, with K alone
-row_of Production.ConstLiteral = gains itself (plain (makes (of new_qualified (qualified_by (restrict no) (volatile no) (const yes) ∷ tree_at 0 ∷ [])) listed))
 -- <type>, after its qualifiers
 row_of Production.QualifiedLiteral = gains (unqualified_of 0) (plain (finished 0))
 -- <operator-name> ::= n and a second letter
@@ -401,8 +427,6 @@ row_of Production.FirstModule = after_steps (quiet ∷ becomes (of new_operation
 row_of Production.NamedModule = after_steps (quiet ∷ unread ∷ []) (either (preferred 1) (otherwise 0))
 -- <module-name> ::= <module-name> W [P] <source-name>
 row_of Production.MoreModule = after_steps (quiet ∷ quiet ∷ becomes (of new_operation (fixed 87 ∷ letter_or 0 87 ∷ the_name ∷ tree_at 1 ∷ [])) true true true ∷ []) (either (preferred 2) (otherwise 0))
--- <operator-name> ::= cv <type>
-row_of Production.Conversion = after_steps (enters nameless ∷ []) (makes (extending (of new_conversion (tree_at 0 ∷ []))) unlisted)
 -- <unqualified-name> ::= <operator-name>, within a nested name, after a c
 row_of Production.OperatorNameWithC = after_steps (quiet ∷ becomes_name (extending (of new_operator (fixed 99 ∷ letter_at 0 ∷ []))) ∷ []) (a_name unlisted)
 -- arguments after a name from which on not all compilers count alike: those of a constructor that is inherited, after its base class, and those
@@ -418,18 +442,10 @@ row_of Production.UnnestedWithS = plain (handed 0)
 row_of Production.TaggedSource = after_steps (quiet ∷ becomes_name (extending (of new_source (no ∷ text_at 0 ∷ []))) ∷ []) (a_name unlisted)
 -- <template-args>, of the base class, and then of the constructor
 row_of Production.BaseArguments = after_steps (goes the_prefix nameless ∷ quiet ∷ becomes_name (of new_instance (the_name ∷ list_at 0 ∷ [])) ∷ []) (either (preferred 2) (otherwise 0))
--- <special-name> ::= GR <object name> _, the first temporary whose life the object prolongs
-row_of Production.Temporary = plain (makes (of new_of_name (taken ∷ tree_at 0 ∷ qualifiers_at 0 ∷ ref_at 0 ∷ [])) listed)
--- <special-name> ::= GI <module-name>
-row_of Production.ModuleInitializer = plain (makes (of new_special (fixed 77 ∷ tree_at 1 ∷ [])) listed)
--- <special-name> ::= GTt <encoding> | GTn <encoding>, after the G
-row_of Production.Clone = plain (makes (of new_clone (letter_at 0 ∷ tree_at 1 ∷ [])) listed)
 -- <local-name> ::= Z <function encoding> E <entity name>, before the number of a temporary
 row_of Production.LocalTemporary = after_first (quiet ∷ []) (enters (after_part 0 listed)) (own local_name (nodes 1))
 -- <unscoped-name> ::= St <unqualified-name>, as a type, perhaps with <abi-tags>
 row_of Production.TaggedStdType = after_steps (quiet ∷ becomes_name (of new_in_std (piece_at 0 ∷ [])) ∷ []) (a_name unlisted)
--- <unqualified-name> ::= <unqualified-name> <abi-tags>, in std as a type
-row_of Production.TypeTag = after_steps (quiet ∷ becomes_name (tagging 0) ∷ []) in_place
 -- <template-arg> ::= X <expression> E
 row_of Production.Expression = plain (own enclosed (nodes 1))
 -- <template-arg> ::= <template-param> [<template-args>] | <template-param-decl> <template-arg>
@@ -438,8 +454,6 @@ row_of Production.ArgumentWithT = gains (type_of 0) (plain (finished 0))
 row_of Production.PlainArgument = gains (type_of 0) (plain (finished 0))
 -- <template-param> ::= T_ | T <parameter number> _, after the T
 row_of Production.ParameterArgument = after_steps (quiet ∷ tests_parameter_after_t ∷ []) (a_name (unless_there 1))
--- <template-arg> ::= <template-param-decl> <template-arg>, after the T; what is declared of it isn't in the tree
-row_of Production.DeclaredArgument = plain (finished 1)
 -- <template-param> ::= TL <level> _ _ | TL <level> _ <parameter number> _, after the T
 row_of Production.LeveledParameter = plain (handed 1)
 -- <template-arg> ::= <expr-primary>
@@ -558,69 +572,55 @@ row_of Production.ParameterExpression = after_steps (quiet ∷ tests_operand_aft
 row_of Production.LeveledExpression = plain (handed 1)
 -- <expression> ::= <expr-primary>, whose address is taken
 row_of Production.AddressedLiteral = plain (handed 0)
--- <expression>*
-row_of Production.Expressions = plain (own elements (nodes 2))
--- an operator of two letters, between the elements of a pack
-row_of Production.FoldOperatorL = plain (a_piece (of new_operator (taken ∷ letter_at 0 ∷ [])))
--- <fold-expr>, the pack that it folds
-row_of Production.FoldOperand = plain (makes (of new_operation (fixed 40 ∷ fixed 41 ∷ tree_at 0 ∷ no_tree ∷ [])) listed)
--- <expression>, a pack by itself
-row_of Production.FoldPack = with_own_packs (after_steps (enters under_it ∷ []) (makes (of new_expansion (tree_at 0 ∷ [])) listed))
--- <type>, a pack by itself
-row_of Production.TypePack = with_own_packs (after_steps (enters under_it ∷ []) (makes (of new_expansion (tree_at 0 ∷ [])) listed))
--- <braced-expression> ::= di .. | dx .., after a designator
-row_of Production.Designators = plain (own by_letters (nodes 1))
--- <braced-expression> ::= <expression>, after a designator
-row_of Production.DesignatedValue = plain (makes (of new_operation (fixed 61 ∷ fixed 32 ∷ tree_at 0 ∷ no_tree ∷ [])) listed)
--- <field source-name>
-row_of Production.FieldName = plain (makes (of new_vendor (text_at 0 ∷ [])) listed)
--- after new where it is placed, which may not be said
-row_of Production.Placed = plain (makes (of new_operation (fixed 110 ∷ fixed 40 ∷ tree_at 0 ∷ no_tree ∷ [])) listed)
--- <initializer> ::= pi <expression>* E
-row_of Production.Initializer = plain (own by_letters (nodes 1))
--- <initializer> ::= il <expression>* E
-row_of Production.BracedInitializer = plain (own by_letters (nodes 1))
--- <function-param> ::= fpT
-row_of Production.This = plain (makes (of new_operation (fixed 102 ∷ fixed 84 ∷ no_tree ∷ no_tree ∷ [])) listed)
--- <function-param> ::= fp [<number>] _, its number
-row_of Production.ParameterNumber = plain (makes (of new_function_parameter (digits_at 0 ∷ [])) listed)
--- <type> ::= <decltype>, or <builtin-type> ::= Da | Dc
-row_of Production.ConvertedDecltype = gains (type_of 0) (plain (finished 0))
--- <type> ::= K <type>
-row_of Production.ConvertedConst = gains itself (plain (makes (of new_qualified (qualified_by (restrict no) (volatile no) (const yes) ∷ tree_at 0 ∷ [])) listed))
--- <type> ::= P <type>
-row_of Production.ConvertedPointer = gains itself (plain (makes (of new_pointer (tree_at 0 ∷ [])) listed))
--- <type> ::= R <type> | O <type>
-row_of Production.ConvertedReference = gains itself (plain (own reference (nodes 1)))
--- <type>
-row_of Production.ConvertedType = gains (type_of 0) (plain (finished 0))
--- <type> ::= <template-param> [<template-args>]
-row_of Production.ConvertedWithT = plain (handed 0)
--- <unresolved-name> ::= sr <unresolved-type> <base-unresolved-name>
-row_of Production.UnresolvedInType = after_steps (quiet ∷ goes (type_of 0) as_before ∷ []) (makes (of new_operation (fixed 115 ∷ fixed 114 ∷ tree_at 0 ∷ tree_at 1 ∷ [])) listed)
--- <unresolved-name> ::= sr <unresolved-qualifier-level>+ E <base-unresolved-name>
-row_of Production.Levels = plain (makes (of new_operation (fixed 115 ∷ fixed 114 ∷ tree_at 0 ∷ tree_at 1 ∷ [])) listed)
--- <destructor-name> ::= <unresolved-type> | <simple-id>
-row_of Production.DestroyedType = gains (type_of 0) (plain (finished 0))
--- <requirement> ::= X <expression> [N] [R <type-constraint>]
-row_of Production.ExpressionRequirement = plain the_byte
--- <requirement> ::= T <type>
-row_of Production.TypeRequirement = plain the_byte
--- <requirement> ::= Q <constraint-expression>
-row_of Production.NestedRequirement = plain the_byte
--- <requirement> ::= X <expression> [N] R <type-constraint>, from the R on
-row_of Production.ResultRequirement = plain the_byte
--- <requirement> ::= X <expression> N [R <type-constraint>], from the N on
-row_of Production.NoexceptRequirement = plain the_byte
--- <expression> ::= rQ <bare-function-type> _ <requirement>+ E, a type of it
-row_of Production.RequiredType = plain (handed 1)
--- <unresolved-name> ::= sr <unresolved-qualifier-level>+ E <base-unresolved-name>, from the E on
-row_of Production.LevelsEnd = plain (handed 0)
--- <base-unresolved-name> ::= on <operator-name> [<template-args>], after the o
-row_of Production.UnresolvedOperator = plain (handed 0)
--- <array-type>, with a length that is a parameter, or a number, or isn't said
-row_of Production.AnyArray = plain (handed 0)
 -- <array-type> ::= A <expression> _ <element type>, after the A
 row_of Production.BoundedArray = plain (makes (of new_bounded (tree_at 0 ∷ tree_at 2 ∷ [])) unlisted)
--- <array-type> ::= A <number> _ <element type>, after the A
-row_of Production.LengthArray = plain (makes (of new_array (digits_at 0 ∷ tree_at 1 ∷ [])) unlisted)
+-- <template-arg> ::= <template-param-decl> <template-arg>, after the T; what is declared of it isn't in the tree
+row_of Production.DeclaredArgument = plain (finished 1)
+-- <unqualified-name> ::= <unqualified-name> <abi-tags>, in std as a type
+row_of Production.TypeTag = after_steps (quiet ∷ becomes_name (tagging 0) ∷ []) in_place
+-- <special-name> ::= GTt <encoding> | GTn <encoding>, after the G
+row_of Production.Clone = plain (makes (of new_clone (letter_at 0 ∷ tree_at 1 ∷ [])) listed)
+-- <special-name> ::= GI <module-name>
+row_of Production.ModuleInitializer = plain (makes (of new_special (fixed 77 ∷ tree_at 1 ∷ [])) listed)
+-- <special-name> ::= GR <object name> _, the first temporary whose life the object prolongs
+row_of Production.Temporary = plain (makes (of new_of_name (taken ∷ tree_at 0 ∷ qualifiers_at 0 ∷ ref_at 0 ∷ [])) listed)
+-- <operator-name> ::= cv <type>
+row_of Production.Conversion = after_steps (enters nameless ∷ []) (makes (extending (of new_conversion (tree_at 0 ∷ []))) unlisted)
+-- <type> ::= <CV-qualifiers> <type>, with K alone
+row_of Production.ConstLiteral = gains itself (plain (makes (of new_qualified (qualified_by (restrict no) (volatile no) (const yes) ∷ tree_at 0 ∷ [])) listed))
+-- <type> ::= <CV-qualifiers> <type>
+row_of Production.VolatileLiteral = gains itself (plain (makes (of new_qualified (qualified_by (restrict no) (volatile yes) (const (there_at 0)) ∷ tree_at 1 ∷ [])) listed))
+-- <expr-primary> ::= L <type> <value float> E, of a type of a size that is said
+row_of Production.SizedFloatLiteral = plain (makes (of new_operation (fixed 76 ∷ fixed 102 ∷ tree_at 0 ∷ tree_at 1 ∷ [])) listed)
+-- <expr-primary> ::= L <type> <value float> E
+row_of Production.FloatLiteral = plain (makes (of new_operation (fixed 76 ∷ fixed 102 ∷ tree_at 0 ∷ tree_at 1 ∷ [])) listed)
+-- <unqualified-name> ::= <unqualified-name> <abi-tags>, perhaps with <template-args>; a name without its tags is no candidate
+row_of Production.Tag = after_steps (quiet ∷ becomes_name (tagging 0) ∷ []) in_place
+-- Q <constraint-expression>. What it says isn't in the tree; parameters in it are those of no encoding, as in a lambda's signature
+row_of Production.Constraint = throughout (enters in_a_signature) (own no_value (nodes 0))
+-- <type> ::= Dy <type> <expression>
+row_of Production.IndexedType = plain (makes (of new_operation (fixed 68 ∷ fixed 121 ∷ tree_at 0 ∷ tree_at 1 ∷ [])) unlisted)
+-- <builtin-type> ::= DB <number> _ | DU <number> _
+row_of Production.BitInt = plain (makes (of new_operation (fixed 68 ∷ taken ∷ tree_at 0 ∷ no_tree ∷ [])) listed)
+-- <builtin-type> ::= Dk <type-constraint> | DK <type-constraint>
+row_of Production.ConstrainedAuto = plain (makes (of new_constrained (taken ∷ tree_at 0 ∷ [])) listed)
+-- <unnamed-type-name> ::= Ue <underlying type> <source-name of the first enumerator>
+row_of Production.Enumeration = after_steps (enters nameless ∷ []) (a_piece (of new_enumeration (tree_at 0 ∷ text_at 1 ∷ [])))
+-- <local-name> ::= Z <function encoding> E d [<parameter number>] _ <entity name>, as a type
+row_of Production.DefaultTypeEntity = plain (own in_default (nodes 1))
+-- <local-name> ::= Z <function encoding> E d [<parameter number>] _ <entity name>
+row_of Production.DefaultEntity = plain (own in_default (nodes 1))
+-- <ctor-dtor-name> ::= CI1 <base class type> | CI2 <base class type>, after the C, perhaps with <template-args>
+row_of Production.Inheriting = after_steps (quiet ∷ enters nameless ∷ []) (own inheriting (nodes 2))
+-- <unqualified-name> ::= F <source-name> | F <operator-name>, a friend, perhaps with <template-args>
+row_of Production.Friend = after_steps (quiet ∷ becomes_name (extending (only (piece_at 0))) ∷ []) (a_name unlisted)
+-- <prefix> ::= <data-member-prefix> <unqualified-name>, with <data-member-prefix> ::= <prefix> M
+row_of Production.Holder = after_steps (quiet ∷ holds ∷ []) (handed 1)
+-- <prefix> ::= <prefix> <abi-tags>; a name without its tags is no candidate
+row_of Production.NestTag = after_steps (quiet ∷ becomes_name (tagging 0) ∷ []) (handed 1)
+-- <prefix> ::= <decltype>
+row_of Production.NestDecltype = after_steps (quiet ∷ enters (after_part 0 (as_part 0)) ∷ []) (handed 1)
+-- <prefix> ::= <module-name> <unqualified-name>
+row_of Production.NestModule = after_steps (quiet ∷ enters (after_part 0 unlisted) ∷ []) (handed 1)
+-- <special-name> ::= TC <derived type> <offset number> _ <base type>
+row_of Production.ConstructionVtable = plain (makes (of new_construction (tree_at 0 ∷ digits_at 1 ∷ tree_at 3 ∷ [])) listed)

@@ -362,9 +362,7 @@ const SEQ36: Sym = Sym::Number(NumberKind::Seq36);
 
 const DIGITS: Sym = Sym::Number(NumberKind::Digits);
 
-/// The letter of the production with number 0; the others have the bytes after it, in the order of their numbers. After the
-/// byte 255 they go on at 0.
-pub const FIRST_LETTER: u8 = b'!';
+// The letter of a production is the byte with its number. The production with the number of the blank has none here.
 
 // For each kind a row: for each byte from `$` to `z` the letter of the production that the kind takes there.
 static LETTERS: [[u8; 87]; 172] = [
@@ -375,62 +373,62 @@ static LETTERS: [[u8; 87]; 172] = [
     *b".         . ..........       ..........................    . ..........................", // SuffixMore
     *b"            1111111111             0    1 1    1/1    1      1 111 1 1  11111 11       ", // Encoding
     *b"                                     2         22 2            5    3             4    ", // Special
-    *b"                                                                    9             :    ", // CallOffset
-    *b"            <<<<<<<<<<                                                    ;            ", // Integer
-    *b"            $$$$$$$$$$                  \" +    = #    >      % %%% % %  %%%%% %%       ", // CompleteName
+    *b"                                                                    7             8    ", // CallOffset
+    *b"            ::::::::::                                                    9            ", // Integer
+    *b"            $$$$$$$$$$                  \" +    ; #    <      % %%% % %  %%%%% %%       ", // CompleteName
     *b"                                                                              !        ", // MaybeRestrict
     *b"                                                  !                                    ", // MaybeVolatile
     *b"                                       !                                               ", // MaybeConst
     *b"                                           !  !                                        ", // MaybeRef
-    *b"            @@@@@@@@@@       @@@@@@@@@@@@@@@@@@@@@@@@@@    @ @@ @    @     @   @?      ", // NameAfterS
-    *b"            ((((((((((                  &        '           A AAA A A  AAAAA AA       ", // Unqualified
-    *b"            FFFFFFFFFF                  D      BCE                                     ", // Nest
-    *b"            JJJJJJJJJJ       JJJJJJJJJJJJJJJJJJJJJJJJJJ    J JJ J    J     J   JI      ", // NestAfterS
-    *b"            LLLLLLLLLL         LL    K  L        L           L LLL L L  LLLLL LL       ", // NestRest
-    *b"            LLLLLLLLLL         LLN      L        L           L LLL L L  LLLLL LL       ", // NestTail
-    *b"            $$$$$$$$$$         OP       \"        #           R QRR R R  RRRRR RR       ", // Component
-    *b"             VVV                                                                       ", // ConstructorAfterC
+    *b"            >>>>>>>>>>       >>>>>>>>>>>>>>>>>>>>>>>>>>    > >> >    >     >   >=      ", // NameAfterS
+    *b"            ((((((((((                  &        '           ? ??? ? ?  ????? ??       ", // Unqualified
+    *b"            DDDDDDDDDD                  B      @AC                                     ", // Nest
+    *b"            FFFFFFFFFF       FFFFFFFFFFFFFFFFFFFFFFFFFF    F FF F    F     F   FE      ", // NestAfterS
+    *b"            HHHHHHHHHH         HH    G  H        H           H HHH H H  HHHHH HH       ", // NestRest
+    *b"            HHHHHHHHHH         HHI      H        H           H HHH H H  HHHHH HH       ", // NestTail
+    *b"            $$$$$$$$$$         JK       \"        #           M LMM M M  MMMMM MM       ", // Component
+    *b"             NNN                                                                       ", // ConstructorAfterC
     *b"             !!!                                                                       ", // ConstructorDigit
     *b"             !! !!                                                                     ", // InheritedDigit
     *b"            !!!                                                                        ", // DestructorDigit
-    *b"            XXXXXXXXXX       XXXXXXXXXXXXXXXXXXXXXXXXXX    X WW W    W     W   W       ", // Abbreviation
-    *b"            $$$$$$$$$$                  \" +      #                             Z       ", // Entity
-    *b"            $$$$$$$$$$                  \" Y      #                                     ", // TypeEntity
-    *b"                                                           ]                           ", // MaybeDiscriminator
-    *b"            ^^^^^^^^^^                                     _                           ", // DiscriminatorRest
-    *b"                                                                        `       a      ", // Anonymous
-    *b"            gggggggggg       g gh g    e ggfg fgggd   g      gggggggggg gggg  cgggggggg", // Type
-    *b"            jjjjjjjjjj       j ji j      jjfj fjjj    j      jjjjjjjjjj jjjj   jjjjjjjj", // Plain
-    *b"            gggggggggg       g gk g    e ggfg fgggd   g      gggggggggg gggg  cgggggggg", // Item
-    *b"            gggggggggg       g gk g    e gg g  gggd   g      gggggggggg gggg  cgggggggg", // ItemButRef
-    *b"                                                             m m     m    mml  m mm    ", // ItemAfterD
-    *b"                                                             n n     n    np   n no    ", // AfterD
-    *b"            $$$$$$$$$$       } \x7f  ~      wY v  yx#    z      {{{{{{{{{{ {{{{   {{|{{{{{", // Solid
+    *b"            PPPPPPPPPP       PPPPPPPPPPPPPPPPPPPPPPPPPP    P OO O    O     O   O       ", // Abbreviation
+    *b"            $$$$$$$$$$                  \" +      #                             R       ", // Entity
+    *b"            $$$$$$$$$$                  \" Q      #                                     ", // TypeEntity
+    *b"                                                           S                           ", // MaybeDiscriminator
+    *b"            TTTTTTTTTT                                     U                           ", // DiscriminatorRest
+    *b"                                                                        V       W      ", // Anonymous
+    *b"            \\\\\\\\\\\\\\\\\\\\       \\ \\] \\    Z \\\\[\\ [\\\\\\Y   \\      \\\\\\\\\\\\\\\\\\\\ \\\\\\\\  X\\\\\\\\\\\\\\\\", // Type
+    *b"            __________       _ _^ _      __[_ [___    _      __________ ____   ________", // Plain
+    *b"            \\\\\\\\\\\\\\\\\\\\       \\ \\` \\    Z \\\\[\\ [\\\\\\Y   \\      \\\\\\\\\\\\\\\\\\\\ \\\\\\\\  X\\\\\\\\\\\\\\\\", // Item
+    *b"            \\\\\\\\\\\\\\\\\\\\       \\ \\` \\    Z \\\\ \\  \\\\\\Y   \\      \\\\\\\\\\\\\\\\\\\\ \\\\\\\\  X\\\\\\\\\\\\\\\\", // ItemButRef
+    *b"                                                             b b     b    bba  b bb    ", // ItemAfterD
+    *b"                                                             c c     c    ce   c cd    ", // AfterD
+    *b"            $$$$$$$$$$       o q  p      iQ h  kj#    l      mmmmmmmmmm mmmm   mmnmmmmm", // Solid
     *b"                                                     !                                 ", // MaybeCLinkage
-    *b"            \x80\x80\x80\x80\x80\x80\x80\x80\x80\x80                                                                 ", // BitWidth
-    *b"            \x82\x82\x82\x82\x82\x82\x82\x82\x82\x82       \x82\x82\x82\x82\x82\x82\x82\x82\x82\x82\x82\x82\x82\x82\x82\x82\x82\x82\x82\x82\x82\x82\x82\x82\x82\x82    \x82 \x82\x82 \x82    \x82     \x82   \x82\x81      ", // TypeAfterS
+    *b"            rrrrrrrrrr                                                                 ", // BitWidth
+    *b"            tttttttttt       tttttttttttttttttttttttttt    t tt t    t     t   ts      ", // TypeAfterS
     *b"            ((((((((((                  &        '                                     ", // SourceOrLocal
-    *b"            \x86\x86\x86\x86\x86\x86\x86\x86\x86\x86       \x86 \x86\x86\x83\x86    \x86 \x86\x86\x85\x86 \x84\x86\x86\x86\x86   \x86      \x86\x86\x86\x86\x86\x86\x86\x86\x86\x86 \x86\x86\x86\x86  \x86\x86\x86\x86\x86\x86\x86\x86\x86", // FunctionRest
-    *b"            \x88\x88\x88\x88\x88\x88\x88\x88\x88\x88       \x88 \x88\x88\x87\x88    \x88 \x88\x88\x88\x88 \x88\x88\x88\x88\x88   \x88      \x88\x88\x88\x88\x88\x88\x88\x88\x88\x88 \x88\x88\x88\x88  \x88\x88\x88\x88\x88\x88\x88\x88\x88", // AfterR
-    *b"            \x89\x89\x89\x89\x89\x89\x89\x89\x89\x89       \x89 \x89\x89\x87\x89    \x89 \x89\x89\x89\x89 \x89\x89\x89\x89\x89   \x89      \x89\x89\x89\x89\x89\x89\x89\x89\x89\x89 \x89\x89\x89\x89  \x89\x89\x89\x89\x89\x89\x89\x89\x89", // AfterO
-    *b"            \x8b\x8b\x8b\x8b\x8b\x8b\x8b\x8b\x8b\x8b       \x8b \x8b\x8b \x8b    \x8b \x8b\x8b\x8b\x8b \x8b\x8b\x8b\x8b\x8b   \x8b      \x8b\x8b\x8b\x8b\x8b\x8b\x8b\x8b\x8b\x8b \x8b\x8b\x8b\x8b  \x8b\x8b\x8b\x8b\x8b\x8b\x8b\x8b\x8b", // Items
-    *b"                                     \x8c                                                 ", // MaybeArguments
-    *b"                                     \x8c                                                 ", // Arguments
-    *b"            \x90\x90\x90\x90\x90\x90\x90\x90\x90\x90       \x90 \x90\x90 \x90   \x8e\x90\x8f\x90\x90\x90\x90 \x90\x90\x90\x90\x90 \x90 \x90      \x90\x90\x90\x90\x90\x90\x90\x90\x90\x90 \x90\x90\x90\x90  \x90\x90\x90\x90\x90\x90\x90\x90\x90", // ArgumentList
-    *b"            \x92\x92\x92\x92\x92\x92\x92\x92\x92\x92       \x92 \x92\x92 \x92    \x92\x91\x92\x92\x92\x92 \x92\x92\x92\x92\x92 \x92 \x92      \x92\x92\x92\x92\x92\x92\x92\x92\x92\x92 \x92\x92\x92\x92  \x92\x92\x92\x92\x92\x92\x92\x92\x92", // PackList
-    *b"            \x96\x96\x96\x96\x96\x96\x96\x96\x96\x96          \x95        \x96\x96 \x96  \x96\x96\x96    \x96    \x93 \x96\x94\x96    \x96\x96\x96 \x96\x96\x96\x96   \x96\x96  \x96\x96\x96 ", // Literal
+    *b"            xxxxxxxxxx       x xxux    x xxwx vxxxx   x      xxxxxxxxxx xxxx  xxxxxxxxx", // FunctionRest
+    *b"            zzzzzzzzzz       z zzyz    z zzzz zzzzz   z      zzzzzzzzzz zzzz  zzzzzzzzz", // AfterR
+    *b"            {{{{{{{{{{       { {{y{    { {{{{ {{{{{   {      {{{{{{{{{{ {{{{  {{{{{{{{{", // AfterO
+    *b"            ||||||||||       | || |    | |||| |||||   |      |||||||||| ||||  |||||||||", // Items
+    *b"                                     }                                                 ", // MaybeArguments
+    *b"                                     }                                                 ", // Arguments
+    *b"            \x80\x80\x80\x80\x80\x80\x80\x80\x80\x80       \x80 \x80\x80 \x80   ~\x80\x7f\x80\x80\x80\x80 \x80\x80\x80\x80\x80 \x80 \x80      \x80\x80\x80\x80\x80\x80\x80\x80\x80\x80 \x80\x80\x80\x80  \x80\x80\x80\x80\x80\x80\x80\x80\x80", // ArgumentList
+    *b"            \x82\x82\x82\x82\x82\x82\x82\x82\x82\x82       \x82 \x82\x82 \x82    \x82\x81\x82\x82\x82\x82 \x82\x82\x82\x82\x82 \x82 \x82      \x82\x82\x82\x82\x82\x82\x82\x82\x82\x82 \x82\x82\x82\x82  \x82\x82\x82\x82\x82\x82\x82\x82\x82", // PackList
+    *b"            \x86\x86\x86\x86\x86\x86\x86\x86\x86\x86          \x85        \x86\x86 \x86  \x86\x86\x86    \x86    \x83 \x86\x84\x86    \x86\x86\x86 \x86\x86\x86\x86   \x86\x86  \x86\x86\x86 ", // Literal
     *b"            !!                                                                         ", // Bit
-    *b"                                                                     \x99    \x98    \x99 \x99     ", // LiteralAfterD
-    *b"                                                                {{{{                   ", // FloatType
-    *b"                                  q                                                    ", // SizedFloatType
-    *b"            \x9b\x9b\x9b\x9b\x9b\x9b\x9b\x9b\x9b\x9b                                       \x9b\x9b\x9b\x9b\x9b\x9b                    ", // HexText
-    *b"            \x9c\x9c\x9c\x9c\x9c\x9c\x9c\x9c\x9c\x9c                                       \x9c\x9c\x9c\x9c\x9c\x9c                    ", // HexDigits
-    *b"            \x9c\x9c\x9c\x9c\x9c\x9c\x9c\x9c\x9c\x9c                                       \x9c\x9c\x9c\x9c\x9c\x9c                    ", // HexMore
+    *b"                                                                     \x88    \x87    \x88 \x88     ", // LiteralAfterD
+    *b"                                                                mmmm                   ", // FloatType
+    *b"                                  f                                                    ", // SizedFloatType
+    *b"            \x89\x89\x89\x89\x89\x89\x89\x89\x89\x89                                       \x89\x89\x89\x89\x89\x89                    ", // HexText
+    *b"            \x8a\x8a\x8a\x8a\x8a\x8a\x8a\x8a\x8a\x8a                                       \x8a\x8a\x8a\x8a\x8a\x8a                    ", // HexDigits
+    *b"            \x8a\x8a\x8a\x8a\x8a\x8a\x8a\x8a\x8a\x8a                                       \x8a\x8a\x8a\x8a\x8a\x8a                    ", // HexMore
     *b"            !                                                                          ", // MaybeZero
-    *b"            $$$$$$$$$$                   wY v  yx#    z      { {    {{{ {{{{   {{  {{{ ", // LiteralType
-    *b"            \x9f\x9f\x9f\x9f\x9f\x9f\x9f\x9f\x9f\x9f                   \x9f\x9f \x9f  \x9f\x9f\x9f    \x9f      \x9f \x9f    \x9f\x9f\x9f \x9f\x9f\x9f\x9f   \x9f\x9f  \x9f\x9f\x9f ", // LiteralPlain
-    *b"            $$$$$$$$$$                   wY v  yx#    z      { {    {{{ {{{{   {{  {{{ ", // LiteralSolid
-    *b"                                                             \xa2 \xa4\xa1\xa8 \xac \xab  \xa9\xa5\xa0\xa7\xa3 \xa6\xaa       ", // Operator
+    *b"            $$$$$$$$$$                   iQ h  kj#    l      m m    mmm mmmm   mm  mmm ", // LiteralType
+    *b"            \x8b\x8b\x8b\x8b\x8b\x8b\x8b\x8b\x8b\x8b                   \x8b\x8b \x8b  \x8b\x8b\x8b    \x8b      \x8b \x8b    \x8b\x8b\x8b \x8b\x8b\x8b\x8b   \x8b\x8b  \x8b\x8b\x8b ", // LiteralPlain
+    *b"            $$$$$$$$$$                   iQ h  kj#    l      m m    mmm mmmm   mm  mmm ", // LiteralSolid
+    *b"                                                             \x8e \x90\x8d\x94 \x98 \x97  \x95\x91\x8c\x93\x8f \x92\x96       ", // Operator
     *b"                                                             !   ! !            !  !   ", // OperatorAfterN
     *b"                                                  !          !   !      !         !    ", // OperatorAfterD
     *b"                                          !    !             !  !         !        !   ", // OperatorAfterA
@@ -440,107 +438,107 @@ static LETTERS: [[u8; 87]; 172] = [
     *b"                                         !     !                         !     !       ", // OperatorAfterR
     *b"                                              !                            !  !        ", // OperatorAfterO
     *b"                                           !                               ! !         ", // OperatorAfterE
-    *b"                                               !                 !   \xad         !!      ", // OperatorAfterL
+    *b"                                               !                 !   \x99         !!      ", // OperatorAfterL
     *b"                                                                               !       ", // OperatorAfterS
     *b"                                                                                    !  ", // OperatorAfterI
     *b"                                                                 !              !      ", // OperatorAfterG
-    *b"            LLLLLLLLLL         LL    \xae  L        L           L LLL L L  LLLLL LL       ", // NestRestOrEnd
-    *b"                                     \x8c                                                 ", // ArgumentsAlone
-    *b"            LLLLLLLLLL         LL    K  L        L           L LLL L L  LLLLL LL       ", // NestRestAlone
-    *b"            \xaf\xaf\xaf\xaf\xaf\xaf\xaf\xaf\xaf\xaf                                                                 ", // FirstModule
-    *b"            \xb0\xb0\xb0\xb0\xb0\xb0\xb0\xb0\xb0\xb0       \xb0\xb0\xb0\xb0\xb0\xb0\xb0\xb0\xb0\xb0\xb0\xb0\xb0\xb0\xb0\xb0\xb0\xb0\xb0\xb0\xb0\xb0\xb0\xb0\xb0\xb0    \xb0                           ", // NamedModule
-    *b"                                                   \xb1                                   ", // MoreModule
+    *b"            HHHHHHHHHH         HH    \x9a  H        H           H HHH H H  HHHHH HH       ", // NestRestOrEnd
+    *b"                                     }                                                 ", // ArgumentsAlone
+    *b"            HHHHHHHHHH         HH    G  H        H           H HHH H H  HHHHH HH       ", // NestRestAlone
+    *b"            \x9b\x9b\x9b\x9b\x9b\x9b\x9b\x9b\x9b\x9b                                                                 ", // FirstModule
+    *b"            \x9c\x9c\x9c\x9c\x9c\x9c\x9c\x9c\x9c\x9c       \x9c\x9c\x9c\x9c\x9c\x9c\x9c\x9c\x9c\x9c\x9c\x9c\x9c\x9c\x9c\x9c\x9c\x9c\x9c\x9c\x9c\x9c\x9c\x9c\x9c\x9c    \x9c                           ", // NamedModule
+    *b"                                                   \x9d                                   ", // MoreModule
     *b"                                            !                                          ", // MaybePartition
     *b"            $$$$$$$$$$                  \"        #           % %%% % %  %%%%% %%       ", // NameAfterModule
     *b"                                                   )                                   ", // NameInModule
-    *b"            LLLLLLLLLL         LL       L        L           L LLL L L  LLLLL LL       ", // NestOn
+    *b"            HHHHHHHHHH         HH       H        H           H HHH H H  HHHHH HH       ", // NestOn
     *b"                                         !                                             ", // HolderMark
-    *b"            $$$$$$$$$$         OP       \"      * # )         R QRR R R  RRRRR RR       ", // HeldComponent
+    *b"            $$$$$$$$$$         JK       \"      * # )         M LMM M M  MMMMM MM       ", // HeldComponent
     *b"                                                           !  !                     !  ", // FloatEnd
-    *b"                                                                        \xb3\xb3 \xb3           ", // ComponentAfterC
-    *b"                                                             \xa2  \xa1\xa8 \xac \xab  \xa9\xa5\xa0\xa7\xa3 \xa6\xaa       ", // OtherOperator
-    *b"                                     \xb4                                                 ", // HeldArguments
-    *b"            \xb6\xb6\xb6\xb6\xb6\xb6\xb6\xb6\xb6\xb6                    \xb5    \xb6      z                                ", // BaseClass
-    *b"            \xb8\xb8\xb8\xb8\xb8\xb8\xb8\xb8\xb8\xb8                         \xb7                                       ", // UnnestedName
-    *b"                                     \xb9                                                 ", // BaseArguments
-    *b"            \x90\x90\x90\x90\x90\x90\x90\x90\x90\x90       \x90 \x90\x90 \x90   \x8e\x90\x8f\x90\x90\x90\x90 \x90\x90\x90\x90\x90 \x90 \x90      \x90\x90\x90\x90\x90\x90\x90\x90\x90\x90 \x90\x90\x90\x90  \x90\x90\x90\x90\x90\x90\x90\x90\x90", // ArgumentsFirst
+    *b"                                                                        \x9e\x9e \x9e           ", // ComponentAfterC
+    *b"                                                             \x8e  \x8d\x94 \x98 \x97  \x95\x91\x8c\x93\x8f \x92\x96       ", // OtherOperator
+    *b"                                     \x9f                                                 ", // HeldArguments
+    *b"            \xa1\xa1\xa1\xa1\xa1\xa1\xa1\xa1\xa1\xa1                    \xa0    \xa1      l                                ", // BaseClass
+    *b"            \xa3\xa3\xa3\xa3\xa3\xa3\xa3\xa3\xa3\xa3                         \xa2                                       ", // UnnestedName
+    *b"                                     \xa4                                                 ", // BaseArguments
+    *b"            \x80\x80\x80\x80\x80\x80\x80\x80\x80\x80       \x80 \x80\x80 \x80   ~\x80\x7f\x80\x80\x80\x80 \x80\x80\x80\x80\x80 \x80 \x80      \x80\x80\x80\x80\x80\x80\x80\x80\x80\x80 \x80\x80\x80\x80  \x80\x80\x80\x80\x80\x80\x80\x80\x80", // ArgumentsFirst
     *b"            $$$$$$$$$$                  \" +      #                                     ", // PlainEntity
-    *b"            $$$$$$$$$$                  \" Y      #                                     ", // PlainTypeEntity
+    *b"            $$$$$$$$$$                  \" Q      #                                     ", // PlainTypeEntity
     *b"                                   !                                                   ", // SpecialMark
     *b"                                                  6                                    ", // SpecialAfterG
-    *b"            $$$$$$$$$$                  \" +    = #    \xbd                                ", // TemporaryName
+    *b"            $$$$$$$$$$                  \" +    ; #    \xa5                                ", // TemporaryName
     *b"                                                                          !     !      ", // CloneLetter
-    *b"                                                                                \xbe      ", // TypeInStd
+    *b"                                                                                \xa6      ", // TypeInStd
     *b"                                                                                       ", // MaybeTags
-    *b"            \xc2\xc2\xc2\xc2\xc2\xc2\xc2\xc2\xc2\xc2       \xc2 \xc2k \xc2    e \xc2\xc2f\xc2 f\xc2\xc1\xc2d \xc0 \xc2      \xc2\xc2\xc2\xc2\xc2\xc2\xc2\xc2\xc2\xc2 \xc2\xc2\xc2\xc2  c\xc2\xc2\xc2\xc2\xc2\xc2\xc2\xc2", // Argument
-    *b"            \xc3\xc3\xc3\xc3\xc3\xc3\xc3\xc3\xc3\xc3                                     \xc3                           ", // ArgumentAfterT
-    *b"            \xc3\xc3\xc3\xc3\xc3\xc3\xc3\xc3\xc3\xc3                                     \xc3                           ", // LeveledParameter
-    *b"            \xc2\xc2\xc2\xc2\xc2\xc2\xc2\xc2\xc2\xc2       \xc2 \xc2k \xc2   \xc7e\xc6\xc2\xc2f\xc2 f\xc2\xc1\xc2d \xc0 \xc2      \xc2\xc2\xc2\xc2\xc2\xc2\xc2\xc2\xc2\xc2 \xc2\xc2\xc2\xc2  c\xc2\xc2\xc2\xc2\xc2\xc2\xc2\xc2", // OneArgument
-    *b"                                                                       \xca  \xc9 \xcc   \xcb    \xc8 ", // DeclarationAfterT
-    *b"                                                \xcd                                      ", // Declarations
-    *b"            \xce\xce\xce\xce\xce\xce\xce\xce\xce\xce                    Y    \xce                                       ", // Concept
-    *b"            $$$$$$$$$$       } \x7f  ~      wY v  y #    z      {{{{{{{{{{ {{{{   {{|{{{{{", // SolidButT
-    *b"                                                             \xeb                         ", // Expression
-    *b"            \xfc\xfc\xfc\xfc\xfc\xfc\xfc\xfc\xfc\xfc                  \xfd                  \xfc                           ", // ExpressionParameter
-    *b"            \xfc\xfc\xfc\xfc\xfc\xfc\xfc\xfc\xfc\xfc                                     \xfc                           ", // UnleveledExpression
-    *b"                                        \xfe                                              ", // AddressedExpression
-    *b"                                                           \x93                           ", // AddressedLiteral
-    *b"                                                                \xd3                      ", // ExpressionAfterA
-    *b"                                                               \xcf        \xd7\xd4 \xd5\xd7     \xd8    ", // ExpressionAfterC
-    *b"                                                  \xd4          \xd5 \xcf \xd5   \xd9  \xd5 \xdb    \xd4\xd4 \xd4 \xda  ", // ExpressionAfterD
-    *b"                                           \xd4                               \xd4 \xd4         ", // ExpressionAfterE
-    *b"                                        \xdc                               \xdd   \xd2 \xde        ", // ExpressionAfterF
-    *b"                                                                 \xd4             \xd5\xd4      ", // ExpressionAfterG
-    *b"                                                                        \xdf           \xd4  ", // ExpressionAfterI
-    *b"                                               \xd4                 \xd4             \xd4\xd4      ", // ExpressionAfterL
-    *b"                                     \xd4  \xd4                            \xd4  \xd4\xe0             ", // ExpressionAfterM
-    *b"                                                             \xe1   \xd4 \xd5            \xd5  \xe1\xd5  ", // ExpressionAfterN
-    *b"                                              \xd4                           \xd0\xd4  \xd4        ", // ExpressionAfterO
-    *b"                                        \xd4                               \xd4\xd4  \xe0  \xd5\xd4      ", // ExpressionAfterP
-    *b"                                                                                 \xe2     ", // ExpressionAfterQ
-    *b"                                         \xd4   \xe4 \xd4               \xcf         \xd4   \xe3 \xd4       ", // ExpressionAfterR
-    *b"                                                      \xe6        \xcf            \xe5 \xe7\xd4\xd6    \xe8\xd5", // ExpressionAfterS
-    *b"                                                                 \xd5   \xd6  \xe9     \xea    \xd5   ", // ExpressionAfterT
-    *b"                                                             \xff                         ", // Expressions
+    *b"            \xa9\xa9\xa9\xa9\xa9\xa9\xa9\xa9\xa9\xa9       \xa9 \xa9` \xa9    Z \xa9\xa9[\xa9 [\xa9\xa8\xa9Y \xa7 \xa9      \xa9\xa9\xa9\xa9\xa9\xa9\xa9\xa9\xa9\xa9 \xa9\xa9\xa9\xa9  X\xa9\xa9\xa9\xa9\xa9\xa9\xa9\xa9", // Argument
+    *b"            \xaa\xaa\xaa\xaa\xaa\xaa\xaa\xaa\xaa\xaa                                     \xaa                           ", // ArgumentAfterT
+    *b"            \xaa\xaa\xaa\xaa\xaa\xaa\xaa\xaa\xaa\xaa                                     \xaa                           ", // LeveledParameter
+    *b"            \xa9\xa9\xa9\xa9\xa9\xa9\xa9\xa9\xa9\xa9       \xa9 \xa9` \xa9   \xadZ\xac\xa9\xa9[\xa9 [\xa9\xa8\xa9Y \xa7 \xa9      \xa9\xa9\xa9\xa9\xa9\xa9\xa9\xa9\xa9\xa9 \xa9\xa9\xa9\xa9  X\xa9\xa9\xa9\xa9\xa9\xa9\xa9\xa9", // OneArgument
+    *b"                                                                       \xb0  \xaf \xb2   \xb1    \xae ", // DeclarationAfterT
+    *b"                                                \xb3                                      ", // Declarations
+    *b"            \xb4\xb4\xb4\xb4\xb4\xb4\xb4\xb4\xb4\xb4                    Q    \xb4                                       ", // Concept
+    *b"            $$$$$$$$$$       o q  p      iQ h  k #    l      mmmmmmmmmm mmmm   mmnmmmmm", // SolidButT
+    *b"                                                             \xd1                         ", // Expression
+    *b"            \xe2\xe2\xe2\xe2\xe2\xe2\xe2\xe2\xe2\xe2                  \xe3                  \xe2                           ", // ExpressionParameter
+    *b"            \xe2\xe2\xe2\xe2\xe2\xe2\xe2\xe2\xe2\xe2                                     \xe2                           ", // UnleveledExpression
+    *b"                                        \xe4                                              ", // AddressedExpression
+    *b"                                                           \x83                           ", // AddressedLiteral
+    *b"                                                                \xb9                      ", // ExpressionAfterA
+    *b"                                                               \xb5        \xbd\xba \xbb\xbd     \xbe    ", // ExpressionAfterC
+    *b"                                                  \xba          \xbb \xb5 \xbb   \xbf  \xbb \xc1    \xba\xba \xba \xc0  ", // ExpressionAfterD
+    *b"                                           \xba                               \xba \xba         ", // ExpressionAfterE
+    *b"                                        \xc2                               \xc3   \xb8 \xc4        ", // ExpressionAfterF
+    *b"                                                                 \xba             \xbb\xba      ", // ExpressionAfterG
+    *b"                                                                        \xc5           \xba  ", // ExpressionAfterI
+    *b"                                               \xba                 \xba             \xba\xba      ", // ExpressionAfterL
+    *b"                                     \xba  \xba                            \xba  \xba\xc6             ", // ExpressionAfterM
+    *b"                                                             \xc7   \xba \xbb            \xbb  \xc7\xbb  ", // ExpressionAfterN
+    *b"                                              \xba                           \xb6\xba  \xba        ", // ExpressionAfterO
+    *b"                                        \xba                               \xba\xba  \xc6  \xbb\xba      ", // ExpressionAfterP
+    *b"                                                                                 \xc8     ", // ExpressionAfterQ
+    *b"                                         \xba   \xca \xba               \xb5         \xba   \xc9 \xba       ", // ExpressionAfterR
+    *b"                                                      \xcc        \xb5            \xcb \xcd\xba\xbc    \xce\xbb", // ExpressionAfterS
+    *b"                                                                 \xbb   \xbc  \xcf     \xd0    \xbb   ", // ExpressionAfterT
+    *b"                                                             \x00                         ", // Expressions
     *b"                                                           !                           ", // MaybeBefore
-    *b"                                                             \xa2 \xa4\xa1\xa8 \xac \xab  \x00\xa5\xa0\xa7\xa3 \xa6\xaa       ", // FoldOperator
+    *b"                                                             \x8e \x90\x8d\x94 \x98 \x97  \x01\x91\x8c\x93\x8f \x92\x96       ", // FoldOperator
     *b"                                               !                 !             !!      ", // FoldOperatorAfterL
-    *b"                                                             \x01                         ", // FoldOperand
-    *b"                                                             \x02                         ", // FoldPack
-    *b"                                      \xc7                      \x02                         ", // ValuePack
-    *b"            \x03\x03\x03\x03\x03\x03\x03\x03\x03\x03       \x03 \x03\x03 \x03   \xc7\x03 \x03\x03\x03\x03 \x03\x03\x03\x03\x03   \x03      \x03\x03\x03\x03\x03\x03\x03\x03\x03\x03 \x03\x03\x03\x03  \x03\x03\x03\x03\x03\x03\x03\x03\x03", // TypePack
-    *b"            \x05\x05\x05\x05\x05\x05\x05\x05\x05\x05                  \x05       \x05            \x05 \x05\x04\x05\x05\x05 \x05  \x05\x05\x05\x05\x05\x05\x05\x05\x05      ", // DesignatedValue
-    *b"                                                                     \xd9              \xda  ", // DesignatorAfterD
-    *b"            \xd1\xd1\xd1\xd1\xd1\xd1\xd1\xd1\xd1\xd1                  \xc6       \xfb            \xeb \xec \xee\xef\xf0 \xf1  \xf2\xf3\xf4\xf5\xf6\xf7\xf8\xf9\xfa      ", // PlainValue
-    *b"            \x06\x06\x06\x06\x06\x06\x06\x06\x06\x06                                                                 ", // FieldName
-    *b"                                                           ! \x07                         ", // Placement
-    *b"                                                             \xff                         ", // SomeExpressions
-    *b"                                 \x87                                   \x09      \x08          ", // Initializer
-    *b"                                                                     \xdf                 ", // InitializerAfterP
-    *b"                                                                        \xdf              ", // InitializerAfterI
-    *b"                                                                            \xd2          ", // OuterRest
-    *b"            \x0b\x0b\x0b\x0b\x0b\x0b\x0b\x0b\x0b\x0b                          \x0a          \x0b                           ", // ParameterNumber
-    *b"            \x10\x10\x10\x10\x10\x10\x10\x10\x10\x10          \x0c \x10    \x0d  \x10\x0f\x0e \x0f\x10\x10\x10           \x10\x10\x10\x10\x10\x10\x10\x10\x10\x10 \x10\x10\x10\x10   \x10\x10 \x10\x10\x10\x10\x10", // ConvertedType
-    *b"            $$$$$$$$$$            ~       Y    y\x11#           {{{{{{{{{{ {{{{   {{ {{{{{", // ConvertedSolid
-    *b"            \xc3\xc3\xc3\xc3\xc3\xc3\xc3\xc3\xc3\xc3                  \xc5                  \xc3                           ", // ParameterAfterT
-    *b"                                                t                               t      ", // DecltypeAfterD
-    *b"                                                t            n n                t      ", // ConvertedAfterD
-    *b"            \xd1\xd1\xd1\xd1\xd1\xd1\xd1\xd1\xd1\xd1                  \xc6       \xfb          \xdf \xeb \xec\xed\xee\xef\xf0 \xf1  \xf2\xf3\xf4\xf5\xf6\xf7\xf8\xf9\xfa      ", // ConvertRest
-    *b"            \x13\x13\x13\x13\x13\x13\x13\x13\x13\x13          \x12         \x12    \x12\x12                                      ", // Unresolved
-    *b"                                \x0c         Y    y\x11                                      ", // UnresolvedType
-    *b"            \xd1\xd1\xd1\xd1\xd1\xd1\xd1\xd1\xd1\xd1          \x14         \x14    \x14\x14                                      ", // DestructorName
-    *b"                                             \x17  \x16   \x15                                  ", // Requirements
-    *b"                                          \x19  \x17\x18 \x16   \x15                                  ", // AfterExpression
-    *b"                                             \x17\x18 \x16   \x15                                  ", // AfterNoexcept
-    *b"            \x1a\x1a\x1a\x1a\x1a\x1a\x1a\x1a\x1a\x1a          \x1a \x1a    \x1a  \x1a\x1a\x1a \x1a\x1a\x1a\x1a         \xe3 \x1a\x1a\x1a\x1a\x1a\x1a\x1a\x1a\x1a\x1a \x1a\x1a\x1a\x1a   \x1a\x1a \x1a\x1a\x1a\x1a\x1a", // RequiredTypes
-    *b"            \xd1\xd1\xd1\xd1\xd1\xd1\xd1\xd1\xd1\xd1                                                                 ", // Level
-    *b"            \x13\x13\x13\x13\x13\x13\x13\x13\x13\x13           \x1b                                                     ", // MoreLevels
-    *b"            \xd1\xd1\xd1\xd1\xd1\xd1\xd1\xd1\xd1\xd1                                                     \x1c           ", // UnresolvedName
-    *b"                                                                          \xd0            ", // OperatorName
-    *b"                             \x1d                                                         ", // AnyArray
+    *b"                                                             \x02                         ", // FoldOperand
+    *b"                                                             \x03                         ", // FoldPack
+    *b"                                      \xad                      \x03                         ", // ValuePack
+    *b"            \x04\x04\x04\x04\x04\x04\x04\x04\x04\x04       \x04 \x04\x04 \x04   \xad\x04 \x04\x04\x04\x04 \x04\x04\x04\x04\x04   \x04      \x04\x04\x04\x04\x04\x04\x04\x04\x04\x04 \x04\x04\x04\x04  \x04\x04\x04\x04\x04\x04\x04\x04\x04", // TypePack
+    *b"            \x06\x06\x06\x06\x06\x06\x06\x06\x06\x06                  \x06       \x06            \x06 \x06\x05\x06\x06\x06 \x06  \x06\x06\x06\x06\x06\x06\x06\x06\x06      ", // DesignatedValue
+    *b"                                                                     \xbf              \xc0  ", // DesignatorAfterD
+    *b"            \xb7\xb7\xb7\xb7\xb7\xb7\xb7\xb7\xb7\xb7                  \xac       \xe1            \xd1 \xd2 \xd4\xd5\xd6 \xd7  \xd8\xd9\xda\xdb\xdc\xdd\xde\xdf\xe0      ", // PlainValue
+    *b"            \x07\x07\x07\x07\x07\x07\x07\x07\x07\x07                                                                 ", // FieldName
+    *b"                                                           ! \x08                         ", // Placement
+    *b"                                                             \x00                         ", // SomeExpressions
+    *b"                                 y                                   \x0a      \x09          ", // Initializer
+    *b"                                                                     \xc5                 ", // InitializerAfterP
+    *b"                                                                        \xc5              ", // InitializerAfterI
+    *b"                                                                            \xb8          ", // OuterRest
+    *b"            \x0c\x0c\x0c\x0c\x0c\x0c\x0c\x0c\x0c\x0c                          \x0b          \x0c                           ", // ParameterNumber
+    *b"            \x11\x11\x11\x11\x11\x11\x11\x11\x11\x11          \x0d \x11    \x0e  \x11\x10\x0f \x10\x11\x11\x11           \x11\x11\x11\x11\x11\x11\x11\x11\x11\x11 \x11\x11\x11\x11   \x11\x11 \x11\x11\x11\x11\x11", // ConvertedType
+    *b"            $$$$$$$$$$            p       Q    k\x12#           mmmmmmmmmm mmmm   mm mmmmm", // ConvertedSolid
+    *b"            \xaa\xaa\xaa\xaa\xaa\xaa\xaa\xaa\xaa\xaa                  \xab                  \xaa                           ", // ParameterAfterT
+    *b"                                                g                               g      ", // DecltypeAfterD
+    *b"                                                g            c c                g      ", // ConvertedAfterD
+    *b"            \xb7\xb7\xb7\xb7\xb7\xb7\xb7\xb7\xb7\xb7                  \xac       \xe1          \xc5 \xd1 \xd2\xd3\xd4\xd5\xd6 \xd7  \xd8\xd9\xda\xdb\xdc\xdd\xde\xdf\xe0      ", // ConvertRest
+    *b"            \x14\x14\x14\x14\x14\x14\x14\x14\x14\x14          \x13         \x13    \x13\x13                                      ", // Unresolved
+    *b"                                \x0d         Q    k\x12                                      ", // UnresolvedType
+    *b"            \xb7\xb7\xb7\xb7\xb7\xb7\xb7\xb7\xb7\xb7          \x15         \x15    \x15\x15                                      ", // DestructorName
+    *b"                                             \x18  \x17   \x16                                  ", // Requirements
+    *b"                                          \x1a  \x18\x19 \x17   \x16                                  ", // AfterExpression
+    *b"                                             \x18\x19 \x17   \x16                                  ", // AfterNoexcept
+    *b"            \x1b\x1b\x1b\x1b\x1b\x1b\x1b\x1b\x1b\x1b          \x1b \x1b    \x1b  \x1b\x1b\x1b \x1b\x1b\x1b\x1b         \xc9 \x1b\x1b\x1b\x1b\x1b\x1b\x1b\x1b\x1b\x1b \x1b\x1b\x1b\x1b   \x1b\x1b \x1b\x1b\x1b\x1b\x1b", // RequiredTypes
+    *b"            \xb7\xb7\xb7\xb7\xb7\xb7\xb7\xb7\xb7\xb7                                                                 ", // Level
+    *b"            \x14\x14\x14\x14\x14\x14\x14\x14\x14\x14           \x1c                                                     ", // MoreLevels
+    *b"            \xb7\xb7\xb7\xb7\xb7\xb7\xb7\xb7\xb7\xb7                                                     \x1d           ", // UnresolvedName
+    *b"                                                                          \xb6            ", // OperatorName
+    *b"                             \x1e                                                         ", // AnyArray
     *b"            \x1f\x1f\x1f\x1f\x1f\x1f\x1f\x1f\x1f\x1f                                     \x1f                           ", // ArrayRest
-    *b"                                        \xc6       \xfb            \xeb \xec\xed\xee\xef\xf0 \xf1  \xf2\xf3\xf4\xf5\xf6\xf7\xf8\xf9\xfa      ", // Bound
-    *b"            LLLLLLLLLL         LL       L        L           L LLL L L  LLLLL LL       ", // NestMoreOrEnd
+    *b"                                        \xac       \xe1            \xd1 \xd2\xd3\xd4\xd5\xd6 \xd7  \xd8\xd9\xda\xdb\xdc\xdd\xde\xdf\xe0      ", // Bound
+    *b"            HHHHHHHHHH         HH       H        H           H HHH H H  HHHHH HH       ", // NestMoreOrEnd
 ];
 
 /// A rule without its number and its symbols.
@@ -571,572 +569,572 @@ macro_rules! chains {
 
 // The rules of the productions, in the order of their numbers.
 pub static HEADS: [Head; 255] = [
-    takes!(0), // ! Mark
-    takes!(2), // \" InternalName
-    takes!(2), // # LocalTypeName
-    chains!(2), // $ SourceName
-    chains!(2), // % OperatorName
-    takes!(1), // & InternalPiece
-    takes!(1), // ' LocalTypePiece
-    chains!(1), // ( SourcePiece
-    takes!(2), // ) InModule
-    takes!(2), // * InNamedModule
-    takes!(5), // + NestedName
-    takes!(3), // , Symbol
-    takes!(1), // - Suffix
-    takes!(1), // . SuffixByte
-    takes!(1), // / Special
-    chains!(2), // 0 OtherSpecial
-    chains!(2), // 1 Encoding
-    takes!(1), // 2 SpecialType
-    takes!(3), // 3 NonVirtualThunk
-    takes!(5), // 4 VirtualThunk
-    takes!(3), // 5 CovariantThunk
-    takes!(1), // 6 SpecialName
-    takes!(1), // 7 ParameterObject
-    takes!(4), // 8 ConstructionVtable
-    takes!(2), // 9 NonVirtualOffset
-    takes!(4), // : VirtualOffset
-    takes!(1), // ; Negative
-    chains!(1), // < Positive
-    takes!(1), // = NameWithS
-    takes!(4), // > LocalName
-    takes!(2), // ? StdName
-    chains!(2), // @ AbbreviatedName
-    chains!(1), // A OperatorPiece
-    takes!(1), // B NestWithS
-    takes!(2), // C NestParameter
-    takes!(2), // D NestInternal
-    takes!(2), // E NestLocalType
-    chains!(2), // F NestSource
-    chains!(2), // G NestModule
-    takes!(2), // H NestDecltype
-    takes!(3), // I NestStd
-    chains!(2), // J NestTemplate
-    takes!(4), // K NestArguments
-    chains!(2), // L NestNext
-    takes!(2), // M NestTag
-    takes!(0), // N NestEnd
-    takes!(1), // O AnyConstructor
-    takes!(2), // P Destructor
-    takes!(1), // Q ComponentWithC
-    chains!(2), // R OtherOperatorName
-    chains!(2), // S Holder
-    takes!(2), // T Friend
-    takes!(2), // U Inheriting
-    chains!(2), // V Constructor
-    takes!(0), // W Abbreviation
-    chains!(1), // X Substitution
-    takes!(1), // Y NestedType
-    takes!(0), // Z StringLiteral
-    takes!(2), // [ DefaultEntity
-    takes!(2), // \\ DefaultTypeEntity
-    takes!(1), // ] Discriminator
-    takes!(0), // ^ OneDigit
-    takes!(2), // _ ManyDigits
-    takes!(4), // ` Lambda
-    takes!(1), // a Unnamed
-    takes!(2), // b Enumeration
-    takes!(3), // c RestrictType
-    takes!(2), // d VolatileType
-    takes!(1), // e ConstType
-    takes!(1), // f ReferenceType
-    chains!(1), // g PlainType
-    takes!(1), // h TypeWithD
-    takes!(1), // i PlainWithD
-    chains!(1), // j QualifiedPlain
-    takes!(1), // k ItemWithD
-    takes!(1), // l Expansion
-    chains!(1), // m ItemIsType
-    takes!(0), // n BuiltinWithD
-    takes!(3), // o Vector
-    takes!(4), // p NoexceptFunction
-    takes!(2), // q SizedFloat
-    takes!(1), // r ConstrainedAuto
-    takes!(2), // s BitInt
-    takes!(2), // t Decltype
-    takes!(2), // u IndexedType
-    takes!(1), // v Pointer
-    takes!(2), // w MemberPointer
-    takes!(2), // x Parameter
-    takes!(2), // y TypeWithS
-    takes!(4), // z LocalType
-    takes!(0), // { Builtin
-    takes!(1), // | Vendor
-    chains!(1), // } ArrayType
-    takes!(3), // ~ Function
-    takes!(1), // \x7f Complex
-    chains!(1), // \x80 BitWidth
-    chains!(1), // \x81 TypeInStd
-    chains!(1), // \x82 AbbreviatedType
-    takes!(0), // \x83 RestEnd
-    takes!(1), // \x84 RestLvalue
-    takes!(1), // \x85 RestRvalue
-    chains!(2), // \x86 RestItem
-    takes!(0), // \x87 RefEnd
-    chains!(2), // \x88 LvalueItem
-    chains!(2), // \x89 RvalueItem
-    takes!(1), // \x8a Constraint
-    chains!(2), // \x8b Items
-    takes!(2), // \x8c Arguments
-    takes!(2), // \x8d Tag
-    takes!(3), // \x8e PackArgument
-    takes!(3), // \x8f LiteralArgument
-    chains!(2), // \x90 AnyArgument
-    takes!(3), // \x91 LiteralElement
-    chains!(2), // \x92 AnyElement
-    takes!(2), // \x93 EncodingLiteral
-    takes!(1), // \x94 BoolLiteral
-    takes!(1), // \x95 LiteralWithD
-    chains!(2), // \x96 IntegerLiteral
-    chains!(2), // \x97 FloatLiteral
-    takes!(1), // \x98 NullLiteral
-    takes!(1), // \x99 CharLiteral
-    chains!(2), // \x9a SizedFloatLiteral
-    chains!(1), // \x9b HexText
-    takes!(1), // \x9c HexDigit
-    takes!(2), // \x9d VolatileLiteral
-    takes!(1), // \x9e ConstLiteral
-    chains!(1), // \x9f QualifiedLiteral
-    takes!(1), // \xa0 OperatorN
-    takes!(1), // \xa1 OperatorD
-    takes!(1), // \xa2 OperatorA
-    takes!(1), // \xa3 OperatorP
-    takes!(1), // \xa4 OperatorC
-    takes!(1), // \xa5 OperatorM
-    takes!(1), // \xa6 OperatorR
-    takes!(1), // \xa7 OperatorO
-    takes!(1), // \xa8 OperatorE
-    takes!(1), // \xa9 OperatorL
-    takes!(1), // \xaa OperatorS
-    takes!(1), // \xab OperatorI
-    takes!(1), // \xac OperatorG
-    takes!(1), // \xad LiteralOperator
-    takes!(3), // \xae NestInstance
-    chains!(2), // \xaf FirstModule
-    chains!(2), // \xb0 NamedModule
-    takes!(3), // \xb1 MoreModule
-    takes!(1), // \xb2 Conversion
-    chains!(2), // \xb3 OperatorNameWithC
-    takes!(2), // \xb4 HeldArguments
-    takes!(2), // \xb5 NestedBase
-    chains!(2), // \xb6 UnnestedBase
-    takes!(1), // \xb7 UnnestedWithS
-    chains!(2), // \xb8 TaggedSource
-    takes!(3), // \xb9 BaseArguments
-    takes!(2), // \xba Temporary
-    takes!(2), // \xbb ModuleInitializer
-    takes!(2), // \xbc Clone
-    takes!(3), // \xbd LocalTemporary
-    takes!(2), // \xbe TaggedStdType
-    takes!(2), // \xbf TypeTag
-    takes!(2), // \xc0 Expression
-    takes!(1), // \xc1 ArgumentWithT
-    chains!(1), // \xc2 PlainArgument
-    chains!(2), // \xc3 ParameterArgument
-    chains!(2), // \xc4 DeclaredArgument
-    takes!(2), // \xc5 LeveledParameter
-    takes!(2), // \xc6 OneLiteral
-    takes!(2), // \xc7 OnePack
-    takes!(0), // \xc8 AnyType
-    takes!(1), // \xc9 ValueOf
-    takes!(1), // \xca OfConcept
-    takes!(2), // \xcb TemplateOf
-    takes!(2), // \xcc PackOf
-    takes!(2), // \xcd Declarations
-    chains!(2), // \xce NamedConcept
-    takes!(2), // \xcf Cast
-    takes!(2), // \xd0 OperatorReference
-    chains!(2), // \xd1 SimpleId
-    takes!(4), // \xd2 FunctionParameter
-    takes!(1), // \xd3 AddressExpression
-    takes!(2), // \xd4 Binary
-    takes!(1), // \xd5 Unary
-    takes!(1), // \xd6 OfType
-    takes!(3), // \xd7 Call
-    takes!(2), // \xd8 Convert
-    takes!(2), // \xd9 Designated
-    takes!(2), // \xda DesignatedElement
-    takes!(1), // \xdb DestructorName
-    takes!(2), // \xdc OuterParameter
-    takes!(2), // \xdd LeftFold
-    takes!(2), // \xde RightFold
-    takes!(2), // \xdf Braces
-    takes!(2), // \xe0 Step
-    takes!(3), // \xe1 New
-    takes!(3), // \xe2 Conditional
-    takes!(2), // \xe3 Requires
-    takes!(1), // \xe4 RequiresOf
-    takes!(1), // \xe5 ExpandExpression
-    takes!(1), // \xe6 PackSize
-    takes!(1), // \xe7 Unresolved
-    takes!(2), // \xe8 PackIndex
-    takes!(3), // \xe9 TypedBraces
-    takes!(0), // \xea Rethrow
-    takes!(1), // \xeb ExpressionA
-    takes!(1), // \xec ExpressionC
-    takes!(1), // \xed ExpressionD
-    takes!(1), // \xee ExpressionE
-    takes!(1), // \xef ExpressionF
-    takes!(1), // \xf0 ExpressionG
-    takes!(1), // \xf1 ExpressionI
-    takes!(1), // \xf2 ExpressionL
-    takes!(1), // \xf3 ExpressionM
-    takes!(1), // \xf4 ExpressionN
-    takes!(1), // \xf5 ExpressionO
-    takes!(1), // \xf6 ExpressionP
-    takes!(1), // \xf7 ExpressionQ
-    takes!(1), // \xf8 ExpressionR
-    takes!(1), // \xf9 ExpressionS
-    takes!(1), // \xfa ExpressionT
-    takes!(1), // \xfb ExpressionWithT
-    chains!(2), // \xfc ParameterExpression
-    takes!(2), // \xfd LeveledExpression
-    takes!(2), // \xfe AddressedLiteral
-    chains!(2), // \xff Expressions
-    takes!(1), // \x00 FoldOperatorL
-    chains!(1), // \x01 FoldOperand
-    chains!(1), // \x02 FoldPack
-    chains!(1), // \x03 TypePack
-    takes!(1), // \x04 Designators
-    chains!(1), // \x05 DesignatedValue
-    chains!(1), // \x06 FieldName
-    chains!(2), // \x07 Placed
-    takes!(1), // \x08 Initializer
-    takes!(1), // \x09 BracedInitializer
-    takes!(0), // \x0a This
-    chains!(1), // \x0b ParameterNumber
-    takes!(1), // \x0c ConvertedDecltype
-    takes!(1), // \x0d ConvertedConst
-    takes!(1), // \x0e ConvertedPointer
-    takes!(1), // \x0f ConvertedReference
-    chains!(1), // \x10 ConvertedType
-    takes!(1), // \x11 ConvertedWithT
-    chains!(2), // \x12 UnresolvedInType
-    chains!(2), // \x13 Levels
-    chains!(1), // \x14 DestroyedType
-    takes!(2), // \x15 ExpressionRequirement
-    takes!(2), // \x16 TypeRequirement
-    takes!(2), // \x17 NestedRequirement
-    takes!(2), // \x18 ResultRequirement
-    takes!(1), // \x19 NoexceptRequirement
-    chains!(2), // \x1a RequiredType
-    takes!(1), // \x1b LevelsEnd
-    takes!(1), // \x1c UnresolvedOperator
-    takes!(1), // \x1d AnyArray
-    chains!(3), // \x1e BoundedArray
-    chains!(2), // \x1f LengthArray
+    chains!(2), // 0 Expressions
+    takes!(1), // 1 FoldOperatorL
+    chains!(1), // 2 FoldOperand
+    chains!(1), // 3 FoldPack
+    chains!(1), // 4 TypePack
+    takes!(1), // 5 Designators
+    chains!(1), // 6 DesignatedValue
+    chains!(1), // 7 FieldName
+    chains!(2), // 8 Placed
+    takes!(1), // 9 Initializer
+    takes!(1), // 10 BracedInitializer
+    takes!(0), // 11 This
+    chains!(1), // 12 ParameterNumber
+    takes!(1), // 13 ConvertedDecltype
+    takes!(1), // 14 ConvertedConst
+    takes!(1), // 15 ConvertedPointer
+    takes!(1), // 16 ConvertedReference
+    chains!(1), // 17 ConvertedType
+    takes!(1), // 18 ConvertedWithT
+    chains!(2), // 19 UnresolvedInType
+    chains!(2), // 20 Levels
+    chains!(1), // 21 DestroyedType
+    takes!(2), // 22 ExpressionRequirement
+    takes!(2), // 23 TypeRequirement
+    takes!(2), // 24 NestedRequirement
+    takes!(2), // 25 ResultRequirement
+    takes!(1), // 26 NoexceptRequirement
+    chains!(2), // 27 RequiredType
+    takes!(1), // 28 LevelsEnd
+    takes!(1), // 29 UnresolvedOperator
+    takes!(1), // 30 AnyArray
+    chains!(2), // 31 LengthArray
+    takes!(1), // 32 ParameterObject
+    takes!(0), // 33 Mark
+    takes!(2), // 34 InternalName
+    takes!(2), // 35 LocalTypeName
+    chains!(2), // 36 SourceName
+    chains!(2), // 37 OperatorName
+    takes!(1), // 38 InternalPiece
+    takes!(1), // 39 LocalTypePiece
+    chains!(1), // 40 SourcePiece
+    takes!(2), // 41 InModule
+    takes!(2), // 42 InNamedModule
+    takes!(5), // 43 NestedName
+    takes!(3), // 44 Symbol
+    takes!(1), // 45 Suffix
+    takes!(1), // 46 SuffixByte
+    takes!(1), // 47 Special
+    chains!(2), // 48 OtherSpecial
+    chains!(2), // 49 Encoding
+    takes!(1), // 50 SpecialType
+    takes!(3), // 51 NonVirtualThunk
+    takes!(5), // 52 VirtualThunk
+    takes!(3), // 53 CovariantThunk
+    takes!(1), // 54 SpecialName
+    takes!(2), // 55 NonVirtualOffset
+    takes!(4), // 56 VirtualOffset
+    takes!(1), // 57 Negative
+    chains!(1), // 58 Positive
+    takes!(1), // 59 NameWithS
+    takes!(4), // 60 LocalName
+    takes!(2), // 61 StdName
+    chains!(2), // 62 AbbreviatedName
+    chains!(1), // 63 OperatorPiece
+    takes!(1), // 64 NestWithS
+    takes!(2), // 65 NestParameter
+    takes!(2), // 66 NestInternal
+    takes!(2), // 67 NestLocalType
+    chains!(2), // 68 NestSource
+    takes!(3), // 69 NestStd
+    chains!(2), // 70 NestTemplate
+    takes!(4), // 71 NestArguments
+    chains!(2), // 72 NestNext
+    takes!(0), // 73 NestEnd
+    takes!(1), // 74 AnyConstructor
+    takes!(2), // 75 Destructor
+    takes!(1), // 76 ComponentWithC
+    chains!(2), // 77 OtherOperatorName
+    chains!(2), // 78 Constructor
+    takes!(0), // 79 Abbreviation
+    chains!(1), // 80 Substitution
+    takes!(1), // 81 NestedType
+    takes!(0), // 82 StringLiteral
+    takes!(1), // 83 Discriminator
+    takes!(0), // 84 OneDigit
+    takes!(2), // 85 ManyDigits
+    takes!(4), // 86 Lambda
+    takes!(1), // 87 Unnamed
+    takes!(3), // 88 RestrictType
+    takes!(2), // 89 VolatileType
+    takes!(1), // 90 ConstType
+    takes!(1), // 91 ReferenceType
+    chains!(1), // 92 PlainType
+    takes!(1), // 93 TypeWithD
+    takes!(1), // 94 PlainWithD
+    chains!(1), // 95 QualifiedPlain
+    takes!(1), // 96 ItemWithD
+    takes!(1), // 97 Expansion
+    chains!(1), // 98 ItemIsType
+    takes!(0), // 99 BuiltinWithD
+    takes!(3), // 100 Vector
+    takes!(4), // 101 NoexceptFunction
+    takes!(2), // 102 SizedFloat
+    takes!(2), // 103 Decltype
+    takes!(1), // 104 Pointer
+    takes!(2), // 105 MemberPointer
+    takes!(2), // 106 Parameter
+    takes!(2), // 107 TypeWithS
+    takes!(4), // 108 LocalType
+    takes!(0), // 109 Builtin
+    takes!(1), // 110 Vendor
+    chains!(1), // 111 ArrayType
+    takes!(3), // 112 Function
+    takes!(1), // 113 Complex
+    chains!(1), // 114 BitWidth
+    chains!(1), // 115 TypeInStd
+    chains!(1), // 116 AbbreviatedType
+    takes!(0), // 117 RestEnd
+    takes!(1), // 118 RestLvalue
+    takes!(1), // 119 RestRvalue
+    chains!(2), // 120 RestItem
+    takes!(0), // 121 RefEnd
+    chains!(2), // 122 LvalueItem
+    chains!(2), // 123 RvalueItem
+    chains!(2), // 124 Items
+    takes!(2), // 125 Arguments
+    takes!(3), // 126 PackArgument
+    takes!(3), // 127 LiteralArgument
+    chains!(2), // 128 AnyArgument
+    takes!(3), // 129 LiteralElement
+    chains!(2), // 130 AnyElement
+    takes!(2), // 131 EncodingLiteral
+    takes!(1), // 132 BoolLiteral
+    takes!(1), // 133 LiteralWithD
+    chains!(2), // 134 IntegerLiteral
+    takes!(1), // 135 NullLiteral
+    takes!(1), // 136 CharLiteral
+    chains!(1), // 137 HexText
+    takes!(1), // 138 HexDigit
+    chains!(1), // 139 QualifiedLiteral
+    takes!(1), // 140 OperatorN
+    takes!(1), // 141 OperatorD
+    takes!(1), // 142 OperatorA
+    takes!(1), // 143 OperatorP
+    takes!(1), // 144 OperatorC
+    takes!(1), // 145 OperatorM
+    takes!(1), // 146 OperatorR
+    takes!(1), // 147 OperatorO
+    takes!(1), // 148 OperatorE
+    takes!(1), // 149 OperatorL
+    takes!(1), // 150 OperatorS
+    takes!(1), // 151 OperatorI
+    takes!(1), // 152 OperatorG
+    takes!(1), // 153 LiteralOperator
+    takes!(3), // 154 NestInstance
+    chains!(2), // 155 FirstModule
+    chains!(2), // 156 NamedModule
+    takes!(3), // 157 MoreModule
+    chains!(2), // 158 OperatorNameWithC
+    takes!(2), // 159 HeldArguments
+    takes!(2), // 160 NestedBase
+    chains!(2), // 161 UnnestedBase
+    takes!(1), // 162 UnnestedWithS
+    chains!(2), // 163 TaggedSource
+    takes!(3), // 164 BaseArguments
+    takes!(3), // 165 LocalTemporary
+    takes!(2), // 166 TaggedStdType
+    takes!(2), // 167 Expression
+    takes!(1), // 168 ArgumentWithT
+    chains!(1), // 169 PlainArgument
+    chains!(2), // 170 ParameterArgument
+    takes!(2), // 171 LeveledParameter
+    takes!(2), // 172 OneLiteral
+    takes!(2), // 173 OnePack
+    takes!(0), // 174 AnyType
+    takes!(1), // 175 ValueOf
+    takes!(1), // 176 OfConcept
+    takes!(2), // 177 TemplateOf
+    takes!(2), // 178 PackOf
+    takes!(2), // 179 Declarations
+    chains!(2), // 180 NamedConcept
+    takes!(2), // 181 Cast
+    takes!(2), // 182 OperatorReference
+    chains!(2), // 183 SimpleId
+    takes!(4), // 184 FunctionParameter
+    takes!(1), // 185 AddressExpression
+    takes!(2), // 186 Binary
+    takes!(1), // 187 Unary
+    takes!(1), // 188 OfType
+    takes!(3), // 189 Call
+    takes!(2), // 190 Convert
+    takes!(2), // 191 Designated
+    takes!(2), // 192 DesignatedElement
+    takes!(1), // 193 DestructorName
+    takes!(2), // 194 OuterParameter
+    takes!(2), // 195 LeftFold
+    takes!(2), // 196 RightFold
+    takes!(2), // 197 Braces
+    takes!(2), // 198 Step
+    takes!(3), // 199 New
+    takes!(3), // 200 Conditional
+    takes!(2), // 201 Requires
+    takes!(1), // 202 RequiresOf
+    takes!(1), // 203 ExpandExpression
+    takes!(1), // 204 PackSize
+    takes!(1), // 205 Unresolved
+    takes!(2), // 206 PackIndex
+    takes!(3), // 207 TypedBraces
+    takes!(0), // 208 Rethrow
+    takes!(1), // 209 ExpressionA
+    takes!(1), // 210 ExpressionC
+    takes!(1), // 211 ExpressionD
+    takes!(1), // 212 ExpressionE
+    takes!(1), // 213 ExpressionF
+    takes!(1), // 214 ExpressionG
+    takes!(1), // 215 ExpressionI
+    takes!(1), // 216 ExpressionL
+    takes!(1), // 217 ExpressionM
+    takes!(1), // 218 ExpressionN
+    takes!(1), // 219 ExpressionO
+    takes!(1), // 220 ExpressionP
+    takes!(1), // 221 ExpressionQ
+    takes!(1), // 222 ExpressionR
+    takes!(1), // 223 ExpressionS
+    takes!(1), // 224 ExpressionT
+    takes!(1), // 225 ExpressionWithT
+    chains!(2), // 226 ParameterExpression
+    takes!(2), // 227 LeveledExpression
+    takes!(2), // 228 AddressedLiteral
+    chains!(3), // 229 BoundedArray
+    chains!(2), // 230 DeclaredArgument
+    takes!(2), // 231 TypeTag
+    takes!(2), // 232 Clone
+    takes!(2), // 233 ModuleInitializer
+    takes!(2), // 234 Temporary
+    takes!(1), // 235 Conversion
+    takes!(1), // 236 ConstLiteral
+    takes!(2), // 237 VolatileLiteral
+    chains!(2), // 238 SizedFloatLiteral
+    chains!(2), // 239 FloatLiteral
+    takes!(2), // 240 Tag
+    takes!(1), // 241 Constraint
+    takes!(2), // 242 IndexedType
+    takes!(2), // 243 BitInt
+    takes!(1), // 244 ConstrainedAuto
+    takes!(2), // 245 Enumeration
+    takes!(2), // 246 DefaultTypeEntity
+    takes!(2), // 247 DefaultEntity
+    takes!(2), // 248 Inheriting
+    takes!(2), // 249 Friend
+    chains!(2), // 250 Holder
+    takes!(2), // 251 NestTag
+    takes!(2), // 252 NestDecltype
+    chains!(2), // 253 NestModule
+    takes!(4), // 254 ConstructionVtable
 ];
 
 // The symbols of the rules, in the same order.
 pub static SYMBOLS: [Sym; 1536] = symbols_listed! {
-    [NONE, NONE, NONE, NONE, NONE], // ! Mark
-    [NAME, MAYBE_ARGUMENTS, NONE, NONE, NONE], // \" InternalName
-    [ANONYMOUS, MAYBE_ARGUMENTS, NONE, NONE, NONE], // # LocalTypeName
-    [NAME, MAYBE_ARGUMENTS, NONE, NONE, NONE], // $ SourceName
-    [OPERATOR, MAYBE_ARGUMENTS, NONE, NONE, NONE], // % OperatorName
-    [NAME, NONE, NONE, NONE, NONE], // & InternalPiece
-    [ANONYMOUS, NONE, NONE, NONE, NONE], // ' LocalTypePiece
-    [NAME, NONE, NONE, NONE, NONE], // ( SourcePiece
-    [FIRST_MODULE, NAME_AFTER_MODULE, NONE, NONE, NONE], // ) InModule
-    [NAMED_MODULE, NAME_AFTER_MODULE, NONE, NONE, NONE], // * InNamedModule
-    [MAYBE_RESTRICT, MAYBE_VOLATILE, MAYBE_CONST, MAYBE_REF, NEST], // + NestedName
-    [Sym::Byte(b'Z'), ENCODING, MAYBE_SUFFIX, NONE, NONE], // , Symbol
-    [SUFFIX_FIRST, NONE, NONE, NONE, NONE], // - Suffix
-    [SUFFIX_MORE, NONE, NONE, NONE, NONE], // . SuffixByte
-    [SPECIAL, NONE, NONE, NONE, NONE], // / Special
-    [SPECIAL_MARK, SPECIAL_AFTER_G, NONE, NONE, NONE], // 0 OtherSpecial
-    [COMPLETE_NAME, ITEMS, NONE, NONE, NONE], // 1 Encoding
-    [TYPE, NONE, NONE, NONE, NONE], // 2 SpecialType
-    [INTEGER, Sym::Byte(b'_'), ENCODING, NONE, NONE], // 3 NonVirtualThunk
-    [INTEGER, Sym::Byte(b'_'), INTEGER, Sym::Byte(b'_'), ENCODING], // 4 VirtualThunk
-    [CALL_OFFSET, CALL_OFFSET, ENCODING, NONE, NONE], // 5 CovariantThunk
-    [COMPLETE_NAME, NONE, NONE, NONE, NONE], // 6 SpecialName
-    [ONE_ARGUMENT, NONE, NONE, NONE, NONE], // 7 ParameterObject
-    [TYPE, DIGITS, Sym::Byte(b'_'), TYPE, NONE], // 8 ConstructionVtable
-    [INTEGER, Sym::Byte(b'_'), NONE, NONE, NONE], // 9 NonVirtualOffset
-    [INTEGER, Sym::Byte(b'_'), INTEGER, Sym::Byte(b'_'), NONE], // : VirtualOffset
-    [DIGITS, NONE, NONE, NONE, NONE], // ; Negative
-    [DIGITS, NONE, NONE, NONE, NONE], // < Positive
-    [NAME_AFTER_S, NONE, NONE, NONE, NONE], // = NameWithS
-    [ENCODING, Sym::Byte(b'E'), ENTITY, MAYBE_DISCRIMINATOR, NONE], // > LocalName
-    [UNQUALIFIED, MAYBE_ARGUMENTS, NONE, NONE, NONE], // ? StdName
-    [ABBREVIATION, ARGUMENTS, NONE, NONE, NONE], // @ AbbreviatedName
-    [OPERATOR, NONE, NONE, NONE, NONE], // A OperatorPiece
-    [NEST_AFTER_S, NONE, NONE, NONE, NONE], // B NestWithS
-    [DECIMAL, NEST_REST_ALONE, NONE, NONE, NONE], // C NestParameter
-    [NAME, NEST_REST, NONE, NONE, NONE], // D NestInternal
-    [ANONYMOUS, NEST_REST, NONE, NONE, NONE], // E NestLocalType
-    [NAME, NEST_REST, NONE, NONE, NONE], // F NestSource
-    [NAME_IN_MODULE, NEST_ON, NONE, NONE, NONE], // G NestModule
-    [DECLTYPE_AFTER_D, NEST_REST_ALONE, NONE, NONE, NONE], // H NestDecltype
-    [UNQUALIFIED, MAYBE_ARGUMENTS, NEST_TAIL, NONE, NONE], // I NestStd
-    [ABBREVIATION, NEST_REST_OR_END, NONE, NONE, NONE], // J NestTemplate
-    [ARGUMENTS_FIRST, Sym::Byte(b'E'), COMPONENT, NEST_TAIL, NONE], // K NestArguments
-    [COMPONENT, NEST_TAIL, NONE, NONE, NONE], // L NestNext
-    [NAME, NEST_REST, NONE, NONE, NONE], // M NestTag
-    [NONE, NONE, NONE, NONE, NONE], // N NestEnd
-    [CONSTRUCTOR_AFTER_C, NONE, NONE, NONE, NONE], // O AnyConstructor
-    [DESTRUCTOR_DIGIT, MAYBE_ARGUMENTS, NONE, NONE, NONE], // P Destructor
-    [COMPONENT_AFTER_C, NONE, NONE, NONE, NONE], // Q ComponentWithC
-    [OTHER_OPERATOR, MAYBE_ARGUMENTS, NONE, NONE, NONE], // R OtherOperatorName
-    [HOLDER_MARK, HELD_COMPONENT, NONE, NONE, NONE], // S Holder
-    [UNQUALIFIED, MAYBE_ARGUMENTS, NONE, NONE, NONE], // T Friend
-    [INHERITED_DIGIT, BASE_CLASS, NONE, NONE, NONE], // U Inheriting
-    [CONSTRUCTOR_DIGIT, MAYBE_ARGUMENTS, NONE, NONE, NONE], // V Constructor
-    [NONE, NONE, NONE, NONE, NONE], // W Abbreviation
-    [SEQ36, NONE, NONE, NONE, NONE], // X Substitution
-    [NEST, NONE, NONE, NONE, NONE], // Y NestedType
-    [NONE, NONE, NONE, NONE, NONE], // Z StringLiteral
-    [DECIMAL, PLAIN_ENTITY, NONE, NONE, NONE], // [ DefaultEntity
-    [DECIMAL, PLAIN_TYPE_ENTITY, NONE, NONE, NONE], // \\ DefaultTypeEntity
-    [DISCRIMINATOR_REST, NONE, NONE, NONE, NONE], // ] Discriminator
-    [NONE, NONE, NONE, NONE, NONE], // ^ OneDigit
-    [DIGITS, Sym::Byte(b'_'), NONE, NONE, NONE], // _ ManyDigits
-    [ITEM, ITEMS, Sym::Byte(b'E'), DECIMAL, NONE], // ` Lambda
-    [DECIMAL, NONE, NONE, NONE, NONE], // a Unnamed
-    [TYPE, NAME, NONE, NONE, NONE], // b Enumeration
-    [MAYBE_VOLATILE, MAYBE_CONST, PLAIN, NONE, NONE], // c RestrictType
-    [MAYBE_CONST, PLAIN, NONE, NONE, NONE], // d VolatileType
-    [PLAIN, NONE, NONE, NONE, NONE], // e ConstType
-    [TYPE, NONE, NONE, NONE, NONE], // f ReferenceType
-    [SOLID, NONE, NONE, NONE, NONE], // g PlainType
-    [AFTER_D, NONE, NONE, NONE, NONE], // h TypeWithD
-    [AFTER_D, NONE, NONE, NONE, NONE], // i PlainWithD
-    [SOLID, NONE, NONE, NONE, NONE], // j QualifiedPlain
-    [ITEM_AFTER_D, NONE, NONE, NONE, NONE], // k ItemWithD
-    [TYPE, NONE, NONE, NONE, NONE], // l Expansion
-    [AFTER_D, NONE, NONE, NONE, NONE], // m ItemIsType
-    [NONE, NONE, NONE, NONE, NONE], // n BuiltinWithD
-    [DIGITS, Sym::Byte(b'_'), TYPE, NONE, NONE], // o Vector
-    [Sym::Byte(b'F'), MAYBE_C_LINKAGE, TYPE, FUNCTION_REST, NONE], // p NoexceptFunction
-    [DIGITS, FLOAT_END, NONE, NONE, NONE], // q SizedFloat
-    [CONCEPT, NONE, NONE, NONE, NONE], // r ConstrainedAuto
-    [BIT_WIDTH, Sym::Byte(b'_'), NONE, NONE, NONE], // s BitInt
-    [EXPRESSION, Sym::Byte(b'E'), NONE, NONE, NONE], // t Decltype
-    [TYPE_PACK, EXPRESSION, NONE, NONE, NONE], // u IndexedType
-    [TYPE, NONE, NONE, NONE, NONE], // v Pointer
-    [TYPE, TYPE, NONE, NONE, NONE], // w MemberPointer
-    [DECIMAL, ARGUMENTS_ALONE, NONE, NONE, NONE], // x Parameter
-    [TYPE_AFTER_S, ARGUMENTS_ALONE, NONE, NONE, NONE], // y TypeWithS
-    [ENCODING, Sym::Byte(b'E'), TYPE_ENTITY, MAYBE_DISCRIMINATOR, NONE], // z LocalType
-    [NONE, NONE, NONE, NONE, NONE], // { Builtin
-    [NAME, NONE, NONE, NONE, NONE], // | Vendor
-    [ANY_ARRAY, NONE, NONE, NONE, NONE], // } ArrayType
-    [MAYBE_C_LINKAGE, TYPE, FUNCTION_REST, NONE, NONE], // ~ Function
-    [TYPE, NONE, NONE, NONE, NONE], // \x7f Complex
-    [DIGITS, NONE, NONE, NONE, NONE], // \x80 BitWidth
-    [TYPE_IN_STD, NONE, NONE, NONE, NONE], // \x81 TypeInStd
-    [ABBREVIATION, NONE, NONE, NONE, NONE], // \x82 AbbreviatedType
-    [NONE, NONE, NONE, NONE, NONE], // \x83 RestEnd
-    [AFTER_R, NONE, NONE, NONE, NONE], // \x84 RestLvalue
-    [AFTER_O, NONE, NONE, NONE, NONE], // \x85 RestRvalue
-    [ITEM_BUT_REF, FUNCTION_REST, NONE, NONE, NONE], // \x86 RestItem
-    [NONE, NONE, NONE, NONE, NONE], // \x87 RefEnd
-    [TYPE, FUNCTION_REST, NONE, NONE, NONE], // \x88 LvalueItem
-    [TYPE, FUNCTION_REST, NONE, NONE, NONE], // \x89 RvalueItem
-    [EXPRESSION, NONE, NONE, NONE, NONE], // \x8a Constraint
-    [ITEM, ITEMS, NONE, NONE, NONE], // \x8b Items
-    [ARGUMENTS_FIRST, Sym::Byte(b'E'), NONE, NONE, NONE], // \x8c Arguments
-    [NAME, MAYBE_ARGUMENTS, NONE, NONE, NONE], // \x8d Tag
-    [PACK_LIST, Sym::Byte(b'E'), ARGUMENT_LIST, NONE, NONE], // \x8e PackArgument
-    [LITERAL, Sym::Byte(b'E'), ARGUMENT_LIST, NONE, NONE], // \x8f LiteralArgument
-    [ARGUMENT, ARGUMENT_LIST, NONE, NONE, NONE], // \x90 AnyArgument
-    [LITERAL, Sym::Byte(b'E'), PACK_LIST, NONE, NONE], // \x91 LiteralElement
-    [ARGUMENT, PACK_LIST, NONE, NONE, NONE], // \x92 AnyElement
-    [Sym::Byte(b'Z'), ENCODING, NONE, NONE, NONE], // \x93 EncodingLiteral
-    [BIT, NONE, NONE, NONE, NONE], // \x94 BoolLiteral
-    [LITERAL_AFTER_D, NONE, NONE, NONE, NONE], // \x95 LiteralWithD
-    [LITERAL_TYPE, INTEGER, NONE, NONE, NONE], // \x96 IntegerLiteral
-    [FLOAT_TYPE, HEX_TEXT, NONE, NONE, NONE], // \x97 FloatLiteral
-    [MAYBE_ZERO, NONE, NONE, NONE, NONE], // \x98 NullLiteral
-    [INTEGER, NONE, NONE, NONE, NONE], // \x99 CharLiteral
-    [SIZED_FLOAT_TYPE, HEX_TEXT, NONE, NONE, NONE], // \x9a SizedFloatLiteral
-    [HEX_DIGITS, NONE, NONE, NONE, NONE], // \x9b HexText
-    [HEX_MORE, NONE, NONE, NONE, NONE], // \x9c HexDigit
-    [MAYBE_CONST, LITERAL_PLAIN, NONE, NONE, NONE], // \x9d VolatileLiteral
-    [LITERAL_PLAIN, NONE, NONE, NONE, NONE], // \x9e ConstLiteral
-    [LITERAL_SOLID, NONE, NONE, NONE, NONE], // \x9f QualifiedLiteral
-    [OPERATOR_AFTER_N, NONE, NONE, NONE, NONE], // \xa0 OperatorN
-    [OPERATOR_AFTER_D, NONE, NONE, NONE, NONE], // \xa1 OperatorD
-    [OPERATOR_AFTER_A, NONE, NONE, NONE, NONE], // \xa2 OperatorA
-    [OPERATOR_AFTER_P, NONE, NONE, NONE, NONE], // \xa3 OperatorP
-    [OPERATOR_AFTER_C, NONE, NONE, NONE, NONE], // \xa4 OperatorC
-    [OPERATOR_AFTER_M, NONE, NONE, NONE, NONE], // \xa5 OperatorM
-    [OPERATOR_AFTER_R, NONE, NONE, NONE, NONE], // \xa6 OperatorR
-    [OPERATOR_AFTER_O, NONE, NONE, NONE, NONE], // \xa7 OperatorO
-    [OPERATOR_AFTER_E, NONE, NONE, NONE, NONE], // \xa8 OperatorE
-    [OPERATOR_AFTER_L, NONE, NONE, NONE, NONE], // \xa9 OperatorL
-    [OPERATOR_AFTER_S, NONE, NONE, NONE, NONE], // \xaa OperatorS
-    [OPERATOR_AFTER_I, NONE, NONE, NONE, NONE], // \xab OperatorI
-    [OPERATOR_AFTER_G, NONE, NONE, NONE, NONE], // \xac OperatorG
-    [NAME, NONE, NONE, NONE, NONE], // \xad LiteralOperator
-    [ARGUMENTS_FIRST, Sym::Byte(b'E'), NEST_MORE_OR_END, NONE, NONE], // \xae NestInstance
-    [FIELD_NAME, MORE_MODULE, NONE, NONE, NONE], // \xaf FirstModule
-    [SEQ36, MORE_MODULE, NONE, NONE, NONE], // \xb0 NamedModule
-    [MAYBE_PARTITION, FIELD_NAME, MORE_MODULE, NONE, NONE], // \xb1 MoreModule
-    [TYPE, NONE, NONE, NONE, NONE], // \xb2 Conversion
-    [OPERATOR_AFTER_C, MAYBE_ARGUMENTS, NONE, NONE, NONE], // \xb3 OperatorNameWithC
-    [ARGUMENTS_FIRST, Sym::Byte(b'E'), NONE, NONE, NONE], // \xb4 HeldArguments
-    [NEST, HELD_ARGUMENTS, NONE, NONE, NONE], // \xb5 NestedBase
-    [UNNESTED_NAME, BASE_ARGUMENTS, NONE, NONE, NONE], // \xb6 UnnestedBase
-    [TYPE_AFTER_S, NONE, NONE, NONE, NONE], // \xb7 UnnestedWithS
-    [NAME, MAYBE_TAGS, NONE, NONE, NONE], // \xb8 TaggedSource
-    [ARGUMENTS_FIRST, Sym::Byte(b'E'), HELD_ARGUMENTS, NONE, NONE], // \xb9 BaseArguments
-    [TEMPORARY_NAME, Sym::Byte(b'_'), NONE, NONE, NONE], // \xba Temporary
-    [Sym::Byte(b'W'), FIRST_MODULE, NONE, NONE, NONE], // \xbb ModuleInitializer
-    [CLONE_LETTER, ENCODING, NONE, NONE, NONE], // \xbc Clone
-    [ENCODING, Sym::Byte(b'E'), ENTITY, NONE, NONE], // \xbd LocalTemporary
-    [SOURCE_OR_LOCAL, MAYBE_TAGS, NONE, NONE, NONE], // \xbe TaggedStdType
-    [NAME, MAYBE_TAGS, NONE, NONE, NONE], // \xbf TypeTag
-    [EXPRESSION, Sym::Byte(b'E'), NONE, NONE, NONE], // \xc0 Expression
-    [ARGUMENT_AFTER_T, NONE, NONE, NONE, NONE], // \xc1 ArgumentWithT
-    [SOLID_BUT_T, NONE, NONE, NONE, NONE], // \xc2 PlainArgument
-    [DECIMAL, ARGUMENTS_ALONE, NONE, NONE, NONE], // \xc3 ParameterArgument
-    [DECLARATION_AFTER_T, ONE_ARGUMENT, NONE, NONE, NONE], // \xc4 DeclaredArgument
-    [DECIMAL, LEVELED_PARAMETER, NONE, NONE, NONE], // \xc5 LeveledParameter
-    [LITERAL, Sym::Byte(b'E'), NONE, NONE, NONE], // \xc6 OneLiteral
-    [PACK_LIST, Sym::Byte(b'E'), NONE, NONE, NONE], // \xc7 OnePack
-    [NONE, NONE, NONE, NONE, NONE], // \xc8 AnyType
-    [TYPE, NONE, NONE, NONE, NONE], // \xc9 ValueOf
-    [CONCEPT, NONE, NONE, NONE, NONE], // \xca OfConcept
-    [DECLARATIONS, Sym::Byte(b'E'), NONE, NONE, NONE], // \xcb TemplateOf
-    [Sym::Byte(b'T'), DECLARATION_AFTER_T, NONE, NONE, NONE], // \xcc PackOf
-    [DECLARATION_AFTER_T, DECLARATIONS, NONE, NONE, NONE], // \xcd Declarations
-    [UNNESTED_NAME, HELD_ARGUMENTS, NONE, NONE, NONE], // \xce NamedConcept
-    [TYPE, EXPRESSION, NONE, NONE, NONE], // \xcf Cast
-    [OPERATOR, ARGUMENTS_ALONE, NONE, NONE, NONE], // \xd0 OperatorReference
-    [NAME, ARGUMENTS_ALONE, NONE, NONE, NONE], // \xd1 SimpleId
-    [MAYBE_RESTRICT, MAYBE_VOLATILE, MAYBE_CONST, PARAMETER_NUMBER, NONE], // \xd2 FunctionParameter
-    [ADDRESSED_EXPRESSION, NONE, NONE, NONE, NONE], // \xd3 AddressExpression
-    [EXPRESSION, EXPRESSION, NONE, NONE, NONE], // \xd4 Binary
-    [EXPRESSION, NONE, NONE, NONE, NONE], // \xd5 Unary
-    [CONVERTED_TYPE, NONE, NONE, NONE, NONE], // \xd6 OfType
-    [EXPRESSION, EXPRESSIONS, Sym::Byte(b'E'), NONE, NONE], // \xd7 Call
-    [CONVERTED_TYPE, CONVERT_REST, NONE, NONE, NONE], // \xd8 Convert
-    [FIELD_NAME, DESIGNATED_VALUE, NONE, NONE, NONE], // \xd9 Designated
-    [EXPRESSION, DESIGNATED_VALUE, NONE, NONE, NONE], // \xda DesignatedElement
-    [DESTRUCTOR_NAME, NONE, NONE, NONE, NONE], // \xdb DestructorName
-    [DIGITS, OUTER_REST, NONE, NONE, NONE], // \xdc OuterParameter
-    [FOLD_OPERATOR, FOLD_OPERAND, NONE, NONE, NONE], // \xdd LeftFold
-    [FOLD_OPERATOR, FOLD_OPERAND, NONE, NONE, NONE], // \xde RightFold
-    [EXPRESSIONS, Sym::Byte(b'E'), NONE, NONE, NONE], // \xdf Braces
-    [MAYBE_BEFORE, EXPRESSION, NONE, NONE, NONE], // \xe0 Step
-    [PLACEMENT, TYPE, INITIALIZER, NONE, NONE], // \xe1 New
-    [EXPRESSION, EXPRESSION, EXPRESSION, NONE, NONE], // \xe2 Conditional
-    [REQUIREMENTS, Sym::Byte(b'E'), NONE, NONE, NONE], // \xe3 Requires
-    [REQUIRED_TYPES, NONE, NONE, NONE, NONE], // \xe4 RequiresOf
-    [EXPRESSION, NONE, NONE, NONE, NONE], // \xe5 ExpandExpression
-    [EXPRESSION, NONE, NONE, NONE, NONE], // \xe6 PackSize
-    [UNRESOLVED, NONE, NONE, NONE, NONE], // \xe7 Unresolved
-    [VALUE_PACK, EXPRESSION, NONE, NONE, NONE], // \xe8 PackIndex
-    [TYPE, EXPRESSIONS, Sym::Byte(b'E'), NONE, NONE], // \xe9 TypedBraces
-    [NONE, NONE, NONE, NONE, NONE], // \xea Rethrow
-    [EXPRESSION_AFTER_A, NONE, NONE, NONE, NONE], // \xeb ExpressionA
-    [EXPRESSION_AFTER_C, NONE, NONE, NONE, NONE], // \xec ExpressionC
-    [EXPRESSION_AFTER_D, NONE, NONE, NONE, NONE], // \xed ExpressionD
-    [EXPRESSION_AFTER_E, NONE, NONE, NONE, NONE], // \xee ExpressionE
-    [EXPRESSION_AFTER_F, NONE, NONE, NONE, NONE], // \xef ExpressionF
-    [EXPRESSION_AFTER_G, NONE, NONE, NONE, NONE], // \xf0 ExpressionG
-    [EXPRESSION_AFTER_I, NONE, NONE, NONE, NONE], // \xf1 ExpressionI
-    [EXPRESSION_AFTER_L, NONE, NONE, NONE, NONE], // \xf2 ExpressionL
-    [EXPRESSION_AFTER_M, NONE, NONE, NONE, NONE], // \xf3 ExpressionM
-    [EXPRESSION_AFTER_N, NONE, NONE, NONE, NONE], // \xf4 ExpressionN
-    [EXPRESSION_AFTER_O, NONE, NONE, NONE, NONE], // \xf5 ExpressionO
-    [EXPRESSION_AFTER_P, NONE, NONE, NONE, NONE], // \xf6 ExpressionP
-    [EXPRESSION_AFTER_Q, NONE, NONE, NONE, NONE], // \xf7 ExpressionQ
-    [EXPRESSION_AFTER_R, NONE, NONE, NONE, NONE], // \xf8 ExpressionR
-    [EXPRESSION_AFTER_S, NONE, NONE, NONE, NONE], // \xf9 ExpressionS
-    [EXPRESSION_AFTER_T, NONE, NONE, NONE, NONE], // \xfa ExpressionT
-    [EXPRESSION_PARAMETER, NONE, NONE, NONE, NONE], // \xfb ExpressionWithT
-    [DECIMAL, ARGUMENTS_ALONE, NONE, NONE, NONE], // \xfc ParameterExpression
-    [DECIMAL, UNLEVELED_EXPRESSION, NONE, NONE, NONE], // \xfd LeveledExpression
-    [ADDRESSED_LITERAL, Sym::Byte(b'E'), NONE, NONE, NONE], // \xfe AddressedLiteral
-    [EXPRESSION, EXPRESSIONS, NONE, NONE, NONE], // \xff Expressions
-    [FOLD_OPERATOR_AFTER_L, NONE, NONE, NONE, NONE], // \x00 FoldOperatorL
-    [FOLD_PACK, NONE, NONE, NONE, NONE], // \x01 FoldOperand
-    [EXPRESSION, NONE, NONE, NONE, NONE], // \x02 FoldPack
-    [TYPE, NONE, NONE, NONE, NONE], // \x03 TypePack
-    [DESIGNATOR_AFTER_D, NONE, NONE, NONE, NONE], // \x04 Designators
-    [PLAIN_VALUE, NONE, NONE, NONE, NONE], // \x05 DesignatedValue
-    [NAME, NONE, NONE, NONE, NONE], // \x06 FieldName
-    [SOME_EXPRESSIONS, Sym::Byte(b'_'), NONE, NONE, NONE], // \x07 Placed
-    [INITIALIZER_AFTER_P, NONE, NONE, NONE, NONE], // \x08 Initializer
-    [INITIALIZER_AFTER_I, NONE, NONE, NONE, NONE], // \x09 BracedInitializer
-    [NONE, NONE, NONE, NONE, NONE], // \x0a This
-    [DECIMAL, NONE, NONE, NONE, NONE], // \x0b ParameterNumber
-    [CONVERTED_AFTER_D, NONE, NONE, NONE, NONE], // \x0c ConvertedDecltype
-    [CONVERTED_TYPE, NONE, NONE, NONE, NONE], // \x0d ConvertedConst
-    [CONVERTED_TYPE, NONE, NONE, NONE, NONE], // \x0e ConvertedPointer
-    [CONVERTED_TYPE, NONE, NONE, NONE, NONE], // \x0f ConvertedReference
-    [CONVERTED_SOLID, NONE, NONE, NONE, NONE], // \x10 ConvertedType
-    [PARAMETER_AFTER_T, NONE, NONE, NONE, NONE], // \x11 ConvertedWithT
-    [UNRESOLVED_TYPE, UNRESOLVED_NAME, NONE, NONE, NONE], // \x12 UnresolvedInType
-    [LEVEL, MORE_LEVELS, NONE, NONE, NONE], // \x13 Levels
-    [UNRESOLVED_TYPE, NONE, NONE, NONE, NONE], // \x14 DestroyedType
-    [EXPRESSION, AFTER_EXPRESSION, NONE, NONE, NONE], // \x15 ExpressionRequirement
-    [TYPE, REQUIREMENTS, NONE, NONE, NONE], // \x16 TypeRequirement
-    [EXPRESSION, REQUIREMENTS, NONE, NONE, NONE], // \x17 NestedRequirement
-    [CONCEPT, REQUIREMENTS, NONE, NONE, NONE], // \x18 ResultRequirement
-    [AFTER_NOEXCEPT, NONE, NONE, NONE, NONE], // \x19 NoexceptRequirement
-    [CONVERTED_TYPE, REQUIRED_TYPES, NONE, NONE, NONE], // \x1a RequiredType
-    [UNRESOLVED_NAME, NONE, NONE, NONE, NONE], // \x1b LevelsEnd
-    [OPERATOR_NAME, NONE, NONE, NONE, NONE], // \x1c UnresolvedOperator
-    [ARRAY_REST, NONE, NONE, NONE, NONE], // \x1d AnyArray
-    [BOUND, Sym::Byte(b'_'), TYPE, NONE, NONE], // \x1e BoundedArray
-    [DECIMAL, TYPE, NONE, NONE, NONE], // \x1f LengthArray
+    [EXPRESSION, EXPRESSIONS, NONE, NONE, NONE], // 0 Expressions
+    [FOLD_OPERATOR_AFTER_L, NONE, NONE, NONE, NONE], // 1 FoldOperatorL
+    [FOLD_PACK, NONE, NONE, NONE, NONE], // 2 FoldOperand
+    [EXPRESSION, NONE, NONE, NONE, NONE], // 3 FoldPack
+    [TYPE, NONE, NONE, NONE, NONE], // 4 TypePack
+    [DESIGNATOR_AFTER_D, NONE, NONE, NONE, NONE], // 5 Designators
+    [PLAIN_VALUE, NONE, NONE, NONE, NONE], // 6 DesignatedValue
+    [NAME, NONE, NONE, NONE, NONE], // 7 FieldName
+    [SOME_EXPRESSIONS, Sym::Byte(b'_'), NONE, NONE, NONE], // 8 Placed
+    [INITIALIZER_AFTER_P, NONE, NONE, NONE, NONE], // 9 Initializer
+    [INITIALIZER_AFTER_I, NONE, NONE, NONE, NONE], // 10 BracedInitializer
+    [NONE, NONE, NONE, NONE, NONE], // 11 This
+    [DECIMAL, NONE, NONE, NONE, NONE], // 12 ParameterNumber
+    [CONVERTED_AFTER_D, NONE, NONE, NONE, NONE], // 13 ConvertedDecltype
+    [CONVERTED_TYPE, NONE, NONE, NONE, NONE], // 14 ConvertedConst
+    [CONVERTED_TYPE, NONE, NONE, NONE, NONE], // 15 ConvertedPointer
+    [CONVERTED_TYPE, NONE, NONE, NONE, NONE], // 16 ConvertedReference
+    [CONVERTED_SOLID, NONE, NONE, NONE, NONE], // 17 ConvertedType
+    [PARAMETER_AFTER_T, NONE, NONE, NONE, NONE], // 18 ConvertedWithT
+    [UNRESOLVED_TYPE, UNRESOLVED_NAME, NONE, NONE, NONE], // 19 UnresolvedInType
+    [LEVEL, MORE_LEVELS, NONE, NONE, NONE], // 20 Levels
+    [UNRESOLVED_TYPE, NONE, NONE, NONE, NONE], // 21 DestroyedType
+    [EXPRESSION, AFTER_EXPRESSION, NONE, NONE, NONE], // 22 ExpressionRequirement
+    [TYPE, REQUIREMENTS, NONE, NONE, NONE], // 23 TypeRequirement
+    [EXPRESSION, REQUIREMENTS, NONE, NONE, NONE], // 24 NestedRequirement
+    [CONCEPT, REQUIREMENTS, NONE, NONE, NONE], // 25 ResultRequirement
+    [AFTER_NOEXCEPT, NONE, NONE, NONE, NONE], // 26 NoexceptRequirement
+    [CONVERTED_TYPE, REQUIRED_TYPES, NONE, NONE, NONE], // 27 RequiredType
+    [UNRESOLVED_NAME, NONE, NONE, NONE, NONE], // 28 LevelsEnd
+    [OPERATOR_NAME, NONE, NONE, NONE, NONE], // 29 UnresolvedOperator
+    [ARRAY_REST, NONE, NONE, NONE, NONE], // 30 AnyArray
+    [DECIMAL, TYPE, NONE, NONE, NONE], // 31 LengthArray
+    [ONE_ARGUMENT, NONE, NONE, NONE, NONE], // 32 ParameterObject
+    [NONE, NONE, NONE, NONE, NONE], // 33 Mark
+    [NAME, MAYBE_ARGUMENTS, NONE, NONE, NONE], // 34 InternalName
+    [ANONYMOUS, MAYBE_ARGUMENTS, NONE, NONE, NONE], // 35 LocalTypeName
+    [NAME, MAYBE_ARGUMENTS, NONE, NONE, NONE], // 36 SourceName
+    [OPERATOR, MAYBE_ARGUMENTS, NONE, NONE, NONE], // 37 OperatorName
+    [NAME, NONE, NONE, NONE, NONE], // 38 InternalPiece
+    [ANONYMOUS, NONE, NONE, NONE, NONE], // 39 LocalTypePiece
+    [NAME, NONE, NONE, NONE, NONE], // 40 SourcePiece
+    [FIRST_MODULE, NAME_AFTER_MODULE, NONE, NONE, NONE], // 41 InModule
+    [NAMED_MODULE, NAME_AFTER_MODULE, NONE, NONE, NONE], // 42 InNamedModule
+    [MAYBE_RESTRICT, MAYBE_VOLATILE, MAYBE_CONST, MAYBE_REF, NEST], // 43 NestedName
+    [Sym::Byte(b'Z'), ENCODING, MAYBE_SUFFIX, NONE, NONE], // 44 Symbol
+    [SUFFIX_FIRST, NONE, NONE, NONE, NONE], // 45 Suffix
+    [SUFFIX_MORE, NONE, NONE, NONE, NONE], // 46 SuffixByte
+    [SPECIAL, NONE, NONE, NONE, NONE], // 47 Special
+    [SPECIAL_MARK, SPECIAL_AFTER_G, NONE, NONE, NONE], // 48 OtherSpecial
+    [COMPLETE_NAME, ITEMS, NONE, NONE, NONE], // 49 Encoding
+    [TYPE, NONE, NONE, NONE, NONE], // 50 SpecialType
+    [INTEGER, Sym::Byte(b'_'), ENCODING, NONE, NONE], // 51 NonVirtualThunk
+    [INTEGER, Sym::Byte(b'_'), INTEGER, Sym::Byte(b'_'), ENCODING], // 52 VirtualThunk
+    [CALL_OFFSET, CALL_OFFSET, ENCODING, NONE, NONE], // 53 CovariantThunk
+    [COMPLETE_NAME, NONE, NONE, NONE, NONE], // 54 SpecialName
+    [INTEGER, Sym::Byte(b'_'), NONE, NONE, NONE], // 55 NonVirtualOffset
+    [INTEGER, Sym::Byte(b'_'), INTEGER, Sym::Byte(b'_'), NONE], // 56 VirtualOffset
+    [DIGITS, NONE, NONE, NONE, NONE], // 57 Negative
+    [DIGITS, NONE, NONE, NONE, NONE], // 58 Positive
+    [NAME_AFTER_S, NONE, NONE, NONE, NONE], // 59 NameWithS
+    [ENCODING, Sym::Byte(b'E'), ENTITY, MAYBE_DISCRIMINATOR, NONE], // 60 LocalName
+    [UNQUALIFIED, MAYBE_ARGUMENTS, NONE, NONE, NONE], // 61 StdName
+    [ABBREVIATION, ARGUMENTS, NONE, NONE, NONE], // 62 AbbreviatedName
+    [OPERATOR, NONE, NONE, NONE, NONE], // 63 OperatorPiece
+    [NEST_AFTER_S, NONE, NONE, NONE, NONE], // 64 NestWithS
+    [DECIMAL, NEST_REST_ALONE, NONE, NONE, NONE], // 65 NestParameter
+    [NAME, NEST_REST, NONE, NONE, NONE], // 66 NestInternal
+    [ANONYMOUS, NEST_REST, NONE, NONE, NONE], // 67 NestLocalType
+    [NAME, NEST_REST, NONE, NONE, NONE], // 68 NestSource
+    [UNQUALIFIED, MAYBE_ARGUMENTS, NEST_TAIL, NONE, NONE], // 69 NestStd
+    [ABBREVIATION, NEST_REST_OR_END, NONE, NONE, NONE], // 70 NestTemplate
+    [ARGUMENTS_FIRST, Sym::Byte(b'E'), COMPONENT, NEST_TAIL, NONE], // 71 NestArguments
+    [COMPONENT, NEST_TAIL, NONE, NONE, NONE], // 72 NestNext
+    [NONE, NONE, NONE, NONE, NONE], // 73 NestEnd
+    [CONSTRUCTOR_AFTER_C, NONE, NONE, NONE, NONE], // 74 AnyConstructor
+    [DESTRUCTOR_DIGIT, MAYBE_ARGUMENTS, NONE, NONE, NONE], // 75 Destructor
+    [COMPONENT_AFTER_C, NONE, NONE, NONE, NONE], // 76 ComponentWithC
+    [OTHER_OPERATOR, MAYBE_ARGUMENTS, NONE, NONE, NONE], // 77 OtherOperatorName
+    [CONSTRUCTOR_DIGIT, MAYBE_ARGUMENTS, NONE, NONE, NONE], // 78 Constructor
+    [NONE, NONE, NONE, NONE, NONE], // 79 Abbreviation
+    [SEQ36, NONE, NONE, NONE, NONE], // 80 Substitution
+    [NEST, NONE, NONE, NONE, NONE], // 81 NestedType
+    [NONE, NONE, NONE, NONE, NONE], // 82 StringLiteral
+    [DISCRIMINATOR_REST, NONE, NONE, NONE, NONE], // 83 Discriminator
+    [NONE, NONE, NONE, NONE, NONE], // 84 OneDigit
+    [DIGITS, Sym::Byte(b'_'), NONE, NONE, NONE], // 85 ManyDigits
+    [ITEM, ITEMS, Sym::Byte(b'E'), DECIMAL, NONE], // 86 Lambda
+    [DECIMAL, NONE, NONE, NONE, NONE], // 87 Unnamed
+    [MAYBE_VOLATILE, MAYBE_CONST, PLAIN, NONE, NONE], // 88 RestrictType
+    [MAYBE_CONST, PLAIN, NONE, NONE, NONE], // 89 VolatileType
+    [PLAIN, NONE, NONE, NONE, NONE], // 90 ConstType
+    [TYPE, NONE, NONE, NONE, NONE], // 91 ReferenceType
+    [SOLID, NONE, NONE, NONE, NONE], // 92 PlainType
+    [AFTER_D, NONE, NONE, NONE, NONE], // 93 TypeWithD
+    [AFTER_D, NONE, NONE, NONE, NONE], // 94 PlainWithD
+    [SOLID, NONE, NONE, NONE, NONE], // 95 QualifiedPlain
+    [ITEM_AFTER_D, NONE, NONE, NONE, NONE], // 96 ItemWithD
+    [TYPE, NONE, NONE, NONE, NONE], // 97 Expansion
+    [AFTER_D, NONE, NONE, NONE, NONE], // 98 ItemIsType
+    [NONE, NONE, NONE, NONE, NONE], // 99 BuiltinWithD
+    [DIGITS, Sym::Byte(b'_'), TYPE, NONE, NONE], // 100 Vector
+    [Sym::Byte(b'F'), MAYBE_C_LINKAGE, TYPE, FUNCTION_REST, NONE], // 101 NoexceptFunction
+    [DIGITS, FLOAT_END, NONE, NONE, NONE], // 102 SizedFloat
+    [EXPRESSION, Sym::Byte(b'E'), NONE, NONE, NONE], // 103 Decltype
+    [TYPE, NONE, NONE, NONE, NONE], // 104 Pointer
+    [TYPE, TYPE, NONE, NONE, NONE], // 105 MemberPointer
+    [DECIMAL, ARGUMENTS_ALONE, NONE, NONE, NONE], // 106 Parameter
+    [TYPE_AFTER_S, ARGUMENTS_ALONE, NONE, NONE, NONE], // 107 TypeWithS
+    [ENCODING, Sym::Byte(b'E'), TYPE_ENTITY, MAYBE_DISCRIMINATOR, NONE], // 108 LocalType
+    [NONE, NONE, NONE, NONE, NONE], // 109 Builtin
+    [NAME, NONE, NONE, NONE, NONE], // 110 Vendor
+    [ANY_ARRAY, NONE, NONE, NONE, NONE], // 111 ArrayType
+    [MAYBE_C_LINKAGE, TYPE, FUNCTION_REST, NONE, NONE], // 112 Function
+    [TYPE, NONE, NONE, NONE, NONE], // 113 Complex
+    [DIGITS, NONE, NONE, NONE, NONE], // 114 BitWidth
+    [TYPE_IN_STD, NONE, NONE, NONE, NONE], // 115 TypeInStd
+    [ABBREVIATION, NONE, NONE, NONE, NONE], // 116 AbbreviatedType
+    [NONE, NONE, NONE, NONE, NONE], // 117 RestEnd
+    [AFTER_R, NONE, NONE, NONE, NONE], // 118 RestLvalue
+    [AFTER_O, NONE, NONE, NONE, NONE], // 119 RestRvalue
+    [ITEM_BUT_REF, FUNCTION_REST, NONE, NONE, NONE], // 120 RestItem
+    [NONE, NONE, NONE, NONE, NONE], // 121 RefEnd
+    [TYPE, FUNCTION_REST, NONE, NONE, NONE], // 122 LvalueItem
+    [TYPE, FUNCTION_REST, NONE, NONE, NONE], // 123 RvalueItem
+    [ITEM, ITEMS, NONE, NONE, NONE], // 124 Items
+    [ARGUMENTS_FIRST, Sym::Byte(b'E'), NONE, NONE, NONE], // 125 Arguments
+    [PACK_LIST, Sym::Byte(b'E'), ARGUMENT_LIST, NONE, NONE], // 126 PackArgument
+    [LITERAL, Sym::Byte(b'E'), ARGUMENT_LIST, NONE, NONE], // 127 LiteralArgument
+    [ARGUMENT, ARGUMENT_LIST, NONE, NONE, NONE], // 128 AnyArgument
+    [LITERAL, Sym::Byte(b'E'), PACK_LIST, NONE, NONE], // 129 LiteralElement
+    [ARGUMENT, PACK_LIST, NONE, NONE, NONE], // 130 AnyElement
+    [Sym::Byte(b'Z'), ENCODING, NONE, NONE, NONE], // 131 EncodingLiteral
+    [BIT, NONE, NONE, NONE, NONE], // 132 BoolLiteral
+    [LITERAL_AFTER_D, NONE, NONE, NONE, NONE], // 133 LiteralWithD
+    [LITERAL_TYPE, INTEGER, NONE, NONE, NONE], // 134 IntegerLiteral
+    [MAYBE_ZERO, NONE, NONE, NONE, NONE], // 135 NullLiteral
+    [INTEGER, NONE, NONE, NONE, NONE], // 136 CharLiteral
+    [HEX_DIGITS, NONE, NONE, NONE, NONE], // 137 HexText
+    [HEX_MORE, NONE, NONE, NONE, NONE], // 138 HexDigit
+    [LITERAL_SOLID, NONE, NONE, NONE, NONE], // 139 QualifiedLiteral
+    [OPERATOR_AFTER_N, NONE, NONE, NONE, NONE], // 140 OperatorN
+    [OPERATOR_AFTER_D, NONE, NONE, NONE, NONE], // 141 OperatorD
+    [OPERATOR_AFTER_A, NONE, NONE, NONE, NONE], // 142 OperatorA
+    [OPERATOR_AFTER_P, NONE, NONE, NONE, NONE], // 143 OperatorP
+    [OPERATOR_AFTER_C, NONE, NONE, NONE, NONE], // 144 OperatorC
+    [OPERATOR_AFTER_M, NONE, NONE, NONE, NONE], // 145 OperatorM
+    [OPERATOR_AFTER_R, NONE, NONE, NONE, NONE], // 146 OperatorR
+    [OPERATOR_AFTER_O, NONE, NONE, NONE, NONE], // 147 OperatorO
+    [OPERATOR_AFTER_E, NONE, NONE, NONE, NONE], // 148 OperatorE
+    [OPERATOR_AFTER_L, NONE, NONE, NONE, NONE], // 149 OperatorL
+    [OPERATOR_AFTER_S, NONE, NONE, NONE, NONE], // 150 OperatorS
+    [OPERATOR_AFTER_I, NONE, NONE, NONE, NONE], // 151 OperatorI
+    [OPERATOR_AFTER_G, NONE, NONE, NONE, NONE], // 152 OperatorG
+    [NAME, NONE, NONE, NONE, NONE], // 153 LiteralOperator
+    [ARGUMENTS_FIRST, Sym::Byte(b'E'), NEST_MORE_OR_END, NONE, NONE], // 154 NestInstance
+    [FIELD_NAME, MORE_MODULE, NONE, NONE, NONE], // 155 FirstModule
+    [SEQ36, MORE_MODULE, NONE, NONE, NONE], // 156 NamedModule
+    [MAYBE_PARTITION, FIELD_NAME, MORE_MODULE, NONE, NONE], // 157 MoreModule
+    [OPERATOR_AFTER_C, MAYBE_ARGUMENTS, NONE, NONE, NONE], // 158 OperatorNameWithC
+    [ARGUMENTS_FIRST, Sym::Byte(b'E'), NONE, NONE, NONE], // 159 HeldArguments
+    [NEST, HELD_ARGUMENTS, NONE, NONE, NONE], // 160 NestedBase
+    [UNNESTED_NAME, BASE_ARGUMENTS, NONE, NONE, NONE], // 161 UnnestedBase
+    [TYPE_AFTER_S, NONE, NONE, NONE, NONE], // 162 UnnestedWithS
+    [NAME, MAYBE_TAGS, NONE, NONE, NONE], // 163 TaggedSource
+    [ARGUMENTS_FIRST, Sym::Byte(b'E'), HELD_ARGUMENTS, NONE, NONE], // 164 BaseArguments
+    [ENCODING, Sym::Byte(b'E'), ENTITY, NONE, NONE], // 165 LocalTemporary
+    [SOURCE_OR_LOCAL, MAYBE_TAGS, NONE, NONE, NONE], // 166 TaggedStdType
+    [EXPRESSION, Sym::Byte(b'E'), NONE, NONE, NONE], // 167 Expression
+    [ARGUMENT_AFTER_T, NONE, NONE, NONE, NONE], // 168 ArgumentWithT
+    [SOLID_BUT_T, NONE, NONE, NONE, NONE], // 169 PlainArgument
+    [DECIMAL, ARGUMENTS_ALONE, NONE, NONE, NONE], // 170 ParameterArgument
+    [DECIMAL, LEVELED_PARAMETER, NONE, NONE, NONE], // 171 LeveledParameter
+    [LITERAL, Sym::Byte(b'E'), NONE, NONE, NONE], // 172 OneLiteral
+    [PACK_LIST, Sym::Byte(b'E'), NONE, NONE, NONE], // 173 OnePack
+    [NONE, NONE, NONE, NONE, NONE], // 174 AnyType
+    [TYPE, NONE, NONE, NONE, NONE], // 175 ValueOf
+    [CONCEPT, NONE, NONE, NONE, NONE], // 176 OfConcept
+    [DECLARATIONS, Sym::Byte(b'E'), NONE, NONE, NONE], // 177 TemplateOf
+    [Sym::Byte(b'T'), DECLARATION_AFTER_T, NONE, NONE, NONE], // 178 PackOf
+    [DECLARATION_AFTER_T, DECLARATIONS, NONE, NONE, NONE], // 179 Declarations
+    [UNNESTED_NAME, HELD_ARGUMENTS, NONE, NONE, NONE], // 180 NamedConcept
+    [TYPE, EXPRESSION, NONE, NONE, NONE], // 181 Cast
+    [OPERATOR, ARGUMENTS_ALONE, NONE, NONE, NONE], // 182 OperatorReference
+    [NAME, ARGUMENTS_ALONE, NONE, NONE, NONE], // 183 SimpleId
+    [MAYBE_RESTRICT, MAYBE_VOLATILE, MAYBE_CONST, PARAMETER_NUMBER, NONE], // 184 FunctionParameter
+    [ADDRESSED_EXPRESSION, NONE, NONE, NONE, NONE], // 185 AddressExpression
+    [EXPRESSION, EXPRESSION, NONE, NONE, NONE], // 186 Binary
+    [EXPRESSION, NONE, NONE, NONE, NONE], // 187 Unary
+    [CONVERTED_TYPE, NONE, NONE, NONE, NONE], // 188 OfType
+    [EXPRESSION, EXPRESSIONS, Sym::Byte(b'E'), NONE, NONE], // 189 Call
+    [CONVERTED_TYPE, CONVERT_REST, NONE, NONE, NONE], // 190 Convert
+    [FIELD_NAME, DESIGNATED_VALUE, NONE, NONE, NONE], // 191 Designated
+    [EXPRESSION, DESIGNATED_VALUE, NONE, NONE, NONE], // 192 DesignatedElement
+    [DESTRUCTOR_NAME, NONE, NONE, NONE, NONE], // 193 DestructorName
+    [DIGITS, OUTER_REST, NONE, NONE, NONE], // 194 OuterParameter
+    [FOLD_OPERATOR, FOLD_OPERAND, NONE, NONE, NONE], // 195 LeftFold
+    [FOLD_OPERATOR, FOLD_OPERAND, NONE, NONE, NONE], // 196 RightFold
+    [EXPRESSIONS, Sym::Byte(b'E'), NONE, NONE, NONE], // 197 Braces
+    [MAYBE_BEFORE, EXPRESSION, NONE, NONE, NONE], // 198 Step
+    [PLACEMENT, TYPE, INITIALIZER, NONE, NONE], // 199 New
+    [EXPRESSION, EXPRESSION, EXPRESSION, NONE, NONE], // 200 Conditional
+    [REQUIREMENTS, Sym::Byte(b'E'), NONE, NONE, NONE], // 201 Requires
+    [REQUIRED_TYPES, NONE, NONE, NONE, NONE], // 202 RequiresOf
+    [EXPRESSION, NONE, NONE, NONE, NONE], // 203 ExpandExpression
+    [EXPRESSION, NONE, NONE, NONE, NONE], // 204 PackSize
+    [UNRESOLVED, NONE, NONE, NONE, NONE], // 205 Unresolved
+    [VALUE_PACK, EXPRESSION, NONE, NONE, NONE], // 206 PackIndex
+    [TYPE, EXPRESSIONS, Sym::Byte(b'E'), NONE, NONE], // 207 TypedBraces
+    [NONE, NONE, NONE, NONE, NONE], // 208 Rethrow
+    [EXPRESSION_AFTER_A, NONE, NONE, NONE, NONE], // 209 ExpressionA
+    [EXPRESSION_AFTER_C, NONE, NONE, NONE, NONE], // 210 ExpressionC
+    [EXPRESSION_AFTER_D, NONE, NONE, NONE, NONE], // 211 ExpressionD
+    [EXPRESSION_AFTER_E, NONE, NONE, NONE, NONE], // 212 ExpressionE
+    [EXPRESSION_AFTER_F, NONE, NONE, NONE, NONE], // 213 ExpressionF
+    [EXPRESSION_AFTER_G, NONE, NONE, NONE, NONE], // 214 ExpressionG
+    [EXPRESSION_AFTER_I, NONE, NONE, NONE, NONE], // 215 ExpressionI
+    [EXPRESSION_AFTER_L, NONE, NONE, NONE, NONE], // 216 ExpressionL
+    [EXPRESSION_AFTER_M, NONE, NONE, NONE, NONE], // 217 ExpressionM
+    [EXPRESSION_AFTER_N, NONE, NONE, NONE, NONE], // 218 ExpressionN
+    [EXPRESSION_AFTER_O, NONE, NONE, NONE, NONE], // 219 ExpressionO
+    [EXPRESSION_AFTER_P, NONE, NONE, NONE, NONE], // 220 ExpressionP
+    [EXPRESSION_AFTER_Q, NONE, NONE, NONE, NONE], // 221 ExpressionQ
+    [EXPRESSION_AFTER_R, NONE, NONE, NONE, NONE], // 222 ExpressionR
+    [EXPRESSION_AFTER_S, NONE, NONE, NONE, NONE], // 223 ExpressionS
+    [EXPRESSION_AFTER_T, NONE, NONE, NONE, NONE], // 224 ExpressionT
+    [EXPRESSION_PARAMETER, NONE, NONE, NONE, NONE], // 225 ExpressionWithT
+    [DECIMAL, ARGUMENTS_ALONE, NONE, NONE, NONE], // 226 ParameterExpression
+    [DECIMAL, UNLEVELED_EXPRESSION, NONE, NONE, NONE], // 227 LeveledExpression
+    [ADDRESSED_LITERAL, Sym::Byte(b'E'), NONE, NONE, NONE], // 228 AddressedLiteral
+    [BOUND, Sym::Byte(b'_'), TYPE, NONE, NONE], // 229 BoundedArray
+    [DECLARATION_AFTER_T, ONE_ARGUMENT, NONE, NONE, NONE], // 230 DeclaredArgument
+    [NAME, MAYBE_TAGS, NONE, NONE, NONE], // 231 TypeTag
+    [CLONE_LETTER, ENCODING, NONE, NONE, NONE], // 232 Clone
+    [Sym::Byte(b'W'), FIRST_MODULE, NONE, NONE, NONE], // 233 ModuleInitializer
+    [TEMPORARY_NAME, Sym::Byte(b'_'), NONE, NONE, NONE], // 234 Temporary
+    [TYPE, NONE, NONE, NONE, NONE], // 235 Conversion
+    [LITERAL_PLAIN, NONE, NONE, NONE, NONE], // 236 ConstLiteral
+    [MAYBE_CONST, LITERAL_PLAIN, NONE, NONE, NONE], // 237 VolatileLiteral
+    [SIZED_FLOAT_TYPE, HEX_TEXT, NONE, NONE, NONE], // 238 SizedFloatLiteral
+    [FLOAT_TYPE, HEX_TEXT, NONE, NONE, NONE], // 239 FloatLiteral
+    [NAME, MAYBE_ARGUMENTS, NONE, NONE, NONE], // 240 Tag
+    [EXPRESSION, NONE, NONE, NONE, NONE], // 241 Constraint
+    [TYPE_PACK, EXPRESSION, NONE, NONE, NONE], // 242 IndexedType
+    [BIT_WIDTH, Sym::Byte(b'_'), NONE, NONE, NONE], // 243 BitInt
+    [CONCEPT, NONE, NONE, NONE, NONE], // 244 ConstrainedAuto
+    [TYPE, NAME, NONE, NONE, NONE], // 245 Enumeration
+    [DECIMAL, PLAIN_TYPE_ENTITY, NONE, NONE, NONE], // 246 DefaultTypeEntity
+    [DECIMAL, PLAIN_ENTITY, NONE, NONE, NONE], // 247 DefaultEntity
+    [INHERITED_DIGIT, BASE_CLASS, NONE, NONE, NONE], // 248 Inheriting
+    [UNQUALIFIED, MAYBE_ARGUMENTS, NONE, NONE, NONE], // 249 Friend
+    [HOLDER_MARK, HELD_COMPONENT, NONE, NONE, NONE], // 250 Holder
+    [NAME, NEST_REST, NONE, NONE, NONE], // 251 NestTag
+    [DECLTYPE_AFTER_D, NEST_REST_ALONE, NONE, NONE, NONE], // 252 NestDecltype
+    [NAME_IN_MODULE, NEST_ON, NONE, NONE, NONE], // 253 NestModule
+    [TYPE, DIGITS, Sym::Byte(b'_'), TYPE, NONE], // 254 ConstructionVtable
 };
 
 // How many symbols follow each of them, up to an end.
 static AFTER: [u8; 1536] = [
-    0, 0, 0, 0, 0, 0, 0, 0, 0, 0, 0, 2, 1, 0, 0, 0, 0, 2, 1, 0, 0, 0, 0, 2, 1, 0, 0, 0, 0, 2, 1, 0,
-    0, 0, 0, 1, 0, 0, 0, 0, 0, 1, 0, 0, 0, 0, 0, 1, 0, 0, 0, 0, 0, 2, 1, 0, 0, 0, 0, 2, 1, 0, 0, 0,
-    0, 5, 4, 3, 2, 1, 0, 3, 2, 1, 0, 0, 0, 1, 0, 0, 0, 0, 0, 1, 0, 0, 0, 0, 0, 1, 0, 0, 0, 0, 0, 2,
-    1, 0, 0, 0, 0, 2, 1, 0, 0, 0, 0, 1, 0, 0, 0, 0, 0, 3, 2, 1, 0, 0, 0, 5, 4, 3, 2, 1, 0, 3, 2, 1,
-    0, 0, 0, 1, 0, 0, 0, 0, 0, 1, 0, 0, 0, 0, 0, 4, 3, 2, 1, 0, 0, 2, 1, 0, 0, 0, 0, 4, 3, 2, 1, 0,
-    0, 1, 0, 0, 0, 0, 0, 1, 0, 0, 0, 0, 0, 1, 0, 0, 0, 0, 0, 4, 3, 2, 1, 0, 0, 2, 1, 0, 0, 0, 0, 2,
-    1, 0, 0, 0, 0, 1, 0, 0, 0, 0, 0, 1, 0, 0, 0, 0, 0, 2, 1, 0, 0, 0, 0, 2, 1, 0, 0, 0, 0, 2, 1, 0,
-    0, 0, 0, 2, 1, 0, 0, 0, 0, 2, 1, 0, 0, 0, 0, 2, 1, 0, 0, 0, 0, 3, 2, 1, 0, 0, 0, 2, 1, 0, 0, 0,
-    0, 4, 3, 2, 1, 0, 0, 2, 1, 0, 0, 0, 0, 2, 1, 0, 0, 0, 0, 0, 0, 0, 0, 0, 0, 1, 0, 0, 0, 0, 0, 2,
-    1, 0, 0, 0, 0, 1, 0, 0, 0, 0, 0, 2, 1, 0, 0, 0, 0, 2, 1, 0, 0, 0, 0, 2, 1, 0, 0, 0, 0, 2, 1, 0,
-    0, 0, 0, 2, 1, 0, 0, 0, 0, 0, 0, 0, 0, 0, 0, 1, 0, 0, 0, 0, 0, 1, 0, 0, 0, 0, 0, 0, 0, 0, 0, 0,
-    0, 2, 1, 0, 0, 0, 0, 2, 1, 0, 0, 0, 0, 1, 0, 0, 0, 0, 0, 0, 0, 0, 0, 0, 0, 2, 1, 0, 0, 0, 0, 4,
-    3, 2, 1, 0, 0, 1, 0, 0, 0, 0, 0, 2, 1, 0, 0, 0, 0, 3, 2, 1, 0, 0, 0, 2, 1, 0, 0, 0, 0, 1, 0, 0,
-    0, 0, 0, 1, 0, 0, 0, 0, 0, 1, 0, 0, 0, 0, 0, 1, 0, 0, 0, 0, 0, 1, 0, 0, 0, 0, 0, 1, 0, 0, 0, 0,
-    0, 1, 0, 0, 0, 0, 0, 1, 0, 0, 0, 0, 0, 1, 0, 0, 0, 0, 0, 0, 0, 0, 0, 0, 0, 3, 2, 1, 0, 0, 0, 4,
-    3, 2, 1, 0, 0, 2, 1, 0, 0, 0, 0, 1, 0, 0, 0, 0, 0, 2, 1, 0, 0, 0, 0, 2, 1, 0, 0, 0, 0, 2, 1, 0,
-    0, 0, 0, 1, 0, 0, 0, 0, 0, 2, 1, 0, 0, 0, 0, 2, 1, 0, 0, 0, 0, 2, 1, 0, 0, 0, 0, 4, 3, 2, 1, 0,
-    0, 0, 0, 0, 0, 0, 0, 1, 0, 0, 0, 0, 0, 1, 0, 0, 0, 0, 0, 3, 2, 1, 0, 0, 0, 1, 0, 0, 0, 0, 0, 1,
-    0, 0, 0, 0, 0, 1, 0, 0, 0, 0, 0, 1, 0, 0, 0, 0, 0, 0, 0, 0, 0, 0, 0, 1, 0, 0, 0, 0, 0, 1, 0, 0,
-    0, 0, 0, 2, 1, 0, 0, 0, 0, 0, 0, 0, 0, 0, 0, 2, 1, 0, 0, 0, 0, 2, 1, 0, 0, 0, 0, 1, 0, 0, 0, 0,
-    0, 2, 1, 0, 0, 0, 0, 2, 1, 0, 0, 0, 0, 2, 1, 0, 0, 0, 0, 3, 2, 1, 0, 0, 0, 3, 2, 1, 0, 0, 0, 2,
-    1, 0, 0, 0, 0, 3, 2, 1, 0, 0, 0, 2, 1, 0, 0, 0, 0, 2, 1, 0, 0, 0, 0, 1, 0, 0, 0, 0, 0, 1, 0, 0,
-    0, 0, 0, 2, 1, 0, 0, 0, 0, 2, 1, 0, 0, 0, 0, 1, 0, 0, 0, 0, 0, 1, 0, 0, 0, 0, 0, 2, 1, 0, 0, 0,
-    0, 1, 0, 0, 0, 0, 0, 1, 0, 0, 0, 0, 0, 2, 1, 0, 0, 0, 0, 1, 0, 0, 0, 0, 0, 1, 0, 0, 0, 0, 0, 1,
-    0, 0, 0, 0, 0, 1, 0, 0, 0, 0, 0, 1, 0, 0, 0, 0, 0, 1, 0, 0, 0, 0, 0, 1, 0, 0, 0, 0, 0, 1, 0, 0,
-    0, 0, 0, 1, 0, 0, 0, 0, 0, 1, 0, 0, 0, 0, 0, 1, 0, 0, 0, 0, 0, 1, 0, 0, 0, 0, 0, 1, 0, 0, 0, 0,
-    0, 1, 0, 0, 0, 0, 0, 1, 0, 0, 0, 0, 0, 1, 0, 0, 0, 0, 0, 3, 2, 1, 0, 0, 0, 2, 1, 0, 0, 0, 0, 2,
-    1, 0, 0, 0, 0, 3, 2, 1, 0, 0, 0, 1, 0, 0, 0, 0, 0, 2, 1, 0, 0, 0, 0, 2, 1, 0, 0, 0, 0, 2, 1, 0,
-    0, 0, 0, 2, 1, 0, 0, 0, 0, 1, 0, 0, 0, 0, 0, 2, 1, 0, 0, 0, 0, 3, 2, 1, 0, 0, 0, 2, 1, 0, 0, 0,
-    0, 2, 1, 0, 0, 0, 0, 2, 1, 0, 0, 0, 0, 3, 2, 1, 0, 0, 0, 2, 1, 0, 0, 0, 0, 2, 1, 0, 0, 0, 0, 2,
-    1, 0, 0, 0, 0, 1, 0, 0, 0, 0, 0, 1, 0, 0, 0, 0, 0, 2, 1, 0, 0, 0, 0, 2, 1, 0, 0, 0, 0, 2, 1, 0,
-    0, 0, 0, 2, 1, 0, 0, 0, 0, 2, 1, 0, 0, 0, 0, 0, 0, 0, 0, 0, 0, 1, 0, 0, 0, 0, 0, 1, 0, 0, 0, 0,
-    0, 2, 1, 0, 0, 0, 0, 2, 1, 0, 0, 0, 0, 2, 1, 0, 0, 0, 0, 2, 1, 0, 0, 0, 0, 2, 1, 0, 0, 0, 0, 2,
-    1, 0, 0, 0, 0, 2, 1, 0, 0, 0, 0, 4, 3, 2, 1, 0, 0, 1, 0, 0, 0, 0, 0, 2, 1, 0, 0, 0, 0, 1, 0, 0,
-    0, 0, 0, 1, 0, 0, 0, 0, 0, 3, 2, 1, 0, 0, 0, 2, 1, 0, 0, 0, 0, 2, 1, 0, 0, 0, 0, 2, 1, 0, 0, 0,
-    0, 1, 0, 0, 0, 0, 0, 2, 1, 0, 0, 0, 0, 2, 1, 0, 0, 0, 0, 2, 1, 0, 0, 0, 0, 2, 1, 0, 0, 0, 0, 2,
-    1, 0, 0, 0, 0, 3, 2, 1, 0, 0, 0, 3, 2, 1, 0, 0, 0, 2, 1, 0, 0, 0, 0, 1, 0, 0, 0, 0, 0, 1, 0, 0,
-    0, 0, 0, 1, 0, 0, 0, 0, 0, 1, 0, 0, 0, 0, 0, 2, 1, 0, 0, 0, 0, 3, 2, 1, 0, 0, 0, 0, 0, 0, 0, 0,
+    0, 0, 0, 0, 0, 2, 1, 0, 0, 0, 0, 1, 0, 0, 0, 0, 0, 1, 0, 0, 0, 0, 0, 1, 0, 0, 0, 0, 0, 1, 0, 0,
+    0, 0, 0, 1, 0, 0, 0, 0, 0, 1, 0, 0, 0, 0, 0, 1, 0, 0, 0, 0, 0, 2, 1, 0, 0, 0, 0, 1, 0, 0, 0, 0,
+    0, 1, 0, 0, 0, 0, 0, 0, 0, 0, 0, 0, 0, 1, 0, 0, 0, 0, 0, 1, 0, 0, 0, 0, 0, 1, 0, 0, 0, 0, 0, 1,
+    0, 0, 0, 0, 0, 1, 0, 0, 0, 0, 0, 1, 0, 0, 0, 0, 0, 1, 0, 0, 0, 0, 0, 2, 1, 0, 0, 0, 0, 2, 1, 0,
+    0, 0, 0, 1, 0, 0, 0, 0, 0, 2, 1, 0, 0, 0, 0, 2, 1, 0, 0, 0, 0, 2, 1, 0, 0, 0, 0, 2, 1, 0, 0, 0,
+    0, 1, 0, 0, 0, 0, 0, 2, 1, 0, 0, 0, 0, 1, 0, 0, 0, 0, 0, 1, 0, 0, 0, 0, 0, 1, 0, 0, 0, 0, 0, 2,
+    1, 0, 0, 0, 0, 1, 0, 0, 0, 0, 0, 0, 0, 0, 0, 0, 0, 2, 1, 0, 0, 0, 0, 2, 1, 0, 0, 0, 0, 2, 1, 0,
+    0, 0, 0, 2, 1, 0, 0, 0, 0, 1, 0, 0, 0, 0, 0, 1, 0, 0, 0, 0, 0, 1, 0, 0, 0, 0, 0, 2, 1, 0, 0, 0,
+    0, 2, 1, 0, 0, 0, 0, 5, 4, 3, 2, 1, 0, 3, 2, 1, 0, 0, 0, 1, 0, 0, 0, 0, 0, 1, 0, 0, 0, 0, 0, 1,
+    0, 0, 0, 0, 0, 2, 1, 0, 0, 0, 0, 2, 1, 0, 0, 0, 0, 1, 0, 0, 0, 0, 0, 3, 2, 1, 0, 0, 0, 5, 4, 3,
+    2, 1, 0, 3, 2, 1, 0, 0, 0, 1, 0, 0, 0, 0, 0, 2, 1, 0, 0, 0, 0, 4, 3, 2, 1, 0, 0, 1, 0, 0, 0, 0,
+    0, 1, 0, 0, 0, 0, 0, 1, 0, 0, 0, 0, 0, 4, 3, 2, 1, 0, 0, 2, 1, 0, 0, 0, 0, 2, 1, 0, 0, 0, 0, 1,
+    0, 0, 0, 0, 0, 1, 0, 0, 0, 0, 0, 2, 1, 0, 0, 0, 0, 2, 1, 0, 0, 0, 0, 2, 1, 0, 0, 0, 0, 2, 1, 0,
+    0, 0, 0, 3, 2, 1, 0, 0, 0, 2, 1, 0, 0, 0, 0, 4, 3, 2, 1, 0, 0, 2, 1, 0, 0, 0, 0, 0, 0, 0, 0, 0,
+    0, 1, 0, 0, 0, 0, 0, 2, 1, 0, 0, 0, 0, 1, 0, 0, 0, 0, 0, 2, 1, 0, 0, 0, 0, 2, 1, 0, 0, 0, 0, 0,
+    0, 0, 0, 0, 0, 1, 0, 0, 0, 0, 0, 1, 0, 0, 0, 0, 0, 0, 0, 0, 0, 0, 0, 1, 0, 0, 0, 0, 0, 0, 0, 0,
+    0, 0, 0, 2, 1, 0, 0, 0, 0, 4, 3, 2, 1, 0, 0, 1, 0, 0, 0, 0, 0, 3, 2, 1, 0, 0, 0, 2, 1, 0, 0, 0,
+    0, 1, 0, 0, 0, 0, 0, 1, 0, 0, 0, 0, 0, 1, 0, 0, 0, 0, 0, 1, 0, 0, 0, 0, 0, 1, 0, 0, 0, 0, 0, 1,
+    0, 0, 0, 0, 0, 1, 0, 0, 0, 0, 0, 1, 0, 0, 0, 0, 0, 1, 0, 0, 0, 0, 0, 0, 0, 0, 0, 0, 0, 3, 2, 1,
+    0, 0, 0, 4, 3, 2, 1, 0, 0, 2, 1, 0, 0, 0, 0, 2, 1, 0, 0, 0, 0, 1, 0, 0, 0, 0, 0, 2, 1, 0, 0, 0,
+    0, 2, 1, 0, 0, 0, 0, 2, 1, 0, 0, 0, 0, 4, 3, 2, 1, 0, 0, 0, 0, 0, 0, 0, 0, 1, 0, 0, 0, 0, 0, 1,
+    0, 0, 0, 0, 0, 3, 2, 1, 0, 0, 0, 1, 0, 0, 0, 0, 0, 1, 0, 0, 0, 0, 0, 1, 0, 0, 0, 0, 0, 1, 0, 0,
+    0, 0, 0, 0, 0, 0, 0, 0, 0, 1, 0, 0, 0, 0, 0, 1, 0, 0, 0, 0, 0, 2, 1, 0, 0, 0, 0, 0, 0, 0, 0, 0,
+    0, 2, 1, 0, 0, 0, 0, 2, 1, 0, 0, 0, 0, 2, 1, 0, 0, 0, 0, 2, 1, 0, 0, 0, 0, 3, 2, 1, 0, 0, 0, 3,
+    2, 1, 0, 0, 0, 2, 1, 0, 0, 0, 0, 3, 2, 1, 0, 0, 0, 2, 1, 0, 0, 0, 0, 2, 1, 0, 0, 0, 0, 1, 0, 0,
+    0, 0, 0, 1, 0, 0, 0, 0, 0, 2, 1, 0, 0, 0, 0, 1, 0, 0, 0, 0, 0, 1, 0, 0, 0, 0, 0, 1, 0, 0, 0, 0,
     0, 1, 0, 0, 0, 0, 0, 1, 0, 0, 0, 0, 0, 1, 0, 0, 0, 0, 0, 1, 0, 0, 0, 0, 0, 1, 0, 0, 0, 0, 0, 1,
     0, 0, 0, 0, 0, 1, 0, 0, 0, 0, 0, 1, 0, 0, 0, 0, 0, 1, 0, 0, 0, 0, 0, 1, 0, 0, 0, 0, 0, 1, 0, 0,
     0, 0, 0, 1, 0, 0, 0, 0, 0, 1, 0, 0, 0, 0, 0, 1, 0, 0, 0, 0, 0, 1, 0, 0, 0, 0, 0, 1, 0, 0, 0, 0,
-    0, 1, 0, 0, 0, 0, 0, 2, 1, 0, 0, 0, 0, 2, 1, 0, 0, 0, 0, 2, 1, 0, 0, 0, 0, 2, 1, 0, 0, 0, 0, 1,
-    0, 0, 0, 0, 0, 1, 0, 0, 0, 0, 0, 1, 0, 0, 0, 0, 0, 1, 0, 0, 0, 0, 0, 1, 0, 0, 0, 0, 0, 1, 0, 0,
-    0, 0, 0, 1, 0, 0, 0, 0, 0, 2, 1, 0, 0, 0, 0, 1, 0, 0, 0, 0, 0, 1, 0, 0, 0, 0, 0, 0, 0, 0, 0, 0,
+    0, 3, 2, 1, 0, 0, 0, 2, 1, 0, 0, 0, 0, 2, 1, 0, 0, 0, 0, 3, 2, 1, 0, 0, 0, 2, 1, 0, 0, 0, 0, 2,
+    1, 0, 0, 0, 0, 2, 1, 0, 0, 0, 0, 2, 1, 0, 0, 0, 0, 1, 0, 0, 0, 0, 0, 2, 1, 0, 0, 0, 0, 3, 2, 1,
+    0, 0, 0, 3, 2, 1, 0, 0, 0, 2, 1, 0, 0, 0, 0, 2, 1, 0, 0, 0, 0, 1, 0, 0, 0, 0, 0, 1, 0, 0, 0, 0,
+    0, 2, 1, 0, 0, 0, 0, 2, 1, 0, 0, 0, 0, 2, 1, 0, 0, 0, 0, 2, 1, 0, 0, 0, 0, 0, 0, 0, 0, 0, 0, 1,
+    0, 0, 0, 0, 0, 1, 0, 0, 0, 0, 0, 2, 1, 0, 0, 0, 0, 2, 1, 0, 0, 0, 0, 2, 1, 0, 0, 0, 0, 2, 1, 0,
+    0, 0, 0, 2, 1, 0, 0, 0, 0, 2, 1, 0, 0, 0, 0, 2, 1, 0, 0, 0, 0, 4, 3, 2, 1, 0, 0, 1, 0, 0, 0, 0,
+    0, 2, 1, 0, 0, 0, 0, 1, 0, 0, 0, 0, 0, 1, 0, 0, 0, 0, 0, 3, 2, 1, 0, 0, 0, 2, 1, 0, 0, 0, 0, 2,
+    1, 0, 0, 0, 0, 2, 1, 0, 0, 0, 0, 1, 0, 0, 0, 0, 0, 2, 1, 0, 0, 0, 0, 2, 1, 0, 0, 0, 0, 2, 1, 0,
+    0, 0, 0, 2, 1, 0, 0, 0, 0, 2, 1, 0, 0, 0, 0, 3, 2, 1, 0, 0, 0, 3, 2, 1, 0, 0, 0, 2, 1, 0, 0, 0,
+    0, 1, 0, 0, 0, 0, 0, 1, 0, 0, 0, 0, 0, 1, 0, 0, 0, 0, 0, 1, 0, 0, 0, 0, 0, 2, 1, 0, 0, 0, 0, 3,
+    2, 1, 0, 0, 0, 0, 0, 0, 0, 0, 0, 1, 0, 0, 0, 0, 0, 1, 0, 0, 0, 0, 0, 1, 0, 0, 0, 0, 0, 1, 0, 0,
+    0, 0, 0, 1, 0, 0, 0, 0, 0, 1, 0, 0, 0, 0, 0, 1, 0, 0, 0, 0, 0, 1, 0, 0, 0, 0, 0, 1, 0, 0, 0, 0,
     0, 1, 0, 0, 0, 0, 0, 1, 0, 0, 0, 0, 0, 1, 0, 0, 0, 0, 0, 1, 0, 0, 0, 0, 0, 1, 0, 0, 0, 0, 0, 1,
-    0, 0, 0, 0, 0, 1, 0, 0, 0, 0, 0, 2, 1, 0, 0, 0, 0, 2, 1, 0, 0, 0, 0, 1, 0, 0, 0, 0, 0, 2, 1, 0,
-    0, 0, 0, 2, 1, 0, 0, 0, 0, 2, 1, 0, 0, 0, 0, 2, 1, 0, 0, 0, 0, 1, 0, 0, 0, 0, 0, 2, 1, 0, 0, 0,
-    0, 1, 0, 0, 0, 0, 0, 1, 0, 0, 0, 0, 0, 1, 0, 0, 0, 0, 0, 3, 2, 1, 0, 0, 0, 2, 1, 0, 0, 0, 0, 0,
+    0, 0, 0, 0, 0, 1, 0, 0, 0, 0, 0, 1, 0, 0, 0, 0, 0, 2, 1, 0, 0, 0, 0, 2, 1, 0, 0, 0, 0, 2, 1, 0,
+    0, 0, 0, 3, 2, 1, 0, 0, 0, 2, 1, 0, 0, 0, 0, 2, 1, 0, 0, 0, 0, 2, 1, 0, 0, 0, 0, 2, 1, 0, 0, 0,
+    0, 2, 1, 0, 0, 0, 0, 1, 0, 0, 0, 0, 0, 1, 0, 0, 0, 0, 0, 2, 1, 0, 0, 0, 0, 2, 1, 0, 0, 0, 0, 2,
+    1, 0, 0, 0, 0, 2, 1, 0, 0, 0, 0, 1, 0, 0, 0, 0, 0, 2, 1, 0, 0, 0, 0, 2, 1, 0, 0, 0, 0, 1, 0, 0,
+    0, 0, 0, 2, 1, 0, 0, 0, 0, 2, 1, 0, 0, 0, 0, 2, 1, 0, 0, 0, 0, 2, 1, 0, 0, 0, 0, 2, 1, 0, 0, 0,
+    0, 2, 1, 0, 0, 0, 0, 2, 1, 0, 0, 0, 0, 2, 1, 0, 0, 0, 0, 2, 1, 0, 0, 0, 0, 4, 3, 2, 1, 0, 0, 0,
 ];
 
 /// The number of the rule that a kind takes at a byte, if it takes one.
@@ -1147,7 +1145,7 @@ fn number(kind: u16, byte: u8) -> Option<usize>
     ensures rule { (head : Head) → MatchOption result (abi.rule kind byte ≡ None) (λ number. abi.rule kind byte ≡ Some (listed_rule head number)) }
 {
     match letter_in(&LETTERS[kind as usize], byte) {
-        Some(letter) => Some(letter.wrapping_sub(FIRST_LETTER) as usize),
+        Some(letter) => Some(letter as usize),
         None => None,
     }
 }

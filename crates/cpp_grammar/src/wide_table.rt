@@ -4,185 +4,198 @@ ghost use Rattle.sym_shape.specs.Table.{symbols_of};
 ghost use Rattle.cpp_grammar.specs.Table.{wide, abi_listed, listed_rule};
 ghost use Rattle.cpp_grammar.specs.declared.table.Head.{Head};
 
-use crate::table::{FIRST_LETTER, HEADS, SYMBOLS};
+use crate::table::{HEADS, SYMBOLS};
 use sym_shape::{Rule, letter_in, place_of, symbols_from};
 
+/// The letters of a kind. They count from its base: the number of a production is that and its letter.
+struct Row {
+    base: u8,
+    letters: [u8; 87],
+}
+
+// Rows with these bases and letters.
+macro_rules! rows {
+    ($([$base:expr, $letters:expr],)*) => {
+        [$(Row { base: $base, letters: *$letters },)*]
+    };
+}
+
 // For each kind a row: for each byte from `$` to `z` the letter of the production that the kind takes there.
-static WIDE_LETTERS: [[u8; 87]; 172] = [
+static WIDE_ROWS: [Row; 172] = rows! {
     // $%&'()*+,-./0123456789:;<=>?@ABCDEFGHIJKLMNOPQRSTUVWXYZ[\]^_`abcdefghijklmnopqrstuvwxyz
-    *b"                                                           ,                           ", // Symbol
-    *b"          -                                                                            ", // MaybeSuffix
-    *b".         . ..........       ..........................    . ..........................", // SuffixFirst
-    *b".         . ..........       ..........................    . ..........................", // SuffixMore
-    *b"            1111111111             0    1 1    1/1 1  1      1 111 1 1  11111 11       ", // Encoding
-    *b"                             7 8    62         22 26           5    3             4    ", // Special
-    *b"                                                                    9             :    ", // CallOffset
-    *b"            <<<<<<<<<<                                                    ;            ", // Integer
-    *b"            $$$$$$$$$$                  \" +    = # )  >      % %%% % %  %%%%% %%       ", // CompleteName
-    *b"                                                                              !        ", // MaybeRestrict
-    *b"                                                  !                                    ", // MaybeVolatile
-    *b"                                       !                                               ", // MaybeConst
-    *b"                                    !      !  !                                        ", // MaybeRef
-    *b"            @@@@@@@@@@       @@@@@@@@@@@@@@@@@@@@@@@@@@    @ @@ @    @     @   @?      ", // NameAfterS
-    *b"            ((((((((((                  &        '           A AAA A A  AAAAA AA       ", // Unqualified
-    *b"            FFFFFFFFFF          H       D      BCE G                                   ", // Nest
-    *b"            JJJJJJJJJJ       JJJJJJJJJJJJJJJJJJJJJJJJJJ    J JJ J    J     J   JI      ", // NestAfterS
-    *b"            LLLLLLLLLL        MLL L  K  LL     L L L         L LLL L L  LLLLL LL       ", // NestRest
-    *b"            LLLLLLLLLL         LLNL     LL     L L L         L LLL L L  LLLLL LL       ", // NestTail
-    *b"            $$$$$$$$$$         OP T     \"S     * # )         R QRR R R  RRRRR RR       ", // Component
-    *b"             VVVVV                   U                                                 ", // ConstructorAfterC
-    *b"             !!!!!                                                                     ", // ConstructorDigit
-    *b"             !! !!                                                                     ", // InheritedDigit
-    *b"            !!! !!                                                                     ", // DestructorDigit
-    *b"            XXXXXXXXXX       XXXXXXXXXXXXXXXXXXXXXXXXXX    X WW W    W     W   W       ", // Abbreviation
-    *b"            $$$$$$$$$$                  \" +      #              [              Z       ", // Entity
-    *b"            $$$$$$$$$$                  \" Y      #              \\                      ", // TypeEntity
-    *b"                                                           ]                           ", // MaybeDiscriminator
-    *b"            ^^^^^^^^^^                                     _                           ", // DiscriminatorRest
-    *b"                                                                 b      `       a      ", // Anonymous
-    *b"            gggggggggg       g gh g    e ggfg fgggdg  g      gggggggggg gggg  cgggggggg", // Type
-    *b"            jjjjjjjjjj       j ji j      jjfj fjjj j  j      jjjjjjjjjj jjjj   jjjjjjjj", // Plain
-    *b"            gggggggggg       g gk g    e ggfg fgggdg  g      gggggggggg gggg  cgggggggg", // Item
-    *b"            gggggggggg       g gk g    e gg g  gggdg  g      gggggggggg gggg  cgggggggg", // ItemButRef
-    *b"                              m   m    m        mm           m mmmm mm m  mml  mmmm  m ", // ItemAfterD
-    *b"                              s   q    r        ts           n nnnn nn r  np   ntno  u ", // AfterD
-    *b"            $$$$$$$$$$       } \x7f  ~      wY v  yx# )  z      {{{{{{{{{{ {{{{   {{|{{{{{", // Solid
-    *b"                                                     !                                 ", // MaybeCLinkage
-    *b"            \x80\x80\x80\x80\x80\x80\x80\x80\x80\x80                                                                 ", // BitWidth
-    *b"            \x82\x82\x82\x82\x82\x82\x82\x82\x82\x82       \x82\x82\x82\x82\x82\x82\x82\x82\x82\x82\x82\x82\x82\x82\x82\x82\x82\x82\x82\x82\x82\x82\x82\x82\x82\x82    \x82 \x82\x82 \x82    \x82     \x82   \x82\x81      ", // TypeAfterS
-    *b"            ((((((((((                  &        '                                     ", // SourceOrLocal
-    *b"            \x86\x86\x86\x86\x86\x86\x86\x86\x86\x86       \x86 \x86\x86\x83\x86    \x86 \x86\x86\x85\x86 \x84\x86\x86\x86\x86\x86  \x86      \x86\x86\x86\x86\x86\x86\x86\x86\x86\x86 \x86\x86\x86\x86  \x86\x86\x86\x86\x86\x86\x86\x86\x86", // FunctionRest
-    *b"            \x88\x88\x88\x88\x88\x88\x88\x88\x88\x88       \x88 \x88\x88\x87\x88    \x88 \x88\x88\x88\x88 \x88\x88\x88\x88\x88\x88  \x88      \x88\x88\x88\x88\x88\x88\x88\x88\x88\x88 \x88\x88\x88\x88  \x88\x88\x88\x88\x88\x88\x88\x88\x88", // AfterR
-    *b"            \x89\x89\x89\x89\x89\x89\x89\x89\x89\x89       \x89 \x89\x89\x87\x89    \x89 \x89\x89\x89\x89 \x89\x89\x89\x89\x89\x89  \x89      \x89\x89\x89\x89\x89\x89\x89\x89\x89\x89 \x89\x89\x89\x89  \x89\x89\x89\x89\x89\x89\x89\x89\x89", // AfterO
-    *b"            \x8b\x8b\x8b\x8b\x8b\x8b\x8b\x8b\x8b\x8b       \x8b \x8b\x8b \x8b    \x8b \x8b\x8b\x8b\x8b\x8a\x8b\x8b\x8b\x8b\x8b\x8b  \x8b      \x8b\x8b\x8b\x8b\x8b\x8b\x8b\x8b\x8b\x8b \x8b\x8b\x8b\x8b  \x8b\x8b\x8b\x8b\x8b\x8b\x8b\x8b\x8b", // Items
-    *b"                              \x8d      \x8c                                                 ", // MaybeArguments
-    *b"                                     \x8c                                                 ", // Arguments
-    *b"            \x90\x90\x90\x90\x90\x90\x90\x90\x90\x90       \x90 \x90\x90 \x90   \x8e\x90\x8f\x90\x90\x90\x90\x8a\x90\x90\x90\x90\x90\x90\x90 \x90      \x90\x90\x90\x90\x90\x90\x90\x90\x90\x90 \x90\x90\x90\x90  \x90\x90\x90\x90\x90\x90\x90\x90\x90", // ArgumentList
-    *b"            \x92\x92\x92\x92\x92\x92\x92\x92\x92\x92       \x92 \x92\x92 \x92    \x92\x91\x92\x92\x92\x92 \x92\x92\x92\x92\x92\x92\x92 \x92      \x92\x92\x92\x92\x92\x92\x92\x92\x92\x92 \x92\x92\x92\x92  \x92\x92\x92\x92\x92\x92\x92\x92\x92", // PackList
-    *b"            \x96\x96\x96\x96\x96\x96\x96\x96\x96\x96          \x95      \x96 \x96\x96 \x96  \x96\x96\x96\x96\x96  \x96    \x93 \x96\x94\x96\x97\x97\x97\x97\x96\x96\x96 \x96\x96\x96\x96   \x96\x96  \x96\x96\x96 ", // Literal
-    *b"            !!                                                                         ", // Bit
-    *b"                                  \x9a                                  \x99    \x98    \x99 \x99     ", // LiteralAfterD
-    *b"                                                                {{{{                   ", // FloatType
-    *b"                                  q                                                    ", // SizedFloatType
-    *b"            \x9b\x9b\x9b\x9b\x9b\x9b\x9b\x9b\x9b\x9b                                       \x9b\x9b\x9b\x9b\x9b\x9b                    ", // HexText
-    *b"            \x9c\x9c\x9c\x9c\x9c\x9c\x9c\x9c\x9c\x9c                                       \x9c\x9c\x9c\x9c\x9c\x9c                    ", // HexDigits
-    *b"            \x9c\x9c\x9c\x9c\x9c\x9c\x9c\x9c\x9c\x9c                                       \x9c\x9c\x9c\x9c\x9c\x9c                    ", // HexMore
-    *b"            !                                                                          ", // MaybeZero
-    *b"            $$$$$$$$$$                 \x9e wY v  yx#\x9d)  z      { {    {{{ {{{{   {{  {{{ ", // LiteralType
-    *b"            \x9f\x9f\x9f\x9f\x9f\x9f\x9f\x9f\x9f\x9f                   \x9f\x9f \x9f  \x9f\x9f\x9f \x9f  \x9f      \x9f \x9f    \x9f\x9f\x9f \x9f\x9f\x9f\x9f   \x9f\x9f  \x9f\x9f\x9f ", // LiteralPlain
-    *b"            $$$$$$$$$$                   wY v  yx# )  z      { {    {{{ {{{{   {{  {{{ ", // LiteralSolid
-    *b"                                                             \xa2 \xa4\xa1\xa8 \xac \xab  \xa9\xa5\xa0\xa7\xa3 \xa6\xaa       ", // Operator
-    *b"                                                             !   ! !            !  !   ", // OperatorAfterN
-    *b"                                                  !          !   !      !         !    ", // OperatorAfterD
-    *b"                                          !    !             !  !         !        !   ", // OperatorAfterA
-    *b"                                        !                               !!  !  !!      ", // OperatorAfterP
-    *b"                                                                        !! !           ", // OperatorAfterC
-    *b"                                     !  !                            !  !!             ", // OperatorAfterM
-    *b"                                         !     !                         !     !       ", // OperatorAfterR
-    *b"                                              !                            !  !        ", // OperatorAfterO
-    *b"                                           !                               ! !         ", // OperatorAfterE
-    *b"                                               !                 !   \xad         !!      ", // OperatorAfterL
-    *b"                                                                               !       ", // OperatorAfterS
-    *b"                                                                                    !  ", // OperatorAfterI
-    *b"                                                                 !              !      ", // OperatorAfterG
-    *b"            LLLLLLLLLL         LL L  \xae  LL     L L L         L LLL L L  LLLLL LL       ", // NestRestOrEnd
-    *b"                                     \x8c                                                 ", // ArgumentsAlone
-    *b"            LLLLLLLLLL         LL L  K  LL     L L L         L LLL L L  LLLLL LL       ", // NestRestAlone
-    *b"            \xaf\xaf\xaf\xaf\xaf\xaf\xaf\xaf\xaf\xaf                                                                 ", // FirstModule
-    *b"            \xb0\xb0\xb0\xb0\xb0\xb0\xb0\xb0\xb0\xb0       \xb0\xb0\xb0\xb0\xb0\xb0\xb0\xb0\xb0\xb0\xb0\xb0\xb0\xb0\xb0\xb0\xb0\xb0\xb0\xb0\xb0\xb0\xb0\xb0\xb0\xb0    \xb0                           ", // NamedModule
-    *b"                                                   \xb1                                   ", // MoreModule
-    *b"                                            !                                          ", // MaybePartition
-    *b"            $$$$$$$$$$                  \"        #           % %%% % %  %%%%% %%       ", // NameAfterModule
-    *b"                                                   )                                   ", // NameInModule
-    *b"            LLLLLLLLLL         LL L     LL     L L L         L LLL L L  LLLLL LL       ", // NestOn
-    *b"                                         !                                             ", // HolderMark
-    *b"            $$$$$$$$$$         OP       \"      * # )         R QRR R R  RRRRR RR       ", // HeldComponent
-    *b"                                                           !  !                     !  ", // FloatEnd
-    *b"                                                                        \xb3\xb3 \xb3      \xb2    ", // ComponentAfterC
-    *b"                                                             \xa2  \xa1\xa8 \xac \xab  \xa9\xa5\xa0\xa7\xa3 \xa6\xaa       ", // OtherOperator
-    *b"                                     \xb4                                                 ", // HeldArguments
-    *b"            \xb6\xb6\xb6\xb6\xb6\xb6\xb6\xb6\xb6\xb6                    \xb5    \xb6      z                                ", // BaseClass
-    *b"            \xb8\xb8\xb8\xb8\xb8\xb8\xb8\xb8\xb8\xb8                         \xb7                                       ", // UnnestedName
-    *b"                                     \xb9                                                 ", // BaseArguments
-    *b"            \x90\x90\x90\x90\x90\x90\x90\x90\x90\x90       \x90 \x90\x90 \x90  \x8e\x8e\x90\x8f\x90\x90\x90\x90\x8a\x90\x90\x90\x90\x90\x90\x90 \x90      \x90\x90\x90\x90\x90\x90\x90\x90\x90\x90 \x90\x90\x90\x90  \x90\x90\x90\x90\x90\x90\x90\x90\x90", // ArgumentsFirst
-    *b"            $$$$$$$$$$                  \" +      #                                     ", // PlainEntity
-    *b"            $$$$$$$$$$                  \" Y      #                                     ", // PlainTypeEntity
-    *b"                                   !                                                   ", // SpecialMark
-    *b"                                     \xbb        \xba \xbc 6                                    ", // SpecialAfterG
-    *b"            $$$$$$$$$$                  \" +    = #    \xbd                                ", // TemporaryName
-    *b"                                                                          !     !      ", // CloneLetter
-    *b"                                                                                \xbe      ", // TypeInStd
-    *b"                              \xbf                                                        ", // MaybeTags
-    *b"            \xc2\xc2\xc2\xc2\xc2\xc2\xc2\xc2\xc2\xc2       \xc2 \xc2k \xc2    e \xc2\xc2f\xc2 f\xc2\xc1\xc2d\xc2\xc0 \xc2      \xc2\xc2\xc2\xc2\xc2\xc2\xc2\xc2\xc2\xc2 \xc2\xc2\xc2\xc2  c\xc2\xc2\xc2\xc2\xc2\xc2\xc2\xc2", // Argument
-    *b"            \xc3\xc3\xc3\xc3\xc3\xc3\xc3\xc3\xc3\xc3                  \xc5                  \xc3           \xc4  \xc4 \xc4   \xc4    \xc4 ", // ArgumentAfterT
-    *b"            \xc3\xc3\xc3\xc3\xc3\xc3\xc3\xc3\xc3\xc3                                     \xc3                           ", // LeveledParameter
-    *b"            \xc2\xc2\xc2\xc2\xc2\xc2\xc2\xc2\xc2\xc2       \xc2 \xc2k \xc2   \xc7e\xc6\xc2\xc2f\xc2 f\xc2\xc1\xc2d\xc2\xc0 \xc2      \xc2\xc2\xc2\xc2\xc2\xc2\xc2\xc2\xc2\xc2 \xc2\xc2\xc2\xc2  c\xc2\xc2\xc2\xc2\xc2\xc2\xc2\xc2", // OneArgument
-    *b"                                                                       \xca  \xc9 \xcc   \xcb    \xc8 ", // DeclarationAfterT
-    *b"                                                \xcd                                      ", // Declarations
-    *b"            \xce\xce\xce\xce\xce\xce\xce\xce\xce\xce                    Y    \xce                                       ", // Concept
-    *b"            $$$$$$$$$$       } \x7f  ~      wY v  y # )  z      {{{{{{{{{{ {{{{   {{|{{{{{", // SolidButT
-    *b"            \xd1\xd1\xd1\xd1\xd1\xd1\xd1\xd1\xd1\xd1                  \xc6       \xfb            \xeb \xec\xed\xee\xef\xf0 \xf1  \xf2\xf3\xf4\xf5\xf6\xf7\xf8\xf9\xfa      ", // Expression
-    *b"            \xfc\xfc\xfc\xfc\xfc\xfc\xfc\xfc\xfc\xfc                  \xfd                  \xfc                           ", // ExpressionParameter
-    *b"            \xfc\xfc\xfc\xfc\xfc\xfc\xfc\xfc\xfc\xfc                                     \xfc                           ", // UnleveledExpression
-    *b"            \xd1\xd1\xd1\xd1\xd1\xd1\xd1\xd1\xd1\xd1                  \xfe       \xfb            \xeb \xec\xed\xee\xef\xf0 \xf1  \xf2\xf3\xf4\xf5\xf6\xf7\xf8\xf9\xfa      ", // AddressedExpression
-    *b"            \x96\x96\x96\x96\x96\x96\x96\x96\x96\x96          \x95      \x96 \x96\x96 \x96  \x96\x96\x96\x96\x96  \x96    \x93 \x96\x94\x96\x97\x97\x97\x97\x96\x96\x96 \x96\x96\x96\x96   \x96\x96  \x96\x96\x96 ", // AddressedLiteral
-    *b"                                          \xd4    \xd4             \xd4  \xd3         \xd4     \xd6  \xd5  \xd5", // ExpressionAfterA
-    *b"                                                               \xcf        \xd7\xd4 \xd5\xd7     \xd8    ", // ExpressionAfterC
-    *b"                                                  \xd4          \xd5 \xcf \xd5   \xd9  \xd5 \xdb    \xd4\xd4 \xd4 \xda  ", // ExpressionAfterD
-    *b"                                           \xd4                               \xd4 \xd4         ", // ExpressionAfterE
-    *b"                                        \xdc                               \xdd   \xd2 \xde        ", // ExpressionAfterF
-    *b"                                                                 \xd4             \xd5\xd4      ", // ExpressionAfterG
-    *b"                                                                        \xdf           \xd4  ", // ExpressionAfterI
-    *b"                                               \xd4                 \xd4             \xd4\xd4      ", // ExpressionAfterL
-    *b"                                     \xd4  \xd4                            \xd4  \xd4\xe0             ", // ExpressionAfterM
-    *b"                                                             \xe1   \xd4 \xd5            \xd5  \xe1\xd5  ", // ExpressionAfterN
-    *b"                                              \xd4                           \xd0\xd4  \xd4        ", // ExpressionAfterO
-    *b"                                        \xd4                               \xd4\xd4  \xe0  \xd5\xd4      ", // ExpressionAfterP
-    *b"                                                                                 \xe2     ", // ExpressionAfterQ
-    *b"                                         \xd4   \xe4 \xd4               \xcf         \xd4   \xe3 \xd4       ", // ExpressionAfterR
-    *b"                                                      \xe6        \xcf            \xe5 \xe7\xd4\xd6    \xe8\xd5", // ExpressionAfterS
-    *b"                                                                 \xd5   \xd6  \xe9     \xea    \xd5   ", // ExpressionAfterT
-    *b"            \xff\xff\xff\xff\xff\xff\xff\xff\xff\xff                  \xff       \xff            \xff \xff\xff\xff\xff\xff \xff  \xff\xff\xff\xff\xff\xff\xff\xff\xff      ", // Expressions
-    *b"                                                           !                           ", // MaybeBefore
-    *b"                                                             \xa2 \xa4\xa1\xa8 \xac \xab  \x00\xa5\xa0\xa7\xa3 \xa6\xaa       ", // FoldOperator
-    *b"                                               !                 !             !!      ", // FoldOperatorAfterL
-    *b"            \x01\x01\x01\x01\x01\x01\x01\x01\x01\x01                  \x01       \x01            \x01 \x01\x01\x01\x01\x01 \x01  \x01\x01\x01\x01\x01\x01\x01\x01\x01      ", // FoldOperand
-    *b"            \x02\x02\x02\x02\x02\x02\x02\x02\x02\x02                  \x02       \x02            \x02 \x02\x02\x02\x02\x02 \x02  \x02\x02\x02\x02\x02\x02\x02\x02\x02      ", // FoldPack
-    *b"            \x02\x02\x02\x02\x02\x02\x02\x02\x02\x02                \xc7 \x02       \x02            \x02 \x02\x02\x02\x02\x02 \x02  \x02\x02\x02\x02\x02\x02\x02\x02\x02      ", // ValuePack
-    *b"            \x03\x03\x03\x03\x03\x03\x03\x03\x03\x03       \x03 \x03\x03 \x03   \xc7\x03 \x03\x03\x03\x03 \x03\x03\x03\x03\x03\x03  \x03      \x03\x03\x03\x03\x03\x03\x03\x03\x03\x03 \x03\x03\x03\x03  \x03\x03\x03\x03\x03\x03\x03\x03\x03", // TypePack
-    *b"            \x05\x05\x05\x05\x05\x05\x05\x05\x05\x05                  \x05       \x05            \x05 \x05\x04\x05\x05\x05 \x05  \x05\x05\x05\x05\x05\x05\x05\x05\x05      ", // DesignatedValue
-    *b"                                                                     \xd9              \xda  ", // DesignatorAfterD
-    *b"            \xd1\xd1\xd1\xd1\xd1\xd1\xd1\xd1\xd1\xd1                  \xc6       \xfb            \xeb \xec \xee\xef\xf0 \xf1  \xf2\xf3\xf4\xf5\xf6\xf7\xf8\xf9\xfa      ", // PlainValue
-    *b"            \x06\x06\x06\x06\x06\x06\x06\x06\x06\x06                                                                 ", // FieldName
-    *b"            \x07\x07\x07\x07\x07\x07\x07\x07\x07\x07                  \x07       \x07          ! \x07 \x07\x07\x07\x07\x07 \x07  \x07\x07\x07\x07\x07\x07\x07\x07\x07      ", // Placement
-    *b"            \xff\xff\xff\xff\xff\xff\xff\xff\xff\xff                  \xff       \xff            \xff \xff\xff\xff\xff\xff \xff  \xff\xff\xff\xff\xff\xff\xff\xff\xff      ", // SomeExpressions
-    *b"                                 \x87                                   \x09      \x08          ", // Initializer
-    *b"                                                                     \xdf                 ", // InitializerAfterP
-    *b"                                                                        \xdf              ", // InitializerAfterI
-    *b"                                                                            \xd2          ", // OuterRest
-    *b"            \x0b\x0b\x0b\x0b\x0b\x0b\x0b\x0b\x0b\x0b                          \x0a          \x0b                           ", // ParameterNumber
-    *b"            \x10\x10\x10\x10\x10\x10\x10\x10\x10\x10          \x0c \x10    \x0d  \x10\x0f\x0e \x0f\x10\x10\x10           \x10\x10\x10\x10\x10\x10\x10\x10\x10\x10 \x10\x10\x10\x10   \x10\x10 \x10\x10\x10\x10\x10", // ConvertedType
-    *b"            $$$$$$$$$$            ~       Y    y\x11#           {{{{{{{{{{ {{{{   {{ {{{{{", // ConvertedSolid
-    *b"            \xc3\xc3\xc3\xc3\xc3\xc3\xc3\xc3\xc3\xc3                  \xc5                  \xc3                           ", // ParameterAfterT
-    *b"                                                t                               t      ", // DecltypeAfterD
-    *b"                                                t            n n                t      ", // ConvertedAfterD
-    *b"            \xd1\xd1\xd1\xd1\xd1\xd1\xd1\xd1\xd1\xd1                  \xc6       \xfb          \xdf \xeb \xec\xed\xee\xef\xf0 \xf1  \xf2\xf3\xf4\xf5\xf6\xf7\xf8\xf9\xfa      ", // ConvertRest
-    *b"            \x13\x13\x13\x13\x13\x13\x13\x13\x13\x13          \x12         \x12    \x12\x12                                      ", // Unresolved
-    *b"                                \x0c         Y    y\x11                                      ", // UnresolvedType
-    *b"            \xd1\xd1\xd1\xd1\xd1\xd1\xd1\xd1\xd1\xd1          \x14         \x14    \x14\x14                                      ", // DestructorName
-    *b"                                             \x17  \x16   \x15                                  ", // Requirements
-    *b"                                          \x19  \x17\x18 \x16   \x15                                  ", // AfterExpression
-    *b"                                             \x17\x18 \x16   \x15                                  ", // AfterNoexcept
-    *b"            \x1a\x1a\x1a\x1a\x1a\x1a\x1a\x1a\x1a\x1a          \x1a \x1a    \x1a  \x1a\x1a\x1a \x1a\x1a\x1a\x1a         \xe3 \x1a\x1a\x1a\x1a\x1a\x1a\x1a\x1a\x1a\x1a \x1a\x1a\x1a\x1a   \x1a\x1a \x1a\x1a\x1a\x1a\x1a", // RequiredTypes
-    *b"            \xd1\xd1\xd1\xd1\xd1\xd1\xd1\xd1\xd1\xd1                                                                 ", // Level
-    *b"            \x13\x13\x13\x13\x13\x13\x13\x13\x13\x13           \x1b                                                     ", // MoreLevels
-    *b"            \xd1\xd1\xd1\xd1\xd1\xd1\xd1\xd1\xd1\xd1                                                     \x1c           ", // UnresolvedName
-    *b"                                                                          \xd0            ", // OperatorName
-    *b"                             \x1d                                                         ", // AnyArray
-    *b"            \x1f\x1f\x1f\x1f\x1f\x1f\x1f\x1f\x1f\x1f                  \x1e       \x1e          \x1f \x1e \x1e\x1e\x1e\x1e\x1e \x1e  \x1e\x1e\x1e\x1e\x1e\x1e\x1e\x1e\x1e      ", // ArrayRest
-    *b"                                        \xc6       \xfb            \xeb \xec\xed\xee\xef\xf0 \xf1  \xf2\xf3\xf4\xf5\xf6\xf7\xf8\xf9\xfa      ", // Bound
-    *b"            LLLLLLLLLL         LLNL     LL     L L L         L LLL L L  LLLLL LL       ", // NestMoreOrEnd
-];
+    [0, b"                                                           ,                           "], // Symbol
+    [0, b"          -                                                                            "], // MaybeSuffix
+    [0, b".         . ..........       ..........................    . .........................."], // SuffixFirst
+    [0, b".         . ..........       ..........................    . .........................."], // SuffixMore
+    [0, b"            1111111111             0    1 1    1/1 1  1      1 111 1 1  11111 11       "], // Encoding
+    [1, b"                             \x1f \xfd    51         11 15           4    2             3    "], // Special
+    [0, b"                                                                    7             8    "], // CallOffset
+    [0, b"            ::::::::::                                                    9            "], // Integer
+    [0, b"            $$$$$$$$$$                  \" +    ; # )  <      % %%% % %  %%%%% %%       "], // CompleteName
+    [0, b"                                                                              !        "], // MaybeRestrict
+    [0, b"                                                  !                                    "], // MaybeVolatile
+    [0, b"                                       !                                               "], // MaybeConst
+    [0, b"                                    !      !  !                                        "], // MaybeRef
+    [0, b"            >>>>>>>>>>       >>>>>>>>>>>>>>>>>>>>>>>>>>    > >> >    >     >   >=      "], // NameAfterS
+    [0, b"            ((((((((((                  &        '           ? ??? ? ?  ????? ??       "], // Unqualified
+    [0, b"            DDDDDDDDDD          \xfc       B      @AC \xfd                                   "], // Nest
+    [0, b"            FFFFFFFFFF       FFFFFFFFFFFFFFFFFFFFFFFFFF    F FF F    F     F   FE      "], // NestAfterS
+    [0, b"            HHHHHHHHHH        \xfbHH H  G  HH     H H H         H HHH H H  HHHHH HH       "], // NestRest
+    [0, b"            HHHHHHHHHH         HHIH     HH     H H H         H HHH H H  HHHHH HH       "], // NestTail
+    [0, b"            $$$$$$$$$$         JK \xf9     \"\xfa     * # )         M LMM M M  MMMMM MM       "], // Component
+    [0, b"             NNNNN                   \xf8                                                 "], // ConstructorAfterC
+    [0, b"             !!!!!                                                                     "], // ConstructorDigit
+    [0, b"             !! !!                                                                     "], // InheritedDigit
+    [0, b"            !!! !!                                                                     "], // DestructorDigit
+    [0, b"            PPPPPPPPPP       PPPPPPPPPPPPPPPPPPPPPPPPPP    P OO O    O     O   O       "], // Abbreviation
+    [0, b"            $$$$$$$$$$                  \" +      #              \xf7              R       "], // Entity
+    [0, b"            $$$$$$$$$$                  \" Q      #              \xf6                      "], // TypeEntity
+    [0, b"                                                           S                           "], // MaybeDiscriminator
+    [0, b"            TTTTTTTTTT                                     U                           "], // DiscriminatorRest
+    [0, b"                                                                 \xf5      V       W      "], // Anonymous
+    [0, b"            \\\\\\\\\\\\\\\\\\\\       \\ \\] \\    Z \\\\[\\ [\\\\\\Y\\  \\      \\\\\\\\\\\\\\\\\\\\ \\\\\\\\  X\\\\\\\\\\\\\\\\"], // Type
+    [0, b"            __________       _ _^ _      __[_ [___ _  _      __________ ____   ________"], // Plain
+    [0, b"            \\\\\\\\\\\\\\\\\\\\       \\ \\` \\    Z \\\\[\\ [\\\\\\Y\\  \\      \\\\\\\\\\\\\\\\\\\\ \\\\\\\\  X\\\\\\\\\\\\\\\\"], // Item
+    [0, b"            \\\\\\\\\\\\\\\\\\\\       \\ \\` \\    Z \\\\ \\  \\\\\\Y\\  \\      \\\\\\\\\\\\\\\\\\\\ \\\\\\\\  X\\\\\\\\\\\\\\\\"], // ItemButRef
+    [0, b"                              b   b    b        bb           b bbbb bb b  bba  bbbb  b "], // ItemAfterD
+    [0, b"                              \xf3   f    \xf4        g\xf3           c cccc cc \xf4  ce   cgcd  \xf2 "], // AfterD
+    [0, b"            $$$$$$$$$$       o q  p      iQ h  kj# )  l      mmmmmmmmmm mmmm   mmnmmmmm"], // Solid
+    [0, b"                                                     !                                 "], // MaybeCLinkage
+    [0, b"            rrrrrrrrrr                                                                 "], // BitWidth
+    [0, b"            tttttttttt       tttttttttttttttttttttttttt    t tt t    t     t   ts      "], // TypeAfterS
+    [0, b"            ((((((((((                  &        '                                     "], // SourceOrLocal
+    [0, b"            xxxxxxxxxx       x xxux    x xxwx vxxxxx  x      xxxxxxxxxx xxxx  xxxxxxxxx"], // FunctionRest
+    [0, b"            zzzzzzzzzz       z zzyz    z zzzz zzzzzz  z      zzzzzzzzzz zzzz  zzzzzzzzz"], // AfterR
+    [0, b"            {{{{{{{{{{       { {{y{    { {{{{ {{{{{{  {      {{{{{{{{{{ {{{{  {{{{{{{{{"], // AfterO
+    [0, b"            ||||||||||       | || |    | ||||\xf1||||||  |      |||||||||| ||||  |||||||||"], // Items
+    [0, b"                              \xf0      }                                                 "], // MaybeArguments
+    [0, b"                                     }                                                 "], // Arguments
+    [0, b"            \x80\x80\x80\x80\x80\x80\x80\x80\x80\x80       \x80 \x80\x80 \x80   ~\x80\x7f\x80\x80\x80\x80\xf1\x80\x80\x80\x80\x80\x80\x80 \x80      \x80\x80\x80\x80\x80\x80\x80\x80\x80\x80 \x80\x80\x80\x80  \x80\x80\x80\x80\x80\x80\x80\x80\x80"], // ArgumentList
+    [0, b"            \x82\x82\x82\x82\x82\x82\x82\x82\x82\x82       \x82 \x82\x82 \x82    \x82\x81\x82\x82\x82\x82 \x82\x82\x82\x82\x82\x82\x82 \x82      \x82\x82\x82\x82\x82\x82\x82\x82\x82\x82 \x82\x82\x82\x82  \x82\x82\x82\x82\x82\x82\x82\x82\x82"], // PackList
+    [0, b"            \x86\x86\x86\x86\x86\x86\x86\x86\x86\x86          \x85      \x86 \x86\x86 \x86  \x86\x86\x86\x86\x86  \x86    \x83 \x86\x84\x86\xef\xef\xef\xef\x86\x86\x86 \x86\x86\x86\x86   \x86\x86  \x86\x86\x86 "], // Literal
+    [0, b"            !!                                                                         "], // Bit
+    [0, b"                                  \xee                                  \x88    \x87    \x88 \x88     "], // LiteralAfterD
+    [0, b"                                                                mmmm                   "], // FloatType
+    [0, b"                                  f                                                    "], // SizedFloatType
+    [0, b"            \x89\x89\x89\x89\x89\x89\x89\x89\x89\x89                                       \x89\x89\x89\x89\x89\x89                    "], // HexText
+    [0, b"            \x8a\x8a\x8a\x8a\x8a\x8a\x8a\x8a\x8a\x8a                                       \x8a\x8a\x8a\x8a\x8a\x8a                    "], // HexDigits
+    [0, b"            \x8a\x8a\x8a\x8a\x8a\x8a\x8a\x8a\x8a\x8a                                       \x8a\x8a\x8a\x8a\x8a\x8a                    "], // HexMore
+    [0, b"            !                                                                          "], // MaybeZero
+    [0, b"            $$$$$$$$$$                 \xec iQ h  kj#\xed)  l      m m    mmm mmmm   mm  mmm "], // LiteralType
+    [0, b"            \x8b\x8b\x8b\x8b\x8b\x8b\x8b\x8b\x8b\x8b                   \x8b\x8b \x8b  \x8b\x8b\x8b \x8b  \x8b      \x8b \x8b    \x8b\x8b\x8b \x8b\x8b\x8b\x8b   \x8b\x8b  \x8b\x8b\x8b "], // LiteralPlain
+    [0, b"            $$$$$$$$$$                   iQ h  kj# )  l      m m    mmm mmmm   mm  mmm "], // LiteralSolid
+    [0, b"                                                             \x8e \x90\x8d\x94 \x98 \x97  \x95\x91\x8c\x93\x8f \x92\x96       "], // Operator
+    [0, b"                                                             !   ! !            !  !   "], // OperatorAfterN
+    [0, b"                                                  !          !   !      !         !    "], // OperatorAfterD
+    [0, b"                                          !    !             !  !         !        !   "], // OperatorAfterA
+    [0, b"                                        !                               !!  !  !!      "], // OperatorAfterP
+    [0, b"                                                                        !! !           "], // OperatorAfterC
+    [0, b"                                     !  !                            !  !!             "], // OperatorAfterM
+    [0, b"                                         !     !                         !     !       "], // OperatorAfterR
+    [0, b"                                              !                            !  !        "], // OperatorAfterO
+    [0, b"                                           !                               ! !         "], // OperatorAfterE
+    [0, b"                                               !                 !   \x99         !!      "], // OperatorAfterL
+    [0, b"                                                                               !       "], // OperatorAfterS
+    [0, b"                                                                                    !  "], // OperatorAfterI
+    [0, b"                                                                 !              !      "], // OperatorAfterG
+    [0, b"            HHHHHHHHHH         HH H  \x9a  HH     H H H         H HHH H H  HHHHH HH       "], // NestRestOrEnd
+    [0, b"                                     }                                                 "], // ArgumentsAlone
+    [0, b"            HHHHHHHHHH         HH H  G  HH     H H H         H HHH H H  HHHHH HH       "], // NestRestAlone
+    [0, b"            \x9b\x9b\x9b\x9b\x9b\x9b\x9b\x9b\x9b\x9b                                                                 "], // FirstModule
+    [0, b"            \x9c\x9c\x9c\x9c\x9c\x9c\x9c\x9c\x9c\x9c       \x9c\x9c\x9c\x9c\x9c\x9c\x9c\x9c\x9c\x9c\x9c\x9c\x9c\x9c\x9c\x9c\x9c\x9c\x9c\x9c\x9c\x9c\x9c\x9c\x9c\x9c    \x9c                           "], // NamedModule
+    [0, b"                                                   \x9d                                   "], // MoreModule
+    [0, b"                                            !                                          "], // MaybePartition
+    [0, b"            $$$$$$$$$$                  \"        #           % %%% % %  %%%%% %%       "], // NameAfterModule
+    [0, b"                                                   )                                   "], // NameInModule
+    [0, b"            HHHHHHHHHH         HH H     HH     H H H         H HHH H H  HHHHH HH       "], // NestOn
+    [0, b"                                         !                                             "], // HolderMark
+    [0, b"            $$$$$$$$$$         JK       \"      * # )         M LMM M M  MMMMM MM       "], // HeldComponent
+    [0, b"                                                           !  !                     !  "], // FloatEnd
+    [0, b"                                                                        \x9e\x9e \x9e      \xeb    "], // ComponentAfterC
+    [0, b"                                                             \x8e  \x8d\x94 \x98 \x97  \x95\x91\x8c\x93\x8f \x92\x96       "], // OtherOperator
+    [0, b"                                     \x9f                                                 "], // HeldArguments
+    [0, b"            \xa1\xa1\xa1\xa1\xa1\xa1\xa1\xa1\xa1\xa1                    \xa0    \xa1      l                                "], // BaseClass
+    [0, b"            \xa3\xa3\xa3\xa3\xa3\xa3\xa3\xa3\xa3\xa3                         \xa2                                       "], // UnnestedName
+    [0, b"                                     \xa4                                                 "], // BaseArguments
+    [0, b"            \x80\x80\x80\x80\x80\x80\x80\x80\x80\x80       \x80 \x80\x80 \x80  ~~\x80\x7f\x80\x80\x80\x80\xf1\x80\x80\x80\x80\x80\x80\x80 \x80      \x80\x80\x80\x80\x80\x80\x80\x80\x80\x80 \x80\x80\x80\x80  \x80\x80\x80\x80\x80\x80\x80\x80\x80"], // ArgumentsFirst
+    [0, b"            $$$$$$$$$$                  \" +      #                                     "], // PlainEntity
+    [0, b"            $$$$$$$$$$                  \" Q      #                                     "], // PlainTypeEntity
+    [0, b"                                   !                                                   "], // SpecialMark
+    [0, b"                                     \xe9        \xea \xe8 6                                    "], // SpecialAfterG
+    [0, b"            $$$$$$$$$$                  \" +    ; #    \xa5                                "], // TemporaryName
+    [0, b"                                                                          !     !      "], // CloneLetter
+    [0, b"                                                                                \xa6      "], // TypeInStd
+    [0, b"                              \xe7                                                        "], // MaybeTags
+    [0, b"            \xa9\xa9\xa9\xa9\xa9\xa9\xa9\xa9\xa9\xa9       \xa9 \xa9` \xa9    Z \xa9\xa9[\xa9 [\xa9\xa8\xa9Y\xa9\xa7 \xa9      \xa9\xa9\xa9\xa9\xa9\xa9\xa9\xa9\xa9\xa9 \xa9\xa9\xa9\xa9  X\xa9\xa9\xa9\xa9\xa9\xa9\xa9\xa9"], // Argument
+    [0, b"            \xaa\xaa\xaa\xaa\xaa\xaa\xaa\xaa\xaa\xaa                  \xab                  \xaa           \xe6  \xe6 \xe6   \xe6    \xe6 "], // ArgumentAfterT
+    [0, b"            \xaa\xaa\xaa\xaa\xaa\xaa\xaa\xaa\xaa\xaa                                     \xaa                           "], // LeveledParameter
+    [0, b"            \xa9\xa9\xa9\xa9\xa9\xa9\xa9\xa9\xa9\xa9       \xa9 \xa9` \xa9   \xadZ\xac\xa9\xa9[\xa9 [\xa9\xa8\xa9Y\xa9\xa7 \xa9      \xa9\xa9\xa9\xa9\xa9\xa9\xa9\xa9\xa9\xa9 \xa9\xa9\xa9\xa9  X\xa9\xa9\xa9\xa9\xa9\xa9\xa9\xa9"], // OneArgument
+    [0, b"                                                                       \xb0  \xaf \xb2   \xb1    \xae "], // DeclarationAfterT
+    [0, b"                                                \xb3                                      "], // Declarations
+    [0, b"            \xb4\xb4\xb4\xb4\xb4\xb4\xb4\xb4\xb4\xb4                    Q    \xb4                                       "], // Concept
+    [0, b"            $$$$$$$$$$       o q  p      iQ h  k # )  l      mmmmmmmmmm mmmm   mmnmmmmm"], // SolidButT
+    [0, b"            \xb7\xb7\xb7\xb7\xb7\xb7\xb7\xb7\xb7\xb7                  \xac       \xe1            \xd1 \xd2\xd3\xd4\xd5\xd6 \xd7  \xd8\xd9\xda\xdb\xdc\xdd\xde\xdf\xe0      "], // Expression
+    [0, b"            \xe2\xe2\xe2\xe2\xe2\xe2\xe2\xe2\xe2\xe2                  \xe3                  \xe2                           "], // ExpressionParameter
+    [0, b"            \xe2\xe2\xe2\xe2\xe2\xe2\xe2\xe2\xe2\xe2                                     \xe2                           "], // UnleveledExpression
+    [0, b"            \xb7\xb7\xb7\xb7\xb7\xb7\xb7\xb7\xb7\xb7                  \xe4       \xe1            \xd1 \xd2\xd3\xd4\xd5\xd6 \xd7  \xd8\xd9\xda\xdb\xdc\xdd\xde\xdf\xe0      "], // AddressedExpression
+    [0, b"            \x86\x86\x86\x86\x86\x86\x86\x86\x86\x86          \x85      \x86 \x86\x86 \x86  \x86\x86\x86\x86\x86  \x86    \x83 \x86\x84\x86\xef\xef\xef\xef\x86\x86\x86 \x86\x86\x86\x86   \x86\x86  \x86\x86\x86 "], // AddressedLiteral
+    [0, b"                                          \xba    \xba             \xba  \xb9         \xba     \xbc  \xbb  \xbb"], // ExpressionAfterA
+    [0, b"                                                               \xb5        \xbd\xba \xbb\xbd     \xbe    "], // ExpressionAfterC
+    [0, b"                                                  \xba          \xbb \xb5 \xbb   \xbf  \xbb \xc1    \xba\xba \xba \xc0  "], // ExpressionAfterD
+    [0, b"                                           \xba                               \xba \xba         "], // ExpressionAfterE
+    [0, b"                                        \xc2                               \xc3   \xb8 \xc4        "], // ExpressionAfterF
+    [0, b"                                                                 \xba             \xbb\xba      "], // ExpressionAfterG
+    [0, b"                                                                        \xc5           \xba  "], // ExpressionAfterI
+    [0, b"                                               \xba                 \xba             \xba\xba      "], // ExpressionAfterL
+    [0, b"                                     \xba  \xba                            \xba  \xba\xc6             "], // ExpressionAfterM
+    [0, b"                                                             \xc7   \xba \xbb            \xbb  \xc7\xbb  "], // ExpressionAfterN
+    [0, b"                                              \xba                           \xb6\xba  \xba        "], // ExpressionAfterO
+    [0, b"                                        \xba                               \xba\xba  \xc6  \xbb\xba      "], // ExpressionAfterP
+    [0, b"                                                                                 \xc8     "], // ExpressionAfterQ
+    [0, b"                                         \xba   \xca \xba               \xb5         \xba   \xc9 \xba       "], // ExpressionAfterR
+    [0, b"                                                      \xcc        \xb5            \xcb \xcd\xba\xbc    \xce\xbb"], // ExpressionAfterS
+    [0, b"                                                                 \xbb   \xbc  \xcf     \xd0    \xbb   "], // ExpressionAfterT
+    [0, b"            \x00\x00\x00\x00\x00\x00\x00\x00\x00\x00                  \x00       \x00            \x00 \x00\x00\x00\x00\x00 \x00  \x00\x00\x00\x00\x00\x00\x00\x00\x00      "], // Expressions
+    [0, b"                                                           !                           "], // MaybeBefore
+    [0, b"                                                             \x8e \x90\x8d\x94 \x98 \x97  \x01\x91\x8c\x93\x8f \x92\x96       "], // FoldOperator
+    [0, b"                                               !                 !             !!      "], // FoldOperatorAfterL
+    [0, b"            \x02\x02\x02\x02\x02\x02\x02\x02\x02\x02                  \x02       \x02            \x02 \x02\x02\x02\x02\x02 \x02  \x02\x02\x02\x02\x02\x02\x02\x02\x02      "], // FoldOperand
+    [0, b"            \x03\x03\x03\x03\x03\x03\x03\x03\x03\x03                  \x03       \x03            \x03 \x03\x03\x03\x03\x03 \x03  \x03\x03\x03\x03\x03\x03\x03\x03\x03      "], // FoldPack
+    [0, b"            \x03\x03\x03\x03\x03\x03\x03\x03\x03\x03                \xad \x03       \x03            \x03 \x03\x03\x03\x03\x03 \x03  \x03\x03\x03\x03\x03\x03\x03\x03\x03      "], // ValuePack
+    [0, b"            \x04\x04\x04\x04\x04\x04\x04\x04\x04\x04       \x04 \x04\x04 \x04   \xad\x04 \x04\x04\x04\x04 \x04\x04\x04\x04\x04\x04  \x04      \x04\x04\x04\x04\x04\x04\x04\x04\x04\x04 \x04\x04\x04\x04  \x04\x04\x04\x04\x04\x04\x04\x04\x04"], // TypePack
+    [0, b"            \x06\x06\x06\x06\x06\x06\x06\x06\x06\x06                  \x06       \x06            \x06 \x06\x05\x06\x06\x06 \x06  \x06\x06\x06\x06\x06\x06\x06\x06\x06      "], // DesignatedValue
+    [0, b"                                                                     \xbf              \xc0  "], // DesignatorAfterD
+    [0, b"            \xb7\xb7\xb7\xb7\xb7\xb7\xb7\xb7\xb7\xb7                  \xac       \xe1            \xd1 \xd2 \xd4\xd5\xd6 \xd7  \xd8\xd9\xda\xdb\xdc\xdd\xde\xdf\xe0      "], // PlainValue
+    [0, b"            \x07\x07\x07\x07\x07\x07\x07\x07\x07\x07                                                                 "], // FieldName
+    [0, b"            \x08\x08\x08\x08\x08\x08\x08\x08\x08\x08                  \x08       \x08          ! \x08 \x08\x08\x08\x08\x08 \x08  \x08\x08\x08\x08\x08\x08\x08\x08\x08      "], // Placement
+    [0, b"            \x00\x00\x00\x00\x00\x00\x00\x00\x00\x00                  \x00       \x00            \x00 \x00\x00\x00\x00\x00 \x00  \x00\x00\x00\x00\x00\x00\x00\x00\x00      "], // SomeExpressions
+    [0, b"                                 y                                   \x0a      \x09          "], // Initializer
+    [0, b"                                                                     \xc5                 "], // InitializerAfterP
+    [0, b"                                                                        \xc5              "], // InitializerAfterI
+    [0, b"                                                                            \xb8          "], // OuterRest
+    [0, b"            \x0c\x0c\x0c\x0c\x0c\x0c\x0c\x0c\x0c\x0c                          \x0b          \x0c                           "], // ParameterNumber
+    [0, b"            \x11\x11\x11\x11\x11\x11\x11\x11\x11\x11          \x0d \x11    \x0e  \x11\x10\x0f \x10\x11\x11\x11           \x11\x11\x11\x11\x11\x11\x11\x11\x11\x11 \x11\x11\x11\x11   \x11\x11 \x11\x11\x11\x11\x11"], // ConvertedType
+    [0, b"            $$$$$$$$$$            p       Q    k\x12#           mmmmmmmmmm mmmm   mm mmmmm"], // ConvertedSolid
+    [0, b"            \xaa\xaa\xaa\xaa\xaa\xaa\xaa\xaa\xaa\xaa                  \xab                  \xaa                           "], // ParameterAfterT
+    [0, b"                                                g                               g      "], // DecltypeAfterD
+    [0, b"                                                g            c c                g      "], // ConvertedAfterD
+    [0, b"            \xb7\xb7\xb7\xb7\xb7\xb7\xb7\xb7\xb7\xb7                  \xac       \xe1          \xc5 \xd1 \xd2\xd3\xd4\xd5\xd6 \xd7  \xd8\xd9\xda\xdb\xdc\xdd\xde\xdf\xe0      "], // ConvertRest
+    [0, b"            \x14\x14\x14\x14\x14\x14\x14\x14\x14\x14          \x13         \x13    \x13\x13                                      "], // Unresolved
+    [0, b"                                \x0d         Q    k\x12                                      "], // UnresolvedType
+    [0, b"            \xb7\xb7\xb7\xb7\xb7\xb7\xb7\xb7\xb7\xb7          \x15         \x15    \x15\x15                                      "], // DestructorName
+    [0, b"                                             \x18  \x17   \x16                                  "], // Requirements
+    [0, b"                                          \x1a  \x18\x19 \x17   \x16                                  "], // AfterExpression
+    [0, b"                                             \x18\x19 \x17   \x16                                  "], // AfterNoexcept
+    [0, b"            \x1b\x1b\x1b\x1b\x1b\x1b\x1b\x1b\x1b\x1b          \x1b \x1b    \x1b  \x1b\x1b\x1b \x1b\x1b\x1b\x1b         \xc9 \x1b\x1b\x1b\x1b\x1b\x1b\x1b\x1b\x1b\x1b \x1b\x1b\x1b\x1b   \x1b\x1b \x1b\x1b\x1b\x1b\x1b"], // RequiredTypes
+    [0, b"            \xb7\xb7\xb7\xb7\xb7\xb7\xb7\xb7\xb7\xb7                                                                 "], // Level
+    [0, b"            \x14\x14\x14\x14\x14\x14\x14\x14\x14\x14           \x1c                                                     "], // MoreLevels
+    [0, b"            \xb7\xb7\xb7\xb7\xb7\xb7\xb7\xb7\xb7\xb7                                                     \x1d           "], // UnresolvedName
+    [0, b"                                                                          \xb6            "], // OperatorName
+    [0, b"                             \x1e                                                         "], // AnyArray
+    [0, b"            \x1f\x1f\x1f\x1f\x1f\x1f\x1f\x1f\x1f\x1f                  \xe5       \xe5          \x1f \xe5 \xe5\xe5\xe5\xe5\xe5 \xe5  \xe5\xe5\xe5\xe5\xe5\xe5\xe5\xe5\xe5      "], // ArrayRest
+    [0, b"                                        \xac       \xe1            \xd1 \xd2\xd3\xd4\xd5\xd6 \xd7  \xd8\xd9\xda\xdb\xdc\xdd\xde\xdf\xe0      "], // Bound
+    [0, b"            HHHHHHHHHH         HHIH     HH     H H H         H HHH H H  HHHHH HH       "], // NestMoreOrEnd
+};
 
 /// The number of the rule that a kind takes at a byte, if it takes one.
 #[inline]
@@ -191,8 +204,8 @@ fn number(kind: u16, byte: u8) -> Option<usize>
     ensures few { IfSome result (λ number. number < 255) }
     ensures rule { (head : Head) → MatchOption result (wide.rule kind byte ≡ None) (λ number. wide.rule kind byte ≡ Some (listed_rule head number)) }
 {
-    match letter_in(&WIDE_LETTERS[kind as usize], byte) {
-        Some(letter) => Some(letter.wrapping_sub(FIRST_LETTER) as usize),
+    match letter_in(&WIDE_ROWS[kind as usize].letters, byte) {
+        Some(letter) => Some(WIDE_ROWS[kind as usize].base as usize + letter as usize),
         None => None,
     }
 }

@@ -93,15 +93,6 @@ returns-in-OtherOperatorName c =
     c.prefix-in-OtherOperatorName.result c.piece_in-in-OtherOperatorName.result (values.piece_of v) c.in-OtherOperatorName.is c.named-in-OtherOperatorName.ensures (λ around state. refl)
     c.prefix-in-OtherOperatorName.ensures c.piece_in-in-OtherOperatorName.ensures.is c.extended-in-OtherOperatorName.ensures.is c.extended-in-OtherOperatorName.ensures.there refl refl
 
-pub returns-in-Friend : goal.returns-in-Friend
-unfolding between named_so_far extended piece_of made_before makes_before
-returns-in-Friend c =
-    let ts = trees_in c.args.symbol.now c.args.self.now.nodes in
-    let v = value_in c.args.symbol.now c.args.self.now.nodes c.args.first in
-    piece_behind c.args.symbol.now c.args.self.now c.args.place c.args.kept v c.args.production Production.Friend c.named-in-Friend.result c.extended-in-Friend.result
-    c.prefix-in-Friend.result c.piece_in-in-Friend.result (values.piece_of v) c.in-Friend.is c.named-in-Friend.ensures (λ around state. refl)
-    c.prefix-in-Friend.ensures c.piece_in-in-Friend.ensures.is c.extended-in-Friend.ensures.is c.extended-in-Friend.ensures.there refl refl
-
 pub returns-in-Constructor : goal.returns-in-Constructor
 unfolding between named_so_far extended piece_of made_before makes_before
 returns-in-Constructor c =
@@ -128,3 +119,12 @@ returns-in-TaggedSource c =
     piece_behind c.args.symbol.now c.args.self.now c.args.place c.args.kept v c.args.production Production.TaggedSource c.named-in-TaggedSource.result c.extended-in-TaggedSource.result
     c.prefix-in-TaggedSource.result (Piece.Source false c.text_in-in-TaggedSource.result) (term.source false (values.text_of v)) c.in-TaggedSource.is c.named-in-TaggedSource.ensures (λ around state. refl)
     c.prefix-in-TaggedSource.ensures (ap (λ x. term.source false x) c.text_in-in-TaggedSource.ensures.is) c.extended-in-TaggedSource.ensures.is c.extended-in-TaggedSource.ensures.there refl refl
+
+pub returns-in-Friend : goal.returns-in-Friend
+unfolding between named_so_far extended piece_of made_before makes_before
+returns-in-Friend c =
+    let ts = trees_in c.args.symbol.now c.args.self.now.nodes in
+    let v = value_in c.args.symbol.now c.args.self.now.nodes c.args.first in
+    piece_behind c.args.symbol.now c.args.self.now c.args.place c.args.kept v c.args.production Production.Friend c.named-in-Friend.result c.extended-in-Friend.result
+    c.prefix-in-Friend.result c.piece_in-in-Friend.result (values.piece_of v) c.in-Friend.is c.named-in-Friend.ensures (λ around state. refl)
+    c.prefix-in-Friend.ensures c.piece_in-in-Friend.ensures.is c.extended-in-Friend.ensures.is c.extended-in-Friend.ensures.there refl refl
