@@ -56,7 +56,7 @@ const CONSTRUCTOR_DIGIT: Sym = Sym::Kind(21);
 
 const INHERITED_DIGIT: Sym = Sym::Kind(22);
 
-const DESTRUCTOR_DIGIT: Sym = Sym::Kind(23);
+const COMPONENT_AFTER_D: Sym = Sym::Kind(23);
 
 const ABBREVIATION: Sym = Sym::Kind(24);
 
@@ -184,175 +184,183 @@ const HOLDER_MARK: Sym = Sym::Kind(85);
 
 const HELD_COMPONENT: Sym = Sym::Kind(86);
 
-const FLOAT_END: Sym = Sym::Kind(87);
+const BINDING_AFTER_D: Sym = Sym::Kind(87);
 
-const COMPONENT_AFTER_C: Sym = Sym::Kind(88);
+const BOUND_NAMES: Sym = Sym::Kind(88);
 
-const OTHER_OPERATOR: Sym = Sym::Kind(89);
+const MORE_NAMES: Sym = Sym::Kind(89);
 
-const HELD_ARGUMENTS: Sym = Sym::Kind(90);
+const BOUND_NAME: Sym = Sym::Kind(90);
 
-const BASE_CLASS: Sym = Sym::Kind(91);
+const FLOAT_END: Sym = Sym::Kind(91);
 
-const UNNESTED_NAME: Sym = Sym::Kind(92);
+const COMPONENT_AFTER_C: Sym = Sym::Kind(92);
 
-const BASE_ARGUMENTS: Sym = Sym::Kind(93);
+const OTHER_OPERATOR: Sym = Sym::Kind(93);
 
-const ARGUMENTS_FIRST: Sym = Sym::Kind(94);
+const HELD_ARGUMENTS: Sym = Sym::Kind(94);
 
-const PLAIN_ENTITY: Sym = Sym::Kind(95);
+const BASE_CLASS: Sym = Sym::Kind(95);
 
-const PLAIN_TYPE_ENTITY: Sym = Sym::Kind(96);
+const UNNESTED_NAME: Sym = Sym::Kind(96);
 
-const SPECIAL_MARK: Sym = Sym::Kind(97);
+const BASE_ARGUMENTS: Sym = Sym::Kind(97);
 
-const SPECIAL_AFTER_G: Sym = Sym::Kind(98);
+const ARGUMENTS_FIRST: Sym = Sym::Kind(98);
 
-const TEMPORARY_NAME: Sym = Sym::Kind(99);
+const PLAIN_ENTITY: Sym = Sym::Kind(99);
 
-const CLONE_LETTER: Sym = Sym::Kind(100);
+const PLAIN_TYPE_ENTITY: Sym = Sym::Kind(100);
 
-const TYPE_IN_STD: Sym = Sym::Kind(101);
+const SPECIAL_MARK: Sym = Sym::Kind(101);
 
-const MAYBE_TAGS: Sym = Sym::Kind(102);
+const SPECIAL_AFTER_G: Sym = Sym::Kind(102);
 
-const ARGUMENT: Sym = Sym::Kind(103);
+const TEMPORARY_NAME: Sym = Sym::Kind(103);
 
-const ARGUMENT_AFTER_T: Sym = Sym::Kind(104);
+const CLONE_LETTER: Sym = Sym::Kind(104);
 
-const LEVELED_PARAMETER: Sym = Sym::Kind(105);
+const TYPE_IN_STD: Sym = Sym::Kind(105);
 
-const ONE_ARGUMENT: Sym = Sym::Kind(106);
+const MAYBE_TAGS: Sym = Sym::Kind(106);
 
-const DECLARATION_AFTER_T: Sym = Sym::Kind(107);
+const ARGUMENT: Sym = Sym::Kind(107);
 
-const DECLARATIONS: Sym = Sym::Kind(108);
+const ARGUMENT_AFTER_T: Sym = Sym::Kind(108);
 
-const CONCEPT: Sym = Sym::Kind(109);
+const LEVELED_PARAMETER: Sym = Sym::Kind(109);
 
-const SOLID_BUT_T: Sym = Sym::Kind(110);
+const ONE_ARGUMENT: Sym = Sym::Kind(110);
 
-const EXPRESSION: Sym = Sym::Kind(111);
+const DECLARATION_AFTER_T: Sym = Sym::Kind(111);
 
-const EXPRESSION_PARAMETER: Sym = Sym::Kind(112);
+const DECLARATIONS: Sym = Sym::Kind(112);
 
-const UNLEVELED_EXPRESSION: Sym = Sym::Kind(113);
+const CONCEPT: Sym = Sym::Kind(113);
 
-const ADDRESSED_EXPRESSION: Sym = Sym::Kind(114);
+const SOLID_BUT_T: Sym = Sym::Kind(114);
 
-const ADDRESSED_LITERAL: Sym = Sym::Kind(115);
+const EXPRESSION: Sym = Sym::Kind(115);
 
-const EXPRESSION_AFTER_A: Sym = Sym::Kind(116);
+const EXPRESSION_PARAMETER: Sym = Sym::Kind(116);
 
-const EXPRESSION_AFTER_C: Sym = Sym::Kind(117);
+const UNLEVELED_EXPRESSION: Sym = Sym::Kind(117);
 
-const EXPRESSION_AFTER_D: Sym = Sym::Kind(118);
+const ADDRESSED_EXPRESSION: Sym = Sym::Kind(118);
 
-const EXPRESSION_AFTER_E: Sym = Sym::Kind(119);
+const ADDRESSED_LITERAL: Sym = Sym::Kind(119);
 
-const EXPRESSION_AFTER_F: Sym = Sym::Kind(120);
+const EXPRESSION_AFTER_A: Sym = Sym::Kind(120);
 
-const EXPRESSION_AFTER_G: Sym = Sym::Kind(121);
+const EXPRESSION_AFTER_C: Sym = Sym::Kind(121);
 
-const EXPRESSION_AFTER_I: Sym = Sym::Kind(122);
+const EXPRESSION_AFTER_D: Sym = Sym::Kind(122);
 
-const EXPRESSION_AFTER_L: Sym = Sym::Kind(123);
+const EXPRESSION_AFTER_E: Sym = Sym::Kind(123);
 
-const EXPRESSION_AFTER_M: Sym = Sym::Kind(124);
+const EXPRESSION_AFTER_F: Sym = Sym::Kind(124);
 
-const EXPRESSION_AFTER_N: Sym = Sym::Kind(125);
+const EXPRESSION_AFTER_G: Sym = Sym::Kind(125);
 
-const EXPRESSION_AFTER_O: Sym = Sym::Kind(126);
+const EXPRESSION_AFTER_I: Sym = Sym::Kind(126);
 
-const EXPRESSION_AFTER_P: Sym = Sym::Kind(127);
+const EXPRESSION_AFTER_L: Sym = Sym::Kind(127);
 
-const EXPRESSION_AFTER_Q: Sym = Sym::Kind(128);
+const EXPRESSION_AFTER_M: Sym = Sym::Kind(128);
 
-const EXPRESSION_AFTER_R: Sym = Sym::Kind(129);
+const EXPRESSION_AFTER_N: Sym = Sym::Kind(129);
 
-const EXPRESSION_AFTER_S: Sym = Sym::Kind(130);
+const EXPRESSION_AFTER_O: Sym = Sym::Kind(130);
 
-const EXPRESSION_AFTER_T: Sym = Sym::Kind(131);
+const EXPRESSION_AFTER_P: Sym = Sym::Kind(131);
 
-const EXPRESSIONS: Sym = Sym::Kind(132);
+const EXPRESSION_AFTER_Q: Sym = Sym::Kind(132);
 
-const MAYBE_BEFORE: Sym = Sym::Kind(133);
+const EXPRESSION_AFTER_R: Sym = Sym::Kind(133);
 
-const FOLD_OPERATOR: Sym = Sym::Kind(134);
+const EXPRESSION_AFTER_S: Sym = Sym::Kind(134);
 
-const FOLD_OPERATOR_AFTER_L: Sym = Sym::Kind(135);
+const EXPRESSION_AFTER_T: Sym = Sym::Kind(135);
 
-const FOLD_OPERAND: Sym = Sym::Kind(136);
+const EXPRESSIONS: Sym = Sym::Kind(136);
 
-const FOLD_PACK: Sym = Sym::Kind(137);
+const MAYBE_BEFORE: Sym = Sym::Kind(137);
 
-const VALUE_PACK: Sym = Sym::Kind(138);
+const FOLD_OPERATOR: Sym = Sym::Kind(138);
 
-const TYPE_PACK: Sym = Sym::Kind(139);
+const FOLD_OPERATOR_AFTER_L: Sym = Sym::Kind(139);
 
-const DESIGNATED_VALUE: Sym = Sym::Kind(140);
+const FOLD_OPERAND: Sym = Sym::Kind(140);
 
-const DESIGNATOR_AFTER_D: Sym = Sym::Kind(141);
+const FOLD_PACK: Sym = Sym::Kind(141);
 
-const PLAIN_VALUE: Sym = Sym::Kind(142);
+const VALUE_PACK: Sym = Sym::Kind(142);
 
-const FIELD_NAME: Sym = Sym::Kind(143);
+const TYPE_PACK: Sym = Sym::Kind(143);
 
-const PLACEMENT: Sym = Sym::Kind(144);
+const DESIGNATED_VALUE: Sym = Sym::Kind(144);
 
-const SOME_EXPRESSIONS: Sym = Sym::Kind(145);
+const DESIGNATOR_AFTER_D: Sym = Sym::Kind(145);
 
-const INITIALIZER: Sym = Sym::Kind(146);
+const PLAIN_VALUE: Sym = Sym::Kind(146);
 
-const INITIALIZER_AFTER_P: Sym = Sym::Kind(147);
+const FIELD_NAME: Sym = Sym::Kind(147);
 
-const INITIALIZER_AFTER_I: Sym = Sym::Kind(148);
+const PLACEMENT: Sym = Sym::Kind(148);
 
-const OUTER_REST: Sym = Sym::Kind(149);
+const SOME_EXPRESSIONS: Sym = Sym::Kind(149);
 
-const PARAMETER_NUMBER: Sym = Sym::Kind(150);
+const INITIALIZER: Sym = Sym::Kind(150);
 
-const CONVERTED_TYPE: Sym = Sym::Kind(151);
+const INITIALIZER_AFTER_P: Sym = Sym::Kind(151);
 
-const CONVERTED_SOLID: Sym = Sym::Kind(152);
+const INITIALIZER_AFTER_I: Sym = Sym::Kind(152);
 
-const PARAMETER_AFTER_T: Sym = Sym::Kind(153);
+const OUTER_REST: Sym = Sym::Kind(153);
 
-const DECLTYPE_AFTER_D: Sym = Sym::Kind(154);
+const PARAMETER_NUMBER: Sym = Sym::Kind(154);
 
-const CONVERTED_AFTER_D: Sym = Sym::Kind(155);
+const CONVERTED_TYPE: Sym = Sym::Kind(155);
 
-const CONVERT_REST: Sym = Sym::Kind(156);
+const CONVERTED_SOLID: Sym = Sym::Kind(156);
 
-const UNRESOLVED: Sym = Sym::Kind(157);
+const PARAMETER_AFTER_T: Sym = Sym::Kind(157);
 
-const UNRESOLVED_TYPE: Sym = Sym::Kind(158);
+const DECLTYPE_AFTER_D: Sym = Sym::Kind(158);
 
-const DESTRUCTOR_NAME: Sym = Sym::Kind(159);
+const CONVERTED_AFTER_D: Sym = Sym::Kind(159);
 
-const REQUIREMENTS: Sym = Sym::Kind(160);
+const CONVERT_REST: Sym = Sym::Kind(160);
 
-const AFTER_EXPRESSION: Sym = Sym::Kind(161);
+const UNRESOLVED: Sym = Sym::Kind(161);
 
-const AFTER_NOEXCEPT: Sym = Sym::Kind(162);
+const UNRESOLVED_TYPE: Sym = Sym::Kind(162);
 
-const REQUIRED_TYPES: Sym = Sym::Kind(163);
+const DESTRUCTOR_NAME: Sym = Sym::Kind(163);
 
-const LEVEL: Sym = Sym::Kind(164);
+const REQUIREMENTS: Sym = Sym::Kind(164);
 
-const MORE_LEVELS: Sym = Sym::Kind(165);
+const MAYBE_NOEXCEPT: Sym = Sym::Kind(165);
 
-const UNRESOLVED_NAME: Sym = Sym::Kind(166);
+const AFTER_NOEXCEPT: Sym = Sym::Kind(166);
 
-const OPERATOR_NAME: Sym = Sym::Kind(167);
+const REQUIRED_TYPES: Sym = Sym::Kind(167);
 
-const ANY_ARRAY: Sym = Sym::Kind(168);
+const LEVEL: Sym = Sym::Kind(168);
 
-const ARRAY_REST: Sym = Sym::Kind(169);
+const MORE_LEVELS: Sym = Sym::Kind(169);
 
-const BOUND: Sym = Sym::Kind(170);
+const UNRESOLVED_NAME: Sym = Sym::Kind(170);
 
-const NEST_MORE_OR_END: Sym = Sym::Kind(171);
+const OPERATOR_NAME: Sym = Sym::Kind(171);
+
+const ANY_ARRAY: Sym = Sym::Kind(172);
+
+const ARRAY_REST: Sym = Sym::Kind(173);
+
+const BOUND: Sym = Sym::Kind(174);
+
+const NEST_MORE_OR_END: Sym = Sym::Kind(175);
 
 const NAME: Sym = Sym::Name;
 
@@ -365,70 +373,70 @@ const DIGITS: Sym = Sym::Number(NumberKind::Digits);
 // The letter of a production is the byte with its number. The production with the number of the blank has none here.
 
 // For each kind a row: for each byte from `$` to `z` the letter of the production that the kind takes there.
-static LETTERS: [[u8; 87]; 172] = [
+static LETTERS: [[u8; 87]; 176] = [
     // $%&'()*+,-./0123456789:;<=>?@ABCDEFGHIJKLMNOPQRSTUVWXYZ[\]^_`abcdefghijklmnopqrstuvwxyz
-    *b"                                                           ,                           ", // Symbol
-    *b"          -                                                                            ", // MaybeSuffix
-    *b".         . ..........       ..........................    . ..........................", // SuffixFirst
-    *b".         . ..........       ..........................    . ..........................", // SuffixMore
-    *b"            1111111111             0    1 1    1/1    1      1 111 1 1  11111 11       ", // Encoding
-    *b"                                     2         22 2            5    3             4    ", // Special
-    *b"                                                                    7             8    ", // CallOffset
-    *b"            ::::::::::                                                    9            ", // Integer
-    *b"            $$$$$$$$$$                  \" +    ; #    <      % %%% % %  %%%%% %%       ", // CompleteName
+    *b"                                                           -                           ", // Symbol
+    *b"          .                                                                            ", // MaybeSuffix
+    *b"/         / //////////       //////////////////////////    / //////////////////////////", // SuffixFirst
+    *b"/         / //////////       //////////////////////////    / //////////////////////////", // SuffixMore
+    *b"            2222222222             1    2 2    202    2      2 222 2 2  22222 22       ", // Encoding
+    *b"                                     3         33 3            6    4             5    ", // Special
+    *b"                                                                    8             9    ", // CallOffset
+    *b"            ;;;;;;;;;;                                                    :            ", // Integer
+    *b"            $$$$$$$$$$                  \" ,    < #    =      % %%% % %  %%%%% %%       ", // CompleteName
     *b"                                                                              !        ", // MaybeRestrict
     *b"                                                  !                                    ", // MaybeVolatile
     *b"                                       !                                               ", // MaybeConst
     *b"                                           !  !                                        ", // MaybeRef
-    *b"            >>>>>>>>>>       >>>>>>>>>>>>>>>>>>>>>>>>>>    > >> >    >     >   >=      ", // NameAfterS
-    *b"            ((((((((((                  &        '           ? ??? ? ?  ????? ??       ", // Unqualified
-    *b"            DDDDDDDDDD                  B      @AC                                     ", // Nest
-    *b"            FFFFFFFFFF       FFFFFFFFFFFFFFFFFFFFFFFFFF    F FF F    F     F   FE      ", // NestAfterS
-    *b"            HHHHHHHHHH         HH    G  H        H           H HHH H H  HHHHH HH       ", // NestRest
-    *b"            HHHHHHHHHH         HHI      H        H           H HHH H H  HHHHH HH       ", // NestTail
-    *b"            $$$$$$$$$$         JK       \"        #           M LMM M M  MMMMM MM       ", // Component
-    *b"             NNN                                                                       ", // ConstructorAfterC
+    *b"            ??????????       ??????????????????????????    ? ?? ?    ?     ?   ?>      ", // NameAfterS
+    *b"            ))))))))))                  '        (           @ @@@ @ @  @@@@@ @@       ", // Unqualified
+    *b"            EEEEEEEEEE                  C      ABD                                     ", // Nest
+    *b"            GGGGGGGGGG       GGGGGGGGGGGGGGGGGGGGGGGGGG    G GG G    G     G   GF      ", // NestAfterS
+    *b"            IIIIIIIIII         II    H  I        I           I III I I  IIIII II       ", // NestRest
+    *b"            IIIIIIIIII         IIJ      I        I           I III I I  IIIII II       ", // NestTail
+    *b"            $$$$$$$$$$         KL       \"        #           N MNN N N  NNNNN NN       ", // Component
+    *b"             OOO                                                                       ", // ConstructorAfterC
     *b"             !!!                                                                       ", // ConstructorDigit
     *b"             !! !!                                                                     ", // InheritedDigit
-    *b"            !!!                                                                        ", // DestructorDigit
-    *b"            PPPPPPPPPP       PPPPPPPPPPPPPPPPPPPPPPPPPP    P OO O    O     O   O       ", // Abbreviation
-    *b"            $$$$$$$$$$                  \" +      #                             R       ", // Entity
-    *b"            $$$$$$$$$$                  \" Q      #                                     ", // TypeEntity
-    *b"                                                           S                           ", // MaybeDiscriminator
-    *b"            TTTTTTTTTT                                     U                           ", // DiscriminatorRest
-    *b"                                                                        V       W      ", // Anonymous
-    *b"            \\\\\\\\\\\\\\\\\\\\       \\ \\] \\    Z \\\\[\\ [\\\\\\Y   \\      \\\\\\\\\\\\\\\\\\\\ \\\\\\\\  X\\\\\\\\\\\\\\\\", // Type
-    *b"            __________       _ _^ _      __[_ [___    _      __________ ____   ________", // Plain
-    *b"            \\\\\\\\\\\\\\\\\\\\       \\ \\` \\    Z \\\\[\\ [\\\\\\Y   \\      \\\\\\\\\\\\\\\\\\\\ \\\\\\\\  X\\\\\\\\\\\\\\\\", // Item
-    *b"            \\\\\\\\\\\\\\\\\\\\       \\ \\` \\    Z \\\\ \\  \\\\\\Y   \\      \\\\\\\\\\\\\\\\\\\\ \\\\\\\\  X\\\\\\\\\\\\\\\\", // ItemButRef
-    *b"                                                             b b     b    bba  b bb    ", // ItemAfterD
-    *b"                                                             c c     c    ce   c cd    ", // AfterD
-    *b"            $$$$$$$$$$       o q  p      iQ h  kj#    l      mmmmmmmmmm mmmm   mmnmmmmm", // Solid
+    *b"            !!!                                                                        ", // ComponentAfterD
+    *b"            RRRRRRRRRR       RRRRRRRRRRRRRRRRRRRRRRRRRR    R QQ Q    Q     Q   Q       ", // Abbreviation
+    *b"            $$$$$$$$$$                  \" ,      #                             T       ", // Entity
+    *b"            $$$$$$$$$$                  \" S      #                                     ", // TypeEntity
+    *b"                                                           U                           ", // MaybeDiscriminator
+    *b"            VVVVVVVVVV                                     W                           ", // DiscriminatorRest
+    *b"                                                                        X       Y      ", // Anonymous
+    *b"            ^^^^^^^^^^       ^ ^_ ^    \\ ^^]^ ]^^^[   ^      ^^^^^^^^^^ ^^^^  Z^^^^^^^^", // Type
+    *b"            aaaaaaaaaa       a a` a      aa]a ]aaa    a      aaaaaaaaaa aaaa   aaaaaaaa", // Plain
+    *b"            ^^^^^^^^^^       ^ ^b ^    \\ ^^]^ ]^^^[   ^      ^^^^^^^^^^ ^^^^  Z^^^^^^^^", // Item
+    *b"            ^^^^^^^^^^       ^ ^b ^    \\ ^^ ^  ^^^[   ^      ^^^^^^^^^^ ^^^^  Z^^^^^^^^", // ItemButRef
+    *b"                                                             d d     d    ddc  d dd    ", // ItemAfterD
+    *b"                                                             e e     e    eg   e ef    ", // AfterD
+    *b"            $$$$$$$$$$       q s  r      kS j  ml#    n      oooooooooo oooo   oopooooo", // Solid
     *b"                                                     !                                 ", // MaybeCLinkage
-    *b"            rrrrrrrrrr                                                                 ", // BitWidth
-    *b"            tttttttttt       tttttttttttttttttttttttttt    t tt t    t     t   ts      ", // TypeAfterS
-    *b"            ((((((((((                  &        '                                     ", // SourceOrLocal
-    *b"            xxxxxxxxxx       x xxux    x xxwx vxxxx   x      xxxxxxxxxx xxxx  xxxxxxxxx", // FunctionRest
-    *b"            zzzzzzzzzz       z zzyz    z zzzz zzzzz   z      zzzzzzzzzz zzzz  zzzzzzzzz", // AfterR
-    *b"            {{{{{{{{{{       { {{y{    { {{{{ {{{{{   {      {{{{{{{{{{ {{{{  {{{{{{{{{", // AfterO
-    *b"            ||||||||||       | || |    | |||| |||||   |      |||||||||| ||||  |||||||||", // Items
-    *b"                                     }                                                 ", // MaybeArguments
-    *b"                                     }                                                 ", // Arguments
-    *b"            \x80\x80\x80\x80\x80\x80\x80\x80\x80\x80       \x80 \x80\x80 \x80   ~\x80\x7f\x80\x80\x80\x80 \x80\x80\x80\x80\x80 \x80 \x80      \x80\x80\x80\x80\x80\x80\x80\x80\x80\x80 \x80\x80\x80\x80  \x80\x80\x80\x80\x80\x80\x80\x80\x80", // ArgumentList
-    *b"            \x82\x82\x82\x82\x82\x82\x82\x82\x82\x82       \x82 \x82\x82 \x82    \x82\x81\x82\x82\x82\x82 \x82\x82\x82\x82\x82 \x82 \x82      \x82\x82\x82\x82\x82\x82\x82\x82\x82\x82 \x82\x82\x82\x82  \x82\x82\x82\x82\x82\x82\x82\x82\x82", // PackList
-    *b"            \x86\x86\x86\x86\x86\x86\x86\x86\x86\x86          \x85        \x86\x86 \x86  \x86\x86\x86    \x86    \x83 \x86\x84\x86    \x86\x86\x86 \x86\x86\x86\x86   \x86\x86  \x86\x86\x86 ", // Literal
+    *b"            tttttttttt                                                                 ", // BitWidth
+    *b"            vvvvvvvvvv       vvvvvvvvvvvvvvvvvvvvvvvvvv    v vv v    v     v   vu      ", // TypeAfterS
+    *b"            ))))))))))                  '        (                                     ", // SourceOrLocal
+    *b"            zzzzzzzzzz       z zzwz    z zzyz xzzzz   z      zzzzzzzzzz zzzz  zzzzzzzzz", // FunctionRest
+    *b"            ||||||||||       | ||{|    | |||| |||||   |      |||||||||| ||||  |||||||||", // AfterR
+    *b"            }}}}}}}}}}       } }}{}    } }}}} }}}}}   }      }}}}}}}}}} }}}}  }}}}}}}}}", // AfterO
+    *b"            ~~~~~~~~~~       ~ ~~ ~    ~ ~~~~ ~~~~~   ~      ~~~~~~~~~~ ~~~~  ~~~~~~~~~", // Items
+    *b"                                     \x7f                                                 ", // MaybeArguments
+    *b"                                     \x7f                                                 ", // Arguments
+    *b"            \x82\x82\x82\x82\x82\x82\x82\x82\x82\x82       \x82 \x82\x82 \x82   \x80\x82\x81\x82\x82\x82\x82 \x82\x82\x82\x82\x82 \x82 \x82      \x82\x82\x82\x82\x82\x82\x82\x82\x82\x82 \x82\x82\x82\x82  \x82\x82\x82\x82\x82\x82\x82\x82\x82", // ArgumentList
+    *b"            \x84\x84\x84\x84\x84\x84\x84\x84\x84\x84       \x84 \x84\x84 \x84    \x84\x83\x84\x84\x84\x84 \x84\x84\x84\x84\x84 \x84 \x84      \x84\x84\x84\x84\x84\x84\x84\x84\x84\x84 \x84\x84\x84\x84  \x84\x84\x84\x84\x84\x84\x84\x84\x84", // PackList
+    *b"            \x88\x88\x88\x88\x88\x88\x88\x88\x88\x88          \x87        \x88\x88 \x88  \x88\x88\x88    \x88    \x85 \x88\x86\x88    \x88\x88\x88 \x88\x88\x88\x88   \x88\x88  \x88\x88\x88 ", // Literal
     *b"            !!                                                                         ", // Bit
-    *b"                                                                     \x88    \x87    \x88 \x88     ", // LiteralAfterD
-    *b"                                                                mmmm                   ", // FloatType
-    *b"                                  f                                                    ", // SizedFloatType
-    *b"            \x89\x89\x89\x89\x89\x89\x89\x89\x89\x89                                       \x89\x89\x89\x89\x89\x89                    ", // HexText
-    *b"            \x8a\x8a\x8a\x8a\x8a\x8a\x8a\x8a\x8a\x8a                                       \x8a\x8a\x8a\x8a\x8a\x8a                    ", // HexDigits
-    *b"            \x8a\x8a\x8a\x8a\x8a\x8a\x8a\x8a\x8a\x8a                                       \x8a\x8a\x8a\x8a\x8a\x8a                    ", // HexMore
+    *b"                                                                     \x8a    \x89    \x8a \x8a     ", // LiteralAfterD
+    *b"                                                                oooo                   ", // FloatType
+    *b"                                  h                                                    ", // SizedFloatType
+    *b"            \x8b\x8b\x8b\x8b\x8b\x8b\x8b\x8b\x8b\x8b                                       \x8b\x8b\x8b\x8b\x8b\x8b                    ", // HexText
+    *b"            \x8c\x8c\x8c\x8c\x8c\x8c\x8c\x8c\x8c\x8c                                       \x8c\x8c\x8c\x8c\x8c\x8c                    ", // HexDigits
+    *b"            \x8c\x8c\x8c\x8c\x8c\x8c\x8c\x8c\x8c\x8c                                       \x8c\x8c\x8c\x8c\x8c\x8c                    ", // HexMore
     *b"            !                                                                          ", // MaybeZero
-    *b"            $$$$$$$$$$                   iQ h  kj#    l      m m    mmm mmmm   mm  mmm ", // LiteralType
-    *b"            \x8b\x8b\x8b\x8b\x8b\x8b\x8b\x8b\x8b\x8b                   \x8b\x8b \x8b  \x8b\x8b\x8b    \x8b      \x8b \x8b    \x8b\x8b\x8b \x8b\x8b\x8b\x8b   \x8b\x8b  \x8b\x8b\x8b ", // LiteralPlain
-    *b"            $$$$$$$$$$                   iQ h  kj#    l      m m    mmm mmmm   mm  mmm ", // LiteralSolid
-    *b"                                                             \x8e \x90\x8d\x94 \x98 \x97  \x95\x91\x8c\x93\x8f \x92\x96       ", // Operator
+    *b"            $$$$$$$$$$                   kS j  ml#    n      o o    ooo oooo   oo  ooo ", // LiteralType
+    *b"            \x8d\x8d\x8d\x8d\x8d\x8d\x8d\x8d\x8d\x8d                   \x8d\x8d \x8d  \x8d\x8d\x8d    \x8d      \x8d \x8d    \x8d\x8d\x8d \x8d\x8d\x8d\x8d   \x8d\x8d  \x8d\x8d\x8d ", // LiteralPlain
+    *b"            $$$$$$$$$$                   kS j  ml#    n      o o    ooo oooo   oo  ooo ", // LiteralSolid
+    *b"                                                             \x90 \x92\x8f\x96 \x9a \x99  \x97\x93\x8e\x95\x91 \x94\x98       ", // Operator
     *b"                                                             !   ! !            !  !   ", // OperatorAfterN
     *b"                                                  !          !   !      !         !    ", // OperatorAfterD
     *b"                                          !    !             !  !         !        !   ", // OperatorAfterA
@@ -438,107 +446,111 @@ static LETTERS: [[u8; 87]; 172] = [
     *b"                                         !     !                         !     !       ", // OperatorAfterR
     *b"                                              !                            !  !        ", // OperatorAfterO
     *b"                                           !                               ! !         ", // OperatorAfterE
-    *b"                                               !                 !   \x99         !!      ", // OperatorAfterL
+    *b"                                               !                 !   \x9b         !!      ", // OperatorAfterL
     *b"                                                                               !       ", // OperatorAfterS
     *b"                                                                                    !  ", // OperatorAfterI
     *b"                                                                 !              !      ", // OperatorAfterG
-    *b"            HHHHHHHHHH         HH    \x9a  H        H           H HHH H H  HHHHH HH       ", // NestRestOrEnd
-    *b"                                     }                                                 ", // ArgumentsAlone
-    *b"            HHHHHHHHHH         HH    G  H        H           H HHH H H  HHHHH HH       ", // NestRestAlone
-    *b"            \x9b\x9b\x9b\x9b\x9b\x9b\x9b\x9b\x9b\x9b                                                                 ", // FirstModule
-    *b"            \x9c\x9c\x9c\x9c\x9c\x9c\x9c\x9c\x9c\x9c       \x9c\x9c\x9c\x9c\x9c\x9c\x9c\x9c\x9c\x9c\x9c\x9c\x9c\x9c\x9c\x9c\x9c\x9c\x9c\x9c\x9c\x9c\x9c\x9c\x9c\x9c    \x9c                           ", // NamedModule
-    *b"                                                   \x9d                                   ", // MoreModule
+    *b"            IIIIIIIIII         II    \x9c  I        I           I III I I  IIIII II       ", // NestRestOrEnd
+    *b"                                     \x7f                                                 ", // ArgumentsAlone
+    *b"            IIIIIIIIII         II    H  I        I           I III I I  IIIII II       ", // NestRestAlone
+    *b"            \x9d\x9d\x9d\x9d\x9d\x9d\x9d\x9d\x9d\x9d                                                                 ", // FirstModule
+    *b"            \x9e\x9e\x9e\x9e\x9e\x9e\x9e\x9e\x9e\x9e       \x9e\x9e\x9e\x9e\x9e\x9e\x9e\x9e\x9e\x9e\x9e\x9e\x9e\x9e\x9e\x9e\x9e\x9e\x9e\x9e\x9e\x9e\x9e\x9e\x9e\x9e    \x9e                           ", // NamedModule
+    *b"                                                   \x9f                                   ", // MoreModule
     *b"                                            !                                          ", // MaybePartition
     *b"            $$$$$$$$$$                  \"        #           % %%% % %  %%%%% %%       ", // NameAfterModule
-    *b"                                                   )                                   ", // NameInModule
-    *b"            HHHHHHHHHH         HH       H        H           H HHH H H  HHHHH HH       ", // NestOn
+    *b"                                                   *                                   ", // NameInModule
+    *b"            IIIIIIIIII         II       I        I           I III I I  IIIII II       ", // NestOn
     *b"                                         !                                             ", // HolderMark
-    *b"            $$$$$$$$$$         JK       \"      * # )         M LMM M M  MMMMM MM       ", // HeldComponent
+    *b"            $$$$$$$$$$         KL       \"      + # *         N MNN N N  NNNNN NN       ", // HeldComponent
+    *b"                               P                                                       ", // BindingAfterD
+    *b"            \xa1\xa1\xa1\xa1\xa1\xa1\xa1\xa1\xa1\xa1                  \xa1                                              ", // BoundNames
+    *b"            \xa1\xa1\xa1\xa1\xa1\xa1\xa1\xa1\xa1\xa1                  \xa1                                              ", // MoreNames
+    *b"            \xa0\xa0\xa0\xa0\xa0\xa0\xa0\xa0\xa0\xa0                  p                                              ", // BoundName
     *b"                                                           !  !                     !  ", // FloatEnd
-    *b"                                                                        \x9e\x9e \x9e           ", // ComponentAfterC
-    *b"                                                             \x8e  \x8d\x94 \x98 \x97  \x95\x91\x8c\x93\x8f \x92\x96       ", // OtherOperator
-    *b"                                     \x9f                                                 ", // HeldArguments
-    *b"            \xa1\xa1\xa1\xa1\xa1\xa1\xa1\xa1\xa1\xa1                    \xa0    \xa1      l                                ", // BaseClass
-    *b"            \xa3\xa3\xa3\xa3\xa3\xa3\xa3\xa3\xa3\xa3                         \xa2                                       ", // UnnestedName
-    *b"                                     \xa4                                                 ", // BaseArguments
-    *b"            \x80\x80\x80\x80\x80\x80\x80\x80\x80\x80       \x80 \x80\x80 \x80   ~\x80\x7f\x80\x80\x80\x80 \x80\x80\x80\x80\x80 \x80 \x80      \x80\x80\x80\x80\x80\x80\x80\x80\x80\x80 \x80\x80\x80\x80  \x80\x80\x80\x80\x80\x80\x80\x80\x80", // ArgumentsFirst
-    *b"            $$$$$$$$$$                  \" +      #                                     ", // PlainEntity
-    *b"            $$$$$$$$$$                  \" Q      #                                     ", // PlainTypeEntity
+    *b"                                                                        \xa2\xa2 \xa2           ", // ComponentAfterC
+    *b"                                                             \x90  \x8f\x96 \x9a \x99  \x97\x93\x8e\x95\x91 \x94\x98       ", // OtherOperator
+    *b"                                     \xa3                                                 ", // HeldArguments
+    *b"            \xa5\xa5\xa5\xa5\xa5\xa5\xa5\xa5\xa5\xa5                    \xa4    \xa5      n                                ", // BaseClass
+    *b"            \xa7\xa7\xa7\xa7\xa7\xa7\xa7\xa7\xa7\xa7                         \xa6                                       ", // UnnestedName
+    *b"                                     \xa8                                                 ", // BaseArguments
+    *b"            \x82\x82\x82\x82\x82\x82\x82\x82\x82\x82       \x82 \x82\x82 \x82   \x80\x82\x81\x82\x82\x82\x82 \x82\x82\x82\x82\x82 \x82 \x82      \x82\x82\x82\x82\x82\x82\x82\x82\x82\x82 \x82\x82\x82\x82  \x82\x82\x82\x82\x82\x82\x82\x82\x82", // ArgumentsFirst
+    *b"            $$$$$$$$$$                  \" ,      #                                     ", // PlainEntity
+    *b"            $$$$$$$$$$                  \" S      #                                     ", // PlainTypeEntity
     *b"                                   !                                                   ", // SpecialMark
-    *b"                                                  6                                    ", // SpecialAfterG
-    *b"            $$$$$$$$$$                  \" +    ; #    \xa5                                ", // TemporaryName
+    *b"                                                  7                                    ", // SpecialAfterG
+    *b"            $$$$$$$$$$          &       \" ,    < #    \xa9                                ", // TemporaryName
     *b"                                                                          !     !      ", // CloneLetter
-    *b"                                                                                \xa6      ", // TypeInStd
+    *b"                                                                                \xaa      ", // TypeInStd
     *b"                                                                                       ", // MaybeTags
-    *b"            \xa9\xa9\xa9\xa9\xa9\xa9\xa9\xa9\xa9\xa9       \xa9 \xa9` \xa9    Z \xa9\xa9[\xa9 [\xa9\xa8\xa9Y \xa7 \xa9      \xa9\xa9\xa9\xa9\xa9\xa9\xa9\xa9\xa9\xa9 \xa9\xa9\xa9\xa9  X\xa9\xa9\xa9\xa9\xa9\xa9\xa9\xa9", // Argument
-    *b"            \xaa\xaa\xaa\xaa\xaa\xaa\xaa\xaa\xaa\xaa                                     \xaa                           ", // ArgumentAfterT
-    *b"            \xaa\xaa\xaa\xaa\xaa\xaa\xaa\xaa\xaa\xaa                                     \xaa                           ", // LeveledParameter
-    *b"            \xa9\xa9\xa9\xa9\xa9\xa9\xa9\xa9\xa9\xa9       \xa9 \xa9` \xa9   \xadZ\xac\xa9\xa9[\xa9 [\xa9\xa8\xa9Y \xa7 \xa9      \xa9\xa9\xa9\xa9\xa9\xa9\xa9\xa9\xa9\xa9 \xa9\xa9\xa9\xa9  X\xa9\xa9\xa9\xa9\xa9\xa9\xa9\xa9", // OneArgument
-    *b"                                                                       \xb0  \xaf \xb2   \xb1    \xae ", // DeclarationAfterT
-    *b"                                                \xb3                                      ", // Declarations
-    *b"            \xb4\xb4\xb4\xb4\xb4\xb4\xb4\xb4\xb4\xb4                    Q    \xb4                                       ", // Concept
-    *b"            $$$$$$$$$$       o q  p      iQ h  k #    l      mmmmmmmmmm mmmm   mmnmmmmm", // SolidButT
-    *b"                                                             \xd1                         ", // Expression
-    *b"            \xe2\xe2\xe2\xe2\xe2\xe2\xe2\xe2\xe2\xe2                  \xe3                  \xe2                           ", // ExpressionParameter
-    *b"            \xe2\xe2\xe2\xe2\xe2\xe2\xe2\xe2\xe2\xe2                                     \xe2                           ", // UnleveledExpression
-    *b"                                        \xe4                                              ", // AddressedExpression
-    *b"                                                           \x83                           ", // AddressedLiteral
-    *b"                                                                \xb9                      ", // ExpressionAfterA
-    *b"                                                               \xb5        \xbd\xba \xbb\xbd     \xbe    ", // ExpressionAfterC
-    *b"                                                  \xba          \xbb \xb5 \xbb   \xbf  \xbb \xc1    \xba\xba \xba \xc0  ", // ExpressionAfterD
-    *b"                                           \xba                               \xba \xba         ", // ExpressionAfterE
-    *b"                                        \xc2                               \xc3   \xb8 \xc4        ", // ExpressionAfterF
-    *b"                                                                 \xba             \xbb\xba      ", // ExpressionAfterG
-    *b"                                                                        \xc5           \xba  ", // ExpressionAfterI
-    *b"                                               \xba                 \xba             \xba\xba      ", // ExpressionAfterL
-    *b"                                     \xba  \xba                            \xba  \xba\xc6             ", // ExpressionAfterM
-    *b"                                                             \xc7   \xba \xbb            \xbb  \xc7\xbb  ", // ExpressionAfterN
-    *b"                                              \xba                           \xb6\xba  \xba        ", // ExpressionAfterO
-    *b"                                        \xba                               \xba\xba  \xc6  \xbb\xba      ", // ExpressionAfterP
-    *b"                                                                                 \xc8     ", // ExpressionAfterQ
-    *b"                                         \xba   \xca \xba               \xb5         \xba   \xc9 \xba       ", // ExpressionAfterR
-    *b"                                                      \xcc        \xb5            \xcb \xcd\xba\xbc    \xce\xbb", // ExpressionAfterS
-    *b"                                                                 \xbb   \xbc  \xcf     \xd0    \xbb   ", // ExpressionAfterT
-    *b"                                                             \x00                         ", // Expressions
+    *b"            \xad\xad\xad\xad\xad\xad\xad\xad\xad\xad       \xad \xadb \xad    \\ \xad\xad]\xad ]\xad\xac\xad[ \xab \xad      \xad\xad\xad\xad\xad\xad\xad\xad\xad\xad \xad\xad\xad\xad  Z\xad\xad\xad\xad\xad\xad\xad\xad", // Argument
+    *b"            \xae\xae\xae\xae\xae\xae\xae\xae\xae\xae                                     \xae                           ", // ArgumentAfterT
+    *b"            \xae\xae\xae\xae\xae\xae\xae\xae\xae\xae                                     \xae                           ", // LeveledParameter
+    *b"            \xad\xad\xad\xad\xad\xad\xad\xad\xad\xad       \xad \xadb \xad   \xb1\\\xb0\xad\xad]\xad ]\xad\xac\xad[ \xab \xad      \xad\xad\xad\xad\xad\xad\xad\xad\xad\xad \xad\xad\xad\xad  Z\xad\xad\xad\xad\xad\xad\xad\xad", // OneArgument
+    *b"                                                                       \xb3  \xb2 \xb5   \xb4    ! ", // DeclarationAfterT
+    *b"                                                \xb6                                      ", // Declarations
+    *b"            \xb7\xb7\xb7\xb7\xb7\xb7\xb7\xb7\xb7\xb7                    S    \xb7                                       ", // Concept
+    *b"            $$$$$$$$$$       q s  r      kS j  m #    n      oooooooooo oooo   oopooooo", // SolidButT
+    *b"                                                             \xd4                         ", // Expression
+    *b"            \xe5\xe5\xe5\xe5\xe5\xe5\xe5\xe5\xe5\xe5                  \x00                  \xe5                           ", // ExpressionParameter
+    *b"            \xe5\xe5\xe5\xe5\xe5\xe5\xe5\xe5\xe5\xe5                                     \xe5                           ", // UnleveledExpression
+    *b"                                        \x01                                              ", // AddressedExpression
+    *b"                                                           \x85                           ", // AddressedLiteral
+    *b"                                                                \xbc                      ", // ExpressionAfterA
+    *b"                                                               \xb8        \xc0\xbd \xbe\xc0     \xc1    ", // ExpressionAfterC
+    *b"                                                  \xbd          \xbe \xb8 \xbe   \xc2  \xbe \xc4    \xbd\xbd \xbd \xc3  ", // ExpressionAfterD
+    *b"                                           \xbd                               \xbd \xbd         ", // ExpressionAfterE
+    *b"                                        \xc5                               \xc6   \xbb \xc7        ", // ExpressionAfterF
+    *b"                                                                 \xbd             \xbe\xbd      ", // ExpressionAfterG
+    *b"                                                                        \xc8           \xbd  ", // ExpressionAfterI
+    *b"                                               \xbd                 \xbd             \xbd\xbd      ", // ExpressionAfterL
+    *b"                                     \xbd  \xbd                            \xbd  \xbd\xc9             ", // ExpressionAfterM
+    *b"                                                             \xca   \xbd \xbe            \xbe  \xca\xbe  ", // ExpressionAfterN
+    *b"                                              \xbd                           \xb9\xbd  \xbd        ", // ExpressionAfterO
+    *b"                                        \xbd                               \xbd\xbd  \xc9  \xbe\xbd      ", // ExpressionAfterP
+    *b"                                                                                 \xcb     ", // ExpressionAfterQ
+    *b"                                         \xbd   \xcd \xbd               \xb8         \xbd   \xcc \xbd       ", // ExpressionAfterR
+    *b"                                                      \xcf        \xb8            \xce \xd0\xbd\xbf    \xd1\xbe", // ExpressionAfterS
+    *b"                                                                 \xbe   \xbf  \xd2     \xd3    \xbe   ", // ExpressionAfterT
+    *b"                                                             \x02                         ", // Expressions
     *b"                                                           !                           ", // MaybeBefore
-    *b"                                                             \x8e \x90\x8d\x94 \x98 \x97  \x01\x91\x8c\x93\x8f \x92\x96       ", // FoldOperator
+    *b"                                                             \x90 \x92\x8f\x96 \x9a \x99  \x03\x93\x8e\x95\x91 \x94\x98       ", // FoldOperator
     *b"                                               !                 !             !!      ", // FoldOperatorAfterL
-    *b"                                                             \x02                         ", // FoldOperand
-    *b"                                                             \x03                         ", // FoldPack
-    *b"                                      \xad                      \x03                         ", // ValuePack
-    *b"            \x04\x04\x04\x04\x04\x04\x04\x04\x04\x04       \x04 \x04\x04 \x04   \xad\x04 \x04\x04\x04\x04 \x04\x04\x04\x04\x04   \x04      \x04\x04\x04\x04\x04\x04\x04\x04\x04\x04 \x04\x04\x04\x04  \x04\x04\x04\x04\x04\x04\x04\x04\x04", // TypePack
-    *b"            \x06\x06\x06\x06\x06\x06\x06\x06\x06\x06                  \x06       \x06            \x06 \x06\x05\x06\x06\x06 \x06  \x06\x06\x06\x06\x06\x06\x06\x06\x06      ", // DesignatedValue
-    *b"                                                                     \xbf              \xc0  ", // DesignatorAfterD
-    *b"            \xb7\xb7\xb7\xb7\xb7\xb7\xb7\xb7\xb7\xb7                  \xac       \xe1            \xd1 \xd2 \xd4\xd5\xd6 \xd7  \xd8\xd9\xda\xdb\xdc\xdd\xde\xdf\xe0      ", // PlainValue
-    *b"            \x07\x07\x07\x07\x07\x07\x07\x07\x07\x07                                                                 ", // FieldName
-    *b"                                                           ! \x08                         ", // Placement
-    *b"                                                             \x00                         ", // SomeExpressions
-    *b"                                 y                                   \x0a      \x09          ", // Initializer
-    *b"                                                                     \xc5                 ", // InitializerAfterP
-    *b"                                                                        \xc5              ", // InitializerAfterI
-    *b"                                                                            \xb8          ", // OuterRest
-    *b"            \x0c\x0c\x0c\x0c\x0c\x0c\x0c\x0c\x0c\x0c                          \x0b          \x0c                           ", // ParameterNumber
-    *b"            \x11\x11\x11\x11\x11\x11\x11\x11\x11\x11          \x0d \x11    \x0e  \x11\x10\x0f \x10\x11\x11\x11           \x11\x11\x11\x11\x11\x11\x11\x11\x11\x11 \x11\x11\x11\x11   \x11\x11 \x11\x11\x11\x11\x11", // ConvertedType
-    *b"            $$$$$$$$$$            p       Q    k\x12#           mmmmmmmmmm mmmm   mm mmmmm", // ConvertedSolid
-    *b"            \xaa\xaa\xaa\xaa\xaa\xaa\xaa\xaa\xaa\xaa                  \xab                  \xaa                           ", // ParameterAfterT
-    *b"                                                g                               g      ", // DecltypeAfterD
-    *b"                                                g            c c                g      ", // ConvertedAfterD
-    *b"            \xb7\xb7\xb7\xb7\xb7\xb7\xb7\xb7\xb7\xb7                  \xac       \xe1          \xc5 \xd1 \xd2\xd3\xd4\xd5\xd6 \xd7  \xd8\xd9\xda\xdb\xdc\xdd\xde\xdf\xe0      ", // ConvertRest
-    *b"            \x14\x14\x14\x14\x14\x14\x14\x14\x14\x14          \x13         \x13    \x13\x13                                      ", // Unresolved
-    *b"                                \x0d         Q    k\x12                                      ", // UnresolvedType
-    *b"            \xb7\xb7\xb7\xb7\xb7\xb7\xb7\xb7\xb7\xb7          \x15         \x15    \x15\x15                                      ", // DestructorName
-    *b"                                             \x18  \x17   \x16                                  ", // Requirements
-    *b"                                          \x1a  \x18\x19 \x17   \x16                                  ", // AfterExpression
-    *b"                                             \x18\x19 \x17   \x16                                  ", // AfterNoexcept
-    *b"            \x1b\x1b\x1b\x1b\x1b\x1b\x1b\x1b\x1b\x1b          \x1b \x1b    \x1b  \x1b\x1b\x1b \x1b\x1b\x1b\x1b         \xc9 \x1b\x1b\x1b\x1b\x1b\x1b\x1b\x1b\x1b\x1b \x1b\x1b\x1b\x1b   \x1b\x1b \x1b\x1b\x1b\x1b\x1b", // RequiredTypes
-    *b"            \xb7\xb7\xb7\xb7\xb7\xb7\xb7\xb7\xb7\xb7                                                                 ", // Level
-    *b"            \x14\x14\x14\x14\x14\x14\x14\x14\x14\x14           \x1c                                                     ", // MoreLevels
-    *b"            \xb7\xb7\xb7\xb7\xb7\xb7\xb7\xb7\xb7\xb7                                                     \x1d           ", // UnresolvedName
-    *b"                                                                          \xb6            ", // OperatorName
+    *b"                                                             \x04                         ", // FoldOperand
+    *b"                                                             \x05                         ", // FoldPack
+    *b"                                      \xb1                      \x05                         ", // ValuePack
+    *b"            \x06\x06\x06\x06\x06\x06\x06\x06\x06\x06       \x06 \x06\x06 \x06   \xb1\x06 \x06\x06\x06\x06 \x06\x06\x06\x06\x06   \x06      \x06\x06\x06\x06\x06\x06\x06\x06\x06\x06 \x06\x06\x06\x06  \x06\x06\x06\x06\x06\x06\x06\x06\x06", // TypePack
+    *b"            \x08\x08\x08\x08\x08\x08\x08\x08\x08\x08                  \x08       \x08            \x08 \x08\x07\x08\x08\x08 \x08  \x08\x08\x08\x08\x08\x08\x08\x08\x08      ", // DesignatedValue
+    *b"                                                                     \xc2              \xc3  ", // DesignatorAfterD
+    *b"            \xba\xba\xba\xba\xba\xba\xba\xba\xba\xba                  \xb0       \xe4            \xd4 \xd5 \xd7\xd8\xd9 \xda  \xdb\xdc\xdd\xde\xdf\xe0\xe1\xe2\xe3      ", // PlainValue
+    *b"            \xa0\xa0\xa0\xa0\xa0\xa0\xa0\xa0\xa0\xa0                                                                 ", // FieldName
+    *b"                                                           ! \x09                         ", // Placement
+    *b"                                                             \x02                         ", // SomeExpressions
+    *b"                                 {                                   \x0b      \x0a          ", // Initializer
+    *b"                                                                     \xc8                 ", // InitializerAfterP
+    *b"                                                                        \xc8              ", // InitializerAfterI
+    *b"                                                                            \xbb          ", // OuterRest
+    *b"            \x0d\x0d\x0d\x0d\x0d\x0d\x0d\x0d\x0d\x0d                          \x0c          \x0d                           ", // ParameterNumber
+    *b"            \x12\x12\x12\x12\x12\x12\x12\x12\x12\x12          \x0e \x12    \x0f  \x12\x11\x10 \x11\x12\x12\x12           \x12\x12\x12\x12\x12\x12\x12\x12\x12\x12 \x12\x12\x12\x12   \x12\x12 \x12\x12\x12\x12\x12", // ConvertedType
+    *b"            $$$$$$$$$$            r       S    m\x13#           oooooooooo oooo   oo ooooo", // ConvertedSolid
+    *b"            \xae\xae\xae\xae\xae\xae\xae\xae\xae\xae                  \xaf                  \xae                           ", // ParameterAfterT
+    *b"                                                i                               i      ", // DecltypeAfterD
+    *b"                                                i            e e                i      ", // ConvertedAfterD
+    *b"            \xba\xba\xba\xba\xba\xba\xba\xba\xba\xba                  \xb0       \xe4          \xc8 \xd4 \xd5\xd6\xd7\xd8\xd9 \xda  \xdb\xdc\xdd\xde\xdf\xe0\xe1\xe2\xe3      ", // ConvertRest
+    *b"            \x15\x15\x15\x15\x15\x15\x15\x15\x15\x15          \x14         \x14    \x14\x14                                      ", // Unresolved
+    *b"                                \x0e         S    m\x13                                      ", // UnresolvedType
+    *b"            \xba\xba\xba\xba\xba\xba\xba\xba\xba\xba          \x16         \x16    \x16\x16                                      ", // DestructorName
+    *b"                                             \x19  \x18   \x17                                  ", // Requirements
+    *b"                                          !                                            ", // MaybeNoexcept
+    *b"                                             \x19\x1a \x18   \x17                                  ", // AfterNoexcept
+    *b"            \x1b\x1b\x1b\x1b\x1b\x1b\x1b\x1b\x1b\x1b          \x1b \x1b    \x1b  \x1b\x1b\x1b \x1b\x1b\x1b\x1b         \xcc \x1b\x1b\x1b\x1b\x1b\x1b\x1b\x1b\x1b\x1b \x1b\x1b\x1b\x1b   \x1b\x1b \x1b\x1b\x1b\x1b\x1b", // RequiredTypes
+    *b"            \xba\xba\xba\xba\xba\xba\xba\xba\xba\xba                                                                 ", // Level
+    *b"            \x15\x15\x15\x15\x15\x15\x15\x15\x15\x15           \x1c                                                     ", // MoreLevels
+    *b"            \xba\xba\xba\xba\xba\xba\xba\xba\xba\xba                                                     \x1d           ", // UnresolvedName
+    *b"                                                                          \xb9            ", // OperatorName
     *b"                             \x1e                                                         ", // AnyArray
     *b"            \x1f\x1f\x1f\x1f\x1f\x1f\x1f\x1f\x1f\x1f                                     \x1f                           ", // ArrayRest
-    *b"                                        \xac       \xe1            \xd1 \xd2\xd3\xd4\xd5\xd6 \xd7  \xd8\xd9\xda\xdb\xdc\xdd\xde\xdf\xe0      ", // Bound
-    *b"            HHHHHHHHHH         HH       H        H           H HHH H H  HHHHH HH       ", // NestMoreOrEnd
+    *b"                                        \xb0       \xe4            \xd4 \xd5\xd6\xd7\xd8\xd9 \xda  \xdb\xdc\xdd\xde\xdf\xe0\xe1\xe2\xe3      ", // Bound
+    *b"            IIIIIIIIII         II       I        I           I III I I  IIIII II       ", // NestMoreOrEnd
 ];
 
 /// A rule without its number and its symbols.
@@ -568,34 +580,34 @@ macro_rules! chains {
 }
 
 // The rules of the productions, in the order of their numbers.
-pub static HEADS: [Head; 255] = [
-    chains!(2), // 0 Expressions
-    takes!(1), // 1 FoldOperatorL
-    chains!(1), // 2 FoldOperand
-    chains!(1), // 3 FoldPack
-    chains!(1), // 4 TypePack
-    takes!(1), // 5 Designators
-    chains!(1), // 6 DesignatedValue
-    chains!(1), // 7 FieldName
-    chains!(2), // 8 Placed
-    takes!(1), // 9 Initializer
-    takes!(1), // 10 BracedInitializer
-    takes!(0), // 11 This
-    chains!(1), // 12 ParameterNumber
-    takes!(1), // 13 ConvertedDecltype
-    takes!(1), // 14 ConvertedConst
-    takes!(1), // 15 ConvertedPointer
-    takes!(1), // 16 ConvertedReference
-    chains!(1), // 17 ConvertedType
-    takes!(1), // 18 ConvertedWithT
-    chains!(2), // 19 UnresolvedInType
-    chains!(2), // 20 Levels
-    chains!(1), // 21 DestroyedType
-    takes!(2), // 22 ExpressionRequirement
-    takes!(2), // 23 TypeRequirement
-    takes!(2), // 24 NestedRequirement
-    takes!(2), // 25 ResultRequirement
-    takes!(1), // 26 NoexceptRequirement
+pub static HEADS: [Head; 256] = [
+    takes!(2), // 0 LeveledExpression
+    takes!(2), // 1 AddressedLiteral
+    chains!(2), // 2 Expressions
+    takes!(1), // 3 FoldOperatorL
+    chains!(1), // 4 FoldOperand
+    chains!(1), // 5 FoldPack
+    chains!(1), // 6 TypePack
+    takes!(1), // 7 Designators
+    chains!(1), // 8 DesignatedValue
+    chains!(2), // 9 Placed
+    takes!(1), // 10 Initializer
+    takes!(1), // 11 BracedInitializer
+    takes!(0), // 12 This
+    chains!(1), // 13 ParameterNumber
+    takes!(1), // 14 ConvertedDecltype
+    takes!(1), // 15 ConvertedConst
+    takes!(1), // 16 ConvertedPointer
+    takes!(1), // 17 ConvertedReference
+    chains!(1), // 18 ConvertedType
+    takes!(1), // 19 ConvertedWithT
+    chains!(2), // 20 UnresolvedInType
+    chains!(2), // 21 Levels
+    chains!(1), // 22 DestroyedType
+    takes!(3), // 23 ExpressionRequirement
+    takes!(2), // 24 TypeRequirement
+    takes!(2), // 25 NestedRequirement
+    takes!(2), // 26 ResultRequirement
     chains!(2), // 27 RequiredType
     takes!(1), // 28 LevelsEnd
     takes!(1), // 29 UnresolvedOperator
@@ -607,254 +619,255 @@ pub static HEADS: [Head; 255] = [
     takes!(2), // 35 LocalTypeName
     chains!(2), // 36 SourceName
     chains!(2), // 37 OperatorName
-    takes!(1), // 38 InternalPiece
-    takes!(1), // 39 LocalTypePiece
-    chains!(1), // 40 SourcePiece
-    takes!(2), // 41 InModule
-    takes!(2), // 42 InNamedModule
-    takes!(5), // 43 NestedName
-    takes!(3), // 44 Symbol
-    takes!(1), // 45 Suffix
-    takes!(1), // 46 SuffixByte
-    takes!(1), // 47 Special
-    chains!(2), // 48 OtherSpecial
-    chains!(2), // 49 Encoding
-    takes!(1), // 50 SpecialType
-    takes!(3), // 51 NonVirtualThunk
-    takes!(5), // 52 VirtualThunk
-    takes!(3), // 53 CovariantThunk
-    takes!(1), // 54 SpecialName
-    takes!(2), // 55 NonVirtualOffset
-    takes!(4), // 56 VirtualOffset
-    takes!(1), // 57 Negative
-    chains!(1), // 58 Positive
-    takes!(1), // 59 NameWithS
-    takes!(4), // 60 LocalName
-    takes!(2), // 61 StdName
-    chains!(2), // 62 AbbreviatedName
-    chains!(1), // 63 OperatorPiece
-    takes!(1), // 64 NestWithS
-    takes!(2), // 65 NestParameter
-    takes!(2), // 66 NestInternal
-    takes!(2), // 67 NestLocalType
-    chains!(2), // 68 NestSource
-    takes!(3), // 69 NestStd
-    chains!(2), // 70 NestTemplate
-    takes!(4), // 71 NestArguments
-    chains!(2), // 72 NestNext
-    takes!(0), // 73 NestEnd
-    takes!(1), // 74 AnyConstructor
-    takes!(2), // 75 Destructor
-    takes!(1), // 76 ComponentWithC
-    chains!(2), // 77 OtherOperatorName
-    chains!(2), // 78 Constructor
-    takes!(0), // 79 Abbreviation
-    chains!(1), // 80 Substitution
-    takes!(1), // 81 NestedType
-    takes!(0), // 82 StringLiteral
-    takes!(1), // 83 Discriminator
-    takes!(0), // 84 OneDigit
-    takes!(2), // 85 ManyDigits
-    takes!(4), // 86 Lambda
-    takes!(1), // 87 Unnamed
-    takes!(3), // 88 RestrictType
-    takes!(2), // 89 VolatileType
-    takes!(1), // 90 ConstType
-    takes!(1), // 91 ReferenceType
-    chains!(1), // 92 PlainType
-    takes!(1), // 93 TypeWithD
-    takes!(1), // 94 PlainWithD
-    chains!(1), // 95 QualifiedPlain
-    takes!(1), // 96 ItemWithD
-    takes!(1), // 97 Expansion
-    chains!(1), // 98 ItemIsType
-    takes!(0), // 99 BuiltinWithD
-    takes!(3), // 100 Vector
-    takes!(4), // 101 NoexceptFunction
-    takes!(2), // 102 SizedFloat
-    takes!(2), // 103 Decltype
-    takes!(1), // 104 Pointer
-    takes!(2), // 105 MemberPointer
-    takes!(2), // 106 Parameter
-    takes!(2), // 107 TypeWithS
-    takes!(4), // 108 LocalType
-    takes!(0), // 109 Builtin
-    takes!(1), // 110 Vendor
-    chains!(1), // 111 ArrayType
-    takes!(3), // 112 Function
-    takes!(1), // 113 Complex
-    chains!(1), // 114 BitWidth
-    chains!(1), // 115 TypeInStd
-    chains!(1), // 116 AbbreviatedType
-    takes!(0), // 117 RestEnd
-    takes!(1), // 118 RestLvalue
-    takes!(1), // 119 RestRvalue
-    chains!(2), // 120 RestItem
-    takes!(0), // 121 RefEnd
-    chains!(2), // 122 LvalueItem
-    chains!(2), // 123 RvalueItem
-    chains!(2), // 124 Items
-    takes!(2), // 125 Arguments
-    takes!(3), // 126 PackArgument
-    takes!(3), // 127 LiteralArgument
-    chains!(2), // 128 AnyArgument
-    takes!(3), // 129 LiteralElement
-    chains!(2), // 130 AnyElement
-    takes!(2), // 131 EncodingLiteral
-    takes!(1), // 132 BoolLiteral
-    takes!(1), // 133 LiteralWithD
-    chains!(2), // 134 IntegerLiteral
-    takes!(1), // 135 NullLiteral
-    takes!(1), // 136 CharLiteral
-    chains!(1), // 137 HexText
-    takes!(1), // 138 HexDigit
-    chains!(1), // 139 QualifiedLiteral
-    takes!(1), // 140 OperatorN
-    takes!(1), // 141 OperatorD
-    takes!(1), // 142 OperatorA
-    takes!(1), // 143 OperatorP
-    takes!(1), // 144 OperatorC
-    takes!(1), // 145 OperatorM
-    takes!(1), // 146 OperatorR
-    takes!(1), // 147 OperatorO
-    takes!(1), // 148 OperatorE
-    takes!(1), // 149 OperatorL
-    takes!(1), // 150 OperatorS
-    takes!(1), // 151 OperatorI
-    takes!(1), // 152 OperatorG
-    takes!(1), // 153 LiteralOperator
-    takes!(3), // 154 NestInstance
-    chains!(2), // 155 FirstModule
-    chains!(2), // 156 NamedModule
-    takes!(3), // 157 MoreModule
-    chains!(2), // 158 OperatorNameWithC
-    takes!(2), // 159 HeldArguments
-    takes!(2), // 160 NestedBase
-    chains!(2), // 161 UnnestedBase
-    takes!(1), // 162 UnnestedWithS
-    chains!(2), // 163 TaggedSource
-    takes!(3), // 164 BaseArguments
-    takes!(3), // 165 LocalTemporary
-    takes!(2), // 166 TaggedStdType
-    takes!(2), // 167 Expression
-    takes!(1), // 168 ArgumentWithT
-    chains!(1), // 169 PlainArgument
-    chains!(2), // 170 ParameterArgument
-    takes!(2), // 171 LeveledParameter
-    takes!(2), // 172 OneLiteral
-    takes!(2), // 173 OnePack
-    takes!(0), // 174 AnyType
-    takes!(1), // 175 ValueOf
-    takes!(1), // 176 OfConcept
-    takes!(2), // 177 TemplateOf
-    takes!(2), // 178 PackOf
-    takes!(2), // 179 Declarations
-    chains!(2), // 180 NamedConcept
-    takes!(2), // 181 Cast
-    takes!(2), // 182 OperatorReference
-    chains!(2), // 183 SimpleId
-    takes!(4), // 184 FunctionParameter
-    takes!(1), // 185 AddressExpression
-    takes!(2), // 186 Binary
-    takes!(1), // 187 Unary
-    takes!(1), // 188 OfType
-    takes!(3), // 189 Call
-    takes!(2), // 190 Convert
-    takes!(2), // 191 Designated
-    takes!(2), // 192 DesignatedElement
-    takes!(1), // 193 DestructorName
-    takes!(2), // 194 OuterParameter
-    takes!(2), // 195 LeftFold
-    takes!(2), // 196 RightFold
-    takes!(2), // 197 Braces
-    takes!(2), // 198 Step
-    takes!(3), // 199 New
-    takes!(3), // 200 Conditional
-    takes!(2), // 201 Requires
-    takes!(1), // 202 RequiresOf
-    takes!(1), // 203 ExpandExpression
-    takes!(1), // 204 PackSize
-    takes!(1), // 205 Unresolved
-    takes!(2), // 206 PackIndex
-    takes!(3), // 207 TypedBraces
-    takes!(0), // 208 Rethrow
-    takes!(1), // 209 ExpressionA
-    takes!(1), // 210 ExpressionC
-    takes!(1), // 211 ExpressionD
-    takes!(1), // 212 ExpressionE
-    takes!(1), // 213 ExpressionF
-    takes!(1), // 214 ExpressionG
-    takes!(1), // 215 ExpressionI
-    takes!(1), // 216 ExpressionL
-    takes!(1), // 217 ExpressionM
-    takes!(1), // 218 ExpressionN
-    takes!(1), // 219 ExpressionO
-    takes!(1), // 220 ExpressionP
-    takes!(1), // 221 ExpressionQ
-    takes!(1), // 222 ExpressionR
-    takes!(1), // 223 ExpressionS
-    takes!(1), // 224 ExpressionT
-    takes!(1), // 225 ExpressionWithT
-    chains!(2), // 226 ParameterExpression
-    takes!(2), // 227 LeveledExpression
-    takes!(2), // 228 AddressedLiteral
-    chains!(3), // 229 BoundedArray
-    chains!(2), // 230 DeclaredArgument
-    takes!(2), // 231 TypeTag
-    takes!(2), // 232 Clone
-    takes!(2), // 233 ModuleInitializer
-    takes!(2), // 234 Temporary
-    takes!(1), // 235 Conversion
-    takes!(1), // 236 ConstLiteral
-    takes!(2), // 237 VolatileLiteral
-    chains!(2), // 238 SizedFloatLiteral
-    chains!(2), // 239 FloatLiteral
-    takes!(2), // 240 Tag
-    takes!(1), // 241 Constraint
-    takes!(2), // 242 IndexedType
-    takes!(2), // 243 BitInt
-    takes!(1), // 244 ConstrainedAuto
-    takes!(2), // 245 Enumeration
-    takes!(2), // 246 DefaultTypeEntity
-    takes!(2), // 247 DefaultEntity
-    takes!(2), // 248 Inheriting
-    takes!(2), // 249 Friend
-    chains!(2), // 250 Holder
-    takes!(2), // 251 NestTag
-    takes!(2), // 252 NestDecltype
-    chains!(2), // 253 NestModule
-    takes!(4), // 254 ConstructionVtable
+    takes!(2), // 38 BindingName
+    takes!(1), // 39 InternalPiece
+    takes!(1), // 40 LocalTypePiece
+    chains!(1), // 41 SourcePiece
+    takes!(2), // 42 InModule
+    takes!(2), // 43 InNamedModule
+    takes!(5), // 44 NestedName
+    takes!(3), // 45 Symbol
+    takes!(1), // 46 Suffix
+    takes!(1), // 47 SuffixByte
+    takes!(1), // 48 Special
+    chains!(2), // 49 OtherSpecial
+    chains!(2), // 50 Encoding
+    takes!(1), // 51 SpecialType
+    takes!(3), // 52 NonVirtualThunk
+    takes!(5), // 53 VirtualThunk
+    takes!(3), // 54 CovariantThunk
+    takes!(1), // 55 SpecialName
+    takes!(2), // 56 NonVirtualOffset
+    takes!(4), // 57 VirtualOffset
+    takes!(1), // 58 Negative
+    chains!(1), // 59 Positive
+    takes!(1), // 60 NameWithS
+    takes!(4), // 61 LocalName
+    takes!(2), // 62 StdName
+    chains!(2), // 63 AbbreviatedName
+    chains!(1), // 64 OperatorPiece
+    takes!(1), // 65 NestWithS
+    takes!(2), // 66 NestParameter
+    takes!(2), // 67 NestInternal
+    takes!(2), // 68 NestLocalType
+    chains!(2), // 69 NestSource
+    takes!(3), // 70 NestStd
+    chains!(2), // 71 NestTemplate
+    takes!(4), // 72 NestArguments
+    chains!(2), // 73 NestNext
+    takes!(0), // 74 NestEnd
+    takes!(1), // 75 AnyConstructor
+    takes!(2), // 76 Destructor
+    takes!(1), // 77 ComponentWithC
+    chains!(2), // 78 OtherOperatorName
+    chains!(2), // 79 Constructor
+    takes!(2), // 80 Bindings
+    takes!(0), // 81 Abbreviation
+    chains!(1), // 82 Substitution
+    takes!(1), // 83 NestedType
+    takes!(0), // 84 StringLiteral
+    takes!(1), // 85 Discriminator
+    takes!(0), // 86 OneDigit
+    takes!(2), // 87 ManyDigits
+    takes!(4), // 88 Lambda
+    takes!(1), // 89 Unnamed
+    takes!(3), // 90 RestrictType
+    takes!(2), // 91 VolatileType
+    takes!(1), // 92 ConstType
+    takes!(1), // 93 ReferenceType
+    chains!(1), // 94 PlainType
+    takes!(1), // 95 TypeWithD
+    takes!(1), // 96 PlainWithD
+    chains!(1), // 97 QualifiedPlain
+    takes!(1), // 98 ItemWithD
+    takes!(1), // 99 Expansion
+    chains!(1), // 100 ItemIsType
+    takes!(0), // 101 BuiltinWithD
+    takes!(3), // 102 Vector
+    takes!(4), // 103 NoexceptFunction
+    takes!(2), // 104 SizedFloat
+    takes!(2), // 105 Decltype
+    takes!(1), // 106 Pointer
+    takes!(2), // 107 MemberPointer
+    takes!(2), // 108 Parameter
+    takes!(2), // 109 TypeWithS
+    takes!(4), // 110 LocalType
+    takes!(0), // 111 Builtin
+    takes!(1), // 112 Vendor
+    chains!(1), // 113 ArrayType
+    takes!(3), // 114 Function
+    takes!(1), // 115 Complex
+    chains!(1), // 116 BitWidth
+    chains!(1), // 117 TypeInStd
+    chains!(1), // 118 AbbreviatedType
+    takes!(0), // 119 RestEnd
+    takes!(1), // 120 RestLvalue
+    takes!(1), // 121 RestRvalue
+    chains!(2), // 122 RestItem
+    takes!(0), // 123 RefEnd
+    chains!(2), // 124 LvalueItem
+    chains!(2), // 125 RvalueItem
+    chains!(2), // 126 Items
+    takes!(2), // 127 Arguments
+    takes!(3), // 128 PackArgument
+    takes!(3), // 129 LiteralArgument
+    chains!(2), // 130 AnyArgument
+    takes!(3), // 131 LiteralElement
+    chains!(2), // 132 AnyElement
+    takes!(2), // 133 EncodingLiteral
+    takes!(1), // 134 BoolLiteral
+    takes!(1), // 135 LiteralWithD
+    chains!(2), // 136 IntegerLiteral
+    takes!(1), // 137 NullLiteral
+    takes!(1), // 138 CharLiteral
+    chains!(1), // 139 HexText
+    takes!(1), // 140 HexDigit
+    chains!(1), // 141 QualifiedLiteral
+    takes!(1), // 142 OperatorN
+    takes!(1), // 143 OperatorD
+    takes!(1), // 144 OperatorA
+    takes!(1), // 145 OperatorP
+    takes!(1), // 146 OperatorC
+    takes!(1), // 147 OperatorM
+    takes!(1), // 148 OperatorR
+    takes!(1), // 149 OperatorO
+    takes!(1), // 150 OperatorE
+    takes!(1), // 151 OperatorL
+    takes!(1), // 152 OperatorS
+    takes!(1), // 153 OperatorI
+    takes!(1), // 154 OperatorG
+    takes!(1), // 155 LiteralOperator
+    takes!(3), // 156 NestInstance
+    chains!(2), // 157 FirstModule
+    chains!(2), // 158 NamedModule
+    takes!(3), // 159 MoreModule
+    chains!(1), // 160 FieldName
+    chains!(2), // 161 BoundNames
+    chains!(2), // 162 OperatorNameWithC
+    takes!(2), // 163 HeldArguments
+    takes!(2), // 164 NestedBase
+    chains!(2), // 165 UnnestedBase
+    takes!(1), // 166 UnnestedWithS
+    chains!(2), // 167 TaggedSource
+    takes!(3), // 168 BaseArguments
+    takes!(3), // 169 LocalTemporary
+    takes!(2), // 170 TaggedStdType
+    takes!(2), // 171 Expression
+    takes!(1), // 172 ArgumentWithT
+    chains!(1), // 173 PlainArgument
+    chains!(2), // 174 ParameterArgument
+    takes!(2), // 175 LeveledParameter
+    takes!(2), // 176 OneLiteral
+    takes!(2), // 177 OnePack
+    takes!(1), // 178 ValueOf
+    takes!(1), // 179 OfConcept
+    takes!(2), // 180 TemplateOf
+    takes!(2), // 181 PackOf
+    takes!(2), // 182 Declarations
+    chains!(2), // 183 NamedConcept
+    takes!(2), // 184 Cast
+    takes!(2), // 185 OperatorReference
+    chains!(2), // 186 SimpleId
+    takes!(4), // 187 FunctionParameter
+    takes!(1), // 188 AddressExpression
+    takes!(2), // 189 Binary
+    takes!(1), // 190 Unary
+    takes!(1), // 191 OfType
+    takes!(3), // 192 Call
+    takes!(2), // 193 Convert
+    takes!(2), // 194 Designated
+    takes!(2), // 195 DesignatedElement
+    takes!(1), // 196 DestructorName
+    takes!(2), // 197 OuterParameter
+    takes!(2), // 198 LeftFold
+    takes!(2), // 199 RightFold
+    takes!(2), // 200 Braces
+    takes!(2), // 201 Step
+    takes!(3), // 202 New
+    takes!(3), // 203 Conditional
+    takes!(2), // 204 Requires
+    takes!(1), // 205 RequiresOf
+    takes!(1), // 206 ExpandExpression
+    takes!(1), // 207 PackSize
+    takes!(1), // 208 Unresolved
+    takes!(2), // 209 PackIndex
+    takes!(3), // 210 TypedBraces
+    takes!(0), // 211 Rethrow
+    takes!(1), // 212 ExpressionA
+    takes!(1), // 213 ExpressionC
+    takes!(1), // 214 ExpressionD
+    takes!(1), // 215 ExpressionE
+    takes!(1), // 216 ExpressionF
+    takes!(1), // 217 ExpressionG
+    takes!(1), // 218 ExpressionI
+    takes!(1), // 219 ExpressionL
+    takes!(1), // 220 ExpressionM
+    takes!(1), // 221 ExpressionN
+    takes!(1), // 222 ExpressionO
+    takes!(1), // 223 ExpressionP
+    takes!(1), // 224 ExpressionQ
+    takes!(1), // 225 ExpressionR
+    takes!(1), // 226 ExpressionS
+    takes!(1), // 227 ExpressionT
+    takes!(1), // 228 ExpressionWithT
+    chains!(2), // 229 ParameterExpression
+    chains!(3), // 230 BoundedArray
+    chains!(2), // 231 DeclaredArgument
+    takes!(2), // 232 TypeTag
+    takes!(2), // 233 Clone
+    takes!(2), // 234 ModuleInitializer
+    takes!(2), // 235 Temporary
+    takes!(1), // 236 Conversion
+    takes!(1), // 237 ConstLiteral
+    takes!(2), // 238 VolatileLiteral
+    chains!(2), // 239 SizedFloatLiteral
+    chains!(2), // 240 FloatLiteral
+    takes!(2), // 241 Tag
+    takes!(1), // 242 Constraint
+    takes!(2), // 243 IndexedType
+    takes!(2), // 244 BitInt
+    takes!(1), // 245 ConstrainedAuto
+    takes!(2), // 246 Enumeration
+    takes!(2), // 247 DefaultTypeEntity
+    takes!(2), // 248 DefaultEntity
+    takes!(2), // 249 Inheriting
+    takes!(2), // 250 Friend
+    chains!(2), // 251 Holder
+    takes!(2), // 252 NestTag
+    takes!(2), // 253 NestDecltype
+    chains!(2), // 254 NestModule
+    takes!(4), // 255 ConstructionVtable
 ];
 
 // The symbols of the rules, in the same order.
-pub static SYMBOLS: [Sym; 1536] = symbols_listed! {
-    [EXPRESSION, EXPRESSIONS, NONE, NONE, NONE], // 0 Expressions
-    [FOLD_OPERATOR_AFTER_L, NONE, NONE, NONE, NONE], // 1 FoldOperatorL
-    [FOLD_PACK, NONE, NONE, NONE, NONE], // 2 FoldOperand
-    [EXPRESSION, NONE, NONE, NONE, NONE], // 3 FoldPack
-    [TYPE, NONE, NONE, NONE, NONE], // 4 TypePack
-    [DESIGNATOR_AFTER_D, NONE, NONE, NONE, NONE], // 5 Designators
-    [PLAIN_VALUE, NONE, NONE, NONE, NONE], // 6 DesignatedValue
-    [NAME, NONE, NONE, NONE, NONE], // 7 FieldName
-    [SOME_EXPRESSIONS, Sym::Byte(b'_'), NONE, NONE, NONE], // 8 Placed
-    [INITIALIZER_AFTER_P, NONE, NONE, NONE, NONE], // 9 Initializer
-    [INITIALIZER_AFTER_I, NONE, NONE, NONE, NONE], // 10 BracedInitializer
-    [NONE, NONE, NONE, NONE, NONE], // 11 This
-    [DECIMAL, NONE, NONE, NONE, NONE], // 12 ParameterNumber
-    [CONVERTED_AFTER_D, NONE, NONE, NONE, NONE], // 13 ConvertedDecltype
-    [CONVERTED_TYPE, NONE, NONE, NONE, NONE], // 14 ConvertedConst
-    [CONVERTED_TYPE, NONE, NONE, NONE, NONE], // 15 ConvertedPointer
-    [CONVERTED_TYPE, NONE, NONE, NONE, NONE], // 16 ConvertedReference
-    [CONVERTED_SOLID, NONE, NONE, NONE, NONE], // 17 ConvertedType
-    [PARAMETER_AFTER_T, NONE, NONE, NONE, NONE], // 18 ConvertedWithT
-    [UNRESOLVED_TYPE, UNRESOLVED_NAME, NONE, NONE, NONE], // 19 UnresolvedInType
-    [LEVEL, MORE_LEVELS, NONE, NONE, NONE], // 20 Levels
-    [UNRESOLVED_TYPE, NONE, NONE, NONE, NONE], // 21 DestroyedType
-    [EXPRESSION, AFTER_EXPRESSION, NONE, NONE, NONE], // 22 ExpressionRequirement
-    [TYPE, REQUIREMENTS, NONE, NONE, NONE], // 23 TypeRequirement
-    [EXPRESSION, REQUIREMENTS, NONE, NONE, NONE], // 24 NestedRequirement
-    [CONCEPT, REQUIREMENTS, NONE, NONE, NONE], // 25 ResultRequirement
-    [AFTER_NOEXCEPT, NONE, NONE, NONE, NONE], // 26 NoexceptRequirement
+pub static SYMBOLS: [Sym; 1542] = symbols_listed! {
+    [DECIMAL, UNLEVELED_EXPRESSION, NONE, NONE, NONE], // 0 LeveledExpression
+    [ADDRESSED_LITERAL, Sym::Byte(b'E'), NONE, NONE, NONE], // 1 AddressedLiteral
+    [EXPRESSION, EXPRESSIONS, NONE, NONE, NONE], // 2 Expressions
+    [FOLD_OPERATOR_AFTER_L, NONE, NONE, NONE, NONE], // 3 FoldOperatorL
+    [FOLD_PACK, NONE, NONE, NONE, NONE], // 4 FoldOperand
+    [EXPRESSION, NONE, NONE, NONE, NONE], // 5 FoldPack
+    [TYPE, NONE, NONE, NONE, NONE], // 6 TypePack
+    [DESIGNATOR_AFTER_D, NONE, NONE, NONE, NONE], // 7 Designators
+    [PLAIN_VALUE, NONE, NONE, NONE, NONE], // 8 DesignatedValue
+    [SOME_EXPRESSIONS, Sym::Byte(b'_'), NONE, NONE, NONE], // 9 Placed
+    [INITIALIZER_AFTER_P, NONE, NONE, NONE, NONE], // 10 Initializer
+    [INITIALIZER_AFTER_I, NONE, NONE, NONE, NONE], // 11 BracedInitializer
+    [NONE, NONE, NONE, NONE, NONE], // 12 This
+    [DECIMAL, NONE, NONE, NONE, NONE], // 13 ParameterNumber
+    [CONVERTED_AFTER_D, NONE, NONE, NONE, NONE], // 14 ConvertedDecltype
+    [CONVERTED_TYPE, NONE, NONE, NONE, NONE], // 15 ConvertedConst
+    [CONVERTED_TYPE, NONE, NONE, NONE, NONE], // 16 ConvertedPointer
+    [CONVERTED_TYPE, NONE, NONE, NONE, NONE], // 17 ConvertedReference
+    [CONVERTED_SOLID, NONE, NONE, NONE, NONE], // 18 ConvertedType
+    [PARAMETER_AFTER_T, NONE, NONE, NONE, NONE], // 19 ConvertedWithT
+    [UNRESOLVED_TYPE, UNRESOLVED_NAME, NONE, NONE, NONE], // 20 UnresolvedInType
+    [LEVEL, MORE_LEVELS, NONE, NONE, NONE], // 21 Levels
+    [UNRESOLVED_TYPE, NONE, NONE, NONE, NONE], // 22 DestroyedType
+    [EXPRESSION, MAYBE_NOEXCEPT, AFTER_NOEXCEPT, NONE, NONE], // 23 ExpressionRequirement
+    [TYPE, REQUIREMENTS, NONE, NONE, NONE], // 24 TypeRequirement
+    [EXPRESSION, REQUIREMENTS, NONE, NONE, NONE], // 25 NestedRequirement
+    [CONCEPT, REQUIREMENTS, NONE, NONE, NONE], // 26 ResultRequirement
     [CONVERTED_TYPE, REQUIRED_TYPES, NONE, NONE, NONE], // 27 RequiredType
     [UNRESOLVED_NAME, NONE, NONE, NONE, NONE], // 28 LevelsEnd
     [OPERATOR_NAME, NONE, NONE, NONE, NONE], // 29 UnresolvedOperator
@@ -866,282 +879,284 @@ pub static SYMBOLS: [Sym; 1536] = symbols_listed! {
     [ANONYMOUS, MAYBE_ARGUMENTS, NONE, NONE, NONE], // 35 LocalTypeName
     [NAME, MAYBE_ARGUMENTS, NONE, NONE, NONE], // 36 SourceName
     [OPERATOR, MAYBE_ARGUMENTS, NONE, NONE, NONE], // 37 OperatorName
-    [NAME, NONE, NONE, NONE, NONE], // 38 InternalPiece
-    [ANONYMOUS, NONE, NONE, NONE, NONE], // 39 LocalTypePiece
-    [NAME, NONE, NONE, NONE, NONE], // 40 SourcePiece
-    [FIRST_MODULE, NAME_AFTER_MODULE, NONE, NONE, NONE], // 41 InModule
-    [NAMED_MODULE, NAME_AFTER_MODULE, NONE, NONE, NONE], // 42 InNamedModule
-    [MAYBE_RESTRICT, MAYBE_VOLATILE, MAYBE_CONST, MAYBE_REF, NEST], // 43 NestedName
-    [Sym::Byte(b'Z'), ENCODING, MAYBE_SUFFIX, NONE, NONE], // 44 Symbol
-    [SUFFIX_FIRST, NONE, NONE, NONE, NONE], // 45 Suffix
-    [SUFFIX_MORE, NONE, NONE, NONE, NONE], // 46 SuffixByte
-    [SPECIAL, NONE, NONE, NONE, NONE], // 47 Special
-    [SPECIAL_MARK, SPECIAL_AFTER_G, NONE, NONE, NONE], // 48 OtherSpecial
-    [COMPLETE_NAME, ITEMS, NONE, NONE, NONE], // 49 Encoding
-    [TYPE, NONE, NONE, NONE, NONE], // 50 SpecialType
-    [INTEGER, Sym::Byte(b'_'), ENCODING, NONE, NONE], // 51 NonVirtualThunk
-    [INTEGER, Sym::Byte(b'_'), INTEGER, Sym::Byte(b'_'), ENCODING], // 52 VirtualThunk
-    [CALL_OFFSET, CALL_OFFSET, ENCODING, NONE, NONE], // 53 CovariantThunk
-    [COMPLETE_NAME, NONE, NONE, NONE, NONE], // 54 SpecialName
-    [INTEGER, Sym::Byte(b'_'), NONE, NONE, NONE], // 55 NonVirtualOffset
-    [INTEGER, Sym::Byte(b'_'), INTEGER, Sym::Byte(b'_'), NONE], // 56 VirtualOffset
-    [DIGITS, NONE, NONE, NONE, NONE], // 57 Negative
-    [DIGITS, NONE, NONE, NONE, NONE], // 58 Positive
-    [NAME_AFTER_S, NONE, NONE, NONE, NONE], // 59 NameWithS
-    [ENCODING, Sym::Byte(b'E'), ENTITY, MAYBE_DISCRIMINATOR, NONE], // 60 LocalName
-    [UNQUALIFIED, MAYBE_ARGUMENTS, NONE, NONE, NONE], // 61 StdName
-    [ABBREVIATION, ARGUMENTS, NONE, NONE, NONE], // 62 AbbreviatedName
-    [OPERATOR, NONE, NONE, NONE, NONE], // 63 OperatorPiece
-    [NEST_AFTER_S, NONE, NONE, NONE, NONE], // 64 NestWithS
-    [DECIMAL, NEST_REST_ALONE, NONE, NONE, NONE], // 65 NestParameter
-    [NAME, NEST_REST, NONE, NONE, NONE], // 66 NestInternal
-    [ANONYMOUS, NEST_REST, NONE, NONE, NONE], // 67 NestLocalType
-    [NAME, NEST_REST, NONE, NONE, NONE], // 68 NestSource
-    [UNQUALIFIED, MAYBE_ARGUMENTS, NEST_TAIL, NONE, NONE], // 69 NestStd
-    [ABBREVIATION, NEST_REST_OR_END, NONE, NONE, NONE], // 70 NestTemplate
-    [ARGUMENTS_FIRST, Sym::Byte(b'E'), COMPONENT, NEST_TAIL, NONE], // 71 NestArguments
-    [COMPONENT, NEST_TAIL, NONE, NONE, NONE], // 72 NestNext
-    [NONE, NONE, NONE, NONE, NONE], // 73 NestEnd
-    [CONSTRUCTOR_AFTER_C, NONE, NONE, NONE, NONE], // 74 AnyConstructor
-    [DESTRUCTOR_DIGIT, MAYBE_ARGUMENTS, NONE, NONE, NONE], // 75 Destructor
-    [COMPONENT_AFTER_C, NONE, NONE, NONE, NONE], // 76 ComponentWithC
-    [OTHER_OPERATOR, MAYBE_ARGUMENTS, NONE, NONE, NONE], // 77 OtherOperatorName
-    [CONSTRUCTOR_DIGIT, MAYBE_ARGUMENTS, NONE, NONE, NONE], // 78 Constructor
-    [NONE, NONE, NONE, NONE, NONE], // 79 Abbreviation
-    [SEQ36, NONE, NONE, NONE, NONE], // 80 Substitution
-    [NEST, NONE, NONE, NONE, NONE], // 81 NestedType
-    [NONE, NONE, NONE, NONE, NONE], // 82 StringLiteral
-    [DISCRIMINATOR_REST, NONE, NONE, NONE, NONE], // 83 Discriminator
-    [NONE, NONE, NONE, NONE, NONE], // 84 OneDigit
-    [DIGITS, Sym::Byte(b'_'), NONE, NONE, NONE], // 85 ManyDigits
-    [ITEM, ITEMS, Sym::Byte(b'E'), DECIMAL, NONE], // 86 Lambda
-    [DECIMAL, NONE, NONE, NONE, NONE], // 87 Unnamed
-    [MAYBE_VOLATILE, MAYBE_CONST, PLAIN, NONE, NONE], // 88 RestrictType
-    [MAYBE_CONST, PLAIN, NONE, NONE, NONE], // 89 VolatileType
-    [PLAIN, NONE, NONE, NONE, NONE], // 90 ConstType
-    [TYPE, NONE, NONE, NONE, NONE], // 91 ReferenceType
-    [SOLID, NONE, NONE, NONE, NONE], // 92 PlainType
-    [AFTER_D, NONE, NONE, NONE, NONE], // 93 TypeWithD
-    [AFTER_D, NONE, NONE, NONE, NONE], // 94 PlainWithD
-    [SOLID, NONE, NONE, NONE, NONE], // 95 QualifiedPlain
-    [ITEM_AFTER_D, NONE, NONE, NONE, NONE], // 96 ItemWithD
-    [TYPE, NONE, NONE, NONE, NONE], // 97 Expansion
-    [AFTER_D, NONE, NONE, NONE, NONE], // 98 ItemIsType
-    [NONE, NONE, NONE, NONE, NONE], // 99 BuiltinWithD
-    [DIGITS, Sym::Byte(b'_'), TYPE, NONE, NONE], // 100 Vector
-    [Sym::Byte(b'F'), MAYBE_C_LINKAGE, TYPE, FUNCTION_REST, NONE], // 101 NoexceptFunction
-    [DIGITS, FLOAT_END, NONE, NONE, NONE], // 102 SizedFloat
-    [EXPRESSION, Sym::Byte(b'E'), NONE, NONE, NONE], // 103 Decltype
-    [TYPE, NONE, NONE, NONE, NONE], // 104 Pointer
-    [TYPE, TYPE, NONE, NONE, NONE], // 105 MemberPointer
-    [DECIMAL, ARGUMENTS_ALONE, NONE, NONE, NONE], // 106 Parameter
-    [TYPE_AFTER_S, ARGUMENTS_ALONE, NONE, NONE, NONE], // 107 TypeWithS
-    [ENCODING, Sym::Byte(b'E'), TYPE_ENTITY, MAYBE_DISCRIMINATOR, NONE], // 108 LocalType
-    [NONE, NONE, NONE, NONE, NONE], // 109 Builtin
-    [NAME, NONE, NONE, NONE, NONE], // 110 Vendor
-    [ANY_ARRAY, NONE, NONE, NONE, NONE], // 111 ArrayType
-    [MAYBE_C_LINKAGE, TYPE, FUNCTION_REST, NONE, NONE], // 112 Function
-    [TYPE, NONE, NONE, NONE, NONE], // 113 Complex
-    [DIGITS, NONE, NONE, NONE, NONE], // 114 BitWidth
-    [TYPE_IN_STD, NONE, NONE, NONE, NONE], // 115 TypeInStd
-    [ABBREVIATION, NONE, NONE, NONE, NONE], // 116 AbbreviatedType
-    [NONE, NONE, NONE, NONE, NONE], // 117 RestEnd
-    [AFTER_R, NONE, NONE, NONE, NONE], // 118 RestLvalue
-    [AFTER_O, NONE, NONE, NONE, NONE], // 119 RestRvalue
-    [ITEM_BUT_REF, FUNCTION_REST, NONE, NONE, NONE], // 120 RestItem
-    [NONE, NONE, NONE, NONE, NONE], // 121 RefEnd
-    [TYPE, FUNCTION_REST, NONE, NONE, NONE], // 122 LvalueItem
-    [TYPE, FUNCTION_REST, NONE, NONE, NONE], // 123 RvalueItem
-    [ITEM, ITEMS, NONE, NONE, NONE], // 124 Items
-    [ARGUMENTS_FIRST, Sym::Byte(b'E'), NONE, NONE, NONE], // 125 Arguments
-    [PACK_LIST, Sym::Byte(b'E'), ARGUMENT_LIST, NONE, NONE], // 126 PackArgument
-    [LITERAL, Sym::Byte(b'E'), ARGUMENT_LIST, NONE, NONE], // 127 LiteralArgument
-    [ARGUMENT, ARGUMENT_LIST, NONE, NONE, NONE], // 128 AnyArgument
-    [LITERAL, Sym::Byte(b'E'), PACK_LIST, NONE, NONE], // 129 LiteralElement
-    [ARGUMENT, PACK_LIST, NONE, NONE, NONE], // 130 AnyElement
-    [Sym::Byte(b'Z'), ENCODING, NONE, NONE, NONE], // 131 EncodingLiteral
-    [BIT, NONE, NONE, NONE, NONE], // 132 BoolLiteral
-    [LITERAL_AFTER_D, NONE, NONE, NONE, NONE], // 133 LiteralWithD
-    [LITERAL_TYPE, INTEGER, NONE, NONE, NONE], // 134 IntegerLiteral
-    [MAYBE_ZERO, NONE, NONE, NONE, NONE], // 135 NullLiteral
-    [INTEGER, NONE, NONE, NONE, NONE], // 136 CharLiteral
-    [HEX_DIGITS, NONE, NONE, NONE, NONE], // 137 HexText
-    [HEX_MORE, NONE, NONE, NONE, NONE], // 138 HexDigit
-    [LITERAL_SOLID, NONE, NONE, NONE, NONE], // 139 QualifiedLiteral
-    [OPERATOR_AFTER_N, NONE, NONE, NONE, NONE], // 140 OperatorN
-    [OPERATOR_AFTER_D, NONE, NONE, NONE, NONE], // 141 OperatorD
-    [OPERATOR_AFTER_A, NONE, NONE, NONE, NONE], // 142 OperatorA
-    [OPERATOR_AFTER_P, NONE, NONE, NONE, NONE], // 143 OperatorP
-    [OPERATOR_AFTER_C, NONE, NONE, NONE, NONE], // 144 OperatorC
-    [OPERATOR_AFTER_M, NONE, NONE, NONE, NONE], // 145 OperatorM
-    [OPERATOR_AFTER_R, NONE, NONE, NONE, NONE], // 146 OperatorR
-    [OPERATOR_AFTER_O, NONE, NONE, NONE, NONE], // 147 OperatorO
-    [OPERATOR_AFTER_E, NONE, NONE, NONE, NONE], // 148 OperatorE
-    [OPERATOR_AFTER_L, NONE, NONE, NONE, NONE], // 149 OperatorL
-    [OPERATOR_AFTER_S, NONE, NONE, NONE, NONE], // 150 OperatorS
-    [OPERATOR_AFTER_I, NONE, NONE, NONE, NONE], // 151 OperatorI
-    [OPERATOR_AFTER_G, NONE, NONE, NONE, NONE], // 152 OperatorG
-    [NAME, NONE, NONE, NONE, NONE], // 153 LiteralOperator
-    [ARGUMENTS_FIRST, Sym::Byte(b'E'), NEST_MORE_OR_END, NONE, NONE], // 154 NestInstance
-    [FIELD_NAME, MORE_MODULE, NONE, NONE, NONE], // 155 FirstModule
-    [SEQ36, MORE_MODULE, NONE, NONE, NONE], // 156 NamedModule
-    [MAYBE_PARTITION, FIELD_NAME, MORE_MODULE, NONE, NONE], // 157 MoreModule
-    [OPERATOR_AFTER_C, MAYBE_ARGUMENTS, NONE, NONE, NONE], // 158 OperatorNameWithC
-    [ARGUMENTS_FIRST, Sym::Byte(b'E'), NONE, NONE, NONE], // 159 HeldArguments
-    [NEST, HELD_ARGUMENTS, NONE, NONE, NONE], // 160 NestedBase
-    [UNNESTED_NAME, BASE_ARGUMENTS, NONE, NONE, NONE], // 161 UnnestedBase
-    [TYPE_AFTER_S, NONE, NONE, NONE, NONE], // 162 UnnestedWithS
-    [NAME, MAYBE_TAGS, NONE, NONE, NONE], // 163 TaggedSource
-    [ARGUMENTS_FIRST, Sym::Byte(b'E'), HELD_ARGUMENTS, NONE, NONE], // 164 BaseArguments
-    [ENCODING, Sym::Byte(b'E'), ENTITY, NONE, NONE], // 165 LocalTemporary
-    [SOURCE_OR_LOCAL, MAYBE_TAGS, NONE, NONE, NONE], // 166 TaggedStdType
-    [EXPRESSION, Sym::Byte(b'E'), NONE, NONE, NONE], // 167 Expression
-    [ARGUMENT_AFTER_T, NONE, NONE, NONE, NONE], // 168 ArgumentWithT
-    [SOLID_BUT_T, NONE, NONE, NONE, NONE], // 169 PlainArgument
-    [DECIMAL, ARGUMENTS_ALONE, NONE, NONE, NONE], // 170 ParameterArgument
-    [DECIMAL, LEVELED_PARAMETER, NONE, NONE, NONE], // 171 LeveledParameter
-    [LITERAL, Sym::Byte(b'E'), NONE, NONE, NONE], // 172 OneLiteral
-    [PACK_LIST, Sym::Byte(b'E'), NONE, NONE, NONE], // 173 OnePack
-    [NONE, NONE, NONE, NONE, NONE], // 174 AnyType
-    [TYPE, NONE, NONE, NONE, NONE], // 175 ValueOf
-    [CONCEPT, NONE, NONE, NONE, NONE], // 176 OfConcept
-    [DECLARATIONS, Sym::Byte(b'E'), NONE, NONE, NONE], // 177 TemplateOf
-    [Sym::Byte(b'T'), DECLARATION_AFTER_T, NONE, NONE, NONE], // 178 PackOf
-    [DECLARATION_AFTER_T, DECLARATIONS, NONE, NONE, NONE], // 179 Declarations
-    [UNNESTED_NAME, HELD_ARGUMENTS, NONE, NONE, NONE], // 180 NamedConcept
-    [TYPE, EXPRESSION, NONE, NONE, NONE], // 181 Cast
-    [OPERATOR, ARGUMENTS_ALONE, NONE, NONE, NONE], // 182 OperatorReference
-    [NAME, ARGUMENTS_ALONE, NONE, NONE, NONE], // 183 SimpleId
-    [MAYBE_RESTRICT, MAYBE_VOLATILE, MAYBE_CONST, PARAMETER_NUMBER, NONE], // 184 FunctionParameter
-    [ADDRESSED_EXPRESSION, NONE, NONE, NONE, NONE], // 185 AddressExpression
-    [EXPRESSION, EXPRESSION, NONE, NONE, NONE], // 186 Binary
-    [EXPRESSION, NONE, NONE, NONE, NONE], // 187 Unary
-    [CONVERTED_TYPE, NONE, NONE, NONE, NONE], // 188 OfType
-    [EXPRESSION, EXPRESSIONS, Sym::Byte(b'E'), NONE, NONE], // 189 Call
-    [CONVERTED_TYPE, CONVERT_REST, NONE, NONE, NONE], // 190 Convert
-    [FIELD_NAME, DESIGNATED_VALUE, NONE, NONE, NONE], // 191 Designated
-    [EXPRESSION, DESIGNATED_VALUE, NONE, NONE, NONE], // 192 DesignatedElement
-    [DESTRUCTOR_NAME, NONE, NONE, NONE, NONE], // 193 DestructorName
-    [DIGITS, OUTER_REST, NONE, NONE, NONE], // 194 OuterParameter
-    [FOLD_OPERATOR, FOLD_OPERAND, NONE, NONE, NONE], // 195 LeftFold
-    [FOLD_OPERATOR, FOLD_OPERAND, NONE, NONE, NONE], // 196 RightFold
-    [EXPRESSIONS, Sym::Byte(b'E'), NONE, NONE, NONE], // 197 Braces
-    [MAYBE_BEFORE, EXPRESSION, NONE, NONE, NONE], // 198 Step
-    [PLACEMENT, TYPE, INITIALIZER, NONE, NONE], // 199 New
-    [EXPRESSION, EXPRESSION, EXPRESSION, NONE, NONE], // 200 Conditional
-    [REQUIREMENTS, Sym::Byte(b'E'), NONE, NONE, NONE], // 201 Requires
-    [REQUIRED_TYPES, NONE, NONE, NONE, NONE], // 202 RequiresOf
-    [EXPRESSION, NONE, NONE, NONE, NONE], // 203 ExpandExpression
-    [EXPRESSION, NONE, NONE, NONE, NONE], // 204 PackSize
-    [UNRESOLVED, NONE, NONE, NONE, NONE], // 205 Unresolved
-    [VALUE_PACK, EXPRESSION, NONE, NONE, NONE], // 206 PackIndex
-    [TYPE, EXPRESSIONS, Sym::Byte(b'E'), NONE, NONE], // 207 TypedBraces
-    [NONE, NONE, NONE, NONE, NONE], // 208 Rethrow
-    [EXPRESSION_AFTER_A, NONE, NONE, NONE, NONE], // 209 ExpressionA
-    [EXPRESSION_AFTER_C, NONE, NONE, NONE, NONE], // 210 ExpressionC
-    [EXPRESSION_AFTER_D, NONE, NONE, NONE, NONE], // 211 ExpressionD
-    [EXPRESSION_AFTER_E, NONE, NONE, NONE, NONE], // 212 ExpressionE
-    [EXPRESSION_AFTER_F, NONE, NONE, NONE, NONE], // 213 ExpressionF
-    [EXPRESSION_AFTER_G, NONE, NONE, NONE, NONE], // 214 ExpressionG
-    [EXPRESSION_AFTER_I, NONE, NONE, NONE, NONE], // 215 ExpressionI
-    [EXPRESSION_AFTER_L, NONE, NONE, NONE, NONE], // 216 ExpressionL
-    [EXPRESSION_AFTER_M, NONE, NONE, NONE, NONE], // 217 ExpressionM
-    [EXPRESSION_AFTER_N, NONE, NONE, NONE, NONE], // 218 ExpressionN
-    [EXPRESSION_AFTER_O, NONE, NONE, NONE, NONE], // 219 ExpressionO
-    [EXPRESSION_AFTER_P, NONE, NONE, NONE, NONE], // 220 ExpressionP
-    [EXPRESSION_AFTER_Q, NONE, NONE, NONE, NONE], // 221 ExpressionQ
-    [EXPRESSION_AFTER_R, NONE, NONE, NONE, NONE], // 222 ExpressionR
-    [EXPRESSION_AFTER_S, NONE, NONE, NONE, NONE], // 223 ExpressionS
-    [EXPRESSION_AFTER_T, NONE, NONE, NONE, NONE], // 224 ExpressionT
-    [EXPRESSION_PARAMETER, NONE, NONE, NONE, NONE], // 225 ExpressionWithT
-    [DECIMAL, ARGUMENTS_ALONE, NONE, NONE, NONE], // 226 ParameterExpression
-    [DECIMAL, UNLEVELED_EXPRESSION, NONE, NONE, NONE], // 227 LeveledExpression
-    [ADDRESSED_LITERAL, Sym::Byte(b'E'), NONE, NONE, NONE], // 228 AddressedLiteral
-    [BOUND, Sym::Byte(b'_'), TYPE, NONE, NONE], // 229 BoundedArray
-    [DECLARATION_AFTER_T, ONE_ARGUMENT, NONE, NONE, NONE], // 230 DeclaredArgument
-    [NAME, MAYBE_TAGS, NONE, NONE, NONE], // 231 TypeTag
-    [CLONE_LETTER, ENCODING, NONE, NONE, NONE], // 232 Clone
-    [Sym::Byte(b'W'), FIRST_MODULE, NONE, NONE, NONE], // 233 ModuleInitializer
-    [TEMPORARY_NAME, Sym::Byte(b'_'), NONE, NONE, NONE], // 234 Temporary
-    [TYPE, NONE, NONE, NONE, NONE], // 235 Conversion
-    [LITERAL_PLAIN, NONE, NONE, NONE, NONE], // 236 ConstLiteral
-    [MAYBE_CONST, LITERAL_PLAIN, NONE, NONE, NONE], // 237 VolatileLiteral
-    [SIZED_FLOAT_TYPE, HEX_TEXT, NONE, NONE, NONE], // 238 SizedFloatLiteral
-    [FLOAT_TYPE, HEX_TEXT, NONE, NONE, NONE], // 239 FloatLiteral
-    [NAME, MAYBE_ARGUMENTS, NONE, NONE, NONE], // 240 Tag
-    [EXPRESSION, NONE, NONE, NONE, NONE], // 241 Constraint
-    [TYPE_PACK, EXPRESSION, NONE, NONE, NONE], // 242 IndexedType
-    [BIT_WIDTH, Sym::Byte(b'_'), NONE, NONE, NONE], // 243 BitInt
-    [CONCEPT, NONE, NONE, NONE, NONE], // 244 ConstrainedAuto
-    [TYPE, NAME, NONE, NONE, NONE], // 245 Enumeration
-    [DECIMAL, PLAIN_TYPE_ENTITY, NONE, NONE, NONE], // 246 DefaultTypeEntity
-    [DECIMAL, PLAIN_ENTITY, NONE, NONE, NONE], // 247 DefaultEntity
-    [INHERITED_DIGIT, BASE_CLASS, NONE, NONE, NONE], // 248 Inheriting
-    [UNQUALIFIED, MAYBE_ARGUMENTS, NONE, NONE, NONE], // 249 Friend
-    [HOLDER_MARK, HELD_COMPONENT, NONE, NONE, NONE], // 250 Holder
-    [NAME, NEST_REST, NONE, NONE, NONE], // 251 NestTag
-    [DECLTYPE_AFTER_D, NEST_REST_ALONE, NONE, NONE, NONE], // 252 NestDecltype
-    [NAME_IN_MODULE, NEST_ON, NONE, NONE, NONE], // 253 NestModule
-    [TYPE, DIGITS, Sym::Byte(b'_'), TYPE, NONE], // 254 ConstructionVtable
+    [BINDING_AFTER_D, MAYBE_ARGUMENTS, NONE, NONE, NONE], // 38 BindingName
+    [NAME, NONE, NONE, NONE, NONE], // 39 InternalPiece
+    [ANONYMOUS, NONE, NONE, NONE, NONE], // 40 LocalTypePiece
+    [NAME, NONE, NONE, NONE, NONE], // 41 SourcePiece
+    [FIRST_MODULE, NAME_AFTER_MODULE, NONE, NONE, NONE], // 42 InModule
+    [NAMED_MODULE, NAME_AFTER_MODULE, NONE, NONE, NONE], // 43 InNamedModule
+    [MAYBE_RESTRICT, MAYBE_VOLATILE, MAYBE_CONST, MAYBE_REF, NEST], // 44 NestedName
+    [Sym::Byte(b'Z'), ENCODING, MAYBE_SUFFIX, NONE, NONE], // 45 Symbol
+    [SUFFIX_FIRST, NONE, NONE, NONE, NONE], // 46 Suffix
+    [SUFFIX_MORE, NONE, NONE, NONE, NONE], // 47 SuffixByte
+    [SPECIAL, NONE, NONE, NONE, NONE], // 48 Special
+    [SPECIAL_MARK, SPECIAL_AFTER_G, NONE, NONE, NONE], // 49 OtherSpecial
+    [COMPLETE_NAME, ITEMS, NONE, NONE, NONE], // 50 Encoding
+    [TYPE, NONE, NONE, NONE, NONE], // 51 SpecialType
+    [INTEGER, Sym::Byte(b'_'), ENCODING, NONE, NONE], // 52 NonVirtualThunk
+    [INTEGER, Sym::Byte(b'_'), INTEGER, Sym::Byte(b'_'), ENCODING], // 53 VirtualThunk
+    [CALL_OFFSET, CALL_OFFSET, ENCODING, NONE, NONE], // 54 CovariantThunk
+    [COMPLETE_NAME, NONE, NONE, NONE, NONE], // 55 SpecialName
+    [INTEGER, Sym::Byte(b'_'), NONE, NONE, NONE], // 56 NonVirtualOffset
+    [INTEGER, Sym::Byte(b'_'), INTEGER, Sym::Byte(b'_'), NONE], // 57 VirtualOffset
+    [DIGITS, NONE, NONE, NONE, NONE], // 58 Negative
+    [DIGITS, NONE, NONE, NONE, NONE], // 59 Positive
+    [NAME_AFTER_S, NONE, NONE, NONE, NONE], // 60 NameWithS
+    [ENCODING, Sym::Byte(b'E'), ENTITY, MAYBE_DISCRIMINATOR, NONE], // 61 LocalName
+    [UNQUALIFIED, MAYBE_ARGUMENTS, NONE, NONE, NONE], // 62 StdName
+    [ABBREVIATION, ARGUMENTS, NONE, NONE, NONE], // 63 AbbreviatedName
+    [OPERATOR, NONE, NONE, NONE, NONE], // 64 OperatorPiece
+    [NEST_AFTER_S, NONE, NONE, NONE, NONE], // 65 NestWithS
+    [DECIMAL, NEST_REST_ALONE, NONE, NONE, NONE], // 66 NestParameter
+    [NAME, NEST_REST, NONE, NONE, NONE], // 67 NestInternal
+    [ANONYMOUS, NEST_REST, NONE, NONE, NONE], // 68 NestLocalType
+    [NAME, NEST_REST, NONE, NONE, NONE], // 69 NestSource
+    [UNQUALIFIED, MAYBE_ARGUMENTS, NEST_TAIL, NONE, NONE], // 70 NestStd
+    [ABBREVIATION, NEST_REST_OR_END, NONE, NONE, NONE], // 71 NestTemplate
+    [ARGUMENTS_FIRST, Sym::Byte(b'E'), COMPONENT, NEST_TAIL, NONE], // 72 NestArguments
+    [COMPONENT, NEST_TAIL, NONE, NONE, NONE], // 73 NestNext
+    [NONE, NONE, NONE, NONE, NONE], // 74 NestEnd
+    [CONSTRUCTOR_AFTER_C, NONE, NONE, NONE, NONE], // 75 AnyConstructor
+    [COMPONENT_AFTER_D, MAYBE_ARGUMENTS, NONE, NONE, NONE], // 76 Destructor
+    [COMPONENT_AFTER_C, NONE, NONE, NONE, NONE], // 77 ComponentWithC
+    [OTHER_OPERATOR, MAYBE_ARGUMENTS, NONE, NONE, NONE], // 78 OtherOperatorName
+    [CONSTRUCTOR_DIGIT, MAYBE_ARGUMENTS, NONE, NONE, NONE], // 79 Constructor
+    [BOUND_NAMES, Sym::Byte(b'E'), NONE, NONE, NONE], // 80 Bindings
+    [NONE, NONE, NONE, NONE, NONE], // 81 Abbreviation
+    [SEQ36, NONE, NONE, NONE, NONE], // 82 Substitution
+    [NEST, NONE, NONE, NONE, NONE], // 83 NestedType
+    [NONE, NONE, NONE, NONE, NONE], // 84 StringLiteral
+    [DISCRIMINATOR_REST, NONE, NONE, NONE, NONE], // 85 Discriminator
+    [NONE, NONE, NONE, NONE, NONE], // 86 OneDigit
+    [DIGITS, Sym::Byte(b'_'), NONE, NONE, NONE], // 87 ManyDigits
+    [ITEM, ITEMS, Sym::Byte(b'E'), DECIMAL, NONE], // 88 Lambda
+    [DECIMAL, NONE, NONE, NONE, NONE], // 89 Unnamed
+    [MAYBE_VOLATILE, MAYBE_CONST, PLAIN, NONE, NONE], // 90 RestrictType
+    [MAYBE_CONST, PLAIN, NONE, NONE, NONE], // 91 VolatileType
+    [PLAIN, NONE, NONE, NONE, NONE], // 92 ConstType
+    [TYPE, NONE, NONE, NONE, NONE], // 93 ReferenceType
+    [SOLID, NONE, NONE, NONE, NONE], // 94 PlainType
+    [AFTER_D, NONE, NONE, NONE, NONE], // 95 TypeWithD
+    [AFTER_D, NONE, NONE, NONE, NONE], // 96 PlainWithD
+    [SOLID, NONE, NONE, NONE, NONE], // 97 QualifiedPlain
+    [ITEM_AFTER_D, NONE, NONE, NONE, NONE], // 98 ItemWithD
+    [TYPE, NONE, NONE, NONE, NONE], // 99 Expansion
+    [AFTER_D, NONE, NONE, NONE, NONE], // 100 ItemIsType
+    [NONE, NONE, NONE, NONE, NONE], // 101 BuiltinWithD
+    [DIGITS, Sym::Byte(b'_'), TYPE, NONE, NONE], // 102 Vector
+    [Sym::Byte(b'F'), MAYBE_C_LINKAGE, TYPE, FUNCTION_REST, NONE], // 103 NoexceptFunction
+    [DIGITS, FLOAT_END, NONE, NONE, NONE], // 104 SizedFloat
+    [EXPRESSION, Sym::Byte(b'E'), NONE, NONE, NONE], // 105 Decltype
+    [TYPE, NONE, NONE, NONE, NONE], // 106 Pointer
+    [TYPE, TYPE, NONE, NONE, NONE], // 107 MemberPointer
+    [DECIMAL, ARGUMENTS_ALONE, NONE, NONE, NONE], // 108 Parameter
+    [TYPE_AFTER_S, ARGUMENTS_ALONE, NONE, NONE, NONE], // 109 TypeWithS
+    [ENCODING, Sym::Byte(b'E'), TYPE_ENTITY, MAYBE_DISCRIMINATOR, NONE], // 110 LocalType
+    [NONE, NONE, NONE, NONE, NONE], // 111 Builtin
+    [NAME, NONE, NONE, NONE, NONE], // 112 Vendor
+    [ANY_ARRAY, NONE, NONE, NONE, NONE], // 113 ArrayType
+    [MAYBE_C_LINKAGE, TYPE, FUNCTION_REST, NONE, NONE], // 114 Function
+    [TYPE, NONE, NONE, NONE, NONE], // 115 Complex
+    [DIGITS, NONE, NONE, NONE, NONE], // 116 BitWidth
+    [TYPE_IN_STD, NONE, NONE, NONE, NONE], // 117 TypeInStd
+    [ABBREVIATION, NONE, NONE, NONE, NONE], // 118 AbbreviatedType
+    [NONE, NONE, NONE, NONE, NONE], // 119 RestEnd
+    [AFTER_R, NONE, NONE, NONE, NONE], // 120 RestLvalue
+    [AFTER_O, NONE, NONE, NONE, NONE], // 121 RestRvalue
+    [ITEM_BUT_REF, FUNCTION_REST, NONE, NONE, NONE], // 122 RestItem
+    [NONE, NONE, NONE, NONE, NONE], // 123 RefEnd
+    [TYPE, FUNCTION_REST, NONE, NONE, NONE], // 124 LvalueItem
+    [TYPE, FUNCTION_REST, NONE, NONE, NONE], // 125 RvalueItem
+    [ITEM, ITEMS, NONE, NONE, NONE], // 126 Items
+    [ARGUMENTS_FIRST, Sym::Byte(b'E'), NONE, NONE, NONE], // 127 Arguments
+    [PACK_LIST, Sym::Byte(b'E'), ARGUMENT_LIST, NONE, NONE], // 128 PackArgument
+    [LITERAL, Sym::Byte(b'E'), ARGUMENT_LIST, NONE, NONE], // 129 LiteralArgument
+    [ARGUMENT, ARGUMENT_LIST, NONE, NONE, NONE], // 130 AnyArgument
+    [LITERAL, Sym::Byte(b'E'), PACK_LIST, NONE, NONE], // 131 LiteralElement
+    [ARGUMENT, PACK_LIST, NONE, NONE, NONE], // 132 AnyElement
+    [Sym::Byte(b'Z'), ENCODING, NONE, NONE, NONE], // 133 EncodingLiteral
+    [BIT, NONE, NONE, NONE, NONE], // 134 BoolLiteral
+    [LITERAL_AFTER_D, NONE, NONE, NONE, NONE], // 135 LiteralWithD
+    [LITERAL_TYPE, INTEGER, NONE, NONE, NONE], // 136 IntegerLiteral
+    [MAYBE_ZERO, NONE, NONE, NONE, NONE], // 137 NullLiteral
+    [INTEGER, NONE, NONE, NONE, NONE], // 138 CharLiteral
+    [HEX_DIGITS, NONE, NONE, NONE, NONE], // 139 HexText
+    [HEX_MORE, NONE, NONE, NONE, NONE], // 140 HexDigit
+    [LITERAL_SOLID, NONE, NONE, NONE, NONE], // 141 QualifiedLiteral
+    [OPERATOR_AFTER_N, NONE, NONE, NONE, NONE], // 142 OperatorN
+    [OPERATOR_AFTER_D, NONE, NONE, NONE, NONE], // 143 OperatorD
+    [OPERATOR_AFTER_A, NONE, NONE, NONE, NONE], // 144 OperatorA
+    [OPERATOR_AFTER_P, NONE, NONE, NONE, NONE], // 145 OperatorP
+    [OPERATOR_AFTER_C, NONE, NONE, NONE, NONE], // 146 OperatorC
+    [OPERATOR_AFTER_M, NONE, NONE, NONE, NONE], // 147 OperatorM
+    [OPERATOR_AFTER_R, NONE, NONE, NONE, NONE], // 148 OperatorR
+    [OPERATOR_AFTER_O, NONE, NONE, NONE, NONE], // 149 OperatorO
+    [OPERATOR_AFTER_E, NONE, NONE, NONE, NONE], // 150 OperatorE
+    [OPERATOR_AFTER_L, NONE, NONE, NONE, NONE], // 151 OperatorL
+    [OPERATOR_AFTER_S, NONE, NONE, NONE, NONE], // 152 OperatorS
+    [OPERATOR_AFTER_I, NONE, NONE, NONE, NONE], // 153 OperatorI
+    [OPERATOR_AFTER_G, NONE, NONE, NONE, NONE], // 154 OperatorG
+    [NAME, NONE, NONE, NONE, NONE], // 155 LiteralOperator
+    [ARGUMENTS_FIRST, Sym::Byte(b'E'), NEST_MORE_OR_END, NONE, NONE], // 156 NestInstance
+    [FIELD_NAME, MORE_MODULE, NONE, NONE, NONE], // 157 FirstModule
+    [SEQ36, MORE_MODULE, NONE, NONE, NONE], // 158 NamedModule
+    [MAYBE_PARTITION, FIELD_NAME, MORE_MODULE, NONE, NONE], // 159 MoreModule
+    [NAME, NONE, NONE, NONE, NONE], // 160 FieldName
+    [BOUND_NAME, MORE_NAMES, NONE, NONE, NONE], // 161 BoundNames
+    [OPERATOR_AFTER_C, MAYBE_ARGUMENTS, NONE, NONE, NONE], // 162 OperatorNameWithC
+    [ARGUMENTS_FIRST, Sym::Byte(b'E'), NONE, NONE, NONE], // 163 HeldArguments
+    [NEST, HELD_ARGUMENTS, NONE, NONE, NONE], // 164 NestedBase
+    [UNNESTED_NAME, BASE_ARGUMENTS, NONE, NONE, NONE], // 165 UnnestedBase
+    [TYPE_AFTER_S, NONE, NONE, NONE, NONE], // 166 UnnestedWithS
+    [NAME, MAYBE_TAGS, NONE, NONE, NONE], // 167 TaggedSource
+    [ARGUMENTS_FIRST, Sym::Byte(b'E'), HELD_ARGUMENTS, NONE, NONE], // 168 BaseArguments
+    [ENCODING, Sym::Byte(b'E'), ENTITY, NONE, NONE], // 169 LocalTemporary
+    [SOURCE_OR_LOCAL, MAYBE_TAGS, NONE, NONE, NONE], // 170 TaggedStdType
+    [EXPRESSION, Sym::Byte(b'E'), NONE, NONE, NONE], // 171 Expression
+    [ARGUMENT_AFTER_T, NONE, NONE, NONE, NONE], // 172 ArgumentWithT
+    [SOLID_BUT_T, NONE, NONE, NONE, NONE], // 173 PlainArgument
+    [DECIMAL, ARGUMENTS_ALONE, NONE, NONE, NONE], // 174 ParameterArgument
+    [DECIMAL, LEVELED_PARAMETER, NONE, NONE, NONE], // 175 LeveledParameter
+    [LITERAL, Sym::Byte(b'E'), NONE, NONE, NONE], // 176 OneLiteral
+    [PACK_LIST, Sym::Byte(b'E'), NONE, NONE, NONE], // 177 OnePack
+    [TYPE, NONE, NONE, NONE, NONE], // 178 ValueOf
+    [CONCEPT, NONE, NONE, NONE, NONE], // 179 OfConcept
+    [DECLARATIONS, Sym::Byte(b'E'), NONE, NONE, NONE], // 180 TemplateOf
+    [Sym::Byte(b'T'), DECLARATION_AFTER_T, NONE, NONE, NONE], // 181 PackOf
+    [DECLARATION_AFTER_T, DECLARATIONS, NONE, NONE, NONE], // 182 Declarations
+    [UNNESTED_NAME, HELD_ARGUMENTS, NONE, NONE, NONE], // 183 NamedConcept
+    [TYPE, EXPRESSION, NONE, NONE, NONE], // 184 Cast
+    [OPERATOR, ARGUMENTS_ALONE, NONE, NONE, NONE], // 185 OperatorReference
+    [NAME, ARGUMENTS_ALONE, NONE, NONE, NONE], // 186 SimpleId
+    [MAYBE_RESTRICT, MAYBE_VOLATILE, MAYBE_CONST, PARAMETER_NUMBER, NONE], // 187 FunctionParameter
+    [ADDRESSED_EXPRESSION, NONE, NONE, NONE, NONE], // 188 AddressExpression
+    [EXPRESSION, EXPRESSION, NONE, NONE, NONE], // 189 Binary
+    [EXPRESSION, NONE, NONE, NONE, NONE], // 190 Unary
+    [CONVERTED_TYPE, NONE, NONE, NONE, NONE], // 191 OfType
+    [EXPRESSION, EXPRESSIONS, Sym::Byte(b'E'), NONE, NONE], // 192 Call
+    [CONVERTED_TYPE, CONVERT_REST, NONE, NONE, NONE], // 193 Convert
+    [FIELD_NAME, DESIGNATED_VALUE, NONE, NONE, NONE], // 194 Designated
+    [EXPRESSION, DESIGNATED_VALUE, NONE, NONE, NONE], // 195 DesignatedElement
+    [DESTRUCTOR_NAME, NONE, NONE, NONE, NONE], // 196 DestructorName
+    [DIGITS, OUTER_REST, NONE, NONE, NONE], // 197 OuterParameter
+    [FOLD_OPERATOR, FOLD_OPERAND, NONE, NONE, NONE], // 198 LeftFold
+    [FOLD_OPERATOR, FOLD_OPERAND, NONE, NONE, NONE], // 199 RightFold
+    [EXPRESSIONS, Sym::Byte(b'E'), NONE, NONE, NONE], // 200 Braces
+    [MAYBE_BEFORE, EXPRESSION, NONE, NONE, NONE], // 201 Step
+    [PLACEMENT, TYPE, INITIALIZER, NONE, NONE], // 202 New
+    [EXPRESSION, EXPRESSION, EXPRESSION, NONE, NONE], // 203 Conditional
+    [REQUIREMENTS, Sym::Byte(b'E'), NONE, NONE, NONE], // 204 Requires
+    [REQUIRED_TYPES, NONE, NONE, NONE, NONE], // 205 RequiresOf
+    [EXPRESSION, NONE, NONE, NONE, NONE], // 206 ExpandExpression
+    [EXPRESSION, NONE, NONE, NONE, NONE], // 207 PackSize
+    [UNRESOLVED, NONE, NONE, NONE, NONE], // 208 Unresolved
+    [VALUE_PACK, EXPRESSION, NONE, NONE, NONE], // 209 PackIndex
+    [TYPE, EXPRESSIONS, Sym::Byte(b'E'), NONE, NONE], // 210 TypedBraces
+    [NONE, NONE, NONE, NONE, NONE], // 211 Rethrow
+    [EXPRESSION_AFTER_A, NONE, NONE, NONE, NONE], // 212 ExpressionA
+    [EXPRESSION_AFTER_C, NONE, NONE, NONE, NONE], // 213 ExpressionC
+    [EXPRESSION_AFTER_D, NONE, NONE, NONE, NONE], // 214 ExpressionD
+    [EXPRESSION_AFTER_E, NONE, NONE, NONE, NONE], // 215 ExpressionE
+    [EXPRESSION_AFTER_F, NONE, NONE, NONE, NONE], // 216 ExpressionF
+    [EXPRESSION_AFTER_G, NONE, NONE, NONE, NONE], // 217 ExpressionG
+    [EXPRESSION_AFTER_I, NONE, NONE, NONE, NONE], // 218 ExpressionI
+    [EXPRESSION_AFTER_L, NONE, NONE, NONE, NONE], // 219 ExpressionL
+    [EXPRESSION_AFTER_M, NONE, NONE, NONE, NONE], // 220 ExpressionM
+    [EXPRESSION_AFTER_N, NONE, NONE, NONE, NONE], // 221 ExpressionN
+    [EXPRESSION_AFTER_O, NONE, NONE, NONE, NONE], // 222 ExpressionO
+    [EXPRESSION_AFTER_P, NONE, NONE, NONE, NONE], // 223 ExpressionP
+    [EXPRESSION_AFTER_Q, NONE, NONE, NONE, NONE], // 224 ExpressionQ
+    [EXPRESSION_AFTER_R, NONE, NONE, NONE, NONE], // 225 ExpressionR
+    [EXPRESSION_AFTER_S, NONE, NONE, NONE, NONE], // 226 ExpressionS
+    [EXPRESSION_AFTER_T, NONE, NONE, NONE, NONE], // 227 ExpressionT
+    [EXPRESSION_PARAMETER, NONE, NONE, NONE, NONE], // 228 ExpressionWithT
+    [DECIMAL, ARGUMENTS_ALONE, NONE, NONE, NONE], // 229 ParameterExpression
+    [BOUND, Sym::Byte(b'_'), TYPE, NONE, NONE], // 230 BoundedArray
+    [DECLARATION_AFTER_T, ONE_ARGUMENT, NONE, NONE, NONE], // 231 DeclaredArgument
+    [NAME, MAYBE_TAGS, NONE, NONE, NONE], // 232 TypeTag
+    [CLONE_LETTER, ENCODING, NONE, NONE, NONE], // 233 Clone
+    [Sym::Byte(b'W'), FIRST_MODULE, NONE, NONE, NONE], // 234 ModuleInitializer
+    [TEMPORARY_NAME, Sym::Byte(b'_'), NONE, NONE, NONE], // 235 Temporary
+    [TYPE, NONE, NONE, NONE, NONE], // 236 Conversion
+    [LITERAL_PLAIN, NONE, NONE, NONE, NONE], // 237 ConstLiteral
+    [MAYBE_CONST, LITERAL_PLAIN, NONE, NONE, NONE], // 238 VolatileLiteral
+    [SIZED_FLOAT_TYPE, HEX_TEXT, NONE, NONE, NONE], // 239 SizedFloatLiteral
+    [FLOAT_TYPE, HEX_TEXT, NONE, NONE, NONE], // 240 FloatLiteral
+    [NAME, MAYBE_ARGUMENTS, NONE, NONE, NONE], // 241 Tag
+    [EXPRESSION, NONE, NONE, NONE, NONE], // 242 Constraint
+    [TYPE_PACK, EXPRESSION, NONE, NONE, NONE], // 243 IndexedType
+    [BIT_WIDTH, Sym::Byte(b'_'), NONE, NONE, NONE], // 244 BitInt
+    [CONCEPT, NONE, NONE, NONE, NONE], // 245 ConstrainedAuto
+    [TYPE, NAME, NONE, NONE, NONE], // 246 Enumeration
+    [DECIMAL, PLAIN_TYPE_ENTITY, NONE, NONE, NONE], // 247 DefaultTypeEntity
+    [DECIMAL, PLAIN_ENTITY, NONE, NONE, NONE], // 248 DefaultEntity
+    [INHERITED_DIGIT, BASE_CLASS, NONE, NONE, NONE], // 249 Inheriting
+    [UNQUALIFIED, MAYBE_ARGUMENTS, NONE, NONE, NONE], // 250 Friend
+    [HOLDER_MARK, HELD_COMPONENT, NONE, NONE, NONE], // 251 Holder
+    [NAME, NEST_REST, NONE, NONE, NONE], // 252 NestTag
+    [DECLTYPE_AFTER_D, NEST_REST_ALONE, NONE, NONE, NONE], // 253 NestDecltype
+    [NAME_IN_MODULE, NEST_ON, NONE, NONE, NONE], // 254 NestModule
+    [TYPE, DIGITS, Sym::Byte(b'_'), TYPE, NONE], // 255 ConstructionVtable
 };
 
 // How many symbols follow each of them, up to an end.
-static AFTER: [u8; 1536] = [
-    0, 0, 0, 0, 0, 2, 1, 0, 0, 0, 0, 1, 0, 0, 0, 0, 0, 1, 0, 0, 0, 0, 0, 1, 0, 0, 0, 0, 0, 1, 0, 0,
-    0, 0, 0, 1, 0, 0, 0, 0, 0, 1, 0, 0, 0, 0, 0, 1, 0, 0, 0, 0, 0, 2, 1, 0, 0, 0, 0, 1, 0, 0, 0, 0,
-    0, 1, 0, 0, 0, 0, 0, 0, 0, 0, 0, 0, 0, 1, 0, 0, 0, 0, 0, 1, 0, 0, 0, 0, 0, 1, 0, 0, 0, 0, 0, 1,
-    0, 0, 0, 0, 0, 1, 0, 0, 0, 0, 0, 1, 0, 0, 0, 0, 0, 1, 0, 0, 0, 0, 0, 2, 1, 0, 0, 0, 0, 2, 1, 0,
-    0, 0, 0, 1, 0, 0, 0, 0, 0, 2, 1, 0, 0, 0, 0, 2, 1, 0, 0, 0, 0, 2, 1, 0, 0, 0, 0, 2, 1, 0, 0, 0,
-    0, 1, 0, 0, 0, 0, 0, 2, 1, 0, 0, 0, 0, 1, 0, 0, 0, 0, 0, 1, 0, 0, 0, 0, 0, 1, 0, 0, 0, 0, 0, 2,
+static AFTER: [u8; 1542] = [
+    0, 0, 0, 0, 0, 2, 1, 0, 0, 0, 0, 2, 1, 0, 0, 0, 0, 2, 1, 0, 0, 0, 0, 1, 0, 0, 0, 0, 0, 1, 0, 0,
+    0, 0, 0, 1, 0, 0, 0, 0, 0, 1, 0, 0, 0, 0, 0, 1, 0, 0, 0, 0, 0, 1, 0, 0, 0, 0, 0, 2, 1, 0, 0, 0,
+    0, 1, 0, 0, 0, 0, 0, 1, 0, 0, 0, 0, 0, 0, 0, 0, 0, 0, 0, 1, 0, 0, 0, 0, 0, 1, 0, 0, 0, 0, 0, 1,
+    0, 0, 0, 0, 0, 1, 0, 0, 0, 0, 0, 1, 0, 0, 0, 0, 0, 1, 0, 0, 0, 0, 0, 1, 0, 0, 0, 0, 0, 2, 1, 0,
+    0, 0, 0, 2, 1, 0, 0, 0, 0, 1, 0, 0, 0, 0, 0, 3, 2, 1, 0, 0, 0, 2, 1, 0, 0, 0, 0, 2, 1, 0, 0, 0,
+    0, 2, 1, 0, 0, 0, 0, 2, 1, 0, 0, 0, 0, 1, 0, 0, 0, 0, 0, 1, 0, 0, 0, 0, 0, 1, 0, 0, 0, 0, 0, 2,
     1, 0, 0, 0, 0, 1, 0, 0, 0, 0, 0, 0, 0, 0, 0, 0, 0, 2, 1, 0, 0, 0, 0, 2, 1, 0, 0, 0, 0, 2, 1, 0,
-    0, 0, 0, 2, 1, 0, 0, 0, 0, 1, 0, 0, 0, 0, 0, 1, 0, 0, 0, 0, 0, 1, 0, 0, 0, 0, 0, 2, 1, 0, 0, 0,
-    0, 2, 1, 0, 0, 0, 0, 5, 4, 3, 2, 1, 0, 3, 2, 1, 0, 0, 0, 1, 0, 0, 0, 0, 0, 1, 0, 0, 0, 0, 0, 1,
-    0, 0, 0, 0, 0, 2, 1, 0, 0, 0, 0, 2, 1, 0, 0, 0, 0, 1, 0, 0, 0, 0, 0, 3, 2, 1, 0, 0, 0, 5, 4, 3,
-    2, 1, 0, 3, 2, 1, 0, 0, 0, 1, 0, 0, 0, 0, 0, 2, 1, 0, 0, 0, 0, 4, 3, 2, 1, 0, 0, 1, 0, 0, 0, 0,
-    0, 1, 0, 0, 0, 0, 0, 1, 0, 0, 0, 0, 0, 4, 3, 2, 1, 0, 0, 2, 1, 0, 0, 0, 0, 2, 1, 0, 0, 0, 0, 1,
-    0, 0, 0, 0, 0, 1, 0, 0, 0, 0, 0, 2, 1, 0, 0, 0, 0, 2, 1, 0, 0, 0, 0, 2, 1, 0, 0, 0, 0, 2, 1, 0,
-    0, 0, 0, 3, 2, 1, 0, 0, 0, 2, 1, 0, 0, 0, 0, 4, 3, 2, 1, 0, 0, 2, 1, 0, 0, 0, 0, 0, 0, 0, 0, 0,
-    0, 1, 0, 0, 0, 0, 0, 2, 1, 0, 0, 0, 0, 1, 0, 0, 0, 0, 0, 2, 1, 0, 0, 0, 0, 2, 1, 0, 0, 0, 0, 0,
-    0, 0, 0, 0, 0, 1, 0, 0, 0, 0, 0, 1, 0, 0, 0, 0, 0, 0, 0, 0, 0, 0, 0, 1, 0, 0, 0, 0, 0, 0, 0, 0,
-    0, 0, 0, 2, 1, 0, 0, 0, 0, 4, 3, 2, 1, 0, 0, 1, 0, 0, 0, 0, 0, 3, 2, 1, 0, 0, 0, 2, 1, 0, 0, 0,
-    0, 1, 0, 0, 0, 0, 0, 1, 0, 0, 0, 0, 0, 1, 0, 0, 0, 0, 0, 1, 0, 0, 0, 0, 0, 1, 0, 0, 0, 0, 0, 1,
-    0, 0, 0, 0, 0, 1, 0, 0, 0, 0, 0, 1, 0, 0, 0, 0, 0, 1, 0, 0, 0, 0, 0, 0, 0, 0, 0, 0, 0, 3, 2, 1,
-    0, 0, 0, 4, 3, 2, 1, 0, 0, 2, 1, 0, 0, 0, 0, 2, 1, 0, 0, 0, 0, 1, 0, 0, 0, 0, 0, 2, 1, 0, 0, 0,
-    0, 2, 1, 0, 0, 0, 0, 2, 1, 0, 0, 0, 0, 4, 3, 2, 1, 0, 0, 0, 0, 0, 0, 0, 0, 1, 0, 0, 0, 0, 0, 1,
-    0, 0, 0, 0, 0, 3, 2, 1, 0, 0, 0, 1, 0, 0, 0, 0, 0, 1, 0, 0, 0, 0, 0, 1, 0, 0, 0, 0, 0, 1, 0, 0,
-    0, 0, 0, 0, 0, 0, 0, 0, 0, 1, 0, 0, 0, 0, 0, 1, 0, 0, 0, 0, 0, 2, 1, 0, 0, 0, 0, 0, 0, 0, 0, 0,
-    0, 2, 1, 0, 0, 0, 0, 2, 1, 0, 0, 0, 0, 2, 1, 0, 0, 0, 0, 2, 1, 0, 0, 0, 0, 3, 2, 1, 0, 0, 0, 3,
-    2, 1, 0, 0, 0, 2, 1, 0, 0, 0, 0, 3, 2, 1, 0, 0, 0, 2, 1, 0, 0, 0, 0, 2, 1, 0, 0, 0, 0, 1, 0, 0,
-    0, 0, 0, 1, 0, 0, 0, 0, 0, 2, 1, 0, 0, 0, 0, 1, 0, 0, 0, 0, 0, 1, 0, 0, 0, 0, 0, 1, 0, 0, 0, 0,
+    0, 0, 0, 2, 1, 0, 0, 0, 0, 2, 1, 0, 0, 0, 0, 1, 0, 0, 0, 0, 0, 1, 0, 0, 0, 0, 0, 1, 0, 0, 0, 0,
+    0, 2, 1, 0, 0, 0, 0, 2, 1, 0, 0, 0, 0, 5, 4, 3, 2, 1, 0, 3, 2, 1, 0, 0, 0, 1, 0, 0, 0, 0, 0, 1,
+    0, 0, 0, 0, 0, 1, 0, 0, 0, 0, 0, 2, 1, 0, 0, 0, 0, 2, 1, 0, 0, 0, 0, 1, 0, 0, 0, 0, 0, 3, 2, 1,
+    0, 0, 0, 5, 4, 3, 2, 1, 0, 3, 2, 1, 0, 0, 0, 1, 0, 0, 0, 0, 0, 2, 1, 0, 0, 0, 0, 4, 3, 2, 1, 0,
+    0, 1, 0, 0, 0, 0, 0, 1, 0, 0, 0, 0, 0, 1, 0, 0, 0, 0, 0, 4, 3, 2, 1, 0, 0, 2, 1, 0, 0, 0, 0, 2,
+    1, 0, 0, 0, 0, 1, 0, 0, 0, 0, 0, 1, 0, 0, 0, 0, 0, 2, 1, 0, 0, 0, 0, 2, 1, 0, 0, 0, 0, 2, 1, 0,
+    0, 0, 0, 2, 1, 0, 0, 0, 0, 3, 2, 1, 0, 0, 0, 2, 1, 0, 0, 0, 0, 4, 3, 2, 1, 0, 0, 2, 1, 0, 0, 0,
+    0, 0, 0, 0, 0, 0, 0, 1, 0, 0, 0, 0, 0, 2, 1, 0, 0, 0, 0, 1, 0, 0, 0, 0, 0, 2, 1, 0, 0, 0, 0, 2,
+    1, 0, 0, 0, 0, 2, 1, 0, 0, 0, 0, 0, 0, 0, 0, 0, 0, 1, 0, 0, 0, 0, 0, 1, 0, 0, 0, 0, 0, 0, 0, 0,
+    0, 0, 0, 1, 0, 0, 0, 0, 0, 0, 0, 0, 0, 0, 0, 2, 1, 0, 0, 0, 0, 4, 3, 2, 1, 0, 0, 1, 0, 0, 0, 0,
+    0, 3, 2, 1, 0, 0, 0, 2, 1, 0, 0, 0, 0, 1, 0, 0, 0, 0, 0, 1, 0, 0, 0, 0, 0, 1, 0, 0, 0, 0, 0, 1,
+    0, 0, 0, 0, 0, 1, 0, 0, 0, 0, 0, 1, 0, 0, 0, 0, 0, 1, 0, 0, 0, 0, 0, 1, 0, 0, 0, 0, 0, 1, 0, 0,
+    0, 0, 0, 0, 0, 0, 0, 0, 0, 3, 2, 1, 0, 0, 0, 4, 3, 2, 1, 0, 0, 2, 1, 0, 0, 0, 0, 2, 1, 0, 0, 0,
+    0, 1, 0, 0, 0, 0, 0, 2, 1, 0, 0, 0, 0, 2, 1, 0, 0, 0, 0, 2, 1, 0, 0, 0, 0, 4, 3, 2, 1, 0, 0, 0,
+    0, 0, 0, 0, 0, 1, 0, 0, 0, 0, 0, 1, 0, 0, 0, 0, 0, 3, 2, 1, 0, 0, 0, 1, 0, 0, 0, 0, 0, 1, 0, 0,
+    0, 0, 0, 1, 0, 0, 0, 0, 0, 1, 0, 0, 0, 0, 0, 0, 0, 0, 0, 0, 0, 1, 0, 0, 0, 0, 0, 1, 0, 0, 0, 0,
+    0, 2, 1, 0, 0, 0, 0, 0, 0, 0, 0, 0, 0, 2, 1, 0, 0, 0, 0, 2, 1, 0, 0, 0, 0, 2, 1, 0, 0, 0, 0, 2,
+    1, 0, 0, 0, 0, 3, 2, 1, 0, 0, 0, 3, 2, 1, 0, 0, 0, 2, 1, 0, 0, 0, 0, 3, 2, 1, 0, 0, 0, 2, 1, 0,
+    0, 0, 0, 2, 1, 0, 0, 0, 0, 1, 0, 0, 0, 0, 0, 1, 0, 0, 0, 0, 0, 2, 1, 0, 0, 0, 0, 1, 0, 0, 0, 0,
     0, 1, 0, 0, 0, 0, 0, 1, 0, 0, 0, 0, 0, 1, 0, 0, 0, 0, 0, 1, 0, 0, 0, 0, 0, 1, 0, 0, 0, 0, 0, 1,
     0, 0, 0, 0, 0, 1, 0, 0, 0, 0, 0, 1, 0, 0, 0, 0, 0, 1, 0, 0, 0, 0, 0, 1, 0, 0, 0, 0, 0, 1, 0, 0,
     0, 0, 0, 1, 0, 0, 0, 0, 0, 1, 0, 0, 0, 0, 0, 1, 0, 0, 0, 0, 0, 1, 0, 0, 0, 0, 0, 1, 0, 0, 0, 0,
-    0, 3, 2, 1, 0, 0, 0, 2, 1, 0, 0, 0, 0, 2, 1, 0, 0, 0, 0, 3, 2, 1, 0, 0, 0, 2, 1, 0, 0, 0, 0, 2,
-    1, 0, 0, 0, 0, 2, 1, 0, 0, 0, 0, 2, 1, 0, 0, 0, 0, 1, 0, 0, 0, 0, 0, 2, 1, 0, 0, 0, 0, 3, 2, 1,
-    0, 0, 0, 3, 2, 1, 0, 0, 0, 2, 1, 0, 0, 0, 0, 2, 1, 0, 0, 0, 0, 1, 0, 0, 0, 0, 0, 1, 0, 0, 0, 0,
-    0, 2, 1, 0, 0, 0, 0, 2, 1, 0, 0, 0, 0, 2, 1, 0, 0, 0, 0, 2, 1, 0, 0, 0, 0, 0, 0, 0, 0, 0, 0, 1,
-    0, 0, 0, 0, 0, 1, 0, 0, 0, 0, 0, 2, 1, 0, 0, 0, 0, 2, 1, 0, 0, 0, 0, 2, 1, 0, 0, 0, 0, 2, 1, 0,
-    0, 0, 0, 2, 1, 0, 0, 0, 0, 2, 1, 0, 0, 0, 0, 2, 1, 0, 0, 0, 0, 4, 3, 2, 1, 0, 0, 1, 0, 0, 0, 0,
-    0, 2, 1, 0, 0, 0, 0, 1, 0, 0, 0, 0, 0, 1, 0, 0, 0, 0, 0, 3, 2, 1, 0, 0, 0, 2, 1, 0, 0, 0, 0, 2,
-    1, 0, 0, 0, 0, 2, 1, 0, 0, 0, 0, 1, 0, 0, 0, 0, 0, 2, 1, 0, 0, 0, 0, 2, 1, 0, 0, 0, 0, 2, 1, 0,
-    0, 0, 0, 2, 1, 0, 0, 0, 0, 2, 1, 0, 0, 0, 0, 3, 2, 1, 0, 0, 0, 3, 2, 1, 0, 0, 0, 2, 1, 0, 0, 0,
-    0, 1, 0, 0, 0, 0, 0, 1, 0, 0, 0, 0, 0, 1, 0, 0, 0, 0, 0, 1, 0, 0, 0, 0, 0, 2, 1, 0, 0, 0, 0, 3,
-    2, 1, 0, 0, 0, 0, 0, 0, 0, 0, 0, 1, 0, 0, 0, 0, 0, 1, 0, 0, 0, 0, 0, 1, 0, 0, 0, 0, 0, 1, 0, 0,
+    0, 1, 0, 0, 0, 0, 0, 1, 0, 0, 0, 0, 0, 3, 2, 1, 0, 0, 0, 2, 1, 0, 0, 0, 0, 2, 1, 0, 0, 0, 0, 3,
+    2, 1, 0, 0, 0, 1, 0, 0, 0, 0, 0, 2, 1, 0, 0, 0, 0, 2, 1, 0, 0, 0, 0, 2, 1, 0, 0, 0, 0, 2, 1, 0,
+    0, 0, 0, 2, 1, 0, 0, 0, 0, 1, 0, 0, 0, 0, 0, 2, 1, 0, 0, 0, 0, 3, 2, 1, 0, 0, 0, 3, 2, 1, 0, 0,
+    0, 2, 1, 0, 0, 0, 0, 2, 1, 0, 0, 0, 0, 1, 0, 0, 0, 0, 0, 1, 0, 0, 0, 0, 0, 2, 1, 0, 0, 0, 0, 2,
+    1, 0, 0, 0, 0, 2, 1, 0, 0, 0, 0, 2, 1, 0, 0, 0, 0, 1, 0, 0, 0, 0, 0, 1, 0, 0, 0, 0, 0, 2, 1, 0,
+    0, 0, 0, 2, 1, 0, 0, 0, 0, 2, 1, 0, 0, 0, 0, 2, 1, 0, 0, 0, 0, 2, 1, 0, 0, 0, 0, 2, 1, 0, 0, 0,
+    0, 2, 1, 0, 0, 0, 0, 4, 3, 2, 1, 0, 0, 1, 0, 0, 0, 0, 0, 2, 1, 0, 0, 0, 0, 1, 0, 0, 0, 0, 0, 1,
+    0, 0, 0, 0, 0, 3, 2, 1, 0, 0, 0, 2, 1, 0, 0, 0, 0, 2, 1, 0, 0, 0, 0, 2, 1, 0, 0, 0, 0, 1, 0, 0,
+    0, 0, 0, 2, 1, 0, 0, 0, 0, 2, 1, 0, 0, 0, 0, 2, 1, 0, 0, 0, 0, 2, 1, 0, 0, 0, 0, 2, 1, 0, 0, 0,
+    0, 3, 2, 1, 0, 0, 0, 3, 2, 1, 0, 0, 0, 2, 1, 0, 0, 0, 0, 1, 0, 0, 0, 0, 0, 1, 0, 0, 0, 0, 0, 1,
+    0, 0, 0, 0, 0, 1, 0, 0, 0, 0, 0, 2, 1, 0, 0, 0, 0, 3, 2, 1, 0, 0, 0, 0, 0, 0, 0, 0, 0, 1, 0, 0,
     0, 0, 0, 1, 0, 0, 0, 0, 0, 1, 0, 0, 0, 0, 0, 1, 0, 0, 0, 0, 0, 1, 0, 0, 0, 0, 0, 1, 0, 0, 0, 0,
     0, 1, 0, 0, 0, 0, 0, 1, 0, 0, 0, 0, 0, 1, 0, 0, 0, 0, 0, 1, 0, 0, 0, 0, 0, 1, 0, 0, 0, 0, 0, 1,
-    0, 0, 0, 0, 0, 1, 0, 0, 0, 0, 0, 1, 0, 0, 0, 0, 0, 2, 1, 0, 0, 0, 0, 2, 1, 0, 0, 0, 0, 2, 1, 0,
-    0, 0, 0, 3, 2, 1, 0, 0, 0, 2, 1, 0, 0, 0, 0, 2, 1, 0, 0, 0, 0, 2, 1, 0, 0, 0, 0, 2, 1, 0, 0, 0,
-    0, 2, 1, 0, 0, 0, 0, 1, 0, 0, 0, 0, 0, 1, 0, 0, 0, 0, 0, 2, 1, 0, 0, 0, 0, 2, 1, 0, 0, 0, 0, 2,
-    1, 0, 0, 0, 0, 2, 1, 0, 0, 0, 0, 1, 0, 0, 0, 0, 0, 2, 1, 0, 0, 0, 0, 2, 1, 0, 0, 0, 0, 1, 0, 0,
-    0, 0, 0, 2, 1, 0, 0, 0, 0, 2, 1, 0, 0, 0, 0, 2, 1, 0, 0, 0, 0, 2, 1, 0, 0, 0, 0, 2, 1, 0, 0, 0,
-    0, 2, 1, 0, 0, 0, 0, 2, 1, 0, 0, 0, 0, 2, 1, 0, 0, 0, 0, 2, 1, 0, 0, 0, 0, 4, 3, 2, 1, 0, 0, 0,
+    0, 0, 0, 0, 0, 1, 0, 0, 0, 0, 0, 1, 0, 0, 0, 0, 0, 1, 0, 0, 0, 0, 0, 1, 0, 0, 0, 0, 0, 1, 0, 0,
+    0, 0, 0, 2, 1, 0, 0, 0, 0, 3, 2, 1, 0, 0, 0, 2, 1, 0, 0, 0, 0, 2, 1, 0, 0, 0, 0, 2, 1, 0, 0, 0,
+    0, 2, 1, 0, 0, 0, 0, 2, 1, 0, 0, 0, 0, 1, 0, 0, 0, 0, 0, 1, 0, 0, 0, 0, 0, 2, 1, 0, 0, 0, 0, 2,
+    1, 0, 0, 0, 0, 2, 1, 0, 0, 0, 0, 2, 1, 0, 0, 0, 0, 1, 0, 0, 0, 0, 0, 2, 1, 0, 0, 0, 0, 2, 1, 0,
+    0, 0, 0, 1, 0, 0, 0, 0, 0, 2, 1, 0, 0, 0, 0, 2, 1, 0, 0, 0, 0, 2, 1, 0, 0, 0, 0, 2, 1, 0, 0, 0,
+    0, 2, 1, 0, 0, 0, 0, 2, 1, 0, 0, 0, 0, 2, 1, 0, 0, 0, 0, 2, 1, 0, 0, 0, 0, 2, 1, 0, 0, 0, 0, 4,
+    3, 2, 1, 0, 0, 0,
 ];
 
 /// The number of the rule that a kind takes at a byte, if it takes one.
 #[inline]
 fn number(kind: u16, byte: u8) -> Option<usize>
     requires { kind < abi.kinds }
-    ensures few { IfSome result (λ number. number < 255) }
+    ensures few { IfSome result (λ number. number < 256) }
     ensures rule { (head : Head) → MatchOption result (abi.rule kind byte ≡ None) (λ number. abi.rule kind byte ≡ Some (listed_rule head number)) }
 {
     match letter_in(&LETTERS[kind as usize], byte) {

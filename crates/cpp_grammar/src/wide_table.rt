@@ -21,70 +21,70 @@ macro_rules! rows {
 }
 
 // For each kind a row: for each byte from `$` to `z` the letter of the production that the kind takes there.
-static WIDE_ROWS: [Row; 172] = rows! {
+static WIDE_ROWS: [Row; 176] = rows! {
     // $%&'()*+,-./0123456789:;<=>?@ABCDEFGHIJKLMNOPQRSTUVWXYZ[\]^_`abcdefghijklmnopqrstuvwxyz
-    [0, b"                                                           ,                           "], // Symbol
-    [0, b"          -                                                                            "], // MaybeSuffix
-    [0, b".         . ..........       ..........................    . .........................."], // SuffixFirst
-    [0, b".         . ..........       ..........................    . .........................."], // SuffixMore
-    [0, b"            1111111111             0    1 1    1/1 1  1      1 111 1 1  11111 11       "], // Encoding
-    [1, b"                             \x1f \xfd    51         11 15           4    2             3    "], // Special
-    [0, b"                                                                    7             8    "], // CallOffset
-    [0, b"            ::::::::::                                                    9            "], // Integer
-    [0, b"            $$$$$$$$$$                  \" +    ; # )  <      % %%% % %  %%%%% %%       "], // CompleteName
+    [0, b"                                                           -                           "], // Symbol
+    [0, b"          .                                                                            "], // MaybeSuffix
+    [0, b"/         / //////////       //////////////////////////    / //////////////////////////"], // SuffixFirst
+    [0, b"/         / //////////       //////////////////////////    / //////////////////////////"], // SuffixMore
+    [0, b"            2222222222          2  1    2 2    202 2  2      2 222 2 2  22222 22       "], // Encoding
+    [1, b"                             \x1f \xfe    62         22 26           5    3             4    "], // Special
+    [0, b"                                                                    8             9    "], // CallOffset
+    [0, b"            ;;;;;;;;;;                                                    :            "], // Integer
+    [0, b"            $$$$$$$$$$          &       \" ,    < # *  =      % %%% % %  %%%%% %%       "], // CompleteName
     [0, b"                                                                              !        "], // MaybeRestrict
     [0, b"                                                  !                                    "], // MaybeVolatile
     [0, b"                                       !                                               "], // MaybeConst
     [0, b"                                    !      !  !                                        "], // MaybeRef
-    [0, b"            >>>>>>>>>>       >>>>>>>>>>>>>>>>>>>>>>>>>>    > >> >    >     >   >=      "], // NameAfterS
-    [0, b"            ((((((((((                  &        '           ? ??? ? ?  ????? ??       "], // Unqualified
-    [0, b"            DDDDDDDDDD          \xfc       B      @AC \xfd                                   "], // Nest
-    [0, b"            FFFFFFFFFF       FFFFFFFFFFFFFFFFFFFFFFFFFF    F FF F    F     F   FE      "], // NestAfterS
-    [0, b"            HHHHHHHHHH        \xfbHH H  G  HH     H H H         H HHH H H  HHHHH HH       "], // NestRest
-    [0, b"            HHHHHHHHHH         HHIH     HH     H H H         H HHH H H  HHHHH HH       "], // NestTail
-    [0, b"            $$$$$$$$$$         JK \xf9     \"\xfa     * # )         M LMM M M  MMMMM MM       "], // Component
-    [0, b"             NNNNN                   \xf8                                                 "], // ConstructorAfterC
+    [0, b"            ??????????       ??????????????????????????    ? ?? ?    ?     ?   ?>      "], // NameAfterS
+    [0, b"            ))))))))))                  '        (           @ @@@ @ @  @@@@@ @@       "], // Unqualified
+    [0, b"            EEEEEEEEEE          \xfd       C      ABD \xfe                                   "], // Nest
+    [0, b"            GGGGGGGGGG       GGGGGGGGGGGGGGGGGGGGGGGGGG    G GG G    G     G   GF      "], // NestAfterS
+    [0, b"            IIIIIIIIII        \xfcII I  H  II     I I I         I III I I  IIIII II       "], // NestRest
+    [0, b"            IIIIIIIIII         IIJI     II     I I I         I III I I  IIIII II       "], // NestTail
+    [0, b"            $$$$$$$$$$         KL \xfa     \"\xfb     + # *         N MNN N N  NNNNN NN       "], // Component
+    [0, b"             OOOOO                   \xf9                                                 "], // ConstructorAfterC
     [0, b"             !!!!!                                                                     "], // ConstructorDigit
     [0, b"             !! !!                                                                     "], // InheritedDigit
-    [0, b"            !!! !!                                                                     "], // DestructorDigit
-    [0, b"            PPPPPPPPPP       PPPPPPPPPPPPPPPPPPPPPPPPPP    P OO O    O     O   O       "], // Abbreviation
-    [0, b"            $$$$$$$$$$                  \" +      #              \xf7              R       "], // Entity
-    [0, b"            $$$$$$$$$$                  \" Q      #              \xf6                      "], // TypeEntity
-    [0, b"                                                           S                           "], // MaybeDiscriminator
-    [0, b"            TTTTTTTTTT                                     U                           "], // DiscriminatorRest
-    [0, b"                                                                 \xf5      V       W      "], // Anonymous
-    [0, b"            \\\\\\\\\\\\\\\\\\\\       \\ \\] \\    Z \\\\[\\ [\\\\\\Y\\  \\      \\\\\\\\\\\\\\\\\\\\ \\\\\\\\  X\\\\\\\\\\\\\\\\"], // Type
-    [0, b"            __________       _ _^ _      __[_ [___ _  _      __________ ____   ________"], // Plain
-    [0, b"            \\\\\\\\\\\\\\\\\\\\       \\ \\` \\    Z \\\\[\\ [\\\\\\Y\\  \\      \\\\\\\\\\\\\\\\\\\\ \\\\\\\\  X\\\\\\\\\\\\\\\\"], // Item
-    [0, b"            \\\\\\\\\\\\\\\\\\\\       \\ \\` \\    Z \\\\ \\  \\\\\\Y\\  \\      \\\\\\\\\\\\\\\\\\\\ \\\\\\\\  X\\\\\\\\\\\\\\\\"], // ItemButRef
-    [0, b"                              b   b    b        bb           b bbbb bb b  bba  bbbb  b "], // ItemAfterD
-    [0, b"                              \xf3   f    \xf4        g\xf3           c cccc cc \xf4  ce   cgcd  \xf2 "], // AfterD
-    [0, b"            $$$$$$$$$$       o q  p      iQ h  kj# )  l      mmmmmmmmmm mmmm   mmnmmmmm"], // Solid
+    [0, b"            !!! !!             P                                                       "], // ComponentAfterD
+    [0, b"            RRRRRRRRRR       RRRRRRRRRRRRRRRRRRRRRRRRRR    R QQ Q    Q     Q   Q       "], // Abbreviation
+    [0, b"            $$$$$$$$$$          &       \" ,      #              \xf8              T       "], // Entity
+    [0, b"            $$$$$$$$$$                  \" S      #              \xf7                      "], // TypeEntity
+    [0, b"                                                           U                           "], // MaybeDiscriminator
+    [0, b"            VVVVVVVVVV                                     W                           "], // DiscriminatorRest
+    [0, b"                                                                 \xf6      X       Y      "], // Anonymous
+    [0, b"            ^^^^^^^^^^       ^ ^_ ^    \\ ^^]^ ]^^^[^  ^      ^^^^^^^^^^ ^^^^  Z^^^^^^^^"], // Type
+    [0, b"            aaaaaaaaaa       a a` a      aa]a ]aaa a  a      aaaaaaaaaa aaaa   aaaaaaaa"], // Plain
+    [0, b"            ^^^^^^^^^^       ^ ^b ^    \\ ^^]^ ]^^^[^  ^      ^^^^^^^^^^ ^^^^  Z^^^^^^^^"], // Item
+    [0, b"            ^^^^^^^^^^       ^ ^b ^    \\ ^^ ^  ^^^[^  ^      ^^^^^^^^^^ ^^^^  Z^^^^^^^^"], // ItemButRef
+    [0, b"                              d   d    d        dd           d dddd dd d  ddc  dddd  d "], // ItemAfterD
+    [0, b"                              \xf4   h    \xf5        i\xf4           e eeee ee \xf5  eg   eief  \xf3 "], // AfterD
+    [0, b"            $$$$$$$$$$       q s  r      kS j  ml# *  n      oooooooooo oooo   oopooooo"], // Solid
     [0, b"                                                     !                                 "], // MaybeCLinkage
-    [0, b"            rrrrrrrrrr                                                                 "], // BitWidth
-    [0, b"            tttttttttt       tttttttttttttttttttttttttt    t tt t    t     t   ts      "], // TypeAfterS
-    [0, b"            ((((((((((                  &        '                                     "], // SourceOrLocal
-    [0, b"            xxxxxxxxxx       x xxux    x xxwx vxxxxx  x      xxxxxxxxxx xxxx  xxxxxxxxx"], // FunctionRest
-    [0, b"            zzzzzzzzzz       z zzyz    z zzzz zzzzzz  z      zzzzzzzzzz zzzz  zzzzzzzzz"], // AfterR
-    [0, b"            {{{{{{{{{{       { {{y{    { {{{{ {{{{{{  {      {{{{{{{{{{ {{{{  {{{{{{{{{"], // AfterO
-    [0, b"            ||||||||||       | || |    | ||||\xf1||||||  |      |||||||||| ||||  |||||||||"], // Items
-    [0, b"                              \xf0      }                                                 "], // MaybeArguments
-    [0, b"                                     }                                                 "], // Arguments
-    [0, b"            \x80\x80\x80\x80\x80\x80\x80\x80\x80\x80       \x80 \x80\x80 \x80   ~\x80\x7f\x80\x80\x80\x80\xf1\x80\x80\x80\x80\x80\x80\x80 \x80      \x80\x80\x80\x80\x80\x80\x80\x80\x80\x80 \x80\x80\x80\x80  \x80\x80\x80\x80\x80\x80\x80\x80\x80"], // ArgumentList
-    [0, b"            \x82\x82\x82\x82\x82\x82\x82\x82\x82\x82       \x82 \x82\x82 \x82    \x82\x81\x82\x82\x82\x82 \x82\x82\x82\x82\x82\x82\x82 \x82      \x82\x82\x82\x82\x82\x82\x82\x82\x82\x82 \x82\x82\x82\x82  \x82\x82\x82\x82\x82\x82\x82\x82\x82"], // PackList
-    [0, b"            \x86\x86\x86\x86\x86\x86\x86\x86\x86\x86          \x85      \x86 \x86\x86 \x86  \x86\x86\x86\x86\x86  \x86    \x83 \x86\x84\x86\xef\xef\xef\xef\x86\x86\x86 \x86\x86\x86\x86   \x86\x86  \x86\x86\x86 "], // Literal
+    [0, b"            tttttttttt                                                                 "], // BitWidth
+    [0, b"            vvvvvvvvvv       vvvvvvvvvvvvvvvvvvvvvvvvvv    v vv v    v     v   vu      "], // TypeAfterS
+    [0, b"            ))))))))))                  '        (                                     "], // SourceOrLocal
+    [0, b"            zzzzzzzzzz       z zzwz    z zzyz xzzzzz  z      zzzzzzzzzz zzzz  zzzzzzzzz"], // FunctionRest
+    [0, b"            ||||||||||       | ||{|    | |||| ||||||  |      |||||||||| ||||  |||||||||"], // AfterR
+    [0, b"            }}}}}}}}}}       } }}{}    } }}}} }}}}}}  }      }}}}}}}}}} }}}}  }}}}}}}}}"], // AfterO
+    [0, b"            ~~~~~~~~~~       ~ ~~ ~    ~ ~~~~\xf2~~~~~~  ~      ~~~~~~~~~~ ~~~~  ~~~~~~~~~"], // Items
+    [0, b"                              \xf1      \x7f                                                 "], // MaybeArguments
+    [0, b"                                     \x7f                                                 "], // Arguments
+    [0, b"            \x82\x82\x82\x82\x82\x82\x82\x82\x82\x82       \x82 \x82\x82 \x82   \x80\x82\x81\x82\x82\x82\x82\xf2\x82\x82\x82\x82\x82\x82\x82 \x82      \x82\x82\x82\x82\x82\x82\x82\x82\x82\x82 \x82\x82\x82\x82  \x82\x82\x82\x82\x82\x82\x82\x82\x82"], // ArgumentList
+    [0, b"            \x84\x84\x84\x84\x84\x84\x84\x84\x84\x84       \x84 \x84\x84 \x84    \x84\x83\x84\x84\x84\x84 \x84\x84\x84\x84\x84\x84\x84 \x84      \x84\x84\x84\x84\x84\x84\x84\x84\x84\x84 \x84\x84\x84\x84  \x84\x84\x84\x84\x84\x84\x84\x84\x84"], // PackList
+    [0, b"            \x88\x88\x88\x88\x88\x88\x88\x88\x88\x88          \x87      \x88 \x88\x88 \x88  \x88\x88\x88\x88\x88  \x88    \x85 \x88\x86\x88\xf0\xf0\xf0\xf0\x88\x88\x88 \x88\x88\x88\x88   \x88\x88  \x88\x88\x88 "], // Literal
     [0, b"            !!                                                                         "], // Bit
-    [0, b"                                  \xee                                  \x88    \x87    \x88 \x88     "], // LiteralAfterD
-    [0, b"                                                                mmmm                   "], // FloatType
-    [0, b"                                  f                                                    "], // SizedFloatType
-    [0, b"            \x89\x89\x89\x89\x89\x89\x89\x89\x89\x89                                       \x89\x89\x89\x89\x89\x89                    "], // HexText
-    [0, b"            \x8a\x8a\x8a\x8a\x8a\x8a\x8a\x8a\x8a\x8a                                       \x8a\x8a\x8a\x8a\x8a\x8a                    "], // HexDigits
-    [0, b"            \x8a\x8a\x8a\x8a\x8a\x8a\x8a\x8a\x8a\x8a                                       \x8a\x8a\x8a\x8a\x8a\x8a                    "], // HexMore
+    [0, b"                                  \xef                                  \x8a    \x89    \x8a \x8a     "], // LiteralAfterD
+    [0, b"                                                                oooo                   "], // FloatType
+    [0, b"                                  h                                                    "], // SizedFloatType
+    [0, b"            \x8b\x8b\x8b\x8b\x8b\x8b\x8b\x8b\x8b\x8b                                       \x8b\x8b\x8b\x8b\x8b\x8b                    "], // HexText
+    [0, b"            \x8c\x8c\x8c\x8c\x8c\x8c\x8c\x8c\x8c\x8c                                       \x8c\x8c\x8c\x8c\x8c\x8c                    "], // HexDigits
+    [0, b"            \x8c\x8c\x8c\x8c\x8c\x8c\x8c\x8c\x8c\x8c                                       \x8c\x8c\x8c\x8c\x8c\x8c                    "], // HexMore
     [0, b"            !                                                                          "], // MaybeZero
-    [0, b"            $$$$$$$$$$                 \xec iQ h  kj#\xed)  l      m m    mmm mmmm   mm  mmm "], // LiteralType
-    [0, b"            \x8b\x8b\x8b\x8b\x8b\x8b\x8b\x8b\x8b\x8b                   \x8b\x8b \x8b  \x8b\x8b\x8b \x8b  \x8b      \x8b \x8b    \x8b\x8b\x8b \x8b\x8b\x8b\x8b   \x8b\x8b  \x8b\x8b\x8b "], // LiteralPlain
-    [0, b"            $$$$$$$$$$                   iQ h  kj# )  l      m m    mmm mmmm   mm  mmm "], // LiteralSolid
-    [0, b"                                                             \x8e \x90\x8d\x94 \x98 \x97  \x95\x91\x8c\x93\x8f \x92\x96       "], // Operator
+    [0, b"            $$$$$$$$$$                 \xed kS j  ml#\xee*  n      o o    ooo oooo   oo  ooo "], // LiteralType
+    [0, b"            \x8d\x8d\x8d\x8d\x8d\x8d\x8d\x8d\x8d\x8d                   \x8d\x8d \x8d  \x8d\x8d\x8d \x8d  \x8d      \x8d \x8d    \x8d\x8d\x8d \x8d\x8d\x8d\x8d   \x8d\x8d  \x8d\x8d\x8d "], // LiteralPlain
+    [0, b"            $$$$$$$$$$                   kS j  ml# *  n      o o    ooo oooo   oo  ooo "], // LiteralSolid
+    [0, b"                                                             \x90 \x92\x8f\x96 \x9a \x99  \x97\x93\x8e\x95\x91 \x94\x98       "], // Operator
     [0, b"                                                             !   ! !            !  !   "], // OperatorAfterN
     [0, b"                                                  !          !   !      !         !    "], // OperatorAfterD
     [0, b"                                          !    !             !  !         !        !   "], // OperatorAfterA
@@ -94,114 +94,118 @@ static WIDE_ROWS: [Row; 172] = rows! {
     [0, b"                                         !     !                         !     !       "], // OperatorAfterR
     [0, b"                                              !                            !  !        "], // OperatorAfterO
     [0, b"                                           !                               ! !         "], // OperatorAfterE
-    [0, b"                                               !                 !   \x99         !!      "], // OperatorAfterL
+    [0, b"                                               !                 !   \x9b         !!      "], // OperatorAfterL
     [0, b"                                                                               !       "], // OperatorAfterS
     [0, b"                                                                                    !  "], // OperatorAfterI
     [0, b"                                                                 !              !      "], // OperatorAfterG
-    [0, b"            HHHHHHHHHH         HH H  \x9a  HH     H H H         H HHH H H  HHHHH HH       "], // NestRestOrEnd
-    [0, b"                                     }                                                 "], // ArgumentsAlone
-    [0, b"            HHHHHHHHHH         HH H  G  HH     H H H         H HHH H H  HHHHH HH       "], // NestRestAlone
-    [0, b"            \x9b\x9b\x9b\x9b\x9b\x9b\x9b\x9b\x9b\x9b                                                                 "], // FirstModule
-    [0, b"            \x9c\x9c\x9c\x9c\x9c\x9c\x9c\x9c\x9c\x9c       \x9c\x9c\x9c\x9c\x9c\x9c\x9c\x9c\x9c\x9c\x9c\x9c\x9c\x9c\x9c\x9c\x9c\x9c\x9c\x9c\x9c\x9c\x9c\x9c\x9c\x9c    \x9c                           "], // NamedModule
-    [0, b"                                                   \x9d                                   "], // MoreModule
+    [0, b"            IIIIIIIIII         II I  \x9c  II     I I I         I III I I  IIIII II       "], // NestRestOrEnd
+    [0, b"                                     \x7f                                                 "], // ArgumentsAlone
+    [0, b"            IIIIIIIIII         II I  H  II     I I I         I III I I  IIIII II       "], // NestRestAlone
+    [0, b"            \x9d\x9d\x9d\x9d\x9d\x9d\x9d\x9d\x9d\x9d                                                                 "], // FirstModule
+    [0, b"            \x9e\x9e\x9e\x9e\x9e\x9e\x9e\x9e\x9e\x9e       \x9e\x9e\x9e\x9e\x9e\x9e\x9e\x9e\x9e\x9e\x9e\x9e\x9e\x9e\x9e\x9e\x9e\x9e\x9e\x9e\x9e\x9e\x9e\x9e\x9e\x9e    \x9e                           "], // NamedModule
+    [0, b"                                                   \x9f                                   "], // MoreModule
     [0, b"                                            !                                          "], // MaybePartition
     [0, b"            $$$$$$$$$$                  \"        #           % %%% % %  %%%%% %%       "], // NameAfterModule
-    [0, b"                                                   )                                   "], // NameInModule
-    [0, b"            HHHHHHHHHH         HH H     HH     H H H         H HHH H H  HHHHH HH       "], // NestOn
+    [0, b"                                                   *                                   "], // NameInModule
+    [0, b"            IIIIIIIIII         II I     II     I I I         I III I I  IIIII II       "], // NestOn
     [0, b"                                         !                                             "], // HolderMark
-    [0, b"            $$$$$$$$$$         JK       \"      * # )         M LMM M M  MMMMM MM       "], // HeldComponent
+    [0, b"            $$$$$$$$$$         KL       \"      + # *         N MNN N N  NNNNN NN       "], // HeldComponent
+    [0, b"                               P                                                       "], // BindingAfterD
+    [0, b"            \xa1\xa1\xa1\xa1\xa1\xa1\xa1\xa1\xa1\xa1                  \xa1                                              "], // BoundNames
+    [0, b"            \xa1\xa1\xa1\xa1\xa1\xa1\xa1\xa1\xa1\xa1                  \xa1                                              "], // MoreNames
+    [0, b"            \xa0\xa0\xa0\xa0\xa0\xa0\xa0\xa0\xa0\xa0                  p                                              "], // BoundName
     [0, b"                                                           !  !                     !  "], // FloatEnd
-    [0, b"                                                                        \x9e\x9e \x9e      \xeb    "], // ComponentAfterC
-    [0, b"                                                             \x8e  \x8d\x94 \x98 \x97  \x95\x91\x8c\x93\x8f \x92\x96       "], // OtherOperator
-    [0, b"                                     \x9f                                                 "], // HeldArguments
-    [0, b"            \xa1\xa1\xa1\xa1\xa1\xa1\xa1\xa1\xa1\xa1                    \xa0    \xa1      l                                "], // BaseClass
-    [0, b"            \xa3\xa3\xa3\xa3\xa3\xa3\xa3\xa3\xa3\xa3                         \xa2                                       "], // UnnestedName
-    [0, b"                                     \xa4                                                 "], // BaseArguments
-    [0, b"            \x80\x80\x80\x80\x80\x80\x80\x80\x80\x80       \x80 \x80\x80 \x80  ~~\x80\x7f\x80\x80\x80\x80\xf1\x80\x80\x80\x80\x80\x80\x80 \x80      \x80\x80\x80\x80\x80\x80\x80\x80\x80\x80 \x80\x80\x80\x80  \x80\x80\x80\x80\x80\x80\x80\x80\x80"], // ArgumentsFirst
-    [0, b"            $$$$$$$$$$                  \" +      #                                     "], // PlainEntity
-    [0, b"            $$$$$$$$$$                  \" Q      #                                     "], // PlainTypeEntity
+    [0, b"                                                                        \xa2\xa2 \xa2      \xec    "], // ComponentAfterC
+    [0, b"                                                             \x90  \x8f\x96 \x9a \x99  \x97\x93\x8e\x95\x91 \x94\x98       "], // OtherOperator
+    [0, b"                                     \xa3                                                 "], // HeldArguments
+    [0, b"            \xa5\xa5\xa5\xa5\xa5\xa5\xa5\xa5\xa5\xa5                    \xa4    \xa5      n                                "], // BaseClass
+    [0, b"            \xa7\xa7\xa7\xa7\xa7\xa7\xa7\xa7\xa7\xa7                         \xa6                                       "], // UnnestedName
+    [0, b"                                     \xa8                                                 "], // BaseArguments
+    [0, b"            \x82\x82\x82\x82\x82\x82\x82\x82\x82\x82       \x82 \x82\x82 \x82  \x80\x80\x82\x81\x82\x82\x82\x82\xf2\x82\x82\x82\x82\x82\x82\x82 \x82      \x82\x82\x82\x82\x82\x82\x82\x82\x82\x82 \x82\x82\x82\x82  \x82\x82\x82\x82\x82\x82\x82\x82\x82"], // ArgumentsFirst
+    [0, b"            $$$$$$$$$$          &       \" ,      #                                     "], // PlainEntity
+    [0, b"            $$$$$$$$$$                  \" S      #                                     "], // PlainTypeEntity
     [0, b"                                   !                                                   "], // SpecialMark
-    [0, b"                                     \xe9        \xea \xe8 6                                    "], // SpecialAfterG
-    [0, b"            $$$$$$$$$$                  \" +    ; #    \xa5                                "], // TemporaryName
+    [0, b"                                     \xea        \xeb \xe9 7                                    "], // SpecialAfterG
+    [0, b"            $$$$$$$$$$          &       \" ,    < #    \xa9                                "], // TemporaryName
     [0, b"                                                                          !     !      "], // CloneLetter
-    [0, b"                                                                                \xa6      "], // TypeInStd
-    [0, b"                              \xe7                                                        "], // MaybeTags
-    [0, b"            \xa9\xa9\xa9\xa9\xa9\xa9\xa9\xa9\xa9\xa9       \xa9 \xa9` \xa9    Z \xa9\xa9[\xa9 [\xa9\xa8\xa9Y\xa9\xa7 \xa9      \xa9\xa9\xa9\xa9\xa9\xa9\xa9\xa9\xa9\xa9 \xa9\xa9\xa9\xa9  X\xa9\xa9\xa9\xa9\xa9\xa9\xa9\xa9"], // Argument
-    [0, b"            \xaa\xaa\xaa\xaa\xaa\xaa\xaa\xaa\xaa\xaa                  \xab                  \xaa           \xe6  \xe6 \xe6   \xe6    \xe6 "], // ArgumentAfterT
-    [0, b"            \xaa\xaa\xaa\xaa\xaa\xaa\xaa\xaa\xaa\xaa                                     \xaa                           "], // LeveledParameter
-    [0, b"            \xa9\xa9\xa9\xa9\xa9\xa9\xa9\xa9\xa9\xa9       \xa9 \xa9` \xa9   \xadZ\xac\xa9\xa9[\xa9 [\xa9\xa8\xa9Y\xa9\xa7 \xa9      \xa9\xa9\xa9\xa9\xa9\xa9\xa9\xa9\xa9\xa9 \xa9\xa9\xa9\xa9  X\xa9\xa9\xa9\xa9\xa9\xa9\xa9\xa9"], // OneArgument
-    [0, b"                                                                       \xb0  \xaf \xb2   \xb1    \xae "], // DeclarationAfterT
-    [0, b"                                                \xb3                                      "], // Declarations
-    [0, b"            \xb4\xb4\xb4\xb4\xb4\xb4\xb4\xb4\xb4\xb4                    Q    \xb4                                       "], // Concept
-    [0, b"            $$$$$$$$$$       o q  p      iQ h  k # )  l      mmmmmmmmmm mmmm   mmnmmmmm"], // SolidButT
-    [0, b"            \xb7\xb7\xb7\xb7\xb7\xb7\xb7\xb7\xb7\xb7                  \xac       \xe1            \xd1 \xd2\xd3\xd4\xd5\xd6 \xd7  \xd8\xd9\xda\xdb\xdc\xdd\xde\xdf\xe0      "], // Expression
-    [0, b"            \xe2\xe2\xe2\xe2\xe2\xe2\xe2\xe2\xe2\xe2                  \xe3                  \xe2                           "], // ExpressionParameter
-    [0, b"            \xe2\xe2\xe2\xe2\xe2\xe2\xe2\xe2\xe2\xe2                                     \xe2                           "], // UnleveledExpression
-    [0, b"            \xb7\xb7\xb7\xb7\xb7\xb7\xb7\xb7\xb7\xb7                  \xe4       \xe1            \xd1 \xd2\xd3\xd4\xd5\xd6 \xd7  \xd8\xd9\xda\xdb\xdc\xdd\xde\xdf\xe0      "], // AddressedExpression
-    [0, b"            \x86\x86\x86\x86\x86\x86\x86\x86\x86\x86          \x85      \x86 \x86\x86 \x86  \x86\x86\x86\x86\x86  \x86    \x83 \x86\x84\x86\xef\xef\xef\xef\x86\x86\x86 \x86\x86\x86\x86   \x86\x86  \x86\x86\x86 "], // AddressedLiteral
-    [0, b"                                          \xba    \xba             \xba  \xb9         \xba     \xbc  \xbb  \xbb"], // ExpressionAfterA
-    [0, b"                                                               \xb5        \xbd\xba \xbb\xbd     \xbe    "], // ExpressionAfterC
-    [0, b"                                                  \xba          \xbb \xb5 \xbb   \xbf  \xbb \xc1    \xba\xba \xba \xc0  "], // ExpressionAfterD
-    [0, b"                                           \xba                               \xba \xba         "], // ExpressionAfterE
-    [0, b"                                        \xc2                               \xc3   \xb8 \xc4        "], // ExpressionAfterF
-    [0, b"                                                                 \xba             \xbb\xba      "], // ExpressionAfterG
-    [0, b"                                                                        \xc5           \xba  "], // ExpressionAfterI
-    [0, b"                                               \xba                 \xba             \xba\xba      "], // ExpressionAfterL
-    [0, b"                                     \xba  \xba                            \xba  \xba\xc6             "], // ExpressionAfterM
-    [0, b"                                                             \xc7   \xba \xbb            \xbb  \xc7\xbb  "], // ExpressionAfterN
-    [0, b"                                              \xba                           \xb6\xba  \xba        "], // ExpressionAfterO
-    [0, b"                                        \xba                               \xba\xba  \xc6  \xbb\xba      "], // ExpressionAfterP
-    [0, b"                                                                                 \xc8     "], // ExpressionAfterQ
-    [0, b"                                         \xba   \xca \xba               \xb5         \xba   \xc9 \xba       "], // ExpressionAfterR
-    [0, b"                                                      \xcc        \xb5            \xcb \xcd\xba\xbc    \xce\xbb"], // ExpressionAfterS
-    [0, b"                                                                 \xbb   \xbc  \xcf     \xd0    \xbb   "], // ExpressionAfterT
-    [0, b"            \x00\x00\x00\x00\x00\x00\x00\x00\x00\x00                  \x00       \x00            \x00 \x00\x00\x00\x00\x00 \x00  \x00\x00\x00\x00\x00\x00\x00\x00\x00      "], // Expressions
+    [0, b"                                                                                \xaa      "], // TypeInStd
+    [0, b"                              \xe8                                                        "], // MaybeTags
+    [0, b"            \xad\xad\xad\xad\xad\xad\xad\xad\xad\xad       \xad \xadb \xad    \\ \xad\xad]\xad ]\xad\xac\xad[\xad\xab \xad      \xad\xad\xad\xad\xad\xad\xad\xad\xad\xad \xad\xad\xad\xad  Z\xad\xad\xad\xad\xad\xad\xad\xad"], // Argument
+    [0, b"            \xae\xae\xae\xae\xae\xae\xae\xae\xae\xae                  \xaf                  \xae           \xe7  \xe7 \xe7   \xe7    \xe7 "], // ArgumentAfterT
+    [0, b"            \xae\xae\xae\xae\xae\xae\xae\xae\xae\xae                                     \xae                           "], // LeveledParameter
+    [0, b"            \xad\xad\xad\xad\xad\xad\xad\xad\xad\xad       \xad \xadb \xad   \xb1\\\xb0\xad\xad]\xad ]\xad\xac\xad[\xad\xab \xad      \xad\xad\xad\xad\xad\xad\xad\xad\xad\xad \xad\xad\xad\xad  Z\xad\xad\xad\xad\xad\xad\xad\xad"], // OneArgument
+    [0, b"                                                                       \xb3  \xb2 \xb5   \xb4    ! "], // DeclarationAfterT
+    [0, b"                                                \xb6                                      "], // Declarations
+    [0, b"            \xb7\xb7\xb7\xb7\xb7\xb7\xb7\xb7\xb7\xb7                    S    \xb7                                       "], // Concept
+    [0, b"            $$$$$$$$$$       q s  r      kS j  m # *  n      oooooooooo oooo   oopooooo"], // SolidButT
+    [0, b"            \xba\xba\xba\xba\xba\xba\xba\xba\xba\xba                  \xb0       \xe4            \xd4 \xd5\xd6\xd7\xd8\xd9 \xda  \xdb\xdc\xdd\xde\xdf\xe0\xe1\xe2\xe3      "], // Expression
+    [0, b"            \xe5\xe5\xe5\xe5\xe5\xe5\xe5\xe5\xe5\xe5                  \x00                  \xe5                           "], // ExpressionParameter
+    [0, b"            \xe5\xe5\xe5\xe5\xe5\xe5\xe5\xe5\xe5\xe5                                     \xe5                           "], // UnleveledExpression
+    [0, b"            \xba\xba\xba\xba\xba\xba\xba\xba\xba\xba                  \x01       \xe4            \xd4 \xd5\xd6\xd7\xd8\xd9 \xda  \xdb\xdc\xdd\xde\xdf\xe0\xe1\xe2\xe3      "], // AddressedExpression
+    [0, b"            \x88\x88\x88\x88\x88\x88\x88\x88\x88\x88          \x87      \x88 \x88\x88 \x88  \x88\x88\x88\x88\x88  \x88    \x85 \x88\x86\x88\xf0\xf0\xf0\xf0\x88\x88\x88 \x88\x88\x88\x88   \x88\x88  \x88\x88\x88 "], // AddressedLiteral
+    [0, b"                                          \xbd    \xbd             \xbd  \xbc         \xbd     \xbf  \xbe  \xbe"], // ExpressionAfterA
+    [0, b"                                                               \xb8        \xc0\xbd \xbe\xc0     \xc1    "], // ExpressionAfterC
+    [0, b"                                                  \xbd          \xbe \xb8 \xbe   \xc2  \xbe \xc4    \xbd\xbd \xbd \xc3  "], // ExpressionAfterD
+    [0, b"                                           \xbd                               \xbd \xbd         "], // ExpressionAfterE
+    [0, b"                                        \xc5                               \xc6   \xbb \xc7        "], // ExpressionAfterF
+    [0, b"                                                                 \xbd             \xbe\xbd      "], // ExpressionAfterG
+    [0, b"                                                                        \xc8           \xbd  "], // ExpressionAfterI
+    [0, b"                                               \xbd                 \xbd             \xbd\xbd      "], // ExpressionAfterL
+    [0, b"                                     \xbd  \xbd                            \xbd  \xbd\xc9             "], // ExpressionAfterM
+    [0, b"                                                             \xca   \xbd \xbe            \xbe  \xca\xbe  "], // ExpressionAfterN
+    [0, b"                                              \xbd                           \xb9\xbd  \xbd        "], // ExpressionAfterO
+    [0, b"                                        \xbd                               \xbd\xbd  \xc9  \xbe\xbd      "], // ExpressionAfterP
+    [0, b"                                                                                 \xcb     "], // ExpressionAfterQ
+    [0, b"                                         \xbd   \xcd \xbd               \xb8         \xbd   \xcc \xbd       "], // ExpressionAfterR
+    [0, b"                                                      \xcf        \xb8            \xce \xd0\xbd\xbf    \xd1\xbe"], // ExpressionAfterS
+    [0, b"                                                                 \xbe   \xbf  \xd2     \xd3    \xbe   "], // ExpressionAfterT
+    [0, b"            \x02\x02\x02\x02\x02\x02\x02\x02\x02\x02                  \x02       \x02            \x02 \x02\x02\x02\x02\x02 \x02  \x02\x02\x02\x02\x02\x02\x02\x02\x02      "], // Expressions
     [0, b"                                                           !                           "], // MaybeBefore
-    [0, b"                                                             \x8e \x90\x8d\x94 \x98 \x97  \x01\x91\x8c\x93\x8f \x92\x96       "], // FoldOperator
+    [0, b"                                                             \x90 \x92\x8f\x96 \x9a \x99  \x03\x93\x8e\x95\x91 \x94\x98       "], // FoldOperator
     [0, b"                                               !                 !             !!      "], // FoldOperatorAfterL
-    [0, b"            \x02\x02\x02\x02\x02\x02\x02\x02\x02\x02                  \x02       \x02            \x02 \x02\x02\x02\x02\x02 \x02  \x02\x02\x02\x02\x02\x02\x02\x02\x02      "], // FoldOperand
-    [0, b"            \x03\x03\x03\x03\x03\x03\x03\x03\x03\x03                  \x03       \x03            \x03 \x03\x03\x03\x03\x03 \x03  \x03\x03\x03\x03\x03\x03\x03\x03\x03      "], // FoldPack
-    [0, b"            \x03\x03\x03\x03\x03\x03\x03\x03\x03\x03                \xad \x03       \x03            \x03 \x03\x03\x03\x03\x03 \x03  \x03\x03\x03\x03\x03\x03\x03\x03\x03      "], // ValuePack
-    [0, b"            \x04\x04\x04\x04\x04\x04\x04\x04\x04\x04       \x04 \x04\x04 \x04   \xad\x04 \x04\x04\x04\x04 \x04\x04\x04\x04\x04\x04  \x04      \x04\x04\x04\x04\x04\x04\x04\x04\x04\x04 \x04\x04\x04\x04  \x04\x04\x04\x04\x04\x04\x04\x04\x04"], // TypePack
-    [0, b"            \x06\x06\x06\x06\x06\x06\x06\x06\x06\x06                  \x06       \x06            \x06 \x06\x05\x06\x06\x06 \x06  \x06\x06\x06\x06\x06\x06\x06\x06\x06      "], // DesignatedValue
-    [0, b"                                                                     \xbf              \xc0  "], // DesignatorAfterD
-    [0, b"            \xb7\xb7\xb7\xb7\xb7\xb7\xb7\xb7\xb7\xb7                  \xac       \xe1            \xd1 \xd2 \xd4\xd5\xd6 \xd7  \xd8\xd9\xda\xdb\xdc\xdd\xde\xdf\xe0      "], // PlainValue
-    [0, b"            \x07\x07\x07\x07\x07\x07\x07\x07\x07\x07                                                                 "], // FieldName
-    [0, b"            \x08\x08\x08\x08\x08\x08\x08\x08\x08\x08                  \x08       \x08          ! \x08 \x08\x08\x08\x08\x08 \x08  \x08\x08\x08\x08\x08\x08\x08\x08\x08      "], // Placement
-    [0, b"            \x00\x00\x00\x00\x00\x00\x00\x00\x00\x00                  \x00       \x00            \x00 \x00\x00\x00\x00\x00 \x00  \x00\x00\x00\x00\x00\x00\x00\x00\x00      "], // SomeExpressions
-    [0, b"                                 y                                   \x0a      \x09          "], // Initializer
-    [0, b"                                                                     \xc5                 "], // InitializerAfterP
-    [0, b"                                                                        \xc5              "], // InitializerAfterI
-    [0, b"                                                                            \xb8          "], // OuterRest
-    [0, b"            \x0c\x0c\x0c\x0c\x0c\x0c\x0c\x0c\x0c\x0c                          \x0b          \x0c                           "], // ParameterNumber
-    [0, b"            \x11\x11\x11\x11\x11\x11\x11\x11\x11\x11          \x0d \x11    \x0e  \x11\x10\x0f \x10\x11\x11\x11           \x11\x11\x11\x11\x11\x11\x11\x11\x11\x11 \x11\x11\x11\x11   \x11\x11 \x11\x11\x11\x11\x11"], // ConvertedType
-    [0, b"            $$$$$$$$$$            p       Q    k\x12#           mmmmmmmmmm mmmm   mm mmmmm"], // ConvertedSolid
-    [0, b"            \xaa\xaa\xaa\xaa\xaa\xaa\xaa\xaa\xaa\xaa                  \xab                  \xaa                           "], // ParameterAfterT
-    [0, b"                                                g                               g      "], // DecltypeAfterD
-    [0, b"                                                g            c c                g      "], // ConvertedAfterD
-    [0, b"            \xb7\xb7\xb7\xb7\xb7\xb7\xb7\xb7\xb7\xb7                  \xac       \xe1          \xc5 \xd1 \xd2\xd3\xd4\xd5\xd6 \xd7  \xd8\xd9\xda\xdb\xdc\xdd\xde\xdf\xe0      "], // ConvertRest
-    [0, b"            \x14\x14\x14\x14\x14\x14\x14\x14\x14\x14          \x13         \x13    \x13\x13                                      "], // Unresolved
-    [0, b"                                \x0d         Q    k\x12                                      "], // UnresolvedType
-    [0, b"            \xb7\xb7\xb7\xb7\xb7\xb7\xb7\xb7\xb7\xb7          \x15         \x15    \x15\x15                                      "], // DestructorName
-    [0, b"                                             \x18  \x17   \x16                                  "], // Requirements
-    [0, b"                                          \x1a  \x18\x19 \x17   \x16                                  "], // AfterExpression
-    [0, b"                                             \x18\x19 \x17   \x16                                  "], // AfterNoexcept
-    [0, b"            \x1b\x1b\x1b\x1b\x1b\x1b\x1b\x1b\x1b\x1b          \x1b \x1b    \x1b  \x1b\x1b\x1b \x1b\x1b\x1b\x1b         \xc9 \x1b\x1b\x1b\x1b\x1b\x1b\x1b\x1b\x1b\x1b \x1b\x1b\x1b\x1b   \x1b\x1b \x1b\x1b\x1b\x1b\x1b"], // RequiredTypes
-    [0, b"            \xb7\xb7\xb7\xb7\xb7\xb7\xb7\xb7\xb7\xb7                                                                 "], // Level
-    [0, b"            \x14\x14\x14\x14\x14\x14\x14\x14\x14\x14           \x1c                                                     "], // MoreLevels
-    [0, b"            \xb7\xb7\xb7\xb7\xb7\xb7\xb7\xb7\xb7\xb7                                                     \x1d           "], // UnresolvedName
-    [0, b"                                                                          \xb6            "], // OperatorName
+    [0, b"            \x04\x04\x04\x04\x04\x04\x04\x04\x04\x04                  \x04       \x04            \x04 \x04\x04\x04\x04\x04 \x04  \x04\x04\x04\x04\x04\x04\x04\x04\x04      "], // FoldOperand
+    [0, b"            \x05\x05\x05\x05\x05\x05\x05\x05\x05\x05                  \x05       \x05            \x05 \x05\x05\x05\x05\x05 \x05  \x05\x05\x05\x05\x05\x05\x05\x05\x05      "], // FoldPack
+    [0, b"            \x05\x05\x05\x05\x05\x05\x05\x05\x05\x05                \xb1 \x05       \x05            \x05 \x05\x05\x05\x05\x05 \x05  \x05\x05\x05\x05\x05\x05\x05\x05\x05      "], // ValuePack
+    [0, b"            \x06\x06\x06\x06\x06\x06\x06\x06\x06\x06       \x06 \x06\x06 \x06   \xb1\x06 \x06\x06\x06\x06 \x06\x06\x06\x06\x06\x06  \x06      \x06\x06\x06\x06\x06\x06\x06\x06\x06\x06 \x06\x06\x06\x06  \x06\x06\x06\x06\x06\x06\x06\x06\x06"], // TypePack
+    [0, b"            \x08\x08\x08\x08\x08\x08\x08\x08\x08\x08                  \x08       \x08            \x08 \x08\x07\x08\x08\x08 \x08  \x08\x08\x08\x08\x08\x08\x08\x08\x08      "], // DesignatedValue
+    [0, b"                                                                     \xc2              \xc3  "], // DesignatorAfterD
+    [0, b"            \xba\xba\xba\xba\xba\xba\xba\xba\xba\xba                  \xb0       \xe4            \xd4 \xd5 \xd7\xd8\xd9 \xda  \xdb\xdc\xdd\xde\xdf\xe0\xe1\xe2\xe3      "], // PlainValue
+    [0, b"            \xa0\xa0\xa0\xa0\xa0\xa0\xa0\xa0\xa0\xa0                                                                 "], // FieldName
+    [0, b"            \x09\x09\x09\x09\x09\x09\x09\x09\x09\x09                  \x09       \x09          ! \x09 \x09\x09\x09\x09\x09 \x09  \x09\x09\x09\x09\x09\x09\x09\x09\x09      "], // Placement
+    [0, b"            \x02\x02\x02\x02\x02\x02\x02\x02\x02\x02                  \x02       \x02            \x02 \x02\x02\x02\x02\x02 \x02  \x02\x02\x02\x02\x02\x02\x02\x02\x02      "], // SomeExpressions
+    [0, b"                                 {                                   \x0b      \x0a          "], // Initializer
+    [0, b"                                                                     \xc8                 "], // InitializerAfterP
+    [0, b"                                                                        \xc8              "], // InitializerAfterI
+    [0, b"                                                                            \xbb          "], // OuterRest
+    [0, b"            \x0d\x0d\x0d\x0d\x0d\x0d\x0d\x0d\x0d\x0d                          \x0c          \x0d                           "], // ParameterNumber
+    [0, b"            \x12\x12\x12\x12\x12\x12\x12\x12\x12\x12          \x0e \x12    \x0f  \x12\x11\x10 \x11\x12\x12\x12           \x12\x12\x12\x12\x12\x12\x12\x12\x12\x12 \x12\x12\x12\x12   \x12\x12 \x12\x12\x12\x12\x12"], // ConvertedType
+    [0, b"            $$$$$$$$$$            r       S    m\x13#           oooooooooo oooo   oo ooooo"], // ConvertedSolid
+    [0, b"            \xae\xae\xae\xae\xae\xae\xae\xae\xae\xae                  \xaf                  \xae                           "], // ParameterAfterT
+    [0, b"                                                i                               i      "], // DecltypeAfterD
+    [0, b"                                                i            e e                i      "], // ConvertedAfterD
+    [0, b"            \xba\xba\xba\xba\xba\xba\xba\xba\xba\xba                  \xb0       \xe4          \xc8 \xd4 \xd5\xd6\xd7\xd8\xd9 \xda  \xdb\xdc\xdd\xde\xdf\xe0\xe1\xe2\xe3      "], // ConvertRest
+    [0, b"            \x15\x15\x15\x15\x15\x15\x15\x15\x15\x15          \x14         \x14    \x14\x14                                      "], // Unresolved
+    [0, b"                                \x0e         S    m\x13                                      "], // UnresolvedType
+    [0, b"            \xba\xba\xba\xba\xba\xba\xba\xba\xba\xba          \x16         \x16    \x16\x16                                      "], // DestructorName
+    [0, b"                                             \x19  \x18   \x17                                  "], // Requirements
+    [0, b"                                          !                                            "], // MaybeNoexcept
+    [0, b"                                             \x19\x1a \x18   \x17                                  "], // AfterNoexcept
+    [0, b"            \x1b\x1b\x1b\x1b\x1b\x1b\x1b\x1b\x1b\x1b          \x1b \x1b    \x1b  \x1b\x1b\x1b \x1b\x1b\x1b\x1b         \xcc \x1b\x1b\x1b\x1b\x1b\x1b\x1b\x1b\x1b\x1b \x1b\x1b\x1b\x1b   \x1b\x1b \x1b\x1b\x1b\x1b\x1b"], // RequiredTypes
+    [0, b"            \xba\xba\xba\xba\xba\xba\xba\xba\xba\xba                                                                 "], // Level
+    [0, b"            \x15\x15\x15\x15\x15\x15\x15\x15\x15\x15           \x1c                                                     "], // MoreLevels
+    [0, b"            \xba\xba\xba\xba\xba\xba\xba\xba\xba\xba                                                     \x1d           "], // UnresolvedName
+    [0, b"                                                                          \xb9            "], // OperatorName
     [0, b"                             \x1e                                                         "], // AnyArray
-    [0, b"            \x1f\x1f\x1f\x1f\x1f\x1f\x1f\x1f\x1f\x1f                  \xe5       \xe5          \x1f \xe5 \xe5\xe5\xe5\xe5\xe5 \xe5  \xe5\xe5\xe5\xe5\xe5\xe5\xe5\xe5\xe5      "], // ArrayRest
-    [0, b"                                        \xac       \xe1            \xd1 \xd2\xd3\xd4\xd5\xd6 \xd7  \xd8\xd9\xda\xdb\xdc\xdd\xde\xdf\xe0      "], // Bound
-    [0, b"            HHHHHHHHHH         HHIH     HH     H H H         H HHH H H  HHHHH HH       "], // NestMoreOrEnd
+    [0, b"            \x1f\x1f\x1f\x1f\x1f\x1f\x1f\x1f\x1f\x1f                  \xe6       \xe6          \x1f \xe6 \xe6\xe6\xe6\xe6\xe6 \xe6  \xe6\xe6\xe6\xe6\xe6\xe6\xe6\xe6\xe6      "], // ArrayRest
+    [0, b"                                        \xb0       \xe4            \xd4 \xd5\xd6\xd7\xd8\xd9 \xda  \xdb\xdc\xdd\xde\xdf\xe0\xe1\xe2\xe3      "], // Bound
+    [0, b"            IIIIIIIIII         IIJI     II     I I I         I III I I  IIIII II       "], // NestMoreOrEnd
 };
 
 /// The number of the rule that a kind takes at a byte, if it takes one.
 #[inline]
 fn number(kind: u16, byte: u8) -> Option<usize>
     requires { kind < wide.kinds }
-    ensures few { IfSome result (λ number. number < 255) }
+    ensures few { IfSome result (λ number. number < 256) }
     ensures rule { (head : Head) → MatchOption result (wide.rule kind byte ≡ None) (λ number. wide.rule kind byte ≡ Some (listed_rule head number)) }
 {
     match letter_in(&WIDE_ROWS[kind as usize].letters, byte) {

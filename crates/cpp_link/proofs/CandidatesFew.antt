@@ -80,6 +80,7 @@ makes_name Production.AnyConstructor = true
 makes_name Production.Inheriting = true
 makes_name Production.Constructor = true
 makes_name Production.Destructor = true
+makes_name Production.BindingName = true
 makes_name Production.Holder = true
 makes_name Production.Tag = true
 makes_name Production.TypeTag = true

@@ -9,7 +9,7 @@ use Rattle.sym_shape.specs.declared.rule.Sym.{Sym}
 use Rattle.sym_shape.specs.declared.rule.Sym.TheVariants.{Kind as OfKind, Name, Number, Byte}
 use Rattle.sym_link.specs.Reading.{Found}
 use Rattle.cpp_grammar.specs.declared.production.Production.{Production}
-use Rattle.cpp_grammar.specs.KindNumbers.{PARAMETER_AFTER_T, INTEGER, ANONYMOUS, OPERATOR, OTHER_OPERATOR, OPERATOR_AFTER_C, CONSTRUCTOR_DIGIT, DESTRUCTOR_DIGIT, SOURCE_OR_LOCAL, NEST, NEST_AFTER_S, AFTER_D, ITEM_AFTER_D, SOLID, SOLID_BUT_T, ARGUMENT_AFTER_T, LEVELED_PARAMETER, ANY_ARRAY, ARRAY_REST, LITERAL_TYPE, CONVERTED_SOLID, DECLTYPE_AFTER_D, UNRESOLVED_TYPE, UNRESOLVED_NAME, UNQUALIFIED, NEST_REST, NEST_REST_OR_END, NEST_REST_ALONE, NEST_TAIL, NEST_MORE_OR_END, COMPONENT, COMPONENT_AFTER_C, CONSTRUCTOR_AFTER_C, HOLDER_MARK, HELD_COMPONENT, ABBREVIATION, TYPE_AFTER_S, TYPE_IN_STD, UNNESTED_NAME, MAYBE_ARGUMENTS, MAYBE_TAGS, ARGUMENTS, ARGUMENTS_ALONE, ARGUMENTS_FIRST, BASE_ARGUMENTS, HELD_ARGUMENTS, LITERAL_SOLID, CONVERTED_AFTER_D}
+use Rattle.cpp_grammar.specs.KindNumbers.{PARAMETER_AFTER_T, INTEGER, ANONYMOUS, OPERATOR, OTHER_OPERATOR, OPERATOR_AFTER_C, CONSTRUCTOR_DIGIT, COMPONENT_AFTER_D, BINDING_AFTER_D, SOURCE_OR_LOCAL, NEST, NEST_AFTER_S, AFTER_D, ITEM_AFTER_D, SOLID, SOLID_BUT_T, ARGUMENT_AFTER_T, LEVELED_PARAMETER, ANY_ARRAY, ARRAY_REST, LITERAL_TYPE, CONVERTED_SOLID, DECLTYPE_AFTER_D, UNRESOLVED_TYPE, UNRESOLVED_NAME, UNQUALIFIED, NEST_REST, NEST_REST_OR_END, NEST_REST_ALONE, NEST_TAIL, NEST_MORE_OR_END, COMPONENT, COMPONENT_AFTER_C, CONSTRUCTOR_AFTER_C, HOLDER_MARK, HELD_COMPONENT, ABBREVIATION, TYPE_AFTER_S, TYPE_IN_STD, UNNESTED_NAME, MAYBE_ARGUMENTS, MAYBE_TAGS, ARGUMENTS, ARGUMENTS_ALONE, ARGUMENTS_FIRST, BASE_ARGUMENTS, HELD_ARGUMENTS, LITERAL_SOLID, CONVERTED_AFTER_D, COMPONENT_AFTER_D, BINDING_AFTER_D}
 use Rattle.cpp_grammar.specs.Grammar.{parts_of, number_of_kind}
 use Rattle.cpp_grammar.specs.Row.{Made, unlisted, unless_there, Form, handed, finished, either, a_name, as_before, as_part, after_part, Gain, nothing, type_of, unqualified_of, itself, Before, quiet, goes, becomes, tests, Row, before_part}
 use Rattle.cpp_grammar.specs.Rows.{row_of}
@@ -560,12 +560,13 @@ flows Production.InternalName around place = made_name Production.InternalName r
 flows Production.LocalTypeName around place = made_name Production.LocalTypeName refl around place _ _ (OfKind ANONYMOUS) MAYBE_ARGUMENTS refl (λ vs. refl) (λ vs. refl) (λ a v. refl) maybe-arguments
 flows Production.SourceName around place = made_name Production.SourceName refl around place _ _ Name MAYBE_ARGUMENTS refl (λ vs. refl) (λ vs. refl) (λ a v. refl) maybe-arguments
 flows Production.OperatorName around place = made_name Production.OperatorName refl around place _ _ (OfKind OPERATOR) MAYBE_ARGUMENTS refl (λ vs. refl) (λ vs. refl) (λ a v. refl) maybe-arguments
+flows Production.BindingName around place = made_name Production.BindingName refl around place _ _ (OfKind BINDING_AFTER_D) MAYBE_ARGUMENTS refl (λ vs. refl) (λ vs. refl) (λ a v. refl) maybe-arguments
 flows Production.StdName around place = made_name Production.StdName refl around place _ _ (OfKind UNQUALIFIED) MAYBE_ARGUMENTS refl (λ vs. refl) (λ vs. refl) (λ a v. refl) maybe-arguments
 flows Production.AbbreviatedName around place = listed_name Production.AbbreviatedName refl around place _ (OfKind ABBREVIATION) ARGUMENTS refl (λ v. refl) (λ a v. refl) arguments-next
 flows Production.NestInternal around place = nested Production.NestInternal refl around place _ Name refl (λ v. refl) (λ vs. refl) (λ a v. refl)
 flows Production.NestLocalType around place = nested Production.NestLocalType refl around place _ (OfKind ANONYMOUS) refl (λ v. refl) (λ vs. refl) (λ a v. refl)
 flows Production.NestSource around place = nested Production.NestSource refl around place _ Name refl (λ v. refl) (λ vs. refl) (λ a v. refl)
-flows Production.Destructor around place = made_name Production.Destructor refl around place _ _ (OfKind DESTRUCTOR_DIGIT) MAYBE_ARGUMENTS refl (λ vs. refl) (λ vs. refl) (λ a v. refl) maybe-arguments
+flows Production.Destructor around place = made_name Production.Destructor refl around place _ _ (OfKind COMPONENT_AFTER_D) MAYBE_ARGUMENTS refl (λ vs. refl) (λ vs. refl) (λ a v. refl) maybe-arguments
 flows Production.OtherOperatorName around place = made_name Production.OtherOperatorName refl around place _ _ (OfKind OTHER_OPERATOR) MAYBE_ARGUMENTS refl (λ vs. refl) (λ vs. refl) (λ a v. refl) maybe-arguments
 flows Production.Constructor around place = made_name Production.Constructor refl around place _ _ (OfKind CONSTRUCTOR_DIGIT) MAYBE_ARGUMENTS refl (λ vs. refl) (λ vs. refl) (λ a v. refl) maybe-arguments
 flows Production.RestrictType around place = own_type Production.RestrictType refl around place _ (parts_of Production.RestrictType) refl refl refl (λ byte vs. refl) (λ vs. refl)

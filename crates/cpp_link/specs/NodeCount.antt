@@ -81,6 +81,7 @@ makes_at_end Production.InternalName known = name_at_end known
 makes_at_end Production.LocalTypeName known = name_at_end known
 makes_at_end Production.SourceName known = name_at_end known
 makes_at_end Production.OperatorName known = name_at_end known
+makes_at_end Production.BindingName known = name_at_end known
 makes_at_end Production.StdName known = name_at_end known
 makes_at_end Production.AbbreviatedName known = name_at_end known
 makes_at_end Production.Destructor known = name_at_end known

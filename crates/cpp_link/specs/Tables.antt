@@ -11,6 +11,7 @@ quiet_parts Production.InternalName = 1
 quiet_parts Production.LocalTypeName = 1
 quiet_parts Production.SourceName = 1
 quiet_parts Production.OperatorName = 1
+quiet_parts Production.BindingName = 1
 quiet_parts Production.InModule = 0
 quiet_parts Production.InNamedModule = 0
 quiet_parts Production.Special = 0
@@ -76,6 +77,7 @@ quiet_parts _ = 5
 
 -- some part other than the last may have no row: a fixed byte, or a kind that may be empty
 unfoldable pub skips_parts : Production → Bool
+skips_parts Production.ExpressionRequirement = true
 skips_parts Production.NestedName = true
 skips_parts Production.Symbol = true
 skips_parts Production.NonVirtualThunk = true

@@ -198,6 +198,11 @@ impl Linked {
                 kept.prefix(),
                 self.piece_in(symbol, first),
             )),
+            Production::BindingName => self.named(self.extended(
+                symbol,
+                kept.prefix(),
+                self.piece_in(symbol, first),
+            )),
             Production::NestInternal => self.named(self.extended(
                 symbol,
                 kept.prefix(),
@@ -222,7 +227,7 @@ impl Linked {
             Production::Destructor => self.named(self.extended(
                 symbol,
                 kept.prefix(),
-                Piece::Destructor(letter_of(first)),
+                self.piece_in(symbol, first),
             )),
             Production::OtherOperatorName => self.named(self.extended(
                 symbol,

@@ -3,7 +3,9 @@
 use cpp_grammar::production::Production;
 
 /// The productions.
-pub(crate) const PRODUCTIONS: [Production; 255] = [
+pub(crate) const PRODUCTIONS: [Production; 256] = [
+    Production::LeveledExpression,
+    Production::AddressedLiteral,
     Production::Expressions,
     Production::FoldOperatorL,
     Production::FoldOperand,
@@ -11,7 +13,6 @@ pub(crate) const PRODUCTIONS: [Production; 255] = [
     Production::TypePack,
     Production::Designators,
     Production::DesignatedValue,
-    Production::FieldName,
     Production::Placed,
     Production::Initializer,
     Production::BracedInitializer,
@@ -30,7 +31,6 @@ pub(crate) const PRODUCTIONS: [Production; 255] = [
     Production::TypeRequirement,
     Production::NestedRequirement,
     Production::ResultRequirement,
-    Production::NoexceptRequirement,
     Production::RequiredType,
     Production::LevelsEnd,
     Production::UnresolvedOperator,
@@ -42,6 +42,7 @@ pub(crate) const PRODUCTIONS: [Production; 255] = [
     Production::LocalTypeName,
     Production::SourceName,
     Production::OperatorName,
+    Production::BindingName,
     Production::InternalPiece,
     Production::LocalTypePiece,
     Production::SourcePiece,
@@ -83,6 +84,7 @@ pub(crate) const PRODUCTIONS: [Production; 255] = [
     Production::ComponentWithC,
     Production::OtherOperatorName,
     Production::Constructor,
+    Production::Bindings,
     Production::Abbreviation,
     Production::Substitution,
     Production::NestedType,
@@ -162,6 +164,8 @@ pub(crate) const PRODUCTIONS: [Production; 255] = [
     Production::FirstModule,
     Production::NamedModule,
     Production::MoreModule,
+    Production::FieldName,
+    Production::BoundNames,
     Production::OperatorNameWithC,
     Production::HeldArguments,
     Production::NestedBase,
@@ -178,7 +182,6 @@ pub(crate) const PRODUCTIONS: [Production; 255] = [
     Production::LeveledParameter,
     Production::OneLiteral,
     Production::OnePack,
-    Production::AnyType,
     Production::ValueOf,
     Production::OfConcept,
     Production::TemplateOf,
@@ -231,8 +234,6 @@ pub(crate) const PRODUCTIONS: [Production; 255] = [
     Production::ExpressionT,
     Production::ExpressionWithT,
     Production::ParameterExpression,
-    Production::LeveledExpression,
-    Production::AddressedLiteral,
     Production::BoundedArray,
     Production::DeclaredArgument,
     Production::TypeTag,
@@ -262,7 +263,9 @@ pub(crate) const PRODUCTIONS: [Production; 255] = [
 ];
 
 /// How many parts each has.
-pub(crate) const PART_COUNTS: [u8; 255] = [
+pub(crate) const PART_COUNTS: [u8; 256] = [
+    2, // LeveledExpression
+    2, // AddressedLiteral
     2, // Expressions
     1, // FoldOperatorL
     1, // FoldOperand
@@ -270,7 +273,6 @@ pub(crate) const PART_COUNTS: [u8; 255] = [
     1, // TypePack
     1, // Designators
     1, // DesignatedValue
-    1, // FieldName
     2, // Placed
     1, // Initializer
     1, // BracedInitializer
@@ -285,11 +287,10 @@ pub(crate) const PART_COUNTS: [u8; 255] = [
     2, // UnresolvedInType
     2, // Levels
     1, // DestroyedType
-    2, // ExpressionRequirement
+    3, // ExpressionRequirement
     2, // TypeRequirement
     2, // NestedRequirement
     2, // ResultRequirement
-    1, // NoexceptRequirement
     2, // RequiredType
     1, // LevelsEnd
     1, // UnresolvedOperator
@@ -301,6 +302,7 @@ pub(crate) const PART_COUNTS: [u8; 255] = [
     2, // LocalTypeName
     2, // SourceName
     2, // OperatorName
+    2, // BindingName
     1, // InternalPiece
     1, // LocalTypePiece
     1, // SourcePiece
@@ -342,6 +344,7 @@ pub(crate) const PART_COUNTS: [u8; 255] = [
     1, // ComponentWithC
     2, // OtherOperatorName
     2, // Constructor
+    2, // Bindings
     0, // Abbreviation
     1, // Substitution
     1, // NestedType
@@ -421,6 +424,8 @@ pub(crate) const PART_COUNTS: [u8; 255] = [
     2, // FirstModule
     2, // NamedModule
     3, // MoreModule
+    1, // FieldName
+    2, // BoundNames
     2, // OperatorNameWithC
     2, // HeldArguments
     2, // NestedBase
@@ -437,7 +442,6 @@ pub(crate) const PART_COUNTS: [u8; 255] = [
     2, // LeveledParameter
     2, // OneLiteral
     2, // OnePack
-    0, // AnyType
     1, // ValueOf
     1, // OfConcept
     2, // TemplateOf
@@ -490,8 +494,6 @@ pub(crate) const PART_COUNTS: [u8; 255] = [
     1, // ExpressionT
     1, // ExpressionWithT
     2, // ParameterExpression
-    2, // LeveledExpression
-    2, // AddressedLiteral
     3, // BoundedArray
     2, // DeclaredArgument
     2, // TypeTag
@@ -521,7 +523,9 @@ pub(crate) const PART_COUNTS: [u8; 255] = [
 ];
 
 /// Whether some part of each but the last may have no row: a fixed byte, or a kind that may be empty.
-pub(crate) const SKIPS_PARTS: [bool; 255] = [
+pub(crate) const SKIPS_PARTS: [bool; 256] = [
+    false, // LeveledExpression
+    false, // AddressedLiteral
     false, // Expressions
     false, // FoldOperatorL
     false, // FoldOperand
@@ -529,7 +533,6 @@ pub(crate) const SKIPS_PARTS: [bool; 255] = [
     false, // TypePack
     false, // Designators
     false, // DesignatedValue
-    false, // FieldName
     false, // Placed
     false, // Initializer
     false, // BracedInitializer
@@ -544,11 +547,10 @@ pub(crate) const SKIPS_PARTS: [bool; 255] = [
     false, // UnresolvedInType
     false, // Levels
     false, // DestroyedType
-    false, // ExpressionRequirement
+    true, // ExpressionRequirement
     false, // TypeRequirement
     false, // NestedRequirement
     false, // ResultRequirement
-    false, // NoexceptRequirement
     false, // RequiredType
     false, // LevelsEnd
     false, // UnresolvedOperator
@@ -560,6 +562,7 @@ pub(crate) const SKIPS_PARTS: [bool; 255] = [
     false, // LocalTypeName
     false, // SourceName
     false, // OperatorName
+    false, // BindingName
     false, // InternalPiece
     false, // LocalTypePiece
     false, // SourcePiece
@@ -601,6 +604,7 @@ pub(crate) const SKIPS_PARTS: [bool; 255] = [
     false, // ComponentWithC
     false, // OtherOperatorName
     false, // Constructor
+    false, // Bindings
     false, // Abbreviation
     false, // Substitution
     false, // NestedType
@@ -680,6 +684,8 @@ pub(crate) const SKIPS_PARTS: [bool; 255] = [
     false, // FirstModule
     false, // NamedModule
     true, // MoreModule
+    false, // FieldName
+    false, // BoundNames
     false, // OperatorNameWithC
     true, // HeldArguments
     false, // NestedBase
@@ -696,7 +702,6 @@ pub(crate) const SKIPS_PARTS: [bool; 255] = [
     false, // LeveledParameter
     false, // OneLiteral
     true, // OnePack
-    false, // AnyType
     false, // ValueOf
     false, // OfConcept
     true, // TemplateOf
@@ -749,8 +754,6 @@ pub(crate) const SKIPS_PARTS: [bool; 255] = [
     false, // ExpressionT
     false, // ExpressionWithT
     false, // ParameterExpression
-    false, // LeveledExpression
-    false, // AddressedLiteral
     true, // BoundedArray
     false, // DeclaredArgument
     false, // TypeTag
@@ -780,7 +783,9 @@ pub(crate) const SKIPS_PARTS: [bool; 255] = [
 ];
 
 /// Before how many of its parts nothing is done in each: before none, the first, or all, which are five at most.
-pub(crate) const QUIET_PARTS: [u8; 255] = [
+pub(crate) const QUIET_PARTS: [u8; 256] = [
+    5, // LeveledExpression
+    5, // AddressedLiteral
     5, // Expressions
     5, // FoldOperatorL
     5, // FoldOperand
@@ -788,7 +793,6 @@ pub(crate) const QUIET_PARTS: [u8; 255] = [
     0, // TypePack
     5, // Designators
     5, // DesignatedValue
-    5, // FieldName
     5, // Placed
     5, // Initializer
     5, // BracedInitializer
@@ -807,7 +811,6 @@ pub(crate) const QUIET_PARTS: [u8; 255] = [
     5, // TypeRequirement
     5, // NestedRequirement
     5, // ResultRequirement
-    5, // NoexceptRequirement
     5, // RequiredType
     5, // LevelsEnd
     5, // UnresolvedOperator
@@ -819,6 +822,7 @@ pub(crate) const QUIET_PARTS: [u8; 255] = [
     1, // LocalTypeName
     1, // SourceName
     1, // OperatorName
+    1, // BindingName
     5, // InternalPiece
     5, // LocalTypePiece
     5, // SourcePiece
@@ -860,6 +864,7 @@ pub(crate) const QUIET_PARTS: [u8; 255] = [
     5, // ComponentWithC
     1, // OtherOperatorName
     1, // Constructor
+    5, // Bindings
     5, // Abbreviation
     5, // Substitution
     5, // NestedType
@@ -939,6 +944,8 @@ pub(crate) const QUIET_PARTS: [u8; 255] = [
     1, // FirstModule
     1, // NamedModule
     2, // MoreModule
+    5, // FieldName
+    5, // BoundNames
     1, // OperatorNameWithC
     0, // HeldArguments
     1, // NestedBase
@@ -955,7 +962,6 @@ pub(crate) const QUIET_PARTS: [u8; 255] = [
     5, // LeveledParameter
     5, // OneLiteral
     5, // OnePack
-    5, // AnyType
     0, // ValueOf
     0, // OfConcept
     5, // TemplateOf
@@ -1008,8 +1014,6 @@ pub(crate) const QUIET_PARTS: [u8; 255] = [
     5, // ExpressionT
     5, // ExpressionWithT
     1, // ParameterExpression
-    5, // LeveledExpression
-    5, // AddressedLiteral
     5, // BoundedArray
     5, // DeclaredArgument
     1, // TypeTag
