@@ -221,7 +221,7 @@ not_true false h = refl
 
 -- a module has no parameters wherever it was made
 module_goes : (around : Around) (place number at : ℕ) (state : State) (n : Next Value State Around) → AllOld true around at state.candidates → module_so_far around place number state ≡ Ok n → GoesOn true around at state n
-unfolding module_so_far module_named named_by_both named_in
+unfolding module_so_far module_named named_by_both named_in module_of
 module_goes around place number at state n old e = found_ (named_by_both state.candidates number) named e
   where
     named : (c : Candidate) → named_by_both state.candidates number ≡ Some c → IsOld true around at c
