@@ -1,5 +1,5 @@
 -- What is done with a module that a substitution names is what the wide reading says.
-use Rattle.std.proofs.Common.{◌≡◌, refl, sym, ◌∙◌, ap, arith, ℕ, ◌-◌, ◌<◌, List, [], ◌∷◌, length, Bool, true, false, not, ◌&&◌, Option, Some, None, Ok, Err}
+use Rattle.std.proofs.Common.{◌≡◌, refl, sym, ◌∙◌, ap, arith, ℕ, ◌-◌, List, [], ◌∷◌, length, Bool, true, false, not, ◌&&◌, Option, Some, None, Err}
 use Rattle.std.proofs.lemmas.Bool.{eqb-true}
 use Rattle.sym_core.specs.Value.{counted_value}
 use Rattle.sym_core.specs.declared.NumberKind.TheVariants.{Seq36}
@@ -7,7 +7,6 @@ use Rattle.sym_core.specs.declared.refusal.Refusal.TheVariants.{BadReference}
 use Rattle.cpp_grammar.specs.declared.production.Production.{Production}
 use Rattle.cpp_term.specs.Term.{Term}
 use Rattle.cpp_term.specs.Scope.{is_open}
-use Rattle.cpp_term.specs.Values as values
 use Rattle.cpp_term.specs.Values.{State, Around, Value, part, text_of}
 use Rattle.cpp_term.specs.Between.{Going, listed_so_far}
 use Rattle.cpp_term.specs.References.{is_module}
@@ -17,7 +16,7 @@ use Rattle.cpp_references.specs.declared.around.Surroundings.{Surroundings}
 use Rattle.cpp_references.specs.declared.candidates.Candidate.{Candidate}
 use Rattle.cpp_link.specs.declared.part.Step.{Step}
 use Rattle.cpp_link.specs.LinkRescoping.{steps_apart, with_mark, going_marked}
-use Rattle.cpp_link.specs.Parts.{trees_in, around_of, candidate_of, candidates_of}
+use Rattle.cpp_link.specs.Parts.{trees_in, around_of, candidates_of}
 use Rattle.cpp_link.specs.Reads.{goes_on, behind_first, named_if, maybe_candidate}
 use Rattle.cpp_link.specs.NodeCount.{makes_before}
 use Rattle.cpp_link.specs.Owed.{made_before}
