@@ -159,6 +159,7 @@ within-other s ts given c prefix t _ is h1 h3 h2 = ap (component_parts c prefix)
 
 pub component-nested : (s : List ℕ) (us : List Thunk) (ts : List Term) (given : Option Term) (c : items.Context) (n : Node) (flat : is_again n ≡ false) (t p : Term) → t ≡ reargued given (tree_of s us ts n) → ((a b u w : ℕ) → n ≡ Node.Operation a b u w → ⊥)
     → prefix_item c t ∷ text (fixed_text COLONS) ∷ as_item heads.piece c p ∷ [] ≡ component_parts c t p
+unfolding component_parts reargued tree_of is_again
 component-nested s us ts given c n flat t p is other =
     subst (λ u. prefix_item c u ∷ text (fixed_text COLONS) ∷ as_item heads.piece c p ∷ [] ≡ component_parts c u p) (sym is) (by n flat other)
   where
