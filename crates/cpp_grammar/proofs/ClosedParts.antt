@@ -17,7 +17,7 @@ use Rattle.cpp_grammar.specs.Meant.{made, is_listing, around_part, packs_within,
 use Rattle.cpp_grammar.specs.Rows.{row_of}
 use Rattle.cpp_grammar.proofs.Ways.{has_signature}
 use Rattle.cpp_grammar.proofs.Chosen.{either}
-use Rattle.cpp_grammar.proofs.Steps.{first_of_both, second_of_both, all_pass, step_passes, is_here, goes_here}
+use Rattle.cpp_grammar.proofs.Steps.{second_of_both, all_pass, step_passes, is_here, goes_here}
 use Rattle.cpp_grammar.proofs.ClosedValues.{all_where, Good, AllGood, GoodPrefix, held, good_nothing, good_part, good_prefix, made_tree_good}
 use Rattle.cpp_grammar.proofs.ClosedStates.{Bare, Within, IsOld, AllOld, old_get, Grows, grows_same, grows_one, grows_held, grows_packs, unless_grows, gained_grows, parameter_good, parameter_grows, ok_same, behind_bind}
 
@@ -221,7 +221,7 @@ not_true false h = refl
 
 -- a module has no parameters wherever it was made
 module_goes : (around : Around) (place number at : ℕ) (state : State) (n : Next Value State Around) → AllOld true around at state.candidates → module_so_far around place number state ≡ Ok n → GoesOn true around at state n
-unfolding module_so_far module_named named_by_both named_in
+unfolding module_so_far module_named named_by_both named_in module_of
 module_goes around place number at state n old e = found_ (named_by_both state.candidates number) named e
   where
     named : (c : Candidate) → named_by_both state.candidates number ≡ Some c → IsOld true around at c

@@ -6,7 +6,7 @@ use Rattle.std.proofs.lemmas.List.{length-append}
 use Rattle.sym_print.specs.declared.detail.Detail.{Detail}
 use Rattle.sym_print.specs.Details.{has_arguments, has_parameters}
 use Rattle.sym_print.specs.Unfold.{PartOf, text, sub}
-use Rattle.cpp_grammar.specs.Term.{Qualifiers, RefQualifier, Signed, Term, symbol, function, object, of_name, alone, in_std, within, instance, local, holder, tagged, abbreviation, parameter, source, constructor, destructor, inheriting, lambda, generic_lambda, sized_float, pointer, lvalue, rvalue, array, bounded, member_pointer, function_type, qualified, expansion, integer, operation, function_parameter, pack, nil, list, absent}
+use Rattle.cpp_grammar.specs.Term.{Qualifiers, RefQualifier, Signed, Term, symbol, function, object, of_name, alone, in_std, within, instance, local, holder, tagged, abbreviation, parameter, source, constructor, destructor, inheriting, lambda, generic_lambda, bindings, sized_float, pointer, lvalue, rvalue, array, bounded, member_pointer, function_type, qualified, expansion, integer, operation, function_parameter, pack, nil, list, absent}
 use Rattle.cpp_grammar.specs.Items.{Form, root, full, bare, left, right, low, base, piece, first, more, expand, Context, Item, closed, signature_in, head, is_reference, is_funarr, packs_of, is_empty}
 use Rattle.cpp_grammar.specs.Parts.{as_item, begins_parameters, says, text_part, list_part, piece_parts, before_piece, attached_parts, component_parts, within_parts, last_piece, opening_text, instance_parts, marked_parts, reference_parts, qualified_left, blank_last, qualifier_text, expansion_parts, sign_part, is_plain_integer, integer_parts, builtin_code, member_parts, array_left, float_parts, no_operation, precedence_of, operand_parts, operation_parts, printed, left_parts, low_parts, function_right, ref_text, closing_right, qualified_right, right_parts, base_within, base_tagged, base_parts, types_of, encoding_text, function_bare, function_full, full_parts, bare_parts, root_parts, first_parts, more_parts, at_index, is_below, comma_before, expand_rest, expand_parts, parts_in, not_empty, parts, own_piece, most_parts, most_of}
 use Rattle.cpp_grammar.specs.Scope.{without_tags}
@@ -55,6 +55,7 @@ piece_few : (c : Context) (p : Term) → HasFew 6 (piece_parts c p)
 unfolding piece_parts
 piece_few c (lambda parameters number) = omega (arith, append_few 2 3 (says "{lambda(" ∷ list_part first c parameters) (says ")#" ∷ text (decimal number) ∷ says "}" ∷ []) (omega (arith, list_few first c parameters)) (omega arith))
 piece_few c (generic_lambda parameters number) = omega (arith, append_few 2 3 (says "{lambda(" ∷ list_part first (signature_in c) parameters) (says ")#" ∷ text (decimal number) ∷ says "}" ∷ []) (omega (arith, list_few first (signature_in c) parameters)) (omega arith))
+piece_few c (bindings names) = omega (arith, append_few 2 1 (says "[" ∷ list_part first c names) (says "]" ∷ []) (omega (arith, list_few first c names)) (omega arith))
 piece_few c (source internal name) = omega arith
 piece_few c _ = omega arith
 

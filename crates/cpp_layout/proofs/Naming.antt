@@ -19,7 +19,7 @@ use Rattle.cpp_term.proofs.Reargued.{reargued_none}
 use Rattle.std.proofs.lemmas.Bool.{true≢false}
 use Rattle.cpp_tree.specs.Nodes.{tree_at, tree_of, piece_of, is_again}
 use Rattle.cpp_layout.specs.Texts.{fixed_text}
-use Rattle.cpp_layout.specs.declared.texts.TheConstants.{ANONYMOUS, AT, BLANK_LESS, BRACE, COLONS, CONVERSION, ENUM, GREATER, LAMBDA, LEFT_BRACE, LESS, LITERAL, RIGHT_BRACES, RIGHT_NUMBER, UNNAMED}
+use Rattle.cpp_layout.specs.declared.texts.TheConstants.{ANONYMOUS, AT, BLANK_LESS, BRACE, COLONS, CONVERSION, ENUM, GREATER, LAMBDA, LEFT_BRACE, LEFT_BRACKET, LESS, LITERAL, RIGHT_BRACES, RIGHT_BRACKET, RIGHT_NUMBER, UNNAMED}
 use Rattle.cpp_layout.specs.Layout.{IsNoSource}
 
 pub begins : (xs ys : List ℕ) → begins_with xs ys ≡ starts_with nat_eq ys xs
@@ -108,6 +108,10 @@ pub enumeration-whole : (c : items.Context) (t : Term) (name : List ℕ) → tex
 unfolding piece_parts
 enumeration-whole c t name = refl
 
+pub bindings-whole : (c : items.Context) (names : Term) → text (fixed_text LEFT_BRACKET) ∷ (list_part heads.first c names ++ (text (fixed_text RIGHT_BRACKET) ∷ [])) ≡ piece_parts c (term.bindings names)
+unfolding piece_parts
+bindings-whole c names = refl
+
 pub literal-whole : (c : items.Context) (name : List ℕ) → text (fixed_text LITERAL) ∷ text name ∷ [] ≡ piece_parts c (term.literal_operator name)
 unfolding piece_parts
 literal-whole c name = refl
@@ -121,18 +125,19 @@ other-source (Piece.Source i b) other = other i b refl
 other-source _ other = tt
 
 pub piece-none : (s : List ℕ) (ts : List Term) (given : Option Term) (c : items.Context) (p : Piece) → ((i : Bool) (b : Span) → p ≡ Piece.Source i b → ⊥) → ((a b : ℕ) → p ≡ Piece.Operator a b → ⊥) → ((b : Span) → p ≡ Piece.LiteralOperator b → ⊥)
-    → ((a n : ℕ) → p ≡ Piece.Lambda a n → ⊥) → ((a n : ℕ) → p ≡ Piece.GenericLambda a n → ⊥) → ((n : ℕ) → p ≡ Piece.Unnamed n → ⊥) → (p ≡ Piece.StringLiteral → ⊥) → ((t : ℕ) → p ≡ Piece.Conversion t → ⊥) → ((t : ℕ) (name : Span) → p ≡ Piece.Enumeration t name → ⊥) → [] ≡ piece_parts c (reargued given (piece_of s ts p))
+    → ((a n : ℕ) → p ≡ Piece.Lambda a n → ⊥) → ((a n : ℕ) → p ≡ Piece.GenericLambda a n → ⊥) → ((n : ℕ) → p ≡ Piece.Unnamed n → ⊥) → (p ≡ Piece.StringLiteral → ⊥) → ((t : ℕ) → p ≡ Piece.Conversion t → ⊥) → ((t : ℕ) (name : Span) → p ≡ Piece.Enumeration t name → ⊥) → ((names : ℕ) → p ≡ Piece.Bindings names → ⊥) → [] ≡ piece_parts c (reargued given (piece_of s ts p))
 unfolding piece_of piece_parts reargued
-piece-none s ts given c (Piece.Source i b) h1 h2 h3 h4 h8 h5 h6 h7 h9 = absurd (h1 i b refl)
-piece-none s ts given c (Piece.Operator a b) h1 h2 h3 h4 h8 h5 h6 h7 h9 = absurd (h2 a b refl)
-piece-none s ts given c (Piece.LiteralOperator b) h1 h2 h3 h4 h8 h5 h6 h7 h9 = absurd (h3 b refl)
-piece-none s ts given c (Piece.Lambda a n) h1 h2 h3 h4 h8 h5 h6 h7 h9 = absurd (h4 a n refl)
-piece-none s ts given c (Piece.GenericLambda a n) h1 h2 h3 h4 h8 h5 h6 h7 h9 = absurd (h8 a n refl)
-piece-none s ts given c (Piece.Unnamed n) h1 h2 h3 h4 h8 h5 h6 h7 h9 = absurd (h5 n refl)
-piece-none s ts given c Piece.StringLiteral h1 h2 h3 h4 h8 h5 h6 h7 h9 = absurd (h6 refl)
-piece-none s ts given c (Piece.Conversion t) h1 h2 h3 h4 h8 h5 h6 h7 h9 = absurd (h7 t refl)
-piece-none s ts given c (Piece.Enumeration t name) h1 h2 h3 h4 h8 h5 h6 h7 h9 = absurd (h9 t name refl)
-piece-none s ts given c _ h1 h2 h3 h4 h8 h5 h6 h7 h9 = refl
+piece-none s ts given c (Piece.Source i b) h1 h2 h3 h4 h8 h5 h6 h7 h9 h10 = absurd (h1 i b refl)
+piece-none s ts given c (Piece.Operator a b) h1 h2 h3 h4 h8 h5 h6 h7 h9 h10 = absurd (h2 a b refl)
+piece-none s ts given c (Piece.LiteralOperator b) h1 h2 h3 h4 h8 h5 h6 h7 h9 h10 = absurd (h3 b refl)
+piece-none s ts given c (Piece.Lambda a n) h1 h2 h3 h4 h8 h5 h6 h7 h9 h10 = absurd (h4 a n refl)
+piece-none s ts given c (Piece.GenericLambda a n) h1 h2 h3 h4 h8 h5 h6 h7 h9 h10 = absurd (h8 a n refl)
+piece-none s ts given c (Piece.Unnamed n) h1 h2 h3 h4 h8 h5 h6 h7 h9 h10 = absurd (h5 n refl)
+piece-none s ts given c Piece.StringLiteral h1 h2 h3 h4 h8 h5 h6 h7 h9 h10 = absurd (h6 refl)
+piece-none s ts given c (Piece.Conversion t) h1 h2 h3 h4 h8 h5 h6 h7 h9 h10 = absurd (h7 t refl)
+piece-none s ts given c (Piece.Enumeration t name) h1 h2 h3 h4 h8 h5 h6 h7 h9 h10 = absurd (h9 t name refl)
+piece-none s ts given c (Piece.Bindings names) h1 h2 h3 h4 h8 h5 h6 h7 h9 h10 = absurd (h10 names refl)
+piece-none s ts given c _ h1 h2 h3 h4 h8 h5 h6 h7 h9 h10 = refl
 
 pub base-other : (s : List ℕ) (ts : List Term) (given : Option Term) (c : items.Context) (prefix : Term) (p : Piece) → ((d : ℕ) → p ≡ Piece.Constructor d → ⊥) → ((d b : ℕ) → p ≡ Piece.Inheriting d b → ⊥) → ((d : ℕ) → p ≡ Piece.Destructor d → ⊥) → piece_parts c (reargued given (piece_of s ts p)) ≡ base_within c prefix (reargued given (piece_of s ts p))
 unfolding piece_of base_within reargued

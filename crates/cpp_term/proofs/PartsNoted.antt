@@ -4,7 +4,7 @@ use Prim.Native.String.{String}
 use Rattle.sym_print.specs.declared.detail.Detail.{Detail}
 use Rattle.sym_print.specs.Details.{has_arguments, has_parameters}
 use Rattle.sym_print.specs.Unfold.{PartOf, text, sub}
-use Rattle.cpp_grammar.specs.Term.{Qualifiers, RefQualifier, any_value, lvalue_only, rvalue_only, explicit_object, Signed, Term, symbol, function, object, of_name, alone, in_std, within, instance, local, holder, tagged, of_default, abbreviation, parameter, source, constructor, destructor, inheriting, lambda, generic_lambda, builtin, sized_float, pointer, lvalue, rvalue, array, bounded, member_pointer, function_type, qualified, expansion, integer, operation, function_parameter, pack, nil, list, absent}
+use Rattle.cpp_grammar.specs.Term.{Qualifiers, RefQualifier, any_value, lvalue_only, rvalue_only, explicit_object, Signed, Term, symbol, function, object, of_name, alone, in_std, within, instance, local, holder, tagged, of_default, abbreviation, parameter, source, constructor, destructor, inheriting, lambda, generic_lambda, bindings, builtin, sized_float, pointer, lvalue, rvalue, array, bounded, member_pointer, function_type, qualified, expansion, integer, operation, function_parameter, pack, nil, list, absent}
 use Rattle.cpp_grammar.specs.Scope.{arguments_of, without_tags}
 use Rattle.cpp_grammar.specs.Items.{Form, root, full, bare, left, right, low, base, piece, first, more, expand, Context, signature_in, Item, closed, argument, head, is_reference, is_funarr, packs_of, is_empty}
 use Rattle.cpp_grammar.specs.Parts as leaf_
@@ -52,6 +52,8 @@ piece_noted c (lambda parameters number) = ap (λ ps. text (codes "{lambda(") �
     (joins (leaf_.list_part first c parameters) _ (part_.list_part first (noted_context c) (annotate (at c) parameters)) _ (list_noted first c parameters) refl)
 piece_noted c (generic_lambda parameters number) = ap (λ ps. text (codes "{lambda(") ∷ ps)
     (joins (leaf_.list_part first (signature_in c) parameters) _ (part_.list_part first (noted_context (signature_in c)) (annotate (at (signature_in c)) parameters)) _ (list_noted first (signature_in c) parameters) refl)
+piece_noted c (bindings names) = ap (λ ps. text (codes "[") ∷ ps)
+    (joins (leaf_.list_part first c names) _ (part_.list_part first (noted_context c) (annotate (at c) names)) _ (list_noted first c names) refl)
 piece_noted c (source internal bytes) = refl
 piece_noted c _ = refl
 

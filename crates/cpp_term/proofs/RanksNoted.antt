@@ -6,7 +6,7 @@ use Rattle.std.proofs.lemmas.Bool.{false≢true, ltb-true}
 use Rattle.sym_print.specs.declared.detail.Detail.{Detail}
 use Rattle.sym_print.specs.Details.{has_arguments, has_parameters}
 use Rattle.sym_print.specs.Unfold.{PartOf, text, sub, RanksBelow}
-use Rattle.cpp_term.specs.Term.{Term, symbol, function, object, special, thunk, of_name, construction, clone, alone, in_std, within, instance, local, holder, tagged, of_default, abbreviation, parameter, source, constructor, destructor, inheriting, lambda, generic_lambda, conversion, sized_float, pointer, lvalue, rvalue, array, bounded, member_pointer, function_type, qualified, expansion, integer, operation, function_parameter, pack, nil, list, absent, enumeration}
+use Rattle.cpp_term.specs.Term.{Term, symbol, function, object, special, thunk, of_name, construction, clone, alone, in_std, within, instance, local, holder, tagged, of_default, abbreviation, parameter, source, constructor, destructor, inheriting, lambda, generic_lambda, conversion, sized_float, pointer, lvalue, rvalue, array, bounded, member_pointer, function_type, qualified, expansion, integer, operation, function_parameter, pack, nil, list, absent, enumeration, bindings}
 use Rattle.cpp_grammar.specs.Term.{Qualifiers, RefQualifier, Signed}
 use Rattle.cpp_term.specs.Scope.{element, pack_length, without_tags}
 use Rattle.cpp_term.specs.Items.{Context, Item, indexed, argument, head, packs_of, is_empty}
@@ -84,6 +84,7 @@ unfolding piece_parts rank rank_in weight_in weight
 piece_falls r c (source internal name) h = tt
 piece_falls r c (lambda parameters number) h = falls_append r (list_part first c parameters) _ (falls_first r c parameters (omega arith)) tt
 piece_falls r c (generic_lambda parameters number) h = falls_append r (list_part first c parameters) _ (falls_first r c parameters (omega arith)) tt
+piece_falls r c (bindings names) h = falls_append r (list_part first c names) _ (falls_first r c names (omega (arith, h))) tt
 piece_falls r c (conversion t) h = (omega (arith, h), (omega (arith, h), tt))
 piece_falls r c (enumeration t name) h = (omega (arith, h), (omega (arith, h), tt))
 piece_falls r c _ h = tt
