@@ -56,7 +56,7 @@ const CONSTRUCTOR_DIGIT: Sym = Sym::Kind(21);
 
 const INHERITED_DIGIT: Sym = Sym::Kind(22);
 
-const DESTRUCTOR_DIGIT: Sym = Sym::Kind(23);
+const COMPONENT_AFTER_D: Sym = Sym::Kind(23);
 
 const ABBREVIATION: Sym = Sym::Kind(24);
 
@@ -184,175 +184,183 @@ const HOLDER_MARK: Sym = Sym::Kind(85);
 
 const HELD_COMPONENT: Sym = Sym::Kind(86);
 
-const FLOAT_END: Sym = Sym::Kind(87);
+const BINDING_AFTER_D: Sym = Sym::Kind(87);
 
-const COMPONENT_AFTER_C: Sym = Sym::Kind(88);
+const BOUND_NAMES: Sym = Sym::Kind(88);
 
-const OTHER_OPERATOR: Sym = Sym::Kind(89);
+const MORE_NAMES: Sym = Sym::Kind(89);
 
-const HELD_ARGUMENTS: Sym = Sym::Kind(90);
+const BOUND_NAME: Sym = Sym::Kind(90);
 
-const BASE_CLASS: Sym = Sym::Kind(91);
+const FLOAT_END: Sym = Sym::Kind(91);
 
-const UNNESTED_NAME: Sym = Sym::Kind(92);
+const COMPONENT_AFTER_C: Sym = Sym::Kind(92);
 
-const BASE_ARGUMENTS: Sym = Sym::Kind(93);
+const OTHER_OPERATOR: Sym = Sym::Kind(93);
 
-const ARGUMENTS_FIRST: Sym = Sym::Kind(94);
+const HELD_ARGUMENTS: Sym = Sym::Kind(94);
 
-const PLAIN_ENTITY: Sym = Sym::Kind(95);
+const BASE_CLASS: Sym = Sym::Kind(95);
 
-const PLAIN_TYPE_ENTITY: Sym = Sym::Kind(96);
+const UNNESTED_NAME: Sym = Sym::Kind(96);
 
-const SPECIAL_MARK: Sym = Sym::Kind(97);
+const BASE_ARGUMENTS: Sym = Sym::Kind(97);
 
-const SPECIAL_AFTER_G: Sym = Sym::Kind(98);
+const ARGUMENTS_FIRST: Sym = Sym::Kind(98);
 
-const TEMPORARY_NAME: Sym = Sym::Kind(99);
+const PLAIN_ENTITY: Sym = Sym::Kind(99);
 
-const CLONE_LETTER: Sym = Sym::Kind(100);
+const PLAIN_TYPE_ENTITY: Sym = Sym::Kind(100);
 
-const TYPE_IN_STD: Sym = Sym::Kind(101);
+const SPECIAL_MARK: Sym = Sym::Kind(101);
 
-const MAYBE_TAGS: Sym = Sym::Kind(102);
+const SPECIAL_AFTER_G: Sym = Sym::Kind(102);
 
-const ARGUMENT: Sym = Sym::Kind(103);
+const TEMPORARY_NAME: Sym = Sym::Kind(103);
 
-const ARGUMENT_AFTER_T: Sym = Sym::Kind(104);
+const CLONE_LETTER: Sym = Sym::Kind(104);
 
-const LEVELED_PARAMETER: Sym = Sym::Kind(105);
+const TYPE_IN_STD: Sym = Sym::Kind(105);
 
-const ONE_ARGUMENT: Sym = Sym::Kind(106);
+const MAYBE_TAGS: Sym = Sym::Kind(106);
 
-const DECLARATION_AFTER_T: Sym = Sym::Kind(107);
+const ARGUMENT: Sym = Sym::Kind(107);
 
-const DECLARATIONS: Sym = Sym::Kind(108);
+const ARGUMENT_AFTER_T: Sym = Sym::Kind(108);
 
-const CONCEPT: Sym = Sym::Kind(109);
+const LEVELED_PARAMETER: Sym = Sym::Kind(109);
 
-const SOLID_BUT_T: Sym = Sym::Kind(110);
+const ONE_ARGUMENT: Sym = Sym::Kind(110);
 
-const EXPRESSION: Sym = Sym::Kind(111);
+const DECLARATION_AFTER_T: Sym = Sym::Kind(111);
 
-const EXPRESSION_PARAMETER: Sym = Sym::Kind(112);
+const DECLARATIONS: Sym = Sym::Kind(112);
 
-const UNLEVELED_EXPRESSION: Sym = Sym::Kind(113);
+const CONCEPT: Sym = Sym::Kind(113);
 
-const ADDRESSED_EXPRESSION: Sym = Sym::Kind(114);
+const SOLID_BUT_T: Sym = Sym::Kind(114);
 
-const ADDRESSED_LITERAL: Sym = Sym::Kind(115);
+const EXPRESSION: Sym = Sym::Kind(115);
 
-const EXPRESSION_AFTER_A: Sym = Sym::Kind(116);
+const EXPRESSION_PARAMETER: Sym = Sym::Kind(116);
 
-const EXPRESSION_AFTER_C: Sym = Sym::Kind(117);
+const UNLEVELED_EXPRESSION: Sym = Sym::Kind(117);
 
-const EXPRESSION_AFTER_D: Sym = Sym::Kind(118);
+const ADDRESSED_EXPRESSION: Sym = Sym::Kind(118);
 
-const EXPRESSION_AFTER_E: Sym = Sym::Kind(119);
+const ADDRESSED_LITERAL: Sym = Sym::Kind(119);
 
-const EXPRESSION_AFTER_F: Sym = Sym::Kind(120);
+const EXPRESSION_AFTER_A: Sym = Sym::Kind(120);
 
-const EXPRESSION_AFTER_G: Sym = Sym::Kind(121);
+const EXPRESSION_AFTER_C: Sym = Sym::Kind(121);
 
-const EXPRESSION_AFTER_I: Sym = Sym::Kind(122);
+const EXPRESSION_AFTER_D: Sym = Sym::Kind(122);
 
-const EXPRESSION_AFTER_L: Sym = Sym::Kind(123);
+const EXPRESSION_AFTER_E: Sym = Sym::Kind(123);
 
-const EXPRESSION_AFTER_M: Sym = Sym::Kind(124);
+const EXPRESSION_AFTER_F: Sym = Sym::Kind(124);
 
-const EXPRESSION_AFTER_N: Sym = Sym::Kind(125);
+const EXPRESSION_AFTER_G: Sym = Sym::Kind(125);
 
-const EXPRESSION_AFTER_O: Sym = Sym::Kind(126);
+const EXPRESSION_AFTER_I: Sym = Sym::Kind(126);
 
-const EXPRESSION_AFTER_P: Sym = Sym::Kind(127);
+const EXPRESSION_AFTER_L: Sym = Sym::Kind(127);
 
-const EXPRESSION_AFTER_Q: Sym = Sym::Kind(128);
+const EXPRESSION_AFTER_M: Sym = Sym::Kind(128);
 
-const EXPRESSION_AFTER_R: Sym = Sym::Kind(129);
+const EXPRESSION_AFTER_N: Sym = Sym::Kind(129);
 
-const EXPRESSION_AFTER_S: Sym = Sym::Kind(130);
+const EXPRESSION_AFTER_O: Sym = Sym::Kind(130);
 
-const EXPRESSION_AFTER_T: Sym = Sym::Kind(131);
+const EXPRESSION_AFTER_P: Sym = Sym::Kind(131);
 
-const EXPRESSIONS: Sym = Sym::Kind(132);
+const EXPRESSION_AFTER_Q: Sym = Sym::Kind(132);
 
-const MAYBE_BEFORE: Sym = Sym::Kind(133);
+const EXPRESSION_AFTER_R: Sym = Sym::Kind(133);
 
-const FOLD_OPERATOR: Sym = Sym::Kind(134);
+const EXPRESSION_AFTER_S: Sym = Sym::Kind(134);
 
-const FOLD_OPERATOR_AFTER_L: Sym = Sym::Kind(135);
+const EXPRESSION_AFTER_T: Sym = Sym::Kind(135);
 
-const FOLD_OPERAND: Sym = Sym::Kind(136);
+const EXPRESSIONS: Sym = Sym::Kind(136);
 
-const FOLD_PACK: Sym = Sym::Kind(137);
+const MAYBE_BEFORE: Sym = Sym::Kind(137);
 
-const VALUE_PACK: Sym = Sym::Kind(138);
+const FOLD_OPERATOR: Sym = Sym::Kind(138);
 
-const TYPE_PACK: Sym = Sym::Kind(139);
+const FOLD_OPERATOR_AFTER_L: Sym = Sym::Kind(139);
 
-const DESIGNATED_VALUE: Sym = Sym::Kind(140);
+const FOLD_OPERAND: Sym = Sym::Kind(140);
 
-const DESIGNATOR_AFTER_D: Sym = Sym::Kind(141);
+const FOLD_PACK: Sym = Sym::Kind(141);
 
-const PLAIN_VALUE: Sym = Sym::Kind(142);
+const VALUE_PACK: Sym = Sym::Kind(142);
 
-const FIELD_NAME: Sym = Sym::Kind(143);
+const TYPE_PACK: Sym = Sym::Kind(143);
 
-const PLACEMENT: Sym = Sym::Kind(144);
+const DESIGNATED_VALUE: Sym = Sym::Kind(144);
 
-const SOME_EXPRESSIONS: Sym = Sym::Kind(145);
+const DESIGNATOR_AFTER_D: Sym = Sym::Kind(145);
 
-const INITIALIZER: Sym = Sym::Kind(146);
+const PLAIN_VALUE: Sym = Sym::Kind(146);
 
-const INITIALIZER_AFTER_P: Sym = Sym::Kind(147);
+const FIELD_NAME: Sym = Sym::Kind(147);
 
-const INITIALIZER_AFTER_I: Sym = Sym::Kind(148);
+const PLACEMENT: Sym = Sym::Kind(148);
 
-const OUTER_REST: Sym = Sym::Kind(149);
+const SOME_EXPRESSIONS: Sym = Sym::Kind(149);
 
-const PARAMETER_NUMBER: Sym = Sym::Kind(150);
+const INITIALIZER: Sym = Sym::Kind(150);
 
-const CONVERTED_TYPE: Sym = Sym::Kind(151);
+const INITIALIZER_AFTER_P: Sym = Sym::Kind(151);
 
-const CONVERTED_SOLID: Sym = Sym::Kind(152);
+const INITIALIZER_AFTER_I: Sym = Sym::Kind(152);
 
-const PARAMETER_AFTER_T: Sym = Sym::Kind(153);
+const OUTER_REST: Sym = Sym::Kind(153);
 
-const DECLTYPE_AFTER_D: Sym = Sym::Kind(154);
+const PARAMETER_NUMBER: Sym = Sym::Kind(154);
 
-const CONVERTED_AFTER_D: Sym = Sym::Kind(155);
+const CONVERTED_TYPE: Sym = Sym::Kind(155);
 
-const CONVERT_REST: Sym = Sym::Kind(156);
+const CONVERTED_SOLID: Sym = Sym::Kind(156);
 
-const UNRESOLVED: Sym = Sym::Kind(157);
+const PARAMETER_AFTER_T: Sym = Sym::Kind(157);
 
-const UNRESOLVED_TYPE: Sym = Sym::Kind(158);
+const DECLTYPE_AFTER_D: Sym = Sym::Kind(158);
 
-const DESTRUCTOR_NAME: Sym = Sym::Kind(159);
+const CONVERTED_AFTER_D: Sym = Sym::Kind(159);
 
-const REQUIREMENTS: Sym = Sym::Kind(160);
+const CONVERT_REST: Sym = Sym::Kind(160);
 
-const AFTER_EXPRESSION: Sym = Sym::Kind(161);
+const UNRESOLVED: Sym = Sym::Kind(161);
 
-const AFTER_NOEXCEPT: Sym = Sym::Kind(162);
+const UNRESOLVED_TYPE: Sym = Sym::Kind(162);
 
-const REQUIRED_TYPES: Sym = Sym::Kind(163);
+const DESTRUCTOR_NAME: Sym = Sym::Kind(163);
 
-const LEVEL: Sym = Sym::Kind(164);
+const REQUIREMENTS: Sym = Sym::Kind(164);
 
-const MORE_LEVELS: Sym = Sym::Kind(165);
+const MAYBE_NOEXCEPT: Sym = Sym::Kind(165);
 
-const UNRESOLVED_NAME: Sym = Sym::Kind(166);
+const AFTER_NOEXCEPT: Sym = Sym::Kind(166);
 
-const OPERATOR_NAME: Sym = Sym::Kind(167);
+const REQUIRED_TYPES: Sym = Sym::Kind(167);
 
-const ANY_ARRAY: Sym = Sym::Kind(168);
+const LEVEL: Sym = Sym::Kind(168);
 
-const ARRAY_REST: Sym = Sym::Kind(169);
+const MORE_LEVELS: Sym = Sym::Kind(169);
 
-const BOUND: Sym = Sym::Kind(170);
+const UNRESOLVED_NAME: Sym = Sym::Kind(170);
 
-const NEST_MORE_OR_END: Sym = Sym::Kind(171);
+const OPERATOR_NAME: Sym = Sym::Kind(171);
+
+const ANY_ARRAY: Sym = Sym::Kind(172);
+
+const ARRAY_REST: Sym = Sym::Kind(173);
+
+const BOUND: Sym = Sym::Kind(174);
+
+const NEST_MORE_OR_END: Sym = Sym::Kind(175);
 
 const NAME: Sym = Sym::Name;
 
@@ -362,75 +370,73 @@ const SEQ36: Sym = Sym::Number(NumberKind::Seq36);
 
 const DIGITS: Sym = Sym::Number(NumberKind::Digits);
 
-/// The letter of the production with number 0; the others have the bytes after it, in the order of their numbers. After the
-/// byte 255 they go on at 0.
-pub const FIRST_LETTER: u8 = b'!';
+// The letter of a production is the byte with its number. The production with the number of the blank has none here.
 
 // For each kind a row: for each byte from `$` to `z` the letter of the production that the kind takes there.
-static LETTERS: [[u8; 87]; 172] = [
+static LETTERS: [[u8; 87]; 176] = [
     // $%&'()*+,-./0123456789:;<=>?@ABCDEFGHIJKLMNOPQRSTUVWXYZ[\]^_`abcdefghijklmnopqrstuvwxyz
-    *b"                                                           ,                           ", // Symbol
-    *b"          -                                                                            ", // MaybeSuffix
-    *b".         . ..........       ..........................    . ..........................", // SuffixFirst
-    *b".         . ..........       ..........................    . ..........................", // SuffixMore
-    *b"            1111111111             0    1 1    1/1    1      1 111 1 1  11111 11       ", // Encoding
-    *b"                                     2         22 2            5    3             4    ", // Special
-    *b"                                                                    9             :    ", // CallOffset
-    *b"            <<<<<<<<<<                                                    ;            ", // Integer
-    *b"            $$$$$$$$$$                  \" +    = #    >      % %%% % %  %%%%% %%       ", // CompleteName
+    *b"                                                           -                           ", // Symbol
+    *b"          .                                                                            ", // MaybeSuffix
+    *b"/         / //////////       //////////////////////////    / //////////////////////////", // SuffixFirst
+    *b"/         / //////////       //////////////////////////    / //////////////////////////", // SuffixMore
+    *b"            2222222222             1    2 2    202    2      2 222 2 2  22222 22       ", // Encoding
+    *b"                                     3         33 3            6    4             5    ", // Special
+    *b"                                                                    8             9    ", // CallOffset
+    *b"            ;;;;;;;;;;                                                    :            ", // Integer
+    *b"            $$$$$$$$$$                  \" ,    < #    =      % %%% % %  %%%%% %%       ", // CompleteName
     *b"                                                                              !        ", // MaybeRestrict
     *b"                                                  !                                    ", // MaybeVolatile
     *b"                                       !                                               ", // MaybeConst
     *b"                                           !  !                                        ", // MaybeRef
-    *b"            @@@@@@@@@@       @@@@@@@@@@@@@@@@@@@@@@@@@@    @ @@ @    @     @   @?      ", // NameAfterS
-    *b"            ((((((((((                  &        '           A AAA A A  AAAAA AA       ", // Unqualified
-    *b"            FFFFFFFFFF                  D      BCE                                     ", // Nest
-    *b"            JJJJJJJJJJ       JJJJJJJJJJJJJJJJJJJJJJJJJJ    J JJ J    J     J   JI      ", // NestAfterS
-    *b"            LLLLLLLLLL         LL    K  L        L           L LLL L L  LLLLL LL       ", // NestRest
-    *b"            LLLLLLLLLL         LLN      L        L           L LLL L L  LLLLL LL       ", // NestTail
-    *b"            $$$$$$$$$$         OP       \"        #           R QRR R R  RRRRR RR       ", // Component
-    *b"             VVV                                                                       ", // ConstructorAfterC
+    *b"            ??????????       ??????????????????????????    ? ?? ?    ?     ?   ?>      ", // NameAfterS
+    *b"            ))))))))))                  '        (           @ @@@ @ @  @@@@@ @@       ", // Unqualified
+    *b"            EEEEEEEEEE                  C      ABD                                     ", // Nest
+    *b"            GGGGGGGGGG       GGGGGGGGGGGGGGGGGGGGGGGGGG    G GG G    G     G   GF      ", // NestAfterS
+    *b"            IIIIIIIIII         II    H  I        I           I III I I  IIIII II       ", // NestRest
+    *b"            IIIIIIIIII         IIJ      I        I           I III I I  IIIII II       ", // NestTail
+    *b"            $$$$$$$$$$         KL       \"        #           N MNN N N  NNNNN NN       ", // Component
+    *b"             OOO                                                                       ", // ConstructorAfterC
     *b"             !!!                                                                       ", // ConstructorDigit
     *b"             !! !!                                                                     ", // InheritedDigit
-    *b"            !!!                                                                        ", // DestructorDigit
-    *b"            XXXXXXXXXX       XXXXXXXXXXXXXXXXXXXXXXXXXX    X WW W    W     W   W       ", // Abbreviation
-    *b"            $$$$$$$$$$                  \" +      #                             Z       ", // Entity
-    *b"            $$$$$$$$$$                  \" Y      #                                     ", // TypeEntity
-    *b"                                                           ]                           ", // MaybeDiscriminator
-    *b"            ^^^^^^^^^^                                     _                           ", // DiscriminatorRest
-    *b"                                                                        `       a      ", // Anonymous
-    *b"            gggggggggg       g gh g    e ggfg fgggd   g      gggggggggg gggg  cgggggggg", // Type
-    *b"            jjjjjjjjjj       j ji j      jjfj fjjj    j      jjjjjjjjjj jjjj   jjjjjjjj", // Plain
-    *b"            gggggggggg       g gk g    e ggfg fgggd   g      gggggggggg gggg  cgggggggg", // Item
-    *b"            gggggggggg       g gk g    e gg g  gggd   g      gggggggggg gggg  cgggggggg", // ItemButRef
-    *b"                                                             m m     m    mml  m mm    ", // ItemAfterD
-    *b"                                                             n n     n    np   n no    ", // AfterD
-    *b"            $$$$$$$$$$       } \x7f  ~      wY v  yx#    z      {{{{{{{{{{ {{{{   {{|{{{{{", // Solid
+    *b"            !!!                                                                        ", // ComponentAfterD
+    *b"            RRRRRRRRRR       RRRRRRRRRRRRRRRRRRRRRRRRRR    R QQ Q    Q     Q   Q       ", // Abbreviation
+    *b"            $$$$$$$$$$                  \" ,      #                             T       ", // Entity
+    *b"            $$$$$$$$$$                  \" S      #                                     ", // TypeEntity
+    *b"                                                           U                           ", // MaybeDiscriminator
+    *b"            VVVVVVVVVV                                     W                           ", // DiscriminatorRest
+    *b"                                                                        X       Y      ", // Anonymous
+    *b"            ^^^^^^^^^^       ^ ^_ ^    \\ ^^]^ ]^^^[   ^      ^^^^^^^^^^ ^^^^  Z^^^^^^^^", // Type
+    *b"            aaaaaaaaaa       a a` a      aa]a ]aaa    a      aaaaaaaaaa aaaa   aaaaaaaa", // Plain
+    *b"            ^^^^^^^^^^       ^ ^b ^    \\ ^^]^ ]^^^[   ^      ^^^^^^^^^^ ^^^^  Z^^^^^^^^", // Item
+    *b"            ^^^^^^^^^^       ^ ^b ^    \\ ^^ ^  ^^^[   ^      ^^^^^^^^^^ ^^^^  Z^^^^^^^^", // ItemButRef
+    *b"                                                             d d     d    ddc  d dd    ", // ItemAfterD
+    *b"                                                             e e     e    eg   e ef    ", // AfterD
+    *b"            $$$$$$$$$$       q s  r      kS j  ml#    n      oooooooooo oooo   oopooooo", // Solid
     *b"                                                     !                                 ", // MaybeCLinkage
-    *b"            \x80\x80\x80\x80\x80\x80\x80\x80\x80\x80                                                                 ", // BitWidth
-    *b"            \x82\x82\x82\x82\x82\x82\x82\x82\x82\x82       \x82\x82\x82\x82\x82\x82\x82\x82\x82\x82\x82\x82\x82\x82\x82\x82\x82\x82\x82\x82\x82\x82\x82\x82\x82\x82    \x82 \x82\x82 \x82    \x82     \x82   \x82\x81      ", // TypeAfterS
-    *b"            ((((((((((                  &        '                                     ", // SourceOrLocal
-    *b"            \x86\x86\x86\x86\x86\x86\x86\x86\x86\x86       \x86 \x86\x86\x83\x86    \x86 \x86\x86\x85\x86 \x84\x86\x86\x86\x86   \x86      \x86\x86\x86\x86\x86\x86\x86\x86\x86\x86 \x86\x86\x86\x86  \x86\x86\x86\x86\x86\x86\x86\x86\x86", // FunctionRest
-    *b"            \x88\x88\x88\x88\x88\x88\x88\x88\x88\x88       \x88 \x88\x88\x87\x88    \x88 \x88\x88\x88\x88 \x88\x88\x88\x88\x88   \x88      \x88\x88\x88\x88\x88\x88\x88\x88\x88\x88 \x88\x88\x88\x88  \x88\x88\x88\x88\x88\x88\x88\x88\x88", // AfterR
-    *b"            \x89\x89\x89\x89\x89\x89\x89\x89\x89\x89       \x89 \x89\x89\x87\x89    \x89 \x89\x89\x89\x89 \x89\x89\x89\x89\x89   \x89      \x89\x89\x89\x89\x89\x89\x89\x89\x89\x89 \x89\x89\x89\x89  \x89\x89\x89\x89\x89\x89\x89\x89\x89", // AfterO
-    *b"            \x8b\x8b\x8b\x8b\x8b\x8b\x8b\x8b\x8b\x8b       \x8b \x8b\x8b \x8b    \x8b \x8b\x8b\x8b\x8b \x8b\x8b\x8b\x8b\x8b   \x8b      \x8b\x8b\x8b\x8b\x8b\x8b\x8b\x8b\x8b\x8b \x8b\x8b\x8b\x8b  \x8b\x8b\x8b\x8b\x8b\x8b\x8b\x8b\x8b", // Items
-    *b"                                     \x8c                                                 ", // MaybeArguments
-    *b"                                     \x8c                                                 ", // Arguments
-    *b"            \x90\x90\x90\x90\x90\x90\x90\x90\x90\x90       \x90 \x90\x90 \x90   \x8e\x90\x8f\x90\x90\x90\x90 \x90\x90\x90\x90\x90 \x90 \x90      \x90\x90\x90\x90\x90\x90\x90\x90\x90\x90 \x90\x90\x90\x90  \x90\x90\x90\x90\x90\x90\x90\x90\x90", // ArgumentList
-    *b"            \x92\x92\x92\x92\x92\x92\x92\x92\x92\x92       \x92 \x92\x92 \x92    \x92\x91\x92\x92\x92\x92 \x92\x92\x92\x92\x92 \x92 \x92      \x92\x92\x92\x92\x92\x92\x92\x92\x92\x92 \x92\x92\x92\x92  \x92\x92\x92\x92\x92\x92\x92\x92\x92", // PackList
-    *b"            \x96\x96\x96\x96\x96\x96\x96\x96\x96\x96          \x95        \x96\x96 \x96  \x96\x96\x96    \x96    \x93 \x96\x94\x96    \x96\x96\x96 \x96\x96\x96\x96   \x96\x96  \x96\x96\x96 ", // Literal
+    *b"            tttttttttt                                                                 ", // BitWidth
+    *b"            vvvvvvvvvv       vvvvvvvvvvvvvvvvvvvvvvvvvv    v vv v    v     v   vu      ", // TypeAfterS
+    *b"            ))))))))))                  '        (                                     ", // SourceOrLocal
+    *b"            zzzzzzzzzz       z zzwz    z zzyz xzzzz   z      zzzzzzzzzz zzzz  zzzzzzzzz", // FunctionRest
+    *b"            ||||||||||       | ||{|    | |||| |||||   |      |||||||||| ||||  |||||||||", // AfterR
+    *b"            }}}}}}}}}}       } }}{}    } }}}} }}}}}   }      }}}}}}}}}} }}}}  }}}}}}}}}", // AfterO
+    *b"            ~~~~~~~~~~       ~ ~~ ~    ~ ~~~~ ~~~~~   ~      ~~~~~~~~~~ ~~~~  ~~~~~~~~~", // Items
+    *b"                                     \x7f                                                 ", // MaybeArguments
+    *b"                                     \x7f                                                 ", // Arguments
+    *b"            \x82\x82\x82\x82\x82\x82\x82\x82\x82\x82       \x82 \x82\x82 \x82   \x80\x82\x81\x82\x82\x82\x82 \x82\x82\x82\x82\x82 \x82 \x82      \x82\x82\x82\x82\x82\x82\x82\x82\x82\x82 \x82\x82\x82\x82  \x82\x82\x82\x82\x82\x82\x82\x82\x82", // ArgumentList
+    *b"            \x84\x84\x84\x84\x84\x84\x84\x84\x84\x84       \x84 \x84\x84 \x84    \x84\x83\x84\x84\x84\x84 \x84\x84\x84\x84\x84 \x84 \x84      \x84\x84\x84\x84\x84\x84\x84\x84\x84\x84 \x84\x84\x84\x84  \x84\x84\x84\x84\x84\x84\x84\x84\x84", // PackList
+    *b"            \x88\x88\x88\x88\x88\x88\x88\x88\x88\x88          \x87        \x88\x88 \x88  \x88\x88\x88    \x88    \x85 \x88\x86\x88    \x88\x88\x88 \x88\x88\x88\x88   \x88\x88  \x88\x88\x88 ", // Literal
     *b"            !!                                                                         ", // Bit
-    *b"                                                                     \x99    \x98    \x99 \x99     ", // LiteralAfterD
-    *b"                                                                {{{{                   ", // FloatType
-    *b"                                  q                                                    ", // SizedFloatType
-    *b"            \x9b\x9b\x9b\x9b\x9b\x9b\x9b\x9b\x9b\x9b                                       \x9b\x9b\x9b\x9b\x9b\x9b                    ", // HexText
-    *b"            \x9c\x9c\x9c\x9c\x9c\x9c\x9c\x9c\x9c\x9c                                       \x9c\x9c\x9c\x9c\x9c\x9c                    ", // HexDigits
-    *b"            \x9c\x9c\x9c\x9c\x9c\x9c\x9c\x9c\x9c\x9c                                       \x9c\x9c\x9c\x9c\x9c\x9c                    ", // HexMore
+    *b"                                                                     \x8a    \x89    \x8a \x8a     ", // LiteralAfterD
+    *b"                                                                oooo                   ", // FloatType
+    *b"                                  h                                                    ", // SizedFloatType
+    *b"            \x8b\x8b\x8b\x8b\x8b\x8b\x8b\x8b\x8b\x8b                                       \x8b\x8b\x8b\x8b\x8b\x8b                    ", // HexText
+    *b"            \x8c\x8c\x8c\x8c\x8c\x8c\x8c\x8c\x8c\x8c                                       \x8c\x8c\x8c\x8c\x8c\x8c                    ", // HexDigits
+    *b"            \x8c\x8c\x8c\x8c\x8c\x8c\x8c\x8c\x8c\x8c                                       \x8c\x8c\x8c\x8c\x8c\x8c                    ", // HexMore
     *b"            !                                                                          ", // MaybeZero
-    *b"            $$$$$$$$$$                   wY v  yx#    z      { {    {{{ {{{{   {{  {{{ ", // LiteralType
-    *b"            \x9f\x9f\x9f\x9f\x9f\x9f\x9f\x9f\x9f\x9f                   \x9f\x9f \x9f  \x9f\x9f\x9f    \x9f      \x9f \x9f    \x9f\x9f\x9f \x9f\x9f\x9f\x9f   \x9f\x9f  \x9f\x9f\x9f ", // LiteralPlain
-    *b"            $$$$$$$$$$                   wY v  yx#    z      { {    {{{ {{{{   {{  {{{ ", // LiteralSolid
-    *b"                                                             \xa2 \xa4\xa1\xa8 \xac \xab  \xa9\xa5\xa0\xa7\xa3 \xa6\xaa       ", // Operator
+    *b"            $$$$$$$$$$                   kS j  ml#    n      o o    ooo oooo   oo  ooo ", // LiteralType
+    *b"            \x8d\x8d\x8d\x8d\x8d\x8d\x8d\x8d\x8d\x8d                   \x8d\x8d \x8d  \x8d\x8d\x8d    \x8d      \x8d \x8d    \x8d\x8d\x8d \x8d\x8d\x8d\x8d   \x8d\x8d  \x8d\x8d\x8d ", // LiteralPlain
+    *b"            $$$$$$$$$$                   kS j  ml#    n      o o    ooo oooo   oo  ooo ", // LiteralSolid
+    *b"                                                             \x90 \x92\x8f\x96 \x9a \x99  \x97\x93\x8e\x95\x91 \x94\x98       ", // Operator
     *b"                                                             !   ! !            !  !   ", // OperatorAfterN
     *b"                                                  !          !   !      !         !    ", // OperatorAfterD
     *b"                                          !    !             !  !         !        !   ", // OperatorAfterA
@@ -440,107 +446,111 @@ static LETTERS: [[u8; 87]; 172] = [
     *b"                                         !     !                         !     !       ", // OperatorAfterR
     *b"                                              !                            !  !        ", // OperatorAfterO
     *b"                                           !                               ! !         ", // OperatorAfterE
-    *b"                                               !                 !   \xad         !!      ", // OperatorAfterL
+    *b"                                               !                 !   \x9b         !!      ", // OperatorAfterL
     *b"                                                                               !       ", // OperatorAfterS
     *b"                                                                                    !  ", // OperatorAfterI
     *b"                                                                 !              !      ", // OperatorAfterG
-    *b"            LLLLLLLLLL         LL    \xae  L        L           L LLL L L  LLLLL LL       ", // NestRestOrEnd
-    *b"                                     \x8c                                                 ", // ArgumentsAlone
-    *b"            LLLLLLLLLL         LL    K  L        L           L LLL L L  LLLLL LL       ", // NestRestAlone
-    *b"            \xaf\xaf\xaf\xaf\xaf\xaf\xaf\xaf\xaf\xaf                                                                 ", // FirstModule
-    *b"            \xb0\xb0\xb0\xb0\xb0\xb0\xb0\xb0\xb0\xb0       \xb0\xb0\xb0\xb0\xb0\xb0\xb0\xb0\xb0\xb0\xb0\xb0\xb0\xb0\xb0\xb0\xb0\xb0\xb0\xb0\xb0\xb0\xb0\xb0\xb0\xb0    \xb0                           ", // NamedModule
-    *b"                                                   \xb1                                   ", // MoreModule
+    *b"            IIIIIIIIII         II    \x9c  I        I           I III I I  IIIII II       ", // NestRestOrEnd
+    *b"                                     \x7f                                                 ", // ArgumentsAlone
+    *b"            IIIIIIIIII         II    H  I        I           I III I I  IIIII II       ", // NestRestAlone
+    *b"            \x9d\x9d\x9d\x9d\x9d\x9d\x9d\x9d\x9d\x9d                                                                 ", // FirstModule
+    *b"            \x9e\x9e\x9e\x9e\x9e\x9e\x9e\x9e\x9e\x9e       \x9e\x9e\x9e\x9e\x9e\x9e\x9e\x9e\x9e\x9e\x9e\x9e\x9e\x9e\x9e\x9e\x9e\x9e\x9e\x9e\x9e\x9e\x9e\x9e\x9e\x9e    \x9e                           ", // NamedModule
+    *b"                                                   \x9f                                   ", // MoreModule
     *b"                                            !                                          ", // MaybePartition
     *b"            $$$$$$$$$$                  \"        #           % %%% % %  %%%%% %%       ", // NameAfterModule
-    *b"                                                   )                                   ", // NameInModule
-    *b"            LLLLLLLLLL         LL       L        L           L LLL L L  LLLLL LL       ", // NestOn
+    *b"                                                   *                                   ", // NameInModule
+    *b"            IIIIIIIIII         II       I        I           I III I I  IIIII II       ", // NestOn
     *b"                                         !                                             ", // HolderMark
-    *b"            $$$$$$$$$$         OP       \"      * # )         R QRR R R  RRRRR RR       ", // HeldComponent
+    *b"            $$$$$$$$$$         KL       \"      + # *         N MNN N N  NNNNN NN       ", // HeldComponent
+    *b"                               P                                                       ", // BindingAfterD
+    *b"            \xa1\xa1\xa1\xa1\xa1\xa1\xa1\xa1\xa1\xa1                  \xa1                                              ", // BoundNames
+    *b"            \xa1\xa1\xa1\xa1\xa1\xa1\xa1\xa1\xa1\xa1                  \xa1                                              ", // MoreNames
+    *b"            \xa0\xa0\xa0\xa0\xa0\xa0\xa0\xa0\xa0\xa0                  p                                              ", // BoundName
     *b"                                                           !  !                     !  ", // FloatEnd
-    *b"                                                                        \xb3\xb3 \xb3           ", // ComponentAfterC
-    *b"                                                             \xa2  \xa1\xa8 \xac \xab  \xa9\xa5\xa0\xa7\xa3 \xa6\xaa       ", // OtherOperator
-    *b"                                     \xb4                                                 ", // HeldArguments
-    *b"            \xb6\xb6\xb6\xb6\xb6\xb6\xb6\xb6\xb6\xb6                    \xb5    \xb6      z                                ", // BaseClass
-    *b"            \xb8\xb8\xb8\xb8\xb8\xb8\xb8\xb8\xb8\xb8                         \xb7                                       ", // UnnestedName
-    *b"                                     \xb9                                                 ", // BaseArguments
-    *b"            \x90\x90\x90\x90\x90\x90\x90\x90\x90\x90       \x90 \x90\x90 \x90   \x8e\x90\x8f\x90\x90\x90\x90 \x90\x90\x90\x90\x90 \x90 \x90      \x90\x90\x90\x90\x90\x90\x90\x90\x90\x90 \x90\x90\x90\x90  \x90\x90\x90\x90\x90\x90\x90\x90\x90", // ArgumentsFirst
-    *b"            $$$$$$$$$$                  \" +      #                                     ", // PlainEntity
-    *b"            $$$$$$$$$$                  \" Y      #                                     ", // PlainTypeEntity
+    *b"                                                                        \xa2\xa2 \xa2           ", // ComponentAfterC
+    *b"                                                             \x90  \x8f\x96 \x9a \x99  \x97\x93\x8e\x95\x91 \x94\x98       ", // OtherOperator
+    *b"                                     \xa3                                                 ", // HeldArguments
+    *b"            \xa5\xa5\xa5\xa5\xa5\xa5\xa5\xa5\xa5\xa5                    \xa4    \xa5      n                                ", // BaseClass
+    *b"            \xa7\xa7\xa7\xa7\xa7\xa7\xa7\xa7\xa7\xa7                         \xa6                                       ", // UnnestedName
+    *b"                                     \xa8                                                 ", // BaseArguments
+    *b"            \x82\x82\x82\x82\x82\x82\x82\x82\x82\x82       \x82 \x82\x82 \x82   \x80\x82\x81\x82\x82\x82\x82 \x82\x82\x82\x82\x82 \x82 \x82      \x82\x82\x82\x82\x82\x82\x82\x82\x82\x82 \x82\x82\x82\x82  \x82\x82\x82\x82\x82\x82\x82\x82\x82", // ArgumentsFirst
+    *b"            $$$$$$$$$$                  \" ,      #                                     ", // PlainEntity
+    *b"            $$$$$$$$$$                  \" S      #                                     ", // PlainTypeEntity
     *b"                                   !                                                   ", // SpecialMark
-    *b"                                                  6                                    ", // SpecialAfterG
-    *b"            $$$$$$$$$$                  \" +    = #    \xbd                                ", // TemporaryName
+    *b"                                                  7                                    ", // SpecialAfterG
+    *b"            $$$$$$$$$$          &       \" ,    < #    \xa9                                ", // TemporaryName
     *b"                                                                          !     !      ", // CloneLetter
-    *b"                                                                                \xbe      ", // TypeInStd
+    *b"                                                                                \xaa      ", // TypeInStd
     *b"                                                                                       ", // MaybeTags
-    *b"            \xc2\xc2\xc2\xc2\xc2\xc2\xc2\xc2\xc2\xc2       \xc2 \xc2k \xc2    e \xc2\xc2f\xc2 f\xc2\xc1\xc2d \xc0 \xc2      \xc2\xc2\xc2\xc2\xc2\xc2\xc2\xc2\xc2\xc2 \xc2\xc2\xc2\xc2  c\xc2\xc2\xc2\xc2\xc2\xc2\xc2\xc2", // Argument
-    *b"            \xc3\xc3\xc3\xc3\xc3\xc3\xc3\xc3\xc3\xc3                                     \xc3                           ", // ArgumentAfterT
-    *b"            \xc3\xc3\xc3\xc3\xc3\xc3\xc3\xc3\xc3\xc3                                     \xc3                           ", // LeveledParameter
-    *b"            \xc2\xc2\xc2\xc2\xc2\xc2\xc2\xc2\xc2\xc2       \xc2 \xc2k \xc2   \xc7e\xc6\xc2\xc2f\xc2 f\xc2\xc1\xc2d \xc0 \xc2      \xc2\xc2\xc2\xc2\xc2\xc2\xc2\xc2\xc2\xc2 \xc2\xc2\xc2\xc2  c\xc2\xc2\xc2\xc2\xc2\xc2\xc2\xc2", // OneArgument
-    *b"                                                                       \xca  \xc9 \xcc   \xcb    \xc8 ", // DeclarationAfterT
-    *b"                                                \xcd                                      ", // Declarations
-    *b"            \xce\xce\xce\xce\xce\xce\xce\xce\xce\xce                    Y    \xce                                       ", // Concept
-    *b"            $$$$$$$$$$       } \x7f  ~      wY v  y #    z      {{{{{{{{{{ {{{{   {{|{{{{{", // SolidButT
-    *b"                                                             \xeb                         ", // Expression
-    *b"            \xfc\xfc\xfc\xfc\xfc\xfc\xfc\xfc\xfc\xfc                  \xfd                  \xfc                           ", // ExpressionParameter
-    *b"            \xfc\xfc\xfc\xfc\xfc\xfc\xfc\xfc\xfc\xfc                                     \xfc                           ", // UnleveledExpression
-    *b"                                        \xfe                                              ", // AddressedExpression
-    *b"                                                           \x93                           ", // AddressedLiteral
-    *b"                                                                \xd3                      ", // ExpressionAfterA
-    *b"                                                               \xcf        \xd7\xd4 \xd5\xd7     \xd8    ", // ExpressionAfterC
-    *b"                                                  \xd4          \xd5 \xcf \xd5   \xd9  \xd5 \xdb    \xd4\xd4 \xd4 \xda  ", // ExpressionAfterD
-    *b"                                           \xd4                               \xd4 \xd4         ", // ExpressionAfterE
-    *b"                                        \xdc                               \xdd   \xd2 \xde        ", // ExpressionAfterF
-    *b"                                                                 \xd4             \xd5\xd4      ", // ExpressionAfterG
-    *b"                                                                        \xdf           \xd4  ", // ExpressionAfterI
-    *b"                                               \xd4                 \xd4             \xd4\xd4      ", // ExpressionAfterL
-    *b"                                     \xd4  \xd4                            \xd4  \xd4\xe0             ", // ExpressionAfterM
-    *b"                                                             \xe1   \xd4 \xd5            \xd5  \xe1\xd5  ", // ExpressionAfterN
-    *b"                                              \xd4                           \xd0\xd4  \xd4        ", // ExpressionAfterO
-    *b"                                        \xd4                               \xd4\xd4  \xe0  \xd5\xd4      ", // ExpressionAfterP
-    *b"                                                                                 \xe2     ", // ExpressionAfterQ
-    *b"                                         \xd4   \xe4 \xd4               \xcf         \xd4   \xe3 \xd4       ", // ExpressionAfterR
-    *b"                                                      \xe6        \xcf            \xe5 \xe7\xd4\xd6    \xe8\xd5", // ExpressionAfterS
-    *b"                                                                 \xd5   \xd6  \xe9     \xea    \xd5   ", // ExpressionAfterT
-    *b"                                                             \xff                         ", // Expressions
+    *b"            \xad\xad\xad\xad\xad\xad\xad\xad\xad\xad       \xad \xadb \xad    \\ \xad\xad]\xad ]\xad\xac\xad[ \xab \xad      \xad\xad\xad\xad\xad\xad\xad\xad\xad\xad \xad\xad\xad\xad  Z\xad\xad\xad\xad\xad\xad\xad\xad", // Argument
+    *b"            \xae\xae\xae\xae\xae\xae\xae\xae\xae\xae                                     \xae                           ", // ArgumentAfterT
+    *b"            \xae\xae\xae\xae\xae\xae\xae\xae\xae\xae                                     \xae                           ", // LeveledParameter
+    *b"            \xad\xad\xad\xad\xad\xad\xad\xad\xad\xad       \xad \xadb \xad   \xb1\\\xb0\xad\xad]\xad ]\xad\xac\xad[ \xab \xad      \xad\xad\xad\xad\xad\xad\xad\xad\xad\xad \xad\xad\xad\xad  Z\xad\xad\xad\xad\xad\xad\xad\xad", // OneArgument
+    *b"                                                                       \xb3  \xb2 \xb5   \xb4    ! ", // DeclarationAfterT
+    *b"                                                \xb6                                      ", // Declarations
+    *b"            \xb7\xb7\xb7\xb7\xb7\xb7\xb7\xb7\xb7\xb7                    S    \xb7                                       ", // Concept
+    *b"            $$$$$$$$$$       q s  r      kS j  m #    n      oooooooooo oooo   oopooooo", // SolidButT
+    *b"                                                             \xd4                         ", // Expression
+    *b"            \xe5\xe5\xe5\xe5\xe5\xe5\xe5\xe5\xe5\xe5                  \x00                  \xe5                           ", // ExpressionParameter
+    *b"            \xe5\xe5\xe5\xe5\xe5\xe5\xe5\xe5\xe5\xe5                                     \xe5                           ", // UnleveledExpression
+    *b"                                        \x01                                              ", // AddressedExpression
+    *b"                                                           \x85                           ", // AddressedLiteral
+    *b"                                                                \xbc                      ", // ExpressionAfterA
+    *b"                                                               \xb8        \xc0\xbd \xbe\xc0     \xc1    ", // ExpressionAfterC
+    *b"                                                  \xbd          \xbe \xb8 \xbe   \xc2  \xbe \xc4    \xbd\xbd \xbd \xc3  ", // ExpressionAfterD
+    *b"                                           \xbd                               \xbd \xbd         ", // ExpressionAfterE
+    *b"                                        \xc5                               \xc6   \xbb \xc7        ", // ExpressionAfterF
+    *b"                                                                 \xbd             \xbe\xbd      ", // ExpressionAfterG
+    *b"                                                                        \xc8           \xbd  ", // ExpressionAfterI
+    *b"                                               \xbd                 \xbd             \xbd\xbd      ", // ExpressionAfterL
+    *b"                                     \xbd  \xbd                            \xbd  \xbd\xc9             ", // ExpressionAfterM
+    *b"                                                             \xca   \xbd \xbe            \xbe  \xca\xbe  ", // ExpressionAfterN
+    *b"                                              \xbd                           \xb9\xbd  \xbd        ", // ExpressionAfterO
+    *b"                                        \xbd                               \xbd\xbd  \xc9  \xbe\xbd      ", // ExpressionAfterP
+    *b"                                                                                 \xcb     ", // ExpressionAfterQ
+    *b"                                         \xbd   \xcd \xbd               \xb8         \xbd   \xcc \xbd       ", // ExpressionAfterR
+    *b"                                                      \xcf        \xb8            \xce \xd0\xbd\xbf    \xd1\xbe", // ExpressionAfterS
+    *b"                                                                 \xbe   \xbf  \xd2     \xd3    \xbe   ", // ExpressionAfterT
+    *b"                                                             \x02                         ", // Expressions
     *b"                                                           !                           ", // MaybeBefore
-    *b"                                                             \xa2 \xa4\xa1\xa8 \xac \xab  \x00\xa5\xa0\xa7\xa3 \xa6\xaa       ", // FoldOperator
+    *b"                                                             \x90 \x92\x8f\x96 \x9a \x99  \x03\x93\x8e\x95\x91 \x94\x98       ", // FoldOperator
     *b"                                               !                 !             !!      ", // FoldOperatorAfterL
-    *b"                                                             \x01                         ", // FoldOperand
-    *b"                                                             \x02                         ", // FoldPack
-    *b"                                      \xc7                      \x02                         ", // ValuePack
-    *b"            \x03\x03\x03\x03\x03\x03\x03\x03\x03\x03       \x03 \x03\x03 \x03   \xc7\x03 \x03\x03\x03\x03 \x03\x03\x03\x03\x03   \x03      \x03\x03\x03\x03\x03\x03\x03\x03\x03\x03 \x03\x03\x03\x03  \x03\x03\x03\x03\x03\x03\x03\x03\x03", // TypePack
-    *b"            \x05\x05\x05\x05\x05\x05\x05\x05\x05\x05                  \x05       \x05            \x05 \x05\x04\x05\x05\x05 \x05  \x05\x05\x05\x05\x05\x05\x05\x05\x05      ", // DesignatedValue
-    *b"                                                                     \xd9              \xda  ", // DesignatorAfterD
-    *b"            \xd1\xd1\xd1\xd1\xd1\xd1\xd1\xd1\xd1\xd1                  \xc6       \xfb            \xeb \xec \xee\xef\xf0 \xf1  \xf2\xf3\xf4\xf5\xf6\xf7\xf8\xf9\xfa      ", // PlainValue
-    *b"            \x06\x06\x06\x06\x06\x06\x06\x06\x06\x06                                                                 ", // FieldName
-    *b"                                                           ! \x07                         ", // Placement
-    *b"                                                             \xff                         ", // SomeExpressions
-    *b"                                 \x87                                   \x09      \x08          ", // Initializer
-    *b"                                                                     \xdf                 ", // InitializerAfterP
-    *b"                                                                        \xdf              ", // InitializerAfterI
-    *b"                                                                            \xd2          ", // OuterRest
-    *b"            \x0b\x0b\x0b\x0b\x0b\x0b\x0b\x0b\x0b\x0b                          \x0a          \x0b                           ", // ParameterNumber
-    *b"            \x10\x10\x10\x10\x10\x10\x10\x10\x10\x10          \x0c \x10    \x0d  \x10\x0f\x0e \x0f\x10\x10\x10           \x10\x10\x10\x10\x10\x10\x10\x10\x10\x10 \x10\x10\x10\x10   \x10\x10 \x10\x10\x10\x10\x10", // ConvertedType
-    *b"            $$$$$$$$$$            ~       Y    y\x11#           {{{{{{{{{{ {{{{   {{ {{{{{", // ConvertedSolid
-    *b"            \xc3\xc3\xc3\xc3\xc3\xc3\xc3\xc3\xc3\xc3                  \xc5                  \xc3                           ", // ParameterAfterT
-    *b"                                                t                               t      ", // DecltypeAfterD
-    *b"                                                t            n n                t      ", // ConvertedAfterD
-    *b"            \xd1\xd1\xd1\xd1\xd1\xd1\xd1\xd1\xd1\xd1                  \xc6       \xfb          \xdf \xeb \xec\xed\xee\xef\xf0 \xf1  \xf2\xf3\xf4\xf5\xf6\xf7\xf8\xf9\xfa      ", // ConvertRest
-    *b"            \x13\x13\x13\x13\x13\x13\x13\x13\x13\x13          \x12         \x12    \x12\x12                                      ", // Unresolved
-    *b"                                \x0c         Y    y\x11                                      ", // UnresolvedType
-    *b"            \xd1\xd1\xd1\xd1\xd1\xd1\xd1\xd1\xd1\xd1          \x14         \x14    \x14\x14                                      ", // DestructorName
-    *b"                                             \x17  \x16   \x15                                  ", // Requirements
-    *b"                                          \x19  \x17\x18 \x16   \x15                                  ", // AfterExpression
-    *b"                                             \x17\x18 \x16   \x15                                  ", // AfterNoexcept
-    *b"            \x1a\x1a\x1a\x1a\x1a\x1a\x1a\x1a\x1a\x1a          \x1a \x1a    \x1a  \x1a\x1a\x1a \x1a\x1a\x1a\x1a         \xe3 \x1a\x1a\x1a\x1a\x1a\x1a\x1a\x1a\x1a\x1a \x1a\x1a\x1a\x1a   \x1a\x1a \x1a\x1a\x1a\x1a\x1a", // RequiredTypes
-    *b"            \xd1\xd1\xd1\xd1\xd1\xd1\xd1\xd1\xd1\xd1                                                                 ", // Level
-    *b"            \x13\x13\x13\x13\x13\x13\x13\x13\x13\x13           \x1b                                                     ", // MoreLevels
-    *b"            \xd1\xd1\xd1\xd1\xd1\xd1\xd1\xd1\xd1\xd1                                                     \x1c           ", // UnresolvedName
-    *b"                                                                          \xd0            ", // OperatorName
-    *b"                             \x1d                                                         ", // AnyArray
+    *b"                                                             \x04                         ", // FoldOperand
+    *b"                                                             \x05                         ", // FoldPack
+    *b"                                      \xb1                      \x05                         ", // ValuePack
+    *b"            \x06\x06\x06\x06\x06\x06\x06\x06\x06\x06       \x06 \x06\x06 \x06   \xb1\x06 \x06\x06\x06\x06 \x06\x06\x06\x06\x06   \x06      \x06\x06\x06\x06\x06\x06\x06\x06\x06\x06 \x06\x06\x06\x06  \x06\x06\x06\x06\x06\x06\x06\x06\x06", // TypePack
+    *b"            \x08\x08\x08\x08\x08\x08\x08\x08\x08\x08                  \x08       \x08            \x08 \x08\x07\x08\x08\x08 \x08  \x08\x08\x08\x08\x08\x08\x08\x08\x08      ", // DesignatedValue
+    *b"                                                                     \xc2              \xc3  ", // DesignatorAfterD
+    *b"            \xba\xba\xba\xba\xba\xba\xba\xba\xba\xba                  \xb0       \xe4            \xd4 \xd5 \xd7\xd8\xd9 \xda  \xdb\xdc\xdd\xde\xdf\xe0\xe1\xe2\xe3      ", // PlainValue
+    *b"            \xa0\xa0\xa0\xa0\xa0\xa0\xa0\xa0\xa0\xa0                                                                 ", // FieldName
+    *b"                                                           ! \x09                         ", // Placement
+    *b"                                                             \x02                         ", // SomeExpressions
+    *b"                                 {                                   \x0b      \x0a          ", // Initializer
+    *b"                                                                     \xc8                 ", // InitializerAfterP
+    *b"                                                                        \xc8              ", // InitializerAfterI
+    *b"                                                                            \xbb          ", // OuterRest
+    *b"            \x0d\x0d\x0d\x0d\x0d\x0d\x0d\x0d\x0d\x0d                          \x0c          \x0d                           ", // ParameterNumber
+    *b"            \x12\x12\x12\x12\x12\x12\x12\x12\x12\x12          \x0e \x12    \x0f  \x12\x11\x10 \x11\x12\x12\x12           \x12\x12\x12\x12\x12\x12\x12\x12\x12\x12 \x12\x12\x12\x12   \x12\x12 \x12\x12\x12\x12\x12", // ConvertedType
+    *b"            $$$$$$$$$$            r       S    m\x13#           oooooooooo oooo   oo ooooo", // ConvertedSolid
+    *b"            \xae\xae\xae\xae\xae\xae\xae\xae\xae\xae                  \xaf                  \xae                           ", // ParameterAfterT
+    *b"                                                i                               i      ", // DecltypeAfterD
+    *b"                                                i            e e                i      ", // ConvertedAfterD
+    *b"            \xba\xba\xba\xba\xba\xba\xba\xba\xba\xba                  \xb0       \xe4          \xc8 \xd4 \xd5\xd6\xd7\xd8\xd9 \xda  \xdb\xdc\xdd\xde\xdf\xe0\xe1\xe2\xe3      ", // ConvertRest
+    *b"            \x15\x15\x15\x15\x15\x15\x15\x15\x15\x15          \x14         \x14    \x14\x14                                      ", // Unresolved
+    *b"                                \x0e         S    m\x13                                      ", // UnresolvedType
+    *b"            \xba\xba\xba\xba\xba\xba\xba\xba\xba\xba          \x16         \x16    \x16\x16                                      ", // DestructorName
+    *b"                                             \x19  \x18   \x17                                  ", // Requirements
+    *b"                                          !                                            ", // MaybeNoexcept
+    *b"                                             \x19\x1a \x18   \x17                                  ", // AfterNoexcept
+    *b"            \x1b\x1b\x1b\x1b\x1b\x1b\x1b\x1b\x1b\x1b          \x1b \x1b    \x1b  \x1b\x1b\x1b \x1b\x1b\x1b\x1b         \xcc \x1b\x1b\x1b\x1b\x1b\x1b\x1b\x1b\x1b\x1b \x1b\x1b\x1b\x1b   \x1b\x1b \x1b\x1b\x1b\x1b\x1b", // RequiredTypes
+    *b"            \xba\xba\xba\xba\xba\xba\xba\xba\xba\xba                                                                 ", // Level
+    *b"            \x15\x15\x15\x15\x15\x15\x15\x15\x15\x15           \x1c                                                     ", // MoreLevels
+    *b"            \xba\xba\xba\xba\xba\xba\xba\xba\xba\xba                                                     \x1d           ", // UnresolvedName
+    *b"                                                                          \xb9            ", // OperatorName
+    *b"                             \x1e                                                         ", // AnyArray
     *b"            \x1f\x1f\x1f\x1f\x1f\x1f\x1f\x1f\x1f\x1f                                     \x1f                           ", // ArrayRest
-    *b"                                        \xc6       \xfb            \xeb \xec\xed\xee\xef\xf0 \xf1  \xf2\xf3\xf4\xf5\xf6\xf7\xf8\xf9\xfa      ", // Bound
-    *b"            LLLLLLLLLL         LL       L        L           L LLL L L  LLLLL LL       ", // NestMoreOrEnd
+    *b"                                        \xb0       \xe4            \xd4 \xd5\xd6\xd7\xd8\xd9 \xda  \xdb\xdc\xdd\xde\xdf\xe0\xe1\xe2\xe3      ", // Bound
+    *b"            IIIIIIIIII         II       I        I           I III I I  IIIII II       ", // NestMoreOrEnd
 ];
 
 /// A rule without its number and its symbols.
@@ -570,584 +580,587 @@ macro_rules! chains {
 }
 
 // The rules of the productions, in the order of their numbers.
-pub static HEADS: [Head; 255] = [
-    takes!(0), // ! Mark
-    takes!(2), // \" InternalName
-    takes!(2), // # LocalTypeName
-    chains!(2), // $ SourceName
-    chains!(2), // % OperatorName
-    takes!(1), // & InternalPiece
-    takes!(1), // ' LocalTypePiece
-    chains!(1), // ( SourcePiece
-    takes!(2), // ) InModule
-    takes!(2), // * InNamedModule
-    takes!(5), // + NestedName
-    takes!(3), // , Symbol
-    takes!(1), // - Suffix
-    takes!(1), // . SuffixByte
-    takes!(1), // / Special
-    chains!(2), // 0 OtherSpecial
-    chains!(2), // 1 Encoding
-    takes!(1), // 2 SpecialType
-    takes!(3), // 3 NonVirtualThunk
-    takes!(5), // 4 VirtualThunk
-    takes!(3), // 5 CovariantThunk
-    takes!(1), // 6 SpecialName
-    takes!(1), // 7 ParameterObject
-    takes!(4), // 8 ConstructionVtable
-    takes!(2), // 9 NonVirtualOffset
-    takes!(4), // : VirtualOffset
-    takes!(1), // ; Negative
-    chains!(1), // < Positive
-    takes!(1), // = NameWithS
-    takes!(4), // > LocalName
-    takes!(2), // ? StdName
-    chains!(2), // @ AbbreviatedName
-    chains!(1), // A OperatorPiece
-    takes!(1), // B NestWithS
-    takes!(2), // C NestParameter
-    takes!(2), // D NestInternal
-    takes!(2), // E NestLocalType
-    chains!(2), // F NestSource
-    chains!(2), // G NestModule
-    takes!(2), // H NestDecltype
-    takes!(3), // I NestStd
-    chains!(2), // J NestTemplate
-    takes!(4), // K NestArguments
-    chains!(2), // L NestNext
-    takes!(2), // M NestTag
-    takes!(0), // N NestEnd
-    takes!(1), // O AnyConstructor
-    takes!(2), // P Destructor
-    takes!(1), // Q ComponentWithC
-    chains!(2), // R OtherOperatorName
-    chains!(2), // S Holder
-    takes!(2), // T Friend
-    takes!(2), // U Inheriting
-    chains!(2), // V Constructor
-    takes!(0), // W Abbreviation
-    chains!(1), // X Substitution
-    takes!(1), // Y NestedType
-    takes!(0), // Z StringLiteral
-    takes!(2), // [ DefaultEntity
-    takes!(2), // \\ DefaultTypeEntity
-    takes!(1), // ] Discriminator
-    takes!(0), // ^ OneDigit
-    takes!(2), // _ ManyDigits
-    takes!(4), // ` Lambda
-    takes!(1), // a Unnamed
-    takes!(2), // b Enumeration
-    takes!(3), // c RestrictType
-    takes!(2), // d VolatileType
-    takes!(1), // e ConstType
-    takes!(1), // f ReferenceType
-    chains!(1), // g PlainType
-    takes!(1), // h TypeWithD
-    takes!(1), // i PlainWithD
-    chains!(1), // j QualifiedPlain
-    takes!(1), // k ItemWithD
-    takes!(1), // l Expansion
-    chains!(1), // m ItemIsType
-    takes!(0), // n BuiltinWithD
-    takes!(3), // o Vector
-    takes!(4), // p NoexceptFunction
-    takes!(2), // q SizedFloat
-    takes!(1), // r ConstrainedAuto
-    takes!(2), // s BitInt
-    takes!(2), // t Decltype
-    takes!(2), // u IndexedType
-    takes!(1), // v Pointer
-    takes!(2), // w MemberPointer
-    takes!(2), // x Parameter
-    takes!(2), // y TypeWithS
-    takes!(4), // z LocalType
-    takes!(0), // { Builtin
-    takes!(1), // | Vendor
-    chains!(1), // } ArrayType
-    takes!(3), // ~ Function
-    takes!(1), // \x7f Complex
-    chains!(1), // \x80 BitWidth
-    chains!(1), // \x81 TypeInStd
-    chains!(1), // \x82 AbbreviatedType
-    takes!(0), // \x83 RestEnd
-    takes!(1), // \x84 RestLvalue
-    takes!(1), // \x85 RestRvalue
-    chains!(2), // \x86 RestItem
-    takes!(0), // \x87 RefEnd
-    chains!(2), // \x88 LvalueItem
-    chains!(2), // \x89 RvalueItem
-    takes!(1), // \x8a Constraint
-    chains!(2), // \x8b Items
-    takes!(2), // \x8c Arguments
-    takes!(2), // \x8d Tag
-    takes!(3), // \x8e PackArgument
-    takes!(3), // \x8f LiteralArgument
-    chains!(2), // \x90 AnyArgument
-    takes!(3), // \x91 LiteralElement
-    chains!(2), // \x92 AnyElement
-    takes!(2), // \x93 EncodingLiteral
-    takes!(1), // \x94 BoolLiteral
-    takes!(1), // \x95 LiteralWithD
-    chains!(2), // \x96 IntegerLiteral
-    chains!(2), // \x97 FloatLiteral
-    takes!(1), // \x98 NullLiteral
-    takes!(1), // \x99 CharLiteral
-    chains!(2), // \x9a SizedFloatLiteral
-    chains!(1), // \x9b HexText
-    takes!(1), // \x9c HexDigit
-    takes!(2), // \x9d VolatileLiteral
-    takes!(1), // \x9e ConstLiteral
-    chains!(1), // \x9f QualifiedLiteral
-    takes!(1), // \xa0 OperatorN
-    takes!(1), // \xa1 OperatorD
-    takes!(1), // \xa2 OperatorA
-    takes!(1), // \xa3 OperatorP
-    takes!(1), // \xa4 OperatorC
-    takes!(1), // \xa5 OperatorM
-    takes!(1), // \xa6 OperatorR
-    takes!(1), // \xa7 OperatorO
-    takes!(1), // \xa8 OperatorE
-    takes!(1), // \xa9 OperatorL
-    takes!(1), // \xaa OperatorS
-    takes!(1), // \xab OperatorI
-    takes!(1), // \xac OperatorG
-    takes!(1), // \xad LiteralOperator
-    takes!(3), // \xae NestInstance
-    chains!(2), // \xaf FirstModule
-    chains!(2), // \xb0 NamedModule
-    takes!(3), // \xb1 MoreModule
-    takes!(1), // \xb2 Conversion
-    chains!(2), // \xb3 OperatorNameWithC
-    takes!(2), // \xb4 HeldArguments
-    takes!(2), // \xb5 NestedBase
-    chains!(2), // \xb6 UnnestedBase
-    takes!(1), // \xb7 UnnestedWithS
-    chains!(2), // \xb8 TaggedSource
-    takes!(3), // \xb9 BaseArguments
-    takes!(2), // \xba Temporary
-    takes!(2), // \xbb ModuleInitializer
-    takes!(2), // \xbc Clone
-    takes!(3), // \xbd LocalTemporary
-    takes!(2), // \xbe TaggedStdType
-    takes!(2), // \xbf TypeTag
-    takes!(2), // \xc0 Expression
-    takes!(1), // \xc1 ArgumentWithT
-    chains!(1), // \xc2 PlainArgument
-    chains!(2), // \xc3 ParameterArgument
-    chains!(2), // \xc4 DeclaredArgument
-    takes!(2), // \xc5 LeveledParameter
-    takes!(2), // \xc6 OneLiteral
-    takes!(2), // \xc7 OnePack
-    takes!(0), // \xc8 AnyType
-    takes!(1), // \xc9 ValueOf
-    takes!(1), // \xca OfConcept
-    takes!(2), // \xcb TemplateOf
-    takes!(2), // \xcc PackOf
-    takes!(2), // \xcd Declarations
-    chains!(2), // \xce NamedConcept
-    takes!(2), // \xcf Cast
-    takes!(2), // \xd0 OperatorReference
-    chains!(2), // \xd1 SimpleId
-    takes!(4), // \xd2 FunctionParameter
-    takes!(1), // \xd3 AddressExpression
-    takes!(2), // \xd4 Binary
-    takes!(1), // \xd5 Unary
-    takes!(1), // \xd6 OfType
-    takes!(3), // \xd7 Call
-    takes!(2), // \xd8 Convert
-    takes!(2), // \xd9 Designated
-    takes!(2), // \xda DesignatedElement
-    takes!(1), // \xdb DestructorName
-    takes!(2), // \xdc OuterParameter
-    takes!(2), // \xdd LeftFold
-    takes!(2), // \xde RightFold
-    takes!(2), // \xdf Braces
-    takes!(2), // \xe0 Step
-    takes!(3), // \xe1 New
-    takes!(3), // \xe2 Conditional
-    takes!(2), // \xe3 Requires
-    takes!(1), // \xe4 RequiresOf
-    takes!(1), // \xe5 ExpandExpression
-    takes!(1), // \xe6 PackSize
-    takes!(1), // \xe7 Unresolved
-    takes!(2), // \xe8 PackIndex
-    takes!(3), // \xe9 TypedBraces
-    takes!(0), // \xea Rethrow
-    takes!(1), // \xeb ExpressionA
-    takes!(1), // \xec ExpressionC
-    takes!(1), // \xed ExpressionD
-    takes!(1), // \xee ExpressionE
-    takes!(1), // \xef ExpressionF
-    takes!(1), // \xf0 ExpressionG
-    takes!(1), // \xf1 ExpressionI
-    takes!(1), // \xf2 ExpressionL
-    takes!(1), // \xf3 ExpressionM
-    takes!(1), // \xf4 ExpressionN
-    takes!(1), // \xf5 ExpressionO
-    takes!(1), // \xf6 ExpressionP
-    takes!(1), // \xf7 ExpressionQ
-    takes!(1), // \xf8 ExpressionR
-    takes!(1), // \xf9 ExpressionS
-    takes!(1), // \xfa ExpressionT
-    takes!(1), // \xfb ExpressionWithT
-    chains!(2), // \xfc ParameterExpression
-    takes!(2), // \xfd LeveledExpression
-    takes!(2), // \xfe AddressedLiteral
-    chains!(2), // \xff Expressions
-    takes!(1), // \x00 FoldOperatorL
-    chains!(1), // \x01 FoldOperand
-    chains!(1), // \x02 FoldPack
-    chains!(1), // \x03 TypePack
-    takes!(1), // \x04 Designators
-    chains!(1), // \x05 DesignatedValue
-    chains!(1), // \x06 FieldName
-    chains!(2), // \x07 Placed
-    takes!(1), // \x08 Initializer
-    takes!(1), // \x09 BracedInitializer
-    takes!(0), // \x0a This
-    chains!(1), // \x0b ParameterNumber
-    takes!(1), // \x0c ConvertedDecltype
-    takes!(1), // \x0d ConvertedConst
-    takes!(1), // \x0e ConvertedPointer
-    takes!(1), // \x0f ConvertedReference
-    chains!(1), // \x10 ConvertedType
-    takes!(1), // \x11 ConvertedWithT
-    chains!(2), // \x12 UnresolvedInType
-    chains!(2), // \x13 Levels
-    chains!(1), // \x14 DestroyedType
-    takes!(2), // \x15 ExpressionRequirement
-    takes!(2), // \x16 TypeRequirement
-    takes!(2), // \x17 NestedRequirement
-    takes!(2), // \x18 ResultRequirement
-    takes!(1), // \x19 NoexceptRequirement
-    chains!(2), // \x1a RequiredType
-    takes!(1), // \x1b LevelsEnd
-    takes!(1), // \x1c UnresolvedOperator
-    takes!(1), // \x1d AnyArray
-    chains!(3), // \x1e BoundedArray
-    chains!(2), // \x1f LengthArray
+pub static HEADS: [Head; 256] = [
+    takes!(2), // 0 LeveledExpression
+    takes!(2), // 1 AddressedLiteral
+    chains!(2), // 2 Expressions
+    takes!(1), // 3 FoldOperatorL
+    chains!(1), // 4 FoldOperand
+    chains!(1), // 5 FoldPack
+    chains!(1), // 6 TypePack
+    takes!(1), // 7 Designators
+    chains!(1), // 8 DesignatedValue
+    chains!(2), // 9 Placed
+    takes!(1), // 10 Initializer
+    takes!(1), // 11 BracedInitializer
+    takes!(0), // 12 This
+    chains!(1), // 13 ParameterNumber
+    takes!(1), // 14 ConvertedDecltype
+    takes!(1), // 15 ConvertedConst
+    takes!(1), // 16 ConvertedPointer
+    takes!(1), // 17 ConvertedReference
+    chains!(1), // 18 ConvertedType
+    takes!(1), // 19 ConvertedWithT
+    chains!(2), // 20 UnresolvedInType
+    chains!(2), // 21 Levels
+    chains!(1), // 22 DestroyedType
+    takes!(3), // 23 ExpressionRequirement
+    takes!(2), // 24 TypeRequirement
+    takes!(2), // 25 NestedRequirement
+    takes!(2), // 26 ResultRequirement
+    chains!(2), // 27 RequiredType
+    takes!(1), // 28 LevelsEnd
+    takes!(1), // 29 UnresolvedOperator
+    takes!(1), // 30 AnyArray
+    chains!(2), // 31 LengthArray
+    takes!(1), // 32 ParameterObject
+    takes!(0), // 33 Mark
+    takes!(2), // 34 InternalName
+    takes!(2), // 35 LocalTypeName
+    chains!(2), // 36 SourceName
+    chains!(2), // 37 OperatorName
+    takes!(2), // 38 BindingName
+    takes!(1), // 39 InternalPiece
+    takes!(1), // 40 LocalTypePiece
+    chains!(1), // 41 SourcePiece
+    takes!(2), // 42 InModule
+    takes!(2), // 43 InNamedModule
+    takes!(5), // 44 NestedName
+    takes!(3), // 45 Symbol
+    takes!(1), // 46 Suffix
+    takes!(1), // 47 SuffixByte
+    takes!(1), // 48 Special
+    chains!(2), // 49 OtherSpecial
+    chains!(2), // 50 Encoding
+    takes!(1), // 51 SpecialType
+    takes!(3), // 52 NonVirtualThunk
+    takes!(5), // 53 VirtualThunk
+    takes!(3), // 54 CovariantThunk
+    takes!(1), // 55 SpecialName
+    takes!(2), // 56 NonVirtualOffset
+    takes!(4), // 57 VirtualOffset
+    takes!(1), // 58 Negative
+    chains!(1), // 59 Positive
+    takes!(1), // 60 NameWithS
+    takes!(4), // 61 LocalName
+    takes!(2), // 62 StdName
+    chains!(2), // 63 AbbreviatedName
+    chains!(1), // 64 OperatorPiece
+    takes!(1), // 65 NestWithS
+    takes!(2), // 66 NestParameter
+    takes!(2), // 67 NestInternal
+    takes!(2), // 68 NestLocalType
+    chains!(2), // 69 NestSource
+    takes!(3), // 70 NestStd
+    chains!(2), // 71 NestTemplate
+    takes!(4), // 72 NestArguments
+    chains!(2), // 73 NestNext
+    takes!(0), // 74 NestEnd
+    takes!(1), // 75 AnyConstructor
+    takes!(2), // 76 Destructor
+    takes!(1), // 77 ComponentWithC
+    chains!(2), // 78 OtherOperatorName
+    chains!(2), // 79 Constructor
+    takes!(2), // 80 Bindings
+    takes!(0), // 81 Abbreviation
+    chains!(1), // 82 Substitution
+    takes!(1), // 83 NestedType
+    takes!(0), // 84 StringLiteral
+    takes!(1), // 85 Discriminator
+    takes!(0), // 86 OneDigit
+    takes!(2), // 87 ManyDigits
+    takes!(4), // 88 Lambda
+    takes!(1), // 89 Unnamed
+    takes!(3), // 90 RestrictType
+    takes!(2), // 91 VolatileType
+    takes!(1), // 92 ConstType
+    takes!(1), // 93 ReferenceType
+    chains!(1), // 94 PlainType
+    takes!(1), // 95 TypeWithD
+    takes!(1), // 96 PlainWithD
+    chains!(1), // 97 QualifiedPlain
+    takes!(1), // 98 ItemWithD
+    takes!(1), // 99 Expansion
+    chains!(1), // 100 ItemIsType
+    takes!(0), // 101 BuiltinWithD
+    takes!(3), // 102 Vector
+    takes!(4), // 103 NoexceptFunction
+    takes!(2), // 104 SizedFloat
+    takes!(2), // 105 Decltype
+    takes!(1), // 106 Pointer
+    takes!(2), // 107 MemberPointer
+    takes!(2), // 108 Parameter
+    takes!(2), // 109 TypeWithS
+    takes!(4), // 110 LocalType
+    takes!(0), // 111 Builtin
+    takes!(1), // 112 Vendor
+    chains!(1), // 113 ArrayType
+    takes!(3), // 114 Function
+    takes!(1), // 115 Complex
+    chains!(1), // 116 BitWidth
+    chains!(1), // 117 TypeInStd
+    chains!(1), // 118 AbbreviatedType
+    takes!(0), // 119 RestEnd
+    takes!(1), // 120 RestLvalue
+    takes!(1), // 121 RestRvalue
+    chains!(2), // 122 RestItem
+    takes!(0), // 123 RefEnd
+    chains!(2), // 124 LvalueItem
+    chains!(2), // 125 RvalueItem
+    chains!(2), // 126 Items
+    takes!(2), // 127 Arguments
+    takes!(3), // 128 PackArgument
+    takes!(3), // 129 LiteralArgument
+    chains!(2), // 130 AnyArgument
+    takes!(3), // 131 LiteralElement
+    chains!(2), // 132 AnyElement
+    takes!(2), // 133 EncodingLiteral
+    takes!(1), // 134 BoolLiteral
+    takes!(1), // 135 LiteralWithD
+    chains!(2), // 136 IntegerLiteral
+    takes!(1), // 137 NullLiteral
+    takes!(1), // 138 CharLiteral
+    chains!(1), // 139 HexText
+    takes!(1), // 140 HexDigit
+    chains!(1), // 141 QualifiedLiteral
+    takes!(1), // 142 OperatorN
+    takes!(1), // 143 OperatorD
+    takes!(1), // 144 OperatorA
+    takes!(1), // 145 OperatorP
+    takes!(1), // 146 OperatorC
+    takes!(1), // 147 OperatorM
+    takes!(1), // 148 OperatorR
+    takes!(1), // 149 OperatorO
+    takes!(1), // 150 OperatorE
+    takes!(1), // 151 OperatorL
+    takes!(1), // 152 OperatorS
+    takes!(1), // 153 OperatorI
+    takes!(1), // 154 OperatorG
+    takes!(1), // 155 LiteralOperator
+    takes!(3), // 156 NestInstance
+    chains!(2), // 157 FirstModule
+    chains!(2), // 158 NamedModule
+    takes!(3), // 159 MoreModule
+    chains!(1), // 160 FieldName
+    chains!(2), // 161 BoundNames
+    chains!(2), // 162 OperatorNameWithC
+    takes!(2), // 163 HeldArguments
+    takes!(2), // 164 NestedBase
+    chains!(2), // 165 UnnestedBase
+    takes!(1), // 166 UnnestedWithS
+    chains!(2), // 167 TaggedSource
+    takes!(3), // 168 BaseArguments
+    takes!(3), // 169 LocalTemporary
+    takes!(2), // 170 TaggedStdType
+    takes!(2), // 171 Expression
+    takes!(1), // 172 ArgumentWithT
+    chains!(1), // 173 PlainArgument
+    chains!(2), // 174 ParameterArgument
+    takes!(2), // 175 LeveledParameter
+    takes!(2), // 176 OneLiteral
+    takes!(2), // 177 OnePack
+    takes!(1), // 178 ValueOf
+    takes!(1), // 179 OfConcept
+    takes!(2), // 180 TemplateOf
+    takes!(2), // 181 PackOf
+    takes!(2), // 182 Declarations
+    chains!(2), // 183 NamedConcept
+    takes!(2), // 184 Cast
+    takes!(2), // 185 OperatorReference
+    chains!(2), // 186 SimpleId
+    takes!(4), // 187 FunctionParameter
+    takes!(1), // 188 AddressExpression
+    takes!(2), // 189 Binary
+    takes!(1), // 190 Unary
+    takes!(1), // 191 OfType
+    takes!(3), // 192 Call
+    takes!(2), // 193 Convert
+    takes!(2), // 194 Designated
+    takes!(2), // 195 DesignatedElement
+    takes!(1), // 196 DestructorName
+    takes!(2), // 197 OuterParameter
+    takes!(2), // 198 LeftFold
+    takes!(2), // 199 RightFold
+    takes!(2), // 200 Braces
+    takes!(2), // 201 Step
+    takes!(3), // 202 New
+    takes!(3), // 203 Conditional
+    takes!(2), // 204 Requires
+    takes!(1), // 205 RequiresOf
+    takes!(1), // 206 ExpandExpression
+    takes!(1), // 207 PackSize
+    takes!(1), // 208 Unresolved
+    takes!(2), // 209 PackIndex
+    takes!(3), // 210 TypedBraces
+    takes!(0), // 211 Rethrow
+    takes!(1), // 212 ExpressionA
+    takes!(1), // 213 ExpressionC
+    takes!(1), // 214 ExpressionD
+    takes!(1), // 215 ExpressionE
+    takes!(1), // 216 ExpressionF
+    takes!(1), // 217 ExpressionG
+    takes!(1), // 218 ExpressionI
+    takes!(1), // 219 ExpressionL
+    takes!(1), // 220 ExpressionM
+    takes!(1), // 221 ExpressionN
+    takes!(1), // 222 ExpressionO
+    takes!(1), // 223 ExpressionP
+    takes!(1), // 224 ExpressionQ
+    takes!(1), // 225 ExpressionR
+    takes!(1), // 226 ExpressionS
+    takes!(1), // 227 ExpressionT
+    takes!(1), // 228 ExpressionWithT
+    chains!(2), // 229 ParameterExpression
+    chains!(3), // 230 BoundedArray
+    chains!(2), // 231 DeclaredArgument
+    takes!(2), // 232 TypeTag
+    takes!(2), // 233 Clone
+    takes!(2), // 234 ModuleInitializer
+    takes!(2), // 235 Temporary
+    takes!(1), // 236 Conversion
+    takes!(1), // 237 ConstLiteral
+    takes!(2), // 238 VolatileLiteral
+    chains!(2), // 239 SizedFloatLiteral
+    chains!(2), // 240 FloatLiteral
+    takes!(2), // 241 Tag
+    takes!(1), // 242 Constraint
+    takes!(2), // 243 IndexedType
+    takes!(2), // 244 BitInt
+    takes!(1), // 245 ConstrainedAuto
+    takes!(2), // 246 Enumeration
+    takes!(2), // 247 DefaultTypeEntity
+    takes!(2), // 248 DefaultEntity
+    takes!(2), // 249 Inheriting
+    takes!(2), // 250 Friend
+    chains!(2), // 251 Holder
+    takes!(2), // 252 NestTag
+    takes!(2), // 253 NestDecltype
+    chains!(2), // 254 NestModule
+    takes!(4), // 255 ConstructionVtable
 ];
 
 // The symbols of the rules, in the same order.
-pub static SYMBOLS: [Sym; 1536] = symbols_listed! {
-    [NONE, NONE, NONE, NONE, NONE], // ! Mark
-    [NAME, MAYBE_ARGUMENTS, NONE, NONE, NONE], // \" InternalName
-    [ANONYMOUS, MAYBE_ARGUMENTS, NONE, NONE, NONE], // # LocalTypeName
-    [NAME, MAYBE_ARGUMENTS, NONE, NONE, NONE], // $ SourceName
-    [OPERATOR, MAYBE_ARGUMENTS, NONE, NONE, NONE], // % OperatorName
-    [NAME, NONE, NONE, NONE, NONE], // & InternalPiece
-    [ANONYMOUS, NONE, NONE, NONE, NONE], // ' LocalTypePiece
-    [NAME, NONE, NONE, NONE, NONE], // ( SourcePiece
-    [FIRST_MODULE, NAME_AFTER_MODULE, NONE, NONE, NONE], // ) InModule
-    [NAMED_MODULE, NAME_AFTER_MODULE, NONE, NONE, NONE], // * InNamedModule
-    [MAYBE_RESTRICT, MAYBE_VOLATILE, MAYBE_CONST, MAYBE_REF, NEST], // + NestedName
-    [Sym::Byte(b'Z'), ENCODING, MAYBE_SUFFIX, NONE, NONE], // , Symbol
-    [SUFFIX_FIRST, NONE, NONE, NONE, NONE], // - Suffix
-    [SUFFIX_MORE, NONE, NONE, NONE, NONE], // . SuffixByte
-    [SPECIAL, NONE, NONE, NONE, NONE], // / Special
-    [SPECIAL_MARK, SPECIAL_AFTER_G, NONE, NONE, NONE], // 0 OtherSpecial
-    [COMPLETE_NAME, ITEMS, NONE, NONE, NONE], // 1 Encoding
-    [TYPE, NONE, NONE, NONE, NONE], // 2 SpecialType
-    [INTEGER, Sym::Byte(b'_'), ENCODING, NONE, NONE], // 3 NonVirtualThunk
-    [INTEGER, Sym::Byte(b'_'), INTEGER, Sym::Byte(b'_'), ENCODING], // 4 VirtualThunk
-    [CALL_OFFSET, CALL_OFFSET, ENCODING, NONE, NONE], // 5 CovariantThunk
-    [COMPLETE_NAME, NONE, NONE, NONE, NONE], // 6 SpecialName
-    [ONE_ARGUMENT, NONE, NONE, NONE, NONE], // 7 ParameterObject
-    [TYPE, DIGITS, Sym::Byte(b'_'), TYPE, NONE], // 8 ConstructionVtable
-    [INTEGER, Sym::Byte(b'_'), NONE, NONE, NONE], // 9 NonVirtualOffset
-    [INTEGER, Sym::Byte(b'_'), INTEGER, Sym::Byte(b'_'), NONE], // : VirtualOffset
-    [DIGITS, NONE, NONE, NONE, NONE], // ; Negative
-    [DIGITS, NONE, NONE, NONE, NONE], // < Positive
-    [NAME_AFTER_S, NONE, NONE, NONE, NONE], // = NameWithS
-    [ENCODING, Sym::Byte(b'E'), ENTITY, MAYBE_DISCRIMINATOR, NONE], // > LocalName
-    [UNQUALIFIED, MAYBE_ARGUMENTS, NONE, NONE, NONE], // ? StdName
-    [ABBREVIATION, ARGUMENTS, NONE, NONE, NONE], // @ AbbreviatedName
-    [OPERATOR, NONE, NONE, NONE, NONE], // A OperatorPiece
-    [NEST_AFTER_S, NONE, NONE, NONE, NONE], // B NestWithS
-    [DECIMAL, NEST_REST_ALONE, NONE, NONE, NONE], // C NestParameter
-    [NAME, NEST_REST, NONE, NONE, NONE], // D NestInternal
-    [ANONYMOUS, NEST_REST, NONE, NONE, NONE], // E NestLocalType
-    [NAME, NEST_REST, NONE, NONE, NONE], // F NestSource
-    [NAME_IN_MODULE, NEST_ON, NONE, NONE, NONE], // G NestModule
-    [DECLTYPE_AFTER_D, NEST_REST_ALONE, NONE, NONE, NONE], // H NestDecltype
-    [UNQUALIFIED, MAYBE_ARGUMENTS, NEST_TAIL, NONE, NONE], // I NestStd
-    [ABBREVIATION, NEST_REST_OR_END, NONE, NONE, NONE], // J NestTemplate
-    [ARGUMENTS_FIRST, Sym::Byte(b'E'), COMPONENT, NEST_TAIL, NONE], // K NestArguments
-    [COMPONENT, NEST_TAIL, NONE, NONE, NONE], // L NestNext
-    [NAME, NEST_REST, NONE, NONE, NONE], // M NestTag
-    [NONE, NONE, NONE, NONE, NONE], // N NestEnd
-    [CONSTRUCTOR_AFTER_C, NONE, NONE, NONE, NONE], // O AnyConstructor
-    [DESTRUCTOR_DIGIT, MAYBE_ARGUMENTS, NONE, NONE, NONE], // P Destructor
-    [COMPONENT_AFTER_C, NONE, NONE, NONE, NONE], // Q ComponentWithC
-    [OTHER_OPERATOR, MAYBE_ARGUMENTS, NONE, NONE, NONE], // R OtherOperatorName
-    [HOLDER_MARK, HELD_COMPONENT, NONE, NONE, NONE], // S Holder
-    [UNQUALIFIED, MAYBE_ARGUMENTS, NONE, NONE, NONE], // T Friend
-    [INHERITED_DIGIT, BASE_CLASS, NONE, NONE, NONE], // U Inheriting
-    [CONSTRUCTOR_DIGIT, MAYBE_ARGUMENTS, NONE, NONE, NONE], // V Constructor
-    [NONE, NONE, NONE, NONE, NONE], // W Abbreviation
-    [SEQ36, NONE, NONE, NONE, NONE], // X Substitution
-    [NEST, NONE, NONE, NONE, NONE], // Y NestedType
-    [NONE, NONE, NONE, NONE, NONE], // Z StringLiteral
-    [DECIMAL, PLAIN_ENTITY, NONE, NONE, NONE], // [ DefaultEntity
-    [DECIMAL, PLAIN_TYPE_ENTITY, NONE, NONE, NONE], // \\ DefaultTypeEntity
-    [DISCRIMINATOR_REST, NONE, NONE, NONE, NONE], // ] Discriminator
-    [NONE, NONE, NONE, NONE, NONE], // ^ OneDigit
-    [DIGITS, Sym::Byte(b'_'), NONE, NONE, NONE], // _ ManyDigits
-    [ITEM, ITEMS, Sym::Byte(b'E'), DECIMAL, NONE], // ` Lambda
-    [DECIMAL, NONE, NONE, NONE, NONE], // a Unnamed
-    [TYPE, NAME, NONE, NONE, NONE], // b Enumeration
-    [MAYBE_VOLATILE, MAYBE_CONST, PLAIN, NONE, NONE], // c RestrictType
-    [MAYBE_CONST, PLAIN, NONE, NONE, NONE], // d VolatileType
-    [PLAIN, NONE, NONE, NONE, NONE], // e ConstType
-    [TYPE, NONE, NONE, NONE, NONE], // f ReferenceType
-    [SOLID, NONE, NONE, NONE, NONE], // g PlainType
-    [AFTER_D, NONE, NONE, NONE, NONE], // h TypeWithD
-    [AFTER_D, NONE, NONE, NONE, NONE], // i PlainWithD
-    [SOLID, NONE, NONE, NONE, NONE], // j QualifiedPlain
-    [ITEM_AFTER_D, NONE, NONE, NONE, NONE], // k ItemWithD
-    [TYPE, NONE, NONE, NONE, NONE], // l Expansion
-    [AFTER_D, NONE, NONE, NONE, NONE], // m ItemIsType
-    [NONE, NONE, NONE, NONE, NONE], // n BuiltinWithD
-    [DIGITS, Sym::Byte(b'_'), TYPE, NONE, NONE], // o Vector
-    [Sym::Byte(b'F'), MAYBE_C_LINKAGE, TYPE, FUNCTION_REST, NONE], // p NoexceptFunction
-    [DIGITS, FLOAT_END, NONE, NONE, NONE], // q SizedFloat
-    [CONCEPT, NONE, NONE, NONE, NONE], // r ConstrainedAuto
-    [BIT_WIDTH, Sym::Byte(b'_'), NONE, NONE, NONE], // s BitInt
-    [EXPRESSION, Sym::Byte(b'E'), NONE, NONE, NONE], // t Decltype
-    [TYPE_PACK, EXPRESSION, NONE, NONE, NONE], // u IndexedType
-    [TYPE, NONE, NONE, NONE, NONE], // v Pointer
-    [TYPE, TYPE, NONE, NONE, NONE], // w MemberPointer
-    [DECIMAL, ARGUMENTS_ALONE, NONE, NONE, NONE], // x Parameter
-    [TYPE_AFTER_S, ARGUMENTS_ALONE, NONE, NONE, NONE], // y TypeWithS
-    [ENCODING, Sym::Byte(b'E'), TYPE_ENTITY, MAYBE_DISCRIMINATOR, NONE], // z LocalType
-    [NONE, NONE, NONE, NONE, NONE], // { Builtin
-    [NAME, NONE, NONE, NONE, NONE], // | Vendor
-    [ANY_ARRAY, NONE, NONE, NONE, NONE], // } ArrayType
-    [MAYBE_C_LINKAGE, TYPE, FUNCTION_REST, NONE, NONE], // ~ Function
-    [TYPE, NONE, NONE, NONE, NONE], // \x7f Complex
-    [DIGITS, NONE, NONE, NONE, NONE], // \x80 BitWidth
-    [TYPE_IN_STD, NONE, NONE, NONE, NONE], // \x81 TypeInStd
-    [ABBREVIATION, NONE, NONE, NONE, NONE], // \x82 AbbreviatedType
-    [NONE, NONE, NONE, NONE, NONE], // \x83 RestEnd
-    [AFTER_R, NONE, NONE, NONE, NONE], // \x84 RestLvalue
-    [AFTER_O, NONE, NONE, NONE, NONE], // \x85 RestRvalue
-    [ITEM_BUT_REF, FUNCTION_REST, NONE, NONE, NONE], // \x86 RestItem
-    [NONE, NONE, NONE, NONE, NONE], // \x87 RefEnd
-    [TYPE, FUNCTION_REST, NONE, NONE, NONE], // \x88 LvalueItem
-    [TYPE, FUNCTION_REST, NONE, NONE, NONE], // \x89 RvalueItem
-    [EXPRESSION, NONE, NONE, NONE, NONE], // \x8a Constraint
-    [ITEM, ITEMS, NONE, NONE, NONE], // \x8b Items
-    [ARGUMENTS_FIRST, Sym::Byte(b'E'), NONE, NONE, NONE], // \x8c Arguments
-    [NAME, MAYBE_ARGUMENTS, NONE, NONE, NONE], // \x8d Tag
-    [PACK_LIST, Sym::Byte(b'E'), ARGUMENT_LIST, NONE, NONE], // \x8e PackArgument
-    [LITERAL, Sym::Byte(b'E'), ARGUMENT_LIST, NONE, NONE], // \x8f LiteralArgument
-    [ARGUMENT, ARGUMENT_LIST, NONE, NONE, NONE], // \x90 AnyArgument
-    [LITERAL, Sym::Byte(b'E'), PACK_LIST, NONE, NONE], // \x91 LiteralElement
-    [ARGUMENT, PACK_LIST, NONE, NONE, NONE], // \x92 AnyElement
-    [Sym::Byte(b'Z'), ENCODING, NONE, NONE, NONE], // \x93 EncodingLiteral
-    [BIT, NONE, NONE, NONE, NONE], // \x94 BoolLiteral
-    [LITERAL_AFTER_D, NONE, NONE, NONE, NONE], // \x95 LiteralWithD
-    [LITERAL_TYPE, INTEGER, NONE, NONE, NONE], // \x96 IntegerLiteral
-    [FLOAT_TYPE, HEX_TEXT, NONE, NONE, NONE], // \x97 FloatLiteral
-    [MAYBE_ZERO, NONE, NONE, NONE, NONE], // \x98 NullLiteral
-    [INTEGER, NONE, NONE, NONE, NONE], // \x99 CharLiteral
-    [SIZED_FLOAT_TYPE, HEX_TEXT, NONE, NONE, NONE], // \x9a SizedFloatLiteral
-    [HEX_DIGITS, NONE, NONE, NONE, NONE], // \x9b HexText
-    [HEX_MORE, NONE, NONE, NONE, NONE], // \x9c HexDigit
-    [MAYBE_CONST, LITERAL_PLAIN, NONE, NONE, NONE], // \x9d VolatileLiteral
-    [LITERAL_PLAIN, NONE, NONE, NONE, NONE], // \x9e ConstLiteral
-    [LITERAL_SOLID, NONE, NONE, NONE, NONE], // \x9f QualifiedLiteral
-    [OPERATOR_AFTER_N, NONE, NONE, NONE, NONE], // \xa0 OperatorN
-    [OPERATOR_AFTER_D, NONE, NONE, NONE, NONE], // \xa1 OperatorD
-    [OPERATOR_AFTER_A, NONE, NONE, NONE, NONE], // \xa2 OperatorA
-    [OPERATOR_AFTER_P, NONE, NONE, NONE, NONE], // \xa3 OperatorP
-    [OPERATOR_AFTER_C, NONE, NONE, NONE, NONE], // \xa4 OperatorC
-    [OPERATOR_AFTER_M, NONE, NONE, NONE, NONE], // \xa5 OperatorM
-    [OPERATOR_AFTER_R, NONE, NONE, NONE, NONE], // \xa6 OperatorR
-    [OPERATOR_AFTER_O, NONE, NONE, NONE, NONE], // \xa7 OperatorO
-    [OPERATOR_AFTER_E, NONE, NONE, NONE, NONE], // \xa8 OperatorE
-    [OPERATOR_AFTER_L, NONE, NONE, NONE, NONE], // \xa9 OperatorL
-    [OPERATOR_AFTER_S, NONE, NONE, NONE, NONE], // \xaa OperatorS
-    [OPERATOR_AFTER_I, NONE, NONE, NONE, NONE], // \xab OperatorI
-    [OPERATOR_AFTER_G, NONE, NONE, NONE, NONE], // \xac OperatorG
-    [NAME, NONE, NONE, NONE, NONE], // \xad LiteralOperator
-    [ARGUMENTS_FIRST, Sym::Byte(b'E'), NEST_MORE_OR_END, NONE, NONE], // \xae NestInstance
-    [FIELD_NAME, MORE_MODULE, NONE, NONE, NONE], // \xaf FirstModule
-    [SEQ36, MORE_MODULE, NONE, NONE, NONE], // \xb0 NamedModule
-    [MAYBE_PARTITION, FIELD_NAME, MORE_MODULE, NONE, NONE], // \xb1 MoreModule
-    [TYPE, NONE, NONE, NONE, NONE], // \xb2 Conversion
-    [OPERATOR_AFTER_C, MAYBE_ARGUMENTS, NONE, NONE, NONE], // \xb3 OperatorNameWithC
-    [ARGUMENTS_FIRST, Sym::Byte(b'E'), NONE, NONE, NONE], // \xb4 HeldArguments
-    [NEST, HELD_ARGUMENTS, NONE, NONE, NONE], // \xb5 NestedBase
-    [UNNESTED_NAME, BASE_ARGUMENTS, NONE, NONE, NONE], // \xb6 UnnestedBase
-    [TYPE_AFTER_S, NONE, NONE, NONE, NONE], // \xb7 UnnestedWithS
-    [NAME, MAYBE_TAGS, NONE, NONE, NONE], // \xb8 TaggedSource
-    [ARGUMENTS_FIRST, Sym::Byte(b'E'), HELD_ARGUMENTS, NONE, NONE], // \xb9 BaseArguments
-    [TEMPORARY_NAME, Sym::Byte(b'_'), NONE, NONE, NONE], // \xba Temporary
-    [Sym::Byte(b'W'), FIRST_MODULE, NONE, NONE, NONE], // \xbb ModuleInitializer
-    [CLONE_LETTER, ENCODING, NONE, NONE, NONE], // \xbc Clone
-    [ENCODING, Sym::Byte(b'E'), ENTITY, NONE, NONE], // \xbd LocalTemporary
-    [SOURCE_OR_LOCAL, MAYBE_TAGS, NONE, NONE, NONE], // \xbe TaggedStdType
-    [NAME, MAYBE_TAGS, NONE, NONE, NONE], // \xbf TypeTag
-    [EXPRESSION, Sym::Byte(b'E'), NONE, NONE, NONE], // \xc0 Expression
-    [ARGUMENT_AFTER_T, NONE, NONE, NONE, NONE], // \xc1 ArgumentWithT
-    [SOLID_BUT_T, NONE, NONE, NONE, NONE], // \xc2 PlainArgument
-    [DECIMAL, ARGUMENTS_ALONE, NONE, NONE, NONE], // \xc3 ParameterArgument
-    [DECLARATION_AFTER_T, ONE_ARGUMENT, NONE, NONE, NONE], // \xc4 DeclaredArgument
-    [DECIMAL, LEVELED_PARAMETER, NONE, NONE, NONE], // \xc5 LeveledParameter
-    [LITERAL, Sym::Byte(b'E'), NONE, NONE, NONE], // \xc6 OneLiteral
-    [PACK_LIST, Sym::Byte(b'E'), NONE, NONE, NONE], // \xc7 OnePack
-    [NONE, NONE, NONE, NONE, NONE], // \xc8 AnyType
-    [TYPE, NONE, NONE, NONE, NONE], // \xc9 ValueOf
-    [CONCEPT, NONE, NONE, NONE, NONE], // \xca OfConcept
-    [DECLARATIONS, Sym::Byte(b'E'), NONE, NONE, NONE], // \xcb TemplateOf
-    [Sym::Byte(b'T'), DECLARATION_AFTER_T, NONE, NONE, NONE], // \xcc PackOf
-    [DECLARATION_AFTER_T, DECLARATIONS, NONE, NONE, NONE], // \xcd Declarations
-    [UNNESTED_NAME, HELD_ARGUMENTS, NONE, NONE, NONE], // \xce NamedConcept
-    [TYPE, EXPRESSION, NONE, NONE, NONE], // \xcf Cast
-    [OPERATOR, ARGUMENTS_ALONE, NONE, NONE, NONE], // \xd0 OperatorReference
-    [NAME, ARGUMENTS_ALONE, NONE, NONE, NONE], // \xd1 SimpleId
-    [MAYBE_RESTRICT, MAYBE_VOLATILE, MAYBE_CONST, PARAMETER_NUMBER, NONE], // \xd2 FunctionParameter
-    [ADDRESSED_EXPRESSION, NONE, NONE, NONE, NONE], // \xd3 AddressExpression
-    [EXPRESSION, EXPRESSION, NONE, NONE, NONE], // \xd4 Binary
-    [EXPRESSION, NONE, NONE, NONE, NONE], // \xd5 Unary
-    [CONVERTED_TYPE, NONE, NONE, NONE, NONE], // \xd6 OfType
-    [EXPRESSION, EXPRESSIONS, Sym::Byte(b'E'), NONE, NONE], // \xd7 Call
-    [CONVERTED_TYPE, CONVERT_REST, NONE, NONE, NONE], // \xd8 Convert
-    [FIELD_NAME, DESIGNATED_VALUE, NONE, NONE, NONE], // \xd9 Designated
-    [EXPRESSION, DESIGNATED_VALUE, NONE, NONE, NONE], // \xda DesignatedElement
-    [DESTRUCTOR_NAME, NONE, NONE, NONE, NONE], // \xdb DestructorName
-    [DIGITS, OUTER_REST, NONE, NONE, NONE], // \xdc OuterParameter
-    [FOLD_OPERATOR, FOLD_OPERAND, NONE, NONE, NONE], // \xdd LeftFold
-    [FOLD_OPERATOR, FOLD_OPERAND, NONE, NONE, NONE], // \xde RightFold
-    [EXPRESSIONS, Sym::Byte(b'E'), NONE, NONE, NONE], // \xdf Braces
-    [MAYBE_BEFORE, EXPRESSION, NONE, NONE, NONE], // \xe0 Step
-    [PLACEMENT, TYPE, INITIALIZER, NONE, NONE], // \xe1 New
-    [EXPRESSION, EXPRESSION, EXPRESSION, NONE, NONE], // \xe2 Conditional
-    [REQUIREMENTS, Sym::Byte(b'E'), NONE, NONE, NONE], // \xe3 Requires
-    [REQUIRED_TYPES, NONE, NONE, NONE, NONE], // \xe4 RequiresOf
-    [EXPRESSION, NONE, NONE, NONE, NONE], // \xe5 ExpandExpression
-    [EXPRESSION, NONE, NONE, NONE, NONE], // \xe6 PackSize
-    [UNRESOLVED, NONE, NONE, NONE, NONE], // \xe7 Unresolved
-    [VALUE_PACK, EXPRESSION, NONE, NONE, NONE], // \xe8 PackIndex
-    [TYPE, EXPRESSIONS, Sym::Byte(b'E'), NONE, NONE], // \xe9 TypedBraces
-    [NONE, NONE, NONE, NONE, NONE], // \xea Rethrow
-    [EXPRESSION_AFTER_A, NONE, NONE, NONE, NONE], // \xeb ExpressionA
-    [EXPRESSION_AFTER_C, NONE, NONE, NONE, NONE], // \xec ExpressionC
-    [EXPRESSION_AFTER_D, NONE, NONE, NONE, NONE], // \xed ExpressionD
-    [EXPRESSION_AFTER_E, NONE, NONE, NONE, NONE], // \xee ExpressionE
-    [EXPRESSION_AFTER_F, NONE, NONE, NONE, NONE], // \xef ExpressionF
-    [EXPRESSION_AFTER_G, NONE, NONE, NONE, NONE], // \xf0 ExpressionG
-    [EXPRESSION_AFTER_I, NONE, NONE, NONE, NONE], // \xf1 ExpressionI
-    [EXPRESSION_AFTER_L, NONE, NONE, NONE, NONE], // \xf2 ExpressionL
-    [EXPRESSION_AFTER_M, NONE, NONE, NONE, NONE], // \xf3 ExpressionM
-    [EXPRESSION_AFTER_N, NONE, NONE, NONE, NONE], // \xf4 ExpressionN
-    [EXPRESSION_AFTER_O, NONE, NONE, NONE, NONE], // \xf5 ExpressionO
-    [EXPRESSION_AFTER_P, NONE, NONE, NONE, NONE], // \xf6 ExpressionP
-    [EXPRESSION_AFTER_Q, NONE, NONE, NONE, NONE], // \xf7 ExpressionQ
-    [EXPRESSION_AFTER_R, NONE, NONE, NONE, NONE], // \xf8 ExpressionR
-    [EXPRESSION_AFTER_S, NONE, NONE, NONE, NONE], // \xf9 ExpressionS
-    [EXPRESSION_AFTER_T, NONE, NONE, NONE, NONE], // \xfa ExpressionT
-    [EXPRESSION_PARAMETER, NONE, NONE, NONE, NONE], // \xfb ExpressionWithT
-    [DECIMAL, ARGUMENTS_ALONE, NONE, NONE, NONE], // \xfc ParameterExpression
-    [DECIMAL, UNLEVELED_EXPRESSION, NONE, NONE, NONE], // \xfd LeveledExpression
-    [ADDRESSED_LITERAL, Sym::Byte(b'E'), NONE, NONE, NONE], // \xfe AddressedLiteral
-    [EXPRESSION, EXPRESSIONS, NONE, NONE, NONE], // \xff Expressions
-    [FOLD_OPERATOR_AFTER_L, NONE, NONE, NONE, NONE], // \x00 FoldOperatorL
-    [FOLD_PACK, NONE, NONE, NONE, NONE], // \x01 FoldOperand
-    [EXPRESSION, NONE, NONE, NONE, NONE], // \x02 FoldPack
-    [TYPE, NONE, NONE, NONE, NONE], // \x03 TypePack
-    [DESIGNATOR_AFTER_D, NONE, NONE, NONE, NONE], // \x04 Designators
-    [PLAIN_VALUE, NONE, NONE, NONE, NONE], // \x05 DesignatedValue
-    [NAME, NONE, NONE, NONE, NONE], // \x06 FieldName
-    [SOME_EXPRESSIONS, Sym::Byte(b'_'), NONE, NONE, NONE], // \x07 Placed
-    [INITIALIZER_AFTER_P, NONE, NONE, NONE, NONE], // \x08 Initializer
-    [INITIALIZER_AFTER_I, NONE, NONE, NONE, NONE], // \x09 BracedInitializer
-    [NONE, NONE, NONE, NONE, NONE], // \x0a This
-    [DECIMAL, NONE, NONE, NONE, NONE], // \x0b ParameterNumber
-    [CONVERTED_AFTER_D, NONE, NONE, NONE, NONE], // \x0c ConvertedDecltype
-    [CONVERTED_TYPE, NONE, NONE, NONE, NONE], // \x0d ConvertedConst
-    [CONVERTED_TYPE, NONE, NONE, NONE, NONE], // \x0e ConvertedPointer
-    [CONVERTED_TYPE, NONE, NONE, NONE, NONE], // \x0f ConvertedReference
-    [CONVERTED_SOLID, NONE, NONE, NONE, NONE], // \x10 ConvertedType
-    [PARAMETER_AFTER_T, NONE, NONE, NONE, NONE], // \x11 ConvertedWithT
-    [UNRESOLVED_TYPE, UNRESOLVED_NAME, NONE, NONE, NONE], // \x12 UnresolvedInType
-    [LEVEL, MORE_LEVELS, NONE, NONE, NONE], // \x13 Levels
-    [UNRESOLVED_TYPE, NONE, NONE, NONE, NONE], // \x14 DestroyedType
-    [EXPRESSION, AFTER_EXPRESSION, NONE, NONE, NONE], // \x15 ExpressionRequirement
-    [TYPE, REQUIREMENTS, NONE, NONE, NONE], // \x16 TypeRequirement
-    [EXPRESSION, REQUIREMENTS, NONE, NONE, NONE], // \x17 NestedRequirement
-    [CONCEPT, REQUIREMENTS, NONE, NONE, NONE], // \x18 ResultRequirement
-    [AFTER_NOEXCEPT, NONE, NONE, NONE, NONE], // \x19 NoexceptRequirement
-    [CONVERTED_TYPE, REQUIRED_TYPES, NONE, NONE, NONE], // \x1a RequiredType
-    [UNRESOLVED_NAME, NONE, NONE, NONE, NONE], // \x1b LevelsEnd
-    [OPERATOR_NAME, NONE, NONE, NONE, NONE], // \x1c UnresolvedOperator
-    [ARRAY_REST, NONE, NONE, NONE, NONE], // \x1d AnyArray
-    [BOUND, Sym::Byte(b'_'), TYPE, NONE, NONE], // \x1e BoundedArray
-    [DECIMAL, TYPE, NONE, NONE, NONE], // \x1f LengthArray
+pub static SYMBOLS: [Sym; 1542] = symbols_listed! {
+    [DECIMAL, UNLEVELED_EXPRESSION, NONE, NONE, NONE], // 0 LeveledExpression
+    [ADDRESSED_LITERAL, Sym::Byte(b'E'), NONE, NONE, NONE], // 1 AddressedLiteral
+    [EXPRESSION, EXPRESSIONS, NONE, NONE, NONE], // 2 Expressions
+    [FOLD_OPERATOR_AFTER_L, NONE, NONE, NONE, NONE], // 3 FoldOperatorL
+    [FOLD_PACK, NONE, NONE, NONE, NONE], // 4 FoldOperand
+    [EXPRESSION, NONE, NONE, NONE, NONE], // 5 FoldPack
+    [TYPE, NONE, NONE, NONE, NONE], // 6 TypePack
+    [DESIGNATOR_AFTER_D, NONE, NONE, NONE, NONE], // 7 Designators
+    [PLAIN_VALUE, NONE, NONE, NONE, NONE], // 8 DesignatedValue
+    [SOME_EXPRESSIONS, Sym::Byte(b'_'), NONE, NONE, NONE], // 9 Placed
+    [INITIALIZER_AFTER_P, NONE, NONE, NONE, NONE], // 10 Initializer
+    [INITIALIZER_AFTER_I, NONE, NONE, NONE, NONE], // 11 BracedInitializer
+    [NONE, NONE, NONE, NONE, NONE], // 12 This
+    [DECIMAL, NONE, NONE, NONE, NONE], // 13 ParameterNumber
+    [CONVERTED_AFTER_D, NONE, NONE, NONE, NONE], // 14 ConvertedDecltype
+    [CONVERTED_TYPE, NONE, NONE, NONE, NONE], // 15 ConvertedConst
+    [CONVERTED_TYPE, NONE, NONE, NONE, NONE], // 16 ConvertedPointer
+    [CONVERTED_TYPE, NONE, NONE, NONE, NONE], // 17 ConvertedReference
+    [CONVERTED_SOLID, NONE, NONE, NONE, NONE], // 18 ConvertedType
+    [PARAMETER_AFTER_T, NONE, NONE, NONE, NONE], // 19 ConvertedWithT
+    [UNRESOLVED_TYPE, UNRESOLVED_NAME, NONE, NONE, NONE], // 20 UnresolvedInType
+    [LEVEL, MORE_LEVELS, NONE, NONE, NONE], // 21 Levels
+    [UNRESOLVED_TYPE, NONE, NONE, NONE, NONE], // 22 DestroyedType
+    [EXPRESSION, MAYBE_NOEXCEPT, AFTER_NOEXCEPT, NONE, NONE], // 23 ExpressionRequirement
+    [TYPE, REQUIREMENTS, NONE, NONE, NONE], // 24 TypeRequirement
+    [EXPRESSION, REQUIREMENTS, NONE, NONE, NONE], // 25 NestedRequirement
+    [CONCEPT, REQUIREMENTS, NONE, NONE, NONE], // 26 ResultRequirement
+    [CONVERTED_TYPE, REQUIRED_TYPES, NONE, NONE, NONE], // 27 RequiredType
+    [UNRESOLVED_NAME, NONE, NONE, NONE, NONE], // 28 LevelsEnd
+    [OPERATOR_NAME, NONE, NONE, NONE, NONE], // 29 UnresolvedOperator
+    [ARRAY_REST, NONE, NONE, NONE, NONE], // 30 AnyArray
+    [DECIMAL, TYPE, NONE, NONE, NONE], // 31 LengthArray
+    [ONE_ARGUMENT, NONE, NONE, NONE, NONE], // 32 ParameterObject
+    [NONE, NONE, NONE, NONE, NONE], // 33 Mark
+    [NAME, MAYBE_ARGUMENTS, NONE, NONE, NONE], // 34 InternalName
+    [ANONYMOUS, MAYBE_ARGUMENTS, NONE, NONE, NONE], // 35 LocalTypeName
+    [NAME, MAYBE_ARGUMENTS, NONE, NONE, NONE], // 36 SourceName
+    [OPERATOR, MAYBE_ARGUMENTS, NONE, NONE, NONE], // 37 OperatorName
+    [BINDING_AFTER_D, MAYBE_ARGUMENTS, NONE, NONE, NONE], // 38 BindingName
+    [NAME, NONE, NONE, NONE, NONE], // 39 InternalPiece
+    [ANONYMOUS, NONE, NONE, NONE, NONE], // 40 LocalTypePiece
+    [NAME, NONE, NONE, NONE, NONE], // 41 SourcePiece
+    [FIRST_MODULE, NAME_AFTER_MODULE, NONE, NONE, NONE], // 42 InModule
+    [NAMED_MODULE, NAME_AFTER_MODULE, NONE, NONE, NONE], // 43 InNamedModule
+    [MAYBE_RESTRICT, MAYBE_VOLATILE, MAYBE_CONST, MAYBE_REF, NEST], // 44 NestedName
+    [Sym::Byte(b'Z'), ENCODING, MAYBE_SUFFIX, NONE, NONE], // 45 Symbol
+    [SUFFIX_FIRST, NONE, NONE, NONE, NONE], // 46 Suffix
+    [SUFFIX_MORE, NONE, NONE, NONE, NONE], // 47 SuffixByte
+    [SPECIAL, NONE, NONE, NONE, NONE], // 48 Special
+    [SPECIAL_MARK, SPECIAL_AFTER_G, NONE, NONE, NONE], // 49 OtherSpecial
+    [COMPLETE_NAME, ITEMS, NONE, NONE, NONE], // 50 Encoding
+    [TYPE, NONE, NONE, NONE, NONE], // 51 SpecialType
+    [INTEGER, Sym::Byte(b'_'), ENCODING, NONE, NONE], // 52 NonVirtualThunk
+    [INTEGER, Sym::Byte(b'_'), INTEGER, Sym::Byte(b'_'), ENCODING], // 53 VirtualThunk
+    [CALL_OFFSET, CALL_OFFSET, ENCODING, NONE, NONE], // 54 CovariantThunk
+    [COMPLETE_NAME, NONE, NONE, NONE, NONE], // 55 SpecialName
+    [INTEGER, Sym::Byte(b'_'), NONE, NONE, NONE], // 56 NonVirtualOffset
+    [INTEGER, Sym::Byte(b'_'), INTEGER, Sym::Byte(b'_'), NONE], // 57 VirtualOffset
+    [DIGITS, NONE, NONE, NONE, NONE], // 58 Negative
+    [DIGITS, NONE, NONE, NONE, NONE], // 59 Positive
+    [NAME_AFTER_S, NONE, NONE, NONE, NONE], // 60 NameWithS
+    [ENCODING, Sym::Byte(b'E'), ENTITY, MAYBE_DISCRIMINATOR, NONE], // 61 LocalName
+    [UNQUALIFIED, MAYBE_ARGUMENTS, NONE, NONE, NONE], // 62 StdName
+    [ABBREVIATION, ARGUMENTS, NONE, NONE, NONE], // 63 AbbreviatedName
+    [OPERATOR, NONE, NONE, NONE, NONE], // 64 OperatorPiece
+    [NEST_AFTER_S, NONE, NONE, NONE, NONE], // 65 NestWithS
+    [DECIMAL, NEST_REST_ALONE, NONE, NONE, NONE], // 66 NestParameter
+    [NAME, NEST_REST, NONE, NONE, NONE], // 67 NestInternal
+    [ANONYMOUS, NEST_REST, NONE, NONE, NONE], // 68 NestLocalType
+    [NAME, NEST_REST, NONE, NONE, NONE], // 69 NestSource
+    [UNQUALIFIED, MAYBE_ARGUMENTS, NEST_TAIL, NONE, NONE], // 70 NestStd
+    [ABBREVIATION, NEST_REST_OR_END, NONE, NONE, NONE], // 71 NestTemplate
+    [ARGUMENTS_FIRST, Sym::Byte(b'E'), COMPONENT, NEST_TAIL, NONE], // 72 NestArguments
+    [COMPONENT, NEST_TAIL, NONE, NONE, NONE], // 73 NestNext
+    [NONE, NONE, NONE, NONE, NONE], // 74 NestEnd
+    [CONSTRUCTOR_AFTER_C, NONE, NONE, NONE, NONE], // 75 AnyConstructor
+    [COMPONENT_AFTER_D, MAYBE_ARGUMENTS, NONE, NONE, NONE], // 76 Destructor
+    [COMPONENT_AFTER_C, NONE, NONE, NONE, NONE], // 77 ComponentWithC
+    [OTHER_OPERATOR, MAYBE_ARGUMENTS, NONE, NONE, NONE], // 78 OtherOperatorName
+    [CONSTRUCTOR_DIGIT, MAYBE_ARGUMENTS, NONE, NONE, NONE], // 79 Constructor
+    [BOUND_NAMES, Sym::Byte(b'E'), NONE, NONE, NONE], // 80 Bindings
+    [NONE, NONE, NONE, NONE, NONE], // 81 Abbreviation
+    [SEQ36, NONE, NONE, NONE, NONE], // 82 Substitution
+    [NEST, NONE, NONE, NONE, NONE], // 83 NestedType
+    [NONE, NONE, NONE, NONE, NONE], // 84 StringLiteral
+    [DISCRIMINATOR_REST, NONE, NONE, NONE, NONE], // 85 Discriminator
+    [NONE, NONE, NONE, NONE, NONE], // 86 OneDigit
+    [DIGITS, Sym::Byte(b'_'), NONE, NONE, NONE], // 87 ManyDigits
+    [ITEM, ITEMS, Sym::Byte(b'E'), DECIMAL, NONE], // 88 Lambda
+    [DECIMAL, NONE, NONE, NONE, NONE], // 89 Unnamed
+    [MAYBE_VOLATILE, MAYBE_CONST, PLAIN, NONE, NONE], // 90 RestrictType
+    [MAYBE_CONST, PLAIN, NONE, NONE, NONE], // 91 VolatileType
+    [PLAIN, NONE, NONE, NONE, NONE], // 92 ConstType
+    [TYPE, NONE, NONE, NONE, NONE], // 93 ReferenceType
+    [SOLID, NONE, NONE, NONE, NONE], // 94 PlainType
+    [AFTER_D, NONE, NONE, NONE, NONE], // 95 TypeWithD
+    [AFTER_D, NONE, NONE, NONE, NONE], // 96 PlainWithD
+    [SOLID, NONE, NONE, NONE, NONE], // 97 QualifiedPlain
+    [ITEM_AFTER_D, NONE, NONE, NONE, NONE], // 98 ItemWithD
+    [TYPE, NONE, NONE, NONE, NONE], // 99 Expansion
+    [AFTER_D, NONE, NONE, NONE, NONE], // 100 ItemIsType
+    [NONE, NONE, NONE, NONE, NONE], // 101 BuiltinWithD
+    [DIGITS, Sym::Byte(b'_'), TYPE, NONE, NONE], // 102 Vector
+    [Sym::Byte(b'F'), MAYBE_C_LINKAGE, TYPE, FUNCTION_REST, NONE], // 103 NoexceptFunction
+    [DIGITS, FLOAT_END, NONE, NONE, NONE], // 104 SizedFloat
+    [EXPRESSION, Sym::Byte(b'E'), NONE, NONE, NONE], // 105 Decltype
+    [TYPE, NONE, NONE, NONE, NONE], // 106 Pointer
+    [TYPE, TYPE, NONE, NONE, NONE], // 107 MemberPointer
+    [DECIMAL, ARGUMENTS_ALONE, NONE, NONE, NONE], // 108 Parameter
+    [TYPE_AFTER_S, ARGUMENTS_ALONE, NONE, NONE, NONE], // 109 TypeWithS
+    [ENCODING, Sym::Byte(b'E'), TYPE_ENTITY, MAYBE_DISCRIMINATOR, NONE], // 110 LocalType
+    [NONE, NONE, NONE, NONE, NONE], // 111 Builtin
+    [NAME, NONE, NONE, NONE, NONE], // 112 Vendor
+    [ANY_ARRAY, NONE, NONE, NONE, NONE], // 113 ArrayType
+    [MAYBE_C_LINKAGE, TYPE, FUNCTION_REST, NONE, NONE], // 114 Function
+    [TYPE, NONE, NONE, NONE, NONE], // 115 Complex
+    [DIGITS, NONE, NONE, NONE, NONE], // 116 BitWidth
+    [TYPE_IN_STD, NONE, NONE, NONE, NONE], // 117 TypeInStd
+    [ABBREVIATION, NONE, NONE, NONE, NONE], // 118 AbbreviatedType
+    [NONE, NONE, NONE, NONE, NONE], // 119 RestEnd
+    [AFTER_R, NONE, NONE, NONE, NONE], // 120 RestLvalue
+    [AFTER_O, NONE, NONE, NONE, NONE], // 121 RestRvalue
+    [ITEM_BUT_REF, FUNCTION_REST, NONE, NONE, NONE], // 122 RestItem
+    [NONE, NONE, NONE, NONE, NONE], // 123 RefEnd
+    [TYPE, FUNCTION_REST, NONE, NONE, NONE], // 124 LvalueItem
+    [TYPE, FUNCTION_REST, NONE, NONE, NONE], // 125 RvalueItem
+    [ITEM, ITEMS, NONE, NONE, NONE], // 126 Items
+    [ARGUMENTS_FIRST, Sym::Byte(b'E'), NONE, NONE, NONE], // 127 Arguments
+    [PACK_LIST, Sym::Byte(b'E'), ARGUMENT_LIST, NONE, NONE], // 128 PackArgument
+    [LITERAL, Sym::Byte(b'E'), ARGUMENT_LIST, NONE, NONE], // 129 LiteralArgument
+    [ARGUMENT, ARGUMENT_LIST, NONE, NONE, NONE], // 130 AnyArgument
+    [LITERAL, Sym::Byte(b'E'), PACK_LIST, NONE, NONE], // 131 LiteralElement
+    [ARGUMENT, PACK_LIST, NONE, NONE, NONE], // 132 AnyElement
+    [Sym::Byte(b'Z'), ENCODING, NONE, NONE, NONE], // 133 EncodingLiteral
+    [BIT, NONE, NONE, NONE, NONE], // 134 BoolLiteral
+    [LITERAL_AFTER_D, NONE, NONE, NONE, NONE], // 135 LiteralWithD
+    [LITERAL_TYPE, INTEGER, NONE, NONE, NONE], // 136 IntegerLiteral
+    [MAYBE_ZERO, NONE, NONE, NONE, NONE], // 137 NullLiteral
+    [INTEGER, NONE, NONE, NONE, NONE], // 138 CharLiteral
+    [HEX_DIGITS, NONE, NONE, NONE, NONE], // 139 HexText
+    [HEX_MORE, NONE, NONE, NONE, NONE], // 140 HexDigit
+    [LITERAL_SOLID, NONE, NONE, NONE, NONE], // 141 QualifiedLiteral
+    [OPERATOR_AFTER_N, NONE, NONE, NONE, NONE], // 142 OperatorN
+    [OPERATOR_AFTER_D, NONE, NONE, NONE, NONE], // 143 OperatorD
+    [OPERATOR_AFTER_A, NONE, NONE, NONE, NONE], // 144 OperatorA
+    [OPERATOR_AFTER_P, NONE, NONE, NONE, NONE], // 145 OperatorP
+    [OPERATOR_AFTER_C, NONE, NONE, NONE, NONE], // 146 OperatorC
+    [OPERATOR_AFTER_M, NONE, NONE, NONE, NONE], // 147 OperatorM
+    [OPERATOR_AFTER_R, NONE, NONE, NONE, NONE], // 148 OperatorR
+    [OPERATOR_AFTER_O, NONE, NONE, NONE, NONE], // 149 OperatorO
+    [OPERATOR_AFTER_E, NONE, NONE, NONE, NONE], // 150 OperatorE
+    [OPERATOR_AFTER_L, NONE, NONE, NONE, NONE], // 151 OperatorL
+    [OPERATOR_AFTER_S, NONE, NONE, NONE, NONE], // 152 OperatorS
+    [OPERATOR_AFTER_I, NONE, NONE, NONE, NONE], // 153 OperatorI
+    [OPERATOR_AFTER_G, NONE, NONE, NONE, NONE], // 154 OperatorG
+    [NAME, NONE, NONE, NONE, NONE], // 155 LiteralOperator
+    [ARGUMENTS_FIRST, Sym::Byte(b'E'), NEST_MORE_OR_END, NONE, NONE], // 156 NestInstance
+    [FIELD_NAME, MORE_MODULE, NONE, NONE, NONE], // 157 FirstModule
+    [SEQ36, MORE_MODULE, NONE, NONE, NONE], // 158 NamedModule
+    [MAYBE_PARTITION, FIELD_NAME, MORE_MODULE, NONE, NONE], // 159 MoreModule
+    [NAME, NONE, NONE, NONE, NONE], // 160 FieldName
+    [BOUND_NAME, MORE_NAMES, NONE, NONE, NONE], // 161 BoundNames
+    [OPERATOR_AFTER_C, MAYBE_ARGUMENTS, NONE, NONE, NONE], // 162 OperatorNameWithC
+    [ARGUMENTS_FIRST, Sym::Byte(b'E'), NONE, NONE, NONE], // 163 HeldArguments
+    [NEST, HELD_ARGUMENTS, NONE, NONE, NONE], // 164 NestedBase
+    [UNNESTED_NAME, BASE_ARGUMENTS, NONE, NONE, NONE], // 165 UnnestedBase
+    [TYPE_AFTER_S, NONE, NONE, NONE, NONE], // 166 UnnestedWithS
+    [NAME, MAYBE_TAGS, NONE, NONE, NONE], // 167 TaggedSource
+    [ARGUMENTS_FIRST, Sym::Byte(b'E'), HELD_ARGUMENTS, NONE, NONE], // 168 BaseArguments
+    [ENCODING, Sym::Byte(b'E'), ENTITY, NONE, NONE], // 169 LocalTemporary
+    [SOURCE_OR_LOCAL, MAYBE_TAGS, NONE, NONE, NONE], // 170 TaggedStdType
+    [EXPRESSION, Sym::Byte(b'E'), NONE, NONE, NONE], // 171 Expression
+    [ARGUMENT_AFTER_T, NONE, NONE, NONE, NONE], // 172 ArgumentWithT
+    [SOLID_BUT_T, NONE, NONE, NONE, NONE], // 173 PlainArgument
+    [DECIMAL, ARGUMENTS_ALONE, NONE, NONE, NONE], // 174 ParameterArgument
+    [DECIMAL, LEVELED_PARAMETER, NONE, NONE, NONE], // 175 LeveledParameter
+    [LITERAL, Sym::Byte(b'E'), NONE, NONE, NONE], // 176 OneLiteral
+    [PACK_LIST, Sym::Byte(b'E'), NONE, NONE, NONE], // 177 OnePack
+    [TYPE, NONE, NONE, NONE, NONE], // 178 ValueOf
+    [CONCEPT, NONE, NONE, NONE, NONE], // 179 OfConcept
+    [DECLARATIONS, Sym::Byte(b'E'), NONE, NONE, NONE], // 180 TemplateOf
+    [Sym::Byte(b'T'), DECLARATION_AFTER_T, NONE, NONE, NONE], // 181 PackOf
+    [DECLARATION_AFTER_T, DECLARATIONS, NONE, NONE, NONE], // 182 Declarations
+    [UNNESTED_NAME, HELD_ARGUMENTS, NONE, NONE, NONE], // 183 NamedConcept
+    [TYPE, EXPRESSION, NONE, NONE, NONE], // 184 Cast
+    [OPERATOR, ARGUMENTS_ALONE, NONE, NONE, NONE], // 185 OperatorReference
+    [NAME, ARGUMENTS_ALONE, NONE, NONE, NONE], // 186 SimpleId
+    [MAYBE_RESTRICT, MAYBE_VOLATILE, MAYBE_CONST, PARAMETER_NUMBER, NONE], // 187 FunctionParameter
+    [ADDRESSED_EXPRESSION, NONE, NONE, NONE, NONE], // 188 AddressExpression
+    [EXPRESSION, EXPRESSION, NONE, NONE, NONE], // 189 Binary
+    [EXPRESSION, NONE, NONE, NONE, NONE], // 190 Unary
+    [CONVERTED_TYPE, NONE, NONE, NONE, NONE], // 191 OfType
+    [EXPRESSION, EXPRESSIONS, Sym::Byte(b'E'), NONE, NONE], // 192 Call
+    [CONVERTED_TYPE, CONVERT_REST, NONE, NONE, NONE], // 193 Convert
+    [FIELD_NAME, DESIGNATED_VALUE, NONE, NONE, NONE], // 194 Designated
+    [EXPRESSION, DESIGNATED_VALUE, NONE, NONE, NONE], // 195 DesignatedElement
+    [DESTRUCTOR_NAME, NONE, NONE, NONE, NONE], // 196 DestructorName
+    [DIGITS, OUTER_REST, NONE, NONE, NONE], // 197 OuterParameter
+    [FOLD_OPERATOR, FOLD_OPERAND, NONE, NONE, NONE], // 198 LeftFold
+    [FOLD_OPERATOR, FOLD_OPERAND, NONE, NONE, NONE], // 199 RightFold
+    [EXPRESSIONS, Sym::Byte(b'E'), NONE, NONE, NONE], // 200 Braces
+    [MAYBE_BEFORE, EXPRESSION, NONE, NONE, NONE], // 201 Step
+    [PLACEMENT, TYPE, INITIALIZER, NONE, NONE], // 202 New
+    [EXPRESSION, EXPRESSION, EXPRESSION, NONE, NONE], // 203 Conditional
+    [REQUIREMENTS, Sym::Byte(b'E'), NONE, NONE, NONE], // 204 Requires
+    [REQUIRED_TYPES, NONE, NONE, NONE, NONE], // 205 RequiresOf
+    [EXPRESSION, NONE, NONE, NONE, NONE], // 206 ExpandExpression
+    [EXPRESSION, NONE, NONE, NONE, NONE], // 207 PackSize
+    [UNRESOLVED, NONE, NONE, NONE, NONE], // 208 Unresolved
+    [VALUE_PACK, EXPRESSION, NONE, NONE, NONE], // 209 PackIndex
+    [TYPE, EXPRESSIONS, Sym::Byte(b'E'), NONE, NONE], // 210 TypedBraces
+    [NONE, NONE, NONE, NONE, NONE], // 211 Rethrow
+    [EXPRESSION_AFTER_A, NONE, NONE, NONE, NONE], // 212 ExpressionA
+    [EXPRESSION_AFTER_C, NONE, NONE, NONE, NONE], // 213 ExpressionC
+    [EXPRESSION_AFTER_D, NONE, NONE, NONE, NONE], // 214 ExpressionD
+    [EXPRESSION_AFTER_E, NONE, NONE, NONE, NONE], // 215 ExpressionE
+    [EXPRESSION_AFTER_F, NONE, NONE, NONE, NONE], // 216 ExpressionF
+    [EXPRESSION_AFTER_G, NONE, NONE, NONE, NONE], // 217 ExpressionG
+    [EXPRESSION_AFTER_I, NONE, NONE, NONE, NONE], // 218 ExpressionI
+    [EXPRESSION_AFTER_L, NONE, NONE, NONE, NONE], // 219 ExpressionL
+    [EXPRESSION_AFTER_M, NONE, NONE, NONE, NONE], // 220 ExpressionM
+    [EXPRESSION_AFTER_N, NONE, NONE, NONE, NONE], // 221 ExpressionN
+    [EXPRESSION_AFTER_O, NONE, NONE, NONE, NONE], // 222 ExpressionO
+    [EXPRESSION_AFTER_P, NONE, NONE, NONE, NONE], // 223 ExpressionP
+    [EXPRESSION_AFTER_Q, NONE, NONE, NONE, NONE], // 224 ExpressionQ
+    [EXPRESSION_AFTER_R, NONE, NONE, NONE, NONE], // 225 ExpressionR
+    [EXPRESSION_AFTER_S, NONE, NONE, NONE, NONE], // 226 ExpressionS
+    [EXPRESSION_AFTER_T, NONE, NONE, NONE, NONE], // 227 ExpressionT
+    [EXPRESSION_PARAMETER, NONE, NONE, NONE, NONE], // 228 ExpressionWithT
+    [DECIMAL, ARGUMENTS_ALONE, NONE, NONE, NONE], // 229 ParameterExpression
+    [BOUND, Sym::Byte(b'_'), TYPE, NONE, NONE], // 230 BoundedArray
+    [DECLARATION_AFTER_T, ONE_ARGUMENT, NONE, NONE, NONE], // 231 DeclaredArgument
+    [NAME, MAYBE_TAGS, NONE, NONE, NONE], // 232 TypeTag
+    [CLONE_LETTER, ENCODING, NONE, NONE, NONE], // 233 Clone
+    [Sym::Byte(b'W'), FIRST_MODULE, NONE, NONE, NONE], // 234 ModuleInitializer
+    [TEMPORARY_NAME, Sym::Byte(b'_'), NONE, NONE, NONE], // 235 Temporary
+    [TYPE, NONE, NONE, NONE, NONE], // 236 Conversion
+    [LITERAL_PLAIN, NONE, NONE, NONE, NONE], // 237 ConstLiteral
+    [MAYBE_CONST, LITERAL_PLAIN, NONE, NONE, NONE], // 238 VolatileLiteral
+    [SIZED_FLOAT_TYPE, HEX_TEXT, NONE, NONE, NONE], // 239 SizedFloatLiteral
+    [FLOAT_TYPE, HEX_TEXT, NONE, NONE, NONE], // 240 FloatLiteral
+    [NAME, MAYBE_ARGUMENTS, NONE, NONE, NONE], // 241 Tag
+    [EXPRESSION, NONE, NONE, NONE, NONE], // 242 Constraint
+    [TYPE_PACK, EXPRESSION, NONE, NONE, NONE], // 243 IndexedType
+    [BIT_WIDTH, Sym::Byte(b'_'), NONE, NONE, NONE], // 244 BitInt
+    [CONCEPT, NONE, NONE, NONE, NONE], // 245 ConstrainedAuto
+    [TYPE, NAME, NONE, NONE, NONE], // 246 Enumeration
+    [DECIMAL, PLAIN_TYPE_ENTITY, NONE, NONE, NONE], // 247 DefaultTypeEntity
+    [DECIMAL, PLAIN_ENTITY, NONE, NONE, NONE], // 248 DefaultEntity
+    [INHERITED_DIGIT, BASE_CLASS, NONE, NONE, NONE], // 249 Inheriting
+    [UNQUALIFIED, MAYBE_ARGUMENTS, NONE, NONE, NONE], // 250 Friend
+    [HOLDER_MARK, HELD_COMPONENT, NONE, NONE, NONE], // 251 Holder
+    [NAME, NEST_REST, NONE, NONE, NONE], // 252 NestTag
+    [DECLTYPE_AFTER_D, NEST_REST_ALONE, NONE, NONE, NONE], // 253 NestDecltype
+    [NAME_IN_MODULE, NEST_ON, NONE, NONE, NONE], // 254 NestModule
+    [TYPE, DIGITS, Sym::Byte(b'_'), TYPE, NONE], // 255 ConstructionVtable
 };
 
 // How many symbols follow each of them, up to an end.
-static AFTER: [u8; 1536] = [
-    0, 0, 0, 0, 0, 0, 0, 0, 0, 0, 0, 2, 1, 0, 0, 0, 0, 2, 1, 0, 0, 0, 0, 2, 1, 0, 0, 0, 0, 2, 1, 0,
-    0, 0, 0, 1, 0, 0, 0, 0, 0, 1, 0, 0, 0, 0, 0, 1, 0, 0, 0, 0, 0, 2, 1, 0, 0, 0, 0, 2, 1, 0, 0, 0,
-    0, 5, 4, 3, 2, 1, 0, 3, 2, 1, 0, 0, 0, 1, 0, 0, 0, 0, 0, 1, 0, 0, 0, 0, 0, 1, 0, 0, 0, 0, 0, 2,
-    1, 0, 0, 0, 0, 2, 1, 0, 0, 0, 0, 1, 0, 0, 0, 0, 0, 3, 2, 1, 0, 0, 0, 5, 4, 3, 2, 1, 0, 3, 2, 1,
-    0, 0, 0, 1, 0, 0, 0, 0, 0, 1, 0, 0, 0, 0, 0, 4, 3, 2, 1, 0, 0, 2, 1, 0, 0, 0, 0, 4, 3, 2, 1, 0,
+static AFTER: [u8; 1542] = [
+    0, 0, 0, 0, 0, 2, 1, 0, 0, 0, 0, 2, 1, 0, 0, 0, 0, 2, 1, 0, 0, 0, 0, 1, 0, 0, 0, 0, 0, 1, 0, 0,
+    0, 0, 0, 1, 0, 0, 0, 0, 0, 1, 0, 0, 0, 0, 0, 1, 0, 0, 0, 0, 0, 1, 0, 0, 0, 0, 0, 2, 1, 0, 0, 0,
+    0, 1, 0, 0, 0, 0, 0, 1, 0, 0, 0, 0, 0, 0, 0, 0, 0, 0, 0, 1, 0, 0, 0, 0, 0, 1, 0, 0, 0, 0, 0, 1,
+    0, 0, 0, 0, 0, 1, 0, 0, 0, 0, 0, 1, 0, 0, 0, 0, 0, 1, 0, 0, 0, 0, 0, 1, 0, 0, 0, 0, 0, 2, 1, 0,
+    0, 0, 0, 2, 1, 0, 0, 0, 0, 1, 0, 0, 0, 0, 0, 3, 2, 1, 0, 0, 0, 2, 1, 0, 0, 0, 0, 2, 1, 0, 0, 0,
+    0, 2, 1, 0, 0, 0, 0, 2, 1, 0, 0, 0, 0, 1, 0, 0, 0, 0, 0, 1, 0, 0, 0, 0, 0, 1, 0, 0, 0, 0, 0, 2,
+    1, 0, 0, 0, 0, 1, 0, 0, 0, 0, 0, 0, 0, 0, 0, 0, 0, 2, 1, 0, 0, 0, 0, 2, 1, 0, 0, 0, 0, 2, 1, 0,
+    0, 0, 0, 2, 1, 0, 0, 0, 0, 2, 1, 0, 0, 0, 0, 1, 0, 0, 0, 0, 0, 1, 0, 0, 0, 0, 0, 1, 0, 0, 0, 0,
+    0, 2, 1, 0, 0, 0, 0, 2, 1, 0, 0, 0, 0, 5, 4, 3, 2, 1, 0, 3, 2, 1, 0, 0, 0, 1, 0, 0, 0, 0, 0, 1,
+    0, 0, 0, 0, 0, 1, 0, 0, 0, 0, 0, 2, 1, 0, 0, 0, 0, 2, 1, 0, 0, 0, 0, 1, 0, 0, 0, 0, 0, 3, 2, 1,
+    0, 0, 0, 5, 4, 3, 2, 1, 0, 3, 2, 1, 0, 0, 0, 1, 0, 0, 0, 0, 0, 2, 1, 0, 0, 0, 0, 4, 3, 2, 1, 0,
     0, 1, 0, 0, 0, 0, 0, 1, 0, 0, 0, 0, 0, 1, 0, 0, 0, 0, 0, 4, 3, 2, 1, 0, 0, 2, 1, 0, 0, 0, 0, 2,
     1, 0, 0, 0, 0, 1, 0, 0, 0, 0, 0, 1, 0, 0, 0, 0, 0, 2, 1, 0, 0, 0, 0, 2, 1, 0, 0, 0, 0, 2, 1, 0,
-    0, 0, 0, 2, 1, 0, 0, 0, 0, 2, 1, 0, 0, 0, 0, 2, 1, 0, 0, 0, 0, 3, 2, 1, 0, 0, 0, 2, 1, 0, 0, 0,
-    0, 4, 3, 2, 1, 0, 0, 2, 1, 0, 0, 0, 0, 2, 1, 0, 0, 0, 0, 0, 0, 0, 0, 0, 0, 1, 0, 0, 0, 0, 0, 2,
-    1, 0, 0, 0, 0, 1, 0, 0, 0, 0, 0, 2, 1, 0, 0, 0, 0, 2, 1, 0, 0, 0, 0, 2, 1, 0, 0, 0, 0, 2, 1, 0,
-    0, 0, 0, 2, 1, 0, 0, 0, 0, 0, 0, 0, 0, 0, 0, 1, 0, 0, 0, 0, 0, 1, 0, 0, 0, 0, 0, 0, 0, 0, 0, 0,
-    0, 2, 1, 0, 0, 0, 0, 2, 1, 0, 0, 0, 0, 1, 0, 0, 0, 0, 0, 0, 0, 0, 0, 0, 0, 2, 1, 0, 0, 0, 0, 4,
-    3, 2, 1, 0, 0, 1, 0, 0, 0, 0, 0, 2, 1, 0, 0, 0, 0, 3, 2, 1, 0, 0, 0, 2, 1, 0, 0, 0, 0, 1, 0, 0,
-    0, 0, 0, 1, 0, 0, 0, 0, 0, 1, 0, 0, 0, 0, 0, 1, 0, 0, 0, 0, 0, 1, 0, 0, 0, 0, 0, 1, 0, 0, 0, 0,
-    0, 1, 0, 0, 0, 0, 0, 1, 0, 0, 0, 0, 0, 1, 0, 0, 0, 0, 0, 0, 0, 0, 0, 0, 0, 3, 2, 1, 0, 0, 0, 4,
-    3, 2, 1, 0, 0, 2, 1, 0, 0, 0, 0, 1, 0, 0, 0, 0, 0, 2, 1, 0, 0, 0, 0, 2, 1, 0, 0, 0, 0, 2, 1, 0,
-    0, 0, 0, 1, 0, 0, 0, 0, 0, 2, 1, 0, 0, 0, 0, 2, 1, 0, 0, 0, 0, 2, 1, 0, 0, 0, 0, 4, 3, 2, 1, 0,
-    0, 0, 0, 0, 0, 0, 0, 1, 0, 0, 0, 0, 0, 1, 0, 0, 0, 0, 0, 3, 2, 1, 0, 0, 0, 1, 0, 0, 0, 0, 0, 1,
-    0, 0, 0, 0, 0, 1, 0, 0, 0, 0, 0, 1, 0, 0, 0, 0, 0, 0, 0, 0, 0, 0, 0, 1, 0, 0, 0, 0, 0, 1, 0, 0,
-    0, 0, 0, 2, 1, 0, 0, 0, 0, 0, 0, 0, 0, 0, 0, 2, 1, 0, 0, 0, 0, 2, 1, 0, 0, 0, 0, 1, 0, 0, 0, 0,
-    0, 2, 1, 0, 0, 0, 0, 2, 1, 0, 0, 0, 0, 2, 1, 0, 0, 0, 0, 3, 2, 1, 0, 0, 0, 3, 2, 1, 0, 0, 0, 2,
-    1, 0, 0, 0, 0, 3, 2, 1, 0, 0, 0, 2, 1, 0, 0, 0, 0, 2, 1, 0, 0, 0, 0, 1, 0, 0, 0, 0, 0, 1, 0, 0,
-    0, 0, 0, 2, 1, 0, 0, 0, 0, 2, 1, 0, 0, 0, 0, 1, 0, 0, 0, 0, 0, 1, 0, 0, 0, 0, 0, 2, 1, 0, 0, 0,
-    0, 1, 0, 0, 0, 0, 0, 1, 0, 0, 0, 0, 0, 2, 1, 0, 0, 0, 0, 1, 0, 0, 0, 0, 0, 1, 0, 0, 0, 0, 0, 1,
+    0, 0, 0, 2, 1, 0, 0, 0, 0, 3, 2, 1, 0, 0, 0, 2, 1, 0, 0, 0, 0, 4, 3, 2, 1, 0, 0, 2, 1, 0, 0, 0,
+    0, 0, 0, 0, 0, 0, 0, 1, 0, 0, 0, 0, 0, 2, 1, 0, 0, 0, 0, 1, 0, 0, 0, 0, 0, 2, 1, 0, 0, 0, 0, 2,
+    1, 0, 0, 0, 0, 2, 1, 0, 0, 0, 0, 0, 0, 0, 0, 0, 0, 1, 0, 0, 0, 0, 0, 1, 0, 0, 0, 0, 0, 0, 0, 0,
+    0, 0, 0, 1, 0, 0, 0, 0, 0, 0, 0, 0, 0, 0, 0, 2, 1, 0, 0, 0, 0, 4, 3, 2, 1, 0, 0, 1, 0, 0, 0, 0,
+    0, 3, 2, 1, 0, 0, 0, 2, 1, 0, 0, 0, 0, 1, 0, 0, 0, 0, 0, 1, 0, 0, 0, 0, 0, 1, 0, 0, 0, 0, 0, 1,
     0, 0, 0, 0, 0, 1, 0, 0, 0, 0, 0, 1, 0, 0, 0, 0, 0, 1, 0, 0, 0, 0, 0, 1, 0, 0, 0, 0, 0, 1, 0, 0,
-    0, 0, 0, 1, 0, 0, 0, 0, 0, 1, 0, 0, 0, 0, 0, 1, 0, 0, 0, 0, 0, 1, 0, 0, 0, 0, 0, 1, 0, 0, 0, 0,
-    0, 1, 0, 0, 0, 0, 0, 1, 0, 0, 0, 0, 0, 1, 0, 0, 0, 0, 0, 3, 2, 1, 0, 0, 0, 2, 1, 0, 0, 0, 0, 2,
-    1, 0, 0, 0, 0, 3, 2, 1, 0, 0, 0, 1, 0, 0, 0, 0, 0, 2, 1, 0, 0, 0, 0, 2, 1, 0, 0, 0, 0, 2, 1, 0,
-    0, 0, 0, 2, 1, 0, 0, 0, 0, 1, 0, 0, 0, 0, 0, 2, 1, 0, 0, 0, 0, 3, 2, 1, 0, 0, 0, 2, 1, 0, 0, 0,
-    0, 2, 1, 0, 0, 0, 0, 2, 1, 0, 0, 0, 0, 3, 2, 1, 0, 0, 0, 2, 1, 0, 0, 0, 0, 2, 1, 0, 0, 0, 0, 2,
-    1, 0, 0, 0, 0, 1, 0, 0, 0, 0, 0, 1, 0, 0, 0, 0, 0, 2, 1, 0, 0, 0, 0, 2, 1, 0, 0, 0, 0, 2, 1, 0,
-    0, 0, 0, 2, 1, 0, 0, 0, 0, 2, 1, 0, 0, 0, 0, 0, 0, 0, 0, 0, 0, 1, 0, 0, 0, 0, 0, 1, 0, 0, 0, 0,
-    0, 2, 1, 0, 0, 0, 0, 2, 1, 0, 0, 0, 0, 2, 1, 0, 0, 0, 0, 2, 1, 0, 0, 0, 0, 2, 1, 0, 0, 0, 0, 2,
-    1, 0, 0, 0, 0, 2, 1, 0, 0, 0, 0, 4, 3, 2, 1, 0, 0, 1, 0, 0, 0, 0, 0, 2, 1, 0, 0, 0, 0, 1, 0, 0,
-    0, 0, 0, 1, 0, 0, 0, 0, 0, 3, 2, 1, 0, 0, 0, 2, 1, 0, 0, 0, 0, 2, 1, 0, 0, 0, 0, 2, 1, 0, 0, 0,
-    0, 1, 0, 0, 0, 0, 0, 2, 1, 0, 0, 0, 0, 2, 1, 0, 0, 0, 0, 2, 1, 0, 0, 0, 0, 2, 1, 0, 0, 0, 0, 2,
-    1, 0, 0, 0, 0, 3, 2, 1, 0, 0, 0, 3, 2, 1, 0, 0, 0, 2, 1, 0, 0, 0, 0, 1, 0, 0, 0, 0, 0, 1, 0, 0,
-    0, 0, 0, 1, 0, 0, 0, 0, 0, 1, 0, 0, 0, 0, 0, 2, 1, 0, 0, 0, 0, 3, 2, 1, 0, 0, 0, 0, 0, 0, 0, 0,
+    0, 0, 0, 0, 0, 0, 0, 0, 0, 3, 2, 1, 0, 0, 0, 4, 3, 2, 1, 0, 0, 2, 1, 0, 0, 0, 0, 2, 1, 0, 0, 0,
+    0, 1, 0, 0, 0, 0, 0, 2, 1, 0, 0, 0, 0, 2, 1, 0, 0, 0, 0, 2, 1, 0, 0, 0, 0, 4, 3, 2, 1, 0, 0, 0,
+    0, 0, 0, 0, 0, 1, 0, 0, 0, 0, 0, 1, 0, 0, 0, 0, 0, 3, 2, 1, 0, 0, 0, 1, 0, 0, 0, 0, 0, 1, 0, 0,
+    0, 0, 0, 1, 0, 0, 0, 0, 0, 1, 0, 0, 0, 0, 0, 0, 0, 0, 0, 0, 0, 1, 0, 0, 0, 0, 0, 1, 0, 0, 0, 0,
+    0, 2, 1, 0, 0, 0, 0, 0, 0, 0, 0, 0, 0, 2, 1, 0, 0, 0, 0, 2, 1, 0, 0, 0, 0, 2, 1, 0, 0, 0, 0, 2,
+    1, 0, 0, 0, 0, 3, 2, 1, 0, 0, 0, 3, 2, 1, 0, 0, 0, 2, 1, 0, 0, 0, 0, 3, 2, 1, 0, 0, 0, 2, 1, 0,
+    0, 0, 0, 2, 1, 0, 0, 0, 0, 1, 0, 0, 0, 0, 0, 1, 0, 0, 0, 0, 0, 2, 1, 0, 0, 0, 0, 1, 0, 0, 0, 0,
     0, 1, 0, 0, 0, 0, 0, 1, 0, 0, 0, 0, 0, 1, 0, 0, 0, 0, 0, 1, 0, 0, 0, 0, 0, 1, 0, 0, 0, 0, 0, 1,
     0, 0, 0, 0, 0, 1, 0, 0, 0, 0, 0, 1, 0, 0, 0, 0, 0, 1, 0, 0, 0, 0, 0, 1, 0, 0, 0, 0, 0, 1, 0, 0,
     0, 0, 0, 1, 0, 0, 0, 0, 0, 1, 0, 0, 0, 0, 0, 1, 0, 0, 0, 0, 0, 1, 0, 0, 0, 0, 0, 1, 0, 0, 0, 0,
-    0, 1, 0, 0, 0, 0, 0, 2, 1, 0, 0, 0, 0, 2, 1, 0, 0, 0, 0, 2, 1, 0, 0, 0, 0, 2, 1, 0, 0, 0, 0, 1,
-    0, 0, 0, 0, 0, 1, 0, 0, 0, 0, 0, 1, 0, 0, 0, 0, 0, 1, 0, 0, 0, 0, 0, 1, 0, 0, 0, 0, 0, 1, 0, 0,
-    0, 0, 0, 1, 0, 0, 0, 0, 0, 2, 1, 0, 0, 0, 0, 1, 0, 0, 0, 0, 0, 1, 0, 0, 0, 0, 0, 0, 0, 0, 0, 0,
+    0, 1, 0, 0, 0, 0, 0, 1, 0, 0, 0, 0, 0, 3, 2, 1, 0, 0, 0, 2, 1, 0, 0, 0, 0, 2, 1, 0, 0, 0, 0, 3,
+    2, 1, 0, 0, 0, 1, 0, 0, 0, 0, 0, 2, 1, 0, 0, 0, 0, 2, 1, 0, 0, 0, 0, 2, 1, 0, 0, 0, 0, 2, 1, 0,
+    0, 0, 0, 2, 1, 0, 0, 0, 0, 1, 0, 0, 0, 0, 0, 2, 1, 0, 0, 0, 0, 3, 2, 1, 0, 0, 0, 3, 2, 1, 0, 0,
+    0, 2, 1, 0, 0, 0, 0, 2, 1, 0, 0, 0, 0, 1, 0, 0, 0, 0, 0, 1, 0, 0, 0, 0, 0, 2, 1, 0, 0, 0, 0, 2,
+    1, 0, 0, 0, 0, 2, 1, 0, 0, 0, 0, 2, 1, 0, 0, 0, 0, 1, 0, 0, 0, 0, 0, 1, 0, 0, 0, 0, 0, 2, 1, 0,
+    0, 0, 0, 2, 1, 0, 0, 0, 0, 2, 1, 0, 0, 0, 0, 2, 1, 0, 0, 0, 0, 2, 1, 0, 0, 0, 0, 2, 1, 0, 0, 0,
+    0, 2, 1, 0, 0, 0, 0, 4, 3, 2, 1, 0, 0, 1, 0, 0, 0, 0, 0, 2, 1, 0, 0, 0, 0, 1, 0, 0, 0, 0, 0, 1,
+    0, 0, 0, 0, 0, 3, 2, 1, 0, 0, 0, 2, 1, 0, 0, 0, 0, 2, 1, 0, 0, 0, 0, 2, 1, 0, 0, 0, 0, 1, 0, 0,
+    0, 0, 0, 2, 1, 0, 0, 0, 0, 2, 1, 0, 0, 0, 0, 2, 1, 0, 0, 0, 0, 2, 1, 0, 0, 0, 0, 2, 1, 0, 0, 0,
+    0, 3, 2, 1, 0, 0, 0, 3, 2, 1, 0, 0, 0, 2, 1, 0, 0, 0, 0, 1, 0, 0, 0, 0, 0, 1, 0, 0, 0, 0, 0, 1,
+    0, 0, 0, 0, 0, 1, 0, 0, 0, 0, 0, 2, 1, 0, 0, 0, 0, 3, 2, 1, 0, 0, 0, 0, 0, 0, 0, 0, 0, 1, 0, 0,
+    0, 0, 0, 1, 0, 0, 0, 0, 0, 1, 0, 0, 0, 0, 0, 1, 0, 0, 0, 0, 0, 1, 0, 0, 0, 0, 0, 1, 0, 0, 0, 0,
     0, 1, 0, 0, 0, 0, 0, 1, 0, 0, 0, 0, 0, 1, 0, 0, 0, 0, 0, 1, 0, 0, 0, 0, 0, 1, 0, 0, 0, 0, 0, 1,
-    0, 0, 0, 0, 0, 1, 0, 0, 0, 0, 0, 2, 1, 0, 0, 0, 0, 2, 1, 0, 0, 0, 0, 1, 0, 0, 0, 0, 0, 2, 1, 0,
-    0, 0, 0, 2, 1, 0, 0, 0, 0, 2, 1, 0, 0, 0, 0, 2, 1, 0, 0, 0, 0, 1, 0, 0, 0, 0, 0, 2, 1, 0, 0, 0,
-    0, 1, 0, 0, 0, 0, 0, 1, 0, 0, 0, 0, 0, 1, 0, 0, 0, 0, 0, 3, 2, 1, 0, 0, 0, 2, 1, 0, 0, 0, 0, 0,
+    0, 0, 0, 0, 0, 1, 0, 0, 0, 0, 0, 1, 0, 0, 0, 0, 0, 1, 0, 0, 0, 0, 0, 1, 0, 0, 0, 0, 0, 1, 0, 0,
+    0, 0, 0, 2, 1, 0, 0, 0, 0, 3, 2, 1, 0, 0, 0, 2, 1, 0, 0, 0, 0, 2, 1, 0, 0, 0, 0, 2, 1, 0, 0, 0,
+    0, 2, 1, 0, 0, 0, 0, 2, 1, 0, 0, 0, 0, 1, 0, 0, 0, 0, 0, 1, 0, 0, 0, 0, 0, 2, 1, 0, 0, 0, 0, 2,
+    1, 0, 0, 0, 0, 2, 1, 0, 0, 0, 0, 2, 1, 0, 0, 0, 0, 1, 0, 0, 0, 0, 0, 2, 1, 0, 0, 0, 0, 2, 1, 0,
+    0, 0, 0, 1, 0, 0, 0, 0, 0, 2, 1, 0, 0, 0, 0, 2, 1, 0, 0, 0, 0, 2, 1, 0, 0, 0, 0, 2, 1, 0, 0, 0,
+    0, 2, 1, 0, 0, 0, 0, 2, 1, 0, 0, 0, 0, 2, 1, 0, 0, 0, 0, 2, 1, 0, 0, 0, 0, 2, 1, 0, 0, 0, 0, 4,
+    3, 2, 1, 0, 0, 0,
 ];
 
 /// The number of the rule that a kind takes at a byte, if it takes one.
 #[inline]
 fn number(kind: u16, byte: u8) -> Option<usize>
     requires { kind < abi.kinds }
-    ensures few { IfSome result (λ number. number < 255) }
+    ensures few { IfSome result (λ number. number < 256) }
     ensures rule { (head : Head) → MatchOption result (abi.rule kind byte ≡ None) (λ number. abi.rule kind byte ≡ Some (listed_rule head number)) }
 {
     match letter_in(&LETTERS[kind as usize], byte) {
-        Some(letter) => Some(letter.wrapping_sub(FIRST_LETTER) as usize),
+        Some(letter) => Some(letter as usize),
         None => None,
     }
 }

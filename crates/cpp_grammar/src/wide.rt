@@ -13,7 +13,7 @@ use sym_shape::{Grammar, Rule, Sym};
 /// - Names: constructors and destructors with the digits 4 and 5, inherited constructors, conversions to types, friends, ABI
 ///   tags, functions with an explicit object, nested names that are a substitution and its arguments, what is in the
 ///   initializer of a data member, in a default argument or in the type of an expression, names that are attached to modules,
-///   enumerations without a name.
+///   enumerations without a name, structured bindings.
 /// - Special names: construction vtables, template parameter objects, initializers of modules, the routines of thread-local
 ///   variables, transaction clones.
 /// - Types: decimal, half and sized floats, integers of any width, elements of a pack, `auto` of which a concept is asked,

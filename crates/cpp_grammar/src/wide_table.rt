@@ -4,195 +4,212 @@ ghost use Rattle.sym_shape.specs.Table.{symbols_of};
 ghost use Rattle.cpp_grammar.specs.Table.{wide, abi_listed, listed_rule};
 ghost use Rattle.cpp_grammar.specs.declared.table.Head.{Head};
 
-use crate::table::{FIRST_LETTER, HEADS, SYMBOLS};
+use crate::table::{HEADS, SYMBOLS};
 use sym_shape::{Rule, letter_in, place_of, symbols_from};
 
+/// The letters of a kind. They count from its base: the number of a production is that and its letter.
+struct Row {
+    base: u8,
+    letters: [u8; 87],
+}
+
+// Rows with these bases and letters.
+macro_rules! rows {
+    ($([$base:expr, $letters:expr],)*) => {
+        [$(Row { base: $base, letters: *$letters },)*]
+    };
+}
+
 // For each kind a row: for each byte from `$` to `z` the letter of the production that the kind takes there.
-static WIDE_LETTERS: [[u8; 87]; 172] = [
+static WIDE_ROWS: [Row; 176] = rows! {
     // $%&'()*+,-./0123456789:;<=>?@ABCDEFGHIJKLMNOPQRSTUVWXYZ[\]^_`abcdefghijklmnopqrstuvwxyz
-    *b"                                                           ,                           ", // Symbol
-    *b"          -                                                                            ", // MaybeSuffix
-    *b".         . ..........       ..........................    . ..........................", // SuffixFirst
-    *b".         . ..........       ..........................    . ..........................", // SuffixMore
-    *b"            1111111111             0    1 1    1/1 1  1      1 111 1 1  11111 11       ", // Encoding
-    *b"                             7 8    62         22 26           5    3             4    ", // Special
-    *b"                                                                    9             :    ", // CallOffset
-    *b"            <<<<<<<<<<                                                    ;            ", // Integer
-    *b"            $$$$$$$$$$                  \" +    = # )  >      % %%% % %  %%%%% %%       ", // CompleteName
-    *b"                                                                              !        ", // MaybeRestrict
-    *b"                                                  !                                    ", // MaybeVolatile
-    *b"                                       !                                               ", // MaybeConst
-    *b"                                    !      !  !                                        ", // MaybeRef
-    *b"            @@@@@@@@@@       @@@@@@@@@@@@@@@@@@@@@@@@@@    @ @@ @    @     @   @?      ", // NameAfterS
-    *b"            ((((((((((                  &        '           A AAA A A  AAAAA AA       ", // Unqualified
-    *b"            FFFFFFFFFF          H       D      BCE G                                   ", // Nest
-    *b"            JJJJJJJJJJ       JJJJJJJJJJJJJJJJJJJJJJJJJJ    J JJ J    J     J   JI      ", // NestAfterS
-    *b"            LLLLLLLLLL        MLL L  K  LL     L L L         L LLL L L  LLLLL LL       ", // NestRest
-    *b"            LLLLLLLLLL         LLNL     LL     L L L         L LLL L L  LLLLL LL       ", // NestTail
-    *b"            $$$$$$$$$$         OP T     \"S     * # )         R QRR R R  RRRRR RR       ", // Component
-    *b"             VVVVV                   U                                                 ", // ConstructorAfterC
-    *b"             !!!!!                                                                     ", // ConstructorDigit
-    *b"             !! !!                                                                     ", // InheritedDigit
-    *b"            !!! !!                                                                     ", // DestructorDigit
-    *b"            XXXXXXXXXX       XXXXXXXXXXXXXXXXXXXXXXXXXX    X WW W    W     W   W       ", // Abbreviation
-    *b"            $$$$$$$$$$                  \" +      #              [              Z       ", // Entity
-    *b"            $$$$$$$$$$                  \" Y      #              \\                      ", // TypeEntity
-    *b"                                                           ]                           ", // MaybeDiscriminator
-    *b"            ^^^^^^^^^^                                     _                           ", // DiscriminatorRest
-    *b"                                                                 b      `       a      ", // Anonymous
-    *b"            gggggggggg       g gh g    e ggfg fgggdg  g      gggggggggg gggg  cgggggggg", // Type
-    *b"            jjjjjjjjjj       j ji j      jjfj fjjj j  j      jjjjjjjjjj jjjj   jjjjjjjj", // Plain
-    *b"            gggggggggg       g gk g    e ggfg fgggdg  g      gggggggggg gggg  cgggggggg", // Item
-    *b"            gggggggggg       g gk g    e gg g  gggdg  g      gggggggggg gggg  cgggggggg", // ItemButRef
-    *b"                              m   m    m        mm           m mmmm mm m  mml  mmmm  m ", // ItemAfterD
-    *b"                              s   q    r        ts           n nnnn nn r  np   ntno  u ", // AfterD
-    *b"            $$$$$$$$$$       } \x7f  ~      wY v  yx# )  z      {{{{{{{{{{ {{{{   {{|{{{{{", // Solid
-    *b"                                                     !                                 ", // MaybeCLinkage
-    *b"            \x80\x80\x80\x80\x80\x80\x80\x80\x80\x80                                                                 ", // BitWidth
-    *b"            \x82\x82\x82\x82\x82\x82\x82\x82\x82\x82       \x82\x82\x82\x82\x82\x82\x82\x82\x82\x82\x82\x82\x82\x82\x82\x82\x82\x82\x82\x82\x82\x82\x82\x82\x82\x82    \x82 \x82\x82 \x82    \x82     \x82   \x82\x81      ", // TypeAfterS
-    *b"            ((((((((((                  &        '                                     ", // SourceOrLocal
-    *b"            \x86\x86\x86\x86\x86\x86\x86\x86\x86\x86       \x86 \x86\x86\x83\x86    \x86 \x86\x86\x85\x86 \x84\x86\x86\x86\x86\x86  \x86      \x86\x86\x86\x86\x86\x86\x86\x86\x86\x86 \x86\x86\x86\x86  \x86\x86\x86\x86\x86\x86\x86\x86\x86", // FunctionRest
-    *b"            \x88\x88\x88\x88\x88\x88\x88\x88\x88\x88       \x88 \x88\x88\x87\x88    \x88 \x88\x88\x88\x88 \x88\x88\x88\x88\x88\x88  \x88      \x88\x88\x88\x88\x88\x88\x88\x88\x88\x88 \x88\x88\x88\x88  \x88\x88\x88\x88\x88\x88\x88\x88\x88", // AfterR
-    *b"            \x89\x89\x89\x89\x89\x89\x89\x89\x89\x89       \x89 \x89\x89\x87\x89    \x89 \x89\x89\x89\x89 \x89\x89\x89\x89\x89\x89  \x89      \x89\x89\x89\x89\x89\x89\x89\x89\x89\x89 \x89\x89\x89\x89  \x89\x89\x89\x89\x89\x89\x89\x89\x89", // AfterO
-    *b"            \x8b\x8b\x8b\x8b\x8b\x8b\x8b\x8b\x8b\x8b       \x8b \x8b\x8b \x8b    \x8b \x8b\x8b\x8b\x8b\x8a\x8b\x8b\x8b\x8b\x8b\x8b  \x8b      \x8b\x8b\x8b\x8b\x8b\x8b\x8b\x8b\x8b\x8b \x8b\x8b\x8b\x8b  \x8b\x8b\x8b\x8b\x8b\x8b\x8b\x8b\x8b", // Items
-    *b"                              \x8d      \x8c                                                 ", // MaybeArguments
-    *b"                                     \x8c                                                 ", // Arguments
-    *b"            \x90\x90\x90\x90\x90\x90\x90\x90\x90\x90       \x90 \x90\x90 \x90   \x8e\x90\x8f\x90\x90\x90\x90\x8a\x90\x90\x90\x90\x90\x90\x90 \x90      \x90\x90\x90\x90\x90\x90\x90\x90\x90\x90 \x90\x90\x90\x90  \x90\x90\x90\x90\x90\x90\x90\x90\x90", // ArgumentList
-    *b"            \x92\x92\x92\x92\x92\x92\x92\x92\x92\x92       \x92 \x92\x92 \x92    \x92\x91\x92\x92\x92\x92 \x92\x92\x92\x92\x92\x92\x92 \x92      \x92\x92\x92\x92\x92\x92\x92\x92\x92\x92 \x92\x92\x92\x92  \x92\x92\x92\x92\x92\x92\x92\x92\x92", // PackList
-    *b"            \x96\x96\x96\x96\x96\x96\x96\x96\x96\x96          \x95      \x96 \x96\x96 \x96  \x96\x96\x96\x96\x96  \x96    \x93 \x96\x94\x96\x97\x97\x97\x97\x96\x96\x96 \x96\x96\x96\x96   \x96\x96  \x96\x96\x96 ", // Literal
-    *b"            !!                                                                         ", // Bit
-    *b"                                  \x9a                                  \x99    \x98    \x99 \x99     ", // LiteralAfterD
-    *b"                                                                {{{{                   ", // FloatType
-    *b"                                  q                                                    ", // SizedFloatType
-    *b"            \x9b\x9b\x9b\x9b\x9b\x9b\x9b\x9b\x9b\x9b                                       \x9b\x9b\x9b\x9b\x9b\x9b                    ", // HexText
-    *b"            \x9c\x9c\x9c\x9c\x9c\x9c\x9c\x9c\x9c\x9c                                       \x9c\x9c\x9c\x9c\x9c\x9c                    ", // HexDigits
-    *b"            \x9c\x9c\x9c\x9c\x9c\x9c\x9c\x9c\x9c\x9c                                       \x9c\x9c\x9c\x9c\x9c\x9c                    ", // HexMore
-    *b"            !                                                                          ", // MaybeZero
-    *b"            $$$$$$$$$$                 \x9e wY v  yx#\x9d)  z      { {    {{{ {{{{   {{  {{{ ", // LiteralType
-    *b"            \x9f\x9f\x9f\x9f\x9f\x9f\x9f\x9f\x9f\x9f                   \x9f\x9f \x9f  \x9f\x9f\x9f \x9f  \x9f      \x9f \x9f    \x9f\x9f\x9f \x9f\x9f\x9f\x9f   \x9f\x9f  \x9f\x9f\x9f ", // LiteralPlain
-    *b"            $$$$$$$$$$                   wY v  yx# )  z      { {    {{{ {{{{   {{  {{{ ", // LiteralSolid
-    *b"                                                             \xa2 \xa4\xa1\xa8 \xac \xab  \xa9\xa5\xa0\xa7\xa3 \xa6\xaa       ", // Operator
-    *b"                                                             !   ! !            !  !   ", // OperatorAfterN
-    *b"                                                  !          !   !      !         !    ", // OperatorAfterD
-    *b"                                          !    !             !  !         !        !   ", // OperatorAfterA
-    *b"                                        !                               !!  !  !!      ", // OperatorAfterP
-    *b"                                                                        !! !           ", // OperatorAfterC
-    *b"                                     !  !                            !  !!             ", // OperatorAfterM
-    *b"                                         !     !                         !     !       ", // OperatorAfterR
-    *b"                                              !                            !  !        ", // OperatorAfterO
-    *b"                                           !                               ! !         ", // OperatorAfterE
-    *b"                                               !                 !   \xad         !!      ", // OperatorAfterL
-    *b"                                                                               !       ", // OperatorAfterS
-    *b"                                                                                    !  ", // OperatorAfterI
-    *b"                                                                 !              !      ", // OperatorAfterG
-    *b"            LLLLLLLLLL         LL L  \xae  LL     L L L         L LLL L L  LLLLL LL       ", // NestRestOrEnd
-    *b"                                     \x8c                                                 ", // ArgumentsAlone
-    *b"            LLLLLLLLLL         LL L  K  LL     L L L         L LLL L L  LLLLL LL       ", // NestRestAlone
-    *b"            \xaf\xaf\xaf\xaf\xaf\xaf\xaf\xaf\xaf\xaf                                                                 ", // FirstModule
-    *b"            \xb0\xb0\xb0\xb0\xb0\xb0\xb0\xb0\xb0\xb0       \xb0\xb0\xb0\xb0\xb0\xb0\xb0\xb0\xb0\xb0\xb0\xb0\xb0\xb0\xb0\xb0\xb0\xb0\xb0\xb0\xb0\xb0\xb0\xb0\xb0\xb0    \xb0                           ", // NamedModule
-    *b"                                                   \xb1                                   ", // MoreModule
-    *b"                                            !                                          ", // MaybePartition
-    *b"            $$$$$$$$$$                  \"        #           % %%% % %  %%%%% %%       ", // NameAfterModule
-    *b"                                                   )                                   ", // NameInModule
-    *b"            LLLLLLLLLL         LL L     LL     L L L         L LLL L L  LLLLL LL       ", // NestOn
-    *b"                                         !                                             ", // HolderMark
-    *b"            $$$$$$$$$$         OP       \"      * # )         R QRR R R  RRRRR RR       ", // HeldComponent
-    *b"                                                           !  !                     !  ", // FloatEnd
-    *b"                                                                        \xb3\xb3 \xb3      \xb2    ", // ComponentAfterC
-    *b"                                                             \xa2  \xa1\xa8 \xac \xab  \xa9\xa5\xa0\xa7\xa3 \xa6\xaa       ", // OtherOperator
-    *b"                                     \xb4                                                 ", // HeldArguments
-    *b"            \xb6\xb6\xb6\xb6\xb6\xb6\xb6\xb6\xb6\xb6                    \xb5    \xb6      z                                ", // BaseClass
-    *b"            \xb8\xb8\xb8\xb8\xb8\xb8\xb8\xb8\xb8\xb8                         \xb7                                       ", // UnnestedName
-    *b"                                     \xb9                                                 ", // BaseArguments
-    *b"            \x90\x90\x90\x90\x90\x90\x90\x90\x90\x90       \x90 \x90\x90 \x90  \x8e\x8e\x90\x8f\x90\x90\x90\x90\x8a\x90\x90\x90\x90\x90\x90\x90 \x90      \x90\x90\x90\x90\x90\x90\x90\x90\x90\x90 \x90\x90\x90\x90  \x90\x90\x90\x90\x90\x90\x90\x90\x90", // ArgumentsFirst
-    *b"            $$$$$$$$$$                  \" +      #                                     ", // PlainEntity
-    *b"            $$$$$$$$$$                  \" Y      #                                     ", // PlainTypeEntity
-    *b"                                   !                                                   ", // SpecialMark
-    *b"                                     \xbb        \xba \xbc 6                                    ", // SpecialAfterG
-    *b"            $$$$$$$$$$                  \" +    = #    \xbd                                ", // TemporaryName
-    *b"                                                                          !     !      ", // CloneLetter
-    *b"                                                                                \xbe      ", // TypeInStd
-    *b"                              \xbf                                                        ", // MaybeTags
-    *b"            \xc2\xc2\xc2\xc2\xc2\xc2\xc2\xc2\xc2\xc2       \xc2 \xc2k \xc2    e \xc2\xc2f\xc2 f\xc2\xc1\xc2d\xc2\xc0 \xc2      \xc2\xc2\xc2\xc2\xc2\xc2\xc2\xc2\xc2\xc2 \xc2\xc2\xc2\xc2  c\xc2\xc2\xc2\xc2\xc2\xc2\xc2\xc2", // Argument
-    *b"            \xc3\xc3\xc3\xc3\xc3\xc3\xc3\xc3\xc3\xc3                  \xc5                  \xc3           \xc4  \xc4 \xc4   \xc4    \xc4 ", // ArgumentAfterT
-    *b"            \xc3\xc3\xc3\xc3\xc3\xc3\xc3\xc3\xc3\xc3                                     \xc3                           ", // LeveledParameter
-    *b"            \xc2\xc2\xc2\xc2\xc2\xc2\xc2\xc2\xc2\xc2       \xc2 \xc2k \xc2   \xc7e\xc6\xc2\xc2f\xc2 f\xc2\xc1\xc2d\xc2\xc0 \xc2      \xc2\xc2\xc2\xc2\xc2\xc2\xc2\xc2\xc2\xc2 \xc2\xc2\xc2\xc2  c\xc2\xc2\xc2\xc2\xc2\xc2\xc2\xc2", // OneArgument
-    *b"                                                                       \xca  \xc9 \xcc   \xcb    \xc8 ", // DeclarationAfterT
-    *b"                                                \xcd                                      ", // Declarations
-    *b"            \xce\xce\xce\xce\xce\xce\xce\xce\xce\xce                    Y    \xce                                       ", // Concept
-    *b"            $$$$$$$$$$       } \x7f  ~      wY v  y # )  z      {{{{{{{{{{ {{{{   {{|{{{{{", // SolidButT
-    *b"            \xd1\xd1\xd1\xd1\xd1\xd1\xd1\xd1\xd1\xd1                  \xc6       \xfb            \xeb \xec\xed\xee\xef\xf0 \xf1  \xf2\xf3\xf4\xf5\xf6\xf7\xf8\xf9\xfa      ", // Expression
-    *b"            \xfc\xfc\xfc\xfc\xfc\xfc\xfc\xfc\xfc\xfc                  \xfd                  \xfc                           ", // ExpressionParameter
-    *b"            \xfc\xfc\xfc\xfc\xfc\xfc\xfc\xfc\xfc\xfc                                     \xfc                           ", // UnleveledExpression
-    *b"            \xd1\xd1\xd1\xd1\xd1\xd1\xd1\xd1\xd1\xd1                  \xfe       \xfb            \xeb \xec\xed\xee\xef\xf0 \xf1  \xf2\xf3\xf4\xf5\xf6\xf7\xf8\xf9\xfa      ", // AddressedExpression
-    *b"            \x96\x96\x96\x96\x96\x96\x96\x96\x96\x96          \x95      \x96 \x96\x96 \x96  \x96\x96\x96\x96\x96  \x96    \x93 \x96\x94\x96\x97\x97\x97\x97\x96\x96\x96 \x96\x96\x96\x96   \x96\x96  \x96\x96\x96 ", // AddressedLiteral
-    *b"                                          \xd4    \xd4             \xd4  \xd3         \xd4     \xd6  \xd5  \xd5", // ExpressionAfterA
-    *b"                                                               \xcf        \xd7\xd4 \xd5\xd7     \xd8    ", // ExpressionAfterC
-    *b"                                                  \xd4          \xd5 \xcf \xd5   \xd9  \xd5 \xdb    \xd4\xd4 \xd4 \xda  ", // ExpressionAfterD
-    *b"                                           \xd4                               \xd4 \xd4         ", // ExpressionAfterE
-    *b"                                        \xdc                               \xdd   \xd2 \xde        ", // ExpressionAfterF
-    *b"                                                                 \xd4             \xd5\xd4      ", // ExpressionAfterG
-    *b"                                                                        \xdf           \xd4  ", // ExpressionAfterI
-    *b"                                               \xd4                 \xd4             \xd4\xd4      ", // ExpressionAfterL
-    *b"                                     \xd4  \xd4                            \xd4  \xd4\xe0             ", // ExpressionAfterM
-    *b"                                                             \xe1   \xd4 \xd5            \xd5  \xe1\xd5  ", // ExpressionAfterN
-    *b"                                              \xd4                           \xd0\xd4  \xd4        ", // ExpressionAfterO
-    *b"                                        \xd4                               \xd4\xd4  \xe0  \xd5\xd4      ", // ExpressionAfterP
-    *b"                                                                                 \xe2     ", // ExpressionAfterQ
-    *b"                                         \xd4   \xe4 \xd4               \xcf         \xd4   \xe3 \xd4       ", // ExpressionAfterR
-    *b"                                                      \xe6        \xcf            \xe5 \xe7\xd4\xd6    \xe8\xd5", // ExpressionAfterS
-    *b"                                                                 \xd5   \xd6  \xe9     \xea    \xd5   ", // ExpressionAfterT
-    *b"            \xff\xff\xff\xff\xff\xff\xff\xff\xff\xff                  \xff       \xff            \xff \xff\xff\xff\xff\xff \xff  \xff\xff\xff\xff\xff\xff\xff\xff\xff      ", // Expressions
-    *b"                                                           !                           ", // MaybeBefore
-    *b"                                                             \xa2 \xa4\xa1\xa8 \xac \xab  \x00\xa5\xa0\xa7\xa3 \xa6\xaa       ", // FoldOperator
-    *b"                                               !                 !             !!      ", // FoldOperatorAfterL
-    *b"            \x01\x01\x01\x01\x01\x01\x01\x01\x01\x01                  \x01       \x01            \x01 \x01\x01\x01\x01\x01 \x01  \x01\x01\x01\x01\x01\x01\x01\x01\x01      ", // FoldOperand
-    *b"            \x02\x02\x02\x02\x02\x02\x02\x02\x02\x02                  \x02       \x02            \x02 \x02\x02\x02\x02\x02 \x02  \x02\x02\x02\x02\x02\x02\x02\x02\x02      ", // FoldPack
-    *b"            \x02\x02\x02\x02\x02\x02\x02\x02\x02\x02                \xc7 \x02       \x02            \x02 \x02\x02\x02\x02\x02 \x02  \x02\x02\x02\x02\x02\x02\x02\x02\x02      ", // ValuePack
-    *b"            \x03\x03\x03\x03\x03\x03\x03\x03\x03\x03       \x03 \x03\x03 \x03   \xc7\x03 \x03\x03\x03\x03 \x03\x03\x03\x03\x03\x03  \x03      \x03\x03\x03\x03\x03\x03\x03\x03\x03\x03 \x03\x03\x03\x03  \x03\x03\x03\x03\x03\x03\x03\x03\x03", // TypePack
-    *b"            \x05\x05\x05\x05\x05\x05\x05\x05\x05\x05                  \x05       \x05            \x05 \x05\x04\x05\x05\x05 \x05  \x05\x05\x05\x05\x05\x05\x05\x05\x05      ", // DesignatedValue
-    *b"                                                                     \xd9              \xda  ", // DesignatorAfterD
-    *b"            \xd1\xd1\xd1\xd1\xd1\xd1\xd1\xd1\xd1\xd1                  \xc6       \xfb            \xeb \xec \xee\xef\xf0 \xf1  \xf2\xf3\xf4\xf5\xf6\xf7\xf8\xf9\xfa      ", // PlainValue
-    *b"            \x06\x06\x06\x06\x06\x06\x06\x06\x06\x06                                                                 ", // FieldName
-    *b"            \x07\x07\x07\x07\x07\x07\x07\x07\x07\x07                  \x07       \x07          ! \x07 \x07\x07\x07\x07\x07 \x07  \x07\x07\x07\x07\x07\x07\x07\x07\x07      ", // Placement
-    *b"            \xff\xff\xff\xff\xff\xff\xff\xff\xff\xff                  \xff       \xff            \xff \xff\xff\xff\xff\xff \xff  \xff\xff\xff\xff\xff\xff\xff\xff\xff      ", // SomeExpressions
-    *b"                                 \x87                                   \x09      \x08          ", // Initializer
-    *b"                                                                     \xdf                 ", // InitializerAfterP
-    *b"                                                                        \xdf              ", // InitializerAfterI
-    *b"                                                                            \xd2          ", // OuterRest
-    *b"            \x0b\x0b\x0b\x0b\x0b\x0b\x0b\x0b\x0b\x0b                          \x0a          \x0b                           ", // ParameterNumber
-    *b"            \x10\x10\x10\x10\x10\x10\x10\x10\x10\x10          \x0c \x10    \x0d  \x10\x0f\x0e \x0f\x10\x10\x10           \x10\x10\x10\x10\x10\x10\x10\x10\x10\x10 \x10\x10\x10\x10   \x10\x10 \x10\x10\x10\x10\x10", // ConvertedType
-    *b"            $$$$$$$$$$            ~       Y    y\x11#           {{{{{{{{{{ {{{{   {{ {{{{{", // ConvertedSolid
-    *b"            \xc3\xc3\xc3\xc3\xc3\xc3\xc3\xc3\xc3\xc3                  \xc5                  \xc3                           ", // ParameterAfterT
-    *b"                                                t                               t      ", // DecltypeAfterD
-    *b"                                                t            n n                t      ", // ConvertedAfterD
-    *b"            \xd1\xd1\xd1\xd1\xd1\xd1\xd1\xd1\xd1\xd1                  \xc6       \xfb          \xdf \xeb \xec\xed\xee\xef\xf0 \xf1  \xf2\xf3\xf4\xf5\xf6\xf7\xf8\xf9\xfa      ", // ConvertRest
-    *b"            \x13\x13\x13\x13\x13\x13\x13\x13\x13\x13          \x12         \x12    \x12\x12                                      ", // Unresolved
-    *b"                                \x0c         Y    y\x11                                      ", // UnresolvedType
-    *b"            \xd1\xd1\xd1\xd1\xd1\xd1\xd1\xd1\xd1\xd1          \x14         \x14    \x14\x14                                      ", // DestructorName
-    *b"                                             \x17  \x16   \x15                                  ", // Requirements
-    *b"                                          \x19  \x17\x18 \x16   \x15                                  ", // AfterExpression
-    *b"                                             \x17\x18 \x16   \x15                                  ", // AfterNoexcept
-    *b"            \x1a\x1a\x1a\x1a\x1a\x1a\x1a\x1a\x1a\x1a          \x1a \x1a    \x1a  \x1a\x1a\x1a \x1a\x1a\x1a\x1a         \xe3 \x1a\x1a\x1a\x1a\x1a\x1a\x1a\x1a\x1a\x1a \x1a\x1a\x1a\x1a   \x1a\x1a \x1a\x1a\x1a\x1a\x1a", // RequiredTypes
-    *b"            \xd1\xd1\xd1\xd1\xd1\xd1\xd1\xd1\xd1\xd1                                                                 ", // Level
-    *b"            \x13\x13\x13\x13\x13\x13\x13\x13\x13\x13           \x1b                                                     ", // MoreLevels
-    *b"            \xd1\xd1\xd1\xd1\xd1\xd1\xd1\xd1\xd1\xd1                                                     \x1c           ", // UnresolvedName
-    *b"                                                                          \xd0            ", // OperatorName
-    *b"                             \x1d                                                         ", // AnyArray
-    *b"            \x1f\x1f\x1f\x1f\x1f\x1f\x1f\x1f\x1f\x1f                  \x1e       \x1e          \x1f \x1e \x1e\x1e\x1e\x1e\x1e \x1e  \x1e\x1e\x1e\x1e\x1e\x1e\x1e\x1e\x1e      ", // ArrayRest
-    *b"                                        \xc6       \xfb            \xeb \xec\xed\xee\xef\xf0 \xf1  \xf2\xf3\xf4\xf5\xf6\xf7\xf8\xf9\xfa      ", // Bound
-    *b"            LLLLLLLLLL         LLNL     LL     L L L         L LLL L L  LLLLL LL       ", // NestMoreOrEnd
-];
+    [0, b"                                                           -                           "], // Symbol
+    [0, b"          .                                                                            "], // MaybeSuffix
+    [0, b"/         / //////////       //////////////////////////    / //////////////////////////"], // SuffixFirst
+    [0, b"/         / //////////       //////////////////////////    / //////////////////////////"], // SuffixMore
+    [0, b"            2222222222          2  1    2 2    202 2  2      2 222 2 2  22222 22       "], // Encoding
+    [1, b"                             \x1f \xfe    62         22 26           5    3             4    "], // Special
+    [0, b"                                                                    8             9    "], // CallOffset
+    [0, b"            ;;;;;;;;;;                                                    :            "], // Integer
+    [0, b"            $$$$$$$$$$          &       \" ,    < # *  =      % %%% % %  %%%%% %%       "], // CompleteName
+    [0, b"                                                                              !        "], // MaybeRestrict
+    [0, b"                                                  !                                    "], // MaybeVolatile
+    [0, b"                                       !                                               "], // MaybeConst
+    [0, b"                                    !      !  !                                        "], // MaybeRef
+    [0, b"            ??????????       ??????????????????????????    ? ?? ?    ?     ?   ?>      "], // NameAfterS
+    [0, b"            ))))))))))                  '        (           @ @@@ @ @  @@@@@ @@       "], // Unqualified
+    [0, b"            EEEEEEEEEE          \xfd       C      ABD \xfe                                   "], // Nest
+    [0, b"            GGGGGGGGGG       GGGGGGGGGGGGGGGGGGGGGGGGGG    G GG G    G     G   GF      "], // NestAfterS
+    [0, b"            IIIIIIIIII        \xfcII I  H  II     I I I         I III I I  IIIII II       "], // NestRest
+    [0, b"            IIIIIIIIII         IIJI     II     I I I         I III I I  IIIII II       "], // NestTail
+    [0, b"            $$$$$$$$$$         KL \xfa     \"\xfb     + # *         N MNN N N  NNNNN NN       "], // Component
+    [0, b"             OOOOO                   \xf9                                                 "], // ConstructorAfterC
+    [0, b"             !!!!!                                                                     "], // ConstructorDigit
+    [0, b"             !! !!                                                                     "], // InheritedDigit
+    [0, b"            !!! !!             P                                                       "], // ComponentAfterD
+    [0, b"            RRRRRRRRRR       RRRRRRRRRRRRRRRRRRRRRRRRRR    R QQ Q    Q     Q   Q       "], // Abbreviation
+    [0, b"            $$$$$$$$$$          &       \" ,      #              \xf8              T       "], // Entity
+    [0, b"            $$$$$$$$$$                  \" S      #              \xf7                      "], // TypeEntity
+    [0, b"                                                           U                           "], // MaybeDiscriminator
+    [0, b"            VVVVVVVVVV                                     W                           "], // DiscriminatorRest
+    [0, b"                                                                 \xf6      X       Y      "], // Anonymous
+    [0, b"            ^^^^^^^^^^       ^ ^_ ^    \\ ^^]^ ]^^^[^  ^      ^^^^^^^^^^ ^^^^  Z^^^^^^^^"], // Type
+    [0, b"            aaaaaaaaaa       a a` a      aa]a ]aaa a  a      aaaaaaaaaa aaaa   aaaaaaaa"], // Plain
+    [0, b"            ^^^^^^^^^^       ^ ^b ^    \\ ^^]^ ]^^^[^  ^      ^^^^^^^^^^ ^^^^  Z^^^^^^^^"], // Item
+    [0, b"            ^^^^^^^^^^       ^ ^b ^    \\ ^^ ^  ^^^[^  ^      ^^^^^^^^^^ ^^^^  Z^^^^^^^^"], // ItemButRef
+    [0, b"                              d   d    d        dd           d dddd dd d  ddc  dddd  d "], // ItemAfterD
+    [0, b"                              \xf4   h    \xf5        i\xf4           e eeee ee \xf5  eg   eief  \xf3 "], // AfterD
+    [0, b"            $$$$$$$$$$       q s  r      kS j  ml# *  n      oooooooooo oooo   oopooooo"], // Solid
+    [0, b"                                                     !                                 "], // MaybeCLinkage
+    [0, b"            tttttttttt                                                                 "], // BitWidth
+    [0, b"            vvvvvvvvvv       vvvvvvvvvvvvvvvvvvvvvvvvvv    v vv v    v     v   vu      "], // TypeAfterS
+    [0, b"            ))))))))))                  '        (                                     "], // SourceOrLocal
+    [0, b"            zzzzzzzzzz       z zzwz    z zzyz xzzzzz  z      zzzzzzzzzz zzzz  zzzzzzzzz"], // FunctionRest
+    [0, b"            ||||||||||       | ||{|    | |||| ||||||  |      |||||||||| ||||  |||||||||"], // AfterR
+    [0, b"            }}}}}}}}}}       } }}{}    } }}}} }}}}}}  }      }}}}}}}}}} }}}}  }}}}}}}}}"], // AfterO
+    [0, b"            ~~~~~~~~~~       ~ ~~ ~    ~ ~~~~\xf2~~~~~~  ~      ~~~~~~~~~~ ~~~~  ~~~~~~~~~"], // Items
+    [0, b"                              \xf1      \x7f                                                 "], // MaybeArguments
+    [0, b"                                     \x7f                                                 "], // Arguments
+    [0, b"            \x82\x82\x82\x82\x82\x82\x82\x82\x82\x82       \x82 \x82\x82 \x82   \x80\x82\x81\x82\x82\x82\x82\xf2\x82\x82\x82\x82\x82\x82\x82 \x82      \x82\x82\x82\x82\x82\x82\x82\x82\x82\x82 \x82\x82\x82\x82  \x82\x82\x82\x82\x82\x82\x82\x82\x82"], // ArgumentList
+    [0, b"            \x84\x84\x84\x84\x84\x84\x84\x84\x84\x84       \x84 \x84\x84 \x84    \x84\x83\x84\x84\x84\x84 \x84\x84\x84\x84\x84\x84\x84 \x84      \x84\x84\x84\x84\x84\x84\x84\x84\x84\x84 \x84\x84\x84\x84  \x84\x84\x84\x84\x84\x84\x84\x84\x84"], // PackList
+    [0, b"            \x88\x88\x88\x88\x88\x88\x88\x88\x88\x88          \x87      \x88 \x88\x88 \x88  \x88\x88\x88\x88\x88  \x88    \x85 \x88\x86\x88\xf0\xf0\xf0\xf0\x88\x88\x88 \x88\x88\x88\x88   \x88\x88  \x88\x88\x88 "], // Literal
+    [0, b"            !!                                                                         "], // Bit
+    [0, b"                                  \xef                                  \x8a    \x89    \x8a \x8a     "], // LiteralAfterD
+    [0, b"                                                                oooo                   "], // FloatType
+    [0, b"                                  h                                                    "], // SizedFloatType
+    [0, b"            \x8b\x8b\x8b\x8b\x8b\x8b\x8b\x8b\x8b\x8b                                       \x8b\x8b\x8b\x8b\x8b\x8b                    "], // HexText
+    [0, b"            \x8c\x8c\x8c\x8c\x8c\x8c\x8c\x8c\x8c\x8c                                       \x8c\x8c\x8c\x8c\x8c\x8c                    "], // HexDigits
+    [0, b"            \x8c\x8c\x8c\x8c\x8c\x8c\x8c\x8c\x8c\x8c                                       \x8c\x8c\x8c\x8c\x8c\x8c                    "], // HexMore
+    [0, b"            !                                                                          "], // MaybeZero
+    [0, b"            $$$$$$$$$$                 \xed kS j  ml#\xee*  n      o o    ooo oooo   oo  ooo "], // LiteralType
+    [0, b"            \x8d\x8d\x8d\x8d\x8d\x8d\x8d\x8d\x8d\x8d                   \x8d\x8d \x8d  \x8d\x8d\x8d \x8d  \x8d      \x8d \x8d    \x8d\x8d\x8d \x8d\x8d\x8d\x8d   \x8d\x8d  \x8d\x8d\x8d "], // LiteralPlain
+    [0, b"            $$$$$$$$$$                   kS j  ml# *  n      o o    ooo oooo   oo  ooo "], // LiteralSolid
+    [0, b"                                                             \x90 \x92\x8f\x96 \x9a \x99  \x97\x93\x8e\x95\x91 \x94\x98       "], // Operator
+    [0, b"                                                             !   ! !            !  !   "], // OperatorAfterN
+    [0, b"                                                  !          !   !      !         !    "], // OperatorAfterD
+    [0, b"                                          !    !             !  !         !        !   "], // OperatorAfterA
+    [0, b"                                        !                               !!  !  !!      "], // OperatorAfterP
+    [0, b"                                                                        !! !           "], // OperatorAfterC
+    [0, b"                                     !  !                            !  !!             "], // OperatorAfterM
+    [0, b"                                         !     !                         !     !       "], // OperatorAfterR
+    [0, b"                                              !                            !  !        "], // OperatorAfterO
+    [0, b"                                           !                               ! !         "], // OperatorAfterE
+    [0, b"                                               !                 !   \x9b         !!      "], // OperatorAfterL
+    [0, b"                                                                               !       "], // OperatorAfterS
+    [0, b"                                                                                    !  "], // OperatorAfterI
+    [0, b"                                                                 !              !      "], // OperatorAfterG
+    [0, b"            IIIIIIIIII         II I  \x9c  II     I I I         I III I I  IIIII II       "], // NestRestOrEnd
+    [0, b"                                     \x7f                                                 "], // ArgumentsAlone
+    [0, b"            IIIIIIIIII         II I  H  II     I I I         I III I I  IIIII II       "], // NestRestAlone
+    [0, b"            \x9d\x9d\x9d\x9d\x9d\x9d\x9d\x9d\x9d\x9d                                                                 "], // FirstModule
+    [0, b"            \x9e\x9e\x9e\x9e\x9e\x9e\x9e\x9e\x9e\x9e       \x9e\x9e\x9e\x9e\x9e\x9e\x9e\x9e\x9e\x9e\x9e\x9e\x9e\x9e\x9e\x9e\x9e\x9e\x9e\x9e\x9e\x9e\x9e\x9e\x9e\x9e    \x9e                           "], // NamedModule
+    [0, b"                                                   \x9f                                   "], // MoreModule
+    [0, b"                                            !                                          "], // MaybePartition
+    [0, b"            $$$$$$$$$$                  \"        #           % %%% % %  %%%%% %%       "], // NameAfterModule
+    [0, b"                                                   *                                   "], // NameInModule
+    [0, b"            IIIIIIIIII         II I     II     I I I         I III I I  IIIII II       "], // NestOn
+    [0, b"                                         !                                             "], // HolderMark
+    [0, b"            $$$$$$$$$$         KL       \"      + # *         N MNN N N  NNNNN NN       "], // HeldComponent
+    [0, b"                               P                                                       "], // BindingAfterD
+    [0, b"            \xa1\xa1\xa1\xa1\xa1\xa1\xa1\xa1\xa1\xa1                  \xa1                                              "], // BoundNames
+    [0, b"            \xa1\xa1\xa1\xa1\xa1\xa1\xa1\xa1\xa1\xa1                  \xa1                                              "], // MoreNames
+    [0, b"            \xa0\xa0\xa0\xa0\xa0\xa0\xa0\xa0\xa0\xa0                  p                                              "], // BoundName
+    [0, b"                                                           !  !                     !  "], // FloatEnd
+    [0, b"                                                                        \xa2\xa2 \xa2      \xec    "], // ComponentAfterC
+    [0, b"                                                             \x90  \x8f\x96 \x9a \x99  \x97\x93\x8e\x95\x91 \x94\x98       "], // OtherOperator
+    [0, b"                                     \xa3                                                 "], // HeldArguments
+    [0, b"            \xa5\xa5\xa5\xa5\xa5\xa5\xa5\xa5\xa5\xa5                    \xa4    \xa5      n                                "], // BaseClass
+    [0, b"            \xa7\xa7\xa7\xa7\xa7\xa7\xa7\xa7\xa7\xa7                         \xa6                                       "], // UnnestedName
+    [0, b"                                     \xa8                                                 "], // BaseArguments
+    [0, b"            \x82\x82\x82\x82\x82\x82\x82\x82\x82\x82       \x82 \x82\x82 \x82  \x80\x80\x82\x81\x82\x82\x82\x82\xf2\x82\x82\x82\x82\x82\x82\x82 \x82      \x82\x82\x82\x82\x82\x82\x82\x82\x82\x82 \x82\x82\x82\x82  \x82\x82\x82\x82\x82\x82\x82\x82\x82"], // ArgumentsFirst
+    [0, b"            $$$$$$$$$$          &       \" ,      #                                     "], // PlainEntity
+    [0, b"            $$$$$$$$$$                  \" S      #                                     "], // PlainTypeEntity
+    [0, b"                                   !                                                   "], // SpecialMark
+    [0, b"                                     \xea        \xeb \xe9 7                                    "], // SpecialAfterG
+    [0, b"            $$$$$$$$$$          &       \" ,    < #    \xa9                                "], // TemporaryName
+    [0, b"                                                                          !     !      "], // CloneLetter
+    [0, b"                                                                                \xaa      "], // TypeInStd
+    [0, b"                              \xe8                                                        "], // MaybeTags
+    [0, b"            \xad\xad\xad\xad\xad\xad\xad\xad\xad\xad       \xad \xadb \xad    \\ \xad\xad]\xad ]\xad\xac\xad[\xad\xab \xad      \xad\xad\xad\xad\xad\xad\xad\xad\xad\xad \xad\xad\xad\xad  Z\xad\xad\xad\xad\xad\xad\xad\xad"], // Argument
+    [0, b"            \xae\xae\xae\xae\xae\xae\xae\xae\xae\xae                  \xaf                  \xae           \xe7  \xe7 \xe7   \xe7    \xe7 "], // ArgumentAfterT
+    [0, b"            \xae\xae\xae\xae\xae\xae\xae\xae\xae\xae                                     \xae                           "], // LeveledParameter
+    [0, b"            \xad\xad\xad\xad\xad\xad\xad\xad\xad\xad       \xad \xadb \xad   \xb1\\\xb0\xad\xad]\xad ]\xad\xac\xad[\xad\xab \xad      \xad\xad\xad\xad\xad\xad\xad\xad\xad\xad \xad\xad\xad\xad  Z\xad\xad\xad\xad\xad\xad\xad\xad"], // OneArgument
+    [0, b"                                                                       \xb3  \xb2 \xb5   \xb4    ! "], // DeclarationAfterT
+    [0, b"                                                \xb6                                      "], // Declarations
+    [0, b"            \xb7\xb7\xb7\xb7\xb7\xb7\xb7\xb7\xb7\xb7                    S    \xb7                                       "], // Concept
+    [0, b"            $$$$$$$$$$       q s  r      kS j  m # *  n      oooooooooo oooo   oopooooo"], // SolidButT
+    [0, b"            \xba\xba\xba\xba\xba\xba\xba\xba\xba\xba                  \xb0       \xe4            \xd4 \xd5\xd6\xd7\xd8\xd9 \xda  \xdb\xdc\xdd\xde\xdf\xe0\xe1\xe2\xe3      "], // Expression
+    [0, b"            \xe5\xe5\xe5\xe5\xe5\xe5\xe5\xe5\xe5\xe5                  \x00                  \xe5                           "], // ExpressionParameter
+    [0, b"            \xe5\xe5\xe5\xe5\xe5\xe5\xe5\xe5\xe5\xe5                                     \xe5                           "], // UnleveledExpression
+    [0, b"            \xba\xba\xba\xba\xba\xba\xba\xba\xba\xba                  \x01       \xe4            \xd4 \xd5\xd6\xd7\xd8\xd9 \xda  \xdb\xdc\xdd\xde\xdf\xe0\xe1\xe2\xe3      "], // AddressedExpression
+    [0, b"            \x88\x88\x88\x88\x88\x88\x88\x88\x88\x88          \x87      \x88 \x88\x88 \x88  \x88\x88\x88\x88\x88  \x88    \x85 \x88\x86\x88\xf0\xf0\xf0\xf0\x88\x88\x88 \x88\x88\x88\x88   \x88\x88  \x88\x88\x88 "], // AddressedLiteral
+    [0, b"                                          \xbd    \xbd             \xbd  \xbc         \xbd     \xbf  \xbe  \xbe"], // ExpressionAfterA
+    [0, b"                                                               \xb8        \xc0\xbd \xbe\xc0     \xc1    "], // ExpressionAfterC
+    [0, b"                                                  \xbd          \xbe \xb8 \xbe   \xc2  \xbe \xc4    \xbd\xbd \xbd \xc3  "], // ExpressionAfterD
+    [0, b"                                           \xbd                               \xbd \xbd         "], // ExpressionAfterE
+    [0, b"                                        \xc5                               \xc6   \xbb \xc7        "], // ExpressionAfterF
+    [0, b"                                                                 \xbd             \xbe\xbd      "], // ExpressionAfterG
+    [0, b"                                                                        \xc8           \xbd  "], // ExpressionAfterI
+    [0, b"                                               \xbd                 \xbd             \xbd\xbd      "], // ExpressionAfterL
+    [0, b"                                     \xbd  \xbd                            \xbd  \xbd\xc9             "], // ExpressionAfterM
+    [0, b"                                                             \xca   \xbd \xbe            \xbe  \xca\xbe  "], // ExpressionAfterN
+    [0, b"                                              \xbd                           \xb9\xbd  \xbd        "], // ExpressionAfterO
+    [0, b"                                        \xbd                               \xbd\xbd  \xc9  \xbe\xbd      "], // ExpressionAfterP
+    [0, b"                                                                                 \xcb     "], // ExpressionAfterQ
+    [0, b"                                         \xbd   \xcd \xbd               \xb8         \xbd   \xcc \xbd       "], // ExpressionAfterR
+    [0, b"                                                      \xcf        \xb8            \xce \xd0\xbd\xbf    \xd1\xbe"], // ExpressionAfterS
+    [0, b"                                                                 \xbe   \xbf  \xd2     \xd3    \xbe   "], // ExpressionAfterT
+    [0, b"            \x02\x02\x02\x02\x02\x02\x02\x02\x02\x02                  \x02       \x02            \x02 \x02\x02\x02\x02\x02 \x02  \x02\x02\x02\x02\x02\x02\x02\x02\x02      "], // Expressions
+    [0, b"                                                           !                           "], // MaybeBefore
+    [0, b"                                                             \x90 \x92\x8f\x96 \x9a \x99  \x03\x93\x8e\x95\x91 \x94\x98       "], // FoldOperator
+    [0, b"                                               !                 !             !!      "], // FoldOperatorAfterL
+    [0, b"            \x04\x04\x04\x04\x04\x04\x04\x04\x04\x04                  \x04       \x04            \x04 \x04\x04\x04\x04\x04 \x04  \x04\x04\x04\x04\x04\x04\x04\x04\x04      "], // FoldOperand
+    [0, b"            \x05\x05\x05\x05\x05\x05\x05\x05\x05\x05                  \x05       \x05            \x05 \x05\x05\x05\x05\x05 \x05  \x05\x05\x05\x05\x05\x05\x05\x05\x05      "], // FoldPack
+    [0, b"            \x05\x05\x05\x05\x05\x05\x05\x05\x05\x05                \xb1 \x05       \x05            \x05 \x05\x05\x05\x05\x05 \x05  \x05\x05\x05\x05\x05\x05\x05\x05\x05      "], // ValuePack
+    [0, b"            \x06\x06\x06\x06\x06\x06\x06\x06\x06\x06       \x06 \x06\x06 \x06   \xb1\x06 \x06\x06\x06\x06 \x06\x06\x06\x06\x06\x06  \x06      \x06\x06\x06\x06\x06\x06\x06\x06\x06\x06 \x06\x06\x06\x06  \x06\x06\x06\x06\x06\x06\x06\x06\x06"], // TypePack
+    [0, b"            \x08\x08\x08\x08\x08\x08\x08\x08\x08\x08                  \x08       \x08            \x08 \x08\x07\x08\x08\x08 \x08  \x08\x08\x08\x08\x08\x08\x08\x08\x08      "], // DesignatedValue
+    [0, b"                                                                     \xc2              \xc3  "], // DesignatorAfterD
+    [0, b"            \xba\xba\xba\xba\xba\xba\xba\xba\xba\xba                  \xb0       \xe4            \xd4 \xd5 \xd7\xd8\xd9 \xda  \xdb\xdc\xdd\xde\xdf\xe0\xe1\xe2\xe3      "], // PlainValue
+    [0, b"            \xa0\xa0\xa0\xa0\xa0\xa0\xa0\xa0\xa0\xa0                                                                 "], // FieldName
+    [0, b"            \x09\x09\x09\x09\x09\x09\x09\x09\x09\x09                  \x09       \x09          ! \x09 \x09\x09\x09\x09\x09 \x09  \x09\x09\x09\x09\x09\x09\x09\x09\x09      "], // Placement
+    [0, b"            \x02\x02\x02\x02\x02\x02\x02\x02\x02\x02                  \x02       \x02            \x02 \x02\x02\x02\x02\x02 \x02  \x02\x02\x02\x02\x02\x02\x02\x02\x02      "], // SomeExpressions
+    [0, b"                                 {                                   \x0b      \x0a          "], // Initializer
+    [0, b"                                                                     \xc8                 "], // InitializerAfterP
+    [0, b"                                                                        \xc8              "], // InitializerAfterI
+    [0, b"                                                                            \xbb          "], // OuterRest
+    [0, b"            \x0d\x0d\x0d\x0d\x0d\x0d\x0d\x0d\x0d\x0d                          \x0c          \x0d                           "], // ParameterNumber
+    [0, b"            \x12\x12\x12\x12\x12\x12\x12\x12\x12\x12          \x0e \x12    \x0f  \x12\x11\x10 \x11\x12\x12\x12           \x12\x12\x12\x12\x12\x12\x12\x12\x12\x12 \x12\x12\x12\x12   \x12\x12 \x12\x12\x12\x12\x12"], // ConvertedType
+    [0, b"            $$$$$$$$$$            r       S    m\x13#           oooooooooo oooo   oo ooooo"], // ConvertedSolid
+    [0, b"            \xae\xae\xae\xae\xae\xae\xae\xae\xae\xae                  \xaf                  \xae                           "], // ParameterAfterT
+    [0, b"                                                i                               i      "], // DecltypeAfterD
+    [0, b"                                                i            e e                i      "], // ConvertedAfterD
+    [0, b"            \xba\xba\xba\xba\xba\xba\xba\xba\xba\xba                  \xb0       \xe4          \xc8 \xd4 \xd5\xd6\xd7\xd8\xd9 \xda  \xdb\xdc\xdd\xde\xdf\xe0\xe1\xe2\xe3      "], // ConvertRest
+    [0, b"            \x15\x15\x15\x15\x15\x15\x15\x15\x15\x15          \x14         \x14    \x14\x14                                      "], // Unresolved
+    [0, b"                                \x0e         S    m\x13                                      "], // UnresolvedType
+    [0, b"            \xba\xba\xba\xba\xba\xba\xba\xba\xba\xba          \x16         \x16    \x16\x16                                      "], // DestructorName
+    [0, b"                                             \x19  \x18   \x17                                  "], // Requirements
+    [0, b"                                          !                                            "], // MaybeNoexcept
+    [0, b"                                             \x19\x1a \x18   \x17                                  "], // AfterNoexcept
+    [0, b"            \x1b\x1b\x1b\x1b\x1b\x1b\x1b\x1b\x1b\x1b          \x1b \x1b    \x1b  \x1b\x1b\x1b \x1b\x1b\x1b\x1b         \xcc \x1b\x1b\x1b\x1b\x1b\x1b\x1b\x1b\x1b\x1b \x1b\x1b\x1b\x1b   \x1b\x1b \x1b\x1b\x1b\x1b\x1b"], // RequiredTypes
+    [0, b"            \xba\xba\xba\xba\xba\xba\xba\xba\xba\xba                                                                 "], // Level
+    [0, b"            \x15\x15\x15\x15\x15\x15\x15\x15\x15\x15           \x1c                                                     "], // MoreLevels
+    [0, b"            \xba\xba\xba\xba\xba\xba\xba\xba\xba\xba                                                     \x1d           "], // UnresolvedName
+    [0, b"                                                                          \xb9            "], // OperatorName
+    [0, b"                             \x1e                                                         "], // AnyArray
+    [0, b"            \x1f\x1f\x1f\x1f\x1f\x1f\x1f\x1f\x1f\x1f                  \xe6       \xe6          \x1f \xe6 \xe6\xe6\xe6\xe6\xe6 \xe6  \xe6\xe6\xe6\xe6\xe6\xe6\xe6\xe6\xe6      "], // ArrayRest
+    [0, b"                                        \xb0       \xe4            \xd4 \xd5\xd6\xd7\xd8\xd9 \xda  \xdb\xdc\xdd\xde\xdf\xe0\xe1\xe2\xe3      "], // Bound
+    [0, b"            IIIIIIIIII         IIJI     II     I I I         I III I I  IIIII II       "], // NestMoreOrEnd
+};
 
 /// The number of the rule that a kind takes at a byte, if it takes one.
 #[inline]
 fn number(kind: u16, byte: u8) -> Option<usize>
     requires { kind < wide.kinds }
-    ensures few { IfSome result (λ number. number < 255) }
+    ensures few { IfSome result (λ number. number < 256) }
     ensures rule { (head : Head) → MatchOption result (wide.rule kind byte ≡ None) (λ number. wide.rule kind byte ≡ Some (listed_rule head number)) }
 {
-    match letter_in(&WIDE_LETTERS[kind as usize], byte) {
-        Some(letter) => Some(letter.wrapping_sub(FIRST_LETTER) as usize),
+    match letter_in(&WIDE_ROWS[kind as usize].letters, byte) {
+        Some(letter) => Some(WIDE_ROWS[kind as usize].base as usize + letter as usize),
         None => None,
     }
 }

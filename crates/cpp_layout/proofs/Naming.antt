@@ -19,7 +19,7 @@ use Rattle.cpp_term.proofs.Reargued.{reargued_none}
 use Rattle.std.proofs.lemmas.Bool.{true≢false}
 use Rattle.cpp_tree.specs.Nodes.{tree_at, tree_of, piece_of, is_again}
 use Rattle.cpp_layout.specs.Texts.{fixed_text}
-use Rattle.cpp_layout.specs.declared.texts.TheConstants.{ANONYMOUS, BLANK_LESS, BRACE, COLONS, CONVERSION, ENUM, GREATER, LAMBDA, LEFT_BRACE, LESS, LITERAL, RIGHT_BRACES, RIGHT_NUMBER, UNNAMED}
+use Rattle.cpp_layout.specs.declared.texts.TheConstants.{ANONYMOUS, BLANK_LESS, BRACE, COLONS, CONVERSION, ENUM, GREATER, LAMBDA, LEFT_BRACE, LEFT_BRACKET, LESS, LITERAL, RIGHT_BRACES, RIGHT_BRACKET, RIGHT_NUMBER, UNNAMED}
 use Rattle.cpp_layout.specs.Layout.{IsNoSource}
 
 pub begins : (xs ys : List ℕ) → begins_with xs ys ≡ starts_with nat_eq ys xs
@@ -107,6 +107,10 @@ conversion-whole c t = refl
 pub enumeration-whole : (c : items.Context) (t : Term) (name : List ℕ) → text (fixed_text ENUM) ∷ as_item heads.left c t ∷ as_item heads.right c t ∷ text (fixed_text LEFT_BRACE) ∷ text name ∷ text (fixed_text RIGHT_BRACES) ∷ [] ≡ piece_parts c (term.enumeration t name)
 unfolding piece_parts
 enumeration-whole c t name = refl
+
+pub bindings-whole : (c : items.Context) (names : Term) → text (fixed_text LEFT_BRACKET) ∷ (list_part heads.first c names ++ (text (fixed_text RIGHT_BRACKET) ∷ [])) ≡ piece_parts c (term.bindings names)
+unfolding piece_parts
+bindings-whole c names = refl
 
 pub literal-whole : (c : items.Context) (name : List ℕ) → text (fixed_text LITERAL) ∷ text name ∷ [] ≡ piece_parts c (term.literal_operator name)
 unfolding piece_parts

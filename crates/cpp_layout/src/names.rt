@@ -153,6 +153,7 @@ impl Symbol {
             Piece::StringLiteral => self.push_text(parts, texts::STRING),
             Piece::Conversion(ty) => self.fill_conversion(parts, ty, ctx),
             Piece::Enumeration { ty, name } => self.fill_enumeration(parts, ty, name, ctx),
+            Piece::Bindings(names) => self.fill_bindings(parts, names, ctx),
             _ => {}
         }
     }

@@ -254,6 +254,25 @@ impl Symbol {
         self.push_text(parts, texts::ENUM);
     }
 
+    /// The parts of the name of a structured binding.
+    // <unqualified-name> ::= DC <source-name>+ E
+    pub(crate) fn fill_bindings<S: PartList<Context>>(
+        &self,
+        parts: &mut S,
+        names: u32,
+        ctx: Context,
+    )
+        requires context { IsThereBelow (length self.now.table.nodes) ctx.argument }
+        requires names { names < length self.now.table.nodes }
+        requires room { 8 ≤ S.room parts.old }
+        ensures shows { Shows self.now ctx.detail (S.held parts.old) (S.held parts.new) (piece_parts (context_of ctx) (term.bindings (tree_shown self.now ctx names))) }
+        ensures few { S.room parts.old ≤ S.room parts.new + 8 }
+    {
+        self.push_text(parts, texts::RIGHT_BRACKET);
+        self.push_list(parts, names, form::FIRST, ctx);
+        self.push_text(parts, texts::LEFT_BRACKET);
+    }
+
     /// The parts of a constructor's or a destructor's name.
     // <ctor-dtor-name> ::= C1 | C2 | C3 | D0 | D1 | D2
     pub(crate) fn fill_structor<S: PartList<Context>>(

@@ -128,12 +128,14 @@ impl Linked {
             Production::OperatorNameWithC => self.applied(symbol, parts, false),
             // <ctor-dtor-name> ::= C1 | C2 | C3, after the C
             Production::Constructor => self.applied(symbol, parts, false),
-            // <ctor-dtor-name> ::= D0 | D1 | D2
+            // <ctor-dtor-name> ::= D0 | D1 | D2, or what else begins with D
             Production::Destructor => self.applied(symbol, parts, false),
             // <unscoped-name> ::= St <unqualified-name>
             Production::StdName => self.applied(symbol, parts, false),
             // <unscoped-template-name> ::= <substitution>, with <template-args>
             Production::AbbreviatedName => self.applied(symbol, parts, false),
+            // <unqualified-name> ::= DC <source-name>+ E, a structured binding, perhaps with <template-args>
+            Production::BindingName => self.applied(symbol, parts, false),
             _ => unreachable!(),
         }
     }
@@ -217,6 +219,8 @@ impl Linked {
                 ty: self.tree(symbol, parts, 0),
                 name: self.text(symbol, parts, 1),
             }),
+            // <unqualified-name> ::= DC <source-name>+ E, a structured binding, after the D
+            Production::Bindings => piece(Piece::Bindings(self.tree(symbol, parts, 0))),
             // <closure-type-name> ::= Ul <lambda-sig> E [ <nonnegative number> ] _
             Production::Lambda => self.lambda(symbol, parts),
             // <unnamed-type-name> ::= Ut [ <nonnegative number> ] _

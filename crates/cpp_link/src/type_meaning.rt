@@ -397,8 +397,6 @@ impl Linked {
         match production {
             // <template-arg> ::= <template-param-decl> <template-arg>, after the T; what is declared of it isn't in the tree
             Production::DeclaredArgument => tree(self.tree(symbol, parts, 1), true),
-            // <template-param-decl> ::= Ty
-            Production::AnyType => Outcome::Given(Part::Letter(byte)),
             // <template-param-decl> ::= Tn <type>
             Production::ValueOf => Outcome::Given(Part::Letter(byte)),
             // <template-param-decl> ::= Tk <concept name>

@@ -62,6 +62,7 @@ pub fn piece_of(part: Part) -> Piece
 {
     match part {
         Part::Piece(piece) => piece,
+        Part::Letter(digit) => Piece::Destructor(digit),
         _ => Piece::Absent,
     }
 }

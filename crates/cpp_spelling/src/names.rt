@@ -142,6 +142,8 @@ pub fn then_piece(symbol: &Symbol, piece: Piece, encoding: u64, tasks: &mut Vec<
         Piece::Destructor(digit) => then_text(symbol, Text::Pair(b'D', digit), tasks),
         // <ctor-dtor-name> ::= CI1 <base class type>: read by the ABI's grammar no symbol has one.
         Piece::Inheriting { .. } => {}
+        // <unqualified-name> ::= DC <source-name>+ E: nor a structured binding.
+        Piece::Bindings(_) => {}
         Piece::Lambda { parameters, number } => then_lambda(
             symbol,
             parameters,

@@ -8,7 +8,7 @@ use Rattle.cpp_grammar.specs.Texts.{same_bytes, look_up, builtin_texts, operator
 use Rattle.cpp_grammar.specs.declared.operand.Operand.{Operand}
 use Rattle.cpp_grammar.specs.Operations.{UNARY, PRIMARY, Operation}
 use Rattle.cpp_term.specs.Term.{Term, symbol, function, object, special, thunk, of_name, construction, clone, alone, in_std, within, instance, local, holder, tagged, of_default, abbreviation, parameter, source, operator, literal_operator, constructor, destructor, inheriting, lambda, generic_lambda, unnamed, string_literal, conversion, enumeration, builtin, sized_float, constrained, vendor, pointer, lvalue, rvalue, array, bounded, member_pointer, function_type, qualified, vector, complex, decltype, expansion, integer, boolean, null_pointer, encoding_literal, address_of, operation, function_parameter, pack, nil, list, absent}
-use Rattle.cpp_grammar.specs.Term.{Qualifiers, RefQualifier, explicit_object, Signed}
+use Rattle.cpp_grammar.specs.Term.{Qualifiers, RefQualifier, explicit_object, Signed, bindings}
 use Rattle.cpp_term.specs.Scope.{without_tags}
 use Rattle.cpp_term.specs.Items.{Context, Item, closed, argument, head, packs_of, is_empty}
 use Rattle.cpp_grammar.specs.Items.{Form, root, full, bare, left, right, low, base, piece, first, more, expand, is_reference, is_funarr}
@@ -49,6 +49,7 @@ piece_parts context (unnamed number) = says "{unnamed type#" ∷ text (decimal n
 piece_parts context string_literal = says "string literal" ∷ []
 piece_parts context (conversion t) = says "operator " ∷ as_item left context t ∷ as_item right context t ∷ []
 piece_parts context (enumeration t name) = says "{enum:" ∷ as_item left context t ∷ as_item right context t ∷ says "{" ∷ text name ∷ says "}}" ∷ []
+piece_parts context (bindings names) = says "[" ∷ list_part first context names ++ (says "]" ∷ [])
 piece_parts context _ = []
 
 -- a prefix is a name, or the enclosing encoding, which names no parameters of what is in it

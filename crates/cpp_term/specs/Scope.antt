@@ -2,6 +2,7 @@
 -- arguments that its own name ends in. It holds only for the encoding's types.
 use Rattle.std.specs.Prelude.{ℕ, zero, suc, Bool, true, false, not, ◌||◌, Option, Some, None}
 use Rattle.cpp_term.specs.Term.{Term, alone, in_std, within, instance, local, holder, tagged, of_default, parameter, constructor, destructor, inheriting, lambda, conversion, pointer, lvalue, rvalue, array, constrained, bounded, member_pointer, function_type, qualified, vector, complex, expansion, integer, pack, list, absent, decltype, operation, enumeration}
+use Rattle.cpp_grammar.specs.Term.{bindings}
 use Rattle.cpp_grammar.specs.Scope.{Free, none_free, one_free, both_free, first_of}
 
 -- the length of a list
@@ -63,6 +64,7 @@ is_open (inheriting digit class) = is_open class
 is_open (lambda parameters number) = is_open parameters
 is_open (conversion type) = is_open type
 is_open (enumeration type bytes) = is_open type
+is_open (bindings names) = is_open names
 is_open (constrained letter concept) = is_open concept
 is_open (pointer type) = is_open type
 is_open (lvalue type) = is_open type
@@ -97,6 +99,7 @@ free_in (inheriting digit class) = free_in class
 free_in (lambda parameters number) = free_in parameters
 free_in (conversion type) = free_in type
 free_in (enumeration type bytes) = free_in type
+free_in (bindings names) = free_in names
 free_in (constrained letter concept) = free_in concept
 free_in (pointer type) = free_in type
 free_in (lvalue type) = free_in type
@@ -151,6 +154,7 @@ pack_length (inheriting digit class) = pack_length class
 pack_length (lambda parameters number) = pack_length parameters
 pack_length (conversion type) = pack_length type
 pack_length (enumeration type bytes) = pack_length type
+pack_length (bindings names) = pack_length names
 pack_length (constrained letter concept) = pack_length concept
 pack_length (pointer type) = pack_length type
 pack_length (lvalue type) = pack_length type

@@ -141,4 +141,7 @@ rows_2 =
     prints "_ZGIW1aWP1b" "initializer for module a:b" 33 ∷
     prints "_ZN1nW1M1fENS_S0_1AE" "n::f@M(n::A@M)" 28 ∷
     prints "_ZUei1Ev" "{enum:int{E}}()" 20 ∷
+    prints "_ZDC1a1bE" "[a, b]" 15 ∷
+    prints "_ZDCL1aL1bE" "[a, b]" 15 ∷
+    prints "_ZN1nDC1a1bEE" "n::[a, b]" 20 ∷
     []

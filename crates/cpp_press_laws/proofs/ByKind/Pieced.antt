@@ -124,6 +124,6 @@ destructor-comes kind around at old v new o =
     by-parts (λ w s. PieceRead names_member around w old s) Production.Destructor tt tt o (λ w s one b t more.
     piece-as names_member around (destructor (letter_of w)) b old s t (
       refl,
-      (let mark = one Kind.DestructorDigit refl in
+      (let mark = one Kind.ComponentAfterD refl in
           subst (λ q. PieceFits around (destructor (letter_of w)) old q) (sym mark.0) (destructor-fits around (letter_of w) old mark.2 mark.3)),
     ) (more Kind.MaybeArguments refl))

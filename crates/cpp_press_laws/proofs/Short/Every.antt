@@ -80,7 +80,7 @@ arms Kind.NestTail is = (nest-end, λ around at old v new b ready small. nest-ne
 arms Kind.Component is = (further-gains Production.AnyConstructor refl, (destructor-name, (internal-name, (local-type-name, (source-name, (further-gains Production.ComponentWithC refl, other-operator-name))))))
 arms Kind.ConstructorAfterC is = constructor-name
 arms Kind.ConstructorDigit is = free-gains mark Production.Mark refl
-arms Kind.DestructorDigit is = free-gains mark Production.Mark refl
+arms Kind.ComponentAfterD is = free-gains mark Production.Mark refl
 arms Kind.Abbreviation is = (abbreviation-gains, substitution-gains)
 arms Kind.Entity is = (string-literal, (granting 4 (name-gains Production.NestedName refl), (granting 4 (as-name internal-name), (granting 4 (as-name local-type-name), granting 4 (as-name source-name)))))
 arms Kind.TypeEntity is = (name-gains Production.NestedType refl, (as-name internal-name, (as-name local-type-name, as-name source-name)))
@@ -182,7 +182,7 @@ gains-empty Kind.MoreModule around old is all = tt
 gains-empty Kind.MaybePartition around old is all = tt
 gains-empty Kind.MaybeBefore around old is all = tt
 gains-empty Kind.Requirements around old is all = tt
-gains-empty Kind.AfterExpression around old is all = tt
+gains-empty Kind.MaybeNoexcept around old is all = tt
 gains-empty Kind.AfterNoexcept around old is all = tt
 gains-empty _ around old is all = absurd (false≢true is)
 
