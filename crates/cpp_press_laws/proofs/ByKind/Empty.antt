@@ -41,6 +41,7 @@ nothing-read Kind.HeldArguments may around state = λ outer. tt
 nothing-read Kind.Expressions may around state = λ outer. tt
 nothing-read Kind.HexMore may around state = λ outer. tt
 nothing-read Kind.MoreModule may around state = λ outer. tt
+nothing-read Kind.MoreNames may around state = λ outer. tt
 nothing-read Kind.MaybePartition may around state = λ outer. tt
 nothing-read Kind.MaybeBefore may around state = λ outer. tt
 nothing-read Kind.Requirements may around state = λ outer. tt
