@@ -1,7 +1,7 @@
--- The reading of the wide grammar (ABI 5.1.8, 5.1.10). It differs from that of the ABI's grammar in three points: the
+-- The reading of the wide grammar (ABI 5.1.8, 5.1.10). It differs from that of the ABI's grammar in four points: the
 -- parameters of a lambda's signature are the lambda's own; a substitution may name a tree that was made where its parameters
--- meant others than those meant where it is named; and there are names with an M, inherited constructors and concepts with
--- arguments, which compilers count differently.
+-- meant others than those meant where it is named; there are names with an M, inherited constructors and concepts with
+-- arguments, which compilers count differently; and before a component of a nested name a substitution names a module.
 use Rattle.std.specs.Prelude.{ℕ, zero, suc, ◌+◌, ◌-◌, ◌^◌, List, [], ◌∷◌, ◌++◌, Bool, true, false, not, ◌||◌, ◌&&◌, nat_eq, nat_lt, cond, slice_get, Option, Some, None, Result, Ok, Err}
 use Rattle.sym_core.specs.declared.refusal.Refusal.{Refusal}
 use Rattle.sym_core.specs.declared.refusal.Refusal.TheVariants.{BadReference}
@@ -181,13 +181,13 @@ with_lists lists state = record state { counting = record state.counting { lists
 
 -- ## Modules
 
--- A module's name is a candidate, which is named before a component of a nested name alone.
+-- A module's name is a candidate, which is named before a component of a nested name alone. It has no free parameters.
 unfoldable pub named_by_both : List Candidate → (number : ℕ) → Option Candidate
 named_by_both cs number = elim (nat_eq (place_in false cs number) (place_in true cs number)) [ true ↦ named_in false cs number | false ↦ None ]
 
 unfoldable pub module_of : Option Candidate → Option Term
 module_of None = None
-module_of (Some c) = elim (is_module c.tree) [ true ↦ Some c.tree | false ↦ None ]
+module_of (Some c) = elim (is_module c.tree && not (is_open c.tree)) [ true ↦ Some c.tree | false ↦ None ]
 
 unfoldable pub module_named : (number : ℕ) → State → Option Term
 module_named number state = module_of (named_by_both state.candidates number)

@@ -125,6 +125,7 @@ inside_values Production.SpecialType vs plain all special = special refl 0
 inside_values Production.ParameterObject vs plain all special = special refl 0
 inside_values Production.SpecialName vs plain all special = special refl 0
 inside_values Production.Temporary vs plain all special = special refl 0
+inside_values Production.ModuleInitializer vs plain all special = special refl 1
 inside_values Production.ConstructionVtable vs plain all special = (special refl 0, special refl 3)
 inside_values _ vs plain all special = first_of (cc, search tt)
 
@@ -221,7 +222,7 @@ module _ (way : Way) (keeps : KeepsClosed way) where
       let b = behind_bind (way.between (production_at rule.rule.number) around rule.place vs state)
       (λ next. unfold_tree (reading_by way) next.context at t next.state >>= λ part. unfold_forest (reading_by way) rule (next.values ++ part.value) (at + length (spell t)) f part.state) r e in
       let n = b.value in
-      let g = keeps.goes (production_at rule.rule.number) around rule.place vs state n at stays pre good b.is in
+      let g = keeps.goes (production_at rule.rule.number) around rule.place vs state n at stays pre old good b.is in
       let c = behind_bind (unfold_tree (reading_by way) n.context at t n.state) (λ part. unfold_forest (reading_by way) rule (n.values ++ part.value) (at + length (spell t)) f part.state) r b.next in
       let this = c.value in
       let old1 = old_grows way.own around at at state n.state (omega arith) old g.grows in

@@ -322,6 +322,7 @@ Inside Production.SpecialType vs = is_open (tree_of (part vs 0)) ≡ false
 Inside Production.ParameterObject vs = is_open (tree_of (part vs 0)) ≡ false
 Inside Production.SpecialName vs = is_open (tree_of (part vs 0)) ≡ false
 Inside Production.Temporary vs = is_open (tree_of (part vs 0)) ≡ false
+Inside Production.ModuleInitializer vs = is_open (tree_of (part vs 1)) ≡ false
 Inside Production.ConstructionVtable vs = (is_open (tree_of (part vs 0)) ≡ false) × (is_open (tree_of (part vs 3)) ≡ false)
 Inside Production.Clone vs = is_open (tree_of (part vs 1)) ≡ false
 Inside Production.NonVirtualThunk vs = is_open (tree_of (part vs 2)) ≡ false

@@ -10,13 +10,14 @@ use Rattle.cpp_link.specs.Parts.{trees_in, values_in, is_lambda, around_of}
 use Rattle.cpp_link.specs.Reads.{goes_on}
 use Rattle.cpp_link.specs.Stepping.{IsStepOf}
 use Rattle.cpp_link.proofs.Held.{held_second, base_first, held_read, held_refused, base_read, held_makes, base_makes, held_step}
+use Rattle.cpp_link.proofs.Modules.{module_second, module_read, module_refused, module_makes, module_step}
 use Rattle.cpp_link.proofs.Places.{values_length}
 use Rattle.cpp_link.proofs.Rescoped.{apart_generic, going_unmarked, generic_is}
 use Rattle.cpp_link.proofs.linked.Linked.step_apart.Goals as goal
 
 pub returns-then-is_instance-clause-refused : goal.returns-then-is_instance-clause-refused
 unfolding around_of
-returns-then-is_instance-clause-refused c state =
+returns-then-is_instance-clause-refused c state counted =
     let s = c.args.symbol.now in
     let y = c.args.self.now.nodes in
     let one = held_second c.args.production (is_lambda c.args.kept.scope) (length c.args.parts.now) c.in-Holder.is c.requires.apart in
@@ -25,7 +26,7 @@ returns-then-is_instance-clause-refused c state =
     (values_length s (trees_in s y) c.args.parts.now ∙ one) (ap is_instance (sym c.prefix_node-name.ensures.is) ∙ sym c.is_instance.ensures ∙ c.if-is_instance.true)
 
 pub returns-else-is_instance-clause-is : goal.returns-else-is_instance-clause-is
-returns-else-is_instance-clause-is c state =
+returns-else-is_instance-clause-is c state counted =
     let s = c.args.symbol.now in
     let y = c.args.self.now.nodes in
     let one = held_second c.args.production (is_lambda c.args.kept.scope) (length c.args.parts.now) c.in-Holder.is c.requires.apart in
@@ -45,7 +46,7 @@ returns-else-is_instance-clause-makes c =
     rw (c.in-Holder.is, c.listed_name.ensures) (held_makes (values_in s y c.args.parts.now) (values_length s (trees_in s y) c.args.parts.now ∙ one))
 
 pub returns-in-HeldArguments-clause-is : goal.returns-in-HeldArguments-clause-is
-returns-in-HeldArguments-clause-is c state =
+returns-in-HeldArguments-clause-is c state counted =
     let s = c.args.symbol.now in
     let y = c.args.self.now.nodes in
     let none = base_first c.args.production (is_lambda c.args.kept.scope) (length c.args.parts.now) c.in-HeldArguments.is c.requires.apart in
@@ -60,10 +61,10 @@ returns-in-HeldArguments-clause-makes c =
     rw c.in-HeldArguments.is (base_makes (values_in s y c.args.parts.now) (values_length s (trees_in s y) c.args.parts.now ∙ none))
 
 pub returns-in_default-clause-is : goal.returns-in_default-clause-is
-returns-in_default-clause-is c state =
+returns-in_default-clause-is c state counted =
     let s = c.args.symbol.now in
     let y = c.args.self.now.nodes in
-    let own = apart_generic c.args.production (is_lambda c.args.kept.scope) (length c.args.parts.now) c.requires.apart c.in_default.not-Holder c.in_default.not-HeldArguments in
+    let own = apart_generic c.args.production (is_lambda c.args.kept.scope) (length c.args.parts.now) c.requires.apart c.in_default.not-Holder c.in_default.not-HeldArguments c.in_default.not-NamedModule in
     let Reads : Bool → Value → Type 0 = λ b v.
     generic_read b (around_of (trees_in s y) c.args.kept) (counted_value Decimal (bytes_at s c.text-digits.result)) (record state { packs = c.args.self.now.packs })
     ≡ goes_on s y c.args.kept (v ∷ []) state c.args.self.now.packs c.generic.result in
@@ -73,12 +74,19 @@ returns-in_default-clause-is c state =
 
 pub returns-in_default-clause-of : goal.returns-in_default-clause-of
 returns-in_default-clause-of c =
-    let own = apart_generic c.args.production (is_lambda c.args.kept.scope) (length c.args.parts.now) c.requires.apart c.in_default.not-Holder c.in_default.not-HeldArguments in
+    let own = apart_generic c.args.production (is_lambda c.args.kept.scope) (length c.args.parts.now) c.requires.apart c.in_default.not-Holder c.in_default.not-HeldArguments c.in_default.not-NamedModule in
     subst (λ n. IsStepOf c.args.production n c.generic.result) (sym own.1.1) (c.generic.ensures.of c.args.production own.0)
 
 pub returns-in_default-clause-makes : goal.returns-in_default-clause-makes
 returns-in_default-clause-makes c =
     let s = c.args.symbol.now in
     let y = c.args.self.now.nodes in
-    let own = apart_generic c.args.production (is_lambda c.args.kept.scope) (length c.args.parts.now) c.requires.apart c.in_default.not-Holder c.in_default.not-HeldArguments in
+    let own = apart_generic c.args.production (is_lambda c.args.kept.scope) (length c.args.parts.now) c.requires.apart c.in_default.not-Holder c.in_default.not-HeldArguments c.in_default.not-NamedModule in
     c.generic.ensures.makes c.args.production (values_in s y c.args.parts.now) own.0 (values_length s (trees_in s y) c.args.parts.now ∙ own.1.1)
+
+pub returns-in-NamedModule-clause-is : goal.returns-in-NamedModule-clause-is
+returns-in-NamedModule-clause-is c state counted =
+    let s = c.args.symbol.now in
+    let y = c.args.self.now.nodes in
+    let one = module_second c.args.production (is_lambda c.args.kept.scope) (length c.args.parts.now) c.in-NamedModule.is c.requires.apart in
+    ?
