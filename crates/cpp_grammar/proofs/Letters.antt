@@ -1,6 +1,7 @@
 -- The tables are held against the grammar at each kind and byte, by computing.
-use Rattle.std.proofs.Common.{◌≡◌, ℕ, ◌+◌, ◌*◌, ◌<◌, get_or, slice_get, List, length, map, ltb, Bool, true, Option, Some, None, refl, ap, sym, ◌∙◌, arith, inl, inr}
+use Rattle.std.proofs.Common.{◌≡◌, ℕ, ◌+◌, ◌-◌, ◌*◌, ◌<◌, get_or, slice_get, List, length, map, ltb, Bool, true, Option, Some, None, refl, ap, sym, subst, ◌∙◌, arith, inl, inr}
 use Rattle.std.proofs.lemmas.Bool.{ltb-true}
+use Rattle.std.proofs.lemmas.Bool.Decides.{leb_tells}
 use Rattle.std.proofs.lemmas.Option.{slice_get_cases}
 use Rattle.std.specs.List.{range_with_len}
 use Rattle.sym_shape.specs.Listing.{letter_below, unless_blank, counts_after}
@@ -34,10 +35,25 @@ unfoldable pub is_number : Option ℕ → Bool
 is_number None = true
 is_number (Some number) = ltb number PRODUCTION_COUNT
 
--- the rows have the productions of the grammar
-taken : (row : List ℕ) → map (λ k. map (λ byte. numbered (letter row k byte)) (range_with_len 0 256)) (range_with_len 0 KIND_COUNT) ≡ map (λ k. map (chosen (slice_get kinds k)) (range_with_len 0 256)) (range_with_len 0 KIND_COUNT)
+-- the rows have the productions of the grammar, those of the first kinds and those of the others
+abbrev FIRST_KINDS : ℕ
+FIRST_KINDS = 88
+
+taken_first : (row : List ℕ) → map (λ k. map (λ byte. numbered (letter row k byte)) (range_with_len 0 256)) (range_with_len 0 FIRST_KINDS) ≡ map (λ k. map (chosen (slice_get kinds k)) (range_with_len 0 256)) (range_with_len 0 FIRST_KINDS)
 unfolding letter letter_below unless_blank numbered chosen choose alternatives pick is_in among in_ranges kinds productions
-taken row = refl
+taken_first row = refl
+
+taken_others : (row : List ℕ) → map (λ k. map (λ byte. numbered (letter row (k + FIRST_KINDS) byte)) (range_with_len 0 256)) (range_with_len 0 (KIND_COUNT - FIRST_KINDS)) ≡ map (λ k. map (chosen (slice_get kinds (k + FIRST_KINDS))) (range_with_len 0 256)) (range_with_len 0 (KIND_COUNT - FIRST_KINDS))
+unfolding letter letter_below unless_blank numbered chosen choose alternatives pick is_in among in_ranges kinds productions
+taken_others row = refl
+
+taken : (row : List ℕ) (k byte : ℕ) → k < KIND_COUNT → byte < 256 → numbered (letter row k byte) ≡ chosen (slice_get kinds k) byte
+taken row k byte k_lt byte_lt = elim (leb_tells FIRST_KINDS k) [
+  | inl other ↦
+    subst (λ n. numbered (letter row n byte) ≡ chosen (slice_get kinds n) byte) (let same : k - FIRST_KINDS + FIRST_KINDS ≡ k = omega (arith, other.1) in same)
+    (alike_in (λ k byte. numbered (letter row (k + FIRST_KINDS) byte)) (λ k. chosen (slice_get kinds (k + FIRST_KINDS))) (KIND_COUNT - FIRST_KINDS) 256 (k - FIRST_KINDS) byte (taken_others row) (omega (arith, k_lt, other.1)) byte_lt)
+  | inr first ↦ alike_in (λ k byte. numbered (letter row k byte)) (λ k. chosen (slice_get kinds k)) FIRST_KINDS 256 k byte (taken_first row) first.1 byte_lt
+]
 
 letters : (row : List ℕ) → map (λ k. map (λ byte. is_number (letter row k byte)) (range_with_len 0 256)) (range_with_len 0 KIND_COUNT) ≡ map (λ k. map (λ byte. true) (range_with_len 0 256)) (range_with_len 0 KIND_COUNT)
 unfolding letter letter_below unless_blank is_number
@@ -72,7 +88,7 @@ rule_chosen k byte lt = elim (slice_get_cases kinds k).1 [
 pub rule_at : (row : List ℕ) (k byte : ℕ) → k < abi.kinds → byte < 256 → abi.rule k byte ≡ rule_taken (numbered (letter row k byte))
 rule_at row k byte k_lt byte_lt =
     rule_chosen k byte k_lt
-    ∙ ap rule_taken (sym (alike_in (λ k byte. numbered (letter row k byte)) (λ k. chosen (slice_get kinds k)) KIND_COUNT 256 k byte (taken row) (below k k_lt) byte_lt))
+    ∙ ap rule_taken (sym (taken row k byte (below k k_lt) byte_lt))
 
 pub rule_listed : (head : Head) (n : ℕ) → n < PRODUCTION_COUNT → Some (listed_rule head n) ≡ rule_taken (slice_get productions n)
 rule_listed head n = alike_at (λ n. Some (listed_rule head n)) (λ n. rule_taken (slice_get productions n)) PRODUCTION_COUNT n (rules head)
