@@ -72,9 +72,9 @@ def rust_letters(name, based):
             *letter_rows(name, kinds, bases if based else None)]
 
 
-def rust_rules(of, row, number):
-    """The calls that look a rule up, by the row of a kind and the number of the production of a letter."""
-    return template("cpp_grammar/rules.rt", table=of, row=row, number=number, count=str(len(P))).rstrip("\n")
+def rust_rules(of, row, letters, number):
+    """The calls that look a rule up, by the row of a kind, its letters, and the number of the production of a letter."""
+    return template("cpp_grammar/rules.rt", table=of, row=row, letters=letters, number=number, count=str(len(P))).rstrip("\n")
 
 
 def table():
@@ -89,7 +89,7 @@ def table():
 
     rows = [symbol_row(cells(symbols), name) for name, (_, symbols) in zip(names, P.values())]
     return {"constants": constants, "letters": rust_letters("LETTERS", False), "count": str(len(P)), "heads": heads, "symbols": rows,
-            **after_each([symbols for _, symbols in P.values()]), "rules": rust_rules("abi", "&LETTERS[kind as usize]", "letter as usize")}
+            **after_each([symbols for _, symbols in P.values()]), "rules": rust_rules("abi", "&LETTERS[kind as usize]", "row", "letter as usize")}
 
 
 def of_kinds(function, values):
@@ -127,7 +127,7 @@ def wide_files(after, depth, height):
     """Those of the wide grammar: the rule that a kind takes at a byte, what begins each kind and may come after it, and how its trees are bounded."""
     merged = {kind: "".join(f"{low}-{high}" for low, high in runs(after[kind], 1)[0]) for kind in K}
     yield from filled("src/wide_table.rt", letters=rust_letters("WIDE_ROWS", True),
-                      rules=rust_rules("wide", "&WIDE_ROWS[kind as usize].letters", "WIDE_ROWS[kind as usize].base as usize + letter as usize"))
+                      rules=rust_rules("wide", "&WIDE_ROWS[kind as usize]", "&row.letters", "row.base as usize + letter as usize"))
     yield from filled("specs/Wide.antt", alternatives=of_kinds("wide_alternatives", alternatives()))
     yield from filled("specs/Follow.antt", after=of_kinds("after_ranges", {kind: f'codes "{merged[kind]}"' for kind in K}),
                       ranks=of_kinds("rank", {kind: depth[kind] for kind in K if depth[kind]}), heights=of_kinds("height", {kind: height[kind] for kind in K if height[kind]}))

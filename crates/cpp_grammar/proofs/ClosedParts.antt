@@ -17,7 +17,7 @@ use Rattle.cpp_grammar.specs.Meant.{made, is_listing, around_part, packs_within,
 use Rattle.cpp_grammar.specs.Rows.{row_of}
 use Rattle.cpp_grammar.proofs.Ways.{has_signature}
 use Rattle.cpp_grammar.proofs.Chosen.{either}
-use Rattle.cpp_grammar.proofs.Steps.{first_of_both, second_of_both, all_pass, step_passes, is_here, goes_here}
+use Rattle.cpp_grammar.proofs.Steps.{second_of_both, all_pass, step_passes, is_here, goes_here}
 use Rattle.cpp_grammar.proofs.ClosedValues.{all_where, Good, AllGood, GoodPrefix, held, good_nothing, good_part, good_prefix, made_tree_good}
 use Rattle.cpp_grammar.proofs.ClosedStates.{Bare, Within, IsOld, AllOld, old_get, Grows, grows_same, grows_one, grows_held, grows_packs, unless_grows, gained_grows, parameter_good, parameter_grows, ok_same, behind_bind}
 

@@ -1,5 +1,5 @@
 -- The table of the wide grammar is held against it at each kind and byte, by computing.
-use Rattle.std.proofs.Common.{◌≡◌, ℕ, ◌+◌, ◌-◌, ◌<◌, get_or, slice_get, List, map, ltb, Bool, true, Option, Some, None, refl, ap, sym, subst, ◌∙◌, arith, inl, inr}
+use Rattle.std.proofs.Common.{◌≡◌, ℕ, ◌+◌, ◌-◌, ◌<◌, get_or, slice_get, [], map, true, Option, Some, None, refl, ap, sym, subst, ◌∙◌, arith, inl, inr}
 use Rattle.std.proofs.lemmas.Bool.{ltb-true}
 use Rattle.std.proofs.lemmas.Bool.Decides.{leb_tells}
 use Rattle.std.proofs.lemmas.Option.{slice_get_cases}
@@ -21,6 +21,10 @@ use Rattle.cpp_grammar.proofs.Letters.{numbered, is_number}
 unfoldable pub from_base : ℕ → Option ℕ → Option ℕ
 from_base base None = None
 from_base base (Some letter) = Some (base + letter)
+
+-- the row of no kind
+abbrev pub no_row : Row
+no_row = record { base = 0; letters = [] }
 
 -- the number of the production that a kind's row has below a byte; `row` is the default
 unfoldable pub wide_number : Row → ℕ → ℕ → Option ℕ

@@ -1159,7 +1159,8 @@ fn number(kind: u16, byte: u8) -> Option<usize>
     ensures few { IfSome result (λ number. number < 256) }
     ensures rule { (head : Head) → MatchOption result (abi.rule kind byte ≡ None) (λ number. abi.rule kind byte ≡ Some (listed_rule head number)) }
 {
-    match letter_in(&LETTERS[kind as usize], byte) {
+    let row = &LETTERS[kind as usize];
+    match letter_in(row, byte) {
         Some(letter) => Some(letter as usize),
         None => None,
     }

@@ -208,8 +208,9 @@ fn number(kind: u16, byte: u8) -> Option<usize>
     ensures few { IfSome result (λ number. number < 256) }
     ensures rule { (head : Head) → MatchOption result (wide.rule kind byte ≡ None) (λ number. wide.rule kind byte ≡ Some (listed_rule head number)) }
 {
-    match letter_in(&WIDE_ROWS[kind as usize].letters, byte) {
-        Some(letter) => Some(WIDE_ROWS[kind as usize].base as usize + letter as usize),
+    let row = &WIDE_ROWS[kind as usize];
+    match letter_in(&row.letters, byte) {
+        Some(letter) => Some(row.base as usize + letter as usize),
         None => None,
     }
 }

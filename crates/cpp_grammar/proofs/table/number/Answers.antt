@@ -3,8 +3,8 @@ use Rattle.cpp_grammar.specs.Table.{rule_taken}
 use Rattle.cpp_grammar.proofs.Letters.{letter, numbered, rule_at, rule_listed, letter_range, below}
 use Rattle.cpp_grammar.proofs.table.number.Goals as goal
 
-pub bounds-kind : goal.bounds-kind
-bounds-kind c = below c.args.kind c.requires
+pub bounds-row-kind : goal.bounds-row-kind
+bounds-row-kind c = below c.args.kind c.requires
 
 pub returns-in-Some-clause-few : goal.returns-in-Some-clause-few
 unfolding letter
