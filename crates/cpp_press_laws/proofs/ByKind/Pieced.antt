@@ -124,8 +124,8 @@ destructor-comes kind around at old v new o =
     by-parts (λ w s. PieceRead names_member around w old s) Production.Destructor tt tt o (λ w s one b t more.
     piece-as names_member around (piece_of w) b old s t
     (let mark = one Kind.ComponentAfterD refl in
-        subst (λ u. (names_member (piece_of u) ≡ true) × PieceFits around (piece_of u) old s) (sym mark.1) (
-          refl,
-          subst (λ q. PieceFits around (destructor (letter_of w)) old q) (sym mark.0) (destructor-fits around (letter_of w) old mark.2 mark.3),
-        ))
+    subst (λ u. (names_member (piece_of u) ≡ true) × PieceFits around (piece_of u) old s) (sym mark.1) (
+      refl,
+      subst (λ q. PieceFits around (destructor (letter_of w)) old q) (sym mark.0) (destructor-fits around (letter_of w) old mark.2 mark.3),
+    ))
     (more Kind.MaybeArguments refl))
