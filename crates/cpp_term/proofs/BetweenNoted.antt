@@ -1,6 +1,6 @@
 -- What is done between and after the parts of a production, annotated.
 use Rattle.std.proofs.Common.{◌≡◌, refl, ap, sym, ◌∙◌, subst, ℕ, suc, ◌-◌, List, [], ◌∷◌, length, Bool, true, false, not, cond, slice_get, Option, Some, None, Result, Ok, Err, ◌&&◌, nat_lt, ◌⊎◌, inl, inr}
-use Rattle.std.proofs.lemmas.Bool.{false≢true, true≢false}
+use Rattle.std.proofs.lemmas.Bool.{false≢true}
 use Rattle.sym_core.specs.declared.refusal.Refusal.{Refusal}
 use Rattle.sym_core.specs.declared.refusal.Refusal.TheVariants.{BadReference}
 use Rattle.sym_link.specs.Reading.{◌>>=◌, Next}
@@ -38,7 +38,7 @@ use Rattle.cpp_term.specs.Annotated.{Place, nowhere, around_place, place_in, in_
 use Rattle.cpp_term.proofs.Notes.{both, choose, choose_cond, open_noted, closed_noted}
 use Rattle.cpp_term.proofs.SeenNoted.{is_instance_noted}
 use Rattle.cpp_term.proofs.MeaningNoted.{part_noted, tree_part, tree_noted, text_noted, text_part, prefix_tree_noted, prefix_listed_noted, Inside, lambda_noted, takes_encodings, is_of_none, made_inside, made_noted, listing_noted, listed_noted, meaning_noted}
-use Rattle.cpp_term.proofs.StatesNoted.{Alongside, IsOutside, Settled, own_place, Alike, alike_bind, Same, Moves, moves_none, moves_then, one_moves, type_moves, unqualified_moves, prefix_moves, Comes, AreNoted, get_noted, module_noted, substituted_noted, both_named_noted, wide_numbered_noted, held_moves, more_moves, parameter_noted}
+use Rattle.cpp_term.proofs.StatesNoted.{Alongside, IsOutside, Settled, own_place, Alike, alike_bind, Same, Moves, moves_none, one_moves, type_moves, unqualified_moves, prefix_moves, Comes, AreNoted, get_noted, module_noted, substituted_noted, both_named_noted, wide_numbered_noted, held_moves, more_moves, parameter_noted}
 
 -- what is inside has the same scope, or none
 abbrev pub InScope : Around → Around → Type 0
@@ -357,7 +357,7 @@ no_parameters false o h = absurd (false≢true h)
 -- a module has no parameters, so its arguments are the same wherever it was made
 module_goes : (around : Around) (x : State) (y : value_.State) (place number : ℕ) → Same true around x y →
     Alike (Goes true (around_place true around) around x y) (module_so_far around place number x) (wide_.module_so_far (noted_around true around) place number y)
-unfolding module_so_far wide_.module_so_far module_named wide_.module_named module_of wide_.module_of listed_so_far between_.listed_so_far
+unfolding module_so_far wide_.module_so_far module_named wide_.module_named module_of wide_.module_of listed_so_far between_.listed_so_far noted_values
 module_goes around x y place number same =
     found_ (named_by_both x.candidates number) (wide_.named_by_both y.candidates number) (both_named_noted true around x.candidates y.candidates number same.all)
   where

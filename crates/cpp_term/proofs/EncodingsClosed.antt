@@ -21,14 +21,14 @@ use Rattle.cpp_grammar.specs.Scope.{is_open}
 use Rattle.cpp_grammar.specs.Values.{State, Around, Value, nothing_there, tree_of, part}
 use Rattle.cpp_grammar.specs.Between.{in_name, no_items, between}
 use Rattle.cpp_grammar.specs.Meaning.{meaning}
-use Rattle.cpp_grammar.specs.Unfolding.{opening, close, production_at, byte_of}
+use Rattle.cpp_grammar.specs.Unfolding.{close, production_at, byte_of}
 use Rattle.cpp_grammar.proofs.Choosing.{chosen_rule, taken_passes, implied}
 use Rattle.cpp_grammar.proofs.ClosedValues.{good_where, AllGood, GoodPrefix, held, good_tree, good_part}
 use Rattle.cpp_grammar.proofs.NoneFree.{none_encoding}
 use Rattle.cpp_grammar.proofs.ClosedStates.{Bare, Within, AllOld, old_later, old_grows, ok_same, behind_bind}
 use Rattle.cpp_grammar.proofs.ClosedParts.{StaysInside}
 use Rattle.cpp_grammar.proofs.Ways.{has_signature, Way, reading_by, abi_way, differs}
-use Rattle.cpp_grammar.proofs.ClosedTrees.{is_encoding, has_encoding, opens, or_true, at_number, its_symbols, stays, takes_byte, Whole, opening_keeps, all_append, old_fits, grows_fits, old_inner, one_good, known, name_comes, same_found, stepped, inner_closes, KeepsClosed, opens_apart, forest_good, tree_good_by, trees_good_by}
+use Rattle.cpp_grammar.proofs.ClosedTrees.{is_encoding, has_encoding, opens, or_true, at_number, its_symbols, stays, takes_byte, Whole, all_append, old_fits, grows_fits, old_inner, one_good, known, name_comes, same_found, stepped, inner_closes, KeepsClosed, opens_apart, forest_good, tree_good_by, trees_good_by}
 use Rattle.cpp_term.proofs.KindsNoted.{is_special_kind, in_special, encodings_open, special_types}
 use Rattle.cpp_term.proofs.MeaningNoted.{Inside}
 
