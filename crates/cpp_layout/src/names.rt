@@ -1,7 +1,7 @@
 // The parts of names.
 #![tactic(auto)]
 
-ghost use Rattle.std.specs.Prelude.{◌≡◌, ℕ, ◌+◌, ◌<◌, ◌≤◌, ◌∷◌, List, length, codes, decimal, if◌then◌else◌};
+ghost use Rattle.std.specs.Prelude.{◌≡◌, ℕ, ◌+◌, ◌<◌, ◌≤◌, ◌∷◌, ◌++◌, List, length, codes, decimal, if◌then◌else◌};
 ghost use Rattle.sym_print.specs.Held.{Held};
 ghost use Rattle.sym_print.specs.Unfold.{PartOf, text};
 ghost use Rattle.sym_print.specs.declared.detail.Detail.{Detail};
@@ -9,7 +9,7 @@ ghost use Rattle.sym_print.specs.Details.{has_arguments};
 ghost use Rattle.cpp_grammar.specs.Parts.{begins_with, source_text};
 ghost use Rattle.cpp_term.specs.Term as term;
 ghost use Rattle.cpp_term.specs.Items as items;
-ghost use Rattle.cpp_term.specs.Parts.{piece_parts, prefix_item, component_parts, attached_parts, within_parts, base_within, base_tagged, own_piece, entity_of, opening_text, last_piece, instance_parts};
+ghost use Rattle.cpp_term.specs.Parts.{piece_parts, prefix_item, before_piece, component_parts, attached_parts, within_parts, base_within, base_tagged, own_piece, entity_of, opening_text, last_piece, instance_parts};
 ghost use Rattle.cpp_tree.specs.Nodes.{piece_of, tree_at, trees, bytes_at, IsTable, IsWithin, IsPieceBelow, IsThereBelow};
 ghost use Rattle.cpp_layout.specs.Texts.{fixed_text};
 ghost use Rattle.cpp_layout.specs.declared.texts.TheConstants.{BLANK_LESS, COLONS, COUNT, LESS};
@@ -261,6 +261,26 @@ impl Symbol {
         }
     }
 
+    /// Adds a prefix and what is between it and a piece, if there is a prefix.
+    fn push_before<S: PartList<Context>>(&self, parts: &mut S, prefix: u32, ctx: Context)
+        requires context { IsThereBelow (length self.now.table.nodes) ctx.argument }
+        requires room { 2 ≤ S.room parts.old }
+        requires table { IsTable (table_of self.now) }
+        requires prefix { prefix < length self.now.table.nodes }
+        ensures shows { (below : Held Context) (others : List (PartOf items.Item)) → Shows self.now ctx.detail below (S.held parts.old) others
+            → Shows self.now ctx.detail below (S.held parts.new) (before_piece (context_of ctx) (tree_shown self.now ctx prefix) ++ others) }
+        ensures room { S.room parts.old ≤ S.room parts.new + 2 }
+    {
+        let place = self.place(prefix, ctx);
+        match self.stored(place.node, place.ctx) {
+            Node::Absent => {}
+            _ => {
+                self.push_text(parts, texts::COLONS);
+                self.push_prefix(parts, prefix, ctx);
+            }
+        }
+    }
+
     /// The parts of a piece that is attached to a module, after its prefix, if it has one.
     // <unqualified-name> ::= <module-name> <unqualified-name>
     fn fill_attached<S: PartList<Context>>(
@@ -287,10 +307,7 @@ impl Symbol {
         self.push_item(parts, its_module, form::LEFT, 0, around);
         self.push_text(parts, texts::AT);
         self.push_item(parts, node, form::PIECE, 0, ctx);
-        if prefix != ABSENT {
-            self.push_text(parts, texts::COLONS);
-            self.push_prefix(parts, prefix, around);
-        }
+        self.push_before(parts, prefix, around);
     }
 
     /// The entity of a local name. Its default argument isn't shown.
