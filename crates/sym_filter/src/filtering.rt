@@ -205,7 +205,9 @@ fn take_segment<W: Sink, D: Demangler, P: Report>(
     requires failures { W.failure_count writer.old < 2 ^ 64 - 1 }
     requires room { words.old.dots + length text.now < 2 ^ 128 }
     requires some { 0 < length text.now }
+    requires few_wait { length out.old.items < READ_SIZE }
     requires report_failures { P.failure_count report.old < 2 ^ 64 - 1 }
+    ensures few_wait { OnOk result (length out.new.items < READ_SIZE) }
     ensures within { IfOk result (λ count. (0 < count) × (count ≤ length text.now)) }
     ensures ok { IfOk result (λ count. (bytes : List ℕ)
         × TakesText (D.answer demangler.now) words.old words.new escape.old escape.new (take count text.now) bytes
@@ -263,7 +265,9 @@ fn take_words<W: Sink, D: Demangler, P: Report>(
 ) -> Result<(), FilterFault>
     requires failures { W.failure_count writer.old < 2 ^ 64 - 1 }
     requires room { words.old.dots + length piece.now < 2 ^ 128 }
+    requires few_wait { length out.old.items < READ_SIZE }
     requires report_failures { P.failure_count report.old < 2 ^ 64 - 1 }
+    ensures few_wait { OnOk result (length out.new.items < READ_SIZE) }
     ensures ok { OnOk result ((bytes : List ℕ) × Takes (D.answer demangler.now) words.old words.new piece.now bytes
         × Puts (W.taken writer.old) (W.taken writer.new) out.old.items out.new.items bytes) }
     ensures err { IfErr result (λ fault. (fault ≢ FilterFault.Read)
@@ -299,6 +303,7 @@ fn end_segment<W: Sink, D: Demangler, P: Report>(
     requires report_failures { P.failure_count report.old < 2 ^ 64 - 1 }
     ensures ok { OnOk result (Puts (W.taken writer.old) (W.taken writer.new) out.old.items out.new.items
         (rest_after (D.answer demangler.now) words.old [])) }
+    ensures few_wait { OnOk result (length out.new.items < READ_SIZE) }
     ensures counts { OnOk result (words.new.tally ≡ tally_after (D.answer demangler.now) words.old []) }
     ensures begins { OnOk result ((held_of words.new ≡ []) × (words.new.dots ≡ 0) × (words.new.place ≡ START) × (words.new.past ≡ false)) }
     ensures letters { OnOk result (words.new.letters ≡ words.old.letters) }
@@ -312,6 +317,7 @@ fn end_segment<W: Sink, D: Demangler, P: Report>(
     let ended = words.end_segment(demangler, lists, out)?;
     tell_left(report, out, ended.left)?;
     write_dots(writer, out, ended.dots)?;
+    write_when_full(writer, out)?;
     Ok(())
 }
 
@@ -353,6 +359,7 @@ fn put_after<W: Sink>(
     requires failures { W.failure_count writer.old < 2 ^ 64 - 1 }
     ensures ok { OnOk result (Puts (W.taken writer.old) (W.taken writer.new) out.old.items out.new.items
         (following taken bytes.now)) }
+    ensures few_wait { OnOk result ((taken.stay ≡ false → length out.old.items < READ_SIZE) → length out.new.items < READ_SIZE) }
     ensures err { IfErr result (λ fault. (fault ≢ FilterFault.Read)
         × PutsFront (W.taken writer.old) (W.taken writer.new) out.old.items (following taken bytes.now)) }
     ensures failures { W.failure_count writer.new ≡ W.failure_count writer.old + writer_faults result }
@@ -372,6 +379,7 @@ fn write_dots<W: Sink>(writer: &mut W, out: &mut Vec<u8>, dots: u128) -> Result<
     requires failures { W.failure_count writer.old < 2 ^ 64 - 1 }
     ensures ok { OnOk result (Puts (W.taken writer.old) (W.taken writer.new) out.old.items out.new.items
         (replicate dots 46)) }
+    ensures few_wait { OnOk result (length out.old.items < READ_SIZE → length out.new.items < READ_SIZE) }
     ensures err { IfErr result (λ fault. (fault ≢ FilterFault.Read)
         × PutsFront (W.taken writer.old) (W.taken writer.new) out.old.items (replicate dots 46)) }
     ensures failures { W.failure_count writer.new ≡ W.failure_count writer.old + writer_faults result }

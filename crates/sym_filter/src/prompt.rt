@@ -2,6 +2,7 @@
 ghost use Rattle.std.specs.Prelude.{◌≡◌, ◌+◌, ◌-◌, ◌^◌, ◌<◌, ◌≤◌, ℕ, List, length, take, Option, IsSome, IfSome, IfNone};
 ghost use Rattle.std.specs.Io.KnownBytes.{Consumes, Keeps, IsAtEnd};
 ghost use Rattle.sym_filter.specs.Streams.{read_failures};
+ghost use Rattle.sym_filter.specs.declared.filtering.TheConstants.{READ_SIZE};
 
 use crate::streams::{Sink, Source};
 
@@ -16,10 +17,11 @@ pub trait PromptSource<W: Sink> {
     // it may be read beside a sink
     ghost MayRead: { Self → W → Type 0 };
 
-    /// Reads as `read` of a source does, where it may beside this sink.
+    /// Reads as `read` of a source does, where it may beside this sink, and at most 16,384 bytes.
     fn read_beside(&mut self, sink: &W, room: &mut [u8]) -> Option<usize>
         requires failures { failure_count self.old < 2 ^ 64 - 1 }
         requires may { MayRead self.old sink.now }
+        requires few { length room.old ≤ READ_SIZE }
         ensures within { IfSome result (λ count. count ≤ length room.new) }
         ensures bytes { IfSome result (λ count. Consumes (coming self.old) (coming self.new) (take count room.new)) }
         ensures end { IfSome result (λ count. count ≡ 0 → 0 < length room.new → IsAtEnd (coming self.new)) }
