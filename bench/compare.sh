@@ -8,7 +8,7 @@
 #
 #   bench/inputs.sh inputs && bench/compare.sh -i crates/symfilt/out/symfilt inputs/*.txt
 #
-# With -w the ways of showing symbols are run too: the wide grammar, without parameters and in brief, and of the others -p.
+# With -w the ways of showing symbols are run too: the wide grammar, without parameters and in brief, and -p of the others.
 # Instructions don't depend on what else the machine does. They are those of LINES lines (5,000), taken evenly from the file, without
 # those of a run over no input. Debian's binutils has c++filt, llvm has llvm-cxxfilt, and rustfilt and valgrind are packages too.
 set -euo pipefail

@@ -3,7 +3,7 @@
 #
 #   tests/all.sh [-b] [-q] [-s SYMBOLS].. [-r REFERENCE] [-m MODULE] [NAME..]
 #
-#   -b            takes programs and library as they are, as `.ci/run` does; without it rt is asked whether they are of these sources
+#   -b            takes programs and library as they are, as `.ci/run` does; without it the script asks rt whether they are of these sources
 #   -q            leaves out what takes minutes: packages, other machines, a browser
 #   -s SYMBOLS    a file of symbols, one a line; without one some of the installed libraries (bench/inputs.sh)
 #   -r REFERENCE  another implementation with the same command line, for compare.py and fuzz.py

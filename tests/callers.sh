@@ -63,7 +63,7 @@ run static cc -static -std=c11 "${warnings[@]}" callers/c/calls.c "${static[@]}"
 run 'refused' cc -std=c11 "${warnings[@]}" callers/c/out_of_memory.c "${static[@]}"
 cat "$work/out"
 
-# What docs/callers/C.md says of the memory that a name takes is what is measured, and the other pages say it, too.
+# docs/callers/C.md says of the memory that a name takes what is measured, and the other pages say it, too.
 said() { # said CALL : the figure in a row of the table of calls
     sed -n "s/^| \`symdemangle_$1\`[^|]*| \([0-9]*\) |.*/\1/p" docs/callers/C.md
 }
@@ -236,9 +236,9 @@ shows _Z1fv '' '-s rust' _Z1fv
 shows _D3foo3barFiZv '' '-s dlang' _D3foo3barFiZv
 shows 'foo.bar(int)' SYMDEMANGLE_NEXT=1 '-s dlang' _D3foo3barFiZv
 shows '__Z1fv' SYMDEMANGLE_NEXT=0 '' __Z1fv
-echo 'c++filt, its options and what is handed on: ok'
+echo 'c++filt, its options and what is forwarded: ok'
 
-# rustc_demangle, in a program that knows its declaration alone, and in one that is packaged and loads the library by its name:
+# rustc_demangle, in a program that knows only its declaration, and in one that is packaged and loads the library by its name:
 # Hotspot's parser of perf's records (1.6; 1.3 has no such call). PERFPARSER names it, or a script that runs it, where it is
 # elsewhere.
 if has rustc 'rustc_demangle'; then

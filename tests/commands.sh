@@ -1,10 +1,10 @@
 #!/bin/bash
 # README's commands of "Get it", and the gate's own: tests/commands.sh [-n].
 #
-# Each of README's is typed as it is there, in their order, in a clean clone of what is committed, and has to print what it has to; with -n
-# none is run, and only that each begins at the top, in a folder that is there, and leaves its reader there, is looked at. They take
-# some ten minutes of processor. The gate (.ci/run) is run over stand-ins for what it calls: it has to fail where one of these fails,
-# and where `rt ci` passes with an edit that shows nothing.
+# README's commands are typed as they are there, in their order, in a clean clone of what is committed, and each has to print what is
+# wanted of it below. With -n none is run: the script only looks that each begins at the top, in a folder that is there, and leaves its
+# reader there. They take some ten minutes of processor. The gate (.ci/run) is run over stand-ins for what it calls: it has to fail
+# where one of these fails, and where `rt ci` passes with an edit that shows nothing.
 set -u
 cd "$(dirname "$0")/.." || exit 2
 work=$(mktemp -d)

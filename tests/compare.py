@@ -34,7 +34,7 @@ def compare_words(symfilt, reference, options, words):
     if alone:
         return alone
     if len(words) > 1:
-        print(f"{options}: {len(words)} words together, of which each is answered alike by itself, from {words[0]} on")
+        print(f"{options}: {len(words)} words differ together, and each is answered alike by itself, from {words[0]} on")
         own, other = (own[0], own[2][:200]), (other[0], other[2][:200])
         words = words[:1]
     print(f"{options} {words[0]}\n  symfilt:   {own}\n  reference: {other}")
@@ -64,7 +64,7 @@ def main():
     if not words:
         sys.exit("no symbols on standard input")
     if len(words) < len(lines):
-        print(f"{len(lines) - len(words)} lines are compared in the filtered text alone")
+        print(f"{len(lines) - len(words)} lines are compared only in the filtered text")
     differences = 0
     for options in ways:
         for first in range(0, len(words), BATCH):

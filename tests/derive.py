@@ -33,7 +33,7 @@ EDGES = (2**31, 2**32 - 1, 2**64 - 3, 2**64 - 2, 2**64 - 1, 2**64, 10**40)
 PARAMETERS = {"Parameter", "NestParameter", "ParameterArgument", "ParameterExpression"}
 REFERENCES = {"Substitution", *PARAMETERS}
 REFERRING = {"PlainType", "QualifiedPlain", "TypeWithS", "AbbreviatedType", *REFERENCES}
-NAMING = {"Anonymous", "Operator", "ConstructorDigit", "DestructorDigit"}
+NAMING = {"Anonymous", "Operator", "ConstructorDigit", "ComponentAfterD"}
 TYPES = {"Type", "Plain", "Item", "ItemButRef", "Argument"}
 # names that never are candidates, and types that are one before what is of them
 NAMES_ALONE = {"SimpleId", "OperatorReference"}
@@ -42,8 +42,8 @@ TYPED = {"IntegerLiteral", "UnresolvedInType"}
 DECLARED = {"AnyArgument": 0, "AnyElement": 0, "ArgumentWithT": 0, "DeclaredArgument": 1}
 # what a token is in a word that is read here; the names have lengths of one digit
 TOKENS = {grammar.NAME: re.compile(rb"[0-9]"), grammar.SEQ36: re.compile(rb"[0-9A-Z]*_"), grammar.DECIMAL: re.compile(rb"[0-9]*_"), grammar.DIGITS: re.compile(rb"[0-9]+")}
-# An encoding that names another one in its arguments, whose types have parameters: these may stand again where the outer one's
-# arguments are meant. Each reference gets a number of its own.
+# An encoding that names another one in its arguments, with types that have parameters: these types may be named again where the
+# outer one's arguments are meant. Each reference gets a number of its own.
 NAMED_AGAIN = (
     b"_Z1oIicXadL_Z1iIicEv1PIT_T0_EEEEvS_S_",
     b"_Z1oIicZ1iIiJcsEEv1PIT_JDpT0_EERS_E1xEvPS_KS_1QIS_S_E",
@@ -413,7 +413,7 @@ class Spelling:
         return ()
 
     def is_pack(self, node):
-        """Whether it is an argument that is a pack, of which something is declared."""
+        """Whether it is an argument that is a pack, under any number of declarations."""
         while isinstance(node, Node) and node.production in DECLARED:
             node = node.parts[DECLARED[node.production]]
         return isinstance(node, Node) and node.production == "OnePack"
@@ -469,7 +469,7 @@ def is_new(inner):
 
 
 def counted(number, base):
-    """A number with an underscore after it, which alone is the first."""
+    """A number with an underscore after it; an underscore by itself is the first."""
     digits = b""
     while number > 0:
         number, digit = divmod(number - 1, base) if not digits else divmod(number, base)

@@ -5,8 +5,8 @@
 
 SYMFILT is the built program, REFERENCE another one, as for compare.py. The words are symbols that are cut, flipped, spliced,
 that name a part twice, or have numbers at the edges of their ranges. They come from those of FILE, one a line, or from
-the rows of crates/check_rows/stdin; and half of the C++ words are made by the grammar's table (derive.py), and stand as they are
-or are changed so. With --wide both read C++ by the wide grammar, by which the words are then made. A word has at most BYTES bytes
+the rows of crates/check_rows/stdin; and half of the C++ words are made by the grammar's table (derive.py), and are used as they are
+or changed in these ways. With --wide both read C++ by the wide grammar, and the words are made by it. A word has at most BYTES bytes
 (400), and after S seconds (60) it ends. The status is 1 where a word is answered otherwise, 2 where nothing was compared.
 """
 
@@ -196,7 +196,7 @@ def compare_words(pair, options, words):
         return None
     word = first_different(lambda some: pair.answers_differ(options, some), words)
     if word is None:
-        return f"{options}: words that differ together alone: {words!r}"
+        return f"{options}: words that differ only together: {words!r}"
     word = shrunk(lambda shorter: is_argument(shorter) and pair.answers_differ(options, [shorter]), word)
     own, other = pair.answers(options, [word])
     return f"{options} {word!r}\n  symfilt:   {own!r}\n  reference: {other!r}"
@@ -258,7 +258,7 @@ def main():
                 print(wrong, flush=True)
         compared += len(words)
         batches += 1
-    print(f"seed {asked.seed}: {compared} words compared in {batches} batches, {found} of which differ")
+    print(f"seed {asked.seed}: {compared} words compared in {batches} batches, {found} differ")
     sys.exit(2 if compared == 0 else 1 if found else 0)
 
 

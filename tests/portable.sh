@@ -4,9 +4,9 @@
 #   tests/portable.sh [-d DIST] [-m MACHINE].. [-q] [-s] [FILE..]
 #
 #   -d DIST      the folder of the C files, if not dist/
-#   -m MACHINE   gcc, clang, aarch64, riscv64, windows, wasi: those alone
-#   -q           checks every tenth row alone on machines other than gcc's and clang's own, for CI
-#   -s           also with AddressSanitizer and UndefinedBehaviorSanitizer, whose builds take minutes
+#   -m MACHINE   gcc, clang, aarch64, riscv64, windows, wasi: only those
+#   -q           checks only every tenth row on machines other than gcc's and clang's own, for CI
+#   -s           also with AddressSanitizer and UndefinedBehaviorSanitizer; these builds take minutes
 #   FILE         symbols, one a line; without one 2,000 of each language of the installed libraries (bench/inputs.sh)
 #
 # On each machine the files compile without a warning, every row holds (`make check`), and symbols have the same answers with each sum

@@ -29,7 +29,7 @@ def lines_of(name):
 
 
 def kin_of(name):
-    """The name of another symbol, which differs from this one in an offset, in a discriminator or in one parameter's type alone."""
+    """The name of another symbol, which differs from this one in an offset, in a discriminator or in one parameter's type, and in nothing else."""
     thunk = re.match(r"(_ZT(?:h|c?h|v|cv)n?)(\d+)(_.*)", name)
     if thunk:
         return f"{thunk[1]}{int(thunk[2]) + 8}{thunk[3]}"
@@ -52,7 +52,7 @@ def answers(program, options, words):
 
 
 def pressed(program, options, words):
-    """The pressed spelling of each word, all of which have one."""
+    """The pressed spellings of words, each of which has one."""
     spellings = answers(program, ["--press", *options], words)
     missing = [why for spelling, why in spellings if spelling is None]
     if missing:

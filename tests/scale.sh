@@ -4,7 +4,7 @@
 #
 #   tests/scale.sh SYMFILT [LOG]
 #
-# LOG is one of about 100 MB with symbols of installed libraries where none is named. Debian's packages: parallel,
+# Without LOG it makes one of about 100 MB with symbols of installed libraries. Debian's packages: parallel,
 # python3-distributed.
 set -euo pipefail
 [ $# -eq 1 ] || [ $# -eq 2 ] || { echo "usage: $0 SYMFILT [LOG]" >&2; exit 2; }

@@ -138,7 +138,7 @@ SAME = {
     "other languages": ("_TtC3foo3Bar ?f@@YAXXZ -[Foo bar] main.main\n", "_TtC3foo3Bar ?f@@YAXXZ -[Foo bar] main.main\n"),
 }
 
-# The same of each alone: options, what comes in and what has to come out.
+# The same of one program each: options, what comes in and what has to come out.
 SYMFILT = {
     "each sort of text of the wide grammar": (["--wide"], *names_of(WIDE)),
     "stacks": (["--no-params", "--brief"], f"main;{VECTOR};_ZN1A1fIiEEvT_ 42\n", "main;std::vector::push_back;A::f 42\n"),

@@ -1,9 +1,9 @@
 #!/bin/bash
 # Calls demangle as programs and people call a demangler: tests/tools.sh DEMANGLE.
 #
-# A call whose program is installed is made by it, another as it makes it. Each is then made with two stand-ins, one that passes
-# all on as it is and one that fails, and has to fail with one of them: a call that doesn't shows nothing. The status is 1 where one
-# comes out otherwise.
+# Where a program is installed it makes its call itself; else the script makes the call as the program does. Each call is then made with
+# two stand-ins, one that forwards all as it is and one that fails, and has to fail with one of them: a call that doesn't shows nothing.
+# The status is 1 where one comes out otherwise.
 set -u
 [ $# -eq 1 ] || { echo "usage: $0 DEMANGLE" >&2; exit 2; }
 demangle=$(realpath "$(command -v "$1")") || { echo "$0: there is no $1" >&2; exit 2; }
@@ -64,7 +64,7 @@ calls() { # calls TOOL : a line for each call
     call 'genhtml: < FILE' 'A::f(int)
 g()' "$("$tool" <names 2>&1)"
 
-    # dpkg-shlibdeps, and LLVM's opt-viewer: a line is asked and answered at a time
+    # dpkg-shlibdeps, and LLVM's opt-viewer: one line is sent and answered at a time
     if perl -MDpkg::Shlibs::Cppfilt -e 1 2>/dev/null; then
         call 'dpkg: --format=auto' 'A::f(int)|g()|undef' "$(PATH=$work/bin:$PATH timeout 20 perl -MDpkg::Shlibs::Cppfilt \
             -e 'print join "|", map { cppfilt_demangle_cpp($_) // "undef" } "_ZN1A1fEi", "_Z1gv", "malloc"' 2>&1)"

@@ -4,7 +4,7 @@
     tests/truth.py [--compiler NAME].. [--dwarfdump NAME] [--least N] [--shown N] PROGRAM [SOURCE..]
 
 It compiles each source (those of tests/truth, if none is named) by each g++ and clang++ that is installed (`g++`, `g++-13`,
-..), or by the compilers that are named, with debug information. That has, of each symbol, what it means without
+..), or by the compilers that are named, with debug information. That says what each symbol means, without
 reading it: namespaces, classes and functions around it, its own name, template arguments, the types of parameters, what
 it returns, and qualifiers. From these the whole text is spelled anew, which no other demangler does. PROGRAM is `symfilt` or
 `demangle`; the texts are those of the wide grammar.

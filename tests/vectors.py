@@ -56,7 +56,7 @@ def is_named(word):
 
 
 def is_filtered_alone(word):
-    """Whether the filter sees a word as it stands."""
+    """Whether the filter sees a word as it is."""
     return bool(word) and RUN_BYTES.issuperset(word) and not word.endswith(b".")
 
 
@@ -162,7 +162,7 @@ def check_legacy_refused(program, word, reason):
 
 def check_oversize(program, front, count, repeated, end):
     size = len(front) + int(count) * len(repeated) + len(end)
-    raise Skipped(f"a word of {size} bytes, for the static library alone")
+    raise Skipped(f"a word of {size} bytes, only for the static library")
 
 
 def check_nameless(program, word):
@@ -177,7 +177,7 @@ def check_type(program, cost, name, text):
 
 def check_refused_type(program, name, answer):
     if not answer.startswith(REASONS):
-        raise Skipped("a name that can't be a type, for the static library alone")
+        raise Skipped("a name that can't be a type, only for the static library")
     reason, place = answer.rsplit(b" ", 1)
     return check_refused(program, b"_ZTI" + name, b"%s %d" % (reason, int(place) + 4))
 

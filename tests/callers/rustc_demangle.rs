@@ -1,4 +1,4 @@
-// A program of Rust that knows `rustc_demangle` by its C declaration alone, as rust-lang's rustc-demangle-capi has it: 1 with a text
+// A program of Rust that knows `rustc_demangle` only by its C declaration, as rust-lang's rustc-demangle-capi has it: 1 with a text
 // and a 0 byte after it in `out`, 0 where the name isn't one of Rust's or the text has no room.
 //
 //   rustc_demangle          holds the call to that

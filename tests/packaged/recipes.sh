@@ -1,7 +1,7 @@
 #!/bin/bash
 # The recipes of dist/packaging, over a folder that tools/portable/make.sh made: tests/packaged/recipes.sh DIST WORK
 #
-# Debian's source package and what it builds are made and looked at by lintian, vcpkg's is built by CMake alone, nix's by nix with a stand-in
+# Debian's source package and what it builds are made and looked at by lintian, vcpkg's is built only by CMake, nix's by nix with a stand-in
 # for nixpkgs (stdenv.nix); those of conda and Homebrew are read. FULL=yes in the environment has Debian's optimised and its tests run, as a
 # release does. What isn't installed is named and left out.
 set -euo pipefail

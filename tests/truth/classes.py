@@ -71,7 +71,7 @@ def is_variable_template(case, difference):
 
 
 def repeats_arguments(case, difference):
-    """Of a call of a generic lambda g++ tells the arguments that stand for `auto` again, after themselves."""
+    """For a call of a generic lambda g++ repeats the arguments that `auto` denotes, after themselves."""
     if difference.part != "name" or not case.is_of_gcc:
         return False
     (scope, own), (told_scope, told_own) = scope_and_own(case.shown.name), scope_and_own(tokens_of(difference.told))

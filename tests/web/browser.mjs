@@ -1,4 +1,4 @@
-// Chromium without a window, driven by its own protocol over a pipe, and a server of a folder's files. Node alone is needed.
+// Chromium without a window, driven by its own protocol over a pipe, and a server of a folder's files. It needs only Node.
 import { spawn } from "node:child_process";
 import fs from "node:fs";
 import http from "node:http";

@@ -190,12 +190,13 @@ clone-begins s old new letter fresh apart other wide is starts bytes writes =
 
 -- ## Special objects
 
--- a letter that has a text as that of a special object, and isn't that of a template's argument, is the letter of a type's
-special-known : (letter : ℕ) → letter ≢ 65 → look_up (letter ∷ []) special_texts ≢ [] → is_special_letter letter ≡ true
+-- a letter that has a text as that of a special object, and isn't that of a template's argument or of no symbol, is the letter of a type's
+special-known : (letter : ℕ) → letter ≢ 65 → letter ≢ 77 → look_up (letter ∷ []) special_texts ≢ [] → is_special_letter letter ≡ true
 unfolding is_special_letter special_texts code_in codes_pass among
-special-known letter other there =
-    let known : (nat_eq letter 65 || among special_letters letter) ≡ true = letter-listed special_texts (65 ∷ special_letters) letter refl there in
-    subst (λ is. (is || among special_letters letter) ≡ true) (ne_eqb letter 65 other) known
+special-known letter of_type of_none there =
+    let known : (nat_eq letter 65 || (nat_eq letter 77 || among special_letters letter)) ≡ true = letter-listed special_texts (65 ∷ 77 ∷ special_letters) letter refl there in
+    subst (λ is. (is || among special_letters letter) ≡ true) (ne_eqb letter 77 of_none)
+    (subst (λ is. (is || (nat_eq letter 77 || among special_letters letter)) ≡ true) (ne_eqb letter 65 of_type) known)
 
 -- a letter that has a text is in the symbol
 pub special-stands : (s : List ℕ) (letter : ℕ) → look_up (letter ∷ []) special_texts ≢ [] → StandsAt s 2 (84 ∷ [])
@@ -206,13 +207,13 @@ special-stands s letter filled first there =
 
 -- a special object begins
 pub special-begins : (s : Symbol) (w : Direct) (letter : ℕ) → is_local s.bytes ≡ false → is_guard s.bytes ≡ false
-    → StandsAt s.bytes 0 (95 ∷ 90 ∷ []) → StandsAt s.bytes 2 (84 ∷ letter ∷ []) → letter ≢ 65 → w.at ≡ 4
+    → StandsAt s.bytes 0 (95 ∷ 90 ∷ []) → StandsAt s.bytes 2 (84 ∷ letter ∷ []) → letter ≢ 65 → letter ≢ 77 → w.at ≡ 4
     → w.text.list.items ≡ look_up (letter ∷ []) special_texts → look_up (letter ∷ []) special_texts ≢ [] → w.candidates.list.items ≡ []
     → w.waiting.list.items ≡ opens.Special ∷ [] → IsWriting s w steps.Type
 unfolding in_name first_state
-special-begins s w letter apart other starts stands of_type at_is written filled none_ waiting =
+special-begins s w letter apart other starts stands of_type of_none at_is written filled none_ waiting =
     let opened_ = symbol-starts s starts in
-    let here = special-opens s opened_.inner first_around letter 2 first_state (special-known letter of_type filled) opened_.awaits stands in
+    let here = special-opens s opened_.inner first_around letter 2 first_state (special-known letter of_type of_none filled) opened_.awaits stands in
     record {
       kept = record { state = first_state; scope = no_scope; keeps = none-kept s w none_ (λ e. no-object s.bytes apart other) };
       is_before = (

@@ -153,6 +153,10 @@ impl Direct {
         if letter == b'A' {
             return None;
         }
+        // the M is of no symbol's name: it stands for the GI of a module's initializer
+        if letter == b'M' {
+            return None;
+        }
         let text = cpp_layout::special_text(letter);
         if text.is_empty() {
             return None;

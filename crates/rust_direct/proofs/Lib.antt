@@ -27,3 +27,4 @@ pub mod Opened
 pub mod TraitsRead
 pub mod WrapsRead
 pub mod TuplesRead
+pub mod Rounds

@@ -10,3 +10,4 @@ pub mod Bounds
 pub mod Constants
 pub mod WriterInvariant
 pub mod Awaits
+pub mod Rounds

@@ -13,6 +13,6 @@ pub struct Direct {
     pub(crate) numbers: Vec<u16>,
     pub(crate) waiting: Bounded<Open>,
     pub(crate) at: usize,
-    /// How many steps the last symbol took.
-    pub rounds: usize,
+    /// How many steps were taken for all symbols, where that is a u64.
+    pub(crate) rounds: u64,
 }

@@ -35,7 +35,7 @@ pub fn write(direct: &mut Direct, s: &[u8], limit: u32) -> bool
     ensures notes { length direct.new.notes.list.items ≤ length s.now }
     ensures numbers { length direct.new.numbers.items ≤ length s.now }
     ensures waiting { length direct.new.waiting.list.items ≤ length s.now }
-    ensures rounds { direct.new.rounds ≤ 8 * length s.now }
+    ensures rounds { direct.new.rounds ≤ direct.old.rounds + 8 * length s.now }
 {
     write_as::<Whole>(direct, s, limit)
 }
@@ -49,7 +49,7 @@ pub fn write_brief(direct: &mut Direct, s: &[u8], limit: u32) -> bool
     ensures notes { length direct.new.notes.list.items ≤ length s.now }
     ensures numbers { length direct.new.numbers.items ≤ length s.now }
     ensures waiting { length direct.new.waiting.list.items ≤ length s.now }
-    ensures rounds { direct.new.rounds ≤ 8 * length s.now }
+    ensures rounds { direct.new.rounds ≤ direct.old.rounds + 8 * length s.now }
 {
     write_as::<Brief>(direct, s, limit)
 }
@@ -60,47 +60,41 @@ fn write_as<S: Showing>(direct: &mut Direct, s: &[u8], limit: u32) -> bool
     requires { FitsSymbol s.now }
     ensures answer { result ≡ true → IsAnswer (detail_by S.IS_BRIEF) s.now limit (Ok direct.new.text.list.items) }
     ensures rooms { HasRooms s.now direct.new }
-    ensures rounds { direct.new.rounds ≤ 8 * length s.now }
+    ensures rounds { direct.new.rounds ≤ direct.old.rounds + 8 * length s.now }
 {
     let size = s.len();
     let bytes = BYTES_A_BYTE * size + BYTES_ANYWAY;
     let shown = bytes.min(limit as usize / 4);
     direct.restart(shown as u32, bytes as u32, size as u32);
-    let (is_written, rounds) = run::<S>(direct, s, limit);
-    direct.rounds = rounds;
-    if is_written {
+    if run::<S>(direct, s, limit) {
         return true;
     }
     direct.restart(0, 0, 0);
     false
 }
 
-/// Takes steps up to the end of a symbol, and counts them.
-fn run<S: Showing>(direct: &mut Direct, s: &[u8], limit: u32) -> (bool, usize)
+/// Takes steps up to the end of a symbol.
+fn run<S: Showing>(direct: &mut Direct, s: &[u8], limit: u32) -> bool
     requires fits { FitsSymbol s.now }
     requires fresh { IsFresh s.now direct.old }
-    ensures answer { result.0 ≡ true → IsAnswer (detail_by S.IS_BRIEF) s.now limit (Ok direct.new.text.list.items) }
-    ensures rooms { result.0 ≡ true → HasRooms s.now direct.new }
-    ensures rounds { result.1 ≤ 8 * length s.now }
+    ensures answer { result ≡ true → IsAnswer (detail_by S.IS_BRIEF) s.now limit (Ok direct.new.text.list.items) }
+    ensures rooms { result ≡ true → HasRooms s.now direct.new }
+    ensures rounds { direct.new.rounds ≤ direct.old.rounds + 8 * length s.now }
 {
     let Some(first) = direct.begin::<S>(s) else {
-        return (false, 0);
+        return false;
     };
     let mut step = first;
-    let most = ROUNDS_A_BYTE * s.len();
-    let mut rounds = 0;
-    'steps: while rounds < most {
-        rounds += 1;
+    'steps: for _ in 0..ROUNDS_A_BYTE * s.len() {
         if let Step::Ended = step {
-            let is_within = end::<S>(direct, s, limit);
-            return (is_within, rounds);
+            return end::<S>(direct, s, limit);
         }
         match direct.take::<S>(s, step) {
             Some(next) => step = next,
-            None => return (false, rounds),
+            None => return false,
         }
     }
-    (false, rounds)
+    false
 }
 
 /// Leaves what is shown of what was written of a symbol, if the limit is enough for all of that.
@@ -110,6 +104,7 @@ fn end<S: Showing>(direct: &mut Direct, s: &[u8], limit: u32) -> bool
     ensures shown { result ≡ true → IsShown S.IS_BRIEF s.now (length direct.old.text.list.items) direct.new.text.list.items }
     ensures within { result ≡ true → length direct.old.text.list.items ≤ limit / 4 }
     ensures rooms { result ≡ true → HasRooms s.now direct.new }
+    ensures rounds { direct.new.rounds ≡ direct.old.rounds }
 {
     if direct.text().len() > limit as usize / 4 {
         return false;
