@@ -3,5 +3,6 @@ pub mod Command
 pub mod CommandLine
 pub mod Complaints
 pub mod Escaping
+pub mod Shortening
 pub mod Styled
 pub mod Texts

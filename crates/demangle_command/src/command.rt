@@ -12,6 +12,7 @@ ghost use Rattle.demangle_names.specs.Names.{status_of};
 use crate::complaints::{complaint, style_complaint};
 use crate::escaping::Escaping;
 use crate::options::{found_in, names_of, options_of};
+use crate::shortening::Shortening;
 use crate::styled::Styled;
 use crate::texts::{lent_texts, lent_words, texts_of, words_of};
 use clap::error::ErrorKind;
@@ -177,14 +178,15 @@ fn run_found<S: Source, W: Sink, E: Sink>(
 /// The demangler that options ask for.
 fn demangler_of(options: Options) -> Escaping
     ensures escapes { result.escapes ≡ options.escape }
-    ensures style { result.styled.style ≡ options.style }
-    ensures limit { result.styled.languages.limit ≡ options.limit }
-    ensures detail { result.styled.languages.detail ≡ options.detail }
+    ensures style { result.shortening.styled.style ≡ options.style }
+    ensures limit { result.shortening.styled.languages.limit ≡ options.limit }
+    ensures detail { result.shortening.styled.languages.detail ≡ options.detail }
 {
     let Options {
         limit,
         detail,
         style,
+        texts,
         escape,
         ..
     } = options;
@@ -194,7 +196,10 @@ fn demangler_of(options: Options) -> Escaping
         cpp: Wide,
     };
     Escaping {
-        styled: Styled { style, languages },
+        shortening: Shortening {
+            styled: Styled { style, languages },
+            texts,
+        },
         escapes: escape,
     }
 }

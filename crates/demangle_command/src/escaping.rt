@@ -3,25 +3,23 @@ ghost use Rattle.demangle_command.specs.Escaping.{answer_by};
 ghost use Rattle.demangle_command.specs.Styled.{styled_answer};
 ghost use Rattle.sym_languages.specs.Languages.{AreWideCountsOf};
 
-use crate::styled::Styled;
+use crate::shortening::{Shortening, ShorteningLists};
 use demangle_names::push_escaped;
 use std::alloc::{AllocError, Global};
 use sym_core::Refusal;
 use sym_filter::{Demangled, Demangler, Kind, Lang};
-use sym_languages::Wide;
-use sym_languages::languages::Lists;
 
 /// The lists of the demangler below, and the text of one symbol.
 #[derive(Drop)]
 pub struct EscapingLists {
-    lists: Lists<Wide>,
+    lists: ShorteningLists,
     text: Vec<u8>,
 }
 
 /// A demangler whose texts may stand within strings of JSON.
 #[derive(Clone, Copy, Drop)]
 pub struct Escaping {
-    pub styled: Styled,
+    pub shortening: Shortening,
     /// Whether texts are escaped.
     pub escapes: bool,
 }
@@ -29,19 +27,19 @@ pub struct Escaping {
 impl Demangler for Escaping {
     type Lists = EscapingLists;
 
-    ghost answer = { λ escaping kind symbol. answer_by escaping.escapes (styled_answer escaping.styled.style escaping.styled.languages.limit escaping.styled.languages.detail kind symbol) };
+    ghost answer = { λ escaping kind symbol. answer_by escaping.escapes (styled_answer escaping.shortening.style escaping.shortening.languages.limit escaping.shortening.languages.detail kind symbol) };
 
     ghost are_counts = { λ escaping lang symbol counts. AreWideCountsOf lang symbol counts };
 
     fn lists(&self, alloc: Global) -> Result<EscapingLists, AllocError> {
         Ok(EscapingLists {
-            lists: self.styled.lists(alloc)?,
+            lists: self.shortening.lists(alloc)?,
             text: Vec::new(alloc),
         })
     }
 
     fn read_ahead(&self, lists: &mut EscapingLists, lang: Lang, front: &[u8]) {
-        self.styled.read_ahead(&mut lists.lists, lang, front);
+        self.shortening.read_ahead(&mut lists.lists, lang, front);
     }
 
     fn demangle(
@@ -52,11 +50,11 @@ impl Demangler for Escaping {
         out: &mut Vec<u8>,
     ) -> Demangled {
         if !self.escapes {
-            return self.styled.demangle(&mut lists.lists, kind, symbol, out);
+            return self.shortening.demangle(&mut lists.lists, kind, symbol, out);
         }
         lists.text.clear();
         match self
-            .styled
+            .shortening
             .demangle(&mut lists.lists, kind, symbol, &mut lists.text)
         {
             Demangled::Text(counts) => match push_escaped(&lists.text, out) {
@@ -76,11 +74,11 @@ impl Demangler for Escaping {
         out: &mut Vec<u8>,
     ) -> Result<(), Refusal> {
         if !self.escapes {
-            return self.styled.append(&mut lists.lists, kind, symbol, out);
+            return self.shortening.append(&mut lists.lists, kind, symbol, out);
         }
         lists.text.clear();
         match self
-            .styled
+            .shortening
             .append(&mut lists.lists, kind, symbol, &mut lists.text)
         {
             Ok(()) => match push_escaped(&lists.text, out) {

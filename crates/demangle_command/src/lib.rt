@@ -10,6 +10,7 @@ mod hint;
 mod noted;
 mod options;
 mod process;
+mod shortening;
 mod styled;
 mod texts;
 
@@ -17,4 +18,5 @@ pub use argument_files::words_in;
 pub use command::run_over;
 pub use escaping::Escaping;
 pub use process::program;
+pub use shortening::Shortening;
 pub use styled::Styled;

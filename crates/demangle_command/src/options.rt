@@ -4,7 +4,7 @@ ghost use Rattle.clap.specs.Words.{FailsBy, found_of, rows_of, matches_of, fault
 ghost use Rattle.demangle_command.specs.CommandLine.{command_line, no_params, style_option, types, version_flag, version_option, taken_option, taken_options, name_arguments, with_reports, with_texts, AreOptions, IsAskedStyle, name_texts};
 
 use clap::{Arg, ArgAction, ArgMatches, Command, Error};
-use demangle_names::{Options, Style, style_of};
+use demangle_names::{Options, Style, Texts, style_of};
 use std::alloc::{AllocError, Global};
 use sym_command::{detail_of, flag, has_flag, limit, limit_of, with_flag};
 
@@ -21,6 +21,10 @@ A name that cannot be read is left as it is.";
 const BRIEF: &str = "Leave out template and generic arguments";
 
 const LIMIT: &str = "Longest text, about its bytes [default: 1000000]";
+
+const SHORT: &str = "Shorten C++ names: leave out defaults and inline namespaces of std";
+
+const KEEP_INLINE: &str = "With --short, keep inline namespaces (std::__1::vector)";
 
 const ESCAPE: &str = "Escape \" and \\ in replaced text";
 
@@ -75,6 +79,8 @@ fn with_texts<'a>(alloc: Global, command: Command<'a>) -> Result<Command<'a>, Al
 {
     let command = command.arg(no_params(alloc))?;
     let command = with_flag(alloc, command, "brief", BRIEF)?;
+    let command = with_flag(alloc, command, "short", SHORT)?;
+    let command = with_flag(alloc, command, "keep-inline", KEEP_INLINE)?;
     command
         .arg(types(alloc))?
         .arg(limit(alloc).help(LIMIT))?
@@ -205,6 +211,18 @@ fn asked_style(matches: &ArgMatches<'_>) -> Option<Style>
     }
 }
 
+/// Which texts are asked for.
+fn texts_of(short: bool, keeps_inline: bool) -> Texts {
+    if !short {
+        return Texts::Whole;
+    }
+    if keeps_inline {
+        Texts::ShortWithInline
+    } else {
+        Texts::Short
+    }
+}
+
 /// The options of a command line; none where no style has the name that is given.
 pub(crate) fn options_of(matches: &ArgMatches<'_>) -> Option<Options>
     ensures { AreOptions (rows_of (found_of matches.now)) result }
@@ -214,6 +232,7 @@ pub(crate) fn options_of(matches: &ArgMatches<'_>) -> Option<Options>
         limit: limit_of(matches),
         detail: detail_of(has_flag(matches, "brief"), has_flag(matches, "no-params")),
         style,
+        texts: texts_of(has_flag(matches, "short"), has_flag(matches, "keep-inline")),
         escape: has_flag(matches, "escape"),
         types: has_flag(matches, "types"),
         why: has_flag(matches, "why"),

@@ -13,7 +13,7 @@ pub use escaping::{
     escaped_reads_back, escaped_stays_within, push_escaped, replaced_keeps_strings,
 };
 pub use names::answer_names;
-pub use options::Options;
+pub use options::{Options, Texts};
 pub use reasons::Reasons;
 pub use status::{DONE, status_of};
 pub use style::{Style, style_of};

@@ -1,0 +1,141 @@
+// The demangler whose texts of C++ may be short.
+ghost use Rattle.demangle_command.specs.Shortening.{short_answer, shortens};
+ghost use Rattle.demangle_command.specs.Styled.{styled_answer};
+ghost use Rattle.sym_languages.specs.Languages.{AreWideCountsOf};
+
+use crate::styled::Styled;
+use demangle_names::Texts;
+use rust_legacy::path_of;
+use short_names::{Short, has_std};
+use std::alloc::{AllocError, Global};
+use sym_core::Refusal;
+use sym_filter::{Demangled, Demangler, Kind, Lang};
+use sym_languages::Wide;
+use sym_languages::languages::Lists;
+
+/// The lists of the demangler below, the text of one symbol, and what makes it short.
+#[derive(Drop)]
+pub struct ShorteningLists {
+    lists: Lists<Wide>,
+    text: Vec<u8>,
+    short: Short,
+}
+
+/// A demangler whose texts of C++ may be short.
+#[derive(Clone, Copy, Drop)]
+pub struct Shortening {
+    pub styled: Styled,
+    /// Whether texts are short, and whether they have inline namespaces.
+    pub texts: Texts,
+}
+
+impl Shortening {
+    /// Whether the text of a symbol is made short, if it can be: one of C++ that isn't read as the path of a legacy Rust name.
+    fn shortens(&self, lang: Lang, symbol: &[u8]) -> bool
+        ensures { result ≡ shortens self.now.texts self.now.styled.style lang symbol.now }
+    {
+        match self.texts {
+            Texts::Whole => return false,
+            Texts::Short => {}
+            Texts::ShortWithInline => {}
+        }
+        match lang {
+            Lang::Cpp => {}
+            Lang::Rust => return false,
+        }
+        if !self.styled.style.reads_paths() {
+            return true;
+        }
+        path_of(symbol).is_none()
+    }
+
+    /// Whether inline namespaces stay.
+    fn keeps_inline(&self) -> bool
+        ensures { result ≡ keeps_inline self.now.texts }
+    {
+        match self.texts {
+            Texts::Whole => true,
+            Texts::Short => false,
+            Texts::ShortWithInline => true,
+        }
+    }
+
+    /// Makes a text short that was appended for a symbol.
+    fn shorten(
+        &self,
+        lists: &mut ShorteningLists,
+        kind: Kind,
+        symbol: &[u8],
+        from: usize,
+        out: &mut Vec<u8>,
+    ) -> Result<(), AllocError> {
+        if !has_std(&out[from..]) {
+            return Ok(());
+        }
+        if !self.shortens(kind.lang, symbol) {
+            return Ok(());
+        }
+        lists.text.clear();
+        lists.text.extend_from_slice(&out[from..])?;
+        out.truncate(from);
+        lists.short.append(&lists.text, self.keeps_inline(), out)
+    }
+}
+
+impl Demangler for Shortening {
+    type Lists = ShorteningLists;
+
+    ghost answer = { λ by kind symbol. short_answer (shortens by.texts by.styled.style kind.lang symbol) by.texts (styled_answer by.styled.style by.styled.languages.limit by.styled.languages.detail kind symbol) };
+
+    ghost are_counts = { λ by lang symbol counts. AreWideCountsOf lang symbol counts };
+
+    fn lists(&self, alloc: Global) -> Result<ShorteningLists, AllocError> {
+        Ok(ShorteningLists {
+            lists: self.styled.lists(alloc)?,
+            text: Vec::new(alloc),
+            short: Short::new(alloc),
+        })
+    }
+
+    fn read_ahead(&self, lists: &mut ShorteningLists, lang: Lang, front: &[u8]) {
+        self.styled.read_ahead(&mut lists.lists, lang, front);
+    }
+
+    fn demangle(
+        &self,
+        lists: &mut ShorteningLists,
+        kind: Kind,
+        symbol: &[u8],
+        out: &mut Vec<u8>,
+    ) -> Demangled {
+        let from = out.len();
+        let answer = self.styled.demangle(&mut lists.lists, kind, symbol, out);
+        match answer {
+            Demangled::Text(counts) => match self.shorten(lists, kind, symbol, from, out) {
+                Ok(()) => Demangled::Text(counts),
+                Err(_) => {
+                    out.truncate(from);
+                    Demangled::Refused(Refusal::Memory)
+                }
+            },
+            Demangled::TooLong(counts) => Demangled::TooLong(counts),
+            Demangled::Refused(refusal) => Demangled::Refused(refusal),
+        }
+    }
+
+    fn append(
+        &self,
+        lists: &mut ShorteningLists,
+        kind: Kind,
+        symbol: &[u8],
+        out: &mut Vec<u8>,
+    ) -> Result<(), Refusal> {
+        let from = out.len();
+        self.styled.append(&mut lists.lists, kind, symbol, out)?;
+        if self.shorten(lists, kind, symbol, from, out).is_err() {
+            out.truncate(from);
+            return Err(Refusal::Memory);
+        }
+        Ok(())
+    }
+}

@@ -1,0 +1,63 @@
+-- What is left of the elements of a list, by the name of the table before it.
+use Rattle.std.specs.Prelude.{ℕ, zero, suc, List, [], ◌∷◌, ◌++◌, ◌+◌, ◌-◌, Bool, true, false, not, ◌==◌, ◌&&◌, nat_le, nat_eq, length, take, drop, get_or, slice_get, codes, Option, None, Some, if◌then◌else◌}
+use Rattle.std.specs.Cmp.Lexicographic.{pointwise}
+use Rattle.short_names.specs.declared.table.Place.{Place}
+use Rattle.short_names.specs.declared.table.Alias.{Alias}
+use Rattle.short_names.specs.declared.table.TheConstants.{ALIASES}
+use Rattle.short_names.specs.declared.names.Named.{Named}
+use Rattle.short_names.specs.Patterns.{filled}
+use Rattle.short_names.specs.Texts.{text_of}
+
+-- elements with `, ` between them
+unfoldable pub joined : List (List ℕ) → List ℕ
+joined [] = []
+joined (element ∷ []) = element
+joined (element ∷ next ∷ elements) = element ++ codes ", " ++ joined (next ∷ elements)
+
+-- the element in a place
+abbrev pub element : List (List ℕ) → ℕ → List ℕ
+element elements place = get_or elements place []
+
+-- a text is a pattern with a list's own arguments in it
+abbrev pub fits : Named → List (List ℕ) → (text pattern : List ℕ) → Bool
+fits named elements text pattern = pointwise nat_eq text (filled (element elements 0) (element elements 1) (text_of named.whole) pattern)
+
+-- the pattern of the default in a place; none where there is no default
+abbrev pub pattern_at : Option Place → List ℕ
+pattern_at None = []
+pattern_at (Some place) = text_of place
+
+abbrev pub default_of : Named → ℕ → List ℕ
+default_of named place = pattern_at (slice_get named.template.defaults place)
+
+-- it has a pattern, and a text is that
+abbrev pub is_given : Named → List (List ℕ) → (text pattern : List ℕ) → Bool
+is_given named elements text pattern = not (length pattern == 0) && fits named elements text pattern
+
+-- the element in a place is the default
+abbrev pub is_default : Named → List (List ℕ) → ℕ → Bool
+is_default named elements place = is_given named elements (element elements place) (default_of named place)
+
+-- how many of the first elements are left without the defaults at their end
+unfoldable pub left_of : Named → List (List ℕ) → ℕ → ℕ
+left_of named elements zero = zero
+left_of named elements (suc count) = if is_default named elements count then left_of named elements count else suc count
+
+-- how many of all: none is left out where there are more than the template has
+abbrev pub left : Named → List (List ℕ) → ℕ
+left named elements = if nat_le (length elements) named.template.count then left_of named elements (length elements) else length elements
+
+-- the elements are all that the template has, and the last is the allocator of `std::pmr`
+abbrev pub is_polymorphic : Named → List (List ℕ) → Bool
+is_polymorphic named elements =
+    length elements == named.template.count && is_given named elements (element elements (length elements - 1)) (text_of named.template.polymorphic)
+
+-- the usual name of the template with some elements, among some rows; none where there is none
+unfoldable pub alias_in : List Alias → Named → List (List ℕ) → ℕ → Option Place
+alias_in [] named elements count = None
+alias_in (row ∷ rows) named elements count =
+    if fits named elements (joined (take count elements)) (text_of row.arguments) then Some row.name else alias_in rows named elements count
+
+-- the rows of a template
+abbrev pub aliases_of : Named → List Alias
+aliases_of named = take (named.template.end_alias - named.template.first_alias) (drop named.template.first_alias ALIASES)
