@@ -35,7 +35,7 @@ def escaped(text):
     """A text within a byte string."""
     return "".join(c if c >= " " else f"\\x{ord(c):02x}" for c in text)
 
-def files():
+def files(crates):
     """The path and the text of the file."""
     texts, rows, aliases = Texts(), [], []
     listed = entries("short_names.txt")
@@ -48,7 +48,7 @@ def files():
     for name, defaults in listed_templates:
         first = len(aliases)
         for alias, arguments in of.pop(name, []):
-            aliases.append(f"    alias!({texts.place(pattern(arguments))}, {texts.place(alias)}), // {alias}")
+            aliases.append(f"    alias!({texts.place(name)}, {texts.place(pattern(arguments))}, {texts.place(alias)}), // {alias}")
         places = [texts.place(default) for default in defaults] + ["NOTHING"] * (MOST_ARGUMENTS - len(defaults))
         polymorphic = defaults[-1].replace("\2allocator", "\2pmr::polymorphic_allocator") if name in pmr else ""
         rows.append(f"    template!({texts.place(name)}, {len(defaults)}, [{', '.join(places)}], {texts.place(polymorphic)}, {first}, {len(aliases)}), // {name}")
@@ -56,7 +56,7 @@ def files():
     wholes = [f"std::{name}::" for name in listed["whole"][0]] + ["std::"]
     inlines = [f"{name}::" for sort in ("whole", "part", "other") for name in listed[sort][0]]
     lists = {"WHOLES": wholes, "PARTS": [f"{name}::" for name in listed["part"][0]], "INLINES": inlines,
-             "INNERS": [f"std::{name}::" for name in listed["inner"][0]], "INNER_INLINES": [f"{name}::" for name in listed["nested"][0]]}
+             "INNERS": [f"{name}::" for name in listed["inner"][0]], "INNER_INLINES": [f"{name}::" for name in listed["nested"][0]]}
     places = {name: [f"    {texts.place(text)}, // {text}" for text in rows] for name, rows in lists.items()}
     lines = "".join(texts.texts)
     firsts = [sum(size < k for size in sizes) for k in range(max(sizes) + 2)]

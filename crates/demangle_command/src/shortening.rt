@@ -6,18 +6,17 @@ ghost use Rattle.sym_languages.specs.Languages.{AreWideCountsOf};
 use crate::styled::Styled;
 use demangle_names::Texts;
 use rust_legacy::path_of;
-use short_names::{Short, has_std};
+use short_names::Short;
 use std::alloc::{AllocError, Global};
 use sym_core::Refusal;
 use sym_filter::{Demangled, Demangler, Kind, Lang};
 use sym_languages::Wide;
 use sym_languages::languages::Lists;
 
-/// The lists of the demangler below, the text of one symbol, and what makes it short.
+/// The lists of the demangler below, and what makes texts short.
 #[derive(Drop)]
 pub struct ShorteningLists {
     lists: Lists<Wide>,
-    text: Vec<u8>,
     short: Short,
 }
 
@@ -60,7 +59,7 @@ impl Shortening {
         }
     }
 
-    /// Makes a text short that was appended for a symbol.
+    /// Makes a text short that was appended for a symbol, if it is to be short.
     fn shorten(
         &self,
         lists: &mut ShorteningLists,
@@ -69,39 +68,15 @@ impl Shortening {
         from: usize,
         out: &mut Vec<u8>,
     ) -> Result<(), AllocError> {
-        if !has_std(&out[from..]) {
-            return Ok(());
-        }
         if !self.shortens(kind.lang, symbol) {
             return Ok(());
         }
-        lists.text.clear();
-        lists.text.extend_from_slice(&out[from..])?;
-        out.truncate(from);
-        lists.short.append(&lists.text, self.keeps_inline(), out)
-    }
-}
-
-impl Demangler for Shortening {
-    type Lists = ShorteningLists;
-
-    ghost answer = { λ by kind symbol. short_answer (shortens by.texts by.styled.style kind.lang symbol) by.texts (styled_answer by.styled.style by.styled.languages.limit by.styled.languages.detail kind symbol) };
-
-    ghost are_counts = { λ by lang symbol counts. AreWideCountsOf lang symbol counts };
-
-    fn lists(&self, alloc: Global) -> Result<ShorteningLists, AllocError> {
-        Ok(ShorteningLists {
-            lists: self.styled.lists(alloc)?,
-            text: Vec::new(alloc),
-            short: Short::new(alloc),
-        })
+        lists.short.shorten(self.keeps_inline(), from, out)
     }
 
-    fn read_ahead(&self, lists: &mut ShorteningLists, lang: Lang, front: &[u8]) {
-        self.styled.read_ahead(&mut lists.lists, lang, front);
-    }
-
-    fn demangle(
+    /// The answer to a symbol where texts are short.
+    #[inline(never)]
+    fn demangle_short(
         &self,
         lists: &mut ShorteningLists,
         kind: Kind,
@@ -109,8 +84,7 @@ impl Demangler for Shortening {
         out: &mut Vec<u8>,
     ) -> Demangled {
         let from = out.len();
-        let answer = self.styled.demangle(&mut lists.lists, kind, symbol, out);
-        match answer {
+        match self.styled.demangle(&mut lists.lists, kind, symbol, out) {
             Demangled::Text(counts) => match self.shorten(lists, kind, symbol, from, out) {
                 Ok(()) => Demangled::Text(counts),
                 Err(_) => {
@@ -123,7 +97,9 @@ impl Demangler for Shortening {
         }
     }
 
-    fn append(
+    /// The same, with no counts.
+    #[inline(never)]
+    fn append_short(
         &self,
         lists: &mut ShorteningLists,
         kind: Kind,
@@ -137,5 +113,52 @@ impl Demangler for Shortening {
             return Err(Refusal::Memory);
         }
         Ok(())
+    }
+}
+
+impl Demangler for Shortening {
+    type Lists = ShorteningLists;
+
+    ghost answer = { λ by kind symbol. short_answer (shortens by.texts by.styled.style kind.lang symbol) by.texts (styled_answer by.styled.style by.styled.languages.limit by.styled.languages.detail kind symbol) };
+
+    ghost are_counts = { λ by lang symbol counts. AreWideCountsOf lang symbol counts };
+
+    fn lists(&self, alloc: Global) -> Result<ShorteningLists, AllocError> {
+        Ok(ShorteningLists {
+            lists: self.styled.lists(alloc)?,
+            short: Short::new(alloc),
+        })
+    }
+
+    fn read_ahead(&self, lists: &mut ShorteningLists, lang: Lang, front: &[u8]) {
+        self.styled.read_ahead(&mut lists.lists, lang, front);
+    }
+
+    #[inline(always)]
+    fn demangle(
+        &self,
+        lists: &mut ShorteningLists,
+        kind: Kind,
+        symbol: &[u8],
+        out: &mut Vec<u8>,
+    ) -> Demangled {
+        if let Texts::Whole = self.texts {
+            return self.styled.demangle(&mut lists.lists, kind, symbol, out);
+        }
+        self.demangle_short(lists, kind, symbol, out)
+    }
+
+    #[inline(always)]
+    fn append(
+        &self,
+        lists: &mut ShorteningLists,
+        kind: Kind,
+        symbol: &[u8],
+        out: &mut Vec<u8>,
+    ) -> Result<(), Refusal> {
+        if let Texts::Whole = self.texts {
+            return self.styled.append(&mut lists.lists, kind, symbol, out);
+        }
+        self.append_short(lists, kind, symbol, out)
     }
 }

@@ -1,1 +1,1 @@
-pub mod NameLemmas
+pub mod RunLemmas

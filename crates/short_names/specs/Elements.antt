@@ -14,29 +14,35 @@ joined [] = []
 joined (element ∷ []) = element
 joined (element ∷ next ∷ elements) = element ++ codes ", " ++ joined (next ∷ elements)
 
--- the element in a place
+-- an argument list
+abbrev pub listed : List (List ℕ) → List ℕ
+listed elements = 60 ∷ joined elements ++ 62 ∷ []
+
+-- the element in a place; nothing where there is none
 abbrev pub element : List (List ℕ) → ℕ → List ℕ
 element elements place = get_or elements place []
 
--- a text is a pattern with a list's own arguments in it
-abbrev pub fits : Named → List (List ℕ) → (text pattern : List ℕ) → Bool
-fits named elements text pattern = pointwise nat_eq text (filled (element elements 0) (element elements 1) (text_of named.whole) pattern)
+-- ## Defaults
+
+-- a pattern of a name of the table, with the arguments of its list in the holes
+abbrev pub filled_for : Named → List (List ℕ) → (pattern : List ℕ) → List ℕ
+filled_for named elements pattern = filled (element elements 0) (element elements 1) (text_of named.whole) pattern
 
 -- the pattern of the default in a place; none where there is no default
 abbrev pub pattern_at : Option Place → List ℕ
 pattern_at None = []
 pattern_at (Some place) = text_of place
 
-abbrev pub default_of : Named → ℕ → List ℕ
-default_of named place = pattern_at (slice_get named.template.defaults place)
+abbrev pub default_pattern : Named → ℕ → List ℕ
+default_pattern named place = pattern_at (slice_get named.template.defaults place)
 
 -- it has a pattern, and a text is that
 abbrev pub is_given : Named → List (List ℕ) → (text pattern : List ℕ) → Bool
-is_given named elements text pattern = not (length pattern == 0) && fits named elements text pattern
+is_given named elements text pattern = not (length pattern == 0) && pointwise nat_eq text (filled_for named elements pattern)
 
 -- the element in a place is the default
 abbrev pub is_default : Named → List (List ℕ) → ℕ → Bool
-is_default named elements place = is_given named elements (element elements place) (default_of named place)
+is_default named elements place = is_given named elements (element elements place) (default_pattern named place)
 
 -- how many of the first elements are left without the defaults at their end
 unfoldable pub left_of : Named → List (List ℕ) → ℕ → ℕ
@@ -47,16 +53,19 @@ left_of named elements (suc count) = if is_default named elements count then lef
 abbrev pub left : Named → List (List ℕ) → ℕ
 left named elements = if nat_le (length elements) named.template.count then left_of named elements (length elements) else length elements
 
+-- ## Usual names
+
 -- the elements are all that the template has, and the last is the allocator of `std::pmr`
 abbrev pub is_polymorphic : Named → List (List ℕ) → Bool
 is_polymorphic named elements =
     length elements == named.template.count && is_given named elements (element elements (length elements - 1)) (text_of named.template.polymorphic)
 
--- the usual name of the template with some elements, among some rows; none where there is none
-unfoldable pub alias_in : List Alias → Named → List (List ℕ) → ℕ → Option Place
+-- the row, among some, of the usual name of the template with the first elements; none where there is none
+unfoldable pub alias_in : List Alias → Named → List (List ℕ) → ℕ → Option Alias
 alias_in [] named elements count = None
 alias_in (row ∷ rows) named elements count =
-    if fits named elements (joined (take count elements)) (text_of row.arguments) then Some row.name else alias_in rows named elements count
+    if pointwise nat_eq (joined (take count elements)) (filled_for named elements (text_of row.arguments)) then Some row
+    else alias_in rows named elements count
 
 -- the rows of a template
 abbrev pub aliases_of : Named → List Alias

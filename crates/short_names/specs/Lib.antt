@@ -1,6 +1,10 @@
-pub mod Brackets
 pub mod Elements
+pub mod Full
+pub mod Inlines
+pub mod Laws
 pub mod Names
 pub mod Patterns
+pub mod Runs
 pub mod Short
 pub mod Texts
+pub mod Walk

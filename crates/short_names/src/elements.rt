@@ -1,7 +1,7 @@
 // The elements of a list of a name of the table.
 use crate::names::Named;
 use crate::patterns::{Holes, is_filled, text_at};
-use crate::table::{ALIASES, MOST_ARGUMENTS, Place};
+use crate::table::{ALIASES, Alias, MOST_ARGUMENTS};
 
 /// Elements, in a text that ends with the last of them: where each begins. `, ` is between two.
 #[derive(Clone, Copy)]
@@ -76,13 +76,13 @@ impl<'a> Elements<'a> {
     }
 
     /// The usual name of a template with the first elements, at least one, if there is one.
-    pub(crate) fn alias(self, named: Named, count: usize) -> Option<Place> {
+    pub(crate) fn alias(self, named: Named, count: usize) -> Option<Alias> {
         let text = &self.text[self.starts[0]..self.end(count)];
         let holes = self.holes(named);
         let mut k = named.template.first_alias as usize;
         'rows: while k < named.template.end_alias as usize && k < ALIASES.len() {
             if is_filled(text, text_at(ALIASES[k].arguments), holes) {
-                return Some(ALIASES[k].name);
+                return Some(ALIASES[k]);
             }
             k += 1;
         }

@@ -1,12 +1,13 @@
 //! Texts of C++ names without what the library's templates have by default, and with the usual names of their instances.
 #![tactic(auto)]
 
-mod brackets;
 mod closing;
 mod elements;
+mod inlines;
 mod names;
 mod patterns;
+mod runs;
 mod short;
 mod table;
 
-pub use short::{Short, has_std};
+pub use short::Short;

@@ -1,11 +1,14 @@
 // Names of the table.
-ghost use Rattle.std.specs.Prelude.{◌≡◌, ◌≤◌, length, drop};
-ghost use Rattle.short_names.specs.Names.{run_of, row_in, size_of, template_in, behind_part, named_in, ends_name, ends_row, inline_size};
+ghost use Rattle.std.specs.Prelude.{◌≡◌, ◌≤◌, length, drop, take, nat_eq, MatchOption, if◌then◌else◌, [], ◌++◌, ◌-◌};
+ghost use Rattle.std.specs.List.{starts_with};
+ghost use Rattle.short_names.specs.Names.{row_in, size_of, template_in, behind_part, std_name, named_in, last_part, front_size, is_constructor, ends_name, member_in};
+ghost use Rattle.short_names.specs.Texts.{text_of};
+ghost use Rattle.short_names.specs.declared.table.TheConstants.{TEMPLATES, ALIASES, WHOLES, PARTS};
 
-use crate::brackets::is_name_byte;
 use crate::patterns::text_at;
+use crate::runs::{is_letter, is_name_byte};
 use crate::table::{
-    FIRST, INLINES, INNERS, INNER_INLINES, LONGEST, PARTS, Place, STD, TEMPLATES, Template, WHOLES,
+    ALIASES, Alias, FIRST, LONGEST, PARTS, Place, STD, TEMPLATES, Template, WHOLES,
 };
 
 /// A name of the table: its `std::`, with the inline namespace that holds all of `std` if there is one, and its template.
@@ -15,16 +18,16 @@ pub(crate) struct Named {
     pub template: Template,
 }
 
-/// Where the run of bytes of names begins that a text ends with.
-fn run_start(text: &[u8]) -> usize
-    ensures within { result ≤ length text.now }
-    ensures run { drop result text.now ≡ run_of text.now }
+/// Whether a text begins with one of the table.
+#[inline(always)]
+fn begins_with(text: &[u8], row: &[u8]) -> bool
+    ensures { result ≡ starts_with nat_eq text.now row.now }
 {
-    let mut from = text.len();
-    'run: while from > 0 && is_name_byte(text[from - 1]) {
-        from -= 1;
+    match (text, row) {
+        // most rows differ in the first byte
+        ([byte, ..], [first, ..]) => *byte == *first && text.starts_with(row),
+        _ => text.starts_with(row),
     }
-    from
 }
 
 /// The first of some texts of the table with which a text begins.
@@ -33,7 +36,7 @@ fn row_in(rows: &[Place], text: &[u8]) -> Option<Place>
 {
     let mut k = 0;
     'rows: while k < rows.len() {
-        if text.starts_with(text_at(rows[k])) {
+        if begins_with(text, text_at(rows[k])) {
             return Some(rows[k]);
         }
         k += 1;
@@ -42,7 +45,7 @@ fn row_in(rows: &[Place], text: &[u8]) -> Option<Place>
 }
 
 /// How long that is; 0 where there is none.
-fn row_size(rows: &[Place], text: &[u8]) -> usize
+pub(crate) fn row_size(rows: &[Place], text: &[u8]) -> usize
     ensures { result ≡ size_of (row_in rows.now text.now) }
 {
     match row_in(rows, text) {
@@ -61,7 +64,8 @@ fn template_of(name: &[u8]) -> Option<Template>
     let mut k = FIRST[name.len()] as usize;
     let end = FIRST[name.len() + 1] as usize;
     'rows: while k < end && k < TEMPLATES.len() {
-        if text_at(TEMPLATES[k].name) == name {
+        let row = text_at(TEMPLATES[k].name);
+        if row.len() == name.len() && begins_with(name, row) {
             return Some(TEMPLATES[k]);
         }
         k += 1;
@@ -76,10 +80,10 @@ fn whole_of(run: &[u8]) -> Option<Place>
     if let Some(b'_') = run.get(5) {
         return row_in(&WHOLES, run);
     }
-    if run.starts_with(b"std::") {
-        return Some(STD);
+    match run {
+        [b's', b't', b'd', b':', b':', ..] => Some(STD),
+        _ => None,
     }
-    None
 }
 
 /// What is left of a name behind an inline namespace that holds a part of `std`.
@@ -92,57 +96,94 @@ fn behind_part(name: &[u8]) -> &[u8]
     name
 }
 
+/// What is left of a run behind its `std::` and inline namespaces.
+fn behind_std(run: &[u8], whole: Place) -> &[u8]
+    ensures { result.now ≡ behind_part (drop (length (text_of whole)) run.now) }
+{
+    behind_part(run.get(text_at(whole).len()..).unwrap_or_default())
+}
+
 /// The name of the table that a run is.
-fn named_in(run: &[u8]) -> Option<Named>
+pub(crate) fn named_in(run: &[u8]) -> Option<Named>
     ensures { result ≡ named_in run.now }
 {
     let whole = whole_of(run)?;
-    let name = run.get(text_at(whole).len()..).unwrap_or_default();
-    let template = template_of(behind_part(name))?;
+    let template = template_of(behind_std(run, whole))?;
     Some(Named { whole, template })
 }
 
-/// The name of the table that a text ends with, if it is the whole of a run.
-pub(crate) fn name_at_end(text: &[u8]) -> Option<Named>
-    ensures { result ≡ named_in (run_of text.now) }
+/// The last part of a name.
+pub(crate) fn last_part(name: &[u8]) -> &[u8]
+    ensures { result.now ≡ last_part name.now }
 {
-    named_in(&text[run_start(text)..])
-}
-
-/// Whether a text ends with a beginning of a name, and not with more of that name.
-fn ends_name(text: &[u8], front: &[u8]) -> bool
-    ensures { result ≡ ends_name text.now front.now }
-{
-    if !text.ends_with(front) {
-        return false;
+    match name.iter().rposition(|byte| *byte == b':') {
+        Some(colon) => &name[colon + 1..],
+        None => name,
     }
-    let before = text.len() - front.len();
-    before == 0 || !is_name_byte(text[before - 1])
 }
 
-/// Whether a text ends with one of some names of namespaces.
-fn ends_row(rows: &[Place], text: &[u8]) -> bool
-    ensures { result ≡ ends_row rows.now text.now }
+/// What comes before a constructor's or destructor's name in a text that begins with one of a class, `::` or `::~`; else nothing.
+pub(crate) fn before_constructor<'a>(text: &'a [u8], class: &[u8]) -> &'a [u8]
+    ensures { result.now ≡ if is_constructor text.now class.now then take (front_size text.now) text.now else [] }
 {
+    let size = if text.starts_with(b"::~") { 3 } else { 2 };
+    if !text.starts_with(b"::") {
+        return &[];
+    }
+    match text[size..].strip_prefix(class) {
+        None => &[],
+        Some([next, ..]) if is_letter(*next) => &[],
+        Some(_) => &text[..size],
+    }
+}
+
+/// Whether a text begins with a constructor's or destructor's name of a class.
+pub(crate) fn is_constructor(text: &[u8], class: &[u8]) -> bool
+    ensures { result ≡ is_constructor text.now class.now }
+{
+    !before_constructor(text, class).is_empty()
+}
+
+/// Whether a name ends where a text goes on: with no byte of a longer name, and with no list.
+pub(crate) fn ends_name(rest: &[u8]) -> bool
+    ensures { result ≡ ends_name rest.now }
+{
+    match rest {
+        [] => true,
+        [b':', b':', ..] => true,
+        [byte, ..] => !is_name_byte(*byte) && *byte != b'<',
+    }
+}
+
+/// A usual name with which a text begins, and how long the text before the name's end is: one that a constructor or destructor of the
+/// template follows by the template's name.
+#[derive(Clone, Copy)]
+pub(crate) struct Member {
+    pub alias: Alias,
+    pub size: usize,
+}
+
+/// The one with which a run begins, in a text that begins with that run.
+pub(crate) fn member_in(text: &[u8], run: &[u8]) -> Option<Member> {
+    let whole = whole_of(run)?;
+    let name = behind_std(run, whole);
+    if !name.contains(&b':') {
+        return None;
+    }
+    let from = run.len() - name.len();
     let mut k = 0;
-    'rows: while k < rows.len() {
-        if ends_name(text, text_at(rows[k])) {
-            return true;
+    'rows: while k < ALIASES.len() {
+        let alias = text_at(ALIASES[k].name);
+        if begins_with(name, alias) {
+            let size = from + alias.len();
+            if is_constructor(&text[size..], last_part(text_at(ALIASES[k].template))) {
+                return Some(Member {
+                    alias: ALIASES[k],
+                    size,
+                });
+            }
         }
         k += 1;
     }
-    false
-}
-
-/// How long the inline namespace is with which a text goes on after another text, with its `::`; 0 where there is none.
-pub(crate) fn inline_size(before: &[u8], text: &[u8]) -> usize
-    ensures { result ≡ inline_size before.now text.now }
-{
-    if ends_name(before, b"std::") {
-        return row_size(&INLINES, text);
-    }
-    if ends_row(&INNERS, before) {
-        return row_size(&INNER_INLINES, text);
-    }
-    0
+    None
 }

@@ -17,7 +17,7 @@ pub(crate) struct Holes<'a> {
 }
 
 /// A text of the table.
-#[tactic(auto, unfolding(short_names::specs::Texts::text_of))]
+#[tactic(auto, unfolding(crate::specs::Texts::text_of))]
 pub(crate) fn text_at(place: Place) -> &'static [u8]
     ensures { result.now ≡ text_of place }
 {
@@ -43,7 +43,7 @@ fn ticks(whole: &[u8]) -> &'static [u8]
 
 /// What fills a hole; none where a byte of a pattern is no hole.
 fn filling<'a>(holes: Holes<'a>, byte: u8) -> Option<&'a [u8]>
-    ensures { MatchOption result (bit holes.first.now holes.second.now holes.whole.now byte ≡ byte ∷ []) (λ part. part.now ≡ bit holes.first.now holes.second.now holes.whole.now byte) }
+    ensures { MatchOption result (bit holes.entry.first.now holes.entry.second.now holes.entry.whole.now byte ≡ byte ∷ []) (λ part. part.now ≡ bit holes.entry.first.now holes.entry.second.now holes.entry.whole.now byte) }
 {
     if byte == 0 {
         return Some(holes.first);
@@ -62,8 +62,8 @@ fn filling<'a>(holes: Holes<'a>, byte: u8) -> Option<&'a [u8]>
 
 /// What is left of a text behind what a byte of a pattern is; none where it doesn't begin with that.
 fn behind<'a>(text: &'a [u8], holes: Holes<'_>, byte: u8) -> Option<&'a [u8]>
-    ensures { MatchOption result ((rest : List ℕ) → text.now ≢ bit holes.first.now holes.second.now holes.whole.now byte ++ rest)
-        (λ rest. text.now ≡ bit holes.first.now holes.second.now holes.whole.now byte ++ rest.now) }
+    ensures { MatchOption result ((rest : List ℕ) → text.now ≢ bit holes.entry.first.now holes.entry.second.now holes.entry.whole.now byte ++ rest)
+        (λ rest. text.now ≡ bit holes.entry.first.now holes.entry.second.now holes.entry.whole.now byte ++ rest.now) }
 {
     if let Some(part) = filling(holes, byte) {
         return text.strip_prefix(part);
@@ -82,7 +82,7 @@ fn behind<'a>(text: &'a [u8], holes: Holes<'_>, byte: u8) -> Option<&'a [u8]>
 
 /// Whether a text is a pattern with its holes filled.
 pub(crate) fn is_filled(text: &[u8], pattern: &[u8], holes: Holes<'_>) -> bool
-    ensures { result ≡ pointwise nat_eq text.now (filled holes.first.now holes.second.now holes.whole.now pattern.now) }
+    ensures { result ≡ pointwise nat_eq text.now (filled holes.entry.first.now holes.entry.second.now holes.entry.whole.now pattern.now) }
 {
     let mut rest = text;
     let mut at = 0;

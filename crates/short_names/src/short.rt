@@ -1,14 +1,12 @@
 // Short texts.
-ghost use Rattle.std.specs.Prelude.{◌≡◌};
-ghost use Rattle.short_names.specs.Short.{has_std};
-
-use crate::brackets::{Mark, is_name_byte, mark_of, plain_size};
-use crate::closing::close;
-use crate::names::{Named, inline_size, name_at_end};
-use memchr::memmem;
+use crate::closing::{append_constructor, close};
+use crate::inlines::{append_without, has_inlines};
+use crate::names::{Named, member_in, named_in};
+use crate::runs::{is_name_byte, operator_size, run_at, std_run};
 use std::alloc::{AllocError, Global};
 
-/// A bracket that is open: whether it is that of an argument list, where it is, and how many elements began before it.
+/// A bracket that is open: whether it is that of an argument list, the name of the table before that, where it is in the text that is
+/// written, and how many elements began before it.
 #[derive(Clone, Copy)]
 struct Open {
     is_list: bool,
@@ -20,10 +18,15 @@ struct Open {
 /// What makes texts short, with the lists that it works on.
 #[derive(Drop)]
 pub struct Short {
-    /// The text that was written.
+    /// What is left of the text that is made short from the first name on that may become shorter.
     text: Vec<u8>,
+    /// The place in it that is looked at.
+    at: usize,
+    /// How much of it was written, or left out.
+    copied: usize,
+    /// The brackets that are open, from that of the first list of a name of the table on.
     open: Vec<Open>,
-    /// Where the elements begin of what is open.
+    /// Where the elements begin of what is open, in the text that is written.
     starts: Vec<usize>,
 }
 
@@ -32,184 +35,205 @@ impl Short {
     pub fn new(alloc: Global) -> Short {
         Short {
             text: Vec::new(alloc),
+            at: 0,
+            copied: 0,
             open: Vec::new(alloc),
             starts: Vec::new(alloc),
         }
     }
 
-    /// Appends the short text of a text, or nothing.
-    pub fn append(
+    /// Makes a text short that begins at a place of another and ends with that.
+    pub fn shorten(
         &mut self,
-        text: &[u8],
         keeps_inline: bool,
+        from: usize,
         out: &mut Vec<u8>,
     ) -> Result<(), AllocError> {
-        self.text.clear();
-        self.open.clear();
-        self.starts.clear();
-        if self.write(text, keeps_inline)? && self.open.is_empty() {
-            return out.extend_from_slice(&self.text);
+        let Some(first) = first_change(&out[from..], 0, keeps_inline) else {
+            return Ok(());
+        };
+        let first = from + first;
+        self.take(&out[first..], keeps_inline)?;
+        out.truncate(first);
+        if self.write(out)? {
+            return Ok(());
         }
-        out.extend_from_slice(text)
+        out.truncate(first);
+        out.extend_from_slice(&self.text)
     }
 
-    /// Writes the short text of a text; answers whether its brackets pair so far.
-    fn write(&mut self, text: &[u8], keeps_inline: bool) -> Result<bool, AllocError> {
-        let mut at = 0;
-        'bytes: while at < text.len() {
-            let size = if self.is_outside() {
-                size_before_std(&text[at..])
-            } else {
-                plain_size(&text[at..])
-            };
-            self.text.extend_from_slice(&text[at..at + size])?;
-            at += size;
-            if at < text.len() {
-                let size = self.step(&text[at..], keeps_inline)?;
-                if size == 0 {
-                    return Ok(false);
-                }
-                at += size;
+    /// Takes a text to be made short, without inline namespaces unless they are kept.
+    fn take(&mut self, text: &[u8], keeps_inline: bool) -> Result<(), AllocError> {
+        self.text.clear();
+        self.at = 0;
+        self.copied = 0;
+        self.open.clear();
+        self.starts.clear();
+        if keeps_inline {
+            return self.text.extend_from_slice(text);
+        }
+        append_without(text, &mut self.text)
+    }
+
+    /// Writes the short text; answers whether its brackets pair.
+    fn write(&mut self, out: &mut Vec<u8>) -> Result<bool, AllocError> {
+        'pieces: while self.at < self.text.len() {
+            if !self.step(out)? {
+                return Ok(false);
             }
+        }
+        self.copy(out)?;
+        Ok(self.open.is_empty())
+    }
+
+    /// Writes what was looked at.
+    fn copy(&mut self, out: &mut Vec<u8>) -> Result<(), AllocError> {
+        out.extend_from_slice(&self.text[self.copied..self.at])?;
+        self.copied = self.at;
+        Ok(())
+    }
+
+    /// Goes over the next piece of the text; answers whether brackets pair so far.
+    fn step(&mut self, out: &mut Vec<u8>) -> Result<bool, AllocError> {
+        if self.open.is_empty() {
+            let Some(next) = first_change(&self.text, self.at, true) else {
+                self.at = self.text.len();
+                return Ok(true);
+            };
+            self.at = next;
+        }
+        let byte = self.text[self.at];
+        if is_name_byte(byte) {
+            self.step_run(out)?;
+            return Ok(true);
+        }
+        match byte {
+            b'<' => self.open_list(None, out)?,
+            b'(' | b'[' | b'{' => self.open(false, None, out)?,
+            b'>' => return self.close_list(out),
+            b')' | b']' | b'}' => return Ok(self.close_group()),
+            b',' => self.step_comma(out)?,
+            b'-' => self.step_sign(),
+            _ => self.at += 1,
         }
         Ok(true)
     }
 
-    /// Whether no list of the table is open, and nothing of a name was written.
-    fn is_outside(&self) -> bool {
-        if !self.open.is_empty() {
-            return false;
+    /// Goes over a run of bytes of names, and what belongs to it.
+    fn step_run(&mut self, out: &mut Vec<u8>) -> Result<(), AllocError> {
+        let text = &self.text[self.at..];
+        let run = run_at(text);
+        let rest = &text[run.len()..];
+        if let [b's', b't', b'd', b':', b':', ..] = run {
+            if let [b'<', ..] = rest {
+                if let Some(named) = named_in(run) {
+                    self.at += run.len();
+                    return self.open_list(Some(named), out);
+                }
+            }
+            if let Some(member) = member_in(text, run) {
+                self.at += member.size;
+                self.copy(out)?;
+                self.at += append_constructor(member.alias, &self.text[self.at..], out)?;
+                self.copied = self.at;
+                return Ok(());
+            }
         }
-        match self.text.last() {
-            Some(byte) => !is_name_byte(*byte),
-            None => true,
-        }
+        self.at += run.len() + operator_size(run, rest);
+        Ok(())
     }
 
-    /// What was written of the element that is written.
-    fn last(&self) -> &[u8] {
-        match self.starts.last() {
-            Some(start) => &self.text[*start..],
-            None => &self.text,
-        }
-    }
-
-    /// Writes the first byte of a text; answers how many bytes of the text it and those written with it are, or none where the brackets
-    /// don't pair.
-    fn step(&mut self, text: &[u8], keeps_inline: bool) -> Result<usize, AllocError> {
-        let byte = text[0];
-        match mark_of(self.last(), byte) {
-            Mark::Opens => self.open_list(),
-            Mark::Groups => self.open_group(byte),
-            Mark::Closes => self.close_list(text),
-            Mark::Ends => self.end_group(byte),
-            Mark::Comma => self.step_comma(text),
-            Mark::Line => self.step_line(text, keeps_inline),
-            Mark::Plain => self.push(byte),
-        }
-    }
-
-    /// Writes a byte that does nothing.
-    fn push(&mut self, byte: u8) -> Result<usize, AllocError> {
-        self.text.push(byte)?;
-        Ok(1)
-    }
-
-    /// Opens a list, if it is one of the table, or within one.
-    fn open_list(&mut self) -> Result<usize, AllocError> {
-        let named = name_at_end(self.last());
-        if self.open.is_empty() && named.is_none() {
-            return self.push(b'<');
-        }
-        self.open(b'<', true, named)
-    }
-
-    /// Opens another bracket, if it is within a list of the table.
-    fn open_group(&mut self, byte: u8) -> Result<usize, AllocError> {
-        if self.open.is_empty() {
-            return self.push(byte);
-        }
-        self.open(byte, false, None)
+    /// Opens an argument list, after the name of the table that is before it, if one is.
+    fn open_list(&mut self, named: Option<Named>, out: &Vec<u8>) -> Result<(), AllocError> {
+        self.open(true, named, out)
     }
 
     /// Opens a bracket.
-    fn open(&mut self, byte: u8, is_list: bool, named: Option<Named>) -> Result<usize, AllocError> {
+    fn open(&mut self, is_list: bool, named: Option<Named>, out: &Vec<u8>) -> Result<(), AllocError> {
+        let bracket = out.len() + (self.at - self.copied);
         self.open.push(Open {
             is_list,
             named,
-            bracket: self.text.len(),
+            bracket,
             first: self.starts.len(),
         })?;
-        self.text.push(byte)?;
-        self.starts.push(self.text.len())?;
-        Ok(1)
+        self.starts.push(bracket + 1)?;
+        self.at += 1;
+        Ok(())
     }
 
-    /// Closes a list.
-    fn close_list(&mut self, text: &[u8]) -> Result<usize, AllocError> {
+    /// Closes a list; answers whether it was open.
+    fn close_list(&mut self, out: &mut Vec<u8>) -> Result<bool, AllocError> {
         let Some(list) = self.open.pop() else {
-            return self.push(b'>');
+            return Ok(false);
         };
-        if !list.is_list {
-            return Ok(0);
+        if let Some(named) = list.named {
+            self.copy(out)?;
+            let rest = &self.text[self.at + 1..];
+            self.at += 1 + close(out, named, list.bracket, &self.starts[list.first..], rest)?;
+            self.copied = self.at;
+        } else {
+            self.at += 1;
         }
-        let size = close(&mut self.text, list.named, list.bracket, &self.starts[list.first..], &text[1..])?;
         self.starts.truncate(list.first);
-        Ok(1 + size)
+        Ok(list.is_list)
     }
 
-    /// Closes another bracket.
-    fn end_group(&mut self, byte: u8) -> Result<usize, AllocError> {
+    /// Closes another bracket; answers whether it was open.
+    fn close_group(&mut self) -> bool {
         let Some(group) = self.open.pop() else {
-            return self.push(byte);
+            return false;
         };
-        if group.is_list {
-            return Ok(0);
-        }
-        self.text.push(byte)?;
         self.starts.truncate(group.first);
-        Ok(1)
+        self.at += 1;
+        !group.is_list
     }
 
-    /// The same of a comma, which ends an element where a blank follows it.
-    fn step_comma(&mut self, text: &[u8]) -> Result<usize, AllocError> {
-        let in_list = match self.open.last() {
-            Some(open) => open.is_list,
-            None => false,
-        };
-        if !in_list || !text.starts_with(b", ") {
-            self.text.push(b',')?;
-            return Ok(1);
-        }
-        self.text.extend_from_slice(b", ")?;
-        self.starts.push(self.text.len())?;
-        Ok(2)
-    }
-
-    /// The same of a low line, with which an inline namespace may begin.
-    fn step_line(&mut self, text: &[u8], keeps_inline: bool) -> Result<usize, AllocError> {
-        if !keeps_inline {
-            let size = inline_size(self.last(), text);
-            if size > 0 {
-                return Ok(size);
+    /// Goes over a comma, with which an element ends where a blank follows it.
+    fn step_comma(&mut self, out: &Vec<u8>) -> Result<(), AllocError> {
+        self.at += 1;
+        if let Some(b' ') = self.text.get(self.at) {
+            self.at += 1;
+            if let Some(open) = self.open.last() {
+                if open.is_list {
+                    self.starts.push(out.len() + (self.at - self.copied))?;
+                }
             }
         }
-        self.text.push(b'_')?;
-        Ok(1)
+        Ok(())
+    }
+
+    /// Goes over a minus, or an arrow.
+    fn step_sign(&mut self) {
+        self.at += 1;
+        if let Some(b'>') = self.text.get(self.at) {
+            self.at += 1;
+        }
     }
 }
 
-/// How many bytes of a text come before the first `std::`, or all where there is none.
-fn size_before_std(text: &[u8]) -> usize {
-    match memmem::find(text, b"std::") {
-        Some(size) => size,
-        None => text.len(),
+/// Where the first name is that becomes shorter or may do so, from a place of a text on; none where no name is.
+fn first_change(text: &[u8], from: usize, keeps_inline: bool) -> Option<usize> {
+    let mut at = from;
+    'names: while let Some(name) = std_run(text, at) {
+        if may_change(&text[name..], keeps_inline) {
+            return Some(name);
+        }
+        at = name + 5;
     }
+    None
 }
 
-/// Whether `std::` is in a text: the short text of another is the text.
-pub fn has_std(text: &[u8]) -> bool
-    ensures { result ≡ has_std text.now }
-{
-    memmem::find(text, b"std::").is_some()
+/// Whether the name of `std` with which a text begins becomes shorter or may do so.
+fn may_change(text: &[u8], keeps_inline: bool) -> bool {
+    if !keeps_inline && has_inlines(&text[5..]) {
+        return true;
+    }
+    let run = run_at(text);
+    if let Some(b'<') = text.get(run.len()) {
+        if named_in(run).is_some() {
+            return true;
+        }
+    }
+    member_in(text, run).is_some()
 }

@@ -20,9 +20,10 @@ pub struct Template {
     pub end_alias: u8,
 }
 
-/// A usual name of a template with arguments.
+/// A usual name of a template with arguments: the template's name, the arguments, and the usual name.
 #[derive(Clone, Copy)]
 pub struct Alias {
+    pub template: Place,
     pub arguments: Place,
     pub name: Place,
 }
@@ -49,8 +50,9 @@ macro_rules! template {
 
 // A row of `ALIASES`.
 macro_rules! alias {
-    ($arguments:expr, $name:expr) => {
+    ($template:expr, $arguments:expr, $name:expr) => {
         Alias {
+            template: $template,
             arguments: $arguments,
             name: $name,
         }
@@ -58,7 +60,7 @@ macro_rules! alias {
 }
 
 /// All names and patterns, one after the other.
-pub static TEXTS: [u8; 2432] = *b"\x02less<\x00>\x02allocator<\x00>set\x02pmr::polymorphic_allocator<\x00>\x02allocator<\x02pair<\x00 const, \x01>>map\x02pmr::polymorphic_allocator<\x02pair<\x00 const, \x01>>list18446744073709551615ulspandeque\x02deque<\x00>queuestack1lratiovector\x02layout_right\x02default_accessor<\x00>mdspan\x02istreambuf_iterator<\x00>num_get\x02ostreambuf_iterator<\x00>num_putmultisetmultimap\x02vector<\x00>flat_set\x02vector<\x01>flat_maptime_gettime_putlong\x01*\x01&iteratorcharioswchar_twios\x02char_traits<\x00>basic_iosmoney_getmoney_putformattervoidgenerator\x02default_delete<\x00>unique_ptrfalsemoneypunctregexwregex\x02regex_traits<\x00>basic_regexforward_liststringwstringchar8_tu8stringchar16_tu16stringchar32_tu32stringchar, \x02char_traits<char>, \x02pmr::polymorphic_allocator<char>pmr::stringbasic_string\x02hash<\x00>\x02equal_to<\x00>unordered_setunordered_mapflat_multisetflat_multimapbasic_syncbufistreamwistreambasic_istreamostreamwostreambasic_ostreamfilebufwfilebufbasic_filebuffstreamwfstreambasic_fstreambasic_spanbuf\x02allocator<\x02sub_match<\x00>>match_resultspriority_queueiostreamwiostreambasic_iostreamifstreamwifstreambasic_ifstreamofstreamwofstreambasic_ofstreamstringbufwstringbufbasic_stringbufstreambufwstreambufbasic_streambuftime_get_bynametime_put_bynamebasic_spanstream\x02char_traits<\x01>istream_iteratorostream_iterator\x03, \x02ratio<1l, 1000000000l>chrono::nanoseconds\x03, \x02ratio<1l, 1000000l>chrono::microseconds\x03, \x02ratio<1l, 1000l>chrono::milliseconds\x03chrono::seconds\x03, \x02ratio<60l>chrono::minutes\x03, \x02ratio<3600l>chrono::hours\x02ratio<1l>chrono::durationbasic_osyncstreamstring_viewwstring_viewu8string_viewu16string_viewu32string_viewbasic_string_viewbasic_ispanstreambasic_ospanstreammoneypunct_byname\x02unreachable_sentinel_tranges::iota_viewunordered_multisetunordered_multimapstringstreamwstringstreambasic_stringstreamistringstreamwistringstreambasic_istringstreamostringstreamwostringstreambasic_ostringstreamistreambuf_iteratorostreambuf_iteratorunsigned long, 32ul, 624ul, 397ul, 31ul, 2567483615ul, 11ul, 4294967295ul, 7ul, 2636928640ul, 15ul, 4022730752ul, 18ul, 1812433253ulmt19937unsigned long, 64ul, 312ul, 156ul, 31ul, 13043109905998158313ul, 29ul, 6148914691236517205ul, 17ul, 8202884508482404352ul, 37ul, 18444473444759240704ul, 43ul, 6364136223846793005ulmt19937_64mersenne_twister_engineranges::basic_istream_viewstd::__1::std::__2::std::__ndk1::std::__Cr::std::__8::std::__h::std::__cxx11::__debug::__cxx1998::__1::__2::__ndk1::__Cr::__8::__h::_V2::__fs::std::chrono::std::ranges::std::filesystem::std::pmr::__cust::__cpo::";
+pub static TEXTS: [u8; 2412] = *b"\x02less<\x00>\x02allocator<\x00>set\x02pmr::polymorphic_allocator<\x00>\x02allocator<\x02pair<\x00 const, \x01>>map\x02pmr::polymorphic_allocator<\x02pair<\x00 const, \x01>>list18446744073709551615ulspandeque\x02deque<\x00>queuestack1lratiovector\x02layout_right\x02default_accessor<\x00>mdspan\x02istreambuf_iterator<\x00>num_get\x02ostreambuf_iterator<\x00>num_putmultisetmultimap\x02vector<\x00>flat_set\x02vector<\x01>flat_maptime_gettime_putlong\x01*\x01&iteratorbasic_ioscharioswchar_twios\x02char_traits<\x00>money_getmoney_putformattervoidgenerator\x02default_delete<\x00>unique_ptrfalsemoneypunctbasic_regexregexwregex\x02regex_traits<\x00>forward_listbasic_stringstringwstringchar8_tu8stringchar16_tu16stringchar32_tu32stringchar, \x02char_traits<char>, \x02pmr::polymorphic_allocator<char>pmr::string\x02hash<\x00>\x02equal_to<\x00>unordered_setunordered_mapflat_multisetflat_multimapbasic_syncbufbasic_istreamistreamwistreambasic_ostreamostreamwostreambasic_filebuffilebufwfilebufbasic_fstreamfstreamwfstreambasic_spanbuf\x02allocator<\x02sub_match<\x00>>match_resultspriority_queuebasic_iostreamiostreamwiostreambasic_ifstreamifstreamwifstreambasic_ofstreamofstreamwofstreambasic_stringbufstringbufwstringbufbasic_streambufstreambufwstreambuftime_get_bynametime_put_bynamebasic_spanstream\x02char_traits<\x01>istream_iteratorostream_iteratorchrono::duration\x03, \x02ratio<1l, 1000000000l>chrono::nanoseconds\x03, \x02ratio<1l, 1000000l>chrono::microseconds\x03, \x02ratio<1l, 1000l>chrono::milliseconds\x03chrono::seconds\x03, \x02ratio<60l>chrono::minutes\x03, \x02ratio<3600l>chrono::hours\x02ratio<1l>basic_osyncstreambasic_string_viewstring_viewwstring_viewu8string_viewu16string_viewu32string_viewbasic_ispanstreambasic_ospanstreammoneypunct_byname\x02unreachable_sentinel_tranges::iota_viewunordered_multisetunordered_multimapbasic_stringstreamstringstreamwstringstreambasic_istringstreamistringstreamwistringstreambasic_ostringstreamostringstreamwostringstreamistreambuf_iteratorostreambuf_iteratormersenne_twister_engineunsigned long, 32ul, 624ul, 397ul, 31ul, 2567483615ul, 11ul, 4294967295ul, 7ul, 2636928640ul, 15ul, 4022730752ul, 18ul, 1812433253ulmt19937unsigned long, 64ul, 312ul, 156ul, 31ul, 13043109905998158313ul, 29ul, 6148914691236517205ul, 17ul, 8202884508482404352ul, 37ul, 18444473444759240704ul, 43ul, 6364136223846793005ulmt19937_64ranges::basic_istream_viewstd::__1::std::__2::std::__ndk1::std::__Cr::std::__8::std::__h::std::__cxx11::__debug::__cxx1998::__1::__2::__ndk1::__Cr::__8::__h::_V2::__fs::chrono::ranges::filesystem::pmr::__cust::__cpo::";
 
 /// No template's name has this size or more.
 pub(crate) const LONGEST: usize = 27;
@@ -92,105 +94,105 @@ pub static TEMPLATES: [Template; 67] = [
     template!(Place { from: 350, to: 358 }, 2, [NOTHING, Place { from: 238, to: 261 }, NOTHING, NOTHING, NOTHING], NOTHING, 0, 0), // time_get
     template!(Place { from: 358, to: 366 }, 2, [NOTHING, Place { from: 268, to: 291 }, NOTHING, NOTHING, NOTHING], NOTHING, 0, 0), // time_put
     template!(Place { from: 374, to: 382 }, 5, [NOTHING, NOTHING, Place { from: 366, to: 370 }, Place { from: 370, to: 372 }, Place { from: 372, to: 374 }], NOTHING, 0, 0), // iterator
-    template!(Place { from: 415, to: 424 }, 2, [NOTHING, Place { from: 400, to: 415 }, NOTHING, NOTHING, NOTHING], NOTHING, 0, 2), // basic_ios
+    template!(Place { from: 382, to: 391 }, 2, [NOTHING, Place { from: 409, to: 424 }, NOTHING, NOTHING, NOTHING], NOTHING, 0, 2), // basic_ios
     template!(Place { from: 424, to: 433 }, 2, [NOTHING, Place { from: 238, to: 261 }, NOTHING, NOTHING, NOTHING], NOTHING, 2, 2), // money_get
     template!(Place { from: 433, to: 442 }, 2, [NOTHING, Place { from: 268, to: 291 }, NOTHING, NOTHING, NOTHING], NOTHING, 2, 2), // money_put
-    template!(Place { from: 442, to: 451 }, 2, [NOTHING, Place { from: 382, to: 386 }, NOTHING, NOTHING, NOTHING], NOTHING, 2, 2), // formatter
+    template!(Place { from: 442, to: 451 }, 2, [NOTHING, Place { from: 391, to: 395 }, NOTHING, NOTHING, NOTHING], NOTHING, 2, 2), // formatter
     template!(Place { from: 455, to: 464 }, 3, [NOTHING, Place { from: 451, to: 455 }, Place { from: 451, to: 455 }, NOTHING, NOTHING], NOTHING, 2, 2), // generator
     template!(Place { from: 482, to: 492 }, 2, [NOTHING, Place { from: 464, to: 482 }, NOTHING, NOTHING, NOTHING], NOTHING, 2, 2), // unique_ptr
     template!(Place { from: 497, to: 507 }, 2, [NOTHING, Place { from: 492, to: 497 }, NOTHING, NOTHING, NOTHING], NOTHING, 2, 2), // moneypunct
-    template!(Place { from: 534, to: 545 }, 2, [NOTHING, Place { from: 518, to: 534 }, NOTHING, NOTHING, NOTHING], NOTHING, 2, 4), // basic_regex
+    template!(Place { from: 507, to: 518 }, 2, [NOTHING, Place { from: 529, to: 545 }, NOTHING, NOTHING, NOTHING], NOTHING, 2, 4), // basic_regex
     template!(Place { from: 545, to: 557 }, 2, [NOTHING, Place { from: 8, to: 21 }, NOTHING, NOTHING, NOTHING], Place { from: 24, to: 54 }, 4, 4), // forward_list
-    template!(Place { from: 689, to: 701 }, 3, [NOTHING, Place { from: 400, to: 415 }, Place { from: 8, to: 21 }, NOTHING, NOTHING], NOTHING, 4, 10), // basic_string
+    template!(Place { from: 557, to: 569 }, 3, [NOTHING, Place { from: 409, to: 424 }, Place { from: 8, to: 21 }, NOTHING, NOTHING], NOTHING, 4, 10), // basic_string
     template!(Place { from: 721, to: 734 }, 4, [NOTHING, Place { from: 701, to: 709 }, Place { from: 709, to: 721 }, Place { from: 8, to: 21 }, NOTHING], Place { from: 24, to: 54 }, 10, 10), // unordered_set
     template!(Place { from: 734, to: 747 }, 5, [NOTHING, NOTHING, Place { from: 701, to: 709 }, Place { from: 709, to: 721 }, Place { from: 54, to: 83 }], Place { from: 86, to: 132 }, 10, 10), // unordered_map
     template!(Place { from: 747, to: 760 }, 3, [NOTHING, Place { from: 0, to: 8 }, Place { from: 314, to: 324 }, NOTHING, NOTHING], NOTHING, 10, 10), // flat_multiset
     template!(Place { from: 760, to: 773 }, 5, [NOTHING, NOTHING, Place { from: 0, to: 8 }, Place { from: 314, to: 324 }, Place { from: 332, to: 342 }], NOTHING, 10, 10), // flat_multimap
-    template!(Place { from: 773, to: 786 }, 3, [NOTHING, Place { from: 400, to: 415 }, Place { from: 8, to: 21 }, NOTHING, NOTHING], NOTHING, 10, 10), // basic_syncbuf
-    template!(Place { from: 801, to: 814 }, 2, [NOTHING, Place { from: 400, to: 415 }, NOTHING, NOTHING, NOTHING], NOTHING, 10, 12), // basic_istream
-    template!(Place { from: 829, to: 842 }, 2, [NOTHING, Place { from: 400, to: 415 }, NOTHING, NOTHING, NOTHING], NOTHING, 12, 14), // basic_ostream
-    template!(Place { from: 857, to: 870 }, 2, [NOTHING, Place { from: 400, to: 415 }, NOTHING, NOTHING, NOTHING], NOTHING, 14, 16), // basic_filebuf
-    template!(Place { from: 885, to: 898 }, 2, [NOTHING, Place { from: 400, to: 415 }, NOTHING, NOTHING, NOTHING], NOTHING, 16, 18), // basic_fstream
-    template!(Place { from: 898, to: 911 }, 2, [NOTHING, Place { from: 400, to: 415 }, NOTHING, NOTHING, NOTHING], NOTHING, 18, 18), // basic_spanbuf
+    template!(Place { from: 773, to: 786 }, 3, [NOTHING, Place { from: 409, to: 424 }, Place { from: 8, to: 21 }, NOTHING, NOTHING], NOTHING, 10, 10), // basic_syncbuf
+    template!(Place { from: 786, to: 799 }, 2, [NOTHING, Place { from: 409, to: 424 }, NOTHING, NOTHING, NOTHING], NOTHING, 10, 12), // basic_istream
+    template!(Place { from: 814, to: 827 }, 2, [NOTHING, Place { from: 409, to: 424 }, NOTHING, NOTHING, NOTHING], NOTHING, 12, 14), // basic_ostream
+    template!(Place { from: 842, to: 855 }, 2, [NOTHING, Place { from: 409, to: 424 }, NOTHING, NOTHING, NOTHING], NOTHING, 14, 16), // basic_filebuf
+    template!(Place { from: 870, to: 883 }, 2, [NOTHING, Place { from: 409, to: 424 }, NOTHING, NOTHING, NOTHING], NOTHING, 16, 18), // basic_fstream
+    template!(Place { from: 898, to: 911 }, 2, [NOTHING, Place { from: 409, to: 424 }, NOTHING, NOTHING, NOTHING], NOTHING, 18, 18), // basic_spanbuf
     template!(Place { from: 936, to: 949 }, 2, [NOTHING, Place { from: 911, to: 936 }, NOTHING, NOTHING, NOTHING], NOTHING, 18, 18), // match_results
     template!(Place { from: 949, to: 963 }, 3, [NOTHING, Place { from: 314, to: 324 }, Place { from: 0, to: 8 }, NOTHING, NOTHING], NOTHING, 18, 18), // priority_queue
-    template!(Place { from: 980, to: 994 }, 2, [NOTHING, Place { from: 400, to: 415 }, NOTHING, NOTHING, NOTHING], NOTHING, 18, 20), // basic_iostream
-    template!(Place { from: 1011, to: 1025 }, 2, [NOTHING, Place { from: 400, to: 415 }, NOTHING, NOTHING, NOTHING], NOTHING, 20, 22), // basic_ifstream
-    template!(Place { from: 1042, to: 1056 }, 2, [NOTHING, Place { from: 400, to: 415 }, NOTHING, NOTHING, NOTHING], NOTHING, 22, 24), // basic_ofstream
-    template!(Place { from: 1075, to: 1090 }, 3, [NOTHING, Place { from: 400, to: 415 }, Place { from: 8, to: 21 }, NOTHING, NOTHING], NOTHING, 24, 26), // basic_stringbuf
-    template!(Place { from: 1109, to: 1124 }, 2, [NOTHING, Place { from: 400, to: 415 }, NOTHING, NOTHING, NOTHING], NOTHING, 26, 28), // basic_streambuf
+    template!(Place { from: 963, to: 977 }, 2, [NOTHING, Place { from: 409, to: 424 }, NOTHING, NOTHING, NOTHING], NOTHING, 18, 20), // basic_iostream
+    template!(Place { from: 994, to: 1008 }, 2, [NOTHING, Place { from: 409, to: 424 }, NOTHING, NOTHING, NOTHING], NOTHING, 20, 22), // basic_ifstream
+    template!(Place { from: 1025, to: 1039 }, 2, [NOTHING, Place { from: 409, to: 424 }, NOTHING, NOTHING, NOTHING], NOTHING, 22, 24), // basic_ofstream
+    template!(Place { from: 1056, to: 1071 }, 3, [NOTHING, Place { from: 409, to: 424 }, Place { from: 8, to: 21 }, NOTHING, NOTHING], NOTHING, 24, 26), // basic_stringbuf
+    template!(Place { from: 1090, to: 1105 }, 2, [NOTHING, Place { from: 409, to: 424 }, NOTHING, NOTHING, NOTHING], NOTHING, 26, 28), // basic_streambuf
     template!(Place { from: 1124, to: 1139 }, 2, [NOTHING, Place { from: 238, to: 261 }, NOTHING, NOTHING, NOTHING], NOTHING, 28, 28), // time_get_byname
     template!(Place { from: 1139, to: 1154 }, 2, [NOTHING, Place { from: 268, to: 291 }, NOTHING, NOTHING, NOTHING], NOTHING, 28, 28), // time_put_byname
-    template!(Place { from: 1154, to: 1170 }, 2, [NOTHING, Place { from: 400, to: 415 }, NOTHING, NOTHING, NOTHING], NOTHING, 28, 28), // basic_spanstream
-    template!(Place { from: 1185, to: 1201 }, 4, [NOTHING, Place { from: 382, to: 386 }, Place { from: 1170, to: 1185 }, Place { from: 366, to: 370 }, NOTHING], NOTHING, 28, 28), // istream_iterator
-    template!(Place { from: 1201, to: 1217 }, 3, [NOTHING, Place { from: 382, to: 386 }, Place { from: 1170, to: 1185 }, NOTHING, NOTHING], NOTHING, 28, 28), // ostream_iterator
-    template!(Place { from: 1429, to: 1445 }, 2, [NOTHING, Place { from: 1419, to: 1429 }, NOTHING, NOTHING, NOTHING], NOTHING, 28, 34), // chrono::duration
-    template!(Place { from: 1445, to: 1462 }, 3, [NOTHING, Place { from: 400, to: 415 }, Place { from: 8, to: 21 }, NOTHING, NOTHING], NOTHING, 34, 34), // basic_osyncstream
-    template!(Place { from: 1526, to: 1543 }, 2, [NOTHING, Place { from: 400, to: 415 }, NOTHING, NOTHING, NOTHING], NOTHING, 34, 39), // basic_string_view
-    template!(Place { from: 1543, to: 1560 }, 2, [NOTHING, Place { from: 400, to: 415 }, NOTHING, NOTHING, NOTHING], NOTHING, 39, 39), // basic_ispanstream
-    template!(Place { from: 1560, to: 1577 }, 2, [NOTHING, Place { from: 400, to: 415 }, NOTHING, NOTHING, NOTHING], NOTHING, 39, 39), // basic_ospanstream
+    template!(Place { from: 1154, to: 1170 }, 2, [NOTHING, Place { from: 409, to: 424 }, NOTHING, NOTHING, NOTHING], NOTHING, 28, 28), // basic_spanstream
+    template!(Place { from: 1185, to: 1201 }, 4, [NOTHING, Place { from: 391, to: 395 }, Place { from: 1170, to: 1185 }, Place { from: 366, to: 370 }, NOTHING], NOTHING, 28, 28), // istream_iterator
+    template!(Place { from: 1201, to: 1217 }, 3, [NOTHING, Place { from: 391, to: 395 }, Place { from: 1170, to: 1185 }, NOTHING, NOTHING], NOTHING, 28, 28), // ostream_iterator
+    template!(Place { from: 1217, to: 1233 }, 2, [NOTHING, Place { from: 1435, to: 1445 }, NOTHING, NOTHING, NOTHING], NOTHING, 28, 34), // chrono::duration
+    template!(Place { from: 1445, to: 1462 }, 3, [NOTHING, Place { from: 409, to: 424 }, Place { from: 8, to: 21 }, NOTHING, NOTHING], NOTHING, 34, 34), // basic_osyncstream
+    template!(Place { from: 1462, to: 1479 }, 2, [NOTHING, Place { from: 409, to: 424 }, NOTHING, NOTHING, NOTHING], NOTHING, 34, 39), // basic_string_view
+    template!(Place { from: 1543, to: 1560 }, 2, [NOTHING, Place { from: 409, to: 424 }, NOTHING, NOTHING, NOTHING], NOTHING, 39, 39), // basic_ispanstream
+    template!(Place { from: 1560, to: 1577 }, 2, [NOTHING, Place { from: 409, to: 424 }, NOTHING, NOTHING, NOTHING], NOTHING, 39, 39), // basic_ospanstream
     template!(Place { from: 1577, to: 1594 }, 2, [NOTHING, Place { from: 492, to: 497 }, NOTHING, NOTHING, NOTHING], NOTHING, 39, 39), // moneypunct_byname
     template!(Place { from: 1617, to: 1634 }, 2, [NOTHING, Place { from: 1594, to: 1617 }, NOTHING, NOTHING, NOTHING], NOTHING, 39, 39), // ranges::iota_view
     template!(Place { from: 1634, to: 1652 }, 4, [NOTHING, Place { from: 701, to: 709 }, Place { from: 709, to: 721 }, Place { from: 8, to: 21 }, NOTHING], Place { from: 24, to: 54 }, 39, 39), // unordered_multiset
     template!(Place { from: 1652, to: 1670 }, 5, [NOTHING, NOTHING, Place { from: 701, to: 709 }, Place { from: 709, to: 721 }, Place { from: 54, to: 83 }], Place { from: 86, to: 132 }, 39, 39), // unordered_multimap
-    template!(Place { from: 1695, to: 1713 }, 3, [NOTHING, Place { from: 400, to: 415 }, Place { from: 8, to: 21 }, NOTHING, NOTHING], NOTHING, 39, 41), // basic_stringstream
-    template!(Place { from: 1740, to: 1759 }, 3, [NOTHING, Place { from: 400, to: 415 }, Place { from: 8, to: 21 }, NOTHING, NOTHING], NOTHING, 41, 43), // basic_istringstream
-    template!(Place { from: 1786, to: 1805 }, 3, [NOTHING, Place { from: 400, to: 415 }, Place { from: 8, to: 21 }, NOTHING, NOTHING], NOTHING, 43, 45), // basic_ostringstream
-    template!(Place { from: 1805, to: 1824 }, 2, [NOTHING, Place { from: 400, to: 415 }, NOTHING, NOTHING, NOTHING], NOTHING, 45, 45), // istreambuf_iterator
-    template!(Place { from: 1824, to: 1843 }, 2, [NOTHING, Place { from: 400, to: 415 }, NOTHING, NOTHING, NOTHING], NOTHING, 45, 45), // ostreambuf_iterator
-    template!(Place { from: 2172, to: 2195 }, 0, [NOTHING, NOTHING, NOTHING, NOTHING, NOTHING], NOTHING, 45, 47), // mersenne_twister_engine
+    template!(Place { from: 1670, to: 1688 }, 3, [NOTHING, Place { from: 409, to: 424 }, Place { from: 8, to: 21 }, NOTHING, NOTHING], NOTHING, 39, 41), // basic_stringstream
+    template!(Place { from: 1713, to: 1732 }, 3, [NOTHING, Place { from: 409, to: 424 }, Place { from: 8, to: 21 }, NOTHING, NOTHING], NOTHING, 41, 43), // basic_istringstream
+    template!(Place { from: 1759, to: 1778 }, 3, [NOTHING, Place { from: 409, to: 424 }, Place { from: 8, to: 21 }, NOTHING, NOTHING], NOTHING, 43, 45), // basic_ostringstream
+    template!(Place { from: 1805, to: 1824 }, 2, [NOTHING, Place { from: 409, to: 424 }, NOTHING, NOTHING, NOTHING], NOTHING, 45, 45), // istreambuf_iterator
+    template!(Place { from: 1824, to: 1843 }, 2, [NOTHING, Place { from: 409, to: 424 }, NOTHING, NOTHING, NOTHING], NOTHING, 45, 45), // ostreambuf_iterator
+    template!(Place { from: 1843, to: 1866 }, 0, [NOTHING, NOTHING, NOTHING, NOTHING, NOTHING], NOTHING, 45, 47), // mersenne_twister_engine
     template!(Place { from: 2195, to: 2221 }, 3, [NOTHING, NOTHING, Place { from: 1170, to: 1185 }, NOTHING, NOTHING], NOTHING, 47, 47), // ranges::basic_istream_view
 ];
 
 /// The usual names, by their templates.
 pub static ALIASES: [Alias; 47] = [
-    alias!(Place { from: 382, to: 386 }, Place { from: 386, to: 389 }), // ios
-    alias!(Place { from: 389, to: 396 }, Place { from: 396, to: 400 }), // wios
-    alias!(Place { from: 382, to: 386 }, Place { from: 507, to: 512 }), // regex
-    alias!(Place { from: 389, to: 396 }, Place { from: 512, to: 518 }), // wregex
-    alias!(Place { from: 382, to: 386 }, Place { from: 557, to: 563 }), // string
-    alias!(Place { from: 389, to: 396 }, Place { from: 563, to: 570 }), // wstring
-    alias!(Place { from: 570, to: 577 }, Place { from: 577, to: 585 }), // u8string
-    alias!(Place { from: 585, to: 593 }, Place { from: 593, to: 602 }), // u16string
-    alias!(Place { from: 602, to: 610 }, Place { from: 610, to: 619 }), // u32string
-    alias!(Place { from: 619, to: 678 }, Place { from: 678, to: 689 }), // pmr::string
-    alias!(Place { from: 382, to: 386 }, Place { from: 786, to: 793 }), // istream
-    alias!(Place { from: 389, to: 396 }, Place { from: 793, to: 801 }), // wistream
-    alias!(Place { from: 382, to: 386 }, Place { from: 814, to: 821 }), // ostream
-    alias!(Place { from: 389, to: 396 }, Place { from: 821, to: 829 }), // wostream
-    alias!(Place { from: 382, to: 386 }, Place { from: 842, to: 849 }), // filebuf
-    alias!(Place { from: 389, to: 396 }, Place { from: 849, to: 857 }), // wfilebuf
-    alias!(Place { from: 382, to: 386 }, Place { from: 870, to: 877 }), // fstream
-    alias!(Place { from: 389, to: 396 }, Place { from: 877, to: 885 }), // wfstream
-    alias!(Place { from: 382, to: 386 }, Place { from: 963, to: 971 }), // iostream
-    alias!(Place { from: 389, to: 396 }, Place { from: 971, to: 980 }), // wiostream
-    alias!(Place { from: 382, to: 386 }, Place { from: 994, to: 1002 }), // ifstream
-    alias!(Place { from: 389, to: 396 }, Place { from: 1002, to: 1011 }), // wifstream
-    alias!(Place { from: 382, to: 386 }, Place { from: 1025, to: 1033 }), // ofstream
-    alias!(Place { from: 389, to: 396 }, Place { from: 1033, to: 1042 }), // wofstream
-    alias!(Place { from: 382, to: 386 }, Place { from: 1056, to: 1065 }), // stringbuf
-    alias!(Place { from: 389, to: 396 }, Place { from: 1065, to: 1075 }), // wstringbuf
-    alias!(Place { from: 382, to: 386 }, Place { from: 1090, to: 1099 }), // streambuf
-    alias!(Place { from: 389, to: 396 }, Place { from: 1099, to: 1109 }), // wstreambuf
-    alias!(Place { from: 1217, to: 1243 }, Place { from: 1243, to: 1262 }), // chrono::nanoseconds
-    alias!(Place { from: 1262, to: 1285 }, Place { from: 1285, to: 1305 }), // chrono::microseconds
-    alias!(Place { from: 1305, to: 1325 }, Place { from: 1325, to: 1345 }), // chrono::milliseconds
-    alias!(Place { from: 1345, to: 1346 }, Place { from: 1346, to: 1361 }), // chrono::seconds
-    alias!(Place { from: 1361, to: 1375 }, Place { from: 1375, to: 1390 }), // chrono::minutes
-    alias!(Place { from: 1390, to: 1406 }, Place { from: 1406, to: 1419 }), // chrono::hours
-    alias!(Place { from: 382, to: 386 }, Place { from: 1462, to: 1473 }), // string_view
-    alias!(Place { from: 389, to: 396 }, Place { from: 1473, to: 1485 }), // wstring_view
-    alias!(Place { from: 570, to: 577 }, Place { from: 1485, to: 1498 }), // u8string_view
-    alias!(Place { from: 585, to: 593 }, Place { from: 1498, to: 1512 }), // u16string_view
-    alias!(Place { from: 602, to: 610 }, Place { from: 1512, to: 1526 }), // u32string_view
-    alias!(Place { from: 382, to: 386 }, Place { from: 1670, to: 1682 }), // stringstream
-    alias!(Place { from: 389, to: 396 }, Place { from: 1682, to: 1695 }), // wstringstream
-    alias!(Place { from: 382, to: 386 }, Place { from: 1713, to: 1726 }), // istringstream
-    alias!(Place { from: 389, to: 396 }, Place { from: 1726, to: 1740 }), // wistringstream
-    alias!(Place { from: 382, to: 386 }, Place { from: 1759, to: 1772 }), // ostringstream
-    alias!(Place { from: 389, to: 396 }, Place { from: 1772, to: 1786 }), // wostringstream
-    alias!(Place { from: 1843, to: 1975 }, Place { from: 1975, to: 1982 }), // mt19937
-    alias!(Place { from: 1982, to: 2162 }, Place { from: 2162, to: 2172 }), // mt19937_64
+    alias!(Place { from: 382, to: 391 }, Place { from: 391, to: 395 }, Place { from: 395, to: 398 }), // ios
+    alias!(Place { from: 382, to: 391 }, Place { from: 398, to: 405 }, Place { from: 405, to: 409 }), // wios
+    alias!(Place { from: 507, to: 518 }, Place { from: 391, to: 395 }, Place { from: 518, to: 523 }), // regex
+    alias!(Place { from: 507, to: 518 }, Place { from: 398, to: 405 }, Place { from: 523, to: 529 }), // wregex
+    alias!(Place { from: 557, to: 569 }, Place { from: 391, to: 395 }, Place { from: 569, to: 575 }), // string
+    alias!(Place { from: 557, to: 569 }, Place { from: 398, to: 405 }, Place { from: 575, to: 582 }), // wstring
+    alias!(Place { from: 557, to: 569 }, Place { from: 582, to: 589 }, Place { from: 589, to: 597 }), // u8string
+    alias!(Place { from: 557, to: 569 }, Place { from: 597, to: 605 }, Place { from: 605, to: 614 }), // u16string
+    alias!(Place { from: 557, to: 569 }, Place { from: 614, to: 622 }, Place { from: 622, to: 631 }), // u32string
+    alias!(Place { from: 557, to: 569 }, Place { from: 631, to: 690 }, Place { from: 690, to: 701 }), // pmr::string
+    alias!(Place { from: 786, to: 799 }, Place { from: 391, to: 395 }, Place { from: 799, to: 806 }), // istream
+    alias!(Place { from: 786, to: 799 }, Place { from: 398, to: 405 }, Place { from: 806, to: 814 }), // wistream
+    alias!(Place { from: 814, to: 827 }, Place { from: 391, to: 395 }, Place { from: 827, to: 834 }), // ostream
+    alias!(Place { from: 814, to: 827 }, Place { from: 398, to: 405 }, Place { from: 834, to: 842 }), // wostream
+    alias!(Place { from: 842, to: 855 }, Place { from: 391, to: 395 }, Place { from: 855, to: 862 }), // filebuf
+    alias!(Place { from: 842, to: 855 }, Place { from: 398, to: 405 }, Place { from: 862, to: 870 }), // wfilebuf
+    alias!(Place { from: 870, to: 883 }, Place { from: 391, to: 395 }, Place { from: 883, to: 890 }), // fstream
+    alias!(Place { from: 870, to: 883 }, Place { from: 398, to: 405 }, Place { from: 890, to: 898 }), // wfstream
+    alias!(Place { from: 963, to: 977 }, Place { from: 391, to: 395 }, Place { from: 977, to: 985 }), // iostream
+    alias!(Place { from: 963, to: 977 }, Place { from: 398, to: 405 }, Place { from: 985, to: 994 }), // wiostream
+    alias!(Place { from: 994, to: 1008 }, Place { from: 391, to: 395 }, Place { from: 1008, to: 1016 }), // ifstream
+    alias!(Place { from: 994, to: 1008 }, Place { from: 398, to: 405 }, Place { from: 1016, to: 1025 }), // wifstream
+    alias!(Place { from: 1025, to: 1039 }, Place { from: 391, to: 395 }, Place { from: 1039, to: 1047 }), // ofstream
+    alias!(Place { from: 1025, to: 1039 }, Place { from: 398, to: 405 }, Place { from: 1047, to: 1056 }), // wofstream
+    alias!(Place { from: 1056, to: 1071 }, Place { from: 391, to: 395 }, Place { from: 1071, to: 1080 }), // stringbuf
+    alias!(Place { from: 1056, to: 1071 }, Place { from: 398, to: 405 }, Place { from: 1080, to: 1090 }), // wstringbuf
+    alias!(Place { from: 1090, to: 1105 }, Place { from: 391, to: 395 }, Place { from: 1105, to: 1114 }), // streambuf
+    alias!(Place { from: 1090, to: 1105 }, Place { from: 398, to: 405 }, Place { from: 1114, to: 1124 }), // wstreambuf
+    alias!(Place { from: 1217, to: 1233 }, Place { from: 1233, to: 1259 }, Place { from: 1259, to: 1278 }), // chrono::nanoseconds
+    alias!(Place { from: 1217, to: 1233 }, Place { from: 1278, to: 1301 }, Place { from: 1301, to: 1321 }), // chrono::microseconds
+    alias!(Place { from: 1217, to: 1233 }, Place { from: 1321, to: 1341 }, Place { from: 1341, to: 1361 }), // chrono::milliseconds
+    alias!(Place { from: 1217, to: 1233 }, Place { from: 1361, to: 1362 }, Place { from: 1362, to: 1377 }), // chrono::seconds
+    alias!(Place { from: 1217, to: 1233 }, Place { from: 1377, to: 1391 }, Place { from: 1391, to: 1406 }), // chrono::minutes
+    alias!(Place { from: 1217, to: 1233 }, Place { from: 1406, to: 1422 }, Place { from: 1422, to: 1435 }), // chrono::hours
+    alias!(Place { from: 1462, to: 1479 }, Place { from: 391, to: 395 }, Place { from: 1479, to: 1490 }), // string_view
+    alias!(Place { from: 1462, to: 1479 }, Place { from: 398, to: 405 }, Place { from: 1490, to: 1502 }), // wstring_view
+    alias!(Place { from: 1462, to: 1479 }, Place { from: 582, to: 589 }, Place { from: 1502, to: 1515 }), // u8string_view
+    alias!(Place { from: 1462, to: 1479 }, Place { from: 597, to: 605 }, Place { from: 1515, to: 1529 }), // u16string_view
+    alias!(Place { from: 1462, to: 1479 }, Place { from: 614, to: 622 }, Place { from: 1529, to: 1543 }), // u32string_view
+    alias!(Place { from: 1670, to: 1688 }, Place { from: 391, to: 395 }, Place { from: 1688, to: 1700 }), // stringstream
+    alias!(Place { from: 1670, to: 1688 }, Place { from: 398, to: 405 }, Place { from: 1700, to: 1713 }), // wstringstream
+    alias!(Place { from: 1713, to: 1732 }, Place { from: 391, to: 395 }, Place { from: 1732, to: 1745 }), // istringstream
+    alias!(Place { from: 1713, to: 1732 }, Place { from: 398, to: 405 }, Place { from: 1745, to: 1759 }), // wistringstream
+    alias!(Place { from: 1759, to: 1778 }, Place { from: 391, to: 395 }, Place { from: 1778, to: 1791 }), // ostringstream
+    alias!(Place { from: 1759, to: 1778 }, Place { from: 398, to: 405 }, Place { from: 1791, to: 1805 }), // wostringstream
+    alias!(Place { from: 1843, to: 1866 }, Place { from: 1866, to: 1998 }, Place { from: 1998, to: 2005 }), // mt19937
+    alias!(Place { from: 1843, to: 1866 }, Place { from: 2005, to: 2185 }, Place { from: 2185, to: 2195 }), // mt19937_64
 ];
 
 /// `std::` with each inline namespace that holds all of `std`, and `std::` alone, which is last.
@@ -226,18 +228,18 @@ pub static INLINES: [Place; 11] = [
     Place { from: 2358, to: 2364 }, // __fs::
 ];
 
-/// The namespaces in `std` that have inline ones.
+/// The namespaces in `std` that have inline ones of their own.
 pub static INNERS: [Place; 4] = [
-    Place { from: 2364, to: 2377 }, // std::chrono::
-    Place { from: 2377, to: 2390 }, // std::ranges::
-    Place { from: 2390, to: 2407 }, // std::filesystem::
-    Place { from: 2407, to: 2417 }, // std::pmr::
+    Place { from: 2364, to: 2372 }, // chrono::
+    Place { from: 2372, to: 2380 }, // ranges::
+    Place { from: 2380, to: 2392 }, // filesystem::
+    Place { from: 2392, to: 2397 }, // pmr::
 ];
 
 /// The inline namespaces in these.
 pub static INNER_INLINES: [Place; 4] = [
     Place { from: 2290, to: 2299 }, // __cxx11::
     Place { from: 2353, to: 2358 }, // _V2::
-    Place { from: 2417, to: 2425 }, // __cust::
-    Place { from: 2425, to: 2432 }, // __cpo::
+    Place { from: 2397, to: 2405 }, // __cust::
+    Place { from: 2405, to: 2412 }, // __cpo::
 ];

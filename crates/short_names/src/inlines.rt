@@ -1,0 +1,74 @@
+// Texts without the inline namespaces of `std`.
+use crate::names::row_size;
+use crate::runs::std_run;
+use crate::table::{INLINES, INNER_INLINES, INNERS, Place};
+use std::alloc::AllocError;
+
+/// How long the inline namespaces are with which a name begins.
+fn inlines_size(rows: &[Place], name: &[u8]) -> usize {
+    let mut size = 0;
+    'names: while size < name.len() && name[size] == b'_' {
+        let next = row_size(rows, &name[size..]);
+        if next == 0 {
+            return size;
+        }
+        size += next;
+    }
+    size
+}
+
+/// Where inline namespaces are in a name behind `std::`: at its front, and behind a namespace that has some of its own.
+#[derive(Clone, Copy)]
+struct Inlines {
+    front: usize,
+    inner: usize,
+    nested: usize,
+}
+
+impl Inlines {
+    /// Those of a name.
+    fn of(name: &[u8]) -> Inlines {
+        let front = inlines_size(&INLINES, name);
+        let inner = row_size(&INNERS, &name[front..]);
+        let nested = if inner > 0 {
+            inlines_size(&INNER_INLINES, &name[front + inner..])
+        } else {
+            0
+        };
+        Inlines {
+            front,
+            inner,
+            nested,
+        }
+    }
+
+    /// Whether there are any.
+    fn are_some(self) -> bool {
+        self.front > 0 || self.nested > 0
+    }
+}
+
+/// Whether a name behind `std::` has inline namespaces.
+pub(crate) fn has_inlines(name: &[u8]) -> bool {
+    Inlines::of(name).are_some()
+}
+
+/// Appends a text without them.
+pub(crate) fn append_without(text: &[u8], out: &mut Vec<u8>) -> Result<(), AllocError> {
+    let mut copied = 0;
+    let mut at = 0;
+    'runs: while let Some(run) = std_run(text, at) {
+        let name = run + 5;
+        at = name;
+        let inlines = Inlines::of(&text[name..]);
+        if inlines.are_some() {
+            out.extend_from_slice(&text[copied..name])?;
+            let from = name + inlines.front;
+            let to = from + inlines.inner;
+            out.extend_from_slice(&text[from..to])?;
+            copied = to + inlines.nested;
+            at = copied;
+        }
+    }
+    out.extend_from_slice(&text[copied..])
+}
