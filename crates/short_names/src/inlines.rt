@@ -1,6 +1,6 @@
 // Texts without the inline namespaces of `std`.
 use crate::names::row_size;
-use crate::runs::std_run;
+use crate::runs::{is_letter, std_run};
 use crate::table::{INLINES, INNER_INLINES, INNERS, Place};
 use std::alloc::AllocError;
 
@@ -17,6 +17,18 @@ fn inlines_size(rows: &[Place], name: &[u8]) -> usize {
     size
 }
 
+/// How long the namespace is with which a name begins that has inline ones of its own, if a low line follows.
+fn inner_size(name: &[u8]) -> usize {
+    let mut size = 0;
+    'part: while size < name.len() && is_letter(name[size]) {
+        size += 1;
+    }
+    match &name[size..] {
+        [b':', b':', b'_', ..] => row_size(&INNERS, name),
+        _ => 0,
+    }
+}
+
 /// Where inline namespaces are in a name behind `std::`: at its front, and behind a namespace that has some of its own.
 #[derive(Clone, Copy)]
 struct Inlines {
@@ -29,7 +41,7 @@ impl Inlines {
     /// Those of a name.
     fn of(name: &[u8]) -> Inlines {
         let front = inlines_size(&INLINES, name);
-        let inner = row_size(&INNERS, &name[front..]);
+        let inner = inner_size(&name[front..]);
         let nested = if inner > 0 {
             inlines_size(&INNER_INLINES, &name[front + inner..])
         } else {

@@ -55,7 +55,7 @@ pub(crate) fn row_size(rows: &[Place], text: &[u8]) -> usize
 }
 
 /// The template of a name.
-fn template_of(name: &[u8]) -> Option<Template>
+pub(crate) fn template_of(name: &[u8]) -> Option<Template>
     ensures { result ≡ template_in TEMPLATES name.now }
 {
     if name.len() >= LONGEST {

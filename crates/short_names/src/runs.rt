@@ -1,5 +1,5 @@
 // Runs of bytes of names, and what else a text is parted into.
-ghost use Rattle.std.specs.Prelude.{◌≡◌, ◌≤◌, ◌+◌, length, take, drop, true};
+ghost use Rattle.std.specs.Prelude.{◌≡◌, ◌≤◌, ◌+◌, ◌-◌, length, take, drop, true};
 ghost use Rattle.std.specs.List.{list_all};
 ghost use Rattle.short_names.specs.Runs.{is_letter, is_name_byte, run_of, ends_operator, sign_size, operator_size};
 
@@ -37,15 +37,61 @@ pub(crate) fn is_name_byte(byte: u8) -> bool
     BYTES[byte as usize] & NAMED != 0
 }
 
+/// So many bytes are looked at together.
+const LANES: usize = 16;
+
+/// How many of the bytes from a place on, as far as they are looked at together, are of names.
+#[inline(always)]
+fn run_lanes(text: &[u8], at: usize) -> usize
+    requires { at + 16 ≤ length text.now }
+    ensures { (result ≤ 16) × (list_all is_name_byte (take result (drop at text.now)) ≡ true) }
+{
+    let bytes = u8x16::from_slice(&text[at..]);
+    let letter = (bytes | u8x16::splat(0x20)) - u8x16::splat(b'a');
+    // a colon comes behind the digits
+    let digit = bytes - u8x16::splat(b'0');
+    let stops = letter.simd_ge(u8x16::splat(26))
+        & digit.simd_ge(u8x16::splat(11))
+        & bytes.simd_ne(u8x16::splat(b'_'))
+        & bytes.simd_ne(u8x16::splat(b'.'))
+        & bytes.simd_ne(u8x16::splat(b'$'))
+        & bytes.simd_lt(u8x16::splat(128));
+    let mask = stops.to_bitmask();
+    if mask == 0 {
+        LANES
+    } else {
+        mask.trailing_zeros() as usize
+    }
+}
+
+/// The same, or none where there are fewer bytes.
+#[inline(always)]
+fn before_end(text: &[u8], at: usize) -> usize
+    requires { at ≤ length text.now }
+    ensures { (result ≤ length text.now - at) × (list_all is_name_byte (take result (drop at text.now)) ≡ true) }
+{
+    if text.len() - at < LANES {
+        return 0;
+    }
+    run_lanes(text, at)
+}
+
 /// The longest run of bytes of names with which a text begins.
 pub(crate) fn run_at(text: &[u8]) -> &[u8]
     ensures { result.now ≡ run_of text.now }
 {
     let mut size = 0;
-    'run: while size < text.len() && is_name_byte(text[size]) {
-        size += 1;
+    'run: while size < text.len() {
+        let lanes = before_end(text, size);
+        size += lanes;
+        if lanes < LANES {
+            if size == text.len() || !is_name_byte(text[size]) {
+                return &text[..size];
+            }
+            size += 1;
+        }
     }
-    &text[..size]
+    text
 }
 
 /// Whether a run ends with the word `operator`.
@@ -85,9 +131,6 @@ pub(crate) fn operator_size(run: &[u8], rest: &[u8]) -> usize
     }
 }
 
-/// So many bytes are looked at together.
-const LANES: usize = 16;
-
 /// The lanes of the places from one on where `std::` may begin, as bits: `d:` comes after two bytes.
 #[inline(always)]
 fn std_lanes(text: &[u8], at: usize) -> u64
@@ -103,10 +146,15 @@ fn std_lanes(text: &[u8], at: usize) -> u64
 fn before_std(text: &[u8], at: usize) -> usize
     requires { at ≤ length text.now }
 {
-    if text.len() - at < LANES + 3 {
+    if text.len() < LANES + 3 {
         return 0;
     }
-    let lanes = std_lanes(text, at);
+    // the last lanes are those at the end of the text, also where some of them were looked at before
+    let from = at.min(text.len() - (LANES + 3));
+    if at - from >= LANES {
+        return LANES;
+    }
+    let lanes = std_lanes(text, from) >> (at - from);
     if lanes == 0 {
         LANES
     } else {
@@ -133,7 +181,7 @@ pub(crate) fn std_run(text: &[u8], from: usize) -> Option<usize>
     'places: while at < text.len() {
         let size = before_std(text, at);
         at += size;
-        if size < LANES {
+        if size < LANES && at < text.len() {
             if is_std_run(text, at) {
                 return Some(at);
             }

@@ -1,7 +1,10 @@
 // Short texts.
+ghost use Rattle.std.specs.Prelude.{◌≡◌, ◌≤◌, ◌++◌, length, take, drop, OnOk};
+ghost use Rattle.short_names.specs.Short.{shortened};
+
 use crate::closing::{append_constructor, close};
 use crate::inlines::{append_without, has_inlines};
-use crate::names::{Named, member_in, named_in};
+use crate::names::{Named, member_in, named_in, template_of};
 use crate::runs::{is_name_byte, operator_size, run_at, std_run};
 use std::alloc::{AllocError, Global};
 
@@ -48,7 +51,11 @@ impl Short {
         keeps_inline: bool,
         from: usize,
         out: &mut Vec<u8>,
-    ) -> Result<(), AllocError> {
+    ) -> Result<(), AllocError>
+        requires { from ≤ length out.old.items }
+        ensures short { OnOk result (out.new.items ≡ take from out.old.items ++ shortened keeps_inline (drop from out.old.items)) }
+        ensures front { take from out.new.items ≡ take from out.old.items }
+    {
         let Some(first) = first_change(&out[from..], 0, keeps_inline) else {
             return Ok(());
         };
@@ -226,14 +233,17 @@ fn first_change(text: &[u8], from: usize, keeps_inline: bool) -> Option<usize> {
 
 /// Whether the name of `std` with which a text begins becomes shorter or may do so.
 fn may_change(text: &[u8], keeps_inline: bool) -> bool {
-    if !keeps_inline && has_inlines(&text[5..]) {
+    let run = run_at(text);
+    let has_list = matches!(text.get(run.len()), Some(b'<'));
+    let name = &run[5..];
+    if !name.contains(&b':') {
+        return has_list && template_of(name).is_some();
+    }
+    if !keeps_inline && has_inlines(name) {
         return true;
     }
-    let run = run_at(text);
-    if let Some(b'<') = text.get(run.len()) {
-        if named_in(run).is_some() {
-            return true;
-        }
+    if has_list && named_in(run).is_some() {
+        return true;
     }
     member_in(text, run).is_some()
 }
