@@ -18,12 +18,16 @@ class Texts:
     def place(self, text):
         """Where a text is, as code."""
         if not text:
-            return "NOTHING"
+            return "NO"
         if text not in self.places:
-            self.places[text] = (self.end, self.end + len(text))
+            self.places[text] = (f"T{len(self.texts)}", self.end, self.end + len(text))
             self.texts.append(text)
             self.end += len(text)
-        return "Place {{ from: {}, to: {} }}".format(*self.places[text])
+        return self.places[text][0]
+
+    def constants(self):
+        """The constants of the places, as code."""
+        return "\n\n".join("const {}: Place = place!({}, {});".format(*place) for place in self.places.values()).split("\n")
 
 def templates():
     """Each template with the patterns of its arguments, in the table's order."""
@@ -34,6 +38,14 @@ def templates():
 def escaped(text):
     """A text within a byte string."""
     return "".join(c if c >= " " else f"\\x{ord(c):02x}" for c in text)
+
+def first_bytes(names):
+    """The bytes that names begin with, as a pattern."""
+    return " | ".join(f"b'{byte}'" for byte in sorted({name[0] for name in names}))
+
+def fronts(names):
+    """The first three bytes of names, as a pattern."""
+    return "\n            | ".join("[b'{}', b'{}', b'{}', ..]".format(*name[:3]) for name in sorted(names))
 
 def files(crates):
     """The path and the text of the file."""
@@ -49,16 +61,18 @@ def files(crates):
         first = len(aliases)
         for alias, arguments in of.pop(name, []):
             aliases.append(f"    alias!({texts.place(name)}, {texts.place(pattern(arguments))}, {texts.place(alias)}), // {alias}")
-        places = [texts.place(default) for default in defaults] + ["NOTHING"] * (MOST_ARGUMENTS - len(defaults))
+        places = [texts.place(default) for default in defaults] + ["NO"] * (MOST_ARGUMENTS - len(defaults))
         polymorphic = defaults[-1].replace("\2allocator", "\2pmr::polymorphic_allocator") if name in pmr else ""
         rows.append(f"    template!({texts.place(name)}, {len(defaults)}, [{', '.join(places)}], {texts.place(polymorphic)}, {first}, {len(aliases)}), // {name}")
     assert not of, of
     wholes = [f"std::{name}::" for name in listed["whole"][0]] + ["std::"]
-    inlines = [f"{name}::" for sort in ("whole", "part", "other") for name in listed[sort][0]]
+    inlines = [f"{name}::" for sort in ("part", "whole", "other") for name in listed[sort][0]]
     lists = {"WHOLES": wholes, "PARTS": [f"{name}::" for name in listed["part"][0]], "INLINES": inlines,
              "INNERS": [f"{name}::" for name in listed["inner"][0]], "INNER_INLINES": [f"{name}::" for name in listed["nested"][0]]}
     places = {name: [f"    {texts.place(text)}, // {text}" for text in rows] for name, rows in lists.items()}
-    lines = "".join(texts.texts)
+    marks = [str(ord(name[0]) + 256 * ord(name[-3])) for name, _ in listed_templates]
+    std, lines = texts.place("std::"), "".join(texts.texts)
     firsts = [sum(size < k for size in sizes) for k in range(max(sizes) + 2)]
-    yield "short_names/src/table.rt", template("short_names/table.rt", std=texts.place("std::"), longest=str(len(firsts) - 1), firsts=str(len(firsts)), first=["    " + ", ".join(map(str, firsts)) + ","], texts=escaped(lines), length=str(len(lines)), templates=rows, count=str(len(rows)), aliases=aliases, names=str(len(aliases)),
+    yield "short_names/src/table.rt", template("short_names/table.rt", std=std, marks=["    " + ", ".join(marks[k:k + 13]) + "," for k in range(0, len(marks), 13)], places=texts.constants(), longest=str(len(firsts) - 1), firsts=str(len(firsts)), first=["    " + ", ".join(map(str, firsts[k:k + 25])) + "," for k in range(0, len(firsts), 25)], texts=escaped(lines), length=str(len(lines)), templates=rows, count=str(len(rows)), aliases=aliases, names=str(len(aliases)),
+        inner_bytes=fronts(listed["inner"][0]), usual_bytes=first_bytes(alias for alias, _, _ in listed["alias"]),
         **{name.lower(): rows for name, rows in places.items()}, **{f"{name.lower()}_count": str(len(rows)) for name, rows in places.items()})

@@ -50,7 +50,9 @@ impl Demangler for Escaping {
         out: &mut Vec<u8>,
     ) -> Demangled {
         if !self.escapes {
-            return self.shortening.demangle(&mut lists.lists, kind, symbol, out);
+            return self
+                .shortening
+                .demangle(&mut lists.lists, kind, symbol, out);
         }
         lists.text.clear();
         match self

@@ -1,4 +1,5 @@
 // The demangler whose texts of C++ may be short.
+ghost use Rattle.std.specs.Prelude.{◌≤◌, length};
 ghost use Rattle.demangle_command.specs.Shortening.{short_answer, shortens};
 ghost use Rattle.demangle_command.specs.Styled.{styled_answer};
 ghost use Rattle.sym_languages.specs.Languages.{AreWideCountsOf};
@@ -6,7 +7,7 @@ ghost use Rattle.sym_languages.specs.Languages.{AreWideCountsOf};
 use crate::styled::Styled;
 use demangle_names::Texts;
 use rust_legacy::path_of;
-use short_names::Short;
+use short_names::{Short, has_std};
 use std::alloc::{AllocError, Global};
 use sym_core::Refusal;
 use sym_filter::{Demangled, Demangler, Kind, Lang};
@@ -67,8 +68,11 @@ impl Shortening {
         symbol: &[u8],
         from: usize,
         out: &mut Vec<u8>,
-    ) -> Result<(), AllocError> {
-        if !self.shortens(kind.lang, symbol) {
+    ) -> Result<(), AllocError>
+        requires { from ≤ length out.old.items }
+    {
+        // most texts have no name of `std`, and whether a symbol is read as a path costs more
+        if !has_std(&out[from..]) || !self.shortens(kind.lang, symbol) {
             return Ok(());
         }
         lists.short.shorten(self.keeps_inline(), from, out)

@@ -1,6 +1,7 @@
 -- What a text is parted into: runs of bytes of names, and signs.
-use Rattle.std.specs.Prelude.{ℕ, zero, suc, List, [], ◌∷◌, Bool, true, false, not, ◌==◌, ◌-◌, ◌||◌, ◌&&◌, nat_le, nat_eq, length, take, get_or, codes, Option, None, Some, if◌then◌else◌}
+use Rattle.std.specs.Prelude.{ℕ, zero, suc, List, [], ◌∷◌, Bool, true, false, not, ◌==◌, ◌-◌, ◌||◌, ◌&&◌, nat_le, nat_eq, length, take, drop, get_or, codes, Option, None, Some, if◌then◌else◌}
 use Rattle.std.specs.List.{starts_with, ends_with}
+use Rattle.std.specs.Int.{w64, trailing_zeros}
 
 abbrev pub is_between : ℕ → ℕ → ℕ → Bool
 is_between low high byte = nat_le low byte && nat_le byte high
@@ -34,6 +35,16 @@ sign_size text =
 abbrev pub operator_size : (run rest : List ℕ) → ℕ
 operator_size run rest = if ends_operator run then sign_size rest else 0
 
--- a run begins with `std::` in a text that is behind another
+-- a text begins with `std::`
 abbrev pub begins_std : List ℕ → Bool
 begins_std text = starts_with nat_eq text (codes "std::")
+
+-- a run begins with `std::` at a place of a text
+abbrev pub is_std_at : List ℕ → ℕ → Bool
+is_std_at text at = begins_std (drop at text) && (at == 0 || not (is_name_byte (get_or text (at - 1) 0)))
+
+-- ## What masks of lanes say
+
+-- the place of the lowest bit that is set, or the number of lanes
+abbrev pub first_set : (mask : ℕ) → ℕ
+first_set mask = if mask == 0 then 16 else trailing_zeros w64 mask

@@ -39,9 +39,9 @@ unfoldable pub short_list : Named → (run : List ℕ) → (elements : List (Lis
 short_list named run elements rest = elim (if_read_back rest (alias_in (aliases_of named) named elements (left named elements))) [
   | Some alias ↦ behind (before_name named run ++ text_of alias.name) (constructor alias rest)
   | None ↦ if is_polymorphic named elements then record {
-      bytes = before_name named run ++ codes "pmr::" ++ text_of named.template.name ++ listed (take (left_of named elements (length elements - 1)) elements);
-      size = 0;
-    } else record { bytes = run ++ listed (take (left named elements) elements); size = 0 }
+    bytes = before_name named run ++ codes "pmr::" ++ text_of named.template.name ++ listed (take (left_of named elements (length elements - 1)) elements);
+    size = 0;
+  } else record { bytes = run ++ listed (take (left named elements) elements); size = 0 }
 ]
 
 -- a name and its list

@@ -35,7 +35,7 @@ pub record Stepped : Type 0 where
 
 abbrev pub is_empty : List Opened → Bool
 is_empty [] = true
-is_empty (open ∷ around) = false
+is_empty (top ∷ around) = false
 
 -- a part of a text is written as it is, or as an answer says
 abbrev pub keeps : List ℕ → Written → Option Stepped
@@ -72,11 +72,11 @@ at_name rules run rest written =
 -- `<` opens a list without a name, within another bracket
 abbrev pub at_less : List Opened → Written → Option Stepped
 at_less [] written = keeps (60 ∷ []) written
-at_less (open ∷ around) written = opens_list [] written
+at_less (top ∷ around) written = opens_list [] written
 
 abbrev pub at_group : List Opened → ℕ → Written → Option Stepped
 at_group [] byte written = keeps (byte ∷ []) written
-at_group (open ∷ around) byte written = opens_group byte written
+at_group (top ∷ around) byte written = opens_group byte written
 
 -- `>` closes the innermost bracket, if it is a list's
 abbrev pub closes_list : Rules → Opened → List Opened → (last rest : List ℕ) → Option Stepped
@@ -85,7 +85,7 @@ closes_list rules list around last rest =
 
 abbrev pub at_greater : Rules → List Opened → (rest : List ℕ) → Written → Option Stepped
 at_greater rules [] rest written = keeps (62 ∷ []) written
-at_greater rules (open ∷ around) rest written = if open.is_list then closes_list rules open around written.last rest else None
+at_greater rules (top ∷ around) rest written = if top.is_list then closes_list rules top around written.last rest else None
 
 -- another closing bracket closes it, if it is no list's
 abbrev pub closes_group : Opened → List Opened → ℕ → List ℕ → Option Stepped
@@ -93,7 +93,7 @@ closes_group group around byte last = keeps (byte ∷ []) (record { opened = aro
 
 abbrev pub at_end : List Opened → ℕ → Written → Option Stepped
 at_end [] byte written = keeps (byte ∷ []) written
-at_end (open ∷ around) byte written = if open.is_list then None else closes_group open around byte written.last
+at_end (top ∷ around) byte written = if top.is_list then None else closes_group top around byte written.last
 
 -- `, ` ends an element of a list
 abbrev pub ends_element : Opened → List Opened → List ℕ → Option Stepped
@@ -102,8 +102,8 @@ ends_element list around last =
 
 abbrev pub at_comma : List Opened → (text : List ℕ) → Written → Option Stepped
 at_comma [] text written = keeps (44 ∷ []) written
-at_comma (open ∷ around) text written =
-    if open.is_list && starts_with nat_eq text (codes ", ") then ends_element open around written.last else keeps (44 ∷ []) written
+at_comma (top ∷ around) text written =
+    if top.is_list && starts_with nat_eq text (codes ", ") then ends_element top around written.last else keeps (44 ∷ []) written
 
 -- A byte that isn't of a name, with the text that begins with it. An arrow is no bracket.
 unfoldable pub at_sign : Rules → (byte : ℕ) → (rest : List ℕ) → Written → Option Stepped
@@ -140,7 +140,7 @@ start = record { opened = []; last = [] }
 -- what was written, if each bracket was closed
 abbrev pub closed_text : List ℕ → List Opened → List ℕ → List ℕ
 closed_text text [] last = last
-closed_text text (open ∷ around) last = text
+closed_text text (top ∷ around) last = text
 
 abbrev pub text_or : List ℕ → Option Written → List ℕ
 text_or text None = text

@@ -15,8 +15,9 @@ pub(crate) fn close(
     rest: &[u8],
 ) -> Result<usize, AllocError> {
     let elements = Elements { text, starts };
-    let left = elements.left(named);
-    if let Some(alias) = elements.alias(named, left) {
+    let holes = elements.holes(named);
+    let left = elements.left(named, holes);
+    if let Some(alias) = elements.alias(named, holes, left) {
         // a member that has the usual name isn't the constructor, whose name is the template's
         if ends_name(rest) && !is_constructor(rest, last_part(text_at(alias.name))) {
             text.truncate(bracket - text_at(named.template.name).len());
@@ -24,8 +25,12 @@ pub(crate) fn close(
             return append_constructor(alias, rest, text);
         }
     }
-    let is_polymorphic = elements.is_polymorphic(named);
-    let left = if is_polymorphic { elements.without_defaults(named, starts.len() - 1) } else { left };
+    let is_polymorphic = elements.is_polymorphic(named, holes);
+    let left = if is_polymorphic {
+        elements.without_defaults(named, holes, starts.len() - 1)
+    } else {
+        left
+    };
     let end = elements.end(left);
     text.truncate(end);
     if is_polymorphic {

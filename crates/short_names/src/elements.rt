@@ -29,7 +29,7 @@ impl<'a> Elements<'a> {
     }
 
     /// What fills the holes of a name's patterns.
-    fn holes(self, named: Named) -> Holes<'a> {
+    pub(crate) fn holes(self, named: Named) -> Holes<'a> {
         Holes {
             first: self.at(0),
             second: self.at(1),
@@ -38,18 +38,18 @@ impl<'a> Elements<'a> {
     }
 
     /// Whether an element is what a name has by default.
-    fn is_default(self, named: Named, place: usize) -> bool {
+    fn is_default(self, named: Named, holes: Holes<'a>, place: usize) -> bool {
         if place >= MOST_ARGUMENTS {
             return false;
         }
         let pattern = text_at(named.template.defaults[place]);
-        !pattern.is_empty() && is_filled(self.at(place), pattern, self.holes(named))
+        !pattern.is_empty() && is_filled(self.at(place), pattern, holes)
     }
 
     /// How many of the first elements are left without those at their end that are what a name has by default.
-    pub(crate) fn without_defaults(self, named: Named, count: usize) -> usize {
+    pub(crate) fn without_defaults(self, named: Named, holes: Holes<'a>, count: usize) -> usize {
         let mut left = count;
-        'elements: while left > 0 && self.is_default(named, left - 1) {
+        'elements: while left > 0 && self.is_default(named, holes, left - 1) {
             left -= 1;
         }
         left
@@ -57,28 +57,27 @@ impl<'a> Elements<'a> {
 
     /// How many are left without those at the end that are what a name has by default. None is left out where there are more than the
     /// name has.
-    pub(crate) fn left(self, named: Named) -> usize {
+    pub(crate) fn left(self, named: Named, holes: Holes<'a>) -> usize {
         let all = self.starts.len();
         if all > named.template.count as usize {
             return all;
         }
-        self.without_defaults(named, all)
+        self.without_defaults(named, holes, all)
     }
 
     /// Whether they are all that a name has, and the last is the allocator of `std::pmr`.
-    pub(crate) fn is_polymorphic(self, named: Named) -> bool {
+    pub(crate) fn is_polymorphic(self, named: Named, holes: Holes<'a>) -> bool {
         let all = self.starts.len();
         if all != named.template.count as usize {
             return false;
         }
         let pattern = text_at(named.template.polymorphic);
-        !pattern.is_empty() && is_filled(self.at(all - 1), pattern, self.holes(named))
+        !pattern.is_empty() && is_filled(self.at(all - 1), pattern, holes)
     }
 
     /// The usual name of a template with the first elements, at least one, if there is one.
-    pub(crate) fn alias(self, named: Named, count: usize) -> Option<Alias> {
+    pub(crate) fn alias(self, named: Named, holes: Holes<'a>, count: usize) -> Option<Alias> {
         let text = &self.text[self.starts[0]..self.end(count)];
-        let holes = self.holes(named);
         let mut k = named.template.first_alias as usize;
         'rows: while k < named.template.end_alias as usize && k < ALIASES.len() {
             if is_filled(text, text_at(ALIASES[k].arguments), holes) {

@@ -1,7 +1,7 @@
 // Texts without the inline namespaces of `std`.
 use crate::names::row_size;
-use crate::runs::{is_letter, std_run};
-use crate::table::{INLINES, INNER_INLINES, INNERS, Place};
+use crate::runs::std_run;
+use crate::table::{INLINES, INNER_INLINES, INNERS, Place, may_be_inner};
 use std::alloc::AllocError;
 
 /// How long the inline namespaces are with which a name begins.
@@ -17,15 +17,12 @@ fn inlines_size(rows: &[Place], name: &[u8]) -> usize {
     size
 }
 
-/// How long the namespace is with which a name begins that has inline ones of its own, if a low line follows.
+/// How long the namespace is with which a name begins that has inline ones of its own.
 fn inner_size(name: &[u8]) -> usize {
-    let mut size = 0;
-    'part: while size < name.len() && is_letter(name[size]) {
-        size += 1;
-    }
-    match &name[size..] {
-        [b':', b':', b'_', ..] => row_size(&INNERS, name),
-        _ => 0,
+    if may_be_inner(name) {
+        row_size(&INNERS, name)
+    } else {
+        0
     }
 }
 
@@ -37,9 +34,32 @@ struct Inlines {
     nested: usize,
 }
 
+/// None.
+const NO_INLINES: Inlines = Inlines {
+    front: 0,
+    inner: 0,
+    nested: 0,
+};
+
 impl Inlines {
     /// Those of a name.
+    #[inline(always)]
     fn of(name: &[u8]) -> Inlines {
+        match name {
+            [b'_', ..] => Inlines::read(name),
+            _ => {
+                if may_be_inner(name) {
+                    Inlines::read(name)
+                } else {
+                    NO_INLINES
+                }
+            }
+        }
+    }
+
+    /// Those of a name that may have some.
+    #[inline(never)]
+    fn read(name: &[u8]) -> Inlines {
         let front = inlines_size(&INLINES, name);
         let inner = inner_size(&name[front..]);
         let nested = if inner > 0 {

@@ -10,4 +10,5 @@ mod runs;
 mod short;
 mod table;
 
+pub use runs::has_std;
 pub use short::Short;

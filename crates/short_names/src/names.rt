@@ -1,14 +1,15 @@
 // Names of the table.
-ghost use Rattle.std.specs.Prelude.{◌≡◌, ◌≤◌, length, drop, take, nat_eq, MatchOption, if◌then◌else◌, [], ◌++◌, ◌-◌};
+ghost use Rattle.std.specs.Prelude.{◌≡◌, ◌≤◌, length, drop, take, nat_eq, true, slice_get, ℕ, None, Some, MatchOption, if◌then◌else◌, [], ◌++◌, ◌-◌};
 ghost use Rattle.std.specs.List.{starts_with};
-ghost use Rattle.short_names.specs.Names.{row_in, size_of, template_in, behind_part, std_name, named_in, last_part, front_size, is_constructor, ends_name, member_in};
+ghost use Rattle.short_names.specs.Names.{row_in, size_of, template_in, behind_part, std_name, last_part, front_size, is_constructor, ends_name, member_in};
+ghost use Rattle.short_names.specs.Runs.{begins_std};
 ghost use Rattle.short_names.specs.Texts.{text_of};
 ghost use Rattle.short_names.specs.declared.table.TheConstants.{TEMPLATES, ALIASES, WHOLES, PARTS};
 
 use crate::patterns::text_at;
 use crate::runs::{is_letter, is_name_byte};
 use crate::table::{
-    ALIASES, Alias, FIRST, LONGEST, PARTS, Place, STD, TEMPLATES, Template, WHOLES,
+    ALIASES, FIRST, LONGEST, MARKS, PARTS, Place, STD, TEMPLATES, Template, WHOLES, may_be_usual,
 };
 
 /// A name of the table: its `std::`, with the inline namespace that holds all of `std` if there is one, and its template.
@@ -18,14 +19,27 @@ pub(crate) struct Named {
     pub template: Template,
 }
 
+impl Named {
+    /// The one with a template's row.
+    pub(crate) fn of_row(whole: Place, row: usize) -> Named
+        requires { row < length TEMPLATES }
+    {
+        let template = TEMPLATES[row];
+        Named { whole, template }
+    }
+}
+
 /// Whether a text begins with one of the table.
 #[inline(always)]
 fn begins_with(text: &[u8], row: &[u8]) -> bool
     ensures { result ≡ starts_with nat_eq text.now row.now }
 {
-    match (text, row) {
-        // most rows differ in the first byte
-        ([byte, ..], [first, ..]) => *byte == *first && text.starts_with(row),
+    // most rows differ in the third byte from the end, which is the one before a last `::`
+    match row {
+        [.., byte, _, _] => match text.get(row.len() - 3) {
+            Some(same) => *byte == *same && text.starts_with(row),
+            None => false,
+        },
         _ => text.starts_with(row),
     }
 }
@@ -54,39 +68,41 @@ pub(crate) fn row_size(rows: &[Place], text: &[u8]) -> usize
     }
 }
 
-/// The template of a name.
-pub(crate) fn template_of(name: &[u8]) -> Option<Template>
-    ensures { result ≡ template_in TEMPLATES name.now }
+/// What the rows of templates are looked through by: the first byte of a name, and the third from its end.
+#[inline(always)]
+fn mark_of(name: &[u8]) -> u16 {
+    match name {
+        [first, .., _, _] => match name {
+            [.., third, _, _] => *first as u16 + *third as u16 * 256,
+            _ => 0,
+        },
+        _ => 0,
+    }
+}
+
+/// The row of the template of a name.
+fn row_of(name: &[u8]) -> Option<usize>
+    ensures { MatchOption result (template_in TEMPLATES name.now ≡ None) (λ row. template_in TEMPLATES name.now ≡ slice_get TEMPLATES row) }
 {
     if name.len() >= LONGEST {
         return None;
     }
-    let mut k = FIRST[name.len()] as usize;
+    let mut row = FIRST[name.len()] as usize;
     let end = FIRST[name.len() + 1] as usize;
-    'rows: while k < end && k < TEMPLATES.len() {
-        let row = text_at(TEMPLATES[k].name);
-        if row.len() == name.len() && begins_with(name, row) {
-            return Some(TEMPLATES[k]);
+    let mark = mark_of(name);
+    'rows: while row < end && row < TEMPLATES.len() {
+        if MARKS[row] == mark {
+            let template = TEMPLATES[row];
+            if name == text_at(template.name) {
+                return Some(row);
+            }
         }
-        k += 1;
+        row += 1;
     }
     None
 }
 
-/// The `std::` of a run, with the inline namespace that holds all of `std`, if there is one.
-fn whole_of(run: &[u8]) -> Option<Place>
-    ensures { result ≡ row_in WHOLES run.now }
-{
-    if let Some(b'_') = run.get(5) {
-        return row_in(&WHOLES, run);
-    }
-    match run {
-        [b's', b't', b'd', b':', b':', ..] => Some(STD),
-        _ => None,
-    }
-}
-
-/// What is left of a name behind an inline namespace that holds a part of `std`.
+/// What is left of a name after an inline namespace that holds a part of `std`.
 fn behind_part(name: &[u8]) -> &[u8]
     ensures { result.now ≡ behind_part name.now }
 {
@@ -96,20 +112,46 @@ fn behind_part(name: &[u8]) -> &[u8]
     name
 }
 
-/// What is left of a run behind its `std::` and inline namespaces.
+/// What is left of a run after its `std::` and inline namespaces.
 fn behind_std(run: &[u8], whole: Place) -> &[u8]
     ensures { result.now ≡ behind_part (drop (length (text_of whole)) run.now) }
 {
     behind_part(run.get(text_at(whole).len()..).unwrap_or_default())
 }
 
-/// The name of the table that a run is.
-pub(crate) fn named_in(run: &[u8]) -> Option<Named>
-    ensures { result ≡ named_in run.now }
+/// A name of `std`: its `std::`, with the inline namespace that holds all of `std` if there is one, and what comes after it, without the
+/// inline namespace that holds a part of `std`.
+#[derive(Clone, Copy)]
+struct StdName<'a> {
+    whole: Place,
+    name: &'a [u8],
+}
+
+/// The one that a run is in which an inline namespace may come after `std::`.
+#[inline(never)]
+fn inline_name(run: &[u8]) -> Option<StdName<'_>>
+    ensures { MatchOption result (std_name run.now ≡ None) (λ it. std_name run.now ≡ Some (record { whole = it.whole; name = it.name.now })) }
 {
-    let whole = whole_of(run)?;
-    let template = template_of(behind_std(run, whole))?;
-    Some(Named { whole, template })
+    let whole = row_in(&WHOLES, run)?;
+    Some(StdName {
+        whole,
+        name: behind_std(run, whole),
+    })
+}
+
+/// The one that a run is that begins with `std::`.
+#[inline(always)]
+fn std_name(run: &[u8]) -> Option<StdName<'_>>
+    requires { begins_std run.now ≡ true }
+    ensures { MatchOption result (std_name run.now ≡ None) (λ it. std_name run.now ≡ Some (record { whole = it.whole; name = it.name.now })) }
+{
+    if let Some(b'_') = run.get(5) {
+        return inline_name(run);
+    }
+    Some(StdName {
+        whole: STD,
+        name: &run[5..],
+    })
 }
 
 /// The last part of a name.
@@ -155,35 +197,53 @@ pub(crate) fn ends_name(rest: &[u8]) -> bool
     }
 }
 
-/// A usual name with which a text begins, and how long the text before the name's end is: one that a constructor or destructor of the
-/// template follows by the template's name.
+/// What becomes shorter at a name of `std`, or may do so.
 #[derive(Clone, Copy)]
-pub(crate) struct Member {
-    pub alias: Alias,
-    pub size: usize,
+pub(crate) enum Change {
+    /// Nothing does.
+    Nothing,
+    /// The list does that follows a name of the table, by its `std::` and the row of its template.
+    List { whole: Place, row: usize },
+    /// A constructor or destructor does that follows a usual name, by the row of that, and how many bytes come before its end.
+    Member { row: usize, size: usize },
 }
 
-/// The one with which a run begins, in a text that begins with that run.
-pub(crate) fn member_in(text: &[u8], run: &[u8]) -> Option<Member> {
-    let whole = whole_of(run)?;
-    let name = behind_std(run, whole);
-    if !name.contains(&b':') {
-        return None;
+/// What does so where a name of `std` with which a run ends is a usual name that a constructor or destructor follows, in a text that
+/// begins with the run.
+fn member_in(text: &[u8], from: usize, name: &[u8]) -> Change {
+    match name {
+        [byte, ..] if !may_be_usual(*byte) => return Change::Nothing,
+        _ => {}
     }
-    let from = run.len() - name.len();
-    let mut k = 0;
-    'rows: while k < ALIASES.len() {
-        let alias = text_at(ALIASES[k].name);
+    if !name.contains(&b':') {
+        return Change::Nothing;
+    }
+    let mut row = 0;
+    'rows: while row < ALIASES.len() {
+        let alias = text_at(ALIASES[row].name);
         if begins_with(name, alias) {
             let size = from + alias.len();
-            if is_constructor(&text[size..], last_part(text_at(ALIASES[k].template))) {
-                return Some(Member {
-                    alias: ALIASES[k],
-                    size,
-                });
+            if is_constructor(&text[size..], last_part(text_at(ALIASES[row].template))) {
+                return Change::Member { row, size };
             }
         }
-        k += 1;
+        row += 1;
     }
-    None
+    Change::Nothing
+}
+
+/// What does so at a run that begins with `std::`, in a text that begins with that run.
+pub(crate) fn change_at(text: &[u8], run: &[u8]) -> Change
+    requires { (begins_std run.now ≡ true) × (length run.now ≤ length text.now) }
+{
+    let Some(std) = std_name(run) else {
+        return Change::Nothing;
+    };
+    if let Some(b'<') = text.get(run.len()) {
+        if let Some(row) = row_of(std.name) {
+            let whole = std.whole;
+            return Change::List { whole, row };
+        }
+    }
+    member_in(text, run.len() - std.name.len(), std.name)
 }

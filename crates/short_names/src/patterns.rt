@@ -70,13 +70,7 @@ fn behind<'a>(text: &'a [u8], holes: Holes<'_>, byte: u8) -> Option<&'a [u8]>
     }
     match text {
         [] => None,
-        [first, rest @ ..] => {
-            if *first == byte {
-                Some(rest)
-            } else {
-                None
-            }
-        }
+        [first, rest @ ..] => { if *first == byte { Some(rest) } else { None } }
     }
 }
 

@@ -1,62 +1,46 @@
 // Runs of bytes of names, and what else a text is parted into.
-ghost use Rattle.std.specs.Prelude.{◌≡◌, ◌≤◌, ◌+◌, ◌-◌, length, take, drop, true};
+ghost use Rattle.std.specs.Prelude.{◌≡◌, ◌≤◌, ◌<◌, ◌^◌, ◌+◌, ◌-◌, ℕ, length, take, drop, get_or, true, false, MatchOption};
 ghost use Rattle.std.specs.List.{list_all};
-ghost use Rattle.short_names.specs.Runs.{is_letter, is_name_byte, run_of, ends_operator, sign_size, operator_size};
+ghost use Rattle.std.specs.Int.{bit_at};
+ghost use Rattle.short_names.specs.Runs.{first_set, is_letter, is_name_byte, run_of, ends_operator, sign_size, operator_size, begins_std, is_std_at};
 
 use std::simd::prelude::*;
 
-/// A flag of `BYTES`: the byte may be in a name.
-const NAMED: u8 = 1;
-
-/// Another: it may be in a name without `::`.
-const LETTER: u8 = 2;
-
-/// What each byte is.
-static BYTES: [u8; 256] = [
-    0, 0, 0, 0, 0, 0, 0, 0, 0, 0, 0, 0, 0, 0, 0, 0, 0, 0, 0, 0, 0, 0, 0, 0, 0, 0, 0, 0, 0, 0, 0, 0,
-    0, 0, 0, 0, 3, 0, 0, 0, 0, 0, 0, 0, 0, 0, 3, 0, 3, 3, 3, 3, 3, 3, 3, 3, 3, 3, 1, 0, 0, 0, 0, 0,
-    0, 3, 3, 3, 3, 3, 3, 3, 3, 3, 3, 3, 3, 3, 3, 3, 3, 3, 3, 3, 3, 3, 3, 3, 3, 3, 3, 0, 0, 0, 0, 3,
-    0, 3, 3, 3, 3, 3, 3, 3, 3, 3, 3, 3, 3, 3, 3, 3, 3, 3, 3, 3, 3, 3, 3, 3, 3, 3, 3, 0, 0, 0, 0, 0,
-    3, 3, 3, 3, 3, 3, 3, 3, 3, 3, 3, 3, 3, 3, 3, 3, 3, 3, 3, 3, 3, 3, 3, 3, 3, 3, 3, 3, 3, 3, 3, 3,
-    3, 3, 3, 3, 3, 3, 3, 3, 3, 3, 3, 3, 3, 3, 3, 3, 3, 3, 3, 3, 3, 3, 3, 3, 3, 3, 3, 3, 3, 3, 3, 3,
-    3, 3, 3, 3, 3, 3, 3, 3, 3, 3, 3, 3, 3, 3, 3, 3, 3, 3, 3, 3, 3, 3, 3, 3, 3, 3, 3, 3, 3, 3, 3, 3,
-    3, 3, 3, 3, 3, 3, 3, 3, 3, 3, 3, 3, 3, 3, 3, 3, 3, 3, 3, 3, 3, 3, 3, 3, 3, 3, 3, 3, 3, 3, 3, 3,
-];
+// For each byte `1` if it may be in a name without `::`, else `0`.
+static LETTERS: [u8; 256] = *b"\
+    00000000000000000000000000000000\
+    00001000000000101111111111000000\
+    01111111111111111111111111100001\
+    01111111111111111111111111100000\
+    11111111111111111111111111111111\
+    11111111111111111111111111111111\
+    11111111111111111111111111111111\
+    11111111111111111111111111111111";
 
 /// Whether a byte may be in a name without `::`.
+#[inline(always)]
 pub(crate) fn is_letter(byte: u8) -> bool
     ensures { result ≡ is_letter byte }
 {
-    BYTES[byte as usize] & LETTER != 0
+    LETTERS[byte as usize] == b'1'
 }
 
 /// Whether a byte may be in a name.
+#[inline(always)]
 pub(crate) fn is_name_byte(byte: u8) -> bool
     ensures { result ≡ is_name_byte byte }
 {
-    BYTES[byte as usize] & NAMED != 0
+    byte == b':' || is_letter(byte)
 }
 
-/// So many bytes are looked at together.
+/// How many bytes are looked at together.
 const LANES: usize = 16;
 
-/// How many of the bytes from a place on, as far as they are looked at together, are of names.
+/// The place of the lowest bit that is set, or the number of lanes where none is.
 #[inline(always)]
-fn run_lanes(text: &[u8], at: usize) -> usize
-    requires { at + 16 ≤ length text.now }
-    ensures { (result ≤ 16) × (list_all is_name_byte (take result (drop at text.now)) ≡ true) }
+fn first_set(mask: u64) -> usize
+    ensures { result ≡ first_set mask }
 {
-    let bytes = u8x16::from_slice(&text[at..]);
-    let letter = (bytes | u8x16::splat(0x20)) - u8x16::splat(b'a');
-    // a colon comes behind the digits
-    let digit = bytes - u8x16::splat(b'0');
-    let stops = letter.simd_ge(u8x16::splat(26))
-        & digit.simd_ge(u8x16::splat(11))
-        & bytes.simd_ne(u8x16::splat(b'_'))
-        & bytes.simd_ne(u8x16::splat(b'.'))
-        & bytes.simd_ne(u8x16::splat(b'$'))
-        & bytes.simd_lt(u8x16::splat(128));
-    let mask = stops.to_bitmask();
     if mask == 0 {
         LANES
     } else {
@@ -64,44 +48,74 @@ fn run_lanes(text: &[u8], at: usize) -> usize
     }
 }
 
-/// The same, or none where there are fewer bytes.
+/// How many of the bytes from a place on, as far as they are looked at together, are of names.
 #[inline(always)]
-fn before_end(text: &[u8], at: usize) -> usize
-    requires { at ≤ length text.now }
-    ensures { (result ≤ length text.now - at) × (list_all is_name_byte (take result (drop at text.now)) ≡ true) }
+fn name_lanes(text: &[u8], at: usize) -> usize
+    requires { at + 16 ≤ length text.now }
+    ensures { (result ≤ 16) × (list_all is_name_byte (take result (drop at text.now)) ≡ true) }
 {
-    if text.len() - at < LANES {
-        return 0;
+    let bytes = u8x16::from_slice(&text[at..]);
+    let letter = (bytes | u8x16::splat(0x20)) - u8x16::splat(b'a');
+    // a colon comes after the digits
+    let digit = bytes - u8x16::splat(b'0');
+    let stops = letter.simd_ge(u8x16::splat(26))
+        & digit.simd_ge(u8x16::splat(11))
+        & bytes.simd_ne(u8x16::splat(b'_'))
+        & bytes.simd_ne(u8x16::splat(b'.'))
+        & bytes.simd_ne(u8x16::splat(b'$'))
+        & bytes.simd_lt(u8x16::splat(128));
+    first_set(stops.to_bitmask())
+}
+
+/// How many bytes at the front of a text are of names, as far as they are looked at together.
+#[inline(always)]
+fn lanes_run(text: &[u8]) -> usize
+    ensures within { result ≤ length text.now }
+    ensures in_run { list_all is_name_byte (take result text.now) ≡ true }
+{
+    let mut size = 0;
+    'lanes: while text.len() - size >= LANES {
+        let front = name_lanes(text, size);
+        size += front;
+        if front < LANES {
+            return size;
+        }
     }
-    run_lanes(text, at)
+    size
+}
+
+/// How many bytes at the front of a text are of names.
+#[inline(always)]
+fn run_size(text: &[u8]) -> usize
+    ensures within { result ≤ length text.now }
+    ensures in_run { list_all is_name_byte (take result text.now) ≡ true }
+    ensures stops { result < length text.now → is_name_byte (get_or text.now result 0) ≡ false }
+{
+    let mut size = lanes_run(text);
+    'bytes: while size < text.len() {
+        if !is_name_byte(text[size]) {
+            return size;
+        }
+        size += 1;
+    }
+    size
 }
 
 /// The longest run of bytes of names with which a text begins.
 pub(crate) fn run_at(text: &[u8]) -> &[u8]
     ensures { result.now ≡ run_of text.now }
 {
-    let mut size = 0;
-    'run: while size < text.len() {
-        let lanes = before_end(text, size);
-        size += lanes;
-        if lanes < LANES {
-            if size == text.len() || !is_name_byte(text[size]) {
-                return &text[..size];
-            }
-            size += 1;
-        }
-    }
-    text
+    &text[..run_size(text)]
 }
 
 /// Whether a run ends with the word `operator`.
 fn ends_operator(run: &[u8]) -> bool
     ensures { result ≡ ends_operator run.now }
 {
-    match run.strip_suffix(b"operator") {
-        None => false,
-        Some([.., last]) => !is_letter(*last),
-        Some(_) => true,
+    match run {
+        [.., last, b'o', b'p', b'e', b'r', b'a', b't', b'o', b'r'] => !is_letter(*last),
+        [b'o', b'p', b'e', b'r', b'a', b't', b'o', b'r'] => true,
+        _ => false,
     }
 }
 
@@ -131,41 +145,89 @@ pub(crate) fn operator_size(run: &[u8], rest: &[u8]) -> usize
     }
 }
 
-/// The lanes of the places from one on where `std::` may begin, as bits: `d:` comes after two bytes.
+/// How many places are looked at together for `std::`.
+const BLOCK: usize = 64;
+
+/// The last byte that is looked at for a place comes after this many.
+const REACH: usize = 3;
+
+/// The places from one on where `std::` may begin, as bits: `d:` comes after two bytes.
 #[inline(always)]
-fn std_lanes(text: &[u8], at: usize) -> u64
+fn block_bits(text: &[u8], at: usize) -> u64
+    requires { at + 67 ≤ length text.now }
+    ensures { (k : ℕ) → k < 64 → bit_at result k ≡ 0 → begins_std (drop (at + k) text.now) ≡ false }
+{
+    let (third, fourth) = (u8x16::splat(b'd'), u8x16::splat(b':'));
+    let first_lanes = u8x16::from_slice(&text[at + 2..]).simd_eq(third)
+        & u8x16::from_slice(&text[at + 3..]).simd_eq(fourth);
+    let second_lanes = u8x16::from_slice(&text[at + 18..]).simd_eq(third)
+        & u8x16::from_slice(&text[at + 19..]).simd_eq(fourth);
+    let third_lanes = u8x16::from_slice(&text[at + 34..]).simd_eq(third)
+        & u8x16::from_slice(&text[at + 35..]).simd_eq(fourth);
+    let last_lanes = u8x16::from_slice(&text[at + 50..]).simd_eq(third)
+        & u8x16::from_slice(&text[at + 51..]).simd_eq(fourth);
+    // most often there is none, and one test finds that
+    if (first_lanes | second_lanes | third_lanes | last_lanes).to_bitmask() == 0 {
+        return 0;
+    }
+    first_lanes.to_bitmask()
+        | second_lanes.to_bitmask() << 16
+        | third_lanes.to_bitmask() << 32
+        | last_lanes.to_bitmask() << 48
+}
+
+/// The same of fewer places.
+#[inline(always)]
+fn lane_bits(text: &[u8], at: usize) -> u64
     requires { at + 19 ≤ length text.now }
+    ensures bits { (k : ℕ) → k < 16 → bit_at result k ≡ 0 → begins_std (drop (at + k) text.now) ≡ false }
+    ensures few { result < 2 ^ 16 }
 {
     let third = u8x16::from_slice(&text[at + 2..]).simd_eq(u8x16::splat(b'd'));
     let fourth = u8x16::from_slice(&text[at + 3..]).simd_eq(u8x16::splat(b':'));
     (third & fourth).to_bitmask()
 }
 
-/// How many places from one on can be passed over, since `std::` begins at none of them.
+/// The first place from one on, of some that were looked at together, where `std::` may begin; the place after them where it begins at
+/// none.
 #[inline(always)]
-fn before_std(text: &[u8], at: usize) -> usize
-    requires { at ≤ length text.now }
+fn first_place(bits: u64, from: usize, at: usize, count: usize) -> usize
+    requires { (from ≤ at) × (at < from + count) × (count ≤ 64) × (from + count < 2 ^ 63) × (bits < 2 ^ count) }
+    ensures within { (at ≤ result) × (result ≤ from + count) }
+    ensures none { (k : ℕ) → at ≤ k → k < result → bit_at bits (k - from) ≡ 0 }
 {
-    if text.len() < LANES + 3 {
-        return 0;
-    }
-    // the last lanes are those at the end of the text, also where some of them were looked at before
-    let from = at.min(text.len() - (LANES + 3));
-    if at - from >= LANES {
-        return LANES;
-    }
-    let lanes = std_lanes(text, from) >> (at - from);
-    if lanes == 0 {
-        LANES
+    let left = bits >> (at - from);
+    if left == 0 {
+        from + count
     } else {
-        lanes.trailing_zeros() as usize
+        at + left.trailing_zeros() as usize
     }
+}
+
+/// A place, from one on, before which `std::` begins at none.
+#[inline(always)]
+fn next_place(text: &[u8], at: usize) -> usize
+    requires { at + 5 ≤ length text.now }
+    ensures within { (at ≤ result) × (result < length text.now) }
+    ensures none { (k : ℕ) → at ≤ k → k < result → begins_std (drop k text.now) ≡ false }
+{
+    // the last places are those at the end of the text, also where some of them were looked at before
+    if text.len() >= BLOCK + REACH {
+        let from = at.min(text.len() - (BLOCK + REACH));
+        return first_place(block_bits(text, from), from, at, BLOCK);
+    }
+    if text.len() >= LANES + REACH {
+        let from = at.min(text.len() - (LANES + REACH));
+        return first_place(lane_bits(text, from), from, at, LANES);
+    }
+    at
 }
 
 /// Whether a run begins with `std::` at a place of a text.
 #[inline(always)]
 fn is_std_run(text: &[u8], at: usize) -> bool
     requires { at ≤ length text.now }
+    ensures { result ≡ is_std_at text.now at }
 {
     match &text[at..] {
         [b's', b't', b'd', b':', b':', ..] => at == 0 || !is_name_byte(text[at - 1]),
@@ -176,17 +238,23 @@ fn is_std_run(text: &[u8], at: usize) -> bool
 /// Where the first run begins with `std::`, from a place of a text on; none where no run does.
 pub(crate) fn std_run(text: &[u8], from: usize) -> Option<usize>
     requires { from ≤ length text.now }
+    ensures { MatchOption result ((k : ℕ) → from ≤ k → is_std_at text.now k ≡ false)
+        (λ at. (from ≤ at) × (is_std_at text.now at ≡ true) × ((k : ℕ) → from ≤ k → k < at → is_std_at text.now k ≡ false)) }
 {
     let mut at = from;
-    'places: while at < text.len() {
-        let size = before_std(text, at);
-        at += size;
-        if size < LANES && at < text.len() {
-            if is_std_run(text, at) {
-                return Some(at);
-            }
-            at += 1;
+    'places: while text.len() - at >= 5 {
+        at = next_place(text, at);
+        if is_std_run(text, at) {
+            return Some(at);
         }
+        at += 1;
     }
     None
+}
+
+/// Whether a text has a run that begins with `std::`. One without such a run is as short as it can be.
+pub fn has_std(text: &[u8]) -> bool
+    ensures no { result ≡ false → (k : ℕ) → is_std_at text.now k ≡ false }
+{
+    std_run(text, 0).is_some()
 }

@@ -4,8 +4,9 @@ ghost use Rattle.short_names.specs.Short.{shortened};
 
 use crate::closing::{append_constructor, close};
 use crate::inlines::{append_without, has_inlines};
-use crate::names::{Named, member_in, named_in, template_of};
+use crate::names::{Change, Named, change_at};
 use crate::runs::{is_name_byte, operator_size, run_at, std_run};
+use crate::table::{ALIASES, Place};
 use std::alloc::{AllocError, Global};
 
 /// A bracket that is open: whether it is that of an argument list, the name of the table before that, where it is in the text that is
@@ -13,9 +14,16 @@ use std::alloc::{AllocError, Global};
 #[derive(Clone, Copy)]
 struct Open {
     is_list: bool,
-    named: Option<Named>,
+    named: Option<Listed>,
     bracket: usize,
     first: usize,
+}
+
+/// A name of the table before a list: its `std::`, and the row of its template.
+#[derive(Clone, Copy)]
+struct Listed {
+    whole: Place,
+    row: usize,
 }
 
 /// What makes texts short, with the lists that it works on.
@@ -56,10 +64,10 @@ impl Short {
         ensures short { OnOk result (out.new.items ≡ take from out.old.items ++ shortened keeps_inline (drop from out.old.items)) }
         ensures front { take from out.new.items ≡ take from out.old.items }
     {
-        let Some(first) = first_change(&out[from..], 0, keeps_inline) else {
+        let Some(found) = first_change(&out[from..], 0, keeps_inline) else {
             return Ok(());
         };
-        let first = from + first;
+        let first = from + found.at;
         self.take(&out[first..], keeps_inline)?;
         out.truncate(first);
         if self.write(out)? {
@@ -103,11 +111,8 @@ impl Short {
     /// Goes over the next piece of the text; answers whether brackets pair so far.
     fn step(&mut self, out: &mut Vec<u8>) -> Result<bool, AllocError> {
         if self.open.is_empty() {
-            let Some(next) = first_change(&self.text, self.at, true) else {
-                self.at = self.text.len();
-                return Ok(true);
-            };
-            self.at = next;
+            self.step_outside(out)?;
+            return Ok(true);
         }
         let byte = self.text[self.at];
         if is_name_byte(byte) {
@@ -126,37 +131,63 @@ impl Short {
         Ok(true)
     }
 
+    /// Goes over the next name that becomes shorter or may do so, outside of brackets, or to the end of the text.
+    fn step_outside(&mut self, out: &mut Vec<u8>) -> Result<(), AllocError> {
+        let Some(found) = first_change(&self.text, self.at, true) else {
+            self.at = self.text.len();
+            return Ok(());
+        };
+        self.at = found.at;
+        self.change(found.size, found.change, out)
+    }
+
     /// Goes over a run of bytes of names, and what belongs to it.
     fn step_run(&mut self, out: &mut Vec<u8>) -> Result<(), AllocError> {
         let text = &self.text[self.at..];
         let run = run_at(text);
-        let rest = &text[run.len()..];
+        let size = run.len();
         if let [b's', b't', b'd', b':', b':', ..] = run {
-            if let [b'<', ..] = rest {
-                if let Some(named) = named_in(run) {
-                    self.at += run.len();
-                    return self.open_list(Some(named), out);
-                }
-            }
-            if let Some(member) = member_in(text, run) {
-                self.at += member.size;
-                self.copy(out)?;
-                self.at += append_constructor(member.alias, &self.text[self.at..], out)?;
-                self.copied = self.at;
-                return Ok(());
-            }
+            let change = change_at(text, run);
+            return self.change(size, change, out);
         }
-        self.at += run.len() + operator_size(run, rest);
+        self.at += size + operator_size(run, &text[size..]);
         Ok(())
     }
 
+    /// Goes over a run of a size that begins with `std::`, with what becomes shorter there.
+    fn change(&mut self, size: usize, change: Change, out: &mut Vec<u8>) -> Result<(), AllocError> {
+        match change {
+            Change::Nothing => {
+                let (run, rest) = self.text[self.at..].split_at(size);
+                self.at += size + operator_size(run, rest);
+                Ok(())
+            }
+            Change::List { whole, row } => {
+                self.at += size;
+                self.open_list(Some(Listed { whole, row }), out)
+            }
+            Change::Member { row, size } => {
+                self.at += size;
+                self.copy(out)?;
+                self.at += append_constructor(ALIASES[row], &self.text[self.at..], out)?;
+                self.copied = self.at;
+                Ok(())
+            }
+        }
+    }
+
     /// Opens an argument list, after the name of the table that is before it, if one is.
-    fn open_list(&mut self, named: Option<Named>, out: &Vec<u8>) -> Result<(), AllocError> {
+    fn open_list(&mut self, named: Option<Listed>, out: &Vec<u8>) -> Result<(), AllocError> {
         self.open(true, named, out)
     }
 
     /// Opens a bracket.
-    fn open(&mut self, is_list: bool, named: Option<Named>, out: &Vec<u8>) -> Result<(), AllocError> {
+    fn open(
+        &mut self,
+        is_list: bool,
+        named: Option<Listed>,
+        out: &Vec<u8>,
+    ) -> Result<(), AllocError> {
         let bracket = out.len() + (self.at - self.copied);
         self.open.push(Open {
             is_list,
@@ -174,7 +205,8 @@ impl Short {
         let Some(list) = self.open.pop() else {
             return Ok(false);
         };
-        if let Some(named) = list.named {
+        if let Some(listed) = list.named {
+            let named = Named::of_row(listed.whole, listed.row);
             self.copy(out)?;
             let rest = &self.text[self.at + 1..];
             self.at += 1 + close(out, named, list.bracket, &self.starts[list.first..], rest)?;
@@ -219,31 +251,39 @@ impl Short {
     }
 }
 
-/// Where the first name is that becomes shorter or may do so, from a place of a text on; none where no name is.
-fn first_change(text: &[u8], from: usize, keeps_inline: bool) -> Option<usize> {
+/// A name that becomes shorter or may do so: where it is in a text, the size of its run, and what does so; nothing where that are
+/// only its inline namespaces.
+#[derive(Clone, Copy)]
+struct Found {
+    at: usize,
+    size: usize,
+    change: Change,
+}
+
+/// The first name that becomes shorter or may do so, from a place of a text on; none where no name is.
+fn first_change(text: &[u8], from: usize, keeps_inline: bool) -> Option<Found> {
     let mut at = from;
     'names: while let Some(name) = std_run(text, at) {
-        if may_change(&text[name..], keeps_inline) {
-            return Some(name);
+        let rest = &text[name..];
+        let run = run_at(rest);
+        let change = change_at(rest, run);
+        if !is_nothing(change) || !keeps_inline && has_inlines(&run[5..]) {
+            return Some(Found {
+                at: name,
+                size: run.len(),
+                change,
+            });
         }
         at = name + 5;
     }
     None
 }
 
-/// Whether the name of `std` with which a text begins becomes shorter or may do so.
-fn may_change(text: &[u8], keeps_inline: bool) -> bool {
-    let run = run_at(text);
-    let has_list = matches!(text.get(run.len()), Some(b'<'));
-    let name = &run[5..];
-    if !name.contains(&b':') {
-        return has_list && template_of(name).is_some();
+/// Whether nothing becomes shorter.
+fn is_nothing(change: Change) -> bool {
+    match change {
+        Change::Nothing => true,
+        Change::List { .. } => false,
+        Change::Member { .. } => false,
     }
-    if !keeps_inline && has_inlines(name) {
-        return true;
-    }
-    if has_list && named_in(run).is_some() {
-        return true;
-    }
-    member_in(text, run).is_some()
 }

@@ -31,8 +31,15 @@ pub struct Alias {
 /// The most arguments that a template has a default among.
 pub(crate) const MOST_ARGUMENTS: usize = 5;
 
-/// The place of no text.
-const NOTHING: Place = Place { from: 0, to: 0 };
+// A place.
+macro_rules! place {
+    ($from:expr, $to:expr) => {
+        Place {
+            from: $from,
+            to: $to,
+        }
+    };
+}
 
 // A row of `TEMPLATES`.
 macro_rules! template {
@@ -60,186 +67,581 @@ macro_rules! alias {
 }
 
 /// All names and patterns, one after the other.
-pub static TEXTS: [u8; 2412] = *b"\x02less<\x00>\x02allocator<\x00>set\x02pmr::polymorphic_allocator<\x00>\x02allocator<\x02pair<\x00 const, \x01>>map\x02pmr::polymorphic_allocator<\x02pair<\x00 const, \x01>>list18446744073709551615ulspandeque\x02deque<\x00>queuestack1lratiovector\x02layout_right\x02default_accessor<\x00>mdspan\x02istreambuf_iterator<\x00>num_get\x02ostreambuf_iterator<\x00>num_putmultisetmultimap\x02vector<\x00>flat_set\x02vector<\x01>flat_maptime_gettime_putlong\x01*\x01&iteratorbasic_ioscharioswchar_twios\x02char_traits<\x00>money_getmoney_putformattervoidgenerator\x02default_delete<\x00>unique_ptrfalsemoneypunctbasic_regexregexwregex\x02regex_traits<\x00>forward_listbasic_stringstringwstringchar8_tu8stringchar16_tu16stringchar32_tu32stringchar, \x02char_traits<char>, \x02pmr::polymorphic_allocator<char>pmr::string\x02hash<\x00>\x02equal_to<\x00>unordered_setunordered_mapflat_multisetflat_multimapbasic_syncbufbasic_istreamistreamwistreambasic_ostreamostreamwostreambasic_filebuffilebufwfilebufbasic_fstreamfstreamwfstreambasic_spanbuf\x02allocator<\x02sub_match<\x00>>match_resultspriority_queuebasic_iostreamiostreamwiostreambasic_ifstreamifstreamwifstreambasic_ofstreamofstreamwofstreambasic_stringbufstringbufwstringbufbasic_streambufstreambufwstreambuftime_get_bynametime_put_bynamebasic_spanstream\x02char_traits<\x01>istream_iteratorostream_iteratorchrono::duration\x03, \x02ratio<1l, 1000000000l>chrono::nanoseconds\x03, \x02ratio<1l, 1000000l>chrono::microseconds\x03, \x02ratio<1l, 1000l>chrono::milliseconds\x03chrono::seconds\x03, \x02ratio<60l>chrono::minutes\x03, \x02ratio<3600l>chrono::hours\x02ratio<1l>basic_osyncstreambasic_string_viewstring_viewwstring_viewu8string_viewu16string_viewu32string_viewbasic_ispanstreambasic_ospanstreammoneypunct_byname\x02unreachable_sentinel_tranges::iota_viewunordered_multisetunordered_multimapbasic_stringstreamstringstreamwstringstreambasic_istringstreamistringstreamwistringstreambasic_ostringstreamostringstreamwostringstreamistreambuf_iteratorostreambuf_iteratormersenne_twister_engineunsigned long, 32ul, 624ul, 397ul, 31ul, 2567483615ul, 11ul, 4294967295ul, 7ul, 2636928640ul, 15ul, 4022730752ul, 18ul, 1812433253ulmt19937unsigned long, 64ul, 312ul, 156ul, 31ul, 13043109905998158313ul, 29ul, 6148914691236517205ul, 17ul, 8202884508482404352ul, 37ul, 18444473444759240704ul, 43ul, 6364136223846793005ulmt19937_64ranges::basic_istream_viewstd::__1::std::__2::std::__ndk1::std::__Cr::std::__8::std::__h::std::__cxx11::__debug::__cxx1998::__1::__2::__ndk1::__Cr::__8::__h::_V2::__fs::chrono::ranges::filesystem::pmr::__cust::__cpo::";
+pub static TEXTS: [u8; 2412] =
+    *b"\x02less<\x00>\x02allocator<\x00>set\x02pmr::polymorphic_allocator<\x00>\x02allocator<\x02pair<\x00 const, \x01>>map\x02pmr::polymorphic_allocator<\x02pair<\x00 const, \x01>>list18446744073709551615ulspandeque\x02deque<\x00>queuestack1lratiovector\x02layout_right\x02default_accessor<\x00>mdspan\x02istreambuf_iterator<\x00>num_get\x02ostreambuf_iterator<\x00>num_putmultisetmultimap\x02vector<\x00>flat_set\x02vector<\x01>flat_maptime_gettime_putlong\x01*\x01&iteratorbasic_ioscharioswchar_twios\x02char_traits<\x00>money_getmoney_putformattervoidgenerator\x02default_delete<\x00>unique_ptrfalsemoneypunctbasic_regexregexwregex\x02regex_traits<\x00>forward_listbasic_stringstringwstringchar8_tu8stringchar16_tu16stringchar32_tu32stringchar, \x02char_traits<char>, \x02pmr::polymorphic_allocator<char>pmr::string\x02hash<\x00>\x02equal_to<\x00>unordered_setunordered_mapflat_multisetflat_multimapbasic_syncbufbasic_istreamistreamwistreambasic_ostreamostreamwostreambasic_filebuffilebufwfilebufbasic_fstreamfstreamwfstreambasic_spanbuf\x02allocator<\x02sub_match<\x00>>match_resultspriority_queuebasic_iostreamiostreamwiostreambasic_ifstreamifstreamwifstreambasic_ofstreamofstreamwofstreambasic_stringbufstringbufwstringbufbasic_streambufstreambufwstreambuftime_get_bynametime_put_bynamebasic_spanstream\x02char_traits<\x01>istream_iteratorostream_iteratorchrono::duration\x03, \x02ratio<1l, 1000000000l>chrono::nanoseconds\x03, \x02ratio<1l, 1000000l>chrono::microseconds\x03, \x02ratio<1l, 1000l>chrono::milliseconds\x03chrono::seconds\x03, \x02ratio<60l>chrono::minutes\x03, \x02ratio<3600l>chrono::hours\x02ratio<1l>basic_osyncstreambasic_string_viewstring_viewwstring_viewu8string_viewu16string_viewu32string_viewbasic_ispanstreambasic_ospanstreammoneypunct_byname\x02unreachable_sentinel_tranges::iota_viewunordered_multisetunordered_multimapbasic_stringstreamstringstreamwstringstreambasic_istringstreamistringstreamwistringstreambasic_ostringstreamostringstreamwostringstreamistreambuf_iteratorostreambuf_iteratormersenne_twister_engineunsigned long, 32ul, 624ul, 397ul, 31ul, 2567483615ul, 11ul, 4294967295ul, 7ul, 2636928640ul, 15ul, 4022730752ul, 18ul, 1812433253ulmt19937unsigned long, 64ul, 312ul, 156ul, 31ul, 13043109905998158313ul, 29ul, 6148914691236517205ul, 17ul, 8202884508482404352ul, 37ul, 18444473444759240704ul, 43ul, 6364136223846793005ulmt19937_64ranges::basic_istream_viewstd::__1::std::__2::std::__ndk1::std::__Cr::std::__8::std::__h::std::__cxx11::__debug::__cxx1998::__1::__2::__ndk1::__Cr::__8::__h::_V2::__fs::chrono::ranges::filesystem::pmr::__cust::__cpo::";
+
+/// The place of no text.
+const NO: Place = place!(0, 0);
+
+// The places of the texts.
+const T0: Place = place!(0, 8);
+
+const T1: Place = place!(8, 21);
+
+const T2: Place = place!(21, 24);
+
+const T3: Place = place!(24, 54);
+
+const T4: Place = place!(54, 83);
+
+const T5: Place = place!(83, 86);
+
+const T6: Place = place!(86, 132);
+
+const T7: Place = place!(132, 136);
+
+const T8: Place = place!(136, 158);
+
+const T9: Place = place!(158, 162);
+
+const T10: Place = place!(162, 167);
+
+const T11: Place = place!(167, 176);
+
+const T12: Place = place!(176, 181);
+
+const T13: Place = place!(181, 186);
+
+const T14: Place = place!(186, 188);
+
+const T15: Place = place!(188, 193);
+
+const T16: Place = place!(193, 199);
+
+const T17: Place = place!(199, 212);
+
+const T18: Place = place!(212, 232);
+
+const T19: Place = place!(232, 238);
+
+const T20: Place = place!(238, 261);
+
+const T21: Place = place!(261, 268);
+
+const T22: Place = place!(268, 291);
+
+const T23: Place = place!(291, 298);
+
+const T24: Place = place!(298, 306);
+
+const T25: Place = place!(306, 314);
+
+const T26: Place = place!(314, 324);
+
+const T27: Place = place!(324, 332);
+
+const T28: Place = place!(332, 342);
+
+const T29: Place = place!(342, 350);
+
+const T30: Place = place!(350, 358);
+
+const T31: Place = place!(358, 366);
+
+const T32: Place = place!(366, 370);
+
+const T33: Place = place!(370, 372);
+
+const T34: Place = place!(372, 374);
+
+const T35: Place = place!(374, 382);
+
+const T36: Place = place!(382, 391);
+
+const T37: Place = place!(391, 395);
+
+const T38: Place = place!(395, 398);
+
+const T39: Place = place!(398, 405);
+
+const T40: Place = place!(405, 409);
+
+const T41: Place = place!(409, 424);
+
+const T42: Place = place!(424, 433);
+
+const T43: Place = place!(433, 442);
+
+const T44: Place = place!(442, 451);
+
+const T45: Place = place!(451, 455);
+
+const T46: Place = place!(455, 464);
+
+const T47: Place = place!(464, 482);
+
+const T48: Place = place!(482, 492);
+
+const T49: Place = place!(492, 497);
+
+const T50: Place = place!(497, 507);
+
+const T51: Place = place!(507, 518);
+
+const T52: Place = place!(518, 523);
+
+const T53: Place = place!(523, 529);
+
+const T54: Place = place!(529, 545);
+
+const T55: Place = place!(545, 557);
+
+const T56: Place = place!(557, 569);
+
+const T57: Place = place!(569, 575);
+
+const T58: Place = place!(575, 582);
+
+const T59: Place = place!(582, 589);
+
+const T60: Place = place!(589, 597);
+
+const T61: Place = place!(597, 605);
+
+const T62: Place = place!(605, 614);
+
+const T63: Place = place!(614, 622);
+
+const T64: Place = place!(622, 631);
+
+const T65: Place = place!(631, 690);
+
+const T66: Place = place!(690, 701);
+
+const T67: Place = place!(701, 709);
+
+const T68: Place = place!(709, 721);
+
+const T69: Place = place!(721, 734);
+
+const T70: Place = place!(734, 747);
+
+const T71: Place = place!(747, 760);
+
+const T72: Place = place!(760, 773);
+
+const T73: Place = place!(773, 786);
+
+const T74: Place = place!(786, 799);
+
+const T75: Place = place!(799, 806);
+
+const T76: Place = place!(806, 814);
+
+const T77: Place = place!(814, 827);
+
+const T78: Place = place!(827, 834);
+
+const T79: Place = place!(834, 842);
+
+const T80: Place = place!(842, 855);
+
+const T81: Place = place!(855, 862);
+
+const T82: Place = place!(862, 870);
+
+const T83: Place = place!(870, 883);
+
+const T84: Place = place!(883, 890);
+
+const T85: Place = place!(890, 898);
+
+const T86: Place = place!(898, 911);
+
+const T87: Place = place!(911, 936);
+
+const T88: Place = place!(936, 949);
+
+const T89: Place = place!(949, 963);
+
+const T90: Place = place!(963, 977);
+
+const T91: Place = place!(977, 985);
+
+const T92: Place = place!(985, 994);
+
+const T93: Place = place!(994, 1008);
+
+const T94: Place = place!(1008, 1016);
+
+const T95: Place = place!(1016, 1025);
+
+const T96: Place = place!(1025, 1039);
+
+const T97: Place = place!(1039, 1047);
+
+const T98: Place = place!(1047, 1056);
+
+const T99: Place = place!(1056, 1071);
+
+const T100: Place = place!(1071, 1080);
+
+const T101: Place = place!(1080, 1090);
+
+const T102: Place = place!(1090, 1105);
+
+const T103: Place = place!(1105, 1114);
+
+const T104: Place = place!(1114, 1124);
+
+const T105: Place = place!(1124, 1139);
+
+const T106: Place = place!(1139, 1154);
+
+const T107: Place = place!(1154, 1170);
+
+const T108: Place = place!(1170, 1185);
+
+const T109: Place = place!(1185, 1201);
+
+const T110: Place = place!(1201, 1217);
+
+const T111: Place = place!(1217, 1233);
+
+const T112: Place = place!(1233, 1259);
+
+const T113: Place = place!(1259, 1278);
+
+const T114: Place = place!(1278, 1301);
+
+const T115: Place = place!(1301, 1321);
+
+const T116: Place = place!(1321, 1341);
+
+const T117: Place = place!(1341, 1361);
+
+const T118: Place = place!(1361, 1362);
+
+const T119: Place = place!(1362, 1377);
+
+const T120: Place = place!(1377, 1391);
+
+const T121: Place = place!(1391, 1406);
+
+const T122: Place = place!(1406, 1422);
+
+const T123: Place = place!(1422, 1435);
+
+const T124: Place = place!(1435, 1445);
+
+const T125: Place = place!(1445, 1462);
+
+const T126: Place = place!(1462, 1479);
+
+const T127: Place = place!(1479, 1490);
+
+const T128: Place = place!(1490, 1502);
+
+const T129: Place = place!(1502, 1515);
+
+const T130: Place = place!(1515, 1529);
+
+const T131: Place = place!(1529, 1543);
+
+const T132: Place = place!(1543, 1560);
+
+const T133: Place = place!(1560, 1577);
+
+const T134: Place = place!(1577, 1594);
+
+const T135: Place = place!(1594, 1617);
+
+const T136: Place = place!(1617, 1634);
+
+const T137: Place = place!(1634, 1652);
+
+const T138: Place = place!(1652, 1670);
+
+const T139: Place = place!(1670, 1688);
+
+const T140: Place = place!(1688, 1700);
+
+const T141: Place = place!(1700, 1713);
+
+const T142: Place = place!(1713, 1732);
+
+const T143: Place = place!(1732, 1745);
+
+const T144: Place = place!(1745, 1759);
+
+const T145: Place = place!(1759, 1778);
+
+const T146: Place = place!(1778, 1791);
+
+const T147: Place = place!(1791, 1805);
+
+const T148: Place = place!(1805, 1824);
+
+const T149: Place = place!(1824, 1843);
+
+const T150: Place = place!(1843, 1866);
+
+const T151: Place = place!(1866, 1998);
+
+const T152: Place = place!(1998, 2005);
+
+const T153: Place = place!(2005, 2185);
+
+const T154: Place = place!(2185, 2195);
+
+const T155: Place = place!(2195, 2221);
+
+const T156: Place = place!(2221, 2231);
+
+const T157: Place = place!(2231, 2241);
+
+const T158: Place = place!(2241, 2254);
+
+const T159: Place = place!(2254, 2265);
+
+const T160: Place = place!(2265, 2275);
+
+const T161: Place = place!(2275, 2285);
+
+const T162: Place = place!(2285, 2290);
+
+const T163: Place = place!(2290, 2299);
+
+const T164: Place = place!(2299, 2308);
+
+const T165: Place = place!(2308, 2319);
+
+const T166: Place = place!(2319, 2324);
+
+const T167: Place = place!(2324, 2329);
+
+const T168: Place = place!(2329, 2337);
+
+const T169: Place = place!(2337, 2343);
+
+const T170: Place = place!(2343, 2348);
+
+const T171: Place = place!(2348, 2353);
+
+const T172: Place = place!(2353, 2358);
+
+const T173: Place = place!(2358, 2364);
+
+const T174: Place = place!(2364, 2372);
+
+const T175: Place = place!(2372, 2380);
+
+const T176: Place = place!(2380, 2392);
+
+const T177: Place = place!(2392, 2397);
+
+const T178: Place = place!(2397, 2405);
+
+const T179: Place = place!(2405, 2412);
+
+/// `std::` alone.
+pub(crate) const STD: Place = T162;
 
 /// No template's name has this size or more.
 pub(crate) const LONGEST: usize = 27;
 
-/// `std::` alone.
-pub(crate) const STD: Place = Place { from: 2285, to: 2290 };
-
 /// The first row of `TEMPLATES` whose name has at least each size.
 pub static FIRST: [u8; 28] = [
-    0, 0, 0, 0, 2, 4, 8, 10, 12, 19, 24, 26, 27, 29, 40, 44, 48, 52, 58, 61, 65, 65, 65, 65, 66, 66, 66, 67,
+    0, 0, 0, 0, 2, 4, 8, 10, 12, 19, 24, 26, 27, 29, 40, 44, 48, 52, 58, 61, 65, 65, 65, 65, 66,
+    66, 66, 67,
+];
+
+/// The first byte of each template's name, and 256 times the third from its end.
+pub static MARKS: [u16; 67] = [
+    29555, 28013, 26988, 28787, 29028, 25969, 24947, 29810, 29814, 28781, 26478, 28782, 29549,
+    28013, 29542, 28006, 26484, 28788, 29801, 26978, 26477, 28781, 29798, 29799, 28789, 28269,
+    26466, 26982, 26978, 29557, 28021, 29542, 28006, 25186, 25954, 25954, 25186, 25954, 25186,
+    27757, 25968, 25954, 25954, 25954, 25186, 25186, 24948, 24948, 25954, 29801, 29807, 26979,
+    25954, 26978, 25954, 25954, 24941, 26994, 29557, 28021, 25954, 25954, 25954, 29801, 29807,
+    26989, 26994,
 ];
 
 /// The templates, by the sizes of their names.
 pub static TEMPLATES: [Template; 67] = [
-    template!(Place { from: 21, to: 24 }, 3, [NOTHING, Place { from: 0, to: 8 }, Place { from: 8, to: 21 }, NOTHING, NOTHING], Place { from: 24, to: 54 }, 0, 0), // set
-    template!(Place { from: 83, to: 86 }, 4, [NOTHING, NOTHING, Place { from: 0, to: 8 }, Place { from: 54, to: 83 }, NOTHING], Place { from: 86, to: 132 }, 0, 0), // map
-    template!(Place { from: 132, to: 136 }, 2, [NOTHING, Place { from: 8, to: 21 }, NOTHING, NOTHING, NOTHING], Place { from: 24, to: 54 }, 0, 0), // list
-    template!(Place { from: 158, to: 162 }, 2, [NOTHING, Place { from: 136, to: 158 }, NOTHING, NOTHING, NOTHING], NOTHING, 0, 0), // span
-    template!(Place { from: 162, to: 167 }, 2, [NOTHING, Place { from: 8, to: 21 }, NOTHING, NOTHING, NOTHING], Place { from: 24, to: 54 }, 0, 0), // deque
-    template!(Place { from: 176, to: 181 }, 2, [NOTHING, Place { from: 167, to: 176 }, NOTHING, NOTHING, NOTHING], NOTHING, 0, 0), // queue
-    template!(Place { from: 181, to: 186 }, 2, [NOTHING, Place { from: 167, to: 176 }, NOTHING, NOTHING, NOTHING], NOTHING, 0, 0), // stack
-    template!(Place { from: 188, to: 193 }, 2, [NOTHING, Place { from: 186, to: 188 }, NOTHING, NOTHING, NOTHING], NOTHING, 0, 0), // ratio
-    template!(Place { from: 193, to: 199 }, 2, [NOTHING, Place { from: 8, to: 21 }, NOTHING, NOTHING, NOTHING], Place { from: 24, to: 54 }, 0, 0), // vector
-    template!(Place { from: 232, to: 238 }, 4, [NOTHING, NOTHING, Place { from: 199, to: 212 }, Place { from: 212, to: 232 }, NOTHING], NOTHING, 0, 0), // mdspan
-    template!(Place { from: 261, to: 268 }, 2, [NOTHING, Place { from: 238, to: 261 }, NOTHING, NOTHING, NOTHING], NOTHING, 0, 0), // num_get
-    template!(Place { from: 291, to: 298 }, 2, [NOTHING, Place { from: 268, to: 291 }, NOTHING, NOTHING, NOTHING], NOTHING, 0, 0), // num_put
-    template!(Place { from: 298, to: 306 }, 3, [NOTHING, Place { from: 0, to: 8 }, Place { from: 8, to: 21 }, NOTHING, NOTHING], Place { from: 24, to: 54 }, 0, 0), // multiset
-    template!(Place { from: 306, to: 314 }, 4, [NOTHING, NOTHING, Place { from: 0, to: 8 }, Place { from: 54, to: 83 }, NOTHING], Place { from: 86, to: 132 }, 0, 0), // multimap
-    template!(Place { from: 324, to: 332 }, 3, [NOTHING, Place { from: 0, to: 8 }, Place { from: 314, to: 324 }, NOTHING, NOTHING], NOTHING, 0, 0), // flat_set
-    template!(Place { from: 342, to: 350 }, 5, [NOTHING, NOTHING, Place { from: 0, to: 8 }, Place { from: 314, to: 324 }, Place { from: 332, to: 342 }], NOTHING, 0, 0), // flat_map
-    template!(Place { from: 350, to: 358 }, 2, [NOTHING, Place { from: 238, to: 261 }, NOTHING, NOTHING, NOTHING], NOTHING, 0, 0), // time_get
-    template!(Place { from: 358, to: 366 }, 2, [NOTHING, Place { from: 268, to: 291 }, NOTHING, NOTHING, NOTHING], NOTHING, 0, 0), // time_put
-    template!(Place { from: 374, to: 382 }, 5, [NOTHING, NOTHING, Place { from: 366, to: 370 }, Place { from: 370, to: 372 }, Place { from: 372, to: 374 }], NOTHING, 0, 0), // iterator
-    template!(Place { from: 382, to: 391 }, 2, [NOTHING, Place { from: 409, to: 424 }, NOTHING, NOTHING, NOTHING], NOTHING, 0, 2), // basic_ios
-    template!(Place { from: 424, to: 433 }, 2, [NOTHING, Place { from: 238, to: 261 }, NOTHING, NOTHING, NOTHING], NOTHING, 2, 2), // money_get
-    template!(Place { from: 433, to: 442 }, 2, [NOTHING, Place { from: 268, to: 291 }, NOTHING, NOTHING, NOTHING], NOTHING, 2, 2), // money_put
-    template!(Place { from: 442, to: 451 }, 2, [NOTHING, Place { from: 391, to: 395 }, NOTHING, NOTHING, NOTHING], NOTHING, 2, 2), // formatter
-    template!(Place { from: 455, to: 464 }, 3, [NOTHING, Place { from: 451, to: 455 }, Place { from: 451, to: 455 }, NOTHING, NOTHING], NOTHING, 2, 2), // generator
-    template!(Place { from: 482, to: 492 }, 2, [NOTHING, Place { from: 464, to: 482 }, NOTHING, NOTHING, NOTHING], NOTHING, 2, 2), // unique_ptr
-    template!(Place { from: 497, to: 507 }, 2, [NOTHING, Place { from: 492, to: 497 }, NOTHING, NOTHING, NOTHING], NOTHING, 2, 2), // moneypunct
-    template!(Place { from: 507, to: 518 }, 2, [NOTHING, Place { from: 529, to: 545 }, NOTHING, NOTHING, NOTHING], NOTHING, 2, 4), // basic_regex
-    template!(Place { from: 545, to: 557 }, 2, [NOTHING, Place { from: 8, to: 21 }, NOTHING, NOTHING, NOTHING], Place { from: 24, to: 54 }, 4, 4), // forward_list
-    template!(Place { from: 557, to: 569 }, 3, [NOTHING, Place { from: 409, to: 424 }, Place { from: 8, to: 21 }, NOTHING, NOTHING], NOTHING, 4, 10), // basic_string
-    template!(Place { from: 721, to: 734 }, 4, [NOTHING, Place { from: 701, to: 709 }, Place { from: 709, to: 721 }, Place { from: 8, to: 21 }, NOTHING], Place { from: 24, to: 54 }, 10, 10), // unordered_set
-    template!(Place { from: 734, to: 747 }, 5, [NOTHING, NOTHING, Place { from: 701, to: 709 }, Place { from: 709, to: 721 }, Place { from: 54, to: 83 }], Place { from: 86, to: 132 }, 10, 10), // unordered_map
-    template!(Place { from: 747, to: 760 }, 3, [NOTHING, Place { from: 0, to: 8 }, Place { from: 314, to: 324 }, NOTHING, NOTHING], NOTHING, 10, 10), // flat_multiset
-    template!(Place { from: 760, to: 773 }, 5, [NOTHING, NOTHING, Place { from: 0, to: 8 }, Place { from: 314, to: 324 }, Place { from: 332, to: 342 }], NOTHING, 10, 10), // flat_multimap
-    template!(Place { from: 773, to: 786 }, 3, [NOTHING, Place { from: 409, to: 424 }, Place { from: 8, to: 21 }, NOTHING, NOTHING], NOTHING, 10, 10), // basic_syncbuf
-    template!(Place { from: 786, to: 799 }, 2, [NOTHING, Place { from: 409, to: 424 }, NOTHING, NOTHING, NOTHING], NOTHING, 10, 12), // basic_istream
-    template!(Place { from: 814, to: 827 }, 2, [NOTHING, Place { from: 409, to: 424 }, NOTHING, NOTHING, NOTHING], NOTHING, 12, 14), // basic_ostream
-    template!(Place { from: 842, to: 855 }, 2, [NOTHING, Place { from: 409, to: 424 }, NOTHING, NOTHING, NOTHING], NOTHING, 14, 16), // basic_filebuf
-    template!(Place { from: 870, to: 883 }, 2, [NOTHING, Place { from: 409, to: 424 }, NOTHING, NOTHING, NOTHING], NOTHING, 16, 18), // basic_fstream
-    template!(Place { from: 898, to: 911 }, 2, [NOTHING, Place { from: 409, to: 424 }, NOTHING, NOTHING, NOTHING], NOTHING, 18, 18), // basic_spanbuf
-    template!(Place { from: 936, to: 949 }, 2, [NOTHING, Place { from: 911, to: 936 }, NOTHING, NOTHING, NOTHING], NOTHING, 18, 18), // match_results
-    template!(Place { from: 949, to: 963 }, 3, [NOTHING, Place { from: 314, to: 324 }, Place { from: 0, to: 8 }, NOTHING, NOTHING], NOTHING, 18, 18), // priority_queue
-    template!(Place { from: 963, to: 977 }, 2, [NOTHING, Place { from: 409, to: 424 }, NOTHING, NOTHING, NOTHING], NOTHING, 18, 20), // basic_iostream
-    template!(Place { from: 994, to: 1008 }, 2, [NOTHING, Place { from: 409, to: 424 }, NOTHING, NOTHING, NOTHING], NOTHING, 20, 22), // basic_ifstream
-    template!(Place { from: 1025, to: 1039 }, 2, [NOTHING, Place { from: 409, to: 424 }, NOTHING, NOTHING, NOTHING], NOTHING, 22, 24), // basic_ofstream
-    template!(Place { from: 1056, to: 1071 }, 3, [NOTHING, Place { from: 409, to: 424 }, Place { from: 8, to: 21 }, NOTHING, NOTHING], NOTHING, 24, 26), // basic_stringbuf
-    template!(Place { from: 1090, to: 1105 }, 2, [NOTHING, Place { from: 409, to: 424 }, NOTHING, NOTHING, NOTHING], NOTHING, 26, 28), // basic_streambuf
-    template!(Place { from: 1124, to: 1139 }, 2, [NOTHING, Place { from: 238, to: 261 }, NOTHING, NOTHING, NOTHING], NOTHING, 28, 28), // time_get_byname
-    template!(Place { from: 1139, to: 1154 }, 2, [NOTHING, Place { from: 268, to: 291 }, NOTHING, NOTHING, NOTHING], NOTHING, 28, 28), // time_put_byname
-    template!(Place { from: 1154, to: 1170 }, 2, [NOTHING, Place { from: 409, to: 424 }, NOTHING, NOTHING, NOTHING], NOTHING, 28, 28), // basic_spanstream
-    template!(Place { from: 1185, to: 1201 }, 4, [NOTHING, Place { from: 391, to: 395 }, Place { from: 1170, to: 1185 }, Place { from: 366, to: 370 }, NOTHING], NOTHING, 28, 28), // istream_iterator
-    template!(Place { from: 1201, to: 1217 }, 3, [NOTHING, Place { from: 391, to: 395 }, Place { from: 1170, to: 1185 }, NOTHING, NOTHING], NOTHING, 28, 28), // ostream_iterator
-    template!(Place { from: 1217, to: 1233 }, 2, [NOTHING, Place { from: 1435, to: 1445 }, NOTHING, NOTHING, NOTHING], NOTHING, 28, 34), // chrono::duration
-    template!(Place { from: 1445, to: 1462 }, 3, [NOTHING, Place { from: 409, to: 424 }, Place { from: 8, to: 21 }, NOTHING, NOTHING], NOTHING, 34, 34), // basic_osyncstream
-    template!(Place { from: 1462, to: 1479 }, 2, [NOTHING, Place { from: 409, to: 424 }, NOTHING, NOTHING, NOTHING], NOTHING, 34, 39), // basic_string_view
-    template!(Place { from: 1543, to: 1560 }, 2, [NOTHING, Place { from: 409, to: 424 }, NOTHING, NOTHING, NOTHING], NOTHING, 39, 39), // basic_ispanstream
-    template!(Place { from: 1560, to: 1577 }, 2, [NOTHING, Place { from: 409, to: 424 }, NOTHING, NOTHING, NOTHING], NOTHING, 39, 39), // basic_ospanstream
-    template!(Place { from: 1577, to: 1594 }, 2, [NOTHING, Place { from: 492, to: 497 }, NOTHING, NOTHING, NOTHING], NOTHING, 39, 39), // moneypunct_byname
-    template!(Place { from: 1617, to: 1634 }, 2, [NOTHING, Place { from: 1594, to: 1617 }, NOTHING, NOTHING, NOTHING], NOTHING, 39, 39), // ranges::iota_view
-    template!(Place { from: 1634, to: 1652 }, 4, [NOTHING, Place { from: 701, to: 709 }, Place { from: 709, to: 721 }, Place { from: 8, to: 21 }, NOTHING], Place { from: 24, to: 54 }, 39, 39), // unordered_multiset
-    template!(Place { from: 1652, to: 1670 }, 5, [NOTHING, NOTHING, Place { from: 701, to: 709 }, Place { from: 709, to: 721 }, Place { from: 54, to: 83 }], Place { from: 86, to: 132 }, 39, 39), // unordered_multimap
-    template!(Place { from: 1670, to: 1688 }, 3, [NOTHING, Place { from: 409, to: 424 }, Place { from: 8, to: 21 }, NOTHING, NOTHING], NOTHING, 39, 41), // basic_stringstream
-    template!(Place { from: 1713, to: 1732 }, 3, [NOTHING, Place { from: 409, to: 424 }, Place { from: 8, to: 21 }, NOTHING, NOTHING], NOTHING, 41, 43), // basic_istringstream
-    template!(Place { from: 1759, to: 1778 }, 3, [NOTHING, Place { from: 409, to: 424 }, Place { from: 8, to: 21 }, NOTHING, NOTHING], NOTHING, 43, 45), // basic_ostringstream
-    template!(Place { from: 1805, to: 1824 }, 2, [NOTHING, Place { from: 409, to: 424 }, NOTHING, NOTHING, NOTHING], NOTHING, 45, 45), // istreambuf_iterator
-    template!(Place { from: 1824, to: 1843 }, 2, [NOTHING, Place { from: 409, to: 424 }, NOTHING, NOTHING, NOTHING], NOTHING, 45, 45), // ostreambuf_iterator
-    template!(Place { from: 1843, to: 1866 }, 0, [NOTHING, NOTHING, NOTHING, NOTHING, NOTHING], NOTHING, 45, 47), // mersenne_twister_engine
-    template!(Place { from: 2195, to: 2221 }, 3, [NOTHING, NOTHING, Place { from: 1170, to: 1185 }, NOTHING, NOTHING], NOTHING, 47, 47), // ranges::basic_istream_view
+    template!(T2, 3, [NO, T0, T1, NO, NO], T3, 0, 0), // set
+    template!(T5, 4, [NO, NO, T0, T4, NO], T6, 0, 0), // map
+    template!(T7, 2, [NO, T1, NO, NO, NO], T3, 0, 0), // list
+    template!(T9, 2, [NO, T8, NO, NO, NO], NO, 0, 0), // span
+    template!(T10, 2, [NO, T1, NO, NO, NO], T3, 0, 0), // deque
+    template!(T12, 2, [NO, T11, NO, NO, NO], NO, 0, 0), // queue
+    template!(T13, 2, [NO, T11, NO, NO, NO], NO, 0, 0), // stack
+    template!(T15, 2, [NO, T14, NO, NO, NO], NO, 0, 0), // ratio
+    template!(T16, 2, [NO, T1, NO, NO, NO], T3, 0, 0), // vector
+    template!(T19, 4, [NO, NO, T17, T18, NO], NO, 0, 0), // mdspan
+    template!(T21, 2, [NO, T20, NO, NO, NO], NO, 0, 0), // num_get
+    template!(T23, 2, [NO, T22, NO, NO, NO], NO, 0, 0), // num_put
+    template!(T24, 3, [NO, T0, T1, NO, NO], T3, 0, 0), // multiset
+    template!(T25, 4, [NO, NO, T0, T4, NO], T6, 0, 0), // multimap
+    template!(T27, 3, [NO, T0, T26, NO, NO], NO, 0, 0), // flat_set
+    template!(T29, 5, [NO, NO, T0, T26, T28], NO, 0, 0), // flat_map
+    template!(T30, 2, [NO, T20, NO, NO, NO], NO, 0, 0), // time_get
+    template!(T31, 2, [NO, T22, NO, NO, NO], NO, 0, 0), // time_put
+    template!(T35, 5, [NO, NO, T32, T33, T34], NO, 0, 0), // iterator
+    template!(T36, 2, [NO, T41, NO, NO, NO], NO, 0, 2), // basic_ios
+    template!(T42, 2, [NO, T20, NO, NO, NO], NO, 2, 2), // money_get
+    template!(T43, 2, [NO, T22, NO, NO, NO], NO, 2, 2), // money_put
+    template!(T44, 2, [NO, T37, NO, NO, NO], NO, 2, 2), // formatter
+    template!(T46, 3, [NO, T45, T45, NO, NO], NO, 2, 2), // generator
+    template!(T48, 2, [NO, T47, NO, NO, NO], NO, 2, 2), // unique_ptr
+    template!(T50, 2, [NO, T49, NO, NO, NO], NO, 2, 2), // moneypunct
+    template!(T51, 2, [NO, T54, NO, NO, NO], NO, 2, 4), // basic_regex
+    template!(T55, 2, [NO, T1, NO, NO, NO], T3, 4, 4), // forward_list
+    template!(T56, 3, [NO, T41, T1, NO, NO], NO, 4, 10), // basic_string
+    template!(T69, 4, [NO, T67, T68, T1, NO], T3, 10, 10), // unordered_set
+    template!(T70, 5, [NO, NO, T67, T68, T4], T6, 10, 10), // unordered_map
+    template!(T71, 3, [NO, T0, T26, NO, NO], NO, 10, 10), // flat_multiset
+    template!(T72, 5, [NO, NO, T0, T26, T28], NO, 10, 10), // flat_multimap
+    template!(T73, 3, [NO, T41, T1, NO, NO], NO, 10, 10), // basic_syncbuf
+    template!(T74, 2, [NO, T41, NO, NO, NO], NO, 10, 12), // basic_istream
+    template!(T77, 2, [NO, T41, NO, NO, NO], NO, 12, 14), // basic_ostream
+    template!(T80, 2, [NO, T41, NO, NO, NO], NO, 14, 16), // basic_filebuf
+    template!(T83, 2, [NO, T41, NO, NO, NO], NO, 16, 18), // basic_fstream
+    template!(T86, 2, [NO, T41, NO, NO, NO], NO, 18, 18), // basic_spanbuf
+    template!(T88, 2, [NO, T87, NO, NO, NO], NO, 18, 18), // match_results
+    template!(T89, 3, [NO, T26, T0, NO, NO], NO, 18, 18), // priority_queue
+    template!(T90, 2, [NO, T41, NO, NO, NO], NO, 18, 20), // basic_iostream
+    template!(T93, 2, [NO, T41, NO, NO, NO], NO, 20, 22), // basic_ifstream
+    template!(T96, 2, [NO, T41, NO, NO, NO], NO, 22, 24), // basic_ofstream
+    template!(T99, 3, [NO, T41, T1, NO, NO], NO, 24, 26), // basic_stringbuf
+    template!(T102, 2, [NO, T41, NO, NO, NO], NO, 26, 28), // basic_streambuf
+    template!(T105, 2, [NO, T20, NO, NO, NO], NO, 28, 28), // time_get_byname
+    template!(T106, 2, [NO, T22, NO, NO, NO], NO, 28, 28), // time_put_byname
+    template!(T107, 2, [NO, T41, NO, NO, NO], NO, 28, 28), // basic_spanstream
+    template!(T109, 4, [NO, T37, T108, T32, NO], NO, 28, 28), // istream_iterator
+    template!(T110, 3, [NO, T37, T108, NO, NO], NO, 28, 28), // ostream_iterator
+    template!(T111, 2, [NO, T124, NO, NO, NO], NO, 28, 34), // chrono::duration
+    template!(T125, 3, [NO, T41, T1, NO, NO], NO, 34, 34), // basic_osyncstream
+    template!(T126, 2, [NO, T41, NO, NO, NO], NO, 34, 39), // basic_string_view
+    template!(T132, 2, [NO, T41, NO, NO, NO], NO, 39, 39), // basic_ispanstream
+    template!(T133, 2, [NO, T41, NO, NO, NO], NO, 39, 39), // basic_ospanstream
+    template!(T134, 2, [NO, T49, NO, NO, NO], NO, 39, 39), // moneypunct_byname
+    template!(T136, 2, [NO, T135, NO, NO, NO], NO, 39, 39), // ranges::iota_view
+    template!(T137, 4, [NO, T67, T68, T1, NO], T3, 39, 39), // unordered_multiset
+    template!(T138, 5, [NO, NO, T67, T68, T4], T6, 39, 39), // unordered_multimap
+    template!(T139, 3, [NO, T41, T1, NO, NO], NO, 39, 41), // basic_stringstream
+    template!(T142, 3, [NO, T41, T1, NO, NO], NO, 41, 43), // basic_istringstream
+    template!(T145, 3, [NO, T41, T1, NO, NO], NO, 43, 45), // basic_ostringstream
+    template!(T148, 2, [NO, T41, NO, NO, NO], NO, 45, 45), // istreambuf_iterator
+    template!(T149, 2, [NO, T41, NO, NO, NO], NO, 45, 45), // ostreambuf_iterator
+    template!(T150, 0, [NO, NO, NO, NO, NO], NO, 45, 47), // mersenne_twister_engine
+    template!(T155, 3, [NO, NO, T108, NO, NO], NO, 47, 47), // ranges::basic_istream_view
 ];
 
 /// The usual names, by their templates.
 pub static ALIASES: [Alias; 47] = [
-    alias!(Place { from: 382, to: 391 }, Place { from: 391, to: 395 }, Place { from: 395, to: 398 }), // ios
-    alias!(Place { from: 382, to: 391 }, Place { from: 398, to: 405 }, Place { from: 405, to: 409 }), // wios
-    alias!(Place { from: 507, to: 518 }, Place { from: 391, to: 395 }, Place { from: 518, to: 523 }), // regex
-    alias!(Place { from: 507, to: 518 }, Place { from: 398, to: 405 }, Place { from: 523, to: 529 }), // wregex
-    alias!(Place { from: 557, to: 569 }, Place { from: 391, to: 395 }, Place { from: 569, to: 575 }), // string
-    alias!(Place { from: 557, to: 569 }, Place { from: 398, to: 405 }, Place { from: 575, to: 582 }), // wstring
-    alias!(Place { from: 557, to: 569 }, Place { from: 582, to: 589 }, Place { from: 589, to: 597 }), // u8string
-    alias!(Place { from: 557, to: 569 }, Place { from: 597, to: 605 }, Place { from: 605, to: 614 }), // u16string
-    alias!(Place { from: 557, to: 569 }, Place { from: 614, to: 622 }, Place { from: 622, to: 631 }), // u32string
-    alias!(Place { from: 557, to: 569 }, Place { from: 631, to: 690 }, Place { from: 690, to: 701 }), // pmr::string
-    alias!(Place { from: 786, to: 799 }, Place { from: 391, to: 395 }, Place { from: 799, to: 806 }), // istream
-    alias!(Place { from: 786, to: 799 }, Place { from: 398, to: 405 }, Place { from: 806, to: 814 }), // wistream
-    alias!(Place { from: 814, to: 827 }, Place { from: 391, to: 395 }, Place { from: 827, to: 834 }), // ostream
-    alias!(Place { from: 814, to: 827 }, Place { from: 398, to: 405 }, Place { from: 834, to: 842 }), // wostream
-    alias!(Place { from: 842, to: 855 }, Place { from: 391, to: 395 }, Place { from: 855, to: 862 }), // filebuf
-    alias!(Place { from: 842, to: 855 }, Place { from: 398, to: 405 }, Place { from: 862, to: 870 }), // wfilebuf
-    alias!(Place { from: 870, to: 883 }, Place { from: 391, to: 395 }, Place { from: 883, to: 890 }), // fstream
-    alias!(Place { from: 870, to: 883 }, Place { from: 398, to: 405 }, Place { from: 890, to: 898 }), // wfstream
-    alias!(Place { from: 963, to: 977 }, Place { from: 391, to: 395 }, Place { from: 977, to: 985 }), // iostream
-    alias!(Place { from: 963, to: 977 }, Place { from: 398, to: 405 }, Place { from: 985, to: 994 }), // wiostream
-    alias!(Place { from: 994, to: 1008 }, Place { from: 391, to: 395 }, Place { from: 1008, to: 1016 }), // ifstream
-    alias!(Place { from: 994, to: 1008 }, Place { from: 398, to: 405 }, Place { from: 1016, to: 1025 }), // wifstream
-    alias!(Place { from: 1025, to: 1039 }, Place { from: 391, to: 395 }, Place { from: 1039, to: 1047 }), // ofstream
-    alias!(Place { from: 1025, to: 1039 }, Place { from: 398, to: 405 }, Place { from: 1047, to: 1056 }), // wofstream
-    alias!(Place { from: 1056, to: 1071 }, Place { from: 391, to: 395 }, Place { from: 1071, to: 1080 }), // stringbuf
-    alias!(Place { from: 1056, to: 1071 }, Place { from: 398, to: 405 }, Place { from: 1080, to: 1090 }), // wstringbuf
-    alias!(Place { from: 1090, to: 1105 }, Place { from: 391, to: 395 }, Place { from: 1105, to: 1114 }), // streambuf
-    alias!(Place { from: 1090, to: 1105 }, Place { from: 398, to: 405 }, Place { from: 1114, to: 1124 }), // wstreambuf
-    alias!(Place { from: 1217, to: 1233 }, Place { from: 1233, to: 1259 }, Place { from: 1259, to: 1278 }), // chrono::nanoseconds
-    alias!(Place { from: 1217, to: 1233 }, Place { from: 1278, to: 1301 }, Place { from: 1301, to: 1321 }), // chrono::microseconds
-    alias!(Place { from: 1217, to: 1233 }, Place { from: 1321, to: 1341 }, Place { from: 1341, to: 1361 }), // chrono::milliseconds
-    alias!(Place { from: 1217, to: 1233 }, Place { from: 1361, to: 1362 }, Place { from: 1362, to: 1377 }), // chrono::seconds
-    alias!(Place { from: 1217, to: 1233 }, Place { from: 1377, to: 1391 }, Place { from: 1391, to: 1406 }), // chrono::minutes
-    alias!(Place { from: 1217, to: 1233 }, Place { from: 1406, to: 1422 }, Place { from: 1422, to: 1435 }), // chrono::hours
-    alias!(Place { from: 1462, to: 1479 }, Place { from: 391, to: 395 }, Place { from: 1479, to: 1490 }), // string_view
-    alias!(Place { from: 1462, to: 1479 }, Place { from: 398, to: 405 }, Place { from: 1490, to: 1502 }), // wstring_view
-    alias!(Place { from: 1462, to: 1479 }, Place { from: 582, to: 589 }, Place { from: 1502, to: 1515 }), // u8string_view
-    alias!(Place { from: 1462, to: 1479 }, Place { from: 597, to: 605 }, Place { from: 1515, to: 1529 }), // u16string_view
-    alias!(Place { from: 1462, to: 1479 }, Place { from: 614, to: 622 }, Place { from: 1529, to: 1543 }), // u32string_view
-    alias!(Place { from: 1670, to: 1688 }, Place { from: 391, to: 395 }, Place { from: 1688, to: 1700 }), // stringstream
-    alias!(Place { from: 1670, to: 1688 }, Place { from: 398, to: 405 }, Place { from: 1700, to: 1713 }), // wstringstream
-    alias!(Place { from: 1713, to: 1732 }, Place { from: 391, to: 395 }, Place { from: 1732, to: 1745 }), // istringstream
-    alias!(Place { from: 1713, to: 1732 }, Place { from: 398, to: 405 }, Place { from: 1745, to: 1759 }), // wistringstream
-    alias!(Place { from: 1759, to: 1778 }, Place { from: 391, to: 395 }, Place { from: 1778, to: 1791 }), // ostringstream
-    alias!(Place { from: 1759, to: 1778 }, Place { from: 398, to: 405 }, Place { from: 1791, to: 1805 }), // wostringstream
-    alias!(Place { from: 1843, to: 1866 }, Place { from: 1866, to: 1998 }, Place { from: 1998, to: 2005 }), // mt19937
-    alias!(Place { from: 1843, to: 1866 }, Place { from: 2005, to: 2185 }, Place { from: 2185, to: 2195 }), // mt19937_64
+    alias!(T36, T37, T38), // ios
+    alias!(T36, T39, T40), // wios
+    alias!(T51, T37, T52), // regex
+    alias!(T51, T39, T53), // wregex
+    alias!(T56, T37, T57), // string
+    alias!(T56, T39, T58), // wstring
+    alias!(T56, T59, T60), // u8string
+    alias!(T56, T61, T62), // u16string
+    alias!(T56, T63, T64), // u32string
+    alias!(T56, T65, T66), // pmr::string
+    alias!(T74, T37, T75), // istream
+    alias!(T74, T39, T76), // wistream
+    alias!(T77, T37, T78), // ostream
+    alias!(T77, T39, T79), // wostream
+    alias!(T80, T37, T81), // filebuf
+    alias!(T80, T39, T82), // wfilebuf
+    alias!(T83, T37, T84), // fstream
+    alias!(T83, T39, T85), // wfstream
+    alias!(T90, T37, T91), // iostream
+    alias!(T90, T39, T92), // wiostream
+    alias!(T93, T37, T94), // ifstream
+    alias!(T93, T39, T95), // wifstream
+    alias!(T96, T37, T97), // ofstream
+    alias!(T96, T39, T98), // wofstream
+    alias!(T99, T37, T100), // stringbuf
+    alias!(T99, T39, T101), // wstringbuf
+    alias!(T102, T37, T103), // streambuf
+    alias!(T102, T39, T104), // wstreambuf
+    alias!(T111, T112, T113), // chrono::nanoseconds
+    alias!(T111, T114, T115), // chrono::microseconds
+    alias!(T111, T116, T117), // chrono::milliseconds
+    alias!(T111, T118, T119), // chrono::seconds
+    alias!(T111, T120, T121), // chrono::minutes
+    alias!(T111, T122, T123), // chrono::hours
+    alias!(T126, T37, T127), // string_view
+    alias!(T126, T39, T128), // wstring_view
+    alias!(T126, T59, T129), // u8string_view
+    alias!(T126, T61, T130), // u16string_view
+    alias!(T126, T63, T131), // u32string_view
+    alias!(T139, T37, T140), // stringstream
+    alias!(T139, T39, T141), // wstringstream
+    alias!(T142, T37, T143), // istringstream
+    alias!(T142, T39, T144), // wistringstream
+    alias!(T145, T37, T146), // ostringstream
+    alias!(T145, T39, T147), // wostringstream
+    alias!(T150, T151, T152), // mt19937
+    alias!(T150, T153, T154), // mt19937_64
 ];
 
 /// `std::` with each inline namespace that holds all of `std`, and `std::` alone, which is last.
 pub static WHOLES: [Place; 7] = [
-    Place { from: 2221, to: 2231 }, // std::__1::
-    Place { from: 2231, to: 2241 }, // std::__2::
-    Place { from: 2241, to: 2254 }, // std::__ndk1::
-    Place { from: 2254, to: 2265 }, // std::__Cr::
-    Place { from: 2265, to: 2275 }, // std::__8::
-    Place { from: 2275, to: 2285 }, // std::__h::
-    Place { from: 2285, to: 2290 }, // std::
+    T156, // std::__1::
+    T157, // std::__2::
+    T158, // std::__ndk1::
+    T159, // std::__Cr::
+    T160, // std::__8::
+    T161, // std::__h::
+    T162, // std::
 ];
 
 /// The inline namespaces that hold a part of `std`.
 pub static PARTS: [Place; 3] = [
-    Place { from: 2290, to: 2299 }, // __cxx11::
-    Place { from: 2299, to: 2308 }, // __debug::
-    Place { from: 2308, to: 2319 }, // __cxx1998::
+    T163, // __cxx11::
+    T164, // __debug::
+    T165, // __cxx1998::
 ];
 
 /// The inline namespaces in `std`.
 pub static INLINES: [Place; 11] = [
-    Place { from: 2319, to: 2324 }, // __1::
-    Place { from: 2324, to: 2329 }, // __2::
-    Place { from: 2329, to: 2337 }, // __ndk1::
-    Place { from: 2337, to: 2343 }, // __Cr::
-    Place { from: 2343, to: 2348 }, // __8::
-    Place { from: 2348, to: 2353 }, // __h::
-    Place { from: 2290, to: 2299 }, // __cxx11::
-    Place { from: 2299, to: 2308 }, // __debug::
-    Place { from: 2308, to: 2319 }, // __cxx1998::
-    Place { from: 2353, to: 2358 }, // _V2::
-    Place { from: 2358, to: 2364 }, // __fs::
+    T163, // __cxx11::
+    T164, // __debug::
+    T165, // __cxx1998::
+    T166, // __1::
+    T167, // __2::
+    T168, // __ndk1::
+    T169, // __Cr::
+    T170, // __8::
+    T171, // __h::
+    T172, // _V2::
+    T173, // __fs::
 ];
 
 /// The namespaces in `std` that have inline ones of their own.
 pub static INNERS: [Place; 4] = [
-    Place { from: 2364, to: 2372 }, // chrono::
-    Place { from: 2372, to: 2380 }, // ranges::
-    Place { from: 2380, to: 2392 }, // filesystem::
-    Place { from: 2392, to: 2397 }, // pmr::
+    T174, // chrono::
+    T175, // ranges::
+    T176, // filesystem::
+    T177, // pmr::
 ];
+
+/// Whether a name may begin with one of these, by its first three bytes.
+pub(crate) fn may_be_inner(name: &[u8]) -> bool {
+    matches!(
+        name,
+        [b'c', b'h', b'r', ..]
+            | [b'f', b'i', b'l', ..]
+            | [b'p', b'm', b'r', ..]
+            | [b'r', b'a', b'n', ..]
+    )
+}
+
+/// Whether a usual name may begin with a byte.
+pub(crate) fn may_be_usual(byte: u8) -> bool {
+    matches!(
+        byte,
+        b'c' | b'f' | b'i' | b'm' | b'o' | b'p' | b'r' | b's' | b'u' | b'w'
+    )
+}
 
 /// The inline namespaces in these.
 pub static INNER_INLINES: [Place; 4] = [
-    Place { from: 2290, to: 2299 }, // __cxx11::
-    Place { from: 2353, to: 2358 }, // _V2::
-    Place { from: 2397, to: 2405 }, // __cust::
-    Place { from: 2405, to: 2412 }, // __cpo::
+    T163, // __cxx11::
+    T172, // _V2::
+    T178, // __cust::
+    T179, // __cpo::
 ];
