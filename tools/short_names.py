@@ -45,7 +45,7 @@ def first_bytes(names):
 
 def fronts(names):
     """The first three bytes of names, as a pattern."""
-    return "\n            | ".join("[b'{}', b'{}', b'{}', ..]".format(*name[:3]) for name in sorted(names))
+    return "\n            | ".join("[b'{}', b'{}', b'{}', ..]".format(*front) for front in sorted({name[:3] for name in names}))
 
 def files(crates):
     """The path and the text of the file."""
@@ -74,5 +74,5 @@ def files(crates):
     std, lines = texts.place("std::"), "".join(texts.texts)
     firsts = [sum(size < k for size in sizes) for k in range(max(sizes) + 2)]
     yield "short_names/src/table.rt", template("short_names/table.rt", std=std, marks=["    " + ", ".join(marks[k:k + 13]) + "," for k in range(0, len(marks), 13)], places=texts.constants(), longest=str(len(firsts) - 1), firsts=str(len(firsts)), first=["    " + ", ".join(map(str, firsts[k:k + 25])) + "," for k in range(0, len(firsts), 25)], texts=escaped(lines), length=str(len(lines)), templates=rows, count=str(len(rows)), aliases=aliases, names=str(len(aliases)),
-        inner_bytes=fronts(listed["inner"][0]), usual_bytes=first_bytes(alias for alias, _, _ in listed["alias"]),
+        inline_bytes=fronts(inlines), inner_bytes=fronts(listed["inner"][0]), usual_bytes=first_bytes(alias for alias, _, _ in listed["alias"]),
         **{name.lower(): rows for name, rows in places.items()}, **{f"{name.lower()}_count": str(len(rows)) for name, rows in places.items()})

@@ -1,7 +1,7 @@
 // Texts without the inline namespaces of `std`.
 use crate::names::row_size;
 use crate::runs::std_run;
-use crate::table::{INLINES, INNER_INLINES, INNERS, Place, may_be_inner};
+use crate::table::{INLINES, INNER_INLINES, INNERS, Place, may_be_inline, may_be_inner};
 use std::alloc::AllocError;
 
 /// How long the inline namespaces are with which a name begins.
@@ -45,15 +45,10 @@ impl Inlines {
     /// Those of a name.
     #[inline(always)]
     fn of(name: &[u8]) -> Inlines {
-        match name {
-            [b'_', ..] => Inlines::read(name),
-            _ => {
-                if may_be_inner(name) {
-                    Inlines::read(name)
-                } else {
-                    NO_INLINES
-                }
-            }
+        if may_be_inline(name) || may_be_inner(name) {
+            Inlines::read(name)
+        } else {
+            NO_INLINES
         }
     }
 

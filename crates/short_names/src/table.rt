@@ -611,6 +611,23 @@ pub static INLINES: [Place; 11] = [
     T173, // __fs::
 ];
 
+/// Whether a name may begin with one of these, by its first three bytes.
+pub(crate) fn may_be_inline(name: &[u8]) -> bool {
+    matches!(
+        name,
+        [b'_', b'V', b'2', ..]
+            | [b'_', b'_', b'1', ..]
+            | [b'_', b'_', b'2', ..]
+            | [b'_', b'_', b'8', ..]
+            | [b'_', b'_', b'C', ..]
+            | [b'_', b'_', b'c', ..]
+            | [b'_', b'_', b'd', ..]
+            | [b'_', b'_', b'f', ..]
+            | [b'_', b'_', b'h', ..]
+            | [b'_', b'_', b'n', ..]
+    )
+}
+
 /// The namespaces in `std` that have inline ones of their own.
 pub static INNERS: [Place; 4] = [
     T174, // chrono::
