@@ -1,8 +1,9 @@
 // Names of the table.
-ghost use Rattle.std.specs.Prelude.{◌≡◌, ◌≤◌, length, drop, take, nat_eq, true, slice_get, ℕ, None, Some, MatchOption, if◌then◌else◌, [], ◌++◌, ◌-◌};
+ghost use Rattle.std.specs.Prelude.{◌≡◌, ◌≤◌, ◌<◌, length, drop, take, nat_eq, true, slice_get, ℕ, None, Some, MatchOption, if◌then◌else◌, [], ◌++◌, ◌-◌};
 ghost use Rattle.std.specs.List.{starts_with};
 ghost use Rattle.short_names.specs.Names.{row_in, size_of, template_in, behind_part, std_name, last_part, front_size, is_constructor, ends_name, member_in};
-ghost use Rattle.short_names.specs.Runs.{begins_std};
+ghost use Rattle.short_names.specs.Runs.{begins_std, run_of};
+ghost use Rattle.short_names.specs.Changes.{IsChange};
 ghost use Rattle.short_names.specs.Texts.{text_of};
 ghost use Rattle.short_names.specs.declared.table.TheConstants.{TEMPLATES, ALIASES, WHOLES, PARTS};
 
@@ -234,7 +235,8 @@ fn member_in(text: &[u8], from: usize, name: &[u8]) -> Change {
 
 /// What does so at a run that begins with `std::`, in a text that begins with that run.
 pub(crate) fn change_at(text: &[u8], run: &[u8]) -> Change
-    requires { (begins_std run.now ≡ true) × (length run.now ≤ length text.now) }
+    requires { (begins_std run.now ≡ true) × (run.now ≡ run_of text.now) }
+    ensures { IsChange run.now (drop (length run.now) text.now) result }
 {
     let Some(std) = std_name(run) else {
         return Change::Nothing;
