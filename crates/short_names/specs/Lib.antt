@@ -1,3 +1,4 @@
+pub mod Changes
 pub mod Elements
 pub mod Full
 pub mod Inlines
@@ -6,5 +7,6 @@ pub mod Names
 pub mod Patterns
 pub mod Runs
 pub mod Short
+pub mod Starts
 pub mod Texts
 pub mod Walk
