@@ -52,7 +52,7 @@ def rows_of(numbers):
     """Numbers as the rows of an array, in the formatter's layout."""
     lines, line = [], "   "
     for number in numbers:
-        if len(line) + len(f" {number},") > 100:
+        if len(line) + len(f" {number},") > 99:
             lines.append(line)
             line = "   "
         line += f" {number},"
