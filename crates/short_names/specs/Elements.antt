@@ -1,10 +1,12 @@
 -- What is left of the elements of a list, by the name of the table before it.
-use Rattle.std.specs.Prelude.{ℕ, zero, suc, List, [], ◌∷◌, ◌++◌, ◌+◌, ◌-◌, Bool, true, false, not, ◌==◌, ◌&&◌, nat_le, nat_eq, length, take, drop, get_or, slice_get, codes, Option, None, Some, if◌then◌else◌}
+use Rattle.std.specs.Prelude.{◌≡◌, ℕ, zero, suc, List, [], ◌∷◌, ◌++◌, ◌+◌, ◌-◌, Bool, true, false, not, ◌==◌, ◌&&◌, nat_le, nat_eq, length, take, drop, get_or, slice_get, codes, Option, None, Some, if◌then◌else◌}
 use Rattle.std.specs.Cmp.Lexicographic.{pointwise}
 use Rattle.short_names.specs.declared.table.Place.{Place}
 use Rattle.short_names.specs.declared.table.Alias.{Alias}
-use Rattle.short_names.specs.declared.table.TheConstants.{ALIASES}
+use Rattle.short_names.specs.declared.table.Template.{Template}
+use Rattle.short_names.specs.declared.table.TheConstants.{ALIASES, DEFAULTS}
 use Rattle.short_names.specs.declared.names.Named.{Named}
+use Rattle.short_names.specs.declared.patterns.Holes.{Holes}
 use Rattle.short_names.specs.Patterns.{filled}
 use Rattle.short_names.specs.Texts.{text_of}
 
@@ -33,8 +35,17 @@ abbrev pub pattern_at : Option Place → List ℕ
 pattern_at None = []
 pattern_at (Some place) = text_of place
 
+-- what the table has for each place of a template
+abbrev pub defaults_of : Template → List Place
+defaults_of template = take template.count (drop template.first_default DEFAULTS)
+
 abbrev pub default_pattern : Named → ℕ → List ℕ
-default_pattern named place = pattern_at (slice_get named.template.defaults place)
+default_pattern named place = pattern_at (slice_get (defaults_of named.template) place)
+
+-- the holes of a name's patterns have what fills them
+abbrev pub AreHoles : Named → List (List ℕ) → Holes → Type 0
+AreHoles named elements holes =
+    (holes.first.now ≡ element elements 0) × (holes.second.now ≡ element elements 1) × (holes.whole.now ≡ text_of named.whole)
 
 -- it has a pattern, and a text is that
 abbrev pub is_given : Named → List (List ℕ) → (text pattern : List ℕ) → Bool

@@ -6,7 +6,7 @@ use Rattle.short_names.specs.declared.table.Alias.{Alias}
 use Rattle.short_names.specs.declared.table.Template.{Template}
 use Rattle.short_names.specs.declared.table.TheConstants.{ALIASES}
 use Rattle.short_names.specs.declared.names.Named.{Named}
-use Rattle.short_names.specs.Elements.{listed, filled_for}
+use Rattle.short_names.specs.Elements.{listed, filled_for, defaults_of}
 use Rattle.short_names.specs.Names.{StdName, std_name, table_name, named_in, last_part, front_size, is_constructor, ends_name}
 use Rattle.short_names.specs.Patterns.{filled}
 use Rattle.short_names.specs.Texts.{text_of}
@@ -23,7 +23,7 @@ with_defaults full named elements (place ∷ places) =
 
 -- up to a number of them
 abbrev pub defaulted : (full : List ℕ → List ℕ) → Named → ℕ → List (List ℕ) → List (List ℕ)
-defaulted full named count elements = with_defaults full named elements (drop (length elements) (take count named.template.defaults))
+defaulted full named count elements = with_defaults full named elements (drop (length elements) (take count (defaults_of named.template)))
 
 -- ## Names of `std::pmr`
 

@@ -1,9 +1,14 @@
 -- Texts without the inline namespaces of `std`.
-use Rattle.std.specs.Prelude.{ℕ, zero, suc, List, [], ◌∷◌, ◌++◌, ◌+◌, ◌-◌, Bool, true, false, not, ◌==◌, ◌&&◌, ◌||◌, length, take, drop, codes, if◌then◌else◌}
+use Rattle.std.specs.Prelude.{ℕ, zero, suc, List, [], ◌∷◌, ◌++◌, ◌+◌, ◌-◌, Bool, true, false, not, ◌==◌, ◌&&◌, ◌||◌, length, get_or, take, drop, codes, if◌then◌else◌}
 use Rattle.short_names.specs.declared.table.Place.{Place}
 use Rattle.short_names.specs.declared.table.TheConstants.{INLINES, INNERS, INNER_INLINES}
 use Rattle.short_names.specs.Runs.{is_name_byte, begins_std}
 use Rattle.short_names.specs.Names.{row_in, size_of}
+use Rattle.short_names.specs.Texts.{text_of}
+
+-- a text of the table begins with `_`
+abbrev pub begins_low : Place → Bool
+begins_low row = not (length (text_of row) == 0) && get_or (text_of row) 0 0 == 95
 
 -- how long the inline namespaces are with which a name begins, behind some bytes of one
 unfoldable pub inlines_size : List Place → (skipped : ℕ) → List ℕ → ℕ
@@ -35,10 +40,10 @@ std_front text = codes "std::" ++ take (inner (drop 5 text)) (drop (front (drop 
 abbrev pub std_size : List ℕ → ℕ
 std_size text = 5 + (front (drop 5 text) + inner (drop 5 text) + nested (drop 5 text))
 
--- A text without the inline namespaces of `std`, behind some bytes that were passed over, and behind a byte of a name or another.
+-- A text without the inline namespaces of `std`, where some bytes are passed over first, and where the byte before is of a name or not.
 unfoldable pub without_inlines : (in_run : Bool) → (skipped : ℕ) → List ℕ → List ℕ
 without_inlines in_run skipped [] = []
-without_inlines in_run (suc skipped) (byte ∷ text) = without_inlines true skipped text
+without_inlines in_run (suc skipped) (byte ∷ text) = without_inlines (is_name_byte byte) skipped text
 without_inlines true zero (byte ∷ text) = byte ∷ without_inlines (is_name_byte byte) zero text
 without_inlines false zero (byte ∷ text) =
     elim (begins_std (byte ∷ text)) [

@@ -22,7 +22,7 @@ run_of (byte ∷ text) = if is_name_byte byte then byte ∷ run_of text else []
 -- a run ends with the word `operator`, and that isn't the end of a longer one
 unfoldable pub ends_operator : List ℕ → Bool
 ends_operator run =
-    ends_with nat_eq run (codes "operator") && (length run - 8 == 0 || not (is_letter (get_or run (length run - 9) 0)))
+    ends_with nat_eq run (codes "operator") && (length run == 8 || not (is_letter (get_or run (length run - 9) 0)))
 
 -- how many bytes of an operator's sign or of an arrow a text begins with that look like brackets of lists
 unfoldable pub sign_size : List ℕ → ℕ

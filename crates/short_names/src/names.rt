@@ -1,16 +1,16 @@
 // Names of the table.
-ghost use Rattle.std.specs.Prelude.{◌≡◌, ◌≤◌, ◌<◌, length, drop, take, nat_eq, true, slice_get, ℕ, None, Some, MatchOption, if◌then◌else◌, [], ◌++◌, ◌-◌};
+ghost use Rattle.std.specs.Prelude.{◌≡◌, ◌≤◌, ◌<◌, ◌-◌, ◌++◌, ℕ, List, [], length, drop, take, nat_eq, true, false, slice_get, Some, None, MatchOption, if◌then◌else◌};
 ghost use Rattle.std.specs.List.{starts_with};
-ghost use Rattle.short_names.specs.Names.{row_in, size_of, template_in, behind_part, std_name, last_part, front_size, is_constructor, ends_name, member_in};
-ghost use Rattle.short_names.specs.Runs.{begins_std, run_of};
 ghost use Rattle.short_names.specs.Changes.{IsChange};
+ghost use Rattle.short_names.specs.Names.{row_in, size_of, template_in, behind_part, with_template, std_name, last_part, front_size, is_constructor, ends_name, member_in};
+ghost use Rattle.short_names.specs.Runs.{begins_std, run_of};
 ghost use Rattle.short_names.specs.Texts.{text_of};
 ghost use Rattle.short_names.specs.declared.table.TheConstants.{TEMPLATES, ALIASES, WHOLES, PARTS};
 
 use crate::patterns::text_at;
 use crate::runs::{is_letter, is_name_byte};
 use crate::table::{
-    ALIASES, FIRST, LONGEST, MARKS, PARTS, Place, STD, TEMPLATES, Template, WHOLES, may_be_usual,
+    ALIASES, FIRST, LONGEST, MARKS, PARTS, Place, STD, TEMPLATES, Template, USUAL_FIRSTS, WHOLES,
 };
 
 /// A name of the table: its `std::`, with the inline namespace that holds all of `std` if there is one, and its template.
@@ -24,6 +24,7 @@ impl Named {
     /// The one with a template's row.
     pub(crate) fn of_row(whole: Place, row: usize) -> Named
         requires { row < length TEMPLATES }
+        ensures { with_template whole (slice_get TEMPLATES row) ≡ Some result }
     {
         let template = TEMPLATES[row];
         Named { whole, template }
@@ -83,7 +84,8 @@ fn mark_of(name: &[u8]) -> u16 {
 
 /// The row of the template of a name.
 fn row_of(name: &[u8]) -> Option<usize>
-    ensures { MatchOption result (template_in TEMPLATES name.now ≡ None) (λ row. template_in TEMPLATES name.now ≡ slice_get TEMPLATES row) }
+    ensures { MatchOption result (template_in TEMPLATES name.now ≡ None)
+        (λ row. (row < length TEMPLATES) × (template_in TEMPLATES name.now ≡ slice_get TEMPLATES row)) }
 {
     if name.len() >= LONGEST {
         return None;
@@ -209,28 +211,39 @@ pub(crate) enum Change {
     Member { row: usize, size: usize },
 }
 
-/// What does so where a name of `std` with which a run ends is a usual name that a constructor or destructor follows, in a text that
-/// begins with the run.
-fn member_in(text: &[u8], from: usize, name: &[u8]) -> Change {
+/// Whether a name may begin with a usual name that a member's name follows: not if it has no colon.
+#[inline(always)]
+fn may_have_member(name: &[u8]) -> bool
+    ensures { result ≡ false → (text : List ℕ) → name.now ≡ run_of text → member_in ALIASES name.now text ≡ None }
+{
     match name {
-        [byte, ..] if !may_be_usual(*byte) => return Change::Nothing,
-        _ => {}
+        [first, ..] => USUAL_FIRSTS[*first as usize] == b'1' && name.contains(&b':'),
+        [] => false,
     }
-    if !name.contains(&b':') {
-        return Change::Nothing;
+}
+
+/// The row of the usual name with which a name begins, where a constructor or destructor follows that has the template's name. The name
+/// is the run with which a text begins.
+fn member_row(name: &[u8], text: &[u8]) -> Option<usize>
+    requires { name.now ≡ run_of text.now }
+    ensures { MatchOption result (member_in ALIASES name.now text.now ≡ None)
+        (λ row. (row < length ALIASES) × (member_in ALIASES name.now text.now ≡ slice_get ALIASES row)) }
+{
+    if !may_have_member(name) {
+        return None;
     }
     let mut row = 0;
     'rows: while row < ALIASES.len() {
-        let alias = text_at(ALIASES[row].name);
-        if begins_with(name, alias) {
-            let size = from + alias.len();
-            if is_constructor(&text[size..], last_part(text_at(ALIASES[row].template))) {
-                return Change::Member { row, size };
-            }
+        let alias = ALIASES[row];
+        let usual = text_at(alias.name);
+        if begins_with(name, usual)
+            && is_constructor(&text[usual.len()..], last_part(text_at(alias.template)))
+        {
+            return Some(row);
         }
         row += 1;
     }
-    Change::Nothing
+    None
 }
 
 /// What does so at a run that begins with `std::`, in a text that begins with that run.
@@ -247,5 +260,12 @@ pub(crate) fn change_at(text: &[u8], run: &[u8]) -> Change
             return Change::List { whole, row };
         }
     }
-    member_in(text, run.len() - std.name.len(), std.name)
+    let from = run.len() - std.name.len();
+    match member_row(std.name, &text[from..]) {
+        None => Change::Nothing,
+        Some(row) => {
+            let size = from + text_at(ALIASES[row].name).len();
+            Change::Member { row, size }
+        }
+    }
 }

@@ -1,5 +1,5 @@
 // Patterns of the table.
-ghost use Rattle.std.specs.Prelude.{◌≡◌, ◌≢◌, ◌++◌, ◌∷◌, [], ℕ, List, MatchOption, nat_eq};
+ghost use Rattle.std.specs.Prelude.{◌≡◌, ◌≢◌, ◌<◌, ◌++◌, ◌∷◌, [], ℕ, List, MatchOption, nat_eq};
 ghost use Rattle.std.specs.Cmp.Lexicographic.{pointwise};
 ghost use Rattle.short_names.specs.Patterns.{ticks, bit, filled};
 ghost use Rattle.short_names.specs.Texts.{text_of};
@@ -41,31 +41,31 @@ fn ticks(whole: &[u8]) -> &'static [u8]
     }
 }
 
-/// What fills a hole; none where a byte of a pattern is no hole.
-fn filling<'a>(holes: Holes<'a>, byte: u8) -> Option<&'a [u8]>
-    ensures { MatchOption result (bit holes.entry.first.now holes.entry.second.now holes.entry.whole.now byte ≡ byte ∷ []) (λ part. part.now ≡ bit holes.entry.first.now holes.entry.second.now holes.entry.whole.now byte) }
+/// What fills the hole that a byte of a pattern is.
+#[inline(always)]
+fn filling<'a>(holes: Holes<'a>, hole: u8) -> &'a [u8]
+    requires { hole < 4 }
+    ensures { result.now ≡ bit holes.entry.first.now holes.entry.second.now holes.entry.whole.now hole }
 {
-    if byte == 0 {
-        return Some(holes.first);
+    if hole == 0 {
+        holes.first
+    } else if hole == 1 {
+        holes.second
+    } else if hole == 2 {
+        holes.whole
+    } else {
+        ticks(holes.whole)
     }
-    if byte == 1 {
-        return Some(holes.second);
-    }
-    if byte == 2 {
-        return Some(holes.whole);
-    }
-    if byte == 3 {
-        return Some(ticks(holes.whole));
-    }
-    None
 }
 
 /// What is left of a text behind what a byte of a pattern is; none where it doesn't begin with that.
+#[inline(always)]
 fn behind<'a>(text: &'a [u8], holes: Holes<'_>, byte: u8) -> Option<&'a [u8]>
     ensures { MatchOption result ((rest : List ℕ) → text.now ≢ bit holes.entry.first.now holes.entry.second.now holes.entry.whole.now byte ++ rest)
         (λ rest. text.now ≡ bit holes.entry.first.now holes.entry.second.now holes.entry.whole.now byte ++ rest.now) }
 {
-    if let Some(part) = filling(holes, byte) {
+    if byte < 4 {
+        let part = filling(holes, byte);
         return text.strip_prefix(part);
     }
     match text {

@@ -112,25 +112,21 @@ pub(crate) fn run_at(text: &[u8]) -> &[u8]
 fn ends_operator(run: &[u8]) -> bool
     ensures { result ≡ ends_operator run.now }
 {
-    match run {
-        [.., last, b'o', b'p', b'e', b'r', b'a', b't', b'o', b'r'] => !is_letter(*last),
-        [b'o', b'p', b'e', b'r', b'a', b't', b'o', b'r'] => true,
-        _ => false,
-    }
+    run.ends_with(b"operator") && (run.len() == 8 || !is_letter(run[run.len() - 9]))
 }
 
 /// How many bytes of an operator's sign, or of an arrow's, a text begins with that look like brackets of lists.
 fn sign_size(text: &[u8]) -> usize
     ensures { result ≡ sign_size text.now }
 {
-    match text {
-        [b'<', b'=', b'>', ..] => 3,
-        [b'<', b'<', ..] => 2,
-        [b'>', b'>', ..] => 2,
-        [b'-', b'>', ..] => 2,
-        [b'<', ..] => 1,
-        [b'>', ..] => 1,
-        _ => 0,
+    if text.starts_with(b"<=>") {
+        3
+    } else if text.starts_with(b"<<") || text.starts_with(b">>") || text.starts_with(b"->") {
+        2
+    } else if text.starts_with(b"<") || text.starts_with(b">") {
+        1
+    } else {
+        0
     }
 }
 
@@ -157,23 +153,9 @@ fn block_bits(text: &[u8], at: usize) -> u64
     requires { at + 67 ≤ length text.now }
     ensures { (k : ℕ) → k < 64 → bit_at result k ≡ 0 → begins_std (drop (at + k) text.now) ≡ false }
 {
-    let (third, fourth) = (u8x16::splat(b'd'), u8x16::splat(b':'));
-    let first_lanes = u8x16::from_slice(&text[at + 2..]).simd_eq(third)
-        & u8x16::from_slice(&text[at + 3..]).simd_eq(fourth);
-    let second_lanes = u8x16::from_slice(&text[at + 18..]).simd_eq(third)
-        & u8x16::from_slice(&text[at + 19..]).simd_eq(fourth);
-    let third_lanes = u8x16::from_slice(&text[at + 34..]).simd_eq(third)
-        & u8x16::from_slice(&text[at + 35..]).simd_eq(fourth);
-    let last_lanes = u8x16::from_slice(&text[at + 50..]).simd_eq(third)
-        & u8x16::from_slice(&text[at + 51..]).simd_eq(fourth);
-    // most often there is none, and one test finds that
-    if (first_lanes | second_lanes | third_lanes | last_lanes).to_bitmask() == 0 {
-        return 0;
-    }
-    first_lanes.to_bitmask()
-        | second_lanes.to_bitmask() << 16
-        | third_lanes.to_bitmask() << 32
-        | last_lanes.to_bitmask() << 48
+    let third = u8x64::from_slice(&text[at + 2..]).simd_eq(u8x64::splat(b'd'));
+    let fourth = u8x64::from_slice(&text[at + 3..]).simd_eq(u8x64::splat(b':'));
+    (third & fourth).to_bitmask()
 }
 
 /// The same of fewer places.

@@ -8,13 +8,13 @@ pub struct Place {
     pub to: u16,
 }
 
-/// A template: its name, how many arguments it has, what is the default in each place, the default by `std::pmr` in the
-/// last place, and which rows of `ALIASES` are its.
+/// A template: its name, how many arguments it has, from which row of `DEFAULTS` on what is the default in each place, the default by
+/// `std::pmr` in the last place, and which rows of `ALIASES` are its.
 #[derive(Clone, Copy)]
 pub struct Template {
     pub name: Place,
     pub count: u8,
-    pub defaults: [Place; 5],
+    pub first_default: u8,
     pub polymorphic: Place,
     pub first_alias: u8,
     pub end_alias: u8,
@@ -28,9 +28,6 @@ pub struct Alias {
     pub name: Place,
 }
 
-/// The most arguments that a template has a default among.
-pub(crate) const MOST_ARGUMENTS: usize = 5;
-
 // A place.
 macro_rules! place {
     ($from:expr, $to:expr) => {
@@ -43,11 +40,11 @@ macro_rules! place {
 
 // A row of `TEMPLATES`.
 macro_rules! template {
-    ($name:expr, $count:expr, $defaults:expr, $polymorphic:expr, $first:expr, $end:expr) => {
+    ($name:expr, $count:expr, $default:expr, $polymorphic:expr, $first:expr, $end:expr) => {
         Template {
             name: $name,
             count: $count,
-            defaults: $defaults,
+            first_default: $default,
             polymorphic: $polymorphic,
             first_alias: $first,
             end_alias: $end,
@@ -458,73 +455,251 @@ pub static MARKS: [u16; 67] = [
 
 /// The templates, by the sizes of their names.
 pub static TEMPLATES: [Template; 67] = [
-    template!(T2, 3, [NO, T0, T1, NO, NO], T3, 0, 0), // set
-    template!(T5, 4, [NO, NO, T0, T4, NO], T6, 0, 0), // map
-    template!(T7, 2, [NO, T1, NO, NO, NO], T3, 0, 0), // list
-    template!(T9, 2, [NO, T8, NO, NO, NO], NO, 0, 0), // span
-    template!(T10, 2, [NO, T1, NO, NO, NO], T3, 0, 0), // deque
-    template!(T12, 2, [NO, T11, NO, NO, NO], NO, 0, 0), // queue
-    template!(T13, 2, [NO, T11, NO, NO, NO], NO, 0, 0), // stack
-    template!(T15, 2, [NO, T14, NO, NO, NO], NO, 0, 0), // ratio
-    template!(T16, 2, [NO, T1, NO, NO, NO], T3, 0, 0), // vector
-    template!(T19, 4, [NO, NO, T17, T18, NO], NO, 0, 0), // mdspan
-    template!(T21, 2, [NO, T20, NO, NO, NO], NO, 0, 0), // num_get
-    template!(T23, 2, [NO, T22, NO, NO, NO], NO, 0, 0), // num_put
-    template!(T24, 3, [NO, T0, T1, NO, NO], T3, 0, 0), // multiset
-    template!(T25, 4, [NO, NO, T0, T4, NO], T6, 0, 0), // multimap
-    template!(T27, 3, [NO, T0, T26, NO, NO], NO, 0, 0), // flat_set
-    template!(T29, 5, [NO, NO, T0, T26, T28], NO, 0, 0), // flat_map
-    template!(T30, 2, [NO, T20, NO, NO, NO], NO, 0, 0), // time_get
-    template!(T31, 2, [NO, T22, NO, NO, NO], NO, 0, 0), // time_put
-    template!(T35, 5, [NO, NO, T32, T33, T34], NO, 0, 0), // iterator
-    template!(T36, 2, [NO, T41, NO, NO, NO], NO, 0, 2), // basic_ios
-    template!(T42, 2, [NO, T20, NO, NO, NO], NO, 2, 2), // money_get
-    template!(T43, 2, [NO, T22, NO, NO, NO], NO, 2, 2), // money_put
-    template!(T44, 2, [NO, T37, NO, NO, NO], NO, 2, 2), // formatter
-    template!(T46, 3, [NO, T45, T45, NO, NO], NO, 2, 2), // generator
-    template!(T48, 2, [NO, T47, NO, NO, NO], NO, 2, 2), // unique_ptr
-    template!(T50, 2, [NO, T49, NO, NO, NO], NO, 2, 2), // moneypunct
-    template!(T51, 2, [NO, T54, NO, NO, NO], NO, 2, 4), // basic_regex
-    template!(T55, 2, [NO, T1, NO, NO, NO], T3, 4, 4), // forward_list
-    template!(T56, 3, [NO, T41, T1, NO, NO], NO, 4, 10), // basic_string
-    template!(T69, 4, [NO, T67, T68, T1, NO], T3, 10, 10), // unordered_set
-    template!(T70, 5, [NO, NO, T67, T68, T4], T6, 10, 10), // unordered_map
-    template!(T71, 3, [NO, T0, T26, NO, NO], NO, 10, 10), // flat_multiset
-    template!(T72, 5, [NO, NO, T0, T26, T28], NO, 10, 10), // flat_multimap
-    template!(T73, 3, [NO, T41, T1, NO, NO], NO, 10, 10), // basic_syncbuf
-    template!(T74, 2, [NO, T41, NO, NO, NO], NO, 10, 12), // basic_istream
-    template!(T77, 2, [NO, T41, NO, NO, NO], NO, 12, 14), // basic_ostream
-    template!(T80, 2, [NO, T41, NO, NO, NO], NO, 14, 16), // basic_filebuf
-    template!(T83, 2, [NO, T41, NO, NO, NO], NO, 16, 18), // basic_fstream
-    template!(T86, 2, [NO, T41, NO, NO, NO], NO, 18, 18), // basic_spanbuf
-    template!(T88, 2, [NO, T87, NO, NO, NO], NO, 18, 18), // match_results
-    template!(T89, 3, [NO, T26, T0, NO, NO], NO, 18, 18), // priority_queue
-    template!(T90, 2, [NO, T41, NO, NO, NO], NO, 18, 20), // basic_iostream
-    template!(T93, 2, [NO, T41, NO, NO, NO], NO, 20, 22), // basic_ifstream
-    template!(T96, 2, [NO, T41, NO, NO, NO], NO, 22, 24), // basic_ofstream
-    template!(T99, 3, [NO, T41, T1, NO, NO], NO, 24, 26), // basic_stringbuf
-    template!(T102, 2, [NO, T41, NO, NO, NO], NO, 26, 28), // basic_streambuf
-    template!(T105, 2, [NO, T20, NO, NO, NO], NO, 28, 28), // time_get_byname
-    template!(T106, 2, [NO, T22, NO, NO, NO], NO, 28, 28), // time_put_byname
-    template!(T107, 2, [NO, T41, NO, NO, NO], NO, 28, 28), // basic_spanstream
-    template!(T109, 4, [NO, T37, T108, T32, NO], NO, 28, 28), // istream_iterator
-    template!(T110, 3, [NO, T37, T108, NO, NO], NO, 28, 28), // ostream_iterator
-    template!(T111, 2, [NO, T124, NO, NO, NO], NO, 28, 34), // chrono::duration
-    template!(T125, 3, [NO, T41, T1, NO, NO], NO, 34, 34), // basic_osyncstream
-    template!(T126, 2, [NO, T41, NO, NO, NO], NO, 34, 39), // basic_string_view
-    template!(T132, 2, [NO, T41, NO, NO, NO], NO, 39, 39), // basic_ispanstream
-    template!(T133, 2, [NO, T41, NO, NO, NO], NO, 39, 39), // basic_ospanstream
-    template!(T134, 2, [NO, T49, NO, NO, NO], NO, 39, 39), // moneypunct_byname
-    template!(T136, 2, [NO, T135, NO, NO, NO], NO, 39, 39), // ranges::iota_view
-    template!(T137, 4, [NO, T67, T68, T1, NO], T3, 39, 39), // unordered_multiset
-    template!(T138, 5, [NO, NO, T67, T68, T4], T6, 39, 39), // unordered_multimap
-    template!(T139, 3, [NO, T41, T1, NO, NO], NO, 39, 41), // basic_stringstream
-    template!(T142, 3, [NO, T41, T1, NO, NO], NO, 41, 43), // basic_istringstream
-    template!(T145, 3, [NO, T41, T1, NO, NO], NO, 43, 45), // basic_ostringstream
-    template!(T148, 2, [NO, T41, NO, NO, NO], NO, 45, 45), // istreambuf_iterator
-    template!(T149, 2, [NO, T41, NO, NO, NO], NO, 45, 45), // ostreambuf_iterator
-    template!(T150, 0, [NO, NO, NO, NO, NO], NO, 45, 47), // mersenne_twister_engine
-    template!(T155, 3, [NO, NO, T108, NO, NO], NO, 47, 47), // ranges::basic_istream_view
+    template!(T2, 3, 0, T3, 0, 0), // set
+    template!(T5, 4, 3, T6, 0, 0), // map
+    template!(T7, 2, 7, T3, 0, 0), // list
+    template!(T9, 2, 9, NO, 0, 0), // span
+    template!(T10, 2, 11, T3, 0, 0), // deque
+    template!(T12, 2, 13, NO, 0, 0), // queue
+    template!(T13, 2, 15, NO, 0, 0), // stack
+    template!(T15, 2, 17, NO, 0, 0), // ratio
+    template!(T16, 2, 19, T3, 0, 0), // vector
+    template!(T19, 4, 21, NO, 0, 0), // mdspan
+    template!(T21, 2, 25, NO, 0, 0), // num_get
+    template!(T23, 2, 27, NO, 0, 0), // num_put
+    template!(T24, 3, 29, T3, 0, 0), // multiset
+    template!(T25, 4, 32, T6, 0, 0), // multimap
+    template!(T27, 3, 36, NO, 0, 0), // flat_set
+    template!(T29, 5, 39, NO, 0, 0), // flat_map
+    template!(T30, 2, 44, NO, 0, 0), // time_get
+    template!(T31, 2, 46, NO, 0, 0), // time_put
+    template!(T35, 5, 48, NO, 0, 0), // iterator
+    template!(T36, 2, 53, NO, 0, 2), // basic_ios
+    template!(T42, 2, 55, NO, 2, 2), // money_get
+    template!(T43, 2, 57, NO, 2, 2), // money_put
+    template!(T44, 2, 59, NO, 2, 2), // formatter
+    template!(T46, 3, 61, NO, 2, 2), // generator
+    template!(T48, 2, 64, NO, 2, 2), // unique_ptr
+    template!(T50, 2, 66, NO, 2, 2), // moneypunct
+    template!(T51, 2, 68, NO, 2, 4), // basic_regex
+    template!(T55, 2, 70, T3, 4, 4), // forward_list
+    template!(T56, 3, 72, NO, 4, 10), // basic_string
+    template!(T69, 4, 75, T3, 10, 10), // unordered_set
+    template!(T70, 5, 79, T6, 10, 10), // unordered_map
+    template!(T71, 3, 84, NO, 10, 10), // flat_multiset
+    template!(T72, 5, 87, NO, 10, 10), // flat_multimap
+    template!(T73, 3, 92, NO, 10, 10), // basic_syncbuf
+    template!(T74, 2, 95, NO, 10, 12), // basic_istream
+    template!(T77, 2, 97, NO, 12, 14), // basic_ostream
+    template!(T80, 2, 99, NO, 14, 16), // basic_filebuf
+    template!(T83, 2, 101, NO, 16, 18), // basic_fstream
+    template!(T86, 2, 103, NO, 18, 18), // basic_spanbuf
+    template!(T88, 2, 105, NO, 18, 18), // match_results
+    template!(T89, 3, 107, NO, 18, 18), // priority_queue
+    template!(T90, 2, 110, NO, 18, 20), // basic_iostream
+    template!(T93, 2, 112, NO, 20, 22), // basic_ifstream
+    template!(T96, 2, 114, NO, 22, 24), // basic_ofstream
+    template!(T99, 3, 116, NO, 24, 26), // basic_stringbuf
+    template!(T102, 2, 119, NO, 26, 28), // basic_streambuf
+    template!(T105, 2, 121, NO, 28, 28), // time_get_byname
+    template!(T106, 2, 123, NO, 28, 28), // time_put_byname
+    template!(T107, 2, 125, NO, 28, 28), // basic_spanstream
+    template!(T109, 4, 127, NO, 28, 28), // istream_iterator
+    template!(T110, 3, 131, NO, 28, 28), // ostream_iterator
+    template!(T111, 2, 134, NO, 28, 34), // chrono::duration
+    template!(T125, 3, 136, NO, 34, 34), // basic_osyncstream
+    template!(T126, 2, 139, NO, 34, 39), // basic_string_view
+    template!(T132, 2, 141, NO, 39, 39), // basic_ispanstream
+    template!(T133, 2, 143, NO, 39, 39), // basic_ospanstream
+    template!(T134, 2, 145, NO, 39, 39), // moneypunct_byname
+    template!(T136, 2, 147, NO, 39, 39), // ranges::iota_view
+    template!(T137, 4, 149, T3, 39, 39), // unordered_multiset
+    template!(T138, 5, 153, T6, 39, 39), // unordered_multimap
+    template!(T139, 3, 158, NO, 39, 41), // basic_stringstream
+    template!(T142, 3, 161, NO, 41, 43), // basic_istringstream
+    template!(T145, 3, 164, NO, 43, 45), // basic_ostringstream
+    template!(T148, 2, 167, NO, 45, 45), // istreambuf_iterator
+    template!(T149, 2, 169, NO, 45, 45), // ostreambuf_iterator
+    template!(T150, 0, 171, NO, 45, 47), // mersenne_twister_engine
+    template!(T155, 3, 171, NO, 47, 47), // ranges::basic_istream_view
+];
+
+/// What is the default in each place of the templates, the empty text where there is none.
+pub static DEFAULTS: [Place; 174] = [
+    NO, // set
+    T0, // set
+    T1, // set
+    NO, // map
+    NO, // map
+    T0, // map
+    T4, // map
+    NO, // list
+    T1, // list
+    NO, // span
+    T8, // span
+    NO, // deque
+    T1, // deque
+    NO, // queue
+    T11, // queue
+    NO, // stack
+    T11, // stack
+    NO, // ratio
+    T14, // ratio
+    NO, // vector
+    T1, // vector
+    NO, // mdspan
+    NO, // mdspan
+    T17, // mdspan
+    T18, // mdspan
+    NO, // num_get
+    T20, // num_get
+    NO, // num_put
+    T22, // num_put
+    NO, // multiset
+    T0, // multiset
+    T1, // multiset
+    NO, // multimap
+    NO, // multimap
+    T0, // multimap
+    T4, // multimap
+    NO, // flat_set
+    T0, // flat_set
+    T26, // flat_set
+    NO, // flat_map
+    NO, // flat_map
+    T0, // flat_map
+    T26, // flat_map
+    T28, // flat_map
+    NO, // time_get
+    T20, // time_get
+    NO, // time_put
+    T22, // time_put
+    NO, // iterator
+    NO, // iterator
+    T32, // iterator
+    T33, // iterator
+    T34, // iterator
+    NO, // basic_ios
+    T41, // basic_ios
+    NO, // money_get
+    T20, // money_get
+    NO, // money_put
+    T22, // money_put
+    NO, // formatter
+    T37, // formatter
+    NO, // generator
+    T45, // generator
+    T45, // generator
+    NO, // unique_ptr
+    T47, // unique_ptr
+    NO, // moneypunct
+    T49, // moneypunct
+    NO, // basic_regex
+    T54, // basic_regex
+    NO, // forward_list
+    T1, // forward_list
+    NO, // basic_string
+    T41, // basic_string
+    T1, // basic_string
+    NO, // unordered_set
+    T67, // unordered_set
+    T68, // unordered_set
+    T1, // unordered_set
+    NO, // unordered_map
+    NO, // unordered_map
+    T67, // unordered_map
+    T68, // unordered_map
+    T4, // unordered_map
+    NO, // flat_multiset
+    T0, // flat_multiset
+    T26, // flat_multiset
+    NO, // flat_multimap
+    NO, // flat_multimap
+    T0, // flat_multimap
+    T26, // flat_multimap
+    T28, // flat_multimap
+    NO, // basic_syncbuf
+    T41, // basic_syncbuf
+    T1, // basic_syncbuf
+    NO, // basic_istream
+    T41, // basic_istream
+    NO, // basic_ostream
+    T41, // basic_ostream
+    NO, // basic_filebuf
+    T41, // basic_filebuf
+    NO, // basic_fstream
+    T41, // basic_fstream
+    NO, // basic_spanbuf
+    T41, // basic_spanbuf
+    NO, // match_results
+    T87, // match_results
+    NO, // priority_queue
+    T26, // priority_queue
+    T0, // priority_queue
+    NO, // basic_iostream
+    T41, // basic_iostream
+    NO, // basic_ifstream
+    T41, // basic_ifstream
+    NO, // basic_ofstream
+    T41, // basic_ofstream
+    NO, // basic_stringbuf
+    T41, // basic_stringbuf
+    T1, // basic_stringbuf
+    NO, // basic_streambuf
+    T41, // basic_streambuf
+    NO, // time_get_byname
+    T20, // time_get_byname
+    NO, // time_put_byname
+    T22, // time_put_byname
+    NO, // basic_spanstream
+    T41, // basic_spanstream
+    NO, // istream_iterator
+    T37, // istream_iterator
+    T108, // istream_iterator
+    T32, // istream_iterator
+    NO, // ostream_iterator
+    T37, // ostream_iterator
+    T108, // ostream_iterator
+    NO, // chrono::duration
+    T124, // chrono::duration
+    NO, // basic_osyncstream
+    T41, // basic_osyncstream
+    T1, // basic_osyncstream
+    NO, // basic_string_view
+    T41, // basic_string_view
+    NO, // basic_ispanstream
+    T41, // basic_ispanstream
+    NO, // basic_ospanstream
+    T41, // basic_ospanstream
+    NO, // moneypunct_byname
+    T49, // moneypunct_byname
+    NO, // ranges::iota_view
+    T135, // ranges::iota_view
+    NO, // unordered_multiset
+    T67, // unordered_multiset
+    T68, // unordered_multiset
+    T1, // unordered_multiset
+    NO, // unordered_multimap
+    NO, // unordered_multimap
+    T67, // unordered_multimap
+    T68, // unordered_multimap
+    T4, // unordered_multimap
+    NO, // basic_stringstream
+    T41, // basic_stringstream
+    T1, // basic_stringstream
+    NO, // basic_istringstream
+    T41, // basic_istringstream
+    T1, // basic_istringstream
+    NO, // basic_ostringstream
+    T41, // basic_ostringstream
+    T1, // basic_ostringstream
+    NO, // istreambuf_iterator
+    T41, // istreambuf_iterator
+    NO, // ostreambuf_iterator
+    T41, // ostreambuf_iterator
+    NO, // ranges::basic_istream_view
+    NO, // ranges::basic_istream_view
+    T108, // ranges::basic_istream_view
 ];
 
 /// The usual names, by their templates.
@@ -611,23 +786,6 @@ pub static INLINES: [Place; 11] = [
     T173, // __fs::
 ];
 
-/// Whether a name may begin with one of these, by its first three bytes.
-pub(crate) fn may_be_inline(name: &[u8]) -> bool {
-    matches!(
-        name,
-        [b'_', b'V', b'2', ..]
-            | [b'_', b'_', b'1', ..]
-            | [b'_', b'_', b'2', ..]
-            | [b'_', b'_', b'8', ..]
-            | [b'_', b'_', b'C', ..]
-            | [b'_', b'_', b'c', ..]
-            | [b'_', b'_', b'd', ..]
-            | [b'_', b'_', b'f', ..]
-            | [b'_', b'_', b'h', ..]
-            | [b'_', b'_', b'n', ..]
-    )
-}
-
 /// The namespaces in `std` that have inline ones of their own.
 pub static INNERS: [Place; 4] = [
     T174, // chrono::
@@ -636,29 +794,47 @@ pub static INNERS: [Place; 4] = [
     T177, // pmr::
 ];
 
-/// Whether a name may begin with one of these, by its first three bytes.
-pub(crate) fn may_be_inner(name: &[u8]) -> bool {
-    matches!(
-        name,
-        [b'c', b'h', b'r', ..]
-            | [b'f', b'i', b'l', ..]
-            | [b'p', b'm', b'r', ..]
-            | [b'r', b'a', b'n', ..]
-    )
-}
-
-/// Whether a usual name may begin with a byte.
-pub(crate) fn may_be_usual(byte: u8) -> bool {
-    matches!(
-        byte,
-        b'c' | b'f' | b'i' | b'm' | b'o' | b'p' | b'r' | b's' | b'u' | b'w'
-    )
-}
-
 /// The inline namespaces in these.
 pub static INNER_INLINES: [Place; 4] = [
     T163, // __cxx11::
     T172, // _V2::
     T178, // __cust::
     T179, // __cpo::
+];
+
+/// For each byte `1` if a usual name begins with it, else `0`.
+pub static USUAL_FIRSTS: [u8; 256] = *b"\
+    00000000000000000000000000000000\
+    00000000000000000000000000000000\
+    00000000000000000000000000000000\
+    00010010010001011011010100000000\
+    00000000000000000000000000000000\
+    00000000000000000000000000000000\
+    00000000000000000000000000000000\
+    00000000000000000000000000000000";
+
+/// For each byte a bit for `INLINES`, and one for each row of `INNERS`: whether a text of these begins with it.
+pub static INLINE_FIRSTS: [u8; 256] = [
+    0, 0, 0, 0, 0, 0, 0, 0, 0, 0, 0, 0, 0, 0, 0, 0, 0, 0, 0, 0, 0, 0, 0, 0, 0, 0, 0, 0, 0, 0, 0, 0,
+    0, 0, 0, 0, 0, 0, 0, 0, 0, 0, 0, 0, 0, 0, 0, 0, 0, 0, 0, 0, 0, 0, 0, 0, 0, 0, 0, 0, 0, 0, 0, 0,
+    0, 0, 0, 0, 0, 0, 0, 0, 0, 0, 0, 0, 0, 0, 0, 0, 0, 0, 0, 0, 0, 0, 0, 0, 0, 0, 0, 0, 0, 0, 0, 1,
+    0, 0, 0, 2, 0, 0, 8, 0, 0, 0, 0, 0, 0, 0, 0, 0, 16, 0, 4, 0, 0, 0, 0, 0, 0, 0, 0, 0, 0, 0, 0,
+    0, 0, 0, 0, 0, 0, 0, 0, 0, 0, 0, 0, 0, 0, 0, 0, 0, 0, 0, 0, 0, 0, 0, 0, 0, 0, 0, 0, 0, 0, 0, 0,
+    0, 0, 0, 0, 0, 0, 0, 0, 0, 0, 0, 0, 0, 0, 0, 0, 0, 0, 0, 0, 0, 0, 0, 0, 0, 0, 0, 0, 0, 0, 0, 0,
+    0, 0, 0, 0, 0, 0, 0, 0, 0, 0, 0, 0, 0, 0, 0, 0, 0, 0, 0, 0, 0, 0, 0, 0, 0, 0, 0, 0, 0, 0, 0, 0,
+    0, 0, 0, 0, 0, 0, 0, 0, 0, 0, 0, 0, 0, 0, 0, 0, 0, 0, 0, 0, 0, 0, 0, 0, 0, 0, 0, 0, 0, 0, 0, 0,
+    0,
+];
+
+/// The same for the third byte.
+pub static INLINE_THIRDS: [u8; 256] = [
+    0, 0, 0, 0, 0, 0, 0, 0, 0, 0, 0, 0, 0, 0, 0, 0, 0, 0, 0, 0, 0, 0, 0, 0, 0, 0, 0, 0, 0, 0, 0, 0,
+    0, 0, 0, 0, 0, 0, 0, 0, 0, 0, 0, 0, 0, 0, 0, 0, 0, 1, 1, 0, 0, 0, 0, 0, 1, 0, 0, 0, 0, 0, 0, 0,
+    0, 0, 0, 1, 0, 0, 0, 0, 0, 0, 0, 0, 0, 0, 0, 0, 0, 0, 0, 0, 0, 0, 0, 0, 0, 0, 0, 0, 0, 0, 0, 0,
+    0, 0, 0, 1, 1, 0, 1, 0, 1, 0, 0, 0, 8, 0, 5, 0, 0, 0, 18, 0, 0, 0, 0, 0, 0, 0, 0, 0, 0, 0, 0,
+    0, 0, 0, 0, 0, 0, 0, 0, 0, 0, 0, 0, 0, 0, 0, 0, 0, 0, 0, 0, 0, 0, 0, 0, 0, 0, 0, 0, 0, 0, 0, 0,
+    0, 0, 0, 0, 0, 0, 0, 0, 0, 0, 0, 0, 0, 0, 0, 0, 0, 0, 0, 0, 0, 0, 0, 0, 0, 0, 0, 0, 0, 0, 0, 0,
+    0, 0, 0, 0, 0, 0, 0, 0, 0, 0, 0, 0, 0, 0, 0, 0, 0, 0, 0, 0, 0, 0, 0, 0, 0, 0, 0, 0, 0, 0, 0, 0,
+    0, 0, 0, 0, 0, 0, 0, 0, 0, 0, 0, 0, 0, 0, 0, 0, 0, 0, 0, 0, 0, 0, 0, 0, 0, 0, 0, 0, 0, 0, 0, 0,
+    0,
 ];
