@@ -1,2 +1,4 @@
 pub mod LaneLemmas
 pub mod RunLemmas
+pub mod SignLemmas
+pub mod WalkLemmas

@@ -1,5 +1,5 @@
 -- Texts in which nothing becomes shorter, up to a place.
-use Rattle.std.specs.Prelude.{◌≡◌, ◌≤◌, ◌<◌, ℕ, List, Bool, true, false, length, drop, Option, None, Some}
+use Rattle.std.specs.Prelude.{◌≡◌, ◌≤◌, ◌<◌, ◌+◌, ℕ, List, Bool, true, false, length, drop, Option, None, Some}
 use Rattle.short_names.specs.declared.names.Change.TheVariants as changes
 use Rattle.short_names.specs.declared.finding.Found.{Found}
 use Rattle.short_names.specs.Changes.{IsChange}
@@ -16,7 +16,7 @@ IsPlain text to = (k : ℕ) → k < to → is_std_at text k ≡ true → IsChang
 
 -- nor has one inline namespaces
 abbrev pub IsWithoutInlines : (text : List ℕ) → (to : ℕ) → Type 0
-IsWithoutInlines text to = (k : ℕ) → k < to → is_std_at text k ≡ true → has_inlines (drop 5 (run_of (drop k text))) ≡ false
+IsWithoutInlines text to = (k : ℕ) → k < to → is_std_at text k ≡ true → has_inlines (drop (k + 5) text) ≡ false
 
 abbrev pub HasNoInlines : (keeps_inline : Bool) → (text : List ℕ) → (to : ℕ) → Type 0
 HasNoInlines true text to = Unit {0}

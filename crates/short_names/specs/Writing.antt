@@ -1,6 +1,5 @@
 -- What has been written of a short text at a place of its text, by the lists that it is written with.
 use Rattle.std.specs.Prelude.{◌≡◌, ◌≤◌, ◌<◌, ℕ, List, [], ◌∷◌, ◌++◌, ◌+◌, ◌-◌, Bool, true, false, length, take, drop, codes, slice_get, Option, None, Some, Result, IfOk, OnOk}
-use Rattle.std_alloc.specs.declared.AllocError.{AllocError}
 use Rattle.short_names.specs.declared.writing.Listed.{Listed}
 use Rattle.short_names.specs.declared.writing.Bracket.{Bracket}
 use Rattle.short_names.specs.declared.writing.Writing.{Writing}
@@ -36,24 +35,24 @@ IsListed name (Some listed) = (listed.row < length TEMPLATES) × (named_in name 
 pub record IsOpen (top : Opened) (before : List ℕ) (bracket : Bracket) (earlier : ℕ) (starts : List ℕ) : Type 0 where
   pub kind : bracket.is_list ≡ is_list top
   pub named : IsListed top.name bracket.named
-  pub place : bracket.place ≡ length (before ++ top.before ++ top.name)
-  pub first : bracket.first ≡ earlier
+  pub place_is : bracket.place ≡ length (before ++ top.before ++ top.name)
+  pub first_is : bracket.first ≡ earlier
   pub starts_are : starts ≡ starts_of (bracket.place + 1) (top.elements ++ [] ∷ [])
 
 -- the open brackets, the outermost first, and the starts of all elements that have begun
-pub record IsInnermost (P : List Bracket → List ℕ → Type 0) (top : Opened) (before : List ℕ) (opens : List Bracket) (starts : List ℕ) : Type 0 where
+pub record IsInnermost (P : List Bracket → List ℕ → Type 0) (top : Opened) (before : List ℕ) (brackets : List Bracket) (starts : List ℕ) : Type 0 where
   pub bracket : Bracket
   pub around : List Bracket
   pub earlier : List ℕ
   pub own : List ℕ
-  pub opens_are : opens ≡ around ++ bracket ∷ []
+  pub brackets_are : brackets ≡ around ++ bracket ∷ []
   pub starts_are : starts ≡ earlier ++ own
   pub is : IsOpen top before bracket (length earlier) own
   pub outer : P around earlier
 
 abbrev pub AreOpen : List Opened → List Bracket → List ℕ → Type 0
-AreOpen [] opens starts = (opens ≡ []) × (starts ≡ [])
-AreOpen (top ∷ around) opens starts = IsInnermost (AreOpen around) top (before_last around) opens starts
+AreOpen [] brackets starts = (brackets ≡ []) × (starts ≡ [])
+AreOpen (top ∷ around) brackets starts = IsInnermost (AreOpen around) top (before_last around) brackets starts
 
 -- What was written is so at a place of the text; what comes before that place and wasn't copied yet belongs to it.
 pub record IsAt (text : List ℕ) (now : Writing) (written : Written) : Type 0 where
@@ -84,9 +83,9 @@ CanChange text now size change =
     × IsChange (run_of (drop now.at text)) (behind_run (drop now.at text)) change
 
 -- whatever was written before, more was written
-abbrev pub GoesFrom : (text : List ℕ) → (old new : Writing) → Result (Unit {0}) AllocError → Type 0
+abbrev pub GoesFrom : {E : Type 0} → (text : List ℕ) → (old new : Writing) → Result (Unit {0}) E → Type 0
 GoesFrom text old new result = (written : Written) → IsAt text old written → OnOk result (Goes text old.at new)
 
 -- whatever was written before, more was written, or brackets don't pair
-abbrev pub StepsFrom : (text : List ℕ) → (old new : Writing) → Result Bool AllocError → Type 0
+abbrev pub StepsFrom : {E : Type 0} → (text : List ℕ) → (old new : Writing) → Result Bool E → Type 0
 StepsFrom text old new result = (written : Written) → IsAt text old written → IfOk result (λ pairs. Steps text old.at new pairs)

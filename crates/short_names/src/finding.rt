@@ -55,7 +55,7 @@ pub(crate) fn may_change(text: &[u8], keeps_inline: bool) -> bool
     'names: while let Some(name) = std_run(text, at) {
         let rest = &text[name..];
         let run = run_at(rest);
-        if !is_nothing(change_at(rest, run)) || !keeps_inline && has_inlines(&run[5..]) {
+        if !is_nothing(change_at(rest, run)) || !keeps_inline && has_inlines(&rest[5..]) {
             return true;
         }
         at = name + 5;

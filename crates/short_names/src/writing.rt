@@ -273,11 +273,11 @@ impl Writing {
         requires { CanStep text.now self.old × (get_or text.now self.old.at 0 ≡ 44) × (0 < length self.old.brackets.items) }
         ensures { GoesFrom text.now self.old self.new result }
     {
-        if self.is_in_list() {
-            if let Some(b' ') = text.get(self.at + 1) {
-                self.at += 2;
-                return Ok(self.starts.push(self.out.len() + (self.at - self.copied))?);
-            }
+        if self.is_in_list() && text[self.at..].starts_with(b", ") {
+            let start = self.out.len() + (self.at + 2 - self.copied);
+            self.starts.push(start)?;
+            self.at += 2;
+            return Ok(());
         }
         self.at += 1;
         Ok(())
@@ -296,9 +296,10 @@ impl Writing {
         requires { CanStep text.now self.old × (get_or text.now self.old.at 0 ≡ 45) × (0 < length self.old.brackets.items) }
         ensures { (written : Written) → IsAt text.now self.old written → Goes text.now self.old.at self.new }
     {
-        if let Some(b'>') = text.get(self.at + 1) {
+        if text[self.at..].starts_with(b"->") {
+            self.at += 2;
+        } else {
             self.at += 1;
         }
-        self.at += 1;
     }
 }
