@@ -97,12 +97,19 @@ at_comma [] text written = keeps (44 ∷ []) written
 at_comma (top ∷ around) text written =
     if is_list top && starts_with nat_eq text (codes ", ") then ends_element top around written.last else keeps (44 ∷ []) written
 
+-- the brackets that open one, `<`, `(`, `[`, `{`; and those that close one that is no list's
+abbrev pub is_opening : ℕ → Bool
+is_opening byte = byte == 60 || byte == 40 || byte == 91 || byte == 123
+
+abbrev pub is_closing : ℕ → Bool
+is_closing byte = byte == 41 || byte == 93 || byte == 125
+
 -- A byte that isn't of a name, with the text that begins with it. An arrow is no bracket.
 unfoldable pub at_sign : Rules → (byte : ℕ) → (rest : List ℕ) → Written → Option Stepped
 at_sign rules byte rest written =
-    if byte == 60 || byte == 40 || byte == 91 || byte == 123 then at_opening written.opened byte written
+    if is_opening byte then at_opening written.opened byte written
     else (if byte == 62 then at_greater rules written.opened rest written
-    else (if byte == 41 || byte == 93 || byte == 125 then at_end written.opened byte written
+    else (if is_closing byte then at_end written.opened byte written
     else (if byte == 44 then at_comma written.opened (byte ∷ rest) written
     else (if starts_with nat_eq (byte ∷ rest) (codes "->") then keeps (codes "->") written
     else keeps (byte ∷ []) written))))

@@ -1,4 +1,8 @@
 // What is written where a list of a name of the table is closed.
+ghost use Rattle.std.specs.Prelude.{◌≡◌, ◌≤◌, ◌++◌, ℕ, List, length, take, drop, codes, IfOk, OnOk};
+ghost use Rattle.short_names.specs.Closing.{EndsWithList, IsAnswered, IsList};
+ghost use Rattle.short_names.specs.Short.{constructor, short_list};
+
 use crate::elements::Elements;
 use crate::names::{Named, before_constructor, ends_name, is_constructor, last_part};
 use crate::patterns::text_at;
@@ -13,7 +17,11 @@ pub(crate) fn close(
     bracket: usize,
     starts: &[usize],
     rest: &[u8],
-) -> Result<usize, AllocError> {
+) -> Result<usize, AllocError>
+    requires { EndsWithList text.old.items named bracket starts.now }
+    ensures { (before name : List ℕ) (elements : List (List ℕ)) → IsList text.old.items named bracket starts.now before name elements
+        → IfOk result (λ size. IsAnswered text.new.items before rest.now (short_list named name elements rest.now) size) }
+{
     let elements = Elements { text, starts };
     let holes = elements.holes(named);
     let left = elements.left(named, holes);
@@ -45,7 +53,9 @@ pub(crate) fn append_constructor(
     alias: Alias,
     rest: &[u8],
     text: &mut Vec<u8>,
-) -> Result<usize, AllocError> {
+) -> Result<usize, AllocError>
+    ensures { IfOk result (λ size. IsAnswered text.new.items text.old.items rest.now (constructor alias rest.now) size) }
+{
     let class = last_part(text_at(alias.template));
     let front = before_constructor(rest, class);
     if front.is_empty() {
@@ -57,7 +67,10 @@ pub(crate) fn append_constructor(
 }
 
 /// Puts `pmr::` before the name at a place of a text.
-fn insert_polymorphic(text: &mut Vec<u8>, name: usize) -> Result<(), AllocError> {
+fn insert_polymorphic(text: &mut Vec<u8>, name: usize) -> Result<(), AllocError>
+    requires { name ≤ length text.old.items }
+    ensures { OnOk result (text.new.items ≡ take name text.old.items ++ codes "pmr::" ++ drop name text.old.items) }
+{
     text.extend_from_slice(b"pmr::")?;
     text[name..].rotate_right(5);
     Ok(())
