@@ -10,7 +10,7 @@ use Rattle.short_names.specs.Names.{named_in, std_name, row_in}
 use Rattle.short_names.specs.Texts.{text_of}
 use Rattle.short_names.specs.Runs.{is_name_byte, is_letter, run_of}
 use Rattle.short_names.specs.Short.{short_rules}
-use Rattle.short_names.specs.Walk.{Opened, Written, Stepped, stepped, written_for, at_sign, at_opening, at_greater, at_end, at_comma, closes_list, closes_group, ends_element, keeps, opens, is_list, is_opening, is_closing, start}
+use Rattle.short_names.specs.Walk.{Opened, Written, Stepped, stepped, written_for, at_sign, at_byte, ends_element, keeps, opens, is_list, is_opening, is_closing, start}
 use Rattle.short_names.specs.Writing.{IsAt, Goes, Steps, IsListed, IsInnermost, IsOpen, IsClosed, AreOpen, before_last, all_of, ended}
 use Rattle.short_names.specs.Elements.{joined}
 use Rattle.short_names.specs.Starts.{starts_of}
@@ -29,7 +29,7 @@ here_is text at byte less e = drop_more text at 0 less ∙ ap (λ b. b ∷ drop 
 sign_opens : (written : Written) (byte : ℕ) (rest : List ℕ) (top : Opened) (around : List Opened) → is_name_byte byte ≡ false → is_opening byte ≡ true
     → written.opened ≡ top ∷ around → stepped short_rules byte rest written ≡ opens byte [] written
 unfolding stepped at_sign
-sign_opens written byte rest top around no_letter opening e = rw (no_letter, opening) (ap (λ o. at_opening o byte written) e)
+sign_opens written byte rest top around no_letter opening e = rw no_letter (ap (λ o. at_byte short_rules o byte rest written) e ∙ rw opening refl)
 
 -- an opening bracket
 pub opens_within : (text : List ℕ) (now : Writing) (written : Written) (byte : ℕ) (after : Writing) → IsAt text now written → now.at < length text → get_or text now.at 0 ≡ byte
@@ -47,17 +47,28 @@ opens_within text now written byte after is less at_byte no_letter opening some 
     (brackets_are ∙ ap (λ b. now.brackets.items ++ record { is_list = b; named = None; place = length now.out.items + (now.at - now.copied); first = length now.starts.items } ∷ []) list_is ∙ ap (λ n. now.brackets.items ++ record { is_list = byte == 60; named = None; place = length now.out.items + (n - now.copied); first = length now.starts.items } ∷ []) (omega arith))
     (starts_are ∙ ap (λ n. now.starts.items ++ (length now.out.items + (n - now.copied) + 1) ∷ []) (omega arith))
 
+pub and_false : (b : Bool) → (b && false) ≡ false
+and_false true = refl
+and_false false = refl
+
+sign_keeps : (written : Written) (byte : ℕ) (rest : List ℕ) (top : Opened) (around : List Opened) → is_name_byte byte ≡ false → is_opening byte ≡ false → (byte == 62) ≡ false → is_closing byte ≡ false
+    → starts_with nat_eq (byte ∷ rest) (codes ", ") ≡ false → starts_with nat_eq (byte ∷ rest) (codes "->") ≡ false → written.opened ≡ top ∷ around
+    → stepped short_rules byte rest written ≡ keeps (byte ∷ []) written
+unfolding stepped at_sign
+sign_keeps written byte rest top around no_letter no_opening no_greater no_closing no_comma no_arrow e =
+    rw no_letter (ap (λ o. at_byte short_rules o byte rest written) e ∙ rw (no_opening, no_greater, no_closing, no_comma, and_false (is_list top), no_arrow) refl)
+
 -- a byte that is no bracket, comma or minus
 pub other_byte : (text : List ℕ) (now : Writing) (written : Written) (byte to : ℕ) → IsAt text now written → now.at < length text → get_or text now.at 0 ≡ byte
-    → is_name_byte byte ≡ false → is_opening byte ≡ false → (byte == 62) ≡ false → is_closing byte ≡ false → (byte == 44) ≡ false → byte ≢ 45
+    → is_name_byte byte ≡ false → is_opening byte ≡ false → byte ≢ 62 → is_closing byte ≡ false → byte ≢ 44 → byte ≢ 45 → 0 < length now.brackets.items
     → to ≡ now.at + 1 → Goes text now.at (record now { at = to })
-unfolding stepped at_sign
-other_byte text now written byte to is less at_byte no_letter no_opening no_greater no_closing no_comma no_minus to_is =
+other_byte text now written byte to is less at_byte no_letter no_opening no_greater no_closing no_comma no_minus some to_is =
+    let t = top_of written now.brackets.items now.starts.items is.opened some in
     let here = here_is text now.at byte less at_byte in
-    let other : (45 == byte) ≡ false = ne_eqb 45 byte (λ e. no_minus (sym e)) in
-    let plain : starts_with nat_eq (byte ∷ drop (now.at + 1) text) (codes "->") ≡ false = rw other refl in
+    let comma : (44 == byte) ≡ false = ne_eqb 44 byte (λ e. no_comma (sym e)) in
+    let minus_sign : (45 == byte) ≡ false = ne_eqb 45 byte (λ e. no_minus (sym e)) in
     kept text now written byte (drop (now.at + 1) text) (byte ∷ []) to is here
-    (rw (no_letter, no_opening, no_greater, no_closing, no_comma, plain) refl)
+    (sign_keeps written byte (drop (now.at + 1) text) t.top t.around no_letter no_opening (ne_eqb byte 62 no_greater) no_closing (rw comma refl) (rw minus_sign refl) t.opened_is)
     (ap (take 1) here) (omega arith) (omega (arith, less)) to_is
 
 -- ## Commas
@@ -65,7 +76,7 @@ other_byte text now written byte to is less at_byte no_letter no_opening no_grea
 sign_ends : (written : Written) (rest : List ℕ) (top : Opened) (around : List Opened) → is_list top ≡ true → starts_with nat_eq (44 ∷ rest) (codes ", ") ≡ true
     → written.opened ≡ top ∷ around → stepped short_rules 44 rest written ≡ ends_element top around written.last
 unfolding stepped at_sign is_name_byte is_letter
-sign_ends written rest top around list begins e = ap (λ o. at_comma o (44 ∷ rest) written) e ∙ rw (list, begins) refl
+sign_ends written rest top around list begins e = ap (λ o. at_byte short_rules o 44 rest written) e ∙ rw (list, begins) refl
 
 -- an element that ends
 pub element_ends : (text : List ℕ) (now : Writing) (written : Written) (after : Writing) → IsAt text now written → now.at < length text → get_or text now.at 0 ≡ 44
@@ -132,7 +143,7 @@ element_ends text now written after is less at_byte begins in_list some at_is co
 sign_goes_on : (written : Written) (rest : List ℕ) (top : Opened) (around : List Opened) → (is_list top && starts_with nat_eq (44 ∷ rest) (codes ", ")) ≡ false
     → written.opened ≡ top ∷ around → stepped short_rules 44 rest written ≡ keeps (44 ∷ []) written
 unfolding stepped at_sign is_name_byte is_letter
-sign_goes_on written rest top around none e = ap (λ o. at_comma o (44 ∷ rest) written) e ∙ rw none refl
+sign_goes_on written rest top around none e = ap (λ o. at_byte short_rules o 44 rest written) e ∙ rw none refl
 
 -- a comma that ends no element
 pub comma_goes_on : (text : List ℕ) (now : Writing) (written : Written) (to : ℕ) → IsAt text now written → now.at < length text → get_or text now.at 0 ≡ 44
@@ -147,7 +158,29 @@ comma_goes_on text now written to is less at_byte why some to_is =
       | inr no_blank ↦ ap (λ u. is_list t.top && starts_with nat_eq u (codes ", ")) (sym here) ∙ ap (λ b. is_list t.top && b) no_blank ∙ and_false (is_list t.top)
     ] in
     kept text now written 44 rest (44 ∷ []) to is here (sign_goes_on written rest t.top t.around none t.opened_is) (ap (take 1) here) (omega arith) (omega (arith, less)) to_is
-  where
-    and_false : (b : Bool) → (b && false) ≡ false
-    and_false true = refl
-    and_false false = refl
+
+-- ## Minus
+
+at_minus : (written : Written) (rest : List ℕ) (top : Opened) (around : List Opened) → (b : Bool) → starts_with nat_eq (45 ∷ rest) (codes "->") ≡ b → written.opened ≡ top ∷ around
+    → stepped short_rules 45 rest written ≡ if b then keeps (codes "->") written else keeps (45 ∷ []) written
+unfolding stepped at_sign is_name_byte is_letter
+at_minus written rest top around b begins e = ap (λ o. at_byte short_rules o 45 rest written) e ∙ rw (and_false (is_list top)) (ap (λ x. if x then keeps (codes "->") written else keeps (45 ∷ []) written) begins)
+
+pub arrow : (text : List ℕ) (now : Writing) (written : Written) (to : ℕ) → IsAt text now written → now.at < length text → get_or text now.at 0 ≡ 45
+    → starts_with nat_eq (drop now.at text) (codes "->") ≡ true → 0 < length now.brackets.items → to ≡ now.at + 2 → Goes text now.at (record now { at = to })
+arrow text now written to is less byte begins some to_is =
+    let t = top_of written now.brackets.items now.starts.items is.opened some in
+    let here = here_is text now.at 45 less byte in
+    kept text now written 45 (drop (now.at + 1) text) (codes "->") to is here
+    (at_minus written (drop (now.at + 1) text) t.top t.around true (ap (λ u. starts_with nat_eq u (codes "->")) (sym here) ∙ begins) t.opened_is)
+    (begun (drop now.at text) (codes "->") begins) (omega arith)
+    (omega (arith, less, ap length (begun (drop now.at text) (codes "->") begins), length-take 2 (drop now.at text), length-drop now.at text)) to_is
+
+pub minus : (text : List ℕ) (now : Writing) (written : Written) (to : ℕ) → IsAt text now written → now.at < length text → get_or text now.at 0 ≡ 45
+    → starts_with nat_eq (drop now.at text) (codes "->") ≡ false → 0 < length now.brackets.items → to ≡ now.at + 1 → Goes text now.at (record now { at = to })
+minus text now written to is less byte begins some to_is =
+    let t = top_of written now.brackets.items now.starts.items is.opened some in
+    let here = here_is text now.at 45 less byte in
+    kept text now written 45 (drop (now.at + 1) text) (45 ∷ []) to is here
+    (at_minus written (drop (now.at + 1) text) t.top t.around false (ap (λ u. starts_with nat_eq u (codes "->")) (sym here) ∙ begins) t.opened_is)
+    (ap (take 1) here) (omega arith) (omega (arith, less)) to_is

@@ -10,7 +10,7 @@ use Rattle.short_names.specs.Runs.{is_name_byte, is_letter, run_of}
 use Rattle.short_names.specs.Elements.{joined}
 use Rattle.short_names.specs.Starts.{starts_of}
 use Rattle.short_names.specs.Short.{short_rules, for_list}
-use Rattle.short_names.specs.Walk.{Answer, Opened, Written, Stepped, stepped, written_for, at_sign, at_greater, at_end, closes_list, closes_group, answers, keeps, is_list, is_opening, is_closing, start}
+use Rattle.short_names.specs.Walk.{Answer, Opened, Written, Stepped, stepped, written_for, at_sign, at_byte, closes_list, closes_group, answers, keeps, is_list, is_opening, is_closing, start}
 use Rattle.short_names.specs.Writing.{IsAt, Goes, Steps, IsListed, IsInnermost, IsOpen, IsClosed, AreOpen, IsPending, IsShortened, before_last, all_of, ended}
 use Rattle.short_names.proofs.WalkLemmas.{goes, stops}
 use Rattle.short_names.proofs.ListLemmas.{joined-push, starts-same}
@@ -54,9 +54,9 @@ outer_are written others bracket starts p new_brackets new_starts e f =
 -- ## Groups
 
 sign_closes : (written : Written) (byte : ℕ) (rest : List ℕ) (top : Opened) (around : List Opened) → is_name_byte byte ≡ false → is_opening byte ≡ false → (byte == 62) ≡ false → is_closing byte ≡ true
-    → written.opened ≡ top ∷ around → stepped short_rules byte rest written ≡ at_end (top ∷ around) byte written
+    → written.opened ≡ top ∷ around → stepped short_rules byte rest written ≡ if is_list top then None else closes_group top around byte written.last
 unfolding stepped at_sign
-sign_closes written byte rest top around no_letter no_opening no_greater closing e = rw (no_letter, no_opening, no_greater, closing) (ap (λ o. at_end o byte written) e)
+sign_closes written byte rest top around no_letter no_opening no_greater closing e = rw no_letter (ap (λ o. at_byte short_rules o byte rest written) e ∙ rw (no_opening, no_greater, closing) refl)
 
 group_text : (before own name last : List ℕ) (mark : ℕ) (elements : List (List ℕ)) → name ≡ [] → elements ≡ []
     → (before ++ own ++ name) ++ mark ∷ ended elements ++ last ≡ before ++ (own ++ mark ∷ last)
@@ -133,9 +133,9 @@ group_closes text now written byte after result is less at_byte no_letter no_ope
 -- ## Lists
 
 sign_greater : (written : Written) (rest : List ℕ) (top : Opened) (around : List Opened) → written.opened ≡ top ∷ around
-    → stepped short_rules 62 rest written ≡ at_greater short_rules (top ∷ around) rest written
+    → stepped short_rules 62 rest written ≡ if is_list top then closes_list short_rules top around written.last rest else None
 unfolding stepped at_sign is_name_byte is_letter
-sign_greater written rest top around e = ap (λ o. at_greater short_rules o rest written) e
+sign_greater written rest top around e = ap (λ o. at_byte short_rules o 62 rest written) e
 
 -- a list that isn't open
 pub list_stops : (text : List ℕ) (now : Writing) (written : Written) (others : List Bracket) (bracket : Bracket)

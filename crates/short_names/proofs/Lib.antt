@@ -1,7 +1,11 @@
 pub mod BracketLemmas
 pub mod ClosingLemmas
+pub mod EndLemmas
+pub mod FindingLemmas
 pub mod LaneLemmas
 pub mod ListLemmas
+pub mod NameSteps
+pub mod OutsideLemmas
 pub mod RunLemmas
 pub mod SignLemmas
 pub mod WalkLemmas

@@ -6,10 +6,9 @@ use Rattle.std.specs.List.{starts_with}
 use Rattle.short_names.specs.declared.writing.Bracket.{Bracket}
 use Rattle.short_names.specs.declared.writing.Listed.{Listed}
 use Rattle.short_names.specs.declared.writing.Writing.{Writing}
-use Rattle.short_names.specs.Runs.{is_name_byte, is_letter, run_of}
 use Rattle.short_names.specs.Short.{short_rules}
 use Rattle.short_names.specs.Starts.{starts_of}
-use Rattle.short_names.specs.Walk.{Opened, Written, Stepped, stepped, written_for, at_sign, keeps, opens, is_list}
+use Rattle.short_names.specs.Walk.{Opened, Written, Stepped, stepped, written_for, keeps, opens, is_list}
 use Rattle.short_names.specs.Writing.{IsAt, Goes, Steps, IsListed, IsInnermost, IsOpen, IsClosed, AreOpen, before_last, all_of, ended}
 use Rattle.short_names.proofs.WalkLemmas.{goes, pending-more, length-pending}
 
@@ -96,27 +95,6 @@ opened text now written byte rest mark name listed after is here step take_is wi
 
 pub begun : (text needle : List ℕ) → starts_with nat_eq text needle ≡ true → take (length needle) text ≡ needle
 begun text needle h = sym ((bytes_decides needle (take (length needle) text)).0 h)
-
-pub arrow : (text : List ℕ) (now : Writing) (written : Written) (to : ℕ) → IsAt text now written → now.at < length text → get_or text now.at 0 ≡ 45
-    → starts_with nat_eq (drop now.at text) (codes "->") ≡ true → to ≡ now.at + 2 → Goes text now.at (record now { at = to })
-unfolding stepped at_sign is_name_byte is_letter
-arrow text now written to is less byte begins to_is =
-    let here : drop now.at text ≡ 45 ∷ drop (now.at + 1) text = drop_more text now.at 0 less ∙ ap (λ b. b ∷ drop (now.at + 1) text) byte in
-    let arrowed : starts_with nat_eq (45 ∷ drop (now.at + 1) text) (codes "->") ≡ true = ap (λ t. starts_with nat_eq t (codes "->")) (sym here) ∙ begins in
-    kept text now written 45 (drop (now.at + 1) text) (codes "->") to is here
-    (ap (λ b. if b then keeps (codes "->") written else keeps (45 ∷ []) written) arrowed)
-    (begun (drop now.at text) (codes "->") begins) (omega arith)
-    (omega (arith, less, ap length (begun (drop now.at text) (codes "->") begins), length-take 2 (drop now.at text), length-drop now.at text)) to_is
-
-pub minus : (text : List ℕ) (now : Writing) (written : Written) (to : ℕ) → IsAt text now written → now.at < length text → get_or text now.at 0 ≡ 45
-    → starts_with nat_eq (drop now.at text) (codes "->") ≡ false → to ≡ now.at + 1 → Goes text now.at (record now { at = to })
-unfolding stepped at_sign is_name_byte is_letter
-minus text now written to is less byte begins to_is =
-    let here : drop now.at text ≡ 45 ∷ drop (now.at + 1) text = drop_more text now.at 0 less ∙ ap (λ b. b ∷ drop (now.at + 1) text) byte in
-    let plain : starts_with nat_eq (45 ∷ drop (now.at + 1) text) (codes "->") ≡ false = ap (λ t. starts_with nat_eq t (codes "->")) (sym here) ∙ begins in
-    kept text now written 45 (drop (now.at + 1) text) (45 ∷ []) to is here
-    (ap (λ b. if b then keeps (codes "->") written else keeps (45 ∷ []) written) plain)
-    (ap (take 1) here) (omega arith) (omega (arith, less)) to_is
 
 -- ## Within brackets
 

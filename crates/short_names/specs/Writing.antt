@@ -1,14 +1,15 @@
 -- What has been written of a short text at a place of its text, by the lists that it is written with.
-use Rattle.std.specs.Prelude.{◌≡◌, ◌≤◌, ◌<◌, ℕ, List, [], ◌∷◌, ◌++◌, ◌+◌, ◌-◌, Bool, true, false, length, take, drop, codes, slice_get, Option, None, Some, Result, IfOk, OnOk}
+use Rattle.std.specs.Prelude.{◌≡◌, ◌≤◌, ◌<◌, ℕ, List, [], ◌∷◌, ◌++◌, ◌+◌, ◌-◌, Bool, true, false, length, take, drop, get_or, codes, slice_get, Option, None, Some, Result, IfOk, OnOk}
 use Rattle.short_names.specs.declared.writing.Listed.{Listed}
 use Rattle.short_names.specs.declared.writing.Bracket.{Bracket}
 use Rattle.short_names.specs.declared.writing.Writing.{Writing}
 use Rattle.short_names.specs.declared.table.TheConstants.{TEMPLATES}
 use Rattle.short_names.specs.declared.names.Change.{Change}
-use Rattle.short_names.specs.Changes.{IsChange}
+use Rattle.short_names.specs.declared.names.Change.TheVariants as changes
+use Rattle.short_names.specs.Changes.{IsChange, is_nothing}
 use Rattle.short_names.specs.Names.{named_in, with_template}
 use Rattle.short_names.specs.Plain.{behind_run}
-use Rattle.short_names.specs.Runs.{run_of, begins_std}
+use Rattle.short_names.specs.Runs.{run_of, is_name_byte}
 use Rattle.short_names.specs.Elements.{joined}
 use Rattle.short_names.specs.Short.{short_rules, for_list}
 use Rattle.short_names.specs.Starts.{starts_of}
@@ -78,11 +79,17 @@ Steps text from now false = written_for short_rules 0 text start ≡ None
 abbrev pub CanStep : (text : List ℕ) → Writing → Type 0
 CanStep text now = (written : Written) × IsAt text now written × (now.at < length text)
 
--- a run that begins with `std::` is at the place, with what becomes shorter there
+-- a run is at the place, with what becomes shorter there; outside of brackets something does
 abbrev pub CanChange : (text : List ℕ) → Writing → (size : ℕ) → Change → Type 0
 CanChange text now size change =
-    CanStep text now × (size ≡ length (run_of (drop now.at text))) × (begins_std (drop now.at text) ≡ true)
-    × IsChange (run_of (drop now.at text)) (behind_run (drop now.at text)) change
+    CanStep text now × (is_name_byte (get_or text now.at 0) ≡ true) × (size ≡ length (run_of (drop now.at text)))
+    × IsChange (run_of (drop now.at text)) (behind_run (drop now.at text)) change × (is_nothing change ≡ true → 0 < length now.brackets.items)
+
+-- a usual name and a constructor or destructor that follows it are at the place
+abbrev pub IsAtMember : (text : List ℕ) → Writing → (row size : ℕ) → Type 0
+IsAtMember text now row size =
+    CanStep text now × (is_name_byte (get_or text now.at 0) ≡ true)
+    × IsChange (run_of (drop now.at text)) (behind_run (drop now.at text)) (changes.Member row size)
 
 -- whatever was written before, more was written
 abbrev pub GoesFrom : {E : Type 0} → (text : List ℕ) → (old new : Writing) → Result (Unit {0}) E → Type 0

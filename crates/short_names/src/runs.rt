@@ -132,7 +132,8 @@ fn sign_size(text: &[u8]) -> usize
 
 /// How many bytes of an operator's sign come after a run.
 pub(crate) fn operator_size(run: &[u8], rest: &[u8]) -> usize
-    ensures { result ≡ operator_size run.now rest.now }
+    ensures size { result ≡ operator_size run.now rest.now }
+    ensures within { result ≤ length rest.now }
 {
     if ends_operator(run) {
         sign_size(rest)

@@ -2,7 +2,7 @@
 ghost use Rattle.std.specs.Prelude.{◌≡◌, ◌≤◌, ◌<◌, ◌++◌, ◌+◌, ◌-◌, ◌^◌, ◌∷◌, [], ℕ, List, length, take, drop, get_or, IfOk, OnOk, Bool, true, false, if◌then◌else◌};
 ghost use Rattle.short_names.specs.Runs.{is_name_byte};
 ghost use Rattle.short_names.specs.Short.{short};
-ghost use Rattle.short_names.specs.Writing.{CanStep, CanChange, CanClose, GoesFrom, StepsFrom, IsAt, IsPending, IsShortened, IsClosed, Goes};
+ghost use Rattle.short_names.specs.Writing.{CanStep, CanChange, CanClose, IsAtMember, GoesFrom, StepsFrom, IsAt, IsPending, IsShortened, IsClosed, Goes};
 ghost use Rattle.short_names.specs.Walk.{Written, is_opening, is_closing};
 ghost use Rattle.short_names.specs.declared.writing.Bracket.{Bracket as Innermost};
 
@@ -141,20 +141,22 @@ impl Writing {
             return Ok(());
         };
         self.at += found.at;
-        self.change(text, found.size, found.change)
+        self.change(text, found.size, found.change)?;
+        Ok(())
     }
 
     /// Goes over a run of bytes of names, and what belongs to it.
     fn step_run(&mut self, text: &[u8]) -> Result<(), AllocError>
-        requires { CanStep text.now self.old × (is_name_byte (get_or text.now self.old.at 0) ≡ true) }
+        requires { CanStep text.now self.old × (is_name_byte (get_or text.now self.old.at 0) ≡ true) × (0 < length self.old.brackets.items) }
         ensures { GoesFrom text.now self.old self.new result }
     {
         let rest = &text[self.at..];
         let run = run_at(rest);
         let size = run.len();
-        if let [b's', b't', b'd', b':', b':', ..] = run {
+        if run.starts_with(b"std::") {
             let change = change_at(rest, run);
-            return self.change(text, size, change);
+            self.change(text, size, change)?;
+            return Ok(());
         }
         self.at += size + operator_size(run, &rest[size..]);
         Ok(())
@@ -167,22 +169,30 @@ impl Writing {
     {
         match change {
             Change::Nothing => {
-                let (run, rest) = text[self.at..].split_at(size);
-                self.at += size + operator_size(run, rest);
+                let rest = &text[self.at..];
+                self.at += size + operator_size(&rest[..size], &rest[size..]);
                 Ok(())
             }
             Change::List { whole, row } => {
                 self.at += size;
-                self.open_bracket(true, Some(Listed { whole, row }))
-            }
-            Change::Member { row, size } => {
-                self.at += size;
-                self.copy(text)?;
-                self.at += append_constructor(ALIASES[row], &text[self.at..], &mut self.out)?;
-                self.copied = self.at;
+                self.open_bracket(true, Some(Listed { whole, row }))?;
                 Ok(())
             }
+            Change::Member { row, size } => self.write_member(text, row, size),
         }
+    }
+
+    /// Writes a usual name that ends after some bytes, and the constructor or destructor behind it.
+    fn write_member(&mut self, text: &[u8], row: usize, size: usize) -> Result<(), AllocError>
+        requires { IsAtMember text.now self.old row size }
+        ensures { GoesFrom text.now self.old self.new result }
+    {
+        self.at += size;
+        self.copy(text)?;
+        let more = append_constructor(ALIASES[row], &text[self.at..], &mut self.out)?;
+        self.at += more;
+        self.copied = self.at;
+        Ok(())
     }
 
     /// Goes over a byte that isn't of a name, within brackets; answers whether brackets pair so far.
