@@ -1,2 +1,10 @@
+pub mod BitLemmas
+pub mod ElementLemmas
+pub mod FrontLemmas
+pub mod InlineLemmas
 pub mod LaneLemmas
+pub mod NameLemmas
+pub mod PatternLemmas
+pub mod RowLemmas
 pub mod RunLemmas
+pub mod TemplateLemmas

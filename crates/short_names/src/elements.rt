@@ -77,7 +77,10 @@ impl<'a> Elements<'a> {
             result ≡ left_of named elements count }
     {
         let mut left = count;
-        'elements: while left > 0 && self.is_default(named, holes, left - 1) {
+        'elements: while left > 0 {
+            if !self.is_default(named, holes, left - 1) {
+                return left;
+            }
             left -= 1;
         }
         left
@@ -118,7 +121,8 @@ impl<'a> Elements<'a> {
     {
         let text = &self.text[self.starts[0]..self.end(count)];
         let mut k = named.template.first_alias as usize;
-        'rows: while k < named.template.end_alias as usize && k < ALIASES.len() {
+        let end = (named.template.end_alias as usize).min(ALIASES.len());
+        'rows: while k < end {
             let alias = ALIASES[k];
             if is_filled(text, text_at(alias.arguments), holes) {
                 return Some(alias);

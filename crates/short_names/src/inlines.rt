@@ -16,7 +16,10 @@ fn inlines_size(rows: &[Place], name: &[u8]) -> usize
     ensures size { result ≡ inlines_size rows.now 0 name.now }
 {
     let mut size = 0;
-    'names: while size < name.len() && name[size] == b'_' {
+    'names: while size < name.len() {
+        if name[size] != b'_' {
+            return size;
+        }
         let next = row_size(rows, &name[size..]);
         if next == 0 {
             return size;

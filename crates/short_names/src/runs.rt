@@ -109,6 +109,7 @@ pub(crate) fn run_at(text: &[u8]) -> &[u8]
 }
 
 /// Whether a run ends with the word `operator`.
+#[tactic(auto, unfolding(crate::specs::Runs::ends_operator))]
 fn ends_operator(run: &[u8]) -> bool
     ensures { result ≡ ends_operator run.now }
 {
@@ -116,6 +117,7 @@ fn ends_operator(run: &[u8]) -> bool
 }
 
 /// How many bytes of an operator's sign, or of an arrow's, a text begins with that look like brackets of lists.
+#[tactic(auto, unfolding(crate::specs::Runs::sign_size))]
 fn sign_size(text: &[u8]) -> usize
     ensures { result ≡ sign_size text.now }
 {
