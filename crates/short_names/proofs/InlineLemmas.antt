@@ -1,15 +1,16 @@
 -- Inline namespaces of `std`, left out one name after the other.
-use Rattle.std.proofs.Common.{◌≡◌, ◌<◌, ◌≤◌, ◌+◌, ◌-◌, ◌==◌, zero, suc, ℕ, Bool, true, false, true≢false, not, ◌&&◌, ◌||◌, List, [], ◌∷◌, ◌++◌, length, take, drop, get_or, nat_eq, eqb, refl, sym, ap, ap₂, ◌∙◌, arith, ne_eqb, Option, None, Some, codes, add-zero, append_assoc, length-drop, drop-drop, take-append-drop, eqb-true}
+use Rattle.std.proofs.Common.{◌≡◌, ◌<◌, ◌≤◌, ◌+◌, ◌-◌, ◌==◌, zero, suc, ℕ, Bool, true, false, true≢false, not, ◌&&◌, ◌||◌, List, [], ◌∷◌, ◌++◌, length, take, drop, get_or, nat_eq, nat_lt, bit_and, eqb, if◌then◌else◌, ltb-true, refl, sym, ap, ap₂, ◌∙◌, arith, ne_eqb, Option, None, Some, codes, add-zero, append_assoc, length-drop, drop-drop, take-append-drop, eqb-true}
 use Rattle.std.specs.List.{starts_with, list_all}
 use Rattle.std.proofs.lemmas.Bool.{and_parts, not-true}
 use Rattle.std.proofs.lemmas.List.{drop_more, drop_all, take_all, take_at, append-nil}
 use Rattle.std.proofs.Math.Seq.{take-add}
 use Rattle.short_names.specs.declared.table.Place.{Place}
+use Rattle.short_names.specs.declared.table.TheConstants.{INLINES, INNERS, INNER_INLINES, INLINE_FIRSTS, INLINE_THIRDS}
 use Rattle.short_names.specs.Names.{row_in, size_of}
 use Rattle.short_names.specs.Runs.{is_letter, is_name_byte, begins_std, is_std_at}
 use Rattle.short_names.specs.Inlines.{begins_low, inlines_size, std_front, std_size, without_inlines, front as front_of, inner as inner_of, nested as nested_of}
 use Rattle.short_names.specs.Texts.{text_of}
-use Rattle.short_names.proofs.FrontLemmas.{differs, front-is as front-text, front-byte}
+use Rattle.short_names.proofs.FrontLemmas.{false-from, differs, front-is as front-text, front-byte, front-length}
 use Rattle.short_names.proofs.RowLemmas.{none-in, row-length}
 
 -- ## How long they are
@@ -23,7 +24,7 @@ size-skipped rows (byte ∷ name) (suc k) h = omega (arith, size-skipped rows na
 
 one-more : (rows : List Place) (byte : ℕ) (name : List ℕ) (next : ℕ) → size_of (row_in rows (byte ∷ name)) ≡ suc next → inlines_size rows 0 (byte ∷ name) ≡ suc (inlines_size rows next name)
 unfolding inlines_size
-one-more rows byte name next is = rw is refl
+one-more rows byte name next is = rw (is, inlines_size) refl
 
 -- behind one of them
 pub size-behind : (rows : List Place) (name : List ℕ) (next : ℕ) → size_of (row_in rows name) ≡ next → inlines_size rows 0 name ≡ next + inlines_size rows 0 (drop next name)
@@ -36,7 +37,7 @@ size-behind rows (byte ∷ name) (suc next) is =
 pub size-none : (rows : List Place) (name : List ℕ) → size_of (row_in rows name) ≡ 0 → inlines_size rows 0 name ≡ 0
 unfolding inlines_size
 size-none rows [] is = refl
-size-none rows (byte ∷ name) is = rw is refl
+size-none rows (byte ∷ name) is = rw (is, inlines_size) refl
 
 pub size-other : (rows : List Place) (name : List ℕ) → list_all begins_low rows ≡ true → (get_or name 0 0 ≡ 95 → ⊥) → inlines_size rows 0 name ≡ 0
 size-other rows name low other =
@@ -82,7 +83,7 @@ std-at text at = ap (λ b. begins_std (drop at text) && b) (by (at == 0) (is_nam
 step : (inside : Bool) (byte : ℕ) (text : List ℕ) → (begins_std (byte ∷ text) && not inside) ≡ false → without_inlines inside 0 (byte ∷ text) ≡ byte ∷ without_inlines (is_name_byte byte) 0 text
 unfolding without_inlines
 step true byte text h = refl
-step false byte text h = rw (plain (begins_std (byte ∷ text)) h) refl
+step false byte text h = rw (plain (begins_std (byte ∷ text)) h, without_inlines) refl
   where
     plain : (b : Bool) → (b && true) ≡ false → b ≡ false
     plain true h = h
@@ -133,7 +134,7 @@ s-is = refl
 
 opened : (byte : ℕ) (text : List ℕ) → begins_std (byte ∷ text) ≡ true → without_inlines false 0 (byte ∷ text) ≡ std_front (byte ∷ text) ++ without_inlines true (std_size (byte ∷ text) - 1) text
 unfolding without_inlines
-opened byte text is = rw is refl
+opened byte text is = rw (is, without_inlines) refl
 
 -- a name of std
 behind-std : (text : List ℕ) (at size : ℕ) → is_std_at text at ≡ true → size ≡ std_size (drop at text) → 0 < size → at + size ≤ length text → from_on text at ≡ std_front (drop at text) ++ from_on text (at + size)
@@ -250,3 +251,69 @@ all-copied text copied at low high none out first so_far =
         ∙ append-nil (piece text at n) in
     ap (λ t. out ++ t) (sym (take_all (n - copied) (drop copied text) (omega (arith, length-drop copied text))) ∙ sym (piece-join text copied at n low high) ∙ ap (λ t. piece text copied at ++ t) (sym rest))
     ∙ so_far
+
+-- ## By the first byte of a name and the third
+
+abbrev may_begin : List ℕ → Bool
+may_begin t = not (bit_and (get_or INLINE_FIRSTS (get_or t 0 0) 0) (get_or INLINE_THIRDS (get_or t 2 0) 0) == 0)
+
+marked_row : List ℕ → Bool
+marked_row t = nat_lt 2 (length t) && may_begin t
+
+inlines-marked : list_all (λ row. marked_row (text_of row)) INLINES ≡ true
+unfolding text_of marked_row
+inlines-marked = refl
+
+inners-marked : list_all (λ row. marked_row (text_of row)) INNERS ≡ true
+unfolding text_of marked_row
+inners-marked = refl
+
+-- a text that begins with a row begins as that does
+unmarked : (name t : List ℕ) → may_begin name ≡ false → marked_row t ≡ true → starts_with nat_eq name t ≡ false
+unfolding marked_row
+unmarked name t no is =
+    let parts = and_parts (nat_lt 2 (length t)) (may_begin t) is in
+    let long = ltb-true 2 (length t) parts.0 in
+    false-from (starts_with nat_eq name t) (λ begins.
+    let first = front-byte name t 0 begins (omega (arith, long)) in
+    let third = front-byte name t 2 begins long in
+    let same = ap₂ (λ a b. not (bit_and (get_or INLINE_FIRSTS a 0) (get_or INLINE_THIRDS b 0) == 0)) first third in
+    absurd (true≢false (sym parts.1 ∙ sym same ∙ no)))
+
+short-row : (name t : List ℕ) → length name < 3 → marked_row t ≡ true → starts_with nat_eq name t ≡ false
+unfolding marked_row
+short-row name t short is =
+    let long = ltb-true 2 (length t) (and_parts (nat_lt 2 (length t)) (may_begin t) is).0 in
+    false-from (starts_with nat_eq name t) (λ begins. absurd (omega (arith, short, long, front-length name t begins)))
+
+pub none-begin : (name : List ℕ) → may_begin name ≡ false → (row_in INLINES name ≡ None) × (row_in INNERS name ≡ None)
+none-begin name no = (none-in marked_row name (λ t. unmarked name t no) INLINES inlines-marked, none-in marked_row name (λ t. unmarked name t no) INNERS inners-marked)
+
+pub none-short : (name : List ℕ) → length name < 3 → (row_in INLINES name ≡ None) × (row_in INNERS name ≡ None)
+none-short name short = (none-in marked_row name (λ t. short-row name t short) INLINES inlines-marked, none-in marked_row name (λ t. short-row name t short) INNERS inners-marked)
+
+module _ (name : List ℕ) (none : (row_in INLINES name ≡ None) × (row_in INNERS name ≡ None)) where
+  pub none-front : front_of name ≡ 0
+  none-front = size-none INLINES name (ap size_of none.0)
+
+  pub none-inner : inner_of name ≡ 0
+  none-inner = ap (λ n. size_of (row_in INNERS (drop n name))) none-front ∙ ap size_of none.1
+
+  pub none-nested : nested_of name ≡ 0
+  none-nested = ap (λ n. if n == 0 then 0 else inlines_size INNER_INLINES 0 (drop (front_of name + inner_of name) name)) none-inner
+
+-- ## The table
+
+pub inlines-low : list_all begins_low INLINES ≡ true
+unfolding text_of
+inlines-low = refl
+
+pub inner-inlines-low : list_all begins_low INNER_INLINES ≡ true
+unfolding text_of
+inner-inlines-low = refl
+
+pub nested-none : (name : List ℕ) → inner_of name ≡ 0 → nested_of name ≡ 0
+nested-none name none = ap (λ n. if n == 0 then 0 else inlines_size INNER_INLINES 0 (drop (front_of name + inner_of name) name)) none
+
+pub nested-some : (name : List ℕ) → (inner_of name ≡ 0 → ⊥) → nested_of name ≡ inlines_size INNER_INLINES 0 (drop (front_of name + inner_of name) name)
+nested-some name some = ap (λ b. if b then 0 else inlines_size INNER_INLINES 0 (drop (front_of name + inner_of name) name)) (ne_eqb (inner_of name) 0 some)

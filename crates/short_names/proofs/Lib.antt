@@ -3,6 +3,7 @@ pub mod ElementLemmas
 pub mod FrontLemmas
 pub mod InlineLemmas
 pub mod LaneLemmas
+pub mod ListedLemmas
 pub mod NameLemmas
 pub mod PatternLemmas
 pub mod RowLemmas

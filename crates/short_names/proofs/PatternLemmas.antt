@@ -1,6 +1,7 @@
 -- A text that is compared with a pattern, byte by byte of the pattern.
-use Rattle.std.proofs.Common.{◌≡◌, ◌≢◌, ◌<◌, ◌≤◌, ◌+◌, zero, suc, ℕ, Bool, true, false, true≢false, List, [], ◌∷◌, ◌++◌, length, take, drop, get_or, nat_eq, refl, sym, ap, ◌∙◌, arith, length-append, append_assoc, take-append-drop}
+use Rattle.std.proofs.Common.{◌≡◌, ◌≢◌, ◌<◌, ◌≤◌, ◌+◌, ◌==◌, inl, inr, zero, suc, ℕ, Bool, true, false, true≢false, List, [], ◌∷◌, ◌++◌, length, take, drop, get_or, nat_eq, refl, sym, ap, ◌∙◌, arith, length-append, append_assoc, take-append-drop, eq-eqb, ne_eqb}
 use Rattle.std.specs.Cmp.Lexicographic.{pointwise}
+use Rattle.std.proofs.lemmas.Bool.{cases_eq}
 use Rattle.std.proofs.lemmas.List.{append_cancel_left, append-nil, take_more, drop_more, take_all, nil_from_length}
 use Rattle.std.proofs.lemmas.Slice.Eq.{bytes_eq-Decides}
 use Rattle.short_names.specs.Patterns.{bit, filled}
@@ -44,9 +45,16 @@ module _ (first second whole : List ℕ) where
         (append_cancel_left (filled first second whole (take at pattern)) rest _
         (sym so_far ∙ (bytes_eq-Decides text (filled first second whole pattern)).0 same ∙ whole-pattern within))))
 
-    pub filled-ends : length pattern ≤ at → (length rest ≡ 0 → pointwise nat_eq text (filled first second whole pattern) ≡ true) × ((length rest ≡ 0 → ⊥) → pointwise nat_eq text (filled first second whole pattern) ≡ false)
-    filled-ends past =
+    ends : length pattern ≤ at → (length rest ≡ 0 → pointwise nat_eq text (filled first second whole pattern) ≡ true) × ((length rest ≡ 0 → ⊥) → pointwise nat_eq text (filled first second whole pattern) ≡ false)
+    ends past =
         let all : text ≡ filled first second whole pattern ++ rest = so_far ∙ ap (λ p. filled first second whole p ++ rest) (take_all at pattern past) in
         ((λ none. (bytes_eq-Decides text (filled first second whole pattern)).1 (all ∙ ap (λ t. filled first second whole pattern ++ t) (nil_from_length rest none) ∙ append-nil (filled first second whole pattern))),
         λ some. false-from (pointwise nat_eq text (filled first second whole pattern)) (λ same.
         some (omega (arith, ap length all, ap length ((bytes_eq-Decides text (filled first second whole pattern)).0 same), length-append (filled first second whole pattern) rest))))
+
+    -- behind the whole pattern
+    pub filled-ends : length pattern ≤ at → (length rest == 0) ≡ pointwise nat_eq text (filled first second whole pattern)
+    filled-ends past = elim (cases_eq (length rest) 0) [
+        | inl none ↦ eq-eqb (length rest) 0 none ∙ sym ((ends past).0 none)
+        | inr some ↦ ne_eqb (length rest) 0 some ∙ sym ((ends past).1 some)
+      ]

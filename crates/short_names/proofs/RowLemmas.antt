@@ -1,5 +1,5 @@
 -- Rows of the table that a text begins with, found one after the other.
-use Rattle.std.proofs.Common.{◌≡◌, ◌<◌, ◌≤◌, ◌+◌, ◌-◌, ℕ, Bool, true, false, List, [], ◌∷◌, ◌++◌, ◌&&◌, length, take, drop, get_or, nat_eq, refl, sym, ap, ◌∙◌, arith, Option, None, Some}
+use Rattle.std.proofs.Common.{◌≡◌, ◌<◌, ◌≤◌, ◌+◌, ◌-◌, ℕ, Bool, true, false, List, [], ◌∷◌, ◌++◌, ◌&&◌, length, take, drop, get_or, nat_eq, refl, sym, ap, ◌∙◌, arith, Option, None, Some, if◌then◌else◌}
 use Rattle.std.specs.List.{starts_with, list_all}
 use Rattle.std.specs.Cmp.Lexicographic.{pointwise}
 use Rattle.std.proofs.lemmas.Bool.{and_parts}
@@ -24,11 +24,12 @@ none-in p text other (row ∷ rows) all =
 pub row_in-append : (xs ys : List Place) (text : List ℕ) → row_in xs text ≡ None → row_in (xs ++ ys) text ≡ row_in ys text
 unfolding row_in
 row_in-append [] ys text none = refl
-row_in-append (row ∷ xs) ys text none = by (starts_with nat_eq text (text_of row)) none
+row_in-append (row ∷ xs) ys text none = by (starts_with nat_eq text (text_of row)) none (λ h. row_in-append xs ys text h)
   where
-    by : (b : Bool) → (if b then Some row else row_in xs text) ≡ None → (if b then Some row else row_in (xs ++ ys) text) ≡ row_in ys text
-    by true none = absurd (cc)
-    by false none = row_in-append xs ys text none
+    by : (b : Bool) → (if b then Some row else row_in xs text) ≡ None → (row_in xs text ≡ None → row_in (xs ++ ys) text ≡ row_in ys text)
+        → (if b then Some row else row_in (xs ++ ys) text) ≡ row_in ys text
+    by true none rest = absurd (cc)
+    by false none rest = rest none
 
 -- a text is as long as the row that it begins with
 pub row-length : (rows : List Place) (text : List ℕ) → size_of (row_in rows text) ≤ length text

@@ -1,5 +1,5 @@
 -- The longest run of bytes of names with which a text begins, and where `std::` begins.
-use Rattle.std.proofs.Common.{◌≡◌, ◌<◌, ◌≤◌, ◌+◌, ◌-◌, ◌⊎◌, inl, inr, refl, sym, ap, ◌∙◌, ℕ, zero, suc, arith, Bool, true, false, List, [], ◌∷◌, ◌++◌, length, take, drop, get_or, codes, length-drop, if◌then◌else◌}
+use Rattle.std.proofs.Common.{◌≡◌, ◌<◌, ◌≤◌, ◌+◌, ◌-◌, ◌⊎◌, inl, inr, refl, sym, ap, ◌∙◌, ℕ, zero, suc, arith, Bool, true, false, true≢false, List, [], ◌∷◌, ◌++◌, length, take, drop, get_or, codes, length-drop, if◌then◌else◌}
 use Rattle.std.proofs.lemmas.Bool.{and_parts, and_left}
 use Rattle.std.specs.List.{list_all}
 use Rattle.short_names.specs.Runs.{is_name_byte, run_of, begins_std, is_std_at}
@@ -29,6 +29,13 @@ std-beyond text k short =
     and_left (begins_std (drop k text)) _
     (false-from (begins_std (drop k text)) (λ is. absurd (omega (arith, short, front-length (drop k text) (codes "std::") is, length-drop k text))))
 
+pub std-room : (text : List ℕ) (at : ℕ) → is_std_at text at ≡ true → at + 5 ≤ length text
+std-room text at is =
+    elim (lt-or-le (length text) (at + 5)) [
+      | inl short ↦ absurd (true≢false (sym is ∙ std-beyond text at short))
+      | inr room ↦ room
+    ]
+
 -- at none of some places, of those behind them, and of the next
 pub no-std-more : (text : List ℕ) (from at next : ℕ) → ((k : ℕ) → from ≤ k → k < at → is_std_at text k ≡ false)
     → ((k : ℕ) → at ≤ k → k < next → begins_std (drop k text) ≡ false) → is_std_at text next ≡ false
@@ -47,21 +54,21 @@ no-std-more text from at next front gap here k low high =
 pub run-prefix : (text : List ℕ) → text ≡ run_of text ++ drop (length (run_of text)) text
 unfolding run_of
 run-prefix [] = refl
-run-prefix (byte ∷ text) = by (is_name_byte byte)
+run-prefix (byte ∷ text) = by (is_name_byte byte) (run-prefix text)
   where
-    by : (b : Bool) → byte ∷ text ≡ (if b then byte ∷ run_of text else []) ++ drop (length (if b then byte ∷ run_of text else [])) (byte ∷ text)
-    by true = ap (λ t. byte ∷ t) (run-prefix text)
-    by false = refl
+    by : (b : Bool) → text ≡ run_of text ++ drop (length (run_of text)) text → byte ∷ text ≡ (if b then byte ∷ run_of text else []) ++ drop (length (if b then byte ∷ run_of text else [])) (byte ∷ text)
+    by true rest = ap (λ t. byte ∷ t) rest
+    by false rest = refl
 
 -- a run ends where a byte is of no name, or the text does
 pub run-stops : (text : List ℕ) → is_name_byte (get_or text (length (run_of text)) 0) ≡ false
 unfolding run_of
 run-stops [] = refl
-run-stops (byte ∷ text) = by (is_name_byte byte) refl
+run-stops (byte ∷ text) = by (is_name_byte byte) refl (run-stops text)
   where
-    by : (b : Bool) → is_name_byte byte ≡ b → is_name_byte (get_or (byte ∷ text) (length (if b then byte ∷ run_of text else [])) 0) ≡ false
-    by true is = run-stops text
-    by false is = is
+    by : (b : Bool) → is_name_byte byte ≡ b → is_name_byte (get_or text (length (run_of text)) 0) ≡ false → is_name_byte (get_or (byte ∷ text) (length (if b then byte ∷ run_of text else [])) 0) ≡ false
+    by true is rest = rest
+    by false is rest = is
 
 -- the end of a run
 pub run-drop : (text : List ℕ) (k : ℕ) → k ≤ length (run_of text) → run_of (drop k text) ≡ drop k (run_of text)
@@ -69,8 +76,8 @@ unfolding run_of
 run-drop [] zero within = refl
 run-drop [] (suc k) within = refl
 run-drop (byte ∷ text) zero within = refl
-run-drop (byte ∷ text) (suc k) within = by (is_name_byte byte) refl within
+run-drop (byte ∷ text) (suc k) within = by (is_name_byte byte) refl within (λ h. run-drop text k h)
   where
-    by : (b : Bool) → is_name_byte byte ≡ b → suc k ≤ length (if b then byte ∷ run_of text else []) → run_of (drop k text) ≡ drop (suc k) (if b then byte ∷ run_of text else [])
-    by true is within = run-drop text k (omega (arith, within))
-    by false is within = absurd (omega (arith, within))
+    by : (b : Bool) → is_name_byte byte ≡ b → suc k ≤ length (if b then byte ∷ run_of text else []) → (k ≤ length (run_of text) → run_of (drop k text) ≡ drop k (run_of text)) → run_of (drop k text) ≡ drop (suc k) (if b then byte ∷ run_of text else [])
+    by true is within rest = rest (omega (arith, within))
+    by false is within rest = absurd (omega (arith, within))

@@ -64,10 +64,11 @@ impl<'a> Elements<'a> {
         if place >= named.template.count as usize {
             return false;
         }
-        match DEFAULTS.get(named.template.first_default as usize + place) {
-            Some(default) => is_given(self.at(place), text_at(*default), holes),
-            None => false,
+        let row = named.template.first_default as usize + place;
+        if row >= DEFAULTS.len() {
+            return false;
         }
+        is_given(self.at(place), text_at(DEFAULTS[row]), holes)
     }
 
     /// How many of the first elements are left without those at their end that are what a name has by default.

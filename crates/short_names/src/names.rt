@@ -64,7 +64,8 @@ fn row_in(rows: &[Place], text: &[u8]) -> Option<Place>
 
 /// How long that is; 0 where there is none.
 pub(crate) fn row_size(rows: &[Place], text: &[u8]) -> usize
-    ensures { result ≡ size_of (row_in rows.now text.now) }
+    ensures within { result ≤ length text.now }
+    ensures size { result ≡ size_of (row_in rows.now text.now) }
 {
     match row_in(rows, text) {
         Some(row) => text_at(row).len(),

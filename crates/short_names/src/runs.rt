@@ -223,7 +223,7 @@ fn is_std_run(text: &[u8], at: usize) -> bool
 pub(crate) fn std_run(text: &[u8], from: usize) -> Option<usize>
     requires { from ≤ length text.now }
     ensures { MatchOption result ((k : ℕ) → from ≤ k → is_std_at text.now k ≡ false)
-        (λ at. (from ≤ at) × (is_std_at text.now at ≡ true) × ((k : ℕ) → from ≤ k → k < at → is_std_at text.now k ≡ false)) }
+        (λ at. (from ≤ at) × (is_std_at text.now at ≡ true) × ((k : ℕ) → from ≤ k → k < at → is_std_at text.now k ≡ false) × (at + 5 ≤ length text.now)) }
 {
     let mut at = from;
     'places: while text.len() - at >= 5 {

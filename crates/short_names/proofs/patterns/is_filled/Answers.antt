@@ -1,4 +1,4 @@
-use Rattle.std.proofs.Common.{refl, arith}
+use Rattle.std.proofs.Common.{refl, ◌∙◌, arith}
 use Rattle.short_names.specs.Patterns.{filled}
 use Rattle.short_names.proofs.PatternLemmas.{filled-more, filled-stops, filled-ends}
 use Rattle.short_names.proofs.patterns.is_filled.Goals as goal
@@ -26,8 +26,6 @@ pattern-preserved c =
 pub returns : goal.returns
 returns c =
     let holes = c.args.holes in
-    let ends =
-        filled-ends holes.first.now holes.second.now holes.whole.now c.args.text.now c.args.pattern.now c.pattern.at c.pattern.rest.now c.pattern.invariant.so_far
-        c.pattern-test.false in
-    let empty = c.is_empty.ensures in
-    ?
+    c.is_empty.ensures
+    ∙ filled-ends holes.first.now holes.second.now holes.whole.now c.args.text.now c.args.pattern.now c.pattern.at c.pattern.rest.now c.pattern.invariant.so_far
+      c.pattern-test.false
