@@ -8,4 +8,6 @@ pub mod NameLemmas
 pub mod PatternLemmas
 pub mod RowLemmas
 pub mod RunLemmas
+pub mod SignLemmas
 pub mod TemplateLemmas
+pub mod WalkLemmas

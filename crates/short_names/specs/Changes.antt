@@ -31,3 +31,9 @@ abbrev pub IsChange : (run rest : List ℕ) → Change → Type 0
 IsChange run rest changes.Nothing = (has_list run rest ≡ false) × (for_name run rest (std_name run) ≡ None)
 IsChange run rest (changes.List whole row) = (starts_with nat_eq rest (codes "<") ≡ true) × (row < length TEMPLATES) × (named_in run ≡ with_template whole (slice_get TEMPLATES row))
 IsChange run rest (changes.Member row size) = (has_list run rest ≡ false) × (row < length ALIASES) × IsMemberOf run rest size (slice_get ALIASES row)
+
+-- nothing becomes shorter
+abbrev pub is_nothing : Change → Bool
+is_nothing changes.Nothing = true
+is_nothing (changes.List whole row) = false
+is_nothing (changes.Member row size) = false

@@ -73,7 +73,11 @@ short_rules = record {
 unfoldable pub short : List ℕ → List ℕ
 short text = by_rules short_rules text
 
--- The short text of a text that has inline namespaces of `std` or not.
+-- a text with its inline namespaces of `std`, or without them
+unfoldable pub taken : (keeps_inline : Bool) → List ℕ → List ℕ
+taken true text = text
+taken false text = without_inlines false 0 text
+
+-- The short text of a text, with its inline namespaces of `std` or without them.
 unfoldable pub shortened : (keeps_inline : Bool) → List ℕ → List ℕ
-shortened true text = short text
-shortened false text = short (without_inlines false 0 text)
+shortened keeps_inline text = short (taken keeps_inline text)

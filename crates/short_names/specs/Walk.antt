@@ -15,10 +15,10 @@ pub record Rules : Type 0 where
   pub for_name : (run rest : List ℕ) → Option Answer
   pub for_list : (run : List ℕ) → (elements : List (List ℕ)) → (rest : List ℕ) → Answer
 
--- A bracket that is open: whether it is a list's, the name before it, what was written before that in the element around it, and its own
+-- A bracket that is open: which, the name before it if it is a list's, what was written before that in the element around it, and its own
 -- elements that have ended.
 pub record Opened : Type 0 where
-  pub is_list : Bool
+  pub bracket : ℕ
   pub name : List ℕ
   pub before : List ℕ
   pub elements : List (List ℕ)
@@ -33,6 +33,9 @@ pub record Stepped : Type 0 where
   pub size : ℕ
   pub written : Written
 
+abbrev pub is_list : Opened → Bool
+is_list top = top.bracket == 60
+
 abbrev pub is_empty : List Opened → Bool
 is_empty [] = true
 is_empty (top ∷ around) = false
@@ -44,18 +47,11 @@ keeps bytes written = Some (record { size = length bytes; written = record writt
 abbrev pub answers : ℕ → Answer → Written → Option Stepped
 answers size answer written = Some (record { size = size + answer.size; written = record written { last = written.last ++ answer.bytes } })
 
--- a list is opened, with the name before it
-abbrev pub opens_list : List ℕ → Written → Option Stepped
-opens_list name written = Some (record {
+-- a bracket is opened, with the name before it
+abbrev pub opens : (bracket : ℕ) → (name : List ℕ) → Written → Option Stepped
+opens bracket name written = Some (record {
   size = length name + 1;
-  written = record { opened = record { is_list = true; name = name; before = written.last; elements = [] } ∷ written.opened; last = [] };
-})
-
--- another bracket is opened: it is written with what it holds
-abbrev pub opens_group : ℕ → Written → Option Stepped
-opens_group byte written = Some (record {
-  size = 1;
-  written = record { opened = record { is_list = false; name = []; before = written.last ++ byte ∷ []; elements = [] } ∷ written.opened; last = [] };
+  written = record { opened = record { bracket = bracket; name = name; before = written.last; elements = [] } ∷ written.opened; last = [] };
 })
 
 -- a name that has no list that is changed, with an operator's sign
@@ -66,17 +62,13 @@ at_plain run rest written (Some answer) = answers 0 answer written
 -- a name, and a list that follows it
 abbrev pub at_name : Rules → (run rest : List ℕ) → Written → Option Stepped
 at_name rules run rest written =
-    if starts_with nat_eq rest (codes "<") && rules.opens run then opens_list run written
+    if starts_with nat_eq rest (codes "<") && rules.opens run then opens 60 run written
     else at_plain run rest written (rules.for_name run rest)
 
--- `<` opens a list without a name, within another bracket
-abbrev pub at_less : List Opened → Written → Option Stepped
-at_less [] written = keeps (60 ∷ []) written
-at_less (top ∷ around) written = opens_list [] written
-
-abbrev pub at_group : List Opened → ℕ → Written → Option Stepped
-at_group [] byte written = keeps (byte ∷ []) written
-at_group (top ∷ around) byte written = opens_group byte written
+-- an opening bracket, without a name, opens within another one
+abbrev pub at_opening : List Opened → ℕ → Written → Option Stepped
+at_opening [] byte written = keeps (byte ∷ []) written
+at_opening (top ∷ around) byte written = opens byte [] written
 
 -- `>` closes the innermost bracket, if it is a list's
 abbrev pub closes_list : Rules → Opened → List Opened → (last rest : List ℕ) → Option Stepped
@@ -85,15 +77,15 @@ closes_list rules list around last rest =
 
 abbrev pub at_greater : Rules → List Opened → (rest : List ℕ) → Written → Option Stepped
 at_greater rules [] rest written = keeps (62 ∷ []) written
-at_greater rules (top ∷ around) rest written = if top.is_list then closes_list rules top around written.last rest else None
+at_greater rules (top ∷ around) rest written = if is_list top then closes_list rules top around written.last rest else None
 
 -- another closing bracket closes it, if it is no list's
 abbrev pub closes_group : Opened → List Opened → ℕ → List ℕ → Option Stepped
-closes_group group around byte last = keeps (byte ∷ []) (record { opened = around; last = group.before ++ last })
+closes_group group around byte last = keeps (byte ∷ []) (record { opened = around; last = group.before ++ group.bracket ∷ last })
 
 abbrev pub at_end : List Opened → ℕ → Written → Option Stepped
 at_end [] byte written = keeps (byte ∷ []) written
-at_end (top ∷ around) byte written = if top.is_list then None else closes_group top around byte written.last
+at_end (top ∷ around) byte written = if is_list top then None else closes_group top around byte written.last
 
 -- `, ` ends an element of a list
 abbrev pub ends_element : Opened → List Opened → List ℕ → Option Stepped
@@ -103,18 +95,17 @@ ends_element list around last =
 abbrev pub at_comma : List Opened → (text : List ℕ) → Written → Option Stepped
 at_comma [] text written = keeps (44 ∷ []) written
 at_comma (top ∷ around) text written =
-    if top.is_list && starts_with nat_eq text (codes ", ") then ends_element top around written.last else keeps (44 ∷ []) written
+    if is_list top && starts_with nat_eq text (codes ", ") then ends_element top around written.last else keeps (44 ∷ []) written
 
 -- A byte that isn't of a name, with the text that begins with it. An arrow is no bracket.
 unfoldable pub at_sign : Rules → (byte : ℕ) → (rest : List ℕ) → Written → Option Stepped
 at_sign rules byte rest written =
-    if byte == 60 then at_less written.opened written
+    if byte == 60 || byte == 40 || byte == 91 || byte == 123 then at_opening written.opened byte written
     else (if byte == 62 then at_greater rules written.opened rest written
-    else (if byte == 40 || byte == 91 || byte == 123 then at_group written.opened byte written
     else (if byte == 41 || byte == 93 || byte == 125 then at_end written.opened byte written
     else (if byte == 44 then at_comma written.opened (byte ∷ rest) written
     else (if starts_with nat_eq (byte ∷ rest) (codes "->") then keeps (codes "->") written
-    else keeps (byte ∷ []) written)))))
+    else keeps (byte ∷ []) written))))
 
 -- A piece of a text that isn't empty: a run of bytes of names, or a sign.
 unfoldable pub stepped : Rules → (byte : ℕ) → (rest : List ℕ) → Written → Option Stepped

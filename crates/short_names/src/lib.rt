@@ -3,12 +3,14 @@
 
 mod closing;
 mod elements;
+mod finding;
 mod inlines;
 mod names;
 mod patterns;
 mod runs;
 mod short;
 mod table;
+mod writing;
 
 pub use runs::has_std;
 pub use short::Short;
