@@ -1,5 +1,5 @@
 -- What it says of bytes that a text begins with another.
-use Rattle.std.proofs.Common.{◌≡◌, ◌<◌, ◌≤◌, ◌+◌, ◌-◌, ℕ, Bool, true, false, true≢false, List, [], ◌∷◌, ◌++◌, length, take, drop, get_or, nat_eq, refl, sym, ap, ◌∙◌, arith, length-append, length-drop, append_assoc}
+use Rattle.std.proofs.Common.{◌≡◌, ◌<◌, ◌≤◌, ◌+◌, ◌-◌, ℕ, Bool, true, false, true≢false, List, [], ◌∷◌, ◌++◌, length, take, drop, get_or, nat_eq, refl, sym, ap, ◌∙◌, arith, length-append, length-drop, append_assoc, take_all, get_or-drop, add-zero}
 use Rattle.std.specs.List.{starts_with}
 use Rattle.std.proofs.lemmas.Slice.Eq.{starts_is}
 use Rattle.std.proofs.lemmas.Bool.Decides.{Decides-eqb}
@@ -30,3 +30,10 @@ pub front-front : (s p q : List ℕ) → starts_with nat_eq s p ≡ true → sta
 front-front s p q one two =
     begins s q (drop (length q) p ++ drop (length p) s)
     (front-is s p one ∙ ap (λ t. t ++ drop (length p) s) (front-is p q two) ∙ append_assoc q (drop (length q) p) (drop (length p) s))
+
+-- the rest of a text, as a slice of it is written
+pub rest-all : (text : List ℕ) (n : ℕ) → take (length text - n) (drop n text) ≡ drop n text
+rest-all text n = take_all (length text - n) (drop n text) (omega (arith, length-drop n text))
+
+pub first-dropped : (text : List ℕ) (n : ℕ) → get_or (drop n text) 0 0 ≡ get_or text n 0
+first-dropped text n = get_or-drop n text 0 0 ∙ ap (λ k. get_or text k 0) (add-zero n)

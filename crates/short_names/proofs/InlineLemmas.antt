@@ -10,7 +10,7 @@ use Rattle.short_names.specs.Names.{row_in, size_of}
 use Rattle.short_names.specs.Runs.{is_letter, is_name_byte, begins_std, is_std_at}
 use Rattle.short_names.specs.Inlines.{begins_low, inlines_size, std_front, std_size, without_inlines, front as front_of, inner as inner_of, nested as nested_of}
 use Rattle.short_names.specs.Texts.{text_of}
-use Rattle.short_names.proofs.FrontLemmas.{false-from, differs, front-is as front-text, front-byte, front-length}
+use Rattle.short_names.proofs.FrontLemmas.{false-from, differs, front-is as front-text, front-byte, front-length, rest-all}
 use Rattle.short_names.proofs.RowLemmas.{none-in, row-length}
 
 -- ## How long they are
@@ -226,11 +226,11 @@ module _ (text : List ℕ) (run front inner nested : ℕ) (is : is_std_at text r
     -- where there are none
     pub none-left-out : front + nested ≡ 0 → (out first : List ℕ) → out ++ (piece text copied at ++ from_on text at) ≡ first
         → out ++ (piece text copied (run + 5 + front + inner + nested) ++ from_on text (run + 5 + front + inner + nested)) ≡ first
-    none-left-out no out first so_far =
+    none-left-out nothing out first so_far =
         let next = run + 5 + front + inner + nested in
         let a = piece text copied (run + 5) in
-        let name : run + 5 + front ≡ run + 5 = omega (arith, no) in
-        let end : run + 5 + front + inner ≡ next = omega (arith, no) in
+        let name : run + 5 + front ≡ run + 5 = omega (arith, nothing) in
+        let end : run + 5 + front + inner ≡ next = omega (arith, nothing) in
         let middle : piece text (run + 5 + front) (run + 5 + front + inner) ≡ piece text (run + 5) next = ap₂ (piece text) name end in
         ap (λ t. out ++ (t ++ from_on text next)) (sym (piece-join text copied (run + 5) next (omega (arith, low, high)) (omega arith)))
         ∙ ap (λ t. out ++ t) (append_assoc a (piece text (run + 5) next) (from_on text next))
@@ -271,14 +271,14 @@ inners-marked = refl
 -- a text that begins with a row begins as that does
 unmarked : (name t : List ℕ) → may_begin name ≡ false → marked_row t ≡ true → starts_with nat_eq name t ≡ false
 unfolding marked_row
-unmarked name t no is =
+unmarked name t other is =
     let parts = and_parts (nat_lt 2 (length t)) (may_begin t) is in
     let long = ltb-true 2 (length t) parts.0 in
     false-from (starts_with nat_eq name t) (λ begins.
     let first = front-byte name t 0 begins (omega (arith, long)) in
     let third = front-byte name t 2 begins long in
     let same = ap₂ (λ a b. not (bit_and (get_or INLINE_FIRSTS a 0) (get_or INLINE_THIRDS b 0) == 0)) first third in
-    absurd (true≢false (sym parts.1 ∙ sym same ∙ no)))
+    absurd (true≢false (sym parts.1 ∙ sym same ∙ other)))
 
 short-row : (name t : List ℕ) → length name < 3 → marked_row t ≡ true → starts_with nat_eq name t ≡ false
 unfolding marked_row
@@ -287,7 +287,7 @@ short-row name t short is =
     false-from (starts_with nat_eq name t) (λ begins. absurd (omega (arith, short, long, front-length name t begins)))
 
 pub none-begin : (name : List ℕ) → may_begin name ≡ false → (row_in INLINES name ≡ None) × (row_in INNERS name ≡ None)
-none-begin name no = (none-in marked_row name (λ t. unmarked name t no) INLINES inlines-marked, none-in marked_row name (λ t. unmarked name t no) INNERS inners-marked)
+none-begin name other = (none-in marked_row name (λ t. unmarked name t other) INLINES inlines-marked, none-in marked_row name (λ t. unmarked name t other) INNERS inners-marked)
 
 pub none-short : (name : List ℕ) → length name < 3 → (row_in INLINES name ≡ None) × (row_in INNERS name ≡ None)
 none-short name short = (none-in marked_row name (λ t. short-row name t short) INLINES inlines-marked, none-in marked_row name (λ t. short-row name t short) INNERS inners-marked)
@@ -317,3 +317,20 @@ nested-none name none = ap (λ n. if n == 0 then 0 else inlines_size INNER_INLIN
 
 pub nested-some : (name : List ℕ) → (inner_of name ≡ 0 → ⊥) → nested_of name ≡ inlines_size INNER_INLINES 0 (drop (front_of name + inner_of name) name)
 nested-some name some = ap (λ b. if b then 0 else inlines_size INNER_INLINES 0 (drop (front_of name + inner_of name) name)) (ne_eqb (inner_of name) 0 some)
+
+-- ## The parts of a name
+
+pub size-end : (rows : List Place) (name : List ℕ) (size : ℕ) → length name ≤ size → inlines_size rows 0 (drop size name) ≡ 0
+unfolding inlines_size
+size-end rows name size past = ap (inlines_size rows 0) (drop_all size name past)
+
+pub inner-same : (name : List ℕ) (f i : ℕ) → f ≡ inlines_size INLINES 0 name → i ≡ size_of (row_in INNERS (take (length name - f) (drop f name))) → i ≡ inner_of name
+inner-same name f i front inner = inner ∙ ap (λ t. size_of (row_in INNERS t)) (rest-all name f) ∙ ap (λ n. size_of (row_in INNERS (drop n name))) front
+
+pub nested-same : (name : List ℕ) (f i n : ℕ) → f ≡ inlines_size INLINES 0 name → i ≡ inner_of name → (i ≡ 0 → ⊥)
+    → n ≡ inlines_size INNER_INLINES 0 (take (length name - (f + i)) (drop (f + i) name)) → n ≡ nested_of name
+nested-same name f i n front inner some nested =
+    nested
+    ∙ ap (inlines_size INNER_INLINES 0) (rest-all name (f + i))
+    ∙ ap₂ (λ a b. inlines_size INNER_INLINES 0 (drop (a + b) name)) front inner
+    ∙ sym (nested-some name (λ none. some (inner ∙ none)))

@@ -1,4 +1,5 @@
 pub mod BitLemmas
+pub mod ChangeLemmas
 pub mod ElementLemmas
 pub mod FrontLemmas
 pub mod InlineLemmas

@@ -1,8 +1,9 @@
 -- Names of std, and the usual names that they begin with.
-use Rattle.std.proofs.Common.{◌≡◌, ◌<◌, ◌≤◌, ◌+◌, ◌-◌, ◌==◌, zero, suc, ℕ, Bool, true, false, true≢false, not, ◌&&◌, ◌||◌, List, [], ◌∷◌, ◌++◌, length, take, drop, get_or, nat_eq, nat_lt, refl, sym, ap, ◌∙◌, arith, add-zero, Option, None, Some, codes, inl, inr, eqb-true, eq-eqb, get_or-drop, drop-drop, length-drop, ltb-true}
+use Rattle.std.proofs.Common.{◌≡◌, ◌<◌, ◌≤◌, ◌+◌, ◌-◌, ◌==◌, zero, suc, ℕ, Bool, true, false, true≢false, not, ◌&&◌, ◌||◌, List, [], ◌∷◌, ◌++◌, length, take, drop, get_or, nat_eq, nat_lt, refl, sym, ap, ◌∙◌, arith, add-zero, Option, None, Some, codes, inl, inr, eqb-true, eq-eqb, get_or-drop, drop-drop, length-drop, ltb-true, subst, slice_get, if◌then◌else◌}
 use Rattle.std.specs.List.{starts_with, list_all, list_any}
 use Rattle.std.proofs.lemmas.Bool.{and_parts, not-true}
 use Rattle.std.proofs.lemmas.List.{at_drop_more, drop_all, get_or_append_left}
+use Rattle.std.proofs.lemmas.Option.{slice_get-get_or}
 use Rattle.short_names.specs.declared.table.Place.{Place}
 use Rattle.short_names.specs.declared.table.Alias.{Alias}
 use Rattle.short_names.specs.declared.table.TheConstants.{ALIASES, WHOLES, PARTS, STD, USUAL_FIRSTS}
@@ -185,3 +186,25 @@ module _ (rows : List Alias) (name text : List ℕ) (k : ℕ) (d : Alias) (withi
   pub member-found : is_member ≡ true → member_in (drop k rows) name text ≡ Some (get_or rows k d)
   unfolding member_in
   member-found is = at_drop_more (λ rs. member_in rs name text) rows k d within ∙ rw is refl
+
+-- what it says that a row is found
+pub member-is : (rows : List Alias) (name text : List ℕ) (alias : Alias) → member_in rows name text ≡ Some alias
+    → (starts_with nat_eq name (text_of alias.name) ≡ true) × (is_constructor (drop (length (text_of alias.name)) text) (last_part (text_of alias.template)) ≡ true)
+unfolding member_in
+member-is [] name text alias found = absurd (cc)
+member-is (row ∷ rows) name text alias found =
+    by (starts_with nat_eq name (text_of row.name)) (is_constructor (drop (length (text_of row.name)) text) (last_part (text_of row.template))) refl refl found (member-is rows name text alias)
+  where
+    by : (a b : Bool) → starts_with nat_eq name (text_of row.name) ≡ a → is_constructor (drop (length (text_of row.name)) text) (last_part (text_of row.template)) ≡ b
+        → (if a && b then Some row else member_in rows name text) ≡ Some alias
+        → (member_in rows name text ≡ Some alias → (starts_with nat_eq name (text_of alias.name) ≡ true) × (is_constructor (drop (length (text_of alias.name)) text) (last_part (text_of alias.template)) ≡ true))
+        → (starts_with nat_eq name (text_of alias.name) ≡ true) × (is_constructor (drop (length (text_of alias.name)) text) (last_part (text_of alias.template)) ≡ true)
+    by true true begins is found rest =
+        let same : row ≡ alias = cc in
+        subst (λ (r : Alias). (starts_with nat_eq name (text_of r.name) ≡ true) × (is_constructor (drop (length (text_of r.name)) text) (last_part (text_of r.template)) ≡ true)) same (begins, is)
+    by true false begins is found rest = rest found
+    by false b begins is found rest = rest found
+
+module _ (name text : List ℕ) (row : ℕ) (d : Alias) (within : row < length ALIASES) where
+  pub member-here : is_member ALIASES name text row d within ≡ true → member_in (drop row ALIASES) name text ≡ slice_get ALIASES row
+  member-here is = member-found ALIASES name text row d within is ∙ sym (slice_get-get_or ALIASES row d within)

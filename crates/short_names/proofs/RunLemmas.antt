@@ -2,7 +2,7 @@
 use Rattle.std.proofs.Common.{◌≡◌, ◌<◌, ◌≤◌, ◌+◌, ◌-◌, ◌⊎◌, inl, inr, refl, sym, ap, ◌∙◌, ℕ, zero, suc, arith, Bool, true, false, true≢false, List, [], ◌∷◌, ◌++◌, length, take, drop, get_or, codes, length-drop, if◌then◌else◌}
 use Rattle.std.proofs.lemmas.Bool.{and_parts, and_left}
 use Rattle.std.specs.List.{list_all}
-use Rattle.short_names.specs.Runs.{is_name_byte, run_of, begins_std, is_std_at}
+use Rattle.short_names.specs.Runs.{is_letter, is_name_byte, run_of, begins_std, is_std_at}
 use Rattle.short_names.proofs.FrontLemmas.{false-from, front-length}
 
 -- bytes of names after which none comes are that run
@@ -49,6 +49,14 @@ no-std-more text from at next front gap here k low high =
       ]
     ]
 
+pub no-std-between : (text : List ℕ) (from at next : ℕ) → ((k : ℕ) → from ≤ k → k < at → is_std_at text k ≡ false)
+    → ((k : ℕ) → at ≤ k → k < next → begins_std (drop k text) ≡ false) → (k : ℕ) → from ≤ k → k < next → is_std_at text k ≡ false
+no-std-between text from at next front gap k low high =
+    elim (lt-or-le k at) [
+      | inl before ↦ front k low before
+      | inr behind ↦ and_left (begins_std (drop k text)) _ (gap k behind high)
+    ]
+
 -- ## Runs
 
 pub run-prefix : (text : List ℕ) → text ≡ run_of text ++ drop (length (run_of text)) text
@@ -62,7 +70,7 @@ run-prefix (byte ∷ text) = by (is_name_byte byte) (run-prefix text)
 
 -- a run ends where a byte is of no name, or the text does
 pub run-stops : (text : List ℕ) → is_name_byte (get_or text (length (run_of text)) 0) ≡ false
-unfolding run_of
+unfolding run_of is_name_byte is_letter
 run-stops [] = refl
 run-stops (byte ∷ text) = by (is_name_byte byte) refl (run-stops text)
   where

@@ -1,8 +1,9 @@
 -- The rows of templates, which are looked up by the sizes of their names and by marks.
-use Rattle.std.proofs.Common.{◌≡◌, ◌≢◌, ◌<◌, ◌≤◌, ◌+◌, ◌-◌, ◌==◌, zero, suc, ℕ, Bool, true, false, List, [], ◌∷◌, ◌&&◌, length, drop, get_or, nat_eq, nat_le, nat_lt, refl, sym, ap, ◌∙◌, subst, arith, add-zero, Option, None, Some, inl, inr, min, eqb-true, leb-true, ltb-true}
+use Rattle.std.proofs.Common.{◌≡◌, ◌≢◌, ◌<◌, ◌≤◌, ◌+◌, ◌-◌, ◌==◌, zero, suc, ℕ, Bool, true, false, List, [], ◌∷◌, ◌&&◌, length, drop, get_or, slice_get, nat_eq, nat_le, nat_lt, refl, sym, ap, ◌∙◌, subst, arith, add-zero, Option, None, Some, inl, inr, min, eqb-true, leb-true, ltb-true}
 use Rattle.std.specs.Cmp.Lexicographic.{pointwise}
 use Rattle.std.proofs.lemmas.Bool.{and_parts}
 use Rattle.std.proofs.lemmas.List.{at_drop_more, drop_all, get_or_past}
+use Rattle.std.proofs.lemmas.Option.{slice_get-get_or, get_or_from_slice_get}
 use Rattle.std.proofs.lemmas.Slice.Eq.{bytes_eq-Decides}
 use Rattle.short_names.specs.declared.table.Template.{Template}
 use Rattle.short_names.specs.declared.table.TheConstants.{FIRST, MARKS, TEMPLATES}
@@ -117,3 +118,21 @@ module _ (rows : List Template) (name : List ℕ) (k : ℕ) (d : Template) (with
   pub row-found : has_name (get_or rows k d) name ≡ true → template_in (drop k rows) name ≡ Some (get_or rows k d)
   unfolding template_in
   row-found is = at_drop_more (λ rs. template_in rs name) rows k d within ∙ rw is refl
+
+-- ## A row by its number
+
+module _ (name : List ℕ) (row : ℕ) (d : Template) (within : row < length TEMPLATES) where
+  slice-is : slice_get TEMPLATES row ≡ Some (get_or TEMPLATES row d)
+  slice-is = slice_get-get_or TEMPLATES row d within
+
+  -- what says of each template that is in a row whether it has the name says so of the one there
+  pub named-here : (r : Bool) → ((template : Template) → slice_get TEMPLATES row ≡ Some template → r ≡ pointwise nat_eq (text_of template.name) name) → has_name (get_or TEMPLATES row d) name ≡ r
+  named-here r told = sym (told (get_or TEMPLATES row d) slice-is)
+
+  pub found-here : has_name (get_or TEMPLATES row d) name ≡ true → template_in (drop row TEMPLATES) name ≡ slice_get TEMPLATES row
+  found-here is = row-found TEMPLATES name row d within is ∙ sym slice-is
+
+pub other-here : (name : List ℕ) (row : ℕ) (template : Template) → row < length TEMPLATES → slice_get TEMPLATES row ≡ Some template → get_or MARKS row 0 ≢ mark_of name → false ≡ pointwise nat_eq (text_of template.name) name
+other-here name row template within got other =
+    let same = get_or_from_slice_get TEMPLATES row template template got in
+    sym (ap (λ (t : Template). has_name t name) (sym same) ∙ other-mark name row template within other)

@@ -1,4 +1,5 @@
 // The elements of a list of a name of the table.
+#![tactic(none)]
 ghost use Rattle.std.specs.Prelude.{◌≡◌, ◌≤◌, ◌<◌, ◌+◌, ◌-◌, ◌==◌, ◌&&◌, not, nat_eq, ℕ, List, length, take};
 ghost use Rattle.std.specs.Cmp.Lexicographic.{pointwise};
 ghost use Rattle.short_names.specs.Elements.{AreHoles, element, joined, is_default, left_of, left, is_polymorphic, alias_in, aliases_of};

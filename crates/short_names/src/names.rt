@@ -1,11 +1,13 @@
 // Names of the table.
+#![tactic(none)]
 ghost use Rattle.std.specs.Prelude.{◌≡◌, ◌≤◌, ◌<◌, ◌-◌, ◌++◌, ℕ, List, [], length, drop, take, nat_eq, true, false, slice_get, Some, None, is_some, codes, ◌&&◌, MatchOption, if◌then◌else◌};
 ghost use Rattle.std.specs.List.{starts_with};
 ghost use Rattle.std.specs.Cmp.Lexicographic.{pointwise};
-ghost use Rattle.short_names.specs.Changes.{IsChange};
+ghost use Rattle.short_names.specs.Changes.{IsChange, has_list};
 ghost use Rattle.short_names.specs.Names.{row_in, size_of, mark_of, template_in, behind_part, with_template, std_name, last_part, front_size, is_constructor, ends_name, member_in};
 ghost use Rattle.short_names.specs.Runs.{begins_std, run_of};
 ghost use Rattle.short_names.specs.Texts.{text_of};
+ghost use Rattle.short_names.specs.declared.table.Place.{Place as PlaceRow};
 ghost use Rattle.short_names.specs.declared.table.Template.{Template as TemplateRow};
 ghost use Rattle.short_names.specs.declared.table.TheConstants.{TEMPLATES, ALIASES, WHOLES, PARTS};
 
@@ -275,24 +277,46 @@ fn list_row(name: &[u8], rest: &[u8]) -> Option<usize>
     }
 }
 
-/// What does so at a run that begins with `std::`, in a text that begins with that run.
-pub(crate) fn change_at(text: &[u8], run: &[u8]) -> Change
-    requires { (begins_std run.now ≡ true) × (run.now ≡ run_of text.now) }
+/// What does so at a run that ends with a name of `std` that no list follows, in a text that begins with that run.
+fn member_change(text: &[u8], run: &[u8], name: &[u8]) -> Change
+    requires std { (whole : PlaceRow) × (std_name run.now ≡ Some (record { whole = whole; name = name.now })) }
+    requires run { run.now ≡ run_of text.now }
+    requires no_list { has_list run.now (drop (length run.now) text.now) ≡ false }
     ensures { IsChange run.now (drop (length run.now) text.now) result }
 {
-    let Some(std) = std_name(run) else {
-        return Change::Nothing;
-    };
-    if let Some(row) = list_row(std.name, &text[run.len()..]) {
-        let whole = std.whole;
-        return Change::List { whole, row };
-    }
-    let from = run.len() - std.name.len();
-    match member_row(std.name, &text[from..]) {
+    let from = run.len() - name.len();
+    match member_row(name, &text[from..]) {
         None => Change::Nothing,
         Some(row) => {
             let size = from + text_at(ALIASES[row].name).len();
             Change::Member { row, size }
         }
+    }
+}
+
+/// What does so at a run that is a name of `std`.
+#[inline(always)]
+fn std_change(text: &[u8], run: &[u8], std: StdName<'_>) -> Change
+    requires std { std_name run.now ≡ Some (record { whole = std.whole; name = std.name.now }) }
+    requires run { run.now ≡ run_of text.now }
+    ensures { IsChange run.now (drop (length run.now) text.now) result }
+{
+    match list_row(std.name, &text[run.len()..]) {
+        None => member_change(text, run, std.name),
+        Some(row) => {
+            let whole = std.whole;
+            Change::List { whole, row }
+        }
+    }
+}
+
+/// What does so at a run that begins with `std::`, in a text that begins with that run.
+pub(crate) fn change_at(text: &[u8], run: &[u8]) -> Change
+    requires { (begins_std run.now ≡ true) × (run.now ≡ run_of text.now) }
+    ensures { IsChange run.now (drop (length run.now) text.now) result }
+{
+    match std_name(run) {
+        None => Change::Nothing,
+        Some(std) => std_change(text, run, std),
     }
 }

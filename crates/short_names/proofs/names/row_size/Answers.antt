@@ -1,7 +1,0 @@
-use Rattle.std.proofs.Common.{◌≤◌, length, ap, subst, sym, arith}
-use Rattle.short_names.specs.Names.{size_of}
-use Rattle.short_names.proofs.RowLemmas.{row-length}
-use Rattle.short_names.proofs.names.row_size.Goals as goal
-
-pub returns-in-Some-clause-within : goal.returns-in-Some-clause-within
-returns-in-Some-clause-within c = ?
