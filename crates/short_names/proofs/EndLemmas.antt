@@ -1,7 +1,7 @@
 -- The first and the last step of what is written.
-use Rattle.std.proofs.Common.{◌≡◌, ◌<◌, ◌≤◌, ◌+◌, ◌-◌, ◌==◌, refl, sym, ap, ◌∙◌, ℕ, arith, Bool, true, false, List, [], ◌∷◌, ◌++◌, length, take, drop, Option, None, Some, length-append, if◌then◌else◌}
-use Rattle.std.proofs.lemmas.Bool.{eq-eqb, ne_eqb}
-use Rattle.std.proofs.lemmas.List.{drop_all}
+use Rattle.std.proofs.Common.{◌≡◌, ◌<◌, ◌≤◌, ◌+◌, ◌-◌, ◌==◌, refl, sym, ap, ◌∙◌, ℕ, zero, suc, arith, Bool, true, false, List, [], ◌∷◌, ◌++◌, length, take, drop, Option, None, Some, length-append, if◌then◌else◌}
+use Rattle.std.proofs.lemmas.Bool.{eq-eqb, eqb-true, ne_eqb, true≢false}
+use Rattle.std.proofs.lemmas.List.{drop_all, nil_from_length}
 use Rattle.short_names.specs.declared.writing.Bracket.{Bracket}
 use Rattle.short_names.specs.declared.writing.Writing.{Writing}
 use Rattle.short_names.specs.Short.{short, short_rules}
@@ -43,3 +43,12 @@ unfolding short by_rules written_for
 ends text now written out empty is all out_is empty_is =
     ap (text_or text) (sym is.goes_on ∙ ap (λ t. written_for short_rules 0 t written) (drop_all now.at text all))
     ∙ by_opened text now written.opened written.last out empty is.opened (out_is ∙ is.bytes) empty_is
+
+-- ## Whether brackets are open
+
+pub none_open : (brackets : List Bracket) (len : ℕ) (empty : Bool) → len ≡ length brackets → empty ≡ (len == 0) → empty ≡ true → brackets ≡ []
+none_open brackets len empty long is e = nil_from_length brackets (omega (arith, long, eqb-true len 0 (sym is ∙ e)))
+
+pub some_open : (brackets : List Bracket) (len : ℕ) (empty : Bool) → len ≡ length brackets → empty ≡ (len == 0) → empty ≡ false → 0 < length brackets
+some_open brackets zero empty long is e = absurd (true≢false (sym is ∙ e))
+some_open brackets (suc n) empty long is e = omega (arith, long)

@@ -82,7 +82,7 @@ operator-within run rest = pick (ends_operator run) (sign_size rest) 0 (length r
 
 -- ## Steps
 
-at_run : (text : List ℕ) (at byte : ℕ) (rest : List ℕ) (written : Written) → drop at text ≡ byte ∷ rest → is_name_byte byte ≡ true
+pub at_run : (text : List ℕ) (at byte : ℕ) (rest : List ℕ) (written : Written) → drop at text ≡ byte ∷ rest → is_name_byte byte ≡ true
     → stepped short_rules byte rest written ≡ at_name short_rules (run_of (drop at text)) (behind_run (drop at text)) written
 unfolding stepped
 at_run text at byte rest written here letter = rw letter (ap (λ t. at_name short_rules (run_of t) (behind_run t) written) (sym here))

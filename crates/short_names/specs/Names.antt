@@ -1,5 +1,5 @@
 -- Names of the table.
-use Rattle.std.specs.Prelude.{ℕ, List, [], ◌∷◌, Bool, true, false, not, ◌==◌, ◌-◌, ◌+◌, ◌||◌, ◌&&◌, nat_eq, length, get_or, drop, take, codes, Option, None, Some, if◌then◌else◌}
+use Rattle.std.specs.Prelude.{ℕ, List, [], ◌∷◌, Bool, true, false, not, ◌==◌, ◌-◌, ◌+◌, ◌||◌, ◌&&◌, ◌*◌, nat_eq, nat_lt, length, get_or, drop, take, codes, Option, None, Some, if◌then◌else◌}
 use Rattle.std.specs.Cmp.Lexicographic.{pointwise}
 use Rattle.std.specs.List.{starts_with, list_all}
 use Rattle.short_names.specs.declared.table.Place.{Place}
@@ -40,6 +40,10 @@ unfoldable pub std_name : List ℕ → Option StdName
 std_name run = behind_whole run (row_in WHOLES run)
 
 -- ## A name of the table: its `std::`, and its template
+
+-- what templates are looked up by: the first byte of a name and the third from its end, as one number
+unfoldable pub mark_of : List ℕ → ℕ
+mark_of name = if nat_lt (length name) 3 then 0 else get_or name 0 0 + get_or name (length name - 3) 0 * 256
 
 -- the template of a name
 unfoldable pub template_in : List Template → List ℕ → Option Template

@@ -1,4 +1,5 @@
 // The elements of a list of a name of the table.
+#![tactic(none)]
 ghost use Rattle.std.specs.Prelude.{◌≡◌, ◌≤◌, ◌<◌, ◌+◌, ◌-◌, ◌==◌, ◌&&◌, not, nat_eq, ℕ, List, length, take};
 ghost use Rattle.std.specs.Cmp.Lexicographic.{pointwise};
 ghost use Rattle.short_names.specs.Elements.{AreHoles, element, joined, is_default, left_of, left, is_polymorphic, alias_in, aliases_of};
@@ -64,10 +65,11 @@ impl<'a> Elements<'a> {
         if place >= named.template.count as usize {
             return false;
         }
-        match DEFAULTS.get(named.template.first_default as usize + place) {
-            Some(default) => is_given(self.at(place), text_at(*default), holes),
-            None => false,
+        let row = named.template.first_default as usize + place;
+        if row >= DEFAULTS.len() {
+            return false;
         }
+        is_given(self.at(place), text_at(DEFAULTS[row]), holes)
     }
 
     /// How many of the first elements are left without those at their end that are what a name has by default.
@@ -77,7 +79,10 @@ impl<'a> Elements<'a> {
             result ≡ left_of named elements count }
     {
         let mut left = count;
-        'elements: while left > 0 && self.is_default(named, holes, left - 1) {
+        'elements: while left > 0 {
+            if !self.is_default(named, holes, left - 1) {
+                return left;
+            }
             left -= 1;
         }
         left
@@ -118,7 +123,8 @@ impl<'a> Elements<'a> {
     {
         let text = &self.text[self.starts[0]..self.end(count)];
         let mut k = named.template.first_alias as usize;
-        'rows: while k < named.template.end_alias as usize && k < ALIASES.len() {
+        let end = (named.template.end_alias as usize).min(ALIASES.len());
+        'rows: while k < end {
             let alias = ALIASES[k];
             if is_filled(text, text_at(alias.arguments), holes) {
                 return Some(alias);

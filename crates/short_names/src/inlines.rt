@@ -1,4 +1,5 @@
 // Texts without the inline namespaces of `std`.
+#![tactic(none)]
 ghost use Rattle.std.specs.Prelude.{◌≡◌, ◌≤◌, ◌+◌, ◌++◌, ◌==◌, length, drop, true, false, None, not, OnOk, get_or};
 ghost use Rattle.std.specs.List.{list_all};
 ghost use Rattle.short_names.specs.Names.{row_in};
@@ -16,7 +17,10 @@ fn inlines_size(rows: &[Place], name: &[u8]) -> usize
     ensures size { result ≡ inlines_size rows.now 0 name.now }
 {
     let mut size = 0;
-    'names: while size < name.len() && name[size] == b'_' {
+    'names: while size < name.len() {
+        if name[size] != b'_' {
+            return size;
+        }
         let next = row_size(rows, &name[size..]);
         if next == 0 {
             return size;
@@ -125,5 +129,6 @@ pub(crate) fn append_without(text: &[u8], out: &mut Vec<u8>) -> Result<(), Alloc
             copied = at;
         }
     }
-    out.extend_from_slice(&text[copied..])
+    out.extend_from_slice(&text[copied..])?;
+    Ok(())
 }

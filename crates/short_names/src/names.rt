@@ -1,16 +1,20 @@
 // Names of the table.
-ghost use Rattle.std.specs.Prelude.{◌≡◌, ◌≤◌, ◌<◌, ◌-◌, ◌++◌, ℕ, List, [], length, drop, take, nat_eq, true, false, slice_get, Some, None, MatchOption, if◌then◌else◌};
+#![tactic(none)]
+ghost use Rattle.std.specs.Prelude.{◌≡◌, ◌≤◌, ◌<◌, ◌-◌, ◌++◌, ℕ, List, [], length, drop, take, nat_eq, true, false, slice_get, Some, None, is_some, codes, ◌&&◌, MatchOption, if◌then◌else◌};
 ghost use Rattle.std.specs.List.{starts_with};
-ghost use Rattle.short_names.specs.Changes.{IsChange};
-ghost use Rattle.short_names.specs.Names.{row_in, size_of, template_in, behind_part, with_template, std_name, last_part, front_size, is_constructor, ends_name, member_in};
+ghost use Rattle.std.specs.Cmp.Lexicographic.{pointwise};
+ghost use Rattle.short_names.specs.Changes.{IsChange, has_list};
+ghost use Rattle.short_names.specs.Names.{row_in, size_of, mark_of, template_in, behind_part, with_template, std_name, last_part, front_size, is_constructor, ends_name, member_in};
 ghost use Rattle.short_names.specs.Runs.{begins_std, run_of};
 ghost use Rattle.short_names.specs.Texts.{text_of};
+ghost use Rattle.short_names.specs.declared.table.Place.{Place as PlaceRow};
+ghost use Rattle.short_names.specs.declared.table.Template.{Template as TemplateRow};
 ghost use Rattle.short_names.specs.declared.table.TheConstants.{TEMPLATES, ALIASES, WHOLES, PARTS};
 
 use crate::patterns::text_at;
 use crate::runs::{is_letter, is_name_byte};
 use crate::table::{
-    ALIASES, FIRST, LONGEST, MARKS, PARTS, Place, STD, TEMPLATES, Template, USUAL_FIRSTS, WHOLES,
+    ALIASES, Alias, FIRST, LONGEST, MARKS, PARTS, Place, STD, TEMPLATES, Template, USUAL_FIRSTS, WHOLES,
 };
 
 /// A name of the table: its `std::`, with the inline namespace that holds all of `std` if there is one, and its template.
@@ -62,7 +66,8 @@ fn row_in(rows: &[Place], text: &[u8]) -> Option<Place>
 
 /// How long that is; 0 where there is none.
 pub(crate) fn row_size(rows: &[Place], text: &[u8]) -> usize
-    ensures { result ≡ size_of (row_in rows.now text.now) }
+    ensures within { result ≤ length text.now }
+    ensures size { result ≡ size_of (row_in rows.now text.now) }
 {
     match row_in(rows, text) {
         Some(row) => text_at(row).len(),
@@ -70,16 +75,26 @@ pub(crate) fn row_size(rows: &[Place], text: &[u8]) -> usize
     }
 }
 
-/// What the rows of templates are looked through by: the first byte of a name, and the third from its end.
+/// What templates are looked up by: the first byte of a name and the third from its end.
 #[inline(always)]
-fn mark_of(name: &[u8]) -> u16 {
-    match name {
-        [first, .., _, _] => match name {
-            [.., third, _, _] => *first as u16 + *third as u16 * 256,
-            _ => 0,
-        },
-        _ => 0,
+#[tactic(auto, unfolding(crate::specs::Names::mark_of))]
+fn mark_of(name: &[u8]) -> u16
+    ensures { result ≡ mark_of name.now }
+{
+    if name.len() < 3 {
+        return 0;
     }
+    name[0] as u16 + name[name.len() - 3] as u16 * 256
+}
+
+/// Whether the template of a row has a name that has a mark.
+#[inline(always)]
+fn has_name(row: usize, mark: u16, name: &[u8]) -> bool
+    requires within { row < length TEMPLATES }
+    requires mark { mark ≡ mark_of name.now }
+    ensures { (template : TemplateRow) → slice_get TEMPLATES row ≡ Some template → result ≡ pointwise nat_eq (text_of template.name) name.now }
+{
+    MARKS[row] == mark && text_at(TEMPLATES[row].name) == name
 }
 
 /// The row of the template of a name.
@@ -91,14 +106,11 @@ fn row_of(name: &[u8]) -> Option<usize>
         return None;
     }
     let mut row = FIRST[name.len()] as usize;
-    let end = FIRST[name.len() + 1] as usize;
+    let end = (FIRST[name.len() + 1] as usize).min(TEMPLATES.len());
     let mark = mark_of(name);
-    'rows: while row < end && row < TEMPLATES.len() {
-        if MARKS[row] == mark {
-            let template = TEMPLATES[row];
-            if name == text_at(template.name) {
-                return Some(row);
-            }
+    'rows: while row < end {
+        if has_name(row, mark, name) {
+            return Some(row);
         }
         row += 1;
     }
@@ -222,8 +234,19 @@ fn may_have_member(name: &[u8]) -> bool
     }
 }
 
-/// The row of the usual name with which a name begins, where a constructor or destructor follows that has the template's name. The name
-/// is the run with which a text begins.
+/// Whether a name, the run with which a text begins, begins with a usual name, and a constructor or destructor follows that has the
+/// template's name.
+#[inline(always)]
+fn is_member(alias: Alias, name: &[u8], text: &[u8]) -> bool
+    requires { name.now ≡ run_of text.now }
+    ensures { result ≡ (starts_with nat_eq name.now (text_of alias.name)
+        && is_constructor (drop (length (text_of alias.name)) text.now) (last_part (text_of alias.template))) }
+{
+    let usual = text_at(alias.name);
+    begins_with(name, usual) && is_constructor(&text[usual.len()..], last_part(text_at(alias.template)))
+}
+
+/// The row of the usual name of which that is so.
 fn member_row(name: &[u8], text: &[u8]) -> Option<usize>
     requires { name.now ≡ run_of text.now }
     ensures { MatchOption result (member_in ALIASES name.now text.now ≡ None)
@@ -234,11 +257,7 @@ fn member_row(name: &[u8], text: &[u8]) -> Option<usize>
     }
     let mut row = 0;
     'rows: while row < ALIASES.len() {
-        let alias = ALIASES[row];
-        let usual = text_at(alias.name);
-        if begins_with(name, usual)
-            && is_constructor(&text[usual.len()..], last_part(text_at(alias.template)))
-        {
+        if is_member(ALIASES[row], name, text) {
             return Some(row);
         }
         row += 1;
@@ -246,26 +265,58 @@ fn member_row(name: &[u8], text: &[u8]) -> Option<usize>
     None
 }
 
-/// What does so at a run that begins with `std::`, in a text that begins with that run.
-pub(crate) fn change_at(text: &[u8], run: &[u8]) -> Change
-    requires { (begins_std run.now ≡ true) × (run.now ≡ run_of text.now) }
+/// The row of the template of a name, where a list follows it.
+#[inline(always)]
+fn list_row(name: &[u8], rest: &[u8]) -> Option<usize>
+    ensures { MatchOption result ((starts_with nat_eq rest.now (codes "<") && is_some (template_in TEMPLATES name.now)) ≡ false)
+        (λ row. (starts_with nat_eq rest.now (codes "<") ≡ true) × (row < length TEMPLATES) × (template_in TEMPLATES name.now ≡ slice_get TEMPLATES row)) }
+{
+    match rest {
+        [b'<', ..] => row_of(name),
+        _ => None,
+    }
+}
+
+/// What does so at a run that ends with a name of `std` that no list follows, in a text that begins with that run.
+fn member_change(text: &[u8], run: &[u8], name: &[u8]) -> Change
+    requires std { (whole : PlaceRow) × (std_name run.now ≡ Some (record { whole = whole; name = name.now })) }
+    requires run { run.now ≡ run_of text.now }
+    requires no_list { has_list run.now (drop (length run.now) text.now) ≡ false }
     ensures { IsChange run.now (drop (length run.now) text.now) result }
 {
-    let Some(std) = std_name(run) else {
-        return Change::Nothing;
-    };
-    if let Some(b'<') = text.get(run.len()) {
-        if let Some(row) = row_of(std.name) {
-            let whole = std.whole;
-            return Change::List { whole, row };
-        }
-    }
-    let from = run.len() - std.name.len();
-    match member_row(std.name, &text[from..]) {
+    let from = run.len() - name.len();
+    match member_row(name, &text[from..]) {
         None => Change::Nothing,
         Some(row) => {
             let size = from + text_at(ALIASES[row].name).len();
             Change::Member { row, size }
         }
+    }
+}
+
+/// What does so at a run that is a name of `std`.
+#[inline(always)]
+fn std_change(text: &[u8], run: &[u8], std: StdName<'_>) -> Change
+    requires std { std_name run.now ≡ Some (record { whole = std.whole; name = std.name.now }) }
+    requires run { run.now ≡ run_of text.now }
+    ensures { IsChange run.now (drop (length run.now) text.now) result }
+{
+    match list_row(std.name, &text[run.len()..]) {
+        None => member_change(text, run, std.name),
+        Some(row) => {
+            let whole = std.whole;
+            Change::List { whole, row }
+        }
+    }
+}
+
+/// What does so at a run that begins with `std::`, in a text that begins with that run.
+pub(crate) fn change_at(text: &[u8], run: &[u8]) -> Change
+    requires { (begins_std run.now ≡ true) × (run.now ≡ run_of text.now) }
+    ensures { IsChange run.now (drop (length run.now) text.now) result }
+{
+    match std_name(run) {
+        None => Change::Nothing,
+        Some(std) => std_change(text, run, std),
     }
 }

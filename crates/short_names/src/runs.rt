@@ -109,6 +109,7 @@ pub(crate) fn run_at(text: &[u8]) -> &[u8]
 }
 
 /// Whether a run ends with the word `operator`.
+#[tactic(auto, unfolding(crate::specs::Runs::ends_operator))]
 fn ends_operator(run: &[u8]) -> bool
     ensures { result ≡ ends_operator run.now }
 {
@@ -116,6 +117,7 @@ fn ends_operator(run: &[u8]) -> bool
 }
 
 /// How many bytes of an operator's sign, or of an arrow's, a text begins with that look like brackets of lists.
+#[tactic(auto, unfolding(crate::specs::Runs::sign_size))]
 fn sign_size(text: &[u8]) -> usize
     ensures { result ≡ sign_size text.now }
 {
@@ -222,7 +224,7 @@ fn is_std_run(text: &[u8], at: usize) -> bool
 pub(crate) fn std_run(text: &[u8], from: usize) -> Option<usize>
     requires { from ≤ length text.now }
     ensures { MatchOption result ((k : ℕ) → from ≤ k → is_std_at text.now k ≡ false)
-        (λ at. (from ≤ at) × (is_std_at text.now at ≡ true) × ((k : ℕ) → from ≤ k → k < at → is_std_at text.now k ≡ false)) }
+        (λ at. (from ≤ at) × (is_std_at text.now at ≡ true) × ((k : ℕ) → from ≤ k → k < at → is_std_at text.now k ≡ false) × (at + 5 ≤ length text.now)) }
 {
     let mut at = from;
     'places: while text.len() - at >= 5 {

@@ -1,4 +1,4 @@
-use Rattle.std.proofs.Common.{◌∙◌, sym, ap, refl, length, ◌+◌}
+use Rattle.std.proofs.Common.{◌∙◌, sym, ap, refl, length, take, drop, ◌+◌, ◌-◌}
 use Rattle.std.proofs.lemmas.List.{take_rest}
 use Rattle.short_names.specs.Runs.{run_of, begins_std}
 use Rattle.short_names.proofs.NameSteps.{change_here, operator_here, other_run}
@@ -17,4 +17,4 @@ returns c = λ written is.
     let rest = take_rest c.args.text.now c.args.self.now.at in
     other_run c.args.text.now c.args.self.now written _ is c.requires.0.2 c.requires.1
     (ap begins_std (sym (c.run_at-run.ensures ∙ ap run_of rest)) ∙ sym c.starts_with.ensures.value ∙ c.if-starts_with.false) c.requires.2
-    (ap (λ n. c.args.self.now.at + n) (operator_here _ _ _ _ _ _ rest c.run_at-run.ensures refl (take_rest _ _) c.operator_size.ensures.size))
+    (ap (λ n. c.args.self.now.at + n) (operator_here _ _ _ _ _ _ rest c.run_at-run.ensures refl (take_rest (take (length c.args.text.now - c.args.self.now.at) (drop c.args.self.now.at c.args.text.now)) (length c.run_at-run.result.now)) c.operator_size.ensures.size))
