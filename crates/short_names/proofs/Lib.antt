@@ -1,6 +1,7 @@
 pub mod BitLemmas
 pub mod BracketLemmas
 pub mod ChangeLemmas
+pub mod CloseLemmas
 pub mod ClosingLemmas
 pub mod ElementLemmas
 pub mod EndLemmas
@@ -14,6 +15,7 @@ pub mod NameLemmas
 pub mod NameSteps
 pub mod OutsideLemmas
 pub mod PatternLemmas
+pub mod PlainLemmas
 pub mod RowLemmas
 pub mod RunLemmas
 pub mod SignLemmas

@@ -20,7 +20,7 @@ use Rattle.short_names.proofs.SignLemmas.{begun, more-bytes}
 use Rattle.short_names.proofs.BracketLemmas.{and_false}
 use Rattle.short_names.proofs.NameSteps.{run-take, run-within, run-some, at_run, nothing_shorter}
 
-abbrev outside : List ℕ → Written
+abbrev pub outside : List ℕ → Written
 outside last = record { opened = []; last = last }
 
 -- the byte behind a run isn't of a name
@@ -164,6 +164,7 @@ goes_outside (suc fuel) (suc to) text last less within plain end =
       | inr whole ↦ inr (omega (arith, whole, length-drop p.size text, p.within))
     ] in
     goes short_rules text 0 p.byte p.rest (outside last) (outside (last ++ take p.size text)) p.size p.text_is (p.step last) p.some
+    ∙ ap (λ n. written_for short_rules 0 (drop n text) (outside (last ++ take p.size text))) (omega arith)
     ∙ goes_outside fuel left rest (last ++ take p.size text) (omega (arith, less, p.some)) (omega (arith, within, length-drop p.size text, p.within)) more end_is
     ∙ ap (λ t. written_for short_rules 0 t (outside (last ++ take p.size text ++ take left rest))) (drop-drop left p.size text ∙ ap (λ n. drop n text) (sym all))
     ∙ ap (λ l. written_for short_rules 0 (drop (suc to) text) (outside l))
@@ -205,7 +206,7 @@ skips_all text now written is less none plain = record {
   further = less;
 }
 
-begins-at : (text : List ℕ) (at : ℕ) → is_std_at text at ≡ true → begins_std (drop at text) ≡ true
+pub begins-at : (text : List ℕ) (at : ℕ) → is_std_at text at ≡ true → begins_std (drop at text) ≡ true
 begins-at text at h = by (begins_std (drop at text)) (at == 0 || not (is_name_byte (get_or text (at - 1) 0))) h
   where
     by : (a b : Bool) → (a && b) ≡ true → a ≡ true
@@ -221,6 +222,7 @@ found_changes text now written found is none first =
       std-letter text (now.at + found.at) (ap begins_std (sym rest_is) ∙ begins-at (drop now.at text) found.at first.begins),
       first.size ∙ ap (λ t. length (run_of t)) rest_is,
       subst (λ t. IsChange (run_of t) (behind_run t) found.change) rest_is first.change,
+      omega (arith, first.within, first.size, run-within (drop found.at (drop now.at text)), length-drop found.at (drop now.at text), length-drop now.at text),
       λ e. absurd (true≢false (sym e ∙ first.some))
     )
 

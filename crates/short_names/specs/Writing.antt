@@ -83,7 +83,7 @@ CanStep text now = (written : Written) × IsAt text now written × (now.at < len
 abbrev pub CanChange : (text : List ℕ) → Writing → (size : ℕ) → Change → Type 0
 CanChange text now size change =
     CanStep text now × (is_name_byte (get_or text now.at 0) ≡ true) × (size ≡ length (run_of (drop now.at text)))
-    × IsChange (run_of (drop now.at text)) (behind_run (drop now.at text)) change × (is_nothing change ≡ true → 0 < length now.brackets.items)
+    × IsChange (run_of (drop now.at text)) (behind_run (drop now.at text)) change × (now.at + size ≤ length text) × (is_nothing change ≡ true → 0 < length now.brackets.items)
 
 -- a usual name and a constructor or destructor that follows it are at the place
 abbrev pub IsAtMember : (text : List ℕ) → Writing → (row size : ℕ) → Type 0

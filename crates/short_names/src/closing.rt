@@ -1,7 +1,7 @@
 // What is written where a list of a name of the table is closed.
 ghost use Rattle.std.specs.Prelude.{◌≡◌, ◌≤◌, ◌++◌, ℕ, List, length, take, drop, codes, IfOk, OnOk};
 ghost use Rattle.short_names.specs.Closing.{EndsWithList, IsAnswered, IsList};
-ghost use Rattle.short_names.specs.Short.{constructor, short_list};
+ghost use Rattle.short_names.specs.Short.{constructor, if_read_back, short_list};
 
 use crate::elements::Elements;
 use crate::names::{Named, before_constructor, ends_name, is_constructor, last_part};
@@ -25,27 +25,36 @@ pub(crate) fn close(
     let elements = Elements { text, starts };
     let holes = elements.holes(named);
     let left = elements.left(named, holes);
-    if let Some(alias) = elements.alias(named, holes, left) {
-        // a member that has the usual name isn't the constructor, whose name is the template's
-        if ends_name(rest) && !is_constructor(rest, last_part(text_at(alias.name))) {
-            text.truncate(bracket - text_at(named.template.name).len());
-            text.extend_from_slice(text_at(alias.name))?;
-            return append_constructor(alias, rest, text);
-        }
+    let name = bracket - text_at(named.template.name).len();
+    if let Some(alias) = read_back(elements.alias(named, holes, left), rest) {
+        text.truncate(name);
+        text.extend_from_slice(text_at(alias.name))?;
+        return append_constructor(alias, rest, text);
     }
-    let is_polymorphic = elements.is_polymorphic(named, holes);
-    let left = if is_polymorphic {
-        elements.without_defaults(named, holes, starts.len() - 1)
-    } else {
-        left
-    };
+    if elements.is_polymorphic(named, holes) {
+        let end = elements.end(elements.without_defaults(named, holes, starts.len() - 1));
+        text.truncate(end);
+        insert_polymorphic(text, name)?;
+        text.push(b'>')?;
+        return Ok(0);
+    }
     let end = elements.end(left);
     text.truncate(end);
-    if is_polymorphic {
-        insert_polymorphic(text, bracket - text_at(named.template.name).len())?;
-    }
     text.push(b'>')?;
     Ok(0)
+}
+
+/// A usual name where the text goes on so that it is read back: a member that has that name isn't the constructor, whose name is the
+/// template's.
+fn read_back(alias: Option<Alias>, rest: &[u8]) -> Option<Alias>
+    ensures { result ≡ if_read_back rest.now alias }
+{
+    let alias = alias?;
+    if ends_name(rest) && !is_constructor(rest, last_part(text_at(alias.name))) {
+        Some(alias)
+    } else {
+        None
+    }
 }
 
 /// Appends the name of a constructor or destructor that follows a usual name, by that name; answers how long it was.

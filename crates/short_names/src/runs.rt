@@ -103,7 +103,8 @@ fn run_size(text: &[u8]) -> usize
 
 /// The longest run of bytes of names with which a text begins.
 pub(crate) fn run_at(text: &[u8]) -> &[u8]
-    ensures { result.now ≡ run_of text.now }
+    ensures run { result.now ≡ run_of text.now }
+    ensures within { length result.now ≤ length text.now }
 {
     &text[..run_size(text)]
 }

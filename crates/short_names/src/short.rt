@@ -4,7 +4,6 @@ ghost use Rattle.short_names.specs.Short.{shortened, taken};
 
 use crate::inlines::append_without;
 
-
 use crate::writing::Writing;
 use std::alloc::{AllocError, Global};
 

@@ -1,5 +1,4 @@
 use Rattle.std.proofs.Common.{◌∙◌, sym, ap, refl, length, arith}
-use Rattle.std.proofs.lemmas.Bool.{not-true, not-false}
 use Rattle.std.proofs.lemmas.List.{take_rest}
 use Rattle.short_names.specs.Runs.{run_of, begins_std}
 use Rattle.short_names.proofs.OutsideLemmas.{begins-at}
@@ -12,7 +11,7 @@ names-init c = record { within = omega arith; plain = λ k less e. absurd (omega
 
 pub change_at-change-requires : goal.change_at-change-requires
 change_at-change-requires c =
-    (ap begins_std (c.run_at-run.ensures ∙ ap run_of (take_rest c.args.text.now c.in-Some.name)) ∙ begins-run _ (begins-at c.args.text.now c.in-Some.name c.in-Some.ensures.1), c.run_at-run.ensures)
+    (ap begins_std (c.run_at-run.ensures.run ∙ ap run_of (take_rest c.args.text.now c.in-Some.name)) ∙ begins-run _ (begins-at c.args.text.now c.in-Some.name c.in-Some.ensures.1), c.run_at-run.ensures.run)
 
 pub returns-then-not-is_nothing : goal.returns-then-not-is_nothing
 returns-then-not-is_nothing c =
@@ -21,9 +20,9 @@ returns-then-not-is_nothing c =
       begins = c.in-Some.ensures.1;
       within = omega (arith, c.in-Some.ensures.3);
       plain = plain_to c.args.text.now c.names.at c.in-Some.name c.names.invariant.plain c.in-Some.ensures.2;
-      size = ap length (c.run_at-run.ensures ∙ ap run_of rest);
-      change = change_here _ _ _ _ rest c.run_at-run.ensures c.change_at-change.ensures;
-      some = sym c.is_nothing.ensures ∙ not-true _ c.if-not-is_nothing.true;
+      size = ap length (c.run_at-run.ensures.run ∙ ap run_of rest);
+      change = change_here _ _ _ _ rest c.run_at-run.ensures.run c.change_at-change.ensures;
+      some = sym c.is_nothing.ensures ∙ c.if-not-is_nothing.true;
     }
 
 pub names-preserved : goal.names-preserved
@@ -32,7 +31,7 @@ names-preserved c =
     record {
       within = omega (arith, c.in-Some.ensures.3);
       plain = plain_more c.args.text.now c.names.at c.in-Some.name c.change_at-change.result c.names.invariant.plain c.in-Some.ensures.2
-          (change_here _ _ _ _ rest c.run_at-run.ensures c.change_at-change.ensures) (sym c.is_nothing.ensures ∙ not-false _ c.if-not-is_nothing.false);
+          (change_here _ _ _ _ rest c.run_at-run.ensures.run c.change_at-change.ensures) (sym c.is_nothing.ensures ∙ c.if-not-is_nothing.false);
     }
 
 pub returns : goal.returns

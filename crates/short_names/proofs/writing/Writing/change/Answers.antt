@@ -14,7 +14,7 @@ returns-in-Nothing c = λ written is.
     let slice = take (length text - at) (drop at text) in
     let nothing = subst (λ x. IsChange (run_of (drop at text)) (behind_run (drop at text)) x) c.in-Nothing.is c.requires.3 in
     let run_is = ap (λ n. take n slice) (c.requires.2 ∙ ap (λ t. length (run_of t)) (sym rest)) ∙ run-take slice in
-    plain_run text c.args.self.now written _ is c.requires.0.2 c.requires.1 nothing.0 nothing.1 (c.requires.4 (ap is_nothing c.in-Nothing.is))
+    plain_run text c.args.self.now written _ is c.requires.0.2 c.requires.1 nothing.0 nothing.1 (c.requires.5 (ap is_nothing c.in-Nothing.is))
     (ap (λ n. at + n)
     (operator_here slice (drop at text) (take c.args.size slice) _ c.args.size c.operator_size.result rest run_is
     (c.requires.2 ∙ ap (λ t. length (run_of t)) (sym rest) ∙ ap length (sym run_is)) (take_rest slice c.args.size) c.operator_size.ensures.size))

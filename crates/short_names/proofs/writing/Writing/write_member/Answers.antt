@@ -3,6 +3,7 @@ use Rattle.std.proofs.lemmas.List.{take_rest}
 use Rattle.short_names.specs.Plain.{behind_run}
 use Rattle.short_names.specs.Runs.{run_of}
 use Rattle.short_names.specs.Short.{constructor}
+use Rattle.short_names.specs.declared.table.Alias.{Alias}
 use Rattle.short_names.specs.declared.table.TheConstants.{ALIASES}
 use Rattle.short_names.proofs.NameSteps.{member_goes, row_member, run-within}
 use Rattle.short_names.proofs.writing.Writing.write_member.Goals as goal
@@ -11,9 +12,9 @@ pub returns : goal.returns
 returns c = λ written is.
     let text = c.args.text.now in
     let at = c.args.self.now.at in
-    let nowhere = record { from = 0; to = 0 } in
-    let alias = get_or ALIASES c.args.row (record { template = nowhere; arguments = nowhere; name = nowhere }) in
-    let member = row_member (run_of (drop at text)) (behind_run (drop at text)) c.args.row c.args.size (record { template = nowhere; arguments = nowhere; name = nowhere }) c.requires.2.1 c.requires.2.2 in
+    let none : Alias = record { template = record { from = 0; to = 0 }; arguments = record { from = 0; to = 0 }; name = record { from = 0; to = 0 } } in
+    let alias = get_or ALIASES c.args.row none in
+    let member = row_member (run_of (drop at text)) (behind_run (drop at text)) c.args.row c.args.size none c.requires.2.1 c.requires.2.2 in
     let copied = c.in_ok-copy.ensures in
     let more = c.in_ok-more.ensures in
     let rest_is = take_rest text c.copy.new.self.at ∙ ap (λ n. drop n text) c.copy.ensures.at in
