@@ -29,7 +29,8 @@ pub(crate) fn close(
     if let Some(alias) = read_back(elements.alias(named, holes, left), rest) {
         text.truncate(name);
         text.extend_from_slice(text_at(alias.name))?;
-        return append_constructor(alias, rest, text);
+        let size = append_constructor(alias, rest, text)?;
+        return Ok(size);
     }
     if elements.is_polymorphic(named, holes) {
         let end = elements.end(elements.without_defaults(named, holes, starts.len() - 1));

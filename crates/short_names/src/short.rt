@@ -21,9 +21,11 @@ fn take_text(keeps_inline: bool, text: &[u8], out: &mut Vec<u8>) -> Result<(), A
 {
     out.clear();
     if keeps_inline {
-        return out.extend_from_slice(text);
+        out.extend_from_slice(text)?;
+        return Ok(());
     }
-    append_without(text, out)
+    append_without(text, out)?;
+    Ok(())
 }
 
 impl Short {
@@ -50,9 +52,10 @@ impl Short {
         let pairs = self.writing.write(&self.text)?;
         out.truncate(from);
         if pairs {
-            out.extend_from_slice(&self.writing.out)
-        } else {
-            out.extend_from_slice(&self.text)
+            out.extend_from_slice(&self.writing.out)?;
+            return Ok(());
         }
+        out.extend_from_slice(&self.text)?;
+        Ok(())
     }
 }

@@ -19,9 +19,9 @@ returns c = λ written is.
     let more = c.in_ok-more.ensures in
     let rest_is = take_rest text c.copy.new.self.at ∙ ap (λ n. drop n text) c.copy.ensures.at in
     let inside : at + c.args.size ≤ length text = omega (arith, member.within, run-within (drop at text), length-drop at text, c.requires.0.2) in
-    member_goes text c.args.self.now written alias c.args.size c.in_ok-more.field-0 _ is c.requires.0.2 c.requires.1 c.requires.2.0 member
+    member_goes text c.args.self.now written alias c.args.size c.in_ok-more.more _ is c.requires.0.2 c.requires.1 c.requires.2.0 member
     (more.size_is ∙ ap (λ r. (constructor alias r).size) rest_is)
     (omega (arith, inside, more.within, ap length rest_is, length-drop (at + c.args.size) text))
-    (ap (λ n. n + c.in_ok-more.field-0) c.copy.ensures.at) refl
+    (ap (λ n. n + c.in_ok-more.more) c.copy.ensures.at) refl
     (more.text_is ∙ ap (λ r. c.copy.new.self.out.items ++ (constructor alias r).bytes) rest_is ∙ ap (λ o. o ++ (constructor alias (drop (at + c.args.size) text)).bytes) copied.out)
     c.copy.ensures.brackets c.copy.ensures.starts
