@@ -89,7 +89,7 @@ CanChange text now size change =
 abbrev pub IsAtMember : (text : List ℕ) → Writing → (row size : ℕ) → Type 0
 IsAtMember text now row size =
     CanStep text now × (is_name_byte (get_or text now.at 0) ≡ true)
-    × IsChange (run_of (drop now.at text)) (behind_run (drop now.at text)) (changes.Member row size)
+    × IsChange (run_of (drop now.at text)) (behind_run (drop now.at text)) (changes.Member row size) × (now.at + size ≤ length text)
 
 -- whatever was written before, more was written
 abbrev pub GoesFrom : {E : Type 0} → (text : List ℕ) → (old new : Writing) → Result (Unit {0}) E → Type 0

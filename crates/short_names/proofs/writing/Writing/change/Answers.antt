@@ -1,9 +1,10 @@
-use Rattle.std.proofs.Common.{◌∙◌, ◌+◌, ◌-◌, sym, ap, refl, length, subst, take, drop}
+use Rattle.std.proofs.Common.{◌∙◌, ◌+◌, ◌-◌, sym, ap, refl, length, subst, take, drop, arith, length-drop}
 use Rattle.std.proofs.lemmas.List.{take_rest}
 use Rattle.short_names.specs.Changes.{IsChange, is_nothing}
 use Rattle.short_names.specs.Plain.{behind_run}
 use Rattle.short_names.specs.Runs.{run_of}
-use Rattle.short_names.proofs.NameSteps.{operator_here, plain_run, list_opens, row_named, run-take}
+use Rattle.short_names.specs.declared.table.Alias.{Alias}
+use Rattle.short_names.proofs.NameSteps.{operator_here, plain_run, list_opens, row_member, row_named, run-take, run-within}
 use Rattle.short_names.proofs.writing.Writing.change.Goals as goal
 
 pub returns-in-Nothing : goal.returns-in-Nothing
@@ -33,4 +34,7 @@ pub write_member-requires : goal.write_member-requires
 write_member-requires c =
     let text = c.args.text.now in
     let at = c.args.self.now.at in
-    (c.requires.0, c.requires.1, subst (λ x. IsChange (run_of (drop at text)) (behind_run (drop at text)) x) c.in-Member.is c.requires.3)
+    let none : Alias = record { template = record { from = 0; to = 0 }; arguments = record { from = 0; to = 0 }; name = record { from = 0; to = 0 } } in
+    let here = subst (λ x. IsChange (run_of (drop at text)) (behind_run (drop at text)) x) c.in-Member.is c.requires.3 in
+    let member = row_member (run_of (drop at text)) (behind_run (drop at text)) c.in-Member.row c.in-Member.size none here.1 here.2 in
+    (c.requires.0, c.requires.1, here, omega (arith, member.within, run-within (drop at text), length-drop at text, c.requires.0.2))
