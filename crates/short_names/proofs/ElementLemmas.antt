@@ -151,3 +151,6 @@ module _ (text starts : List ℕ) (elements : List (List ℕ)) (e : AreElements 
       ap (λ n. take n (drop (get_or starts 0 0) text)) long
       ∙ ap (take (length (joined (take count elements)))) (ap (λ t. drop (get_or starts 0 0) t) e.text_is ∙ drop_at e.before (joined elements) (get_or starts 0 0) (sym start-zero))
       ∙ front-of-joined count elements
+
+  pub first-bounds : (count : ℕ) → (get_or starts 0 0 ≤ length e.before + length (joined (take count elements))) × (length e.before + length (joined (take count elements)) ≤ length text)
+  first-bounds count = (omega (arith, start-zero), omega (arith, text-length, first-end count))

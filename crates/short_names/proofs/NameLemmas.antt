@@ -1,5 +1,5 @@
 -- Names of std, and the usual names that they begin with.
-use Rattle.std.proofs.Common.{◌≡◌, ◌<◌, ◌≤◌, ◌+◌, ◌-◌, ◌==◌, zero, suc, ℕ, Bool, true, false, true≢false, not, ◌&&◌, ◌||◌, List, [], ◌∷◌, ◌++◌, length, take, drop, get_or, nat_eq, nat_lt, refl, sym, ap, ◌∙◌, arith, add-zero, Option, None, Some, codes, inl, inr, eqb-true, eq-eqb, get_or-drop, drop-drop, length-drop, ltb-true, subst, slice_get, if◌then◌else◌}
+use Rattle.std.proofs.Common.{◌≡◌, ◌<◌, ◌≤◌, ◌+◌, ◌-◌, ◌==◌, zero, suc, ℕ, Bool, true, false, true≢false, not, ◌&&◌, ◌||◌, List, [], ◌∷◌, ◌++◌, length, take, drop, get_or, nat_eq, nat_lt, refl, sym, ap, ◌∙◌, arith, add-zero, Option, None, Some, codes, inl, inr, eqb-true, eq-eqb, get_or-drop, drop-drop, length-drop, length-append, ltb-true, subst, slice_get, if◌then◌else◌}
 use Rattle.std.specs.List.{starts_with, list_all, list_any}
 use Rattle.std.proofs.lemmas.Bool.{and_parts, not-true}
 use Rattle.std.proofs.lemmas.List.{at_drop_more, drop_all, get_or_append_left}
@@ -155,7 +155,7 @@ unfolding is_constructor
 no-member name text t class run none begins =
     let other : starts_with nat_eq (drop (length t) text) (codes "::") ≡ false = false-from (starts_with nat_eq (drop (length t) text) (codes "::")) (λ is.
         let byte : get_or text (length t) 0 ≡ 58 =
-            ap (λ k. get_or text k 0) (sym (add-zero (length t))) ∙ sym (get_or-drop (length t) text 0 0) ∙ front-byte (drop (length t) text) (codes "::") 0 (omega arith) is in
+            ap (λ k. get_or text k 0) (sym (add-zero (length t))) ∙ sym (get_or-drop (length t) text 0 0) ∙ front-byte (drop (length t) text) (codes "::") 0 is (omega arith) in
         elim (lt-or-le (length t) (length name)) [
           | inl within ↦
             let here : get_or name (length t) 0 ≡ 58 =
@@ -208,3 +208,31 @@ member-is (row ∷ rows) name text alias found =
 module _ (name text : List ℕ) (row : ℕ) (d : Alias) (within : row < length ALIASES) where
   pub member-here : is_member ALIASES name text row d within ≡ true → member_in (drop row ALIASES) name text ≡ slice_get ALIASES row
   member-here is = member-found ALIASES name text row d within is ∙ sym (slice_get-get_or ALIASES row d within)
+
+pub member-end : (rows : List Alias) (name text : List ℕ) (k : ℕ) → length rows ≤ k → member_in (drop k rows) name text ≡ None
+unfolding member_in
+member-end rows name text k past = ap (λ rs. member_in rs name text) (drop_all k rows past)
+
+pub both-hold : (a b : Bool) → a ≡ true → b ≡ (a && b)
+both-hold true b is = refl
+both-hold false b is = absurd (true≢false (sym is))
+
+-- ## What `_` says
+
+pub no-low : (t : List ℕ) → starts_with nat_eq t (codes "_") ≡ false → get_or t 0 0 ≡ 95 → ⊥
+no-low [] h is = absurd (omega (arith, is))
+no-low (b ∷ t) h is = true≢false (sym (ap (λ x. x && true) (eq-eqb 95 b (sym is))) ∙ h)
+
+pub std-none : (run : List ℕ) → None ≡ row_in WHOLES run → std_name run ≡ None
+unfolding std_name
+std-none run none = ap (behind_whole run) (sym none)
+
+pub std-found : (run : List ℕ) (whole : Place) → Some whole ≡ row_in WHOLES run → std_name run ≡ Some (record { whole = whole; name = behind_part (drop (length (text_of whole)) run) })
+unfolding std_name
+std-found run whole found = ap (behind_whole run) (sym found)
+
+pub std-room : (run : List ℕ) → begins_std run ≡ true → 5 ≤ length run
+std-room run is = front-length run (codes "std::") is
+
+pub run-room : (text : List ℕ) → length (run_of text) ≤ length text
+run-room text = omega (arith, ap length (run-prefix text), length-append (run_of text) (drop (length (run_of text)) text))

@@ -1,5 +1,4 @@
 // Texts without the inline namespaces of `std`.
-#![tactic(none)]
 ghost use Rattle.std.specs.Prelude.{◌≡◌, ◌≤◌, ◌+◌, ◌++◌, ◌==◌, length, drop, true, false, None, not, OnOk, get_or};
 ghost use Rattle.std.specs.List.{list_all};
 ghost use Rattle.short_names.specs.Names.{row_in};

@@ -1,5 +1,4 @@
 // Names of the table.
-#![tactic(none)]
 ghost use Rattle.std.specs.Prelude.{◌≡◌, ◌≤◌, ◌<◌, ◌-◌, ◌++◌, ℕ, List, [], length, drop, take, nat_eq, true, false, slice_get, Some, None, is_some, codes, ◌&&◌, MatchOption, if◌then◌else◌};
 ghost use Rattle.std.specs.List.{starts_with};
 ghost use Rattle.std.specs.Cmp.Lexicographic.{pointwise};
@@ -121,17 +120,10 @@ fn row_of(name: &[u8]) -> Option<usize>
 fn behind_part(name: &[u8]) -> &[u8]
     ensures { result.now ≡ behind_part name.now }
 {
-    if let Some(b'_') = name.first() {
-        return name.get(row_size(&PARTS, name)..).unwrap_or_default();
+    if name.starts_with(b"_") {
+        return &name[row_size(&PARTS, name)..];
     }
     name
-}
-
-/// What is left of a run after its `std::` and inline namespaces.
-fn behind_std(run: &[u8], whole: Place) -> &[u8]
-    ensures { result.now ≡ behind_part (drop (length (text_of whole)) run.now) }
-{
-    behind_part(run.get(text_at(whole).len()..).unwrap_or_default())
 }
 
 /// A name of `std`: its `std::`, with the inline namespace that holds all of `std` if there is one, and what comes after it, without the
@@ -147,11 +139,14 @@ struct StdName<'a> {
 fn inline_name(run: &[u8]) -> Option<StdName<'_>>
     ensures { MatchOption result (std_name run.now ≡ None) (λ it. std_name run.now ≡ Some (record { whole = it.whole; name = it.name.now })) }
 {
-    let whole = row_in(&WHOLES, run)?;
-    Some(StdName {
-        whole,
-        name: behind_std(run, whole),
-    })
+    match row_in(&WHOLES, run) {
+        None => None,
+        Some(whole) => {
+            let size = text_at(whole).len();
+            let name = behind_part(&run[size..]);
+            Some(StdName { whole, name })
+        }
+    }
 }
 
 /// The one that a run is that begins with `std::`.
@@ -160,13 +155,11 @@ fn std_name(run: &[u8]) -> Option<StdName<'_>>
     requires { begins_std run.now ≡ true }
     ensures { MatchOption result (std_name run.now ≡ None) (λ it. std_name run.now ≡ Some (record { whole = it.whole; name = it.name.now })) }
 {
-    if let Some(b'_') = run.get(5) {
+    let name = &run[5..];
+    if name.starts_with(b"_") {
         return inline_name(run);
     }
-    Some(StdName {
-        whole: STD,
-        name: &run[5..],
-    })
+    Some(StdName { whole: STD, name })
 }
 
 /// The last part of a name.
@@ -271,9 +264,10 @@ fn list_row(name: &[u8], rest: &[u8]) -> Option<usize>
     ensures { MatchOption result ((starts_with nat_eq rest.now (codes "<") && is_some (template_in TEMPLATES name.now)) ≡ false)
         (λ row. (starts_with nat_eq rest.now (codes "<") ≡ true) × (row < length TEMPLATES) × (template_in TEMPLATES name.now ≡ slice_get TEMPLATES row)) }
 {
-    match rest {
-        [b'<', ..] => row_of(name),
-        _ => None,
+    if rest.starts_with(b"<") {
+        row_of(name)
+    } else {
+        None
     }
 }
 
