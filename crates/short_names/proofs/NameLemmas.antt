@@ -1,14 +1,14 @@
 -- Names of std, and the usual names that they begin with.
 use Rattle.std.proofs.Common.{◌≡◌, ◌<◌, ◌≤◌, ◌+◌, ◌-◌, ◌==◌, zero, suc, ℕ, Bool, true, false, true≢false, not, ◌&&◌, ◌||◌, List, [], ◌∷◌, ◌++◌, length, take, drop, get_or, nat_eq, nat_lt, refl, sym, ap, ◌∙◌, arith, add-zero, Option, None, Some, codes, inl, inr, eqb-true, eq-eqb, get_or-drop, drop-drop, length-drop, length-append, ltb-true, subst, slice_get, if◌then◌else◌}
 use Rattle.std.specs.List.{starts_with, list_all, list_any}
-use Rattle.std.proofs.lemmas.Bool.{and_parts, not-true}
-use Rattle.std.proofs.lemmas.List.{at_drop_more, drop_all, get_or_append_left}
+use Rattle.std.proofs.lemmas.Bool.{and_parts, and_left, and_right, and_from}
+use Rattle.std.proofs.lemmas.List.{at_drop_more, drop_all, drop_more, get_or_past, get_or_append_left}
 use Rattle.std.proofs.lemmas.Option.{slice_get-get_or}
 use Rattle.short_names.specs.declared.table.Place.{Place}
 use Rattle.short_names.specs.declared.table.Alias.{Alias}
 use Rattle.short_names.specs.declared.table.TheConstants.{ALIASES, WHOLES, PARTS, STD, USUAL_FIRSTS}
-use Rattle.short_names.specs.Names.{StdName, std_name, behind_whole, behind_part, row_in, size_of, member_in, is_constructor, last_part}
-use Rattle.short_names.specs.Runs.{is_name_byte, begins_std, run_of}
+use Rattle.short_names.specs.Names.{StdName, std_name, behind_whole, behind_part, row_in, size_of, member_in, front_size, is_constructor, last_part, end_by, ends_name}
+use Rattle.short_names.specs.Runs.{is_letter, is_name_byte, begins_std, run_of}
 use Rattle.short_names.specs.Texts.{text_of}
 use Rattle.short_names.proofs.FrontLemmas.{false-from, front-length, front-byte, differs}
 use Rattle.short_names.proofs.RowLemmas.{none-in, row_in-append, row_in-here}
@@ -236,3 +236,72 @@ std-room run is = front-length run (codes "std::") is
 
 pub run-room : (text : List ℕ) → length (run_of text) ≤ length text
 run-room text = omega (arith, ap length (run-prefix text), length-append (run_of text) (drop (length (run_of text)) text))
+
+-- ## Constructors and destructors
+
+zero-is : is_letter 0 ≡ false
+unfolding is_letter
+zero-is = refl
+
+pub no-letter : (text : List ℕ) (at : ℕ) → length text ≤ at → false ≡ is_letter (get_or text at 0)
+no-letter text at past = sym (ap is_letter (get_or_past text at 0 past) ∙ zero-is)
+
+module _ (text class : List ℕ) where
+  pub no-colons : starts_with nat_eq text (codes "::") ≡ false → is_constructor text class ≡ false
+  unfolding is_constructor
+  no-colons h = rw h refl
+
+  pub no-class : starts_with nat_eq text (codes "::") ≡ true → starts_with nat_eq (drop (front_size text) text) class ≡ false → is_constructor text class ≡ false
+  unfolding is_constructor
+  no-class h k = rw (h, k) refl
+
+  pub with-class : starts_with nat_eq text (codes "::") ≡ true → starts_with nat_eq (drop (front_size text) text) class ≡ true
+      → is_constructor text class ≡ not (is_letter (get_or text (front_size text + length class) 0))
+  unfolding is_constructor
+  with-class h k = rw (h, k) refl
+
+  pub colons-from : is_constructor text class ≡ true → starts_with nat_eq text (codes "::") ≡ true
+  colons-from is = by (starts_with nat_eq text (codes "::")) refl
+    where
+      by : (b : Bool) → starts_with nat_eq text (codes "::") ≡ b → starts_with nat_eq text (codes "::") ≡ true
+      by true h = h
+      by false h = absurd (true≢false (sym is ∙ no-colons h))
+
+-- ## The last part of a name
+
+all-fails : (test : ℕ → Bool) (name : List ℕ) (k : ℕ) → k < length name → test (get_or name k 0) ≡ false → list_all test name ≡ false
+all-fails test [] k within fails = absurd (omega (arith, within))
+all-fails test (byte ∷ name) zero within fails = and_left (test byte) (list_all test name) fails
+all-fails test (byte ∷ name) (suc k) within fails = and_right (test byte) (list_all test name) (all-fails test name k (omega (arith, within)) fails)
+
+pub end-whole : (test : ℕ → Bool) (name : List ℕ) → list_all test name ≡ true → end_by test name ≡ name
+unfolding end_by
+end-whole test [] all = refl
+end-whole test (byte ∷ name) all = rw all refl
+
+pub end-behind : (test : ℕ → Bool) (name : List ℕ) (k : ℕ) → k < length name → test (get_or name k 0) ≡ false → list_all test (drop (suc k) name) ≡ true → end_by test name ≡ drop (suc k) name
+unfolding end_by
+end-behind test [] k within fails all = absurd (omega (arith, within))
+end-behind test (byte ∷ name) zero within fails all = rw (and_left (test byte) (list_all test name) fails) (end-whole test name all)
+end-behind test (byte ∷ name) (suc k) within fails all =
+    rw (and_right (test byte) (list_all test name) (all-fails test name k (omega (arith, within)) fails)) (end-behind test name k (omega (arith, within)) fails all)
+
+pub one-more-passes : (test : ℕ → Bool) (name : List ℕ) (k : ℕ) → k < length name → test (get_or name k 0) ≡ true → list_all test (drop (k + 1) name) ≡ true → list_all test (drop k name) ≡ true
+one-more-passes test name k within passes all = ap (list_all test) (drop_more name k 0 within) ∙ and_from (test (get_or name k 0)) (list_all test (drop (k + 1) name)) passes all
+
+-- ## Where a name ends
+
+pub ends-colons : (rest : List ℕ) → starts_with nat_eq rest (codes "::") ≡ true → true ≡ ends_name rest
+unfolding ends_name
+ends-colons [] h = refl
+ends-colons (byte ∷ rest) h = sym (rw h refl)
+
+pub ends-empty : (rest : List ℕ) → length rest < 1 → true ≡ ends_name rest
+unfolding ends_name
+ends-empty [] h = refl
+ends-empty (byte ∷ rest) h = absurd (omega (arith, h))
+
+pub ends-byte : (rest : List ℕ) → 0 < length rest → starts_with nat_eq rest (codes "::") ≡ false → ends_name rest ≡ not (is_name_byte (get_or rest 0 0) || get_or rest 0 0 == 60)
+unfolding ends_name
+ends-byte [] within h = absurd (omega (arith, within))
+ends-byte (byte ∷ rest) within h = rw h refl

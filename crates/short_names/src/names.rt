@@ -1,10 +1,10 @@
 // Names of the table.
-ghost use Rattle.std.specs.Prelude.{◌≡◌, ◌≤◌, ◌<◌, ◌-◌, ◌++◌, ℕ, List, [], length, drop, take, nat_eq, true, false, slice_get, Some, None, is_some, codes, ◌&&◌, MatchOption, if◌then◌else◌};
+ghost use Rattle.std.specs.Prelude.{◌≡◌, ◌≤◌, ◌<◌, ◌-◌, ◌++◌, ℕ, List, [], length, drop, take, get_or, nat_eq, true, false, slice_get, Some, None, is_some, codes, ◌&&◌, MatchOption, if◌then◌else◌};
 ghost use Rattle.std.specs.List.{starts_with};
 ghost use Rattle.std.specs.Cmp.Lexicographic.{pointwise};
 ghost use Rattle.short_names.specs.Changes.{IsChange, has_list};
 ghost use Rattle.short_names.specs.Names.{row_in, size_of, mark_of, template_in, behind_part, with_template, std_name, last_part, front_size, is_constructor, ends_name, member_in};
-ghost use Rattle.short_names.specs.Runs.{begins_std, run_of};
+ghost use Rattle.short_names.specs.Runs.{is_letter, begins_std, run_of};
 ghost use Rattle.short_names.specs.Texts.{text_of};
 ghost use Rattle.short_names.specs.declared.table.Place.{Place as PlaceRow};
 ghost use Rattle.short_names.specs.declared.table.Template.{Template as TemplateRow};
@@ -166,41 +166,69 @@ fn std_name(run: &[u8]) -> Option<StdName<'_>>
 pub(crate) fn last_part(name: &[u8]) -> &[u8]
     ensures { result.now ≡ last_part name.now }
 {
-    match name.iter().rposition(|byte| *byte == b':') {
-        Some(colon) => &name[colon + 1..],
-        None => name,
+    let mut start = name.len();
+    'bytes: while start > 0 {
+        let byte = name[start - 1];
+        if byte == b':' {
+            return &name[start..];
+        }
+        start -= 1;
     }
+    name
 }
 
-/// What comes before a constructor's or destructor's name in a text that begins with one of a class, `::` or `::~`; else nothing.
-pub(crate) fn before_constructor<'a>(text: &'a [u8], class: &[u8]) -> &'a [u8]
-    ensures { result.now ≡ if is_constructor text.now class.now then take (front_size text.now) text.now else [] }
+/// How long what comes before a member's name is, `::` or `::~`, in a text that begins with one of these.
+#[inline(always)]
+fn front_size(text: &[u8]) -> usize
+    ensures within { starts_with nat_eq text.now (codes "::") ≡ true → result ≤ length text.now }
+    ensures size { result ≡ front_size text.now }
 {
-    let size = if text.starts_with(b"::~") { 3 } else { 2 };
-    if !text.starts_with(b"::") {
-        return &[];
-    }
-    match text[size..].strip_prefix(class) {
-        None => &[],
-        Some([next, ..]) if is_letter(*next) => &[],
-        Some(_) => &text[..size],
-    }
+    if text.starts_with(b"::~") { 3 } else { 2 }
+}
+
+/// Whether a byte of a name without `::` is at a place of a text.
+#[inline(always)]
+fn has_letter(text: &[u8], at: usize) -> bool
+    ensures { result ≡ is_letter (get_or text.now at 0) }
+{
+    at < text.len() && is_letter(text[at])
 }
 
 /// Whether a text begins with a constructor's or destructor's name of a class.
 pub(crate) fn is_constructor(text: &[u8], class: &[u8]) -> bool
     ensures { result ≡ is_constructor text.now class.now }
 {
-    !before_constructor(text, class).is_empty()
+    if !text.starts_with(b"::") {
+        return false;
+    }
+    let size = front_size(text);
+    let member = &text[size..];
+    if !begins_with(member, class) {
+        return false;
+    }
+    !has_letter(text, size + class.len())
+}
+
+/// What comes before a constructor's or destructor's name in a text that begins with one of a class, `::` or `::~`; else nothing.
+pub(crate) fn before_constructor<'a>(text: &'a [u8], class: &[u8]) -> &'a [u8]
+    ensures { result.now ≡ if is_constructor text.now class.now then take (front_size text.now) text.now else [] }
+{
+    if is_constructor(text, class) {
+        let size = front_size(text);
+        return &text[..size];
+    }
+    &[]
 }
 
 /// Whether a name ends where a text goes on: with no byte of a longer name, and with no list.
 pub(crate) fn ends_name(rest: &[u8]) -> bool
     ensures { result ≡ ends_name rest.now }
 {
+    if rest.starts_with(b"::") {
+        return true;
+    }
     match rest {
         [] => true,
-        [b':', b':', ..] => true,
         [byte, ..] => !is_name_byte(*byte) && *byte != b'<',
     }
 }

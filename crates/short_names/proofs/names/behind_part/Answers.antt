@@ -6,5 +6,5 @@ use Rattle.short_names.proofs.names.behind_part.Goals as goal
 pub returns-then-starts_with : goal.returns-then-starts_with
 returns-then-starts_with c = rest-all c.args.name.now c.row_size.result ∙ ap (λ n. drop n c.args.name.now) c.row_size.ensures.size
 
-pub returns-else-starts_with : goal.returns-else-starts_with
-returns-else-starts_with c = sym (same-part c.args.name.now (no-low c.args.name.now (sym c.starts_with.ensures.value ∙ c.if-starts_with.false)))
+pub returns : goal.returns
+returns c = sym (same-part c.args.name.now (no-low c.args.name.now (sym c.starts_with.ensures.value ∙ c.if-starts_with.false)))

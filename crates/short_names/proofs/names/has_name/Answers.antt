@@ -1,4 +1,4 @@
-use Rattle.std.proofs.Common.{nat_eq, sym, ap, ◌∙◌}
+use Rattle.std.proofs.Common.{nat_eq, sym, ap, ◌∙◌, ne_eqb}
 use Rattle.std.specs.Cmp.Lexicographic.{pointwise}
 use Rattle.std.proofs.lemmas.Option.{get_or_from_slice_get}
 use Rattle.short_names.specs.declared.table.Place.{Place}
@@ -21,4 +21,4 @@ returns-then-row-mark c =
     ∙ ap (λ t. pointwise nat_eq t c.args.name.now) (c.text_at.ensures ∙ ap (λ (t : Template). text_of t.name) (get_or_from_slice_get TEMPLATES c.args.row template none got))
 
 pub returns-else-row-mark : goal.returns-else-row-mark
-returns-else-row-mark c = λ template got. other-here c.args.name.now c.args.row template c.requires.within got (λ same. c.if-row-mark.false (same ∙ sym c.requires.mark))
+returns-else-row-mark c = λ template got. ne_eqb _ _ c.if-row-mark.false ∙ other-here c.args.name.now c.args.row template c.requires.within got (λ same. c.if-row-mark.false (same ∙ sym c.requires.mark))

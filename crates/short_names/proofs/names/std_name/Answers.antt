@@ -10,8 +10,8 @@ slice_bounds-name-count c = std-room c.args.run.now c.requires
 pub slice_bounds-name-start : goal.slice_bounds-name-start
 slice_bounds-name-start c = std-room c.args.run.now c.requires
 
-pub returns-else-starts_with : goal.returns-else-starts_with
-returns-else-starts_with c =
+pub returns : goal.returns
+returns c =
     let run = c.args.run.now in
     let rest = rest-all run 5 in
     let other : get_or run 5 0 ≡ 95 → ⊥ = λ low. no-low _ (sym c.starts_with.ensures.value ∙ c.if-starts_with.false) (ap (λ t. get_or t 0 0) rest ∙ first-dropped run 5 ∙ low) in
