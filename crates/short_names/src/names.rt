@@ -181,6 +181,7 @@ pub(crate) fn last_part(name: &[u8]) -> &[u8]
 #[inline(always)]
 fn front_size(text: &[u8]) -> usize
     ensures within { starts_with nat_eq text.now (codes "::") ≡ true → result ≤ length text.now }
+    ensures few { result ≤ 3 }
     ensures size { result ≡ front_size text.now }
 {
     if text.starts_with(b"::~") { 3 } else { 2 }

@@ -8,7 +8,7 @@ use Rattle.short_names.proofs.inlines.append_without.Goals as goal
 pub runs-preserved-then-are_some : goal.runs-preserved-then-are_some
 runs-preserved-then-are_some c =
     let text = c.args.text.now in
-    let run = c.in-Some.run in
+    let run = c.in-Some.place in
     let found = c.in-Some.ensures in
     let it = c.of-inlines.result in
     let rest = rest-all text (run + 5) in
@@ -27,7 +27,7 @@ runs-preserved-then-are_some c =
 pub runs-preserved : goal.runs-preserved
 runs-preserved c =
     let text = c.args.text.now in
-    let run = c.in-Some.run in
+    let run = c.in-Some.place in
     let found = c.in-Some.ensures in
     let it = c.of-inlines.result in
     let rest = rest-all text (run + 5) in
@@ -48,4 +48,4 @@ returns c =
     let rest = rest-all text copied in
     let all : c.runs.out.items ++ drop copied text ≡ c.args.out.now.items ++ without_inlines false 0 text =
         all-copied text copied c.runs.at c.runs.invariant.copied c.runs.invariant.within (λ k h. c.in_default.ensures k h) c.runs.out.items _ c.runs.invariant.so_far in
-    cc (all, rest)
+    c.in_ok-extend_from_slice-3.ensures.items ∙ ap (λ t. c.runs.out.items ++ t) rest ∙ all

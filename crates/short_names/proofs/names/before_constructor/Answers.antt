@@ -13,3 +13,7 @@ pub returns : goal.returns
 returns c =
     let text = c.args.text.now in
     sym (ap (λ b. if b then take (front_size text) text else []) (sym c.is_constructor.ensures ∙ c.if-is_constructor.false))
+
+pub slice_bounds-result-end : goal.slice_bounds-result-end
+slice_bounds-result-end c =
+    c.front_size-size.ensures.within (colons-from c.args.text.now c.args.class.now (sym c.is_constructor.ensures ∙ c.if-is_constructor.true))

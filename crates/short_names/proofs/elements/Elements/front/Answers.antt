@@ -11,8 +11,8 @@ slice_bounds-result-count c = omega (arith, (first-bounds _ _ c.requires.0 c.req
 pub slice_bounds-result-start : goal.slice_bounds-result-start
 slice_bounds-result-start c = omega (arith, (first-bounds _ _ c.requires.0 c.requires.1 c.args.count).0, c.end.ensures c.requires.0 c.requires.1)
 
-pub slice_bounds-result-end-2 : goal.slice_bounds-result-end-2
-slice_bounds-result-end-2 c = omega (arith, (first-bounds _ _ c.requires.0 c.requires.1 c.args.count).1, c.end.ensures c.requires.0 c.requires.1)
+pub slice_bounds-result-end : goal.slice_bounds-result-end-2
+slice_bounds-result-end c = omega (arith, (first-bounds _ _ c.requires.0 c.requires.1 c.args.count).1, c.end.ensures c.requires.0 c.requires.1)
 
 pub returns : goal.returns
 returns c = λ elements e. first-are _ _ elements e c.args.count c.end.result (c.end.ensures elements e)
