@@ -36,3 +36,8 @@ short_text asked (Err refusal) = Err refusal
 abbrev pub short_answer : (shortens : Bool) → Texts → Result (List ℕ) Refusal → Result (List ℕ) Refusal
 short_answer true asked answer = short_text asked answer
 short_answer false asked answer = answer
+
+-- the bytes of a text that is made short or not
+abbrev pub shortened_if : (shortens : Bool) → Texts → List ℕ → List ℕ
+shortened_if true asked text = shortened (keeps_inline asked) text
+shortened_if false asked text = text

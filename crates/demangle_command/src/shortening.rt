@@ -1,6 +1,6 @@
 // The demangler whose texts of C++ may be short.
-ghost use Rattle.std.specs.Prelude.{◌≤◌, length};
-ghost use Rattle.demangle_command.specs.Shortening.{short_answer, shortens};
+ghost use Rattle.std.specs.Prelude.{◌≡◌, ◌≤◌, ◌++◌, length, take, drop, OnOk};
+ghost use Rattle.demangle_command.specs.Shortening.{keeps_inline, short_answer, shortened_if, shortens};
 ghost use Rattle.demangle_command.specs.Styled.{styled_answer};
 ghost use Rattle.sym_languages.specs.Languages.{AreWideCountsOf};
 
@@ -70,6 +70,8 @@ impl Shortening {
         out: &mut Vec<u8>,
     ) -> Result<(), AllocError>
         requires { from ≤ length out.old.items }
+        ensures short { OnOk result (out.new.items ≡ take from out.old.items ++ shortened_if (shortens self.now.texts self.now.styled.style kind.lang symbol.now) self.now.texts (drop from out.old.items)) }
+        ensures front { take from out.new.items ≡ take from out.old.items }
     {
         // most texts have no name of `std`, and whether a symbol is read as a path costs more
         if !has_std(&out[from..]) || !self.shortens(kind.lang, symbol) {

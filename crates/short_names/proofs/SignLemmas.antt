@@ -6,11 +6,10 @@ use Rattle.std.specs.List.{starts_with}
 use Rattle.short_names.specs.declared.writing.Bracket.{Bracket}
 use Rattle.short_names.specs.declared.writing.Listed.{Listed}
 use Rattle.short_names.specs.declared.writing.Writing.{Writing}
-use Rattle.short_names.specs.Runs.{is_name_byte, is_letter, run_of}
 use Rattle.short_names.specs.Short.{short_rules}
 use Rattle.short_names.specs.Starts.{starts_of}
-use Rattle.short_names.specs.Walk.{Opened, Written, Stepped, stepped, written_for, at_sign, keeps, opens, is_list}
-use Rattle.short_names.specs.Writing.{IsAt, Goes, IsListed, before_last, all_of, ended}
+use Rattle.short_names.specs.Walk.{Opened, Written, Stepped, stepped, written_for, keeps, opens, is_list}
+use Rattle.short_names.specs.Writing.{IsAt, Goes, Steps, IsListed, IsInnermost, IsOpen, IsClosed, AreOpen, before_last, all_of, ended}
 use Rattle.short_names.proofs.WalkLemmas.{goes, pending-more, length-pending}
 
 -- the bytes that were written, some further
@@ -46,13 +45,13 @@ kept text now written byte rest bytes to is here step take_is some within to_is 
 -- a bracket that is opened, behind its name
 pub opened : (text : List ℕ) (now : Writing) (written : Written) (byte : ℕ) (rest : List ℕ) (mark : ℕ) (name : List ℕ) (listed : Option Listed) (after : Writing)
     → IsAt text now written → drop now.at text ≡ byte ∷ rest → stepped short_rules byte rest written ≡ opens mark name written
-    → take (length name + 1) (drop now.at text) ≡ name ++ mark ∷ [] → now.at + (length name + 1) ≤ length text → IsListed name listed
+    → take (length name + 1) (drop now.at text) ≡ name ++ mark ∷ [] → now.at + (length name + 1) ≤ length text → IsListed name listed → ((mark == 60) ≡ false → name ≡ [])
     → after.at ≡ now.at + (length name + 1) → after.copied ≡ now.copied → after.out.items ≡ now.out.items
     → after.brackets.items ≡ now.brackets.items ++ record { is_list = mark == 60; named = listed; place = length now.out.items + (now.at + length name - now.copied); first = length now.starts.items } ∷ []
     → after.starts.items ≡ now.starts.items ++ (length now.out.items + (now.at + length name - now.copied) + 1) ∷ []
     → Goes text now.at after
 unfolding before_last starts_of ended
-opened text now written byte rest mark name listed after is here step take_is within is_listed at_is copied_is out_is brackets_are starts_are =
+opened text now written byte rest mark name listed after is here step take_is within is_listed no_name at_is copied_is out_is brackets_are starts_are =
     let top : Opened = record { bracket = mark; name = name; before = written.last; elements = [] } in
     let next : Written = record { opened = top ∷ written.opened; last = [] } in
     let place : ℕ = length now.out.items + (now.at + length name - now.copied) in
@@ -84,6 +83,7 @@ opened text now written byte rest mark name listed after is here step take_is wi
             place_is = omega (arith, is.copied, is.within, ap length all, length-append now.out.items (take (now.at - now.copied) (drop now.copied text)), length-pending text now.copied now.at is.copied is.within, length-append (all_of written) name);
             first_is = refl;
             starts_are = refl;
+            no_list = λ e. (no_name e, refl);
           };
           outer = is.opened;
         };
@@ -93,26 +93,21 @@ opened text now written byte rest mark name listed after is here step take_is wi
 
 -- ## Signs
 
-begun : (text needle : List ℕ) → starts_with nat_eq text needle ≡ true → take (length needle) text ≡ needle
+pub begun : (text needle : List ℕ) → starts_with nat_eq text needle ≡ true → take (length needle) text ≡ needle
 begun text needle h = sym ((bytes_decides needle (take (length needle) text)).0 h)
 
-pub arrow : (text : List ℕ) (now : Writing) (written : Written) (to : ℕ) → IsAt text now written → now.at < length text → get_or text now.at 0 ≡ 45
-    → starts_with nat_eq (drop now.at text) (codes "->") ≡ true → to ≡ now.at + 2 → Goes text now.at (record now { at = to })
-unfolding stepped at_sign is_name_byte is_letter
-arrow text now written to is less byte begins to_is =
-    let here : drop now.at text ≡ 45 ∷ drop (now.at + 1) text = drop_more text now.at 0 less ∙ ap (λ b. b ∷ drop (now.at + 1) text) byte in
-    let arrowed : starts_with nat_eq (45 ∷ drop (now.at + 1) text) (codes "->") ≡ true = ap (λ t. starts_with nat_eq t (codes "->")) (sym here) ∙ begins in
-    kept text now written 45 (drop (now.at + 1) text) (codes "->") to is here
-    (ap (λ b. if b then keeps (codes "->") written else keeps (45 ∷ []) written) arrowed)
-    (begun (drop now.at text) (codes "->") begins) (omega arith)
-    (omega (arith, less, ap length (begun (drop now.at text) (codes "->") begins), length-take 2 (drop now.at text), length-drop now.at text)) to_is
+-- ## Within brackets
 
-pub minus : (text : List ℕ) (now : Writing) (written : Written) (to : ℕ) → IsAt text now written → now.at < length text → get_or text now.at 0 ≡ 45
-    → starts_with nat_eq (drop now.at text) (codes "->") ≡ false → to ≡ now.at + 1 → Goes text now.at (record now { at = to })
-unfolding stepped at_sign is_name_byte is_letter
-minus text now written to is less byte begins to_is =
-    let here : drop now.at text ≡ 45 ∷ drop (now.at + 1) text = drop_more text now.at 0 less ∙ ap (λ b. b ∷ drop (now.at + 1) text) byte in
-    let plain : starts_with nat_eq (45 ∷ drop (now.at + 1) text) (codes "->") ≡ false = ap (λ t. starts_with nat_eq t (codes "->")) (sym here) ∙ begins in
-    kept text now written 45 (drop (now.at + 1) text) (45 ∷ []) to is here
-    (ap (λ b. if b then keeps (codes "->") written else keeps (45 ∷ []) written) plain)
-    (ap (take 1) here) (omega arith) (omega (arith, less)) to_is
+-- the innermost bracket, where there is one
+pub record Top (written : Written) (brackets : List Bracket) (starts : List ℕ) : Type 0 where
+  pub top : Opened
+  pub around : List Opened
+  pub opened_is : written.opened ≡ top ∷ around
+  pub is : IsInnermost (AreOpen around) top (before_last around) brackets starts
+
+pub top_of : (written : Written) (brackets : List Bracket) (starts : List ℕ) → AreOpen written.opened brackets starts → 0 < length brackets → Top written brackets starts
+top_of written brackets starts are some = by written.opened refl are
+  where
+    by : (opened : List Opened) → written.opened ≡ opened → AreOpen opened brackets starts → Top written brackets starts
+    by [] e are = absurd (omega (arith, some, ap length are.0))
+    by (top ∷ around) e are = record { top = top; around = around; opened_is = e; is = are }

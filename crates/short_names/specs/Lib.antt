@@ -1,4 +1,5 @@
 pub mod Changes
+pub mod Closing
 pub mod Elements
 pub mod Full
 pub mod Inlines

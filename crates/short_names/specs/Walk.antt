@@ -54,9 +54,14 @@ opens bracket name written = Some (record {
   written = record { opened = record { bracket = bracket; name = name; before = written.last; elements = [] } ∷ written.opened; last = [] };
 })
 
+-- the operator's sign behind a run, which is no bracket; outside of brackets it makes no difference
+abbrev pub sign_of : List Opened → (run rest : List ℕ) → List ℕ
+sign_of [] run rest = []
+sign_of (top ∷ around) run rest = take (operator_size run rest) rest
+
 -- a name that has no list that is changed, with an operator's sign
 abbrev pub at_plain : (run rest : List ℕ) → Written → Option Answer → Option Stepped
-at_plain run rest written None = keeps (run ++ take (operator_size run rest) rest) written
+at_plain run rest written None = keeps (run ++ sign_of written.opened run rest) written
 at_plain run rest written (Some answer) = answers 0 answer written
 
 -- a name, and a list that follows it
@@ -65,54 +70,48 @@ at_name rules run rest written =
     if starts_with nat_eq rest (codes "<") && rules.opens run then opens 60 run written
     else at_plain run rest written (rules.for_name run rest)
 
--- an opening bracket, without a name, opens within another one
-abbrev pub at_opening : List Opened → ℕ → Written → Option Stepped
-at_opening [] byte written = keeps (byte ∷ []) written
-at_opening (top ∷ around) byte written = opens byte [] written
-
 -- `>` closes the innermost bracket, if it is a list's
 abbrev pub closes_list : Rules → Opened → List Opened → (last rest : List ℕ) → Option Stepped
 closes_list rules list around last rest =
     answers 1 (rules.for_list list.name (list.elements ++ last ∷ []) rest) (record { opened = around; last = list.before })
 
-abbrev pub at_greater : Rules → List Opened → (rest : List ℕ) → Written → Option Stepped
-at_greater rules [] rest written = keeps (62 ∷ []) written
-at_greater rules (top ∷ around) rest written = if is_list top then closes_list rules top around written.last rest else None
-
 -- another closing bracket closes it, if it is no list's
 abbrev pub closes_group : Opened → List Opened → ℕ → List ℕ → Option Stepped
 closes_group group around byte last = keeps (byte ∷ []) (record { opened = around; last = group.before ++ group.bracket ∷ last })
-
-abbrev pub at_end : List Opened → ℕ → Written → Option Stepped
-at_end [] byte written = keeps (byte ∷ []) written
-at_end (top ∷ around) byte written = if is_list top then None else closes_group top around byte written.last
 
 -- `, ` ends an element of a list
 abbrev pub ends_element : Opened → List Opened → List ℕ → Option Stepped
 ends_element list around last =
     Some (record { size = 2; written = record { opened = record list { elements = list.elements ++ last ∷ [] } ∷ around; last = [] } })
 
-abbrev pub at_comma : List Opened → (text : List ℕ) → Written → Option Stepped
-at_comma [] text written = keeps (44 ∷ []) written
-at_comma (top ∷ around) text written =
-    if is_list top && starts_with nat_eq text (codes ", ") then ends_element top around written.last else keeps (44 ∷ []) written
+-- the brackets that open one, `<`, `(`, `[`, `{`; and those that close one that is no list's
+abbrev pub is_opening : ℕ → Bool
+is_opening byte = byte == 60 || byte == 40 || byte == 91 || byte == 123
 
--- A byte that isn't of a name, with the text that begins with it. An arrow is no bracket.
-unfoldable pub at_sign : Rules → (byte : ℕ) → (rest : List ℕ) → Written → Option Stepped
-at_sign rules byte rest written =
-    if byte == 60 || byte == 40 || byte == 91 || byte == 123 then at_opening written.opened byte written
-    else (if byte == 62 then at_greater rules written.opened rest written
-    else (if byte == 41 || byte == 93 || byte == 125 then at_end written.opened byte written
-    else (if byte == 44 then at_comma written.opened (byte ∷ rest) written
+abbrev pub is_closing : ℕ → Bool
+is_closing byte = byte == 41 || byte == 93 || byte == 125
+
+-- A byte that isn't of a name, within a bracket, with the text that begins with it. An arrow is no bracket.
+unfoldable pub at_sign : Rules → Opened → List Opened → (byte : ℕ) → (rest : List ℕ) → Written → Option Stepped
+at_sign rules top around byte rest written =
+    if is_opening byte then opens byte [] written
+    else (if byte == 62 then (if is_list top then closes_list rules top around written.last rest else None)
+    else (if is_closing byte then (if is_list top then None else closes_group top around byte written.last)
+    else (if is_list top && starts_with nat_eq (byte ∷ rest) (codes ", ") then ends_element top around written.last
     else (if starts_with nat_eq (byte ∷ rest) (codes "->") then keeps (codes "->") written
     else keeps (byte ∷ []) written))))
+
+-- the same; outside of brackets it is written as it is
+abbrev pub at_byte : Rules → List Opened → (byte : ℕ) → (rest : List ℕ) → Written → Option Stepped
+at_byte rules [] byte rest written = keeps (byte ∷ []) written
+at_byte rules (top ∷ around) byte rest written = at_sign rules top around byte rest written
 
 -- A piece of a text that isn't empty: a run of bytes of names, or a sign.
 unfoldable pub stepped : Rules → (byte : ℕ) → (rest : List ℕ) → Written → Option Stepped
 stepped rules byte rest written =
     let run = run_of (byte ∷ rest) in
     if is_name_byte byte then at_name rules run (drop (length run) (byte ∷ rest)) written
-    else at_sign rules byte rest written
+    else at_byte rules written.opened byte rest written
 
 -- ## A text
 

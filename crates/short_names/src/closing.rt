@@ -1,4 +1,8 @@
 // What is written where a list of a name of the table is closed.
+ghost use Rattle.std.specs.Prelude.{◌≡◌, ◌≤◌, ◌++◌, ℕ, List, length, take, drop, codes, IfOk, OnOk};
+ghost use Rattle.short_names.specs.Closing.{EndsWithList, IsAnswered, IsList};
+ghost use Rattle.short_names.specs.Short.{constructor, if_read_back, short_list};
+
 use crate::elements::Elements;
 use crate::names::{Named, before_constructor, ends_name, is_constructor, last_part};
 use crate::patterns::text_at;
@@ -13,31 +17,44 @@ pub(crate) fn close(
     bracket: usize,
     starts: &[usize],
     rest: &[u8],
-) -> Result<usize, AllocError> {
+) -> Result<usize, AllocError>
+    requires { EndsWithList text.old.items named bracket starts.now }
+    ensures { (before name : List ℕ) (elements : List (List ℕ)) → IsList text.old.items named bracket starts.now before name elements
+        → IfOk result (λ size. IsAnswered text.new.items before rest.now (short_list named name elements rest.now) size) }
+{
     let elements = Elements { text, starts };
     let holes = elements.holes(named);
     let left = elements.left(named, holes);
-    if let Some(alias) = elements.alias(named, holes, left) {
-        // a member that has the usual name isn't the constructor, whose name is the template's
-        if ends_name(rest) && !is_constructor(rest, last_part(text_at(alias.name))) {
-            text.truncate(bracket - text_at(named.template.name).len());
-            text.extend_from_slice(text_at(alias.name))?;
-            return append_constructor(alias, rest, text);
-        }
+    let name = bracket - text_at(named.template.name).len();
+    if let Some(alias) = read_back(elements.alias(named, holes, left), rest) {
+        text.truncate(name);
+        text.extend_from_slice(text_at(alias.name))?;
+        return append_constructor(alias, rest, text);
     }
-    let is_polymorphic = elements.is_polymorphic(named, holes);
-    let left = if is_polymorphic {
-        elements.without_defaults(named, holes, starts.len() - 1)
-    } else {
-        left
-    };
+    if elements.is_polymorphic(named, holes) {
+        let end = elements.end(elements.without_defaults(named, holes, starts.len() - 1));
+        text.truncate(end);
+        insert_polymorphic(text, name)?;
+        text.push(b'>')?;
+        return Ok(0);
+    }
     let end = elements.end(left);
     text.truncate(end);
-    if is_polymorphic {
-        insert_polymorphic(text, bracket - text_at(named.template.name).len())?;
-    }
     text.push(b'>')?;
     Ok(0)
+}
+
+/// A usual name where the text goes on so that it is read back: a member that has that name isn't the constructor, whose name is the
+/// template's.
+fn read_back(alias: Option<Alias>, rest: &[u8]) -> Option<Alias>
+    ensures { result ≡ if_read_back rest.now alias }
+{
+    let alias = alias?;
+    if ends_name(rest) && !is_constructor(rest, last_part(text_at(alias.name))) {
+        Some(alias)
+    } else {
+        None
+    }
 }
 
 /// Appends the name of a constructor or destructor that follows a usual name, by that name; answers how long it was.
@@ -45,7 +62,9 @@ pub(crate) fn append_constructor(
     alias: Alias,
     rest: &[u8],
     text: &mut Vec<u8>,
-) -> Result<usize, AllocError> {
+) -> Result<usize, AllocError>
+    ensures { IfOk result (λ size. IsAnswered text.new.items text.old.items rest.now (constructor alias rest.now) size) }
+{
     let class = last_part(text_at(alias.template));
     let front = before_constructor(rest, class);
     if front.is_empty() {
@@ -57,7 +76,10 @@ pub(crate) fn append_constructor(
 }
 
 /// Puts `pmr::` before the name at a place of a text.
-fn insert_polymorphic(text: &mut Vec<u8>, name: usize) -> Result<(), AllocError> {
+fn insert_polymorphic(text: &mut Vec<u8>, name: usize) -> Result<(), AllocError>
+    requires { name ≤ length text.old.items }
+    ensures { OnOk result (text.new.items ≡ take name text.old.items ++ codes "pmr::" ++ drop name text.old.items) }
+{
     text.extend_from_slice(b"pmr::")?;
     text[name..].rotate_right(5);
     Ok(())

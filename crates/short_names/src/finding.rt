@@ -1,9 +1,8 @@
 // Names that become shorter.
-ghost use Rattle.std.specs.Prelude.{◌≡◌, false, length};
-ghost use Rattle.short_names.specs.Plain.{IsFound, IsPlain, HasNoInlines};
+ghost use Rattle.std.specs.Prelude.{◌≡◌};
+ghost use Rattle.short_names.specs.Plain.{IsFound};
 ghost use Rattle.short_names.specs.Changes.{is_nothing};
 
-use crate::inlines::has_inlines;
 use crate::names::{Change, change_at};
 use crate::runs::{run_at, std_run};
 
@@ -42,23 +41,7 @@ pub(crate) fn first_change(text: &[u8]) -> Option<Found>
                 change,
             });
         }
-        at = name + 5;
+        at = name + 1;
     }
     None
-}
-
-/// Whether a name of a text becomes shorter or may do so, or has an inline namespace that isn't kept.
-pub(crate) fn may_change(text: &[u8], keeps_inline: bool) -> bool
-    ensures { result ≡ false → IsPlain text.now (length text.now) × HasNoInlines keeps_inline text.now (length text.now) }
-{
-    let mut at = 0;
-    'names: while let Some(name) = std_run(text, at) {
-        let rest = &text[name..];
-        let run = run_at(rest);
-        if !is_nothing(change_at(rest, run)) || !keeps_inline && has_inlines(&rest[5..]) {
-            return true;
-        }
-        at = name + 5;
-    }
-    false
 }

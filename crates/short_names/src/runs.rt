@@ -1,8 +1,9 @@
 // Runs of bytes of names, and what else a text is parted into.
-ghost use Rattle.std.specs.Prelude.{◌≡◌, ◌≤◌, ◌<◌, ◌^◌, ◌+◌, ◌-◌, ℕ, length, take, drop, get_or, true, false, MatchOption};
+ghost use Rattle.std.specs.Prelude.{◌≡◌, ◌≤◌, ◌<◌, ◌^◌, ◌+◌, ◌-◌, ℕ, Bool, length, take, drop, get_or, true, false, MatchOption};
 ghost use Rattle.std.specs.List.{list_all};
 ghost use Rattle.std.specs.Int.{bit_at};
 ghost use Rattle.short_names.specs.Runs.{first_set, is_letter, is_name_byte, run_of, ends_operator, sign_size, operator_size, begins_std, is_std_at};
+ghost use Rattle.short_names.specs.Short.{shortened};
 
 use std::simd::prelude::*;
 
@@ -103,7 +104,8 @@ fn run_size(text: &[u8]) -> usize
 
 /// The longest run of bytes of names with which a text begins.
 pub(crate) fn run_at(text: &[u8]) -> &[u8]
-    ensures { result.now ≡ run_of text.now }
+    ensures run { result.now ≡ run_of text.now }
+    ensures within { length result.now ≤ length text.now }
 {
     &text[..run_size(text)]
 }
@@ -134,7 +136,8 @@ fn sign_size(text: &[u8]) -> usize
 
 /// How many bytes of an operator's sign come after a run.
 pub(crate) fn operator_size(run: &[u8], rest: &[u8]) -> usize
-    ensures { result ≡ operator_size run.now rest.now }
+    ensures size { result ≡ operator_size run.now rest.now }
+    ensures within { result ≤ length rest.now }
 {
     if ends_operator(run) {
         sign_size(rest)
@@ -238,7 +241,7 @@ pub(crate) fn std_run(text: &[u8], from: usize) -> Option<usize>
 
 /// Whether a text has a run that begins with `std::`. One without such a run is as short as it can be.
 pub fn has_std(text: &[u8]) -> bool
-    ensures no { result ≡ false → (k : ℕ) → is_std_at text.now k ≡ false }
+    ensures { result ≡ false → (keeps_inline : Bool) → shortened keeps_inline text.now ≡ text.now }
 {
     std_run(text, 0).is_some()
 }

@@ -2,9 +2,7 @@
 ghost use Rattle.std.specs.Prelude.{◌≡◌, ◌≤◌, ◌<◌, ◌++◌, ◌+◌, ◌-◌, ◌∷◌, [], ℕ, List, length, take, drop, IfOk, OnOk, Bool, true, false, if◌then◌else◌};
 ghost use Rattle.short_names.specs.Short.{shortened, taken};
 
-use crate::finding::may_change;
 use crate::inlines::append_without;
-
 
 use crate::writing::Writing;
 use std::alloc::{AllocError, Global};
@@ -48,9 +46,6 @@ impl Short {
         ensures short { OnOk result (out.new.items ≡ take from out.old.items ++ shortened keeps_inline (drop from out.old.items)) }
         ensures front { take from out.new.items ≡ take from out.old.items }
     {
-        if !may_change(&out[from..], keeps_inline) {
-            return Ok(());
-        }
         take_text(keeps_inline, &out[from..], &mut self.text)?;
         let pairs = self.writing.write(&self.text)?;
         out.truncate(from);

@@ -2,8 +2,9 @@
 ghost use Rattle.std.specs.Prelude.{◌≡◌, ◌≤◌, ◌<◌, ◌++◌, ◌+◌, ◌-◌, ◌^◌, ◌∷◌, [], ℕ, List, length, take, drop, get_or, IfOk, OnOk, Bool, true, false, if◌then◌else◌};
 ghost use Rattle.short_names.specs.Runs.{is_name_byte};
 ghost use Rattle.short_names.specs.Short.{short};
-ghost use Rattle.short_names.specs.Writing.{CanStep, CanChange, GoesFrom, StepsFrom, IsAt, Goes};
-ghost use Rattle.short_names.specs.Walk.{Written};
+ghost use Rattle.short_names.specs.Writing.{CanStep, CanChange, CanClose, IsAtMember, GoesFrom, StepsFrom, IsAt, IsPending, IsShortened, IsClosed, Goes};
+ghost use Rattle.short_names.specs.Walk.{Written, is_opening, is_closing};
+ghost use Rattle.short_names.specs.declared.writing.Bracket.{Bracket as Innermost};
 
 use crate::closing::{append_constructor, close};
 use crate::finding::first_change;
@@ -11,6 +12,20 @@ use crate::names::{Change, Named, change_at};
 use crate::runs::{is_name_byte, operator_size, run_at};
 use crate::table::{ALIASES, Place};
 use std::alloc::{AllocError, Global};
+
+/// Whether a byte is a bracket that opens one.
+fn is_opening(byte: u8) -> bool
+    ensures { result ≡ is_opening byte }
+{
+    byte == b'<' || byte == b'(' || byte == b'[' || byte == b'{'
+}
+
+/// Whether a byte is a bracket that closes one which isn't a list's.
+fn is_closing(byte: u8) -> bool
+    ensures { result ≡ is_closing byte }
+{
+    byte == b')' || byte == b']' || byte == b'}'
+}
 
 /// A bracket that is open: whether it is that of an argument list, the name of the table before that, where it is in the text that is
 /// written, and how many elements began before it.
@@ -126,20 +141,22 @@ impl Writing {
             return Ok(());
         };
         self.at += found.at;
-        self.change(text, found.size, found.change)
+        self.change(text, found.size, found.change)?;
+        Ok(())
     }
 
     /// Goes over a run of bytes of names, and what belongs to it.
     fn step_run(&mut self, text: &[u8]) -> Result<(), AllocError>
-        requires { CanStep text.now self.old × (is_name_byte (get_or text.now self.old.at 0) ≡ true) }
+        requires { CanStep text.now self.old × (is_name_byte (get_or text.now self.old.at 0) ≡ true) × (0 < length self.old.brackets.items) }
         ensures { GoesFrom text.now self.old self.new result }
     {
         let rest = &text[self.at..];
         let run = run_at(rest);
         let size = run.len();
-        if let [b's', b't', b'd', b':', b':', ..] = run {
+        if run.starts_with(b"std::") {
             let change = change_at(rest, run);
-            return self.change(text, size, change);
+            self.change(text, size, change)?;
+            return Ok(());
         }
         self.at += size + operator_size(run, &rest[size..]);
         Ok(())
@@ -152,22 +169,30 @@ impl Writing {
     {
         match change {
             Change::Nothing => {
-                let (run, rest) = text[self.at..].split_at(size);
-                self.at += size + operator_size(run, rest);
+                let rest = &text[self.at..];
+                self.at += size + operator_size(&rest[..size], &rest[size..]);
                 Ok(())
             }
             Change::List { whole, row } => {
                 self.at += size;
-                self.open_bracket(true, Some(Listed { whole, row }))
-            }
-            Change::Member { row, size } => {
-                self.at += size;
-                self.copy(text)?;
-                self.at += append_constructor(ALIASES[row], &text[self.at..], &mut self.out)?;
-                self.copied = self.at;
+                self.open_bracket(true, Some(Listed { whole, row }))?;
                 Ok(())
             }
+            Change::Member { row, size } => self.write_member(text, row, size),
         }
+    }
+
+    /// Writes a usual name that ends after some bytes, and the constructor or destructor behind it.
+    fn write_member(&mut self, text: &[u8], row: usize, size: usize) -> Result<(), AllocError>
+        requires { IsAtMember text.now self.old row size }
+        ensures { GoesFrom text.now self.old self.new result }
+    {
+        self.at += size;
+        self.copy(text)?;
+        let more = append_constructor(ALIASES[row], &text[self.at..], &mut self.out)?;
+        self.at += more;
+        self.copied = self.at;
+        Ok(())
     }
 
     /// Goes over a byte that isn't of a name, within brackets; answers whether brackets pair so far.
@@ -175,30 +200,26 @@ impl Writing {
         requires { CanStep text.now self.old × (byte ≡ get_or text.now self.old.at 0) × (is_name_byte byte ≡ false) × (0 < length self.old.brackets.items) }
         ensures { StepsFrom text.now self.old self.new result }
     {
-        match byte {
-            b'<' => {
-                self.open_bracket(true, None)?;
-                Ok(true)
-            }
-            b'(' | b'[' | b'{' => {
-                self.open_bracket(false, None)?;
-                Ok(true)
-            }
-            b'>' => self.close_list(text),
-            b')' | b']' | b'}' => Ok(self.close_group()),
-            b',' => {
-                self.step_comma(text)?;
-                Ok(true)
-            }
-            b'-' => {
-                self.step_minus(text);
-                Ok(true)
-            }
-            _ => {
-                self.at += 1;
-                Ok(true)
-            }
+        if is_opening(byte) {
+            self.open_bracket(byte == b'<', None)?;
+            return Ok(true);
         }
+        if byte == b'>' {
+            return self.close_list(text);
+        }
+        if is_closing(byte) {
+            return Ok(self.close_group());
+        }
+        if byte == b',' {
+            self.step_comma(text)?;
+            return Ok(true);
+        }
+        if byte == b'-' {
+            self.step_minus(text);
+            return Ok(true);
+        }
+        self.at += 1;
+        Ok(true)
     }
 
     /// Opens a bracket, after the name of the table that is before it, if one is.
@@ -236,26 +257,33 @@ impl Writing {
         }
         if let Some(listed) = list.named {
             self.close_named(text, list, listed)?;
-        } else {
-            self.at += 1;
+            self.starts.truncate(list.first);
+            return Ok(true);
         }
         self.starts.truncate(list.first);
+        self.at += 1;
         Ok(true)
     }
 
     /// Closes the list of a name of the table.
     fn close_named(&mut self, text: &[u8], list: Bracket, listed: Listed) -> Result<(), AllocError>
+        requires { CanClose text.now self.old list listed }
+        ensures { (before name : List ℕ) (elements : List (List ℕ)) → IsPending text.now self.old list listed before name elements → OnOk result (IsShortened text.now self.old self.new listed before name elements) }
     {
-        let named = Named::of_row(listed.whole, listed.row);
         self.copy(text)?;
+        let named = Named::of_row(listed.whole, listed.row);
         let rest = &text[self.at + 1..];
-        self.at += 1 + close(&mut self.out, named, list.place, &self.starts[list.first..], rest)?;
+        let size = close(&mut self.out, named, list.place, &self.starts[list.first..], rest)?;
+        self.at += 1 + size;
         self.copied = self.at;
         Ok(())
     }
 
     /// Closes another bracket; answers whether it was open.
     fn close_group(&mut self) -> bool
+        requires { self.old.at < 2 ^ 63 }
+        ensures list { (around : List Innermost) (bracket : Innermost) → self.old.brackets.items ≡ around ++ bracket ∷ [] → bracket.is_list ≡ true → result ≡ false }
+        ensures group { (around : List Innermost) (bracket : Innermost) → self.old.brackets.items ≡ around ++ bracket ∷ [] → bracket.is_list ≡ false → (result ≡ true) × IsClosed self.old self.new around bracket }
     {
         let Some(group) = self.brackets.pop() else {
             return false;
@@ -284,7 +312,9 @@ impl Writing {
     }
 
     /// Whether the innermost bracket is that of a list.
-    fn is_in_list(&self) -> bool {
+    fn is_in_list(&self) -> bool
+        ensures { (around : List Innermost) (bracket : Innermost) → self.now.brackets.items ≡ around ++ bracket ∷ [] → result ≡ bracket.is_list }
+    {
         match self.brackets.last() {
             Some(bracket) => bracket.is_list,
             None => false,
