@@ -1,4 +1,4 @@
-use Rattle.std.proofs.Common.{[], List, ℕ, take, sym, ap, ◌∙◌, arith, if◌then◌else◌}
+use Rattle.std.proofs.Common.{[], List, ℕ, take, sym, ap, ◌∙◌, length-take-le, if◌then◌else◌}
 use Rattle.short_names.specs.Names.{front_size}
 use Rattle.short_names.proofs.NameLemmas.{colons-from}
 use Rattle.short_names.proofs.names.before_constructor.Goals as goal
@@ -16,4 +16,4 @@ returns c =
 
 pub slice_bounds-result-end : goal.slice_bounds-result-end
 slice_bounds-result-end c =
-    c.front_size-size.ensures.within (colons-from c.args.text.now c.args.class.now (sym c.is_constructor.ensures ∙ c.if-is_constructor.true))
+    sym (length-take-le c.front_size-size.result c.args.text.now (c.front_size-size.ensures.within (colons-from c.args.text.now c.args.class.now (sym c.is_constructor.ensures ∙ c.if-is_constructor.true))))
