@@ -11,7 +11,7 @@ slice_bounds-result-count c = omega (arith, (first-bounds _ _ c.requires.0 c.req
 pub slice_bounds-result-start : goal.slice_bounds-result-start
 slice_bounds-result-start c = omega (arith, (first-bounds _ _ c.requires.0 c.requires.1 c.args.count).0, c.end.ensures c.requires.0 c.requires.1)
 
-pub slice_bounds-result-end : goal.slice_bounds-result-end-2
+pub slice_bounds-result-end : goal.slice_bounds-result-end
 slice_bounds-result-end c = omega (arith, (first-bounds _ _ c.requires.0 c.requires.1 c.args.count).1, c.end.ensures c.requires.0 c.requires.1)
 
 pub returns : goal.returns
