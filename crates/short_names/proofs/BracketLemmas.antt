@@ -98,8 +98,16 @@ element_ends text now written after is less at_byte begins in_list some at_is co
     let place : ℕ = length now.out.items + (now.at + 2 - now.copied) in
     let further : now.at + 2 ≤ length text = omega (arith, less, ap length (begun (drop now.at text) (codes ", ") begins), length-take 2 (drop now.at text), length-drop now.at text) in
     let size : length now.out.items + (now.at - now.copied) ≡ length behind + 1 + length (ended top.elements) + length written.last =
-        omega (arith, is.copied, is.within, ap length (is.bytes ∙ all_is), length-append now.out.items (take (now.at - now.copied) (drop now.copied text)), length-pending text now.copied now.at is.copied is.within,
-        length-append (behind ++ top.bracket ∷ ended top.elements) written.last, length-append behind (top.bracket ∷ ended top.elements)) in
+    omega (
+      arith,
+      is.copied,
+      is.within,
+      ap length (is.bytes ∙ all_is),
+      length-append now.out.items (take (now.at - now.copied) (drop now.copied text)),
+      length-pending text now.copied now.at is.copied is.within,
+      length-append (behind ++ top.bracket ∷ ended top.elements) written.last,
+      length-append behind (top.bracket ∷ ended top.elements),
+    ) in
     record {
       written = next;
       is = record {

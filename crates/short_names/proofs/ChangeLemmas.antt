@@ -90,16 +90,16 @@ module _ (run : List ℕ) (whole : Place) (name : List ℕ) (std : std_name run 
         let got : slice_get ALIASES row ≡ Some alias = slice_get-get_or ALIASES row d within in
         let is = member-is ALIASES name (drop from text) alias (found ∙ got) in
         let there : drop (length (text_of alias.name)) (drop from text) ≡ drop size (run ++ rest) =
-            drop-drop (length (text_of alias.name)) from text ∙ ap (λ k. drop k text) (sym size-is) ∙ ap (drop size) text-is in
+        drop-drop (length (text_of alias.name)) from text ∙ ap (λ k. drop k text) (sym size-is) ∙ ap (drop size) text-is in
         subst (IsMemberOf run rest size) (sym got) (record {
           within = omega (arith, size-is, ends.1, front-length name (text_of alias.name) is.0);
           constructs = ap (λ t. is_constructor t (last_part (text_of alias.template))) (sym there) ∙ is.1;
           answer =
-            by-member (Some alias) (found ∙ got)
-            ∙ ap (λ k. Some (record {
-              bytes = take k run ++ (constructor alias (drop k (run ++ rest))).bytes;
-              size = k + (constructor alias (drop k (run ++ rest))).size;
-            })) (sym size-is);
+              by-member (Some alias) (found ∙ got)
+              ∙ ap (λ k. Some (record {
+                bytes = take k run ++ (constructor alias (drop k (run ++ rest))).bytes;
+                size = k + (constructor alias (drop k (run ++ rest))).size;
+              })) (sym size-is);
         })
 
     pub member-within : (row size : ℕ) (d : Alias) → row < length ALIASES → member_in ALIASES name (drop from text) ≡ slice_get ALIASES row

@@ -28,7 +28,7 @@ template-is (row ∷ rows) name template e = by (pointwise nat_eq (text_of row.n
     by : (b : Bool) → pointwise nat_eq (text_of row.name) name ≡ b → (if b then Some row else template_in rows name) ≡ Some template
         → (template_in rows name ≡ Some template → text_of template.name ≡ name) → text_of template.name ≡ name
     by true f e ih =
-        let pick : Option Template → Template = λ o. elim o [ | None ↦ template | Some it ↦ it ] in
+        let pick : Option Template → Template = λ o. elim o [ None ↦ template | Some it ↦ it ] in
         ap (λ (t : Template). text_of t.name) (sym (ap pick e)) ∙ (bytes_decides (text_of row.name) name).0 f
     by false f e ih = ih e
 
@@ -53,7 +53,7 @@ name-ends name named e = by_whole (row_in WHOLES name) e
         → (length (text_of named.template.name) ≤ length name) × (drop (length name - length (text_of named.template.name)) name ≡ text_of named.template.name)
     by_template whole k None f e = absurd (true≢false (sym (ap is_some e)))
     by_template whole k (Some template) f e =
-        let pick : Option Named → Named = λ o. elim o [ | None ↦ named | Some it ↦ it ] in
+        let pick : Option Named → Named = λ o. elim o [ None ↦ named | Some it ↦ it ] in
         let template_is : text_of template.name ≡ text_of named.template.name = ap (λ (n : Named). text_of n.template.name) (ap pick e) in
         tail-is name (text_of named.template.name) k (sym template_is ∙ template-is TEMPLATES (drop k name) template f)
 

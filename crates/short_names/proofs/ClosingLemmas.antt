@@ -77,11 +77,11 @@ group_ends text now written byte after others bracket is less at_byte no_letter 
     let no_list : is_list p.top ≡ false = sym p.is.kind ∙ group in
     let next : Written = record { opened = p.around; last = (p.top.before ++ p.top.bracket ∷ written.last) ++ byte ∷ [] } in
     let all_is : all_of written ≡ before_last p.around ++ (p.top.before ++ p.top.bracket ∷ written.last) =
-        ap (λ o. before_last o ++ written.last) p.opened_is
-        ∙ group_text (before_last p.around) p.top.before p.top.name written.last p.top.bracket p.top.elements (p.is.no_list no_list).0 (p.is.no_list no_list).1 in
+    ap (λ o. before_last o ++ written.last) p.opened_is
+    ∙ group_text (before_last p.around) p.top.before p.top.name written.last p.top.bracket p.top.elements (p.is.no_list no_list).0 (p.is.no_list no_list).1 in
     let step : stepped short_rules byte rest written ≡ Some (record { size = 1; written = next }) =
-        sign_closes written byte rest p.top p.around no_letter no_opening no_greater closing p.opened_is
-        ∙ ap (λ b. if b then None else closes_group p.top p.around byte written.last) no_list in
+    sign_closes written byte rest p.top p.around no_letter no_opening no_greater closing p.opened_is
+    ∙ ap (λ b. if b then None else closes_group p.top p.around byte written.last) no_list in
     record {
       written = next;
       is = record {
@@ -168,7 +168,7 @@ list_ends : (text : List ℕ) (now : Writing) (written : Written) (after : Writi
     → after.at ≡ now.at + (1 + (for_list (named_in p.top.name) p.top.name (p.top.elements ++ written.last ∷ []) (drop (now.at + 1) text)).size)
     → after.at ≤ length text → after.copied ≤ after.at
     → after.out.items ++ take (after.at - after.copied) (drop after.copied text)
-        ≡ (before_last p.around ++ p.top.before) ++ (for_list (named_in p.top.name) p.top.name (p.top.elements ++ written.last ∷ []) (drop (now.at + 1) text)).bytes
+    ≡ (before_last p.around ++ p.top.before) ++ (for_list (named_in p.top.name) p.top.name (p.top.elements ++ written.last ∷ []) (drop (now.at + 1) text)).bytes
     → after.brackets.items ≡ others → after.starts.items ≡ take bracket.first now.starts.items → Goes text now.at after
 list_ends text now written after others bracket p is less at_byte list at_is within copied bytes brackets_are starts_are =
     let here = here_is text now.at 62 less at_byte in
@@ -176,8 +176,8 @@ list_ends text now written after others bracket p is less at_byte list at_is wit
     let answer : Answer = for_list (named_in p.top.name) p.top.name (p.top.elements ++ written.last ∷ []) rest in
     let next : Written = record { opened = p.around; last = p.top.before ++ answer.bytes } in
     let step : stepped short_rules 62 rest written ≡ Some (record { size = 1 + answer.size; written = next }) =
-        sign_greater written rest p.top p.around p.opened_is
-        ∙ ap (λ b. if b then closes_list short_rules p.top p.around written.last rest else None) (sym p.is.kind ∙ list) in
+    sign_greater written rest p.top p.around p.opened_is
+    ∙ ap (λ b. if b then closes_list short_rules p.top p.around written.last rest else None) (sym p.is.kind ∙ list) in
     record {
       written = next;
       is = record {

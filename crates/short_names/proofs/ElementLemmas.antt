@@ -57,9 +57,17 @@ lead-next k [] within = absurd (omega (arith, within))
 lead-next zero (first ∷ elements) within =
     omega (arith, length-append (first ++ codes ", ") [], length-append first (codes ", "), ap length (take-more zero (first ∷ elements) within))
 lead-next (suc k) (first ∷ elements) within =
-    omega (arith, lead-next k elements (omega (arith, within)), ap length (take-more k elements (omega (arith, within))), ap length (take-more (suc k) (first ∷ elements) within),
-    length-append (first ++ codes ", ") (lead (suc k) elements), length-append (first ++ codes ", ") (lead k elements), length-append first (codes ", "),
-    length-append (lead k elements) (get_or elements k []), length-append (lead (suc k) (first ∷ elements)) (get_or elements k []))
+    omega (
+      arith,
+      lead-next k elements (omega (arith, within)),
+      ap length (take-more k elements (omega (arith, within))),
+      ap length (take-more (suc k) (first ∷ elements) within),
+      length-append (first ++ codes ", ") (lead (suc k) elements),
+      length-append (first ++ codes ", ") (lead k elements),
+      length-append first (codes ", "),
+      length-append (lead k elements) (get_or elements k []),
+      length-append (lead (suc k) (first ∷ elements)) (get_or elements k []),
+    )
 
 -- the elements from one on
 from-one : (k : ℕ) (elements : List (List ℕ)) → k < length elements → joined elements ≡ lead k elements ++ (get_or elements k [] ++ tail (drop (k + 1) elements))

@@ -68,11 +68,11 @@ module _ (named : Named) (elements : List (List ℕ)) (place : ℕ) where
 
   pub no-row : length DEFAULTS ≤ named.template.first_default + place → is_default named elements place ≡ false
   no-row past = elim (lt-or-le place named.template.count) [
-      | inl within ↦ default-none
+    | inl within ↦ default-none
         (slice_get-take (drop named.template.first_default DEFAULTS) named.template.count place within
         ∙ slice_get-drop named.template.first_default DEFAULTS place ∙ slice_get-all DEFAULTS (named.template.first_default + place) past)
-      | inr behind ↦ no-place behind
-    ]
+    | inr behind ↦ no-place behind
+  ]
 
   pub default-at : place < named.template.count → (row : ℕ) → row ≡ named.template.first_default + place → row < length DEFAULTS → (d : Place)
       → is_given named elements (element elements place) (text_of (get_or DEFAULTS row d)) ≡ is_default named elements place

@@ -40,8 +40,8 @@ unfolding low_sixth
 no-whole run other =
     none-in low_sixth run
     (λ t is.
-        let parts = and_parts (nat_lt 5 (length t)) (get_or t 5 0 == 95) is in
-        differs run t 5 (ltb-true 5 (length t) parts.0) (λ same. other (same ∙ eqb-true (get_or t 5 0) 95 parts.1)))
+    let parts = and_parts (nat_lt 5 (length t)) (get_or t 5 0 == 95) is in
+    differs run t 5 (ltb-true 5 (length t) parts.0) (λ same. other (same ∙ eqb-true (get_or t 5 0) 95 parts.1)))
     (take 6 WHOLES) rows-low
 
 low_first : List ℕ → Bool
@@ -56,8 +56,8 @@ unfolding low_first
 no-part name other =
     none-in low_first name
     (λ t is.
-        let parts = and_parts (not (length t == 0)) (get_or t 0 0 == 95) is in
-        differs name t 0 (some-bytes t parts.0) (λ same. other (same ∙ eqb-true (get_or t 0 0) 95 parts.1)))
+    let parts = and_parts (not (length t == 0)) (get_or t 0 0 == 95) is in
+    differs name t 0 (some-bytes t parts.0) (λ same. other (same ∙ eqb-true (get_or t 0 0) 95 parts.1)))
     PARTS parts-low
 
 pub same-part : (name : List ℕ) → (get_or name 0 0 ≡ 95 → ⊥) → behind_part name ≡ name
@@ -68,7 +68,7 @@ unfolding std_name
 std-plain run is other =
     let here : starts_with nat_eq run (text_of STD) ≡ true = ap (starts_with nat_eq run) std-is ∙ is in
     let whole : row_in WHOLES run ≡ Some STD =
-        ap (λ rows. row_in rows run) wholes-are ∙ row_in-append (take 6 WHOLES) (STD ∷ []) run (no-whole run other) ∙ row_in-here STD [] run here in
+    ap (λ rows. row_in rows run) wholes-are ∙ row_in-append (take 6 WHOLES) (STD ∷ []) run (no-whole run other) ∙ row_in-here STD [] run here in
     let first : get_or (drop 5 run) 0 0 ≡ 95 → ⊥ = λ low. other (sym (get_or-drop 5 run 0 0) ∙ low) in
     let five : drop (length (text_of STD)) run ≡ drop 5 run = ap (λ t. drop (length t) run) std-is in
     ap (behind_whole run) whole
@@ -81,9 +81,9 @@ name_of (Some std) = std.name
 
 drop-end : (j : ℕ) (run : List ℕ) → drop (length run - length (drop j run)) run ≡ drop j run
 drop-end j run = elim (lt-or-le j (length run)) [
-    | inl within ↦ let on : length run - length (drop j run) ≡ j = omega (arith, within, length-drop j run) in ap (λ k. drop k run) on
-    | inr past ↦ drop_all (length run - length (drop j run)) run (omega (arith, past, length-drop j run)) ∙ sym (drop_all j run past)
-  ]
+  | inl within ↦ let on : length run - length (drop j run) ≡ j = omega (arith, within, length-drop j run) in ap (λ k. drop k run) on
+  | inr past ↦ drop_all (length run - length (drop j run)) run (omega (arith, past, length-drop j run)) ∙ sym (drop_all j run past)
+]
 
 -- a name of std is the end of its run
 pub std-end : (run : List ℕ) (std : StdName) → std_name run ≡ Some std → (drop (length run - length std.name) run ≡ std.name) × (length std.name ≤ length run)
@@ -118,7 +118,7 @@ members-none [] name text all other = refl
 members-none (row ∷ rows) name text all other =
     let parts = and_parts (usual_first (text_of row.name)) (list_all (λ row. usual_first (text_of row.name)) rows) all in
     let no : (starts_with nat_eq name (text_of row.name) && is_constructor (drop (length (text_of row.name)) text) (last_part (text_of row.template))) ≡ false =
-        both _ _ (other (text_of row.name) (last_part (text_of row.template)) parts.0) in
+    both _ _ (other (text_of row.name) (last_part (text_of row.template)) parts.0) in
     rw no (members-none rows name text parts.1 other)
 
 -- a name that begins as no usual name does
@@ -154,18 +154,18 @@ no-member : (name text t class : List ℕ) → name ≡ run_of text → list_any
 unfolding is_constructor
 no-member name text t class run none begins =
     let other : starts_with nat_eq (drop (length t) text) (codes "::") ≡ false = false-from (starts_with nat_eq (drop (length t) text) (codes "::")) (λ is.
-        let byte : get_or text (length t) 0 ≡ 58 =
-            ap (λ k. get_or text k 0) (sym (add-zero (length t))) ∙ sym (get_or-drop (length t) text 0 0) ∙ front-byte (drop (length t) text) (codes "::") 0 is (omega arith) in
-        elim (lt-or-le (length t) (length name)) [
-          | inl within ↦
-            let here : get_or name (length t) 0 ≡ 58 =
-                sym (get_or_append_left name (drop (length (run_of text)) text) 0 (length t) within)
-                ∙ ap (λ n. get_or (n ++ drop (length (run_of text)) text) (length t) 0) run ∙ ap (λ s. get_or s (length t) 0) (sym (run-prefix text)) ∙ byte in
-            absurd (true≢false (sym (any-at name (length t) within here) ∙ none))
-          | inr past ↦
-            let end : length t ≡ length (run_of text) = omega (arith, past, front-length name t begins, ap length run) in
-            absurd (true≢false (sym colon-is ∙ ap is_name_byte (sym byte) ∙ ap (λ k. is_name_byte (get_or text k 0)) end ∙ run-stops text))
-        ]) in
+    let byte : get_or text (length t) 0 ≡ 58 =
+    ap (λ k. get_or text k 0) (sym (add-zero (length t))) ∙ sym (get_or-drop (length t) text 0 0) ∙ front-byte (drop (length t) text) (codes "::") 0 is (omega arith) in
+    elim (lt-or-le (length t) (length name)) [
+      | inl within ↦
+          let here : get_or name (length t) 0 ≡ 58 =
+          sym (get_or_append_left name (drop (length (run_of text)) text) 0 (length t) within)
+          ∙ ap (λ n. get_or (n ++ drop (length (run_of text)) text) (length t) 0) run ∙ ap (λ s. get_or s (length t) 0) (sym (run-prefix text)) ∙ byte in
+          absurd (true≢false (sym (any-at name (length t) within here) ∙ none))
+      | inr past ↦
+          let end : length t ≡ length (run_of text) = omega (arith, past, front-length name t begins, ap length run) in
+          absurd (true≢false (sym colon-is ∙ ap is_name_byte (sym byte) ∙ ap (λ k. is_name_byte (get_or text k 0)) end ∙ run-stops text))
+    ]) in
     rw other refl
 
 pub no-colon : (name text : List ℕ) → name ≡ run_of text → list_any (λ y. nat_eq y 58) name ≡ false → member_in ALIASES name text ≡ None

@@ -105,13 +105,13 @@ plain_run text now written to is less letter no_list none some to_is =
     let sign_size_is : length (take size rest) ≡ size = omega (arith, length-take size rest, operator-within run rest) in
     let long : length bytes ≡ length run + size = omega (arith, length-append run (take size rest), sign_size_is) in
     let takes : take (length bytes) u ≡ bytes =
-        ap (λ n. take n u) long ∙ take-add (length run) size u ∙ ap (λ r. r ++ take size rest) (run-take u) in
+    ap (λ n. take n u) long ∙ take-add (length run) size u ∙ ap (λ r. r ++ take size rest) (run-take u) in
     let some_run : 0 < length run = run-some u (ap is_name_byte (ap (λ v. get_or v 0 0) here) ∙ letter) in
     let step : stepped short_rules byte (drop (now.at + 1) text) written ≡ keeps bytes written =
-        at_run text now.at byte (drop (now.at + 1) text) written here letter
-        ∙ ap (λ b. if b then opens 60 run written else at_plain run rest written (for_name run rest (std_name run))) no_list
-        ∙ ap (at_plain run rest written) none
-        ∙ ap (λ o. keeps (run ++ sign_of o run rest) written) t.opened_is in
+    at_run text now.at byte (drop (now.at + 1) text) written here letter
+    ∙ ap (λ b. if b then opens 60 run written else at_plain run rest written (for_name run rest (std_name run))) no_list
+    ∙ ap (at_plain run rest written) none
+    ∙ ap (λ o. keeps (run ++ sign_of o run rest) written) t.opened_is in
     kept text now written byte (drop (now.at + 1) text) bytes to is here step takes (omega (arith, long, some_run))
     (omega (arith, long, operator-within run rest, less, length-drop now.at text, run-within u, length-drop (length run) u)) (to_is ∙ ap (λ n. now.at + n) (sym long))
 
@@ -131,8 +131,8 @@ list_opens text now written listed size after size_is is less letter less_sign n
     let here : drop now.at text ≡ byte ∷ drop (now.at + 1) text = here_is text now.at byte less refl in
     let list : has_list run rest ≡ true = ap (λ b. b && is_some (named_in run)) less_sign ∙ named in
     let step : stepped short_rules byte (drop (now.at + 1) text) written ≡ opens 60 run written =
-        at_run text now.at byte (drop (now.at + 1) text) written here letter
-        ∙ ap (λ b. if b then opens 60 run written else at_plain run rest written (for_name run rest (std_name run))) list in
+    at_run text now.at byte (drop (now.at + 1) text) written here letter
+    ∙ ap (λ b. if b then opens 60 run written else at_plain run rest written (for_name run rest (std_name run))) list in
     opened text now written byte (drop (now.at + 1) text) 60 run (Some listed) after is here step
     (take-add (length run) 1 u ∙ ap (λ r. r ++ take 1 rest) (run-take u) ∙ ap (λ r. run ++ r) (begun rest (codes "<") less_sign))
     (omega (arith, starts-within rest (codes "<") less_sign, less, length-drop now.at text, run-within u, length-drop (length run) u))
@@ -173,11 +173,11 @@ member_goes text now written alias size more after is less letter no_list member
     let answer : Answer = record { bytes = take size run ++ made.bytes; size = size + made.size } in
     let next : Written = record written { last = written.last ++ answer.bytes } in
     let answered : for_name run rest (std_name run) ≡ Some answer =
-        member.answer ∙ ap (λ (a : Answer). Some (record { bytes = take size run ++ a.bytes; size = size + a.size })) made_is in
+    member.answer ∙ ap (λ (a : Answer). Some (record { bytes = take size run ++ a.bytes; size = size + a.size })) made_is in
     let step : stepped short_rules byte (drop (now.at + 1) text) written ≡ Some (record { size = answer.size; written = next }) =
-        at_run text now.at byte (drop (now.at + 1) text) written here letter
-        ∙ ap (λ b. if b then opens 60 run written else at_plain run rest written (for_name run rest (std_name run))) no_list
-        ∙ ap (at_plain run rest written) answered ∙ ap (λ n. Some (record { size = n; written = next })) (omega arith) in
+    at_run text now.at byte (drop (now.at + 1) text) written here letter
+    ∙ ap (λ b. if b then opens 60 run written else at_plain run rest written (for_name run rest (std_name run))) no_list
+    ∙ ap (at_plain run rest written) answered ∙ ap (λ n. Some (record { size = n; written = next })) (omega arith) in
     let some : 0 < made.size = constructor-some alias (drop (now.at + size) text) (ap (λ r. is_constructor r (last_part (text_of alias.template))) (sym behind) ∙ member.constructs) in
     let nothing_left : after.at - after.copied ≡ 0 = omega (arith, copied_is) in
     let taken : take size u ≡ take size run = sym (take-take size (length run) u member.within) ∙ ap (take size) (run-take u) in
@@ -203,7 +203,7 @@ member_goes text now written alias size more after is less letter no_list member
 begins-by : (text row : List ℕ) → starts_with nat_eq text row ≡ true → begins_std row ≡ true → begins_std text ≡ true
 begins-by text row starts begins =
     let front : take 5 text ≡ codes "std::" =
-        sym (take-take 5 (length row) text (starts-within row (codes "std::") begins)) ∙ ap (take 5) (begun text row starts) ∙ begun row (codes "std::") begins in
+    sym (take-take 5 (length row) text (starts-within row (codes "std::") begins)) ∙ ap (take 5) (begun text row starts) ∙ begun row (codes "std::") begins in
     (bytes_decides (codes "std::") (take 5 text)).1 (sym front)
 
 all_std : List Place → Bool

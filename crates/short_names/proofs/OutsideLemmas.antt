@@ -131,7 +131,7 @@ run-piece byte rest to some within letter plain end =
     }
   where
     not_less : (n m : ℕ) → (m < n → ⊥) → n ≤ m
-    not_less n m f = elim (cases_order n m) [ | inl e ↦ omega (arith, e) | inr o ↦ elim o [ | inl h ↦ omega (arith, h) | inr h ↦ absurd (f h) ] ]
+    not_less n m f = elim (cases_order n m) [ inl e ↦ omega (arith, e) | inr o ↦ elim o [ inl h ↦ omega (arith, h) | inr h ↦ absurd (f h) ] ]
 
     plain_at : (b : Bool) → begins_std (byte ∷ rest) ≡ b
         → (begins_std (byte ∷ rest) ≡ true → IsChange (run_of (byte ∷ rest)) (behind_run (byte ∷ rest)) changes.Nothing) → IsChange (run_of (byte ∷ rest)) (behind_run (byte ∷ rest)) changes.Nothing
@@ -158,7 +158,7 @@ goes_outside (suc fuel) (suc to) text last less within plain end =
     let all : suc to ≡ p.size + left = omega (arith, p.within) in
     let shift : (k : ℕ) → is_std_at rest k ≡ is_std_at text (p.size + k) = λ k. at-drop text p.size k p.some p.boundary in
     let more : IsPlain rest left = λ k h e.
-        subst (λ t. IsChange (run_of t) (behind_run t) changes.Nothing) (sym (drop-drop k p.size text)) (plain (p.size + k) (omega (arith, h, p.within)) (sym (shift k) ∙ e)) in
+    subst (λ t. IsChange (run_of t) (behind_run t) changes.Nothing) (sym (drop-drop k p.size text)) (plain (p.size + k) (omega (arith, h, p.within)) (sym (shift k) ∙ e)) in
     let end_is : (is_std_at rest left ≡ true) ⊎ (left ≡ length rest) = elim end [
       | inl begins ↦ inl (shift left ∙ ap (is_std_at text) (sym all) ∙ begins)
       | inr whole ↦ inr (omega (arith, whole, length-drop p.size text, p.within))
@@ -216,14 +216,13 @@ begins-at text at h = by (begins_std (drop at text)) (at == 0 || not (is_name_by
 pub found_changes : (text : List ℕ) (now : Writing) (written : Written) (found : Found) → IsAt text now written → now.brackets.items ≡ [] → IsFirst (drop now.at text) found
     → CanChange text (record now { at = now.at + found.at }) found.size found.change
 found_changes text now written found is none first =
-    let rest_is : drop found.at (drop now.at text) ≡ drop (now.at + found.at) text = drop-drop found.at now.at text in
-    (
+    let rest_is : drop found.at (drop now.at text) ≡ drop (now.at + found.at) text = drop-drop found.at now.at text in (
       (record written { last = written.last ++ take found.at (drop now.at text) }, skips_to text now written found is none first, omega (arith, first.within, length-drop now.at text)),
       std-letter text (now.at + found.at) (ap begins_std (sym rest_is) ∙ begins-at (drop now.at text) found.at first.begins),
       first.size ∙ ap (λ t. length (run_of t)) rest_is,
       subst (λ t. IsChange (run_of t) (behind_run t) found.change) rest_is first.change,
       omega (arith, first.within, first.size, run-within (drop found.at (drop now.at text)), length-drop found.at (drop now.at text), length-drop now.at text),
-      λ e. absurd (true≢false (sym e ∙ first.some))
+      λ e. absurd (true≢false (sym e ∙ first.some)),
     )
 
 pub farther : (text : List ℕ) (from more : ℕ) (now : Writing) → Goes text (from + more) now → Goes text from now

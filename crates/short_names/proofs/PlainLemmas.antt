@@ -38,7 +38,7 @@ kept (byte ∷ text) false none =
     shifted (suc k) e = none (suc (suc k)) e
 
     by : (b : Bool) → begins_std (byte ∷ text) ≡ b → byte ∷ without_inlines (is_name_byte byte) 0 text ≡ byte ∷ text
-        → elim b [ | true ↦ std_front (byte ∷ text) ++ without_inlines true (std_size (byte ∷ text) - 1) text | false ↦ byte ∷ without_inlines (is_name_byte byte) zero text ] ≡ byte ∷ text
+        → elim b [ true ↦ std_front (byte ∷ text) ++ without_inlines true (std_size (byte ∷ text) - 1) text | false ↦ byte ∷ without_inlines (is_name_byte byte) zero text ] ≡ byte ∷ text
     by true e ih = absurd (true≢false (sym (none zero e)))
     by false e ih = ih
 

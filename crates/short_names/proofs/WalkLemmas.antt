@@ -20,7 +20,7 @@ pub goes : (rules : Rules) (text : List ℕ) (at byte : ℕ) (rest : List ℕ) (
     → written_for rules 0 (drop at text) written ≡ written_for rules 0 (drop (at + size) text) next
 unfolding written_for
 goes rules text at byte rest written next size here step some =
-    let after : Option Stepped → Option Written = λ o. elim o [ | None ↦ None | Some it ↦ written_for rules (it.size - 1) rest it.written ] in
+    let after : Option Stepped → Option Written = λ o. elim o [ None ↦ None | Some it ↦ written_for rules (it.size - 1) rest it.written ] in
     ap (λ t. written_for rules 0 t written) here ∙ ap after step ∙ skip rules (size - 1) rest next
     ∙ ap (λ t. written_for rules 0 t next) (sym (dropped size byte rest some) ∙ ap (drop size) (sym here) ∙ drop-drop size at text)
 
@@ -29,7 +29,7 @@ pub stops : (rules : Rules) (text : List ℕ) (at byte : ℕ) (rest : List ℕ) 
     → drop at text ≡ byte ∷ rest → stepped rules byte rest written ≡ None → written_for rules 0 (drop at text) written ≡ None
 unfolding written_for
 stops rules text at byte rest written here step =
-    let after : Option Stepped → Option Written = λ o. elim o [ | None ↦ None | Some it ↦ written_for rules (it.size - 1) rest it.written ] in
+    let after : Option Stepped → Option Written = λ o. elim o [ None ↦ None | Some it ↦ written_for rules (it.size - 1) rest it.written ] in
     ap (λ t. written_for rules 0 t written) here ∙ ap after step
 
 -- what isn't copied, some bytes further

@@ -13,7 +13,8 @@ ghost use Rattle.short_names.specs.declared.table.TheConstants.{TEMPLATES, ALIAS
 use crate::patterns::text_at;
 use crate::runs::{is_letter, is_name_byte};
 use crate::table::{
-    ALIASES, Alias, FIRST, LONGEST, MARKS, PARTS, Place, STD, TEMPLATES, Template, USUAL_FIRSTS, WHOLES,
+    ALIASES, Alias, FIRST, LONGEST, MARKS, PARTS, Place, STD, TEMPLATES, Template, USUAL_FIRSTS,
+    WHOLES,
 };
 
 /// A name of the table: its `std::`, with the inline namespace that holds all of `std` if there is one, and its template.
@@ -265,7 +266,8 @@ fn is_member(alias: Alias, name: &[u8], text: &[u8]) -> bool
         && is_constructor (drop (length (text_of alias.name)) text.now) (last_part (text_of alias.template))) }
 {
     let usual = text_at(alias.name);
-    begins_with(name, usual) && is_constructor(&text[usual.len()..], last_part(text_at(alias.template)))
+    begins_with(name, usual)
+        && is_constructor(&text[usual.len()..], last_part(text_at(alias.template)))
 }
 
 /// The row of the usual name of which that is so.

@@ -3,7 +3,6 @@ ghost use Rattle.std.specs.Prelude.{◌≡◌, ◌≤◌, ◌<◌, ◌++◌, ◌
 ghost use Rattle.short_names.specs.Short.{shortened, taken};
 
 use crate::inlines::append_without;
-
 use crate::writing::Writing;
 use std::alloc::{AllocError, Global};
 

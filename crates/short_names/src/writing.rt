@@ -273,7 +273,13 @@ impl Writing {
         self.copy(text)?;
         let named = Named::of_row(listed.whole, listed.row);
         let rest = &text[self.at + 1..];
-        let size = close(&mut self.out, named, list.place, &self.starts[list.first..], rest)?;
+        let size = close(
+            &mut self.out,
+            named,
+            list.place,
+            &self.starts[list.first..],
+            rest,
+        )?;
         self.at += 1 + size;
         self.copied = self.at;
         Ok(())

@@ -18,9 +18,9 @@ runs-preserved-then-are_some c =
       copied = omega arith;
       within = omega (arith, room);
       so_far =
-        ap (λ o. o ++ (piece text next next ++ from_on text next))
-        (c.in_ok-extend_from_slice-2.ensures.items ∙ ap (λ o. o ++ piece text (run + 5 + it.front) (run + 5 + it.front + it.inner)) c.in_ok-extend_from_slice.ensures.items)
-        ∙ some-left-out text run it.front it.inner it.nested found.1 (c.of-inlines.ensures.front ∙ ap front rest) (c.of-inlines.ensures.inner ∙ ap inner rest) (c.of-inlines.ensures.nested ∙ ap nested rest)
+          ap (λ o. o ++ (piece text next next ++ from_on text next))
+          (c.in_ok-extend_from_slice-2.ensures.items ∙ ap (λ o. o ++ piece text (run + 5 + it.front) (run + 5 + it.front + it.inner)) c.in_ok-extend_from_slice.ensures.items)
+          ∙ some-left-out text run it.front it.inner it.nested found.1 (c.of-inlines.ensures.front ∙ ap front rest) (c.of-inlines.ensures.inner ∙ ap inner rest) (c.of-inlines.ensures.nested ∙ ap nested rest)
           room c.runs.copied c.runs.at c.runs.invariant.copied found.0 found.2 c.runs.out.items _ c.runs.invariant.so_far;
     }
 
@@ -37,7 +37,7 @@ runs-preserved c =
       copied = omega (arith, c.runs.invariant.copied, found.0);
       within = omega (arith, room);
       so_far =
-        none-left-out text run it.front it.inner it.nested found.1 (c.of-inlines.ensures.front ∙ ap front rest) (c.of-inlines.ensures.inner ∙ ap inner rest) (c.of-inlines.ensures.nested ∙ ap nested rest)
+          none-left-out text run it.front it.inner it.nested found.1 (c.of-inlines.ensures.front ∙ ap front rest) (c.of-inlines.ensures.inner ∙ ap inner rest) (c.of-inlines.ensures.nested ∙ ap nested rest)
           room c.runs.copied c.runs.at c.runs.invariant.copied found.0 found.2 nothing c.runs.out.items _ c.runs.invariant.so_far;
     }
 
@@ -47,5 +47,5 @@ returns c =
     let copied = c.runs.copied in
     let rest = rest-all text copied in
     let all : c.runs.out.items ++ drop copied text ≡ c.args.out.now.items ++ without_inlines false 0 text =
-        all-copied text copied c.runs.at c.runs.invariant.copied c.runs.invariant.within (λ k h. c.in_default.ensures k h) c.runs.out.items _ c.runs.invariant.so_far in
+    all-copied text copied c.runs.at c.runs.invariant.copied c.runs.invariant.within (λ k h. c.in_default.ensures k h) c.runs.out.items _ c.runs.invariant.so_far in
     c.in_ok-extend_from_slice-3.ensures.items ∙ ap (λ t. c.runs.out.items ++ t) rest ∙ all

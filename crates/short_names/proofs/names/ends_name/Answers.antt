@@ -20,5 +20,5 @@ returns-else-not-is_name_byte c =
     let rest = c.args.rest.now in
     ap not c.if-not-is_name_byte.false
     ∙ sym
-      (ends-byte rest (omega arith) (sym c.starts_with.ensures.value ∙ c.if-starts_with.false)
-      ∙ ap (λ v. not (v || get_or rest 0 0 == 60)) (sym c.is_name_byte.ensures ∙ c.if-not-is_name_byte.false))
+    (ends-byte rest (omega arith) (sym c.starts_with.ensures.value ∙ c.if-starts_with.false)
+    ∙ ap (λ v. not (v || get_or rest 0 0 == 60)) (sym c.is_name_byte.ensures ∙ c.if-not-is_name_byte.false))

@@ -20,4 +20,4 @@ returns-in-Some c =
     let run = c.args.run.now in
     std-found run c.in-Some.whole c.in-Some.ensures
     ∙ ap (λ n. Some (record { whole = c.in-Some.whole; name = n }))
-      (sym (c.behind_part-name.ensures ∙ ap behind_part (rest-all run (length c.text_at-size.result.now)) ∙ ap (λ t. behind_part (drop (length t) run)) c.text_at-size.ensures))
+    (sym (c.behind_part-name.ensures ∙ ap behind_part (rest-all run (length c.text_at-size.result.now)) ∙ ap (λ t. behind_part (drop (length t) run)) c.text_at-size.ensures))

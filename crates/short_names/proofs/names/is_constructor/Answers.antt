@@ -25,7 +25,7 @@ returns c =
     ap not c.has_letter.ensures
     ∙ ap (λ n. not (is_letter (get_or text (n + length c.args.class.now) 0))) c.front_size-size.ensures.size
     ∙ sym (with-class text c.args.class.now (sym c.starts_with.ensures.value ∙ c.if-not-starts_with.false)
-      (ap (λ t. starts_with nat_eq t c.args.class.now) (sym rest) ∙ sym c.begins_with.ensures ∙ c.if-not-begins_with.false))
+    (ap (λ t. starts_with nat_eq t c.args.class.now) (sym rest) ∙ sym c.begins_with.ensures ∙ c.if-not-begins_with.false))
 
 pub slice_bounds-member-count : goal.slice_bounds-member-count
 slice_bounds-member-count c = c.front_size-size.ensures.within (sym c.starts_with.ensures.value ∙ c.if-not-starts_with.false)

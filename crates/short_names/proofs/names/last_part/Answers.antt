@@ -16,8 +16,8 @@ bytes-preserved c =
     record {
       within = omega (arith, c.bytes.invariant.within);
       all =
-        one-more-passes is_no_colon name (c.bytes.start - 1) (omega (arith, c.bytes-test.true, c.bytes.invariant.within))
-        (ap not (ne_eqb _ _ c.if-byte-eq58.false)) (ap (λ k. list_all is_no_colon (drop k name)) on ∙ c.bytes.invariant.all);
+          one-more-passes is_no_colon name (c.bytes.start - 1) (omega (arith, c.bytes-test.true, c.bytes.invariant.within))
+          (ap not (ne_eqb _ _ c.if-byte-eq58.false)) (ap (λ k. list_all is_no_colon (drop k name)) on ∙ c.bytes.invariant.all);
     }
 
 pub returns-then-byte-eq58 : goal.returns-then-byte-eq58
@@ -26,9 +26,9 @@ returns-then-byte-eq58 c =
     let on : suc (c.bytes.start - 1) ≡ c.bytes.start = omega (arith, c.bytes-test.true) in
     rest-all name c.bytes.start
     ∙ sym
-      (end-behind is_no_colon name (c.bytes.start - 1) (omega (arith, c.bytes-test.true, c.bytes.invariant.within)) (ap not (eq-eqb _ _ c.if-byte-eq58.true))
-        (ap (λ k. list_all is_no_colon (drop k name)) on ∙ c.bytes.invariant.all)
-      ∙ ap (λ k. drop k name) on)
+    (end-behind is_no_colon name (c.bytes.start - 1) (omega (arith, c.bytes-test.true, c.bytes.invariant.within)) (ap not (eq-eqb _ _ c.if-byte-eq58.true))
+    (ap (λ k. list_all is_no_colon (drop k name)) on ∙ c.bytes.invariant.all)
+    ∙ ap (λ k. drop k name) on)
 
 pub returns : goal.returns
 returns c =

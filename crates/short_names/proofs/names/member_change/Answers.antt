@@ -26,22 +26,25 @@ member_row-requires c =
 
 pub returns-in-None : goal.returns-in-None
 returns-in-None c =
-    let from = length c.args.run.now - length c.args.name.now in
-    (c.requires.no_list,
-    no-member-change c.args.run.now c.requires.std.0 c.args.name.now c.requires.std.1 c.args.text.now c.requires.run
-    (ap (member_in ALIASES c.args.name.now) (sym (rest-all c.args.text.now from)) ∙ c.in-None.ensures))
+    let from = length c.args.run.now - length c.args.name.now in (
+      c.requires.no_list,
+      no-member-change c.args.run.now c.requires.std.0 c.args.name.now c.requires.std.1 c.args.text.now c.requires.run
+          (ap (member_in ALIASES c.args.name.now) (sym (rest-all c.args.text.now from)) ∙ c.in-None.ensures),
+    )
 
 pub overflow_add-size : goal.overflow_add-size
 overflow_add-size c =
     let from = length c.args.run.now - length c.args.name.now in
     let bound : from + length c.text_at.result.now ≤ length c.args.run.now =
-        member-within c.args.run.now c.requires.std.0 c.args.name.now c.requires.std.1 c.args.text.now c.requires.run c.in-Some.row _ none c.in-Some.ensures.0
-        (ap (member_in ALIASES c.args.name.now) (sym (rest-all c.args.text.now from)) ∙ c.in-Some.ensures.1) (ap (λ t. from + length t) c.text_at.ensures) in
+    member-within c.args.run.now c.requires.std.0 c.args.name.now c.requires.std.1 c.args.text.now c.requires.run c.in-Some.row _ none c.in-Some.ensures.0
+    (ap (member_in ALIASES c.args.name.now) (sym (rest-all c.args.text.now from)) ∙ c.in-Some.ensures.1) (ap (λ t. from + length t) c.text_at.ensures) in
     search (rules, bound)
 
 pub returns-in-Some : goal.returns-in-Some
 returns-in-Some c =
-    let from = length c.args.run.now - length c.args.name.now in
-    (c.requires.no_list, c.in-Some.ensures.0,
-    member-change c.args.run.now c.requires.std.0 c.args.name.now c.requires.std.1 c.args.text.now c.requires.run c.in-Some.row _ none c.in-Some.ensures.0
-    (ap (member_in ALIASES c.args.name.now) (sym (rest-all c.args.text.now from)) ∙ c.in-Some.ensures.1) (ap (λ t. from + length t) c.text_at.ensures))
+    let from = length c.args.run.now - length c.args.name.now in (
+      c.requires.no_list,
+      c.in-Some.ensures.0,
+      member-change c.args.run.now c.requires.std.0 c.args.name.now c.requires.std.1 c.args.text.now c.requires.run c.in-Some.row _ none c.in-Some.ensures.0
+          (ap (member_in ALIASES c.args.name.now) (sym (rest-all c.args.text.now from)) ∙ c.in-Some.ensures.1) (ap (λ t. from + length t) c.text_at.ensures),
+    )

@@ -17,9 +17,10 @@ rows-preserved c = record {
 }
 
 pub returns-then-is_member : goal.returns-then-is_member
-returns-then-is_member c =
-    (c.rows-test.true,
-    c.rows.invariant.same ∙ member-here c.args.name.now c.args.text.now c.rows.row none c.rows-test.true (sym c.is_member.ensures ∙ c.if-is_member.true))
+returns-then-is_member c = (
+  c.rows-test.true,
+  c.rows.invariant.same ∙ member-here c.args.name.now c.args.text.now c.rows.row none c.rows-test.true (sym c.is_member.ensures ∙ c.if-is_member.true),
+)
 
 pub returns : goal.returns
 returns c = c.rows.invariant.same ∙ member-end ALIASES c.args.name.now c.args.text.now c.rows.row c.rows-test.false

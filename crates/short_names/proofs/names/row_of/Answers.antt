@@ -22,17 +22,18 @@ rows-preserved c =
     let within : c.rows.row < 67 = omega (arith, c.rows-test.true, c.min-end.ensures) in
     record {
       same =
-        c.rows.invariant.same
-        ∙ row-past TEMPLATES c.args.name.now c.rows.row none within
+          c.rows.invariant.same
+          ∙ row-past TEMPLATES c.args.name.now c.rows.row none within
           (named-here c.args.name.now c.rows.row none within c.has_name.result c.has_name.ensures ∙ c.if-has_name.false);
     }
 
 pub returns-then-has_name : goal.returns-then-has_name
 returns-then-has_name c =
-    let within : c.rows.row < 67 = omega (arith, c.rows-test.true, c.min-end.ensures) in
-    (within,
-    c.rows.invariant.same
-    ∙ found-here c.args.name.now c.rows.row none within (named-here c.args.name.now c.rows.row none within c.has_name.result c.has_name.ensures ∙ c.if-has_name.true))
+    let within : c.rows.row < 67 = omega (arith, c.rows-test.true, c.min-end.ensures) in (
+      within,
+      c.rows.invariant.same
+          ∙ found-here c.args.name.now c.rows.row none within (named-here c.args.name.now c.rows.row none within c.has_name.result c.has_name.ensures ∙ c.if-has_name.true),
+    )
 
 pub returns : goal.returns
 returns c = c.rows.invariant.same ∙ none-behind c.args.name.now c.rows.row (omega (arith, c.rows-test.false, c.min-end.ensures))

@@ -28,6 +28,8 @@ returns-in-None c = c.member_change.ensures
 pub returns-in-Some : goal.returns-in-Some
 returns-in-Some c =
     let text = c.args.text.now in
-    let run = c.args.run.now in
-    (ap (λ t. starts_with nat_eq t (codes "<")) (sym (rest-all text (length run))) ∙ c.in-Some.ensures.0, c.in-Some.ensures.1,
-    named-is run c.args.std.whole c.args.std.name.now c.requires.std ∙ ap (with_template c.args.std.whole) c.in-Some.ensures.2)
+    let run = c.args.run.now in (
+      ap (λ t. starts_with nat_eq t (codes "<")) (sym (rest-all text (length run))) ∙ c.in-Some.ensures.0,
+      c.in-Some.ensures.1,
+      named-is run c.args.std.whole c.args.std.name.now c.requires.std ∙ ap (with_template c.args.std.whole) c.in-Some.ensures.2,
+    )

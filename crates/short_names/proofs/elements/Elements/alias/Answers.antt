@@ -20,23 +20,23 @@ returns-then-is_filled c =
     let below : c.rows.k < named.template.end_alias = omega (arith, c.rows-test.true, c.min-end.ensures) in
     let within : c.rows.k < 47 = omega (arith, c.rows-test.true, c.min-end.ensures) in
     let is =
-        ap₂ (pointwise nat_eq) (sym (c.front-text.ensures elements e))
-          (sym (ap (filled holes.first.now holes.second.now holes.whole.now) c.text_at.ensures ∙ filled-same named elements holes h _))
-        ∙ sym c.is_filled.ensures ∙ c.if-is_filled.true in
+    ap₂ (pointwise nat_eq) (sym (c.front-text.ensures elements e))
+    (sym (ap (filled holes.first.now holes.second.now holes.whole.now) c.text_at.ensures ∙ filled-same named elements holes h _))
+    ∙ sym c.is_filled.ensures ∙ c.if-is_filled.true in
     sym (c.rows.invariant.same elements e h ∙ usual-found named elements c.args.count named.template.end_alias c.rows.k none below within is)
 
 pub rows-preserved : goal.rows-preserved
 rows-preserved c = record {
   same = λ elements e h.
-    let named = c.args.named in
-    let holes = c.args.holes in
-    let below : c.rows.k < named.template.end_alias = omega (arith, c.rows-test.true, c.min-end.ensures) in
-    let within : c.rows.k < 47 = omega (arith, c.rows-test.true, c.min-end.ensures) in
-    let other =
-        ap₂ (pointwise nat_eq) (sym (c.front-text.ensures elements e))
-          (sym (ap (filled holes.first.now holes.second.now holes.whole.now) c.text_at.ensures ∙ filled-same named elements holes h _))
-        ∙ sym c.is_filled.ensures ∙ c.if-is_filled.false in
-    c.rows.invariant.same elements e h ∙ usual-past named elements c.args.count named.template.end_alias c.rows.k none below within other;
+      let named = c.args.named in
+      let holes = c.args.holes in
+      let below : c.rows.k < named.template.end_alias = omega (arith, c.rows-test.true, c.min-end.ensures) in
+      let within : c.rows.k < 47 = omega (arith, c.rows-test.true, c.min-end.ensures) in
+      let other =
+      ap₂ (pointwise nat_eq) (sym (c.front-text.ensures elements e))
+      (sym (ap (filled holes.first.now holes.second.now holes.whole.now) c.text_at.ensures ∙ filled-same named elements holes h _))
+      ∙ sym c.is_filled.ensures ∙ c.if-is_filled.false in
+      c.rows.invariant.same elements e h ∙ usual-past named elements c.args.count named.template.end_alias c.rows.k none below within other;
 }
 
 pub returns : goal.returns
