@@ -51,13 +51,13 @@ module _ (n : ℕ) (text : List ℕ) (at : ℕ) (room : at + 3 + n ≤ length te
   lane : (k : ℕ) → k < n → get_or (map (top 7) (zip2 h a b)) k false ≡ top 7 (h (f (get_or text (at + 2 + k) 0)) (g (get_or text (at + 3 + k) 0)))
   lane k within =
       let one : get_or a k 0 ≡ f (get_or text (at + 2 + k) 0) =
-          ap (λ l. get_or l k 0) thirds
-          ∙ get_or-map f (chunk (at + 2) n text) k 0 0 (omega (arith, within, length-chunk (at + 2) n text (omega (arith, room))))
-          ∙ ap f (get_or-chunk (at + 2) n text k 0 within) in
+      ap (λ l. get_or l k 0) thirds
+      ∙ get_or-map f (chunk (at + 2) n text) k 0 0 (omega (arith, within, length-chunk (at + 2) n text (omega (arith, room))))
+      ∙ ap f (get_or-chunk (at + 2) n text k 0 within) in
       let two : get_or b k 0 ≡ g (get_or text (at + 3 + k) 0) =
-          ap (λ l. get_or l k 0) fourths
-          ∙ get_or-map g (chunk (at + 3) n text) k 0 0 (omega (arith, within, length-chunk (at + 3) n text (omega (arith, room))))
-          ∙ ap g (get_or-chunk (at + 3) n text k 0 within) in
+      ap (λ l. get_or l k 0) fourths
+      ∙ get_or-map g (chunk (at + 3) n text) k 0 0 (omega (arith, within, length-chunk (at + 3) n text (omega (arith, room))))
+      ∙ ap g (get_or-chunk (at + 3) n text k 0 within) in
       get_or-map (top 7) (zip2 h a b) k 0 false (omega (arith, within, long-a, length-zip2 h a b (long-a ∙ sym long-b)))
       ∙ ap (top 7) (get_or-zip2 h a b k 0 0 0 (omega (arith, within, long-a)) (omega (arith, within, long-b)) ∙ ap₂ h one two)
 
@@ -71,8 +71,8 @@ module _ (n : ℕ) (text : List ℕ) (at : ℕ) (room : at + 3 + n ≤ length te
       let fourth : get_or text (at + 3 + k) 0 ≡ 58 = ap (λ j. get_or text j 0) (omega arith) ∙ std-byte k 3 (omega arith) is in
       let set : get_or (map (top 7) (zip2 h a b)) k false ≡ true = lane k within ∙ ap₂ (λ x y. top 7 (h (f x) (g y))) third fourth ∙ sets in
       let one : bit_at (mask_l (map (top 7) (zip2 h a b)) % 2 ^ 64) k ≡ 1 =
-          ap (λ m. bit_at m k) (mask_l-mod (map (top 7) (zip2 h a b)) 64 (omega (arith, long, few)))
-          ∙ bit_mask_l (map (top 7) (zip2 h a b)) k ∙ ap (λ t. cond t 1 0) set in
+      ap (λ m. bit_at m k) (mask_l-mod (map (top 7) (zip2 h a b)) 64 (omega (arith, long, few)))
+      ∙ bit_mask_l (map (top 7) (zip2 h a b)) k ∙ ap (λ t. cond t 1 0) set in
       absurd (omega (arith, clear, one)))
 
   pub few-set : mask_l (map (top 7) (zip2 h a b)) % 2 ^ 64 < 2 ^ n

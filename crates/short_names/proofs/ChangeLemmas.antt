@@ -1,5 +1,5 @@
 -- What becomes shorter at a run that is a name of std.
-use Rattle.std.proofs.Common.{◌≡◌, ◌<◌, ◌≤◌, ◌+◌, ◌-◌, ℕ, Bool, true, false, List, [], ◌∷◌, ◌++◌, ◌&&◌, length, take, drop, get_or, nat_eq, codes, slice_get, is_some, refl, sym, ap, ◌∙◌, subst, arith, Option, None, Some, drop-drop, length-drop, length-append}
+use Rattle.std.proofs.Common.{◌≡◌, ◌<◌, ◌≤◌, ◌+◌, ◌-◌, ℕ, Bool, true, false, List, [], ◌∷◌, ◌++◌, ◌&&◌, length, take, drop, get_or, nat_eq, codes, slice_get, is_some, refl, sym, ap, ◌∙◌, subst, arith, Option, None, Some, MatchOption, drop-drop, length-drop, length-append}
 use Rattle.std.specs.List.{starts_with}
 use Rattle.std.proofs.lemmas.Bool.{and_right}
 use Rattle.std.proofs.lemmas.List.{drop-append-le}
@@ -26,6 +26,14 @@ module _ (run rest : List ℕ) (none : std_name run ≡ None) where
 
   pub no-name-change : for_name run rest (std_name run) ≡ None
   no-name-change = ap (for_name run rest) none
+
+-- ## A row, where a list follows
+
+pub row-or-none : (name : List ℕ) (b : Bool) → b ≡ true → (o : Option ℕ)
+    → MatchOption o (template_in TEMPLATES name ≡ None) (λ row. (row < length TEMPLATES) × (template_in TEMPLATES name ≡ slice_get TEMPLATES row))
+    → MatchOption o ((b && is_some (template_in TEMPLATES name)) ≡ false) (λ row. (b ≡ true) × (row < length TEMPLATES) × (template_in TEMPLATES name ≡ slice_get TEMPLATES row))
+row-or-none name b is None m = and_right b (is_some (template_in TEMPLATES name)) (ap is_some m)
+row-or-none name b is (Some row) m = (is, m.0, m.1)
 
 -- ## The names of the table that one is
 
@@ -82,14 +90,21 @@ module _ (run : List ℕ) (whole : Place) (name : List ℕ) (std : std_name run 
         let got : slice_get ALIASES row ≡ Some alias = slice_get-get_or ALIASES row d within in
         let is = member-is ALIASES name (drop from text) alias (found ∙ got) in
         let there : drop (length (text_of alias.name)) (drop from text) ≡ drop size (run ++ rest) =
-            drop-drop (length (text_of alias.name)) from text ∙ ap (λ k. drop k text) (sym size-is) ∙ ap (drop size) text-is in
+        drop-drop (length (text_of alias.name)) from text ∙ ap (λ k. drop k text) (sym size-is) ∙ ap (drop size) text-is in
         subst (IsMemberOf run rest size) (sym got) (record {
           within = omega (arith, size-is, ends.1, front-length name (text_of alias.name) is.0);
           constructs = ap (λ t. is_constructor t (last_part (text_of alias.template))) (sym there) ∙ is.1;
           answer =
-            by-member (Some alias) (found ∙ got)
-            ∙ ap (λ k. Some (record {
-              bytes = take k run ++ (constructor alias (drop k (run ++ rest))).bytes;
-              size = k + (constructor alias (drop k (run ++ rest))).size;
-            })) (sym size-is);
+              by-member (Some alias) (found ∙ got)
+              ∙ ap (λ k. Some (record {
+                bytes = take k run ++ (constructor alias (drop k (run ++ rest))).bytes;
+                size = k + (constructor alias (drop k (run ++ rest))).size;
+              })) (sym size-is);
         })
+
+    pub member-within : (row size : ℕ) (d : Alias) → row < length ALIASES → member_in ALIASES name (drop from text) ≡ slice_get ALIASES row
+        → size ≡ from + length (text_of (get_or ALIASES row d).name) → size ≤ length run
+    member-within row size d within found size-is =
+        let alias = get_or ALIASES row d in
+        let is = member-is ALIASES name (drop from text) alias (found ∙ slice_get-get_or ALIASES row d within) in
+        omega (arith, size-is, ends.1, front-length name (text_of alias.name) is.0)

@@ -57,9 +57,17 @@ lead-next k [] within = absurd (omega (arith, within))
 lead-next zero (first ∷ elements) within =
     omega (arith, length-append (first ++ codes ", ") [], length-append first (codes ", "), ap length (take-more zero (first ∷ elements) within))
 lead-next (suc k) (first ∷ elements) within =
-    omega (arith, lead-next k elements (omega (arith, within)), ap length (take-more k elements (omega (arith, within))), ap length (take-more (suc k) (first ∷ elements) within),
-    length-append (first ++ codes ", ") (lead (suc k) elements), length-append (first ++ codes ", ") (lead k elements), length-append first (codes ", "),
-    length-append (lead k elements) (get_or elements k []), length-append (lead (suc k) (first ∷ elements)) (get_or elements k []))
+    omega (
+      arith,
+      lead-next k elements (omega (arith, within)),
+      ap length (take-more k elements (omega (arith, within))),
+      ap length (take-more (suc k) (first ∷ elements) within),
+      length-append (first ++ codes ", ") (lead (suc k) elements),
+      length-append (first ++ codes ", ") (lead k elements),
+      length-append first (codes ", "),
+      length-append (lead k elements) (get_or elements k []),
+      length-append (lead (suc k) (first ∷ elements)) (get_or elements k []),
+    )
 
 -- the elements from one on
 from-one : (k : ℕ) (elements : List (List ℕ)) → k < length elements → joined elements ≡ lead k elements ++ (get_or elements k [] ++ tail (drop (k + 1) elements))
@@ -151,3 +159,6 @@ module _ (text starts : List ℕ) (elements : List (List ℕ)) (e : AreElements 
       ap (λ n. take n (drop (get_or starts 0 0) text)) long
       ∙ ap (take (length (joined (take count elements)))) (ap (λ t. drop (get_or starts 0 0) t) e.text_is ∙ drop_at e.before (joined elements) (get_or starts 0 0) (sym start-zero))
       ∙ front-of-joined count elements
+
+  pub first-bounds : (count : ℕ) → (get_or starts 0 0 ≤ length e.before + length (joined (take count elements))) × (length e.before + length (joined (take count elements)) ≤ length text)
+  first-bounds count = (omega (arith, start-zero), omega (arith, text-length, first-end count))

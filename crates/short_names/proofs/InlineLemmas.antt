@@ -43,8 +43,8 @@ pub size-other : (rows : List Place) (name : List ℕ) → list_all begins_low r
 size-other rows name low other =
     size-none rows name (ap size_of (none-in (λ t. not (length t == 0) && get_or t 0 0 == 95) name
     (λ t is.
-        let parts = and_parts (not (length t == 0)) (get_or t 0 0 == 95) is in
-        differs name t 0 (some t parts.0) (λ same. other (same ∙ eqb-true (get_or t 0 0) 95 parts.1)))
+    let parts = and_parts (not (length t == 0)) (get_or t 0 0 == 95) is in
+    differs name t 0 (some t parts.0) (λ same. other (same ∙ eqb-true (get_or t 0 0) 95 parts.1)))
     rows low))
   where
     some : (t : List ℕ) → not (length t == 0) ≡ true → 0 < length t
@@ -213,7 +213,7 @@ module _ (text : List ℕ) (run front inner nested : ℕ) (is : is_std_at text r
     -- what is written where there are some, and nothing is copied behind them
     pub some-left-out : (out first : List ℕ) → out ++ (piece text copied at ++ from_on text at) ≡ first
         → out ++ piece text copied (run + 5) ++ piece text (run + 5 + front) (run + 5 + front + inner)
-          ++ (piece text (run + 5 + front + inner + nested) (run + 5 + front + inner + nested) ++ from_on text (run + 5 + front + inner + nested)) ≡ first
+        ++ (piece text (run + 5 + front + inner + nested) (run + 5 + front + inner + nested) ++ from_on text (run + 5 + front + inner + nested)) ≡ first
     some-left-out out first so_far =
         let next = run + 5 + front + inner + nested in
         let empty : next - next ≡ 0 = omega arith in
@@ -245,10 +245,10 @@ all-copied text copied at low high none out first so_far =
     let n = length text in
     let on : at + (n - at) ≡ n = omega (arith, high) in
     let rest : from_on text at ≡ piece text at n =
-        keeps text (n - at) at (omega (arith, high)) (λ k a b. none k a)
-        ∙ ap (λ k. piece text at n ++ from_on text k) on
-        ∙ ap (λ t. piece text at n ++ without_inlines (in_run text n) 0 t) (drop_all n text (omega arith))
-        ∙ append-nil (piece text at n) in
+    keeps text (n - at) at (omega (arith, high)) (λ k a b. none k a)
+    ∙ ap (λ k. piece text at n ++ from_on text k) on
+    ∙ ap (λ t. piece text at n ++ without_inlines (in_run text n) 0 t) (drop_all n text (omega arith))
+    ∙ append-nil (piece text at n) in
     ap (λ t. out ++ t) (sym (take_all (n - copied) (drop copied text) (omega (arith, length-drop copied text))) ∙ sym (piece-join text copied at n low high) ∙ ap (λ t. piece text copied at ++ t) (sym rest))
     ∙ so_far
 

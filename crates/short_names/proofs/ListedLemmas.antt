@@ -68,11 +68,11 @@ module _ (named : Named) (elements : List (List ℕ)) (place : ℕ) where
 
   pub no-row : length DEFAULTS ≤ named.template.first_default + place → is_default named elements place ≡ false
   no-row past = elim (lt-or-le place named.template.count) [
-      | inl within ↦ default-none
+    | inl within ↦ default-none
         (slice_get-take (drop named.template.first_default DEFAULTS) named.template.count place within
         ∙ slice_get-drop named.template.first_default DEFAULTS place ∙ slice_get-all DEFAULTS (named.template.first_default + place) past)
-      | inr behind ↦ no-place behind
-    ]
+    | inr behind ↦ no-place behind
+  ]
 
   pub default-at : place < named.template.count → (row : ℕ) → row ≡ named.template.first_default + place → row < length DEFAULTS → (d : Place)
       → is_given named elements (element elements place) (text_of (get_or DEFAULTS row d)) ≡ is_default named elements place
@@ -88,7 +88,7 @@ module _ (named : Named) (elements : List (List ℕ)) (count n : ℕ) (at : coun
 
   pub none-less : is_default named elements n ≡ false → left_of named elements count ≡ count
   unfolding left_of
-  none-less no = ap (left_of named elements) at ∙ rw no refl ∙ sym at
+  none-less other = ap (left_of named elements) at ∙ rw other refl ∙ sym at
 
 pub nothing-left : (named : Named) (elements : List (List ℕ)) (count : ℕ) → count ≡ 0 → left_of named elements count ≡ count
 unfolding left_of
@@ -128,7 +128,7 @@ module _ (named : Named) (elements : List (List ℕ)) (count end k : ℕ) where
 
   pub usual-none : end ≤ k → alias_in (rows_from k) named elements count ≡ None
   unfolding alias_in
-  usual-none past = let no : end - k ≡ 0 = omega (arith, past) in ap (λ n. alias_in (take n (drop k ALIASES)) named elements count) no
+  usual-none past = let nothing : end - k ≡ 0 = omega (arith, past) in ap (λ n. alias_in (take n (drop k ALIASES)) named elements count) nothing
 
   pub usual-end : length ALIASES ≤ k → alias_in (rows_from k) named elements count ≡ None
   unfolding alias_in

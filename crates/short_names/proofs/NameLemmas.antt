@@ -1,14 +1,14 @@
 -- Names of std, and the usual names that they begin with.
-use Rattle.std.proofs.Common.{◌≡◌, ◌<◌, ◌≤◌, ◌+◌, ◌-◌, ◌==◌, zero, suc, ℕ, Bool, true, false, true≢false, not, ◌&&◌, ◌||◌, List, [], ◌∷◌, ◌++◌, length, take, drop, get_or, nat_eq, nat_lt, refl, sym, ap, ◌∙◌, arith, add-zero, Option, None, Some, codes, inl, inr, eqb-true, eq-eqb, get_or-drop, drop-drop, length-drop, ltb-true, subst, slice_get, if◌then◌else◌}
+use Rattle.std.proofs.Common.{◌≡◌, ◌<◌, ◌≤◌, ◌+◌, ◌-◌, ◌==◌, zero, suc, ℕ, Bool, true, false, true≢false, not, ◌&&◌, ◌||◌, List, [], ◌∷◌, ◌++◌, length, take, drop, get_or, nat_eq, nat_lt, refl, sym, ap, ◌∙◌, arith, add-zero, Option, None, Some, codes, inl, inr, eqb-true, eq-eqb, get_or-drop, drop-drop, length-drop, length-append, ltb-true, subst, slice_get, if◌then◌else◌}
 use Rattle.std.specs.List.{starts_with, list_all, list_any}
-use Rattle.std.proofs.lemmas.Bool.{and_parts, not-true}
-use Rattle.std.proofs.lemmas.List.{at_drop_more, drop_all, get_or_append_left}
+use Rattle.std.proofs.lemmas.Bool.{and_parts, and_left, and_right, and_from}
+use Rattle.std.proofs.lemmas.List.{at_drop_more, drop_all, drop_more, get_or_past, get_or_append_left}
 use Rattle.std.proofs.lemmas.Option.{slice_get-get_or}
 use Rattle.short_names.specs.declared.table.Place.{Place}
 use Rattle.short_names.specs.declared.table.Alias.{Alias}
 use Rattle.short_names.specs.declared.table.TheConstants.{ALIASES, WHOLES, PARTS, STD, USUAL_FIRSTS}
-use Rattle.short_names.specs.Names.{StdName, std_name, behind_whole, behind_part, row_in, size_of, member_in, is_constructor, last_part}
-use Rattle.short_names.specs.Runs.{is_name_byte, begins_std, run_of}
+use Rattle.short_names.specs.Names.{StdName, std_name, behind_whole, behind_part, row_in, size_of, member_in, front_size, is_constructor, last_part, end_by, ends_name}
+use Rattle.short_names.specs.Runs.{is_letter, is_name_byte, begins_std, run_of}
 use Rattle.short_names.specs.Texts.{text_of}
 use Rattle.short_names.proofs.FrontLemmas.{false-from, front-length, front-byte, differs}
 use Rattle.short_names.proofs.RowLemmas.{none-in, row_in-append, row_in-here}
@@ -40,8 +40,8 @@ unfolding low_sixth
 no-whole run other =
     none-in low_sixth run
     (λ t is.
-        let parts = and_parts (nat_lt 5 (length t)) (get_or t 5 0 == 95) is in
-        differs run t 5 (ltb-true 5 (length t) parts.0) (λ same. other (same ∙ eqb-true (get_or t 5 0) 95 parts.1)))
+    let parts = and_parts (nat_lt 5 (length t)) (get_or t 5 0 == 95) is in
+    differs run t 5 (ltb-true 5 (length t) parts.0) (λ same. other (same ∙ eqb-true (get_or t 5 0) 95 parts.1)))
     (take 6 WHOLES) rows-low
 
 low_first : List ℕ → Bool
@@ -56,8 +56,8 @@ unfolding low_first
 no-part name other =
     none-in low_first name
     (λ t is.
-        let parts = and_parts (not (length t == 0)) (get_or t 0 0 == 95) is in
-        differs name t 0 (some-bytes t parts.0) (λ same. other (same ∙ eqb-true (get_or t 0 0) 95 parts.1)))
+    let parts = and_parts (not (length t == 0)) (get_or t 0 0 == 95) is in
+    differs name t 0 (some-bytes t parts.0) (λ same. other (same ∙ eqb-true (get_or t 0 0) 95 parts.1)))
     PARTS parts-low
 
 pub same-part : (name : List ℕ) → (get_or name 0 0 ≡ 95 → ⊥) → behind_part name ≡ name
@@ -68,7 +68,7 @@ unfolding std_name
 std-plain run is other =
     let here : starts_with nat_eq run (text_of STD) ≡ true = ap (starts_with nat_eq run) std-is ∙ is in
     let whole : row_in WHOLES run ≡ Some STD =
-        ap (λ rows. row_in rows run) wholes-are ∙ row_in-append (take 6 WHOLES) (STD ∷ []) run (no-whole run other) ∙ row_in-here STD [] run here in
+    ap (λ rows. row_in rows run) wholes-are ∙ row_in-append (take 6 WHOLES) (STD ∷ []) run (no-whole run other) ∙ row_in-here STD [] run here in
     let first : get_or (drop 5 run) 0 0 ≡ 95 → ⊥ = λ low. other (sym (get_or-drop 5 run 0 0) ∙ low) in
     let five : drop (length (text_of STD)) run ≡ drop 5 run = ap (λ t. drop (length t) run) std-is in
     ap (behind_whole run) whole
@@ -81,9 +81,9 @@ name_of (Some std) = std.name
 
 drop-end : (j : ℕ) (run : List ℕ) → drop (length run - length (drop j run)) run ≡ drop j run
 drop-end j run = elim (lt-or-le j (length run)) [
-    | inl within ↦ let on : length run - length (drop j run) ≡ j = omega (arith, within, length-drop j run) in ap (λ k. drop k run) on
-    | inr past ↦ drop_all (length run - length (drop j run)) run (omega (arith, past, length-drop j run)) ∙ sym (drop_all j run past)
-  ]
+  | inl within ↦ let on : length run - length (drop j run) ≡ j = omega (arith, within, length-drop j run) in ap (λ k. drop k run) on
+  | inr past ↦ drop_all (length run - length (drop j run)) run (omega (arith, past, length-drop j run)) ∙ sym (drop_all j run past)
+]
 
 -- a name of std is the end of its run
 pub std-end : (run : List ℕ) (std : StdName) → std_name run ≡ Some std → (drop (length run - length std.name) run ≡ std.name) × (length std.name ≤ length run)
@@ -118,7 +118,7 @@ members-none [] name text all other = refl
 members-none (row ∷ rows) name text all other =
     let parts = and_parts (usual_first (text_of row.name)) (list_all (λ row. usual_first (text_of row.name)) rows) all in
     let no : (starts_with nat_eq name (text_of row.name) && is_constructor (drop (length (text_of row.name)) text) (last_part (text_of row.template))) ≡ false =
-        both _ _ (other (text_of row.name) (last_part (text_of row.template)) parts.0) in
+    both _ _ (other (text_of row.name) (last_part (text_of row.template)) parts.0) in
     rw no (members-none rows name text parts.1 other)
 
 -- a name that begins as no usual name does
@@ -154,18 +154,18 @@ no-member : (name text t class : List ℕ) → name ≡ run_of text → list_any
 unfolding is_constructor
 no-member name text t class run none begins =
     let other : starts_with nat_eq (drop (length t) text) (codes "::") ≡ false = false-from (starts_with nat_eq (drop (length t) text) (codes "::")) (λ is.
-        let byte : get_or text (length t) 0 ≡ 58 =
-            ap (λ k. get_or text k 0) (sym (add-zero (length t))) ∙ sym (get_or-drop (length t) text 0 0) ∙ front-byte (drop (length t) text) (codes "::") 0 (omega arith) is in
-        elim (lt-or-le (length t) (length name)) [
-          | inl within ↦
-            let here : get_or name (length t) 0 ≡ 58 =
-                sym (get_or_append_left name (drop (length (run_of text)) text) 0 (length t) within)
-                ∙ ap (λ n. get_or (n ++ drop (length (run_of text)) text) (length t) 0) run ∙ ap (λ s. get_or s (length t) 0) (sym (run-prefix text)) ∙ byte in
-            absurd (true≢false (sym (any-at name (length t) within here) ∙ none))
-          | inr past ↦
-            let end : length t ≡ length (run_of text) = omega (arith, past, front-length name t begins, ap length run) in
-            absurd (true≢false (sym colon-is ∙ ap is_name_byte (sym byte) ∙ ap (λ k. is_name_byte (get_or text k 0)) end ∙ run-stops text))
-        ]) in
+    let byte : get_or text (length t) 0 ≡ 58 =
+    ap (λ k. get_or text k 0) (sym (add-zero (length t))) ∙ sym (get_or-drop (length t) text 0 0) ∙ front-byte (drop (length t) text) (codes "::") 0 is (omega arith) in
+    elim (lt-or-le (length t) (length name)) [
+      | inl within ↦
+          let here : get_or name (length t) 0 ≡ 58 =
+          sym (get_or_append_left name (drop (length (run_of text)) text) 0 (length t) within)
+          ∙ ap (λ n. get_or (n ++ drop (length (run_of text)) text) (length t) 0) run ∙ ap (λ s. get_or s (length t) 0) (sym (run-prefix text)) ∙ byte in
+          absurd (true≢false (sym (any-at name (length t) within here) ∙ none))
+      | inr past ↦
+          let end : length t ≡ length (run_of text) = omega (arith, past, front-length name t begins, ap length run) in
+          absurd (true≢false (sym colon-is ∙ ap is_name_byte (sym byte) ∙ ap (λ k. is_name_byte (get_or text k 0)) end ∙ run-stops text))
+    ]) in
     rw other refl
 
 pub no-colon : (name text : List ℕ) → name ≡ run_of text → list_any (λ y. nat_eq y 58) name ≡ false → member_in ALIASES name text ≡ None
@@ -208,3 +208,100 @@ member-is (row ∷ rows) name text alias found =
 module _ (name text : List ℕ) (row : ℕ) (d : Alias) (within : row < length ALIASES) where
   pub member-here : is_member ALIASES name text row d within ≡ true → member_in (drop row ALIASES) name text ≡ slice_get ALIASES row
   member-here is = member-found ALIASES name text row d within is ∙ sym (slice_get-get_or ALIASES row d within)
+
+pub member-end : (rows : List Alias) (name text : List ℕ) (k : ℕ) → length rows ≤ k → member_in (drop k rows) name text ≡ None
+unfolding member_in
+member-end rows name text k past = ap (λ rs. member_in rs name text) (drop_all k rows past)
+
+pub both-hold : (a b : Bool) → a ≡ true → b ≡ (a && b)
+both-hold true b is = refl
+both-hold false b is = absurd (true≢false (sym is))
+
+-- ## What `_` says
+
+pub no-low : (t : List ℕ) → starts_with nat_eq t (codes "_") ≡ false → get_or t 0 0 ≡ 95 → ⊥
+no-low [] h is = absurd (omega (arith, is))
+no-low (b ∷ t) h is = true≢false (sym (ap (λ x. x && true) (eq-eqb 95 b (sym is))) ∙ h)
+
+pub std-none : (run : List ℕ) → None ≡ row_in WHOLES run → std_name run ≡ None
+unfolding std_name
+std-none run none = ap (behind_whole run) (sym none)
+
+pub std-found : (run : List ℕ) (whole : Place) → Some whole ≡ row_in WHOLES run → std_name run ≡ Some (record { whole = whole; name = behind_part (drop (length (text_of whole)) run) })
+unfolding std_name
+std-found run whole found = ap (behind_whole run) (sym found)
+
+pub std-room : (run : List ℕ) → begins_std run ≡ true → 5 ≤ length run
+std-room run is = front-length run (codes "std::") is
+
+pub run-room : (text : List ℕ) → length (run_of text) ≤ length text
+run-room text = omega (arith, ap length (run-prefix text), length-append (run_of text) (drop (length (run_of text)) text))
+
+-- ## Constructors and destructors
+
+zero-is : is_letter 0 ≡ false
+unfolding is_letter
+zero-is = refl
+
+pub no-letter : (text : List ℕ) (at : ℕ) → length text ≤ at → false ≡ is_letter (get_or text at 0)
+no-letter text at past = sym (ap is_letter (get_or_past text at 0 past) ∙ zero-is)
+
+module _ (text class : List ℕ) where
+  pub no-colons : starts_with nat_eq text (codes "::") ≡ false → is_constructor text class ≡ false
+  unfolding is_constructor
+  no-colons h = rw h refl
+
+  pub no-class : starts_with nat_eq text (codes "::") ≡ true → starts_with nat_eq (drop (front_size text) text) class ≡ false → is_constructor text class ≡ false
+  unfolding is_constructor
+  no-class h k = rw (h, k) refl
+
+  pub with-class : starts_with nat_eq text (codes "::") ≡ true → starts_with nat_eq (drop (front_size text) text) class ≡ true
+      → is_constructor text class ≡ not (is_letter (get_or text (front_size text + length class) 0))
+  unfolding is_constructor
+  with-class h k = rw (h, k) refl
+
+  pub colons-from : is_constructor text class ≡ true → starts_with nat_eq text (codes "::") ≡ true
+  colons-from is = by (starts_with nat_eq text (codes "::")) refl
+    where
+      by : (b : Bool) → starts_with nat_eq text (codes "::") ≡ b → starts_with nat_eq text (codes "::") ≡ true
+      by true h = h
+      by false h = absurd (true≢false (sym is ∙ no-colons h))
+
+-- ## The last part of a name
+
+all-fails : (test : ℕ → Bool) (name : List ℕ) (k : ℕ) → k < length name → test (get_or name k 0) ≡ false → list_all test name ≡ false
+all-fails test [] k within fails = absurd (omega (arith, within))
+all-fails test (byte ∷ name) zero within fails = and_left (test byte) (list_all test name) fails
+all-fails test (byte ∷ name) (suc k) within fails = and_right (test byte) (list_all test name) (all-fails test name k (omega (arith, within)) fails)
+
+pub end-whole : (test : ℕ → Bool) (name : List ℕ) → list_all test name ≡ true → end_by test name ≡ name
+unfolding end_by
+end-whole test [] all = refl
+end-whole test (byte ∷ name) all = rw all refl
+
+pub end-behind : (test : ℕ → Bool) (name : List ℕ) (k : ℕ) → k < length name → test (get_or name k 0) ≡ false → list_all test (drop (suc k) name) ≡ true → end_by test name ≡ drop (suc k) name
+unfolding end_by
+end-behind test [] k within fails all = absurd (omega (arith, within))
+end-behind test (byte ∷ name) zero within fails all = rw (and_left (test byte) (list_all test name) fails) (end-whole test name all)
+end-behind test (byte ∷ name) (suc k) within fails all =
+    rw (and_right (test byte) (list_all test name) (all-fails test name k (omega (arith, within)) fails)) (end-behind test name k (omega (arith, within)) fails all)
+
+pub one-more-passes : (test : ℕ → Bool) (name : List ℕ) (k : ℕ) → k < length name → test (get_or name k 0) ≡ true → list_all test (drop (k + 1) name) ≡ true → list_all test (drop k name) ≡ true
+one-more-passes test name k within passes all = ap (list_all test) (drop_more name k 0 within) ∙ and_from (test (get_or name k 0)) (list_all test (drop (k + 1) name)) passes all
+
+-- ## Where a name ends
+
+pub ends-colons : (rest : List ℕ) → starts_with nat_eq rest (codes "::") ≡ true → true ≡ ends_name rest
+unfolding ends_name
+ends-colons [] h = refl
+ends-colons (byte ∷ rest) h = sym (rw h refl)
+
+pub ends-empty : (rest : List ℕ) → length rest < 1 → true ≡ ends_name rest
+unfolding ends_name
+ends-empty [] h = refl
+ends-empty (byte ∷ rest) h = absurd (omega (arith, h))
+
+pub ends-byte : (rest : List ℕ) → 0 < length rest → starts_with nat_eq rest (codes "::") ≡ false → ends_name rest ≡ not (is_name_byte (get_or rest 0 0) || get_or rest 0 0 == 60)
+unfolding ends_name
+ends-byte [] within h = absurd (omega (arith, within))
+ends-byte (byte ∷ rest) within h = rw h refl

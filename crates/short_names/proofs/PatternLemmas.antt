@@ -26,8 +26,8 @@ module _ (first second whole : List ℕ) where
         let front = filled first second whole (take at pattern) in
         let byte = bit first second whole (get_or pattern at 0) in
         let more : filled first second whole (take (at + 1) pattern) ≡ front ++ byte =
-            ap (filled first second whole) (take_more pattern at 0 within)
-            ∙ filled-append (take at pattern) (get_or pattern at 0 ∷ []) ∙ ap (λ t. front ++ t) (filled-one (get_or pattern at 0)) in
+        ap (filled first second whole) (take_more pattern at 0 within)
+        ∙ filled-append (take at pattern) (get_or pattern at 0 ∷ []) ∙ ap (λ t. front ++ t) (filled-one (get_or pattern at 0)) in
         so_far ∙ ap (λ t. front ++ t) here ∙ sym (append_assoc front byte others) ∙ ap (λ t. t ++ others) (sym more)
 
     -- the whole pattern, from a byte on
@@ -47,14 +47,15 @@ module _ (first second whole : List ℕ) where
 
     ends : length pattern ≤ at → (length rest ≡ 0 → pointwise nat_eq text (filled first second whole pattern) ≡ true) × ((length rest ≡ 0 → ⊥) → pointwise nat_eq text (filled first second whole pattern) ≡ false)
     ends past =
-        let all : text ≡ filled first second whole pattern ++ rest = so_far ∙ ap (λ p. filled first second whole p ++ rest) (take_all at pattern past) in
-        ((λ none. (bytes_eq-Decides text (filled first second whole pattern)).1 (all ∙ ap (λ t. filled first second whole pattern ++ t) (nil_from_length rest none) ∙ append-nil (filled first second whole pattern))),
-        λ some. false-from (pointwise nat_eq text (filled first second whole pattern)) (λ same.
-        some (omega (arith, ap length all, ap length ((bytes_eq-Decides text (filled first second whole pattern)).0 same), length-append (filled first second whole pattern) rest))))
+        let all : text ≡ filled first second whole pattern ++ rest = so_far ∙ ap (λ p. filled first second whole p ++ rest) (take_all at pattern past) in (
+          (λ none. (bytes_eq-Decides text (filled first second whole pattern)).1 (all ∙ ap (λ t. filled first second whole pattern ++ t) (nil_from_length rest none) ∙ append-nil (filled first second whole pattern))),
+          λ some. false-from (pointwise nat_eq text (filled first second whole pattern)) (λ same.
+              some (omega (arith, ap length all, ap length ((bytes_eq-Decides text (filled first second whole pattern)).0 same), length-append (filled first second whole pattern) rest))),
+        )
 
     -- behind the whole pattern
     pub filled-ends : length pattern ≤ at → (length rest == 0) ≡ pointwise nat_eq text (filled first second whole pattern)
     filled-ends past = elim (cases_eq (length rest) 0) [
-        | inl none ↦ eq-eqb (length rest) 0 none ∙ sym ((ends past).0 none)
-        | inr some ↦ ne_eqb (length rest) 0 some ∙ sym ((ends past).1 some)
-      ]
+      | inl none ↦ eq-eqb (length rest) 0 none ∙ sym ((ends past).0 none)
+      | inr some ↦ ne_eqb (length rest) 0 some ∙ sym ((ends past).1 some)
+    ]

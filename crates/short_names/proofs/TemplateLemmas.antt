@@ -76,9 +76,9 @@ none-past name k le =
 pub none-behind : (name : List ℕ) (k : ℕ) → min (get_or FIRST (length name + 1) 0) 67 ≤ k → template_in (drop k TEMPLATES) name ≡ None
 unfolding template_in
 none-behind name k le = elim (lt-or-le k (get_or FIRST (length name + 1) 0)) [
-    | inl within ↦ ap (λ rows. template_in rows name) (drop_all k TEMPLATES (omega (arith, le, within)))
-    | inr behind ↦ none-past name k behind
-  ]
+  | inl within ↦ ap (λ rows. template_in rows name) (drop_all k TEMPLATES (omega (arith, le, within)))
+  | inr behind ↦ none-past name k behind
+]
 
 -- no template's name has a size of 27 or more
 pub none-longer : (name : List ℕ) → 27 ≤ length name → template_in TEMPLATES name ≡ None

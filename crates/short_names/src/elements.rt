@@ -1,5 +1,4 @@
 // The elements of a list of a name of the table.
-#![tactic(none)]
 ghost use Rattle.std.specs.Prelude.{◌≡◌, ◌≤◌, ◌<◌, ◌+◌, ◌-◌, ◌==◌, ◌&&◌, not, nat_eq, ℕ, List, length, take};
 ghost use Rattle.std.specs.Cmp.Lexicographic.{pointwise};
 ghost use Rattle.short_names.specs.Elements.{AreHoles, element, joined, is_default, left_of, left, is_polymorphic, alias_in, aliases_of};
@@ -42,6 +41,14 @@ impl<'a> Elements<'a> {
             return &[];
         }
         &self.text[self.starts[place]..self.end(place + 1)]
+    }
+
+    /// The first ones, with what is between them.
+    fn front(self, count: usize) -> &'a [u8]
+        requires { (elements : List (List ℕ)) × AreElements self.text.now self.starts.now elements }
+        ensures { (elements : List (List ℕ)) → AreElements self.entry.text.now self.entry.starts.now elements → result.now ≡ joined (take count elements) }
+    {
+        &self.text[self.starts[0]..self.end(count)]
     }
 
     /// What fills the holes of a name's patterns.
@@ -121,7 +128,7 @@ impl<'a> Elements<'a> {
         ensures { (elements : List (List ℕ)) → AreElements self.entry.text.now self.entry.starts.now elements → AreHoles named elements holes.entry →
             result ≡ alias_in (aliases_of named) named elements count }
     {
-        let text = &self.text[self.starts[0]..self.end(count)];
+        let text = self.front(count);
         let mut k = named.template.first_alias as usize;
         let end = (named.template.end_alias as usize).min(ALIASES.len());
         'rows: while k < end {

@@ -1,5 +1,4 @@
 // Texts without the inline namespaces of `std`.
-#![tactic(none)]
 ghost use Rattle.std.specs.Prelude.{◌≡◌, ◌≤◌, ◌+◌, ◌++◌, ◌==◌, length, drop, true, false, None, not, OnOk, get_or};
 ghost use Rattle.std.specs.List.{list_all};
 ghost use Rattle.short_names.specs.Names.{row_in};
@@ -118,8 +117,8 @@ pub(crate) fn append_without(text: &[u8], out: &mut Vec<u8>) -> Result<(), Alloc
 {
     let mut copied = 0;
     let mut at = 0;
-    'runs: while let Some(run) = std_run(text, at) {
-        let name = run + 5;
+    'runs: while let Some(place) = std_run(text, at) {
+        let name = place + 5;
         let inlines = Inlines::of(&text[name..]);
         let from = name + inlines.front;
         at = from + inlines.inner + inlines.nested;

@@ -1,11 +1,10 @@
 // Names of the table.
-#![tactic(none)]
-ghost use Rattle.std.specs.Prelude.{◌≡◌, ◌≤◌, ◌<◌, ◌-◌, ◌++◌, ℕ, List, [], length, drop, take, nat_eq, true, false, slice_get, Some, None, is_some, codes, ◌&&◌, MatchOption, if◌then◌else◌};
+ghost use Rattle.std.specs.Prelude.{◌≡◌, ◌≤◌, ◌<◌, ◌-◌, ◌++◌, ℕ, List, [], length, drop, take, get_or, nat_eq, true, false, slice_get, Some, None, is_some, codes, ◌&&◌, MatchOption, if◌then◌else◌};
 ghost use Rattle.std.specs.List.{starts_with};
 ghost use Rattle.std.specs.Cmp.Lexicographic.{pointwise};
 ghost use Rattle.short_names.specs.Changes.{IsChange, has_list};
 ghost use Rattle.short_names.specs.Names.{row_in, size_of, mark_of, template_in, behind_part, with_template, std_name, last_part, front_size, is_constructor, ends_name, member_in};
-ghost use Rattle.short_names.specs.Runs.{begins_std, run_of};
+ghost use Rattle.short_names.specs.Runs.{is_letter, begins_std, run_of};
 ghost use Rattle.short_names.specs.Texts.{text_of};
 ghost use Rattle.short_names.specs.declared.table.Place.{Place as PlaceRow};
 ghost use Rattle.short_names.specs.declared.table.Template.{Template as TemplateRow};
@@ -14,7 +13,8 @@ ghost use Rattle.short_names.specs.declared.table.TheConstants.{TEMPLATES, ALIAS
 use crate::patterns::text_at;
 use crate::runs::{is_letter, is_name_byte};
 use crate::table::{
-    ALIASES, Alias, FIRST, LONGEST, MARKS, PARTS, Place, STD, TEMPLATES, Template, USUAL_FIRSTS, WHOLES,
+    ALIASES, Alias, FIRST, LONGEST, MARKS, PARTS, Place, STD, TEMPLATES, Template, USUAL_FIRSTS,
+    WHOLES,
 };
 
 /// A name of the table: its `std::`, with the inline namespace that holds all of `std` if there is one, and its template.
@@ -121,17 +121,10 @@ fn row_of(name: &[u8]) -> Option<usize>
 fn behind_part(name: &[u8]) -> &[u8]
     ensures { result.now ≡ behind_part name.now }
 {
-    if let Some(b'_') = name.first() {
-        return name.get(row_size(&PARTS, name)..).unwrap_or_default();
+    if name.starts_with(b"_") {
+        return &name[row_size(&PARTS, name)..];
     }
     name
-}
-
-/// What is left of a run after its `std::` and inline namespaces.
-fn behind_std(run: &[u8], whole: Place) -> &[u8]
-    ensures { result.now ≡ behind_part (drop (length (text_of whole)) run.now) }
-{
-    behind_part(run.get(text_at(whole).len()..).unwrap_or_default())
 }
 
 /// A name of `std`: its `std::`, with the inline namespace that holds all of `std` if there is one, and what comes after it, without the
@@ -147,11 +140,14 @@ struct StdName<'a> {
 fn inline_name(run: &[u8]) -> Option<StdName<'_>>
     ensures { MatchOption result (std_name run.now ≡ None) (λ it. std_name run.now ≡ Some (record { whole = it.whole; name = it.name.now })) }
 {
-    let whole = row_in(&WHOLES, run)?;
-    Some(StdName {
-        whole,
-        name: behind_std(run, whole),
-    })
+    match row_in(&WHOLES, run) {
+        None => None,
+        Some(whole) => {
+            let size = text_at(whole).len();
+            let name = behind_part(&run[size..]);
+            Some(StdName { whole, name })
+        }
+    }
 }
 
 /// The one that a run is that begins with `std::`.
@@ -160,54 +156,81 @@ fn std_name(run: &[u8]) -> Option<StdName<'_>>
     requires { begins_std run.now ≡ true }
     ensures { MatchOption result (std_name run.now ≡ None) (λ it. std_name run.now ≡ Some (record { whole = it.whole; name = it.name.now })) }
 {
-    if let Some(b'_') = run.get(5) {
+    let name = &run[5..];
+    if name.starts_with(b"_") {
         return inline_name(run);
     }
-    Some(StdName {
-        whole: STD,
-        name: &run[5..],
-    })
+    Some(StdName { whole: STD, name })
 }
 
 /// The last part of a name.
 pub(crate) fn last_part(name: &[u8]) -> &[u8]
     ensures { result.now ≡ last_part name.now }
 {
-    match name.iter().rposition(|byte| *byte == b':') {
-        Some(colon) => &name[colon + 1..],
-        None => name,
+    let mut start = name.len();
+    'bytes: while start > 0 {
+        let byte = name[start - 1];
+        if byte == b':' {
+            return &name[start..];
+        }
+        start -= 1;
     }
+    name
 }
 
-/// What comes before a constructor's or destructor's name in a text that begins with one of a class, `::` or `::~`; else nothing.
-pub(crate) fn before_constructor<'a>(text: &'a [u8], class: &[u8]) -> &'a [u8]
-    ensures { result.now ≡ if is_constructor text.now class.now then take (front_size text.now) text.now else [] }
+/// How long what comes before a member's name is, `::` or `::~`, in a text that begins with one of these.
+#[inline(always)]
+fn front_size(text: &[u8]) -> usize
+    ensures within { starts_with nat_eq text.now (codes "::") ≡ true → result ≤ length text.now }
+    ensures few { result ≤ 3 }
+    ensures size { result ≡ front_size text.now }
 {
-    let size = if text.starts_with(b"::~") { 3 } else { 2 };
-    if !text.starts_with(b"::") {
-        return &[];
-    }
-    match text[size..].strip_prefix(class) {
-        None => &[],
-        Some([next, ..]) if is_letter(*next) => &[],
-        Some(_) => &text[..size],
-    }
+    if text.starts_with(b"::~") { 3 } else { 2 }
+}
+
+/// Whether a byte of a name without `::` is at a place of a text.
+#[inline(always)]
+fn has_letter(text: &[u8], at: usize) -> bool
+    ensures { result ≡ is_letter (get_or text.now at 0) }
+{
+    at < text.len() && is_letter(text[at])
 }
 
 /// Whether a text begins with a constructor's or destructor's name of a class.
 pub(crate) fn is_constructor(text: &[u8], class: &[u8]) -> bool
     ensures { result ≡ is_constructor text.now class.now }
 {
-    !before_constructor(text, class).is_empty()
+    if !text.starts_with(b"::") {
+        return false;
+    }
+    let size = front_size(text);
+    let member = &text[size..];
+    if !begins_with(member, class) {
+        return false;
+    }
+    !has_letter(text, size + class.len())
+}
+
+/// What comes before a constructor's or destructor's name in a text that begins with one of a class, `::` or `::~`; else nothing.
+pub(crate) fn before_constructor<'a>(text: &'a [u8], class: &[u8]) -> &'a [u8]
+    ensures { result.now ≡ if is_constructor text.now class.now then take (front_size text.now) text.now else [] }
+{
+    if is_constructor(text, class) {
+        let size = front_size(text);
+        return &text[..size];
+    }
+    &[]
 }
 
 /// Whether a name ends where a text goes on: with no byte of a longer name, and with no list.
 pub(crate) fn ends_name(rest: &[u8]) -> bool
     ensures { result ≡ ends_name rest.now }
 {
+    if rest.starts_with(b"::") {
+        return true;
+    }
     match rest {
         [] => true,
-        [b':', b':', ..] => true,
         [byte, ..] => !is_name_byte(*byte) && *byte != b'<',
     }
 }
@@ -243,7 +266,8 @@ fn is_member(alias: Alias, name: &[u8], text: &[u8]) -> bool
         && is_constructor (drop (length (text_of alias.name)) text.now) (last_part (text_of alias.template))) }
 {
     let usual = text_at(alias.name);
-    begins_with(name, usual) && is_constructor(&text[usual.len()..], last_part(text_at(alias.template)))
+    begins_with(name, usual)
+        && is_constructor(&text[usual.len()..], last_part(text_at(alias.template)))
 }
 
 /// The row of the usual name of which that is so.
@@ -271,9 +295,10 @@ fn list_row(name: &[u8], rest: &[u8]) -> Option<usize>
     ensures { MatchOption result ((starts_with nat_eq rest.now (codes "<") && is_some (template_in TEMPLATES name.now)) ≡ false)
         (λ row. (starts_with nat_eq rest.now (codes "<") ≡ true) × (row < length TEMPLATES) × (template_in TEMPLATES name.now ≡ slice_get TEMPLATES row)) }
 {
-    match rest {
-        [b'<', ..] => row_of(name),
-        _ => None,
+    if rest.starts_with(b"<") {
+        row_of(name)
+    } else {
+        None
     }
 }
 

@@ -19,8 +19,8 @@ pattern-preserved c =
     record {
       within = omega (arith, c.pattern-test.true);
       so_far =
-        filled-more holes.first.now holes.second.now holes.whole.now c.args.text.now c.args.pattern.now c.pattern.at c.pattern.rest.now c.pattern.invariant.so_far
-        c.pattern-test.true c.in-Some.others.now c.in-Some.ensures;
+          filled-more holes.first.now holes.second.now holes.whole.now c.args.text.now c.args.pattern.now c.pattern.at c.pattern.rest.now c.pattern.invariant.so_far
+          c.pattern-test.true c.in-Some.others.now c.in-Some.ensures;
     }
 
 pub returns : goal.returns
@@ -28,4 +28,4 @@ returns c =
     let holes = c.args.holes in
     c.is_empty.ensures
     ∙ filled-ends holes.first.now holes.second.now holes.whole.now c.args.text.now c.args.pattern.now c.pattern.at c.pattern.rest.now c.pattern.invariant.so_far
-      c.pattern-test.false
+    c.pattern-test.false

@@ -7,7 +7,7 @@ places-preserved c = record {
   from = omega (arith, c.next_place-at.ensures.within, c.places.invariant.from);
   within = omega (arith, c.next_place-at.ensures.within);
   none = no-std-more c.args.text.now c.args.from c.places.at c.next_place-at.result c.places.invariant.none c.next_place-at.ensures.none
-    (sym c.is_std_run.ensures ∙ c.if-is_std_run.false);
+      (sym c.is_std_run.ensures ∙ c.if-is_std_run.false);
 }
 
 pub returns : goal.returns
@@ -20,6 +20,9 @@ returns c =
 
 pub returns-then-is_std_run : goal.returns-then-is_std_run
 returns-then-is_std_run c =
-    let is = sym c.is_std_run.ensures ∙ c.if-is_std_run.true in
-    (omega (arith, c.places.invariant.from, c.next_place-at.ensures.within), is,
-    no-std-between c.args.text.now c.args.from c.places.at c.next_place-at.result c.places.invariant.none c.next_place-at.ensures.none, std-room c.args.text.now c.next_place-at.result is)
+    let is = sym c.is_std_run.ensures ∙ c.if-is_std_run.true in (
+      omega (arith, c.places.invariant.from, c.next_place-at.ensures.within),
+      is,
+      no-std-between c.args.text.now c.args.from c.places.at c.next_place-at.result c.places.invariant.none c.next_place-at.ensures.none,
+      std-room c.args.text.now c.next_place-at.result is,
+    )

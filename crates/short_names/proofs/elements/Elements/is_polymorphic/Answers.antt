@@ -17,3 +17,9 @@ returns c =
     ∙ given-same named elements c.args.holes h c.at.result.now c.text_at.result.now
     ∙ ap₂ (is_given named elements) (c.at.ensures elements e ∙ ap (λ n. element elements (n - 1)) long) c.text_at.ensures
     ∙ sym (same-count named elements (sym long ∙ c.if-all-named.false))
+
+pub overflow_sub-all : goal.overflow_sub-all
+overflow_sub-all c = omega (arith, c.requires.1.some, starts-length _ _ c.requires.0 c.requires.1)
+
+pub at-requires : goal.at-requires
+at-requires c = (c.requires.0, c.requires.1)

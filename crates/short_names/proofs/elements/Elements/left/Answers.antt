@@ -15,3 +15,6 @@ returns c =
     λ elements e h.
     let long = starts-length _ _ elements e in
     c.without_defaults.ensures elements e h ∙ ap (left_of c.args.named elements) long ∙ sym (left-few c.args.named elements (omega (arith, long, c.if-all-named.false)))
+
+pub without_defaults-requires : goal.without_defaults-requires
+without_defaults-requires c = c.requires

@@ -21,8 +21,16 @@ returns-else-inner-eq0-clause-within c =
     let name = c.args.name.now in
     let front = c.inlines_size-front.result in
     let inner = c.row_size-inner.result in
-    omega (arith, c.inlines_size-front.ensures.within, c.row_size-inner.ensures.within, ap length (rest-all name front), length-drop front name,
-    c.inlines_size-nested.ensures.within, ap length (rest-all name (front + inner)), length-drop (front + inner) name)
+    omega (
+      arith,
+      c.inlines_size-front.ensures.within,
+      c.row_size-inner.ensures.within,
+      ap length (rest-all name front),
+      length-drop front name,
+      c.inlines_size-nested.ensures.within,
+      ap length (rest-all name (front + inner)),
+      length-drop (front + inner) name,
+    )
 
 pub returns-else-inner-eq0-clause-inner : goal.returns-else-inner-eq0-clause-inner
 returns-else-inner-eq0-clause-inner c = inner-same c.args.name.now _ _ c.inlines_size-front.ensures.size c.row_size-inner.ensures.size
