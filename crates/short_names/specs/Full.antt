@@ -7,7 +7,7 @@ use Rattle.short_names.specs.declared.table.Template.{Template}
 use Rattle.short_names.specs.declared.table.TheConstants.{ALIASES}
 use Rattle.short_names.specs.declared.names.Named.{Named}
 use Rattle.short_names.specs.Elements.{listed, filled_for, defaults_of}
-use Rattle.short_names.specs.Names.{StdName, std_name, table_name, named_in, last_part, front_size, is_constructor, ends_name}
+use Rattle.short_names.specs.Names.{StdName, std_name, table_name, named_in, last_part, front_size, is_constructor, class_of, ends_name}
 use Rattle.short_names.specs.Patterns.{filled}
 use Rattle.short_names.specs.Texts.{text_of}
 use Rattle.short_names.specs.Walk.{Answer, Rules, by_rules}
@@ -67,9 +67,9 @@ usual_in (row ∷ rows) name text =
 -- the constructor or destructor that follows a usual name, by the template's name
 abbrev pub constructor : Alias → (rest : List ℕ) → Answer
 constructor alias rest =
-    if is_constructor rest (last_part (text_of alias.name)) then record {
+    if is_constructor rest (class_of alias) then record {
       bytes = take (front_size rest) rest ++ last_part (text_of alias.template);
-      size = front_size rest + length (last_part (text_of alias.name));
+      size = front_size rest + length (class_of alias);
     } else record { bytes = []; size = 0 }
 
 -- the template with the arguments that a usual name is for

@@ -1,5 +1,5 @@
 -- Names of the table.
-use Rattle.std.specs.Prelude.{ℕ, List, [], ◌∷◌, Bool, true, false, not, ◌==◌, ◌-◌, ◌+◌, ◌||◌, ◌&&◌, ◌*◌, nat_eq, nat_lt, length, get_or, drop, take, codes, Option, None, Some, if◌then◌else◌}
+use Rattle.std.specs.Prelude.{ℕ, List, [], ◌∷◌, Bool, true, false, not, ◌==◌, ◌-◌, ◌+◌, ◌||◌, ◌&&◌, ◌*◌, nat_eq, nat_le, nat_lt, length, get_or, drop, take, codes, Option, None, Some, if◌then◌else◌}
 use Rattle.std.specs.Cmp.Lexicographic.{pointwise}
 use Rattle.std.specs.List.{starts_with, list_all}
 use Rattle.short_names.specs.declared.table.Place.{Place}
@@ -85,6 +85,12 @@ unfoldable pub is_constructor : (text class : List ℕ) → Bool
 is_constructor text class =
     starts_with nat_eq text (codes "::") && starts_with nat_eq (drop (front_size text) text) class
     && not (is_letter (get_or text (front_size text + length class) 0))
+
+-- The name of the constructors of a usual name's class: the last part of the usual name, unless that of the template's is shorter.
+unfoldable pub class_of : Alias → List ℕ
+class_of alias =
+    if nat_le (length (last_part (text_of alias.name))) (length (last_part (text_of alias.template))) then last_part (text_of alias.name)
+    else last_part (text_of alias.template)
 
 -- a name ends where a text goes on: with no byte of a longer name, and with no list
 unfoldable pub ends_name : (rest : List ℕ) → Bool

@@ -1,11 +1,11 @@
 -- Short texts: without what the library's templates in `std` have by default, and with the usual names of their instances.
-use Rattle.std.specs.Prelude.{ℕ, List, [], ◌∷◌, ◌++◌, ◌+◌, ◌-◌, Bool, true, false, not, ◌&&◌, length, take, drop, codes, Option, None, Some, is_some, if◌then◌else◌}
+use Rattle.std.specs.Prelude.{ℕ, List, [], ◌∷◌, ◌++◌, ◌+◌, ◌-◌, Bool, true, false, not, ◌&&◌, ◌||◌, length, take, drop, codes, Option, None, Some, is_some, if◌then◌else◌}
 use Rattle.short_names.specs.declared.table.Alias.{Alias}
 use Rattle.short_names.specs.declared.table.TheConstants.{ALIASES}
 use Rattle.short_names.specs.declared.names.Named.{Named}
 use Rattle.short_names.specs.Elements.{listed, left, left_of, is_polymorphic, alias_in, aliases_of}
 use Rattle.short_names.specs.Inlines.{without_inlines}
-use Rattle.short_names.specs.Names.{StdName, std_name, named_in, last_part, front_size, is_constructor, ends_name, member_in}
+use Rattle.short_names.specs.Names.{StdName, std_name, named_in, last_part, front_size, is_constructor, class_of, ends_name, member_in}
 use Rattle.short_names.specs.Texts.{text_of}
 use Rattle.short_names.specs.Walk.{Answer, Rules, by_rules}
 
@@ -13,11 +13,11 @@ use Rattle.short_names.specs.Walk.{Answer, Rules, by_rules}
 abbrev pub before_name : Named → List ℕ → List ℕ
 before_name named run = take (length run - length (text_of named.template.name)) run
 
--- The constructor or destructor that follows a usual name, by that name: its class is the template.
+-- The constructor or destructor that follows a usual name by the template's name.
 abbrev pub constructor : Alias → (rest : List ℕ) → Answer
 constructor alias rest =
     if is_constructor rest (last_part (text_of alias.template)) then record {
-      bytes = take (front_size rest) rest ++ last_part (text_of alias.name);
+      bytes = take (front_size rest) rest ++ class_of alias;
       size = front_size rest + length (last_part (text_of alias.template));
     } else record { bytes = []; size = 0 }
 
@@ -25,10 +25,13 @@ constructor alias rest =
 abbrev pub behind : List ℕ → Answer → Answer
 behind bytes answer = record { bytes = bytes ++ answer.bytes; size = answer.size }
 
--- A usual name is one where the text goes on, unless the member that follows has that name: it isn't the constructor, whose name is the
--- template's.
+-- no other member follows than the constructor by the name that is written for that
+abbrev pub is_own : (rest : List ℕ) → Alias → Bool
+is_own rest alias = is_constructor rest (last_part (text_of alias.template)) || not (is_constructor rest (class_of alias))
+
+-- A usual name is one where the text goes on, and is read back as the same.
 abbrev pub is_read_back : (rest : List ℕ) → Alias → Bool
-is_read_back rest alias = ends_name rest && not (is_constructor rest (last_part (text_of alias.name)))
+is_read_back rest alias = ends_name rest && is_own rest alias
 
 abbrev pub if_read_back : (rest : List ℕ) → Option Alias → Option Alias
 if_read_back rest None = None

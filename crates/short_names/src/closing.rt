@@ -1,10 +1,10 @@
 // What is written where a list of a name of the table is closed.
 ghost use Rattle.std.specs.Prelude.{◌≡◌, ◌≤◌, ◌++◌, ℕ, List, length, take, drop, codes, IfOk, OnOk};
 ghost use Rattle.short_names.specs.Closing.{EndsWithList, IsAnswered, IsList};
-ghost use Rattle.short_names.specs.Short.{constructor, if_read_back, short_list};
+ghost use Rattle.short_names.specs.Short.{constructor, if_read_back, is_own, short_list};
 
 use crate::elements::Elements;
-use crate::names::{Named, before_constructor, ends_name, is_constructor, last_part};
+use crate::names::{Named, before_constructor, class_of, ends_name, is_constructor, last_part};
 use crate::patterns::text_at;
 use crate::table::Alias;
 use std::alloc::AllocError;
@@ -45,20 +45,32 @@ pub(crate) fn close(
     Ok(0)
 }
 
-/// A usual name where the text goes on so that it is read back: a member that has that name isn't the constructor, whose name is the
-/// template's.
+/// A usual name where the text goes on, and it is read back as the same.
 fn read_back(alias: Option<Alias>, rest: &[u8]) -> Option<Alias>
     ensures { result ≡ if_read_back rest.now alias }
 {
     let alias = alias?;
-    if ends_name(rest) && !is_constructor(rest, last_part(text_at(alias.name))) {
+    if ends_name(rest) && is_own(alias, rest) {
         Some(alias)
     } else {
         None
     }
 }
 
-/// Appends the name of a constructor or destructor that follows a usual name, by that name; answers how long it was.
+/// Whether no other member follows a usual name than the constructor by the name that is written for that.
+fn is_own(alias: Alias, rest: &[u8]) -> bool
+    ensures { result ≡ is_own rest.now alias }
+{
+    if !rest.starts_with(b"::") {
+        return true;
+    }
+    if is_constructor(rest, last_part(text_at(alias.template))) {
+        return true;
+    }
+    !is_constructor(rest, class_of(alias))
+}
+
+/// Appends the name of a constructor or destructor that follows a usual name by the template's name; answers how long that was.
 pub(crate) fn append_constructor(
     alias: Alias,
     rest: &[u8],
@@ -72,7 +84,7 @@ pub(crate) fn append_constructor(
         return Ok(0);
     }
     text.extend_from_slice(front)?;
-    text.extend_from_slice(last_part(text_at(alias.name)))?;
+    text.extend_from_slice(class_of(alias))?;
     Ok(front.len() + class.len())
 }
 

@@ -3,7 +3,7 @@ ghost use Rattle.std.specs.Prelude.{◌≡◌, ◌≤◌, ◌<◌, ◌-◌, ◌+
 ghost use Rattle.std.specs.List.{starts_with};
 ghost use Rattle.std.specs.Cmp.Lexicographic.{pointwise};
 ghost use Rattle.short_names.specs.Changes.{IsChange, has_list};
-ghost use Rattle.short_names.specs.Names.{row_in, size_of, mark_of, template_in, behind_part, with_template, std_name, last_part, front_size, is_constructor, ends_name, member_in};
+ghost use Rattle.short_names.specs.Names.{row_in, size_of, mark_of, template_in, behind_part, with_template, std_name, last_part, class_of, front_size, is_constructor, ends_name, member_in};
 ghost use Rattle.short_names.specs.Runs.{is_letter, begins_std, run_of};
 ghost use Rattle.short_names.specs.Texts.{text_of};
 ghost use Rattle.short_names.specs.declared.table.Place.{Place as PlaceRow};
@@ -176,6 +176,16 @@ pub(crate) fn last_part(name: &[u8]) -> &[u8]
         start -= 1;
     }
     name
+}
+
+/// The name of the constructors of a usual name's class.
+#[tactic(auto, unfolding(crate::specs::Names::class_of))]
+pub(crate) fn class_of(alias: Alias) -> &'static [u8]
+    ensures { result.now ≡ class_of alias }
+{
+    let usual = last_part(text_at(alias.name));
+    let class = last_part(text_at(alias.template));
+    if usual.len() <= class.len() { usual } else { class }
 }
 
 /// How long what comes before a member's name is, `::` or `::~`, in a text that begins with one of these.
