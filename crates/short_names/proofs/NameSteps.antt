@@ -16,7 +16,7 @@ use Rattle.short_names.specs.declared.table.TheConstants.{WHOLES, ALIASES, TEMPL
 use Rattle.short_names.specs.declared.names.Change.{Change}
 use Rattle.short_names.specs.declared.names.Change.TheVariants as changes
 use Rattle.short_names.specs.Changes.{has_list, IsChange, IsMember, IsMemberOf}
-use Rattle.short_names.specs.Names.{named_in, std_name, row_in, table_name, with_template, behind_whole, front_size, is_constructor, last_part}
+use Rattle.short_names.specs.Names.{class_of, named_in, std_name, row_in, table_name, with_template, behind_whole, front_size, is_constructor, last_part}
 use Rattle.short_names.specs.Plain.{behind_run}
 use Rattle.short_names.specs.Runs.{is_name_byte, is_letter, run_of, begins_std, ends_operator, sign_size, operator_size}
 use Rattle.short_names.specs.Short.{short_rules, for_name, constructor}
@@ -54,7 +54,7 @@ run-some (byte ∷ text) h = ap-some (is_name_byte byte) h
     ap-some true e = omega arith
     ap-some false e = absurd (true≢false (sym e))
 
-starts-within : (text needle : List ℕ) → starts_with nat_eq text needle ≡ true → length needle ≤ length text
+pub starts-within : (text needle : List ℕ) → starts_with nat_eq text needle ≡ true → length needle ≤ length text
 starts-within text needle h = omega (arith, ap length (begun text needle h), length-take (length needle) text)
 
 pick : (b : Bool) (n m l : ℕ) → (b ≡ true → n ≤ l) → m ≤ l → (if b then n else m) ≤ l
@@ -144,7 +144,7 @@ list_opens text now written listed size after size_is is less letter less_sign n
 constructor-some : (alias : Alias) (rest : List ℕ) → is_constructor rest (last_part (text_of alias.template)) ≡ true → 0 < (constructor alias rest).size
 constructor-some alias rest h =
     let made : Bool → Answer = λ b. if b then record {
-      bytes = take (front_size rest) rest ++ last_part (text_of alias.name);
+      bytes = take (front_size rest) rest ++ class_of alias;
       size = front_size rest + length (last_part (text_of alias.template));
     } else record { bytes = []; size = 0 } in
     let size_is : (constructor alias rest).size ≡ front_size rest + length (last_part (text_of alias.template)) = ap (λ b. (made b).size) h in
