@@ -19,5 +19,6 @@ pub mod PlainLemmas
 pub mod RowLemmas
 pub mod RunLemmas
 pub mod SignLemmas
+pub mod SizeLemmas
 pub mod TemplateLemmas
 pub mod WalkLemmas

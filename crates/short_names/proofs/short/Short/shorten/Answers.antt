@@ -17,6 +17,7 @@ returns-then-pairs-clause-short c =
     ∙ ap (λ w. take from old ++ w) (c.deref-then-pairs.ensures.value ∙ sym (c.in_ok-pairs.ensures ∙ ap (λ b. if b then written else text) c.if-pairs.true) ∙ ap short text_is)
 
 pub returns-clause-short : goal.returns-clause-short
+unfolding shortened short
 returns-clause-short c =
     let old = c.args.out.now.items in
     let from = c.args.from in
