@@ -29,6 +29,7 @@ import operator
 import os
 import re
 import sys
+from array import array
 from dataclasses import dataclass
 from functools import cached_property, lru_cache
 from itertools import accumulate
@@ -165,7 +166,7 @@ def _load() -> ctypes.CDLL:
     buffer = [ctypes.c_void_p, size]
     calls = {
         "text": [text, size, number, number, *buffer, result],
-        "texts": [text, size, ctypes.POINTER(size), size, number, number, *buffer, result],
+        "texts": [text, size, ctypes.c_void_p, size, number, number, *buffer, ctypes.c_void_p],
         "filter": [text, size, number, number, *buffer, ctypes.POINTER(_Tally), result],
         "count": [text, size, number, ctypes.POINTER(_Counts), result],
         "press": [text, size, number, *buffer, result],
@@ -231,15 +232,21 @@ def _told(call: Callable[[int], int], flags: int) -> int:
     return call(flags & ~_NEWER) if status == _FLAGS and flags & _NEWER else status
 
 
+def _address(of: Union[bytearray, array[int]]) -> int:
+    """Where a buffer begins. An array type of its own for each length, as ctypes makes one, takes longer than a call."""
+    return ctypes.addressof(ctypes.c_char.from_buffer(of))
+
+
 class _Room:
     """A buffer that calls write texts to, and what they tell of them."""
 
     def __init__(self, size: int) -> None:
+        buffer = bytearray(size)
         self.size = size
-        self.buffer = ctypes.create_string_buffer(size)
+        self.view = memoryview(buffer)
         self.result = _Result()
         # as the calls take them
-        self.at = ctypes.addressof(self.buffer)
+        self.at = _address(buffer)
         self.told = ctypes.byref(self.result)
 
 
@@ -248,35 +255,45 @@ _rooms: list[_Room] = []
 _ROOM = 1 << 14
 
 
-def _written(call: Callable[..., int], flags: int, size: int) -> bytes:
+def _room_of(size: int) -> _Room:
+    """A room of at least this size."""
+    if size > _ROOM:
+        return _Room(size)
+    try:
+        return _rooms.pop()
+    except IndexError:
+        return _Room(_ROOM)
+
+
+def _written(call: Callable[..., int], flags: int, size: int = 0) -> bytes:
     """What a call writes into a buffer that is large enough."""
     while True:
-        room = _Room(size)
-        status = _told(lambda known: call(known, room.at, size, room.told), flags)
+        room = _room_of(size)
+        status = _told(lambda known: call(known, room.at, room.size, room.told), flags)
+        length, offset = room.result.length, room.result.offset
+        text = room.view[:length].tobytes() if status == _OK else b""
+        if room.size == _ROOM:
+            _rooms.append(room)
         if status == _OK:
-            return room.buffer[: room.result.length]
+            return text
         if status == _MEMORY:
             raise MemoryError
         if status != _BUFFER:
-            raise Refused(status, room.result.offset)
-        size = room.result.length
+            raise Refused(status, offset)
+        size = length
 
 
 def _text(name: bytes, options: Options) -> Union[bytes, tuple[int, int]]:
     """The text of a name, or the status and the offset of a refusal."""
-    try:
-        room = _rooms.pop()
-    except IndexError:
-        room = _Room(_ROOM)
+    room = _room_of(0)
     status = _library.symdemangle_text(name, len(name), options.limit, options.flags, room.at, _ROOM, room.told)
-    if status == _OK:
-        text = room.buffer[: room.result.length]
-        _rooms.append(room)
-        return text
-    offset = room.result.offset
+    length, offset = room.result.length, room.result.offset
+    text = room.view[:length].tobytes() if status == _OK else b""
     _rooms.append(room)
+    if status == _OK:
+        return text
     if status in (_BUFFER, _FLAGS):
-        return _long_text(name, options, room.result.length)
+        return _long_text(name, options, length)
     if status == _MEMORY:
         raise MemoryError
     return status, offset
@@ -289,7 +306,7 @@ def _long_text(name: bytes, options: Options, size: int) -> Union[bytes, tuple[i
         return int(_library.symdemangle_text(name, len(name), options.limit, flags, *buffer))
 
     try:
-        return _written(call, options.flags, size or _ROOM)
+        return _written(call, options.flags, size)
     except Refused as why:
         return why.status, why.offset
 
@@ -341,18 +358,18 @@ def demangle_all(names: Iterable[Name], **options: Unpack[Keywords]) -> list[str
         return []
     joined, sizes = _joined(given)
     room = 4 * len(joined) + 4096
-    ends = (ctypes.c_size_t * len(given))(*accumulate(sizes))
-    buffer, results = ctypes.create_string_buffer(room), (_Result * len(given))()
+    ends, buffer, results = array("Q", accumulate(sizes)), bytearray(room), bytearray(ctypes.sizeof(_Result) * len(given))
+    at_ends, at_buffer, at_results = _address(ends), _address(buffer), _address(results)
 
     def call(flags: int) -> int:
-        return int(_library.symdemangle_texts(joined, len(joined), ends, len(given), asked.limit, flags, buffer, room, results))
+        return int(_library.symdemangle_texts(joined, len(joined), at_ends, len(given), asked.limit, flags, at_buffer, room, at_results))
 
     if _told(call, asked.flags) != _OK:
         return [_shown(name) for name in given]
     # two numbers of each result: the length, and the status above the offset
-    told = memoryview(results).cast("B").cast("Q").tolist()
+    told = memoryview(results).cast("Q").tolist()
     lengths, statuses = told[::2], [number >> 32 for number in told[1::2]]
-    written = buffer[: sum([length for length, status in zip(lengths, statuses) if status == _OK])]
+    written = bytes(memoryview(buffer)[: sum([length for length, status in zip(lengths, statuses) if status == _OK])])
     # decoded once where each character is a byte
     string = written.decode("ascii") if written.isascii() else None
     texts, at = [], 0
@@ -430,7 +447,7 @@ def press(name: Name, *, wide: bool = False) -> str:
     equal; Refused says why there is none. With `wide` newer and rarer C++ forms are spelled, too, as far as they have a spelling."""
     given = _name(name)
     flags = _UNDERSCORE | (_WIDE if wide else 0)
-    return _string(_written(lambda flags, *buffer: _library.symdemangle_press(given, len(given), flags, *buffer), flags, _ROOM))
+    return _string(_written(lambda flags, *buffer: _library.symdemangle_press(given, len(given), flags, *buffer), flags))
 
 
 def counts(name: Name, *, wide: bool = True) -> Counts:
