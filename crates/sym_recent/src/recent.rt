@@ -18,8 +18,8 @@ pub trait Alike: Demangler {
         ensures { result ≡ true → (kind : Kind-type) (symbol : List ℕ) → Self.answer self.now kind symbol ≡ Self.answer other.now kind symbol };
 }
 
-/// A demangler that answers what another one does, and keeps texts that it has appended. How many bytes it keeps is bounded by a constant,
-/// and no symbols can be chosen by which it takes longer than the other one by more than a multiple of their bytes.
+/// A demangler that answers what another one does, and keeps texts that it appended, at most some megabytes of them.
+/// Whoever chose a symbol, it costs at most a few passes over its bytes and its text more than by the other demangler.
 #[derive(Clone, Copy, Drop)]
 pub struct Recent<D> {
     pub demangler: D,
