@@ -1,5 +1,4 @@
 // Demanglers that answer alike.
-ghost use Rattle.std.specs.Prelude.{◌≡◌, List, ℕ, true};
 
 use crate::languages::{Cpp, Languages};
 use crate::legacy::Legacy;

@@ -1,7 +1,7 @@
 // A demangler that keeps texts.
-ghost use Rattle.std.specs.Prelude.{◌≡◌, ◌++◌, List, ℕ, true, Ok};
+ghost use Rattle.std.specs.Prelude.{◌≡◌, List, ℕ, true};
 ghost use Rattle.sym_core.specs.Number.{FitsSymbol};
-ghost use Rattle.sym_filter.specs.Demangled.{IsAppended, IsDemangled};
+ghost use Rattle.sym_filter.specs.Demangled.{IsAppended};
 ghost use Rattle.sym_filter.specs.declared.kinds.Kind.{Kind as Kind-type};
 ghost use Rattle.sym_recent.specs.Kept.{Keeps};
 

@@ -1,4 +1,4 @@
-use Rattle.std.proofs.Common.{◌+◌, ◌-◌, ◌≤◌, ℕ, length}
+use Rattle.std.proofs.Common.{◌+◌, ◌-◌, ◌≤◌}
 use Rattle.sym_recent.proofs.marks.mixed_long.Given as goal
 
 abbrev pub invariant-steps : goal.invariant-steps
