@@ -269,6 +269,7 @@ def _written(call: Callable[..., int], flags: int, size: int = 0) -> bytes:
     """What a call writes into a buffer that is large enough."""
     while True:
         room = _room_of(size)
+        room.result.length = room.result.offset = 0
         status = _told(lambda known: call(known, room.at, room.size, room.told), flags)
         length, offset = room.result.length, room.result.offset
         text = room.view[:length].tobytes() if status == _OK else b""
