@@ -29,8 +29,10 @@ import operator
 import os
 import re
 import sys
+from array import array
 from dataclasses import dataclass
 from functools import cached_property, lru_cache
+from itertools import accumulate
 from typing import TYPE_CHECKING, BinaryIO, Callable, Iterable, NamedTuple, Union
 
 from ._stream import Pieces
@@ -164,7 +166,7 @@ def _load() -> ctypes.CDLL:
     buffer = [ctypes.c_void_p, size]
     calls = {
         "text": [text, size, number, number, *buffer, result],
-        "texts": [text, size, ctypes.POINTER(size), size, number, number, *buffer, result],
+        "texts": [text, size, ctypes.c_void_p, size, number, number, *buffer, ctypes.c_void_p],
         "filter": [text, size, number, number, *buffer, ctypes.POINTER(_Tally), result],
         "count": [text, size, number, ctypes.POINTER(_Counts), result],
         "press": [text, size, number, *buffer, result],
@@ -180,7 +182,12 @@ def _load() -> ctypes.CDLL:
 _library = _load()
 
 
+_PLAIN = Options()
+
+
 def _asked(options: Keywords) -> Options:
+    if not options:
+        return _PLAIN
     try:
         return _known_options(**options)
     except TypeError:
@@ -225,23 +232,83 @@ def _told(call: Callable[[int], int], flags: int) -> int:
     return call(flags & ~_NEWER) if status == _FLAGS and flags & _NEWER else status
 
 
-def _written(call: Callable[..., int], flags: int, room: int = 2048) -> bytes:
+def _address(of: Union[bytearray, array[int]]) -> int:
+    """Where a buffer begins. An array type of its own for each length, as ctypes makes one, takes longer than a call."""
+    return ctypes.addressof(ctypes.c_char.from_buffer(of))
+
+
+class _Room:
+    """A buffer that calls write texts to, and what they tell of them."""
+
+    def __init__(self, size: int) -> None:
+        buffer = bytearray(size)
+        self.size = size
+        self.view = memoryview(buffer)
+        self.result = _Result()
+        # as the calls take them
+        self.at = _address(buffer)
+        self.told = ctypes.byref(self.result)
+
+
+# Rooms that no call uses: a call takes one away and puts it back, so that none is shared by threads or by a signal's handler.
+_rooms: list[_Room] = []
+_ROOM = 1 << 14
+
+
+def _room_of(size: int) -> _Room:
+    """A room of at least this size."""
+    if size > _ROOM:
+        return _Room(size)
+    try:
+        return _rooms.pop()
+    except IndexError:
+        return _Room(_ROOM)
+
+
+def _written(call: Callable[..., int], flags: int, size: int = 0) -> bytes:
     """What a call writes into a buffer that is large enough."""
-    result = _Result()
     while True:
-        buffer = ctypes.create_string_buffer(room)
-        status = _told(lambda known: call(known, buffer, room, ctypes.byref(result)), flags)
+        room = _room_of(size)
+        status = _told(lambda known: call(known, room.at, room.size, room.told), flags)
+        length, offset = room.result.length, room.result.offset
+        text = room.view[:length].tobytes() if status == _OK else b""
+        if room.size == _ROOM:
+            _rooms.append(room)
         if status == _OK:
-            return ctypes.string_at(buffer, result.length)
+            return text
         if status == _MEMORY:
             raise MemoryError
         if status != _BUFFER:
-            raise Refused(status, result.offset)
-        room = result.length
+            raise Refused(status, offset)
+        size = length
 
 
-def _text(name: bytes, options: Options) -> bytes:
-    return _written(lambda flags, *buffer: _library.symdemangle_text(name, len(name), options.limit, flags, *buffer), options.flags)
+def _text(name: bytes, options: Options) -> Union[bytes, tuple[int, int]]:
+    """The text of a name, or the status and the offset of a refusal."""
+    room = _room_of(0)
+    status = _library.symdemangle_text(name, len(name), options.limit, options.flags, room.at, _ROOM, room.told)
+    length, offset = room.result.length, room.result.offset
+    text = room.view[:length].tobytes() if status == _OK else b""
+    _rooms.append(room)
+    if status == _OK:
+        return text
+    if status in (_BUFFER, _FLAGS):
+        return _long_text(name, options, length)
+    if status == _MEMORY:
+        raise MemoryError
+    return status, offset
+
+
+def _long_text(name: bytes, options: Options, size: int) -> Union[bytes, tuple[int, int]]:
+    """The same of a name whose text is long, or by a library that is asked without newer flags."""
+
+    def call(flags: int, *buffer: object) -> int:
+        return int(_library.symdemangle_text(name, len(name), options.limit, flags, *buffer))
+
+    try:
+        return _written(call, options.flags, size)
+    except Refused as why:
+        return why.status, why.offset
 
 
 def library_version() -> int:
@@ -251,50 +318,67 @@ def library_version() -> int:
 
 def try_demangle(name: Name, **options: Unpack[Keywords]) -> str:
     """The text of a name; Refused says why it has none."""
-    return _string(_text(_name(name), _asked(options)))
+    text = _text(_name(name), _asked(options))
+    if isinstance(text, bytes):
+        return _string(text)
+    raise Refused(*text)
 
 
 def demangle(name: Name, **options: Unpack[Keywords]) -> str:
     """The text of a name, or the name where it has none."""
+    asked = _asked(options)
     try:
-        return try_demangle(name, **options)
-    except Refused:
+        text = _text(_bytes(name, "name"), asked)
+    except UnicodeEncodeError:  # a string that has no bytes is no symbol
         return _shown(name)
+    return _string(text) if isinstance(text, bytes) else _shown(name)
 
 
-def _joined(names: list[Name]) -> tuple[bytes, ctypes.Array[ctypes.c_size_t]]:
-    """The bytes of many names, one after the other, and where each ends. A string that has none is empty, so no symbol."""
+def _joined(names: list[Name]) -> tuple[bytes, list[int]]:
+    """The bytes of many names, one after the other, and how many each has. A string that has none is empty, so no symbol."""
+    try:
+        string = "".join(names)  # type: ignore[arg-type]
+        if string.isascii():
+            return string.encode(), [len(name) for name in names]
+    except TypeError:
+        pass  # some aren't strings
     each = []
     for name in names:
         try:
             each.append(_bytes(name, "names"))
         except UnicodeEncodeError:
             each.append(b"")
-    ends, at = (ctypes.c_size_t * len(each))(), 0
-    for i, name in enumerate(each):
-        at += len(name)
-        ends[i] = at
-    return b"".join(each), ends
+    return b"".join(each), [len(name) for name in each]
 
 
 def demangle_all(names: Iterable[Name], **options: Unpack[Keywords]) -> list[str]:
     """The texts of many names by one call of the library, or the names where they have none."""
     asked, given = _asked(options), list(names)
-    joined, ends = _joined(given)
+    if not given:
+        return []
+    joined, sizes = _joined(given)
     room = 4 * len(joined) + 4096
-    buffer, results = ctypes.create_string_buffer(room), (_Result * len(given))()
+    ends, buffer, results = array("Q", accumulate(sizes)), bytearray(room), bytearray(ctypes.sizeof(_Result) * len(given))
+    at_ends, at_buffer, at_results = _address(ends), _address(buffer), _address(results)
 
     def call(flags: int) -> int:
-        return int(_library.symdemangle_texts(joined, len(joined), ends, len(given), asked.limit, flags, buffer, room, results))
+        return int(_library.symdemangle_texts(joined, len(joined), at_ends, len(given), asked.limit, flags, at_buffer, room, at_results))
 
     if _told(call, asked.flags) != _OK:
         return [_shown(name) for name in given]
-    written, texts, at = memoryview(buffer), [], 0
-    for name, result in zip(given, results):
-        if result.status == _OK:
-            texts.append(_string(bytes(written[at : at + result.length])))
-            at += result.length
-        elif result.status in (_BUFFER, _MEMORY):
+    # two numbers of each result: the length, and the status above the offset
+    told = memoryview(results).cast("Q").tolist()
+    lengths, statuses = told[::2], [number >> 32 for number in told[1::2]]
+    written = bytes(memoryview(buffer)[: sum([length for length, status in zip(lengths, statuses) if status == _OK])])
+    # decoded once where each character is a byte
+    string = written.decode("ascii") if written.isascii() else None
+    texts, at = [], 0
+    for name, length, status in zip(given, lengths, statuses):
+        if status == _OK:
+            end = at + length
+            texts.append(_string(written[at:end]) if string is None else string[at:end])
+            at = end
+        elif status in (_BUFFER, _MEMORY):
             texts.append(demangle(name, **options))
         else:
             texts.append(_shown(name))

@@ -23,6 +23,7 @@ use sym_filter::{
     Demangler, FilterFault, Letters, Sink, Source, Tally, filter_telling, filter_words, write_all,
 };
 use sym_languages::{Languages, Wide};
+use sym_recent::Recent;
 
 /// Runs the program over an input and two outputs: writes the line of each name with its symbols replaced, or filters the input where
 /// there is no name. The words are those of the command line, the program's name first, each of any bytes, and the result is the status.
@@ -161,7 +162,7 @@ fn run_found<S: Source, W: Sink, E: Sink>(
     let demangler = demangler_of(options);
     let texts = names_of(matches);
     if texts.is_empty() {
-        return match filter_input(alloc, &demangler, options, input, out, err) {
+        return match filter_input(alloc, &Recent { demangler }, options, input, out, err) {
             Ok(status) => Ok(status),
             Err(fault) => Err(fault),
         };

@@ -10,6 +10,7 @@ use sym_core::Refusal;
 use sym_filter::{Demangled, Demangler, Kind, Lang};
 use sym_languages::Wide;
 use sym_languages::languages::Lists;
+use sym_recent::Alike;
 
 /// The lists of the demangler below, and the text of one symbol.
 #[derive(Drop)]
@@ -89,5 +90,14 @@ impl Demangler for Escaping {
             },
             Err(refusal) => Err(refusal),
         }
+    }
+}
+
+impl Alike for Escaping {
+    fn is_alike(&self, other: &Escaping) -> bool {
+        self.escapes == other.escapes
+            && self.styled.style == other.styled.style
+            && self.styled.languages.limit == other.styled.languages.limit
+            && self.styled.languages.detail == other.styled.languages.detail
     }
 }

@@ -16,9 +16,10 @@ use sym_command::{
     ANSWERED, Asked, FAULT, Filtering, Options, Run, answer_words, filtering_of, found_in,
     options_of, refuse_with, symbols_of,
 };
-use sym_filter::{FilterFault, ListSink, Sink, Source, Tally, filter_words};
+use sym_filter::{FilterFault, Letters, ListSink, Sink, Source, Tally, filter_words};
 use sym_languages::languages::Cpp;
 use sym_languages::{Abi, Languages, Legacy, Pressing, Wide, WidePressing};
+use sym_recent::{Alike, Recent};
 
 /// Runs the program over an input and two outputs: answers the symbols of a command line, or filters the input where it has none.
 /// The words are those of the command line, the program's name first, and the result is the status.
@@ -75,8 +76,8 @@ pub fn filter_asked<S: Source, W: Sink>(
     match filtering.asked {
         Asked::Text => filter_in(alloc, Abi, filtering, input, out),
         Asked::WideText => filter_in(alloc, Wide, filtering, input, out),
-        Asked::Pressed => filter_words(alloc, input, out, &Pressing, filtering.letters),
-        Asked::WidePressed => filter_words(alloc, input, out, &WidePressing, filtering.letters),
+        Asked::Pressed => filter_by(alloc, Pressing, filtering.letters, input, out),
+        Asked::WidePressed => filter_by(alloc, WidePressing, filtering.letters, input, out),
     }
 }
 
@@ -106,9 +107,29 @@ fn filter_in<C: Cpp, S: Source, W: Sink>(
     } = filtering;
     let languages = Languages { limit, detail, cpp };
     if legacy {
-        return filter_words(alloc, input, out, &Legacy { languages }, letters);
+        return filter_by(alloc, Legacy { languages }, letters, input, out);
     }
-    filter_words(alloc, input, out, &languages, letters)
+    filter_by(alloc, languages, letters, input, out)
+}
+
+/// Filters an input with a demangler, which isn't asked again for the symbols that came last.
+fn filter_by<D: Alike + Copy + Drop, S: Source, W: Sink>(
+    alloc: Global,
+    demangler: D,
+    letters: Letters,
+    input: &mut S,
+    out: &mut W,
+) -> Result<Tally, FilterFault>
+    requires in_failures { S.failure_count input.old < 2 ^ 64 - 1 }
+    requires out_failures { W.failure_count out.old < 2 ^ 64 - 1 }
+    ensures ok { IfOk result (λ tally. FiltersAllAt letters (D.answer demangler)
+        (S.coming input.old) (S.coming input.new) (W.taken out.old) (W.taken out.new) tally) }
+    ensures err { OnErr result (FiltersFrontAt letters (D.answer demangler)
+        (S.coming input.old) (S.coming input.new) (W.taken out.old) (W.taken out.new)) }
+    ensures read_failed { S.failure_count input.new ≡ S.failure_count input.old + reader_faults result }
+    ensures write_failed { W.failure_count out.new ≡ W.failure_count out.old + writer_faults result }
+{
+    filter_words(alloc, input, out, &Recent { demangler }, letters)
 }
 
 /// Appends the lines for the words of a command line, the program's name first, and says what the program is to do.

@@ -1,0 +1,178 @@
+// The table of the texts that are kept.
+ghost use Rattle.std.specs.Prelude.{◌≡◌, ◌≤◌, List, ℕ, Result, Ok, IfSome, length};
+ghost use Rattle.sym_core.specs.declared.refusal.Refusal.{Refusal as Refusal-type};
+ghost use Rattle.sym_filter.specs.declared.kinds.Kind.{Kind as Kind-type};
+ghost use Rattle.sym_recent.specs.Kept.{Keeps};
+
+use std::alloc::Global;
+use sym_filter::Kind;
+
+/// How many places for symbols there are. Each symbol has one, by its mark.
+const PLACES: usize = 4_096;
+
+/// The most symbols that are kept.
+const MOST_ENTRIES: usize = 8_192;
+
+/// From how many bytes of symbols and texts on all are forgotten.
+const MOST_KEPT: usize = 1_048_576;
+
+/// The most bytes of a symbol and of a text that is kept.
+const LONGEST: usize = 65_536;
+
+/// How many symbols come one after the other, each of them new, until a symbol is kept only when it comes again.
+const PATIENCE: u32 = 64;
+
+/// A symbol and its text, which are among the bytes of a table, one after the other.
+#[derive(Clone, Copy, Debug, PartialEq, Eq)]
+pub(crate) struct Entry {
+    pub(crate) kind: Kind,
+    pub(crate) at: u32,
+    pub(crate) symbol: u32,
+    pub(crate) text: u32,
+}
+
+/// Texts of symbols. How many bytes it has is bounded by a constant.
+#[derive(Drop)]
+pub(crate) struct Table {
+    alloc: Global,
+    /// The mark of the symbol that came last at each place.
+    marks: Vec<u32>,
+    /// The entry at each place.
+    places: Vec<u16>,
+    pub(crate) entries: Vec<Entry>,
+    pub(crate) bytes: Vec<u8>,
+    /// How many new symbols have come since one came again.
+    news: u32,
+}
+
+impl Table {
+    /// A table that keeps no text, and has no places yet.
+    pub(crate) fn new(alloc: Global) -> Table
+        ensures { (answer : Kind-type → List ℕ → Result (List ℕ) Refusal-type) → Keeps answer result }
+    {
+        Table {
+            alloc,
+            marks: Vec::new(alloc),
+            places: Vec::new(alloc),
+            entries: Vec::new(alloc),
+            bytes: Vec::new(alloc),
+            news: 0,
+        }
+    }
+
+    /// The text that is kept for a symbol with a mark, if one is.
+    #[inline(always)]
+    pub(crate) fn text_of(&self, mark: u32, kind: Kind, symbol: &[u8]) -> Option<&[u8]>
+        ensures { (answer : Kind-type → List ℕ → Result (List ℕ) Refusal-type) → Keeps answer self.now → IfSome result (λ text. answer kind symbol.now ≡ Ok text.now) }
+    {
+        let place = place_of(mark);
+        if *self.marks.get(place)? != mark {
+            return None;
+        }
+        let entry = self.entries.get(*self.places.get(place)? as usize)?;
+        if entry.kind != kind {
+            return None;
+        }
+        let at = entry.at as usize;
+        let middle = at + entry.symbol as usize;
+        if self.bytes.get(at..middle)? != symbol {
+            return None;
+        }
+        self.bytes.get(middle..middle + entry.text as usize)
+    }
+
+    /// Notes that a symbol came again.
+    #[inline(always)]
+    pub(crate) fn came_again(&mut self)
+        ensures { (answer : Kind-type → List ℕ → Result (List ℕ) Refusal-type) → Keeps answer self.old → Keeps answer self.new }
+    {
+        self.news = 0;
+    }
+
+    /// Takes a symbol that isn't kept, with its text. It is kept where it is likely to come again and there is memory for it.
+    #[inline(always)]
+    pub(crate) fn take(&mut self, mark: u32, kind: Kind, symbol: &[u8], text: &[u8])
+        ensures { (answer : Kind-type → List ℕ → Result (List ℕ) Refusal-type) → Keeps answer self.old → answer kind symbol.now ≡ Ok text.now → Keeps answer self.new }
+    {
+        let place = place_of(mark);
+        if place >= self.marks.len() {
+            self.count_first();
+            return;
+        }
+        let comes_again = self.marks[place] == mark;
+        self.marks[place] = mark;
+        if self.news >= PATIENCE && !comes_again {
+            return;
+        }
+        self.news = if comes_again { 0 } else { self.news + 1 };
+        self.keep(place, kind, symbol, text);
+    }
+
+    /// Counts one of the first symbols, and makes the places after some.
+    fn count_first(&mut self)
+        ensures { (answer : Kind-type → List ℕ → Result (List ℕ) Refusal-type) → Keeps answer self.old → Keeps answer self.new }
+    {
+        if self.news < PATIENCE {
+            self.news += 1;
+            return;
+        }
+        self.news = 0;
+        let Ok(places) = vec![in self.alloc; 0u16; PLACES] else {
+            return;
+        };
+        let Ok(marks) = vec![in self.alloc; 0u32; PLACES] else {
+            return;
+        };
+        self.places = places;
+        self.marks = marks;
+    }
+
+    /// Keeps a symbol and its text at a place, if they aren't too long and there is memory for them.
+    #[inline(never)]
+    fn keep(&mut self, place: usize, kind: Kind, symbol: &[u8], text: &[u8])
+        ensures { (answer : Kind-type → List ℕ → Result (List ℕ) Refusal-type) → Keeps answer self.old → answer kind symbol.now ≡ Ok text.now → Keeps answer self.new }
+    {
+        if symbol.len() > LONGEST || text.len() > LONGEST {
+            return;
+        }
+        self.make_room();
+        let entry = Entry {
+            kind,
+            at: self.bytes.len() as u32,
+            symbol: symbol.len() as u32,
+            text: text.len() as u32,
+        };
+        if self.bytes.extend_from_slice(symbol).is_err() {
+            return;
+        }
+        if self.bytes.extend_from_slice(text).is_err() {
+            return;
+        }
+        let number = self.entries.len() as u16;
+        if self.entries.push(entry).is_err() {
+            return;
+        }
+        if place < self.places.len() {
+            self.places[place] = number;
+        }
+    }
+
+    /// Forgets all texts, if they are many.
+    fn make_room(&mut self)
+        ensures few { length self.new.bytes.items ≤ 1_048_576 }
+        ensures few_entries { length self.new.entries.items ≤ 8_192 }
+        ensures keeps { (answer : Kind-type → List ℕ → Result (List ℕ) Refusal-type) → Keeps answer self.old → Keeps answer self.new }
+    {
+        if self.bytes.len() <= MOST_KEPT && self.entries.len() <= MOST_ENTRIES {
+            return;
+        }
+        self.entries.clear();
+        self.bytes.clear();
+    }
+}
+
+/// The place of a mark.
+#[inline(always)]
+fn place_of(mark: u32) -> usize {
+    mark as usize % PLACES
+}
