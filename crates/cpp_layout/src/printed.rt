@@ -263,6 +263,7 @@ impl Symbol {
         ctx: Context,
     )
         requires context { IsThereBelow (length self.now.table.nodes) ctx.argument }
+        requires table { IsTable (table_of self.now) }
         requires names { names < length self.now.table.nodes }
         requires room { 8 ≤ S.room parts.old }
         ensures shows { Shows self.now ctx.detail (S.held parts.old) (S.held parts.new) (piece_parts (context_of ctx) (term.bindings (tree_shown self.now ctx names))) }
