@@ -50,8 +50,8 @@ taken_others row = refl
 taken : (row : Row) (k byte : ℕ) → k < KIND_COUNT → byte < 256 → numbered (wide_number row k byte) ≡ chosen (slice_get kinds k) byte
 taken row k byte k_lt byte_lt = elim (leb_tells FIRST_KINDS k) [
   | inl other ↦
-    subst (λ n. numbered (wide_number row n byte) ≡ chosen (slice_get kinds n) byte) (let same : k - FIRST_KINDS + FIRST_KINDS ≡ k = omega (arith, other.1) in same)
-    (alike_in (λ k byte. numbered (wide_number row (k + FIRST_KINDS) byte)) (λ k. chosen (slice_get kinds (k + FIRST_KINDS))) (KIND_COUNT - FIRST_KINDS) 256 (k - FIRST_KINDS) byte (taken_others row) (omega (arith, k_lt, other.1)) byte_lt)
+      subst (λ n. numbered (wide_number row n byte) ≡ chosen (slice_get kinds n) byte) (let same : k - FIRST_KINDS + FIRST_KINDS ≡ k = omega (arith, other.1) in same)
+      (alike_in (λ k byte. numbered (wide_number row (k + FIRST_KINDS) byte)) (λ k. chosen (slice_get kinds (k + FIRST_KINDS))) (KIND_COUNT - FIRST_KINDS) 256 (k - FIRST_KINDS) byte (taken_others row) (omega (arith, k_lt, other.1)) byte_lt)
   | inr first ↦ alike_in (λ k byte. numbered (wide_number row k byte)) (λ k. chosen (slice_get kinds k)) FIRST_KINDS 256 k byte (taken_first row) first.1 byte_lt
 ]
 

@@ -1,5 +1,5 @@
 -- What is done with a module that a substitution names is what the wide reading says.
-use Rattle.std.proofs.Common.{◌≡◌, refl, sym, ◌∙◌, ap, arith, ℕ, ◌-◌, ◌<◌, List, [], ◌∷◌, length, Bool, true, false, not, ◌&&◌, Option, Some, None, Ok, Err}
+use Rattle.std.proofs.Common.{◌≡◌, refl, sym, ◌∙◌, ap, arith, ℕ, ◌-◌, List, [], ◌∷◌, length, Bool, true, false, not, ◌&&◌, Option, Some, None, Err}
 use Rattle.std.proofs.lemmas.Bool.{eqb-true}
 use Rattle.sym_core.specs.Value.{counted_value}
 use Rattle.sym_core.specs.declared.NumberKind.TheVariants.{Seq36}
@@ -7,7 +7,6 @@ use Rattle.sym_core.specs.declared.refusal.Refusal.TheVariants.{BadReference}
 use Rattle.cpp_grammar.specs.declared.production.Production.{Production}
 use Rattle.cpp_term.specs.Term.{Term}
 use Rattle.cpp_term.specs.Scope.{is_open}
-use Rattle.cpp_term.specs.Values as values
 use Rattle.cpp_term.specs.Values.{State, Around, Value, part, text_of}
 use Rattle.cpp_term.specs.Between.{Going, listed_so_far}
 use Rattle.cpp_term.specs.References.{is_module}
@@ -17,11 +16,10 @@ use Rattle.cpp_references.specs.declared.around.Surroundings.{Surroundings}
 use Rattle.cpp_references.specs.declared.candidates.Candidate.{Candidate}
 use Rattle.cpp_link.specs.declared.part.Step.{Step}
 use Rattle.cpp_link.specs.LinkRescoping.{steps_apart, with_mark, going_marked}
-use Rattle.cpp_link.specs.Parts.{trees_in, around_of, candidate_of, candidates_of}
+use Rattle.cpp_link.specs.Parts.{trees_in, around_of, candidates_of}
 use Rattle.cpp_link.specs.Reads.{goes_on, behind_first, named_if, maybe_candidate}
 use Rattle.cpp_link.specs.NodeCount.{makes_before}
 use Rattle.cpp_link.specs.Owed.{made_before}
-use Rattle.cpp_link.specs.Stepping.{IsStepOf}
 
 -- ## What a number names
 
@@ -63,13 +61,14 @@ module_read s y kept place (v ∷ []) state packs digits node one own named =
     (ap (λ ds. module_of (named_by_both state.candidates (counted_value Seq36 ds))) (sym own) ∙ named)
 
 -- what is no module is refused
-pub module_refused : (around : Around) (place : ℕ) (vs : List Value) (state : State) (digits : List ℕ) → length vs ≡ 1 → digits ≡ text_of (part vs 0) → module_named (counted_value Seq36 digits) state ≡ None
-    → between_wide Production.NamedModule around place vs state ≡ Err (BadReference (place - 1))
-unfolding between_wide module_so_far part
-module_refused around place [] state digits one own none = absurd (omega (arith, one))
-module_refused around place (v ∷ w ∷ vs) state digits one own none = absurd (omega (arith, one))
-module_refused around place (v ∷ []) state digits one own none =
-    ap (λ m. elim m as (λ _. Going) [ None ↦ Err (BadReference (place - 1)) | Some t ↦ listed_so_far around t [] state ]) (ap (λ ds. module_named (counted_value Seq36 ds) state) (sym own) ∙ none)
+pub module_refused : (around : Around) (place : ℕ) (vs : List Value) (state : State) (packs : Option ℕ) (digits : List ℕ) → length vs ≡ 1 → digits ≡ text_of (part vs 0) → module_named (counted_value Seq36 digits) state ≡ None
+    → between_wide Production.NamedModule around place vs (record state { packs = packs }) ≡ Err (BadReference (place - 1))
+unfolding between_wide module_so_far module_named part
+module_refused around place [] state packs digits one own none = absurd (omega (arith, one))
+module_refused around place (v ∷ w ∷ vs) state packs digits one own none = absurd (omega (arith, one))
+module_refused around place (v ∷ []) state packs digits one own none =
+    ap (λ m. elim m as (λ _. Going) [ None ↦ Err (BadReference (place - 1)) | Some t ↦ listed_so_far around t [] (record state { packs = packs }) ])
+    (ap (λ ds. module_of (named_by_both state.candidates (counted_value Seq36 ds))) (sym own) ∙ none)
 
 -- no node is made
 pub module_makes : (known : List Value) → length known ≡ 1 → 0 ≡ makes_before Production.NamedModule known
@@ -77,6 +76,3 @@ unfolding makes_before made_before
 module_makes (v ∷ []) one = refl
 module_makes [] one = absurd (omega (arith, one))
 module_makes (v ∷ w ∷ vs) one = absurd (omega (arith, one))
-
-pub module_step : (before node : ℕ) → before ≡ 1 → IsStepOf Production.NamedModule before (Step.Named node true true)
-module_step before node one = omega (arith, one)

@@ -173,7 +173,7 @@ impl Linked {
     pub(crate) fn named_by_both(&self, symbol: &[u8], digits: Span) -> Option<Candidate>
         requires digits { IsWithin digits symbol.now }
         requires candidates { AreCandidatesThere (length self.now.nodes.nodes) self.now.candidates }
-        ensures is { (ts : List Term) → maybe_candidate ts result ≡ named_by_both (candidates_of ts self.now.candidates.list.items) (counted_value kinds.Seq36 (bytes_at symbol.now digits)) }
+        ensures is { maybe_candidate (trees_in symbol.now self.now.nodes) result ≡ named_by_both (candidates_of (trees_in symbol.now self.now.nodes) self.now.candidates.list.items) (counted_value kinds.Seq36 (bytes_at symbol.now digits)) }
         ensures there { IfSome result (λ c. c.node < length self.now.nodes.nodes) }
     {
         let counted = value36(&symbol[digits.from as usize..digits.to as usize]);

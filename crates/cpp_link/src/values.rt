@@ -1,6 +1,6 @@
 // The values of parts: each accessor has a value for each part.
 
-ghost use Rattle.std.specs.Prelude.{◌≡◌, ℕ, ◌<◌, List, length, get_or};
+ghost use Rattle.std.specs.Prelude.{◌≡◌, ℕ, ◌<◌, List, length, get_or, cond, nat_eq};
 ghost use Rattle.cpp_term.specs.Term.{Term, absent, nil};
 ghost use Rattle.cpp_term.specs.Values.{tree_of, piece_of, is_listed, qualifiers_of, ref_of, letter_of, is_there, mark_of, text_of, signed_of, adjustment_of, part};
 ghost use Rattle.cpp_term.specs.Between.{no_items};
