@@ -33,7 +33,7 @@ EDGES = (2**31, 2**32 - 1, 2**64 - 3, 2**64 - 2, 2**64 - 1, 2**64, 10**40)
 PARAMETERS = {"Parameter", "NestParameter", "ParameterArgument", "ParameterExpression"}
 REFERENCES = {"Substitution", *PARAMETERS}
 REFERRING = {"PlainType", "QualifiedPlain", "TypeWithS", "AbbreviatedType", *REFERENCES}
-NAMING = {"Anonymous", "Operator", "ConstructorDigit", "DestructorDigit"}
+NAMING = {"Anonymous", "Operator", "ConstructorDigit", "ComponentAfterD"}
 TYPES = {"Type", "Plain", "Item", "ItemButRef", "Argument"}
 # names that never are candidates, and types that are one before what is of them
 NAMES_ALONE = {"SimpleId", "OperatorReference"}

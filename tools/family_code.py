@@ -44,7 +44,7 @@ def made(text, node_of):
 def piece(text):
     """A piece of a name that is made, in code."""
     name, inside = re.fullmatch(r"(\w+)\((.*)\)", text).groups()
-    return filled(f"Piece::{camel(name)}", {"source": ("internal", "bytes")}.get(name, ()), list(map(source, split(inside))))
+    return filled(f"Piece::{camel(name)}", {"source": ("internal", "bytes"), "enumeration": ("ty", "name")}.get(name, ()), list(map(source, split(inside))))
 
 def pair(letter, left, right, node_of):
     """A letter and two trees, of which one may be made: then the left one is there, or there is no right one."""

@@ -5,11 +5,8 @@ import os
 from files import template
 from grammar_laws import klass, sym_class
 from notation import listed, runs, snake
-from rules import K, NAME, P, TOKENS
+from rules import BLANK, K, NAME, P, TOKENS
 from table_code import FIRST, LAST, after_each, letter_rows, symbol_row
-
-# the letter of the production with number 0
-FIRST_LETTER = ord("!")
 
 
 def filled(path, **holes):
@@ -48,39 +45,51 @@ def antt_symbol(symbol):
 
 
 def letter(number):
-    """The letter of a production, as a byte string has it."""
-    char = chr((FIRST_LETTER + number) % 256)
+    """A letter, as a byte string has it: the byte with this number."""
+    char = chr(number)
     return "\\" + char if char in '"\\' else char if 32 < ord(char) < 127 else f"\\x{ord(char):02x}"
 
 
-def rust_letters(name):
-    """The table of rows."""
-    numbers = {production: letter(number) for number, production in enumerate(P)}
-    kinds = {kind: {byte: numbers[production] for cls, production in rules for byte in klass(cls, production)} for kind, (_, rules) in K.items()}
+def base(numbers):
+    """What the letters of a row with these productions count from: the least number from which each is a byte, and none is the blank."""
+    found = next(base for base in range(len(P)) if BLANK not in (number - base for number in numbers) and max(numbers, default=0) - base < 256)
+    assert found <= min(numbers, default=found), f"productions of one kind have numbers too far apart: {numbers}"
+    return found
+
+
+def taken():
+    """What each kind takes, by the byte: the numbers of productions."""
+    numbers = numbered(P)
+    return {kind: {byte: numbers[production] for cls, production in rules for byte in klass(cls, production)} for kind, (_, rules) in K.items()}
+
+
+def rust_letters(name, based):
+    """The table of rows. In one that isn't based all letters count from 0."""
+    bases = {kind: base(numbers.values()) for kind, numbers in taken().items()}
+    assert based or not any(bases.values())
+    kinds = {kind: {byte: letter(number - bases[kind]) for byte, number in numbers.items()} for kind, numbers in taken().items()}
     return [f"// For each kind a row: for each byte from `{chr(FIRST)}` to `{chr(LAST)}` the letter of the production that the kind takes there.",
-            *letter_rows(name, kinds), "];"]
+            *letter_rows(name, kinds, bases if based else None)]
 
 
-def rust_rules(of, letters_of):
-    """The calls that look a rule up."""
-    return template("cpp_grammar/rules.rt", table=of, letters=letters_of, count=str(len(P))).rstrip("\n")
+def rust_rules(of, row, letters, number):
+    """The calls that look a rule up, by the row of a kind, its letters, and the number of the production of a letter."""
+    return template("cpp_grammar/rules.rt", table=of, row=row, letters=letters, number=number, count=str(len(P))).rstrip("\n")
 
 
 def table():
     """What the table of the ABI's grammar is filled with: the rule that a kind takes at a byte, and the rules' symbols."""
     used = {symbol for _, symbols in P.values() for symbol in symbols}
     constants = [f"const {snake(symbol).upper()}: Sym = {rust_symbol(symbol)};\n" for symbol in [*[kind for kind in K if kind in used], *TOKENS]]
-    first = ["/// The letter of the production with number 0; the others have the bytes after it, in the order of their numbers. After the",
-             "/// byte 255 they go on at 0.",
-             f"pub const FIRST_LETTER: u8 = b'{chr(FIRST_LETTER)}';"]
-    heads = [f"    {'takes' if ate else 'chains'}!({len(symbols)}), // {letter(i)} {production}" for i, (production, (ate, symbols)) in enumerate(P.items())]
+    names = [f"{number} {production}" for number, production in enumerate(P)]
+    heads = [f"    {'takes' if ate else 'chains'}!({len(symbols)}), // {name}" for name, (ate, symbols) in zip(names, P.values())]
 
     def cells(symbols):
         return [f"Sym::Byte(b{symbol})" if sym_class(symbol) == "byte" else snake(symbol).upper() for symbol in symbols]
 
-    rows = [symbol_row(cells(symbols), f"{letter(i)} {production}") for i, (production, (_, symbols)) in enumerate(P.items())]
-    return {"constants": constants, "first": first, "letters": rust_letters("LETTERS"), "count": str(len(P)), "heads": heads, "symbols": rows,
-            **after_each([symbols for _, symbols in P.values()]), "rules": rust_rules("abi", "LETTERS")}
+    rows = [symbol_row(cells(symbols), name) for name, (_, symbols) in zip(names, P.values())]
+    return {"constants": constants, "letters": rust_letters("LETTERS", False), "count": str(len(P)), "heads": heads, "symbols": rows,
+            **after_each([symbols for _, symbols in P.values()]), "rules": rust_rules("abi", "&LETTERS[kind as usize]", "row", "letter as usize")}
 
 
 def of_kinds(function, values):
@@ -117,7 +126,8 @@ def abi_files():
 def wide_files(after, depth, height):
     """Those of the wide grammar: the rule that a kind takes at a byte, what begins each kind and may come after it, and how its trees are bounded."""
     merged = {kind: "".join(f"{low}-{high}" for low, high in runs(after[kind], 1)[0]) for kind in K}
-    yield from filled("src/wide_table.rt", letters=rust_letters("WIDE_LETTERS"), rules=rust_rules("wide", "WIDE_LETTERS"))
+    yield from filled("src/wide_table.rt", letters=rust_letters("WIDE_ROWS", True),
+                      rules=rust_rules("wide", "&WIDE_ROWS[kind as usize]", "&row.letters", "row.base as usize + letter as usize"))
     yield from filled("specs/Wide.antt", alternatives=of_kinds("wide_alternatives", alternatives()))
     yield from filled("specs/Follow.antt", after=of_kinds("after_ranges", {kind: f'codes "{merged[kind]}"' for kind in K}),
                       ranks=of_kinds("rank", {kind: depth[kind] for kind in K if depth[kind]}), heights=of_kinds("height", {kind: height[kind] for kind in K if height[kind]}))

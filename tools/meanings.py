@@ -15,6 +15,7 @@ def source(text):
     """An argument of a tree."""
     if known := said("arguments", text): return known
     if m := re.fullmatch(r"'(.)'", text): return f"fixed {ord(m[1])}"
+    if m := re.fullmatch(r"l(\d) or '(.)'", text): return f"letter_or {m[1]} {ord(m[2])}"
     if m := re.fullmatch(r"l(\d) is '(.)'", text): return f"letter_is {m[1]} {ord(m[2])}"
     return "qualified_by " + " ".join(map(braced, map(source, split(re.fullmatch(r"marks\((.*)\)", text)[1]))))
 

@@ -5,7 +5,7 @@ import cpp_trees
 from notation import camel
 from cpp_trees import NAMED, OWN, OUTSIDE, INSIDE, SIGNATURE, TREE, PIECE, BYTES, NUMBER, TRUTH, QUALIFIERS, MARK, SIGNED, THUNK, DISCRIMINATOR
 
-PIECES = "source operator literal_operator constructor destructor inheriting lambda generic_lambda unnamed string_literal conversion".split()
+PIECES = "source operator literal_operator constructor destructor inheriting lambda generic_lambda unnamed string_literal conversion enumeration bindings".split()
 # the argument under which the types of an encoding are, if they are under one
 UNDER = "under"
 

@@ -16,6 +16,8 @@ P, ROWS = {}, {}
 K, MARKED = {}, []         # (kind, class, production)
 # the ABI's lines above a production
 ABOVE = {}
+# the number of the production that no row of letters has, since its byte is the blank
+BLANK = ord(" ")
 
 
 def letters_of(literals, after_d):
@@ -108,3 +110,14 @@ def build(extended=True, widened=False):
         elif sort == "kind":
             MARKED.extend((names[0], *rule[:2]) for rule in rules if len(rule) == 3)
             K[names[0]] = ("empty" in names, [rule[:2] for rule in rules if len(rule) == 2 or widened])
+    put_in_order()
+
+
+def put_in_order():
+    """Puts the productions in the order of their numbers. Those of the ABI's grammar come first, since the letters of its rows are these numbers.
+    The last of them have the bytes that aren't printed, and one of the wide grammar's own has the number that is no letter."""
+    common = {rule[1] for kind, (_, rules) in K.items() for rule in rules if (kind, *rule) not in MARKED}
+    first, own = ([(name, P[name]) for name in P if (name in common) == there] for there in (True, False))
+    own.reverse()
+    P.clear()
+    P.update(first[-BLANK:] + own[-1:] + first[:-BLANK] + own[:-1])

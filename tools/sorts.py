@@ -18,7 +18,7 @@ OWN = {word: sorts.split() for head, lines in sections("cpp_words.txt") if head 
 SOURCES = {
     "tree_at": ("trees", "trees names pairs signatures"), "list_at": ("trees", "trees"), "parameters_at": ("trees", "trees signatures"), "piece_at": ("pieces", "pieces"),
     "text_at": ("texts", "texts"), "digits_at": ("texts", "texts"), "number_at": ("numbers", "texts"), "letter_at": ("numbers", "letters pairs"),
-    "letter_or_taken": ("numbers", "letters pairs"), "operator_first_at": ("numbers", "pieces"), "operator_second_at": ("numbers", "pieces"), "there_at": ("truths", ""),
+    "letter_or_taken": ("numbers", "letters pairs"), "letter_or": ("numbers", "letters pairs"), "operator_first_at": ("numbers", "pieces"), "operator_second_at": ("numbers", "pieces"), "there_at": ("truths", ""),
     "letter_is": ("truths", "letters"), "qualifiers_at": ("qualifications", "names"), "ref_at": ("marks", "names signatures"), "signed_at": ("signed_numbers", "signed_numbers"),
     "discriminator_at": ("discriminators", "texts"), "qualified_by": ("qualifications", None), "the_name": ("trees", None), "no_tree": ("trees", None), "code": ("texts", None),
     "taken": ("numbers", None), "fixed": ("numbers", None), "yes": ("truths", None), "no": ("truths", None)}

@@ -12,7 +12,7 @@ def rows(trees):
     for tree in trees:
         if tree[0] in SPELLED:
             head, *parts = SPELLED[tree[0]]
-            yield tree, pattern(tree), head.split()[-1], [Part(part) for part in parts], head.startswith("nowhere")
+            yield tree, pattern(tree), head.split()[-1] if parts else "none", [Part(part) for part in parts], head.startswith("nowhere")
 
 class Part:
     def __init__(self, text):

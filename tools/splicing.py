@@ -96,7 +96,7 @@ def with_constants(text, constants):
     named = sorted(n for n in constants if re.search(rf"(?<!\w){n}(?!\w)", text[block.end():]))
     lines = [""]
     for name in named:
-        if len(f"{lines[-1]} {name},") > 97: lines.append("")
+        if len(f"{lines[-1]} {name},") > 96: lines.append("")
         lines[-1] += f" {name},"
     return text[:block.start()] + "use crate::tree_production::{\n" + "".join(f"   {line}\n" for line in lines) + "};\n" + text[block.end():]
 

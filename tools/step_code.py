@@ -28,8 +28,25 @@ def piece(made):
     letter, k = re.fullmatch(r"of new_operator \(fixed (\d+) ∷ letter_at (\d) ∷ \[\]\)", made).groups()
     return f"Piece::Operator(b'{chr(int(letter))}', {letter_of(k)})"
 
+def step_letter(given):
+    """A letter of an operation that is made before a part."""
+    word, *numbers = given.split()
+    return f"b'{chr(int(numbers[0]))}'" if word == "fixed" else f"letter_or({PARTS[int(numbers[0])]}, b'{chr(int(numbers[1]))}')"
+
+def step_tree(given):
+    """Likewise an operand."""
+    if given == "no_tree": return "ABSENT"
+    return "self.prefix_node(symbol, kept)" if given == "the_name" else f"self.node(symbol, {PARTS[int(given[-1])]})"
+
+def operation_step(made):
+    """An operation that is made before a part."""
+    first, second, left, right = re.fullmatch(r"of new_operation \((.*) ∷ \[\]\)", made)[1].split(" ∷ ")
+    return f"Node::Operation {{ first: {step_letter(first)}, second: {step_letter(second)}, left: {step_tree(left)}, right: {step_tree(right)} }}"
+
 def made_step(made, listed, is_name, is_candidate):
     """The first part becomes a tree."""
+    if made.startswith("of new_operation "):
+        return f"Step::Made {{ node: {operation_step(made)}, listed: {listed}, is_name: {is_name}, is_candidate: {is_candidate}, packs: self.packs }}"
     made = re.sub(r"(?<=_at )\d|(?<=tagging )\d|\d$", lambda part: PARTS[int(part[0])], made) if "extending" not in made else made
     named = "self.listed_name" if listed == "true" else "self.named"
     if m := re.fullmatch(r"extending \((.*)\)", made): return f"{named}(self.extended(symbol, kept.prefix(), {piece(m[1])}))"

@@ -5,13 +5,17 @@ table."""
 FIRST, LAST = ord("$"), ord("z")
 MOST_SYMBOLS = 5
 
-def letter_rows(name, kinds):
-    """The rows by kind, each with a comment: what a kind takes is by byte, as a byte string has it."""
+def letter_rows(name, kinds, bases=None):
+    """The table of the rows by kind, each with a comment: what a kind takes is by byte, as a byte string has it. With bases a row begins with its
+    own, and a macro makes the table."""
     columns = "".join(chr(byte) for byte in range(FIRST, LAST + 1))
-    yield f"static {name}: [[u8; {LAST - FIRST + 1}]; {len(kinds)}] = ["
+    row, opened, closed = ("Row", "rows! {", "}") if bases else (f"[u8; {LAST - FIRST + 1}]", "[", "]")
+    yield f"static {name}: [{row}; {len(kinds)}] = {opened}"
     yield f"    // {columns}"
     for kind, letters in kinds.items():
-        yield f'    *b"{"".join(letters.get(column, " ") for column in columns)}", // {kind}'
+        text = f'b"{"".join(letters.get(column, " ") for column in columns)}"'
+        yield f"    [{bases[kind]}, {text}], // {kind}" if bases else f"    *{text}, // {kind}"
+    yield f"{closed};"
 
 def symbol_row(symbols, comment):
     """The symbols of a rule, in as many places as the longest may have."""

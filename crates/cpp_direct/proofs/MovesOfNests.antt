@@ -331,12 +331,12 @@ constructor-taken s digit (inr (wide, is)) =
     eats-widely s Kind.ConstructorDigit Production.Mark digit wide (elim is [ inl four ↦ rw four refl | inr five ↦ rw five refl ])
 
 -- the digit of a destructor
-destructor-taken : (s : Symbol) (digit : ℕ) → IsDestructorDigit s.is_wide digit → Taken s Kind.DestructorDigit Production.Mark (digit ∷ [])
+destructor-taken : (s : Symbol) (digit : ℕ) → IsDestructorDigit s.is_wide digit → Taken s Kind.ComponentAfterD Production.Mark (digit ∷ [])
 unfolding is_eaten is_eaten_widely
 destructor-taken s digit (inl (low, high)) =
-    eats s Kind.DestructorDigit Production.Mark digit (rw (le-leb 48 digit low, le-leb digit 50 high, lt-ltb digit 256 (omega (arith, high))) refl)
+    eats s Kind.ComponentAfterD Production.Mark digit (rw (le-leb 48 digit low, le-leb digit 50 high, lt-ltb digit 256 (omega (arith, high))) refl)
 destructor-taken s digit (inr (wide, is)) =
-    eats-widely s Kind.DestructorDigit Production.Mark digit wide (elim is [ inl four ↦ rw four refl | inr five ↦ rw five refl ])
+    eats-widely s Kind.ComponentAfterD Production.Mark digit wide (elim is [ inl four ↦ rw four refl | inr five ↦ rw five refl ])
 
 -- a constructor
 pub component-constructor : (s : Symbol) (os : List Opened) (around : Around) (t : Term) (listed : Bool) (at : ℕ) (st : State) (digit : ℕ)

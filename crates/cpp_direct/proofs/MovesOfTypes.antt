@@ -15,7 +15,7 @@ use Rattle.cpp_grammar.specs.Grammar.{number_of_kind, may_be_empty, parts_of}
 use Rattle.cpp_grammar.specs.Term.{Term, alone, in_std, abbreviation, source, builtin, pointer, instance, array, any_value, list, nil}
 use Rattle.cpp_grammar.specs.Scope.{is_open, pack_length}
 use Rattle.cpp_grammar.specs.Values.{Candidate, State, outermost, Around, Value, nothing_there, text, tree, tree_of, text_of, is_listed, part, is_there, letter_of, piece_of, ref_of, signature}
-use Rattle.cpp_grammar.specs.References.{appended, is_function_type, with_type, with_unqualified, with_packs, packs_in, substituted}
+use Rattle.cpp_grammar.specs.References.{appended, is_function_type, is_module, with_type, with_unqualified, with_packs, packs_in, substituted}
 use Rattle.cpp_grammar.specs.Between.{after, applied, named_so_far, between, extended, Going}
 use Rattle.cpp_grammar.specs.Meaning.{meaning, listed_value, reference_to, with_item, signature_or}
 use Rattle.cpp_grammar.specs.Unfolding.{close, byte_of}
@@ -303,24 +303,26 @@ unfolding packs_in
 no-pack-named None t none = refl
 no-pack-named (Some arguments) t none = none arguments refl
 
-pub substituted-so : (around : Around) (place : ℕ) (c : Candidate) (st : State) → is_open c.tree ≡ false
+pub substituted-so : (around : Around) (place : ℕ) (c : Candidate) (st : State) → is_module c.tree ≡ false → is_open c.tree ≡ false
     → ((scope : Term) → pack_length scope c.tree ≡ None) → substituted around place (Some c) st ≡ Ok (found (tree c.tree true) st)
 unfolding substituted with_packs
-substituted-so around place c st closed none = ap (λ o. whole o (packs_in around.scope c.tree)) closed
-    ∙ ap (whole false) (no-pack-named around.scope c.tree (λ scope is. none scope))
+substituted-so around place c st no_module closed none = ap (λ m. whole m (is_open c.tree) (packs_in around.scope c.tree)) no_module
+    ∙ ap (λ o. whole false o (packs_in around.scope c.tree)) closed
+    ∙ ap (whole false false) (no-pack-named around.scope c.tree (λ scope is. none scope))
   where
-    whole : Bool → Option ℕ → Result (Found Value State) Refusal
-    whole o packs = elim (o && (around.in_lambda || not (nat_eq c.encoding around.encoding))) [
+    whole : (module_named names_open : Bool) → Option ℕ → Result (Found Value State) Refusal
+    whole m o packs = elim (m || (o && (around.in_lambda || not (nat_eq c.encoding around.encoding)))) [
       | true ↦ Err (BadReference place)
       | false ↦ with_packs place around.in_expansion packs st >>= λ s. Ok (found (tree c.tree true) s)
     ]
 
 -- one that names parameters, in the encoding that it was made in
-pub substituted-open : (around : Around) (place : ℕ) (c : Candidate) (st : State) → c.encoding ≡ around.encoding → around.in_lambda ≡ false
+pub substituted-open : (around : Around) (place : ℕ) (c : Candidate) (st : State) → is_module c.tree ≡ false → c.encoding ≡ around.encoding → around.in_lambda ≡ false
     → packs_in around.scope c.tree ≡ None → substituted around place (Some c) st ≡ Ok (found (tree c.tree true) st)
 unfolding substituted with_packs
-substituted-open around place c st made plain none =
-    ap (λ l. whole (is_open c.tree) l (nat_eq c.encoding around.encoding) (packs_in around.scope c.tree)) plain
+substituted-open around place c st no_module made plain none =
+    ap (λ m. refused m (is_open c.tree) around.in_lambda (nat_eq c.encoding around.encoding) (packs_in around.scope c.tree)) no_module
+    ∙ ap (λ l. whole (is_open c.tree) l (nat_eq c.encoding around.encoding) (packs_in around.scope c.tree)) plain
     ∙ ap (λ b. whole (is_open c.tree) false b (packs_in around.scope c.tree)) (ap (λ n. nat_eq n around.encoding) made ∙ eq-eqb around.encoding around.encoding refl)
     ∙ ap (λ b. gated b (packs_in around.scope c.tree)) (and-false (is_open c.tree)) ∙ ap (gated false) none
   where
@@ -332,6 +334,9 @@ substituted-open around place c st made plain none =
 
     whole : Bool → Bool → Bool → Option ℕ → Result (Found Value State) Refusal
     whole o lambda same packs = gated (o && (lambda || not same)) packs
+
+    refused : Bool → Bool → Bool → Bool → Option ℕ → Result (Found Value State) Refusal
+    refused m o lambda same packs = gated (m || (o && (lambda || not same))) packs
 
 substitution-closes : (around : Around) (place : ℕ) (before : State) (digits : List ℕ) (c : Candidate) (st : State)
     → slice_get st.candidates (counted_value Seq36 digits) ≡ Some c

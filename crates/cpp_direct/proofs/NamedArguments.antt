@@ -15,7 +15,7 @@ use Rattle.cpp_direct.specs.WriterInvariant.{AreCandidates, AreNamed, HasArgumen
 use Rattle.cpp_direct.specs.MidStep.{IsNameEnded, IsNameScoped}
 use Rattle.cpp_direct.proofs.Kept.{candidates-as, encoded-here, piece-found}
 use Rattle.cpp_direct.proofs.MovesOfTypes.{no-pack-named, substituted-open}
-use Rattle.cpp_direct.proofs.PrintedTypes.{types-given}
+use Rattle.cpp_direct.proofs.PrintedTypes.{types-given, no-module}
 use Rattle.cpp_direct.proofs.Scopes.{arguments-named}
 
 -- ## Their texts
@@ -181,5 +181,5 @@ pub again-substituted : (s : Symbol) {scope : Scope} (around : Around) (open_ : 
     → PrintsGiven (detail_of s) scope.names c.tree bytes r → (place : ℕ) → substituted around place (Some c) st ≡ Ok (found (tree c.tree true) st)
 again-substituted s {scope = scope} around open_ c st bytes r own scoped naming made prints place =
     let here = encoded-here scope around open_ scoped naming in
-    substituted-open around place c st (made.0 ∙ sym here.0) here.1 (no-pack-named around.scope c.tree
+    substituted-open around place c st (no-module c.tree prints.as_prefix) (made.0 ∙ sym here.0) here.1 (no-pack-named around.scope c.tree
     (λ arguments is. prints.packless arguments (named-single s scope around open_ arguments own scoped naming.0 is)))

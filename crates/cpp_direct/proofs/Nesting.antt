@@ -40,7 +40,7 @@ use Rattle.cpp_direct.proofs.NamedArguments.{again-substituted, named-here}
 use Rattle.cpp_direct.proofs.MovesOfNests.{nest-source, nest-abbreviation, nest-substitution, nest-std, component-awaits, component-outside, any-arguments, instance-arguments, nest-end, tag-follows}
 use Rattle.cpp_direct.proofs.PrintedNames.{as-name, source-prints, source-class, std-prints, std-class, abbreviation-prints, abbreviation-class}
 use Rattle.cpp_direct.proofs.PrintedNests.{tagged-as, std-tagged, again-tagged}
-use Rattle.cpp_direct.proofs.PrintedTypes.{prints-as}
+use Rattle.cpp_direct.proofs.PrintedTypes.{prints-as, no-module}
 use Rattle.cpp_direct.proofs.TypesRead.{abbreviation-listed}
 
 -- ## What types may name
@@ -541,7 +541,7 @@ named-again : (s : Symbol) {scope : Scope} (around : Around) (open_ : List Open)
     → PrintsAs (detail_of s) scope.names d c.tree bytes false → HasSingles scope → (d ≡ true → IsScoped scope around open_)
     → (d ≡ true → IsNaming scope open_) → (d ≡ true → IsMadeIn scope c.encoding) → (place : ℕ)
     → substituted around place (Some c) st ≡ Ok (found (tree c.tree true) st)
-named-again s around open_ c st bytes false prints own scoped naming made place = substituted-so around place c st prints.is_closed prints.packless
+named-again s around open_ c st bytes false prints own scoped naming made place = substituted-so around place c st (no-module c.tree prints.as_prefix) prints.is_closed prints.packless
 named-again s around open_ c st bytes true prints own scoped naming made place =
     again-substituted s around open_ c st bytes false own (scoped refl) (naming refl) (made refl) prints place
 

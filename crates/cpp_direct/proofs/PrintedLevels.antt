@@ -8,7 +8,7 @@ use Rattle.cpp_grammar.specs.References.{is_function_type}
 use Rattle.cpp_grammar.specs.Texts.{same_bytes}
 use Rattle.cpp_grammar.specs.Operations.{operations, operation_of_code}
 use Rattle.cpp_grammar.specs.Items.{left, right, Context}
-use Rattle.cpp_grammar.specs.Parts.{as_item, says, source_text, prefix_item, last_piece, opening_text, left_parts, right_parts, parts_in, not_empty, operation_parts, operand_parts, printed, text_part}
+use Rattle.cpp_grammar.specs.Parts.{as_item, says, source_text, prefix_item, component_parts, last_piece, opening_text, left_parts, right_parts, parts_in, not_empty, operation_parts, operand_parts, printed, text_part}
 use Rattle.cpp_direct.specs.HolesOfLevels.{member_of}
 use Rattle.cpp_direct.specs.Prints.{written_of, Prints, PrintsIn, PrintsAs, Names, IsUnmarked}
 use Rattle.cpp_direct.proofs.PrintedParts.{text_shown, cost_shown}
@@ -47,7 +47,7 @@ member-in {detail} c extra u b p name filled plain =
 -- A member prints its instance, colons and its name anywhere, or where parameters name arguments with these texts.
 pub member-as : (detail : Detail) (names : Names) (is_dependent : Bool) (u : Term) (b : List ℕ) → PrintsAs detail names is_dependent u b false
     → (name : List ℕ) → name ≢ [] → IsUnmarked name → PrintsAs detail names is_dependent (member_of u name) (b ++ codes "::" ++ source_text name) false
-unfolding is_open pack_length first_of length_if_pack is_function_type prefix_item last_piece opening_text besides
+unfolding is_open pack_length first_of length_if_pack is_function_type prefix_item component_parts last_piece opening_text besides
 member-as detail names false u b p name filled plain =
     let m = member_of u name in
     own-prints m (b ++ codes "::" ++ source_text name) (record {
@@ -57,4 +57,4 @@ member-as detail names false u b p name filled plain =
 member-as detail names true u b p name filled plain =
     let m = member_of u name in
     made-given names m (b ++ codes "::" ++ source_text name) false (λ c given. member-in c 3 u b (p.prints c given) name filled plain)
-    (λ arguments single. rw (p.packless arguments single) refl) refl refl (λ c. refl) refl
+    (λ arguments single. rw (p.packless arguments single) refl) refl refl (λ c p. refl) refl

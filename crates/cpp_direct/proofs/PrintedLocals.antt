@@ -9,8 +9,8 @@ use Rattle.cpp_grammar.specs.Scope.{is_open, pack_length, first_of}
 use Rattle.cpp_grammar.specs.Items.{full, bare, left, piece, Context, closed, right, first}
 use Rattle.cpp_grammar.specs.Values.{Value, unqualified, tree_of, qualifiers_of, ref_of}
 use Rattle.cpp_grammar.specs.Meaning.{encoding_of}
-use Rattle.cpp_grammar.specs.Parts.{as_item, says, source_text, prefix_item, within_parts, qualifier_text, ref_text, encoding_text, function_bare, function_full, full_parts, bare_parts, left_parts, entity_of, parts_in, not_empty, list_part, opening_text, piece_parts, right_parts, last_piece}
-use Rattle.cpp_direct.specs.Prints.{written_of, PrintsName, Shows, Encloses, Prints, PrintsPiece, PrintAll, list_of, IsUnmarked}
+use Rattle.cpp_grammar.specs.Parts.{as_item, says, source_text, prefix_item, component_parts, within_parts, qualifier_text, ref_text, encoding_text, function_bare, function_full, full_parts, bare_parts, left_parts, entity_of, parts_in, not_empty, list_part, opening_text, piece_parts, right_parts, last_piece}
+use Rattle.cpp_direct.specs.Prints.{written_of, PrintsName, Shows, Encloses, Prints, PrintsPiece, PrintAll, joined_to, list_of, IsUnmarked}
 use Rattle.cpp_direct.proofs.PrintedParts.{shown_by, writes_parts, text_shown, cost_shown, first_shown, first_cost_shown, text_append, cost_append}
 use Rattle.cpp_direct.proofs.PrintedNames.{as-name, besides, own-prints}
 use Rattle.cpp_direct.proofs.PrintedNests.{IsPiece, source-opening, source-piece, within-cost, within-text}
@@ -78,12 +78,12 @@ unfolding parts_in right_parts not_empty is_open pack_length last_piece besides 
 component-prints {detail} t b h p n q =
     let w = within t p in
     own-prints w (b ++ codes "::" ++ n) (record {
-      left_text = λ c. within-text detail c left c t b (h.left_text c) (h.as_prefix c) p n (q.as_component c t) (q.piece_text c);
+      left_text = λ c. within-text detail c left c t b (h.left_text c) p n (q.as_component c t ∙ h.as_prefix c p) (q.piece_text c);
       cost = λ c. omega (
         arith,
         h.cost c,
         q.piece_cost c,
-        within-cost detail c left c t (h.as_prefix c) p (q.as_component c t),
+        within-cost detail c left c t p (q.as_component c t ∙ h.as_prefix c p),
         cost_shown detail right c w [] refl refl,
         length-append {A = ℕ},
       );
@@ -97,12 +97,12 @@ local-prints {detail} e b h p n q digit =
     let t = local_in e p digit in
     own-prints t (b ++ codes "::" ++ n) (record {
       left_text = λ c. text_shown detail left c t (as_item left c (within e p) ∷ []) refl refl ∙ append-nil (text_of (written_of detail left c (within e p)))
-          ∙ within-text detail c bare closed e b h.bare_text (h.as_prefix c) p n (q.as_component c e) (q.piece_text c);
+          ∙ within-text detail c bare closed e b h.bare_text p n (q.as_component c e ∙ h.as_prefix c p) (q.piece_text c);
       cost = λ c. omega (
         arith,
         h.bare_cost,
         q.piece_cost c,
-        within-cost detail c bare closed e (h.as_prefix c) p (q.as_component c e),
+        within-cost detail c bare closed e p (q.as_component c e ∙ h.as_prefix c p),
         cost_shown detail left c t (as_item left c (within e p) ∷ []) refl refl,
         cost_shown detail right c t [] refl refl,
         length-append {A = ℕ},
@@ -135,7 +135,7 @@ bare-same : (d : Detail) (t : Term) → bare_parts d t ≡ full_parts d t → wr
 unfolding parts_in
 bare-same d t e = writes_parts d bare closed t ∙ ap (λ ps. shown_by d ps) e ∙ sym (writes_parts d full closed t)
 
-encloses-as : (d : Detail) (t : Term) (b : List ℕ) → bare_parts d t ≡ full_parts d t → ((context : Context) → prefix_item context t ≡ as_item bare closed t)
+encloses-as : (d : Detail) (t : Term) (b : List ℕ) → bare_parts d t ≡ full_parts d t → ((context : Context) (p : Term) → component_parts context t p ≡ joined_to bare closed context t p)
     → is_open t ≡ false → ((scope : Term) → pack_length scope t ≡ None) → Shows d t b → Encloses d t b
 encloses-as d t b same front shut packless p = record {
   as_prefix = front;
@@ -155,20 +155,20 @@ bare-is-full false name q ref items = refl
 -- And so do functions that have no return type.
 pub function-encloses : (d : Detail) (name : Term) (q : Qualifiers) (ref : RefQualifier) (items : Term) (b : List ℕ)
     → Shows d (function name q ref absent items) b → Encloses d (function name q ref absent items) b
-unfolding bare_parts full_parts prefix_item is_open pack_length
+unfolding bare_parts full_parts prefix_item component_parts is_open pack_length
 function-encloses d name q ref items b p =
-    encloses-as d (function name q ref absent items) b (bare-is-full (has_parameters d) name q ref items) (λ c. refl) refl (λ k. refl) p
+    encloses-as d (function name q ref absent items) b (bare-is-full (has_parameters d) name q ref items) (λ c p. refl) refl (λ k. refl) p
 
 -- The return type of a function that has one isn't shown there.
 pub returned-enclosing : (d : Detail) (name : Term) (q : Qualifiers) (ref : RefQualifier) (returned items : Term) (b : List ℕ)
     → Encloses d (function name q ref absent items) b → Encloses d (function name q ref returned items) b
-unfolding bare_parts prefix_item is_open pack_length parts_in
+unfolding bare_parts prefix_item component_parts is_open pack_length parts_in
 returned-enclosing d name q ref returned items b p =
     let e = function name q ref returned items in
     let same : written_of d bare closed e ≡ written_of d bare closed (function name q ref absent items) =
     writes_parts d bare closed e ∙ sym (writes_parts d bare closed (function name q ref absent items)) in
     record {
-      as_prefix = λ c. refl;
+      as_prefix = λ c p. refl;
       bare_text = ap text_of same ∙ p.bare_text;
       bare_cost = omega (arith, p.bare_cost, ap cost_of same);
       is_closed = refl;
@@ -177,11 +177,11 @@ returned-enclosing d name q ref returned items b p =
 
 -- Data print the same before an entity.
 pub object-enclosing : (d : Detail) (v : Value) (b : List ℕ) → Shows d (encoding_of v nil) b → Encloses d (encoding_of v nil) b
-unfolding bare_parts full_parts prefix_item is_open pack_length
+unfolding bare_parts full_parts prefix_item component_parts is_open pack_length
 object-enclosing d v b p =
     let e = encoding-object v in
     subst (λ t. Encloses d t b) (sym e)
-    (encloses-as d (object (tree_of v) (qualifiers_of v) (ref_of v)) b refl (λ c. refl) refl (λ k. refl) (subst (λ t. Shows d t b) e p))
+    (encloses-as d (object (tree_of v) (qualifiers_of v) (ref_of v)) b refl (λ c p. refl) refl (λ k. refl) (subst (λ t. Shows d t b) e p))
 
 -- ## Functions by their names only
 

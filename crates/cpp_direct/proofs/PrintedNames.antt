@@ -11,9 +11,9 @@ use Rattle.cpp_grammar.specs.References.{is_function_type}
 use Rattle.cpp_grammar.specs.Texts.{look_up, abbreviation_texts, builtin_texts, operator_texts, same_bytes, literal_endings}
 use Rattle.cpp_grammar.specs.Items.{Item, left, right, base, piece, closed, Context, head_with, head, is_reference, is_funarr, is_empty}
 use Rattle.cpp_grammar.specs.Meaning.{is_void}
-use Rattle.cpp_grammar.specs.Parts.{as_item, says, source_text, prefix_item, last_piece, opening_text, piece_parts, left_parts, right_parts, base_parts, parts_in, not_empty, is_plain_integer, text_part, sign_part, builtin_code, integer_parts}
+use Rattle.cpp_grammar.specs.Parts.{as_item, says, source_text, prefix_item, component_parts, last_piece, opening_text, piece_parts, left_parts, right_parts, base_parts, parts_in, not_empty, is_plain_integer, text_part, sign_part, builtin_code, integer_parts}
 use Rattle.cpp_direct.specs.Names.{is_angle, operator_text}
-use Rattle.cpp_direct.specs.Prints.{written_of, EndsAsInteger, Prints, PrintsIn, PrintsName, NamesClass, sign_text, IsUnmarked, unmarked_parts, written_in}
+use Rattle.cpp_direct.specs.Prints.{written_of, EndsAsInteger, Prints, PrintsIn, PrintsName, NamesClass, joined_to, sign_text, IsUnmarked, unmarked_parts, written_in}
 use Rattle.cpp_direct.proofs.Unmarked.{source-unmarked, operator-unmarked, abbreviation-unmarked, builtin-unmarked, truth-unmarked, ending-unmarked, rest-unmarked}
 use Rattle.cpp_direct.proofs.PrintedParts.{text_shown, cost_shown, alone_shown, first_cost_shown, length-filled, shown_by, first_shown, text_append, cost_append, part-text, part-cost}
 use Rattle.cpp_direct.proofs.PrintedTypes.{made-prints}
@@ -27,12 +27,12 @@ pub record Besides : Type 0 where
   pub empty : Bool
   pub function : Bool
   pub pack : Option ℕ
-  pub prefix : PartOf Item
+  pub before : (p : Term) → List (PartOf Item)
   pub void : Bool
   pub integer : Bool
 
 unfoldable pub besides : Context → Term → Besides
-unfolding right_parts head head_with is_reference is_funarr is_empty is_function_type length_if_pack prefix_item is_void is_plain_integer
+unfolding right_parts head head_with is_reference is_funarr is_empty is_function_type length_if_pack prefix_item component_parts is_void is_plain_integer
 besides c t = record {
   behind = right_parts c t;
   reference = is_reference (head c t);
@@ -40,7 +40,7 @@ besides c t = record {
   empty = is_empty c t;
   function = is_function_type t;
   pack = length_if_pack t;
-  prefix = prefix_item c t;
+  before = λ p. component_parts c t p;
   void = is_void t;
   integer = is_plain_integer t;
 }
@@ -54,7 +54,7 @@ nothing_besides c t = record {
   empty = false;
   function = false;
   pack = None;
-  prefix = as_item left c t;
+  before = λ p. joined_to left c c t p;
   void = false;
   integer = false;
 }
@@ -79,10 +79,10 @@ own-in {detail} c extra t bytes left_text cost some is = record {
 -- and anywhere
 pub own-prints : {detail : Detail} (t : Term) (bytes : List ℕ) → PrintsName detail t bytes → is_open t ≡ false → ((scope : Term) → pack_length scope t ≡ None)
     → opening_text (last_piece t) ≡ codes "<" → ((c : Context) → besides c t ≡ nothing_besides c t) → Prints detail t bytes false
-unfolding besides length_if_pack prefix_item is_plain_integer
+unfolding besides length_if_pack prefix_item component_parts is_plain_integer
 own-prints t bytes n is_closed packless opening is =
     made-prints t bytes false (λ c. own-in c 0 t bytes (n.left_text c) (omega (arith, n.cost c)) (omega (arith, n.cost c)) (is c)) is_closed packless (ap (λ b. b.pack) (is closed))
-    (λ c. ap (λ b. b.prefix) (is c)) opening (λ e. absurd (false≢true (sym (ap (λ b. b.integer) (is closed)) ∙ e))) (λ e. cc e)
+    (λ c p. ap (λ b. b.before p) (is c)) opening (λ e. absurd (false≢true (sym (ap (λ b. b.integer) (is closed)) ∙ e))) (λ e. cc e)
 
 -- a tree that writes one text at the left, and nothing at the right, names something by it
 one-text-names : {detail : Detail} (t : Term) (b : List ℕ) → ((c : Context) → parts_in detail c left t ≡ text b ∷ [])
@@ -281,7 +281,7 @@ void-text letter same = subst (λ l. look_up (l ∷ []) builtin_texts ≡ codes 
 -- A builtin type prints its text.
 pub builtin-prints : {detail : Detail} (letter : ℕ) → look_up (letter ∷ []) builtin_texts ≢ []
     → Prints detail (builtin (letter ∷ [])) (look_up (letter ∷ []) builtin_texts) false
-unfolding parts_in left_parts right_parts piece_parts not_empty is_open pack_length last_piece opening_text head head_with is_reference is_funarr is_empty is_function_type length_if_pack prefix_item is_void is_plain_integer
+unfolding parts_in left_parts right_parts piece_parts not_empty is_open pack_length last_piece opening_text head head_with is_reference is_funarr is_empty is_function_type length_if_pack prefix_item component_parts is_void is_plain_integer
 builtin-prints {detail} letter filled = let t = builtin (letter ∷ []) in let b = look_up (letter ∷ []) builtin_texts in record {
   left_text = λ c. text_shown detail left c t (text b ∷ []) refl refl ∙ alone_shown detail b (builtin-unmarked (letter ∷ []));
   right_text = λ c. text_shown detail right c t [] refl refl;
@@ -294,7 +294,7 @@ builtin-prints {detail} letter filled = let t = builtin (letter ∷ []) in let b
   no_function = refl;
   no_pack = refl;
   reference_cost = λ e. cc e;
-  as_prefix = λ c. refl;
+  as_prefix = λ c p. refl;
   opening = refl;
   void = λ e. void-text letter (eqb-true letter 118 e);
   integer = λ e. builtin-ends letter e;

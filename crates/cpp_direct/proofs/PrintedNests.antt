@@ -9,9 +9,9 @@ use Rattle.cpp_grammar.specs.Scope.{is_open, pack_length, length_if_pack, first_
 use Rattle.cpp_grammar.specs.References.{is_function_type}
 use Rattle.cpp_grammar.specs.Texts.{look_up, operator_texts}
 use Rattle.cpp_grammar.specs.Items.{Form, left, right, base, piece, first, Context}
-use Rattle.cpp_grammar.specs.Parts.{as_item, says, list_part, source_text, prefix_item, last_piece, opening_text, own_piece, piece_parts, within_parts, base_within, base_tagged, instance_parts, left_parts, right_parts, base_parts, parts_in, not_empty, is_plain_integer}
+use Rattle.cpp_grammar.specs.Parts.{as_item, says, list_part, source_text, prefix_item, component_parts, last_piece, opening_text, own_piece, piece_parts, within_parts, base_within, base_tagged, instance_parts, left_parts, right_parts, base_parts, parts_in, not_empty, is_plain_integer}
 use Rattle.cpp_direct.specs.Names.{is_angle, operator_text, tag_text}
-use Rattle.cpp_direct.specs.Prints.{written_of, Prints, PrintsIn, PrintsAs, Names, PrintsName, NamesClass, PrintAll, PrintAllIn, PrintAllAs, IsUnmarked, opening_byte, closing_byte, opening_bracket, closing_bracket, written_instance}
+use Rattle.cpp_direct.specs.Prints.{written_of, Prints, PrintsIn, PrintsAs, Names, PrintsName, NamesClass, PrintAll, PrintAllIn, PrintAllAs, IsUnmarked, joined_to, opening_byte, closing_byte, opening_bracket, closing_bracket, written_instance}
 use Rattle.cpp_direct.specs.WriterInvariant.{IsTail, list_with}
 use Rattle.cpp_direct.proofs.PrintedParts.{printed_by, shown_by, text_shown, cost_shown, first_cost_shown, writes_parts, text-append, cost-append, list-unmarked, first_shown}
 use Rattle.cpp_direct.proofs.Unmarked.{source-unmarked, operator-unmarked}
@@ -30,7 +30,7 @@ joins x m y b n e f = rw (e, f, append-nil n) (sym (append_assoc b m n))
 pub record IsPiece (detail : Detail) (p : Term) (x : List ℕ) : Type 0 where
   pub piece_text : (context : Context) → text_of (written_of detail piece context p) ≡ x
   pub piece_cost : (context : Context) → cost_of (written_of detail piece context p) ≡ 1 + length x
-  pub within_is : (context : Context) (t : Term) → within_parts context t p ≡ prefix_item context t ∷ says "::" ∷ as_item piece context p ∷ []
+  pub within_is : (context : Context) (t : Term) → within_parts context t p ≡ component_parts context t p
   pub base_is : (context : Context) (t : Term) → base_within context t p ≡ text x ∷ []
   pub tagged_is : (context : Context) (t : Term) → base_tagged context (is_structor (within t p)) (within t p) ≡ text x ∷ []
   pub filled : 1 ≤ length x
@@ -83,36 +83,29 @@ operator-opening a b plain = rw plain refl
 
 -- what is written of a piece within something that is written in some form
 pub within-text : (detail : Detail) (c : Context) (form : Form) (context : Context) (t : Term) (b : List ℕ) → text_of (written_of detail form context t) ≡ b
-    → prefix_item c t ≡ as_item form context t → (p : Term) (x : List ℕ) → within_parts c t p ≡ prefix_item c t ∷ says "::" ∷ as_item piece c p ∷ []
+    → (p : Term) (x : List ℕ) → within_parts c t p ≡ joined_to form context c t p
     → text_of (written_of detail piece c p) ≡ x → text_of (written_of detail left c (within t p)) ≡ b ++ codes "::" ++ x
 unfolding parts_in left_parts not_empty
-within-text detail c form context t b text_is prefix p x component piece_is =
-    text_shown detail left c (within t p) (as_item form context t ∷ says "::" ∷ as_item piece c p ∷ [])
-    (component ∙ ap (λ i. i ∷ says "::" ∷ as_item piece c p ∷ []) prefix) refl
+within-text detail c form context t b text_is p x component piece_is =
+    text_shown detail left c (within t p) (joined_to form context c t p) component refl
     ∙ joins (text_of (written_of detail form context t)) (codes "::") (text_of (written_of detail piece c p)) b x text_is piece_is
 
-pub within-cost : (detail : Detail) (c : Context) (form : Form) (context : Context) (t : Term) → prefix_item c t ≡ as_item form context t
-    → (p : Term) → within_parts c t p ≡ prefix_item c t ∷ says "::" ∷ as_item piece c p ∷ []
+pub within-cost : (detail : Detail) (c : Context) (form : Form) (context : Context) (t p : Term) → within_parts c t p ≡ joined_to form context c t p
     → cost_of (written_of detail left c (within t p)) ≡ cost_of (written_of detail form context t) + 3 + cost_of (written_of detail piece c p)
 unfolding parts_in left_parts not_empty
-within-cost detail c form context t prefix p component =
-    omega (
-      arith,
-      cost_shown detail left c (within t p) (as_item form context t ∷ says "::" ∷ as_item piece c p ∷ [])
-          (component ∙ ap (λ i. i ∷ says "::" ∷ as_item piece c p ∷ []) prefix) refl,
-    )
+within-cost detail c form context t p component = omega (arith, cost_shown detail left c (within t p) (joined_to form context c t p) component refl)
 
 -- A piece in a class or a namespace prints both in a context,
-within-in : {detail : Detail} (c : Context) (extra : ℕ) (t : Term) (b : List ℕ) → PrintsIn detail c extra t b false → prefix_item c t ≡ as_item left c t
-    → (p : Term) (x : List ℕ) → IsPiece detail p x → PrintsIn detail c extra (within t p) (b ++ codes "::" ++ x) false
+within-in : {detail : Detail} (c : Context) (extra : ℕ) (t : Term) (b : List ℕ) → PrintsIn detail c extra t b false
+    → (p : Term) (x : List ℕ) → component_parts c t p ≡ joined_to left c c t p → IsPiece detail p x → PrintsIn detail c extra (within t p) (b ++ codes "::" ++ x) false
 unfolding parts_in right_parts not_empty besides
-within-in {detail} c extra t b prints prefix p x is =
+within-in {detail} c extra t b prints p x prefix is =
     let w = within t p in
-    own-in c extra w (b ++ codes "::" ++ x) (within-text detail c left c t b prints.left_text prefix p x (is.within_is c t) (is.piece_text c))
+    own-in c extra w (b ++ codes "::" ++ x) (within-text detail c left c t b prints.left_text p x (is.within_is c t ∙ prefix) (is.piece_text c))
     (omega (
       arith,
       prints.cost,
-      within-cost detail c left c t prefix p (is.within_is c t),
+      within-cost detail c left c t p (is.within_is c t ∙ prefix),
       is.piece_cost c,
       cost_shown detail right c w [] refl refl,
       is.filled,
@@ -123,8 +116,8 @@ within-in {detail} c extra t b prints prefix p x is =
 pub within-names : {detail : Detail} (t : Term) (b : List ℕ) → Prints detail t b false → (p : Term) (x : List ℕ) → IsPiece detail p x
     → PrintsName detail (within t p) (b ++ codes "::" ++ x)
 within-names t b prints p x is = record {
-  left_text = λ c. (within-in c 0 t b (prints-in c 0 t b false prints) (prints.as_prefix c) p x is).left_text;
-  cost = λ c. omega (arith, (within-in c 0 t b (prints-in c 0 t b false prints) (prints.as_prefix c) p x is).cost);
+  left_text = λ c. (within-in c 0 t b (prints-in c 0 t b false prints) p x (prints.as_prefix c p) is).left_text;
+  cost = λ c. omega (arith, (within-in c 0 t b (prints-in c 0 t b false prints) p x (prints.as_prefix c p) is).cost);
 }
 
 -- It does so anywhere,
@@ -138,11 +131,11 @@ within-prints t b prints p x is opening =
 -- or where parameters name arguments with these texts.
 pub within-as : (detail : Detail) (names : Names) (is_dependent : Bool) (t : Term) (b : List ℕ) → PrintsAs detail names is_dependent t b false
     → (p : Term) (x : List ℕ) → IsPiece detail p x → opening_text p ≡ codes "<" → PrintsAs detail names is_dependent (within t p) (b ++ codes "::" ++ x) false
-unfolding pack_length last_piece first_of is_function_type length_if_pack prefix_item
+unfolding pack_length last_piece first_of is_function_type length_if_pack prefix_item component_parts
 within-as detail names false t b prints p x is opening = within-prints t b prints p x is opening
 within-as detail names true t b prints p x is opening =
-    made-given names (within t p) (b ++ codes "::" ++ x) false (λ c given. within-in c 3 t b (prints.prints c given) (prints.as_prefix c) p x is)
-    (λ arguments single. rw (prints.packless arguments single, is.packless arguments) refl) refl refl (λ c. refl) opening
+    made-given names (within t p) (b ++ codes "::" ++ x) false (λ c given. within-in c 3 t b (prints.prints c given) p x (prints.as_prefix c p) is)
+    (λ arguments single. rw (prints.packless arguments single, is.packless arguments) refl) refl refl (λ c p. refl) opening
 
 -- It names its class without its scope.
 pub within-class : {detail : Detail} (t : Term) (b : List ℕ) → Prints detail t b false → (p : Term) (x : List ℕ) → IsPiece detail p x
@@ -261,24 +254,24 @@ instance-in {detail} c extra t b p opening ts tail l is all =
 pub instance-prints : {detail : Detail} (t : Term) (b : List ℕ) → Prints detail t b false
     → (ts : List Term) (tail : Term) (l : List ℕ) → IsTail tail → PrintAll detail 3 ts l
     → Prints detail (instance t (list_with ts tail)) (b ++ opening_bracket detail ++ l ++ closing_bracket detail) false
-unfolding is_open pack_length length_if_pack prefix_item last_piece opening_text is_plain_integer first_of
+unfolding is_open pack_length length_if_pack prefix_item component_parts last_piece opening_text is_plain_integer first_of
 instance-prints {detail} t b p ts tail l is all =
     made-prints (instance t (list_with ts tail)) (b ++ opening_bracket detail ++ l ++ closing_bracket detail) false
     (λ c. instance-in c 0 t b (prints-in c 0 t b false p) p.opening ts tail l is (all-in detail c 3 ts l all))
     (rw (p.is_closed, list-closed detail 3 ts tail l is all) refl) (λ scope. rw (p.packless scope, list-packless detail scope 3 ts tail l is all) refl)
-    refl (λ c. refl) refl (λ e. cc e) (λ e. cc e)
+    refl (λ c p. refl) refl (λ e. cc e) (λ e. cc e)
 
 -- or where parameters name arguments with these texts.
 pub instance-as : (detail : Detail) (names : Names) (is_dependent : Bool) (t : Term) (b : List ℕ) → PrintsAs detail names is_dependent t b false
     → (ts : List Term) (tail : Term) (l : List ℕ) → IsTail tail → PrintAllAs detail names is_dependent 3 ts l
     → PrintsAs detail names is_dependent (instance t (list_with ts tail)) (b ++ opening_bracket detail ++ l ++ closing_bracket detail) false
-unfolding pack_length is_function_type length_if_pack prefix_item last_piece opening_text first_of
+unfolding pack_length is_function_type length_if_pack prefix_item component_parts last_piece opening_text first_of
 instance-as detail names false t b p ts tail l is all = instance-prints t b p ts tail l is all
 instance-as detail names true t b p ts tail l is all =
     made-given names (instance t (list_with ts tail)) (b ++ opening_bracket detail ++ l ++ closing_bracket detail) false
     (λ c given. instance-in c 3 t b (p.prints c given) p.opening ts tail l is (all-as-in detail names true c 3 ts l given all))
     (λ arguments single. rw (p.packless arguments single, list-packless-as detail names true arguments 3 ts tail l single is all) refl)
-    refl refl (λ c. refl) refl
+    refl refl (λ c p. refl) refl
 
 -- Its class is named without them.
 pub instance-class : {detail : Detail} (t : Term) (b class : List ℕ) → Prints detail t b false → NamesClass detail t class
@@ -362,7 +355,7 @@ tagged-prints {detail} of_structor t b p tag plain =
 -- also where parameters name arguments with these texts.
 pub tagged-as : (detail : Detail) (names : Names) (is_dependent of_structor : Bool) (t : Term) (b : List ℕ) → PrintsAs detail names is_dependent t b false
     → (tag : List ℕ) → IsUnmarked tag → PrintsAs detail names is_dependent (tagged of_structor t tag) (b ++ tag_text tag) false
-unfolding besides pack_length last_piece opening_text is_function_type length_if_pack prefix_item
+unfolding besides pack_length last_piece opening_text is_function_type length_if_pack prefix_item component_parts
 tagged-as detail names false of_structor t b p tag plain = tagged-prints of_structor t b p tag plain
 tagged-as detail names true of_structor t b p tag plain =
     let w = tagged of_structor t tag in
@@ -370,7 +363,7 @@ tagged-as detail names true of_structor t b p tag plain =
     (λ c given. own-in c 3 w (b ++ tag_text tag) (tagged-left detail of_structor t b tag plain c (p.prints c given).left_text)
     (tagged-costs detail 3 of_structor t b tag c (p.prints c given).cost)
     (omega (arith, (p.prints c given).some, length-append b (tag_text tag))) refl)
-    p.packless refl refl (λ c. refl) refl
+    p.packless refl refl (λ c p. refl) refl
 
 -- a tagged name in another name
 pub within-tagged : {detail : Detail} (t : Term) (b : List ℕ) → Prints detail t b false → (p : Term) (x : List ℕ) → IsPiece detail p x

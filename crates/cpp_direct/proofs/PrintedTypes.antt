@@ -4,14 +4,14 @@ use Prim.Native.String.{String}
 use Rattle.sym_print.specs.Details.{has_arguments}
 use Rattle.sym_print.specs.Unfold.{text}
 use Rattle.cpp_direct.proofs.PrintedParts.{text_shown, cost_shown, alone_shown, first_cost_shown}
-use Rattle.cpp_direct.specs.Prints.{Prints, PrintsIn, PrintsGiven, PrintsAs, Named, Names, IsGiven, AreSingle, EndsAsInteger, written_of, IsUnmarked, unmarked_parts, written_in}
-use Rattle.cpp_grammar.specs.Items.{closed, Form, left, right, low, Context, Head, lref, collapsed, head_with, head, is_reference, is_funarr, is_empty, argument, head_closed, indexed}
+use Rattle.cpp_direct.specs.Prints.{Prints, PrintsIn, PrintsGiven, PrintsAs, Named, Names, IsGiven, AreSingle, EndsAsInteger, joined_to, written_of, IsUnmarked, unmarked_parts, written_in}
+use Rattle.cpp_grammar.specs.Items.{closed, Form, left, right, piece, low, Context, Head, lref, collapsed, head_with, head, is_reference, is_funarr, is_empty, argument, head_closed, indexed}
 use Rattle.cpp_grammar.specs.Meaning.{is_void}
-use Rattle.cpp_grammar.specs.Parts.{as_item, says, text_part, qualifier_text, prefix_item, last_piece, opening_text, marked_parts, reference_parts, qualified_left, qualified_right, closing_right, left_parts, right_parts, parts_in, not_empty, is_plain_integer, types_of}
-use Rattle.cpp_grammar.specs.References.{is_function_type}
+use Rattle.cpp_grammar.specs.Parts.{as_item, says, text_part, qualifier_text, prefix_item, before_piece, attached_parts, component_parts, last_piece, opening_text, marked_parts, reference_parts, qualified_left, qualified_right, closing_right, left_parts, right_parts, parts_in, not_empty, is_plain_integer, types_of}
+use Rattle.cpp_grammar.specs.References.{is_function_type, is_module}
 use Rattle.cpp_grammar.specs.Scope.{is_open, pack_length, length_if_pack, arguments_of, element}
-use Rattle.cpp_grammar.specs.Term.{Qualifiers, Term, function_type, pointer, lvalue, rvalue, qualified, parameter}
-use Rattle.std.proofs.Common.{◌≡◌, refl, ap, ◌∙◌, ℕ, ◌+◌, ◌*◌, ◌≤◌, List, [], ◌∷◌, ◌++◌, length, Bool, true, false, None, arith, codes, length-append, sym, subst, append-nil, Some}
+use Rattle.cpp_grammar.specs.Term.{Qualifiers, Term, function_type, pointer, lvalue, rvalue, qualified, parameter, operation, nil, absent}
+use Rattle.std.proofs.Common.{◌≡◌, refl, ap, ◌∙◌, ℕ, ◌+◌, ◌*◌, ◌≤◌, List, [], ◌∷◌, ◌++◌, length, Bool, true, false, nat_eq, None, arith, codes, length-append, sym, subst, append-nil, Some}
 use Rattle.sym_print.specs.Unshared.{text_of, cost_of}
 
 marked : (c : Context) (t : Term) (mark : String) → is_funarr (head c t) ≡ false → marked_parts c t mark ≡ as_item left c t ∷ says mark ∷ []
@@ -26,6 +26,22 @@ reference c form t mark e f = rw (e, reference_parts) (marked c t mark f)
 closing : (c : Context) (t : Term) → is_funarr (head c t) ≡ false → closing_right c t ≡ as_item right c t ∷ []
 unfolding closing_right
 closing c t e = rw (e, closing_right) refl
+
+-- what colons follow as a prefix is no module
+pub no-module : (t : Term) → ((c : Context) (p : Term) → component_parts c t p ≡ joined_to left c c t p) → is_module t ≡ false
+unfolding is_module component_parts attached_parts before_piece
+no-module (operation a b x y) joined = go (nat_eq a 87) (nat_eq b 64) x (joined closed nil)
+  where
+    go : (first second : Bool) (x : Term)
+        → elim first [
+          | true ↦ elim second [ true ↦ attached_parts closed x nil y | false ↦ attached_parts closed absent nil (operation a b x y) ]
+          | false ↦ prefix_item closed (operation a b x y) ∷ says "::" ∷ as_item piece closed nil ∷ []
+        ] ≡ joined_to left closed closed (operation a b x y) nil → first ≡ false
+    go false second x e = refl
+    go true false x e = cc e
+    go true true absent e = cc e
+    go true true _ e = cc e
+no-module _ joined = refl
 
 -- What prints anywhere prints in a context.
 pub prints-in : {detail : Detail} (c : Context) (extra : ℕ) (t : Term) (b : List ℕ) (r : Bool) → Prints detail t b r → PrintsIn detail c extra t b r
@@ -44,7 +60,7 @@ prints-in c extra t b r p = record {
 -- What prints in each context prints anywhere, if it is closed and names no packs.
 pub made-prints : {detail : Detail} (t : Term) (b : List ℕ) (r : Bool) → ((c : Context) → PrintsIn detail c 0 t b r) → is_open t ≡ false
     → ((scope : Term) → pack_length scope t ≡ None)
-    → length_if_pack t ≡ None → ((c : Context) → prefix_item c t ≡ as_item left c t) → opening_text (last_piece t) ≡ codes "<"
+    → length_if_pack t ≡ None → ((c : Context) (p : Term) → component_parts c t p ≡ joined_to left c c t p) → opening_text (last_piece t) ≡ codes "<"
     → (is_plain_integer t ≡ true → EndsAsInteger b)
     → (r ≡ true → (c : Context) → 2 + cost_of (written_of detail left c t) + cost_of (written_of detail right c t) ≤ 4 * length b) → Prints detail t b r
 made-prints t b r h is_closed packless no_pack as_prefix opening integer reference_cost = record {
@@ -68,7 +84,7 @@ made-prints t b r h is_closed packless no_pack as_prefix opening integer referen
 -- What prints in each context where parameters name arguments with these texts prints wherever they do.
 pub made-given : {detail : Detail} (names : Names) (t : Term) (b : List ℕ) (r : Bool) → ((c : Context) → IsGiven detail names c → PrintsIn detail c 3 t b r)
     → ((arguments : Term) → AreSingle names arguments → pack_length arguments t ≡ None) → is_function_type t ≡ false → length_if_pack t ≡ None
-    → ((c : Context) → prefix_item c t ≡ as_item left c t) → opening_text (last_piece t) ≡ codes "<" → PrintsGiven detail names t b r
+    → ((c : Context) (p : Term) → component_parts c t p ≡ joined_to left c c t p) → opening_text (last_piece t) ≡ codes "<" → PrintsGiven detail names t b r
 made-given names t b r prints packless no_function no_pack as_prefix opening =
     record { prints = prints; packless = packless; no_function = no_function; no_pack = no_pack; as_prefix = as_prefix; opening = opening }
 
@@ -148,7 +164,7 @@ marked-as : (detail : Detail) (names : Names) (is_dependent : Bool) (t made : Te
     → ((c : Context) (extra : ℕ) → PrintsIn detail c extra t b r → (is_reference (head c made) ≡ q) × (is_funarr (head c made) ≡ false))
     → ((c : Context) → is_empty c made ≡ false) → is_function_type made ≡ false → is_void made ≡ false → is_open made ≡ is_open t
     → ((arguments : Term) → pack_length arguments made ≡ pack_length arguments t) → length_if_pack made ≡ None
-    → ((c : Context) → prefix_item c made ≡ as_item left c made) → opening_text (last_piece made) ≡ codes "<" → is_plain_integer made ≡ false
+    → ((c : Context) (p : Term) → component_parts c made p ≡ joined_to left c c made p) → opening_text (last_piece made) ≡ codes "<" → is_plain_integer made ≡ false
     → PrintsAs detail names is_dependent t b r → PrintsAs detail names is_dependent made (b ++ mark) q
 marked-as detail names is_dependent t made mark b r q marks heads filled no_function no_void open_is packs_are no_pack as_prefix opening no_integer p = go is_dependent p
   where
@@ -172,10 +188,10 @@ pointer-marks detail c t e = record { left_is = marked c t "*" e; right_is = clo
 
 pub pointer-as : (detail : Detail) (names : Names) (is_dependent : Bool) (t : Term) (b : List ℕ) (r : Bool) → PrintsAs detail names is_dependent t b r
     → PrintsAs detail names is_dependent (pointer t) (b ++ codes "*") false
-unfolding head head_with is_reference is_funarr is_empty is_function_type is_void is_open pack_length length_if_pack prefix_item last_piece opening_text is_plain_integer
+unfolding head head_with is_reference is_funarr is_empty is_function_type is_void is_open pack_length length_if_pack prefix_item component_parts last_piece opening_text is_plain_integer
 pointer-as detail names is_dependent t b r p =
     marked-as detail names is_dependent t (pointer t) (codes "*") b r false (λ c extra h. pointer-marks detail c t h.is_funarr_head) (λ c extra h. (refl, refl)) (λ c. refl)
-    refl refl refl (λ arguments. refl) refl (λ c. refl) refl refl p
+    refl refl refl (λ arguments. refl) refl (λ c p. refl) refl refl p
 
 -- An lvalue reference prints its type, which is no reference, and its mark.
 lvalue-marks : (detail : Detail) (c : Context) (t : Term) → is_reference (head c t) ≡ false → is_funarr (head c t) ≡ false → IsMarked detail c t (lvalue t) (codes "&")
@@ -184,10 +200,10 @@ lvalue-marks detail c t e f = record { left_is = reference c low t "&" e f; righ
 
 pub lvalue-as : (detail : Detail) (names : Names) (is_dependent : Bool) (t : Term) (b : List ℕ) → PrintsAs detail names is_dependent t b false
     → PrintsAs detail names is_dependent (lvalue t) (b ++ codes "&") true
-unfolding head head_with is_reference is_funarr is_empty is_function_type is_void is_open pack_length length_if_pack prefix_item last_piece opening_text is_plain_integer
+unfolding head head_with is_reference is_funarr is_empty is_function_type is_void is_open pack_length length_if_pack prefix_item component_parts last_piece opening_text is_plain_integer
 lvalue-as detail names is_dependent t b p =
     marked-as detail names is_dependent t (lvalue t) (codes "&") b false true (λ c extra h. lvalue-marks detail c t h.is_reference_head h.is_funarr_head) (λ c extra h. (refl, refl)) (λ c. refl)
-    refl refl refl (λ arguments. refl) refl (λ c. refl) refl refl p
+    refl refl refl (λ arguments. refl) refl (λ c p. refl) refl refl p
 
 pub lvalue-in : {detail : Detail} (c : Context) (extra : ℕ) (t : Term) (b : List ℕ) → PrintsIn detail c extra t b false
     → PrintsIn detail c extra (lvalue t) (b ++ codes "&") true
@@ -219,10 +235,10 @@ rvalue-in {detail} c extra t b p =
 
 pub rvalue-as : (detail : Detail) (names : Names) (is_dependent : Bool) (t : Term) (b : List ℕ) → PrintsAs detail names is_dependent t b false
     → PrintsAs detail names is_dependent (rvalue t) (b ++ codes "&&") true
-unfolding head head_with is_empty is_function_type is_void is_open pack_length length_if_pack prefix_item last_piece opening_text is_plain_integer
+unfolding head head_with is_empty is_function_type is_void is_open pack_length length_if_pack prefix_item component_parts last_piece opening_text is_plain_integer
 rvalue-as detail names is_dependent t b p =
     marked-as detail names is_dependent t (rvalue t) (codes "&&") b false true (λ c extra h. rvalue-marks detail c t h.is_reference_head h.is_funarr_head) (λ c extra h. (collapsed-refers (head c t), collapsed-no_function (head c t))) (λ c. refl)
-    refl refl refl (λ arguments. refl) refl (λ c. refl) refl refl p
+    refl refl refl (λ arguments. refl) refl (λ c p. refl) refl refl p
 
 -- the qualifiers of a type that is declared const
 abbrev pub constant : Qualifiers
@@ -255,10 +271,10 @@ const-in {detail} c extra t b p =
 
 pub const-as : (detail : Detail) (names : Names) (is_dependent : Bool) (t : Term) (b : List ℕ) → PrintsAs detail names is_dependent t b false
     → PrintsAs detail names is_dependent (qualified constant t) (b ++ codes " const") false
-unfolding head head_with is_empty is_function_type is_void is_open pack_length length_if_pack prefix_item last_piece opening_text is_plain_integer
+unfolding head head_with is_empty is_function_type is_void is_open pack_length length_if_pack prefix_item component_parts last_piece opening_text is_plain_integer
 const-as detail names is_dependent t b p =
     marked-as detail names is_dependent t (qualified constant t) (codes " const") b false false (λ c extra h. const-marks detail c t h.no_function h.is_reference_head h.is_funarr_head) (λ c extra h. (h.is_reference_head, h.is_funarr_head)) (λ c. refl)
-    refl refl refl (λ arguments. refl) refl (λ c. refl) refl refl p
+    refl refl refl (λ arguments. refl) refl (λ c p. refl) refl refl p
 
 -- ## Parameters
 
@@ -287,10 +303,10 @@ parameter-in {detail} c k b r p =
 
 -- It does so where the argument has this text.
 pub parameter-given : {detail : Detail} (names : Names) (k : ℕ) (n : Named) → names k ≡ Some n → PrintsGiven detail names (parameter k) n.bytes n.reference
-unfolding pack_length is_function_type length_if_pack prefix_item last_piece opening_text
+unfolding pack_length is_function_type length_if_pack prefix_item component_parts last_piece opening_text
 parameter-given names k n e =
     made-given names (parameter k) n.bytes n.reference (λ c given. parameter-in c k n.bytes n.reference (given k n e))
-    (λ arguments single. single k n e) refl refl (λ c. refl) refl
+    (λ arguments single. single k n e) refl refl (λ c p. refl) refl
 
 -- An rvalue reference to a reference prints what that reference prints.
 pub rvalue-again : {detail : Detail} (c : Context) (k : ℕ) (b : List ℕ) → Prints detail (argument c k) b true → PrintsIn detail c 3 (rvalue (parameter k)) b true
@@ -323,7 +339,7 @@ rvalue-again {detail} c k b p =
 -- It does so where the argument has this text.
 pub rvalue-given : {detail : Detail} (names : Names) (k : ℕ) (b : List ℕ) → names k ≡ Some (record { bytes = b; reference = true })
     → PrintsGiven detail names (rvalue (parameter k)) b true
-unfolding pack_length is_function_type length_if_pack prefix_item last_piece opening_text
+unfolding pack_length is_function_type length_if_pack prefix_item component_parts last_piece opening_text
 rvalue-given names k b e =
     let n : Named = record { bytes = b; reference = true } in
-    made-given names (rvalue (parameter k)) b true (λ c given. rvalue-again c k b (given k n e)) (λ arguments single. single k n e) refl refl (λ c. refl) refl
+    made-given names (rvalue (parameter k)) b true (λ c given. rvalue-again c k b (given k n e)) (λ arguments single. single k n e) refl refl (λ c p. refl) refl

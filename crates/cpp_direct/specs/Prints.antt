@@ -1,13 +1,14 @@
 -- Trees with known text: they print it at the left and nothing at the right, wherever they are.
 use Rattle.std.specs.Prelude.{◌≡◌, ℕ, ◌+◌, ◌*◌, ◌≤◌, List, [], ◌∷◌, ◌++◌, length, Bool, true, false, cond, Option, None, Some, codes, ◌⊎◌}
 use Rattle.sym_print.specs.declared.detail.Detail.{Detail}
+use Rattle.sym_print.specs.Unfold.{PartOf}
 use Rattle.sym_print.specs.Unshared.{Unshared, text_of, cost_of}
 use Rattle.cpp_grammar.specs.Term.{Signed, Term, lvalue, rvalue, nil, list}
 use Rattle.cpp_grammar.specs.Scope.{element, is_open, pack_length, length_if_pack}
 use Rattle.cpp_grammar.specs.References.{is_function_type}
-use Rattle.cpp_grammar.specs.Items.{Form, full, bare, left, right, base, piece, Context, closed, head, is_reference, is_funarr, is_empty, argument}
+use Rattle.cpp_grammar.specs.Items.{Form, full, bare, left, right, base, piece, Item, Context, closed, head, is_reference, is_funarr, is_empty, argument}
 use Rattle.cpp_grammar.specs.Meaning.{is_void}
-use Rattle.cpp_grammar.specs.Parts.{as_item, says, prefix_item, within_parts, last_piece, opening_text, is_plain_integer}
+use Rattle.cpp_grammar.specs.Parts.{as_item, says, component_parts, within_parts, last_piece, opening_text, is_plain_integer}
 pub use Rattle.cpp_direct.specs.WrittenParts.{IsUnmarked, closing_bracket, closing_byte, opening_bracket, opening_byte, unmarked_parts, written, written_in, written_instance}
 use Rattle.cpp_direct.specs.HolesOfTypes.{as_const}
 use Rattle.cpp_direct.specs.declared.open.Pattern.{Pattern}
@@ -17,6 +18,10 @@ use Rattle.cpp_direct.specs.declared.open.Pattern.TheVariants as patterns
 -- what is written of a tree in a form, wherever it is, in a detail
 abbrev pub written_of : Detail → Form → Context → Term → Unshared
 written_of detail form context t = written detail (record { tree = t; form = form; context = context })
+
+-- a tree, in a form and in a context of its own, colons and a piece of a name
+abbrev pub joined_to : Form → (own context : Context) → (t p : Term) → List (PartOf Item)
+joined_to form own context t p = as_item form own t ∷ says "::" ∷ as_item piece context p ∷ []
 
 -- the name of a builtin type whose integers omit it is one of these words, or ends in one after a blank
 abbrev pub EndsAsInteger : List ℕ → Type 0
@@ -36,7 +41,7 @@ pub record Prints (detail : Detail) (t : Term) (bytes : List ℕ) (reference : B
   pub no_function : is_function_type t ≡ false
   pub no_pack : length_if_pack t ≡ None
   pub reference_cost : reference ≡ true → (context : Context) → 2 + cost_of (written_of detail left context t) + cost_of (written_of detail right context t) ≤ 4 * length bytes
-  pub as_prefix : (context : Context) → prefix_item context t ≡ as_item left context t
+  pub as_prefix : (context : Context) (p : Term) → component_parts context t p ≡ joined_to left context context t p
   pub opening : opening_text (last_piece t) ≡ codes "<"
   pub void : is_void t ≡ true → bytes ≡ codes "void"
   pub integer : is_plain_integer t ≡ true → EndsAsInteger bytes
@@ -83,7 +88,7 @@ pub record PrintsGiven (detail : Detail) (names : Names) (t : Term) (bytes : Lis
   pub packless : (arguments : Term) → AreSingle names arguments → pack_length arguments t ≡ None
   pub no_function : is_function_type t ≡ false
   pub no_pack : length_if_pack t ≡ None
-  pub as_prefix : (context : Context) → prefix_item context t ≡ as_item left context t
+  pub as_prefix : (context : Context) (p : Term) → component_parts context t p ≡ joined_to left context context t p
   pub opening : opening_text (last_piece t) ≡ codes "<"
 
 -- a tree that has this text there, or anywhere
@@ -130,8 +135,7 @@ pub record NamesClass (detail : Detail) (t : Term) (class : List ℕ) : Type 0 w
 pub record PrintsPiece (detail : Detail) (p : Term) (bytes : List ℕ) : Type 0 where
   pub piece_text : (context : Context) → text_of (written_of detail piece context p) ≡ bytes
   pub piece_cost : (context : Context) → cost_of (written_of detail piece context p) ≤ 4 * length bytes
-  pub as_component : (context : Context) (prefix : Term)
-      → within_parts context prefix p ≡ prefix_item context prefix ∷ says "::" ∷ as_item piece context p ∷ []
+  pub as_component : (context : Context) (prefix : Term) → within_parts context prefix p ≡ component_parts context prefix p
   pub is_closed : is_open p ≡ false
   pub packless : (scope : Term) → pack_length scope p ≡ None
   pub opening : opening_text p ≡ codes "<"
@@ -143,7 +147,7 @@ pub record Shows (detail : Detail) (t : Term) (bytes : List ℕ) : Type 0 where
 
 -- An encoding that has this text before what is in it, in a detail.
 pub record Encloses (detail : Detail) (t : Term) (bytes : List ℕ) : Type 0 where
-  pub as_prefix : (context : Context) → prefix_item context t ≡ as_item bare closed t
+  pub as_prefix : (context : Context) (p : Term) → component_parts context t p ≡ joined_to bare closed context t p
   pub bare_text : text_of (written_of detail bare closed t) ≡ bytes
   pub bare_cost : 1 + cost_of (written_of detail bare closed t) ≤ 4 * length bytes
   pub is_closed : is_open t ≡ false

@@ -12,12 +12,12 @@ use Rattle.cpp_grammar.specs.declared.production.Production.{Production}
 use Rattle.cpp_grammar.specs.Term.{Term, parameter}
 use Rattle.cpp_grammar.specs.Scope.{count, element, is_list, has_pack, length_if_pack, is_open, pack_length, Free, none_free, one_free, several_free, free_in}
 use Rattle.cpp_grammar.specs.Values.{Lists, both_lists, longer_list, shorter_list, no_list, Candidate, State, Around, prefix_tree, Value, tree, text_of, part, local_number}
-use Rattle.cpp_grammar.specs.References.{appended, with_packs, packs_in, substituted, parameter_named}
+use Rattle.cpp_grammar.specs.References.{appended, with_packs, packs_in, is_module, substituted, parameter_named}
 use Rattle.cpp_grammar.specs.Between.{listed_so_far, parameter_so_far, index_of, between, next, argument_so_far}
 use Rattle.cpp_grammar.specs.Row.{Before, quiet, goes, becomes, tests, holds, unread, before_part}
 use Rattle.cpp_grammar.specs.Meant.{tested as tested_, done}
 use Rattle.cpp_grammar.specs.Rows.{row_of}
-use Rattle.cpp_grammar.specs.Rescoping.{generic_so_far, parameter_here, is_foreign, in_scope, under_scope, with_free, restated, substituted_wide, numbered, place_in, named_in, left_at, with_lists, listed_by, opening_wide, is_instance, holder_so_far, between_wide, close_wide, cpp_wide, unfold_wide, argument_here}
+use Rattle.cpp_grammar.specs.Rescoping.{generic_so_far, parameter_here, is_foreign, in_scope, under_scope, with_free, restated, substituted_wide, numbered, place_in, named_in, left_at, with_lists, listed_by, opening_wide, is_instance, holder_so_far, module_named, module_so_far, between_wide, close_wide, cpp_wide, unfold_wide, argument_here}
 use Rattle.cpp_grammar.proofs.Chosen.{either, if_there}
 use Rattle.cpp_grammar.proofs.Ways.{Way, reading_by, abi_way, wide_way}
 use Rattle.cpp_grammar.specs.Unfolding.{last_token, number_tested, opening, close, production_at, byte_of, cpp, first_around, first_state, first_tree, unfold_cpp}
@@ -40,7 +40,7 @@ substituted_bad : (around : Around) (place : ℕ) (o : Option Candidate) (state 
 unfolding substituted
 substituted_bad around place None state = tt
 substituted_bad around place (Some c) state =
-    either IsBad (is_open c.tree && (around.in_lambda || not (nat_eq c.encoding around.encoding))) _ _ (λ h. tt)
+    either IsBad (is_module c.tree || (is_open c.tree && (around.in_lambda || not (nat_eq c.encoding around.encoding)))) _ _ (λ h. tt)
     (λ h. bad_bind (with_packs place around.in_expansion (packs_in around.scope c.tree) state) (λ s. Ok (found (tree c.tree true) s))
     (packs_bad place around.in_expansion (packs_in around.scope c.tree) state) (λ s. tt))
 
@@ -153,6 +153,10 @@ holder_bad : (around : Around) (place : ℕ) (state : State) → IsBad (holder_s
 unfolding holder_so_far listed_so_far
 holder_bad around place state = either IsBad (is_instance (prefix_tree around.prefix)) _ _ (λ h. tt) (λ h. tt)
 
+module_bad : (around : Around) (place number : ℕ) (state : State) → IsBad (module_so_far around place number state)
+unfolding module_so_far listed_so_far
+module_bad around place number state = if_there IsBad (module_named number state) _ _ tt (λ t is. tt)
+
 wide_between_bad : (p : Production) (around : Around) (place : ℕ) (vs : List Value) (state : State) → IsBad (between_wide p around place vs state)
 unfolding between_wide
 wide_between_bad Production.NestParameter around place (v ∷ []) state = here_bad around place (index_of v) state
@@ -161,6 +165,7 @@ wide_between_bad Production.ParameterArgument around place (v ∷ []) state = he
 wide_between_bad Production.ParameterExpression around place (v ∷ []) state = argument_here_bad around (place - 1) (index_of v) state
 wide_between_bad Production.HeldArguments around place [] state = tt
 wide_between_bad Production.Holder around place (v ∷ []) state = holder_bad around place state
+wide_between_bad Production.NamedModule around place (v ∷ []) state = module_bad around (place - 1) (counted_value Seq36 (text_of v)) state
 wide_between_bad p around place vs state = between_bad p around place vs state
 
 wide_close_bad : (p : Production) (byte : ℕ) (around : Around) (place : ℕ) (began : State) (vs : List Value) (state : State) → IsBad (close_wide p byte around place began vs state)

@@ -1,23 +1,25 @@
 -- The steps between the parts of a production keep what is closed closed.
-use Rattle.std.proofs.Common.{◌≡◌, refl, sym, ◌∙◌, subst, ℕ, ◌-◌, List, [], ◌∷◌, length, Bool, true, false, cond, None, Ok, Err}
+use Rattle.std.proofs.Common.{◌≡◌, refl, sym, ◌∙◌, subst, ℕ, ◌-◌, List, [], ◌∷◌, length, Bool, true, false, not, ◌&&◌, cond, nat_eq, Option, Some, None, Ok, Err}
 use Rattle.sym_core.specs.declared.refusal.Refusal.TheVariants.{BadReference}
+use Rattle.sym_core.specs.declared.NumberKind.TheVariants.{Seq36}
+use Rattle.sym_core.specs.Value.{counted_value}
 use Rattle.std.proofs.lemmas.Bool.{true≢false, false≢true}
 use Rattle.sym_link.specs.Reading.{Next, ◌>>=◌}
 use Rattle.cpp_grammar.specs.declared.production.Production.{Production}
-use Rattle.cpp_grammar.specs.Rescoping.{generic_number, generic_so_far, parameter_here, argument_here, with_holder, is_instance, holder_so_far, counted_unless, between_wide}
+use Rattle.cpp_grammar.specs.Rescoping.{generic_number, generic_so_far, parameter_here, argument_here, with_holder, is_instance, holder_so_far, counted_unless, place_in, named_in, named_by_both, module_of, module_named, module_so_far, between_wide}
 use Rattle.cpp_grammar.specs.Term.{Term, holder, parameter}
 use Rattle.cpp_grammar.specs.Scope.{is_open}
-use Rattle.cpp_grammar.specs.Values.{by_some, State, Around, prefix_tree, prefix_listed, Value, nothing_there, tree, tree_of, part}
-use Rattle.cpp_grammar.specs.References.{appended, parameter_named}
+use Rattle.cpp_grammar.specs.Values.{by_some, Candidate, State, Around, prefix_tree, prefix_listed, Value, nothing_there, tree, tree_of, text_of, part}
+use Rattle.cpp_grammar.specs.References.{appended, is_module, parameter_named}
 use Rattle.cpp_grammar.specs.Between.{in_signature, under_expansion, after, inside, Going, listed_so_far, parameter_so_far, argument_so_far, index_of, next, between}
 use Rattle.cpp_grammar.specs.Row.{Where, as_before, in_its_name, in_its_types, in_a_signature, under_it, nameless, after_part, after_the_name, Before, quiet, goes, becomes, tests, holds, unread, before_part}
 use Rattle.cpp_grammar.specs.Meant.{made, is_listing, around_part, packs_within, gained, replaced, tested, done}
 use Rattle.cpp_grammar.specs.Rows.{row_of}
 use Rattle.cpp_grammar.proofs.Ways.{has_signature}
 use Rattle.cpp_grammar.proofs.Chosen.{either}
-use Rattle.cpp_grammar.proofs.Steps.{all_pass, step_passes, is_here, goes_here}
+use Rattle.cpp_grammar.proofs.Steps.{second_of_both, all_pass, step_passes, is_here, goes_here}
 use Rattle.cpp_grammar.proofs.ClosedValues.{all_where, Good, AllGood, GoodPrefix, held, good_nothing, good_part, good_prefix, made_tree_good}
-use Rattle.cpp_grammar.proofs.ClosedStates.{Bare, Within, Grows, grows_same, grows_one, grows_held, grows_packs, unless_grows, gained_grows, parameter_good, parameter_grows, ok_same, behind_bind}
+use Rattle.cpp_grammar.proofs.ClosedStates.{Bare, Within, IsOld, AllOld, old_get, Grows, grows_same, grows_one, grows_held, grows_packs, unless_grows, gained_grows, parameter_good, parameter_grows, ok_same, behind_bind}
 
 -- what surrounds a part, which is in the same encoding
 pub record Fits (own : Bool) (around inner : Around) : Type 0 where
@@ -213,6 +215,29 @@ holder_goes around place at state n pre e =
     either (λ x. x ≡ Ok n → GoesOn true around at state n) (is_instance (prefix_tree around.prefix)) _ _ (λ is h. absurd cc)
     (λ is h. named_goes around at state (with_holder around named state) named n good (grows_held true around at named state good) h) e
 
+not_true : (b : Bool) → not b ≡ true → b ≡ false
+not_true true h = absurd (false≢true h)
+not_true false h = refl
+
+-- a module has no parameters wherever it was made
+module_goes : (around : Around) (place number at : ℕ) (state : State) (n : Next Value State Around) → AllOld true around at state.candidates → module_so_far around place number state ≡ Ok n → GoesOn true around at state n
+unfolding module_so_far module_named named_by_both named_in module_of
+module_goes around place number at state n old e = found_ (named_by_both state.candidates number) named e
+  where
+    named : (c : Candidate) → named_by_both state.candidates number ≡ Some c → IsOld true around at c
+    named c =
+        either (λ o. o ≡ Some c → IsOld true around at c) (nat_eq (place_in false state.candidates number) (place_in true state.candidates number)) _ _
+        (λ same is. old_get true around at state.candidates (place_in false state.candidates number) c old is) (λ other is. absurd cc)
+
+    found_ : (o : Option Candidate) → ((c : Candidate) → o ≡ Some c → IsOld true around at c) → ◌≡◌ {A = Going} (elim (module_of o) [ None ↦ Err (BadReference place) | Some t ↦ listed_so_far around t [] state ]) (Ok n) → GoesOn true around at state n
+    found_ None each h = let clash : ◌≡◌ {A = Going} (Err (BadReference place)) (Ok n) = h in absurd cc
+    found_ (Some c) each h =
+        either (λ m. ◌≡◌ {A = Going} (elim m [ None ↦ Err (BadReference place) | Some t ↦ listed_so_far around t [] state ]) (Ok n) → GoesOn true around at state n) (is_module c.tree && not (is_open c.tree)) (Some c.tree) None
+        (λ is g.
+        let closed = not_true (is_open c.tree) (second_of_both (is_module c.tree) (not (is_open c.tree)) is) in
+        named_goes around at state state c.tree n (record { closed = λ bare. closed; scopes = λ n. (each c refl).scopes }) (grows_same true around at state state refl) g)
+        (λ none g. let clash : ◌≡◌ {A = Going} (Err (BadReference place)) (Ok n) = g in absurd cc) h
+
 base_goes : (around : Around) (at : ℕ) (state : State) (n : Next Value State Around) → GoodPrefix (Bare true around) around.prefix →
     ◌≡◌ {A = Going} (next [] (inside around) (counted_unless (prefix_listed around.prefix) by_some around (prefix_tree around.prefix) state)) (Ok n) → GoesOn true around at state n
 base_goes around at state n pre e =
@@ -221,13 +246,15 @@ base_goes around at state n pre e =
     goes_to true around at state [] (inside around) (counted_unless listed by_some around t state) n tt (unless_grows around at listed by_some t state (good_prefix (Bare true around) around.prefix pre)) (fits_inside true around) e
 
 pub wide_goes : (production : Production) (around : Around) (place : ℕ) (vs : List Value) (state : State) (n : Next Value State Around) (at : ℕ) → StaysInside production →
-    GoodPrefix (Bare true around) around.prefix → AllGood (Within true production around) vs → between_wide production around place vs state ≡ Ok n → Goes true (Within true production around) around at state n
+    GoodPrefix (Bare true around) around.prefix → AllOld true around at state.candidates → AllGood (Within true production around) vs → between_wide production around place vs state ≡ Ok n → Goes true (Within true production around) around at state n
 unfolding between_wide
-wide_goes Production.Parameter around place (v ∷ []) state n at stays pre all e = here_within Production.Parameter around place at state (index_of v) n pre e
-wide_goes Production.ParameterArgument around place (v ∷ []) state n at stays pre all e = here_within Production.ParameterArgument around (place - 1) at state (index_of v) n pre e
-wide_goes Production.ParameterExpression around place (v ∷ []) state n at stays pre all e =
+wide_goes Production.Parameter around place (v ∷ []) state n at stays pre old all e = here_within Production.Parameter around place at state (index_of v) n pre e
+wide_goes Production.ParameterArgument around place (v ∷ []) state n at stays pre old all e = here_within Production.ParameterArgument around (place - 1) at state (index_of v) n pre e
+wide_goes Production.ParameterExpression around place (v ∷ []) state n at stays pre old all e =
     within true Production.ParameterExpression around at state n (argument_here_goes around (place - 1) at state (index_of v) n pre e)
-wide_goes Production.HeldArguments around place [] state n at stays pre all e = within true Production.HeldArguments around at state n (base_goes around at state n pre e)
-wide_goes Production.Holder around place (v ∷ []) state n at stays pre all e = within true Production.Holder around at state n (holder_goes around place at state n pre e)
-wide_goes Production.NestParameter around place (v ∷ []) state n at stays pre all e = here_within Production.NestParameter around place at state (index_of v) n pre e
-wide_goes p around place vs state n at stays pre all e = goes_within true p around place vs state n at stays pre all e
+wide_goes Production.HeldArguments around place [] state n at stays pre old all e = within true Production.HeldArguments around at state n (base_goes around at state n pre e)
+wide_goes Production.Holder around place (v ∷ []) state n at stays pre old all e = within true Production.Holder around at state n (holder_goes around place at state n pre e)
+wide_goes Production.NamedModule around place (v ∷ []) state n at stays pre old all e =
+    within true Production.NamedModule around at state n (module_goes around (place - 1) (counted_value Seq36 (text_of v)) at state n old e)
+wide_goes Production.NestParameter around place (v ∷ []) state n at stays pre old all e = here_within Production.NestParameter around place at state (index_of v) n pre e
+wide_goes p around place vs state n at stays pre old all e = goes_within true p around place vs state n at stays pre all e

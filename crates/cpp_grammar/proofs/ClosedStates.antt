@@ -1,5 +1,5 @@
 -- The candidates that a part appends are closed where no parameters are named around it.
-use Rattle.std.proofs.Common.{◌≡◌, refl, ap, sym, ◌∙◌, subst, ℕ, zero, suc, ◌-◌, ◌+◌, ◌<◌, ◌≤◌, List, [], ◌∷◌, ◌++◌, Bool, true, false, not, ◌||◌, ◌&&◌, nat_eq, nat_lt, slice_get, Option, Some, None, Result, Ok, Err, ◌⊎◌, inl, inr, arith}
+use Rattle.std.proofs.Common.{◌≡◌, refl, ap, sym, ◌∙◌, subst, ℕ, zero, suc, ◌-◌, ◌<◌, ◌≤◌, List, [], ◌∷◌, ◌++◌, Bool, true, false, not, ◌||◌, ◌&&◌, nat_eq, nat_lt, slice_get, Option, Some, None, Result, Ok, Err, ◌⊎◌, inl, inr, arith}
 use Rattle.std.proofs.lemmas.Bool.{eqb-true, true≢false, false≢true}
 use Rattle.std.proofs.lemmas.List.{append_assoc, append-nil}
 use Rattle.sym_core.specs.declared.refusal.Refusal.{Refusal}
@@ -13,7 +13,7 @@ use Rattle.cpp_grammar.specs.Closed.{ScopesAreClosed}
 use Rattle.sym_core.specs.declared.NumberKind.TheVariants.{Seq36}
 use Rattle.sym_core.specs.Value.{counted_value}
 use Rattle.cpp_grammar.specs.Values.{Counted, by_all, by_newer, by_gcc, Candidate, Lists, both_lists, longer_list, shorter_list, no_list, State, Around, prefix_tree, prefix_listed, Value, nothing_there, letter, tree, piece, pair, is_listed, text_of, local_number, part, tree_of}
-use Rattle.cpp_grammar.specs.References.{appended, appended_by, is_function_type, with_type, with_unqualified, with_prefix, with_packs, packs_in, substituted, parameter_named}
+use Rattle.cpp_grammar.specs.References.{appended, appended_by, is_function_type, with_type, with_unqualified, with_prefix, with_packs, packs_in, is_module, substituted, parameter_named}
 use Rattle.cpp_grammar.specs.Rescoping.{lambda_with, as_generic_lambda, with_holder, counted_unless, counted_base, place_in, named_in, left_at, with_lists, listed_by, is_foreign, in_scope, under_scope, with_free, restated, substituted_wide, numbered, close_wide}
 use Rattle.cpp_grammar.specs.Meaning.{parameters, meaning}
 use Rattle.cpp_grammar.specs.Unfolding as unfolding_
@@ -174,7 +174,7 @@ packs_keep place true (Some m) state new e =
     if_there kept state.packs _ _ (λ h. ap (λ s. s.candidates) (sym (ok_same (record state { packs = Some m }) new h)))
     (λ n is. either kept (nat_eq m n) _ _ (λ same h. ap (λ s. s.candidates) (sym (ok_same state new h))) (λ other h. absurd cc)) e
 
-old_get : (own : Bool) (around : Around) (at : ℕ) (cs : List Candidate) (n : ℕ) (c : Candidate) → AllOld own around at cs → slice_get cs n ≡ Some c → IsOld own around at c
+pub old_get : (own : Bool) (around : Around) (at : ℕ) (cs : List Candidate) (n : ℕ) (c : Candidate) → AllOld own around at cs → slice_get cs n ≡ Some c → IsOld own around at c
 old_get own around at [] n c all e = absurd cc
 old_get own around at (d ∷ cs) zero c all e = let same : d ≡ c = cc in subst (λ x. IsOld own around at x) same all.0
 old_get own around at (d ∷ cs) (suc n) c all e = old_get own around at cs n c all.1 e
@@ -182,7 +182,7 @@ old_get own around at (d ∷ cs) (suc n) c all e = old_get own around at cs n c 
 named_good : (own : Bool) (around : Around) (place at : ℕ) (c : Candidate) (state : State) (r : Found Value State) → IsOld own around at c → (is_open c.tree ≡ true → IsOutside own c) → substituted around place (Some c) state ≡ Ok r →
     Good (Bare own around) (held r.value) × (r.state.candidates ≡ state.candidates)
 unfolding substituted held
-named_good own around place at c state r old outside e = go (is_open c.tree) around.in_lambda (nat_eq c.encoding around.encoding) refl refl refl e
+named_good own around place at c state r old outside e = go (is_module c.tree) (is_open c.tree) around.in_lambda (nat_eq c.encoding around.encoding) refl refl refl e
   where
     answered : (Bare own around → is_open c.tree ≡ false) → (with_packs place around.in_expansion (packs_in around.scope c.tree) state >>= λ s. Ok (found (tree c.tree true) s)) ≡ Ok r →
         Good (Bare own around) (held r.value) × (r.state.candidates ≡ state.candidates)
@@ -192,15 +192,16 @@ named_good own around place at c state r old outside e = go (is_open c.tree) aro
         subst (λ x. Good (Bare own around) (held x.value) × (x.state.candidates ≡ state.candidates)) same
         (record { closed = closed; scopes = λ n. old.scopes }, packs_keep place around.in_expansion (packs_in around.scope c.tree) state b.value b.is)
 
-    go : (open_ lambda_ same : Bool) → is_open c.tree ≡ open_ → around.in_lambda ≡ lambda_ → nat_eq c.encoding around.encoding ≡ same →
-        ◌≡◌ {A = Result (Found Value State) Refusal} (elim (open_ && (lambda_ || not same)) [
+    go : (module_ open_ lambda_ same : Bool) → is_open c.tree ≡ open_ → around.in_lambda ≡ lambda_ → nat_eq c.encoding around.encoding ≡ same →
+        ◌≡◌ {A = Result (Found Value State) Refusal} (elim (module_ || (open_ && (lambda_ || not same))) [
           | true ↦ Err (BadReference place)
           | false ↦ with_packs place around.in_expansion (packs_in around.scope c.tree) state >>= λ s. Ok (found (tree c.tree true) s)
         ]) (Ok r) → Good (Bare own around) (held r.value) × (r.state.candidates ≡ state.candidates)
-    go false lambda_ same is-open is-lambda is-same h = answered (λ bare. is-open) h
-    go true true same is-open is-lambda is-same h = absurd cc
-    go true false false is-open is-lambda is-same h = absurd cc
-    go true false true is-open is-lambda is-same h = answered (λ bare. old.closed bare is-lambda (outside is-open) (eqb-true c.encoding around.encoding is-same)) h
+    go true open_ lambda_ same is-open is-lambda is-same h = let clash : ◌≡◌ {A = Result (Found Value State) Refusal} (Err (BadReference place)) (Ok r) = h in absurd cc
+    go false false lambda_ same is-open is-lambda is-same h = answered (λ bare. is-open) h
+    go false true true same is-open is-lambda is-same h = absurd cc
+    go false true false false is-open is-lambda is-same h = absurd cc
+    go false true false true is-open is-lambda is-same h = answered (λ bare. old.closed bare is-lambda (outside is-open) (eqb-true c.encoding around.encoding is-same)) h
 
 pub substituted_good : (around : Around) (place at n : ℕ) (state : State) (r : Found Value State) → AllOld false around at state.candidates →
     substituted around place (slice_get state.candidates n) state ≡ Ok r → Good (Bare false around) (held r.value) × (r.state.candidates ≡ state.candidates)

@@ -227,7 +227,7 @@ pub record KeepsClosed (w : Way) : Type 0 where
   pub plain : IsPlain w
   pub begins : (production : Production) (f : Forest) (place : ℕ) (state new : State) → w.opening production f place state ≡ Ok new → new.candidates ≡ state.candidates
   pub goes : (production : Production) (around : Around) (place : ℕ) (vs : List Value) (state : State) (n : Next Value State Around) (at : ℕ) → StaysInside production →
-      GoodPrefix (Bare w.own around) around.prefix → AllGood (Within w.own production around) vs → w.between production around place vs state ≡ Ok n →
+      GoodPrefix (Bare w.own around) around.prefix → AllOld w.own around at state.candidates → AllGood (Within w.own production around) vs → w.between production around place vs state ≡ Ok n →
       Goes w.own (Within w.own production around) around at state n
   pub comes : (production : Production) (byte : ℕ) (around : Around) (place : ℕ) (began : State) (vs : List Value) (state : State) (r : Found Value State) (end : ℕ) →
       AllOld w.own around end state.candidates → GoodPrefix (Bare w.own around) around.prefix → AllGood (Within w.own production around) vs → HasClosedName production vs →
@@ -334,7 +334,7 @@ module _ (w : Way) (keeps : KeepsClosed w) where
       let b = behind_bind (w.between (production_at rule.rule.number) around rule.place vs state)
       (λ next. unfold_tree (reading_by w) next.context at t next.state >>= λ part. unfold_forest (reading_by w) rule (next.values ++ part.value) (at + length (spell t)) f part.state) r e in
       let n = b.value in
-      let g = keeps.goes (production_at rule.rule.number) around rule.place vs state n at stays pre good b.is in
+      let g = keeps.goes (production_at rule.rule.number) around rule.place vs state n at stays pre old good b.is in
       let c = behind_bind (unfold_tree (reading_by w) n.context at t n.state) (λ part. unfold_forest (reading_by w) rule (n.values ++ part.value) (at + length (spell t)) f part.state) r b.next in
       let part = c.value in
       let old1 = old_grows w.own around at at state n.state (omega arith) old g.grows in
@@ -561,7 +561,7 @@ module _ (w : Way) (keeps : KeepsClosed w) where
 
 pub abi_keeps : KeepsClosed abi_way
 unfolding abi_way
-abi_keeps = record { plain = abi_plain; begins = begins_same; goes = goes_within false; comes = close_good }
+abi_keeps = record { plain = abi_plain; begins = begins_same; goes = λ p around place vs state n at stays pre old all e. goes_within false p around place vs state n at stays pre all e; comes = close_good }
 
 pub tree_good : (t : Tree) (x : Sym) (around : Around) (at : ℕ) (state : State) (r : Found (List Value) State) → IsSymbol wide x → IsTree wide x t → around.encoding ≤ at →
     (is_encoding x ≡ true → around.encoding < at) → GoodPrefix (Bare false around) around.prefix → AllOld false around at state.candidates → unfold_tree cpp around at t state ≡ Ok r →

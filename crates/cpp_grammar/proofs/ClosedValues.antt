@@ -8,7 +8,7 @@ use Rattle.cpp_grammar.specs.Closed.{HasNoneFree, ScopesAreClosed}
 use Rattle.cpp_grammar.specs.Values.{Around, Prefix, outermost, behind, prefix_tree, Value, nothing_there, letter, tree, piece, named, signature, pair, tree_of, piece_of, letter_of, qualifiers_of, ref_of, is_there, part}
 use Rattle.cpp_grammar.specs.Between.{extended, applied, no_items, with_tag, inherited}
 use Rattle.cpp_grammar.specs.Meaning.{is_void, is_nil, parameters, encoding_of, default_entity, listed_value, with_item, reference_to, signature_or, operator_or_literal, operation_or_address, operation_by, is_code, is_comma, ends_arguments, in_parentheses, enclosed_argument, enclosed_element, meaning}
-use Rattle.cpp_grammar.specs.Makers.{Maker, new_symbol, new_special, new_of_name, new_construction, new_clone, new_in_std, new_instance, new_local, new_abbreviation, new_source, new_operator, new_literal_operator, new_constructor, new_destructor, new_unnamed, new_string_literal, new_conversion, new_builtin, new_sized_float, new_constrained, new_vendor, new_pointer, new_lvalue, new_rvalue, new_array, new_bounded, new_member_pointer, new_function_type, new_qualified, new_vector, new_complex, new_expansion, new_integer, new_boolean, new_null_pointer, new_decltype, new_encoding_literal, new_operation, new_function_parameter, new_pack}
+use Rattle.cpp_grammar.specs.Makers.{Maker, new_symbol, new_special, new_of_name, new_construction, new_clone, new_in_std, new_instance, new_local, new_abbreviation, new_source, new_operator, new_literal_operator, new_constructor, new_unnamed, new_string_literal, new_conversion, new_builtin, new_sized_float, new_constrained, new_vendor, new_pointer, new_lvalue, new_rvalue, new_array, new_bounded, new_member_pointer, new_function_type, new_qualified, new_vector, new_complex, new_expansion, new_integer, new_boolean, new_null_pointer, new_decltype, new_encoding_literal, new_operation, new_function_parameter, new_pack, new_enumeration, new_bindings}
 use Rattle.cpp_grammar.specs.Builders.{Argument, argument, built, tree_in}
 use Rattle.cpp_grammar.specs.Row.{Source, tree_at, list_at, parameters_at, piece_at, the_name, qualified_by, Made, of, only, extending, tagging, applying, packing, Own, nested_name, encoding, non_virtual_thunk, virtual_thunk, covariant_thunk, local_name, in_default, nest_end, closure, inheriting as inheriting_, by_letters, enclosed, elements, first_of_operator, reference, lvalue_signature, rvalue_signature, Form, handed, finished, either, the_byte, makes, a_piece, a_pair, cell, item, a_name, in_place, own}
 use Rattle.cpp_grammar.specs.Own.{own_meaning}
@@ -104,8 +104,9 @@ module _ {q : Type 0} where
   good_tree s v g = g
 
   pub good_piece : (s : Type 0) (v : Value) → GoodIf q s (held v) → GoodIf q s (piece_of v)
-  unfolding held piece_of
+  unfolding held piece_of is_open
   good_piece s (piece p) g = g
+  good_piece s (letter digit) g = record { closed = λ h. refl; scopes = λ n. tt }
   good_piece s nothing_there g = good_nothing s
   good_piece s v g = good_nothing s
 
@@ -263,10 +264,11 @@ module _ {q : Type 0} where
   built_good s new_operator xs all = record { closed = λ h. refl; scopes = λ n. tt }
   built_good s new_literal_operator xs all = record { closed = λ h. refl; scopes = λ n. tt }
   built_good s new_constructor xs all = record { closed = λ h. refl; scopes = λ n. tt }
-  built_good s new_destructor xs all = record { closed = λ h. refl; scopes = λ n. tt }
   built_good s new_unnamed xs all = record { closed = λ h. refl; scopes = λ n. tt }
   built_good s new_string_literal xs all = record { closed = λ h. refl; scopes = λ n. tt }
   built_good s new_conversion xs all = record { closed = (all 0).closed; scopes = λ n. (all 0).scopes n }
+  built_good s new_enumeration xs all = record { closed = (all 0).closed; scopes = λ n. (all 0).scopes n }
+  built_good s new_bindings xs all = record { closed = (all 0).closed; scopes = λ n. (all 0).scopes n }
   built_good s new_builtin xs all = record { closed = λ h. refl; scopes = λ n. tt }
   built_good s new_sized_float xs all = record { closed = λ h. refl; scopes = λ n. tt }
   built_good s new_constrained xs all = record { closed = (all 1).closed; scopes = λ n. (all 1).scopes n }

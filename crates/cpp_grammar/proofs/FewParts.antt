@@ -6,9 +6,9 @@ use Rattle.std.proofs.lemmas.List.{length-append}
 use Rattle.sym_print.specs.declared.detail.Detail.{Detail}
 use Rattle.sym_print.specs.Details.{has_arguments, has_parameters}
 use Rattle.sym_print.specs.Unfold.{PartOf, text, sub}
-use Rattle.cpp_grammar.specs.Term.{Qualifiers, RefQualifier, Signed, Term, symbol, function, object, of_name, alone, in_std, within, instance, local, holder, tagged, abbreviation, parameter, source, constructor, destructor, inheriting, lambda, generic_lambda, sized_float, pointer, lvalue, rvalue, array, bounded, member_pointer, function_type, qualified, expansion, integer, operation, function_parameter, pack, nil, list, absent}
+use Rattle.cpp_grammar.specs.Term.{Qualifiers, RefQualifier, Signed, Term, symbol, function, object, of_name, alone, in_std, within, instance, local, holder, tagged, abbreviation, parameter, source, constructor, destructor, inheriting, lambda, generic_lambda, bindings, sized_float, pointer, lvalue, rvalue, array, bounded, member_pointer, function_type, qualified, expansion, integer, operation, function_parameter, pack, nil, list, absent}
 use Rattle.cpp_grammar.specs.Items.{Form, root, full, bare, left, right, low, base, piece, first, more, expand, Context, Item, closed, signature_in, head, is_reference, is_funarr, packs_of, is_empty}
-use Rattle.cpp_grammar.specs.Parts.{as_item, begins_parameters, says, text_part, list_part, piece_parts, within_parts, last_piece, opening_text, instance_parts, marked_parts, reference_parts, qualified_left, blank_last, qualifier_text, expansion_parts, sign_part, is_plain_integer, integer_parts, builtin_code, member_parts, array_left, float_parts, no_operation, precedence_of, operand_parts, operation_parts, printed, left_parts, low_parts, function_right, ref_text, closing_right, qualified_right, right_parts, base_within, base_tagged, base_parts, types_of, encoding_text, function_bare, function_full, full_parts, bare_parts, root_parts, first_parts, more_parts, at_index, is_below, comma_before, expand_rest, expand_parts, parts_in, not_empty, parts, own_piece, most_parts, most_of}
+use Rattle.cpp_grammar.specs.Parts.{as_item, begins_parameters, says, text_part, list_part, piece_parts, before_piece, attached_parts, component_parts, within_parts, last_piece, opening_text, instance_parts, marked_parts, reference_parts, qualified_left, blank_last, qualifier_text, expansion_parts, sign_part, is_plain_integer, integer_parts, builtin_code, member_parts, array_left, float_parts, no_operation, precedence_of, operand_parts, operation_parts, printed, left_parts, low_parts, function_right, ref_text, closing_right, qualified_right, right_parts, base_within, base_tagged, base_parts, types_of, encoding_text, function_bare, function_full, full_parts, bare_parts, root_parts, first_parts, more_parts, at_index, is_below, comma_before, expand_rest, expand_parts, parts_in, not_empty, parts, own_piece, most_parts, most_of}
 use Rattle.cpp_grammar.specs.Scope.{without_tags}
 use Rattle.std.proofs.lemmas.Bool.{leb-true}
 use Rattle.cpp_grammar.specs.declared.operand.Operand.{Operand}
@@ -51,19 +51,35 @@ comma_few (suc i) = omega arith
 
 -- ## Forms
 
-piece_few : (c : Context) (p : Term) → HasFew 5 (piece_parts c p)
+piece_few : (c : Context) (p : Term) → HasFew 6 (piece_parts c p)
 unfolding piece_parts
 piece_few c (lambda parameters number) = omega (arith, append_few 2 3 (says "{lambda(" ∷ list_part first c parameters) (says ")#" ∷ text (decimal number) ∷ says "}" ∷ []) (omega (arith, list_few first c parameters)) (omega arith))
 piece_few c (generic_lambda parameters number) = omega (arith, append_few 2 3 (says "{lambda(" ∷ list_part first (signature_in c) parameters) (says ")#" ∷ text (decimal number) ∷ says "}" ∷ []) (omega (arith, list_few first (signature_in c) parameters)) (omega arith))
+piece_few c (bindings names) = omega (arith, append_few 2 1 (says "[" ∷ list_part first c names) (says "]" ∷ []) (omega (arith, list_few first c names)) (omega arith))
 piece_few c (source internal name) = omega arith
 piece_few c _ = omega arith
 
-within_few : (c : Context) (prefix p : Term) → HasFew 3 (within_parts c prefix p)
+before_few : (c : Context) (prefix : Term) → HasFew 2 (before_piece c prefix)
+unfolding before_piece
+before_few c absent = omega arith
+before_few c _ = omega arith
+
+attached_few : (c : Context) (prefix p module_name : Term) → HasFew 5 (attached_parts c prefix p module_name)
+unfolding attached_parts
+attached_few c prefix p module_name = append_few 2 3 (before_piece c prefix) (as_item piece c p ∷ says "@" ∷ as_item left c module_name ∷ []) (before_few c prefix) (omega arith)
+
+component_few : (c : Context) (prefix p : Term) → HasFew 5 (component_parts c prefix p)
+unfolding component_parts
+component_few c (operation a b x y) p =
+    choice_few 5 (nat_eq a 87) _ _ (choice_few 5 (nat_eq b 64) _ _ (attached_few c x p y) (attached_few c absent p (operation a b x y))) (omega arith)
+component_few c prefix p = omega arith
+
+within_few : (c : Context) (prefix p : Term) → HasFew 5 (within_parts c prefix p)
 unfolding within_parts
 within_few c prefix (constructor digit) = omega arith
 within_few c prefix (destructor digit) = omega arith
 within_few c prefix (inheriting digit class) = omega arith
-within_few c prefix _ = omega arith
+within_few c prefix p = component_few c prefix p
 
 instance_few : (all : Bool) (c : Context) (t arguments : Term) → HasFew 4 (instance_parts all c t arguments)
 unfolding instance_parts
@@ -198,14 +214,14 @@ right_few c (function_type c_linkage noexcept ref returned parameters) = functio
 right_few c (qualified q t) = qualified_right_few c q t
 right_few c _ = omega arith
 
-base_within_few : (c : Context) (prefix p : Term) → HasFew 5 (base_within c prefix p)
+base_within_few : (c : Context) (prefix p : Term) → HasFew 6 (base_within c prefix p)
 unfolding base_within
 base_within_few c prefix (constructor digit) = omega arith
 base_within_few c prefix (destructor digit) = omega arith
 base_within_few c prefix (inheriting digit class) = omega arith
 base_within_few c prefix p = piece_few c p
 
-base_tagged_few : (c : Context) (of_structor : Bool) (t : Term) → HasFew 5 (base_tagged c of_structor t)
+base_tagged_few : (c : Context) (of_structor : Bool) (t : Term) → HasFew 6 (base_tagged c of_structor t)
 unfolding base_tagged
 base_tagged_few c true t = omega arith
 base_tagged_few c false t = piece_few c (own_piece (without_tags t))

@@ -1,6 +1,7 @@
 -- The tables are held against the grammar at each kind and byte, by computing.
-use Rattle.std.proofs.Common.{◌≡◌, ℕ, ◌+◌, ◌*◌, ◌%◌, ◌<◌, get_or, slice_get, List, length, map, ltb, Bool, true, Option, Some, None, refl, ap, sym, ◌∙◌, arith, inl, inr}
+use Rattle.std.proofs.Common.{◌≡◌, ℕ, ◌+◌, ◌-◌, ◌*◌, ◌<◌, get_or, slice_get, List, length, map, ltb, Bool, true, Option, Some, None, refl, ap, sym, subst, ◌∙◌, arith, inl, inr}
 use Rattle.std.proofs.lemmas.Bool.{ltb-true}
+use Rattle.std.proofs.lemmas.Bool.Decides.{leb_tells}
 use Rattle.std.proofs.lemmas.Option.{slice_get_cases}
 use Rattle.std.specs.List.{range_with_len}
 use Rattle.sym_shape.specs.Listing.{letter_below, unless_blank, counts_after}
@@ -15,36 +16,47 @@ use Rattle.cpp_grammar.specs.Grammar.{in_ranges, among, is_in, pick, number_of_k
 use Rattle.cpp_grammar.specs.Table.{abi, abi_listed, listed_rule, sheet, padded, rule_of, rule_taken}
 use Rattle.cpp_grammar.proofs.Choosing.{rule_at_kind, is_kind}
 
--- the letter of a kind's row below a byte; `row` is the default
+-- the letter of a kind's row below a byte, which is the number of a production; `row` is the default
 unfoldable pub letter : List ℕ → ℕ → ℕ → Option ℕ
 letter row k byte = letter_below (get_or LETTERS k row) byte
 
--- the number of the production of a letter: letters begin at the byte 33, and those after the byte 255 are from the byte 0 on
-unfoldable pub number_under : (letter : ℕ) → ℕ
-number_under letter = (letter + 223) % 256
-
--- the production of a letter
-unfoldable pub lettered : Option ℕ → Option Production
-lettered None = None
-lettered (Some letter) = slice_get productions (number_under letter)
+-- the production with a number
+unfoldable pub numbered : Option ℕ → Option Production
+numbered None = None
+numbered (Some number) = slice_get productions number
 
 -- the production that the grammar has
 unfoldable pub chosen : Option Kind → ℕ → Option Production
 chosen None byte = None
 chosen (Some kind) byte = choose kind byte
 
--- one of the letters of productions, or none
-unfoldable is_letter : Option ℕ → Bool
-is_letter None = true
-is_letter (Some letter) = ltb (number_under letter) PRODUCTION_COUNT
+-- the number of a production, or none
+unfoldable pub is_number : Option ℕ → Bool
+is_number None = true
+is_number (Some number) = ltb number PRODUCTION_COUNT
 
--- the rows have the productions of the grammar, by letters
-taken : (row : List ℕ) → map (λ k. map (λ byte. lettered (letter row k byte)) (range_with_len 0 256)) (range_with_len 0 KIND_COUNT) ≡ map (λ k. map (chosen (slice_get kinds k)) (range_with_len 0 256)) (range_with_len 0 KIND_COUNT)
-unfolding letter letter_below unless_blank lettered number_under chosen choose alternatives pick is_in among in_ranges kinds productions
-taken row = refl
+-- the rows have the productions of the grammar, those of the first kinds and those of the others
+abbrev FIRST_KINDS : ℕ
+FIRST_KINDS = 88
 
-letters : (row : List ℕ) → map (λ k. map (λ byte. is_letter (letter row k byte)) (range_with_len 0 256)) (range_with_len 0 KIND_COUNT) ≡ map (λ k. map (λ byte. true) (range_with_len 0 256)) (range_with_len 0 KIND_COUNT)
-unfolding letter letter_below unless_blank is_letter number_under
+taken_first : (row : List ℕ) → map (λ k. map (λ byte. numbered (letter row k byte)) (range_with_len 0 256)) (range_with_len 0 FIRST_KINDS) ≡ map (λ k. map (chosen (slice_get kinds k)) (range_with_len 0 256)) (range_with_len 0 FIRST_KINDS)
+unfolding letter letter_below unless_blank numbered chosen choose alternatives pick is_in among in_ranges kinds productions
+taken_first row = refl
+
+taken_others : (row : List ℕ) → map (λ k. map (λ byte. numbered (letter row (k + FIRST_KINDS) byte)) (range_with_len 0 256)) (range_with_len 0 (KIND_COUNT - FIRST_KINDS)) ≡ map (λ k. map (chosen (slice_get kinds (k + FIRST_KINDS))) (range_with_len 0 256)) (range_with_len 0 (KIND_COUNT - FIRST_KINDS))
+unfolding letter letter_below unless_blank numbered chosen choose alternatives pick is_in among in_ranges kinds productions
+taken_others row = refl
+
+taken : (row : List ℕ) (k byte : ℕ) → k < KIND_COUNT → byte < 256 → numbered (letter row k byte) ≡ chosen (slice_get kinds k) byte
+taken row k byte k_lt byte_lt = elim (leb_tells FIRST_KINDS k) [
+  | inl other ↦
+      subst (λ n. numbered (letter row n byte) ≡ chosen (slice_get kinds n) byte) (let same : k - FIRST_KINDS + FIRST_KINDS ≡ k = omega (arith, other.1) in same)
+      (alike_in (λ k byte. numbered (letter row (k + FIRST_KINDS) byte)) (λ k. chosen (slice_get kinds (k + FIRST_KINDS))) (KIND_COUNT - FIRST_KINDS) 256 (k - FIRST_KINDS) byte (taken_others row) (omega (arith, k_lt, other.1)) byte_lt)
+  | inr first ↦ alike_in (λ k byte. numbered (letter row k byte)) (λ k. chosen (slice_get kinds k)) FIRST_KINDS 256 k byte (taken_first row) first.1 byte_lt
+]
+
+letters : (row : List ℕ) → map (λ k. map (λ byte. is_number (letter row k byte)) (range_with_len 0 256)) (range_with_len 0 KIND_COUNT) ≡ map (λ k. map (λ byte. true) (range_with_len 0 256)) (range_with_len 0 KIND_COUNT)
+unfolding letter letter_below unless_blank is_number
 letters row = refl
 
 -- the rules are those of the productions
@@ -59,11 +71,11 @@ kind_count = refl
 pub below : (k : ℕ) → k < abi.kinds → k < KIND_COUNT
 below k lt = omega (arith, lt, kind_count)
 
-pub letter_range : (row : List ℕ) (k byte l : ℕ) → k < KIND_COUNT → byte < 256 → letter row k byte ≡ Some l → number_under l < PRODUCTION_COUNT
-unfolding is_letter
+pub letter_range : (row : List ℕ) (k byte l : ℕ) → k < KIND_COUNT → byte < 256 → letter row k byte ≡ Some l → l < PRODUCTION_COUNT
+unfolding is_number
 letter_range row k byte l k_lt byte_lt at =
-    let is : is_letter (letter row k byte) ≡ true = alike_in (λ k byte. is_letter (letter row k byte)) (λ k byte. true) KIND_COUNT 256 k byte (letters row) k_lt byte_lt in
-    ltb-true _ _ (sym (ap is_letter at) ∙ is)
+    let is : is_number (letter row k byte) ≡ true = alike_in (λ k byte. is_number (letter row k byte)) (λ k byte. true) KIND_COUNT 256 k byte (letters row) k_lt byte_lt in
+    ltb-true _ _ (sym (ap is_number at) ∙ is)
 
 -- the rule of a kind is that of its production
 rule_chosen : (k byte : ℕ) → k < abi.kinds → abi.rule k byte ≡ rule_taken (chosen (slice_get kinds k) byte)
@@ -73,10 +85,10 @@ rule_chosen k byte lt = elim (slice_get_cases kinds k).1 [
   | inr past ↦ absurd (is_kind k lt past.1)
 ]
 
-pub rule_at : (row : List ℕ) (k byte : ℕ) → k < abi.kinds → byte < 256 → abi.rule k byte ≡ rule_taken (lettered (letter row k byte))
+pub rule_at : (row : List ℕ) (k byte : ℕ) → k < abi.kinds → byte < 256 → abi.rule k byte ≡ rule_taken (numbered (letter row k byte))
 rule_at row k byte k_lt byte_lt =
     rule_chosen k byte k_lt
-    ∙ ap rule_taken (sym (alike_in (λ k byte. lettered (letter row k byte)) (λ k. chosen (slice_get kinds k)) KIND_COUNT 256 k byte (taken row) (below k k_lt) byte_lt))
+    ∙ ap rule_taken (sym (taken row k byte (below k k_lt) byte_lt))
 
 pub rule_listed : (head : Head) (n : ℕ) → n < PRODUCTION_COUNT → Some (listed_rule head n) ≡ rule_taken (slice_get productions n)
 rule_listed head n = alike_at (λ n. Some (listed_rule head n)) (λ n. rule_taken (slice_get productions n)) PRODUCTION_COUNT n (rules head)

@@ -6,10 +6,10 @@ use Rattle.std.proofs.lemmas.Bool.{false≢true, ltb-true}
 use Rattle.sym_print.specs.declared.detail.Detail.{Detail}
 use Rattle.sym_print.specs.Details.{has_arguments, has_parameters}
 use Rattle.sym_print.specs.Unfold.{PartOf, text, sub, RanksBelow}
-use Rattle.cpp_grammar.specs.Term.{Qualifiers, RefQualifier, Signed, Term, symbol, function, object, special, thunk, of_name, construction, clone, alone, in_std, within, instance, local, holder, tagged, of_default, abbreviation, parameter, source, constructor, destructor, inheriting, lambda, generic_lambda, conversion, sized_float, constrained, pointer, lvalue, rvalue, array, bounded, member_pointer, function_type, qualified, vector, complex, expansion, integer, operation, function_parameter, pack, nil, list, absent, decltype}
+use Rattle.cpp_grammar.specs.Term.{Qualifiers, RefQualifier, Signed, Term, symbol, function, object, special, thunk, of_name, construction, clone, alone, in_std, within, instance, local, holder, tagged, of_default, abbreviation, parameter, source, constructor, destructor, inheriting, lambda, generic_lambda, conversion, sized_float, constrained, pointer, lvalue, rvalue, array, bounded, member_pointer, function_type, qualified, vector, complex, expansion, integer, operation, function_parameter, pack, nil, list, absent, decltype, enumeration, bindings}
 use Rattle.cpp_grammar.specs.Scope.{element, arguments_of, pack_length, without_tags}
 use Rattle.cpp_grammar.specs.Items.{Form, root, full, bare, left, right, low, base, piece, first, more, expand, Context, Item, indexed, auto, signature_in, argument, head, is_reference, is_funarr, packs_of, is_empty}
-use Rattle.cpp_grammar.specs.Parts.{as_item, says, text_part, list_part, piece_parts, prefix_item, within_parts, instance_parts, marked_parts, reference_parts, qualified_left, blank_last, qualifier_text, expansion_parts, sign_part, is_plain_integer, integer_parts, builtin_code, member_parts, array_left, entity_of, float_parts, precedence_of, operand_parts, operation_parts, printed, left_parts, low_parts, function_right, ref_text, closing_right, qualified_right, right_parts, base_within, base_tagged, base_parts, types_of, encoding_text, function_bare, function_full, full_parts, bare_parts, root_parts, first_parts, more_parts, at_index, is_below, comma_before, expand_rest, expand_parts, parts_in, not_empty, parts, own_piece}
+use Rattle.cpp_grammar.specs.Parts.{as_item, says, text_part, list_part, piece_parts, prefix_item, before_piece, attached_parts, component_parts, within_parts, instance_parts, marked_parts, reference_parts, qualified_left, blank_last, qualifier_text, expansion_parts, sign_part, is_plain_integer, integer_parts, builtin_code, member_parts, array_left, entity_of, float_parts, precedence_of, operand_parts, operation_parts, printed, left_parts, low_parts, function_right, ref_text, closing_right, qualified_right, right_parts, base_within, base_tagged, base_parts, types_of, encoding_text, function_bare, function_full, full_parts, bare_parts, root_parts, first_parts, more_parts, at_index, is_below, comma_before, expand_rest, expand_parts, parts_in, not_empty, parts, own_piece}
 use Rattle.cpp_grammar.specs.Ranks.{or_none, pack_count, weight, scope_weight, weight_in, rank_in, rank}
 use Rattle.cpp_grammar.specs.declared.operand.Operand.{Operand}
 use Rattle.cpp_grammar.specs.Operations.{Operation}
@@ -68,6 +68,8 @@ weight_grows a b scope (of_default digits entity) h = omega (arith, weight_grows
 weight_grows a b scope (inheriting digit class) h = omega (arith, weight_grows a b scope class h)
 weight_grows a b scope (lambda parameters number) h = omega (arith, weight_grows a b scope parameters h)
 weight_grows a b scope (conversion t) h = omega (arith, weight_grows a b scope t h)
+weight_grows a b scope (enumeration t bytes) h = omega (arith, weight_grows a b scope t h)
+weight_grows a b scope (bindings names) h = omega (arith, weight_grows a b scope names h)
 weight_grows a b scope (constrained letter concept) h = omega (arith, weight_grows a b scope concept h)
 weight_grows a b scope (pointer t) h = omega (arith, weight_grows a b scope t h)
 weight_grows a b scope (lvalue t) h = omega (arith, weight_grows a b scope t h)
@@ -129,7 +131,9 @@ unfolding piece_parts rank rank_in weight_in scope_weight weight
 piece_falls r c (source internal name) h = tt
 piece_falls r c (lambda parameters number) h = falls_append r (list_part first c parameters) _ (falls_first r c parameters (omega arith)) tt
 piece_falls r c (generic_lambda parameters number) h = falls_append r (list_part first (signature_in c) parameters) _ (falls_first r (signature_in c) parameters (let less : weight 0 None parameters < r = omega (arith, h) in less)) tt
+piece_falls r c (bindings names) h = falls_append r (list_part first c names) _ (falls_first r c names (omega (arith, h))) tt
 piece_falls r c (conversion t) h = (omega (arith, h), (omega (arith, h), tt))
+piece_falls r c (enumeration t name) h = (omega (arith, h), (omega (arith, h), tt))
 piece_falls r c _ h = tt
 
 prefix_falls : (r : ℕ) (c : Context) (t : Term) → Below r c t → RanksBelow rank r (prefix_item c t ∷ [])
@@ -138,13 +142,29 @@ prefix_falls r c (function name q ref returned parameters) h = (h, tt)
 prefix_falls r c (holder name) h = (omega (arith, h), tt)
 prefix_falls r c _ h = (h, tt)
 
+before_falls : (r : ℕ) (c : Context) (prefix : Term) → Below r c prefix → RanksBelow rank r (before_piece c prefix)
+unfolding before_piece
+before_falls r c absent h = tt
+before_falls r c prefix h = falls_append r (prefix_item c prefix ∷ []) _ (prefix_falls r c prefix h) tt
+
+attached_falls : (r : ℕ) (c : Context) (prefix p module_name : Term) → RanksBelow rank r (before_piece c prefix) → Below r c p → Below r c module_name → RanksBelow rank r (attached_parts c prefix p module_name)
+unfolding attached_parts rank rank_in
+attached_falls r c prefix p module_name h g k = falls_append r (before_piece c prefix) _ h (g, (k, tt))
+
+component_falls : (r : ℕ) (c : Context) (prefix p : Term) → Below r c prefix → Below r c p → RanksBelow rank r (component_parts c prefix p)
+unfolding component_parts before_piece rank rank_in weight_in weight
+component_falls r c (operation a b x y) p h g =
+    falls_choice r (nat_eq a 87) _ _
+    (falls_choice r (nat_eq b 64) _ _ (attached_falls r c x p y (before_falls r c x (omega (arith, h))) g (omega (arith, h))) (attached_falls r c absent p (operation a b x y) tt g h))
+    (falls_append r (prefix_item c (operation a b x y) ∷ []) _ (prefix_falls r c (operation a b x y) h) (g, tt))
+component_falls r c prefix p h g = falls_append r (prefix_item c prefix ∷ []) _ (prefix_falls r c prefix h) (g, tt)
+
 within_falls : (r : ℕ) (c : Context) (prefix p : Term) → Below r c prefix → Below r c p → RanksBelow rank r (within_parts c prefix p)
 unfolding within_parts rank rank_in
 within_falls r c prefix (constructor digit) h g = (h, (h, tt))
 within_falls r c prefix (destructor digit) h g = (h, (h, tt))
 within_falls r c prefix (inheriting digit class) h g = (h, (h, tt))
-within_falls r c prefix (symbol e suffix) h g = falls_append r (prefix_item c prefix ∷ []) _ (prefix_falls r c prefix h) (g, tt)
-within_falls r c prefix _ h g = falls_append r (prefix_item c prefix ∷ []) _ (prefix_falls r c prefix h) (g, tt)
+within_falls r c prefix p h g = component_falls r c prefix p h g
 
 instance_falls : (r : ℕ) (all : Bool) (c : Context) (t arguments : Term) → Below r c t → Below r c arguments → RanksBelow rank r (instance_parts all c t arguments)
 unfolding instance_parts rank rank_in

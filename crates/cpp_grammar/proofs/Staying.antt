@@ -24,7 +24,7 @@ use Rattle.cpp_grammar.specs.Table.{wide}
 use Rattle.cpp_grammar.specs.Term.{Term, parameter, lambda, generic_lambda, list}
 use Rattle.cpp_grammar.specs.Scope.{count, element, is_open, length_if_pack}
 use Rattle.cpp_grammar.specs.Values.{by_all, Candidate, Expected, prefix_at, qualified_at, State, Around, prefix_tree, prefix_listed, Value, nothing_there, text, tree, piece, tree_of, is_listed, text_of, local_number, part}
-use Rattle.cpp_grammar.specs.References.{appended, is_function_type, with_type, with_unqualified, with_prefix, with_packs, packs_in, substituted, parameter_named}
+use Rattle.cpp_grammar.specs.References.{appended, is_function_type, with_type, with_unqualified, with_prefix, with_packs, packs_in, is_module, substituted, parameter_named}
 use Rattle.cpp_grammar.specs.Between.{in_name, in_types, in_signature, under_expansion, after, inside, no_items, Going, listed_so_far, parameter_so_far, index_of, between, next, argument_so_far}
 use Rattle.cpp_grammar.specs.Row.{Gain, nothing, the_prefix, type_of, unqualified_of, itself, Where, as_before, in_its_name, in_its_types, in_a_signature, under_it, nameless, after_part, after_the_name, Before, quiet, goes, becomes, tests, holds, unread, before_part}
 use Rattle.cpp_grammar.specs.Meant.{made, is_listing, around_part, packs_within, gained, replaced, tested as tested_, done}
@@ -319,33 +319,35 @@ between_stays Production.ParameterArgument around place (v ∷ []) state n settl
 between_stays Production.ParameterExpression around place (v ∷ []) state n settled e = argument_stays around (place - 1) (index_of v) state n settled e
 between_stays Production.HeldArguments around place [] state n settled e = let clash : ◌≡◌ {A = Going} (Err (BadReference place)) (Ok n) = e in absurd cc
 between_stays Production.Holder around place (v ∷ []) state n settled e = let clash : ◌≡◌ {A = Going} (Err (BadReference place)) (Ok n) = e in absurd cc
+between_stays Production.NamedModule around place (v ∷ []) state n settled e = let clash : ◌≡◌ {A = Going} (Err (BadReference place)) (Ok n) = e in absurd cc
 between_stays _ around place vs state n settled e = e
 
 -- what isn't refused isn't foreign
 named_stays : (around : Around) (place : ℕ) (c : Candidate) (state : State) (r : Found Value State) → (c.in_lambda ≡ true → HasNone c.tree) → substituted around place (Some c) state ≡ Ok r →
     substituted_wide around place (Some c) state ≡ Ok r
 unfolding substituted substituted_wide is_foreign
-named_stays around place c state r none e = go (is_open c.tree) around.in_lambda c.in_lambda (not (nat_eq c.encoding around.encoding)) none e
+named_stays around place c state r none e = go (is_module c.tree) (is_open c.tree) around.in_lambda c.in_lambda (not (nat_eq c.encoding around.encoding)) none e
   where
     plain : Result (Found Value State) Refusal
     plain = with_packs place around.in_expansion (packs_in around.scope c.tree) state >>= λ s. Ok (found (tree c.tree true) s)
 
-    go : (open_ inside_ made other : Bool) → (made ≡ true → open_ ≡ false) → ◌≡◌ {A = Result (Found Value State) Refusal} (elim (open_ && (inside_ || other)) [ true ↦ Err (BadReference place) | false ↦ plain ]) (Ok r) →
+    go : (module_ open_ inside_ made other : Bool) → (made ≡ true → open_ ≡ false) → ◌≡◌ {A = Result (Found Value State) Refusal} (elim (module_ || (open_ && (inside_ || other))) [ true ↦ Err (BadReference place) | false ↦ plain ]) (Ok r) →
         ◌≡◌ {A = Result (Found Value State) Refusal} (elim (open_ && (inside_ || (made || other))) [
           | true ↦ restated around place c.tree state
-          | false ↦ elim (open_ && (inside_ || other)) [ true ↦ Err (BadReference place) | false ↦ plain ]
+          | false ↦ elim (module_ || (open_ && (inside_ || other))) [ true ↦ Err (BadReference place) | false ↦ plain ]
         ]) (Ok r)
-    go false inside_ made other closed h = h
-    go true true made other closed h = let clash : ◌≡◌ {A = Result (Found Value State) Refusal} (Err (BadReference place)) (Ok r) = h in absurd cc
-    go true false true other closed h = absurd (true≢false (closed refl))
-    go true false false true closed h = let clash : ◌≡◌ {A = Result (Found Value State) Refusal} (Err (BadReference place)) (Ok r) = h in absurd cc
-    go true false false false closed h = h
+    go true open_ inside_ made other closed h = let clash : ◌≡◌ {A = Result (Found Value State) Refusal} (Err (BadReference place)) (Ok r) = h in absurd cc
+    go false false inside_ made other closed h = h
+    go false true true made other closed h = let clash : ◌≡◌ {A = Result (Found Value State) Refusal} (Err (BadReference place)) (Ok r) = h in absurd cc
+    go false true false true other closed h = absurd (true≢false (closed refl))
+    go false true false false true closed h = let clash : ◌≡◌ {A = Result (Found Value State) Refusal} (Err (BadReference place)) (Ok r) = h in absurd cc
+    go false true false false false closed h = h
 
 -- in a signature what a substitution names is closed, and it is no candidate
 named_none_ : (around : Around) (place : ℕ) (c : Candidate) (state : State) (r : Found Value State) → substituted around place (Some c) state ≡ Ok r →
     (around.in_lambda ≡ true → HasNone (held r.value)) × (r.state.candidates ≡ state.candidates)
 unfolding substituted held
-named_none_ around place c state r e = go (is_open c.tree) around.in_lambda (not (nat_eq c.encoding around.encoding)) refl e
+named_none_ around place c state r e = go (is_module c.tree) (is_open c.tree) around.in_lambda (not (nat_eq c.encoding around.encoding)) refl e
   where
     named : (inside_ : Bool) → (inside_ ≡ true → HasNone c.tree) → (with_packs place around.in_expansion (packs_in around.scope c.tree) state >>= λ s. Ok (found (tree c.tree true) s)) ≡ Ok r →
         (inside_ ≡ true → HasNone (held r.value)) × (r.state.candidates ≡ state.candidates)
@@ -354,14 +356,15 @@ named_none_ around place c state r e = go (is_open c.tree) around.in_lambda (not
         let kept : b.value.candidates ≡ state.candidates = subst (λ m. IfOk m (λ s. s.candidates ≡ state.candidates)) b.is (packs_none place around.in_expansion (packs_in around.scope c.tree) state) in
         subst (λ x. (inside_ ≡ true → HasNone (held x.value)) × (x.state.candidates ≡ state.candidates)) (ok_same (found (tree c.tree true) b.value) r b.next) (closed, kept)
 
-    go : (open_ inside_ other : Bool) → is_open c.tree ≡ open_ → ◌≡◌ {A = Result (Found Value State) Refusal} (elim (open_ && (inside_ || other)) [
+    go : (module_ open_ inside_ other : Bool) → is_open c.tree ≡ open_ → ◌≡◌ {A = Result (Found Value State) Refusal} (elim (module_ || (open_ && (inside_ || other))) [
       | true ↦ Err (BadReference place)
       | false ↦ with_packs place around.in_expansion (packs_in around.scope c.tree) state >>= λ s. Ok (found (tree c.tree true) s)
     ]) (Ok r) → (inside_ ≡ true → HasNone (held r.value)) × (r.state.candidates ≡ state.candidates)
-    go false inside_ other is h = named inside_ (λ l. is) h
-    go true true other is h = let clash : ◌≡◌ {A = Result (Found Value State) Refusal} (Err (BadReference place)) (Ok r) = h in absurd cc
-    go true false true is h = let clash : ◌≡◌ {A = Result (Found Value State) Refusal} (Err (BadReference place)) (Ok r) = h in absurd cc
-    go true false false is h = named false (λ l. absurd (false≢true l)) h
+    go true open_ inside_ other is h = let clash : ◌≡◌ {A = Result (Found Value State) Refusal} (Err (BadReference place)) (Ok r) = h in absurd cc
+    go false false inside_ other is h = named inside_ (λ l. is) h
+    go false true true other is h = let clash : ◌≡◌ {A = Result (Found Value State) Refusal} (Err (BadReference place)) (Ok r) = h in absurd cc
+    go false true false true is h = let clash : ◌≡◌ {A = Result (Found Value State) Refusal} (Err (BadReference place)) (Ok r) = h in absurd cc
+    go false true false false is h = named false (λ l. absurd (false≢true l)) h
 
 -- the value of a production
 record Closes (around : Around) (wide : Result (Found Value State) Refusal) (r : Found Value State) : Type 0 where
@@ -438,6 +441,7 @@ makes_special Production.SpecialType = true
 makes_special Production.ParameterObject = true
 makes_special Production.SpecialName = true
 makes_special Production.Temporary = true
+makes_special Production.ModuleInitializer = true
 makes_special Production.ConstructionVtable = true
 makes_special Production.NonVirtualThunk = true
 makes_special Production.VirtualThunk = true
@@ -479,6 +483,7 @@ special_closes Production.SpecialType byte around place began vs state one h e =
 special_closes Production.ParameterObject byte around place began vs state one h e = subst (λ x. HasNone (held x.value)) (ok_same _ one e) refl
 special_closes Production.SpecialName byte around place began vs state one h e = subst (λ x. HasNone (held x.value)) (ok_same _ one e) refl
 special_closes Production.Temporary byte around place began vs state one h e = subst (λ x. HasNone (held x.value)) (ok_same _ one e) refl
+special_closes Production.ModuleInitializer byte around place began vs state one h e = subst (λ x. HasNone (held x.value)) (ok_same _ one e) refl
 special_closes Production.ConstructionVtable byte around place began vs state one h e = subst (λ x. HasNone (held x.value)) (ok_same _ one e) refl
 special_closes Production.NonVirtualThunk byte around place began vs state one h e = subst (λ x. HasNone (held x.value)) (ok_same _ one e) refl
 special_closes Production.VirtualThunk byte around place began vs state one h e = subst (λ x. HasNone (held x.value)) (ok_same _ one e) refl

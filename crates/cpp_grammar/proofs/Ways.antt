@@ -33,7 +33,7 @@ abi_way = record { own = false; opening = opening; between = between; close = cl
 unfoldable pub wide_way : Way
 wide_way = record { own = true; opening = opening_wide; between = between_wide; close = close_wide }
 
--- the only productions that differ: those of references, lambdas, and inherited constructors
+-- the only productions that differ: those of references, lambdas, inherited constructors, and modules that a substitution names
 unfoldable pub differs : Production → Bool
 differs Production.Lambda = true
 differs Production.Parameter = true
@@ -44,6 +44,7 @@ differs Production.ParameterExpression = true
 differs Production.HeldArguments = true
 differs Production.Inheriting = true
 differs Production.Holder = true
+differs Production.NamedModule = true
 differs _ = false
 
 -- the productions with parts in a signature: lambdas, what is declared of an argument, and constraints on arguments

@@ -14,10 +14,11 @@ pub data Maker : Type 0 where
   new_operator : Maker
   new_literal_operator : Maker
   new_constructor : Maker
-  new_destructor : Maker
   new_unnamed : Maker
   new_string_literal : Maker
   new_conversion : Maker
+  new_enumeration : Maker
+  new_bindings : Maker
   new_builtin : Maker
   new_sized_float : Maker
   new_constrained : Maker

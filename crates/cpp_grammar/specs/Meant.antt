@@ -8,7 +8,7 @@ use Rattle.cpp_grammar.specs.References.{appended, with_type, with_unqualified, 
 use Rattle.cpp_grammar.specs.Surrounding.{Going, next, in_name, in_types, in_signature, under_expansion, after, inside, extended, with_tag, applied, no_items, index_of}
 use Rattle.cpp_grammar.specs.Standing.{parameters, discriminator_of, listed_value, with_item, first_letter, second_letter}
 use Rattle.cpp_grammar.specs.Builders.{Argument, a_tree, some_bytes, a_number, a_truth, some_qualifiers, a_mark, a_signed, a_discriminator, tree_in, number_in, truth_in, built}
-use Rattle.cpp_grammar.specs.Row.{Source, tree_at, list_at, parameters_at, piece_at, the_name, no_tree, text_at, digits_at, code, taken, fixed, letter_at, letter_or_taken, operator_first_at, operator_second_at, number_at, yes, no, there_at, letter_is, qualifiers_at, qualified_by, ref_at, signed_at, discriminator_at, Made, of, only, extending, tagging, applying, packing, Listing, listed, unlisted, as_part, unless_there, as_part_alone, Form, handed, finished, either, the_byte, makes, a_piece, a_pair, cell, item, a_name, in_place, own, Where, as_before, in_its_name, in_its_types, in_a_signature, under_it, nameless, after_part, after_the_name, Gain, nothing, the_prefix, type_of, unqualified_of, itself, Before, quiet, goes, becomes, tests, holds, unread, Row}
+use Rattle.cpp_grammar.specs.Row.{Source, tree_at, list_at, parameters_at, piece_at, the_name, no_tree, text_at, digits_at, code, taken, fixed, letter_at, letter_or_taken, letter_or, operator_first_at, operator_second_at, number_at, yes, no, there_at, letter_is, qualifiers_at, qualified_by, ref_at, signed_at, discriminator_at, Made, of, only, extending, tagging, applying, packing, Listing, listed, unlisted, as_part, unless_there, as_part_alone, Form, handed, finished, either, the_byte, makes, a_piece, a_pair, cell, item, a_name, in_place, own, Where, as_before, in_its_name, in_its_types, in_a_signature, under_it, nameless, after_part, after_the_name, Gain, nothing, the_prefix, type_of, unqualified_of, itself, Before, quiet, goes, becomes, tests, holds, unread, Row}
 use Rattle.cpp_grammar.specs.Own.{own_meaning}
 
 -- ## Trees
@@ -28,6 +28,7 @@ given byte around vs taken = a_number byte
 given byte around vs (fixed n) = a_number n
 given byte around vs (letter_at k) = a_number (letter_of (part vs k))
 given byte around vs (letter_or_taken k) = a_number (cond (nat_eq (letter_of (part vs k)) 0) byte (letter_of (part vs k)))
+given byte around vs (letter_or k other) = a_number (cond (nat_eq (letter_of (part vs k)) 0) other (letter_of (part vs k)))
 given byte around vs (operator_first_at k) = a_number (first_letter (piece_of (part vs k)))
 given byte around vs (operator_second_at k) = a_number (second_letter (piece_of (part vs k)))
 given byte around vs (number_at k) = a_number (local_number (text_of (part vs k)))

@@ -170,7 +170,10 @@ operations =
     printed_as "Lf" PRIMARY "(" Operand.AsType ")[" Operand.AsItIs "]" ∷
     printed_as "di" PRIMARY "." Operand.AsItIs "" Operand.AsItIs "" ∷
     printed_as "dx" PRIMARY "[" Operand.AsItIs "]" Operand.AsItIs "" ∷
-    printed_as "= " PRIMARY " = " Operand.AsItIs "" Operand.NotPrinted "" ∷ []
+    printed_as "= " PRIMARY " = " Operand.AsItIs "" Operand.NotPrinted "" ∷
+    printed_as "W1" PRIMARY "" Operand.AsItIs "" Operand.NotPrinted "" ∷
+    printed_as "WW" PRIMARY "" Operand.AsItIs "." Operand.AsItIs "" ∷
+    printed_as "WP" PRIMARY "" Operand.AsItIs ":" Operand.AsItIs "" ∷ []
 
 -- the operation of a code, and none of another
 unfoldable pub operation_of_code : List ℕ → List Operation → Option Operation

@@ -7,7 +7,7 @@ use Rattle.sym_print.specs.Unfold.{PartOf, text, sub}
 use Rattle.cpp_grammar.specs.Texts.{same_bytes, look_up, builtin_texts, operator_texts, abbreviation_texts, special_texts, named_special_texts, literal_endings}
 use Rattle.cpp_grammar.specs.declared.operand.Operand.{Operand}
 use Rattle.cpp_grammar.specs.Operations.{UNARY, PRIMARY, Operation, operations, operation_of_code}
-use Rattle.cpp_grammar.specs.Term.{Qualifiers, RefQualifier, any_value, lvalue_only, rvalue_only, explicit_object, Signed, non_virtual, by_table, Thunk, adjusting, covariant, Term, symbol, function, object, special, thunk, of_name, construction, clone, alone, in_std, within, instance, local, holder, tagged, of_default, abbreviation, parameter, source, operator, literal_operator, constructor, destructor, inheriting, lambda, generic_lambda, unnamed, string_literal, conversion, builtin, sized_float, constrained, vendor, pointer, lvalue, rvalue, array, bounded, member_pointer, function_type, qualified, vector, complex, decltype, expansion, integer, boolean, null_pointer, encoding_literal, address_of, operation, function_parameter, pack, nil, list, absent}
+use Rattle.cpp_grammar.specs.Term.{Qualifiers, RefQualifier, any_value, lvalue_only, rvalue_only, explicit_object, Signed, non_virtual, by_table, Thunk, adjusting, covariant, Term, symbol, function, object, special, thunk, of_name, construction, clone, alone, in_std, within, instance, local, holder, tagged, of_default, abbreviation, parameter, source, operator, literal_operator, constructor, destructor, inheriting, lambda, generic_lambda, unnamed, string_literal, conversion, enumeration, bindings, builtin, sized_float, constrained, vendor, pointer, lvalue, rvalue, array, bounded, member_pointer, function_type, qualified, vector, complex, decltype, expansion, integer, boolean, null_pointer, encoding_literal, address_of, operation, function_parameter, pack, nil, list, absent}
 use Rattle.cpp_grammar.specs.Scope.{arguments_of, without_tags}
 use Rattle.cpp_grammar.specs.Items.{Form, root, full, bare, left, right, low, base, piece, first, more, expand, Context, Item, closed, signature_in, argument, head, is_reference, is_funarr, packs_of, is_empty}
 
@@ -67,6 +67,8 @@ piece_parts context (generic_lambda parameters number) =
 piece_parts context (unnamed number) = says "{unnamed type#" ∷ text (decimal number) ∷ says "}" ∷ []
 piece_parts context string_literal = says "string literal" ∷ []
 piece_parts context (conversion t) = says "operator " ∷ as_item left context t ∷ as_item right context t ∷ []
+piece_parts context (enumeration t name) = says "{enum:" ∷ as_item left context t ∷ as_item right context t ∷ says "{" ∷ text name ∷ says "}}" ∷ []
+piece_parts context (bindings names) = says "[" ∷ list_part first context names ++ (says "]" ∷ [])
 piece_parts context _ = []
 
 -- a prefix is a name, or the enclosing encoding, which names no parameters of what is in it
@@ -81,11 +83,28 @@ prefix_item context (clone letter e) = as_item bare closed (clone letter e)
 prefix_item context (holder name) = as_item left context name
 prefix_item context t = as_item left context t
 
+-- a prefix before a piece, and what is between them
+unfoldable pub before_piece : Context → Term → List (PartOf Item)
+before_piece context absent = []
+before_piece context prefix = prefix_item context prefix ∷ says "::" ∷ []
+
+-- a piece of a name that is attached to a module
+unfoldable pub attached_parts : Context → (prefix piece : Term) → (module_name : Term) → List (PartOf Item)
+attached_parts context prefix p module_name = before_piece context prefix ++ (as_item piece context p ∷ says "@" ∷ as_item left context module_name ∷ [])
+
+-- a prefix that is an operation by W is a module, by which what is attached to it is named, or what it is in besides
+unfoldable pub component_parts : Context → (prefix piece : Term) → List (PartOf Item)
+component_parts context (operation a b x y) p = elim (nat_eq a 87) [
+  | true ↦ elim (nat_eq b 64) [ true ↦ attached_parts context x p y | false ↦ attached_parts context absent p (operation a b x y) ]
+  | false ↦ prefix_item context (operation a b x y) ∷ says "::" ∷ as_item piece context p ∷ []
+]
+component_parts context prefix p = prefix_item context prefix ∷ says "::" ∷ as_item piece context p ∷ []
+
 unfoldable pub within_parts : Context → Term → Term → List (PartOf Item)
 within_parts context prefix (constructor digit) = as_item left context prefix ∷ says "::" ∷ as_item base context prefix ∷ []
 within_parts context prefix (inheriting digit class) = as_item left context prefix ∷ says "::" ∷ as_item base context prefix ∷ []
 within_parts context prefix (destructor digit) = as_item left context prefix ∷ says "::~" ∷ as_item base context prefix ∷ []
-within_parts context prefix p = prefix_item context prefix ∷ says "::" ∷ as_item piece context p ∷ []
+within_parts context prefix p = component_parts context prefix p
 
 -- The last piece of a template name. A parameter, an abbreviation or an instance has none.
 unfoldable pub last_piece : Term → Term

@@ -1,6 +1,6 @@
 -- A rank of items that falls from each item to its parts, so that printing ends.
 use Rattle.std.specs.Prelude.{ℕ, ◌+◌, ◌-◌, Option, Some, None}
-use Rattle.cpp_grammar.specs.Term.{Term, symbol, function, object, special, thunk, of_name, construction, clone, alone, in_std, within, instance, local, holder, tagged, of_default, parameter, lambda, generic_lambda, conversion, pointer, lvalue, rvalue, array, constrained, bounded, member_pointer, function_type, qualified, vector, complex, expansion, integer, encoding_literal, address_of, pack, list, inheriting, decltype, operation}
+use Rattle.cpp_grammar.specs.Term.{Term, symbol, function, object, special, thunk, of_name, construction, clone, alone, in_std, within, instance, local, holder, tagged, of_default, parameter, lambda, generic_lambda, conversion, pointer, lvalue, rvalue, array, constrained, bounded, member_pointer, function_type, qualified, vector, complex, expansion, integer, encoding_literal, address_of, pack, list, inheriting, decltype, operation, enumeration, bindings}
 use Rattle.cpp_grammar.specs.Scope.{arguments_of, pack_length}
 use Rattle.cpp_grammar.specs.Items.{Form, expand, Context, Item}
 
@@ -37,6 +37,8 @@ weight a scope (inheriting digit class) = 1 + weight a scope class
 weight a scope (lambda parameters number) = 1 + weight a scope parameters
 weight a scope (generic_lambda parameters number) = 1 + weight 0 None parameters
 weight a scope (conversion t) = 1 + weight a scope t
+weight a scope (enumeration t bytes) = 1 + weight a scope t
+weight a scope (bindings names) = 1 + weight a scope names
 weight a scope (constrained letter concept) = 1 + weight a scope concept
 weight a scope (pointer t) = 1 + weight a scope t
 weight a scope (lvalue t) = 1 + weight a scope t

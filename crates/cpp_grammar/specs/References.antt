@@ -4,7 +4,7 @@ use Rattle.sym_core.specs.declared.refusal.Refusal.{Refusal}
 use Rattle.sym_core.specs.declared.refusal.Refusal.TheVariants.{BadReference}
 use Rattle.sym_link.specs.Reading.{Found, ◌>>=◌}
 use Rattle.sym_link.specs.Unfold.{found}
-use Rattle.cpp_grammar.specs.Term.{Term, function_type, parameter}
+use Rattle.cpp_grammar.specs.Term.{Term, function_type, parameter, operation}
 use Rattle.cpp_grammar.specs.Scope.{count, element, is_open, length_if_pack, pack_length}
 use Rattle.cpp_grammar.specs.Values.{Counted, by_all, Candidate, State, Around, prefix_tree, prefix_listed, Value, tree, tree_of, is_listed}
 
@@ -49,12 +49,17 @@ unfoldable pub packs_in : Option Term → Term → Option ℕ
 packs_in None t = None
 packs_in (Some scope) t = pack_length scope t
 
--- A substitution names a candidate. One with free parameters was made in the same encoding, and isn't named in a lambda's
--- signature.
+-- a module's name, which only the wide grammar makes: an operation whose code begins with a W
+unfoldable pub is_module : Term → Bool
+is_module (operation one two u w) = nat_eq one 87
+is_module _ = false
+
+-- A substitution names a candidate that is no module. One with free parameters was made in the same encoding, and isn't named
+-- in a lambda's signature.
 unfoldable pub substituted : Around → ℕ → Option Candidate → State → Result (Found Value State) Refusal
 substituted around place None state = Err (BadReference place)
 substituted around place (Some c) state =
-    elim (is_open c.tree && (around.in_lambda || not (nat_eq c.encoding around.encoding))) [
+    elim (is_module c.tree || (is_open c.tree && (around.in_lambda || not (nat_eq c.encoding around.encoding)))) [
       | true ↦ Err (BadReference place)
       | false ↦ with_packs place around.in_expansion (packs_in around.scope c.tree) state >>= λ s. Ok (found (tree c.tree true) s)
     ]

@@ -1,8 +1,8 @@
--- The reading of the wide grammar (ABI 5.1.8, 5.1.10). It differs from that of the ABI's grammar in three points: the
+-- The reading of the wide grammar (ABI 5.1.8, 5.1.10). It differs from that of the ABI's grammar in four points: the
 -- parameters of a lambda's signature are the lambda's own; a substitution may name a tree that was made where its parameters
--- meant others than those meant where it is named; and there are names with an M, inherited constructors and concepts with
--- arguments, which compilers count differently.
-use Rattle.std.specs.Prelude.{ℕ, zero, suc, ◌+◌, ◌-◌, ◌^◌, List, [], ◌∷◌, ◌++◌, Bool, true, false, not, ◌||◌, ◌&&◌, nat_eq, nat_lt, cond, slice_get, Option, Some, None, Result, Ok, Err}
+-- meant others than those meant where it is named; there are names with an M, inherited constructors and concepts with
+-- arguments, which compilers count differently; and before a component of a nested name a substitution names a module.
+use Rattle.std.specs.Prelude.{ℕ, zero, suc, ◌-◌, ◌^◌, List, [], ◌∷◌, Bool, true, false, not, ◌||◌, ◌&&◌, nat_eq, nat_lt, cond, slice_get, Option, Some, None, Result, Ok, Err}
 use Rattle.sym_core.specs.declared.refusal.Refusal.{Refusal}
 use Rattle.sym_core.specs.declared.refusal.Refusal.TheVariants.{BadReference}
 use Rattle.sym_core.specs.declared.NumberKind.TheVariants.{Seq36}
@@ -14,7 +14,7 @@ use Rattle.cpp_grammar.specs.declared.production.Production.{Production}
 use Rattle.cpp_grammar.specs.Term.{Term, instance, holder, lvalue, rvalue, parameter, lambda, generic_lambda}
 use Rattle.cpp_grammar.specs.Scope.{count, element, is_list, has_pack, is_open, Free, none_free, one_free, several_free, free_in, pack_length}
 use Rattle.cpp_grammar.specs.Values.{Counted, by_all, by_newer, by_gcc, by_some, Candidate, Lists, both_lists, longer_list, shorter_list, no_list, Expected, prefix_at, qualified_at, State, Around, prefix_tree, prefix_listed, Value, nothing_there, tree, piece, pair, text, tree_of, is_listed, text_of, part}
-use Rattle.cpp_grammar.specs.References.{appended, appended_by, with_packs, substituted}
+use Rattle.cpp_grammar.specs.References.{appended, appended_by, is_module, with_packs, substituted}
 use Rattle.cpp_grammar.specs.Between.{Going, next, inside, listed_so_far, parameter_so_far, argument_so_far, index_of, between}
 use Rattle.cpp_grammar.specs.Meaning.{meaning}
 use Rattle.cpp_grammar.specs.Unfolding.{opening, close, production_at, byte_of, first_around, first_state, first_tree}
@@ -179,6 +179,19 @@ left_at place number state = elim (is_by_some (counted_so_far by_all state.candi
 unfoldable pub with_lists : Lists → State → State
 with_lists lists state = record state { counting = record state.counting { lists = lists } }
 
+-- ## Modules
+
+-- A module's name is a candidate, which is named before a component of a nested name alone. It has no free parameters.
+unfoldable pub named_by_both : List Candidate → (number : ℕ) → Option Candidate
+named_by_both cs number = elim (nat_eq (place_in false cs number) (place_in true cs number)) [ true ↦ named_in false cs number | false ↦ None ]
+
+unfoldable pub module_of : Option Candidate → Option Term
+module_of None = None
+module_of (Some c) = elim (is_module c.tree && not (is_open c.tree)) [ true ↦ Some c.tree | false ↦ None ]
+
+unfoldable pub module_named : (number : ℕ) → State → Option Term
+module_named number state = module_of (named_by_both state.candidates number)
+
 -- ## Substitutions
 
 -- A candidate's free parameters may denote others here than where it was made: in another encoding, or in a lambda's signature.
@@ -241,6 +254,13 @@ numbered around place number state = elim (nat_eq (place_in false state.candidat
   | false ↦ let lists = left_at place number state in listed_by lists around place number (with_lists lists state)
 ]
 
+-- a module that a substitution names before a component of a nested name
+unfoldable pub module_so_far : Around → (place : ℕ) → (number : ℕ) → State → Going
+module_so_far around place number state = elim (module_named number state) [
+  | None ↦ Err (BadReference place)
+  | Some t ↦ listed_so_far around t [] state
+]
+
 -- ## The unfolding
 
 -- Where all compilers count alike so far, nothing need be expected.
@@ -263,6 +283,7 @@ between_wide Production.ParameterArgument around place (v ∷ []) state = parame
 between_wide Production.ParameterExpression around place (v ∷ []) state = argument_here around (place - 1) (index_of v) state
 between_wide Production.HeldArguments around place [] state = next [] (inside around) (counted_unless (prefix_listed around.prefix) by_some around (prefix_tree around.prefix) state)
 between_wide Production.Holder around place (v ∷ []) state = holder_so_far around place state
+between_wide Production.NamedModule around place (v ∷ []) state = module_so_far around (place - 1) (counted_value Seq36 (text_of v)) state
 between_wide production around place vs state = between production around place vs state
 
 unfoldable pub close_wide : Production → (byte : ℕ) → Around → (place : ℕ) → (began : State) → List Value → State → Result (Found Value State) Refusal

@@ -22,6 +22,8 @@ pub data Source : Type 0 where
   letter_at : ℕ → Source
   -- the letter of a part, or the byte that the production takes, where the part has none
   letter_or_taken : ℕ → Source
+  -- the letter of a part, or this one, where the part has none
+  letter_or : ℕ → (other : ℕ) → Source
   -- the letters of the operator in a part
   operator_first_at : ℕ → Source
   operator_second_at : ℕ → Source

@@ -1,7 +1,7 @@
 -- What the trees of C++ symbols are like: their arguments, free parameters and packs. The scope of an encoding is the list of
 -- arguments that its own name ends in. It holds only for the encoding's types.
 use Rattle.std.specs.Prelude.{ℕ, zero, suc, Bool, true, false, not, ◌||◌, nat_eq, max, Option, Some, None}
-use Rattle.cpp_grammar.specs.Term.{Term, alone, in_std, within, instance, local, holder, tagged, of_default, parameter, constructor, destructor, inheriting, lambda, conversion, pointer, lvalue, rvalue, array, constrained, bounded, member_pointer, function_type, qualified, vector, complex, expansion, integer, pack, list, absent, decltype, operation}
+use Rattle.cpp_grammar.specs.Term.{Term, alone, in_std, within, instance, local, holder, tagged, of_default, parameter, constructor, destructor, inheriting, lambda, conversion, pointer, lvalue, rvalue, array, constrained, bounded, member_pointer, function_type, qualified, vector, complex, expansion, integer, pack, list, absent, decltype, operation, enumeration, bindings}
 
 -- the length of a list
 unfoldable pub count : Term → ℕ
@@ -61,6 +61,8 @@ is_open (of_default digits entity) = is_open entity
 is_open (inheriting digit class) = is_open class
 is_open (lambda parameters number) = is_open parameters
 is_open (conversion type) = is_open type
+is_open (enumeration type bytes) = is_open type
+is_open (bindings names) = is_open names
 is_open (constrained letter concept) = is_open concept
 is_open (pointer type) = is_open type
 is_open (lvalue type) = is_open type
@@ -109,6 +111,8 @@ free_in (of_default digits entity) = free_in entity
 free_in (inheriting digit class) = free_in class
 free_in (lambda parameters number) = free_in parameters
 free_in (conversion type) = free_in type
+free_in (enumeration type bytes) = free_in type
+free_in (bindings names) = free_in names
 free_in (constrained letter concept) = free_in concept
 free_in (pointer type) = free_in type
 free_in (lvalue type) = free_in type
@@ -166,6 +170,8 @@ pack_length scope (of_default digits entity) = pack_length scope entity
 pack_length scope (inheriting digit class) = pack_length scope class
 pack_length scope (lambda parameters number) = pack_length scope parameters
 pack_length scope (conversion type) = pack_length scope type
+pack_length scope (enumeration type bytes) = pack_length scope type
+pack_length scope (bindings names) = pack_length scope names
 pack_length scope (constrained letter concept) = pack_length scope concept
 pack_length scope (pointer type) = pack_length scope type
 pack_length scope (lvalue type) = pack_length scope type

@@ -7,8 +7,8 @@ use Rattle.sym_shape.specs.declared.rule.Sym.TheVariants.{Kind as OfKind, Name, 
 use Rattle.cpp_grammar.specs.declared.kind.Kind.{Kind}
 use Rattle.cpp_grammar.specs.declared.production.Production.{Production}
 use Rattle.cpp_grammar.specs.Grammar.{Alternative, kinds, parts_of, may_be_empty}
-use Rattle.cpp_grammar.specs.Makers.{Maker, new_symbol, new_special, new_of_name, new_construction, new_clone, new_in_std, new_instance, new_local, new_abbreviation, new_source, new_operator, new_literal_operator, new_constructor, new_destructor, new_unnamed, new_string_literal, new_conversion, new_builtin, new_sized_float, new_constrained, new_vendor, new_pointer, new_lvalue, new_rvalue, new_array, new_bounded, new_member_pointer, new_function_type, new_qualified, new_vector, new_complex, new_decltype, new_expansion, new_integer, new_boolean, new_null_pointer, new_encoding_literal, new_operation, new_function_parameter, new_pack}
-use Rattle.cpp_grammar.specs.Row.{Source, tree_at, list_at, parameters_at, piece_at, the_name, no_tree, text_at, digits_at, code, taken, fixed, letter_at, letter_or_taken, operator_first_at, operator_second_at, number_at, yes, no, there_at, letter_is, qualifiers_at, qualified_by, ref_at, signed_at, discriminator_at, Made, of, only, extending, tagging, applying, packing, Listing, listed, unlisted, as_part, unless_there, as_part_alone, Own, Form, handed, finished, either, the_byte, makes, a_piece, a_pair, cell, item, a_name, in_place, own, Where, as_before, in_its_name, in_its_types, in_a_signature, under_it, nameless, after_part, after_the_name, Gain, nothing, the_prefix, type_of, unqualified_of, itself, Before, quiet, goes, becomes, tests, holds, unread, Row, before_part, closure, first_of_operator, in_default, local_name, lvalue_signature, many_digits, negative, nested_name, no_parameters, no_value, non_virtual_offset, one_digit, positive, rvalue_signature, suffix, virtual_offset}
+use Rattle.cpp_grammar.specs.Makers.{Maker, new_symbol, new_special, new_of_name, new_construction, new_clone, new_in_std, new_instance, new_local, new_abbreviation, new_source, new_operator, new_literal_operator, new_constructor, new_unnamed, new_string_literal, new_conversion, new_enumeration, new_bindings, new_builtin, new_sized_float, new_constrained, new_vendor, new_pointer, new_lvalue, new_rvalue, new_array, new_bounded, new_member_pointer, new_function_type, new_qualified, new_vector, new_complex, new_decltype, new_expansion, new_integer, new_boolean, new_null_pointer, new_encoding_literal, new_operation, new_function_parameter, new_pack}
+use Rattle.cpp_grammar.specs.Row.{Source, tree_at, list_at, parameters_at, piece_at, the_name, no_tree, text_at, digits_at, code, taken, fixed, letter_at, letter_or_taken, letter_or, operator_first_at, operator_second_at, number_at, yes, no, there_at, letter_is, qualifiers_at, qualified_by, ref_at, signed_at, discriminator_at, Made, of, only, extending, tagging, applying, packing, Listing, listed, unlisted, as_part, unless_there, as_part_alone, Own, Form, handed, finished, either, the_byte, makes, a_piece, a_pair, cell, item, a_name, in_place, own, Where, as_before, in_its_name, in_its_types, in_a_signature, under_it, nameless, after_part, after_the_name, Gain, nothing, the_prefix, type_of, unqualified_of, itself, Before, quiet, goes, becomes, tests, holds, unread, Row, before_part, closure, first_of_operator, in_default, local_name, lvalue_signature, many_digits, negative, nested_name, no_parameters, no_value, non_virtual_offset, one_digit, positive, rvalue_signature, suffix, virtual_offset}
 use Rattle.cpp_grammar.specs.Rows.{row_of}
 
 -- ## Sorts
@@ -84,10 +84,11 @@ takes new_source = truths ∷ texts ∷ []
 takes new_operator = numbers ∷ numbers ∷ []
 takes new_literal_operator = texts ∷ []
 takes new_constructor = numbers ∷ []
-takes new_destructor = numbers ∷ []
 takes new_unnamed = numbers ∷ []
 takes new_string_literal = []
 takes new_conversion = trees ∷ []
+takes new_enumeration = trees ∷ texts ∷ []
+takes new_bindings = trees ∷ []
 takes new_builtin = texts ∷ []
 takes new_sized_float = texts ∷ numbers ∷ []
 takes new_constrained = numbers ∷ trees ∷ []
@@ -117,10 +118,11 @@ sort_made new_source = pieces
 sort_made new_operator = pieces
 sort_made new_literal_operator = pieces
 sort_made new_constructor = pieces
-sort_made new_destructor = pieces
 sort_made new_unnamed = pieces
 sort_made new_string_literal = pieces
 sort_made new_conversion = pieces
+sort_made new_enumeration = pieces
+sort_made new_bindings = pieces
 sort_made _ = trees
 
 -- ## What parts may be
@@ -160,7 +162,7 @@ kind_gives Kind.MaybeRef = letters ∷ []
 kind_gives Kind.Unqualified = pieces ∷ []
 kind_gives Kind.ConstructorDigit = letters ∷ []
 kind_gives Kind.InheritedDigit = letters ∷ []
-kind_gives Kind.DestructorDigit = letters ∷ []
+kind_gives Kind.ComponentAfterD = pieces ∷ letters ∷ []
 kind_gives Kind.Entity = trees ∷ names ∷ []
 kind_gives Kind.TypeEntity = trees ∷ names ∷ []
 kind_gives Kind.MaybeDiscriminator = texts ∷ []
@@ -192,7 +194,10 @@ kind_gives Kind.OperatorAfterL = pieces ∷ letters ∷ []
 kind_gives Kind.OperatorAfterS = letters ∷ []
 kind_gives Kind.OperatorAfterI = letters ∷ []
 kind_gives Kind.OperatorAfterG = letters ∷ []
+kind_gives Kind.NamedModule = trees ∷ texts ∷ []
+kind_gives Kind.MaybePartition = letters ∷ []
 kind_gives Kind.HolderMark = letters ∷ []
+kind_gives Kind.BindingAfterD = pieces ∷ []
 kind_gives Kind.FloatEnd = letters ∷ []
 kind_gives Kind.OtherOperator = pieces ∷ []
 kind_gives Kind.HeldArguments = pairs ∷ []
@@ -232,7 +237,7 @@ kind_gives Kind.InitializerAfterP = pairs ∷ []
 kind_gives Kind.InitializerAfterI = pairs ∷ []
 kind_gives Kind.ConvertRest = trees ∷ pairs ∷ []
 kind_gives Kind.Requirements = letters ∷ []
-kind_gives Kind.AfterExpression = letters ∷ []
+kind_gives Kind.MaybeNoexcept = letters ∷ []
 kind_gives Kind.AfterNoexcept = letters ∷ []
 kind_gives Kind.RequiredTypes = pairs ∷ []
 kind_gives _ = trees ∷ []
@@ -267,6 +272,7 @@ sort_given taken = numbers
 sort_given (fixed n) = numbers
 sort_given (letter_at k) = numbers
 sort_given (letter_or_taken k) = numbers
+sort_given (letter_or k other) = numbers
 sort_given (operator_first_at k) = numbers
 sort_given (operator_second_at k) = numbers
 sort_given (number_at k) = numbers
@@ -290,6 +296,7 @@ is_given known (text_at k) = reads known k (texts ∷ [])
 is_given known (digits_at k) = reads known k (texts ∷ [])
 is_given known (letter_at k) = reads known k (letters ∷ pairs ∷ [])
 is_given known (letter_or_taken k) = reads known k (letters ∷ pairs ∷ [])
+is_given known (letter_or k other) = reads known k (letters ∷ pairs ∷ [])
 is_given known (operator_first_at k) = reads known k (pieces ∷ [])
 is_given known (operator_second_at k) = reads known k (pieces ∷ [])
 is_given known (number_at k) = reads known k (texts ∷ [])

@@ -2,7 +2,7 @@
 use Rattle.std.specs.Prelude.{ℕ, zero, suc, ◌+◌, List, [], ◌∷◌, Bool, true, false, cond, not, ◌&&◌, nat_eq, Option}
 use Rattle.sym_core.specs.declared.NumberKind.TheVariants.{Decimal}
 use Rattle.sym_core.specs.Value.{counted_value}
-use Rattle.cpp_grammar.specs.Term.{Qualifiers, RefQualifier, any_value, lvalue_only, rvalue_only, explicit_object, Signed, Adjustment, non_virtual, Term, absent}
+use Rattle.cpp_grammar.specs.Term.{Qualifiers, RefQualifier, any_value, lvalue_only, rvalue_only, explicit_object, Signed, Adjustment, non_virtual, Term, destructor, absent}
 
 -- By which compilers a candidate is counted: by all, by those since GCC 13 and Clang 13, by GCC alone, or by some of which the
 -- reading doesn't know.
@@ -103,8 +103,10 @@ tree_of (signature t ref) = t
 tree_of (pair second left right) = left
 tree_of _ = absent
 
+-- the piece of a name; a digit is that of a destructor
 unfoldable pub piece_of : Value → Term
 piece_of (piece p) = p
+piece_of (letter digit) = destructor digit
 piece_of _ = absent
 
 unfoldable pub is_listed : Value → Bool

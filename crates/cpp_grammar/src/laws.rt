@@ -63,7 +63,7 @@ pub fn no_first_packs_in_abi()
 
 /// The reading of the wide grammar differs from that of the ABI's grammar only in what that refuses: a lambda's signature may
 /// name the lambda's own parameters, a substitution may name a tree that was made where its parameters mean others than here,
-/// and a name may have an M. What a shape denotes by the one reading it denotes by the other.
+/// or a module, and a name may have an M. What a shape denotes by the one reading it denotes by the other.
 pub fn abi_meanings_stay()
     ensures { (shape : Tree) (t : Term) → IsTree wide (Kind 0) shape → unfold_cpp shape ≡ Ok t → unfold_wide shape ≡ Ok t }
 {}

@@ -56,7 +56,7 @@ const CONSTRUCTOR_DIGIT: Sym = Sym::Kind(21);
 
 const INHERITED_DIGIT: Sym = Sym::Kind(22);
 
-const DESTRUCTOR_DIGIT: Sym = Sym::Kind(23);
+const COMPONENT_AFTER_D: Sym = Sym::Kind(23);
 
 const ABBREVIATION: Sym = Sym::Kind(24);
 
@@ -166,177 +166,201 @@ const ARGUMENTS_ALONE: Sym = Sym::Kind(76);
 
 const NEST_REST_ALONE: Sym = Sym::Kind(77);
 
-const HOLDER_MARK: Sym = Sym::Kind(78);
+const FIRST_MODULE: Sym = Sym::Kind(78);
 
-const HELD_COMPONENT: Sym = Sym::Kind(79);
+const NAMED_MODULE: Sym = Sym::Kind(79);
 
-const FLOAT_END: Sym = Sym::Kind(80);
+const MORE_MODULE: Sym = Sym::Kind(80);
 
-const COMPONENT_AFTER_C: Sym = Sym::Kind(81);
+const MAYBE_PARTITION: Sym = Sym::Kind(81);
 
-const OTHER_OPERATOR: Sym = Sym::Kind(82);
+const NAME_AFTER_MODULE: Sym = Sym::Kind(82);
 
-const HELD_ARGUMENTS: Sym = Sym::Kind(83);
+const NAME_IN_MODULE: Sym = Sym::Kind(83);
 
-const BASE_CLASS: Sym = Sym::Kind(84);
+const NEST_ON: Sym = Sym::Kind(84);
 
-const UNNESTED_NAME: Sym = Sym::Kind(85);
+const HOLDER_MARK: Sym = Sym::Kind(85);
 
-const BASE_ARGUMENTS: Sym = Sym::Kind(86);
+const HELD_COMPONENT: Sym = Sym::Kind(86);
 
-const ARGUMENTS_FIRST: Sym = Sym::Kind(87);
+const BINDING_AFTER_D: Sym = Sym::Kind(87);
 
-const PLAIN_ENTITY: Sym = Sym::Kind(88);
+const BOUND_NAMES: Sym = Sym::Kind(88);
 
-const PLAIN_TYPE_ENTITY: Sym = Sym::Kind(89);
+const MORE_NAMES: Sym = Sym::Kind(89);
 
-const SPECIAL_MARK: Sym = Sym::Kind(90);
+const BOUND_NAME: Sym = Sym::Kind(90);
 
-const SPECIAL_AFTER_G: Sym = Sym::Kind(91);
+const FLOAT_END: Sym = Sym::Kind(91);
 
-const TEMPORARY_NAME: Sym = Sym::Kind(92);
+const COMPONENT_AFTER_C: Sym = Sym::Kind(92);
 
-const CLONE_LETTER: Sym = Sym::Kind(93);
+const OTHER_OPERATOR: Sym = Sym::Kind(93);
 
-const TYPE_IN_STD: Sym = Sym::Kind(94);
+const HELD_ARGUMENTS: Sym = Sym::Kind(94);
 
-const MAYBE_TAGS: Sym = Sym::Kind(95);
+const BASE_CLASS: Sym = Sym::Kind(95);
 
-const ARGUMENT: Sym = Sym::Kind(96);
+const UNNESTED_NAME: Sym = Sym::Kind(96);
 
-const ARGUMENT_AFTER_T: Sym = Sym::Kind(97);
+const BASE_ARGUMENTS: Sym = Sym::Kind(97);
 
-const LEVELED_PARAMETER: Sym = Sym::Kind(98);
+const ARGUMENTS_FIRST: Sym = Sym::Kind(98);
 
-const ONE_ARGUMENT: Sym = Sym::Kind(99);
+const PLAIN_ENTITY: Sym = Sym::Kind(99);
 
-const DECLARATION_AFTER_T: Sym = Sym::Kind(100);
+const PLAIN_TYPE_ENTITY: Sym = Sym::Kind(100);
 
-const DECLARATIONS: Sym = Sym::Kind(101);
+const SPECIAL_MARK: Sym = Sym::Kind(101);
 
-const CONCEPT: Sym = Sym::Kind(102);
+const SPECIAL_AFTER_G: Sym = Sym::Kind(102);
 
-const SOLID_BUT_T: Sym = Sym::Kind(103);
+const TEMPORARY_NAME: Sym = Sym::Kind(103);
 
-const EXPRESSION: Sym = Sym::Kind(104);
+const CLONE_LETTER: Sym = Sym::Kind(104);
 
-const EXPRESSION_PARAMETER: Sym = Sym::Kind(105);
+const TYPE_IN_STD: Sym = Sym::Kind(105);
 
-const UNLEVELED_EXPRESSION: Sym = Sym::Kind(106);
+const MAYBE_TAGS: Sym = Sym::Kind(106);
 
-const ADDRESSED_EXPRESSION: Sym = Sym::Kind(107);
+const ARGUMENT: Sym = Sym::Kind(107);
 
-const ADDRESSED_LITERAL: Sym = Sym::Kind(108);
+const ARGUMENT_AFTER_T: Sym = Sym::Kind(108);
 
-const EXPRESSION_AFTER_A: Sym = Sym::Kind(109);
+const LEVELED_PARAMETER: Sym = Sym::Kind(109);
 
-const EXPRESSION_AFTER_C: Sym = Sym::Kind(110);
+const ONE_ARGUMENT: Sym = Sym::Kind(110);
 
-const EXPRESSION_AFTER_D: Sym = Sym::Kind(111);
+const DECLARATION_AFTER_T: Sym = Sym::Kind(111);
 
-const EXPRESSION_AFTER_E: Sym = Sym::Kind(112);
+const DECLARATIONS: Sym = Sym::Kind(112);
 
-const EXPRESSION_AFTER_F: Sym = Sym::Kind(113);
+const CONCEPT: Sym = Sym::Kind(113);
 
-const EXPRESSION_AFTER_G: Sym = Sym::Kind(114);
+const SOLID_BUT_T: Sym = Sym::Kind(114);
 
-const EXPRESSION_AFTER_I: Sym = Sym::Kind(115);
+const EXPRESSION: Sym = Sym::Kind(115);
 
-const EXPRESSION_AFTER_L: Sym = Sym::Kind(116);
+const EXPRESSION_PARAMETER: Sym = Sym::Kind(116);
 
-const EXPRESSION_AFTER_M: Sym = Sym::Kind(117);
+const UNLEVELED_EXPRESSION: Sym = Sym::Kind(117);
 
-const EXPRESSION_AFTER_N: Sym = Sym::Kind(118);
+const ADDRESSED_EXPRESSION: Sym = Sym::Kind(118);
 
-const EXPRESSION_AFTER_O: Sym = Sym::Kind(119);
+const ADDRESSED_LITERAL: Sym = Sym::Kind(119);
 
-const EXPRESSION_AFTER_P: Sym = Sym::Kind(120);
+const EXPRESSION_AFTER_A: Sym = Sym::Kind(120);
 
-const EXPRESSION_AFTER_Q: Sym = Sym::Kind(121);
+const EXPRESSION_AFTER_C: Sym = Sym::Kind(121);
 
-const EXPRESSION_AFTER_R: Sym = Sym::Kind(122);
+const EXPRESSION_AFTER_D: Sym = Sym::Kind(122);
 
-const EXPRESSION_AFTER_S: Sym = Sym::Kind(123);
+const EXPRESSION_AFTER_E: Sym = Sym::Kind(123);
 
-const EXPRESSION_AFTER_T: Sym = Sym::Kind(124);
+const EXPRESSION_AFTER_F: Sym = Sym::Kind(124);
 
-const EXPRESSIONS: Sym = Sym::Kind(125);
+const EXPRESSION_AFTER_G: Sym = Sym::Kind(125);
 
-const MAYBE_BEFORE: Sym = Sym::Kind(126);
+const EXPRESSION_AFTER_I: Sym = Sym::Kind(126);
 
-const FOLD_OPERATOR: Sym = Sym::Kind(127);
+const EXPRESSION_AFTER_L: Sym = Sym::Kind(127);
 
-const FOLD_OPERATOR_AFTER_L: Sym = Sym::Kind(128);
+const EXPRESSION_AFTER_M: Sym = Sym::Kind(128);
 
-const FOLD_OPERAND: Sym = Sym::Kind(129);
+const EXPRESSION_AFTER_N: Sym = Sym::Kind(129);
 
-const FOLD_PACK: Sym = Sym::Kind(130);
+const EXPRESSION_AFTER_O: Sym = Sym::Kind(130);
 
-const VALUE_PACK: Sym = Sym::Kind(131);
+const EXPRESSION_AFTER_P: Sym = Sym::Kind(131);
 
-const TYPE_PACK: Sym = Sym::Kind(132);
+const EXPRESSION_AFTER_Q: Sym = Sym::Kind(132);
 
-const DESIGNATED_VALUE: Sym = Sym::Kind(133);
+const EXPRESSION_AFTER_R: Sym = Sym::Kind(133);
 
-const DESIGNATOR_AFTER_D: Sym = Sym::Kind(134);
+const EXPRESSION_AFTER_S: Sym = Sym::Kind(134);
 
-const PLAIN_VALUE: Sym = Sym::Kind(135);
+const EXPRESSION_AFTER_T: Sym = Sym::Kind(135);
 
-const FIELD_NAME: Sym = Sym::Kind(136);
+const EXPRESSIONS: Sym = Sym::Kind(136);
 
-const PLACEMENT: Sym = Sym::Kind(137);
+const MAYBE_BEFORE: Sym = Sym::Kind(137);
 
-const SOME_EXPRESSIONS: Sym = Sym::Kind(138);
+const FOLD_OPERATOR: Sym = Sym::Kind(138);
 
-const INITIALIZER: Sym = Sym::Kind(139);
+const FOLD_OPERATOR_AFTER_L: Sym = Sym::Kind(139);
 
-const INITIALIZER_AFTER_P: Sym = Sym::Kind(140);
+const FOLD_OPERAND: Sym = Sym::Kind(140);
 
-const INITIALIZER_AFTER_I: Sym = Sym::Kind(141);
+const FOLD_PACK: Sym = Sym::Kind(141);
 
-const OUTER_REST: Sym = Sym::Kind(142);
+const VALUE_PACK: Sym = Sym::Kind(142);
 
-const PARAMETER_NUMBER: Sym = Sym::Kind(143);
+const TYPE_PACK: Sym = Sym::Kind(143);
 
-const CONVERTED_TYPE: Sym = Sym::Kind(144);
+const DESIGNATED_VALUE: Sym = Sym::Kind(144);
 
-const CONVERTED_SOLID: Sym = Sym::Kind(145);
+const DESIGNATOR_AFTER_D: Sym = Sym::Kind(145);
 
-const PARAMETER_AFTER_T: Sym = Sym::Kind(146);
+const PLAIN_VALUE: Sym = Sym::Kind(146);
 
-const DECLTYPE_AFTER_D: Sym = Sym::Kind(147);
+const FIELD_NAME: Sym = Sym::Kind(147);
 
-const CONVERT_REST: Sym = Sym::Kind(148);
+const PLACEMENT: Sym = Sym::Kind(148);
 
-const UNRESOLVED: Sym = Sym::Kind(149);
+const SOME_EXPRESSIONS: Sym = Sym::Kind(149);
 
-const UNRESOLVED_TYPE: Sym = Sym::Kind(150);
+const INITIALIZER: Sym = Sym::Kind(150);
 
-const DESTRUCTOR_NAME: Sym = Sym::Kind(151);
+const INITIALIZER_AFTER_P: Sym = Sym::Kind(151);
 
-const REQUIREMENTS: Sym = Sym::Kind(152);
+const INITIALIZER_AFTER_I: Sym = Sym::Kind(152);
 
-const AFTER_EXPRESSION: Sym = Sym::Kind(153);
+const OUTER_REST: Sym = Sym::Kind(153);
 
-const AFTER_NOEXCEPT: Sym = Sym::Kind(154);
+const PARAMETER_NUMBER: Sym = Sym::Kind(154);
 
-const REQUIRED_TYPES: Sym = Sym::Kind(155);
+const CONVERTED_TYPE: Sym = Sym::Kind(155);
 
-const LEVEL: Sym = Sym::Kind(156);
+const CONVERTED_SOLID: Sym = Sym::Kind(156);
 
-const MORE_LEVELS: Sym = Sym::Kind(157);
+const PARAMETER_AFTER_T: Sym = Sym::Kind(157);
 
-const UNRESOLVED_NAME: Sym = Sym::Kind(158);
+const DECLTYPE_AFTER_D: Sym = Sym::Kind(158);
 
-const OPERATOR_NAME: Sym = Sym::Kind(159);
+const CONVERTED_AFTER_D: Sym = Sym::Kind(159);
 
-const ANY_ARRAY: Sym = Sym::Kind(160);
+const CONVERT_REST: Sym = Sym::Kind(160);
 
-const ARRAY_REST: Sym = Sym::Kind(161);
+const UNRESOLVED: Sym = Sym::Kind(161);
 
-const BOUND: Sym = Sym::Kind(162);
+const UNRESOLVED_TYPE: Sym = Sym::Kind(162);
 
-const NEST_MORE_OR_END: Sym = Sym::Kind(163);
+const DESTRUCTOR_NAME: Sym = Sym::Kind(163);
+
+const REQUIREMENTS: Sym = Sym::Kind(164);
+
+const MAYBE_NOEXCEPT: Sym = Sym::Kind(165);
+
+const AFTER_NOEXCEPT: Sym = Sym::Kind(166);
+
+const REQUIRED_TYPES: Sym = Sym::Kind(167);
+
+const LEVEL: Sym = Sym::Kind(168);
+
+const MORE_LEVELS: Sym = Sym::Kind(169);
+
+const UNRESOLVED_NAME: Sym = Sym::Kind(170);
+
+const OPERATOR_NAME: Sym = Sym::Kind(171);
+
+const ANY_ARRAY: Sym = Sym::Kind(172);
+
+const ARRAY_REST: Sym = Sym::Kind(173);
+
+const BOUND: Sym = Sym::Kind(174);
+
+const NEST_MORE_OR_END: Sym = Sym::Kind(175);
 
 const NAME: Sym = Sym::Name;
 
@@ -346,75 +370,73 @@ const SEQ36: Sym = Sym::Number(NumberKind::Seq36);
 
 const DIGITS: Sym = Sym::Number(NumberKind::Digits);
 
-/// The letter of the production with number 0; the others have the bytes after it, in the order of their numbers. After the
-/// byte 255 they go on at 0.
-pub const FIRST_LETTER: u8 = b'!';
+// The letter of a production is the byte with its number. The production with the number of the blank has none here.
 
 // For each kind a row: for each byte from `$` to `z` the letter of the production that the kind takes there.
-static LETTERS: [[u8; 87]; 164] = [
+static LETTERS: [[u8; 87]; 176] = [
     // $%&'()*+,-./0123456789:;<=>?@ABCDEFGHIJKLMNOPQRSTUVWXYZ[\]^_`abcdefghijklmnopqrstuvwxyz
-    *b"                                                           *                           ", // Symbol
-    *b"          +                                                                            ", // MaybeSuffix
-    *b",         , ,,,,,,,,,,       ,,,,,,,,,,,,,,,,,,,,,,,,,,    , ,,,,,,,,,,,,,,,,,,,,,,,,,,", // SuffixFirst
-    *b",         , ,,,,,,,,,,       ,,,,,,,,,,,,,,,,,,,,,,,,,,    , ,,,,,,,,,,,,,,,,,,,,,,,,,,", // SuffixMore
-    *b"            //////////             .    / /    /-/    /      / /// / /  ///// //       ", // Encoding
-    *b"                                     0         00 0            3    1             2    ", // Special
-    *b"                                                                    7             8    ", // CallOffset
-    *b"            ::::::::::                                                    9            ", // Integer
-    *b"            $$$$$$$$$$                  \" )    ; #    <      % %%% % %  %%%%% %%       ", // CompleteName
+    *b"                                                           -                           ", // Symbol
+    *b"          .                                                                            ", // MaybeSuffix
+    *b"/         / //////////       //////////////////////////    / //////////////////////////", // SuffixFirst
+    *b"/         / //////////       //////////////////////////    / //////////////////////////", // SuffixMore
+    *b"            2222222222             1    2 2    202    2      2 222 2 2  22222 22       ", // Encoding
+    *b"                                     3         33 3            6    4             5    ", // Special
+    *b"                                                                    8             9    ", // CallOffset
+    *b"            ;;;;;;;;;;                                                    :            ", // Integer
+    *b"            $$$$$$$$$$                  \" ,    < #    =      % %%% % %  %%%%% %%       ", // CompleteName
     *b"                                                                              !        ", // MaybeRestrict
     *b"                                                  !                                    ", // MaybeVolatile
     *b"                                       !                                               ", // MaybeConst
     *b"                                           !  !                                        ", // MaybeRef
-    *b"            >>>>>>>>>>       >>>>>>>>>>>>>>>>>>>>>>>>>>    > >> >    >     >   >=      ", // NameAfterS
-    *b"            ((((((((((                  &        '           ? ??? ? ?  ????? ??       ", // Unqualified
-    *b"            DDDDDDDDDD                  B      @AC                                     ", // Nest
+    *b"            ??????????       ??????????????????????????    ? ?? ?    ?     ?   ?>      ", // NameAfterS
+    *b"            ))))))))))                  '        (           @ @@@ @ @  @@@@@ @@       ", // Unqualified
+    *b"            EEEEEEEEEE                  C      ABD                                     ", // Nest
     *b"            GGGGGGGGGG       GGGGGGGGGGGGGGGGGGGGGGGGGG    G GG G    G     G   GF      ", // NestAfterS
     *b"            IIIIIIIIII         II    H  I        I           I III I I  IIIII II       ", // NestRest
-    *b"            IIIIIIIIII         IIK      I        I           I III I I  IIIII II       ", // NestTail
-    *b"            $$$$$$$$$$         LM       \"        #           O NOO O O  OOOOO OO       ", // Component
-    *b"             SSS                                                                       ", // ConstructorAfterC
+    *b"            IIIIIIIIII         IIJ      I        I           I III I I  IIIII II       ", // NestTail
+    *b"            $$$$$$$$$$         KL       \"        #           N MNN N N  NNNNN NN       ", // Component
+    *b"             OOO                                                                       ", // ConstructorAfterC
     *b"             !!!                                                                       ", // ConstructorDigit
     *b"             !! !!                                                                     ", // InheritedDigit
-    *b"            !!!                                                                        ", // DestructorDigit
-    *b"            UUUUUUUUUU       UUUUUUUUUUUUUUUUUUUUUUUUUU    U TT T    T     T   T       ", // Abbreviation
-    *b"            $$$$$$$$$$                  \" )      #                             W       ", // Entity
-    *b"            $$$$$$$$$$                  \" V      #                                     ", // TypeEntity
-    *b"                                                           Z                           ", // MaybeDiscriminator
-    *b"            [[[[[[[[[[                                     \\                           ", // DiscriminatorRest
-    *b"                                                                        ]       ^      ", // Anonymous
-    *b"            cccccccccc       c cd c    a ccbc bccc`   c      cccccccccc cccc  _cccccccc", // Type
-    *b"            ffffffffff       f fe f      ffbf bfff    f      ffffffffff ffff   ffffffff", // Plain
-    *b"            cccccccccc       c cg c    a ccbc bccc`   c      cccccccccc cccc  _cccccccc", // Item
-    *b"            cccccccccc       c cg c    a cc c  ccc`   c      cccccccccc cccc  _cccccccc", // ItemButRef
-    *b"                                                             i i     i    iih  i ii    ", // ItemAfterD
-    *b"                                                             j j     j    jl   j jk    ", // AfterD
-    *b"            $$$$$$$$$$       y {  z      sV r  ut#    v      wwwwwwwwww wwww   wwxwwwww", // Solid
+    *b"            !!!                                                                        ", // ComponentAfterD
+    *b"            RRRRRRRRRR       RRRRRRRRRRRRRRRRRRRRRRRRRR    R QQ Q    Q     Q   Q       ", // Abbreviation
+    *b"            $$$$$$$$$$                  \" ,      #                             T       ", // Entity
+    *b"            $$$$$$$$$$                  \" S      #                                     ", // TypeEntity
+    *b"                                                           U                           ", // MaybeDiscriminator
+    *b"            VVVVVVVVVV                                     W                           ", // DiscriminatorRest
+    *b"                                                                        X       Y      ", // Anonymous
+    *b"            ^^^^^^^^^^       ^ ^_ ^    \\ ^^]^ ]^^^[   ^      ^^^^^^^^^^ ^^^^  Z^^^^^^^^", // Type
+    *b"            aaaaaaaaaa       a a` a      aa]a ]aaa    a      aaaaaaaaaa aaaa   aaaaaaaa", // Plain
+    *b"            ^^^^^^^^^^       ^ ^b ^    \\ ^^]^ ]^^^[   ^      ^^^^^^^^^^ ^^^^  Z^^^^^^^^", // Item
+    *b"            ^^^^^^^^^^       ^ ^b ^    \\ ^^ ^  ^^^[   ^      ^^^^^^^^^^ ^^^^  Z^^^^^^^^", // ItemButRef
+    *b"                                                             d d     d    ddc  d dd    ", // ItemAfterD
+    *b"                                                             e e     e    eg   e ef    ", // AfterD
+    *b"            $$$$$$$$$$       q s  r      kS j  ml#    n      oooooooooo oooo   oopooooo", // Solid
     *b"                                                     !                                 ", // MaybeCLinkage
-    *b"            ||||||||||                                                                 ", // BitWidth
-    *b"            ~~~~~~~~~~       ~~~~~~~~~~~~~~~~~~~~~~~~~~    ~ ~~ ~    ~     ~   ~}      ", // TypeAfterS
-    *b"            ((((((((((                  &        '                                     ", // SourceOrLocal
-    *b"            \x82\x82\x82\x82\x82\x82\x82\x82\x82\x82       \x82 \x82\x82\x7f\x82    \x82 \x82\x82\x81\x82 \x80\x82\x82\x82\x82   \x82      \x82\x82\x82\x82\x82\x82\x82\x82\x82\x82 \x82\x82\x82\x82  \x82\x82\x82\x82\x82\x82\x82\x82\x82", // FunctionRest
-    *b"            \x84\x84\x84\x84\x84\x84\x84\x84\x84\x84       \x84 \x84\x84\x83\x84    \x84 \x84\x84\x84\x84 \x84\x84\x84\x84\x84   \x84      \x84\x84\x84\x84\x84\x84\x84\x84\x84\x84 \x84\x84\x84\x84  \x84\x84\x84\x84\x84\x84\x84\x84\x84", // AfterR
-    *b"            \x85\x85\x85\x85\x85\x85\x85\x85\x85\x85       \x85 \x85\x85\x83\x85    \x85 \x85\x85\x85\x85 \x85\x85\x85\x85\x85   \x85      \x85\x85\x85\x85\x85\x85\x85\x85\x85\x85 \x85\x85\x85\x85  \x85\x85\x85\x85\x85\x85\x85\x85\x85", // AfterO
-    *b"            \x87\x87\x87\x87\x87\x87\x87\x87\x87\x87       \x87 \x87\x87 \x87    \x87 \x87\x87\x87\x87 \x87\x87\x87\x87\x87   \x87      \x87\x87\x87\x87\x87\x87\x87\x87\x87\x87 \x87\x87\x87\x87  \x87\x87\x87\x87\x87\x87\x87\x87\x87", // Items
-    *b"                                     \x88                                                 ", // MaybeArguments
-    *b"                                     \x88                                                 ", // Arguments
-    *b"            \x8c\x8c\x8c\x8c\x8c\x8c\x8c\x8c\x8c\x8c       \x8c \x8c\x8c \x8c   \x8a\x8c\x8b\x8c\x8c\x8c\x8c \x8c\x8c\x8c\x8c\x8c \x8c \x8c      \x8c\x8c\x8c\x8c\x8c\x8c\x8c\x8c\x8c\x8c \x8c\x8c\x8c\x8c  \x8c\x8c\x8c\x8c\x8c\x8c\x8c\x8c\x8c", // ArgumentList
-    *b"            \x8e\x8e\x8e\x8e\x8e\x8e\x8e\x8e\x8e\x8e       \x8e \x8e\x8e \x8e    \x8e\x8d\x8e\x8e\x8e\x8e \x8e\x8e\x8e\x8e\x8e \x8e \x8e      \x8e\x8e\x8e\x8e\x8e\x8e\x8e\x8e\x8e\x8e \x8e\x8e\x8e\x8e  \x8e\x8e\x8e\x8e\x8e\x8e\x8e\x8e\x8e", // PackList
-    *b"            \x92\x92\x92\x92\x92\x92\x92\x92\x92\x92          \x91        \x92\x92 \x92  \x92\x92\x92    \x92    \x8f \x92\x90\x92    \x92\x92\x92 \x92\x92\x92\x92   \x92\x92  \x92\x92\x92 ", // Literal
+    *b"            tttttttttt                                                                 ", // BitWidth
+    *b"            vvvvvvvvvv       vvvvvvvvvvvvvvvvvvvvvvvvvv    v vv v    v     v   vu      ", // TypeAfterS
+    *b"            ))))))))))                  '        (                                     ", // SourceOrLocal
+    *b"            zzzzzzzzzz       z zzwz    z zzyz xzzzz   z      zzzzzzzzzz zzzz  zzzzzzzzz", // FunctionRest
+    *b"            ||||||||||       | ||{|    | |||| |||||   |      |||||||||| ||||  |||||||||", // AfterR
+    *b"            }}}}}}}}}}       } }}{}    } }}}} }}}}}   }      }}}}}}}}}} }}}}  }}}}}}}}}", // AfterO
+    *b"            ~~~~~~~~~~       ~ ~~ ~    ~ ~~~~ ~~~~~   ~      ~~~~~~~~~~ ~~~~  ~~~~~~~~~", // Items
+    *b"                                     \x7f                                                 ", // MaybeArguments
+    *b"                                     \x7f                                                 ", // Arguments
+    *b"            \x82\x82\x82\x82\x82\x82\x82\x82\x82\x82       \x82 \x82\x82 \x82   \x80\x82\x81\x82\x82\x82\x82 \x82\x82\x82\x82\x82 \x82 \x82      \x82\x82\x82\x82\x82\x82\x82\x82\x82\x82 \x82\x82\x82\x82  \x82\x82\x82\x82\x82\x82\x82\x82\x82", // ArgumentList
+    *b"            \x84\x84\x84\x84\x84\x84\x84\x84\x84\x84       \x84 \x84\x84 \x84    \x84\x83\x84\x84\x84\x84 \x84\x84\x84\x84\x84 \x84 \x84      \x84\x84\x84\x84\x84\x84\x84\x84\x84\x84 \x84\x84\x84\x84  \x84\x84\x84\x84\x84\x84\x84\x84\x84", // PackList
+    *b"            \x88\x88\x88\x88\x88\x88\x88\x88\x88\x88          \x87        \x88\x88 \x88  \x88\x88\x88    \x88    \x85 \x88\x86\x88    \x88\x88\x88 \x88\x88\x88\x88   \x88\x88  \x88\x88\x88 ", // Literal
     *b"            !!                                                                         ", // Bit
-    *b"                                                                     \x95    \x94    \x95 \x95     ", // LiteralAfterD
-    *b"                                                                wwww                   ", // FloatType
-    *b"                                  m                                                    ", // SizedFloatType
-    *b"            \x97\x97\x97\x97\x97\x97\x97\x97\x97\x97                                       \x97\x97\x97\x97\x97\x97                    ", // HexText
-    *b"            \x98\x98\x98\x98\x98\x98\x98\x98\x98\x98                                       \x98\x98\x98\x98\x98\x98                    ", // HexDigits
-    *b"            \x98\x98\x98\x98\x98\x98\x98\x98\x98\x98                                       \x98\x98\x98\x98\x98\x98                    ", // HexMore
+    *b"                                                                     \x8a    \x89    \x8a \x8a     ", // LiteralAfterD
+    *b"                                                                oooo                   ", // FloatType
+    *b"                                  h                                                    ", // SizedFloatType
+    *b"            \x8b\x8b\x8b\x8b\x8b\x8b\x8b\x8b\x8b\x8b                                       \x8b\x8b\x8b\x8b\x8b\x8b                    ", // HexText
+    *b"            \x8c\x8c\x8c\x8c\x8c\x8c\x8c\x8c\x8c\x8c                                       \x8c\x8c\x8c\x8c\x8c\x8c                    ", // HexDigits
+    *b"            \x8c\x8c\x8c\x8c\x8c\x8c\x8c\x8c\x8c\x8c                                       \x8c\x8c\x8c\x8c\x8c\x8c                    ", // HexMore
     *b"            !                                                                          ", // MaybeZero
-    *b"            $$$$$$$$$$                   sV r  ut#    v      w w    www wwww   ww  www ", // LiteralType
-    *b"            \x9b\x9b\x9b\x9b\x9b\x9b\x9b\x9b\x9b\x9b                   \x9b\x9b \x9b  \x9b\x9b\x9b    \x9b      \x9b \x9b    \x9b\x9b\x9b \x9b\x9b\x9b\x9b   \x9b\x9b  \x9b\x9b\x9b ", // LiteralPlain
-    *b"            $$$$$$$$$$                   sV r  ut#    v      w w    www wwww   ww  www ", // LiteralSolid
-    *b"                                                             \x9e \xa0\x9d\xa4 \xa8 \xa7  \xa5\xa1\x9c\xa3\x9f \xa2\xa6       ", // Operator
+    *b"            $$$$$$$$$$                   kS j  ml#    n      o o    ooo oooo   oo  ooo ", // LiteralType
+    *b"            \x8d\x8d\x8d\x8d\x8d\x8d\x8d\x8d\x8d\x8d                   \x8d\x8d \x8d  \x8d\x8d\x8d    \x8d      \x8d \x8d    \x8d\x8d\x8d \x8d\x8d\x8d\x8d   \x8d\x8d  \x8d\x8d\x8d ", // LiteralPlain
+    *b"            $$$$$$$$$$                   kS j  ml#    n      o o    ooo oooo   oo  ooo ", // LiteralSolid
+    *b"                                                             \x90 \x92\x8f\x96 \x9a \x99  \x97\x93\x8e\x95\x91 \x94\x98       ", // Operator
     *b"                                                             !   ! !            !  !   ", // OperatorAfterN
     *b"                                                  !          !   !      !         !    ", // OperatorAfterD
     *b"                                          !    !             !  !         !        !   ", // OperatorAfterA
@@ -424,98 +446,110 @@ static LETTERS: [[u8; 87]; 164] = [
     *b"                                         !     !                         !     !       ", // OperatorAfterR
     *b"                                              !                            !  !        ", // OperatorAfterO
     *b"                                           !                               ! !         ", // OperatorAfterE
-    *b"                                               !                 !   \xa9         !!      ", // OperatorAfterL
+    *b"                                               !                 !   \x9b         !!      ", // OperatorAfterL
     *b"                                                                               !       ", // OperatorAfterS
     *b"                                                                                    !  ", // OperatorAfterI
     *b"                                                                 !              !      ", // OperatorAfterG
-    *b"            IIIIIIIIII         II    \xaa  I        I           I III I I  IIIII II       ", // NestRestOrEnd
-    *b"                                     \x88                                                 ", // ArgumentsAlone
+    *b"            IIIIIIIIII         II    \x9c  I        I           I III I I  IIIII II       ", // NestRestOrEnd
+    *b"                                     \x7f                                                 ", // ArgumentsAlone
     *b"            IIIIIIIIII         II    H  I        I           I III I I  IIIII II       ", // NestRestAlone
+    *b"            \x9d\x9d\x9d\x9d\x9d\x9d\x9d\x9d\x9d\x9d                                                                 ", // FirstModule
+    *b"            \x9e\x9e\x9e\x9e\x9e\x9e\x9e\x9e\x9e\x9e       \x9e\x9e\x9e\x9e\x9e\x9e\x9e\x9e\x9e\x9e\x9e\x9e\x9e\x9e\x9e\x9e\x9e\x9e\x9e\x9e\x9e\x9e\x9e\x9e\x9e\x9e    \x9e                           ", // NamedModule
+    *b"                                                   \x9f                                   ", // MoreModule
+    *b"                                            !                                          ", // MaybePartition
+    *b"            $$$$$$$$$$                  \"        #           % %%% % %  %%%%% %%       ", // NameAfterModule
+    *b"                                                   *                                   ", // NameInModule
+    *b"            IIIIIIIIII         II       I        I           I III I I  IIIII II       ", // NestOn
     *b"                                         !                                             ", // HolderMark
-    *b"            $$$$$$$$$$         LM       \"        #           O NOO O O  OOOOO OO       ", // HeldComponent
+    *b"            $$$$$$$$$$         KL       \"      + # *         N MNN N N  NNNNN NN       ", // HeldComponent
+    *b"                               P                                                       ", // BindingAfterD
+    *b"            \xa1\xa1\xa1\xa1\xa1\xa1\xa1\xa1\xa1\xa1                  \xa1                                              ", // BoundNames
+    *b"            \xa1\xa1\xa1\xa1\xa1\xa1\xa1\xa1\xa1\xa1                  \xa1                                              ", // MoreNames
+    *b"            \xa0\xa0\xa0\xa0\xa0\xa0\xa0\xa0\xa0\xa0                  p                                              ", // BoundName
     *b"                                                           !  !                     !  ", // FloatEnd
-    *b"                                                                        \xac\xac \xac           ", // ComponentAfterC
-    *b"                                                             \x9e  \x9d\xa4 \xa8 \xa7  \xa5\xa1\x9c\xa3\x9f \xa2\xa6       ", // OtherOperator
-    *b"                                     \xad                                                 ", // HeldArguments
-    *b"            \xaf\xaf\xaf\xaf\xaf\xaf\xaf\xaf\xaf\xaf                    \xae    \xaf      v                                ", // BaseClass
-    *b"            \xb1\xb1\xb1\xb1\xb1\xb1\xb1\xb1\xb1\xb1                         \xb0                                       ", // UnnestedName
-    *b"                                     \xb2                                                 ", // BaseArguments
-    *b"            \x8c\x8c\x8c\x8c\x8c\x8c\x8c\x8c\x8c\x8c       \x8c \x8c\x8c \x8c   \x8a\x8c\x8b\x8c\x8c\x8c\x8c \x8c\x8c\x8c\x8c\x8c \x8c \x8c      \x8c\x8c\x8c\x8c\x8c\x8c\x8c\x8c\x8c\x8c \x8c\x8c\x8c\x8c  \x8c\x8c\x8c\x8c\x8c\x8c\x8c\x8c\x8c", // ArgumentsFirst
-    *b"            $$$$$$$$$$                  \" )      #                                     ", // PlainEntity
-    *b"            $$$$$$$$$$                  \" V      #                                     ", // PlainTypeEntity
+    *b"                                                                        \xa2\xa2 \xa2           ", // ComponentAfterC
+    *b"                                                             \x90  \x8f\x96 \x9a \x99  \x97\x93\x8e\x95\x91 \x94\x98       ", // OtherOperator
+    *b"                                     \xa3                                                 ", // HeldArguments
+    *b"            \xa5\xa5\xa5\xa5\xa5\xa5\xa5\xa5\xa5\xa5                    \xa4    \xa5      n                                ", // BaseClass
+    *b"            \xa7\xa7\xa7\xa7\xa7\xa7\xa7\xa7\xa7\xa7                         \xa6                                       ", // UnnestedName
+    *b"                                     \xa8                                                 ", // BaseArguments
+    *b"            \x82\x82\x82\x82\x82\x82\x82\x82\x82\x82       \x82 \x82\x82 \x82   \x80\x82\x81\x82\x82\x82\x82 \x82\x82\x82\x82\x82 \x82 \x82      \x82\x82\x82\x82\x82\x82\x82\x82\x82\x82 \x82\x82\x82\x82  \x82\x82\x82\x82\x82\x82\x82\x82\x82", // ArgumentsFirst
+    *b"            $$$$$$$$$$                  \" ,      #                                     ", // PlainEntity
+    *b"            $$$$$$$$$$                  \" S      #                                     ", // PlainTypeEntity
     *b"                                   !                                                   ", // SpecialMark
-    *b"                                                  4                                    ", // SpecialAfterG
-    *b"            $$$$$$$$$$                  \" )    ; #    \xb5                                ", // TemporaryName
+    *b"                                                  7                                    ", // SpecialAfterG
+    *b"            $$$$$$$$$$          &       \" ,    < #    \xa9                                ", // TemporaryName
     *b"                                                                          !     !      ", // CloneLetter
-    *b"                                                                                \xb6      ", // TypeInStd
+    *b"                                                                                \xaa      ", // TypeInStd
     *b"                                                                                       ", // MaybeTags
-    *b"            \xba\xba\xba\xba\xba\xba\xba\xba\xba\xba       \xba \xbag \xba    a \xba\xbab\xba b\xba\xb9\xba` \xb8 \xba      \xba\xba\xba\xba\xba\xba\xba\xba\xba\xba \xba\xba\xba\xba  _\xba\xba\xba\xba\xba\xba\xba\xba", // Argument
-    *b"            \xbb\xbb\xbb\xbb\xbb\xbb\xbb\xbb\xbb\xbb                                     \xbb                           ", // ArgumentAfterT
-    *b"            \xbb\xbb\xbb\xbb\xbb\xbb\xbb\xbb\xbb\xbb                                     \xbb                           ", // LeveledParameter
-    *b"            \xba\xba\xba\xba\xba\xba\xba\xba\xba\xba       \xba \xbag \xba   \xbfa\xbe\xba\xbab\xba b\xba\xb9\xba` \xb8 \xba      \xba\xba\xba\xba\xba\xba\xba\xba\xba\xba \xba\xba\xba\xba  _\xba\xba\xba\xba\xba\xba\xba\xba", // OneArgument
-    *b"                                                                       \xc2  \xc1 \xc4   \xc3    \xc0 ", // DeclarationAfterT
-    *b"                                                \xc5                                      ", // Declarations
-    *b"            \xc6\xc6\xc6\xc6\xc6\xc6\xc6\xc6\xc6\xc6                    V    \xc6                                       ", // Concept
-    *b"            $$$$$$$$$$       y {  z      sV r  u #    v      wwwwwwwwww wwww   wwxwwwww", // SolidButT
-    *b"                                                             \xe3                         ", // Expression
-    *b"            \xf4\xf4\xf4\xf4\xf4\xf4\xf4\xf4\xf4\xf4                  \xf5                  \xf4                           ", // ExpressionParameter
-    *b"            \xf4\xf4\xf4\xf4\xf4\xf4\xf4\xf4\xf4\xf4                                     \xf4                           ", // UnleveledExpression
-    *b"                                        \xf6                                              ", // AddressedExpression
-    *b"                                                           \x8f                           ", // AddressedLiteral
-    *b"                                                                \xcb                      ", // ExpressionAfterA
-    *b"                                                               \xc7        \xcf\xcc \xcd\xcf     \xd0    ", // ExpressionAfterC
-    *b"                                                  \xcc          \xcd \xc7 \xcd   \xd1  \xcd \xd3    \xcc\xcc \xcc \xd2  ", // ExpressionAfterD
-    *b"                                           \xcc                               \xcc \xcc         ", // ExpressionAfterE
-    *b"                                        \xd4                               \xd5   \xca \xd6        ", // ExpressionAfterF
-    *b"                                                                 \xcc             \xcd\xcc      ", // ExpressionAfterG
-    *b"                                                                        \xd7           \xcc  ", // ExpressionAfterI
-    *b"                                               \xcc                 \xcc             \xcc\xcc      ", // ExpressionAfterL
-    *b"                                     \xcc  \xcc                            \xcc  \xcc\xd8             ", // ExpressionAfterM
-    *b"                                                             \xd9   \xcc \xcd            \xcd  \xd9\xcd  ", // ExpressionAfterN
-    *b"                                              \xcc                           \xc8\xcc  \xcc        ", // ExpressionAfterO
-    *b"                                        \xcc                               \xcc\xcc  \xd8  \xcd\xcc      ", // ExpressionAfterP
-    *b"                                                                                 \xda     ", // ExpressionAfterQ
-    *b"                                         \xcc   \xdc \xcc               \xc7         \xcc   \xdb \xcc       ", // ExpressionAfterR
-    *b"                                                      \xde        \xc7            \xdd \xdf\xcc\xce    \xe0\xcd", // ExpressionAfterS
-    *b"                                                                 \xcd   \xce  \xe1     \xe2    \xcd   ", // ExpressionAfterT
-    *b"                                                             \xf7                         ", // Expressions
+    *b"            \xad\xad\xad\xad\xad\xad\xad\xad\xad\xad       \xad \xadb \xad    \\ \xad\xad]\xad ]\xad\xac\xad[ \xab \xad      \xad\xad\xad\xad\xad\xad\xad\xad\xad\xad \xad\xad\xad\xad  Z\xad\xad\xad\xad\xad\xad\xad\xad", // Argument
+    *b"            \xae\xae\xae\xae\xae\xae\xae\xae\xae\xae                                     \xae                           ", // ArgumentAfterT
+    *b"            \xae\xae\xae\xae\xae\xae\xae\xae\xae\xae                                     \xae                           ", // LeveledParameter
+    *b"            \xad\xad\xad\xad\xad\xad\xad\xad\xad\xad       \xad \xadb \xad   \xb1\\\xb0\xad\xad]\xad ]\xad\xac\xad[ \xab \xad      \xad\xad\xad\xad\xad\xad\xad\xad\xad\xad \xad\xad\xad\xad  Z\xad\xad\xad\xad\xad\xad\xad\xad", // OneArgument
+    *b"                                                                       \xb3  \xb2 \xb5   \xb4    ! ", // DeclarationAfterT
+    *b"                                                \xb6                                      ", // Declarations
+    *b"            \xb7\xb7\xb7\xb7\xb7\xb7\xb7\xb7\xb7\xb7                    S    \xb7                                       ", // Concept
+    *b"            $$$$$$$$$$       q s  r      kS j  m #    n      oooooooooo oooo   oopooooo", // SolidButT
+    *b"                                                             \xd4                         ", // Expression
+    *b"            \xe5\xe5\xe5\xe5\xe5\xe5\xe5\xe5\xe5\xe5                  \x00                  \xe5                           ", // ExpressionParameter
+    *b"            \xe5\xe5\xe5\xe5\xe5\xe5\xe5\xe5\xe5\xe5                                     \xe5                           ", // UnleveledExpression
+    *b"                                        \x01                                              ", // AddressedExpression
+    *b"                                                           \x85                           ", // AddressedLiteral
+    *b"                                                                \xbc                      ", // ExpressionAfterA
+    *b"                                                               \xb8        \xc0\xbd \xbe\xc0     \xc1    ", // ExpressionAfterC
+    *b"                                                  \xbd          \xbe \xb8 \xbe   \xc2  \xbe \xc4    \xbd\xbd \xbd \xc3  ", // ExpressionAfterD
+    *b"                                           \xbd                               \xbd \xbd         ", // ExpressionAfterE
+    *b"                                        \xc5                               \xc6   \xbb \xc7        ", // ExpressionAfterF
+    *b"                                                                 \xbd             \xbe\xbd      ", // ExpressionAfterG
+    *b"                                                                        \xc8           \xbd  ", // ExpressionAfterI
+    *b"                                               \xbd                 \xbd             \xbd\xbd      ", // ExpressionAfterL
+    *b"                                     \xbd  \xbd                            \xbd  \xbd\xc9             ", // ExpressionAfterM
+    *b"                                                             \xca   \xbd \xbe            \xbe  \xca\xbe  ", // ExpressionAfterN
+    *b"                                              \xbd                           \xb9\xbd  \xbd        ", // ExpressionAfterO
+    *b"                                        \xbd                               \xbd\xbd  \xc9  \xbe\xbd      ", // ExpressionAfterP
+    *b"                                                                                 \xcb     ", // ExpressionAfterQ
+    *b"                                         \xbd   \xcd \xbd               \xb8         \xbd   \xcc \xbd       ", // ExpressionAfterR
+    *b"                                                      \xcf        \xb8            \xce \xd0\xbd\xbf    \xd1\xbe", // ExpressionAfterS
+    *b"                                                                 \xbe   \xbf  \xd2     \xd3    \xbe   ", // ExpressionAfterT
+    *b"                                                             \x02                         ", // Expressions
     *b"                                                           !                           ", // MaybeBefore
-    *b"                                                             \x9e \xa0\x9d\xa4 \xa8 \xa7  \xf8\xa1\x9c\xa3\x9f \xa2\xa6       ", // FoldOperator
+    *b"                                                             \x90 \x92\x8f\x96 \x9a \x99  \x03\x93\x8e\x95\x91 \x94\x98       ", // FoldOperator
     *b"                                               !                 !             !!      ", // FoldOperatorAfterL
-    *b"                                                             \xf9                         ", // FoldOperand
-    *b"                                                             \xfa                         ", // FoldPack
-    *b"                                      \xbf                      \xfa                         ", // ValuePack
-    *b"            \xfb\xfb\xfb\xfb\xfb\xfb\xfb\xfb\xfb\xfb       \xfb \xfb\xfb \xfb   \xbf\xfb \xfb\xfb\xfb\xfb \xfb\xfb\xfb\xfb\xfb   \xfb      \xfb\xfb\xfb\xfb\xfb\xfb\xfb\xfb\xfb\xfb \xfb\xfb\xfb\xfb  \xfb\xfb\xfb\xfb\xfb\xfb\xfb\xfb\xfb", // TypePack
-    *b"            \xfd\xfd\xfd\xfd\xfd\xfd\xfd\xfd\xfd\xfd                  \xfd       \xfd            \xfd \xfd\xfc\xfd\xfd\xfd \xfd  \xfd\xfd\xfd\xfd\xfd\xfd\xfd\xfd\xfd      ", // DesignatedValue
-    *b"                                                                     \xd1              \xd2  ", // DesignatorAfterD
-    *b"            \xc9\xc9\xc9\xc9\xc9\xc9\xc9\xc9\xc9\xc9                  \xbe       \xf3            \xe3 \xe4 \xe6\xe7\xe8 \xe9  \xea\xeb\xec\xed\xee\xef\xf0\xf1\xf2      ", // PlainValue
-    *b"            \xfe\xfe\xfe\xfe\xfe\xfe\xfe\xfe\xfe\xfe                                                                 ", // FieldName
-    *b"                                                           ! \xff                         ", // Placement
-    *b"                                                             \xf7                         ", // SomeExpressions
-    *b"                                 \x83                                   \x01      \x00          ", // Initializer
-    *b"                                                                     \xd7                 ", // InitializerAfterP
-    *b"                                                                        \xd7              ", // InitializerAfterI
-    *b"                                                                            \xca          ", // OuterRest
-    *b"            \x03\x03\x03\x03\x03\x03\x03\x03\x03\x03                          \x02          \x03                           ", // ParameterNumber
-    *b"            \x08\x08\x08\x08\x08\x08\x08\x08\x08\x08          \x04 \x08    \x05  \x08\x07\x06 \x07\x08\x08\x08           \x08\x08\x08\x08\x08\x08\x08\x08\x08\x08 \x08\x08\x08\x08   \x08\x08 \x08\x08\x08\x08\x08", // ConvertedType
-    *b"            $$$$$$$$$$            z       V    u\x09#           wwwwwwwwww wwww   ww wwwww", // ConvertedSolid
-    *b"            \xbb\xbb\xbb\xbb\xbb\xbb\xbb\xbb\xbb\xbb                  \xbd                  \xbb                           ", // ParameterAfterT
-    *b"                                                p                               p      ", // DecltypeAfterD
-    *b"            \xc9\xc9\xc9\xc9\xc9\xc9\xc9\xc9\xc9\xc9                  \xbe       \xf3          \xd7 \xe3 \xe4\xe5\xe6\xe7\xe8 \xe9  \xea\xeb\xec\xed\xee\xef\xf0\xf1\xf2      ", // ConvertRest
-    *b"            \x0b\x0b\x0b\x0b\x0b\x0b\x0b\x0b\x0b\x0b          \x0a         \x0a    \x0a\x0a                                      ", // Unresolved
-    *b"                                \x04         V    u\x09                                      ", // UnresolvedType
-    *b"            \xc9\xc9\xc9\xc9\xc9\xc9\xc9\xc9\xc9\xc9          \x0c         \x0c    \x0c\x0c                                      ", // DestructorName
-    *b"                                             \x0f  \x0e   \x0d                                  ", // Requirements
-    *b"                                          \x11  \x0f\x10 \x0e   \x0d                                  ", // AfterExpression
-    *b"                                             \x0f\x10 \x0e   \x0d                                  ", // AfterNoexcept
-    *b"            \x12\x12\x12\x12\x12\x12\x12\x12\x12\x12          \x12 \x12    \x12  \x12\x12\x12 \x12\x12\x12\x12         \xdb \x12\x12\x12\x12\x12\x12\x12\x12\x12\x12 \x12\x12\x12\x12   \x12\x12 \x12\x12\x12\x12\x12", // RequiredTypes
-    *b"            \xc9\xc9\xc9\xc9\xc9\xc9\xc9\xc9\xc9\xc9                                                                 ", // Level
-    *b"            \x0b\x0b\x0b\x0b\x0b\x0b\x0b\x0b\x0b\x0b           \x13                                                     ", // MoreLevels
-    *b"            \xc9\xc9\xc9\xc9\xc9\xc9\xc9\xc9\xc9\xc9                                                     \x14           ", // UnresolvedName
-    *b"                                                                          \xc8            ", // OperatorName
-    *b"                             \x15                                                         ", // AnyArray
-    *b"            \x17\x17\x17\x17\x17\x17\x17\x17\x17\x17                                     \x17                           ", // ArrayRest
-    *b"                                        \xbe       \xf3            \xe3 \xe4\xe5\xe6\xe7\xe8 \xe9  \xea\xeb\xec\xed\xee\xef\xf0\xf1\xf2      ", // Bound
+    *b"                                                             \x04                         ", // FoldOperand
+    *b"                                                             \x05                         ", // FoldPack
+    *b"                                      \xb1                      \x05                         ", // ValuePack
+    *b"            \x06\x06\x06\x06\x06\x06\x06\x06\x06\x06       \x06 \x06\x06 \x06   \xb1\x06 \x06\x06\x06\x06 \x06\x06\x06\x06\x06   \x06      \x06\x06\x06\x06\x06\x06\x06\x06\x06\x06 \x06\x06\x06\x06  \x06\x06\x06\x06\x06\x06\x06\x06\x06", // TypePack
+    *b"            \x08\x08\x08\x08\x08\x08\x08\x08\x08\x08                  \x08       \x08            \x08 \x08\x07\x08\x08\x08 \x08  \x08\x08\x08\x08\x08\x08\x08\x08\x08      ", // DesignatedValue
+    *b"                                                                     \xc2              \xc3  ", // DesignatorAfterD
+    *b"            \xba\xba\xba\xba\xba\xba\xba\xba\xba\xba                  \xb0       \xe4            \xd4 \xd5 \xd7\xd8\xd9 \xda  \xdb\xdc\xdd\xde\xdf\xe0\xe1\xe2\xe3      ", // PlainValue
+    *b"            \xa0\xa0\xa0\xa0\xa0\xa0\xa0\xa0\xa0\xa0                                                                 ", // FieldName
+    *b"                                                           ! \x09                         ", // Placement
+    *b"                                                             \x02                         ", // SomeExpressions
+    *b"                                 {                                   \x0b      \x0a          ", // Initializer
+    *b"                                                                     \xc8                 ", // InitializerAfterP
+    *b"                                                                        \xc8              ", // InitializerAfterI
+    *b"                                                                            \xbb          ", // OuterRest
+    *b"            \x0d\x0d\x0d\x0d\x0d\x0d\x0d\x0d\x0d\x0d                          \x0c          \x0d                           ", // ParameterNumber
+    *b"            \x12\x12\x12\x12\x12\x12\x12\x12\x12\x12          \x0e \x12    \x0f  \x12\x11\x10 \x11\x12\x12\x12           \x12\x12\x12\x12\x12\x12\x12\x12\x12\x12 \x12\x12\x12\x12   \x12\x12 \x12\x12\x12\x12\x12", // ConvertedType
+    *b"            $$$$$$$$$$            r       S    m\x13#           oooooooooo oooo   oo ooooo", // ConvertedSolid
+    *b"            \xae\xae\xae\xae\xae\xae\xae\xae\xae\xae                  \xaf                  \xae                           ", // ParameterAfterT
+    *b"                                                i                               i      ", // DecltypeAfterD
+    *b"                                                i            e e                i      ", // ConvertedAfterD
+    *b"            \xba\xba\xba\xba\xba\xba\xba\xba\xba\xba                  \xb0       \xe4          \xc8 \xd4 \xd5\xd6\xd7\xd8\xd9 \xda  \xdb\xdc\xdd\xde\xdf\xe0\xe1\xe2\xe3      ", // ConvertRest
+    *b"            \x15\x15\x15\x15\x15\x15\x15\x15\x15\x15          \x14         \x14    \x14\x14                                      ", // Unresolved
+    *b"                                \x0e         S    m\x13                                      ", // UnresolvedType
+    *b"            \xba\xba\xba\xba\xba\xba\xba\xba\xba\xba          \x16         \x16    \x16\x16                                      ", // DestructorName
+    *b"                                             \x19  \x18   \x17                                  ", // Requirements
+    *b"                                          !                                            ", // MaybeNoexcept
+    *b"                                             \x19\x1a \x18   \x17                                  ", // AfterNoexcept
+    *b"            \x1b\x1b\x1b\x1b\x1b\x1b\x1b\x1b\x1b\x1b          \x1b \x1b    \x1b  \x1b\x1b\x1b \x1b\x1b\x1b\x1b         \xcc \x1b\x1b\x1b\x1b\x1b\x1b\x1b\x1b\x1b\x1b \x1b\x1b\x1b\x1b   \x1b\x1b \x1b\x1b\x1b\x1b\x1b", // RequiredTypes
+    *b"            \xba\xba\xba\xba\xba\xba\xba\xba\xba\xba                                                                 ", // Level
+    *b"            \x15\x15\x15\x15\x15\x15\x15\x15\x15\x15           \x1c                                                     ", // MoreLevels
+    *b"            \xba\xba\xba\xba\xba\xba\xba\xba\xba\xba                                                     \x1d           ", // UnresolvedName
+    *b"                                                                          \xb9            ", // OperatorName
+    *b"                             \x1e                                                         ", // AnyArray
+    *b"            \x1f\x1f\x1f\x1f\x1f\x1f\x1f\x1f\x1f\x1f                                     \x1f                           ", // ArrayRest
+    *b"                                        \xb0       \xe4            \xd4 \xd5\xd6\xd7\xd8\xd9 \xda  \xdb\xdc\xdd\xde\xdf\xe0\xe1\xe2\xe3      ", // Bound
     *b"            IIIIIIIIII         II       I        I           I III I I  IIIII II       ", // NestMoreOrEnd
 ];
 
@@ -546,567 +580,588 @@ macro_rules! chains {
 }
 
 // The rules of the productions, in the order of their numbers.
-pub static HEADS: [Head; 247] = [
-    takes!(0), // ! Mark
-    takes!(2), // \" InternalName
-    takes!(2), // # LocalTypeName
-    chains!(2), // $ SourceName
-    chains!(2), // % OperatorName
-    takes!(1), // & InternalPiece
-    takes!(1), // ' LocalTypePiece
-    chains!(1), // ( SourcePiece
-    takes!(5), // ) NestedName
-    takes!(3), // * Symbol
-    takes!(1), // + Suffix
-    takes!(1), // , SuffixByte
-    takes!(1), // - Special
-    chains!(2), // . OtherSpecial
-    chains!(2), // / Encoding
-    takes!(1), // 0 SpecialType
-    takes!(3), // 1 NonVirtualThunk
-    takes!(5), // 2 VirtualThunk
-    takes!(3), // 3 CovariantThunk
-    takes!(1), // 4 SpecialName
-    takes!(1), // 5 ParameterObject
-    takes!(4), // 6 ConstructionVtable
-    takes!(2), // 7 NonVirtualOffset
-    takes!(4), // 8 VirtualOffset
-    takes!(1), // 9 Negative
-    chains!(1), // : Positive
-    takes!(1), // ; NameWithS
-    takes!(4), // < LocalName
-    takes!(2), // = StdName
-    chains!(2), // > AbbreviatedName
-    chains!(1), // ? OperatorPiece
-    takes!(1), // @ NestWithS
-    takes!(2), // A NestParameter
-    takes!(2), // B NestInternal
-    takes!(2), // C NestLocalType
-    chains!(2), // D NestSource
-    takes!(2), // E NestDecltype
-    takes!(3), // F NestStd
-    chains!(2), // G NestTemplate
-    takes!(4), // H NestArguments
-    chains!(2), // I NestNext
-    takes!(2), // J NestTag
-    takes!(0), // K NestEnd
-    takes!(1), // L AnyConstructor
-    takes!(2), // M Destructor
-    takes!(1), // N ComponentWithC
-    chains!(2), // O OtherOperatorName
-    chains!(2), // P Holder
-    takes!(2), // Q Friend
-    takes!(2), // R Inheriting
-    chains!(2), // S Constructor
-    takes!(0), // T Abbreviation
-    chains!(1), // U Substitution
-    takes!(1), // V NestedType
-    takes!(0), // W StringLiteral
-    takes!(2), // X DefaultEntity
-    takes!(2), // Y DefaultTypeEntity
-    takes!(1), // Z Discriminator
-    takes!(0), // [ OneDigit
-    takes!(2), // \\ ManyDigits
-    takes!(4), // ] Lambda
-    takes!(1), // ^ Unnamed
-    takes!(3), // _ RestrictType
-    takes!(2), // ` VolatileType
-    takes!(1), // a ConstType
-    takes!(1), // b ReferenceType
-    chains!(1), // c PlainType
-    takes!(1), // d TypeWithD
-    takes!(1), // e PlainWithD
-    chains!(1), // f QualifiedPlain
-    takes!(1), // g ItemWithD
-    takes!(1), // h Expansion
-    chains!(1), // i ItemIsType
-    takes!(0), // j BuiltinWithD
-    takes!(3), // k Vector
-    takes!(4), // l NoexceptFunction
-    takes!(2), // m SizedFloat
-    takes!(1), // n ConstrainedAuto
-    takes!(2), // o BitInt
-    takes!(2), // p Decltype
-    takes!(2), // q IndexedType
-    takes!(1), // r Pointer
-    takes!(2), // s MemberPointer
-    takes!(2), // t Parameter
-    takes!(2), // u TypeWithS
-    takes!(4), // v LocalType
-    takes!(0), // w Builtin
-    takes!(1), // x Vendor
-    chains!(1), // y ArrayType
-    takes!(3), // z Function
-    takes!(1), // { Complex
-    chains!(1), // | BitWidth
-    chains!(1), // } TypeInStd
-    chains!(1), // ~ AbbreviatedType
-    takes!(0), // \x7f RestEnd
-    takes!(1), // \x80 RestLvalue
-    takes!(1), // \x81 RestRvalue
-    chains!(2), // \x82 RestItem
-    takes!(0), // \x83 RefEnd
-    chains!(2), // \x84 LvalueItem
-    chains!(2), // \x85 RvalueItem
-    takes!(1), // \x86 Constraint
-    chains!(2), // \x87 Items
-    takes!(2), // \x88 Arguments
-    takes!(2), // \x89 Tag
-    takes!(3), // \x8a PackArgument
-    takes!(3), // \x8b LiteralArgument
-    chains!(2), // \x8c AnyArgument
-    takes!(3), // \x8d LiteralElement
-    chains!(2), // \x8e AnyElement
-    takes!(2), // \x8f EncodingLiteral
-    takes!(1), // \x90 BoolLiteral
-    takes!(1), // \x91 LiteralWithD
-    chains!(2), // \x92 IntegerLiteral
-    chains!(2), // \x93 FloatLiteral
-    takes!(1), // \x94 NullLiteral
-    takes!(1), // \x95 CharLiteral
-    chains!(2), // \x96 SizedFloatLiteral
-    chains!(1), // \x97 HexText
-    takes!(1), // \x98 HexDigit
-    takes!(2), // \x99 VolatileLiteral
-    takes!(1), // \x9a ConstLiteral
-    chains!(1), // \x9b QualifiedLiteral
-    takes!(1), // \x9c OperatorN
-    takes!(1), // \x9d OperatorD
-    takes!(1), // \x9e OperatorA
-    takes!(1), // \x9f OperatorP
-    takes!(1), // \xa0 OperatorC
-    takes!(1), // \xa1 OperatorM
-    takes!(1), // \xa2 OperatorR
-    takes!(1), // \xa3 OperatorO
-    takes!(1), // \xa4 OperatorE
-    takes!(1), // \xa5 OperatorL
-    takes!(1), // \xa6 OperatorS
-    takes!(1), // \xa7 OperatorI
-    takes!(1), // \xa8 OperatorG
-    takes!(1), // \xa9 LiteralOperator
-    takes!(3), // \xaa NestInstance
-    takes!(1), // \xab Conversion
-    chains!(2), // \xac OperatorNameWithC
-    takes!(2), // \xad HeldArguments
-    takes!(2), // \xae NestedBase
-    chains!(2), // \xaf UnnestedBase
-    takes!(1), // \xb0 UnnestedWithS
-    chains!(2), // \xb1 TaggedSource
-    takes!(3), // \xb2 BaseArguments
-    takes!(2), // \xb3 Temporary
-    takes!(2), // \xb4 Clone
-    takes!(3), // \xb5 LocalTemporary
-    takes!(2), // \xb6 TaggedStdType
-    takes!(2), // \xb7 TypeTag
-    takes!(2), // \xb8 Expression
-    takes!(1), // \xb9 ArgumentWithT
-    chains!(1), // \xba PlainArgument
-    chains!(2), // \xbb ParameterArgument
-    chains!(2), // \xbc DeclaredArgument
-    takes!(2), // \xbd LeveledParameter
-    takes!(2), // \xbe OneLiteral
-    takes!(2), // \xbf OnePack
-    takes!(0), // \xc0 AnyType
-    takes!(1), // \xc1 ValueOf
-    takes!(1), // \xc2 OfConcept
-    takes!(2), // \xc3 TemplateOf
-    takes!(2), // \xc4 PackOf
-    takes!(2), // \xc5 Declarations
-    chains!(2), // \xc6 NamedConcept
-    takes!(2), // \xc7 Cast
-    takes!(2), // \xc8 OperatorReference
-    chains!(2), // \xc9 SimpleId
-    takes!(4), // \xca FunctionParameter
-    takes!(1), // \xcb AddressExpression
-    takes!(2), // \xcc Binary
-    takes!(1), // \xcd Unary
-    takes!(1), // \xce OfType
-    takes!(3), // \xcf Call
-    takes!(2), // \xd0 Convert
-    takes!(2), // \xd1 Designated
-    takes!(2), // \xd2 DesignatedElement
-    takes!(1), // \xd3 DestructorName
-    takes!(2), // \xd4 OuterParameter
-    takes!(2), // \xd5 LeftFold
-    takes!(2), // \xd6 RightFold
-    takes!(2), // \xd7 Braces
-    takes!(2), // \xd8 Step
-    takes!(3), // \xd9 New
-    takes!(3), // \xda Conditional
-    takes!(2), // \xdb Requires
-    takes!(1), // \xdc RequiresOf
-    takes!(1), // \xdd ExpandExpression
-    takes!(1), // \xde PackSize
-    takes!(1), // \xdf Unresolved
-    takes!(2), // \xe0 PackIndex
-    takes!(3), // \xe1 TypedBraces
-    takes!(0), // \xe2 Rethrow
-    takes!(1), // \xe3 ExpressionA
-    takes!(1), // \xe4 ExpressionC
-    takes!(1), // \xe5 ExpressionD
-    takes!(1), // \xe6 ExpressionE
-    takes!(1), // \xe7 ExpressionF
-    takes!(1), // \xe8 ExpressionG
-    takes!(1), // \xe9 ExpressionI
-    takes!(1), // \xea ExpressionL
-    takes!(1), // \xeb ExpressionM
-    takes!(1), // \xec ExpressionN
-    takes!(1), // \xed ExpressionO
-    takes!(1), // \xee ExpressionP
-    takes!(1), // \xef ExpressionQ
-    takes!(1), // \xf0 ExpressionR
-    takes!(1), // \xf1 ExpressionS
-    takes!(1), // \xf2 ExpressionT
-    takes!(1), // \xf3 ExpressionWithT
-    chains!(2), // \xf4 ParameterExpression
-    takes!(2), // \xf5 LeveledExpression
-    takes!(2), // \xf6 AddressedLiteral
-    chains!(2), // \xf7 Expressions
-    takes!(1), // \xf8 FoldOperatorL
-    chains!(1), // \xf9 FoldOperand
-    chains!(1), // \xfa FoldPack
-    chains!(1), // \xfb TypePack
-    takes!(1), // \xfc Designators
-    chains!(1), // \xfd DesignatedValue
-    chains!(1), // \xfe FieldName
-    chains!(2), // \xff Placed
-    takes!(1), // \x00 Initializer
-    takes!(1), // \x01 BracedInitializer
-    takes!(0), // \x02 This
-    chains!(1), // \x03 ParameterNumber
-    takes!(1), // \x04 ConvertedDecltype
-    takes!(1), // \x05 ConvertedConst
-    takes!(1), // \x06 ConvertedPointer
-    takes!(1), // \x07 ConvertedReference
-    chains!(1), // \x08 ConvertedType
-    takes!(1), // \x09 ConvertedWithT
-    chains!(2), // \x0a UnresolvedInType
-    chains!(2), // \x0b Levels
-    chains!(1), // \x0c DestroyedType
-    takes!(2), // \x0d ExpressionRequirement
-    takes!(2), // \x0e TypeRequirement
-    takes!(2), // \x0f NestedRequirement
-    takes!(2), // \x10 ResultRequirement
-    takes!(1), // \x11 NoexceptRequirement
-    chains!(2), // \x12 RequiredType
-    takes!(1), // \x13 LevelsEnd
-    takes!(1), // \x14 UnresolvedOperator
-    takes!(1), // \x15 AnyArray
-    chains!(3), // \x16 BoundedArray
-    chains!(2), // \x17 LengthArray
+pub static HEADS: [Head; 256] = [
+    takes!(2), // 0 LeveledExpression
+    takes!(2), // 1 AddressedLiteral
+    chains!(2), // 2 Expressions
+    takes!(1), // 3 FoldOperatorL
+    chains!(1), // 4 FoldOperand
+    chains!(1), // 5 FoldPack
+    chains!(1), // 6 TypePack
+    takes!(1), // 7 Designators
+    chains!(1), // 8 DesignatedValue
+    chains!(2), // 9 Placed
+    takes!(1), // 10 Initializer
+    takes!(1), // 11 BracedInitializer
+    takes!(0), // 12 This
+    chains!(1), // 13 ParameterNumber
+    takes!(1), // 14 ConvertedDecltype
+    takes!(1), // 15 ConvertedConst
+    takes!(1), // 16 ConvertedPointer
+    takes!(1), // 17 ConvertedReference
+    chains!(1), // 18 ConvertedType
+    takes!(1), // 19 ConvertedWithT
+    chains!(2), // 20 UnresolvedInType
+    chains!(2), // 21 Levels
+    chains!(1), // 22 DestroyedType
+    takes!(3), // 23 ExpressionRequirement
+    takes!(2), // 24 TypeRequirement
+    takes!(2), // 25 NestedRequirement
+    takes!(2), // 26 ResultRequirement
+    chains!(2), // 27 RequiredType
+    takes!(1), // 28 LevelsEnd
+    takes!(1), // 29 UnresolvedOperator
+    takes!(1), // 30 AnyArray
+    chains!(2), // 31 LengthArray
+    takes!(1), // 32 ParameterObject
+    takes!(0), // 33 Mark
+    takes!(2), // 34 InternalName
+    takes!(2), // 35 LocalTypeName
+    chains!(2), // 36 SourceName
+    chains!(2), // 37 OperatorName
+    takes!(2), // 38 BindingName
+    takes!(1), // 39 InternalPiece
+    takes!(1), // 40 LocalTypePiece
+    chains!(1), // 41 SourcePiece
+    takes!(2), // 42 InModule
+    takes!(2), // 43 InNamedModule
+    takes!(5), // 44 NestedName
+    takes!(3), // 45 Symbol
+    takes!(1), // 46 Suffix
+    takes!(1), // 47 SuffixByte
+    takes!(1), // 48 Special
+    chains!(2), // 49 OtherSpecial
+    chains!(2), // 50 Encoding
+    takes!(1), // 51 SpecialType
+    takes!(3), // 52 NonVirtualThunk
+    takes!(5), // 53 VirtualThunk
+    takes!(3), // 54 CovariantThunk
+    takes!(1), // 55 SpecialName
+    takes!(2), // 56 NonVirtualOffset
+    takes!(4), // 57 VirtualOffset
+    takes!(1), // 58 Negative
+    chains!(1), // 59 Positive
+    takes!(1), // 60 NameWithS
+    takes!(4), // 61 LocalName
+    takes!(2), // 62 StdName
+    chains!(2), // 63 AbbreviatedName
+    chains!(1), // 64 OperatorPiece
+    takes!(1), // 65 NestWithS
+    takes!(2), // 66 NestParameter
+    takes!(2), // 67 NestInternal
+    takes!(2), // 68 NestLocalType
+    chains!(2), // 69 NestSource
+    takes!(3), // 70 NestStd
+    chains!(2), // 71 NestTemplate
+    takes!(4), // 72 NestArguments
+    chains!(2), // 73 NestNext
+    takes!(0), // 74 NestEnd
+    takes!(1), // 75 AnyConstructor
+    takes!(2), // 76 Destructor
+    takes!(1), // 77 ComponentWithC
+    chains!(2), // 78 OtherOperatorName
+    chains!(2), // 79 Constructor
+    takes!(2), // 80 Bindings
+    takes!(0), // 81 Abbreviation
+    chains!(1), // 82 Substitution
+    takes!(1), // 83 NestedType
+    takes!(0), // 84 StringLiteral
+    takes!(1), // 85 Discriminator
+    takes!(0), // 86 OneDigit
+    takes!(2), // 87 ManyDigits
+    takes!(4), // 88 Lambda
+    takes!(1), // 89 Unnamed
+    takes!(3), // 90 RestrictType
+    takes!(2), // 91 VolatileType
+    takes!(1), // 92 ConstType
+    takes!(1), // 93 ReferenceType
+    chains!(1), // 94 PlainType
+    takes!(1), // 95 TypeWithD
+    takes!(1), // 96 PlainWithD
+    chains!(1), // 97 QualifiedPlain
+    takes!(1), // 98 ItemWithD
+    takes!(1), // 99 Expansion
+    chains!(1), // 100 ItemIsType
+    takes!(0), // 101 BuiltinWithD
+    takes!(3), // 102 Vector
+    takes!(4), // 103 NoexceptFunction
+    takes!(2), // 104 SizedFloat
+    takes!(2), // 105 Decltype
+    takes!(1), // 106 Pointer
+    takes!(2), // 107 MemberPointer
+    takes!(2), // 108 Parameter
+    takes!(2), // 109 TypeWithS
+    takes!(4), // 110 LocalType
+    takes!(0), // 111 Builtin
+    takes!(1), // 112 Vendor
+    chains!(1), // 113 ArrayType
+    takes!(3), // 114 Function
+    takes!(1), // 115 Complex
+    chains!(1), // 116 BitWidth
+    chains!(1), // 117 TypeInStd
+    chains!(1), // 118 AbbreviatedType
+    takes!(0), // 119 RestEnd
+    takes!(1), // 120 RestLvalue
+    takes!(1), // 121 RestRvalue
+    chains!(2), // 122 RestItem
+    takes!(0), // 123 RefEnd
+    chains!(2), // 124 LvalueItem
+    chains!(2), // 125 RvalueItem
+    chains!(2), // 126 Items
+    takes!(2), // 127 Arguments
+    takes!(3), // 128 PackArgument
+    takes!(3), // 129 LiteralArgument
+    chains!(2), // 130 AnyArgument
+    takes!(3), // 131 LiteralElement
+    chains!(2), // 132 AnyElement
+    takes!(2), // 133 EncodingLiteral
+    takes!(1), // 134 BoolLiteral
+    takes!(1), // 135 LiteralWithD
+    chains!(2), // 136 IntegerLiteral
+    takes!(1), // 137 NullLiteral
+    takes!(1), // 138 CharLiteral
+    chains!(1), // 139 HexText
+    takes!(1), // 140 HexDigit
+    chains!(1), // 141 QualifiedLiteral
+    takes!(1), // 142 OperatorN
+    takes!(1), // 143 OperatorD
+    takes!(1), // 144 OperatorA
+    takes!(1), // 145 OperatorP
+    takes!(1), // 146 OperatorC
+    takes!(1), // 147 OperatorM
+    takes!(1), // 148 OperatorR
+    takes!(1), // 149 OperatorO
+    takes!(1), // 150 OperatorE
+    takes!(1), // 151 OperatorL
+    takes!(1), // 152 OperatorS
+    takes!(1), // 153 OperatorI
+    takes!(1), // 154 OperatorG
+    takes!(1), // 155 LiteralOperator
+    takes!(3), // 156 NestInstance
+    chains!(2), // 157 FirstModule
+    chains!(2), // 158 NamedModule
+    takes!(3), // 159 MoreModule
+    chains!(1), // 160 FieldName
+    chains!(2), // 161 BoundNames
+    chains!(2), // 162 OperatorNameWithC
+    takes!(2), // 163 HeldArguments
+    takes!(2), // 164 NestedBase
+    chains!(2), // 165 UnnestedBase
+    takes!(1), // 166 UnnestedWithS
+    chains!(2), // 167 TaggedSource
+    takes!(3), // 168 BaseArguments
+    takes!(3), // 169 LocalTemporary
+    takes!(2), // 170 TaggedStdType
+    takes!(2), // 171 Expression
+    takes!(1), // 172 ArgumentWithT
+    chains!(1), // 173 PlainArgument
+    chains!(2), // 174 ParameterArgument
+    takes!(2), // 175 LeveledParameter
+    takes!(2), // 176 OneLiteral
+    takes!(2), // 177 OnePack
+    takes!(1), // 178 ValueOf
+    takes!(1), // 179 OfConcept
+    takes!(2), // 180 TemplateOf
+    takes!(2), // 181 PackOf
+    takes!(2), // 182 Declarations
+    chains!(2), // 183 NamedConcept
+    takes!(2), // 184 Cast
+    takes!(2), // 185 OperatorReference
+    chains!(2), // 186 SimpleId
+    takes!(4), // 187 FunctionParameter
+    takes!(1), // 188 AddressExpression
+    takes!(2), // 189 Binary
+    takes!(1), // 190 Unary
+    takes!(1), // 191 OfType
+    takes!(3), // 192 Call
+    takes!(2), // 193 Convert
+    takes!(2), // 194 Designated
+    takes!(2), // 195 DesignatedElement
+    takes!(1), // 196 DestructorName
+    takes!(2), // 197 OuterParameter
+    takes!(2), // 198 LeftFold
+    takes!(2), // 199 RightFold
+    takes!(2), // 200 Braces
+    takes!(2), // 201 Step
+    takes!(3), // 202 New
+    takes!(3), // 203 Conditional
+    takes!(2), // 204 Requires
+    takes!(1), // 205 RequiresOf
+    takes!(1), // 206 ExpandExpression
+    takes!(1), // 207 PackSize
+    takes!(1), // 208 Unresolved
+    takes!(2), // 209 PackIndex
+    takes!(3), // 210 TypedBraces
+    takes!(0), // 211 Rethrow
+    takes!(1), // 212 ExpressionA
+    takes!(1), // 213 ExpressionC
+    takes!(1), // 214 ExpressionD
+    takes!(1), // 215 ExpressionE
+    takes!(1), // 216 ExpressionF
+    takes!(1), // 217 ExpressionG
+    takes!(1), // 218 ExpressionI
+    takes!(1), // 219 ExpressionL
+    takes!(1), // 220 ExpressionM
+    takes!(1), // 221 ExpressionN
+    takes!(1), // 222 ExpressionO
+    takes!(1), // 223 ExpressionP
+    takes!(1), // 224 ExpressionQ
+    takes!(1), // 225 ExpressionR
+    takes!(1), // 226 ExpressionS
+    takes!(1), // 227 ExpressionT
+    takes!(1), // 228 ExpressionWithT
+    chains!(2), // 229 ParameterExpression
+    chains!(3), // 230 BoundedArray
+    chains!(2), // 231 DeclaredArgument
+    takes!(2), // 232 TypeTag
+    takes!(2), // 233 Clone
+    takes!(2), // 234 ModuleInitializer
+    takes!(2), // 235 Temporary
+    takes!(1), // 236 Conversion
+    takes!(1), // 237 ConstLiteral
+    takes!(2), // 238 VolatileLiteral
+    chains!(2), // 239 SizedFloatLiteral
+    chains!(2), // 240 FloatLiteral
+    takes!(2), // 241 Tag
+    takes!(1), // 242 Constraint
+    takes!(2), // 243 IndexedType
+    takes!(2), // 244 BitInt
+    takes!(1), // 245 ConstrainedAuto
+    takes!(2), // 246 Enumeration
+    takes!(2), // 247 DefaultTypeEntity
+    takes!(2), // 248 DefaultEntity
+    takes!(2), // 249 Inheriting
+    takes!(2), // 250 Friend
+    chains!(2), // 251 Holder
+    takes!(2), // 252 NestTag
+    takes!(2), // 253 NestDecltype
+    chains!(2), // 254 NestModule
+    takes!(4), // 255 ConstructionVtable
 ];
 
 // The symbols of the rules, in the same order.
-pub static SYMBOLS: [Sym; 1488] = symbols_listed! {
-    [NONE, NONE, NONE, NONE, NONE], // ! Mark
-    [NAME, MAYBE_ARGUMENTS, NONE, NONE, NONE], // \" InternalName
-    [ANONYMOUS, MAYBE_ARGUMENTS, NONE, NONE, NONE], // # LocalTypeName
-    [NAME, MAYBE_ARGUMENTS, NONE, NONE, NONE], // $ SourceName
-    [OPERATOR, MAYBE_ARGUMENTS, NONE, NONE, NONE], // % OperatorName
-    [NAME, NONE, NONE, NONE, NONE], // & InternalPiece
-    [ANONYMOUS, NONE, NONE, NONE, NONE], // ' LocalTypePiece
-    [NAME, NONE, NONE, NONE, NONE], // ( SourcePiece
-    [MAYBE_RESTRICT, MAYBE_VOLATILE, MAYBE_CONST, MAYBE_REF, NEST], // ) NestedName
-    [Sym::Byte(b'Z'), ENCODING, MAYBE_SUFFIX, NONE, NONE], // * Symbol
-    [SUFFIX_FIRST, NONE, NONE, NONE, NONE], // + Suffix
-    [SUFFIX_MORE, NONE, NONE, NONE, NONE], // , SuffixByte
-    [SPECIAL, NONE, NONE, NONE, NONE], // - Special
-    [SPECIAL_MARK, SPECIAL_AFTER_G, NONE, NONE, NONE], // . OtherSpecial
-    [COMPLETE_NAME, ITEMS, NONE, NONE, NONE], // / Encoding
-    [TYPE, NONE, NONE, NONE, NONE], // 0 SpecialType
-    [INTEGER, Sym::Byte(b'_'), ENCODING, NONE, NONE], // 1 NonVirtualThunk
-    [INTEGER, Sym::Byte(b'_'), INTEGER, Sym::Byte(b'_'), ENCODING], // 2 VirtualThunk
-    [CALL_OFFSET, CALL_OFFSET, ENCODING, NONE, NONE], // 3 CovariantThunk
-    [COMPLETE_NAME, NONE, NONE, NONE, NONE], // 4 SpecialName
-    [ONE_ARGUMENT, NONE, NONE, NONE, NONE], // 5 ParameterObject
-    [TYPE, DIGITS, Sym::Byte(b'_'), TYPE, NONE], // 6 ConstructionVtable
-    [INTEGER, Sym::Byte(b'_'), NONE, NONE, NONE], // 7 NonVirtualOffset
-    [INTEGER, Sym::Byte(b'_'), INTEGER, Sym::Byte(b'_'), NONE], // 8 VirtualOffset
-    [DIGITS, NONE, NONE, NONE, NONE], // 9 Negative
-    [DIGITS, NONE, NONE, NONE, NONE], // : Positive
-    [NAME_AFTER_S, NONE, NONE, NONE, NONE], // ; NameWithS
-    [ENCODING, Sym::Byte(b'E'), ENTITY, MAYBE_DISCRIMINATOR, NONE], // < LocalName
-    [UNQUALIFIED, MAYBE_ARGUMENTS, NONE, NONE, NONE], // = StdName
-    [ABBREVIATION, ARGUMENTS, NONE, NONE, NONE], // > AbbreviatedName
-    [OPERATOR, NONE, NONE, NONE, NONE], // ? OperatorPiece
-    [NEST_AFTER_S, NONE, NONE, NONE, NONE], // @ NestWithS
-    [DECIMAL, NEST_REST_ALONE, NONE, NONE, NONE], // A NestParameter
-    [NAME, NEST_REST, NONE, NONE, NONE], // B NestInternal
-    [ANONYMOUS, NEST_REST, NONE, NONE, NONE], // C NestLocalType
-    [NAME, NEST_REST, NONE, NONE, NONE], // D NestSource
-    [DECLTYPE_AFTER_D, NEST_REST_ALONE, NONE, NONE, NONE], // E NestDecltype
-    [UNQUALIFIED, MAYBE_ARGUMENTS, NEST_TAIL, NONE, NONE], // F NestStd
-    [ABBREVIATION, NEST_REST_OR_END, NONE, NONE, NONE], // G NestTemplate
-    [ARGUMENTS_FIRST, Sym::Byte(b'E'), COMPONENT, NEST_TAIL, NONE], // H NestArguments
-    [COMPONENT, NEST_TAIL, NONE, NONE, NONE], // I NestNext
-    [NAME, NEST_REST, NONE, NONE, NONE], // J NestTag
-    [NONE, NONE, NONE, NONE, NONE], // K NestEnd
-    [CONSTRUCTOR_AFTER_C, NONE, NONE, NONE, NONE], // L AnyConstructor
-    [DESTRUCTOR_DIGIT, MAYBE_ARGUMENTS, NONE, NONE, NONE], // M Destructor
-    [COMPONENT_AFTER_C, NONE, NONE, NONE, NONE], // N ComponentWithC
-    [OTHER_OPERATOR, MAYBE_ARGUMENTS, NONE, NONE, NONE], // O OtherOperatorName
-    [HOLDER_MARK, HELD_COMPONENT, NONE, NONE, NONE], // P Holder
-    [UNQUALIFIED, MAYBE_ARGUMENTS, NONE, NONE, NONE], // Q Friend
-    [INHERITED_DIGIT, BASE_CLASS, NONE, NONE, NONE], // R Inheriting
-    [CONSTRUCTOR_DIGIT, MAYBE_ARGUMENTS, NONE, NONE, NONE], // S Constructor
-    [NONE, NONE, NONE, NONE, NONE], // T Abbreviation
-    [SEQ36, NONE, NONE, NONE, NONE], // U Substitution
-    [NEST, NONE, NONE, NONE, NONE], // V NestedType
-    [NONE, NONE, NONE, NONE, NONE], // W StringLiteral
-    [DECIMAL, PLAIN_ENTITY, NONE, NONE, NONE], // X DefaultEntity
-    [DECIMAL, PLAIN_TYPE_ENTITY, NONE, NONE, NONE], // Y DefaultTypeEntity
-    [DISCRIMINATOR_REST, NONE, NONE, NONE, NONE], // Z Discriminator
-    [NONE, NONE, NONE, NONE, NONE], // [ OneDigit
-    [DIGITS, Sym::Byte(b'_'), NONE, NONE, NONE], // \\ ManyDigits
-    [ITEM, ITEMS, Sym::Byte(b'E'), DECIMAL, NONE], // ] Lambda
-    [DECIMAL, NONE, NONE, NONE, NONE], // ^ Unnamed
-    [MAYBE_VOLATILE, MAYBE_CONST, PLAIN, NONE, NONE], // _ RestrictType
-    [MAYBE_CONST, PLAIN, NONE, NONE, NONE], // ` VolatileType
-    [PLAIN, NONE, NONE, NONE, NONE], // a ConstType
-    [TYPE, NONE, NONE, NONE, NONE], // b ReferenceType
-    [SOLID, NONE, NONE, NONE, NONE], // c PlainType
-    [AFTER_D, NONE, NONE, NONE, NONE], // d TypeWithD
-    [AFTER_D, NONE, NONE, NONE, NONE], // e PlainWithD
-    [SOLID, NONE, NONE, NONE, NONE], // f QualifiedPlain
-    [ITEM_AFTER_D, NONE, NONE, NONE, NONE], // g ItemWithD
-    [TYPE, NONE, NONE, NONE, NONE], // h Expansion
-    [AFTER_D, NONE, NONE, NONE, NONE], // i ItemIsType
-    [NONE, NONE, NONE, NONE, NONE], // j BuiltinWithD
-    [DIGITS, Sym::Byte(b'_'), TYPE, NONE, NONE], // k Vector
-    [Sym::Byte(b'F'), MAYBE_C_LINKAGE, TYPE, FUNCTION_REST, NONE], // l NoexceptFunction
-    [DIGITS, FLOAT_END, NONE, NONE, NONE], // m SizedFloat
-    [CONCEPT, NONE, NONE, NONE, NONE], // n ConstrainedAuto
-    [BIT_WIDTH, Sym::Byte(b'_'), NONE, NONE, NONE], // o BitInt
-    [EXPRESSION, Sym::Byte(b'E'), NONE, NONE, NONE], // p Decltype
-    [TYPE_PACK, EXPRESSION, NONE, NONE, NONE], // q IndexedType
-    [TYPE, NONE, NONE, NONE, NONE], // r Pointer
-    [TYPE, TYPE, NONE, NONE, NONE], // s MemberPointer
-    [DECIMAL, ARGUMENTS_ALONE, NONE, NONE, NONE], // t Parameter
-    [TYPE_AFTER_S, ARGUMENTS_ALONE, NONE, NONE, NONE], // u TypeWithS
-    [ENCODING, Sym::Byte(b'E'), TYPE_ENTITY, MAYBE_DISCRIMINATOR, NONE], // v LocalType
-    [NONE, NONE, NONE, NONE, NONE], // w Builtin
-    [NAME, NONE, NONE, NONE, NONE], // x Vendor
-    [ANY_ARRAY, NONE, NONE, NONE, NONE], // y ArrayType
-    [MAYBE_C_LINKAGE, TYPE, FUNCTION_REST, NONE, NONE], // z Function
-    [TYPE, NONE, NONE, NONE, NONE], // { Complex
-    [DIGITS, NONE, NONE, NONE, NONE], // | BitWidth
-    [TYPE_IN_STD, NONE, NONE, NONE, NONE], // } TypeInStd
-    [ABBREVIATION, NONE, NONE, NONE, NONE], // ~ AbbreviatedType
-    [NONE, NONE, NONE, NONE, NONE], // \x7f RestEnd
-    [AFTER_R, NONE, NONE, NONE, NONE], // \x80 RestLvalue
-    [AFTER_O, NONE, NONE, NONE, NONE], // \x81 RestRvalue
-    [ITEM_BUT_REF, FUNCTION_REST, NONE, NONE, NONE], // \x82 RestItem
-    [NONE, NONE, NONE, NONE, NONE], // \x83 RefEnd
-    [TYPE, FUNCTION_REST, NONE, NONE, NONE], // \x84 LvalueItem
-    [TYPE, FUNCTION_REST, NONE, NONE, NONE], // \x85 RvalueItem
-    [EXPRESSION, NONE, NONE, NONE, NONE], // \x86 Constraint
-    [ITEM, ITEMS, NONE, NONE, NONE], // \x87 Items
-    [ARGUMENTS_FIRST, Sym::Byte(b'E'), NONE, NONE, NONE], // \x88 Arguments
-    [NAME, MAYBE_ARGUMENTS, NONE, NONE, NONE], // \x89 Tag
-    [PACK_LIST, Sym::Byte(b'E'), ARGUMENT_LIST, NONE, NONE], // \x8a PackArgument
-    [LITERAL, Sym::Byte(b'E'), ARGUMENT_LIST, NONE, NONE], // \x8b LiteralArgument
-    [ARGUMENT, ARGUMENT_LIST, NONE, NONE, NONE], // \x8c AnyArgument
-    [LITERAL, Sym::Byte(b'E'), PACK_LIST, NONE, NONE], // \x8d LiteralElement
-    [ARGUMENT, PACK_LIST, NONE, NONE, NONE], // \x8e AnyElement
-    [Sym::Byte(b'Z'), ENCODING, NONE, NONE, NONE], // \x8f EncodingLiteral
-    [BIT, NONE, NONE, NONE, NONE], // \x90 BoolLiteral
-    [LITERAL_AFTER_D, NONE, NONE, NONE, NONE], // \x91 LiteralWithD
-    [LITERAL_TYPE, INTEGER, NONE, NONE, NONE], // \x92 IntegerLiteral
-    [FLOAT_TYPE, HEX_TEXT, NONE, NONE, NONE], // \x93 FloatLiteral
-    [MAYBE_ZERO, NONE, NONE, NONE, NONE], // \x94 NullLiteral
-    [INTEGER, NONE, NONE, NONE, NONE], // \x95 CharLiteral
-    [SIZED_FLOAT_TYPE, HEX_TEXT, NONE, NONE, NONE], // \x96 SizedFloatLiteral
-    [HEX_DIGITS, NONE, NONE, NONE, NONE], // \x97 HexText
-    [HEX_MORE, NONE, NONE, NONE, NONE], // \x98 HexDigit
-    [MAYBE_CONST, LITERAL_PLAIN, NONE, NONE, NONE], // \x99 VolatileLiteral
-    [LITERAL_PLAIN, NONE, NONE, NONE, NONE], // \x9a ConstLiteral
-    [LITERAL_SOLID, NONE, NONE, NONE, NONE], // \x9b QualifiedLiteral
-    [OPERATOR_AFTER_N, NONE, NONE, NONE, NONE], // \x9c OperatorN
-    [OPERATOR_AFTER_D, NONE, NONE, NONE, NONE], // \x9d OperatorD
-    [OPERATOR_AFTER_A, NONE, NONE, NONE, NONE], // \x9e OperatorA
-    [OPERATOR_AFTER_P, NONE, NONE, NONE, NONE], // \x9f OperatorP
-    [OPERATOR_AFTER_C, NONE, NONE, NONE, NONE], // \xa0 OperatorC
-    [OPERATOR_AFTER_M, NONE, NONE, NONE, NONE], // \xa1 OperatorM
-    [OPERATOR_AFTER_R, NONE, NONE, NONE, NONE], // \xa2 OperatorR
-    [OPERATOR_AFTER_O, NONE, NONE, NONE, NONE], // \xa3 OperatorO
-    [OPERATOR_AFTER_E, NONE, NONE, NONE, NONE], // \xa4 OperatorE
-    [OPERATOR_AFTER_L, NONE, NONE, NONE, NONE], // \xa5 OperatorL
-    [OPERATOR_AFTER_S, NONE, NONE, NONE, NONE], // \xa6 OperatorS
-    [OPERATOR_AFTER_I, NONE, NONE, NONE, NONE], // \xa7 OperatorI
-    [OPERATOR_AFTER_G, NONE, NONE, NONE, NONE], // \xa8 OperatorG
-    [NAME, NONE, NONE, NONE, NONE], // \xa9 LiteralOperator
-    [ARGUMENTS_FIRST, Sym::Byte(b'E'), NEST_MORE_OR_END, NONE, NONE], // \xaa NestInstance
-    [TYPE, NONE, NONE, NONE, NONE], // \xab Conversion
-    [OPERATOR_AFTER_C, MAYBE_ARGUMENTS, NONE, NONE, NONE], // \xac OperatorNameWithC
-    [ARGUMENTS_FIRST, Sym::Byte(b'E'), NONE, NONE, NONE], // \xad HeldArguments
-    [NEST, HELD_ARGUMENTS, NONE, NONE, NONE], // \xae NestedBase
-    [UNNESTED_NAME, BASE_ARGUMENTS, NONE, NONE, NONE], // \xaf UnnestedBase
-    [TYPE_AFTER_S, NONE, NONE, NONE, NONE], // \xb0 UnnestedWithS
-    [NAME, MAYBE_TAGS, NONE, NONE, NONE], // \xb1 TaggedSource
-    [ARGUMENTS_FIRST, Sym::Byte(b'E'), HELD_ARGUMENTS, NONE, NONE], // \xb2 BaseArguments
-    [TEMPORARY_NAME, Sym::Byte(b'_'), NONE, NONE, NONE], // \xb3 Temporary
-    [CLONE_LETTER, ENCODING, NONE, NONE, NONE], // \xb4 Clone
-    [ENCODING, Sym::Byte(b'E'), ENTITY, NONE, NONE], // \xb5 LocalTemporary
-    [SOURCE_OR_LOCAL, MAYBE_TAGS, NONE, NONE, NONE], // \xb6 TaggedStdType
-    [NAME, MAYBE_TAGS, NONE, NONE, NONE], // \xb7 TypeTag
-    [EXPRESSION, Sym::Byte(b'E'), NONE, NONE, NONE], // \xb8 Expression
-    [ARGUMENT_AFTER_T, NONE, NONE, NONE, NONE], // \xb9 ArgumentWithT
-    [SOLID_BUT_T, NONE, NONE, NONE, NONE], // \xba PlainArgument
-    [DECIMAL, ARGUMENTS_ALONE, NONE, NONE, NONE], // \xbb ParameterArgument
-    [DECLARATION_AFTER_T, ONE_ARGUMENT, NONE, NONE, NONE], // \xbc DeclaredArgument
-    [DECIMAL, LEVELED_PARAMETER, NONE, NONE, NONE], // \xbd LeveledParameter
-    [LITERAL, Sym::Byte(b'E'), NONE, NONE, NONE], // \xbe OneLiteral
-    [PACK_LIST, Sym::Byte(b'E'), NONE, NONE, NONE], // \xbf OnePack
-    [NONE, NONE, NONE, NONE, NONE], // \xc0 AnyType
-    [TYPE, NONE, NONE, NONE, NONE], // \xc1 ValueOf
-    [CONCEPT, NONE, NONE, NONE, NONE], // \xc2 OfConcept
-    [DECLARATIONS, Sym::Byte(b'E'), NONE, NONE, NONE], // \xc3 TemplateOf
-    [Sym::Byte(b'T'), DECLARATION_AFTER_T, NONE, NONE, NONE], // \xc4 PackOf
-    [DECLARATION_AFTER_T, DECLARATIONS, NONE, NONE, NONE], // \xc5 Declarations
-    [UNNESTED_NAME, HELD_ARGUMENTS, NONE, NONE, NONE], // \xc6 NamedConcept
-    [TYPE, EXPRESSION, NONE, NONE, NONE], // \xc7 Cast
-    [OPERATOR, ARGUMENTS_ALONE, NONE, NONE, NONE], // \xc8 OperatorReference
-    [NAME, ARGUMENTS_ALONE, NONE, NONE, NONE], // \xc9 SimpleId
-    [MAYBE_RESTRICT, MAYBE_VOLATILE, MAYBE_CONST, PARAMETER_NUMBER, NONE], // \xca FunctionParameter
-    [ADDRESSED_EXPRESSION, NONE, NONE, NONE, NONE], // \xcb AddressExpression
-    [EXPRESSION, EXPRESSION, NONE, NONE, NONE], // \xcc Binary
-    [EXPRESSION, NONE, NONE, NONE, NONE], // \xcd Unary
-    [CONVERTED_TYPE, NONE, NONE, NONE, NONE], // \xce OfType
-    [EXPRESSION, EXPRESSIONS, Sym::Byte(b'E'), NONE, NONE], // \xcf Call
-    [CONVERTED_TYPE, CONVERT_REST, NONE, NONE, NONE], // \xd0 Convert
-    [FIELD_NAME, DESIGNATED_VALUE, NONE, NONE, NONE], // \xd1 Designated
-    [EXPRESSION, DESIGNATED_VALUE, NONE, NONE, NONE], // \xd2 DesignatedElement
-    [DESTRUCTOR_NAME, NONE, NONE, NONE, NONE], // \xd3 DestructorName
-    [DIGITS, OUTER_REST, NONE, NONE, NONE], // \xd4 OuterParameter
-    [FOLD_OPERATOR, FOLD_OPERAND, NONE, NONE, NONE], // \xd5 LeftFold
-    [FOLD_OPERATOR, FOLD_OPERAND, NONE, NONE, NONE], // \xd6 RightFold
-    [EXPRESSIONS, Sym::Byte(b'E'), NONE, NONE, NONE], // \xd7 Braces
-    [MAYBE_BEFORE, EXPRESSION, NONE, NONE, NONE], // \xd8 Step
-    [PLACEMENT, TYPE, INITIALIZER, NONE, NONE], // \xd9 New
-    [EXPRESSION, EXPRESSION, EXPRESSION, NONE, NONE], // \xda Conditional
-    [REQUIREMENTS, Sym::Byte(b'E'), NONE, NONE, NONE], // \xdb Requires
-    [REQUIRED_TYPES, NONE, NONE, NONE, NONE], // \xdc RequiresOf
-    [EXPRESSION, NONE, NONE, NONE, NONE], // \xdd ExpandExpression
-    [EXPRESSION, NONE, NONE, NONE, NONE], // \xde PackSize
-    [UNRESOLVED, NONE, NONE, NONE, NONE], // \xdf Unresolved
-    [VALUE_PACK, EXPRESSION, NONE, NONE, NONE], // \xe0 PackIndex
-    [TYPE, EXPRESSIONS, Sym::Byte(b'E'), NONE, NONE], // \xe1 TypedBraces
-    [NONE, NONE, NONE, NONE, NONE], // \xe2 Rethrow
-    [EXPRESSION_AFTER_A, NONE, NONE, NONE, NONE], // \xe3 ExpressionA
-    [EXPRESSION_AFTER_C, NONE, NONE, NONE, NONE], // \xe4 ExpressionC
-    [EXPRESSION_AFTER_D, NONE, NONE, NONE, NONE], // \xe5 ExpressionD
-    [EXPRESSION_AFTER_E, NONE, NONE, NONE, NONE], // \xe6 ExpressionE
-    [EXPRESSION_AFTER_F, NONE, NONE, NONE, NONE], // \xe7 ExpressionF
-    [EXPRESSION_AFTER_G, NONE, NONE, NONE, NONE], // \xe8 ExpressionG
-    [EXPRESSION_AFTER_I, NONE, NONE, NONE, NONE], // \xe9 ExpressionI
-    [EXPRESSION_AFTER_L, NONE, NONE, NONE, NONE], // \xea ExpressionL
-    [EXPRESSION_AFTER_M, NONE, NONE, NONE, NONE], // \xeb ExpressionM
-    [EXPRESSION_AFTER_N, NONE, NONE, NONE, NONE], // \xec ExpressionN
-    [EXPRESSION_AFTER_O, NONE, NONE, NONE, NONE], // \xed ExpressionO
-    [EXPRESSION_AFTER_P, NONE, NONE, NONE, NONE], // \xee ExpressionP
-    [EXPRESSION_AFTER_Q, NONE, NONE, NONE, NONE], // \xef ExpressionQ
-    [EXPRESSION_AFTER_R, NONE, NONE, NONE, NONE], // \xf0 ExpressionR
-    [EXPRESSION_AFTER_S, NONE, NONE, NONE, NONE], // \xf1 ExpressionS
-    [EXPRESSION_AFTER_T, NONE, NONE, NONE, NONE], // \xf2 ExpressionT
-    [EXPRESSION_PARAMETER, NONE, NONE, NONE, NONE], // \xf3 ExpressionWithT
-    [DECIMAL, ARGUMENTS_ALONE, NONE, NONE, NONE], // \xf4 ParameterExpression
-    [DECIMAL, UNLEVELED_EXPRESSION, NONE, NONE, NONE], // \xf5 LeveledExpression
-    [ADDRESSED_LITERAL, Sym::Byte(b'E'), NONE, NONE, NONE], // \xf6 AddressedLiteral
-    [EXPRESSION, EXPRESSIONS, NONE, NONE, NONE], // \xf7 Expressions
-    [FOLD_OPERATOR_AFTER_L, NONE, NONE, NONE, NONE], // \xf8 FoldOperatorL
-    [FOLD_PACK, NONE, NONE, NONE, NONE], // \xf9 FoldOperand
-    [EXPRESSION, NONE, NONE, NONE, NONE], // \xfa FoldPack
-    [TYPE, NONE, NONE, NONE, NONE], // \xfb TypePack
-    [DESIGNATOR_AFTER_D, NONE, NONE, NONE, NONE], // \xfc Designators
-    [PLAIN_VALUE, NONE, NONE, NONE, NONE], // \xfd DesignatedValue
-    [NAME, NONE, NONE, NONE, NONE], // \xfe FieldName
-    [SOME_EXPRESSIONS, Sym::Byte(b'_'), NONE, NONE, NONE], // \xff Placed
-    [INITIALIZER_AFTER_P, NONE, NONE, NONE, NONE], // \x00 Initializer
-    [INITIALIZER_AFTER_I, NONE, NONE, NONE, NONE], // \x01 BracedInitializer
-    [NONE, NONE, NONE, NONE, NONE], // \x02 This
-    [DECIMAL, NONE, NONE, NONE, NONE], // \x03 ParameterNumber
-    [DECLTYPE_AFTER_D, NONE, NONE, NONE, NONE], // \x04 ConvertedDecltype
-    [CONVERTED_TYPE, NONE, NONE, NONE, NONE], // \x05 ConvertedConst
-    [CONVERTED_TYPE, NONE, NONE, NONE, NONE], // \x06 ConvertedPointer
-    [CONVERTED_TYPE, NONE, NONE, NONE, NONE], // \x07 ConvertedReference
-    [CONVERTED_SOLID, NONE, NONE, NONE, NONE], // \x08 ConvertedType
-    [PARAMETER_AFTER_T, NONE, NONE, NONE, NONE], // \x09 ConvertedWithT
-    [UNRESOLVED_TYPE, UNRESOLVED_NAME, NONE, NONE, NONE], // \x0a UnresolvedInType
-    [LEVEL, MORE_LEVELS, NONE, NONE, NONE], // \x0b Levels
-    [UNRESOLVED_TYPE, NONE, NONE, NONE, NONE], // \x0c DestroyedType
-    [EXPRESSION, AFTER_EXPRESSION, NONE, NONE, NONE], // \x0d ExpressionRequirement
-    [TYPE, REQUIREMENTS, NONE, NONE, NONE], // \x0e TypeRequirement
-    [EXPRESSION, REQUIREMENTS, NONE, NONE, NONE], // \x0f NestedRequirement
-    [CONCEPT, REQUIREMENTS, NONE, NONE, NONE], // \x10 ResultRequirement
-    [AFTER_NOEXCEPT, NONE, NONE, NONE, NONE], // \x11 NoexceptRequirement
-    [CONVERTED_TYPE, REQUIRED_TYPES, NONE, NONE, NONE], // \x12 RequiredType
-    [UNRESOLVED_NAME, NONE, NONE, NONE, NONE], // \x13 LevelsEnd
-    [OPERATOR_NAME, NONE, NONE, NONE, NONE], // \x14 UnresolvedOperator
-    [ARRAY_REST, NONE, NONE, NONE, NONE], // \x15 AnyArray
-    [BOUND, Sym::Byte(b'_'), TYPE, NONE, NONE], // \x16 BoundedArray
-    [DECIMAL, TYPE, NONE, NONE, NONE], // \x17 LengthArray
+pub static SYMBOLS: [Sym; 1542] = symbols_listed! {
+    [DECIMAL, UNLEVELED_EXPRESSION, NONE, NONE, NONE], // 0 LeveledExpression
+    [ADDRESSED_LITERAL, Sym::Byte(b'E'), NONE, NONE, NONE], // 1 AddressedLiteral
+    [EXPRESSION, EXPRESSIONS, NONE, NONE, NONE], // 2 Expressions
+    [FOLD_OPERATOR_AFTER_L, NONE, NONE, NONE, NONE], // 3 FoldOperatorL
+    [FOLD_PACK, NONE, NONE, NONE, NONE], // 4 FoldOperand
+    [EXPRESSION, NONE, NONE, NONE, NONE], // 5 FoldPack
+    [TYPE, NONE, NONE, NONE, NONE], // 6 TypePack
+    [DESIGNATOR_AFTER_D, NONE, NONE, NONE, NONE], // 7 Designators
+    [PLAIN_VALUE, NONE, NONE, NONE, NONE], // 8 DesignatedValue
+    [SOME_EXPRESSIONS, Sym::Byte(b'_'), NONE, NONE, NONE], // 9 Placed
+    [INITIALIZER_AFTER_P, NONE, NONE, NONE, NONE], // 10 Initializer
+    [INITIALIZER_AFTER_I, NONE, NONE, NONE, NONE], // 11 BracedInitializer
+    [NONE, NONE, NONE, NONE, NONE], // 12 This
+    [DECIMAL, NONE, NONE, NONE, NONE], // 13 ParameterNumber
+    [CONVERTED_AFTER_D, NONE, NONE, NONE, NONE], // 14 ConvertedDecltype
+    [CONVERTED_TYPE, NONE, NONE, NONE, NONE], // 15 ConvertedConst
+    [CONVERTED_TYPE, NONE, NONE, NONE, NONE], // 16 ConvertedPointer
+    [CONVERTED_TYPE, NONE, NONE, NONE, NONE], // 17 ConvertedReference
+    [CONVERTED_SOLID, NONE, NONE, NONE, NONE], // 18 ConvertedType
+    [PARAMETER_AFTER_T, NONE, NONE, NONE, NONE], // 19 ConvertedWithT
+    [UNRESOLVED_TYPE, UNRESOLVED_NAME, NONE, NONE, NONE], // 20 UnresolvedInType
+    [LEVEL, MORE_LEVELS, NONE, NONE, NONE], // 21 Levels
+    [UNRESOLVED_TYPE, NONE, NONE, NONE, NONE], // 22 DestroyedType
+    [EXPRESSION, MAYBE_NOEXCEPT, AFTER_NOEXCEPT, NONE, NONE], // 23 ExpressionRequirement
+    [TYPE, REQUIREMENTS, NONE, NONE, NONE], // 24 TypeRequirement
+    [EXPRESSION, REQUIREMENTS, NONE, NONE, NONE], // 25 NestedRequirement
+    [CONCEPT, REQUIREMENTS, NONE, NONE, NONE], // 26 ResultRequirement
+    [CONVERTED_TYPE, REQUIRED_TYPES, NONE, NONE, NONE], // 27 RequiredType
+    [UNRESOLVED_NAME, NONE, NONE, NONE, NONE], // 28 LevelsEnd
+    [OPERATOR_NAME, NONE, NONE, NONE, NONE], // 29 UnresolvedOperator
+    [ARRAY_REST, NONE, NONE, NONE, NONE], // 30 AnyArray
+    [DECIMAL, TYPE, NONE, NONE, NONE], // 31 LengthArray
+    [ONE_ARGUMENT, NONE, NONE, NONE, NONE], // 32 ParameterObject
+    [NONE, NONE, NONE, NONE, NONE], // 33 Mark
+    [NAME, MAYBE_ARGUMENTS, NONE, NONE, NONE], // 34 InternalName
+    [ANONYMOUS, MAYBE_ARGUMENTS, NONE, NONE, NONE], // 35 LocalTypeName
+    [NAME, MAYBE_ARGUMENTS, NONE, NONE, NONE], // 36 SourceName
+    [OPERATOR, MAYBE_ARGUMENTS, NONE, NONE, NONE], // 37 OperatorName
+    [BINDING_AFTER_D, MAYBE_ARGUMENTS, NONE, NONE, NONE], // 38 BindingName
+    [NAME, NONE, NONE, NONE, NONE], // 39 InternalPiece
+    [ANONYMOUS, NONE, NONE, NONE, NONE], // 40 LocalTypePiece
+    [NAME, NONE, NONE, NONE, NONE], // 41 SourcePiece
+    [FIRST_MODULE, NAME_AFTER_MODULE, NONE, NONE, NONE], // 42 InModule
+    [NAMED_MODULE, NAME_AFTER_MODULE, NONE, NONE, NONE], // 43 InNamedModule
+    [MAYBE_RESTRICT, MAYBE_VOLATILE, MAYBE_CONST, MAYBE_REF, NEST], // 44 NestedName
+    [Sym::Byte(b'Z'), ENCODING, MAYBE_SUFFIX, NONE, NONE], // 45 Symbol
+    [SUFFIX_FIRST, NONE, NONE, NONE, NONE], // 46 Suffix
+    [SUFFIX_MORE, NONE, NONE, NONE, NONE], // 47 SuffixByte
+    [SPECIAL, NONE, NONE, NONE, NONE], // 48 Special
+    [SPECIAL_MARK, SPECIAL_AFTER_G, NONE, NONE, NONE], // 49 OtherSpecial
+    [COMPLETE_NAME, ITEMS, NONE, NONE, NONE], // 50 Encoding
+    [TYPE, NONE, NONE, NONE, NONE], // 51 SpecialType
+    [INTEGER, Sym::Byte(b'_'), ENCODING, NONE, NONE], // 52 NonVirtualThunk
+    [INTEGER, Sym::Byte(b'_'), INTEGER, Sym::Byte(b'_'), ENCODING], // 53 VirtualThunk
+    [CALL_OFFSET, CALL_OFFSET, ENCODING, NONE, NONE], // 54 CovariantThunk
+    [COMPLETE_NAME, NONE, NONE, NONE, NONE], // 55 SpecialName
+    [INTEGER, Sym::Byte(b'_'), NONE, NONE, NONE], // 56 NonVirtualOffset
+    [INTEGER, Sym::Byte(b'_'), INTEGER, Sym::Byte(b'_'), NONE], // 57 VirtualOffset
+    [DIGITS, NONE, NONE, NONE, NONE], // 58 Negative
+    [DIGITS, NONE, NONE, NONE, NONE], // 59 Positive
+    [NAME_AFTER_S, NONE, NONE, NONE, NONE], // 60 NameWithS
+    [ENCODING, Sym::Byte(b'E'), ENTITY, MAYBE_DISCRIMINATOR, NONE], // 61 LocalName
+    [UNQUALIFIED, MAYBE_ARGUMENTS, NONE, NONE, NONE], // 62 StdName
+    [ABBREVIATION, ARGUMENTS, NONE, NONE, NONE], // 63 AbbreviatedName
+    [OPERATOR, NONE, NONE, NONE, NONE], // 64 OperatorPiece
+    [NEST_AFTER_S, NONE, NONE, NONE, NONE], // 65 NestWithS
+    [DECIMAL, NEST_REST_ALONE, NONE, NONE, NONE], // 66 NestParameter
+    [NAME, NEST_REST, NONE, NONE, NONE], // 67 NestInternal
+    [ANONYMOUS, NEST_REST, NONE, NONE, NONE], // 68 NestLocalType
+    [NAME, NEST_REST, NONE, NONE, NONE], // 69 NestSource
+    [UNQUALIFIED, MAYBE_ARGUMENTS, NEST_TAIL, NONE, NONE], // 70 NestStd
+    [ABBREVIATION, NEST_REST_OR_END, NONE, NONE, NONE], // 71 NestTemplate
+    [ARGUMENTS_FIRST, Sym::Byte(b'E'), COMPONENT, NEST_TAIL, NONE], // 72 NestArguments
+    [COMPONENT, NEST_TAIL, NONE, NONE, NONE], // 73 NestNext
+    [NONE, NONE, NONE, NONE, NONE], // 74 NestEnd
+    [CONSTRUCTOR_AFTER_C, NONE, NONE, NONE, NONE], // 75 AnyConstructor
+    [COMPONENT_AFTER_D, MAYBE_ARGUMENTS, NONE, NONE, NONE], // 76 Destructor
+    [COMPONENT_AFTER_C, NONE, NONE, NONE, NONE], // 77 ComponentWithC
+    [OTHER_OPERATOR, MAYBE_ARGUMENTS, NONE, NONE, NONE], // 78 OtherOperatorName
+    [CONSTRUCTOR_DIGIT, MAYBE_ARGUMENTS, NONE, NONE, NONE], // 79 Constructor
+    [BOUND_NAMES, Sym::Byte(b'E'), NONE, NONE, NONE], // 80 Bindings
+    [NONE, NONE, NONE, NONE, NONE], // 81 Abbreviation
+    [SEQ36, NONE, NONE, NONE, NONE], // 82 Substitution
+    [NEST, NONE, NONE, NONE, NONE], // 83 NestedType
+    [NONE, NONE, NONE, NONE, NONE], // 84 StringLiteral
+    [DISCRIMINATOR_REST, NONE, NONE, NONE, NONE], // 85 Discriminator
+    [NONE, NONE, NONE, NONE, NONE], // 86 OneDigit
+    [DIGITS, Sym::Byte(b'_'), NONE, NONE, NONE], // 87 ManyDigits
+    [ITEM, ITEMS, Sym::Byte(b'E'), DECIMAL, NONE], // 88 Lambda
+    [DECIMAL, NONE, NONE, NONE, NONE], // 89 Unnamed
+    [MAYBE_VOLATILE, MAYBE_CONST, PLAIN, NONE, NONE], // 90 RestrictType
+    [MAYBE_CONST, PLAIN, NONE, NONE, NONE], // 91 VolatileType
+    [PLAIN, NONE, NONE, NONE, NONE], // 92 ConstType
+    [TYPE, NONE, NONE, NONE, NONE], // 93 ReferenceType
+    [SOLID, NONE, NONE, NONE, NONE], // 94 PlainType
+    [AFTER_D, NONE, NONE, NONE, NONE], // 95 TypeWithD
+    [AFTER_D, NONE, NONE, NONE, NONE], // 96 PlainWithD
+    [SOLID, NONE, NONE, NONE, NONE], // 97 QualifiedPlain
+    [ITEM_AFTER_D, NONE, NONE, NONE, NONE], // 98 ItemWithD
+    [TYPE, NONE, NONE, NONE, NONE], // 99 Expansion
+    [AFTER_D, NONE, NONE, NONE, NONE], // 100 ItemIsType
+    [NONE, NONE, NONE, NONE, NONE], // 101 BuiltinWithD
+    [DIGITS, Sym::Byte(b'_'), TYPE, NONE, NONE], // 102 Vector
+    [Sym::Byte(b'F'), MAYBE_C_LINKAGE, TYPE, FUNCTION_REST, NONE], // 103 NoexceptFunction
+    [DIGITS, FLOAT_END, NONE, NONE, NONE], // 104 SizedFloat
+    [EXPRESSION, Sym::Byte(b'E'), NONE, NONE, NONE], // 105 Decltype
+    [TYPE, NONE, NONE, NONE, NONE], // 106 Pointer
+    [TYPE, TYPE, NONE, NONE, NONE], // 107 MemberPointer
+    [DECIMAL, ARGUMENTS_ALONE, NONE, NONE, NONE], // 108 Parameter
+    [TYPE_AFTER_S, ARGUMENTS_ALONE, NONE, NONE, NONE], // 109 TypeWithS
+    [ENCODING, Sym::Byte(b'E'), TYPE_ENTITY, MAYBE_DISCRIMINATOR, NONE], // 110 LocalType
+    [NONE, NONE, NONE, NONE, NONE], // 111 Builtin
+    [NAME, NONE, NONE, NONE, NONE], // 112 Vendor
+    [ANY_ARRAY, NONE, NONE, NONE, NONE], // 113 ArrayType
+    [MAYBE_C_LINKAGE, TYPE, FUNCTION_REST, NONE, NONE], // 114 Function
+    [TYPE, NONE, NONE, NONE, NONE], // 115 Complex
+    [DIGITS, NONE, NONE, NONE, NONE], // 116 BitWidth
+    [TYPE_IN_STD, NONE, NONE, NONE, NONE], // 117 TypeInStd
+    [ABBREVIATION, NONE, NONE, NONE, NONE], // 118 AbbreviatedType
+    [NONE, NONE, NONE, NONE, NONE], // 119 RestEnd
+    [AFTER_R, NONE, NONE, NONE, NONE], // 120 RestLvalue
+    [AFTER_O, NONE, NONE, NONE, NONE], // 121 RestRvalue
+    [ITEM_BUT_REF, FUNCTION_REST, NONE, NONE, NONE], // 122 RestItem
+    [NONE, NONE, NONE, NONE, NONE], // 123 RefEnd
+    [TYPE, FUNCTION_REST, NONE, NONE, NONE], // 124 LvalueItem
+    [TYPE, FUNCTION_REST, NONE, NONE, NONE], // 125 RvalueItem
+    [ITEM, ITEMS, NONE, NONE, NONE], // 126 Items
+    [ARGUMENTS_FIRST, Sym::Byte(b'E'), NONE, NONE, NONE], // 127 Arguments
+    [PACK_LIST, Sym::Byte(b'E'), ARGUMENT_LIST, NONE, NONE], // 128 PackArgument
+    [LITERAL, Sym::Byte(b'E'), ARGUMENT_LIST, NONE, NONE], // 129 LiteralArgument
+    [ARGUMENT, ARGUMENT_LIST, NONE, NONE, NONE], // 130 AnyArgument
+    [LITERAL, Sym::Byte(b'E'), PACK_LIST, NONE, NONE], // 131 LiteralElement
+    [ARGUMENT, PACK_LIST, NONE, NONE, NONE], // 132 AnyElement
+    [Sym::Byte(b'Z'), ENCODING, NONE, NONE, NONE], // 133 EncodingLiteral
+    [BIT, NONE, NONE, NONE, NONE], // 134 BoolLiteral
+    [LITERAL_AFTER_D, NONE, NONE, NONE, NONE], // 135 LiteralWithD
+    [LITERAL_TYPE, INTEGER, NONE, NONE, NONE], // 136 IntegerLiteral
+    [MAYBE_ZERO, NONE, NONE, NONE, NONE], // 137 NullLiteral
+    [INTEGER, NONE, NONE, NONE, NONE], // 138 CharLiteral
+    [HEX_DIGITS, NONE, NONE, NONE, NONE], // 139 HexText
+    [HEX_MORE, NONE, NONE, NONE, NONE], // 140 HexDigit
+    [LITERAL_SOLID, NONE, NONE, NONE, NONE], // 141 QualifiedLiteral
+    [OPERATOR_AFTER_N, NONE, NONE, NONE, NONE], // 142 OperatorN
+    [OPERATOR_AFTER_D, NONE, NONE, NONE, NONE], // 143 OperatorD
+    [OPERATOR_AFTER_A, NONE, NONE, NONE, NONE], // 144 OperatorA
+    [OPERATOR_AFTER_P, NONE, NONE, NONE, NONE], // 145 OperatorP
+    [OPERATOR_AFTER_C, NONE, NONE, NONE, NONE], // 146 OperatorC
+    [OPERATOR_AFTER_M, NONE, NONE, NONE, NONE], // 147 OperatorM
+    [OPERATOR_AFTER_R, NONE, NONE, NONE, NONE], // 148 OperatorR
+    [OPERATOR_AFTER_O, NONE, NONE, NONE, NONE], // 149 OperatorO
+    [OPERATOR_AFTER_E, NONE, NONE, NONE, NONE], // 150 OperatorE
+    [OPERATOR_AFTER_L, NONE, NONE, NONE, NONE], // 151 OperatorL
+    [OPERATOR_AFTER_S, NONE, NONE, NONE, NONE], // 152 OperatorS
+    [OPERATOR_AFTER_I, NONE, NONE, NONE, NONE], // 153 OperatorI
+    [OPERATOR_AFTER_G, NONE, NONE, NONE, NONE], // 154 OperatorG
+    [NAME, NONE, NONE, NONE, NONE], // 155 LiteralOperator
+    [ARGUMENTS_FIRST, Sym::Byte(b'E'), NEST_MORE_OR_END, NONE, NONE], // 156 NestInstance
+    [FIELD_NAME, MORE_MODULE, NONE, NONE, NONE], // 157 FirstModule
+    [SEQ36, MORE_MODULE, NONE, NONE, NONE], // 158 NamedModule
+    [MAYBE_PARTITION, FIELD_NAME, MORE_MODULE, NONE, NONE], // 159 MoreModule
+    [NAME, NONE, NONE, NONE, NONE], // 160 FieldName
+    [BOUND_NAME, MORE_NAMES, NONE, NONE, NONE], // 161 BoundNames
+    [OPERATOR_AFTER_C, MAYBE_ARGUMENTS, NONE, NONE, NONE], // 162 OperatorNameWithC
+    [ARGUMENTS_FIRST, Sym::Byte(b'E'), NONE, NONE, NONE], // 163 HeldArguments
+    [NEST, HELD_ARGUMENTS, NONE, NONE, NONE], // 164 NestedBase
+    [UNNESTED_NAME, BASE_ARGUMENTS, NONE, NONE, NONE], // 165 UnnestedBase
+    [TYPE_AFTER_S, NONE, NONE, NONE, NONE], // 166 UnnestedWithS
+    [NAME, MAYBE_TAGS, NONE, NONE, NONE], // 167 TaggedSource
+    [ARGUMENTS_FIRST, Sym::Byte(b'E'), HELD_ARGUMENTS, NONE, NONE], // 168 BaseArguments
+    [ENCODING, Sym::Byte(b'E'), ENTITY, NONE, NONE], // 169 LocalTemporary
+    [SOURCE_OR_LOCAL, MAYBE_TAGS, NONE, NONE, NONE], // 170 TaggedStdType
+    [EXPRESSION, Sym::Byte(b'E'), NONE, NONE, NONE], // 171 Expression
+    [ARGUMENT_AFTER_T, NONE, NONE, NONE, NONE], // 172 ArgumentWithT
+    [SOLID_BUT_T, NONE, NONE, NONE, NONE], // 173 PlainArgument
+    [DECIMAL, ARGUMENTS_ALONE, NONE, NONE, NONE], // 174 ParameterArgument
+    [DECIMAL, LEVELED_PARAMETER, NONE, NONE, NONE], // 175 LeveledParameter
+    [LITERAL, Sym::Byte(b'E'), NONE, NONE, NONE], // 176 OneLiteral
+    [PACK_LIST, Sym::Byte(b'E'), NONE, NONE, NONE], // 177 OnePack
+    [TYPE, NONE, NONE, NONE, NONE], // 178 ValueOf
+    [CONCEPT, NONE, NONE, NONE, NONE], // 179 OfConcept
+    [DECLARATIONS, Sym::Byte(b'E'), NONE, NONE, NONE], // 180 TemplateOf
+    [Sym::Byte(b'T'), DECLARATION_AFTER_T, NONE, NONE, NONE], // 181 PackOf
+    [DECLARATION_AFTER_T, DECLARATIONS, NONE, NONE, NONE], // 182 Declarations
+    [UNNESTED_NAME, HELD_ARGUMENTS, NONE, NONE, NONE], // 183 NamedConcept
+    [TYPE, EXPRESSION, NONE, NONE, NONE], // 184 Cast
+    [OPERATOR, ARGUMENTS_ALONE, NONE, NONE, NONE], // 185 OperatorReference
+    [NAME, ARGUMENTS_ALONE, NONE, NONE, NONE], // 186 SimpleId
+    [MAYBE_RESTRICT, MAYBE_VOLATILE, MAYBE_CONST, PARAMETER_NUMBER, NONE], // 187 FunctionParameter
+    [ADDRESSED_EXPRESSION, NONE, NONE, NONE, NONE], // 188 AddressExpression
+    [EXPRESSION, EXPRESSION, NONE, NONE, NONE], // 189 Binary
+    [EXPRESSION, NONE, NONE, NONE, NONE], // 190 Unary
+    [CONVERTED_TYPE, NONE, NONE, NONE, NONE], // 191 OfType
+    [EXPRESSION, EXPRESSIONS, Sym::Byte(b'E'), NONE, NONE], // 192 Call
+    [CONVERTED_TYPE, CONVERT_REST, NONE, NONE, NONE], // 193 Convert
+    [FIELD_NAME, DESIGNATED_VALUE, NONE, NONE, NONE], // 194 Designated
+    [EXPRESSION, DESIGNATED_VALUE, NONE, NONE, NONE], // 195 DesignatedElement
+    [DESTRUCTOR_NAME, NONE, NONE, NONE, NONE], // 196 DestructorName
+    [DIGITS, OUTER_REST, NONE, NONE, NONE], // 197 OuterParameter
+    [FOLD_OPERATOR, FOLD_OPERAND, NONE, NONE, NONE], // 198 LeftFold
+    [FOLD_OPERATOR, FOLD_OPERAND, NONE, NONE, NONE], // 199 RightFold
+    [EXPRESSIONS, Sym::Byte(b'E'), NONE, NONE, NONE], // 200 Braces
+    [MAYBE_BEFORE, EXPRESSION, NONE, NONE, NONE], // 201 Step
+    [PLACEMENT, TYPE, INITIALIZER, NONE, NONE], // 202 New
+    [EXPRESSION, EXPRESSION, EXPRESSION, NONE, NONE], // 203 Conditional
+    [REQUIREMENTS, Sym::Byte(b'E'), NONE, NONE, NONE], // 204 Requires
+    [REQUIRED_TYPES, NONE, NONE, NONE, NONE], // 205 RequiresOf
+    [EXPRESSION, NONE, NONE, NONE, NONE], // 206 ExpandExpression
+    [EXPRESSION, NONE, NONE, NONE, NONE], // 207 PackSize
+    [UNRESOLVED, NONE, NONE, NONE, NONE], // 208 Unresolved
+    [VALUE_PACK, EXPRESSION, NONE, NONE, NONE], // 209 PackIndex
+    [TYPE, EXPRESSIONS, Sym::Byte(b'E'), NONE, NONE], // 210 TypedBraces
+    [NONE, NONE, NONE, NONE, NONE], // 211 Rethrow
+    [EXPRESSION_AFTER_A, NONE, NONE, NONE, NONE], // 212 ExpressionA
+    [EXPRESSION_AFTER_C, NONE, NONE, NONE, NONE], // 213 ExpressionC
+    [EXPRESSION_AFTER_D, NONE, NONE, NONE, NONE], // 214 ExpressionD
+    [EXPRESSION_AFTER_E, NONE, NONE, NONE, NONE], // 215 ExpressionE
+    [EXPRESSION_AFTER_F, NONE, NONE, NONE, NONE], // 216 ExpressionF
+    [EXPRESSION_AFTER_G, NONE, NONE, NONE, NONE], // 217 ExpressionG
+    [EXPRESSION_AFTER_I, NONE, NONE, NONE, NONE], // 218 ExpressionI
+    [EXPRESSION_AFTER_L, NONE, NONE, NONE, NONE], // 219 ExpressionL
+    [EXPRESSION_AFTER_M, NONE, NONE, NONE, NONE], // 220 ExpressionM
+    [EXPRESSION_AFTER_N, NONE, NONE, NONE, NONE], // 221 ExpressionN
+    [EXPRESSION_AFTER_O, NONE, NONE, NONE, NONE], // 222 ExpressionO
+    [EXPRESSION_AFTER_P, NONE, NONE, NONE, NONE], // 223 ExpressionP
+    [EXPRESSION_AFTER_Q, NONE, NONE, NONE, NONE], // 224 ExpressionQ
+    [EXPRESSION_AFTER_R, NONE, NONE, NONE, NONE], // 225 ExpressionR
+    [EXPRESSION_AFTER_S, NONE, NONE, NONE, NONE], // 226 ExpressionS
+    [EXPRESSION_AFTER_T, NONE, NONE, NONE, NONE], // 227 ExpressionT
+    [EXPRESSION_PARAMETER, NONE, NONE, NONE, NONE], // 228 ExpressionWithT
+    [DECIMAL, ARGUMENTS_ALONE, NONE, NONE, NONE], // 229 ParameterExpression
+    [BOUND, Sym::Byte(b'_'), TYPE, NONE, NONE], // 230 BoundedArray
+    [DECLARATION_AFTER_T, ONE_ARGUMENT, NONE, NONE, NONE], // 231 DeclaredArgument
+    [NAME, MAYBE_TAGS, NONE, NONE, NONE], // 232 TypeTag
+    [CLONE_LETTER, ENCODING, NONE, NONE, NONE], // 233 Clone
+    [Sym::Byte(b'W'), FIRST_MODULE, NONE, NONE, NONE], // 234 ModuleInitializer
+    [TEMPORARY_NAME, Sym::Byte(b'_'), NONE, NONE, NONE], // 235 Temporary
+    [TYPE, NONE, NONE, NONE, NONE], // 236 Conversion
+    [LITERAL_PLAIN, NONE, NONE, NONE, NONE], // 237 ConstLiteral
+    [MAYBE_CONST, LITERAL_PLAIN, NONE, NONE, NONE], // 238 VolatileLiteral
+    [SIZED_FLOAT_TYPE, HEX_TEXT, NONE, NONE, NONE], // 239 SizedFloatLiteral
+    [FLOAT_TYPE, HEX_TEXT, NONE, NONE, NONE], // 240 FloatLiteral
+    [NAME, MAYBE_ARGUMENTS, NONE, NONE, NONE], // 241 Tag
+    [EXPRESSION, NONE, NONE, NONE, NONE], // 242 Constraint
+    [TYPE_PACK, EXPRESSION, NONE, NONE, NONE], // 243 IndexedType
+    [BIT_WIDTH, Sym::Byte(b'_'), NONE, NONE, NONE], // 244 BitInt
+    [CONCEPT, NONE, NONE, NONE, NONE], // 245 ConstrainedAuto
+    [TYPE, NAME, NONE, NONE, NONE], // 246 Enumeration
+    [DECIMAL, PLAIN_TYPE_ENTITY, NONE, NONE, NONE], // 247 DefaultTypeEntity
+    [DECIMAL, PLAIN_ENTITY, NONE, NONE, NONE], // 248 DefaultEntity
+    [INHERITED_DIGIT, BASE_CLASS, NONE, NONE, NONE], // 249 Inheriting
+    [UNQUALIFIED, MAYBE_ARGUMENTS, NONE, NONE, NONE], // 250 Friend
+    [HOLDER_MARK, HELD_COMPONENT, NONE, NONE, NONE], // 251 Holder
+    [NAME, NEST_REST, NONE, NONE, NONE], // 252 NestTag
+    [DECLTYPE_AFTER_D, NEST_REST_ALONE, NONE, NONE, NONE], // 253 NestDecltype
+    [NAME_IN_MODULE, NEST_ON, NONE, NONE, NONE], // 254 NestModule
+    [TYPE, DIGITS, Sym::Byte(b'_'), TYPE, NONE], // 255 ConstructionVtable
 };
 
 // How many symbols follow each of them, up to an end.
-static AFTER: [u8; 1488] = [
-    0, 0, 0, 0, 0, 0, 0, 0, 0, 0, 0, 2, 1, 0, 0, 0, 0, 2, 1, 0, 0, 0, 0, 2, 1, 0, 0, 0, 0, 2, 1, 0,
-    0, 0, 0, 1, 0, 0, 0, 0, 0, 1, 0, 0, 0, 0, 0, 1, 0, 0, 0, 0, 0, 5, 4, 3, 2, 1, 0, 3, 2, 1, 0, 0,
-    0, 1, 0, 0, 0, 0, 0, 1, 0, 0, 0, 0, 0, 1, 0, 0, 0, 0, 0, 2, 1, 0, 0, 0, 0, 2, 1, 0, 0, 0, 0, 1,
-    0, 0, 0, 0, 0, 3, 2, 1, 0, 0, 0, 5, 4, 3, 2, 1, 0, 3, 2, 1, 0, 0, 0, 1, 0, 0, 0, 0, 0, 1, 0, 0,
-    0, 0, 0, 4, 3, 2, 1, 0, 0, 2, 1, 0, 0, 0, 0, 4, 3, 2, 1, 0, 0, 1, 0, 0, 0, 0, 0, 1, 0, 0, 0, 0,
-    0, 1, 0, 0, 0, 0, 0, 4, 3, 2, 1, 0, 0, 2, 1, 0, 0, 0, 0, 2, 1, 0, 0, 0, 0, 1, 0, 0, 0, 0, 0, 1,
-    0, 0, 0, 0, 0, 2, 1, 0, 0, 0, 0, 2, 1, 0, 0, 0, 0, 2, 1, 0, 0, 0, 0, 2, 1, 0, 0, 0, 0, 2, 1, 0,
-    0, 0, 0, 3, 2, 1, 0, 0, 0, 2, 1, 0, 0, 0, 0, 4, 3, 2, 1, 0, 0, 2, 1, 0, 0, 0, 0, 2, 1, 0, 0, 0,
+static AFTER: [u8; 1542] = [
+    0, 0, 0, 0, 0, 2, 1, 0, 0, 0, 0, 2, 1, 0, 0, 0, 0, 2, 1, 0, 0, 0, 0, 1, 0, 0, 0, 0, 0, 1, 0, 0,
+    0, 0, 0, 1, 0, 0, 0, 0, 0, 1, 0, 0, 0, 0, 0, 1, 0, 0, 0, 0, 0, 1, 0, 0, 0, 0, 0, 2, 1, 0, 0, 0,
+    0, 1, 0, 0, 0, 0, 0, 1, 0, 0, 0, 0, 0, 0, 0, 0, 0, 0, 0, 1, 0, 0, 0, 0, 0, 1, 0, 0, 0, 0, 0, 1,
+    0, 0, 0, 0, 0, 1, 0, 0, 0, 0, 0, 1, 0, 0, 0, 0, 0, 1, 0, 0, 0, 0, 0, 1, 0, 0, 0, 0, 0, 2, 1, 0,
+    0, 0, 0, 2, 1, 0, 0, 0, 0, 1, 0, 0, 0, 0, 0, 3, 2, 1, 0, 0, 0, 2, 1, 0, 0, 0, 0, 2, 1, 0, 0, 0,
+    0, 2, 1, 0, 0, 0, 0, 2, 1, 0, 0, 0, 0, 1, 0, 0, 0, 0, 0, 1, 0, 0, 0, 0, 0, 1, 0, 0, 0, 0, 0, 2,
+    1, 0, 0, 0, 0, 1, 0, 0, 0, 0, 0, 0, 0, 0, 0, 0, 0, 2, 1, 0, 0, 0, 0, 2, 1, 0, 0, 0, 0, 2, 1, 0,
+    0, 0, 0, 2, 1, 0, 0, 0, 0, 2, 1, 0, 0, 0, 0, 1, 0, 0, 0, 0, 0, 1, 0, 0, 0, 0, 0, 1, 0, 0, 0, 0,
+    0, 2, 1, 0, 0, 0, 0, 2, 1, 0, 0, 0, 0, 5, 4, 3, 2, 1, 0, 3, 2, 1, 0, 0, 0, 1, 0, 0, 0, 0, 0, 1,
+    0, 0, 0, 0, 0, 1, 0, 0, 0, 0, 0, 2, 1, 0, 0, 0, 0, 2, 1, 0, 0, 0, 0, 1, 0, 0, 0, 0, 0, 3, 2, 1,
+    0, 0, 0, 5, 4, 3, 2, 1, 0, 3, 2, 1, 0, 0, 0, 1, 0, 0, 0, 0, 0, 2, 1, 0, 0, 0, 0, 4, 3, 2, 1, 0,
+    0, 1, 0, 0, 0, 0, 0, 1, 0, 0, 0, 0, 0, 1, 0, 0, 0, 0, 0, 4, 3, 2, 1, 0, 0, 2, 1, 0, 0, 0, 0, 2,
+    1, 0, 0, 0, 0, 1, 0, 0, 0, 0, 0, 1, 0, 0, 0, 0, 0, 2, 1, 0, 0, 0, 0, 2, 1, 0, 0, 0, 0, 2, 1, 0,
+    0, 0, 0, 2, 1, 0, 0, 0, 0, 3, 2, 1, 0, 0, 0, 2, 1, 0, 0, 0, 0, 4, 3, 2, 1, 0, 0, 2, 1, 0, 0, 0,
     0, 0, 0, 0, 0, 0, 0, 1, 0, 0, 0, 0, 0, 2, 1, 0, 0, 0, 0, 1, 0, 0, 0, 0, 0, 2, 1, 0, 0, 0, 0, 2,
-    1, 0, 0, 0, 0, 2, 1, 0, 0, 0, 0, 2, 1, 0, 0, 0, 0, 2, 1, 0, 0, 0, 0, 0, 0, 0, 0, 0, 0, 1, 0, 0,
-    0, 0, 0, 1, 0, 0, 0, 0, 0, 0, 0, 0, 0, 0, 0, 2, 1, 0, 0, 0, 0, 2, 1, 0, 0, 0, 0, 1, 0, 0, 0, 0,
-    0, 0, 0, 0, 0, 0, 0, 2, 1, 0, 0, 0, 0, 4, 3, 2, 1, 0, 0, 1, 0, 0, 0, 0, 0, 3, 2, 1, 0, 0, 0, 2,
-    1, 0, 0, 0, 0, 1, 0, 0, 0, 0, 0, 1, 0, 0, 0, 0, 0, 1, 0, 0, 0, 0, 0, 1, 0, 0, 0, 0, 0, 1, 0, 0,
-    0, 0, 0, 1, 0, 0, 0, 0, 0, 1, 0, 0, 0, 0, 0, 1, 0, 0, 0, 0, 0, 1, 0, 0, 0, 0, 0, 0, 0, 0, 0, 0,
-    0, 3, 2, 1, 0, 0, 0, 4, 3, 2, 1, 0, 0, 2, 1, 0, 0, 0, 0, 1, 0, 0, 0, 0, 0, 2, 1, 0, 0, 0, 0, 2,
-    1, 0, 0, 0, 0, 2, 1, 0, 0, 0, 0, 1, 0, 0, 0, 0, 0, 2, 1, 0, 0, 0, 0, 2, 1, 0, 0, 0, 0, 2, 1, 0,
-    0, 0, 0, 4, 3, 2, 1, 0, 0, 0, 0, 0, 0, 0, 0, 1, 0, 0, 0, 0, 0, 1, 0, 0, 0, 0, 0, 3, 2, 1, 0, 0,
-    0, 1, 0, 0, 0, 0, 0, 1, 0, 0, 0, 0, 0, 1, 0, 0, 0, 0, 0, 1, 0, 0, 0, 0, 0, 0, 0, 0, 0, 0, 0, 1,
-    0, 0, 0, 0, 0, 1, 0, 0, 0, 0, 0, 2, 1, 0, 0, 0, 0, 0, 0, 0, 0, 0, 0, 2, 1, 0, 0, 0, 0, 2, 1, 0,
-    0, 0, 0, 1, 0, 0, 0, 0, 0, 2, 1, 0, 0, 0, 0, 2, 1, 0, 0, 0, 0, 2, 1, 0, 0, 0, 0, 3, 2, 1, 0, 0,
-    0, 3, 2, 1, 0, 0, 0, 2, 1, 0, 0, 0, 0, 3, 2, 1, 0, 0, 0, 2, 1, 0, 0, 0, 0, 2, 1, 0, 0, 0, 0, 1,
-    0, 0, 0, 0, 0, 1, 0, 0, 0, 0, 0, 2, 1, 0, 0, 0, 0, 2, 1, 0, 0, 0, 0, 1, 0, 0, 0, 0, 0, 1, 0, 0,
+    1, 0, 0, 0, 0, 2, 1, 0, 0, 0, 0, 0, 0, 0, 0, 0, 0, 1, 0, 0, 0, 0, 0, 1, 0, 0, 0, 0, 0, 0, 0, 0,
+    0, 0, 0, 1, 0, 0, 0, 0, 0, 0, 0, 0, 0, 0, 0, 2, 1, 0, 0, 0, 0, 4, 3, 2, 1, 0, 0, 1, 0, 0, 0, 0,
+    0, 3, 2, 1, 0, 0, 0, 2, 1, 0, 0, 0, 0, 1, 0, 0, 0, 0, 0, 1, 0, 0, 0, 0, 0, 1, 0, 0, 0, 0, 0, 1,
+    0, 0, 0, 0, 0, 1, 0, 0, 0, 0, 0, 1, 0, 0, 0, 0, 0, 1, 0, 0, 0, 0, 0, 1, 0, 0, 0, 0, 0, 1, 0, 0,
+    0, 0, 0, 0, 0, 0, 0, 0, 0, 3, 2, 1, 0, 0, 0, 4, 3, 2, 1, 0, 0, 2, 1, 0, 0, 0, 0, 2, 1, 0, 0, 0,
+    0, 1, 0, 0, 0, 0, 0, 2, 1, 0, 0, 0, 0, 2, 1, 0, 0, 0, 0, 2, 1, 0, 0, 0, 0, 4, 3, 2, 1, 0, 0, 0,
+    0, 0, 0, 0, 0, 1, 0, 0, 0, 0, 0, 1, 0, 0, 0, 0, 0, 3, 2, 1, 0, 0, 0, 1, 0, 0, 0, 0, 0, 1, 0, 0,
+    0, 0, 0, 1, 0, 0, 0, 0, 0, 1, 0, 0, 0, 0, 0, 0, 0, 0, 0, 0, 0, 1, 0, 0, 0, 0, 0, 1, 0, 0, 0, 0,
+    0, 2, 1, 0, 0, 0, 0, 0, 0, 0, 0, 0, 0, 2, 1, 0, 0, 0, 0, 2, 1, 0, 0, 0, 0, 2, 1, 0, 0, 0, 0, 2,
+    1, 0, 0, 0, 0, 3, 2, 1, 0, 0, 0, 3, 2, 1, 0, 0, 0, 2, 1, 0, 0, 0, 0, 3, 2, 1, 0, 0, 0, 2, 1, 0,
     0, 0, 0, 2, 1, 0, 0, 0, 0, 1, 0, 0, 0, 0, 0, 1, 0, 0, 0, 0, 0, 2, 1, 0, 0, 0, 0, 1, 0, 0, 0, 0,
     0, 1, 0, 0, 0, 0, 0, 1, 0, 0, 0, 0, 0, 1, 0, 0, 0, 0, 0, 1, 0, 0, 0, 0, 0, 1, 0, 0, 0, 0, 0, 1,
     0, 0, 0, 0, 0, 1, 0, 0, 0, 0, 0, 1, 0, 0, 0, 0, 0, 1, 0, 0, 0, 0, 0, 1, 0, 0, 0, 0, 0, 1, 0, 0,
-    0, 0, 0, 1, 0, 0, 0, 0, 0, 1, 0, 0, 0, 0, 0, 1, 0, 0, 0, 0, 0, 1, 0, 0, 0, 0, 0, 3, 2, 1, 0, 0,
-    0, 1, 0, 0, 0, 0, 0, 2, 1, 0, 0, 0, 0, 2, 1, 0, 0, 0, 0, 2, 1, 0, 0, 0, 0, 2, 1, 0, 0, 0, 0, 1,
-    0, 0, 0, 0, 0, 2, 1, 0, 0, 0, 0, 3, 2, 1, 0, 0, 0, 2, 1, 0, 0, 0, 0, 2, 1, 0, 0, 0, 0, 3, 2, 1,
-    0, 0, 0, 2, 1, 0, 0, 0, 0, 2, 1, 0, 0, 0, 0, 2, 1, 0, 0, 0, 0, 1, 0, 0, 0, 0, 0, 1, 0, 0, 0, 0,
-    0, 2, 1, 0, 0, 0, 0, 2, 1, 0, 0, 0, 0, 2, 1, 0, 0, 0, 0, 2, 1, 0, 0, 0, 0, 2, 1, 0, 0, 0, 0, 0,
-    0, 0, 0, 0, 0, 1, 0, 0, 0, 0, 0, 1, 0, 0, 0, 0, 0, 2, 1, 0, 0, 0, 0, 2, 1, 0, 0, 0, 0, 2, 1, 0,
-    0, 0, 0, 2, 1, 0, 0, 0, 0, 2, 1, 0, 0, 0, 0, 2, 1, 0, 0, 0, 0, 2, 1, 0, 0, 0, 0, 4, 3, 2, 1, 0,
-    0, 1, 0, 0, 0, 0, 0, 2, 1, 0, 0, 0, 0, 1, 0, 0, 0, 0, 0, 1, 0, 0, 0, 0, 0, 3, 2, 1, 0, 0, 0, 2,
-    1, 0, 0, 0, 0, 2, 1, 0, 0, 0, 0, 2, 1, 0, 0, 0, 0, 1, 0, 0, 0, 0, 0, 2, 1, 0, 0, 0, 0, 2, 1, 0,
-    0, 0, 0, 2, 1, 0, 0, 0, 0, 2, 1, 0, 0, 0, 0, 2, 1, 0, 0, 0, 0, 3, 2, 1, 0, 0, 0, 3, 2, 1, 0, 0,
-    0, 2, 1, 0, 0, 0, 0, 1, 0, 0, 0, 0, 0, 1, 0, 0, 0, 0, 0, 1, 0, 0, 0, 0, 0, 1, 0, 0, 0, 0, 0, 2,
-    1, 0, 0, 0, 0, 3, 2, 1, 0, 0, 0, 0, 0, 0, 0, 0, 0, 1, 0, 0, 0, 0, 0, 1, 0, 0, 0, 0, 0, 1, 0, 0,
+    0, 0, 0, 1, 0, 0, 0, 0, 0, 1, 0, 0, 0, 0, 0, 1, 0, 0, 0, 0, 0, 1, 0, 0, 0, 0, 0, 1, 0, 0, 0, 0,
+    0, 1, 0, 0, 0, 0, 0, 1, 0, 0, 0, 0, 0, 3, 2, 1, 0, 0, 0, 2, 1, 0, 0, 0, 0, 2, 1, 0, 0, 0, 0, 3,
+    2, 1, 0, 0, 0, 1, 0, 0, 0, 0, 0, 2, 1, 0, 0, 0, 0, 2, 1, 0, 0, 0, 0, 2, 1, 0, 0, 0, 0, 2, 1, 0,
+    0, 0, 0, 2, 1, 0, 0, 0, 0, 1, 0, 0, 0, 0, 0, 2, 1, 0, 0, 0, 0, 3, 2, 1, 0, 0, 0, 3, 2, 1, 0, 0,
+    0, 2, 1, 0, 0, 0, 0, 2, 1, 0, 0, 0, 0, 1, 0, 0, 0, 0, 0, 1, 0, 0, 0, 0, 0, 2, 1, 0, 0, 0, 0, 2,
+    1, 0, 0, 0, 0, 2, 1, 0, 0, 0, 0, 2, 1, 0, 0, 0, 0, 1, 0, 0, 0, 0, 0, 1, 0, 0, 0, 0, 0, 2, 1, 0,
+    0, 0, 0, 2, 1, 0, 0, 0, 0, 2, 1, 0, 0, 0, 0, 2, 1, 0, 0, 0, 0, 2, 1, 0, 0, 0, 0, 2, 1, 0, 0, 0,
+    0, 2, 1, 0, 0, 0, 0, 4, 3, 2, 1, 0, 0, 1, 0, 0, 0, 0, 0, 2, 1, 0, 0, 0, 0, 1, 0, 0, 0, 0, 0, 1,
+    0, 0, 0, 0, 0, 3, 2, 1, 0, 0, 0, 2, 1, 0, 0, 0, 0, 2, 1, 0, 0, 0, 0, 2, 1, 0, 0, 0, 0, 1, 0, 0,
+    0, 0, 0, 2, 1, 0, 0, 0, 0, 2, 1, 0, 0, 0, 0, 2, 1, 0, 0, 0, 0, 2, 1, 0, 0, 0, 0, 2, 1, 0, 0, 0,
+    0, 3, 2, 1, 0, 0, 0, 3, 2, 1, 0, 0, 0, 2, 1, 0, 0, 0, 0, 1, 0, 0, 0, 0, 0, 1, 0, 0, 0, 0, 0, 1,
+    0, 0, 0, 0, 0, 1, 0, 0, 0, 0, 0, 2, 1, 0, 0, 0, 0, 3, 2, 1, 0, 0, 0, 0, 0, 0, 0, 0, 0, 1, 0, 0,
     0, 0, 0, 1, 0, 0, 0, 0, 0, 1, 0, 0, 0, 0, 0, 1, 0, 0, 0, 0, 0, 1, 0, 0, 0, 0, 0, 1, 0, 0, 0, 0,
     0, 1, 0, 0, 0, 0, 0, 1, 0, 0, 0, 0, 0, 1, 0, 0, 0, 0, 0, 1, 0, 0, 0, 0, 0, 1, 0, 0, 0, 0, 0, 1,
-    0, 0, 0, 0, 0, 1, 0, 0, 0, 0, 0, 1, 0, 0, 0, 0, 0, 1, 0, 0, 0, 0, 0, 2, 1, 0, 0, 0, 0, 2, 1, 0,
-    0, 0, 0, 2, 1, 0, 0, 0, 0, 2, 1, 0, 0, 0, 0, 1, 0, 0, 0, 0, 0, 1, 0, 0, 0, 0, 0, 1, 0, 0, 0, 0,
-    0, 1, 0, 0, 0, 0, 0, 1, 0, 0, 0, 0, 0, 1, 0, 0, 0, 0, 0, 1, 0, 0, 0, 0, 0, 2, 1, 0, 0, 0, 0, 1,
-    0, 0, 0, 0, 0, 1, 0, 0, 0, 0, 0, 0, 0, 0, 0, 0, 0, 1, 0, 0, 0, 0, 0, 1, 0, 0, 0, 0, 0, 1, 0, 0,
-    0, 0, 0, 1, 0, 0, 0, 0, 0, 1, 0, 0, 0, 0, 0, 1, 0, 0, 0, 0, 0, 1, 0, 0, 0, 0, 0, 2, 1, 0, 0, 0,
-    0, 2, 1, 0, 0, 0, 0, 1, 0, 0, 0, 0, 0, 2, 1, 0, 0, 0, 0, 2, 1, 0, 0, 0, 0, 2, 1, 0, 0, 0, 0, 2,
-    1, 0, 0, 0, 0, 1, 0, 0, 0, 0, 0, 2, 1, 0, 0, 0, 0, 1, 0, 0, 0, 0, 0, 1, 0, 0, 0, 0, 0, 1, 0, 0,
-    0, 0, 0, 3, 2, 1, 0, 0, 0, 2, 1, 0, 0, 0, 0, 0,
+    0, 0, 0, 0, 0, 1, 0, 0, 0, 0, 0, 1, 0, 0, 0, 0, 0, 1, 0, 0, 0, 0, 0, 1, 0, 0, 0, 0, 0, 1, 0, 0,
+    0, 0, 0, 2, 1, 0, 0, 0, 0, 3, 2, 1, 0, 0, 0, 2, 1, 0, 0, 0, 0, 2, 1, 0, 0, 0, 0, 2, 1, 0, 0, 0,
+    0, 2, 1, 0, 0, 0, 0, 2, 1, 0, 0, 0, 0, 1, 0, 0, 0, 0, 0, 1, 0, 0, 0, 0, 0, 2, 1, 0, 0, 0, 0, 2,
+    1, 0, 0, 0, 0, 2, 1, 0, 0, 0, 0, 2, 1, 0, 0, 0, 0, 1, 0, 0, 0, 0, 0, 2, 1, 0, 0, 0, 0, 2, 1, 0,
+    0, 0, 0, 1, 0, 0, 0, 0, 0, 2, 1, 0, 0, 0, 0, 2, 1, 0, 0, 0, 0, 2, 1, 0, 0, 0, 0, 2, 1, 0, 0, 0,
+    0, 2, 1, 0, 0, 0, 0, 2, 1, 0, 0, 0, 0, 2, 1, 0, 0, 0, 0, 2, 1, 0, 0, 0, 0, 2, 1, 0, 0, 0, 0, 4,
+    3, 2, 1, 0, 0, 0,
 ];
 
 /// The number of the rule that a kind takes at a byte, if it takes one.
 #[inline]
 fn number(kind: u16, byte: u8) -> Option<usize>
     requires { kind < abi.kinds }
-    ensures few { IfSome result (λ number. number < 247) }
+    ensures few { IfSome result (λ number. number < 256) }
     ensures rule { (head : Head) → MatchOption result (abi.rule kind byte ≡ None) (λ number. abi.rule kind byte ≡ Some (listed_rule head number)) }
 {
-    match letter_in(&LETTERS[kind as usize], byte) {
-        Some(letter) => Some(letter.wrapping_sub(FIRST_LETTER) as usize),
+    let row = &LETTERS[kind as usize];
+    match letter_in(row, byte) {
+        Some(letter) => Some(letter as usize),
         None => None,
     }
 }

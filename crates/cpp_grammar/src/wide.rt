@@ -12,9 +12,10 @@ use sym_shape::{Grammar, Rule, Sym};
 ///
 /// - Names: constructors and destructors with the digits 4 and 5, inherited constructors, conversions to types, friends, ABI
 ///   tags, functions with an explicit object, nested names that are a substitution and its arguments, what is in the
-///   initializer of a data member, in a default argument or in the type of an expression.
-/// - Special names: construction vtables, template parameter objects, the routines of thread-local variables, transaction
-///   clones.
+///   initializer of a data member, in a default argument or in the type of an expression, names that are attached to modules,
+///   enumerations without a name, structured bindings.
+/// - Special names: construction vtables, template parameter objects, initializers of modules, the routines of thread-local
+///   variables, transaction clones.
 /// - Types: decimal, half and sized floats, integers of any width, elements of a pack, `auto` of which a concept is asked,
 ///   types of expressions, arrays whose length is an expression.
 /// - Arguments: first ones that are packs and begin with an I, what is declared of them and asked of them, parameters of a

@@ -4,187 +4,213 @@ ghost use Rattle.sym_shape.specs.Table.{symbols_of};
 ghost use Rattle.cpp_grammar.specs.Table.{wide, abi_listed, listed_rule};
 ghost use Rattle.cpp_grammar.specs.declared.table.Head.{Head};
 
-use crate::table::{FIRST_LETTER, HEADS, SYMBOLS};
+use crate::table::{HEADS, SYMBOLS};
 use sym_shape::{Rule, letter_in, place_of, symbols_from};
 
+/// The letters of a kind. They count from its base: the number of a production is that and its letter.
+struct Row {
+    base: u8,
+    letters: [u8; 87],
+}
+
+// Rows with these bases and letters.
+macro_rules! rows {
+    ($([$base:expr, $letters:expr],)*) => {
+        [$(Row { base: $base, letters: *$letters },)*]
+    };
+}
+
 // For each kind a row: for each byte from `$` to `z` the letter of the production that the kind takes there.
-static WIDE_LETTERS: [[u8; 87]; 164] = [
+static WIDE_ROWS: [Row; 176] = rows! {
     // $%&'()*+,-./0123456789:;<=>?@ABCDEFGHIJKLMNOPQRSTUVWXYZ[\]^_`abcdefghijklmnopqrstuvwxyz
-    *b"                                                           *                           ", // Symbol
-    *b"          +                                                                            ", // MaybeSuffix
-    *b",         , ,,,,,,,,,,       ,,,,,,,,,,,,,,,,,,,,,,,,,,    , ,,,,,,,,,,,,,,,,,,,,,,,,,,", // SuffixFirst
-    *b",         , ,,,,,,,,,,       ,,,,,,,,,,,,,,,,,,,,,,,,,,    , ,,,,,,,,,,,,,,,,,,,,,,,,,,", // SuffixMore
-    *b"            //////////             .    / /    /-/    /      / /// / /  ///// //       ", // Encoding
-    *b"                             5 6    40         00 04           3    1             2    ", // Special
-    *b"                                                                    7             8    ", // CallOffset
-    *b"            ::::::::::                                                    9            ", // Integer
-    *b"            $$$$$$$$$$                  \" )    ; #    <      % %%% % %  %%%%% %%       ", // CompleteName
-    *b"                                                                              !        ", // MaybeRestrict
-    *b"                                                  !                                    ", // MaybeVolatile
-    *b"                                       !                                               ", // MaybeConst
-    *b"                                    !      !  !                                        ", // MaybeRef
-    *b"            >>>>>>>>>>       >>>>>>>>>>>>>>>>>>>>>>>>>>    > >> >    >     >   >=      ", // NameAfterS
-    *b"            ((((((((((                  &        '           ? ??? ? ?  ????? ??       ", // Unqualified
-    *b"            DDDDDDDDDD          E       B      @AC                                     ", // Nest
-    *b"            GGGGGGGGGG       GGGGGGGGGGGGGGGGGGGGGGGGGG    G GG G    G     G   GF      ", // NestAfterS
-    *b"            IIIIIIIIII        JII I  H  II       I           I III I I  IIIII II       ", // NestRest
-    *b"            IIIIIIIIII         IIKI     II       I           I III I I  IIIII II       ", // NestTail
-    *b"            $$$$$$$$$$         LM Q     \"P       #           O NOO O O  OOOOO OO       ", // Component
-    *b"             SSSSS                   R                                                 ", // ConstructorAfterC
-    *b"             !!!!!                                                                     ", // ConstructorDigit
-    *b"             !! !!                                                                     ", // InheritedDigit
-    *b"            !!! !!                                                                     ", // DestructorDigit
-    *b"            UUUUUUUUUU       UUUUUUUUUUUUUUUUUUUUUUUUUU    U TT T    T     T   T       ", // Abbreviation
-    *b"            $$$$$$$$$$                  \" )      #              X              W       ", // Entity
-    *b"            $$$$$$$$$$                  \" V      #              Y                      ", // TypeEntity
-    *b"                                                           Z                           ", // MaybeDiscriminator
-    *b"            [[[[[[[[[[                                     \\                           ", // DiscriminatorRest
-    *b"                                                                        ]       ^      ", // Anonymous
-    *b"            cccccccccc       c cd c    a ccbc bccc`   c      cccccccccc cccc  _cccccccc", // Type
-    *b"            ffffffffff       f fe f      ffbf bfff    f      ffffffffff ffff   ffffffff", // Plain
-    *b"            cccccccccc       c cg c    a ccbc bccc`   c      cccccccccc cccc  _cccccccc", // Item
-    *b"            cccccccccc       c cg c    a cc c  ccc`   c      cccccccccc cccc  _cccccccc", // ItemButRef
-    *b"                              i   i    i        ii           i iiii ii i  iih  iiii  i ", // ItemAfterD
-    *b"                              o   m    n        po           j jjjj jj n  jl   jpjk  q ", // AfterD
-    *b"            $$$$$$$$$$       y {  z      sV r  ut#    v      wwwwwwwwww wwww   wwxwwwww", // Solid
-    *b"                                                     !                                 ", // MaybeCLinkage
-    *b"            ||||||||||                                                                 ", // BitWidth
-    *b"            ~~~~~~~~~~       ~~~~~~~~~~~~~~~~~~~~~~~~~~    ~ ~~ ~    ~     ~   ~}      ", // TypeAfterS
-    *b"            ((((((((((                  &        '                                     ", // SourceOrLocal
-    *b"            \x82\x82\x82\x82\x82\x82\x82\x82\x82\x82       \x82 \x82\x82\x7f\x82    \x82 \x82\x82\x81\x82 \x80\x82\x82\x82\x82   \x82      \x82\x82\x82\x82\x82\x82\x82\x82\x82\x82 \x82\x82\x82\x82  \x82\x82\x82\x82\x82\x82\x82\x82\x82", // FunctionRest
-    *b"            \x84\x84\x84\x84\x84\x84\x84\x84\x84\x84       \x84 \x84\x84\x83\x84    \x84 \x84\x84\x84\x84 \x84\x84\x84\x84\x84   \x84      \x84\x84\x84\x84\x84\x84\x84\x84\x84\x84 \x84\x84\x84\x84  \x84\x84\x84\x84\x84\x84\x84\x84\x84", // AfterR
-    *b"            \x85\x85\x85\x85\x85\x85\x85\x85\x85\x85       \x85 \x85\x85\x83\x85    \x85 \x85\x85\x85\x85 \x85\x85\x85\x85\x85   \x85      \x85\x85\x85\x85\x85\x85\x85\x85\x85\x85 \x85\x85\x85\x85  \x85\x85\x85\x85\x85\x85\x85\x85\x85", // AfterO
-    *b"            \x87\x87\x87\x87\x87\x87\x87\x87\x87\x87       \x87 \x87\x87 \x87    \x87 \x87\x87\x87\x87\x86\x87\x87\x87\x87\x87   \x87      \x87\x87\x87\x87\x87\x87\x87\x87\x87\x87 \x87\x87\x87\x87  \x87\x87\x87\x87\x87\x87\x87\x87\x87", // Items
-    *b"                              \x89      \x88                                                 ", // MaybeArguments
-    *b"                                     \x88                                                 ", // Arguments
-    *b"            \x8c\x8c\x8c\x8c\x8c\x8c\x8c\x8c\x8c\x8c       \x8c \x8c\x8c \x8c   \x8a\x8c\x8b\x8c\x8c\x8c\x8c\x86\x8c\x8c\x8c\x8c\x8c \x8c \x8c      \x8c\x8c\x8c\x8c\x8c\x8c\x8c\x8c\x8c\x8c \x8c\x8c\x8c\x8c  \x8c\x8c\x8c\x8c\x8c\x8c\x8c\x8c\x8c", // ArgumentList
-    *b"            \x8e\x8e\x8e\x8e\x8e\x8e\x8e\x8e\x8e\x8e       \x8e \x8e\x8e \x8e    \x8e\x8d\x8e\x8e\x8e\x8e \x8e\x8e\x8e\x8e\x8e \x8e \x8e      \x8e\x8e\x8e\x8e\x8e\x8e\x8e\x8e\x8e\x8e \x8e\x8e\x8e\x8e  \x8e\x8e\x8e\x8e\x8e\x8e\x8e\x8e\x8e", // PackList
-    *b"            \x92\x92\x92\x92\x92\x92\x92\x92\x92\x92          \x91      \x92 \x92\x92 \x92  \x92\x92\x92\x92   \x92    \x8f \x92\x90\x92\x93\x93\x93\x93\x92\x92\x92 \x92\x92\x92\x92   \x92\x92  \x92\x92\x92 ", // Literal
-    *b"            !!                                                                         ", // Bit
-    *b"                                  \x96                                  \x95    \x94    \x95 \x95     ", // LiteralAfterD
-    *b"                                                                wwww                   ", // FloatType
-    *b"                                  m                                                    ", // SizedFloatType
-    *b"            \x97\x97\x97\x97\x97\x97\x97\x97\x97\x97                                       \x97\x97\x97\x97\x97\x97                    ", // HexText
-    *b"            \x98\x98\x98\x98\x98\x98\x98\x98\x98\x98                                       \x98\x98\x98\x98\x98\x98                    ", // HexDigits
-    *b"            \x98\x98\x98\x98\x98\x98\x98\x98\x98\x98                                       \x98\x98\x98\x98\x98\x98                    ", // HexMore
-    *b"            !                                                                          ", // MaybeZero
-    *b"            $$$$$$$$$$                 \x9a sV r  ut#\x99   v      w w    www wwww   ww  www ", // LiteralType
-    *b"            \x9b\x9b\x9b\x9b\x9b\x9b\x9b\x9b\x9b\x9b                   \x9b\x9b \x9b  \x9b\x9b\x9b    \x9b      \x9b \x9b    \x9b\x9b\x9b \x9b\x9b\x9b\x9b   \x9b\x9b  \x9b\x9b\x9b ", // LiteralPlain
-    *b"            $$$$$$$$$$                   sV r  ut#    v      w w    www wwww   ww  www ", // LiteralSolid
-    *b"                                                             \x9e \xa0\x9d\xa4 \xa8 \xa7  \xa5\xa1\x9c\xa3\x9f \xa2\xa6       ", // Operator
-    *b"                                                             !   ! !            !  !   ", // OperatorAfterN
-    *b"                                                  !          !   !      !         !    ", // OperatorAfterD
-    *b"                                          !    !             !  !         !        !   ", // OperatorAfterA
-    *b"                                        !                               !!  !  !!      ", // OperatorAfterP
-    *b"                                                                        !! !           ", // OperatorAfterC
-    *b"                                     !  !                            !  !!             ", // OperatorAfterM
-    *b"                                         !     !                         !     !       ", // OperatorAfterR
-    *b"                                              !                            !  !        ", // OperatorAfterO
-    *b"                                           !                               ! !         ", // OperatorAfterE
-    *b"                                               !                 !   \xa9         !!      ", // OperatorAfterL
-    *b"                                                                               !       ", // OperatorAfterS
-    *b"                                                                                    !  ", // OperatorAfterI
-    *b"                                                                 !              !      ", // OperatorAfterG
-    *b"            IIIIIIIIII         II I  \xaa  II       I           I III I I  IIIII II       ", // NestRestOrEnd
-    *b"                                     \x88                                                 ", // ArgumentsAlone
-    *b"            IIIIIIIIII         II I  H  II       I           I III I I  IIIII II       ", // NestRestAlone
-    *b"                                         !                                             ", // HolderMark
-    *b"            $$$$$$$$$$         LM       \"        #           O NOO O O  OOOOO OO       ", // HeldComponent
-    *b"                                                           !  !                     !  ", // FloatEnd
-    *b"                                                                        \xac\xac \xac      \xab    ", // ComponentAfterC
-    *b"                                                             \x9e  \x9d\xa4 \xa8 \xa7  \xa5\xa1\x9c\xa3\x9f \xa2\xa6       ", // OtherOperator
-    *b"                                     \xad                                                 ", // HeldArguments
-    *b"            \xaf\xaf\xaf\xaf\xaf\xaf\xaf\xaf\xaf\xaf                    \xae    \xaf      v                                ", // BaseClass
-    *b"            \xb1\xb1\xb1\xb1\xb1\xb1\xb1\xb1\xb1\xb1                         \xb0                                       ", // UnnestedName
-    *b"                                     \xb2                                                 ", // BaseArguments
-    *b"            \x8c\x8c\x8c\x8c\x8c\x8c\x8c\x8c\x8c\x8c       \x8c \x8c\x8c \x8c  \x8a\x8a\x8c\x8b\x8c\x8c\x8c\x8c\x86\x8c\x8c\x8c\x8c\x8c \x8c \x8c      \x8c\x8c\x8c\x8c\x8c\x8c\x8c\x8c\x8c\x8c \x8c\x8c\x8c\x8c  \x8c\x8c\x8c\x8c\x8c\x8c\x8c\x8c\x8c", // ArgumentsFirst
-    *b"            $$$$$$$$$$                  \" )      #                                     ", // PlainEntity
-    *b"            $$$$$$$$$$                  \" V      #                                     ", // PlainTypeEntity
-    *b"                                   !                                                   ", // SpecialMark
-    *b"                                              \xb3 \xb4 4                                    ", // SpecialAfterG
-    *b"            $$$$$$$$$$                  \" )    ; #    \xb5                                ", // TemporaryName
-    *b"                                                                          !     !      ", // CloneLetter
-    *b"                                                                                \xb6      ", // TypeInStd
-    *b"                              \xb7                                                        ", // MaybeTags
-    *b"            \xba\xba\xba\xba\xba\xba\xba\xba\xba\xba       \xba \xbag \xba    a \xba\xbab\xba b\xba\xb9\xba` \xb8 \xba      \xba\xba\xba\xba\xba\xba\xba\xba\xba\xba \xba\xba\xba\xba  _\xba\xba\xba\xba\xba\xba\xba\xba", // Argument
-    *b"            \xbb\xbb\xbb\xbb\xbb\xbb\xbb\xbb\xbb\xbb                  \xbd                  \xbb           \xbc  \xbc \xbc   \xbc    \xbc ", // ArgumentAfterT
-    *b"            \xbb\xbb\xbb\xbb\xbb\xbb\xbb\xbb\xbb\xbb                                     \xbb                           ", // LeveledParameter
-    *b"            \xba\xba\xba\xba\xba\xba\xba\xba\xba\xba       \xba \xbag \xba   \xbfa\xbe\xba\xbab\xba b\xba\xb9\xba` \xb8 \xba      \xba\xba\xba\xba\xba\xba\xba\xba\xba\xba \xba\xba\xba\xba  _\xba\xba\xba\xba\xba\xba\xba\xba", // OneArgument
-    *b"                                                                       \xc2  \xc1 \xc4   \xc3    \xc0 ", // DeclarationAfterT
-    *b"                                                \xc5                                      ", // Declarations
-    *b"            \xc6\xc6\xc6\xc6\xc6\xc6\xc6\xc6\xc6\xc6                    V    \xc6                                       ", // Concept
-    *b"            $$$$$$$$$$       y {  z      sV r  u #    v      wwwwwwwwww wwww   wwxwwwww", // SolidButT
-    *b"            \xc9\xc9\xc9\xc9\xc9\xc9\xc9\xc9\xc9\xc9                  \xbe       \xf3            \xe3 \xe4\xe5\xe6\xe7\xe8 \xe9  \xea\xeb\xec\xed\xee\xef\xf0\xf1\xf2      ", // Expression
-    *b"            \xf4\xf4\xf4\xf4\xf4\xf4\xf4\xf4\xf4\xf4                  \xf5                  \xf4                           ", // ExpressionParameter
-    *b"            \xf4\xf4\xf4\xf4\xf4\xf4\xf4\xf4\xf4\xf4                                     \xf4                           ", // UnleveledExpression
-    *b"            \xc9\xc9\xc9\xc9\xc9\xc9\xc9\xc9\xc9\xc9                  \xf6       \xf3            \xe3 \xe4\xe5\xe6\xe7\xe8 \xe9  \xea\xeb\xec\xed\xee\xef\xf0\xf1\xf2      ", // AddressedExpression
-    *b"            \x92\x92\x92\x92\x92\x92\x92\x92\x92\x92          \x91      \x92 \x92\x92 \x92  \x92\x92\x92\x92   \x92    \x8f \x92\x90\x92\x93\x93\x93\x93\x92\x92\x92 \x92\x92\x92\x92   \x92\x92  \x92\x92\x92 ", // AddressedLiteral
-    *b"                                          \xcc    \xcc             \xcc  \xcb         \xcc     \xce  \xcd  \xcd", // ExpressionAfterA
-    *b"                                                               \xc7        \xcf\xcc \xcd\xcf     \xd0    ", // ExpressionAfterC
-    *b"                                                  \xcc          \xcd \xc7 \xcd   \xd1  \xcd \xd3    \xcc\xcc \xcc \xd2  ", // ExpressionAfterD
-    *b"                                           \xcc                               \xcc \xcc         ", // ExpressionAfterE
-    *b"                                        \xd4                               \xd5   \xca \xd6        ", // ExpressionAfterF
-    *b"                                                                 \xcc             \xcd\xcc      ", // ExpressionAfterG
-    *b"                                                                        \xd7           \xcc  ", // ExpressionAfterI
-    *b"                                               \xcc                 \xcc             \xcc\xcc      ", // ExpressionAfterL
-    *b"                                     \xcc  \xcc                            \xcc  \xcc\xd8             ", // ExpressionAfterM
-    *b"                                                             \xd9   \xcc \xcd            \xcd  \xd9\xcd  ", // ExpressionAfterN
-    *b"                                              \xcc                           \xc8\xcc  \xcc        ", // ExpressionAfterO
-    *b"                                        \xcc                               \xcc\xcc  \xd8  \xcd\xcc      ", // ExpressionAfterP
-    *b"                                                                                 \xda     ", // ExpressionAfterQ
-    *b"                                         \xcc   \xdc \xcc               \xc7         \xcc   \xdb \xcc       ", // ExpressionAfterR
-    *b"                                                      \xde        \xc7            \xdd \xdf\xcc\xce    \xe0\xcd", // ExpressionAfterS
-    *b"                                                                 \xcd   \xce  \xe1     \xe2    \xcd   ", // ExpressionAfterT
-    *b"            \xf7\xf7\xf7\xf7\xf7\xf7\xf7\xf7\xf7\xf7                  \xf7       \xf7            \xf7 \xf7\xf7\xf7\xf7\xf7 \xf7  \xf7\xf7\xf7\xf7\xf7\xf7\xf7\xf7\xf7      ", // Expressions
-    *b"                                                           !                           ", // MaybeBefore
-    *b"                                                             \x9e \xa0\x9d\xa4 \xa8 \xa7  \xf8\xa1\x9c\xa3\x9f \xa2\xa6       ", // FoldOperator
-    *b"                                               !                 !             !!      ", // FoldOperatorAfterL
-    *b"            \xf9\xf9\xf9\xf9\xf9\xf9\xf9\xf9\xf9\xf9                  \xf9       \xf9            \xf9 \xf9\xf9\xf9\xf9\xf9 \xf9  \xf9\xf9\xf9\xf9\xf9\xf9\xf9\xf9\xf9      ", // FoldOperand
-    *b"            \xfa\xfa\xfa\xfa\xfa\xfa\xfa\xfa\xfa\xfa                  \xfa       \xfa            \xfa \xfa\xfa\xfa\xfa\xfa \xfa  \xfa\xfa\xfa\xfa\xfa\xfa\xfa\xfa\xfa      ", // FoldPack
-    *b"            \xfa\xfa\xfa\xfa\xfa\xfa\xfa\xfa\xfa\xfa                \xbf \xfa       \xfa            \xfa \xfa\xfa\xfa\xfa\xfa \xfa  \xfa\xfa\xfa\xfa\xfa\xfa\xfa\xfa\xfa      ", // ValuePack
-    *b"            \xfb\xfb\xfb\xfb\xfb\xfb\xfb\xfb\xfb\xfb       \xfb \xfb\xfb \xfb   \xbf\xfb \xfb\xfb\xfb\xfb \xfb\xfb\xfb\xfb\xfb   \xfb      \xfb\xfb\xfb\xfb\xfb\xfb\xfb\xfb\xfb\xfb \xfb\xfb\xfb\xfb  \xfb\xfb\xfb\xfb\xfb\xfb\xfb\xfb\xfb", // TypePack
-    *b"            \xfd\xfd\xfd\xfd\xfd\xfd\xfd\xfd\xfd\xfd                  \xfd       \xfd            \xfd \xfd\xfc\xfd\xfd\xfd \xfd  \xfd\xfd\xfd\xfd\xfd\xfd\xfd\xfd\xfd      ", // DesignatedValue
-    *b"                                                                     \xd1              \xd2  ", // DesignatorAfterD
-    *b"            \xc9\xc9\xc9\xc9\xc9\xc9\xc9\xc9\xc9\xc9                  \xbe       \xf3            \xe3 \xe4 \xe6\xe7\xe8 \xe9  \xea\xeb\xec\xed\xee\xef\xf0\xf1\xf2      ", // PlainValue
-    *b"            \xfe\xfe\xfe\xfe\xfe\xfe\xfe\xfe\xfe\xfe                                                                 ", // FieldName
-    *b"            \xff\xff\xff\xff\xff\xff\xff\xff\xff\xff                  \xff       \xff          ! \xff \xff\xff\xff\xff\xff \xff  \xff\xff\xff\xff\xff\xff\xff\xff\xff      ", // Placement
-    *b"            \xf7\xf7\xf7\xf7\xf7\xf7\xf7\xf7\xf7\xf7                  \xf7       \xf7            \xf7 \xf7\xf7\xf7\xf7\xf7 \xf7  \xf7\xf7\xf7\xf7\xf7\xf7\xf7\xf7\xf7      ", // SomeExpressions
-    *b"                                 \x83                                   \x01      \x00          ", // Initializer
-    *b"                                                                     \xd7                 ", // InitializerAfterP
-    *b"                                                                        \xd7              ", // InitializerAfterI
-    *b"                                                                            \xca          ", // OuterRest
-    *b"            \x03\x03\x03\x03\x03\x03\x03\x03\x03\x03                          \x02          \x03                           ", // ParameterNumber
-    *b"            \x08\x08\x08\x08\x08\x08\x08\x08\x08\x08          \x04 \x08    \x05  \x08\x07\x06 \x07\x08\x08\x08           \x08\x08\x08\x08\x08\x08\x08\x08\x08\x08 \x08\x08\x08\x08   \x08\x08 \x08\x08\x08\x08\x08", // ConvertedType
-    *b"            $$$$$$$$$$            z       V    u\x09#           wwwwwwwwww wwww   ww wwwww", // ConvertedSolid
-    *b"            \xbb\xbb\xbb\xbb\xbb\xbb\xbb\xbb\xbb\xbb                  \xbd                  \xbb                           ", // ParameterAfterT
-    *b"                                                p                               p      ", // DecltypeAfterD
-    *b"            \xc9\xc9\xc9\xc9\xc9\xc9\xc9\xc9\xc9\xc9                  \xbe       \xf3          \xd7 \xe3 \xe4\xe5\xe6\xe7\xe8 \xe9  \xea\xeb\xec\xed\xee\xef\xf0\xf1\xf2      ", // ConvertRest
-    *b"            \x0b\x0b\x0b\x0b\x0b\x0b\x0b\x0b\x0b\x0b          \x0a         \x0a    \x0a\x0a                                      ", // Unresolved
-    *b"                                \x04         V    u\x09                                      ", // UnresolvedType
-    *b"            \xc9\xc9\xc9\xc9\xc9\xc9\xc9\xc9\xc9\xc9          \x0c         \x0c    \x0c\x0c                                      ", // DestructorName
-    *b"                                             \x0f  \x0e   \x0d                                  ", // Requirements
-    *b"                                          \x11  \x0f\x10 \x0e   \x0d                                  ", // AfterExpression
-    *b"                                             \x0f\x10 \x0e   \x0d                                  ", // AfterNoexcept
-    *b"            \x12\x12\x12\x12\x12\x12\x12\x12\x12\x12          \x12 \x12    \x12  \x12\x12\x12 \x12\x12\x12\x12         \xdb \x12\x12\x12\x12\x12\x12\x12\x12\x12\x12 \x12\x12\x12\x12   \x12\x12 \x12\x12\x12\x12\x12", // RequiredTypes
-    *b"            \xc9\xc9\xc9\xc9\xc9\xc9\xc9\xc9\xc9\xc9                                                                 ", // Level
-    *b"            \x0b\x0b\x0b\x0b\x0b\x0b\x0b\x0b\x0b\x0b           \x13                                                     ", // MoreLevels
-    *b"            \xc9\xc9\xc9\xc9\xc9\xc9\xc9\xc9\xc9\xc9                                                     \x14           ", // UnresolvedName
-    *b"                                                                          \xc8            ", // OperatorName
-    *b"                             \x15                                                         ", // AnyArray
-    *b"            \x17\x17\x17\x17\x17\x17\x17\x17\x17\x17                  \x16       \x16          \x17 \x16 \x16\x16\x16\x16\x16 \x16  \x16\x16\x16\x16\x16\x16\x16\x16\x16      ", // ArrayRest
-    *b"                                        \xbe       \xf3            \xe3 \xe4\xe5\xe6\xe7\xe8 \xe9  \xea\xeb\xec\xed\xee\xef\xf0\xf1\xf2      ", // Bound
-    *b"            IIIIIIIIII         IIKI     II       I           I III I I  IIIII II       ", // NestMoreOrEnd
-];
+    [0, b"                                                           -                           "], // Symbol
+    [0, b"          .                                                                            "], // MaybeSuffix
+    [0, b"/         / //////////       //////////////////////////    / //////////////////////////"], // SuffixFirst
+    [0, b"/         / //////////       //////////////////////////    / //////////////////////////"], // SuffixMore
+    [0, b"            2222222222          2  1    2 2    202 2  2      2 222 2 2  22222 22       "], // Encoding
+    [1, b"                             \x1f \xfe    62         22 26           5    3             4    "], // Special
+    [0, b"                                                                    8             9    "], // CallOffset
+    [0, b"            ;;;;;;;;;;                                                    :            "], // Integer
+    [0, b"            $$$$$$$$$$          &       \" ,    < # *  =      % %%% % %  %%%%% %%       "], // CompleteName
+    [0, b"                                                                              !        "], // MaybeRestrict
+    [0, b"                                                  !                                    "], // MaybeVolatile
+    [0, b"                                       !                                               "], // MaybeConst
+    [0, b"                                    !      !  !                                        "], // MaybeRef
+    [0, b"            ??????????       ??????????????????????????    ? ?? ?    ?     ?   ?>      "], // NameAfterS
+    [0, b"            ))))))))))                  '        (           @ @@@ @ @  @@@@@ @@       "], // Unqualified
+    [0, b"            EEEEEEEEEE          \xfd       C      ABD \xfe                                   "], // Nest
+    [0, b"            GGGGGGGGGG       GGGGGGGGGGGGGGGGGGGGGGGGGG    G GG G    G     G   GF      "], // NestAfterS
+    [0, b"            IIIIIIIIII        \xfcII I  H  II     I I I         I III I I  IIIII II       "], // NestRest
+    [0, b"            IIIIIIIIII         IIJI     II     I I I         I III I I  IIIII II       "], // NestTail
+    [0, b"            $$$$$$$$$$         KL \xfa     \"\xfb     + # *         N MNN N N  NNNNN NN       "], // Component
+    [0, b"             OOOOO                   \xf9                                                 "], // ConstructorAfterC
+    [0, b"             !!!!!                                                                     "], // ConstructorDigit
+    [0, b"             !! !!                                                                     "], // InheritedDigit
+    [0, b"            !!! !!             P                                                       "], // ComponentAfterD
+    [0, b"            RRRRRRRRRR       RRRRRRRRRRRRRRRRRRRRRRRRRR    R QQ Q    Q     Q   Q       "], // Abbreviation
+    [0, b"            $$$$$$$$$$          &       \" ,      #              \xf8              T       "], // Entity
+    [0, b"            $$$$$$$$$$                  \" S      #              \xf7                      "], // TypeEntity
+    [0, b"                                                           U                           "], // MaybeDiscriminator
+    [0, b"            VVVVVVVVVV                                     W                           "], // DiscriminatorRest
+    [0, b"                                                                 \xf6      X       Y      "], // Anonymous
+    [0, b"            ^^^^^^^^^^       ^ ^_ ^    \\ ^^]^ ]^^^[^  ^      ^^^^^^^^^^ ^^^^  Z^^^^^^^^"], // Type
+    [0, b"            aaaaaaaaaa       a a` a      aa]a ]aaa a  a      aaaaaaaaaa aaaa   aaaaaaaa"], // Plain
+    [0, b"            ^^^^^^^^^^       ^ ^b ^    \\ ^^]^ ]^^^[^  ^      ^^^^^^^^^^ ^^^^  Z^^^^^^^^"], // Item
+    [0, b"            ^^^^^^^^^^       ^ ^b ^    \\ ^^ ^  ^^^[^  ^      ^^^^^^^^^^ ^^^^  Z^^^^^^^^"], // ItemButRef
+    [0, b"                              d   d    d        dd           d dddd dd d  ddc  dddd  d "], // ItemAfterD
+    [0, b"                              \xf4   h    \xf5        i\xf4           e eeee ee \xf5  eg   eief  \xf3 "], // AfterD
+    [0, b"            $$$$$$$$$$       q s  r      kS j  ml# *  n      oooooooooo oooo   oopooooo"], // Solid
+    [0, b"                                                     !                                 "], // MaybeCLinkage
+    [0, b"            tttttttttt                                                                 "], // BitWidth
+    [0, b"            vvvvvvvvvv       vvvvvvvvvvvvvvvvvvvvvvvvvv    v vv v    v     v   vu      "], // TypeAfterS
+    [0, b"            ))))))))))                  '        (                                     "], // SourceOrLocal
+    [0, b"            zzzzzzzzzz       z zzwz    z zzyz xzzzzz  z      zzzzzzzzzz zzzz  zzzzzzzzz"], // FunctionRest
+    [0, b"            ||||||||||       | ||{|    | |||| ||||||  |      |||||||||| ||||  |||||||||"], // AfterR
+    [0, b"            }}}}}}}}}}       } }}{}    } }}}} }}}}}}  }      }}}}}}}}}} }}}}  }}}}}}}}}"], // AfterO
+    [0, b"            ~~~~~~~~~~       ~ ~~ ~    ~ ~~~~\xf2~~~~~~  ~      ~~~~~~~~~~ ~~~~  ~~~~~~~~~"], // Items
+    [0, b"                              \xf1      \x7f                                                 "], // MaybeArguments
+    [0, b"                                     \x7f                                                 "], // Arguments
+    [0, b"            \x82\x82\x82\x82\x82\x82\x82\x82\x82\x82       \x82 \x82\x82 \x82   \x80\x82\x81\x82\x82\x82\x82\xf2\x82\x82\x82\x82\x82\x82\x82 \x82      \x82\x82\x82\x82\x82\x82\x82\x82\x82\x82 \x82\x82\x82\x82  \x82\x82\x82\x82\x82\x82\x82\x82\x82"], // ArgumentList
+    [0, b"            \x84\x84\x84\x84\x84\x84\x84\x84\x84\x84       \x84 \x84\x84 \x84    \x84\x83\x84\x84\x84\x84 \x84\x84\x84\x84\x84\x84\x84 \x84      \x84\x84\x84\x84\x84\x84\x84\x84\x84\x84 \x84\x84\x84\x84  \x84\x84\x84\x84\x84\x84\x84\x84\x84"], // PackList
+    [0, b"            \x88\x88\x88\x88\x88\x88\x88\x88\x88\x88          \x87      \x88 \x88\x88 \x88  \x88\x88\x88\x88\x88  \x88    \x85 \x88\x86\x88\xf0\xf0\xf0\xf0\x88\x88\x88 \x88\x88\x88\x88   \x88\x88  \x88\x88\x88 "], // Literal
+    [0, b"            !!                                                                         "], // Bit
+    [0, b"                                  \xef                                  \x8a    \x89    \x8a \x8a     "], // LiteralAfterD
+    [0, b"                                                                oooo                   "], // FloatType
+    [0, b"                                  h                                                    "], // SizedFloatType
+    [0, b"            \x8b\x8b\x8b\x8b\x8b\x8b\x8b\x8b\x8b\x8b                                       \x8b\x8b\x8b\x8b\x8b\x8b                    "], // HexText
+    [0, b"            \x8c\x8c\x8c\x8c\x8c\x8c\x8c\x8c\x8c\x8c                                       \x8c\x8c\x8c\x8c\x8c\x8c                    "], // HexDigits
+    [0, b"            \x8c\x8c\x8c\x8c\x8c\x8c\x8c\x8c\x8c\x8c                                       \x8c\x8c\x8c\x8c\x8c\x8c                    "], // HexMore
+    [0, b"            !                                                                          "], // MaybeZero
+    [0, b"            $$$$$$$$$$                 \xed kS j  ml#\xee*  n      o o    ooo oooo   oo  ooo "], // LiteralType
+    [0, b"            \x8d\x8d\x8d\x8d\x8d\x8d\x8d\x8d\x8d\x8d                   \x8d\x8d \x8d  \x8d\x8d\x8d \x8d  \x8d      \x8d \x8d    \x8d\x8d\x8d \x8d\x8d\x8d\x8d   \x8d\x8d  \x8d\x8d\x8d "], // LiteralPlain
+    [0, b"            $$$$$$$$$$                   kS j  ml# *  n      o o    ooo oooo   oo  ooo "], // LiteralSolid
+    [0, b"                                                             \x90 \x92\x8f\x96 \x9a \x99  \x97\x93\x8e\x95\x91 \x94\x98       "], // Operator
+    [0, b"                                                             !   ! !            !  !   "], // OperatorAfterN
+    [0, b"                                                  !          !   !      !         !    "], // OperatorAfterD
+    [0, b"                                          !    !             !  !         !        !   "], // OperatorAfterA
+    [0, b"                                        !                               !!  !  !!      "], // OperatorAfterP
+    [0, b"                                                                        !! !           "], // OperatorAfterC
+    [0, b"                                     !  !                            !  !!             "], // OperatorAfterM
+    [0, b"                                         !     !                         !     !       "], // OperatorAfterR
+    [0, b"                                              !                            !  !        "], // OperatorAfterO
+    [0, b"                                           !                               ! !         "], // OperatorAfterE
+    [0, b"                                               !                 !   \x9b         !!      "], // OperatorAfterL
+    [0, b"                                                                               !       "], // OperatorAfterS
+    [0, b"                                                                                    !  "], // OperatorAfterI
+    [0, b"                                                                 !              !      "], // OperatorAfterG
+    [0, b"            IIIIIIIIII         II I  \x9c  II     I I I         I III I I  IIIII II       "], // NestRestOrEnd
+    [0, b"                                     \x7f                                                 "], // ArgumentsAlone
+    [0, b"            IIIIIIIIII         II I  H  II     I I I         I III I I  IIIII II       "], // NestRestAlone
+    [0, b"            \x9d\x9d\x9d\x9d\x9d\x9d\x9d\x9d\x9d\x9d                                                                 "], // FirstModule
+    [0, b"            \x9e\x9e\x9e\x9e\x9e\x9e\x9e\x9e\x9e\x9e       \x9e\x9e\x9e\x9e\x9e\x9e\x9e\x9e\x9e\x9e\x9e\x9e\x9e\x9e\x9e\x9e\x9e\x9e\x9e\x9e\x9e\x9e\x9e\x9e\x9e\x9e    \x9e                           "], // NamedModule
+    [0, b"                                                   \x9f                                   "], // MoreModule
+    [0, b"                                            !                                          "], // MaybePartition
+    [0, b"            $$$$$$$$$$                  \"        #           % %%% % %  %%%%% %%       "], // NameAfterModule
+    [0, b"                                                   *                                   "], // NameInModule
+    [0, b"            IIIIIIIIII         II I     II     I I I         I III I I  IIIII II       "], // NestOn
+    [0, b"                                         !                                             "], // HolderMark
+    [0, b"            $$$$$$$$$$         KL       \"      + # *         N MNN N N  NNNNN NN       "], // HeldComponent
+    [0, b"                               P                                                       "], // BindingAfterD
+    [0, b"            \xa1\xa1\xa1\xa1\xa1\xa1\xa1\xa1\xa1\xa1                  \xa1                                              "], // BoundNames
+    [0, b"            \xa1\xa1\xa1\xa1\xa1\xa1\xa1\xa1\xa1\xa1                  \xa1                                              "], // MoreNames
+    [0, b"            \xa0\xa0\xa0\xa0\xa0\xa0\xa0\xa0\xa0\xa0                  p                                              "], // BoundName
+    [0, b"                                                           !  !                     !  "], // FloatEnd
+    [0, b"                                                                        \xa2\xa2 \xa2      \xec    "], // ComponentAfterC
+    [0, b"                                                             \x90  \x8f\x96 \x9a \x99  \x97\x93\x8e\x95\x91 \x94\x98       "], // OtherOperator
+    [0, b"                                     \xa3                                                 "], // HeldArguments
+    [0, b"            \xa5\xa5\xa5\xa5\xa5\xa5\xa5\xa5\xa5\xa5                    \xa4    \xa5      n                                "], // BaseClass
+    [0, b"            \xa7\xa7\xa7\xa7\xa7\xa7\xa7\xa7\xa7\xa7                         \xa6                                       "], // UnnestedName
+    [0, b"                                     \xa8                                                 "], // BaseArguments
+    [0, b"            \x82\x82\x82\x82\x82\x82\x82\x82\x82\x82       \x82 \x82\x82 \x82  \x80\x80\x82\x81\x82\x82\x82\x82\xf2\x82\x82\x82\x82\x82\x82\x82 \x82      \x82\x82\x82\x82\x82\x82\x82\x82\x82\x82 \x82\x82\x82\x82  \x82\x82\x82\x82\x82\x82\x82\x82\x82"], // ArgumentsFirst
+    [0, b"            $$$$$$$$$$          &       \" ,      #                                     "], // PlainEntity
+    [0, b"            $$$$$$$$$$                  \" S      #                                     "], // PlainTypeEntity
+    [0, b"                                   !                                                   "], // SpecialMark
+    [0, b"                                     \xea        \xeb \xe9 7                                    "], // SpecialAfterG
+    [0, b"            $$$$$$$$$$          &       \" ,    < #    \xa9                                "], // TemporaryName
+    [0, b"                                                                          !     !      "], // CloneLetter
+    [0, b"                                                                                \xaa      "], // TypeInStd
+    [0, b"                              \xe8                                                        "], // MaybeTags
+    [0, b"            \xad\xad\xad\xad\xad\xad\xad\xad\xad\xad       \xad \xadb \xad    \\ \xad\xad]\xad ]\xad\xac\xad[\xad\xab \xad      \xad\xad\xad\xad\xad\xad\xad\xad\xad\xad \xad\xad\xad\xad  Z\xad\xad\xad\xad\xad\xad\xad\xad"], // Argument
+    [0, b"            \xae\xae\xae\xae\xae\xae\xae\xae\xae\xae                  \xaf                  \xae           \xe7  \xe7 \xe7   \xe7    \xe7 "], // ArgumentAfterT
+    [0, b"            \xae\xae\xae\xae\xae\xae\xae\xae\xae\xae                                     \xae                           "], // LeveledParameter
+    [0, b"            \xad\xad\xad\xad\xad\xad\xad\xad\xad\xad       \xad \xadb \xad   \xb1\\\xb0\xad\xad]\xad ]\xad\xac\xad[\xad\xab \xad      \xad\xad\xad\xad\xad\xad\xad\xad\xad\xad \xad\xad\xad\xad  Z\xad\xad\xad\xad\xad\xad\xad\xad"], // OneArgument
+    [0, b"                                                                       \xb3  \xb2 \xb5   \xb4    ! "], // DeclarationAfterT
+    [0, b"                                                \xb6                                      "], // Declarations
+    [0, b"            \xb7\xb7\xb7\xb7\xb7\xb7\xb7\xb7\xb7\xb7                    S    \xb7                                       "], // Concept
+    [0, b"            $$$$$$$$$$       q s  r      kS j  m # *  n      oooooooooo oooo   oopooooo"], // SolidButT
+    [0, b"            \xba\xba\xba\xba\xba\xba\xba\xba\xba\xba                  \xb0       \xe4            \xd4 \xd5\xd6\xd7\xd8\xd9 \xda  \xdb\xdc\xdd\xde\xdf\xe0\xe1\xe2\xe3      "], // Expression
+    [0, b"            \xe5\xe5\xe5\xe5\xe5\xe5\xe5\xe5\xe5\xe5                  \x00                  \xe5                           "], // ExpressionParameter
+    [0, b"            \xe5\xe5\xe5\xe5\xe5\xe5\xe5\xe5\xe5\xe5                                     \xe5                           "], // UnleveledExpression
+    [0, b"            \xba\xba\xba\xba\xba\xba\xba\xba\xba\xba                  \x01       \xe4            \xd4 \xd5\xd6\xd7\xd8\xd9 \xda  \xdb\xdc\xdd\xde\xdf\xe0\xe1\xe2\xe3      "], // AddressedExpression
+    [0, b"            \x88\x88\x88\x88\x88\x88\x88\x88\x88\x88          \x87      \x88 \x88\x88 \x88  \x88\x88\x88\x88\x88  \x88    \x85 \x88\x86\x88\xf0\xf0\xf0\xf0\x88\x88\x88 \x88\x88\x88\x88   \x88\x88  \x88\x88\x88 "], // AddressedLiteral
+    [0, b"                                          \xbd    \xbd             \xbd  \xbc         \xbd     \xbf  \xbe  \xbe"], // ExpressionAfterA
+    [0, b"                                                               \xb8        \xc0\xbd \xbe\xc0     \xc1    "], // ExpressionAfterC
+    [0, b"                                                  \xbd          \xbe \xb8 \xbe   \xc2  \xbe \xc4    \xbd\xbd \xbd \xc3  "], // ExpressionAfterD
+    [0, b"                                           \xbd                               \xbd \xbd         "], // ExpressionAfterE
+    [0, b"                                        \xc5                               \xc6   \xbb \xc7        "], // ExpressionAfterF
+    [0, b"                                                                 \xbd             \xbe\xbd      "], // ExpressionAfterG
+    [0, b"                                                                        \xc8           \xbd  "], // ExpressionAfterI
+    [0, b"                                               \xbd                 \xbd             \xbd\xbd      "], // ExpressionAfterL
+    [0, b"                                     \xbd  \xbd                            \xbd  \xbd\xc9             "], // ExpressionAfterM
+    [0, b"                                                             \xca   \xbd \xbe            \xbe  \xca\xbe  "], // ExpressionAfterN
+    [0, b"                                              \xbd                           \xb9\xbd  \xbd        "], // ExpressionAfterO
+    [0, b"                                        \xbd                               \xbd\xbd  \xc9  \xbe\xbd      "], // ExpressionAfterP
+    [0, b"                                                                                 \xcb     "], // ExpressionAfterQ
+    [0, b"                                         \xbd   \xcd \xbd               \xb8         \xbd   \xcc \xbd       "], // ExpressionAfterR
+    [0, b"                                                      \xcf        \xb8            \xce \xd0\xbd\xbf    \xd1\xbe"], // ExpressionAfterS
+    [0, b"                                                                 \xbe   \xbf  \xd2     \xd3    \xbe   "], // ExpressionAfterT
+    [0, b"            \x02\x02\x02\x02\x02\x02\x02\x02\x02\x02                  \x02       \x02            \x02 \x02\x02\x02\x02\x02 \x02  \x02\x02\x02\x02\x02\x02\x02\x02\x02      "], // Expressions
+    [0, b"                                                           !                           "], // MaybeBefore
+    [0, b"                                                             \x90 \x92\x8f\x96 \x9a \x99  \x03\x93\x8e\x95\x91 \x94\x98       "], // FoldOperator
+    [0, b"                                               !                 !             !!      "], // FoldOperatorAfterL
+    [0, b"            \x04\x04\x04\x04\x04\x04\x04\x04\x04\x04                  \x04       \x04            \x04 \x04\x04\x04\x04\x04 \x04  \x04\x04\x04\x04\x04\x04\x04\x04\x04      "], // FoldOperand
+    [0, b"            \x05\x05\x05\x05\x05\x05\x05\x05\x05\x05                  \x05       \x05            \x05 \x05\x05\x05\x05\x05 \x05  \x05\x05\x05\x05\x05\x05\x05\x05\x05      "], // FoldPack
+    [0, b"            \x05\x05\x05\x05\x05\x05\x05\x05\x05\x05                \xb1 \x05       \x05            \x05 \x05\x05\x05\x05\x05 \x05  \x05\x05\x05\x05\x05\x05\x05\x05\x05      "], // ValuePack
+    [0, b"            \x06\x06\x06\x06\x06\x06\x06\x06\x06\x06       \x06 \x06\x06 \x06   \xb1\x06 \x06\x06\x06\x06 \x06\x06\x06\x06\x06\x06  \x06      \x06\x06\x06\x06\x06\x06\x06\x06\x06\x06 \x06\x06\x06\x06  \x06\x06\x06\x06\x06\x06\x06\x06\x06"], // TypePack
+    [0, b"            \x08\x08\x08\x08\x08\x08\x08\x08\x08\x08                  \x08       \x08            \x08 \x08\x07\x08\x08\x08 \x08  \x08\x08\x08\x08\x08\x08\x08\x08\x08      "], // DesignatedValue
+    [0, b"                                                                     \xc2              \xc3  "], // DesignatorAfterD
+    [0, b"            \xba\xba\xba\xba\xba\xba\xba\xba\xba\xba                  \xb0       \xe4            \xd4 \xd5 \xd7\xd8\xd9 \xda  \xdb\xdc\xdd\xde\xdf\xe0\xe1\xe2\xe3      "], // PlainValue
+    [0, b"            \xa0\xa0\xa0\xa0\xa0\xa0\xa0\xa0\xa0\xa0                                                                 "], // FieldName
+    [0, b"            \x09\x09\x09\x09\x09\x09\x09\x09\x09\x09                  \x09       \x09          ! \x09 \x09\x09\x09\x09\x09 \x09  \x09\x09\x09\x09\x09\x09\x09\x09\x09      "], // Placement
+    [0, b"            \x02\x02\x02\x02\x02\x02\x02\x02\x02\x02                  \x02       \x02            \x02 \x02\x02\x02\x02\x02 \x02  \x02\x02\x02\x02\x02\x02\x02\x02\x02      "], // SomeExpressions
+    [0, b"                                 {                                   \x0b      \x0a          "], // Initializer
+    [0, b"                                                                     \xc8                 "], // InitializerAfterP
+    [0, b"                                                                        \xc8              "], // InitializerAfterI
+    [0, b"                                                                            \xbb          "], // OuterRest
+    [0, b"            \x0d\x0d\x0d\x0d\x0d\x0d\x0d\x0d\x0d\x0d                          \x0c          \x0d                           "], // ParameterNumber
+    [0, b"            \x12\x12\x12\x12\x12\x12\x12\x12\x12\x12          \x0e \x12    \x0f  \x12\x11\x10 \x11\x12\x12\x12           \x12\x12\x12\x12\x12\x12\x12\x12\x12\x12 \x12\x12\x12\x12   \x12\x12 \x12\x12\x12\x12\x12"], // ConvertedType
+    [0, b"            $$$$$$$$$$            r       S    m\x13#           oooooooooo oooo   oo ooooo"], // ConvertedSolid
+    [0, b"            \xae\xae\xae\xae\xae\xae\xae\xae\xae\xae                  \xaf                  \xae                           "], // ParameterAfterT
+    [0, b"                                                i                               i      "], // DecltypeAfterD
+    [0, b"                                                i            e e                i      "], // ConvertedAfterD
+    [0, b"            \xba\xba\xba\xba\xba\xba\xba\xba\xba\xba                  \xb0       \xe4          \xc8 \xd4 \xd5\xd6\xd7\xd8\xd9 \xda  \xdb\xdc\xdd\xde\xdf\xe0\xe1\xe2\xe3      "], // ConvertRest
+    [0, b"            \x15\x15\x15\x15\x15\x15\x15\x15\x15\x15          \x14         \x14    \x14\x14                                      "], // Unresolved
+    [0, b"                                \x0e         S    m\x13                                      "], // UnresolvedType
+    [0, b"            \xba\xba\xba\xba\xba\xba\xba\xba\xba\xba          \x16         \x16    \x16\x16                                      "], // DestructorName
+    [0, b"                                             \x19  \x18   \x17                                  "], // Requirements
+    [0, b"                                          !                                            "], // MaybeNoexcept
+    [0, b"                                             \x19\x1a \x18   \x17                                  "], // AfterNoexcept
+    [0, b"            \x1b\x1b\x1b\x1b\x1b\x1b\x1b\x1b\x1b\x1b          \x1b \x1b    \x1b  \x1b\x1b\x1b \x1b\x1b\x1b\x1b         \xcc \x1b\x1b\x1b\x1b\x1b\x1b\x1b\x1b\x1b\x1b \x1b\x1b\x1b\x1b   \x1b\x1b \x1b\x1b\x1b\x1b\x1b"], // RequiredTypes
+    [0, b"            \xba\xba\xba\xba\xba\xba\xba\xba\xba\xba                                                                 "], // Level
+    [0, b"            \x15\x15\x15\x15\x15\x15\x15\x15\x15\x15           \x1c                                                     "], // MoreLevels
+    [0, b"            \xba\xba\xba\xba\xba\xba\xba\xba\xba\xba                                                     \x1d           "], // UnresolvedName
+    [0, b"                                                                          \xb9            "], // OperatorName
+    [0, b"                             \x1e                                                         "], // AnyArray
+    [0, b"            \x1f\x1f\x1f\x1f\x1f\x1f\x1f\x1f\x1f\x1f                  \xe6       \xe6          \x1f \xe6 \xe6\xe6\xe6\xe6\xe6 \xe6  \xe6\xe6\xe6\xe6\xe6\xe6\xe6\xe6\xe6      "], // ArrayRest
+    [0, b"                                        \xb0       \xe4            \xd4 \xd5\xd6\xd7\xd8\xd9 \xda  \xdb\xdc\xdd\xde\xdf\xe0\xe1\xe2\xe3      "], // Bound
+    [0, b"            IIIIIIIIII         IIJI     II     I I I         I III I I  IIIII II       "], // NestMoreOrEnd
+};
 
 /// The number of the rule that a kind takes at a byte, if it takes one.
 #[inline]
 fn number(kind: u16, byte: u8) -> Option<usize>
     requires { kind < wide.kinds }
-    ensures few { IfSome result (λ number. number < 247) }
+    ensures few { IfSome result (λ number. number < 256) }
     ensures rule { (head : Head) → MatchOption result (wide.rule kind byte ≡ None) (λ number. wide.rule kind byte ≡ Some (listed_rule head number)) }
 {
-    match letter_in(&WIDE_LETTERS[kind as usize], byte) {
-        Some(letter) => Some(letter.wrapping_sub(FIRST_LETTER) as usize),
+    let row = &WIDE_ROWS[kind as usize];
+    match letter_in(&row.letters, byte) {
+        Some(letter) => Some(row.base as usize + letter as usize),
         None => None,
     }
 }

@@ -11,7 +11,7 @@ abbrev pub abbreviation_letters : List ℕ
 abbreviation_letters = codes "absiod"
 
 abbrev pub special_letters : List ℕ
-special_letters = codes "VTISA"
+special_letters = codes "VTISAM"
 
 abbrev pub named_special_letters : List ℕ
 named_special_letters = codes "VHWR"

@@ -1,16 +1,16 @@
 -- The parts of names.
 use Rattle.std.proofs.Common.{zero, suc, ◌≡◌, ◌≢◌, ◌<◌, refl, sym, ◌∙◌, ap, subst, arith, slice_index, length, ℕ, List, [], ◌∷◌, ◌++◌, Bool, true, false, nat_eq, ◌&&◌, ◌||◌, cond, codes, decimal, if◌then◌else◌, Option, None}
-use Rattle.std.proofs.lemmas.Bool.{eqb-true}
+use Rattle.std.proofs.lemmas.Bool.{eqb-true, eq-eqb, ne_eqb}
 use Rattle.std.specs.List.{starts_with}
 use Rattle.sym_core.specs.declared.Span.{Span}
-use Rattle.sym_print.specs.Unfold.{text}
+use Rattle.sym_print.specs.Unfold.{PartOf, text}
 use Rattle.cpp_grammar.specs.Parts.{begins_with, source_text}
 use Rattle.cpp_grammar.specs.Items as heads
 use Rattle.cpp_grammar.specs.Texts.{same_bytes}
 use Rattle.cpp_term.specs.Term as term
 use Rattle.cpp_term.specs.Term.{Term}
 use Rattle.cpp_term.specs.Items as items
-use Rattle.cpp_term.specs.Parts.{as_item, list_part, piece_parts, prefix_item, within_parts, base_within, opening_text, last_piece, entity_of, instance_parts}
+use Rattle.cpp_term.specs.Parts.{as_item, list_part, piece_parts, prefix_item, before_piece, component_parts, attached_parts, within_parts, base_within, opening_text, last_piece, entity_of, instance_parts}
 use Rattle.cpp_tree.specs.declared.node.Piece.{Piece}
 use Rattle.cpp_tree.specs.declared.node.Node.{Node}
 use Rattle.cpp_tree.specs.declared.node.Thunk.{Thunk}
@@ -19,7 +19,7 @@ use Rattle.cpp_term.proofs.Reargued.{reargued_none}
 use Rattle.std.proofs.lemmas.Bool.{true≢false}
 use Rattle.cpp_tree.specs.Nodes.{tree_at, tree_of, piece_of, is_again}
 use Rattle.cpp_layout.specs.Texts.{fixed_text}
-use Rattle.cpp_layout.specs.declared.texts.TheConstants.{ANONYMOUS, BLANK_LESS, BRACE, COLONS, CONVERSION, GREATER, LAMBDA, LESS, LITERAL, RIGHT_NUMBER, UNNAMED}
+use Rattle.cpp_layout.specs.declared.texts.TheConstants.{ANONYMOUS, AT, BLANK_LESS, BRACE, COLONS, CONVERSION, ENUM, GREATER, LAMBDA, LEFT_BRACE, LEFT_BRACKET, LESS, LITERAL, RIGHT_BRACES, RIGHT_BRACKET, RIGHT_NUMBER, UNNAMED}
 use Rattle.cpp_layout.specs.Layout.{IsNoSource}
 
 pub begins : (xs ys : List ℕ) → begins_with xs ys ≡ starts_with nat_eq ys xs
@@ -104,6 +104,14 @@ pub conversion-whole : (c : items.Context) (t : Term) → text (fixed_text CONVE
 unfolding piece_parts
 conversion-whole c t = refl
 
+pub enumeration-whole : (c : items.Context) (t : Term) (name : List ℕ) → text (fixed_text ENUM) ∷ as_item heads.left c t ∷ as_item heads.right c t ∷ text (fixed_text LEFT_BRACE) ∷ text name ∷ text (fixed_text RIGHT_BRACES) ∷ [] ≡ piece_parts c (term.enumeration t name)
+unfolding piece_parts
+enumeration-whole c t name = refl
+
+pub bindings-whole : (c : items.Context) (names : Term) → text (fixed_text LEFT_BRACKET) ∷ (list_part heads.first c names ++ (text (fixed_text RIGHT_BRACKET) ∷ [])) ≡ piece_parts c (term.bindings names)
+unfolding piece_parts
+bindings-whole c names = refl
+
 pub literal-whole : (c : items.Context) (name : List ℕ) → text (fixed_text LITERAL) ∷ text name ∷ [] ≡ piece_parts c (term.literal_operator name)
 unfolding piece_parts
 literal-whole c name = refl
@@ -117,17 +125,19 @@ other-source (Piece.Source i b) other = other i b refl
 other-source _ other = tt
 
 pub piece-none : (s : List ℕ) (ts : List Term) (given : Option Term) (c : items.Context) (p : Piece) → ((i : Bool) (b : Span) → p ≡ Piece.Source i b → ⊥) → ((a b : ℕ) → p ≡ Piece.Operator a b → ⊥) → ((b : Span) → p ≡ Piece.LiteralOperator b → ⊥)
-    → ((a n : ℕ) → p ≡ Piece.Lambda a n → ⊥) → ((a n : ℕ) → p ≡ Piece.GenericLambda a n → ⊥) → ((n : ℕ) → p ≡ Piece.Unnamed n → ⊥) → (p ≡ Piece.StringLiteral → ⊥) → ((t : ℕ) → p ≡ Piece.Conversion t → ⊥) → [] ≡ piece_parts c (reargued given (piece_of s ts p))
+    → ((a n : ℕ) → p ≡ Piece.Lambda a n → ⊥) → ((a n : ℕ) → p ≡ Piece.GenericLambda a n → ⊥) → ((n : ℕ) → p ≡ Piece.Unnamed n → ⊥) → (p ≡ Piece.StringLiteral → ⊥) → ((t : ℕ) → p ≡ Piece.Conversion t → ⊥) → ((t : ℕ) (name : Span) → p ≡ Piece.Enumeration t name → ⊥) → ((names : ℕ) → p ≡ Piece.Bindings names → ⊥) → [] ≡ piece_parts c (reargued given (piece_of s ts p))
 unfolding piece_of piece_parts reargued
-piece-none s ts given c (Piece.Source i b) h1 h2 h3 h4 h8 h5 h6 h7 = absurd (h1 i b refl)
-piece-none s ts given c (Piece.Operator a b) h1 h2 h3 h4 h8 h5 h6 h7 = absurd (h2 a b refl)
-piece-none s ts given c (Piece.LiteralOperator b) h1 h2 h3 h4 h8 h5 h6 h7 = absurd (h3 b refl)
-piece-none s ts given c (Piece.Lambda a n) h1 h2 h3 h4 h8 h5 h6 h7 = absurd (h4 a n refl)
-piece-none s ts given c (Piece.GenericLambda a n) h1 h2 h3 h4 h8 h5 h6 h7 = absurd (h8 a n refl)
-piece-none s ts given c (Piece.Unnamed n) h1 h2 h3 h4 h8 h5 h6 h7 = absurd (h5 n refl)
-piece-none s ts given c Piece.StringLiteral h1 h2 h3 h4 h8 h5 h6 h7 = absurd (h6 refl)
-piece-none s ts given c (Piece.Conversion t) h1 h2 h3 h4 h8 h5 h6 h7 = absurd (h7 t refl)
-piece-none s ts given c _ h1 h2 h3 h4 h8 h5 h6 h7 = refl
+piece-none s ts given c (Piece.Source i b) h1 h2 h3 h4 h8 h5 h6 h7 h9 h10 = absurd (h1 i b refl)
+piece-none s ts given c (Piece.Operator a b) h1 h2 h3 h4 h8 h5 h6 h7 h9 h10 = absurd (h2 a b refl)
+piece-none s ts given c (Piece.LiteralOperator b) h1 h2 h3 h4 h8 h5 h6 h7 h9 h10 = absurd (h3 b refl)
+piece-none s ts given c (Piece.Lambda a n) h1 h2 h3 h4 h8 h5 h6 h7 h9 h10 = absurd (h4 a n refl)
+piece-none s ts given c (Piece.GenericLambda a n) h1 h2 h3 h4 h8 h5 h6 h7 h9 h10 = absurd (h8 a n refl)
+piece-none s ts given c (Piece.Unnamed n) h1 h2 h3 h4 h8 h5 h6 h7 h9 h10 = absurd (h5 n refl)
+piece-none s ts given c Piece.StringLiteral h1 h2 h3 h4 h8 h5 h6 h7 h9 h10 = absurd (h6 refl)
+piece-none s ts given c (Piece.Conversion t) h1 h2 h3 h4 h8 h5 h6 h7 h9 h10 = absurd (h7 t refl)
+piece-none s ts given c (Piece.Enumeration t name) h1 h2 h3 h4 h8 h5 h6 h7 h9 h10 = absurd (h9 t name refl)
+piece-none s ts given c (Piece.Bindings names) h1 h2 h3 h4 h8 h5 h6 h7 h9 h10 = absurd (h10 names refl)
+piece-none s ts given c _ h1 h2 h3 h4 h8 h5 h6 h7 h9 h10 = refl
 
 pub base-other : (s : List ℕ) (ts : List Term) (given : Option Term) (c : items.Context) (prefix : Term) (p : Piece) → ((d : ℕ) → p ≡ Piece.Constructor d → ⊥) → ((d b : ℕ) → p ≡ Piece.Inheriting d b → ⊥) → ((d : ℕ) → p ≡ Piece.Destructor d → ⊥) → piece_parts c (reargued given (piece_of s ts p)) ≡ base_within c prefix (reargued given (piece_of s ts p))
 unfolding piece_of base_within reargued
@@ -143,20 +153,53 @@ unfolding tree_of prefix_item reargued is_again
 prefix-held s us ts given c n flat t a is held = ap (λ m. prefix_item c (reargued given (tree_of s us ts m))) (sym held) ∙ ap (λ u. prefix_item c u) (sym is)
 
 pub within-other : (s : List ℕ) (ts : List Term) (given : Option Term) (c : items.Context) (prefix t : Term) (p : Piece) → t ≡ reargued given (piece_of s ts p) → ((d : ℕ) → p ≡ Piece.Constructor d → ⊥) → ((d b : ℕ) → p ≡ Piece.Inheriting d b → ⊥) → ((d : ℕ) → p ≡ Piece.Destructor d → ⊥)
-    → prefix_item c prefix ∷ text (fixed_text COLONS) ∷ as_item heads.piece c t ∷ [] ≡ within_parts c prefix (reargued given (piece_of s ts p))
+    → component_parts c prefix t ≡ within_parts c prefix (reargued given (piece_of s ts p))
 unfolding piece_of within_parts reargued
 within-other s ts given c prefix t (Piece.Constructor d) is h1 h3 h2 = absurd (h1 d refl)
 within-other s ts given c prefix t (Piece.Inheriting d b) is h1 h3 h2 = absurd (h3 d b refl)
 within-other s ts given c prefix t (Piece.Destructor d) is h1 h3 h2 = absurd (h2 d refl)
-within-other s ts given c prefix t (Piece.Source i b) is h1 h3 h2 = rw is refl
-within-other s ts given c prefix t (Piece.Operator a b) is h1 h3 h2 = rw is refl
-within-other s ts given c prefix t (Piece.LiteralOperator b) is h1 h3 h2 = rw is refl
-within-other s ts given c prefix t (Piece.Lambda a n) is h1 h3 h2 = rw is refl
-within-other s ts given c prefix t (Piece.GenericLambda a n) is h1 h3 h2 = rw is refl
-within-other s ts given c prefix t (Piece.Unnamed n) is h1 h3 h2 = rw is refl
-within-other s ts given c prefix t (Piece.Conversion a) is h1 h3 h2 = rw is refl
-within-other s ts given c prefix t Piece.StringLiteral is h1 h3 h2 = rw is refl
-within-other s ts given c prefix t Piece.Absent is h1 h3 h2 = rw is refl
+within-other s ts given c prefix t _ is h1 h3 h2 = ap (component_parts c prefix) is
+
+-- ## Names that are attached to modules
+
+pub component-nested : (s : List ℕ) (us : List Thunk) (ts : List Term) (given : Option Term) (c : items.Context) (n : Node) (flat : is_again n ≡ false) (t p : Term) → t ≡ reargued given (tree_of s us ts n) → ((a b u w : ℕ) → n ≡ Node.Operation a b u w → ⊥)
+    → prefix_item c t ∷ text (fixed_text COLONS) ∷ as_item heads.piece c p ∷ [] ≡ component_parts c t p
+unfolding component_parts reargued tree_of is_again
+component-nested s us ts given c n flat t p is other =
+    subst (λ u. prefix_item c u ∷ text (fixed_text COLONS) ∷ as_item heads.piece c p ∷ [] ≡ component_parts c u p) (sym is) (by n flat other)
+  where
+    by : (n : Node) → is_again n ≡ false → ((a b u w : ℕ) → n ≡ Node.Operation a b u w → ⊥)
+        → prefix_item c (reargued given (tree_of s us ts n)) ∷ text (fixed_text COLONS) ∷ as_item heads.piece c p ∷ [] ≡ component_parts c (reargued given (tree_of s us ts n)) p
+    by (Node.Operation a b u w) flat other = absurd (other a b u w refl)
+    by (Node.Reargued x z) flat other = absurd (true≢false flat)
+    by _ flat other = refl
+
+module _ (c : items.Context) (a b : ℕ) (x y t p : Term) (is : t ≡ term.operation a b x y) where
+  pub component-plain : (a ≡ 87 → ⊥) → prefix_item c t ∷ text (fixed_text COLONS) ∷ as_item heads.piece c p ∷ [] ≡ component_parts c t p
+  unfolding component_parts
+  component-plain other = rw (is, component_parts, ne_eqb a 87 other) refl
+
+  pub component-attached : a ≡ 87 → b ≡ 64 → attached_parts c x p y ≡ component_parts c t p
+  unfolding component_parts
+  component-attached first second = rw (is, component_parts, eq-eqb a 87 first, eq-eqb b 64 second) refl
+
+  pub component-alone : a ≡ 87 → (b ≡ 64 → ⊥) → (none : Term) → none ≡ term.absent → attached_parts c none p t ≡ component_parts c t p
+  unfolding component_parts
+  component-alone first other none absent = rw (is, component_parts, eq-eqb a 87 first, ne_eqb b 64 other, absent) refl
+
+pub before-none : (c : items.Context) (t : Term) (others : List (PartOf items.Item)) → t ≡ term.absent → others ≡ before_piece c t ++ others
+unfolding before_piece
+before-none c t others is = rw is refl
+
+pub before-some : (c : items.Context) (t : Term) (others : List (PartOf items.Item)) → (t ≡ term.absent → ⊥) → prefix_item c t ∷ text (fixed_text COLONS) ∷ others ≡ before_piece c t ++ others
+unfolding before_piece
+before-some c term.absent others there = absurd (there refl)
+before-some c _ others there = refl
+
+pub attached-whole : (c told : items.Context) (prefix p its_module : Term) → told ≡ c
+    → before_piece told prefix ++ (as_item heads.piece c p ∷ text (fixed_text AT) ∷ as_item heads.left told its_module ∷ []) ≡ attached_parts c prefix p its_module
+unfolding attached_parts
+attached-whole c told prefix p its_module is = rw is refl
 
 -- ## The entity of a local name
 

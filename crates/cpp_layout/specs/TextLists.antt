@@ -54,7 +54,11 @@ plain_texts =
     codes " decltype(auto)" ∷
     codes "decltype(" ∷
     codes "fp" ∷
-    codes "(this " ∷ []
+    codes "(this " ∷
+    codes "@" ∷
+    codes "{enum:" ∷
+    codes "{" ∷
+    codes "}}" ∷ []
 
 -- what follows a function's parameters
 abbrev pub suffix_texts : List (List ℕ)
@@ -200,4 +204,5 @@ operation_texts =
     codes "throw" ∷
     codes ")[" ∷
     codes "_BitInt(" ∷
-    codes "unsigned _BitInt(" ∷ []
+    codes "unsigned _BitInt(" ∷
+    codes ":" ∷ []

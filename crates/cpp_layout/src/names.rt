@@ -1,7 +1,7 @@
 // The parts of names.
 #![tactic(auto)]
 
-ghost use Rattle.std.specs.Prelude.{◌≡◌, ℕ, ◌+◌, ◌<◌, ◌≤◌, ◌∷◌, List, length, codes, decimal, if◌then◌else◌};
+ghost use Rattle.std.specs.Prelude.{◌≡◌, ℕ, ◌+◌, ◌<◌, ◌≤◌, ◌∷◌, ◌++◌, List, length, codes, decimal, if◌then◌else◌};
 ghost use Rattle.sym_print.specs.Held.{Held};
 ghost use Rattle.sym_print.specs.Unfold.{PartOf, text};
 ghost use Rattle.sym_print.specs.declared.detail.Detail.{Detail};
@@ -9,7 +9,7 @@ ghost use Rattle.sym_print.specs.Details.{has_arguments};
 ghost use Rattle.cpp_grammar.specs.Parts.{begins_with, source_text};
 ghost use Rattle.cpp_term.specs.Term as term;
 ghost use Rattle.cpp_term.specs.Items as items;
-ghost use Rattle.cpp_term.specs.Parts.{piece_parts, prefix_item, within_parts, base_within, base_tagged, own_piece, entity_of, opening_text, last_piece, instance_parts};
+ghost use Rattle.cpp_term.specs.Parts.{piece_parts, prefix_item, before_piece, component_parts, attached_parts, within_parts, base_within, base_tagged, own_piece, entity_of, opening_text, last_piece, instance_parts};
 ghost use Rattle.cpp_tree.specs.Nodes.{piece_of, tree_at, trees, bytes_at, IsTable, IsWithin, IsPieceBelow, IsThereBelow};
 ghost use Rattle.cpp_layout.specs.Texts.{fixed_text};
 ghost use Rattle.cpp_layout.specs.declared.texts.TheConstants.{BLANK_LESS, COLONS, COUNT, LESS};
@@ -20,6 +20,7 @@ use crate::context::{Context, Place};
 use crate::symbol::Symbol;
 use crate::{form, texts};
 use cpp_tree::node::{Node, Piece};
+use cpp_tree::nodes::ABSENT;
 use itoa::Buffer;
 use sym_core::Span;
 use sym_print::{Part, PartList};
@@ -151,6 +152,8 @@ impl Symbol {
             Piece::Unnamed(number) => self.fill_unnamed(parts, number, ctx),
             Piece::StringLiteral => self.push_text(parts, texts::STRING),
             Piece::Conversion(ty) => self.fill_conversion(parts, ty, ctx),
+            Piece::Enumeration { ty, name } => self.fill_enumeration(parts, ty, name, ctx),
+            Piece::Bindings(names) => self.fill_bindings(parts, names, ctx),
             _ => {}
         }
     }
@@ -218,8 +221,93 @@ impl Symbol {
             Piece::Constructor(_) => self.fill_structor(parts, prefix, texts::COLONS, ctx),
             Piece::Inheriting { .. } => self.fill_structor(parts, prefix, texts::COLONS, ctx),
             Piece::Destructor(_) => self.fill_structor(parts, prefix, texts::COLONS_TILDE, ctx),
+            _ => self.fill_component(parts, node, prefix, ctx),
+        }
+    }
+
+    /// The parts of a piece after its prefix, and before the module that it is attached to, if it is to one.
+    fn fill_component<S: PartList<Context>>(
+        &self,
+        parts: &mut S,
+        node: u32,
+        prefix: u32,
+        ctx: Context,
+    )
+        requires context { IsThereBelow (length self.now.table.nodes) ctx.argument }
+        requires table { IsTable (table_of self.now) }
+        requires node { node < length self.now.table.nodes }
+        requires prefix { prefix < length self.now.table.nodes }
+        requires room { 8 ≤ S.room parts.old }
+        ensures shows { Shows self.now ctx.detail (S.held parts.old) (S.held parts.new) (component_parts (context_of ctx) (tree_shown self.now ctx prefix) (own_piece (tree_shown self.now ctx node))) }
+        ensures few { S.room parts.old ≤ S.room parts.new + 8 }
+    {
+        let place = self.place(prefix, ctx);
+        match self.stored(place.node, place.ctx) {
+            Node::Operation {
+                first,
+                second,
+                left,
+                right,
+            } => {
+                if first != b'W' {
+                    self.fill_nested(parts, node, prefix, ctx);
+                } else if second == b'@' {
+                    self.fill_attached(parts, node, ctx, left, right, place.ctx);
+                } else {
+                    self.fill_attached(parts, node, ctx, ABSENT, prefix, ctx);
+                }
+            }
             _ => self.fill_nested(parts, node, prefix, ctx),
         }
+    }
+
+    /// Adds a prefix and what is between it and a piece, if there is a prefix.
+    fn push_before<S: PartList<Context>>(&self, parts: &mut S, prefix: u32, ctx: Context)
+        requires context { IsThereBelow (length self.now.table.nodes) ctx.argument }
+        requires room { 2 ≤ S.room parts.old }
+        requires table { IsTable (table_of self.now) }
+        requires prefix { prefix < length self.now.table.nodes }
+        ensures shows { (below : Held Context) (others : List (PartOf items.Item)) → Shows self.now ctx.detail below (S.held parts.old) others
+            → Shows self.now ctx.detail below (S.held parts.new) (before_piece (context_of ctx) (tree_shown self.now ctx prefix) ++ others) }
+        ensures room { S.room parts.old ≤ S.room parts.new + 2 }
+    {
+        let place = self.place(prefix, ctx);
+        match self.stored(place.node, place.ctx) {
+            Node::Absent => {}
+            _ => {
+                self.push_text(parts, texts::COLONS);
+                self.push_prefix(parts, prefix, ctx);
+            }
+        }
+    }
+
+    /// The parts of a piece that is attached to a module, after its prefix, if it has one.
+    // <unqualified-name> ::= <module-name> <unqualified-name>
+    fn fill_attached<S: PartList<Context>>(
+        &self,
+        parts: &mut S,
+        node: u32,
+        ctx: Context,
+        prefix: u32,
+        its_module: u32,
+        around: Context,
+    )
+        requires context { IsThereBelow (length self.now.table.nodes) ctx.argument }
+        requires around { IsThereBelow (length self.now.table.nodes) around.argument }
+        requires index { context_of around ≡ context_of ctx }
+        requires detail { around.detail ≡ ctx.detail }
+        requires table { IsTable (table_of self.now) }
+        requires node { node < length self.now.table.nodes }
+        requires prefix { prefix < length self.now.table.nodes }
+        requires its_module { its_module < length self.now.table.nodes }
+        requires room { 8 ≤ S.room parts.old }
+        ensures shows { Shows self.now ctx.detail (S.held parts.old) (S.held parts.new) (attached_parts (context_of ctx) (tree_shown self.now around prefix) (own_piece (tree_shown self.now ctx node)) (tree_shown self.now around its_module)) }
+        ensures few { S.room parts.old ≤ S.room parts.new + 8 }
+    {
+        self.push_item(parts, its_module, form::LEFT, 0, around);
+        self.push_text(parts, texts::AT);
+        self.push_item(parts, node, form::PIECE, 0, ctx);
+        self.push_before(parts, prefix, around);
     }
 
     /// The entity of a local name. Its default argument isn't shown.

@@ -107,6 +107,7 @@ pub(crate) fn special(letter: u8) -> u16
         b'I' => texts::SPECIAL + 2, // typeinfo for
         b'S' => texts::SPECIAL + 3, // typeinfo name for
         b'A' => texts::SPECIAL + 4, // template parameter object for
+        b'M' => texts::SPECIAL + 5, // initializer for module
         _ => texts::NONE,
     }
 }

@@ -42,7 +42,7 @@ macro_rules! row {
 }
 
 /// The operations in the order of the table, and what is printed where there is none.
-static OPERATIONS: [Operation; 94] = [
+static OPERATIONS: [Operation; 97] = [
     row!(2 => OPERATION + 0, Operand::From(2), NONE, Operand::NotPrinted, NONE), // ps
     row!(2 => OPERATION + 1, Operand::From(2), NONE, Operand::NotPrinted, NONE), // ng
     row!(2 => OPERATION + 2, Operand::From(2), NONE, Operand::NotPrinted, NONE), // ad
@@ -136,6 +136,9 @@ static OPERATIONS: [Operation; 94] = [
     row!(0 => OPERATION + 48, Operand::AsItIs, NONE, Operand::AsItIs, NONE), // di
     row!(0 => OPERATION + 46, Operand::AsItIs, OPERATION + 47, Operand::AsItIs, NONE), // dx
     row!(0 => OPERATION + 35, Operand::AsItIs, NONE, Operand::NotPrinted, NONE), // =
+    row!(0 => NONE, Operand::AsItIs, NONE, Operand::NotPrinted, NONE), // W1
+    row!(0 => NONE, Operand::AsItIs, OPERATION + 48, Operand::AsItIs, NONE), // WW
+    row!(0 => NONE, Operand::AsItIs, OPERATION + 79, Operand::AsItIs, NONE), // WP
     row!(0 => NONE, Operand::NotPrinted, NONE, Operand::NotPrinted, NONE), // no operation
 ];
 
@@ -237,7 +240,10 @@ fn place_of(code: u16) -> usize
         25705 => 90, // di
         25720 => 91, // dx
         15648 => 92, // =
-        _ => 93,
+        22321 => 93, // W1
+        22359 => 94, // WW
+        22352 => 95, // WP
+        _ => 96,
     }
 }
 

@@ -230,6 +230,50 @@ impl Symbol {
         self.push_text(parts, texts::CONVERSION);
     }
 
+    /// The parts of the name of an enumeration that has none, by its type and its first enumerator.
+    // <unnamed-type-name> ::= Ue <underlying type> <source-name of the first enumerator>
+    pub(crate) fn fill_enumeration<S: PartList<Context>>(
+        &self,
+        parts: &mut S,
+        ty: u32,
+        name: Span,
+        ctx: Context,
+    )
+        requires context { IsThereBelow (length self.now.table.nodes) ctx.argument }
+        requires ty { ty < length self.now.table.nodes }
+        requires name { IsWithin name self.now.bytes }
+        requires room { 8 ≤ S.room parts.old }
+        ensures shows { Shows self.now ctx.detail (S.held parts.old) (S.held parts.new) (piece_parts (context_of ctx) (term.enumeration (tree_shown self.now ctx ty) (bytes_at self.now.bytes name))) }
+        ensures few { S.room parts.old ≤ S.room parts.new + 8 }
+    {
+        self.push_text(parts, texts::RIGHT_BRACES);
+        self.push_bytes(parts, name);
+        self.push_text(parts, texts::LEFT_BRACE);
+        self.push_item(parts, ty, form::RIGHT, 0, ctx);
+        self.push_item(parts, ty, form::LEFT, 0, ctx);
+        self.push_text(parts, texts::ENUM);
+    }
+
+    /// The parts of the name of a structured binding.
+    // <unqualified-name> ::= DC <source-name>+ E
+    pub(crate) fn fill_bindings<S: PartList<Context>>(
+        &self,
+        parts: &mut S,
+        names: u32,
+        ctx: Context,
+    )
+        requires context { IsThereBelow (length self.now.table.nodes) ctx.argument }
+        requires table { IsTable (table_of self.now) }
+        requires names { names < length self.now.table.nodes }
+        requires room { 8 ≤ S.room parts.old }
+        ensures shows { Shows self.now ctx.detail (S.held parts.old) (S.held parts.new) (piece_parts (context_of ctx) (term.bindings (tree_shown self.now ctx names))) }
+        ensures few { S.room parts.old ≤ S.room parts.new + 8 }
+    {
+        self.push_text(parts, texts::RIGHT_BRACKET);
+        self.push_list(parts, names, form::FIRST, ctx);
+        self.push_text(parts, texts::LEFT_BRACKET);
+    }
+
     /// The parts of a constructor's or a destructor's name.
     // <ctor-dtor-name> ::= C1 | C2 | C3 | D0 | D1 | D2
     pub(crate) fn fill_structor<S: PartList<Context>>(

@@ -106,103 +106,111 @@ pub const FUNCTION_PARAMETER: u16 = 49;
 
 pub const LEFT_THIS: u16 = 50;
 
+pub const AT: u16 = 51;
+
+pub const ENUM: u16 = 52;
+
+pub const LEFT_BRACE: u16 = 53;
+
+pub const RIGHT_BRACES: u16 = 54;
+
 /// Where the texts after a function's parameters begin.
-pub const SUFFIX: u16 = 51;
+pub const SUFFIX: u16 = 55;
 
 /// No text.
-pub const NONE: u16 = 51;
+pub const NONE: u16 = 55;
 
 /// Where the builtin types begin.
-pub const BUILTIN: u16 = 99;
+pub const BUILTIN: u16 = 103;
 
 /// Where the abbreviations begin, and their names without `std::`.
-pub const ABBREVIATION: u16 = 130;
+pub const ABBREVIATION: u16 = 134;
 
-pub const LAST_OF_ABBREVIATION: u16 = 136;
+pub const LAST_OF_ABBREVIATION: u16 = 140;
 
 /// Where the special names begin.
-pub const SPECIAL: u16 = 142;
+pub const SPECIAL: u16 = 146;
 
 /// Where the special names of names begin.
-pub const NAMED_SPECIAL: u16 = 147;
+pub const NAMED_SPECIAL: u16 = 152;
 
 /// Where the endings of integer literals begin.
-pub const ENDING: u16 = 151;
+pub const ENDING: u16 = 156;
 
 /// Where the qualifiers with their blank at the end begin, except for those of no qualifier.
-pub const BLANKED: u16 = 155;
+pub const BLANKED: u16 = 160;
 
 /// The name of an operator without a code.
-pub const OPERATOR_ALONE: u16 = 163;
+pub const OPERATOR_ALONE: u16 = 168;
 
 /// Where the texts of operations begin.
-pub const OPERATION: u16 = 164;
+pub const OPERATION: u16 = 169;
 
 /// Where the names of operators begin.
-pub const OPERATOR: u16 = 243;
+pub const OPERATOR: u16 = 249;
 
 /// How many operators there are.
 pub const OPERATORS: u16 = 48;
 
 /// How many texts there are.
-pub const COUNT: u16 = 291;
+pub const COUNT: u16 = 297;
 
 /// The name of an operator.
 #[tactic(auto, unfolding(crate::specs::Texts::fixed_text, cpp_grammar::specs::Texts::builtin_texts, cpp_grammar::specs::Texts::operator_texts, cpp_grammar::specs::Texts::abbreviation_texts, cpp_grammar::specs::Texts::special_texts, cpp_grammar::specs::Texts::named_special_texts, cpp_grammar::specs::Texts::literal_endings))]
 #[inline(always)]
 fn operator_text(number: u16) -> &'static [u8]
-    requires { 243 ≤ number }
+    requires { 249 ≤ number }
     ensures { result.now ≡ fixed_text number }
 {
     match number {
-        243 => b"operator new",
-        244 => b"operator new[]",
-        245 => b"operator delete",
-        246 => b"operator delete[]",
-        247 => b"operator co_await",
-        248 => b"operator+",
-        249 => b"operator-",
-        250 => b"operator&",
-        251 => b"operator*",
-        252 => b"operator~",
-        253 => b"operator+",
-        254 => b"operator-",
-        255 => b"operator*",
-        256 => b"operator/",
-        257 => b"operator%",
-        258 => b"operator&",
-        259 => b"operator^",
-        260 => b"operator=",
-        261 => b"operator+=",
-        262 => b"operator-=",
-        263 => b"operator*=",
-        264 => b"operator/=",
-        265 => b"operator%=",
-        266 => b"operator&=",
-        267 => b"operator|=",
-        268 => b"operator^=",
-        269 => b"operator<<",
-        270 => b"operator>>",
-        271 => b"operator<<=",
-        272 => b"operator>>=",
-        273 => b"operator==",
-        274 => b"operator!=",
-        275 => b"operator<",
-        276 => b"operator>",
-        277 => b"operator<=",
-        278 => b"operator>=",
-        279 => b"operator<=>",
-        280 => b"operator!",
-        281 => b"operator&&",
-        282 => b"operator||",
-        283 => b"operator++",
-        284 => b"operator--",
-        285 => b"operator,",
-        286 => b"operator->*",
-        287 => b"operator->",
-        288 => b"operator()",
-        289 => b"operator[]",
-        290 => b"operator|",
+        249 => b"operator new",
+        250 => b"operator new[]",
+        251 => b"operator delete",
+        252 => b"operator delete[]",
+        253 => b"operator co_await",
+        254 => b"operator+",
+        255 => b"operator-",
+        256 => b"operator&",
+        257 => b"operator*",
+        258 => b"operator~",
+        259 => b"operator+",
+        260 => b"operator-",
+        261 => b"operator*",
+        262 => b"operator/",
+        263 => b"operator%",
+        264 => b"operator&",
+        265 => b"operator^",
+        266 => b"operator=",
+        267 => b"operator+=",
+        268 => b"operator-=",
+        269 => b"operator*=",
+        270 => b"operator/=",
+        271 => b"operator%=",
+        272 => b"operator&=",
+        273 => b"operator|=",
+        274 => b"operator^=",
+        275 => b"operator<<",
+        276 => b"operator>>",
+        277 => b"operator<<=",
+        278 => b"operator>>=",
+        279 => b"operator==",
+        280 => b"operator!=",
+        281 => b"operator<",
+        282 => b"operator>",
+        283 => b"operator<=",
+        284 => b"operator>=",
+        285 => b"operator<=>",
+        286 => b"operator!",
+        287 => b"operator&&",
+        288 => b"operator||",
+        289 => b"operator++",
+        290 => b"operator--",
+        291 => b"operator,",
+        292 => b"operator->*",
+        293 => b"operator->",
+        294 => b"operator()",
+        295 => b"operator[]",
+        296 => b"operator|",
         _ => b"",
     }
 }
@@ -211,89 +219,90 @@ fn operator_text(number: u16) -> &'static [u8]
 #[tactic(auto, unfolding(crate::specs::Texts::fixed_text, cpp_grammar::specs::Texts::builtin_texts, cpp_grammar::specs::Texts::operator_texts, cpp_grammar::specs::Texts::abbreviation_texts, cpp_grammar::specs::Texts::special_texts, cpp_grammar::specs::Texts::named_special_texts, cpp_grammar::specs::Texts::literal_endings))]
 #[inline(always)]
 fn operation_text(number: u16) -> &'static [u8]
-    requires { 164 ≤ number }
+    requires { 169 ≤ number }
     ensures { result.now ≡ fixed_text number }
 {
     match number {
-        164 => b"+",
-        165 => b"-",
-        166 => b"&",
-        167 => b"*",
-        168 => b"~",
-        169 => b"!",
-        170 => b"co_await ",
-        171 => b"delete ",
-        172 => b"delete[] ",
-        173 => b"throw ",
-        174 => b"::",
-        175 => b"++",
-        176 => b"--",
-        177 => b".*",
-        178 => b"->*",
-        179 => b" * ",
-        180 => b" / ",
-        181 => b" % ",
-        182 => b" + ",
-        183 => b" - ",
-        184 => b" << ",
-        185 => b" <=> ",
-        186 => b" < ",
-        187 => b" <= ",
-        188 => b" >= ",
-        189 => b" == ",
-        190 => b" != ",
-        191 => b" & ",
-        192 => b" ^ ",
-        193 => b" | ",
-        194 => b" && ",
-        195 => b" || ",
-        196 => b" > ",
-        197 => b" >> ",
-        198 => b", ",
-        199 => b" = ",
-        200 => b" += ",
-        201 => b" -= ",
-        202 => b" *= ",
-        203 => b" /= ",
-        204 => b" %= ",
-        205 => b" &= ",
-        206 => b" |= ",
-        207 => b" ^= ",
-        208 => b" <<= ",
-        209 => b" >>= ",
-        210 => b"[",
-        211 => b"]",
-        212 => b".",
-        213 => b"->",
-        214 => b" ? ",
-        215 => b" : ",
-        216 => b"(",
-        217 => b")",
-        218 => b")(",
-        219 => b"{",
-        220 => b"}",
-        221 => b"dynamic_cast<",
-        222 => b">(",
-        223 => b"static_cast<",
-        224 => b"const_cast<",
-        225 => b"reinterpret_cast<",
-        226 => b"typeid (",
-        227 => b"sizeof (",
-        228 => b"alignof (",
-        229 => b"noexcept (",
-        230 => b"sizeof...(",
-        231 => b"this",
-        232 => b"new",
-        233 => b" ",
-        234 => b"new[]",
-        235 => b"(...",
-        236 => b"...)",
-        237 => b"requires {...}",
-        238 => b"requires (...) {...}",
-        239 => b"throw",
-        240 => b")[",
-        241 => b"_BitInt(",
-        242 => b"unsigned _BitInt(",
+        169 => b"+",
+        170 => b"-",
+        171 => b"&",
+        172 => b"*",
+        173 => b"~",
+        174 => b"!",
+        175 => b"co_await ",
+        176 => b"delete ",
+        177 => b"delete[] ",
+        178 => b"throw ",
+        179 => b"::",
+        180 => b"++",
+        181 => b"--",
+        182 => b".*",
+        183 => b"->*",
+        184 => b" * ",
+        185 => b" / ",
+        186 => b" % ",
+        187 => b" + ",
+        188 => b" - ",
+        189 => b" << ",
+        190 => b" <=> ",
+        191 => b" < ",
+        192 => b" <= ",
+        193 => b" >= ",
+        194 => b" == ",
+        195 => b" != ",
+        196 => b" & ",
+        197 => b" ^ ",
+        198 => b" | ",
+        199 => b" && ",
+        200 => b" || ",
+        201 => b" > ",
+        202 => b" >> ",
+        203 => b", ",
+        204 => b" = ",
+        205 => b" += ",
+        206 => b" -= ",
+        207 => b" *= ",
+        208 => b" /= ",
+        209 => b" %= ",
+        210 => b" &= ",
+        211 => b" |= ",
+        212 => b" ^= ",
+        213 => b" <<= ",
+        214 => b" >>= ",
+        215 => b"[",
+        216 => b"]",
+        217 => b".",
+        218 => b"->",
+        219 => b" ? ",
+        220 => b" : ",
+        221 => b"(",
+        222 => b")",
+        223 => b")(",
+        224 => b"{",
+        225 => b"}",
+        226 => b"dynamic_cast<",
+        227 => b">(",
+        228 => b"static_cast<",
+        229 => b"const_cast<",
+        230 => b"reinterpret_cast<",
+        231 => b"typeid (",
+        232 => b"sizeof (",
+        233 => b"alignof (",
+        234 => b"noexcept (",
+        235 => b"sizeof...(",
+        236 => b"this",
+        237 => b"new",
+        238 => b" ",
+        239 => b"new[]",
+        240 => b"(...",
+        241 => b"...)",
+        242 => b"requires {...}",
+        243 => b"requires (...) {...}",
+        244 => b"throw",
+        245 => b")[",
+        246 => b"_BitInt(",
+        247 => b"unsigned _BitInt(",
+        248 => b":",
         _ => operator_text(number),
     }
 }
@@ -302,43 +311,44 @@ fn operation_text(number: u16) -> &'static [u8]
 #[tactic(auto, unfolding(crate::specs::Texts::fixed_text, cpp_grammar::specs::Texts::builtin_texts, cpp_grammar::specs::Texts::operator_texts, cpp_grammar::specs::Texts::abbreviation_texts, cpp_grammar::specs::Texts::special_texts, cpp_grammar::specs::Texts::named_special_texts, cpp_grammar::specs::Texts::literal_endings))]
 #[inline(always)]
 fn remaining_text(number: u16) -> &'static [u8]
-    requires { 130 ≤ number }
+    requires { 134 ≤ number }
     ensures { result.now ≡ fixed_text number }
 {
     match number {
-        130 => b"std::allocator",
-        131 => b"std::basic_string",
-        132 => b"std::string",
-        133 => b"std::istream",
-        134 => b"std::ostream",
-        135 => b"std::iostream",
-        136 => b"allocator",
-        137 => b"basic_string",
-        138 => b"string",
-        139 => b"istream",
-        140 => b"ostream",
-        141 => b"iostream",
-        142 => b"vtable for ",
-        143 => b"VTT for ",
-        144 => b"typeinfo for ",
-        145 => b"typeinfo name for ",
-        146 => b"template parameter object for ",
-        147 => b"guard variable for ",
-        148 => b"thread-local initialization routine for ",
-        149 => b"thread-local wrapper routine for ",
-        150 => b"reference temporary #0 for ",
-        151 => b"u",
-        152 => b"l",
-        153 => b"ul",
-        154 => b"ll",
-        155 => b"ull",
-        156 => b"restrict ",
-        157 => b"volatile ",
-        158 => b"volatile restrict ",
-        159 => b"const ",
-        160 => b"const restrict ",
-        161 => b"const volatile ",
-        162 => b"const volatile restrict ",
+        134 => b"std::allocator",
+        135 => b"std::basic_string",
+        136 => b"std::string",
+        137 => b"std::istream",
+        138 => b"std::ostream",
+        139 => b"std::iostream",
+        140 => b"allocator",
+        141 => b"basic_string",
+        142 => b"string",
+        143 => b"istream",
+        144 => b"ostream",
+        145 => b"iostream",
+        146 => b"vtable for ",
+        147 => b"VTT for ",
+        148 => b"typeinfo for ",
+        149 => b"typeinfo name for ",
+        150 => b"template parameter object for ",
+        151 => b"initializer for module ",
+        152 => b"guard variable for ",
+        153 => b"thread-local initialization routine for ",
+        154 => b"thread-local wrapper routine for ",
+        155 => b"reference temporary #0 for ",
+        156 => b"u",
+        157 => b"l",
+        158 => b"ul",
+        159 => b"ll",
+        160 => b"ull",
+        161 => b"restrict ",
+        162 => b"volatile ",
+        163 => b"volatile restrict ",
+        164 => b"const ",
+        165 => b"const restrict ",
+        166 => b"const volatile ",
+        167 => b"const volatile restrict ",
         OPERATOR_ALONE => b"operator",
         _ => operation_text(number),
     }
@@ -348,41 +358,41 @@ fn remaining_text(number: u16) -> &'static [u8]
 #[tactic(auto, unfolding(crate::specs::Texts::fixed_text, cpp_grammar::specs::Texts::builtin_texts))]
 #[inline(always)]
 fn builtin_text(number: u16) -> &'static [u8]
-    requires { 99 ≤ number }
+    requires { 103 ≤ number }
     ensures { result.now ≡ fixed_text number }
 {
     match number {
-        99 => b"void",
-        100 => b"wchar_t",
-        101 => b"bool",
-        102 => b"char",
-        103 => b"signed char",
-        104 => b"unsigned char",
-        105 => b"short",
-        106 => b"unsigned short",
-        107 => b"int",
-        108 => b"unsigned int",
-        109 => b"long",
-        110 => b"unsigned long",
-        111 => b"long long",
-        112 => b"unsigned long long",
-        113 => b"__int128",
-        114 => b"unsigned __int128",
-        115 => b"float",
-        116 => b"double",
-        117 => b"long double",
-        118 => b"__float128",
-        119 => b"...",
-        120 => b"char32_t",
-        121 => b"char16_t",
-        122 => b"char8_t",
-        123 => b"auto",
-        124 => b"decltype(auto)",
-        125 => b"std::nullptr_t",
-        126 => b"decimal64",
-        127 => b"decimal128",
-        128 => b"decimal32",
-        129 => b"half",
+        103 => b"void",
+        104 => b"wchar_t",
+        105 => b"bool",
+        106 => b"char",
+        107 => b"signed char",
+        108 => b"unsigned char",
+        109 => b"short",
+        110 => b"unsigned short",
+        111 => b"int",
+        112 => b"unsigned int",
+        113 => b"long",
+        114 => b"unsigned long",
+        115 => b"long long",
+        116 => b"unsigned long long",
+        117 => b"__int128",
+        118 => b"unsigned __int128",
+        119 => b"float",
+        120 => b"double",
+        121 => b"long double",
+        122 => b"__float128",
+        123 => b"...",
+        124 => b"char32_t",
+        125 => b"char16_t",
+        126 => b"char8_t",
+        127 => b"auto",
+        128 => b"decltype(auto)",
+        129 => b"std::nullptr_t",
+        130 => b"decimal64",
+        131 => b"decimal128",
+        132 => b"decimal32",
+        133 => b"half",
         _ => remaining_text(number),
     }
 }
@@ -391,58 +401,58 @@ fn builtin_text(number: u16) -> &'static [u8]
 #[tactic(auto, unfolding(crate::specs::Texts::fixed_text))]
 #[inline(always)]
 fn suffix_text(number: u16) -> &'static [u8]
-    requires { 51 ≤ number }
+    requires { 55 ≤ number }
     ensures { result.now ≡ fixed_text number }
 {
     match number {
         NONE => b"",
-        52 => b" restrict",
-        53 => b" volatile",
-        54 => b" volatile restrict",
-        55 => b" const",
-        56 => b" const restrict",
-        57 => b" const volatile",
-        58 => b" const volatile restrict",
-        59 => b" &",
-        60 => b" restrict &",
-        61 => b" volatile &",
-        62 => b" volatile restrict &",
-        63 => b" const &",
-        64 => b" const restrict &",
-        65 => b" const volatile &",
-        66 => b" const volatile restrict &",
-        67 => b" &&",
-        68 => b" restrict &&",
-        69 => b" volatile &&",
-        70 => b" volatile restrict &&",
-        71 => b" const &&",
-        72 => b" const restrict &&",
-        73 => b" const volatile &&",
-        74 => b" const volatile restrict &&",
-        75 => b" noexcept",
-        76 => b" restrict noexcept",
-        77 => b" volatile noexcept",
-        78 => b" volatile restrict noexcept",
-        79 => b" const noexcept",
-        80 => b" const restrict noexcept",
-        81 => b" const volatile noexcept",
-        82 => b" const volatile restrict noexcept",
-        83 => b" & noexcept",
-        84 => b" restrict & noexcept",
-        85 => b" volatile & noexcept",
-        86 => b" volatile restrict & noexcept",
-        87 => b" const & noexcept",
-        88 => b" const restrict & noexcept",
-        89 => b" const volatile & noexcept",
-        90 => b" const volatile restrict & noexcept",
-        91 => b" && noexcept",
-        92 => b" restrict && noexcept",
-        93 => b" volatile && noexcept",
-        94 => b" volatile restrict && noexcept",
-        95 => b" const && noexcept",
-        96 => b" const restrict && noexcept",
-        97 => b" const volatile && noexcept",
-        98 => b" const volatile restrict && noexcept",
+        56 => b" restrict",
+        57 => b" volatile",
+        58 => b" volatile restrict",
+        59 => b" const",
+        60 => b" const restrict",
+        61 => b" const volatile",
+        62 => b" const volatile restrict",
+        63 => b" &",
+        64 => b" restrict &",
+        65 => b" volatile &",
+        66 => b" volatile restrict &",
+        67 => b" const &",
+        68 => b" const restrict &",
+        69 => b" const volatile &",
+        70 => b" const volatile restrict &",
+        71 => b" &&",
+        72 => b" restrict &&",
+        73 => b" volatile &&",
+        74 => b" volatile restrict &&",
+        75 => b" const &&",
+        76 => b" const restrict &&",
+        77 => b" const volatile &&",
+        78 => b" const volatile restrict &&",
+        79 => b" noexcept",
+        80 => b" restrict noexcept",
+        81 => b" volatile noexcept",
+        82 => b" volatile restrict noexcept",
+        83 => b" const noexcept",
+        84 => b" const restrict noexcept",
+        85 => b" const volatile noexcept",
+        86 => b" const volatile restrict noexcept",
+        87 => b" & noexcept",
+        88 => b" restrict & noexcept",
+        89 => b" volatile & noexcept",
+        90 => b" volatile restrict & noexcept",
+        91 => b" const & noexcept",
+        92 => b" const restrict & noexcept",
+        93 => b" const volatile & noexcept",
+        94 => b" const volatile restrict & noexcept",
+        95 => b" && noexcept",
+        96 => b" restrict && noexcept",
+        97 => b" volatile && noexcept",
+        98 => b" volatile restrict && noexcept",
+        99 => b" const && noexcept",
+        100 => b" const restrict && noexcept",
+        101 => b" const volatile && noexcept",
+        102 => b" const volatile restrict && noexcept",
         _ => builtin_text(number),
     }
 }
@@ -505,6 +515,10 @@ pub fn fixed_text(number: u16) -> &'static [u8]
         DECLTYPE => b"decltype(",
         FUNCTION_PARAMETER => b"fp",
         LEFT_THIS => b"(this ",
+        AT => b"@",
+        ENUM => b"{enum:",
+        LEFT_BRACE => b"{",
+        RIGHT_BRACES => b"}}",
         _ => suffix_text(number),
     }
 }

@@ -9,7 +9,7 @@ use Rattle.sym_link.specs.Threads.{IsThere}
 use Rattle.sym_link.specs.Unfold.{found}
 use Rattle.cpp_grammar.specs.declared.production.Production.{Production}
 use Rattle.cpp_grammar.specs.Grammar.{is_chain}
-use Rattle.cpp_grammar.specs.Row.{Source, code, taken, letter_or_taken, qualified_by, Made, of, only, extending, applying, Own, by_letters, first_of_operator, reference, character, suffix, one_digit, Form, the_byte, makes, a_piece, a_pair, own}
+use Rattle.cpp_grammar.specs.Row.{Source, code, taken, letter_or_taken, letter_or, qualified_by, Made, of, only, extending, applying, Own, by_letters, first_of_operator, reference, character, suffix, one_digit, Form, the_byte, makes, a_piece, a_pair, own}
 use Rattle.cpp_grammar.specs.Rows.{row_of}
 use Rattle.cpp_grammar.specs.Table.{wide, rule_of}
 use Rattle.cpp_grammar.specs.Unfolding.{production_at, byte_of}
@@ -29,6 +29,7 @@ unfoldable is_byteless : Source → Bool
 is_byteless (code front) = false
 is_byteless taken = false
 is_byteless (letter_or_taken k) = false
+is_byteless (letter_or k other) = true
 is_byteless (qualified_by r v c) = is_byteless r && (is_byteless v && is_byteless c)
 is_byteless _ = true
 

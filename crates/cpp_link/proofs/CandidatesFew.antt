@@ -9,7 +9,7 @@ use Rattle.sym_shape.specs.declared.rule.Sym.TheVariants.{Kind as OfKind}
 use Rattle.sym_link.specs.Reading.{Found, Next, ◌>>=◌}
 use Rattle.sym_link.specs.Unfold.{found}
 use Rattle.cpp_grammar.specs.declared.production.Production.{Production}
-use Rattle.cpp_grammar.specs.KindNumbers.{PARAMETER_AFTER_T, NEST, NEST_AFTER_S, NEST_REST, NEST_TAIL, NEST_REST_OR_END, NEST_REST_ALONE, NEST_MORE_OR_END, COMPONENT, CONSTRUCTOR_AFTER_C, HELD_COMPONENT, COMPONENT_AFTER_C, ABBREVIATION, ITEM_AFTER_D, AFTER_D, SOLID, SOLID_BUT_T, TYPE_AFTER_S, TYPE_IN_STD, UNNESTED_NAME, LITERAL_TYPE, LITERAL_SOLID, MAYBE_ARGUMENTS, ARGUMENTS, ARGUMENTS_ALONE, MAYBE_TAGS, ARGUMENT_AFTER_T, LEVELED_PARAMETER, ANY_ARRAY, ARRAY_REST, BASE_ARGUMENTS, CONVERTED_SOLID, DECLTYPE_AFTER_D, UNRESOLVED_TYPE}
+use Rattle.cpp_grammar.specs.KindNumbers.{PARAMETER_AFTER_T, NEST, NEST_AFTER_S, NEST_REST, NEST_TAIL, NEST_REST_OR_END, NEST_REST_ALONE, NEST_MORE_OR_END, COMPONENT, CONSTRUCTOR_AFTER_C, HELD_COMPONENT, COMPONENT_AFTER_C, ABBREVIATION, ITEM_AFTER_D, AFTER_D, SOLID, SOLID_BUT_T, TYPE_AFTER_S, TYPE_IN_STD, UNNESTED_NAME, LITERAL_TYPE, LITERAL_SOLID, MAYBE_ARGUMENTS, ARGUMENTS, ARGUMENTS_ALONE, MAYBE_TAGS, ARGUMENT_AFTER_T, LEVELED_PARAMETER, ANY_ARRAY, ARRAY_REST, BASE_ARGUMENTS, CONVERTED_SOLID, CONVERTED_AFTER_D, DECLTYPE_AFTER_D, UNRESOLVED_TYPE, NAME_AFTER_MODULE, NAME_IN_MODULE, NEST_ON}
 use Rattle.cpp_grammar.specs.Row.{of, only, extending, tagging, applying, packing, Where, under_it, nothing, the_prefix, type_of, unqualified_of, itself, Before, quiet, goes, becomes, tests, holds, unread, Row, before_part}
 use Rattle.cpp_grammar.specs.Rows.{row_of}
 use Rattle.cpp_grammar.proofs.ClosedStates.{ok_same, behind_bind}
@@ -17,7 +17,7 @@ use Rattle.cpp_grammar.specs.Values as plain
 use Rattle.cpp_term.specs.Term.{Term, parameter}
 use Rattle.cpp_term.specs.Scope.{count, element, is_open, length_if_pack, pack_length}
 use Rattle.cpp_term.specs.Values.{State, Around, Candidate, prefix_tree, prefix_listed, Value, nothing_there, tree, named, tree_of, is_listed, is_there, part}
-use Rattle.cpp_term.specs.References.{appended, is_function_type, with_type, with_unqualified, with_prefix, with_packs, substituted, parameter_named}
+use Rattle.cpp_term.specs.References.{appended, is_function_type, with_type, with_unqualified, with_prefix, with_packs, is_module, substituted, parameter_named}
 use Rattle.cpp_term.specs.Between.{Going, after, argument_at, index_of, between}
 use Rattle.cpp_term.specs.Meant.{made, meant, around_part, packs_within, gained, replaced, tested, done, state_after}
 use Rattle.cpp_term.specs.Meaning.{meaning}
@@ -38,18 +38,18 @@ unlisted_around around = cond (prefix_listed around.prefix) 0 1
 
 -- components of nested names, and other kinds whose trees become candidates later, if they do
 unfoldable pub is_component : ℕ → Bool
-is_component k = nat_eq k COMPONENT || nat_eq k CONSTRUCTOR_AFTER_C || nat_eq k HELD_COMPONENT || nat_eq k COMPONENT_AFTER_C || nat_eq k TYPE_IN_STD
+is_component k = nat_eq k COMPONENT || nat_eq k CONSTRUCTOR_AFTER_C || nat_eq k HELD_COMPONENT || nat_eq k COMPONENT_AFTER_C || nat_eq k TYPE_IN_STD || nat_eq k NAME_AFTER_MODULE || nat_eq k NAME_IN_MODULE
 
 unfoldable pub becomes_candidate : ℕ → Bool
 becomes_candidate k =
-    nat_eq k NEST || nat_eq k NEST_AFTER_S || nat_eq k NEST_REST || nat_eq k NEST_TAIL || nat_eq k NEST_REST_OR_END || nat_eq k NEST_REST_ALONE || nat_eq k NEST_MORE_OR_END
+    nat_eq k NEST || nat_eq k NEST_AFTER_S || nat_eq k NEST_REST || nat_eq k NEST_TAIL || nat_eq k NEST_REST_OR_END || nat_eq k NEST_REST_ALONE || nat_eq k NEST_MORE_OR_END || nat_eq k NEST_ON
     || nat_eq k ABBREVIATION || nat_eq k ITEM_AFTER_D || nat_eq k AFTER_D || nat_eq k SOLID || nat_eq k SOLID_BUT_T || nat_eq k TYPE_AFTER_S || nat_eq k LITERAL_TYPE
     || nat_eq k ARGUMENT_AFTER_T || nat_eq k LEVELED_PARAMETER || nat_eq k UNNESTED_NAME || nat_eq k ANY_ARRAY || nat_eq k ARRAY_REST
-    || nat_eq k LITERAL_SOLID || nat_eq k CONVERTED_SOLID || nat_eq k DECLTYPE_AFTER_D || nat_eq k UNRESOLVED_TYPE || nat_eq k PARAMETER_AFTER_T
+    || nat_eq k LITERAL_SOLID || nat_eq k CONVERTED_SOLID || nat_eq k CONVERTED_AFTER_D || nat_eq k DECLTYPE_AFTER_D || nat_eq k UNRESOLVED_TYPE || nat_eq k PARAMETER_AFTER_T
 
 -- what continues with the name so far, and arguments after it
 unfoldable pub goes_on : ℕ → Bool
-goes_on k = nat_eq k NEST_REST || nat_eq k NEST_TAIL || nat_eq k NEST_REST_OR_END || nat_eq k NEST_REST_ALONE || nat_eq k NEST_MORE_OR_END || nat_eq k BASE_ARGUMENTS
+goes_on k = nat_eq k NEST_REST || nat_eq k NEST_TAIL || nat_eq k NEST_REST_OR_END || nat_eq k NEST_REST_ALONE || nat_eq k NEST_MORE_OR_END || nat_eq k NEST_ON || nat_eq k BASE_ARGUMENTS
 
 unfoldable pub is_arguments : ℕ → Bool
 is_arguments k = nat_eq k MAYBE_ARGUMENTS || nat_eq k ARGUMENTS || nat_eq k ARGUMENTS_ALONE || nat_eq k MAYBE_TAGS
@@ -73,6 +73,9 @@ pending_around _ around v = 0
 -- what makes a name, which is no candidate yet
 unfoldable pub makes_name : Production → Bool
 makes_name Production.InternalName = true
+makes_name Production.InModule = true
+makes_name Production.InNamedModule = true
+makes_name Production.BindingName = true
 makes_name Production.LocalTypeName = true
 makes_name Production.SourceName = true
 makes_name Production.OperatorName = true
@@ -94,17 +97,19 @@ makes_name _ = false
 
 -- Generated by tools/trees.py. What may leave a tree that is no candidate yet
 unfoldable pub may_leave : Production → Bool
+may_leave Production.ConvertedDecltype = true
+may_leave Production.ConvertedWithT = true
+may_leave Production.AnyArray = true
+may_leave Production.LengthArray = true
 may_leave Production.NestWithS = true
 may_leave Production.NestParameter = true
 may_leave Production.NestInternal = true
 may_leave Production.NestLocalType = true
 may_leave Production.NestSource = true
-may_leave Production.NestDecltype = true
 may_leave Production.NestStd = true
 may_leave Production.NestTemplate = true
 may_leave Production.NestArguments = true
 may_leave Production.NestNext = true
-may_leave Production.NestTag = true
 may_leave Production.NestEnd = true
 may_leave Production.Abbreviation = true
 may_leave Production.Substitution = true
@@ -115,10 +120,7 @@ may_leave Production.BuiltinWithD = true
 may_leave Production.Vector = true
 may_leave Production.NoexceptFunction = true
 may_leave Production.SizedFloat = true
-may_leave Production.ConstrainedAuto = true
-may_leave Production.BitInt = true
 may_leave Production.Decltype = true
-may_leave Production.IndexedType = true
 may_leave Production.Pointer = true
 may_leave Production.MemberPointer = true
 may_leave Production.Parameter = true
@@ -131,18 +133,20 @@ may_leave Production.Function = true
 may_leave Production.Complex = true
 may_leave Production.TypeInStd = true
 may_leave Production.AbbreviatedType = true
-may_leave Production.VolatileLiteral = true
-may_leave Production.ConstLiteral = true
 may_leave Production.NestInstance = true
 may_leave Production.UnnestedWithS = true
 may_leave Production.ParameterArgument = true
-may_leave Production.DeclaredArgument = true
 may_leave Production.LeveledParameter = true
-may_leave Production.ConvertedDecltype = true
-may_leave Production.ConvertedWithT = true
-may_leave Production.AnyArray = true
 may_leave Production.BoundedArray = true
-may_leave Production.LengthArray = true
+may_leave Production.DeclaredArgument = true
+may_leave Production.ConstLiteral = true
+may_leave Production.VolatileLiteral = true
+may_leave Production.IndexedType = true
+may_leave Production.BitInt = true
+may_leave Production.ConstrainedAuto = true
+may_leave Production.NestTag = true
+may_leave Production.NestDecltype = true
+may_leave Production.NestModule = true
 may_leave _ = false
 
 -- what continues with the name so far
@@ -260,7 +264,7 @@ pub substituted-none : (around : Around) (place : ℕ) (o : Option Candidate) (s
     → length one.state.candidates + unlisted one.value ≤ length state.candidates
 unfolding substituted unlisted is_listed
 substituted-none around place None state one e = absurd cc
-substituted-none around place (Some c) state one e = go (is_open c.tree && (around.in_lambda || not (nat_eq c.encoding around.encoding))) e
+substituted-none around place (Some c) state one e = go (is_module c.tree || (is_open c.tree && (around.in_lambda || not (nat_eq c.encoding around.encoding)))) e
   where
     go : (b : Bool) → ◌≡◌ {A = Result (Found Value State) Refusal} (elim b [
       | true ↦ Err (BadReference place)

@@ -9,9 +9,9 @@ use Rattle.sym_shape.specs.declared.rule.Sym.{Sym}
 use Rattle.sym_shape.specs.declared.rule.Sym.TheVariants.{Kind as OfKind, Name, Number, Byte}
 use Rattle.sym_link.specs.Reading.{Found}
 use Rattle.cpp_grammar.specs.declared.production.Production.{Production}
-use Rattle.cpp_grammar.specs.KindNumbers.{PARAMETER_AFTER_T, INTEGER, ANONYMOUS, OPERATOR, OTHER_OPERATOR, OPERATOR_AFTER_C, CONSTRUCTOR_DIGIT, DESTRUCTOR_DIGIT, SOURCE_OR_LOCAL, NEST, NEST_AFTER_S, AFTER_D, ITEM_AFTER_D, SOLID, SOLID_BUT_T, ARGUMENT_AFTER_T, LEVELED_PARAMETER, ANY_ARRAY, ARRAY_REST, LITERAL_TYPE, CONVERTED_SOLID, DECLTYPE_AFTER_D, UNRESOLVED_TYPE, UNRESOLVED_NAME, UNQUALIFIED, NEST_REST, NEST_REST_OR_END, NEST_REST_ALONE, NEST_TAIL, NEST_MORE_OR_END, COMPONENT, COMPONENT_AFTER_C, CONSTRUCTOR_AFTER_C, HOLDER_MARK, HELD_COMPONENT, ABBREVIATION, TYPE_AFTER_S, TYPE_IN_STD, UNNESTED_NAME, MAYBE_ARGUMENTS, MAYBE_TAGS, ARGUMENTS, ARGUMENTS_ALONE, ARGUMENTS_FIRST, BASE_ARGUMENTS, HELD_ARGUMENTS, LITERAL_SOLID}
+use Rattle.cpp_grammar.specs.KindNumbers.{PARAMETER_AFTER_T, INTEGER, ANONYMOUS, OPERATOR, OTHER_OPERATOR, OPERATOR_AFTER_C, CONSTRUCTOR_DIGIT, COMPONENT_AFTER_D, BINDING_AFTER_D, SOURCE_OR_LOCAL, NEST, NEST_AFTER_S, AFTER_D, ITEM_AFTER_D, SOLID, SOLID_BUT_T, ARGUMENT_AFTER_T, LEVELED_PARAMETER, ANY_ARRAY, ARRAY_REST, LITERAL_TYPE, CONVERTED_SOLID, DECLTYPE_AFTER_D, UNRESOLVED_TYPE, UNRESOLVED_NAME, UNQUALIFIED, NEST_REST, NEST_REST_OR_END, NEST_REST_ALONE, NEST_TAIL, NEST_MORE_OR_END, COMPONENT, COMPONENT_AFTER_C, CONSTRUCTOR_AFTER_C, HOLDER_MARK, HELD_COMPONENT, ABBREVIATION, TYPE_AFTER_S, TYPE_IN_STD, UNNESTED_NAME, MAYBE_ARGUMENTS, MAYBE_TAGS, ARGUMENTS, ARGUMENTS_ALONE, ARGUMENTS_FIRST, BASE_ARGUMENTS, HELD_ARGUMENTS, LITERAL_SOLID, CONVERTED_AFTER_D, FIRST_MODULE, NAMED_MODULE, NAME_AFTER_MODULE, NAME_IN_MODULE, NEST_ON}
 use Rattle.cpp_grammar.specs.Grammar.{parts_of, number_of_kind}
-use Rattle.cpp_grammar.specs.Row.{Made, unlisted, unless_there, Form, handed, finished, either, a_name, as_before, as_part, after_part, Gain, nothing, type_of, unqualified_of, itself, Before, quiet, goes, becomes, tests, Row, before_part}
+use Rattle.cpp_grammar.specs.Row.{Made, unlisted, unless_there, Form, handed, finished, either, a_name, as_before, as_part, after_part, nameless, Gain, nothing, type_of, unqualified_of, itself, Before, quiet, goes, becomes, tests, Row, before_part}
 use Rattle.cpp_grammar.specs.Rows.{row_of}
 use Rattle.cpp_term.specs.Term.{Term, in_std, instance, parameter}
 use Rattle.cpp_term.specs.Values.{State, Around, prefix_tree, prefix_listed, Value, nothing_there, tree, named, tree_of, piece_of, text_of, is_listed, is_there, part}
@@ -34,12 +34,15 @@ plain form gain = record { before = []; onward = quiet; form = form; gain = gain
 abbrev after_steps : List Before → Form → Row
 after_steps before form = record { before = before; onward = quiet; form = form; gain = nothing; restores_packs = false; tests_number = false }
 
--- a name is made before the second part; a name that is a candidate already, or never is one; that of a parameter
+-- a name is made before the second part; a name that is a candidate already, or never is one; a module before a name; the name of a parameter
 abbrev named_row : Made → Form → Row
 named_row m form = after_steps (quiet ∷ becomes m false true false ∷ []) form
 
 abbrev listed_row : Made → Row
 listed_row m = after_steps (quiet ∷ becomes m true true false ∷ []) (a_name unlisted)
+
+abbrev module_row : Made → Row
+module_row m = after_steps (goes nothing nameless ∷ becomes m true true false ∷ []) (handed 1)
 
 abbrev parameter_row : (after_t : Bool) → Row
 parameter_row after_t = after_steps (quiet ∷ tests after_t true ∷ []) (a_name (unless_there 1))
@@ -94,6 +97,20 @@ listed-flow m leave around place x k leaves_none none follows = λ state next e.
         let t : Term = made 0 around (v ∷ []) m in
         came (going (tree t true ∷ []) (after t true around) state) next e
         (none-appended (going (tree t true ∷ []) (after t true around) state) (omega arith) (λ w. follows.1 (after t true around) w ∙ no_more (is_there w)) (λ w. closes (tree t true) w)))
+
+-- a name after a module, which is no candidate yet
+module-name-flow : (m : Made) (leave : Left) (around : Around) (place : ℕ) (x : Sym) → ((v : Value) → leave v ≤ 1) → Untaken x → RowFlow (module_row m) leave around place (x ∷ OfKind NAME_AFTER_MODULE ∷ []) [] 0
+unfolding pending pending_around goes_on is_arguments is_component becomes_candidate before_part done around_part packs_within replaced state_after gained meant nodes_before nodes_at_end part
+module-name-flow m leave around place x few none = λ state next e. came (going [] (inside around) state) next e (none-appended (going [] (inside around) state) (omega arith) (λ v. none (inside around) v) begun)
+  where
+    begun : (v : Value) → RowFlow (module_row m) leave around place (OfKind NAME_AFTER_MODULE ∷ []) (v ∷ []) 0
+    begun v = λ state next e. (
+        let t : Term = made 0 around (v ∷ []) m in
+        came (going (tree t true ∷ []) (after t true around) state) next e (record {
+          over = 0;
+          few = omega arith;
+          later = λ w. record { now = 1; few = omega arith; goes = λ byte began last. omega (arith, few w) };
+        }))
 
 -- a name is a candidate after it, or its arguments are one, or it is one already
 spent-behind : (a : Bool) (w : Value) → cond (a && not (is_there w)) 0 1 ≤ one_if_arguments w + behind_name (cond a 0 1) w
@@ -301,6 +318,19 @@ nest-next around place = λ state next e. came (going [] around (with_prefix aro
         (rest-step (row_of Production.NestNext) (leaves Production.NestNext) around place NEST_TAIL 0 1 state (v ∷ []) (tree_of v) false state (λ a w. refl) (λ w. refl) (omega arith)
         (λ w. λ byte began last. omega arith))
 
+nest-module : (around : Around) (place : ℕ) → By Production.NestModule around place (OfKind NAME_IN_MODULE ∷ OfKind NEST_ON ∷ []) [] 0
+unfolding pending pending_around goes_on is_arguments is_component becomes_candidate row_of before_part done around_part packs_within is_listing state_after gained meant nodes_before nodes_at_end leaves makes_name may_leave part
+nest-module around place = λ state next e. came (going [] around state) next e (record {
+  over = 0;
+  few = omega arith;
+  later = λ v. record { now = 1; few = omega arith; goes = ends v };
+})
+  where
+    ends : (v : Value) → By Production.NestModule around place (OfKind NEST_ON ∷ []) (v ∷ []) 1
+    ends v = λ state next e. came (going (v ∷ []) (after (tree_of v) false around) state) next e
+        (rest-step (row_of Production.NestModule) (leaves Production.NestModule) around place NEST_ON 0 1 state (v ∷ []) (tree_of v) false state (λ a w. refl) (λ w. refl) (omega arith)
+        (λ w. λ byte began last. omega arith))
+
 -- the reading of the ABI's grammar has no name with its M
 holder-component : (around : Around) (place : ℕ) → By Production.Holder around place (OfKind HOLDER_MARK ∷ OfKind HELD_COMPONENT ∷ []) [] 0
 unfolding pending_around goes_on is_arguments row_of before_part done nodes_before
@@ -476,6 +506,11 @@ module _ (p : Production) (is : closes_by_row p ≡ true) (around : Around) (pla
       of-row p is around place (x ∷ OfKind k ∷ []) [] 0
       (subst (λ r. RowFlow r (leaves p) around place (x ∷ OfKind k ∷ []) [] 0) (sym row) (listed-flow m (leaves p) around place x k left none follows))
 
+  in_module : (m : Made) (x : Sym) → row_of p ≡ module_row m → Untaken x → Flow p around place (x ∷ OfKind NAME_AFTER_MODULE ∷ []) [] 0
+  in_module m x row none =
+      of-row p is around place (x ∷ OfKind NAME_AFTER_MODULE ∷ []) [] 0
+      (subst (λ r. RowFlow r (leaves p) around place (x ∷ OfKind NAME_AFTER_MODULE ∷ []) [] 0) (sym row) (module-name-flow m (leaves p) around place x (leaves-one p) none))
+
   nested : (m : Made) (x : Sym) → row_of p ≡ named_row m (handed 1) → ((v : Value) → leaves p v ≡ few_.unlisted v) → ((vs : List Value) → nodes_made m vs ≡ 1) → Untaken x
       → Flow p around place (x ∷ OfKind NEST_REST ∷ []) [] 0
   nested m x row left one none =
@@ -537,6 +572,9 @@ flows Production.NestTemplate around place = of-row Production.NestTemplate refl
 flows Production.NestParameter around place = of-row Production.NestParameter refl around place (parts_of Production.NestParameter) [] 0 (nest-parameter around place)
 flows Production.NestStd around place = of-row Production.NestStd refl around place (parts_of Production.NestStd) [] 0 (nest-std around place)
 flows Production.NestNext around place = of-row Production.NestNext refl around place (parts_of Production.NestNext) [] (few_.unlisted_around around) (nest-next around place)
+flows Production.NestModule around place = of-row Production.NestModule refl around place (parts_of Production.NestModule) [] 0 (nest-module around place)
+flows Production.InModule around place = in_module Production.InModule refl around place _ (OfKind FIRST_MODULE) refl (λ a v. refl)
+flows Production.InNamedModule around place = in_module Production.InNamedModule refl around place _ (OfKind NAMED_MODULE) refl (λ a v. refl)
 flows Production.Holder around place = of-row Production.Holder refl around place (parts_of Production.Holder) [] 0 (holder-component around place)
 flows Production.NestArguments around place = of-row Production.NestArguments refl around place (parts_of Production.NestArguments) [] (few_.unlisted_around around) (nest-arguments around place)
 flows Production.NestInstance around place = of-row Production.NestInstance refl around place (parts_of Production.NestInstance) [] (few_.unlisted_around around) (nest-instance around place)
@@ -549,19 +587,25 @@ flows Production.UnnestedBase around place = base_name Production.UnnestedBase r
 flows Production.Substitution around place = plain-flow Production.Substitution around place refl (substitution-closes around place) (parts_of Production.Substitution) refl []
 flows Production.Inheriting around place = plain-flow Production.Inheriting around place refl (inheriting-closes around place) (parts_of Production.Inheriting) refl []
 -- Generated by tools/trees.py.
+flows Production.ConvertedDecltype around place = typed Production.ConvertedDecltype refl around place (OfKind CONVERTED_AFTER_D) refl (λ a v. refl) (λ v. refl) (λ v. refl)
+flows Production.ConvertedConst around place = own_type Production.ConvertedConst refl around place _ (parts_of Production.ConvertedConst) refl refl refl (λ byte vs. refl) (λ vs. refl)
+flows Production.ConvertedPointer around place = own_type Production.ConvertedPointer refl around place _ (parts_of Production.ConvertedPointer) refl refl refl (λ byte vs. refl) (λ vs. refl)
+flows Production.ConvertedReference around place = own_type Production.ConvertedReference refl around place _ (parts_of Production.ConvertedReference) refl refl refl (λ byte vs. refl) (λ vs. refl)
+flows Production.ConvertedType around place = typed Production.ConvertedType refl around place (OfKind CONVERTED_SOLID) refl (λ a v. refl) (λ v. refl) (λ v. refl)
+flows Production.UnresolvedInType around place = of_type Production.UnresolvedInType refl around place _ (OfKind UNRESOLVED_TYPE) (OfKind UNRESOLVED_NAME) refl (λ a v. refl) (λ a v. refl) (λ v. refl) (λ byte vs. omega arith)
+flows Production.DestroyedType around place = typed Production.DestroyedType refl around place (OfKind UNRESOLVED_TYPE) refl (λ a v. refl) (λ v. refl) (λ v. refl)
 flows Production.InternalName around place = made_name Production.InternalName refl around place _ _ Name MAYBE_ARGUMENTS refl (λ vs. refl) (λ vs. refl) (λ a v. refl) maybe-arguments
 flows Production.LocalTypeName around place = made_name Production.LocalTypeName refl around place _ _ (OfKind ANONYMOUS) MAYBE_ARGUMENTS refl (λ vs. refl) (λ vs. refl) (λ a v. refl) maybe-arguments
 flows Production.SourceName around place = made_name Production.SourceName refl around place _ _ Name MAYBE_ARGUMENTS refl (λ vs. refl) (λ vs. refl) (λ a v. refl) maybe-arguments
 flows Production.OperatorName around place = made_name Production.OperatorName refl around place _ _ (OfKind OPERATOR) MAYBE_ARGUMENTS refl (λ vs. refl) (λ vs. refl) (λ a v. refl) maybe-arguments
+flows Production.BindingName around place = made_name Production.BindingName refl around place _ _ (OfKind BINDING_AFTER_D) MAYBE_ARGUMENTS refl (λ vs. refl) (λ vs. refl) (λ a v. refl) maybe-arguments
 flows Production.StdName around place = made_name Production.StdName refl around place _ _ (OfKind UNQUALIFIED) MAYBE_ARGUMENTS refl (λ vs. refl) (λ vs. refl) (λ a v. refl) maybe-arguments
 flows Production.AbbreviatedName around place = listed_name Production.AbbreviatedName refl around place _ (OfKind ABBREVIATION) ARGUMENTS refl (λ v. refl) (λ a v. refl) arguments-next
 flows Production.NestInternal around place = nested Production.NestInternal refl around place _ Name refl (λ v. refl) (λ vs. refl) (λ a v. refl)
 flows Production.NestLocalType around place = nested Production.NestLocalType refl around place _ (OfKind ANONYMOUS) refl (λ v. refl) (λ vs. refl) (λ a v. refl)
 flows Production.NestSource around place = nested Production.NestSource refl around place _ Name refl (λ v. refl) (λ vs. refl) (λ a v. refl)
-flows Production.NestTag around place = nested Production.NestTag refl around place _ Name refl (λ v. refl) (λ vs. refl) (λ a v. refl)
-flows Production.Destructor around place = made_name Production.Destructor refl around place _ _ (OfKind DESTRUCTOR_DIGIT) MAYBE_ARGUMENTS refl (λ vs. refl) (λ vs. refl) (λ a v. refl) maybe-arguments
+flows Production.Destructor around place = made_name Production.Destructor refl around place _ _ (OfKind COMPONENT_AFTER_D) MAYBE_ARGUMENTS refl (λ vs. refl) (λ vs. refl) (λ a v. refl) maybe-arguments
 flows Production.OtherOperatorName around place = made_name Production.OtherOperatorName refl around place _ _ (OfKind OTHER_OPERATOR) MAYBE_ARGUMENTS refl (λ vs. refl) (λ vs. refl) (λ a v. refl) maybe-arguments
-flows Production.Friend around place = made_name Production.Friend refl around place _ _ (OfKind UNQUALIFIED) MAYBE_ARGUMENTS refl (λ vs. refl) (λ vs. refl) (λ a v. refl) maybe-arguments
 flows Production.Constructor around place = made_name Production.Constructor refl around place _ _ (OfKind CONSTRUCTOR_DIGIT) MAYBE_ARGUMENTS refl (λ vs. refl) (λ vs. refl) (λ a v. refl) maybe-arguments
 flows Production.RestrictType around place = own_type Production.RestrictType refl around place _ (parts_of Production.RestrictType) refl refl refl (λ byte vs. refl) (λ vs. refl)
 flows Production.VolatileType around place = own_type Production.VolatileType refl around place _ (parts_of Production.VolatileType) refl refl refl (λ byte vs. refl) (λ vs. refl)
@@ -572,25 +616,20 @@ flows Production.TypeWithD around place = typed Production.TypeWithD refl around
 flows Production.PlainWithD around place = unqualified Production.PlainWithD refl around place (OfKind AFTER_D) refl (λ a v. refl) (λ v. refl) (λ v. refl)
 flows Production.QualifiedPlain around place = unqualified Production.QualifiedPlain refl around place (OfKind SOLID) refl (λ a v. refl) (λ v. refl) (λ v. refl)
 flows Production.ItemWithD around place = typed Production.ItemWithD refl around place (OfKind ITEM_AFTER_D) refl (λ a v. refl) (λ v. refl) (λ v. refl)
-flows Production.Tag around place = made_name Production.Tag refl around place _ _ Name MAYBE_ARGUMENTS refl (λ vs. refl) (λ vs. refl) (λ a v. refl) maybe-arguments
 flows Production.IntegerLiteral around place = of_type Production.IntegerLiteral refl around place _ (OfKind LITERAL_TYPE) (OfKind INTEGER) refl (λ a v. refl) (λ a v. refl) (λ v. refl) (λ byte vs. omega arith)
-flows Production.VolatileLiteral around place = own_type Production.VolatileLiteral refl around place _ (parts_of Production.VolatileLiteral) refl refl refl (λ byte vs. refl) (λ vs. refl)
-flows Production.ConstLiteral around place = own_type Production.ConstLiteral refl around place _ (parts_of Production.ConstLiteral) refl refl refl (λ byte vs. refl) (λ vs. refl)
 flows Production.QualifiedLiteral around place = unqualified Production.QualifiedLiteral refl around place (OfKind LITERAL_SOLID) refl (λ a v. refl) (λ v. refl) (λ v. refl)
 flows Production.OperatorNameWithC around place = made_name Production.OperatorNameWithC refl around place _ _ (OfKind OPERATOR_AFTER_C) MAYBE_ARGUMENTS refl (λ vs. refl) (λ vs. refl) (λ a v. refl) maybe-arguments
 flows Production.TaggedSource around place = made_name Production.TaggedSource refl around place _ _ Name MAYBE_TAGS refl (λ vs. refl) (λ vs. refl) (λ a v. refl) maybe-tags
 flows Production.TaggedStdType around place = made_name Production.TaggedStdType refl around place _ _ (OfKind SOURCE_OR_LOCAL) MAYBE_TAGS refl (λ vs. refl) (λ vs. refl) (λ a v. refl) maybe-tags
-flows Production.TypeTag around place = made_name Production.TypeTag refl around place _ _ Name MAYBE_TAGS refl (λ vs. refl) (λ vs. refl) (λ a v. refl) maybe-tags
 flows Production.ArgumentWithT around place = typed Production.ArgumentWithT refl around place (OfKind ARGUMENT_AFTER_T) refl (λ a v. refl) (λ v. refl) (λ v. refl)
 flows Production.PlainArgument around place = typed Production.PlainArgument refl around place (OfKind SOLID_BUT_T) refl (λ a v. refl) (λ v. refl) (λ v. refl)
 flows Production.OperatorReference around place = listed_name Production.OperatorReference refl around place _ (OfKind OPERATOR) ARGUMENTS_ALONE refl (λ v. refl) (λ a v. refl) arguments-alone
 flows Production.SimpleId around place = listed_name Production.SimpleId refl around place _ Name ARGUMENTS_ALONE refl (λ v. refl) (λ a v. refl) arguments-alone
-flows Production.ConvertedDecltype around place = typed Production.ConvertedDecltype refl around place (OfKind DECLTYPE_AFTER_D) refl (λ a v. refl) (λ v. refl) (λ v. refl)
-flows Production.ConvertedConst around place = own_type Production.ConvertedConst refl around place _ (parts_of Production.ConvertedConst) refl refl refl (λ byte vs. refl) (λ vs. refl)
-flows Production.ConvertedPointer around place = own_type Production.ConvertedPointer refl around place _ (parts_of Production.ConvertedPointer) refl refl refl (λ byte vs. refl) (λ vs. refl)
-flows Production.ConvertedReference around place = own_type Production.ConvertedReference refl around place _ (parts_of Production.ConvertedReference) refl refl refl (λ byte vs. refl) (λ vs. refl)
-flows Production.ConvertedType around place = typed Production.ConvertedType refl around place (OfKind CONVERTED_SOLID) refl (λ a v. refl) (λ v. refl) (λ v. refl)
-flows Production.UnresolvedInType around place = of_type Production.UnresolvedInType refl around place _ (OfKind UNRESOLVED_TYPE) (OfKind UNRESOLVED_NAME) refl (λ a v. refl) (λ a v. refl) (λ v. refl) (λ byte vs. omega arith)
-flows Production.DestroyedType around place = typed Production.DestroyedType refl around place (OfKind UNRESOLVED_TYPE) refl (λ a v. refl) (λ v. refl) (λ v. refl)
+flows Production.TypeTag around place = made_name Production.TypeTag refl around place _ _ Name MAYBE_TAGS refl (λ vs. refl) (λ vs. refl) (λ a v. refl) maybe-tags
+flows Production.ConstLiteral around place = own_type Production.ConstLiteral refl around place _ (parts_of Production.ConstLiteral) refl refl refl (λ byte vs. refl) (λ vs. refl)
+flows Production.VolatileLiteral around place = own_type Production.VolatileLiteral refl around place _ (parts_of Production.VolatileLiteral) refl refl refl (λ byte vs. refl) (λ vs. refl)
+flows Production.Tag around place = made_name Production.Tag refl around place _ _ Name MAYBE_ARGUMENTS refl (λ vs. refl) (λ vs. refl) (λ a v. refl) maybe-arguments
+flows Production.Friend around place = made_name Production.Friend refl around place _ _ (OfKind UNQUALIFIED) MAYBE_ARGUMENTS refl (λ vs. refl) (λ vs. refl) (λ a v. refl) maybe-arguments
+flows Production.NestTag around place = nested Production.NestTag refl around place _ Name refl (λ v. refl) (λ vs. refl) (λ a v. refl)
 -- no other becomes a candidate before its end
 flows p around place = simple p refl around place (parts_of p) refl refl (λ vs. λ byte began state. omega arith)

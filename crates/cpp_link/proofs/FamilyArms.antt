@@ -22,25 +22,37 @@ pub given_name : (p : Production) → family_of p ≡ Family.GivenName
     → (p ≡ Production.NestArguments → ⊥)
     → (p ≡ Production.NestInstance → ⊥)
     → (p ≡ Production.Holder → ⊥)
+    → (p ≡ Production.InModule → ⊥)
+    → (p ≡ Production.InNamedModule → ⊥)
+    → (p ≡ Production.NestModule → ⊥)
+    → (p ≡ Production.FirstModule → ⊥)
+    → (p ≡ Production.NamedModule → ⊥)
+    → (p ≡ Production.MoreModule → ⊥)
     → (p ≡ Production.ComponentWithC → ⊥)
     → (p ≡ Production.AnyConstructor → ⊥)
     → ⊥
 unfolding family_of
-given_name Production.NameWithS is n0 n1 n2 n3 n4 n5 n6 n7 n8 n9 n10 n11 n12 n13 = n0 refl
-given_name Production.LocalTypePiece is n0 n1 n2 n3 n4 n5 n6 n7 n8 n9 n10 n11 n12 n13 = n1 refl
-given_name Production.OperatorPiece is n0 n1 n2 n3 n4 n5 n6 n7 n8 n9 n10 n11 n12 n13 = n2 refl
-given_name Production.NestParameter is n0 n1 n2 n3 n4 n5 n6 n7 n8 n9 n10 n11 n12 n13 = n3 refl
-given_name Production.NestDecltype is n0 n1 n2 n3 n4 n5 n6 n7 n8 n9 n10 n11 n12 n13 = n4 refl
-given_name Production.NestInternal is n0 n1 n2 n3 n4 n5 n6 n7 n8 n9 n10 n11 n12 n13 = n5 refl
-given_name Production.NestLocalType is n0 n1 n2 n3 n4 n5 n6 n7 n8 n9 n10 n11 n12 n13 = n6 refl
-given_name Production.NestTag is n0 n1 n2 n3 n4 n5 n6 n7 n8 n9 n10 n11 n12 n13 = n7 refl
-given_name Production.NestStd is n0 n1 n2 n3 n4 n5 n6 n7 n8 n9 n10 n11 n12 n13 = n8 refl
-given_name Production.NestArguments is n0 n1 n2 n3 n4 n5 n6 n7 n8 n9 n10 n11 n12 n13 = n9 refl
-given_name Production.NestInstance is n0 n1 n2 n3 n4 n5 n6 n7 n8 n9 n10 n11 n12 n13 = n10 refl
-given_name Production.Holder is n0 n1 n2 n3 n4 n5 n6 n7 n8 n9 n10 n11 n12 n13 = n11 refl
-given_name Production.ComponentWithC is n0 n1 n2 n3 n4 n5 n6 n7 n8 n9 n10 n11 n12 n13 = n12 refl
-given_name Production.AnyConstructor is n0 n1 n2 n3 n4 n5 n6 n7 n8 n9 n10 n11 n12 n13 = n13 refl
-given_name _ is n0 n1 n2 n3 n4 n5 n6 n7 n8 n9 n10 n11 n12 n13 = subst IsGivenName (sym is) tt
+given_name Production.NameWithS is n0 n1 n2 n3 n4 n5 n6 n7 n8 n9 n10 n11 n12 n13 n14 n15 n16 n17 n18 n19 = n0 refl
+given_name Production.LocalTypePiece is n0 n1 n2 n3 n4 n5 n6 n7 n8 n9 n10 n11 n12 n13 n14 n15 n16 n17 n18 n19 = n1 refl
+given_name Production.OperatorPiece is n0 n1 n2 n3 n4 n5 n6 n7 n8 n9 n10 n11 n12 n13 n14 n15 n16 n17 n18 n19 = n2 refl
+given_name Production.NestParameter is n0 n1 n2 n3 n4 n5 n6 n7 n8 n9 n10 n11 n12 n13 n14 n15 n16 n17 n18 n19 = n3 refl
+given_name Production.NestDecltype is n0 n1 n2 n3 n4 n5 n6 n7 n8 n9 n10 n11 n12 n13 n14 n15 n16 n17 n18 n19 = n4 refl
+given_name Production.NestInternal is n0 n1 n2 n3 n4 n5 n6 n7 n8 n9 n10 n11 n12 n13 n14 n15 n16 n17 n18 n19 = n5 refl
+given_name Production.NestLocalType is n0 n1 n2 n3 n4 n5 n6 n7 n8 n9 n10 n11 n12 n13 n14 n15 n16 n17 n18 n19 = n6 refl
+given_name Production.NestTag is n0 n1 n2 n3 n4 n5 n6 n7 n8 n9 n10 n11 n12 n13 n14 n15 n16 n17 n18 n19 = n7 refl
+given_name Production.NestStd is n0 n1 n2 n3 n4 n5 n6 n7 n8 n9 n10 n11 n12 n13 n14 n15 n16 n17 n18 n19 = n8 refl
+given_name Production.NestArguments is n0 n1 n2 n3 n4 n5 n6 n7 n8 n9 n10 n11 n12 n13 n14 n15 n16 n17 n18 n19 = n9 refl
+given_name Production.NestInstance is n0 n1 n2 n3 n4 n5 n6 n7 n8 n9 n10 n11 n12 n13 n14 n15 n16 n17 n18 n19 = n10 refl
+given_name Production.Holder is n0 n1 n2 n3 n4 n5 n6 n7 n8 n9 n10 n11 n12 n13 n14 n15 n16 n17 n18 n19 = n11 refl
+given_name Production.InModule is n0 n1 n2 n3 n4 n5 n6 n7 n8 n9 n10 n11 n12 n13 n14 n15 n16 n17 n18 n19 = n12 refl
+given_name Production.InNamedModule is n0 n1 n2 n3 n4 n5 n6 n7 n8 n9 n10 n11 n12 n13 n14 n15 n16 n17 n18 n19 = n13 refl
+given_name Production.NestModule is n0 n1 n2 n3 n4 n5 n6 n7 n8 n9 n10 n11 n12 n13 n14 n15 n16 n17 n18 n19 = n14 refl
+given_name Production.FirstModule is n0 n1 n2 n3 n4 n5 n6 n7 n8 n9 n10 n11 n12 n13 n14 n15 n16 n17 n18 n19 = n15 refl
+given_name Production.NamedModule is n0 n1 n2 n3 n4 n5 n6 n7 n8 n9 n10 n11 n12 n13 n14 n15 n16 n17 n18 n19 = n16 refl
+given_name Production.MoreModule is n0 n1 n2 n3 n4 n5 n6 n7 n8 n9 n10 n11 n12 n13 n14 n15 n16 n17 n18 n19 = n17 refl
+given_name Production.ComponentWithC is n0 n1 n2 n3 n4 n5 n6 n7 n8 n9 n10 n11 n12 n13 n14 n15 n16 n17 n18 n19 = n18 refl
+given_name Production.AnyConstructor is n0 n1 n2 n3 n4 n5 n6 n7 n8 n9 n10 n11 n12 n13 n14 n15 n16 n17 n18 n19 = n19 refl
+given_name _ is n0 n1 n2 n3 n4 n5 n6 n7 n8 n9 n10 n11 n12 n13 n14 n15 n16 n17 n18 n19 = subst IsGivenName (sym is) tt
 
 abbrev IsAppliedName : Family → Type 0
 IsAppliedName Family.AppliedName = Unit {0}
@@ -59,21 +71,23 @@ pub applied_name : (p : Production) → family_of p ≡ Family.AppliedName
     → (p ≡ Production.Destructor → ⊥)
     → (p ≡ Production.StdName → ⊥)
     → (p ≡ Production.AbbreviatedName → ⊥)
+    → (p ≡ Production.BindingName → ⊥)
     → ⊥
 unfolding family_of
-applied_name Production.Tag is n0 n1 n2 n3 n4 n5 n6 n7 n8 n9 n10 n11 = n0 refl
-applied_name Production.TypeTag is n0 n1 n2 n3 n4 n5 n6 n7 n8 n9 n10 n11 = n1 refl
-applied_name Production.InternalName is n0 n1 n2 n3 n4 n5 n6 n7 n8 n9 n10 n11 = n2 refl
-applied_name Production.LocalTypeName is n0 n1 n2 n3 n4 n5 n6 n7 n8 n9 n10 n11 = n3 refl
-applied_name Production.OperatorName is n0 n1 n2 n3 n4 n5 n6 n7 n8 n9 n10 n11 = n4 refl
-applied_name Production.OtherOperatorName is n0 n1 n2 n3 n4 n5 n6 n7 n8 n9 n10 n11 = n5 refl
-applied_name Production.Friend is n0 n1 n2 n3 n4 n5 n6 n7 n8 n9 n10 n11 = n6 refl
-applied_name Production.OperatorNameWithC is n0 n1 n2 n3 n4 n5 n6 n7 n8 n9 n10 n11 = n7 refl
-applied_name Production.Constructor is n0 n1 n2 n3 n4 n5 n6 n7 n8 n9 n10 n11 = n8 refl
-applied_name Production.Destructor is n0 n1 n2 n3 n4 n5 n6 n7 n8 n9 n10 n11 = n9 refl
-applied_name Production.StdName is n0 n1 n2 n3 n4 n5 n6 n7 n8 n9 n10 n11 = n10 refl
-applied_name Production.AbbreviatedName is n0 n1 n2 n3 n4 n5 n6 n7 n8 n9 n10 n11 = n11 refl
-applied_name _ is n0 n1 n2 n3 n4 n5 n6 n7 n8 n9 n10 n11 = subst IsAppliedName (sym is) tt
+applied_name Production.Tag is n0 n1 n2 n3 n4 n5 n6 n7 n8 n9 n10 n11 n12 = n0 refl
+applied_name Production.TypeTag is n0 n1 n2 n3 n4 n5 n6 n7 n8 n9 n10 n11 n12 = n1 refl
+applied_name Production.InternalName is n0 n1 n2 n3 n4 n5 n6 n7 n8 n9 n10 n11 n12 = n2 refl
+applied_name Production.LocalTypeName is n0 n1 n2 n3 n4 n5 n6 n7 n8 n9 n10 n11 n12 = n3 refl
+applied_name Production.OperatorName is n0 n1 n2 n3 n4 n5 n6 n7 n8 n9 n10 n11 n12 = n4 refl
+applied_name Production.OtherOperatorName is n0 n1 n2 n3 n4 n5 n6 n7 n8 n9 n10 n11 n12 = n5 refl
+applied_name Production.Friend is n0 n1 n2 n3 n4 n5 n6 n7 n8 n9 n10 n11 n12 = n6 refl
+applied_name Production.OperatorNameWithC is n0 n1 n2 n3 n4 n5 n6 n7 n8 n9 n10 n11 n12 = n7 refl
+applied_name Production.Constructor is n0 n1 n2 n3 n4 n5 n6 n7 n8 n9 n10 n11 n12 = n8 refl
+applied_name Production.Destructor is n0 n1 n2 n3 n4 n5 n6 n7 n8 n9 n10 n11 n12 = n9 refl
+applied_name Production.StdName is n0 n1 n2 n3 n4 n5 n6 n7 n8 n9 n10 n11 n12 = n10 refl
+applied_name Production.AbbreviatedName is n0 n1 n2 n3 n4 n5 n6 n7 n8 n9 n10 n11 n12 = n11 refl
+applied_name Production.BindingName is n0 n1 n2 n3 n4 n5 n6 n7 n8 n9 n10 n11 n12 = n12 refl
+applied_name _ is n0 n1 n2 n3 n4 n5 n6 n7 n8 n9 n10 n11 n12 = subst IsAppliedName (sym is) tt
 
 abbrev IsPiece : Family → Type 0
 IsPiece Family.Piece = Unit {0}
@@ -97,30 +111,34 @@ pub piece : (p : Production) → family_of p ≡ Family.Piece
     → (p ≡ Production.OperatorL → ⊥)
     → (p ≡ Production.LiteralOperator → ⊥)
     → (p ≡ Production.Conversion → ⊥)
+    → (p ≡ Production.Enumeration → ⊥)
+    → (p ≡ Production.Bindings → ⊥)
     → (p ≡ Production.Lambda → ⊥)
     → (p ≡ Production.Unnamed → ⊥)
     → ⊥
 unfolding family_of
-piece Production.InternalPiece is n0 n1 n2 n3 n4 n5 n6 n7 n8 n9 n10 n11 n12 n13 n14 n15 n16 n17 n18 = n0 refl
-piece Production.OperatorN is n0 n1 n2 n3 n4 n5 n6 n7 n8 n9 n10 n11 n12 n13 n14 n15 n16 n17 n18 = n1 refl
-piece Production.OperatorD is n0 n1 n2 n3 n4 n5 n6 n7 n8 n9 n10 n11 n12 n13 n14 n15 n16 n17 n18 = n2 refl
-piece Production.OperatorA is n0 n1 n2 n3 n4 n5 n6 n7 n8 n9 n10 n11 n12 n13 n14 n15 n16 n17 n18 = n3 refl
-piece Production.OperatorP is n0 n1 n2 n3 n4 n5 n6 n7 n8 n9 n10 n11 n12 n13 n14 n15 n16 n17 n18 = n4 refl
-piece Production.OperatorC is n0 n1 n2 n3 n4 n5 n6 n7 n8 n9 n10 n11 n12 n13 n14 n15 n16 n17 n18 = n5 refl
-piece Production.OperatorM is n0 n1 n2 n3 n4 n5 n6 n7 n8 n9 n10 n11 n12 n13 n14 n15 n16 n17 n18 = n6 refl
-piece Production.OperatorR is n0 n1 n2 n3 n4 n5 n6 n7 n8 n9 n10 n11 n12 n13 n14 n15 n16 n17 n18 = n7 refl
-piece Production.OperatorO is n0 n1 n2 n3 n4 n5 n6 n7 n8 n9 n10 n11 n12 n13 n14 n15 n16 n17 n18 = n8 refl
-piece Production.OperatorE is n0 n1 n2 n3 n4 n5 n6 n7 n8 n9 n10 n11 n12 n13 n14 n15 n16 n17 n18 = n9 refl
-piece Production.OperatorS is n0 n1 n2 n3 n4 n5 n6 n7 n8 n9 n10 n11 n12 n13 n14 n15 n16 n17 n18 = n10 refl
-piece Production.OperatorI is n0 n1 n2 n3 n4 n5 n6 n7 n8 n9 n10 n11 n12 n13 n14 n15 n16 n17 n18 = n11 refl
-piece Production.OperatorG is n0 n1 n2 n3 n4 n5 n6 n7 n8 n9 n10 n11 n12 n13 n14 n15 n16 n17 n18 = n12 refl
-piece Production.FoldOperatorL is n0 n1 n2 n3 n4 n5 n6 n7 n8 n9 n10 n11 n12 n13 n14 n15 n16 n17 n18 = n13 refl
-piece Production.OperatorL is n0 n1 n2 n3 n4 n5 n6 n7 n8 n9 n10 n11 n12 n13 n14 n15 n16 n17 n18 = n14 refl
-piece Production.LiteralOperator is n0 n1 n2 n3 n4 n5 n6 n7 n8 n9 n10 n11 n12 n13 n14 n15 n16 n17 n18 = n15 refl
-piece Production.Conversion is n0 n1 n2 n3 n4 n5 n6 n7 n8 n9 n10 n11 n12 n13 n14 n15 n16 n17 n18 = n16 refl
-piece Production.Lambda is n0 n1 n2 n3 n4 n5 n6 n7 n8 n9 n10 n11 n12 n13 n14 n15 n16 n17 n18 = n17 refl
-piece Production.Unnamed is n0 n1 n2 n3 n4 n5 n6 n7 n8 n9 n10 n11 n12 n13 n14 n15 n16 n17 n18 = n18 refl
-piece _ is n0 n1 n2 n3 n4 n5 n6 n7 n8 n9 n10 n11 n12 n13 n14 n15 n16 n17 n18 = subst IsPiece (sym is) tt
+piece Production.InternalPiece is n0 n1 n2 n3 n4 n5 n6 n7 n8 n9 n10 n11 n12 n13 n14 n15 n16 n17 n18 n19 n20 = n0 refl
+piece Production.OperatorN is n0 n1 n2 n3 n4 n5 n6 n7 n8 n9 n10 n11 n12 n13 n14 n15 n16 n17 n18 n19 n20 = n1 refl
+piece Production.OperatorD is n0 n1 n2 n3 n4 n5 n6 n7 n8 n9 n10 n11 n12 n13 n14 n15 n16 n17 n18 n19 n20 = n2 refl
+piece Production.OperatorA is n0 n1 n2 n3 n4 n5 n6 n7 n8 n9 n10 n11 n12 n13 n14 n15 n16 n17 n18 n19 n20 = n3 refl
+piece Production.OperatorP is n0 n1 n2 n3 n4 n5 n6 n7 n8 n9 n10 n11 n12 n13 n14 n15 n16 n17 n18 n19 n20 = n4 refl
+piece Production.OperatorC is n0 n1 n2 n3 n4 n5 n6 n7 n8 n9 n10 n11 n12 n13 n14 n15 n16 n17 n18 n19 n20 = n5 refl
+piece Production.OperatorM is n0 n1 n2 n3 n4 n5 n6 n7 n8 n9 n10 n11 n12 n13 n14 n15 n16 n17 n18 n19 n20 = n6 refl
+piece Production.OperatorR is n0 n1 n2 n3 n4 n5 n6 n7 n8 n9 n10 n11 n12 n13 n14 n15 n16 n17 n18 n19 n20 = n7 refl
+piece Production.OperatorO is n0 n1 n2 n3 n4 n5 n6 n7 n8 n9 n10 n11 n12 n13 n14 n15 n16 n17 n18 n19 n20 = n8 refl
+piece Production.OperatorE is n0 n1 n2 n3 n4 n5 n6 n7 n8 n9 n10 n11 n12 n13 n14 n15 n16 n17 n18 n19 n20 = n9 refl
+piece Production.OperatorS is n0 n1 n2 n3 n4 n5 n6 n7 n8 n9 n10 n11 n12 n13 n14 n15 n16 n17 n18 n19 n20 = n10 refl
+piece Production.OperatorI is n0 n1 n2 n3 n4 n5 n6 n7 n8 n9 n10 n11 n12 n13 n14 n15 n16 n17 n18 n19 n20 = n11 refl
+piece Production.OperatorG is n0 n1 n2 n3 n4 n5 n6 n7 n8 n9 n10 n11 n12 n13 n14 n15 n16 n17 n18 n19 n20 = n12 refl
+piece Production.FoldOperatorL is n0 n1 n2 n3 n4 n5 n6 n7 n8 n9 n10 n11 n12 n13 n14 n15 n16 n17 n18 n19 n20 = n13 refl
+piece Production.OperatorL is n0 n1 n2 n3 n4 n5 n6 n7 n8 n9 n10 n11 n12 n13 n14 n15 n16 n17 n18 n19 n20 = n14 refl
+piece Production.LiteralOperator is n0 n1 n2 n3 n4 n5 n6 n7 n8 n9 n10 n11 n12 n13 n14 n15 n16 n17 n18 n19 n20 = n15 refl
+piece Production.Conversion is n0 n1 n2 n3 n4 n5 n6 n7 n8 n9 n10 n11 n12 n13 n14 n15 n16 n17 n18 n19 n20 = n16 refl
+piece Production.Enumeration is n0 n1 n2 n3 n4 n5 n6 n7 n8 n9 n10 n11 n12 n13 n14 n15 n16 n17 n18 n19 n20 = n17 refl
+piece Production.Bindings is n0 n1 n2 n3 n4 n5 n6 n7 n8 n9 n10 n11 n12 n13 n14 n15 n16 n17 n18 n19 n20 = n18 refl
+piece Production.Lambda is n0 n1 n2 n3 n4 n5 n6 n7 n8 n9 n10 n11 n12 n13 n14 n15 n16 n17 n18 n19 n20 = n19 refl
+piece Production.Unnamed is n0 n1 n2 n3 n4 n5 n6 n7 n8 n9 n10 n11 n12 n13 n14 n15 n16 n17 n18 n19 n20 = n20 refl
+piece _ is n0 n1 n2 n3 n4 n5 n6 n7 n8 n9 n10 n11 n12 n13 n14 n15 n16 n17 n18 n19 n20 = subst IsPiece (sym is) tt
 
 abbrev IsLocalName : Family → Type 0
 IsLocalName Family.LocalName = Unit {0}
@@ -179,17 +197,19 @@ pub special : (p : Production) → family_of p ≡ Family.Special
     → (p ≡ Production.Temporary → ⊥)
     → (p ≡ Production.OtherSpecial → ⊥)
     → (p ≡ Production.Clone → ⊥)
+    → (p ≡ Production.ModuleInitializer → ⊥)
     → (p ≡ Production.ConstructionVtable → ⊥)
     → ⊥
 unfolding family_of
-special Production.SpecialType is n0 n1 n2 n3 n4 n5 n6 = n0 refl
-special Production.ParameterObject is n0 n1 n2 n3 n4 n5 n6 = n1 refl
-special Production.SpecialName is n0 n1 n2 n3 n4 n5 n6 = n2 refl
-special Production.Temporary is n0 n1 n2 n3 n4 n5 n6 = n3 refl
-special Production.OtherSpecial is n0 n1 n2 n3 n4 n5 n6 = n4 refl
-special Production.Clone is n0 n1 n2 n3 n4 n5 n6 = n5 refl
-special Production.ConstructionVtable is n0 n1 n2 n3 n4 n5 n6 = n6 refl
-special _ is n0 n1 n2 n3 n4 n5 n6 = subst IsSpecial (sym is) tt
+special Production.SpecialType is n0 n1 n2 n3 n4 n5 n6 n7 = n0 refl
+special Production.ParameterObject is n0 n1 n2 n3 n4 n5 n6 n7 = n1 refl
+special Production.SpecialName is n0 n1 n2 n3 n4 n5 n6 n7 = n2 refl
+special Production.Temporary is n0 n1 n2 n3 n4 n5 n6 n7 = n3 refl
+special Production.OtherSpecial is n0 n1 n2 n3 n4 n5 n6 n7 = n4 refl
+special Production.Clone is n0 n1 n2 n3 n4 n5 n6 n7 = n5 refl
+special Production.ModuleInitializer is n0 n1 n2 n3 n4 n5 n6 n7 = n6 refl
+special Production.ConstructionVtable is n0 n1 n2 n3 n4 n5 n6 n7 = n7 refl
+special _ is n0 n1 n2 n3 n4 n5 n6 n7 = subst IsSpecial (sym is) tt
 
 abbrev IsThunk : Family → Type 0
 IsThunk Family.Thunk = Unit {0}
@@ -385,7 +405,6 @@ IsDeclaration _ = ⊥
 
 pub declaration : (p : Production) → family_of p ≡ Family.Declaration
     → (p ≡ Production.DeclaredArgument → ⊥)
-    → (p ≡ Production.AnyType → ⊥)
     → (p ≡ Production.ValueOf → ⊥)
     → (p ≡ Production.OfConcept → ⊥)
     → (p ≡ Production.TemplateOf → ⊥)
@@ -393,14 +412,13 @@ pub declaration : (p : Production) → family_of p ≡ Family.Declaration
     → (p ≡ Production.Declarations → ⊥)
     → ⊥
 unfolding family_of
-declaration Production.DeclaredArgument is n0 n1 n2 n3 n4 n5 n6 = n0 refl
-declaration Production.AnyType is n0 n1 n2 n3 n4 n5 n6 = n1 refl
-declaration Production.ValueOf is n0 n1 n2 n3 n4 n5 n6 = n2 refl
-declaration Production.OfConcept is n0 n1 n2 n3 n4 n5 n6 = n3 refl
-declaration Production.TemplateOf is n0 n1 n2 n3 n4 n5 n6 = n4 refl
-declaration Production.PackOf is n0 n1 n2 n3 n4 n5 n6 = n5 refl
-declaration Production.Declarations is n0 n1 n2 n3 n4 n5 n6 = n6 refl
-declaration _ is n0 n1 n2 n3 n4 n5 n6 = subst IsDeclaration (sym is) tt
+declaration Production.DeclaredArgument is n0 n1 n2 n3 n4 n5 = n0 refl
+declaration Production.ValueOf is n0 n1 n2 n3 n4 n5 = n1 refl
+declaration Production.OfConcept is n0 n1 n2 n3 n4 n5 = n2 refl
+declaration Production.TemplateOf is n0 n1 n2 n3 n4 n5 = n3 refl
+declaration Production.PackOf is n0 n1 n2 n3 n4 n5 = n4 refl
+declaration Production.Declarations is n0 n1 n2 n3 n4 n5 = n5 refl
+declaration _ is n0 n1 n2 n3 n4 n5 = subst IsDeclaration (sym is) tt
 
 abbrev IsOperation : Family → Type 0
 IsOperation Family.Operation = Unit {0}
@@ -472,33 +490,35 @@ pub operands : (p : Production) → family_of p ≡ Family.Operands
     → (p ≡ Production.Designators → ⊥)
     → (p ≡ Production.DesignatedValue → ⊥)
     → (p ≡ Production.FieldName → ⊥)
+    → (p ≡ Production.BoundNames → ⊥)
     → (p ≡ Production.New → ⊥)
     → (p ≡ Production.Placed → ⊥)
     → ⊥
 unfolding family_of
-operands Production.Expression is n0 n1 n2 n3 n4 n5 n6 n7 n8 n9 n10 n11 n12 n13 n14 n15 n16 n17 n18 n19 n20 n21 = n0 refl
-operands Production.Expressions is n0 n1 n2 n3 n4 n5 n6 n7 n8 n9 n10 n11 n12 n13 n14 n15 n16 n17 n18 n19 n20 n21 = n1 refl
-operands Production.Unary is n0 n1 n2 n3 n4 n5 n6 n7 n8 n9 n10 n11 n12 n13 n14 n15 n16 n17 n18 n19 n20 n21 = n2 refl
-operands Production.AddressExpression is n0 n1 n2 n3 n4 n5 n6 n7 n8 n9 n10 n11 n12 n13 n14 n15 n16 n17 n18 n19 n20 n21 = n3 refl
-operands Production.OfType is n0 n1 n2 n3 n4 n5 n6 n7 n8 n9 n10 n11 n12 n13 n14 n15 n16 n17 n18 n19 n20 n21 = n4 refl
-operands Production.DestructorName is n0 n1 n2 n3 n4 n5 n6 n7 n8 n9 n10 n11 n12 n13 n14 n15 n16 n17 n18 n19 n20 n21 = n5 refl
-operands Production.Braces is n0 n1 n2 n3 n4 n5 n6 n7 n8 n9 n10 n11 n12 n13 n14 n15 n16 n17 n18 n19 n20 n21 = n6 refl
-operands Production.Step is n0 n1 n2 n3 n4 n5 n6 n7 n8 n9 n10 n11 n12 n13 n14 n15 n16 n17 n18 n19 n20 n21 = n7 refl
-operands Production.Binary is n0 n1 n2 n3 n4 n5 n6 n7 n8 n9 n10 n11 n12 n13 n14 n15 n16 n17 n18 n19 n20 n21 = n8 refl
-operands Production.Cast is n0 n1 n2 n3 n4 n5 n6 n7 n8 n9 n10 n11 n12 n13 n14 n15 n16 n17 n18 n19 n20 n21 = n9 refl
-operands Production.Convert is n0 n1 n2 n3 n4 n5 n6 n7 n8 n9 n10 n11 n12 n13 n14 n15 n16 n17 n18 n19 n20 n21 = n10 refl
-operands Production.Call is n0 n1 n2 n3 n4 n5 n6 n7 n8 n9 n10 n11 n12 n13 n14 n15 n16 n17 n18 n19 n20 n21 = n11 refl
-operands Production.TypedBraces is n0 n1 n2 n3 n4 n5 n6 n7 n8 n9 n10 n11 n12 n13 n14 n15 n16 n17 n18 n19 n20 n21 = n12 refl
-operands Production.Conditional is n0 n1 n2 n3 n4 n5 n6 n7 n8 n9 n10 n11 n12 n13 n14 n15 n16 n17 n18 n19 n20 n21 = n13 refl
-operands Production.Rethrow is n0 n1 n2 n3 n4 n5 n6 n7 n8 n9 n10 n11 n12 n13 n14 n15 n16 n17 n18 n19 n20 n21 = n14 refl
-operands Production.Designated is n0 n1 n2 n3 n4 n5 n6 n7 n8 n9 n10 n11 n12 n13 n14 n15 n16 n17 n18 n19 n20 n21 = n15 refl
-operands Production.DesignatedElement is n0 n1 n2 n3 n4 n5 n6 n7 n8 n9 n10 n11 n12 n13 n14 n15 n16 n17 n18 n19 n20 n21 = n16 refl
-operands Production.Designators is n0 n1 n2 n3 n4 n5 n6 n7 n8 n9 n10 n11 n12 n13 n14 n15 n16 n17 n18 n19 n20 n21 = n17 refl
-operands Production.DesignatedValue is n0 n1 n2 n3 n4 n5 n6 n7 n8 n9 n10 n11 n12 n13 n14 n15 n16 n17 n18 n19 n20 n21 = n18 refl
-operands Production.FieldName is n0 n1 n2 n3 n4 n5 n6 n7 n8 n9 n10 n11 n12 n13 n14 n15 n16 n17 n18 n19 n20 n21 = n19 refl
-operands Production.New is n0 n1 n2 n3 n4 n5 n6 n7 n8 n9 n10 n11 n12 n13 n14 n15 n16 n17 n18 n19 n20 n21 = n20 refl
-operands Production.Placed is n0 n1 n2 n3 n4 n5 n6 n7 n8 n9 n10 n11 n12 n13 n14 n15 n16 n17 n18 n19 n20 n21 = n21 refl
-operands _ is n0 n1 n2 n3 n4 n5 n6 n7 n8 n9 n10 n11 n12 n13 n14 n15 n16 n17 n18 n19 n20 n21 = subst IsOperands (sym is) tt
+operands Production.Expression is n0 n1 n2 n3 n4 n5 n6 n7 n8 n9 n10 n11 n12 n13 n14 n15 n16 n17 n18 n19 n20 n21 n22 = n0 refl
+operands Production.Expressions is n0 n1 n2 n3 n4 n5 n6 n7 n8 n9 n10 n11 n12 n13 n14 n15 n16 n17 n18 n19 n20 n21 n22 = n1 refl
+operands Production.Unary is n0 n1 n2 n3 n4 n5 n6 n7 n8 n9 n10 n11 n12 n13 n14 n15 n16 n17 n18 n19 n20 n21 n22 = n2 refl
+operands Production.AddressExpression is n0 n1 n2 n3 n4 n5 n6 n7 n8 n9 n10 n11 n12 n13 n14 n15 n16 n17 n18 n19 n20 n21 n22 = n3 refl
+operands Production.OfType is n0 n1 n2 n3 n4 n5 n6 n7 n8 n9 n10 n11 n12 n13 n14 n15 n16 n17 n18 n19 n20 n21 n22 = n4 refl
+operands Production.DestructorName is n0 n1 n2 n3 n4 n5 n6 n7 n8 n9 n10 n11 n12 n13 n14 n15 n16 n17 n18 n19 n20 n21 n22 = n5 refl
+operands Production.Braces is n0 n1 n2 n3 n4 n5 n6 n7 n8 n9 n10 n11 n12 n13 n14 n15 n16 n17 n18 n19 n20 n21 n22 = n6 refl
+operands Production.Step is n0 n1 n2 n3 n4 n5 n6 n7 n8 n9 n10 n11 n12 n13 n14 n15 n16 n17 n18 n19 n20 n21 n22 = n7 refl
+operands Production.Binary is n0 n1 n2 n3 n4 n5 n6 n7 n8 n9 n10 n11 n12 n13 n14 n15 n16 n17 n18 n19 n20 n21 n22 = n8 refl
+operands Production.Cast is n0 n1 n2 n3 n4 n5 n6 n7 n8 n9 n10 n11 n12 n13 n14 n15 n16 n17 n18 n19 n20 n21 n22 = n9 refl
+operands Production.Convert is n0 n1 n2 n3 n4 n5 n6 n7 n8 n9 n10 n11 n12 n13 n14 n15 n16 n17 n18 n19 n20 n21 n22 = n10 refl
+operands Production.Call is n0 n1 n2 n3 n4 n5 n6 n7 n8 n9 n10 n11 n12 n13 n14 n15 n16 n17 n18 n19 n20 n21 n22 = n11 refl
+operands Production.TypedBraces is n0 n1 n2 n3 n4 n5 n6 n7 n8 n9 n10 n11 n12 n13 n14 n15 n16 n17 n18 n19 n20 n21 n22 = n12 refl
+operands Production.Conditional is n0 n1 n2 n3 n4 n5 n6 n7 n8 n9 n10 n11 n12 n13 n14 n15 n16 n17 n18 n19 n20 n21 n22 = n13 refl
+operands Production.Rethrow is n0 n1 n2 n3 n4 n5 n6 n7 n8 n9 n10 n11 n12 n13 n14 n15 n16 n17 n18 n19 n20 n21 n22 = n14 refl
+operands Production.Designated is n0 n1 n2 n3 n4 n5 n6 n7 n8 n9 n10 n11 n12 n13 n14 n15 n16 n17 n18 n19 n20 n21 n22 = n15 refl
+operands Production.DesignatedElement is n0 n1 n2 n3 n4 n5 n6 n7 n8 n9 n10 n11 n12 n13 n14 n15 n16 n17 n18 n19 n20 n21 n22 = n16 refl
+operands Production.Designators is n0 n1 n2 n3 n4 n5 n6 n7 n8 n9 n10 n11 n12 n13 n14 n15 n16 n17 n18 n19 n20 n21 n22 = n17 refl
+operands Production.DesignatedValue is n0 n1 n2 n3 n4 n5 n6 n7 n8 n9 n10 n11 n12 n13 n14 n15 n16 n17 n18 n19 n20 n21 n22 = n18 refl
+operands Production.FieldName is n0 n1 n2 n3 n4 n5 n6 n7 n8 n9 n10 n11 n12 n13 n14 n15 n16 n17 n18 n19 n20 n21 n22 = n19 refl
+operands Production.BoundNames is n0 n1 n2 n3 n4 n5 n6 n7 n8 n9 n10 n11 n12 n13 n14 n15 n16 n17 n18 n19 n20 n21 n22 = n20 refl
+operands Production.New is n0 n1 n2 n3 n4 n5 n6 n7 n8 n9 n10 n11 n12 n13 n14 n15 n16 n17 n18 n19 n20 n21 n22 = n21 refl
+operands Production.Placed is n0 n1 n2 n3 n4 n5 n6 n7 n8 n9 n10 n11 n12 n13 n14 n15 n16 n17 n18 n19 n20 n21 n22 = n22 refl
+operands _ is n0 n1 n2 n3 n4 n5 n6 n7 n8 n9 n10 n11 n12 n13 n14 n15 n16 n17 n18 n19 n20 n21 n22 = subst IsOperands (sym is) tt
 
 abbrev IsPack : Family → Type 0
 IsPack Family.Pack = Unit {0}
@@ -532,21 +552,19 @@ pub requirement : (p : Production) → family_of p ≡ Family.Requirement
     → (p ≡ Production.RequiresOf → ⊥)
     → (p ≡ Production.RequiredType → ⊥)
     → (p ≡ Production.ExpressionRequirement → ⊥)
-    → (p ≡ Production.NoexceptRequirement → ⊥)
     → (p ≡ Production.ResultRequirement → ⊥)
     → (p ≡ Production.TypeRequirement → ⊥)
     → (p ≡ Production.NestedRequirement → ⊥)
     → ⊥
 unfolding family_of
-requirement Production.Requires is n0 n1 n2 n3 n4 n5 n6 n7 = n0 refl
-requirement Production.RequiresOf is n0 n1 n2 n3 n4 n5 n6 n7 = n1 refl
-requirement Production.RequiredType is n0 n1 n2 n3 n4 n5 n6 n7 = n2 refl
-requirement Production.ExpressionRequirement is n0 n1 n2 n3 n4 n5 n6 n7 = n3 refl
-requirement Production.NoexceptRequirement is n0 n1 n2 n3 n4 n5 n6 n7 = n4 refl
-requirement Production.ResultRequirement is n0 n1 n2 n3 n4 n5 n6 n7 = n5 refl
-requirement Production.TypeRequirement is n0 n1 n2 n3 n4 n5 n6 n7 = n6 refl
-requirement Production.NestedRequirement is n0 n1 n2 n3 n4 n5 n6 n7 = n7 refl
-requirement _ is n0 n1 n2 n3 n4 n5 n6 n7 = subst IsRequirement (sym is) tt
+requirement Production.Requires is n0 n1 n2 n3 n4 n5 n6 = n0 refl
+requirement Production.RequiresOf is n0 n1 n2 n3 n4 n5 n6 = n1 refl
+requirement Production.RequiredType is n0 n1 n2 n3 n4 n5 n6 = n2 refl
+requirement Production.ExpressionRequirement is n0 n1 n2 n3 n4 n5 n6 = n3 refl
+requirement Production.ResultRequirement is n0 n1 n2 n3 n4 n5 n6 = n4 refl
+requirement Production.TypeRequirement is n0 n1 n2 n3 n4 n5 n6 = n5 refl
+requirement Production.NestedRequirement is n0 n1 n2 n3 n4 n5 n6 = n6 refl
+requirement _ is n0 n1 n2 n3 n4 n5 n6 = subst IsRequirement (sym is) tt
 
 abbrev IsUnresolved : Family → Type 0
 IsUnresolved Family.Unresolved = Unit {0}

@@ -14,7 +14,6 @@ use Rattle.sym_link.specs.Linking.{View, Adds, AddsFew, owed_behind, owed_next}
 use Rattle.sym_link.specs.Threads.{IsAt, GoesOn}
 use Rattle.cpp_grammar.specs.declared.production.Production.{Production}
 use Rattle.cpp_grammar.specs.Unfolding.{production_at}
-use Rattle.cpp_term.specs.Values as values
 use Rattle.cpp_term.specs.Values.{State, Value, Around}
 use Rattle.cpp_term.specs.Between.{Going, between}
 use Rattle.cpp_term.specs.Meant.{done}
@@ -75,13 +74,13 @@ module _ (reading : Reading Value State Around) (before : Production → Around 
   -- the step that was taken, with what is marked then, is that of the reading, and these are the candidates after it
   pub goes_right : (mid : Linked) (more : Candidates) (new_parts : List Part) (step : Step) (then : Surroundings) (marking : Going → Going)
       → ((n : Next Value State Around) → before production around frame.place (values_in s old.nodes own) (state_of s old) ≡ Ok n → IsClosed around → IsClosed n.context)
-      → ((state : values.State) → before production around frame.place (values_in s old.nodes own) (record state { packs = old.packs })
-      ≡ marking (goes_on s old.nodes frame.kept (values_in s old.nodes own) state old.packs step))
+      → before production around frame.place (values_in s old.nodes own) (record (state_of s old) { packs = old.packs })
+      ≡ marking (goes_on s old.nodes frame.kept (values_in s old.nodes own) (state_of s old) old.packs step)
       → Takes s old mid frame.kept frame.base parts new_parts step then → AreCandidatesThere (length mid.nodes.nodes) more
       → marking (Ok (gone mid new_parts then (state_of s mid))) ≡ Ok (gone mid new_parts then (record (state_of s mid) { candidates = candidates_of (trees_in s mid.nodes) more.list.items }))
       → GoesOn view s (Surrounds s) old (record mid { candidates = more }) frame parts new_parts (Ok then)
   goes_right mid more new_parts step then marking closed step_is takes there marked rule known state is =
-      let reached = step_is (state_of s old) ∙ ap (λ ps. marking (goes_on s old.nodes frame.kept (values_in s old.nodes ps) (state_of s old) old.packs step)) same ∙ ap marking takes.is ∙ marked in (
+      let reached = step_is ∙ ap (λ ps. marking (goes_on s old.nodes frame.kept (values_in s old.nodes ps) (state_of s old) old.packs step)) same ∙ ap marking takes.is ∙ marked in (
         gone mid new_parts then (record (state_of s mid) { candidates = candidates_of (trees_in s mid.nodes) more.list.items }),
         read_is rule known state is ∙ reached,
         record {
@@ -97,9 +96,9 @@ module _ (reading : Reading Value State Around) (before : Production → Around 
 
   -- the refusal of a step is that of the reading
   pub refused_right : (new : Linked) (new_parts : List Part) (e : Refusal)
-      → ((state : values.State) → Fails e (before production around frame.place (values_in s old.nodes own) (record state { packs = old.packs })))
+      → Fails e (before production around frame.place (values_in s old.nodes own) (record (state_of s old) { packs = old.packs }))
       → GoesOn view s (Surrounds s) old new frame parts new_parts (Err e)
-  refused_right new new_parts e refused rule known state is = rw (read_is rule known state is) (refused (state_of s old))
+  refused_right new new_parts e refused rule known state is = rw (read_is rule known state is) refused
 
 pub plain_reads : (s : List ℕ) (rule : Open State Around) (known : List Value) (state : State) → (linked s).between rule known state ≡ between (production_at rule.rule.number) rule.context rule.place known state
 unfolding cpp

@@ -8,7 +8,7 @@ use Rattle.cpp_grammar.specs.Rescoping.{is_by_all, is_by_some, left}
 use Rattle.cpp_term.specs.Term.{Term}
 use Rattle.cpp_term.specs.Values as values
 use Rattle.cpp_term.specs.Values.{State}
-use Rattle.cpp_term.specs.Rescoping.{place_in, named_in, counted_so_far, can_be_named, left_at}
+use Rattle.cpp_term.specs.Rescoping.{place_in, named_in, named_by_both, counted_so_far, can_be_named, left_at}
 use Rattle.cpp_term.proofs.Notes.{both}
 use Rattle.cpp_references.specs.declared.candidates.Candidate.{Candidate}
 use Rattle.cpp_references.proofs.Numbering.{candidate_at, candidate_there}
@@ -125,6 +125,23 @@ module _ (s : List ℕ) (l : Linked) (place number : ℕ) where
   other_place None (Some b) longer shorter is = inl (λ same. omega (arith, shorter.0, shorter.1, longer, same))
   other_place None None longer shorter is = inr (longer, shorter)
 
+  -- what both lists name by the number, and its node
+  abbrev pub IsBoth : Option Candidate → Type 0
+  IsBoth c = (maybe_candidate ts c ≡ named_by_both cs number) × IfSome c (λ d. d.node < length l.nodes.nodes)
+
+  both_is : at false ≡ at true → (c : Option Candidate) → c ≡ slice_get items (at false) → maybe_candidate ts c ≡ named_by_both cs number
+  unfolding named_by_both
+  both_is same c is = at_named false c is ∙ sym (ap (λ b. elim b as (λ _. Option values.Candidate) [ true ↦ named_in false cs number | false ↦ None ]) (alike same))
+
+  both_none : (at false ≡ at true → ⊥) ⊎ ((length items ≤ at false) × (length items ≤ at true)) → maybe_candidate ts None ≡ named_by_both cs number
+  unfolding named_by_both maybe_candidate
+  both_none (inl other) = sym (ap (λ b. elim b as (λ _. Option values.Candidate) [ true ↦ named_in false cs number | false ↦ None ]) (apart other))
+  both_none (inr past) = sym (go (nat_eq (place_in false cs number) (place_in true cs number)))
+    where
+      go : (b : Bool) → elim b as (λ _. Option values.Candidate) [ true ↦ named_in false cs number | false ↦ None ] ≡ None
+      go true = past_named false past.0
+      go false = refl
+
   module _ (there : AreNodesThere (length l.nodes.nodes) items) where
     there_at : (c : Option Candidate) (k : ℕ) → c ≡ slice_get items k → IfSome c (λ d. d.node < length l.nodes.nodes)
     there_at c k is = subst (λ o. IfSome o (λ d. d.node < length l.nodes.nodes)) (sym is) (candidate_there _ items k there)
@@ -222,3 +239,23 @@ module _ (s : List ℕ) (l : Linked) (place number : ℕ) where
           where
             nowhere : length items ≤ at false → length items ≤ at true → IsNamed s l place number None lists
             nowhere a b = record { is = sym (none_named a b); lists = tt; there = tt }
+
+    -- what both lists name, where all compilers count alike
+    pub both_first : IsCounted l.candidates → is_by_all (counted_so_far by_all (marks items)) ≡ true → (c : Option Candidate) → c ≡ slice_get items number → IsBoth c
+    both_first counted all c is =
+        let first = one_place false (marks items) number all in
+        let second = one_place true (marks items) number all in (both_is (first ∙ sym second) c (is ∙ ap (λ k. slice_get items k) (sym first)), there_at c number is)
+
+    -- where both lists have one place, or two
+    pub both_one : (o p : Option ℕ) (c : Option Candidate) → IsAt false o → IsAt true p → c ≡ slice_get items (at false) → is_one_place o p ≡ true → IsBoth c
+    both_one o p c longer shorter is one = (both_is (same_place o p longer shorter one) c is, there_at c (at false) is)
+
+    pub both_two : (o p : Option ℕ) → IsAt false o → IsAt true p → is_one_place o p ≡ false → IsBoth None
+    both_two o p longer shorter two = (both_none (other_place o p longer shorter two), tt)
+
+    -- where no list has so many
+    pub both_nowhere : (bound : ℕ) → bound ≤ number → (c : Option Candidate) → ((n : ℕ) → bound ≤ n → c ≡ slice_get items n) → IsBoth None
+    both_nowhere bound past c named =
+        let nothing : c ≡ None = named (number + length items) (omega (arith, past)) ∙ none_at items (number + length items) (omega arith) in
+        let few : length items ≤ number = past_at items number (sym (named number past) ∙ nothing) in
+        (both_none (inr (omega (arith, few, place_behind false (marks items) number), omega (arith, few, place_behind true (marks items) number))), tt)

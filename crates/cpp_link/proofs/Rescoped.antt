@@ -77,6 +77,7 @@ apart_between Production.ParameterExpression around place (v ∷ []) state apart
     go false e = refl
 apart_between Production.Holder around place (v ∷ []) state apart = absurd (true≢false apart)
 apart_between Production.HeldArguments around place [] state apart = absurd (true≢false apart)
+apart_between Production.NamedModule around place (v ∷ []) state apart = absurd (true≢false apart)
 apart_between p around place vs state apart = refl
 
 pub wide_reads : (s : List ℕ) (rule : Open State Around) (known : List Value) (state : State) → (linked_wide s).between rule known state ≡ between_wide (production_at rule.rule.number) rule.context rule.place known state
@@ -228,16 +229,17 @@ pub no_pack : (p : Production) (l : Bool) (before : ℕ) → steps_apart p l bef
 unfolding steps_apart
 no_pack p l before is pack = absurd (false≢true (ap (λ q. steps_apart q l before) (sym pack) ∙ is))
 
--- what is neither a name with its M nor the arguments of an inherited constructor is a parameter of a lambda
-pub apart_generic : (p : Production) (l : Bool) (before : ℕ) → steps_apart p l before ≡ true → (p ≡ Production.Holder → ⊥) → (p ≡ Production.HeldArguments → ⊥) → (is_parameter p ≡ true) × ((l ≡ true) × (before ≡ 1))
+-- what is neither a name with its M, nor the arguments of an inherited constructor, nor a module is a parameter of a lambda
+pub apart_generic : (p : Production) (l : Bool) (before : ℕ) → steps_apart p l before ≡ true → (p ≡ Production.Holder → ⊥) → (p ≡ Production.HeldArguments → ⊥) → (p ≡ Production.NamedModule → ⊥) → (is_parameter p ≡ true) × ((l ≡ true) × (before ≡ 1))
 unfolding steps_apart is_parameter
-apart_generic Production.Parameter l before is held own = (refl, second l before is)
-apart_generic Production.NestParameter l before is held own = (refl, second l before is)
-apart_generic Production.ParameterArgument l before is held own = (refl, second l before is)
-apart_generic Production.ParameterExpression l before is held own = (refl, second l before is)
-apart_generic Production.Holder l before is held own = absurd (held refl)
-apart_generic Production.HeldArguments l before is held own = absurd (own refl)
-apart_generic _ l before is held own = absurd (false≢true is)
+apart_generic Production.Parameter l before is held own named = (refl, second l before is)
+apart_generic Production.NestParameter l before is held own named = (refl, second l before is)
+apart_generic Production.ParameterArgument l before is held own named = (refl, second l before is)
+apart_generic Production.ParameterExpression l before is held own named = (refl, second l before is)
+apart_generic Production.Holder l before is held own named = absurd (held refl)
+apart_generic Production.HeldArguments l before is held own named = absurd (own refl)
+apart_generic Production.NamedModule l before is held own named = absurd (named refl)
+apart_generic _ l before is held own named = absurd (false≢true is)
 
 -- there is no mark then
 pub unmarked : (p : Production) (around : Around) (vs : List Value) (state : State) → (p ≡ Production.Holder → ⊥) → (p ≡ Production.HeldArguments → ⊥) → with_mark p around vs state ≡ state

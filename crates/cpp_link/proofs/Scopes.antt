@@ -1,8 +1,10 @@
 -- The named arguments are those of a name in which no parameter is free: none is free in them, nor in one of them.
-use Rattle.std.proofs.Common.{◌≡◌, subst, ℕ, ◌-◌, List, [], ◌∷◌, length, Bool, true, false, cond, Result, Ok, Err}
+use Rattle.std.proofs.Common.{◌≡◌, subst, ℕ, ◌-◌, List, [], ◌∷◌, length, Bool, true, false, cond, Option, Some, None, Result, Ok, Err}
 use Rattle.std.specs.Prelude.{IfOk}
 use Rattle.sym_core.specs.declared.refusal.Refusal.{Refusal}
 use Rattle.sym_core.specs.declared.refusal.Refusal.TheVariants.{BadReference}
+use Rattle.sym_core.specs.Value.{counted_value}
+use Rattle.sym_core.specs.declared.NumberKind.TheVariants.{Seq36}
 use Rattle.sym_link.specs.Reading.{Next, ◌>>=◌}
 use Rattle.cpp_grammar.specs.declared.production.Production.{Production}
 use Rattle.cpp_grammar.specs.Row.{Where, as_before, in_its_name, in_its_types, in_a_signature, under_it, nameless, after_part, after_the_name, Before, quiet, goes, becomes, tests, holds, unread, before_part}
@@ -10,11 +12,11 @@ use Rattle.cpp_grammar.specs.Rows.{row_of}
 use Rattle.cpp_term.specs.Term.{Term, holder, parameter}
 use Rattle.cpp_term.specs.Items.{auto}
 use Rattle.cpp_grammar.specs.Rescoping.{generic_number}
-use Rattle.cpp_term.specs.Values.{State, Around, prefix_tree, Value, tree, tree_of, part}
+use Rattle.cpp_term.specs.Values.{State, Around, prefix_tree, Value, tree, tree_of, text_of, part}
 use Rattle.cpp_term.specs.References.{parameter_named}
 use Rattle.cpp_term.specs.Between.{Going, in_name, in_types, in_signature, under_expansion, after, inside, listed_so_far, parameter_so_far, argument_so_far, argument_at, index_of, next, between}
 use Rattle.cpp_term.specs.Meant.{made, around_part, tested, done}
-use Rattle.cpp_term.specs.Rescoping.{parameter_here, argument_here, generic_so_far, with_holder, is_instance, holder_so_far, between_wide}
+use Rattle.cpp_term.specs.Rescoping.{parameter_here, argument_here, generic_so_far, with_holder, is_instance, holder_so_far, module_named, module_so_far, between_wide}
 use Rattle.cpp_references.proofs.Arguments.{closed_are}
 use Rattle.cpp_link.specs.Parts.{IsClosed}
 
@@ -98,6 +100,14 @@ holder_closed around place state closed = by (is_instance (prefix_tree around.pr
     by true = tt
     by false = closed
 
+module_closed : (around : Around) (place number : ℕ) (state : State) → IsClosed around → GoesClosed (module_so_far around place number state)
+unfolding module_so_far listed_so_far after
+module_closed around place number state closed = by (module_named number state)
+  where
+    by : (o : Option Term) → GoesClosed (elim o as (λ _. Going) [ None ↦ Err (BadReference place) | Some t ↦ listed_so_far around t [] state ])
+    by None = tt
+    by (Some t) = closed
+
 wide_goes_closed : (p : Production) (around : Around) (place : ℕ) (vs : List Value) (state : State) → IsClosed around → GoesClosed (between_wide p around place vs state)
 unfolding between_wide inside
 wide_goes_closed Production.Parameter around place (v ∷ []) state closed = here_closed around place (index_of v) state closed
@@ -106,6 +116,7 @@ wide_goes_closed Production.ParameterArgument around place (v ∷ []) state clos
 wide_goes_closed Production.ParameterExpression around place (v ∷ []) state closed = argument_here_closed around (place - 1) (index_of v) state closed
 wide_goes_closed Production.HeldArguments around place [] state closed = closed
 wide_goes_closed Production.Holder around place (v ∷ []) state closed = holder_closed around place state closed
+wide_goes_closed Production.NamedModule around place (v ∷ []) state closed = module_closed around (place - 1) (counted_value Seq36 (text_of v)) state closed
 wide_goes_closed p around place vs state closed = goes_closed p around place vs state closed
 
 pub wide_between_closed : (p : Production) (around : Around) (place : ℕ) (vs : List Value) (state : State) (n : Next Value State Around) → between_wide p around place vs state ≡ Ok n → IsClosed around → IsClosed n.context

@@ -1,7 +1,9 @@
 -- Linking by the wide grammar keeps to what every language does.
-use Rattle.std.proofs.Common.{◌≡◌, refl, ℕ, ◌-◌, suc, List, [], ◌∷◌, length, Bool, true, false, Err}
+use Rattle.std.proofs.Common.{◌≡◌, refl, ℕ, ◌-◌, suc, List, [], ◌∷◌, length, Bool, true, false, Option, None, Some, Err}
 use Rattle.std.specs.Result.{IfOk}
 use Rattle.sym_core.specs.declared.refusal.Refusal.TheVariants.{BadReference}
+use Rattle.sym_core.specs.declared.NumberKind.TheVariants.{Seq36}
+use Rattle.sym_core.specs.Value.{counted_value}
 use Rattle.sym_link.specs.Reading.{Next}
 use Rattle.sym_link.specs.Linking.{View, IsLinking}
 use Rattle.sym_link.specs.Threads.{IsThreading}
@@ -9,12 +11,12 @@ use Rattle.sym_link.proofs.Tally.{tallied_threads}
 use Rattle.cpp_grammar.specs.declared.production.Production.{Production}
 use Rattle.cpp_grammar.specs.Unfolding.{production_at}
 use Rattle.cpp_grammar.specs.Rescoping.{generic_number}
-use Rattle.cpp_term.specs.Term.{holder, parameter}
+use Rattle.cpp_term.specs.Term.{Term, holder, parameter}
 use Rattle.cpp_term.specs.Items.{auto}
-use Rattle.cpp_term.specs.Values.{State, Value, tree, Around, prefix_tree}
+use Rattle.cpp_term.specs.Values.{State, Value, tree, Around, prefix_tree, text_of}
 use Rattle.cpp_term.specs.Between.{next, parameter_so_far, argument_so_far, listed_so_far, index_of}
 use Rattle.cpp_term.specs.Unfolding.{cpp}
-use Rattle.cpp_term.specs.Rescoping.{generic_so_far, parameter_here, argument_here, with_holder, is_instance, holder_so_far, between_wide, cpp_wide}
+use Rattle.cpp_term.specs.Rescoping.{generic_so_far, parameter_here, argument_here, with_holder, is_instance, holder_so_far, module_named, module_so_far, between_wide, cpp_wide}
 use Rattle.cpp_link.specs.declared.linked.Linked.{Linked}
 use Rattle.cpp_link.specs.declared.part.Part.{Part}
 use Rattle.cpp_references.specs.declared.around.Surroundings.{Surroundings}
@@ -54,6 +56,17 @@ holder_counts around place state = go (is_instance (prefix_tree around.prefix))
     go true = tt
     go false = refl
 
+module_counts : (around : Around) (place number : ℕ) (state : State) → IfOk (module_so_far around place number state) (λ next. length next.values ≡ 1)
+unfolding module_so_far listed_so_far
+module_counts around place number state = go (module_named number state)
+  where
+    go : (o : Option Term) → IfOk {T = Next Value State Around} (elim o [
+      | None ↦ Err (BadReference place)
+      | Some t ↦ listed_so_far around t [] state
+    ]) (λ next. length next.values ≡ 1)
+    go None = tt
+    go (Some t) = refl
+
 wide_between_counts : (p : Production) (around : Around) (place : ℕ) (vs : List Value) (state : State) → IfOk (between_wide p around place vs state) (λ next. length next.values ≡ length vs)
 unfolding between_wide
 wide_between_counts Production.NestParameter around place (v ∷ []) state = here_counts around place (index_of v) [] state
@@ -62,6 +75,7 @@ wide_between_counts Production.ParameterArgument around place (v ∷ []) state =
 wide_between_counts Production.ParameterExpression around place (v ∷ []) state = argument_here_counts around (place - 1) (index_of v) state
 wide_between_counts Production.HeldArguments around place [] state = refl
 wide_between_counts Production.Holder around place (v ∷ []) state = holder_counts around place state
+wide_between_counts Production.NamedModule around place (v ∷ []) state = module_counts around (place - 1) (counted_value Seq36 (text_of v)) state
 wide_between_counts p around place vs state = between_counts p around place vs state
 
 -- ## The language

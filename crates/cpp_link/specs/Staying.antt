@@ -15,6 +15,8 @@ module _ (s : List ℕ) (old new : Stored) (stays : (i : ℕ) → i < length old
   piece_stays (Piece.Lambda parameters number) there = rw (stays parameters there) refl
   piece_stays (Piece.GenericLambda parameters number) there = rw (stays parameters there) refl
   piece_stays (Piece.Conversion ty) there = rw (stays ty there) refl
+  piece_stays (Piece.Enumeration ty name) there = rw (stays ty there.0) refl
+  piece_stays (Piece.Bindings names) there = rw (stays names there) refl
   piece_stays (Piece.Inheriting digit base) there = rw (stays base there) refl
   piece_stays _ there = refl
 
@@ -68,6 +70,8 @@ there_more s m n (Part.Piece p) le there = piece p there
     piece (Piece.Lambda parameters number) below = omega (arith, le, below)
     piece (Piece.GenericLambda parameters number) below = omega (arith, le, below)
     piece (Piece.Conversion ty) below = omega (arith, le, below)
+    piece (Piece.Enumeration ty name) below = (omega (arith, le, below.0), below.1)
+    piece (Piece.Bindings names) below = omega (arith, le, below)
     piece (Piece.Inheriting digit base) below = omega (arith, le, below)
     piece _ below = tt
 there_more s m n (Part.Named node q ref) le there = omega (arith, le, there)

@@ -221,8 +221,16 @@ impl Linked {
                 },
                 true,
             ),
-            // <field source-name>
+            // a <source-name> as it is
             Production::FieldName => made(Node::Vendor(self.text(symbol, parts, 0)), true),
+            // <source-name>+
+            Production::BoundNames => made(
+                Node::Cell {
+                    first: self.tree(symbol, parts, 0),
+                    rest: self.list(symbol, parts, 1),
+                },
+                true,
+            ),
             // <expression> ::= nw <expression>* _ <type> <initializer> | na <expression>* _ <type> <initializer>
             Production::New => Outcome::MadeOperand {
                 letter: byte,
@@ -366,8 +374,6 @@ impl Linked {
             Production::RequiredType => Outcome::Given(self.given(symbol, parts, 1)),
             // <requirement> ::= X <expression> [N] [R <type-constraint>]
             Production::ExpressionRequirement => Outcome::Given(Part::Letter(byte)),
-            // <requirement> ::= X <expression> N [R <type-constraint>], from the N on
-            Production::NoexceptRequirement => Outcome::Given(Part::Letter(byte)),
             // <requirement> ::= X <expression> [N] R <type-constraint>, from the R on
             Production::ResultRequirement => Outcome::Given(Part::Letter(byte)),
             // <requirement> ::= T <type>

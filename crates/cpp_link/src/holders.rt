@@ -13,7 +13,7 @@ ghost use Rattle.sym_link.specs.Unfold.{found};
 ghost use Rattle.cpp_grammar.specs.declared.production.Production.TheVariants as productions;
 ghost use Rattle.cpp_grammar.specs.Unfolding.{production_at};
 ghost use Rattle.cpp_grammar.specs.Values.{by_gcc};
-ghost use Rattle.cpp_term.specs.Rescoping.{counted_base, is_instance, can_be_named};
+ghost use Rattle.cpp_term.specs.Rescoping.{counted_base, is_instance, can_be_named, named_by_both};
 ghost use Rattle.cpp_term.specs.Values.{State, Around, part};
 ghost use Rattle.cpp_tree.specs.Nodes.{over, tree_at, bytes_at, IsThereBelow, IsWithin, IsTable};
 ghost use Rattle.cpp_link.specs.Closes.{ends_of};
@@ -166,6 +166,31 @@ impl Linked {
         match counted {
             Some(number) => self.named_apart(symbol, place, number),
             None => (named, self.counting.lists),
+        }
+    }
+
+    /// The candidate that these digits name, if it is the same by both lists.
+    pub(crate) fn named_by_both(&self, symbol: &[u8], digits: Span) -> Option<Candidate>
+        requires digits { IsWithin digits symbol.now }
+        requires candidates { AreCandidatesThere (length self.now.nodes.nodes) self.now.candidates }
+        ensures is { maybe_candidate (trees_in symbol.now self.now.nodes) result ≡ named_by_both (candidates_of (trees_in symbol.now self.now.nodes) self.now.candidates.list.items) (counted_value kinds.Seq36 (bytes_at symbol.now digits)) }
+        ensures there { IfSome result (λ c. c.node < length self.now.nodes.nodes) }
+    {
+        let counted = value36(&symbol[digits.from as usize..digits.to as usize]);
+        let named = numbered(&self.candidates.list, counted);
+        if self.candidates.is_one_list() {
+            return named;
+        }
+        match counted {
+            Some(number) => {
+                let longer = self.candidates.longer_place(number);
+                let shorter = self.candidates.shorter_place(number);
+                if is_one_place(longer, shorter) {
+                    return self.candidate_at(longer);
+                }
+                None
+            }
+            None => None,
         }
     }
 

@@ -67,6 +67,18 @@ impl Linked {
             Production::NestInstance => Outcome::Given(self.given(symbol, parts, 2)),
             // <prefix> ::= <data-member-prefix> <unqualified-name>, with <data-member-prefix> ::= <prefix> M
             Production::Holder => Outcome::Given(self.given(symbol, parts, 1)),
+            // <unqualified-name> ::= <module-name> <source-name>, and the like: the name has the module as a prefix after the one that it has
+            Production::InModule => Outcome::Given(self.given(symbol, parts, 1)),
+            // <unqualified-name> ::= <module-name> <source-name>, where the module is, or begins with, <substitution>
+            Production::InNamedModule => Outcome::Given(self.given(symbol, parts, 1)),
+            // <prefix> ::= <module-name> <unqualified-name>
+            Production::NestModule => Outcome::Given(self.given(symbol, parts, 1)),
+            // <module-name> ::= W <source-name>, after the W
+            Production::FirstModule => Outcome::Given(self.either(symbol, parts, 1, 0)),
+            // <module-name> ::= <substitution>, after the S
+            Production::NamedModule => Outcome::Given(self.either(symbol, parts, 1, 0)),
+            // <module-name> ::= <module-name> W [P] <source-name>
+            Production::MoreModule => Outcome::Given(self.either(symbol, parts, 2, 0)),
             // of operators those that begin with c stand apart, since one of them is a type's
             Production::ComponentWithC => Outcome::Given(self.given(symbol, parts, 0)),
             // <ctor-dtor-name> ::= C1 | C2 | .., which begins with C
@@ -116,12 +128,14 @@ impl Linked {
             Production::OperatorNameWithC => self.applied(symbol, parts, false),
             // <ctor-dtor-name> ::= C1 | C2 | C3, after the C
             Production::Constructor => self.applied(symbol, parts, false),
-            // <ctor-dtor-name> ::= D0 | D1 | D2
+            // <ctor-dtor-name> ::= D0 | D1 | D2, or what else begins with D
             Production::Destructor => self.applied(symbol, parts, false),
             // <unscoped-name> ::= St <unqualified-name>
             Production::StdName => self.applied(symbol, parts, false),
             // <unscoped-template-name> ::= <substitution>, with <template-args>
             Production::AbbreviatedName => self.applied(symbol, parts, false),
+            // <unqualified-name> ::= DC <source-name>+ E, a structured binding, perhaps with <template-args>
+            Production::BindingName => self.applied(symbol, parts, false),
             _ => unreachable!(),
         }
     }
@@ -200,6 +214,13 @@ impl Linked {
                 ),
                 false,
             ),
+            // <unnamed-type-name> ::= Ue <underlying type> <source-name of the first enumerator>
+            Production::Enumeration => piece(Piece::Enumeration {
+                ty: self.tree(symbol, parts, 0),
+                name: self.text(symbol, parts, 1),
+            }),
+            // <unqualified-name> ::= DC <source-name>+ E, a structured binding, after the D
+            Production::Bindings => piece(Piece::Bindings(self.tree(symbol, parts, 0))),
             // <closure-type-name> ::= Ul <lambda-sig> E [ <nonnegative number> ] _
             Production::Lambda => self.lambda(symbol, parts),
             // <unnamed-type-name> ::= Ut [ <nonnegative number> ] _
@@ -394,6 +415,14 @@ impl Linked {
                 Node::CloneOf {
                     letter: self.letter(symbol, parts, 0),
                     encoding: self.tree(symbol, parts, 1),
+                },
+                true,
+            ),
+            // <special-name> ::= GI <module-name>
+            Production::ModuleInitializer => made(
+                Node::Special {
+                    letter: b'M',
+                    ty: self.tree(symbol, parts, 1),
                 },
                 true,
             ),

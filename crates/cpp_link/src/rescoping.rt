@@ -1,7 +1,7 @@
 // Linking a symbol by the wide grammar: in a lambda's signature parameters are the lambda's own, such a lambda is a piece of
 // its own, and a substitution denotes its tree with the arguments that are meant where it occurs.
 
-ghost use Rattle.std.specs.Prelude.{◌≡◌, ℕ, ◌-◌, ◌<◌, ◌≤◌, ◌^◌, ◌∷◌, [], MatchOption, ◌&&◌, ◌||◌, List, length, true, false, Ok, IfOk, IfErr};
+ghost use Rattle.std.specs.Prelude.{◌≡◌, ℕ, ◌-◌, ◌<◌, ◌≤◌, ◌^◌, ◌∷◌, [], MatchOption, not, ◌&&◌, ◌||◌, List, length, true, false, Ok, IfOk, IfErr};
 ghost use Rattle.sym_core.specs.Value.{counted_value};
 ghost use Rattle.sym_core.specs.declared.NumberKind.TheVariants as kinds;
 ghost use Rattle.sym_core.specs.declared.refusal.Refusal.TheVariants as refusals;
@@ -14,15 +14,17 @@ ghost use Rattle.cpp_grammar.specs.declared.production.Production.{Production as
 ghost use Rattle.cpp_grammar.specs.Rescoping.{is_by_all, generic_number};
 ghost use Rattle.cpp_grammar.specs.Unfolding.{production_at};
 ghost use Rattle.cpp_term.specs.Values as values;
-ghost use Rattle.cpp_term.specs.Rescoping.{is_foreign, restated, numbered, as_generic_lambda, between_wide};
+ghost use Rattle.cpp_term.specs.Rescoping.{is_foreign, module_named, restated, numbered, as_generic_lambda, between_wide};
 ghost use Rattle.cpp_tree.specs.Nodes.{over, tree_at, bytes_at, piece_of, IsThereBelow, IsPieceBelow, IsWithin, IsTable};
 ghost use Rattle.cpp_link.specs.Grows.{HasPlace};
 ghost use Rattle.cpp_link.specs.LinkRescoping.{is_parameter, is_parameter_argument, steps_apart, counted_before, counts_again, with_mark, going_marked, generic_read, number_in, named_by, substituted_nodes, wide_ends, wide_view};
 ghost use Rattle.cpp_link.specs.Making.{state_of};
 ghost use Rattle.cpp_link.specs.NodeCount.{makes_before};
-ghost use Rattle.cpp_link.specs.Parts.{trees_in, value_in, values_in, is_lambda, around_of, candidate_of, IsClosed, IsThere, AreThere, IsKeptThere, IsStepThere};
+ghost use Rattle.cpp_link.specs.Parts.{trees_in, value_in, values_in, is_lambda, around_of, candidate_of, candidates_of, IsClosed, IsThere, AreThere, AreCandidatesThere, IsKeptThere, IsStepThere};
 ghost use Rattle.cpp_link.specs.Progress.{Advances, Begins, Finishes, MakesPart};
 ghost use Rattle.cpp_references.specs.Around.{counted_of};
+ghost use Rattle.cpp_term.specs.References.{is_module};
+ghost use Rattle.cpp_term.specs.Scope.{is_open};
 ghost use Rattle.cpp_term.specs.Term.{Term};
 ghost use Rattle.cpp_term.specs.Values.{prefix_listed};
 ghost use Rattle.cpp_link.specs.Reads.{with_candidates, goes_on};
@@ -34,7 +36,7 @@ use crate::dispatch::production_of;
 use crate::linked::Linked;
 use crate::part::{Candidate, Naming, Part, Step, Surroundings};
 use cpp_grammar::production::Production;
-use cpp_references::candidates::substituted;
+use cpp_references::candidates::{is_module, substituted};
 use cpp_references::elsewhere::argument_here;
 use cpp_tree::node::{Node, Piece};
 use cpp_tree::nodes::AUTO;
@@ -211,7 +213,7 @@ impl Linked {
     ///
     /// # Errors
     ///
-    /// `BadReference` at the `M` after arguments.
+    /// `BadReference` at the `M` after arguments, and at the `S` of a module that isn't one, or not by all compilers.
     fn step_apart(
         &self,
         symbol: &[u8],
@@ -223,10 +225,11 @@ impl Linked {
         requires table { IsTable (over symbol.now self.now.nodes) }
         requires kept { IsKeptThere (length self.now.nodes.nodes) kept }
         requires there { AreThere symbol.now (length self.now.nodes.nodes) parts.now }
+        requires candidates { AreCandidatesThere (length self.now.nodes.nodes) self.now.candidates }
         requires apart { steps_apart production (is_lambda kept.scope) (length parts.now) ≡ true }
-        ensures is { IfOk result (λ step. (state : values.State) → between_wide production (around_of (trees_in symbol.now self.now.nodes) kept) place (values_in symbol.now self.now.nodes parts.now) (record state { packs = self.now.packs })
+        ensures is { IfOk result (λ step. (state : values.State) → state.candidates ≡ candidates_of (trees_in symbol.now self.now.nodes) self.now.candidates.list.items → between_wide production (around_of (trees_in symbol.now self.now.nodes) kept) place (values_in symbol.now self.now.nodes parts.now) (record state { packs = self.now.packs })
             ≡ going_marked production (around_of (trees_in symbol.now self.now.nodes) kept) (goes_on symbol.now self.now.nodes kept (values_in symbol.now self.now.nodes parts.now) state self.now.packs step)) }
-        ensures refused { IfErr result (λ e. (state : values.State) → Fails e (between_wide production (around_of (trees_in symbol.now self.now.nodes) kept) place (values_in symbol.now self.now.nodes parts.now) (record state { packs = self.now.packs }))) }
+        ensures refused { IfErr result (λ e. (state : values.State) → state.candidates ≡ candidates_of (trees_in symbol.now self.now.nodes) self.now.candidates.list.items → Fails e (between_wide production (around_of (trees_in symbol.now self.now.nodes) kept) place (values_in symbol.now self.now.nodes parts.now) (record state { packs = self.now.packs }))) }
         ensures there { IfOk result (λ step. IsStepThere symbol.now (length self.now.nodes.thunks) (length self.now.nodes.nodes) step) }
         ensures of { IfOk result (λ step. IsStepOf production (length parts.now) step) }
         ensures makes { IfOk result (λ step. nodes_of_step step ≡ makes_before production (values_in symbol.now self.now.nodes parts.now)) }
@@ -247,12 +250,53 @@ impl Linked {
                 then: self.inside(kept),
                 packs: self.packs,
             }),
+            // <module-name> ::= <substitution>
+            Production::NamedModule => {
+                let at = place.saturating_sub(1);
+                let digits = self.text(symbol, parts, 0);
+                let Some(node) = self.named_module(symbol, digits) else {
+                    return Err(Refusal::BadReference { at });
+                };
+                Ok(Step::Named {
+                    node,
+                    listed: true,
+                    is_name: true,
+                })
+            }
             // <template-param> ::= T_ | T <parameter number> _
             _ => {
                 let digits = self.text(symbol, parts, 0);
                 let is_argument = is_parameter_argument(production);
                 Ok(self.generic(symbol, kept, digits, is_argument))
             }
+        }
+    }
+
+    /// Whether a node's tree is a module's name. It has no free parameters.
+    fn is_closed_module(&self, symbol: &[u8], node: u32) -> bool
+        requires table { IsTable (over symbol.now self.now.nodes) }
+        requires below { node < length self.now.nodes.nodes }
+        ensures { result ≡ (is_module (tree_at (trees_in symbol.now self.now.nodes) node) && not (is_open (tree_at (trees_in symbol.now self.now.nodes) node))) }
+    {
+        is_module(&self.nodes, symbol, node) && !self.nodes.is_open(symbol, node)
+    }
+
+    /// The module that these digits name, if they name one by both lists.
+    fn named_module(&self, symbol: &[u8], digits: Span) -> Option<u32>
+        requires table { IsTable (over symbol.now self.now.nodes) }
+        requires digits { IsWithin digits symbol.now }
+        requires candidates { AreCandidatesThere (length self.now.nodes.nodes) self.now.candidates }
+        ensures is { (state : values.State) → state.candidates ≡ candidates_of (trees_in symbol.now self.now.nodes) self.now.candidates.list.items → MatchOption result (module_named (counted_value kinds.Seq36 (bytes_at symbol.now digits)) state ≡ None) (λ node. module_named (counted_value kinds.Seq36 (bytes_at symbol.now digits)) state ≡ Some (tree_at (trees_in symbol.now self.now.nodes) node)) }
+        ensures there { IsThereBelow (length self.now.nodes.nodes) result }
+    {
+        match self.named_by_both(symbol, digits) {
+            Some(candidate) => {
+                if self.is_closed_module(symbol, candidate.node) {
+                    return Some(candidate.node);
+                }
+                None
+            }
+            None => None,
         }
     }
 

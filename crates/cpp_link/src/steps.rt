@@ -289,7 +289,7 @@ impl Linked {
     ///
     /// # Errors
     ///
-    /// Those of a parameter, and `BadReference` at an `M`, which the ABI's grammar doesn't have.
+    /// Those of a parameter, and `BadReference` at an `M` and at a module that an `S` names, which the ABI's grammar doesn't have.
     #[tactic(auto, unfolding(cpp_term::specs::Between::between, cpp_term::specs::Between::index_of, cpp_term::specs::Between::parameter_so_far, cpp_term::specs::Between::argument_so_far, cpp_term::specs::Between::listed_so_far, cpp_term::specs::References::parameter_named))]
     #[inline(always)]
     fn step_behind_first(
@@ -332,6 +332,7 @@ impl Linked {
             }
             Production::PackArgument => Ok(self.pack(symbol, first)),
             Production::Holder => Err(Refusal::BadReference { at: place }),
+            Production::NamedModule => Err(Refusal::BadReference { at: place }),
             _ => Ok(self.step_second(symbol, production, place, kept, first)),
         }
     }

@@ -3,15 +3,51 @@
 use cpp_grammar::production::Production;
 
 /// The productions.
-pub(crate) const PRODUCTIONS: [Production; 247] = [
+pub(crate) const PRODUCTIONS: [Production; 256] = [
+    Production::LeveledExpression,
+    Production::AddressedLiteral,
+    Production::Expressions,
+    Production::FoldOperatorL,
+    Production::FoldOperand,
+    Production::FoldPack,
+    Production::TypePack,
+    Production::Designators,
+    Production::DesignatedValue,
+    Production::Placed,
+    Production::Initializer,
+    Production::BracedInitializer,
+    Production::This,
+    Production::ParameterNumber,
+    Production::ConvertedDecltype,
+    Production::ConvertedConst,
+    Production::ConvertedPointer,
+    Production::ConvertedReference,
+    Production::ConvertedType,
+    Production::ConvertedWithT,
+    Production::UnresolvedInType,
+    Production::Levels,
+    Production::DestroyedType,
+    Production::ExpressionRequirement,
+    Production::TypeRequirement,
+    Production::NestedRequirement,
+    Production::ResultRequirement,
+    Production::RequiredType,
+    Production::LevelsEnd,
+    Production::UnresolvedOperator,
+    Production::AnyArray,
+    Production::LengthArray,
+    Production::ParameterObject,
     Production::Mark,
     Production::InternalName,
     Production::LocalTypeName,
     Production::SourceName,
     Production::OperatorName,
+    Production::BindingName,
     Production::InternalPiece,
     Production::LocalTypePiece,
     Production::SourcePiece,
+    Production::InModule,
+    Production::InNamedModule,
     Production::NestedName,
     Production::Symbol,
     Production::Suffix,
@@ -24,8 +60,6 @@ pub(crate) const PRODUCTIONS: [Production; 247] = [
     Production::VirtualThunk,
     Production::CovariantThunk,
     Production::SpecialName,
-    Production::ParameterObject,
-    Production::ConstructionVtable,
     Production::NonVirtualOffset,
     Production::VirtualOffset,
     Production::Negative,
@@ -40,27 +74,21 @@ pub(crate) const PRODUCTIONS: [Production; 247] = [
     Production::NestInternal,
     Production::NestLocalType,
     Production::NestSource,
-    Production::NestDecltype,
     Production::NestStd,
     Production::NestTemplate,
     Production::NestArguments,
     Production::NestNext,
-    Production::NestTag,
     Production::NestEnd,
     Production::AnyConstructor,
     Production::Destructor,
     Production::ComponentWithC,
     Production::OtherOperatorName,
-    Production::Holder,
-    Production::Friend,
-    Production::Inheriting,
     Production::Constructor,
+    Production::Bindings,
     Production::Abbreviation,
     Production::Substitution,
     Production::NestedType,
     Production::StringLiteral,
-    Production::DefaultEntity,
-    Production::DefaultTypeEntity,
     Production::Discriminator,
     Production::OneDigit,
     Production::ManyDigits,
@@ -81,10 +109,7 @@ pub(crate) const PRODUCTIONS: [Production; 247] = [
     Production::Vector,
     Production::NoexceptFunction,
     Production::SizedFloat,
-    Production::ConstrainedAuto,
-    Production::BitInt,
     Production::Decltype,
-    Production::IndexedType,
     Production::Pointer,
     Production::MemberPointer,
     Production::Parameter,
@@ -105,10 +130,8 @@ pub(crate) const PRODUCTIONS: [Production; 247] = [
     Production::RefEnd,
     Production::LvalueItem,
     Production::RvalueItem,
-    Production::Constraint,
     Production::Items,
     Production::Arguments,
-    Production::Tag,
     Production::PackArgument,
     Production::LiteralArgument,
     Production::AnyArgument,
@@ -118,14 +141,10 @@ pub(crate) const PRODUCTIONS: [Production; 247] = [
     Production::BoolLiteral,
     Production::LiteralWithD,
     Production::IntegerLiteral,
-    Production::FloatLiteral,
     Production::NullLiteral,
     Production::CharLiteral,
-    Production::SizedFloatLiteral,
     Production::HexText,
     Production::HexDigit,
-    Production::VolatileLiteral,
-    Production::ConstLiteral,
     Production::QualifiedLiteral,
     Production::OperatorN,
     Production::OperatorD,
@@ -142,7 +161,11 @@ pub(crate) const PRODUCTIONS: [Production; 247] = [
     Production::OperatorG,
     Production::LiteralOperator,
     Production::NestInstance,
-    Production::Conversion,
+    Production::FirstModule,
+    Production::NamedModule,
+    Production::MoreModule,
+    Production::FieldName,
+    Production::BoundNames,
     Production::OperatorNameWithC,
     Production::HeldArguments,
     Production::NestedBase,
@@ -150,20 +173,15 @@ pub(crate) const PRODUCTIONS: [Production; 247] = [
     Production::UnnestedWithS,
     Production::TaggedSource,
     Production::BaseArguments,
-    Production::Temporary,
-    Production::Clone,
     Production::LocalTemporary,
     Production::TaggedStdType,
-    Production::TypeTag,
     Production::Expression,
     Production::ArgumentWithT,
     Production::PlainArgument,
     Production::ParameterArgument,
-    Production::DeclaredArgument,
     Production::LeveledParameter,
     Production::OneLiteral,
     Production::OnePack,
-    Production::AnyType,
     Production::ValueOf,
     Production::OfConcept,
     Production::TemplateOf,
@@ -216,53 +234,80 @@ pub(crate) const PRODUCTIONS: [Production; 247] = [
     Production::ExpressionT,
     Production::ExpressionWithT,
     Production::ParameterExpression,
-    Production::LeveledExpression,
-    Production::AddressedLiteral,
-    Production::Expressions,
-    Production::FoldOperatorL,
-    Production::FoldOperand,
-    Production::FoldPack,
-    Production::TypePack,
-    Production::Designators,
-    Production::DesignatedValue,
-    Production::FieldName,
-    Production::Placed,
-    Production::Initializer,
-    Production::BracedInitializer,
-    Production::This,
-    Production::ParameterNumber,
-    Production::ConvertedDecltype,
-    Production::ConvertedConst,
-    Production::ConvertedPointer,
-    Production::ConvertedReference,
-    Production::ConvertedType,
-    Production::ConvertedWithT,
-    Production::UnresolvedInType,
-    Production::Levels,
-    Production::DestroyedType,
-    Production::ExpressionRequirement,
-    Production::TypeRequirement,
-    Production::NestedRequirement,
-    Production::ResultRequirement,
-    Production::NoexceptRequirement,
-    Production::RequiredType,
-    Production::LevelsEnd,
-    Production::UnresolvedOperator,
-    Production::AnyArray,
     Production::BoundedArray,
-    Production::LengthArray,
+    Production::DeclaredArgument,
+    Production::TypeTag,
+    Production::Clone,
+    Production::ModuleInitializer,
+    Production::Temporary,
+    Production::Conversion,
+    Production::ConstLiteral,
+    Production::VolatileLiteral,
+    Production::SizedFloatLiteral,
+    Production::FloatLiteral,
+    Production::Tag,
+    Production::Constraint,
+    Production::IndexedType,
+    Production::BitInt,
+    Production::ConstrainedAuto,
+    Production::Enumeration,
+    Production::DefaultTypeEntity,
+    Production::DefaultEntity,
+    Production::Inheriting,
+    Production::Friend,
+    Production::Holder,
+    Production::NestTag,
+    Production::NestDecltype,
+    Production::NestModule,
+    Production::ConstructionVtable,
 ];
 
 /// How many parts each has.
-pub(crate) const PART_COUNTS: [u8; 247] = [
+pub(crate) const PART_COUNTS: [u8; 256] = [
+    2, // LeveledExpression
+    2, // AddressedLiteral
+    2, // Expressions
+    1, // FoldOperatorL
+    1, // FoldOperand
+    1, // FoldPack
+    1, // TypePack
+    1, // Designators
+    1, // DesignatedValue
+    2, // Placed
+    1, // Initializer
+    1, // BracedInitializer
+    0, // This
+    1, // ParameterNumber
+    1, // ConvertedDecltype
+    1, // ConvertedConst
+    1, // ConvertedPointer
+    1, // ConvertedReference
+    1, // ConvertedType
+    1, // ConvertedWithT
+    2, // UnresolvedInType
+    2, // Levels
+    1, // DestroyedType
+    3, // ExpressionRequirement
+    2, // TypeRequirement
+    2, // NestedRequirement
+    2, // ResultRequirement
+    2, // RequiredType
+    1, // LevelsEnd
+    1, // UnresolvedOperator
+    1, // AnyArray
+    2, // LengthArray
+    1, // ParameterObject
     0, // Mark
     2, // InternalName
     2, // LocalTypeName
     2, // SourceName
     2, // OperatorName
+    2, // BindingName
     1, // InternalPiece
     1, // LocalTypePiece
     1, // SourcePiece
+    2, // InModule
+    2, // InNamedModule
     5, // NestedName
     3, // Symbol
     1, // Suffix
@@ -275,8 +320,6 @@ pub(crate) const PART_COUNTS: [u8; 247] = [
     5, // VirtualThunk
     3, // CovariantThunk
     1, // SpecialName
-    1, // ParameterObject
-    4, // ConstructionVtable
     2, // NonVirtualOffset
     4, // VirtualOffset
     1, // Negative
@@ -291,27 +334,21 @@ pub(crate) const PART_COUNTS: [u8; 247] = [
     2, // NestInternal
     2, // NestLocalType
     2, // NestSource
-    2, // NestDecltype
     3, // NestStd
     2, // NestTemplate
     4, // NestArguments
     2, // NestNext
-    2, // NestTag
     0, // NestEnd
     1, // AnyConstructor
     2, // Destructor
     1, // ComponentWithC
     2, // OtherOperatorName
-    2, // Holder
-    2, // Friend
-    2, // Inheriting
     2, // Constructor
+    2, // Bindings
     0, // Abbreviation
     1, // Substitution
     1, // NestedType
     0, // StringLiteral
-    2, // DefaultEntity
-    2, // DefaultTypeEntity
     1, // Discriminator
     0, // OneDigit
     2, // ManyDigits
@@ -332,10 +369,7 @@ pub(crate) const PART_COUNTS: [u8; 247] = [
     3, // Vector
     4, // NoexceptFunction
     2, // SizedFloat
-    1, // ConstrainedAuto
-    2, // BitInt
     2, // Decltype
-    2, // IndexedType
     1, // Pointer
     2, // MemberPointer
     2, // Parameter
@@ -356,10 +390,8 @@ pub(crate) const PART_COUNTS: [u8; 247] = [
     0, // RefEnd
     2, // LvalueItem
     2, // RvalueItem
-    1, // Constraint
     2, // Items
     2, // Arguments
-    2, // Tag
     3, // PackArgument
     3, // LiteralArgument
     2, // AnyArgument
@@ -369,14 +401,10 @@ pub(crate) const PART_COUNTS: [u8; 247] = [
     1, // BoolLiteral
     1, // LiteralWithD
     2, // IntegerLiteral
-    2, // FloatLiteral
     1, // NullLiteral
     1, // CharLiteral
-    2, // SizedFloatLiteral
     1, // HexText
     1, // HexDigit
-    2, // VolatileLiteral
-    1, // ConstLiteral
     1, // QualifiedLiteral
     1, // OperatorN
     1, // OperatorD
@@ -393,7 +421,11 @@ pub(crate) const PART_COUNTS: [u8; 247] = [
     1, // OperatorG
     1, // LiteralOperator
     3, // NestInstance
-    1, // Conversion
+    2, // FirstModule
+    2, // NamedModule
+    3, // MoreModule
+    1, // FieldName
+    2, // BoundNames
     2, // OperatorNameWithC
     2, // HeldArguments
     2, // NestedBase
@@ -401,20 +433,15 @@ pub(crate) const PART_COUNTS: [u8; 247] = [
     1, // UnnestedWithS
     2, // TaggedSource
     3, // BaseArguments
-    2, // Temporary
-    2, // Clone
     3, // LocalTemporary
     2, // TaggedStdType
-    2, // TypeTag
     2, // Expression
     1, // ArgumentWithT
     1, // PlainArgument
     2, // ParameterArgument
-    2, // DeclaredArgument
     2, // LeveledParameter
     2, // OneLiteral
     2, // OnePack
-    0, // AnyType
     1, // ValueOf
     1, // OfConcept
     2, // TemplateOf
@@ -467,53 +494,80 @@ pub(crate) const PART_COUNTS: [u8; 247] = [
     1, // ExpressionT
     1, // ExpressionWithT
     2, // ParameterExpression
-    2, // LeveledExpression
-    2, // AddressedLiteral
-    2, // Expressions
-    1, // FoldOperatorL
-    1, // FoldOperand
-    1, // FoldPack
-    1, // TypePack
-    1, // Designators
-    1, // DesignatedValue
-    1, // FieldName
-    2, // Placed
-    1, // Initializer
-    1, // BracedInitializer
-    0, // This
-    1, // ParameterNumber
-    1, // ConvertedDecltype
-    1, // ConvertedConst
-    1, // ConvertedPointer
-    1, // ConvertedReference
-    1, // ConvertedType
-    1, // ConvertedWithT
-    2, // UnresolvedInType
-    2, // Levels
-    1, // DestroyedType
-    2, // ExpressionRequirement
-    2, // TypeRequirement
-    2, // NestedRequirement
-    2, // ResultRequirement
-    1, // NoexceptRequirement
-    2, // RequiredType
-    1, // LevelsEnd
-    1, // UnresolvedOperator
-    1, // AnyArray
     3, // BoundedArray
-    2, // LengthArray
+    2, // DeclaredArgument
+    2, // TypeTag
+    2, // Clone
+    2, // ModuleInitializer
+    2, // Temporary
+    1, // Conversion
+    1, // ConstLiteral
+    2, // VolatileLiteral
+    2, // SizedFloatLiteral
+    2, // FloatLiteral
+    2, // Tag
+    1, // Constraint
+    2, // IndexedType
+    2, // BitInt
+    1, // ConstrainedAuto
+    2, // Enumeration
+    2, // DefaultTypeEntity
+    2, // DefaultEntity
+    2, // Inheriting
+    2, // Friend
+    2, // Holder
+    2, // NestTag
+    2, // NestDecltype
+    2, // NestModule
+    4, // ConstructionVtable
 ];
 
 /// Whether some part of each but the last may have no row: a fixed byte, or a kind that may be empty.
-pub(crate) const SKIPS_PARTS: [bool; 247] = [
+pub(crate) const SKIPS_PARTS: [bool; 256] = [
+    false, // LeveledExpression
+    false, // AddressedLiteral
+    false, // Expressions
+    false, // FoldOperatorL
+    false, // FoldOperand
+    false, // FoldPack
+    false, // TypePack
+    false, // Designators
+    false, // DesignatedValue
+    false, // Placed
+    false, // Initializer
+    false, // BracedInitializer
+    false, // This
+    false, // ParameterNumber
+    false, // ConvertedDecltype
+    false, // ConvertedConst
+    false, // ConvertedPointer
+    false, // ConvertedReference
+    false, // ConvertedType
+    false, // ConvertedWithT
+    false, // UnresolvedInType
+    false, // Levels
+    false, // DestroyedType
+    true, // ExpressionRequirement
+    false, // TypeRequirement
+    false, // NestedRequirement
+    false, // ResultRequirement
+    false, // RequiredType
+    false, // LevelsEnd
+    false, // UnresolvedOperator
+    false, // AnyArray
+    false, // LengthArray
+    false, // ParameterObject
     false, // Mark
     false, // InternalName
     false, // LocalTypeName
     false, // SourceName
     false, // OperatorName
+    false, // BindingName
     false, // InternalPiece
     false, // LocalTypePiece
     false, // SourcePiece
+    false, // InModule
+    false, // InNamedModule
     true, // NestedName
     true, // Symbol
     false, // Suffix
@@ -526,8 +580,6 @@ pub(crate) const SKIPS_PARTS: [bool; 247] = [
     true, // VirtualThunk
     false, // CovariantThunk
     false, // SpecialName
-    false, // ParameterObject
-    true, // ConstructionVtable
     false, // NonVirtualOffset
     true, // VirtualOffset
     false, // Negative
@@ -542,27 +594,21 @@ pub(crate) const SKIPS_PARTS: [bool; 247] = [
     false, // NestInternal
     false, // NestLocalType
     false, // NestSource
-    false, // NestDecltype
     true, // NestStd
     false, // NestTemplate
     true, // NestArguments
     false, // NestNext
-    false, // NestTag
     false, // NestEnd
     false, // AnyConstructor
     false, // Destructor
     false, // ComponentWithC
     false, // OtherOperatorName
-    false, // Holder
-    false, // Friend
-    false, // Inheriting
     false, // Constructor
+    false, // Bindings
     false, // Abbreviation
     false, // Substitution
     false, // NestedType
     false, // StringLiteral
-    false, // DefaultEntity
-    false, // DefaultTypeEntity
     false, // Discriminator
     false, // OneDigit
     false, // ManyDigits
@@ -583,10 +629,7 @@ pub(crate) const SKIPS_PARTS: [bool; 247] = [
     true, // Vector
     true, // NoexceptFunction
     false, // SizedFloat
-    false, // ConstrainedAuto
-    false, // BitInt
     false, // Decltype
-    false, // IndexedType
     false, // Pointer
     false, // MemberPointer
     false, // Parameter
@@ -607,10 +650,8 @@ pub(crate) const SKIPS_PARTS: [bool; 247] = [
     false, // RefEnd
     false, // LvalueItem
     false, // RvalueItem
-    false, // Constraint
     false, // Items
     true, // Arguments
-    false, // Tag
     true, // PackArgument
     true, // LiteralArgument
     false, // AnyArgument
@@ -620,14 +661,10 @@ pub(crate) const SKIPS_PARTS: [bool; 247] = [
     false, // BoolLiteral
     false, // LiteralWithD
     false, // IntegerLiteral
-    false, // FloatLiteral
     false, // NullLiteral
     false, // CharLiteral
-    false, // SizedFloatLiteral
     false, // HexText
     false, // HexDigit
-    true, // VolatileLiteral
-    false, // ConstLiteral
     false, // QualifiedLiteral
     false, // OperatorN
     false, // OperatorD
@@ -644,7 +681,11 @@ pub(crate) const SKIPS_PARTS: [bool; 247] = [
     false, // OperatorG
     false, // LiteralOperator
     true, // NestInstance
-    false, // Conversion
+    false, // FirstModule
+    false, // NamedModule
+    true, // MoreModule
+    false, // FieldName
+    false, // BoundNames
     false, // OperatorNameWithC
     true, // HeldArguments
     false, // NestedBase
@@ -652,20 +693,15 @@ pub(crate) const SKIPS_PARTS: [bool; 247] = [
     false, // UnnestedWithS
     false, // TaggedSource
     true, // BaseArguments
-    false, // Temporary
-    false, // Clone
     true, // LocalTemporary
     false, // TaggedStdType
-    false, // TypeTag
     false, // Expression
     false, // ArgumentWithT
     false, // PlainArgument
     false, // ParameterArgument
-    false, // DeclaredArgument
     false, // LeveledParameter
     false, // OneLiteral
     true, // OnePack
-    false, // AnyType
     false, // ValueOf
     false, // OfConcept
     true, // TemplateOf
@@ -718,53 +754,80 @@ pub(crate) const SKIPS_PARTS: [bool; 247] = [
     false, // ExpressionT
     false, // ExpressionWithT
     false, // ParameterExpression
-    false, // LeveledExpression
-    false, // AddressedLiteral
-    false, // Expressions
-    false, // FoldOperatorL
-    false, // FoldOperand
-    false, // FoldPack
-    false, // TypePack
-    false, // Designators
-    false, // DesignatedValue
-    false, // FieldName
-    false, // Placed
-    false, // Initializer
-    false, // BracedInitializer
-    false, // This
-    false, // ParameterNumber
-    false, // ConvertedDecltype
-    false, // ConvertedConst
-    false, // ConvertedPointer
-    false, // ConvertedReference
-    false, // ConvertedType
-    false, // ConvertedWithT
-    false, // UnresolvedInType
-    false, // Levels
-    false, // DestroyedType
-    false, // ExpressionRequirement
-    false, // TypeRequirement
-    false, // NestedRequirement
-    false, // ResultRequirement
-    false, // NoexceptRequirement
-    false, // RequiredType
-    false, // LevelsEnd
-    false, // UnresolvedOperator
-    false, // AnyArray
     true, // BoundedArray
-    false, // LengthArray
+    false, // DeclaredArgument
+    false, // TypeTag
+    false, // Clone
+    true, // ModuleInitializer
+    false, // Temporary
+    false, // Conversion
+    false, // ConstLiteral
+    true, // VolatileLiteral
+    false, // SizedFloatLiteral
+    false, // FloatLiteral
+    false, // Tag
+    false, // Constraint
+    false, // IndexedType
+    false, // BitInt
+    false, // ConstrainedAuto
+    false, // Enumeration
+    false, // DefaultTypeEntity
+    false, // DefaultEntity
+    false, // Inheriting
+    false, // Friend
+    false, // Holder
+    false, // NestTag
+    false, // NestDecltype
+    false, // NestModule
+    true, // ConstructionVtable
 ];
 
 /// Before how many of its parts nothing is done in each: before none, the first, or all, which are five at most.
-pub(crate) const QUIET_PARTS: [u8; 247] = [
+pub(crate) const QUIET_PARTS: [u8; 256] = [
+    5, // LeveledExpression
+    5, // AddressedLiteral
+    5, // Expressions
+    5, // FoldOperatorL
+    5, // FoldOperand
+    0, // FoldPack
+    0, // TypePack
+    5, // Designators
+    5, // DesignatedValue
+    5, // Placed
+    5, // Initializer
+    5, // BracedInitializer
+    5, // This
+    5, // ParameterNumber
+    5, // ConvertedDecltype
+    5, // ConvertedConst
+    5, // ConvertedPointer
+    5, // ConvertedReference
+    5, // ConvertedType
+    5, // ConvertedWithT
+    1, // UnresolvedInType
+    5, // Levels
+    5, // DestroyedType
+    5, // ExpressionRequirement
+    5, // TypeRequirement
+    5, // NestedRequirement
+    5, // ResultRequirement
+    5, // RequiredType
+    5, // LevelsEnd
+    5, // UnresolvedOperator
+    5, // AnyArray
+    5, // LengthArray
+    5, // ParameterObject
     5, // Mark
     1, // InternalName
     1, // LocalTypeName
     1, // SourceName
     1, // OperatorName
+    1, // BindingName
     5, // InternalPiece
     5, // LocalTypePiece
     5, // SourcePiece
+    0, // InModule
+    0, // InNamedModule
     5, // NestedName
     5, // Symbol
     5, // Suffix
@@ -777,8 +840,6 @@ pub(crate) const QUIET_PARTS: [u8; 247] = [
     5, // VirtualThunk
     5, // CovariantThunk
     5, // SpecialName
-    5, // ParameterObject
-    5, // ConstructionVtable
     5, // NonVirtualOffset
     5, // VirtualOffset
     5, // Negative
@@ -793,27 +854,21 @@ pub(crate) const QUIET_PARTS: [u8; 247] = [
     1, // NestInternal
     1, // NestLocalType
     1, // NestSource
-    1, // NestDecltype
     1, // NestStd
     1, // NestTemplate
     0, // NestArguments
     0, // NestNext
-    1, // NestTag
     5, // NestEnd
     5, // AnyConstructor
     1, // Destructor
     5, // ComponentWithC
     1, // OtherOperatorName
-    1, // Holder
-    1, // Friend
-    1, // Inheriting
     1, // Constructor
+    5, // Bindings
     5, // Abbreviation
     5, // Substitution
     5, // NestedType
     5, // StringLiteral
-    5, // DefaultEntity
-    5, // DefaultTypeEntity
     5, // Discriminator
     5, // OneDigit
     5, // ManyDigits
@@ -834,10 +889,7 @@ pub(crate) const QUIET_PARTS: [u8; 247] = [
     5, // Vector
     5, // NoexceptFunction
     5, // SizedFloat
-    5, // ConstrainedAuto
-    5, // BitInt
     5, // Decltype
-    5, // IndexedType
     5, // Pointer
     5, // MemberPointer
     1, // Parameter
@@ -858,10 +910,8 @@ pub(crate) const QUIET_PARTS: [u8; 247] = [
     5, // RefEnd
     1, // LvalueItem
     1, // RvalueItem
-    0, // Constraint
     5, // Items
     0, // Arguments
-    1, // Tag
     1, // PackArgument
     5, // LiteralArgument
     5, // AnyArgument
@@ -871,14 +921,10 @@ pub(crate) const QUIET_PARTS: [u8; 247] = [
     5, // BoolLiteral
     5, // LiteralWithD
     1, // IntegerLiteral
-    5, // FloatLiteral
     5, // NullLiteral
     5, // CharLiteral
-    5, // SizedFloatLiteral
     5, // HexText
     5, // HexDigit
-    5, // VolatileLiteral
-    5, // ConstLiteral
     5, // QualifiedLiteral
     5, // OperatorN
     5, // OperatorD
@@ -895,7 +941,11 @@ pub(crate) const QUIET_PARTS: [u8; 247] = [
     5, // OperatorG
     5, // LiteralOperator
     0, // NestInstance
-    0, // Conversion
+    1, // FirstModule
+    1, // NamedModule
+    2, // MoreModule
+    5, // FieldName
+    5, // BoundNames
     1, // OperatorNameWithC
     0, // HeldArguments
     1, // NestedBase
@@ -903,20 +953,15 @@ pub(crate) const QUIET_PARTS: [u8; 247] = [
     5, // UnnestedWithS
     1, // TaggedSource
     0, // BaseArguments
-    5, // Temporary
-    5, // Clone
     1, // LocalTemporary
     1, // TaggedStdType
-    1, // TypeTag
     5, // Expression
     5, // ArgumentWithT
     5, // PlainArgument
     1, // ParameterArgument
-    5, // DeclaredArgument
     5, // LeveledParameter
     5, // OneLiteral
     5, // OnePack
-    5, // AnyType
     0, // ValueOf
     0, // OfConcept
     5, // TemplateOf
@@ -969,39 +1014,30 @@ pub(crate) const QUIET_PARTS: [u8; 247] = [
     5, // ExpressionT
     5, // ExpressionWithT
     1, // ParameterExpression
-    5, // LeveledExpression
-    5, // AddressedLiteral
-    5, // Expressions
-    5, // FoldOperatorL
-    5, // FoldOperand
-    0, // FoldPack
-    0, // TypePack
-    5, // Designators
-    5, // DesignatedValue
-    5, // FieldName
-    5, // Placed
-    5, // Initializer
-    5, // BracedInitializer
-    5, // This
-    5, // ParameterNumber
-    5, // ConvertedDecltype
-    5, // ConvertedConst
-    5, // ConvertedPointer
-    5, // ConvertedReference
-    5, // ConvertedType
-    5, // ConvertedWithT
-    1, // UnresolvedInType
-    5, // Levels
-    5, // DestroyedType
-    5, // ExpressionRequirement
-    5, // TypeRequirement
-    5, // NestedRequirement
-    5, // ResultRequirement
-    5, // NoexceptRequirement
-    5, // RequiredType
-    5, // LevelsEnd
-    5, // UnresolvedOperator
-    5, // AnyArray
     5, // BoundedArray
-    5, // LengthArray
+    5, // DeclaredArgument
+    1, // TypeTag
+    5, // Clone
+    5, // ModuleInitializer
+    5, // Temporary
+    0, // Conversion
+    5, // ConstLiteral
+    5, // VolatileLiteral
+    5, // SizedFloatLiteral
+    5, // FloatLiteral
+    1, // Tag
+    0, // Constraint
+    5, // IndexedType
+    5, // BitInt
+    5, // ConstrainedAuto
+    0, // Enumeration
+    5, // DefaultTypeEntity
+    5, // DefaultEntity
+    1, // Inheriting
+    1, // Friend
+    1, // Holder
+    1, // NestTag
+    1, // NestDecltype
+    1, // NestModule
+    5, // ConstructionVtable
 ];

@@ -105,7 +105,7 @@ impl Linked {
             Production::TypePack => made(Node::Expansion(self.tree(symbol, parts, 0)), true),
             // <type> ::= Dp <type>; an expansion has packs of its own, all of one length
             Production::Expansion => made(Node::Expansion(self.tree(symbol, parts, 0)), false),
-            // <type> ::= <decltype>
+            // <type> ::= <decltype>, or <builtin-type> ::= Da | Dc
             Production::ConvertedDecltype => tree(self.tree(symbol, parts, 0), true),
             // <destructor-name> ::= <unresolved-type> | <simple-id>
             Production::DestroyedType => tree(self.tree(symbol, parts, 0), true),
@@ -397,8 +397,6 @@ impl Linked {
         match production {
             // <template-arg> ::= <template-param-decl> <template-arg>, after the T; what is declared of it isn't in the tree
             Production::DeclaredArgument => tree(self.tree(symbol, parts, 1), true),
-            // <template-param-decl> ::= Ty
-            Production::AnyType => Outcome::Given(Part::Letter(byte)),
             // <template-param-decl> ::= Tn <type>
             Production::ValueOf => Outcome::Given(Part::Letter(byte)),
             // <template-param-decl> ::= Tk <concept name>

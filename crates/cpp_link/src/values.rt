@@ -1,6 +1,6 @@
 // The values of parts: each accessor has a value for each part.
 
-ghost use Rattle.std.specs.Prelude.{◌≡◌, ℕ, ◌<◌, List, length, get_or};
+ghost use Rattle.std.specs.Prelude.{◌≡◌, ℕ, ◌<◌, List, length, get_or, cond, nat_eq};
 ghost use Rattle.cpp_term.specs.Term.{Term, absent, nil};
 ghost use Rattle.cpp_term.specs.Values.{tree_of, piece_of, is_listed, qualifiers_of, ref_of, letter_of, is_there, mark_of, text_of, signed_of, adjustment_of, part};
 ghost use Rattle.cpp_term.specs.Between.{no_items};
@@ -62,6 +62,7 @@ pub fn piece_of(part: Part) -> Piece
 {
     match part {
         Part::Piece(piece) => piece,
+        Part::Letter(digit) => Piece::Destructor(digit),
         _ => Piece::Absent,
     }
 }
@@ -147,6 +148,14 @@ pub fn letter_of(part: Part) -> u8
         Part::Pair { letter, .. } => letter,
         _ => 0,
     }
+}
+
+/// The letter of a part, or this one, where the part has none.
+pub fn letter_or(part: Part, other: u8) -> u8
+    ensures { (s : List ℕ) (ts : List Term) → result ≡ cond (nat_eq (letter_of (value_of s ts part)) 0) other (letter_of (value_of s ts part)) }
+{
+    let letter = letter_of(part);
+    if letter == 0 { other } else { letter }
 }
 
 /// The mark R, O or H, or none.

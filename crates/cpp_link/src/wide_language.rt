@@ -38,6 +38,7 @@ fn steps_apart(production: Production, kept: Surroundings, before: usize) -> boo
         Production::ParameterExpression => kept.in_lambda() && before == 1,
         Production::Holder => before == 1,
         Production::HeldArguments => before == 0,
+        Production::NamedModule => before == 1,
         _ => false,
     }
 }

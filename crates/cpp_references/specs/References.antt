@@ -1,5 +1,5 @@
 -- What references name, as the code answers it.
-use Rattle.std.specs.Prelude.{ℕ, List, Bool, true, false, Option, Some, None, Result, Ok, Err}
+use Rattle.std.specs.Prelude.{ℕ, List, Bool, true, false, nat_eq, Option, Some, None, Result, Ok, Err}
 use Rattle.sym_core.specs.declared.refusal.Refusal.{Refusal}
 use Rattle.sym_link.specs.Reading.{Found}
 use Rattle.sym_link.specs.Unfold.{found}
@@ -38,3 +38,7 @@ argument_read ts t state (Err e) = Err e
 unfoldable pub function_node : Node → Bool
 function_node (Node.FunctionType c_linkage noexcept m returned parameters) = true
 function_node _ = false
+
+unfoldable pub module_node : Node → Bool
+module_node (Node.Operation one two u w) = nat_eq one 87
+module_node _ = false

@@ -4,13 +4,13 @@ ghost use Rattle.std.specs.Prelude.{◌≡◌, ℕ, ◌-◌, ◌<◌, ◌≤◌,
 ghost use Rattle.sym_core.specs.Value.{counted_value};
 ghost use Rattle.sym_core.specs.declared.NumberKind.TheVariants as kinds;
 ghost use Rattle.sym_core.specs.declared.refusal.Refusal.TheVariants as refusals;
-ghost use Rattle.cpp_term.specs.References.{substituted, is_function_type};
+ghost use Rattle.cpp_term.specs.References.{substituted, is_function_type, is_module};
 ghost use Rattle.cpp_term.specs.Scope.{pack_length};
 ghost use Rattle.cpp_term.specs.Values as values;
 ghost use Rattle.cpp_tree.specs.Nodes.{over, tree_at, bytes_at, IsWithin, IsTable};
 ghost use Rattle.cpp_grammar.specs.Rescoping.{is_by_all, is_by_newer, is_by_some, joined};
 ghost use Rattle.cpp_references.specs.Around.{counted_of, trees_in, is_lambda, around_of, candidates_of, AreNodesThere};
-ghost use Rattle.cpp_references.specs.References.{maybe_candidate, node_read, function_node};
+ghost use Rattle.cpp_references.specs.References.{maybe_candidate, node_read, function_node, module_node};
 
 use crate::again::opened;
 use crate::around::Surroundings;
@@ -151,12 +151,32 @@ fn pack_length(nodes: &Nodes, symbol: &[u8], node: u32) -> Option<u32>
     nodes.entry(node).packs
 }
 
+/// Whether a node is a module's name.
+#[tactic(auto, unfolding(crate::specs::References::module_node))]
+fn names_module(node: Node) -> bool
+    ensures { result ≡ module_node node }
+{
+    match node {
+        Node::Operation { first, .. } => first == b'W',
+        _ => false,
+    }
+}
+
+/// Whether a node's tree is a module's name, which no substitution names but one before a component of a nested name.
+pub fn is_module(nodes: &Nodes, symbol: &[u8], node: u32) -> bool
+    requires table { IsTable (over symbol.now nodes.now) }
+    requires below { node < length nodes.now.nodes }
+    ensures { result ≡ is_module (tree_at (trees_in symbol.now nodes.now) node) }
+{
+    names_module(opened(nodes, symbol, node).node)
+}
+
 /// What a substitution of this candidate names, and the length of the packs after it.
 ///
 /// # Errors
 ///
-/// `BadReference` where there is no candidate, one with free parameters of another encoding or in the signature of a lambda, or one
-/// that holds packs outside an expansion or of another length than the earlier ones.
+/// `BadReference` where there is no candidate, a module, one with free parameters of another encoding or in the signature of a lambda,
+/// or one that holds packs outside an expansion or of another length than the earlier ones.
 #[tactic(auto, unfolding(cpp_term::specs::References::substituted, crate::specs::References::packs_read, crate::specs::References::maybe_candidate, crate::specs::References::node_read, crate::specs::Around::around_of))]
 pub fn substituted(
     nodes: &Nodes,
@@ -175,6 +195,9 @@ pub fn substituted(
     let Some(c) = candidate else {
         return Err(Refusal::BadReference { at: place });
     };
+    if is_module(nodes, symbol, c.node) {
+        return Err(Refusal::BadReference { at: place });
+    }
     if is_foreign(kept, nodes.is_open(symbol, c.node), c.encoding) {
         return Err(Refusal::BadReference { at: place });
     }

@@ -1,7 +1,7 @@
 -- Trees that are spelled out, each onto what follows it.
 use Rattle.std.specs.Prelude.{ℕ, ◌-◌, List, [], ◌∷◌, ◌++◌, Bool, true, false, cond, ◌&&◌, ◌||◌, codes, Option}
 use Prim.Native.String.{String}
-use Rattle.cpp_grammar.specs.Term.{Qualifiers, RefQualifier, any_value, Term, symbol, function, object, special, thunk, of_name, construction, clone, alone, in_std, within, instance, local, holder, tagged, abbreviation, parameter, source, operator, literal_operator, constructor, destructor, lambda, unnamed, string_literal, conversion, builtin, sized_float, vendor, pointer, lvalue, rvalue, array, member_pointer, function_type, qualified, vector, complex, expansion, integer, boolean, null_pointer, encoding_literal, address_of, pack, nil, list, generic_lambda}
+use Rattle.cpp_grammar.specs.Term.{Qualifiers, RefQualifier, any_value, Term, symbol, function, object, special, thunk, of_name, construction, clone, alone, in_std, within, instance, local, holder, tagged, abbreviation, parameter, source, operator, literal_operator, constructor, destructor, lambda, unnamed, string_literal, conversion, builtin, sized_float, vendor, pointer, lvalue, rvalue, array, member_pointer, function_type, qualified, vector, complex, expansion, integer, boolean, null_pointer, encoding_literal, address_of, pack, nil, list, generic_lambda, enumeration}
 use Rattle.cpp_press_laws.specs.Texts.{counted, ordinal, signed_text, qualifier_letters, mark_letter, name_letters, special_code, thunk_text, discriminator_text}
 use Rattle.cpp_press_laws.specs.Components.{Spelling}
 use Rattle.cpp_grammar.specs.References.{is_function_type}
@@ -28,6 +28,7 @@ piece_onto n (generic_lambda parameters number) rest = fixed "Ul" onto in_way n 
 piece_onto n (unnamed k) rest = written (codes "Ut" ++ ordinal (k - 1)) onto rest
 piece_onto n string_literal rest = fixed "s" onto rest
 piece_onto n (conversion type) rest = fixed "cv" onto in_way n Way.Type type onto rest
+piece_onto n (enumeration type name) rest = fixed "Ue" onto in_way n Way.Type type onto written (counted name) onto rest
 piece_onto n _ rest = rest
 
 abbrev pub in_std_onto : (n : ℕ) → Term → Spelling → Spelling

@@ -142,6 +142,8 @@ pub fn then_piece(symbol: &Symbol, piece: Piece, encoding: u64, tasks: &mut Vec<
         Piece::Destructor(digit) => then_text(symbol, Text::Pair(b'D', digit), tasks),
         // <ctor-dtor-name> ::= CI1 <base class type>: read by the ABI's grammar no symbol has one.
         Piece::Inheriting { .. } => {}
+        // <unqualified-name> ::= DC <source-name>+ E: nor a structured binding.
+        Piece::Bindings(_) => {}
         Piece::Lambda { parameters, number } => then_lambda(
             symbol,
             parameters,
@@ -171,6 +173,12 @@ pub fn then_piece(symbol: &Symbol, piece: Piece, encoding: u64, tasks: &mut Vec<
         Piece::Conversion(ty) => {
             then_tree(symbol, ty, Way::Type, encoding, tasks);
             then_fixed(symbol, b"cv", tasks);
+        }
+        // <unnamed-type-name> ::= Ue <underlying type> <source-name of the first enumerator>
+        Piece::Enumeration { ty, name } => {
+            then_text(symbol, Text::Counted(b"", name), tasks);
+            then_tree(symbol, ty, Way::Type, encoding, tasks);
+            then_fixed(symbol, b"Ue", tasks);
         }
         Piece::Absent => {}
     }

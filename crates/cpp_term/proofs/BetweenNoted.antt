@@ -1,5 +1,5 @@
 -- What is done between and after the parts of a production, annotated.
-use Rattle.std.proofs.Common.{◌≡◌, refl, ap, sym, ◌∙◌, subst, ℕ, suc, ◌-◌, List, [], ◌∷◌, length, Bool, true, false, cond, slice_get, Option, Some, None, Result, Ok, Err, ◌&&◌, nat_lt, ◌⊎◌, inl, inr}
+use Rattle.std.proofs.Common.{◌≡◌, refl, ap, sym, ◌∙◌, subst, ℕ, suc, ◌-◌, List, [], ◌∷◌, length, Bool, true, false, not, cond, slice_get, Option, Some, None, Result, Ok, Err, ◌&&◌, nat_lt, ◌⊎◌, inl, inr}
 use Rattle.std.proofs.lemmas.Bool.{false≢true}
 use Rattle.sym_core.specs.declared.refusal.Refusal.{Refusal}
 use Rattle.sym_core.specs.declared.refusal.Refusal.TheVariants.{BadReference}
@@ -8,12 +8,12 @@ use Rattle.sym_link.specs.Unfold.{found}
 use Rattle.sym_core.specs.declared.NumberKind.TheVariants.{Decimal, Seq36}
 use Rattle.sym_core.specs.Value.{counted_value}
 use Rattle.cpp_grammar.specs.declared.production.Production.{Production}
-use Rattle.cpp_grammar.specs.Rescoping.{generic_number, generic_so_far, parameter_here, argument_here, lambda_with, as_generic_lambda, with_holder, is_instance, holder_so_far, numbered, counted_unless, counted_base, between_wide, close_wide}
+use Rattle.cpp_grammar.specs.Rescoping.{generic_number, generic_so_far, parameter_here, argument_here, lambda_with, as_generic_lambda, with_holder, is_instance, holder_so_far, named_by_both, module_of, module_named, module_so_far, numbered, counted_unless, counted_base, between_wide, close_wide}
 use Rattle.cpp_grammar.specs.Scope.{count, element, is_open, length_if_pack}
 use Rattle.cpp_grammar.specs.Term.{Term, list, holder, parameter}
 use Rattle.cpp_grammar.specs.Values as leaf_
 use Rattle.cpp_grammar.specs.Values.{Counted, by_gcc, by_some, Around, prefix_tree, prefix_listed, Value, State, Candidate, local_number, tree_of, text_of, is_listed, part}
-use Rattle.cpp_grammar.specs.References.{appended, with_type, with_unqualified, with_packs, substituted, parameter_named}
+use Rattle.cpp_grammar.specs.References.{appended, with_type, with_unqualified, with_packs, is_module, substituted, parameter_named}
 use Rattle.cpp_grammar.specs.Between.{in_signature, under_expansion, after, inside, no_items, listed_so_far, next, parameter_so_far, argument_so_far, index_of, between}
 use Rattle.cpp_grammar.specs.Meaning.{parameters, meaning}
 use Rattle.cpp_grammar.specs.Unfolding as unfolding_
@@ -34,11 +34,11 @@ use Rattle.cpp_term.specs.Meaning as noted_
 use Rattle.cpp_term.specs.Meant as meant_
 use Rattle.cpp_term.specs.Unfolding as unfolded_
 use Rattle.cpp_term.specs.Rescoping as wide_
-use Rattle.cpp_term.specs.Annotated.{Place, around_place, place_in, in_own, argument_in, annotate, noted_scope, noted_value, noted_values, noted_prefix, noted_around}
+use Rattle.cpp_term.specs.Annotated.{Place, nowhere, around_place, place_in, in_own, argument_in, annotate, noted_scope, noted_value, noted_values, noted_prefix, noted_around}
 use Rattle.cpp_term.proofs.Notes.{both, choose, choose_cond, open_noted, closed_noted}
 use Rattle.cpp_term.proofs.SeenNoted.{is_instance_noted}
 use Rattle.cpp_term.proofs.MeaningNoted.{part_noted, tree_part, tree_noted, text_noted, text_part, prefix_tree_noted, prefix_listed_noted, Inside, lambda_noted, takes_encodings, is_of_none, made_inside, made_noted, listing_noted, listed_noted, meaning_noted}
-use Rattle.cpp_term.proofs.StatesNoted.{Alongside, IsOutside, Settled, own_place, Alike, alike_bind, Same, Moves, moves_none, moves_then, one_moves, type_moves, unqualified_moves, prefix_moves, Comes, get_noted, substituted_noted, wide_numbered_noted, held_moves, more_moves, parameter_noted}
+use Rattle.cpp_term.proofs.StatesNoted.{Alongside, IsOutside, Settled, own_place, Alike, alike_bind, Same, Moves, moves_none, one_moves, type_moves, unqualified_moves, prefix_moves, Comes, AreNoted, get_noted, module_noted, substituted_noted, both_named_noted, wide_numbered_noted, held_moves, more_moves, parameter_noted}
 
 -- what is inside has the same scope, or none
 abbrev pub InScope : Around → Around → Type 0
@@ -349,17 +349,50 @@ base_goes around x y packs =
       place = inl refl;
     }
 
-pub wide_between_noted : (production : Production) (around : Around) (place : ℕ) (vs : List Value) (x : State) (y : value_.State) → StaysInside production → Settled around → Alongside x y →
+no_parameters : (m o : Bool) → (m && not o) ≡ true → o ≡ false
+no_parameters true false h = refl
+no_parameters true true h = absurd (false≢true h)
+no_parameters false o h = absurd (false≢true h)
+
+-- a module has no parameters, so its arguments are the same wherever it was made
+module_goes : (around : Around) (x : State) (y : value_.State) (place number : ℕ) → Same true around x y →
+    Alike (Goes true (around_place true around) around x y) (module_so_far around place number x) (wide_.module_so_far (noted_around true around) place number y)
+unfolding module_so_far wide_.module_so_far module_named wide_.module_named module_of wide_.module_of listed_so_far between_.listed_so_far noted_values
+module_goes around x y place number same =
+    found_ (named_by_both x.candidates number) (wide_.named_by_both y.candidates number) (both_named_noted true around x.candidates y.candidates number same.all)
+  where
+    found_ : (o : Option Candidate) (p : Option value_.Candidate) → AreNoted true around o p → Alike (Goes true (around_place true around) around x y)
+        (elim (module_of o) [ None ↦ Err (BadReference place) | Some t ↦ listed_so_far around t [] x ])
+        (elim (wide_.module_of p) [ None ↦ Err (BadReference place) | Some t ↦ between_.listed_so_far (noted_around true around) t [] y ])
+    found_ None None n = refl
+    found_ None (Some d) n = absurd n
+    found_ (Some c) None n = absurd n
+    found_ (Some c) (Some d) n =
+        choose (λ a b. Alike (Goes true (around_place true around) around x y)
+        (elim a [ None ↦ Err (BadReference place) | Some t ↦ listed_so_far around t [] x ])
+        (elim b [ None ↦ Err (BadReference place) | Some t ↦ between_.listed_so_far (noted_around true around) t [] y ]))
+        (is_module c.tree && not (is_open c.tree)) (reference_.is_module d.tree && not (scope_.is_open d.tree)) (Some c.tree) None (Some d.tree) None
+        (both (λ m o. m && not o) (ap reference_.is_module n.like ∙ module_noted n.by c.tree) (ap scope_.is_open n.like ∙ open_noted n.by c.tree))
+        (λ h.
+        let closed = no_parameters (is_module c.tree) (is_open c.tree) h in
+        named_goes true around x x y y c.tree d.tree true [] [] (n.closed closed ∙ closed_noted nowhere (around_place true around) c.tree closed) refl (moves_none true around x x y y refl refl same.packs))
+        (λ h. refl)
+
+pub wide_between_noted : (production : Production) (around : Around) (place : ℕ) (vs : List Value) (x : State) (y : value_.State) → StaysInside production → Settled around → Same true around x y →
     Alike (Goes true (parts_place true production around) around x y) (between_wide production around place vs x)
     (wide_.between_wide production (noted_around true around) place (noted_values (parts_place true production around) vs) y)
 unfolding between_wide wide_.between_wide noted_values parts_place has_signature noted_around noted_prefix
-wide_between_noted Production.Parameter around place (v ∷ []) x y stays settled packs = here_goes around x y place v settled packs
-wide_between_noted Production.NestParameter around place (v ∷ []) x y stays settled packs = here_goes around x y place v settled packs
-wide_between_noted Production.ParameterArgument around place (v ∷ []) x y stays settled packs = here_goes around x y (place - 1) v settled packs
-wide_between_noted Production.ParameterExpression around place (v ∷ []) x y stays settled packs = argument_here_goes around x y (place - 1) v settled packs
-wide_between_noted Production.HeldArguments around place [] x y stays settled packs = base_goes around x y packs
-wide_between_noted Production.Holder around place (v ∷ []) x y stays settled packs = holder_goes around x y place packs
-wide_between_noted p around place vs x y stays settled packs = between_noted true p around place vs x y stays packs
+wide_between_noted Production.Parameter around place (v ∷ []) x y stays settled same = here_goes around x y place v settled same.packs
+wide_between_noted Production.NestParameter around place (v ∷ []) x y stays settled same = here_goes around x y place v settled same.packs
+wide_between_noted Production.ParameterArgument around place (v ∷ []) x y stays settled same = here_goes around x y (place - 1) v settled same.packs
+wide_between_noted Production.ParameterExpression around place (v ∷ []) x y stays settled same = argument_here_goes around x y (place - 1) v settled same.packs
+wide_between_noted Production.HeldArguments around place [] x y stays settled same = base_goes around x y same.packs
+wide_between_noted Production.Holder around place (v ∷ []) x y stays settled same = holder_goes around x y place same.packs
+wide_between_noted Production.NamedModule around place (v ∷ []) x y stays settled same =
+    let s = around_place true around in
+    subst (λ bytes. Alike (Goes true s around x y) (module_so_far around (place - 1) (counted_value Seq36 (text_of v)) x) (wide_.module_so_far (noted_around true around) (place - 1) (counted_value Seq36 bytes) y))
+    (sym (text_noted s v)) (module_goes around x y (place - 1) (counted_value Seq36 (text_of v)) same)
+wide_between_noted p around place vs x y stays settled same = between_noted true p around place vs x y stays same.packs
 
 -- the cases of a lambda are decided alike, and what is in its signature is under its own parameters
 lambda_with_noted : (s : Place) (t : Term) (number : ℕ) → wide_.lambda_with (annotate in_own t) number ≡ annotate s (lambda_with t number)

@@ -21,14 +21,14 @@ use Rattle.cpp_grammar.specs.Scope.{is_open}
 use Rattle.cpp_grammar.specs.Values.{State, Around, Value, nothing_there, tree_of, part}
 use Rattle.cpp_grammar.specs.Between.{in_name, no_items, between}
 use Rattle.cpp_grammar.specs.Meaning.{meaning}
-use Rattle.cpp_grammar.specs.Unfolding.{opening, close, production_at, byte_of}
+use Rattle.cpp_grammar.specs.Unfolding.{close, production_at, byte_of}
 use Rattle.cpp_grammar.proofs.Choosing.{chosen_rule, taken_passes, implied}
 use Rattle.cpp_grammar.proofs.ClosedValues.{good_where, AllGood, GoodPrefix, held, good_tree, good_part}
 use Rattle.cpp_grammar.proofs.NoneFree.{none_encoding}
 use Rattle.cpp_grammar.proofs.ClosedStates.{Bare, Within, AllOld, old_later, old_grows, ok_same, behind_bind}
 use Rattle.cpp_grammar.proofs.ClosedParts.{StaysInside}
 use Rattle.cpp_grammar.proofs.Ways.{has_signature, Way, reading_by, abi_way, differs}
-use Rattle.cpp_grammar.proofs.ClosedTrees.{is_encoding, has_encoding, opens, or_true, at_number, its_symbols, stays, takes_byte, Whole, opening_keeps, all_append, old_fits, grows_fits, old_inner, one_good, known, name_comes, same_found, stepped, inner_closes, KeepsClosed, opens_apart, forest_good, tree_good_by, trees_good_by}
+use Rattle.cpp_grammar.proofs.ClosedTrees.{is_encoding, has_encoding, opens, or_true, at_number, its_symbols, stays, takes_byte, Whole, all_append, old_fits, grows_fits, old_inner, one_good, known, name_comes, same_found, stepped, inner_closes, KeepsClosed, opens_apart, forest_good, tree_good_by, trees_good_by}
 use Rattle.cpp_term.proofs.KindsNoted.{is_special_kind, in_special, encodings_open, special_types}
 use Rattle.cpp_term.proofs.MeaningNoted.{Inside}
 
@@ -125,6 +125,7 @@ inside_values Production.SpecialType vs plain all special = special refl 0
 inside_values Production.ParameterObject vs plain all special = special refl 0
 inside_values Production.SpecialName vs plain all special = special refl 0
 inside_values Production.Temporary vs plain all special = special refl 0
+inside_values Production.ModuleInitializer vs plain all special = special refl 1
 inside_values Production.ConstructionVtable vs plain all special = (special refl 0, special refl 3)
 inside_values _ vs plain all special = first_of (cc, search tt)
 
@@ -221,7 +222,7 @@ module _ (way : Way) (keeps : KeepsClosed way) where
       let b = behind_bind (way.between (production_at rule.rule.number) around rule.place vs state)
       (λ next. unfold_tree (reading_by way) next.context at t next.state >>= λ part. unfold_forest (reading_by way) rule (next.values ++ part.value) (at + length (spell t)) f part.state) r e in
       let n = b.value in
-      let g = keeps.goes (production_at rule.rule.number) around rule.place vs state n at stays pre good b.is in
+      let g = keeps.goes (production_at rule.rule.number) around rule.place vs state n at stays pre old good b.is in
       let c = behind_bind (unfold_tree (reading_by way) n.context at t n.state) (λ part. unfold_forest (reading_by way) rule (n.values ++ part.value) (at + length (spell t)) f part.state) r b.next in
       let this = c.value in
       let old1 = old_grows way.own around at at state n.state (omega arith) old g.grows in

@@ -178,9 +178,9 @@ module _ (way : Way) (keeps : KeepsClosed way) (noted_way : NotedWay) (ways : Is
       alike_bind (Goes way.own s around x y) (Many way.own s around x y) (way.between (production_at rule.rule.number) around rule.place vs x) (noted_way.between (production_at rule.rule.number) (noted_around way.own around) rule.place (noted_values s vs) y)
       (λ next. unfold_tree (reading_by way) next.context at t next.state >>= λ part. unfold_forest (reading_by way) rule (next.values ++ part.value) later f part.state)
       (λ next. unfold_tree (reading_noted_by noted_way) next.context at t next.state >>= λ part. unfold_forest (reading_noted_by noted_way) (noted_open way.own rule first) (next.values ++ part.value) later f part.state)
-      (ways.goes (production_at rule.rule.number) around rule.place vs x y stays settled same.packs)
+      (ways.goes (production_at rule.rule.number) around rule.place vs x y stays settled same)
       (λ n m goes-is goes.
-      let g = keeps.goes (production_at rule.rule.number) around rule.place vs x n at stays pre good goes-is in
+      let g = keeps.goes (production_at rule.rule.number) around rule.place vs x n at stays pre old good goes-is in
       let old1 = old_grows way.own around at at x n.state (omega arith) old g.grows in
       let same1 = same_moves way.own around x n.state y m.state same goes.moves in
       let inside1 : is_encoding k ≡ true → n.context.encoding < at = λ opening. omega (arith, g.fits.encoding, inside (or_first (is_encoding k) (has_encoding ks) opening)) in

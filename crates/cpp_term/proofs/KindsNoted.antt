@@ -19,6 +19,7 @@ in_special Production.SpecialType = true
 in_special Production.ParameterObject = true
 in_special Production.SpecialName = true
 in_special Production.Temporary = true
+in_special Production.ModuleInitializer = true
 in_special Production.ConstructionVtable = true
 in_special _ = false
 

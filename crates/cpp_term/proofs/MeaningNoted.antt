@@ -9,7 +9,7 @@ use Rattle.cpp_grammar.specs.Values.{Around, Prefix, prefix_tree, prefix_listed,
 use Rattle.cpp_grammar.specs.Between as going_
 use Rattle.cpp_grammar.specs.Meaning as meaning_
 use Rattle.cpp_grammar.specs.Meaning.{meaning}
-use Rattle.cpp_grammar.specs.Makers.{Maker, new_symbol, new_special, new_of_name, new_construction, new_clone, new_in_std, new_instance, new_local, new_abbreviation, new_source, new_operator, new_literal_operator, new_constructor, new_destructor, new_unnamed, new_string_literal, new_conversion, new_builtin, new_sized_float, new_constrained, new_vendor, new_pointer, new_lvalue, new_rvalue, new_array, new_bounded, new_member_pointer, new_function_type, new_qualified, new_vector, new_complex, new_expansion, new_integer, new_boolean, new_null_pointer, new_decltype, new_encoding_literal, new_operation, new_function_parameter, new_pack}
+use Rattle.cpp_grammar.specs.Makers.{Maker, new_symbol, new_special, new_of_name, new_construction, new_clone, new_in_std, new_instance, new_local, new_abbreviation, new_source, new_operator, new_literal_operator, new_constructor, new_unnamed, new_string_literal, new_conversion, new_builtin, new_sized_float, new_constrained, new_vendor, new_pointer, new_lvalue, new_rvalue, new_array, new_bounded, new_member_pointer, new_function_type, new_qualified, new_vector, new_complex, new_expansion, new_integer, new_boolean, new_null_pointer, new_decltype, new_encoding_literal, new_operation, new_function_parameter, new_pack, new_enumeration, new_bindings}
 use Rattle.cpp_grammar.specs.Builders.{Argument, a_tree, some_bytes, a_number, a_truth, some_qualifiers, a_mark, a_signed, a_discriminator, tree_in, bytes_in, number_in, truth_in, qualifiers_in, mark_in, signed_in, discriminator_in, argument, built}
 use Rattle.cpp_grammar.specs.Row as row_
 use Rattle.cpp_grammar.specs.Row.{Source, Made, Listing, Own, Form}
@@ -322,6 +322,7 @@ Inside Production.SpecialType vs = is_open (tree_of (part vs 0)) ≡ false
 Inside Production.ParameterObject vs = is_open (tree_of (part vs 0)) ≡ false
 Inside Production.SpecialName vs = is_open (tree_of (part vs 0)) ≡ false
 Inside Production.Temporary vs = is_open (tree_of (part vs 0)) ≡ false
+Inside Production.ModuleInitializer vs = is_open (tree_of (part vs 1)) ≡ false
 Inside Production.ConstructionVtable vs = (is_open (tree_of (part vs 0)) ≡ false) × (is_open (tree_of (part vs 3)) ≡ false)
 Inside Production.Clone vs = is_open (tree_of (part vs 1)) ≡ false
 Inside Production.NonVirtualThunk vs = is_open (tree_of (part vs 2)) ≡ false
@@ -505,10 +506,11 @@ built_noted s new_source xs h = both term_.source (truth_there s xs 0) (bytes_th
 built_noted s new_operator xs h = both term_.operator (number_there s xs 0) (number_there s xs 1)
 built_noted s new_literal_operator xs h = ap term_.literal_operator (bytes_there s xs 0)
 built_noted s new_constructor xs h = ap term_.constructor (number_there s xs 0)
-built_noted s new_destructor xs h = ap term_.destructor (number_there s xs 0)
 built_noted s new_unnamed xs h = ap term_.unnamed (number_there s xs 0)
 built_noted s new_string_literal xs h = refl
 built_noted s new_conversion xs h = ap term_.conversion (tree_there s xs 0)
+built_noted s new_enumeration xs h = both term_.enumeration (tree_there s xs 0) (bytes_there s xs 1)
+built_noted s new_bindings xs h = ap term_.bindings (tree_there s xs 0)
 built_noted s new_builtin xs h = ap term_.builtin (bytes_there s xs 0)
 built_noted s new_sized_float xs h = both term_.sized_float (bytes_there s xs 0) (number_there s xs 1)
 built_noted s new_constrained xs h = both term_.constrained (number_there s xs 0) (tree_there s xs 1)
@@ -559,6 +561,7 @@ given_noted own byte around vs (row_.code front) = refl
 given_noted own byte around vs row_.taken = refl
 given_noted own byte around vs (row_.fixed n) = refl
 given_noted own byte around vs (row_.letter_at k) = ap builder_.a_number (letter_part (around_place own around) vs k)
+given_noted own byte around vs (row_.letter_or k other) = ap (λ x. builder_.a_number (cond (nat_eq x 0) other x)) (letter_part (around_place own around) vs k)
 given_noted own byte around vs (row_.letter_or_taken k) = ap (λ x. builder_.a_number (cond (nat_eq x 0) byte x)) (letter_part (around_place own around) vs k)
 given_noted own byte around vs (row_.operator_first_at k) =
     ap (λ p. builder_.a_number (noted_.first_letter p)) (piece_part (around_place own around) vs k) ∙ ap builder_.a_number (first_noted (around_place own around) (piece_of (part vs k)))

@@ -53,7 +53,7 @@ pub record IsPlainNoted (v : NotedWay) : Type 0 where
 pub record IsNotedBy (w : Way) (v : NotedWay) : Type 0 where
   pub plain : IsPlainNoted v
   pub begins : (production : Production) (f : Forest) (place : ℕ) (around : leaf_.Around) (x : leaf_.State) (y : State) → Same w.own around x y → Alike (Moves w.own around x y) (w.opening production f place x) (v.opening production f place y)
-  pub goes : (production : Production) (around : leaf_.Around) (place : ℕ) (vs : List leaf_.Value) (x : leaf_.State) (y : State) → StaysInside production → Settled around → Alongside x y →
+  pub goes : (production : Production) (around : leaf_.Around) (place : ℕ) (vs : List leaf_.Value) (x : leaf_.State) (y : State) → StaysInside production → Settled around → Same w.own around x y →
       Alike (Goes w.own (parts_place w.own production around) around x y) (w.between production around place vs x) (v.between production (noted_around w.own around) place (noted_values (parts_place w.own production around) vs) y)
   pub comes : (production : Production) (byte : ℕ) (around : leaf_.Around) (place : ℕ) (began : leaf_.State) (first : State) (vs : List leaf_.Value) (x : leaf_.State) (y : State) → Inside production vs →
       Settled around → Same w.own around x y → Alongside began first →
@@ -85,7 +85,7 @@ unfolding abi_way abi_noted
 abi_is_noted = record {
   plain = record { between = λ p apart around place vs state. refl; close = λ p apart byte around place began vs state. refl };
   begins = λ production f place around x y same. opening_moves false production f place around x y same.packs;
-  goes = λ production around place vs x y stays settled packs. between_noted false production around place vs x y stays packs;
+  goes = λ production around place vs x y stays settled same. between_noted false production around place vs x y stays same.packs;
   comes = close_noted;
 }
 

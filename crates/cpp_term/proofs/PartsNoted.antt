@@ -4,7 +4,7 @@ use Prim.Native.String.{String}
 use Rattle.sym_print.specs.declared.detail.Detail.{Detail}
 use Rattle.sym_print.specs.Details.{has_arguments, has_parameters}
 use Rattle.sym_print.specs.Unfold.{PartOf, text, sub}
-use Rattle.cpp_grammar.specs.Term.{Qualifiers, RefQualifier, any_value, lvalue_only, rvalue_only, explicit_object, Signed, Term, symbol, function, object, of_name, alone, in_std, within, instance, local, holder, tagged, of_default, abbreviation, parameter, source, constructor, destructor, inheriting, lambda, generic_lambda, builtin, sized_float, pointer, lvalue, rvalue, array, bounded, member_pointer, function_type, qualified, expansion, integer, operation, function_parameter, pack, nil, list, absent}
+use Rattle.cpp_grammar.specs.Term.{Qualifiers, RefQualifier, any_value, lvalue_only, rvalue_only, explicit_object, Signed, Term, symbol, function, object, of_name, alone, in_std, within, instance, local, holder, tagged, of_default, abbreviation, parameter, source, constructor, destructor, inheriting, lambda, generic_lambda, bindings, builtin, sized_float, pointer, lvalue, rvalue, array, bounded, member_pointer, function_type, qualified, expansion, integer, operation, function_parameter, pack, nil, list, absent}
 use Rattle.cpp_grammar.specs.Scope.{arguments_of, without_tags}
 use Rattle.cpp_grammar.specs.Items.{Form, root, full, bare, left, right, low, base, piece, first, more, expand, Context, signature_in, Item, closed, argument, head, is_reference, is_funarr, packs_of, is_empty}
 use Rattle.cpp_grammar.specs.Parts as leaf_
@@ -52,6 +52,8 @@ piece_noted c (lambda parameters number) = ap (λ ps. text (codes "{lambda(") �
     (joins (leaf_.list_part first c parameters) _ (part_.list_part first (noted_context c) (annotate (at c) parameters)) _ (list_noted first c parameters) refl)
 piece_noted c (generic_lambda parameters number) = ap (λ ps. text (codes "{lambda(") ∷ ps)
     (joins (leaf_.list_part first (signature_in c) parameters) _ (part_.list_part first (noted_context (signature_in c)) (annotate (at (signature_in c)) parameters)) _ (list_noted first (signature_in c) parameters) refl)
+piece_noted c (bindings names) = ap (λ ps. text (codes "[") ∷ ps)
+    (joins (leaf_.list_part first c names) _ (part_.list_part first (noted_context c) (annotate (at c) names)) _ (list_noted first c names) refl)
 piece_noted c (source internal bytes) = refl
 piece_noted c _ = refl
 
@@ -60,12 +62,37 @@ unfolding part_.prefix_item leaf_.prefix_item annotate noted_part noted_item not
 prefix_noted c (function name q ref returned parameters) = refl
 prefix_noted c _ = refl
 
+before_noted : (c : Context) (prefix : Term) → part_.before_piece (noted_context c) (annotate (at c) prefix) ≡ noted_parts (leaf_.before_piece c prefix)
+unfolding part_.before_piece leaf_.before_piece annotate noted_parts noted_part
+before_noted c absent = refl
+before_noted c prefix = ap (λ i. i ∷ part_.says "::" ∷ []) (prefix_noted c prefix)
+
+attached_noted : (c : Context) (prefix p module_name : Term) → part_.attached_parts (noted_context c) (annotate (at c) prefix) (annotate (at c) p) (annotate (at c) module_name) ≡ noted_parts (leaf_.attached_parts c prefix p module_name)
+unfolding part_.attached_parts leaf_.attached_parts noted_parts noted_part noted_item
+attached_noted c prefix p module_name =
+    joins (leaf_.before_piece c prefix) (leaf_.as_item piece c p ∷ leaf_.says "@" ∷ leaf_.as_item left c module_name ∷ []) (part_.before_piece (noted_context c) (annotate (at c) prefix))
+    (part_.as_item piece (noted_context c) (annotate (at c) p) ∷ part_.says "@" ∷ part_.as_item left (noted_context c) (annotate (at c) module_name) ∷ []) (before_noted c prefix) refl
+
+component_noted : (c : Context) (prefix p : Term) → part_.component_parts (noted_context c) (annotate (at c) prefix) (annotate (at c) p) ≡ noted_parts (leaf_.component_parts c prefix p)
+unfolding part_.component_parts leaf_.component_parts annotate noted_parts noted_part noted_item
+component_noted c (operation a b x y) p =
+    let t = operation a b x y in
+    let n = noted_context c in
+    let u = annotate (at c) (operation a b x y) in
+    let q = annotate (at c) p in
+    choice (nat_eq a 87) (nat_eq a 87) (elim (nat_eq b 64) [ true ↦ leaf_.attached_parts c x p y | false ↦ leaf_.attached_parts c absent p t ]) (leaf_.prefix_item c t ∷ leaf_.says "::" ∷ leaf_.as_item piece c p ∷ [])
+    (elim (nat_eq b 64) [ true ↦ part_.attached_parts n (annotate (at c) x) q (annotate (at c) y) | false ↦ part_.attached_parts n (annotate (at c) absent) q u ]) (part_.prefix_item n u ∷ part_.says "::" ∷ part_.as_item piece n q ∷ []) refl
+    (choice (nat_eq b 64) (nat_eq b 64) (leaf_.attached_parts c x p y) (leaf_.attached_parts c absent p t) (part_.attached_parts n (annotate (at c) x) q (annotate (at c) y)) (part_.attached_parts n (annotate (at c) absent) q u) refl
+    (attached_noted c x p y) (attached_noted c absent p t))
+    (ap (λ i. i ∷ part_.says "::" ∷ part_.as_item piece n q ∷ []) (prefix_noted c t))
+component_noted c prefix p = ap (λ i. i ∷ part_.says "::" ∷ part_.as_item piece (noted_context c) (annotate (at c) p) ∷ []) (prefix_noted c prefix)
+
 within_noted : (c : Context) (prefix p : Term) → part_.within_parts (noted_context c) (annotate (at c) prefix) (annotate (at c) p) ≡ noted_parts (leaf_.within_parts c prefix p)
 unfolding part_.within_parts leaf_.within_parts annotate noted_parts noted_part noted_item
 within_noted c prefix (constructor digit) = refl
 within_noted c prefix (destructor digit) = refl
 within_noted c prefix (inheriting digit class) = refl
-within_noted c prefix p = ap (λ i. i ∷ part_.says "::" ∷ part_.as_item piece (noted_context c) (annotate (at c) p) ∷ []) (prefix_noted c prefix)
+within_noted c prefix p = component_noted c prefix p
 
 last_noted : (s : Place) (t : Term) → part_.opening_text (part_.last_piece (annotate s t)) ≡ leaf_.opening_text (leaf_.last_piece t)
 unfolding part_.last_piece leaf_.last_piece annotate

@@ -1,19 +1,19 @@
 -- The state that is threaded through the bytes, annotated: the candidates of an encoding by its scope, and closed ones in any
 -- way.
-use Rattle.std.proofs.Common.{◌≡◌, refl, ap, sym, ◌∙◌, subst, ℕ, zero, suc, ◌+◌, List, [], ◌∷◌, ◌++◌, length, Bool, true, false, not, ◌||◌, ◌&&◌, nat_eq, nat_lt, slice_get, Option, Some, None, Result, Ok, Err}
+use Rattle.std.proofs.Common.{◌≡◌, refl, ap, sym, ◌∙◌, subst, ℕ, zero, suc, List, [], ◌∷◌, ◌++◌, Bool, true, false, not, ◌||◌, ◌&&◌, nat_eq, nat_lt, slice_get, Option, Some, None, Result, Ok, Err}
 use Rattle.std.proofs.lemmas.Bool.{eqb-true, true≢false, false≢true, and_parts}
 use Rattle.std.proofs.lemmas.List.{append_assoc, append-nil}
 use Rattle.sym_core.specs.declared.refusal.Refusal.{Refusal}
 use Rattle.sym_core.specs.declared.refusal.Refusal.TheVariants.{BadReference}
 use Rattle.sym_link.specs.Reading.{Found, ◌>>=◌}
 use Rattle.sym_link.specs.Unfold.{found}
-use Rattle.cpp_grammar.specs.Term.{Term, holder, parameter, function_type}
+use Rattle.cpp_grammar.specs.Term.{Term, holder, parameter, function_type, operation}
 use Rattle.cpp_grammar.specs.Scope.{count, element, is_list, has_pack, is_open, length_if_pack, pack_length, Free, none_free, one_free, several_free, free_in}
 use Rattle.cpp_grammar.specs.Values as leaf_
 use Rattle.cpp_grammar.specs.Values.{Counted, by_all, by_newer, Lists, longer_list, shorter_list, both_lists, no_list, Expected, Counting, prefix_at, qualified_at, Around, prefix_tree, prefix_listed, Value, State, Candidate, tree_of, is_listed}
-use Rattle.cpp_grammar.specs.References.{appended, appended_by, is_function_type, with_type, with_unqualified, with_prefix, with_packs, packs_in, substituted, parameter_named}
+use Rattle.cpp_grammar.specs.References.{appended, appended_by, is_function_type, with_type, with_unqualified, with_prefix, with_packs, packs_in, is_module, substituted, parameter_named}
 use Rattle.cpp_grammar.specs.Rescoping as rescoping_
-use Rattle.cpp_grammar.specs.Rescoping.{with_holder, is_before_holder, is_by_newer, is_by_all, is_by_some, is_in_list, named_in, joined, counted_so_far, fits, can_be_named, is_prefix_at, is_qualified_at, left, left_at, with_lists, listed_by, expecting, is_foreign, in_scope, under_scope, with_free, restated, substituted_wide, numbered}
+use Rattle.cpp_grammar.specs.Rescoping.{with_holder, is_before_holder, is_by_newer, is_by_all, is_by_some, is_in_list, named_in, named_by_both, joined, counted_so_far, fits, can_be_named, is_prefix_at, is_qualified_at, left, left_at, with_lists, listed_by, expecting, is_foreign, in_scope, under_scope, with_free, restated, substituted_wide, numbered}
 use Rattle.cpp_term.specs.Term as term_
 use Rattle.cpp_term.specs.Scope as scope_
 use Rattle.cpp_term.specs.Values as value_
@@ -239,6 +239,15 @@ unfolding noted_scope
 with_arguments R place None f g each = refl
 with_arguments R place (Some arguments) f g each = each arguments refl
 
+pub module_noted : (s : Place) (t : Term) → noted_.is_module (annotate s t) ≡ is_module t
+unfolding noted_.is_module is_module annotate
+module_noted s (operation one two u w) = refl
+module_noted s _ = refl
+
+or_second : (b c : Bool) → (b || c) ≡ false → c ≡ false
+or_second true c h = absurd (true≢false h)
+or_second false c h = h
+
 pub substituted_noted : (own : Bool) (around : Around) (place : ℕ) (o : Option Candidate) (p : Option value_.Candidate) (x : State) (y : value_.State) → Alongside x y → AreNoted own around o p → IsOutside own o →
     Alike (Comes own around x y) (substituted around place o x) (noted_.substituted (noted_around own around) place p y)
 unfolding substituted noted_.substituted noted_around noted_value
@@ -246,11 +255,11 @@ substituted_noted own around place None None x y packs n outside = refl
 substituted_noted own around place None (Some d) x y packs n outside = absurd n
 substituted_noted own around place (Some c) None x y packs n outside = absurd n
 substituted_noted own around place (Some c) (Some d) x y packs n outside =
-    choose (Alike (Comes own around x y)) (is_open c.tree && (around.in_lambda || not (nat_eq c.encoding around.encoding)))
-    (scope_.is_open d.tree && (around.in_lambda || not (nat_eq d.encoding around.encoding))) _ _ _ _
-    (both (λ a k. a && (around.in_lambda || not (nat_eq k around.encoding))) (ap scope_.is_open n.like ∙ open_noted n.by c.tree) n.encoding) (λ h. refl)
+    choose (Alike (Comes own around x y)) (is_module c.tree || (is_open c.tree && (around.in_lambda || not (nat_eq c.encoding around.encoding))))
+    (noted_.is_module d.tree || (scope_.is_open d.tree && (around.in_lambda || not (nat_eq d.encoding around.encoding)))) _ _ _ _
+    (three (λ m a k. m || (a && (around.in_lambda || not (nat_eq k around.encoding)))) (ap noted_.is_module n.like ∙ module_noted n.by c.tree) (ap scope_.is_open n.like ∙ open_noted n.by c.tree) n.encoding) (λ h. refl)
     (λ h.
-    let is = noted_here own around c d n outside h in
+    let is = noted_here own around c d n outside (or_second (is_module c.tree) (is_open c.tree && (around.in_lambda || not (nat_eq c.encoding around.encoding))) h) in
     found_noted own around place c.tree d.tree (packs_in around.scope c.tree) (scope_.pack_length d.tree) x y is
     (ap scope_.pack_length is ∙ packs_noted around.scope (own && around.in_lambda) c.tree) packs)
 
@@ -414,6 +423,12 @@ named_in_noted : (is_shorter own : Bool) (around : Around) (cs : List Candidate)
 unfolding named_in wide_.named_in
 named_in_noted is_shorter own around cs ds number all =
     subst (λ n. AreNoted own around (slice_get cs (rescoping_.place_in is_shorter cs number)) (slice_get ds n)) (sym (place_noted is_shorter own around cs ds number all)) (get_noted own around cs ds (rescoping_.place_in is_shorter cs number) all)
+
+pub both_named_noted : (own : Bool) (around : Around) (cs : List Candidate) (ds : List value_.Candidate) (number : ℕ) → AllNoted own around cs ds → AreNoted own around (named_by_both cs number) (wide_.named_by_both ds number)
+unfolding named_by_both wide_.named_by_both
+both_named_noted own around cs ds number all =
+    choose (AreNoted own around) (nat_eq (rescoping_.place_in false cs number) (rescoping_.place_in true cs number)) (nat_eq (wide_.place_in false ds number) (wide_.place_in true ds number)) _ _ _ _
+    (both nat_eq (place_noted false own around cs ds number all) (place_noted true own around cs ds number all)) (λ h. named_in_noted false own around cs ds number all) (λ h. tt)
 
 counted_noted : (own : Bool) (around : Around) (before : Counted) (cs : List Candidate) (ds : List value_.Candidate) → AllNoted own around cs ds → wide_.counted_so_far before ds ≡ counted_so_far before cs
 unfolding counted_so_far wide_.counted_so_far

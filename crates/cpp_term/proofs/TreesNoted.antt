@@ -1,8 +1,7 @@
 -- Unfolding with arguments is unfolding without, annotated.
-use Rattle.std.proofs.Common.{◌≡◌, refl, ap, sym, ◌∙◌, subst, ℕ, suc, ◌+◌, ◌-◌, ◌<◌, ◌≤◌, ◌^◌, List, [], ◌∷◌, ◌++◌, length, Bool, true, false, not, ◌||◌, nat_lt, Option, None, Result, Ok, Err, inl, inr, arith, lit≤}
+use Rattle.std.proofs.Common.{◌≡◌, refl, ap, sym, ◌∙◌, subst, ℕ, suc, ◌+◌, ◌<◌, ◌≤◌, List, [], ◌∷◌, ◌++◌, length, Bool, true, false, not, ◌||◌, Option, None, Result, Ok, Err, inl, inr, arith, lit≤}
 use Rattle.std.proofs.lemmas.Bool.{true≢false, false≢true, cases_Bool}
 use Rattle.sym_core.specs.declared.refusal.Refusal.{Refusal}
-use Rattle.sym_core.specs.declared.refusal.Refusal.TheVariants.{BadValue}
 use Rattle.sym_shape.specs.declared.rule.Rule.{Rule}
 use Rattle.sym_shape.specs.declared.rule.Sym.{Sym}
 use Rattle.sym_shape.specs.declared.rule.Sym.TheVariants.{Kind as OfKind}
@@ -18,7 +17,7 @@ use Rattle.cpp_grammar.specs.Table.{wide, rule_of}
 use Rattle.cpp_grammar.specs.TableLaws.{wide_sound}
 use Rattle.cpp_grammar.specs.Term.{Term}
 use Rattle.cpp_grammar.specs.Scope.{is_open, arguments_of}
-use Rattle.cpp_grammar.specs.Values.{Candidate, State, Around, Value, tree_of, local_number, part}
+use Rattle.cpp_grammar.specs.Values.{Candidate, State, Around, Value, tree_of, part}
 use Rattle.cpp_grammar.specs.Between.{in_name, in_types, between, no_items}
 use Rattle.cpp_grammar.specs.Meaning.{meaning}
 use Rattle.cpp_grammar.specs.Rescoping.{cpp_wide, unfold_wide}

@@ -22,7 +22,7 @@ use Rattle.cpp_grammar.proofs.ClosedTrees.{at_number, known}
 use Rattle.cpp_term.specs.Term.{Term, symbol}
 use Rattle.cpp_term.specs.Values.{State, Around, Value, tree, tree_of, text_of, part}
 use Rattle.cpp_term.specs.Meaning.{meaning}
-use Rattle.cpp_term.specs.Unfolding.{opening, behind, close, cpp, first_around, first_state, first_tree, unfold_cpp}
+use Rattle.cpp_term.specs.Unfolding.{behind, close, cpp, first_around, first_state, first_tree, unfold_cpp}
 use Rattle.cpp_term.specs.Rescoping.{cpp_wide}
 use Rattle.cpp_term.specs.ReadAs.{IsReadAs}
 use Rattle.cpp_grammar.proofs.Choosing.{chosen_rule}

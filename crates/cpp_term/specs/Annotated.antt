@@ -2,7 +2,7 @@
 use Rattle.std.specs.Prelude.{ℕ, List, [], ◌∷◌, Bool, true, false, ◌&&◌, Option, Some, None, Result, Ok, Err}
 use Rattle.sym_core.specs.declared.refusal.Refusal.{Refusal}
 use Rattle.sym_print.specs.Unfold.{PartOf, text, sub}
-use Rattle.cpp_grammar.specs.Term.{Term, symbol, function, object, special, thunk, of_name, construction, clone, alone, in_std, within, instance, local, holder, tagged, of_default, abbreviation, parameter, source, operator, literal_operator, constructor, destructor, lambda, generic_lambda, unnamed, string_literal, conversion, builtin, sized_float, constrained, vendor, pointer, lvalue, rvalue, array, bounded, member_pointer, function_type, qualified, vector, complex, expansion, integer, boolean, null_pointer, encoding_literal, address_of, pack, nil, list, absent, decltype, function_parameter, inheriting, operation}
+use Rattle.cpp_grammar.specs.Term.{Term, symbol, function, object, special, thunk, of_name, construction, clone, alone, in_std, within, instance, local, holder, tagged, of_default, abbreviation, parameter, source, operator, literal_operator, constructor, destructor, lambda, generic_lambda, unnamed, string_literal, conversion, builtin, sized_float, constrained, vendor, pointer, lvalue, rvalue, array, bounded, member_pointer, function_type, qualified, vector, complex, expansion, integer, boolean, null_pointer, encoding_literal, address_of, pack, nil, list, absent, decltype, function_parameter, inheriting, operation, enumeration, bindings}
 use Rattle.cpp_grammar.specs.Values.{Prefix, Around, Value}
 use Rattle.cpp_grammar.specs.Values as leaf_
 use Rattle.cpp_grammar.specs.Items.{Context, Item}
@@ -60,6 +60,8 @@ annotate s (generic_lambda parameters number) = term_.generic_lambda (annotate i
 annotate s (unnamed number) = term_.unnamed number
 annotate s string_literal = term_.string_literal
 annotate s (conversion t) = term_.conversion (annotate s t)
+annotate s (enumeration t bytes) = term_.enumeration (annotate s t) bytes
+annotate s (bindings names) = term_.bindings (annotate s names)
 annotate s (builtin code) = term_.builtin code
 annotate s (sized_float digits end) = term_.sized_float digits end
 annotate s (constrained letter concept) = term_.constrained letter (annotate s concept)

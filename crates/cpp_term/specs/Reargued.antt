@@ -1,6 +1,6 @@
 -- A tree whose free parameters carry another argument, and what of it depends on that argument.
 use Rattle.std.specs.Prelude.{ℕ, Bool, true, false, ◌||◌, ◌&&◌, Option, Some, None}
-use Rattle.cpp_term.specs.Term.{Term, alone, in_std, within, instance, local, holder, tagged, of_default, parameter, lambda, conversion, pointer, lvalue, rvalue, array, constrained, bounded, member_pointer, function_type, qualified, vector, complex, expansion, integer, pack, nil, list, absent, decltype, inheriting, operation}
+use Rattle.cpp_term.specs.Term.{Term, alone, in_std, within, instance, local, holder, tagged, of_default, parameter, lambda, conversion, pointer, lvalue, rvalue, array, constrained, bounded, member_pointer, function_type, qualified, vector, complex, expansion, integer, pack, nil, list, absent, decltype, inheriting, operation, enumeration, bindings}
 use Rattle.cpp_grammar.specs.Scope.{Free, one_free}
 use Rattle.cpp_term.specs.Scope.{element, is_alone}
 use Rattle.cpp_term.specs.Items.{HeadClass, collapsed_class}
@@ -38,6 +38,8 @@ reargued c (parameter k argument) = parameter k (argument_or c k argument)
 reargued c (inheriting digit class) = inheriting digit (reargued c class)
 reargued c (lambda parameters number) = lambda (reargued c parameters) number
 reargued c (conversion t) = conversion (reargued c t)
+reargued c (enumeration t bytes) = enumeration (reargued c t) bytes
+reargued c (bindings names) = bindings (reargued c names)
 reargued c (constrained letter concept) = constrained letter (reargued c concept)
 reargued c (pointer t) = pointer (reargued c t)
 reargued c (lvalue t) = lvalue (reargued c t)
@@ -75,6 +77,8 @@ bare (parameter k argument) = true
 bare (inheriting digit class) = bare class
 bare (lambda parameters number) = bare parameters
 bare (conversion t) = bare t
+bare (enumeration t bytes) = bare t
+bare (bindings names) = bare names
 bare (constrained letter concept) = bare concept
 bare (pointer t) = bare t
 bare (lvalue t) = bare t

@@ -45,6 +45,10 @@ pub data Term : Type 0 where
   string_literal : Term
   -- the operator that makes a value of a type
   conversion : (type : Term) → Term
+  -- an enumeration without a name, by its type and its first enumerator
+  enumeration : (type : Term) → (name : List ℕ) → Term
+  -- the names of a structured binding, a list of them
+  bindings : (names : Term) → Term
   -- types
   builtin : (code : List ℕ) → Term
   -- a floating type of this many bits, and the byte after their digits

@@ -48,13 +48,15 @@ or-false : (b : Bool) → b ≡ b || false
 or-false true = refl
 or-false false = refl
 
-pub other-alone : (ns : List Entry) (n : Node) (piece : Piece) → ((p k : ℕ) → piece ≡ Piece.Lambda p k → ⊥) → ((k t : ℕ) → piece ≡ Piece.Inheriting k t → ⊥) → ((t : ℕ) → piece ≡ Piece.Conversion t → ⊥)
+pub other-alone : (ns : List Entry) (n : Node) (piece : Piece) → ((p k : ℕ) → piece ≡ Piece.Lambda p k → ⊥) → ((k t : ℕ) → piece ≡ Piece.Inheriting k t → ⊥) → ((t : ℕ) → piece ≡ Piece.Conversion t → ⊥) → ((t : ℕ) (name : Span) → piece ≡ Piece.Enumeration t name → ⊥) → ((names : ℕ) → piece ≡ Piece.Bindings names → ⊥)
     → bare_entry n false ≡ kept n (piece_packs ns piece) (piece_frees ns piece) false (piece_by_argument ns piece) Words.Plain 0 0
 unfolding piece_packs piece_frees piece_by_argument class_kept arguments_kept untagged_kept returns_kept count_kept run_kept has_pack_kept
-other-alone ns n (Piece.Lambda p k) other inherits none = absurd (other p k refl)
-other-alone ns n (Piece.Inheriting k t) other inherits none = absurd (inherits k t refl)
-other-alone ns n (Piece.Conversion t) other inherits none = absurd (none t refl)
-other-alone ns n _ other inherits none = refl
+other-alone ns n (Piece.Lambda p k) other inherits none nameless unbound = absurd (other p k refl)
+other-alone ns n (Piece.Inheriting k t) other inherits none nameless unbound = absurd (inherits k t refl)
+other-alone ns n (Piece.Conversion t) other inherits none nameless unbound = absurd (none t refl)
+other-alone ns n (Piece.Enumeration t name) other inherits none nameless unbound = absurd (nameless t name refl)
+other-alone ns n (Piece.Bindings names) other inherits none nameless unbound = absurd (unbound names refl)
+other-alone ns n _ other inherits none nameless unbound = refl
 
 first-none : (p : Option ℕ) → p ≡ first_of p None
 unfolding first_of
@@ -78,14 +80,16 @@ within-none n e =
     ∙ ap (λ f. kept n (first_of e.packs None) f false (passed e.by_argument) Words.Plain 0 0) (both-none e.free)
     ∙ ap (λ l. kept n (first_of e.packs None) (both_free e.free Free.None) false l Words.Plain 0 0) (joined-none e.by_argument)
 
-pub other-within : (ns : List Entry) (n : Node) (e : Entry) (piece : Piece) → ((p k : ℕ) → piece ≡ Piece.Lambda p k → ⊥) → ((k t : ℕ) → piece ≡ Piece.Inheriting k t → ⊥) → ((t : ℕ) → piece ≡ Piece.Conversion t → ⊥)
+pub other-within : (ns : List Entry) (n : Node) (e : Entry) (piece : Piece) → ((p k : ℕ) → piece ≡ Piece.Lambda p k → ⊥) → ((k t : ℕ) → piece ≡ Piece.Inheriting k t → ⊥) → ((t : ℕ) → piece ≡ Piece.Conversion t → ⊥) → ((t : ℕ) (name : Span) → piece ≡ Piece.Enumeration t name → ⊥) → ((names : ℕ) → piece ≡ Piece.Bindings names → ⊥)
     → kept n e.packs e.free false (passed e.by_argument) Words.Plain 0 0
     ≡ kept n (first_of e.packs (piece_packs ns piece)) (both_free e.free (piece_frees ns piece)) false (joined e.by_argument (piece_by_argument ns piece)) Words.Plain 0 0
 unfolding piece_packs piece_frees piece_by_argument
-other-within ns n e (Piece.Lambda p k) other inherits none = absurd (other p k refl)
-other-within ns n e (Piece.Inheriting k t) other inherits none = absurd (inherits k t refl)
-other-within ns n e (Piece.Conversion t) other inherits none = absurd (none t refl)
-other-within ns n e _ other inherits none = within-none n e
+other-within ns n e (Piece.Lambda p k) other inherits none nameless unbound = absurd (other p k refl)
+other-within ns n e (Piece.Inheriting k t) other inherits none nameless unbound = absurd (inherits k t refl)
+other-within ns n e (Piece.Conversion t) other inherits none nameless unbound = absurd (none t refl)
+other-within ns n e (Piece.Enumeration t name) other inherits none nameless unbound = absurd (nameless t name refl)
+other-within ns n e (Piece.Bindings names) other inherits none nameless unbound = absurd (unbound names refl)
+other-within ns n e _ other inherits none nameless unbound = within-none n e
 
 pub expansion-is : (n : Node) (empty : Bool) (held : Compact) (e : Entry) → entry_of held ≡ e → empty ≡ heads.is_none_of (packs_kept held.packs)
     → kept n None (free_kept held.free held.number) empty (of_expansion held.by_argument) Words.Plain 0 0

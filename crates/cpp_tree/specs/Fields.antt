@@ -1,6 +1,6 @@
 -- What a tree has beside its production: numbers, texts and the trees of its parts. The productions are constants of the code.
 use Rattle.std.specs.Prelude.{ℕ, ◌+◌, ◌*◌, List, [], ◌∷◌, ◌-◌, ◌++◌, Bool, true, false, ◌==◌, ◌||◌, nat_lt, if◌then◌else◌, cond, get_or, Option, Some, None}
-use Rattle.cpp_grammar.specs.Term.{Qualifiers, RefQualifier, any_value, lvalue_only, rvalue_only, explicit_object, Signed, non_virtual, by_table, Thunk, adjusting, covariant, Term, symbol, function, object, special, thunk, of_name, construction, clone, alone, in_std, within, instance, local, holder, tagged, of_default, abbreviation, parameter, source, operator, literal_operator, constructor, destructor, inheriting, lambda, generic_lambda, unnamed, string_literal, conversion, builtin, sized_float, constrained, vendor, pointer, lvalue, rvalue, array, bounded, member_pointer, function_type, qualified, vector, complex, decltype, expansion, integer, boolean, null_pointer, encoding_literal, address_of, operation, function_parameter, pack, nil, list, absent}
+use Rattle.cpp_grammar.specs.Term.{Qualifiers, RefQualifier, any_value, lvalue_only, rvalue_only, explicit_object, Signed, non_virtual, by_table, Thunk, adjusting, covariant, Term, symbol, function, object, special, thunk, of_name, construction, clone, alone, in_std, within, instance, local, holder, tagged, of_default, abbreviation, parameter, source, operator, literal_operator, constructor, destructor, inheriting, lambda, generic_lambda, unnamed, string_literal, conversion, enumeration, bindings, builtin, sized_float, constrained, vendor, pointer, lvalue, rvalue, array, bounded, member_pointer, function_type, qualified, vector, complex, decltype, expansion, integer, boolean, null_pointer, encoding_literal, address_of, operation, function_parameter, pack, nil, list, absent}
 use Rattle.cpp_tree.specs.declared.view.Names.{Names}
 use Rattle.cpp_tree.specs.declared.view.TheConstants.{ALONE, IN_STD, NESTED}
 use Rattle.cpp_tree.specs.declared.tree_production.TheConstants.{ABSENT, NIL, LIST, SYMBOL, FUNCTION, OBJECT, SPECIAL, GUARD, OF_NAME, CONSTRUCTION, CLONE, THUNK, TABLE_THUNK, COVARIANT_THUNK, WIDE_THUNK, INSTANCE, LOCAL, NUMBERED_LOCAL, HOLDER, TAGGED, OF_DEFAULT, ABBREVIATION, PARAMETER, BUILTIN, BUILTIN_WITH_D, SIZED_FLOAT, BOUNDED, CONSTRAINED, VENDOR, POINTER, LVALUE, RVALUE, ARRAY, MEMBER_POINTER, FUNCTION_TYPE, QUALIFIED, VECTOR, COMPLEX, DECLTYPE, EXPANSION, INTEGER, BOOLEAN, NULL_POINTER, ENCODING_LITERAL, ADDRESS_OF, OPERATION, FUNCTION_PARAMETER, PACK, NO_NODE}
@@ -48,6 +48,8 @@ name_fields names prefix whole (lambda parameters number) = fields names.lambda 
 name_fields names prefix whole (generic_lambda parameters number) = fields names.generic_lambda number 0 [] (prefix ++ parameters ∷ [])
 name_fields names prefix whole (unnamed number) = fields names.unnamed number 0 [] prefix
 name_fields names prefix whole (conversion type) = fields names.conversion 0 0 [] (prefix ++ type ∷ [])
+name_fields names prefix whole (enumeration type name) = fields names.enumeration 0 0 name (prefix ++ type ∷ [])
+name_fields names prefix whole (bindings bound) = fields names.bindings 0 0 [] (prefix ++ bound ∷ [])
 name_fields names prefix whole string_literal = fields names.string_literal 0 0 [] prefix
 name_fields names prefix whole absent = fields names.no_piece 0 0 [] prefix
 name_fields names prefix whole _ = no_node whole
@@ -202,6 +204,8 @@ names_in names given part named =
     ∷ (names.lambda, named (lambda part (number_in given 0)))
     ∷ (names.generic_lambda, named (generic_lambda part (number_in given 0)))
     ∷ (names.conversion, named (conversion part))
+    ∷ (names.enumeration, named (enumeration part (text_in given 0)))
+    ∷ (names.bindings, named (bindings part))
     ∷ (names.unnamed, named (unnamed (number_in given 0)))
     ∷ (names.string_literal, named string_literal)
     ∷ (names.no_piece, named absent)

@@ -119,6 +119,10 @@ pub enum Piece {
     Unnamed(u64),
     StringLiteral,
     Conversion(u32),
+    /// An enumeration without a name: its type and its first enumerator.
+    Enumeration { ty: u32, name: Span },
+    /// The names that a structured binding declares.
+    Bindings(u32),
     Absent,
 }
 

@@ -346,6 +346,8 @@ impl Nodes {
             Piece::Lambda { parameters, .. } => self.noted_type(node, parameters, Words::Plain),
             Piece::Inheriting { base, .. } => self.noted_type(node, base, Words::Plain),
             Piece::Conversion(ty) => self.noted_type(node, ty, Words::Plain),
+            Piece::Enumeration { ty, .. } => self.noted_type(node, ty, Words::Plain),
+            Piece::Bindings(names) => self.noted_type(node, names, Words::Plain),
             _ => bare(node, false),
         }
     }
@@ -365,6 +367,8 @@ impl Nodes {
             }
             Piece::Inheriting { base, .. } => self.noted_types(node, prefix, base, Words::Plain),
             Piece::Conversion(ty) => self.noted_types(node, prefix, ty, Words::Plain),
+            Piece::Enumeration { ty, .. } => self.noted_types(node, prefix, ty, Words::Plain),
+            Piece::Bindings(names) => self.noted_types(node, prefix, names, Words::Plain),
             _ => self.noted_type(node, prefix, Words::Plain),
         }
     }

@@ -274,3 +274,22 @@ pub const OPERATION: u16 = 83;
 
 /// A parameter of the function whose types it occurs in, as an expression. Texts: the digits of its number.
 pub const FUNCTION_PARAMETER: u16 = 84;
+
+/// An enumeration without a name, in no scope. Texts: its first enumerator. Parts: its underlying type. Only symbols of the wide
+/// grammar have it, and the next two.
+pub const ENUMERATION: u16 = 85;
+
+/// As `ENUMERATION`, in std.
+pub const STD_ENUMERATION: u16 = 86;
+
+/// As `ENUMERATION`, in a prefix: its type is the second part.
+pub const NESTED_ENUMERATION: u16 = 87;
+
+/// A structured binding, in no scope. Parts: the list of its names. Only symbols of the wide grammar have it, and the next two.
+pub const BINDINGS: u16 = 88;
+
+/// As `BINDINGS`, in std.
+pub const STD_BINDINGS: u16 = 89;
+
+/// As `BINDINGS`, in a prefix: its names are the second part.
+pub const NESTED_BINDINGS: u16 = 90;

@@ -98,6 +98,10 @@ pub dots-step : (dots dots' left left' count : ℕ) (bytes piece : List ℕ) →
 dots-step dots dots' left left' count bytes piece room fewer more same whole =
     let short : length piece ≡ min count (length bytes) = ap length (sym same) ∙ length-take count bytes in omega arith
 
+-- few bytes still wait
+pub few-still : (out out' : List ℕ) → out' ≡ out → length out < READ_SIZE → length out' < READ_SIZE
+few-still out out' same few = subst (λ (t : List ℕ). length t < READ_SIZE) (sym same) few
+
 -- bytes that are put after those that wait
 pub Puts-push : (known : Option (List ℕ)) (out out' bytes : List ℕ) → out' ≡ out ++ bytes → Puts known known out out' bytes
 Puts-push known out out' bytes pushed = record { gone = []; writes = Appends-none known; keeps = sym pushed }

@@ -10,6 +10,7 @@ pub mod Lanes
 pub mod Marks
 pub mod Places
 pub mod Plain
+pub mod Prompt
 pub mod Runs
 pub mod Splits
 pub mod Streams

@@ -4,6 +4,7 @@ ghost use Rattle.sym_filter.specs.CarriedEntries.{TakesEntries, TakesTextEntries
 ghost use Rattle.sym_filter.specs.Entries.{Entry, left_at_end};
 ghost use Rattle.sym_filter.specs.Streams.{reader_faults, writer_faults, Puts, PutsFront, FiltersAll, FiltersAllAt, FiltersFront, FiltersFrontAt, TellsAllAt, TellsFrontAt};
 ghost use Rattle.sym_filter.specs.Carried.{rest_of_text, TakesText};
+ghost use Rattle.sym_filter.specs.Prompt.{IsPrompt};
 ghost use Rattle.sym_filter.specs.Places.{START};
 ghost use Rattle.sym_filter.specs.Words.{rest_after, tally_after, held_of, following, Takes};
 ghost use Rattle.sym_filter.specs.declared.filtering.TheConstants.{READ_SIZE};
@@ -11,6 +12,7 @@ ghost use Rattle.sym_filter.specs.declared.filtering.TheConstants.{READ_SIZE};
 use crate::demangler::Demangler;
 use crate::escapes::{Escape, first_segment};
 use crate::kinds::Letters;
+use crate::prompt::PromptSource;
 use crate::reports::{Quiet, Report};
 use crate::streams::{FilterFault, Sink, Source, write_out};
 use crate::words::{Taken, Tally, Words};
@@ -80,6 +82,32 @@ pub fn filter_telling<R: Source, W: Sink, D: Demangler, P: Report>(
     ensures same_failures { OnOk result (P.failure_count report.new ≡ P.failure_count report.old) }
     ensures write_failed { W.failure_count writer.new + P.failure_count report.new ≡ W.failure_count writer.old + P.failure_count report.old + writer_faults result }
 {
+    filter_promptly(alloc, reader, writer, demangler, letters, report)
+}
+
+/// The same over a source that may be read only where the filter is prompt: at each read all that is decided was written, and what
+/// waits is a front of one word, of at most 65,536 bytes, and a count of dots.
+pub fn filter_promptly<R: PromptSource<W>, W: Sink, D: Demangler, P: Report>(
+    alloc: Global,
+    reader: &mut R,
+    writer: &mut W,
+    demangler: &D,
+    letters: Letters,
+    report: &mut P,
+) -> Result<Tally, FilterFault>
+    requires reader_failures { R.failure_count reader.old < 2 ^ 64 - 1 }
+    requires writer_failures { W.failure_count writer.old < 2 ^ 64 - 1 }
+    requires report_failures { P.failure_count report.old < 2 ^ 64 - 1 }
+    requires prompt { (source : R) (sink : W) → IsPrompt letters (D.answer demangler.now)
+        (R.coming reader.old) (R.coming source) (W.taken writer.old) (W.taken sink) → R.MayRead source sink }
+    ensures ok { IfOk result (λ tally. TellsAllAt letters (D.answer demangler.now)
+        (R.coming reader.old) (R.coming reader.new) (W.taken writer.old) (W.taken writer.new) (P.Tells report.old report.new) tally) }
+    ensures err { OnErr result (TellsFrontAt letters (D.answer demangler.now)
+        (R.coming reader.old) (R.coming reader.new) (W.taken writer.old) (W.taken writer.new) (P.Stops report.old report.new)) }
+    ensures read_failed { R.failure_count reader.new ≡ R.failure_count reader.old + reader_faults result }
+    ensures same_failures { OnOk result (P.failure_count report.new ≡ P.failure_count report.old) }
+    ensures write_failed { W.failure_count writer.new + P.failure_count report.new ≡ W.failure_count writer.old + P.failure_count report.old + writer_faults result }
+{
     // Asked for its range: a u64, so the proof knows that the reads, and the dots that wait, are bounded.
     let _left = reader.left();
     let mut words = Words::new(alloc, letters);
@@ -88,7 +116,7 @@ pub fn filter_telling<R: Source, W: Sink, D: Demangler, P: Report>(
     let mut lists = demangler.lists(alloc)?;
     let mut room = room_for_reads(alloc)?;
     loop {
-        let Some(count) = reader.read(&mut room) else {
+        let Some(count) = reader.read_beside(writer, &mut room) else {
             return Err(FilterFault::Read);
         };
         if count == 0 {
@@ -177,7 +205,9 @@ fn take_segment<W: Sink, D: Demangler, P: Report>(
     requires failures { W.failure_count writer.old < 2 ^ 64 - 1 }
     requires room { words.old.dots + length text.now < 2 ^ 128 }
     requires some { 0 < length text.now }
+    requires few_wait { length out.old.items < READ_SIZE }
     requires report_failures { P.failure_count report.old < 2 ^ 64 - 1 }
+    ensures few_wait { OnOk result (length out.new.items < READ_SIZE) }
     ensures within { IfOk result (λ count. (0 < count) × (count ≤ length text.now)) }
     ensures ok { IfOk result (λ count. (bytes : List ℕ)
         × TakesText (D.answer demangler.now) words.old words.new escape.old escape.new (take count text.now) bytes
@@ -235,7 +265,9 @@ fn take_words<W: Sink, D: Demangler, P: Report>(
 ) -> Result<(), FilterFault>
     requires failures { W.failure_count writer.old < 2 ^ 64 - 1 }
     requires room { words.old.dots + length piece.now < 2 ^ 128 }
+    requires few_wait { length out.old.items < READ_SIZE }
     requires report_failures { P.failure_count report.old < 2 ^ 64 - 1 }
+    ensures few_wait { OnOk result (length out.new.items < READ_SIZE) }
     ensures ok { OnOk result ((bytes : List ℕ) × Takes (D.answer demangler.now) words.old words.new piece.now bytes
         × Puts (W.taken writer.old) (W.taken writer.new) out.old.items out.new.items bytes) }
     ensures err { IfErr result (λ fault. (fault ≢ FilterFault.Read)
@@ -271,6 +303,7 @@ fn end_segment<W: Sink, D: Demangler, P: Report>(
     requires report_failures { P.failure_count report.old < 2 ^ 64 - 1 }
     ensures ok { OnOk result (Puts (W.taken writer.old) (W.taken writer.new) out.old.items out.new.items
         (rest_after (D.answer demangler.now) words.old [])) }
+    ensures few_wait { OnOk result (length out.new.items < READ_SIZE) }
     ensures counts { OnOk result (words.new.tally ≡ tally_after (D.answer demangler.now) words.old []) }
     ensures begins { OnOk result ((held_of words.new ≡ []) × (words.new.dots ≡ 0) × (words.new.place ≡ START) × (words.new.past ≡ false)) }
     ensures letters { OnOk result (words.new.letters ≡ words.old.letters) }
@@ -284,6 +317,7 @@ fn end_segment<W: Sink, D: Demangler, P: Report>(
     let ended = words.end_segment(demangler, lists, out)?;
     tell_left(report, out, ended.left)?;
     write_dots(writer, out, ended.dots)?;
+    write_when_full(writer, out)?;
     Ok(())
 }
 
@@ -325,6 +359,7 @@ fn put_after<W: Sink>(
     requires failures { W.failure_count writer.old < 2 ^ 64 - 1 }
     ensures ok { OnOk result (Puts (W.taken writer.old) (W.taken writer.new) out.old.items out.new.items
         (following taken bytes.now)) }
+    ensures few_wait { OnOk result ((taken.stay ≡ false → length out.old.items < READ_SIZE) → length out.new.items < READ_SIZE) }
     ensures err { IfErr result (λ fault. (fault ≢ FilterFault.Read)
         × PutsFront (W.taken writer.old) (W.taken writer.new) out.old.items (following taken bytes.now)) }
     ensures failures { W.failure_count writer.new ≡ W.failure_count writer.old + writer_faults result }
@@ -344,6 +379,7 @@ fn write_dots<W: Sink>(writer: &mut W, out: &mut Vec<u8>, dots: u128) -> Result<
     requires failures { W.failure_count writer.old < 2 ^ 64 - 1 }
     ensures ok { OnOk result (Puts (W.taken writer.old) (W.taken writer.new) out.old.items out.new.items
         (replicate dots 46)) }
+    ensures few_wait { OnOk result (length out.old.items < READ_SIZE → length out.new.items < READ_SIZE) }
     ensures err { IfErr result (λ fault. (fault ≢ FilterFault.Read)
         × PutsFront (W.taken writer.old) (W.taken writer.new) out.old.items (replicate dots 46)) }
     ensures failures { W.failure_count writer.new ≡ W.failure_count writer.old + writer_faults result }

@@ -221,6 +221,7 @@ impl Words {
         ensures takes { IfOk result (λ taken. (bytes : List ℕ) × (out.new.items ≡ out.old.items ++ bytes)
             × Takes (D.answer demangler.now) self.old self.new (take taken.count text.now)
             (bytes ++ following taken (take taken.count text.now))) }
+        ensures held { IfOk result (λ taken. taken.stay ≡ false → out.new.items ≡ out.old.items) }
         ensures entries { IfOk result (λ taken. (taken.left ≤ length out.new.items) × TakesEntries (D.answer demangler.now) self.old self.new
             (take taken.count text.now) (left_at_end taken.left out.new.items ++ newlines_in (take taken.count text.now))) }
     {
@@ -258,6 +259,7 @@ impl Words {
     fn pass(&mut self, text: &[u8]) -> Taken
         requires some { 0 < length text.now }
         requires past { self.old.past ≡ true }
+        ensures stays { result.stay ≡ true }
         ensures within { (0 < result.count) × (result.count ≤ length text.now) }
         ensures takes { (answers : Answering) → Takes answers self.old self.new (take result.count text.now)
             (following result (take result.count text.now)) }

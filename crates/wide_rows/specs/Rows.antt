@@ -137,4 +137,11 @@ rows_2 =
     prints "_ZNH1H1fERS_i" "H::f(this H&, int)" 31 ∷
     prints "_ZGR1a_" "reference temporary #0 for a" 31 ∷
     prints "_ZGRZ1fvE1a_" "reference temporary #0 for f()::a" 40 ∷
+    prints "_ZNW1M1A1fEv" "A@M::f()" 16 ∷
+    prints "_ZGIW1aWP1b" "initializer for module a:b" 33 ∷
+    prints "_ZN1nW1M1fENS_S0_1AE" "n::f@M(n::A@M)" 28 ∷
+    prints "_ZUei1Ev" "{enum:int{E}}()" 20 ∷
+    prints "_ZDC1a1bE" "[a, b]" 15 ∷
+    prints "_ZDCL1aL1bE" "[a, b]" 15 ∷
+    prints "_ZN1nDC1a1bEE" "n::[a, b]" 20 ∷
     []

@@ -127,7 +127,7 @@ KindRead Kind.ConstructorAfterC around v old new =
     (outer : Around) (t : Term) (listed : Bool) (start : State) → around ≡ after t listed outer → Wherever outer start (is_encoding t ≡ false)
     → PrefixFits outer t start old → NestRead outer v start new
 KindRead Kind.ConstructorDigit around v old new = MarkRead Kind.ConstructorDigit v old new
-KindRead Kind.DestructorDigit around v old new = MarkRead Kind.DestructorDigit v old new
+KindRead Kind.ComponentAfterD around v old new = MarkRead Kind.ComponentAfterD v old new
 KindRead Kind.Abbreviation around v old new = KindFits Kind.Abbreviation around v old new
 KindRead Kind.Entity around v old new =
     (e : Term) → is_encoding e ≡ true → around.prefix ≡ behind e true

@@ -13,7 +13,7 @@ use Rattle.cpp_grammar.specs.declared.production.Production.{Production}
 use Rattle.cpp_grammar.specs.Term.{Term, parameter}
 use Rattle.cpp_grammar.specs.Scope.{count, element, length_if_pack, is_open}
 use Rattle.cpp_grammar.specs.Values.{Candidate, State, Around, Value, nothing_there, tree, prefix_tree, prefix_listed, is_listed, text_of, tree_of, part}
-use Rattle.cpp_grammar.specs.References.{appended, is_function_type, with_type, with_unqualified, with_prefix, with_packs, packs_in, substituted, parameter_named}
+use Rattle.cpp_grammar.specs.References.{appended, is_function_type, with_type, with_unqualified, with_prefix, with_packs, packs_in, is_module, substituted, parameter_named}
 use Rattle.cpp_grammar.specs.Between.{in_name, in_types, in_signature, after, inside, Going, index_of, between}
 use Rattle.cpp_grammar.specs.Meaning.{meaning}
 use Rattle.cpp_grammar.specs.Row as row
@@ -67,7 +67,7 @@ unfolding substituted
 substituted-kept around place None state r outside e = absurd cc
 substituted-kept around place (Some c) state r outside e =
     either (λ x. x ≡ Ok r → r.state.packs ≡ state.packs)
-    (is_open c.tree && (around.in_lambda || not (nat_eq c.encoding around.encoding))) _ _ (λ is h. absurd cc)
+    (is_module c.tree || (is_open c.tree && (around.in_lambda || not (nat_eq c.encoding around.encoding)))) _ _ (λ is h. absurd cc)
     (λ is h. bound-kept place around.in_expansion (packs_in around.scope c.tree) state (λ s. Ok (found (tree c.tree true) s)) r
     (λ x. x.state.packs) outside
     (λ s x is. ap (λ y. y.state.packs) (sym (ok_same (found (tree c.tree true) s) x is))) h) e

@@ -119,11 +119,13 @@ constructor-comes kind around at old v new o =
 
 pub destructor-comes : (kind : Kind) (around : Around) (at : ℕ) (old : State) (v : Value) (new : State)
     → OpenedRead kind around at old v new Production.Destructor → PieceRead names_member around v old new
-unfolding parts_of number_of_kind between named_so_far names_member tree_of meaning part unfolding_.behind
+unfolding parts_of number_of_kind between named_so_far names_member piece_of tree_of meaning part unfolding_.behind
 destructor-comes kind around at old v new o =
     by-parts (λ w s. PieceRead names_member around w old s) Production.Destructor tt tt o (λ w s one b t more.
-    piece-as names_member around (destructor (letter_of w)) b old s t (
+    piece-as names_member around (piece_of w) b old s t
+    (let mark = one Kind.ComponentAfterD refl in
+    subst (λ u. (names_member (piece_of u) ≡ true) × PieceFits around (piece_of u) old s) (sym mark.1) (
       refl,
-      (let mark = one Kind.DestructorDigit refl in
-          subst (λ q. PieceFits around (destructor (letter_of w)) old q) (sym mark.0) (destructor-fits around (letter_of w) old mark.2 mark.3)),
-    ) (more Kind.MaybeArguments refl))
+      subst (λ q. PieceFits around (destructor (letter_of w)) old q) (sym mark.0) (destructor-fits around (letter_of w) old mark.2 mark.3),
+    ))
+    (more Kind.MaybeArguments refl))

@@ -53,7 +53,7 @@ constructor-fits around digit state small chosen =
     text-fitted around ((fits_of (constructor digit)).as_piece) (codes "C" ++ digit ∷ []) (constructor digit) state
     (λ n allowed place cs. (small, chosen)) (λ n allowed. may-closed (pressed_at n around) allowed (constructor digit) refl)
 
-pub destructor-fits : (around : Around) (digit : ℕ) (state : State) → digit < 256 → choose Kind.DestructorDigit digit ≡ Some Production.Mark
+pub destructor-fits : (around : Around) (digit : ℕ) (state : State) → digit < 256 → choose Kind.ComponentAfterD digit ≡ Some Production.Mark
     → PieceFits around (destructor digit) state state
 unfolding fits_of piece_fits fits_nowhere ways_of piece_ways no_ways is_open
 destructor-fits around digit state small chosen =

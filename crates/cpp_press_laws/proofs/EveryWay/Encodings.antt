@@ -131,7 +131,7 @@ reads-local e entity d re rn = record {
   at = each;
   before = λ typed k kind around allowed place cs arguments elements items last are read kept small room h.
       template-value typed around allowed k (instance (local e entity d) items) place cs _
-      (referred-before typed k around allowed (local e entity d) kind place cs
+      (referred-before typed k around allowed (local e entity d) tt kind place cs
       (local_spelling around.encoding e entity d []) arguments elements
       items last are read (keeps-local-spelling around.encoding e entity d []) kept room h);
 }
@@ -140,7 +140,7 @@ reads-local e entity d re rn = record {
         (as_component (local e entity d) (local_fits e entity d in_type)) (λ around allowed. ReadsAs slot around allowed (local e entity d))
     whole slot around allowed place cs small room h =
         let s = in-slot slot around allowed (local e entity d) refl in
-        fitting-in around allowed (local e entity d) (ReadsAs slot around allowed (local e entity d)) place cs
+        fitting-in around allowed (local e entity d) tt (ReadsAs slot around allowed (local e entity d)) place cs
         (local_spelling around.encoding e entity d [])
         (local_fits e entity d in_type) s.behind_s (keeps-local-spelling around.encoding e entity d []) room h
         (λ fits enough. s.adds place cs (local_spelling around.encoding e entity d [] place cs)
@@ -149,12 +149,12 @@ reads-local e entity d re rn = record {
     each : ReadingAt (local e entity d)
     each spot.as_type = each-slot _ (whole any_type) (whole bare_type) (whole item_type) (whole parameter_type) (whole literal_type)
     each spot.as_prefix = λ around allowed place cs small room h.
-        fitting-in around allowed (local e entity d) (Extends around allowed (local e entity d)) place cs
+        fitting-in around allowed (local e entity d) tt (Extends around allowed (local e entity d)) place cs
         (local_spelling around.encoding e entity d []) nowhere
         (prefix-behind-s around allowed (local e entity d)) (keeps-local-spelling around.encoding e entity d []) room h
         (λ fits enough. absurd fits)
     each spot.as_prefix_template = λ around allowed place cs small room h.
-        fitting-in around allowed (local e entity d) (ExtendsWith around allowed (local e entity d)) place cs
+        fitting-in around allowed (local e entity d) tt (ExtendsWith around allowed (local e entity d)) place cs
         (local_spelling around.encoding e entity d []) nowhere
         (extends-with-behind-s around allowed (local e entity d)) (keeps-local-spelling around.encoding e entity d []) room h
         (λ fits enough. absurd fits)

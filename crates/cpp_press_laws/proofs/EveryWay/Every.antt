@@ -16,6 +16,7 @@ use Rattle.cpp_press_laws.specs.Subtrees.{greatest, Written, written, ReadsAt, I
 use Rattle.cpp_press_laws.proofs.ReadBack.References.{found-first, number-refers}
 use Rattle.cpp_press_laws.proofs.ReadBack.Arguments.{items_value, any-argument, item-as-argument, list_kind}
 use Rattle.cpp_press_laws.proofs.ReadBack.Names.{SoFar, Extends}
+use Rattle.cpp_press_laws.proofs.Components.Parts.{IsComponent}
 use Rattle.cpp_press_laws.proofs.Components.Keeping.{Keeps, keeps-component, keeps-and}
 use Rattle.cpp_press_laws.proofs.ReadBack.Slots.{few-before, ReadsAs, is_bare, in-slot, fitting-in}
 use Rattle.cpp_press_laws.proofs.ReadBack.Named.{PieceReads, ItemsRead}
@@ -218,7 +219,7 @@ typed-argument in_pack around allowed t place cs w one items last rest are two =
     any-argument in_pack around allowed t items last place cs w rest are (item-as-argument (elsewhere (omega arith) one)) (elsewhere (omega arith) two)
 
 -- a component before its arguments, of which only a reference is there
-pub referred-before : (typed : Bool) (k : ℕ) (around : Around) (allowed : Option ℕ) (t : Term) → TemplateKind typed k → (place : ℕ)
+pub referred-before : (typed : Bool) (k : ℕ) (around : Around) (allowed : Option ℕ) (t : Term) → IsComponent t → TemplateKind typed k → (place : ℕ)
     (cs : List Component) (spelling : Spelling) (arguments : Fitting) (elements : Spelling) (items : Term) (last : Value)
     → no_items last ≡ items
     → ReadElements around allowed last arguments elements → Keeps spelling → Keeps (of_elements elements)
@@ -227,7 +228,7 @@ pub referred-before : (typed : Bool) (k : ℕ) (around : Around) (allowed : Opti
     → ReadsAt around allowed (OfKind k) (Is (tree (instance t items) false)) place cs
     ((component around.encoding t spelling and of_elements elements) place cs)
 unfolding component reference
-referred-before typed k around allowed t kind place cs spelling arguments elements items last are read keeps kept room fits =
+referred-before typed k around allowed t is_one kind place cs spelling arguments elements items last are read keeps kept room fits =
     go (first_equal around.encoding t 0 cs) refl room
     (few-before (component around.encoding t spelling and of_elements elements) place cs
     (keeps-and (component around.encoding t spelling) (of_elements elements) (keeps-component around.encoding t spelling keeps) kept) room)
@@ -247,24 +248,24 @@ referred-before typed k around allowed t kind place cs spelling arguments elemen
         let args : Written = elements (place + length (reference number place cs).bytes + 1) cs in
         subst (λ n. InstancedAt around allowed k t place cs (reference n place cs)) named
         (instanced-behind-s typed k around allowed t kind place cs (written (seq_id f.0 ++ 95 ∷ []) cs)
-        (number-refers around allowed t f.0 (place + 1) cs few fits.0 f.2))
+        (number-refers around allowed t f.0 (place + 1) cs few is_one fits.0 f.2))
         items last args are
         (read (place + length (reference number place cs).bytes) cs (fits.1 number is)
         (elements-room (reference number) elements place cs enough))
     go None is enough few = absurd (fits.2 is).0
 
 -- a type that is a component, from its spelling in each slot
-pub reads-type : (t : Term) (spelling : ℕ → Spelling) (spelled : Slot → Fitting) → is_function_type t ≡ false
+pub reads-type : (t : Term) (spelling : ℕ → Spelling) (spelled : Slot → Fitting) → IsComponent t → is_function_type t ≡ false
     → ((n : ℕ) → Keeps (spelling n))
     → ((slot : Slot) → Leads spelling (spelled slot) (λ around allowed place cs w. ReadsAs slot around allowed t place cs
     (written w.bytes (more around w.components t))))
     → ReadsAll t (λ n. type_ways (component n t (spelling n))) (type_fits t spelled)
 unfolding type_ways no_ways type_fits fits_nowhere
-reads-type t spelling spelled other keeps out = record {
+reads-type t spelling spelled is other keeps out = record {
   at = each;
   before = λ typed k kind around allowed place cs arguments elements items last are read kept small room h.
       template-value typed around allowed k (instance t items) place cs _
-      (referred-before typed k around allowed t kind place cs (spelling around.encoding) arguments elements items last are read
+      (referred-before typed k around allowed t is kind place cs (spelling around.encoding) arguments elements items last are read
       (keeps around.encoding) kept room h);
 }
   where
@@ -275,16 +276,16 @@ reads-type t spelling spelled other keeps out = record {
         (λ around allowed. ReadsAs slot around allowed t)
     whole slot around allowed place cs small room h =
         let s = in-slot slot around allowed t (bare slot) in
-        fitting-in around allowed t (ReadsAs slot around allowed t) place cs (spelling around.encoding) (spelled slot) s.behind_s
+        fitting-in around allowed t is (ReadsAs slot around allowed t) place cs (spelling around.encoding) (spelled slot) s.behind_s
         (keeps around.encoding) room h (λ fits enough. out slot around allowed place cs small enough fits)
 
     each : ReadsSpots t (λ n. type_ways (component n t (spelling n))) (type_fits t spelled)
     each spot.as_type = each-slot _ (whole any_type) (whole bare_type) (whole item_type) (whole parameter_type) (whole literal_type)
     each spot.as_prefix = λ around allowed place cs small room h.
-        fitting-in around allowed t (Extends around allowed t) place cs (spelling around.encoding) nowhere (prefix-behind-s around allowed t)
+        fitting-in around allowed t is (Extends around allowed t) place cs (spelling around.encoding) nowhere (prefix-behind-s around allowed t)
         (keeps around.encoding) room h (λ none enough. absurd none)
     each spot.as_prefix_template = λ around allowed place cs small room h.
-        fitting-in around allowed t (ExtendsWith around allowed t) place cs (spelling around.encoding) nowhere
+        fitting-in around allowed t is (ExtendsWith around allowed t) place cs (spelling around.encoding) nowhere
         (extends-with-behind-s around allowed t) (keeps around.encoding) room h (λ none enough. absurd none)
     each spot.as_argument = λ in_pack around allowed place cs small room h.
         typed-argument in_pack around allowed t place cs (component around.encoding t (spelling around.encoding) place cs)

@@ -172,7 +172,7 @@ reads-instance t a rt ra = record {
   at = each;
   before = λ typed k kind around allowed place cs arguments elements items last are read kept small room h.
       template-value typed around allowed k (instance (instance t a) items) place cs _
-      (referred-before typed k around allowed (instance t a) kind place cs nothing arguments elements items last are read
+      (referred-before typed k around allowed (instance t a) tt kind place cs nothing arguments elements items last are read
       (keeps-text []) kept room h);
 }
   where
@@ -181,7 +181,7 @@ reads-instance t a rt ra = record {
     whole slot around allowed place cs small room h =
         let s = in-slot slot around allowed (instance t a) refl in
         let n : ℕ = around.encoding in
-        fitting-in around allowed (instance t a) (ReadsAs slot around allowed (instance t a)) place cs ((ways_of n t).before true
+        fitting-in around allowed (instance t a) tt (ReadsAs slot around allowed (instance t a)) place cs ((ways_of n t).before true
         (spelled_arguments n a))
         ((fits_of t).before true (elements_of a)) s.behind_s (keeps_before t a n true) room h
         (λ fits enough. s.adds place cs ((ways_of n t).before true (spelled_arguments n a) place cs)
@@ -192,7 +192,7 @@ reads-instance t a rt ra = record {
     each spot.as_prefix = λ around allowed place cs small room h.
         let n : ℕ = around.encoding in
         let prefix : Spelling = (ways_of n t).as_prefix in
-        fitting-in around allowed (instance t a) (Extends around allowed (instance t a)) place cs (prefix and spelled_arguments n a)
+        fitting-in around allowed (instance t a) tt (Extends around allowed (instance t a)) place cs (prefix and spelled_arguments n a)
         (λ inner others at ds. (fits_of t).as_prefix_template inner others at ds
         × Behind (ways_of inner.encoding t).as_prefix (elements_of a inner others) at ds)
         (prefix-behind-s around allowed (instance t a)) (keeps-and prefix (spelled_arguments n a) (keeps t n).as_prefix
@@ -206,7 +206,7 @@ reads-instance t a rt ra = record {
         (elements-room prefix (ways_of n a).as_elements place cs enough)))
     each spot.as_prefix_template = λ around allowed place cs small room h.
         let n : ℕ = around.encoding in
-        fitting-in around allowed (instance t a) (ExtendsWith around allowed (instance t a)) place cs
+        fitting-in around allowed (instance t a) tt (ExtendsWith around allowed (instance t a)) place cs
         ((ways_of n t).as_prefix and spelled_arguments n a)
         nowhere (extends-with-behind-s around allowed (instance t a))
         (keeps-and (ways_of n t).as_prefix (spelled_arguments n a) (keeps t n).as_prefix (keeps-arguments n a)) room h

@@ -285,7 +285,7 @@ reads-function-type c_linkage noexcept ref a ps ra rp = record {
   before = λ typed k kind around allowed place cs arguments elements items last are read kept small room h.
       let t : Term = function_type c_linkage noexcept ref a ps in
       template-value typed around allowed k (instance t items) place cs _
-      (referred-before typed k around allowed t kind place cs
+      (referred-before typed k around allowed t tt kind place cs
       (function_spelling around.encoding c_linkage noexcept ref a ps) arguments elements
       items last are read (keeps-function around.encoding c_linkage noexcept ref a ps) kept room h);
 }
@@ -298,7 +298,7 @@ reads-function-type c_linkage noexcept ref a ps ra rp = record {
         let t : Term = function_type c_linkage noexcept ref a ps in
         let n : ℕ = around.encoding in
         let s = in-slot slot around allowed t bare in
-        fitting-in around allowed t (ReadsAs slot around allowed t) place cs (function_spelling n c_linkage noexcept ref a ps)
+        fitting-in around allowed t tt (ReadsAs slot around allowed t) place cs (function_spelling n c_linkage noexcept ref a ps)
         (function_fits c_linkage noexcept ref a ps) s.behind_s (keeps-function n c_linkage noexcept ref a ps) room h
         (λ fits enough. function-in noexcept slot around allowed t place cs
         (function_spelling n c_linkage noexcept ref a ps place cs) all bare
@@ -317,7 +317,7 @@ reads-function-type c_linkage noexcept ref a ps ra rp = record {
     as_types literal_type = λ around allowed place cs small room h.
         let t : Term = function_type c_linkage noexcept ref a ps in
         let s = in-slot literal_type around allowed t refl in
-        fitting-in around allowed t (ReadsAs literal_type around allowed t) place cs
+        fitting-in around allowed t tt (ReadsAs literal_type around allowed t) place cs
         (function_spelling around.encoding c_linkage noexcept ref a ps)
         nowhere s.behind_s (keeps-function around.encoding c_linkage noexcept ref a ps) room h (λ fits enough. absurd fits)
 
@@ -325,11 +325,11 @@ reads-function-type c_linkage noexcept ref a ps ra rp = record {
     each spot.as_type = as_types
     each spot.as_prefix = λ around allowed place cs small room h.
         let t : Term = function_type c_linkage noexcept ref a ps in
-        fitting-in around allowed t (Extends around allowed t) place cs (function_spelling around.encoding c_linkage noexcept ref a ps) nowhere
+        fitting-in around allowed t tt (Extends around allowed t) place cs (function_spelling around.encoding c_linkage noexcept ref a ps) nowhere
         (prefix-behind-s around allowed t) (keeps-function around.encoding c_linkage noexcept ref a ps) room h (λ fits enough. absurd fits)
     each spot.as_prefix_template = λ around allowed place cs small room h.
         let t : Term = function_type c_linkage noexcept ref a ps in
-        fitting-in around allowed t (ExtendsWith around allowed t) place cs
+        fitting-in around allowed t tt (ExtendsWith around allowed t) place cs
         (function_spelling around.encoding c_linkage noexcept ref a ps) nowhere
         (extends-with-behind-s around allowed t) (keeps-function around.encoding c_linkage noexcept ref a ps) room h
         (λ fits enough. absurd fits)

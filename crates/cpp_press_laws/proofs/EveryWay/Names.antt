@@ -176,7 +176,7 @@ reads-alone p r = record {
       let n : ℕ = around.encoding in
       let own : Spelling = (ways_of n p).as_piece in
       let w : Written = own place cs in
-      template-reads typed k around allowed (alone p) kind place cs
+      template-reads typed k around allowed (alone p) tt kind place cs
       (one_piece outermost (elim typed as (λ _. Bool) [ true ↦ names_type p | false ↦ names_function p ]) (fits_of p).as_piece)
       (λ m. (ways_of m p).as_piece) arguments elements
       (own and ended n (alone p) and of_elements elements) items last
@@ -201,7 +201,7 @@ reads-alone p r = record {
         (λ around allowed. ReadsAs slot around allowed (alone p))
     whole slot around allowed place cs small room h =
         let s = in-slot slot around allowed (alone p) refl in
-        fitting-in around allowed (alone p) (ReadsAs slot around allowed (alone p)) place cs (ways_of around.encoding p).as_piece
+        fitting-in around allowed (alone p) tt (ReadsAs slot around allowed (alone p)) place cs (ways_of around.encoding p).as_piece
         (one_piece outermost (names_type p) (fits_of p).as_piece) s.behind_s
         (keeps p around.encoding).as_piece room h
         (λ fits enough. s.adds place cs ((ways_of around.encoding p).as_piece place cs)
@@ -211,13 +211,13 @@ reads-alone p r = record {
     each : ReadingAt (alone p)
     each spot.as_type = each-slot _ (whole any_type) (whole bare_type) (whole item_type) (whole parameter_type) (whole literal_type)
     each spot.as_prefix = λ around allowed place cs small room h.
-        fitting-in around allowed (alone p) (Extends around allowed (alone p)) place cs (ways_of around.encoding p).as_piece
+        fitting-in around allowed (alone p) tt (Extends around allowed (alone p)) place cs (ways_of around.encoding p).as_piece
         (one_piece outermost (begins_name p) (fits_of p).as_piece)
         (prefix-behind-s around allowed (alone p)) (keeps p around.encoding).as_piece room h
         (λ fits enough. prefix-piece around allowed p (alone p) place cs ((ways_of around.encoding p).as_piece place cs)
         ((r.at spot.as_piece around allowed place cs small enough fits.2).begins fits.1) (outermost-alone around p fits.0))
     each spot.as_prefix_template = λ around allowed place cs small room h.
-        fitting-in around allowed (alone p) (ExtendsWith around allowed (alone p)) place cs (ways_of around.encoding p).as_piece
+        fitting-in around allowed (alone p) tt (ExtendsWith around allowed (alone p)) place cs (ways_of around.encoding p).as_piece
         (one_piece outermost (begins_name p) (fits_of p).as_piece)
         (extends-with-behind-s around allowed (alone p)) (keeps p around.encoding).as_piece room h
         (λ fits enough. prefix-with-piece around allowed p (alone p) place cs ((ways_of around.encoding p).as_piece place cs)

@@ -180,11 +180,11 @@ parameter-before : (typed : Bool) (k : ℕ) (around : Around) (allowed : Option 
     → as_component (parameter j) (elim typed as (λ _. Fitting) [ true ↦ parameter_fits j | false ↦ nowhere ]) around allowed place cs
     → InstancedAt around allowed k (parameter j) place cs (component around.encoding (parameter j) (parameter_spelling j) place cs)
 parameter-before true k around allowed j rules place cs small room h =
-    fitting-in around allowed (parameter j) (InstancedAt around allowed k (parameter j)) place cs (parameter_spelling j) (parameter_fits j)
+    fitting-in around allowed (parameter j) tt (InstancedAt around allowed k (parameter j)) place cs (parameter_spelling j) (parameter_fits j)
     (instanced-behind-s true k around allowed (parameter j) rules) (keeps-text _) room h
     (λ fits enough. parameter-instanced k around allowed j place cs (in-scope around allowed j small fits) rules.parameters)
 parameter-before false k around allowed j eight place cs small room h =
-    fitting-in around allowed (parameter j) (InstancedAt around allowed k (parameter j)) place cs (parameter_spelling j) nowhere
+    fitting-in around allowed (parameter j) tt (InstancedAt around allowed k (parameter j)) place cs (parameter_spelling j) nowhere
     (instanced-behind-s false k around allowed (parameter j) eight) (keeps-text _) room h (λ fits enough. absurd fits)
 
 pub reads-parameter : (j : ℕ) → Reading (parameter j)
@@ -204,7 +204,7 @@ reads-parameter j = record {
         (λ around allowed. ReadsAs slot around allowed (parameter j))
     whole slot around allowed place cs small room h =
         let s = in-slot slot around allowed (parameter j) refl in
-        fitting-in around allowed (parameter j) (ReadsAs slot around allowed (parameter j)) place cs (parameter_spelling j) (parameter_fits j)
+        fitting-in around allowed (parameter j) tt (ReadsAs slot around allowed (parameter j)) place cs (parameter_spelling j) (parameter_fits j)
         s.behind_s (keeps-text _) room h
         (λ fits enough. s.keeps place cs (written (84 ∷ ordinal j) (more around cs (parameter j)))
         (parameter-solid (solid_kind slot) around allowed j place cs (in-scope around allowed j small fits) (slot-rules slot).parameters))
@@ -212,11 +212,11 @@ reads-parameter j = record {
     each : ReadingAt (parameter j)
     each spot.as_type = each-slot _ (whole any_type) (whole bare_type) (whole item_type) (whole parameter_type) (whole literal_type)
     each spot.as_prefix = λ around allowed place cs small room h.
-        fitting-in around allowed (parameter j) (Extends around allowed (parameter j)) place cs (parameter_spelling j) (parameter_fits j)
+        fitting-in around allowed (parameter j) tt (Extends around allowed (parameter j)) place cs (parameter_spelling j) (parameter_fits j)
         (prefix-behind-s around allowed (parameter j)) (keeps-text _) room h
         (λ fits enough. prefix-parameter around allowed j place cs (in-scope around allowed j small fits))
     each spot.as_prefix_template = λ around allowed place cs small room h.
-        fitting-in around allowed (parameter j) (ExtendsWith around allowed (parameter j)) place cs (parameter_spelling j) (parameter_fits j)
+        fitting-in around allowed (parameter j) tt (ExtendsWith around allowed (parameter j)) place cs (parameter_spelling j) (parameter_fits j)
         (extends-with-behind-s around allowed (parameter j)) (keeps-text _) room h
         (λ fits enough. prefix-with-parameter around allowed j place cs (in-scope around allowed j small fits))
     each spot.as_argument = λ in_pack around allowed place cs small room h.

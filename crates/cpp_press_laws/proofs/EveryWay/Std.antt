@@ -190,7 +190,7 @@ reads-in-std p r = record {
       let whole : Spelling = std_spelling n p and ended n (in_std p) and of_elements elements in
       let wholly : Keeps whole = keeps-and (std_spelling n p) (ended n (in_std p) and of_elements elements) (keeps-std n p)
       (keeps-and (ended n (in_std p)) (of_elements elements) (keeps-ended n (in_std p)) kept) in
-      template-reads typed k around allowed (in_std p) kind place cs
+      template-reads typed k around allowed (in_std p) tt kind place cs
       (elim typed as (λ _. Fitting) [ true ↦ behind_bytes (maybe_N (is_operator p)) (std_fits p) | false ↦ std_fits p ])
       (λ m. text (maybe_N (typed && is_operator p)) and std_spelling m p) arguments elements
       (choice (typed && is_operator p) (in_N_and_E [] whole) whole) items last
@@ -209,7 +209,7 @@ reads-in-std p r = record {
         let s = in-slot slot around allowed (in_std p) refl in
         let n : ℕ = around.encoding in
         let spelled : Spelling = choice (is_operator p) (in_N_and_E [] (std_spelling n p)) (std_spelling n p) in
-        fitting-in around allowed (in_std p) (ReadsAs slot around allowed (in_std p)) place cs spelled (behind_bytes (maybe_N
+        fitting-in around allowed (in_std p) tt (ReadsAs slot around allowed (in_std p)) place cs spelled (behind_bytes (maybe_N
         (is_operator p)) (std_fits p))
         s.behind_s
         (keeps-choice (is_operator p) (in_N_and_E [] (std_spelling n p)) (std_spelling n p)
@@ -220,12 +220,12 @@ reads-in-std p r = record {
     each : ReadingAt (in_std p)
     each spot.as_type = each-slot _ (whole any_type) (whole bare_type) (whole item_type) (whole parameter_type) (whole literal_type)
     each spot.as_prefix = λ around allowed place cs small room h.
-        fitting-in around allowed (in_std p) (Extends around allowed (in_std p)) place cs (std_spelling around.encoding p) (std_fits p)
+        fitting-in around allowed (in_std p) tt (Extends around allowed (in_std p)) place cs (std_spelling around.encoding p) (std_fits p)
         (prefix-behind-s around allowed (in_std p)) (keeps-std around.encoding p) room h
         (λ fits enough. prefix-nested around allowed (in_std p) place cs (std_spelling around.encoding p place cs)
         (std-nested p r around allowed place cs small enough fits).bare)
     each spot.as_prefix_template = λ around allowed place cs small room h.
-        fitting-in around allowed (in_std p) (ExtendsWith around allowed (in_std p)) place cs (std_spelling around.encoding p) (std_fits p)
+        fitting-in around allowed (in_std p) tt (ExtendsWith around allowed (in_std p)) place cs (std_spelling around.encoding p) (std_fits p)
         (extends-with-behind-s around allowed (in_std p)) (keeps-std around.encoding p) room h
         (λ fits enough. prefix-with-nested around allowed (in_std p) place cs (std_spelling around.encoding p place cs)
         (std-nested p r around allowed place cs small enough fits).instanced)

@@ -165,7 +165,7 @@ Reading t = ReadsAll t (λ n. ways_of n t) (fits_of t)
 pub reads-vendor : (name : List ℕ) → Reading (vendor name)
 unfolding ways_of fits_of is_function_type
 reads-vendor name =
-    reads-type (vendor name) (λ n. text (codes "u" ++ counted name)) _ refl (λ n. keeps-text _)
+    reads-type (vendor name) (λ n. text (codes "u" ++ counted name)) _ tt refl (λ n. keeps-text _)
     (λ slot around allowed place cs small room h.
     solid-in-all slot around allowed (vendor name) place cs (written (117 ∷ counted name) cs) h.0 refl
     (vendor-solid around allowed name place cs h.1))
@@ -199,7 +199,7 @@ reads-tagged of_structor name tag r = record {
       (λ none. (h.2 none).0) in
       subst (λ w. TemplateReads typed around allowed k (instance own items) place cs w) (sym same)
       (template-value typed around allowed k (instance own items) place cs _
-      (referred-before typed k around allowed own kind place cs (whole around.encoding) arguments elements items last are read
+      (referred-before typed k around allowed own tt kind place cs (whole around.encoding) arguments elements items last are read
       (keeps-whole around.encoding) kept (subst HasRoom same room) h));
 }
   where
@@ -222,10 +222,10 @@ reads-tagged of_structor name tag r = record {
     keeps-whole n = keeps-choice needs_N (in_N_and_E [] (between n)) (between n) (keeps-N-and-E [] (between n) (keeps-between n)) (keeps-between n)
 
     typed : ReadsAll own (λ n. type_ways (component n own (whole n))) (type_fits own (λ slot. nowhere))
-    typed = reads-type own whole (λ slot. nowhere) refl keeps-whole (λ slot around allowed place cs small room h. absurd h)
+    typed = reads-type own whole (λ slot. nowhere) tt refl keeps-whole (λ slot around allowed place cs small room h. absurd h)
 
     prefixed : ReadsAll own (λ n. type_ways (component n own (between n))) (type_fits own (λ slot. nowhere))
-    prefixed = reads-type own between (λ slot. nowhere) refl keeps-between (λ slot around allowed place cs small room h. absurd h)
+    prefixed = reads-type own between (λ slot. nowhere) tt refl keeps-between (λ slot around allowed place cs small room h. absurd h)
 
     each : ReadsSpots own (λ n. ways_of n own) (fits_of own)
     each spot.as_type =
@@ -239,7 +239,7 @@ reads-tagged of_structor name tag r = record {
 pub reads-pointer : (t : Term) → Reading t → Reading (pointer t)
 unfolding ways_of fits_of is_function_type
 reads-pointer t r =
-    reads-type (pointer t) (λ n. text (codes "P") and (ways_of n t).as_type) _ refl
+    reads-type (pointer t) (λ n. text (codes "P") and (ways_of n t).as_type) _ tt refl
     (λ n. keeps-front (codes "P") (ways_of n t).as_type (keeps t n).as_type)
     (λ slot around allowed place cs small room h.
     let x : Written = (ways_of around.encoding t).as_type (place + 1) cs in
@@ -251,7 +251,7 @@ reads-pointer t r =
 pub reads-lvalue : (t : Term) → Reading t → Reading (lvalue t)
 unfolding ways_of fits_of is_function_type
 reads-lvalue t r =
-    reads-type (lvalue t) (λ n. text (codes "R") and (ways_of n t).as_type) _ refl
+    reads-type (lvalue t) (λ n. text (codes "R") and (ways_of n t).as_type) _ tt refl
     (λ n. keeps-front (codes "R") (ways_of n t).as_type (keeps t n).as_type)
     (λ slot around allowed place cs small room h.
     reference-in true slot around allowed t place cs ((ways_of around.encoding t).as_type (place + 1) cs) h.0
@@ -261,7 +261,7 @@ reads-lvalue t r =
 pub reads-rvalue : (t : Term) → Reading t → Reading (rvalue t)
 unfolding ways_of fits_of is_function_type
 reads-rvalue t r =
-    reads-type (rvalue t) (λ n. text (codes "O") and (ways_of n t).as_type) _ refl
+    reads-type (rvalue t) (λ n. text (codes "O") and (ways_of n t).as_type) _ tt refl
     (λ n. keeps-front (codes "O") (ways_of n t).as_type (keeps t n).as_type)
     (λ slot around allowed place cs small room h.
     reference-in false slot around allowed t place cs ((ways_of around.encoding t).as_type (place + 1) cs) h.0
@@ -272,7 +272,7 @@ reads-rvalue t r =
 pub reads-complex : (t : Term) → Reading t → Reading (complex t)
 unfolding ways_of fits_of is_function_type
 reads-complex t r =
-    reads-type (complex t) (λ n. text (codes "C") and (ways_of n t).as_type) _ refl
+    reads-type (complex t) (λ n. text (codes "C") and (ways_of n t).as_type) _ tt refl
     (λ n. keeps-front (codes "C") (ways_of n t).as_type (keeps t n).as_type)
     (λ slot around allowed place cs small room h.
     let x : Written = (ways_of around.encoding t).as_type (place + 1) cs in
@@ -285,7 +285,7 @@ pub reads-array : (digits : List ℕ) (t : Term) → Reading t → Reading (arra
 unfolding ways_of fits_of is_function_type
 reads-array digits t r =
     let front : List ℕ = codes "A" ++ digits ++ codes "_" in
-    reads-type (array digits t) (λ n. text front and (ways_of n t).as_type) _ refl
+    reads-type (array digits t) (λ n. text front and (ways_of n t).as_type) _ tt refl
     (λ n. keeps-front front (ways_of n t).as_type (keeps t n).as_type)
     (λ slot around allowed place cs small room h.
     let x : Written = (ways_of around.encoding t).as_type (place + length front) cs in
@@ -300,7 +300,7 @@ pub reads-vector : (digits : List ℕ) (t : Term) → Reading t → Reading (vec
 unfolding ways_of fits_of is_function_type
 reads-vector digits t r =
     let front : List ℕ = codes "Dv" ++ digits ++ codes "_" in
-    reads-type _ (λ n. text front and (ways_of n t).as_type) _ refl
+    reads-type _ (λ n. text front and (ways_of n t).as_type) _ tt refl
     (λ n. keeps-front front (ways_of n t).as_type (keeps t n).as_type)
     (λ slot around allowed place cs small room h.
     let x : Written = (ways_of around.encoding t).as_type (place + length front) cs in
@@ -316,7 +316,7 @@ reads-vector digits t r =
 pub reads-expansion : (t : Term) → Reading t → Reading (expansion t)
 unfolding ways_of fits_of is_function_type under_expansion
 reads-expansion t r =
-    reads-type (expansion t) (λ n. text (codes "Dp") and (ways_of n t).as_type) _ refl
+    reads-type (expansion t) (λ n. text (codes "Dp") and (ways_of n t).as_type) _ tt refl
     (λ n. keeps-front (codes "Dp") (ways_of n t).as_type (keeps t n).as_type)
     (λ slot around allowed place cs small room h.
     let x : Written = (ways_of around.encoding t).as_type (place + 2) cs in
@@ -329,7 +329,7 @@ reads-expansion t r =
 pub reads-member-pointer : (class member : Term) → Reading class → Reading member → Reading (member_pointer class member)
 unfolding ways_of fits_of is_function_type
 reads-member-pointer class member a b =
-    reads-type (member_pointer class member) (λ n. text (codes "M") and (ways_of n class).as_type and (ways_of n member).as_type) _ refl
+    reads-type (member_pointer class member) (λ n. text (codes "M") and (ways_of n class).as_type and (ways_of n member).as_type) _ tt refl
     (λ n. keeps-front (codes "M") ((ways_of n class).as_type and (ways_of n member).as_type)
     (keeps-and (ways_of n class).as_type (ways_of n member).as_type (keeps class n).as_type (keeps member n).as_type))
     (λ slot around allowed place cs small room h.
@@ -349,7 +349,7 @@ reads-member-pointer class member a b =
 pub reads-qualified : (q : Qualifiers) (t : Term) → Reading t → Reading (qualified q t)
 unfolding ways_of fits_of is_function_type has_letters
 reads-qualified q t r =
-    reads-type (qualified q t) (λ n. text (qualifier_letters q) and (ways_of n t).under_qualifiers) _ refl
+    reads-type (qualified q t) (λ n. text (qualifier_letters q) and (ways_of n t).under_qualifiers) _ tt refl
     (λ n. keeps-front (qualifier_letters q) (ways_of n t).under_qualifiers (keeps t n).under_qualifiers)
     (λ slot around allowed place cs small room h.
     let at : ℕ = place + length (qualifier_letters q) in

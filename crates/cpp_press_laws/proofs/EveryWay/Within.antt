@@ -228,7 +228,7 @@ reads-within x p rx rp = record {
       let resting : Keeps rest = keeps-and (ended n (within x p)) (of_elements elements) (keeps-ended n (within x p)) kept in
       let w : Written = joined_spelling n x p (place + 1) cs in
       let args : Written = elements (place + 1 + length w.bytes + 0 + 1) (more around w.components (within x p)) in
-      template-reads typed k around allowed (within x p) kind place cs (behind_bytes (codes "N") (joined_fits x p))
+      template-reads typed k around allowed (within x p) tt kind place cs (behind_bytes (codes "N") (joined_fits x p))
       (λ m. text (codes "N") and (ways_of m (within x p)).between_N_and_E) arguments elements (in_N_and_E [] whole) items last
       (TemplateReads typed around allowed k (instance (within x p) items) place cs)
       (template-value typed around allowed k (instance (within x p) items) place cs) are read kept
@@ -248,7 +248,7 @@ reads-within x p rx rp = record {
     whole slot around allowed place cs small room h =
         let s = in-slot slot around allowed (within x p) refl in
         let n : ℕ = around.encoding in
-        fitting-in around allowed (within x p) (ReadsAs slot around allowed (within x p)) place cs (in_N_and_E [] (joined_spelling n x p))
+        fitting-in around allowed (within x p) tt (ReadsAs slot around allowed (within x p)) place cs (in_N_and_E [] (joined_spelling n x p))
         (behind_bytes (codes "N") (joined_fits x p)) s.behind_s (keeps-N-and-E [] (joined_spelling n x p) (keeps-joined n x p)) room h
         (λ fits enough. s.adds place cs (in_N_and_E [] (joined_spelling n x p) place cs)
         (whole-nested (solid_kind slot) around allowed (within x p) place cs (joined_spelling n x p (place + 1) cs) (slot-rules slot).nested
@@ -257,12 +257,12 @@ reads-within x p rx rp = record {
     each : ReadingAt (within x p)
     each spot.as_type = each-slot _ (whole any_type) (whole bare_type) (whole item_type) (whole parameter_type) (whole literal_type)
     each spot.as_prefix = λ around allowed place cs small room h.
-        fitting-in around allowed (within x p) (Extends around allowed (within x p)) place cs (joined_spelling around.encoding x p)
+        fitting-in around allowed (within x p) tt (Extends around allowed (within x p)) place cs (joined_spelling around.encoding x p)
         (begun_fits x p)
         (prefix-behind-s around allowed (within x p)) (keeps-joined around.encoding x p) room h
         (λ fits enough. (begun-extends x p rx rp around allowed place cs small enough fits).0)
     each spot.as_prefix_template = λ around allowed place cs small room h.
-        fitting-in around allowed (within x p) (ExtendsWith around allowed (within x p)) place cs (joined_spelling around.encoding x p)
+        fitting-in around allowed (within x p) tt (ExtendsWith around allowed (within x p)) place cs (joined_spelling around.encoding x p)
         (begun_fits x p)
         (extends-with-behind-s around allowed (within x p)) (keeps-joined around.encoding x p) room h
         (λ fits enough. (begun-extends x p rx rp around allowed place cs small enough fits).1)

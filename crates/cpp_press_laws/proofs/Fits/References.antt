@@ -9,7 +9,7 @@ use Rattle.sym_link.specs.Unfold.{found}
 use Rattle.cpp_grammar.specs.Term.{Term, symbol, abbreviation, builtin, function_type, alone, in_std, within, instance, parameter, tagged}
 use Rattle.cpp_grammar.specs.Scope.{is_open}
 use Rattle.cpp_grammar.specs.Values.{Candidate, State, Around, Value, tree, tree_of, is_listed}
-use Rattle.cpp_grammar.specs.References.{is_function_type, with_type, with_unqualified, with_packs, packs_in, substituted}
+use Rattle.cpp_grammar.specs.References.{is_function_type, with_type, with_unqualified, with_packs, packs_in, is_module, substituted}
 use Rattle.cpp_grammar.proofs.ClosedStates.{ok_same, behind_bind}
 use Rattle.cpp_grammar.proofs.Chosen.{either}
 use Rattle.cpp_press_laws.specs.Components.{Component, Spelling, first_equal, reference, spelled_out, referred, component}
@@ -184,21 +184,22 @@ substitution-refers around place number state r e = go (slice_get state.candidat
           };
         })
 
-    tested : (c : Candidate) → slice_get state.candidates number ≡ Some c → (open_ lambda_ same : Bool) → is_open c.tree ≡ open_
+    tested : (c : Candidate) → slice_get state.candidates number ≡ Some c → (module_ open_ lambda_ same : Bool) → is_open c.tree ≡ open_
         → around.in_lambda ≡ lambda_ → nat_eq c.encoding around.encoding ≡ same
-        → ◌≡◌ {A = Result (Found Value State) Refusal} (elim (open_ && (lambda_ || not same)) [
+        → ◌≡◌ {A = Result (Found Value State) Refusal} (elim (module_ || (open_ && (lambda_ || not same))) [
           | true ↦ Err (BadReference place)
           | false ↦ with_packs place around.in_expansion (packs_in around.scope c.tree) state >>= λ s. Ok (found (tree c.tree true) s)
         ]) (Ok r) → Substituted around state r
-    tested c is false lambda_ same is-open is-lambda is-same h = answered c is (inl is-open) (ap (λ b. b && around.in_lambda) is-open) h
-    tested c is true true same is-open is-lambda is-same h = absurd cc
-    tested c is true false false is-open is-lambda is-same h = absurd cc
-    tested c is true false true is-open is-lambda is-same h =
+    tested c is true open_ lambda_ same is-open is-lambda is-same h = absurd cc
+    tested c is false false lambda_ same is-open is-lambda is-same h = answered c is (inl is-open) (ap (λ b. b && around.in_lambda) is-open) h
+    tested c is false true true same is-open is-lambda is-same h = absurd cc
+    tested c is false true false false is-open is-lambda is-same h = absurd cc
+    tested c is false true false true is-open is-lambda is-same h =
         answered c is (inr (eqb-true c.encoding around.encoding is-same)) (ap (λ b. b && around.in_lambda) is-open ∙ is-lambda) h
 
     go : (o : Option Candidate) → slice_get state.candidates number ≡ o → substituted around place o state ≡ Ok r → Substituted around state r
     go None is h = let clash : ◌≡◌ {A = Result (Found Value State) Refusal} (Err (BadReference place)) (Ok r) = h in absurd cc
-    go (Some c) is h = tested c is (is_open c.tree) around.in_lambda (nat_eq c.encoding around.encoding) refl refl refl h
+    go (Some c) is h = tested c is (is_module c.tree) (is_open c.tree) around.in_lambda (nat_eq c.encoding around.encoding) refl refl refl h
 
 referred-found : (n number : ℕ) (own : Term) (behind other : Spelling) (place : ℕ) (cs : List Component) → first_equal n own 0 cs ≡ Some number
     → referred n own behind other place cs ≡ (reference number and behind) place cs

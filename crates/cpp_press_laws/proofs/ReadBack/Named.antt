@@ -209,12 +209,12 @@ constructor-piece-reads around allowed digit place cs small chosen = record {
 }
 
 pub destructor-piece-reads : (around : Around) (allowed : Option ℕ) (digit place : ℕ) (cs : List Component) → digit < 256
-    → choose Kind.DestructorDigit digit ≡ Some Production.Mark
+    → choose Kind.ComponentAfterD digit ≡ Some Production.Mark
     → PieceReads around allowed (destructor digit) place cs (written (codes "D" ++ digit ∷ []) cs)
 unfolding begins_name kinds
 destructor-piece-reads around allowed digit place cs small chosen = record {
   names = λ k is. subst (λ j. NamesAt around allowed j (destructor digit) place cs (written (68 ∷ digit ∷ []) cs)) (sym is)
-      (destructor-name around allowed digit place cs (mark-reads Kind.DestructorDigit refl chosen small));
+      (destructor-name around allowed digit place cs (mark-reads Kind.ComponentAfterD refl chosen small));
   pieces = λ k is. absurd is;
   begins = λ h. absurd (let e : false ≡ true = h in cc);
 }

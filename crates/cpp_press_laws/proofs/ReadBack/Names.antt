@@ -4,7 +4,7 @@ use Rattle.sym_shape.specs.declared.rule.Sym.TheVariants.{Kind as OfKind}
 use Rattle.sym_shape.specs.Tree.{TakesRule}
 use Rattle.cpp_grammar.specs.declared.kind.Kind.{Kind}
 use Rattle.cpp_grammar.specs.declared.production.Production.{Production}
-use Rattle.cpp_grammar.specs.KindNumbers.{NEST, NEST_TAIL, COMPONENT, COMPONENT_AFTER_C, CONSTRUCTOR_DIGIT, DESTRUCTOR_DIGIT, ANONYMOUS, MAYBE_ARGUMENTS, ARGUMENTS_ALONE, NEST_REST, NEST_REST_ALONE, NEST_REST_OR_END, OPERATOR, OPERATOR_AFTER_C, OTHER_OPERATOR, CONSTRUCTOR_AFTER_C}
+use Rattle.cpp_grammar.specs.KindNumbers.{NEST, NEST_TAIL, COMPONENT, COMPONENT_AFTER_C, CONSTRUCTOR_DIGIT, COMPONENT_AFTER_D, ANONYMOUS, MAYBE_ARGUMENTS, ARGUMENTS_ALONE, NEST_REST, NEST_REST_ALONE, NEST_REST_OR_END, OPERATOR, OPERATOR_AFTER_C, OTHER_OPERATOR, CONSTRUCTOR_AFTER_C}
 use Rattle.cpp_grammar.specs.Grammar.{kinds, may_be_empty}
 use Rattle.cpp_grammar.specs.Table.{abi, rule_of}
 use Rattle.cpp_grammar.specs.Term.{Term, source, operator, constructor, destructor}
@@ -123,7 +123,7 @@ constructor-name around allowed digit place cs one last rest two =
     before λ began s. refl) s c q before λ began s. refl)
 
 pub destructor-name : (around : Around) (allowed : Option ℕ) (digit place : ℕ) (cs : List Component)
-    → ReadsAt around allowed (OfKind DESTRUCTOR_DIGIT) (Is (letter digit)) (place + 1) cs (written (digit ∷ []) cs)
+    → ReadsAt around allowed (OfKind COMPONENT_AFTER_D) (Is (letter digit)) (place + 1) cs (written (digit ∷ []) cs)
     → NamesAt around allowed COMPONENT (destructor digit) place cs (written (68 ∷ digit ∷ []) cs)
 unfolding grammar named_so_far
 destructor-name around allowed digit place cs one last rest two =

@@ -12,16 +12,17 @@ use Rattle.sym_link.specs.Unfold.{found}
 use Rattle.cpp_grammar.specs.declared.kind.Kind.{Kind}
 use Rattle.cpp_grammar.specs.declared.production.Production.{Production}
 use Rattle.cpp_grammar.specs.KindNumbers.{ABBREVIATION}
-use Rattle.cpp_grammar.specs.Term.{Term}
+use Rattle.cpp_grammar.specs.Term.{Term, operation}
 use Rattle.cpp_grammar.specs.Scope.{is_open}
 use Rattle.cpp_grammar.specs.Values.{Candidate, State, Around, Value, text, tree}
-use Rattle.cpp_grammar.specs.References.{with_packs, packs_in, substituted}
+use Rattle.cpp_grammar.specs.References.{with_packs, packs_in, is_module, substituted}
 use Rattle.cpp_grammar.specs.Unfolding.{opening}
 use Rattle.cpp_press_laws.specs.Same.{same_tree}
 use Rattle.cpp_press_laws.specs.Components.{Component, components_of, is_same, first_equal, seq_id}
 use Rattle.cpp_press_laws.specs.Fits.{PacksFit, MayBeReferred}
 use Rattle.cpp_press_laws.specs.Subtrees.{greatest, written, IsAllowed, ReadsAt, Is}
 use Rattle.cpp_press_laws.proofs.Components.Sameness.{equal-tree}
+use Rattle.cpp_press_laws.proofs.Components.Parts.{IsComponent}
 use Rattle.cpp_press_laws.proofs.ReadBack.Tokens.{seq_token, seq-is-token, seq-value}
 use Rattle.cpp_press_laws.proofs.ReadBack.Reading.{takes-none, number-reads, grammar, production-opened, row-of}
 
@@ -139,23 +140,33 @@ answered : (b : Bool) (place : ℕ) (m : Result State Refusal) (new : State) (t 
 answered true place m new t free goes = cc
 answered false place m new t free goes = rw goes refl
 
-reference-state : (around : Around) (allowed : Option ℕ) (place : ℕ) (own : Term) (c : Candidate) (s : State) → MayBeReferred around allowed own
-    → c.tree ≡ own
+-- a component is no module's name
+no-module : (t : Term) → IsComponent t → is_module t ≡ false
+unfolding is_module
+no-module (operation one two u w) is = absurd is
+no-module _ is = refl
+
+reference-state : (around : Around) (allowed : Option ℕ) (place : ℕ) (own : Term) (c : Candidate) (s : State) → IsComponent own
+    → MayBeReferred around allowed own → c.tree ≡ own
     → is_open own && not (nat_eq c.encoding around.encoding) ≡ false → IsAllowed allowed s.packs
     → (new : State) × (substituted around place (Some c) s ≡ Ok (found (tree own true) new)) × (new.candidates ≡ s.candidates) × IsAllowed
     allowed new.packs
 unfolding substituted
-reference-state around allowed place own c s may same scoped before =
+reference-state around allowed place own c s is may same scoped before =
     let p = packs-fit around allowed (packs_in around.scope own) place s may.packs before in
-    let free : is_open own && (around.in_lambda || not (nat_eq c.encoding around.encoding)) ≡ false = go (is_open own) around.in_lambda
-    (nat_eq c.encoding around.encoding) may.lambda scoped in (
+    let free : is_module own || (is_open own && (around.in_lambda || not (nat_eq c.encoding around.encoding))) ≡ false = neither (is_module own) _
+    (no-module own is) (go (is_open own) around.in_lambda (nat_eq c.encoding around.encoding) may.lambda scoped) in (
       p.state,
-      rw same (answered (is_open own && (around.in_lambda || not (nat_eq c.encoding around.encoding))) place
+      rw same (answered (is_module own || (is_open own && (around.in_lambda || not (nat_eq c.encoding around.encoding)))) place
           (with_packs place around.in_expansion (packs_in around.scope own) s) p.state own free p.goes),
       p.candidates,
       p.packs_are,
     )
   where
+    neither : (a b : Bool) → a ≡ false → b ≡ false → a || b ≡ false
+    neither true b one other = one
+    neither false b one other = other
+
     go : (a b d : Bool) → a && b ≡ false → a && not d ≡ false → a && (b || not d) ≡ false
     go true true d h k = cc
     go true false d h k = k
@@ -163,11 +174,11 @@ reference-state around allowed place own c s may same scoped before =
 
 -- after the S
 pub number-refers : (around : Around) (allowed : Option ℕ) (own : Term) (number place : ℕ) (cs : List Component) → length cs ≤ greatest
-    → MayBeReferred around allowed own
+    → IsComponent own → MayBeReferred around allowed own
     → IsFirst around.encoding own cs number
     → ReadsAt around allowed (OfKind ABBREVIATION) (λ v. v ≡ tree own true) place cs (written (seq_id number ++ 95 ∷ []) cs)
 unfolding grammar opening
-number-refers around allowed own number place cs few may first =
+number-refers around allowed own number place cs few is may first =
     production-opened Production.Substitution ABBREVIATION [] around allowed allowed place (λ values. values ≡ text (seq_id number) ∷ [])
     (Is (tree own true)) cs cs (Number Seq36 ∷ []) (written (seq_id number ++ 95 ∷ []) cs)
     (takes-none ABBREVIATION Kind.Abbreviation Production.Substitution 95 refl refl (omega arith) refl) refl
@@ -176,7 +187,7 @@ number-refers around allowed own number place cs few may first =
     (λ s same packs. refl)
     (λ values good began s before same packs.
     let at = candidate-at s.candidates number first.component (ap (λ l. slice_get l number) same ∙ first.there) in
-    let r = reference-state around allowed (place - 1) own at.candidate s may (at.tree_is ∙ first.same)
+    let r = reference-state around allowed (place - 1) own at.candidate s is may (at.tree_is ∙ first.same)
     (ap (λ e. is_open own && not (nat_eq e around.encoding)) at.encoding_is ∙ first.scoped) packs in
     let there : slice_get s.candidates (counted_value Seq36 (seq_id number)) ≡ Some at.candidate =
     ap (λ n. slice_get s.candidates n) (seq-value number (omega (arith, few, first.few))) ∙ at.there in

@@ -21,6 +21,7 @@ use Rattle.cpp_press_laws.proofs.ReadBack.Types.{HasTypes, types-any, types-bare
 use Rattle.cpp_press_laws.proofs.ReadBack.Functions.{rest-item, RestReads}
 use Rattle.cpp_press_laws.proofs.ReadBack.Arguments.{integer-reads}
 use Rattle.cpp_press_laws.proofs.ReadBack.Literals.{integer-literal}
+use Rattle.cpp_press_laws.proofs.Components.Parts.{IsComponent}
 use Rattle.cpp_press_laws.proofs.Components.Keeping.{Keeps, keeps-component}
 use Rattle.cpp_press_laws.specs.Fits.{Slot, any_type, bare_type, item_type, parameter_type, literal_type, IsFirst, Fitting, as_component, MayBeReferred}
 use Rattle.std.proofs.Math.Bool.{and-true}
@@ -166,12 +167,12 @@ BehindS around allowed t reads =
     → reads place cs (written (83 ∷ w.bytes) w.components)
 
 -- a component: a reference where an equal one comes before, or else its own spelling
-pub component-in : (around : Around) (allowed : Option ℕ) (own : Term) (reads : ℕ → List Component → Written → Type 0) (place : ℕ)
+pub component-in : (around : Around) (allowed : Option ℕ) (own : Term) → IsComponent own → (reads : ℕ → List Component → Written → Type 0) (place : ℕ)
     (cs : List Component) (spelling : Spelling) → BehindS around allowed own reads → length cs ≤ greatest → MayBeReferred around allowed own
     → (IsFirst around own cs → reads place cs (written (spelling place cs).bytes (more around (spelling place cs).components own)))
     → reads place cs (component around.encoding own spelling place cs)
 unfolding component reference spelled_out ended
-component-in around allowed own reads place cs spelling behind few may out = go (first_equal around.encoding own 0 cs) refl
+component-in around allowed own is_one reads place cs spelling behind few may out = go (first_equal around.encoding own 0 cs) refl
   where
     go : (o : Option ℕ) → first_equal around.encoding own 0 cs ≡ o → reads place cs (elim o as (λ _. Written) [
       | Some number ↦ reference number place cs
@@ -181,20 +182,20 @@ component-in around allowed own reads place cs spelling behind few may out = go 
         let f = found-first around.encoding own 0 number cs is in
         let named : f.0 ≡ number = omega (arith, f.1) in
         subst (λ n. reads place cs (reference n place cs)) named
-        (behind place cs (written (seq_id f.0 ++ 95 ∷ []) cs) (number-refers around allowed own f.0 (place + 1) cs few may f.2))
+        (behind place cs (written (seq_id f.0 ++ 95 ∷ []) cs) (number-refers around allowed own f.0 (place + 1) cs few is_one may f.2))
     go None is =
         subst (λ l. reads place cs (written l (more around (spelling place cs).components own))) (sym (append-nil
         (spelling place cs).bytes)) (out is)
 
 -- a component that fits
-pub fitting-in : (around : Around) (allowed : Option ℕ) (own : Term) (reads : ℕ → List Component → Written → Type 0) (place : ℕ)
+pub fitting-in : (around : Around) (allowed : Option ℕ) (own : Term) → IsComponent own → (reads : ℕ → List Component → Written → Type 0) (place : ℕ)
     (cs : List Component) (spelling : Spelling) (spelled : Fitting) → BehindS around allowed own reads
     → Keeps spelling
     → HasRoom (component around.encoding own spelling place cs) → as_component own spelled around allowed place cs
     → (spelled around allowed place cs → HasRoom (spelling place cs)
     → reads place cs (written (spelling place cs).bytes (more around (spelling place cs).components own)))
     → reads place cs (component around.encoding own spelling place cs)
-fitting-in around allowed own reads place cs spelling spelled behind keeps room fits out =
-    component-in around allowed own reads place cs spelling behind
+fitting-in around allowed own is reads place cs spelling spelled behind keeps room fits out =
+    component-in around allowed own is reads place cs spelling behind
     (few-before (component around.encoding own spelling) place cs (keeps-component around.encoding own spelling keeps) room) fits.0
     (λ none. out (fits.1 none) (room-component around.encoding own spelling place cs none room))

@@ -20,6 +20,7 @@ use Rattle.cpp_press_laws.proofs.ReadBack.Reading.{takes-byte, elsewhere, gramma
 use Rattle.cpp_press_laws.proofs.ReadBack.References.{found-first, number-refers}
 use Rattle.cpp_press_laws.proofs.ReadBack.Functions.{IsInScope, parameter-parts}
 use Rattle.cpp_press_laws.proofs.ReadBack.Encodings.{abbreviated-name, type-with-arguments}
+use Rattle.cpp_press_laws.proofs.Components.Parts.{IsComponent}
 use Rattle.cpp_press_laws.proofs.Components.Keeping.{Keeps, keeps-referred}
 use Rattle.cpp_press_laws.proofs.ReadBack.Slots.{room-rest, few-before}
 use Rattle.cpp_press_laws.proofs.ReadBack.Named.{NameRule, type-rule, literal-type-rule}
@@ -148,7 +149,7 @@ elements-room first elements place cs room =
     }
 
 -- A template name that fits before arguments: they come after a reference, or after its spelling.
-pub template-reads : (typed : Bool) (k : ℕ) (around : Around) (allowed : Option ℕ) (t : Term) → TemplateKind typed k → (place : ℕ)
+pub template-reads : (typed : Bool) (k : ℕ) (around : Around) (allowed : Option ℕ) (t : Term) → IsComponent t → TemplateKind typed k → (place : ℕ)
     (cs : List Component) (spelled : Fitting) (front : ℕ → Spelling) (arguments : Fitting) (elements other : Spelling) (items : Term)
     (last : Value)
     (R : Written → Type 0)
@@ -159,7 +160,7 @@ pub template-reads : (typed : Bool) (k : ℕ) (around : Around) (allowed : Optio
     → (IsFirst around t cs → HasRoom (other place cs) → R (other place cs))
     → R (referred around.encoding t (of_elements elements) other place cs)
 unfolding referred reference
-template-reads typed k around allowed t kind place cs spelled front arguments elements other items last R from are reads keeps kept
+template-reads typed k around allowed t is_one kind place cs spelled front arguments elements other items last R from are reads keeps kept
     room fits out =
     go (first_equal around.encoding t 0 cs) refl room
     (few-before (referred around.encoding t (of_elements elements) other) place cs (keeps-referred around.encoding t _ other keeps kept) room)
@@ -179,7 +180,7 @@ template-reads typed k around allowed t kind place cs spelled front arguments el
         let args : Written = elements (place + length (reference number place cs).bytes + 1) cs in
         from _ (subst (λ n. InstancedAt around allowed k t place cs (reference n place cs)) named
         (instanced-behind-s typed k around allowed t kind place cs (written (seq_id f.0 ++ 95 ∷ []) cs)
-        (number-refers around allowed t f.0 (place + 1) cs few fits.0 f.2))
+        (number-refers around allowed t f.0 (place + 1) cs few is_one fits.0 f.2))
         items last args are
         (reads (place + length (reference number place cs).bytes) cs (fits.1 number is)
         (elements-room (reference number) elements place cs enough)))

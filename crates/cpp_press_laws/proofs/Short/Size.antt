@@ -1,7 +1,7 @@
 -- How many bytes a tree takes where it is spelled out, if each component in it is a reference of eight bytes.
 use Rattle.std.proofs.Common.{ℕ, ◌+◌, ◌-◌, ◌≤◌, length, List, [], ◌∷◌, arith}
 use Rattle.std.specs.Prelude.{cond}
-use Rattle.cpp_grammar.specs.Term.{Term, symbol, function, object, special, thunk, of_name, construction, clone, alone, in_std, within, instance, local, holder, tagged, abbreviation, parameter, source, operator, literal_operator, constructor, destructor, lambda, unnamed, string_literal, conversion, builtin, sized_float, vendor, pointer, lvalue, rvalue, array, member_pointer, function_type, qualified, vector, complex, expansion, integer, boolean, null_pointer, encoding_literal, address_of, pack, list, generic_lambda}
+use Rattle.cpp_grammar.specs.Term.{Term, symbol, function, object, special, thunk, of_name, construction, clone, alone, in_std, within, instance, local, holder, tagged, abbreviation, parameter, source, operator, literal_operator, constructor, destructor, lambda, unnamed, string_literal, conversion, builtin, sized_float, vendor, pointer, lvalue, rvalue, array, member_pointer, function_type, qualified, vector, complex, expansion, integer, boolean, null_pointer, encoding_literal, address_of, pack, list, generic_lambda, enumeration}
 use Rattle.cpp_grammar.specs.References.{is_function_type}
 use Rattle.cpp_grammar.specs.Meaning.{is_nil}
 use Rattle.cpp_grammar.proofs.Chosen.{either_cond}
@@ -61,6 +61,7 @@ size (generic_lambda parameters number) = 3 + with_void parameters (size paramet
 size (unnamed k) = 2 + length (ordinal (k - 1))
 size string_literal = 1
 size (conversion type) = 2 + part_of type (size type)
+size (enumeration type name) = 2 + part_of type (size type) + length (counted name)
 size (builtin code) = 1 + length code
 size (sized_float digits end) = 3 + length digits
 size (vendor name) = 1 + length (counted name)

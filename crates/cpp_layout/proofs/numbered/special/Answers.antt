@@ -6,4 +6,4 @@ use Rattle.cpp_layout.proofs.Coding.{any_of, no_special}
 use Rattle.cpp_layout.proofs.numbered.special.Goals as goal
 
 pub returns-in_default-clause-text : goal.returns-in_default-clause-text
-returns-in_default-clause-text c = no_special c.args.letter (omega (arith, c.ranges.letter.fits)) (let n : any_of special_letters c.args.letter ≡ false = rw (ne_eqb c.args.letter 86 (omega (arith, c.in_default)), ne_eqb c.args.letter 84 (omega (arith, c.in_default)), ne_eqb c.args.letter 73 (omega (arith, c.in_default)), ne_eqb c.args.letter 83 (omega (arith, c.in_default)), ne_eqb c.args.letter 65 (omega (arith, c.in_default))) refl in n)
+returns-in_default-clause-text c = no_special c.args.letter (omega (arith, c.ranges.letter.fits)) (let n : any_of special_letters c.args.letter ≡ false = rw (ne_eqb c.args.letter 86 (omega (arith, c.in_default)), ne_eqb c.args.letter 84 (omega (arith, c.in_default)), ne_eqb c.args.letter 73 (omega (arith, c.in_default)), ne_eqb c.args.letter 83 (omega (arith, c.in_default)), ne_eqb c.args.letter 65 (omega (arith, c.in_default)), ne_eqb c.args.letter 77 (omega (arith, c.in_default))) refl in n)

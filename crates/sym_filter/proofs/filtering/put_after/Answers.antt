@@ -1,7 +1,7 @@
 use Rattle.sym_filter.proofs.StreamLemmas.{PutsFront-of, PutsFront-more, stays-more, stays-front, IfErr-from_and}
 use Rattle.sym_filter.proofs.filtering.put_after.Goals as goal
 use Rattle.std.proofs.Common.{[], cond, sym, ◌∙◌}
-use Rattle.std.proofs.lemmas.Bool.{not-false}
+use Rattle.std.proofs.lemmas.Bool.{not-false, not-true}
 
 pub returns-in_err-write_dots-clause-err : goal.returns-in_err-write_dots-clause-err
 returns-in_err-write_dots-clause-err g c =
@@ -20,3 +20,9 @@ returns-in_err-write_when_full-clause-err g c =
 pub returns-clause-ok : goal.returns-clause-ok
 returns-clause-ok g c =
     stays-more _ _ _ _ _ c.extend_from_slice.new.self.items _ _ _ c.args.taken.stay (not-false c.args.taken.stay c.if-not-taken.false) c.in_ok-write_dots.ensures.ok c.in_ok-extend_from_slice.ensures.items c.in_ok-write_when_full.ensures.ok
+
+pub returns-then-not-taken-clause-few_wait : goal.returns-then-not-taken-clause-few_wait
+returns-then-not-taken-clause-few_wait g c = λ few. c.in_ok-write_dots.ensures.few_wait (few (not-true c.args.taken.stay c.if-not-taken.true))
+
+pub returns-clause-few_wait : goal.returns-clause-few_wait
+returns-clause-few_wait g c = λ _. c.in_ok-write_when_full.ensures.few_wait

@@ -3,7 +3,7 @@ use Rattle.std.proofs.lemmas.List.{append-nil, take_all, length-drop}
 use Rattle.sym_filter.specs.Carried.{rest_of_text, TakesText}
 use Rattle.sym_filter.proofs.CarryLemmas.{TakesText-join, text-bytes}
 use Rattle.sym_filter.proofs.WordLemmas.{slice_from}
-use Rattle.sym_filter.proofs.StreamLemmas.{Appends-none, Puts-join, Puts-same, PutsFront-more, PutsFront-join, PutsFront-same, take-part, IfErr-from_and}
+use Rattle.sym_filter.proofs.StreamLemmas.{Appends-none, few-still, Puts-join, Puts-same, PutsFront-more, PutsFront-join, PutsFront-same, take-part, IfErr-from_and}
 use Rattle.sym_filter.specs.CarriedEntries.{TakesTextEntries, entries_in_rest}
 use Rattle.sym_filter.specs.Entries.{Entry}
 use Rattle.sym_filter.proofs.TextEntryLemmas.{TakesTextEntries-join, text-entries}
@@ -13,6 +13,7 @@ pub loop-at-init : goal.loop-at-init
 loop-at-init g c = record {
   bytes = [];
   entries = [];
+  few = few-still [] c.args.out.now.items c.requires.nothing_waits (omega arith);
   within = omega arith;
   takes = record {
     text = λ more. refl;
@@ -38,6 +39,7 @@ loop-at-preserved g c =
     let took = c.in_ok-count.ensures in record {
       bytes = so_far.bytes ++ took.ok.0;
       entries = so_far.entries ++ took.tells.0;
+      few = took.few_wait;
       within = omega (arith, so_far.within, took.within.1, ap length (slice_from piece at), length-drop at piece);
       takes = subst (λ (t : List ℕ). TakesText answers c.args.words.now c.take_segment.new.words c.args.escape.now c.take_segment.new.escape t (so_far.bytes ++ took.ok.0)) (sym (take-part piece at count)) (TakesText-join answers _ _ _ _ _ _ (take at piece) (take count rest) so_far.bytes took.ok.0 so_far.takes took.ok.1);
       puts = Puts-join _ _ _ [] c.loop-at.out.items c.take_segment.new.out.items so_far.bytes took.ok.0 so_far.puts took.ok.2;

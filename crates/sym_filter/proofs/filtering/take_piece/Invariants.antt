@@ -1,14 +1,16 @@
-use Rattle.std.proofs.Common.{◌≡◌, ◌≤◌, ◌-◌, List, [], ℕ, length, take}
+use Rattle.std.proofs.Common.{◌≡◌, ◌≤◌, ◌<◌, ◌-◌, List, [], ℕ, length, take}
 use Rattle.sym_filter.specs.Carried.{TakesText}
 use Rattle.sym_filter.specs.CarriedEntries.{TakesTextEntries}
 use Rattle.sym_filter.specs.Entries.{Entry}
 use Rattle.sym_filter.specs.Streams.{Puts}
+use Rattle.sym_filter.specs.declared.filtering.TheConstants.{READ_SIZE}
 use Rattle.sym_filter.proofs.filtering.take_piece.Given as goal
 
 abbrev pub invariant-loop-at : goal.invariant-loop-at
 invariant-loop-at g l = record {
   bytes : List ℕ;
   entries : List Entry;
+  few : length l.out.items < READ_SIZE;
   within : l.at ≤ length l.piece;
   takes : TakesText (g.D.Demangler.answer l.demangler) l.fn.words l.words l.fn.escape l.escape (take l.at l.piece) bytes;
   puts : Puts (g.W.Sink.taken l.fn.writer) (g.W.Sink.taken l.writer) [] l.out.items bytes;

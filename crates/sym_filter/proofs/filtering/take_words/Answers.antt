@@ -2,7 +2,7 @@ use Rattle.std.proofs.Common.{◌≡◌, refl, [], ◌+◌, ◌-◌, ◌++◌, �
 use Rattle.std.proofs.lemmas.List.{append-nil, take_all, length-drop}
 use Rattle.sym_filter.specs.Words.{rest_after, following, Takes}
 use Rattle.sym_filter.proofs.WordLemmas.{slice_from, Takes-join}
-use Rattle.sym_filter.proofs.StreamLemmas.{Appends-none, Puts-push, Puts-join, PutsFront-of, PutsFront-more, PutsFront-join, PutsFront-same, rest-bytes, take-part, IfErr-from_and}
+use Rattle.sym_filter.proofs.StreamLemmas.{few-still, Appends-none, Puts-push, Puts-join, PutsFront-of, PutsFront-more, PutsFront-join, PutsFront-same, rest-bytes, take-part, IfErr-from_and}
 use Rattle.sym_filter.specs.CarriedEntries.{TakesEntries, entries_after}
 use Rattle.sym_filter.specs.Entries.{Entry, left_at_end, newlines_in}
 use Rattle.sym_filter.proofs.EntryLemmas.{TakesEntries-join, entries-rest}
@@ -13,6 +13,7 @@ pub loop-at-init : goal.loop-at-init
 loop-at-init g c = record {
   bytes = [];
   entries = [];
+  few = c.requires.few_wait;
   within = omega arith;
   takes = record {
     text = λ more. refl;
@@ -45,6 +46,7 @@ loop-at-preserved g c =
     let put = c.in_ok-put_after.ensures in record {
       bytes = so_far.bytes ++ (takes.0 ++ follows);
       entries = so_far.entries ++ (left ++ lines);
+      few = put.few_wait (λ held. few-still c.loop-at.out.items c.take.new.out.items (c.in_ok-taken.ensures.held held) so_far.few);
       within = omega (arith, so_far.within, c.in_ok-taken.ensures.within.1, ap length (slice_from piece at), length-drop at piece);
       takes = subst (λ (t : List ℕ). Takes answers c.args.words.now c.take.new.self t (so_far.bytes ++ (takes.0 ++ follows))) (sym (take-part piece at count)) (Takes-join answers _ _ _ (take at piece) (take count rest) so_far.bytes (takes.0 ++ follows) so_far.takes takes.2);
       puts = Puts-join _ _ _ out c.loop-at.out.items c.put_after.new.out.items so_far.bytes (takes.0 ++ follows) so_far.puts (Puts-join _ _ _ c.loop-at.out.items c.take.new.out.items c.put_after.new.out.items takes.0 follows (Puts-push _ c.loop-at.out.items c.take.new.out.items takes.0 takes.1) put.ok);

@@ -7,6 +7,7 @@ loop-preserved g c =
     let so_far = c.loop.invariant in
     let wrote = c.in_ok-write_when_full.ensures in record {
       puts = dots-more _ _ _ _ _ c.push.new.self.items _ c.loop.counter so_far.puts c.in_ok-push.ensures.items wrote.ok;
+      few = λ _. wrote.few_wait;
       failures = wrote.failures ∙ add-zero _ ∙ so_far.failures;
     }
 

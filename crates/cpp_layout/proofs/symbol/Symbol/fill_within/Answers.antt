@@ -23,4 +23,4 @@ unfolding piece_of within_parts reargued
 returns-in-Destructor-clause-shows g c = fills c.args.self.now c.args.ctx.detail _ _ _ c.fill_structor-in-Destructor.ensures.shows (ap (λ p. within_parts (context_of c.args.ctx) (tree_shown c.args.self.now c.args.ctx c.args.prefix) (piece_shown c.args.self.now c.args.ctx p)) (sym c.in-Destructor.is))
 
 pub returns-in_default-clause-shows : goal.returns-in_default-clause-shows
-returns-in_default-clause-shows g c = fills c.args.self.now c.args.ctx.detail _ _ _ c.fill_nested.ensures.shows (within-other _ _ _ _ _ _ c.args.piece c.requires.own c.in_default.not-Constructor c.in_default.not-Inheriting c.in_default.not-Destructor)
+returns-in_default-clause-shows g c = fills c.args.self.now c.args.ctx.detail _ _ _ c.fill_component.ensures.shows (within-other _ _ _ _ _ _ c.args.piece c.requires.own c.in_default.not-Constructor c.in_default.not-Inheriting c.in_default.not-Destructor)

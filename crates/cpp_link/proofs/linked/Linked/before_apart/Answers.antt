@@ -25,6 +25,9 @@ use Rattle.cpp_link.proofs.linked.Linked.before_apart.Goals as goal
 pub step_apart-requires-clause-table : goal.step_apart-requires-clause-table
 step_apart-requires-clause-table c = c.requires.open.at.holds.table
 
+pub step_apart-requires-clause-candidates : goal.step_apart-requires-clause-candidates
+step_apart-requires-clause-candidates c = c.requires.open.at.holds.there
+
 pub step_apart-requires-clause-apart : goal.step_apart-requires-clause-apart
 step_apart-requires-clause-apart c =
     let frame = c.args.frame.now in
@@ -39,7 +42,7 @@ returns-in_err-step c =
     let parts = c.args.parts.now.items in
     let e = c.in_err-step.field-0.0 in
     refused_advances (wide_view s) s old old frame c.args.parts.now c.args.parts.now (same_room old old refl refl) (omega arith) c.from_residual.result e c.from_residual.ensures.1
-    (refused_right (linked_wide s) between_wide (wide_reads s) s old frame parts _ c.production_of-production.result (rw c.deref.ensures.value (rest_all parts frame.base)) c.production_of-production.ensures old parts e c.in_err-step.ensures.refused)
+    (refused_right (linked_wide s) between_wide (wide_reads s) s old frame parts _ c.production_of-production.result (rw c.deref.ensures.value (rest_all parts frame.base)) c.production_of-production.ensures old parts e (c.in_err-step.ensures.refused (state_of s old) refl))
     (omega arith) (λ memory. absurd (c.in_err-step.ensures.bad memory))
 
 pub take_step-requires-clause-there : goal.take_step-requires-clause-there
@@ -112,5 +115,5 @@ returns c =
     (c.in_ok-then.ensures.few (production_at frame.rule) of (λ is none. absurd (no_pack (production_at frame.rule) _ _ c.requires.apart is))) c.in_ok-then.ensures.more
     (made_before_part s old frame parts own production (nodes_of_step c.in_ok-step.step) same c.production_of-production.ensures c.in_ok-step.ensures.makes)
     (goes_right (linked_wide s) between_wide (wide_reads s) s old frame parts own production same c.production_of-production.ensures mid new.candidates new_parts c.in_ok-step.step c.in_ok-then.then
-    (going_marked production (around_of (trees_in s old.nodes) frame.kept)) (wide_between_closed production _ _ _ _) c.in_ok-step.ensures.is takes c.in_ok-append_again.ensures.there
+    (going_marked production (around_of (trees_in s old.nodes) frame.kept)) (wide_between_closed production _ _ _ _) (c.in_ok-step.ensures.is (state_of s old) refl) takes c.in_ok-append_again.ensures.there
     (marking_is production (around_of (trees_in s old.nodes) frame.kept) _ _ marked)))

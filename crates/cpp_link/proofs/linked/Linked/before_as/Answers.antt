@@ -4,6 +4,7 @@ use Rattle.cpp_grammar.specs.Unfolding.{production_at}
 use Rattle.cpp_link.specs.declared.part.Part.{Part}
 use Rattle.cpp_term.specs.Between.{between}
 use Rattle.cpp_link.specs.LinkReading.{linked}
+use Rattle.cpp_link.specs.Making.{state_of}
 use Rattle.cpp_link.specs.Stepping.{nodes_of_step}
 use Rattle.cpp_link.specs.View.{cpp_view}
 use Rattle.cpp_link.proofs.NodeCount.{made_before_part}
@@ -27,7 +28,7 @@ returns-in_err-step c =
     let parts = c.args.parts.now.items in
     let e = c.in_err-step.field-0.0 in
     refused_advances (cpp_view s) s old old frame c.args.parts.now c.args.parts.now (same_room old old refl refl) (omega arith) c.from_residual.result e c.from_residual.ensures.1
-    (refused_right (linked s) between (plain_reads s) s old frame parts _ c.args.production (rw c.deref.ensures.value (rest_all parts frame.base)) c.requires.numbered old parts e c.in_err-step.ensures.refused)
+    (refused_right (linked s) between (plain_reads s) s old frame parts _ c.args.production (rw c.deref.ensures.value (rest_all parts frame.base)) c.requires.numbered old parts e (c.in_err-step.ensures.refused (state_of s old)))
     (omega arith) (λ memory. absurd (c.in_err-step.ensures.bad memory))
 
 pub take_step-requires-clause-there : goal.take_step-requires-clause-there
@@ -68,4 +69,4 @@ returns c =
     (c.in_ok-then.ensures.few (production_at frame.rule) of (λ is none. c.in_ok-step.ensures.pack (c.requires.numbered ∙ is) (same ∙ none))) c.in_ok-then.ensures.more
     (made_before_part s old frame parts own c.args.production (nodes_of_step c.in_ok-step.step) same c.requires.numbered c.in_ok-step.ensures.makes)
     (goes_right (linked s) between (plain_reads s) s old frame parts own c.args.production same c.requires.numbered new new.candidates c.take_step.new.parts.items c.in_ok-step.step c.in_ok-then.then (λ g. g)
-    (between_closed c.args.production _ _ _ _) c.in_ok-step.ensures.is c.in_ok-then.ensures.takes c.in_ok-then.ensures.takes.candidates refl)
+    (between_closed c.args.production _ _ _ _) (c.in_ok-step.ensures.is (state_of s old)) c.in_ok-then.ensures.takes c.in_ok-then.ensures.takes.candidates refl)

@@ -16,3 +16,4 @@ unreachable-requires c = applied_name c.args.production c.requires.family
     c.in_default.not-Destructor
     c.in_default.not-StdName
     c.in_default.not-AbbreviatedName
+    c.in_default.not-BindingName

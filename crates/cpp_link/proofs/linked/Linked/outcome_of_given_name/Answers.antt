@@ -16,5 +16,11 @@ unreachable-requires c = given_name c.args.production c.requires.family
     c.in_default.not-NestArguments
     c.in_default.not-NestInstance
     c.in_default.not-Holder
+    c.in_default.not-InModule
+    c.in_default.not-InNamedModule
+    c.in_default.not-NestModule
+    c.in_default.not-FirstModule
+    c.in_default.not-NamedModule
+    c.in_default.not-MoreModule
     c.in_default.not-ComponentWithC
     c.in_default.not-AnyConstructor

@@ -24,5 +24,6 @@ unreachable-requires c = operands c.args.production c.requires.family
     c.in_default.not-Designators
     c.in_default.not-DesignatedValue
     c.in_default.not-FieldName
+    c.in_default.not-BoundNames
     c.in_default.not-New
     c.in_default.not-Placed

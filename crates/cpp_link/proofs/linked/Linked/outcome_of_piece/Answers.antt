@@ -21,5 +21,7 @@ unreachable-requires c = piece c.args.production c.requires.family
     c.in_default.not-OperatorL
     c.in_default.not-LiteralOperator
     c.in_default.not-Conversion
+    c.in_default.not-Enumeration
+    c.in_default.not-Bindings
     c.in_default.not-Lambda
     c.in_default.not-Unnamed

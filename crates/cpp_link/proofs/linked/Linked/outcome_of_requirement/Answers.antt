@@ -8,7 +8,6 @@ unreachable-requires c = requirement c.args.production c.requires.family
     c.in_default.not-RequiresOf
     c.in_default.not-RequiredType
     c.in_default.not-ExpressionRequirement
-    c.in_default.not-NoexceptRequirement
     c.in_default.not-ResultRequirement
     c.in_default.not-TypeRequirement
     c.in_default.not-NestedRequirement

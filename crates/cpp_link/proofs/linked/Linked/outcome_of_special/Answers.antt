@@ -10,4 +10,5 @@ unreachable-requires c = special c.args.production c.requires.family
     c.in_default.not-Temporary
     c.in_default.not-OtherSpecial
     c.in_default.not-Clone
+    c.in_default.not-ModuleInitializer
     c.in_default.not-ConstructionVtable

@@ -1,22 +1,26 @@
-use Rattle.std.proofs.Common.{◌≡◌, sym, ◌∙◌, ap, subst, Bool, [], ◌∷◌, length}
+use Rattle.std.proofs.Common.{◌≡◌, sym, ◌∙◌, ap, subst, arith, ℕ, Bool, [], ◌∷◌, length, Some, None, Err}
+use Rattle.std.specs.Prelude.{MatchOption}
 use Rattle.sym_core.specs.Value.{counted_value}
-use Rattle.sym_core.specs.declared.NumberKind.TheVariants.{Decimal}
-use Rattle.cpp_term.specs.Rescoping.{is_instance, between_wide}
+use Rattle.sym_core.specs.declared.NumberKind.TheVariants.{Decimal, Seq36}
+use Rattle.sym_core.specs.declared.refusal.Refusal.TheVariants.{BadReference}
+use Rattle.cpp_term.specs.Between.{Going}
+use Rattle.cpp_term.specs.Rescoping.{is_instance, module_named, between_wide}
 use Rattle.cpp_term.specs.Values.{Value}
-use Rattle.cpp_tree.specs.Nodes.{bytes_at}
+use Rattle.cpp_tree.specs.Nodes.{bytes_at, tree_at}
 use Rattle.cpp_tree.specs.declared.node.Node.{Node}
 use Rattle.cpp_link.specs.LinkRescoping.{generic_read}
 use Rattle.cpp_link.specs.Parts.{trees_in, values_in, is_lambda, around_of}
 use Rattle.cpp_link.specs.Reads.{goes_on}
 use Rattle.cpp_link.specs.Stepping.{IsStepOf}
 use Rattle.cpp_link.proofs.Held.{held_second, base_first, held_read, held_refused, base_read, held_makes, base_makes, held_step}
+use Rattle.cpp_link.proofs.Modules.{module_second, module_read, module_refused, module_makes}
 use Rattle.cpp_link.proofs.Places.{values_length}
 use Rattle.cpp_link.proofs.Rescoped.{apart_generic, going_unmarked, generic_is}
 use Rattle.cpp_link.proofs.linked.Linked.step_apart.Goals as goal
 
 pub returns-then-is_instance-clause-refused : goal.returns-then-is_instance-clause-refused
 unfolding around_of
-returns-then-is_instance-clause-refused c state =
+returns-then-is_instance-clause-refused c state counted =
     let s = c.args.symbol.now in
     let y = c.args.self.now.nodes in
     let one = held_second c.args.production (is_lambda c.args.kept.scope) (length c.args.parts.now) c.in-Holder.is c.requires.apart in
@@ -25,7 +29,7 @@ returns-then-is_instance-clause-refused c state =
     (values_length s (trees_in s y) c.args.parts.now ∙ one) (ap is_instance (sym c.prefix_node-name.ensures.is) ∙ sym c.is_instance.ensures ∙ c.if-is_instance.true)
 
 pub returns-else-is_instance-clause-is : goal.returns-else-is_instance-clause-is
-returns-else-is_instance-clause-is c state =
+returns-else-is_instance-clause-is c state counted =
     let s = c.args.symbol.now in
     let y = c.args.self.now.nodes in
     let one = held_second c.args.production (is_lambda c.args.kept.scope) (length c.args.parts.now) c.in-Holder.is c.requires.apart in
@@ -45,7 +49,7 @@ returns-else-is_instance-clause-makes c =
     rw (c.in-Holder.is, c.listed_name.ensures) (held_makes (values_in s y c.args.parts.now) (values_length s (trees_in s y) c.args.parts.now ∙ one))
 
 pub returns-in-HeldArguments-clause-is : goal.returns-in-HeldArguments-clause-is
-returns-in-HeldArguments-clause-is c state =
+returns-in-HeldArguments-clause-is c state counted =
     let s = c.args.symbol.now in
     let y = c.args.self.now.nodes in
     let none = base_first c.args.production (is_lambda c.args.kept.scope) (length c.args.parts.now) c.in-HeldArguments.is c.requires.apart in
@@ -60,25 +64,57 @@ returns-in-HeldArguments-clause-makes c =
     rw c.in-HeldArguments.is (base_makes (values_in s y c.args.parts.now) (values_length s (trees_in s y) c.args.parts.now ∙ none))
 
 pub returns-in_default-clause-is : goal.returns-in_default-clause-is
-returns-in_default-clause-is c state =
+returns-in_default-clause-is c state counted =
     let s = c.args.symbol.now in
     let y = c.args.self.now.nodes in
-    let own = apart_generic c.args.production (is_lambda c.args.kept.scope) (length c.args.parts.now) c.requires.apart c.in_default.not-Holder c.in_default.not-HeldArguments in
+    let own = apart_generic c.args.production (is_lambda c.args.kept.scope) (length c.args.parts.now) c.requires.apart c.in_default.not-Holder c.in_default.not-HeldArguments c.in_default.not-NamedModule in
     let Reads : Bool → Value → Type 0 = λ b v.
-    generic_read b (around_of (trees_in s y) c.args.kept) (counted_value Decimal (bytes_at s c.text-digits.result)) (record state { packs = c.args.self.now.packs })
+    generic_read b (around_of (trees_in s y) c.args.kept) (counted_value Decimal (bytes_at s c.text-digits-in_default.result)) (record state { packs = c.args.self.now.packs })
     ≡ goes_on s y c.args.kept (v ∷ []) state c.args.self.now.packs c.generic.result in
-    generic_is s y c.args.kept c.args.production c.args.place c.args.parts.now (bytes_at s c.text-digits.result) state c.args.self.now.packs c.generic.result
-    own.0 own.1.0 own.1.1 c.text-digits.ensures.is (λ v. subst (λ b. Reads b v) c.is_parameter_argument-is_argument.ensures (c.generic.ensures.is v state))
+    generic_is s y c.args.kept c.args.production c.args.place c.args.parts.now (bytes_at s c.text-digits-in_default.result) state c.args.self.now.packs c.generic.result
+    own.0 own.1.0 own.1.1 c.text-digits-in_default.ensures.is (λ v. subst (λ b. Reads b v) c.is_parameter_argument-is_argument.ensures (c.generic.ensures.is v state))
     ∙ sym (going_unmarked c.args.production (around_of (trees_in s y) c.args.kept) _ c.in_default.not-Holder c.in_default.not-HeldArguments)
 
 pub returns-in_default-clause-of : goal.returns-in_default-clause-of
 returns-in_default-clause-of c =
-    let own = apart_generic c.args.production (is_lambda c.args.kept.scope) (length c.args.parts.now) c.requires.apart c.in_default.not-Holder c.in_default.not-HeldArguments in
+    let own = apart_generic c.args.production (is_lambda c.args.kept.scope) (length c.args.parts.now) c.requires.apart c.in_default.not-Holder c.in_default.not-HeldArguments c.in_default.not-NamedModule in
     subst (λ n. IsStepOf c.args.production n c.generic.result) (sym own.1.1) (c.generic.ensures.of c.args.production own.0)
 
 pub returns-in_default-clause-makes : goal.returns-in_default-clause-makes
 returns-in_default-clause-makes c =
     let s = c.args.symbol.now in
     let y = c.args.self.now.nodes in
-    let own = apart_generic c.args.production (is_lambda c.args.kept.scope) (length c.args.parts.now) c.requires.apart c.in_default.not-Holder c.in_default.not-HeldArguments in
+    let own = apart_generic c.args.production (is_lambda c.args.kept.scope) (length c.args.parts.now) c.requires.apart c.in_default.not-Holder c.in_default.not-HeldArguments c.in_default.not-NamedModule in
     c.generic.ensures.makes c.args.production (values_in s y c.args.parts.now) own.0 (values_length s (trees_in s y) c.args.parts.now ∙ own.1.1)
+
+pub returns-in-Some-clause-is : goal.returns-in-Some-clause-is
+returns-in-Some-clause-is c state counted =
+    let s = c.args.symbol.now in
+    let y = c.args.self.now.nodes in
+    let one = module_second c.args.production (is_lambda c.args.kept.scope) (length c.args.parts.now) c.in-NamedModule.is c.requires.apart in
+    let named = subst (λ o. MatchOption o (module_named (counted_value Seq36 (bytes_at s c.text-digits.result)) state ≡ None)
+    (λ node. module_named (counted_value Seq36 (bytes_at s c.text-digits.result)) state ≡ Some (tree_at (trees_in s y) node))) c.in-Some.is (c.named_module.ensures.is state counted) in
+    rw c.in-NamedModule.is (module_read s y c.args.kept c.args.place (values_in s y c.args.parts.now) state c.args.self.now.packs (bytes_at s c.text-digits.result) c.in-Some.node
+    (values_length s (trees_in s y) c.args.parts.now ∙ one) c.text-digits.ensures.is named)
+
+pub returns-in-Some-clause-of : goal.returns-in-Some-clause-of
+returns-in-Some-clause-of c =
+    let one = module_second c.args.production (is_lambda c.args.kept.scope) (length c.args.parts.now) c.in-NamedModule.is c.requires.apart in
+    omega (arith, one)
+
+pub returns-in-Some-clause-makes : goal.returns-in-Some-clause-makes
+returns-in-Some-clause-makes c =
+    let s = c.args.symbol.now in
+    let y = c.args.self.now.nodes in
+    let one = module_second c.args.production (is_lambda c.args.kept.scope) (length c.args.parts.now) c.in-NamedModule.is c.requires.apart in
+    rw c.in-NamedModule.is (module_makes (values_in s y c.args.parts.now) (values_length s (trees_in s y) c.args.parts.now ∙ one))
+
+pub returns-in_default-named_module-clause-refused : goal.returns-in_default-named_module-clause-refused
+returns-in_default-named_module-clause-refused c state counted =
+    let s = c.args.symbol.now in
+    let y = c.args.self.now.nodes in
+    let one = module_second c.args.production (is_lambda c.args.kept.scope) (length c.args.parts.now) c.in-NamedModule.is c.requires.apart in
+    let refused : ℕ → Going = λ place. Err (BadReference place) in
+    ap (λ p. between_wide p (around_of (trees_in s y) c.args.kept) c.args.place (values_in s y c.args.parts.now) (record state { packs = c.args.self.now.packs })) c.in-NamedModule.is
+    ∙ module_refused (around_of (trees_in s y) c.args.kept) c.args.place (values_in s y c.args.parts.now) state c.args.self.now.packs (bytes_at s c.text-digits.result)
+    (values_length s (trees_in s y) c.args.parts.now ∙ one) c.text-digits.ensures.is (c.in_default-named_module.ensures.is state counted) ∙ ap refused (sym c.saturating_sub-at.ensures)

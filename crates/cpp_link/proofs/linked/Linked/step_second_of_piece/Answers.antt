@@ -48,6 +48,15 @@ returns-in-OperatorName c =
     c.prefix-in-OperatorName.result c.piece_in-in-OperatorName.result (values.piece_of v) c.in-OperatorName.is c.named-in-OperatorName.ensures (λ around state. refl)
     c.prefix-in-OperatorName.ensures c.piece_in-in-OperatorName.ensures.is c.extended-in-OperatorName.ensures.is c.extended-in-OperatorName.ensures.there refl refl
 
+pub returns-in-BindingName : goal.returns-in-BindingName
+unfolding between named_so_far extended piece_of made_before makes_before
+returns-in-BindingName c =
+    let ts = trees_in c.args.symbol.now c.args.self.now.nodes in
+    let v = value_in c.args.symbol.now c.args.self.now.nodes c.args.first in
+    piece_behind c.args.symbol.now c.args.self.now c.args.place c.args.kept v c.args.production Production.BindingName c.named-in-BindingName.result c.extended-in-BindingName.result
+    c.prefix-in-BindingName.result c.piece_in-in-BindingName.result (values.piece_of v) c.in-BindingName.is c.named-in-BindingName.ensures (λ around state. refl)
+    c.prefix-in-BindingName.ensures c.piece_in-in-BindingName.ensures.is c.extended-in-BindingName.ensures.is c.extended-in-BindingName.ensures.there refl refl
+
 pub returns-in-NestInternal : goal.returns-in-NestInternal
 unfolding between named_so_far extended piece_of made_before makes_before
 returns-in-NestInternal c =
@@ -81,8 +90,8 @@ returns-in-Destructor c =
     let ts = trees_in c.args.symbol.now c.args.self.now.nodes in
     let v = value_in c.args.symbol.now c.args.self.now.nodes c.args.first in
     piece_behind c.args.symbol.now c.args.self.now c.args.place c.args.kept v c.args.production Production.Destructor c.named-in-Destructor.result c.extended-in-Destructor.result
-    c.prefix-in-Destructor.result (Piece.Destructor c.letter_of.result) (term.destructor (values.letter_of v)) c.in-Destructor.is c.named-in-Destructor.ensures (λ around state. refl)
-    c.prefix-in-Destructor.ensures (ap (λ x. term.destructor x) (c.letter_of.ensures c.args.symbol.now ts)) c.extended-in-Destructor.ensures.is c.extended-in-Destructor.ensures.there refl refl
+    c.prefix-in-Destructor.result c.piece_in-in-Destructor.result (values.piece_of v) c.in-Destructor.is c.named-in-Destructor.ensures (λ around state. refl)
+    c.prefix-in-Destructor.ensures c.piece_in-in-Destructor.ensures.is c.extended-in-Destructor.ensures.is c.extended-in-Destructor.ensures.there refl refl
 
 pub returns-in-OtherOperatorName : goal.returns-in-OtherOperatorName
 unfolding between named_so_far extended piece_of made_before makes_before
@@ -93,23 +102,14 @@ returns-in-OtherOperatorName c =
     c.prefix-in-OtherOperatorName.result c.piece_in-in-OtherOperatorName.result (values.piece_of v) c.in-OtherOperatorName.is c.named-in-OtherOperatorName.ensures (λ around state. refl)
     c.prefix-in-OtherOperatorName.ensures c.piece_in-in-OtherOperatorName.ensures.is c.extended-in-OtherOperatorName.ensures.is c.extended-in-OtherOperatorName.ensures.there refl refl
 
-pub returns-in-Friend : goal.returns-in-Friend
-unfolding between named_so_far extended piece_of made_before makes_before
-returns-in-Friend c =
-    let ts = trees_in c.args.symbol.now c.args.self.now.nodes in
-    let v = value_in c.args.symbol.now c.args.self.now.nodes c.args.first in
-    piece_behind c.args.symbol.now c.args.self.now c.args.place c.args.kept v c.args.production Production.Friend c.named-in-Friend.result c.extended-in-Friend.result
-    c.prefix-in-Friend.result c.piece_in-in-Friend.result (values.piece_of v) c.in-Friend.is c.named-in-Friend.ensures (λ around state. refl)
-    c.prefix-in-Friend.ensures c.piece_in-in-Friend.ensures.is c.extended-in-Friend.ensures.is c.extended-in-Friend.ensures.there refl refl
-
 pub returns-in-Constructor : goal.returns-in-Constructor
 unfolding between named_so_far extended piece_of made_before makes_before
 returns-in-Constructor c =
     let ts = trees_in c.args.symbol.now c.args.self.now.nodes in
     let v = value_in c.args.symbol.now c.args.self.now.nodes c.args.first in
     piece_behind c.args.symbol.now c.args.self.now c.args.place c.args.kept v c.args.production Production.Constructor c.named-in-Constructor.result c.extended-in-Constructor.result
-    c.prefix-in-Constructor.result (Piece.Constructor c.letter_of-in-Constructor.result) (term.constructor (values.letter_of v)) c.in-Constructor.is c.named-in-Constructor.ensures (λ around state. refl)
-    c.prefix-in-Constructor.ensures (ap (λ x. term.constructor x) (c.letter_of-in-Constructor.ensures c.args.symbol.now ts)) c.extended-in-Constructor.ensures.is c.extended-in-Constructor.ensures.there refl refl
+    c.prefix-in-Constructor.result (Piece.Constructor c.letter_of.result) (term.constructor (values.letter_of v)) c.in-Constructor.is c.named-in-Constructor.ensures (λ around state. refl)
+    c.prefix-in-Constructor.ensures (ap (λ x. term.constructor x) (c.letter_of.ensures c.args.symbol.now ts)) c.extended-in-Constructor.ensures.is c.extended-in-Constructor.ensures.there refl refl
 
 pub returns-in-OperatorNameWithC : goal.returns-in-OperatorNameWithC
 unfolding between named_so_far extended piece_of made_before makes_before
@@ -128,3 +128,12 @@ returns-in-TaggedSource c =
     piece_behind c.args.symbol.now c.args.self.now c.args.place c.args.kept v c.args.production Production.TaggedSource c.named-in-TaggedSource.result c.extended-in-TaggedSource.result
     c.prefix-in-TaggedSource.result (Piece.Source false c.text_in-in-TaggedSource.result) (term.source false (values.text_of v)) c.in-TaggedSource.is c.named-in-TaggedSource.ensures (λ around state. refl)
     c.prefix-in-TaggedSource.ensures (ap (λ x. term.source false x) c.text_in-in-TaggedSource.ensures.is) c.extended-in-TaggedSource.ensures.is c.extended-in-TaggedSource.ensures.there refl refl
+
+pub returns-in-Friend : goal.returns-in-Friend
+unfolding between named_so_far extended piece_of made_before makes_before
+returns-in-Friend c =
+    let ts = trees_in c.args.symbol.now c.args.self.now.nodes in
+    let v = value_in c.args.symbol.now c.args.self.now.nodes c.args.first in
+    piece_behind c.args.symbol.now c.args.self.now c.args.place c.args.kept v c.args.production Production.Friend c.named-in-Friend.result c.extended-in-Friend.result
+    c.prefix-in-Friend.result c.piece_in-in-Friend.result (values.piece_of v) c.in-Friend.is c.named-in-Friend.ensures (λ around state. refl)
+    c.prefix-in-Friend.ensures c.piece_in-in-Friend.ensures.is c.extended-in-Friend.ensures.is c.extended-in-Friend.ensures.there refl refl

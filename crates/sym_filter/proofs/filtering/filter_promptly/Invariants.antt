@@ -6,26 +6,27 @@ use Rattle.sym_filter.specs.Entries.{Entry, entries_of}
 use Rattle.sym_filter.specs.Runs.{filtered_at, tally_at}
 use Rattle.sym_filter.specs.Streams.{Puts}
 use Rattle.sym_filter.specs.declared.filtering.TheConstants.{READ_SIZE}
-use Rattle.sym_filter.proofs.filtering.filter_telling.Given as goal
+use Rattle.sym_filter.proofs.filtering.filter_promptly.Given as goal
 
 abbrev pub invariant-loop-count : goal.invariant-loop-count
 invariant-loop-count g l = let answers = g.D.Demangler.answer l.demangler in record {
   text : List ℕ;
   bytes : List ℕ;
   entries : List Entry;
-  reads : Consumes (g.R.Source.coming l.fn.reader) (g.R.Source.coming l.reader) text;
+  reads : Consumes (g.R.PromptSource.coming l.fn.reader) (g.R.PromptSource.coming l.reader) text;
   puts : Puts (g.W.Sink.taken l.fn.writer) (g.W.Sink.taken l.writer) [] [] bytes;
   tells : g.P.Report.Tells l.fn.report l.report entries;
   gives : (more : List ℕ) → entries_of l.fn.letters answers (text ++ more) ≡ entries ++ entries_in_rest answers l.words l.escape more;
   report_failures : g.P.Report.failure_count l.report ≡ g.P.Report.failure_count l.fn.report;
-  read_failures : g.R.Source.failure_count l.reader ≡ g.R.Source.failure_count l.fn.reader;
+  read_failures : g.R.PromptSource.failure_count l.reader ≡ g.R.PromptSource.failure_count l.fn.reader;
   write_failures : g.W.Sink.failure_count l.writer ≡ g.W.Sink.failure_count l.fn.writer;
+  same_letters : l.words.letters ≡ l.fn.letters;
   room : length l.room.items ≡ READ_SIZE;
   nothing_waits : l.out.items ≡ [];
   rest : (more : List ℕ) → filtered_at l.fn.letters answers (text ++ more) ≡ bytes ++ rest_of_text answers l.words l.escape more;
   counts : (more : List ℕ) → tally_at l.fn.letters answers (text ++ more) ≡ tally_of_text answers l.words l.escape more;
-  dots : l.words.dots + READ_SIZE * g.R.Source.reads_left l.reader < 2 ^ 64 * READ_SIZE;
+  dots : l.words.dots + READ_SIZE * g.R.PromptSource.reads_left l.reader < 2 ^ 64 * READ_SIZE;
 }
 
 abbrev pub decreases-loop-count : goal.decreases-loop-count
-decreases-loop-count g l = g.R.Source.reads_left l.reader
+decreases-loop-count g l = g.R.PromptSource.reads_left l.reader

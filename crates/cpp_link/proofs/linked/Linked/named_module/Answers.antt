@@ -1,0 +1,27 @@
+use Rattle.std.proofs.Common.{◌∙◌, ap}
+use Rattle.sym_core.specs.Value.{counted_value}
+use Rattle.sym_core.specs.declared.NumberKind.TheVariants.{Seq36}
+use Rattle.cpp_tree.specs.Nodes.{bytes_at}
+use Rattle.cpp_link.specs.Parts.{trees_in}
+use Rattle.cpp_term.specs.Rescoping.{module_of}
+use Rattle.cpp_link.specs.Reads.{maybe_candidate}
+use Rattle.cpp_link.proofs.Modules.{module_is, module_there, no_module, nothing_named}
+use Rattle.cpp_link.proofs.linked.Linked.named_module.Goals as goal
+
+pub returns-then-is_closed_module-clause-is : goal.returns-then-is_closed_module-clause-is
+returns-then-is_closed_module-clause-is c = λ state counted.
+    let ts = trees_in c.args.symbol.now c.args.self.now.nodes in
+    module_is ts c.args.self.now.candidates.list.items (counted_value Seq36 (bytes_at c.args.symbol.now c.args.digits)) c.named_by_both.result state c.named_by_both.ensures.is counted
+    ∙ ap (λ o. module_of (maybe_candidate ts o)) c.in-Some.is ∙ module_there ts c.in-Some.candidate c.is_closed_module.result c.is_closed_module.ensures c.if-is_closed_module.true
+
+pub returns-else-is_closed_module-clause-is : goal.returns-else-is_closed_module-clause-is
+returns-else-is_closed_module-clause-is c = λ state counted.
+    let ts = trees_in c.args.symbol.now c.args.self.now.nodes in
+    module_is ts c.args.self.now.candidates.list.items (counted_value Seq36 (bytes_at c.args.symbol.now c.args.digits)) c.named_by_both.result state c.named_by_both.ensures.is counted
+    ∙ ap (λ o. module_of (maybe_candidate ts o)) c.in-Some.is ∙ no_module ts c.in-Some.candidate c.is_closed_module.result c.is_closed_module.ensures c.if-is_closed_module.false
+
+pub returns-in-None-clause-is : goal.returns-in-None-clause-is
+returns-in-None-clause-is c = λ state counted.
+    let ts = trees_in c.args.symbol.now c.args.self.now.nodes in
+    module_is ts c.args.self.now.candidates.list.items (counted_value Seq36 (bytes_at c.args.symbol.now c.args.digits)) c.named_by_both.result state c.named_by_both.ensures.is counted
+    ∙ ap (λ o. module_of (maybe_candidate ts o)) c.in-None.is ∙ nothing_named ts

@@ -1,0 +1,23 @@
+-- Where a filter is prompt: all that is decided of the filtered text was written, and little waits.
+use Rattle.std.specs.Prelude.{◌≡◌, ℕ, List, ◌++◌, Option}
+use Rattle.std.specs.Io.KnownBytes.{Appends, Consumes}
+use Rattle.sym_filter.specs.declared.escapes.Escape.{Escape}
+use Rattle.sym_filter.specs.declared.kinds.Letters.{Letters}
+use Rattle.sym_filter.specs.declared.words.Words.{Words}
+use Rattle.sym_filter.specs.Carried.{rest_of_text}
+use Rattle.sym_filter.specs.Held.{IsHeld}
+use Rattle.sym_filter.specs.Runs.{Answering, filtered_at}
+
+-- A text was read and bytes were written. Whatever follows, the filtered text is those bytes and what is still to come, which depends on
+-- no more of the text than this: a front of one word, of at most the longest word's bytes, the dots after it, the place where it begins,
+-- and what is read of an escape.
+pub record IsPrompt (letters : Letters) (answers : Answering) (coming coming' taken taken' : Option (List ℕ)) : Type 0 where
+  pub text : List ℕ
+  pub written : List ℕ
+  pub words : Words
+  pub escape : Escape
+  pub reads : Consumes coming coming' text
+  pub writes : Appends taken taken' written
+  pub same_letters : words.letters ≡ letters
+  pub waits : IsHeld words.letters words.held.items words.dots words.past words.place
+  pub rest : (more : List ℕ) → filtered_at letters answers (text ++ more) ≡ written ++ rest_of_text answers words escape more
