@@ -74,8 +74,6 @@ fn mixed(number: u64, other: u64) -> u64 {
 fn bytes_at(symbol: &[u8], at: usize) -> u64
     requires { at + 8 ≤ length symbol.now }
 {
-    match symbol[at..].first_chunk::<8>() {
-        Some(bytes) => u64::from_le_bytes(*bytes),
-        None => 0,
-    }
+    let (eights, _) = symbol[at..].as_chunks::<BYTES>();
+    u64::from_le_bytes(eights[0])
 }

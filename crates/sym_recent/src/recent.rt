@@ -71,6 +71,9 @@ impl<D: Alike + Copy + Drop> Demangler for Recent<D> {
         symbol: &[u8],
         out: &mut Vec<u8>,
     ) -> Result<(), Refusal> {
+        if !lists.table.looks() {
+            return self.demangler.append(&mut lists.lists, kind, symbol, out);
+        }
         let Some(mark) = mark_of(symbol) else {
             return self.demangler.append(&mut lists.lists, kind, symbol, out);
         };

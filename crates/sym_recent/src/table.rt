@@ -19,8 +19,11 @@ const MOST_KEPT: usize = 1_048_576;
 /// The most bytes of a symbol and of a text that is kept.
 const LONGEST: usize = 65_536;
 
-/// How many symbols come one after the other, each of them new, until a symbol is kept only when it comes again.
+/// How many symbols come one after the other, each of them new, until few are looked at, and one is kept only when it comes again.
 const PATIENCE: u32 = 64;
+
+/// Then one of this many symbols is looked at.
+const FEW: u32 = 4;
 
 /// A symbol and its text, which are among the bytes of a table, one after the other.
 #[derive(Clone, Copy, Debug, PartialEq, Eq)]
@@ -58,6 +61,18 @@ impl Table {
             bytes: Vec::new(alloc),
             news: 0,
         }
+    }
+
+    /// Whether the next symbol is looked at. It is counted as a new one, if it isn't.
+    #[inline(always)]
+    pub(crate) fn looks(&mut self) -> bool
+        ensures { (answer : Kind-type → List ℕ → Result (List ℕ) Refusal-type) → Keeps answer self.old → Keeps answer self.new }
+    {
+        if self.news < PATIENCE || self.news % FEW == 0 {
+            return true;
+        }
+        self.news = self.news.wrapping_add(1);
+        false
     }
 
     /// The text that is kept for a symbol with a mark, if one is.
@@ -101,11 +116,11 @@ impl Table {
         }
         let comes_again = self.marks[place] == mark;
         self.marks[place] = mark;
-        if self.news >= PATIENCE && !comes_again {
-            return;
+        let is_kept = comes_again || self.news < PATIENCE;
+        self.news = if comes_again { 0 } else { self.news.wrapping_add(1) };
+        if is_kept {
+            self.keep(place, kind, symbol, text);
         }
-        self.news = if comes_again { 0 } else { self.news + 1 };
-        self.keep(place, kind, symbol, text);
     }
 
     /// Counts one of the first symbols, and makes the places after some.
