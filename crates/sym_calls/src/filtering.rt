@@ -12,7 +12,6 @@ use std::alloc::Global;
 use sym_filter::{Demangler, Letters, Tally};
 use sym_languages::languages::Cpp;
 use sym_languages::{Abi, Wide};
-use sym_recent::Recent;
 
 /// How many words of a text name symbols, were replaced by a text, and were not.
 #[repr(C)]
@@ -85,15 +84,11 @@ fn filter_in<C: Cpp>(
     ensures tally { Tallied (tally_at asked.letters (answers_by C.mangled asked.legacy limit asked.detail) text.now) tally.old tally.new result.status }
 {
     if asked.legacy {
-        let recent = Recent {
-            demangler: asked.with_legacy(limit, cpp),
-        };
-        return filter_by(alloc, &recent, asked.letters, text, buffer, tally);
+        let legacy = asked.with_legacy(limit, cpp);
+        return filter_by(alloc, &legacy, asked.letters, text, buffer, tally);
     }
-    let recent = Recent {
-        demangler: asked.languages(limit, cpp),
-    };
-    filter_by(alloc, &recent, asked.letters, text, buffer, tally)
+    let languages = asked.languages(limit, cpp);
+    filter_by(alloc, &languages, asked.letters, text, buffer, tally)
 }
 
 /// Writes a text to the front of the buffer with each word that is a symbol replaced by the symbol's text, where that costs at

@@ -11,7 +11,7 @@ const STEP: usize = 32;
 const FACTOR: u64 = 0x9E37_79B9_7F4A_7C15;
 
 /// The mark of a symbol, by all of its bytes. One of fewer than eight bytes, whose text costs little, has none.
-#[inline(always)]
+#[inline(never)]
 pub(crate) fn mark_of(symbol: &[u8]) -> Option<u32> {
     if symbol.len() < BYTES {
         return None;

@@ -71,16 +71,12 @@ impl<D: Alike + Copy + Drop> Demangler for Recent<D> {
         symbol: &[u8],
         out: &mut Vec<u8>,
     ) -> Result<(), Refusal> {
-        if !lists.table.looks() {
-            return self.demangler.append(&mut lists.lists, kind, symbol, out);
+        if lists.table.looks() && self.demangler.is_alike(&lists.demangler) {
+            if let Some(mark) = mark_of(symbol) {
+                return append_marked(lists, mark, kind, symbol, out);
+            }
         }
-        let Some(mark) = mark_of(symbol) else {
-            return self.demangler.append(&mut lists.lists, kind, symbol, out);
-        };
-        if !self.demangler.is_alike(&lists.demangler) {
-            return self.demangler.append(&mut lists.lists, kind, symbol, out);
-        }
-        append_marked(lists, mark, kind, symbol, out)
+        self.demangler.append(&mut lists.lists, kind, symbol, out)
     }
 }
 

@@ -23,7 +23,7 @@ const LONGEST: usize = 65_536;
 const PATIENCE: u32 = 64;
 
 /// Then one of this many symbols is looked at.
-const FEW: u32 = 4;
+const FEW: u32 = 8;
 
 /// A symbol and its text, which are among the bytes of a table, one after the other.
 #[derive(Clone, Copy, Debug, PartialEq, Eq)]
@@ -44,7 +44,7 @@ pub(crate) struct Table {
     places: Vec<u16>,
     pub(crate) entries: Vec<Entry>,
     pub(crate) bytes: Vec<u8>,
-    /// How many new symbols have come since one came again.
+    /// How many new symbols have come since one came again, or more.
     news: u32,
 }
 
@@ -59,7 +59,7 @@ impl Table {
             places: Vec::new(alloc),
             entries: Vec::new(alloc),
             bytes: Vec::new(alloc),
-            news: 0,
+            news: PATIENCE + 1,
         }
     }
 
@@ -111,27 +111,27 @@ impl Table {
     {
         let place = place_of(mark);
         if place >= self.marks.len() {
-            self.count_first();
+            self.make_places();
             return;
         }
         let comes_again = self.marks[place] == mark;
         self.marks[place] = mark;
         let is_kept = comes_again || self.news < PATIENCE;
-        self.news = if comes_again { 0 } else { self.news.wrapping_add(1) };
+        self.news = if comes_again {
+            0
+        } else {
+            self.news.wrapping_add(1)
+        };
         if is_kept {
             self.keep(place, kind, symbol, text);
         }
     }
 
-    /// Counts one of the first symbols, and makes the places after some.
-    fn count_first(&mut self)
+    /// Makes the places, if there is memory for them.
+    #[inline(never)]
+    fn make_places(&mut self)
         ensures { (answer : Kind-type → List ℕ → Result (List ℕ) Refusal-type) → Keeps answer self.old → Keeps answer self.new }
     {
-        if self.news < PATIENCE {
-            self.news += 1;
-            return;
-        }
-        self.news = 0;
         let Ok(places) = vec![in self.alloc; 0u16; PLACES] else {
             return;
         };
