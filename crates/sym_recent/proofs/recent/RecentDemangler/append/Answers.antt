@@ -1,0 +1,4 @@
+use Rattle.sym_recent.proofs.recent.RecentDemangler.append.Goals as goal
+
+pub invariant_of-lists-2 : goal.invariant_of-lists-2
+invariant_of-lists-2 g c = record { keeps = c.looks.ensures (g.D.Demangler.answer c.args.lists.now.demangler) c.args.lists.now.keeps }
