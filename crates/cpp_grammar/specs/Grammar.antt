@@ -6,6 +6,7 @@ use Rattle.sym_shape.specs.declared.rule.Sym.{Sym}
 use Rattle.sym_shape.specs.declared.rule.Sym.TheVariants.{Kind as OfKind, Name, Number, Byte}
 use Rattle.cpp_grammar.specs.declared.kind.Kind.{Kind}
 use Rattle.cpp_grammar.specs.declared.production.Production.{Production}
+use Rattle.cpp_grammar.specs.declared.production.Operation.{Operation}
 
 -- a production, and the bytes at which it is taken: ranges, and single bytes
 pub record Alternative : Type 0 where
@@ -367,13 +368,13 @@ alternatives Kind.FoldOperand = on "a" Production.FoldOperand ∷ []
 alternatives Kind.FoldPack = on "a" Production.FoldPack ∷ []
 alternatives Kind.ValuePack = on "a" Production.FoldPack ∷ on "J" Production.OnePack ∷ []
 alternatives Kind.TypePack = on_ranges "0-9M-PR-Va-jl-or-z" "ACDFKZ" Production.TypePack ∷ on "J" Production.OnePack ∷ []
-alternatives Kind.DesignatedValue = on "d" Production.Designators ∷ on_ranges "0-9e-gl-t" "LTaci" Production.DesignatedValue ∷ []
+alternatives Kind.DesignatedValue = on "d" (Production.Operation Operation.Designators) ∷ on_ranges "0-9e-gl-t" "LTaci" Production.DesignatedValue ∷ []
 alternatives Kind.DesignatorAfterD = on "i" Production.Designated ∷ on "x" Production.DesignatedElement ∷ []
-alternatives Kind.PlainValue = on "a" Production.ExpressionA ∷ on "c" Production.ExpressionC ∷ on "e" Production.ExpressionE ∷ on "f" Production.ExpressionF ∷ on "g" Production.ExpressionG ∷ on "i" Production.ExpressionI ∷ on "l" Production.ExpressionL ∷ on "m" Production.ExpressionM ∷ on "n" Production.ExpressionN ∷ on "o" Production.ExpressionO ∷ on "p" Production.ExpressionP ∷ on "q" Production.ExpressionQ ∷ on "r" Production.ExpressionR ∷ on "s" Production.ExpressionS ∷ on "t" Production.ExpressionT ∷ on "T" Production.ExpressionWithT ∷ on "L" Production.OneLiteral ∷ on_ranges "0-9" "" Production.SimpleId ∷ []
+alternatives Kind.PlainValue = on "a" Production.ExpressionA ∷ on "c" (Production.Operation Operation.ExpressionC) ∷ on "e" (Production.Operation Operation.ExpressionE) ∷ on "f" (Production.Operation Operation.ExpressionF) ∷ on "g" (Production.Operation Operation.ExpressionG) ∷ on "i" (Production.Operation Operation.ExpressionI) ∷ on "l" (Production.Operation Operation.ExpressionL) ∷ on "m" (Production.Operation Operation.ExpressionM) ∷ on "n" (Production.Operation Operation.ExpressionN) ∷ on "o" (Production.Operation Operation.ExpressionO) ∷ on "p" (Production.Operation Operation.ExpressionP) ∷ on "q" (Production.Operation Operation.ExpressionQ) ∷ on "r" (Production.Operation Operation.ExpressionR) ∷ on "s" (Production.Operation Operation.ExpressionS) ∷ on "t" (Production.Operation Operation.ExpressionT) ∷ on "T" Production.ExpressionWithT ∷ on "L" Production.OneLiteral ∷ on_ranges "0-9" "" Production.SimpleId ∷ []
 alternatives Kind.FieldName = on_ranges "0-9" "" Production.FieldName ∷ []
 alternatives Kind.Placement = on "_" Production.Mark ∷ on "a" Production.Placed ∷ []
 alternatives Kind.SomeExpressions = on "a" Production.Expressions ∷ []
-alternatives Kind.Initializer = on "E" Production.RefEnd ∷ on "p" Production.Initializer ∷ on "i" Production.BracedInitializer ∷ []
+alternatives Kind.Initializer = on "E" Production.RefEnd ∷ on "p" (Production.Operation Operation.Initializer) ∷ on "i" (Production.Operation Operation.BracedInitializer) ∷ []
 alternatives Kind.InitializerAfterP = on "i" Production.Braces ∷ []
 alternatives Kind.InitializerAfterI = on "l" Production.Braces ∷ []
 alternatives Kind.OuterRest = on "p" Production.FunctionParameter ∷ []
@@ -383,7 +384,7 @@ alternatives Kind.ConvertedSolid = on_ranges "a-jl-ov-z" "st" Production.Builtin
 alternatives Kind.ParameterAfterT = on_ranges "0-9" "_" Production.ParameterArgument ∷ on "L" Production.LeveledParameter ∷ []
 alternatives Kind.DecltypeAfterD = on "Tt" Production.Decltype ∷ []
 alternatives Kind.ConvertedAfterD = on "Tt" Production.Decltype ∷ on "ac" Production.BuiltinWithD ∷ []
-alternatives Kind.ConvertRest = on "_" Production.Braces ∷ on "a" Production.ExpressionA ∷ on "c" Production.ExpressionC ∷ on "d" Production.ExpressionD ∷ on "e" Production.ExpressionE ∷ on "f" Production.ExpressionF ∷ on "g" Production.ExpressionG ∷ on "i" Production.ExpressionI ∷ on "l" Production.ExpressionL ∷ on "m" Production.ExpressionM ∷ on "n" Production.ExpressionN ∷ on "o" Production.ExpressionO ∷ on "p" Production.ExpressionP ∷ on "q" Production.ExpressionQ ∷ on "r" Production.ExpressionR ∷ on "s" Production.ExpressionS ∷ on "t" Production.ExpressionT ∷ on "T" Production.ExpressionWithT ∷ on "L" Production.OneLiteral ∷ on_ranges "0-9" "" Production.SimpleId ∷ []
+alternatives Kind.ConvertRest = on "_" Production.Braces ∷ on "a" Production.ExpressionA ∷ on "c" (Production.Operation Operation.ExpressionC) ∷ on "d" (Production.Operation Operation.ExpressionD) ∷ on "e" (Production.Operation Operation.ExpressionE) ∷ on "f" (Production.Operation Operation.ExpressionF) ∷ on "g" (Production.Operation Operation.ExpressionG) ∷ on "i" (Production.Operation Operation.ExpressionI) ∷ on "l" (Production.Operation Operation.ExpressionL) ∷ on "m" (Production.Operation Operation.ExpressionM) ∷ on "n" (Production.Operation Operation.ExpressionN) ∷ on "o" (Production.Operation Operation.ExpressionO) ∷ on "p" (Production.Operation Operation.ExpressionP) ∷ on "q" (Production.Operation Operation.ExpressionQ) ∷ on "r" (Production.Operation Operation.ExpressionR) ∷ on "s" (Production.Operation Operation.ExpressionS) ∷ on "t" (Production.Operation Operation.ExpressionT) ∷ on "T" Production.ExpressionWithT ∷ on "L" Production.OneLiteral ∷ on_ranges "0-9" "" Production.SimpleId ∷ []
 alternatives Kind.Unresolved = on "DNST" Production.UnresolvedInType ∷ on_ranges "0-9" "" Production.Levels ∷ []
 alternatives Kind.UnresolvedType = on "D" Production.ConvertedDecltype ∷ on "T" Production.ConvertedWithT ∷ on "S" Production.TypeWithS ∷ on "N" Production.NestedType ∷ []
 alternatives Kind.DestructorName = on "DNST" Production.DestroyedType ∷ on_ranges "0-9" "" Production.SimpleId ∷ []
@@ -397,7 +398,7 @@ alternatives Kind.UnresolvedName = on "o" Production.UnresolvedOperator ∷ on_r
 alternatives Kind.OperatorName = on "n" Production.OperatorReference ∷ []
 alternatives Kind.AnyArray = on "A" Production.AnyArray ∷ []
 alternatives Kind.ArrayRest = on_ranges "0-9" "_" Production.LengthArray ∷ []
-alternatives Kind.Bound = on "a" Production.ExpressionA ∷ on "c" Production.ExpressionC ∷ on "d" Production.ExpressionD ∷ on "e" Production.ExpressionE ∷ on "f" Production.ExpressionF ∷ on "g" Production.ExpressionG ∷ on "i" Production.ExpressionI ∷ on "l" Production.ExpressionL ∷ on "m" Production.ExpressionM ∷ on "n" Production.ExpressionN ∷ on "o" Production.ExpressionO ∷ on "p" Production.ExpressionP ∷ on "q" Production.ExpressionQ ∷ on "r" Production.ExpressionR ∷ on "s" Production.ExpressionS ∷ on "t" Production.ExpressionT ∷ on "T" Production.ExpressionWithT ∷ on "L" Production.OneLiteral ∷ []
+alternatives Kind.Bound = on "a" Production.ExpressionA ∷ on "c" (Production.Operation Operation.ExpressionC) ∷ on "d" (Production.Operation Operation.ExpressionD) ∷ on "e" (Production.Operation Operation.ExpressionE) ∷ on "f" (Production.Operation Operation.ExpressionF) ∷ on "g" (Production.Operation Operation.ExpressionG) ∷ on "i" (Production.Operation Operation.ExpressionI) ∷ on "l" (Production.Operation Operation.ExpressionL) ∷ on "m" (Production.Operation Operation.ExpressionM) ∷ on "n" (Production.Operation Operation.ExpressionN) ∷ on "o" (Production.Operation Operation.ExpressionO) ∷ on "p" (Production.Operation Operation.ExpressionP) ∷ on "q" (Production.Operation Operation.ExpressionQ) ∷ on "r" (Production.Operation Operation.ExpressionR) ∷ on "s" (Production.Operation Operation.ExpressionS) ∷ on "t" (Production.Operation Operation.ExpressionT) ∷ on "T" Production.ExpressionWithT ∷ on "L" Production.OneLiteral ∷ []
 alternatives Kind.NestMoreOrEnd = on_ranges "0-9c-el-p" "CDLUagirs" Production.NestNext ∷ []
 
 -- the production that a kind takes at a byte
@@ -413,11 +414,11 @@ parts_of Production.FoldOperatorL = part Kind.FoldOperatorAfterL ∷ []
 parts_of Production.FoldOperand = part Kind.FoldPack ∷ []
 parts_of Production.FoldPack = part Kind.Expression ∷ []
 parts_of Production.TypePack = part Kind.Type ∷ []
-parts_of Production.Designators = part Kind.DesignatorAfterD ∷ []
+parts_of (Production.Operation Operation.Designators) = part Kind.DesignatorAfterD ∷ []
 parts_of Production.DesignatedValue = part Kind.PlainValue ∷ []
 parts_of Production.Placed = part Kind.SomeExpressions ∷ Byte 95 ∷ []
-parts_of Production.Initializer = part Kind.InitializerAfterP ∷ []
-parts_of Production.BracedInitializer = part Kind.InitializerAfterI ∷ []
+parts_of (Production.Operation Operation.Initializer) = part Kind.InitializerAfterP ∷ []
+parts_of (Production.Operation Operation.BracedInitializer) = part Kind.InitializerAfterI ∷ []
 parts_of Production.This = []
 parts_of Production.ParameterNumber = Number Decimal ∷ []
 parts_of Production.ConvertedDecltype = part Kind.ConvertedAfterD ∷ []
@@ -619,21 +620,21 @@ parts_of Production.PackIndex = part Kind.ValuePack ∷ part Kind.Expression ∷
 parts_of Production.TypedBraces = part Kind.Type ∷ part Kind.Expressions ∷ Byte 69 ∷ []
 parts_of Production.Rethrow = []
 parts_of Production.ExpressionA = part Kind.ExpressionAfterA ∷ []
-parts_of Production.ExpressionC = part Kind.ExpressionAfterC ∷ []
-parts_of Production.ExpressionD = part Kind.ExpressionAfterD ∷ []
-parts_of Production.ExpressionE = part Kind.ExpressionAfterE ∷ []
-parts_of Production.ExpressionF = part Kind.ExpressionAfterF ∷ []
-parts_of Production.ExpressionG = part Kind.ExpressionAfterG ∷ []
-parts_of Production.ExpressionI = part Kind.ExpressionAfterI ∷ []
-parts_of Production.ExpressionL = part Kind.ExpressionAfterL ∷ []
-parts_of Production.ExpressionM = part Kind.ExpressionAfterM ∷ []
-parts_of Production.ExpressionN = part Kind.ExpressionAfterN ∷ []
-parts_of Production.ExpressionO = part Kind.ExpressionAfterO ∷ []
-parts_of Production.ExpressionP = part Kind.ExpressionAfterP ∷ []
-parts_of Production.ExpressionQ = part Kind.ExpressionAfterQ ∷ []
-parts_of Production.ExpressionR = part Kind.ExpressionAfterR ∷ []
-parts_of Production.ExpressionS = part Kind.ExpressionAfterS ∷ []
-parts_of Production.ExpressionT = part Kind.ExpressionAfterT ∷ []
+parts_of (Production.Operation Operation.ExpressionC) = part Kind.ExpressionAfterC ∷ []
+parts_of (Production.Operation Operation.ExpressionD) = part Kind.ExpressionAfterD ∷ []
+parts_of (Production.Operation Operation.ExpressionE) = part Kind.ExpressionAfterE ∷ []
+parts_of (Production.Operation Operation.ExpressionF) = part Kind.ExpressionAfterF ∷ []
+parts_of (Production.Operation Operation.ExpressionG) = part Kind.ExpressionAfterG ∷ []
+parts_of (Production.Operation Operation.ExpressionI) = part Kind.ExpressionAfterI ∷ []
+parts_of (Production.Operation Operation.ExpressionL) = part Kind.ExpressionAfterL ∷ []
+parts_of (Production.Operation Operation.ExpressionM) = part Kind.ExpressionAfterM ∷ []
+parts_of (Production.Operation Operation.ExpressionN) = part Kind.ExpressionAfterN ∷ []
+parts_of (Production.Operation Operation.ExpressionO) = part Kind.ExpressionAfterO ∷ []
+parts_of (Production.Operation Operation.ExpressionP) = part Kind.ExpressionAfterP ∷ []
+parts_of (Production.Operation Operation.ExpressionQ) = part Kind.ExpressionAfterQ ∷ []
+parts_of (Production.Operation Operation.ExpressionR) = part Kind.ExpressionAfterR ∷ []
+parts_of (Production.Operation Operation.ExpressionS) = part Kind.ExpressionAfterS ∷ []
+parts_of (Production.Operation Operation.ExpressionT) = part Kind.ExpressionAfterT ∷ []
 parts_of Production.ExpressionWithT = part Kind.ExpressionParameter ∷ []
 parts_of Production.ParameterExpression = Number Decimal ∷ part Kind.ArgumentsAlone ∷ []
 parts_of Production.BoundedArray = part Kind.Bound ∷ Byte 95 ∷ part Kind.Type ∷ []
@@ -766,7 +767,7 @@ kinds = Kind.Symbol ∷ Kind.MaybeSuffix ∷ Kind.SuffixFirst ∷ Kind.SuffixMor
 
 -- the productions in the order of their numbers
 unfoldable pub productions : List Production
-productions = Production.LeveledExpression ∷ Production.AddressedLiteral ∷ Production.Expressions ∷ Production.FoldOperatorL ∷ Production.FoldOperand ∷ Production.FoldPack ∷ Production.TypePack ∷ Production.Designators ∷ Production.DesignatedValue ∷ Production.Placed ∷ Production.Initializer ∷ Production.BracedInitializer ∷ Production.This ∷ Production.ParameterNumber ∷ Production.ConvertedDecltype ∷ Production.ConvertedConst ∷ Production.ConvertedPointer ∷ Production.ConvertedReference ∷ Production.ConvertedType ∷ Production.ConvertedWithT ∷ Production.UnresolvedInType ∷ Production.Levels ∷ Production.DestroyedType ∷ Production.ExpressionRequirement ∷ Production.TypeRequirement ∷ Production.NestedRequirement ∷ Production.ResultRequirement ∷ Production.RequiredType ∷ Production.LevelsEnd ∷ Production.UnresolvedOperator ∷ Production.AnyArray ∷ Production.LengthArray ∷ Production.ParameterObject ∷ Production.Mark ∷ Production.InternalName ∷ Production.LocalTypeName ∷ Production.SourceName ∷ Production.OperatorName ∷ Production.BindingName ∷ Production.InternalPiece ∷ Production.LocalTypePiece ∷ Production.SourcePiece ∷ Production.InModule ∷ Production.InNamedModule ∷ Production.NestedName ∷ Production.Symbol ∷ Production.Suffix ∷ Production.SuffixByte ∷ Production.Special ∷ Production.OtherSpecial ∷ Production.Encoding ∷ Production.SpecialType ∷ Production.NonVirtualThunk ∷ Production.VirtualThunk ∷ Production.CovariantThunk ∷ Production.SpecialName ∷ Production.NonVirtualOffset ∷ Production.VirtualOffset ∷ Production.Negative ∷ Production.Positive ∷ Production.NameWithS ∷ Production.LocalName ∷ Production.StdName ∷ Production.AbbreviatedName ∷ Production.OperatorPiece ∷ Production.NestWithS ∷ Production.NestParameter ∷ Production.NestInternal ∷ Production.NestLocalType ∷ Production.NestSource ∷ Production.NestStd ∷ Production.NestTemplate ∷ Production.NestArguments ∷ Production.NestNext ∷ Production.NestEnd ∷ Production.AnyConstructor ∷ Production.Destructor ∷ Production.ComponentWithC ∷ Production.OtherOperatorName ∷ Production.Constructor ∷ Production.Bindings ∷ Production.Abbreviation ∷ Production.Substitution ∷ Production.NestedType ∷ Production.StringLiteral ∷ Production.Discriminator ∷ Production.OneDigit ∷ Production.ManyDigits ∷ Production.Lambda ∷ Production.Unnamed ∷ Production.RestrictType ∷ Production.VolatileType ∷ Production.ConstType ∷ Production.ReferenceType ∷ Production.PlainType ∷ Production.TypeWithD ∷ Production.PlainWithD ∷ Production.QualifiedPlain ∷ Production.ItemWithD ∷ Production.Expansion ∷ Production.ItemIsType ∷ Production.BuiltinWithD ∷ Production.Vector ∷ Production.NoexceptFunction ∷ Production.SizedFloat ∷ Production.Decltype ∷ Production.Pointer ∷ Production.MemberPointer ∷ Production.Parameter ∷ Production.TypeWithS ∷ Production.LocalType ∷ Production.Builtin ∷ Production.Vendor ∷ Production.ArrayType ∷ Production.Function ∷ Production.Complex ∷ Production.BitWidth ∷ Production.TypeInStd ∷ Production.AbbreviatedType ∷ Production.RestEnd ∷ Production.RestLvalue ∷ Production.RestRvalue ∷ Production.RestItem ∷ Production.RefEnd ∷ Production.LvalueItem ∷ Production.RvalueItem ∷ Production.Items ∷ Production.Arguments ∷ Production.PackArgument ∷ Production.LiteralArgument ∷ Production.AnyArgument ∷ Production.LiteralElement ∷ Production.AnyElement ∷ Production.EncodingLiteral ∷ Production.BoolLiteral ∷ Production.LiteralWithD ∷ Production.IntegerLiteral ∷ Production.NullLiteral ∷ Production.CharLiteral ∷ Production.HexText ∷ Production.HexDigit ∷ Production.QualifiedLiteral ∷ Production.OperatorN ∷ Production.OperatorD ∷ Production.OperatorA ∷ Production.OperatorP ∷ Production.OperatorC ∷ Production.OperatorM ∷ Production.OperatorR ∷ Production.OperatorO ∷ Production.OperatorE ∷ Production.OperatorL ∷ Production.OperatorS ∷ Production.OperatorI ∷ Production.OperatorG ∷ Production.LiteralOperator ∷ Production.NestInstance ∷ Production.FirstModule ∷ Production.NamedModule ∷ Production.MoreModule ∷ Production.FieldName ∷ Production.BoundNames ∷ Production.OperatorNameWithC ∷ Production.HeldArguments ∷ Production.NestedBase ∷ Production.UnnestedBase ∷ Production.UnnestedWithS ∷ Production.TaggedSource ∷ Production.BaseArguments ∷ Production.LocalTemporary ∷ Production.TaggedStdType ∷ Production.Expression ∷ Production.ArgumentWithT ∷ Production.PlainArgument ∷ Production.ParameterArgument ∷ Production.LeveledParameter ∷ Production.OneLiteral ∷ Production.OnePack ∷ Production.ValueOf ∷ Production.OfConcept ∷ Production.TemplateOf ∷ Production.PackOf ∷ Production.Declarations ∷ Production.NamedConcept ∷ Production.Cast ∷ Production.OperatorReference ∷ Production.SimpleId ∷ Production.FunctionParameter ∷ Production.AddressExpression ∷ Production.Binary ∷ Production.Unary ∷ Production.OfType ∷ Production.Call ∷ Production.Convert ∷ Production.Designated ∷ Production.DesignatedElement ∷ Production.DestructorName ∷ Production.OuterParameter ∷ Production.LeftFold ∷ Production.RightFold ∷ Production.Braces ∷ Production.Step ∷ Production.New ∷ Production.Conditional ∷ Production.Requires ∷ Production.RequiresOf ∷ Production.ExpandExpression ∷ Production.PackSize ∷ Production.Unresolved ∷ Production.PackIndex ∷ Production.TypedBraces ∷ Production.Rethrow ∷ Production.ExpressionA ∷ Production.ExpressionC ∷ Production.ExpressionD ∷ Production.ExpressionE ∷ Production.ExpressionF ∷ Production.ExpressionG ∷ Production.ExpressionI ∷ Production.ExpressionL ∷ Production.ExpressionM ∷ Production.ExpressionN ∷ Production.ExpressionO ∷ Production.ExpressionP ∷ Production.ExpressionQ ∷ Production.ExpressionR ∷ Production.ExpressionS ∷ Production.ExpressionT ∷ Production.ExpressionWithT ∷ Production.ParameterExpression ∷ Production.BoundedArray ∷ Production.DeclaredArgument ∷ Production.TypeTag ∷ Production.Clone ∷ Production.ModuleInitializer ∷ Production.Temporary ∷ Production.Conversion ∷ Production.ConstLiteral ∷ Production.VolatileLiteral ∷ Production.SizedFloatLiteral ∷ Production.FloatLiteral ∷ Production.Tag ∷ Production.Constraint ∷ Production.IndexedType ∷ Production.BitInt ∷ Production.ConstrainedAuto ∷ Production.Enumeration ∷ Production.DefaultTypeEntity ∷ Production.DefaultEntity ∷ Production.Inheriting ∷ Production.Friend ∷ Production.Holder ∷ Production.NestTag ∷ Production.NestDecltype ∷ Production.NestModule ∷ Production.ConstructionVtable ∷ []
+productions = Production.LeveledExpression ∷ Production.AddressedLiteral ∷ Production.Expressions ∷ Production.FoldOperatorL ∷ Production.FoldOperand ∷ Production.FoldPack ∷ Production.TypePack ∷ (Production.Operation Operation.Designators) ∷ Production.DesignatedValue ∷ Production.Placed ∷ (Production.Operation Operation.Initializer) ∷ (Production.Operation Operation.BracedInitializer) ∷ Production.This ∷ Production.ParameterNumber ∷ Production.ConvertedDecltype ∷ Production.ConvertedConst ∷ Production.ConvertedPointer ∷ Production.ConvertedReference ∷ Production.ConvertedType ∷ Production.ConvertedWithT ∷ Production.UnresolvedInType ∷ Production.Levels ∷ Production.DestroyedType ∷ Production.ExpressionRequirement ∷ Production.TypeRequirement ∷ Production.NestedRequirement ∷ Production.ResultRequirement ∷ Production.RequiredType ∷ Production.LevelsEnd ∷ Production.UnresolvedOperator ∷ Production.AnyArray ∷ Production.LengthArray ∷ Production.ParameterObject ∷ Production.Mark ∷ Production.InternalName ∷ Production.LocalTypeName ∷ Production.SourceName ∷ Production.OperatorName ∷ Production.BindingName ∷ Production.InternalPiece ∷ Production.LocalTypePiece ∷ Production.SourcePiece ∷ Production.InModule ∷ Production.InNamedModule ∷ Production.NestedName ∷ Production.Symbol ∷ Production.Suffix ∷ Production.SuffixByte ∷ Production.Special ∷ Production.OtherSpecial ∷ Production.Encoding ∷ Production.SpecialType ∷ Production.NonVirtualThunk ∷ Production.VirtualThunk ∷ Production.CovariantThunk ∷ Production.SpecialName ∷ Production.NonVirtualOffset ∷ Production.VirtualOffset ∷ Production.Negative ∷ Production.Positive ∷ Production.NameWithS ∷ Production.LocalName ∷ Production.StdName ∷ Production.AbbreviatedName ∷ Production.OperatorPiece ∷ Production.NestWithS ∷ Production.NestParameter ∷ Production.NestInternal ∷ Production.NestLocalType ∷ Production.NestSource ∷ Production.NestStd ∷ Production.NestTemplate ∷ Production.NestArguments ∷ Production.NestNext ∷ Production.NestEnd ∷ Production.AnyConstructor ∷ Production.Destructor ∷ Production.ComponentWithC ∷ Production.OtherOperatorName ∷ Production.Constructor ∷ Production.Bindings ∷ Production.Abbreviation ∷ Production.Substitution ∷ Production.NestedType ∷ Production.StringLiteral ∷ Production.Discriminator ∷ Production.OneDigit ∷ Production.ManyDigits ∷ Production.Lambda ∷ Production.Unnamed ∷ Production.RestrictType ∷ Production.VolatileType ∷ Production.ConstType ∷ Production.ReferenceType ∷ Production.PlainType ∷ Production.TypeWithD ∷ Production.PlainWithD ∷ Production.QualifiedPlain ∷ Production.ItemWithD ∷ Production.Expansion ∷ Production.ItemIsType ∷ Production.BuiltinWithD ∷ Production.Vector ∷ Production.NoexceptFunction ∷ Production.SizedFloat ∷ Production.Decltype ∷ Production.Pointer ∷ Production.MemberPointer ∷ Production.Parameter ∷ Production.TypeWithS ∷ Production.LocalType ∷ Production.Builtin ∷ Production.Vendor ∷ Production.ArrayType ∷ Production.Function ∷ Production.Complex ∷ Production.BitWidth ∷ Production.TypeInStd ∷ Production.AbbreviatedType ∷ Production.RestEnd ∷ Production.RestLvalue ∷ Production.RestRvalue ∷ Production.RestItem ∷ Production.RefEnd ∷ Production.LvalueItem ∷ Production.RvalueItem ∷ Production.Items ∷ Production.Arguments ∷ Production.PackArgument ∷ Production.LiteralArgument ∷ Production.AnyArgument ∷ Production.LiteralElement ∷ Production.AnyElement ∷ Production.EncodingLiteral ∷ Production.BoolLiteral ∷ Production.LiteralWithD ∷ Production.IntegerLiteral ∷ Production.NullLiteral ∷ Production.CharLiteral ∷ Production.HexText ∷ Production.HexDigit ∷ Production.QualifiedLiteral ∷ Production.OperatorN ∷ Production.OperatorD ∷ Production.OperatorA ∷ Production.OperatorP ∷ Production.OperatorC ∷ Production.OperatorM ∷ Production.OperatorR ∷ Production.OperatorO ∷ Production.OperatorE ∷ Production.OperatorL ∷ Production.OperatorS ∷ Production.OperatorI ∷ Production.OperatorG ∷ Production.LiteralOperator ∷ Production.NestInstance ∷ Production.FirstModule ∷ Production.NamedModule ∷ Production.MoreModule ∷ Production.FieldName ∷ Production.BoundNames ∷ Production.OperatorNameWithC ∷ Production.HeldArguments ∷ Production.NestedBase ∷ Production.UnnestedBase ∷ Production.UnnestedWithS ∷ Production.TaggedSource ∷ Production.BaseArguments ∷ Production.LocalTemporary ∷ Production.TaggedStdType ∷ Production.Expression ∷ Production.ArgumentWithT ∷ Production.PlainArgument ∷ Production.ParameterArgument ∷ Production.LeveledParameter ∷ Production.OneLiteral ∷ Production.OnePack ∷ Production.ValueOf ∷ Production.OfConcept ∷ Production.TemplateOf ∷ Production.PackOf ∷ Production.Declarations ∷ Production.NamedConcept ∷ Production.Cast ∷ Production.OperatorReference ∷ Production.SimpleId ∷ Production.FunctionParameter ∷ Production.AddressExpression ∷ Production.Binary ∷ Production.Unary ∷ Production.OfType ∷ Production.Call ∷ Production.Convert ∷ Production.Designated ∷ Production.DesignatedElement ∷ Production.DestructorName ∷ Production.OuterParameter ∷ Production.LeftFold ∷ Production.RightFold ∷ Production.Braces ∷ Production.Step ∷ Production.New ∷ Production.Conditional ∷ Production.Requires ∷ Production.RequiresOf ∷ Production.ExpandExpression ∷ Production.PackSize ∷ Production.Unresolved ∷ Production.PackIndex ∷ Production.TypedBraces ∷ Production.Rethrow ∷ Production.ExpressionA ∷ (Production.Operation Operation.ExpressionC) ∷ (Production.Operation Operation.ExpressionD) ∷ (Production.Operation Operation.ExpressionE) ∷ (Production.Operation Operation.ExpressionF) ∷ (Production.Operation Operation.ExpressionG) ∷ (Production.Operation Operation.ExpressionI) ∷ (Production.Operation Operation.ExpressionL) ∷ (Production.Operation Operation.ExpressionM) ∷ (Production.Operation Operation.ExpressionN) ∷ (Production.Operation Operation.ExpressionO) ∷ (Production.Operation Operation.ExpressionP) ∷ (Production.Operation Operation.ExpressionQ) ∷ (Production.Operation Operation.ExpressionR) ∷ (Production.Operation Operation.ExpressionS) ∷ (Production.Operation Operation.ExpressionT) ∷ Production.ExpressionWithT ∷ Production.ParameterExpression ∷ Production.BoundedArray ∷ Production.DeclaredArgument ∷ Production.TypeTag ∷ Production.Clone ∷ Production.ModuleInitializer ∷ Production.Temporary ∷ Production.Conversion ∷ Production.ConstLiteral ∷ Production.VolatileLiteral ∷ Production.SizedFloatLiteral ∷ Production.FloatLiteral ∷ Production.Tag ∷ Production.Constraint ∷ Production.IndexedType ∷ Production.BitInt ∷ Production.ConstrainedAuto ∷ Production.Enumeration ∷ Production.DefaultTypeEntity ∷ Production.DefaultEntity ∷ Production.Inheriting ∷ Production.Friend ∷ Production.Holder ∷ Production.NestTag ∷ Production.NestDecltype ∷ Production.NestModule ∷ Production.ConstructionVtable ∷ []
 
 -- the numbers of the productions
 unfoldable pub number_of : Production → ℕ
@@ -777,11 +778,11 @@ number_of Production.FoldOperatorL = 3
 number_of Production.FoldOperand = 4
 number_of Production.FoldPack = 5
 number_of Production.TypePack = 6
-number_of Production.Designators = 7
+number_of (Production.Operation Operation.Designators) = 7
 number_of Production.DesignatedValue = 8
 number_of Production.Placed = 9
-number_of Production.Initializer = 10
-number_of Production.BracedInitializer = 11
+number_of (Production.Operation Operation.Initializer) = 10
+number_of (Production.Operation Operation.BracedInitializer) = 11
 number_of Production.This = 12
 number_of Production.ParameterNumber = 13
 number_of Production.ConvertedDecltype = 14
@@ -983,21 +984,21 @@ number_of Production.PackIndex = 209
 number_of Production.TypedBraces = 210
 number_of Production.Rethrow = 211
 number_of Production.ExpressionA = 212
-number_of Production.ExpressionC = 213
-number_of Production.ExpressionD = 214
-number_of Production.ExpressionE = 215
-number_of Production.ExpressionF = 216
-number_of Production.ExpressionG = 217
-number_of Production.ExpressionI = 218
-number_of Production.ExpressionL = 219
-number_of Production.ExpressionM = 220
-number_of Production.ExpressionN = 221
-number_of Production.ExpressionO = 222
-number_of Production.ExpressionP = 223
-number_of Production.ExpressionQ = 224
-number_of Production.ExpressionR = 225
-number_of Production.ExpressionS = 226
-number_of Production.ExpressionT = 227
+number_of (Production.Operation Operation.ExpressionC) = 213
+number_of (Production.Operation Operation.ExpressionD) = 214
+number_of (Production.Operation Operation.ExpressionE) = 215
+number_of (Production.Operation Operation.ExpressionF) = 216
+number_of (Production.Operation Operation.ExpressionG) = 217
+number_of (Production.Operation Operation.ExpressionI) = 218
+number_of (Production.Operation Operation.ExpressionL) = 219
+number_of (Production.Operation Operation.ExpressionM) = 220
+number_of (Production.Operation Operation.ExpressionN) = 221
+number_of (Production.Operation Operation.ExpressionO) = 222
+number_of (Production.Operation Operation.ExpressionP) = 223
+number_of (Production.Operation Operation.ExpressionQ) = 224
+number_of (Production.Operation Operation.ExpressionR) = 225
+number_of (Production.Operation Operation.ExpressionS) = 226
+number_of (Production.Operation Operation.ExpressionT) = 227
 number_of Production.ExpressionWithT = 228
 number_of Production.ParameterExpression = 229
 number_of Production.BoundedArray = 230

@@ -3,6 +3,7 @@ use Rattle.std.specs.Prelude.{ℕ, List, [], ◌∷◌, Option, codes}
 use Prim.Native.String.{String}
 use Rattle.cpp_grammar.specs.declared.kind.Kind.{Kind}
 use Rattle.cpp_grammar.specs.declared.production.Production.{Production}
+use Rattle.cpp_grammar.specs.declared.production.Operation.{Operation}
 use Rattle.cpp_grammar.specs.Grammar.{Alternative, pick}
 
 abbrev on : String → Production → Alternative
@@ -128,10 +129,10 @@ wide_alternatives Kind.DeclarationAfterT = on "y" Production.Mark ∷ on "n" Pro
 wide_alternatives Kind.Declarations = on "T" Production.Declarations ∷ []
 wide_alternatives Kind.Concept = on "N" Production.NestedType ∷ on_ranges "0-9" "S" Production.NamedConcept ∷ []
 wide_alternatives Kind.SolidButT = on_ranges "a-jl-ov-z" "st" Production.Builtin ∷ on "u" Production.Vendor ∷ on "A" Production.ArrayType ∷ on "F" Production.Function ∷ on "C" Production.Complex ∷ on "P" Production.Pointer ∷ on "M" Production.MemberPointer ∷ on "S" Production.TypeWithS ∷ on "N" Production.NestedType ∷ on "W" Production.InModule ∷ on "Z" Production.LocalType ∷ on "U" Production.LocalTypeName ∷ on_ranges "0-9" "" Production.SourceName ∷ []
-wide_alternatives Kind.Expression = on "a" Production.ExpressionA ∷ on "c" Production.ExpressionC ∷ on "d" Production.ExpressionD ∷ on "e" Production.ExpressionE ∷ on "f" Production.ExpressionF ∷ on "g" Production.ExpressionG ∷ on "i" Production.ExpressionI ∷ on "l" Production.ExpressionL ∷ on "m" Production.ExpressionM ∷ on "n" Production.ExpressionN ∷ on "o" Production.ExpressionO ∷ on "p" Production.ExpressionP ∷ on "q" Production.ExpressionQ ∷ on "r" Production.ExpressionR ∷ on "s" Production.ExpressionS ∷ on "t" Production.ExpressionT ∷ on "T" Production.ExpressionWithT ∷ on "L" Production.OneLiteral ∷ on_ranges "0-9" "" Production.SimpleId ∷ []
+wide_alternatives Kind.Expression = on "a" Production.ExpressionA ∷ on "c" (Production.Operation Operation.ExpressionC) ∷ on "d" (Production.Operation Operation.ExpressionD) ∷ on "e" (Production.Operation Operation.ExpressionE) ∷ on "f" (Production.Operation Operation.ExpressionF) ∷ on "g" (Production.Operation Operation.ExpressionG) ∷ on "i" (Production.Operation Operation.ExpressionI) ∷ on "l" (Production.Operation Operation.ExpressionL) ∷ on "m" (Production.Operation Operation.ExpressionM) ∷ on "n" (Production.Operation Operation.ExpressionN) ∷ on "o" (Production.Operation Operation.ExpressionO) ∷ on "p" (Production.Operation Operation.ExpressionP) ∷ on "q" (Production.Operation Operation.ExpressionQ) ∷ on "r" (Production.Operation Operation.ExpressionR) ∷ on "s" (Production.Operation Operation.ExpressionS) ∷ on "t" (Production.Operation Operation.ExpressionT) ∷ on "T" Production.ExpressionWithT ∷ on "L" Production.OneLiteral ∷ on_ranges "0-9" "" Production.SimpleId ∷ []
 wide_alternatives Kind.ExpressionParameter = on_ranges "0-9" "_" Production.ParameterExpression ∷ on "L" Production.LeveledExpression ∷ []
 wide_alternatives Kind.UnleveledExpression = on_ranges "0-9" "_" Production.ParameterExpression ∷ []
-wide_alternatives Kind.AddressedExpression = on "L" Production.AddressedLiteral ∷ on "a" Production.ExpressionA ∷ on "c" Production.ExpressionC ∷ on "d" Production.ExpressionD ∷ on "e" Production.ExpressionE ∷ on "f" Production.ExpressionF ∷ on "g" Production.ExpressionG ∷ on "i" Production.ExpressionI ∷ on "l" Production.ExpressionL ∷ on "m" Production.ExpressionM ∷ on "n" Production.ExpressionN ∷ on "o" Production.ExpressionO ∷ on "p" Production.ExpressionP ∷ on "q" Production.ExpressionQ ∷ on "r" Production.ExpressionR ∷ on "s" Production.ExpressionS ∷ on "t" Production.ExpressionT ∷ on "T" Production.ExpressionWithT ∷ on_ranges "0-9" "" Production.SimpleId ∷ []
+wide_alternatives Kind.AddressedExpression = on "L" Production.AddressedLiteral ∷ on "a" Production.ExpressionA ∷ on "c" (Production.Operation Operation.ExpressionC) ∷ on "d" (Production.Operation Operation.ExpressionD) ∷ on "e" (Production.Operation Operation.ExpressionE) ∷ on "f" (Production.Operation Operation.ExpressionF) ∷ on "g" (Production.Operation Operation.ExpressionG) ∷ on "i" (Production.Operation Operation.ExpressionI) ∷ on "l" (Production.Operation Operation.ExpressionL) ∷ on "m" (Production.Operation Operation.ExpressionM) ∷ on "n" (Production.Operation Operation.ExpressionN) ∷ on "o" (Production.Operation Operation.ExpressionO) ∷ on "p" (Production.Operation Operation.ExpressionP) ∷ on "q" (Production.Operation Operation.ExpressionQ) ∷ on "r" (Production.Operation Operation.ExpressionR) ∷ on "s" (Production.Operation Operation.ExpressionS) ∷ on "t" (Production.Operation Operation.ExpressionT) ∷ on "T" Production.ExpressionWithT ∷ on_ranges "0-9" "" Production.SimpleId ∷ []
 wide_alternatives Kind.AddressedLiteral = on "_" Production.EncodingLiteral ∷ on "b" Production.BoolLiteral ∷ on "D" Production.LiteralWithD ∷ on_ranges "0-9S-Wh-jl-ow-y" "KMNPZacst" Production.IntegerLiteral ∷ on_ranges "d-g" "" Production.FloatLiteral ∷ []
 wide_alternatives Kind.ExpressionAfterA = on "d" Production.AddressExpression ∷ on "NSan" Production.Binary ∷ on "wz" Production.Unary ∷ on "t" Production.OfType ∷ []
 wide_alternatives Kind.ExpressionAfterC = on "lp" Production.Call ∷ on "m" Production.Binary ∷ on "o" Production.Unary ∷ on "v" Production.Convert ∷ on "c" Production.Cast ∷ []
@@ -157,13 +158,13 @@ wide_alternatives Kind.FoldOperand = on_ranges "0-9c-gl-t" "LTai" Production.Fol
 wide_alternatives Kind.FoldPack = on_ranges "0-9c-gl-t" "LTai" Production.FoldPack ∷ []
 wide_alternatives Kind.ValuePack = on_ranges "0-9c-gl-t" "LTai" Production.FoldPack ∷ on "J" Production.OnePack ∷ []
 wide_alternatives Kind.TypePack = on_ranges "0-9M-PR-Wa-jl-or-z" "ACDFKZ" Production.TypePack ∷ on "J" Production.OnePack ∷ []
-wide_alternatives Kind.DesignatedValue = on "d" Production.Designators ∷ on_ranges "0-9e-gl-t" "LTaci" Production.DesignatedValue ∷ []
+wide_alternatives Kind.DesignatedValue = on "d" (Production.Operation Operation.Designators) ∷ on_ranges "0-9e-gl-t" "LTaci" Production.DesignatedValue ∷ []
 wide_alternatives Kind.DesignatorAfterD = on "i" Production.Designated ∷ on "x" Production.DesignatedElement ∷ []
-wide_alternatives Kind.PlainValue = on "a" Production.ExpressionA ∷ on "c" Production.ExpressionC ∷ on "e" Production.ExpressionE ∷ on "f" Production.ExpressionF ∷ on "g" Production.ExpressionG ∷ on "i" Production.ExpressionI ∷ on "l" Production.ExpressionL ∷ on "m" Production.ExpressionM ∷ on "n" Production.ExpressionN ∷ on "o" Production.ExpressionO ∷ on "p" Production.ExpressionP ∷ on "q" Production.ExpressionQ ∷ on "r" Production.ExpressionR ∷ on "s" Production.ExpressionS ∷ on "t" Production.ExpressionT ∷ on "T" Production.ExpressionWithT ∷ on "L" Production.OneLiteral ∷ on_ranges "0-9" "" Production.SimpleId ∷ []
+wide_alternatives Kind.PlainValue = on "a" Production.ExpressionA ∷ on "c" (Production.Operation Operation.ExpressionC) ∷ on "e" (Production.Operation Operation.ExpressionE) ∷ on "f" (Production.Operation Operation.ExpressionF) ∷ on "g" (Production.Operation Operation.ExpressionG) ∷ on "i" (Production.Operation Operation.ExpressionI) ∷ on "l" (Production.Operation Operation.ExpressionL) ∷ on "m" (Production.Operation Operation.ExpressionM) ∷ on "n" (Production.Operation Operation.ExpressionN) ∷ on "o" (Production.Operation Operation.ExpressionO) ∷ on "p" (Production.Operation Operation.ExpressionP) ∷ on "q" (Production.Operation Operation.ExpressionQ) ∷ on "r" (Production.Operation Operation.ExpressionR) ∷ on "s" (Production.Operation Operation.ExpressionS) ∷ on "t" (Production.Operation Operation.ExpressionT) ∷ on "T" Production.ExpressionWithT ∷ on "L" Production.OneLiteral ∷ on_ranges "0-9" "" Production.SimpleId ∷ []
 wide_alternatives Kind.FieldName = on_ranges "0-9" "" Production.FieldName ∷ []
 wide_alternatives Kind.Placement = on "_" Production.Mark ∷ on_ranges "0-9c-gl-t" "LTai" Production.Placed ∷ []
 wide_alternatives Kind.SomeExpressions = on_ranges "0-9c-gl-t" "LTai" Production.Expressions ∷ []
-wide_alternatives Kind.Initializer = on "E" Production.RefEnd ∷ on "p" Production.Initializer ∷ on "i" Production.BracedInitializer ∷ []
+wide_alternatives Kind.Initializer = on "E" Production.RefEnd ∷ on "p" (Production.Operation Operation.Initializer) ∷ on "i" (Production.Operation Operation.BracedInitializer) ∷ []
 wide_alternatives Kind.InitializerAfterP = on "i" Production.Braces ∷ []
 wide_alternatives Kind.InitializerAfterI = on "l" Production.Braces ∷ []
 wide_alternatives Kind.OuterRest = on "p" Production.FunctionParameter ∷ []
@@ -173,7 +174,7 @@ wide_alternatives Kind.ConvertedSolid = on_ranges "a-jl-ov-z" "st" Production.Bu
 wide_alternatives Kind.ParameterAfterT = on_ranges "0-9" "_" Production.ParameterArgument ∷ on "L" Production.LeveledParameter ∷ []
 wide_alternatives Kind.DecltypeAfterD = on "Tt" Production.Decltype ∷ []
 wide_alternatives Kind.ConvertedAfterD = on "Tt" Production.Decltype ∷ on "ac" Production.BuiltinWithD ∷ []
-wide_alternatives Kind.ConvertRest = on "_" Production.Braces ∷ on "a" Production.ExpressionA ∷ on "c" Production.ExpressionC ∷ on "d" Production.ExpressionD ∷ on "e" Production.ExpressionE ∷ on "f" Production.ExpressionF ∷ on "g" Production.ExpressionG ∷ on "i" Production.ExpressionI ∷ on "l" Production.ExpressionL ∷ on "m" Production.ExpressionM ∷ on "n" Production.ExpressionN ∷ on "o" Production.ExpressionO ∷ on "p" Production.ExpressionP ∷ on "q" Production.ExpressionQ ∷ on "r" Production.ExpressionR ∷ on "s" Production.ExpressionS ∷ on "t" Production.ExpressionT ∷ on "T" Production.ExpressionWithT ∷ on "L" Production.OneLiteral ∷ on_ranges "0-9" "" Production.SimpleId ∷ []
+wide_alternatives Kind.ConvertRest = on "_" Production.Braces ∷ on "a" Production.ExpressionA ∷ on "c" (Production.Operation Operation.ExpressionC) ∷ on "d" (Production.Operation Operation.ExpressionD) ∷ on "e" (Production.Operation Operation.ExpressionE) ∷ on "f" (Production.Operation Operation.ExpressionF) ∷ on "g" (Production.Operation Operation.ExpressionG) ∷ on "i" (Production.Operation Operation.ExpressionI) ∷ on "l" (Production.Operation Operation.ExpressionL) ∷ on "m" (Production.Operation Operation.ExpressionM) ∷ on "n" (Production.Operation Operation.ExpressionN) ∷ on "o" (Production.Operation Operation.ExpressionO) ∷ on "p" (Production.Operation Operation.ExpressionP) ∷ on "q" (Production.Operation Operation.ExpressionQ) ∷ on "r" (Production.Operation Operation.ExpressionR) ∷ on "s" (Production.Operation Operation.ExpressionS) ∷ on "t" (Production.Operation Operation.ExpressionT) ∷ on "T" Production.ExpressionWithT ∷ on "L" Production.OneLiteral ∷ on_ranges "0-9" "" Production.SimpleId ∷ []
 wide_alternatives Kind.Unresolved = on "DNST" Production.UnresolvedInType ∷ on_ranges "0-9" "" Production.Levels ∷ []
 wide_alternatives Kind.UnresolvedType = on "D" Production.ConvertedDecltype ∷ on "T" Production.ConvertedWithT ∷ on "S" Production.TypeWithS ∷ on "N" Production.NestedType ∷ []
 wide_alternatives Kind.DestructorName = on "DNST" Production.DestroyedType ∷ on_ranges "0-9" "" Production.SimpleId ∷ []
@@ -187,7 +188,7 @@ wide_alternatives Kind.UnresolvedName = on "o" Production.UnresolvedOperator ∷
 wide_alternatives Kind.OperatorName = on "n" Production.OperatorReference ∷ []
 wide_alternatives Kind.AnyArray = on "A" Production.AnyArray ∷ []
 wide_alternatives Kind.ArrayRest = on_ranges "c-gl-t" "LTai" Production.BoundedArray ∷ on_ranges "0-9" "_" Production.LengthArray ∷ []
-wide_alternatives Kind.Bound = on "a" Production.ExpressionA ∷ on "c" Production.ExpressionC ∷ on "d" Production.ExpressionD ∷ on "e" Production.ExpressionE ∷ on "f" Production.ExpressionF ∷ on "g" Production.ExpressionG ∷ on "i" Production.ExpressionI ∷ on "l" Production.ExpressionL ∷ on "m" Production.ExpressionM ∷ on "n" Production.ExpressionN ∷ on "o" Production.ExpressionO ∷ on "p" Production.ExpressionP ∷ on "q" Production.ExpressionQ ∷ on "r" Production.ExpressionR ∷ on "s" Production.ExpressionS ∷ on "t" Production.ExpressionT ∷ on "T" Production.ExpressionWithT ∷ on "L" Production.OneLiteral ∷ []
+wide_alternatives Kind.Bound = on "a" Production.ExpressionA ∷ on "c" (Production.Operation Operation.ExpressionC) ∷ on "d" (Production.Operation Operation.ExpressionD) ∷ on "e" (Production.Operation Operation.ExpressionE) ∷ on "f" (Production.Operation Operation.ExpressionF) ∷ on "g" (Production.Operation Operation.ExpressionG) ∷ on "i" (Production.Operation Operation.ExpressionI) ∷ on "l" (Production.Operation Operation.ExpressionL) ∷ on "m" (Production.Operation Operation.ExpressionM) ∷ on "n" (Production.Operation Operation.ExpressionN) ∷ on "o" (Production.Operation Operation.ExpressionO) ∷ on "p" (Production.Operation Operation.ExpressionP) ∷ on "q" (Production.Operation Operation.ExpressionQ) ∷ on "r" (Production.Operation Operation.ExpressionR) ∷ on "s" (Production.Operation Operation.ExpressionS) ∷ on "t" (Production.Operation Operation.ExpressionT) ∷ on "T" Production.ExpressionWithT ∷ on "L" Production.OneLiteral ∷ []
 wide_alternatives Kind.NestMoreOrEnd = on "E" Production.NestEnd ∷ on_ranges "0-9c-el-p" "CDFLMSUWagirs" Production.NestNext ∷ []
 
 -- the production that a kind takes at a byte

@@ -13,6 +13,7 @@ use Rattle.sym_link.specs.Reading.{Found, Next}
 use Rattle.sym_link.specs.Unfold.{found, unfold_tree}
 use Rattle.cpp_grammar.specs.declared.kind.Kind.{Kind}
 use Rattle.cpp_grammar.specs.declared.production.Production.{Production}
+use Rattle.cpp_grammar.specs.declared.production.Operation.{Operation}
 use Rattle.cpp_grammar.specs.KindNumbers.{KIND_COUNT}
 use Rattle.cpp_grammar.specs.Grammar.{Alternative, alternatives, choose, number_of_kind, parts_of, is_chain}
 use Rattle.cpp_grammar.specs.Table.{abi}
@@ -240,6 +241,7 @@ are_small (x ∷ xs) = is_small x && are_small xs
 parts-small : (p : Production) → are_small (parts_of p) ≡ true
 unfolding are_small is_small parts_of number_of_kind
 parts-small Production.Mark = refl
+parts-small (Production.Operation Operation.ExpressionC) = refl
 parts-small _ = refl
 
 below : (a b : ℕ) → nat_lt a b ≡ true → a < b
@@ -261,6 +263,7 @@ small-symbols (x ∷ xs) h = let both = and_parts (is_small x) (are_small xs) h 
 behind-a-byte : (p : Production) → is_chain p && has_encoding (parts_of p) ≡ false
 unfolding is_chain parts_of has_encoding holds_encoding number_of_kind
 behind-a-byte Production.Mark = refl
+behind-a-byte (Production.Operation Operation.ExpressionC) = refl
 behind-a-byte _ = refl
 
 -- ## Parts

@@ -4,6 +4,7 @@ use Rattle.sym_link.specs.Reading.{Next, ◌>>=◌}
 use Rattle.std.proofs.lemmas.Bool.{false≢true}
 use Rattle.cpp_grammar.specs.declared.kind.Kind.{Kind}
 use Rattle.cpp_grammar.specs.declared.production.Production.{Production}
+use Rattle.cpp_grammar.specs.declared.production.Operation.{Operation}
 use Rattle.cpp_grammar.specs.Grammar.{kinds, number_of, number_of_kind, parts_of, is_chain}
 use Rattle.cpp_grammar.specs.Term.{Qualifiers, RefQualifier, any_value, lvalue_only, rvalue_only, explicit_object, Term, in_std, instance, local, parameter, string_literal}
 use Rattle.cpp_grammar.specs.Values as values
@@ -500,6 +501,7 @@ name-pays Production.NestedName is = λ byte around old idle small r s0 n0 k0 w 
       kept = tt;
       small = all;
     }
+name-pays (Production.Operation Operation.ExpressionC) is = absurd (false≢true is)
 name-pays _ is = absurd (false≢true is)
 
 pub name-gains : (p : Production) → is_listed_in name_rows p ≡ true → Free p name 0
@@ -514,6 +516,7 @@ further-pays : (p : Production) → is_listed_in further_rows p ≡ true → Pay
 unfolding is_listed_in further_rows kinds number_of number_of_kind parts_of is_chain unfolding_.behind meaning values.part class_of grant cost_of credit_of Knows need loan returned IsKnown IsKept letters_in tree_of qualifiers_of ref_of
 further-pays Production.AnyConstructor is = λ byte around old idle small v s n k all b few. record { few = omega (arith, few); known = k; kept = tt; small = all }
 further-pays Production.ComponentWithC is = λ byte around old idle small v s n k all b few. record { few = omega (arith, few); known = k; kept = tt; small = all }
+further-pays (Production.Operation Operation.ExpressionC) is = absurd (false≢true is)
 further-pays _ is = absurd (false≢true is)
 
 pub further-gains : (p : Production) → is_listed_in further_rows p ≡ true → Free p further 0

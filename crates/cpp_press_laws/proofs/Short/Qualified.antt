@@ -7,6 +7,7 @@ use Rattle.sym_core.specs.Value.{counted_value}
 use Rattle.sym_link.specs.Unfold.{found}
 use Rattle.cpp_grammar.specs.declared.kind.Kind.{Kind}
 use Rattle.cpp_grammar.specs.declared.production.Production.{Production}
+use Rattle.cpp_grammar.specs.declared.production.Operation.{Operation}
 use Rattle.cpp_grammar.specs.Grammar.{kinds, number_of, number_of_kind, parts_of, is_chain}
 use Rattle.cpp_grammar.specs.Rows.{row_of}
 use Rattle.cpp_grammar.specs.Term.{Qualifiers, Term, symbol, instance, parameter, lvalue, rvalue, function_type, qualified, integer}
@@ -180,6 +181,7 @@ qualified-pays bare Production.PlainWithD is = λ byte around old idle small v s
 qualified-pays type Production.ConstType is = λ byte around old idle small v s n k all b few. qualified-here around _ v s old b refl all (omega (arith, few))
 qualified-pays type Production.VolatileType is = λ byte around old idle small c s0 n0 k0 v s n k all b few. qualified-here around _ v s old b refl all (omega (arith, few))
 qualified-pays type Production.RestrictType is = λ byte around old idle small w s0 n0 k0 c s1 n1 k1 v s n k all b few. qualified-here around _ v s old b refl all (omega (arith, few))
+qualified-pays _ (Production.Operation Operation.ExpressionC) is = absurd (false≢true is)
 qualified-pays _ _ is = absurd (false≢true is)
 
 qualified-go : (c : Class) → each_goes (may_be_part false) (qualified_rows c) ≡ true

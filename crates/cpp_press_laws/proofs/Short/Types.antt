@@ -4,6 +4,7 @@ use Rattle.std.specs.Prelude.{◌&&◌, nat_eq}
 use Rattle.std.proofs.lemmas.Bool.{false≢true, true≢false}
 use Rattle.cpp_grammar.specs.declared.kind.Kind.{Kind}
 use Rattle.cpp_grammar.specs.declared.production.Production.{Production}
+use Rattle.cpp_grammar.specs.declared.production.Operation.{Operation}
 use Rattle.cpp_grammar.specs.Grammar.{kinds, number_of, number_of_kind, parts_of, is_chain}
 use Rattle.cpp_grammar.specs.Rows.{row_of}
 use Rattle.cpp_grammar.specs.Term.{Term, symbol, lvalue, rvalue, expansion, encoding_literal, nil, list}
@@ -235,6 +236,7 @@ type-pays Production.TypeWithD is = λ byte around old idle small v s n k all b 
 type-pays Production.ItemWithD is = λ byte around old idle small v s n k all b few. listed-here around v s old b all k (omega (arith, few))
 type-pays Production.PlainArgument is = λ byte around old idle small v s n k all b few. listed-here around v s old b all k (omega (arith, few))
 type-pays Production.ArgumentWithT is = λ byte around old idle small v s n k all b few. listed-here around v s old b all k (omega (arith, few))
+type-pays (Production.Operation Operation.ExpressionC) is = absurd (false≢true is)
 type-pays _ is = absurd (false≢true is)
 
 -- wherever it is
