@@ -9,7 +9,7 @@ from cpp_trees import BYTES, DISCRIMINATOR, MARK, NUMBER, OUTSIDE, OWN, QUALIFIE
 from files import read, template
 from meanings import makers
 from notation import applied, listed, snake, together
-from productions import coded_cases, defined_cases
+from productions import coded_cases, defined_cases, imports
 from rules import ALIKE
 from tree_clauses import SCOPED, SUBTREES
 
@@ -129,7 +129,7 @@ def family_law(family, productions):
 
 def family_laws(found):
     """The same of each family."""
-    return template("cpp_link/FamilyArms.antt", laws=[family_law(*one) for one in found.items()])
+    return template("cpp_link/FamilyArms.antt", alike=imports(), laws=[family_law(*one) for one in found.items()])
 
 def family_answers(family, productions):
     """The answer that a family's function has an arm for each of its productions."""

@@ -2,6 +2,9 @@
 of the others' (ALIKE of rules.py): so what is known of a production by its meaning has one case for all of them."""
 from rules import ALIKE
 
+# an enum has no more
+MOST_VARIANTS = 256
+
 
 def group_of(production):
     """The name of those that mean the same as a production, if it is one of several."""
@@ -41,7 +44,14 @@ def coded_cases(values):
     return [(case, f"{case}(_)" if case in ALIKE else coded(case), value) for case, value in met(values)]
 
 
+def imports():
+    """The lines by which definitions import those that mean the same."""
+    return [f"use Rattle.cpp_grammar.specs.declared.production.{name}.{{{name}}}" for name in ALIKE]
+
+
 def variants(productions):
     """The variants of the enum: the productions, and for those that mean the same one that has them."""
-    groups = {ALIKE[name][0]: f"{name}({name})" for name in ALIKE}
-    return [groups.get(production, production) for production in productions if not group_of(production) or production in groups]
+    groups = {members[0]: f"{name}({name})" for name, members in ALIKE.items()}
+    found = [groups.get(production, production) for production in productions if not group_of(production) or production in groups]
+    assert len(found) <= MOST_VARIANTS, "more productions than variants: some that mean the same may be an enum of their own"
+    return found

@@ -116,6 +116,9 @@ def build(extended=True, widened=False):
         elif sort == "kind":
             MARKED.extend((names[0], *rule[:2]) for rule in rules if len(rule) == 3)
             K[names[0]] = ("empty" in names, [rule[:2] for rule in rules if len(rule) == 2 or widened])
+    for name, members in ALIKE.items():
+        meant = [(P[member][0], ROWS[member]) for member in members if member in P]
+        assert all(one == meant[0] for one in meant), f"productions of {name} that don't mean the same"
     put_in_order()
 
 
