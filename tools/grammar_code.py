@@ -122,7 +122,7 @@ def abi_files():
                       empty=[f"        Kind::{kind} => true," for kind in may_be_empty])
     yield from filled("src/production.rt", productions=[f"    {variant}," for variant in variants(P)], alike="\n\n".join(map(alike, ALIKE)))
     yield from filled("src/table.rt", **table())
-    yield from filled("specs/Grammar.antt", alike=imports(), kind_numbers=of_kinds("number_of_kind", numbered(K)), alternatives=of_kinds("alternatives", alternatives()),
+    yield from filled("specs/Grammar.antt", alike=imports(map(defined, P)), kind_numbers=of_kinds("number_of_kind", numbered(K)), alternatives=of_kinds("alternatives", alternatives()),
                       parts=of_productions("parts_of", {production: listed(map(antt_symbol, symbols)) for production, (_, symbols) in P.items()}),
                       chains=of_productions("is_chain", {production: "true" for production, (ate, _) in P.items() if not ate}),
                       empty=of_kinds("may_be_empty", dict.fromkeys(may_be_empty, "true")), kinds=listed(f"Kind.{kind}" for kind in K),
@@ -135,11 +135,13 @@ def wide_files(after, depth, height):
     merged = {kind: "".join(f"{low}-{high}" for low, high in runs(after[kind], 1)[0]) for kind in K}
     yield from filled("src/wide_table.rt", letters=rust_letters("WIDE_ROWS", True),
                       rules=rust_rules("wide", "&WIDE_ROWS[kind as usize]", "&row.letters", "row.base as usize + letter as usize"))
-    yield from filled("specs/Wide.antt", alike=imports(), alternatives=of_kinds("wide_alternatives", alternatives()))
+    clauses = of_kinds("wide_alternatives", alternatives())
+    yield from filled("specs/Wide.antt", alike=imports(clauses), alternatives=clauses)
     yield from filled("specs/Follow.antt", after=of_kinds("after_ranges", {kind: f'codes "{merged[kind]}"' for kind in K}),
                       ranks=of_kinds("rank", {kind: depth[kind] for kind in K if depth[kind]}), heights=of_kinds("height", {kind: height[kind] for kind in K if height[kind]}))
 
 
 def files_before(later, earlier):
     """That of the kinds that began otherwise before there were vector types and the like, by the alternatives of both grammars."""
-    yield from filled("specs/Before.antt", alike=imports(), alternatives=of_kinds("alternatives_before", {kind: earlier[kind] for kind in later if earlier[kind] != later[kind]}))
+    clauses = of_kinds("alternatives_before", {kind: earlier[kind] for kind in later if earlier[kind] != later[kind]})
+    yield from filled("specs/Before.antt", alike=imports(clauses), alternatives=clauses)

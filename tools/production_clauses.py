@@ -129,7 +129,8 @@ def family_law(family, productions):
 
 def family_laws(found):
     """The same of each family."""
-    return template("cpp_link/FamilyArms.antt", alike=imports(), laws=[family_law(*one) for one in found.items()])
+    laws = [family_law(*one) for one in found.items()]
+    return template("cpp_link/FamilyArms.antt", alike=imports(laws), laws=laws)
 
 def family_answers(family, productions):
     """The answer that a family's function has an arm for each of its productions."""

@@ -1,5 +1,7 @@
 """How code and definitions name C++'s productions, and cases over them. Those that mean the same are an enum of their own, which is within one variant
 of the others' (ALIKE of rules.py): so what is known of a production by its meaning has one case for all of them."""
+import re
+
 from rules import ALIKE
 
 # an enum has no more
@@ -44,9 +46,10 @@ def coded_cases(values):
     return [(case, f"{case}(_)" if case in ALIKE else coded(case), value) for case, value in met(values)]
 
 
-def imports():
-    """The lines by which definitions import those that mean the same."""
-    return [f"use Rattle.cpp_grammar.specs.declared.production.{name}.{{{name}}}" for name in ALIKE]
+def imports(lines):
+    """The lines by which definitions import those that mean the same, as far as these lines name them; each begins a new line."""
+    named = [name for name in ALIKE if re.search(rf"(?<!Production\.)\b{name}\b", "\n".join(lines))]
+    return "".join(f"\nuse Rattle.cpp_grammar.specs.declared.production.{name}.{{{name}}}" for name in named)
 
 
 def variants(productions):
