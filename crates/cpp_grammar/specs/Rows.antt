@@ -534,8 +534,8 @@ row_of Production.TypedBraces = plain (a_pair taken (only (tree_at 0)) (only (li
 row_of Production.Rethrow = plain (a_pair taken (only no_tree) (only no_tree))
 -- <expression> ::= a and the second letter of an operator, with its operands
 row_of Production.ExpressionA = plain (own by_letters (nodes 1))
--- What is read by the first letter of its operator: an expression, an initializer, or a designator within another. All mean
--- the same by that letter and by what is read after it, and differ in what may be read there.
+-- What is read by the first letter of its operator: an expression, an initializer, or a designator within
+-- another. All mean the same by that letter and by what is read after it, and differ in what may be there.
 row_of (Production.Operation _) = plain (own by_letters (nodes 1))
 -- <expression> ::= <template-param> [<template-args>]
 row_of Production.ExpressionWithT = plain (handed 0)

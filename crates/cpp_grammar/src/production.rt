@@ -244,8 +244,8 @@ pub enum Production {
     ConstructionVtable,
 }
 
-/// What is read by the first letter of its operator: an expression, an initializer, or a designator within another. All mean
-/// the same by that letter and by what is read after it, and differ in what may be read there.
+/// What is read by the first letter of its operator: an expression, an initializer, or a designator within
+/// another. All mean the same by that letter and by what is read after it, and differ in what may be there.
 #[derive(Clone, Copy)]
 pub enum Operation {
     ExpressionC,

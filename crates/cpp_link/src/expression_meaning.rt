@@ -47,8 +47,8 @@ impl Linked {
         match production {
             // <expression> ::= a and the second letter of an operator, with its operands
             Production::ExpressionA => self.operation_by(symbol, byte, parts),
-            // What is read by the first letter of its operator: an expression, an initializer, or a designator within another. All mean
-            // the same by that letter and by what is read after it, and differ in what may be read there.
+            // What is read by the first letter of its operator: an expression, an initializer, or a designator within
+            // another. All mean the same by that letter and by what is read after it, and differ in what may be there.
             Production::Operation(_) => self.operation_by(symbol, byte, parts),
             _ => unreachable!(),
         }
