@@ -54,7 +54,7 @@ constexpr std::uint32_t of_names(std::uint32_t flags) noexcept
 // Calls with a buffer on the stack, and once more with one of the length that was told; null where there is no text.
 template <class Call> std::optional<std::string> written(Call call, symdemangle_result &result)
 {
-    char few[16384];
+    char few[4096];
     std::optional<std::string> text;
     if (call(few, sizeof few) == SYMDEMANGLE_OK) {
         text.emplace(few, result.length);

@@ -34,7 +34,7 @@ static char *copy(const char *text, size_t length)
 
 char *symdemangle_string(const char *name, uint32_t flags)
 {
-    char few[16384], *string;
+    char few[2048], *string;
     symdemangle_result result;
     size_t length;
     if (!name)

@@ -84,7 +84,7 @@ static char *put(const char *text, size_t length, char *buffer, size_t *size)
 static char *text_of(const char *mangled, uint32_t flags, char *buffer, size_t *size, uint32_t *status)
 {
     symdemangle_result result;
-    char few[16384], *text = few;
+    char few[2048], *text = few;
     size_t length = strlen(mangled);
     *status = symdemangle_text(mangled, length, LIMIT, flags, few, sizeof few, &result);
     if (*status == SYMDEMANGLE_BUFFER) {
