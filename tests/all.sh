@@ -140,6 +140,11 @@ else
 fi
 try colliding tests/colliding.py "$symfilt"
 try hostile tests/hostile.py "$demangle"
+if [ -x /usr/bin/time ]; then
+    try repeats tests/repeats.py "$symfilt" "$demangle"
+else
+    leave repeats "GNU time isn't installed"
+fi
 try pressed tests/pressed.py "$symfilt"
 cargo=$(command -v cargo)
 if [ -n "$cargo" ] && nm "$cargo" 2>/dev/null | grep -q '_ZN.*17h[0-9a-f]\{16\}E'; then

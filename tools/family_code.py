@@ -5,6 +5,7 @@ import node_code
 import cpp_trees
 from files import sections, template
 from notation import camel, snake
+from productions import coded_cases
 from row_words import CODE, said
 from rules import ABOVE
 from rust_layout import arm, split
@@ -72,9 +73,9 @@ USES = [("crate::expressions", "first_letter second_letter".split()), ("crate::m
 def function(family, says, productions, rows, node_of):
     """The function of a family."""
     arms = []
-    for p in productions:
-        arms += [f"            // {line}" for line in ABOVE.get(p, [])]
-        arms += arm(p, outcome(rows[p].means, node_of))
+    for case, pattern, means in coded_cases({p: outcome(rows[p].means, node_of) for p in productions}):
+        arms += [f"            // {line}" for line in ABOVE.get(case, [])]
+        arms += arm(pattern, means)
     is_asked = any(re.search(r"\bbyte\b", a) for a in arms if "//" not in a)
     return template("cpp_link/family.rt", says=says, name=snake(family), family=family, byte="        let byte = symbol[place as usize];\n" if is_asked else "", arms=arms).rstrip("\n")
 

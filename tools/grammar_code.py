@@ -5,7 +5,8 @@ import os
 from files import template
 from grammar_laws import klass, sym_class
 from notation import listed, runs, snake
-from rules import BLANK, K, NAME, P, TOKENS
+from productions import defined, defined_cases, imports, variants
+from rules import ABOVE, ALIKE, BLANK, K, NAME, P, TOKENS
 from table_code import FIRST, LAST, after_each, letter_rows, symbol_row
 
 
@@ -18,8 +19,8 @@ def on(chars, production):
     """An alternative, by the bytes at which it is taken."""
     ranges, singles = runs(chars, 3)
     if ranges:
-        return f'on_ranges "{"".join(a + "-" + b for a, b in ranges)}" "{singles}" Production.{production}'
-    return f'on "{singles}" Production.{production}'
+        return f'on_ranges "{"".join(a + "-" + b for a, b in ranges)}" "{singles}" {defined(production)}'
+    return f'on "{singles}" {defined(production)}'
 
 
 def alternatives():
@@ -99,7 +100,13 @@ def of_kinds(function, values):
 
 def of_productions(function, values):
     """A clause for each of these productions."""
-    return [f"{function} Production.{production} = {value}" for production, value in values.items()]
+    return [f"{function} {case} = {value}" for case, value in defined_cases(values)]
+
+
+def alike(name):
+    """The enum of productions that mean the same."""
+    says = [f"/// {line}" for line in ABOVE[name]]
+    return "\n".join([*says, "#[derive(Clone, Copy)]", f"pub enum {name} {{", *(f"    {production}," for production in ALIKE[name]), "}"])
 
 
 def numbered(names):
@@ -113,13 +120,13 @@ def abi_files():
     names = "\n\n".join(f"abbrev pub {snake(kind).upper()} : ℕ\n{snake(kind).upper()} = {i}" for i, kind in enumerate(K))
     yield from filled("src/kind.rt", kinds=[f"    {kind}," for kind in K], numbered=[f"        {i} => Some(Kind::{kind})," for i, kind in enumerate(K)],
                       empty=[f"        Kind::{kind} => true," for kind in may_be_empty])
-    yield from filled("src/production.rt", productions=[f"    {production}," for production in P])
+    yield from filled("src/production.rt", productions=[f"    {variant}," for variant in variants(P)], alike="\n\n".join(map(alike, ALIKE)))
     yield from filled("src/table.rt", **table())
-    yield from filled("specs/Grammar.antt", kind_numbers=of_kinds("number_of_kind", numbered(K)), alternatives=of_kinds("alternatives", alternatives()),
+    yield from filled("specs/Grammar.antt", alike=imports(map(defined, P)), kind_numbers=of_kinds("number_of_kind", numbered(K)), alternatives=of_kinds("alternatives", alternatives()),
                       parts=of_productions("parts_of", {production: listed(map(antt_symbol, symbols)) for production, (_, symbols) in P.items()}),
                       chains=of_productions("is_chain", {production: "true" for production, (ate, _) in P.items() if not ate}),
                       empty=of_kinds("may_be_empty", dict.fromkeys(may_be_empty, "true")), kinds=listed(f"Kind.{kind}" for kind in K),
-                      productions=listed(f"Production.{production}" for production in P), numbers=of_productions("number_of", numbered(P)))
+                      productions=listed(map(defined, P)), numbers=of_productions("number_of", numbered(P)))
     yield from filled("specs/KindNumbers.antt", kind_count=str(len(K)), production_count=str(len(P)), kinds=names)
 
 
@@ -128,11 +135,13 @@ def wide_files(after, depth, height):
     merged = {kind: "".join(f"{low}-{high}" for low, high in runs(after[kind], 1)[0]) for kind in K}
     yield from filled("src/wide_table.rt", letters=rust_letters("WIDE_ROWS", True),
                       rules=rust_rules("wide", "&WIDE_ROWS[kind as usize]", "&row.letters", "row.base as usize + letter as usize"))
-    yield from filled("specs/Wide.antt", alternatives=of_kinds("wide_alternatives", alternatives()))
+    clauses = of_kinds("wide_alternatives", alternatives())
+    yield from filled("specs/Wide.antt", alike=imports(clauses), alternatives=clauses)
     yield from filled("specs/Follow.antt", after=of_kinds("after_ranges", {kind: f'codes "{merged[kind]}"' for kind in K}),
                       ranks=of_kinds("rank", {kind: depth[kind] for kind in K if depth[kind]}), heights=of_kinds("height", {kind: height[kind] for kind in K if height[kind]}))
 
 
 def files_before(later, earlier):
     """That of the kinds that began otherwise before there were vector types and the like, by the alternatives of both grammars."""
-    yield from filled("specs/Before.antt", alternatives=of_kinds("alternatives_before", {kind: earlier[kind] for kind in later if earlier[kind] != later[kind]}))
+    clauses = of_kinds("alternatives_before", {kind: earlier[kind] for kind in later if earlier[kind] != later[kind]})
+    yield from filled("specs/Before.antt", alike=imports(clauses), alternatives=clauses)

@@ -5,7 +5,8 @@ import cpp_trees
 from files import template
 from notation import applied, braced, listed
 from row_words import said
-from rules import ABOVE
+from productions import defined, defined_cases
+from rules import ABOVE, ALIKE
 from rust_layout import split
 from cpp_trees import BYTES, NUMBER, TRUTH, QUALIFIERS, MARK, SIGNED, DISCRIMINATOR
 
@@ -157,7 +158,10 @@ def antt_builders(table):
 
 def antt_rows(table):
     """The rows, as definitions."""
-    lines = [line for p, row in table.items() for line in (*(f"-- {above}" for above in ABOVE[p]), f"row_of Production.{p} = {row.definition()}")]
+    above = {defined(production): ABOVE[production] for production in table}
+    above.update({f"(Production.{name} _)": ABOVE[name] for name in ALIKE})
+    rows_of = defined_cases({production: row.definition() for production, row in table.items()})
+    lines = [line for case, row in rows_of for line in (*(f"-- {says}" for says in above[case]), f"row_of {case} = {row}")]
     own = sorted({word for word in re.findall(r"own (\w+) \(nodes", "\n".join(lines))})
     return template("cpp_grammar/Rows.antt", makers=", ".join("new_" + tree[0] for tree in makers(table)), own=", ".join(own), rows=lines)
 

@@ -9,6 +9,8 @@ from cpp_trees import BYTES, DISCRIMINATOR, MARK, NUMBER, OUTSIDE, OWN, QUALIFIE
 from files import read, template
 from meanings import makers
 from notation import applied, listed, snake, together
+from productions import coded_cases, defined_cases, imports
+from rules import ALIKE
 from tree_clauses import SCOPED, SUBTREES
 
 # What is read of a value's parts, and of the arguments of a tree, with arguments in its parameters: of a tree it is annotated.
@@ -29,7 +31,7 @@ def read_noted(names, module, sort, one, noted, listed, whole, first_of_them, pu
 
 # ## Productions
 
-def by_production(function, values, others): return [f"{function} Production.{p} = {v}" for p, v in values.items()] + [f"{function} _ = {others}"]
+def by_production(function, values, others): return [f"{function} {case} = {v}" for case, v in defined_cases(values)] + [f"{function} _ = {others}"]
 
 # What a kind has at most, less the nodes that its bytes pay for: two a byte.
 SLACK_BASE = 10
@@ -105,24 +107,34 @@ def families():
 
 def family_specs(found):
     """The family of each production."""
-    return template("cpp_link/Families.antt", clauses=[f"family_of Production.{p} = Family.{family}" for family, productions in found.items() for p in productions])
+    of_each = {p: f"Family.{family}" for family, productions in found.items() for p in productions}
+    return template("cpp_link/Families.antt", clauses=[f"family_of {case} = {family}" for case, family in defined_cases(of_each)])
+
+def arms_of(productions):
+    """The arms of a match over a family's productions: those that mean the same have one."""
+    return [case for case, pattern, _ in coded_cases(dict.fromkeys(productions))]
+
+def isnt(case):
+    """That a production isn't this one, or none of those that mean the same."""
+    return f"((one : {case}) → p ≡ Production.{case} one → ⊥)" if case in ALIKE else f"(p ≡ Production.{case} → ⊥)"
 
 def family_law(family, productions):
     """That a production of a family is one of those that its function has an arm for, and that one of the family Common isn't rare."""
-    name, is_common = snake(family), family == "Common"
-    others = ["rare"] if is_common else [f"n{i}" for i in range(len(productions))]
-    refuted = ["rare"] * len(productions) if is_common else [f"{other} refl" for other in others]
-    premises = " → IsRare p" if is_common else "".join(f"\n    → (p ≡ Production.{p} → ⊥)" for p in productions) + "\n   "
-    clauses = [applied(name, [f"Production.{p}", "is", *others]) + f" = {absurd}" for p, absurd in zip(productions, refuted)]
+    name, is_common, cases = snake(family), family == "Common", arms_of(productions)
+    others = ["rare"] if is_common else [f"n{i}" for i in range(len(cases))]
+    refuted = ["rare" if is_common else f"{other}{' one' if case in ALIKE else ''} refl" for case, other in zip(cases, others * len(cases))]
+    premises = " → IsRare p" if is_common else "".join(f"\n    → {isnt(case)}" for case in cases) + "\n   "
+    clauses = [applied(name, [f"(Production.{case} one)" if case in ALIKE else f"Production.{case}", "is", *others]) + f" = {absurd}" for case, absurd in zip(cases, refuted)]
     return template("cpp_link/family_law.antt", family=family, name=name, premises=premises, others=" ".join(others), clauses=clauses).rstrip("\n")
 
 def family_laws(found):
     """The same of each family."""
-    return template("cpp_link/FamilyArms.antt", laws=[family_law(*one) for one in found.items()])
+    laws = [family_law(*one) for one in found.items()]
+    return template("cpp_link/FamilyArms.antt", alike=imports(laws), laws=laws)
 
 def family_answers(family, productions):
     """The answer that a family's function has an arm for each of its productions."""
-    return template("cpp_link/unreachable.antt", name=snake(family), others=[f"    c.in_default.not-{p}" for p in productions])
+    return template("cpp_link/unreachable.antt", name=snake(family), others=[f"    c.in_default.not-{case}" for case in arms_of(productions)])
 
 def common_answers():
     """The paths and the answers of the functions that have an arm for each common production: others are rare. What `finish_rule` hands to
@@ -158,4 +170,4 @@ def makes_at_end():
         if form == "in_place" or form.startswith("a_name "): return "name_at_end known"
         if m := re.fullmatch(r"own (\w+) \d", form): return MAKES_AT_END.get(m[1])
     found = {p: value(row.form) for p, row in grammar.rows().items()}
-    return [*[f"makes_at_end Production.{p} known = {v}" for p, v in found.items() if v], "makes_at_end p known = made_at_end p"]
+    return [*[f"makes_at_end {case} known = {v}" for case, v in defined_cases({p: v for p, v in found.items() if v})], "makes_at_end p known = made_at_end p"]

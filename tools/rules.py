@@ -14,7 +14,9 @@ FILES = ("cpp_names.txt", "cpp_types.txt", "cpp_arguments.txt", "cpp_wide_forms.
 P, ROWS = {}, {}
 # kinds: name -> (may be empty, [(class, production)]). The ABI's grammar is the wide one less the alternatives that are marked here
 K, MARKED = {}, []         # (kind, class, production)
-# the ABI's lines above a production
+# productions that mean the same and differ in what may come in them, by an enum of their own: name -> its productions
+ALIKE = {}
+# the ABI's lines above a production, and what is said of productions that mean the same
 ABOVE = {}
 # the number of the production that no row of letters has, since its byte is the blank
 BLANK = ord(" ")
@@ -98,11 +100,15 @@ class Reader:
 
 def build(extended=True, widened=False):
     """Enters one of the grammars: with vector types and the like or without them, and the wide one."""
-    for table in (P, ROWS, K, MARKED):
+    for table in (P, ROWS, K, MARKED, ALIKE):
         table.clear()
     reader = Reader(extended)
     for head, lines in (section for name in FILES for section in sections(name)):
         sort, *names = head.split()
+        if sort == "alike":
+            ALIKE[names[0]] = [production for line, above in lines for production in line.split()]
+            ABOVE[names[0]] = [comment for line, above in lines for comment in above]
+            continue
         rules = [rule for line, above in lines for rule in reader.rules(line, above)]
         if sort == "group":
             assert names[0] not in reader.groups, f"two groups {names[0]}"
@@ -110,6 +116,9 @@ def build(extended=True, widened=False):
         elif sort == "kind":
             MARKED.extend((names[0], *rule[:2]) for rule in rules if len(rule) == 3)
             K[names[0]] = ("empty" in names, [rule[:2] for rule in rules if len(rule) == 2 or widened])
+    for name, members in ALIKE.items():
+        meant = [(P[member][0], ROWS[member]) for member in members if member in P]
+        assert all(one == meant[0] for one in meant), f"productions of {name} that don't mean the same"
     put_in_order()
 
 

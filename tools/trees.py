@@ -17,6 +17,7 @@ from files import read
 from node_clauses import NODE_TYPES, by_nodes, noted_nodes
 from node_code import nodes
 from notation import snake
+from productions import coded_cases
 from production_clauses import (
     READ_OF_ARGUMENTS, READ_OF_VALUES, arms, common_answers, families, family_answers, family_laws, family_specs, read_noted,
 )
@@ -31,7 +32,7 @@ def arms_by_production(found):
     """Path, function, and the arms of its match that are written."""
     yield "cpp_link/src/finish.rt", "finish_rule", list(arms("finish_as", words.COMMON))
     yield "cpp_link/src/between.rt", "before_by_step", list(arms("before_as", words.COMMON_BEFORE))
-    yield "cpp_link/src/families.rt", "family_of", [f"        Production::{p} => Family::{family}," for family, productions in found.items() for p in productions]
+    yield "cpp_link/src/families.rt", "family_of", [f"        Production::{pattern} => Family::{family}," for family, productions in found.items() for _, pattern, _ in coded_cases(dict.fromkeys(productions))]
     yield "cpp_tree/src/node.rt", "Node", list(node_code.variants())
     yield "cpp_tree/src/node.rt", "is_encoding", [f"            Node::{node} {{ .. }} => true," for node, tree, args in nodes() if tree in cpp_trees.ENCODINGS]
     yield "cpp_tree/src/notes.rt", "noted", node_code.noted()

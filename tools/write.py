@@ -21,6 +21,7 @@ import marked
 import printing
 import rust_grammar
 import rust_productions
+import short_names
 import trees
 from files import read, sources
 
@@ -34,6 +35,7 @@ WHOLE = {
     "tools/printing.py": printing.files,
     "tools/family_code.py": lambda crates: family_code.files(),
     "tools/rust_productions.py": lambda crates: rust_productions.whole_files(),
+    "tools/short_names.py": short_names.files,
     "tools/file_table.py": file_table.files,
 }
 IN_PARTS = {"tools/trees.py": trees.files, "tools/rust_productions.py": rust_productions.files, "tools/alike.py": alike.files}

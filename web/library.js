@@ -8,7 +8,7 @@ export const STATUS = {
     OK: 0, MALFORMED: 1, BAD_REFERENCE: 2, BAD_VALUE: 3, TOO_LONG: 4, MEMORY: 5, BUFFER: 6, SIZE: 7, FLAGS: 8, NO_SYMBOL: 11,
     NO_SPELLING: 12,
 };
-export const FLAG = { BRIEF: 1, NO_PARAMETERS: 2, WIDE: 4, LEGACY: 8, UNDERSCORE: 16, WITHIN: 64 };
+export const FLAG = { BRIEF: 1, NO_PARAMETERS: 2, WIDE: 4, LEGACY: 8, UNDERSCORE: 16, WITHIN: 64, SHORT: 256, KEEP_INLINE: 512 };
 export const DEFAULT_LIMIT = 1_000_000;
 export const GREATEST_LIMIT = 4_294_967_295;
 /** What reading a name of n bytes makes at most. */

@@ -80,6 +80,7 @@ function optionsNow() {
     return {
         brief: controls.brief.checked,
         noParameters: controls.noParameters.checked,
+        short: controls.short.checked,
         legacy: controls.legacy.checked,
         limit: isNumber ? Number(controls.limit.value) : DEFAULT_LIMIT,
     };

@@ -228,4 +228,5 @@ export const flagsOf = (options) =>
     FLAG.UNDERSCORE | FLAG.WIDE | FLAG.WITHIN |
     (options.brief ? FLAG.BRIEF : 0) |
     (options.noParameters ? FLAG.NO_PARAMETERS : 0) |
+    (options.short ? FLAG.SHORT : 0) |
     (options.legacy ? FLAG.LEGACY : 0);

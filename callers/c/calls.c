@@ -71,9 +71,9 @@ static void texts(void)
     is_refused("_Z1fY", 99, 0, SYMDEMANGLE_MALFORMED, 4);
     is_refused("_Z1fS_", 99, 0, SYMDEMANGLE_BAD_REFERENCE, 4);
     is_refused("_ZN1AUt18446744073709551614_E", 99, 0, SYMDEMANGLE_BAD_VALUE, 5);
-    is_refused("_RNvC3foo3bar", 99, 256, SYMDEMANGLE_FLAGS, 0);
+    is_refused("_RNvC3foo3bar", 99, 1024, SYMDEMANGLE_FLAGS, 0);
     is_refused("_RNvC3foo3bar", 99, 0x80000000u, SYMDEMANGLE_FLAGS, 0);
-    is_refused("main", 99, 256, SYMDEMANGLE_FLAGS, 0);
+    is_refused("main", 99, 1024, SYMDEMANGLE_FLAGS, 0);
 }
 
 static void wide_texts(void)
@@ -142,6 +142,22 @@ static void types(void)
     is_refused("", 99, SYMDEMANGLE_TYPES, SYMDEMANGLE_MALFORMED, 0);
 }
 
+/* Short texts, whose limit is that of the whole text. */
+static void short_texts(void)
+{
+    static const char *const name = "_Z1fNSt3__16vectorIiNS_9allocatorIiEEEE";
+    uint32_t keeps = SYMDEMANGLE_SHORT + SYMDEMANGLE_KEEP_INLINE;
+    has_text(name, 99, SYMDEMANGLE_SHORT, "f(std::vector<int>)");
+    has_text(name, 99, keeps, "f(std::__1::vector<int>)");
+    has_text(name, 99, SYMDEMANGLE_KEEP_INLINE, "f(std::__1::vector<int, std::__1::allocator<int>>)");
+    has_text(name, 99, SYMDEMANGLE_SHORT + SYMDEMANGLE_NO_PARAMETERS, "f");
+    has_text("_Z1fNSt7__cxx1112basic_stringIcSt11char_traitsIcESaIcEEE", 199, SYMDEMANGLE_SHORT + SYMDEMANGLE_WIDE, "f(std::string)");
+    has_text("St6vectorIiSaIiEE", 99, SYMDEMANGLE_SHORT + SYMDEMANGLE_TYPES, "std::vector<int>");
+    has_text("_RNvC3foo3bar", 99, keeps + SYMDEMANGLE_LEGACY, "foo::bar");
+    is_refused(name, 49, SYMDEMANGLE_SHORT, SYMDEMANGLE_TOO_LONG, 0);
+    is_refused("_Z1fY", 99, SYMDEMANGLE_SHORT, SYMDEMANGLE_MALFORMED, 4);
+}
+
 static void is_told(const symdemangle_result *told, uint32_t status, size_t length, uint32_t offset, const char *name)
 {
     check(told->status == status && told->length == length && told->offset == offset, "one of many", name);
@@ -171,7 +187,7 @@ static void many(void)
     told[0] = told[1] = untold;
     check(symdemangle_texts(names, length, falling, 2, 99, 0, buffer, sizeof buffer, told) == SYMDEMANGLE_ENDS, "ends that go down", "");
     check(symdemangle_texts(names, length, beyond, 2, 99, 0, buffer, sizeof buffer, told) == SYMDEMANGLE_ENDS, "an end past the bytes", "");
-    check(symdemangle_texts(names, length, ends, 2, 99, 256, buffer, sizeof buffer, told) == SYMDEMANGLE_FLAGS, "flags of many", "");
+    check(symdemangle_texts(names, length, ends, 2, 99, 1024, buffer, sizeof buffer, told) == SYMDEMANGLE_FLAGS, "flags of many", "");
     check(symdemangle_texts(names, length, NULL, 2, 99, 0, buffer, sizeof buffer, told) == SYMDEMANGLE_NULL, "null ends", "");
     check(symdemangle_texts(names, length, ends, 2, 99, 0, buffer, sizeof buffer, NULL) == SYMDEMANGLE_NULL, "null results", "");
     check(told[0].status == 9 && told[1].offset == 9 && is_kept(0), "results that are kept", "");
@@ -225,7 +241,7 @@ static void filtered_texts(void)
     filters_to("\xe2\x80\x98_Z1fv\xe2\x80\x99 .text._Z1gv a._ZL5caf\xc3\xa9", SYMDEMANGLE_WITHIN, "\xe2\x80\x98" "f()\xe2\x80\x99 .text.g() a.caf\xc3\xa9", 3, 3);
     filters_to("_ZL5caf\xc3\xa9 .text._Z1gv", SYMDEMANGLE_WITHIN + SYMDEMANGLE_ASCII_WORDS, "caf\xc3\xa9 .text.g()", 2, 2);
     filters_to(".text._Z1gv PKc", SYMDEMANGLE_TYPES, ".text._Z1gv PKc", 0, 0);
-    check(symdemangle_filter("a", 1, 99, 256, buffer, sizeof buffer, &tally, &result) == SYMDEMANGLE_FLAGS && tally.words == 9, "flags of a filter", "");
+    check(symdemangle_filter("a", 1, 99, 1024, buffer, sizeof buffer, &tally, &result) == SYMDEMANGLE_FLAGS && tally.words == 9, "flags of a filter", "");
     check(symdemangle_filter(NULL, 0, 99, 0, NULL, 0, &tally, &result) == SYMDEMANGLE_OK && result.length == 0 && tally.words == 0, "empty text", "");
 }
 
@@ -256,7 +272,7 @@ static void counted(void)
     is_uncounted("__R", 0, SYMDEMANGLE_NO_SYMBOL, 0);
     is_uncounted("_ZN1AC4Ev", 0, SYMDEMANGLE_MALFORMED, 6);
     is_uncounted("PKc", SYMDEMANGLE_TYPES, SYMDEMANGLE_NO_SYMBOL, 0);
-    is_uncounted("_Z1fv", 256, SYMDEMANGLE_FLAGS, 0);
+    is_uncounted("_Z1fv", 1024, SYMDEMANGLE_FLAGS, 0);
     check(symdemangle_count("_ZN1AC4Ev", 9, SYMDEMANGLE_WIDE, &counts, &result) == SYMDEMANGLE_OK, "wide counts", "_ZN1AC4Ev");
 }
 
@@ -289,7 +305,7 @@ static void pressed_spellings(void)
     is_unpressed("_ZN1AC6Ev", SYMDEMANGLE_WIDE, SYMDEMANGLE_MALFORMED, 6);
     is_unpressed("_Z1fIiEDTstT_ES0_", SYMDEMANGLE_WIDE, SYMDEMANGLE_NO_SPELLING, 0);
     is_unpressed("PKc", SYMDEMANGLE_TYPES, SYMDEMANGLE_NO_SYMBOL, 0);
-    is_unpressed("_Z1fv", 256, SYMDEMANGLE_FLAGS, 0);
+    is_unpressed("_Z1fv", 1024, SYMDEMANGLE_FLAGS, 0);
 }
 
 static void bad_arguments(void)
@@ -347,7 +363,7 @@ static void strings(void)
     symdemangle_free(text);
     check(symdemangle_string("main", SYMDEMANGLE_TYPES) == NULL, "string that is no type", "main");
     check(symdemangle_string("main", SYMDEMANGLE_UNDERSCORE) == NULL, "string", "main");
-    check(symdemangle_string("_Z1fv", 256) == NULL, "flags of a string", "");
+    check(symdemangle_string("_Z1fv", 1024) == NULL, "flags of a string", "");
     check(symdemangle_string(NULL, 0) == NULL, "null string", "");
     symdemangle_free(NULL);
 }
@@ -359,6 +375,7 @@ int main(void)
     legacy_texts();
     names_of_other_kinds();
     types();
+    short_texts();
     many();
     many_of_other_kinds();
     filtered_texts();

@@ -26,10 +26,12 @@ const (
 	Underscore   Flags = C.SYMDEMANGLE_UNDERSCORE    // a name may begin with __Z or __R, as on macOS
 	ASCIIWords   Flags = C.SYMDEMANGLE_ASCII_WORDS   // of Filter: words end at bytes from 0x80, and begin where runs do
 	Types        Flags = C.SYMDEMANGLE_TYPES         // of Text: a name that begins as no symbol does is read as a C++ type
+	Short        Flags = C.SYMDEMANGLE_SHORT         // C++ names without what std's templates have by default: std::vector<int>, std::string
+	KeepInline   Flags = C.SYMDEMANGLE_KEEP_INLINE   // with Short: inline namespaces stay, and different texts stay different
 )
 
 // What the first library didn't know: a call that is refused for these is made again without them.
-const newer = Flags(C.SYMDEMANGLE_WITHIN) | Types
+const newer = Flags(C.SYMDEMANGLE_WITHIN) | Types | Short | KeepInline
 
 // DefaultLimit is what a text may cost where no other limit is named.
 const DefaultLimit = C.SYMDEMANGLE_DEFAULT_LIMIT

@@ -131,6 +131,22 @@ func TestTypes(t *testing.T) {
 	}
 }
 
+func TestShort(t *testing.T) {
+	name, whole := "_Z1fNSt3__16vectorIiNS_9allocatorIiEEEE", "f(std::__1::vector<int, std::__1::allocator<int>>)"
+	for flags, wanted := range map[Flags]string{
+		Short:              "f(std::vector<int>)",
+		Short | KeepInline: "f(std::__1::vector<int>)",
+		KeepInline:         whole,
+	} {
+		if isOlder {
+			wanted = whole
+		}
+		if text, err := Text(name, flags); err != nil || text != wanted {
+			t.Error(flags, text, err)
+		}
+	}
+}
+
 func TestFilter(t *testing.T) {
 	if text, err := Filter("at _Z1fv. _Z1fY", 0); err != nil || text != "at f(). _Z1fY" {
 		t.Error(text, err)

@@ -16,6 +16,7 @@ export class Refused extends Error {
 
 const KEYS = {
     brief: [false, FLAG.BRIEF], noParameters: [false, FLAG.NO_PARAMETERS], wide: [true, FLAG.WIDE], legacy: [true, FLAG.LEGACY],
+    short: [false, FLAG.SHORT], keepInline: [false, FLAG.KEEP_INLINE],
 };
 // Names in a text are found within ‘quotes’, too.
 const WORDS = FLAG.WITHIN;

@@ -11,6 +11,10 @@ export interface Options {
     wide?: boolean;
     /** Shows Rust's older names as Rust paths: true where nothing else is said. */
     legacy?: boolean;
+    /** Shortens C++ names: std::vector<int>, std::string. Different names may have one short text. */
+    short?: boolean;
+    /** Keeps inline namespaces of std in short texts: different texts stay different. */
+    keepInline?: boolean;
     /** What a text may cost, from 0 to 4,294,967,295. 25,000 is ample for names that someone else chose. */
     limit?: number;
 }

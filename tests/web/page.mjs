@@ -86,6 +86,9 @@ const steps = {
         await tick("brief");
         await shows(".said", ["demo::cache<char const*>::lookup"]);
         await tick("noParameters");
+        await tick("short");
+        await shows(".said", ["demo::cache<char const*>::lookup(std::string const&)"]);
+        await tick("short");
         await puts("100", "[name=limit]");
         await shows(".why", ["Too long. The text would cost more than the limit of 100."]);
         await click(".raise");
@@ -178,12 +181,12 @@ const steps = {
         await until(async () => (await said(".card")).length === 6, "six names");
         await browser.run(() => document.getElementById("input").focus());
         const stops = [];
-        for (let i = 0; i < 9; i += 1) {
+        for (let i = 0; i < 10; i += 1) {
             await browser.press("Tab", "Tab", 9);
             stops.push(await browser.run(() => document.activeElement.id || document.activeElement.name || document.activeElement.textContent.trim()));
         }
-        const wanted = ["Options", "brief", "noParameters", "legacy", "limit", "copy", "save", "text", "<demo::queue::Queue<usize>>::push"];
-        wants(JSON.stringify(stops.slice(0, 8)) === JSON.stringify(wanted.slice(0, 8)), "the order of tabs:", stops);
+        const wanted = ["Options", "brief", "noParameters", "short", "legacy", "limit", "copy", "save", "text", "<demo::queue::Queue<usize>>::push"];
+        wants(JSON.stringify(stops.slice(0, 9)) === JSON.stringify(wanted.slice(0, 9)), "the order of tabs:", stops);
         await browser.run(() => document.querySelector("[name=brief]").focus());
         for (const first of ["<demo::queue::Queue>::push", "<demo::queue::Queue<usize>>::push"]) {
             await browser.press(" ", "Space", 32, " ");

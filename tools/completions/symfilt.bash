@@ -1,2 +1,2 @@
 # bash: the options of symfilt
-complete -W '--limit --stats --brief --no-params --wide --legacy --ascii-words --press --help --version' symfilt
+complete -W '--limit --stats --short --keep-inline --brief --no-params --wide --legacy --ascii-words --press --help --version' symfilt

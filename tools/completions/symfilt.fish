@@ -2,6 +2,8 @@
 complete -c symfilt -f
 complete -c symfilt -l limit -x -d 'Greatest cost of a text'
 complete -c symfilt -l stats -d 'Rows, nodes and steps of each symbol'
+complete -c symfilt -l short -d 'Leave out what is the default in std'
+complete -c symfilt -l keep-inline -d 'With --short, keep inline namespaces'
 complete -c symfilt -l brief -d 'Leave out template and generic arguments'
 complete -c symfilt -l no-params -d 'Print functions by their names'
 complete -c symfilt -l wide -d 'Read C++ symbols by the wide grammar'

@@ -23,6 +23,9 @@ test("options", () => {
     const name = "_ZN1AC5IiEET_";
     assert.equal(demangle(name), "A::A<int>(int)");
     assert.equal(demangle(name, { brief: true, noParameters: true }), "A::A");
+    const list = "_Z1fNSt3__16vectorIiNS_9allocatorIiEEEE";
+    assert.equal(demangle(list, { short: true }), "f(std::vector<int>)");
+    assert.equal(demangle(list, { short: true, keepInline: true }), "f(std::__1::vector<int>)");
     assert.equal(demangle(name, { wide: false }), name);
     assert.equal(demangle("_ZN13_$LT$test$GT$17h0123456789abcdefE", { legacy: false }), "_$LT$test$GT$::h0123456789abcdef");
     assert.throws(() => demangle(name, { briefly: true }), TypeError);

@@ -15,7 +15,8 @@ symdemangle.Refused: malformed symbol at 4
 
 Each call takes the same options: `brief` leaves out template and generic arguments, `no_parameters` what follows a C++ function's
 name, `wide=False` reads the ABI's first grammar alone, `legacy=False` Rust's older names as names of C++, `types` reads a name that
-begins as no symbol does as a C++ type (`PKc`), and `limit`, from 0 to 4294967295, is what a text may cost. Names are strings or bytes;
+begins as no symbol does as a C++ type (`PKc`), `short` leaves out what the templates of std have by default, and its inline namespaces
+unless `keep_inline` is given, and `limit`, from 0 to 4294967295, is what a text may cost. Names are strings or bytes;
 where they aren't UTF-8, strings have them as surrogates, as file names in Python.
 
 A call takes up to 600 bytes of memory for a byte of the name, and `press` 750 (measured), whatever the limit. So cut names that someone
@@ -51,6 +52,8 @@ if TYPE_CHECKING:
         within: bool
         ascii_words: bool
         limit: int
+        short: bool
+        keep_inline: bool
 
 
 __version__ = "0.1.0"
@@ -64,9 +67,9 @@ _GREATEST_LIMIT = 2**32 - 1
 Name = Union[str, bytes, bytearray, memoryview]
 
 _OK, _MEMORY, _BUFFER, _FLAGS, _NO_SYMBOL = 0, 5, 6, 8, 11
-_BRIEF, _NO_PARAMETERS, _WIDE, _LEGACY, _UNDERSCORE, _ASCII_WORDS, _WITHIN, _TYPES = (1 << i for i in range(8))
+_BRIEF, _NO_PARAMETERS, _WIDE, _LEGACY, _UNDERSCORE, _ASCII_WORDS, _WITHIN, _TYPES, _SHORT, _KEEP_INLINE = (1 << i for i in range(10))
 # What the first library didn't know: where a call is refused for these, it is made again without them.
-_NEWER = _WITHIN | _TYPES
+_NEWER = _WITHIN | _TYPES | _SHORT | _KEEP_INLINE
 
 
 class Refused(ValueError):
@@ -99,7 +102,7 @@ class Tally(NamedTuple):
 class Options:
     """How names are read and shown. With `types` a name that begins as no symbol does is read as a C++ type. The words of a filtered text
     are those of the program `demangle`; with `within=False` those of `symfilt`, which begin where a run does; with `ascii_words` these,
-    ended at bytes from 0x80. A library that is older than `types` and `within` is asked without them."""
+    ended at bytes from 0x80. A library that is older than `types`, `within` and `short` is asked without them."""
 
     brief: bool = False
     no_parameters: bool = False
@@ -109,6 +112,8 @@ class Options:
     within: bool = True
     ascii_words: bool = False
     limit: int = DEFAULT_LIMIT
+    short: bool = False
+    keep_inline: bool = False
 
     def __post_init__(self) -> None:
         try:
@@ -124,7 +129,7 @@ class Options:
         """The flags of a call that takes names."""
         asked = {
             _BRIEF: self.brief, _NO_PARAMETERS: self.no_parameters, _WIDE: self.wide, _LEGACY: self.legacy, _UNDERSCORE: True,
-            _TYPES: self.types,
+            _TYPES: self.types, _SHORT: self.short, _KEEP_INLINE: self.short and self.keep_inline,
         }
         return sum(flag for flag, is_asked in asked.items() if is_asked)
 

@@ -22,6 +22,8 @@ def arguments() -> argparse.Namespace:
     parser = argparse.ArgumentParser(prog="python3 -m symdemangle", description=__doc__, allow_abbrev=False)
     parser.add_argument("names", metavar="NAME", nargs="*", help="a mangled name, or a text with names in it")
     parser.add_argument("--brief", action="store_true", help="leave out template and generic arguments")
+    parser.add_argument("--short", action="store_true", help="shorten C++ names: leave out what is the default in std")
+    parser.add_argument("--keep-inline", action="store_true", help="with --short, keep inline namespaces")
     parser.add_argument("-p", "--no-params", action="store_true", help="show each C++ function as its name alone")
     parser.add_argument("-t", "--types", action="store_true", help="also demangle a NAME that is a C++ type (PKc)")
     parser.add_argument("--ascii-words", action="store_true", help="end words at bytes from 0x80, and begin them where runs begin")
@@ -42,7 +44,9 @@ def answer(name: bytes, types: bool, options: dict) -> bytes:
 
 def main() -> int:
     asked = arguments()
-    options = {"brief": asked.brief, "no_parameters": asked.no_params, "limit": asked.limit}
+    options = {
+        "brief": asked.brief, "no_parameters": asked.no_params, "limit": asked.limit, "short": asked.short, "keep_inline": asked.keep_inline,
+    }
     try:
         for name in asked.names:
             sys.stdout.buffer.write(answer(os.fsencode(name), asked.types, options) + b"\n")

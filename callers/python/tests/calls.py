@@ -130,6 +130,15 @@ class Calls(unittest.TestCase):
             self.assertEqual(symdemangle.filter_bytes(kind(b"at _Z1fv")), b"at f()")
 
     @unittest.skipIf(OLDER, "the library reads no types")
+    def test_short(self):
+        name = "_Z1fNSt3__16vectorIiNS_9allocatorIiEEEE"
+        self.assertEqual(symdemangle.demangle(name, short=True), "f(std::vector<int>)")
+        self.assertEqual(symdemangle.demangle(name, short=True, keep_inline=True), "f(std::__1::vector<int>)")
+        self.assertEqual(symdemangle.demangle(name, keep_inline=True), symdemangle.demangle(name))
+        self.assertEqual(symdemangle.demangle_all([name] * 2, short=True), ["f(std::vector<int>)"] * 2)
+        self.assertEqual(symdemangle.filter_text(f"at {name}", short=True), "at f(std::vector<int>)")
+
+    @unittest.skipIf(OLDER, "the library reads no types")
     def test_types(self):
         self.assertEqual(symdemangle.demangle("PKc", types=True), "char const*")
         self.assertEqual(symdemangle.demangle("PKc"), "PKc")

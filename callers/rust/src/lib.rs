@@ -113,6 +113,8 @@ impl core::error::Error for Error {}
 #[must_use]
 pub struct Options {
     brief: bool,
+    short: bool,
+    keep_inline: bool,
     no_parameters: bool,
     wide: bool,
     legacy: bool,
@@ -126,6 +128,8 @@ impl Default for Options {
     fn default() -> Options {
         Options {
             brief: false,
+            short: false,
+            keep_inline: false,
             no_parameters: false,
             wide: true,
             legacy: true,
@@ -141,6 +145,18 @@ impl Options {
     /// Leaves out template and generic arguments.
     pub const fn brief(self, brief: bool) -> Options {
         Options { brief, ..self }
+    }
+
+    /// Shortens C++ names: leaves out what the templates of `std` have by default and its inline namespaces, and writes usual names, as
+    /// `std::string`. Different names may have one short text. The limit is that of the whole text. Over a library that is older than
+    /// this option texts are whole.
+    pub const fn short(self, short: bool) -> Options {
+        Options { short, ..self }
+    }
+
+    /// With [`Options::short`], keeps inline namespaces, so that different texts stay different.
+    pub const fn keep_inline(self, keep_inline: bool) -> Options {
+        Options { keep_inline, ..self }
     }
 
     /// Shows each C++ function as its name alone, without its return type and parameters.

@@ -99,6 +99,8 @@ const UNDERSCORE: u32 = 16;
 const ASCII_WORDS: u32 = 32;
 const WITHIN: u32 = 64;
 const TYPES: u32 = 128;
+const SHORT: u32 = 256;
+const KEEP_INLINE: u32 = 512;
 
 /// The flags of a call that takes names.
 fn flags(options: Options) -> u32 {
@@ -109,6 +111,8 @@ fn flags(options: Options) -> u32 {
         | flag(options.legacy, 8)
         | UNDERSCORE
         | flag(options.types, TYPES)
+        | flag(options.short, SHORT)
+        | flag(options.short && options.keep_inline, KEEP_INLINE)
 }
 
 /// The flags of a call that filters a text, which has no types.
@@ -123,7 +127,7 @@ fn flags_of_words(options: Options) -> u32 {
 
 /// Calls with these flags, and without the newer ones where the library is older than they are.
 fn told(flags: u32, mut call: impl FnMut(u32) -> Status) -> Status {
-    let older = flags & !(WITHIN | TYPES);
+    let older = flags & !(WITHIN | TYPES | SHORT | KEEP_INLINE);
     match call(flags) {
         Status::FLAGS if older != flags => call(older),
         status => status,

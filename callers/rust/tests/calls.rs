@@ -152,6 +152,17 @@ fn words_within_runs() {
 }
 
 #[test]
+fn short_texts() {
+    let name = "_Z1fNSt3__16vectorIiNS_9allocatorIiEEEE";
+    let short = Options::default().short(true);
+    let is_older = is_older();
+    let whole = "f(std::__1::vector<int, std::__1::allocator<int>>)";
+    assert_eq!(short.demangle(name).to_string(), if is_older { whole } else { "f(std::vector<int>)" });
+    assert_eq!(short.keep_inline(true).demangle(name).to_string(), if is_older { whole } else { "f(std::__1::vector<int>)" });
+    assert_eq!(Options::default().keep_inline(true).demangle(name).to_string(), whole);
+}
+
+#[test]
 fn types() {
     let types = Options::default().types(true);
     let text = if is_older() { "PKc" } else { "char const*" };

@@ -9,6 +9,7 @@ use std::str;
 use sym_command::{Asked, FAULT, Filtering, Run};
 use sym_filter::{FilterFault, Letters, ListSink, ReaderSource};
 use sym_print::Detail;
+use sym_short::Texts;
 use symfilt_command::{run, run_over};
 
 /// What a program has to write where a row says only that it writes something.
@@ -112,6 +113,7 @@ fn shown_by(options: &[u8]) -> Option<Filtering> {
     Some(Filtering {
         limit: LIMIT,
         detail,
+        texts: Texts::Whole,
         letters: Letters::Within,
         asked: Asked::WideText,
         legacy: true,

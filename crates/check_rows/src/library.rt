@@ -28,7 +28,7 @@ const UNTOLD: u32 = 0xa5a5_a5a5;
 const NO_NAME: &[u8] = b"not a symbol";
 
 /// A number that is no flag.
-const NO_FLAG: u32 = 256;
+const NO_FLAG: u32 = 1_024;
 
 /// A call that writes to a buffer.
 #[derive(Clone, Copy)]

@@ -8,6 +8,7 @@ use std::alloc::Global;
 use sym_command::{Asked, Filtering};
 use sym_filter::kinds::LONGEST_WORD;
 use sym_filter::{FilterFault, Letters, Sink, Source};
+use sym_short::Texts;
 use symfilt_command::{filter_asked, run, run_to};
 
 /// More reads than the text of a row needs.
@@ -117,6 +118,7 @@ pub fn ask_long_word(verdict: &mut Verdict, row: Row<'_>, text: &[u8]) {
     let filtering = Filtering {
         limit: row.limit,
         detail: row.detail,
+        texts: Texts::Whole,
         letters: Letters::Any,
         asked: Asked::Text,
         legacy: false,

@@ -346,7 +346,6 @@ none-written w = record {
   nest = refl;
   scope = refl;
   at = refl;
-  rounds = refl;
 }
 
 -- no element is written yet
@@ -441,7 +440,6 @@ expanded-more {detail} pattern before w one two new ts argument number place mar
         nest = mark.nest ∙ piece.nest ∙ comma.nest ∙ f.writes.nest;
         scope = mark.scope ∙ piece.scope ∙ comma.scope ∙ f.writes.scope;
         at = mark.at ∙ piece.at ∙ comma.at ∙ f.writes.at;
-        rounds = mark.rounds ∙ piece.rounds ∙ comma.rounds ∙ f.writes.rounds;
       };
     }
 

@@ -2,6 +2,7 @@
 use Rattle.std.proofs.Common.{◌≡◌, ℕ, ◌<◌, List, [], ◌∷◌, Bool, true, false, ◌||◌, ◌&&◌, nat_eq, slice_get, Option, Some, None, refl, ap, sym, subst, ◌∙◌, ltb, ◌≢◌, ◌⊎◌, inl, inr, Ok, arith}
 use Rattle.std.proofs.lemmas.Bool.{false≢true, eqb-true, ltb-true, and_parts}
 use Rattle.cpp_grammar.specs.declared.production.Production.{Production}
+use Rattle.cpp_grammar.specs.declared.production.Operation.{Operation}
 use Rattle.cpp_grammar.specs.Grammar.{among, number_of, productions, in_ranges, is_in, pick, alternatives, number_of_kind, choose, parts_of, is_chain}
 use Rattle.cpp_grammar.specs.Texts.{Naming, look_up, builtin_texts, same_bytes, operator_texts}
 use Rattle.cpp_direct.specs.Letters.{integer_letters}
@@ -50,6 +51,7 @@ takes p (Some q) = nat_eq (number_of q) (number_of p)
 numbered : (p : Production) → slice_get productions (number_of p) ≡ Some p
 unfolding productions number_of
 numbered Production.Mark = refl
+numbered (Production.Operation Operation.ExpressionC) = refl
 numbered _ = refl
 
 pub taken : (p : Production) (o : Option Production) → takes p o ≡ true → o ≡ Some p
@@ -160,6 +162,7 @@ takes-first Production.OperatorL kind is = first-so Production.OperatorL is refl
 takes-first Production.OperatorS kind is = first-so Production.OperatorS is refl refl (λ f at st. refl) (λ a at st. refl) (λ b c a at d st. refl)
 takes-first Production.OperatorI kind is = first-so Production.OperatorI is refl refl (λ f at st. refl) (λ a at st. refl) (λ b c a at d st. refl)
 takes-first Production.OperatorG kind is = first-so Production.OperatorG is refl refl (λ f at st. refl) (λ a at st. refl) (λ b c a at d st. refl)
+takes-first (Production.Operation Operation.ExpressionC) kind is = cc is
 takes-first _ kind is = cc is
 
 -- ## Codes

@@ -40,7 +40,6 @@ level-begins s old named new first second at a wide letter first_is first_letter
       waiting = read.3.waiting;
       nest = read.3.nest;
       scope = read.3.scope;
-      rounds = read.3.rounds;
     } in
     let waiting : reverse named.waiting.list.items ≡ reverse old.waiting.list.items = ap (λ v. reverse v.list.items) reads.waiting in
     let behind : second ≡ old.at + 1 + 1 = omega (arith, first_is, second_is) in
@@ -50,7 +49,7 @@ level-begins s old named new first second at a wide letter first_is first_letter
     (stands-moved s.bytes first (old.at + 1) (115 ∷ []) first_is first_letter)
     (stands-moved s.bytes second (old.at + 1 + 1) (114 ∷ []) behind second_letter) (subst (λ n. IsNameAt s.bytes n name named.at) here read.1) opening in
     list-begins s named named new named.candidates.list.items (kept-read s old named bytes reads a.kept) (opens.LevelArguments false) front bytes
-    (template_named name) (record { candidates = refl; text = refl; waiting = refl; nest = refl; scope = refl; at = refl; rounds = refl }) begins
+    (template_named name) (record { candidates = refl; text = refl; waiting = refl; nest = refl; scope = refl; at = refl }) begins
     (source-prints false name read.2 (name-unmarked s.bytes at name named.at read.1)) reads.text (
       inside a.goes.0,
       o.inner,

@@ -5,6 +5,7 @@ use Rattle.sym_shape.specs.declared.rule.Sym.TheVariants.{Kind as OfKind}
 use Rattle.sym_link.specs.Unfold.{standing}
 use Rattle.cpp_grammar.specs.declared.kind.Kind.{Kind}
 use Rattle.cpp_grammar.specs.declared.production.Production.{Production}
+use Rattle.cpp_grammar.specs.declared.production.Operation.{Operation}
 use Rattle.cpp_grammar.specs.Grammar.{number_of_kind, parts_of, may_be_empty}
 use Rattle.cpp_grammar.specs.Table.{rule_of}
 use Rattle.cpp_grammar.specs.Term.{Term, builtin, integer, boolean, pack, list}
@@ -247,7 +248,7 @@ level-opens s os around at st name end wide first expects x e r is opening =
     let level = Production.Levels in
     let id = Production.SimpleId in
     let argument = byte-opens (eats s Kind.Argument Production.Expression 88 refl) (hole s Kind.Argument around os at st expects) x refl refl in
-    let expression = byte-opens (eats-widely s Kind.Expression Production.ExpressionS 115 wide refl) argument e refl refl in
+    let expression = byte-opens (eats-widely s Kind.Expression (Production.Operation Operation.ExpressionS) 115 wide refl) argument e refl refl in
     let unresolved = byte-opens (eats s Kind.ExpressionAfterS Production.Unresolved 114 refl) expression r refl refl in
     let levels = chain-opens (leaves s Kind.Unresolved level 48 refl) unresolved refl refl in
     let template = chain-opens (leaves s Kind.Level id 48 refl) levels refl refl in
@@ -259,5 +260,5 @@ level-opens s os around at st name end wide first expects x e r is opening =
     let last = chain-opens (leaves s Kind.UnresolvedName id 48 refl) rest refl refl in
     let none = none-fills Kind.ArgumentsAlone (next-part id (name-fills member behind last named) (named-so around member (here + 1 + 1) now first)) refl in
     let whole = closes level (closes Production.LevelsEnd (closes id none refl) refl) refl in
-    let value = closes Production.ExpressionS (closes Production.Unresolved whole refl) refl in
+    let value = closes (Production.Operation Operation.ExpressionS) (closes Production.Unresolved whole refl) refl in
     (closes Production.Expression (fixed-fills (next-part Production.Expression value refl) ends) refl).comes)

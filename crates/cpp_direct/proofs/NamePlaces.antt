@@ -94,15 +94,14 @@ some-by (Some x) h f = f h
 -- a text was written after a place that was changed
 pub reads-written : (old middle new : Direct) (bytes text : List ℕ) → Writes middle new bytes → middle.text ≡ old.text
     → middle.candidates ≡ old.candidates
-    → middle.waiting ≡ old.waiting → middle.nest ≡ old.nest → middle.has_scope ≡ old.has_scope → middle.rounds ≡ old.rounds → bytes ≡ text
+    → middle.waiting ≡ old.waiting → middle.nest ≡ old.nest → middle.has_scope ≡ old.has_scope → bytes ≡ text
     → Reads old new text
-reads-written old middle new bytes text w same_text same_candidates same_waiting same_nest same_scope same_rounds is = record {
+reads-written old middle new bytes text w same_text same_candidates same_waiting same_nest same_scope is = record {
   text = w.text ∙ ap (λ v. v.list.items ++ bytes) same_text ∙ ap (λ l. old.text.list.items ++ l) is;
   candidates = w.candidates ∙ same_candidates;
   waiting = w.waiting ∙ same_waiting;
   nest = w.nest ∙ same_nest;
   scope = w.scope ∙ same_scope;
-  rounds = w.rounds ∙ same_rounds;
 }
 
 -- ## Substitutions
@@ -122,12 +121,11 @@ reads-then a b c x y first second = record {
   waiting = second.waiting ∙ first.waiting;
   nest = second.nest ∙ first.nest;
   scope = second.scope ∙ first.scope;
-  rounds = second.rounds ∙ first.rounds;
 }
 
 -- what was written was read
 pub reads-of : (a b : Direct) (x : List ℕ) → Writes a b x → Reads a b x
-reads-of a b x w = record { text = w.text; candidates = w.candidates; waiting = w.waiting; nest = w.nest; scope = w.scope; rounds = w.rounds }
+reads-of a b x w = record { text = w.text; candidates = w.candidates; waiting = w.waiting; nest = w.nest; scope = w.scope }
 
 -- the digits of a number were read, and written after a sign
 pub digits-read : (s : List ℕ) (old new : Direct) (place : TokenPlace) (is_negative : Bool) (written : List ℕ)
@@ -143,14 +141,13 @@ digits-read s old new place is_negative written h le there reads is =
 
 -- nothing was written yet
 pub reads-begun : (a b : Direct) → b.text ≡ a.text → b.candidates ≡ a.candidates → b.waiting ≡ a.waiting → b.nest ≡ a.nest → b.has_scope ≡ a.has_scope
-    → b.rounds ≡ a.rounds → Reads a b []
-reads-begun a b same_text same_candidates same_waiting same_nest same_scope same_rounds = record {
+    → Reads a b []
+reads-begun a b same_text same_candidates same_waiting same_nest same_scope = record {
   text = ap (λ v. v.list.items) same_text ∙ sym (append-nil a.text.list.items);
   candidates = same_candidates;
   waiting = same_waiting;
   nest = same_nest;
   scope = same_scope;
-  rounds = same_rounds;
 }
 
 digit-is : (b : ℕ) → 48 ≤ b → b ≤ 57 → is_decimal_digit b ≡ true
@@ -294,13 +291,13 @@ name-placed s at place h le = record {
 pub name-read : (s : List ℕ) (old middle new : Direct) (place : NamePlace) (bytes : List ℕ) → IsNamePlace s old.at place
     → bytes ≡ source_text (take (place.to - place.from) (drop place.from s)) → middle.at ≡ place.to
     → middle.text ≡ old.text → middle.candidates ≡ old.candidates → middle.waiting ≡ old.waiting → middle.nest ≡ old.nest
-    → middle.has_scope ≡ old.has_scope → middle.rounds ≡ old.rounds → Writes middle new bytes
+    → middle.has_scope ≡ old.has_scope → Writes middle new bytes
     → (name : List ℕ) × IsNameAt s old.at name new.at × (name ≢ []) × Reads old new (source_text name)
-name-read s old middle new place bytes n is there same_text same_candidates same_waiting same_nest same_scope same_rounds w = (
+name-read s old middle new place bytes n is there same_text same_candidates same_waiting same_nest same_scope w = (
   n.name,
   subst (λ e. IsNameAt s old.at n.name e) (sym (w.at ∙ there)) n.is,
   n.some,
-  reads-written old middle new bytes (source_text n.name) w same_text same_candidates same_waiting same_nest same_scope same_rounds (is ∙ ap source_text n.own),
+  reads-written old middle new bytes (source_text n.name) w same_text same_candidates same_waiting same_nest same_scope (is ∙ ap source_text n.own),
 )
 
 -- a tag was read, and its text written
@@ -310,10 +307,10 @@ pub tag-read : (s : List ℕ) (old first second third : Direct) (place : NamePla
     → (tag : List ℕ) × IsTagAt s old.at tag place.to × Reads old (record third { at = place.to }) (tag_text tag)
 tag-read s old first second third place at letter here n a b c =
     let named = reads-then old first second (codes "[abi:") n.name
-    (reads-written old (record old { at = at }) first (codes "[abi:") (codes "[abi:") a refl refl refl refl refl refl refl)
-    (reads-written first first second (take (place.to - place.from) (drop place.from s)) n.name b refl refl refl refl refl refl n.own) in
+    (reads-written old (record old { at = at }) first (codes "[abi:") (codes "[abi:") a refl refl refl refl refl refl)
+    (reads-written first first second (take (place.to - place.from) (drop place.from s)) n.name b refl refl refl refl refl n.own) in
     let r = reads-then old second third (codes "[abi:" ++ n.name) (codes "]") named (reads-of second third (codes "]") c) in (
       n.name,
       (letter, subst (λ k. IsNameAt s k n.name place.to) here n.is),
-      record { text = r.text; candidates = r.candidates; waiting = r.waiting; nest = r.nest; scope = r.scope; rounds = r.rounds },
+      record { text = r.text; candidates = r.candidates; waiting = r.waiting; nest = r.nest; scope = r.scope },
     )

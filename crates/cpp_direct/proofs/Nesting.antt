@@ -217,7 +217,7 @@ known-opens s old new n wide is_type here opening_ =
     let begun = instance-arguments s g.inner m.around n.own true old.at n.state g.awaits here in
     let not_own : IsOwn old.nest.purpose → ⊥ = λ own. subst IsOwn is_type own in
     list-begins s old old new old.candidates.list.items n.kept (opens.NestArguments old.nest) m.front m.bytes n.own
-    (record { candidates = refl; text = refl; waiting = refl; nest = refl; scope = refl; at = refl; rounds = refl }) opening_ (
+    (record { candidates = refl; text = refl; waiting = refl; nest = refl; scope = refl; at = refl }) opening_ (
       nest-stays m.front m.bytes old.text.list.items (opening_bracket (detail_of s)) old.nest n.own m.is_nest,
       (λ own. absurd (not_own own)),
       n.no_structor,

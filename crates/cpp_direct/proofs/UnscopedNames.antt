@@ -122,7 +122,7 @@ std-reads : (old marked read : Direct) (n : ℕ) (bytes : List ℕ) → Writes (
     → Reads old read (codes "std::" ++ bytes)
 std-reads old marked read n bytes w r =
     reads-then old marked read (codes "std::") bytes
-    (record { text = w.text; candidates = w.candidates; waiting = w.waiting; nest = w.nest; scope = w.scope; rounds = w.rounds }) r
+    (record { text = w.text; candidates = w.candidates; waiting = w.waiting; nest = w.nest; scope = w.scope }) r
 
 -- a source name in std
 pub std-source-unscoped : (s : Symbol) (old marked read : Direct) (first second : ℕ) (name : List ℕ) → AwaitsEncoding s old

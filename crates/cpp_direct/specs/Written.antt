@@ -17,7 +17,6 @@ pub record Writes (old new : Direct) (bytes : List ℕ) : Type 0 where
   pub nest : new.nest ≡ old.nest
   pub scope : new.has_scope ≡ old.has_scope
   pub at : new.at ≡ old.at
-  pub rounds : new.rounds ≡ old.rounds
 
 -- likewise, and the place is another one
 pub record Reads (old new : Direct) (bytes : List ℕ) : Type 0 where
@@ -26,7 +25,6 @@ pub record Reads (old new : Direct) (bytes : List ℕ) : Type 0 where
   pub waiting : new.waiting ≡ old.waiting
   pub nest : new.nest ≡ old.nest
   pub scope : new.has_scope ≡ old.has_scope
-  pub rounds : new.rounds ≡ old.rounds
 
 -- What was written up to a place was removed, and with it, if there was any, each candidate.
 pub record Cuts (old new : Direct) (start : ℕ) : Type 0 where
@@ -43,7 +41,6 @@ pub record Lists (old new : Direct) (ks : List Candidate) : Type 0 where
   pub nest : new.nest ≡ old.nest
   pub scope : new.has_scope ≡ old.has_scope
   pub at : new.at ≡ old.at
-  pub rounds : new.rounds ≡ old.rounds
 
 -- a byte was read, and this was opened
 pub record OpensEntry (old new : Direct) (entry : Open) : Type 0 where

@@ -26,8 +26,6 @@ pub struct Direct {
     /// function whose address is an argument; or no types follow the name
     pub(crate) has_scope: bool,
     pub(crate) at: usize,
-    /// the steps that the last symbol took
-    pub(crate) rounds: usize,
 }
 
 impl Direct {
@@ -41,7 +39,6 @@ impl Direct {
             argument: NOWHERE,
             has_scope: false,
             at: 0,
-            rounds: 0,
         }
     }
 
@@ -85,16 +82,14 @@ impl Direct {
         self.has_scope = false;
     }
 
-    /// A symbol is done after this many steps: the candidates and the open entries are forgotten.
+    /// A symbol is done: the candidates and the open entries are forgotten.
     #[inline(always)]
-    pub fn forget(&mut self, rounds: usize)
+    pub fn forget(&mut self)
         ensures text { self.new.text ≡ self.old.text }
         ensures candidates { self.new.candidates.list.items ≡ [] }
         ensures open { self.new.waiting.list.items ≡ [] }
-        ensures rounds { self.new.rounds ≡ rounds }
     {
         self.candidates.begin(0);
         self.waiting.begin(0);
-        self.rounds = rounds;
     }
 }

@@ -86,7 +86,6 @@ impl Direct {
         ensures nest { self.new.nest ≡ self.old.nest }
         ensures scope { self.new.has_scope ≡ self.old.has_scope }
         ensures at { self.new.at ≡ self.old.at }
-        ensures rounds { self.new.rounds ≡ self.old.rounds }
     {
         self.candidates.push(Candidate {
             from: argument.from as u32,
@@ -104,7 +103,6 @@ impl Direct {
         ensures nest { self.new.nest ≡ self.old.nest }
         ensures scope { self.new.has_scope ≡ self.old.has_scope }
         ensures at { self.new.at ≡ self.old.at }
-        ensures rounds { self.new.rounds ≡ self.old.rounds }
     {
         if is_pointer {
             self.candidates.push(HIDDEN)?;

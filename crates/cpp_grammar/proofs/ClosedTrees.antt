@@ -15,6 +15,7 @@ use Rattle.sym_link.specs.Reading.{Found, Open, Next, ◌>>=◌}
 use Rattle.sym_link.specs.Unfold.{found, alone, standing, unfold_tree, unfold_forest}
 use Rattle.cpp_grammar.specs.declared.kind.Kind.{Kind}
 use Rattle.cpp_grammar.specs.declared.production.Production.{Production}
+use Rattle.cpp_grammar.specs.declared.production.Operation.{Operation}
 use Rattle.cpp_grammar.specs.KindNumbers.{KIND_COUNT, SYMBOL, SPECIAL, SPECIAL_MARK, SPECIAL_AFTER_G, COMPLETE_NAME, ITEMS}
 use Rattle.cpp_grammar.specs.Grammar.{kinds, productions, number_of, number_of_kind, parts_of, is_chain}
 use Rattle.cpp_grammar.specs.Wide.{wide_alternatives}
@@ -41,11 +42,13 @@ use Rattle.cpp_grammar.proofs.Chosen.{either}
 pub at_number : (p : Production) → production_at (rule_of p).number ≡ p
 unfolding production_at productions rule_of number_of
 at_number Production.Mark = refl
+at_number (Production.Operation Operation.ExpressionC) = refl
 at_number _ = refl
 
 pub its_symbols : (p : Production) → symbols_of (rule_of p) ≡ parts_of p
 unfolding rule_of parts_of padded number_of_kind
 its_symbols Production.Mark = refl
+its_symbols (Production.Operation Operation.ExpressionC) = refl
 its_symbols _ = refl
 
 -- the productions that begin an encoding
@@ -78,6 +81,7 @@ has_encoding (x ∷ xs) = is_encoding x || has_encoding xs
 behind_a_byte : (p : Production) → is_chain p && has_encoding (parts_of p) ≡ false
 unfolding is_chain parts_of has_encoding is_encoding number_of_kind
 behind_a_byte Production.Mark = refl
+behind_a_byte (Production.Operation Operation.ExpressionC) = refl
 behind_a_byte _ = refl
 
 only_encodings : (kind : Kind) → each_passes (λ p. not (opens p) || nat_eq (number_of_kind kind) 4) (wide_alternatives kind) ≡ true

@@ -12,6 +12,7 @@ use Rattle.sym_shape.specs.Tree.{Tree, Forest, branch, empty, token, fixed, noth
 use Rattle.sym_core.specs.declared.NameClass.TheVariants.{Cpp}
 use Rattle.cpp_grammar.specs.declared.kind.Kind.{Kind}
 use Rattle.cpp_grammar.specs.declared.production.Production.{Production}
+use Rattle.cpp_grammar.specs.declared.production.Operation.{Operation}
 use Rattle.cpp_grammar.specs.Grammar.{Alternative, in_ranges, among, is_in, pick, alternatives, choose, kinds, productions, number_of}
 use Rattle.cpp_grammar.specs.Before.{alternatives_before}
 use Rattle.cpp_grammar.specs.Wide.{wide_alternatives, wide_choose}
@@ -45,6 +46,7 @@ abi_kept _ = refl
 numbered : (p : Production) → slice_get productions (number_of p) ≡ Some p
 unfolding productions number_of
 numbered Production.Mark = refl
+numbered (Production.Operation Operation.ExpressionC) = refl
 numbered _ = refl
 
 pub below : (n : ℕ) (p : ℕ → Bool) (b : ℕ) → each_below n p ≡ true → b < n → p b ≡ true

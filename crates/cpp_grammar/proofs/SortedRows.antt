@@ -2,6 +2,7 @@
 use Rattle.std.specs.Prelude.{◌≡◌, refl, true}
 use Rattle.cpp_grammar.specs.declared.kind.Kind.{Kind}
 use Rattle.cpp_grammar.specs.declared.production.Production.{Production}
+use Rattle.cpp_grammar.specs.declared.production.Operation.{Operation}
 use Rattle.cpp_grammar.specs.Grammar.{number_of_kind, alternatives, parts_of, kinds, may_be_empty}
 use Rattle.cpp_grammar.specs.Wide.{wide_alternatives}
 use Rattle.cpp_grammar.specs.Row.{before_part}
@@ -11,6 +12,7 @@ use Rattle.cpp_grammar.specs.Sorts.{rank_of, among_sorts, share_one, are_among, 
 rows_fit : (p : Production) → row_fits (row_of p) (parts_of p) ≡ true
 unfolding number_of_kind row_of parts_of kinds may_be_empty before_part rank_of among_sorts share_one are_among without_none takes sort_made own_gives kind_gives sorts_of sorts_at reads is_part sort_given is_given are_given is_made listing_fits gain_fits where_fits step_fits tree_first after_step form_fits gives reads_number is_numbered known_from steps_fit row_fits
 rows_fit Production.Mark = refl
+rows_fit (Production.Operation Operation.ExpressionC) = refl
 rows_fit _ = refl
 
 kinds_give : (kind : Kind) → all_give (kind_gives kind) (alternatives kind) ≡ true

@@ -17,6 +17,7 @@ use Rattle.sym_link.specs.Reading.{Found, Next, Open, ◌>>=◌}
 use Rattle.sym_link.specs.Unfold.{found, alone, standing, unfold_tree, unfold_forest}
 use Rattle.cpp_grammar.specs.declared.kind.Kind.{Kind}
 use Rattle.cpp_grammar.specs.declared.production.Production.{Production}
+use Rattle.cpp_grammar.specs.declared.production.Operation.{Operation}
 use Rattle.cpp_grammar.specs.KindNumbers.{SYMBOL, SPECIAL, SPECIAL_MARK, SPECIAL_AFTER_G}
 use Rattle.cpp_grammar.specs.Grammar.{is_in, number_of_kind, parts_of}
 use Rattle.cpp_grammar.specs.Wide.{wide_alternatives}
@@ -458,6 +459,7 @@ only_special _ = refl
 special_parts : (p : Production) → not (has_specials p) || are_special (parts_of p) ≡ true
 unfolding has_specials are_special is_special parts_of number_of_kind
 special_parts Production.Mark = refl
+special_parts (Production.Operation Operation.ExpressionC) = refl
 special_parts _ = refl
 
 closed_or : (a b : Bool) (v : Value) → (a || b) ≡ true → (a ≡ true → HasNone (held v)) → (b ≡ true → HasNone (held v)) → HasNone (held v)

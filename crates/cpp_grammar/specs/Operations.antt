@@ -160,6 +160,11 @@ operations =
     printed_as "pi" PRIMARY "(" Operand.AsList ")" Operand.NotPrinted "" ∷
     printed_as "fl" PRIMARY "(..." Operand.AsItIs ")" Operand.NotPrinted "" ∷
     printed_as "fr" PRIMARY "(" Operand.AsItIs "...)" Operand.NotPrinted "" ∷
+    printed_as "fL" PRIMARY "(" Operand.AsItIs "" Operand.AsItIs ")" ∷
+    printed_as "fR" PRIMARY "(" Operand.AsItIs "" Operand.AsItIs ")" ∷
+    printed_as "f1" PRIMARY "" (Operand.From POINTER) "" Operand.NotPrinted "" ∷
+    printed_as "f2" PRIMARY "" Operand.AsItIs "" Operand.AsItIs "" ∷
+    printed_as "f." PRIMARY "" Operand.AsItIs "..." Operand.AsItIs "" ∷
     printed_as "rq" PRIMARY "requires {...}" Operand.NotPrinted "" Operand.NotPrinted "" ∷
     printed_as "rQ" PRIMARY "requires (...) {...}" Operand.NotPrinted "" Operand.NotPrinted "" ∷
     printed_as "tr" PRIMARY "throw" Operand.NotPrinted "" Operand.NotPrinted "" ∷

@@ -108,30 +108,24 @@ const is = is
 -- ## The rows, each below its production in the ABI
 
 unfoldable pub row_of : Production → Row
--- <template-param> ::= TL <level> _ _ | TL <level> _ <parameter number> _, after the T
-row_of Production.LeveledExpression = plain (handed 1)
--- <expression> ::= <expr-primary>, whose address is taken
-row_of Production.AddressedLiteral = plain (handed 0)
--- <expression>*
-row_of Production.Expressions = plain (own elements (nodes 2))
--- an operator of two letters, between the elements of a pack
-row_of Production.FoldOperatorL = plain (a_piece (of new_operator (taken ∷ letter_at 0 ∷ [])))
+-- <fold-expr> ::= fL <operator-name> <expression> <expression>
+row_of Production.LeftFoldFrom = plain (a_pair (fixed 76) (only (tree_at 1)) (of new_operation (fixed 102 ∷ fixed 50 ∷ tree_at 0 ∷ tree_at 2 ∷ [])))
+-- <operator-name>, of a fold with a value
+row_of Production.FoldSigns = plain (makes (of new_operation (fixed 102 ∷ fixed 46 ∷ tree_at 0 ∷ tree_at 0 ∷ [])) listed)
+-- <operator-name>, of a fold with a value
+row_of Production.FoldSign = plain (makes (of new_operation (operator_first_at 0 ∷ operator_second_at 0 ∷ no_tree ∷ no_tree ∷ [])) listed)
+-- <expression>, the value of a fold
+row_of Production.FoldValue = plain (makes (of new_operation (fixed 102 ∷ fixed 49 ∷ tree_at 0 ∷ no_tree ∷ [])) listed)
 -- <fold-expr>, the pack that it folds
 row_of Production.FoldOperand = plain (makes (of new_operation (fixed 40 ∷ fixed 41 ∷ tree_at 0 ∷ no_tree ∷ [])) listed)
 -- <expression>, a pack by itself
 row_of Production.FoldPack = with_own_packs (after_steps (enters under_it ∷ []) (makes (of new_expansion (tree_at 0 ∷ [])) listed))
 -- <type>, a pack by itself
 row_of Production.TypePack = with_own_packs (after_steps (enters under_it ∷ []) (makes (of new_expansion (tree_at 0 ∷ [])) listed))
--- <braced-expression> ::= di .. | dx .., after a designator
-row_of Production.Designators = plain (own by_letters (nodes 1))
 -- <braced-expression> ::= <expression>, after a designator
 row_of Production.DesignatedValue = plain (makes (of new_operation (fixed 61 ∷ fixed 32 ∷ tree_at 0 ∷ no_tree ∷ [])) listed)
 -- after new where it is placed, which may not be said
 row_of Production.Placed = plain (makes (of new_operation (fixed 110 ∷ fixed 40 ∷ tree_at 0 ∷ no_tree ∷ [])) listed)
--- <initializer> ::= pi <expression>* E
-row_of Production.Initializer = plain (own by_letters (nodes 1))
--- <initializer> ::= il <expression>* E
-row_of Production.BracedInitializer = plain (own by_letters (nodes 1))
 -- <function-param> ::= fpT
 row_of Production.This = plain (makes (of new_operation (fixed 102 ∷ fixed 84 ∷ no_tree ∷ no_tree ∷ [])) listed)
 -- <function-param> ::= fp [<number>] _, its number
@@ -478,9 +472,13 @@ row_of Production.TemplateOf = plain the_byte
 row_of Production.PackOf = plain the_byte
 -- <template-param-decl>*
 row_of Production.Declarations = plain the_byte
--- <type-constraint> ::= <name>. The name of a concept that isn't nested is counted before its arguments by some compilers alone; of a nested
--- one these put the arguments in it, and the others after it, which isn't read
+-- <type-constraint> ::= <nested-name>. Compilers that count the name of a concept before its arguments put the arguments into the name; the
+-- others put them after it
+row_of Production.NestedConcept = after_steps (quiet ∷ enters (after_part 0 (as_part 0)) ∷ []) (a_name unlisted)
+-- <type-constraint> ::= <name>. The name of a concept that isn't nested is counted before its arguments by some compilers alone
 row_of Production.NamedConcept = after_steps (quiet ∷ enters (after_part 0 (as_part 0)) ∷ []) (a_name unlisted)
+-- <template-args>, after the nested name of a concept, which isn't counted
+row_of Production.ConceptArguments = after_steps (enters nameless ∷ []) (a_pair taken (only (list_at 0)) (only the_name))
 -- <expression> ::= dc <type> <expression> | sc .. | cc .. | rc ..
 row_of Production.Cast = plain (a_pair taken (only (tree_at 0)) (only (tree_at 1)))
 -- <unresolved-name> ::= on <operator-name> [<template-args>]
@@ -508,8 +506,10 @@ row_of Production.Designated = plain (a_pair taken (only (tree_at 0)) (only (tre
 row_of Production.DesignatedElement = plain (a_pair taken (only (tree_at 0)) (only (tree_at 1)))
 -- <base-unresolved-name> ::= dn <destructor-name>
 row_of Production.DestructorName = plain (a_pair taken (only (tree_at 0)) (only no_tree))
--- <function-param> ::= fL <number> p [<CV-qualifiers>] [<number>] _
-row_of Production.OuterParameter = plain (handed 1)
+-- <function-param> ::= fL .. | <fold-expr> ::= fL .., after the f
+row_of Production.AfterOuter = plain (handed 0)
+-- <fold-expr> ::= fR <operator-name> <expression> <expression>
+row_of Production.RightFoldFrom = plain (a_pair taken (only (tree_at 1)) (of new_operation (fixed 102 ∷ fixed 50 ∷ tree_at 0 ∷ tree_at 2 ∷ [])))
 -- <fold-expr> ::= fl <operator-name> <expression> | fr <operator-name> <expression>
 row_of Production.LeftFold = plain (a_pair taken (of new_operation (operator_first_at 0 ∷ operator_second_at 0 ∷ no_tree ∷ tree_at 1 ∷ [])) (only no_tree))
 -- <fold-expr> ::= fr <operator-name> <expression>
@@ -540,40 +540,23 @@ row_of Production.TypedBraces = plain (a_pair taken (only (tree_at 0)) (only (li
 row_of Production.Rethrow = plain (a_pair taken (only no_tree) (only no_tree))
 -- <expression> ::= a and the second letter of an operator, with its operands
 row_of Production.ExpressionA = plain (own by_letters (nodes 1))
--- <expression> ::= c and the second letter of an operator, with its operands
-row_of Production.ExpressionC = plain (own by_letters (nodes 1))
--- <expression> ::= d and the second letter of an operator, with its operands
-row_of Production.ExpressionD = plain (own by_letters (nodes 1))
--- <expression> ::= e and the second letter of an operator, with its operands
-row_of Production.ExpressionE = plain (own by_letters (nodes 1))
--- <expression> ::= f and the second letter of an operator, with its operands
-row_of Production.ExpressionF = plain (own by_letters (nodes 1))
--- <expression> ::= g and the second letter of an operator, with its operands
-row_of Production.ExpressionG = plain (own by_letters (nodes 1))
--- <expression> ::= i and the second letter of an operator, with its operands
-row_of Production.ExpressionI = plain (own by_letters (nodes 1))
--- <expression> ::= l and the second letter of an operator, with its operands
-row_of Production.ExpressionL = plain (own by_letters (nodes 1))
--- <expression> ::= m and the second letter of an operator, with its operands
-row_of Production.ExpressionM = plain (own by_letters (nodes 1))
--- <expression> ::= n and the second letter of an operator, with its operands
-row_of Production.ExpressionN = plain (own by_letters (nodes 1))
--- <expression> ::= o and the second letter of an operator, with its operands
-row_of Production.ExpressionO = plain (own by_letters (nodes 1))
--- <expression> ::= p and the second letter of an operator, with its operands
-row_of Production.ExpressionP = plain (own by_letters (nodes 1))
--- <expression> ::= q and the second letter of an operator, with its operands
-row_of Production.ExpressionQ = plain (own by_letters (nodes 1))
--- <expression> ::= r and the second letter of an operator, with its operands
-row_of Production.ExpressionR = plain (own by_letters (nodes 1))
--- <expression> ::= s and the second letter of an operator, with its operands
-row_of Production.ExpressionS = plain (own by_letters (nodes 1))
--- <expression> ::= t and the second letter of an operator, with its operands
-row_of Production.ExpressionT = plain (own by_letters (nodes 1))
+-- What is read by the first letter of its operator: an expression, an initializer, or a designator within
+-- another. All mean the same by that letter and by what is read after it, and differ in what may be there.
+row_of (Production.Operation _) = plain (own by_letters (nodes 1))
 -- <expression> ::= <template-param> [<template-args>]
 row_of Production.ExpressionWithT = plain (handed 0)
 -- <template-param> ::= T_ | T <parameter number> _, after the T
 row_of Production.ParameterExpression = after_steps (quiet ∷ tests_operand_after_t ∷ []) (a_name unlisted)
+-- <template-param> ::= TL <level> _ _ | TL <level> _ <parameter number> _, after the T
+row_of Production.LeveledExpression = plain (handed 1)
+-- <expression> ::= <expr-primary>, whose address is taken
+row_of Production.AddressedLiteral = plain (handed 0)
+-- <expression>*
+row_of Production.Expressions = plain (own elements (nodes 2))
+-- an operator of two letters, between the elements of a pack
+row_of Production.FoldOperatorL = plain (a_piece (of new_operator (taken ∷ letter_at 0 ∷ [])))
+-- <function-param> ::= fL <number> p [<CV-qualifiers>] [<number>] _
+row_of Production.OuterParameter = plain (handed 1)
 -- <array-type> ::= A <expression> _ <element type>, after the A
 row_of Production.BoundedArray = plain (makes (of new_bounded (tree_at 0 ∷ tree_at 2 ∷ [])) unlisted)
 -- <template-arg> ::= <template-param-decl> <template-arg>, after the T; what is declared of it isn't in the tree

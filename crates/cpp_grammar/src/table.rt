@@ -238,129 +238,139 @@ const DECLARATIONS: Sym = Sym::Kind(112);
 
 const CONCEPT: Sym = Sym::Kind(113);
 
-const SOLID_BUT_T: Sym = Sym::Kind(114);
+const CONCEPT_ARGUMENTS: Sym = Sym::Kind(114);
 
-const EXPRESSION: Sym = Sym::Kind(115);
+const SOLID_BUT_T: Sym = Sym::Kind(115);
 
-const EXPRESSION_PARAMETER: Sym = Sym::Kind(116);
+const EXPRESSION: Sym = Sym::Kind(116);
 
-const UNLEVELED_EXPRESSION: Sym = Sym::Kind(117);
+const EXPRESSION_PARAMETER: Sym = Sym::Kind(117);
 
-const ADDRESSED_EXPRESSION: Sym = Sym::Kind(118);
+const UNLEVELED_EXPRESSION: Sym = Sym::Kind(118);
 
-const ADDRESSED_LITERAL: Sym = Sym::Kind(119);
+const ADDRESSED_EXPRESSION: Sym = Sym::Kind(119);
 
-const EXPRESSION_AFTER_A: Sym = Sym::Kind(120);
+const ADDRESSED_LITERAL: Sym = Sym::Kind(120);
 
-const EXPRESSION_AFTER_C: Sym = Sym::Kind(121);
+const EXPRESSION_AFTER_A: Sym = Sym::Kind(121);
 
-const EXPRESSION_AFTER_D: Sym = Sym::Kind(122);
+const EXPRESSION_AFTER_C: Sym = Sym::Kind(122);
 
-const EXPRESSION_AFTER_E: Sym = Sym::Kind(123);
+const EXPRESSION_AFTER_D: Sym = Sym::Kind(123);
 
-const EXPRESSION_AFTER_F: Sym = Sym::Kind(124);
+const EXPRESSION_AFTER_E: Sym = Sym::Kind(124);
 
-const EXPRESSION_AFTER_G: Sym = Sym::Kind(125);
+const EXPRESSION_AFTER_F: Sym = Sym::Kind(125);
 
-const EXPRESSION_AFTER_I: Sym = Sym::Kind(126);
+const EXPRESSION_AFTER_G: Sym = Sym::Kind(126);
 
-const EXPRESSION_AFTER_L: Sym = Sym::Kind(127);
+const EXPRESSION_AFTER_I: Sym = Sym::Kind(127);
 
-const EXPRESSION_AFTER_M: Sym = Sym::Kind(128);
+const EXPRESSION_AFTER_L: Sym = Sym::Kind(128);
 
-const EXPRESSION_AFTER_N: Sym = Sym::Kind(129);
+const EXPRESSION_AFTER_M: Sym = Sym::Kind(129);
 
-const EXPRESSION_AFTER_O: Sym = Sym::Kind(130);
+const EXPRESSION_AFTER_N: Sym = Sym::Kind(130);
 
-const EXPRESSION_AFTER_P: Sym = Sym::Kind(131);
+const EXPRESSION_AFTER_O: Sym = Sym::Kind(131);
 
-const EXPRESSION_AFTER_Q: Sym = Sym::Kind(132);
+const EXPRESSION_AFTER_P: Sym = Sym::Kind(132);
 
-const EXPRESSION_AFTER_R: Sym = Sym::Kind(133);
+const EXPRESSION_AFTER_Q: Sym = Sym::Kind(133);
 
-const EXPRESSION_AFTER_S: Sym = Sym::Kind(134);
+const EXPRESSION_AFTER_R: Sym = Sym::Kind(134);
 
-const EXPRESSION_AFTER_T: Sym = Sym::Kind(135);
+const EXPRESSION_AFTER_S: Sym = Sym::Kind(135);
 
-const EXPRESSIONS: Sym = Sym::Kind(136);
+const EXPRESSION_AFTER_T: Sym = Sym::Kind(136);
 
-const MAYBE_BEFORE: Sym = Sym::Kind(137);
+const EXPRESSIONS: Sym = Sym::Kind(137);
 
-const FOLD_OPERATOR: Sym = Sym::Kind(138);
+const MAYBE_BEFORE: Sym = Sym::Kind(138);
 
-const FOLD_OPERATOR_AFTER_L: Sym = Sym::Kind(139);
+const FOLD_OPERATOR: Sym = Sym::Kind(139);
 
-const FOLD_OPERAND: Sym = Sym::Kind(140);
+const FOLD_OPERATOR_AFTER_L: Sym = Sym::Kind(140);
 
-const FOLD_PACK: Sym = Sym::Kind(141);
+const AFTER_OUTER: Sym = Sym::Kind(141);
 
-const VALUE_PACK: Sym = Sym::Kind(142);
+const FOLD_SIGNS: Sym = Sym::Kind(142);
 
-const TYPE_PACK: Sym = Sym::Kind(143);
+const FOLD_SIGN: Sym = Sym::Kind(143);
 
-const DESIGNATED_VALUE: Sym = Sym::Kind(144);
+const FOLD_VALUE: Sym = Sym::Kind(144);
 
-const DESIGNATOR_AFTER_D: Sym = Sym::Kind(145);
+const FOLD_OPERAND: Sym = Sym::Kind(145);
 
-const PLAIN_VALUE: Sym = Sym::Kind(146);
+const FOLD_PACK: Sym = Sym::Kind(146);
 
-const FIELD_NAME: Sym = Sym::Kind(147);
+const VALUE_PACK: Sym = Sym::Kind(147);
 
-const PLACEMENT: Sym = Sym::Kind(148);
+const TYPE_PACK: Sym = Sym::Kind(148);
 
-const SOME_EXPRESSIONS: Sym = Sym::Kind(149);
+const DESIGNATED_VALUE: Sym = Sym::Kind(149);
 
-const INITIALIZER: Sym = Sym::Kind(150);
+const DESIGNATOR_AFTER_D: Sym = Sym::Kind(150);
 
-const INITIALIZER_AFTER_P: Sym = Sym::Kind(151);
+const PLAIN_VALUE: Sym = Sym::Kind(151);
 
-const INITIALIZER_AFTER_I: Sym = Sym::Kind(152);
+const FIELD_NAME: Sym = Sym::Kind(152);
 
-const OUTER_REST: Sym = Sym::Kind(153);
+const PLACEMENT: Sym = Sym::Kind(153);
 
-const PARAMETER_NUMBER: Sym = Sym::Kind(154);
+const SOME_EXPRESSIONS: Sym = Sym::Kind(154);
 
-const CONVERTED_TYPE: Sym = Sym::Kind(155);
+const INITIALIZER: Sym = Sym::Kind(155);
 
-const CONVERTED_SOLID: Sym = Sym::Kind(156);
+const INITIALIZER_AFTER_P: Sym = Sym::Kind(156);
 
-const PARAMETER_AFTER_T: Sym = Sym::Kind(157);
+const INITIALIZER_AFTER_I: Sym = Sym::Kind(157);
 
-const DECLTYPE_AFTER_D: Sym = Sym::Kind(158);
+const OUTER_REST: Sym = Sym::Kind(158);
 
-const CONVERTED_AFTER_D: Sym = Sym::Kind(159);
+const PARAMETER_NUMBER: Sym = Sym::Kind(159);
 
-const CONVERT_REST: Sym = Sym::Kind(160);
+const CONVERTED_TYPE: Sym = Sym::Kind(160);
 
-const UNRESOLVED: Sym = Sym::Kind(161);
+const CONVERTED_SOLID: Sym = Sym::Kind(161);
 
-const UNRESOLVED_TYPE: Sym = Sym::Kind(162);
+const PARAMETER_AFTER_T: Sym = Sym::Kind(162);
 
-const DESTRUCTOR_NAME: Sym = Sym::Kind(163);
+const DECLTYPE_AFTER_D: Sym = Sym::Kind(163);
 
-const REQUIREMENTS: Sym = Sym::Kind(164);
+const CONVERTED_AFTER_D: Sym = Sym::Kind(164);
 
-const MAYBE_NOEXCEPT: Sym = Sym::Kind(165);
+const CONVERT_REST: Sym = Sym::Kind(165);
 
-const AFTER_NOEXCEPT: Sym = Sym::Kind(166);
+const UNRESOLVED: Sym = Sym::Kind(166);
 
-const REQUIRED_TYPES: Sym = Sym::Kind(167);
+const UNRESOLVED_TYPE: Sym = Sym::Kind(167);
 
-const LEVEL: Sym = Sym::Kind(168);
+const DESTRUCTOR_NAME: Sym = Sym::Kind(168);
 
-const MORE_LEVELS: Sym = Sym::Kind(169);
+const REQUIREMENTS: Sym = Sym::Kind(169);
 
-const UNRESOLVED_NAME: Sym = Sym::Kind(170);
+const MAYBE_NOEXCEPT: Sym = Sym::Kind(170);
 
-const OPERATOR_NAME: Sym = Sym::Kind(171);
+const AFTER_NOEXCEPT: Sym = Sym::Kind(171);
 
-const ANY_ARRAY: Sym = Sym::Kind(172);
+const REQUIRED_TYPES: Sym = Sym::Kind(172);
 
-const ARRAY_REST: Sym = Sym::Kind(173);
+const LEVEL: Sym = Sym::Kind(173);
 
-const BOUND: Sym = Sym::Kind(174);
+const MORE_LEVELS: Sym = Sym::Kind(174);
 
-const NEST_MORE_OR_END: Sym = Sym::Kind(175);
+const UNRESOLVED_NAME: Sym = Sym::Kind(175);
+
+const OPERATOR_NAME: Sym = Sym::Kind(176);
+
+const ANY_ARRAY: Sym = Sym::Kind(177);
+
+const ARRAY_REST: Sym = Sym::Kind(178);
+
+const BOUND: Sym = Sym::Kind(179);
+
+const NEST_MORE_OR_END: Sym = Sym::Kind(180);
 
 const NAME: Sym = Sym::Name;
 
@@ -373,7 +383,7 @@ const DIGITS: Sym = Sym::Number(NumberKind::Digits);
 // The letter of a production is the byte with its number. The production with the number of the blank has none here.
 
 // For each kind a row: for each byte from `$` to `z` the letter of the production that the kind takes there.
-static LETTERS: [[u8; 87]; 176] = [
+static LETTERS: [[u8; 87]; 181] = [
     // $%&'()*+,-./0123456789:;<=>?@ABCDEFGHIJKLMNOPQRSTUVWXYZ[\]^_`abcdefghijklmnopqrstuvwxyz
     *b"                                                           -                           ", // Symbol
     *b"          .                                                                            ", // MaybeSuffix
@@ -488,68 +498,73 @@ static LETTERS: [[u8; 87]; 176] = [
     *b"            \xad\xad\xad\xad\xad\xad\xad\xad\xad\xad       \xad \xadb \xad   \xb1\\\xb0\xad\xad]\xad ]\xad\xac\xad[ \xab \xad      \xad\xad\xad\xad\xad\xad\xad\xad\xad\xad \xad\xad\xad\xad  Z\xad\xad\xad\xad\xad\xad\xad\xad", // OneArgument
     *b"                                                                       \xb3  \xb2 \xb5   \xb4    ! ", // DeclarationAfterT
     *b"                                                \xb6                                      ", // Declarations
-    *b"            \xb7\xb7\xb7\xb7\xb7\xb7\xb7\xb7\xb7\xb7                    S    \xb7                                       ", // Concept
+    *b"            \xb8\xb8\xb8\xb8\xb8\xb8\xb8\xb8\xb8\xb8                    \xb7    \xb8                                       ", // Concept
+    *b"                                     \xb9                                                 ", // ConceptArguments
     *b"            $$$$$$$$$$       q s  r      kS j  m #    n      oooooooooo oooo   oopooooo", // SolidButT
-    *b"                                                             \xd4                         ", // Expression
-    *b"            \xe5\xe5\xe5\xe5\xe5\xe5\xe5\xe5\xe5\xe5                  \x00                  \xe5                           ", // ExpressionParameter
-    *b"            \xe5\xe5\xe5\xe5\xe5\xe5\xe5\xe5\xe5\xe5                                     \xe5                           ", // UnleveledExpression
-    *b"                                        \x01                                              ", // AddressedExpression
+    *b"                                                             \xd7                         ", // Expression
+    *b"            \xe8\xe8\xe8\xe8\xe8\xe8\xe8\xe8\xe8\xe8                  \xe9                  \xe8                           ", // ExpressionParameter
+    *b"            \xe8\xe8\xe8\xe8\xe8\xe8\xe8\xe8\xe8\xe8                                     \xe8                           ", // UnleveledExpression
+    *b"                                        \xea                                              ", // AddressedExpression
     *b"                                                           \x85                           ", // AddressedLiteral
-    *b"                                                                \xbc                      ", // ExpressionAfterA
-    *b"                                                               \xb8        \xc0\xbd \xbe\xc0     \xc1    ", // ExpressionAfterC
-    *b"                                                  \xbd          \xbe \xb8 \xbe   \xc2  \xbe \xc4    \xbd\xbd \xbd \xc3  ", // ExpressionAfterD
-    *b"                                           \xbd                               \xbd \xbd         ", // ExpressionAfterE
-    *b"                                        \xc5                               \xc6   \xbb \xc7        ", // ExpressionAfterF
-    *b"                                                                 \xbd             \xbe\xbd      ", // ExpressionAfterG
-    *b"                                                                        \xc8           \xbd  ", // ExpressionAfterI
-    *b"                                               \xbd                 \xbd             \xbd\xbd      ", // ExpressionAfterL
-    *b"                                     \xbd  \xbd                            \xbd  \xbd\xc9             ", // ExpressionAfterM
-    *b"                                                             \xca   \xbd \xbe            \xbe  \xca\xbe  ", // ExpressionAfterN
-    *b"                                              \xbd                           \xb9\xbd  \xbd        ", // ExpressionAfterO
-    *b"                                        \xbd                               \xbd\xbd  \xc9  \xbe\xbd      ", // ExpressionAfterP
-    *b"                                                                                 \xcb     ", // ExpressionAfterQ
-    *b"                                         \xbd   \xcd \xbd               \xb8         \xbd   \xcc \xbd       ", // ExpressionAfterR
-    *b"                                                      \xcf        \xb8            \xce \xd0\xbd\xbf    \xd1\xbe", // ExpressionAfterS
-    *b"                                                                 \xbe   \xbf  \xd2     \xd3    \xbe   ", // ExpressionAfterT
-    *b"                                                             \x02                         ", // Expressions
+    *b"                                                                \xbe                      ", // ExpressionAfterA
+    *b"                                                               \xba        \xc2\xbf \xc0\xc2     \xc3    ", // ExpressionAfterC
+    *b"                                                  \xbf          \xc0 \xba \xc0   \xc4  \xc0 \xc6    \xbf\xbf \xbf \xc5  ", // ExpressionAfterD
+    *b"                                           \xbf                               \xbf \xbf         ", // ExpressionAfterE
+    *b"                                        \xc7     \xc8                         \xc9   \xbd \xca        ", // ExpressionAfterF
+    *b"                                                                 \xbf             \xc0\xbf      ", // ExpressionAfterG
+    *b"                                                                        \xcb           \xbf  ", // ExpressionAfterI
+    *b"                                               \xbf                 \xbf             \xbf\xbf      ", // ExpressionAfterL
+    *b"                                     \xbf  \xbf                            \xbf  \xbf\xcc             ", // ExpressionAfterM
+    *b"                                                             \xcd   \xbf \xc0            \xc0  \xcd\xc0  ", // ExpressionAfterN
+    *b"                                              \xbf                           \xbb\xbf  \xbf        ", // ExpressionAfterO
+    *b"                                        \xbf                               \xbf\xbf  \xcc  \xc0\xbf      ", // ExpressionAfterP
+    *b"                                                                                 \xce     ", // ExpressionAfterQ
+    *b"                                         \xbf   \xd0 \xbf               \xba         \xbf   \xcf \xbf       ", // ExpressionAfterR
+    *b"                                                      \xd2        \xba            \xd1 \xd3\xbf\xc1    \xd4\xc0", // ExpressionAfterS
+    *b"                                                                 \xc0   \xc1  \xd5     \xd6    \xc0   ", // ExpressionAfterT
+    *b"                                                             \xeb                         ", // Expressions
     *b"                                                           !                           ", // MaybeBefore
-    *b"                                                             \x90 \x92\x8f\x96 \x9a \x99  \x03\x93\x8e\x95\x91 \x94\x98       ", // FoldOperator
+    *b"                                                             \x90 \x92\x8f\x96 \x9a \x99  \xec\x93\x8e\x95\x91 \x94\x98       ", // FoldOperator
     *b"                                               !                 !             !!      ", // FoldOperatorAfterL
+    *b"            \xed\xed\xed\xed\xed\xed\xed\xed\xed\xed                                       \x00 \x00\x00\x00 \x00 \x00  \x00\x00\x00\x00\x00 \x00\x00       ", // AfterOuter
+    *b"                                                             \x01 \x01\x01\x01 \x01 \x01  \x01\x01\x01\x01\x01 \x01\x01       ", // FoldSigns
+    *b"                                                             \x02 \x02\x02\x02 \x02 \x02  \x02\x02\x02\x02\x02 \x02\x02       ", // FoldSign
+    *b"                                                             \x03                         ", // FoldValue
     *b"                                                             \x04                         ", // FoldOperand
     *b"                                                             \x05                         ", // FoldPack
     *b"                                      \xb1                      \x05                         ", // ValuePack
     *b"            \x06\x06\x06\x06\x06\x06\x06\x06\x06\x06       \x06 \x06\x06 \x06   \xb1\x06 \x06\x06\x06\x06 \x06\x06\x06\x06\x06   \x06      \x06\x06\x06\x06\x06\x06\x06\x06\x06\x06 \x06\x06\x06\x06  \x06\x06\x06\x06\x06\x06\x06\x06\x06", // TypePack
     *b"            \x08\x08\x08\x08\x08\x08\x08\x08\x08\x08                  \x08       \x08            \x08 \x08\x07\x08\x08\x08 \x08  \x08\x08\x08\x08\x08\x08\x08\x08\x08      ", // DesignatedValue
-    *b"                                                                     \xc2              \xc3  ", // DesignatorAfterD
-    *b"            \xba\xba\xba\xba\xba\xba\xba\xba\xba\xba                  \xb0       \xe4            \xd4 \xd5 \xd7\xd8\xd9 \xda  \xdb\xdc\xdd\xde\xdf\xe0\xe1\xe2\xe3      ", // PlainValue
+    *b"                                                                     \xc4              \xc5  ", // DesignatorAfterD
+    *b"            \xbc\xbc\xbc\xbc\xbc\xbc\xbc\xbc\xbc\xbc                  \xb0       \xe7            \xd7 \xd8 \xda\xdb\xdc \xdd  \xde\xdf\xe0\xe1\xe2\xe3\xe4\xe5\xe6      ", // PlainValue
     *b"            \xa0\xa0\xa0\xa0\xa0\xa0\xa0\xa0\xa0\xa0                                                                 ", // FieldName
     *b"                                                           ! \x09                         ", // Placement
-    *b"                                                             \x02                         ", // SomeExpressions
+    *b"                                                             \xeb                         ", // SomeExpressions
     *b"                                 {                                   \x0b      \x0a          ", // Initializer
-    *b"                                                                     \xc8                 ", // InitializerAfterP
-    *b"                                                                        \xc8              ", // InitializerAfterI
-    *b"                                                                            \xbb          ", // OuterRest
+    *b"                                                                     \xcb                 ", // InitializerAfterP
+    *b"                                                                        \xcb              ", // InitializerAfterI
+    *b"                                                                            \xbd          ", // OuterRest
     *b"            \x0d\x0d\x0d\x0d\x0d\x0d\x0d\x0d\x0d\x0d                          \x0c          \x0d                           ", // ParameterNumber
     *b"            \x12\x12\x12\x12\x12\x12\x12\x12\x12\x12          \x0e \x12    \x0f  \x12\x11\x10 \x11\x12\x12\x12           \x12\x12\x12\x12\x12\x12\x12\x12\x12\x12 \x12\x12\x12\x12   \x12\x12 \x12\x12\x12\x12\x12", // ConvertedType
     *b"            $$$$$$$$$$            r       S    m\x13#           oooooooooo oooo   oo ooooo", // ConvertedSolid
     *b"            \xae\xae\xae\xae\xae\xae\xae\xae\xae\xae                  \xaf                  \xae                           ", // ParameterAfterT
     *b"                                                i                               i      ", // DecltypeAfterD
     *b"                                                i            e e                i      ", // ConvertedAfterD
-    *b"            \xba\xba\xba\xba\xba\xba\xba\xba\xba\xba                  \xb0       \xe4          \xc8 \xd4 \xd5\xd6\xd7\xd8\xd9 \xda  \xdb\xdc\xdd\xde\xdf\xe0\xe1\xe2\xe3      ", // ConvertRest
+    *b"            \xbc\xbc\xbc\xbc\xbc\xbc\xbc\xbc\xbc\xbc                  \xb0       \xe7          \xcb \xd7 \xd8\xd9\xda\xdb\xdc \xdd  \xde\xdf\xe0\xe1\xe2\xe3\xe4\xe5\xe6      ", // ConvertRest
     *b"            \x15\x15\x15\x15\x15\x15\x15\x15\x15\x15          \x14         \x14    \x14\x14                                      ", // Unresolved
     *b"                                \x0e         S    m\x13                                      ", // UnresolvedType
-    *b"            \xba\xba\xba\xba\xba\xba\xba\xba\xba\xba          \x16         \x16    \x16\x16                                      ", // DestructorName
+    *b"            \xbc\xbc\xbc\xbc\xbc\xbc\xbc\xbc\xbc\xbc          \x16         \x16    \x16\x16                                      ", // DestructorName
     *b"                                             \x19  \x18   \x17                                  ", // Requirements
     *b"                                          !                                            ", // MaybeNoexcept
     *b"                                             \x19\x1a \x18   \x17                                  ", // AfterNoexcept
-    *b"            \x1b\x1b\x1b\x1b\x1b\x1b\x1b\x1b\x1b\x1b          \x1b \x1b    \x1b  \x1b\x1b\x1b \x1b\x1b\x1b\x1b         \xcc \x1b\x1b\x1b\x1b\x1b\x1b\x1b\x1b\x1b\x1b \x1b\x1b\x1b\x1b   \x1b\x1b \x1b\x1b\x1b\x1b\x1b", // RequiredTypes
-    *b"            \xba\xba\xba\xba\xba\xba\xba\xba\xba\xba                                                                 ", // Level
+    *b"            \x1b\x1b\x1b\x1b\x1b\x1b\x1b\x1b\x1b\x1b          \x1b \x1b    \x1b  \x1b\x1b\x1b \x1b\x1b\x1b\x1b         \xcf \x1b\x1b\x1b\x1b\x1b\x1b\x1b\x1b\x1b\x1b \x1b\x1b\x1b\x1b   \x1b\x1b \x1b\x1b\x1b\x1b\x1b", // RequiredTypes
+    *b"            \xbc\xbc\xbc\xbc\xbc\xbc\xbc\xbc\xbc\xbc                                                                 ", // Level
     *b"            \x15\x15\x15\x15\x15\x15\x15\x15\x15\x15           \x1c                                                     ", // MoreLevels
-    *b"            \xba\xba\xba\xba\xba\xba\xba\xba\xba\xba                                                     \x1d           ", // UnresolvedName
-    *b"                                                                          \xb9            ", // OperatorName
+    *b"            \xbc\xbc\xbc\xbc\xbc\xbc\xbc\xbc\xbc\xbc                                                     \x1d           ", // UnresolvedName
+    *b"                                                                          \xbb            ", // OperatorName
     *b"                             \x1e                                                         ", // AnyArray
     *b"            \x1f\x1f\x1f\x1f\x1f\x1f\x1f\x1f\x1f\x1f                                     \x1f                           ", // ArrayRest
-    *b"                                        \xb0       \xe4            \xd4 \xd5\xd6\xd7\xd8\xd9 \xda  \xdb\xdc\xdd\xde\xdf\xe0\xe1\xe2\xe3      ", // Bound
+    *b"                                        \xb0       \xe7            \xd7 \xd8\xd9\xda\xdb\xdc \xdd  \xde\xdf\xe0\xe1\xe2\xe3\xe4\xe5\xe6      ", // Bound
     *b"            IIIIIIIIII         II       I        I           I III I I  IIIII II       ", // NestMoreOrEnd
 ];
 
@@ -580,11 +595,11 @@ macro_rules! chains {
 }
 
 // The rules of the productions, in the order of their numbers.
-pub static HEADS: [Head; 256] = [
-    takes!(2), // 0 LeveledExpression
-    takes!(2), // 1 AddressedLiteral
-    chains!(2), // 2 Expressions
-    takes!(1), // 3 FoldOperatorL
+pub static HEADS: [Head; 264] = [
+    chains!(3), // 0 LeftFoldFrom
+    chains!(1), // 1 FoldSigns
+    chains!(1), // 2 FoldSign
+    chains!(1), // 3 FoldValue
     chains!(1), // 4 FoldOperand
     chains!(1), // 5 FoldPack
     chains!(1), // 6 TypePack
@@ -764,87 +779,95 @@ pub static HEADS: [Head; 256] = [
     takes!(2), // 180 TemplateOf
     takes!(2), // 181 PackOf
     takes!(2), // 182 Declarations
-    chains!(2), // 183 NamedConcept
-    takes!(2), // 184 Cast
-    takes!(2), // 185 OperatorReference
-    chains!(2), // 186 SimpleId
-    takes!(4), // 187 FunctionParameter
-    takes!(1), // 188 AddressExpression
-    takes!(2), // 189 Binary
-    takes!(1), // 190 Unary
-    takes!(1), // 191 OfType
-    takes!(3), // 192 Call
-    takes!(2), // 193 Convert
-    takes!(2), // 194 Designated
-    takes!(2), // 195 DesignatedElement
-    takes!(1), // 196 DestructorName
-    takes!(2), // 197 OuterParameter
-    takes!(2), // 198 LeftFold
-    takes!(2), // 199 RightFold
-    takes!(2), // 200 Braces
-    takes!(2), // 201 Step
-    takes!(3), // 202 New
-    takes!(3), // 203 Conditional
-    takes!(2), // 204 Requires
-    takes!(1), // 205 RequiresOf
-    takes!(1), // 206 ExpandExpression
-    takes!(1), // 207 PackSize
-    takes!(1), // 208 Unresolved
-    takes!(2), // 209 PackIndex
-    takes!(3), // 210 TypedBraces
-    takes!(0), // 211 Rethrow
-    takes!(1), // 212 ExpressionA
-    takes!(1), // 213 ExpressionC
-    takes!(1), // 214 ExpressionD
-    takes!(1), // 215 ExpressionE
-    takes!(1), // 216 ExpressionF
-    takes!(1), // 217 ExpressionG
-    takes!(1), // 218 ExpressionI
-    takes!(1), // 219 ExpressionL
-    takes!(1), // 220 ExpressionM
-    takes!(1), // 221 ExpressionN
-    takes!(1), // 222 ExpressionO
-    takes!(1), // 223 ExpressionP
-    takes!(1), // 224 ExpressionQ
-    takes!(1), // 225 ExpressionR
-    takes!(1), // 226 ExpressionS
-    takes!(1), // 227 ExpressionT
-    takes!(1), // 228 ExpressionWithT
-    chains!(2), // 229 ParameterExpression
-    chains!(3), // 230 BoundedArray
-    chains!(2), // 231 DeclaredArgument
-    takes!(2), // 232 TypeTag
-    takes!(2), // 233 Clone
-    takes!(2), // 234 ModuleInitializer
-    takes!(2), // 235 Temporary
-    takes!(1), // 236 Conversion
-    takes!(1), // 237 ConstLiteral
-    takes!(2), // 238 VolatileLiteral
-    chains!(2), // 239 SizedFloatLiteral
-    chains!(2), // 240 FloatLiteral
-    takes!(2), // 241 Tag
-    takes!(1), // 242 Constraint
-    takes!(2), // 243 IndexedType
-    takes!(2), // 244 BitInt
-    takes!(1), // 245 ConstrainedAuto
-    takes!(2), // 246 Enumeration
-    takes!(2), // 247 DefaultTypeEntity
-    takes!(2), // 248 DefaultEntity
-    takes!(2), // 249 Inheriting
-    takes!(2), // 250 Friend
-    chains!(2), // 251 Holder
-    takes!(2), // 252 NestTag
-    takes!(2), // 253 NestDecltype
-    chains!(2), // 254 NestModule
-    takes!(4), // 255 ConstructionVtable
+    takes!(2), // 183 NestedConcept
+    chains!(2), // 184 NamedConcept
+    takes!(2), // 185 ConceptArguments
+    takes!(2), // 186 Cast
+    takes!(2), // 187 OperatorReference
+    chains!(2), // 188 SimpleId
+    takes!(4), // 189 FunctionParameter
+    takes!(1), // 190 AddressExpression
+    takes!(2), // 191 Binary
+    takes!(1), // 192 Unary
+    takes!(1), // 193 OfType
+    takes!(3), // 194 Call
+    takes!(2), // 195 Convert
+    takes!(2), // 196 Designated
+    takes!(2), // 197 DesignatedElement
+    takes!(1), // 198 DestructorName
+    takes!(1), // 199 AfterOuter
+    takes!(3), // 200 RightFoldFrom
+    takes!(2), // 201 LeftFold
+    takes!(2), // 202 RightFold
+    takes!(2), // 203 Braces
+    takes!(2), // 204 Step
+    takes!(3), // 205 New
+    takes!(3), // 206 Conditional
+    takes!(2), // 207 Requires
+    takes!(1), // 208 RequiresOf
+    takes!(1), // 209 ExpandExpression
+    takes!(1), // 210 PackSize
+    takes!(1), // 211 Unresolved
+    takes!(2), // 212 PackIndex
+    takes!(3), // 213 TypedBraces
+    takes!(0), // 214 Rethrow
+    takes!(1), // 215 ExpressionA
+    takes!(1), // 216 ExpressionC
+    takes!(1), // 217 ExpressionD
+    takes!(1), // 218 ExpressionE
+    takes!(1), // 219 ExpressionF
+    takes!(1), // 220 ExpressionG
+    takes!(1), // 221 ExpressionI
+    takes!(1), // 222 ExpressionL
+    takes!(1), // 223 ExpressionM
+    takes!(1), // 224 ExpressionN
+    takes!(1), // 225 ExpressionO
+    takes!(1), // 226 ExpressionP
+    takes!(1), // 227 ExpressionQ
+    takes!(1), // 228 ExpressionR
+    takes!(1), // 229 ExpressionS
+    takes!(1), // 230 ExpressionT
+    takes!(1), // 231 ExpressionWithT
+    chains!(2), // 232 ParameterExpression
+    takes!(2), // 233 LeveledExpression
+    takes!(2), // 234 AddressedLiteral
+    chains!(2), // 235 Expressions
+    takes!(1), // 236 FoldOperatorL
+    chains!(2), // 237 OuterParameter
+    chains!(3), // 238 BoundedArray
+    chains!(2), // 239 DeclaredArgument
+    takes!(2), // 240 TypeTag
+    takes!(2), // 241 Clone
+    takes!(2), // 242 ModuleInitializer
+    takes!(2), // 243 Temporary
+    takes!(1), // 244 Conversion
+    takes!(1), // 245 ConstLiteral
+    takes!(2), // 246 VolatileLiteral
+    chains!(2), // 247 SizedFloatLiteral
+    chains!(2), // 248 FloatLiteral
+    takes!(2), // 249 Tag
+    takes!(1), // 250 Constraint
+    takes!(2), // 251 IndexedType
+    takes!(2), // 252 BitInt
+    takes!(1), // 253 ConstrainedAuto
+    takes!(2), // 254 Enumeration
+    takes!(2), // 255 DefaultTypeEntity
+    takes!(2), // 256 DefaultEntity
+    takes!(2), // 257 Inheriting
+    takes!(2), // 258 Friend
+    chains!(2), // 259 Holder
+    takes!(2), // 260 NestTag
+    takes!(2), // 261 NestDecltype
+    chains!(2), // 262 NestModule
+    takes!(4), // 263 ConstructionVtable
 ];
 
 // The symbols of the rules, in the same order.
-pub static SYMBOLS: [Sym; 1542] = symbols_listed! {
-    [DECIMAL, UNLEVELED_EXPRESSION, NONE, NONE, NONE], // 0 LeveledExpression
-    [ADDRESSED_LITERAL, Sym::Byte(b'E'), NONE, NONE, NONE], // 1 AddressedLiteral
-    [EXPRESSION, EXPRESSIONS, NONE, NONE, NONE], // 2 Expressions
-    [FOLD_OPERATOR_AFTER_L, NONE, NONE, NONE, NONE], // 3 FoldOperatorL
+pub static SYMBOLS: [Sym; 1590] = symbols_listed! {
+    [FOLD_SIGNS, FOLD_VALUE, FOLD_OPERAND, NONE, NONE], // 0 LeftFoldFrom
+    [FOLD_SIGN, NONE, NONE, NONE, NONE], // 1 FoldSigns
+    [FOLD_OPERATOR, NONE, NONE, NONE, NONE], // 2 FoldSign
+    [EXPRESSION, NONE, NONE, NONE, NONE], // 3 FoldValue
     [FOLD_PACK, NONE, NONE, NONE, NONE], // 4 FoldOperand
     [EXPRESSION, NONE, NONE, NONE, NONE], // 5 FoldPack
     [TYPE, NONE, NONE, NONE, NONE], // 6 TypePack
@@ -1024,84 +1047,92 @@ pub static SYMBOLS: [Sym; 1542] = symbols_listed! {
     [DECLARATIONS, Sym::Byte(b'E'), NONE, NONE, NONE], // 180 TemplateOf
     [Sym::Byte(b'T'), DECLARATION_AFTER_T, NONE, NONE, NONE], // 181 PackOf
     [DECLARATION_AFTER_T, DECLARATIONS, NONE, NONE, NONE], // 182 Declarations
-    [UNNESTED_NAME, HELD_ARGUMENTS, NONE, NONE, NONE], // 183 NamedConcept
-    [TYPE, EXPRESSION, NONE, NONE, NONE], // 184 Cast
-    [OPERATOR, ARGUMENTS_ALONE, NONE, NONE, NONE], // 185 OperatorReference
-    [NAME, ARGUMENTS_ALONE, NONE, NONE, NONE], // 186 SimpleId
-    [MAYBE_RESTRICT, MAYBE_VOLATILE, MAYBE_CONST, PARAMETER_NUMBER, NONE], // 187 FunctionParameter
-    [ADDRESSED_EXPRESSION, NONE, NONE, NONE, NONE], // 188 AddressExpression
-    [EXPRESSION, EXPRESSION, NONE, NONE, NONE], // 189 Binary
-    [EXPRESSION, NONE, NONE, NONE, NONE], // 190 Unary
-    [CONVERTED_TYPE, NONE, NONE, NONE, NONE], // 191 OfType
-    [EXPRESSION, EXPRESSIONS, Sym::Byte(b'E'), NONE, NONE], // 192 Call
-    [CONVERTED_TYPE, CONVERT_REST, NONE, NONE, NONE], // 193 Convert
-    [FIELD_NAME, DESIGNATED_VALUE, NONE, NONE, NONE], // 194 Designated
-    [EXPRESSION, DESIGNATED_VALUE, NONE, NONE, NONE], // 195 DesignatedElement
-    [DESTRUCTOR_NAME, NONE, NONE, NONE, NONE], // 196 DestructorName
-    [DIGITS, OUTER_REST, NONE, NONE, NONE], // 197 OuterParameter
-    [FOLD_OPERATOR, FOLD_OPERAND, NONE, NONE, NONE], // 198 LeftFold
-    [FOLD_OPERATOR, FOLD_OPERAND, NONE, NONE, NONE], // 199 RightFold
-    [EXPRESSIONS, Sym::Byte(b'E'), NONE, NONE, NONE], // 200 Braces
-    [MAYBE_BEFORE, EXPRESSION, NONE, NONE, NONE], // 201 Step
-    [PLACEMENT, TYPE, INITIALIZER, NONE, NONE], // 202 New
-    [EXPRESSION, EXPRESSION, EXPRESSION, NONE, NONE], // 203 Conditional
-    [REQUIREMENTS, Sym::Byte(b'E'), NONE, NONE, NONE], // 204 Requires
-    [REQUIRED_TYPES, NONE, NONE, NONE, NONE], // 205 RequiresOf
-    [EXPRESSION, NONE, NONE, NONE, NONE], // 206 ExpandExpression
-    [EXPRESSION, NONE, NONE, NONE, NONE], // 207 PackSize
-    [UNRESOLVED, NONE, NONE, NONE, NONE], // 208 Unresolved
-    [VALUE_PACK, EXPRESSION, NONE, NONE, NONE], // 209 PackIndex
-    [TYPE, EXPRESSIONS, Sym::Byte(b'E'), NONE, NONE], // 210 TypedBraces
-    [NONE, NONE, NONE, NONE, NONE], // 211 Rethrow
-    [EXPRESSION_AFTER_A, NONE, NONE, NONE, NONE], // 212 ExpressionA
-    [EXPRESSION_AFTER_C, NONE, NONE, NONE, NONE], // 213 ExpressionC
-    [EXPRESSION_AFTER_D, NONE, NONE, NONE, NONE], // 214 ExpressionD
-    [EXPRESSION_AFTER_E, NONE, NONE, NONE, NONE], // 215 ExpressionE
-    [EXPRESSION_AFTER_F, NONE, NONE, NONE, NONE], // 216 ExpressionF
-    [EXPRESSION_AFTER_G, NONE, NONE, NONE, NONE], // 217 ExpressionG
-    [EXPRESSION_AFTER_I, NONE, NONE, NONE, NONE], // 218 ExpressionI
-    [EXPRESSION_AFTER_L, NONE, NONE, NONE, NONE], // 219 ExpressionL
-    [EXPRESSION_AFTER_M, NONE, NONE, NONE, NONE], // 220 ExpressionM
-    [EXPRESSION_AFTER_N, NONE, NONE, NONE, NONE], // 221 ExpressionN
-    [EXPRESSION_AFTER_O, NONE, NONE, NONE, NONE], // 222 ExpressionO
-    [EXPRESSION_AFTER_P, NONE, NONE, NONE, NONE], // 223 ExpressionP
-    [EXPRESSION_AFTER_Q, NONE, NONE, NONE, NONE], // 224 ExpressionQ
-    [EXPRESSION_AFTER_R, NONE, NONE, NONE, NONE], // 225 ExpressionR
-    [EXPRESSION_AFTER_S, NONE, NONE, NONE, NONE], // 226 ExpressionS
-    [EXPRESSION_AFTER_T, NONE, NONE, NONE, NONE], // 227 ExpressionT
-    [EXPRESSION_PARAMETER, NONE, NONE, NONE, NONE], // 228 ExpressionWithT
-    [DECIMAL, ARGUMENTS_ALONE, NONE, NONE, NONE], // 229 ParameterExpression
-    [BOUND, Sym::Byte(b'_'), TYPE, NONE, NONE], // 230 BoundedArray
-    [DECLARATION_AFTER_T, ONE_ARGUMENT, NONE, NONE, NONE], // 231 DeclaredArgument
-    [NAME, MAYBE_TAGS, NONE, NONE, NONE], // 232 TypeTag
-    [CLONE_LETTER, ENCODING, NONE, NONE, NONE], // 233 Clone
-    [Sym::Byte(b'W'), FIRST_MODULE, NONE, NONE, NONE], // 234 ModuleInitializer
-    [TEMPORARY_NAME, Sym::Byte(b'_'), NONE, NONE, NONE], // 235 Temporary
-    [TYPE, NONE, NONE, NONE, NONE], // 236 Conversion
-    [LITERAL_PLAIN, NONE, NONE, NONE, NONE], // 237 ConstLiteral
-    [MAYBE_CONST, LITERAL_PLAIN, NONE, NONE, NONE], // 238 VolatileLiteral
-    [SIZED_FLOAT_TYPE, HEX_TEXT, NONE, NONE, NONE], // 239 SizedFloatLiteral
-    [FLOAT_TYPE, HEX_TEXT, NONE, NONE, NONE], // 240 FloatLiteral
-    [NAME, MAYBE_ARGUMENTS, NONE, NONE, NONE], // 241 Tag
-    [EXPRESSION, NONE, NONE, NONE, NONE], // 242 Constraint
-    [TYPE_PACK, EXPRESSION, NONE, NONE, NONE], // 243 IndexedType
-    [BIT_WIDTH, Sym::Byte(b'_'), NONE, NONE, NONE], // 244 BitInt
-    [CONCEPT, NONE, NONE, NONE, NONE], // 245 ConstrainedAuto
-    [TYPE, NAME, NONE, NONE, NONE], // 246 Enumeration
-    [DECIMAL, PLAIN_TYPE_ENTITY, NONE, NONE, NONE], // 247 DefaultTypeEntity
-    [DECIMAL, PLAIN_ENTITY, NONE, NONE, NONE], // 248 DefaultEntity
-    [INHERITED_DIGIT, BASE_CLASS, NONE, NONE, NONE], // 249 Inheriting
-    [UNQUALIFIED, MAYBE_ARGUMENTS, NONE, NONE, NONE], // 250 Friend
-    [HOLDER_MARK, HELD_COMPONENT, NONE, NONE, NONE], // 251 Holder
-    [NAME, NEST_REST, NONE, NONE, NONE], // 252 NestTag
-    [DECLTYPE_AFTER_D, NEST_REST_ALONE, NONE, NONE, NONE], // 253 NestDecltype
-    [NAME_IN_MODULE, NEST_ON, NONE, NONE, NONE], // 254 NestModule
-    [TYPE, DIGITS, Sym::Byte(b'_'), TYPE, NONE], // 255 ConstructionVtable
+    [NEST, CONCEPT_ARGUMENTS, NONE, NONE, NONE], // 183 NestedConcept
+    [UNNESTED_NAME, HELD_ARGUMENTS, NONE, NONE, NONE], // 184 NamedConcept
+    [ARGUMENTS_FIRST, Sym::Byte(b'E'), NONE, NONE, NONE], // 185 ConceptArguments
+    [TYPE, EXPRESSION, NONE, NONE, NONE], // 186 Cast
+    [OPERATOR, ARGUMENTS_ALONE, NONE, NONE, NONE], // 187 OperatorReference
+    [NAME, ARGUMENTS_ALONE, NONE, NONE, NONE], // 188 SimpleId
+    [MAYBE_RESTRICT, MAYBE_VOLATILE, MAYBE_CONST, PARAMETER_NUMBER, NONE], // 189 FunctionParameter
+    [ADDRESSED_EXPRESSION, NONE, NONE, NONE, NONE], // 190 AddressExpression
+    [EXPRESSION, EXPRESSION, NONE, NONE, NONE], // 191 Binary
+    [EXPRESSION, NONE, NONE, NONE, NONE], // 192 Unary
+    [CONVERTED_TYPE, NONE, NONE, NONE, NONE], // 193 OfType
+    [EXPRESSION, EXPRESSIONS, Sym::Byte(b'E'), NONE, NONE], // 194 Call
+    [CONVERTED_TYPE, CONVERT_REST, NONE, NONE, NONE], // 195 Convert
+    [FIELD_NAME, DESIGNATED_VALUE, NONE, NONE, NONE], // 196 Designated
+    [EXPRESSION, DESIGNATED_VALUE, NONE, NONE, NONE], // 197 DesignatedElement
+    [DESTRUCTOR_NAME, NONE, NONE, NONE, NONE], // 198 DestructorName
+    [AFTER_OUTER, NONE, NONE, NONE, NONE], // 199 AfterOuter
+    [FOLD_SIGNS, FOLD_OPERAND, FOLD_VALUE, NONE, NONE], // 200 RightFoldFrom
+    [FOLD_OPERATOR, FOLD_OPERAND, NONE, NONE, NONE], // 201 LeftFold
+    [FOLD_OPERATOR, FOLD_OPERAND, NONE, NONE, NONE], // 202 RightFold
+    [EXPRESSIONS, Sym::Byte(b'E'), NONE, NONE, NONE], // 203 Braces
+    [MAYBE_BEFORE, EXPRESSION, NONE, NONE, NONE], // 204 Step
+    [PLACEMENT, TYPE, INITIALIZER, NONE, NONE], // 205 New
+    [EXPRESSION, EXPRESSION, EXPRESSION, NONE, NONE], // 206 Conditional
+    [REQUIREMENTS, Sym::Byte(b'E'), NONE, NONE, NONE], // 207 Requires
+    [REQUIRED_TYPES, NONE, NONE, NONE, NONE], // 208 RequiresOf
+    [EXPRESSION, NONE, NONE, NONE, NONE], // 209 ExpandExpression
+    [EXPRESSION, NONE, NONE, NONE, NONE], // 210 PackSize
+    [UNRESOLVED, NONE, NONE, NONE, NONE], // 211 Unresolved
+    [VALUE_PACK, EXPRESSION, NONE, NONE, NONE], // 212 PackIndex
+    [TYPE, EXPRESSIONS, Sym::Byte(b'E'), NONE, NONE], // 213 TypedBraces
+    [NONE, NONE, NONE, NONE, NONE], // 214 Rethrow
+    [EXPRESSION_AFTER_A, NONE, NONE, NONE, NONE], // 215 ExpressionA
+    [EXPRESSION_AFTER_C, NONE, NONE, NONE, NONE], // 216 ExpressionC
+    [EXPRESSION_AFTER_D, NONE, NONE, NONE, NONE], // 217 ExpressionD
+    [EXPRESSION_AFTER_E, NONE, NONE, NONE, NONE], // 218 ExpressionE
+    [EXPRESSION_AFTER_F, NONE, NONE, NONE, NONE], // 219 ExpressionF
+    [EXPRESSION_AFTER_G, NONE, NONE, NONE, NONE], // 220 ExpressionG
+    [EXPRESSION_AFTER_I, NONE, NONE, NONE, NONE], // 221 ExpressionI
+    [EXPRESSION_AFTER_L, NONE, NONE, NONE, NONE], // 222 ExpressionL
+    [EXPRESSION_AFTER_M, NONE, NONE, NONE, NONE], // 223 ExpressionM
+    [EXPRESSION_AFTER_N, NONE, NONE, NONE, NONE], // 224 ExpressionN
+    [EXPRESSION_AFTER_O, NONE, NONE, NONE, NONE], // 225 ExpressionO
+    [EXPRESSION_AFTER_P, NONE, NONE, NONE, NONE], // 226 ExpressionP
+    [EXPRESSION_AFTER_Q, NONE, NONE, NONE, NONE], // 227 ExpressionQ
+    [EXPRESSION_AFTER_R, NONE, NONE, NONE, NONE], // 228 ExpressionR
+    [EXPRESSION_AFTER_S, NONE, NONE, NONE, NONE], // 229 ExpressionS
+    [EXPRESSION_AFTER_T, NONE, NONE, NONE, NONE], // 230 ExpressionT
+    [EXPRESSION_PARAMETER, NONE, NONE, NONE, NONE], // 231 ExpressionWithT
+    [DECIMAL, ARGUMENTS_ALONE, NONE, NONE, NONE], // 232 ParameterExpression
+    [DECIMAL, UNLEVELED_EXPRESSION, NONE, NONE, NONE], // 233 LeveledExpression
+    [ADDRESSED_LITERAL, Sym::Byte(b'E'), NONE, NONE, NONE], // 234 AddressedLiteral
+    [EXPRESSION, EXPRESSIONS, NONE, NONE, NONE], // 235 Expressions
+    [FOLD_OPERATOR_AFTER_L, NONE, NONE, NONE, NONE], // 236 FoldOperatorL
+    [DIGITS, OUTER_REST, NONE, NONE, NONE], // 237 OuterParameter
+    [BOUND, Sym::Byte(b'_'), TYPE, NONE, NONE], // 238 BoundedArray
+    [DECLARATION_AFTER_T, ONE_ARGUMENT, NONE, NONE, NONE], // 239 DeclaredArgument
+    [NAME, MAYBE_TAGS, NONE, NONE, NONE], // 240 TypeTag
+    [CLONE_LETTER, ENCODING, NONE, NONE, NONE], // 241 Clone
+    [Sym::Byte(b'W'), FIRST_MODULE, NONE, NONE, NONE], // 242 ModuleInitializer
+    [TEMPORARY_NAME, Sym::Byte(b'_'), NONE, NONE, NONE], // 243 Temporary
+    [TYPE, NONE, NONE, NONE, NONE], // 244 Conversion
+    [LITERAL_PLAIN, NONE, NONE, NONE, NONE], // 245 ConstLiteral
+    [MAYBE_CONST, LITERAL_PLAIN, NONE, NONE, NONE], // 246 VolatileLiteral
+    [SIZED_FLOAT_TYPE, HEX_TEXT, NONE, NONE, NONE], // 247 SizedFloatLiteral
+    [FLOAT_TYPE, HEX_TEXT, NONE, NONE, NONE], // 248 FloatLiteral
+    [NAME, MAYBE_ARGUMENTS, NONE, NONE, NONE], // 249 Tag
+    [EXPRESSION, NONE, NONE, NONE, NONE], // 250 Constraint
+    [TYPE_PACK, EXPRESSION, NONE, NONE, NONE], // 251 IndexedType
+    [BIT_WIDTH, Sym::Byte(b'_'), NONE, NONE, NONE], // 252 BitInt
+    [CONCEPT, NONE, NONE, NONE, NONE], // 253 ConstrainedAuto
+    [TYPE, NAME, NONE, NONE, NONE], // 254 Enumeration
+    [DECIMAL, PLAIN_TYPE_ENTITY, NONE, NONE, NONE], // 255 DefaultTypeEntity
+    [DECIMAL, PLAIN_ENTITY, NONE, NONE, NONE], // 256 DefaultEntity
+    [INHERITED_DIGIT, BASE_CLASS, NONE, NONE, NONE], // 257 Inheriting
+    [UNQUALIFIED, MAYBE_ARGUMENTS, NONE, NONE, NONE], // 258 Friend
+    [HOLDER_MARK, HELD_COMPONENT, NONE, NONE, NONE], // 259 Holder
+    [NAME, NEST_REST, NONE, NONE, NONE], // 260 NestTag
+    [DECLTYPE_AFTER_D, NEST_REST_ALONE, NONE, NONE, NONE], // 261 NestDecltype
+    [NAME_IN_MODULE, NEST_ON, NONE, NONE, NONE], // 262 NestModule
+    [TYPE, DIGITS, Sym::Byte(b'_'), TYPE, NONE], // 263 ConstructionVtable
 };
 
 // How many symbols follow each of them, up to an end.
-static AFTER: [u8; 1542] = [
-    0, 0, 0, 0, 0, 2, 1, 0, 0, 0, 0, 2, 1, 0, 0, 0, 0, 2, 1, 0, 0, 0, 0, 1, 0, 0, 0, 0, 0, 1, 0, 0,
+static AFTER: [u8; 1590] = [
+    0, 0, 0, 0, 0, 3, 2, 1, 0, 0, 0, 1, 0, 0, 0, 0, 0, 1, 0, 0, 0, 0, 0, 1, 0, 0, 0, 0, 0, 1, 0, 0,
     0, 0, 0, 1, 0, 0, 0, 0, 0, 1, 0, 0, 0, 0, 0, 1, 0, 0, 0, 0, 0, 1, 0, 0, 0, 0, 0, 2, 1, 0, 0, 0,
     0, 1, 0, 0, 0, 0, 0, 1, 0, 0, 0, 0, 0, 0, 0, 0, 0, 0, 0, 1, 0, 0, 0, 0, 0, 1, 0, 0, 0, 0, 0, 1,
     0, 0, 0, 0, 0, 1, 0, 0, 0, 0, 0, 1, 0, 0, 0, 0, 0, 1, 0, 0, 0, 0, 0, 1, 0, 0, 0, 0, 0, 2, 1, 0,
@@ -1136,27 +1167,28 @@ static AFTER: [u8; 1542] = [
     0, 2, 1, 0, 0, 0, 0, 2, 1, 0, 0, 0, 0, 1, 0, 0, 0, 0, 0, 1, 0, 0, 0, 0, 0, 2, 1, 0, 0, 0, 0, 2,
     1, 0, 0, 0, 0, 2, 1, 0, 0, 0, 0, 2, 1, 0, 0, 0, 0, 1, 0, 0, 0, 0, 0, 1, 0, 0, 0, 0, 0, 2, 1, 0,
     0, 0, 0, 2, 1, 0, 0, 0, 0, 2, 1, 0, 0, 0, 0, 2, 1, 0, 0, 0, 0, 2, 1, 0, 0, 0, 0, 2, 1, 0, 0, 0,
-    0, 2, 1, 0, 0, 0, 0, 4, 3, 2, 1, 0, 0, 1, 0, 0, 0, 0, 0, 2, 1, 0, 0, 0, 0, 1, 0, 0, 0, 0, 0, 1,
-    0, 0, 0, 0, 0, 3, 2, 1, 0, 0, 0, 2, 1, 0, 0, 0, 0, 2, 1, 0, 0, 0, 0, 2, 1, 0, 0, 0, 0, 1, 0, 0,
-    0, 0, 0, 2, 1, 0, 0, 0, 0, 2, 1, 0, 0, 0, 0, 2, 1, 0, 0, 0, 0, 2, 1, 0, 0, 0, 0, 2, 1, 0, 0, 0,
-    0, 3, 2, 1, 0, 0, 0, 3, 2, 1, 0, 0, 0, 2, 1, 0, 0, 0, 0, 1, 0, 0, 0, 0, 0, 1, 0, 0, 0, 0, 0, 1,
-    0, 0, 0, 0, 0, 1, 0, 0, 0, 0, 0, 2, 1, 0, 0, 0, 0, 3, 2, 1, 0, 0, 0, 0, 0, 0, 0, 0, 0, 1, 0, 0,
-    0, 0, 0, 1, 0, 0, 0, 0, 0, 1, 0, 0, 0, 0, 0, 1, 0, 0, 0, 0, 0, 1, 0, 0, 0, 0, 0, 1, 0, 0, 0, 0,
+    0, 2, 1, 0, 0, 0, 0, 2, 1, 0, 0, 0, 0, 2, 1, 0, 0, 0, 0, 4, 3, 2, 1, 0, 0, 1, 0, 0, 0, 0, 0, 2,
+    1, 0, 0, 0, 0, 1, 0, 0, 0, 0, 0, 1, 0, 0, 0, 0, 0, 3, 2, 1, 0, 0, 0, 2, 1, 0, 0, 0, 0, 2, 1, 0,
+    0, 0, 0, 2, 1, 0, 0, 0, 0, 1, 0, 0, 0, 0, 0, 1, 0, 0, 0, 0, 0, 3, 2, 1, 0, 0, 0, 2, 1, 0, 0, 0,
+    0, 2, 1, 0, 0, 0, 0, 2, 1, 0, 0, 0, 0, 2, 1, 0, 0, 0, 0, 3, 2, 1, 0, 0, 0, 3, 2, 1, 0, 0, 0, 2,
+    1, 0, 0, 0, 0, 1, 0, 0, 0, 0, 0, 1, 0, 0, 0, 0, 0, 1, 0, 0, 0, 0, 0, 1, 0, 0, 0, 0, 0, 2, 1, 0,
+    0, 0, 0, 3, 2, 1, 0, 0, 0, 0, 0, 0, 0, 0, 0, 1, 0, 0, 0, 0, 0, 1, 0, 0, 0, 0, 0, 1, 0, 0, 0, 0,
     0, 1, 0, 0, 0, 0, 0, 1, 0, 0, 0, 0, 0, 1, 0, 0, 0, 0, 0, 1, 0, 0, 0, 0, 0, 1, 0, 0, 0, 0, 0, 1,
     0, 0, 0, 0, 0, 1, 0, 0, 0, 0, 0, 1, 0, 0, 0, 0, 0, 1, 0, 0, 0, 0, 0, 1, 0, 0, 0, 0, 0, 1, 0, 0,
-    0, 0, 0, 2, 1, 0, 0, 0, 0, 3, 2, 1, 0, 0, 0, 2, 1, 0, 0, 0, 0, 2, 1, 0, 0, 0, 0, 2, 1, 0, 0, 0,
-    0, 2, 1, 0, 0, 0, 0, 2, 1, 0, 0, 0, 0, 1, 0, 0, 0, 0, 0, 1, 0, 0, 0, 0, 0, 2, 1, 0, 0, 0, 0, 2,
-    1, 0, 0, 0, 0, 2, 1, 0, 0, 0, 0, 2, 1, 0, 0, 0, 0, 1, 0, 0, 0, 0, 0, 2, 1, 0, 0, 0, 0, 2, 1, 0,
+    0, 0, 0, 1, 0, 0, 0, 0, 0, 1, 0, 0, 0, 0, 0, 1, 0, 0, 0, 0, 0, 2, 1, 0, 0, 0, 0, 2, 1, 0, 0, 0,
+    0, 2, 1, 0, 0, 0, 0, 2, 1, 0, 0, 0, 0, 1, 0, 0, 0, 0, 0, 2, 1, 0, 0, 0, 0, 3, 2, 1, 0, 0, 0, 2,
+    1, 0, 0, 0, 0, 2, 1, 0, 0, 0, 0, 2, 1, 0, 0, 0, 0, 2, 1, 0, 0, 0, 0, 2, 1, 0, 0, 0, 0, 1, 0, 0,
     0, 0, 0, 1, 0, 0, 0, 0, 0, 2, 1, 0, 0, 0, 0, 2, 1, 0, 0, 0, 0, 2, 1, 0, 0, 0, 0, 2, 1, 0, 0, 0,
-    0, 2, 1, 0, 0, 0, 0, 2, 1, 0, 0, 0, 0, 2, 1, 0, 0, 0, 0, 2, 1, 0, 0, 0, 0, 2, 1, 0, 0, 0, 0, 4,
-    3, 2, 1, 0, 0, 0,
+    0, 1, 0, 0, 0, 0, 0, 2, 1, 0, 0, 0, 0, 2, 1, 0, 0, 0, 0, 1, 0, 0, 0, 0, 0, 2, 1, 0, 0, 0, 0, 2,
+    1, 0, 0, 0, 0, 2, 1, 0, 0, 0, 0, 2, 1, 0, 0, 0, 0, 2, 1, 0, 0, 0, 0, 2, 1, 0, 0, 0, 0, 2, 1, 0,
+    0, 0, 0, 2, 1, 0, 0, 0, 0, 2, 1, 0, 0, 0, 0, 4, 3, 2, 1, 0, 0, 0,
 ];
 
 /// The number of the rule that a kind takes at a byte, if it takes one.
 #[inline]
 fn number(kind: u16, byte: u8) -> Option<usize>
     requires { kind < abi.kinds }
-    ensures few { IfSome result (λ number. number < 256) }
+    ensures few { IfSome result (λ number. number < 264) }
     ensures rule { (head : Head) → MatchOption result (abi.rule kind byte ≡ None) (λ number. abi.rule kind byte ≡ Some (listed_rule head number)) }
 {
     let row = &LETTERS[kind as usize];

@@ -199,6 +199,7 @@ operation_texts =
     codes "new[]" ∷
     codes "(..." ∷
     codes "...)" ∷
+    codes "..." ∷
     codes "requires {...}" ∷
     codes "requires (...) {...}" ∷
     codes "throw" ∷

@@ -42,7 +42,7 @@ macro_rules! row {
 }
 
 /// The operations in the order of the table, and what is printed where there is none.
-static OPERATIONS: [Operation; 97] = [
+static OPERATIONS: [Operation; 102] = [
     row!(2 => OPERATION + 0, Operand::From(2), NONE, Operand::NotPrinted, NONE), // ps
     row!(2 => OPERATION + 1, Operand::From(2), NONE, Operand::NotPrinted, NONE), // ng
     row!(2 => OPERATION + 2, Operand::From(2), NONE, Operand::NotPrinted, NONE), // ad
@@ -125,20 +125,25 @@ static OPERATIONS: [Operation; 97] = [
     row!(0 => OPERATION + 52, Operand::AsList, OPERATION + 53, Operand::NotPrinted, NONE), // pi
     row!(0 => OPERATION + 71, Operand::AsItIs, OPERATION + 53, Operand::NotPrinted, NONE), // fl
     row!(0 => OPERATION + 52, Operand::AsItIs, OPERATION + 72, Operand::NotPrinted, NONE), // fr
-    row!(0 => OPERATION + 73, Operand::NotPrinted, NONE, Operand::NotPrinted, NONE), // rq
-    row!(0 => OPERATION + 74, Operand::NotPrinted, NONE, Operand::NotPrinted, NONE), // rQ
-    row!(0 => OPERATION + 75, Operand::NotPrinted, NONE, Operand::NotPrinted, NONE), // tr
-    row!(1 => OPERATION + 52, Operand::AsItIs, OPERATION + 76, Operand::AsItIs, OPERATION + 47), // sy
-    row!(1 => OPERATION + 52, Operand::AsItIs, OPERATION + 76, Operand::AsItIs, OPERATION + 47), // Dy
-    row!(0 => OPERATION + 77, Operand::AsItIs, OPERATION + 53, Operand::NotPrinted, NONE), // DB
-    row!(0 => OPERATION + 78, Operand::AsItIs, OPERATION + 53, Operand::NotPrinted, NONE), // DU
-    row!(0 => OPERATION + 52, Operand::AsType, OPERATION + 76, Operand::AsItIs, OPERATION + 47), // Lf
+    row!(0 => OPERATION + 52, Operand::AsItIs, NONE, Operand::AsItIs, OPERATION + 53), // fL
+    row!(0 => OPERATION + 52, Operand::AsItIs, NONE, Operand::AsItIs, OPERATION + 53), // fR
+    row!(0 => NONE, Operand::From(4), NONE, Operand::NotPrinted, NONE), // f1
+    row!(0 => NONE, Operand::AsItIs, NONE, Operand::AsItIs, NONE), // f2
+    row!(0 => NONE, Operand::AsItIs, OPERATION + 73, Operand::AsItIs, NONE), // f.
+    row!(0 => OPERATION + 74, Operand::NotPrinted, NONE, Operand::NotPrinted, NONE), // rq
+    row!(0 => OPERATION + 75, Operand::NotPrinted, NONE, Operand::NotPrinted, NONE), // rQ
+    row!(0 => OPERATION + 76, Operand::NotPrinted, NONE, Operand::NotPrinted, NONE), // tr
+    row!(1 => OPERATION + 52, Operand::AsItIs, OPERATION + 77, Operand::AsItIs, OPERATION + 47), // sy
+    row!(1 => OPERATION + 52, Operand::AsItIs, OPERATION + 77, Operand::AsItIs, OPERATION + 47), // Dy
+    row!(0 => OPERATION + 78, Operand::AsItIs, OPERATION + 53, Operand::NotPrinted, NONE), // DB
+    row!(0 => OPERATION + 79, Operand::AsItIs, OPERATION + 53, Operand::NotPrinted, NONE), // DU
+    row!(0 => OPERATION + 52, Operand::AsType, OPERATION + 77, Operand::AsItIs, OPERATION + 47), // Lf
     row!(0 => OPERATION + 48, Operand::AsItIs, NONE, Operand::AsItIs, NONE), // di
     row!(0 => OPERATION + 46, Operand::AsItIs, OPERATION + 47, Operand::AsItIs, NONE), // dx
     row!(0 => OPERATION + 35, Operand::AsItIs, NONE, Operand::NotPrinted, NONE), // =
     row!(0 => NONE, Operand::AsItIs, NONE, Operand::NotPrinted, NONE), // W1
     row!(0 => NONE, Operand::AsItIs, OPERATION + 48, Operand::AsItIs, NONE), // WW
-    row!(0 => NONE, Operand::AsItIs, OPERATION + 79, Operand::AsItIs, NONE), // WP
+    row!(0 => NONE, Operand::AsItIs, OPERATION + 80, Operand::AsItIs, NONE), // WP
     row!(0 => NONE, Operand::NotPrinted, NONE, Operand::NotPrinted, NONE), // no operation
 ];
 
@@ -229,21 +234,26 @@ fn place_of(code: u16) -> usize
         28777 => 79, // pi
         26220 => 80, // fl
         26226 => 81, // fr
-        29297 => 82, // rq
-        29265 => 83, // rQ
-        29810 => 84, // tr
-        29561 => 85, // sy
-        17529 => 86, // Dy
-        17474 => 87, // DB
-        17493 => 88, // DU
-        19558 => 89, // Lf
-        25705 => 90, // di
-        25720 => 91, // dx
-        15648 => 92, // =
-        22321 => 93, // W1
-        22359 => 94, // WW
-        22352 => 95, // WP
-        _ => 96,
+        26188 => 82, // fL
+        26194 => 83, // fR
+        26161 => 84, // f1
+        26162 => 85, // f2
+        26158 => 86, // f.
+        29297 => 87, // rq
+        29265 => 88, // rQ
+        29810 => 89, // tr
+        29561 => 90, // sy
+        17529 => 91, // Dy
+        17474 => 92, // DB
+        17493 => 93, // DU
+        19558 => 94, // Lf
+        25705 => 95, // di
+        25720 => 96, // dx
+        15648 => 97, // =
+        22321 => 98, // W1
+        22359 => 99, // WW
+        22352 => 100, // WP
+        _ => 101,
     }
 }
 

@@ -6,6 +6,7 @@ use Rattle.sym_shape.specs.Tree.{TakesRule}
 use Rattle.sym_link.specs.Threads.{IsCount, IsAhead}
 use Rattle.sym_link.proofs.Standing.{are_rows, ahead_by_rows}
 use Rattle.cpp_grammar.specs.declared.production.Production.{Production}
+use Rattle.cpp_grammar.specs.declared.production.Operation.{Operation}
 use Rattle.cpp_grammar.specs.Grammar.{number_of_kind, parts_of, may_be_empty, kinds}
 use Rattle.cpp_grammar.specs.Table.{sheet_with, blank, wide_sheet, wide}
 use Rattle.cpp_grammar.specs.Unfolding.{production_at}
@@ -25,6 +26,7 @@ count_right number kind rule taken is_kind takes number_is = ap (λ ss. length s
 each_rows : (p : Production) → (skips_parts p || are_rows wide (parts_of p)) ≡ true
 unfolding number_of_kind parts_of may_be_empty kinds sheet_with blank wide_sheet wide skips_parts
 each_rows Production.Mark = refl
+each_rows (Production.Operation Operation.ExpressionC) = refl
 each_rows _ = refl
 
 pub ahead_right : (number held after : ℕ) → skips_parts (production_at number) ≡ false → IsAhead wide number held after held

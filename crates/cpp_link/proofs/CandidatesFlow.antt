@@ -9,6 +9,7 @@ use Rattle.sym_shape.specs.declared.rule.Sym.{Sym}
 use Rattle.sym_shape.specs.declared.rule.Sym.TheVariants.{Kind as OfKind, Name, Number, Byte}
 use Rattle.sym_link.specs.Reading.{Found}
 use Rattle.cpp_grammar.specs.declared.production.Production.{Production}
+use Rattle.cpp_grammar.specs.declared.production.Operation.{Operation}
 use Rattle.cpp_grammar.specs.KindNumbers.{PARAMETER_AFTER_T, INTEGER, ANONYMOUS, OPERATOR, OTHER_OPERATOR, OPERATOR_AFTER_C, CONSTRUCTOR_DIGIT, COMPONENT_AFTER_D, BINDING_AFTER_D, SOURCE_OR_LOCAL, NEST, NEST_AFTER_S, AFTER_D, ITEM_AFTER_D, SOLID, SOLID_BUT_T, ARGUMENT_AFTER_T, LEVELED_PARAMETER, ANY_ARRAY, ARRAY_REST, LITERAL_TYPE, CONVERTED_SOLID, DECLTYPE_AFTER_D, UNRESOLVED_TYPE, UNRESOLVED_NAME, UNQUALIFIED, NEST_REST, NEST_REST_OR_END, NEST_REST_ALONE, NEST_TAIL, NEST_MORE_OR_END, COMPONENT, COMPONENT_AFTER_C, CONSTRUCTOR_AFTER_C, HOLDER_MARK, HELD_COMPONENT, ABBREVIATION, TYPE_AFTER_S, TYPE_IN_STD, UNNESTED_NAME, MAYBE_ARGUMENTS, MAYBE_TAGS, ARGUMENTS, ARGUMENTS_ALONE, ARGUMENTS_FIRST, BASE_ARGUMENTS, HELD_ARGUMENTS, LITERAL_SOLID, CONVERTED_AFTER_D, FIRST_MODULE, NAMED_MODULE, NAME_AFTER_MODULE, NAME_IN_MODULE, NEST_ON}
 use Rattle.cpp_grammar.specs.Grammar.{parts_of, number_of_kind}
 use Rattle.cpp_grammar.specs.Row.{Made, unlisted, unless_there, Form, handed, finished, either, a_name, as_before, as_part, after_part, nameless, Gain, nothing, type_of, unqualified_of, itself, Before, quiet, goes, becomes, tests, Row, before_part}
@@ -632,4 +633,5 @@ flows Production.Tag around place = made_name Production.Tag refl around place _
 flows Production.Friend around place = made_name Production.Friend refl around place _ _ (OfKind UNQUALIFIED) MAYBE_ARGUMENTS refl (λ vs. refl) (λ vs. refl) (λ a v. refl) maybe-arguments
 flows Production.NestTag around place = nested Production.NestTag refl around place _ Name refl (λ v. refl) (λ vs. refl) (λ a v. refl)
 -- no other becomes a candidate before its end
+flows (Production.Operation Operation.ExpressionC) around place = simple (Production.Operation Operation.ExpressionC) refl around place (parts_of (Production.Operation Operation.ExpressionC)) refl refl (λ vs. λ byte began state. omega arith)
 flows p around place = simple p refl around place (parts_of p) refl refl (λ vs. λ byte began state. omega arith)

@@ -17,6 +17,7 @@ use Rattle.sym_link.specs.Reading.{Open}
 use Rattle.sym_link.specs.Unfold.{standing}
 use Rattle.sym_link.specs.Linking.{IsRuleRow}
 use Rattle.cpp_grammar.specs.declared.production.Production.{Production}
+use Rattle.cpp_grammar.specs.declared.production.Operation.{Operation}
 use Rattle.cpp_grammar.specs.Grammar.{parts_of}
 use Rattle.cpp_grammar.specs.Table.{wide}
 use Rattle.cpp_grammar.specs.Unfolding.{last_token, production_at}
@@ -119,6 +120,7 @@ ends_with_number : (p : Production) → is_numbered p ≡ true → ends_so (part
 unfolding is_numbered parts_of ends_so
 ends_with_number Production.Lambda is = refl
 ends_with_number Production.Unnamed is = refl
+ends_with_number (Production.Operation Operation.ExpressionC) is = absurd (false≢true is)
 ends_with_number _ is = absurd (false≢true is)
 
 -- the last row of the rule's rows has the digits

@@ -15,6 +15,7 @@ use Rattle.sym_link.specs.Stepping.{no_part_has_row, closes_at_once}
 use Rattle.sym_link.specs.Parts.{skipped, passed_by, joined, values_in, Stands}
 use Rattle.sym_link.specs.Reading.{Open}
 use Rattle.cpp_grammar.specs.declared.production.Production.{Production}
+use Rattle.cpp_grammar.specs.declared.production.Operation.{Operation}
 use Rattle.cpp_grammar.specs.Grammar.{in_ranges as in_class, among, is_in, pick, number_of_kind, parts_of, is_chain, may_be_empty, kinds, productions, number_of}
 use Rattle.cpp_grammar.specs.Wide.{wide_alternatives, wide_choose}
 use Rattle.cpp_grammar.specs.Follow.{after_ranges, rank, height}
@@ -85,6 +86,7 @@ all_below is (suc n) = is n && all_below is n
 each_begins : (p : Production) → all_below (begins_behind p) 5 ≡ true
 unfolding in_class among is_in pick wide_alternatives wide_choose number_of_kind parts_of is_chain may_be_empty kinds productions number_of after_ranges rank height padded rule_of ranges_of class_of choice_of sheet_with blank wide_sheet wide production_at made_before made_at_end sum_all owes_of pack_most_at closes_most
 each_begins Production.Mark = refl
+each_begins (Production.Operation Operation.ExpressionC) = refl
 each_begins _ = refl
 
 one_below : (is : ℕ → Bool) (n k : ℕ) → all_below is n ≡ true → k < n → is k ≡ true
@@ -98,6 +100,7 @@ one_below is (suc n) k all less = elim (cases_eq k n) [
 few_parts : (p : Production) → nat_le (length (parts_of p)) 5 ≡ true
 unfolding parts_of
 few_parts Production.Mark = refl
+few_parts (Production.Operation Operation.ExpressionC) = refl
 few_parts _ = refl
 
 begins_at : (p : Production) (held : ℕ) → begins_behind p held ≡ true

@@ -47,40 +47,9 @@ impl Linked {
         match production {
             // <expression> ::= a and the second letter of an operator, with its operands
             Production::ExpressionA => self.operation_by(symbol, byte, parts),
-            // <expression> ::= c and the second letter of an operator, with its operands
-            Production::ExpressionC => self.operation_by(symbol, byte, parts),
-            // <expression> ::= d and the second letter of an operator, with its operands
-            Production::ExpressionD => self.operation_by(symbol, byte, parts),
-            // <expression> ::= e and the second letter of an operator, with its operands
-            Production::ExpressionE => self.operation_by(symbol, byte, parts),
-            // <expression> ::= f and the second letter of an operator, with its operands
-            Production::ExpressionF => self.operation_by(symbol, byte, parts),
-            // <expression> ::= g and the second letter of an operator, with its operands
-            Production::ExpressionG => self.operation_by(symbol, byte, parts),
-            // <expression> ::= i and the second letter of an operator, with its operands
-            Production::ExpressionI => self.operation_by(symbol, byte, parts),
-            // <expression> ::= l and the second letter of an operator, with its operands
-            Production::ExpressionL => self.operation_by(symbol, byte, parts),
-            // <expression> ::= m and the second letter of an operator, with its operands
-            Production::ExpressionM => self.operation_by(symbol, byte, parts),
-            // <expression> ::= n and the second letter of an operator, with its operands
-            Production::ExpressionN => self.operation_by(symbol, byte, parts),
-            // <expression> ::= o and the second letter of an operator, with its operands
-            Production::ExpressionO => self.operation_by(symbol, byte, parts),
-            // <expression> ::= p and the second letter of an operator, with its operands
-            Production::ExpressionP => self.operation_by(symbol, byte, parts),
-            // <expression> ::= q and the second letter of an operator, with its operands
-            Production::ExpressionQ => self.operation_by(symbol, byte, parts),
-            // <expression> ::= r and the second letter of an operator, with its operands
-            Production::ExpressionR => self.operation_by(symbol, byte, parts),
-            // <expression> ::= s and the second letter of an operator, with its operands
-            Production::ExpressionS => self.operation_by(symbol, byte, parts),
-            // <expression> ::= t and the second letter of an operator, with its operands
-            Production::ExpressionT => self.operation_by(symbol, byte, parts),
-            // <initializer> ::= pi <expression>* E
-            Production::Initializer => self.operation_by(symbol, byte, parts),
-            // <initializer> ::= il <expression>* E
-            Production::BracedInitializer => self.operation_by(symbol, byte, parts),
+            // What is read by the first letter of its operator: an expression, an initializer, or a designator within
+            // another. All mean the same by that letter and by what is read after it, and differ in what may be there.
+            Production::Operation(_) => self.operation_by(symbol, byte, parts),
             _ => unreachable!(),
         }
     }
@@ -209,8 +178,6 @@ impl Linked {
                 left: self.tree(symbol, parts, 0),
                 right: self.tree(symbol, parts, 1),
             }),
-            // <braced-expression> ::= di .. | dx .., after a designator
-            Production::Designators => self.operation_by(symbol, byte, parts),
             // <braced-expression> ::= <expression>, after a designator
             Production::DesignatedValue => made(
                 Node::Operation {
@@ -302,6 +269,58 @@ impl Linked {
                     right: ABSENT,
                 },
             },
+            // <fold-expr> ::= fL <operator-name> <expression> <expression>
+            Production::LeftFoldFrom => Outcome::MadeOperand {
+                letter: b'L',
+                left: Some(self.tree(symbol, parts, 1)),
+                node: Node::Operation {
+                    first: b'f',
+                    second: b'2',
+                    left: self.tree(symbol, parts, 0),
+                    right: self.tree(symbol, parts, 2),
+                },
+            },
+            // <fold-expr> ::= fR <operator-name> <expression> <expression>
+            Production::RightFoldFrom => Outcome::MadeOperand {
+                letter: byte,
+                left: Some(self.tree(symbol, parts, 1)),
+                node: Node::Operation {
+                    first: b'f',
+                    second: b'2',
+                    left: self.tree(symbol, parts, 0),
+                    right: self.tree(symbol, parts, 2),
+                },
+            },
+            // <operator-name>, of a fold with a value
+            Production::FoldSigns => made(
+                Node::Operation {
+                    first: b'f',
+                    second: b'.',
+                    left: self.tree(symbol, parts, 0),
+                    right: self.tree(symbol, parts, 0),
+                },
+                true,
+            ),
+            // <operator-name>, of a fold with a value
+            Production::FoldSign => made(
+                Node::Operation {
+                    first: first_letter(self.piece(symbol, parts, 0)),
+                    second: second_letter(self.piece(symbol, parts, 0)),
+                    left: ABSENT,
+                    right: ABSENT,
+                },
+                true,
+            ),
+            // <expression>, the value of a fold
+            Production::FoldValue => made(
+                Node::Operation {
+                    first: b'f',
+                    second: b'1',
+                    left: self.tree(symbol, parts, 0),
+                    right: ABSENT,
+                },
+                true,
+            ),
             // <fold-expr>, the pack that it folds
             Production::FoldOperand => made(
                 Node::Operation {
@@ -447,6 +466,8 @@ impl Linked {
             Production::FunctionParameter => Outcome::Given(self.given(symbol, parts, 3)),
             // <function-param> ::= fL <number> p [<CV-qualifiers>] [<number>] _
             Production::OuterParameter => Outcome::Given(self.given(symbol, parts, 1)),
+            // <function-param> ::= fL .. | <fold-expr> ::= fL .., after the f
+            Production::AfterOuter => Outcome::Given(self.given(symbol, parts, 0)),
             // <function-param> ::= fpT
             Production::This => made(
                 Node::Operation {

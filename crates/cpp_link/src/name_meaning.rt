@@ -341,9 +341,17 @@ impl Linked {
             Production::UnnestedBase => Outcome::Given(self.either(symbol, parts, 1, 0)),
             // <template-args>, of the base class, and then of the constructor
             Production::BaseArguments => Outcome::Given(self.either(symbol, parts, 2, 0)),
-            // <type-constraint> ::= <name>. The name of a concept that isn't nested is counted before its arguments by some compilers alone; of a nested
-            // one these put the arguments in it, and the others after it, which isn't read
+            // <type-constraint> ::= <name>. The name of a concept that isn't nested is counted before its arguments by some compilers alone
             Production::NamedConcept => self.applied(symbol, parts, false),
+            // <type-constraint> ::= <nested-name>. Compilers that count the name of a concept before its arguments put the arguments into the name; the
+            // others put them after it
+            Production::NestedConcept => self.applied(symbol, parts, false),
+            // <template-args>, after the nested name of a concept, which isn't counted
+            Production::ConceptArguments => Outcome::Given(Part::Pair {
+                letter: byte,
+                left: self.list(symbol, parts, 0),
+                right: self.prefix_node(symbol, kept),
+            }),
             _ => unreachable!(),
         }
     }

@@ -90,6 +90,7 @@ impl Linked {
             },
             Production::ValueOf => self.go(self.in_signature(kept)),
             Production::OfConcept => self.go(self.in_signature(kept)),
+            Production::ConceptArguments => self.go(self.inside(kept)),
             Production::ExpandExpression => Step::Go {
                 candidate: None,
                 then: self.under_expansion(kept),
@@ -147,6 +148,7 @@ impl Linked {
         requires local_temporary { production ≡ productions.LocalTemporary → ⊥ }
         requires value_of { production ≡ productions.ValueOf → ⊥ }
         requires of_concept { production ≡ productions.OfConcept → ⊥ }
+        requires nested_concept { production ≡ productions.NestedConcept → ⊥ }
         requires named_concept { production ≡ productions.NamedConcept → ⊥ }
         requires constraint { production ≡ productions.Constraint → ⊥ }
         requires inheriting { production ≡ productions.Inheriting → ⊥ }
@@ -301,6 +303,7 @@ impl Linked {
         requires local_temporary { production ≡ productions.LocalTemporary → ⊥ }
         requires value_of { production ≡ productions.ValueOf → ⊥ }
         requires of_concept { production ≡ productions.OfConcept → ⊥ }
+        requires nested_concept { production ≡ productions.NestedConcept → ⊥ }
         requires named_concept { production ≡ productions.NamedConcept → ⊥ }
         requires constraint { production ≡ productions.Constraint → ⊥ }
         requires inheriting { production ≡ productions.Inheriting → ⊥ }
@@ -477,6 +480,11 @@ impl Linked {
             }
             Production::ValueOf => self.go(self.in_signature(kept)),
             Production::OfConcept => self.go(self.in_signature(kept)),
+            Production::NestedConcept => self.go(self.behind_name(
+                kept,
+                self.node(symbol, first),
+                is_listed(first),
+            )),
             Production::NamedConcept => self.go(self.behind_name(
                 kept,
                 self.node(symbol, first),

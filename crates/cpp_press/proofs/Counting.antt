@@ -1,4 +1,4 @@
--- Components that are trees of nodes: those whose tree none before them has are at most as many as the nodes.
+-- Components that are trees of nodes. Those with a tree that no earlier component has are at most as many as the nodes.
 use Rattle.std.proofs.Common.{◌≡◌, ℕ, ◌+◌, ◌<◌, ◌≤◌, length, List, [], ◌∷◌, ◌++◌, Bool, true, false, refl, ap, arith, sym, subst, ◌∙◌}
 use Rattle.std.specs.Prelude.{◌||◌}
 use Rattle.std.specs.List.{IsDistinct, list_any, AllByRecursion}
@@ -44,7 +44,7 @@ spelled-later t (d ∷ before) c is = go (same_tree t d.tree) is (spelled-later 
 
 -- ## Nodes of spelled trees
 
--- each is the node of a tree that is spelled
+-- each of these is the node of a tree that is spelled
 AreKnown : ReadSymbol → (before : List Component) → List ℕ → Type 0
 AreKnown y before [] = Unit {0}
 AreKnown y before (x ∷ xs) = ((x < length y.table.nodes) × (is_spelled (plain_at y x) before ≡ true)) × AreKnown y before xs

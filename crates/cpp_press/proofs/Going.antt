@@ -27,7 +27,7 @@ pub popped : {tasks : List Task} (older : List Task) {o : Option Task} {task t :
     → task ≡ t → IsLast tasks older t
 popped older is some same = record { is = is ∙ ap (λ p. older ++ option_to_list p) (some ∙ ap Some same) }
 
--- it is there, and so are those before it
+-- the last task is a task, and so are those before it
 pub task-there : {y : ReadSymbol} {ns : List ℕ} {whole : Term} {first : Likeness
     → Option ℕ} {count : ℕ} {tasks older : List Task} {out : List ℕ} {t : Task}
     → Goes y ns whole first count tasks out → IsLast tasks older t → IsTask y t × AreTasks y older
@@ -46,7 +46,7 @@ top y {older = older} {t = t} last = ap (press_tasks y) last.is ∙ tasks-push y
 again : (out : List ℕ) (f g : Spelling) (cs : List Component) → f ≡ g → behind out (f (length out) cs) ≡ behind out (g (length out) cs)
 again out f g cs same = ap {A = Spelling} (λ (h : Spelling). behind out (h (length out) cs)) same
 
--- bytes that are written are those of a text that was to be written
+-- the bytes that are written are those of a text that was to be written
 bytes-behind : (f : Spelling) (xs ys : List ℕ) (cs : List Component) (p q : ℕ) → p ≡ q
     → ◌≡◌ {A = Pressed Component} (behind (xs ++ ys) (f p cs)) (record { bytes = xs ++ (ys ++ (f q cs).bytes); components = (f q cs).components })
 bytes-behind f xs ys cs p q same = rw (same, append_assoc xs ys (f q cs).bytes) refl
@@ -57,7 +57,7 @@ unfolding ◌onto◌ written
 text-behind f out after bytes cs is =
     ap (λ l. behind l (f (length l) cs)) is ∙ bytes-behind f out bytes cs (length (out ++ bytes)) (length out + length bytes) (length-append out bytes)
 
--- an end is no bytes
+-- the end of a component writes no bytes
 nothing-behind : (out : List ℕ) (f : Spelling) (cs : List Component) (p q : ℕ) → p ≡ q → behind out (f p cs) ≡ behind out (f q cs)
 nothing-behind out f cs p q same = ap (λ n. behind out (f n cs)) same
 
@@ -73,7 +73,7 @@ own-more y (c ∷ cs) node e low own = (own.0, own-more y cs node e low own.1)
 
 -- ## Turns
 
--- a tree or a template gives way to other tasks
+-- other tasks replace a tree or a template
 pub changed-goes : {y : ReadSymbol} {ns : List ℕ} {whole : Term} {first : Likeness
     → Option ℕ} {count : ℕ} {tasks older new : List Task} {out : List ℕ} {t : Task}
     → Goes y ns whole first count tasks out → IsLast tasks older t → AreTasks y new

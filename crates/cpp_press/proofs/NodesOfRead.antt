@@ -1,4 +1,4 @@
--- The components of a symbol that was read are at most its nodes.
+-- A symbol that was read has at most as many components as nodes.
 use Rattle.std.proofs.Common.{◌≡◌, ℕ, ◌+◌, ◌≤◌, List, length, Ok, Err, sym, arith}
 use Rattle.std.specs.Prelude.{Result}
 use Rattle.sym_core.specs.declared.refusal.Refusal.{Refusal}

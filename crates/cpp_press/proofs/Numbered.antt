@@ -1,4 +1,4 @@
--- Keys of nodes, and what a map of them is after one more.
+-- Keys of nodes, and a map of them after one key more.
 use Rattle.std.proofs.Common.{◌≡◌, ℕ, zero, suc, ◌+◌, ◌-◌, ◌<◌, ◌≤◌, length, take, slice_get, List, [], ◌∷◌, ◌++◌, get_or, Option, Some, None, Bool, true, false, refl, ap, arith, sym, subst, ◌∙◌, length-append}
 use Rattle.std.specs.Prelude.{map, cond}
 use Rattle.std.specs.List.{All}
@@ -38,7 +38,7 @@ four-texts f d (x ∷ y ∷ []) given a b c e long is one two three four = absur
 four-texts f d (x ∷ y ∷ z ∷ []) given a b c e long is one two three four = absurd (omega (arith, long))
 four-texts f d (x ∷ y ∷ z ∷ w ∷ v ∷ more) given a b c e long is one two three four = absurd (omega (arith, long))
 
--- what is answered for a part of a node is that part
+-- the answer for a part of a node is that part
 pub slot_is : (count : ℕ) (parts : List ℕ) (k d : ℕ) (o : Option ℕ) → k < length parts → (k < count → o ≡ Some (get_or parts k d)) → (count ≤ k → o ≡ None)
     → o ≡ slice_get (take count parts) k
 slot_is count [] k d o low some none = absurd (omega (arith, low))
@@ -62,7 +62,7 @@ part_is at ns [] k m low is = is
 part_is at ns (p ∷ parts) zero m low is = (p, low 0 0 (omega arith), refl, is)
 part_is at ns (p ∷ parts) (suc k) m low is = part_is at ns parts k m (λ j d h. low (suc j) d (omega (arith, h))) is
 
--- the number of a part of a tree, of which these nodes are the parts
+-- the number of a part of a tree whose parts are these nodes
 pub part_numbered : (at : ℕ → Term) (ns parts : List ℕ) (n k m : ℕ) (o : Option ℕ) (given : List Term) → length ns ≡ n → All (λ part. part < n) parts
     → map at parts ≡ given → o ≡ slice_get parts k → m ≡ part_number ns o → IsPartNumber at ns (slice_get given k) m
 part_numbered at ns parts n k m o given same low are is number =
@@ -75,7 +75,7 @@ few_parts at count parts given are few =
 
 -- ## Keys
 
--- keys that the map takes for one
+-- a test of keys that answers true just where the map takes them for one
 pub record AreOne (a b : Key) : Type 0 where
   pub production : a.production ≡ b.production
   pub own_numbers : a.numbers ≡ b.numbers
@@ -107,7 +107,7 @@ key-grown at ns n t key h = record {
   third = part-grown at ns n (slice_get (fields_of t).parts 2) key.third_part h.third;
 }
 
--- what is one with a node's key is a key of the node
+-- a key that is one with a node's key is a key of the node
 taken-over : (at : ℕ → Term) (ns : List ℕ) (a b : Key) (t : Term) → IsKeyOf at ns t a → AreOne a b → IsKeyOf at ns t b
 taken-over at ns a b t h same = record {
   production = sym same.production ∙ h.production;
@@ -119,7 +119,7 @@ taken-over at ns a b t h same = record {
   third = subst (IsPartNumber at ns (slice_get (fields_of t).parts 2)) same.third_part h.third;
 }
 
--- equal part numbers are of equal parts
+-- parts with equal numbers are equal
 one-part : (at : ℕ → Term) (ns : List ℕ) (a b : Option Term) (m n : ℕ) → TellApart at ns → IsPartNumber at ns a m → IsPartNumber at ns b n → m ≡ n → a ≡ b
 one-part at ns None None m n good h k is = refl
 one-part at ns None (Some u) m n good h (q, low, here, number) is = absurd (omega (arith, h, number, is))
@@ -144,7 +144,7 @@ told_alike a b one two = go a.numbers b.numbers a.texts b.texts one two
     go : (ns ms : List ℕ) (ts us : List (List ℕ)) → ns ≡ ms → ts ≡ us → ◌≡◌ {A = Told} (record { numbers = ns; texts = ts }) (record { numbers = ms; texts = us })
     go ns ms ts us one two = rw (one, two) refl
 
--- equal keys are of equal trees
+-- trees with equal keys are equal
 key_tree : (at : ℕ → Term) (ns : List ℕ) (a b : Key) (one other : Term) → TellApart at ns → IsKeyOf at ns one a → IsKeyOf at ns other b → AreOne a b → one ≡ other
 key_tree at ns a b one other good h k same =
     one_tree one other (sym h.production ∙ same.production ∙ k.production)
@@ -253,9 +253,9 @@ looked-up keys = record {
       (same-look key_cmp a b (cmp-same a b h) keys.more);
 }
 
--- ## Nodes of a symbol after others
+-- ## The nodes of a symbol after other nodes
 
--- the key of a node by the first nodes of its own symbol is that by those of all before
+-- the key of a node is the same by the first nodes of its own symbol and by those of all nodes before
 part-after : (one at : ℕ → Term) (firsts own : List ℕ) (part : Option Term) (m : ℕ) → ((i : ℕ) → i < length own → at (length firsts + i) ≡ one i)
     → IsPartNumber one own part m → IsPartNumber at (firsts ++ own) part m
 part-after one at firsts own None m next is = is
@@ -281,7 +281,7 @@ key-after one at firsts own t key next h = record {
   third = part-after one at firsts own (slice_get (fields_of t).parts 2) key.third_part next h.third;
 }
 
--- the first nodes of a symbol are below how many nodes there are with those before
+-- the first nodes of a symbol are below the number of all nodes
 pub after-below : (at : ℕ → Term) (firsts own : List ℕ) (first : Key → Option ℕ) (bound : ℕ) → length firsts + length own ≤ bound
     → AreFirsts at (IsKey at) (firsts ++ own) first → AreBelow own bound
 after-below at firsts own first bound few are i low =
@@ -326,7 +326,7 @@ at-other one other i =
     ap (λ b. cond b (plain_at one (n + i)) (plain_at other (n + i - n))) (le-ltb (n + i) n (omega arith))
     ∙ ap (plain_at other) (omega arith)
 
--- an empty map knows the first ones of nothing
+-- an empty map has no first nodes
 pub begins-alone : (y : ReadSymbol) (first : Key → Option ℕ) → ((q : Key) → first q ≡ None) → ComeNext y (plain_at y) [] 0 first
 begins-alone y first empty = record {
   known = none-first (plain_at y) (IsKey (plain_at y)) [] first refl empty;
@@ -360,11 +360,11 @@ get_or-any [] i d e low = absurd (omega (arith, low))
 get_or-any (x ∷ l) zero d e low = refl
 get_or-any (x ∷ l) (suc i) d e low = get_or-any l i d e (omega (arith, low))
 
--- an item of a list is that at a place
+-- an item of a list is the one at its place
 pub item-is : (l : List ℕ) (i at a : ℕ) → a ≡ get_or l i a → i ≡ at → at < length l → a ≡ number_at l at
 item-is l i at a is same low = is ∙ ap (λ k. get_or l k a) same ∙ get_or-any l at a 0 low
 
--- the roots' first nodes tell whether the whole trees are one
+-- whole trees are one exactly if their roots have one first node
 pub told-one : (one other : ReadSymbol) (firsts others : List ℕ) (first : Key → Option ℕ) (a b : ℕ) → length firsts ≡ length one.table.nodes
     → length others ≡ length other.table.nodes → one.root < length one.table.nodes → other.root < length other.table.nodes
     → AreFirsts (both_at one other) (IsKey (both_at one other)) (firsts ++ others) first

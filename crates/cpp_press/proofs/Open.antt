@@ -1,4 +1,4 @@
--- What is open with arguments in its parameters is open without them.
+-- A tree whose parameters have arguments is open exactly if it is open without them.
 use Rattle.std.proofs.Common.{◌≡◌, refl}
 use Rattle.cpp_grammar.specs.Scope as plain
 use Rattle.cpp_term.specs.Scope as noted

@@ -15,7 +15,7 @@ use Rattle.cpp_press.specs.Places.{like, noted, likeness_of, ArePlaces, AreFirst
 true-false : true ≡ false → ⊥
 true-false bad = cc
 
--- the first equal one, one component later
+-- the first equal component, with one component more
 one-later : (from : ℕ) → Option ℕ → Bool → (count : ℕ) → Option ℕ
 one-later from (Some k) same count = Some k
 one-later from None true count = Some (from + count)
@@ -41,7 +41,7 @@ later-is e t c from (d ∷ cs) = go (is_same e t d) (later-is e t c (from + 1) c
     go true is = refl
     go false is = is ∙ more (first_equal e t (from + 1) cs) (is_same e t c)
 
--- trees are alike where they are compared as equal
+-- trees have one likeness exactly where they compare as equal
 compared-alike : (t u : Term) (m n e f : ℕ) → (m ≡ n → t ≡ u) → (t ≡ u → m ≡ n)
     → is_same f u (record { tree = t; encoding = e })
     ≡ like (record { number = m; encoding = cond (is_open t) e 0 }) (record { number = n; encoding = cond (is_open u) f 0 })
@@ -115,7 +115,7 @@ places-go y ns first new cs count node e are places low long is j f there =
     long
     ∙ sym (later-is f (plain_at y j) (record { tree = plain_at y node; encoding = e }) 0 cs)
 
--- what is known after one component more
+-- what is known with one component more
 pub noted-fresh : (old : Likeness → Option ℕ) (one q : Likeness) (count : ℕ) (o new : Option ℕ) → old one ≡ o → is_some o ≡ false
     → new ≡ cond (like one q) (Some count) (old q) → new ≡ noted old one count q
 noted-fresh old one q count None new there none is = is ∙ sym (ap (λ p. choose p (old q) (like one q) count) there)

@@ -1,4 +1,4 @@
--- Trees of which the same is told over equal parts are equal.
+-- Trees with the same details over equal parts are equal.
 use Rattle.std.proofs.Common.{◌≡◌, ℕ, zero, suc, ◌+◌, ◌≤◌, length, List, [], ◌∷◌, ◌++◌, get_or, Option, Some, None, Bool, true, false, refl, ap, arith, sym, subst, ◌∙◌}
 use Rattle.std.specs.Prelude.{nat_eq, slice_get, ◌==◌, if◌then◌else◌, cond}
 use Rattle.std.proofs.lemmas.Bool.{eqb-true}
@@ -10,7 +10,7 @@ use Rattle.cpp_tree.specs.declared.tree_production.TheConstants.{WIDE_THUNK}
 use Rattle.cpp_tree.proofs.Rebuilding.{tree-made}
 use Rattle.cpp_press.specs.Details.{Told, offsets_told, fields_told, tree_told}
 
--- ## The offsets that are told
+-- ## The details of offsets
 
 not_none : (b : Bool) → nat_eq (bit b) 2 ≡ false
 unfolding bit
@@ -63,7 +63,7 @@ offsets_back (Some (covariant (by_table a b) (by_table c d))) =
 abbrev fields : (production : ℕ) → (numbers : List ℕ) → (texts : List (List ℕ)) → (parts : List Term) → Fields
 fields production numbers texts parts = record { production = production; numbers = numbers; texts = texts; parts = parts }
 
--- of what is told where the offsets don't count
+-- the details of trees other than thunks, whose offsets don't count
 abbrev narrow : (numbers : List ℕ) → (texts : List (List ℕ)) → Told
 narrow numbers texts = record { numbers = numbers ++ 0 ∷ 0 ∷ []; texts = texts ++ [] ∷ [] ∷ [] }
 
@@ -117,7 +117,7 @@ three_parts xs ys few less one two three = same_parts xs ys each
     each (suc (suc (suc k))) =
         slice_get_past xs (suc (suc (suc k))) (omega (arith, few)) ∙ sym (slice_get_past ys (suc (suc (suc k))) (omega (arith, less)))
 
--- trees of one production, of which the same is told, over equal parts
+-- trees of one production with the same details over equal parts
 pub one_tree : (one other : Term) → (fields_of one).production ≡ (fields_of other).production → (fields_of one).parts ≡ (fields_of other).parts
     → tree_told one ≡ tree_told other → one ≡ other
 one_tree one other e f same =

@@ -1,5 +1,6 @@
--- What a node says beside its production and its parts: the numbers and texts of its view (`cpp_tree`), and of a thunk whose view
--- leaves its offsets to a call of their own these offsets. Trees of which the same is said, over equal parts, are equal.
+-- The details of a node, beside its production and its parts: the numbers and texts of its view (`cpp_tree`). The view
+-- of a thunk leaves its offsets to a call of their own, so its details are the offsets. Trees with the same details
+-- over equal parts are equal.
 use Rattle.std.specs.Prelude.{ℕ, List, [], ◌∷◌, ◌++◌, ◌==◌, if◌then◌else◌, map, Option, Some, None}
 use Rattle.cpp_grammar.specs.Term.{non_virtual, by_table, Thunk, adjusting, covariant, Term}
 use Rattle.cpp_tree.specs.Nodes.{bytes_at}
@@ -34,10 +35,10 @@ fields_told given offsets =
     then offsets_told offsets
     else record { numbers = given.numbers ++ 0 ∷ 0 ∷ []; texts = given.texts ++ [] ∷ [] ∷ [] }
 
--- of a tree
+-- the details of a tree
 abbrev pub tree_told : Term → Told
 tree_told t = fields_told (fields_of t) (offsets_of t)
 
--- of what stands for it
+-- the details that the code has, with their texts as bytes of the symbol
 abbrev pub told_in : List ℕ → Details → Told
 told_in s details = record { numbers = details.numbers; texts = map (bytes_at s) details.texts }

@@ -1,4 +1,4 @@
--- Keys of trees, by numbers that tell trees apart, and a map of them.
+-- The keys of trees, which number their parts, and a map of keys.
 use Rattle.std.specs.Prelude.{◌≡◌, ℕ, ◌+◌, ◌-◌, ◌<◌, ◌≤◌, List, [], ◌∷◌, length, get_or, slice_get, cond, nat_lt, Option, Some, None}
 use Rattle.std.specs.Cmp.Lexicographic.{slice_cmp}
 use Rattle.std.specs.Ordering.{nat_cmp, ordering_then}
@@ -16,12 +16,12 @@ abbrev pub part_number : List ℕ → Option ℕ → ℕ
 part_number numbers None = 0
 part_number numbers (Some part) = get_or numbers part 0 + 1
 
--- that of a tree, which is one of those that are numbered
+-- the number of a tree among those that are numbered
 abbrev pub IsPartNumber : (at : ℕ → Term) → (numbers : List ℕ) → Option Term → ℕ → Type 0
 IsPartNumber at numbers None n = n ≡ 0
 IsPartNumber at numbers (Some t) n = (p : ℕ) × (p < length numbers) × (at p ≡ t) × (n ≡ get_or numbers p 0 + 1)
 
--- The key is that of a tree: its production, what it says, and its parts by their numbers.
+-- The key of a tree: its production, its details, and the numbers of its parts.
 pub record IsKeyOf (at : ℕ → Term) (numbers : List ℕ) (t : Term) (key : Key) : Type 0 where
   pub production : key.production ≡ (fields_of t).production
   pub own_numbers : key.numbers ≡ (tree_told t).numbers
@@ -31,11 +31,11 @@ pub record IsKeyOf (at : ℕ → Term) (numbers : List ℕ) (t : Term) (key : Ke
   pub second : IsPartNumber at numbers (slice_get (fields_of t).parts 1) key.second_part
   pub third : IsPartNumber at numbers (slice_get (fields_of t).parts 2) key.third_part
 
--- that of the tree with this number
+-- the key of the tree with this number
 abbrev pub IsKey : (at : ℕ → Term) → (numbers : List ℕ) → ℕ → Key → Type 0
 IsKey at numbers i key = IsKeyOf at numbers (at i) key
 
--- the order of keys that a map of them goes by
+-- the order of keys in a map
 abbrev pub key_cmp : Key → Key → Ordering
 key_cmp a b =
     ordering_then (nat_cmp a.first_part b.first_part) (ordering_then (nat_cmp a.second_part b.second_part)
@@ -44,7 +44,7 @@ key_cmp a b =
     (ordering_then (slice_cmp nat_cmp a.second_text.now b.second_text.now) (ordering_then (slice_cmp nat_cmp a.third_text.now b.third_text.now)
     (slice_cmp nat_cmp a.fourth_text.now b.fourth_text.now))))))))
 
--- The map has the first of each tree before the nodes of a symbol, and these come next.
+-- The map has the first node of each tree before the nodes of a symbol, which come next.
 pub record ComeNext (y : ReadSymbol) (at : ℕ → Term) (firsts : List ℕ) (before : ℕ) (first : Key → Option ℕ) : Type 0 where
   pub known : AreFirsts at (IsKey at) firsts first
   pub many : length firsts ≡ before

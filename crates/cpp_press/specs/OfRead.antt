@@ -1,4 +1,4 @@
--- What is said of the pressed spelling of a symbol that was read.
+-- The pressed spelling of a symbol that was read.
 use Rattle.std.specs.Prelude.{ℕ, ◌+◌, ◌≤◌, List, length, Ok}
 use Rattle.sym_demangle.specs.Standing.{AreNodesOf}
 use Rattle.cpp_grammar.specs.Mangled.{IsReading}
@@ -10,9 +10,9 @@ use Rattle.cpp_link.specs.NodeCount.{are_nodes}
 
 -- How many components are spelled out.
 pub record HasFewComponents (y : ReadSymbol) : Type 0 where
-  -- They are at most as many as the nodes, apart from those whose tree is spelled out again.
+  -- They are at most as many as the nodes, apart from components whose tree is spelled out again.
   pub apart : length (spelled_components (whole_of y)) ≤ length y.table.nodes + length (repeated_components (whole_of y))
-  -- Where the symbol is what some bytes read as, with the nodes of their one shape, each is a node of its own, beside the four with
-  -- which a table begins.
+  -- If some bytes are read as the symbol, with the nodes of their one shape, each component is a node of its own,
+  -- beside the four with which a table begins.
   pub of_read : (s : List ℕ) → IsReading s (Ok (whole_of y)) → AreNodesOf abi are_nodes s (length y.table.nodes)
       → 4 + length (spelled_components (whole_of y)) ≤ length y.table.nodes

@@ -18,11 +18,12 @@ use Rattle.cpp_spelling.specs.Tasks.{plain_at, press_tasks, AreTasks}
 abbrev pub like : Likeness → Likeness → Bool
 like a b = nat_eq a.number b.number && nat_eq a.encoding b.encoding
 
--- the order of likenesses that a map of them goes by
+-- the order of likenesses in a map
 abbrev pub likeness_cmp : Likeness → Likeness → Ordering
 likeness_cmp a b = ordering_then (nat_cmp a.number b.number) (nat_cmp a.encoding b.encoding)
 
--- the number of the first component with a likeness: those of no encoding have it by their number, as far as there are places
+-- the number of the first component with a likeness. Likenesses of no encoding have it at a place, as far as there are
+-- places.
 abbrev pub has_place : (closed : List (Option ℕ)) → Likeness → Bool
 has_place closed q = nat_eq q.encoding 0 && nat_lt q.number (length closed)
 
@@ -32,24 +33,25 @@ first_of closed more q = cond (has_place closed q) (get_or closed q.number None)
 abbrev pub known_in : Components → Likeness → Option ℕ
 known_in components = first_of components.closed.items (get likeness_cmp components.first)
 
--- what is known of first components after one more
+-- the first components after one component more
 abbrev pub noted : (Likeness → Option ℕ) → (one : Likeness) → (count : ℕ) → Likeness → Option ℕ
 noted first one count q = elim (first one) [ Some number ↦ first q | None ↦ cond (like one q) (Some count) (first q) ]
 
--- what a node's tree is like as a component of an encoding
+-- the likeness of a node's tree as a component of an encoding
 abbrev pub likeness_of : ReadSymbol → (numbers : List ℕ) → (node encoding : ℕ) → Likeness
 likeness_of y numbers node encoding = record { number = get_or numbers node 0; encoding = cond (is_open (plain_at y node)) encoding 0 }
 
--- By likeness the number of the first component is that of the definition.
+-- The number of the first component by likeness is the one of the definition.
 abbrev pub ArePlaces : ReadSymbol → (numbers : List ℕ) → (Likeness → Option ℕ) → List Component → Type 0
 ArePlaces y numbers first cs =
     (node encoding : ℕ) → node < length y.table.nodes → first (likeness_of y numbers node encoding) ≡ first_equal encoding (plain_at y node) 0 cs
 
--- Nodes with equal trees have one number, and others different ones. A tree that no node before has gets the next one.
+-- Nodes with equal trees have one number, and nodes with different trees have different numbers. A tree that no earlier
+-- node has gets the next number.
 abbrev pub AreNumbers : ReadSymbol → List ℕ → Type 0
 AreNumbers y numbers = AreNumbered (plain_at y) (length y.table.nodes) numbers
 
--- Nodes with equal trees have one first node, and others different ones.
+-- Nodes with equal trees have one first node, and nodes with different trees have different ones.
 abbrev pub AreFirst : ReadSymbol → List ℕ → Type 0
 AreFirst y firsts = AreTold (plain_at y) (length y.table.nodes) firsts
 
@@ -62,8 +64,8 @@ AreOfNodes y (c ∷ cs) = ((node : ℕ) × (node < length y.table.nodes) × (pla
 abbrev pub behind : List ℕ → Pressed Component → Pressed Component
 behind out one = record { bytes = out ++ one.bytes; components = one.components }
 
--- What is written, and what the tasks will write after it, are the spelling of a symbol's tree; the components so far are trees of
--- nodes.
+-- What is written, and what the tasks will write, are together the spelling of a symbol's tree. The components so far
+-- are trees of nodes.
 pub record Goes (y : ReadSymbol) (numbers : List ℕ) (whole : Term) (first : Likeness → Option ℕ) (count : ℕ) (tasks : List Task) (out : List ℕ) : Type 0 where
   pub components : List Component
   pub places : ArePlaces y numbers first components

@@ -10,19 +10,20 @@ use std::alloc::Global;
 use std::collections::BTreeMap;
 use sym_core::Refusal;
 
-/// Which components are taken for one: those of one tree, and where it has free parameters of one encoding too.
+/// The likeness of a component: components with one likeness have one tree and, if it has free parameters, one
+/// encoding.
 #[derive(Clone, Copy, PartialEq, Eq, PartialOrd, Ord)]
 pub struct Likeness {
     pub number: u32,
     pub encoding: u64,
 }
 
-/// How many components there are, and by likeness the number of the first.
+/// How many components there are, and the number of the first component with each likeness.
 #[derive(Drop)]
 pub struct Components {
-    /// The first components of no encoding, by the numbers of their trees.
+    /// The first components of no encoding, at the numbers of their trees.
     pub closed: Vec<Option<u64>>,
-    /// All others.
+    /// All other first components.
     pub first: BTreeMap<Likeness, u64>,
     pub count: u64,
 }
@@ -46,14 +47,14 @@ impl Components {
         })
     }
 
-    /// Whether components of a likeness have a place by the number of their tree.
+    /// Whether components with a likeness have a place, by the number of their tree.
     fn has_place(&self, likeness: Likeness) -> bool
         ensures { result ≡ has_place self.now.closed.items likeness }
     {
         likeness.encoding == 0 && (likeness.number as usize) < self.closed.len()
     }
 
-    /// The number of the first component that is alike.
+    /// The number of the first component with a likeness.
     pub fn first(&self, likeness: Likeness) -> Option<u64>
         ensures { result ≡ known_in self.now likeness }
     {
@@ -66,7 +67,7 @@ impl Components {
         }
     }
 
-    /// One component more.
+    /// Counts one component more.
     ///
     /// # Errors
     ///

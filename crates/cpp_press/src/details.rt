@@ -1,4 +1,4 @@
-// What a node says beside its production and its parts.
+// The details of a node, beside its production and its parts.
 #![tactic(auto)]
 
 ghost use Rattle.std.specs.Prelude.{◌≡◌, ◌<◌, length};

@@ -20,8 +20,9 @@ use std::alloc::Global;
 use sym_core::Refusal;
 use sym_spell::{Firsts, Marked, Numbers, text_mark};
 
-/// What nodes with equal trees have alike: what they say, and of each part one more than the first node that is equal, or 0
-/// for no part. Keys are ordered by their parts first, so that one more mostly goes near the end.
+/// The key of a node: what nodes with equal trees have alike. It has the node's details, and for each part one more
+/// than the first node that is equal to it, or 0 for no part. Keys are ordered by their parts first, so one key more
+/// mostly goes near the end.
 #[derive(Clone, Copy, PartialEq, Eq, PartialOrd, Ord)]
 struct Key<'a> {
     first_part: u32,
@@ -35,7 +36,7 @@ struct Key<'a> {
     fourth_text: &'a [u8],
 }
 
-/// What equal keys have alike, in few instructions.
+/// The mark of a key: a number that equal keys have alike, in few instructions.
 impl<'a> Marked for Key<'a> {
     ghost use Rattle.cpp_press.specs.Marks.{mark_of, marked-alike};
 
@@ -52,7 +53,7 @@ impl<'a> Marked for Key<'a> {
     ghost alike = { marked-alike };
 }
 
-/// A part of a node that has so many, if it has this one.
+/// A part of a node with n parts, if the node has it.
 fn part_at(count: u32, place: u32, part: u32) -> Option<u32>
     ensures some { place < count → result ≡ Some part }
     ensures none { count ≤ place → result ≡ None }
@@ -97,8 +98,8 @@ fn key_of<'a>(symbol: &'a Symbol, firsts: &[u32], node: u32) -> Key<'a>
     }
 }
 
-/// The first nodes that are equal to each node of a symbol, whose nodes come after so many others that the table has: an earlier one, or
-/// the node itself. The table has them from now on.
+/// The first node that is equal to each node of a symbol: an earlier one, or the node itself. The symbol's nodes come
+/// after n others, whose first nodes the table has. The table has those of the symbol from now on.
 ///
 /// # Errors
 ///
@@ -128,7 +129,7 @@ fn firsts_after<'a>(
     Ok(own)
 }
 
-/// The first nodes that are equal to each node of a symbol: an earlier one, or the node itself.
+/// The first node that is equal to each node of a symbol: an earlier one, or the node itself.
 ///
 /// # Errors
 ///

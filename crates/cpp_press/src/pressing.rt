@@ -33,8 +33,8 @@ fn first_node(firsts: &[u32], node: u32) -> u32
     firsts[node as usize]
 }
 
-/// What a node's tree is like as a component of an encoding: one with free parameters is compared with those of its encoding
-/// alone.
+/// The likeness of a node's tree as a component of an encoding: a tree with free parameters is compared only with trees
+/// of its encoding.
 fn likeness_of(symbol: &Symbol, firsts: &[u32], node: u32, encoding: u64) -> Likeness
     requires table { IsTable (table_of symbol.now) }
     requires node { node < length symbol.now.table.nodes }
@@ -52,7 +52,7 @@ fn likeness_of(symbol: &Symbol, firsts: &[u32], node: u32, encoding: u64) -> Lik
     }
 }
 
-/// How a tree stands to the components before it.
+/// How a tree compares with the components before it.
 fn standing_of(
     symbol: &Symbol,
     firsts: &[u32],
@@ -73,7 +73,7 @@ fn standing_of(
     }
 }
 
-/// How a template name stands to the components before it.
+/// How a template name compares with the components before it.
 fn template_standing_of(
     symbol: &Symbol,
     firsts: &[u32],
@@ -93,7 +93,7 @@ fn template_standing_of(
     }
 }
 
-/// So many bytes have the spellings of most symbols at most, and so many tasks wait while they are spelled.
+/// The spellings of most symbols have at most this many bytes, and at most this many tasks wait while they are spelled.
 const COMMON_BYTES: usize = 128;
 
 const COMMON_TASKS: usize = 16;

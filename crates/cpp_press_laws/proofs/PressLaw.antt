@@ -1,4 +1,5 @@
--- Pressing twice is once, and pressed bytes tell trees apart, where what is pressed is read as it was.
+-- Pressing twice gives what pressing once gives, and pressed bytes tell trees apart, if what is pressed is read as it
+-- was.
 use Rattle.std.proofs.Common.{◌≡◌, Ok, ap, arith, sym, ◌∙◌}
 use Rattle.std.specs.Prelude.{Result, length, ◌≤◌}
 use Rattle.sym_core.specs.declared.refusal.Refusal.{Refusal}
@@ -15,7 +16,7 @@ use Rattle.cpp_press_laws.specs.PressLaws.{AreReadAs, PressedIsRead, PressedOnce
 one-result : (a b : Term) → ◌≡◌ {A = Result Term Refusal} (Ok a) (Ok b) → a ≡ b
 one-result a b h = cc
 
--- One shape that is read so is enough: the grammar has no other that spells the same.
+-- One such shape is enough, since no other shape of the grammar spells the same bytes.
 pub read-by-one : (t : Term) (shape : Shape) → IsTree abi (Kind 0) shape → spell shape ≡ pressed t → unfold_cpp shape ≡ Ok t → AreReadAs (pressed t) t
 read-by-one t shape is spelled reads = record {
   shape = shape;

@@ -1,4 +1,4 @@
--- What is pressed is read as the tree, since each tree that was read fits.
+-- Each tree that was read fits, so its pressed bytes are read as it.
 use Rattle.std.proofs.Common.{◌≤◌, length, arith}
 use Rattle.cpp_press_laws.specs.Pressing.{pressed}
 use Rattle.cpp_press_laws.specs.Apart.{spelled_components}

@@ -1,8 +1,9 @@
--- Pressed bytes are few for those of the symbol. `Size` is how many bytes a tree takes if each component in it is a reference, and
--- `Spelled` shows that a spelling takes no more, but for the components that it spells out. What these take is at most eight times what
--- they are `Worth` (`Slots`), and the candidates that they are among are worth as much (`StandAmong` of `Components/Complete`). Each
--- byte of the symbol pays eight for candidates and for what is read (`Gains`), production by production (`Paid`; `ByRow`, where rows say what; `Types`, `Lists`,
--- `Names` and `Qualified`, which `Every` joins by induction over shapes); so `Law` has 64.
+-- Pressed bytes are few for those of the symbol. `Size` is the number of bytes of a tree in which each component is a
+-- reference. `Spelled` shows that a spelling takes no more, apart from the components that it spells out. Those take at
+-- most eight times what they are `Worth` (`Slots`), and the candidates that they are among are worth as much
+-- (`StandAmong` of `Components/Complete`). Each byte of the symbol pays eight for candidates and for what is read
+-- (`Gains`), production by production (`Paid`; `ByRow`, where rows say what; `Types`, `Lists`, `Names` and `Qualified`,
+-- which `Every` joins by induction over shapes). So `Law` has 64.
 pub mod Size
 pub mod Spelled
 pub mod Worth

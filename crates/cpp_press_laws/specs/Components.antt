@@ -23,7 +23,8 @@ components_of (c ∷ cs) = record { tree = c.tree; encoding = c.encoding } ∷ c
 abbrev pub Spelling : Type 0
 Spelling = spell.Pressing Component
 
--- A free parameter stands for an argument of its encoding, so a tree that has one is compared with those of its encoding alone.
+-- A free parameter denotes an argument of its encoding. So a tree with free parameters is compared only with trees of
+-- its own encoding.
 unfoldable pub is_same : (encoding : ℕ) → Term → Component → Bool
 is_same encoding own c = same_tree own c.tree && (not (is_open own) || nat_eq c.encoding encoding)
 
@@ -32,7 +33,8 @@ unfoldable pub first_equal : (encoding : ℕ) → Term → (from : ℕ) → List
 first_equal encoding own from [] = None
 first_equal encoding own from (c ∷ cs) = elim (is_same encoding own c) [ true ↦ Some from | false ↦ first_equal encoding own (from + 1) cs ]
 
--- The number in a reference (ABI 5.1, `<seq-id>`): the first has no digits, and digits of value v in base 36 stand for v + 1.
+-- The number in a reference (ABI 5.1, `<seq-id>`): the first one has no digits, and digits of value v in base 36 denote
+-- v + 1.
 unfoldable pub seq_id : ℕ → List ℕ
 seq_id zero = []
 seq_id (suc n) = digits_in 36 digit36 40 n
@@ -47,7 +49,7 @@ ended encoding own place components = record { bytes = []; components = componen
 unfoldable pub spelled_out : (encoding : ℕ) → Term → Spelling → Spelling
 spelled_out encoding own spelling = spelling and ended encoding own
 
--- one spelling after a reference to the tree where an equal component comes before, or else another
+-- a reference to the tree and one spelling, if an equal component comes before; otherwise another spelling
 unfoldable pub referred : (encoding : ℕ) → Term → (behind other : Spelling) → Spelling
 referred encoding own behind other place components =
     elim (first_equal encoding own 0 components) [ Some number ↦ (reference number and behind) place components | None ↦ other place components ]

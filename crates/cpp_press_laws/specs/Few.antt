@@ -1,4 +1,4 @@
--- Of what a symbol is read as no more is spelled out than the symbol spells.
+-- A symbol's tree, pressed, has no more components spelled out than the symbol spells.
 use Rattle.std.specs.Prelude.{◌≡◌, ◌≤◌, List, length, Ok}
 use Rattle.sym_shape.specs.Tree.{Tree as Shape}
 use Rattle.sym_link.specs.Reading.{Found}

@@ -1,5 +1,5 @@
--- Where a tree can be spelled so that it is read again: each component comes before or has a spelling where it is, whose parts
--- have theirs after the components that are spelled before them. This is `ways_of` once more, way for way.
+-- Where a tree can be spelled so that it is read again. Each component comes before, or has a spelling where it is,
+-- whose parts have theirs after the components that are spelled before them. The ways here are those of `ways_of`.
 use Rattle.std.specs.Prelude.{◌≡◌, ℕ, ◌+◌, ◌<◌, ◌⊎◌, length, List, [], ◌∷◌, ◌++◌, Option, Some, None, Bool, true, false, cond, not, ◌&&◌, ◌||◌, ◌^◌, nat_lt, codes}
 use Rattle.sym_core.specs.declared.NumberKind.TheVariants.{Decimal, Digits}
 use Rattle.sym_spell.specs.Pressing.{◌and◌, text}
@@ -23,7 +23,8 @@ use Rattle.cpp_press_laws.specs.Spellable.{IsSpellableName, AreSpellableDigits, 
 abbrev pub PacksFit : Around → (allowed : Option ℕ) → (packs : Option ℕ) → Type 0
 PacksFit around allowed packs = (packs ≡ None) ⊎ ((around.in_expansion ≡ true) × (packs ≡ allowed))
 
--- a tree may be referred to where it is, if it comes before: one with free parameters not in the signature of a lambda
+-- A tree may be referred to where it is, if it comes before. In the signature of a lambda, a tree with free parameters
+-- may not.
 pub record MayBeReferred (around : Around) (allowed : Option ℕ) (t : Term) : Type 0 where
   pub lambda : is_open t && around.in_lambda ≡ false
   pub packs : PacksFit around allowed (packs_in around.scope t)
@@ -51,7 +52,7 @@ abbrev pub as_component : Term → Fitting → Fitting
 as_component own spelled around allowed place cs = MayBeReferred around allowed own × (IsFirst around own cs
     → spelled around allowed place cs)
 
--- a component that has no spelling: an equal one comes before
+-- a component without a spelling of its own: an equal one comes before
 abbrev pub as_reference : Term → Fitting
 as_reference own = as_component own (λ around allowed place cs. ⊥)
 

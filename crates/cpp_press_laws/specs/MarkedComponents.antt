@@ -1,5 +1,6 @@
--- Components that say whether they were compared. Pressing compares a tree with the components before it wherever a reference to one
--- of them can be; where none can, the tree is spelled out and becomes a component whatever comes before.
+-- Components that say whether they were compared. Pressing compares a tree with the components before it wherever a
+-- reference to one of them may be. Where no reference may be, the tree is spelled out and becomes a component, whatever
+-- comes before.
 use Rattle.std.specs.Prelude.{ℕ, List, [], ◌∷◌, ◌++◌, Bool, true, false, codes, Some, None}
 use Rattle.sym_spell.specs.Pressing as spell
 use Rattle.sym_spell.specs.Pressing.{◌and◌, text}
@@ -25,7 +26,7 @@ ended was_compared encoding own place components = record {
   components = components ++ record { component = record { tree = own; encoding = encoding }; was_compared = was_compared } ∷ [];
 }
 
--- one that was compared with those before it and is equal to none of them; one that wasn't compared
+-- a component that was compared with those before it, and is equal to none of them; and one that wasn't compared
 abbrev pub compared : (encoding : ℕ) → Term → Spelling
 compared = ended true
 
@@ -35,7 +36,7 @@ not_compared = ended false
 unfoldable pub reference : (number : ℕ) → Spelling
 reference number = text (codes "S" ++ seq_id number ++ codes "_")
 
--- one spelling after a reference to the tree where an equal component comes before, or else another
+-- a reference to the tree and one spelling, if an equal component comes before; otherwise another spelling
 unfoldable pub referred : (encoding : ℕ) → Term → (behind other : Spelling) → Spelling
 referred encoding own behind other place components =
     elim (first_equal encoding own 0 (unmarked components)) [

@@ -1,4 +1,4 @@
--- What pressing keeps: what is pressed is spelled by a shape of the grammar, which is read as what was pressed.
+-- What pressing keeps: pressed bytes are spelled by a shape of the grammar, which is read as the tree that was pressed.
 use Rattle.std.specs.Prelude.{◌≡◌, ℕ, ◌≤◌, List, length, Ok}
 use Rattle.sym_shape.specs.declared.rule.Sym.TheVariants.{Kind}
 use Rattle.sym_shape.specs.Tree.{Tree as Shape, spell, IsTree}
@@ -18,7 +18,8 @@ pub record AreReadAs (bytes : List ℕ) (t : Term) : Type 0 where
   pub spelled : spell shape ≡ bytes
   pub each : (other : Shape) → IsTree abi (Kind 0) other → spell other ≡ bytes → unfold_cpp other ≡ Ok t
 
--- What some symbol is read as, pressed, is read as the same. The pressed bytes are at most 2^64 - 1, as those of any list.
+-- If some symbol is read as a tree, the tree's pressed bytes are read as the same tree. They are at most 2^64 - 1, as
+-- those of any list.
 abbrev pub PressedIsRead : Type 0
 PressedIsRead = (shape : Shape) (t : Term) → IsReadFrom shape t → length (pressed t) ≤ 18446744073709551615 → AreReadAs (pressed t) t
 
@@ -28,7 +29,8 @@ PressedOnce =
     (shape : Shape) (t : Term) → IsReadFrom shape t → length (pressed t) ≤ 18446744073709551615
     → (other : Shape) (again : Term) → IsReadFrom other again → spell other ≡ pressed t → pressed again ≡ pressed t
 
--- Pressed bytes tell trees apart: of two that symbols are read as, one is the other where their pressed bytes are equal.
+-- Pressed bytes tell trees apart: if two trees that symbols are read as have the same pressed bytes, they are the same
+-- tree.
 abbrev pub PressedTellsApart : Type 0
 PressedTellsApart =
     (shape other : Shape) (t u : Term) → IsReadFrom shape t → IsReadFrom other u → length (pressed t) ≤ 18446744073709551615

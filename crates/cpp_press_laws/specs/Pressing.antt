@@ -1,5 +1,5 @@
--- The pressed spelling of what a C++ symbol stands for: the tree in its order, in which each component that is equal to an earlier
--- one is a reference to the first such one, and everything else is spelled out, without an N that it doesn't need.
+-- The pressed spelling of what a C++ symbol denotes: the tree in its order. Each component that equals an earlier one
+-- is a reference to the first such one, and everything else is spelled out, without an N that it doesn't need.
 use Rattle.std.specs.Prelude.{ℕ, ◌-◌, List, [], ◌∷◌, ◌++◌, Bool, true, false, cond, ◌&&◌, codes, Option}
 use Prim.Native.String.{String}
 use Rattle.sym_spell.specs.Pressing.{◌and◌, text, nothing}

@@ -1,4 +1,4 @@
--- What is pressed of a part of a symbol is read as that part, after whatever was spelled before it.
+-- Pressed parts of a symbol are read as those parts, after whatever was spelled before them.
 use Rattle.std.specs.Prelude.{◌≡◌, ℕ, ◌≤◌, ◌⊎◌, List, [], ◌∷◌, length, true, Option, Some, None, Ok}
 use Rattle.sym_shape.specs.declared.rule.Sym.{Sym}
 use Rattle.sym_shape.specs.declared.rule.Sym.TheVariants.{Kind as OfKind}
@@ -30,8 +30,8 @@ written bytes components = record { bytes = bytes; components = components }
 abbrev pub IsAllowed : Option ℕ → Option ℕ → Type 0
 IsAllowed allowed packs = (packs ≡ None) ⊎ (packs ≡ allowed)
 
--- What is written at a place is spelled by a shape of the grammar for a symbol, which is read there as a value with Q, and the
--- components are what may be named after it.
+-- The bytes written at a place are those of a shape for a symbol of the grammar. It is read there as a value with Q,
+-- and the components are what may be named after it.
 pub record Reads (around : Around) (allowed : Option ℕ) (symbol : Sym) (Q : Value → Type 0) (place : ℕ) (start : State) (w : Written) : Type 0 where
   pub shape : Shape
   pub spelled : spell shape ≡ w.bytes

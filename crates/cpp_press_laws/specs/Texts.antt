@@ -11,7 +11,8 @@ decimal n = digits_in 10 decimal_digit 40 n
 unfoldable pub counted : (name : List ℕ) → List ℕ
 counted name = decimal (length name) ++ name
 
--- A number that is counted from 0 (ABI 5.1, `<template-param>`): the first has no digits, and digits of value v stand for v + 1.
+-- A number that is counted from 0 (ABI 5.1, `<template-param>`): the first one has no digits, and digits of value v
+-- denote v + 1.
 unfoldable pub ordinal : ℕ → List ℕ
 ordinal zero = codes "_"
 ordinal (suc n) = decimal n ++ codes "_"

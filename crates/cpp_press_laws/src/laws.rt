@@ -9,13 +9,14 @@ ghost use Rattle.cpp_press_laws.specs.Same.{same_tree};
 ghost use Rattle.cpp_press_laws.specs.Short.{PressedIsShort};
 ghost use Rattle.cpp_press_laws.specs.Subtrees.{EncodingsAreRead, SymbolsFit, TypesAreRead};
 
-/// What some C++ symbol is read as, pressed, is well shaped, and every shape that spells it is read as the same: no qualifier, no
-/// discriminator and no suffix is lost. The pressed bytes are at most 2^64 - 1, as those of any list.
+/// If some C++ symbol is read as a tree, the pressed spelling of the tree is well shaped, and every shape that spells
+/// it is read as the same tree: no qualifier, no discriminator and no suffix is lost. The pressed bytes are at most
+/// 2^64 - 1, as those of any list.
 pub fn pressed_is_read()
     ensures { PressedIsRead }
 {}
 
-/// What a pressed spelling is read as is pressed to the same bytes, where it has at most 2^64 - 1.
+/// A tree that a pressed spelling is read as is pressed to the same bytes, if these are at most 2^64 - 1.
 pub fn pressed_once()
     ensures { PressedOnce }
 {}
@@ -29,7 +30,7 @@ pub fn subtrees_are_read()
     ensures symbols { SymbolsFit }
 {}
 
-/// What symbols with the same pressed bytes are read as is the same, where these are at most 2^64 - 1.
+/// Two symbols with the same pressed bytes are read as the same tree, if these bytes are at most 2^64 - 1.
 pub fn pressed_tells_apart()
     ensures { PressedTellsApart }
 {}
@@ -41,28 +42,28 @@ pub fn trees_are_compared()
     ensures itself { (tree : Term) → same_tree tree tree ≡ true }
 {}
 
-/// A component that was compared with those before it, where it is, is equal to none of them; with free parameters, to none of its
-/// own encoding. Only a template name can be one that wasn't compared, and only where its arguments end the name of an entity after
-/// `Z..E`, or an own name with qualifiers or a reference mark: no reference can be there. What gives the components these marks
-/// spells the pressed spelling, byte by byte.
+/// A component that was compared with those before it, where it is, is equal to none of them; with free parameters, to
+/// none of its own encoding. Only a template name can be a component that wasn't compared, and only where its arguments
+/// end the name of an entity after `Z..E`, or an encoding's own name with qualifiers or a reference mark: no reference
+/// may be there. The spelling with these marks is the pressed spelling, byte by byte.
 pub fn components_are_apart()
     ensures marked { ComponentsAreMarked }
     ensures apart { ComponentsAreApart }
 {}
 
-/// A component whose tree is spelled out already, in whatever encoding, has free parameters or is a template name that is
-/// somewhere in the symbol where no reference can.
+/// A component whose tree is spelled out already, in whatever encoding, has free parameters, or is a template name at a
+/// place in the symbol where no reference may be.
 pub fn repeated_components_have_reasons()
     ensures { RepeatedComponentsHaveReasons }
 {}
 
-/// Of what a symbol is read as at most as many components are spelled out as the symbol has candidates: what it names by a reference
-/// is a reference again, and what it spells out is spelled out once at most.
+/// At most as many components of a symbol's tree are spelled out as the symbol has candidates: what the symbol names by
+/// a reference is a reference again, and what it spells out is spelled out at most once.
 pub fn components_are_few()
     ensures { ComponentsAreFew }
 {}
 
-/// What some symbol that fits is read as has at most 64 pressed bytes for each byte of the symbol.
+/// The tree that a fitting symbol is read as has at most 64 pressed bytes for each byte of the symbol.
 pub fn pressed_is_short()
     ensures { PressedIsShort }
 {}

@@ -1,4 +1,4 @@
--- What the trees of nodes are made of, where parameters are their numbers alone.
+-- The trees of nodes by what they are made of, in which parameters are only their numbers.
 use Rattle.std.proofs.Common.{◌≡◌, ◌∙◌, ap, sym, subst, arith, ℕ, ◌+◌, ◌<◌, ◌≤◌, List, length, Option, Some, None}
 use Rattle.std.specs.Prelude.{false}
 use Rattle.cpp_term.specs.Erased.{erase}
@@ -80,7 +80,7 @@ below-later s held m n _ b most = tt
 pub made : (y : Table) (i : ℕ) → IsTable y → i < length y.nodes → IsBelow y.bytes (length y.thunks) (length y.nodes) (entry_at y.nodes i).node
 made y i table less = below-later y.bytes (length y.thunks) i (length y.nodes) (entry_at y.nodes i).node (table.each i less).below (omega (arith, less))
 
--- the tree that is there again is a node's own
+-- the tree that an alias denotes is stored, and is no alias
 pub again-before : (y : Table) (i t a : ℕ) → IsTable y → i < length y.nodes → (entry_at y.nodes i).node ≡ Node.Reargued t a
     → (t < length y.nodes) × (is_again (entry_at y.nodes t).node ≡ false)
 again-before y i t a table less is =
@@ -95,7 +95,7 @@ again-tree y i t a table less is =
 
 -- ## Functions
 
--- under what the types of a function are isn't seen
+-- the types of a function don't show the arguments that they are under
 pub function-spelled : (y : ReadSymbol) (here : ℕ) (node : Node) (name returned parameters under : ℕ) (q : Qualifiers) (m : Mark) (rest : Spelling) → node ≡ Node.Function name q m returned parameters under
     → ◌≡◌ {A = Spelling} (in_way here (Way.Name q m) (plain_at y name) onto in_way here Way.Type (plain_at y returned) onto in_way here Way.Parameters (plain_at y parameters) onto rest) (encoding_onto here (node_tree y node) rest)
 unfolding encoding_onto erase tree_of in_way

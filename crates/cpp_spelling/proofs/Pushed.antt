@@ -1,4 +1,4 @@
--- One task more.
+-- A list of tasks with one task more.
 use Rattle.std.proofs.Common.{◌≡◌, ◌+◌, List, [], ◌∷◌, ◌++◌, sym, ap, arith, ◌∙◌}
 use Rattle.sym_spell.specs.Pressing.{◌and◌}
 use Rattle.sym_spell.proofs.Spellings.{and-assoc, and-nothing, nothing-and}

@@ -1,4 +1,4 @@
--- What a standing tells.
+-- What follows from how a tree compares with the components before it.
 use Rattle.std.proofs.Common.{◌≡◌, ℕ, Bool, true, false, Option, Some, None, refl, ap, sym}
 use Rattle.cpp_grammar.specs.Term.{Term}
 use Rattle.cpp_spelling.specs.declared.steps.Standing.{Standing}

@@ -1,4 +1,4 @@
--- Template names and their arguments, as the names stand to the components before them.
+-- Template names and their arguments, by how the names compare with the components before them.
 use Rattle.std.proofs.Common.{◌≡◌, ℕ, List, [], Bool, true, false, Some, None, ap, sym, ◌∙◌}
 use Rattle.std.specs.Prelude.{codes, ◌&&◌, ◌++◌}
 use Rattle.sym_spell.specs.Pressing.{◌and◌, text, nothing}
@@ -57,7 +57,7 @@ known-template n b (instance t x) a r k p cs is some =
 known-template n b (tagged of_structor name tag) a r k p cs is some = named-known n (tagged of_structor name tag) a _ r k p cs some
 known-template n b _ a r k p cs is some = absurd (true-false (sym is))
 
--- a name that is spelled out, and its end as a component
+-- a name that is spelled out, and the end of the component that it is
 whole-is : (n : ℕ) (t a : Term) (s r : Spelling) → ◌≡◌ {A = Spelling} ((s and (ended n t and behind n a)) and r) (s and (ended n t and arguments_onto n a r))
 whole-is n t a s r = three s (ended n t) (behind n a) r ∙ under s (under (ended n t) (arguments-is n a r))
 

@@ -169,7 +169,7 @@ name-is n q ref _ r = nothing-and r
 
 -- ## Encodings, lists, arguments
 
--- where an encoding is spelled doesn't depend on the encoding around it
+-- the spelling of an encoding doesn't depend on the encoding around it
 same-encoding : (n m : ℕ) (t : Term) → ◌≡◌ {A = Spelling} (ways_of n t).as_encoding (ways_of m t).as_encoding
 unfolding ways_of no_ways type_ways name_ways piece_ways argument_ways encoding_ways
 same-encoding n m (symbol e suffix) = ap {A = Spelling} {B = Spelling} (λ (f : Spelling). text (codes "_Z") and (f and text suffix)) (same-encoding n m e)
@@ -266,7 +266,7 @@ std-is n p r = go (is_operator p)
     go true = three (text (codes "N")) (text (codes "St") and (ways_of n p).as_piece) (text (codes "E")) r ∙ under (text (codes "N")) (in-std-is n p (text (codes "E") and r))
     go false = in-std-is n p r
 
--- what a type is, where it isn't a reference
+-- the spelling of a type that isn't a reference
 content : (n : ℕ) → Term → Spelling
 content n (alone p) = (ways_of n p).as_piece
 content n (in_std p) = elim (is_operator p) [ true ↦ in_N_and_E [] (text (codes "St") and (ways_of n p).as_piece) | false ↦ text (codes "St") and (ways_of n p).as_piece ]
@@ -337,7 +337,7 @@ under-component t is = go (is_function_type t) is
     go true h = absurd (true-false (sym h))
     go false h = h
 
--- what a prefix is, where it isn't a reference
+-- the spelling of a prefix that isn't a reference
 prefix_content : (n : ℕ) → Term → Spelling
 prefix_content n (in_std p) = text (codes "St") and (ways_of n p).as_piece
 prefix_content n (within prefix p) = (ways_of n prefix).as_prefix and (ways_of n p).as_piece
@@ -367,7 +367,7 @@ prefix-content-is n (instance t a) e is =
 prefix-content-is n (tagged of_structor name tag) e is = tag-is n name tag e
 prefix-content-is n t e is = first_of (cc, search (content-is n t e is))
 
--- ## A tree as it stands to the components before it
+-- ## A tree by how it compares with the components before it
 
 fresh-way : (n : ℕ) (t : Term) (way s r after : Spelling) (p : ℕ) (cs : List Component) → ◌≡◌ {A = Spelling} way (component n t s)
     → ◌≡◌ {A = Spelling} (s and (ended n t and r)) after → first_equal n t 0 cs ≡ None → (way and r) p cs ≡ after p cs

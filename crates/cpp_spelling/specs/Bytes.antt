@@ -24,7 +24,7 @@ text_bytes y (Text.Discriminator d) = discriminator_text (discriminator_of y.byt
 text_bytes y (Text.Suffix suffix) = bytes_at y.bytes suffix
 text_bytes y (Text.Reference n) = codes "S" ++ seq_id n ++ codes "_"
 
--- the bytes that a text takes from the symbol are there
+-- the bytes that a text takes from the symbol exist
 abbrev pub IsThere : ReadSymbol → Text → Type 0
 IsThere y (Text.Counted before name) = IsWithin name y.bytes
 IsThere y (Text.Digits before digits) = IsWithin digits y.bytes
@@ -34,7 +34,7 @@ IsThere y (Text.Discriminator d) = IsSpan y.bytes d
 IsThere y (Text.Suffix suffix) = IsWithin suffix y.bytes
 IsThere y _ = Unit {0}
 
--- what is known of a thunk is within the symbol
+-- the offsets of a thunk are within the symbol
 abbrev pub IsKnownThunk : List ℕ → Option Thunk → Type 0
 IsKnownThunk s None = Unit {0}
 IsKnownThunk s (Some thunk) = IsThunkWithin s thunk

@@ -1,4 +1,4 @@
--- How trees stand to the components before them.
+-- How trees compare with the components before them.
 use Rattle.std.specs.Prelude.{ℕ, Bool, true, false, ◌&&◌, codes, Option, Some, None}
 use Rattle.cpp_grammar.specs.Term.{Term, in_std, within, instance, tagged}
 use Rattle.cpp_press_laws.specs.Components.{Spelling}
@@ -9,7 +9,7 @@ use Rattle.cpp_spelling.specs.declared.task.Way.{Way}
 use Rattle.cpp_spelling.specs.Tasks.{◌onto◌, written, in_way, ending}
 use Rattle.cpp_spelling.specs.Spelled.{is_compared, arguments_onto}
 
--- of a tree that is compared, by the number of the first component that is equal to it
+-- how a compared tree does, by the number of the first component that is equal to it
 unfoldable pub compared : Option ℕ → Standing
 compared (Some number) = Standing.Known number
 compared None = Standing.Fresh

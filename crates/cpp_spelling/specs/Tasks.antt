@@ -1,4 +1,4 @@
--- What the tasks of the writer stand for.
+-- What the tasks of the writer denote.
 use Rattle.std.specs.Prelude.{ℕ, ◌+◌, ◌<◌, ◌≤◌, List, [], ◌∷◌, length, Bool, codes, Vec, vec_len, vec_capacity}
 use Rattle.std.specs.Global.{Global}
 use Rattle.sym_spell.specs.Pressing.{◌and◌, text, nothing}
@@ -27,7 +27,7 @@ node_tree y node = erase (tree_of y.bytes y.table.thunks (trees (table_of y)) no
 abbrev pub piece_tree : ReadSymbol → Piece → Term
 piece_tree y piece = erase (piece_of y.bytes (trees (table_of y)) piece)
 
--- what they are made of is there
+-- the parts that they are made of exist
 abbrev pub IsMade : ReadSymbol → Node → Type 0
 IsMade y node = IsBelow y.bytes (length y.table.thunks) (length y.table.nodes) node
 
@@ -42,7 +42,7 @@ unfoldable pub ◌onto◌ : Spelling → Spelling → Spelling
 unfoldable pub written : List ℕ → Spelling
 written bytes = text bytes
 
--- an encoding's own name, with what is said of its function
+-- an encoding's own name, with the letters for its function
 unfoldable pub in_name : (encoding : ℕ) → Qualifiers → RefQualifier → Term → Spelling
 in_name n q ref t = (ways_of n t).as_name (name_letters q ref)
 
@@ -78,12 +78,12 @@ press_task y (Task.Tree node way n) = in_way n way (plain_at y node)
 press_task y (Task.Template name arguments in_type n) = before n in_type (plain_at y name) (plain_at y arguments)
 press_task y (Task.Ended node n) = ending n (plain_at y node)
 
--- the last task is the next
+-- the next task is the last in the list
 unfoldable pub press_tasks : ReadSymbol → List Task → Spelling
 press_tasks y [] = nothing
 press_tasks y (task ∷ tasks) = press_tasks y tasks onto press_task y task
 
--- the nodes of a task, and its bytes, are there
+-- the nodes of a task exist, and so do its bytes
 abbrev pub IsTask : ReadSymbol → Task → Type 0
 IsTask y (Task.Text t) = IsThere y t
 IsTask y (Task.Tree node way n) = node < length y.table.nodes
@@ -94,7 +94,7 @@ unfoldable pub AreTasks : ReadSymbol → List Task → Type 0
 AreTasks y [] = Unit {0}
 AreTasks y (task ∷ tasks) = IsTask y task × AreTasks y tasks
 
--- how many steps a task takes at most: that of a tree is above those of its parts
+-- how many steps a task takes at most: a tree takes more than its parts together
 abbrev pub way_weight : Way → ℕ
 way_weight (Way.Name q m) = 4
 way_weight _ = 0
@@ -109,10 +109,10 @@ unfoldable pub tasks_weight : ReadSymbol → List Task → ℕ
 tasks_weight y [] = 0
 tasks_weight y (task ∷ tasks) = task_weight y task + tasks_weight y tasks
 
--- there is room for so many tasks more
+-- there is room for n more tasks
 abbrev pub HasRoom : Vec Task Global → (many : ℕ) → Type 0
 HasRoom tasks many = vec_len tasks + many ≤ vec_capacity tasks
 
--- of the room at most so many places are taken
+-- at most n places of the room are taken
 abbrev pub TakesRoom : (old new : Vec Task Global) → (many : ℕ) → Type 0
 TakesRoom old new many = vec_len new + vec_capacity old ≤ vec_len old + vec_capacity new + many

@@ -1,4 +1,4 @@
--- How many steps a tree takes at most, so that each step leaves less to do.
+-- How many steps a tree takes at most. Each step leaves less to do.
 use Rattle.std.specs.Prelude.{ℕ, ◌+◌}
 use Rattle.cpp_grammar.specs.Term.{Term, symbol, function, object, special, thunk, of_name, construction, clone, alone, in_std, within, instance, local, holder, tagged, of_default, inheriting, lambda, generic_lambda, conversion, pointer, lvalue, rvalue, array, constrained, bounded, member_pointer, function_type, qualified, vector, complex, decltype, expansion, integer, encoding_literal, address_of, operation, pack, list, enumeration, bindings}
 

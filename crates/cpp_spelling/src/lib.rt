@@ -1,4 +1,5 @@
-//! How each tree of a C++ symbol is spelled: the texts and trees that stand in it, in their order, as tasks, and the bytes of each text.
+//! How each tree of a C++ symbol is spelled: as tasks, which are the texts and trees in it, in order; and the bytes of
+//! each text.
 #![tactic(auto)]
 
 pub mod names;

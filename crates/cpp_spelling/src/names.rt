@@ -1,4 +1,4 @@
-// What is spelled of names.
+// The spellings of names.
 #![tactic(auto)]
 
 ghost use Rattle.std.specs.Prelude.{◌≡◌, ◌≤◌, ◌<◌, ◌+◌, ◌-◌, ◌++◌, length, codes, false};
@@ -55,7 +55,7 @@ fn without_tags(symbol: &Symbol, name: u32) -> Node
     }
 }
 
-/// Whether a name needs an N where it is no prefix, with tags or without.
+/// Whether a name needs an N where it is no prefix. The name may have tags.
 #[tactic(auto, unfolding(cpp_press_laws::specs::Pressing::is_nested, cpp_term::specs::Erased::erase, cpp_tree::specs::Nodes::tree_of, cpp_tree::specs::Nodes::is_again))]
 pub fn is_nested(symbol: &Symbol, name: u32) -> bool
     requires table { IsTable (table_of symbol.now) }
@@ -68,7 +68,7 @@ pub fn is_nested(symbol: &Symbol, name: u32) -> bool
     }
 }
 
-/// Whether a name is one piece after an encoding, with tags or without.
+/// Whether a name is one piece after an encoding. The name may have tags.
 #[tactic(auto, unfolding(crate::specs::Spelled::is_piece_behind, cpp_press_laws::specs::Pressing::is_behind_encoding, cpp_term::specs::Erased::erase, cpp_tree::specs::Nodes::tree_of, cpp_tree::specs::Nodes::is_again))]
 fn is_piece_behind(symbol: &Symbol, name: u32) -> bool
     requires table { IsTable (table_of symbol.now) }
@@ -81,7 +81,7 @@ fn is_piece_behind(symbol: &Symbol, name: u32) -> bool
     }
 }
 
-/// Whether an entity is one piece after its encoding, with arguments or without.
+/// Whether an entity is one piece after its encoding. The piece may have arguments.
 #[tactic(auto, unfolding(cpp_press_laws::specs::Pressing::is_one_piece, cpp_term::specs::Erased::erase, cpp_tree::specs::Nodes::tree_of, cpp_tree::specs::Nodes::is_again))]
 fn is_one_piece(symbol: &Symbol, entity: u32) -> bool
     requires table { IsTable (table_of symbol.now) }
@@ -94,7 +94,8 @@ fn is_one_piece(symbol: &Symbol, entity: u32) -> bool
     }
 }
 
-/// A lambda (ABI 5.1.7, `<closure-type-name> ::= Ul <lambda-sig> E [ <number> ] _`), whose parameters are spelled in a way.
+/// A lambda (ABI 5.1.7, `<closure-type-name> ::= Ul <lambda-sig> E [ <number> ] _`), whose parameters are spelled in a
+/// given way.
 #[tactic(auto, unfolding(crate::specs::Bytes::text_bytes))]
 fn then_lambda(
     symbol: &Symbol,
@@ -325,7 +326,7 @@ pub fn then_prefix(symbol: &Symbol, node: Node, encoding: u64, tasks: &mut Vec<T
     }
 }
 
-/// Whether a name needs an N for what is said of its function.
+/// Whether a name needs an N for the letters of its function.
 #[tactic(auto, unfolding(crate::specs::Spelled::has_letters))]
 fn has_letters(qualifiers: Qualifiers, mark: Mark) -> bool
     ensures { result ≡ has_letters (qualifiers_of qualifiers) (mark_of mark) }

@@ -1,4 +1,4 @@
-// One step of the writer at a tree, as it stands to the components before it.
+// One step of the writer at a tree, by how the tree compares with the components before it.
 #![tactic(auto)]
 
 ghost use Rattle.std.specs.Prelude.{◌≡◌, ℕ, ◌≤◌, ◌<◌, ◌+◌, List, length, false, OnOk, IfErr};
@@ -21,18 +21,18 @@ use cpp_layout::Symbol;
 use cpp_tree::node::Node;
 use sym_core::Refusal;
 
-/// How a tree stands to the components before it.
+/// How a tree compares with the components before it.
 #[derive(Clone, Copy)]
 pub enum Standing {
-    /// It isn't compared with them where it is.
+    /// It isn't compared where it is.
     Apart,
-    /// It is equal to the first of this number.
+    /// It is equal to the component with this number, and to none before that.
     Known(u64),
     /// It is equal to none.
     Fresh,
 }
 
-/// How a compared tree is, by the number of the first component that it is equal to.
+/// How a compared tree does, by the number of the first component that is equal to it.
 #[tactic(auto, unfolding(crate::specs::Standings::compared))]
 pub fn compared(first: Option<u64>) -> Standing
     ensures { result ≡ compared first }
@@ -43,7 +43,7 @@ pub fn compared(first: Option<u64>) -> Standing
     }
 }
 
-/// A tree in one of its ways, as it stands to the components before it: a reference, or spelled out.
+/// A tree in one of its ways, by how it compares with the components before it: a reference, or spelled out.
 pub fn step_tree(
     symbol: &Symbol,
     standing: Standing,
@@ -157,7 +157,8 @@ fn is_instance(node: Node) -> bool
     }
 }
 
-/// A template name and its arguments, as the name stands to the components before it: a reference, or spelled out.
+/// A template name and its arguments, by how the name compares with the components before it: a reference, or spelled
+/// out.
 pub fn step_template(
     symbol: &Symbol,
     standing: Standing,

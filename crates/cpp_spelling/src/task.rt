@@ -1,4 +1,4 @@
-// What is still to be written, the next one last.
+// What is still to be written; the next task is the last in the list.
 #![tactic(auto)]
 
 ghost use Rattle.std.specs.Prelude.{◌≡◌, ◌+◌, ◌<◌, length, OnOk, IfErr};
@@ -13,7 +13,7 @@ use cpp_layout::Symbol;
 use cpp_tree::node::{Mark, Qualifiers};
 use sym_core::Refusal;
 
-/// How a tree is spelled, by the place where it is.
+/// How a tree is spelled, which depends on the place where it is.
 #[derive(Clone, Copy)]
 pub enum Way {
     Type,
@@ -22,7 +22,7 @@ pub enum Way {
     /// A name between N and E.
     Between,
     Encoding,
-    /// An encoding's own name, with what is said of its function.
+    /// An encoding's own name, with the letters for its function.
     Name(Qualifiers, Mark),
     Argument,
     /// The parameters of a lambda with parameters of its own: they are an encoding of their own.
@@ -32,7 +32,7 @@ pub enum Way {
     Elements,
 }
 
-/// What is still to be written, in the encoding that begins at a place.
+/// A task: what is still to be written, in the encoding that begins at a place.
 #[derive(Clone, Copy)]
 pub enum Task {
     Text(Text),
@@ -56,10 +56,10 @@ pub enum Task {
     },
 }
 
-/// So many tasks stand for one at most.
+/// The most tasks that one task becomes.
 const MOST_TASKS: usize = 8;
 
-/// Makes room for the tasks that stand for one.
+/// Makes room for the tasks that one task becomes.
 ///
 /// # Errors
 ///

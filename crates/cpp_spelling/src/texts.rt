@@ -14,7 +14,7 @@ use cpp_tree::node::{Adjustment, Mark, Qualifiers, Signed, Thunk};
 use sym_core::{Refusal, Span};
 use sym_spell::push_digits;
 
-/// Bytes of a spelling in which no tree is.
+/// Bytes of a spelling that belong to no tree in it.
 #[derive(Clone, Copy)]
 pub enum Text {
     Fixed(&'static [u8]),
@@ -26,14 +26,14 @@ pub enum Text {
     Counted(&'static [u8], Span),
     /// Fixed bytes, digits, and an underscore.
     Digits(&'static [u8], Span),
-    /// The value of a literal, and its end.
+    /// The value of a literal, and what ends the literal.
     Value(Signed),
     Qualifiers(Qualifiers),
-    /// The N of a name, with what is said of its function.
+    /// The N of a name, with the letters for its function.
     Letters(Qualifiers, Mark),
     /// What a function type begins with.
     FunctionType { c_linkage: bool, noexcept: bool },
-    /// The mark of a function type, and its end.
+    /// The mark of a function type, and what ends the type.
     FunctionEnd(Mark),
     Thunk(u32),
     Discriminator(Option<Span>),
@@ -42,7 +42,7 @@ pub enum Text {
     Reference(u64),
 }
 
-/// A letter where it is to be.
+/// A letter, if it is to be written.
 fn push_letter_if(stands: bool, letter: u8, out: &mut Vec<u8>) -> Result<(), Refusal>
     ensures letter { OnOk result (out.new.items ≡ out.old.items ++ cond stands (letter ∷ []) []) }
     ensures memory { IfErr result (λ e. e ≡ Memory) }
@@ -80,8 +80,8 @@ fn push_mark(mark: Mark, out: &mut Vec<u8>) -> Result<(), Refusal>
     Ok(())
 }
 
-/// Bytes and a number that is counted from 0 (ABI 5.1.5.8, `<template-param> ::= T_ | T <number> _`): the first has no digits, and
-/// digits of value v stand for v + 1.
+/// Bytes and a number that is counted from 0 (ABI 5.1.5.8, `<template-param> ::= T_ | T <number> _`): the first has no
+/// digits, and digits of value v denote v + 1.
 fn push_ordinal(before: &[u8], number: u64, out: &mut Vec<u8>) -> Result<(), Refusal>
     ensures number { OnOk result (out.new.items ≡ out.old.items ++ (before.now ++ ordinal number)) }
     ensures memory { IfErr result (λ e. e ≡ Memory) }
@@ -145,7 +145,7 @@ fn push_adjustment(
 }
 
 /// What a thunk adjusts (ABI 5.1.4, `<special-name> ::= T <call-offset> .. | Tc <call-offset> <call-offset> ..`), or no
-/// offset where nothing is known of it.
+/// offset where none is known.
 #[tactic(auto, unfolding(cpp_press_laws::specs::Texts::thunk_text, cpp_press_laws::specs::Texts::offset_text, cpp_press_laws::specs::Texts::signed_text, cpp_tree::specs::Nodes::thunk_of))]
 fn push_thunk(symbol: &Symbol, thunk: Option<Thunk>, out: &mut Vec<u8>) -> Result<(), Refusal>
     requires within { IsKnownThunk symbol.now.bytes thunk }
@@ -212,8 +212,8 @@ fn push_function_type(c_linkage: bool, noexcept: bool, out: &mut Vec<u8>) -> Res
     Ok(())
 }
 
-/// A reference to a component (ABI 5.1.10, `<substitution> ::= S_ | S <seq-id> _`): the first has no digits, and digits of
-/// value v in base 36 stand for v + 1.
+/// A reference to a component (ABI 5.1.10, `<substitution> ::= S_ | S <seq-id> _`): the first has no digits, and digits
+/// of value v in base 36 denote v + 1.
 fn push_reference(number: u64, out: &mut Vec<u8>) -> Result<(), Refusal>
     ensures reference { OnOk result (out.new.items ≡ out.old.items ++ (codes "S" ++ seq_id number ++ codes "_")) }
     ensures memory { IfErr result (λ e. e ≡ Memory) }
@@ -248,7 +248,8 @@ fn push_value(symbol: &Symbol, value: Signed, out: &mut Vec<u8>) -> Result<(), R
     Ok(())
 }
 
-/// What is said of a function before its name (ABI 5.1.3, `<nested-name> ::= N [<CV-qualifiers>] [<ref-qualifier>] ..`).
+/// The letters for a function before its name (ABI 5.1.3, `<nested-name> ::= N [<CV-qualifiers>] [<ref-qualifier>]
+/// ..`).
 #[tactic(auto, unfolding(cpp_press_laws::specs::Texts::name_letters))]
 fn push_letters(qualifiers: Qualifiers, mark: Mark, out: &mut Vec<u8>) -> Result<(), Refusal>
     ensures letters { OnOk result (out.new.items ≡ out.old.items ++ (codes "N" ++ name_letters (qualifiers_of qualifiers) (mark_of mark))) }

@@ -1,4 +1,4 @@
-// What is spelled of types, arguments and encodings.
+// The spellings of types, arguments and encodings.
 #![tactic(auto)]
 
 ghost use Rattle.std.specs.Prelude.{◌≡◌, ◌≤◌, ◌<◌, ◌+◌, ◌++◌, length, codes, false};
@@ -22,7 +22,7 @@ use crate::texts::Text;
 use cpp_layout::{Symbol, special_front};
 use cpp_tree::node::{Mark, Node};
 
-/// Whether a type is compared with others: each that has more than letters is.
+/// Whether a type is compared with others: each type that has more than letters is.
 #[tactic(auto, unfolding(cpp_press_laws::specs::Pressing::is_component, cpp_term::specs::Erased::erase, cpp_tree::specs::Nodes::tree_of, cpp_tree::specs::Nodes::is_again))]
 fn is_component(node: Node) -> bool
     requires own { is_again node ≡ false }
@@ -312,7 +312,7 @@ fn then_more_parameters(symbol: &Symbol, node: Node, encoding: u64, tasks: &mut 
     }
 }
 
-/// The parameters of a function (ABI 5.1.5.3, `<bare-function-type>`), of which none are a v.
+/// The parameters of a function (ABI 5.1.5.3, `<bare-function-type>`). No parameters are spelled as a v.
 #[tactic(auto, unfolding(crate::specs::Spelled::parameters_onto, cpp_term::specs::Erased::erase, cpp_tree::specs::Nodes::tree_of, cpp_tree::specs::Nodes::is_again, crate::specs::Weight::weight, crate::specs::Bytes::text_bytes))]
 fn then_parameters(symbol: &Symbol, node: Node, encoding: u64, tasks: &mut Vec<Task>)
     requires own { is_again node ≡ false }
@@ -425,7 +425,7 @@ fn then_encoding(symbol: &Symbol, node: Node, here: u64, tasks: &mut Vec<Task>)
     }
 }
 
-/// A tree spelled out in one of its ways. What is written next is at the place `here`.
+/// A tree spelled out in one of its ways. What it spells is written next, at the place `here`.
 pub fn then_spelled(
     symbol: &Symbol,
     node: u32,

@@ -13,6 +13,7 @@ use Rattle.sym_shape.specs.Tree.{Tree, Forest, branch, empty, nothing, grown, sp
 use Rattle.sym_link.specs.Reading.{Found, Open, Next, ◌>>=◌}
 use Rattle.sym_link.specs.Unfold.{found, alone, unfold_tree, unfold_forest}
 use Rattle.cpp_grammar.specs.declared.production.Production.{Production}
+use Rattle.cpp_grammar.specs.declared.production.Operation.{Operation}
 use Rattle.cpp_grammar.specs.KindNumbers.{ENCODING, SPECIAL, SPECIAL_MARK, SPECIAL_AFTER_G}
 use Rattle.cpp_grammar.specs.Grammar.{number_of_kind, parts_of}
 use Rattle.cpp_grammar.specs.Table.{wide, rule_of}
@@ -71,11 +72,13 @@ plain_keeps Production.LocalTemporary h around place [] state n e = goes_on [] a
 plain_keeps Production.LocalTemporary h around place (v ∷ vs) state n e = goes_on (v ∷ vs) _ state n e
 plain_keeps Production.LocalType h around place [] state n e = goes_on [] around state n e
 plain_keeps Production.LocalType h around place (v ∷ vs) state n e = goes_on (v ∷ vs) _ state n e
+plain_keeps (Production.Operation Operation.ExpressionC) h around place vs state n e = absurd (false≢true h)
 plain_keeps _ h around place vs state n e = absurd (false≢true h)
 
 encodings_apart : (p : Production) → has_encoding (parts_of p) ≡ true → differs p ≡ false
 unfolding has_encoding is_encoding parts_of number_of_kind differs
 encodings_apart Production.Parameter h = absurd (false≢true h)
+encodings_apart (Production.Operation Operation.ExpressionC) h = cc
 encodings_apart _ h = cc
 
 special_apart : (p : Production) → in_special p ≡ true → has_signature p ≡ false
@@ -127,6 +130,7 @@ inside_values Production.SpecialName vs plain all special = special refl 0
 inside_values Production.Temporary vs plain all special = special refl 0
 inside_values Production.ModuleInitializer vs plain all special = special refl 1
 inside_values Production.ConstructionVtable vs plain all special = (special refl 0, special refl 3)
+inside_values (Production.Operation Operation.ExpressionC) vs plain all special = first_of (cc, search tt)
 inside_values _ vs plain all special = first_of (cc, search tt)
 
 -- ## Either reading

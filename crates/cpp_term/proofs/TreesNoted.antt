@@ -11,6 +11,7 @@ use Rattle.sym_shape.specs.Tree.{Tree, Forest, branch, empty, token, fixed, noth
 use Rattle.sym_link.specs.Reading.{Found, Open, Next, ◌>>=◌}
 use Rattle.sym_link.specs.Unfold.{found, alone, unfold_tree, unfold_forest}
 use Rattle.cpp_grammar.specs.declared.production.Production.{Production}
+use Rattle.cpp_grammar.specs.declared.production.Operation.{Operation}
 use Rattle.cpp_grammar.specs.KindNumbers.{SYMBOL, SPECIAL, SPECIAL_MARK, SPECIAL_AFTER_G, COMPLETE_NAME, ITEMS}
 use Rattle.cpp_grammar.specs.Grammar.{parts_of, number_of_kind}
 use Rattle.cpp_grammar.specs.Table.{wide, rule_of}
@@ -54,6 +55,7 @@ use Rattle.cpp_term.proofs.ForestNoted.{is_special, has_special, Many, TreeNoted
 plain_special : (p : Production) → opens p || not (has_special (parts_of p)) ≡ true
 unfolding opens has_special is_special is_special_kind parts_of number_of_kind
 plain_special Production.Mark = refl
+plain_special (Production.Operation Operation.ExpressionC) = refl
 plain_special _ = refl
 
 no_special : (p : Production) → opens p ≡ false → has_special (parts_of p) ≡ false

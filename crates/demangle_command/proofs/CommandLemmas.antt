@@ -16,12 +16,17 @@ use Rattle.sym_filter.proofs.StreamLemmas.{Appends-none}
 use Rattle.sym_command.specs.Command.{Took, Says}
 use Rattle.sym_command.proofs.CommandLemmas.{faulty}
 use Rattle.sym_command.proofs.PageLemmas.{Took-as, Took-said, OnErr-anyway}
-use Rattle.demangle_command.specs.Command.{answers_by, answers_of, EndsOf, FiltersInput, FiltersInputFront, IsEndedOf, IsStoppedOf, IsTold, StopsOf, Stops, is_request, summary_if}
+use Rattle.demangle_command.specs.Command.{answers_of, EndsOf, FiltersInput, FiltersInputFront, IsEndedOf, IsStoppedOf, IsTold, StopsOf, Stops, is_request, summary_if, unescaped_of}
 use Rattle.demangle_command.specs.CommandLine.{AreGiven, AreOptions, faults_in, names_of}
 use Rattle.demangle_names.specs.Names.{AnswersNames, NamesFront, status_of}
 use Rattle.demangle_names.specs.Reasons.{Told, Untold as Begun, said_from, said_of_words}
 use Rattle.demangle_names.specs.declared.options.Options.{Options}
+use Rattle.demangle_names.specs.Style.{reads_paths}
 use Rattle.demangle_names.specs.declared.style.Style.{Style}
+use Rattle.demangle_command.specs.Styled.{styled_answer}
+use Rattle.sym_short.specs.Shortening.{answers_as, short_answers}
+use Rattle.sym_short.specs.declared.texts.Texts.{Texts}
+use Rattle.sym_short.specs.declared.texts.Texts.TheVariants as texts
 
 -- ## Words that the parser doesn't take
 
@@ -78,11 +83,23 @@ refused-stops rows coming out err err' result says = OnErr-anyway result _ (inl 
 
 -- ## What the options ask
 
-pub answers-are : (escapes : Bool) (style : Style) (limit : ℕ) (detail : Detail) (options : Options) → escapes ≡ options.escape → style ≡ options.style → limit ≡ options.limit → detail ≡ options.detail
-    → answers_by escapes style limit detail ≡ answers_of options
-answers-are escapes style limit detail options j s l d =
-    ap (λ (x : Bool). answers_by x style limit detail) j ∙ ap (λ (x : Style). answers_by options.escape x limit detail) s
-    ∙ ap (λ (x : ℕ). answers_by options.escape options.style x detail) l ∙ ap (λ (x : Detail). answers_by options.escape options.style options.limit x) d
+module _ (style : Style) (limit : ℕ) (detail : Detail) (options : Options) (s : style ≡ options.style) (l : limit ≡ options.limit) (d : detail ≡ options.detail) where
+  styled-are : styled_answer style limit detail ≡ styled_answer options.style options.limit options.detail
+  styled-are =
+      ap (λ (x : Style). styled_answer x limit detail) s ∙ ap (λ (x : ℕ). styled_answer options.style x detail) l
+      ∙ ap (λ (x : Detail). styled_answer options.style options.limit x) d
+
+  -- whole texts
+  pub whole-are : options.texts ≡ texts.Whole → styled_answer style limit detail ≡ unescaped_of options
+  whole-are is = styled-are ∙ ap (λ (t : Texts). answers_as t (reads_paths options.style) (styled_answer options.style options.limit options.detail)) (sym is)
+
+  -- short ones
+  pub short-are : (keeps_inline paths : Bool) → paths ≡ reads_paths options.style → options.texts ≡ texts.Short keeps_inline
+      → short_answers keeps_inline paths (styled_answer style limit detail) ≡ unescaped_of options
+  short-are keeps_inline paths reads is =
+      ap (λ (answers : Answering). short_answers keeps_inline paths answers) styled-are
+      ∙ ap (λ (p : Bool). short_answers keeps_inline p (styled_answer options.style options.limit options.detail)) reads
+      ∙ ap (λ (t : Texts). answers_as t (reads_paths options.style) (styled_answer options.style options.limit options.detail)) (sym is)
 
 -- nothing was read or written
 pub stops-unbegun : (rows : List Row) (coming out err : Option (List ℕ)) → StopsOf rows coming coming out out err err

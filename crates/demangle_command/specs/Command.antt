@@ -5,28 +5,31 @@ use Rattle.std.specs.Io.KnownBytes.{Appends, Consumes, IsAtEnd}
 use Rattle.clap.specs.Words.{Row, Text, IsAmong}
 use Rattle.clap.specs.declared.error.kind.ErrorKind.{ErrorKind}
 use Rattle.clap.specs.declared.error.kind.ErrorKind.TheVariants.{DisplayHelp, DisplayVersion}
-use Rattle.sym_print.specs.declared.detail.Detail.{Detail}
 use Rattle.sym_filter.specs.Entries.{entries_of}
 use Rattle.sym_filter.specs.Runs.{Answering, filtered_at, tally_at}
 use Rattle.sym_filter.specs.declared.kinds.Letters.TheVariants.{Within}
 use Rattle.sym_filter.specs.Streams.{PutsFront}
 use Rattle.sym_filter.specs.declared.words.Tally.{Tally}
+use Rattle.sym_short.specs.Shortening.{answers_as}
 use Rattle.sym_command.specs.Command.{Took}
 use Rattle.demangle_command.specs.CommandLine.{AreGiven, AreOptions, names_of, found_in, faults_in}
 use Rattle.demangle_command.specs.Escaping.{answer_by}
 use Rattle.demangle_names.specs.Names.{AnswersNames, NamesFront, status_of}
 use Rattle.demangle_names.specs.Reasons.{said_of_words}
 use Rattle.demangle_command.specs.Styled.{styled_answer}
+use Rattle.demangle_names.specs.Style.{reads_paths}
 use Rattle.demangle_names.specs.declared.options.Options.{Options}
-use Rattle.demangle_names.specs.declared.style.Style.{Style}
 
--- what is answered for symbols, escaped where texts go into JSON
-abbrev pub answers_by : (escapes : Bool) → Style → ℕ → Detail → Answering
-answers_by escapes style limit detail kind symbol = answer_by escapes (styled_answer style limit detail kind symbol)
+-- what is answered for symbols as options ask: their texts, whole or short
+abbrev pub unescaped_of : Options → Answering
+unescaped_of options = answers_as options.texts (reads_paths options.style) (styled_answer options.style options.limit options.detail)
 
--- as options ask
+-- the same, escaped where that is asked
+abbrev pub escaped_by : (escapes : Bool) → Answering → Answering
+escaped_by escapes answers kind symbol = answer_by escapes (answers kind symbol)
+
 abbrev pub answers_of : Options → Answering
-answers_of options = answers_by options.escape options.style options.limit options.detail
+answers_of options = escaped_by options.escape (unescaped_of options)
 
 -- ## An input
 

@@ -3,7 +3,8 @@ use Rattle.std.specs.Prelude.{◌≡◌, List, [], ◌∷◌, Bool, true, Option
 use Rattle.clap.specs.Lexer.{usize_max}
 use Rattle.clap.specs.Words.{Text, Rule, Row, App, Kinds, new_rule, new_app, with_rule, matches_of, fault_of, first_of, all_of}
 use Rattle.clap.specs.declared.builder.action.ArgAction.TheVariants.{Append, Version}
-use Rattle.sym_command.specs.CommandLine.{flag, limit, detail_by, IsFlag, IsLimit}
+use Rattle.sym_short.specs.Shortening.{texts_by}
+use Rattle.sym_command.specs.CommandLine.{flag, limit, detail_by, with_short, IsFlag, IsLimit}
 use Rattle.demangle_names.specs.Style.{IsStyle}
 use Rattle.demangle_command.specs.Texts.{bytes_of}
 use Rattle.demangle_names.specs.declared.style.Style.{Style}
@@ -51,7 +52,7 @@ name_arguments = record (new_rule (codes "NAME")) {
 
 -- with the options on which names have a text, and what of it is shown
 abbrev pub with_texts : App → App
-with_texts app = with_rule (with_rule (with_rule (with_rule (with_rule app no_params) (flag (codes "brief"))) types) limit) style_option
+with_texts app = with_rule (with_rule (with_rule (with_short (with_rule (with_rule app no_params) (flag (codes "brief")))) types) limit) style_option
 
 -- with those on how texts are written, and on what is said of names that are left
 abbrev pub with_reports : App → App
@@ -64,7 +65,8 @@ command_line = record {
     has_version = true;
     disable_version_flag = true;
     args_override_self = true;
-    rules = no_params ∷ flag (codes "brief") ∷ types ∷ limit ∷ style_option ∷ flag (codes "escape") ∷ flag (codes "why") ∷ flag (codes "strict") ∷ version_option ∷ taken_options ∷ name_arguments ∷ [];
+    rules = no_params ∷ flag (codes "brief") ∷ flag (codes "short") ∷ flag (codes "keep-inline") ∷ types ∷ limit ∷ style_option ∷ flag (codes "escape")
+        ∷ flag (codes "why") ∷ flag (codes "strict") ∷ version_option ∷ taken_options ∷ name_arguments ∷ [];
   };
   subs = [];
 }
@@ -83,9 +85,14 @@ IsAskedStyle rows asked = IsAsked (first_of (codes "format") rows) asked
 pub record AreGiven (rows : List Row) (options : Options) : Type 0 where
   pub brief : Bool
   pub no_params : Bool
+  pub short : Bool
+  pub keep_inline : Bool
   pub is_brief : IsFlag rows (codes "brief") brief
   pub is_no_params : IsFlag rows (codes "no-params") no_params
+  pub is_short : IsFlag rows (codes "short") short
+  pub is_keep_inline : IsFlag rows (codes "keep-inline") keep_inline
   pub detail : options.detail ≡ detail_by brief no_params
+  pub texts : options.texts ≡ texts_by short keep_inline
   pub limit : IsLimit rows options.limit
   pub style : IsAskedStyle rows (Some options.style)
   pub escape : IsFlag rows (codes "escape") options.escape

@@ -5,7 +5,8 @@ ghost use Rattle.clap.specs.Words.{found_of, kind_of, rows_of};
 ghost use Rattle.clap.specs.declared.error.kind.ErrorKind.{ErrorKind as ErrorKind-type};
 ghost use Rattle.sym_filter.specs.Streams.{PutsFront, reader_faults, writer_faults};
 ghost use Rattle.sym_command.specs.Command.{Took, Says};
-ghost use Rattle.demangle_command.specs.Command.{answers_of, Ends, Stops, EndsOf, StopsOf, FiltersInput, FiltersInputFront, IsTold, TellsInput, TellsInputFront, is_request, summary_if};
+ghost use Rattle.demangle_command.specs.Command.{unescaped_of, Ends, Stops, EndsOf, StopsOf, FiltersInput, FiltersInputFront, IsTold, TellsInput, TellsInputFront, is_request, summary_if};
+ghost use Rattle.demangle_command.specs.CommandLine.{AreGiven};
 ghost use Rattle.demangle_command.specs.Texts.{texts_of};
 ghost use Rattle.demangle_names.specs.Names.{status_of};
 
@@ -23,6 +24,8 @@ use sym_filter::{
     Demangler, FilterFault, Letters, Sink, Source, Tally, filter_telling, filter_words, write_all,
 };
 use sym_languages::{Languages, Wide};
+use sym_recent::{Alike, Recent};
+use sym_short::{Shortening, Texts};
 
 /// Runs the program over an input and two outputs: writes the line of each name with its symbols replaced, or filters the input where
 /// there is no name. The words are those of the command line, the program's name first, each of any bytes, and the result is the status.
@@ -158,34 +161,30 @@ fn run_found<S: Source, W: Sink, E: Sink>(
     let Some(options) = options_of(matches) else {
         return refuse_style(alloc, matches, err);
     };
-    let demangler = demangler_of(options);
-    let texts = names_of(matches);
-    if texts.is_empty() {
-        return match filter_input(alloc, &demangler, options, input, out, err) {
-            Ok(status) => Ok(status),
-            Err(fault) => Err(fault),
-        };
-    }
-    let names = words_of(alloc, texts)?;
-    let lent = lent_words(alloc, &names)?;
-    match answer_names(alloc, &demangler, options, &lent, out, err) {
-        Ok(one_stays) => Ok(status_of(options.strict, one_stays)),
-        Err(fault) => Err(fault),
+    let styled = styled_of(options);
+    match options.texts {
+        Texts::Whole => run_with(alloc, styled, options, matches, input, out, err),
+        Texts::Short { keeps_inline } => {
+            let short = Shortening {
+                demangler: styled,
+                keeps_inline,
+                reads_paths: options.style.reads_paths(),
+            };
+            run_with(alloc, short, options, matches, input, out, err)
+        }
     }
 }
 
-/// The demangler that options ask for.
-fn demangler_of(options: Options) -> Escaping
-    ensures escapes { result.escapes ≡ options.escape }
-    ensures style { result.styled.style ≡ options.style }
-    ensures limit { result.styled.languages.limit ≡ options.limit }
-    ensures detail { result.styled.languages.detail ≡ options.detail }
+/// The demangler of whole texts that options ask for.
+fn styled_of(options: Options) -> Styled
+    ensures style { result.style ≡ options.style }
+    ensures limit { result.languages.limit ≡ options.limit }
+    ensures detail { result.languages.detail ≡ options.detail }
 {
     let Options {
         limit,
         detail,
         style,
-        escape,
         ..
     } = options;
     let languages = Languages {
@@ -193,9 +192,51 @@ fn demangler_of(options: Options) -> Escaping
         detail,
         cpp: Wide,
     };
-    Escaping {
-        styled: Styled { style, languages },
-        escapes: escape,
+    Styled { style, languages }
+}
+
+/// Does what the command line's parser found, with the demangler that its options ask for, but for escapes.
+fn run_with<D: Alike + Copy + Drop, S: Source, W: Sink, E: Sink>(
+    alloc: Global,
+    demangler: D,
+    options: Options,
+    matches: &ArgMatches<'_>,
+    input: &mut S,
+    out: &mut W,
+    err: &mut E,
+) -> Result<u8, FilterFault>
+    requires in_failures { S.failure_count input.old < 2 ^ 64 - 1 }
+    requires out_failures { W.failure_count out.old < 2 ^ 64 - 1 }
+    requires err_failures { E.failure_count err.old < 2 ^ 64 - 1 }
+    requires given { AreGiven (rows_of (found_of matches.now)) options }
+    requires texts { D.answer demangler ≡ unescaped_of options }
+    ensures ok { IfOk result (EndsOf (rows_of (found_of matches.now)) (S.coming input.old) (S.coming input.new)
+        (W.taken out.old) (W.taken out.new) (E.taken err.old) (E.taken err.new)) }
+    ensures err { OnErr result (StopsOf (rows_of (found_of matches.now)) (S.coming input.old) (S.coming input.new)
+        (W.taken out.old) (W.taken out.new) (E.taken err.old) (E.taken err.new)) }
+    ensures read_failed { S.failure_count input.new ≡ S.failure_count input.old + reader_faults result }
+    ensures write_failed { W.failure_count out.new + E.failure_count err.new
+        ≡ W.failure_count out.old + E.failure_count err.old + writer_faults result }
+{
+    let escaping = Escaping {
+        demangler,
+        escapes: options.escape,
+    };
+    let texts = names_of(matches);
+    if texts.is_empty() {
+        let recent = Recent {
+            demangler: escaping,
+        };
+        return match filter_input(alloc, &recent, options, input, out, err) {
+            Ok(status) => Ok(status),
+            Err(fault) => Err(fault),
+        };
+    }
+    let names = words_of(alloc, texts)?;
+    let lent = lent_words(alloc, &names)?;
+    match answer_names(alloc, &escaping, options, &lent, out, err) {
+        Ok(one_stays) => Ok(status_of(options.strict, one_stays)),
+        Err(fault) => Err(fault),
     }
 }
 

@@ -1,62 +1,58 @@
 // The demangler whose texts may stand within strings of JSON.
 ghost use Rattle.demangle_command.specs.Escaping.{answer_by};
-ghost use Rattle.demangle_command.specs.Styled.{styled_answer};
-ghost use Rattle.sym_languages.specs.Languages.{AreWideCountsOf};
 
-use crate::styled::Styled;
 use demangle_names::push_escaped;
 use std::alloc::{AllocError, Global};
 use sym_core::Refusal;
 use sym_filter::{Demangled, Demangler, Kind, Lang};
-use sym_languages::Wide;
-use sym_languages::languages::Lists;
+use sym_recent::Alike;
 
 /// The lists of the demangler below, and the text of one symbol.
 #[derive(Drop)]
-pub struct EscapingLists {
-    lists: Lists<Wide>,
+pub struct EscapingLists<D: Demangler> {
+    lists: D::Lists,
     text: Vec<u8>,
 }
 
 /// A demangler whose texts may stand within strings of JSON.
 #[derive(Clone, Copy, Drop)]
-pub struct Escaping {
-    pub styled: Styled,
+pub struct Escaping<D> {
+    pub demangler: D,
     /// Whether texts are escaped.
     pub escapes: bool,
 }
 
-impl Demangler for Escaping {
-    type Lists = EscapingLists;
+impl<D: Demangler> Demangler for Escaping<D> {
+    type Lists = EscapingLists<D>;
 
-    ghost answer = { λ escaping kind symbol. answer_by escaping.escapes (styled_answer escaping.styled.style escaping.styled.languages.limit escaping.styled.languages.detail kind symbol) };
+    ghost answer = { λ escaping kind symbol. answer_by escaping.escapes (D.answer escaping.demangler kind symbol) };
 
-    ghost are_counts = { λ escaping lang symbol counts. AreWideCountsOf lang symbol counts };
+    ghost are_counts = { λ escaping lang symbol counts. D.are_counts escaping.demangler lang symbol counts };
 
-    fn lists(&self, alloc: Global) -> Result<EscapingLists, AllocError> {
+    fn lists(&self, alloc: Global) -> Result<EscapingLists<D>, AllocError> {
         Ok(EscapingLists {
-            lists: self.styled.lists(alloc)?,
+            lists: self.demangler.lists(alloc)?,
             text: Vec::new(alloc),
         })
     }
 
-    fn read_ahead(&self, lists: &mut EscapingLists, lang: Lang, front: &[u8]) {
-        self.styled.read_ahead(&mut lists.lists, lang, front);
+    fn read_ahead(&self, lists: &mut EscapingLists<D>, lang: Lang, front: &[u8]) {
+        self.demangler.read_ahead(&mut lists.lists, lang, front);
     }
 
     fn demangle(
         &self,
-        lists: &mut EscapingLists,
+        lists: &mut EscapingLists<D>,
         kind: Kind,
         symbol: &[u8],
         out: &mut Vec<u8>,
     ) -> Demangled {
         if !self.escapes {
-            return self.styled.demangle(&mut lists.lists, kind, symbol, out);
+            return self.demangler.demangle(&mut lists.lists, kind, symbol, out);
         }
         lists.text.clear();
         match self
-            .styled
+            .demangler
             .demangle(&mut lists.lists, kind, symbol, &mut lists.text)
         {
             Demangled::Text(counts) => match push_escaped(&lists.text, out) {
@@ -70,17 +66,17 @@ impl Demangler for Escaping {
 
     fn append(
         &self,
-        lists: &mut EscapingLists,
+        lists: &mut EscapingLists<D>,
         kind: Kind,
         symbol: &[u8],
         out: &mut Vec<u8>,
     ) -> Result<(), Refusal> {
         if !self.escapes {
-            return self.styled.append(&mut lists.lists, kind, symbol, out);
+            return self.demangler.append(&mut lists.lists, kind, symbol, out);
         }
         lists.text.clear();
         match self
-            .styled
+            .demangler
             .append(&mut lists.lists, kind, symbol, &mut lists.text)
         {
             Ok(()) => match push_escaped(&lists.text, out) {
@@ -89,5 +85,11 @@ impl Demangler for Escaping {
             },
             Err(refusal) => Err(refusal),
         }
+    }
+}
+
+impl<D: Alike> Alike for Escaping<D> {
+    fn is_alike(&self, other: &Escaping<D>) -> bool {
+        self.escapes == other.escapes && self.demangler.is_alike(&other.demangler)
     }
 }

@@ -6,7 +6,8 @@ ghost use Rattle.demangle_command.specs.CommandLine.{command_line, no_params, st
 use clap::{Arg, ArgAction, ArgMatches, Command, Error};
 use demangle_names::{Options, Style, style_of};
 use std::alloc::{AllocError, Global};
-use sym_command::{detail_of, flag, has_flag, limit, limit_of, with_flag};
+use sym_command::{detail_of, flag, has_flag, limit, limit_of, with_flag, with_short};
+use sym_short::texts_of;
 
 const VERSION: &str =
     "0.1.0 (C++ by the Itanium ABI 5.1, Rust v0 by RFC 2603, and legacy Rust names)";
@@ -75,6 +76,7 @@ fn with_texts<'a>(alloc: Global, command: Command<'a>) -> Result<Command<'a>, Al
 {
     let command = command.arg(no_params(alloc))?;
     let command = with_flag(alloc, command, "brief", BRIEF)?;
+    let command = with_short(alloc, command)?;
     command
         .arg(types(alloc))?
         .arg(limit(alloc).help(LIMIT))?
@@ -214,6 +216,7 @@ pub(crate) fn options_of(matches: &ArgMatches<'_>) -> Option<Options>
         limit: limit_of(matches),
         detail: detail_of(has_flag(matches, "brief"), has_flag(matches, "no-params")),
         style,
+        texts: texts_of(has_flag(matches, "short"), has_flag(matches, "keep-inline")),
         escape: has_flag(matches, "escape"),
         types: has_flag(matches, "types"),
         why: has_flag(matches, "why"),

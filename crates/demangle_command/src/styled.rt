@@ -8,6 +8,7 @@ use sym_core::Refusal;
 use sym_filter::{Demangled, Demangler, Kind, Lang};
 use sym_languages::languages::Lists;
 use sym_languages::{Languages, Legacy, Wide};
+use sym_recent::Alike;
 
 /// The answer to a symbol that a style leaves out: no symbol of the style begins so.
 const LEFT_OUT: Refusal = Refusal::Malformed { at: 0 };
@@ -66,5 +67,13 @@ impl Demangler for Styled {
             return Legacy { languages }.append(lists, kind, symbol, out);
         }
         languages.append(lists, kind, symbol, out)
+    }
+}
+
+impl Alike for Styled {
+    fn is_alike(&self, other: &Styled) -> bool {
+        self.style == other.style
+            && self.languages.limit == other.languages.limit
+            && self.languages.detail == other.languages.detail
     }
 }

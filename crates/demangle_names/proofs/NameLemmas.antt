@@ -17,17 +17,17 @@ use Rattle.sym_core.specs.declared.refusal.Refusal.TheVariants.{Memory}
 use Rattle.sym_command.specs.Lines.{reason_of}
 use Rattle.demangle_names.specs.Names.{FiltersSome, filtered, LineFront, NameFront, NameFrontBy, NamesFront, line_of, name_stays, reason_by, said_for, said_if, said_of, stays_by, stays_for, written_for}
 
--- what each of some items brings, with one item more
+-- what some items and one item more bring, one after the other
 pub flat-more : (f : List ℕ → List ℕ) (names all : List (List ℕ)) (name : List ℕ) → all ≡ names ++ name ∷ [] → flat_map f all ≡ flat_map f names ++ f name
 flat-more f names all name e = ap (flat_map f) e ∙ flat_map-append f names (name ∷ []) ∙ ap (λ (t : List ℕ). flat_map f names ++ t) (append-nil (f name))
 
 -- ## A name
 
--- what was known of its line as it was filtered is known of its name
+-- what is known of a filtered line is known of the name that it is the line of
 pub stays-line : (answers : Answering) (name line : List ℕ) (tally : Tally) (left : Bool) → line ≡ line_of name → tally ≡ tally_at Within answers line → left ≡ stays_by tally → left ≡ name_stays answers name
 stays-line answers name line tally left e counted is = is ∙ ap stays_by (counted ∙ ap (tally_at Within answers) e)
 
--- its line was filtered in part, and nothing was said
+-- the line was filtered in part, and nothing was said of the name
 pub name-filtered-front : (answers : Answering) (why : Bool) (name line : List ℕ) (out out' err : Option (List ℕ)) → line ≡ line_of name → FiltersSome answers line out out' → Took out out' err err (LineFront answers why name)
 name-filtered-front answers why name line out out' err e some = record {
   lines = some.puts.gone;
@@ -42,7 +42,7 @@ name-filtered-front answers why name line out out' err e some = record {
   };
 }
 
--- it was filtered whole, and some was said
+-- the line was filtered whole, and a beginning of what is said was written
 pub name-said-front : (answers : Answering) (why left : Bool) (name line : List ℕ) (out out' err err' : Option (List ℕ)) → line ≡ line_of name → Appends out out' (filtered answers line) → left ≡ name_stays answers name
     → PutsFront err err' [] (said_if (why && left) answers name) → Took out out' err err' (LineFront answers why name)
 name-said-front answers why left name line out out' err err' e wrote is says = record {
@@ -58,7 +58,7 @@ name-said-front answers why left name line out out' err err' e wrote is says = r
   };
 }
 
--- nothing was written
+-- no byte was written
 pub name-nothing : (answers : Answering) (why : Bool) (name : List ℕ) (out err : Option (List ℕ)) → Took out out err err (LineFront answers why name)
 name-nothing answers why name out err = record {
   lines = [];
@@ -73,7 +73,7 @@ name-nothing answers why name out err = record {
   };
 }
 
--- why it stays, where its symbol is refused
+-- why a name stays whose symbol is refused
 pub why-refused : {A E : Type 0} (bytes : A → List ℕ) (result : Result A E) (refusal : Refusal) (answer : Option (Result (List ℕ) Refusal)) → (refusal ≢ Memory → answer ≡ Some (Err refusal))
     → IfOk result (λ text. bytes text ≡ reason_of refusal) → OnOk result (refusal ≢ Memory) → IfOk result (λ text. bytes text ≡ reason_by answer)
 why-refused bytes (Ok text) refusal answer is said known = said ∙ ap reason_by (sym (is known))
@@ -82,12 +82,12 @@ why-refused bytes (Err e) refusal answer is said known = tt
 -- ## A name that may be a type
 
 module _ (answers : Answering) (why : Bool) (name : List ℕ) where
-  -- it is none
+  -- the name is no type
   pub line-front : {A E : Type 0} (type : Option (List ℕ)) (out out' err err' : Option (List ℕ)) (result : Result A E) → type ≡ None → OnErr result (Took out out' err err' (LineFront answers why name))
       → OnErr result (Took out out' err err' (NameFrontBy type answers why name))
   line-front type out out' err err' result none took = subst (λ (t : Option (List ℕ)). OnErr result (Took out out' err err' (NameFrontBy t answers why name))) (sym none) took
 
-  -- nothing was written
+  -- no byte was written
   pub nothing-front : (type : Option (List ℕ)) (out err : Option (List ℕ)) → Took out out err err (NameFrontBy type answers why name)
   nothing-front None out err = name-nothing answers why name out err
   nothing-front (Some text) out err = record { lines = []; said = []; to_out = Appends-none out; to_err = Appends-none err; held = ((line_of text, refl), refl) }
@@ -108,7 +108,7 @@ module _ (answers : Answering) (types why : Bool) where
   pub SoFar-begin : (out err : Option (List ℕ)) → SoFar answers types why [] false out out err err
   SoFar-begin out err = record { to_out = Appends-none out; to_err = Appends-none err; stay = refl }
 
-  -- a name more
+  -- one name more
   pub SoFar-more : (names all : List (List ℕ)) (name : List ℕ) (old new left : Bool) (out mid out' err mid' err' : Option (List ℕ)) → SoFar answers types why names old out mid err mid' → all ≡ names ++ name ∷ []
       → Appends mid out' (written_for types answers name) → Appends mid' err' (said_for types why answers name) → left ≡ stays_for types answers name → new ≡ (old || left) → SoFar answers types why all new out out' err err'
   SoFar-more names all name old new left out mid out' err mid' err' so_far e wrote says is chosen =
@@ -120,7 +120,7 @@ module _ (answers : Answering) (types why : Bool) where
         stay = chosen ∙ ap₂ (λ (a b : Bool). a || b) so_far.stay is ∙ one-more (list_any stays names) (stays name) ∙ sym (ap (list_any stays) e ∙ list_any-append stays names (name ∷ []));
       }
 
-  -- a part of a name more
+  -- a part of one name more
   pub SoFar-stopped : (names rest all : List (List ℕ)) (name : List ℕ) (one_stays : Bool) (out mid out' err mid' err' : Option (List ℕ)) → SoFar answers types why names one_stays out mid err mid' → all ≡ names ++ name ∷ rest
       → Took mid out' mid' err' (NameFront answers types why name) → Took out out' err err' (NamesFront answers types why all)
   SoFar-stopped names rest all name one_stays out mid out' err mid' err' so_far e front =

@@ -1,4 +1,4 @@
--- What is written for names, and what is said of those that stay.
+-- What is written for names, and what is said of names that stay.
 use Rattle.std.specs.Prelude.{◌≡◌, ℕ, List, [], ◌∷◌, ◌++◌, Bool, true, false, not, ◌==◌, ◌||◌, ◌&&◌, Option, Some, None, Result, Ok, Err, codes, if◌then◌else◌}
 use Rattle.std.specs.List.{flat_map, list_any}
 use Rattle.sym_core.specs.declared.refusal.Refusal.{Refusal}
@@ -13,7 +13,7 @@ use Rattle.type_names.specs.Types.{type_for}
 abbrev pub filtered : Answering → List ℕ → List ℕ
 filtered answers text = filtered_at Within answers text
 
--- the line that a name makes
+-- the line of a name
 abbrev pub line_of : List ℕ → List ℕ
 line_of name = name ++ 10 ∷ []
 
@@ -24,7 +24,7 @@ stays_by tally = not (tally.refused == 0) || (tally.replaced == 0)
 abbrev pub name_stays : Answering → List ℕ → Bool
 name_stays answers name = stays_by (tally_at Within answers (line_of name))
 
--- why a name stays, by what is answered for it as a symbol
+-- why a name stays, by the answer for it as a symbol
 abbrev pub reason_by : Option (Result (List ℕ) Refusal) → List ℕ
 reason_by None = codes "not a symbol"
 reason_by (Some (Ok text)) = codes "not a symbol"
@@ -34,7 +34,7 @@ reason_by (Some (Err refusal)) = reason_of refusal
 abbrev pub said_line : List ℕ → List ℕ → List ℕ
 said_line name reason = codes "demangle: " ++ name ++ codes ": " ++ reason ++ 10 ∷ []
 
--- where it is asked for
+-- that line where it is requested, otherwise nothing
 abbrev pub said_if : Bool → Answering → List ℕ → List ℕ
 said_if true answers name = said_line name (reason_by (answer_for answers name))
 said_if false answers name = []
@@ -44,12 +44,12 @@ said_of why answers name = said_if (why && name_stays answers name) answers name
 
 -- ## Names, which may be types
 
--- what is written for a name: the line of its type's text, where it is a type, or its own line filtered
+-- what is written for a name: if it is a type, the line of the type's text; otherwise its own line, filtered
 abbrev pub written_by : Option (List ℕ) → Answering → List ℕ → List ℕ
 written_by (Some text) answers name = line_of text
 written_by None answers name = filtered answers (line_of name)
 
--- whether it stays, as no type does
+-- whether the name stays; a type never does
 abbrev pub stays_by_type : Option (List ℕ) → Answering → List ℕ → Bool
 stays_by_type (Some text) answers name = false
 stays_by_type None answers name = name_stays answers name
@@ -60,11 +60,11 @@ written_for types answers name = written_by (type_for types answers name) answer
 abbrev pub stays_for : (types : Bool) → Answering → List ℕ → Bool
 stays_for types answers name = stays_by_type (type_for types answers name) answers name
 
--- what is said of it
+-- what is said of a name
 abbrev pub said_for : (types why : Bool) → Answering → List ℕ → List ℕ
 said_for types why answers name = said_if (why && stays_for types answers name) answers name
 
--- names are answered one by one, and it is said why those stay that do, where that is asked
+-- Names are answered one by one, and for each name that stays it is said why, where that is requested.
 pub record AnswersNames (answers : Answering) (types why : Bool) (names : List (List ℕ)) (one_stays : Bool) (lines said : List ℕ) : Type 0 where
   pub are_lines : lines ≡ flat_map (written_for types answers) names
   pub is_said : said ≡ flat_map (said_for types why answers) names
@@ -72,14 +72,14 @@ pub record AnswersNames (answers : Answering) (types why : Bool) (names : List (
 
 -- ## Up to a fault
 
--- of a name that is no type a beginning of its line was filtered, and a beginning of that was written
+-- for a name that is no type, a beginning of its line was filtered, and a beginning of that was written
 pub record LineFront (answers : Answering) (why : Bool) (name : List ℕ) (lines said : List ℕ) : Type 0 where
   pub text : List ℕ
   pub text_begins : BeginsWith (line_of name) text
   pub lines_begin : BeginsWith (filtered answers text) lines
   pub said_begins : BeginsWith (said_of why answers name) said
 
--- of a type's line a beginning was written
+-- for a type, a beginning of its line was written
 abbrev pub NameFrontBy : Option (List ℕ) → Answering → (why : Bool) → (name lines said : List ℕ) → Type 0
 NameFrontBy (Some text) answers why name lines said = BeginsWith (line_of text) lines × (said ≡ [])
 NameFrontBy None answers why name lines said = LineFront answers why name lines said
@@ -87,7 +87,7 @@ NameFrontBy None answers why name lines said = LineFront answers why name lines 
 abbrev pub NameFront : Answering → (types why : Bool) → (name lines said : List ℕ) → Type 0
 NameFront answers types why name lines said = NameFrontBy (type_for types answers name) answers why name lines said
 
--- some names were answered whole, and the next in part
+-- the first names were answered whole, and the next one in part
 pub record NamesFront (answers : Answering) (types why : Bool) (names : List (List ℕ)) (lines said : List ℕ) : Type 0 where
   pub whole : List (List ℕ)
   pub next : List ℕ
@@ -105,6 +105,6 @@ pub record FiltersSome (answers : Answering) (whole : List ℕ) (taken taken' : 
   pub begins : BeginsWith whole text
   pub puts : PutsFront taken taken' [] (filtered answers text)
 
--- the status: 1 where something stays that may not
+-- the status: 1 where a name stays and none may
 abbrev pub status_of : (strict one_stays : Bool) → ℕ
 status_of strict one_stays = if strict && one_stays then 1 else 0

@@ -1,4 +1,4 @@
--- Laws of what is said of entries, which a report is given one after the other.
+-- Laws of what is said of entries, which a report takes one after the other.
 use Rattle.std.proofs.Common.{◌≡◌, ◌∙◌, ◌+◌, ◌<◌, ℕ, Bool, true, false, cond, eqb, List, [], ◌∷◌, ◌++◌, Option, refl, sym, ap, subst, append_assoc, get_or, length, take}
 use Rattle.std.specs.Prelude.{Result, Ok, Err, IfErr, OnErr}
 use Rattle.std.specs.Io.KnownBytes.{Appends}
@@ -60,7 +60,7 @@ untold-later answers answers' line line' said said' said'' entries more h i =
       begins = (i.begins.0, said-both answers line entries more ∙ ap (λ (t : List ℕ). first ++ t) (sym next ∙ i.begins.1) ∙ sym (append_assoc first i.gone i.begins.0));
     }
 
--- a byte more of a text
+-- one more byte of a text
 pub line-more : (line : ℕ) (bytes : List ℕ) (i : ℕ) → i < length bytes → line_after line (newlines_in (take (i + 1) bytes)) ≡ line_after (line_after line (newlines_in (take i bytes))) (newline_of (get_or bytes i 0))
 line-more line bytes i h =
     let byte = get_or bytes i 0 in
@@ -68,7 +68,7 @@ line-more line bytes i h =
     ∙ ap (line_after line) (newlines-append (take i bytes) (byte ∷ []) ∙ ap (λ (t : List Entry). newlines_in (take i bytes) ++ t) (newlines-byte byte))
     ∙ line-both line (newlines_in (take i bytes)) (newline_of byte)
 
--- of newlines nothing is said
+-- nothing is said of newlines
 pub silent : (answers : Answering) (bytes : List ℕ) (line : ℕ) → said_from answers line (newlines_in bytes) ≡ []
 silent answers [] line = refl
 silent answers (byte ∷ bytes) line = ap (said_from answers line) (newlines-cons byte bytes) ∙ step (eqb byte 10) (silent answers bytes)
@@ -98,7 +98,7 @@ untold-word answers line said said' word subject is h =
 pub untold-none : (answers : Answering) (line : ℕ) (said : Option (List ℕ)) (entries : List Entry) → Untold answers line said said entries
 untold-none answers line said entries = PutsFront-none said [] (said_from answers line entries)
 
--- what holds of a fault, and after it
+-- what holds of a fault and of the text after it
 pub err-both : {T E : Type 0} (r : Result T E) (P : E → Type 0) (Q R : Type 0) → (Q → R) → IfErr r P → OnErr r Q → IfErr r (λ e. P e × R)
 err-both (Ok x) P Q R f h i = tt
 err-both (Err e) P Q R f h i = (h, f i)

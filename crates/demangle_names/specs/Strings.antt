@@ -1,9 +1,10 @@
--- Strings in a line of JSON: where they begin and end, and what their bytes mean; and what holds of escaped texts within them.
+-- Strings in a line of JSON: where they begin and end, and what their bytes mean. And the laws of escaped texts within
+-- them.
 use Rattle.std.specs.Prelude.{◌≡◌, ◌≢◌, ℕ, List, [], ◌∷◌, ◌++◌, ◌==◌, if◌then◌else◌}
 use Rattle.std.specs.List.{All}
 use Rattle.demangle_names.specs.Escaped.{escaped}
 
--- where a byte of the line is: outside of strings, within one, or after a backslash within one
+-- where a byte of the line is: outside of strings, within a string, or after a backslash within one
 pub data Place : Type 0 where
   outside : Place
   within : Place
@@ -15,7 +16,7 @@ after_byte outside byte = if byte == 34 then within else outside
 after_byte within byte = if byte == 34 then outside else (if byte == 92 then escaping else within)
 after_byte escaping byte = within
 
--- where the byte behind some bytes is
+-- where the byte after some bytes is
 abbrev pub after_bytes : Place → List ℕ → Place
 after_bytes place [] = place
 after_bytes place (byte ∷ bytes) = after_bytes (after_byte place byte) bytes
@@ -31,15 +32,15 @@ unescaped escaping (byte ∷ bytes) = byte ∷ unescaped within bytes
 abbrev pub ReadsBack : Type 0
 ReadsBack = (text : List ℕ) → unescaped within (escaped text) ≡ text
 
--- an escaped text ends no string, and what comes behind it isn't escaped by it
+-- an escaped text ends no string, and doesn't escape the byte after it
 abbrev pub StaysWithin : Type 0
 StaysWithin = (text : List ℕ) → after_bytes within (escaped text) ≡ within
 
--- a byte that is neither a quote nor a backslash, as each byte of a word
+-- a byte that is neither a quote nor a backslash, as each byte of a word is
 abbrev pub IsPlain : ℕ → Type 0
 IsPlain byte = (byte ≢ 34) × (byte ≢ 92)
 
--- Where a word within a string is replaced by an escaped text, the line goes on where it did.
+-- A line in which an escaped text replaces a word of a string continues where the line did.
 abbrev pub KeepsStrings : Type 0
 KeepsStrings = (front word back text : List ℕ) → after_bytes outside front ≡ within → All IsPlain word →
     after_bytes outside (front ++ escaped text ++ back) ≡ after_bytes outside (front ++ word ++ back)

@@ -5,7 +5,8 @@ ghost use Rattle.demangle_names.specs.Strings.{KeepsStrings, ReadsBack, StaysWit
 
 use std::alloc::AllocError;
 
-/// Appends a text as a string of JSON has it, or nothing: with a backslash before each quote and backslash.
+/// Appends a text as a string of JSON has it: with a backslash before each quote and backslash. Appends nothing where
+/// memory runs out.
 pub fn push_escaped(text: &[u8], out: &mut Vec<u8>) -> Result<(), AllocError>
     ensures pushed { OnOk result (out.new.items ≡ out.old.items ++ escaped text.now) }
     ensures same { OnErr result (out.new.items ≡ out.old.items) }
@@ -20,7 +21,7 @@ pub fn push_escaped(text: &[u8], out: &mut Vec<u8>) -> Result<(), AllocError>
     Ok(())
 }
 
-/// Appends a byte as a string of JSON has it, or a front of that.
+/// Appends a byte as a string of JSON has it. Where memory runs out, only a beginning of that may be appended.
 fn push_byte(byte: u8, out: &mut Vec<u8>) -> Result<(), AllocError>
     ensures pushed { OnOk result (out.new.items ≡ out.old.items ++ escaped_byte byte) }
     ensures front { OnErr result ((front : List ℕ) × (out.new.items ≡ out.old.items ++ front)) }
@@ -37,12 +38,12 @@ pub fn escaped_reads_back()
     ensures { ReadsBack }
 {}
 
-/// An escaped text ends no string, and its last backslash escapes nothing that comes behind it.
+/// An escaped text ends no string, and its last backslash doesn't escape the byte after it.
 pub fn escaped_stays_within()
     ensures { StaysWithin }
 {}
 
-/// A line of JSON with a word of a string replaced by an escaped text has its other strings where they were.
+/// A line of JSON in which an escaped text replaces a word of a string has its other strings where they were.
 pub fn replaced_keeps_strings()
     ensures { KeepsStrings }
 {}

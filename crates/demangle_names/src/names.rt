@@ -15,8 +15,8 @@ use sym_filter::{
 };
 use type_names::type_for;
 
-/// Writes the text of each name that is a type, where types are read, and the line of each other one with its symbols replaced; and why
-/// one stays where that is asked. Answers whether one stays.
+/// Writes for each name the text of its type, if types are read and it is one, or else its line with the symbols
+/// replaced. Says why a name stays, if that is requested. Answers whether any name stays.
 ///
 /// # Errors
 ///
@@ -49,7 +49,7 @@ pub fn answer_names<D: Demangler, W: Sink, E: Sink>(
     Ok(one_stays)
 }
 
-/// Writes what stands for a name, and why it stays where it does and that is asked. Answers whether it stays.
+/// Writes what replaces a name, and why the name stays, if it does and that is requested. Answers whether it stays.
 fn answer_name<D: Demangler, W: Sink, E: Sink>(
     alloc: Global,
     demangler: &D,
@@ -95,7 +95,8 @@ fn write_line<W: Sink>(out: &mut W, text: Vec<u8>) -> Result<(), FilterFault>
     }
 }
 
-/// Writes the line of a name with its symbols replaced, and why it stays where it does and that is asked. Answers whether it stays.
+/// Writes the line of a name with its symbols replaced, and why the name stays, if it does and that is requested.
+/// Answers whether it stays.
 fn answer_line<D: Demangler, W: Sink, E: Sink>(
     alloc: Global,
     demangler: &D,
@@ -156,14 +157,14 @@ fn filter_line<D: Demangler, W: Sink>(
         Ok(tally) => Ok(tally),
         Err(fault) => match fault {
             FilterFault::Write => Err(FilterFault::Write),
-            // a list is read without fail
+            // reading from a list never fails
             FilterFault::Read => Err(FilterFault::Memory),
             FilterFault::Memory => Err(FilterFault::Memory),
         },
     }
 }
 
-/// Whether a text stays: a word in it has no text, or it has no word.
+/// Whether a text stays: a word in it has no text, or there is no word in it.
 fn stays_by(tally: Tally) -> bool
     ensures { result ≡ stays_by tally }
 {

@@ -1,6 +1,7 @@
-// What is asked of names.
+// What is requested for names.
 use crate::style::Style;
 use sym_print::Detail;
+use sym_short::Texts;
 
 /// How names are answered.
 #[derive(Clone, Copy, Debug, PartialEq, Eq)]
@@ -9,12 +10,14 @@ pub struct Options {
     pub limit: u32,
     pub detail: Detail,
     pub style: Style,
-    /// Whether texts are escaped as within strings of JSON.
+    /// Which texts of C++ symbols are written.
+    pub texts: Texts,
+    /// Whether texts are escaped for strings of JSON.
     pub escape: bool,
     /// Whether names are read as types, too.
     pub types: bool,
     /// Whether it is said why a name stays.
     pub why: bool,
-    /// Whether the status is 1 where one stays.
+    /// Whether the status is 1 where a name stays.
     pub strict: bool,
 }

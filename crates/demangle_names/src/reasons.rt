@@ -11,10 +11,10 @@ use std::alloc::{AllocError, Global};
 use sym_command::reason;
 use sym_filter::{Demangler, FilterFault, Report, Sink, kind_of, write_all};
 
-/// Why a name stays that is no symbol.
+/// The reason why a name stays that is no symbol.
 const NO_SYMBOL: &str = "not a symbol";
 
-/// Says why a name stays, where that is asked.
+/// Says why a name stays, if that is requested.
 pub(crate) fn say_why<D: Demangler, E: Sink>(
     alloc: Global,
     demangler: &D,
@@ -34,7 +34,7 @@ pub(crate) fn say_why<D: Demangler, E: Sink>(
     say_reason(alloc, demangler, name, name, err)
 }
 
-/// Says why a name stays, of what is said to be it: the name, or the name with its place.
+/// Says why a name stays. The line begins with `subject`: the name, or the name after the number of its line.
 fn say_reason<D: Demangler, E: Sink>(
     alloc: Global,
     demangler: &D,
@@ -70,7 +70,7 @@ fn said_line(alloc: Global, name: &[u8], reason: &str) -> Result<Vec<u8>, AllocE
     Ok(line)
 }
 
-/// Why a name stays, by what is answered for it as a symbol.
+/// Why a name stays, by the answer for it as a symbol.
 fn reason_why<D: Demangler>(alloc: Global, demangler: &D, name: &[u8]) -> Result<String, AllocError>
     ensures { IfOk result (λ text. string_bytes text ≡ reason_by (answer_for (D.answer demangler.now) name.now)) }
 {
@@ -85,7 +85,7 @@ fn reason_why<D: Demangler>(alloc: Global, demangler: &D, name: &[u8]) -> Result
     }
 }
 
-/// A report that says of each word of a text which is left in which line it is, and why it stays.
+/// A report that says for each word that is left of a text why it stays, and in which line it is.
 #[derive(Drop)]
 pub struct Reasons<'r, D: Demangler, E: Sink> {
     alloc: Global,
@@ -96,7 +96,7 @@ pub struct Reasons<'r, D: Demangler, E: Sink> {
 }
 
 impl<'r, D: Demangler, E: Sink> Reasons<'r, D, E> {
-    /// A report of a text from its beginning on.
+    /// A report that begins with the text.
     pub fn new(alloc: Global, demangler: &'r D, err: &'r mut E) -> Reasons<'r, D, E>
         ensures demangler { result.demangler.now ≡ demangler.now }
         ensures same_reference { result.err.ghost_name ≡ err.entry.ghost_name }
@@ -112,7 +112,7 @@ impl<'r, D: Demangler, E: Sink> Reasons<'r, D, E> {
     }
 }
 
-/// A word with its line before it.
+/// A word after the number of its line.
 fn placed(alloc: Global, line: u64, word: &[u8]) -> Result<Vec<u8>, AllocError>
     ensures { IfOk result (λ subject. subject.items ≡ placed line word.now) }
 {
@@ -122,7 +122,7 @@ fn placed(alloc: Global, line: u64, word: &[u8]) -> Result<Vec<u8>, AllocError>
     Ok(subject)
 }
 
-/// The line in which a text is after bytes, where it was in such a line before them.
+/// The number of the line after some bytes of a text.
 fn line_after(line: u64, bytes: &[u8]) -> u64
     ensures { result ≡ line_after line (newlines_in bytes.now) }
 {
@@ -133,7 +133,7 @@ fn line_after(line: u64, bytes: &[u8]) -> u64
     here
 }
 
-/// The line after a byte.
+/// The number of the line after a byte.
 fn next_line(line: u64, byte: u8) -> u64
     ensures { result ≡ line_after line (newline_of byte) }
 {

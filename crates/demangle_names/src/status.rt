@@ -2,13 +2,13 @@
 ghost use Rattle.std.specs.Prelude.{◌≡◌};
 ghost use Rattle.demangle_names.specs.Names.{status_of};
 
-/// The status where the command line did what it asks.
+/// The status of a command line that did what was requested.
 pub const DONE: u8 = 0;
 
-/// The status where a name is left, and none may be.
+/// The status where a name stays and none may.
 const LEFT: u8 = 1;
 
-/// The status where a name is left, or none.
+/// The status where a name stays, or none does.
 pub fn status_of(strict: bool, one_stays: bool) -> u8
     ensures { result ≡ status_of strict one_stays }
 {

@@ -7,6 +7,7 @@ mod mangling;
 mod short_way;
 mod wide;
 mod wide_symbol;
+mod writer;
 
 pub use cpp_layout::{
     Adjustment, Detail, Node, Signed, Symbol, Thunk, equal_trees_have_equal_views,
@@ -19,6 +20,7 @@ pub use sym_core::Counts;
 pub use sym_demangle::{each_has_an_answer, each_refusal_has_a_reason, one_answer, read_answers};
 pub use sym_shape::Reader;
 pub use wide_symbol::WideSymbol;
+pub use writer::Writer;
 
 /// Links a symbol.
 pub type Linker = sym_demangle::Linker<Abi>;

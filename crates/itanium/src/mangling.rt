@@ -20,7 +20,7 @@ ghost use Rattle.itanium.specs.Whole.{HasWhole};
 
 use crate::grammar::Abi;
 use crate::short_way::write;
-use cpp_direct::Direct;
+use crate::writer::Writer;
 use cpp_layout::{Context, Detail, Symbol};
 use cpp_link::linked::Linked;
 use cpp_link::part::Part;
@@ -82,7 +82,7 @@ impl Mangling for Abi {
 
     type Symbol = Symbol;
 
-    type Direct = Direct;
+    type Direct = Writer;
 
     ghost Whole = { Term };
 
@@ -100,7 +100,7 @@ impl Mangling for Abi {
 
     ghost are_nodes = { are_nodes };
 
-    ghost written = { λ direct. direct.text.list.items };
+    ghost written = { λ direct. direct.lists.text.list.items };
 
     ghost count_of = { node_count };
 
@@ -147,21 +147,21 @@ impl Mangling for Abi {
         bytes
     }
 
-    fn direct(alloc: Global) -> Direct {
-        Direct::new(alloc)
+    fn direct(alloc: Global) -> Writer {
+        Writer::new(alloc)
     }
 
     #[inline(always)]
-    fn write(direct: &mut Direct, symbol: &[u8], limit: u32) -> bool
+    fn write(direct: &mut Writer, symbol: &[u8], limit: u32) -> bool
         requires { FitsSymbol symbol.now }
-        ensures { result ≡ true → IsAnswer details.Full symbol.now limit (Ok direct.new.text.list.items) }
+        ensures { result ≡ true → IsAnswer details.Full symbol.now limit (Ok direct.new.lists.text.list.items) }
     {
         write(direct, symbol, limit, false, Detail::Full)
     }
 
     #[inline(always)]
-    fn text(direct: &Direct) -> &[u8]
-        ensures { result.now ≡ direct.now.text.list.items }
+    fn text(direct: &Writer) -> &[u8]
+        ensures { result.now ≡ direct.now.lists.text.list.items }
     {
         direct.text()
     }

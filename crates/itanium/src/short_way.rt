@@ -7,7 +7,8 @@ ghost use Rattle.cpp_direct.specs.WriterInvariant.{IsShown, IsWhole};
 ghost use Rattle.cpp_direct.specs.Symbol.{mangled_by, symbol_as, symbol_by};
 ghost use Rattle.cpp_direct.specs.MidStep.{IsFresh};
 
-use cpp_direct::{Direct, Grammar, Shown, Step, are_name_bytes};
+use crate::writer::Writer;
+use cpp_direct::{Grammar, Shown, Step, are_name_bytes};
 use sym_print::Detail;
 
 /// The longest symbol that is written this way, in bytes: with its lists, which take at most some 70 bytes for each of its
@@ -34,130 +35,110 @@ const ROUNDS_A_BYTE: usize = 8;
 /// shown only by its name. Arguments that aren't shown are written, too, and left out at the end.
 // inlined at each call, which knows the detail and mostly the grammar: so the steps of the others aren't there
 #[inline(always)]
-pub fn write(direct: &mut Direct, s: &[u8], limit: u32, is_wide: bool, detail: Detail) -> bool
+pub fn write(writer: &mut Writer, s: &[u8], limit: u32, is_wide: bool, detail: Detail) -> bool
     requires { FitsSymbol s.now }
-    ensures answer { result ≡ true → IsAnswer (mangled_by is_wide) detail s.now limit (Ok direct.new.text.list.items) }
-    ensures bytes { length direct.new.text.list.items ≤ 8 * length s.now + 1024 }
-    ensures candidates { length direct.new.candidates.list.items ≤ length s.now }
-    ensures waiting { length direct.new.waiting.list.items ≤ length s.now }
-    ensures rounds { direct.new.rounds ≤ 8 * length s.now }
+    ensures answer { result ≡ true → IsAnswer (mangled_by is_wide) detail s.now limit (Ok writer.new.lists.text.list.items) }
+    ensures bytes { length writer.new.lists.text.list.items ≤ 8 * length s.now + 1024 }
+    ensures candidates { length writer.new.lists.candidates.list.items ≤ length s.now }
+    ensures waiting { length writer.new.lists.waiting.list.items ≤ length s.now }
+    ensures rounds { writer.new.rounds ≤ writer.old.rounds + 8 * length s.now }
 {
     let bytes = BYTES_A_BYTE * s.len() + BYTES_ANYWAY;
     let most = bytes.min(limit as usize / 4) as u32;
-    direct.restart(s, most);
-    let mut rounds = 0;
-    if run_by(direct, s, most, is_wide, detail, &mut rounds) {
-        direct.forget(rounds);
+    writer.restart(s, most);
+    if run_by(writer, s, most, is_wide, detail) {
+        writer.forget();
         return true;
     }
-    direct.restart(s, 0);
-    direct.forget(rounds);
+    writer.restart(s, 0);
+    writer.forget();
     false
 }
 
 /// Writes the text of a symbol that is shown only in part, as `write` does.
 #[inline(never)]
-pub fn write_less(direct: &mut Direct, s: &[u8], limit: u32, is_wide: bool, detail: Detail) -> bool
+pub fn write_less(writer: &mut Writer, s: &[u8], limit: u32, is_wide: bool, detail: Detail) -> bool
     requires { FitsSymbol s.now }
-    ensures { result ≡ true → IsAnswer (mangled_by is_wide) detail s.now limit (Ok direct.new.text.list.items) }
+    ensures answer { result ≡ true → IsAnswer (mangled_by is_wide) detail s.now limit (Ok writer.new.lists.text.list.items) }
+    ensures bytes { length writer.new.lists.text.list.items ≤ 8 * length s.now + 1024 }
+    ensures candidates { length writer.new.lists.candidates.list.items ≤ length s.now }
+    ensures waiting { length writer.new.lists.waiting.list.items ≤ length s.now }
+    ensures rounds { writer.new.rounds ≤ writer.old.rounds + 8 * length s.now }
 {
-    write(direct, s, limit, is_wide, detail)
+    write(writer, s, limit, is_wide, detail)
 }
 
-/// Takes steps up to the end of a symbol, and counts them.
+/// Takes steps up to the end of a symbol.
 #[inline(always)]
-fn run_by(
-    direct: &mut Direct,
-    s: &[u8],
-    most: u32,
-    is_wide: bool,
-    detail: Detail,
-    rounds: &mut usize,
-) -> bool
+fn run_by(writer: &mut Writer, s: &[u8], most: u32, is_wide: bool, detail: Detail) -> bool
     requires fits { FitsSymbol s.now }
-    requires fresh { IsFresh direct.old }
-    requires none { rounds.old ≡ 0 }
-    ensures shown { result ≡ true → IsShown (symbol_as is_wide detail s.now) most direct.new.text.list.items }
-    ensures within { result ≡ true → length direct.new.text.list.items ≤ most }
-    ensures rounds { rounds.new ≤ 8 * length s.now }
+    requires fresh { IsFresh writer.old.lists }
+    ensures shown { result ≡ true → IsShown (symbol_as is_wide detail s.now) most writer.new.lists.text.list.items }
+    ensures within { result ≡ true → length writer.new.lists.text.list.items ≤ most }
+    ensures rounds { writer.new.rounds ≤ writer.old.rounds + 8 * length s.now }
 {
     if is_wide {
-        return run_as::<true>(direct, s, most, detail, rounds);
+        return run_as::<true>(writer, s, most, detail);
     }
-    run_as::<false>(direct, s, most, detail, rounds)
+    run_as::<false>(writer, s, most, detail)
 }
 
 /// Likewise by the wide grammar or by that of the ABI.
 #[inline(always)]
-fn run_as<const WIDE: bool>(
-    direct: &mut Direct,
-    s: &[u8],
-    most: u32,
-    detail: Detail,
-    rounds: &mut usize,
-) -> bool
+fn run_as<const WIDE: bool>(writer: &mut Writer, s: &[u8], most: u32, detail: Detail) -> bool
     requires fits { FitsSymbol s.now }
-    requires fresh { IsFresh direct.old }
-    requires none { rounds.old ≡ 0 }
-    ensures shown { result ≡ true → IsShown (symbol_as WIDE detail s.now) most direct.new.text.list.items }
-    ensures within { result ≡ true → length direct.new.text.list.items ≤ most }
-    ensures rounds { rounds.new ≤ 8 * length s.now }
+    requires fresh { IsFresh writer.old.lists }
+    ensures shown { result ≡ true → IsShown (symbol_as WIDE detail s.now) most writer.new.lists.text.list.items }
+    ensures within { result ≡ true → length writer.new.lists.text.list.items ≤ most }
+    ensures rounds { writer.new.rounds ≤ writer.old.rounds + 8 * length s.now }
 {
     match detail {
-        Detail::Full => run::<Shown<WIDE, false, false>>(direct, s, most, rounds),
-        Detail::NoParameters => run::<Shown<WIDE, true, false>>(direct, s, most, rounds),
-        Detail::Brief => run::<Shown<WIDE, false, true>>(direct, s, most, rounds),
-        Detail::BriefNoParameters => run::<Shown<WIDE, true, true>>(direct, s, most, rounds),
+        Detail::Full => run::<Shown<WIDE, false, false>>(writer, s, most),
+        Detail::NoParameters => run::<Shown<WIDE, true, false>>(writer, s, most),
+        Detail::Brief => run::<Shown<WIDE, false, true>>(writer, s, most),
+        Detail::BriefNoParameters => run::<Shown<WIDE, true, true>>(writer, s, most),
     }
 }
 
-/// Takes steps up to the end of a symbol by a grammar, and counts them. At most this many bytes are written.
-fn run<G: Grammar>(direct: &mut Direct, s: &[u8], most: u32, rounds: &mut usize) -> bool
+/// Takes steps up to the end of a symbol by a grammar. At most this many bytes are written.
+fn run<G: Grammar>(writer: &mut Writer, s: &[u8], most: u32) -> bool
     requires fits { FitsSymbol s.now }
-    requires fresh { IsFresh direct.old }
-    requires none { rounds.old ≡ 0 }
-    ensures shown { result ≡ true → IsShown (symbol_by G.IS_WIDE G.IS_BARE G.IS_BRIEF s.now) most direct.new.text.list.items }
-    ensures within { result ≡ true → length direct.new.text.list.items ≤ most }
-    ensures rounds { rounds.new ≤ 8 * length s.now }
+    requires fresh { IsFresh writer.old.lists }
+    ensures shown { result ≡ true → IsShown (symbol_by G.IS_WIDE G.IS_BARE G.IS_BRIEF s.now) most writer.new.lists.text.list.items }
+    ensures within { result ≡ true → length writer.new.lists.text.list.items ≤ most }
+    ensures rounds { writer.new.rounds ≤ writer.old.rounds + 8 * length s.now }
 {
     if s.len() > LONGEST || !are_name_bytes(s) {
         return false;
     }
-    let Some(first) = direct.begin::<G>(s) else {
+    let Some(first) = writer.begin::<G>(s) else {
         return false;
     };
     let mut step = first;
-    let last = ROUNDS_A_BYTE * s.len();
-    let mut left = last;
-    'steps: while left > 0 {
-        left -= 1;
+    'steps: for _ in 0..ROUNDS_A_BYTE * s.len() {
         if let Step::Ended = step {
-            *rounds = last - left;
-            return end::<G>(direct, s, most);
+            return end::<G>(writer, s, most);
         }
-        match direct.take::<G>(s, step) {
+        match writer.take::<G>(s, step) {
             Some(next) => step = next,
-            None => {
-                *rounds = last - left;
-                return false;
-            }
+            None => return false,
         }
     }
-    *rounds = last;
     false
 }
 
 /// Leaves what is shown of what was written of a symbol, if at most this many bytes were.
 #[inline(always)]
-fn end<G: Grammar>(direct: &mut Direct, s: &[u8], most: u32) -> bool
-    requires { IsWhole (symbol_by G.IS_WIDE G.IS_BARE G.IS_BRIEF s.now) direct.old.text.list.items }
-    ensures shown { result ≡ true → IsShown (symbol_by G.IS_WIDE G.IS_BARE G.IS_BRIEF s.now) most direct.new.text.list.items }
-    ensures within { result ≡ true → length direct.new.text.list.items ≤ most }
+fn end<G: Grammar>(writer: &mut Writer, s: &[u8], most: u32) -> bool
+    requires { IsWhole (symbol_by G.IS_WIDE G.IS_BARE G.IS_BRIEF s.now) writer.old.lists.text.list.items }
+    ensures shown { result ≡ true → IsShown (symbol_by G.IS_WIDE G.IS_BARE G.IS_BRIEF s.now) most writer.new.lists.text.list.items }
+    ensures within { result ≡ true → length writer.new.lists.text.list.items ≤ most }
+    ensures rounds { writer.new.rounds ≡ writer.old.rounds }
 {
-    if direct.text().len() > most as usize {
+    if writer.text().len() > most as usize {
         return false;
     }
-    match direct.show::<G>(s) {
+    match writer.show::<G>(s) {
         Some(()) => true,
         None => false,
     }

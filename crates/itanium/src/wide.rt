@@ -19,7 +19,7 @@ use crate::grammar::Wide;
 use crate::mangling::finished;
 use crate::short_way::write;
 use crate::wide_symbol::WideSymbol;
-use cpp_direct::Direct;
+use crate::writer::Writer;
 use cpp_layout::{Context, Detail};
 use cpp_link::part::Part;
 use cpp_link::rescoping::Rescoping;
@@ -42,7 +42,7 @@ impl Mangling for Wide {
 
     type Symbol = WideSymbol;
 
-    type Direct = Direct;
+    type Direct = Writer;
 
     ghost Whole = { Term };
 
@@ -60,7 +60,7 @@ impl Mangling for Wide {
 
     ghost are_nodes = { are_wide_nodes };
 
-    ghost written = { λ direct. direct.text.list.items };
+    ghost written = { λ direct. direct.lists.text.list.items };
 
     ghost count_of = { wide_node_count };
 
@@ -113,21 +113,21 @@ impl Mangling for Wide {
         bytes
     }
 
-    fn direct(alloc: Global) -> Direct {
-        Direct::new(alloc)
+    fn direct(alloc: Global) -> Writer {
+        Writer::new(alloc)
     }
 
     #[inline(always)]
-    fn write(direct: &mut Direct, symbol: &[u8], limit: u32) -> bool
+    fn write(direct: &mut Writer, symbol: &[u8], limit: u32) -> bool
         requires { FitsSymbol symbol.now }
-        ensures { result ≡ true → IsAnswer wide_mangled details.Full symbol.now limit (Ok direct.new.text.list.items) }
+        ensures { result ≡ true → IsAnswer wide_mangled details.Full symbol.now limit (Ok direct.new.lists.text.list.items) }
     {
         write(direct, symbol, limit, true, Detail::Full)
     }
 
     #[inline(always)]
-    fn text(direct: &Direct) -> &[u8]
-        ensures { result.now ≡ direct.now.text.list.items }
+    fn text(direct: &Writer) -> &[u8]
+        ensures { result.now ≡ direct.now.lists.text.list.items }
     {
         direct.text()
     }

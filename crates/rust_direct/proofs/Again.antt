@@ -1,4 +1,4 @@
--- What was written before, once more.
+-- Paths and types that were written before and are written once more.
 use Rattle.std.proofs.Common.{◌≡◌, ℕ, suc, ◌+◌, List, [], ◌∷◌, length, slice_get, true, false, Option, Some, None, refl, ap, subst, ◌∙◌, Bool}
 use Rattle.std.proofs.lemmas.Bool.{false≢true}
 use Rattle.sym_direct.specs.Holes.{StandsAt}
@@ -20,7 +20,7 @@ use Rattle.rust_direct.proofs.Kept.{keeps-written, piece-found}
 use Rattle.rust_direct.proofs.MovesOfTypes.{path-referred}
 use Rattle.rust_direct.proofs.PathsRead.{path-says, stands-written}
 
--- what is noted of a place ended there
+-- a note of a place says what ended there
 abbrev pub NoteAt : (brief : Bool) → Direct → State → (place : ℕ) → Note → Type 0
 NoteAt brief w st place n = (v : Value) × (ended_at st.ended place ≡ Some v) × IsNote brief (home w.is_aside n.is_aside w.text.list.items w.aside.list.items) n v
 

@@ -32,7 +32,7 @@ use Rattle.rust_direct.proofs.PathsRead.{form-held, path-says, stands-written, w
 
 -- ## What is opened
 
--- expects the path that arguments belong to
+-- the path that arguments belong to is expected
 pub generic-begun : (brief : Bool) (s : List ℕ) (old new : Direct) (is_value : Bool) → AwaitsPath brief s old → StandsAt s old.at (73 ∷ [])
     → new.waiting.list.items ≡ old.waiting.list.items ++ opens.Generic is_value old.at ∷ []
     → new.waiting.room ≡ old.waiting.room → new.at ≡ old.at + 1 → new.text ≡ old.text → new.aside ≡ old.aside → new.is_aside ≡ old.is_aside
@@ -69,7 +69,7 @@ parked-written old new bytes p = rw (p.aside, p.is_aside) refl
 pub turned : (old new : Direct) (entry : Open) → Pushes old new entry → reverse new.waiting.list.items ≡ entry ∷ reverse old.waiting.list.items
 turned old new entry p = ap reverse p.waiting ∙ reverse-last old.waiting.list.items entry
 
--- the path is read that arguments belong to
+-- the path that arguments belong to is read
 pub generic-read : (brief : Bool) (s : List ℕ) (old middle new : Direct) (is_value : Bool) (place from : ℕ) (f : Forms)
     → Arrives brief s old (opens.Generic is_value place) from f → has_form is_value f ≡ true → Writes old middle (opening brief is_value)
     → Pushes middle new (opens.Argument place from is_value) → IsWriting brief s new (steps.Arguments true)
@@ -264,7 +264,7 @@ argument-separated brief s old new p writes =
       };
     }
 
--- no separator precedes the first one
+-- no separator comes before the first argument
 pub argument-first : (brief : Bool) (s : List ℕ) (w : Direct) → IsWriting brief s w (steps.Arguments true) → AwaitsArgument brief s w true
 argument-first brief s w p = record {
   state = p.state;

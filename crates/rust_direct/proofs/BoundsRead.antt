@@ -105,7 +105,7 @@ bound-read brief s old middle new place from here f arrives is writes pushes =
       };
     }
 
--- the E of a `dyn` is read, and its lifetime
+-- the E of a `dyn` is read, and then its lifetime
 pub dyn-read : (brief : Bool) (s : List ℕ) (old : Direct) (place from here end : ℕ) (f : Forms) → Arrives brief s old (opens.Dyn place from) here f
     → StandsAt s old.at (69 ∷ []) → StandsAt s (old.at + 1) (76 ∷ []) → StandsAt s (old.at + 1 + 1) (95 ∷ []) → has_form false f ≡ true
     → end ≡ old.at + 1 + 1 + 1 → IsEnded brief s (record old { at = end }) place from forms.Typed forms.Typed

@@ -168,7 +168,7 @@ array-read brief s old one two three four place from here begins end f arrives i
           (stands-written brief s one two own waits.0 waits.1 wrote.writes (stands-written brief s old one (codes "; ") waits.0 waits.1 first waits.5)));
     }
 
--- ## Truth values, and what isn't known
+-- ## Truth values and unknown constants
 
 pub false-written : (s : List ℕ) (old new : Direct) (at digit mark end : ℕ) → StandsAt s at (98 ∷ []) → StandsAt s digit (48 ∷ [])
     → StandsAt s mark (95 ∷ []) → digit ≡ at + 1 → mark ≡ digit + 1 → end ≡ mark + 1 → Writes old new (codes "false") → WritesConstant s old new at end

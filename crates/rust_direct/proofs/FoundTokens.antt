@@ -11,7 +11,7 @@ use Rattle.sym_direct.proofs.Moves.{stands-join}
 use Rattle.rust_direct.specs.Holes.{written, IsErasedAt}
 use Rattle.rust_direct.specs.Names.{IsNamePlace}
 
--- what is between two places after a third one
+-- the bytes between two places, counted from an earlier place
 piece-at : (s before own behind rest : List ℕ) (at from to : ℕ) → at ≤ length s → drop at s ≡ (before ++ own ++ behind) ++ rest
     → from ≡ at + length before → to ≡ at + length before + length own
     → (from ≤ to) × (to ≤ length s) × (take (to - from) (drop from s) ≡ own)
@@ -42,7 +42,7 @@ piece-at s before own behind rest at from to le e from_is to_is = (omega (arith,
     found : take (to - from) (drop from s) ≡ own
     found = ap (λ n. take n (drop from s)) size ∙ ap (λ l. take (length own) l) there ∙ take-append_seam own (behind ++ rest)
 
--- where a token's own bytes are
+-- the place of a token's own bytes
 pub own-found : (Is : Token → Type 0) (s : List ℕ) (at : ℕ) (place : TokenPlace) (h : HasToken Is (drop at s) at place) → at ≤ length s
     → (place.from ≤ place.to) × (place.to ≤ length s) × (take (place.to - place.from) (drop place.from s) ≡ h.token.own)
 own-found Is s at place h le = piece-at s h.token.before h.token.own h.token.behind h.rest at place.from place.to le h.split h.from h.to
@@ -84,7 +84,7 @@ there s at byte letter is some stands = subst (λ b. StandsAt s at (b ∷ [])) i
 pub piece-filled : (s : List ℕ) (from to : ℕ) → from < to → to ≤ length s → 1 ≤ length (take (to - from) (drop from s))
 piece-filled s from to some inside = omega (arith, some, inside, length-take (to - from) (drop from s), length-drop from s)
 
--- a test that held
+-- a test was true
 pub tested : (result test : Bool) → result ≡ test → result ≡ true → test ≡ true
 tested result test is e = sym is ∙ e
 

@@ -30,7 +30,7 @@ all-digits : (ds : List ℕ) → ReachesDigits ds (length ds) → AreDigits Base
 all-digits [] h = tt
 all-digits (d ∷ ds) h = (h 0 (omega arith), all-digits ds (λ k less. h (suc k) (omega (arith, less))))
 
--- so few digits count less than the greatest number of 64 bits
+-- eleven digits count less than the greatest number of 64 bits, if the first is at most 20
 counted-small : (ds : List ℕ) → length ds ≡ 11 → AreDigits Base62 ds → digit_value Base62 (get_or ds 0 0) ≤ 20 → counted_value Base62 ds + 1 ≤ greatest_u64
 counted-small [] eleven are low = absurd (omega (arith, eleven))
 counted-small (d ∷ ds) eleven are low =

@@ -1,4 +1,4 @@
--- Impls and implemented traits that were read and written, and types of one type.
+-- Impls, and types of one type, that were read and written.
 use Rattle.std.proofs.Common.{◌≡◌, ℕ, ◌+◌, List, [], ◌∷◌, ◌++◌, length, reverse, Bool, true, false, not, refl, ap, sym, subst, ◌∙◌, codes, cond}
 use Rattle.sym_direct.specs.Holes.{StandsAt}
 use Rattle.rust_tree.specs.Symbol as tree
@@ -22,7 +22,7 @@ use Rattle.rust_direct.proofs.Again.{path-needs}
 use Rattle.rust_direct.proofs.ArgumentsRead.{type-held, keeps-pushed, parked-pushed, turned}
 use Rattle.rust_direct.proofs.Opened.{wrapped}
 
--- expects the path of an impl, which isn't shown
+-- the path of an impl is expected, which isn't shown
 pub impl-begun : (brief : Bool) (s : List ℕ) (old new : Direct) (count end : ℕ) (plain : Bool) → AwaitsPath brief s old → StandsAt s old.at (77 ∷ [])
     → IsDisambiguatorAt s (old.at + 1) count end → old.is_aside ≡ false → new.waiting.list.items ≡ old.waiting.list.items ++ opens.Impl old.at ∷ []
     → new.waiting.room ≡ old.waiting.room

@@ -1,4 +1,4 @@
--- Impls within what isn't shown.
+-- Impls within hidden text.
 use Rattle.std.proofs.Common.{◌≡◌, ℕ, ◌+◌, List, [], ◌∷◌, reverse, Bool, true, refl, subst}
 use Rattle.sym_direct.specs.Holes.{StandsAt}
 use Rattle.rust_tree.specs.Symbol as tree
@@ -18,7 +18,7 @@ use Rattle.rust_direct.proofs.Opened.{keeps-opened, stands-opened}
 use Rattle.rust_direct.proofs.PathsRead.{path-held}
 use Rattle.rust_direct.proofs.PrintedPaths.{impl-prints, trait-prints}
 
--- While nothing hidden is written yet, the hidden text may begin after any other.
+-- While nothing hidden is written yet, the hidden text may begin after any other text.
 unbegun-any : (brief : Bool) (s : List ℕ) (waiting : List Open) (os : List Opened) (text any parked : List ℕ) → IsUnbegun waiting → Stands brief s waiting os text parked
     → Stands brief s waiting os any parked
 unbegun-any brief s [] os text any parked is h = absurd is

@@ -192,12 +192,12 @@ none-noted brief is_aside text aside n ended = λ place. zeros n place (ended_at
 
 -- ## Rooms, and all that is kept
 
--- the rooms still hold where the lists have the same
+-- the rooms hold where the lists are the same
 pub rooms-same : (s : List ℕ) (old new : Direct) → new.text.room ≡ old.text.room → new.aside.room ≡ old.aside.room → new.notes.room ≡ old.notes.room
     → length new.numbers.items ≡ length old.numbers.items → new.waiting.room ≡ old.waiting.room → HasRooms s old → HasRooms s new
 rooms-same s old new text aside notes numbers waiting p = rw (text, aside, notes, numbers, waiting) p
 
--- nothing changes but what is open, and its room stays
+-- only the open entries change, and the room for them stays
 pub keeps-same : (brief : Bool) (s : List ℕ) (old new : Direct) (st : State) → new.text ≡ old.text → new.aside ≡ old.aside → new.is_aside ≡ old.is_aside
     → new.notes ≡ old.notes → new.numbers ≡ old.numbers → new.waiting.room ≡ old.waiting.room → Keeps brief s old st → Keeps brief s new st
 keeps-same brief s old new st text aside is_aside notes numbers waiting p = rw (text, aside, is_aside, notes, numbers, waiting) p
@@ -210,7 +210,7 @@ keeps-written brief s old new bytes st w p = (
       (ap (λ l. l.room) w.waiting) p.1,
 )
 
--- the other text is written to
+-- the other of the two texts is written to
 pub keeps-turned : (brief : Bool) (s : List ℕ) (old new : Direct) (st : State) → new.text ≡ old.aside → new.aside ≡ old.text → new.is_aside ≡ not old.is_aside
     → new.notes ≡ old.notes → new.numbers ≡ old.numbers → new.waiting.room ≡ old.waiting.room → Keeps brief s old st → Keeps brief s new st
 keeps-turned brief s old new st text aside is_aside notes numbers waiting p =

@@ -27,4 +27,3 @@ pub mod Opened
 pub mod TraitsRead
 pub mod WrapsRead
 pub mod TuplesRead
-pub mod Rounds

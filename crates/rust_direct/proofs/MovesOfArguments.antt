@@ -38,18 +38,18 @@ takes-generic path = record { byte = 73; is_byte = omega arith; found = refl; ta
 takes-generic other_path = record { byte = 73; is_byte = omega arith; found = refl; takes = refl }
 takes-generic type = record { byte = 73; is_byte = omega arith; found = refl; takes = refl }
 
--- what is open while the path is read that arguments belong to
+-- the entries that are open while the path is read that arguments belong to
 abbrev pub generic_awaits : (place : ℕ) → State → List Opened → List Opened
 generic_awaits place st os = opened (standing generic_rule (73 ∷ []) place 0 st) [] (Kind ARGUMENTS ∷ Byte 69 ∷ []) ∷ os
 
--- that path is expected
+-- the path that arguments belong to is expected
 pub generic-opens : (s : List ℕ) (w : Wanted) (os : List Opened) (at : ℕ) (st : State) → Expects s (kind_of w) os at st → StandsAt s at (73 ∷ [])
     → Expects s PATH (generic_awaits at st os) (at + 1) (within Production.Generic st)
 generic-opens s w os at st expects stands =
     moves.first-of rust_language s (kind_of w) generic_rule (73 ∷ []) 0 os at st st (Kind PATH) (Kind ARGUMENTS ∷ Byte 69 ∷ [])
     (record { context = 0; values = []; state = within Production.Generic st }) (takes-generic w) (λ f. refl) refl refl expects stands
 
--- that path is read, and arguments are expected
+-- the path that arguments belong to is read, and arguments are expected
 pub generic-goes-on : (s : List ℕ) (os : List Opened) (place : ℕ) (before : State) (p : tree.Path) (at : ℕ) (st : State)
     → Comes s (generic_awaits place before os) (a_path p) at st → ArgumentsGoOn s os place p (λ a. a) at st
 generic-goes-on s os place before p at st comes =
@@ -74,7 +74,7 @@ type_rule = chaining Production.TypeArgument (Kind TYPE ∷ Kind ARGUMENTS ∷ [
 takes-type : TakesRule v0_table ARGUMENTS type_rule []
 takes-type = record { byte = 97; is_byte = omega arith; found = refl; takes = refl }
 
--- what is open while a type among arguments is read
+-- the entries that are open while a type among arguments is read
 abbrev pub type_awaits : (place : ℕ) → State → List Opened → List Opened
 type_awaits place st os = opened (standing type_rule [] place 0 st) [] (Kind ARGUMENTS ∷ []) ∷ os
 
@@ -205,7 +205,7 @@ end_rule = taking Production.TypesEnd []
 takes-end : TakesRule v0_table TYPES end_rule (69 ∷ [])
 takes-end = record { byte = 69; is_byte = omega arith; found = refl; takes = refl }
 
--- what is open while a type of a tuple is read
+-- the entries that are open while a type of a tuple is read
 abbrev pub more_awaits : (place : ℕ) → State → List Opened → List Opened
 more_awaits place st os = opened (standing more_rule [] place 0 st) [] (Kind TYPES ∷ []) ∷ os
 
@@ -236,7 +236,7 @@ element-goes-on s outer place made here now goes place0 before v t at st is come
           (rw (type-part v t (some_types ts ∷ []) is) refl) came);
     }
 
--- they end at an E
+-- the types of a tuple end at an E
 pub types-close : (s : List ℕ) (outer : List Opened) (place : ℕ) (made : tree.Tys → tree.Tys) (at : ℕ) (st : State)
     → TypesGoOn s outer place made at st → StandsAt s at (69 ∷ []) → Ends s outer place (a_type (tree.tuple (made tree.no_types))) (at + 1) st
 types-close s outer place made at st goes stands =

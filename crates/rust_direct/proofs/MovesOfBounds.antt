@@ -72,7 +72,7 @@ takes-end = record { byte = 69; is_byte = omega arith; found = refl; takes = ref
 none-more : (n : ℕ) → n + 0 ≡ n
 none-more n = omega arith
 
--- what is open while the path of a bound is read
+-- the entries that are open while the path of a bound is read
 abbrev pub bound_awaits : (place : ℕ) → State → List Opened → List Opened
 bound_awaits place st os = opened (standing more_rule [] place 0 st) [] (Kind BINDINGS ∷ Kind BOUNDS ∷ []) ∷ os
 
@@ -107,7 +107,7 @@ bound-goes-on s outer place made here now goes place0 before p at st comes =
           (moves.last-of rust_language s rule known (some_bounds bs ∷ []) goes.inner end then_ w (behind then_) refl came) there;
     }
 
--- they end at an E
+-- bounds end at an E
 pub bounds-close : (s : List ℕ) (outer : List Opened) (place : ℕ) (made : tree.Bounds → tree.Bounds) (at : ℕ) (st : State)
     → BoundsGoOn s outer place made at st → StandsAt s at (69 ∷ []) → StandsAt s (at + 1) (76 ∷ 95 ∷ [])
     → Ends s outer place (a_type (tree.dyn 0 (made tree.no_bounds) 0)) (at + 1 + 1 + 1) st

@@ -77,7 +77,7 @@ takes-signed b is = found-in signed_rule signed_letters b (
   ),
 ) is
 
--- no integer's type is named by a byte that is 0
+-- a byte that is 0 names no integer's type
 pub unsigned-there : (b : ℕ) → is_unsigned b ≡ true → b ≢ 0
 unfolding is_unsigned
 unsigned-there b is none = false≢true (subst (λ k. is_unsigned k ≡ true) none is)
@@ -121,7 +121,7 @@ unsigned-begins s at b is stands = (b, λ n end hex os st expects. comes n end h
         moves.last-of rust_language s rule [] (an_integer_of false n ∷ []) os end (within p st) w (with_ended at w st)
         (closes st (within p st) n hex.small) counted
 
--- an integer of a type with a sign begins, and has none
+-- an integer of a type with a sign begins, without a minus
 pub signed-begins : (s : List ℕ) (at b : ℕ) → is_signed b ≡ true → StandsAt s at (b ∷ []) → BeginsInteger s at (at + 1) false
 signed-begins s at b is stands = (b, λ n end hex os st expects. comes n end hex os st expects)
   where
@@ -156,7 +156,7 @@ takes-minus = record { byte = 110; is_byte = omega arith; found = refl; takes = 
 abbrev negative : State → State
 negative st = record { ended = st.ended; inside = Some Production.SignedConstant; minus = true }
 
--- an integer begins that has a minus
+-- an integer of a type with a sign begins, with a minus
 pub negative-begins : (s : List ℕ) (at b : ℕ) → is_signed b ≡ true → StandsAt s at (b ∷ []) → StandsAt s (at + 1) (110 ∷ [])
     → BeginsInteger s at (at + 1 + 1) true
 negative-begins s at b is stands there = (b, λ n end hex os st expects. comes n end hex os st expects)
@@ -183,7 +183,7 @@ negative-begins s at b is stands there = (b, λ n end hex os st expects. comes n
         moves.last-of rust_language s rule (minus_mark ∷ []) (an_integer_of true n ∷ []) os end (negative st) w (with_ended at w st)
         (closes st (negative st) n hex.small) counted
 
--- ## Truth values, and what isn't known
+-- ## Truth values and unknown constants
 
 abbrev bool_rule : Rule
 bool_rule = taking Production.BoolConstant (Kind TRUTH ∷ Byte 95 ∷ [])

@@ -51,11 +51,11 @@ takes-byte b is = record { byte = b; is_byte = suffix-small b is; found = ap (λ
 takes-suffix : TakesRule v0_table SUFFIX suffix_rule (46 ∷ [])
 takes-suffix = record { byte = 46; is_byte = omega arith; found = refl; takes = refl }
 
--- nothing, or the mark of what is left
+-- the rest of a suffix comes, with or without a value
 abbrev RestComes : (s : List ℕ) → List Opened → (at : ℕ) → State → Type 0
 RestComes s os at st = (vs : List Value) × ComesAll s os vs at st
 
--- bytes of a suffix are read; there may be none
+-- bytes of a suffix are read, maybe none
 rest-comes : (s : List ℕ) (bs : List ℕ) (os : List Opened) (at : ℕ) (st : State) → AllByRecursion (λ c. is_suffix_byte c ≡ true) bs
     → Expects s SUFFIX_REST os at st → StandsAt s at bs → (now : State) × RestComes s os (at + length bs) now
 rest-comes s [] os at st each expects stands =
@@ -116,7 +116,7 @@ symbol-expected s bytes vs end reads stands =
     zero-add : (n : ℕ) → 0 + n ≡ n
     zero-add n = omega arith
 
--- what was read is the symbol
+-- what was read is the whole symbol
 symbol-read : (s : List ℕ) (y : tree.Symbol) (end : State) → Comes s [] (a_symbol y) (length s) end → StandsFor v0_mangled s (Ok y)
 symbol-read s y end reads =
     let whole = reads.spelled ∙ take_all (length s) s (omega arith) in
@@ -125,7 +125,7 @@ symbol-read s y end reads =
 abbrev open_symbol : Open State ℕ
 open_symbol = standing symbol_rule (95 ∷ []) 0 0 at_first
 
--- the symbol closes after these values as this one
+-- a symbol with these values closes as this symbol
 abbrev Closes : (s : List ℕ) → (known vs : List Value) → tree.Symbol → Type 0
 Closes s known vs y =
     (now : State) → (rust_language.reading s).close open_symbol (known ++ vs) now ≡ Ok (record { value = a_symbol y; state = behind now })
@@ -164,7 +164,7 @@ symbol-ends s known p other at st bare suffixed expects = record {
     all-of suffix here rest e few =
         e ∙ ap (λ l. suffix ++ l) (none-behind rest (omega (arith, few, ap length e, length-append suffix rest))) ∙ append-nil suffix
 
--- its path is expected after _R
+-- the path of a symbol is expected after _R
 pub symbol-starts : (s : List ℕ) → StandsAt s 0 (95 ∷ 82 ∷ [])
     → (inner : List Opened) × Expects s PATH inner 2 (within Production.Symbol at_first)
     × ((p : tree.Path) (at : ℕ) (st : State) → Comes s inner (a_path p) at st → OtherGoesOn s p at st)

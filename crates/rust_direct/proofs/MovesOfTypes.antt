@@ -1,4 +1,4 @@
--- The moves of types that are made of one type, of impls, and of references to what came before.
+-- The moves of types that are made of one type, of impls, and of back references.
 use Rattle.std.proofs.Common.{◌≡◌, ℕ, ◌+◌, ◌<◌, ◌≤◌, List, [], ◌∷◌, ◌++◌, length, inl, inr, false, Some, Ok, refl, ap, sym, subst, arith, ◌⊎◌}
 use Rattle.std.specs.Prelude.{if◌then◌else◌}
 use Rattle.std.proofs.lemmas.Bool.{le-leb, cases_eq, ne_eqb}
@@ -169,7 +169,7 @@ mut-opens s os at st expects stands =
 takes-lifetime : TakesRule v0_table SOME_LIFETIME number_rule (76 ∷ [])
 takes-lifetime = record { byte = 76; is_byte = omega arith; found = refl; takes = refl }
 
--- an erased lifetime where there may be none
+-- an erased lifetime is read, where a lifetime may be missing
 lifetime-comes : (s : List ℕ) (os : List Opened) (at : ℕ) (st : State) → Expects s SOME_LIFETIME os at st → StandsAt s at (76 ∷ 95 ∷ [])
     → Comes s os (a_lifetime 0) (at + 1 + 1) (behind st)
 lifetime-comes s os at st expects stands =
@@ -482,7 +482,7 @@ takes-definition path = record { byte = 89; is_byte = omega arith; found = refl;
 takes-definition other_path = record { byte = 89; is_byte = omega arith; found = refl; takes = refl }
 takes-definition type = record { byte = 89; is_byte = omega arith; found = refl; takes = refl }
 
--- expects the type that is taken as a trait
+-- the type that implements a trait is expected
 pub definition-opens : (s : List ℕ) (w : Wanted) (os : List Opened) (at : ℕ) (st : State) → Expects s (kind_of w) os at st
     → StandsAt s at (89 ∷ []) → ImplementingGoesOn s os at (λ t r. a_path (tree.trait_definition t r)) (at + 1) st
 definition-opens s w os at st expects stands =

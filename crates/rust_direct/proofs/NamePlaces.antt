@@ -19,7 +19,7 @@ digit-is b low high = cc (le-leb 48 b low, le-leb b 57 high)
 pub digit-byte : (b : ℕ) → is_decimal_digit b ≡ true → b ≢ 0
 digit-byte b digit none = cc (digit, ap (λ n. is_decimal_digit n) none)
 
--- how the bytes between two places are cut out
+-- the bytes between two places, as a slice of a slice
 pub own-is : (s : List ℕ) (from size : ℕ) → take (from + size - from) (drop from s) ≡ take size (drop from s)
 own-is s from size = ap (λ n. take n (drop from s)) (difference from size)
   where

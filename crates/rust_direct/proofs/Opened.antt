@@ -1,4 +1,4 @@
--- A text is written, and an entry waits for what follows it.
+-- A text is written, and an entry waits for the part after it.
 use Rattle.std.proofs.Common.{◌≡◌, ℕ, List, ◌∷◌, ◌++◌, length, reverse, ap, ◌∙◌, append_assoc, Bool}
 use Rattle.rust_grammar.specs.Value.{State}
 use Rattle.rust_direct.specs.declared.open.Open.{Open}
@@ -24,6 +24,6 @@ stands-opened brief s old new bytes entry at os o h =
     waits-too brief s old.waiting.list.items new.waiting.list.items entry os new.text.list.items (parked_of new) o.waiting
     (rw (o.text, o.aside, o.is_aside) h)
 
--- what is between a mark and what closes it
+-- the bytes between a mark and the mark that closes it
 pub wrapped : (front mark bytes closing : List ℕ) → front ++ mark ++ bytes ++ closing ≡ front ++ (mark ++ bytes ++ closing)
 wrapped front mark bytes closing = ap (λ l. l ++ closing) (append_assoc front mark bytes) ∙ append_assoc front (mark ++ bytes) closing

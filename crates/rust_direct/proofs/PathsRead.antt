@@ -25,7 +25,7 @@ use Rattle.sym_direct.specs.Marked.{IsUnmarked}
 use Rattle.rust_direct.proofs.WrittenTexts.{name-unmarked}
 use Rattle.rust_direct.proofs.PrintedPaths.{crate-prints, nested-prints, nested-room, unnamed-prints}
 
--- ## What is known of what was read
+-- ## Facts of what was read
 
 -- a path has a text in the forms that are named
 pub path-held : (brief : Bool) (f : Forms) (v : Value) (bytes : List ℕ) → is_path f ≡ true → Holds brief f v bytes → (p : tree.Path) × (v ≡ a_path p) × PathHas brief f p bytes
@@ -57,7 +57,7 @@ path-says brief forms.Plain p bytes is h = ((p, refl, h), (p, refl, h))
 path-says brief forms.Typed p bytes is h = absurd h
 path-says brief forms.Unnamed p bytes is h = absurd h
 
--- ## What waits
+-- ## Waiting entries
 
 -- the open entries stay where a text is written
 pub stands-written : (brief : Bool) (s : List ℕ) (old new : Direct) (bytes : List ℕ) (os : List Opened) (text : List ℕ) → Writes old new bytes
@@ -212,7 +212,7 @@ unnamed-has brief forms.Plain letter p bytes count lower h room = unnamed-prints
 unnamed-has brief forms.Typed letter p bytes count lower h room = absurd h
 unnamed-has brief forms.Unnamed letter p bytes count lower h room = absurd h
 
--- what has a form of a path is one
+-- a value that has a form of a path is a path
 is-of-path : (brief : Bool) (f : Forms) (p : tree.Path) (bytes : List ℕ) → PathHas brief f p bytes → is_path f ≡ true
 is-of-path brief forms.Alike p bytes h = refl
 is-of-path brief forms.Valued p bytes h = refl
@@ -226,7 +226,7 @@ piece-empty s from to none =
     let nothing : to - from ≡ 0 = omega (arith, none) in
     ap (λ n. take n (drop from s)) nothing
 
--- Its name is read and noted, and an empty one follows, with it as the parent.
+-- The name is read and noted. Then an empty name follows, whose parent it is.
 pub unnamed-read : (brief : Bool) (s : List ℕ) (old noted taken : Direct) (place from : ℕ) (f : Forms) (o : Option Open) (letter outer end : ℕ)
     → IsEndedWithRoom brief s old place from f → Notes old noted place from f
     → noted.waiting.list.items ≡ taken.waiting.list.items ++ option_to_list o → o ≡ Some (opens.Nest letter outer)

@@ -1,4 +1,4 @@
--- The bounds of a `dyn`, with known text.
+-- Bounds of a `dyn` whose text is known.
 use Rattle.std.proofs.Common.{◌≡◌, refl, ap, sym, subst, ◌∙◌, ℕ, List, [], ◌++◌, true, false, arith, codes, length-append, append-nil, Some, Bool}
 use Rattle.sym_print.specs.Unshared.{done, text_of}
 use Rattle.sym_print.specs.Building.{◌then◌, ◌also◌, ◌perhaps◌}
@@ -10,11 +10,11 @@ use Rattle.rust_direct.specs.Bounds.{BoundsBegin}
 use Rattle.rust_direct.proofs.WrittenTexts.{perhaps-text, written-plain, written-after, one-written, after-others}
 use Rattle.rust_direct.proofs.PrintedPaths.{then-cost, perhaps-cost}
 
--- nothing precedes the first bound
+-- no text comes before the first bound
 pub no-bounds-begin : (brief : Bool) → BoundsBegin brief (λ b. b) [] []
 no-bounds-begin brief = record { plain = refl; text_is = λ rest more p. p; cost = λ rest. omega arith; needs_none = λ rest h. h }
 
--- a bound is an item whose one part is its path
+-- a bound is an item whose only part is its path
 bound-shown : (brief : Bool) (separator : List ℕ) (p : Path) (rest : Bounds)
     → bounds_from (detail_by brief) 0 separator (more_bounds p no_bindings rest)
     ≡ Some (separator then (path_parts (detail_by brief) 0 false p also done) also bounds_from (detail_by brief) 0 (codes " + ") rest perhaps done)

@@ -1,4 +1,4 @@
--- Paths with known text.
+-- Paths whose text is known.
 use Rattle.std.proofs.Common.{◌≡◌, refl, ap, sym, subst, ◌∙◌, ℕ, ◌+◌, ◌*◌, ◌≤◌, List, [], ◌∷◌, ◌++◌, length, Bool, true, false, arith, codes, length-append, append-nil, append_assoc, nat_le, Option, Some, None}
 use Rattle.sym_print.specs.declared.detail.Detail.TheVariants.{Full, Brief}
 use Rattle.sym_print.specs.Unshared.{Unshared, done, text_of, cost_of, cost_of_parts}
@@ -69,7 +69,7 @@ nested-prints brief value letter p bytes count (b ∷ bs) lower filled plain pri
       needs_none = prints.needs_none;
     }
 
--- Its name leaves room for one more part without text.
+-- A path with a name in a namespace leaves room for one more part without text.
 pub nested-room : (brief : Bool) (value : Bool) (letter : ℕ) (p : Path) (bytes : List ℕ) (count : ℕ) (name : List ℕ) → nat_le 97 letter ≡ true → 1 ≤ length name
     → PathPrints brief value p bytes → HasRoom brief value (nested letter p (named count name)) (bytes ++ codes "::" ++ name)
 unfolding path_parts need
@@ -84,7 +84,7 @@ nested-room brief value letter p bytes count (b ∷ bs) lower filled prints =
       length-append bytes (codes "::"),
     )
 
--- A path in a namespace whose name is empty prints its parent.
+-- A path in a namespace prints its parent, if its name is empty.
 pub unnamed-prints : (brief : Bool) (value : Bool) (letter : ℕ) (p : Path) (bytes : List ℕ) (count : ℕ) → nat_le 97 letter ≡ true → PathPrints brief value p bytes
     → HasRoom brief value p bytes → PathPrints brief value (nested letter p (named count [])) bytes
 unfolding path_parts need
@@ -106,7 +106,7 @@ opening-length true value = omega arith
 opening-length false true = omega arith
 opening-length false false = omega arith
 
--- nothing precedes the first argument
+-- no text comes before the first argument
 pub none-begin : (brief : Bool) → ArgumentsBegin brief (λ a. a) [] []
 none-begin brief = record { plain = refl; text_is = λ rest more p. p; cost = λ rest. omega arith; needs_none = λ rest h. h }
 
@@ -157,7 +157,7 @@ lifetime-begins brief made separator bytes begin = record {
   needs_none = λ rest h. begin.needs_none (lifetime_argument 0 rest) (omega (arith, h));
 }
 
--- no argument follows these
+-- no argument comes after these
 pub arguments-end : (brief : Bool) (made : Arguments → Arguments) (separator bytes : List ℕ) → ArgumentsBegin brief made separator bytes → ArgumentsPrint brief (made no_arguments) bytes
 unfolding path_parts need
 arguments-end brief made separator bytes begin = record {
@@ -213,7 +213,7 @@ arguments-cost false value p bytes args own prints have = omega (
   opening-length false value,
 )
 
--- A path with arguments prints them after itself.
+-- A path with arguments prints the path and then the arguments.
 pub generic-prints : (brief : Bool) (value : Bool) (p : Path) (bytes : List ℕ) (args : Arguments) (own : List ℕ) → PathPrints brief value p bytes
     → ArgumentsPrint brief args own → PathPrints brief value (generic p args) (bytes ++ opening brief value ++ own ++ closing brief)
 unfolding need
@@ -249,7 +249,7 @@ implemented brief b c l m p q =
     (written-append brief b (codes " as " ++ (c ++ codes ">")) l (codes " as " ++ (m ++ codes ">")) p
     (written-after brief (codes " as ") (c ++ codes ">") (m ++ codes ">") refl (written-before brief c m (codes ">") refl q))))
 
--- An impl of a trait, and a trait as a type implements it, print both.
+-- An impl of a trait prints the type and the trait, and so does a trait as a type implements it.
 pub trait-prints : (brief : Bool) (value : Bool) (count : ℕ) (p : Path) (t : Ty) (q : Path) (bytes own : List ℕ) → need p ≡ 0 → TypePrints brief t bytes
     → PathPrints brief false q own → PathPrints brief value (trait_impl count p t q) ((codes "<" ++ bytes ++ codes " as ") ++ own ++ codes ">")
 unfolding path_parts need

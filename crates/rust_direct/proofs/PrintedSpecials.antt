@@ -1,4 +1,4 @@
--- Closures, shims and constants with known text.
+-- Closures, shims and constants whose text is known.
 use Rattle.std.proofs.Common.{◌≡◌, refl, ap, sym, subst, ◌∙◌, ℕ, ◌+◌, ◌≤◌, List, [], ◌∷◌, ◌++◌, length, Bool, true, false, arith, codes, length-append, append-nil, append_assoc, nat_le}
 use Rattle.std.specs.Prelude.{decimal}
 use Rattle.std.proofs.lemmas.Fmt.{decimal_nonempty}
@@ -31,7 +31,7 @@ name-cost : (name : List ℕ) (rest : Unshared) → cost_of_parts (name_behind (
 name-cost [] rest = omega arith
 name-cost (b ∷ bs) rest = omega arith
 
--- which of several it is
+-- the number among closures or shims of one name
 abbrev numbered : (count : ℕ) → Unshared
 numbered count = codes "#" then decimal count then codes "}" then done
 

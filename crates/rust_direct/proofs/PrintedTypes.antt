@@ -1,4 +1,4 @@
--- Types with known text.
+-- Types whose text is known.
 use Rattle.std.proofs.Common.{refl, ap, sym, subst, ◌∙◌, ℕ, ◌≤◌, List, [], ◌++◌, length, false, arith, codes, length-append, append-nil, append_assoc, Option, Bool}
 use Rattle.sym_print.specs.Unshared.{Unshared, done, text_of}
 use Rattle.sym_print.specs.Building.{◌then◌, ◌also◌, ◌perhaps◌}
@@ -118,7 +118,7 @@ array-prints brief t bytes size own prints shows = record {
 
 -- ## Tuples
 
--- nothing precedes the first type
+-- no text comes before the first type
 pub no-types-begin : (brief : Bool) → TypesBegin brief (λ ts. ts) [] []
 no-types-begin brief = record { plain = refl; text_is = λ rest more p. p; cost = λ rest. omega arith; needs_none = λ rest h. h }
 

@@ -1,5 +1,5 @@
 -- Closures and shims that were read and written.
-use Rattle.std.proofs.Common.{◌<◌, ◌≤◌, ◌^◌, inl, inr, arith, ◌≡◌, ℕ, List, [], ◌∷◌, ◌++◌, length, true, false, refl, ap, sym, subst, ◌∙◌, append_assoc, append-nil, codes, nat_le, Bool}
+use Rattle.std.proofs.Common.{◌<◌, ◌≤◌, ◌^◌, inl, inr, arith, ◌≡◌, ℕ, List, ◌++◌, true, false, ap, subst, ◌∙◌, append_assoc, codes, nat_le, Bool}
 use Rattle.std.specs.Prelude.{decimal}
 use Rattle.std.proofs.lemmas.Bool.{false≢true}
 use Rattle.rust_tree.specs.Symbol as tree
@@ -24,19 +24,6 @@ use Rattle.rust_direct.proofs.PrintedSpecials.{special-prints}
 
 -- ## Texts one after another
 
-pub writes-none : (w : Direct) → Writes w w []
-writes-none w = record {
-  text = sym (append-nil w.text.list.items);
-  room = refl;
-  aside = refl;
-  is_aside = refl;
-  notes = refl;
-  numbers = refl;
-  waiting = refl;
-  at = refl;
-  rounds = refl;
-}
-
 pub writes-both : (old middle new : Direct) (a b : List ℕ) → Writes old middle a → Writes middle new b → Writes old new (a ++ b)
 writes-both old middle new a b first second = record {
   text = second.text ∙ ap (λ l. l ++ b) first.text ∙ append_assoc old.text.list.items a b;
@@ -47,21 +34,9 @@ writes-both old middle new a b first second = record {
   numbers = second.numbers ∙ first.numbers;
   waiting = second.waiting ∙ first.waiting;
   at = second.at ∙ first.at;
-  rounds = second.rounds ∙ first.rounds;
 }
 
--- no name, and no colon
-pub none-behind : (w : Direct) (name : List ℕ) → length name ≡ 0 → Writes w w (behind_colon name)
-none-behind w [] none = writes-none w
-none-behind w (b ∷ bs) none = cc none
-
--- a name after a colon
-pub name-behind : (old middle new : Direct) (name : List ℕ) → (length name ≡ 0 → ⊥) → Writes old middle (58 ∷ []) → Writes middle new name
-    → Writes old new (behind_colon name)
-name-behind old middle new [] some first second = absurd (some refl)
-name-behind old middle new (b ∷ bs) some first second = writes-both old middle new (58 ∷ []) (b ∷ bs) first second
-
--- all that follows the parent
+-- the whole text after the parent
 pub special-written : (a b c d e f g : Direct) (namespace name : List ℕ) (count : ℕ) → Writes a b (codes "::{") → Writes b c namespace
     → Writes c d (behind_colon name) → Writes d e (codes "#") → Writes e f (decimal count) → Writes f g (codes "}") → Writes a g (special_text namespace name count)
 special-written a b c d e f g namespace name count one two three four five six =
@@ -85,7 +60,7 @@ special-has brief forms.Plain letter p bytes count name is upper plain h = speci
 special-has brief forms.Typed letter p bytes count name is upper plain h = absurd (false≢true is)
 special-has brief forms.Unnamed letter p bytes count name is upper plain h = absurd (false≢true is)
 
--- its name and its number are read
+-- the name and the number of a closure or a shim are read
 pub special-read : (brief : Bool) (s : List ℕ) (old middle : Direct) (letter place from : ℕ) (f : Forms) (count behind_ : ℕ) (name namespace : List ℕ) (end : ℕ)
     → Arrives brief s old (opens.Nest letter place) from f → is_path f ≡ true → nat_le 97 letter ≡ false → 65 ≤ letter → IsDisambiguatorAt s old.at count behind_
     → IsNameAt s behind_ name end → namespace ≡ namespace_text letter → Writes old middle (special_text namespace name count)

@@ -40,11 +40,11 @@ shown-answer brief s text limit size shown short =
     (sym (text_within-ok limit parts text (sym shown.text_is) (omega (arith, shown.cost, short)))
     ∙ ap (λ r. answer_of_symbol v0_mangled (detail_by brief) limit r) shown.stands.3)
 
--- All of what was written is shown where arguments are,
+-- All of the written bytes are shown where arguments are,
 pub whole-shown : (brief : Bool) (s bytes : List ℕ) → brief ≡ false → IsWhole brief s bytes → IsShown brief s (length bytes) bytes
 whole-shown brief s bytes is p = record { whole = p.whole; stands = p.stands; text_is = p.text_is.whole is; cost = p.cost }
 
--- and its visible part where they aren't.
+-- and only their visible part is shown where arguments aren't.
 pub brief-shown : (brief : Bool) (s old new : List ℕ) → brief ≡ true → IsWhole brief s old → new ≡ visible 0 old → IsShown brief s (length old) new
 brief-shown brief s old new is p left =
     record { whole = p.whole; stands = p.stands; text_is = text-seen brief _ old is p.text_is ∙ sym left; cost = p.cost }
@@ -112,7 +112,7 @@ path-ended brief s w from f arrives is =
       ends = (waits.2 held.0 w.at arrives.state (subst (λ v. Comes s r.os v w.at arrives.state) held.1 r.comes)).none;
     }
 
--- expects the path of the instantiating crate
+-- the path of the instantiating crate is expected
 pub other-begun : (brief : Bool) (s : List ℕ) (old new : Direct) (from : ℕ) (f : Forms) (is_value : Bool) → Arrives brief s old opens.Symbol from f → has_form true f ≡ true
     → old.is_aside ≡ false → new.waiting.list.items ≡ old.waiting.list.items ++ opens.Other ∷ [] → new.waiting.room ≡ old.waiting.room → new.text ≡ old.aside → new.aside ≡ old.text
     → new.is_aside ≡ not old.is_aside → new.notes ≡ old.notes → new.numbers ≡ old.numbers → new.at ≡ old.at → IsWriting brief s new (steps.Path is_value)
@@ -140,7 +140,7 @@ other-begun brief s old new from f is_value arrives is shown waiting room text a
       };
     }
 
--- it is read, and the symbol may end
+-- the path of the instantiating crate is read, and the symbol may end
 pub other-read : (brief : Bool) (s : List ℕ) (old new : Direct) (from : ℕ) (f : Forms) → Arrives brief s old opens.Other from f → is_path f ≡ true
     → old.is_aside ≡ true → new.text ≡ old.aside → new.aside ≡ old.text
     → new.is_aside ≡ not old.is_aside → new.notes ≡ old.notes → new.numbers ≡ old.numbers → new.waiting ≡ old.waiting → new.at ≡ old.at
@@ -161,14 +161,14 @@ other-read brief s old new from f arrives is hidden text aside is_aside notes nu
 
 -- ## The end
 
--- the rest of a symbol from a place on is there, and the symbol ends with it
+-- the rest of a symbol is at a place, and the symbol ends with it
 rest-stands : (s suffix : List ℕ) (at : ℕ) → at ≤ length s → suffix ≡ take (length s - at) (drop at s)
     → StandsAt s at suffix × (at + length suffix ≡ length s)
 rest-stands s suffix at inside is =
     let same : suffix ≡ drop at s = is ∙ take_rest s at in
     (([], sym same ∙ sym (append-nil suffix)), omega (arith, inside, ap length same, length-drop at s))
 
--- the symbol is written where it has no suffix
+-- a symbol without a suffix is written
 pub ends-plain : (brief : Bool) (s : List ℕ) (w : Direct) → IsSymbolEnded brief s w → w.at ≡ length s → IsWriting brief s w steps.Ended
 unfolding symbol_parts
 ends-plain brief s w p at_end =
@@ -211,7 +211,7 @@ whole-suffixed brief s text p at (d ∷ rest) prints ends stands ended is =
       );
     }
 
--- and where it has one
+-- a symbol with a suffix is written
 pub ends-suffixed : (brief : Bool) (s suffix : List ℕ) (w first second last : Direct) → IsSymbolEnded brief s w → w.at ≤ length s
     → suffix ≡ take (length s - w.at) (drop w.at s) → IsSuffix suffix
     → Writes w first (codes " (") → Writes first second suffix → Writes second last (codes ")") → IsWriting brief s last steps.Ended

@@ -23,7 +23,7 @@ use Rattle.rust_direct.proofs.Opened.{keeps-opened, stands-opened, wrapped}
 
 -- ## Impls
 
--- expects the path of an impl of a trait, which isn't shown
+-- the path of an impl of a trait is expected, which isn't shown
 pub trait-begun : (brief : Bool) (s : List ℕ) (old new : Direct) (count end : ℕ) (plain : Bool) → AwaitsPath brief s old → StandsAt s old.at (88 ∷ [])
     → IsDisambiguatorAt s (old.at + 1) count end → old.is_aside ≡ false
     → new.waiting.list.items ≡ old.waiting.list.items ++ opens.TraitImpl old.at ∷ [] → new.waiting.room ≡ old.waiting.room
@@ -106,7 +106,7 @@ trait-typed brief s old middle new place from a from_is writes pushes =
 
 -- ## Traits as a type implements them
 
--- expects the type that implements a trait
+-- the type that implements a trait is expected
 pub definition-begun : (brief : Bool) (s : List ℕ) (old new : Direct) (from behind : ℕ) → AwaitsPath brief s old → StandsAt s old.at (89 ∷ []) → behind ≡ old.at + 1
     → from ≡ length old.text.list.items → Opens old new (codes "<") (opens.Implementing old.at from) behind → IsWriting brief s new steps.Type
 definition-begun brief s old new from behind awaits letter next from_is opened =

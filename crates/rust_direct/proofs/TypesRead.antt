@@ -39,7 +39,7 @@ type-said brief forms.Plain v bytes is h = (tree.path_type h.0, path-as-type v h
 type-said brief forms.Typed v bytes is h = (h.0, h.1, h.2, (h.0, refl, h.2))
 type-said brief forms.Unnamed v bytes is h = absurd (false≢true is)
 
--- expects a plain type
+-- a plain type is expected
 as-wanted : (w : Wanted) → is_for_type w ≡ true → kind_of w ≡ TYPE
 as-wanted path e = absurd (false≢true e)
 as-wanted other_path e = absurd (false≢true e)

@@ -25,7 +25,7 @@ use Rattle.rust_direct.proofs.ArgumentsRead.{type-held}
 use Rattle.rust_direct.proofs.TypesRead.{type-expected}
 use Rattle.rust_direct.proofs.Opened.{keeps-opened, stands-opened, wrapped}
 
--- what is made of a type begins here
+-- a type that is made of one type begins here
 wrap-begun : (brief : Bool) (s : List ℕ) (old new : Direct) (mark : List ℕ) (closing : Closing) (made : tree.Ty → Value) (at : ℕ) (entry : Open) (a : Awaits brief s old true)
     → TypeGoesOn s a.awaited.os old.at made at a.state → WrapHolds brief mark closing made → entry ≡ opens.Wrap old.at (length old.text.list.items) closing
     → Opens old new mark entry at → IsWriting brief s new steps.Type
@@ -45,7 +45,7 @@ wrap-begun brief s old new mark closing made at entry a goes holds is opened =
       };
     }
 
--- nothing follows the type
+-- no text comes after the type
 bare : (brief : Bool) (mark bytes : List ℕ) (t : tree.Ty) → TypePrints brief t (mark ++ bytes) → Holds brief forms.Typed (a_type t) (mark ++ bytes ++ [])
 bare brief mark bytes t prints = (t, refl, subst (λ l. TypePrints brief t l) (sym (append-nil (mark ++ bytes))) prints)
 
@@ -98,7 +98,7 @@ slice-begun brief s old new behind entry a letter is_next is opened =
     (slice-opens s a.awaited.os old.at a.state (type-expected brief s old a) letter))
     (λ t bytes prints. (tree.slice t, refl, slice-prints brief t bytes prints)) is opened
 
--- ## Their ends
+-- ## The ends of such types
 
 typed-read : (brief : Bool) (s : List ℕ) (old middle : Direct) (place from here : ℕ) (f : Forms) (closing : Closing) → closing_forms closing ≡ forms.Typed
     → Arrives brief s old (opens.Wrap place from closing) here f → is_type f ≡ true → Writes old middle (closing_text closing)
@@ -138,7 +138,6 @@ bare-read brief s old place from here f arrives is =
       numbers = refl;
       waiting = refl;
       at = refl;
-      rounds = refl;
     })
 
 -- the type of a slice's elements is read

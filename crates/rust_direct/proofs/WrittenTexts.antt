@@ -32,7 +32,7 @@ pub written-plain : (brief : Bool) (bytes : List ℕ) → IsUnmarked bytes → I
 written-plain brief bytes plain =
     record { whole = λ is. refl; seen = λ is. unmarked-seen bytes plain; hidden = λ is. unmarked-hidden bytes plain }
 
--- one after another
+-- one text after another
 pub written-append : (brief : Bool) (x y xs ys : List ℕ) → IsWrittenAs brief x xs → IsWrittenAs brief y ys → IsWrittenAs brief (x ++ y) (xs ++ ys)
 written-append brief x y xs ys p q = record {
   whole = λ is. ap (λ l. l ++ y) (p.whole is) ∙ ap (λ l. xs ++ l) (q.whole is);
@@ -48,7 +48,7 @@ written-after brief own y ys plain q = written-append brief own y own ys (writte
 pub written-before : (brief : Bool) (x xs own : List ℕ) → IsUnmarked own → IsWrittenAs brief x xs → IsWrittenAs brief (x ++ own) (xs ++ own)
 written-before brief x xs own plain p = written-append brief x own xs own p (written-plain brief own plain)
 
--- the same text, and the same bytes
+-- the same text, written as the same bytes
 pub written-as : (brief : Bool) (x y xs ys : List ℕ) → x ≡ y → xs ≡ ys → IsWrittenAs brief x xs → IsWrittenAs brief y ys
 written-as brief x y xs ys e f p = subst (λ l. IsWrittenAs brief y l) f (subst (λ l. IsWrittenAs brief l xs) e p)
 
@@ -72,7 +72,7 @@ one-written brief separator own more u o plain p q =
     ∙ ap (λ l. separator ++ (text_of u ++ l)) (perhaps-text o done ∙ append-nil (text_of_some o))))
     (written-after brief separator (text_of u ++ text_of_some o) (own ++ more) plain (written-append brief (text_of u) (text_of_some o) own more p q))
 
--- with those before it
+-- one more element, with those before it
 pub after-others : (before separator own more : List ℕ) → before ++ (separator ++ (own ++ more)) ≡ (before ++ separator ++ own) ++ more
 after-others before separator own more = sym (append_assoc (before ++ separator) own more ∙ append_assoc before separator (own ++ more))
 
@@ -90,7 +90,7 @@ generic-shown : (value : Bool) (parent : Unshared) (o : Option Unshared)
 generic-shown true parent o = refl
 generic-shown false parent o = refl
 
--- where they are shown, in brackets
+-- arguments that are shown are in brackets
 pub shown-arguments : (value : Bool) (parent : Unshared) (o : Option Unshared) (bytes own : List ℕ) → IsWrittenAs false (text_of parent) bytes
     → IsWrittenAs false (text_of_some o) own
     → IsWrittenAs false (text_of (generic_parts true value parent o)) (bytes ++ opening false value ++ own ++ closing false)
@@ -100,7 +100,7 @@ shown-arguments value parent o bytes own p q = record {
   hidden = λ is. absurd (false≢true is);
 }
 
--- and between marks where they aren't
+-- arguments that aren't shown are between marks
 pub hidden-arguments : (value : Bool) (parent : Unshared) (o : Option Unshared) (bytes own : List ℕ) → IsWrittenAs true (text_of parent) bytes
     → IsWrittenAs true (text_of_some o) own
     → IsWrittenAs true (text_of (generic_parts false value parent o)) (bytes ++ opening true value ++ own ++ closing true)
@@ -113,12 +113,12 @@ hidden-arguments value parent o bytes own p q = record {
 
 -- ## Bytes that are no marks
 
--- a name has none
+-- a name has no marks
 pub name-unmarked : (s : List ℕ) (at : ℕ) (name : List ℕ) (end : ℕ) → IsNameAt s at name end → IsUnmarked name
 name-unmarked s at name end is =
     subst IsUnmarked is.own (each-unmarked (λ b. is_name_byte Rust b ≡ true) (test-unmarked (is_name_byte Rust) refl refl) is.token.own is.is_name.each)
 
--- nor has a suffix
+-- a suffix has no marks
 pub suffix-unmarked : (suffix : List ℕ) → IsSuffix suffix → IsUnmarked suffix
 unfolding is_suffix_byte
 suffix-unmarked [] is = absurd is
@@ -130,13 +130,13 @@ suffix-unmarked (d ∷ b ∷ bs) is =
 above-unmarked : (byte : ℕ) → 3 ≤ byte → IsUnmarked (byte ∷ [])
 above-unmarked byte above = more-unmarked byte [] (is-no-mark byte (λ e. omega (arith, above, e)) (λ e. omega (arith, above, e))) refl
 
--- nor have digits
+-- digits have no marks
 pub decimal-unmarked : (n : ℕ) → n < 2 ^ 64 → IsUnmarked (decimal n)
 decimal-unmarked =
     decimal_by_steps (λ m digits. IsUnmarked digits) (λ m few. above-unmarked (48 + m) (omega arith))
     (λ m digits few plain. unmarked-append digits ((48 + m % 10) ∷ []) plain (above-unmarked (48 + m % 10) (omega arith)))
 
--- nor has what a namespace is named
+-- the text of a namespace has no marks
 pub namespace-unmarked : (letter : ℕ) → 65 ≤ letter → IsUnmarked (namespace_text letter)
 unfolding namespace_text
 namespace-unmarked letter above = go (letter == 67) (letter == 83)
@@ -146,7 +146,7 @@ namespace-unmarked letter above = go (letter == 67) (letter == 83)
     go false true = refl
     go false false = above-unmarked letter (omega (arith, above))
 
--- nor has what a closure or a shim shows after its parent
+-- the text after the parent of a closure or a shim has no marks
 colon-unmarked : (name : List ℕ) → IsUnmarked name → IsUnmarked (behind_colon name)
 colon-unmarked [] plain = refl
 colon-unmarked (b ∷ bs) plain = unmarked-append (codes ":") (b ∷ bs) refl plain
@@ -162,7 +162,7 @@ special-unmarked namespace name count one two few =
     (unmarked-append front (behind_colon name) (unmarked-append (codes "::{") namespace refl one) (colon-unmarked name two)) refl)
     (decimal-unmarked count few)) refl
 
--- nor has a basic type
+-- the text of a basic type has no marks
 abbrev are_unmarked : List (ℕ × List ℕ) → Bool
 are_unmarked [] = true
 are_unmarked ((l, bytes) ∷ rest) = elim (is_unmarked bytes) [ true ↦ are_unmarked rest | false ↦ false ]

@@ -1,4 +1,4 @@
--- What each step of a writer begins with.
+-- The state before each step of a writer.
 use Rattle.std.specs.Prelude.{◌≡◌, ℕ, List, [], ◌∷◌, ◌++◌, length, reverse, Bool, true, false, codes}
 use Rattle.rust_grammar.specs.Value.{Value, State, a_path}
 use Rattle.rust_tree.specs.Symbol as tree
@@ -50,7 +50,7 @@ pub record IsEnded (brief : Bool) (s : List ℕ) (w : Direct) (place from : ℕ)
   pub comes : Comes s os v w.at (with_ended place v before)
   pub stands : Stands brief s (reverse w.waiting.list.items) os front (parked_of w)
 
--- A path that began at a place is read and not noted yet, and one more that prints as it does is within the bound.
+-- A path that began at a place is read and not noted yet. The bound has room for one more path that prints like it.
 pub record IsEndedWithRoom (brief : Bool) (s : List ℕ) (w : Direct) (place from : ℕ) (forms : Forms) : Type 0 where
   pub ended : IsEnded brief s w place from forms forms
   pub p : tree.Path
@@ -58,7 +58,7 @@ pub record IsEndedWithRoom (brief : Bool) (s : List ℕ) (w : Direct) (place fro
   pub has : PathHas brief forms p ended.bytes
   pub room : HaveRoom brief forms p ended.bytes
 
--- The path of an impl is read, which isn't shown: expects its type, in angles.
+-- The path of an impl is read, which isn't shown. The type of the impl is expected, in angles.
 pub record AwaitsImplType (brief : Bool) (s : List ℕ) (w : Direct) (place : ℕ) : Type 0 where
   pub state : State
   pub keeps : Keeps brief s w state
@@ -68,7 +68,7 @@ pub record AwaitsImplType (brief : Bool) (s : List ℕ) (w : Direct) (place : �
   pub goes : TypeGoesOn s outer place (λ t. a_path (made t)) w.at state
   pub stands : Stands brief s (reverse w.waiting.list.items) outer w.text.list.items (parked_of w)
 
--- Likewise for an impl of a trait: after its type the trait is expected.
+-- The path of an impl of a trait is read, which isn't shown. The type is expected, and after it the trait.
 pub record AwaitsTraitType (brief : Bool) (s : List ℕ) (w : Direct) (place : ℕ) : Type 0 where
   pub state : State
   pub keeps : Keeps brief s w state
@@ -78,7 +78,7 @@ pub record AwaitsTraitType (brief : Bool) (s : List ℕ) (w : Direct) (place : �
   pub goes : ImplementingGoesOn s outer place (λ t r. a_path (made t r)) w.at state
   pub stands : Stands brief s (reverse w.waiting.list.items) outer w.text.list.items (parked_of w)
 
--- the path of the symbol is read, and written
+-- the path of a symbol is read and written
 pub record IsSymbolEnded (brief : Bool) (s : List ℕ) (w : Direct) : Type 0 where
   pub state : State
   pub keeps : Keeps brief s w state
@@ -86,7 +86,7 @@ pub record IsSymbolEnded (brief : Bool) (s : List ℕ) (w : Direct) : Type 0 whe
   pub prints : PathPrints brief true p w.text.list.items
   pub ends : EndsSymbol s p w.at
 
--- expects an argument, after what separates it from the one before
+-- an argument is expected, after the separator from the one before
 pub record AwaitsArgument (brief : Bool) (s : List ℕ) (w : Direct) (is_first : Bool) : Type 0 where
   pub state : State
   pub keeps : Keeps brief s w state

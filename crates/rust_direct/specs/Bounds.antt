@@ -11,7 +11,7 @@ use Rattle.rust_grammar.specs.Value.{State, a_type, some_bounds}
 use Rattle.rust_direct.specs.Holes.{Opened, Comes, Expects, Ends, within}
 use Rattle.rust_direct.specs.Prints.{detail_by, IsWrittenAs, text_of_some, cost_of_some}
 
--- Bounds so far have this text, whatever follows them; a separator precedes the next one.
+-- The bounds so far have this text, whatever bounds follow. A separator comes before the next one.
 pub record BoundsBegin (brief : Bool) (made : tree.Bounds → tree.Bounds) (separator bytes : List ℕ) : Type 0 where
   pub plain : IsUnmarked separator
   pub text_is : (rest : tree.Bounds) (more : List ℕ) → IsWrittenAs brief (text_of_some (bounds_from (detail_by brief) 0 separator rest)) more
@@ -20,7 +20,7 @@ pub record BoundsBegin (brief : Bool) (made : tree.Bounds → tree.Bounds) (sepa
       → cost_of_some (bounds_from (detail_by brief) 0 [] (made rest)) ≤ 4 * length bytes + length separator + cost_of_some (bounds_from (detail_by brief) 0 separator rest)
   pub needs_none : (rest : tree.Bounds) → need_of_bounds rest ≡ 0 → need_of_bounds (made rest) ≡ 0
 
--- Bounds continue after others, up to an E with an erased lifetime after it.
+-- Bounds continue after others, up to an E and the erased lifetime after it.
 pub record BoundsGoOn (s : List ℕ) (outer : List Opened) (place : ℕ) (made : tree.Bounds → tree.Bounds) (at : ℕ) (st : State) : Type 0 where
   pub inner : List Opened
   pub production : Production

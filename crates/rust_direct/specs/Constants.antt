@@ -21,7 +21,7 @@ abbrev pub one_of : List ℕ → ℕ → Bool
 one_of [] letter = false
 one_of (l ∷ ls) letter = if l == letter then true else one_of ls letter
 
--- the letters of the types whose integers have a sign, and of those whose integers have none
+-- the letters of integer types with a sign, and of those without one
 unfoldable pub is_signed : ℕ → Bool
 is_signed letter = one_of signed_letters letter
 
@@ -32,7 +32,7 @@ is_unsigned letter = one_of unsigned_letters letter
 abbrev pub sign_text : (minus : Bool) → List ℕ
 sign_text minus = if minus then 45 ∷ [] else []
 
--- a number in base 16 is at the place, with this value of at most 64 bits, and this is the place after it
+-- a number in base 16 is at the place; it has this value, of at most 64 bits, and this is the place after it
 pub record IsHexAt (s : List ℕ) (at : ℕ) (n : ℕ) (end : ℕ) : Type 0 where
   pub token : Token
   pub is_number : IsNumberToken Hex token
@@ -46,7 +46,7 @@ abbrev pub IsConstantAt : (s : List ℕ) → (at : ℕ) → tree.Constant → (e
 IsConstantAt s at c end =
     (os : List Opened) (st : State) → Expects s CONSTANT os at st → Comes s os (a_constant c) end (with_ended at (a_constant c) st)
 
--- The type of an integer and its sign are read; expects its digits. Zero has no minus.
+-- The type of an integer and its sign are read, and its digits are expected. Zero has no minus.
 abbrev pub BeginsInteger : (s : List ℕ) → (at digits : ℕ) → (minus : Bool) → Type 0
 BeginsInteger s at digits minus =
     (letter : ℕ) × ((n end : ℕ) → IsHexAt s digits n end → IsConstantAt s at (tree.integer letter (minus && nat_lt 0 n) n) end)
@@ -59,14 +59,14 @@ pub record WritesConstant (s : List ℕ) (old new : Direct) (at end : ℕ) : Typ
   pub writes : Writes old new own
   pub comes : IsConstantAt s at c end
 
--- Expects the size of an array whose type is read.
+-- The size of an array is expected; the type of its elements is read.
 pub record SizeGoesOn (s : List ℕ) (outer : List Opened) (place : ℕ) (t : tree.Ty) (at : ℕ) (st : State) : Type 0 where
   pub inner : List Opened
   pub production : Production
   pub awaits : Expects s CONSTANT inner at (within production st)
   pub passes : (c : tree.Constant) (at : ℕ) (st : State) → Comes s inner (a_constant c) at st → Ends s outer place (a_type (tree.array t c)) at st
 
--- Expects the type of an array, and after it the size.
+-- The type of an array's elements is expected, and after it the size.
 pub record ArrayGoesOn (s : List ℕ) (outer : List Opened) (place : ℕ) (at : ℕ) (st : State) : Type 0 where
   pub inner : List Opened
   pub production : Production

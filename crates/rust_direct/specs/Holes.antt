@@ -1,4 +1,4 @@
--- What the open rules of a Rust symbol still need. No lifetime is bound: a symbol that binds one is given up.
+-- What the open rules of a Rust symbol still need. No lifetime is bound, since a symbol that binds one is given up.
 use Rattle.std.specs.Prelude.{◌≡◌, ◌⊎◌, ℕ, ◌+◌, ◌≤◌, List, [], ◌∷◌, Bool, true, false, Option, Some, None, Ok, length}
 use Rattle.std.specs.List.{AllByRecursion}
 use Rattle.sym_core.specs.declared.NumberKind.TheVariants.{Base62}
@@ -18,21 +18,21 @@ use Rattle.rust_grammar.specs.Mangled.{v0_mangled}
 use Rattle.rust_grammar.specs.Value.{Value, State, a_path, a_type, some_types}
 use Rattle.rust_grammar.specs.Unfold.{v0, at_first, as_type, arguments_part, identifier_part, greatest_u64}
 
--- Rust as a language for this reader. What it says of a rule depends on the symbol: a suffix is the rest of it.
+-- Rust as a language for this reader. The reading of a rule depends on the symbol, since a suffix is the rest of it.
 abbrev pub rust_language : Language Value State ℕ
 rust_language = record { table = v0_table; reading = λ s. v0 s; first_context = 0; first_state = at_first }
 
 abbrev pub Opened : Type 0
 Opened = direct.Opened Value State ℕ
 
--- the innermost open rule has its next values, none or one
+-- the innermost open rule has its next values: one or none
 abbrev pub ComesAll : (s : List ℕ) → List Opened → List Value → (at : ℕ) → State → Type 0
 ComesAll s os vs at state = direct.Comes rust_language s os vs at state
 
 abbrev pub Comes : (s : List ℕ) → List Opened → Value → (at : ℕ) → State → Type 0
 Comes s os v at state = ComesAll s os (v ∷ []) at state
 
--- expects a kind next
+-- a kind is expected next
 abbrev pub Expects : (s : List ℕ) → (kind : ℕ) → List Opened → (at : ℕ) → State → Type 0
 Expects s kind os at state = direct.Expects rust_language s (OfKind kind) 0 os at state
 
@@ -85,17 +85,17 @@ pub record IsNameAt (s : List ℕ) (at : ℕ) (name : List ℕ) (end : ℕ) : Ty
   pub stands : StandsAt s at (bytes_of token)
   pub ends : end ≡ at + length (bytes_of token)
 
--- a disambiguator is at the place, or none, which counts 0
+-- a disambiguator is at the place, or none is, which denotes 0; this is the place after it
 abbrev pub IsDisambiguatorAt : (s : List ℕ) → (at count end : ℕ) → Type 0
 IsDisambiguatorAt s at count end =
     ((count ≡ 0) × (end ≡ at))
     ⊎ ((n : ℕ) × StandsAt s at (115 ∷ []) × IsNumberAt s (at + 1) n end × (count ≡ n + 1) × (count ≤ greatest_u64))
 
--- a number in base 62 is at the place that is less than the greatest of 64 bits, and this is the place after it
+-- a number in base 62 is at the place, and this is the place after it; the number is less than the greatest of 64 bits
 abbrev pub IsSmallNumberAt : (s : List ℕ) → (at end : ℕ) → Type 0
 IsSmallNumberAt s at end = (n : ℕ) × IsNumberAt s at n end × (n + 1 ≤ greatest_u64)
 
--- a disambiguator is at the place, or none, whatever its number, and this is the place after it
+-- a disambiguator is at the place, or none is, and this is the place after it; its number doesn't matter
 abbrev pub HasDisambiguator : (s : List ℕ) → (at end : ℕ) → Type 0
 HasDisambiguator s at end = (count : ℕ) × IsDisambiguatorAt s at count end
 
@@ -116,7 +116,7 @@ abbrev pub erased_bytes : Erased → List ℕ
 erased_bytes unwritten = []
 erased_bytes written = 76 ∷ 95 ∷ []
 
--- an erased lifetime is at the place, or none, and this is the place after it
+-- an erased lifetime is at the place, or none is, and this is the place after it
 abbrev pub IsErasedAt : (s : List ℕ) → (at end : ℕ) → Type 0
 IsErasedAt s at end = (e : Erased) × StandsAt s at (erased_bytes e) × (end ≡ at + length (erased_bytes e))
 
@@ -137,12 +137,12 @@ abbrev pub IsSymbol : (s : List ℕ) → tree.Path → (suffix : List ℕ) → T
 IsSymbol s p suffix =
     (other : Option tree.Path) × StandsFor v0_mangled s (Ok (record { path = p; instantiating = other; suffix = suffix }))
 
--- The paths of a symbol are read: it ends at the place, or a suffix is there.
+-- The paths of a symbol are read: the symbol ends at the place, or its suffix is there.
 pub record EndsSymbol (s : List ℕ) (p : tree.Path) (at : ℕ) : Type 0 where
   pub ends : at ≡ length s → IsSymbol s p []
   pub ends_in : (suffix : List ℕ) → StandsAt s at suffix → at + length suffix ≡ length s → IsSuffix suffix → IsSymbol s p suffix
 
--- The path of a symbol is read, and that of the instantiating crate may follow.
+-- The path of a symbol is read, and the path of the instantiating crate may follow.
 pub record OtherGoesOn (s : List ℕ) (p : tree.Path) (at : ℕ) (st : State) : Type 0 where
   pub inner : List Opened
   pub awaits : Expects s OTHER_PATH inner at (within Production.Symbol st)
@@ -151,39 +151,39 @@ pub record OtherGoesOn (s : List ℕ) (p : tree.Path) (at : ℕ) (st : State) : 
 
 -- ## Paths
 
--- The parent of a path in a namespace is read: expects its name.
+-- The parent of a path in a namespace is read, and the name of the path is expected.
 pub record NameGoesOn (s : List ℕ) (outer : List Opened) (letter place : ℕ) (p : tree.Path) (at : ℕ) (st : State) : Type 0 where
   pub inner : List Opened
   pub awaits : Expects s IDENTIFIER inner at (within Production.Nested st)
   pub onward : (v : Value) (name : tree.Identifier) (at : ℕ) (st : State) → identifier_part (v ∷ []) ≡ Ok (name, []) → Comes s inner v at st
       → Comes s outer (a_path (tree.nested letter p name)) at (with_ended place (a_path (tree.nested letter p name)) st)
 
--- the entry that waited for a path or a type has it
+-- the entry that waited for a path or a type gets this value
 abbrev pub Ends : (s : List ℕ) → (outer : List Opened) → (place : ℕ) → Value → (at : ℕ) → State → Type 0
 Ends s outer place v at st = Comes s outer v at (with_ended place v st)
 
--- the value is this type: a path is also one
+-- the value denotes this type; the value of a path also denotes a type
 abbrev pub IsType : Value → tree.Ty → Type 0
 IsType v t = as_type (Some v) ≡ Some t
 
--- a type accepted inside ends what is made of it
+-- a type that the inner entry gets ends what is made of the type
 abbrev pub TypePasses : (s : List ℕ) → (inner outer : List Opened) → (place : ℕ) → (made : tree.Ty → Value) → Type 0
 TypePasses s inner outer place made =
     (v : Value) (t : tree.Ty) (at : ℕ) (st : State) → IsType v t → Comes s inner v at st → Ends s outer place (made t) at st
 
--- a path accepted inside ends what is made of it
+-- a path that the inner entry gets ends what is made of the path
 abbrev pub PathPasses : (s : List ℕ) → (inner outer : List Opened) → (place : ℕ) → (made : tree.Path → Value) → Type 0
 PathPasses s inner outer place made =
     (p : tree.Path) (at : ℕ) (st : State) → Comes s inner (a_path p) at st → Ends s outer place (made p) at st
 
--- Expects a type, the last part of what is made of it.
+-- A type is expected, as the last part of what is made of it.
 pub record TypeGoesOn (s : List ℕ) (outer : List Opened) (place : ℕ) (made : tree.Ty → Value) (at : ℕ) (st : State) : Type 0 where
   pub inner : List Opened
   pub production : Production
   pub awaits : Expects s TYPE inner at (within production st)
   pub passes : TypePasses s inner outer place made
 
--- Expects a path, the last part of what is made of it.
+-- A path is expected, as the last part of what is made of it.
 pub record PathGoesOn (s : List ℕ) (outer : List Opened) (place : ℕ) (made : tree.Path → Value) (at : ℕ) (st : State) : Type 0 where
   pub inner : List Opened
   pub production : Production
@@ -206,21 +206,21 @@ pub record TypesGoOn (s : List ℕ) (outer : List Opened) (place : ℕ) (made : 
   pub awaits : Expects s TYPES inner at (within production st)
   pub closes : (ts : tree.Tys) (at : ℕ) (st : State) → Comes s inner (some_types ts) at st → Ends s outer place (a_type (tree.tuple (made ts))) at st
 
--- Expects the type that implements a trait, and after it the trait.
+-- The type that implements a trait is expected, and after it the trait.
 pub record ImplementingGoesOn (s : List ℕ) (outer : List Opened) (place : ℕ) (made : tree.Ty → tree.Path → Value) (at : ℕ) (st : State) : Type 0 where
   pub inner : List Opened
   pub production : Production
   pub awaits : Expects s TYPE inner at (within production st)
   pub onward : (v : Value) (t : tree.Ty) (at : ℕ) (st : State) → IsType v t → Comes s inner v at st → PathGoesOn s outer place (made t) at st
 
--- Expects the path of an impl, and after it its type.
+-- The path of an impl is expected, and after it the type of the impl.
 pub record ImplGoesOn (s : List ℕ) (outer : List Opened) (place : ℕ) (made : tree.Path → tree.Ty → Value) (at : ℕ) (st : State) : Type 0 where
   pub inner : List Opened
   pub production : Production
   pub awaits : Expects s PATH inner at (within production st)
   pub onward : (q : tree.Path) (at : ℕ) (st : State) → Comes s inner (a_path q) at st → TypeGoesOn s outer place (made q) at st
 
--- Expects the path of an impl of a trait, and after it the type and the trait.
+-- The path of an impl of a trait is expected, and after it the type and the trait.
 pub record TraitGoesOn (s : List ℕ) (outer : List Opened) (place : ℕ) (made : tree.Path → tree.Ty → tree.Path → Value) (at : ℕ) (st : State)
     : Type 0 where
   pub inner : List Opened

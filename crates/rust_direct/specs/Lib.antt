@@ -10,4 +10,3 @@ pub mod Bounds
 pub mod Constants
 pub mod WriterInvariant
 pub mod Awaits
-pub mod Rounds

@@ -1,4 +1,4 @@
--- Names: what is read of their length, and where their own bytes are.
+-- Names: how much of their length is read, and where their own bytes are.
 use Rattle.std.specs.Prelude.{◌≡◌, ℕ, ◌+◌, ◌-◌, ◌≤◌, ◌<◌, List, length, take, drop, Bool, ◌||◌, ◌==◌}
 use Rattle.sym_core.specs.declared.NumberKind.TheVariants.{Length}
 use Rattle.sym_core.specs.declared.tokens.TokenPlace.{TokenPlace}
@@ -8,7 +8,7 @@ use Rattle.sym_core.specs.Value.{value_of}
 use Rattle.sym_direct.specs.Holes.{StandsAt}
 use Rattle.rust_direct.specs.Holes.{IsNameAt}
 
--- Digits are at the place. If they are the length of a name, its own bytes, as many as that, are from here on.
+-- Digits are at the place. If they are the length of a name, its own bytes begin here, as many as the length says.
 pub record IsLengthRead (s : List ℕ) (at from size : ℕ) : Type 0 where
   pub digits : List ℕ
   pub are_digits : AreDigitsOf Length digits
@@ -21,11 +21,11 @@ pub record IsLengthRead (s : List ℕ) (at from size : ℕ) : Type 0 where
 abbrev pub goes_on : ℕ → Bool
 goes_on b = is_decimal_digit b || b == 95
 
--- a name is at the place, and its own bytes are those from here to there
+-- a name is at the place, and its own bytes are between these places
 abbrev pub IsNamePlace : (s : List ℕ) → (at : ℕ) → TokenPlace → Type 0
 IsNamePlace s at place =
     (place.from ≤ place.to) × (place.to ≤ length s) × IsNameAt s at (take (place.to - place.from) (drop place.from s)) place.end
 
--- a name is at the place, and ends with its own bytes, which are those of the span
+-- a name is at the place; it ends with its own bytes, which are those of the span
 abbrev pub IsNameSpan : (s : List ℕ) → (at : ℕ) → Span → Type 0
 IsNameSpan s at own = IsNamePlace s at (record { from = own.from; to = own.to; end = own.to })

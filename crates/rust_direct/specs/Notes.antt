@@ -1,11 +1,11 @@
--- Notes: what was written for each path and type that has ended, in the text or aside.
+-- Notes: where the text of each path and type that has ended was written, in the shown or in the hidden text.
 use Rattle.std.specs.Prelude.{◌≡◌, ℕ, zero, suc, ◌+◌, List, ◌++◌, length, slice_get, Bool, true, false, Option, Some, None}
 use Rattle.rust_grammar.specs.Value.{Value, Ended}
 use Rattle.rust_grammar.specs.Unfold.{ended_at}
 use Rattle.rust_direct.specs.declared.open.Note.{Note}
 use Rattle.rust_direct.specs.PrintsInForm.{Says}
 
--- The list that holds a note. What is read and not shown is written aside; meanwhile that list is the one that is written to.
+-- The text that holds a note. Hidden text is written aside, and is then the one that is written to.
 abbrev pub home : (is_aside : Bool) → (note_is_aside : Bool) → (text aside : List ℕ) → List ℕ
 home true true text aside = text
 home false false text aside = text
@@ -22,7 +22,7 @@ pub record IsNote (brief : Bool) (written : List ℕ) (n : Note) (v : Value) : T
   pub to_is : n.to ≡ length front + length bytes
   pub says : Says brief n.forms v bytes
 
--- of what ended that began at a place
+-- what is noted of something that ended and began at a place
 abbrev pub NotesEnded : (brief : Bool) (is_aside : Bool) → (text aside : List ℕ) → Note → Option Value → Type 0
 NotesEnded brief is_aside text aside n None = ⊥
 NotesEnded brief is_aside text aside n (Some v) = IsNote brief (home is_aside n.is_aside text aside) n v
@@ -31,7 +31,7 @@ abbrev pub NotedAs : (brief : Bool) (is_aside : Bool) → (text aside : List ℕ
 NotedAs brief is_aside text aside None v = ⊥
 NotedAs brief is_aside text aside (Some n) v = NotesEnded brief is_aside text aside n v
 
--- a place with the number k + 1 has the note k; with 0 nothing is known of it
+-- a place with the number k + 1 has the note k; of a place with 0 nothing is known
 abbrev pub IsNumbered : (brief : Bool) (is_aside : Bool) → (text aside : List ℕ) → List Note → Option Value → (number : Option ℕ) → Type 0
 IsNumbered brief is_aside text aside notes v None = Unit {0}
 IsNumbered brief is_aside text aside notes v (Some zero) = Unit {0}

@@ -1,4 +1,4 @@
--- Trees of Rust with known text, where no lifetime is bound.
+-- Trees of Rust whose text is known. No lifetime is bound around them.
 use Rattle.std.specs.Prelude.{◌≡◌, ℕ, ◌+◌, ◌*◌, ◌≤◌, List, [], ◌∷◌, ◌++◌, length, Bool, true, false, Option, Some, None, codes, cond}
 use Rattle.sym_print.specs.declared.detail.Detail.{Detail}
 use Rattle.sym_print.specs.declared.detail.Detail.TheVariants.{Full, Brief}
@@ -13,14 +13,14 @@ abbrev pub detail_by : (brief : Bool) → Detail
 detail_by true = Brief
 detail_by false = Full
 
--- A text was written as these bytes: as it is where all is shown, and otherwise in a form whose visible bytes are the text's,
--- unless they are in a stretch that is left out.
+-- How a text is written as bytes. Where all is shown, they are the text. Otherwise the visible bytes are the text,
+-- unless the text is in a stretch that is left out.
 pub record IsWrittenAs (brief : Bool) (text bytes : List ℕ) : Type 0 where
   pub whole : brief ≡ false → text ≡ bytes
   pub seen : brief ≡ true → IsSeenAs bytes text
   pub hidden : brief ≡ true → IsHidden bytes
 
--- parts that were written as these bytes, and cost at most four a byte
+-- parts that were written as these bytes, and cost at most four for each byte
 pub record Shows (brief : Bool) (parts : Unshared) (bytes : List ℕ) : Type 0 where
   pub text_is : IsWrittenAs brief (text_of parts) bytes
   pub cost : 1 + cost_of parts ≤ 4 * length bytes
@@ -31,12 +31,13 @@ pub record Spells (parts : Unshared) (bytes : List ℕ) : Type 0 where
   pub plain : IsUnmarked bytes
   pub cost : 1 + cost_of parts ≤ 4 * length bytes
 
--- A path with this text in a form: after a value its arguments follow `::`. It needs no lifetime that is bound around it.
+-- A path with this text in a form: after a value its arguments follow `::`. The path needs no lifetime that is bound
+-- around it.
 pub record PathPrints (brief : Bool) (value : Bool) (p : Path) (bytes : List ℕ) : Type 0 where
   pub shows : Shows brief (path_parts (detail_by brief) 0 value p) bytes
   pub needs_none : need p ≡ 0
 
--- What prints the path costs at least one less than it may: one more part without text is within the bound.
+-- Printing the path costs at least one less than the bound, so one more part without text fits.
 abbrev pub HasRoom : (brief : Bool) (value : Bool) → Path → (bytes : List ℕ) → Type 0
 HasRoom brief value p bytes = 2 + cost_of (path_parts (detail_by brief) 0 value p) ≤ 4 * length bytes
 
@@ -47,7 +48,7 @@ pub record TypePrints (brief : Bool) (t : Ty) (bytes : List ℕ) : Type 0 where
 
 -- ## Lists
 
--- what parts print that may be none, and cost
+-- what parts that may be missing print and cost
 abbrev pub text_of_some : Option Unshared → List ℕ
 text_of_some None = []
 text_of_some (Some parts) = text_of parts
@@ -56,7 +57,7 @@ abbrev pub cost_of_some : Option Unshared → ℕ
 cost_of_some None = 0
 cost_of_some (Some parts) = cost_of parts
 
--- what precedes the arguments of a path, and follows them: a mark where they aren't shown
+-- the bytes before and after the arguments of a path: marks where arguments aren't shown
 abbrev pub opening : (brief : Bool) (value : Bool) → List ℕ
 opening true value = opens ∷ []
 opening false value = cond value (codes "::<") (codes "<")
@@ -65,13 +66,13 @@ abbrev pub closing : (brief : Bool) → List ℕ
 closing true = closes ∷ []
 closing false = codes ">"
 
--- Arguments with this text, and no lifetime that is bound around them.
+-- Arguments with this text. They need no lifetime that is bound around them.
 pub record ArgumentsPrint (brief : Bool) (args : Arguments) (bytes : List ℕ) : Type 0 where
   pub text_is : IsWrittenAs brief (text_of_some (arguments_from (detail_by brief) 0 [] args)) bytes
   pub cost : cost_of_some (arguments_from (detail_by brief) 0 [] args) ≤ 4 * length bytes
   pub needs_none : need_of_arguments args ≡ 0
 
--- Arguments so far have this text, whatever follows them; a separator precedes the next one.
+-- The arguments so far have this text, whatever arguments follow. A separator comes before the next one.
 pub record ArgumentsBegin (brief : Bool) (made : Arguments → Arguments) (separator bytes : List ℕ) : Type 0 where
   pub plain : IsUnmarked separator
   pub text_is : (rest : Arguments) (more : List ℕ) → IsWrittenAs brief (text_of_some (arguments_from (detail_by brief) 0 separator rest)) more
@@ -79,7 +80,7 @@ pub record ArgumentsBegin (brief : Bool) (made : Arguments → Arguments) (separ
   pub cost : (rest : Arguments) → cost_of_some (arguments_from (detail_by brief) 0 [] (made rest)) ≤ 4 * length bytes + cost_of_some (arguments_from (detail_by brief) 0 separator rest)
   pub needs_none : (rest : Arguments) → need_of_arguments rest ≡ 0 → need_of_arguments (made rest) ≡ 0
 
--- likewise for the types of a tuple
+-- the same for the types of a tuple
 pub record TypesBegin (brief : Bool) (made : Tys → Tys) (separator bytes : List ℕ) : Type 0 where
   pub plain : IsUnmarked separator
   pub text_is : (rest : Tys) (more : List ℕ) → IsWrittenAs brief (text_of_some (types_from (detail_by brief) 0 separator rest)) more

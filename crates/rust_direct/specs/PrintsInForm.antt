@@ -1,4 +1,4 @@
--- What is known of what was read, by the forms that its text is right in.
+-- What is known of a path or a type that was read, by the forms in which its text is right.
 use Rattle.std.specs.Prelude.{◌≡◌, ℕ, List, Bool, true, false, cond, Some}
 use Rattle.rust_tree.specs.Symbol.{Path, Ty}
 use Rattle.rust_grammar.specs.Value.{Value, a_path}
@@ -14,14 +14,14 @@ PathHas brief forms.Valued p bytes = PathPrints brief true p bytes
 PathHas brief forms.Plain p bytes = PathPrints brief false p bytes
 PathHas brief _ p bytes = ⊥
 
--- In the forms that are named it leaves room for one more part without text.
+-- In the forms that are named, one more part without text fits into the bound.
 abbrev pub HaveRoom : (brief : Bool) → Forms → Path → (bytes : List ℕ) → Type 0
 HaveRoom brief forms.Alike p bytes = HasRoom brief true p bytes × HasRoom brief false p bytes
 HaveRoom brief forms.Valued p bytes = HasRoom brief true p bytes
 HaveRoom brief forms.Plain p bytes = HasRoom brief false p bytes
 HaveRoom brief _ p bytes = ⊥
 
--- what a reference may name of a value that was written this way
+-- what a reference may rely on for a value that was written in this way
 abbrev pub Says : (brief : Bool) → Forms → Value → (bytes : List ℕ) → Type 0
 Says brief forms.Typed v bytes = (t : Ty) × (as_type (Some v) ≡ Some t) × TypePrints brief t bytes
 Says brief forms.Unnamed v bytes = Unit {0}
@@ -33,7 +33,7 @@ Holds brief forms.Typed v bytes = (t : Ty) × (as_type (Some v) ≡ Some t) × T
 Holds brief forms.Unnamed v bytes = ⊥
 Holds brief f v bytes = (p : Path) × (v ≡ a_path p) × PathHas brief f p bytes
 
--- the text is right in a form of a path: as it follows a value, or elsewhere
+-- the text is right in a form of a path: after a value, or elsewhere
 abbrev pub has_form : (value : Bool) → Forms → Bool
 has_form value forms.Alike = true
 has_form true forms.Valued = true

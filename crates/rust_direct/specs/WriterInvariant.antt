@@ -24,7 +24,7 @@ use Rattle.rust_direct.specs.Prints.{detail_by, IsWrittenAs, PathPrints, TypePri
 use Rattle.rust_direct.specs.PrintsInForm.{Holds}
 use Rattle.rust_direct.specs.Notes.{AreNotes}
 
--- The symbol is one whose text was written as these bytes.
+-- the symbol's text was written as these bytes
 pub record IsWhole (brief : Bool) (s : List ℕ) (text : List ℕ) : Type 0 where
   pub whole : tree.Symbol
   pub stands : StandsFor v0_mangled s (Ok whole)
@@ -46,13 +46,13 @@ ImplPrints brief made =
     (value : Bool) (q : tree.Path) (t : tree.Ty) (bytes : List ℕ) → need q ≡ 0 → TypePrints brief t bytes
     → PathPrints brief value (made q t) (codes "<" ++ bytes ++ codes ">")
 
--- a trait that is implemented prints its type and itself
+-- an implemented trait prints the type and the trait
 abbrev pub TraitPrints : (brief : Bool) → (tree.Ty → tree.Path → tree.Path) → Type 0
 TraitPrints brief made =
     (value : Bool) (t : tree.Ty) (r : tree.Path) (bytes own : List ℕ) → TypePrints brief t bytes → PathPrints brief false r own
     → PathPrints brief value (made t r) ((codes "<" ++ bytes ++ codes " as ") ++ own ++ codes ">")
 
--- what follows the type, and what is made of it then
+-- the text after the type, and what is made of the type then
 abbrev pub closing_text : Closing → List ℕ
 closing_text closings.Nothing = []
 closing_text closings.Bracket = codes "]"
@@ -66,7 +66,7 @@ abbrev pub WrapHolds : (brief : Bool) (mark : List ℕ) → Closing → (tree.Ty
 WrapHolds brief mark closing made =
     (t : tree.Ty) (bytes : List ℕ) → TypePrints brief t bytes → Holds brief (closing_forms closing) (made t) (mark ++ bytes ++ closing_text closing)
 
--- what closes a tuple after its first type, and after another one
+-- what closes a tuple, after its first type and after a later one
 abbrev pub tuple_end : (is_first : Bool) → List ℕ
 tuple_end is_first = cond is_first (codes ",)") (codes ")")
 
@@ -76,8 +76,9 @@ pub record TypesCount (is_first : Bool) (made : tree.Tys → tree.Tys) : Type 0 
 
 -- ## What is open
 
--- The innermost entry accepts a path or a type, after what is written. Where it is read and not shown, the shown text is
--- parked. After the path of an impl that isn't shown itself, the impl's own text begins, whatever was written.
+-- The innermost entry accepts a path or a type, after the written text. Where that path or type isn't shown, the shown
+-- text is parked. After the path of an impl that isn't shown itself, the impl's own text begins, whatever was written
+-- before.
 abbrev pub Stands : (brief : Bool) (s : List ℕ) → List Open → List Opened → (text parked : List ℕ) → Type 0
 Stands brief s [] os text parked = ⊥
 Stands brief s (opens.Symbol ∷ rest) os text parked =
@@ -146,7 +147,7 @@ Stands brief s (opens.Array place from ∷ rest) os text parked =
     × ((v : Value) (t : tree.Ty) (at : ℕ) (st : State) → IsType v t → Comes s os v at st → SizeGoesOn s outer place t at st)
     × Stands brief s rest outer front parked
 
--- Nothing hidden is written yet: only paths wait for what is read, and their texts begin with its own.
+-- Nothing hidden is written yet: only paths wait, and the text of each begins with the text that it waits for.
 abbrev pub IsUnbegun : List Open → Type 0
 IsUnbegun [] = ⊥
 IsUnbegun (opens.Nest letter place ∷ rest) = IsUnbegun rest
@@ -172,7 +173,7 @@ pub record IsAwaited (brief : Bool) (s : List ℕ) (w : Direct) (state : State) 
   pub awaits : Expects s (kind_of wanted) os w.at state
   pub stands : Stands brief s (reverse w.waiting.list.items) os w.text.list.items (parked_of w)
 
--- a path or a type was read, which extends from a place on
+-- a path or a type was read, whose text begins at a place
 pub record IsRead (brief : Bool) (s : List ℕ) (w : Direct) (state : State) (waiting : List Open) (from : ℕ) (forms : Forms) : Type 0 where
   pub os : List Opened
   pub v : Value
@@ -184,7 +185,7 @@ pub record IsRead (brief : Bool) (s : List ℕ) (w : Direct) (state : State) (wa
   pub comes : Comes s os v w.at state
   pub stands : Stands brief s waiting os front (parked_of w)
 
--- arguments continue: what is between them and the next one
+-- the text before an argument: none before the first, and otherwise a separator
 abbrev pub separator_of : (is_first : Bool) → List ℕ
 separator_of is_first = cond is_first [] (codes ", ")
 
@@ -219,8 +220,8 @@ IsBefore brief s w st steps.Ended = IsWhole brief s w.text.list.items
 abbrev pub AreNotesOf : (brief : Bool) → Direct → State → Type 0
 AreNotesOf brief w st = AreNotes brief w.is_aside w.text.list.items w.aside.list.items w.notes.list.items w.numbers.items st.ended
 
--- No list has room for more than eight bytes of text for each byte of the symbol and a kilobyte, or for more entries than the symbol has
--- bytes.
+-- No list has room for more than eight bytes of text for each byte of the symbol and a kilobyte, or for more entries
+-- than the symbol has bytes.
 pub record AreRooms (s : List ℕ) (text aside notes numbers waiting : ℕ) : Type 0 where
   pub text_is_within : text ≤ 8 * length s + 1024
   pub aside_is_within : aside ≤ 8 * length s + 1024
@@ -231,11 +232,11 @@ pub record AreRooms (s : List ℕ) (text aside notes numbers waiting : ℕ) : Ty
 abbrev pub HasRooms : (s : List ℕ) → Direct → Type 0
 HasRooms s w = AreRooms s w.text.room w.aside.room w.notes.room (length w.numbers.items) w.waiting.room
 
--- what a writer keeps from step to step
+-- what a writer keeps from one step to the next
 abbrev pub Keeps : (brief : Bool) (s : List ℕ) → Direct → State → Type 0
 Keeps brief s w st = AreNotesOf brief w st × HasRooms s w
 
--- a writer that has come this far, and what comes next
+-- how far a writer has come, and what comes next
 pub record IsWriting (brief : Bool) (s : List ℕ) (w : Direct) (step : Step) : Type 0 where
   pub state : State
   pub keeps : Keeps brief s w state

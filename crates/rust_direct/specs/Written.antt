@@ -14,7 +14,6 @@ pub record Writes (old new : Direct) (bytes : List ℕ) : Type 0 where
   pub numbers : new.numbers ≡ old.numbers
   pub waiting : new.waiting ≡ old.waiting
   pub at : new.at ≡ old.at
-  pub rounds : new.rounds ≡ old.rounds
 
 -- something was noted, and nothing else changed
 pub record Notes (old new : Direct) (place from : ℕ) (forms : Forms) : Type 0 where
@@ -28,13 +27,12 @@ pub record Notes (old new : Direct) (place from : ℕ) (forms : Forms) : Type 0 
   pub numbers : new.numbers.items ≡ slice_set old.numbers.items place (length old.notes.list.items + 1)
   pub waiting : new.waiting ≡ old.waiting
   pub at : new.at ≡ old.at
-  pub rounds : new.rounds ≡ old.rounds
 
--- what is in a list between two places
+-- the bytes of a list between two places
 abbrev pub piece : List ℕ → (from to : ℕ) → List ℕ
 piece bytes from to = take (to - from) (drop from bytes)
 
--- a text was written, an entry waits, and the place is another one
+-- a text was written, an entry waits, and the writer is at another place
 pub record Opens (old new : Direct) (bytes : List ℕ) (entry : Open) (at : ℕ) : Type 0 where
   pub text : new.text.list.items ≡ old.text.list.items ++ bytes
   pub aside : new.aside ≡ old.aside

@@ -42,7 +42,7 @@ impl Direct {
         Some(Step::Arguments { is_first: true })
     }
 
-    /// Writes what precedes arguments: a mark where they aren't to be shown.
+    /// Writes the text before arguments: a mark where they aren't to be shown.
     #[inline(always)]
     fn push_opening<S: Showing>(&mut self, is_value: bool) -> Option<()>
         ensures { OnSome result (Writes self.old self.new (opening S.IS_BRIEF is_value)) }
@@ -56,7 +56,7 @@ impl Direct {
         self.push_byte(b'<')
     }
 
-    /// Writes what follows them.
+    /// Writes the text after arguments.
     #[inline(always)]
     fn push_closing<S: Showing>(&mut self) -> Option<()>
         ensures { OnSome result (Writes self.old self.new (closing S.IS_BRIEF)) }
@@ -103,7 +103,7 @@ impl Direct {
         Some(Step::Type)
     }
 
-    /// An erased lifetime among arguments: another one is given up.
+    /// Reads an erased lifetime among arguments; any other is given up.
     // <generic-arg> = <lifetime>
     fn lifetime_argument<S: Showing>(&mut self, s: &[u8], _is_first: bool) -> Option<Step>
         requires letter { StandsAt s.now self.old.at (76 ∷ []) }

@@ -15,7 +15,7 @@ use crate::showing::Showing;
 use crate::tokens::hex_at;
 use sym_direct::byte_at;
 
-/// Whether it is the letter of a type whose integers have a sign.
+/// Whether a letter is that of an integer type with a sign.
 #[tactic(auto, unfolding(crate::specs::Constants::is_signed))]
 fn is_signed(letter: u8) -> bool
     ensures { result ≡ is_signed letter }
@@ -31,7 +31,7 @@ fn is_signed(letter: u8) -> bool
     }
 }
 
-/// Whether it is the letter of a type whose integers have none.
+/// Whether a letter is that of an integer type without a sign.
 #[tactic(auto, unfolding(crate::specs::Constants::is_unsigned))]
 fn is_unsigned(letter: u8) -> bool
     ensures { result ≡ is_unsigned letter }

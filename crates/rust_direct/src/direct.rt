@@ -3,7 +3,7 @@
 use crate::open::{Note, Open};
 use sym_direct::Bounded;
 
-/// The lists that texts are written with, one after the other.
+/// The lists of a writer, used for one text after another.
 #[derive(Drop)]
 pub struct Direct {
     pub(crate) text: Bounded<u8>,
@@ -13,6 +13,4 @@ pub struct Direct {
     pub(crate) numbers: Vec<u16>,
     pub(crate) waiting: Bounded<Open>,
     pub(crate) at: usize,
-    /// How many steps were taken for all symbols, where that is a u64.
-    pub(crate) rounds: u64,
 }

@@ -50,7 +50,7 @@ fn are_digits(bytes: &[u8]) -> bool
     true
 }
 
-/// Whether a number with this first digit stays below 64 bits with as many digits as a hash has.
+/// Whether a number with this first digit and as many digits as a hash has stays below 64 bits.
 #[inline(always)]
 fn is_low(byte: u8) -> bool
     ensures { result ≡ true → digit_value Base62 byte ≤ 20 }
@@ -84,7 +84,7 @@ fn hash_end(s: &[u8], at: usize) -> Option<usize>
     Some(mark + 1)
 }
 
-/// The place after the disambiguator at a place, whatever it is.
+/// The place after the disambiguator at a place; its number isn't read.
 #[inline(never)]
 fn any_disambiguator_end(s: &[u8], at: usize) -> Option<usize>
     requires { FitsSymbol s.now }

@@ -1,4 +1,4 @@
-// Impls within hidden text: their paths are written before it, where nothing of it is written yet.
+// Impls within hidden text: their paths are written before it, while nothing of it is written yet.
 
 ghost use Rattle.std.specs.Prelude.{◌≡◌, ◌+◌, ◌∷◌, [], reverse, true};
 ghost use Rattle.std.specs.Option.{IfSome};
@@ -12,7 +12,8 @@ use crate::open::{Open, Step};
 use crate::showing::Showing;
 
 impl Direct {
-    /// Whether nothing hidden is written yet: only paths wait for what is read, and their texts begin with its own.
+    /// Whether nothing hidden is written yet: only paths wait, and the text of each begins with the text that it waits
+    /// for.
     fn is_unbegun(&self) -> bool
         ensures { result ≡ true → IsUnbegun (reverse self.now.waiting.list.items) }
     {

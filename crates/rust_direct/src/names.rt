@@ -1,4 +1,4 @@
-// Names: where they are.
+// The places of names.
 
 ghost use Rattle.std.specs.Prelude.{◌≡◌, ◌≤◌, length, true};
 ghost use Rattle.std.specs.Option.{IfSome};
@@ -32,7 +32,7 @@ fn barred(byte: u8) -> u8
     BARRED[byte as usize]
 }
 
-/// How many of the first bytes, by fours, may be in a name.
+/// How many of the first bytes may be in a name, counted in fours up to the first four that may not.
 #[inline(always)]
 fn named_fours(bytes: &[u8]) -> usize
     ensures within { result ≤ length bytes.now }
@@ -74,7 +74,7 @@ fn is_digit(byte: u8) -> bool
     b'0' <= byte && byte <= b'9'
 }
 
-/// Whether a byte after a length may belong to it, or separate it from the name.
+/// Whether a byte after digits of a length may belong to the length, or separate it from the name.
 #[inline(always)]
 fn goes_on(byte: u8) -> bool
     ensures { result ≡ goes_on byte }
@@ -82,7 +82,7 @@ fn goes_on(byte: u8) -> bool
     is_digit(byte) || byte == b'_'
 }
 
-/// The own bytes of the name at a place, whatever its length is.
+/// The own bytes of the name at a place; its length may have any number of digits.
 #[inline(never)]
 fn any_name_span(s: &[u8], at: usize) -> Option<Span>
     requires { FitsSymbol s.now }
@@ -98,7 +98,7 @@ fn any_name_span(s: &[u8], at: usize) -> Option<Span>
     })
 }
 
-/// The name at a place, whatever its length is.
+/// The name at a place; its length may have any number of digits.
 #[inline(always)]
 fn any_name_at(s: &[u8], at: usize) -> Option<TokenPlace>
     requires { FitsSymbol s.now }

@@ -1,9 +1,9 @@
-// The entries open around what is being read, and what comes next.
+// The open entries, and what comes next.
 
 ghost use Rattle.std.specs.Prelude.{◌≡◌};
 ghost use Rattle.rust_direct.specs.PrintsInForm.{has_form, is_path, is_type, form_of};
 
-/// What was read at a place, by the text that it wrote.
+/// What was read at a place, by the forms in which its text is right.
 #[derive(Clone, Copy)]
 pub enum Forms {
     /// a path that looks the same after a value and in a type
@@ -18,7 +18,7 @@ pub enum Forms {
     Unnamed,
 }
 
-/// Whether it is a path as it follows a value, or as it is elsewhere.
+/// Whether the text is right for a path after a value, or for one elsewhere.
 #[inline(always)]
 pub fn has_form(is_value: bool, forms: Forms) -> bool
     ensures { result ≡ has_form is_value forms }
@@ -72,7 +72,7 @@ pub fn form_of(is_value: bool) -> Forms
     }
 }
 
-/// What a reference may name: its text, by its place in the shown or in the hidden text.
+/// What a reference may name: the place of its text in the shown or in the hidden text.
 #[derive(Clone, Copy)]
 pub struct Note {
     pub from: usize,
@@ -81,7 +81,7 @@ pub struct Note {
     pub is_aside: bool,
 }
 
-/// What follows a type or a path that waits.
+/// What follows a type or a path that an entry waits for.
 #[derive(Clone, Copy)]
 pub enum Closing {
     Nothing,

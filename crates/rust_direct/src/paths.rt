@@ -37,7 +37,7 @@ impl Direct {
         }
     }
 
-    /// Reads the first bytes of the paths that are around the innermost one.
+    /// Reads the first bytes of the paths around the innermost one.
     // <path> = "N" <namespace> <path> <identifier> | "I" <path> {<generic-arg>} "E"
     #[inline(always)]
     fn begin_outer<S: Showing>(&mut self, s: &[u8], is_value: bool) -> Option<()>

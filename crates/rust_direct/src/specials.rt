@@ -70,7 +70,7 @@ impl Direct {
         self.ended::<S>(s, place, from, forms, forms)
     }
 
-    /// Writes what follows the parent.
+    /// Writes the text after the parent.
     fn push_special(&mut self, namespace: &[u8], name: &[u8], count: u64) -> Option<()>
         ensures { OnSome result (Writes self.old self.new (special_text namespace.now name.now count)) }
     {

@@ -6,7 +6,6 @@ ghost use Rattle.sym_core.specs.Number.{FitsSymbol};
 ghost use Rattle.rust_direct.specs.declared.open.Open.TheVariants as opens;
 ghost use Rattle.rust_direct.specs.WriterInvariant.{IsWriting, IsWhole, IsShown, HasRooms};
 ghost use Rattle.rust_direct.specs.Awaits.{IsFresh, Arrives, IsSymbolEnded};
-ghost use Rattle.rust_direct.specs.Rounds.{with_round};
 
 use crate::direct::Direct;
 use crate::open::{Forms, Open, Step, has_form, is_path};
@@ -30,7 +29,6 @@ impl Direct {
             numbers: Vec::new(alloc),
             waiting: Bounded::new(alloc),
             at: 0,
-            rounds: 0,
         }
     }
 
@@ -45,8 +43,7 @@ impl Direct {
     pub fn restart(&mut self, shown: u32, hidden: u32, size: u32)
         requires shown { shown ≤ 8 * size + 1024 }
         requires hidden { hidden ≤ 8 * size + 1024 }
-        ensures fresh { (s : List ℕ) → size ≤ length s → IsFresh s self.new }
-        ensures rounds { self.new.rounds ≡ self.old.rounds }
+        ensures { (s : List ℕ) → size ≤ length s → IsFresh s self.new }
     {
         self.text.begin(shown);
         self.aside.begin(hidden);
@@ -56,24 +53,10 @@ impl Direct {
         self.waiting.begin(size);
     }
 
-    /// Takes a step, and counts it whatever comes of it.
-    #[inline(always)]
-    pub fn take<S: Showing>(&mut self, s: &[u8], step: Step) -> Option<Step>
-        requires fits { FitsSymbol s.now }
-        requires writing { IsWriting S.IS_BRIEF s.now self.old step }
-        ensures writing { IfSome result (IsWriting S.IS_BRIEF s.now self.new) }
-        ensures rounds { self.new.rounds ≡ with_round self.old.rounds }
-    {
-        let rounds = self.rounds;
-        let next = self.take_step::<S>(s, step);
-        self.rounds = rounds.saturating_add(1);
-        next
-    }
-
-    /// Takes an argument, its type, the path in it, and the end of the entry that waited for it, as far as they are there.
+    /// Takes a step: an argument, its type, the path in it, and the end of the entry that waited for it, as far as they are there.
     // A step for each of these took 11 % more instructions.
     #[inline(always)]
-    fn take_step<S: Showing>(&mut self, s: &[u8], step: Step) -> Option<Step>
+    pub fn take<S: Showing>(&mut self, s: &[u8], step: Step) -> Option<Step>
         requires fits { FitsSymbol s.now }
         requires writing { IsWriting S.IS_BRIEF s.now self.old step }
         ensures { IfSome result (IsWriting S.IS_BRIEF s.now self.new) }
@@ -141,8 +124,7 @@ impl Direct {
     pub fn begin<S: Showing>(&mut self, s: &[u8]) -> Option<Step>
         requires fits { FitsSymbol s.now }
         requires fresh { IsFresh s.now self.old }
-        ensures writing { IfSome result (IsWriting S.IS_BRIEF s.now self.new) }
-        ensures rounds { self.new.rounds ≡ self.old.rounds }
+        ensures { IfSome result (IsWriting S.IS_BRIEF s.now self.new) }
     {
         if s.len() > LONGEST || byte_at(s, 0) != b'_' || byte_at(s, 1) != b'R' {
             return None;
@@ -162,7 +144,6 @@ impl Direct {
         ensures is_aside { self.new.is_aside ≡ self.old.is_aside }
         ensures notes { self.new.notes ≡ self.old.notes }
         ensures waiting { self.new.waiting ≡ self.old.waiting }
-        ensures rounds { self.new.rounds ≡ self.old.rounds }
     {
         self.numbers.resize(size, 0).ok()
     }
@@ -251,7 +232,6 @@ impl Direct {
         requires { IsWhole S.IS_BRIEF _s.now self.old.text.list.items }
         ensures shown { OnSome result (IsShown S.IS_BRIEF _s.now (length self.old.text.list.items) self.new.text.list.items) }
         ensures rooms { HasRooms _s.now self.old → HasRooms _s.now self.new }
-        ensures rounds { self.new.rounds ≡ self.old.rounds }
     {
         if S::IS_BRIEF {
             return self.text.leave_out_marked();
@@ -268,7 +248,6 @@ impl Direct {
         ensures numbers { self.new.numbers ≡ self.old.numbers }
         ensures waiting { self.new.waiting ≡ self.old.waiting }
         ensures at { self.new.at ≡ self.old.at }
-        ensures rounds { self.new.rounds ≡ self.old.rounds }
     {
         mem::swap(&mut self.text, &mut self.aside);
         self.is_aside = !self.is_aside;

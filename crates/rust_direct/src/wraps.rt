@@ -92,7 +92,7 @@ impl Direct {
         Some(Step::Type)
     }
 
-    /// What begins here waits for the type at its end.
+    /// Opens an entry that waits for the type at its end.
     #[inline(always)]
     fn wrap(&self, closing: Closing) -> Open
         ensures { result ≡ opens.Wrap self.now.at (length self.now.text.list.items) closing }
@@ -104,7 +104,7 @@ impl Direct {
         }
     }
 
-    /// The type that an entry waited for is read.
+    /// Takes the type that an entry waited for.
     pub(crate) fn wrap_ended<S: Showing>(
         &mut self,
         s: &[u8],

@@ -36,7 +36,7 @@ impl Direct {
         self.text.push_pair(first, second)
     }
 
-    /// Writes a text, and continues at another place with what an entry waits for.
+    /// Writes a text, and continues at another place, where an entry waits.
     #[inline(always)]
     pub(crate) fn push_open(&mut self, text: &[u8], entry: Open, at: usize) -> Option<()>
         ensures { OnSome result (Opens self.old self.new text.now entry at) }
@@ -47,7 +47,7 @@ impl Direct {
         Some(())
     }
 
-    /// Notes what is written from a place of the text on, as what was read from a place of the symbol on.
+    /// Notes the text from a place on as that of the path or type which began at a place of the symbol.
     #[inline(always)]
     pub(crate) fn note(&mut self, place: usize, from: usize, forms: Forms) -> Option<()>
         ensures { OnSome result (Notes self.old self.new place from forms) }
@@ -71,7 +71,7 @@ impl Direct {
         Some(())
     }
 
-    /// What began at a place is read: it is noted, and forwarded.
+    /// Notes and forwards what began at a place and is read now.
     #[inline(always)]
     pub(crate) fn ended<S: Showing>(
         &mut self,
@@ -88,7 +88,7 @@ impl Direct {
         Some(Step::Value { from, forms })
     }
 
-    /// What is noted of a place.
+    /// The note of a place, if there is one.
     pub(crate) fn noted(&self, place: usize) -> Option<Note>
         ensures { IfSome result (λ n. (k : ℕ) × (slice_get self.now.numbers.items place ≡ Some (suc k)) × (slice_get self.now.notes.list.items k ≡ Some n)) }
     {
@@ -99,7 +99,7 @@ impl Direct {
         self.notes.as_slice().get(number as usize - 1).copied()
     }
 
-    /// Writes what is noted once more.
+    /// Writes the text of a note once more.
     pub(crate) fn repeat(&mut self, note: Note) -> Option<()>
         ensures { OnSome result (Writes self.old self.new
             (piece (home self.old.is_aside note.is_aside self.old.text.list.items self.old.aside.list.items) note.from note.to)) }

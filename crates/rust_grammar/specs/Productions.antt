@@ -76,7 +76,7 @@ is_reference TypeReference = true
 is_reference ConstantReference = true
 is_reference _ = false
 
--- the productions that make a part of their parts, and no node
+-- the productions that make a part, and no node
 abbrev pub makes_part : Production → Bool
 makes_part Suffix = true
 makes_part SuffixByte = true

@@ -1,5 +1,5 @@
--- What a symbol's shape denotes: the parts of each rule in the order of their bytes, and then the rule's production says what
--- they make together.
+-- What a symbol's shape denotes. The parts of each rule are read in the order of their bytes, and then the rule's
+-- production says what they denote together.
 use Rattle.std.specs.Prelude.{ℕ, ◌+◌, drop, slice_index, List, [], ◌∷◌, Bool, true, false, ◌&&◌, ◌||◌, if◌then◌else◌, ◌==◌, nat_le, nat_lt, Option, Some, None, Result, Ok, Err}
 use Rattle.sym_core.specs.declared.refusal.Refusal.{Refusal}
 use Rattle.sym_core.specs.declared.refusal.Refusal.TheVariants.{BadReference, BadValue, Malformed}
@@ -132,8 +132,8 @@ abbrev pub other_path_part : List Value → Part (Option tree.Path)
 other_path_part (a_path path ∷ rest) = Ok (Some path, rest)
 other_path_part rest = Ok (None, rest)
 
--- Where a rule is: the symbol and the place in it, how many lifetimes are bound around it, and what has ended
--- after its parts.
+-- Where a rule is: the symbol and the place in it, how many lifetimes are bound around it, and what has ended once its
+-- parts are read.
 pub record At : Type 0 where
   pub symbol : List ℕ
   pub place : ℕ
@@ -164,7 +164,7 @@ ends_type at type = ends at (a_type type)
 abbrev pub ends_constant : At → tree.Constant → Meaning
 ends_constant at constant = ends at (a_constant constant)
 
--- what ended that began at a place
+-- what began at a place and has ended
 abbrev pub ended_at : List Ended → ℕ → Option Value
 ended_at [] place = None
 ended_at (e ∷ es) place = if e.place == place then Some e.value else ended_at es place
@@ -227,7 +227,7 @@ integer_of at integer = do
 abbrev pub character_of : At → ℕ → Meaning
 character_of at c = if is_scalar c then ends_constant at (tree.character c) else Err (BadValue at.place)
 
--- what the parts of a rule mean together
+-- what the parts of a rule denote together
 abbrev pub meaning : Production → At → List Value → Meaning
 meaning rules.Symbol at parts = do
   path ← path_part parts
@@ -398,7 +398,7 @@ bound_behind _ outer parts = outer
 abbrev pub an_integer_of : Bool → ℕ → Value
 an_integer_of minus n = an_integer (record { minus = minus && nat_lt 0 n; magnitude = n })
 
--- the value of a token's own bytes, by the production that it is a part of, and the minus before it
+-- The value of a token, by its own bytes, by the production that it is a part of, and by the minus before it.
 abbrev pub token_of : Option Production → (minus : Bool) → List ℕ → Value
 token_of (Some rules.PlainName) minus own = a_name (record { punycode = false; bytes = own })
 token_of (Some rules.PunycodeName) minus own = a_name (record { punycode = true; bytes = own })
@@ -407,7 +407,7 @@ token_of (Some rules.UnsignedConstant) minus own = an_integer_of false (value16 
 token_of (Some rules.CharConstant) minus own = number (value16 own)
 token_of _ minus own = number (value62 own)
 
--- what a rule holds so far is a minus
+-- the only part so far is a minus
 abbrev pub is_minus : List Value → Bool
 is_minus (minus_mark ∷ []) = true
 is_minus _ = false

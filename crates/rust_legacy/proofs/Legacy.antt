@@ -66,10 +66,10 @@ asked_path true true None path is = absurd (cc (is))
 asked_path true false all path is = absurd (cc (is))
 asked_path false are all path is = absurd (cc (is))
 
--- what the path of a legacy name comes from
+-- the path of a legacy name comes from its names
 pub path_is : (s : List ℕ) (path : Path) → legacy_of s ≡ Some path → path_in (names_in (length s) (drop 3 s)) ≡ Some path
 path_is s path is = asked_path (begins_with (codes "_ZN") s) (list_all is_legacy_byte s) _ path (sym (legacy_is s) ∙ is)
 
--- a path has names
+-- a path has at least one name
 pub some_names_of : (s : List ℕ) (path : Path) → legacy_of s ≡ Some path → 0 < length path.names
 some_names_of s path is = some_in (names_in (length s) (drop 3 s)) path (path_is s path is)

@@ -10,7 +10,7 @@ use Rattle.sym_core.specs.Value.{value_of}
 use Rattle.sym_core.specs.declared.NumberKind.TheVariants.{Length}
 use Rattle.rust_legacy.specs.Path.{HasLength, Name, begins_with, name_in}
 
--- a name by whether its length begins with a zero, how many digits that has, and its value
+-- a name, by whether its length begins with a zero, by how many digits the length has, and by its value
 abbrev by_length : (zero : Bool) (count size : ℕ) → List ℕ → Option Name
 by_length zero count size s =
     cond (not zero && nat_le count 9 && nat_lt 0 size && nat_le (count + size) (length s)) (Some (record { bytes = take size (drop count s); size = count + size })) None
@@ -51,7 +51,7 @@ no_end (x ∷ rest) some = by (is_decimal_digit x) (nat_eq 69 x) refl refl some
     by false true a b more = absurd (omega (arith, more))
     by true true a b more = (let same : 69 ≡ x = grind (arith, nat_tests, b) in absurd (cc (ap is_decimal_digit same, a)))
 
--- what is read of a name's length determines the name
+-- a name is determined by what is read of its length
 pub length_is : (s : List ℕ) (at to value : ℕ) → at < to → to ≤ length s → to - at ≤ 9
     → to - at + prefix_len is_decimal_digit (drop to s) ≡ prefix_len is_decimal_digit (drop at s) → prefix_len is_decimal_digit (drop to s) ≡ 0
     → value ≡ value_of Length (take (to - at) (drop at s)) → begins_with (codes "0") (drop at s) ≡ false → 0 < value → HasLength s at to value

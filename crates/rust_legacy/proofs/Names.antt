@@ -26,7 +26,7 @@ pub with_names-Some : (front names : List (List ℕ)) (suffix : List ℕ) → wi
 with_names-Some [] names suffix = refl
 with_names-Some (n ∷ front) names suffix = ap (with_name n) (with_names-Some front names suffix)
 
--- what a name at the front makes of the names that there are
+-- the names, with one more at the front
 abbrev pub after : (depth : ℕ) → List ℕ → Option Name → Option Path
 after depth s found = elim found [ Some name ↦ with_name name.bytes (names_in depth (drop name.size s)) | None ↦ None ]
 
@@ -46,12 +46,12 @@ one_name (suc depth) s at to bytes deep low more is = (
       ∙ ap (λ r. with_name bytes (names_in depth r)) (drop-drop (to - at) at s ∙ ap (λ n. drop n s) (omega (arith, low))),
 )
 
--- no name where the E isn't
+-- where neither a name nor an E is, no names are read
 pub no_name : (depth : ℕ) (s : List ℕ) → begins_with (codes "E") s ≡ false → name_in s ≡ None → names_in depth s ≡ None
 no_name zero s more is = refl
 no_name (suc depth) s more is = ap (λ b. cond {A = Option Path} b (at_end s) (after depth s (name_in s))) more ∙ ap (after depth s) is
 
--- the E
+-- names end at an E
 pub ended : (depth : ℕ) (s : List ℕ) (at : ℕ) → length s - at < depth → begins_with (codes "E") (drop at s) ≡ true
     → names_in depth (drop at s) ≡ Some (record { names = []; suffix = drop (at + 1) s })
 ended zero s at deep is = absurd (omega (arith, deep))
@@ -81,7 +81,7 @@ both : (a b : Bool) → (a && b) ≡ true → (a ≡ true) × (b ≡ true)
 both true b h = (refl, h)
 both false b h = (h, absurd (cc (h)))
 
--- what is required of a name at the front, and what it is
+-- what a name at the front has to meet, and which name it is
 given : (b : Bool) (found name : Name) → cond {A = Option Name} b (Some found) None ≡ Some name → (b ≡ true) × (found ≡ name)
 given true found name is = (refl, ap (λ o. unwrap_or o found) is)
 given false found name is = absurd (cc (is))
@@ -116,23 +116,23 @@ not_ended (x ∷ s) name is = by (nat_eq 69 x) refl
     by true e = (let same : 69 ≡ x = grind (arith, nat_tests, e) in absurd (cc (subst (λ y. name_in (y ∷ s) ≡ Some name) (sym same) is)))
     by false e = refl
 
--- names go on
+-- each name takes at least one byte
 pub AreNames-low : (s : List ℕ) (from to : ℕ) (names : List (List ℕ)) → AreNames s from to names → from + length names ≤ to
 AreNames-low s from to [] are = omega (arith, are)
 AreNames-low s from to (name ∷ rest) are =
     omega (arith, (name_size (drop from s) (record { bytes = name; size = are.0 }) are.1).0, AreNames-low s (from + are.0) to rest are.2)
 
--- so where they end nowhere there are none
+-- between a place and itself there are no names
 pub AreNames-none : (s : List ℕ) (from : ℕ) (names : List (List ℕ)) → AreNames s from from names → names ≡ []
 AreNames-none s from [] are = refl
 AreNames-none s from (name ∷ rest) are = absurd (omega (arith, AreNames-low s from from (name ∷ rest) are))
 
--- and where they end somewhere there are some
+-- between two different places there is at least one name
 pub some_names : (s : List ℕ) (from to : ℕ) (names : List (List ℕ)) → AreNames s from to names → (from ≡ to → ⊥) → 0 < length names
 some_names s from to [] are far = absurd (far are)
 some_names s from to (name ∷ rest) are far = omega arith
 
--- what path names make, with the last one set apart
+-- the path of names, with the last one set apart
 pub path_read : (s : List ℕ) (front : List (List ℕ)) (last suffix : List ℕ) (all : Option Path) → all ≡ Some (record { names = front ++ last ∷ []; suffix = suffix })
     → path_in all ≡ path_before_hash suffix (cond {A = Option (List (List ℕ))} (is_hash last) (Some front) None)
 path_read s front last suffix all whole = ap path_in whole ∙ ap (path_before_hash suffix) (before_hash-append front last)

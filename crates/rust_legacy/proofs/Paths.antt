@@ -7,7 +7,7 @@ use Rattle.sym_print.specs.Unshared.{text_of, cost_of}
 use Rattle.rust_legacy.specs.Path.{AreNames, Name, name_in}
 use Rattle.rust_legacy.specs.Text.{front_at, names_parts, shown_name}
 
--- what names cost as an item, or nothing where there are none
+-- names cost what they do as an item, and no names cost nothing
 abbrev pub names_cost : (front : List ℕ) → List (List ℕ) → ℕ
 names_cost front [] = 0
 names_cost front (name ∷ rest) = cost_of (names_parts front (name ∷ rest))
@@ -35,7 +35,7 @@ first_name s at to (name ∷ rest) found some are is =
     let same : record { bytes = name; size = are.0 } ≡ found = ap (λ o. unwrap_or o found) (sym are.1 ∙ is) in
     (rest, ap (λ n. n.bytes ∷ rest) same, subst (λ n. AreNames s (at + n.size) to rest) same are.2)
 
--- before each name except the first there is ::
+-- each name except the first comes after ::
 pub front_later : (at : ℕ) → 3 < at → front_at at ≡ codes "::"
 front_later at later = by (nat_le at 3) refl
   where
@@ -55,12 +55,12 @@ parted front names name rest is =
       cost = ap (names_cost front) is ∙ names_cost-next front name rest;
     }
 
--- what is written is part of the whole
+-- the bytes that are written are part of the whole text
 pub text_goes : (out mid new front text later whole : List ℕ) → mid ≡ out ++ front → new ≡ mid ++ text → out ++ (front ++ (text ++ later)) ≡ whole → new ++ later ≡ whole
 text_goes out mid new front text later whole a b is =
     ap (λ n. n ++ later) (b ∙ ap (λ m. m ++ text) a) ∙ append_assoc (out ++ front) text later ∙ append_assoc out front (text ++ later) ∙ is
 
--- and no longer
+-- and they are no longer than the whole text
 pub text_within : (out front text later whole : List ℕ) → out ++ (front ++ (text ++ later)) ≡ whole → length out + length front + length text ≤ length whole
 text_within out front text later whole is =
     omega (arith, ap length (sym is), length-append out (front ++ (text ++ later)), length-append front (text ++ later), length-append text later)

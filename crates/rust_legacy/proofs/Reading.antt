@@ -59,7 +59,7 @@ next s hash at to size bytes r is end more within =
       whole = r.whole ∙ ap (λ p. with_names r.before (with_names r.last p)) step.2 ∙ sym (with_names-joined r.before r.last (with_name bytes (names_in step.0 (drop to s))));
     }
 
--- no name, and no end
+-- where neither a name nor an E follows, the symbol is no legacy name
 pub none_there : (s : List ℕ) (hash at : ℕ) → Reads s hash at → begins_with (codes "E") (drop at s) ≡ false → name_in (drop at s) ≡ None → legacy_of s ≡ None
 none_there s hash at r more none = not_named s (
     ap path_in (r.whole ∙ ap (λ p. with_names r.before (with_names r.last p)) (no_name r.depth (drop at s) more none)
@@ -75,7 +75,7 @@ all_names s hash at r is =
     ∙ with_names-Some r.before (r.last ++ []) suffix
     ∙ ap (λ n. Some (record { names = r.before ++ n; suffix = suffix })) (append-nil r.last)
 
--- what is after the E is no suffix
+-- the bytes after the E are no suffix
 suffix_not : (s : List ℕ) (names : List (List ℕ)) (suffix : List ℕ) → names_in (length s) (drop 3 s) ≡ Some (record { names = names; suffix = suffix })
     → is_suffix suffix ≡ false → legacy_of s ≡ None
 suffix_not s names suffix is none = by (before_hash names) refl
@@ -133,7 +133,7 @@ short_name name short = by (begins_with (codes "h") name) (length name == 17) (p
 last_short : (name : List ℕ) → length name < 17 → before_hash (name ∷ []) ≡ None
 last_short name short = ap (λ b. cond {A = Option (List (List ℕ))} b (Some []) None) (short_name name short)
 
--- so few bytes have no hash
+-- names with so few bytes have no hash
 no_hash_in : (depth : ℕ) (s : List ℕ) → length s ≤ 17 → begins_with (codes "E") s ≡ false → NoHash (names_in depth s)
 no_hash_in zero s short more = tt
 no_hash_in (suc depth) s short more =
@@ -231,7 +231,7 @@ not_nested (a ∷ b ∷ c ∷ rest) long other = by (nat_eq 95 a) (nat_eq 90 b) 
     by true false z e = refl
     by false y z e = refl
 
--- what a call found, in other words
+-- the result of a call, in other words
 pub match_on : {T : Type 0} (o : Option T) (P P' : Type 0) (Q Q' : T → Type 0) → MatchOption o P Q → (P → P') → ((x : T) → Q x → Q' x) → MatchOption o P' Q'
 match_on None P P' Q Q' h f g = f h
 match_on (Some x) P P' Q Q' h f g = g x h

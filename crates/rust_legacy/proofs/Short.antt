@@ -101,7 +101,7 @@ before_few front (name ∷ next ∷ rest) names is = by (before_hash (next ∷ r
           omega (arith, less.1, ap (names_cost front) (sym same), names_cost-next front name n, names_cost-next front name (next ∷ rest)),
         ))
 
--- nothing before the first name is less than ::
+-- a text without anything before its first name is shorter than one with ::
 bare_front : (names : List (List ℕ)) → (length (text_of (names_parts [] names)) ≤ length (text_of (names_parts (codes "::") names))) × (names_cost [] names ≤ names_cost (codes "::") names)
 bare_front [] = (omega arith, omega arith)
 bare_front (name ∷ rest) =

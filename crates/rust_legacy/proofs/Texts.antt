@@ -25,7 +25,7 @@ name_cost [] some = absurd (omega (arith, some))
 name_cost (text ∷ []) some = omega arith
 name_cost (text ∷ next ∷ rest) some = omega (arith, name_cost (next ∷ rest) (omega arith))
 
--- more than the tokens there are makes no difference
+-- asking for more tokens than there are makes no difference
 same : (n m : ℕ) (bytes : List ℕ) → length bytes ≤ n → length bytes ≤ m → texts_in n bytes ≡ texts_in m bytes
 same zero zero bytes a b = refl
 same zero (suc m) [] a b = refl
@@ -55,7 +55,7 @@ pub some_texts : (bytes : List ℕ) → 0 < length bytes → 0 < length (texts_o
 some_texts [] some = absurd (omega (arith, some))
 some_texts (byte ∷ rest) some = omega arith
 
--- what a token leaves of the text and of the cost
+-- what is left of the text and of the cost after a token
 pub goes : (bytes : List ℕ) (at size left paid now limit all : ℕ) (before mid out : List ℕ)
     → at < length bytes
     → now + length (token_of (drop at bytes)).text ≡ paid → out ≡ mid ++ (token_of (drop at bytes)).text
@@ -79,7 +79,7 @@ pub first_text : (bytes : List ℕ) → 0 < length bytes → (rest : List (List 
 first_text [] some = absurd (omega (arith, some))
 first_text (byte ∷ rest) some = (_, refl)
 
--- where a token can't be paid for, or not even its item, neither can the whole
+-- where the limit doesn't cover a token, or not even its item, it doesn't cover the whole
 pub limit_passed : (bytes : List ℕ) (at left cost all limit : ℕ) → at < length bytes → left < cost → cost ≤ 1 + length (token_of (drop at bytes)).text
     → left + all ≡ limit + whole_cost (texts_of (drop at bytes)) → limit < all
 limit_passed bytes at left cost all limit some none within is =

@@ -16,7 +16,7 @@ pub at_exit : {T : Type 0} (r : Result T Refusal) (found : Refusal) (P : Refusal
 at_exit (Ok x) found P h p = absurd h
 at_exit (Err e) found P h p = subst P (sym h) p
 
--- a part was refused, and so is the whole
+-- a part was refused, so the whole is
 pub wider : (refusal : Refusal) (left : ℕ) (text : List ℕ) (cost : ℕ) (mid : Vec ℕ Global) (limit : ℕ) (whole : List ℕ) (all : ℕ) (old : Vec ℕ Global)
     → IsRefused refusal left text cost mid
     → (vec_capacity mid < vec_len mid + length text → vec_capacity old < vec_len old + length whole)
@@ -43,7 +43,7 @@ keeps_on old mid new a b =
 pub keeps_same : (old : Vec ℕ Global) → Keeps old old
 keeps_same old = record { front = ap (λ n. take n old.items) old.ok.0 ∙ take-length old.items; capacity = omega arith }
 
--- what a result says, in other words
+-- a result, in other words
 pub ok_on : {T E : Type 0} (r : Result T E) (P Q : T → Type 0) → IfOk r P → ((x : T) → P x → Q x) → IfOk r Q
 ok_on (Ok x) P Q h f = f x h
 ok_on (Err e) P Q h f = tt

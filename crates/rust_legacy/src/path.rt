@@ -197,7 +197,7 @@ fn is_hash(name: &[u8]) -> (bool, usize)
     (digits == 16, digits)
 }
 
-/// Whether it is a suffix, or nothing.
+/// Whether bytes are a suffix, or none.
 #[inline(always)]
 fn is_suffix(suffix: &[u8]) -> bool
     ensures { result ≡ is_suffix suffix.now }

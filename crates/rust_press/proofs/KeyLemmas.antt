@@ -40,7 +40,7 @@ rest-of-three parts a b c count is one two three (suc zero) low = two (omega (ar
 rest-of-three parts a b c count is one two three (suc (suc zero)) low = three (omega (arith, is, low))
 rest-of-three parts a b c count is one two three (suc (suc (suc k))) low = refl
 
--- what two spans are taken to
+-- the texts of two spans
 pub both-of-two : (f : Span → List ℕ) (d : Span) (spans : List Span) (given : List (List ℕ)) (a b : List ℕ) → length spans ≡ 2 → map f spans ≡ given
     → a ≡ f (get_or spans 0 d) → b ≡ f (get_or spans 1 d) → a ∷ b ∷ [] ≡ given
 both-of-two f d (x ∷ y ∷ []) given a b long is one two = rw (one, two) is
@@ -77,7 +77,7 @@ equal-numbers (x ∷ xs) (y ∷ ys) long each =
 
 -- ## A map of keys
 
--- keys that the map takes for one
+-- a test of keys that answers true just where the map takes them for one
 pub record AreOne (a b : Key) : Type 0 where
   pub production : a.production ≡ b.production
   pub own_numbers : a.numbers ≡ b.numbers
@@ -88,7 +88,7 @@ pub record AreOne (a b : Key) : Type 0 where
 
 -- ## Keys and trees
 
--- the number of a part stays where another node gets one
+-- the number of a part stays when another node gets one
 part-grown : (all : List Tree) (ns : List ℕ) (n : ℕ) (parts : List Tree) (k m : ℕ) → IsPartNumber all ns parts k m → IsPartNumber all (ns ++ n ∷ []) parts k m
 part-grown all ns n parts k m (p, low, is, at) = (p, omega (arith, low, length-append ns (n ∷ [])), is, at ∙ sym (old-number ns n p low))
 
@@ -157,7 +157,7 @@ fields-one all ns a b given so h k = record {
 
 -- ## One node more
 
--- what is one with a node's key is a key of the node
+-- a key that is one with a node's key is a key of the node
 taken-over : (all : List Tree) (ns : List ℕ) (a b : Key) (given : Fields) → IsKeyOf all ns given a → AreOne a b → IsKeyOf all ns given b
 taken-over all ns a b given h same = record {
   production = sym same.production ∙ h.production;

@@ -21,7 +21,7 @@ use Rattle.rust_press.proofs.PressParts.{takes-plain, takes-ends, chains-plain, 
 use Rattle.rust_press.proofs.PressReferences.{HasPaths, paths-1, paths-11, path-presses, path-type-presses, own-type-presses}
 use Rattle.rust_press.proofs.PressTokens.{Makes, Ends, name-at, disambiguator_values, disambiguator-presses, binder_values, binder-presses, identifier_values, identifier-presses, lifetime-presses, lifetime_values, some-lifetime-presses, unsafe_values, unsafe-presses, abi_values, abi-presses, namespace-presses, constant-kept, basic-presses}
 
--- ## What the parts of a rule make
+-- ## The parts of a rule and what they make
 
 abbrev pub arguments_values : tree.Arguments → List Value
 arguments_values tree.no_arguments = []
@@ -179,7 +179,7 @@ more-bindings-means m t tree.no_bindings vs (inr e) at = rw (e.1, e.2) refl
 more-bindings-means m t (tree.more_bindings x y b) vs (inl e) at = rw e refl
 more-bindings-means m t (tree.more_bindings x y b) vs (inr e) at = rw (e.1, e.2) refl
 
--- what is bound around a signature's types, and around its result
+-- the lifetimes that are bound around a signature's types, and around its result
 types-bound : (c n : ℕ) (u : Bool) (a : tree.Abi) → bound_behind (Some rules.Function) c ((binder_values n ++ unsafe_values u) ++ abi_values a) ≡ c + n
 types-bound c zero true a = omega arith
 types-bound c zero false tree.rust_abi = omega arith

@@ -35,7 +35,7 @@ agrees-later cs ended p q le a = record { listed = listed-later ended p q cs le 
 pub agrees-at : (cs : List Component) (ended : List Ended) (p q : ℕ) → p ≡ q → Agrees cs ended p → Agrees cs ended q
 agrees-at cs ended p q is a = agrees-later cs ended p q (omega (arith, is)) a
 
--- what ended elsewhere is found as before
+-- at any other place, what ended there is found as before
 pub found-other : (e : Ended) (es : List Ended) (p : ℕ) → (e.place ≡ p → ⊥) → ended_at (e ∷ es) p ≡ ended_at es p
 found-other e es p other = go (e.place == p) refl
   where
@@ -57,7 +57,7 @@ listed-more e es place (c ∷ cs) free (there, from, low, rest) =
     other : e.place ≡ c.place → ⊥
     other is = none-some (sym free ∙ ap (ended_at es) is ∙ there)
 
--- something more has ended that began at a free place before
+-- what has ended still agrees with the components, once something more has ended at a free place before
 pub agrees-more : (cs : List Component) (e : Ended) (es : List Ended) (place : ℕ) → e.place < place → ended_at es e.place ≡ None → Agrees cs es place → Agrees cs (e ∷ es) place
 agrees-more cs e es place low free a = record {
   listed = listed-more e es place cs free a.listed;
@@ -66,7 +66,7 @@ agrees-more cs e es place low free a = record {
       found-other e es q other ∙ a.behind q high;
 }
 
--- and is a component
+-- what has ended still agrees with the components, once a component has ended
 pub agrees-component : (cs : List Component) (own : Tree) (at : ℕ) (es : List Ended) (place : ℕ) → 2 ≤ at → at < place → ended_at es at ≡ None → Agrees cs es place
     → Agrees (record { place = at; own = own } ∷ cs) (record { place = at; value = as_value own } ∷ es) place
 agrees-component cs own at es place from low free a =
@@ -112,7 +112,7 @@ and-presses s rule taken bound symbol symbols known first rest Q R one more at b
       keeps = λ p low. b.keeps p (omega (arith, low)) ∙ a.keeps p low;
     }
 
--- the last part
+-- a rule's last part is pressed
 pub last-presses : (s : List ℕ) (rule : Rule) (taken : List ℕ) (bound : ℕ) (symbol : Sym) (known : List Value) (first : Pressing) (Q R : List Value → Type 0)
     → Presses s (bound_behind (production_of rule.number) bound known) (production_of rule.number) (is_minus known) symbol first Q
     → ((values : List Value) → Q values → R (known ++ values))
@@ -131,7 +131,7 @@ last-presses s rule taken bound symbol known first Q R one more at before front 
       keeps = a.keeps;
     }
 
--- nothing in front
+-- a row that begins with no bytes is the rest of the row
 pub behind-nothing : (s : List ℕ) (rule : Rule) (taken : List ℕ) (bound : ℕ) (symbols : List Sym) (known : List Value) (row : Pressing) (R : List Value → Type 0)
     → PressesRow s rule taken bound symbols known row R → PressesRow s rule taken bound symbols known (nothing and row) R
 behind-nothing s rule taken bound symbols known row R one at before front back place components start is-at from agrees =
@@ -141,7 +141,7 @@ behind-nothing s rule taken bound symbols known row R one at before front back p
     same : place ≡ place + 0
     same = omega arith
 
--- what is read as values of one sort is read as values of another
+-- values of one sort that are read are values of another sort, too
 pub reads-as : {s : List ℕ} {bound : ℕ} {inside : Option Production} {minus : Bool} {symbol : Sym} {Q R : List Value → Type 0} {place : ℕ} {ended : List Ended} {pressed : Pressed}
     → ((values : List Value) → Q values → R values) → Reads s bound inside minus symbol Q place ended pressed → Reads s bound inside minus symbol R place ended pressed
 reads-as more a = record {
@@ -174,7 +174,7 @@ byte-there (c ∷ cs) byte rest = byte-there cs byte rest
 pub byte-in : (s front rest : List ℕ) (byte place : ℕ) → s ≡ front ++ byte ∷ rest → place ≡ length front → slice_index s place ≡ byte
 byte-in s front rest byte place is at = rw (is, at) (byte-there front byte rest)
 
--- by a rule that takes a byte, something that is no component
+-- a rule that takes a byte makes something that is no component
 pub takes-plain : (s : List ℕ) (bound : ℕ) (inside : Option Production) (minus : Bool) (kind byte : ℕ) (rule : Rule) (row : Pressing) (R : List Value → Type 0) (value : Value)
     → byte < 256 → v0_table.rule kind byte ≡ Some rule → rule.eats ≡ true
     → PressesRow s rule (byte ∷ []) bound (symbols_of rule) [] row R
@@ -199,7 +199,7 @@ takes-plain s bound inside minus kind byte rule row R value small found eats par
       keeps = λ p low. m.keeps p (omega (arith, low));
     }
 
--- a component that is spelled out
+-- a rule that takes a byte makes a component that is spelled out
 pub takes-ends : (s : List ℕ) (bound : ℕ) (inside : Option Production) (minus : Bool) (kind byte : ℕ) (rule : Rule) (row : Pressing) (R : List Value → Type 0) (own : Tree)
     → byte < 256 → v0_table.rule kind byte ≡ Some rule → rule.eats ≡ true
     → PressesRow s rule (byte ∷ []) bound (symbols_of rule) [] row R
@@ -228,7 +228,7 @@ takes-ends s bound inside minus kind byte rule row R own small found eats parts 
           found-other (record { place = place; value = as_value own }) m.state.ended p other ∙ m.keeps p (omega (arith, low));
     }
 
--- by a rule that takes no byte
+-- a rule that takes no byte makes something that is no component
 pub chains-plain : (s : List ℕ) (bound : ℕ) (inside : Option Production) (minus : Bool) (kind byte : ℕ) (rule : Rule) (row : Pressing) (R : List Value → Type 0) (value : Value)
     → byte < 256 → v0_table.rule kind byte ≡ Some rule → rule.eats ≡ false
     → PressesRow s rule [] bound (symbols_of rule) [] row R
@@ -301,7 +301,7 @@ letter-presses s bound inside minus kind byte rule value small found eats none m
     (none-presses s rule (byte ∷ []) bound [] (λ values. values ≡ []) refl))
     (λ at there same values h. rw h (means at there))
 
--- a rule that is a letter which ends as something that is no component
+-- a rule that is a letter, and ends as something that is no component
 pub letter-ends : (s : List ℕ) (bound : ℕ) (inside : Option Production) (minus : Bool) (kind byte : ℕ) (rule : Rule) (v : Value)
     → byte < 256 → v0_table.rule kind byte ≡ Some rule → rule.eats ≡ true → symbols_of rule ≡ []
     → ((at : At) → byte_at at ≡ byte → meaning_of (production_of rule.number) at [] ≡ ends at v)

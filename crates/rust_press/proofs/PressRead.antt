@@ -22,7 +22,7 @@ use Rattle.rust_grammar.specs.Value.{Integer}
 use Rattle.rust_grammar.specs.Unfold.{Meaning, number_part, integer_part, letter_part, name_part, identifier_part, path_part, type_part, constant_part, lifetime_part, truth_part, abi_value_part, types_part, disambiguator_part, binder_part, some_lifetime_part, unsafe_part, minus_part, abi_part, arguments_part, bounds_part, bindings_part, refers_to_path, refers_to_type, refers_to_constant, bounded, referred, ends_path, ends_type, ends_constant}
 use Rattle.rust_press.specs.Spellable.{most62, is_signed, is_unsigned, IsSpellableName, IsSpellableIdentifier, IsSpellableAbi, IsSpellableInteger, IsSpellableConstant, IsSpellable, AreSpellableArguments, IsSpellableType, AreSpellableTypes, AreSpellableBounds, AreSpellableBindings}
 
--- what is found has the fact, whatever is refused
+-- a fact holds of what is found, or there is a refusal
 abbrev pub Holds : {A : Type 0} → (A → Type 0) → Result A Refusal → Type 0
 Holds P (Ok x) = P x
 Holds P (Err e) = Unit {0}
@@ -39,7 +39,7 @@ abbrev pub IsGoodNumber : Production → ℕ → Type 0
 IsGoodNumber rules.CharConstant n = Unit {0}
 IsGoodNumber _ n = n ≤ most62
 
--- zero has no minus, nor has an integer that isn't signed
+-- zero has no minus, and an integer that isn't signed has none
 abbrev pub IsGoodInteger : Production → Integer → Type 0
 IsGoodInteger rules.UnsignedConstant i = i.minus ≡ false
 IsGoodInteger _ i = i.minus ≡ true → 0 < i.magnitude
@@ -48,7 +48,7 @@ abbrev pub IsGoodOther : (bound : ℕ) → Option tree.Path → Type 0
 IsGoodOther b None = Unit {0}
 IsGoodOther b (Some x) = IsSpellable x × (need x ≤ b)
 
--- what each value has, as a part of a production where so many lifetimes are bound
+-- what holds of each value as a part of a production, where n lifetimes are bound
 abbrev pub IsGood : Production → (bound : ℕ) → Value → Type 0
 IsGood p b (value.number n) = IsGoodNumber p n
 IsGood p b (value.an_integer i) = IsGoodInteger p i
@@ -88,8 +88,8 @@ abbrev pub AllGood : Production → (bound : ℕ) → List Value → Type 0
 AllGood p b [] = Unit {0}
 AllGood p b (v ∷ vs) = IsGood p b v × AllGood p b vs
 
--- The parts of a rule, of which a binder is the first: it binds around all after it in a function, and in a `dyn`
--- around its bounds.
+-- The parts of a rule after a binder, which is the first part. In a function it binds around all parts after it, and in
+-- a `dyn` around its bounds.
 abbrev pub FunctionGood : (outer : ℕ) → List Value → Type 0
 FunctionGood outer (value.a_binder n ∷ rest) = (n ≤ 1000) × AllGood rules.Function (outer + n) rest
 FunctionGood outer known = AllGood rules.Function outer known
@@ -107,7 +107,7 @@ AreGood rules.Function outer known = FunctionGood outer known
 AreGood rules.Dyn outer known = DynGood outer known
 AreGood p outer known = AllGood p outer known
 
--- what is made of good parts is good, as a part of any production
+-- what good parts make is good, as a part of any production
 abbrev pub MadeGood : (bound : ℕ) → Meaning → Type 0
 MadeGood b m = Holds (λ f. ((q : Production) → IsGood q b f.value) × HasGoodEndings f.state.ended) m
 
@@ -318,7 +318,7 @@ constant-referred at None known endings = tt
 constant-referred at (Some (value.a_constant x)) known endings = (λ q. known (value.a_constant x) refl, (known (value.a_constant x) refl, endings))
 constant-referred at (Some _) known endings = tt
 
--- the letter of an integer says whether it is signed
+-- an integer is signed as its letter says
 integer-good : (c : ℕ) (i : Integer) → c < 256 → i.magnitude ≤ greatest_u128 → IsSpellableInteger c i.minus i.magnitude → IsSpellableConstant (tree.integer c i.minus i.magnitude)
 integer-good c i byte few good = (byte, few, good)
 
@@ -340,7 +340,7 @@ unsigned-good : (c : ℕ) (b : Bool) (n : ℕ) → is_unsigned c ≡ true → b 
 unsigned-good c true n unsigned none = cc
 unsigned-good c false n unsigned none = inr (unsigned-not-signed c unsigned, unsigned)
 
--- the byte of a production that has one of certain bytes
+-- the bytes that a production allows, if it allows only some
 abbrev pub expected : Production → Option (List ByteRange)
 expected rules.Namespace = Some letters
 expected rules.BasicType = Some basic_letters
@@ -371,7 +371,7 @@ is_inner rules.Symbol = false
 is_inner rules.Suffix = false
 is_inner _ = true
 
--- what each production makes
+-- what each production makes of good parts is good
 pub made : (p : Production) (at : At) (parts : List Value) → is_inner p ≡ true → FitsByte (expected p) (byte_at at) → AreGood p at.bound parts → HasGoodEndings at.ended → MadeGood at.bound (meaning p at parts)
 unfolding need need_of_arguments need_of_type need_of_types need_of_bounds need_of_bindings
 made rules.DisambiguatedIdentifier at parts inner byte good endings =

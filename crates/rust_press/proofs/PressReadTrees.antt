@@ -102,8 +102,7 @@ counted-few (d ∷ ds) (are, few) = omega (arith, value-after62 0 0 (d ∷ ds) (
     eleven : after62 0 11 ≡ 52036560683837093887
     eleven = refl
 
--- the tokens of each production
--- the kinds inside a symbol
+-- the kinds inside a symbol: all but those of a whole symbol and of its suffix
 abbrev inner_kind : ℕ → Bool
 inner_kind k = not (k == 0) && not (k == 3)
 
@@ -182,7 +181,7 @@ kinds-fit : fit_kinds 0 kinds ≡ true
 unfolding fit_kinds fit_choices
 kinds-fit = refl
 
--- what a rule of the table is
+-- what a rule of the table may be
 pub record IsFitting (byte : ℕ) (rule : Rule) : Type 0 where
   pub production : Production
   pub is : production_of rule.number ≡ Some production
@@ -286,7 +285,7 @@ byte-fits (Some ranges) b c small fits =
     let f = fits ranges refl in
     (subst (λ d. d < 256) (sym f.0) small, subst (λ d. in_ranges ranges d ≡ true) (sym f.0) f.1)
 
--- a kind that a production takes is one inside a symbol
+-- a kind that a production takes as a part is one inside a symbol
 abbrev plain_symbol : Sym → Bool
 plain_symbol (Kind k) = inner_kind k
 plain_symbol _ = true

@@ -1,4 +1,4 @@
--- A reference that pressing writes is read as what it stands for.
+-- A reference that pressing writes is read as the tree that it denotes.
 use Rattle.std.proofs.Common.{◌≡◌, ℕ, ◌+◌, ◌-◌, ◌<◌, ◌≤◌, inl, inr, length, List, [], ◌∷◌, ◌++◌, Option, Some, None, Bool, true, false, Ok, refl, ap, arith, sym, subst, ◌∙◌, length-append, append-nil}
 use Rattle.std.proofs.lemmas.Option.{same_Some}
 use Rattle.std.proofs.lemmas.Bool.{le-leb}
@@ -26,7 +26,7 @@ use Rattle.rust_press.proofs.Sameness.{equal-tree}
 use Rattle.rust_press.proofs.PressParts.{agrees-later, agrees-more, found-other, reads-as}
 use Rattle.rust_press.proofs.PressNumbers.{spells62}
 
--- what is found among the components has ended at its place
+-- a component that equals a tree has ended at the component's place
 pub record FoundAt (own : Tree) (ended : List Ended) (place p : ℕ) : Type 0 where
   pub there : ended_at ended p ≡ Some (as_value own)
   pub from : 2 ≤ p
@@ -48,7 +48,7 @@ found-at own ended place p (c ∷ cs) (there, from, to, rest) found = go (first_
 abbrev pub reference_shape : Rule → (p : ℕ) → Shape
 reference_shape rule p = branch rule (66 ∷ []) (grown (token (record { before = []; own = digits62 (p - 2); behind = 95 ∷ [] })) shape.nothing)
 
--- a reference, where its shape is read as something that ends there again
+-- a reference, if its shape is read as something that ends there once more
 reference-reads : (s : List ℕ) (bound : ℕ) (inside : Option Production) (minus : Bool) (kind : ℕ) (rule : Rule) (v : Value) (p place : ℕ) (components : List Component) (ended : List Ended)
     → v0_table.rule kind 66 ≡ Some rule → rule.eats ≡ true → symbols_of rule ≡ Number Base62 ∷ []
     → 2 ≤ place → place ≤ greatest_u64 → p < place → Agrees components ended place
@@ -95,7 +95,7 @@ paths-2 = record { crate_root = refl; inherent_impl = refl; trait_impl = refl; t
 pub paths-11 : HasPaths 11
 paths-11 = record { crate_root = refl; inherent_impl = refl; trait_impl = refl; trait_definition = refl; nested = refl; generic = refl }
 
--- a symbol long enough has no place past 64 bits
+-- a place in a symbol of at most 2^64 - 1 bytes is below 2^64
 small-place : (s front back bytes : List ℕ) (place : ℕ) → length s ≤ greatest_u64 → place ≡ length front → s ≡ front ++ (bytes ++ back) → place ≤ greatest_u64
 small-place s front back bytes place fits is-at is = omega (arith, is-at, fits, ap length is, length-append front (bytes ++ back))
 

@@ -43,7 +43,7 @@ rest-shaped : (bs : List ℕ) → AreSuffixBytes bs → IsTree v0_table (Kind 5)
 rest-shaped [] good = refl
 rest-shaped (b ∷ bs) good = (record { byte = b; is_byte = good.0.0; found = rw good.0.1 refl; takes = refl }, (rest-shaped bs good.1, tt))
 
--- what is read of the rest ends nothing
+-- reading the rest of a suffix ends nothing
 record PassesBy (s : List ℕ) (place : ℕ) (tree : Shape) (start : State) : Type 0 where
   values : List Value
   state : State
@@ -86,7 +86,7 @@ suffix-reads s front place components ended inside minus (dot ∷ b ∷ bs) is-a
 
 -- ## A symbol
 
--- every path, after any spelled beginning, in which each lifetime is bound
+-- each path is read after any spelled beginning in which all lifetimes are bound
 pub press-path-kept : (s : List ℕ) (bound : ℕ) → length s ≤ greatest_u64 → (inside : Option Production) (minus : Bool) (path : tree.Path) → IsSpellable path → need path ≤ bound
     → Presses s bound inside minus (Kind 1) (press_path path) (λ values. values ≡ value.a_path path ∷ [])
 press-path-kept s bound fits inside minus path good closed =

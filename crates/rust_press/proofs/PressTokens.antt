@@ -27,7 +27,7 @@ use Rattle.rust_press.proofs.PressNumbers.{spells62, spells16, spells-name}
 use Rattle.rust_press.specs.Subtrees.{IsTypeValue}
 use Rattle.rust_press.proofs.PressReferences.{constant-presses}
 
--- what the parts of a rule make together, where it makes no component or is one
+-- a rule makes no component of its parts, or makes one
 abbrev pub Makes : Rule → (byte bound : ℕ) → Value → List Value → Type 0
 Makes rule byte bound v values = (at : At) → byte_at at ≡ byte → at.bound ≡ bound → meaning_of (production_of rule.number) at values ≡ plain at v
 

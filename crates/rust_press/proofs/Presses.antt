@@ -14,7 +14,7 @@ pub record Row : Type 0 where
 abbrev presses : String → String → Row
 presses symbol wanted = record { symbol = codes symbol; wanted = codes wanted }
 
--- each is pressed so, and what was pressed is pressed again unchanged
+-- each symbol is pressed to these bytes, and pressed bytes are pressed to themselves
 unfoldable are_pressed : List Row → Bool
 are_pressed [] = true
 are_pressed (row ∷ rows) = same_bytes (press row.symbol) row.wanted && same_bytes (press row.wanted) row.wanted && are_pressed rows

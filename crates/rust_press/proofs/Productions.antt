@@ -19,7 +19,7 @@ type-as-part : (t : tree.Ty) → type_or_reference t (spell_type t) ≡ press_tr
 type-as-part (tree.path_type p) = refl
 type-as-part _ = refl
 
--- how a node's tree is spelled where it is spelled out; a path as a type is its path
+-- How a node's tree is spelled, where it is spelled out. A path as a type is spelled as the path.
 abbrev pub spelling_of : Tree → Pressing
 spelling_of (of_path path) = spell_path path
 spelling_of (of_type (tree.path_type path)) = press_path path
@@ -243,7 +243,7 @@ component-is (of_constant tree.placeholder) = refl
 component-is (of_constant _) = refl
 component-is (of_symbol s) = refl
 
--- what is compared is a component, and nothing else is
+-- a tree is compared exactly if it is a component
 abbrev pub looked_at : Bool → Tree → Pressing
 looked_at true t = component t (spelling_of t)
 looked_at false t = spelling_of t

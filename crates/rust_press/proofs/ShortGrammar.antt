@@ -1,4 +1,4 @@
--- How each rule of the grammar is pressed, by what its parts are pressed as.
+-- How what each rule of the grammar makes is pressed, by how its parts are pressed.
 use Rattle.std.proofs.Common.{◌≡◌, ℕ, zero, suc, ◌+◌, ◌*◌, ◌≤◌, inl, inr, length, List, [], ◌∷◌, ◌++◌, Option, Some, None, Bool, true, false, Ok, refl, ap, arith, sym, ◌∙◌}
 use Rattle.std.specs.Prelude.{get_or, if◌then◌else◌, nat_le, nat_lt, ◌&&◌, Result, Err}
 use Rattle.sym_core.specs.declared.NumberKind.TheVariants.{Base62, Hex}
@@ -32,7 +32,7 @@ use Rattle.rust_press.proofs.PressKept.{crate-root-means, inherent-impl-means, t
 use Rattle.rust_press.proofs.ShortParts.{ended_tree, spelled, is_compared, pressed_as, type-pressed, found-listed}
 use Rattle.rust_press.proofs.ShortRules.{Sort, Part, unsaid_part, path_part, other_part, namespace_part, disambiguator_part, identifier_part, name_part, arguments_part, type_part, types_part, some_lifetime_part, lifetime_part, binder_part, unsafe_part, abi_part, abi_name_part, bounds_part, bindings_part, constant_part, minus_part, truth_part, parts, sort_of, some_lifetime_values, known_lifetime, Made, makes_plain, makes_text, makes_tree, makes_again, Closes, AllClose, own_of, least_all, closes-0, closes-1, closes-2, closes-3, closes-4, closes-5}
 
--- one thing and the rest
+-- a fact, and those after it
 infixr 4 ◌then◌
 abbrev ◌then◌ : {A B : Type 0} → A → B → A × B
 one then rest = (one, rest)
@@ -43,37 +43,37 @@ pub holds-as : {A : Type 0} (P Q : A → Type 0) (m : Result A Refusal) → ((x 
 holds-as P Q (Ok x) more is = more x is
 holds-as P Q (Err e) more is = tt
 
--- something that doesn't end, pressed as these bytes and the parts
+-- a rule makes something that doesn't end, which is pressed as these bytes and its parts
 plain-made : (S : Sort) (own few_parts : ℕ) (at : At) (h : Pressing) (v : Value) (thing : S.thing) (bytes : List ℕ)
     → v ∷ [] ≡ S.values thing → length bytes ≤ 4 * own → ◌≡◌ {A = Pressing} (S.press thing) (text bytes and h) → (m : Meaning) → m ≡ plain at v → Holds (Made S own few_parts at h) m
 plain-made S own few_parts at h v thing bytes values few press m means =
     rw means (makes_plain (record { thing = thing; values = values; bytes = bytes; few = few; press = press; ended = refl }))
 
--- the same of a rule without a byte of its own
+-- a rule without a byte of its own makes something that doesn't end
 chain-made : (S : Sort) (few_parts : ℕ) (at : At) (h : Pressing) (v : Value) (thing : S.thing)
     → v ∷ [] ≡ S.values thing → ◌≡◌ {A = Pressing} (S.press thing) h → (m : Meaning) → m ≡ plain at v → Holds (Made S 0 few_parts at h) m
 chain-made S few_parts at h v thing values press m means = plain-made S 0 few_parts at h v thing [] values (omega arith) (press ∙ sym (nothing-and h)) m means
 
--- something that ends, so pressed
+-- a rule makes something that ends, which is pressed as these bytes and its parts
 tree-made : (S : Sort) (few_parts : ℕ) (at : At) (h : Pressing) (v : Value) (own : Tree) (thing : S.thing) (bytes : List ℕ)
     → v ∷ [] ≡ S.values thing → ended_tree v ≡ Some own → ◌≡◌ {A = Pressing} (S.press thing) (pressed_as own) → length bytes ≤ 4 → ◌≡◌ {A = Pressing} (spelled own) (text bytes and h)
     → (is_compared own ≡ true → 1 ≤ few_parts) → (m : Meaning) → m ≡ ends at v → Holds (Made S 1 few_parts at h) m
 tree-made S few_parts at h v own thing bytes values is press few out big m means =
     rw means (makes_tree (record { thing = thing; values = values; tree = own; is = is; press = press; bytes = bytes; few = few; out = out; big = λ compared. omega (arith, big compared); ended = refl }))
 
--- what is found where a reference looks, which ends again
+-- a rule makes what its reference names, which ends once more
 again-made : (S : Sort) (at : At) (n : ℕ) (old : List ℕ) (v w : Value) (own : Tree) (thing : S.thing)
     → v ∷ [] ≡ S.values thing → ended_tree v ≡ Some own → ◌≡◌ {A = Pressing} (S.press thing) (pressed_as own) → referred at n ≡ Some w → ended_tree w ≡ Some own
     → Holds (Made S 1 1 at (text old)) (ends at v)
 again-made S at n old v w own thing values is press there made =
     makes_again (record { thing = thing; values = values; tree = own; is = is; press = press; old = old; old_is = refl; listed = found-listed at.ended (n + 2) w own there made; big = omega arith; ended = refl })
 
--- so where it needs no more lifetimes than are bound
+-- a rule makes something only if a test holds
 if-made : (S : Sort) (own few_parts : ℕ) (at : At) (h : Pressing) (b : Bool) (m : Meaning) (e : Refusal) → Holds (Made S own few_parts at h) m → Holds (Made S own few_parts at h) (if b then m else Err e)
 if-made S own few_parts at h true m e is = is
 if-made S own few_parts at h false m e is = tt
 
--- a thing of one sort as one of another
+-- a rule that makes a thing of one sort makes one of another sort, too
 closes-as : (S T : Sort) (f : S.thing → T.thing) → ((t : S.thing) → T.values (f t) ≡ S.values t) → ((t : S.thing) → ◌≡◌ {A = Pressing} (T.press (f t)) (S.press t))
     → (cs : List Choice) → AllClose S cs → AllClose T cs
 closes-as S T f values press [] are = tt
@@ -332,7 +332,7 @@ truths-close =
 
 -- ## The table
 
--- of a symbol and of a suffix nothing is said here
+-- nothing is claimed here of symbols and of suffixes
 unsaid-closes : (rule : Rule) → 1 ≤ own_of rule → ((at : At) (values : List Value) → Holds (λ r. r.state.ended ≡ at.ended) (meaning_of (production_of rule.number) at values)) → Closes (sort_of unsaid_part) rule
 unsaid-closes rule solid same = record {
   production = production_of rule.number;
@@ -357,7 +357,7 @@ symbol-same at values =
 symbols-close : AllClose (sort_of unsaid_part) symbol_rules
 symbols-close = unsaid-closes _ (omega arith) symbol-same then tt
 
--- what a kind is where it may be empty, and its rules
+-- a kind's rules, and what the kind is where it may be empty
 abbrev pub KindCloses : Part → KindSheet → Type 0
 KindCloses part sheet =
     (sheet.may_be_empty ≡ true → (t : (sort_of part).thing) × ((sort_of part).values t ≡ []) × (◌≡◌ {A = Pressing} ((sort_of part).press t) nothing))

@@ -41,7 +41,7 @@ spelled (of_type type) = spell_type type
 spelled (of_constant constant) = spell_constant constant
 spelled _ = nothing
 
--- it is compared with those before it: it isn't always a letter
+-- the tree is compared with those before it, since it isn't always a letter
 abbrev pub is_compared : Tree → Bool
 is_compared (of_path path) = true
 is_compared (of_type (tree.basic letter)) = false
@@ -68,7 +68,7 @@ compared-itself (of_type type) is = type-itself type
 compared-itself (of_constant constant) is = constant-itself constant
 compared-itself _ is = cc
 
--- what is found where a reference looks has ended
+-- what a reference names has ended
 pub found-listed : (es : List Ended) (place : ℕ) (v : Value) (own : Tree) → ended_at es place ≡ Some v → ended_tree v ≡ Some own → Listed own es
 found-listed [] place v own is made = cc
 found-listed (e ∷ es) place v own is made = go (e.place == place) is (λ h. found-listed es place v own h made)
@@ -131,26 +131,26 @@ reference-short p place cs low = omega (arith, number-short (p - 2) (omega (arit
 
 -- ## What parts write
 
--- Spelling adds no component but those that are there, or that have ended.
+-- Spelling adds only components that are there already, or that have ended.
 abbrev pub Stays : Pressing → List Ended → Type 0
 Stays f es = (place : ℕ) (cs : List Component) (own : Tree) → Has own (f place cs).components → Has own cs ⊎ Listed own es
 
--- so with what has ended, where it is spelled out again
+-- The same holds for what has ended, where it is spelled out once more.
 abbrev pub IsClosed : List Ended → Type 0
 IsClosed es = (own : Tree) → Listed own es → Stays (spelled own) es
 
--- The components are what has ended and is compared.
+-- The components are those trees that have ended and are compared.
 pub record Alike (cs : List Component) (es : List Ended) : Type 0 where
   pub ended : (own : Tree) → Has own cs → Listed own es
   pub there : (own : Tree) → Listed own es → is_compared own ≡ true → Has own cs
   pub low : AreLow cs
 
--- at most four bytes are written for each of n, and the components are what has ended then
+-- at most 4 n bytes are written, and after them the components are what has ended
 pub record Writes (pressed : Pressed) (n : ℕ) (after : List Ended) : Type 0 where
   pub bytes : length pressed.bytes ≤ 4 * n
   pub alike : Alike pressed.components after
 
--- A part of a symbol of n bytes, before and after which this has ended, is pressed so.
+-- A part of n bytes of a symbol is pressed as `f`; these trees have ended before it, and these after it.
 pub record Fits (f : Pressing) (n : ℕ) (before after : List Ended) : Type 0 where
   pub more : (own : Tree) → Listed own before → Listed own after
   pub stays : Stays f after
@@ -183,7 +183,7 @@ and-fits f g n m a b c first rest = record {
       };
 }
 
--- a text that isn't written
+-- what fits after a text fits without the text
 pub fits-without : (bytes : List ℕ) (g : Pressing) (n m k : ℕ) (a b c : List Ended) → n ≤ k → m ≤ k → Fits (text bytes) n a b → Fits g m b c → Fits g k a c
 fits-without bytes g n m k a b c first-few few first rest = record {
   more = λ own is. rest.more own (first.more own is);
@@ -214,7 +214,7 @@ component-stays own e es is stays place cs u has = go (first_place own cs) has
     go None (inl same) = inr (inl (is ∙ ap (λ t. Some t) same))
     go None (inr there) = stays-more (spelled own) e es stays place cs u there
 
--- what has ended again, or isn't compared, changes no component
+-- something that has ended before, or isn't compared, adds no component
 alike-more : (own : Tree) (e : Ended) (es : List Ended) (cs : List Component) → ended_tree e.value ≡ Some own → (is_compared own ≡ true → Has own cs) → Alike cs es → Alike cs (e ∷ es)
 alike-more own e es cs is has alike = record {
   ended = λ u there. inr (alike.ended u there);
@@ -226,7 +226,7 @@ alike-more own e es cs is has alike = record {
     go u (inl here) compared = let same : own ≡ u = some-tree (sym is ∙ here) in subst (λ t. Has t cs) same (has (ap is_compared same ∙ compared))
     go u (inr earlier) compared = alike.there u earlier compared
 
--- a component that is added where it ends
+-- a component is added where it ends
 alike-own : (own : Tree) (e : Ended) (es : List Ended) (cs : List Component) (place : ℕ) → ended_tree e.value ≡ Some own → place ≤ reach → Alike cs es
     → Alike (record { place = place; own = own } ∷ cs) (e ∷ es)
 alike-own own e es cs place is low alike = record {
@@ -238,7 +238,7 @@ alike-own own e es cs place is low alike = record {
 false-true : {b : Bool} → b ≡ false → b ≡ true → ⊥
 false-true h k = cc
 
--- a component that a part spells out
+-- a part spells a component out
 component-writes : (own : Tree) (e : Ended) (n : ℕ) (a b : List Ended) → ended_tree e.value ≡ Some own → is_compared own ≡ true → 2 ≤ n → IsClosed a → Fits (spelled own) n a b
     → (place : ℕ) (cs : List Component) → Alike cs a → place + 4 * n ≤ reach → Writes (component own (spelled own) place cs) n (e ∷ b)
 component-writes own e n a b is compared big closed fits place cs alike low = go (first_place own cs) refl
@@ -246,7 +246,7 @@ component-writes own e n a b is compared big closed fits place cs alike low = go
     out : Writes (spelled own place cs) n b
     out = fits.writes place cs alike low
 
-    -- where it was spelled out, all of its parts were
+    -- a component that was spelled out before had all of its parts spelled out
     again : (u : Tree) → Has own cs → Listed u b → is_compared u ≡ true → Has u cs
     again u has listed same =
         elim (closed own (alike.ended own has) place cs u (out.alike.there u listed same)) [ inl there ↦ there | inr ended ↦ alike.there u ended same ]
@@ -260,7 +260,7 @@ component-writes own e n a b is compared big closed fits place cs alike low = go
         }
     go None found = record { bytes = out.bytes; alike = alike-own own e b (spelled own place cs).components place is (omega (arith, low)) out.alike }
 
--- what isn't compared is a letter
+-- a tree that isn't compared is a letter
 letter-fits : (own : Tree) (es : List Ended) → is_compared own ≡ false → IsClosed es → Fits (spelled own) 1 es es
 letter-fits (of_path path) es is closed = cc
 letter-fits (of_type (tree.basic letter)) es is closed = text-fits (letter ∷ []) 1 es closed (omega arith)
@@ -293,7 +293,7 @@ pressed-fits own e n a b is big closed fits = go (is_compared own) refl
           record { bytes = out.bytes; alike = alike-more own e b (spelled own place cs).components is (λ compared. absurd (false-true same compared)) out.alike };
     }
 
--- what has ended already ends again, at a reference
+-- what has ended already ends once more, at a reference
 pub refers-fits : (own : Tree) (e : Ended) (es : List Ended) → ended_tree e.value ≡ Some own → Listed own es → IsClosed es → Fits (pressed_as own) 2 es (e ∷ es)
 refers-fits own e es is listed closed = go (is_compared own) refl
   where

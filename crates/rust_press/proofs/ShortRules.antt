@@ -1,4 +1,4 @@
--- What the parts of a rule may be, and what the rule makes of them, by how both are pressed.
+-- What the parts of a rule may be, what the rule makes of them, and how both are pressed.
 use Rattle.std.proofs.Common.{◌≡◌, ℕ, ◌+◌, ◌*◌, ◌≤◌, length, List, [], ◌∷◌, ◌++◌, Option, Some, None, Bool, true, arith}
 use Rattle.std.specs.Prelude.{if◌then◌else◌, get_or}
 use Rattle.sym_core.specs.declared.NumberKind.TheVariants.{Base62, Hex}
@@ -29,13 +29,13 @@ use Rattle.rust_press.proofs.ShortParts.{ended_tree, Listed, spelled, is_compare
 
 -- ## What a part of a rule may be
 
--- things of a sort: the values that each is read as, and how it is pressed
+-- a sort of things: the values that each is read as, and how it is pressed
 pub record Sort : Type 1 where
   pub thing : Type 0
   pub values : thing → List Value
   pub press : thing → Pressing
 
--- what the kinds stand for; of `unsaid_part` nothing is said
+-- what the kinds denote; `unsaid_part` claims nothing
 pub data Part : Type 0 where
   unsaid_part : Part
   path_part : Part
@@ -72,10 +72,6 @@ known_lifetime (Some lifetime) = lifetime
 abbrev pub abi_name_values : Option tree.Name → List Value
 abi_name_values None = value.an_abi tree.c_abi ∷ []
 abi_name_values (Some name) = value.a_name name ∷ []
-
-abbrev pub named_abi : Option tree.Name → tree.Abi
-named_abi None = tree.c_abi
-named_abi (Some name) = tree.named_abi name
 
 abbrev press_abi_name : Option tree.Name → Pressing
 press_abi_name None = letter 67
@@ -114,7 +110,7 @@ parts =
     unsaid_part ∷ path_part ∷ other_part ∷ unsaid_part ∷ unsaid_part ∷ unsaid_part ∷ namespace_part ∷ disambiguator_part ∷ identifier_part ∷ name_part ∷ arguments_part ∷ type_part ∷ types_part ∷ some_lifetime_part ∷ lifetime_part
     ∷ binder_part ∷ unsafe_part ∷ abi_part ∷ abi_name_part ∷ bounds_part ∷ bindings_part ∷ constant_part ∷ minus_part ∷ truth_part ∷ []
 
--- a token's own bytes, and whether a minus came before it
+-- a sort for tokens: a token's own bytes, and whether a minus precedes it
 abbrev token_sort : Option Production → (List ℕ → Pressing) → Sort
 token_sort production press = record { thing = List ℕ × Bool; values = λ t. token_of production t.1 t.0 ∷ []; press = λ t. press t.0 }
 
@@ -126,7 +122,7 @@ sort_at production (Number Hex) = token_sort production (λ own. number16 (value
 sort_at production (Number kind) = token_sort production (λ own. nothing)
 sort_at production (Byte b) = record { thing = Unit {0}; values = λ _. []; press = λ _. letter b }
 
--- so many bytes at least
+-- the least number of bytes of a symbol of the grammar
 abbrev pub least : Sym → ℕ
 least (Kind k) = if v0_table.may_be_empty k then 0 else 1
 least Name = 1
@@ -139,7 +135,7 @@ abbrev pub least_all : List Sym → ℕ
 least_all [] = 0
 least_all (x ∷ xs) = least x + least_all xs
 
--- The parts of a rule, after those that are known, have these values and are pressed so.
+-- The parts of a rule, after the known ones, have these values and are pressed as `h`.
 abbrev pub Row : Option Production → List Sym → (known values : List Value) → Pressing → Type 0
 Row o [] known values h = (values ≡ known) × (◌≡◌ {A = Pressing} h nothing)
 Row o (x ∷ xs) known values h =
@@ -147,7 +143,7 @@ Row o (x ∷ xs) known values h =
 
 -- ## What a rule makes
 
--- something that doesn't end, beginning with the rule's own bytes
+-- a rule makes something that doesn't end; its spelling begins with the rule's own bytes
 pub record MakesPlain (S : Sort) (own : ℕ) (at : At) (h : Pressing) (r : Found Value State) : Type 0 where
   pub thing : S.thing
   pub values : r.value ∷ [] ≡ S.values thing
@@ -156,7 +152,7 @@ pub record MakesPlain (S : Sort) (own : ℕ) (at : At) (h : Pressing) (r : Found
   pub press : ◌≡◌ {A = Pressing} (S.press thing) (text bytes and h)
   pub ended : r.state.ended ≡ at.ended
 
--- a text in place of that of the parts
+-- a rule makes something whose text replaces that of the parts
 pub record MakesText (S : Sort) (own : ℕ) (at : At) (h : Pressing) (r : Found Value State) : Type 0 where
   pub thing : S.thing
   pub values : r.value ∷ [] ≡ S.values thing
@@ -167,7 +163,7 @@ pub record MakesText (S : Sort) (own : ℕ) (at : At) (h : Pressing) (r : Found 
   pub old_is : ◌≡◌ {A = Pressing} h (text old)
   pub ended : r.state.ended ≡ at.ended
 
--- a path, a type or a constant, which ends there
+-- a rule makes a path, a type or a constant, which ends there
 pub record MakesTree (S : Sort) (own few_parts : ℕ) (at : At) (h : Pressing) (r : Found Value State) : Type 0 where
   pub thing : S.thing
   pub values : r.value ∷ [] ≡ S.values thing
@@ -180,7 +176,7 @@ pub record MakesTree (S : Sort) (own few_parts : ℕ) (at : At) (h : Pressing) (
   pub big : is_compared tree ≡ true → 2 ≤ own + few_parts
   pub ended : r.state.ended ≡ record { place = at.place; value = r.value } ∷ at.ended
 
--- one that has ended already
+-- a rule makes one that has ended already
 pub record MakesAgain (S : Sort) (own few_parts : ℕ) (at : At) (h : Pressing) (r : Found Value State) : Type 0 where
   pub thing : S.thing
   pub values : r.value ∷ [] ≡ S.values thing
@@ -215,7 +211,7 @@ abbrev pub AllClose : Sort → List Choice → Type 0
 AllClose S [] = Unit {0}
 AllClose S (c ∷ cs) = Closes S c.rule × AllClose S cs
 
--- ## Rules of so many parts
+-- ## Rules by the number of their parts
 
 last-of : (o : Option Production) (x : Sym) (known : List Value) (P : List Value → Pressing → Type 0)
     → ((t : (sort_at o x).thing) → P (known ++ (sort_at o x).values t) ((sort_at o x).press t)) → (values : List Value) (h : Pressing) → Row o (x ∷ []) known values h → P values h
@@ -227,7 +223,7 @@ first-of : (o : Option Production) (x : Sym) (xs : List Sym) (known : List Value
     → (values : List Value) (h : Pressing) → Row o (x ∷ xs) known values h → P values h
 first-of o x xs known P is values h (t, g, joined, row) = rw joined (is t values g row)
 
--- what a rule of this production makes of these values, pressed so
+-- what a rule of this production makes of these values, whose parts are pressed as `h`
 abbrev Goal : Sort → Rule → Option Production → (few_parts : ℕ) → At → List Value → Pressing → Type 0
 Goal S rule o few_parts at values h = Holds (Made S (own_of rule) few_parts at h) (meaning_of o at values)
 

@@ -40,16 +40,16 @@ use Rattle.rust_press.proofs.ShortTokens.{number62-short, number16-short, name-s
 use Rattle.rust_press.proofs.ShortRules.{Sort, sort_of, parts, path_part, other_part, sort_at, least, least_all, Row, Made, makes_plain, makes_text, makes_tree, makes_again, own_of, Closes, AllClose}
 use Rattle.rust_press.proofs.ShortGrammar.{holds-as, each-kind}
 
--- ## What a part of a symbol is read as
+-- ## Parts of a symbol, as they are read
 
--- something of a sort, that is pressed in few bytes
+-- a thing of a sort was read, which is pressed in few bytes
 pub record IsRead (S : Sort) (few n : ℕ) (before : List Ended) (r : Found (List Value) State) : Type 0 where
   pub thing : S.thing
   pub values : r.value ≡ S.values thing
   pub fits : Fits (S.press thing) n before r.state.ended
   pub big : few ≤ n
 
--- the parts of a rule, after those that are known
+-- the parts of a rule, after the known ones, were read
 record AreRead (production : Option Production) (xs : List Sym) (known : List Value) (n : ℕ) (before : List Ended) (r : Found (List Value) State) : Type 0 where
   press : Pressing
   row : Row production xs known r.value press
@@ -95,7 +95,7 @@ token-read o (Byte b) t minus state is closed = absurd is
 
 -- ## Rules
 
--- what a rule makes of its parts, that are pressed so
+-- what a rule makes of its parts was read, where the parts are pressed as `h`
 made-read : (S : Sort) (own few_parts : ℕ) (at : At) (h : Pressing) (n : ℕ) (before : List Ended) (r : Found Value State) → 1 ≤ own + few_parts → few_parts ≤ n → IsClosed before → Fits h n before at.ended
     → Made S own few_parts at h r → IsRead S 1 (own + n) before (record { value = r.value ∷ []; state = r.state })
 made-read S own few_parts at h n before r solid big closed fits (makes_plain m) = record {
@@ -129,7 +129,7 @@ made-read S own few_parts at h n before r solid big closed fits (makes_again m) 
   big = omega (arith, solid, big);
 }
 
--- a rule of a kind
+-- a rule of a kind was read
 closes-at : (S : Sort) (cs : List Choice) (byte : ℕ) (rule : Rule) → AllClose S cs → choice_at cs byte ≡ Some rule → Closes S rule
 closes-at S [] byte rule are is = cc
 closes-at S (c ∷ cs) byte rule (one, rest) is = go (in_ranges (classes_of c) byte) is (λ h. closes-at S cs byte rule rest h)
@@ -142,7 +142,7 @@ own-long : (eats : Bool) (taken : List ℕ) (byte : ℕ) → taken ≡ (if eats 
 own-long true taken byte is = ap (λ l. length l) is
 own-long false taken byte is = ap (λ l. length l) is
 
--- a rule over parts that are read
+-- a rule was read over its parts
 rule-read : (s : List ℕ) (S : Sort) (rule : Rule) (taken : List ℕ) (context place n byte : ℕ) (before : State) (closes : Closes S rule) (m : Result (Found (List Value) State) Refusal)
     → taken ≡ (if rule.eats then byte ∷ [] else []) → IsClosed before.ended → Holds (AreRead (production_of rule.number) (symbols_of rule) [] n before.ended) m
     → Holds (IsRead S 1 (length taken + n) before.ended) (m >>= λ inner. meaning_of (production_of rule.number) (at_rule s (standing rule taken place context before) inner.state) inner.value >>= alone)
@@ -210,7 +210,7 @@ module _ (s : List ℕ) where
 
 -- ## A whole symbol
 
--- a suffix of at most so many bytes, or none
+-- a suffix of at most `most` bytes, or none
 abbrev IsSuffix : (most : ℕ) → List Value → Type 0
 IsSuffix most [] = Unit {0}
 IsSuffix most (value.a_suffix bytes ∷ []) = length bytes ≤ most
@@ -236,7 +236,7 @@ suffix-read s place (branch rule taken parts) state long (takes, are) = go (in_r
         holds-then (λ f. Unit {0}) _ (unfold_forest (v0 s) (standing rule taken place 0 state) [] (place + length taken) parts state) _ (anything _)
         (λ inner g. subst (λ r. Holds (λ f. IsSuffix (length (taken ++ spell_all parts)) f.value) (meaning_of (production_of r.number) (at_rule s (standing rule taken place 0 state) inner.state) inner.value >>= alone)) (same_Some _ _ found-it) short)
 
--- The values of the parts of a symbol, whose path, other path and suffix have so many bytes.
+-- The values of a symbol's parts. Its path, other path and suffix have a, b and d bytes.
 record AreParts (a b d : ℕ) (values : List Value) : Type 0 where
   path : tree.Path
   other : Option tree.Path
@@ -248,7 +248,7 @@ record AreParts (a b d : ℕ) (values : List Value) : Type 0 where
   other_fits : Fits (press_other other) b middle ended
   suffix : IsSuffix d last
 
--- A symbol of such parts.
+-- A symbol with such parts.
 record IsOfParts (a b d : ℕ) (symbol : tree.Symbol) : Type 0 where
   middle : List Ended
   ended : List Ended
@@ -274,7 +274,7 @@ none-closed own listed = absurd listed
 none-alike : Alike [] []
 none-alike = record { ended = λ own has. absurd has; there = λ own listed compared. absurd listed; low = tt }
 
--- what such a symbol is pressed as
+-- such a symbol is pressed in at most four bytes for each of its own
 parts-short : (a b d : ℕ) (symbol : tree.Symbol) → 2 + (a + (b + d)) ≤ MOST_BYTES → IsOfParts a b d symbol → length (pressed symbol) ≤ 4 * (2 + (a + (b + d)))
 parts-short a b d symbol fits is =
     let last = text-fits symbol.suffix d is.ended is.other_fits.closed (omega (arith, is.suffix)) in

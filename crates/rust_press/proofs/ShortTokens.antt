@@ -1,4 +1,4 @@
--- Numbers and names are pressed in no more bytes than the tokens that they are read from, but for a zero in base 16.
+-- Numbers and names are pressed in no more bytes than the tokens that they are read from, except for a zero in base 16.
 use Rattle.std.proofs.Common.{◌≡◌, ℕ, zero, suc, ◌+◌, ◌*◌, ◌/◌, ◌%◌, ◌<◌, ◌≤◌, length, List, [], ◌∷◌, ◌++◌, Bool, true, false, refl, ap, arith, sym, subst, length-append}
 use Rattle.std.specs.Prelude.{◌==◌, ◌||◌, if◌then◌else◌}
 use Rattle.std.specs.Fmt.{digit_glyph}
@@ -19,7 +19,7 @@ use Rattle.rust_press.specs.Pressing.{digits62, digits16, separator}
 use Rattle.rust_press.proofs.PressNumbers.{divides62}
 use Rattle.rust_press.proofs.PressReadTrees as read
 
--- digits stand for less than as many can
+-- n digits denote less than the base to the power of n
 value-below : (kind : NumberKind) → ((d : ℕ) → is_digit_of kind d ≡ true → digit_value kind d < radix_of kind)
     → (v w : ℕ) (ds : List ℕ) → v < w → AreDigits kind ds → value_onto kind v ds < w * most_of (radix_of kind) (length ds)
 value-below kind each v w [] low are = omega (arith, low)

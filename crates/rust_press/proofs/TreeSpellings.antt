@@ -92,7 +92,7 @@ pub parts-same : (ts : List Tree) (g h : Pressing) → ((p : ℕ) (cs : List Com
 parts-same [] g h same p cs = same p cs
 parts-same (t ∷ ts) g h same p cs = and-same (press_tree t) _ _ (parts-same ts g h same) p cs
 
--- a spelling is that of fields, whatever follows it
+-- the fields of a spelling are the tree's, whatever follows it
 abbrev pub by_fields : Fields → Pressing → Pressing
 by_fields given rest = text (front given) and parts_then given.parts (text (end given) and rest)
 

@@ -95,14 +95,14 @@ reference-text : (place p : ℕ) (cs : List Component) → reference place p cs 
 unfolding reference_bytes
 reference-text place p cs = is-text (letter 66) (number62 (place - 2)) (66 ∷ []) (number_bytes (place - 2)) (λ q ds. refl) (number-text (place - 2)) p cs
 
--- a component by what is known of it
+-- a component, by what is known of it
 component-known : (t : Tree) (f : Pressing) (place p : ℕ) (cs : List Component) → first_place t cs ≡ Some place → component t f p cs ≡ reference place p cs
 component-known t f place p cs is = rw is refl
 
 component-new : (t : Tree) (f : Pressing) (p : ℕ) (cs : List Component) → first_place t cs ≡ None → component t f p cs ≡ spelled_out t f p cs
 component-new t f p cs is = rw is refl
 
--- one node's tree before the rest, for each kind of step
+-- the tree of one node before the rest, for each kind of step
 known-step : (t : Tree) (old : Pressing) (place p : ℕ) (cs : List Component) → is_component (fields_of t).production ≡ true → first_place t cs ≡ Some place
     → (press_tree t and old) p cs ≡ (text (reference_bytes place) and old) p cs
 known-step t old place p cs is known =
@@ -126,7 +126,7 @@ plain-step t old p cs small is =
 
 -- ## A step at a node
 
--- what a step at a node leaves
+-- the state after a step at a node
 pub record Left (y : ReadSymbol) (numbers : List ℕ) (whole : Pressed) (older new : List Task) (node : ℕ) (places : List (Option ℕ)) (after : List ℕ) : Type 0 where
   pub goes : Goes y numbers whole new places after
   pub fewer : weight_of_tasks y new < task_weight y (Task.Node node) + weight_of_tasks y older
@@ -281,7 +281,7 @@ set-other (p ∷ ps) zero (suc j) x apart = refl
 set-other (p ∷ ps) (suc k) zero x apart = refl
 set-other (p ∷ ps) (suc k) (suc j) x apart = set-other ps k j x (λ e. apart (ap suc e))
 
--- the first place of a tree, one component later
+-- the first place of a tree, with one component more
 one-later : Option ℕ → Bool → ℕ → Option ℕ
 one-later (Some p) same place = Some p
 one-later None true place = Some place
@@ -296,7 +296,7 @@ later-is u own place cs = go (first_place u cs) (same_tree u own)
     go None true = refl
     go None false = refl
 
--- the table of places goes on as the components do: k is the number of the tree that ended, j that of another
+-- The table of places follows the components: k is the number of the tree that ended, and j that of another tree.
 place-goes : (places : List (Option ℕ)) (k j place : ℕ) (t u : Tree) (old other : Option ℕ) → slice_get places k ≡ Some old → slice_get places j ≡ Some other
     → (k ≡ j → t ≡ u) → (t ≡ u → k ≡ j) → (t ≡ u → old ≡ other) → same_tree t t ≡ true
     → slice_get (placed places k place) j ≡ Some (one-later other (same_tree u t) place)
@@ -412,7 +412,7 @@ pub components-last : (y : ReadSymbol) (numbers : List ℕ) (whole : Pressed) (t
 components-last y numbers whole tasks places out g is =
     subst (AreOfNodes (trees_of y)) (ap (λ l. (press_tasks y l (length out) g.components).components) (sym is) ∙ g.spelled) g.of_nodes
 
--- the suffix comes after all else
+-- the suffix comes after everything else
 pub whole-symbol : (symbol : tree.Symbol) → pressed symbol ≡ (press_tree (of_symbol symbol) 0 []).bytes ++ symbol.suffix
 whole-symbol symbol =
     ap (λ one. one.bytes) (sym (and-assoc-at (text (95 ∷ 82 ∷ [])) (press_path symbol.path) (press_other symbol.instantiating and text symbol.suffix) 0 []))
@@ -429,12 +429,12 @@ symbol-bytes y whole view t out there long h is bytes =
     bytes ∙ ap (λ o. (press_some o 0 []).bytes ++ t) there ∙ ap (λ l. (press_tree (of_symbol whole) 0 []).bytes ++ l) suffix
     ∙ sym (whole-symbol whole) ∙ ap (λ o. pressed (symbol_in o)) (sym there)
 
--- ## What the loop asks for
+-- ## What the loop requires
 
 pub popped : (tasks rest : List Task) (o : Option Task) (task one : Task) → tasks ≡ rest ++ option_to_list o → o ≡ Some task → task ≡ one → tasks ≡ rest ++ one ∷ []
 popped tasks rest o task one is some same = is ∙ ap (λ p. rest ++ option_to_list p) (some ∙ ap Some same)
 
--- a node that is there has a number, and the number has its place
+-- a node that is there has a number, and a place belongs to the number
 pub record IsThere (y : ReadSymbol) (numbers : List ℕ) (places : List (Option ℕ)) (k : ℕ) : Type 0 where
   pub node : k < length y.table.nodes
   pub number : k < length numbers

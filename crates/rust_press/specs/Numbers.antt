@@ -5,15 +5,16 @@ use Rattle.rust_tree.specs.Tree.{Tree}
 use Rattle.rust_tree.specs.Fields.{Fields}
 use Rattle.rust_press.specs.declared.numbering.Key.{Key}
 
--- Nodes with equal trees have one number, and others different ones. A tree that no node before has gets the next one.
+-- Nodes with equal trees have one number, and nodes with different trees have different numbers. A tree that no earlier
+-- node has gets the next number.
 abbrev pub AreNumbers : List Tree → List ℕ → Type 0
 AreNumbers all numbers = AreNumbered (slice_get all) (length all) numbers
 
--- Nodes with equal trees have one first node, and others different ones.
+-- Nodes with equal trees have one first node, and nodes with different trees have different ones.
 abbrev pub AreFirst : List Tree → List ℕ → Type 0
 AreFirst all firsts = AreTold (slice_get all) (length all) firsts
 
--- the number of a part, by these numbers or any that tell trees apart
+-- the number of a part, by these numbers or by any others that tell trees apart
 abbrev pub IsPartNumber : List Tree → List ℕ → (parts : List Tree) → (k n : ℕ) → Type 0
 IsPartNumber all numbers parts k n = (p : ℕ) × (p < length numbers) × (slice_get all p ≡ slice_get parts k) × (n ≡ number_at numbers p)
 

@@ -1,4 +1,4 @@
--- What is pressed of a symbol that was read.
+-- The pressed spelling of a symbol that was read.
 use Rattle.std.specs.Prelude.{ℕ, ◌≤◌, List, length}
 use Rattle.rust_tree.specs.Layout.{ReadSymbol}
 use Rattle.rust_v0.specs.Whole.{whole_of}

@@ -17,7 +17,7 @@ use Rattle.sym_shape.specs.declared.rule.Sym.TheVariants.{Kind}
 use Rattle.rust_press.specs.Spellable.{IsSpellable, IsSpellableSuffix}
 use Rattle.rust_press.specs.Pressing.{Component, Pressed, Pressing, pressed}
 
--- a component as what ends where it is read
+-- a component, as something that has ended where it is read
 abbrev pub as_value : Tree → Value
 as_value (of_path path) = value.a_path path
 as_value (of_type type) = value.a_type type
@@ -29,7 +29,8 @@ abbrev pub AreListed : List Ended → (place : ℕ) → List Component → Type 
 AreListed ended place [] = Unit {0}
 AreListed ended place (c ∷ cs) = (ended_at ended c.place ≡ Some (as_value c.own)) × (2 ≤ c.place) × (c.place < place) × AreListed ended place cs
 
--- What has ended agrees with the components so far: each of them is there, and nothing began at the place or after it.
+-- What has ended agrees with the components so far: each component has ended, and nothing began at the place or after
+-- it.
 pub record Agrees (components : List Component) (ended : List Ended) (place : ℕ) : Type 0 where
   pub listed : AreListed ended place components
   pub behind : (q : ℕ) → place ≤ q → ended_at ended q ≡ None
@@ -37,7 +38,8 @@ pub record Agrees (components : List Component) (ended : List Ended) (place : �
 abbrev pub state_of : List Ended → (inside : Option Production) → (minus : Bool) → State
 state_of ended inside minus = record { ended = ended; inside = inside; minus = minus }
 
--- What was pressed at a place is spelled by a shape for a symbol of the grammar, which is read there as values with Q.
+-- What was pressed at a place is the spelling of a shape for a symbol of the grammar. The shape is read there as values
+-- with Q.
 pub record Reads (s : List ℕ) (bound : ℕ) (inside : Option Production) (minus : Bool) (symbol : Sym) (Q : List Value → Type 0) (place : ℕ) (ended : List Ended) (pressed : Pressed) : Type 0 where
   pub shape : Shape
   pub spelled : spell shape ≡ pressed.bytes
@@ -49,7 +51,7 @@ pub record Reads (s : List ℕ) (bound : ℕ) (inside : Option Production) (minu
   pub agrees : Agrees pressed.components state.ended (place + length pressed.bytes)
   pub keeps : (p : ℕ) → p < place → ended_at state.ended p ≡ ended_at ended p
 
--- so after any spelled beginning
+-- what is pressed is read in this way after any spelled beginning
 abbrev pub Presses : (s : List ℕ) → (bound : ℕ) → (inside : Option Production) → (minus : Bool) → Sym → Pressing → (List Value → Type 0) → Type 0
 Presses s bound inside minus symbol pressing Q =
     (front back : List ℕ) (place : ℕ) (components : List Component) (ended : List Ended)
@@ -59,7 +61,7 @@ Presses s bound inside minus symbol pressing Q =
     → s ≡ front ++ ((pressing place components).bytes ++ back)
     → Reads s bound inside minus symbol Q place ended (pressing place components)
 
--- the same for the parts of a rule, after parts that are known
+-- the same for the parts of a rule, after the known ones
 pub record ReadsRow (s : List ℕ) (rule : Rule) (taken : List ℕ) (bound at : ℕ) (before : State) (symbols : List Sym) (known : List Value) (Q : List Value → Type 0) (place : ℕ) (start : State) (pressed : Pressed) : Type 0 where
   pub forest : Forest
   pub spelled : spell_all forest ≡ pressed.bytes
@@ -86,25 +88,25 @@ abbrev pub IsClosedOther : Option tree.Path → Type 0
 IsClosedOther None = Unit {0}
 IsClosedOther (Some path) = IsSpellable path × (need path ≤ 0)
 
--- what each symbol has that is read: it can be spelled, and each lifetime in it is bound
+-- what holds of each symbol that is read: it can be spelled, and each lifetime in it is bound
 pub record IsSpellableSymbol (symbol : tree.Symbol) : Type 0 where
   pub path : IsSpellable symbol.path × (need symbol.path ≤ 0)
   pub other : IsClosedOther symbol.instantiating
   pub suffix : IsSpellableSuffix symbol.suffix
 
--- the bytes are spelled by a shape of the grammar that is read as the symbol
+-- the bytes spell a shape of the grammar that is read as the symbol
 pub record IsReadAs (s : List ℕ) (symbol : tree.Symbol) : Type 0 where
   pub shape : Shape
   pub shaped : IsTree v0_table (Kind 0) shape
   pub spelled : spell shape ≡ s
   pub unfolds : unfolded shape ≡ Ok symbol
 
--- some symbol is read so
+-- the shape is read as the symbol
 abbrev pub IsReadFrom : Shape → tree.Symbol → Type 0
 IsReadFrom shape symbol = IsTree v0_table (Kind 0) shape × (unfolded shape ≡ Ok symbol)
 
--- What some symbol is read as, pressed, is well shaped, and every shape of the grammar that spells it is read as the same. The
--- pressed bytes are at most 2^64 - 1, as those of any list.
+-- If some symbol is read as a tree, the pressed spelling of the tree is well shaped, and every shape of the grammar
+-- that spells it is read as the same tree. The pressed bytes are at most 2^64 - 1, as those of any list.
 abbrev pub PressedIsRead : Type 0
 PressedIsRead =
     (shape : Shape) (symbol : tree.Symbol) → IsReadFrom shape symbol → length (pressed symbol) ≤ greatest_u64

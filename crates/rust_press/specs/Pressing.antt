@@ -1,5 +1,5 @@
--- The pressed spelling of what a symbol stands for: the tree in its order, in which each path, type or constant that is
--- equal to an earlier one is a reference to the first such one, and everything else is spelled out.
+-- The pressed spelling of what a symbol denotes: the tree in its order. A path, type or constant that equals an earlier
+-- one is a reference to the first such one, and everything else is spelled out.
 use Rattle.std.specs.Prelude.{ℕ, zero, suc, ◌-◌, List, [], ◌∷◌, ◌++◌, length, Bool, true, false, if◌then◌else◌, ◌||◌, ◌==◌, Option, Some, None}
 use Rattle.sym_core.specs.Number.{is_decimal_digit}
 use Rattle.sym_spell.specs.Pressing as spell
@@ -27,7 +27,7 @@ Pressing = spell.Pressing Component
 
 -- ## Numbers and names
 
--- in base 62 no digit is 0, and digits of value v are v + 1
+-- in base 62: 0 has no digit, and digits of value v denote v + 1
 abbrev pub digits62 : ℕ → List ℕ
 digits62 zero = []
 digits62 (suc n) = digits_in 62 digit62 40 n
@@ -79,7 +79,7 @@ press_identifier identifier = identifier_of identifier.disambiguator identifier.
 abbrev pub press_lifetime : ℕ → Pressing
 press_lifetime lifetime = letter 76 and number62 lifetime
 
--- that of a reference isn't written where it is erased
+-- the lifetime of a reference, which is left out where it is erased
 abbrev pub some_lifetime : ℕ → Pressing
 some_lifetime zero = nothing
 some_lifetime (suc n) = press_lifetime (suc n)

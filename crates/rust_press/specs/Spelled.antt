@@ -1,4 +1,5 @@
--- What is written of a node by its production, its numbers and its text: bytes before its parts and bytes after them.
+-- What is written of a node, by its production, its numbers and its text: the bytes before its parts and those after
+-- them.
 use Rattle.std.specs.Prelude.{ℕ, ◌-◌, List, [], ◌∷◌, ◌++◌, length, Bool, true, false, ◌==◌, nat_lt, if◌then◌else◌, get_or}
 use Rattle.rust_tree.specs.declared.tree_production.TheConstants.{CRATE_ROOT, PUNYCODE_CRATE_ROOT, TRAIT_DEFINITION, NESTED, PUNYCODE_NESTED, GENERIC, NO_ARGUMENTS, LIFETIME_ARGUMENT, BASIC, ARRAY, SHARED_REFERENCE, MUTABLE_REFERENCE, FUNCTION, C_FUNCTION, ABI_FUNCTION, PUNYCODE_ABI_FUNCTION, DYN, NO_TYPES, MORE_BINDINGS, PUNYCODE_MORE_BINDINGS, INTEGER, BOOLEAN, CHARACTER, PLACEHOLDER, SYMBOL}
 use Rattle.rust_tree.specs.Fields.{Fields, number_in, text_in}
@@ -43,7 +44,7 @@ letters =
 unfoldable pub letter_bytes : (production : ℕ) → List ℕ
 letter_bytes production = if get_or letters production 46 == 46 then [] else (get_or letters production 46 ∷ [])
 
--- a path, a type that isn't a letter, or a constant that isn't unknown
+-- whether a production makes a path, a type that isn't a letter, or a constant that isn't unknown
 unfoldable pub is_component : (production : ℕ) → Bool
 is_component production =
     if nat_lt production NO_ARGUMENTS then true else (

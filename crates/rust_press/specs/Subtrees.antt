@@ -1,4 +1,4 @@
--- What is pressed of a part of a symbol is read as that part, after whatever was spelled before it.
+-- Pressed parts of a symbol are read as those parts, after whatever was spelled before them.
 use Rattle.std.specs.Prelude.{◌≡◌, ℕ, ◌≤◌, ◌⊎◌, List, [], ◌∷◌, length, Bool, Option}
 use Rattle.sym_shape.specs.declared.rule.Sym.TheVariants.{Kind}
 use Rattle.rust_grammar.specs.declared.production.Production.{Production}
@@ -15,22 +15,22 @@ use Rattle.rust_press.specs.PressLaws.{Presses}
 abbrev pub IsTypeValue : tree.Ty → List Value → Type 0
 IsTypeValue type values = (values ≡ value.a_type type ∷ []) ⊎ ((path : tree.Path) × (type ≡ tree.path_type path) × (values ≡ value.a_path path ∷ []))
 
--- A path that a symbol may have, and that closes under the lifetimes that are bound, is read where it is pressed: as a reference to
--- what ended before, or spelled out. The whole spelling has a length of 64 bits.
+-- A path that a symbol may have, and that closes under the bound lifetimes, is read where it is pressed: as a reference
+-- to what ended before, or spelled out. The whole spelling has a length of 64 bits.
 abbrev pub PathsAreRead : Type 0
 PathsAreRead =
     (s : List ℕ) (bound : ℕ) (inside : Option Production) (minus : Bool) (path : tree.Path)
     → length s ≤ greatest_u64 → IsSpellable path → need path ≤ bound
     → Presses s bound inside minus (Kind 1) (press_path path) (λ values. values ≡ value.a_path path ∷ [])
 
--- so is a type
+-- the same for a type
 abbrev pub TypesAreRead : Type 0
 TypesAreRead =
     (s : List ℕ) (bound : ℕ) (inside : Option Production) (minus : Bool) (type : tree.Ty)
     → length s ≤ greatest_u64 → IsSpellableType type → need_of_type type ≤ bound
     → Presses s bound inside minus (Kind 11) (type_or_reference type (spell_type type)) (IsTypeValue type)
 
--- and a constant
+-- the same for a constant
 abbrev pub ConstantsAreRead : Type 0
 ConstantsAreRead =
     (s : List ℕ) (bound : ℕ) (inside : Option Production) (minus : Bool) (constant : tree.Constant)

@@ -4,19 +4,20 @@ ghost use Rattle.rust_press.specs.Apart.{ComponentsAreApart};
 ghost use Rattle.rust_press.specs.Short.{PressedIsShort};
 ghost use Rattle.rust_press.specs.Subtrees.{ConstantsAreRead, PathsAreRead, TypesAreRead};
 
-/// What some Rust symbol stands for, pressed, is well shaped, and every shape that spells it stands for the same: no part, no
-/// disambiguator and no suffix is lost. The pressed bytes are at most 2^64 - 1, as those of any list.
+/// If some Rust symbol denotes a tree, the pressed spelling of the tree is well shaped, and every shape that spells it
+/// denotes the same tree: no part, no disambiguator and no suffix is lost. The pressed bytes are at most 2^64 - 1, as
+/// those of any list.
 pub fn pressed_is_read()
     ensures { PressedIsRead }
 {}
 
-/// What a pressed spelling is read as is pressed to the same bytes, where it has at most 2^64 - 1.
+/// A tree that a pressed spelling is read as is pressed to the same bytes, if these are at most 2^64 - 1.
 pub fn pressed_once()
     ensures { PressedOnce }
 {}
 
-/// Each path, type or constant that a symbol may have is read as itself where it is pressed, after any spelled beginning whose
-/// components have ended where it is read. The laws of whole symbols follow from it.
+/// Each path, type or constant that a symbol may have is read as itself where it is pressed, after any spelled
+/// beginning whose components have ended where it is read. The laws of whole symbols follow from this.
 pub fn subtrees_are_read()
     ensures paths { PathsAreRead }
     ensures types { TypesAreRead }
@@ -28,7 +29,7 @@ pub fn components_are_apart()
     ensures { ComponentsAreApart }
 {}
 
-/// What a symbol that fits is read as has at most four pressed bytes for each byte of the symbol.
+/// The tree that a fitting symbol is read as has at most four pressed bytes for each byte of the symbol.
 pub fn pressed_is_short()
     ensures { PressedIsShort }
 {}

@@ -12,7 +12,8 @@ use std::alloc::Global;
 use sym_core::Refusal;
 use sym_spell::{Firsts, Marked, Numbers, text_mark};
 
-/// What nodes with equal trees have alike. The parts are those of the first `count`, each by the first node that is equal.
+/// The key of a node: what nodes with equal trees have alike. It has the first `count` parts, each by the first node
+/// that equals it.
 #[derive(Clone, Copy, PartialEq, Eq, PartialOrd, Ord)]
 struct Key<'a> {
     production: u16,
@@ -23,7 +24,7 @@ struct Key<'a> {
     second_text: &'a [u8],
 }
 
-/// What equal keys have alike, in few instructions.
+/// The mark of a key: a number that equal keys have alike, in few instructions.
 impl<'a> Marked for Key<'a> {
     ghost use Rattle.rust_press.specs.Marks.{mark_of, marked-alike};
 

@@ -28,7 +28,7 @@ enum Task {
     Ended { node: u32, place: u64 },
 }
 
-/// The parts of a node are still to be spelled, the last of which goes on the list first.
+/// Puts the parts of a node on the list of tasks, the last part first.
 fn push_parts(symbol: &Symbol, node: u32, count: u32, tasks: &mut Vec<Task>) -> Result<(), Refusal>
     requires node { node < length symbol.now.table.nodes }
     requires count { count ≡ length (fields_at symbol.now node).parts }
@@ -51,7 +51,7 @@ fn first_of(firsts: &[u32], node: u32) -> u32
     firsts[node as usize]
 }
 
-/// A node is spelled up to its parts, or as a reference where one like it is spelled out already.
+/// Spells a node up to its parts, or writes a reference where one like it is spelled out already.
 fn press_node(
     symbol: &Symbol,
     firsts: &[u32],
@@ -82,7 +82,7 @@ fn press_node(
     Ok(())
 }
 
-/// A component has ended: where it began is known from now on.
+/// Ends a component: its place is known from now on.
 fn end_component(
     symbol: &Symbol,
     number: u32,

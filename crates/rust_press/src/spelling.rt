@@ -19,7 +19,7 @@ use sym_spell::push_digits;
 /// The letter that each production begins with, and a dot where there is none.
 const LETTERS: [u8; 38] = *b"CCMXYNNI.LK...ASTRQPOFFFFDE.E..pp.bcp_";
 
-/// A number in base 62: 0 has no digit, and digits of value v stand for v + 1.
+/// A number in base 62: 0 has no digit, and digits of value v denote v + 1.
 #[tactic(auto, unfolding(crate::specs::Spelled::number_bytes))]
 fn push_number(value: u64, out: &mut Vec<u8>) -> Result<(), Refusal>
     ensures number { OnOk result (out.new.items ≡ out.old.items ++ number_bytes value) }
@@ -56,7 +56,7 @@ fn push_lifetime(lifetime: u64, out: &mut Vec<u8>) -> Result<(), Refusal>
     Ok(())
 }
 
-/// A letter where it is to be.
+/// A letter, if it is to be written.
 #[tactic(auto, unfolding(crate::specs::Spelled::mark_bytes))]
 fn push_mark(is_marked: bool, letter: u8, out: &mut Vec<u8>) -> Result<(), Refusal>
     ensures mark { OnOk result (out.new.items ≡ out.old.items ++ mark_bytes is_marked letter) }
@@ -85,7 +85,7 @@ fn push_name(punycode: bool, name: &[u8], out: &mut Vec<u8>) -> Result<(), Refus
     Ok(())
 }
 
-/// The digits of an integer, of which zero has none yet.
+/// The digits of an integer. Zero has none in its node, and is written as `0`.
 #[tactic(auto, unfolding(crate::specs::Spelled::integer_bytes))]
 fn push_integer(digits: &[u8], out: &mut Vec<u8>) -> Result<(), Refusal>
     ensures integer { OnOk result (out.new.items ≡ out.old.items ++ integer_bytes digits.now) }

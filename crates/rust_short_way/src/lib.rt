@@ -10,7 +10,10 @@ ghost use Rattle.rust_direct.specs.Prints.{detail_by};
 ghost use Rattle.rust_direct.specs.WriterInvariant.{IsWriting, IsShown, HasRooms};
 ghost use Rattle.rust_direct.specs.Awaits.{IsFresh};
 
-use rust_direct::{Brief, Direct, Showing, Step, Whole};
+mod writer;
+
+use rust_direct::{Brief, Showing, Step, Whole};
+pub use writer::Writer;
 
 /// The most bytes of text that are written for each byte of a symbol, and those that are written in any case.
 const BYTES_A_BYTE: usize = 8;
@@ -27,69 +30,69 @@ const ROUNDS_A_BYTE: usize = 8;
 /// Whatever is answered, at most eight bytes for each of the symbol's and a kilobyte are written, and as many of hidden text,
 /// at most eight steps for each byte are taken, and no list has more entries than the symbol has bytes: each step begins with
 /// lists that have room for no more. The lists only grow in a call.
-pub fn write(direct: &mut Direct, s: &[u8], limit: u32) -> bool
+pub fn write(writer: &mut Writer, s: &[u8], limit: u32) -> bool
     requires { FitsSymbol s.now }
-    ensures answer { result ≡ true → IsAnswer details.Full s.now limit (Ok direct.new.text.list.items) }
-    ensures bytes { length direct.new.text.list.items ≤ 8 * length s.now + 1024 }
-    ensures aside { length direct.new.aside.list.items ≤ 8 * length s.now + 1024 }
-    ensures notes { length direct.new.notes.list.items ≤ length s.now }
-    ensures numbers { length direct.new.numbers.items ≤ length s.now }
-    ensures waiting { length direct.new.waiting.list.items ≤ length s.now }
-    ensures rounds { direct.new.rounds ≤ direct.old.rounds + 8 * length s.now }
+    ensures answer { result ≡ true → IsAnswer details.Full s.now limit (Ok writer.new.lists.text.list.items) }
+    ensures bytes { length writer.new.lists.text.list.items ≤ 8 * length s.now + 1024 }
+    ensures aside { length writer.new.lists.aside.list.items ≤ 8 * length s.now + 1024 }
+    ensures notes { length writer.new.lists.notes.list.items ≤ length s.now }
+    ensures numbers { length writer.new.lists.numbers.items ≤ length s.now }
+    ensures waiting { length writer.new.lists.waiting.list.items ≤ length s.now }
+    ensures rounds { writer.new.rounds ≤ writer.old.rounds + 8 * length s.now }
 {
-    write_as::<Whole>(direct, s, limit)
+    write_as::<Whole>(writer, s, limit)
 }
 
 /// Writes the text of a symbol without its generic arguments, as `write` does: they are written, too, and left out at the end.
-pub fn write_brief(direct: &mut Direct, s: &[u8], limit: u32) -> bool
+pub fn write_brief(writer: &mut Writer, s: &[u8], limit: u32) -> bool
     requires { FitsSymbol s.now }
-    ensures answer { result ≡ true → IsAnswer details.Brief s.now limit (Ok direct.new.text.list.items) }
-    ensures bytes { length direct.new.text.list.items ≤ 8 * length s.now + 1024 }
-    ensures aside { length direct.new.aside.list.items ≤ 8 * length s.now + 1024 }
-    ensures notes { length direct.new.notes.list.items ≤ length s.now }
-    ensures numbers { length direct.new.numbers.items ≤ length s.now }
-    ensures waiting { length direct.new.waiting.list.items ≤ length s.now }
-    ensures rounds { direct.new.rounds ≤ direct.old.rounds + 8 * length s.now }
+    ensures answer { result ≡ true → IsAnswer details.Brief s.now limit (Ok writer.new.lists.text.list.items) }
+    ensures bytes { length writer.new.lists.text.list.items ≤ 8 * length s.now + 1024 }
+    ensures aside { length writer.new.lists.aside.list.items ≤ 8 * length s.now + 1024 }
+    ensures notes { length writer.new.lists.notes.list.items ≤ length s.now }
+    ensures numbers { length writer.new.lists.numbers.items ≤ length s.now }
+    ensures waiting { length writer.new.lists.waiting.list.items ≤ length s.now }
+    ensures rounds { writer.new.rounds ≤ writer.old.rounds + 8 * length s.now }
 {
-    write_as::<Brief>(direct, s, limit)
+    write_as::<Brief>(writer, s, limit)
 }
 
 /// Writes the text of a symbol without its generic arguments or with them.
 #[inline(always)]
-fn write_as<S: Showing>(direct: &mut Direct, s: &[u8], limit: u32) -> bool
+fn write_as<S: Showing>(writer: &mut Writer, s: &[u8], limit: u32) -> bool
     requires { FitsSymbol s.now }
-    ensures answer { result ≡ true → IsAnswer (detail_by S.IS_BRIEF) s.now limit (Ok direct.new.text.list.items) }
-    ensures rooms { HasRooms s.now direct.new }
-    ensures rounds { direct.new.rounds ≤ direct.old.rounds + 8 * length s.now }
+    ensures answer { result ≡ true → IsAnswer (detail_by S.IS_BRIEF) s.now limit (Ok writer.new.lists.text.list.items) }
+    ensures rooms { HasRooms s.now writer.new.lists }
+    ensures rounds { writer.new.rounds ≤ writer.old.rounds + 8 * length s.now }
 {
     let size = s.len();
     let bytes = BYTES_A_BYTE * size + BYTES_ANYWAY;
     let shown = bytes.min(limit as usize / 4);
-    direct.restart(shown as u32, bytes as u32, size as u32);
-    if run::<S>(direct, s, limit) {
+    writer.restart(shown as u32, bytes as u32, size as u32);
+    if run::<S>(writer, s, limit) {
         return true;
     }
-    direct.restart(0, 0, 0);
+    writer.restart(0, 0, 0);
     false
 }
 
 /// Takes steps up to the end of a symbol.
-fn run<S: Showing>(direct: &mut Direct, s: &[u8], limit: u32) -> bool
+fn run<S: Showing>(writer: &mut Writer, s: &[u8], limit: u32) -> bool
     requires fits { FitsSymbol s.now }
-    requires fresh { IsFresh s.now direct.old }
-    ensures answer { result ≡ true → IsAnswer (detail_by S.IS_BRIEF) s.now limit (Ok direct.new.text.list.items) }
-    ensures rooms { result ≡ true → HasRooms s.now direct.new }
-    ensures rounds { direct.new.rounds ≤ direct.old.rounds + 8 * length s.now }
+    requires fresh { IsFresh s.now writer.old.lists }
+    ensures answer { result ≡ true → IsAnswer (detail_by S.IS_BRIEF) s.now limit (Ok writer.new.lists.text.list.items) }
+    ensures rooms { result ≡ true → HasRooms s.now writer.new.lists }
+    ensures rounds { writer.new.rounds ≤ writer.old.rounds + 8 * length s.now }
 {
-    let Some(first) = direct.begin::<S>(s) else {
+    let Some(first) = writer.begin::<S>(s) else {
         return false;
     };
     let mut step = first;
     'steps: for _ in 0..ROUNDS_A_BYTE * s.len() {
         if let Step::Ended = step {
-            return end::<S>(direct, s, limit);
+            return end::<S>(writer, s, limit);
         }
-        match direct.take::<S>(s, step) {
+        match writer.take::<S>(s, step) {
             Some(next) => step = next,
             None => return false,
         }
@@ -99,17 +102,17 @@ fn run<S: Showing>(direct: &mut Direct, s: &[u8], limit: u32) -> bool
 
 /// Leaves what is shown of what was written of a symbol, if the limit is enough for all of that.
 #[inline(always)]
-fn end<S: Showing>(direct: &mut Direct, s: &[u8], limit: u32) -> bool
-    requires { IsWriting S.IS_BRIEF s.now direct.old steps.Ended }
-    ensures shown { result ≡ true → IsShown S.IS_BRIEF s.now (length direct.old.text.list.items) direct.new.text.list.items }
-    ensures within { result ≡ true → length direct.old.text.list.items ≤ limit / 4 }
-    ensures rooms { result ≡ true → HasRooms s.now direct.new }
-    ensures rounds { direct.new.rounds ≡ direct.old.rounds }
+fn end<S: Showing>(writer: &mut Writer, s: &[u8], limit: u32) -> bool
+    requires { IsWriting S.IS_BRIEF s.now writer.old.lists steps.Ended }
+    ensures shown { result ≡ true → IsShown S.IS_BRIEF s.now (length writer.old.lists.text.list.items) writer.new.lists.text.list.items }
+    ensures within { result ≡ true → length writer.old.lists.text.list.items ≤ limit / 4 }
+    ensures rooms { result ≡ true → HasRooms s.now writer.new.lists }
+    ensures rounds { writer.new.rounds ≡ writer.old.rounds }
 {
-    if direct.text().len() > limit as usize / 4 {
+    if writer.text().len() > limit as usize / 4 {
         return false;
     }
-    match direct.show::<S>(s) {
+    match writer.show::<S>(s) {
         Some(()) => true,
         None => false,
     }

@@ -15,7 +15,7 @@ pub read_entry : (entries now : List Entry) (k : ℕ) (e : Entry) → entries �
     → (need : ℕ) × (slice_get now k ≡ Some (record { node = e.node; need = need }))
 read_entry entries now k e same within read = (e.need, slice_get-get_or now k e within ∙ ap Some (sym (read ∙ ap (λ es. get_or es k e) same)))
 
--- what is in a list of trees is a node
+-- each item of a list of trees is a node
 pub is_within : (y : ReadSymbol) (k : ℕ) (t : Tree) → slice_get (trees_of y) k ≡ Some t → k < length y.table.nodes
 is_within y k t h = omega (arith, got-within (trees_of y) k t h, length-trees y.bytes y.table.nodes)
 

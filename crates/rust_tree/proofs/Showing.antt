@@ -1,4 +1,4 @@
--- What is shown so far, in other words.
+-- What is shown so far, in the terms of the definitions.
 use Rattle.std.proofs.Common.{append-nil, ◌≡◌, ℕ, ◌+◌, ◌-◌, ◌*◌, ◌^◌, ◌<◌, ◌≤◌, inl, inr, List, [], ◌∷◌, ◌++◌, length, take, codes, decimal, Bool, true, false, ◌==◌, if◌then◌else◌, Option, Some, None, zero, suc, refl, sym, ap, ◌∙◌, arith, subst}
 use Rattle.sym_print.specs.Held.{Held}
 use Rattle.sym_print.specs.declared.detail.Detail.{Detail}
@@ -155,7 +155,7 @@ empty-bytes s span h = go (bytes_at s span) (length-bytes_at s span h)
     go [] e = le-leb span.to span.from (omega (arith, e, h.0))
     go (x ∷ xs) e = lt-leb span.to span.from (omega (arith, e))
 
--- an earlier node has as many lifetimes bound
+-- the bound on the lifetimes around a node holds around an earlier node, too
 pub deeper : (b k n : ℕ) → k < n → b + most_bound * (n + 1) ≤ most_bound * 2 ^ 32 → b + most_bound * (k + 1) ≤ most_bound * 2 ^ 32
 deeper b k n h d = omega (arith, h, d)
 

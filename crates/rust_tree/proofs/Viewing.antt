@@ -1,4 +1,4 @@
--- What is seen of a node.
+-- The views of nodes.
 use Rattle.std.proofs.Common.{◌≡◌, ℕ, zero, suc, ◌<◌, ◌≤◌, inl, inr, List, [], ◌∷◌, length, take, drop, map, Bool, Option, Some, None, slice_get, get_or, refl, sym, ap, subst, ◌∙◌, arith}
 use Rattle.std.specs.Prelude.{if◌then◌else◌}
 use Rattle.std.proofs.lemmas.List.{take-append-drop}
@@ -112,7 +112,7 @@ module _ (s : List ℕ) (all : List Tree) (production first second : ℕ) where
   plain-none : IsSeen s all (seen_of production (first ∷ second ∷ []) no_text 0 (0 ∷ 0 ∷ 0 ∷ [])) (fields production first second [] [])
   plain-none = no-parts no_text [] (none-within s) refl
 
--- ## What the code sees of each node
+-- ## The view of each node in code
 
 abbrev seen_by : (production number count : ℕ) → List ℕ → NodeView
 seen_by production number count parts = seen_of production (number ∷ 0 ∷ []) no_text count parts
@@ -283,7 +283,7 @@ module _ (s text : List ℕ) (all : List Tree) (bare : HasNoPathType all) where
   symbol-seen whole (Some other) is h =
       rw is (two-parts s all _ _ _ whole.suffix whole.path other _ _ h.2 (path-part all whole.path h.0) (path-part all other (rw is at h.1)))
 
-  -- likewise where the code has distinguished cases
+  -- the same where the code distinguishes cases
   module _ (seen : NodeView) where
     pub path-by : (path other : Path) → path ≡ other → seen ≡ view_of_path other → HasPathParts s text all path → IsSeen s all seen (fields_of (of_path (path_of s all path)))
     path-by path other e is h = subst (λ v. IsSeen s all v (fields_of (of_path (path_of s all path)))) (ap view_of_path e ∙ sym is) (path-seen path h)
@@ -358,7 +358,7 @@ front-bare n all bare k path h = bare k path (got-early n all k (of_type (tree.p
 pub read-bare : (inside now : ReadSymbol) → inside ≡ now → IsRead inside → HasNoPathType (trees_of now)
 read-bare inside now same is = rw (← same) (table-bare inside.bytes inside.table is.table)
 
--- what the nodes before a node show of it
+-- the view of a node, over the nodes before it
 pub seen-at : (now : ReadSymbol) (k : ℕ) (node : Node) (seen : NodeView) → HasNoPathType (trees_of now)
     → slice_get (trees_of now) k ≡ Some (tree_of now.bytes (trees_of now) node) → HasParts now.bytes now.table.text (take k (trees_of now)) node
     → ((s text : List ℕ) (all : List Tree) → HasNoPathType all → HasParts s text all node → IsSeen s all seen (fields_of (tree_of s all node)))

@@ -29,7 +29,7 @@ pub record ReadSymbol : Type 0 where
 abbrev pub trees_of : ReadSymbol → List Tree
 trees_of y = trees y.bytes y.table.nodes
 
--- the parts of an item that may be missing
+-- an item that may be missing, as its parts
 abbrev pub parts_in : Option Unshared → Unshared
 parts_in None = done
 parts_in (Some parts) = parts
@@ -112,8 +112,8 @@ HasForm all node Form.Bound = (bounds : tree.Bounds) × IsBounds all node bounds
 HasForm all node Form.FirstBinding = (bindings : tree.Bindings) × IsBindings all node bindings
 HasForm all node Form.MoreBindings = (bindings : tree.Bindings) × IsBindings all node bindings
 
--- Each node after another one may bind this many lifetimes, and a signature's own are bound already: with this no number of
--- bound lifetimes comes near 64 bits.
+-- Each node from this one on may bind 1000 lifetimes, and a signature's own are bound already. So no number of bound
+-- lifetimes comes near 64 bits.
 abbrev pub levels : Form → (node : ℕ) → ℕ
 levels Form.Signature node = node
 levels _ node = node + 1
@@ -131,12 +131,12 @@ MayCome y (part.Own bytes count) = (0 < count) × (count ≤ 24) × (length byte
 
 -- ## Lists of parts
 
--- The parts that a list was given may be asked for, and are what is shown; the first is last in it.
+-- The parts of a list may be asked for, and are what is shown. The first part is the last of the list.
 pub record Shows (y : ReadSymbol) (below held : Held Context) (shown : Unshared) : Type 0 where
   pub stacked : Stacked (unshared_of y) (bytes_of_part y) (MayCome y) below.items held.items shown
   pub capacity : held.capacity ≡ below.capacity
 
--- something is in a list
+-- whether a list has a part
 abbrev pub any_arguments : tree.Arguments → Bool
 any_arguments tree.no_arguments = false
 any_arguments _ = true
@@ -157,7 +157,7 @@ abbrev pub is_empty : List ℕ → Bool
 is_empty [] = true
 is_empty (_ ∷ _) = false
 
--- an item before what is after it, if it is to be added
+-- an item before the parts after it, if it is to be added
 abbrev pub item_if : Bool → Unshared → Unshared → Unshared
 item_if true parts rest = parts also rest
 item_if false parts rest = rest

@@ -21,7 +21,8 @@ use Rattle.rust_tree.specs.declared.node.Constant.{Constant}
 use Rattle.rust_tree.specs.declared.node.Whole.{Whole}
 use Rattle.rust_tree.specs.declared.node.Entry.{Entry}
 
--- a table: its nodes, each with what it needs, and the text list; and how many nodes and bytes fit without taking memory
+-- a table: its nodes, each with the number of lifetimes that it needs, and the text list; and how many nodes and bytes
+-- fit without taking memory
 pub record Table : Type 0 where
   pub nodes : List Entry
   pub text : List ℕ
@@ -334,7 +335,7 @@ pub record IsNode (s : List ℕ) (table : Table) (number : ℕ) (entry : Entry) 
 abbrev pub IsTable : List ℕ → Table → Type 0
 IsTable s table = (number : ℕ) (entry : Entry) → slice_get table.nodes number ≡ Some entry → IsNode s table number entry
 
--- one table is another and more
+-- one table extends another
 pub record Grows (old new : Table) : Type 0 where
   pub more_nodes : List Entry
   pub more_text : List ℕ

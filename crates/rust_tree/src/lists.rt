@@ -1,4 +1,4 @@
-// The parts of lists: arguments, types, bounds and bindings.
+// The parts of lists: of arguments, types, bounds and bindings.
 #![tactic(auto)]
 
 ghost use Rattle.std.specs.Prelude.{◌≡◌, ◌+◌, ◌≤◌, [], slice_get, codes, if◌then◌else◌};

@@ -82,7 +82,7 @@ impl Nodes {
         self.stored_need(node)
     }
 
-    /// What is noted of the need of a node, 0 where there is none.
+    /// The number of lifetimes that a node is noted to need, 0 where there is no such node.
     fn stored_need(&self, node: u32) -> u64
         ensures { result ≡ need_at self.now.nodes node }
     {

@@ -24,7 +24,7 @@ unfolding type_of
 not_a_path s all (Ty.Basic letter) = refl
 not_a_path s all type = refl
 
--- the endings after one that may be noted at a place
+-- the endings, after one more that may be noted at a place
 abbrev pub ended_with : Option Target → List Target → (place : ℕ) → List Target
 ended_with None endings place = endings
 ended_with (Some ending) endings place = slice_set endings place ending

@@ -22,7 +22,7 @@ number_of_rule rule p is =
     ∙ ap (λ ns. get_or ns rule 0) in_order ∙ get_or-range_with_len 0 48 rule 0 within in
     omega (arith, here)
 
--- the parts of all rules other than those of functions' and `dyn` types bind nothing
+-- only rules of functions' and `dyn` types have parts that bind lifetimes
 pub binds_nothing : (rule : ℕ) → (rule ≡ 27 → ⊥) → (rule ≡ 28 → ⊥) → (bound : ℕ) (parts : List Part)
     → operands.bound_behind (production_of rule) bound parts ≡ bound
 binds_nothing rule no_function no_dyn bound parts = of_production (production_of rule) refl

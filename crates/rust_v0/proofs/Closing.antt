@@ -1,4 +1,4 @@
--- What a rule means is put in the place of its parts.
+-- The meaning of a rule replaces its parts.
 use Rattle.std.proofs.Common.{◌≡◌, ap, arith, ℕ, List, [], ◌∷◌, ◌++◌, length, Ok, Err}
 use Rattle.std.specs.Prelude.{Result, OnOk, IfErr}
 use Rattle.sym_core.specs.declared.refusal.Refusal.{Refusal}
@@ -11,7 +11,7 @@ use Rattle.rust_grammar.specs.Unfold.{Meaning}
 use Rattle.rust_v0.proofs.Meanings.{goes_on_same}
 use Rattle.rust_v0.proofs.Taking.{fails_memory}
 
--- a part that denotes what is read was put, if memory allowed it
+-- a part that denotes the meaning was put, if memory allowed it
 pub put_gives : (s : List ℕ) (linked : RustNodes) (lower new_parts : List Part) (part : Part) (result : Result (Unit {0}) Refusal) (read : Meaning)
     → OnOk result (new_parts ≡ lower ++ part ∷ []) → IfErr result (λ e. e ≡ refusals.Memory) → Gives (v0_view s) linked (Ok part) read
     → Puts (v0_view s) linked lower new_parts result read

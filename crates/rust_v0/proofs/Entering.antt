@@ -152,7 +152,7 @@ bound_agrees g (Some rules.Dyn) b ps vs are fits =
     (code_dyn b ps (omega (arith, fits)) ∙ both.0 ∙ sym (reading_dyn b vs), omega (arith, both.1, reading_dyn b vs))
 bound_agrees g o b ps vs are fits = (refl, omega arith)
 
--- a production that binds nothing changes nothing
+-- a production that binds nothing leaves the number of bound lifetimes
 pub bound_same : (o : Option Production) (b : ℕ) (vs : List Value) → binds o ≡ false → bound_behind o b vs ≡ b
 bound_same (Some rules.Function) b vs is = absurd (false≢true (sym is))
 bound_same (Some rules.Dyn) b vs is = absurd (false≢true (sym is))

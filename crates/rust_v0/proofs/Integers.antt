@@ -18,7 +18,7 @@ digits_behind from to zeros s within =
     ∙ ap (λ l. take (to - (from + zeros)) l) (drop-drop zeros from s)
     )
 
--- what is left of digits after some of them
+-- the digits that are left after some of them
 pub digits_left : (n : ℕ) (ds : List ℕ) → AreDigits Hex ds → AreDigits Hex (drop n ds)
 digits_left zero ds are = are
 digits_left (suc n) [] are = are
@@ -30,7 +30,7 @@ text_few minus [] are wide more = absurd (omega (arith, more))
 text_few true (d ∷ ds) are wide more = omega (arith, hex-decimal-few (d ∷ ds) are wide, length-append (45 ∷ []) (decimal (value_of Hex (d ∷ ds))))
 text_few false (d ∷ ds) are wide more = omega (arith, hex-decimal-few (d ∷ ds) are wide)
 
--- digits pay for the decimal; that of zero costs nothing
+-- the digits pay for the decimal; the decimal of zero costs nothing
 pub digits_pay : (old new v n : ℕ) (minus : Bool) (ds : List ℕ) → AreDigits Hex ds → v ≡ value_of Hex ds → v < 2 ^ 128 → length ds ≡ n
     → (v ≡ 0 → new ≡ old) → new ≤ old + length (signed_text minus v) → new ≤ old + 4 * n
 digits_pay old new zero n minus ds are is wide count none few = omega (arith, none refl)

@@ -1,4 +1,4 @@
--- What a production makes of its parts is what it means.
+-- What a production makes of its parts is its meaning.
 use Rattle.std.proofs.Common.{◌≡◌, ◌≤◌, ◌<◌, ◌+◌, refl, sym, arith, ℕ, List, length, drop, get_or, true, false, Option, Ok, Err}
 use Rattle.std.specs.Prelude.{◌^◌}
 use Rattle.std.proofs.lemmas.List.{length-drop}
@@ -129,7 +129,7 @@ fails_same TooLong read is = is
 pub refused : (s : List ℕ) (linked : RustNodes) (e : Refusal) (read : Meaning) → read ≡ Err e → Gives (v0_view s) linked (Err e) read
 refused s linked e read is = fails_same e read is
 
--- a part that was made, with the nodes as they were, or the refusal
+-- a part was made and the nodes are as they were, or there is a refusal
 pub gives_part : (s : List ℕ) (linked : RustNodes) (at : At) (result : Result Part Refusal) (made : semantics.Outcome) (read : Meaning) → Keeps s linked at.ended
     → semantics.of_part result ≡ made → MadeGives s linked.nodes at made read → Gives (v0_view s) linked result read
 gives_part s linked at (Ok part) made read keeps is given = stands (rw (← is) at given)

@@ -1,4 +1,4 @@
--- What is made where a rule closes is what its production makes.
+-- The nodes that are made where a rule closes are those of its production.
 use Rattle.std.proofs.Common.{◌≡◌, refl, ap, arith, true, false, ℕ, ◌+◌, ◌-◌, ◌≤◌, length, Some, Ok, Err}
 use Rattle.std.specs.Prelude.{Result, OnOk}
 use Rattle.sym_core.specs.declared.refusal.Refusal.{Refusal}
@@ -13,23 +13,23 @@ pub none_by_reference : (number : ℕ) (production : Production) → production_
 unfolding nodes_of_production
 none_by_reference number production is reference = rw (is, reference) refl
 
--- nor does what is a part
+-- a production that makes a part makes no node
 pub none_by_part : (number : ℕ) (production : Production) → production_of number ≡ Some production → makes_part production ≡ true → made_by number ≡ 0
 unfolding nodes_of_production
 none_by_part number production is part = rw (is, makes_no_reference production part, part) refl
 
--- each other production makes one
+-- each other production makes one node
 pub one_by_node : (number : ℕ) (production : Production) → production_of number ≡ Some production → is_reference production ≡ false → makes_part production ≡ false → made_by number ≡ 1
 unfolding nodes_of_production
 one_by_node number production is reference part = rw (is, reference, part) refl
 
--- this many nodes were added, whatever became of the part
+-- this many nodes were added, whatever the part became
 pub made_so_many : (old new : RustNodes) (result : Result (Unit {0}) Refusal) (made more : ℕ) → length new.nodes.nodes ≡ length old.nodes.nodes + more → made ≡ more
     → OnOk result (length new.nodes.nodes ≡ length old.nodes.nodes + made)
 made_so_many old new (Ok done) made more is same = omega (arith, is, same)
 made_so_many old new (Err e) made more is same = tt
 
--- likewise for the nodes after those at the front of each table
+-- the same for the nodes after those at the front of each table
 pub size_added : {A : Type 0} (old new : RustNodes) (result : Result A Refusal) (more : ℕ) → 3 ≤ length old.nodes.nodes → OnOk result (length new.nodes.nodes ≡ length old.nodes.nodes + more)
     → OnOk result (length new.nodes.nodes - 3 ≡ length old.nodes.nodes - 3 + more)
 size_added old new (Ok done) more begun is = omega (arith, begun, is)

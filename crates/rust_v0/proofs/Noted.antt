@@ -1,4 +1,4 @@
--- What is noted of places stays, and what ends is noted.
+-- What is noted of places stays, and each ending is noted.
 use Rattle.std.proofs.Common.{◌≡◌, ◌≢◌, sym, ◌∙◌, ℕ, ◌<◌, inl, inr, List, ◌∷◌, ◌++◌, length, replicate, false, Option, Some}
 use Rattle.std.specs.Prelude.{slice_set, ◌==◌}
 use Rattle.std.proofs.lemmas.List.{get_or-set_same, get_or-set_other}
@@ -26,12 +26,12 @@ module _ (s : List ℕ) (old new : Table) (grows : Grows old new) where
     bindings = tree-stays s old new 2 _ grows lists.bindings;
   }
 
--- places after those so far change nothing
+-- more places at the end change nothing for those before
 pub noted_further : (all : List Tree) (endings more : List Target) (k : ℕ) (ended : List Ended) → more ≡ endings ++ replicate k Target.Nothing
     → AreNoted all endings ended → AreNoted all more ended
 noted_further all endings more k ended same noted place = rw (same, same_there endings k place Target.Nothing) (noted place)
 
--- what ends is noted at its place
+-- an ending is noted at its place
 pub noted_added : (all : List Tree) (endings : List Target) (ended : List Ended) (place : ℕ) (ending : Target) (v : Value) → place < length endings
     → AreNoted all endings ended → IsNoted all ending (Some v) → AreNoted all (slice_set endings place ending) (record { place = place; value = v } ∷ ended)
 noted_added all endings ended place ending v there noted is at = elim (cases_Bool (place == at)) [

@@ -18,7 +18,7 @@ prints-none w = record {
   text_room = omega arith;
 }
 
--- nothing is added, for a reason other than memory
+-- nothing is added, for another reason than memory
 pub adds-none : {X : Type 0} (w : RustNodes) (r : Result X Refusal) → IfErr r (λ e. e ≢ Memory) → AddsOne w w r
 adds-none w (Ok x) never = record {
   grows = goes_on_same w w refl refl;

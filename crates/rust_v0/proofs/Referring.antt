@@ -1,4 +1,4 @@
--- A reference denotes what it names, which ends again where the reference begins.
+-- A reference denotes what it names, which ends once more where the reference begins.
 use Rattle.std.proofs.Common.{◌≡◌, ap, ℕ, ◌<◌, List, ◌∷◌, length, Some, arith}
 use Rattle.std.specs.Prelude.{slice_set}
 use Rattle.std.proofs.lemmas.List.{length-set}

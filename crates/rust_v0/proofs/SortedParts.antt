@@ -15,7 +15,7 @@ use Rattle.rust_grammar.specs.Unfold.{At, Meaning, meaning, number_part, integer
 use Rattle.rust_v0.proofs.Sorts as sorts
 use Rattle.rust_v0.proofs.Sorts.{Sort, Slot, sort_of, sorts_of, fills, slots_of, made_by}
 
--- what is found has the fact, and what is refused is a bad token
+-- a fact holds of what is found, and a refusal is for a bad token
 abbrev pub Gives : {A : Type 0} → (A → Type 0) → Result A Refusal → Type 0
 Gives P (Ok x) = P x
 Gives P (Err e) = IsBadToken e
@@ -176,7 +176,7 @@ other_path_then : (make : Sort) (slots : List Slot) (parts : List Value) (f : (O
 other_path_then make slots (a_path n ∷ rest) f fill each = each (Some n, rest) (record { is = fill.is })
 other_path_then make slots parts f fill each = each (None, parts) (record { is = fill.is })
 
--- ## What a rule refuses itself
+-- ## Refusals by the rule itself
 
 tested : {A : Type 0} (P : A → Type 0) (test : Bool) (passed : Result A Refusal) (e : Refusal) → Gives P passed → IsBadToken e → Gives P (if test then passed else Err e)
 tested P true passed e here bad = here

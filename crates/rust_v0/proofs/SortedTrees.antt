@@ -42,7 +42,7 @@ closed s kind rule is inner fill =
     (subst (λ (o : Option Production). Makes (made_by is.production) (meaning_of o (at_rule s rule inner.state) inner.value)) (sym is.is) (made is.production (at_rule s rule inner.state) inner.value fill))
     (λ f one. ap (λ v. v ∷ []) one)
 
--- likewise by how its parts are read
+-- the same, by how its parts are read
 rule_closed : (s : List ℕ) (kind : ℕ) (rule : Open State ℕ) (is : IsSorted kind rule.rule) (parts : Result (Found (List Value) State) Refusal)
     → Gives (λ f. Fill (slots_of is.production) f.value) parts
     → Gives (λ f. sorts_of f.value ≡ made_by is.production ∷ []) (parts >>= λ inner. meaning_of (production_of rule.rule.number) (at_rule s rule inner.state) inner.value >>= alone)
@@ -66,7 +66,7 @@ token_has_option : (production : Production) (state : State) (own : List ℕ) �
 token_has_option production state own inside test pass =
     subst (λ s. test (s ∷ []) ≡ true) (sym (ap (λ o. sort_of (token_of o state.minus own)) inside ∙ token_sorted production state.minus own)) (lone_option (token_sort production ∷ []) test pass)
 
--- one more part is known
+-- the parts with one more of them known
 grown_fill : (production : Production) (x : Sym) (xs : List Sym) (known values : List Value) → always_fills production (sorts_of known) (x ∷ xs) ≡ true → IsOption (sorts_of values) production x
     → always_fills production (sorts_of (known ++ values)) xs ≡ true
 grown_fill production x xs known values fits option =

@@ -243,7 +243,7 @@ token_sort rules.SignedConstant = integer
 token_sort rules.UnsignedConstant = integer
 token_sort _ = number
 
--- ## What the rules give
+-- ## The sorts that the rules give
 
 -- the sorts of the trees of each kind, by the number of the kind
 abbrev kind_sorts : List (List Sort)
@@ -256,12 +256,12 @@ kind_sorts =
 abbrev pub sorts_of_kind : ℕ → List Sort
 sorts_of_kind kind = get_or kind_sorts kind []
 
--- each one by itself
+-- each of these sorts, as the one sort of a part
 abbrev singles : List Sort → List (List Sort)
 singles [] = []
 singles (s ∷ ss) = (s ∷ []) ∷ singles ss
 
--- or nothing
+-- the same, where the part may be missing
 abbrev or_nothing : Bool → List (List Sort) → List (List Sort)
 or_nothing true all = [] ∷ all
 or_nothing false all = all
@@ -291,7 +291,7 @@ are_sorted_kinds [] all = true
 are_sorted_kinds (k ∷ ks) [] = false
 are_sorted_kinds (k ∷ ks) (sorts ∷ all) = all_pass (is_sorted_rule sorts) k.choices && are_sorted_kinds ks all
 
--- ## What that says of a rule of the table
+-- ## Rules of the table
 
 pub record IsSorted (kind : ℕ) (rule : Rule) : Type 0 where
   pub production : Production
@@ -322,7 +322,7 @@ kinds_sorted = refl
 pub is_sorted : (kind byte : ℕ) (rule : Rule) → v0_table.rule kind byte ≡ Some rule → IsSorted kind rule
 is_sorted kind byte rule found = sorted_by kind rule (production_of rule.number) refl (passes_at kinds kind_sorts kind byte rule kinds_sorted found)
 
--- ## What holds of each option
+-- ## Facts of all options
 
 -- a fact of all options holds of this one
 abbrev pub IsOption : List Sort → Production → Sym → Type 0
@@ -342,7 +342,7 @@ single_passes s (t ∷ ts) test among pass = elim (or_cases (is_same s t) (is_am
   | inr later ↦ single_passes s ts test later (and_parts _ _ pass).1
 ]
 
--- without the empty one
+-- the options without the empty one
 full_passes : (b : Bool) (all : List (List Sort)) (test : List Sort → Bool) → list_all test (or_nothing b all) ≡ true → list_all test all ≡ true
 full_passes true all test pass = (and_parts _ _ pass).1
 full_passes false all test pass = pass

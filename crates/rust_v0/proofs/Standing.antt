@@ -95,13 +95,13 @@ whole_is s shape v state is means =
         (subst (λ (o : Option Production). (unfold_forest (v0 s) (standing rule taken 0 0 at_first) [] (0 + length taken) inner at_first
         >>= λ f. defined.meaning_of o (at_rule s (standing rule taken 0 0 at_first) f.state) f.value >>= alone) ≡ Ok (found (v ∷ []) state)) is same)
 
--- ## What is done
+-- ## A finished linker
 
 symbol_part : (g : Ground) (part : Part) (y : tree.Symbol) → IsPart g part (value.a_symbol y) → (node : ℕ) × (part ≡ Part.Symbol node) × IsSymbol g.all node y
 symbol_part g (Part.Symbol node) y is = (node, refl, is)
 symbol_part g part y is = absurd is
 
--- what the whole means in its symbol
+-- the meaning of the whole, as that of its symbol
 unfolded_is : (s : List ℕ) (shape : Tree) → spell shape ≡ s → unfolded shape ≡ (meaning_of (v0_view s) shape >>= λ whole. symbol_of whole.value)
 unfolded_is s shape spelled = ap (λ u. unfold_tree (v0 u) 0 0 shape at_first >>= λ whole. symbol_of whole.value) spelled
 

@@ -1,4 +1,4 @@
--- Linking keeps to what every language does.
+-- Rust's linking keeps the laws of a language.
 use Rattle.std.proofs.Common.{refl, arith, ℕ, List, Option, Some, None, [], sym, subst, ◌∙◌}
 use Rattle.sym_link.specs.Linking.{IsLinking}
 use Rattle.sym_link.specs.Sound.{lawful_sound}

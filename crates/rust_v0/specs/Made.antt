@@ -1,4 +1,4 @@
--- What a rule makes, a part or a node that is to be added, and when that is what the rule means.
+-- What a rule makes: a part, or a node that is to be added; and that this is the meaning of the rule.
 use Rattle.std.specs.Prelude.{◌≡◌, ℕ, List, Result, Ok, Err}
 use Rattle.sym_core.specs.declared.refusal.Refusal.{Refusal}
 use Rattle.rust_tree.specs.Symbol as tree
@@ -16,7 +16,7 @@ pub data Made : Type 0 where
   Part : part.Part → Made
   Node : node.Node → Made
 
--- what parts refer to, with a table
+-- what parts refer to, by a table
 abbrev pub ground : List ℕ → Table → Ground
 ground s table = record { symbol = s; text = table.text; all = trees s table.nodes }
 
@@ -37,7 +37,7 @@ ends_tree at (of_bounds bounds) = plain at (value.some_bounds bounds)
 ends_tree at (of_bindings bindings) = plain at (value.some_bindings bindings)
 ends_tree at (of_symbol symbol) = plain at (value.a_symbol symbol)
 
--- what was made is what is meant
+-- what was made is the meaning
 abbrev pub MadeGives : List ℕ → Table → At → Result Made Refusal → Meaning → Type 0
 MadeGives s table at (Ok (Made.Part part)) read = (value : Value) × (read ≡ plain at value) × IsPart (ground s table) part value
 MadeGives s table at (Ok (Made.Node node)) read = (t : Tree) × (read ≡ ends_tree at t) × Makes s table node t

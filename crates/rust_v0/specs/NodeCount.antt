@@ -1,4 +1,4 @@
--- How many nodes are made of a symbol.
+-- How many nodes are made for a symbol.
 use Rattle.std.specs.Prelude.{◌≡◌, ℕ, ◌+◌, ◌||◌, if◌then◌else◌, List, Option, Some, None}
 use Rattle.sym_shape.specs.Tree.{Tree}
 use Rattle.sym_link.specs.Linking.{View}

@@ -42,7 +42,7 @@ pub record GoesOn (old new : RustNodes) : Type 0 where
   pub nodes : Grows old.nodes new.nodes
   pub places : length old.targets.items ≤ length new.targets.items
 
--- something may be printed to the text list, and nothing else has changed
+-- a text may have been printed to the text list, and nothing else has changed
 pub record Prints (old new : RustNodes) : Type 0 where
   pub nodes : new.nodes.nodes ≡ old.nodes.nodes
   pub ended : new.targets.items ≡ old.targets.items
@@ -51,7 +51,8 @@ pub record Prints (old new : RustNodes) : Type 0 where
   pub node_room : new.nodes.node_room ≡ old.nodes.node_room
   pub text_room : old.nodes.text_room ≤ new.nodes.text_room
 
--- A node may be added, and nothing else. Where memory is refused for it, the list of nodes had no room for one more.
+-- A node may have been added, and nothing else. Where memory was refused for it, the list of nodes had no room for one
+-- more.
 pub record AddsOne {X : Type 0} (old new : RustNodes) (result : Result X Refusal) : Type 0 where
   pub grows : GoesOn old new
   pub one : length new.nodes.nodes ≤ length old.nodes.nodes + 1

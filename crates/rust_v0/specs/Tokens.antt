@@ -22,7 +22,7 @@ sort_of (Some rules.UnsignedConstant) = TokenSort.UnsignedInteger
 sort_of (Some rules.CharConstant) = TokenSort.CharacterCode
 sort_of _ = TokenSort.CountedNumber
 
--- the value of a token of the sort by its own bytes, and the minus before it
+-- the value of a token of the sort, by its own bytes and by the minus before it
 abbrev pub value_as : TokenSort → (minus : Bool) → List ℕ → Value
 value_as TokenSort.PlainName minus own = a_name (record { punycode = false; bytes = own })
 value_as TokenSort.PunycodeName minus own = a_name (record { punycode = true; bytes = own })

@@ -19,8 +19,7 @@ ghost use Rattle.rust_grammar.specs.Unfold.{unfolded};
 use crate::grammar::V0;
 use crate::nodes::RustNodes;
 use crate::part::Part;
-use rust_direct::Direct;
-use rust_short_way::write;
+use rust_short_way::{Writer, write};
 use rust_tree::{Context, Detail, Nodes, Symbol};
 use std::alloc::Global;
 use std::mem;
@@ -51,7 +50,7 @@ impl Mangling for V0 {
 
     type Symbol = Symbol;
 
-    type Direct = Direct;
+    type Direct = Writer;
 
     ghost Whole = { tree.Symbol };
 
@@ -69,7 +68,7 @@ impl Mangling for V0 {
 
     ghost are_nodes = { count.are_nodes };
 
-    ghost written = { λ direct. direct.text.list.items };
+    ghost written = { λ direct. direct.lists.text.list.items };
 
     ghost count_of = { node_count };
 
@@ -123,21 +122,21 @@ impl Mangling for V0 {
         bytes
     }
 
-    fn direct(alloc: Global) -> Direct {
-        Direct::new(alloc)
+    fn direct(alloc: Global) -> Writer {
+        Writer::new(alloc)
     }
 
     #[inline(always)]
-    fn write(direct: &mut Direct, symbol: &[u8], limit: u32) -> bool
+    fn write(direct: &mut Writer, symbol: &[u8], limit: u32) -> bool
         requires { FitsSymbol symbol.now }
-        ensures { result ≡ true → IsAnswer details.Full symbol.now limit (Ok direct.new.text.list.items) }
+        ensures { result ≡ true → IsAnswer details.Full symbol.now limit (Ok direct.new.lists.text.list.items) }
     {
         write(direct, symbol, limit)
     }
 
     #[inline(always)]
-    fn text(direct: &Direct) -> &[u8]
-        ensures { result.now ≡ direct.now.text.list.items }
+    fn text(direct: &Writer) -> &[u8]
+        ensures { result.now ≡ direct.now.lists.text.list.items }
     {
         direct.text()
     }

@@ -65,7 +65,7 @@ pub fn reach(targets: &mut Vec<Target>, place: usize) -> Result<(), Refusal>
     Ok(())
 }
 
-/// What began and ended at the place that a reference names, whose number counts the bytes after `_R`.
+/// The target of a reference by its number, which counts the bytes after `_R`: what began at that place and has ended.
 fn referred(targets: &[Target], number: Option<u64>) -> Target
     ensures { (n : ℕ) → IsNumber number n → result ≡ get_or targets.now (n + 2) target.Nothing }
 {
@@ -81,7 +81,7 @@ fn referred(targets: &[Target], number: Option<u64>) -> Target
     }
 }
 
-/// Notes what began at a place and has ended.
+/// Notes the ending of what began at a place.
 fn note(targets: &mut Vec<Target>, place: u32, target: Target)
     ensures length { length targets.new.items ≡ length targets.old.items }
     ensures noted { place < length targets.old.items → targets.new.items ≡ slice_set targets.old.items place target }
@@ -91,7 +91,7 @@ fn note(targets: &mut Vec<Target>, place: u32, target: Target)
     }
 }
 
-/// What a node is as a part, and how it has ended if references may name it.
+/// A node as a part, and how it has ended if references may name it.
 fn placed(node: Node, number: u32) -> (Added, Option<Target>)
     ensures { result ≡ semantics.placed node number }
 {
@@ -257,7 +257,7 @@ impl RustNodes {
         self.refer_as(production, site.place, site.bound, target)
     }
 
-    /// Adds the node that a rule at a place has made, if it has made one.
+    /// Adds the node that a rule at a place has made, if it made one.
     #[inline(always)]
     pub fn add_made(&mut self, place: u32, made: Result<Node, Refusal>) -> Result<Added, Refusal>
         requires room { length self.old.nodes.nodes + 1 < 2 ^ 32 }

@@ -19,6 +19,7 @@ use Rattle.sym_calls.specs.declared.counting.SymbolCounts.{SymbolCounts}
 use Rattle.sym_calls.specs.declared.flags.Asked.{Asked}
 use Rattle.sym_calls.specs.declared.filtering.TextTally.{TextTally}
 use Rattle.sym_calls.specs.declared.outcome.Outcome.{Outcome}
+use Rattle.sym_short.specs.Shortening.{answers_as}
 use Rattle.sym_calls.specs.Calls.{CountingEndsAs, CountingEndsBy, Ending, EndsAs, IsCounted, IsTallied, IsTextWritten, NameCounted, PressEndsAs, Tallied, answered, answers_at, filter_told, ending_of, named, name_or_type_told, name_told, numbers_of, press_told, refused, status_alone, text_told, told_of, unspelled, written}
 
 -- what follows the first n bytes, as a slice
@@ -183,8 +184,8 @@ by-legacy P cpp asked legacy limit of_languages detail found is same_limit same_
 
 -- where it is known which grammar reads C++
 pub by-width : {A : Type 0} → (P : Answering → A → Type 0) (asked : Asked) (wide : Bool) (limit : ℕ) (found : A) → asked.wide ≡ wide
-    → P (answers_by (cpp_by wide) asked.legacy limit asked.detail) found → P (answers_at asked limit) found
-by-width P asked wide limit found is given = subst (λ b. P (answers_by (cpp_by b) asked.legacy limit asked.detail) found) (sym is) given
+    → P (answers_as asked.texts asked.legacy (answers_by (cpp_by wide) asked.legacy limit asked.detail)) found → P (answers_at asked limit) found
+by-width P asked wide limit found is given = subst (λ b. P (answers_as asked.texts asked.legacy (answers_by (cpp_by b) asked.legacy limit asked.detail)) found) (sym is) given
 
 -- a symbol that isn't read
 pub refusal-counts : (refusal : Refusal) (answer : Result (List ℕ) Refusal) (are_counts : Counts → Type 0) (skip : ℕ) (counts : SymbolCounts) (found : Ending)

@@ -12,6 +12,7 @@ use Rattle.sym_filter.specs.Kinds.{kind_by_beginning, symbol_of}
 use Rattle.sym_languages.specs.Languages.{answer_of, answers_by, cpp_by, wide_answer_of, AreCountsOf, AreWideCountsOf, pressed_of}
 use Rattle.sym_languages.specs.WidePressed.{wide_pressed_of}
 use Rattle.sym_filter.specs.Runs.{Answering, filtered_at, tally_at}
+use Rattle.sym_short.specs.Shortening.{answers_as, texts_by}
 use Rattle.type_names.specs.Types.{is_type_word, type_answer}
 use Rattle.sym_calls.specs.declared.flags.Asked.{Asked}
 use Rattle.sym_calls.specs.declared.outcome.Outcome.{Outcome}
@@ -33,15 +34,16 @@ unfoldable pub letters_of : ℕ → Letters
 letters_of flags = if has flags 64 then Letters.Within else (if has flags 32 then Letters.Ascii else Letters.Any)
 
 -- what flags request, if each is one: 4 is the wide grammar, 8 that legacy Rust names are paths, 16 that a name may begin with
--- an underscore, 128 that a name without a symbol may be a type
+-- an underscore, 128 that a name without a symbol may be a type, 256 that texts of C++ symbols are short, 512 that short ones
+-- have inline namespaces
 unfoldable pub asked_of : ℕ → Option Asked
 asked_of flags =
-    if nat_lt flags 256 then Some (record { detail = detail_of flags; wide = has flags 4; legacy = has flags 8; underscore = has flags 16; letters = letters_of flags; types = has flags 128 })
+    if nat_lt flags 1024 then Some (record { detail = detail_of flags; texts = texts_by (has flags 256) (has flags 512); wide = has flags 4; legacy = has flags 8; underscore = has flags 16; letters = letters_of flags; types = has flags 128 })
     else None
 
 -- what is answered for symbols then
 abbrev pub answers_at : Asked → (limit : ℕ) → Answering
-answers_at asked limit = answers_by (cpp_by asked.wide) asked.legacy limit asked.detail
+answers_at asked limit = answers_as asked.texts asked.legacy (answers_by (cpp_by asked.wide) asked.legacy limit asked.detail)
 
 -- The kind of a name whose symbol is read, by how it begins; or the status of one that names none (11), also where an
 -- underscore that no flag allows precedes its symbol, or whose symbol has too many bytes (7).

@@ -2,6 +2,7 @@
 ghost use Rattle.std.specs.Prelude.{◌≡◌, List, ℕ, length};
 ghost use Rattle.sym_filter.specs.Runs.{filtered_at, tally_at};
 ghost use Rattle.sym_languages.specs.Languages.{answers_by};
+ghost use Rattle.sym_short.specs.Shortening.{answers_as};
 ghost use Rattle.sym_calls.specs.Calls.{EndsAs, IsTallied, Tallied, asked_of, ending_of, filter_told, written};
 ghost use Rattle.sym_calls.specs.Counted.{Holds};
 
@@ -12,6 +13,7 @@ use std::alloc::Global;
 use sym_filter::{Demangler, Letters, Tally};
 use sym_languages::languages::Cpp;
 use sym_languages::{Abi, Wide};
+use sym_short::{Shortening, Texts};
 
 /// How many words of a text name symbols, were replaced by a text, and were not.
 #[repr(C)]
@@ -80,15 +82,40 @@ fn filter_in<C: Cpp>(
     buffer: &mut [u8],
     tally: &mut TextTally,
 ) -> Outcome
-    ensures ending { EndsAs (written (filtered_at asked.letters (answers_by C.mangled asked.legacy limit asked.detail) text.now) buffer.old) buffer.old (ending_of result buffer.new) }
-    ensures tally { Tallied (tally_at asked.letters (answers_by C.mangled asked.legacy limit asked.detail) text.now) tally.old tally.new result.status }
+    ensures ending { EndsAs (written (filtered_at asked.letters (answers_as asked.texts asked.legacy (answers_by C.mangled asked.legacy limit asked.detail)) text.now) buffer.old) buffer.old (ending_of result buffer.new) }
+    ensures tally { Tallied (tally_at asked.letters (answers_as asked.texts asked.legacy (answers_by C.mangled asked.legacy limit asked.detail)) text.now) tally.old tally.new result.status }
 {
     if asked.legacy {
         let legacy = asked.with_legacy(limit, cpp);
-        return filter_by(alloc, &legacy, asked.letters, text, buffer, tally);
+        return filter_as(alloc, legacy, asked, text, buffer, tally);
     }
     let languages = asked.languages(limit, cpp);
-    filter_by(alloc, &languages, asked.letters, text, buffer, tally)
+    filter_as(alloc, languages, asked, text, buffer, tally)
+}
+
+/// Writes a text that is filtered with a demangler, whose texts are made short where that is requested, to the front of the buffer.
+fn filter_as<D: Demangler + Copy + Drop>(
+    alloc: Global,
+    demangler: D,
+    asked: Asked,
+    text: &[u8],
+    buffer: &mut [u8],
+    tally: &mut TextTally,
+) -> Outcome
+    ensures ending { EndsAs (written (filtered_at asked.letters (answers_as asked.texts asked.legacy (D.answer demangler)) text.now) buffer.old) buffer.old (ending_of result buffer.new) }
+    ensures tally { Tallied (tally_at asked.letters (answers_as asked.texts asked.legacy (D.answer demangler)) text.now) tally.old tally.new result.status }
+{
+    match asked.texts {
+        Texts::Whole => filter_by(alloc, &demangler, asked.letters, text, buffer, tally),
+        Texts::Short { keeps_inline } => {
+            let short = Shortening {
+                demangler,
+                keeps_inline,
+                reads_paths: asked.legacy,
+            };
+            filter_by(alloc, &short, asked.letters, text, buffer, tally)
+        }
+    }
 }
 
 /// Writes a text to the front of the buffer with each word that is a symbol replaced by the symbol's text, where that costs at

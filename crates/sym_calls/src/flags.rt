@@ -11,6 +11,7 @@ use sym_filter::{Kind, Letters, kind_of};
 use sym_languages::languages::Cpp;
 use sym_languages::{Languages, Legacy};
 use sym_print::Detail;
+use sym_short::{Texts, texts_of};
 use type_names::is_type_word;
 
 /// Template and generic arguments are left out.
@@ -29,11 +30,16 @@ pub const ASCII_WORDS: u32 = 32;
 pub const WITHIN: u32 = 64;
 /// A name that begins as no symbol does is read as a C++ type.
 pub const TYPES: u32 = 128;
+/// Texts of C++ symbols are short.
+pub const SHORT: u32 = 256;
+/// Short texts have the inline namespaces of `std`. Without `SHORT` this has no effect.
+pub const KEEP_INLINE: u32 = 512;
 
 /// What flags request.
 #[derive(Clone, Copy)]
 pub struct Asked {
     pub detail: Detail,
+    pub texts: Texts,
     pub wide: bool,
     pub legacy: bool,
     pub underscore: bool,
@@ -142,11 +148,12 @@ fn letters_of(flags: u32) -> Letters
 pub(crate) fn asked_of(flags: u32) -> Option<Asked>
     ensures { result ≡ asked_of flags }
 {
-    if flags >= 2 * TYPES {
+    if flags >= 2 * KEEP_INLINE {
         return None;
     }
     Some(Asked {
         detail: detail_of(flags),
+        texts: texts_of(has(flags, SHORT), has(flags, KEEP_INLINE)),
         wide: has(flags, WIDE),
         legacy: has(flags, LEGACY),
         underscore: has(flags, UNDERSCORE),

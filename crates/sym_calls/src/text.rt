@@ -7,6 +7,7 @@ ghost use Rattle.sym_demangle.specs.Mangled.{answer};
 ghost use Rattle.rust_grammar.specs.Mangled.{v0_mangled};
 ghost use Rattle.sym_filter.specs.declared.kinds.TheConstants.{LONGEST_WORD};
 ghost use Rattle.sym_languages.specs.Languages.{answers_by, language_answer_by};
+ghost use Rattle.sym_short.specs.Shortening.{answers_as, short_answers};
 ghost use Rattle.type_names.specs.Types.{type_answer};
 ghost use Rattle.sym_calls.specs.Calls.{EndsAs, IsTextWritten, PressEndsAs, answered, asked_of, ending_of, name_or_type_told, name_told, press_told, text_told};
 
@@ -21,6 +22,7 @@ use sym_filter::{Demangled, Demangler, Kind, Lang};
 use sym_languages::languages::Cpp;
 use sym_languages::{Abi, Languages, Legacy, Pressing, Wide, WidePressing, may_be_legacy};
 use sym_print::Detail;
+use sym_short::{Shortening, Texts};
 use type_names::append_type;
 
 /// Writes the text of a symbol to the front of the buffer, with lists that are used again.
@@ -265,8 +267,50 @@ pub(crate) fn or_type<D: Demangler>(
     outcome
 }
 
-/// Writes the text of a name's symbol, or of its type, as requested, with a grammar of C++, to the front of the buffer.
-fn text_in<C: Cpp>(
+/// Writes the text of a name's symbol, or of its type, with any demangler, to the front of the buffer.
+fn text_by<D: Demangler>(
+    alloc: Global,
+    demangler: &D,
+    asked: Asked,
+    name: &[u8],
+    buffer: &mut [u8],
+) -> Outcome
+    ensures { EndsAs (name_or_type_told (D.answer demangler.now) asked name.now buffer.old) buffer.old (ending_of result buffer.new) }
+{
+    let outcome = name_by(alloc, demangler, asked, name, buffer);
+    or_type(alloc, demangler, asked, name, buffer, outcome)
+}
+
+/// Writes the short text of a name's symbol, or of its type, with a grammar of C++, to the front of the buffer.
+fn short_in<C: Cpp>(
+    alloc: Global,
+    cpp: C,
+    asked: Asked,
+    keeps_inline: bool,
+    limit: u32,
+    name: &[u8],
+    buffer: &mut [u8],
+) -> Outcome
+    ensures { EndsAs (name_or_type_told (short_answers keeps_inline asked.legacy (answers_by C.mangled asked.legacy limit asked.detail)) asked name.now buffer.old) buffer.old (ending_of result buffer.new) }
+{
+    if asked.legacy {
+        let short = Shortening {
+            demangler: asked.with_legacy(limit, cpp),
+            keeps_inline,
+            reads_paths: asked.legacy,
+        };
+        return text_by(alloc, &short, asked, name, buffer);
+    }
+    let short = Shortening {
+        demangler: asked.languages(limit, cpp),
+        keeps_inline,
+        reads_paths: asked.legacy,
+    };
+    text_by(alloc, &short, asked, name, buffer)
+}
+
+/// Writes the whole text of a name's symbol, or of its type, with a grammar of C++, to the front of the buffer.
+fn whole_in<C: Cpp>(
     alloc: Global,
     cpp: C,
     asked: Asked,
@@ -284,6 +328,25 @@ fn text_in<C: Cpp>(
     let languages = asked.languages(limit, cpp);
     let outcome = name_once(alloc, &languages, asked, name, buffer);
     or_type(alloc, &languages, asked, name, buffer, outcome)
+}
+
+/// Writes the text of a name's symbol, or of its type, as requested, with a grammar of C++, to the front of the buffer.
+fn text_in<C: Cpp>(
+    alloc: Global,
+    cpp: C,
+    asked: Asked,
+    limit: u32,
+    name: &[u8],
+    buffer: &mut [u8],
+) -> Outcome
+    ensures { EndsAs (name_or_type_told (answers_as asked.texts asked.legacy (answers_by C.mangled asked.legacy limit asked.detail)) asked name.now buffer.old) buffer.old (ending_of result buffer.new) }
+{
+    match asked.texts {
+        Texts::Whole => whole_in(alloc, cpp, asked, limit, name, buffer),
+        Texts::Short { keeps_inline } => {
+            short_in(alloc, cpp, asked, keeps_inline, limit, name, buffer)
+        }
+    }
 }
 
 /// Writes the text of a name's symbol, or of the type that a name is, where types are requested, to the front of the buffer, if

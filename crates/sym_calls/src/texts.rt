@@ -1,6 +1,7 @@
 // The texts of many names, with one set of lists for all of them.
 ghost use Rattle.std.specs.Prelude.{◌≡◌, ◌≤◌, length, true};
 ghost use Rattle.sym_languages.specs.Languages.{answers_by};
+ghost use Rattle.sym_short.specs.Shortening.{answers_as};
 ghost use Rattle.sym_calls.specs.Calls.{asked_of};
 ghost use Rattle.sym_calls.specs.Texts.{AreTold, IsTold, TextsEndAs, are_ends, placed};
 
@@ -11,6 +12,7 @@ use std::alloc::Global;
 use sym_filter::Demangler;
 use sym_languages::languages::{Cpp, Lists};
 use sym_languages::{Abi, Wide};
+use sym_short::{Shortening, ShorteningLists, Texts};
 
 /// Whether ends increase, from 0 to at most the length of a text.
 fn are_ends(ends: &[usize], len: usize) -> bool
@@ -91,6 +93,38 @@ fn tell_each<D: Demangler>(
     OK
 }
 
+/// Likewise, with short texts where these are requested.
+fn tell_as<D: Demangler + Copy + Drop>(
+    alloc: Global,
+    demangler: D,
+    lists: D::Lists,
+    asked: Asked,
+    names: &[u8],
+    ends: &[usize],
+    buffer: &mut [u8],
+    outcomes: &mut [Outcome],
+) -> u32
+    requires ends { are_ends 0 (length names.now) ends.now ≡ true }
+    requires outcomes { length outcomes.old ≡ length ends.now }
+    ensures told { AreTold (answers_as asked.texts asked.legacy (D.answer demangler)) asked names.now 0 ends.now buffer.old buffer.new outcomes.new }
+    ensures status { result ≡ 0 }
+{
+    match asked.texts {
+        Texts::Whole => tell_each(
+            alloc, &demangler, lists, asked, names, ends, buffer, outcomes,
+        ),
+        Texts::Short { keeps_inline } => {
+            let short = Shortening {
+                demangler,
+                keeps_inline,
+                reads_paths: asked.legacy,
+            };
+            let lists = ShorteningLists::new(alloc, lists);
+            tell_each(alloc, &short, lists, asked, names, ends, buffer, outcomes)
+        }
+    }
+}
+
 /// Likewise as requested, with a grammar of C++.
 fn tell_in<C: Cpp>(
     alloc: Global,
@@ -104,13 +138,13 @@ fn tell_in<C: Cpp>(
 ) -> u32
     requires ends { are_ends 0 (length names.now) ends.now ≡ true }
     requires outcomes { length outcomes.old ≡ length ends.now }
-    ensures told { AreTold (answers_by C.mangled asked.legacy limit asked.detail) asked names.now 0 ends.now buffer.old buffer.new outcomes.new }
+    ensures told { AreTold (answers_as asked.texts asked.legacy (answers_by C.mangled asked.legacy limit asked.detail)) asked names.now 0 ends.now buffer.old buffer.new outcomes.new }
     ensures status { result ≡ 0 }
 {
     if asked.legacy {
-        return tell_each(
+        return tell_as(
             alloc,
-            &asked.with_legacy(limit, cpp),
+            asked.with_legacy(limit, cpp),
             Lists::new(alloc),
             asked,
             names,
@@ -119,9 +153,9 @@ fn tell_in<C: Cpp>(
             outcomes,
         );
     }
-    tell_each(
+    tell_as(
         alloc,
-        &asked.languages(limit, cpp),
+        asked.languages(limit, cpp),
         Lists::new(alloc),
         asked,
         names,

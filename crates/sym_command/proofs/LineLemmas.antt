@@ -24,7 +24,7 @@ pub answer_for-unnamed : (answers : Answering) (word : List ℕ) → kind_of wor
 unfolding answer_for
 answer_for-unnamed answers word h = rw h refl
 
--- what was appended to, once and again
+-- bytes were appended twice
 pub begins-then : (first middle last : List ℕ) → BeginsWith middle first → BeginsWith last middle → BeginsWith last first
 begins-then first middle last a b = (a.0 ++ b.0, b.1 ∙ ap (λ (t : List ℕ). t ++ b.0) a.1 ∙ append_assoc first a.0 b.0)
 
@@ -38,15 +38,15 @@ pub word-line : (answers : Answering) (word bytes out mid new : List ℕ) → te
 word-line answers word bytes out mid new none same given pushed =
     pushed ∙ ap (λ (t : List ℕ). t ++ bytes ++ 10 ∷ []) given ∙ ap (λ (t : List ℕ). out ++ t ++ 10 ∷ []) same ∙ append_assoc out word (10 ∷ []) ∙ ap (λ o. out ++ (unwrap_or o word ++ 10 ∷ [])) (sym none)
 
--- what is said of a word, by what is answered for it
+-- what is said of a word, by the answer for it
 pub complaint-line : (asked : Asked) (answers : Answering) (word err new : List ℕ) (answer : Option (Result (List ℕ) Refusal)) → answer_for answers word ≡ answer → new ≡ err ++ complaint_about asked word answer → new ≡ err ++ complaint_of asked answers word
 complaint-line asked answers word err new answer is said = said ∙ ap (λ a. err ++ complaint_about asked word a) (sym is)
 
--- the words so far, with the next
+-- the words so far, with the next one
 pub words-more : (words : List (Bor (List ℕ))) (i : ℕ) (d : Bor (List ℕ)) → i < length words → map (λ word. word.now) (take (i + 1) words) ≡ map (λ word. word.now) (take i words) ++ (get_or words i d).now ∷ []
 words-more words i d h = ap (map (λ (word : Bor (List ℕ)). word.now)) (take_more words i d h) ∙ map-append (λ (word : Bor (List ℕ)). word.now) (take i words) (get_or words i d ∷ [])
 
--- the lines of one more word
+-- the lines so far, with those of one word more
 pub AreLines-more : (answers : Answering) (counting : Counting) (stats : Bool) (words : List (List ℕ)) (word lines behind : List ℕ) → AreLines answers counting stats words lines → IsBehindLine (AreCountsFor counting word) (stats && is_read_word (answer_for answers word)) behind → AreLines answers counting stats (words ++ word ∷ []) (lines ++ (line_of answers word ++ behind))
 AreLines-more answers counting stats [] word lines behind none here = (behind, [], here, refl, ap (λ (t : List ℕ). t ++ (line_of answers word ++ behind)) none ∙ sym (append-nil (line_of answers word ++ behind)))
 AreLines-more answers counting stats (first ∷ words) word lines behind h here =
@@ -54,12 +54,12 @@ AreLines-more answers counting stats (first ∷ words) word lines behind h here 
     let more = line_of answers word ++ behind in
     (h.0, h.1 ++ more, h.2, rest, ap (λ (t : List ℕ). t ++ more) h.4 ∙ append_assoc (line_of answers first ++ h.0) h.1 more)
 
--- what follows a word's line
+-- the bytes after a word's line
 pub nothing-behind : (answers : Answering) (counting : Counting) (stats : Bool) (word : List ℕ) → kind_of word ≡ None → IsBehindLine (AreCountsFor counting word) (stats && is_read_word (answer_for answers word)) []
 nothing-behind answers counting true word none = subst (λ (b : Bool). IsBehindLine (AreCountsFor counting word) b []) (sym (ap is_read_word (answer_for-unnamed answers word none))) refl
 nothing-behind answers counting false word none = refl
 
--- the answer of a word's symbol
+-- the answer for a word's symbol
 pub answer_of-symbol : (answers : Answering) (word symbol : List ℕ) (kind : Kind) (answer : Result (List ℕ) Refusal) → kind_of word ≡ Some kind → symbol ≡ symbol_of kind word → answers kind symbol ≡ answer → answer_for answers word ≡ Some answer
 answer_of-symbol answers word symbol kind answer named same is = answer_for-named answers word kind answer named (ap (answers kind) (sym same) ∙ is)
 

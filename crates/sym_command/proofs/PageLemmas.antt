@@ -1,4 +1,4 @@
--- The lines of the words so far: those that were written, and those that wait.
+-- The lines of the words so far: those that are written and those that wait to be.
 use Rattle.std.proofs.Common.{◌≡◌, ℕ, Bool, ◌&&◌, List, [], ◌∷◌, ◌++◌, Option, Result, Ok, Err, Bor, map, take, drop, refl, sym, ap, subst, ◌∙◌, append_assoc}
 use Rattle.std.specs.Prelude.{◌≢◌, OnErr, IfOk}
 use Rattle.std.specs.List.{flat_map}
@@ -28,7 +28,7 @@ module _ (asked : Asked) (answers : Answering) (counting : Counting) (stats : Bo
     says = Puts-push err [] said_wait [] nothing;
   }
 
-  -- a word more
+  -- one word more
   pub SoFar-word : (words all : List (List ℕ)) (word : List ℕ) (out out' err err' : Option (List ℕ)) (lines_wait lines_wait' said_wait said_wait' behind : List ℕ) → SoFar asked answers counting stats words out out' err err' lines_wait said_wait
       → all ≡ words ++ word ∷ [] → lines_wait' ≡ lines_wait ++ line_of answers word ++ behind → IsBehindLine (AreCountsFor counting word) (stats && is_read_word (answer_for answers word)) behind
       → said_wait' ≡ said_wait ++ complaint_of asked answers word → SoFar asked answers counting stats all out out' err err' lines_wait' said_wait'
@@ -44,7 +44,7 @@ module _ (asked : Asked) (answers : Answering) (counting : Counting) (stats : Bo
             (Puts-join err err' err' [] said_wait said_wait' (flat_map complaints words) (complaints word) so_far.says (Puts-push err' said_wait said_wait' (complaints word) said));
       }
 
-  -- some of what waits is written
+  -- some of the waiting lines are written
   pub SoFar-written : (words : List (List ℕ)) (out mid out' err mid' err' : Option (List ℕ)) (lines_wait lines_wait' said_wait said_wait' : List ℕ) → SoFar asked answers counting stats words out mid err mid' lines_wait said_wait
       → Puts mid out' lines_wait lines_wait' [] → Puts mid' err' said_wait said_wait' [] → SoFar asked answers counting stats words out out' err err' lines_wait' said_wait'
   SoFar-written words out mid out' err mid' err' lines_wait lines_wait' said_wait said_wait' so_far p q =
@@ -55,7 +55,7 @@ module _ (asked : Asked) (answers : Answering) (counting : Counting) (stats : Bo
         says = Puts-same err err' [] said_wait' (said ++ []) said (append-nil said) (Puts-join err mid' err' [] said_wait said_wait' said [] so_far.says q);
       }
 
-  -- or a beginning of it
+  -- a beginning of the waiting lines is written
   pub SoFar-stopped : (words all rest : List (List ℕ)) (out mid out' err mid' err' : Option (List ℕ)) (lines_wait said_wait : List ℕ) → SoFar asked answers counting stats words out mid err mid' lines_wait said_wait
       → all ≡ words ++ rest → PutsFront mid out' lines_wait [] → PutsFront mid' err' said_wait [] → Took out out' err err' (AnswersFront asked answers counting stats all)
   SoFar-stopped words all rest out mid out' err mid' err' lines_wait said_wait so_far e p q =
@@ -77,7 +77,7 @@ module _ (asked : Asked) (answers : Answering) (counting : Counting) (stats : Bo
         };
       }
 
-  -- all of it
+  -- all waiting lines are written
   pub SoFar-all : (words all : List (List ℕ)) (status : ℕ) (out mid out' err mid' err' : Option (List ℕ)) (lines_wait said_wait : List ℕ) → SoFar asked answers counting stats words out mid err mid' lines_wait said_wait
       → all ≡ words → status ≡ status_of answers words → Puts mid out' lines_wait [] [] → Puts mid' err' said_wait [] [] → Took out out' err err' (AnswersWords asked answers counting stats all status)
   SoFar-all words all status out mid out' err mid' err' lines_wait said_wait so_far e is p q =
@@ -97,23 +97,23 @@ PutsFront-none known wait = record { gone = []; writes = Appends-none known; beg
 pub PutsFront-all : (a b : Option (List ℕ)) (wait wait' : List ℕ) → Puts a b wait wait' [] → PutsFront a b wait []
 PutsFront-all a b wait wait' p = PutsFront-of a b wait wait' [] [] p
 
--- what holds of the bytes that two streams took, in other words
+-- a fact of the bytes that two streams took implies another one
 pub Took-as : (out out' err err' : Option (List ℕ)) (P Q : List ℕ → List ℕ → Type 0) → Took out out' err err' P → ((lines said : List ℕ) → P lines said → Q lines said) → Took out out' err err' Q
 Took-as out out' err err' P Q took turns = record { lines = took.lines; said = took.said; to_out = took.to_out; to_err = took.to_err; held = turns took.lines took.said took.held }
 
--- the second stream took something, or neither did
+-- the second stream took bytes, or neither did
 pub Took-said : (out err err' : Option (List ℕ)) (Q : List ℕ → List ℕ → Type 0) → Says err err' → ((said : List ℕ) → Q [] said) → Took out out err err' Q
 Took-said out err err' Q says turns = record { lines = []; said = says.0; to_out = Appends-none out; to_err = says.1; held = turns says.0 }
 
 pub PutsFront-from : (a b : Option (List ℕ)) (wait wait' : List ℕ) → wait' ≡ wait → PutsFront a b wait' [] → PutsFront a b wait []
 PutsFront-from a b wait wait' same p = subst (λ (t : List ℕ). PutsFront a b t []) same p
 
--- what holds anyway
+-- a fact that holds of any result
 pub OnErr-anyway : {A E : Type 0} (r : Result A E) (P : Type 0) → P → OnErr r P
 OnErr-anyway (Ok x) P p = tt
 OnErr-anyway (Err e) P p = p
 
--- what only success says
+-- a fact that holds only of success
 pub IfOk-not : {A E : Type 0} (r : Result A E) (P : A → Type 0) (y : E) → r ≡ Err y → IfOk r P
 IfOk-not (Ok x) P y is = absurd cc
 IfOk-not (Err e) P y is = tt

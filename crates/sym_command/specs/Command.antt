@@ -25,7 +25,7 @@ pub record AnswersWords (asked : Asked) (answers : Answering) (counting : Counti
   pub complaints : said ≡ flat_map (complaint_of asked answers) words
   pub ends : status ≡ status_of answers words
 
--- what was written are beginnings of the lines of the first words, and of what is said of them
+-- a beginning of the lines of the first words was written, and a beginning of what is said of them
 pub record AnswersFront (asked : Asked) (answers : Answering) (counting : Counting) (stats : Bool) (words : List (List ℕ)) (lines said : List ℕ) : Type 0 where
   pub first : List (List ℕ)
   pub rest : List (List ℕ)

@@ -12,7 +12,7 @@ use Rattle.sym_filter.specs.Runs.{Answering, is_read, text_for, word_or_text}
 use Rattle.sym_command.specs.declared.options.Asked.{Asked}
 use Rattle.sym_command.specs.declared.options.Asked.TheVariants.{WidePressed}
 
--- what is answered for a word's symbol, where it names one
+-- the answer for a word's symbol, if the word names one
 unfoldable pub answer_for : Answering → List ℕ → Option (Result (List ℕ) Refusal)
 answer_for answers word = option_map (λ kind. answers kind (symbol_of kind word)) (kind_of word)
 
@@ -38,13 +38,13 @@ Counting = Lang → List ℕ → Counts → Type 0
 abbrev pub AreCountsFor : Counting → List ℕ → Counts → Type 0
 AreCountsFor counting word counts = (kind : Kind) × (kind_of word ≡ Some kind) × counting kind.lang (symbol_of kind word) counts
 
--- the line of such counts
+-- the line of the counts of a word's symbol
 pub record IsCountsLine (are_counts : Counts → Type 0) (line : List ℕ) : Type 0 where
   pub counts : Counts
   pub are : are_counts counts
   pub is : line ≡ counts_text counts.rows counts.nodes counts.steps ++ 10 ∷ []
 
--- what follows a word's line: the line of counts where they are requested and the symbol is read, else nothing
+-- the bytes after a word's line: the line of counts, if counts are requested and the symbol is read, or else nothing
 abbrev pub IsBehindLine : (Counts → Type 0) → Bool → List ℕ → Type 0
 IsBehindLine are_counts true line = IsCountsLine are_counts line
 IsBehindLine are_counts false line = line ≡ []

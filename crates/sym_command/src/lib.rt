@@ -13,7 +13,7 @@ pub use command::{ANSWERED, FAULT, WRONG_USE, answer_words, refuse_with};
 pub use lines::reason;
 pub use options::{
     Asked, Options, detail_of, filtering_of, flag, found_in, has_flag, limit, limit_of, options_of,
-    symbols_of, with_flag,
+    symbols_of, with_flag, with_short,
 };
 pub use outcome::{Filtering, Run};
 pub use process::{called_with, fault};

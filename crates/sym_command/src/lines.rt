@@ -1,4 +1,4 @@
-// The lines of a word: its answer, and what is said of one that has no text.
+// The lines of a word: its answer, and what is said of a word that has no text.
 ghost use Rattle.std.specs.Prelude.{◌≡◌, ◌≢◌, List, ℕ, [], ◌∷◌, ◌++◌, ◌&&◌, OnOk, OnErr, IfOk, Some, is_some, string_bytes, codes};
 ghost use Rattle.sym_filter.specs.Kinds.{kind_of};
 ghost use Rattle.sym_filter.specs.Runs.{text_for};
@@ -72,7 +72,7 @@ fn push_lines<D: Demangler>(
     Ok(has_text)
 }
 
-/// Appends a word that begins as no symbol does, and says so.
+/// Appends a word that doesn't begin like a symbol, and says so.
 fn push_unnamed(
     alloc: Global,
     word: &str,

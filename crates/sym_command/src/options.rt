@@ -1,13 +1,15 @@
 // The options of a command line, and its symbols.
 ghost use Rattle.std.specs.Prelude.{◌≡◌, IfOk, false, map, codes};
 ghost use Rattle.clap.specs.Words.{FailsBy, found_of, rows_of, matches_of, fault_of, app_of, rule_of, with_rule};
-ghost use Rattle.sym_command.specs.CommandLine.{command_line, flag, limit, symbols, AreGiven, IsFlag, IsLimit, detail_by, letters_by, asked_by, symbols_of, filtering_by};
+ghost use Rattle.sym_short.specs.Shortening.{texts_by};
+ghost use Rattle.sym_command.specs.CommandLine.{command_line, flag, limit, symbols, AreGiven, IsFlag, IsLimit, detail_by, letters_by, asked_by, symbols_of, filtering_by, with_short};
 
 use crate::outcome::Filtering;
 use clap::{Arg, ArgAction, ArgMatches, Command, Error};
 use std::alloc::{AllocError, Global};
 use sym_filter::Letters;
 use sym_print::Detail;
+use sym_short::{Texts, texts_of};
 
 /// The greatest cost of a text where no other limit is given.
 const DEFAULT_LIMIT: u32 = 1_000_000;
@@ -32,6 +34,11 @@ const WIDE: &str = "Also read newer C++ forms (recommended)";
 
 const LEGACY: &str =
     "Print Rust's older names, which look like C++ and end in a hash, as Rust paths";
+
+const SHORT: &str =
+    "Shorten C++ names: leave out what is the default in std, and its inline namespaces";
+
+const KEEP_INLINE: &str = "With --short, keep inline namespaces, as in std::__1::vector";
 
 const BRIEF: &str = "Leave out template and generic arguments";
 
@@ -58,6 +65,8 @@ pub enum Asked {
 pub struct Options {
     pub limit: u32,
     pub detail: Detail,
+    /// Which texts of C++ symbols are written. It has no effect on pressed spellings.
+    pub texts: Texts,
     pub letters: Letters,
     pub stats: bool,
     pub asked: Asked,
@@ -88,6 +97,7 @@ fn command_line<'a>(alloc: Global) -> Result<Command<'a>, AllocError>
         .after_help(EXAMPLES);
     let command = with_answers(alloc, command)?;
     let command = with_grammars(alloc, command)?;
+    let command = with_short(alloc, command)?;
     let command = with_details(alloc, command)?;
     command.arg(symbols(alloc))
 }
@@ -109,6 +119,18 @@ fn with_grammars<'a>(alloc: Global, command: Command<'a>) -> Result<Command<'a>,
 {
     let wide = with_flag(alloc, command, "wide", WIDE)?;
     with_flag(alloc, wide, "legacy", LEGACY)
+}
+
+/// A command line with the options on short texts.
+///
+/// # Errors
+///
+/// Where the list of options can't grow.
+pub fn with_short<'a>(alloc: Global, command: Command<'a>) -> Result<Command<'a>, AllocError>
+    ensures { IfOk result (λ with_them. app_of with_them ≡ with_short (app_of command.entry)) }
+{
+    let short = with_flag(alloc, command, "short", SHORT)?;
+    with_flag(alloc, short, "keep-inline", KEEP_INLINE)
 }
 
 /// A command line with the options on what of a text is shown, and on the letters of words.
@@ -182,7 +204,7 @@ pub fn detail_of(brief: bool, no_params: bool) -> Detail
     }
 }
 
-/// The letters of words that a flag requests.
+/// Which letters words have, by a flag.
 fn letters_of(ascii_words: bool) -> Letters
     ensures { result ≡ letters_by ascii_words }
 {
@@ -226,6 +248,7 @@ pub fn options_of(matches: &ArgMatches<'_>) -> Options
     Options {
         limit: limit_of(matches),
         detail: detail_of(has_flag(matches, "brief"), has_flag(matches, "no-params")),
+        texts: texts_of(has_flag(matches, "short"), has_flag(matches, "keep-inline")),
         letters: letters_of(has_flag(matches, "ascii-words")),
         stats: has_flag(matches, "stats"),
         asked,
@@ -240,13 +263,14 @@ pub fn symbols_of<'m, 'a>(matches: &'m ArgMatches<'a>) -> &'m [&'a str]
     matches.get_strs("SYMBOL").unwrap_or_default()
 }
 
-/// How an input is filtered as the options request, if they request no counts, which need a symbol.
+/// How the options request that an input is filtered; none where they request counts, which need a symbol.
 pub fn filtering_of(options: Options) -> Option<Filtering>
     ensures { result ≡ filtering_by options }
 {
     let Options {
         limit,
         detail,
+        texts,
         letters,
         stats,
         asked,
@@ -258,6 +282,7 @@ pub fn filtering_of(options: Options) -> Option<Filtering>
     Some(Filtering {
         limit,
         detail,
+        texts,
         letters,
         asked,
         legacy,

@@ -2,6 +2,7 @@
 use crate::options::Asked;
 use sym_filter::Letters;
 use sym_print::Detail;
+use sym_short::Texts;
 
 /// What the program is to do: end with a status, or filter standard input.
 #[derive(Clone, Copy, Debug, PartialEq, Eq)]
@@ -10,11 +11,13 @@ pub enum Run {
     Filter(Filtering),
 }
 
-/// How standard input is filtered: what each symbol in it gives way to, and whether legacy Rust names have the texts of their paths.
+/// How standard input is filtered: what replaces each symbol in it, and whether legacy Rust names have the texts of
+/// their paths.
 #[derive(Clone, Copy, Debug, PartialEq, Eq)]
 pub struct Filtering {
     pub limit: u32,
     pub detail: Detail,
+    pub texts: Texts,
     pub letters: Letters,
     pub asked: Asked,
     pub legacy: bool,

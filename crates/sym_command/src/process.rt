@@ -11,8 +11,8 @@ use sym_filter::{FilterFault, Sink, write_all};
 /// No argument is longer, in bytes (Linux's bound on one argument).
 const LONGEST_ARGUMENT: usize = 131_072;
 
-/// The words that a process was called with. Where one isn't valid UTF-8 there are none, and a message under the program's name
-/// says so; its status is then `WRONG_USE`.
+/// The words that a process was called with, or none if one of them isn't valid UTF-8. Then a message under the
+/// program's name says so, and the status is to be `WRONG_USE`.
 ///
 /// # Errors
 ///

@@ -10,12 +10,12 @@ use Rattle.unicode_ident.specs.Ident.{is_xid_continue}
 use Rattle.sym_core.specs.Printed.{has_underscore, hyphenated, identifier_text, decoded_name}
 use Rattle.idna.specs.Punycode.{digit_value, threshold, adapt, read_integer, is_scalar, insert_all, basic_part, extended_part, decode, delimiter}
 
--- a fact of what both branches give
+-- what holds of both branches holds of the one that is taken
 choose : {A : Type 0} (P : A → Type 0) (b : Bool) (x y : Option A) → IfSome x P → IfSome y P → IfSome (cond b x y) P
 choose P true x y p q = p
 choose P false x y p q = q
 
--- a fact of what a step gives, wherever it is taken
+-- what holds of a step, where it is taken, holds of the whole
 bound : {A B : Type 0} (Q : A → Type 0) (P : B → Type 0) (o : Option A) (f : A → Option B) → IfSome o Q → ((x : A) → Q x → IfSome (f x) P) → IfSome (option_and_then f o) P
 bound Q P None f q h = tt
 bound Q P (Some x) f q h = h x q

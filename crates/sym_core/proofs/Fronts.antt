@@ -1,4 +1,4 @@
--- The longest number at the front of some bytes, and where none is, by its parts.
+-- The longest number at the front of some bytes, and the case that there is none, each by its parts.
 use Rattle.std.proofs.Common.{◌≡◌, ℕ, suc, ◌+◌, ◌-◌, ◌<◌, ◌≤◌, List, [], ◌∷◌, ◌++◌, length, take, drop, refl, ap, sym, ◌∙◌, subst, arith, append_assoc, length-append}
 use Rattle.std.proofs.lemmas.List.{take-append-drop, length-take-le, take_at}
 use Rattle.std.proofs.Math.Seq.{take-append-add}

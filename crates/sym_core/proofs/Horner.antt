@@ -48,7 +48,7 @@ value_onto-append kind v (x ∷ xs) ys = value_onto-append kind (v * radix_of ki
 pub value_of-more : (kind : NumberKind) (ds : List ℕ) (i : ℕ) → i < length ds → value_of kind (take (i + 1) ds) ≡ value_of kind (take i ds) * radix_of kind + digit_value kind (get_or ds i 0)
 value_of-more kind ds i lt = ap (value_of kind) (take_more ds i 0 lt) ∙ value_onto-append kind 0 (take i ds) (get_or ds i 0 ∷ [])
 
--- likewise at a place
+-- the value of the digits up to a place, with one digit more
 pub value_of-next : (kind : NumberKind) (s : List ℕ) (at end : ℕ) → at ≤ end → end < length s → value_of kind (take (end + 1 - at) (drop at s)) ≡ value_of kind (take (end - at) (drop at s)) * radix_of kind + digit_value kind (get_or s end 0)
 value_of-next kind s at end le lt =
     let one : end + 1 - at ≡ end - at + 1 = omega arith in
@@ -89,7 +89,7 @@ hundreds (suc n) =
     let wide : 10 ^ (2 * suc n) ≡ 10 ^ (2 * n) * 10 * 10 = ap (λ k. 10 ^ k) (omega arith) ∙ pow-suc 10 (suc (2 * n)) ∙ ap (λ p. p * 10) (pow-suc 10 (2 * n)) in
     omega (arith, before, wide, pow-suc 16 n)
 
--- and their decimal has at most two bytes for each of them, or the one of 0
+-- the decimal of such a number has at most two bytes for each digit, or the one byte of 0
 pub hex-decimal-few : (ds : List ℕ) → AreDigits Hex ds → value_of Hex ds < 2 ^ 128 → length (decimal (value_of Hex ds)) ≤ 2 * length ds + 1
 hex-decimal-few [] are wide = length-decimal-le 1 0 (omega arith) (omega arith) (omega arith)
 hex-decimal-few (d ∷ ds) are wide =

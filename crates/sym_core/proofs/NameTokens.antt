@@ -63,18 +63,18 @@ no_mark Rust sep part rest b clash mark p q r e is = elim mark [
   | inr none ↦ none.1 r (ap (λ v. v ++ (part ++ rest)) p ∙ ap (λ v. v ++ rest) q ∙ e ∙ ap (λ c. c ∷ r) is)
 ]
 
--- these bytes don't continue a name: the first may not be in it here
+-- these bytes don't continue a name, since the first of them may not be in it here
 abbrev pub IsForeign : NameClass → List ℕ → List ℕ → List ℕ → Type 0
 IsForeign names sep part w = (b : ℕ) (r : List ℕ) → w ≡ b ∷ r → (is_name_byte names b ≡ false) ⊎ ((sep ≡ []) × (part ≡ []) × (is_decimal_digit b ≡ true))
 
--- the length's digits are all that there are
+-- the digits of the length are all the digits that there are
 abbrev pub IsLongest : List ℕ → List ℕ → List ℕ → List ℕ → Type 0
 IsLongest digits sep part w = (c : ℕ) (r : List ℕ) → sep ≡ [] → part ≡ [] → w ≡ c ∷ r → AreDigitsOf Length (digits ++ c ∷ []) → ⊥
 
 digit_not_mark : (c : ℕ) → is_decimal_digit c ≡ true → c ≡ 95 → ⊥
 digit_not_mark c h e = false≢true (ap is_decimal_digit (sym e) ∙ h)
 
--- the same own bytes, once the lengths are the same
+-- names with the same length have the same own bytes
 own_same : (names : NameClass) (sep part w : List ℕ) (t_sep own v : List ℕ) → IsSeparated names (sep ++ (part ++ w)) (length sep) → IsSeparator names t_sep own → 0 < length own → (t_sep ++ own) ++ v ≡ sep ++ (part ++ w) → (own ++ v ≡ part ++ w) × (sep ≡ [] → t_sep ≡ [])
 own_same Cpp [] part w [] own v mark is some e = (e, λ _. refl)
 own_same Cpp (c ∷ sep) part w t_sep own v mark is some e = absurd (omega (arith, mark))
@@ -93,7 +93,7 @@ own_same Rust (d ∷ []) part w (c ∷ []) own v mark is some e = (cc, λ nil. c
 own_same Rust (d ∷ x ∷ sep) part w t_sep own v mark is some e = elim mark [ inl one ↦ absurd (omega (arith, one.0)) | inr none ↦ absurd (omega (arith, none.0)) ]
 own_same Rust sep part w (c ∷ d ∷ t_sep) own v mark is some e = absurd is
 
--- no name is where one breaks off
+-- where a name breaks off, there is none
 pub not_name : (names : NameClass) (digits sep part rest w : List ℕ) (most : ℕ) → IsFront names digits sep part rest most → IsSeparated names (sep ++ (part ++ w)) (length sep) → length part < most → IsForeign names sep part w → IsLongest digits sep part w → (t : Token) (v : List ℕ) → IsName names t → bytes_of t ++ v ≡ digits ++ (sep ++ (part ++ w)) → ⊥
 not_name names digits sep part rest w most f mark short foreign longest t v h e =
     elim (compared h.digits digits ((h.separator ++ t.own) ++ v) (sep ++ (part ++ w)) whole) [

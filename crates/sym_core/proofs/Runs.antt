@@ -46,7 +46,7 @@ run_more p s at end digits last k low high = elim (cases_lt k end) [
   | inr behind ↦ (let same : end ≡ k = omega (arith, behind) in ap (λ n. p (get_or s n 0)) (sym same) ∙ last)
 ]
 
--- what it leaves where it has gone as far as it may
+-- what the loop leaves where it has gone as far as it may
 pub run_reached : (kind : NumberKind) (s : List ℕ) (at end stop most : ℕ) → at ≤ end → end ≤ stop → stop ≤ length s → ((k : ℕ) → at ≤ k → k < end → is_digit_of kind (get_or s k 0) ≡ true) → stop - at ≤ most → (stop - at ≡ most) ⊎ (length s ≤ stop) → stop ≤ end → IsRun kind (drop at s) most (end - at)
 run_reached kind s at end stop most low high within digits few full come =
     run_found kind s at end most low (omega arith) digits (omega arith) (elim full [
@@ -93,7 +93,7 @@ no_longer kind q most size run limit ds b m r are is next =
     too_many Hex front bound form full split f = omega (arith, bound, full, ap length split, length-append front run.rest)
     too_many Digits front bound form full split f = omega (arith, bound, full, ap length split, length-append front run.rest)
 
--- a run has a form, if it isn't empty or need not be
+-- a run has a form, unless it is empty and may not be
 run_form : (kind : NumberKind) (q : List ℕ) (most size : ℕ) (run : IsRun kind q most size) → IsLimit kind q most → (ending_of kind ≡ [] → 0 < size) → IsFormOf kind run.front
 run_form kind q most size run limit some = form kind limit some run.front run.split (run.size_is) run.few
   where
@@ -132,7 +132,7 @@ reads_bare kind q most size none run limit some = record {
     absurd_or ds are behind [] e f bytes own size_end = omega (arith, size_end, ap length own, ap length e, ap length (append-nil run.front))
     absurd_or ds are behind (b ∷ m) e f bytes own size_end = absurd (no_longer kind q most size run limit ds b m (m ++ behind) are e f)
 
--- a kind whose numbers end in an '_', and there is one
+-- a kind whose numbers end in an '_', where an '_' is found
 pub reads_marked : (kind : NumberKind) (q : List ℕ) (most size : ℕ) (r : List ℕ) → ending_of kind ≡ 95 ∷ [] → is_digit_of kind 95 ≡ false → (run : IsRun kind q most size) → IsLimit kind q most → run.rest ≡ 95 ∷ r → ReadsNumber kind q size
 reads_marked kind q most size r mark other run limit next = record {
   digits = run.front;
@@ -147,7 +147,7 @@ reads_marked kind q most size r mark other run limit next = record {
       omega (arith, ap length is.2, ap (λ v. length (v ++ ending_of kind)) same.0));
 }
 
--- some digit of such a kind
+-- a kind whose numbers end in nothing has a number of one digit
 bare_number : (kind : NumberKind) → ending_of kind ≡ [] → IsNumber kind (48 ∷ [])
 bare_number Length none = (48 ∷ [], ((refl, tt), tt), refl)
 bare_number Digits none = (48 ∷ [], ((refl, tt), omega arith), refl)

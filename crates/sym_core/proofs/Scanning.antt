@@ -1,4 +1,4 @@
--- At each place of a list the longest number or name begins, or one breaks off.
+-- At each place of a list a longest number or name begins, or breaks off.
 use Rattle.std.proofs.Common.{◌≡◌, ℕ, zero, suc, ◌+◌, ◌-◌, ◌≤◌, true, false, ◌⊎◌, inl, inr, List, [], ◌∷◌, length, take, drop, refl, ap, sym, ◌∙◌, subst, arith, Result, Ok, Err}
 use Rattle.std.proofs.lemmas.Bool.{cases_Bool, cases_lt, cases_eq}
 use Rattle.sym_core.specs.declared.NumberKind.{NumberKind}

@@ -28,7 +28,7 @@ identifier_text chars = if list_all is_xid_continue chars then Some (encode_utf8
 abbrev pub decoded_name : List ℕ → Option (List ℕ)
 decoded_name bytes = if nat_le (length bytes) 2000 then option_and_then identifier_text (decode (hyphenated bytes)) else None
 
--- the name is decoded, if that succeeds: it has the mark and some bytes, but not too many
+-- the name is decoded, where that succeeds: it has the mark, and some bytes but not too many
 abbrev pub IsDecoded : Bool → List ℕ → Type 0
 IsDecoded puny bytes = (puny ≡ true) × (0 < length bytes) × (length bytes ≤ 2000)
 

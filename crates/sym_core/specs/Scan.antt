@@ -7,7 +7,7 @@ use Rattle.sym_core.specs.declared.NumberKind.TheVariants.{Length, Decimal, Seq3
 use Rattle.sym_core.specs.declared.NameClass.{NameClass}
 use Rattle.sym_core.specs.declared.NameClass.TheVariants.{Cpp, Rust}
 
--- q may begin with this many digits, if the kind has a limit
+-- a number at the front of q has at most this many digits, if the kind has a limit
 abbrev pub IsLimit : NumberKind → List ℕ → ℕ → Type 0
 IsLimit Length q most = ((most ≡ 1) × ((r : List ℕ) × (q ≡ 48 ∷ r))) ⊎ ((most ≡ 9) × ((r : List ℕ) → q ≡ 48 ∷ r → ⊥))
 IsLimit Base62 q most = most ≡ 11
@@ -54,7 +54,7 @@ is_bare_digit most skipped (b ∷ own) = nat_lt 0 most && skipped == 0 && is_dec
 abbrev pub ReachesNameBytes : NameClass → List ℕ → ℕ → Type 0
 ReachesNameBytes names bytes end = (k : ℕ) → k < end → is_name_byte names (get_or bytes k 0) ≡ true
 
--- the first n of the bytes are a name's own: as many as may be, or up to one that may not
+-- the first n of the bytes are a name's own: as many as allowed, or up to the first that may not be in a name
 pub record IsOwn (names : NameClass) (bytes : List ℕ) (most size : ℕ) : Type 0 where
   pub part : List ℕ
   pub rest : List ℕ

@@ -64,7 +64,7 @@ begins_number Seq36 b = is_digit_of Seq36 b || b == 95
 begins_number Base62 b = is_digit_of Base62 b || b == 95
 begins_number Hex b = is_digit_of Hex b || b == 95
 
--- the byte may follow a name, or a number: it doesn't belong to it
+-- the byte may come after a name or a number, since it doesn't belong to it
 abbrev pub ends_name : NameClass → ℕ → Bool
 ends_name Cpp b = true
 ends_name Rust b = not (b == 95)

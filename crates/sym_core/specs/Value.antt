@@ -18,7 +18,7 @@ digit_value Base62 byte = if is_decimal_digit byte then byte - 48 else (if is_lo
 digit_value Hex byte = if is_decimal_digit byte then byte - 48 else byte - 87
 digit_value _ byte = byte - 48
 
--- the number that the digits denote, after others that denote v
+-- the number that the digits denote, after digits that denote v
 abbrev pub value_onto : NumberKind → ℕ → List ℕ → ℕ
 value_onto kind v [] = v
 value_onto kind v (digit ∷ rest) = value_onto kind (v * radix_of kind + digit_value kind digit) rest

@@ -91,7 +91,7 @@ fn is_identifier(text: &str) -> bool
     text.chars().all(unicode_ident::is_xid_continue)
 }
 
-/// The text that a Punycode name denotes, if the name isn't too long to be decoded, and the text is an identifier.
+/// The text that a Punycode name denotes, if the name isn't too long to be decoded and its text is an identifier.
 fn decoded(alloc: Global, bytes: &[u8]) -> Result<Option<String>, Refusal>
     requires { AreNameBytes NameClass.Rust bytes.now }
     ensures text { IfOk result (λ found. MatchOption found (decoded_name bytes.now ≡ None) (λ text. decoded_name bytes.now ≡ Some (string_bytes text))) }

@@ -103,7 +103,7 @@ fn separator_len(tail: &[u8], names: NameClass) -> usize
     }
 }
 
-/// How many of the first bytes, up to n and by fours, may be in a name.
+/// How many of the first n bytes may be in a name, counted in fours up to the first four that may not.
 fn own_fours(bytes: &[u8], most: usize, names: NameClass) -> usize
     ensures within { result ≤ length bytes.now }
     ensures few { result ≤ most }

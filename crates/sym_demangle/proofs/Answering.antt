@@ -72,13 +72,13 @@ module _ {W : Type 0} (m : Mangled W) where
       (text_of (m.shown detail w), appended, answer_read detail s limit w (Ok (text_of (m.shown detail w))) reading (sym (text_within-ok limit (m.shown detail w) (text_of (m.shown detail w)) refl within)))
   answer_appended detail s limit w old new (Err e) reading appended within = tt
 
-  -- the answer to a well shaped symbol is that of its shape
+  -- the answer to a well shaped symbol is the answer for its shape
   shape_answered : (detail : Detail) (s : List ℕ) (limit : ℕ) (shape : Tree) → AreBytes s → IsTree m.table (Kind 0) shape → spell shape ≡ s → answer m detail s limit ≡ answer_of_shape m detail limit shape
   unfolding answer
   shape_answered detail s limit shape bytes is text =
       outcome_shaped m.table m.lawful (answer_of_shape m detail limit) (λ at. Err (Malformed at)) (Err (Malformed 0)) s shape bytes is text
 
-  -- the answer to another is its first bad byte
+  -- the answer to a symbol that isn't well shaped is its first bad byte
   bad_answered : (detail : Detail) (s : List ℕ) (limit at : ℕ) → AreBytes s → IsMalformed m.table s at → answer m detail s limit ≡ Err (Malformed at)
   unfolding answer
   bad_answered detail s limit at bytes bad =
@@ -94,7 +94,7 @@ module _ {W : Type 0} (m : Mangled W) where
   is_answer detail s limit r bytes (malformed at bad e) = e ∙ sym (bad_answered detail s limit at bytes bad)
   is_answer detail s limit r bytes (shaped shape is text e) = e ∙ sym (shape_answered detail s limit shape bytes is text)
 
-  -- of two answers to any list
+  -- what holds of two answers to the same bytes, whatever the bytes are
   pub one_answer : (detail : Detail) (s : List ℕ) (limit : ℕ) (a b : Result (List ℕ) Refusal) → IsAnswer m detail s limit a → IsAnswer m detail s limit b → a ≡ b
   one_answer detail s limit a b (malformed at bad e) (malformed also worse f) =
       e ∙ ap (λ n. Err (Malformed n)) (one_bad m.table s at also bad.first worse.first) ∙ sym f
@@ -103,7 +103,7 @@ module _ {W : Type 0} (m : Mangled W) where
   one_answer detail s limit a b (shaped shape is text e) (shaped other are same f) =
       e ∙ ap (λ t. answer_of_shape m detail limit t) (one_tree m.table m.lawful shape other is are (text ∙ sym same)) ∙ sym f
 
-  -- the answer is that of what is read
+  -- the answer is the one for what the symbol reads as
   pub reading_answered : (detail : Detail) (s : List ℕ) (limit : ℕ) (result : Result W Refusal) → AreBytes s → IsReading m s result
       → answer m detail s limit ≡ answer_of_symbol m detail limit result
   reading_answered detail s limit result bytes (misshapen at bad e) =

@@ -10,12 +10,12 @@ use Rattle.sym_shape.specs.Fed.{IsReason}
 use Rattle.sym_shape.specs.Reader.{IsMalformedOrMemory}
 use Rattle.sym_shape.specs.Table.{Table}
 
--- once a reader has the end, its reason is that of the whole symbol
+-- a reader that has the end refuses for the reason of the whole symbol
 pub reason_told : (g : Table) (s : List ℕ) (ended : Bool) (e : Refusal) → ended ≡ true → IsReason g ended s e → IsMalformedOrMemory g s e
 reason_told g s ended (Malformed at) told reason = subst (λ b. IsReason g b s (Malformed at)) told reason
 reason_told g s ended e told reason = reason
 
--- before that it is that of the symbol whatever follows
+-- a reader that hasn't the end refuses for a reason that holds whatever follows
 pub reason_whatever : (g : Table) (s rest : List ℕ) (ended : Bool) (e : Refusal) → ended ≡ false → IsReason g ended s e → IsMalformedOrMemory g (s ++ rest) e
 reason_whatever g s rest ended (Malformed at) untold reason = subst (λ b. IsReason g b s (Malformed at)) untold reason rest
 reason_whatever g s rest ended e untold reason = reason
@@ -24,7 +24,7 @@ reason_whatever g s rest ended e untold reason = reason
 pub fed_all : (told more ran first rest : List ℕ) → told ≡ more ++ [] → more ≡ ran ++ rest → ran ≡ first → told ≡ first ++ rest
 fed_all told more ran first rest end fed same = end ∙ append-nil more ∙ fed ∙ ap (λ bs. bs ++ rest) same
 
--- what follows a prefix that was taken off
+-- the bytes that follow a prefix
 pub behind_prefix : (s prefix front : List ℕ) (found : Option (Bor (List ℕ))) (rest : Bor (List ℕ))
     → MatchOption found (pointwise eqb (take (length prefix) s) prefix ≡ false) (λ x. (pointwise eqb (take (length prefix) s) prefix ≡ true) × (x.now ≡ drop (length prefix) s) × (length x.now + length prefix ≡ length s))
     → found ≡ Some rest → prefix ≡ front → s ≡ front ++ rest.now

@@ -56,7 +56,7 @@ goes_on g view d s rs rows read nodes new steps new_steps refused new_refused ne
   all_steps = λ over. absurd (never_done done over isnt);
 }
 
--- one that has run is done
+-- a linker that has run to its end is done
 pub has_run : {N P K V S C : Type 0} (g : Table) (view : List ℕ → View N P K V S C) (d s : List ℕ) (rs rows : List Row) (read : ℕ) (nodes new : N) (steps new_steps : ℕ)
     (refused new_refused : Option Refusal) (next new_next : ℕ) (frames new_frames : List (Frame K)) (parts new_parts : List P) (done : Bool)
     (is : IsLinker g (view s) s rows read nodes steps refused next frames parts done) → d ≡ s → rs ≡ rows
@@ -74,7 +74,7 @@ has_run g view d s rs rows read nodes new steps new_steps refused new_refused ne
   all_steps = λ over. counted;
 }
 
--- a step that is answered by true or false
+-- a step answers true or false
 answered : {N P K V S C : Type 0} (view : View N P K V S C) (s : List ℕ) (rows : List Row) (shape : Tree) (nodes : N) (steps new_steps : ℕ) (refused new_refused : Option Refusal) (parts : List P)
     (result : Result Bool Refusal) (done over : Bool) → result ≡ Ok done → done ≡ over → IsStepTo view s rows shape nodes steps new_steps refused new_refused parts result
     → IsStepTo view s rows shape nodes steps new_steps refused new_refused parts (Ok over)
@@ -82,7 +82,7 @@ answered view s rows shape nodes steps new_steps refused new_refused parts resul
     let ok : Bool → Result Bool Refusal = λ b. Ok b in
     subst (λ r. IsStepTo view s rows shape nodes steps new_steps refused new_refused parts r) (is ∙ ap ok same) to
 
--- one that is answered by true is done
+-- a linker whose step answered true is done
 pub has_stepped : {N P K V S C : Type 0} (g : Table) (view : List ℕ → View N P K V S C) (d s : List ℕ) (rs rows : List Row) (read : ℕ) (nodes new : N) (steps new_steps : ℕ)
     (refused new_refused : Option Refusal) (next new_next : ℕ) (frames new_frames : List (Frame K)) (parts new_parts : List P) (was done : Bool) (result : Result Bool Refusal)
     (is : IsLinker g (view s) s rows read nodes steps refused next frames parts was) → d ≡ s → rs ≡ rows → result ≡ Ok done
@@ -100,21 +100,21 @@ has_stepped g view d s rs rows read nodes new steps new_steps refused new_refuse
   all_steps = λ over. let to_end = answered (view d) d rs is.shape new steps new_steps refused new_refused new_parts result done true ok over to in omega (arith, to_end.1, to_end.3);
 }
 
--- a step that is answered by false is counted
+-- a step that answers false is counted
 pub counts_step : {N P K V S C : Type 0} (view : View N P K V S C) (s : List ℕ) (rows : List Row) (shape : Tree) (nodes : N) (steps new_steps : ℕ) (refused new_refused : Option Refusal)
     (parts : List P) (result : Result Bool Refusal) (done : Bool) → result ≡ Ok done → done ≡ false
     → IsStepTo view s rows shape nodes steps new_steps refused new_refused parts result → new_steps ≡ steps + 1
 counts_step view s rows shape nodes steps new_steps refused new_refused parts result done is over to =
     (answered view s rows shape nodes steps new_steps refused new_refused parts result done false is over to).0
 
--- and one that is answered by true isn't
+-- a step that answers true isn't counted
 pub counts_none : {N P K V S C : Type 0} (view : View N P K V S C) (s : List ℕ) (rows : List Row) (shape : Tree) (nodes : N) (steps new_steps : ℕ) (refused new_refused : Option Refusal)
     (parts : List P) (result : Result Bool Refusal) (done : Bool) → result ≡ Ok done → done ≡ true
     → IsStepTo view s rows shape nodes steps new_steps refused new_refused parts result → new_steps ≡ steps
 counts_none view s rows shape nodes steps new_steps refused new_refused parts result done is over to =
     (answered view s rows shape nodes steps new_steps refused new_refused parts result done true is over to).1
 
--- no refusal is kept where a step is answered
+-- a step that answers leaves no refusal
 pub stays_open : {N P K V S C : Type 0} (view : View N P K V S C) (s : List ℕ) (rows : List Row) (shape : Tree) (nodes : N) (steps new_steps : ℕ) (refused new_refused : Option Refusal)
     (parts : List P) (result : Result Bool Refusal) (done : Bool) → result ≡ Ok done
     → IsStepTo view s rows shape nodes steps new_steps refused new_refused parts result → new_refused ≡ None
@@ -123,7 +123,7 @@ stays_open view s rows shape nodes steps new_steps refused new_refused parts res
 stays_open view s rows shape nodes steps new_steps refused new_refused parts result false is to =
     (subst (λ r. IsStepTo view s rows shape nodes steps new_steps refused new_refused parts r) is to).1
 
--- the first step that refuses is counted, and its refusal kept
+-- the first step that refuses is counted, and its refusal is kept
 pub counts_refusal : {N P K V S C : Type 0} (view : View N P K V S C) (s : List ℕ) (rows : List Row) (shape : Tree) (nodes : N) (steps new_steps : ℕ) (refused new_refused : Option Refusal)
     (parts : List P) (result : Result Bool Refusal) (e : Refusal) → result ≡ Err e → refused ≡ None
     → IsStepTo view s rows shape nodes steps new_steps refused new_refused parts result → (new_steps ≡ steps + 1) × (new_refused ≡ Some e)
@@ -132,7 +132,7 @@ counts_refusal view s rows shape nodes steps new_steps refused new_refused parts
     let first = subst (λ o. IsStepTo view s rows shape nodes steps new_steps o new_refused parts (Err e)) none refuses in
     (first.1, first.2)
 
--- one whose driver was reset has done nothing yet
+-- a linker whose driver was reset has done nothing yet
 pub reset_of : {N P K V S C : Type 0} (view : View N P K V S C) (g : Table) (s : List ℕ) (rows : List Row) (read : ℕ) (nodes : N) (steps : ℕ) (refused : Option Refusal) (next : ℕ)
     (frames : List (Frame K)) (parts : List P) → steps ≡ 0 → refused ≡ None → next ≡ 0 → frames ≡ [] → parts ≡ [] → GrowsInto g view.table → FitsSymbol s → AreRowsOf g s rows
     → AreFew read (length rows) (length s) → Begins view nodes → IsLinker g view s rows read nodes steps refused next frames parts false

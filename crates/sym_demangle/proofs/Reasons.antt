@@ -59,7 +59,7 @@ module _ {W : Type 0} (m : Mangled W) (refuses : RefusesBadTokens m) where
   links_read whole s bytes (Ok x) same stands = well_shaped (subst (λ b. StandsFor m b (Ok (whole x))) same stands)
   links_read whole s bytes (Err e) same stands = tt
 
-  -- nor does a link that gives something else
+  -- a link never refuses for a text that is too long
   pub links_not_too_long : {T : Type 0} (s : List ℕ) (result : Result T Refusal) → IfErr result (IsRefused m s) → IfErr result (λ e. e ≢ TooLong)
   links_not_too_long s (Ok found) is = is
   links_not_too_long s (Err refusal) is = link_not_too_long s refusal is

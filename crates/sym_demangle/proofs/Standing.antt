@@ -62,7 +62,7 @@ pub shape_steps : (g : Table) (lawful : IsLawful g) (s bytes : List ℕ) (shape 
 shape_steps g lawful s bytes shape steps is own there counted = λ tree is_tree spelled.
     counted ∙ ap link_steps (one_tree g lawful shape tree is is_tree (own ∙ there ∙ sym spelled))
 
--- a step that finds nothing left to do
+-- a linker with nothing left to do has taken the steps of its shape
 pub done_steps : {N P K V S C : Type 0} (view : View N P K V S C) (s : List ℕ) (rows : List Row) (shape : Tree) (nodes : N) (steps new_steps : ℕ) (refused new_refused : Option Refusal) (parts : List P)
     (result : Result Bool Refusal) (done : Bool) → result ≡ Ok done → (let answered : Bool → Result Bool Refusal = λ b. Ok b in answered done ≡ answered true)
     → IsStepTo view s rows shape nodes steps new_steps refused new_refused parts result → new_steps ≡ link_steps shape

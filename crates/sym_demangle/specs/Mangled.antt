@@ -29,7 +29,7 @@ pub record Mangled (W : Type 0) : Type 0 where
 abbrev pub RefusesBadTokens : {W : Type 0} → Mangled W → Type 0
 RefusesBadTokens m = (shape : Tree) → IsTree m.table (Kind 0) shape → IfErr (m.unfolded shape) IsBadToken
 
--- the symbol's one shape denotes this
+-- the symbol has one shape, which denotes this result
 abbrev pub StandsFor : {W : Type 0} → Mangled W → List ℕ → Result W Refusal → Type 0
 StandsFor m s result = (shape : Tree) × IsTree m.table (Kind 0) shape × (spell shape ≡ s) × (result ≡ m.unfolded shape)
 

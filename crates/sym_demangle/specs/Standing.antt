@@ -26,7 +26,7 @@ pub record Progress : Type 0 where
   pub refused : Option Refusal
   pub lists : List Listed
 
--- nothing is linked yet, and this many nodes exist
+-- nothing is linked yet, and there are n nodes
 abbrev pub unlinked : (bytes : List ℕ) → (rows read_steps nodes : ℕ) → List Listed → Progress
 unlinked bytes rows read_steps nodes lists =
     record { bytes = bytes; rows = rows; read_steps = read_steps; steps = 0; nodes = nodes; done = false; refused = None; lists = lists }

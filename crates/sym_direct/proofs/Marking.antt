@@ -7,7 +7,8 @@ use Rattle.std.proofs.lemmas.List.Elements.{All-append}
 use Rattle.std.proofs.Math.Seq.{drop-cons}
 use Rattle.sym_direct.specs.Marked.{opens, closes, visible, unless_within, HasNoZero}
 
--- Some bytes are kept of those before a place, and what is visible of all is what they are and what is visible after it.
+-- The bytes before a place were moved, and this much of them is kept. What is visible of all the bytes is what was kept
+-- and what is visible of the bytes after the place.
 pub record AreClosedUp (all bytes : List ℕ) (kept depth at : ℕ) : Type 0 where
   pub kept_few : kept ≤ at
   pub depth_few : depth ≤ at
@@ -90,7 +91,7 @@ next-at all bytes kept depth at less p =
     let more : at + 1 ≡ suc at = omega arith in
     ap (λ l. take kept bytes ++ visible depth l) (ap (λ n. get_or bytes at 0 ∷ drop n bytes) more ∙ sym (drop-cons bytes at 0 less)) ∙ p.left
 
--- a stretch begins,
+-- a stretch begins at the byte
 pub opened-up : (all bytes : List ℕ) (kept depth at : ℕ) → at < length bytes → AreClosedUp all bytes kept depth at
     → get_or bytes at 0 ≡ opens → AreClosedUp all bytes kept (depth + 1) (at + 1)
 opened-up all bytes kept depth at less p is = record {
@@ -102,7 +103,7 @@ opened-up all bytes kept depth at less p is = record {
   plain = p.plain;
 }
 
--- or ends,
+-- a stretch ends at the byte
 pub closed-up : (all bytes : List ℕ) (kept depth at : ℕ) → at < length bytes → AreClosedUp all bytes kept depth at
     → get_or bytes at 0 ≢ opens → get_or bytes at 0 ≡ closes → AreClosedUp all bytes kept (depth - 1) (at + 1)
 closed-up all bytes kept depth at less p other is = record {
@@ -115,7 +116,7 @@ closed-up all bytes kept depth at less p other is = record {
   plain = p.plain;
 }
 
--- or the byte is left out, within a stretch
+-- the byte is left out, since it is within a stretch
 pub passed-by : (all bytes : List ℕ) (kept depth at : ℕ) → at < length bytes → AreClosedUp all bytes kept depth at
     → get_or bytes at 0 ≢ opens → get_or bytes at 0 ≢ closes → depth ≢ 0 → AreClosedUp all bytes kept depth (at + 1)
 unfolding unless_within
@@ -137,7 +138,7 @@ last-plain bytes byte plain some = All-append (λ b. b ≢ 0) bytes (byte ∷ []
     one zero d less = some
     one (suc k) d less = absurd (omega (arith, less))
 
--- or a byte is kept.
+-- the byte is kept
 kept-outside : (all bytes : List ℕ) (kept at : ℕ) → at < length bytes → AreClosedUp all bytes kept 0 at
     → get_or bytes at 0 ≢ opens → get_or bytes at 0 ≢ closes → get_or bytes at 0 ≢ 0
     → AreClosedUp all (slice_set bytes kept (get_or bytes at 0)) (kept + 1) 0 (at + 1)
@@ -165,7 +166,7 @@ pub kept-up : (all bytes : List ℕ) (kept depth at : ℕ) → at < length bytes
 kept-up all bytes kept zero at less p one two none some = kept-outside all bytes kept at less p one two some
 kept-up all bytes kept (suc depth) at less p one two none some = absurd (omega (arith, none))
 
--- At the end what is kept is visible.
+-- at the end, the bytes that are kept are the visible ones
 pub all-closed : (all bytes : List ℕ) (kept depth at : ℕ) → length bytes ≤ at → AreClosedUp all bytes kept depth at → take kept bytes ≡ visible 0 all
 unfolding visible
 all-closed all bytes kept depth at ended p =
@@ -176,7 +177,7 @@ same-closed all b c k l d e at same_bytes same_kept same_depth p =
     subst (λ x. AreClosedUp all x l e at) (sym same_bytes)
     (subst (λ x. AreClosedUp all b x e at) (sym same_kept) (subst (λ x. AreClosedUp all b k x at) (sym same_depth) p))
 
--- one more of the bytes before a place is neither
+-- one more of the bytes before a place is neither a mark nor 0
 pub front-grows : (bytes : List ℕ) (at : ℕ) → ((k : ℕ) → k < at → 2 < get_or bytes k 0) → 2 < get_or bytes at 0
     → (k : ℕ) → k < at + 1 → 2 < get_or bytes k 0
 front-grows bytes at each more k less = go (nat_eq k at) refl

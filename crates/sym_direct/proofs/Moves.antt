@@ -16,18 +16,18 @@ use Rattle.sym_direct.specs.Holes.{Language, Opened, opened, Reads, ReadsRest, S
 drop-more : (at : ℕ) (s a rest : List ℕ) → drop at s ≡ a ++ rest → drop (at + length a) s ≡ rest
 drop-more at s a rest e = sym (drop-drop (length a) at s) ∙ ap (λ l. drop (length a) l) e ∙ drop-append_seam a rest
 
--- two pieces in a row are there as one
+-- two pieces in a row are there as one piece
 pub stands-join : (s : List ℕ) (at : ℕ) (a b : List ℕ) → StandsAt s at a → StandsAt s (at + length a) b → StandsAt s at (a ++ b)
 stands-join s at a b first second =
     (second.0, first.1 ∙ ap (λ l. a ++ l) (sym (drop-more at s a first.0 first.1) ∙ second.1) ∙ sym (append_assoc a b second.0))
 
--- one piece is there as two in a row
+-- one piece is there as two pieces in a row
 pub stands-split : (s : List ℕ) (at : ℕ) (a b : List ℕ) → StandsAt s at (a ++ b) → StandsAt s at a × StandsAt s (at + length a) b
 stands-split s at a b whole =
     let e = whole.1 ∙ append_assoc a b whole.0 in
     ((b ++ whole.0, e), (whole.0, drop-more at s a (b ++ whole.0) e))
 
--- nothing is anywhere
+-- an empty piece is at each place
 pub stands-none : (s : List ℕ) (at : ℕ) → StandsAt s at []
 stands-none s at = (drop at s, refl)
 
@@ -52,7 +52,7 @@ reads-rule l s kind rule taken context at st begun inner after bytes vs w takes 
   unfolds = rw (begins, rest.unfolds, closes) refl;
 }
 
--- a kind takes a rule, which may begin with whatever parts are in the symbol: it is open
+-- a kind takes a rule, which is open then: the rule may begin with any parts
 pub opens-where : {V S C : Type 0} (l : Language V S C) (s : List ℕ) (kind : ℕ) (rule : Rule) (taken : List ℕ) (context : C)
     (os : List (Opened V S C)) (at : ℕ) (st begun : S)
     → TakesRule l.table kind rule taken
@@ -68,7 +68,7 @@ opens-where l s kind rule taken context os at st begun takes begins expects stan
     (begins rest.forest rest.shaped (subst (λ b. StandsAt s (at + length taken) b) (sym rest.spelled) there)) closes)
     (stands-join s at taken bytes stands there))
 
--- a kind takes a rule: it is open
+-- a kind takes a rule, which is open then
 pub opens : {V S C : Type 0} (l : Language V S C) (s : List ℕ) (kind : ℕ) (rule : Rule) (taken : List ℕ) (context : C)
     (os : List (Opened V S C)) (at : ℕ) (st begun : S)
     → TakesRule l.table kind rule taken
@@ -78,7 +78,7 @@ pub opens : {V S C : Type 0} (l : Language V S C) (s : List ℕ) (kind : ℕ) (r
 opens l s kind rule taken context os at st begun takes begins expects stands =
     opens-where l s kind rule taken context os at st begun takes (λ f shaped there. begins f) expects stands
 
--- a part is read, and those after it
+-- a part is read, and then those after it
 unfoldable pub joins : {V S C : Type 0} (l : Language V S C) (s : List ℕ) (rule : Open S C) (known : List V) (x : Sym) (todo : List Sym) (at : ℕ) (st : S)
     (next : Next V S C) (after inner : S) (v : List V) (first more : List ℕ) (vs : List V)
     → (l.reading s).between rule known st ≡ Ok next
@@ -105,7 +105,7 @@ needs-next l s rule known x todo os at st next goes needs first v middle one her
     (joins l s rule known x todo at st next middle inner v first more vs goes one rest)
     (stands-join s at first more here there) closes)
 
--- no part is left
+-- a rule has no part left
 unfoldable pub none-left : {V S C : Type 0} (l : Language V S C) (s : List ℕ) (rule : Open S C) (known : List V) (at : ℕ) (st : S)
     → ReadsRest l s rule known [] at [] st known st
 none-left l s rule known at st = record { forest = nothing; shaped = tt; spelled = refl; unfolds = refl }
@@ -143,7 +143,7 @@ expects-token l s x context os at st t v after expects is means stands =
 
 -- ## Moves of a rule
 
--- expects the first part of a rule
+-- the first part of a rule is expected
 pub first-of : {V S C : Type 0} (l : Language V S C) (s : List ℕ) (kind : ℕ) (rule : Rule) (taken : List ℕ) (context : C)
     (os : List (Opened V S C)) (at : ℕ) (st begun : S) (x : Sym) (todo : List Sym) (next : Next V S C)
     → TakesRule l.table kind rule taken

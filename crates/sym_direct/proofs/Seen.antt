@@ -54,7 +54,7 @@ no-mark byte is = go (nat_eq byte opens) refl is
 visible-byte : (depth byte : ℕ) (bytes : List ℕ) → is_mark byte ≡ false → visible depth (byte ∷ bytes) ≡ unless_within depth byte (visible depth bytes)
 visible-byte depth byte bytes is = let none = no-mark byte is in visible-other depth byte bytes none.0 none.1
 
--- bytes without marks are left out in a stretch,
+-- in a stretch, bytes without marks are left out
 pub unmarked-hidden : (bytes : List ℕ) → IsUnmarked bytes → IsHidden bytes
 unfolding unless_within
 unmarked-hidden [] plain depth rest = refl
@@ -62,7 +62,7 @@ unmarked-hidden (byte ∷ bytes) plain depth rest =
     let parts = first-unmarked byte bytes plain in
     visible-byte (suc depth) byte (bytes ++ rest) parts.0 ∙ unmarked-hidden bytes parts.1 depth rest
 
--- and kept outside of all stretches,
+-- outside of all stretches, bytes without marks are kept
 pub unmarked-seen : (bytes : List ℕ) → IsUnmarked bytes → IsSeenAs bytes bytes
 unfolding unless_within
 unmarked-seen [] plain rest = refl
@@ -70,7 +70,7 @@ unmarked-seen (byte ∷ bytes) plain rest =
     let parts = first-unmarked byte bytes plain in
     visible-byte 0 byte (bytes ++ rest) parts.0 ∙ ap (λ l. byte ∷ l) (unmarked-seen bytes parts.1 rest)
 
--- and so are bytes that follow others.
+-- bytes without marks are kept after others, too
 pub hidden-append : (xs ys : List ℕ) → IsHidden xs → IsHidden ys → IsHidden (xs ++ ys)
 hidden-append xs ys one two depth rest = ap (visible (suc depth)) (append_assoc xs ys rest) ∙ one depth (ys ++ rest) ∙ two depth rest
 
@@ -90,7 +90,7 @@ stretch-left bytes hidden depth rest =
     ∙ visible-closed (suc depth) closes rest refl refl
     ∙ ap (λ n. visible n rest) back
 
--- So bytes before a stretch are the visible part of both,
+-- what is visible of bytes before a stretch is visible of them with the stretch
 around : (bytes inner rest : List ℕ) → (bytes ++ (opens ∷ []) ++ inner ++ (closes ∷ [])) ++ rest ≡ bytes ++ (opens ∷ (inner ++ closes ∷ rest))
 around bytes inner rest =
     append_assoc (bytes ++ (opens ∷ []) ++ inner) (closes ∷ []) rest
@@ -101,7 +101,7 @@ pub stretch-seen : (bytes inner shown : List ℕ) → IsSeenAs bytes shown → I
 stretch-seen bytes inner shown seen hidden rest =
     ap (visible 0) (around bytes inner rest) ∙ seen (opens ∷ (inner ++ closes ∷ rest)) ∙ ap (λ l. shown ++ l) (stretch-left inner hidden 0 rest)
 
--- and left out where they are.
+-- in a stretch, bytes and a stretch after them are left out
 pub stretch-hidden : (bytes inner : List ℕ) → IsHidden bytes → IsHidden inner → IsHidden (bytes ++ (opens ∷ []) ++ inner ++ (closes ∷ []))
 stretch-hidden bytes inner outer hidden depth rest =
     ap (visible (suc depth)) (around bytes inner rest) ∙ outer depth (opens ∷ (inner ++ closes ∷ rest)) ∙ stretch-left inner hidden (suc depth) rest

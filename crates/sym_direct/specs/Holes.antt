@@ -1,5 +1,5 @@
--- A symbol that is read from left to right while nothing is known of what follows: what the open rules still need, and that the
--- whole is read once they have it. In any language.
+-- A symbol of any language that is read from left to right: what the open rules still need, and that the whole is read
+-- once they have it. Nothing is known of the bytes that follow.
 use Rattle.std.specs.Prelude.{◌≡◌, ℕ, ◌+◌, List, ◌∷◌, [], ◌++◌, length, take, drop, Ok}
 use Rattle.sym_shape.specs.declared.rule.Sym.{Sym}
 use Rattle.sym_shape.specs.declared.rule.Sym.TheVariants.{Kind}
@@ -32,7 +32,7 @@ pub record Reads {V S C : Type 0} (l : Language V S C) (s : List ℕ) (x : Sym) 
   pub spelled : spell shape ≡ bytes
   pub unfolds : unfold_tree (l.reading s) context at shape before ≡ Ok (found vs after)
 
--- likewise for the parts of a rule that are left
+-- the parts of a rule that are left spell these bytes and have these values
 pub record ReadsRest {V S C : Type 0} (l : Language V S C) (s : List ℕ) (rule : Open S C) (known : List V) (todo : List Sym) (at : ℕ)
     (bytes : List ℕ) (before : S) (vs : List V) (after : S) : Type 0 where
   pub forest : Forest
@@ -44,8 +44,8 @@ pub record ReadsRest {V S C : Type 0} (l : Language V S C) (s : List ℕ) (rule 
 abbrev pub StandsAt : (s : List ℕ) → (at : ℕ) → (bytes : List ℕ) → Type 0
 StandsAt s at bytes = (rest : List ℕ) × (drop at s ≡ bytes ++ rest)
 
--- The innermost open rule has these next values, in this state: whatever is read from here on as its parts, the whole symbol is
--- read.
+-- The innermost open rule has these next values, in this state. Whatever its remaining parts are read as, the whole
+-- symbol is read.
 abbrev pub Comes : {V S C : Type 0} → Language V S C → (s : List ℕ) → List (Opened V S C) → List V → (at : ℕ) → S → Type 0
 Comes l s [] vs at state = Reads l s (Kind 0) l.first_context 0 (take at s) l.first_state vs state
 Comes {V = V} {S = S} l s (o ∷ os) v at state =
@@ -54,7 +54,7 @@ Comes {V = V} {S = S} l s (o ∷ os) v at state =
     → (l.reading s).close o.rule vs inner ≡ Ok (found w after)
     → Comes l s os (w ∷ []) (at + length bytes) after
 
--- Likewise for a rule with these values read and these symbols remaining.
+-- the same for a rule with these values read and these symbols remaining
 abbrev pub Needs : {V S C : Type 0} → Language V S C → (s : List ℕ) → List (Opened V S C) → Open S C → (known : List V) → (todo : List Sym)
     → (at : ℕ) → S → Type 0
 Needs {V = V} {S = S} l s os rule known todo at state =
@@ -63,7 +63,7 @@ Needs {V = V} {S = S} l s os rule known todo at state =
     → (l.reading s).close rule vs inner ≡ Ok (found w after)
     → Comes l s os (w ∷ []) (at + length bytes) after
 
--- Likewise where a symbol is expected next.
+-- the same where a symbol is expected next
 abbrev pub Expects : {V S C : Type 0} → Language V S C → (s : List ℕ) → Sym → C → List (Opened V S C) → (at : ℕ) → S → Type 0
 Expects {V = V} {S = S} l s x context os at state =
     (bytes : List ℕ) (vs : List V) (after : S)

@@ -1,4 +1,5 @@
--- Texts with stretches that are to be left out. A mark is before such a stretch, and another one after it; others may be in it.
+-- Texts with stretches that are to be left out. One mark comes before such a stretch, and another one after it.
+-- Stretches may be nested.
 use Rattle.std.specs.Prelude.{◌≡◌, ◌≢◌, ℕ, zero, suc, ◌+◌, ◌-◌, List, [], ◌∷◌, ◌++◌, Bool, true, false, ◌||◌, nat_eq}
 use Rattle.std.specs.List.{All}
 
@@ -9,12 +10,12 @@ opens = 1
 abbrev pub closes : ℕ
 closes = 2
 
--- a byte inside n stretches, before what is left of those after it
+-- what is visible of a byte inside n stretches and of what follows
 unfoldable pub unless_within : (depth byte : ℕ) → List ℕ → List ℕ
 unless_within zero byte rest = byte ∷ rest
 unless_within (suc depth) byte rest = rest
 
--- what is left of bytes that begin inside n stretches
+-- what is visible of bytes that begin inside n stretches
 unfoldable pub visible : (depth : ℕ) → List ℕ → List ℕ
 visible depth [] = []
 visible depth (byte ∷ bytes) = elim (nat_eq byte opens) [
@@ -37,11 +38,11 @@ is_unmarked (byte ∷ bytes) = elim (is_mark byte) [ true ↦ false | false ↦ 
 abbrev pub IsUnmarked : List ℕ → Type 0
 IsUnmarked bytes = is_unmarked bytes ≡ true
 
--- in a stretch nothing is left of the bytes
+-- nothing is visible of bytes in a stretch
 abbrev pub IsHidden : List ℕ → Type 0
 IsHidden bytes = (depth : ℕ) (rest : List ℕ) → visible (suc depth) (bytes ++ rest) ≡ visible (suc depth) rest
 
--- outside of all stretches this is left of them
+-- this much is visible of bytes outside of all stretches
 abbrev pub IsSeenAs : (bytes shown : List ℕ) → Type 0
 IsSeenAs bytes shown = (rest : List ℕ) → visible 0 (bytes ++ rest) ≡ shown ++ visible 0 rest
 

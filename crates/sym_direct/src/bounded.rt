@@ -23,8 +23,8 @@ pub const CLOSES: u8 = 2;
 pub struct Bounded<T> {
     list: Vec<T>,
     room: usize,
-    // This many entries need no more memory. So to add one is a comparison and a store; a call of `Vec::push` for each byte
-    // took 6 % of a symbol's instructions.
+    // Entries up to this many need no more memory, so adding one is a comparison and a store. A call of `Vec::push` for
+    // each byte took 6 % of a symbol's instructions.
     ready: usize,
     pub ghost fits: { length list.items ≤ room },
     pub ghost is_small: { room < 2 ^ 32 },
@@ -51,7 +51,7 @@ impl<T: Copy> Bounded<T> {
         self.ready = self.room.min(self.list.capacity());
     }
 
-    /// Reserves memory for more entries, if there is room for them, some of them at once, as far as there is.
+    /// Reserves memory for more entries, within the bound: for several at once, as far as the bound allows.
     #[inline(never)]
     fn make_ready(&mut self, more: usize, at_once: usize) -> Option<()>
         ensures ready { OnSome result (length self.new.list.items + more ≤ self.new.ready) }
@@ -152,7 +152,7 @@ impl Bounded<u8> {
         Some(())
     }
 
-    /// Adds bytes that are in it, if there is room for them.
+    /// Adds a copy of bytes that are in the list, if there is room for them.
     pub fn repeat(&mut self, from: usize, to: usize) -> Option<()>
         requires from { from ≤ to }
         requires to { to ≤ length self.old.list.items }
@@ -165,7 +165,7 @@ impl Bounded<u8> {
         copy_to_end(&mut self.list, from, to)
     }
 
-    /// Leaves out what is between marks, and the marks. Bytes with a 0 among them are given up.
+    /// Removes the marks and what is between them. Bytes with a 0 among them are given up.
     pub fn leave_out_marked(&mut self) -> Option<()>
         ensures items { OnSome result (self.new.list.items ≡ visible 0 self.old.list.items) }
         ensures plain { OnSome result (HasNoZero self.new.list.items) }
@@ -177,7 +177,8 @@ impl Bounded<u8> {
         Some(())
     }
 
-    /// Removes its first bytes.
+    /// Removes the first bytes of a list. `rotate_left` would clear kilobytes of the stack for the bytes that go to the
+    /// end.
     // `rotate_left` would clear kilobytes of the stack for the bytes that go to the end.
     pub fn drop_first(&mut self, count: usize)
         requires within { count ≤ length self.old.list.items }
@@ -218,7 +219,7 @@ fn front_size(bytes: &[u8]) -> usize
     at
 }
 
-/// Moves what isn't between marks to the front, and answers how much it is, unless a 0 is among the bytes.
+/// Moves what isn't between marks to the front, and answers how much that is, unless a 0 is among the bytes.
 fn close_up(bytes: &mut [u8]) -> Option<usize>
     ensures size { IfSome result (λ kept. kept ≤ length bytes.old) }
     ensures front { IfSome result (λ kept. take kept bytes.new ≡ visible 0 bytes.old) }

@@ -1,5 +1,5 @@
-//! What a symbol's rules still need while it is read from left to right and nothing is known of what follows, in any language,
-//! and lists that grow up to a bound.
+//! What both short ways rest on: what a symbol's open rules still need while the symbol is read from left to right, in
+//! any language, and lists that grow up to a bound.
 #![tactic(auto)]
 
 mod bounded;

@@ -44,7 +44,7 @@ named-first word words h = cond-false _ _ _ (ap is_some h)
 
 -- ## Where a run's word begins, for all letters
 
--- a byte of no run is of no stretch
+-- a byte that belongs to no run belongs to no stretch
 in_stretch-other : (letters : Letters) (byte : ℕ) → is_byte_of letters byte ≡ false → in_stretch letters byte ≡ false
 in_stretch-other Any byte h = h
 in_stretch-other Ascii byte h = h
@@ -61,7 +61,7 @@ first_run-all letters (byte ∷ text) = step (is_byte_of letters byte) refl (fir
     step true h more = and_from _ _ h more
     step false h more = refl
 
--- where words are runs none begins after a byte of a run
+-- where words are runs, none begins after a byte of a run
 closed-after : (letters : Letters) (place : Place) (byte : ℕ) → begins_within letters ≡ false → in_stretch letters byte ≡ true → may_begin letters (place_after letters place byte) ≡ false
 closed-after letters place byte runs h = may_begin-after letters place byte ∙ ap₂ (λ (a b : Bool). not (a && not (b && is_divider byte))) h runs
 
@@ -142,14 +142,14 @@ named-from Within run words h = refl
 
 -- ## What follows where nothing is held
 
--- where a run begins
+-- where a run begins, the rest is the filtered segment
 pub rest_of-start : (letters : Letters) (answers : Answering) (more : List ℕ) → rest_of letters answers [] false START more ≡ filtered_segment letters answers more
 rest_of-start letters answers more = ap (λ (t : List ℕ). t ++ with_later_runs letters (replaced_at letters answers) more) (sym (replaced_at-is letters answers (first_run letters more) (first_run-all letters more)))
 
 pub named_of-start : (letters : Letters) (more : List ℕ) → named_of letters [] false START more ≡ named_in_segment letters more
 named_of-start letters more = sym (named-from letters (first_run letters more) (map (word_in letters) (later_runs letters more)) (first_run-all letters more))
 
--- one byte of a plain front
+-- one byte of a plain front is written as it is
 pub plain-byte : (letters : Letters) (answers : Answering) (place : Place) (byte : ℕ) (more : List ℕ) (b : Bool) → is_byte_of letters byte ≡ b → not (may_begin letters place && eqb byte 95) ≡ true → rest_of letters answers [] false place (byte ∷ more) ≡ byte ∷ rest_of letters answers [] false (place_after letters place byte) more
 plain-byte letters answers place byte more true h next =
     let change = changed letters answers in

@@ -20,12 +20,12 @@ use Rattle.sym_filter.proofs.StreamLemmas.{take-part}
 use Rattle.sym_filter.proofs.TallyLemmas.{tally_with-append}
 use Rattle.sym_filter.proofs.WordLemmas.{named_of-nothing, rest_after-nothing}
 
--- ## Bytes that are gone through
+-- ## Bytes that are read
 
 pub IsRead-none : (letters : Letters) (escape : Escape) → IsRead false letters escape escape []
 IsRead-none letters escape = λ more. (refl, refl)
 
--- the same, as it is known whether they end a segment
+-- the same bytes, for equal letters, escapes and answers to whether they end a segment
 pub IsRead-as : (b c : Bool) (l m : Letters) (x y : Escape) (bytes : List ℕ) → b ≡ c → l ≡ m → IsRead b l x y bytes → IsRead c m x y bytes
 IsRead-as b c l m x y bytes e f h = subst (λ (a : Bool). IsRead a m x y bytes) e (subst (λ (k : Letters). IsRead b k x y bytes) f h)
 
@@ -47,7 +47,7 @@ pub IsRead-byte : (b : Bool) (letters : Letters) (escape : Escape) (byte : ℕ) 
 IsRead-byte true letters escape byte h = λ more. (ap (λ (t : List ℕ). byte ∷ t) (cond-true (cuts_after letters escape byte) [] _ h), cond-true (cuts_after letters escape byte) _ _ h)
 IsRead-byte false letters escape byte h = λ more. (ap (λ (t : List ℕ). byte ∷ t) (cond-false (cuts_after letters escape byte) [] _ h), cond-false (cuts_after letters escape byte) _ _ h)
 
--- a byte after the front of a text, and what is passed over after it
+-- a front of a text was read, and one more byte is
 pub IsRead-next : (b : Bool) (letters : Letters) (x y : Escape) (text : List ℕ) (i : ℕ) → i < length text → begins_within letters ≡ true → IsRead false letters x y (take i text) → ends_with y (get_or text i 0) ≡ b → IsRead b letters x (escape_after y (get_or text i 0)) (take (i + 1) text)
 IsRead-next b letters x y text i h begins read ends =
     let byte = get_or text i 0 in
@@ -58,7 +58,7 @@ pub IsRead-longer : (letters : Letters) (x y : Escape) (text : List ℕ) (i n : 
 IsRead-longer letters x y text i n read passed =
     subst (λ (t : List ℕ). IsRead false letters x y t) (sym (take-part text i n)) (IsRead-join false letters x y y (take i text) (take n (take (length text - i) (drop i text))) read passed)
 
--- where words are runs no text is cut
+-- where words are runs, no text is cut
 uncut : (letters : Letters) (escape : Escape) (byte : ℕ) → begins_within letters ≡ false → cuts_after letters escape byte ≡ false
 uncut letters escape byte runs = ap (λ (b : Bool). b && ends_with escape byte) runs
 
@@ -77,7 +77,7 @@ IsRead-whole letters escape text runs = λ more. (
   no-segment letters escape (text ++ more) runs ∙ sym (no-segment letters escape more runs),
 )
 
--- bytes with which no escape begins
+-- a byte with which no escape begins leaves none open
 outside-after : (byte : ℕ) (a b : Bool) → eqb byte 92 ≡ a → eqb byte 27 ≡ b → not (a || b) ≡ true → escape_after Outside byte ≡ Outside
 outside-after byte true b e f h = cc
 outside-after byte false true e f h = cc
@@ -98,7 +98,7 @@ IsRead-passed letters (byte ∷ bytes) h =
 
 -- ## A text
 
--- for all letters
+-- the filtered text by segments, for all letters
 pub filtered-is : (letters : Letters) (answers : Answering) (text : List ℕ) → filtered_at letters answers text
     ≡ filtered_segment letters answers (segment_from letters Outside text) ++ flat_map (filtered_segment letters answers) (segments_after letters Outside text)
 filtered-is Any answers text =
@@ -148,7 +148,7 @@ tally_of_text-end answers words escape =
     let names = named_of words.letters (held_of words) words.past words.place [] in
     tally_with-append (answers_at words.letters answers) words.tally names [] ∙ ap (tally_with (answers_at words.letters answers) words.tally) (append-nil names)
 
--- ## What is taken of it
+-- ## Pieces that are taken
 
 pub TakesText-join : (answers : Answering) (a b c : Words) (x y z : Escape) (piece next bytes more_bytes : List ℕ) → TakesText answers a b x y piece bytes → TakesText answers b c y z next more_bytes → TakesText answers a c x z (piece ++ next) (bytes ++ more_bytes)
 TakesText-join answers a b c x y z piece next bytes more_bytes h i = record {
@@ -181,7 +181,7 @@ TakesText-part answers old new x y piece bytes takes read =
       letters = takes.letters;
     }
 
--- what is left of one at its end
+-- what is left of a segment at its end
 pub segment-end : (answers : Answering) (old mid : Words) (piece bytes : List ℕ) → Takes answers old mid piece bytes → rest_after answers old piece ≡ bytes ++ rest_after answers mid []
 segment-end answers old mid piece bytes takes = ap (rest_after answers old) (sym (append-nil piece)) ∙ takes.text []
 
@@ -214,11 +214,11 @@ TakesText-end answers old mid new x y piece bytes takes read kept begins counted
       letters = same;
     }
 
--- the bytes of a piece that was taken in part
+-- what is written for a piece that was taken in part
 pub text-bytes : (answers : Answering) (old words : Words) (x y : Escape) (piece bytes : List ℕ) (n : ℕ) → TakesText answers old words x y (take n piece) bytes → rest_of_text answers old x piece ≡ bytes ++ rest_of_text answers words y (drop n piece)
 text-bytes answers old words x y piece bytes n h = ap (rest_of_text answers old x) (sym (take-append-drop n piece)) ∙ h.text (drop n piece)
 
--- what is to be written for a front begins what is to be written
+-- what is written for a front of a text is a beginning of what is written for the text
 pub front-begins : (b : Bool) (answers : Answering) (old : Words) (x y : Escape) (text : List ℕ) (n : ℕ) → IsRead b old.letters x y (take n text) → (b ≡ false → n ≡ length text) → (rest : List ℕ) × (rest_of_text answers old x text ≡ rest_after answers old (take n text) ++ rest)
 front-begins true answers old x y text n read whole =
     let letters = old.letters in

@@ -49,7 +49,7 @@ newlines-cons byte bytes = flat_map-cons newline_of byte bytes
 pub newlines-append : (bytes more : List ℕ) → newlines_in (bytes ++ more) ≡ newlines_in bytes ++ newlines_in more
 newlines-append bytes more = flat_map-append newline_of bytes more
 
--- a run has none
+-- a run has no newline
 pub newlines-run : (letters : Letters) (run : List ℕ) → list_all (is_byte_of letters) run ≡ true → newlines_in run ≡ []
 newlines-run letters [] h = refl
 newlines-run letters (byte ∷ run) h =
@@ -61,7 +61,7 @@ newlines-byte byte = newlines-cons byte [] ∙ append-nil (newline_of byte)
 
 -- ## Words
 
--- those among words that name symbols
+-- the words that are left, among words that name symbols
 abbrev lefts : Answering → List (List ℕ) → List Entry
 lefts answers [] = []
 lefts answers (word ∷ words) = cond (not (has_text answers word)) (left_word word ∷ []) []
@@ -83,9 +83,9 @@ left-none answers word h = left-is answers word ∙ ap (lefts answers) (named-fi
 pub left-empty : (answers : Answering) → left_of answers [] ≡ []
 left-empty answers = left-none answers [] refl
 
--- ## What is to come
+-- ## Entries that are still to come
 
--- a front of a run brings nothing after it
+-- the entries after a run don't depend on a front of it
 pub later-append : (letters : Letters) (answers : Answering) (run more : List ℕ) → list_all (is_byte_of letters) run ≡ true → later_entries letters answers (run ++ more) ≡ later_entries letters answers more
 later-append letters answers [] more h = refl
 later-append letters answers (byte ∷ run) more h =
@@ -103,7 +103,7 @@ entries-front letters answers place front more h begins begun long =
     ∙ ap (λ (t : List ℕ). left_of texts t ++ later_entries letters answers more) none
     ∙ ap (λ (t : List Entry). t ++ later_entries letters answers more) (left-empty texts)
 
--- a byte after the run ends it
+-- a byte that belongs to no run ends the run before it
 pub entries-ends : (letters : Letters) (answers : Answering) (run : List ℕ) (past : Bool) (place : Place) (byte : ℕ) (more : List ℕ) → list_all (is_byte_of letters) run ≡ true → is_byte_of letters byte ≡ false
     → entries_from letters answers run past place (byte ∷ more) ≡ entries_from letters answers run past place [] ++ (newline_of byte ++ entries_in_segment letters answers more)
 entries-ends letters answers run true place byte more h other = cond-false (is_byte_of letters byte) _ _ other
@@ -171,7 +171,7 @@ entries-end letters answers held dots false place h =
 pub entries-same : (letters : Letters) (answers : Answering) (words : Words) (more : List ℕ) → words.letters ≡ letters → entries_from letters answers (held_of words) words.past words.place more ≡ entries_after answers words more
 entries-same letters answers words more same = ap (λ (l : Letters). entries_from l answers (held_of words) words.past words.place more) (sym same)
 
--- a filter that holds nothing goes on with what follows
+-- a filter that holds nothing has the entries that follow still to come
 pub entries-nothing : (letters : Letters) (answers : Answering) (words : Words) (more : List ℕ) → words.letters ≡ letters → held_of words ≡ [] → words.past ≡ false → words.place ≡ START → entries_after answers words more ≡ entries_in_segment letters answers more
 entries-nothing letters answers words more same nothing past start =
     ap (λ (l : Letters). entries_from l answers (held_of words) words.past words.place more) same ∙ ap (λ (h : List ℕ). entries_from letters answers h words.past words.place more) nothing
@@ -198,7 +198,7 @@ TakesEntries-held answers old new part same past past' place held = record {
       ∙ entries-same letters answers new more same;
 }
 
--- a run is passed on from a part on
+-- a run is passed on from a part of it on
 pub TakesEntries-passes : (answers : Answering) (old new : Words) (part : List ℕ) → new.letters ≡ old.letters → old.past ≡ false → may_begin old.letters old.place ≡ true → new.past ≡ true → list_all (is_byte_of old.letters) part ≡ true → is_begun (held_of old ++ part) ≡ true → LONGEST_WORD < length (word_of (held_of old ++ part)) → TakesEntries answers old new part []
 TakesEntries-passes answers old new part same past may past' in_run begun long = record {
   all = λ more.
@@ -214,7 +214,7 @@ TakesEntries-passes answers old new part same past may past' in_run begun long =
       ∙ entries-same letters answers new more same;
 }
 
--- a run that is passed on to its end goes on
+-- a run that is passed on to its end continues
 pub TakesEntries-past : (answers : Answering) (old new : Words) (part : List ℕ) → new.letters ≡ old.letters → old.past ≡ true → new.past ≡ true → list_all (is_byte_of old.letters) part ≡ true → TakesEntries answers old new part (newlines_in part)
 TakesEntries-past answers old new part same past past' in_run = record {
   all = λ more.
@@ -226,7 +226,7 @@ TakesEntries-past answers old new part same past past' in_run = record {
       ∙ ap (λ (t : List Entry). t ++ entries_after answers new more) (sym (newlines-run letters part in_run));
 }
 
--- and ends at a byte that belongs to no run
+-- such a run ends at a byte that belongs to no run
 TakesEntries-past_end : (answers : Answering) (old new : Words) (byte : ℕ) → new.letters ≡ old.letters → old.past ≡ true → new.past ≡ false → new.place ≡ START → held_of new ≡ [] → is_byte_of old.letters byte ≡ false → TakesEntries answers old new (byte ∷ []) (newlines_in (byte ∷ []))
 TakesEntries-past_end answers old new byte same past past' start nothing other = record {
   all = λ more.
@@ -236,7 +236,7 @@ TakesEntries-past_end answers old new byte same past past' start nothing other =
       ∙ ap₂ (λ (a b : List Entry). a ++ b) (sym (newlines-byte byte)) (sym (entries-nothing letters answers new more same nothing past' start));
 }
 
--- it is the first of a text
+-- such a run ends at the first byte of a text
 pub past-ends-entries : (answers : Answering) (old new : Words) (text : List ℕ) (count : ℕ) → new.letters ≡ old.letters → old.past ≡ true → new.past ≡ false → new.place ≡ START → held_of new ≡ [] → 0 < length text → count ≡ 0 → is_byte_of old.letters (get_or text count 0) ≡ false → TakesEntries answers old new (take 1 text) (newlines_in (take 1 text))
 past-ends-entries answers old new text count same past past' start nothing some none other =
     let first : take 1 text ≡ get_or text 0 0 ∷ [] = take_more text 0 0 some in
@@ -255,7 +255,7 @@ TakesEntries-ends answers old new byte same other nothing past start = record {
       ∙ sym (append_assoc word (newlines_in (byte ∷ [])) (entries_after answers new more));
 }
 
--- which is the first of a text
+-- the byte after a run is the first of a text
 pub TakesEntries-first : (answers : Answering) (old new : Words) (text : List ℕ) (count : ℕ) (entries : List Entry) → new.letters ≡ old.letters → 0 < length text → count ≡ 0 → is_byte_of old.letters (get_or text count 0) ≡ false → held_of new ≡ [] → new.past ≡ false → new.place ≡ START
     → entries ≡ left_of (answers_at old.letters answers) (name_in old.letters old.place old.held.items) → TakesEntries answers old new (take 1 text) (entries ++ newlines_in (take 1 text))
 TakesEntries-first answers old new text count entries letters some none other nothing past holds left =
@@ -271,7 +271,7 @@ TakesEntries-join answers a b c piece next entries more_entries h i = record {
       ap (entries_after answers a) (append_assoc piece next more) ∙ h.all (next ++ more) ∙ ap (λ (t : List Entry). entries ++ t) (i.all more) ∙ sym (append_assoc entries more_entries (entries_after answers c more));
 }
 
--- a part of a run is held, or the run is passed on from it on
+-- a part of a run is held, or the run is passed on from that part on
 pub TakesEntries-hold : (answers : Answering) (old new : Words) (text out : List ℕ) (count : ℕ) (taken : Taken) (b : Bool) → new.letters ≡ old.letters → taken.stay ≡ b → count ≤ length text → list_all (is_byte_of old.letters) (take count text) ≡ true → is_begun (held_of old ++ take count text) ≡ true → old.past ≡ false → may_begin old.letters old.place ≡ true → new.place ≡ old.place → taken.count ≡ length (take count text) → taken.left ≡ 0 → (taken.stay ≡ false → (new.past ≡ false) × (held_of new ≡ held_of old ++ take count text)) → (taken.stay ≡ true → (new.past ≡ true) × (LONGEST_WORD < length (word_of (held_of old ++ take count text))))
     → (taken.left ≤ length out) × TakesEntries answers old new (take taken.count text) (left_at_end taken.left out ++ newlines_in (take taken.count text))
 TakesEntries-hold answers old new text out count taken b letters stay within in_run begun past begins place count_is none held passes =
@@ -330,7 +330,7 @@ left-present answers word front out kind count false h some has is all =
 pub entries-rest : (answers : Answering) (old words : Words) (piece : List ℕ) (entries : List Entry) (n : ℕ) → TakesEntries answers old words (take n piece) entries → entries_after answers old piece ≡ entries ++ entries_after answers words (drop n piece)
 entries-rest answers old words piece entries n h = ap (entries_after answers old) (sym (take-append-drop n piece)) ∙ h.all (drop n piece)
 
--- where no word is left
+-- no word is left
 pub none-left : (answers : Answering) (old new : Words) (piece out : List ℕ) (count : ℕ) → count ≡ 0 → TakesEntries answers old new piece (newlines_in piece) → (count ≤ length out) × TakesEntries answers old new piece (left_at_end count out ++ newlines_in piece)
 none-left answers old new piece out count none h =
     (omega (arith, none), subst (λ (n : ℕ). TakesEntries answers old new piece (left_at_end n out ++ newlines_in piece)) (sym none) h)

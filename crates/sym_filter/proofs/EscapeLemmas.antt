@@ -113,7 +113,7 @@ goes-on Sequence byte next more = last-goes (is_parameter byte) (is_letter byte)
 
 -- ## Bytes from the last backslash or ESC on
 
--- so much is read of an escape where these are the bytes
+-- these bytes are read as this much of an escape
 abbrev IsReadOf : (since : List ℕ) → Escape → Type 0
 IsReadOf since escape = (byte : ℕ) (more : List ℕ) → is_lead byte ≡ false → is_escape (since ++ byte ∷ more) ≡ remains escape (byte ∷ more)
 

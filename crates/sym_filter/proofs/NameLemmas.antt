@@ -12,14 +12,14 @@ use Rattle.sym_filter.specs.Runs.{word_of}
 use Rattle.sym_filter.proofs.RunLemmas.{is_dot}
 use Rattle.sym_filter.proofs.WordLemmas.{slice_from}
 
--- what comes after a front
+-- the bytes that come after a front
 pub after_front-at : (word : List ℕ) (at front : ℕ) → front ≡ front_length (take (length word - at) (drop at word)) → drop (at + front) word ≡ after_front (drop at word)
 after_front-at word at front is = sym (drop-drop front at word) ∙ ap (λ n. drop n (drop at word)) (is ∙ ap front_length (slice_from word at))
 
 mark-at : (place : Place) (word : List ℕ) (at front : ℕ) (b : Bool) → front ≡ front_length (take (length word - at) (drop at word)) → b ≡ is_mark place (take (length word - (at + front)) (drop (at + front) word)) → is_mark place (after_front (drop at word)) ≡ b
 mark-at place word at front b is marks = ap (is_mark place) (sym (slice_from word (at + front) ∙ after_front-at word at front is)) ∙ sym marks
 
--- a byte before the name
+-- a byte that comes before the name
 pub byte_before : (place : Place) (word : List ℕ) (at front : ℕ) (b : Bool) → at < length word → front ≡ front_length (take (length word - at) (drop at word)) → b ≡ is_mark place (take (length word - (at + front)) (drop (at + front) word)) → b ≡ false
     → from_mark place (drop at word) ≡ from_mark (place_after Within place (get_or word at 0)) (drop (at + 1) word)
 byte_before place word at front b inside is marks no_name =
@@ -38,17 +38,17 @@ nothing_left : (place : Place) (rest : List ℕ) → length rest ≡ 0 → from_
 nothing_left place [] h = refl
 nothing_left place (byte ∷ rest) h = absurd (omega arith)
 
--- there is none
+-- there is no name
 pub no_name : (place : Place) (word : List ℕ) (at : ℕ) → length word ≤ at → from_mark place (drop at word) ≡ drop at word
 no_name place word at past = nothing_left place (drop at word) (omega (arith, length-drop at word))
 
--- what comes before it
+-- the bytes that come before the name
 pub before_name : (place : Place) (word : List ℕ) (at : ℕ) → at ≤ length word → from_mark place word ≡ drop at word → before_mark place word ≡ take at word
 before_name place word at inside is =
     let size : length word - length (from_mark place word) ≡ at = omega (arith, ap length is, length-drop at word) in
     ap (λ n. take n word) size
 
--- both of what is held, which was read through slices
+-- the name in what is held, and the bytes before it, as slices give them
 pub name_of : (place : Place) (held word other : List ℕ) (at : ℕ) → word ≡ held → other ≡ held → from_mark place word ≡ drop at word → take (length other - at) (drop at other) ≡ from_mark place held
 name_of place held word other at same same' is =
     ap (λ (t : List ℕ). take (length t - at) (drop at t)) same' ∙ slice_from held at ∙ sym (ap (from_mark place) (sym same) ∙ is ∙ ap (drop at) same)
@@ -56,7 +56,7 @@ name_of place held word other at same same' is =
 pub front_of : (place : Place) (held word other : List ℕ) (at : ℕ) → word ≡ held → other ≡ held → before_mark place word ≡ take at word → take at other ≡ before_mark place held
 front_of place held word other at same same' is = ap (take at) same' ∙ sym (ap (before_mark place) (sym same) ∙ is ∙ ap (take at) same)
 
--- the end of a word without dots at its end has none either
+-- a word without dots at its end has none at the end of its name
 tail-word : (byte : ℕ) (bytes : List ℕ) (b : Bool) → cond b [] (byte ∷ word_of bytes) ≡ byte ∷ bytes → word_of bytes ≡ bytes
 tail-word byte bytes true h = cc
 tail-word byte bytes false h = ap (drop 1) h

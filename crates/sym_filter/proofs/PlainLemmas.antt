@@ -20,7 +20,7 @@ not_not : (b : Bool) → b ≡ not (not b)
 not_not true = refl
 not_not false = refl
 
--- a stretch with a byte more isn't empty
+-- a stretch that got one more byte isn't empty
 opens-begun : (letters : Letters) (stretch : Stretch) (byte : ℕ) → opens letters (stretch_after stretch byte) byte ≡ (begins_within letters && is_divider byte)
 opens-begun letters Empty byte = step (eqb byte 46)
   where
@@ -30,7 +30,7 @@ opens-begun letters Empty byte = step (eqb byte 46)
 opens-begun letters Section byte = refl
 opens-begun letters Other byte = refl
 
--- where a word may begin, by the byte before alone
+-- whether a word may begin at a place depends only on the byte before it
 pub may_begin-after : (letters : Letters) (place : Place) (byte : ℕ) → may_begin letters (place_after letters place byte) ≡ not (closes letters byte)
 may_begin-after letters place byte = step (in_stretch letters byte)
   where
@@ -49,7 +49,7 @@ pub place_of-none : (letters : Letters) (place : Place) (text : List ℕ) (i : �
 place_of-none letters place text zero h = refl
 place_of-none letters place text (suc i) h = absurd (omega arith)
 
--- after a byte of no stretch one begins
+-- a stretch begins after a byte that belongs to none
 pub place_of-start : (letters : Letters) (place : Place) (text : List ℕ) (i d : ℕ) → 0 < i → i ≤ length text → in_stretch letters (get_or text (i - 1) d) ≡ false → START ≡ place_of letters place (take i text)
 place_of-start letters place text i d some inside other =
     let at : i - 1 + 1 ≡ i = omega arith in
@@ -57,14 +57,14 @@ place_of-start letters place text i d some inside other =
 
 -- ## Plain fronts
 
--- a byte more
+-- a plain front with one more byte
 pub is_plain-more : (letters : Letters) (place : Place) (front : List ℕ) (byte : ℕ) → is_plain letters place front ≡ true → not (may_begin letters (place_of letters place front) && eqb byte 95) ≡ true → is_plain letters place (front ++ byte ∷ []) ≡ true
 is_plain-more letters place [] byte h next = and_from _ _ next refl
 is_plain-more letters place (first ∷ front) byte h next =
     let parts = and_parts (not (may_begin letters place && eqb first 95)) (is_plain letters (place_after letters place first) front) h in
     and_from _ _ parts.0 (is_plain-more letters (place_after letters place first) front byte parts.1 next)
 
--- the front of a text with its next byte
+-- the front of a text with the byte after it
 pub is_plain-take : (letters : Letters) (place : Place) (text : List ℕ) (i d : ℕ) → i < length text → is_plain letters place (take i text) ≡ true → not (may_begin letters (place_of letters place (take i text)) && eqb (get_or text i d) 95) ≡ true → is_plain letters place (take (i + 1) text) ≡ true
 is_plain-take letters place text i d h plain next = ap (is_plain letters place) (take_more text i d h) ∙ is_plain-more letters place (take i text) (get_or text i d) plain next
 
@@ -79,7 +79,7 @@ none-begins false = refl
 pub is_other : (begins : Bool) (byte : ℕ) → (byte ≡ 95 → ⊥) → not (begins && eqb byte 95) ≡ true
 is_other begins byte h = ap (λ (b : Bool). not (begins && b)) (ne_eqb byte 95 h) ∙ none-begins begins
 
--- bytes that are no '_' more
+-- a plain front with more bytes, none of them a '_'
 is_plain-others : (letters : Letters) (place : Place) (others : List ℕ) → list_all is_no_mark others ≡ true → is_plain letters place others ≡ true
 is_plain-others letters place [] h = refl
 is_plain-others letters place (byte ∷ others) h =

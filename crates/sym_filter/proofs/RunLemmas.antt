@@ -19,14 +19,14 @@ use Rattle.sym_filter.specs.declared.kinds.TheConstants.{LONGEST_WORD}
 abbrev pub is_dot : ℕ → Bool
 is_dot byte = eqb byte 46
 
--- a front of a run is a front of the first run
+-- a run at the front of a text is a front of the text's first run
 pub first_run-append : (letters : Letters) (run more : List ℕ) → list_all (is_byte_of letters) run ≡ true → first_run letters (run ++ more) ≡ run ++ first_run letters more
 first_run-append letters [] more h = refl
 first_run-append letters (byte ∷ run) more h =
     let parts = and_parts (is_byte_of letters byte) (list_all (is_byte_of letters) run) h in
     cond-true (is_byte_of letters byte) _ _ parts.0 ∙ ap (λ (t : List ℕ). byte ∷ t) (first_run-append letters run more parts.1)
 
--- and it changes nothing after it
+-- a run at the front of a text changes nothing after the first run
 pub with_later_runs-append : (letters : Letters) (change : List ℕ → List ℕ) (run more : List ℕ) → list_all (is_byte_of letters) run ≡ true → with_later_runs letters change (run ++ more) ≡ with_later_runs letters change more
 with_later_runs-append letters change [] more h = refl
 with_later_runs-append letters change (byte ∷ run) more h =
@@ -60,7 +60,7 @@ filter-step run rest false = refl
 pub filter-front : (run : List ℕ) (rest : List (List ℕ)) → cond (is_named run) (run ∷ rest) rest ≡ filter is_named (run ∷ []) ++ rest
 filter-front run rest = filter-step run rest (is_named run)
 
--- a word is what comes before the trailing dots
+-- a word is what its run has before the trailing dots
 pub word_of-dots : (dots : List ℕ) → list_all is_dot dots ≡ true → word_of dots ≡ []
 word_of-dots [] h = refl
 word_of-dots (dot ∷ dots) h = cond-true (list_all is_dot (dot ∷ dots)) _ _ h
@@ -113,7 +113,7 @@ pub after-held : (held : List ℕ) (dots : ℕ) → word_of held ≡ held → do
 after-held held dots h =
     ap (λ (w : List ℕ). drop (length w) (held ++ replicate dots 46)) (word_of-held held dots h) ∙ drop-append_seam held (replicate dots 46)
 
--- a part that is not dots alone stays after a run, up to its last byte that is no dot
+-- a part that isn't dots alone is in the word after the run, up to its last byte that is no dot
 pub word_of-part : (run part : List ℕ) → list_all is_dot part ≡ false → word_of (run ++ part) ≡ run ++ word_of part
 word_of-part [] part h = refl
 word_of-part (byte ∷ run) part h =
@@ -134,7 +134,7 @@ word_of-word_step byte bytes false h same =
     let other : list_all is_dot (byte ∷ word_of bytes) ≡ false = ap (λ (b : Bool). is_dot byte && b) (list_all-word_of bytes) ∙ h in
     cond-false _ _ _ other ∙ ap (λ (t : List ℕ). byte ∷ t) same
 
--- a word is its own word
+-- the word of a word is the word
 pub word_of-word : (run : List ℕ) → word_of (word_of run) ≡ word_of run
 word_of-word [] = refl
 word_of-word (byte ∷ bytes) = word_of-word_step byte bytes (list_all is_dot (byte ∷ bytes)) refl (word_of-word bytes)
@@ -189,7 +189,7 @@ kind_of-other byte more other = kind_of-step byte (word_of more) (list_all is_do
 
 -- a run that is passed on
 
--- the text of a word is its symbol's
+-- the text of a word is that of its symbol
 pub text_for-named : (answers : Answering) (word : List ℕ) (kind : Kind) (answer : Result (List ℕ) Refusal) → kind_of word ≡ Some kind → answers kind (symbol_of kind word) ≡ answer → text_for answers word ≡ result_ok answer
 unfolding text_for
 text_for-named answers word kind answer h is = rw (h, is) refl

@@ -45,7 +45,7 @@ Consumes-keeps (Some xs') None c xs h i = absurd h
 Consumes-keeps (Some xs') (Some bs) None xs h i = absurd i
 Consumes-keeps (Some xs') (Some bs) (Some cs) xs h i = h ∙ ap (λ (t : List ℕ). xs ++ t) (sym i)
 
--- a write from a place on takes what is there
+-- a list was written up to a place, and more of it from there
 pub Appends-part : (a b c : Option (List ℕ)) (xs : List ℕ) (i n : ℕ) → Appends a b (take i xs) → Appends b c (take n (take (length xs - i) (drop i xs))) → Appends a c (take (i + n) xs)
 Appends-part a b c xs i n h j =
     let rest : take (length xs - i) (drop i xs) ≡ drop i xs = ap (λ k. take k (drop i xs)) (sym (length-drop i xs)) ∙ take-length (drop i xs) in
@@ -66,7 +66,7 @@ pub IfErr-from_and : {T E : Type 0} → (r : Result T E) (Q P : E → Type 0) �
 IfErr-from_and (Ok x) Q P h f = absurd h
 IfErr-from_and (Err y) Q P h f = f y h
 
--- a piece more of the text is known
+-- the whole text, once one more piece of it is taken
 pub next-text : (whole part next : List ℕ → List ℕ) (text piece gone more_gone : List ℕ) → ((more : List ℕ) → whole (text ++ more) ≡ gone ++ part more) → ((more : List ℕ) → part (piece ++ more) ≡ more_gone ++ next more) → (more : List ℕ) → whole ((text ++ piece) ++ more) ≡ (gone ++ more_gone) ++ next more
 next-text whole part next text piece gone more_gone so_far taken more =
     ap whole (append_assoc text piece more) ∙ so_far (piece ++ more) ∙ ap (λ (t : List ℕ). gone ++ t) (taken more) ∙ sym (append_assoc gone more_gone (next more))
@@ -98,11 +98,11 @@ pub dots-step : (dots dots' left left' count : ℕ) (bytes piece : List ℕ) →
 dots-step dots dots' left left' count bytes piece room fewer more same whole =
     let short : length piece ≡ min count (length bytes) = ap length (sym same) ∙ length-take count bytes in omega arith
 
--- few bytes still wait
+-- fewer bytes than are read at a time still wait
 pub few-still : (out out' : List ℕ) → out' ≡ out → length out < READ_SIZE → length out' < READ_SIZE
 few-still out out' same few = subst (λ (t : List ℕ). length t < READ_SIZE) (sym same) few
 
--- bytes that are put after those that wait
+-- bytes are put after those that wait
 pub Puts-push : (known : Option (List ℕ)) (out out' bytes : List ℕ) → out' ≡ out ++ bytes → Puts known known out out' bytes
 Puts-push known out out' bytes pushed = record { gone = []; writes = Appends-none known; keeps = sym pushed }
 
@@ -119,11 +119,11 @@ Puts-join a b c out mid out' bytes more h i = record {
 pub Puts-same : (a b : Option (List ℕ)) (out out' bytes same : List ℕ) → bytes ≡ same → Puts a b out out' bytes → Puts a b out out' same
 Puts-same a b out out' bytes same e h = subst (λ (t : List ℕ). Puts a b out out' t) e h
 
--- where nothing waits before or after, they went out
+-- where no byte waits before and after, all bytes went out
 pub Puts-all : (a b : Option (List ℕ)) (bytes : List ℕ) → Puts a b [] [] bytes → Appends a b bytes
 Puts-all a b bytes h = subst (λ (t : List ℕ). Appends a b t) (sym (h.keeps ∙ append-nil h.gone)) h.writes
 
--- what went out is a beginning
+-- the bytes that went out are a beginning
 pub PutsFront-of : (a b : Option (List ℕ)) (out out' bytes more : List ℕ) → Puts a b out out' bytes → PutsFront a b out (bytes ++ more)
 PutsFront-of a b out out' bytes more h = record {
   gone = h.gone;
@@ -131,7 +131,7 @@ PutsFront-of a b out out' bytes more h = record {
   begins = (out' ++ more, sym (append_assoc out bytes more) ∙ ap (λ (t : List ℕ). t ++ more) h.keeps ∙ append_assoc h.gone out' more);
 }
 
--- where none went out
+-- no byte went out
 pub PutsFront-none : (known : Option (List ℕ)) (out bytes : List ℕ) → PutsFront known known out bytes
 PutsFront-none known out bytes = record { gone = []; writes = Appends-none known; begins = (out ++ bytes, refl) }
 
@@ -152,7 +152,7 @@ PutsFront-join a b c out mid bytes more h i = record {
 pub PutsFront-same : (a b : Option (List ℕ)) (out bytes same : List ℕ) → bytes ≡ same → PutsFront a b out bytes → PutsFront a b out same
 PutsFront-same a b out bytes same e h = subst (λ (t : List ℕ). PutsFront a b out t) e h
 
--- dots that are put one by one
+-- dots are put one by one
 dots-split : (n dots : ℕ) → n < dots → replicate (n + 1) 46 ++ replicate (dots - n - 1) 46 ≡ replicate {A = ℕ} dots 46
 dots-split n dots h =
     let count : n + 1 + (dots - n - 1) ≡ dots = omega arith in
@@ -176,7 +176,7 @@ dots-none a b out mid n dots h fewer =
     let count : n + (dots - n) ≡ dots = omega arith in
     PutsFront-same a b out (replicate n 46 ++ rest) (replicate dots 46) (replicate-append-replicate n (dots - n) 46 ∙ ap (λ (k : ℕ). replicate {A = ℕ} k 46) count) (PutsFront-of a b out mid (replicate n 46) rest h)
 
--- what stays is put after what was put
+-- bytes that stay are put after the dots
 pub stays-more : (a b c : Option (List ℕ)) (out mid mid' out' dots bytes : List ℕ) (stay : Bool) → stay ≡ true → Puts a b out mid dots → mid' ≡ mid ++ bytes → Puts b c mid' out' [] → Puts a c out out' (dots ++ cond stay bytes [])
 stays-more a b c out mid mid' out' dots bytes stay e h pushed i =
     let all = Puts-join a b b out mid mid' dots bytes h (Puts-push b mid mid' bytes pushed) in
@@ -187,7 +187,7 @@ stays-front a b c out mid mid' dots bytes stay e h pushed i =
     let all = Puts-join a b b out mid mid' dots bytes h (Puts-push b mid mid' bytes pushed) in
     PutsFront-same a c out ((dots ++ bytes) ++ []) (dots ++ cond stay bytes []) (append-nil (dots ++ bytes) ∙ ap (λ (t : List ℕ). dots ++ t) (sym (cond-true stay bytes [] e))) (PutsFront-join a b c out mid' (dots ++ bytes) [] all i)
 
--- the bytes of a piece that was taken in part
+-- what is written for a piece that was taken in part
 pub rest-bytes : (answers : Answering) (old words : Words) (piece bytes : List ℕ) (n : ℕ) → Takes answers old words (take n piece) bytes → rest_after answers old piece ≡ bytes ++ rest_after answers words (drop n piece)
 rest-bytes answers old words piece bytes n h = ap (rest_after answers old) (sym (take-append-drop n piece)) ∙ h.text (drop n piece)
 

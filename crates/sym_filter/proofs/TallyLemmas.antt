@@ -35,7 +35,7 @@ pub tally_with_word-named : (answers : Answering) (tally : Tally) (word : List �
 tally_with_word-named answers tally word b named h fits =
     ap (tally_with answers tally) (cond-true (is_named word) _ _ named) ∙ tally_with-step answers tally word b h fits
 
--- and no other
+-- other words aren't counted
 pub tally_with_word-unnamed : (answers : Answering) (tally : Tally) (word : List ℕ) → is_named word ≡ false → IsTally tally → tally_with_word answers tally word ≡ tally
 tally_with_word-unnamed answers tally word named fits =
     ap (tally_with answers tally) (cond-false (is_named word) _ _ named) ∙ tally_with-none answers tally fits

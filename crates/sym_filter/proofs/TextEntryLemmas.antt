@@ -43,7 +43,7 @@ rest-start letters answers words more same nothing past start =
 pub rest-end : (answers : Answering) (words : Words) (escape : Escape) → entries_in_rest answers words escape [] ≡ entries_after answers words []
 rest-end answers words escape = append-nil (entries_after answers words [])
 
--- ## What is taken of it
+-- ## Pieces that are taken
 
 pub TakesTextEntries-join : (answers : Answering) (a b c : Words) (x y z : Escape) (piece next : List ℕ) (entries more_entries : List Entry) → TakesTextEntries answers a b x y piece entries → TakesTextEntries answers b c y z next more_entries → TakesTextEntries answers a c x z (piece ++ next) (entries ++ more_entries)
 TakesTextEntries-join answers a b c x y z piece next entries more_entries h i = record {
@@ -64,7 +64,7 @@ TakesTextEntries-part answers old new x y piece entries takes same read = record
       ∙ ap (λ (l : Letters). entries ++ (entries_after answers new (segment_from l y more) ++ flat_map (entries_in_segment l answers) (segments_after l y more))) (sym same);
 }
 
--- what is left of one at its end
+-- the entries that are left of a segment at its end
 pub entries-segment-end : (answers : Answering) (old mid : Words) (piece : List ℕ) (entries : List Entry) → TakesEntries answers old mid piece entries → entries_after answers old piece ≡ entries ++ entries_after answers mid []
 entries-segment-end answers old mid piece entries takes = ap (entries_after answers old) (sym (append-nil piece)) ∙ takes.all []
 
@@ -88,7 +88,7 @@ TakesTextEntries-end answers old mid new x y piece entries takes kept read same 
 pub text-entries : (answers : Answering) (old words : Words) (x y : Escape) (piece : List ℕ) (entries : List Entry) (n : ℕ) → TakesTextEntries answers old words x y (take n piece) entries → entries_in_rest answers old x piece ≡ entries ++ entries_in_rest answers words y (drop n piece)
 text-entries answers old words x y piece entries n h = ap (entries_in_rest answers old x) (sym (take-append-drop n piece)) ∙ h.all (drop n piece)
 
--- those of a front begin those that are to come
+-- the entries of a front of a text are a beginning of the text's entries
 pub entries-begin : (b : Bool) (answers : Answering) (old : Words) (x y : Escape) (text : List ℕ) (n : ℕ) → IsRead b old.letters x y (take n text) → (b ≡ false → n ≡ length text) → (rest : List Entry) × (entries_in_rest answers old x text ≡ entries_after answers old (take n text) ++ rest)
 entries-begin true answers old x y text n read whole =
     let letters = old.letters in
@@ -106,7 +106,7 @@ entries-begin false answers old x y text n read whole =
           ∙ ap₂ (λ (a : List ℕ) (b : List (List ℕ)). entries_after answers old a ++ flat_map (entries_in_segment letters answers) b) (r.0 ∙ append-nil (take n text)) r.1,
     )
 
--- a piece more of the text is known
+-- all entries, once one more piece of the text is taken
 pub next-entries : (whole part next : List ℕ → List Entry) (text piece : List ℕ) (gone more_gone : List Entry) → ((more : List ℕ) → whole (text ++ more) ≡ gone ++ part more) → ((more : List ℕ) → part (piece ++ more) ≡ more_gone ++ next more) → (more : List ℕ) → whole ((text ++ piece) ++ more) ≡ (gone ++ more_gone) ++ next more
 next-entries whole part next text piece gone more_gone so_far taken more =
     ap whole (append_assoc text piece more) ∙ so_far (piece ++ more) ∙ ap (λ (t : List Entry). gone ++ t) (taken more) ∙ sym (append_assoc gone more_gone (next more))

@@ -1,4 +1,4 @@
--- What the tries for a word depend on, and how many bytes they have.
+-- The text by tries depends only on the texts for the words that are tried, and these have few bytes together.
 use Rattle.std.proofs.Common.{◌≡◌, ℕ, ◌+◌, ◌≤◌, Bool, true, false, cond, eqb, ◌&&◌, ◌||◌, List, [], ◌∷◌, ◌++◌, length, map, refl, ap, ap₂, arith, Option, Some, None}
 use Rattle.std.specs.List.{list_all, list_any}
 use Rattle.std.specs.Prelude.{is_some, sum_by, unwrap_or}

@@ -1,4 +1,4 @@
--- The text that a word which begins within a run has by its tries.
+-- The tries for a word that begins within a run, and the text that they give it.
 use Rattle.std.proofs.Common.{◌≡◌, ℕ, ◌+◌, ◌-◌, ◌<◌, ◌≤◌, Bool, true, false, cond, eqb, leb, ◌&&◌, ◌||◌, List, [], ◌∷◌, ◌++◌, length, take, drop, get_or, refl, sym, ap, ap₂, ◌∙◌, arith, Option, Some, None, append_assoc}
 use Rattle.std.specs.List.{list_all, list_any, starts_with}
 use Rattle.std.specs.Prelude.{codes, is_some, nat_eq, unwrap_or}
@@ -45,7 +45,7 @@ pub word-of_symbol : (word : List ℕ) (kind : Kind) → kind_of word ≡ Some k
 word-of_symbol word kind e =
     word-chosen word kind (leb (length word) LONGEST_WORD) (starts_with nat_eq word (codes "_Z")) (starts_with nat_eq word (codes "_R")) (starts_with nat_eq word (codes "__Z")) (starts_with nat_eq word (codes "__R")) refl refl e
 
--- ## What is answered is the text by tries
+-- ## The answer is the text by tries
 
 own-none : (first own parts : Option (List ℕ)) → either first (either own parts) ≡ None → own ≡ None
 own-none None None parts e = refl
@@ -86,7 +86,7 @@ first-read : (rest : List ℕ) (first others : Option (List ℕ)) → is_some fi
 first-read rest None others h = cc
 first-read rest (Some text) others h = (refl, refl)
 
--- the front is read
+-- the front has a text
 pub front-read : (answers : Answering) (word front : List ℕ) (end : ℕ) → front ≡ trimmed word → take end word ≡ trimmed word → end ≤ length word → is_some (text_for answers front) ≡ true
     → (unwrap_or (text_of_tries answers word) [] ≡ unwrap_or (text_for answers front) [] ++ drop end word) × (is_some (text_of_tries answers word) ≡ true)
 unfolding text_of_tries
@@ -95,17 +95,12 @@ front-read answers word front end is same inside h =
     let read = first-read (drop (length (trimmed word)) word) (text_for answers (trimmed word)) (either (text_for answers word) (text_of_parts answers word)) (ap (λ (w : List ℕ). is_some (text_for answers w)) (sym is) ∙ h) in
     (read.0 ∙ ap₂ (λ (w : List ℕ) (n : ℕ). unwrap_or (text_for answers w) [] ++ drop n word) (sym is) size, read.1)
 
--- it isn't, and what else is tried is the answer
+-- the front has no text, so the other tries give the answer
 pub front-unread : (answers : Answering) (word front : List ℕ) → front ≡ trimmed word → is_some (text_for answers front) ≡ false → text_of_tries answers word ≡ either (text_for answers word) (text_of_parts answers word)
 unfolding text_of_tries
 front-unread answers word front is h =
     let none : text_for answers (trimmed word) ≡ None = ap (text_for answers) (sym is) ∙ nothing_there (text_for answers front) h in
     ap (λ (o : Option (List ℕ)). either (followed_by (drop (length (trimmed word)) word) o) (either (text_for answers word) (text_of_parts answers word))) none
-
--- where the front is the word
-pub front-whole : (answers : Answering) (word front : List ℕ) → front ≡ trimmed word → front ≡ word → is_some (text_for answers front) ≡ false → text_of_tries answers word ≡ text_of_parts answers word
-front-whole answers word front is same h =
-    front-unread answers word front is h ∙ ap (λ (o : Option (List ℕ)). either o (text_of_parts answers word)) (nothing_there (text_for answers word) (ap (λ (w : List ℕ). is_some (text_for answers w)) (sym same) ∙ h))
 
 own-read : (own parts : Option (List ℕ)) → is_some own ≡ true → either own parts ≡ own
 own-read None parts h = cc
@@ -125,7 +120,7 @@ either-twice : (o other : Option (List ℕ)) → either o (either o other) ≡ e
 either-twice None other = refl
 either-twice (Some text) other = refl
 
--- where nothing is left out at the word's end, its first two tries are one
+-- the front is the whole word, so the first two tries are one
 pub whole-first : (answers : Answering) (word : List ℕ) → trimmed word ≡ word → text_of_tries answers word ≡ either (text_for answers word) (text_of_parts answers word)
 unfolding text_of_tries
 whole-first answers word same =
@@ -135,11 +130,11 @@ whole-first answers word same =
     ∙ ap (λ (o : Option (List ℕ)). either o later) (followed_by-nothing (text_for answers word))
     ∙ either-twice (text_for answers word) (text_of_parts answers word)
 
--- what was appended for a try that has no text
+-- nothing was appended for a try that has no text
 pub nothing-appended : (out out' : List ℕ) (o : Option (List ℕ)) → out' ≡ out ++ unwrap_or o [] → is_some o ≡ false → out' ≡ out
 nothing-appended out out' o e h = e ∙ ap (λ (p : Option (List ℕ)). out ++ unwrap_or p []) (nothing_there o h) ∙ append-nil out
 
--- what was appended in two parts
+-- two parts were appended, one after the other
 pub more-pushed : (out mid new a b : List ℕ) → new ≡ mid ++ b → mid ≡ out ++ a → new ≡ out ++ (a ++ b)
 more-pushed out mid new a b e f = e ∙ ap (λ (t : List ℕ). t ++ b) f ∙ append_assoc out a b
 
@@ -149,7 +144,7 @@ two-parts out mid new a b part text e f g h = more-pushed out mid new a b e f �
 pub then-pushed : (out mid new : List ℕ) (first other : Option (List ℕ)) → new ≡ mid ++ unwrap_or other [] → mid ≡ out ++ unwrap_or first [] → is_some first ≡ false → new ≡ out ++ unwrap_or other []
 then-pushed out mid new first other e f none = e ∙ ap (λ (t : List ℕ). t ++ unwrap_or other []) (nothing-appended out mid first f none)
 
--- ## The end of a word that is left out first
+-- ## A word without its last bytes
 
 abbrev pub is_left_out : ℕ → Bool
 is_left_out byte = eqb byte 46 || leb 128 byte
@@ -283,7 +278,7 @@ pub cut-back : (out bytes : List ℕ) → take (length out) (out ++ bytes) ≡ o
 cut-back [] bytes = refl
 cut-back (byte ∷ out) bytes = ap (λ (t : List ℕ). byte ∷ t) (cut-back out bytes)
 
--- a part more
+-- one more part is written
 pub parts-more : (answers : Answering) (word rest : List ℕ) (at count : ℕ) (bytes more : List ℕ) → with_runs Ascii (replaced answers) word ≡ bytes ++ with_runs Ascii (replaced answers) (drop at word) → rest ≡ drop at word
     → with_runs Ascii (replaced answers) rest ≡ more ++ with_runs Ascii (replaced answers) (drop count rest) → with_runs Ascii (replaced answers) word ≡ (bytes ++ more) ++ with_runs Ascii (replaced answers) (drop (at + count) word)
 parts-more answers word rest at count bytes more so_far is next =
@@ -302,7 +297,7 @@ texts-more answers word rest at count some here so_far is next =
     so_far ∙ ap (λ (b : Bool). some || b) (ap (λ (t : List ℕ). list_any (has_text answers) (runs_of Ascii t)) (sym is) ∙ next ∙ ap (λ (t : List ℕ). here || list_any (has_text answers) (runs_of Ascii t)) left)
     ∙ or-more some here (list_any (has_text answers) (runs_of Ascii (drop (at + count) word)))
 
--- all parts were passed
+-- all parts are written
 pub parts-end : (answers : Answering) (word : List ℕ) (at : ℕ) (bytes : List ℕ) → at ≡ length word → with_runs Ascii (replaced answers) word ≡ bytes ++ with_runs Ascii (replaced answers) (drop at word) → with_runs Ascii (replaced answers) word ≡ bytes
 parts-end answers word at bytes e so_far =
     so_far ∙ ap (λ (t : List ℕ). bytes ++ t) (ap (with_runs Ascii (replaced answers)) (drop-whole word at e) ∙ no_runs answers) ∙ append-nil bytes

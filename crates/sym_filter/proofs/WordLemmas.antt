@@ -31,14 +31,14 @@ slice_from xs k = ap (λ n. take n (drop k xs)) (sym (length-drop k xs)) ∙ tak
 
 -- ## A run from its word on
 
--- it is changed from there
+-- a run is changed from its word on
 begun-changed : (letters : Letters) (answers : Answering) (place : Place) (run : List ℕ) → may_begin letters place ≡ true → is_begun run ≡ true → with_word letters (changed letters answers) place run ≡ changed letters answers place run
 begun-changed letters answers place run begins begun = with_word-begun letters (changed letters answers) place run begins begun (changed-nothing letters answers place)
 
 pub begun-named : (letters : Letters) (place : Place) (run : List ℕ) → may_begin letters place ≡ true → is_begun run ≡ true → from_word letters (named_in letters) place run ≡ named_in letters place run
 begun-named letters place run begins begun = from_word-begun letters (named_in letters) place run begins begun (named-nothing letters place)
 
--- a run that is too long, however it goes on, is passed on to its end
+-- a run whose word is too long already has too long a word, however it continues
 pub too_far : (run rest : List ℕ) → LONGEST_WORD < length (word_of run) → fits (word_of (run ++ rest)) ≡ false
 too_far run rest long = lt-leb (length (word_of (run ++ rest))) LONGEST_WORD (omega (arith, word_of-longer run rest))
 
@@ -58,7 +58,7 @@ named_of-front letters place front more h begins begun long =
     ap₂ (λ (a : List ℕ) (b : List (List ℕ)). filter is_named (from_word letters (named_in letters) place a ∷ map (word_in letters) b)) (first_run-append letters front more h) (later_runs-append letters front more h)
     ∙ ap (λ (t : List ℕ). filter is_named (t ∷ map (word_in letters) (later_runs letters more))) none ∙ named-first [] (map (word_in letters) (later_runs letters more)) refl
 
--- a byte after the run ends it
+-- a byte that belongs to no run ends the run before it
 pub runs-end : (letters : Letters) (run : List ℕ) (byte : ℕ) (more : List ℕ) → list_all (is_byte_of letters) run ≡ true → is_byte_of letters byte ≡ false → first_run letters (run ++ (byte ∷ more)) ≡ first_run letters (run ++ [])
 runs-end letters run byte more h other =
     first_run-append letters run (byte ∷ more) h ∙ ap (λ t. run ++ t) (cond-false (is_byte_of letters byte) _ _ other) ∙ sym (first_run-append letters run [] h)
@@ -131,7 +131,7 @@ rest_of-end letters answers held dots true place h = nothing_held letters answer
 rest_of-end letters answers held dots false place h =
     run_end letters answers place (held ++ replicate dots 46) (list_all-held letters held dots h.of_run) ∙ held-end letters answers held dots place (may_begin letters place) h refl
 
--- a word that is held, counted
+-- a held word that names no symbol isn't counted
 pub counts-unnamed : (answers : Answering) (tally : Tally) (word : List ℕ) → IsTally tally → word_of word ≡ word → kind_of word ≡ None → tally ≡ tally_with_word answers tally word
 unfolding is_named
 counts-unnamed answers tally word fits h none =
@@ -142,7 +142,7 @@ unfolding is_named
 counts-named answers tally new word kind b fits h some text counted =
     counted ∙ sym (tally_with_word-named answers tally word b (ap (λ (w : List ℕ). is_some (kind_of w)) h ∙ ap is_some some) (ap (λ (w : List ℕ). is_some (text_for answers w)) h ∙ sym text) fits)
 
--- nothing counts nothing
+-- where nothing is held, no word is counted
 pub names-nothing : (letters : Letters) (held : List ℕ) (dots : ℕ) (place : Place) → (held ≡ []) × (dots ≡ 0) → [] ≡ filter is_named (name_in letters place held ∷ [])
 names-nothing letters held dots place nothing =
     sym (ap (λ (t : List ℕ). filter is_named (name_in letters place t ∷ [])) nothing.0 ∙ ap (λ (t : List ℕ). filter is_named (t ∷ [])) (name-nothing letters place) ∙ named-first [] [] refl)
@@ -164,7 +164,7 @@ tally-end letters answers tally held dots past place h = ap (tally_with answers 
 
 -- ## What is taken
 
--- a filter that holds nothing goes on with what follows
+-- a filter that holds nothing continues with the text that follows
 pub rest_after-nothing : (letters : Letters) (answers : Answering) (words : Words) (more : List ℕ) → words.letters ≡ letters → held_of words ≡ [] → words.past ≡ false → words.place ≡ START → rest_after answers words more ≡ filtered_segment letters answers more
 rest_after-nothing letters answers words more same nothing past start =
     ap (λ (l : Letters). rest_of l answers (held_of words) words.past words.place more) same ∙ ap (λ (h : List ℕ). rest_of letters answers h words.past words.place more) nothing
@@ -175,7 +175,7 @@ named_of-nothing letters words more same nothing past start =
     ap (λ (l : Letters). named_of l (held_of words) words.past words.place more) same ∙ ap (λ (h : List ℕ). named_of letters h words.past words.place more) nothing
     ∙ ap₂ (λ (p : Bool) (b : Place). named_of letters [] p b more) past start ∙ named_of-start letters more
 
--- it goes on with the letters that it had
+-- a filter keeps its letters
 pub rest_after-same : (letters : Letters) (answers : Answering) (words : Words) (more : List ℕ) → words.letters ≡ letters → rest_of letters answers (held_of words) words.past words.place more ≡ rest_after answers words more
 rest_after-same letters answers words more same = ap (λ (l : Letters). rest_of l answers (held_of words) words.past words.place more) (sym same)
 
@@ -219,7 +219,7 @@ pub some_bytes : (run : List ℕ) → LONGEST_WORD < length (word_of run) → 0 
 some_bytes [] long = absurd (omega arith)
 some_bytes (byte ∷ run) long = omega arith
 
--- a run is passed on from a part on
+-- a run is passed on from a part of it on
 pub Takes-passes : (answers : Answering) (old new : Words) (part : List ℕ) → new.letters ≡ old.letters → old.past ≡ false → may_begin old.letters old.place ≡ true → new.past ≡ true → list_all (is_byte_of old.letters) part ≡ true → is_begun (held_of old ++ part) ≡ true → LONGEST_WORD < length (word_of (held_of old ++ part)) → new.tally ≡ old.tally → new.dots ≤ old.dots + length part → Takes answers old new part (old.held.items ++ (replicate old.dots 46 ++ part))
 Takes-passes answers old new part same past may past' in_run begun long counted dots =
     let letters = old.letters in
@@ -241,7 +241,7 @@ Takes-passes answers old new part same past may past' in_run begun long counted 
       letters = same;
     }
 
--- a run that is passed on to its end goes on
+-- a run that is passed on to its end continues
 pub Takes-past : (answers : Answering) (old new : Words) (part : List ℕ) → new.letters ≡ old.letters → old.past ≡ true → new.past ≡ true → list_all (is_byte_of old.letters) part ≡ true → new.tally ≡ old.tally → new.dots ≡ old.dots → Takes answers old new part part
 Takes-past answers old new part same past past' in_run counted dots =
     let letters = old.letters in
@@ -258,7 +258,7 @@ Takes-past answers old new part same past past' in_run counted dots =
       letters = same;
     }
 
--- and ends at a byte that belongs to no run
+-- such a run ends at a byte that belongs to no run
 pub Takes-past_end : (answers : Answering) (old new : Words) (byte : ℕ) → new.letters ≡ old.letters → old.past ≡ true → new.past ≡ false → new.place ≡ START → held_of new ≡ [] → is_byte_of old.letters byte ≡ false → new.tally ≡ old.tally → new.dots ≡ old.dots → Takes answers old new (byte ∷ []) (byte ∷ [])
 Takes-past_end answers old new byte same past past' start nothing other counted dots =
     let letters = old.letters in
@@ -274,7 +274,7 @@ Takes-past_end answers old new byte same past past' start nothing other counted 
       letters = same;
     }
 
--- it is the first of a text
+-- such a run ends at the first byte of a text
 pub past-ends : (answers : Answering) (old new : Words) (text : List ℕ) (count : ℕ) → new.letters ≡ old.letters → old.past ≡ true → new.past ≡ false → new.place ≡ START → held_of new ≡ [] → 0 < length text → count ≡ 0 → is_byte_of old.letters (get_or text count 0) ≡ false → new.tally ≡ old.tally → new.dots ≡ old.dots → Takes answers old new (take 1 text) (take 1 text)
 past-ends answers old new text count same past past' start nothing some none other counted dots =
     let first : take 1 text ≡ get_or text 0 0 ∷ [] = take_more text 0 0 some in
@@ -311,7 +311,7 @@ Takes-join answers a b c piece next bytes more_bytes h i = record {
   letters = i.letters ∙ h.letters;
 }
 
--- nothing is held of a run that is passed on
+-- nothing is held while a run is passed on
 pub held_of-past : (words : Words) → words.past ≡ true → held_of words ≡ []
 held_of-past words past =
     let nothing = words.is_held.past_holds_nothing past in
@@ -328,7 +328,7 @@ no_items (x ∷ xs) n h e = let zero : n ≡ 0 = eqb-true n 0 e in absurd (omega
 pub has_items : (xs : List ℕ) (n : ℕ) → n ≡ length xs → eqb n 0 ≡ false → xs ≡ [] → ⊥
 has_items xs n h e nothing = let none : eqb n 0 ≡ true = ap (λ k. eqb k 0) (h ∙ ap length nothing) in true≢false (sym none ∙ e)
 
--- what is held of a run with a part more: its word, and dots after
+-- what is held of a run and one more part of it: the word, and the dots after that
 front_in_run : (letters : Letters) (part : List ℕ) (end : ℕ) → list_all (is_byte_of letters) part ≡ true → take end part ≡ word_of part → list_all (is_byte_of letters) (take end part) ≡ true
 front_in_run letters part end h word =
     let whole : list_all (is_byte_of letters) (word_of part ++ replicate (length part - length (word_of part)) 46) ≡ true = ap (list_all (is_byte_of letters)) (sym (word_and_dots part)) ∙ h in
@@ -391,7 +391,7 @@ long-part held part dots end word some within long =
     let size = word_length part end word within in
     omega (arith, ap length (word_of-part front part (not_dots part end word some within)), length-append front (word_of part), length-append held (replicate dots 46), length-replicate {A = ℕ} dots 46)
 
--- a byte after a run is the first of a text
+-- the byte after a run is the first of a text
 pub Takes-first : (answers : Answering) (old new : Words) (text : List ℕ) (count dots : ℕ) → new.letters ≡ old.letters → 0 < length text → count ≡ 0 → is_byte_of old.letters (get_or text count 0) ≡ false → dots ≡ old.dots → new.tally ≡ tally_with_word (answers_at old.letters answers) old.tally (name_in old.letters old.place old.held.items) → held_of new ≡ [] → new.dots ≡ 0 → new.past ≡ false → new.place ≡ START → Takes answers old new (take 1 text) (written old.letters answers old.place old.held.items ++ (replicate dots 46 ++ take 1 text))
 Takes-first answers old new text count dots letters some none other same counted nothing no_dots past holds =
     let first : take 1 text ≡ get_or text 0 0 ∷ [] = take_more text 0 0 some in
@@ -399,7 +399,7 @@ Takes-first answers old new text count dots letters some none other same counted
     subst (λ (n : ℕ). Takes answers old new (take 1 text) (written old.letters answers old.place old.held.items ++ (replicate n 46 ++ take 1 text))) (sym same)
     (subst (λ (t : List ℕ). Takes answers old new t (written old.letters answers old.place old.held.items ++ (replicate old.dots 46 ++ t))) (sym first) (Takes-ends answers old new (get_or text 0 0) letters ends counted nothing no_dots past holds))
 
--- a part of a run is held, or the run is passed on from it on
+-- a part of a run is held, or the run is passed on from that part on
 pub Takes-hold : (answers : Answering) (old new : Words) (text out out' : List ℕ) (count : ℕ) (taken : Taken) (b : Bool) → new.letters ≡ old.letters → taken.stay ≡ b → count ≤ length text → list_all (is_byte_of old.letters) (take count text) ≡ true → is_begun (held_of old ++ take count text) ≡ true → old.past ≡ false → may_begin old.letters old.place ≡ true → new.place ≡ old.place → new.tally ≡ old.tally → new.dots ≤ old.dots + length (take count text) → taken.count ≡ length (take count text) → (taken.stay ≡ false → (new.past ≡ false) × (taken.dots ≡ 0) × (held_of new ≡ held_of old ++ take count text) × (out' ≡ out)) → (taken.stay ≡ true → (new.past ≡ true) × (taken.dots ≡ old.dots) × (out' ≡ out ++ old.held.items) × (LONGEST_WORD < length (word_of (held_of old ++ take count text)))) → (bytes : List ℕ) × (out' ≡ out ++ bytes) × Takes answers old new (take taken.count text) (bytes ++ following taken (take taken.count text))
 Takes-hold answers old new text out out' count taken false letters stay within in_run begun past begins place counted dots count_is held passes =
     let h = held stay in
@@ -414,7 +414,7 @@ Takes-hold answers old new text out out' count taken true letters stay within in
     let follows : following taken (take taken.count text) ≡ replicate old.dots 46 ++ part = ap₂ (λ (n : ℕ) (b : Bool). replicate n 46 ++ cond b (take taken.count text) []) h.1 stay ∙ ap (λ (t : List ℕ). replicate old.dots 46 ++ t) whole in
     (old.held.items, h.2, subst (λ (t : List ℕ). Takes answers old new (take taken.count text) (old.held.items ++ t)) (sym follows) (subst (λ (t : List ℕ). Takes answers old new t (old.held.items ++ (replicate old.dots 46 ++ part))) (sym whole) (Takes-passes answers old new part letters past begins h.0 in_run begun h.3 counted dots)))
 
--- where something is held, no run is passed on, and a word may begin at its place
+-- where something is held, no run is passed on, and a word may begin at the place of what is held
 pub held-open : (letters : Letters) (held : List ℕ) (dots : ℕ) (past : Bool) (place : Place) (b : Bool) → IsHeld letters held dots past place → ((held ≡ []) → (dots ≡ 0) → ⊥) → may_begin letters place ≡ b → b ≡ true
 held-open letters held dots past place true h some begins = refl
 held-open letters held dots past place false h some begins = let nothing = h.closed_holds_nothing begins in absurd (some nothing.0 nothing.1)
@@ -423,13 +423,13 @@ pub past-none : (letters : Letters) (held : List ℕ) (dots : ℕ) (past : Bool)
 past-none letters held dots true place h some = let nothing = h.past_holds_nothing refl in absurd (some nothing.0 nothing.1)
 past-none letters held dots false place h some = refl
 
--- as where a text begins with a word
+-- a word may begin where a text begins with one
 pub front-open : (letters : Letters) (place here : Place) (text : List ℕ) (n : ℕ) → n ≤ 0 → 0 < length text → (n < length text → may_begin letters here ≡ true) → here ≡ place_of letters place (take n text) → may_begin letters place ≡ true
 front-open letters place here text n none some stops same =
     let zero : n ≡ 0 = omega arith in
     sym (ap (may_begin letters) (same ∙ ap (λ k. place_of letters place (take k text)) zero)) ∙ stops (omega arith)
 
--- it begins with an underscore then
+-- a word at the front of a text begins with an underscore
 pub front-begun : (held : List ℕ) (text : List ℕ) (n count : ℕ) → held ≡ [] → n ≤ 0 → 0 < length text → 0 < count → (n < length text → get_or text n 0 ≡ 95) → is_begun (held ++ take count text) ≡ true
 front-begun held [] n count nothing none some more stops = absurd (omega arith)
 front-begun held (byte ∷ text) n zero nothing none some more stops = absurd (omega arith)
@@ -442,7 +442,7 @@ held-none [] zero e = (refl, refl)
 held-none [] (suc dots) e = let none : suc (length (replicate {A = ℕ} dots 46)) ≡ 0 = ap length e in absurd (omega arith)
 held-none (byte ∷ held) dots e = let none : suc (length (held ++ replicate dots 46)) ≡ 0 = ap length e in absurd (omega arith)
 
--- as does what is held
+-- what is held still begins with an underscore once there is more of it
 pub held-begun : (held more : List ℕ) → is_begun held ≡ true → (held ≡ [] → ⊥) → is_begun (held ++ more) ≡ true
 held-begun [] more h some = absurd (some refl)
 held-begun (byte ∷ held) more h some = h

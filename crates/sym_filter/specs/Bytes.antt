@@ -11,7 +11,7 @@ unfoldable pub is_run_byte : ℕ → Bool
 is_run_byte byte =
     is_between 97 122 byte || is_between 65 90 byte || is_between 48 57 byte || byte == 95 || byte == 46 || byte == 36 || nat_le 128 byte
 
--- the bytes of runs where words have these letters: those of any letters, or those of them that are ASCII
+-- the bytes of runs whose words have these letters: any bytes of runs, or only those that are ASCII
 abbrev pub is_byte_of : Letters → ℕ → Bool
 is_byte_of Any byte = is_run_byte byte
 is_byte_of Ascii byte = is_run_byte byte && not (nat_le 128 byte)

@@ -1,4 +1,5 @@
--- What is carried of an escape from a piece of a text to the next, and what is still to come of a filtered text by it.
+-- What a filter carries of an escape from one piece of a text to the next, and what is still to come of the filtered
+-- text.
 use Rattle.std.specs.Prelude.{◌≡◌, ◌+◌, ◌≤◌, ℕ, List, [], ◌∷◌, ◌++◌, length, Bool, true, false, ◌==◌, ◌&&◌, if◌then◌else◌}
 use Rattle.std.specs.List.{flat_map}
 use Rattle.sym_filter.specs.declared.kinds.Letters.{Letters}
@@ -11,7 +12,7 @@ use Rattle.sym_filter.specs.Places.{begins_within}
 use Rattle.sym_filter.specs.Runs.{Answering, answers_at, filtered_segment, named_in_segment, tally_with}
 use Rattle.sym_filter.specs.Words.{rest_after, tally_after}
 
--- an escape that goes on, or none
+-- the escape if it continues, otherwise none
 abbrev pub only : Bool → Escape → Escape
 only goes_on escape = if goes_on then escape else Outside
 
@@ -23,11 +24,11 @@ after_backslash byte =
     else (if byte == 48 then Octal
     else only (byte == 101) Esc)))
 
--- after a digit that is the next of ESC's, or another
+-- the escape after a digit: `esc` if that is the next digit of ESC, or else `other`
 abbrev pub after_digit : (byte digit : ℕ) → (esc other : Escape) → Escape
 after_digit byte digit esc other = if is_esc_digit digit byte then esc else only (is_hex_digit byte) other
 
--- what is read of an escape with a byte more that is no backslash and not ESC
+-- the escape after a byte that is no backslash and not ESC
 abbrev pub goes_on_after : Escape → ℕ → Escape
 goes_on_after Outside byte = Outside
 goes_on_after Backslash byte = after_backslash byte
@@ -43,7 +44,7 @@ goes_on_after One byte = Outside
 goes_on_after Esc byte = only (byte == 91) Sequence
 goes_on_after Sequence byte = only (is_parameter byte) Sequence
 
--- what is read of an escape, with a byte more
+-- the escape after a byte
 abbrev pub escape_after : Escape → ℕ → Escape
 escape_after escape byte = if byte == 92 then Backslash else (if byte == 27 then Esc else goes_on_after escape byte)
 
@@ -59,7 +60,7 @@ ends_with other byte = false
 abbrev pub cuts_after : Letters → Escape → ℕ → Bool
 cuts_after letters escape byte = begins_within letters && ends_with escape byte
 
--- the segments of a text, the first of which goes on what was read of an escape
+-- the segments of a text after a front of it, of which this much of an escape was read
 abbrev pub segment_from : Letters → Escape → List ℕ → List ℕ
 segment_from letters escape [] = []
 segment_from letters escape (byte ∷ text) =
@@ -72,7 +73,8 @@ segments_after letters escape (byte ∷ text) =
     then segment_from letters (escape_after escape byte) text ∷ segments_after letters (escape_after escape byte) text
     else segments_after letters (escape_after escape byte) text
 
--- Bytes are gone through, after which another of an escape is read: whatever follows, they end the segment that they go on, or they don't.
+-- Bytes of a text were read, and with them one escape became another. Either they end the segment that they are in, or
+-- they don't; the bytes that follow decide nothing of this.
 abbrev pub IsRead : (ends : Bool) → Letters → (old new : Escape) → List ℕ → Type 0
 IsRead false letters old new bytes = (more : List ℕ) →
     (segment_from letters old (bytes ++ more) ≡ bytes ++ segment_from letters new more)
@@ -81,19 +83,19 @@ IsRead true letters old new bytes = (more : List ℕ) →
     (segment_from letters old (bytes ++ more) ≡ bytes)
     × (segments_after letters old (bytes ++ more) ≡ segment_from letters new more ∷ segments_after letters new more)
 
--- what is to be written for the bytes that follow: the segment that goes on, and each later one
+-- what is to be written for the bytes that follow: the rest of the segment, and each later segment
 abbrev pub rest_of_text : Answering → Words → Escape → List ℕ → List ℕ
 rest_of_text answers words escape more =
     rest_after answers words (segment_from words.letters escape more)
     ++ flat_map (filtered_segment words.letters answers) (segments_after words.letters escape more)
 
--- the tally in the end, where these bytes follow
+-- the final tally, where these bytes follow
 abbrev pub tally_of_text : Answering → Words → Escape → List ℕ → Tally
 tally_of_text answers words escape more =
     tally_with (answers_at words.letters answers) (tally_after answers words (segment_from words.letters escape more))
     (flat_map (named_in_segment words.letters) (segments_after words.letters escape more))
 
--- A filter takes a piece of a text and gives bytes for it, as it takes one of a segment.
+-- A filter takes a piece of a text and gives bytes for it, as `Takes` says of a piece of a segment.
 pub record TakesText (answers : Answering) (old new : Words) (before after : Escape) (piece bytes : List ℕ) : Type 0 where
   pub text : (more : List ℕ) → rest_of_text answers old before (piece ++ more) ≡ bytes ++ rest_of_text answers new after more
   pub counts : (more : List ℕ) → tally_of_text answers old before (piece ++ more) ≡ tally_of_text answers new after more

@@ -1,4 +1,4 @@
--- The entries that are still to come, where a filter is after a front of a text.
+-- The entries that are still to come after a front of a text.
 use Rattle.std.specs.Prelude.{◌≡◌, ℕ, List, ◌++◌, Bool, true, false}
 use Rattle.std.specs.List.{flat_map}
 use Rattle.sym_filter.specs.declared.kinds.Letters.{Letters}
@@ -11,7 +11,8 @@ use Rattle.sym_filter.specs.Places.{from_word}
 use Rattle.sym_filter.specs.Runs.{Answering, answers_at, first_run, named_in}
 use Rattle.sym_filter.specs.Words.{held_of}
 
--- what is still to come with the bytes that follow in a segment: of a run that is passed on to its end no word is left
+-- The entries that are still to come, where these bytes follow in a segment. No word of a run that is passed on to its
+-- end is left.
 abbrev pub entries_from : Letters → Answering → List ℕ → (past : Bool) → Place → List ℕ → List Entry
 entries_from letters answers held true place more = later_entries letters answers more
 entries_from letters answers held false place more =
@@ -20,16 +21,17 @@ entries_from letters answers held false place more =
 abbrev pub entries_after : Answering → Words → List ℕ → List Entry
 entries_after answers words more = entries_from words.letters answers (held_of words) words.past words.place more
 
--- with the bytes that follow in a text
+-- the entries that are still to come, where these bytes follow in a text
 abbrev pub entries_in_rest : Answering → Words → Escape → List ℕ → List Entry
 entries_in_rest answers words escape more =
     entries_after answers words (segment_from words.letters escape more)
     ++ flat_map (entries_in_segment words.letters answers) (segments_after words.letters escape more)
 
--- a filter takes a piece of a segment with these entries: whatever follows, they and those that are still to come are all
+-- A filter takes a piece of a segment with these entries: whatever follows, they and the entries that are still to come
+-- are all.
 pub record TakesEntries (answers : Answering) (old new : Words) (piece : List ℕ) (entries : List Entry) : Type 0 where
   pub all : (more : List ℕ) → entries_after answers old (piece ++ more) ≡ entries ++ entries_after answers new more
 
--- a piece of a text
+-- a filter takes a piece of a text with these entries
 pub record TakesTextEntries (answers : Answering) (old new : Words) (before after : Escape) (piece : List ℕ) (entries : List Entry) : Type 0 where
   pub all : (more : List ℕ) → entries_in_rest answers old before (piece ++ more) ≡ entries ++ entries_in_rest answers new after more

@@ -1,4 +1,4 @@
--- What a report is given of a text: its newlines, and each of its words that names a symbol and has no text.
+-- What a report takes of a text: the newlines, and each word that names a symbol and has no text.
 use Rattle.std.specs.Prelude.{ℕ, List, [], ◌∷◌, ◌++◌, drop, length, ◌-◌, not, ◌==◌, ◌&&◌, if◌then◌else◌}
 use Rattle.std.specs.List.{flat_map}
 use Rattle.sym_filter.specs.declared.kinds.Letters.{Letters}
@@ -11,38 +11,38 @@ pub data Entry : Type 0 where
   newline : Entry
   left_word : List ℕ → Entry
 
--- a byte, where it is a newline
+-- the newline that a byte is, or nothing
 abbrev pub newline_of : ℕ → List Entry
 newline_of byte = if byte == 10 then newline ∷ [] else []
 
 abbrev pub newlines_in : List ℕ → List Entry
 newlines_in bytes = flat_map newline_of bytes
 
--- a word, where it names a symbol and has no text
+-- the word, if it names a symbol and has no text
 unfoldable pub left_of : Answering → List ℕ → List Entry
 left_of answers word = if is_named word && not (has_text answers word) then left_word word ∷ [] else []
 
--- the word of a run, where it is left
+-- the word of a run, if it is left
 abbrev pub left_in : Letters → Answering → List ℕ → List Entry
 left_in letters answers run = left_of (answers_at letters answers) (word_in letters run)
 
--- what follows on the first run
+-- the entries after the first run
 abbrev pub later_entries : Letters → Answering → List ℕ → List Entry
 later_entries letters answers [] = []
 later_entries letters answers (byte ∷ bytes) =
     if is_byte_of letters byte then later_entries letters answers bytes
     else newline_of byte ++ (left_in letters answers (first_run letters bytes) ++ later_entries letters answers bytes)
 
--- the newlines of a segment and the words in it that are left, in order
+-- the newlines and the words that are left, of a segment, in order
 abbrev pub entries_in_segment : Letters → Answering → List ℕ → List Entry
 entries_in_segment letters answers text = left_in letters answers (first_run letters text) ++ later_entries letters answers text
 
--- those of a text, whose words have these letters
+-- the newlines and the words that are left, of a text whose words have these letters
 abbrev pub entries_of : Letters → Answering → List ℕ → List Entry
 entries_of Any answers text = entries_in_segment Any answers text
 entries_of Ascii answers text = entries_in_segment Ascii answers text
 entries_of Within answers text = flat_map (entries_in_segment Within answers) (segments_of text)
 
--- the word that is left, where it is the last bytes of some, as many as are counted, or none is
+-- the word that is left at the end of some bytes: the last ones, as many as are counted, or none
 abbrev pub left_at_end : ℕ → List ℕ → List Entry
 left_at_end count bytes = if count == 0 then [] else left_word (drop (length bytes - count) bytes) ∷ []

@@ -21,33 +21,34 @@ is_parameter byte = is_between 48 59 byte
 abbrev pub is_lead : ℕ → Bool
 is_lead byte = byte == 92 || byte == 27
 
--- after ESC and `[`: digits, ':' and ';', and a letter
+-- what follows ESC and `[`: digits, ':' and ';', and a letter
 abbrev pub ends_sequence : List ℕ → Bool
 ends_sequence [] = false
 ends_sequence (byte ∷ bytes) = if is_parameter byte then ends_sequence bytes else is_letter byte && is_empty bytes
 
--- after ESC
+-- what follows ESC
 abbrev pub follows_esc : List ℕ → Bool
 follows_esc [] = false
 follows_esc (byte ∷ bytes) = byte == 91 && ends_sequence bytes
 
--- after a backslash: these octal digits, which spell ESC, and what may follow ESC
+-- what follows a backslash: these octal digits, which spell ESC, and what may follow ESC
 abbrev pub follows_octal : (esc : List ℕ) → List ℕ → Bool
 follows_octal [] bytes = follows_esc bytes
 follows_octal (digit ∷ esc) [] = false
 follows_octal (digit ∷ esc) (byte ∷ bytes) = byte == digit && follows_octal esc bytes
 
--- a hexadecimal digit of ESC, where its last may be 'b' or 'B'
+-- a hexadecimal digit of ESC; the last one may be 'b' or 'B'
 abbrev pub is_esc_digit : (digit : ℕ) → ℕ → Bool
 is_esc_digit digit byte = byte == digit || (digit == 98 && byte == 66)
 
--- hexadecimal digits, as many as these, and nothing more
+-- exactly as many hexadecimal digits as these
 abbrev pub are_digits : (esc : List ℕ) → List ℕ → Bool
 are_digits [] bytes = is_empty bytes
 are_digits (digit ∷ esc) [] = false
 are_digits (digit ∷ esc) (byte ∷ bytes) = is_hex_digit byte && are_digits esc bytes
 
--- hexadecimal digits, as many as these, which spell ESC; after ESC there may be more
+-- As many hexadecimal digits as these, which spell ESC. If the digits spell it, too, what may follow ESC may come after
+-- them.
 abbrev pub follows_hex : (esc : List ℕ) → List ℕ → Bool
 follows_hex [] bytes = is_empty bytes || follows_esc bytes
 follows_hex (digit ∷ esc) [] = false
@@ -57,8 +58,8 @@ follows_hex (digit ∷ esc) (byte ∷ bytes) = if is_esc_digit digit byte then f
 abbrev pub is_blank_name : ℕ → Bool
 is_blank_name byte = byte == 110 || byte == 114 || byte == 116
 
--- after a backslash: `n`, `r` or `t`; `u` and four hexadecimal digits; `x` and two; or `e`, `033`, `u001b` or `x1b` for ESC and what may
--- follow ESC
+-- what follows a backslash: `n`, `r` or `t`; `u` and four hexadecimal digits; `x` and two; or `e`, `033`, `u001b` or
+-- `x1b` for ESC and what may follow ESC
 abbrev pub follows_backslash : List ℕ → Bool
 follows_backslash [] = false
 follows_backslash (byte ∷ bytes) =
@@ -77,8 +78,8 @@ is_escape (byte ∷ bytes) = if byte == 92 then follows_backslash bytes else byt
 abbrev pub since_lead : List ℕ → ℕ → List ℕ
 since_lead since byte = if is_lead byte then byte ∷ [] else since ++ byte ∷ []
 
--- the segment that a text begins with: its bytes up to the end of its first escape, or all. Before the text are the bytes from the last
--- backslash or ESC on.
+-- The segment at the front of a text: the bytes up to the end of the first escape, or all bytes. `since` has the bytes
+-- before the text, from the last backslash or ESC on.
 abbrev pub first_segment : (since : List ℕ) → List ℕ → List ℕ
 first_segment since [] = []
 first_segment since (byte ∷ text) = byte ∷ (if is_escape (since_lead since byte) then [] else first_segment (since_lead since byte) text)

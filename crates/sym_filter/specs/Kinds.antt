@@ -14,7 +14,7 @@ kind_by_beginning word =
     else (if starts_with nat_eq word (codes "__R") then Some (record { lang = Rust; skip = 1 })
     else None)))
 
--- the kind of a word that isn't too long and begins as a symbol does
+-- the kind of a word that isn't too long and begins like a symbol
 abbrev pub kind_of : List ℕ → Option Kind
 kind_of word = if nat_le (length word) LONGEST_WORD then kind_by_beginning word else None
 

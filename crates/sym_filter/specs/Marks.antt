@@ -25,12 +25,14 @@ front_length word =
 abbrev pub after_front : List ℕ → List ℕ
 after_front word = drop (front_length word) word
 
--- the bytes after `_Z` with which a name, a number or a special name begins, and those after `_R` with which a path does
+-- the bytes that may follow `_Z` or `_R`: those with which a name, a number or a special name begins, or those with
+-- which a path does
 abbrev pub begins_name : Lang → ℕ → Bool
 begins_name Cpp byte = is_between 65 90 byte || is_between 48 57 byte
 begins_name Rust byte = byte == 73 || byte == 77 || byte == 78 || byte == 88 || byte == 89
 
--- whether a symbol of this kind may begin in a stretch after a byte; within a name that is no section's its third byte has to say so
+-- Whether a symbol of this kind may begin in a stretch after a byte. Within a name that is no section's, its third byte
+-- has to be one with which names of symbols begin.
 abbrev pub is_taken : Stretch → (last : ℕ) → Kind → List ℕ → Bool
 is_taken Empty last kind rest = true
 is_taken Section last kind rest = is_divider last
@@ -44,12 +46,12 @@ is_kind_taken place (Some kind) rest = is_taken place.stretch place.last kind re
 abbrev pub is_mark : Place → List ℕ → Bool
 is_mark place rest = is_kind_taken place (kind_by_beginning rest) rest
 
--- what follows from the name of the first symbol on, which a front may precede; nothing where there is none
+-- the bytes from the name of the first symbol on, or none where no name begins; a front may come before the name
 abbrev pub from_mark : Place → List ℕ → List ℕ
 from_mark place [] = []
 from_mark place (byte ∷ word) =
     if is_mark place (after_front (byte ∷ word)) then after_front (byte ∷ word) else from_mark (place_after Within place byte) word
 
--- and what comes before it
+-- the bytes before the name of the first symbol
 abbrev pub before_mark : Place → List ℕ → List ℕ
 before_mark place word = take (length word - length (from_mark place word)) word

@@ -1,4 +1,4 @@
--- Places in the stretches of a run, and where a word may begin.
+-- Places in the stretches of a run, and whether a word may begin there.
 use Rattle.std.specs.Prelude.{ℕ, List, [], ◌∷◌, Bool, true, false, not, ◌==◌, ◌||◌, ◌&&◌, if◌then◌else◌}
 use Rattle.sym_filter.specs.declared.kinds.Letters.{Letters}
 use Rattle.sym_filter.specs.declared.kinds.Letters.TheVariants.{Any, Ascii, Within}
@@ -7,13 +7,14 @@ use Rattle.sym_filter.specs.declared.places.Stretch.{Stretch}
 use Rattle.sym_filter.specs.declared.places.Stretch.TheVariants.{Empty, Section, Other}
 use Rattle.sym_filter.specs.Bytes.{is_byte_of}
 
--- words begin within runs
+-- whether words begin within runs
 abbrev pub begins_within : Letters → Bool
 begins_within Any = false
 begins_within Ascii = false
 begins_within Within = true
 
--- A run is a stretch, or where words begin within runs each longest part of one that is ASCII: the bytes of stretches.
+-- The bytes of stretches. A run is one stretch, unless words begin within runs: then a stretch is a longest part of a
+-- run that is ASCII.
 abbrev pub in_stretch : Letters → ℕ → Bool
 in_stretch Any byte = is_byte_of Any byte
 in_stretch Ascii byte = is_byte_of Ascii byte
@@ -38,7 +39,7 @@ abbrev pub place_of : Letters → Place → List ℕ → Place
 place_of letters place [] = place
 place_of letters place (byte ∷ bytes) = place_of letters (place_after letters place byte) bytes
 
--- a dot or a `$`, which are between the parts of names
+-- a dot or a `$`, which separate parts of names
 abbrev pub is_divider : ℕ → Bool
 is_divider byte = byte == 46 || byte == 36
 
@@ -56,13 +57,14 @@ may_begin letters place = opens letters place.stretch place.last
 abbrev pub closes : Letters → ℕ → Bool
 closes letters byte = in_stretch letters byte && not (begins_within letters && is_divider byte)
 
--- A run that is changed by a function from the first underscore on at which a word may begin. The function sees the place.
+-- A run that a function changes from the first underscore on at which a word may begin. The function gets the place,
+-- too.
 abbrev pub with_word : Letters → (Place → List ℕ → List ℕ) → Place → List ℕ → List ℕ
 with_word letters change place [] = []
 with_word letters change place (byte ∷ run) =
     if may_begin letters place && byte == 95 then change place (byte ∷ run) else byte ∷ with_word letters change (place_after letters place byte) run
 
--- what a function finds in a run from that underscore on, nothing where there is none
+-- what a function finds in a run from that underscore on, or nothing where there is no such underscore
 abbrev pub from_word : Letters → (Place → List ℕ → List ℕ) → Place → List ℕ → List ℕ
 from_word letters find place [] = []
 from_word letters find place (byte ∷ run) =

@@ -1,4 +1,4 @@
--- Where a filter is prompt: all that is decided of the filtered text was written, and little waits.
+-- A filter is prompt: it wrote all that is decided of the filtered text, and little waits.
 use Rattle.std.specs.Prelude.{◌≡◌, ℕ, List, ◌++◌, Option}
 use Rattle.std.specs.Io.KnownBytes.{Appends, Consumes}
 use Rattle.sym_filter.specs.declared.escapes.Escape.{Escape}
@@ -8,9 +8,9 @@ use Rattle.sym_filter.specs.Carried.{rest_of_text}
 use Rattle.sym_filter.specs.Held.{IsHeld}
 use Rattle.sym_filter.specs.Runs.{Answering, filtered_at}
 
--- A text was read and bytes were written. Whatever follows, the filtered text is those bytes and what is still to come, which depends on
--- no more of the text than this: a front of one word, of at most the longest word's bytes, the dots after it, the place where it begins,
--- and what is read of an escape.
+-- A text was read and bytes were written. Whatever follows, the filtered text is those bytes and what is still to come.
+-- That depends on no more of the text than a front of one word, of at most the longest word's bytes, the dots after it,
+-- the place where it begins, and the part of an escape that was read.
 pub record IsPrompt (letters : Letters) (answers : Answering) (coming coming' taken taken' : Option (List ℕ)) : Type 0 where
   pub text : List ℕ
   pub written : List ℕ

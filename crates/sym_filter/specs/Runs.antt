@@ -16,12 +16,12 @@ use Rattle.sym_filter.specs.Kinds.{kind_of, symbol_of, underscore_of}
 use Rattle.sym_filter.specs.Marks.{before_mark, from_mark}
 use Rattle.sym_filter.specs.Places.{START, from_word, with_word}
 
--- the run that a text begins with, of no byte where it begins with another byte
+-- the run at the front of a text, without bytes where the text begins with a byte of no run
 abbrev pub first_run : Letters → List ℕ → List ℕ
 first_run letters [] = []
 first_run letters (byte ∷ bytes) = if is_byte_of letters byte then byte ∷ first_run letters bytes else []
 
--- the runs after the first: one, maybe of no byte, after each byte that belongs to none
+-- the runs after the first: one after each byte that belongs to none; a run may have no byte
 abbrev pub later_runs : Letters → List ℕ → List (List ℕ)
 later_runs letters [] = []
 later_runs letters (byte ∷ bytes) =
@@ -31,7 +31,7 @@ later_runs letters (byte ∷ bytes) =
 abbrev pub runs_of : Letters → List ℕ → List (List ℕ)
 runs_of letters text = first_run letters text ∷ later_runs letters text
 
--- what follows the first run, with each later run changed by a function
+-- the bytes after the first run, with each run among them changed by a function
 abbrev pub with_later_runs : Letters → (List ℕ → List ℕ) → List ℕ → List ℕ
 with_later_runs letters change [] = []
 with_later_runs letters change (byte ∷ bytes) =
@@ -51,25 +51,25 @@ word_of (byte ∷ bytes) = if list_all (λ other. other == 46) (byte ∷ bytes) 
 abbrev pub dots_after : List ℕ → List ℕ
 dots_after run = drop (length (word_of run)) run
 
--- what is answered for the symbols of words of each kind: a text, or why there is none
+-- the answers for the symbols of words of each kind: a text, or why there is none
 abbrev pub Answering : Type 0
 Answering = Kind → List ℕ → Result (List ℕ) Refusal
 
--- a symbol is read: it has a text, or one that costs more than the limit
+-- a symbol is read: it has a text, or its text costs more than the limit
 abbrev pub is_read : Result (List ℕ) Refusal → Bool
 is_read (Ok text) = true
 is_read (Err TooLong) = true
 is_read (Err refusal) = false
 
--- the text that stands for a word: that of its symbol, where the word names one and it has a text
+-- the text that replaces a word: that of its symbol, where the word names one and it has a text
 unfoldable pub text_for : Answering → List ℕ → Option (List ℕ)
 text_for answers word = option_and_then (λ kind. result_ok (answers kind (symbol_of kind word))) (kind_of word)
 
--- the text that stands for a word, or the word where there is none
+-- the text that replaces a word, or the word where there is none
 abbrev pub word_or_text : Answering → List ℕ → List ℕ
 word_or_text answers word = unwrap_or (text_for answers word) word
 
--- a run with its word replaced by the text that stands for it, if there is one
+-- a run in which that text replaces the word, if there is one
 unfoldable pub replaced : Answering → List ℕ → List ℕ
 replaced answers run = word_or_text answers (word_of run) ++ dots_after run
 
@@ -77,19 +77,19 @@ replaced answers run = word_or_text answers (word_of run) ++ dots_after run
 abbrev pub has_text : Answering → List ℕ → Bool
 has_text answers run = is_some (text_for answers (word_of run))
 
--- nothing, or bytes that begin with an underscore
+-- no bytes, or bytes that begin with an underscore
 abbrev pub is_begun : List ℕ → Bool
 is_begun [] = true
 is_begun (byte ∷ bytes) = byte == 95
 
 -- ## The text for a word that begins within a run
 
--- a word without its last bytes, as long as these are dots or not ASCII
+-- a word without its last bytes, as far as these are dots or not ASCII
 abbrev pub trimmed : List ℕ → List ℕ
 trimmed [] = []
 trimmed (byte ∷ bytes) = if list_all (λ other. other == 46 || is_wide other) (byte ∷ bytes) then [] else byte ∷ trimmed bytes
 
--- the first of two that is there
+-- the first of two texts, or the second where there is no first
 abbrev pub either : Option (List ℕ) → Option (List ℕ) → Option (List ℕ)
 either None other = other
 either (Some text) other = Some text
@@ -98,16 +98,18 @@ abbrev pub followed_by : List ℕ → Option (List ℕ) → Option (List ℕ)
 followed_by rest None = None
 followed_by rest (Some text) = Some (text ++ rest)
 
--- The first try: the text for the word without what isn't ASCII at its end, and after that what was left out.
+-- The first try: the word without its last bytes that aren't ASCII or are dots, replaced by its text, and then those
+-- bytes.
 abbrev pub text_of_front : Answering → List ℕ → Option (List ℕ)
 text_of_front answers word = followed_by (drop (length (trimmed word)) word) (text_for answers (trimmed word))
 
--- The last try, of a word that isn't ASCII alone: each longest part of it that is, replaced by its text, where one has a text.
+-- The last try, for a word with bytes that aren't ASCII: each longest part in ASCII is replaced by its text, if any of
+-- them has one.
 abbrev pub text_of_parts : Answering → List ℕ → Option (List ℕ)
 text_of_parts answers word =
     if list_any is_wide word && list_any (has_text answers) (runs_of Ascii word) then Some (with_runs Ascii (replaced answers) word) else None
 
--- The tries for a word, in order; the second is its own text.
+-- The tries for a word, in order; the second is the word's own text.
 unfoldable pub text_of_tries : Answering → List ℕ → Option (List ℕ)
 text_of_tries answers word = either (text_of_front answers word) (either (text_for answers word) (text_of_parts answers word))
 
@@ -115,16 +117,16 @@ text_of_tries answers word = either (text_of_front answers word) (either (text_f
 abbrev pub tried : List ℕ → List (List ℕ)
 tried word = trimmed word ∷ word ∷ map word_of (runs_of Ascii word)
 
--- answers give the same texts for some words
+-- two answerings give the same text for each of some words
 abbrev pub Agree : Answering → Answering → List (List ℕ) → Type 0
 Agree answers other [] = Unit {0}
 Agree answers other (word ∷ words) = (text_for answers word ≡ text_for other word) × Agree answers other words
 
--- nothing but the texts for the words that are tried decides the text by tries
+-- The text by tries depends only on the texts for the words that are tried.
 abbrev pub TriesDecide : Type 0
 TriesDecide = (answers other : Answering) (word : List ℕ) → Agree answers other (tried word) → text_of_tries answers word ≡ text_of_tries other word
 
--- and these have together at most three times the word's bytes
+-- the words that are tried have together at most three times the word's bytes
 abbrev pub TriesAreFew : Type 0
 TriesAreFew = (word : List ℕ) → sum_by length (tried word) ≤ 3 * length word
 
@@ -133,7 +135,7 @@ abbrev pub or_answer : Option (List ℕ) → Result (List ℕ) Refusal → Resul
 or_answer (Some text) other = Ok text
 or_answer None other = other
 
--- what is answered for the symbols of words that begin within runs: that word's text by its tries
+-- what is answered for the symbols of words that begin within runs: the word's text by its tries
 abbrev pub within : Answering → Answering
 within answers kind symbol = or_answer (text_of_tries answers (underscore_of kind.skip ++ symbol)) (answers kind symbol)
 
@@ -154,17 +156,17 @@ written Any answers place word = word_or_text answers word
 written Ascii answers place word = word_or_text answers word
 written Within answers place word = before_mark place word ++ word_or_text (within answers) (from_mark place word)
 
--- the part of it that names a symbol, if it does
+-- the part of a held word that names a symbol, if any does
 abbrev pub name_in : Letters → Place → List ℕ → List ℕ
 name_in Any place word = word
 name_in Ascii place word = word
 name_in Within place word = from_mark place word
 
--- what is written for a run from a place on, if it isn't too long: dots at its end stay
+-- what is written for a run from a place on, if it isn't too long; the dots at its end stay
 abbrev pub changed : Letters → Answering → Place → List ℕ → List ℕ
 changed letters answers place run = if fits (word_of run) then written letters answers place (word_of run) ++ dots_after run else run
 
--- the part of it that names a symbol, if it does
+-- the part of a run that names a symbol, if any does
 abbrev pub named_in : Letters → Place → List ℕ → List ℕ
 named_in letters place run = if fits (word_of run) then name_in letters place (word_of run) else []
 
@@ -186,14 +188,14 @@ word_in Within run = from_word Within (named_in Within) START run
 abbrev pub filtered_segment : Letters → Answering → List ℕ → List ℕ
 filtered_segment letters answers text = with_runs letters (replaced_at letters answers) text
 
--- a text with each word of these letters that has a text replaced by it. Where words begin within runs, the text is cut after each
--- escape, and its segments are filtered apart: so the bytes of an escape belong to no word.
+-- A text with each word of these letters that has a text replaced by it. Where words begin within runs, the text is cut
+-- after each escape and its segments are filtered apart, so no byte of an escape belongs to a word.
 abbrev pub filtered_at : Letters → Answering → List ℕ → List ℕ
 filtered_at Any answers text = filtered_segment Any answers text
 filtered_at Ascii answers text = filtered_segment Ascii answers text
 filtered_at Within answers text = flat_map (filtered_segment Within answers) (segments_of text)
 
--- where words have any letters
+-- the filtered text, where words have any letters
 abbrev pub filtered : Answering → List ℕ → List ℕ
 filtered answers text = filtered_at Any answers text
 
@@ -211,7 +213,7 @@ named_words Any text = named_in_segment Any text
 named_words Ascii text = named_in_segment Ascii text
 named_words Within text = flat_map (named_in_segment Within) (segments_of text)
 
--- a count that stays at the greatest u64 once it is there
+-- a count that stays at the greatest u64 once it has reached it
 abbrev pub capped : ℕ → ℕ
 capped n = min n (2 ^ 64 - 1)
 
@@ -221,7 +223,7 @@ pub record IsTally (tally : Tally) : Type 0 where
   pub replaced : tally.replaced < 2 ^ 64
   pub refused : tally.refused < 2 ^ 64
 
--- a tally with these words counted too: how many they are, how many have a text, and how many have none
+-- a tally that counts these words, too: how many they are, how many have a text, and how many have none
 abbrev pub tally_with : Answering → Tally → List (List ℕ) → Tally
 tally_with answers tally words = record {
   words = capped (tally.words + length words);
@@ -229,12 +231,12 @@ tally_with answers tally words = record {
   refused = capped (tally.refused + count_by (λ word. not (has_text answers word)) words);
 }
 
--- a tally with one word counted too, which has a text or none
+-- a tally that counts one word more, which has a text or none
 abbrev pub tally_counted : Bool → Tally → Tally
 tally_counted true tally = record { words = capped (tally.words + 1); replaced = capped (tally.replaced + 1); refused = tally.refused }
 tally_counted false tally = record { words = capped (tally.words + 1); replaced = tally.replaced; refused = capped (tally.refused + 1) }
 
--- a tally with a word counted too, where it names a symbol
+-- a tally that counts a word, if the word names a symbol
 abbrev pub tally_with_word : Answering → Tally → List ℕ → Tally
 tally_with_word answers tally word = tally_with answers tally (filter is_named (word ∷ []))
 

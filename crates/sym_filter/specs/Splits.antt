@@ -7,7 +7,7 @@ use Rattle.sym_filter.specs.Bytes.{is_byte_of}
 use Rattle.sym_filter.specs.Escapes.{is_letter, is_lead, is_parameter, later_segments}
 use Rattle.sym_filter.specs.Runs.{Answering, replaced_at, filtered_at}
 
--- a run, maybe of no byte, and after it other bytes, each with the run after it
+-- a run, and then bytes that belong to no run, each with the run after it; a run may have no byte
 abbrev pub joined : List ℕ → List (ℕ × List ℕ) → List ℕ
 joined run [] = run
 joined run (next ∷ rest) = run ++ (next.0 ∷ joined next.1 rest)
@@ -18,14 +18,14 @@ cut_off Any text = []
 cut_off Ascii text = []
 cut_off Within text = later_segments [] text
 
--- whether a byte is one of those of escapes
+-- whether a byte is one of those in escapes
 abbrev pub is_in_escapes : Letters → ℕ → Bool
 is_in_escapes Any byte = false
 is_in_escapes Ascii byte = false
 is_in_escapes Within byte = is_letter byte || is_parameter byte || is_lead byte || byte == 91
 
--- the text is split so: the runs have bytes of runs alone, and the bytes between them are others. So each run is a
--- longest stretch. Where words begin within runs, the text has no escape.
+-- The text is split into longest stretches: the runs have only bytes of runs, and the bytes between them are others.
+-- Where words begin within runs, the text has no escape.
 pub record IsSplitAt (letters : Letters) (text first : List ℕ) (rest : List (ℕ × List ℕ)) : Type 0 where
   pub whole : text ≡ joined first rest
   pub uncut : cut_off letters text ≡ []
@@ -37,12 +37,13 @@ abbrev pub FilteredBySplitsAt : Letters → Type 0
 FilteredBySplitsAt letters = (answers : Answering) (text first : List ℕ) (rest : List (ℕ × List ℕ)) → IsSplitAt letters text first rest →
     filtered_at letters answers text ≡ joined (replaced_at letters answers first) (map (λ next. (next.0, replaced_at letters answers next.1)) rest)
 
--- the filtered text of two texts joined by a byte that belongs to no run, and to no escape, is their filtered texts joined by it
+-- The filtered text of two texts, joined by a byte that belongs to no run and to no escape, is their filtered texts
+-- joined by that byte.
 abbrev pub FilteredByJoinsAt : Letters → Type 0
 FilteredByJoinsAt letters = (answers : Answering) (text more : List ℕ) (byte : ℕ) → is_byte_of letters byte ≡ false → is_in_escapes letters byte ≡ false →
     filtered_at letters answers (text ++ (byte ∷ more)) ≡ filtered_at letters answers text ++ (byte ∷ filtered_at letters answers more)
 
--- where words have any letters
+-- the same, where words have any letters
 abbrev pub FilteredBySplits : Type 0
 FilteredBySplits = FilteredBySplitsAt Any
 

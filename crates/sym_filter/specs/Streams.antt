@@ -21,7 +21,7 @@ write_failures (Some zero) [] = 0
 write_failures (Some zero) (byte ∷ bytes) = 1
 write_failures (Some (suc n)) bytes = 0
 
--- the failures of the reader, and of the writer, that a fault stands for
+-- the failures of the reader and of the writer that a fault means
 abbrev pub reader_faults : {A : Type 0} → Result A FilterFault → ℕ
 reader_faults (Ok x) = 0
 reader_faults (Err Read) = 1
@@ -34,23 +34,23 @@ writer_faults (Err Read) = 0
 writer_faults (Err Write) = 1
 writer_faults (Err Memory) = 0
 
--- a list begins with a front
+-- a list begins with another one
 abbrev pub BeginsWith : List ℕ → List ℕ → Type 0
 BeginsWith whole front = (rest : List ℕ) × (whole ≡ front ++ rest)
 
--- bytes are put after those that wait to be written: some of all these go out, in order, and the others wait
+-- Bytes are put after those that wait to be written. A front of them all goes out, and the rest waits.
 pub record Puts (taken taken' : Option (List ℕ)) (waiting waiting' bytes : List ℕ) : Type 0 where
   pub gone : List ℕ
   pub writes : Appends taken taken' gone
   pub keeps : waiting ++ bytes ≡ gone ++ waiting'
 
--- what went out is a beginning of those that waited and of the bytes after them
+-- what went out is a beginning of the bytes that waited and of those after them
 pub record PutsFront (taken taken' : Option (List ℕ)) (waiting bytes : List ℕ) : Type 0 where
   pub gone : List ℕ
   pub writes : Appends taken taken' gone
   pub begins : BeginsWith (waiting ++ bytes) gone
 
--- all that a source gave up to its end was filtered to a sink, with words of these letters
+-- all that a source gave was filtered to a sink, where words have these letters
 pub record FiltersAllAt (letters : Letters) (answers : Answering) (coming coming' taken taken' : Option (List ℕ)) (tally : Tally) : Type 0 where
   pub text : List ℕ
   pub reads : Consumes coming coming' text
@@ -66,7 +66,7 @@ pub record FiltersFrontAt (letters : Letters) (answers : Answering) (coming comi
   pub writes : Appends taken taken' gone
   pub begins : BeginsWith (filtered_at letters answers text) gone
 
--- where words have any letters
+-- all that a source gave was filtered to a sink, where words have any letters
 abbrev pub FiltersAll : Answering → (coming coming' taken taken' : Option (List ℕ)) → Tally → Type 0
 FiltersAll answers coming coming' taken taken' tally = FiltersAllAt Any answers coming coming' taken taken' tally
 
@@ -75,7 +75,7 @@ FiltersFront answers coming coming' taken taken' = FiltersFrontAt Any answers co
 
 -- ## With a report
 
--- all that a source gave was filtered, and the report was given the text's entries
+-- all that a source gave was filtered, and the report took the text's entries
 pub record TellsAllAt (letters : Letters) (answers : Answering) (coming coming' taken taken' : Option (List ℕ)) (tells : List Entry → Type 0) (tally : Tally) : Type 0 where
   pub text : List ℕ
   pub reads : Consumes coming coming' text
@@ -84,7 +84,7 @@ pub record TellsAllAt (letters : Letters) (answers : Answering) (coming coming' 
   pub counts : tally ≡ tally_at letters answers text
   pub gives : tells (entries_of letters answers text)
 
--- what went out is a beginning of the filtered text of the bytes that were read, and the report was given a beginning of their entries
+-- what went out is a beginning of the filtered text, and the report took a beginning of the text's entries
 pub record TellsFrontAt (letters : Letters) (answers : Answering) (coming coming' taken taken' : Option (List ℕ)) (stops : List Entry → Type 0) : Type 0 where
   pub text : List ℕ
   pub gone : List ℕ

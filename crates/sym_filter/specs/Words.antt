@@ -1,4 +1,4 @@
--- What is still to come of a filtered segment, where a filter is after a front of it.
+-- What is still to come of a filtered segment after a front of it.
 use Rattle.std.specs.Prelude.{◌≡◌, ◌+◌, ◌≤◌, ℕ, List, [], ◌∷◌, ◌++◌, length, Bool, true, false, filter, map, replicate, if◌then◌else◌}
 use Rattle.sym_filter.specs.declared.kinds.Letters.{Letters}
 use Rattle.sym_filter.specs.declared.words.Taken.{Taken}
@@ -8,18 +8,18 @@ use Rattle.sym_filter.specs.declared.places.Place.{Place}
 use Rattle.sym_filter.specs.Places.{from_word, with_word}
 use Rattle.sym_filter.specs.Runs.{Answering, answers_at, changed, first_run, is_named, later_runs, named_in, replaced_at, tally_with, with_later_runs, word_in}
 
--- the front of a run that is held back
+-- the front of a run that is held
 abbrev pub held_of : Words → List ℕ
 held_of words = words.held.items ++ replicate words.dots 46
 
--- What is to be written for the bytes that follow: a run that is passed on to its end goes on unchanged; else the held front of a run,
--- which is at the place, comes before those bytes.
+-- What is to be written for the bytes that follow. A run that is passed on to its end continues unchanged. Otherwise
+-- what is held of a run, at its place, comes before those bytes.
 abbrev pub rest_of : Letters → Answering → List ℕ → (past : Bool) → Place → List ℕ → List ℕ
 rest_of letters answers held true place more = first_run letters more ++ with_later_runs letters (replaced_at letters answers) more
 rest_of letters answers held false place more =
     with_word letters (changed letters answers) place (first_run letters (held ++ more)) ++ with_later_runs letters (replaced_at letters answers) (held ++ more)
 
--- the words that are to be counted with the bytes that follow
+-- the words that are counted once these bytes follow
 abbrev pub named_of : Letters → List ℕ → (past : Bool) → Place → List ℕ → List (List ℕ)
 named_of letters held true place more = filter is_named (map (word_in letters) (later_runs letters more))
 named_of letters held false place more =
@@ -29,17 +29,17 @@ named_of letters held false place more =
 abbrev pub rest_after : Answering → Words → List ℕ → List ℕ
 rest_after answers words more = rest_of words.letters answers (held_of words) words.past words.place more
 
--- the tally in the end, where these bytes follow
+-- the final tally, where these bytes follow
 abbrev pub tally_after : Answering → Words → List ℕ → Tally
 tally_after answers words more =
     tally_with (answers_at words.letters answers) words.tally (named_of words.letters (held_of words) words.past words.place more)
 
--- what follows on the bytes that were appended for the bytes that were taken: dots, and the bytes themselves where they stay
+-- the bytes after those that were appended: dots, and then the taken bytes themselves, if they stay
 abbrev pub following : Taken → List ℕ → List ℕ
 following taken bytes = replicate taken.dots 46 ++ (if taken.stay then bytes else [])
 
--- a filter takes a piece of a segment and gives bytes for it: whatever follows, these bytes and what is still to come are the whole,
--- and the tally in the end is the same
+-- A filter takes a piece of a segment and gives bytes for it. Whatever follows, these bytes and what is still to come
+-- are the whole filtered segment, and the final tally is the same.
 pub record Takes (answers : Answering) (old new : Words) (piece bytes : List ℕ) : Type 0 where
   pub text : (more : List ℕ) → rest_after answers old (piece ++ more) ≡ bytes ++ rest_after answers new more
   pub counts : (more : List ℕ) → tally_after answers old (piece ++ more) ≡ tally_after answers new more

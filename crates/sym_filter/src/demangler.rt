@@ -35,7 +35,8 @@ pub trait Demangler {
     /// Lists to work on.
     fn lists(&self, alloc: Global) -> Result<Self::Lists, AllocError>;
 
-    /// Reads what is there of a symbol that may go on. What is answered for it is the same without this call.
+    /// Reads the bytes that have arrived of a symbol that may continue. The symbol's answer is the same without this
+    /// call.
     fn read_ahead(&self, lists: &mut Self::Lists, lang: Lang, front: &[u8])
         requires { FitsSymbol front.now };
 

@@ -28,11 +28,11 @@ pub enum Escape {
     Hex00,
     /// `\u001` or `\x1`.
     Hex001,
-    /// Digits that don't spell ESC, before three more.
+    /// Digits that don't spell ESC, with three more to come.
     Three,
-    /// Before two more.
+    /// Digits that don't spell ESC, with two more to come.
     Two,
-    /// Before one more.
+    /// Digits that don't spell ESC, with one more to come.
     One,
     /// ESC.
     Esc,
@@ -41,7 +41,7 @@ pub enum Escape {
 }
 
 impl Escape {
-    /// What is read with a byte more.
+    /// The escape after one more byte.
     #[inline]
     fn after(self, byte: u8) -> Escape
         ensures { result ≡ escape_after self byte }
@@ -55,7 +55,7 @@ impl Escape {
         }
     }
 
-    /// The same for a byte with which no escape begins.
+    /// The escape after a byte with which no escape begins.
     fn goes_on_after(self, byte: u8) -> Escape
         ensures { result ≡ goes_on_after self byte }
     {
@@ -76,7 +76,7 @@ impl Escape {
         }
     }
 
-    /// Whether a byte ends it.
+    /// Whether a byte ends the escape.
     #[inline]
     fn ends_with(self, byte: u8) -> bool
         ensures { result ≡ ends_with self byte }
@@ -90,7 +90,8 @@ impl Escape {
         }
     }
 
-    /// How many bytes at the front of a text are passed over: those before the next backslash or ESC, where nothing is read.
+    /// How many bytes at the front of a text may be skipped: those before the next backslash or ESC, where no escape is
+    /// open.
     fn passes(self, text: &[u8]) -> usize
         ensures within { result ≤ length text.now }
         ensures read { (letters : Letters) → IsRead false letters self self (take result text.now) }
@@ -102,14 +103,14 @@ impl Escape {
     }
 }
 
-/// An escape where it goes on, or none.
+/// The escape if it continues, otherwise none.
 fn only(goes_on: bool, escape: Escape) -> Escape
     ensures { result ≡ only goes_on escape }
 {
     if goes_on { escape } else { Escape::Outside }
 }
 
-/// What is read after a backslash and a byte.
+/// The escape after a backslash and a byte.
 fn after_backslash(byte: u8) -> Escape
     ensures { result ≡ after_backslash byte }
 {
@@ -126,7 +127,7 @@ fn after_backslash(byte: u8) -> Escape
     }
 }
 
-/// What is read after a digit: one escape where it is the digit of ESC, another where it is another.
+/// The escape after a digit: one if that is the next digit of ESC, and another if it is any other digit.
 fn after_digit(byte: u8, digit: u8, esc: Escape, other: Escape) -> Escape
     ensures { result ≡ after_digit byte digit esc other }
 {
@@ -165,7 +166,7 @@ fn is_parameter(byte: u8) -> bool
     b'0' <= byte && byte <= b';'
 }
 
-/// How many bytes at the front of a text are no backslash and not ESC, as far as they are looked at together.
+/// How many bytes at the front of a text are no backslash and not ESC, or fewer: bytes are tested sixteen at a time.
 fn before_lead(text: &[u8]) -> usize
     ensures within { result ≤ length text.now }
     ensures no_lead { list_all is_no_lead (take result text.now) ≡ true }
@@ -182,7 +183,7 @@ fn before_lead(text: &[u8]) -> usize
     length
 }
 
-/// The same, by blocks of 64 bytes.
+/// How many bytes at the front of a text are in blocks of 64 bytes that have no backslash and no ESC.
 #[inline(always)]
 fn blocks_before_lead(text: &[u8]) -> usize
     ensures within { result ≤ length text.now }
@@ -198,7 +199,8 @@ fn blocks_before_lead(text: &[u8]) -> usize
     length
 }
 
-/// A front of a text: its bytes, whether an escape ends with them, at which the text is cut, and what is read of the next.
+/// A front of a text: its bytes, whether they end with an escape, after which the text is cut, and the escape that is
+/// open then.
 #[derive(Clone, Copy, Debug, PartialEq, Eq)]
 pub struct Segment {
     pub length: usize,
@@ -206,7 +208,7 @@ pub struct Segment {
     pub escape: Escape,
 }
 
-/// The front of a text up to the end of its first escape, or all of it, where so much is read of an escape before it.
+/// The front of a text up to the end of its first escape, or all of the text, where this escape is open before it.
 pub fn first_segment(letters: Letters, text: &[u8], escape: Escape) -> Segment
     ensures within { result.length ≤ length text.now }
     ensures some { 0 < length text.now → 0 < result.length }

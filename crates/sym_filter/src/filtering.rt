@@ -62,7 +62,8 @@ pub fn filter_words<R: Source, W: Sink, D: Demangler>(
     filter_telling(alloc, reader, writer, demangler, letters, &mut Quiet)
 }
 
-/// The same, with a report that is given the words which are left, with each piece of the text before what is known of it is written.
+/// The filter with a report. The report takes the words that are left, and each piece of the text before its filtered
+/// bytes are written.
 pub fn filter_telling<R: Source, W: Sink, D: Demangler, P: Report>(
     alloc: Global,
     reader: &mut R,
@@ -145,7 +146,7 @@ fn room_for_reads(alloc: Global) -> Result<Vec<u8>, AllocError>
     vec![in alloc; 0u8; READ_SIZE]
 }
 
-/// Takes a piece of the text, and writes what is known of the filtered text by it.
+/// Takes a piece of the text, and writes the filtered bytes that are decided by it.
 fn take_piece<W: Sink, D: Demangler, P: Report>(
     demangler: &D,
     lists: &mut D::Lists,
@@ -190,8 +191,8 @@ fn take_piece<W: Sink, D: Demangler, P: Report>(
     Ok(())
 }
 
-/// Takes bytes from the front of a text, up to the end of its first escape or all of them, and puts what is known of the filtered text
-/// by them after the bytes that wait to be written. Answers how many they are.
+/// Takes bytes from the front of a text, up to the end of its first escape or all of them, and puts the filtered bytes
+/// that are decided by them after those that wait to be written. Answers how many bytes it took.
 fn take_segment<W: Sink, D: Demangler, P: Report>(
     demangler: &D,
     lists: &mut D::Lists,
@@ -253,7 +254,7 @@ fn tell_left<P: Report>(report: &mut P, out: &[u8], left: usize) -> Result<(), F
     report.leaves(&out[out.len() - left..])
 }
 
-/// Takes a part of a segment, and puts what is known of the filtered text by it after the bytes that wait to be written.
+/// Takes a part of a segment, and puts the filtered bytes that are decided by it after those that wait to be written.
 fn take_words<W: Sink, D: Demangler, P: Report>(
     demangler: &D,
     lists: &mut D::Lists,
@@ -290,7 +291,7 @@ fn take_words<W: Sink, D: Demangler, P: Report>(
     Ok(())
 }
 
-/// Puts what is still to come of a segment at its end after the bytes that wait to be written.
+/// Puts the rest of a filtered segment, at the segment's end, after the bytes that wait to be written.
 fn end_segment<W: Sink, D: Demangler, P: Report>(
     demangler: &D,
     lists: &mut D::Lists,
@@ -321,7 +322,7 @@ fn end_segment<W: Sink, D: Demangler, P: Report>(
     Ok(())
 }
 
-/// Writes what is still to come of the filtered text at the text's end.
+/// Writes the rest of the filtered text at the text's end.
 fn end_text<W: Sink, D: Demangler, P: Report>(
     demangler: &D,
     lists: &mut D::Lists,
@@ -348,7 +349,7 @@ fn end_text<W: Sink, D: Demangler, P: Report>(
     Ok(())
 }
 
-/// Puts what follows on taken bytes after the bytes that wait to be written: dots, and the bytes where they stay.
+/// Puts dots, and the taken bytes if they stay, after the bytes that wait to be written.
 #[inline(always)]
 fn put_after<W: Sink>(
     writer: &mut W,

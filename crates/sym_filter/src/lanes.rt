@@ -1,4 +1,4 @@
-// How far bytes that are looked at together are of one class.
+// Searches that test several bytes at once.
 
 ghost use Rattle.std.specs.Prelude.{◌≡◌, ◌+◌, ◌≤◌, length, drop, take, true};
 ghost use Rattle.std.specs.List.{list_all};
@@ -8,13 +8,13 @@ ghost use Rattle.sym_filter.specs.declared.kinds.Letters.TheVariants.{Ascii};
 
 use std::simd::prelude::*;
 
-/// So many bytes are looked at together.
+/// The number of bytes that are tested at once.
 pub(crate) const LANES: usize = 16;
 
-/// Or so many, where it is asked only whether there is a byte among them.
+/// The number of bytes that are tested at once for whether any of them is of a class.
 pub(crate) const BLOCK: usize = 64;
 
-/// The place of the lowest bit that is set, or the number of lanes where none is.
+/// The place of the lowest bit that is set, or the number of lanes where no bit is.
 #[inline(always)]
 fn first_set(mask: u64) -> usize
     ensures { result ≡ first_set mask }
@@ -26,7 +26,7 @@ fn first_set(mask: u64) -> usize
     }
 }
 
-/// The lanes of the bytes from a place on that are `_`, as bits.
+/// The lanes that are `_`, as bits: of the sixteen bytes from a place on.
 #[inline(always)]
 fn marks(text: &[u8], at: usize) -> u64
     requires { at + 16 ≤ length text.now }
@@ -36,7 +36,7 @@ fn marks(text: &[u8], at: usize) -> u64
     bytes.simd_eq(u8x16::splat(b'_')).to_bitmask()
 }
 
-/// How many of the bytes from a place on, as far as they are looked at together, are no `_`.
+/// How many of the sixteen bytes from a place on come before the first `_`.
 #[inline(always)]
 pub(crate) fn lanes_before_mark(text: &[u8], at: usize) -> usize
     requires { at + 16 ≤ length text.now }
@@ -45,7 +45,7 @@ pub(crate) fn lanes_before_mark(text: &[u8], at: usize) -> usize
     first_set(marks(text, at))
 }
 
-/// Whether no `_` is among the bytes from a place on that are looked at together.
+/// Whether none of the sixteen bytes from a place on is `_`.
 #[inline(always)]
 fn has_no_mark(text: &[u8], at: usize) -> bool
     requires { at + 16 ≤ length text.now }
@@ -54,20 +54,20 @@ fn has_no_mark(text: &[u8], at: usize) -> bool
     marks(text, at) == 0
 }
 
-/// Whether none is among four times as many.
+/// Whether none of the 64 bytes from a place on is `_`.
 #[inline(always)]
 pub(crate) fn block_has_no_mark(text: &[u8], at: usize) -> bool
     requires { at + 64 ≤ length text.now }
     ensures { result ≡ true → list_all is_no_mark (take 64 (drop at text.now)) ≡ true }
 {
-    // each is looked at, so that one test does for all four
+    // all four are computed, so that one branch serves them
     has_no_mark(text, at)
         & has_no_mark(text, at + LANES)
         & has_no_mark(text, at + 2 * LANES)
         & has_no_mark(text, at + 3 * LANES)
 }
 
-/// The lanes of the bytes from a place on that are a backslash or ESC, as bits.
+/// The lanes that are a backslash or ESC, as bits: of the sixteen bytes from a place on.
 #[inline(always)]
 fn leads(text: &[u8], at: usize) -> u64
     requires { at + 16 ≤ length text.now }
@@ -78,7 +78,7 @@ fn leads(text: &[u8], at: usize) -> u64
     leads.to_bitmask()
 }
 
-/// How many of the bytes from a place on, as far as they are looked at together, are no backslash and not ESC.
+/// How many of the sixteen bytes from a place on come before the first backslash or ESC.
 #[inline(always)]
 pub(crate) fn lanes_before_lead(text: &[u8], at: usize) -> usize
     requires { at + 16 ≤ length text.now }
@@ -87,7 +87,7 @@ pub(crate) fn lanes_before_lead(text: &[u8], at: usize) -> usize
     first_set(leads(text, at))
 }
 
-/// Whether no backslash and no ESC is among the bytes from a place on that are looked at together.
+/// Whether none of the sixteen bytes from a place on is a backslash or ESC.
 #[inline(always)]
 fn has_no_lead(text: &[u8], at: usize) -> bool
     requires { at + 16 ≤ length text.now }
@@ -96,20 +96,20 @@ fn has_no_lead(text: &[u8], at: usize) -> bool
     leads(text, at) == 0
 }
 
-/// Whether none is among four times as many.
+/// Whether none of the 64 bytes from a place on is a backslash or ESC.
 #[inline(always)]
 pub(crate) fn block_has_no_lead(text: &[u8], at: usize) -> bool
     requires { at + 64 ≤ length text.now }
     ensures { result ≡ true → list_all is_no_lead (take 64 (drop at text.now)) ≡ true }
 {
-    // each is looked at, so that one test does for all four
+    // all four are computed, so that one branch serves them
     has_no_lead(text, at)
         & has_no_lead(text, at + LANES)
         & has_no_lead(text, at + 2 * LANES)
         & has_no_lead(text, at + 3 * LANES)
 }
 
-/// How many of the bytes from a place on, as far as they are looked at together, belong to runs of ASCII letters.
+/// How many of the sixteen bytes from a place on come before the first that belongs to no run of ASCII letters.
 #[inline(always)]
 pub(crate) fn lanes_front(text: &[u8], at: usize) -> usize
     requires { at + 16 ≤ length text.now }

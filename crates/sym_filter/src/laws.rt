@@ -3,22 +3,24 @@ ghost use Rattle.sym_filter.specs.Runs.{TriesAreFew, TriesDecide};
 ghost use Rattle.sym_filter.specs.Splits.{FilteredByJoins, FilteredByJoinsAt, FilteredBySplits, FilteredBySplitsAt};
 ghost use Rattle.sym_filter.specs.declared.kinds.Letters.{Letters};
 
-/// A law over the definitions alone: however a text is split into longest runs, its filtered text is the replaced runs
-/// with the same bytes between them. Where words begin within runs, this is said of texts without escapes.
+/// A law over the definitions alone: however a text is split into longest runs, its filtered text has each run
+/// replaced, and the same bytes between them. Where words begin within runs, the law speaks of texts without escapes.
 pub fn filtered_by_splits()
     ensures any { FilteredBySplits }
     ensures each { (letters : Letters) → FilteredBySplitsAt letters }
 {}
 
-/// A law over the definitions alone: the filtered text of two texts joined by a byte that belongs to no run and to no
-/// escape, as a newline, is their filtered texts joined by it. So a text can be cut there, and its pieces filtered apart.
+/// A law over the definitions alone: the filtered text of two texts, joined by a byte that belongs to no run and to no
+/// escape, such as a newline, is their filtered texts joined by it. So a text can be cut there, and its pieces filtered
+/// apart.
 pub fn filtered_by_joins()
     ensures any { FilteredByJoins }
     ensures each { (letters : Letters) → FilteredByJoinsAt letters }
 {}
 
-/// A law over the definitions alone: the text for a word that begins within a run depends on those for the words that are tried
-/// alone, each of which is answered at the limit by itself; they have together at most three times the word's bytes.
+/// A law over the definitions alone: the text for a word that begins within a run depends only on those for the words
+/// that are tried, each of which is answered at the limit by itself. The words that are tried have together at most
+/// three times the word's bytes.
 pub fn tries_decide()
     ensures decide { TriesDecide }
     ensures few { TriesAreFew }

@@ -5,7 +5,7 @@ ghost use Rattle.sym_filter.specs.Marks.{before_mark, begins_name, from_mark, fr
 use crate::kinds::{Kind, Lang, Letters, kind_by_beginning};
 use crate::places::{Place, Stretch, is_divider};
 
-/// Where in a word that is held from a place on the name of its first symbol begins, or where the word ends.
+/// Where the name of the first symbol begins in a word that is held from a place on, or where the word ends.
 #[inline(always)]
 pub(crate) fn mark_in(word: &[u8], place: Place) -> usize
     ensures within { result ≤ length word.now }
@@ -34,7 +34,7 @@ fn begins_with_name(place: Place, word: &[u8]) -> bool
     }
 }
 
-/// The same as `mark_in`, of any word: each place of it is looked at.
+/// As `mark_in`, but for any word: it looks at each place.
 #[inline(never)]
 fn mark_behind(word: &[u8], place: Place) -> usize
     ensures within { result ≤ length word.now }
@@ -75,7 +75,7 @@ fn may_have_front(word: &[u8]) -> bool
     word.len() > 1 && (word[1] == b'_' || word[1] == b'G')
 }
 
-/// The same as `front_length`, by the whole of what is put before a symbol.
+/// As `front_length`, but it compares all of what may come before a symbol.
 #[inline(never)]
 fn length_of_front(word: &[u8]) -> usize
     ensures length { result ≡ front_length word.now }
@@ -106,8 +106,8 @@ fn is_mark(place: Place, rest: &[u8]) -> bool
     }
 }
 
-/// Whether a symbol of a kind may begin at a place. Within a name that is no section's, as a member's of source code, its third byte
-/// has to be one with which the names of symbols begin.
+/// Whether a symbol of a kind may begin at a place. Within a name that is no section's, such as a member's in source
+/// code, its third byte has to be one with which the names of symbols begin.
 fn is_taken(place: Place, kind: Kind, rest: &[u8]) -> bool
     ensures { result ≡ is_taken place.stretch place.last kind rest.now }
 {

@@ -9,14 +9,15 @@ use crate::kinds::Letters;
 use crate::lanes::{BLOCK, LANES, block_has_no_mark, lanes_before_mark};
 use crate::words::{closes, is_byte_of};
 
-/// What a stretch begins with: a run, or where words begin within runs a longest part of one that is ASCII.
+/// The first byte of a stretch. A stretch is a run, or a longest part of one that is ASCII where words begin within
+/// runs.
 #[derive(Clone, Copy, Debug, PartialEq, Eq)]
 pub enum Stretch {
-    /// Nothing is there of it yet.
+    /// The stretch has no byte yet.
     Empty,
-    /// A dot, as the names of sections do.
+    /// A dot, with which the names of sections begin.
     Section,
-    /// Another byte.
+    /// Any other byte.
     Other,
 }
 
@@ -93,7 +94,7 @@ pub(crate) fn begins_within(letters: Letters) -> bool
     }
 }
 
-/// Whether a byte is one of those between the parts of names after which a word may begin.
+/// Whether a byte separates parts of names, and a word may begin after it.
 pub(crate) fn is_divider(byte: u8) -> bool
     ensures { result ≡ is_divider byte }
 {
@@ -144,7 +145,7 @@ pub(crate) fn plain_front(letters: Letters, text: &[u8], place: Place) -> Front
     }
 }
 
-/// How many bytes at the front of a text are no `_`, as far as they are looked at together.
+/// How many bytes at the front of a text are no `_`, or fewer: bytes are tested sixteen at a time.
 #[inline(always)]
 fn before_mark(text: &[u8]) -> usize
     ensures within { result ≤ length text.now }
@@ -164,7 +165,8 @@ fn before_mark(text: &[u8]) -> usize
     blocks_before_mark(text)
 }
 
-/// The same where the first bytes are none, by blocks of 64 bytes: in a list of symbols and in the lines of `nm` no block has none.
+/// How many bytes at the front of a text are in blocks of 64 bytes that have no `_`. In a list of symbols and in the
+/// lines of `nm` each block has one.
 fn blocks_before_mark(text: &[u8]) -> usize
     requires long { 32 ≤ length text.now }
     requires begins { list_all is_no_mark (take 32 text.now) ≡ true }
@@ -192,7 +194,7 @@ fn is_open(letters: Letters, text: &[u8], at: usize, place: Place) -> bool
     !closes(letters, text[at - 1])
 }
 
-/// The place that a text, which begins at one, comes to.
+/// The place after a text that begins at a place.
 #[inline(always)]
 fn place_at(letters: Letters, text: &[u8], at: usize, place: Place) -> Place
     requires { at ≤ length text.now }

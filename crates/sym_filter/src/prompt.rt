@@ -1,4 +1,4 @@
-// A source that is read beside a sink: it sees at each read what the sink has taken.
+// A source that is read beside a sink: at each read it sees what the sink has taken.
 ghost use Rattle.std.specs.Prelude.{◌≡◌, ◌+◌, ◌-◌, ◌^◌, ◌<◌, ◌≤◌, ℕ, List, length, take, Option, IsSome, IfSome, IfNone};
 ghost use Rattle.std.specs.Io.KnownBytes.{Consumes, Keeps, IsAtEnd};
 ghost use Rattle.sym_filter.specs.Streams.{read_failures};
@@ -6,7 +6,8 @@ ghost use Rattle.sym_filter.specs.declared.filtering.TheConstants.{READ_SIZE};
 
 use crate::streams::{Sink, Source};
 
-/// What bytes are read from, beside what others are written to. A read may ask that some of those were written before it.
+/// A source of bytes, which is read while others are written. A read may require that some of those were written before
+/// it.
 pub trait PromptSource<W: Sink> {
     // the bytes still to come, where they are known
     ghost coming: { Self → Option (List ℕ) };
@@ -17,7 +18,7 @@ pub trait PromptSource<W: Sink> {
     // it may be read beside a sink
     ghost MayRead: { Self → W → Type 0 };
 
-    /// Reads as `read` of a source does, where it may beside this sink, and at most 16,384 bytes.
+    /// Reads at most 16,384 bytes, where the source may be read with the sink in this state.
     fn read_beside(&mut self, sink: &W, room: &mut [u8]) -> Option<usize>
         requires failures { failure_count self.old < 2 ^ 64 - 1 }
         requires may { MayRead self.old sink.now }

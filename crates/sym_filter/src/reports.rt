@@ -1,11 +1,11 @@
-// Reports of a text that is filtered: which of its words are left.
+// Reports on a text that is filtered: which of its words are left.
 ghost use Rattle.std.specs.Prelude.{◌≡◌, ◌≢◌, ◌+◌, ◌-◌, ◌^◌, ◌<◌, List, ℕ, [], ◌∷◌, ◌++◌, OnOk, IfErr};
 ghost use Rattle.sym_filter.specs.Entries.{Entry, left_word, newlines_in};
 ghost use Rattle.sym_filter.specs.Streams.{writer_faults};
 
 use crate::streams::FilterFault;
 
-/// What is given each word of a text that names a symbol and has no text, and the text's bytes, in the text's order.
+/// Takes each word of a text that names a symbol and has no text, and the text's bytes, in the text's order.
 pub trait Report {
     // how often it has failed
     ghost failure_count: { Self → ℕ };
@@ -14,7 +14,7 @@ pub trait Report {
     // it was given a beginning of these entries, the last of them maybe in part
     ghost Stops: { Self → Self → List Entry → Type 0 };
 
-    /// Takes bytes of the text. Those that end a word come after the word, where it is left.
+    /// Takes bytes of the text. The bytes that end a word come after the word, if it is left.
     fn passes(&mut self, bytes: &[u8])
         ensures tells { Tells self.old self.new (newlines_in bytes.now) }
         ensures failures { failure_count self.new ≡ failure_count self.old };
@@ -38,7 +38,7 @@ pub trait Report {
     ghost stops_before: { (old new : Self) (entries more : List Entry) → Stops old new entries → Stops old new (entries ++ more) };
 }
 
-/// A report that says nothing.
+/// A report that does nothing.
 #[derive(Clone, Copy, Debug, PartialEq, Eq)]
 pub struct Quiet;
 

@@ -81,7 +81,7 @@ pub trait Sink {
         ensures failed { IfNone result (Keeps (taken self.old) (taken self.new)) }
         ensures failures { failure_count self.new ≡ failure_count self.old + write_failures result bytes.now };
 
-    /// How often it has failed, a write that took no byte of a piece that has some among them.
+    /// How often it has failed. A write that took no byte of a nonempty piece counts as a failure.
     fn failures(&self) -> u64
         ensures { result ≡ failure_count self.now };
 }

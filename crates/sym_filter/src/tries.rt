@@ -1,4 +1,4 @@
-// The text for a word that begins within a run, where not all of its bytes may belong to the symbol.
+// The text for a word that begins within a run. Some of its bytes may not belong to the symbol.
 ghost use Rattle.std.specs.Prelude.{◌≡◌, ◌++◌, ◌<◌, ◌≤◌, ◌||◌, List, ℕ, [], length, take, drop, OnOk, IfOk, Some, is_some, unwrap_or};
 ghost use Rattle.std.specs.List.{list_any};
 ghost use Rattle.sym_filter.specs.Bytes.{is_wide};
@@ -12,8 +12,9 @@ use crate::words::{run_front, word_end};
 use std::alloc::AllocError;
 use sym_core::Refusal;
 
-/// Appends the text for a word that begins within a run, or the word where there is none, and says whether there is one. Each byte
-/// is in at most three tries: the word without what isn't ASCII at its end, the word, and the longest parts of it that are ASCII.
+/// Appends the text for a word that begins within a run, or the word where there is none, and answers whether there is
+/// one. Each byte is in at most three tries: the word without its last bytes that aren't ASCII, the word, and the
+/// longest parts of it that are ASCII.
 pub(crate) fn push_tries<D: Demangler>(
     demangler: &D,
     lists: &mut D::Lists,
@@ -33,7 +34,7 @@ pub(crate) fn push_tries<D: Demangler>(
     Ok(false)
 }
 
-/// Appends the text that a word has by one of its tries, and says whether it has one.
+/// Appends the text that a word has by one of its tries, if any, and answers whether it has one.
 fn append_tries<D: Demangler>(
     demangler: &D,
     lists: &mut D::Lists,
@@ -63,7 +64,8 @@ fn append_tries<D: Demangler>(
     Ok(part_read)
 }
 
-/// The same of a word whose last byte is ASCII and no dot: its first two tries are one.
+/// Appends the text of a word whose last byte is ASCII and no dot, by one of its tries, if any, and answers whether it
+/// has one. Its first two tries are one.
 #[inline(always)]
 fn append_whole<D: Demangler>(
     demangler: &D,
@@ -85,7 +87,7 @@ fn append_whole<D: Demangler>(
     Ok(part_read)
 }
 
-/// Where the last bytes of a word begin that are dots or not ASCII.
+/// Where the last bytes of a word begin that are dots or aren't ASCII.
 fn trimmed_end(word: &[u8]) -> usize
     ensures within { result ≤ length word.now }
     ensures trimmed { take result word.now ≡ trimmed word.now }
@@ -107,7 +109,7 @@ fn has_wide(word: &[u8]) -> bool
     word.iter().any(|byte| *byte >= 0x80)
 }
 
-/// Appends the text of a word's symbol, if it names one that has a text, and says whether it does.
+/// Appends the text of a word's symbol, if it names one that has a text, and answers whether it does.
 fn append_text<D: Demangler>(
     demangler: &D,
     lists: &mut D::Lists,
@@ -124,7 +126,7 @@ fn append_text<D: Demangler>(
     Ok(read)
 }
 
-/// The same of a word that names a symbol of a kind.
+/// Appends the text of the symbol of a word of a kind, if it has one, and answers whether it does.
 #[inline(always)]
 fn append_symbol<D: Demangler>(
     demangler: &D,
@@ -146,8 +148,8 @@ fn append_symbol<D: Demangler>(
     }
 }
 
-/// Appends a word that isn't ASCII alone with each of its longest parts in ASCII that has a text replaced, where one has, and says
-/// whether one has.
+/// Appends a word with each of its longest parts in ASCII replaced by its text, and answers whether any of them has
+/// one. The word has bytes that aren't ASCII.
 fn append_parts<D: Demangler>(
     demangler: &D,
     lists: &mut D::Lists,
@@ -182,7 +184,8 @@ struct Part {
     has_text: bool,
 }
 
-/// Appends the part of a word in ASCII at the front of a rest of it, replaced where it has a text, and the byte after it.
+/// Appends the longest part in ASCII at the front of the rest of a word, replaced where it has a text, and the byte
+/// after it.
 fn push_part<D: Demangler>(
     demangler: &D,
     lists: &mut D::Lists,

@@ -20,7 +20,7 @@ use crate::tries::push_tries;
 use std::alloc::{AllocError, Global};
 use sym_core::Refusal;
 
-/// How many words name symbols, are replaced by a text, and are not.
+/// How many words name symbols, how many of them are replaced by a text, and how many aren't.
 #[derive(Clone, Copy, Debug, PartialEq, Eq)]
 pub struct Tally {
     pub words: u64,
@@ -44,8 +44,9 @@ impl Tally {
     }
 }
 
-// For each byte the runs to which it belongs: 3, of all letters, for ASCII letters, digits and `_`; 2, of all letters, too, for `.`
-// and `$`, after which a word may begin within a run; 1, of any letters alone, for all from 0x80; else 0.
+// For each byte the runs to which it belongs. 3, runs of all letters: ASCII letters, digits and `_`. 2, runs of all
+// letters, too: `.` and `$`, after which a word may begin within a run. 1, only runs of any letters: all bytes from
+// 0x80. 0: any other byte.
 static RUN_BYTES: [u8; 256] = *b"\
     00000000000000000000000000000000\
     00002000000000203333333333000000\
@@ -82,7 +83,7 @@ pub(crate) fn closes(letters: Letters, byte: u8) -> bool
     RUN_BYTES[byte as usize] >= least
 }
 
-/// How many bytes at the front of a text belong to runs of ASCII letters, as far as they are looked at together.
+/// How many bytes at the front of a text belong to runs of ASCII letters, or fewer: bytes are tested sixteen at a time.
 #[inline(always)]
 fn lanes_run(text: &[u8]) -> usize
     ensures within { result ≤ length text.now }
@@ -105,7 +106,7 @@ pub(crate) fn run_front(letters: Letters, text: &[u8]) -> usize
     ensures in_run { list_all (is_byte_of letters) (take result text.now) ≡ true }
     ensures stops { result < length text.now → is_byte_of letters (slice_index text.now result) ≡ false }
 {
-    // most often it is asked for where a run ends
+    // most calls are at the end of a run
     if text.is_empty() || !is_byte_of(letters, text[0]) {
         return 0;
     }
@@ -119,30 +120,31 @@ pub(crate) fn run_front(letters: Letters, text: &[u8]) -> usize
     length
 }
 
-/// How many bytes of a text were taken, and what follows on the bytes that were appended for them: dots, and after
-/// the dots the bytes themselves, where they stay.
+/// How many bytes of a text were taken, and what follows the bytes that were appended for them: dots, and then the
+/// taken bytes themselves, if they stay.
 #[derive(Clone, Copy, Debug, PartialEq, Eq)]
 pub struct Taken {
     pub dots: u128,
     pub count: usize,
     pub stay: bool,
-    /// How many of the last bytes that were appended are a word that names a symbol and has no text.
+    /// How many of the last appended bytes are a word that names a symbol and has no text.
     pub left: usize,
 }
 
-/// The dots that come after the word of a run that was ended, and how many of the last bytes that were appended are that word, where
-/// it names a symbol and has no text.
+/// The dots after the word of a run that was ended, and how many of the last appended bytes are that word, if it names
+/// a symbol and has no text.
 #[derive(Clone, Copy, Debug, PartialEq, Eq)]
 pub struct Ended {
     pub dots: u128,
     pub left: usize,
 }
 
-/// Where a text is that is filtered.
+/// What a filter holds of a text, and where it is in it.
 #[derive(Drop)]
 pub struct Words {
     letters: Letters,
-    // the run from its word on, up to its last byte that is no dot; nothing where no word has begun or the run is passed on
+    // the run from its word on, up to its last byte that is no dot; no bytes where no word has begun or the run is
+    // passed on
     held: Vec<u8>,
     // the dots after it
     dots: u128,
@@ -160,7 +162,7 @@ impl Words {
     ghost use Rattle.sym_filter.specs.Words.{held_of, following, Takes};
     ghost use Rattle.sym_filter.specs.Runs.{Answering, tally_with_word};
 
-    /// A text's beginning, whose words have these letters.
+    /// The beginning of a text whose words have these letters.
     pub fn new(alloc: Global, letters: Letters) -> Words
         ensures letters { result.letters ≡ letters }
         ensures holds_nothing { held_of result ≡ [] }
@@ -197,7 +199,7 @@ impl Words {
         self.letters
     }
 
-    /// Lets the demangler read what is there of the word that is held, if it names a symbol.
+    /// Lets the demangler read the bytes that have arrived of the held word, if it names a symbol.
     pub fn read_ahead<D: Demangler>(&self, demangler: &D, lists: &mut D::Lists) {
         if let Some(kind) = kind_of(&self.held) {
             demangler.read_ahead(lists, kind.lang, kind.symbol_of(&self.held));
@@ -445,7 +447,7 @@ impl Words {
     }
 }
 
-/// Appends the bytes before the name of a symbol, which most often are none.
+/// Appends the bytes before the name of a symbol. Most often there are none.
 #[inline(always)]
 fn push_front(out: &mut Vec<u8>, front: &[u8]) -> Result<(), AllocError>
     ensures { OnOk result (out.new.items ≡ out.old.items ++ front.now) }
@@ -456,7 +458,7 @@ fn push_front(out: &mut Vec<u8>, front: &[u8]) -> Result<(), AllocError>
     out.extend_from_slice(front)
 }
 
-/// How many bytes of a word are left: all where it has no text.
+/// How many bytes of a word are left: all of them, unless it has a text.
 #[inline(always)]
 fn left_bytes(word: &[u8], has_text: bool) -> usize
     ensures { result ≡ (if has_text then 0 else length word.now) }
@@ -464,7 +466,7 @@ fn left_bytes(word: &[u8], has_text: bool) -> usize
     if has_text { 0 } else { word.len() }
 }
 
-/// Appends the text of a word's symbol, or the word where it has none, and says whether it has one.
+/// Appends the text of a word's symbol, or the word where it has none, and answers whether it has one.
 fn push_text<D: Demangler>(
     demangler: &D,
     lists: &mut D::Lists,

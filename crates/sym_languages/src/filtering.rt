@@ -8,6 +8,7 @@ use itanium::Abi;
 use std::alloc::Global;
 use sym_filter::{FilterFault, Sink, Source, Tally, filter_with};
 use sym_print::Detail;
+use sym_recent::Recent;
 
 /// Reads all that the source gives, and writes it with each word that names a symbol replaced by the symbol's whole text, where
 /// that costs at most the limit.
@@ -51,5 +52,8 @@ pub fn filter_as<R: Source, W: Sink>(
         detail,
         cpp: Abi,
     };
-    filter_with(alloc, reader, writer, &languages)
+    let recent = Recent {
+        demangler: languages,
+    };
+    filter_with(alloc, reader, writer, &recent)
 }

@@ -9,7 +9,6 @@ ghost use Rattle.sym_filter.specs.Demangled.{IsAppended, IsDemangled};
 ghost use Rattle.sym_languages.specs.Languages.{AreCounts, AreCountsBy, language_answer_by};
 
 use crate::counted::Counted;
-use cpp_direct::Direct;
 use itanium::{Abi, Wide, write_less};
 use rust_short_way::write_brief;
 use rust_v0::V0;
@@ -29,13 +28,13 @@ pub trait Cpp: Counted {
 }
 
 impl Cpp for Abi {
-    fn write_less(direct: &mut Direct, symbol: &[u8], limit: u32, detail: Detail) -> bool {
+    fn write_less(direct: &mut itanium::Writer, symbol: &[u8], limit: u32, detail: Detail) -> bool {
         write_less(direct, symbol, limit, false, detail)
     }
 }
 
 impl Cpp for Wide {
-    fn write_less(direct: &mut Direct, symbol: &[u8], limit: u32, detail: Detail) -> bool {
+    fn write_less(direct: &mut itanium::Writer, symbol: &[u8], limit: u32, detail: Detail) -> bool {
         write_less(direct, symbol, limit, true, detail)
     }
 }
@@ -56,7 +55,7 @@ pub struct Lists<C: Cpp> {
     pub rust: Workspace<V0>,
     // those of the short ways where less than all is shown
     less: C::Direct,
-    brief: rust_direct::Direct,
+    brief: rust_short_way::Writer,
 }
 
 impl<C: Cpp> Lists<C> {

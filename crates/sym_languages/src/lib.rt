@@ -1,6 +1,7 @@
 //! The demangler over C++ and Rust, those in front of it, for legacy Rust names and for pressed spellings, and the filter over it.
 #![tactic(auto)]
 
+mod alike;
 mod counted;
 mod filtering;
 pub mod languages;

@@ -3,12 +3,12 @@ use Rattle.std.proofs.Common.{◌≡◌, ℕ, suc, ◌+◌, ◌<◌, List, [], �
 use Rattle.std.proofs.lemmas.List.{reverse-append}
 use Rattle.std.proofs.Math.Seq.{drop-cons}
 
--- what is left of a list from a place on is that place's element, and what is left after it
+-- from a place on a list is the element there and the elements after it
 pub drop-next : {X : Type 0} (xs : List X) (k : ℕ) (x : X) → k < length xs → x ≡ get_or xs k x → drop k xs ≡ x ∷ drop (k + 1) xs
 drop-next xs k x h e =
     let more : suc k ≡ k + 1 = omega arith in
     drop-cons xs k x h ∙ ap (λ y. y ∷ drop (suc k) xs) (sym e) ∙ ap (λ n. x ∷ drop n xs) more
 
--- the elements from a place on, the last first
+-- the elements from a place on, in reverse order
 pub reverse-next : {X : Type 0} (xs : List X) (k : ℕ) (x : X) → k < length xs → x ≡ get_or xs k x → reverse (drop k xs) ≡ reverse (drop (k + 1) xs) ++ x ∷ []
 reverse-next xs k x h e = ap reverse (drop-next xs k x h e) ∙ reverse-append (x ∷ []) (drop (k + 1) xs)

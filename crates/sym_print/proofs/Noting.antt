@@ -24,18 +24,18 @@ length_of_text (bytes b rest) = omega (arith, length-append b (text_of rest), le
 length_of_text (item parts rest) = omega (arith, length-append (text_of parts) (text_of rest), length_of_text parts, length_of_text rest)
 
 module _ {C : Type 0} where
-  -- an item that is begun after others, above their places, is within them
+  -- the items stay nested when one begins at a place no lower than theirs
   pub nested-push : (low : ℕ) (begun : List (Begun C)) (b : Begun C) → low ≤ b.below → AreNested low begun → All (λ a. a.below ≤ b.below) begun → AreNested low (begun ++ b ∷ [])
   nested-push low [] b lt nested all = (lt, tt)
   nested-push low (a ∷ rest) b lt nested all =
       (nested.0, nested-push a.below rest b (All-head (λ x. x.below ≤ b.below) a rest all) nested.1 (All-tail (λ x. x.below ≤ b.below) a rest all))
 
-  -- those before the innermost
+  -- the items before the innermost one are nested
   pub nested-pop : (low : ℕ) (begun : List (Begun C)) (b : Begun C) → AreNested low (begun ++ b ∷ []) → AreNested low begun
   nested-pop low [] b nested = tt
   nested-pop low (a ∷ rest) b nested = (nested.0, nested-pop a.below rest b nested.1)
 
-  -- the innermost has its place above theirs
+  -- the innermost item has the highest place
   nested-low : (low : ℕ) (begun : List (Begun C)) (b : Begun C) → AreNested low (begun ++ b ∷ []) → low ≤ b.below
   nested-low low [] b nested = nested.0
   nested-low low (a ∷ rest) b nested = omega (arith, nested.0, nested-low a.below rest b nested.1)
@@ -44,7 +44,7 @@ module _ {C : Type 0} where
   nested-all low [] b nested = All-nil (λ a. a.below ≤ b.below)
   nested-all low (a ∷ rest) b nested = All-cons (λ x. x.below ≤ b.below) a rest (nested-low a.below rest b nested.1) (nested-all a.below rest b nested.1)
 
-  -- where the innermost isn't whole, none is
+  -- where the innermost item isn't whole, no item is
   pub below-unmet : (low height : ℕ) (begun : List (Begun C)) → AreNested low begun → All (λ b. b.below ≤ height) begun → (EndsAt height begun → ⊥) → AreBelow height begun
   below-unmet low height [] nested all unmet = All-nil (λ b. b.below < height)
   below-unmet low height (b ∷ []) nested all unmet =
@@ -54,7 +54,7 @@ module _ {C : Type 0} where
       (λ h. unmet (h.0, a ∷ h.1, ap (λ l. a ∷ l) h.2, h.3)) in
       All-cons (λ x. x.below < height) a (b ∷ rest) (omega (arith, nested.1.0, All-head (λ x. x.below < height) b rest inner)) inner
 
--- a list's end that is written and read on
+-- the bytes after a place, once more bytes are written
 joined-on : (d own up rest one whole : List ℕ) → own ++ up ≡ one → d ++ (one ++ rest) ≡ whole → (d ++ own) ++ (up ++ rest) ≡ whole
 joined-on d own up rest one whole e w =
     append_assoc d own (up ++ rest) ∙ ap (λ t. d ++ t) (sym (append_assoc own up rest)) ∙ ap (λ t. d ++ (t ++ rest)) e ∙ w
@@ -69,7 +69,7 @@ module _ {C : Type 0} (unshared : Item C → Unshared) (bytes_of : Part C → Li
   count : List (Part C) → ℕ
   count = steps_of_stack unshared bytes_of
 
-  -- One entry was taken: others are in its place and its text is written as far as theirs isn't.
+  -- One entry was taken: other entries are in its place, and what they don't print any more is written.
   pub record Moves (stack new : List (Part C)) (text written : List ℕ) (spent paid taken counted : ℕ) : Type 0 where
     pub left : List (Part C)
     pub next : Part C
@@ -83,7 +83,7 @@ module _ {C : Type 0} (unshared : Item C → Unshared) (bytes_of : Part C → Li
     pub takes : counted + steps_of_stack unshared bytes_of above ≡ taken + steps_of_part unshared bytes_of next
     pub few : counted + spent ≤ taken + paid
 
-  -- all together print the same as before
+  -- the text and the stack together print the same as before
   pub text-moved : (stack new : List (Part C)) (text written : List ℕ) (spent paid taken counted : ℕ) → Moves stack new text written spent paid taken counted
       → written ++ text_of_stack unshared bytes_of new ≡ text ++ text_of_stack unshared bytes_of stack
   unfolding shown
@@ -120,7 +120,7 @@ module _ {C : Type 0} (unshared : Item C → Unshared) (bytes_of : Part C → Li
         m.takes,
       )
 
-  -- what is above a place that is below the entry taken moves as all does
+  -- the entries above a place that is below the entry taken move as the whole stack does
   moved-above : (stack new : List (Part C)) (text written : List ℕ) (spent paid taken counted below from : ℕ) → Moves stack new text written spent paid taken counted
       → below < length stack → from ≤ length text → Moves (drop below stack) (drop below new) (drop from text) (drop from written) spent paid taken counted
   moved-above stack new text written spent paid taken counted below from m lt within =
@@ -150,7 +150,7 @@ module _ {C : Type 0} (unshared : Item C → Unshared) (bytes_of : Part C → Li
         few = omega (arith, m.few, h.few);
       }
 
-  -- what is written stays where it is
+  -- a note still holds once more is written
   note-moved : (text written own : List ℕ) (n : Note C) → written ≡ text ++ own → IsNote unshared text n → IsNote unshared written n
   note-moved text written own n puts h = record {
     after = h.after ++ own;
@@ -171,7 +171,7 @@ module _ {C : Type 0} (unshared : Item C → Unshared) (bytes_of : Part C → Li
     nested = h.nested;
   }
 
-  -- the notes hold where no other note was made
+  -- the notes hold where the same notes are made
   pub noted-same : (old new : Notes C) (stack : List (Part C)) (text : List ℕ) (spent taken : ℕ) → new.known ≡ old.known → new.begun ≡ old.begun
       → AreNoted unshared bytes_of old stack text spent taken → AreNoted unshared bytes_of new stack text spent taken
   noted-same old new stack text spent taken known begun h = record {
@@ -180,7 +180,7 @@ module _ {C : Type 0} (unshared : Item C → Unshared) (bytes_of : Part C → Li
     nested = subst (λ b. AreNested 0 b.items) (sym begun) h.nested;
   }
 
-  -- the innermost item that is being written isn't whole, nor is any
+  -- where the innermost item that is being written isn't whole, no item is
   pub noted-unmet : (notes : Notes C) (stack : List (Part C)) (text : List ℕ) (spent taken height : ℕ) → AreNoted unshared bytes_of notes stack text spent taken
       → height ≡ length stack → (EndsAt height notes.begun.items → ⊥) → AreBelow (length stack) notes.begun.items
   noted-unmet notes stack text spent taken height h is unmet =
@@ -314,12 +314,12 @@ module _ {C : Type 0} (unshared : Item C → Unshared) (bytes_of : Part C → Li
         nested = nested-pop 0 new.begun.items b (subst (AreNested 0) was noted.nested);
       }
 
-  -- what is written again is paid for
+  -- the limit covers a text that is written again
   pub again-paid : (text written : List ℕ) (n : Note C) (spent paid : ℕ) → IsNote unshared text n → written ≡ text ++ text_of (unshared n.item) → paid ≡ spent + n.cost → length text ≤ spent → length written ≤ paid
   again-paid text written n spent paid h puts pays within =
       omega (arith, ap length puts, length-append text (text_of (unshared n.item)), length_of_text (unshared n.item), h.costs, pays, within)
 
-  -- an item that can't be paid for is part of a stack that can't
+  -- where the limit doesn't cover a noted item, it doesn't cover the stack either
   pub again-too-dear : (stack : List (Part C)) (i : Item C) (text : List ℕ) (n : Note C) (limit spent : ℕ) → IsNext stack (Sub i) → n.item ≡ i → IsNote unshared text n → limit < spent + n.cost
       → limit < spent + cost_of_stack unshared bytes_of stack
   again-too-dear stack i text n limit spent next same h dear =
@@ -333,7 +333,7 @@ module _ {C : Type 0} (unshared : Item C → Unshared) (bytes_of : Part C → Li
     nested = subst (AreNested 0) (sym begun) tt;
   }
 
-  -- the bytes from where a note's text begins to where it ends are that text
+  -- the bytes between the two places of a note are its item's text
   pub noted-bytes : (text : List ℕ) (n : Note C) → IsNote unshared text n → take (n.to - n.from) (drop n.from text) ≡ text_of (unshared n.item)
   noted-bytes text n h =
       let long : n.to - n.from ≡ length (text_of (unshared n.item)) = omega (arith, h.ends) in
@@ -342,7 +342,7 @@ module _ {C : Type 0} (unshared : Item C → Unshared) (bytes_of : Part C → Li
       ∙ take-append-le (length (text_of (unshared n.item))) (text_of (unshared n.item)) h.after (omega arith)
       ∙ take_all (length (text_of (unshared n.item))) (text_of (unshared n.item)) (omega arith)
 
-  -- they are within the text, and cost at least their number
+  -- a note's bytes are within the text, and the item costs at least as much as they are
   pub noted-within : (text : List ℕ) (n : Note C) → IsNote unshared text n → (n.from ≤ n.to) × (n.to ≤ length text) × (n.to - n.from ≤ n.cost) × (0 < n.cost)
   noted-within text n h = (
     omega (arith, h.ends),

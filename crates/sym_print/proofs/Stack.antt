@@ -25,13 +25,13 @@ module _ {C : Type 0} where
       let split : take (suc (length stack - 1)) stack ≡ take (length stack - 1) stack ++ get_or stack (length stack - 1) next ∷ [] = take-suc stack (length stack - 1) next within in
       sym all ∙ ap (λ n. take n stack) (sym one) ∙ split ∙ ap (λ p. take (length stack - 1) stack ++ p ∷ []) here
 
-  -- taken from the stack into a list of its own, an entry is above what is left
+  -- an entry that was taken into a list of its own is above what is left of the stack
   pub top_is : (stack left none parts : List (Part C)) (next : Part C) → stack ≡ left ++ next ∷ [] → none ≡ [] → parts ≡ none ++ next ∷ [] → with_parts left parts ≡ stack
   top_is stack left none parts next popped empty put =
       let one : parts ≡ next ∷ [] = put ∙ ap (λ xs. xs ++ next ∷ []) empty in
       ap (λ xs. left ++ reverse xs) one ∙ sym popped
 
-  -- it may be asked for where all may
+  -- the next entry may be asked for where all entries may
   pub next_may_come : (P : Part C → Type 0) (stack : List (Part C)) (next : Part C) → All P stack → IsNext stack next → P next
   next_may_come P stack next all h =
       subst P (get_or_from_slice_get stack (length stack - 1) next next h)
@@ -43,7 +43,7 @@ module _ {C : Type 0} where
       subst (All P) (sym (reverse-append (x ∷ []) xs))
       (All-push P (reverse xs) x (All-reverse P xs (All-tail P x xs all)) (All-head P x xs all))
 
-  -- all that is on the stack may be asked for, once an item's parts are in its place
+  -- all entries may be asked for, once an item's parts are in its place
   pub All-visit : (P : Part C → Type 0) (stack parts : List (Part C)) → All P stack → All P parts → All P (take (length stack - 1) stack ++ reverse parts)
   All-visit P stack parts old new = All-append P (take (length stack - 1) stack) (reverse parts) (All-take P (length stack - 1) stack old) (All-reverse P parts new)
 
@@ -53,23 +53,23 @@ module _ {C : Type 0} where
   All-turn P held below after left i was is old new =
       All-same P after (below ++ reverse left) is (All-append P below (reverse left) ((All-pop P held below (Some (Sub i)) was old).0) (All-reverse P left new))
 
-  -- a part that was read where it is
+  -- a part that was read at its place in a list
   pub here_is : (seen parts : List (Part C)) (n k : ℕ) (part : Part C) → seen ≡ parts → n ≡ length parts → k < n → part ≡ get_or seen k part → slice_get parts k ≡ Some part
   here_is seen parts n k part same count within read = ap (λ xs. slice_get xs k) (sym same) ∙ slice_get_read seen n k part (count ∙ ap length (sym same)) within read
 
-  -- the next of the parts above a stack comes last
+  -- the first of the parts above a stack comes last in the list
   pub above_is : (stack parts : List (Part C)) (k : ℕ) (part : Part C) → slice_get parts k ≡ Some part
       → with_parts stack (drop k parts) ≡ with_parts stack (drop (k + 1) parts) ++ part ∷ []
   above_is stack parts k part h =
       let last = reverse-next parts k part (slice_get_within parts k part h) (sym (get_or_from_slice_get parts k part part h)) in
       ap (λ r. stack ++ r) last ∙ sym (append_assoc stack (reverse (drop (k + 1) parts)) (part ∷ []))
 
-  -- the parts after it were moved to the stack
+  -- a part is above those after it, which were moved to the stack
   pub above_moved : (stack moved now parts : List (Part C)) (k : ℕ) (part : Part C) → slice_get parts k ≡ Some part → moved ≡ with_parts stack (drop (k + 1) parts) → now ≡ moved
       → with_parts stack (drop k parts) ≡ now ++ part ∷ []
   above_moved stack moved now parts k part h put same = above_is stack parts k part h ∙ ap (λ s. s ++ part ∷ []) (sym (same ∙ put))
 
-  -- and it is above them
+  -- a part and those after it are above the stack, once those after it were moved there
   pub moved_is : (stack moved parts left : List (Part C)) (k : ℕ) (part : Part C) → slice_get parts k ≡ Some part → moved ≡ with_parts stack (drop (k + 1) parts) → left ≡ take (k + 1) parts
       → with_parts moved (drop k left) ≡ with_parts stack (drop k parts)
   moved_is stack moved parts left k part h put kept =
@@ -77,7 +77,7 @@ module _ {C : Type 0} where
       let one : drop k left ≡ part ∷ [] = ap (λ xs. drop k xs) kept ∙ drop-take k 1 parts ∙ ap (λ xs. take 1 xs) here in
       ap (λ xs. moved ++ reverse xs) one ∙ ap (λ xs. xs ++ part ∷ []) put ∙ sym (above_is stack parts k part h)
 
-  -- how long the stack is, with what was taken from it, once parts are in that one's place
+  -- the length of a stack, before an item is taken from it and once the item's parts are in its place
   pub length_of_turn : (held below after left : List (Part C)) (i : Item C) → held ≡ below ++ Sub i ∷ [] → after ≡ below ++ reverse left
       → (length held ≡ length below + 1) × (length after ≡ length below + length left)
   length_of_turn held below after left i was is = (
@@ -112,7 +112,7 @@ module _ {C : Type 0} (unshared : Item C → Unshared) (bytes_of : Part C → Li
   count : List (Part C) → ℕ
   count = steps_of_stack unshared bytes_of
 
-  -- what is above is printed first
+  -- a stack prints what is above before what is below
   pub text_of_stack-append : (below above : List (Part C)) → text_of_stack unshared bytes_of (below ++ above) ≡ text_of_stack unshared bytes_of above ++ text_of_stack unshared bytes_of below
   unfolding shown one
   text_of_stack-append [] above = sym (append-nil (shown above))
@@ -163,7 +163,7 @@ module _ {C : Type 0} (unshared : Item C → Unshared) (bytes_of : Part C → Li
   steps_of_stack-reverse (next ∷ rest) =
       omega (arith, ap count (reverse-append (next ∷ []) rest), steps_of_stack-append (reverse rest) (next ∷ []), steps_of_stack-reverse rest, steps_of_joined next rest)
 
-  -- the stack without its next entry prints what is left after it
+  -- a stack prints its next entry, and then what is left of it
   pub text_of_next : (stack : List (Part C)) (next : Part C) → IsNext stack next
       → text_of_stack unshared bytes_of stack ≡ text_of_part unshared bytes_of next ++ text_of_stack unshared bytes_of (take (length stack - 1) stack)
   unfolding shown
@@ -179,7 +179,7 @@ module _ {C : Type 0} (unshared : Item C → Unshared) (bytes_of : Part C → Li
   unfolding count
   steps_of_next stack next h = omega (arith, ap count (next_is_last stack next h), steps_of_stack-append (take (length stack - 1) stack) (next ∷ []))
 
-  -- an item's parts in its place, the first of them possibly written already, print what it does
+  -- an item's parts, in its place, print what the item does; the first of them may be written already
   pub text_of_visit : (stack parts left : List (Part C)) (i : Item C) (old new : List ℕ) → IsNext stack (Sub i) → unshared i ≡ joined unshared bytes_of parts
       → new ++ text_of (joined unshared bytes_of left) ≡ old ++ text_of (joined unshared bytes_of parts)
       → new ++ text_of_stack unshared bytes_of (take (length stack - 1) stack ++ reverse left) ≡ old ++ text_of_stack unshared bytes_of stack
@@ -192,21 +192,21 @@ module _ {C : Type 0} (unshared : Item C → Unshared) (bytes_of : Part C → Li
       ∙ append_assoc old (text_of (unshared i)) below
       ∙ ap (λ t. old ++ t) (sym (text_of_next stack (Sub i) h))
 
-  -- and they cost one less than it
+  -- an item's parts cost one less than the item
   pub cost_of_visit : (stack parts left : List (Part C)) (i : Item C) (old new : ℕ) → IsNext stack (Sub i) → unshared i ≡ joined unshared bytes_of parts
       → new + cost_of_parts (joined unshared bytes_of left) ≡ (old + 1) + cost_of_parts (joined unshared bytes_of parts)
       → new + cost_of_stack unshared bytes_of (take (length stack - 1) stack ++ reverse left) ≡ old + cost_of_stack unshared bytes_of stack
   cost_of_visit stack parts left i old new h e paid =
       omega (arith, paid, cost_of_stack-append (take (length stack - 1) stack) (reverse left), cost_of_stack-reverse left, ap cost_of_parts e, cost_of_next stack (Sub i) h)
 
-  -- and take one step less
+  -- an item's parts take one step less than the item
   pub steps_of_visit : (stack parts left : List (Part C)) (i : Item C) (old new : ℕ) → IsNext stack (Sub i) → unshared i ≡ joined unshared bytes_of parts
       → new + steps_of_parts (joined unshared bytes_of left) ≡ (old + 1) + steps_of_parts (joined unshared bytes_of parts)
       → new + steps_of_stack unshared bytes_of (take (length stack - 1) stack ++ reverse left) ≡ old + steps_of_stack unshared bytes_of stack
   steps_of_visit stack parts left i old new h e paid =
       omega (arith, paid, steps_of_stack-append (take (length stack - 1) stack) (reverse left), steps_of_stack-reverse left, ap steps_of_parts e, steps_of_next stack (Sub i) h)
 
-  -- likewise for all three, where the item was taken from the stack before
+  -- text, cost and steps likewise, where the item was taken from the stack before
   pub text_of_turn : (held below after parts left : List (Part C)) (i : Item C) (old new whole : List ℕ) → held ≡ below ++ Sub i ∷ [] → after ≡ below ++ reverse left
       → unshared i ≡ joined unshared bytes_of parts → new ++ text_of (joined unshared bytes_of left) ≡ old ++ text_of (joined unshared bytes_of parts)
       → old ++ text_of_stack unshared bytes_of held ≡ whole → new ++ text_of_stack unshared bytes_of after ≡ whole
@@ -292,18 +292,18 @@ module _ {C : Type 0} (unshared : Item C → Unshared) (bytes_of : Part C → Li
   unfolding count
   steps_of_put held below part old new whole was is_text paid before = omega (arith, ap count was, steps_of_stack-append below (part ∷ []), steps_of_text part is_text, paid, before)
 
-  -- no entry costs less than it spends
+  -- an entry costs at least what taking it spends
   pub spends-le : (next : Part C) → spends unshared bytes_of next ≤ cost_of_part unshared bytes_of next
   spends-le (Sub i) = omega arith
   spends-le _ = omega arith
 
-  -- a text above the stack that can't be paid for is part of what can't
+  -- where the limit doesn't cover a text above a stack, it doesn't cover both together
   pub text_too_dear : (held below : List (Part C)) (part : Part C) (limit spent : ℕ) → held ≡ below ++ part ∷ [] → IsText part → limit < spent + length (bytes_of part)
       → limit < spent + cost_of_stack unshared bytes_of held
   unfolding price
   text_too_dear held below part limit spent was is_text dear = omega (arith, ap price was, cost_of_stack-append below (part ∷ []), cost_of_text part is_text, dear)
 
-  -- and so is an entry
+  -- where the limit doesn't cover an entry, it doesn't cover the stack
   pub part_too_dear : (held below : List (Part C)) (part : Part C) (limit spent : ℕ) → held ≡ below ++ part ∷ [] → limit < spent + spends unshared bytes_of part
       → limit < spent + cost_of_stack unshared bytes_of held
   unfolding price
@@ -322,13 +322,13 @@ module _ {C : Type 0} (unshared : Item C → Unshared) (bytes_of : Part C → Li
       ∙ ap (λ t. one next ++ shown t) e
       ∙ sym (text_of_next stack next h))
 
-  -- an entry that can't be paid for is part of a stack that can't
+  -- where the limit doesn't cover the next entry, it doesn't cover the stack
   pub too_dear : (stack : List (Part C)) (next : Part C) (limit spent : ℕ) → IsNext stack next → limit < spent + spends unshared bytes_of next
       → limit < spent + cost_of_stack unshared bytes_of stack
   too_dear stack next limit spent h dear = omega (arith, cost_of_next stack next h, spends-le next)
 
 module _ {C : Type 0} where
-  -- what was printed until nothing was left has cost no more than the limit
+  -- a text that was printed to its end has cost no more than the limit
   pub printed-within : (unshared : Item C → Unshared) (bytes_of : Part C → List ℕ) (printed : Printer C) {begun : Printer C}
       {root : Item C} {limit : ℕ} → Begins begun root limit → entries printed ≡ []
       → spent printed + cost_of_stack unshared bytes_of (entries printed)

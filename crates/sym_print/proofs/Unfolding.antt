@@ -49,12 +49,12 @@ module _ {I : Type 0} (parts_of : I → List (PartOf I)) (rank : I → ℕ) (fal
         ap (λ c. bytes c (joined (λ i. printed parts_of rank (item_of i)) bytes_of rest)) same.0
         ∙ ap (bytes b) (joined-parts rest others same.1)
 
-    -- so a layout whose parts are those of the unshared item prints what that item does
+    -- a layout whose parts are those of the unshared item prints what the item does
     pub prints_the_same : (i : Item C) (parts : List (Part C)) → AreParts item_of bytes_of parts (parts_of (item_of i))
         → printed parts_of rank (item_of i) ≡ joined (λ j. printed parts_of rank (item_of j)) bytes_of parts
     prints_the_same i parts same = printed-parts (item_of i) ∙ sym (joined-parts parts (parts_of (item_of i)) same)
 
--- items that are related, and whose parts are alike, print the same: as a closed tree does in any context
+-- Items that are related, and whose parts are alike, print the same. So a closed tree prints the same in any context.
 module _ {I J : Type 0} (R : I → J → Type 0) where
   alike_parts : (f : I → Unshared) (h : J → Unshared) (rank : I → ℕ) (rank2 : J → ℕ) (n m : ℕ) → ((i : I) (j : J) → rank i < n → rank2 j < m → R i j → f i ≡ h j)
       → (parts : List (PartOf I)) (others : List (PartOf J)) → RanksBelow rank n parts → RanksBelow rank2 m others → AreAlike R parts others → printed_parts f parts ≡ printed_parts h others

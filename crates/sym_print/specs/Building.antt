@@ -1,4 +1,4 @@
--- Words for parts that are built as data, by recursion over a tree: a text or an item before what is after it.
+-- Parts that are built as data, by recursion over a tree: a text or an item goes before the parts after it.
 use Rattle.std.specs.Prelude.{ℕ, List, [], ◌∷◌, Option, Some, None}
 use Rattle.sym_print.specs.Unshared.{Unshared, bytes, item}
 

@@ -1,4 +1,4 @@
--- What is shown in a detail.
+-- What a detail shows.
 use Rattle.std.specs.Prelude.{Bool, true, false}
 use Rattle.sym_print.specs.declared.detail.Detail.{Detail}
 use Rattle.sym_print.specs.declared.detail.Detail.TheVariants.{Full, Brief, NoParameters, BriefNoParameters}
@@ -10,7 +10,7 @@ has_arguments Brief = false
 has_arguments NoParameters = true
 has_arguments BriefNoParameters = false
 
--- whether functions have their parameters, and what is around them
+-- whether functions have their parameters, and what surrounds those
 abbrev pub has_parameters : Detail → Bool
 has_parameters Full = true
 has_parameters Brief = true

@@ -2,6 +2,7 @@ pub mod Unshared
 pub mod Building
 pub mod Answer
 pub mod Joined
+pub mod Peak
 pub mod Stacked
 pub mod Noted
 pub mod Held

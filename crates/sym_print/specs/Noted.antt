@@ -29,20 +29,20 @@ pub record IsBegun {C : Type 0} (unshared : Item C → Unshared) (bytes_of : Par
   pub few : taken + begun.spent ≤ begun.steps + spent
 
 module _ {C : Type 0} where
-  -- items that were begun one within the other: no place is lower than that of the item before
+  -- items that were begun one within the other: each has its place no lower than the item before
   abbrev pub AreNested : ℕ → List (Begun C) → Type 0
   AreNested low [] = Unit {0}
   AreNested low (begun ∷ inner) = (low ≤ begun.below) × AreNested begun.below inner
 
-  -- their places are below a height
+  -- the places of items are below a height
   abbrev pub AreBelow : ℕ → List (Begun C) → Type 0
   AreBelow height begun = All (λ b. b.below < height) begun
 
-  -- this is the innermost
+  -- the innermost of the items
   abbrev pub EndsWith : List (Begun C) → Begun C → Type 0
   EndsWith begun last = (outer : List (Begun C)) × (begun ≡ outer ++ last ∷ [])
 
-  -- the innermost has its place at a height
+  -- the innermost item has its place at a height
   abbrev pub EndsAt : ℕ → List (Begun C) → Type 0
   EndsAt height begun = (b : Begun C) × (outer : List (Begun C)) × (begun ≡ outer ++ b ∷ []) × (b.below ≡ height)
 

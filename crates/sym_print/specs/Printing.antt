@@ -1,4 +1,4 @@
--- What there is to say of a printer, without its fields.
+-- What callers may know of a printer, without its fields.
 use Rattle.std.specs.Prelude.{◌≡◌, ℕ, ◌+◌, ◌<◌, length, Option, None, List, [], ◌∷◌, vec_capacity}
 use Rattle.sym_core.specs.declared.Refusal.{Refusal}
 use Rattle.sym_print.specs.declared.layout.Item.{Item}
@@ -8,7 +8,7 @@ use Rattle.sym_print.specs.declared.printer.Printer.{Printer}
 use Rattle.sym_print.specs.Progress.{refusals}
 
 module _ {C : Type 0} where
-  -- what is still to print, the next entry last
+  -- the parts that are still to be printed, the next one last
   abbrev pub entries : Printer C → List (Part C)
   entries printer = printer.stack.items
 
@@ -16,7 +16,7 @@ module _ {C : Type 0} where
   abbrev pub written : Printer C → List ℕ
   written printer = printer.text.items
 
-  -- what the bytes and the items so far have cost
+  -- the cost of the bytes and the items so far
   abbrev pub spent : Printer C → ℕ
   spent printer = printer.meter.spent
 
@@ -45,7 +45,7 @@ module _ {C : Type 0} where
   LacksRoom printer bytes_of (Sub _) = entry_room printer < length (entries printer) + 8
   LacksRoom printer bytes_of part = text_room printer < length (written printer) + length (bytes_of part)
 
-  -- all of the root is still to print, and nothing was spent or refused
+  -- all of the root is still to be printed, and nothing was spent or refused
   pub record Begins (printer : Printer C) (root : Item C) (limit : ℕ) : Type 0 where
     pub whole : entries printer ≡ Sub root ∷ []
     pub no_text : written printer ≡ []

@@ -33,7 +33,7 @@ impl Detail {
         }
     }
 
-    /// Whether functions have their parameters, and what is around them.
+    /// Whether functions have their parameters, and what surrounds those.
     #[inline(always)]
     pub fn has_parameters(self) -> bool
         ensures { result ≡ has_parameters self }

@@ -1,25 +1,28 @@
 // The work stack: its entries are taken one at a time, and paid for.
 #![tactic(auto)]
 
-ghost use Rattle.std.specs.Prelude.{◌≡◌, ◌+◌, ◌*◌, ◌-◌, ◌<◌, ◌≤◌, ◌++◌, length, take, drop, vec_len, vec_capacity, is_ok, if◌then◌else◌, [], Err, IfErr, OnOk, OnErr, ◌⊎◌};
+ghost use Rattle.std.specs.Prelude.{◌≡◌, ◌+◌, ◌*◌, ◌-◌, ◌<◌, ◌≤◌, ◌++◌, max, length, take, drop, vec_len, vec_capacity, is_ok, if◌then◌else◌, [], Err, IfErr, OnOk, OnErr, ◌⊎◌};
 ghost use Rattle.std.specs.List.{All};
 ghost use Rattle.sym_print.specs.Joined.{text_of_stack, cost_of_stack, steps_of_stack, IsText, IsNext};
 ghost use Rattle.sym_print.specs.Noted.{IsNote, AreNoted, AreBelow, EndsAt};
+ghost use Rattle.sym_print.specs.Peak.{peak_of_stack};
 ghost use Rattle.sym_print.specs.Stacked.{Stacked};
 ghost use Rattle.sym_print.specs.Unshared.{text_of};
 ghost use Rattle.sym_print.specs.declared.layout.Part.{Part};
 ghost use Rattle.sym_core.specs.declared.Refusal.{Refusal};
+ghost use Rattle.sym_room.specs.Room.{IsGrown, most_for};
 
 use crate::layout::{Item, Layout, Part};
 use crate::meter::Meter;
 use crate::notes::{Begun, Note, Notes};
 use std::alloc::AllocError;
 use sym_core::Refusal;
+use sym_room::make_room;
 
 /// What a text may cost, whatever its symbol, before it is dear.
 const CHEAP_TEXT: u32 = 1024;
 
-/// What more it may cost for each node of its symbol.
+/// What more it may cost for each node of its symbol, before it is dear.
 const CHEAP_NODE: u32 = 64;
 
 /// Adds bytes to a text. Up to three are added one at a time, which is faster than a copy.
@@ -94,6 +97,7 @@ fn pay_item<C: Copy>(stack: &mut Vec<Part<C>>, meter: &mut Meter) -> Result<(), 
     ensures limit { meter.new.limit ≡ meter.old.limit }
     ensures err { OnErr result (meter.new ≡ meter.old) }
     ensures room { vec_capacity stack.old ≤ vec_capacity stack.new }
+    ensures grown { IsGrown (vec_capacity stack.old) (vec_capacity stack.new) (vec_len stack.old + 8) }
     ensures own { IfErr result (λ r. (r ≡ Refusal.TooLong) ⊎ (r ≡ Refusal.Memory)) }
     ensures too_long { result ≡ Err Refusal.TooLong → meter.old.limit < meter.old.spent + 1 }
     ensures memory { result ≡ Err Refusal.Memory → vec_capacity stack.old < vec_len stack.old + 8 }
@@ -102,7 +106,7 @@ fn pay_item<C: Copy>(stack: &mut Vec<Part<C>>, meter: &mut Meter) -> Result<(), 
     if !meter.affords(1) {
         return Err(Refusal::TooLong);
     }
-    stack.reserve(8)?;
+    make_room(stack, 8)?;
     meter.pay(1);
     Ok(())
 }
@@ -118,6 +122,7 @@ fn take_item<C: Copy>(stack: &mut Vec<Part<C>>, meter: &mut Meter) -> Result<(),
     ensures limit { meter.new.limit ≡ meter.old.limit }
     ensures err { OnErr result ((stack.new.items ≡ stack.old.items) × (meter.new ≡ meter.old)) }
     ensures room { vec_capacity stack.old ≤ vec_capacity stack.new }
+    ensures grown { IsGrown (vec_capacity stack.old) (vec_capacity stack.new) (vec_len stack.old + 8) }
     ensures own { IfErr result (λ r. (r ≡ Refusal.TooLong) ⊎ (r ≡ Refusal.Memory)) }
     ensures too_long { result ≡ Err Refusal.TooLong → meter.old.limit < meter.old.spent + 1 }
     ensures memory { result ≡ Err Refusal.Memory → vec_capacity stack.old < vec_len stack.old + 8 }
@@ -145,11 +150,13 @@ pub(crate) fn open_item<Y: Layout>(
     ensures cost { meter.new.spent + cost_of_stack (Y.unshared y.now) (Y.bytes_of y.now) stack.new.items ≡ meter.old.spent + cost_of_stack (Y.unshared y.now) (Y.bytes_of y.now) stack.old.items }
     ensures remaining { meter.new.steps + steps_of_stack (Y.unshared y.now) (Y.bytes_of y.now) stack.new.items ≡ meter.old.steps + steps_of_stack (Y.unshared y.now) (Y.bytes_of y.now) stack.old.items }
     ensures limit { meter.new.limit ≡ meter.old.limit }
+    ensures peak { peak_of_stack (Y.unshared y.now) stack.new.items ≤ peak_of_stack (Y.unshared y.now) stack.old.items }
     ensures parts { OnOk result (Stacked (Y.unshared y.now) (Y.bytes_of y.now) (Y.may_come y.now) (take (length stack.old.items - 1) stack.old.items) stack.new.items (Y.unshared y.now item)) }
     ensures spent { OnOk result (meter.new.spent ≡ meter.old.spent + 1) }
     ensures steps { OnOk result (meter.new.steps ≡ meter.old.steps + 1) }
     ensures err { OnErr result ((stack.new.items ≡ stack.old.items) × (meter.new ≡ meter.old)) }
     ensures room { vec_capacity stack.old ≤ vec_capacity stack.new }
+    ensures grown { IsGrown (vec_capacity stack.old) (vec_capacity stack.new) (vec_len stack.old + 8) }
     ensures own { IfErr result (λ r. (r ≡ Refusal.TooLong) ⊎ (r ≡ Refusal.Memory)) }
     ensures too_long { result ≡ Err Refusal.TooLong → meter.old.limit < meter.old.spent + 1 }
     ensures memory { result ≡ Err Refusal.Memory → vec_capacity stack.old < vec_len stack.old + 8 }
@@ -184,6 +191,8 @@ pub(crate) fn print_text<Y: Layout>(
     ensures steps { OnOk result (meter.new.steps ≡ meter.old.steps + 1) }
     ensures err { OnErr result (meter.new ≡ meter.old) }
     ensures entry_room { vec_capacity stack.old ≤ vec_capacity stack.new }
+    ensures same_room { vec_capacity stack.new ≡ vec_capacity stack.old }
+    ensures peak { peak_of_stack (Y.unshared y.now) stack.new.items ≤ peak_of_stack (Y.unshared y.now) stack.old.items }
     ensures text_room { vec_capacity text.old ≤ vec_capacity text.new }
     ensures own { IfErr result (λ r. (r ≡ Refusal.TooLong) ⊎ (r ≡ Refusal.Memory)) }
     ensures too_long { result ≡ Err Refusal.TooLong → meter.old.limit < meter.old.spent + length (Y.bytes_of y.now next.now) }
@@ -234,6 +243,7 @@ fn write_again<Y: Layout>(
     ensures same_text { OnErr result (text.new.items ≡ text.old.items) }
     ensures same_meter { OnErr result (meter.new ≡ meter.old) }
     ensures entry_room { vec_capacity stack.old ≤ vec_capacity stack.new }
+    ensures same_room { vec_capacity stack.new ≡ vec_capacity stack.old }
     ensures text_room { vec_capacity text.old ≤ vec_capacity text.new }
     ensures own { IfErr result (λ r. (r ≡ Refusal.TooLong) ⊎ (r ≡ Refusal.Memory)) }
     ensures too_long { result ≡ Err Refusal.TooLong → meter.old.limit < meter.old.spent + note.now.cost }
@@ -306,7 +316,8 @@ fn begin_item<Y: Layout>(
     }
 }
 
-/// Takes the next entry, an item: what it prints is written again where that is noted, else its parts take its place.
+/// Takes the next entry, an item. Where the item is noted its text is written again; otherwise its parts take its
+/// place.
 #[inline(always)]
 fn print_item<Y: Layout>(
     y: &Y,
@@ -334,6 +345,8 @@ fn print_item<Y: Layout>(
     ensures few { OnOk result (vec_len notes.new.begun ≤ vec_len notes.old.begun + 1) }
     ensures spends { OnOk result (meter.old.spent < meter.new.spent) }
     ensures entry_room { vec_capacity stack.old ≤ vec_capacity stack.new }
+    ensures peak { peak_of_stack (Y.unshared y.now) stack.new.items ≤ peak_of_stack (Y.unshared y.now) stack.old.items }
+    ensures bounded { vec_capacity stack.new ≤ max (vec_capacity stack.old) (most_for (peak_of_stack (Y.unshared y.now) stack.old.items + 8)) }
     ensures text_room { vec_capacity text.old ≤ vec_capacity text.new }
     ensures own { IfErr result (λ r. (r ≡ Refusal.TooLong) ⊎ (r ≡ Refusal.Memory)) }
     ensures too_long { result ≡ Err Refusal.TooLong → meter.old.limit < meter.old.spent + cost_of_stack (Y.unshared y.now) (Y.bytes_of y.now) stack.old.items }
@@ -353,7 +366,7 @@ fn print_item<Y: Layout>(
     Ok(())
 }
 
-/// Takes entries until none is left. In a dear text each item that comes again is noted.
+/// Takes entries until none is left. In a dear text each item that is printed more than once is noted.
 #[inline(always)]
 pub(crate) fn print_entries<Y: Layout>(
     y: &Y,
@@ -374,6 +387,8 @@ pub(crate) fn print_entries<Y: Layout>(
     ensures steps { meter.new.steps + steps_of_stack (Y.unshared y.now) (Y.bytes_of y.now) stack.new.items ≡ meter.old.steps + steps_of_stack (Y.unshared y.now) (Y.bytes_of y.now) stack.old.items }
     ensures limit { meter.new.limit ≡ meter.old.limit }
     ensures entry_room { vec_capacity stack.old ≤ vec_capacity stack.new }
+    ensures peak { peak_of_stack (Y.unshared y.now) stack.new.items ≤ peak_of_stack (Y.unshared y.now) stack.old.items }
+    ensures bounded { vec_capacity stack.new ≤ max (vec_capacity stack.old) (most_for (peak_of_stack (Y.unshared y.now) stack.old.items + 8)) }
     ensures own { IfErr result (λ r. (r ≡ Refusal.TooLong) ⊎ (r ≡ Refusal.Memory)) }
     ensures text_room { vec_capacity text.old ≤ vec_capacity text.new }
     ensures done { OnOk result (stack.new.items ≡ []) }
@@ -421,6 +436,8 @@ fn print_dear<Y: Layout>(
     ensures steps { meter.new.steps + steps_of_stack (Y.unshared y.now) (Y.bytes_of y.now) stack.new.items ≡ meter.old.steps + steps_of_stack (Y.unshared y.now) (Y.bytes_of y.now) stack.old.items }
     ensures limit { meter.new.limit ≡ meter.old.limit }
     ensures entry_room { vec_capacity stack.old ≤ vec_capacity stack.new }
+    ensures peak { peak_of_stack (Y.unshared y.now) stack.new.items ≤ peak_of_stack (Y.unshared y.now) stack.old.items }
+    ensures bounded { vec_capacity stack.new ≤ max (vec_capacity stack.old) (most_for (peak_of_stack (Y.unshared y.now) stack.old.items + 8)) }
     ensures own { IfErr result (λ r. (r ≡ Refusal.TooLong) ⊎ (r ≡ Refusal.Memory)) }
     ensures text_room { vec_capacity text.old ≤ vec_capacity text.new }
     ensures done { OnOk result (stack.new.items ≡ []) }
@@ -430,8 +447,8 @@ fn print_dear<Y: Layout>(
     print_entries(y, stack, text, notes, meter, true)
 }
 
-/// What the text of a stack may cost before it is dear: some for each node, whose number is at most that of the last entry, the
-/// whole symbol's, where nothing was taken yet.
+/// The most that the text of a stack may cost and not be dear. It grows with the number of nodes, which is at most the
+/// number of the stack's last entry: the whole symbol, where nothing was taken yet.
 fn cheap_cost<C: Copy>(stack: &[Part<C>]) -> u32 {
     match stack {
         [.., Part::Sub(item)] => item
@@ -442,8 +459,8 @@ fn cheap_cost<C: Copy>(stack: &[Part<C>]) -> u32 {
     }
 }
 
-/// Takes entries until none is left: first as those of a cheap text, and where that was too little, but more may be spent, as
-/// those of a dear one.
+/// Takes entries until none is left. A text is printed as a cheap one first. If it costs more than that allows, and
+/// more may be spent, it is printed as a dear one from there.
 #[inline(always)]
 pub(crate) fn print_stack<Y: Layout>(
     y: &Y,
@@ -463,6 +480,8 @@ pub(crate) fn print_stack<Y: Layout>(
     ensures steps { meter.new.steps + steps_of_stack (Y.unshared y.now) (Y.bytes_of y.now) stack.new.items ≡ meter.old.steps + steps_of_stack (Y.unshared y.now) (Y.bytes_of y.now) stack.old.items }
     ensures limit { meter.new.limit ≡ meter.old.limit }
     ensures entry_room { vec_capacity stack.old ≤ vec_capacity stack.new }
+    ensures peak { peak_of_stack (Y.unshared y.now) stack.new.items ≤ peak_of_stack (Y.unshared y.now) stack.old.items }
+    ensures bounded { vec_capacity stack.new ≤ max (vec_capacity stack.old) (most_for (peak_of_stack (Y.unshared y.now) stack.old.items + 8)) }
     ensures own { IfErr result (λ r. (r ≡ Refusal.TooLong) ⊎ (r ≡ Refusal.Memory)) }
     ensures text_room { vec_capacity text.old ≤ vec_capacity text.new }
     ensures done { OnOk result (stack.new.items ≡ []) }

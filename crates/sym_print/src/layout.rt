@@ -14,11 +14,12 @@ use sym_core::Span;
 pub struct Item<C> {
     /// The node's number in the symbol's table.
     pub node: u32,
-    /// Which of its texts is meant, as the part of a declarator left of the name. The layout assigns the numbers.
+    /// Which text of the node is meant, such as the part of a declarator left of the name. The layout assigns the
+    /// numbers.
     pub form: u32,
     /// A place among the node's parts, for a form that prints the rest of a list.
     pub at: u32,
-    /// What it inherits, as an index into a parameter pack or the number of lifetimes bound around it.
+    /// What the node inherits, as an index into a parameter pack or the number of lifetimes bound around it.
     pub ctx: C,
 }
 
@@ -109,8 +110,8 @@ pub trait Layout {
         false
     }
 
-    /// Whether two items are known to be the same one. Where this is false of all, a dear text is printed in as many steps as
-    /// it costs.
+    /// Whether two items are known to be the same one. If the answer is always false, a dear text is printed in as many
+    /// steps as it costs.
     fn is_same(&self, _one: &Item<Self::Ctx>, _other: &Item<Self::Ctx>) -> bool
         ensures { result ≡ true → _one.now ≡ _other.now }
     {

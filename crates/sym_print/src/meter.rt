@@ -28,7 +28,7 @@ impl Meter {
         }
     }
 
-    /// The same, with a limit by which at most `more` is spent, and not more than by the limit of its own.
+    /// A copy with a limit by which at most `more` is spent, and not more than by the limit of its own.
     pub(crate) fn for_at_most(&self, more: u32) -> Meter
         ensures spent { result.spent ≡ self.now.spent }
         ensures limit { result.limit ≤ self.now.limit }

@@ -11,7 +11,7 @@ use crate::layout::{Item, Layout, Part};
 use crate::sharing::Sharing;
 use std::alloc::Global;
 
-/// How many texts are known at a time, of a text that isn't dear.
+/// How many texts are known at a time, where a text isn't dear.
 const PLACES: usize = 64;
 
 /// The least cost of an item that is noted in a dear text: the parts of one that costs less are as fast.
@@ -29,7 +29,7 @@ const SPREAD: u64 = 11400714819323198485;
 /// The number of no note.
 const NONE: u32 = 4294967295;
 
-/// An item that is written: from where to where its text is, its cost, and its steps.
+/// An item that is written: where its text begins and ends, its cost, and its steps.
 #[derive(Clone, Copy)]
 pub(crate) struct Note<C> {
     pub(crate) item: Item<C>,
@@ -49,7 +49,7 @@ pub(crate) struct Begun<C> {
     pub(crate) steps: u64,
 }
 
-/// A note's key, and the two notes that come after it, by the next bit of theirs.
+/// A note's key, and the numbers of the two notes that come after it: one for each value of the next bit of a key.
 #[derive(Clone, Copy)]
 struct Fork {
     key: u64,
@@ -57,7 +57,7 @@ struct Fork {
     odd: u32,
 }
 
-/// Where the note of a key is, or would be: its number, the note before it, and on which side of that.
+/// Where the note of a key is, or would be: its number, the note before it, and on which side of that one.
 #[derive(Clone, Copy)]
 struct Spot {
     number: usize,
@@ -65,11 +65,11 @@ struct Spot {
     is_odd: bool,
 }
 
-/// Items that are written, and those that are being written, the innermost last.
+/// The items that are written, and those that are being written, the innermost last.
 ///
-/// Of a text that isn't dear some are known that the layout chooses, each at the place of its node. Of a dear text all are
-/// known whose node is shared: their notes are a tree in which a key's bits lead to its note, so that no symbol can make a
-/// search longer than `MOST_COMPARED`.
+/// Where a text isn't dear, only items that the layout chooses are known, each at the place of its node. In a dear text
+/// all items are known whose node is shared. Their notes are a tree in which the bits of a key lead to its note, so no
+/// symbol can make a search longer than `MOST_COMPARED`.
 #[derive(Drop)]
 pub(crate) struct Notes<C: Copy> {
     pub(crate) known: Vec<Note<C>>,
@@ -78,8 +78,8 @@ pub(crate) struct Notes<C: Copy> {
     sharing: Sharing,
 }
 
-/// A number of an item, by which its note is found: another one for each item of a symbol whose numbers fit in their bits. Its
-/// first bits depend on all others, so that few items have the same.
+/// A number by which an item's note is found. Items of a symbol have different numbers, if the symbol's numbers fit in
+/// their bits. The first bits depend on all others, so few items have the same first bits.
 fn key_of<Y: Layout>(y: &Y, item: &Item<Y::Ctx>) -> u64 {
     let node = item.form as u64 % 32 + 32 * item.node as u64;
     let context = y.context_number(item.ctx) << CONTEXT_BIT;
@@ -143,7 +143,7 @@ impl<C: Copy> Notes<C> {
         }
     }
 
-    /// Whether an item is one to be noted: in a dear text one that comes again, as far as is known.
+    /// Whether an item is to be noted: in a dear text, one whose node is known to be shared.
     #[inline(always)]
     pub(crate) fn are_for<Y: Layout<Ctx = C>>(&self, y: &Y, item: Item<C>, is_dear: bool) -> bool
         requires may_come { Y.may_come y.now (Part.Sub item) }
@@ -199,7 +199,8 @@ impl<C: Copy> Notes<C> {
         spot
     }
 
-    /// Notes an item, in a dear text beside the others, else in place of another. Where there is no memory nothing is noted.
+    /// Notes an item: in a dear text beside the others, otherwise in place of another. Nothing is noted where there is
+    /// no memory.
     pub(crate) fn add<Y: Layout<Ctx = C>>(&mut self, y: &Y, note: Note<C>, is_dear: bool)
         ensures known { All (λ n. (n ≡ note) ⊎ Contains self.old.known.items n) self.new.known.items }
         ensures begun { self.new.begun ≡ self.old.begun }
@@ -224,7 +225,8 @@ impl<C: Copy> Notes<C> {
         }
     }
 
-    /// Notes an item beside the others, if it costs enough. Where there are too many of its node none is noted any more.
+    /// Notes an item beside the others, if it costs enough. Once a node has too many notes, none of its items is noted
+    /// any more.
     fn add_beside<Y: Layout<Ctx = C>>(&mut self, y: &Y, note: Note<C>)
         ensures known { All (λ n. (n ≡ note) ⊎ Contains self.old.known.items n) self.new.known.items }
         ensures begun { self.new.begun ≡ self.old.begun }
@@ -273,7 +275,8 @@ impl<C: Copy> Notes<C> {
         }
     }
 
-    /// Looks at the parts of an item that was opened, in a dear text, if it wasn't opened in this form before.
+    /// Looks at the parts of an item that was opened in a dear text, if no item of this node and form was looked at
+    /// before.
     #[inline(always)]
     pub(crate) fn look(
         &mut self,
@@ -293,7 +296,7 @@ impl<C: Copy> Notes<C> {
         }
     }
 
-    /// Notes that an item is being written. Where there is no memory nothing is noted.
+    /// Notes that an item is being written. Nothing is noted where there is no memory.
     pub(crate) fn begin(&mut self, begun: Begun<C>)
         ensures known { self.new.known ≡ self.old.known }
         ensures begun { (self.new.begun.items ≡ self.old.begun.items) ⊎ (self.new.begun.items ≡ self.old.begun.items ++ begun ∷ []) }

@@ -1,13 +1,15 @@
 // The printer: a work stack, the text so far, and what was spent.
 #![tactic(auto)]
 
-ghost use Rattle.std.specs.Prelude.{◌≡◌, ◌+◌, ◌*◌, ◌<◌, ◌≤◌, ◌++◌, length, vec_len, Some, None, [], IfOk, IfErr, OnOk, OnErr, ◌==◌, ◌⊎◌, true, false};
+ghost use Rattle.std.specs.Prelude.{◌≡◌, ◌+◌, ◌*◌, ◌<◌, ◌≤◌, ◌++◌, max, length, vec_len, Some, None, [], IfOk, IfErr, OnOk, OnErr, ◌==◌, ◌⊎◌, true, false};
 ghost use Rattle.std.specs.List.{All};
 ghost use Rattle.sym_print.specs.Joined.{text_of_stack, cost_of_stack, steps_of_stack, spends, IsNext};
+ghost use Rattle.sym_print.specs.Peak.{peak_of_stack};
 ghost use Rattle.sym_print.specs.Unshared.{text_of, cost_of};
 ghost use Rattle.sym_print.specs.Progress.{counted};
 ghost use Rattle.sym_print.specs.declared.layout.Part.{Part};
 ghost use Rattle.sym_core.specs.declared.Refusal.{Refusal};
+ghost use Rattle.sym_room.specs.Room.{most_for};
 
 use crate::entries::{open_item, print_stack, print_text};
 use crate::layout::{Item, Layout, Part};
@@ -15,13 +17,14 @@ use crate::meter::Meter;
 use crate::notes::Notes;
 use std::alloc::Global;
 use sym_core::Refusal;
+use sym_room::make_room;
 
 /// A text that is being printed, counted as it grows.
 ///
-/// Of a layout whose items are those on its stack, what it has written and what its stack still prints are together the
-/// root's text, and what it has spent and the costs of its stack's entries add up to the root's cost, in every context of
-/// every shared node. So it never spends more than its limit: its text has at most `limit` bytes, its stack at most
-/// `8 * (limit + 1)` entries, and it takes at most `limit + 1` steps. None of it depends on how large the whole text is.
+/// The text so far and what the stack still prints are together the root's text. What was spent and what the stack
+/// still costs are together the root's cost. Both hold in every context of every shared node, if the items are those of
+/// a layout. So a printer never spends more than its limit: its text has at most `limit` bytes, its stack at most `8 *
+/// (limit + 1)` entries, and it takes at most `limit + 1` steps. None of it depends on how large the whole text is.
 #[derive(Drop)]
 pub struct Printer<C: Copy> {
     stack: Vec<Part<C>>,
@@ -80,10 +83,11 @@ impl<C: Copy> Printer<C> {
         ensures same_steps { OnErr result (taken self.new ≡ taken self.old) }
         ensures same_refusal { OnErr result (refused self.new ≡ refused self.old) }
         ensures entry_room { entry_room self.old ≤ entry_room self.new }
+        ensures bounded { entry_room self.new ≤ max (entry_room self.old) (most_for 1) }
         ensures text_room { text_room self.new ≡ text_room self.old }
     {
         if self.stack.capacity() == 0 {
-            self.stack.reserve(1)?;
+            make_room(&mut self.stack, 1)?;
         }
         self.stack.clear();
         self.stack.push_reserved(Part::Sub(root));
@@ -111,6 +115,8 @@ impl<C: Copy> Printer<C> {
         ensures too_long { result ≡ Err Refusal.TooLong → (refused self.old ≡ Some Refusal.TooLong) ⊎ ((next : Part C) × IsNext (entries self.old) next × (may_spend self.old < spent self.old + spends (Y.unshared y.now) (Y.bytes_of y.now) next)) }
         ensures memory { result ≡ Err Refusal.Memory → (refused self.old ≡ Some Refusal.Memory) ⊎ ((next : Part C) × IsNext (entries self.old) next × LacksRoom self.old (Y.bytes_of y.now) next) }
         ensures entry_room { entry_room self.old ≤ entry_room self.new }
+        ensures peak { peak_of_stack (Y.unshared y.now) (entries self.new) ≤ peak_of_stack (Y.unshared y.now) (entries self.old) }
+        ensures bounded { entry_room self.new ≤ max (entry_room self.old) (most_for (peak_of_stack (Y.unshared y.now) (entries self.old) + 8)) }
         ensures text_room { text_room self.old ≤ text_room self.new }
         ensures finished { refused self.old ≡ None → entries self.old ≡ [] → (result ≡ Ok true) × (self.new ≡ self.old) }
         ensures counted { taken self.new ≡ taken self.old + counted (refused self.old) (entries self.old) }
@@ -153,6 +159,8 @@ impl<C: Copy> Printer<C> {
         ensures too_long { result ≡ Err Refusal.TooLong → may_spend self.old < spent self.old + spends (Y.unshared y.now) (Y.bytes_of y.now) next }
         ensures memory { result ≡ Err Refusal.Memory → LacksRoom self.old (Y.bytes_of y.now) next }
         ensures entry_room { entry_room self.old ≤ entry_room self.new }
+        ensures peak { peak_of_stack (Y.unshared y.now) (entries self.new) ≤ peak_of_stack (Y.unshared y.now) (entries self.old) }
+        ensures bounded { entry_room self.new ≤ max (entry_room self.old) (most_for (peak_of_stack (Y.unshared y.now) (entries self.old) + 8)) }
         ensures text_room { text_room self.old ≤ text_room self.new }
     {
         match next {
@@ -177,6 +185,8 @@ impl<C: Copy> Printer<C> {
         ensures too_long { result ≡ Err Refusal.TooLong → (refused self.old ≡ Some Refusal.TooLong) ⊎ (may_spend self.old < spent self.old + cost_of_stack (Y.unshared y.now) (Y.bytes_of y.now) (entries self.old)) }
         ensures memory { result ≡ Err Refusal.Memory → (refused self.old ≡ Some Refusal.Memory) ⊎ (entry_room self.old < 8 * (may_spend self.old + 1)) ⊎ (text_room self.old < may_spend self.old) }
         ensures entry_room { entry_room self.old ≤ entry_room self.new }
+        ensures peak { peak_of_stack (Y.unshared y.now) (entries self.new) ≤ peak_of_stack (Y.unshared y.now) (entries self.old) }
+        ensures bounded { entry_room self.new ≤ max (entry_room self.old) (most_for (peak_of_stack (Y.unshared y.now) (entries self.old) + 8)) }
         ensures text_room { text_room self.old ≤ text_room self.new }
         ensures counted { OnOk result (taken self.new ≡ taken self.old + steps_of_stack (Y.unshared y.now) (Y.bytes_of y.now) (entries self.old)) }
         ensures steps_bound { taken self.new ≤ may_spend self.new + 1 }

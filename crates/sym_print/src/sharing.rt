@@ -1,17 +1,17 @@
-// Which nodes are parts of more than one, as far as the items of a dear text were opened.
+// Which nodes are parts of more than one node, as far as the items of a dear text were opened.
 #![tactic(auto)]
 
 use crate::layout::{Item, Part};
 use std::alloc::Global;
 
-/// What is known of a node: whose part it is, and in which forms its own parts were looked at.
+/// What is known of a node: of which node it is a part, and in which forms its own parts were looked at.
 #[derive(Clone, Copy)]
 struct Sight {
     /// The node of which it was found to be a part.
     parent: u32,
     /// When it was found last, 0 if it wasn't.
     found: u32,
-    /// Whether it is a part of another node too, or twice of the same.
+    /// Whether it is a part of another node too, or twice a part of the same one.
     is_shared: bool,
     /// Whether it comes in more contexts than are noted.
     is_crowded: bool,
@@ -31,7 +31,7 @@ fn bit_of(form: u32) -> u32 {
     1 << (form % 32)
 }
 
-/// A node that is found once more: as a part of this one, at this time.
+/// Counts a node that is found as a part of this one, at this time.
 fn found_again(sight: Sight, parent: u32, when: u32) -> Sight {
     let is_first = sight.found == 0;
     let is_other = sight.parent != parent || sight.found == when;
@@ -57,7 +57,7 @@ impl Sharing {
         self.sights.clear();
     }
 
-    /// Whether a node is known to be a part of more than one, in not too many contexts.
+    /// Whether a node is known to be a part of more than one node, and not to come in too many contexts.
     #[inline(always)]
     pub(crate) fn is_shared(&self, node: u32) -> bool {
         match self.sights.get(node as usize) {
@@ -73,8 +73,8 @@ impl Sharing {
         }
     }
 
-    /// Whether the parts of a node in a form were looked at. They are the same nodes each time: where they depend on a context,
-    /// the node whose parts they are then comes in as many.
+    /// Whether the parts of a node in a form were looked at. They are the same nodes each time. Where they depend on a
+    /// context, the node itself comes in as many contexts as they do.
     #[inline(always)]
     pub(crate) fn knows(&self, node: u32, form: u32) -> bool {
         match self.sights.get(node as usize) {

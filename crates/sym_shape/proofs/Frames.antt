@@ -1,6 +1,6 @@
 -- The reader's steps over its frames.
-use Rattle.std.proofs.Common.{◌≡◌, ℕ, ◌+◌, ◌-◌, ◌<◌, ◌≤◌, Bool, true, false, inl, inr, List, [], ◌∷◌, ◌++◌, length, take, drop, get_or, reverse, refl, ap, ap₂, sym, ◌∙◌, subst, arith, length-append, append_assoc, cond, Some}
-use Rattle.std.proofs.lemmas.List.{take_at, reverse-append}
+use Rattle.std.proofs.Common.{◌≡◌, ℕ, ◌+◌, ◌-◌, ◌*◌, ◌<◌, ◌≤◌, Bool, true, false, inl, inr, List, [], ◌∷◌, ◌++◌, length, take, drop, get_or, reverse, refl, ap, ap₂, sym, ◌∙◌, subst, arith, length-append, append_assoc, cond, Some}
+use Rattle.std.proofs.lemmas.List.{take_at, reverse-append, length-reverse}
 use Rattle.sym_core.specs.declared.NameClass.{NameClass}
 use Rattle.sym_core.specs.declared.TokenPlace.{TokenPlace}
 use Rattle.sym_shape.specs.declared.rule.Rule.{Rule}
@@ -11,8 +11,10 @@ use Rattle.sym_shape.specs.declared.frame.Frame.{Frame}
 use Rattle.sym_shape.specs.Table.{Table, symbols_of}
 use Rattle.sym_shape.specs.Tree.{IsMalformed, BeginsWellShaped}
 use Rattle.sym_shape.specs.Law.{IsLawful}
-use Rattle.sym_shape.specs.Reading.{Symbol, Close, entries_of, closed, IsKnown, TakesNone, place_behind, rule_stack, symbols_left, open_row, place_row, lone_rows}
+use Rattle.sym_shape.specs.Reading.{Symbol, Close, entries_of, closed, IsKnown, TakesNone, place_behind, rule_stack, symbols_left, open_row, place_row, lone_rows, rules_in}
 use Rattle.sym_shape.specs.Frame.{passed, HasNext, HasLast, rule_frame, unfolded, IsTaken}
+use Rattle.sym_room.specs.Room.{IsGrown}
+use Rattle.sym_shape.specs.Room.{Room, StaysWithin}
 use Rattle.sym_shape.specs.Reader.{IsParse, ReadsToken, BreaksToken, IsWholeToken}
 use Rattle.sym_shape.proofs.Moves.{closed_at, beginning, left-pushed}
 use Rattle.sym_shape.proofs.Steps.{step_close, step_byte, step_empty, step_rule, step_leaf, step_token, refuse_behind, refuse_byte, refuse_kind, refuse_token, found_waits, broken_waits, token_within}
@@ -45,6 +47,29 @@ without_last xs ys front x e is = is ∙ ap₂ (λ n zs. take n zs) less e ∙ t
   where
     less : length xs - 1 ≡ length front
     less = omega (arith, ap length e, length-append front (x ∷ []))
+
+-- the rules that are being read are the frames below the uppermost
+rules_unfolded : (listed : ℕ → List Sym) (f : Frame) (fs : List Frame) → rules_in (unfolded listed f fs) ≡ length fs
+rules_unfolded listed f [] = none (listed f.place)
+  where
+    none : (xs : List Sym) → rules_in (entries_of xs) ≡ 0
+    none [] = refl
+    none (x ∷ xs) = none xs
+rules_unfolded listed f (q ∷ fs) = omega (arith, pushed (listed f.place), rules_unfolded listed q fs)
+  where
+    pushed : (xs : List Sym) → rules_in (entries_of xs ++ Close f.row ∷ unfolded listed q fs) ≡ 1 + rules_in (unfolded listed q fs)
+    pushed [] = refl
+    pushed (x ∷ xs) = pushed xs
+
+-- frames are as few as rows
+pub few_frames : (listed : ℕ → List Sym) (g : Table) (ended : Bool) (bytes : List ℕ) (steps at : ℕ) (top : Frame) (below : List Frame) (rows : List Row) → IsFramed listed g ended bytes steps at top below rows → length below ≤ 4 * length bytes + 3
+few_frames listed g ended bytes steps at top below rows h =
+    omega (arith, rules_unfolded listed top (reverse below), length-reverse below, h.counted.nested, h.counted.made, h.counted.few, h.within)
+
+-- where a rule is taken the lists get room for no more than the symbol may need
+pub rule_within : (listed : ℕ → List Sym) (g : Table) (ended : Bool) (bytes : List ℕ) (steps at : ℕ) (top : Frame) (below : List Frame) (rows : List Row) (old new : Room) → IsFramed listed g ended bytes steps at top below rows → IsGrown old.rows new.rows (length rows + 1) → IsGrown old.rules new.rules (length below + 1) → StaysWithin (length bytes) old new
+rule_within listed g ended bytes steps at top below rows old new h made nested =
+    (omega (arith, made.1, h.counted.made, h.counted.few, h.within), omega (arith, nested.1, few_frames listed g ended bytes steps at top below rows h))
 
 -- a frame expects its next symbol
 pub asks : (listed : ℕ → List Sym) (g : Table) (ended : Bool) (bytes : List ℕ) (steps at : ℕ) (top : Frame) (below : List Frame) (rows : List Row) (x : Sym) → IsFramed listed g ended bytes steps at top below rows → HasNext listed top x → IsParse g ended bytes steps at (Symbol x ∷ unfolded listed (passed top) (reverse below)) rows

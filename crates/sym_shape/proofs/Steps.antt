@@ -11,7 +11,7 @@ use Rattle.sym_core.specs.declared.TokenPlace.{TokenPlace}
 use Rattle.sym_shape.specs.Table.{Table, symbols_of, bytes_of}
 use Rattle.sym_shape.specs.Tree.{IsMalformed, AreRowsOf, AreStepsOf, BeginsWellShaped, read_steps}
 use Rattle.sym_shape.specs.Law.{IsChain, IsLawfulRule, IsLawful}
-use Rattle.sym_shape.specs.Reading.{entries_of, closed, IsReading, IsCounted, StandsOn, IsKnown, TakesNone, place_behind, rule_stack, symbols_left, open_row, place_row}
+use Rattle.sym_shape.specs.Reading.{entries_of, closed, IsReading, IsCounted, StandsOn, IsKnown, TakesNone, place_behind, rule_stack, symbols_left, open_row, place_row, rules_in}
 use Rattle.sym_shape.specs.Reader.{IsParse, ReadsToken, BreaksToken, IsStep, MakesRow}
 use Rattle.sym_core.specs.declared.refusal.Refusal.{Refusal}
 use Rattle.sym_core.specs.declared.refusal.Refusal.TheVariants.{Memory}
@@ -40,6 +40,15 @@ cut bytes at c rest le e =
       back = ap (λ v. drop (at + length c) v) whole ∙ drop_at (before ++ c) rest (at + length c) size;
     }
 
+rules_behind : (e : Entry) (es : List Entry) → rules_in es ≤ rules_in (e ∷ es)
+rules_behind (Symbol x) es = omega arith
+rules_behind (Close i) es = omega arith
+
+rules_pushed : (xs : List Sym) (close : Entry) (es : List Entry) → rules_in (entries_of xs ++ close ∷ es) ≤ 1 + rules_in es
+rules_pushed [] (Symbol x) es = omega arith
+rules_pushed [] (Close i) es = omega arith
+rules_pushed (x ∷ xs) close es = rules_pushed xs close es
+
 -- counts: a step that removes an entry
 drop_entry : (g : Table) (steps at : ℕ) (e : Entry) (es : List Entry) (rows : ℕ) → (c : IsCounted g steps at (e ∷ es) rows) → c.chains ≡ 0 → IsCounted g (steps + 1) at es rows
 drop_entry g steps at e es rows c none = record {
@@ -49,6 +58,7 @@ drop_entry g steps at e es rows c none = record {
   spent = omega (arith, c.spent, none);
   made = omega (arith, c.made, none);
   each = omega (arith, c.each);
+  nested = omega (arith, c.nested, rules_behind e es);
 }
 
 -- bytes are taken, and at most one row is made
@@ -60,6 +70,7 @@ eat_entry g steps at size e es rows more c some one = record {
   spent = omega (arith, c.spent, c.few);
   made = omega (arith, c.made, c.few);
   each = omega (arith, c.each);
+  nested = omega (arith, c.nested, rules_behind e es);
 }
 
 -- an entry is removed by the step that put it there
@@ -71,6 +82,7 @@ leaf_counted g steps at e es rows made c none same = record {
   spent = omega (arith, c.spent, none);
   made = omega (arith, c.made, none, same);
   each = omega (arith, c.each, same);
+  nested = omega (arith, c.nested, rules_behind e es, same);
 }
 
 no_chains_closed : (g : Table) (n i : ℕ) (es : List Entry) → StandsOn g n (Close i ∷ es) → n ≡ 0
@@ -140,6 +152,7 @@ count_eats g steps at e close xs es rows c few = record {
   spent = omega (arith, c.spent, c.few, length-pushed xs close es);
   made = omega (arith, c.made, c.few);
   each = omega (arith, c.each);
+  nested = omega (arith, c.nested, rules_behind e es, rules_pushed xs close es);
 }
 
 count_chain : (g : Table) (lawful : IsLawful g) (k : ℕ) (rule : Rule) (steps at : ℕ) (close : Entry) (xs : List Sym) (es : List Entry) (rows : ℕ) → k < g.kinds → IsChain g k rule xs → IsCounted g steps at (Symbol (Kind k) ∷ es) rows → IsCounted g (steps + 1) at (entries_of xs ++ close ∷ es) (rows + 1)
@@ -152,6 +165,7 @@ count_chain g lawful k rule steps at close xs es rows known chain c =
       spent = omega (arith, c.spent, length-pushed xs close es, stands.2);
       made = omega (arith, c.made);
       each = omega (arith, c.each);
+      nested = omega (arith, c.nested, rules_pushed xs close es);
     }
 
 -- A rule is begun: the row of one that has symbols ends at a step of its own.
@@ -370,7 +384,7 @@ pub first_parse : (g : Table) (lawful : IsLawful g) (ended : Bool) (bytes : List
 first_parse g lawful ended bytes = record {
   within = omega arith;
   reading = started g lawful ended bytes;
-  counted = record { chains = 0; few = omega arith; stands = tt; spent = omega arith; made = omega arith; each = omega arith };
+  counted = record { chains = 0; few = omega arith; stands = tt; spent = omega arith; made = omega arith; each = omega arith; nested = omega arith };
 }
 
 pub same_start : (g : Table) (lawful : IsLawful g) (ended : Bool) (bytes : List ℕ) (steps at : ℕ) (stack : List Entry) (rows : List Row) → steps ≡ 0 → at ≡ 0 → stack ≡ Symbol (Kind 0) ∷ [] → rows ≡ [] → IsParse g ended bytes steps at stack rows

@@ -72,6 +72,12 @@ steps_left (Close i ∷ es) f = 1 + steps_left es f
 steps_left (Symbol x ∷ es) nothing = 0
 steps_left (Symbol x ∷ es) (grown t f) = read_steps t + steps_left es f
 
+-- how many rules are being read
+abbrev pub rules_in : List Entry → ℕ
+rules_in [] = 0
+rules_in (Symbol x ∷ es) = rules_in es
+rules_in (Close i ∷ es) = 1 + rules_in es
+
 -- each row that is to be ended exists
 abbrev pub AreOpen : List Entry → ℕ → Type 0
 AreOpen [] n = ⊤
@@ -133,7 +139,7 @@ StandsOn g (suc n) [] = ⊥
 StandsOn g (suc n) (Close i ∷ es) = ⊥
 StandsOn g (suc n) (Symbol x ∷ es) = (can_be_empty g x ≡ false) × (rank_of g x + suc n ≤ 3)
 
--- steps taken and to be taken, and rows, by the bytes that were read
+-- steps taken and to be taken, and rows, by the bytes that were read; each rule that is being read has made a row
 pub record IsCounted (g : Table) (steps at : ℕ) (es : List Entry) (rows : ℕ) : Type 0 where
   pub chains : ℕ
   pub few : chains ≤ 3
@@ -141,3 +147,4 @@ pub record IsCounted (g : Table) (steps at : ℕ) (es : List Entry) (rows : ℕ)
   pub spent : steps + length es ≤ 1 + 18 * at + 4 * chains
   pub made : rows ≤ 4 * at + chains
   pub each : rows ≤ steps
+  pub nested : rules_in es ≤ rows

@@ -2,11 +2,12 @@
 ghost use Rattle.std.specs.Prelude.{Some, Ok, ◌≡◌, ◌≢◌, ◌⊎◌, vec_capacity, ℕ, ◌+◌, ◌^◌, ◌∷◌, [], ◌++◌, ◌<◌, ◌≤◌, List, length, take, drop, false, ◌-◌, OnOk, OnErr, IfSome, MatchOption};
 ghost use Rattle.std.specs.Bool.{OnTrue, OnFalse};
 ghost use Rattle.sym_core.specs.Number.{FitsSymbol};
+ghost use Rattle.sym_room.specs.Room.{IsGrown};
 ghost use Rattle.sym_shape.specs.Reading.{entries_of, closed, IsKnown, IsByteAt, TakesNone, place_behind, place_row, lone_rows};
 ghost use Rattle.sym_shape.specs.Table.{symbols_of};
 ghost use Rattle.sym_shape.specs.Frame.{HasNext, HasLast, IsTaken};
 ghost use Rattle.sym_shape.specs.declared.rule.Sym.{Sym};
-ghost use Rattle.sym_shape.specs.Room.{KeepsRoom, LacksRoom, room_of};
+ghost use Rattle.sym_shape.specs.Room.{KeepsRoom, StaysWithin, LacksRoom, room_of};
 ghost use Rattle.sym_shape.specs.Reader.{IsParsing, IsStep, IsAdvance, IsBatch, IsRun, FindsToken, IsWholeToken, IsParse, HasRule, HasNoRule, HasAdvanced, to_do};
 
 use crate::frame::Frame;
@@ -14,6 +15,7 @@ use crate::grammar::Grammar;
 use crate::rule::{Row, Rule, Sym, TOKEN};
 use std::alloc::Global;
 use sym_core::{Refusal, TokenPlace, find_name, find_number};
+use sym_room::make_room;
 
 /// How far the reader has come: the rules that are being read, the uppermost apart from those below it, and the rows so far.
 // The uppermost one stays in here: among the values of the loop it takes 1.5 % more instructions over real symbols, packed into one
@@ -105,28 +107,31 @@ fn take_rule(
     ensures memory { OnErr result (result ≡ Err Refusal.Memory) }
     ensures keeps_rules { vec_capacity below.old ≤ vec_capacity below.new }
     ensures keeps_rows { vec_capacity rows.old ≤ vec_capacity rows.new }
+    ensures rules_grown { IsGrown (vec_capacity below.old) (vec_capacity below.new) (length below.old.items + 1) }
+    ensures rows_grown { IsGrown (vec_capacity rows.old) (vec_capacity rows.new) (length rows.old.items + 1) }
     ensures full { OnErr result ((vec_capacity rows.old < length rows.new.items + 1) ⊎ (vec_capacity below.old < length below.new.items + 1)) }
 {
     let number = rows.len() as u32;
     let from = at as u32;
+    make_room(rows, 1)?;
     if rule.count == 0 {
-        rows.push(Row {
+        rows.push_reserved(Row {
             rule: rule.number,
             after,
             from,
             to: behind(rule, at) as u32,
             end: number + 1,
-        })?;
+        });
         return Ok(());
     }
-    rows.push(Row {
+    rows.push_reserved(Row {
         rule: rule.number,
         after,
         from,
         to: from,
         end: 0,
-    })?;
-    below.reserve(1)?;
+    });
+    make_room(below, 1)?;
     below.push_reserved(*top);
     *top = Frame { place, row: number };
     Ok(())
@@ -141,16 +146,18 @@ fn push_token(rows: &mut Vec<Row>, after: u8, place: TokenPlace) -> Result<(), R
     ensures one { length rows.new.items ≤ length rows.old.items + 1 }
     ensures memory { OnErr result (result ≡ Err Refusal.Memory) }
     ensures keeps { vec_capacity rows.old ≤ vec_capacity rows.new }
+    ensures grown { IsGrown (vec_capacity rows.old) (vec_capacity rows.new) (length rows.old.items + 1) }
     ensures full { OnErr result (vec_capacity rows.old < length rows.new.items + 1) }
 {
     let end = rows.len() as u32 + 1;
-    rows.push(Row {
+    make_room(rows, 1)?;
+    rows.push_reserved(Row {
         rule: TOKEN,
         after,
         from: place.from as u32,
         to: place.to as u32,
         end,
-    })?;
+    });
     Ok(())
 }
 
@@ -171,10 +178,11 @@ fn push_rule_with_token(
     ensures same { OnErr result (rows.new.items ≡ rows.old.items) }
     ensures memory { OnErr result (result ≡ Err Refusal.Memory) }
     ensures keeps { vec_capacity rows.old ≤ vec_capacity rows.new }
+    ensures grown { IsGrown (vec_capacity rows.old) (vec_capacity rows.new) (length rows.old.items + 2) }
     ensures full { OnErr result (vec_capacity rows.old < length rows.new.items + 2) }
 {
     let end = rows.len() as u32 + 2;
-    rows.reserve(2)?;
+    make_room(rows, 2)?;
     rows.push_reserved(Row {
         rule: rule.number,
         after,
@@ -308,6 +316,7 @@ impl Parse {
         requires parsing { IsParsing G.listed G.table ended bytes.now self.old }
         ensures runs { IsRun G.listed G.table ended bytes.now self.old self.new result }
         ensures keeps { KeepsRoom (room_of self.old) (room_of self.new) }
+        ensures bounded { StaysWithin (length bytes.now) (room_of self.old) (room_of self.new) }
         ensures full { result ≡ Err Refusal.Memory → LacksRoom 2 (room_of self.old) (length self.new.rows.items) (length self.new.below.items) }
     {
         'steps: loop {
@@ -331,6 +340,7 @@ impl Parse {
         requires parsing { IsParsing G.listed G.table ended bytes.now self.old }
         ensures moves { IsBatch G.listed G.table ended bytes.now self.old self.new result }
         ensures keeps { KeepsRoom (room_of self.old) (room_of self.new) }
+        ensures bounded { StaysWithin (length bytes.now) (room_of self.old) (room_of self.new) }
         ensures full { result ≡ Err Refusal.Memory → LacksRoom 2 (room_of self.old) (length self.new.rows.items) (length self.new.below.items) }
     {
         let mut progress = Progress {
@@ -372,6 +382,7 @@ impl Parse {
         requires bare { G.listed self.old.top.place ≡ [] }
         ensures moves { HasAdvanced G.listed G.table ended bytes.now progress self.old self.new (Ok result) }
         ensures keeps { KeepsRoom (room_of self.old) (room_of self.new) }
+        ensures bounded { StaysWithin (length bytes.now) (room_of self.old) (room_of self.new) }
     {
         match uppermost(&self.below) {
             Some(frame) => {
@@ -400,6 +411,7 @@ impl Parse {
         requires next { HasNext G.listed self.old.top (Sym.Kind kind) }
         ensures moves { HasAdvanced G.listed G.table ended bytes.now progress self.old self.new result }
         ensures keeps { KeepsRoom (room_of self.old) (room_of self.new) }
+        ensures bounded { StaysWithin (length bytes.now) (room_of self.old) (room_of self.new) }
         ensures full { result ≡ Err Refusal.Memory → LacksRoom 2 (room_of self.old) (length self.new.rows.items) (length self.new.below.items) }
     {
         let at = progress.at;
@@ -456,6 +468,7 @@ impl Parse {
         requires next { HasNext G.listed self.old.top symbol }
         ensures moves { HasAdvanced G.listed G.table ended bytes.now progress self.old self.new result }
         ensures keeps { KeepsRoom (room_of self.old) (room_of self.new) }
+        ensures bounded { StaysWithin (length bytes.now) (room_of self.old) (room_of self.new) }
         ensures full { result ≡ Err Refusal.Memory → LacksRoom 2 (room_of self.old) (length self.new.rows.items) (length self.new.below.items) }
     {
         match symbol {
@@ -489,6 +502,7 @@ impl Parse {
         requires parsing { IsParsing G.listed G.table ended bytes.now self.old }
         ensures moves { IsAdvance G.listed G.table ended bytes.now self.old self.new result }
         ensures keeps { KeepsRoom (room_of self.old) (room_of self.new) }
+        ensures bounded { StaysWithin (length bytes.now) (room_of self.old) (room_of self.new) }
         ensures full { result ≡ Err Refusal.Memory → LacksRoom 1 (room_of self.old) (length self.new.rows.items) (length self.new.below.items) }
     {
         let outcome = self.step(grammar, bytes, ended);
@@ -511,6 +525,7 @@ impl Parse {
         requires parsing { IsParsing G.listed G.table ended bytes.now self.old }
         ensures moves { IsStep G.listed G.table ended bytes.now self.old self.new result }
         ensures keeps { KeepsRoom (room_of self.old) (room_of self.new) }
+        ensures bounded { StaysWithin (length bytes.now) (room_of self.old) (room_of self.new) }
         ensures full { result ≡ Err Refusal.Memory → LacksRoom 1 (room_of self.old) (length self.new.rows.items) (length self.new.below.items) }
     {
         match grammar.symbol(self.top.place) {
@@ -535,6 +550,7 @@ impl Parse {
         requires bare { G.listed self.old.top.place ≡ [] }
         ensures moves { IsStep G.listed G.table ended bytes.now self.old self.new result }
         ensures keeps { KeepsRoom (room_of self.old) (room_of self.new) }
+        ensures bounded { StaysWithin (length bytes.now) (room_of self.old) (room_of self.new) }
         ensures full { result ≢ Err Refusal.Memory }
     {
         match uppermost(&self.below) {
@@ -565,6 +581,7 @@ impl Parse {
         requires next { HasNext G.listed self.old.top (Sym.Byte byte) }
         ensures moves { IsStep G.listed G.table ended bytes.now self.old self.new result }
         ensures keeps { KeepsRoom (room_of self.old) (room_of self.new) }
+        ensures bounded { StaysWithin (length bytes.now) (room_of self.old) (room_of self.new) }
         ensures full { result ≢ Err Refusal.Memory }
     {
         let at = self.at;
@@ -593,6 +610,7 @@ impl Parse {
         requires next { HasNext G.listed self.old.top (Sym.Kind kind) }
         ensures moves { IsStep G.listed G.table ended bytes.now self.old self.new result }
         ensures keeps { KeepsRoom (room_of self.old) (room_of self.new) }
+        ensures bounded { StaysWithin (length bytes.now) (room_of self.old) (room_of self.new) }
         ensures full { result ≡ Err Refusal.Memory → LacksRoom 1 (room_of self.old) (length self.new.rows.items) (length self.new.below.items) }
     {
         match next_byte(bytes, self.at) {
@@ -634,6 +652,7 @@ impl Parse {
         requires none { TakesNone G.table kind ended (drop self.old.at bytes.now) }
         ensures moves { IsStep G.listed G.table ended bytes.now self.old self.new result }
         ensures keeps { KeepsRoom (room_of self.old) (room_of self.new) }
+        ensures bounded { StaysWithin (length bytes.now) (room_of self.old) (room_of self.new) }
         ensures full { result ≢ Err Refusal.Memory }
     {
         if grammar.may_be_empty(kind) {
@@ -658,6 +677,7 @@ impl Parse {
         requires found { FindsToken G.table.names symbol bytes.now self.old.at found }
         ensures moves { IsStep G.listed G.table ended bytes.now self.old self.new result }
         ensures keeps { KeepsRoom (room_of self.old) (room_of self.new) }
+        ensures bounded { StaysWithin (length bytes.now) (room_of self.old) (room_of self.new) }
         ensures full { result ≡ Err Refusal.Memory → LacksRoom 1 (room_of self.old) (length self.new.rows.items) (length self.new.below.items) }
     {
         match found {

@@ -5,7 +5,7 @@ ghost use Rattle.sym_core.specs.Number.{FitsSymbol};
 ghost use Rattle.sym_shape.specs.Tree.{AreRowsOf, AreStepsOf, BeginsWellShaped};
 ghost use Rattle.sym_shape.specs.Reader.{IsMalformedOrMemory};
 ghost use Rattle.sym_shape.specs.Fed.{Fed, unfed, refusing, with_piece, with_room, is_answer, IsReason, IsWithinBounds};
-ghost use Rattle.sym_shape.specs.Room.{no_room, KeepsRoom, LacksRoom};
+ghost use Rattle.sym_shape.specs.Room.{no_room, KeepsRoom, StaysWithin, LacksRoom};
 
 use crate::grammar::Grammar;
 use crate::parse::Parse;
@@ -181,6 +181,8 @@ impl<G: Grammar> Reader<G> {
         // It is `Memory` where a list had no room.
         ensures full { self.old.refused ≡ None → result ≡ Err Refusal.Memory → LacksRoom 1 self.old.room self.new.rows self.new.rules }
         ensures room { KeepsRoom self.old.room self.new.room }
+        // Refused or not, the lists get room for no more than a symbol of these bytes may need.
+        ensures bounded { StaysWithin (length self.old.bytes) self.old.room self.new.room }
         ensures byte_room { self.new.byte_room ≡ self.old.byte_room }
         ensures few { IsWithinBounds self.new }
     {
@@ -226,6 +228,8 @@ impl<G: Grammar> Reader<G> {
         // It is `Memory` where a list had no room: a token and its rule are two rows.
         ensures full { self.old.refused ≡ None → result ≡ Err Refusal.Memory → LacksRoom 2 self.old.room self.new.rows self.new.rules }
         ensures room { KeepsRoom self.old.room self.new.room }
+        // Refused or not, the lists get room for no more than a symbol of these bytes may need.
+        ensures bounded { StaysWithin (length self.old.bytes) self.old.room self.new.room }
         ensures byte_room { self.new.byte_room ≡ self.old.byte_room }
         ensures few { IsWithinBounds self.new }
     {
@@ -260,6 +264,7 @@ impl<G: Grammar> Reader<G> {
         ensures steps { IfOk result (λ read. AreStepsOf G.table self.bytes read.1.steps) }
         ensures row_count { IfOk result (λ read. length read.1.rows ≡ self.rows) }
         ensures step_count { IfOk result (λ read. read.1.steps ≡ self.steps) }
+        ensures room { IfOk result (λ read. read.1.room ≡ self.room) }
         ensures open { OnOk result (self.refused ≡ None) }
         ensures refused { IfErr result (λ refusal. self.refused ≡ Some refusal) }
         ensures reason { IfErr result (IsMalformedOrMemory G.table self.bytes) }

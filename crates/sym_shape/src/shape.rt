@@ -3,6 +3,7 @@ ghost use Rattle.std.specs.Prelude.{◌≡◌, ◌≤◌, ◌+◌, ◌*◌, [], 
 ghost use Rattle.sym_core.specs.Number.{FitsSymbol};
 ghost use Rattle.sym_shape.specs.Tree.{AreRowsOf, AreStepsOf};
 ghost use Rattle.sym_shape.specs.Reader.{IsMalformedOrMemory, AreFew};
+ghost use Rattle.sym_shape.specs.Room.{no_room, room_of, StaysWithin};
 
 use crate::grammar::Grammar;
 use crate::parse::Parse;
@@ -20,11 +21,12 @@ pub struct Shape {
 }
 
 impl Model for Shape {
+    ghost use Rattle.sym_shape.specs.Room.{room_of};
     ghost use Rattle.sym_shape.specs.Shaped.{Shaped};
 
     ghost Value = { Shaped };
 
-    ghost view = { λ shape. record { rows = shape.parse.rows.items; steps = shape.parse.steps } };
+    ghost view = { λ shape. record { rows = shape.parse.rows.items; steps = shape.parse.steps; room = room_of shape.parse } };
 }
 
 impl Shape {
@@ -32,6 +34,8 @@ impl Shape {
     pub fn new(alloc: Global) -> Shape
         ensures rows { result.rows ≡ [] }
         ensures steps { result.steps ≡ 0 }
+        ensures row_room { result.room.rows ≡ 0 }
+        ensures rule_room { result.room.rules ≡ 0 }
     {
         Shape {
             parse: Parse::new(alloc),
@@ -42,6 +46,7 @@ impl Shape {
     pub(crate) fn of(parse: Parse) -> Shape
         ensures rows { result.rows ≡ parse.rows.items }
         ensures steps { result.steps ≡ parse.steps }
+        ensures room { result.room ≡ room_of parse }
     {
         Shape { parse }
     }
@@ -81,6 +86,7 @@ pub fn read<G: Grammar>(alloc: Global, grammar: &G, s: &[u8]) -> Result<Shape, R
     ensures row_count { IfOk result (λ shape. length shape.rows ≤ 4 * length s.now + 4) }
     ensures step_count { IfOk result (λ shape. shape.steps ≤ 18 * length s.now + 14) }
     ensures each { IfOk result (λ shape. length shape.rows ≤ shape.steps) }
+    ensures bounded { IfOk result (λ shape. StaysWithin (length s.now) no_room shape.room) }
 {
     let mut shape = Shape::new(alloc);
     match read_into(&mut shape, grammar, s) {
@@ -102,6 +108,8 @@ pub fn read_into<G: Grammar>(shape: &mut Shape, grammar: &G, s: &[u8]) -> Result
     ensures no_rows { OnErr result (shape.new.rows ≡ []) }
     ensures no_steps { OnErr result (shape.new.steps ≡ 0) }
     ensures few { AreFew shape.new.steps (length shape.new.rows) (length s.now) }
+    // Refused or not, its lists get room for no more than a symbol of these bytes may need.
+    ensures bounded { StaysWithin (length s.now) shape.old.room shape.new.room }
 {
     shape.parse.restart();
     match shape.parse.run(grammar, s, true) {

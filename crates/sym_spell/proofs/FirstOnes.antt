@@ -4,7 +4,8 @@ use Rattle.std.specs.Prelude.{cond}
 use Rattle.sym_spell.specs.Numbers.{number_at, TellApart}
 use Rattle.sym_spell.proofs.Entering.{last-or, old-number, new-number}
 
--- Keys of things, where a key names other things by their first ones: equal things have keys that are alike, and different ones others.
+-- Keys of things that name other things by the first things equal to them: equal things have keys that are alike, and
+-- different things have different keys.
 pub record AreKeys {K A : Type 0} (Alike : K → K → Type 0) (thing : ℕ → A) (count : ℕ) (IsKey : List ℕ → ℕ → K → Type 0) : Type 0 where
   pub grown : (firsts : List ℕ) (n i : ℕ) (a : K) → IsKey firsts i a → IsKey (firsts ++ n ∷ []) i a
   pub one : (firsts : List ℕ) (i j : ℕ) (a b : K) → i < count → j < count → TellApart thing firsts → IsKey firsts i a → IsKey firsts j b → Alike a b → thing i ≡ thing j
@@ -18,13 +19,14 @@ pub record IsLookUp {K : Type 0} (Alike : K → K → Type 0) (test : K → K �
   pub passed : (a b : K) → Alike a b → test a b ≡ true
   pub respects : (a b : K) → Alike a b → first a ≡ first b
 
--- Each thing's first equal one, so far: the map has a key of each, and each of its keys is one of the thing that it has there.
+-- The first things so far: each thing has a key in the map, and each key of the map belongs to the thing that the map
+-- has there.
 pub record AreFirsts {K A : Type 0} (thing : ℕ → A) (IsKey : List ℕ → ℕ → K → Type 0) (firsts : List ℕ) (first : K → Option ℕ) : Type 0 where
   pub apart : TellApart thing firsts
   pub each : (i : ℕ) → i < length firsts → (key : K) × (first key ≡ Some (number_at firsts i)) × IsKey firsts i key
   pub own : (key : K) (n : ℕ) → first key ≡ Some n → (n < length firsts) × IsKey firsts n key
 
--- a first node is below how many there are
+-- a first node is below the number of nodes
 pub first-below : {K A : Type 0} (thing : ℕ → A) (IsKey : List ℕ → ℕ → K → Type 0) (firsts : List ℕ) (first : K → Option ℕ) → AreFirsts thing IsKey firsts first
     → (i : ℕ) → i < length firsts → number_at firsts i < length firsts
 first-below thing IsKey firsts first f i low = let found = f.each i low in (f.own found.0 (number_at firsts i) found.1).0
@@ -102,7 +104,7 @@ firsts-more {K} {A} Alike test thing count IsKey ns old new key node n keys look
     inside : k < count
     inside = omega (arith, last, room)
 
-    -- an earlier thing has the key's first one exactly if it is equal
+    -- a key leads to an earlier thing exactly if that thing is equal
     go : (o : Option ℕ) → old key ≡ o → AreFirsts thing IsKey (ns ++ n ∷ []) new
     go (Some m) was = record {
       apart = apart-more thing ns n f.apart thing-same first-same;

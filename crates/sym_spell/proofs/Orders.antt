@@ -1,4 +1,4 @@
--- Orders of keys, a field at a time: what they take for equal, and what a map in such an order has at equal keys.
+-- Orders of keys, field by field: which keys they take for equal, and what a map in such an order has at equal keys.
 use Rattle.std.proofs.Common.{◌≡◌, ℕ, ◌<◌, List, [], ◌∷◌, true, refl, ap, subst, Ordering, Less, Equal, Greater}
 use Rattle.std.specs.Ordering.{MatchOrdering, nat_cmp, ordering_then, is_eq}
 use Rattle.std.specs.Cmp.Lexicographic.{slice_cmp}
@@ -36,7 +36,7 @@ list-tied (x ∷ xs) (y ∷ ys) h =
 pub list-itself : (xs ys : List ℕ) → xs ≡ ys → slice_cmp nat_cmp xs ys ≡ Equal
 list-itself xs ys is = subst (λ zs. slice_cmp nat_cmp xs zs ≡ Equal) is (tied_itself nat_list_cmp_total xs)
 
--- keys that compare alike have the same in a map
+-- a map has the same at keys that compare as equal
 pub same-look : {K X : Type 0} (cmp : K → K → Ordering) (a b : K) → ((q : K) → cmp a q ≡ cmp b q) → (m : BTreeMap K X) → get cmp m a ≡ get cmp m b
 same-look {K} {X} cmp a b same m = go m.entries
   where

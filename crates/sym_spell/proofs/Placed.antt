@@ -1,4 +1,4 @@
--- Keys at places: what is known of each key after one more.
+-- Keys at places: what is known of each key after one key more.
 use Rattle.std.proofs.Common.{◌≡◌, ℕ, zero, suc, ◌-◌, ◌%◌, ◌<◌, ◌≤◌, ◌⊎◌, inl, inr, length, List, [], ◌∷◌, ◌++◌, slice_get, get_or, slice_set, Option, Some, None, Bool, true, false, refl, ap, arith, sym, subst, ◌∙◌, length-append, Ordering, Equal}
 use Rattle.std.specs.Prelude.{cond, ◌==◌, replicate}
 use Rattle.std.specs.Cmp.{IsTotalOrder}
@@ -18,7 +18,7 @@ unfolding text_mark
 empty-mark [] none = refl
 empty-mark (b ∷ bs) none = absurd (omega (arith, none))
 
--- ## What has a number
+-- ## Things and their numbers
 
 none-some : {A : Type 0} {a : A} → None ≡ Some a → ⊥
 none-some h = cc
@@ -42,7 +42,7 @@ slice_get-new : {A : Type 0} (xs : List A) (a : A) → slice_get (xs ++ a ∷ []
 slice_get-new [] a = refl
 slice_get-new (x ∷ xs) a = slice_get-new xs a
 
--- what has a number has it after one more thing, and that has the next
+-- a thing keeps its number after one thing more, which has the next number
 numbered-more : {A : Type 0} (xs : List A) (a : A) (n : ℕ) → n ≤ length xs → numbered (xs ++ a ∷ []) n ≡ numbered xs n
 numbered-more xs a zero low = refl
 numbered-more xs a (suc k) low = slice_get-more xs a k (omega (arith, low))
@@ -50,7 +50,7 @@ numbered-more xs a (suc k) low = slice_get-more xs a k (omega (arith, low))
 numbered-new : {A : Type 0} (xs : List A) (a : A) (n : ℕ) → n ≡ suc (length xs) → numbered (xs ++ a ∷ []) n ≡ Some a
 numbered-new xs a n is = ap (numbered (xs ++ a ∷ [])) is ∙ slice_get-new xs a
 
--- what an index finds by a number that isn't 0
+-- the thing that an index finds by a number that isn't 0
 pub numbered-at : {A : Type 0} (xs : List A) (n : ℕ) (one : A) → 0 < n → n ≤ length xs → one ≡ get_or xs (n - 1) one → numbered xs n ≡ Some one
 numbered-at {A} xs zero one some low is = absurd (omega (arith, some))
 numbered-at {A} xs (suc k) one some low is = go xs k (omega (arith, low)) (subst (λ m. one ≡ get_or xs m one) (omega arith) is)
@@ -177,7 +177,7 @@ module _ {K : Type 0} (cmp : K → K → Ordering) (mark : K → ℕ) (laws : Ar
                   ap (λ o. first_or cmp o more q) (at-other (place_of mark q) other)
                   ∙ ap (λ b. cond b (Some one.node) (first_in cmp mark places seen more q)) (sym is)
 
-    -- what is read at a place
+    -- the key that is read at a place
     at-place : (m a : ℕ) → a ≡ get_or places (m % 509) a → a ≡ get_or places (m % 509) 0
     at-place m a is = is ∙ get_or_default_zero places (m % 509) a (omega (arith, index.long))
 
@@ -205,7 +205,7 @@ module _ {K : Type 0} (cmp : K → K → Ordering) (mark : K → ℕ) (laws : Ar
 
     -- ## One more key in the map
 
-    -- the key has a place at which another one is, or no place has room
+    -- another key is at the place of the key, or no place has room
     abbrev pub IsElsewhere : K → Type 0
     IsElsewhere key =
         ((one : Seen K) × (seen_at places seen (place_of mark key) ≡ Some one) × (is_eq (cmp one.key key) ≡ false))
@@ -234,7 +234,7 @@ module _ {K : Type 0} (cmp : K → K → Ordering) (mark : K → ℕ) (laws : Ar
               ap (λ o. first_or cmp o more key) at ∙ ap (λ b. cond b (Some one.node) (more key)) apart
           go (inr (none, full)) = ap (λ o. first_or cmp o more key) none
 
-      -- a thing whose key is equal is where the key has its place
+      -- a thing with an equal key is where the key has its place
       not-here : (q : K) (one : Seen K) → seen_at places seen (place_of mark q) ≡ Some one → is_eq (cmp one.key q) ≡ true → is_eq (cmp key q) ≡ true → ⊥
       not-here q one at is same = go there
         where
@@ -288,7 +288,7 @@ module _ {K : Type 0} (cmp : K → K → Ordering) (mark : K → ℕ) (laws : Ar
                       absurd (none-some (sym none ∙ sym (ap (seen_at places seen) (one-place key q same)) ∙ at))
                   by false same = rw same (index.empty room q none)
 
--- keys that compare alike, with one mark, have the same first thing
+-- keys that compare as equal and have one mark have one first thing
 pub same-first : {K : Type 0} (cmp : K → K → Ordering) (mark : K → ℕ) (places : List ℕ) (seen : List (Seen K)) (more : K → Option ℕ) (a b : K)
     → ((q : K) → cmp q a ≡ cmp q b) → mark a ≡ mark b → more a ≡ more b → first_in cmp mark places seen more a ≡ first_in cmp mark places seen more b
 same-first {K} cmp mark places seen more a b order marks rest =

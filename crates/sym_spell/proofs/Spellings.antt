@@ -1,4 +1,4 @@
--- Spellings one after the other, and digits that are the same whatever function gives them.
+-- Spellings one after the other; and two functions that write the same digits.
 use Rattle.std.proofs.Common.{◌≡◌, ℕ, zero, suc, ◌+◌, ◌/◌, ◌%◌, ◌<◌, length, List, [], ◌∷◌, ◌++◌, Bool, true, false, refl, ap, arith, append_assoc, append-nil, length-append}
 use Rattle.std.specs.Prelude.{nat_lt}
 use Rattle.std.proofs.lemmas.Bool.{ltb-true, lt-ltb}
@@ -10,7 +10,7 @@ joined : {C : Type 0} (xs ys : List ℕ) (h : Pressing C) (cs : List C) (p q : �
     → ◌≡◌ {A = Pressed C} (record { bytes = (xs ++ ys) ++ (h p cs).bytes; components = (h p cs).components }) (record { bytes = xs ++ (ys ++ (h q cs).bytes); components = (h q cs).components })
 joined xs ys h cs p q same = rw (same, append_assoc xs ys (h q cs).bytes) refl
 
--- one after the other, at a place
+-- two spellings one after the other, at a place
 pub and-assoc-at : {C : Type 0} (f g h : Pressing C) (place : ℕ) (cs : List C) → ((f and g) and h) place cs ≡ (f and (g and h)) place cs
 and-assoc-at f g h place cs =
     let a = f place cs in
@@ -38,7 +38,7 @@ nothing-and-at f place cs = moved f (place + 0) place cs (omega arith)
 pub nothing-and : {C : Type 0} (f : Pressing C) → ◌≡◌ {A = Pressing C} (nothing and f) f
 nothing-and f = fun_ext (λ place. fun_ext (λ cs. nothing-and-at f place cs))
 
--- two functions that give the same digits write the same
+-- two functions that give the same digits write the same bytes
 pub digits-same : (base : ℕ) (f g : ℕ → ℕ) → ((n : ℕ) → n % base < base) → ((d : ℕ) → d < base → f d ≡ g d) → (most n : ℕ) → digits_in base f most n ≡ digits_in base g most n
 digits-same base f g rest same zero n = refl
 digits-same base f g rest same (suc most) n = go (nat_lt n base) refl (digits-same base f g rest same most (n / base))

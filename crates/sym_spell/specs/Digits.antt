@@ -10,11 +10,11 @@ digits_in base digit (suc most) n =
 abbrev pub decimal_digit : ℕ → ℕ
 decimal_digit d = 48 + d
 
--- 0 to 9, a to z, A to Z
+-- the digits 0 to 9, a to z, A to Z
 abbrev pub digit62 : ℕ → ℕ
 digit62 d = if nat_lt d 10 then 48 + d else (if nat_lt d 36 then 87 + d else 29 + d)
 
--- 0 to 9, A to Z
+-- the digits 0 to 9, A to Z
 abbrev pub digit36 : ℕ → ℕ
 digit36 d = if nat_lt d 10 then 48 + d else 55 + d
 
@@ -35,7 +35,7 @@ digits_of base value = digits_in base (digit_in base) 40 value
 abbrev pub IsBase : ℕ → Type 0
 IsBase base = (base ≡ 10) ⊎ ((base ≡ 16) ⊎ ((base ≡ 36) ⊎ (base ≡ 62)))
 
--- The digits of what is left, and those that are written after them, are the digits of the number.
+-- The digits of what is left of a number, and the digits that are written after those, are the digits of the number.
 pub record AreWritten (base value rest from : ℕ) (digits : List ℕ) : Type 0 where
   pub long : length digits ≡ 20
   pub within : from ≤ 20

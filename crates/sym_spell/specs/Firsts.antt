@@ -1,4 +1,4 @@
--- The first things with each of some keys: at places that a mark says, and in a map.
+-- The first thing with each of some keys: at the place that the key's mark says, or in a map.
 use Rattle.std.specs.Prelude.{◌≡◌, ℕ, zero, suc, ◌+◌, ◌*◌, ◌-◌, ◌/◌, ◌%◌, ◌<◌, ◌≤◌, List, length, slice_get, get_or, cond, Option, Some, None}
 use Rattle.std.specs.Ordering.{is_eq}
 use Rattle.std.specs.declared.cmp.Ordering.{Ordering}
@@ -13,16 +13,16 @@ text_mark text =
 abbrev pub place_of : {K : Type 0} → (mark : K → ℕ) → K → ℕ
 place_of mark key = mark key % 509
 
--- what has this number, counted from 1
+-- the thing that has this number, counted from 1
 abbrev pub numbered : {A : Type 0} → List A → ℕ → Option A
 numbered things zero = None
 numbered things (suc k) = slice_get things k
 
--- what is at a place
+-- the thing at a place
 abbrev pub seen_at : {K : Type 0} → (places : List ℕ) → List (Seen K) → (place : ℕ) → Option (Seen K)
 seen_at places seen place = numbered seen (get_or places place 0)
 
--- what is known of a key: the thing at its place, if that has this key, or else what the map has
+-- the thing with a key: the one at the key's place, if that has the key, or else the one in the map
 abbrev pub first_or : {K : Type 0} → (cmp : K → K → Ordering) → Option (Seen K) → (more : K → Option ℕ) → K → Option ℕ
 first_or cmp None more key = more key
 first_or cmp (Some seen) more key = cond (is_eq (cmp seen.key key)) (Some seen.node) (more key)
@@ -30,7 +30,8 @@ first_or cmp (Some seen) more key = cond (is_eq (cmp seen.key key)) (Some seen.n
 abbrev pub first_in : {K : Type 0} → (cmp : K → K → Ordering) → (mark : K → ℕ) → (places : List ℕ) → List (Seen K) → (more : K → Option ℕ) → K → Option ℕ
 first_in cmp mark places seen more key = first_or cmp (seen_at places seen (place_of mark key)) more key
 
--- Each key of the map has a place at which there is another, as long as there is room for more; a key that is at a place has that place.
+-- Each key of the map has a place at which another key is, as long as there is room for more. A key that is at a place
+-- has that place.
 pub record IsIndex {K : Type 0} (mark : K → ℕ) (places : List ℕ) (seen : List (Seen K)) (more : K → Option ℕ) : Type 0 where
   pub long : length places ≡ 509
   pub within : (place : ℕ) → get_or places place 0 ≤ length seen

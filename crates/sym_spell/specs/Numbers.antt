@@ -5,7 +5,7 @@ use Rattle.std.specs.Prelude.{◌≡◌, ℕ, ◌+◌, ◌<◌, ◌≤◌, max, 
 abbrev pub number_at : List ℕ → (thing : ℕ) → ℕ
 number_at numbers thing = get_or numbers thing 0
 
--- how many entries a map has that gives these numbers: one more than the greatest
+-- how many entries a map has that gives these numbers: one more than the greatest number
 abbrev pub entries_of : List ℕ → ℕ
 entries_of numbers = fold (λ most n. max most (n + 1)) 0 numbers
 
@@ -13,20 +13,20 @@ entries_of numbers = fold (λ most n. max most (n + 1)) 0 numbers
 abbrev pub AreBelow : List ℕ → (bound : ℕ) → Type 0
 AreBelow numbers bound = (i : ℕ) → i < length numbers → number_at numbers i < bound
 
--- Two things have the same number just where they are equal.
+-- Two things have one number exactly if they are equal.
 pub record TellApart {A : Type 0} (thing : ℕ → A) (numbers : List ℕ) : Type 0 where
   pub same : (i j : ℕ) → i < length numbers → j < length numbers → number_at numbers i ≡ number_at numbers j → thing i ≡ thing j
   pub equal : (i j : ℕ) → i < length numbers → j < length numbers → thing i ≡ thing j → number_at numbers i ≡ number_at numbers j
 
--- There are n numbers, and two things have the same just where they are equal.
+-- There are n numbers, and two things have one number exactly if they are equal.
 pub record AreTold {A : Type 0} (thing : ℕ → A) (count : ℕ) (numbers : List ℕ) : Type 0 where
   pub long : length numbers ≡ count
   pub same : (i j : ℕ) → i < length numbers → j < length numbers → number_at numbers i ≡ number_at numbers j → thing i ≡ thing j
   pub equal : (i j : ℕ) → i < length numbers → j < length numbers → thing i ≡ thing j → number_at numbers i ≡ number_at numbers j
   pub below : AreBelow numbers count
 
--- There are n numbers. Two things have the same number just where they are equal, and a thing that no earlier one equals has the
--- next number.
+-- There are n numbers. Two things have one number exactly if they are equal, and a thing that equals no earlier one has
+-- the next number.
 pub record AreNumbered {A : Type 0} (thing : ℕ → A) (count : ℕ) (numbers : List ℕ) : Type 0 where
   pub long : length numbers ≡ count
   pub same : (i j : ℕ) → i < length numbers → j < length numbers → number_at numbers i ≡ number_at numbers j → thing i ≡ thing j

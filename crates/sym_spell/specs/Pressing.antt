@@ -1,7 +1,7 @@
--- Spellings in which a repeated part is a reference: what they say, and the components that references may name.
+-- Spellings in which a repeated part is a reference: their bytes, and the components that references may name.
 use Rattle.std.specs.Prelude.{ℕ, ◌+◌, List, [], ◌∷◌, ◌++◌, length}
 
--- what is spelled, and the components so far
+-- the bytes that are spelled, and the components so far
 pub record Pressed (C : Type 0) : Type 0 where
   pub bytes : List ℕ
   pub components : List C

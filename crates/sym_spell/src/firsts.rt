@@ -10,7 +10,7 @@ use std::alloc::Global;
 use std::collections::BTreeMap;
 use sym_core::Refusal;
 
-/// A key with a mark, a number by which it is looked for first.
+/// A key with a mark, a number by which the key is looked for first.
 pub trait Marked: Ord {
     ghost use Rattle.std.specs.Prelude.{◌≡◌, ◌^◌, ◌<◌, ℕ};
     ghost use Rattle.std.specs.declared.cmp.Ordering.TheVariants.{Equal};
@@ -51,18 +51,19 @@ pub struct Seen<K> {
 
 /// The first nodes with each of some keys.
 ///
-/// A key is at the place that its mark says, where no earlier one is there, and else in a map. The map orders its keys and hashes none,
-/// so that no choice of keys makes a look-up long.
+/// A key is at the place that its mark says, unless an earlier key is there, and then it is in a map. The map orders
+/// its keys and hashes none, so no choice of keys makes a look-up long.
 #[derive(Drop)]
 pub struct Firsts<K: Ord + Drop> {
     /// At each place one more than the number of the key that is there, or 0.
     pub places: Vec<u16>,
-    /// The keys at places.
+    /// The keys at places, in the order of their numbers.
     pub seen: Vec<Seen<K>>,
     pub more: BTreeMap<K, u32>,
 }
 
-/// The first node with this key in a map: an earlier one that the map has, or this node, which the map has from now on.
+/// The first node with this key in a map: an earlier one that the map has, or else this node, which the map has from
+/// now on.
 fn first_with<K: Ord + Drop>(
     nodes: &mut BTreeMap<K, u32>,
     key: K,
@@ -96,7 +97,7 @@ impl<K: Marked + Drop> Firsts<K> {
         })
     }
 
-    /// The first node with this key: an earlier one, or this node, which is known from now on.
+    /// The first node with this key: an earlier one, or else this node, which is known from now on.
     ///
     /// # Errors
     ///

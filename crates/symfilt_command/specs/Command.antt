@@ -3,6 +3,8 @@ use Rattle.std.specs.Prelude.{◌≡◌, ◌≢◌, ◌⊎◌, ℕ, List, [], Bo
 use Rattle.std.specs.Io.KnownBytes.{Appends}
 use Rattle.sym_print.specs.declared.detail.Detail.{Detail}
 use Rattle.sym_filter.specs.Runs.{Answering}
+use Rattle.sym_short.specs.Shortening.{answers_as}
+use Rattle.sym_short.specs.declared.texts.Texts.{Texts}
 use Rattle.sym_filter.specs.Streams.{FiltersAllAt, FiltersFrontAt}
 use Rattle.sym_filter.specs.declared.words.Tally.{Tally}
 use Rattle.cpp_grammar.specs.Mangled.{cpp_mangled, wide_mangled}
@@ -19,15 +21,15 @@ use Rattle.sym_command.specs.declared.outcome.Filtering.{Filtering}
 use Rattle.sym_command.specs.declared.outcome.Run.{Run}
 use Rattle.sym_command.specs.declared.outcome.Run.TheVariants.{Done, Filter}
 
--- what is requested for each symbol: its text, with C++ by either grammar, or its pressed spelling
-abbrev pub answers_at : Asked → (legacy : Bool) → ℕ → Detail → Answering
-answers_at Text legacy limit detail = answers_by cpp_mangled legacy limit detail
-answers_at WideText legacy limit detail = answers_by wide_mangled legacy limit detail
-answers_at Pressed legacy limit detail = pressed_of
-answers_at WidePressed legacy limit detail = wide_pressed_of
+-- what is requested for each symbol: its text, whole or short, with C++ by either grammar, or its pressed spelling
+abbrev pub answers_at : Asked → Texts → (legacy : Bool) → ℕ → Detail → Answering
+answers_at Text texts legacy limit detail = answers_as texts legacy (answers_by cpp_mangled legacy limit detail)
+answers_at WideText texts legacy limit detail = answers_as texts legacy (answers_by wide_mangled legacy limit detail)
+answers_at Pressed texts legacy limit detail = pressed_of
+answers_at WidePressed texts legacy limit detail = wide_pressed_of
 
 abbrev pub answers_of : Options → Answering
-answers_of options = answers_at options.asked options.legacy options.limit options.detail
+answers_of options = answers_at options.asked options.texts options.legacy options.limit options.detail
 
 -- which counts are those of a symbol then
 abbrev pub counting_at : Asked → Counting
@@ -41,7 +43,7 @@ counting_of options = counting_at options.asked
 
 -- what the filter does with the words of standard input
 abbrev pub filter_answers : Filtering → Answering
-filter_answers filtering = answers_at filtering.asked filtering.legacy filtering.limit filtering.detail
+filter_answers filtering = answers_at filtering.asked filtering.texts filtering.legacy filtering.limit filtering.detail
 
 -- ## What a command line did, by what its parser found
 

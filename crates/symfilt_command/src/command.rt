@@ -5,6 +5,7 @@ ghost use Rattle.clap.specs.declared.error.kind.ErrorKind.{ErrorKind as ErrorKin
 ghost use Rattle.sym_filter.specs.Streams.{reader_faults, writer_faults, FiltersAllAt, FiltersFrontAt};
 ghost use Rattle.sym_command.specs.Command.{Took, Says, AnswersWords, AnswersFront};
 ghost use Rattle.sym_command.specs.declared.outcome.Run.{Run as Run-type};
+ghost use Rattle.sym_short.specs.Shortening.{answers_as};
 ghost use Rattle.sym_languages.specs.Languages.{answers_by, AreCountsBy};
 ghost use Rattle.symfilt_command.specs.Command.{answers_of, counting_of, filter_answers, AreBegun, IsRun, IsRunOf, IsStopped, Ends, Stops};
 
@@ -16,9 +17,11 @@ use sym_command::{
     ANSWERED, Asked, FAULT, Filtering, Options, Run, answer_words, filtering_of, found_in,
     options_of, refuse_with, symbols_of,
 };
-use sym_filter::{FilterFault, ListSink, Sink, Source, Tally, filter_words};
+use sym_filter::{Demangler, FilterFault, Letters, ListSink, Sink, Source, Tally, filter_words};
 use sym_languages::languages::Cpp;
 use sym_languages::{Abi, Languages, Legacy, Pressing, Wide, WidePressing};
+use sym_recent::{Alike, Recent};
+use sym_short::{Shortening, Texts};
 
 /// Runs the program over an input and two outputs: answers the symbols of a command line, or filters the input where it has none.
 /// The words are those of the command line, the program's name first, and the result is the status.
@@ -75,8 +78,8 @@ pub fn filter_asked<S: Source, W: Sink>(
     match filtering.asked {
         Asked::Text => filter_in(alloc, Abi, filtering, input, out),
         Asked::WideText => filter_in(alloc, Wide, filtering, input, out),
-        Asked::Pressed => filter_words(alloc, input, out, &Pressing, filtering.letters),
-        Asked::WidePressed => filter_words(alloc, input, out, &WidePressing, filtering.letters),
+        Asked::Pressed => filter_by(alloc, Pressing, filtering.letters, input, out),
+        Asked::WidePressed => filter_by(alloc, WidePressing, filtering.letters, input, out),
     }
 }
 
@@ -90,9 +93,9 @@ fn filter_in<C: Cpp, S: Source, W: Sink>(
 ) -> Result<Tally, FilterFault>
     requires in_failures { S.failure_count input.old < 2 ^ 64 - 1 }
     requires out_failures { W.failure_count out.old < 2 ^ 64 - 1 }
-    ensures ok { IfOk result (λ tally. FiltersAllAt filtering.letters (answers_by C.mangled filtering.legacy filtering.limit filtering.detail)
+    ensures ok { IfOk result (λ tally. FiltersAllAt filtering.letters (answers_as filtering.texts filtering.legacy (answers_by C.mangled filtering.legacy filtering.limit filtering.detail))
         (S.coming input.old) (S.coming input.new) (W.taken out.old) (W.taken out.new) tally) }
-    ensures err { OnErr result (FiltersFrontAt filtering.letters (answers_by C.mangled filtering.legacy filtering.limit filtering.detail)
+    ensures err { OnErr result (FiltersFrontAt filtering.letters (answers_as filtering.texts filtering.legacy (answers_by C.mangled filtering.legacy filtering.limit filtering.detail))
         (S.coming input.old) (S.coming input.new) (W.taken out.old) (W.taken out.new)) }
     ensures read_failed { S.failure_count input.new ≡ S.failure_count input.old + reader_faults result }
     ensures write_failed { W.failure_count out.new ≡ W.failure_count out.old + writer_faults result }
@@ -100,15 +103,64 @@ fn filter_in<C: Cpp, S: Source, W: Sink>(
     let Filtering {
         limit,
         detail,
-        letters,
         legacy,
         ..
     } = filtering;
     let languages = Languages { limit, detail, cpp };
     if legacy {
-        return filter_words(alloc, input, out, &Legacy { languages }, letters);
+        return filter_as(alloc, Legacy { languages }, filtering, input, out);
     }
-    filter_words(alloc, input, out, &languages, letters)
+    filter_as(alloc, languages, filtering, input, out)
+}
+
+/// Filters an input with a demangler, whose texts are made short where that is requested.
+fn filter_as<D: Alike + Copy + Drop, S: Source, W: Sink>(
+    alloc: Global,
+    demangler: D,
+    filtering: Filtering,
+    input: &mut S,
+    out: &mut W,
+) -> Result<Tally, FilterFault>
+    requires in_failures { S.failure_count input.old < 2 ^ 64 - 1 }
+    requires out_failures { W.failure_count out.old < 2 ^ 64 - 1 }
+    ensures ok { IfOk result (λ tally. FiltersAllAt filtering.letters (answers_as filtering.texts filtering.legacy (D.answer demangler))
+        (S.coming input.old) (S.coming input.new) (W.taken out.old) (W.taken out.new) tally) }
+    ensures err { OnErr result (FiltersFrontAt filtering.letters (answers_as filtering.texts filtering.legacy (D.answer demangler))
+        (S.coming input.old) (S.coming input.new) (W.taken out.old) (W.taken out.new)) }
+    ensures read_failed { S.failure_count input.new ≡ S.failure_count input.old + reader_faults result }
+    ensures write_failed { W.failure_count out.new ≡ W.failure_count out.old + writer_faults result }
+{
+    match filtering.texts {
+        Texts::Whole => filter_by(alloc, demangler, filtering.letters, input, out),
+        Texts::Short { keeps_inline } => {
+            let short = Shortening {
+                demangler,
+                keeps_inline,
+                reads_paths: filtering.legacy,
+            };
+            filter_by(alloc, short, filtering.letters, input, out)
+        }
+    }
+}
+
+/// Filters an input with a demangler, which isn't asked again for the symbols that came last.
+fn filter_by<D: Alike + Copy + Drop, S: Source, W: Sink>(
+    alloc: Global,
+    demangler: D,
+    letters: Letters,
+    input: &mut S,
+    out: &mut W,
+) -> Result<Tally, FilterFault>
+    requires in_failures { S.failure_count input.old < 2 ^ 64 - 1 }
+    requires out_failures { W.failure_count out.old < 2 ^ 64 - 1 }
+    ensures ok { IfOk result (λ tally. FiltersAllAt letters (D.answer demangler)
+        (S.coming input.old) (S.coming input.new) (W.taken out.old) (W.taken out.new) tally) }
+    ensures err { OnErr result (FiltersFrontAt letters (D.answer demangler)
+        (S.coming input.old) (S.coming input.new) (W.taken out.old) (W.taken out.new)) }
+    ensures read_failed { S.failure_count input.new ≡ S.failure_count input.old + reader_faults result }
+    ensures write_failed { W.failure_count out.new ≡ W.failure_count out.old + writer_faults result }
+{
+    filter_words(alloc, input, out, &Recent { demangler }, letters)
 }
 
 /// Appends the lines for the words of a command line, the program's name first, and says what the program is to do.
@@ -245,11 +297,11 @@ fn answer_in<C: Cpp, W: Sink, E: Sink>(
     requires out_failures { W.failure_count out.old < 2 ^ 64 - 1 }
     requires err_failures { E.failure_count err.old < 2 ^ 64 - 1 }
     ensures ok { IfOk result (λ status. Took (W.taken out.old) (W.taken out.new) (E.taken err.old) (E.taken err.new)
-        (AnswersWords options.asked (answers_by C.mangled options.legacy options.limit options.detail)
+        (AnswersWords options.asked (answers_as options.texts options.legacy (answers_by C.mangled options.legacy options.limit options.detail))
         (AreCountsBy (record { mangled = C.mangled; IsRead = C.is_read; bytes_of = C.bytes_of; whole_of = C.whole_of; are_nodes = C.are_nodes; nodes_a_byte = C.nodes_a_byte }))
         options.stats (map (λ word. word.now) words.now) status)) }
     ensures err { OnErr result (Took (W.taken out.old) (W.taken out.new) (E.taken err.old) (E.taken err.new)
-        (AnswersFront options.asked (answers_by C.mangled options.legacy options.limit options.detail)
+        (AnswersFront options.asked (answers_as options.texts options.legacy (answers_by C.mangled options.legacy options.limit options.detail))
         (AreCountsBy (record { mangled = C.mangled; IsRead = C.is_read; bytes_of = C.bytes_of; whole_of = C.whole_of; are_nodes = C.are_nodes; nodes_a_byte = C.nodes_a_byte }))
         options.stats (map (λ word. word.now) words.now))) }
     ensures fault { IfErr result (λ fault. fault ≢ FilterFault.Read) }
@@ -264,7 +316,39 @@ fn answer_in<C: Cpp, W: Sink, E: Sink>(
     } = options;
     let languages = Languages { limit, detail, cpp };
     if legacy {
-        return answer_words(alloc, &Legacy { languages }, options, words, out, err);
+        return answer_as(alloc, Legacy { languages }, options, words, out, err);
     }
-    answer_words(alloc, &languages, options, words, out, err)
+    answer_as(alloc, languages, options, words, out, err)
+}
+
+/// Writes the lines of words with a demangler, whose texts are made short where that is requested.
+fn answer_as<D: Demangler + Copy + Drop, W: Sink, E: Sink>(
+    alloc: Global,
+    demangler: D,
+    options: Options,
+    words: &[&str],
+    out: &mut W,
+    err: &mut E,
+) -> Result<u8, FilterFault>
+    requires out_failures { W.failure_count out.old < 2 ^ 64 - 1 }
+    requires err_failures { E.failure_count err.old < 2 ^ 64 - 1 }
+    ensures ok { IfOk result (λ status. Took (W.taken out.old) (W.taken out.new) (E.taken err.old) (E.taken err.new)
+        (AnswersWords options.asked (answers_as options.texts options.legacy (D.answer demangler)) (D.are_counts demangler) options.stats (map (λ word. word.now) words.now) status)) }
+    ensures err { OnErr result (Took (W.taken out.old) (W.taken out.new) (E.taken err.old) (E.taken err.new)
+        (AnswersFront options.asked (answers_as options.texts options.legacy (D.answer demangler)) (D.are_counts demangler) options.stats (map (λ word. word.now) words.now))) }
+    ensures fault { IfErr result (λ fault. fault ≢ FilterFault.Read) }
+    ensures failures { W.failure_count out.new + E.failure_count err.new
+        ≡ W.failure_count out.old + E.failure_count err.old + writer_faults result }
+{
+    match options.texts {
+        Texts::Whole => answer_words(alloc, &demangler, options, words, out, err),
+        Texts::Short { keeps_inline } => {
+            let short = Shortening {
+                demangler,
+                keeps_inline,
+                reads_paths: options.legacy,
+            };
+            answer_words(alloc, &short, options, words, out, err)
+        }
+    }
 }

@@ -11,24 +11,25 @@ use Rattle.sym_filter.specs.declared.kinds.TheConstants.{LONGEST_WORD}
 use Rattle.sym_filter.specs.Bytes.{is_byte_of}
 use Rattle.sym_filter.specs.Runs.{Answering}
 
--- the bytes of a type: those of words except for the dot, which begins a symbol's suffix
+-- the bytes of a type: the bytes of words except for the dot, with which a symbol's suffix begins
 abbrev pub is_type_byte : ℕ → Bool
 is_type_byte byte = is_byte_of Any byte && not (byte == 46)
 
--- a name that can be a type is no longer than a word
+-- a name that can be a type has at most the length of a word
 abbrev pub is_type_word : List ℕ → Bool
 is_type_word name = nat_le (length name) LONGEST_WORD && list_all is_type_byte name
 
--- what the text of a typeinfo symbol begins with
+-- the beginning of the text of each typeinfo symbol
 abbrev pub information_words : List ℕ
 information_words = codes "typeinfo for "
 
--- what follows these words
+-- the text after that beginning
 abbrev pub after_words : List ℕ → Result (List ℕ) Refusal
 after_words text =
     if pointwise nat_eq (take (length information_words) text) information_words then Ok (drop (length information_words) text) else Err (Malformed 0)
 
--- a refusal of a typeinfo symbol, with its place in the name, which follows the four bytes of _ZTI
+-- the refusal of a type, by that of its typeinfo symbol: the place is counted from the type, which begins after the
+-- four bytes `_ZTI`
 abbrev pub before_front : Refusal → Refusal
 before_front (Malformed at) = Malformed (at - 4)
 before_front (BadReference at) = BadReference (at - 4)
@@ -36,7 +37,7 @@ before_front (BadValue at) = BadValue (at - 4)
 before_front TooLong = TooLong
 before_front Memory = Memory
 
--- the answer for a type, by that for its typeinfo symbol
+-- the answer for a type, by the answer for its typeinfo symbol
 abbrev pub type_by : Result (List ℕ) Refusal → Result (List ℕ) Refusal
 type_by (Ok text) = after_words text
 type_by (Err refusal) = Err (before_front refusal)
@@ -46,7 +47,7 @@ type_by (Err refusal) = Err (before_front refusal)
 abbrev pub type_answer : Answering → List ℕ → Result (List ℕ) Refusal
 type_answer answers name = type_by (answers (record { lang = Cpp; skip = 0 }) (codes "_ZTI" ++ name))
 
--- its text, if it has one
+-- the text of a type, if it has one
 abbrev pub type_text : Answering → List ℕ → Option (List ℕ)
 type_text answers name = result_ok (type_answer answers name)
 

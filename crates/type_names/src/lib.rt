@@ -14,10 +14,10 @@ use sym_filter::kinds::LONGEST_WORD;
 use sym_filter::words::is_byte_of;
 use sym_filter::{Demangler, Kind, Lang, Letters};
 
-/// What a typeinfo symbol begins with.
+/// The beginning of each typeinfo symbol.
 const INFORMATION: &[u8] = b"_ZTI";
 
-/// What the text of a typeinfo symbol begins with.
+/// The beginning of the text of each typeinfo symbol.
 const INFORMATION_WORDS: &[u8] = b"typeinfo for ";
 
 /// The text of a name as a type, where types are read and it is one.
@@ -94,7 +94,8 @@ pub fn append_type<D: Demangler>(
     }
 }
 
-/// A refusal of a typeinfo symbol, with its place in the name, which follows `_ZTI`.
+/// The refusal of a type, by that of its typeinfo symbol: the place is counted from the type, which begins after
+/// `_ZTI`.
 fn before_front(refusal: Refusal) -> Refusal
     ensures { result ≡ before_front refusal }
 {

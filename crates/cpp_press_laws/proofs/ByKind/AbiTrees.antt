@@ -1,4 +1,4 @@
--- What holds of the trees of both grammars holds of those of the grammar.
+-- A fact of the trees of both grammars, for the trees of the ABI's grammar.
 use Rattle.std.proofs.Common.{◌≡◌, ℕ, suc, ◌+◌, ◌<◌, ◌≤◌, List, refl, arith, length, true, false, Ok}
 use Rattle.sym_shape.specs.Law.{IsSymbol}
 use Rattle.sym_shape.specs.declared.rule.Sym.{Sym}

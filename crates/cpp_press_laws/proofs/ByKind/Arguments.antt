@@ -3,6 +3,7 @@ use Rattle.std.proofs.Common.{◌≡◌, ℕ, [], ◌∷◌, true, false, refl, 
 use Rattle.std.specs.Prelude.{nat_eq}
 use Rattle.cpp_grammar.specs.declared.kind.Kind.{Kind}
 use Rattle.cpp_grammar.specs.declared.production.Production.{Production}
+use Rattle.cpp_grammar.specs.declared.production.Operation.{Operation}
 use Rattle.cpp_grammar.specs.Grammar.{alternatives, is_chain, number_of_kind, parts_of, number_of}
 use Rattle.cpp_grammar.specs.Term.{absent}
 use Rattle.cpp_grammar.specs.Values.{State, outermost, Around, Value, pair, tree_of, letter_of, part}
@@ -39,6 +40,7 @@ literal-after-d-branch rule taken parts all around at old v new front is e outer
         (step.char-literal around (byte_of o.taken) old w old
         (subst (λ b. IsBuiltin literal_type (68 ∷ b ∷ [])) (sym (own-byte Production.CharLiteral o.taken o.byte o.takes refl)) (refl, o.small, o.chosen))
         number.1))
+    arm (Production.Operation Operation.ExpressionC) here o = absurd here
     arm p here o = absurd here
 
 pub literal-branch : BranchRead Kind.Literal
@@ -61,6 +63,7 @@ literal-branch rule taken parts all around at old v new front is e outer =
         let number = read Kind.Integer refl in
         subst (KindFits Kind.Literal around (Meant Production.IntegerLiteral (byte_of o.taken) around (w ∷ n ∷ [])) old) (sym number.0)
         (step.integer-literal around (byte_of o.taken) old w n old s (one Kind.LiteralType refl outer) number.1))
+    arm (Production.Operation Operation.ExpressionC) here o = absurd here
     arm p here o = absurd here
 
 -- ## Addresses
@@ -139,6 +142,7 @@ argument-list-branch rule taken parts all around at old v new front is e outer =
     arm Production.PackArgument here o = pack-argument Kind.ArgumentList around at old v new outer o
     arm Production.LiteralArgument here o = literal-argument Kind.ArgumentList around at old v new outer o
     arm Production.AnyArgument here o = any-argument Kind.ArgumentList around at old v new outer o
+    arm (Production.Operation Operation.ExpressionC) here o = absurd here
     arm p here o = absurd here
 
 pub arguments-first-branch : BranchRead Kind.ArgumentsFirst
@@ -152,6 +156,7 @@ arguments-first-branch rule taken parts all around at old v new front is e outer
     arm Production.PackArgument here o = pack-argument Kind.ArgumentsFirst around at old v new outer o
     arm Production.LiteralArgument here o = literal-argument Kind.ArgumentsFirst around at old v new outer o
     arm Production.AnyArgument here o = any-argument Kind.ArgumentsFirst around at old v new outer o
+    arm (Production.Operation Operation.ExpressionC) here o = absurd here
     arm p here o = absurd here
 
 pub pack-list-branch : BranchRead Kind.PackList
@@ -167,4 +172,5 @@ pack-list-branch rule taken parts all around at old v new front is e outer =
         (subst (λ q. KindFits Kind.PackList around x q t) end.0 (two Kind.PackList refl outer)))
     arm Production.AnyElement here o = fits-by-parts Kind.PackList Production.AnyElement tt tt o
         (λ w s one x t two. arguments-fit around true (tree_of w) (no_items x) old s t (one Kind.Argument refl outer true) (two Kind.PackList refl outer))
+    arm (Production.Operation Operation.ExpressionC) here o = absurd here
     arm p here o = absurd here

@@ -1,4 +1,4 @@
--- What is read where nothing is, as a kind that may be empty.
+-- The value of a kind that may be empty, where nothing of it is there.
 use Rattle.std.proofs.Common.{◌≡◌, [], ◌∷◌, inl, true, false, refl, subst, sym, ◌∙◌}
 use Rattle.std.proofs.lemmas.Bool.{false≢true}
 use Rattle.sym_shape.specs.Tree.{empty}
@@ -18,7 +18,7 @@ use Rattle.cpp_press_laws.proofs.Fits.Lists.{nil-fits}
 use Rattle.cpp_press_laws.proofs.Fits.Typed.{no-arguments}
 use Rattle.cpp_press_laws.proofs.ByKind.Known.{KindRead, ShapeRead}
 
--- what nothing is read as
+-- the value of an empty part
 nothing-read : (kind : Kind) → may_be_empty kind ≡ true → (around : Around) (state : State) → KindRead kind around nothing_there state state
 unfolding may_be_empty no_items discriminator_of text_of mark_of
 nothing-read Kind.MaybeSuffix may around state = (refl, tt)
@@ -38,6 +38,7 @@ nothing-read Kind.MaybeTags may around state = (refl, refl)
 nothing-read Kind.Declarations may around state = λ outer. tt
 nothing-read Kind.BaseArguments may around state = λ outer. tt
 nothing-read Kind.HeldArguments may around state = λ outer. tt
+nothing-read Kind.ConceptArguments may around state = λ outer. tt
 nothing-read Kind.Expressions may around state = λ outer. tt
 nothing-read Kind.HexMore may around state = λ outer. tt
 nothing-read Kind.MoreModule may around state = λ outer. tt

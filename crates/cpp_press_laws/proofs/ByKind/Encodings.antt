@@ -9,6 +9,7 @@ use Rattle.sym_shape.specs.Tree.{Tree as Shape, spell, IsTree}
 use Rattle.sym_link.specs.Unfold.{found, unfold_tree}
 use Rattle.cpp_grammar.specs.declared.kind.Kind.{Kind}
 use Rattle.cpp_grammar.specs.declared.production.Production.{Production}
+use Rattle.cpp_grammar.specs.declared.production.Operation.{Operation}
 use Rattle.cpp_grammar.specs.KindNumbers.{ENCODING, SPECIAL, SPECIAL_MARK, SPECIAL_AFTER_G, COMPLETE_NAME, ITEMS}
 use Rattle.cpp_grammar.specs.Grammar.{alternatives, choose, is_chain, number_of_kind, parts_of, number_of}
 use Rattle.cpp_grammar.specs.Table.{abi}
@@ -62,7 +63,7 @@ after-append : (encoding : ℕ) (cs ds : List Candidate) → AllAfter encoding c
 after-append encoding [] ds one other = other
 after-append encoding (c ∷ cs) ds one other = (one.0, after-append encoding cs ds one.1 other)
 
--- what was read inside an encoding stays after where it begins
+-- candidates that were made inside an encoding stay behind the place where it begins
 stays-behind : (around inner : Around) (at end : ℕ) (old new : State) → around.encoding < at → inner.encoding ≡ at
     → AllOld false around at old.candidates → Grows false inner end old new → StaysBehind around at old new
 stays-behind around inner at end old new less is before grows = record {
@@ -84,7 +85,7 @@ stays-further around inner at end old mid new less is one grows = record {
 
 -- ## Parts of an encoding
 
--- before a part of an encoding's name
+-- what is known before a part of an encoding's name
 name-front : (x : Sym) (around : Around) (at from : ℕ) (state : State) → around.encoding < at → at ≤ from → holds_encoding x ≡ false
     → AllOld false around at state.candidates → InFront x (in_name at) from state
 unfolding in_name
@@ -98,7 +99,7 @@ name-front x around at from state less le other old = record {
   prefix = tt;
 }
 
--- what a part has come to
+-- the candidates and the value once a part is read
 record PartCame (around : Around) (later : ℕ) (state : State) (v : Value) (new : State) : Type 0 where
   pub grows : Grows false around later state new
   pub good : Good (Bare false around) (held v)
@@ -123,7 +124,7 @@ part-came x around from state shape v new small front is e =
       old = old_grows false around from later state new (omega arith) front.placed.old came.grows;
     }
 
--- what holds of a production's meaning, and the state after it, holds of what it came to
+-- a fact of the meaning of a production and of the state after it is a fact of what the production was read as
 ended-read : (P : Value → State → Type 0) (p : Production) (byte : ℕ) (around : Around) (old : State) (vs : List Value) (mid : State)
     (v : Value) (new : State) → Ended p byte around old vs mid v new → P (Meant p byte around vs) (Later p byte around old vs mid) → P v new
 ended-read P p byte around old vs mid v new e one = subst (λ w. P w new) (sym e.comes) (subst (P (Meant p byte around vs)) (sym e.ends) one)
@@ -193,7 +194,7 @@ function-read around at old v new front o =
     (items-read around at g.value (no_items h.value) old g.after h.after items.0 stays (all-shut at later g.after.candidates c.old) own
     items.1)
 
--- ## Guards and special encodings
+-- ## Guard variables and special encodings
 
 guard-read : (around : Around) (at : ℕ) (old : State) (v : Value) (new : State) → InFront (OfKind ENCODING) around at old
     → Opened ShapeRead Kind.Encoding around at old (found (v ∷ []) new) Production.OtherSpecial → EncodingRead around v old new
@@ -261,6 +262,7 @@ encoding-branch rule taken parts all around at old v new front is e =
     arm Production.Special here o = special-read around at old v new front o
     arm Production.OtherSpecial here o = guard-read around at old v new front o
     arm Production.Encoding here o = function-read around at old v new front o
+    arm (Production.Operation Operation.ExpressionC) here o = absurd here
     arm p here o = absurd here
 
 -- ## What comes after a G
@@ -309,4 +311,5 @@ special-branch rule taken parts all around at old v new front is e =
         let this = read Kind.CallOffset refl in
         let result = more Kind.CallOffset refl in
         thunk-read around (covariant (adjustment_of a) (adjustment_of b)) w old t u (this.1, result.1) (result.0 ∙ this.0) (one Kind.Encoding refl))
+    arm (Production.Operation Operation.ExpressionC) here o = absurd here
     arm p here o = absurd here

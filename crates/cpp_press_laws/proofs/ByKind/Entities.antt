@@ -3,6 +3,7 @@ use Rattle.std.proofs.Common.{◌≡◌, inl, inr, ℕ, [], Bool, true, false, r
 use Rattle.sym_shape.specs.declared.rule.Sym.TheVariants.{Kind as OfKind}
 use Rattle.cpp_grammar.specs.declared.kind.Kind.{Kind}
 use Rattle.cpp_grammar.specs.declared.production.Production.{Production}
+use Rattle.cpp_grammar.specs.declared.production.Operation.{Operation}
 use Rattle.cpp_grammar.specs.Grammar.{alternatives, number_of_kind, parts_of, number_of}
 use Rattle.cpp_grammar.specs.Term.{any_value, Term, local, within, string_literal}
 use Rattle.cpp_grammar.specs.Values.{State, outermost, behind, Around, Value, unqualified, tree, tree_of, qualifiers_of, ref_of, mark_of, is_there, is_listed, part}
@@ -198,6 +199,7 @@ entity-branch rule taken parts all around at old v new front is e =
     arm Production.InternalName here o = piece (internal-comes Kind.Entity around at old v new o)
     arm Production.LocalTypeName here o = typed (local-type-comes Kind.Entity around at old v new o)
     arm Production.SourceName here o = typed (source-comes Kind.Entity around at old v new o)
+    arm (Production.Operation Operation.ExpressionC) here o = absurd here
     arm p here o = absurd here
 
 -- a type in the scope of an encoding, where its parts were read so
@@ -219,4 +221,5 @@ type-entity-branch rule taken parts all around at old v new front is e =
     arm Production.InternalName here o = piece (internal-comes Kind.TypeEntity around at old v new o)
     arm Production.LocalTypeName here o = typed (local-type-comes Kind.TypeEntity around at old v new o)
     arm Production.SourceName here o = typed (source-comes Kind.TypeEntity around at old v new o)
+    arm (Production.Operation Operation.ExpressionC) here o = absurd here
     arm p here o = absurd here

@@ -1,4 +1,4 @@
--- What is known of what was read as each kind, and how a production's parts come to what is known of the whole.
+-- What is known of the value of each kind, and how the parts of a production give what is known of the whole.
 use Rattle.std.proofs.Common.{◌≡◌, ℕ, ◌+◌, ◌<◌, ◌≤◌, ◌⊎◌, inl, inr, length, List, [], ◌∷◌, ◌++◌, Bool, true, false, cond, Some, Ok, Err, refl, ap, sym, subst, ◌∙◌, arith}
 use Rattle.std.specs.Prelude.{◌&&◌, ◌||◌, nat_lt}
 use Rattle.std.proofs.lemmas.Bool.{true≢false, and_parts}
@@ -13,6 +13,7 @@ use Rattle.sym_link.specs.Reading.{Found, Next}
 use Rattle.sym_link.specs.Unfold.{found, unfold_tree}
 use Rattle.cpp_grammar.specs.declared.kind.Kind.{Kind}
 use Rattle.cpp_grammar.specs.declared.production.Production.{Production}
+use Rattle.cpp_grammar.specs.declared.production.Operation.{Operation}
 use Rattle.cpp_grammar.specs.KindNumbers.{KIND_COUNT}
 use Rattle.cpp_grammar.specs.Grammar.{Alternative, alternatives, choose, number_of_kind, parts_of, is_chain}
 use Rattle.cpp_grammar.specs.Table.{abi}
@@ -46,7 +47,7 @@ use Rattle.cpp_press_laws.proofs.Fits.Solids.{LambdasAreBare}
 use Rattle.cpp_press_laws.proofs.Fits.Sorts.{KindFits, Meant, Later}
 use Rattle.cpp_press_laws.proofs.Fits.Places.{Placed}
 
--- ## What was read
+-- ## Values by their kinds
 
 -- a letter that the kind allows
 abbrev pub MarkRead : Kind → Value → (old new : State) → Type 0
@@ -81,8 +82,8 @@ abbrev pub GuardRead : Around → Value → (old new : State) → Type 0
 GuardRead around v old new =
     (name : Value) × (v ≡ tree (of_name 86 (tree_of name) (qualifiers_of name) (ref_of name)) true) × OwnNameRead around name old new
 
--- What is known of what was read as a kind. Types and lists begin where nothing is named so far; each further part of a name comes
--- after the name so far, which began at `start`.
+-- What is known of the value of each kind. Types and lists begin where no name has begun. Each further piece of a name
+-- comes after the name so far, which began at `start`.
 abbrev pub KindRead : Kind → Around → Value → (old new : State) → Type 0
 KindRead Kind.Symbol around v old new = Unit {0}
 KindRead Kind.MaybeSuffix around v old new = (new ≡ old) × IsSpellableSuffix (text_of v)
@@ -164,7 +165,7 @@ KindRead Kind.OperatorAfterI around v old new = MarkRead Kind.OperatorAfterI v o
 KindRead Kind.OperatorAfterG around v old new = MarkRead Kind.OperatorAfterG v old new
 KindRead kind around v old new = around.prefix ≡ outermost → KindFits kind around v old new
 
--- ## Where it was read
+-- ## Shapes by their kinds
 
 -- what is known before a part
 pub record InFront (x : Sym) (around : Around) (at : ℕ) (state : State) : Type 0 where
@@ -186,12 +187,12 @@ SymbolRead Name around v old new = (new ≡ old) × (v ≡ text (text_of v)) × 
 SymbolRead (Number kind) around v old new = (new ≡ old) × (v ≡ text (text_of v)) × AreDigitsOf kind (text_of v)
 SymbolRead (Byte b) around v old new = (new ≡ old) × (v ≡ nothing_there)
 
--- what holds unless it was refused
+-- a fact that holds unless the step was refused
 abbrev pub Unless : Going → (Next Value State Around → Type 0) → Type 0
 Unless (Ok next) G = G next
 Unless (Err e) G = Unit {0}
 
--- a part that was read in its surroundings, and what follows after its value
+-- a part was read in its surroundings, and the rest was read after its value
 pub record PartRead (x : Sym) (f : Forest) (from : ℕ) (next : Next Value State Around) (rest : Forest → List Value → ℕ → State → Type 0) :
     Type 0 where
   pub shape : Shape
@@ -205,14 +206,15 @@ pub record PartRead (x : Sym) (f : Forest) (from : ℕ) (next : Next Value State
   pub read : SymbolRead x next.context value next.state after
   pub onward : rest others (next.values ++ value ∷ []) (from + length (spell shape)) after
 
--- the parts of a production that begins at a place, after parts with these values; they come to this value
+-- the parts of a production that begins at a place were read after parts with these values; the production's value is
+-- this
 abbrev pub PartsRead : Production → (byte : ℕ) → Around → (place : ℕ) → (old : State) → Value → (new : State) → List Sym → Forest
     → List Value → (from : ℕ) → State → Type 0
 PartsRead p byte around place old v new [] f vs from state = close p byte around place old vs state ≡ Ok (found v new)
 PartsRead p byte around place old v new (x ∷ xs) f vs from state =
     OnGoing (between p around place vs state) (λ next. PartRead x f from next (PartsRead p byte around place old v new xs))
 
--- a branch of a kind that was read as a production, which begins no encoding
+-- a branch of a kind was read as a production that begins no encoding
 pub record OpenedRead (kind : Kind) (around : Around) (at : ℕ) (old : State) (v : Value) (new : State) (production : Production) :
     Type 0 where
   pub byte : ℕ
@@ -240,6 +242,7 @@ are_small (x ∷ xs) = is_small x && are_small xs
 parts-small : (p : Production) → are_small (parts_of p) ≡ true
 unfolding are_small is_small parts_of number_of_kind
 parts-small Production.Mark = refl
+parts-small (Production.Operation Operation.ExpressionC) = refl
 parts-small _ = refl
 
 below : (a b : ℕ) → nat_lt a b ≡ true → a < b
@@ -261,6 +264,7 @@ small-symbols (x ∷ xs) h = let both = and_parts (is_small x) (are_small xs) h 
 behind-a-byte : (p : Production) → is_chain p && has_encoding (parts_of p) ≡ false
 unfolding is_chain parts_of has_encoding holds_encoding number_of_kind
 behind-a-byte Production.Mark = refl
+behind-a-byte (Production.Operation Operation.ExpressionC) = refl
 behind-a-byte _ = refl
 
 -- ## Parts
@@ -277,7 +281,7 @@ symbol-read (Number kind) t holds around at state v new front is e =
     let r = number-read kind t around at state new v is e in (r.0, r.1.0, r.1.1)
 symbol-read (Byte b) t holds around at state v new front is e = byte-read b t around at state new v is e
 
--- what follows after each part is known as the part is
+-- what is known before each part and of each part
 parts-read : (p : Production) (byte : ℕ) (around : Around) (place : ℕ) (old : State) (v : Value) (new : State) → StaysInside p
     → LambdasAreBare around → GoodPrefix (Bare false around) around.prefix → (inner : Found (List Value) State)
     → close p byte around place old inner.value inner.state ≡ Ok (found v new)
@@ -414,7 +418,7 @@ opened-read kind rule taken parts all around at old v new front is e =
     each (a ∷ b ∷ rest) (inl o) = inl (opened-as kind around at old v new (OfKind (number_of_kind kind)) front a.production o)
     each (a ∷ b ∷ rest) (inr o) = inr (each (b ∷ rest) o)
 
--- what one of a kind's productions was read as, by the production's name
+-- a kind was read as one of its productions, by the production's name
 abbrev pub OneRead : Kind → Around → (at : ℕ) → (old : State) → Value → (new : State) → Type 0
 OneRead kind around at old v new = OneAmong (alternatives kind) (OpenedRead kind around at old v new)
 
@@ -426,7 +430,7 @@ pub one-read : (kind : Kind) (rule : Rule) (taken : List ℕ) (parts : Forest) �
 one-read kind rule taken parts all around at old v new front is e =
     by-name (alternatives kind) (OpenedRead kind around at old v new) (opened-read kind rule taken parts all around at old v new front is e)
 
--- what one kind takes at each byte another one does
+-- two kinds that take the same production at each byte
 pub taken-as : (j k : Kind) → each_below 256 (λ b. same_choice (choose j b) (choose k b)) ≡ true
     → (around : Around) (at : ℕ) (old : State) (v : Value) (new : State) (p : Production)
     → OpenedRead j around at old v new p → OpenedRead k around at old v new p
@@ -442,7 +446,7 @@ taken-as j k all around at old v new p o = record {
   goes = o.goes;
 }
 
--- each of its productions is one of the other's
+-- each production of one kind is a production of the other
 pub taken-among : (j k : Kind) → each_below 256 (λ b. same_choice (choose j b) (choose k b)) ≡ true
     → (around : Around) (at : ℕ) (old : State) (v : Value) (new : State) (some : List Alternative)
     → OneOf some (OpenedRead j around at old v new) → OneOf (alternatives k) (OpenedRead k around at old v new)
@@ -460,7 +464,7 @@ taken-among j k all around at old v new some o = each some o
     each (a ∷ b ∷ rest) (inl o) = one a.production o
     each (a ∷ b ∷ rest) (inr o) = each (b ∷ rest) o
 
--- ## What a production comes to
+-- ## The value of a production
 
 abbrev IsPlain : Production → Type 0
 IsPlain Production.Substitution = ⊥
@@ -474,7 +478,7 @@ closes-plain Production.Substitution plain byte around at old vs mid = absurd pl
 closes-plain Production.Inheriting plain byte around at old vs mid = absurd plain
 closes-plain _ plain byte around at old vs mid = refl
 
--- what holds of a production's meaning, and the state after it, holds of what it came to
+-- a fact of the meaning of a production and of the state after it is a fact of what the production was read as
 pub comes-as : (P : Value → State → Type 0) (p : Production) → IsPlain p
     → (byte : ℕ) (around : Around) (at : ℕ) (old : State) (vs : List Value)
     (mid : State) (v : Value) (new : State) → close p byte around at old vs mid ≡ Ok (found v new)
@@ -484,7 +488,7 @@ comes-as P p plain byte around at old vs mid v new e one =
     (ok_same (found (Meant p byte around vs) (Later p byte around old vs mid)) (found v new)
     (sym (closes-plain p plain byte around at old vs mid) ∙ e)) one
 
--- what is to be shown of a production where these parts follow
+-- the claim about a production, where these parts are still to come
 abbrev pub Parts : Production → Around → (place : ℕ) → (P : List Value → State → Type 0) → List Sym → List Value → State → Type 0
 Parts p around place P [] vs s = P vs s
 Parts p around place P (x ∷ xs) vs s =
@@ -509,7 +513,7 @@ each-part p byte around place old v new R plain (x ∷ xs) f vs from s goes hold
     go (Ok next) one holds more =
         more one.others (next.values ++ one.value ∷ []) (from + length (spell one.shape)) one.after one.onward (holds one.value one.after one.read)
 
--- what holds of a production's meaning, and the state after it, whatever its parts were read as, holds of what was read as it
+-- a fact of the meaning of a production, for any values of its parts, is a fact of what the production was read as
 pub by-parts : (R : Value → State → Type 0) (p : Production) → IsPlain p → StaysInside p → {kind : Kind} {around : Around} {at : ℕ} {old : State}
     {v : Value} {new : State} → (o : OpenedRead kind around at old v new p)
     → Parts p around at (λ ws t. R (Meant p (byte_of o.taken) around ws) (Later p (byte_of o.taken) around old ws t)) (parts_of p) [] old → R v new

@@ -1,7 +1,9 @@
--- Marks, letters, numbers, offsets, discriminators and suffixes that were read, as it is known of their kinds: nothing else changes.
+-- Marks, letters, numbers, offsets, discriminators and suffixes that were read: what is known of their kinds, and that
+-- nothing else changes.
 use Rattle.std.proofs.Common.{◌≡◌, ℕ, inl, inr, List, [], ◌∷◌, true, false, refl, ap, arith, sym, subst, ◌∙◌, Option, None, Some}
 use Rattle.cpp_grammar.specs.declared.kind.Kind.{Kind}
 use Rattle.cpp_grammar.specs.declared.production.Production.{Production}
+use Rattle.cpp_grammar.specs.declared.production.Operation.{Operation}
 use Rattle.cpp_grammar.specs.Grammar.{Alternative, alternatives, choose, is_chain, parts_of, pick, is_in, in_ranges, among, number_of}
 use Rattle.cpp_grammar.specs.Values.{State, Around, Value, letter_of, text_of, signed_of, adjustment_of, normal, part, mark_of, letter}
 use Rattle.cpp_grammar.specs.Between.{between}
@@ -43,12 +45,12 @@ letter-branch kind only rule taken parts all around at old v new front is e =
     mark-taken kind (one-mark (alternatives kind) (OpenedRead kind around at old v new) only
     (opened-read kind rule taken parts all around at old v new front is e))
 
--- a kind of marks, of which nothing is asked
+-- a kind of marks of which nothing is claimed
 pub mark-branch : (kind : Kind) → OnlyMarks (alternatives kind) → BranchTo kind (λ around v old new. new ≡ old)
 mark-branch kind only rule taken parts all around at old v new front is e =
     (letter-branch kind only rule taken parts all around at old v new front is e).0
 
--- a letter of the kind isn't that of an explicit object
+-- a letter of the kind isn't the mark of an explicit object
 abi-mark : (byte : ℕ) → choose Kind.MaybeRef byte ≡ Some Production.Mark → IsAbiMark (mark_of (letter byte))
 unfolding mark_of alternatives choose pick is_in in_ranges among
 abi-mark byte chosen =
@@ -78,6 +80,7 @@ operator-after-l-branch rule taken parts all around at old v new front is e =
     arm Production.Mark here o = inl (mark-taken Kind.OperatorAfterL o)
     arm Production.LiteralOperator here o = by-parts (λ w s. KindRead Kind.OperatorAfterL around w old s) Production.LiteralOperator tt tt o
         (λ w s name. inr (text_of w, name.0, refl, name.2))
+    arm (Production.Operation Operation.ExpressionC) here o = absurd here
     arm p here o = absurd here
 
 -- ## Numbers and offsets
@@ -94,6 +97,7 @@ integer-branch rule taken parts all around at old v new front is e =
         (λ w s number. (number.0, signed-spellable true (text_of w) number.2))
     arm Production.Positive here o = by-parts (λ w s. KindRead Kind.Integer around w old s) Production.Positive tt tt o
         (λ w s number. (number.0, signed-spellable false (text_of w) number.2))
+    arm (Production.Operation Operation.ExpressionC) here o = absurd here
     arm p here o = absurd here
 
 pub call-offset-branch : BranchRead Kind.CallOffset
@@ -110,6 +114,7 @@ call-offset-branch rule taken parts all around at old v new front is e =
         let one = read Kind.Integer refl in
         let two = more Kind.Integer refl in
         (end.0 ∙ two.0 ∙ mark.0 ∙ one.0, (one.1, two.1)))
+    arm (Production.Operation Operation.ExpressionC) here o = absurd here
     arm p here o = absurd here
 
 -- ## Discriminators
@@ -134,6 +139,7 @@ discriminator-rest-branch rule taken parts all around at old v new front is e =
         (refl, (omega (arith, eaten, o.small), ap (choose Kind.DiscriminatorRest) eaten ∙ o.chosen))
     arm Production.ManyDigits here o = by-parts (λ w s. KindRead Kind.DiscriminatorRest around w old s) Production.ManyDigits tt tt o (λ w s number m t mark.
         (mark.0 ∙ number.0, spellable-discriminator (normal (text_of w)) (normal-digits (text_of w) number.2)))
+    arm (Production.Operation Operation.ExpressionC) here o = absurd here
     arm p here o = absurd here
 
 -- ## Suffixes

@@ -1,4 +1,4 @@
--- What is read of parts without components: names, numbers and letters can be spelled, and nothing else changes.
+-- Parts without components that were read: names, numbers and letters can be spelled, and nothing else changes.
 use Rattle.std.proofs.Common.{◌≡◌, ℕ, ◌+◌, ◌-◌, ◌*◌, ◌<◌, ◌≤◌, length, List, [], ◌∷◌, true, Ok, refl, ap, sym, subst, arith}
 use Rattle.std.proofs.lemmas.Bool.Decides.{nat_tests}
 use Rattle.sym_core.specs.declared.NumberKind.TheVariants.{Length}
@@ -39,7 +39,7 @@ leaf-same Q v w state s e q = (ap (λ r. r.state) e, subst Q (sym (ap (first-or 
 digit-small : (b : ℕ) → is_digit_of Length b ≡ true → b ≤ 57
 digit-small b h = grind (arith, nat_tests)
 
--- one more than what so many digits stand for at most, after a number below k
+-- one more than the greatest number that n digits denote after a number below k
 unfoldable grown_by : ℕ → List ℕ → ℕ
 grown_by k [] = k
 grown_by k (d ∷ ds) = grown_by (k * 10) ds

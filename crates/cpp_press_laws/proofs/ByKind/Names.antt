@@ -3,6 +3,7 @@ use Rattle.std.proofs.Common.{◌≡◌, ℕ, ◌-◌, inl, inr, Bool, true, fal
 use Rattle.sym_shape.specs.declared.rule.Sym.TheVariants.{Kind as OfKind}
 use Rattle.cpp_grammar.specs.declared.kind.Kind.{Kind}
 use Rattle.cpp_grammar.specs.declared.production.Production.{Production}
+use Rattle.cpp_grammar.specs.declared.production.Operation.{Operation}
 use Rattle.cpp_grammar.specs.Grammar.{alternatives, number_of_kind, parts_of, number_of}
 use Rattle.cpp_grammar.specs.Term.{Term, in_std, parameter}
 use Rattle.cpp_grammar.specs.Values.{State, outermost, Around, prefix_tree, prefix_listed, Value, tree, tree_of, piece_of, is_listed, is_there, qualifiers_of, ref_of, part}
@@ -97,6 +98,7 @@ type-after-s-branch rule taken parts all around at old v new front is e outer =
     arm Production.TypeInStd here o = by-parts (λ w s. NameRead around w old s) Production.TypeInStd tt tt o (λ w s one. one Kind.TypeInStd refl outer)
     arm Production.AbbreviatedType here o = by-parts (λ w s. NameRead around w old s) Production.AbbreviatedType tt tt o
         (λ w s one. abbreviated-type around (byte_of o.taken) old w old s (one Kind.Abbreviation refl))
+    arm (Production.Operation Operation.ExpressionC) here o = absurd here
     arm p here o = absurd here
 
 -- ## Names as types
@@ -227,4 +229,5 @@ name-after-s-branch rule taken parts all around at old v new front is e outer =
         let behind_ = more Kind.Arguments refl in
         subst (λ t. OwnNameRead around (tree t false) old q) (sym (ap (λ u. applied (tree_of w) u) behind_.0))
         (named-own around w b old s q (one Kind.Abbreviation refl) behind_.1, tt))
+    arm (Production.Operation Operation.ExpressionC) here o = absurd here
     arm p here o = absurd here

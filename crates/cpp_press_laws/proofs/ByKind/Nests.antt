@@ -4,6 +4,7 @@ use Rattle.sym_core.specs.declared.refusal.Refusal.{Refusal}
 use Rattle.sym_link.specs.Reading.{Next, ◌>>=◌}
 use Rattle.cpp_grammar.specs.declared.kind.Kind.{Kind}
 use Rattle.cpp_grammar.specs.declared.production.Production.{Production}
+use Rattle.cpp_grammar.specs.declared.production.Operation.{Operation}
 use Rattle.cpp_grammar.specs.Grammar.{alternatives, number_of_kind, parts_of, number_of}
 use Rattle.cpp_grammar.specs.Term.{Term, in_std, instance, parameter, source}
 use Rattle.cpp_grammar.specs.Values.{State, Around, prefix_tree, prefix_listed, Value, tree, tree_of, piece_of, text_of, part}
@@ -24,9 +25,9 @@ use Rattle.cpp_press_laws.proofs.ByKind.Rules.{OneOf, IsAmong}
 use Rattle.cpp_press_laws.proofs.ByKind.Known.{KindRead, OpenedRead, opened-read, by-parts, BranchRead, Unless, one-read, OneRead}
 use Rattle.cpp_press_laws.proofs.ByKind.Pieced.{PieceRead, renamed, name-piece, source-comes, internal-comes, local-type-comes, other-operator-comes, operator-with-c-comes, constructor-comes, destructor-comes}
 
--- ## After a name
+-- ## After a name so far
 
--- nothing more
+-- nothing more follows
 nest-end : (outer : Around) (t : Term) (start : State) (at : ℕ) (old : State) (v : Value) (new : State) → NestFits outer t start old
     → OpenedRead Kind.NestTail (after t false outer) at old v new Production.NestEnd → NestRead outer v start new
 unfolding parts_of after prefix_tree prefix_listed tree_of meaning unfolding_.behind
@@ -55,7 +56,7 @@ nest-arguments kind outer t listed start at old v new so_far o =
     (arguments-so-far outer t listed a start old s so_far (given Kind.ArgumentsFirst refl refl)) in
     two Kind.NestTail refl outer (tree_of c) start refl (one Kind.Component refl outer own false start refl (λ n place cs front. refl) prefix).1)
 
--- arguments of a name that an S stands for, and a further piece
+-- arguments of a name that an S denotes, and a further piece
 nest-instance : (outer : Around) (t : Term) (listed : Bool) (start : State) (at : ℕ) (old : State) (v : Value) (new : State)
     → SoFarFits outer t listed start old → OpenedRead Kind.NestRestOrEnd (after t listed outer) at old v new Production.NestInstance
     → NestRead outer v start new
@@ -85,6 +86,7 @@ nest-rest-or-end-branch rule taken parts all around at old v new front is e oute
         → NestRead outer v start new
     arm Production.NestInstance here o = nest-instance outer t listed start at old v new so_far o
     arm Production.NestNext here o = nest-next Kind.NestRestOrEnd outer t listed start at old v new so_far.apart so_far.prefix o
+    arm (Production.Operation Operation.ExpressionC) here o = absurd here
     arm p here o = absurd here
 
 pub nest-tail-branch : BranchRead Kind.NestTail
@@ -98,6 +100,7 @@ nest-tail-branch rule taken parts all around at old v new front is e outer t sta
         → NestRead outer v start new
     arm Production.NestEnd here o = nest-end outer t start at old v new nest o
     arm Production.NestNext here o = nest-next Kind.NestTail outer t false start at old v new (λ n place cs front. nest.apart) nest.prefix o
+    arm (Production.Operation Operation.ExpressionC) here o = absurd here
     arm p here o = absurd here
 
 pub nest-rest-branch : BranchRead Kind.NestRest
@@ -111,6 +114,7 @@ nest-rest-branch rule taken parts all around at old v new front is e outer t lis
         → NestRead outer v start new
     arm Production.NestArguments here o = nest-arguments Kind.NestRest outer t listed start at old v new so_far o
     arm Production.NestNext here o = nest-next Kind.NestRest outer t listed start at old v new so_far.apart so_far.prefix o
+    arm (Production.Operation Operation.ExpressionC) here o = absurd here
     arm p here o = absurd here
 
 pub nest-rest-alone-branch : BranchRead Kind.NestRestAlone
@@ -124,6 +128,7 @@ nest-rest-alone-branch rule taken parts all around at old v new front is e outer
         → NestRead outer v start new
     arm Production.NestArguments here o = nest-arguments Kind.NestRestAlone outer t listed start at old v new so_far o
     arm Production.NestNext here o = nest-next Kind.NestRestAlone outer t listed start at old v new so_far.apart so_far.prefix o
+    arm (Production.Operation Operation.ExpressionC) here o = absurd here
     arm p here o = absurd here
 
 -- ## A piece after a prefix
@@ -185,6 +190,7 @@ component-branch rule taken parts all around at old v new front is e outer t lis
     arm Production.ComponentWithC here o = by-parts (λ w s. NestRead outer w start s) Production.ComponentWithC tt tt o
         (λ w s one. one Kind.ComponentAfterC refl outer t listed start refl apart prefix)
     arm Production.OtherOperatorName here o = piece (renamed names_function names_member inner v old new function-member (other-operator-comes Kind.Component inner at old v new o))
+    arm (Production.Operation Operation.ExpressionC) here o = absurd here
     arm p here o = absurd here
 
 -- ## The first part
@@ -232,6 +238,7 @@ nest-branch rule taken parts all around at old v new front is e begins =
         let one = read Kind.Anonymous refl in nest-piece around (piece_of w) old s x q begins one.1 one.2 (more Kind.NestRest refl))
     arm Production.NestSource here o = by-parts (λ w s. NestRead around w old s) Production.NestSource tt tt o (λ w s one x q more.
         nest-piece around (source false (text_of w)) old s x q begins refl (name-piece around false w old s one) (more Kind.NestRest refl))
+    arm (Production.Operation Operation.ExpressionC) here o = absurd here
     arm p here o = absurd here
 
 -- ## After an S
@@ -249,4 +256,5 @@ nest-after-s-branch rule taken parts all around at old v new front is e begins =
         (std-read around (piece_of w) b old s q one.0 one.1 (more Kind.MaybeArguments refl)).1)
     arm Production.NestTemplate here o = by-parts (λ w s. NestRead around w old s) Production.NestTemplate tt tt o (λ w s one b q more.
         more Kind.NestRestOrEnd refl around (tree_of w) true old refl (named-so-far around w old s (one Kind.Abbreviation refl)))
+    arm (Production.Operation Operation.ExpressionC) here o = absurd here
     arm p here o = absurd here

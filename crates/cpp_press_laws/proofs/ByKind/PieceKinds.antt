@@ -1,4 +1,4 @@
--- The pieces of names that were read, as it is known of their kinds.
+-- The pieces of names that were read, and what is known of their kinds.
 use Rattle.std.proofs.Common.{◌≡◌, ℕ, ◌+◌, ◌-◌, ◌<◌, inl, inr, length, List, [], ◌∷◌, Bool, true, false, slice_get, Some, Ok, Err, refl, ap, arith, lit≤, sym, subst, ◌∙◌}
 use Rattle.std.specs.Prelude.{nat_lt, ◌^◌}
 use Rattle.std.proofs.lemmas.Bool.{false≢true}
@@ -10,6 +10,7 @@ use Rattle.sym_shape.specs.Tree.{Tree as Shape, Forest, branch, empty, token, fi
 use Rattle.sym_link.specs.Unfold.{found, unfold_tree}
 use Rattle.cpp_grammar.specs.declared.kind.Kind.{Kind}
 use Rattle.cpp_grammar.specs.declared.production.Production.{Production}
+use Rattle.cpp_grammar.specs.declared.production.Operation.{Operation}
 use Rattle.cpp_grammar.specs.KindNumbers.{ITEM, ITEMS}
 use Rattle.cpp_grammar.specs.Grammar.{alternatives, choose, pick, is_in, in_ranges, among, kinds, is_chain, number_of_kind, number_of, parts_of}
 use Rattle.cpp_grammar.specs.Table.{abi}
@@ -72,6 +73,7 @@ source-or-local-branch rule taken parts all around at old v new front is e =
     arm Production.InternalPiece here o = internal-piece Kind.SourceOrLocal around at old v new o
     arm Production.LocalTypePiece here o = local-type-piece Kind.SourceOrLocal around at old v new o
     arm Production.SourcePiece here o = source-piece Kind.SourceOrLocal around at old v new o
+    arm (Production.Operation Operation.ExpressionC) here o = absurd here
     arm p here o = absurd here
 
 pub unqualified-branch : BranchRead Kind.Unqualified
@@ -90,6 +92,7 @@ unqualified-branch rule taken parts all around at old v new front is e =
     arm Production.SourcePiece here o = named (source-piece Kind.Unqualified around at old v new o)
     arm Production.OperatorPiece here o = by-parts (λ w s. PieceAs names_function around w old s) Production.OperatorPiece tt tt o
         (λ w s one. one Kind.Operator refl)
+    arm (Production.Operation Operation.ExpressionC) here o = absurd here
     arm p here o = absurd here
 
 -- ## Operators
@@ -199,6 +202,7 @@ operator-read around at old v new Production.OperatorI here o =
     letters-read Production.OperatorI Kind.OperatorAfterI tt (record { at = refl; parts = refl; own = refl; goes = λ a p s. refl; opens = λ p f s. refl; means = λ x y a p b s. refl }) (λ w s mark. mark) o
 operator-read around at old v new Production.OperatorG here o =
     letters-read Production.OperatorG Kind.OperatorAfterG tt (record { at = refl; parts = refl; own = refl; goes = λ a p s. refl; opens = λ p f s. refl; means = λ x y a p b s. refl }) (λ w s mark. mark) o
+operator-read around at old v new (Production.Operation Operation.ExpressionC) here o = absurd here
 operator-read around at old v new p here o = absurd here
 
 pub operator-branch : BranchRead Kind.Operator
@@ -259,7 +263,7 @@ last-digits (branch rule taken parts) f around at state v new is trees e digits 
 last-digits empty f around at state v new is trees e digits = absurd is
 last-digits (fixed b) f around at state v new is trees e digits = absurd is
 
--- the same of the parts as they come before the rest
+-- the same of the parts that come before the rest
 digits-split : (f : Forest) (t : Shape) (others : Forest) (own : List ℕ) → f ≡ grown t others
     → ((digits : List ℕ) → last_token (grown t others) digits ≡ own) → (digits : List ℕ) → last_token f digits ≡ own
 digits-split f t others own same last digits = ap (λ g. last_token g digits) same ∙ last digits
@@ -347,4 +351,5 @@ anonymous-branch rule taken parts all around at old v new front is e =
         → KindRead Kind.Anonymous around v old new
     arm Production.Lambda here o = lambda-type around at old v new o
     arm Production.Unnamed here o = unnamed-type around at old v new o
+    arm (Production.Operation Operation.ExpressionC) here o = absurd here
     arm p here o = absurd here

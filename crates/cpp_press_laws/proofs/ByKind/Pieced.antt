@@ -1,4 +1,4 @@
--- What is read as a further piece of a name, with or without arguments after it.
+-- What was read as a further piece of a name, with or without arguments after it.
 use Rattle.std.proofs.Common.{◌≡◌, ℕ, Bool, true, false, refl, sym, subst}
 use Rattle.sym_shape.specs.declared.rule.Sym.TheVariants.{Name}
 use Rattle.cpp_grammar.specs.declared.kind.Kind.{Kind}

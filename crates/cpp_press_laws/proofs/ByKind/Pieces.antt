@@ -95,7 +95,7 @@ functions-shut scope read [] (c ∷ cs) shut before inner = (
     go (inr here) (inr later) = absurd (omega (arith, here, later))
 functions-shut scope read (c ∷ cs) more shut before inner = (before.0, functions-shut scope read cs more shut before.1 inner.1)
 
--- what is in the signature of a lambda has no free parameters, and nothing open is made there
+-- what is in the signature of a lambda has no free parameters, and no tree with free parameters is made there
 pub signature-fitted : (around : Around) (F : Fitting) (s : ℕ → Spelling) (t whole : Term) (old new : State) (more : List Candidate)
     → is_open whole ≡ is_open t → new.candidates ≡ old.candidates ++ more → ShutOrInside around.encoding more
     → Fitted (in_signature around) F s t old new → Fitted around (λ inner. F (in_signature inner)) s whole old new

@@ -1,10 +1,11 @@
--- What is read after an S: an abbreviation, or what a substitution names.
+-- What is read after an S: an abbreviation, or a substitution's candidate.
 use Rattle.std.proofs.Common.{ℕ, ◌-◌, [], refl, sym, subst}
 use Rattle.sym_core.specs.declared.NumberKind.TheVariants.{Seq36}
 use Rattle.sym_core.specs.Value.{counted_value}
 use Rattle.sym_link.specs.Unfold.{found}
 use Rattle.cpp_grammar.specs.declared.kind.Kind.{Kind}
 use Rattle.cpp_grammar.specs.declared.production.Production.{Production}
+use Rattle.cpp_grammar.specs.declared.production.Operation.{Operation}
 use Rattle.cpp_grammar.specs.Grammar.{alternatives, parts_of, is_chain, number_of}
 use Rattle.cpp_grammar.specs.Values.{State, Around, Value, text_of, part}
 use Rattle.cpp_grammar.specs.Between.{between}
@@ -46,4 +47,5 @@ abbreviation-branch rule taken parts all around at old v new front is e =
         → KindRead Kind.Abbreviation around v old new
     arm Production.Abbreviation here o = letter-arm around at old v new o
     arm Production.Substitution here o = reference-arm around at old v new o
+    arm (Production.Operation Operation.ExpressionC) here o = absurd here
     arm p here o = absurd here

@@ -34,7 +34,7 @@ first-front = record {
   prefix = tt;
 }
 
--- what holds of an encoding that fits, with a suffix, and of the state after it
+-- a fact of each encoding that fits, of its suffix, and of the state after it
 abbrev pub OfSymbols : (Q : Term → State → Type 0) → Type 0
 OfSymbols Q =
     (e : Term) (suffix : List ℕ) (new : State) → WholeFits first_around e first_state new → new.packs ≡ None → IsSpellableSuffix suffix
@@ -58,7 +58,7 @@ symbol-arm Q each v new o =
     (each (tree_of b.value) (text_of c.value) b.after
     (subst (λ s. WholeFits first_around (tree_of b.value) s b.after) before e.fits) (packs ∙ ap (λ s. s.packs) before) last.1))
 
--- so of what a symbol of the grammar is read as
+-- such a fact holds of each tree that a symbol of the grammar is read as
 symbol-read : (Q : Term → State → Type 0) → OfSymbols Q → ((t : Shape) → ShapeRead t) → (shape : Shape) (v : Value) (new : State)
     → IsTree abi (OfKind (number_of_kind Kind.Symbol)) shape
     → unfold_tree cpp first_around 0 shape first_state ≡ Ok (found (v ∷ []) new) → Q (tree_of v) new
@@ -71,7 +71,7 @@ symbol-read Q each read empty v new is e =
 symbol-read Q each read (token t) v new is e = absurd is
 symbol-read Q each read (fixed b) v new is e = absurd is
 
--- and of what a symbol is read as, where every shape was read
+-- such a fact holds of each tree that a symbol is read as, since every shape was read
 pub read-as : (Q : Term → State → Type 0) → OfSymbols Q → ((t : Shape) → ShapeRead t) → (shape : Shape) (t : Term) → IsReadFrom shape t
     → (r : Found (List Value) State) → unfold_tree cpp first_around 0 shape first_state ≡ Ok r → Q t r.state
 unfolding unfold_cpp first_tree number_of_kind
@@ -83,7 +83,7 @@ read-as Q each read shape t (is, e) r unfolds =
     subst (λ u. Q u r.state) same
     (symbol-read Q each read shape one.value r.state is (unfolds ∙ ap (λ w. Ok w) one.is))
 
--- it fits
+-- what a symbol is read as fits
 pub read-fits : ((t : Shape) → ShapeRead t) → (shape : Shape) (t : Term) → IsReadFrom shape t → SymbolFits t
 unfolding unfold_cpp first_tree
 read-fits read shape t (is, e) =

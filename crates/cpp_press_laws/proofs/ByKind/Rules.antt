@@ -1,4 +1,4 @@
--- What is known of a shape that was unfolded: the production that its byte chooses, and the parts of the production one by one.
+-- The shape of what was read, step by step: the production that a byte chooses, and its parts one by one.
 use Rattle.std.proofs.Common.{◌≡◌, ℕ, ◌+◌, ◌<◌, ◌⊎◌, inl, inr, length, List, [], ◌∷◌, ◌++◌, Bool, true, false, not, cond, slice_get, Option, Some, None, Result, Ok, Err, refl, ap, sym, subst, ◌∙◌}
 use Rattle.std.specs.Prelude.{nat_eq}
 use Rattle.std.proofs.lemmas.Bool.{eq-eqb}
@@ -253,7 +253,7 @@ opened P kind rule taken parts all around at state r is e =
 -- ## All shapes
 
 mutual
-  -- what holds of a shape where it holds of its parts holds of each
+  -- a fact holds of each shape, if it holds of a shape whenever it holds of its parts
   pub every-shape : (P : Shape → Type 0) → ((rule : Rule) (taken : List ℕ) (parts : Forest) → AllOf P parts → P (branch rule taken parts))
       → P empty → ((t : Token) → P (token t)) → ((b : ℕ) → P (fixed b)) → (t : Shape) → P t
   every-shape P step none own byte (branch rule taken parts) = step rule taken parts (every-part P step none own byte parts)
@@ -266,7 +266,7 @@ mutual
   every-part P step none own byte nothing = tt
   every-part P step none own byte (grown t f) = (every-shape P step none own byte t, every-part P step none own byte f)
 
--- what holds of all shapes holds of each of a forest
+-- a fact of all shapes holds of each shape of a forest
 pub all-of : (P : Shape → Type 0) → ((t : Shape) → P t) → (f : Forest) → AllOf P f
 all-of P holds nothing = tt
 all-of P holds (grown t f) = (holds t, all-of P holds f)

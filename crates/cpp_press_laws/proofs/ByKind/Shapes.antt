@@ -1,4 +1,4 @@
--- What every shape of the grammar is read as fits, whatever kind it is read as.
+-- Whatever kind a shape of the grammar is read as, what it is read as fits.
 use Rattle.std.proofs.Common.{◌≡◌, ℕ, List, [], ◌∷◌, false, refl, sym, subst}
 use Rattle.std.proofs.lemmas.Bool.{false≢true}
 use Rattle.sym_shape.specs.declared.rule.Rule.{Rule}
@@ -6,6 +6,7 @@ use Rattle.sym_shape.specs.declared.rule.Sym.TheVariants.{Kind as OfKind}
 use Rattle.sym_shape.specs.Tree.{Tree as Shape, Forest, branch}
 use Rattle.cpp_grammar.specs.declared.kind.Kind.{Kind}
 use Rattle.cpp_grammar.specs.declared.production.Production.{Production}
+use Rattle.cpp_grammar.specs.declared.production.Operation.{Operation}
 use Rattle.cpp_grammar.specs.Grammar.{alternatives, choose, pick, is_in, in_ranges, among, number_of_kind, number_of, kinds, parts_of, may_be_empty}
 use Rattle.cpp_grammar.specs.Term.{Term}
 use Rattle.cpp_grammar.specs.Values.{State, outermost, Around, Value, tree_of, ref_of, text_of, is_there, part}
@@ -69,6 +70,7 @@ solid-read around at old v new front outer Production.LocalTypeName here o =
     local-type-name-solid takes_all Kind.Solid around at old v new front outer o
 solid-read around at old v new front outer Production.SourceName here o =
     source-solid takes_all Kind.Solid around at old v new front outer o
+solid-read around at old v new front outer (Production.Operation Operation.ExpressionC) here o = absurd here
 solid-read around at old v new front outer p here o = absurd here
 
 solid-branch : BranchRead Kind.Solid
@@ -108,6 +110,7 @@ literal-type-branch rule taken parts all around at old v new front is e outer =
     arm Production.LocalType here o = local-type-solid takes_literals Kind.LiteralType around at old v new front outer o
     arm Production.LocalTypeName here o = local-type-name-solid takes_literals Kind.LiteralType around at old v new front outer o
     arm Production.SourceName here o = source-solid takes_literals Kind.LiteralType around at old v new front outer o
+    arm (Production.Operation Operation.ExpressionC) here o = absurd here
     arm p here o = absurd here
 
 -- ## Names of encodings
@@ -127,6 +130,7 @@ complete-name-branch rule taken parts all around at old v new front is e outer =
     arm Production.LocalTypeName here o = local-type-own around at old v new outer o
     arm Production.OperatorName here o = operator-own around at old v new outer o
     arm Production.SourceName here o = source-own around at old v new outer o
+    arm (Production.Operation Operation.ExpressionC) here o = absurd here
     arm p here o = absurd here
 
 -- ## All kinds

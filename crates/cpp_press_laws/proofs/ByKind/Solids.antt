@@ -1,7 +1,8 @@
--- What is read of types by their own letters, and of lists of types: each production keeps to what is known of its kind.
+-- Types by their own letters and lists of types that were read: each production keeps to what is known of its kind.
 use Rattle.std.proofs.Common.{◌≡◌, ℕ, [], ◌∷◌, Bool, true, refl, sym, subst}
 use Rattle.cpp_grammar.specs.declared.kind.Kind.{Kind}
 use Rattle.cpp_grammar.specs.declared.production.Production.{Production}
+use Rattle.cpp_grammar.specs.declared.production.Operation.{Operation}
 use Rattle.cpp_grammar.specs.Grammar.{alternatives, parts_of, is_chain, number_of}
 use Rattle.cpp_grammar.specs.Term.{builtin}
 use Rattle.cpp_grammar.specs.Values.{State, outermost, Around, Value, tree, tree_of, text_of, normal, part, ref_of}
@@ -88,6 +89,7 @@ function-rest-branch rule taken parts all around at old v new front is e outer =
     arm Production.RestItem here o = fits-by-parts Kind.FunctionRest Production.RestItem tt tt o
         (λ w s one x t two. let rest = two Kind.FunctionRest refl outer in
         (tt, list-fits around parameter_type (tree_of w) (tree_of x) old s t (one Kind.ItemButRef refl outer) rest.1, rest.2))
+    arm (Production.Operation Operation.ExpressionC) here o = absurd here
     arm p here o = absurd here
 
 pub after-r-branch : BranchRead Kind.AfterR
@@ -101,6 +103,7 @@ after-r-branch rule taken parts all around at old v new front is e outer =
     arm Production.RefEnd here o = fits-by-parts Kind.AfterR Production.RefEnd tt tt o (tt, nil-fits around parameter_type old, tt)
     arm Production.LvalueItem here o = fits-by-parts Kind.AfterR Production.LvalueItem tt tt o (λ w s one x t two.
         lvalue-item around (byte_of o.taken) old (tree_of w) x old s t (one Kind.Type refl outer) (two Kind.FunctionRest refl outer))
+    arm (Production.Operation Operation.ExpressionC) here o = absurd here
     arm p here o = absurd here
 
 pub after-o-branch : BranchRead Kind.AfterO
@@ -114,6 +117,7 @@ after-o-branch rule taken parts all around at old v new front is e outer =
     arm Production.RefEnd here o = fits-by-parts Kind.AfterO Production.RefEnd tt tt o (tt, nil-fits around parameter_type old, tt)
     arm Production.RvalueItem here o = fits-by-parts Kind.AfterO Production.RvalueItem tt tt o (λ w s one x t two.
         rvalue-item around (byte_of o.taken) old (tree_of w) x old s t (one Kind.Type refl outer) (two Kind.FunctionRest refl outer))
+    arm (Production.Operation Operation.ExpressionC) here o = absurd here
     arm p here o = absurd here
 
 -- ## Items

@@ -1,4 +1,5 @@
--- What is done before a part, whatever production it is of: where no scope is in a lambda's signature none is in the next part's.
+-- What is done before a part, for any production: if no scope is in a lambda's signature, none is in the signature of
+-- the next part.
 use Rattle.std.proofs.Common.{◌≡◌, ℕ, ◌-◌, length, List, Bool, true, false, cond, Ok, Err, refl, subst}
 use Rattle.std.proofs.lemmas.Bool.{false≢true}
 use Rattle.sym_core.specs.declared.refusal.Refusal.TheVariants.{BadReference}

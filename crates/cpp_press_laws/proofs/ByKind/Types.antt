@@ -1,7 +1,8 @@
--- What is read of types: each production keeps to what is known of its kind.
+-- Types that were read: each production keeps to what is known of its kind.
 use Rattle.std.proofs.Common.{◌≡◌, ℕ, [], ◌∷◌, true, false, refl, sym, subst, ◌∙◌}
 use Rattle.cpp_grammar.specs.declared.kind.Kind.{Kind}
 use Rattle.cpp_grammar.specs.declared.production.Production.{Production}
+use Rattle.cpp_grammar.specs.declared.production.Operation.{Operation}
 use Rattle.cpp_grammar.specs.Grammar.{alternatives, number_of_kind, parts_of, is_chain, number_of}
 use Rattle.cpp_grammar.specs.Term.{builtin}
 use Rattle.cpp_grammar.specs.Values.{State, outermost, Around, Value, tree, tree_of, is_there, is_listed, ref_of, text_of, normal, part}
@@ -91,6 +92,7 @@ type-branch rule taken parts all around at old v new front is e outer =
         (λ w s one. (one Kind.AfterD refl outer).types any_type tt refl)
     arm Production.ReferenceType here o = reference-arm Kind.Type any_type tt refl around at old v new outer o
     arm Production.PlainType here o = plain-arm Kind.Type any_type tt refl around at old v new outer o
+    arm (Production.Operation Operation.ExpressionC) here o = absurd here
     arm p here o = absurd here
 
 pub item-branch : BranchRead Kind.Item
@@ -106,6 +108,7 @@ item-branch rule taken parts all around at old v new front is e outer =
     arm Production.ItemWithD here o = item-d-arm Kind.Item item_type tt refl around at old v new outer o
     arm Production.ReferenceType here o = reference-arm Kind.Item item_type tt refl around at old v new outer o
     arm Production.PlainType here o = plain-arm Kind.Item item_type tt refl around at old v new outer o
+    arm (Production.Operation Operation.ExpressionC) here o = absurd here
     arm p here o = absurd here
 
 -- ## Arguments of templates
@@ -134,6 +137,7 @@ argument-branch rule taken parts all around at old v new front is e outer =
         (λ w s one. (one Kind.ArgumentAfterT refl outer).types item_type tt refl))
     arm Production.PlainArgument here o = typed (by-parts (In around item_type old) Production.PlainArgument tt tt o
         (λ w s one. (one Kind.SolidButT refl outer).types item_type tt refl))
+    arm (Production.Operation Operation.ExpressionC) here o = absurd here
     arm p here o = absurd here
 
 -- parameters of function types
@@ -150,6 +154,7 @@ parameter-branch rule taken parts all around at old v new front is e outer =
     arm Production.ConstType here o = const-arm Kind.ItemButRef parameter_type refl around at old v new outer o
     arm Production.ItemWithD here o = item-d-arm Kind.ItemButRef parameter_type tt refl around at old v new outer o
     arm Production.PlainType here o = plain-arm Kind.ItemButRef parameter_type tt refl around at old v new outer o
+    arm (Production.Operation Operation.ExpressionC) here o = absurd here
     arm p here o = absurd here
 
 -- ## Right under qualifiers
@@ -167,6 +172,7 @@ plain-branch rule taken parts all around at old v new front is e outer =
         (λ w s one. reference-plain around (byte_of o.taken) old w old s (one Kind.Type refl outer))
     arm Production.QualifiedPlain here o = fits-by-parts Kind.Plain Production.QualifiedPlain tt tt o
         (λ w s one. (one Kind.Solid refl outer).bare refl)
+    arm (Production.Operation Operation.ExpressionC) here o = absurd here
     arm p here o = absurd here
 
 -- ## After a D
@@ -182,6 +188,7 @@ item-d-branch rule taken parts all around at old v new front is e outer =
     arm Production.Expansion here o = fits-by-parts Kind.ItemAfterD Production.Expansion tt tt o (λ w s one. expansion-fits around (tree_of w) old s (one Kind.Type refl outer))
     arm Production.ItemIsType here o = fits-by-parts Kind.ItemAfterD Production.ItemIsType tt tt o
         (λ w s one. item-is-type around (byte_of o.taken) old w old s (one Kind.AfterD refl outer))
+    arm (Production.Operation Operation.ExpressionC) here o = absurd here
     arm p here o = absurd here
 
 builtin-d-arm : (around : Around) (at : ℕ) (old : State) (v : Value) (new : State)
@@ -211,4 +218,5 @@ after-d-branch rule taken parts all around at old v new front is e outer =
         function-fits around (is_there c) true (ref_of x) rest.2 (tree_of w) (parameters (tree_of x)) old t u
         (subst (λ q. KindFits Kind.Type around w q t) (linkage Kind.MaybeCLinkage refl ∙ letter.0) (one Kind.Type refl outer))
         (parameters-fit around parameter_type (tree_of x) t u rest.0 rest.1))
+    arm (Production.Operation Operation.ExpressionC) here o = absurd here
     arm p here o = absurd here

@@ -1,5 +1,5 @@
--- What fits adds the components in it, or finds them, and so many bytes more than components: of spellings, and of a tree in each of
--- its ways, by sorts of trees.
+-- A spelling that fits adds the components in it or finds them, and adds more bytes than components. This is shown of
+-- spellings, and of a tree in each of its ways, by sorts of trees.
 use Rattle.std.proofs.Common.{sym, ◌∙◌, arith, ◌≡◌, ℕ, ◌+◌, ◌≤◌, inl, inr, length, List, [], ◌++◌, Option, Some, None, Bool, true, false, refl, ◌⊎◌, ◌∷◌, subst, length-append}
 use Rattle.std.specs.Prelude.{codes}
 use Rattle.sym_spell.specs.Pressing.{◌and◌, text}
@@ -18,11 +18,12 @@ use Rattle.cpp_press_laws.proofs.Fitting as fit
 use Rattle.cpp_press_laws.proofs.Fitting.{Fit}
 use Rattle.cpp_press_laws.proofs.Components.Complete.{Complete, complete-ended, complete-has}
 
--- so many bytes more than components are added
+-- at least k more bytes than components are added
 abbrev pub FewBy : ℕ → List Component → Written → Type 0
 FewBy k cs w = length w.components + k ≤ length cs + length w.bytes
 
--- From these components to those after what is written, among which these trees are, if the components in each come before.
+-- A spelling leads from these components to those after what it writes. These trees are among the latter, if the
+-- components in each component come before it.
 pub record AddsParts (k n : ℕ) (P : Term → Type 0) (cs : List Component) (w : Written) : Type 0 where
   pub complete : Complete cs → Complete w.components
   pub has : Complete cs → (x : Term) → P x → Has n x w.components
@@ -100,7 +101,7 @@ tree-found {n} {own} {cs} number bytes is some = record {
   few = omega (arith, some);
 }
 
--- outside of an encoding, what has no free parameters
+-- outside of an encoding, the trees without free parameters are added
 pub outside-added : {k n m : ℕ} {P : Term → Type 0} {cs : List Component} {w : Written} → AddsParts k n P cs w
     → AddsParts k m (λ x. Shut (P x) x) cs w
 outside-added {k} {n} {m} {P} {cs} {w} a =
@@ -155,7 +156,7 @@ TemplateFits n own F front G place cs =
     ((number : ℕ) → first_equal n own 0 cs ≡ Some number → Behind (reference number) G place cs)
     × (first_equal n own 0 cs ≡ None → F place cs × Behind (front and ended n own) G place cs)
 
--- after a reference where the name comes before, or else spelled out
+-- a template name and its arguments: a reference where the name comes before, or else spelled out
 referred-adds : (m n : ℕ) (own : Term) (Q : Term → Type 0) (G : Standing) (arguments other : Spelling) → Adds m n Q G arguments
     → (place : ℕ) (cs : List Component)
     → ((number : ℕ) → first_equal n own 0 cs ≡ Some number → Behind (reference number) G place cs)
@@ -180,7 +181,7 @@ template-adds m n own Q F G between arguments one more place cs (found, new) =
     (λ none. whole-adds m n own Q F G between arguments one more place cs (new none).0
     (behind-and between (ended n own) G place cs (new none).1))
 
--- the same between N and E where the name is spelled out
+-- the same, where the name is spelled out between N and E
 pub nested-template-adds : (m n : ℕ) (own : Term) (Q : Term → Type 0) (F G : Standing) (between arguments : Spelling)
     → Adds 2 n (Inside own) F between → Adds m n Q G arguments
     → Adds m n (Either (Whole own) Q) (TemplateFits n own (λ place cs. F (place + 1) cs) (text (codes "N") and between) G)
@@ -192,7 +193,7 @@ nested-template-adds m n own Q F G between arguments one more place cs (found, n
     (behind-and (text (codes "N")) between (Behind (ended n own) G) place cs
     (behind-and (text (codes "N") and between) (ended n own) G place cs (new none).1))))
 
--- a name that is without letters or with them
+-- a name without letters, or with them
 pub letters-add : (k m : ℕ) → m ≤ k → (letters : List ℕ) (n : ℕ) (P : Term → Type 0) (around : Around) (allowed : Option ℕ) (F G : Fitting)
     (own between : Spelling) → Adds k n P (F around allowed) own → Adds k n P (G around allowed) between
     → Adds m n P (by_letters letters F G around allowed) (with_letters letters own between)
@@ -236,13 +237,13 @@ unfolding surplus
 surplus-some string_literal = omega arith
 surplus-some _ = omega arith
 
--- of a piece that may be a name
+-- the bytes that a piece has at least, where it may be a name
 pub surplus-named : (f : Term → Bool) → f string_literal ≡ false → (p : Term) → f p ≡ true → 2 ≤ surplus p
 unfolding surplus
 surplus-named f never string_literal is = absurd (false≢true (sym never ∙ is))
 surplus-named f never _ is = omega arith
 
--- what a tree adds or finds in each of its ways, where it fits
+-- the components that a tree adds or finds in each of its ways, where it fits
 abbrev pub AddAt : Fit → (t : Term) → Fits → (ℕ → Ways) → Type 0
 AddAt fit.as_type t f w =
     (slot : Slot) (around : Around) (allowed : Option ℕ)
@@ -316,7 +317,7 @@ reference-adds around allowed own s =
 pub fewer-adds : (k n : ℕ) (P Q : Term → Type 0) (F : Standing) (s : Spelling) → In Q P → Adds k n P F s → Adds k n Q F s
 fewer-adds k n P Q F s more one place cs fits = fewer-added (one place cs fits) more
 
--- a spelling that adds nothing of a tree in which nothing is
+-- a spelling that adds nothing, of a tree without components
 pub leaf-adds : (k n : ℕ) (P : Term → Type 0) (F : Standing) (bytes : List ℕ) → k ≤ length bytes → In P No → Adds k n P F (text bytes)
 leaf-adds k n P F bytes long none place cs fits = fewer-added (none-added k bytes long) none
 
@@ -344,7 +345,7 @@ found-and-adds m around allowed own front G s arguments Q more place cs fits = g
         both-added 1 m m (omega arith) (tree-found number bytes is (omega arith)) (more (place + length bytes) cs (fits.1 number is))
     go None is = absurd (fits.2 is).0
 
--- the same where the name would be spelled out between N and E, or not
+-- the same, where the name would be spelled out, between N and E or not
 pub found-template-adds : (m : ℕ) (around : Around) (allowed : Option ℕ) (own : Term) (front : ℕ → Spelling) (G : Fitting) (needs_N : Bool)
     (between arguments : Spelling) (Q : Term → Type 0) → Adds m around.encoding Q (G around allowed) arguments
     → Adds m around.encoding (Either (Whole own) Q) (as_template own nowhere front G around allowed)
@@ -384,7 +385,7 @@ component-at item_type w same one other = one
 component-at parameter_type w same one other = one
 component-at literal_type w same one other = one
 
--- what is nowhere
+-- a tree that can be nowhere
 pub nowhere-ways-add : (t : Term) (w : ℕ → Ways) → WaysAdd t fits_nowhere w
 unfolding fits_nowhere
 nowhere-ways-add t w = record {

@@ -89,7 +89,7 @@ inside-shut _ x closed i = first_of (assumption i, search i)
 
 -- ## Complete lists
 
--- of each of these components, the components in it are among others
+-- the components in each of these are among others
 abbrev pub AllStand : (some others : List Component) → Type 0
 AllStand [] others = Unit {0}
 AllStand (c ∷ cs) others = ((x : Term) → Inside c.tree x → Has c.encoding x others) × AllStand cs others
@@ -122,12 +122,12 @@ all-has n t (c ∷ cs) others each (inl same) x i = go (same-means n t c same)
         has-closed c.encoding n x others (inside-shut t x closed i) (each.0 x (subst (λ u. Inside u x) equal i))
     go (equal, inr here) = subst (λ m. Has m x others) here (each.0 x (subst (λ u. Inside u x) equal i))
 
--- where a tree is there, so are the components in it
+-- the components in a tree are there, if the tree is
 pub complete-has : (n : ℕ) (t : Term) (cs : List Component) → Complete cs → Has n t cs → (x : Term) → Whole t x → Has n x cs
 complete-has n t cs complete has x (inl same) = subst (λ u. Has n u cs) (sym same.1) has
 complete-has n t cs complete has x (inr i) = all-has n t cs cs complete has x i
 
--- Where a tree is there, its spelling adds nothing that may be referred to and isn't there.
+-- If a tree is there, its spelling adds no component that may be referred to and isn't there.
 pub nothing-new : (n : ℕ) (R : Term → Type 0) (spelling : Spelling) → KeepsTo Unit n R spelling → (place : ℕ) (cs : List Component)
     → n ≤ place
     → ((x : Term) → R x → Has n x cs) → (x : Term) → IsComponent x → Has n x (spelling place cs).components → Has n x cs
@@ -140,14 +140,15 @@ nothing-new n R spelling keeps place cs le stands x is has =
 
 -- ## A reader's candidates
 
--- Each candidate without free parameters is among the components, and each other one of the reader's encoding.
+-- Each candidate without free parameters is among the components. So is each other candidate of the reader's encoding.
 abbrev pub EachStands : (read pressed : ℕ) → (candidates : List Candidate) → (components : List Component) → Type 0
 EachStands read pressed [] components = Unit {0}
 EachStands read pressed (c ∷ cs) components =
     (IsComponent c.tree × ((is_open c.tree ≡ false) ⊎ (c.encoding ≡ read)
     → Has pressed c.tree components)) × EachStands read pressed cs components
 
--- They do, and the components are no more than the candidates, and are worth no more.
+-- The candidates are among the components in this way, and the components are no more than the candidates and worth no
+-- more.
 abbrev pub StandAmong : (read pressed : ℕ) → (candidates : List Candidate) → (components : List Component) → Type 0
 StandAmong read pressed candidates components =
     EachStands read pressed candidates components
@@ -158,7 +159,7 @@ pub each-append : (read pressed : ℕ) (cs ds : List Candidate) (components : Li
 each-append read pressed [] ds components one other = other
 each-append read pressed (c ∷ cs) ds components one other = (one.0, each-append read pressed cs ds components one.1 other)
 
--- among others, where each component that may be referred to is there
+-- the candidates are among other components, if each component that may be referred to is
 pub each-others : (read pressed : ℕ) (cs : List Candidate) (components others : List Component)
     → ((x : Term) → IsComponent x → Has pressed x components → Has pressed x others) → EachStands read pressed cs components
     → EachStands read pressed cs others
@@ -183,7 +184,7 @@ pub worths-named : (cs : List Candidate) (c : Candidate)
 worths-named cs c =
     ap (worths []) (candidates-one cs c) ∙ worths-one (components_of cs) (record { tree = c.tree; encoding = c.encoding })
 
--- what is among the candidates is among the components
+-- a tree among the candidates is among the components
 each-among : (read pressed : ℕ) (f : Term) (cs : List Candidate) (components : List Component) → EachStands read pressed cs components
     → is_among read f (components_of cs) ≡ true → is_among pressed f components ≡ true
 unfolding components_of is_among
@@ -204,7 +205,7 @@ each-among read pressed f (c ∷ cs) components among is = go (is_same read f on
         ] in
         has-among pressed f components (subst (λ x. Has pressed x components) (sym means.0) (among.0.1 may))
 
--- so a tree is worth no more among them
+-- a tree is worth no more among the components than among the candidates
 worth-less : (read pressed : ℕ) (t : Term) (cs : List Candidate) (components : List Component) → EachStands read pressed cs components
     → worth components pressed t ≤ worth (components_of cs) read t
 unfolding worth is_again
@@ -222,7 +223,7 @@ worth-less read pressed (qualified q f) cs components among =
 worth-less read pressed (symbol e suffix) cs components among = omega arith
 worth-less read pressed t cs components among = omega arith
 
--- one more on both sides
+-- one more candidate and one more component
 pub among-ended : (read pressed : ℕ) (in_lambda : Bool) (t : Term) (cs : List Candidate) (components : List Component) → IsComponent t → StandAmong read pressed cs components
     → StandAmong read pressed (cs ++ record { tree = t; encoding = read; in_lambda = in_lambda; counted = by_all } ∷ []) (components ++ record { tree = t; encoding = pressed } ∷ [])
 among-ended read pressed in_lambda t cs components is among =
@@ -243,7 +244,7 @@ among-ended read pressed in_lambda t cs components is among =
       ),
     )
 
--- one more candidate that is there already
+-- one more candidate, which is among the components already
 pub among-known : (read pressed : ℕ) (in_lambda : Bool) (t : Term) (cs : List Candidate) (components : List Component) → IsComponent t → Has pressed t components
     → StandAmong read pressed cs components → StandAmong read pressed (cs ++ record { tree = t; encoding = read; in_lambda = in_lambda; counted = by_all } ∷ []) components
 among-known read pressed in_lambda t cs components is has among =
@@ -260,7 +261,8 @@ abbrev pub AllBefore : ℕ → List Candidate → Type 0
 AllBefore place [] = Unit {0}
 AllBefore place (c ∷ cs) = (c.encoding < place) × AllBefore place cs
 
--- in an encoding of its own, of which no candidate is: those without free parameters are
+-- In an encoding of its own, which has no candidate yet, the candidates without free parameters are among the
+-- components.
 each-inner : (read pressed inner own : ℕ) (cs : List Candidate) (components : List Component) → AllBefore inner cs → EachStands read pressed cs components
     → EachStands inner own cs components
 each-inner read pressed inner own [] components before among = tt
@@ -279,8 +281,8 @@ pub among-inner : (read pressed inner own : ℕ) (cs : List Candidate) (componen
     → StandAmong inner own cs components
 among-inner read pressed inner own cs components before among = (each-inner read pressed inner own cs components before among.0, among.1)
 
--- What was read becomes a candidate: its parts' candidates are among the components after its spelling, so with it they are
--- among those after the component that it is.
+-- A tree that was read becomes a candidate. The candidates of its parts are among the components after its spelling, so
+-- with the tree they are among those after the component that it is.
 pub component-among : (read n : ℕ) (in_lambda : Bool) (t : Term) (spelling : Spelling) → IsComponent t → KeepsTo Unit n (Whole t) spelling → (place : ℕ)
     (cs : List Component) (candidates : List Candidate) → n ≤ place → Complete cs → StandAmong read n candidates (spelling place cs).components
     → StandAmong read n (candidates ++ record { tree = t; encoding = read; in_lambda = in_lambda; counted = by_all } ∷ []) (component n t spelling place cs).components
@@ -314,13 +316,13 @@ each-named read n zero c (d ∷ ds) components among at may =
     (λ m. (among.0.0, among.0.1 m)) may
 each-named read n (suc number) c (d ∷ ds) components among at may = each-named read n number c ds components among.1 at may
 
--- What a reference may name is among the components: it's a candidate that is closed, or of the same encoding.
+-- A candidate that a reference may name is among the components: it has no free parameters, or is of the same encoding.
 pub named-stands : (read n number : ℕ) (c : Candidate) (candidates : List Candidate) (components : List Component) → StandAmong read n candidates components
     → slice_get candidates number ≡ Some c → (is_open c.tree ≡ false) ⊎ (c.encoding ≡ read) → IsComponent c.tree × Has n c.tree components
 named-stands read n number c candidates components among at may = each-named read n number c candidates components among.0 at may
 
 -- ## Packs
 
--- a length is allowed at least if the expansion has named it
+-- the length that the expansion has named, if it has named one, is allowed
 abbrev pub Allows : (allowed packs : Option ℕ) → Type 0
 Allows allowed packs = (m : ℕ) → packs ≡ Some m → allowed ≡ Some m

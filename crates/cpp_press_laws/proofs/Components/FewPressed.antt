@@ -1,4 +1,4 @@
--- Of what a symbol is read as at most as many components are spelled out as the reader has candidates.
+-- At most as many components of a symbol's tree are spelled out as the reader of the symbol has candidates.
 use Rattle.std.proofs.Common.{◌≡◌, ℕ, ◌≤◌, length, List, [], None, Ok, sym, ◌∙◌, arith}
 use Rattle.sym_shape.specs.Tree.{Tree as Shape}
 use Rattle.sym_link.specs.Reading.{Found}

@@ -91,7 +91,7 @@ below-append : (m : ℕ) (cs ds : List Marked) → AreBelow m cs → AreBelow m 
 below-append m [] ds are others = others
 below-append m (c ∷ cs) ds (low, rest) others = (low, below-append m cs ds rest others)
 
--- what is smaller than a tree isn't equal to it
+-- a component that is smaller than a tree isn't equal to the tree
 below-new : (encoding : ℕ) (own : Term) (cs : List Marked) → AreBelow (size own) cs → IsNew encoding own (unmarked cs)
 unfolding is_same
 below-new encoding own [] below = tt
@@ -101,7 +101,7 @@ below-new encoding own (c ∷ cs) (low, rest) = (go (same_tree own c.component.t
     go true same = let equal : size own ≡ size c.component.tree = ap size (equal-tree own c.component.tree same) in absurd (omega (arith, low, equal))
     go false same = refl
 
--- where no first component is equal none is
+-- if no first component is equal to a tree, no component is
 none-equal : (encoding : ℕ) (own : Term) (from : ℕ) (cs : List Component) → first_equal encoding own from cs ≡ None → IsNew encoding own cs
 unfolding first_equal
 none-equal encoding own from [] none = tt
@@ -115,8 +115,8 @@ none-equal encoding own from (c ∷ cs) none = go (is_same encoding own c) refl 
 
 -- ## What spellings add
 
--- components below a size after those before, all of which are apart in a tree if those before are; the same bytes and components as
--- without marks
+-- A spelling adds components below a size. If those before are apart in a tree, all are. Without marks the bytes and
+-- the components are the same.
 pub record Adds (whole : Term) (m : ℕ) (components : List Marked) (pressed : spell.Pressed Marked) (plain : spell.Pressed Component) : Type 0 where
   pub added : List Marked
   pub split : pressed.components ≡ components ++ added
@@ -128,7 +128,7 @@ pub record Adds (whole : Term) (m : ℕ) (components : List Marked) (pressed : s
 pub record Grows (whole : Term) (m : ℕ) (spelling : marks.Spelling) (plain : Spelling) : Type 0 where
   pub adds : (place : ℕ) (components : List Marked) → Adds whole m components (spelling place components) (plain place (unmarked components))
 
--- after what is equal without marks
+-- the same, where place and components are equal without marks
 moved : {whole : Term} {m place other : ℕ} {components : List Marked} {others : List Component} {pressed : spell.Pressed Marked} (plain : Spelling)
     → place ≡ other → unmarked components ≡ others → Adds whole m components pressed (plain place (unmarked components))
     → Adds whole m components pressed (plain other others)
@@ -202,7 +202,7 @@ pub back : {whole : Term} {m : ℕ} {spelling : marks.Spelling} {plain : Spellin
     → Grows whole m (spelling and text bytes) (plain and text bytes)
 back one bytes = and-grows one (text-grows bytes)
 
--- a tree becomes a component that is never referred to where it is
+-- a tree becomes a component, and can't be referred to where it is
 pub never-referred-grows : {whole : Term} {m : ℕ} (encoding : ℕ) (own : Term) → size own < m → IsNeverReferred own whole
     → Grows whole m (marks.not_compared encoding own) (ended encoding own)
 unfolding marks.ended ended
@@ -221,7 +221,7 @@ never-referred-grows {whole} encoding own low never =
 abbrev one_more : {C : Type 0} → spell.Pressed C → C → spell.Pressed C
 one_more pressed c = record { bytes = pressed.bytes; components = pressed.components ++ c ∷ [] }
 
--- a tree that is new becomes a component after its spelling
+-- a new tree becomes a component after its spelling
 newly-adds : {whole : Term} {m : ℕ} {spelling : marks.Spelling} {plain : Spelling} (encoding : ℕ) (own : Term) → size own < m
     → Grows whole (size own) spelling plain → (place : ℕ) (components : List Marked) → IsNew encoding own (unmarked components)
     → Adds whole m components

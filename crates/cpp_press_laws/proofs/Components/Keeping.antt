@@ -101,7 +101,7 @@ without_marks : (cs : List Component) → unmarked (marked_as cs) ≡ cs
 without_marks [] = refl
 without_marks (c ∷ cs) = ap (λ l. c ∷ l) (without_marks cs)
 
--- what adds components keeps those before
+-- a spelling that adds components keeps those before
 grown_keeps : {whole : Term} {m : ℕ} {spelling : marks.Spelling} {plain : Spelling} → Grows whole m spelling plain → Keeps plain
 grown_keeps {plain = plain} one = record {
   kept = λ place cs. subst (λ l. length l ≤ length (plain place l).components) (without_marks cs) (still place (marked_as cs));
@@ -114,7 +114,7 @@ grown_keeps {plain = plain} one = record {
         sym (unmarked-append cs a.added) ∙ ap unmarked (sym a.split) ∙ a.same in
         subst (λ l. length (unmarked cs) ≤ length l) all (omega (arith, length-append (unmarked cs) (unmarked a.added)))
 
--- a tree in which each template name that ends a name is never referred to
+-- a tree in which template names that end a name are never referred to
 abbrev around_it : Term → Term
 around_it t = local absent t None
 
@@ -135,7 +135,7 @@ pub record KeepsAll (w : Ways) : Type 0 where
   pub as_more_parameters : Keeps w.as_more_parameters
   pub as_elements : Keeps w.as_elements
 
--- whatever a tree is spelled as
+-- each way of each tree keeps the components before it
 pub keeps : (t : Term) (n : ℕ) → KeepsAll (ways_of n t)
 keeps t n =
     let w = ways-grow (around_it t) t (λ x is. inr (inr is)) n in record {

@@ -10,11 +10,11 @@ use Rattle.cpp_press_laws.specs.Components.{Component, Spelling, first_equal, re
 use Rattle.cpp_press_laws.specs.Pressing.{in_N_and_E, template_before, begun}
 use Rattle.cpp_press_laws.proofs.Components.Parts.{IsComponent, Has, has-before, has-either, has-closed, same-means}
 
--- Of these trees each without free parameters is among the components, and if that is so of the others, each other one.
+-- Each of these trees without free parameters is among the components. So is each other one, if `open_` holds.
 abbrev pub Stands : (open_ : Type 0) → (encoding : ℕ) → (R : Term → Type 0) → List Component → Type 0
 Stands open_ n R cs = (x : Term) → R x → (is_open x ≡ false) ⊎ open_ → Has n x cs
 
--- What is added in an encoding, or in a later one in it, is among the components.
+-- A component that is added in an encoding, or in a later one inside it, is among the components.
 pub record IsKnown (open_ : Type 0) (n start : ℕ) (components : List Component) (c : Component) : Type 0 where
   pub known : IsComponent c.tree → (is_open c.tree ≡ false) ⊎ (open_ × (c.encoding ≡ n)) → Has n c.tree components
   pub place : (c.encoding ≡ n) ⊎ (start ≤ c.encoding)
@@ -28,7 +28,8 @@ pub record AddsKnown (open_ : Type 0) (n start : ℕ) (components : List Compone
   pub split : pressed.components ≡ components ++ added
   pub each : AreKnown open_ n start components added
 
--- a spelling in an encoding, and one after at least a byte of it
+-- a spelling in an encoding keeps to these components, and so does one that begins after at least a byte of the
+-- encoding
 abbrev pub KeepsTo : (open_ : Type 0) → (n : ℕ) → (R : Term → Type 0) → Spelling → Type 0
 KeepsTo open_ n R spelling =
     (place : ℕ) (components : List Component) → n ≤ place → Stands open_ n R components
@@ -44,7 +45,7 @@ KeepsBehind open_ n R spelling =
 stands-more : (open_ : Type 0) (n : ℕ) (R : Term → Type 0) (cs ds : List Component) → Stands open_ n R cs → Stands open_ n R (cs ++ ds)
 stands-more open_ n R cs ds stands x is may = has-before n x cs ds (stands x is may)
 
--- what is found among the added comes before them
+-- a tree among the added components comes before them
 pub known-has : (open_ : Type 0) (n start : ℕ) (cs ds : List Component) (x : Term) → AreKnown open_ n start cs ds → IsComponent x
     → (is_open x ≡ false) ⊎ open_ → Has n x ds → Has n x cs
 known-has open_ n start cs [] x each is may has = absurd has
@@ -200,7 +201,7 @@ before-keeps open_ n R own needs_N between arguments is one more place cs le sta
 
 -- ## Encodings
 
--- in an encoding of its own all others are new
+-- in an encoding of its own, each tree with free parameters is new
 abbrev pub OrOpen : (R : Term → Type 0) → (x : Term) → Type 0
 OrOpen R x = R x ⊎ (is_open x ≡ true)
 

@@ -1,5 +1,5 @@
--- Pressing a tree again adds nothing: where the components that it is spelled from are among the components, what is added is
--- among them too, but for what is open in an encoding of its own.
+-- Pressing a tree again adds nothing. If the components that the tree is spelled from are among the components, what is
+-- added is among them too, except for what has free parameters in an encoding of its own.
 use Rattle.std.proofs.Common.{◌≡◌, ℕ, ◌-◌, ◌<◌, ◌⊎◌, inl, inr, length, List, [], ◌∷◌, ◌++◌, Option, Bool, true, false, refl, arith}
 use Rattle.std.specs.Prelude.{◌&&◌, codes, cond}
 use Rattle.sym_spell.specs.Pressing.{◌and◌, text, nothing}
@@ -52,7 +52,7 @@ shut-or-open R P h x p = go (is_open x) refl
     go true is = inr is
     go false is = inl (h x (is, p))
 
--- a component whose spelling adds what is among them
+-- a component whose spelling adds only what is among the components
 component-kept : (open_ : Type 0) (n : ℕ) (R : Term → Type 0) (t : Term) (spelling : Spelling) → (In (Inside t) R → KeepsTo open_ n R spelling)
     → In (Whole t) R → KeepsTo open_ n R (component n t spelling)
 component-kept open_ n R t spelling one h = component-keeps open_ n R t spelling (its open_ n R t h) (one (insides R t h))

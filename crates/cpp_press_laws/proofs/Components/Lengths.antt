@@ -1,4 +1,4 @@
--- How long the bytes are that spell what has no parts, at least.
+-- The least number of bytes that spell a tree without parts.
 use Rattle.std.proofs.Common.{◌≡◌, ℕ, zero, suc, ◌<◌, ◌≤◌, length, List, [], ◌∷◌, ◌++◌, Bool, true, false, arith, length-append}
 use Rattle.std.specs.Prelude.{cond, codes, ◌||◌, nat_lt, ◌/◌, ◌%◌}
 use Rattle.sym_core.specs.declared.NameClass.TheVariants.{Cpp}

@@ -1,4 +1,5 @@
--- Where a component is there already, its spelling adds none, nor does that of a function type right under qualifiers.
+-- If a component is there already, its spelling adds none. The spelling of a function type right under qualifiers adds
+-- none then, either.
 use Rattle.std.proofs.Common.{◌≡◌, ℕ, ◌+◌, inl, inr, length, List, [], ◌++◌, Option, Some, None, refl, sym, subst}
 use Rattle.std.specs.Prelude.{cond, codes}
 use Rattle.sym_spell.specs.Pressing as spell
@@ -33,7 +34,7 @@ unfolding ways_of no_ways type_ways name_ways piece_ways argument_ways encoding_
 prefix-none (alone p) n place cs is has = component-none n (alone p) _ place cs has
 prefix-none _ n place cs is has = first_of (search is, search (component-none, has))
 
--- parameters, of which each that is a component is there
+-- parameters, if each of them that is a component is there
 parameters-none : (t : Term) (n place : ℕ) (cs : List Component) → ((x : Term) → Inside t x → Has n x cs)
     → ((ways_of n t).as_more_parameters place cs).components ≡ cs
 unfolding ways_of no_ways type_ways name_ways piece_ways argument_ways encoding_ways

@@ -53,7 +53,7 @@ PrefixOr (construction derived digits parent) inside x = ⊥
 PrefixOr (clone letter e) inside x = ⊥
 PrefixOr t inside x = ItselfOr t inside x
 
--- of what is in an encoding, what has no free parameters
+-- the trees in an encoding that count outside of it: those without free parameters
 abbrev pub Shut : (inside : Type 0) → (x : Term) → Type 0
 Shut inside x = (is_open x ≡ false) × inside
 
@@ -103,7 +103,7 @@ Inside (pack elements) x = Inside elements x
 Inside (list first rest) x = ItselfOr first (Inside first x) x ⊎ Inside rest x
 Inside _ x = ⊥
 
--- with itself
+-- the tree itself, or a component in it
 abbrev pub Whole : Term → (x : Term) → Type 0
 Whole t x = ItselfOr t (Inside t x) x
 
@@ -119,7 +119,7 @@ prefix-whole _ x inside w = first_of (assumption w, search w)
 
 -- ## What is among components
 
--- an equal one is among them, as one in an encoding is compared
+-- a component equal to the tree is among them, as trees of an encoding are compared
 abbrev pub Has : (encoding : ℕ) → Term → List Component → Type 0
 Has encoding own [] = ⊥
 Has encoding own (c ∷ cs) = (is_same encoding own c ≡ true) ⊎ Has encoding own cs
@@ -150,7 +150,7 @@ same-itself n x = rw (tree-itself x, eq-eqb n n refl) (either-true (not (is_open
 pub has-itself : (n : ℕ) (x : Term) (cs : List Component) → Has n x (cs ++ record { tree = x; encoding = n } ∷ [])
 has-itself n x cs = has-behind n x cs (record { tree = x; encoding = n } ∷ []) (inl (same-itself n x))
 
--- what is equal is the same tree, and of the same encoding if it has free parameters
+-- A component that is equal to a tree has that tree. If the tree has free parameters, it is of the same encoding, too.
 pub same-means : (n : ℕ) (x : Term) (c : Component) → is_same n x c ≡ true
     → (x ≡ c.tree) × ((is_open x ≡ false) ⊎ (c.encoding ≡ n))
 unfolding is_same
@@ -167,13 +167,13 @@ same-closed : (n : ℕ) (x : Term) (c : Component) → is_open x ≡ false → i
 unfolding is_same
 same-closed n x c closed = rw closed (and-true (same_tree x c.tree))
 
--- without free parameters it doesn't matter in which encoding
+-- whether a tree without free parameters is there doesn't depend on the encoding
 pub has-closed : (n m : ℕ) (x : Term) (cs : List Component) → is_open x ≡ false → Has n x cs → Has m x cs
 has-closed n m x [] closed has = has
 has-closed n m x (c ∷ cs) closed (inr later) = inr (has-closed n m x cs closed later)
 has-closed n m x (c ∷ cs) closed (inl same) = inl (same-closed m x c closed ∙ sym (same-closed n x c closed) ∙ same)
 
--- the first equal one is found exactly where there is one
+-- a first equal component is found exactly if there is an equal one
 pub found-stands : (n : ℕ) (x : Term) (from number : ℕ) (cs : List Component) → first_equal n x from cs ≡ Some number → Has n x cs
 unfolding first_equal
 found-stands n x from number [] is = cc

@@ -11,7 +11,7 @@ use Rattle.cpp_press_laws.specs.Repeated.{is_spelled, repeated, HaveReasons, Rep
 use Rattle.cpp_press_laws.proofs.Components.Growing.{unmarked-append}
 use Rattle.cpp_press_laws.proofs.Components.Apart.{components-apart, components-marked}
 
--- a tree that isn't compared as equal with one that it is equal to has free parameters
+-- a tree that doesn't compare as equal with the same tree has free parameters
 open-by : (same free other : Bool) → same && (not free || other) ≡ false → same ≡ true → free ≡ true
 open-by true true other differ is = refl
 open-by true false other differ is = cc
@@ -27,7 +27,7 @@ new-open n own (c ∷ cs) new is = go (same_tree own c.tree) refl is (new-open n
     go true same is more = open-by (same_tree own c.tree) (is_open own) (nat_eq c.encoding n) new.0 same
     go false same is more = more is
 
--- of components that are apart those whose tree is spelled already
+-- the reasons of those components, apart from each other, whose tree is spelled already
 reasons : (tree : Term) (before cs : List Marked) → AreApartBehind tree before cs → HaveReasons tree (repeated (unmarked before) (unmarked cs))
 unfolding repeated
 reasons tree before [] apart = tt

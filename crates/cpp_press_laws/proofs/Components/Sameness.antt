@@ -1,4 +1,4 @@
--- Two trees are the same exactly where the test says so.
+-- Two trees are the same exactly if the test says so.
 use Rattle.std.specs.Prelude.{◌≡◌, ℕ, List, [], ◌∷◌, Bool, true, false, ◌&&◌, refl, Option, Some, None}
 use Rattle.std.proofs.Common.{ap, sym}
 use Rattle.std.proofs.lemmas.Bool.{eqb-true, eq-eqb}

@@ -1,4 +1,5 @@
--- An encoding that was read fits where it is: its parts fit in surroundings of its own, and nothing open in it is named outside.
+-- An encoding that was read fits where it is: its parts fit in surroundings of their own, and no tree with free
+-- parameters in it is named outside.
 use Rattle.std.proofs.Common.{◌≡◌, ℕ, ◌<◌, ◌⊎◌, inl, inr, List, [], ◌∷◌, ◌++◌, Option, Some, None, Bool, true, false, refl, sym, subst, arith}
 use Rattle.std.specs.Prelude.{◌||◌}
 use Rattle.std.proofs.lemmas.Bool.{true≢false}
@@ -59,7 +60,7 @@ items-moved scope other packs own (list first rest) none items = (
 items-moved scope other packs own (symbol e suffix) none items = absurd items
 items-moved scope other packs own t none items = absurd items
 
--- a function type that stands in one scope stands in another in which it names no packs
+-- a function type that may be spelled again in one scope may be in another, if it names no packs there
 pub stands-moved : (scope other : Option Term) (t : Term) → NoPacks other t → FunctionStands scope t → FunctionStands other t
 unfolding is_open
 stands-moved scope other (function_type c_linkage noexcept ref returned parameters) none stands = (
@@ -73,12 +74,12 @@ stands-moved scope other t none stands = tt
 
 -- ## Into an encoding and out of it
 
--- each was made in an encoding that begins after a place
+-- each candidate was made in an encoding that begins after a place
 abbrev pub AllAfter : ℕ → List Candidate → Type 0
 AllAfter place [] = Unit {0}
 AllAfter place (c ∷ cs) = (place < c.encoding) × AllAfter place cs
 
--- each that was made in an encoding has no free parameters
+-- each candidate that was made in an encoding has no free parameters
 abbrev pub AllShut : ℕ → List Candidate → Type 0
 AllShut encoding [] = Unit {0}
 AllShut encoding (c ∷ cs) = (c.encoding ≡ encoding → is_open c.tree ≡ false) × AllShut encoding cs
@@ -121,7 +122,8 @@ among-last : (read n : ℕ) (olds more : List Candidate) (ds : List Component) �
 among-last read n [] more ds among = among
 among-last read n (c ∷ cs) more ds among = among-last read n cs more ds among.1
 
--- after an encoding the candidates from before are there as they were, and of those from within the closed ones
+-- After an encoding, the candidates from before it are there as they were, and of those from inside it the ones without
+-- free parameters are.
 among-outer : (read n at place : ℕ) (olds more : List Candidate) (cs ds : List Component) → ((m : ℕ) (x : Term) → Has m x cs → Has m x ds) → AllAfter read more
     → StandAmong read n olds cs → StandAmong at place (olds ++ more) ds → StandAmong read n (olds ++ more) ds
 among-outer read n at place olds more cs ds keeps later before inner = (
@@ -188,7 +190,7 @@ functions-bare scope at (c ∷ cs) stand = (
   functions-bare scope at cs stand.1,
 )
 
--- what is in the types of an encoding, before which nothing open was made in the encoding
+-- a tree in the types of an encoding, where no tree with free parameters was made in the encoding before
 pub types-fitted : (at : ℕ) (name e t : Term) (F : Fitting) (s : ℕ → Spelling) (mid new : State) → is_open e ≡ false
     → AllShut at mid.candidates → Fitted (in_types at name) F s t mid new
     → Fitted (in_name at) (λ inner. F (in_types inner.encoding name)) s e mid new

@@ -1,4 +1,4 @@
--- A function type whose parts fit where it was read stands again wherever they stand.
+-- A function type whose parts fit where it was read may be spelled again wherever its parts may be.
 use Rattle.std.proofs.Common.{◌≡◌, ℕ, ◌+◌, ◌⊎◌, inl, inr, length, List, Option, Some, None, Bool, refl, subst, sym, ◌∙◌}
 use Rattle.sym_spell.specs.Pressing as spell
 use Rattle.cpp_grammar.specs.Term.{RefQualifier, Term, symbol, abbreviation, builtin, function_type, nil, list}
@@ -12,11 +12,11 @@ use Rattle.cpp_press_laws.proofs.Slots.{each-slot}
 use Rattle.cpp_press_laws.proofs.Components.AddedWays.{IsNotBare}
 use Rattle.cpp_press_laws.proofs.Components.Again.{ItemStands, ItemsStand, IsNoVoid, FunctionStands}
 
--- of a part: no packs, or those of the whole
+-- a part names no packs, or those of the whole
 abbrev pub PacksOf : (packs own : Option ℕ) → Type 0
 PacksOf packs own = (own ≡ None) ⊎ (own ≡ packs)
 
--- a type that fits stands again
+-- a type that fits may be spelled again
 pub item-stands : (t : Term) (slot : Slot) → IsNotBare slot → (around : Around) (allowed packs : Option ℕ) (place : ℕ) (cs : List Component)
     → (fits_of t).as_type slot around allowed place cs → PacksOf packs (packs_in around.scope t) → ItemStands slot around.scope packs t
 unfolding fits_of type_fits piece_fits argument_fits encoding_fits fits_nowhere
@@ -25,7 +25,7 @@ item-stands (abbreviation l) slot other around allowed packs place cs fits own =
 item-stands (symbol e suffix) slot other around allowed packs place cs fits own = absurd fits
 item-stands _ slot other around allowed packs place cs fits own = search (fits, own)
 
--- its packs are allowed
+-- a tree whose packs have no length names no packs
 pub packs-none : (scope : Option Term) (t : Term) → ((arguments : Term) → pack_length arguments t ≡ None) → packs_in scope t ≡ None
 unfolding packs_in
 packs-none None t none = refl
@@ -49,7 +49,7 @@ item-packs _ slot other around allowed place cs fits = search fits
 
 -- ## Lists
 
--- the packs of a whole that has two parts
+-- each of two parts names no packs, or those of the whole
 first-is : (around : Around) (allowed a b : Option ℕ) → PacksFit around allowed a → PacksFit around allowed b
     → PacksOf (first_of a b) a × PacksOf (first_of a b) b
 unfolding first_of
@@ -128,7 +128,7 @@ more-parameters (list first rest) around allowed place cs fits = (fits.1, fits.0
 more-parameters (symbol e suffix) around allowed place cs fits = absurd fits
 more-parameters _ around allowed place cs fits = absurd fits
 
--- A function type whose return type and parameters fit stands again.
+-- A function type whose return type and parameters fit may be spelled again.
 pub function-stands : (c_linkage noexcept : Bool) (ref : RefQualifier) (returned parameters : Term) (around : Around) (allowed : Option ℕ)
     (place later : ℕ) (cs ds : List Component) → (fits_of returned).as_type any_type around allowed place cs
     → (fits_of parameters).as_parameters parameter_type around allowed later ds → IsAbiMark ref

@@ -1,4 +1,5 @@
--- What it means that what a reader reads is fit: it fits, and is spelled, wherever the reader's candidates are among components.
+-- What it means that a tree which was read fits: it can be spelled wherever the reader's candidates are among the
+-- components.
 use Rattle.std.proofs.Common.{◌≡◌, ℕ, ◌+◌, ◌≤◌, ◌⊎◌, length, List, [], ◌∷◌, ◌++◌, Option, false, arith, subst, length-append}
 use Rattle.sym_spell.specs.Pressing as spell
 use Rattle.sym_spell.specs.Pressing.{◌and◌, text}
@@ -24,13 +25,13 @@ pressed_at n around = record {
   prefix = around.prefix;
 }
 
--- each function type that may be named in an encoding stands again in its scope
+-- each function type that may be named in an encoding may be spelled again in its scope
 abbrev pub FunctionsStand : (scope : Option Term) → (read : ℕ) → List Candidate → Type 0
 FunctionsStand scope read [] = Unit {0}
 FunctionsStand scope read (c ∷ cs) =
     ((is_open c.tree ≡ false) ⊎ (c.encoding ≡ read) → FunctionStands scope c.tree) × FunctionsStand scope read cs
 
--- complete components in an encoding, among which are the candidates before a part
+-- complete components in an encoding, and the candidates before a part are among them
 pub record Front (around : Around) (n place : ℕ) (cs : List Component) (old : State) : Type 0 where
   pub later : n ≤ place
   pub complete : Complete cs
@@ -52,7 +53,7 @@ pub record Fitted (around : Around) (F : Fitting) (spelled : ℕ → Spelling) (
   pub fits : (n place : ℕ) (cs : List Component) (allowed : Option ℕ) → Front around n place cs old → Allows allowed new.packs
       → PartFits around F spelled t n allowed place cs new
 
--- what is so wherever components come before what was read from this state
+-- a fact that holds wherever components come before a part that was read from this state
 abbrev pub Wherever : Around → State → Type 0 → Type 0
 Wherever around old So = (n place : ℕ) (cs : List Component) → Front around n place cs old → So
 
@@ -83,11 +84,11 @@ front-behind front part = record {
   functions = part.functions;
 }
 
--- where packs are allowed that stay named, those before are
+-- if packs are allowed and earlier ones stay named, the earlier ones are allowed, too
 pub allows-before : (allowed : Option ℕ) (old new : State) → StayNamed old new → Allows allowed new.packs → Allows allowed old.packs
 allows-before allowed old new stay allows m is = allows m (stay m is)
 
--- ## What is read in turn
+-- ## Parts one after the other
 
 -- a place after two spellings
 pub behind-both : (first rest : Spelling) (G : Standing) (place : ℕ) (cs : List Component) → Behind first (Behind rest G) place cs
@@ -99,7 +100,7 @@ behind-both first rest G place cs fits =
     (arith, length-append f.bytes g.bytes) in
     subst (λ p. G p g.components) same fits
 
--- another standing that follows
+-- the same part fits in another way that follows from the first
 pub refitted : {around : Around} {F G : Fitting} {s : ℕ → Spelling} {t : Term} {old new : State} → Fitted around F s t old new
     → ((n : ℕ) (allowed : Option ℕ) (place : ℕ) (cs : List Component) → F (pressed_at n around) allowed place cs
     → G (pressed_at n around) allowed place cs) → Fitted around G s t old new
@@ -116,7 +117,7 @@ refitted one more = record {
       });
 }
 
--- another tree, which may be referred to as well
+-- another tree fits, which may be referred to wherever the first may
 pub fitted-as : {around : Around} {F : Fitting} {s : ℕ → Spelling} {a t : Term} {old new : State} → Fitted around F s a old new
     → ((n : ℕ) (allowed : Option ℕ) → MayBeReferred (pressed_at n around) allowed a → MayBeReferred (pressed_at n around) allowed t)
     → Fitted around F s t old new

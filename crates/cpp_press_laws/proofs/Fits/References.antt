@@ -1,4 +1,5 @@
--- What a reader names by a reference fits, since it is among the components, and what has no parts fits as it was read.
+-- A tree that a reader names by a reference fits, since it is among the components. A tree without parts fits as it was
+-- read.
 use Rattle.std.proofs.Common.{◌≡◌, ℕ, zero, suc, ◌⊎◌, inl, inr, List, [], ◌∷◌, Option, Some, None, Bool, true, false, Result, Ok, Err, refl, ap, sym, subst, ◌∙◌, ◌+◌, length, arith}
 use Rattle.std.specs.Prelude.{◌&&◌, ◌||◌, not, nat_eq, slice_get}
 use Rattle.std.proofs.lemmas.Bool.{eqb-true}
@@ -30,9 +31,9 @@ use Rattle.sym_spell.specs.Pressing as spell
 use Rattle.sym_spell.specs.Pressing.{◌and◌}
 use Rattle.cpp_press_laws.proofs.Fits.Names.{ElementsFit, arguments_standing, arguments_text, arguments-fitted, instance-may}
 
--- ## What a substitution stands for
+-- ## What a substitution denotes
 
--- a candidate that was named: where it may be named, its packs, and the state after it
+-- a candidate that was named: its number, where it may be named, its packs, and the state after it
 pub record Referred (around : Around) (old new : State) (c : Candidate) : Type 0 where
   pub number : ℕ
   pub there : slice_get old.candidates number ≡ Some c
@@ -50,7 +51,7 @@ named-packs around allowed packs old new named allows = go packs named.are
     go None (inr here) = inl refl
     go (Some m) (inr here) = inr (here.0, sym (allows m (sym here.1)))
 
--- what was named may be referred to in pressed bytes
+-- a candidate that was named may be referred to in pressed bytes
 pub referred-may : (around : Around) (n : ℕ) (allowed : Option ℕ) (old new : State) (c : Candidate) → Referred around old new c
     → Allows allowed new.packs → MayBeReferred (pressed_at n around) allowed c.tree
 referred-may around n allowed old new c r allows = record {
@@ -58,7 +59,7 @@ referred-may around n allowed old new c r allows = record {
   packs = named-packs around allowed (packs_in around.scope c.tree) old new r.packs allows;
 }
 
--- a function type that was named stands again
+-- a function type that was named may be spelled again
 pub functions-get : (scope : Option Term) (read number : ℕ) (c : Candidate) (cs : List Candidate) → FunctionsStand scope read cs
     → slice_get cs number ≡ Some c → (is_open c.tree ≡ false) ⊎ (c.encoding ≡ read) → FunctionStands scope c.tree
 functions-get scope read number c [] all at may = absurd cc
@@ -67,7 +68,7 @@ functions-get scope read zero c (d ∷ ds) all at may =
     subst (λ x. (is_open x.tree ≡ false) ⊎ (x.encoding ≡ read) → FunctionStands scope x.tree) same all.0 may
 functions-get scope read (suc number) c (d ∷ ds) all at may = functions-get scope read number c ds all.1 at may
 
--- ## What stands fits again
+-- ## Components fit again
 
 component-stands : (t : Term) (slot : Slot) (scope : Option Term) → IsComponent t → ItemStands slot scope (packs_in scope t) t
 component-stands (builtin code) slot scope is = absurd is
@@ -83,7 +84,7 @@ type-again t slot other is around allowed may place cs complete has =
     item-again t slot other around allowed (packs_in around.scope t) (component-stands t slot around.scope is) may.packs may.lambda place cs
     (complete-has around.encoding t cs complete has)
 
--- right under qualifiers as well, also a function type, which is spelled out there
+-- such a component fits right under qualifiers, too; a function type is spelled out there
 pub bare-again : (t : Term) → IsComponent t → (around : Around) (allowed : Option ℕ) → FunctionStands around.scope t
     → MayBeReferred around allowed t → (place : ℕ) (cs : List Component) → Complete cs → Has around.encoding t cs
     → (fits_of t).as_type bare_type around allowed place cs
@@ -96,7 +97,7 @@ bare-again t is around allowed stands may place cs complete has =
 
 -- ## References
 
--- What was named is spelled where it is: nothing is added.
+-- A candidate that was named is spelled as a reference, which adds nothing.
 pub referred-fitted : {k : ℕ} (around : Around) (F : Fitting) (s : ℕ → Spelling) (old new : State) (c : Candidate) (P : Term → Type 0)
     → Referred around old new c
     → ((n : ℕ) (allowed : Option ℕ) → Adds k n P (F (pressed_at n around) allowed) (s n))
@@ -150,7 +151,7 @@ referred-solid takes around old new c r = record {
 
 -- ## Substitutions that aren't refused
 
--- the candidate that one stands for
+-- the candidate that a substitution denotes
 pub record Substituted (around : Around) (old : State) (r : Found Value State) : Type 0 where
   pub candidate : Candidate
   pub value : r.value ≡ tree candidate.tree true
@@ -220,7 +221,7 @@ component-found n number own s behind place cs is =
     let first : spell.Pressed Component → Spelling = λ w later ds. w in
     ap (λ w. (first w and behind) place cs) (component-is n number own s place cs is)
 
--- after a component that comes before, as after the reference to it
+-- a place after a reference to a component that comes before is a place after the component
 named-behind : (n number : ℕ) (own : Term) (s : Spelling) (G : Standing) (place : ℕ) (cs : List Component) → first_equal n own 0 cs ≡ Some number
     → Behind (reference number) G place cs → Behind (component n own s) G place cs
 named-behind n number own s G place cs is fits =
@@ -233,7 +234,7 @@ same-reference : (number other : ℕ) (G : Standing) (place : ℕ) (cs : List Co
     → Behind (reference number) G place cs → Behind (reference other) G place cs
 same-reference number other G place cs same fits = subst (λ k. Behind (reference k) G place cs) (some-one same) fits
 
--- the number of what is there
+-- the number of a component that is there
 record FoundAt (n : ℕ) (own : Term) (cs : List Component) : Type 0 where
   pub number : ℕ
   pub is : first_equal n own 0 cs ≡ Some number

@@ -139,7 +139,7 @@ scoped-shut : (o : Option Term) (arguments : Term) (b : Bool) → o ≡ Some arg
 scoped-shut o arguments false is bare = refl
 scoped-shut o arguments true is bare = let clash : None ≡ Some arguments = sym (bare refl) ∙ is in absurd cc
 
--- what a parameter's number fits as, before it is a component
+-- what the number of a parameter fits as, before the parameter is a component
 named-fitted : (around : Around) (k : ℕ) (old new : State) (p : ParameterNamed around k old new) → LambdasAreBare around
     → Fitted around (λ inner allowed place cs. NamesArgument inner allowed k) (λ n. text (codes "T" ++ ordinal k)) (parameter k) old p.mid
 unfolding is_open pack_length packs_in

@@ -1,4 +1,4 @@
--- The productions of names as types, of arguments and of literals keep to what is fit.
+-- The productions of names as types, of arguments and of literals keep to what fits.
 use Rattle.std.proofs.Common.{◌≡◌, ℕ, ◌<◌, Some, inl, inr, [], ◌∷◌, Bool, true, false, refl, sym, subst}
 use Rattle.std.specs.Prelude.{◌&&◌, not}
 use Rattle.std.proofs.Math.Bool.{and-true}
@@ -172,7 +172,7 @@ pub abbreviation-read : (around : Around) (byte : ℕ) (began state : State) →
 unfolding meaning unfolding_.behind
 abbreviation-read around byte began state small is = inl (byte, refl, (small, is), refl)
 
--- what a substitution that wasn't refused stands for
+-- the candidate that a substitution denotes, if the substitution wasn't refused
 pub substitution-read : (around : Around) (old : State) (r : Found Value State) → Substituted around old r
     → KindFits Kind.Abbreviation around r.value old r.state
 substitution-read around old r named = inr (named.candidate, named.value, named.referred)

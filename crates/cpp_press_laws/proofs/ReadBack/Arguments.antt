@@ -26,7 +26,7 @@ use Rattle.cpp_grammar.specs.References.{with_prefix, appended}
 
 -- ## Lists
 
--- what a list of items is read as; one without items has no row
+-- what a list of items is read as; an empty list has no row
 abbrev pub items_value : Term → Value
 items_value nil = nothing_there
 items_value t = tree t true
@@ -96,7 +96,7 @@ takes-maybe-arguments = takes-byte MAYBE_ARGUMENTS Kind.MaybeArguments Productio
 
 -- ## Expansions
 
--- What is under an expansion names packs of one length, whichever they may have around it.
+-- What is under an expansion names packs of one length, whatever packs are named around it.
 pub expansion-reads : (around : Around) (allowed inner : Option ℕ) (t : Term) (place : ℕ) (cs : List Component) (w : Written)
     → ReadsAt (under_expansion around) inner (OfKind TYPE) (Is (tree t true)) (place + 1) cs w
     → ReadsAt around allowed (OfKind ITEM_AFTER_D) (Is (tree (expansion t) false)) place cs (written (112 ∷ w.bytes) w.components)

@@ -1,4 +1,4 @@
--- Lambdas and unnamed types are read as what was pressed: their numbers are tested before their parts.
+-- Lambdas and unnamed types are read as what was pressed. Their numbers are tested before their parts are read.
 use Rattle.std.proofs.Common.{◌≡◌, ℕ, ◌+◌, ◌-◌, ◌<◌, length, List, [], ◌∷◌, ◌++◌, Option, true, false, Ok, refl, ap, arith, ◌∙◌}
 use Rattle.std.specs.Prelude.{nat_lt, ◌^◌, Result, Err}
 use Rattle.sym_core.specs.declared.refusal.Refusal.{Refusal}

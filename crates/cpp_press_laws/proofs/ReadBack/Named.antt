@@ -250,7 +250,7 @@ unnamed-piece-reads around allowed k place cs is =
     (number-back k is.0)
     (unnamed-reads around allowed (k - 1) (place + 1) cs (number-small k is) (number-tested k is)))
 
--- items of an encoding or of a lambda that stand for its parameters
+-- items of an encoding or of a lambda that denote its parameters
 pub record ItemsRead (around : Around) (allowed : Option ℕ) (t : Term) (place : ℕ) (cs : List Component) (w : Written) : Type 0 where
   pub first : Term
   pub items : Term

@@ -38,7 +38,7 @@ pub alone-rest : {around : Around} {allowed : Option ℕ} {Q : Value → Type 0}
     → ReadsAt around allowed (OfKind NEST_REST) Q place cs w → ReadsAt around allowed (OfKind NEST_REST_ALONE) Q place cs w
 alone-rest one = reshaped (λ t is. (t, refl, rest_alone t is, λ s. refl)) one
 
--- what is read after a name is read after one that an S stands for, too
+-- what is read after a name is read after a name that an S denotes, too
 pub rest-or-end : {around : Around} {allowed : Option ℕ} {Q : Value → Type 0} {place : ℕ} {cs : List Component} {w : Written}
     → ReadsAt around allowed (OfKind NEST_REST) Q place cs w → ReadsAt around allowed (OfKind NEST_REST_OR_END) Q place cs w
 rest-or-end {around} {place} one = reshaped (λ t is. let r = abi_rest t is in (r.tree, r.spells, r.is, r.says around place)) one
@@ -139,8 +139,8 @@ SoFar around allowed t listed k place cs w =
     (v : Value) (rest : Written) → ReadsAt (after t listed around) allowed (OfKind k) (Is v) (place + length w.bytes) w.components rest
     → ReadsAt around allowed (OfKind NEST) (Is v) place cs (written (w.bytes ++ rest.bytes) rest.components)
 
--- A prefix, which is a component: a piece is read after it as a longer name, and then what is left. The piece is read alike whether
--- the prefix is one that is a candidate already, or becomes one before the piece.
+-- A prefix that is a component: a piece is read after it as a longer name, and then the rest. The piece is read alike
+-- whether the prefix is a candidate already or becomes one before the piece.
 abbrev pub Extends : Around → Option ℕ → (t : Term) → (place : ℕ) → List Component → Written → Type 0
 Extends around allowed t place cs w =
     (u : Term) (v : Value) (one rest : Written)

@@ -46,8 +46,8 @@ pub record ReadsRow (p : Production) (taken : List ℕ) (around : Around) (allow
   pub candidates : components_of state.candidates ≡ w.components
   pub packs : IsAllowed allowed state.packs
 
--- What a kind takes at a byte, what is done before the parts of a production and what they mean: proofs that compute these, production by
--- production, unfold this.
+-- What a kind takes at a byte, what is done before the parts of a production, and what they mean. Proofs that compute
+-- these, production by production, unfold this.
 unfoldable pub grammar : Unit {0}
 unfolding choose alternatives pick is_in in_ranges among kinds is_chain may_be_empty parts_of number_of_kind between close unfolding_.behind meaning byte_of part tree_of text_of piece_of letter_of ref_of signed_of adjustment_of is_there
 grammar = tt
@@ -76,19 +76,19 @@ appended-same around t s same =
 abbrev pub ◌before◌ : {A B : Type 0} → A → B → A × B
 ◌before◌ one rest = (one, rest)
 
--- the bytes of parts that follow each other
+-- the bytes of parts, one after the other
 abbrev pub all_bytes : List Written → List ℕ
 all_bytes [] = []
 all_bytes (w ∷ []) = w.bytes
 all_bytes (w ∷ x ∷ ws) = w.bytes ++ all_bytes (x ∷ ws)
 
--- the components after them
+-- the components after these parts
 abbrev pub last_components : List Component → List Written → List Component
 last_components cs [] = cs
 last_components cs (w ∷ ws) = last_components w.components ws
 
--- The parts of a production that are left, after parts that are known: what is written of each is read with its value, in its
--- surroundings and in the state before it. `End` is what is to hold of all values.
+-- The parts of a production that are left, after the known ones: what is written of each is read with its value, in its
+-- surroundings and in the state before it. `End` is to hold of all values.
 abbrev pub PartsRead : Production → Around → Option ℕ → (at : ℕ) → (End : List Value → Type 0) → List Sym → (values : List Value)
     → List Written → (known : List Value) → (place : ℕ) → List Component → Type 0
 PartsRead p around allowed at End [] [] [] known place cs = End known
@@ -169,7 +169,7 @@ takes-byte k kind p byte at chosen small chain = record {
   takes = sym (ap (λ b. if not b then byte ∷ [] else []) chain);
 }
 
--- or takes it without a byte
+-- a kind takes a production without a byte
 pub takes-none : (k : ℕ) (kind : Kind) (p : Production) (byte : ℕ) → slice_get kinds k ≡ Some kind → choose kind byte ≡ Some p → byte < 256
     → is_chain p ≡ true
     → TakesRule abi k (rule_of p) []
@@ -181,7 +181,7 @@ takes-none k kind p byte at chosen small chain = record {
   takes = sym (ap (λ b. if not b then byte ∷ [] else []) chain);
 }
 
--- What a production means, whose parts have these values: its value, and what becomes of the state.
+-- What a production means whose parts have these values: its value, and the state after it.
 pub record Closes (p : Production) (byte : ℕ) (around : Around) (allowed inside : Option ℕ) (place : ℕ) (values : List Value)
     (middle components : List Component) (Q : Value → Type 0) (began s : State) : Type 0 where
   pub value : Value
@@ -197,7 +197,7 @@ ClosesAt p byte around allowed inside place R middle components Q =
     (values : List Value) → R values → (began s : State) → IsAllowed allowed began.packs → components_of s.candidates ≡ middle → IsAllowed inside s.packs
     → Closes p byte around allowed inside place values middle components Q began s
 
--- nothing becomes of the state
+-- the state stays as it is
 pub closes-same : (p : Production) (byte : ℕ) (around : Around) (allowed : Option ℕ) (place : ℕ) (R : List Value → Type 0)
     (components : List Component) (v : Value)
     → ((values : List Value) → R values → (began s : State) → close p byte around place began values s ≡ Ok (found v s))
@@ -220,7 +220,7 @@ closes-more p byte around allowed place R components v t means values good began
   packs = packs;
 }
 
--- A production is read from its parts, which it may test before them.
+-- A production is read from its parts. It may test them before it reads them.
 pub production-opened : (p : Production) (k : ℕ) (taken : List ℕ) (around : Around) (allowed inside : Option ℕ) (place : ℕ)
     (R : List Value → Type 0) (Q : Value → Type 0) (start components : List Component) (symbols : List Sym) (parts : Written)
     → TakesRule abi k (rule_of p) taken → parts_of p ≡ symbols
@@ -257,11 +257,11 @@ opens-plainly Production.Lambda plain f place s = absurd plain
 opens-plainly Production.Unnamed plain f place s = absurd plain
 opens-plainly _ plain f place s = refl
 
--- what a production means after parts with known values, whatever state it began in and is in
+-- the meaning of a production over parts with known values, whatever state it began in and is in
 abbrev pub Means : Production → (byte : ℕ) → Around → (place : ℕ) → Value → (known : List Value) → Type 0
 Means p byte around place v known = (began s : State) → close p byte around place began known s ≡ Ok (found v s)
 
--- A production that tests nothing before its parts is read from them: it leaves the state as it is,
+-- A production that tests nothing before its parts is read from them, and leaves the state as it is.
 pub read-by-parts : (p : Production) (k : ℕ) (taken : List ℕ) {around : Around} {allowed : Option ℕ} {place : ℕ} {cs : List Component}
     {v : Value} {bytes : List ℕ} (values : List Value) (texts : List Written)
     → TakesRule abi k (rule_of p) taken → TestsNothing p → taken ++ all_bytes texts ≡ bytes
@@ -275,7 +275,7 @@ read-by-parts p k taken {around} {allowed} {place} {cs} {v} {bytes} values texts
     (λ s here packs. opens-plainly p plain _ place s)
     (closes-same p (byte_of taken) around allowed place _ after v (λ known means. means)))
 
--- or makes a tree a component
+-- Such a production is read from its parts, and makes a tree a component.
 pub component-by-parts : (p : Production) (k : ℕ) (taken : List ℕ) {around : Around} {allowed : Option ℕ} {place : ℕ} {cs : List Component}
     {bytes : List ℕ} (t : Term) (values : List Value) (texts : List Written)
     → TakesRule abi k (rule_of p) taken → TestsNothing p → taken ++ all_bytes texts ≡ bytes
@@ -355,7 +355,7 @@ unfolding abi
 name-reads {around} {allowed} {place} {cs} name good =
     same-written (name-spelled name) (token-reads Name (name_token name) (name-is-token name good))
 
--- what is read by a shape is read by another one that is spelled and unfolded alike
+-- what one shape is read as is what another one is read as that is spelled and unfolded alike
 pub reshaped : {around : Around} {allowed : Option ℕ} {x y : Sym} {Q : Value → Type 0} {place : ℕ} {cs : List Component} {w : Written}
     → ((t : Shape) → IsTree abi x t → (u : Shape) × (spell u ≡ spell t) × IsTree abi y u
     × ((s : State) → unfold_tree cpp around place u s ≡ unfold_tree cpp around place t s))

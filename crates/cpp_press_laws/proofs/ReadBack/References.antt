@@ -1,4 +1,4 @@
--- A reference that pressing writes is read as the tree that it stands for.
+-- A reference that pressing writes is read as the tree that it denotes.
 use Rattle.std.proofs.Common.{◌≡◌, ℕ, zero, suc, ◌+◌, ◌-◌, ◌<◌, ◌≤◌, inl, inr, length, List, [], ◌∷◌, ◌++◌, Option, Some, None, Bool, true, false, Ok, refl, ap, arith, sym, subst, ◌∙◌}
 use Rattle.std.specs.Prelude.{slice_get, not, ◌&&◌, ◌||◌, nat_eq, Result, Err}
 use Rattle.std.proofs.lemmas.Bool.{eq-eqb, and_parts}

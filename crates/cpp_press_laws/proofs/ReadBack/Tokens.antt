@@ -84,7 +84,7 @@ back36 d less = grind (arith, nat_tests)
 good36 : (d : ℕ) → d < 36 → is_digit_of Seq36 (digit36 d) ≡ true
 good36 d less = grind (arith, nat_tests)
 
--- digits with nothing before them and nothing after
+-- digits with nothing before and after them
 abbrev pub digits_token : List ℕ → Token
 digits_token digits = record { before = []; own = digits; behind = [] }
 

@@ -23,7 +23,7 @@ use Rattle.cpp_press_laws.proofs.ReadBack.Reading.{takes-byte, takes-none, empty
 
 -- ## Types by their kinds
 
--- What a kind of types makes of what it has in it: a tree becomes a component, unless it is one already or never is one.
+-- The value of a type by its kind: a tree becomes a component, unless it is one already or never is one.
 pub record Wraps (around : Around) (allowed : Option ℕ) (k inner : ℕ) (taken : List ℕ) (t : Term) : Type 0 where
   pub adds : (place : ℕ) (cs : List Component) (w : Written) → ReadsAt around allowed (OfKind inner) (Is (tree t false)) (place + length taken) cs w
       → ReadsAt around allowed (OfKind k) (Is (tree t true)) place cs (written (taken ++ w.bytes) (more around w.components t))

@@ -24,7 +24,7 @@ pressed_if_read (Err r) = []
 unfoldable pub press : List ℕ → List ℕ
 press s = elim (shape_of s) [ None ↦ [] | Some tree ↦ pressed_if_read (unfold_cpp tree) ]
 
--- each is pressed so, and what was pressed is pressed again unchanged
+-- each symbol is pressed to these bytes, and pressed bytes are pressed to themselves
 unfoldable pub are_pressed : List Row → Bool
 are_pressed [] = true
 are_pressed (row ∷ rows) = same_bytes (press row.symbol) row.wanted && same_bytes (press row.wanted) row.wanted && are_pressed rows

@@ -1,5 +1,5 @@
--- What is paid for where nothing is done before the parts of a production: its row says what it is read as, and all that is left to show is
--- that this needs no more than its parts and its byte.
+-- What is paid for a production before whose parts nothing is done. Its row says what it is read as, and all that is
+-- left to show is that this needs no more than its parts and its byte.
 use Rattle.std.proofs.Common.{◌≡◌, ℕ, ◌+◌, ◌*◌, ◌≤◌, length, List, [], ◌∷◌, ◌++◌, Bool, true, false, cond, Option, Some, None, Ok, refl, ap, sym, subst, ◌∙◌, arith}
 use Rattle.std.specs.Prelude.{suc, zero, not, ◌&&◌, ◌||◌, nat_eq, get_or, slice_get}
 use Rattle.std.proofs.lemmas.Bool.{eqb-true, and_parts, false≢true}
@@ -49,7 +49,8 @@ unfoldable pub is_read : Class → Bool
 is_read unread = false
 is_read _ = true
 
--- What may be read where no name that isn't a candidate comes before, or wherever it is. The rest of a name is neither.
+-- Whether a class of values may be read anywhere, or only where no name comes before that isn't a candidate. The rest
+-- of a name may be read in neither way.
 unfoldable pub may_read : (anywhere : Bool) → Class → Bool
 may_read anywhere unread = false
 may_read anywhere type = not anywhere
@@ -152,7 +153,7 @@ ready-by test prefix each (x ∷ xs) is =
         go None h = absurd (false≢true h)
         go (Some kind) h = each kind h
 
--- what a part that stands for this value needs, and what it was lent
+-- what the value of a part needs, and what the part was lent
 unfoldable pub cost_of : Sym → Around → Value → State → (bytes : ℕ) → ℕ
 cost_of (OfKind k) around v s bytes =
     elim (slice_get kinds k) [ None ↦ 0 | Some kind ↦ need (class_of kind) around v s + returned (class_of kind) around v ]
@@ -162,14 +163,14 @@ unfoldable pub credit_of : Sym → Around → ℕ
 credit_of (OfKind k) around = elim (slice_get kinds k) [ None ↦ 0 | Some kind ↦ loan (class_of kind) around + grant kind ]
 credit_of x around = 0
 
--- what is known of it
+-- what is known of the value of a part
 unfoldable pub Knows : Sym → Around → Value → State → (bytes : ℕ) → Type 0
 Knows (OfKind k) around v s bytes = elim (slice_get kinds k) as (λ _. Type 0) [ None ↦ Unit {0} | Some kind ↦ IsKnown (class_of kind) around v s ]
 Knows Name around v s bytes = NamePaid bytes v
 Knows (Number kind) around v s bytes = NumberPaid kind bytes v
 Knows (Byte c) around v s bytes = bytes ≡ 1
 
--- a part that was paid for
+-- a part is paid for
 pub record Known (x : Sym) (around : Around) (v : Value) (old new : State) (bytes : ℕ) : Type 0 where
   pub few : wealth new + cost_of x around v new bytes ≤ wealth old + credit_of x around + 8 * bytes
   pub known : Knows x around v new bytes
@@ -209,7 +210,7 @@ part-known (OfKind k) around v old new bytes is small all g = go (slice_get kind
           small = one.small;
         }
 
--- What is to be shown of parts that follow, where those before them need so much and were lent so much.
+-- The claim about the parts that follow. Those before them need `cost` and were lent `credit`.
 abbrev pub Claim : Around → (P : List Value → State → (cost credit : ℕ) → Type 0) → List Sym → List Value → State → (cost credit : ℕ) → Type 0
 Claim around P [] vs s cost credit = P vs s cost credit
 Claim around P (x ∷ xs) vs s cost credit =
@@ -285,14 +286,14 @@ each-part p around place inner P limit still small (x ∷ xs) is bytes vs s cost
     (cost_of x around one.value one.after one.own + cost) (credit_of x around + credit) one.onward known.small
     (omega (arith, few, known.few, one.sum)) (claim one.value one.after one.own known.known)
 
--- what has to be shown of a production: the bytes that pay for what its parts need, and for its own byte, pay for what it is read as
+-- The claim about a production: the bytes that pay for its parts, and for its own byte, pay for its value.
 abbrev pub Pays : (ready : Prefix → Type 0) → Production → Class → (granted : ℕ) → Type 0
 Pays ready p c granted =
     (byte : ℕ) (around : Around) (old : State) → ready around.prefix → SmallPrefix around.prefix
     → Claim around (λ vs s cost credit. AllSmall s.candidates → (b : ℕ) → wealth s + cost + 8 * cond (is_chain p) 0 1 ≤ wealth old + 8 * b + credit
     → Gains c granted around (meaning p byte around vs) old (unfolding_.behind p byte around old vs s) b) (parts_of p) [] old 0 0
 
--- nothing is done before the parts of a production, nor refused, and its parts are of such kinds
+-- nothing is done before the parts of a production, nothing is refused, and its parts are of kinds that pass a test
 unfoldable pub row_goes : (Kind → Bool) → Production → Bool
 row_goes test p = all_quiet (row_of p) && (not (refers p) && parts_pass test (parts_of p))
 
@@ -310,7 +311,7 @@ paid-for ready p c granted still closed pays around at old v new b each here sma
     shut true h = absurd (false≢true h)
     shut false h = refl
 
--- where no name that isn't a candidate comes before, or wherever it is
+-- such a production pays for its value, where no name comes before that isn't a candidate, or anywhere
 pub by-row : (anywhere : Bool) (p : Production) (c : Class) (granted : ℕ) → row_goes (may_be_part anywhere) p ≡ true
     → Pays (Standing anywhere) p c granted
     → (around : Around) (at : ℕ) (old : State) (v : Value) (new : State) (b : ℕ) → Standing anywhere around.prefix → SmallPrefix around.prefix
@@ -322,7 +323,7 @@ by-row anywhere p c granted goes pays around at old v new b here =
     paid-for (Standing anywhere) p c granted one.0 two.0 pays around at old v new b
     (ready-by (may_be_part anywhere) around.prefix (λ kind one. part-ready anywhere kind around.prefix one here) (parts_of p) two.1) here
 
--- one of these
+-- a production is one of these
 unfoldable pub is_listed_in : List Production → Production → Bool
 is_listed_in [] p = false
 is_listed_in (q ∷ qs) p = nat_eq (number_of p) (number_of q) || is_listed_in qs p

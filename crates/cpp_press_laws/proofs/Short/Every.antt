@@ -146,7 +146,7 @@ arms Kind.ArrayRest is = type-gains Production.LengthArray refl
 arms Kind.NestMoreOrEnd is = nest-next
 arms _ is = absurd (false≢true is)
 
--- what isn't read
+-- a kind of which nothing is read
 gained-if : (c : Class) (granted : ℕ) (around : Around) (v : Value) (old new : State) (b : ℕ) → (is_read c ≡ true → Gained c granted around v old new b)
     → Gained c granted around v old new b
 unfolding Gained is_read
@@ -176,6 +176,7 @@ gains-empty Kind.MaybeTags around old is all = record { few = omega arith; known
 gains-empty Kind.Declarations around old is all = tt
 gains-empty Kind.BaseArguments around old is all = tt
 gains-empty Kind.HeldArguments around old is all = tt
+gains-empty Kind.ConceptArguments around old is all = tt
 gains-empty Kind.Expressions around old is all = tt
 gains-empty Kind.HexMore around old is all = tt
 gains-empty Kind.MoreModule around old is all = tt

@@ -1,5 +1,5 @@
--- What is read of a symbol pays for what is pressed of it: eight for each byte. The candidates are worth what was paid for them, and so
--- is what isn't a candidate yet.
+-- The bytes of what is read pay for what is pressed of it: eight for each. The candidates are worth what was paid for
+-- them, and so is a value that isn't a candidate yet.
 use Rattle.std.proofs.Common.{◌≡◌, ℕ, ◌+◌, ◌*◌, ◌-◌, ◌≤◌, ◌⊎◌, length, List, [], ◌∷◌, ◌++◌, Bool, true, false, cond, Ok, refl, sym, subst, arith}
 use Rattle.sym_shape.specs.declared.rule.Sym.TheVariants.{Kind as OfKind}
 use Rattle.sym_shape.specs.Tree.{Tree as Shape, spell, IsTree}
@@ -25,11 +25,11 @@ use Rattle.cpp_press_laws.proofs.Short.Worth.{is_among, has-among, full, worth, 
 abbrev pub wealth : State → ℕ
 wealth s = worths [] (components_of s.candidates)
 
--- a tree that may be a reference, and is no encoding
+-- a tree that takes at most the bytes of a reference as a part, and is no encoding
 abbrev pub IsSmall : Term → Type 0
 IsSmall t = (part t ≤ 8) × (is_encoding t ≡ false)
 
--- each of them is one
+-- each candidate has such a tree
 unfoldable pub AllSmall : List Candidate → Type 0
 AllSmall [] = Unit {0}
 AllSmall (c ∷ cs) = IsSmall c.tree × AllSmall cs
@@ -39,7 +39,7 @@ front t = front_of t (size t)
 
 -- ## What is paid for
 
--- How the value of a kind is paid for.
+-- The classes of values, by how they are paid for.
 pub data Class : Type 0 where
   -- a name; a type; a type right under qualifiers; a piece of a name; an encoding; a list; what may be arguments after a name, and what is
   name : Class
@@ -160,15 +160,15 @@ typed v = cond (is_listed v) 0 (full (tree_of v)) + part (tree_of v)
 unfoldable pub letters_in : Value → ℕ
 letters_in v = lettered (name_letters (qualifiers_of v) (ref_of v))
 
--- of a mark, digits, or bytes
+-- what is held for a mark, digits, or bytes
 unfoldable pub held : Value → ℕ
 held (letter b) = 8
 held (text bytes) = 8 * length bytes
 held (signed n) = length (signed_text n)
 held _ = 0
 
--- What is left of what was paid, for the value as it is used next: a name is spelled out, or becomes a candidate that is referred to;
--- a type becomes a candidate, if it's none yet, and is referred to.
+-- What is left of what was paid, for the next use of the value: a name is spelled out, or becomes a candidate that is
+-- referred to; a type becomes a candidate, unless it is one, and is referred to.
 unfoldable pub need : Class → Around → Value → State → ℕ
 need name around v s = size (tree_of v) + letters_in v + 9
 need further around v s = size (tree_of v) + letters_in v + 9
@@ -190,7 +190,7 @@ need after_mark around v s = size (tree_of (signature_or lvalue_only v)) + 7
 need second around v s = size (piece_of v) + 6
 need unread around v s = 0
 
--- what is left for the name so far, where it goes on, and where arguments may come
+-- what is left for the name so far, where a piece or arguments may follow
 unfoldable pub lent : Prefix → ℕ
 lent outermost = 0
 lent (behind t true) = front t
@@ -213,12 +213,12 @@ loan arguments around = owed around.prefix
 loan given around = owed around.prefix
 loan _ around = 0
 
--- what comes back of it
+-- what is given back of that, where no arguments came
 unfoldable pub returned : Class → Around → Value → ℕ
 returned arguments around v = cond (is_there v) 0 (owed around.prefix)
 returned _ around v = 0
 
--- what a letter before it paid
+-- what the letter before a kind paid
 unfoldable pub grant : Kind → ℕ
 grant Kind.ComponentAfterC = 8
 grant Kind.ConstructorAfterC = 8
@@ -229,13 +229,13 @@ grant Kind.Literal = 8
 grant Kind.ArgumentAfterT = 8
 grant _ = 0
 
--- a name so far that isn't a candidate yet is one that may be
+-- the name so far, unless it is a candidate, may become one
 unfoldable pub SmallPrefix : Prefix → Type 0
 SmallPrefix outermost = Unit {0}
 SmallPrefix (behind t true) = Unit {0}
 SmallPrefix (behind t false) = IsSmall t
 
--- a name comes before; one that may end
+-- a name comes before; and a name comes before that may end here
 unfoldable pub IsBehind : Prefix → Type 0
 IsBehind outermost = ⊥
 IsBehind (behind t listed) = is_encoding t ≡ false
@@ -245,7 +245,8 @@ MayEnd outermost = ⊥
 MayEnd (behind t true) = ⊥
 MayEnd (behind t false) = is_function_type t ≡ false
 
--- where it is read: no name comes before types and lists, and one that isn't a candidate before the rest of a name that may end
+-- Where a class of values is read. No name comes before types and lists. A name that isn't a candidate comes before the
+-- rest of a name that may end.
 unfoldable pub ready_for : Class → Prefix → Type 0
 ready_for type prefix = lent prefix ≡ 0
 ready_for bare prefix = lent prefix ≡ 0
@@ -266,7 +267,8 @@ Ready Kind.Abbreviation prefix = Unit {0}
 Ready Kind.Encoding prefix = Unit {0}
 Ready kind prefix = ready_for (class_of kind) prefix
 
--- a name or a type may be a reference, and a function type that is a candidate already is among these
+-- A name or a type takes at most the bytes of a reference as a part. A function type that is a candidate already is
+-- among the candidates.
 unfoldable pub IsKnown : Class → Around → Value → State → Type 0
 IsKnown name around v s = IsSmall (tree_of v) × (is_function_type (tree_of v) ≡ false)
 IsKnown further around v s = IsSmall (tree_of v) × (is_function_type (tree_of v) ≡ false)
@@ -279,12 +281,12 @@ IsKnown given around v s = v ≡ tree (tree_of v) true
 IsKnown operands around v s = (second : ℕ) × (left : Term) × (right : Term) × (v ≡ pair second left right)
 IsKnown _ around v s = Unit {0}
 
--- what nothing comes of changes nothing
+-- an absent value leaves the state as it was
 unfoldable pub IsKept : Class → Value → (old new : State) → Type 0
 IsKept arguments v old new = v ≡ nothing_there → new ≡ old
 IsKept _ v old new = Unit {0}
 
--- So many bytes pay for a value and for what became candidates.
+-- This many bytes pay for a value and for what became candidates.
 pub record Gains (c : Class) (granted : ℕ) (around : Around) (v : Value) (old new : State) (bytes : ℕ) : Type 0 where
   pub few : wealth new + need c around v new + returned c around v ≤ wealth old + loan c around + 8 * bytes + granted
   pub known : IsKnown c around v new
@@ -316,7 +318,7 @@ unfolding AllSmall
 small-one [] c all one = (one, tt)
 small-one (d ∷ cs) c all one = (all.0, small-one cs c all.1 one)
 
--- a state after one in which candidates became worth so much more at most
+-- a later state, in which the candidates are worth at most this much
 pub record Grown (most : ℕ) (s : State) : Type 0 where
   pub few : wealth s ≤ most
   pub small : AllSmall s.candidates
@@ -349,7 +351,7 @@ prefix-grown around s all small = go around.prefix small
     go (behind t true) h = record { few = omega arith; small = all }
     go (behind t false) h = appended-grown around t s all h
 
--- what was appended is among the candidates
+-- a tree that was appended is among the candidates
 pub appended-among : (around : Around) (t : Term) (s : State) → is_among around.encoding t (components_of (appended around t s).candidates) ≡ true
 unfolding appended
 appended-among around t s =

@@ -1,4 +1,4 @@
--- What is paid for what has no components of its own: numbers, pieces of names, lists and encodings.
+-- What is paid for values without components of their own: numbers, pieces of names, lists and encodings.
 use Rattle.std.proofs.Common.{◌≡◌, ℕ, ◌+◌, ◌*◌, ◌-◌, ◌≤◌, inr, length, List, [], ◌∷◌, ◌++◌, Bool, true, false, cond, Some, refl, ap, sym, subst, arith, length-append}
 use Rattle.std.specs.Prelude.{codes, not, ◌&&◌}
 use Rattle.sym_core.specs.declared.NumberKind.TheVariants.{Decimal}
@@ -6,6 +6,7 @@ use Rattle.sym_core.specs.Value.{counted_value}
 use Rattle.std.proofs.lemmas.Bool.{false≢true}
 use Rattle.cpp_grammar.specs.declared.kind.Kind.{Kind}
 use Rattle.cpp_grammar.specs.declared.production.Production.{Production}
+use Rattle.cpp_grammar.specs.declared.production.Operation.{Operation}
 use Rattle.cpp_grammar.specs.Grammar.{kinds, number_of, number_of_kind, parts_of, is_chain}
 use Rattle.cpp_grammar.specs.Rows.{row_of}
 use Rattle.cpp_grammar.specs.Term.{RefQualifier, lvalue_only, rvalue_only, Signed, non_virtual, by_table, Term, symbol, function, lambda, lvalue, rvalue, pack, nil, list, absent}
@@ -126,6 +127,7 @@ free-pays unit Production.OperatorS is = λ byte around old idle small v s n k a
 free-pays unit Production.OperatorI is = λ byte around old idle small v s n k all b few. record { few = omega (arith, few); known = tt; kept = tt; small = all }
 free-pays unit Production.OperatorG is = λ byte around old idle small v s n k all b few. record { few = omega (arith, few); known = tt; kept = tt; small = all }
 free-pays unit Production.OperatorL is = λ byte around old idle small v s n k all b few. record { few = omega (arith, few, operator-most byte v); known = tt; kept = tt; small = all }
+free-pays _ (Production.Operation Operation.ExpressionC) is = absurd (false≢true is)
 free-pays _ _ is = absurd (false≢true is)
 
 free-go : (c : Class) → each_goes (may_be_part true) (free_rows c) ≡ true
@@ -174,6 +176,7 @@ idle-pays whole Production.VirtualThunk is = λ byte around old idle small d s0 
 idle-pays whole Production.CovariantThunk is = λ byte around old idle small d s0 n0 k0 e s1 n1 k1 v s n k all b few. record { few = omega (arith, few, length-append (codes "Tc" ++ offset_text (adjustment_of d)) (offset_text (adjustment_of e))); known = tt; kept = tt; small = all }
 idle-pays whole Production.SpecialName is = λ byte around old idle small v s n k all b few. record { few = omega (arith, few, idle); known = tt; kept = tt; small = all }
 idle-pays operands Production.AddressExpression is = λ byte around old idle small v s n k all b few. record { few = omega (arith, few); known = (byte, tree_of v, absent, refl); kept = tt; small = all }
+idle-pays _ (Production.Operation Operation.ExpressionC) is = absurd (false≢true is)
 idle-pays _ _ is = absurd (false≢true is)
 
 idle-go : (c : Class) → each_goes (may_be_part false) (idle_rows c) ≡ true

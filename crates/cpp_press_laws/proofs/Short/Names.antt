@@ -4,6 +4,7 @@ use Rattle.sym_link.specs.Reading.{Next, ◌>>=◌}
 use Rattle.std.proofs.lemmas.Bool.{false≢true}
 use Rattle.cpp_grammar.specs.declared.kind.Kind.{Kind}
 use Rattle.cpp_grammar.specs.declared.production.Production.{Production}
+use Rattle.cpp_grammar.specs.declared.production.Operation.{Operation}
 use Rattle.cpp_grammar.specs.Grammar.{kinds, number_of, number_of_kind, parts_of, is_chain}
 use Rattle.cpp_grammar.specs.Term.{Qualifiers, RefQualifier, any_value, lvalue_only, rvalue_only, explicit_object, Term, in_std, instance, local, parameter, string_literal}
 use Rattle.cpp_grammar.specs.Values as values
@@ -63,7 +64,7 @@ given-named around t w s mid old c b g some eight scope other gw few =
     subst (λ u. Gains name g around (tree u false) old s b) (sym same)
     (named-made around (instance t a) s old b g (omega arith, refl) refl gw.small (omega (arith, gw.few, over_, few, full-most t, eight)))
 
--- what comes of a name and what may be arguments after it
+-- what is paid for a name and for the arguments that may come after it
 pub applied-named : (around : Around) (t : Term) (w : Value) (s mid old : State) (c b g : ℕ) → part t ≡ 8 → is_encoding t ≡ false
     → is_function_type t ≡ false → Gains arguments 0 (after t false around) w mid s c
     → wealth mid + 8 * c + (size t + 9) ≤ wealth old + lent around.prefix + 8 * b + g → Gains name g around (tree (applied t w) false) old s b
@@ -74,7 +75,7 @@ applied-named around t w s mid old c b g eight scope other gw few = go gw.known
     go (inl none) = bare-named around t w s mid old c b g none eight scope other gw few
     go (inr some) = given-named around t w s mid old c b g some eight scope other gw few
 
--- a name with one more piece
+-- the size of a name with one more piece
 extended-size : (prefix : Prefix) (p : Term) → size (extended prefix p) ≤ 2 + fronted prefix + size p
 unfolding extended size fronted
 extended-size outermost p = omega arith
@@ -84,7 +85,7 @@ part-most : (t : Term) → part t ≤ size t + 8
 unfolding part_of
 part-most t = either_cond (λ n. n ≤ size t + 8) (is_component t) 8 (size t) (λ h. omega arith) (λ h. omega arith)
 
--- a name that is no candidate yet is left more
+-- more is left for a name that is no candidate yet
 fronted-lent : (prefix : Prefix) → fronted prefix ≤ lent prefix
 unfolding fronted lent
 fronted-lent outermost = omega arith
@@ -97,7 +98,7 @@ as-name one around at old v new b ready small all o =
     let g = one around at old v new b ready small all o in
     record { few = omega (arith, g.few, fronted-lent around.prefix); known = g.known; kept = tt; small = g.small }
 
--- where the name so far is a candidate
+-- the name so far, as a candidate
 abbrev listed_prefix : Prefix → Prefix
 listed_prefix outermost = outermost
 listed_prefix (values.behind t listed) = values.behind t true
@@ -127,7 +128,7 @@ unfolding extended is_function_type
 extended-other outermost p = refl
 extended-other (values.behind t listed) p = refl
 
--- what a name that is made of one part needs, and what pays for it
+-- what a name made of one part needs, and what pays for it
 pub record NamePaid (p : Production) (granted : ℕ) (x : Sym) (around : Around) (v : Value) (s : State) (bytes : ℕ) (t : Term) : Type 0 where
   pub eight : part t ≡ 8
   pub scope : is_encoding t ≡ false
@@ -160,7 +161,7 @@ named-by-row p m x second granted row parts is closed ready given_ pays around a
     paid.other g
     (omega (arith, o.sum, n.sum, n.first.few, paid.few, w.sum, w.onward.1, listed-lent around.prefix))))
 
--- a name that goes on
+-- a name that continues
 going-by-row : (p : Production) (m : Made) (x : Sym) → row_of p ≡ naming m (handed 1)
     → parts_of p ≡ x ∷ OfKind (number_of_kind Kind.NestRest) ∷ [] → part_passes (may_be_part true) x ≡ true → refers p ≡ false
     → NamePays p 0 m x → Free p name 0
@@ -288,7 +289,7 @@ nest-template around at old v new b ready small all o =
       small = g1.small;
     })
 
--- what is lent before a name goes on pays for the candidate that it becomes, and for a reference to it
+-- what is lent before a name continues pays for the candidate that it becomes, and for a reference to it
 prefix-lent : (p : Prefix) → IsBehind p → SmallPrefix p → owed p + front (prefix_tree p) ≤ lent p
 unfolding IsBehind SmallPrefix owed lent prefix_tree
 prefix-lent outermost behind small = absurd behind
@@ -500,6 +501,7 @@ name-pays Production.NestedName is = λ byte around old idle small r s0 n0 k0 w 
       kept = tt;
       small = all;
     }
+name-pays (Production.Operation Operation.ExpressionC) is = absurd (false≢true is)
 name-pays _ is = absurd (false≢true is)
 
 pub name-gains : (p : Production) → is_listed_in name_rows p ≡ true → Free p name 0
@@ -514,6 +516,7 @@ further-pays : (p : Production) → is_listed_in further_rows p ≡ true → Pay
 unfolding is_listed_in further_rows kinds number_of number_of_kind parts_of is_chain unfolding_.behind meaning values.part class_of grant cost_of credit_of Knows need loan returned IsKnown IsKept letters_in tree_of qualifiers_of ref_of
 further-pays Production.AnyConstructor is = λ byte around old idle small v s n k all b few. record { few = omega (arith, few); known = k; kept = tt; small = all }
 further-pays Production.ComponentWithC is = λ byte around old idle small v s n k all b few. record { few = omega (arith, few); known = k; kept = tt; small = all }
+further-pays (Production.Operation Operation.ExpressionC) is = absurd (false≢true is)
 further-pays _ is = absurd (false≢true is)
 
 pub further-gains : (p : Production) → is_listed_in further_rows p ≡ true → Free p further 0

@@ -1,4 +1,4 @@
--- The parts of a production that was read, each with what its bytes paid for.
+-- The parts of a production that was read, and what the bytes of each pay for.
 use Rattle.std.proofs.Common.{◌≡◌, ℕ, zero, suc, ◌+◌, ◌*◌, ◌-◌, ◌<◌, ◌≤◌, length, List, [], ◌∷◌, ◌++◌, Bool, true, false, cond, Option, Some, None, Ok, Err, refl, ap, sym, subst, ◌∙◌, arith, length-append}
 use Rattle.std.specs.Prelude.{codes, not, nat_lt, ◌/◌, ◌%◌}
 use Rattle.std.proofs.Math.Nat.{mul_assoc}
@@ -94,7 +94,7 @@ abbrev pub NumberPaid : NumberKind → (bytes : ℕ) → Value → Type 0
 NumberPaid kind bytes v =
     (1 ≤ bytes) × (length (text_of v) ≤ bytes) × (kind ≡ Decimal → length (ordinal (counted_value Decimal (text_of v))) ≤ bytes)
 
--- ten times so much for each digit
+-- ten times k for each digit
 unfoldable tens : ℕ → List ℕ → ℕ
 tens k [] = k
 tens k (d ∷ ds) = tens (k * 10) ds
@@ -178,7 +178,7 @@ byte-paid c (token t) around at state after v is e = absurd is
 
 -- ## Parts
 
--- what the bytes of a part paid for
+-- what the bytes of a part pay for
 abbrev pub SymGains : Sym → Around → Value → (old new : State) → (bytes : ℕ) → Type 0
 SymGains (OfKind k) around v old new bytes =
     (kind : Kind) → number_of_kind kind ≡ k → Ready kind around.prefix → SmallPrefix around.prefix → AllSmall old.candidates
@@ -246,7 +246,7 @@ pub record Ended (p : Production) (around : Around) (at : ℕ) (old : State) (v 
   pub paid : Paid p around at inner (parts_of p) others [] old
   pub closes : close p byte around at old inner.value inner.state ≡ Ok (found v new)
 
--- what holds of what a production comes to
+-- a fact of the meaning of a production is a fact of what the production was read as
 pub comes-to : {p : Production} {around : Around} {at : ℕ} {old : State} {v : Value} {new : State} {bytes : ℕ} (P : Value → State → Type 0)
     (o : Ended p around at old v new bytes) (vs : List Value) (s : State) (m : Value) (t : State) → found vs s ≡ o.inner
     → close p o.byte around at old vs s ≡ Ok (found m t) → P m t → P v new

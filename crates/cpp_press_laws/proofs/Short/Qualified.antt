@@ -1,4 +1,4 @@
--- What is paid for types under qualifiers, types with arguments, and what is named again.
+-- What is paid for types under qualifiers, types with arguments, and types that a substitution names.
 use Rattle.std.proofs.Common.{◌≡◌, ℕ, zero, suc, ◌+◌, ◌*◌, ◌-◌, ◌≤◌, ◌⊎◌, inl, inr, length, List, [], ◌∷◌, Bool, true, false, cond, Some, Ok, refl, ap, sym, subst, ◌∙◌, arith}
 use Rattle.std.specs.Prelude.{not, ◌&&◌, nat_eq, slice_get}
 use Rattle.std.proofs.lemmas.Bool.{false≢true, true≢false}
@@ -7,6 +7,7 @@ use Rattle.sym_core.specs.Value.{counted_value}
 use Rattle.sym_link.specs.Unfold.{found}
 use Rattle.cpp_grammar.specs.declared.kind.Kind.{Kind}
 use Rattle.cpp_grammar.specs.declared.production.Production.{Production}
+use Rattle.cpp_grammar.specs.declared.production.Operation.{Operation}
 use Rattle.cpp_grammar.specs.Grammar.{kinds, number_of, number_of_kind, parts_of, is_chain}
 use Rattle.cpp_grammar.specs.Rows.{row_of}
 use Rattle.cpp_grammar.specs.Term.{Qualifiers, Term, symbol, instance, parameter, lvalue, rvalue, function_type, qualified, integer}
@@ -36,7 +37,7 @@ use Rattle.cpp_press_laws.proofs.Short.Names.{parameter-goes}
 
 -- ## Conversions
 
--- a name is a type where no name comes before
+-- where no name comes before, a name is a type
 pub as-type : {around : Around} {v : Value} {old new : State} {b : ℕ} → lent around.prefix ≡ 0 → Gains name 0 around v old new b
     → Gains type 0 around v old new b
 unfolding need typed loan returned IsKnown IsKept
@@ -51,7 +52,7 @@ as-type {around} {v} idle g = record {
     most true = omega arith
     most false = full-most (tree_of v)
 
--- more is granted
+-- granting more pays as well
 pub granted : {c : Class} {around : Around} {v : Value} {old new : State} {b : ℕ} (g : ℕ) → Gains c 0 around v old new b → Gains c g around v old new b
 granted g one = record { few = omega (arith, one.few); known = one.known; kept = one.kept; small = one.small }
 
@@ -180,6 +181,7 @@ qualified-pays bare Production.PlainWithD is = λ byte around old idle small v s
 qualified-pays type Production.ConstType is = λ byte around old idle small v s n k all b few. qualified-here around _ v s old b refl all (omega (arith, few))
 qualified-pays type Production.VolatileType is = λ byte around old idle small c s0 n0 k0 v s n k all b few. qualified-here around _ v s old b refl all (omega (arith, few))
 qualified-pays type Production.RestrictType is = λ byte around old idle small w s0 n0 k0 c s1 n1 k1 v s n k all b few. qualified-here around _ v s old b refl all (omega (arith, few))
+qualified-pays _ (Production.Operation Operation.ExpressionC) is = absurd (false≢true is)
 qualified-pays _ _ is = absurd (false≢true is)
 
 qualified-go : (c : Class) → each_goes (may_be_part false) (qualified_rows c) ≡ true
@@ -294,7 +296,7 @@ parameter-gains around at old v new b idle small all o =
     (applied-type around (parameter k) true p1.value p1.after q.mid old p1.own b 0 refl (λ h. absurd (true≢false h)) (λ h is. absurd (false≢true is)) g1
     (omega (arith, o.sum, ap (λ s. wealth s) g0.0, g0.1.0, g0.1.2 refl, p0.sum, q.grown.few, p1.sum, p1.onward.1)))
 
--- where a letter before it paid
+-- the same, where the letter before paid
 abbrev pub Granted : Production → Type 0
 Granted p =
     (around : Around) (at : ℕ) (old : State) (v : Value) (new : State) (b : ℕ) → lent around.prefix ≡ 0 → SmallPrefix around.prefix
@@ -378,7 +380,7 @@ named-gains around v mid new old b r all few =
       small = kept_;
     })
 
--- what a substitution names is a candidate already
+-- a tree that a substitution names is a candidate already
 pub substitution-gains : Free Production.Substitution type 0
 unfolding parts_of between is_chain close unfolding_.behind meaning values.part class_of grant Gained Ready ready_for need typed loan returned IsKnown IsKept
 substitution-gains around at old v new b ready small all o =

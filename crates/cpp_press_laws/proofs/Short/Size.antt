@@ -1,4 +1,4 @@
--- How many bytes a tree takes where it is spelled out, if each component in it is a reference of eight bytes.
+-- How many bytes a spelled-out tree takes, if each component in it is a reference of eight bytes.
 use Rattle.std.proofs.Common.{ℕ, ◌+◌, ◌-◌, ◌≤◌, length, List, [], ◌∷◌, arith}
 use Rattle.std.specs.Prelude.{cond}
 use Rattle.cpp_grammar.specs.Term.{Term, symbol, function, object, special, thunk, of_name, construction, clone, alone, in_std, within, instance, local, holder, tagged, abbreviation, parameter, source, operator, literal_operator, constructor, destructor, lambda, unnamed, string_literal, conversion, builtin, sized_float, vendor, pointer, lvalue, rvalue, array, member_pointer, function_type, qualified, vector, complex, expansion, integer, boolean, null_pointer, encoding_literal, address_of, pack, list, generic_lambda, enumeration}
@@ -8,7 +8,8 @@ use Rattle.cpp_grammar.proofs.Chosen.{either_cond}
 use Rattle.cpp_press_laws.specs.Texts.{counted, ordinal, signed_text, qualifier_letters, name_letters, thunk_text, discriminator_text}
 use Rattle.cpp_press_laws.specs.Pressing.{is_component, is_name, is_encoding}
 
--- a tree of so many bytes as a part, as a prefix, right under qualifiers, between N and E, as the parameters of a function
+-- the bytes of a tree of this size as a part, as a prefix, right under qualifiers, between N and E, as the parameters
+-- of a function
 unfoldable pub part_of : Term → (own : ℕ) → ℕ
 part_of t own = cond (is_component t) 8 own
 
@@ -82,7 +83,7 @@ size (address_of e) = 8 + size e
 size (pack elements) = 2 + size elements
 size _ = 1
 
--- a reference was paid already where the tree is a part
+-- the bytes beyond those of a reference, which is paid where the tree is a part
 unfoldable pub over : ℕ → ℕ
 over n = n - 8
 

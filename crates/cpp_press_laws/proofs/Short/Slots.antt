@@ -19,7 +19,7 @@ use Rattle.cpp_press_laws.proofs.Short.Size.{size, over, part_of, bare_of, name_
 use Rattle.cpp_press_laws.proofs.Short.Worth.{is_among, has-among, among-has, is_again, full, worth, worths}
 use Rattle.cpp_press_laws.proofs.Short.Spelled.{cost, costs}
 
--- what a function type under these qualifiers takes, where it was a component before
+-- the bytes of a function type under these qualifiers that was a component before
 unfoldable again : Qualifiers → (compared : Bool) → (before : List Component) → (encoding : ℕ) → Term → ℕ
 again q b before n (qualified p f) = cond (b && (same_qualifiers q p && (is_function_type f && is_among n f before))) (size f) 0
 again q b before n _ = 0
@@ -28,7 +28,7 @@ unfoldable agains : Qualifiers → (before components : List Marked) → ℕ
 agains q before [] = 0
 agains q before (c ∷ cs) = again q c.was_compared (unmarked before) c.component.encoding c.component.tree + agains q (before ++ c ∷ []) cs
 
--- a component that isn't spelled out again under these qualifiers yet
+-- the bytes of a component, if it may still be spelled out under these qualifiers
 unfoldable slot : Qualifiers → (all : List Component) → Component → ℕ
 slot q all c = cond (is_function_type c.tree) (cond (is_among c.encoding (qualified q c.tree) all) 0 (size c.tree)) 0
 
@@ -80,7 +80,7 @@ new-none n t [] new has = has
 new-none n t (c ∷ cs) new (inl same) = false≢true (sym new.0 ∙ same)
 new-none n t (c ∷ cs) new (inr later) = new-none n t cs new.1 later
 
--- an equal function type has a slot that is taken
+-- the slot of an equal function type is taken
 slot-taken : (q : Qualifiers) (n : ℕ) (f : Term) (all : List Component) (c : Component) → is_function_type f ≡ true → IsNew n (qualified q f) all
     → (f ≡ c.tree) × ((is_open f ≡ false) ⊎ (c.encoding ≡ n))
     → slot q (all ++ record { tree = qualified q f; encoding = n } ∷ []) c + size f ≤ slot q all c
@@ -124,7 +124,7 @@ slots-taken q n f all (c ∷ cs) is new among = go (is_same n f c) refl among (s
 
 -- ## Components in turn
 
--- one that is spelled out again takes a slot
+-- a function type that is spelled out again takes a slot
 again-slots : (q : Qualifiers) (b : Bool) (before : List Component) (n : ℕ) (t : Term) → (b ≡ true → IsNew n t before)
     → again q b before n t + slots q (before ++ record { tree = t; encoding = n } ∷ []) before ≤ slots q before before
 unfolding again
@@ -201,7 +201,7 @@ seven-most false true false true k some is = omega arith
 seven-most false false true true k some is = omega arith
 seven-most false false false true k some is = absurd (false≢true some)
 
--- what is worth nothing is one of those that are spelled out again
+-- a component costs what it is worth, or is one of those that are spelled out again
 cost-worth : (b : Bool) (before : List Component) (n : ℕ) (t : Term)
     → cost (record { component = record { tree = t; encoding = n }; was_compared = b }) ≤ worth before n t + seven (λ q. again q b before n t)
 unfolding cost worth is_again full again name_of is_name size bare_of is_function_type over
@@ -254,7 +254,7 @@ unfolding functions worths
 functions-worth before [] = omega arith
 functions-worth before (c ∷ cs) = omega (arith, function-worth before c.encoding c.tree, functions-worth (before ++ c ∷ []) cs)
 
--- What is spelled out of components takes at most eight times what they are worth.
+-- The components that are spelled out take at most eight times what they are worth.
 pub costs-most : (t : Term) (cs : List Marked) → AreApartBehind t [] cs → costs cs ≤ 8 * worths [] (unmarked cs)
 unfolding slots
 costs-most t cs apart =

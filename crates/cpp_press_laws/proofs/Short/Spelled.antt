@@ -1,4 +1,4 @@
--- What is pressed has at most the bytes of its tree, and those of the components that it spells out.
+-- A pressed spelling has at most the bytes of its tree and those of the components that it spells out.
 use Rattle.std.proofs.Common.{◌≡◌, ℕ, zero, suc, ◌+◌, ◌-◌, ◌<◌, ◌≤◌, length, List, [], ◌∷◌, ◌++◌, Option, Some, None, Bool, true, false, refl, arith, sym, subst, length-append}
 use Rattle.std.specs.Prelude.{cond, codes, ◌&&◌}
 use Rattle.sym_spell.specs.Pressing as spell
@@ -21,7 +21,7 @@ use Rattle.cpp_press_laws.proofs.Short.Size.{part_of, front_of, bare_of, name_of
 
 -- ## What components take
 
--- a component without the bytes of a reference to it, if it was compared, or else its name
+-- the bytes that a component costs: beyond those of a reference to it, if it was compared, or else those of its name
 unfoldable pub cost : Marked → ℕ
 cost c = over (cond c.was_compared (size c.component.tree) (name_of c.component.tree (size c.component.tree)))
 
@@ -37,7 +37,7 @@ costs-one (d ∷ cs) c = omega (arith, costs-one cs c)
 abbrev pub Written : Type 0
 Written = spell.Pressed Marked
 
--- so many bytes, beside what is spelled out of components, as long as each reference has eight bytes at most
+-- at most k bytes, beside the components that are spelled out, as long as each reference has at most eight bytes
 pub record ShortAt (k : ℕ) (cs : List Marked) (w : Written) : Type 0 where
   pub grows : length cs ≤ length w.components
   pub short : length w.components ≤ 2176782336 → length w.bytes + costs cs ≤ k + costs w.components
@@ -70,7 +70,7 @@ and-short a b f g one two place cs =
       short = λ few. omega (arith, x.short (omega (arith, few, y.grows)), y.short few, length-append w.bytes v.bytes);
     }
 
--- in so many bytes
+-- two spellings together have at most c bytes
 and-within : (a b c : ℕ) (f g : Spelling) → a + b ≤ c → Short a f → Short b g → Short c (f and g)
 and-within a b c f g le one two = less (a + b) c (f and g) le (and-short a b f g one two)
 

@@ -4,6 +4,7 @@ use Rattle.std.specs.Prelude.{◌&&◌, nat_eq}
 use Rattle.std.proofs.lemmas.Bool.{false≢true, true≢false}
 use Rattle.cpp_grammar.specs.declared.kind.Kind.{Kind}
 use Rattle.cpp_grammar.specs.declared.production.Production.{Production}
+use Rattle.cpp_grammar.specs.declared.production.Operation.{Operation}
 use Rattle.cpp_grammar.specs.Grammar.{kinds, number_of, number_of_kind, parts_of, is_chain}
 use Rattle.cpp_grammar.specs.Rows.{row_of}
 use Rattle.cpp_grammar.specs.Term.{Term, symbol, lvalue, rvalue, expansion, encoding_literal, nil, list}
@@ -24,19 +25,19 @@ use Rattle.cpp_press_laws.proofs.Short.Gains.{wealth, AllSmall, type, operands, 
 use Rattle.cpp_press_laws.proofs.Short.Paid.{Ended, comes-to}
 use Rattle.cpp_press_laws.proofs.Short.ByRow.{is_read, part_passes, parts_pass, cost_of, credit_of, Knows, all_quiet, refers, Pays, row_goes, by-row, is_listed_in, each_goes, one-goes, may_read, may_be_part, Standing}
 
--- where no name comes before
+-- a production of a class that is read where no name comes before
 abbrev pub Idle : Production → Class → Type 0
 Idle p c =
     (around : Around) (at : ℕ) (old : State) (v : Value) (new : State) (b : ℕ) → lent around.prefix ≡ 0 → SmallPrefix around.prefix
     → AllSmall old.candidates → Ended p around at old v new b → Gains c 0 around v old new b
 
--- wherever it is
+-- a production of a class that is read anywhere
 abbrev pub Free : Production → Class → ℕ → Type 0
 Free p c granted =
     (around : Around) (at : ℕ) (old : State) (v : Value) (new : State) (b : ℕ) → Unit {0} → SmallPrefix around.prefix
     → AllSmall old.candidates → Ended p around at old v new b → Gains c granted around v old new b
 
--- a type that isn't a candidate yet, and one that never is one
+-- a type that isn't a candidate yet; and one that never becomes one
 pub made : (around : Around) (t : Term) (s old : State) (b : ℕ) → part t ≡ 8 → is_encoding t ≡ false → AllSmall s.candidates → wealth s + (full t + 8) ≤ wealth old + 8 * b
     → Gains type 0 around (tree t false) old s b
 unfolding need typed is_listed tree_of loan returned IsKnown IsKept
@@ -106,7 +107,7 @@ operation-listed around first v s old b known all few =
     (listed around (operation_or_address is_address first second known.1 known.2) s old b short.2 short.1 all
     (omega (arith, few, short.0, ap (λ w. part (tree_of w)) known.3)))
 
--- in parentheses or not
+-- an argument in parentheses, or without them
 enclosed-listed : (around : Around) (v : Value) (s old : State) (b : ℕ) → AllSmall s.candidates → IsKnown type around v s
     → wealth s + typed v ≤ wealth old + 8 * b → Gains type 0 around (enclosed_argument v) old s b
 unfolding enclosed_argument in_parentheses need typed loan returned IsKept size part_of is_component is_function_type is_encoding
@@ -115,7 +116,7 @@ enclosed-listed around v s old b all known few =
     (λ h. listed around (in_parentheses (tree_of v)) s old b refl refl all (omega (arith, few, part-some (tree_of v))))
     (λ h. record { few = omega (arith, few); known = known; kept = tt; small = all })
 
--- what an E ends is known of the state before it
+-- what is known of an argument that an E ends is known of the state before the E
 pub addressed-gains : Idle Production.AddressedLiteral type
 unfolding parts_of between is_chain close unfolding_.behind meaning values.part class_of grant Gained Ready ready_for need typed loan returned IsKnown IsKept
 addressed-gains around at old v new b idle small all o =
@@ -152,7 +153,7 @@ listed-among around v s false h known is =
     subst (λ l. is_among around.encoding (tree_of v) (components_of (elim l as (λ _. State) [ true ↦ s | false ↦ appended around (tree_of v) s ]).candidates) ≡ true)
     (sym h) (appended-among around (tree_of v) s)
 
--- a type that becomes a candidate here, if it's none yet
+-- a type that becomes a candidate here, unless it is one
 listed-here : (around : Around) (v : Value) (s old : State) (b : ℕ) → AllSmall s.candidates → IsKnown type around v s
     → wealth s + typed v ≤ wealth old + 8 * b → Gains type 0 around (tree (tree_of v) true) old (with_type around v s) b
 unfolding need typed is_listed tree_of loan returned IsKnown IsKept
@@ -197,7 +198,7 @@ held-signed (signed n) = omega arith
 held-signed nothing_there = omega arith
 held-signed _ = omega arith
 
--- what a part is read as, where it is a type
+-- the value of a part that is a type
 pub handed : (around : Around) (v : Value) (s old : State) (b : ℕ) → IsKnown type around v s → AllSmall s.candidates
     → wealth s + typed v ≤ wealth old + 8 * b → Gains type 0 around v old s b
 unfolding need loan returned IsKept
@@ -235,9 +236,10 @@ type-pays Production.TypeWithD is = λ byte around old idle small v s n k all b 
 type-pays Production.ItemWithD is = λ byte around old idle small v s n k all b few. listed-here around v s old b all k (omega (arith, few))
 type-pays Production.PlainArgument is = λ byte around old idle small v s n k all b few. listed-here around v s old b all k (omega (arith, few))
 type-pays Production.ArgumentWithT is = λ byte around old idle small v s n k all b few. listed-here around v s old b all k (omega (arith, few))
+type-pays (Production.Operation Operation.ExpressionC) is = absurd (false≢true is)
 type-pays _ is = absurd (false≢true is)
 
--- wherever it is
+-- an abbreviation, anywhere
 pub abbreviation-gains : Free Production.Abbreviation type 0
 unfolding is_listed_in type_rows kinds number_of number_of_kind parts_of is_chain unfolding_.behind meaning values.part row_goes all_quiet refers parts_pass part_passes may_be_part is_read class_of row_of full over size part_of is_component is_function_type is_encoding may_read
 abbreviation-gains = by-row true Production.Abbreviation type 0 refl (λ byte around old idle small all b few. listed around _ old old b refl refl all (omega (arith, few)))

@@ -1,6 +1,6 @@
--- What components are worth: the bytes that each takes where it is spelled out, beside those of a reference. A function type is worth
--- what it takes as a whole, since it is spelled out again under each set of qualifiers; right under them, one that was a component
--- before is worth nothing.
+-- What components are worth: the bytes that each takes where it is spelled out, beyond those of a reference. A function
+-- type is worth all of its bytes, since it is spelled out again under each set of qualifiers. Right under qualifiers, a
+-- function type that was a component before is worth nothing.
 use Rattle.std.proofs.Common.{◌≡◌, ℕ, ◌+◌, ◌≤◌, ◌⊎◌, inl, inr, length, List, [], ◌∷◌, ◌++◌, Bool, true, false, refl, ap, sym, ◌∙◌, arith, append_assoc, append-nil}
 use Rattle.std.specs.Prelude.{cond, ◌&&◌, ◌||◌}
 use Rattle.cpp_grammar.specs.Term.{Term, qualified}
@@ -34,12 +34,12 @@ among-has n t (c ∷ cs) is = go (is_same n t c) refl is (among-has n t cs)
     go true same h later = inl same
     go false same h later = inr (later h)
 
--- of a function type right under qualifiers that was a component before
+-- whether the tree is a function type right under qualifiers that was a component before
 unfoldable pub is_again : (before : List Component) → (encoding : ℕ) → Term → Bool
 is_again before n (qualified q t) = has_letters q && (is_function_type t && is_among n t before)
 is_again before n _ = false
 
--- whatever came before
+-- what a tree is worth, whatever came before it
 unfoldable pub full : Term → ℕ
 full t = cond (is_function_type t) (1 + size t) (1 + over (size t))
 

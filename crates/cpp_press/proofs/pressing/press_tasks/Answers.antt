@@ -11,7 +11,7 @@ use Rattle.cpp_spelling.specs.Standings.{standing_of, template_standing_of}
 use Rattle.cpp_press.proofs.Going.{popped, task-there, weight-there, changed-goes, text-goes, ended-goes, first-goes, last-goes, last-few}
 use Rattle.cpp_press.proofs.pressing.press_tasks.Goals as goal
 
--- ## What each task asks for is there
+-- ## What each task requires
 
 pub push_text-requires-clause-there : goal.push_text-requires-clause-there
 push_text-requires-clause-there c =

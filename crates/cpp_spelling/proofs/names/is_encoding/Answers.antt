@@ -11,7 +11,7 @@ use Rattle.cpp_layout.specs.Layout.{table_of}
 use Rattle.cpp_press_laws.specs.Pressing.{is_encoding}
 use Rattle.cpp_spelling.proofs.names.is_encoding.Goals as goal
 
--- a node is an encoding as its tree is
+-- a node is an encoding exactly if its tree is one
 kept : (s : List ℕ) (us : List Thunk) (ts : List Term) (n : Node) → is_again n ≡ false → nodes.is_encoding n ≡ is_encoding (erase (tree_of s us ts n))
 unfolding nodes.is_encoding is_encoding erase tree_of is_again
 kept s us ts (Node.Reargued t a) own = absurd (true≢false own)

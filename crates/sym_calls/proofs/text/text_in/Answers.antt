@@ -1,14 +1,7 @@
-use Rattle.std.proofs.Common.{true, false}
-use Rattle.sym_calls.specs.Calls.{EndsAs, name_or_type_told}
-use Rattle.sym_calls.proofs.Ending.{by-legacy}
 use Rattle.sym_calls.proofs.text.text_in.Goals as goal
 
-pub returns-then-asked : goal.returns-then-asked
-returns-then-asked g c =
-    by-legacy (λ answers found. EndsAs (name_or_type_told answers c.args.asked c.args.name.now c.args.buffer.now) c.args.buffer.now found) g.C.Mangling.mangled c.args.asked true c.args.limit _ _ _
-    c.if-asked.true c.with_legacy-legacy.ensures.limit c.with_legacy-legacy.ensures.detail (c.or_type.ensures c.args.buffer.now c.legacy_once-outcome.ensures)
+pub returns-in-Whole : goal.returns-in-Whole
+returns-in-Whole g c = rw (c.in-Whole.is) c.whole_in.ensures
 
-pub returns : goal.returns
-returns g c =
-    by-legacy (λ answers found. EndsAs (name_or_type_told answers c.args.asked c.args.name.now c.args.buffer.now) c.args.buffer.now found) g.C.Mangling.mangled c.args.asked false c.args.limit _ _ _
-    c.if-asked.false c.languages-languages.ensures.limit c.languages-languages.ensures.detail (c.or_type-2.ensures c.args.buffer.now c.name_once-outcome.ensures)
+pub returns-in-Short : goal.returns-in-Short
+returns-in-Short g c = rw (c.in-Short.is) c.short_in.ensures

@@ -3,6 +3,8 @@ use Rattle.std.proofs.lemmas.List.Elements.{All-same}
 use Rattle.sym_print.specs.declared.layout.Part.TheVariants.{Sub}
 use Rattle.sym_print.specs.Joined.{text_of_stack, cost_of_stack, steps_of_stack}
 use Rattle.sym_print.proofs.Stack.{next_may_come, All-visit, replaced, text_of_visit, cost_of_visit, steps_of_visit}
+use Rattle.sym_print.specs.Peak.{peak_of_stack}
+use Rattle.sym_print.proofs.Peak.{peak_of_visit}
 use Rattle.sym_print.proofs.entries.open_item.Given as given
 use Rattle.sym_print.proofs.entries.open_item.Goals as goal
 
@@ -52,3 +54,11 @@ returns-clause-parts g c = record {
   all = c.push_parts.ensures.parts.all;
   joined = c.push_parts.ensures.parts.joined;
 }
+
+pub returns-clause-peak : goal.returns-clause-peak
+returns-clause-peak g c =
+    peak_of_visit (g.Y.Layout.unshared c.args.y.now) (g.Y.Layout.bytes_of c.args.y.now) c.args.stack.now.items c.push_parts.new.stack.items c.push_parts.ensures.parts.added c.args.item c.requires.next c.push_parts.ensures.parts.joined (there g c)
+    (omega (arith, c.in_ok-take_item.ensures.len, c.push_parts.ensures.few, c.args.stack.now.ok.0, c.push_parts.new.stack.ok.0))
+
+pub returns-in_err-take_item-clause-peak : goal.returns-in_err-take_item-clause-peak
+returns-in_err-take_item-clause-peak g c = omega (arith, ap (peak_of_stack (g.Y.Layout.unshared c.args.y.now)) c.in_err-take_item.ensures.err.0)

@@ -8,6 +8,7 @@ use Rattle.sym_print.specs.Joined.{IsNext, IsText, text_of_stack, cost_of_stack,
 use Rattle.sym_print.proofs.Stack.{without_last, text_of_write, cost_of_next, cost_of_text, steps_of_next, steps_of_text}
 use Rattle.sym_print.specs.Noted.{EndsAt}
 use Rattle.sym_print.proofs.Noting.{noted-unmet, noted-moved, moves-text}
+use Rattle.sym_print.proofs.Peak.{peak_of_left}
 use Rattle.sym_print.proofs.entries.print_entries.Given as given
 use Rattle.sym_print.proofs.entries.print_entries.Goals as goal
 
@@ -35,6 +36,8 @@ returns-in_err-write_text-in_default-next g c =
       entry_room = c.loop-next.invariant.7;
       own = rw (p.1, p.2) c.in_err-write_text-in_default-next.ensures.own;
       text_room = omega (arith, c.write_text.ensures.room, c.loop-next.invariant.8);
+      peak = c.loop-next.invariant.10;
+      bounded = c.loop-next.invariant.11;
       done = rw p.1 tt;
       too_long = λ same. omega (
         arith,
@@ -70,6 +73,8 @@ returns-in_err-print_item-in-Sub g c =
       entry_room = omega (arith, c.print_item.ensures.entry_room, c.loop-next.invariant.7);
       own = rw (p.1, p.2) c.in_err-print_item-in-Sub.ensures.own;
       text_room = omega (arith, c.print_item.ensures.text_room, c.loop-next.invariant.8);
+      peak = omega (arith, c.print_item.ensures.peak, c.loop-next.invariant.10);
+      bounded = omega (arith, c.print_item.ensures.bounded, c.loop-next.invariant.10, c.loop-next.invariant.11);
       done = rw p.1 tt;
       too_long = λ same. omega (arith, c.in_err-print_item-in-Sub.ensures.too_long (ap refused (is TooLong same)), c.loop-next.invariant.2, c.loop-next.invariant.6);
       memory = λ same. elim (c.in_err-print_item-in-Sub.ensures.memory (ap refused (is Memory same))) [
@@ -130,6 +135,8 @@ loop-next-preserved g c =
           c.in_ok-write_text-in_default-next.ensures.ok c.in_ok-write_text-in_default-next.ensures.spent c.in_ok-write_text-in_default-next.ensures.steps c.write_text.ensures.some)
           (noted-unmet (g.Y.Layout.unshared c.args.y.now) (g.Y.Layout.bytes_of c.args.y.now) c.loop-next.notes c.loop-next.stack.items c.loop-next.text.items c.loop-next.meter.spent c.loop-next.meter.steps
           c.len.result c.loop-next.invariant.9 (c.len.ensures ∙ c.loop-next.stack.ok.0) (c.is_whole.ensures.unmet c.if-is_whole.false)) c.loop-next.invariant.9,
+      omega (arith, peak_of_left unshared bytes_of stack c.take_last.new.self.items part next (left g c), c.loop-next.invariant.10),
+      omega (arith, c.take_last.ensures.capacity, c.loop-next.invariant.11),
     )
 
 pub loop-next-preserved-in-Continue-1 : goal.loop-next-preserved-in-Continue-1
@@ -144,6 +151,8 @@ loop-next-preserved-in-Continue-1 g c = (
   omega (arith, c.print_item.ensures.entry_room, c.loop-next.invariant.7),
   omega (arith, c.print_item.ensures.text_room, c.loop-next.invariant.8),
   c.in_ok-print_item-in-Sub.ensures.noted,
+  omega (arith, c.print_item.ensures.peak, c.loop-next.invariant.10),
+  omega (arith, c.print_item.ensures.bounded, c.loop-next.invariant.10, c.loop-next.invariant.11),
 )
 
 pub returns-clause-paid : goal.returns-clause-paid
@@ -175,3 +184,9 @@ returns-clause-text_room g c = c.loop-next.invariant.8
 
 pub returns-clause-own : goal.returns-clause-own
 returns-clause-own g c = tt
+
+pub returns-clause-peak : goal.returns-clause-peak
+returns-clause-peak g c = c.loop-next.invariant.10
+
+pub returns-clause-bounded : goal.returns-clause-bounded
+returns-clause-bounded g c = c.loop-next.invariant.11

@@ -1,4 +1,4 @@
-use Rattle.std.proofs.Common.{◌≡◌, Err, Result, arith, ap}
+use Rattle.std.proofs.Common.{◌≡◌, ◌+◌, ◌≤◌, Err, Result, arith, ap}
 use Rattle.std.proofs.lemmas.List.Elements.{All-contains}
 use Rattle.std.proofs.lemmas.Result.{err_from_is_err_and}
 use Rattle.sym_core.specs.declared.Refusal.{Refusal}
@@ -7,6 +7,8 @@ use Rattle.sym_print.specs.declared.layout.Part.TheVariants.{Sub}
 use Rattle.sym_print.specs.Noted.{IsNote}
 use Rattle.sym_print.proofs.Stack.{cost_of_next}
 use Rattle.sym_print.proofs.Noting.{moves-again, moves-parts, text-moved, cost-moved, steps-moved, noted-moved, noted-same, again-paid, again-too-dear}
+use Rattle.sym_print.specs.Peak.{peak_of_stack}
+use Rattle.sym_print.proofs.Peak.{stack_within, peak_of_left}
 use Rattle.sym_print.proofs.entries.print_item.Goals as goal
 
 pub returns-in-Some-clause-text : goal.returns-in-Some-clause-text
@@ -81,3 +83,29 @@ returns-in_err-open_item-clause-too_long g c same =
     let was : c.in_err-open_item.field-0.0 ≡ TooLong = cc (p.1, p.2) in
     let refused : Refusal → Result (Unit {0}) Refusal = λ r. Err r in
     omega (arith, c.in_err-open_item.ensures.too_long (ap refused was), cost_of_next (g.Y.Layout.unshared c.args.y.now) (g.Y.Layout.bytes_of c.args.y.now) c.args.stack.now.items (Sub c.args.item) c.requires.next)
+
+pub returns-in-Some-clause-peak : goal.returns-in-Some-clause-peak
+returns-in-Some-clause-peak g c = peak_of_left (g.Y.Layout.unshared c.args.y.now) (g.Y.Layout.bytes_of c.args.y.now) c.args.stack.now.items c.write_again.new.stack.items (Sub c.args.item) c.requires.next c.in_ok-write_again.ensures.items
+
+pub returns-in_err-write_again-clause-peak : goal.returns-in_err-write_again-clause-peak
+returns-in_err-write_again-clause-peak g c = omega (arith, ap (peak_of_stack (g.Y.Layout.unshared c.args.y.now)) c.in_err-write_again.ensures.same_stack)
+
+pub returns-clause-peak : goal.returns-clause-peak
+returns-clause-peak g c = c.open_item.ensures.peak
+
+pub returns-in_err-open_item-clause-peak : goal.returns-in_err-open_item-clause-peak
+returns-in_err-open_item-clause-peak g c = c.open_item.ensures.peak
+
+pub returns-in-Some-clause-bounded : goal.returns-in-Some-clause-bounded
+returns-in-Some-clause-bounded g c = omega (arith, c.write_again.ensures.same_room)
+
+pub returns-in_err-write_again-clause-bounded : goal.returns-in_err-write_again-clause-bounded
+returns-in_err-write_again-clause-bounded g c = omega (arith, c.write_again.ensures.same_room)
+
+pub returns-clause-bounded : goal.returns-clause-bounded
+returns-clause-bounded g c =
+    omega (arith, c.open_item.ensures.grown.1, stack_within (g.Y.Layout.unshared c.args.y.now) (g.Y.Layout.bytes_of c.args.y.now) c.args.stack.now.items, c.args.stack.now.ok.0)
+
+pub returns-in_err-open_item-clause-bounded : goal.returns-in_err-open_item-clause-bounded
+returns-in_err-open_item-clause-bounded g c =
+    omega (arith, c.open_item.ensures.grown.1, stack_within (g.Y.Layout.unshared c.args.y.now) (g.Y.Layout.bytes_of c.args.y.now) c.args.stack.now.items, c.args.stack.now.ok.0)

@@ -5,6 +5,7 @@ use Rattle.sym_core.specs.declared.Refusal.TheVariants.{TooLong}
 use Rattle.sym_print.specs.declared.meter.Meter.{Meter}
 use Rattle.sym_print.specs.Joined.{cost_of_stack, steps_of_stack}
 use Rattle.sym_print.proofs.Stack.{text_of_write, cost_of_next, cost_of_text, steps_of_next, steps_of_text}
+use Rattle.sym_print.proofs.Peak.{peak_of_left}
 use Rattle.sym_print.proofs.entries.print_text.Given as given
 use Rattle.sym_print.proofs.entries.print_text.Goals as goal
 
@@ -57,3 +58,9 @@ returns-in_err-write_text-clause-too_dear g c same =
       ap (λ (m : Meter). m.spent) (c.in_err-write_text.ensures.err).1,
       ap (λ (m : Meter). m.limit) (c.in_err-write_text.ensures.err).1,
     )
+
+pub returns-clause-peak : goal.returns-clause-peak
+returns-clause-peak g c = peak_of_left (g.Y.Layout.unshared c.args.y.now) (g.Y.Layout.bytes_of c.args.y.now) c.args.stack.now.items c.pop.new.self.items c.args.next.now c.requires.next (left g c)
+
+pub returns-in_err-write_text-clause-peak : goal.returns-in_err-write_text-clause-peak
+returns-in_err-write_text-clause-peak g c = omega arith

@@ -6,7 +6,7 @@ use Rattle.cpp_direct.proofs.TypesRead.{then-there, there}
 use Rattle.cpp_direct.proofs.direct.Direct.discriminator.Goals as goal
 
 pub returns-then-byte_at-ne95 : goal.returns-then-byte_at-ne95
-returns-then-byte_at-ne95 c = (unnumbered, refl, reads-begun c.args.self.now c.args.self.now refl refl refl refl refl refl)
+returns-then-byte_at-ne95 c = (unnumbered, refl, reads-begun c.args.self.now c.args.self.now refl refl refl refl refl)
 
 pub returns-then-digit-eq95 : goal.returns-then-digit-eq95
 returns-then-digit-eq95 c =
@@ -23,7 +23,7 @@ returns-then-digit-eq95 c =
         r.3,
         r.4,
       ),
-      record { text = r.5.text; candidates = r.5.candidates; waiting = r.5.waiting; nest = r.5.nest; scope = r.5.scope; rounds = r.5.rounds },
+      record { text = r.5.text; candidates = r.5.candidates; waiting = r.5.waiting; nest = r.5.nest; scope = r.5.scope },
     ))
 
 pub returns : goal.returns
@@ -40,5 +40,5 @@ returns c =
             (stands-moved s _ (old.at + 1) (digit ∷ []) (omega (arith, c.in_ok-self.ensures)) (c.byte_at-digit.ensures (λ e. omega (arith, e, low)))),
         omega (arith, c.in_ok-self.ensures, c.in_ok-self-3.ensures),
       ),
-      reads-begun old _ refl refl refl refl refl refl,
+      reads-begun old _ refl refl refl refl refl,
     )

@@ -17,5 +17,5 @@ returns c =
       found.1,
       there s place.end c.byte_at.result 95 c.if-byte_at-ne95.false (omega arith) c.byte_at.ensures,
       c.in_ok-self.ensures.1,
-      reads-begun c.args.self.now _ refl refl refl refl refl refl,
+      reads-begun c.args.self.now _ refl refl refl refl refl,
     )

@@ -24,4 +24,4 @@ returns g c =
     (omega (arith, r.3, c.in_ok-push.ensures.at, c.in_ok-self.ensures.1))
     (subst (λ l. Reads old c.lambda_number.new.self l) (sym (append_assoc (codes "{lambda()#") (lambda_number r.0) (codes "}")))
     (reads-then old c.push.new.self c.lambda_number.new.self (codes "{lambda()#") (lambda_number r.0 ++ codes "}")
-    (reads-written old _ c.push.new.self _ _ c.in_ok-push.ensures refl refl refl refl refl refl refl) r.4)))
+    (reads-written old _ c.push.new.self _ _ c.in_ok-push.ensures refl refl refl refl refl refl) r.4)))

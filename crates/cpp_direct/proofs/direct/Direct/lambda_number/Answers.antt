@@ -13,7 +13,7 @@ returns-then-digit-eq95 c =
       tt,
       there s old.at c.byte_at-digit.result 95 c.if-digit-eq95.true (omega arith) c.byte_at-digit.ensures,
       omega (arith, w.at, c.in_ok-self.ensures.1),
-      reads-written old _ c.push.new.self _ _ w refl refl refl refl refl refl refl,
+      reads-written old _ c.push.new.self _ _ w refl refl refl refl refl refl,
     ))
 
 pub returns : goal.returns
@@ -30,5 +30,5 @@ returns c =
       then-there s (digit ∷ []) old.at c.in_ok-self.field-0 c.byte_at.result 95 (c.byte_at-digit.ensures (λ e. omega (arith, e, low))) c.in_ok-self.ensures.1
           c.if-byte_at-ne95.false (omega arith) c.byte_at.ensures,
       omega (arith, w.at, c.in_ok-self-2.ensures.1, c.in_ok-self.ensures.1),
-      reads-written old _ c.push_pair.new.self _ _ w refl refl refl refl refl refl refl,
+      reads-written old _ c.push_pair.new.self _ _ w refl refl refl refl refl refl,
     ))

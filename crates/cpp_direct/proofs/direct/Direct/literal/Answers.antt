@@ -7,7 +7,7 @@ pub named_type-requires-clause-awaits : goal.named_type-requires-clause-awaits
 named_type-requires-clause-awaits g c =
     enumerator-expected _ c.args.self.now (record c.args.self.now { at = c.in_ok-self.field-0 }) c.push.new.self
     (record c.push.new.self { waiting = c.push-2.new.self }) c.requires.awaits c.requires.letter c.in_ok-self.ensures.1
-    (reads-begun c.args.self.now _ refl refl refl refl refl refl) c.in_ok-push.ensures refl refl refl
+    (reads-begun c.args.self.now _ refl refl refl refl refl) c.in_ok-push.ensures refl refl refl
     c.in_ok-push-2.ensures.items refl
 
 pub returns-then-not-is_enumerator_at : goal.returns-then-not-is_enumerator_at

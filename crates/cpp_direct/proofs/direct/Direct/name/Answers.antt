@@ -7,4 +7,4 @@ returns c =
     some-by c.push.result c.push.ensures
     (name-read c.args.s.now c.args.self.now _ c.push.new.self c.in_ok-place.place c.name_text.result.now c.in_ok-place.ensures
     c.name_text.ensures
-    refl refl refl refl refl refl refl)
+    refl refl refl refl refl refl)

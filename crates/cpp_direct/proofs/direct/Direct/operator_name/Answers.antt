@@ -26,5 +26,5 @@ returns c =
         ends = omega (arith, wrote.at, c.in_ok-self-2.ensures.1, c.in_ok-self.ensures.1);
       },
       not-so c.is_angle_code.result _ c.is_angle_code.ensures,
-      reads-written old _ c.push.new.self _ _ wrote refl refl refl refl refl refl text,
+      reads-written old _ c.push.new.self _ _ wrote refl refl refl refl refl text,
     )

@@ -12,3 +12,5 @@ unreachable-requires c = inherited c.args.production c.requires.family
     c.in_default.not-UnnestedBase
     c.in_default.not-BaseArguments
     c.in_default.not-NamedConcept
+    c.in_default.not-NestedConcept
+    c.in_default.not-ConceptArguments

@@ -21,7 +21,6 @@ unreachable-requires c = operands c.args.production c.requires.family
     c.in_default.not-Rethrow
     c.in_default.not-Designated
     c.in_default.not-DesignatedElement
-    c.in_default.not-Designators
     c.in_default.not-DesignatedValue
     c.in_default.not-FieldName
     c.in_default.not-BoundNames

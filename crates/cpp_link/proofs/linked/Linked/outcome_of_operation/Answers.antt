@@ -5,20 +5,4 @@ use Rattle.cpp_link.proofs.linked.Linked.outcome_of_operation.Goals as goal
 pub unreachable-requires : goal.unreachable-requires
 unreachable-requires c = operation c.args.production c.requires.family
     c.in_default.not-ExpressionA
-    c.in_default.not-ExpressionC
-    c.in_default.not-ExpressionD
-    c.in_default.not-ExpressionE
-    c.in_default.not-ExpressionF
-    c.in_default.not-ExpressionG
-    c.in_default.not-ExpressionI
-    c.in_default.not-ExpressionL
-    c.in_default.not-ExpressionM
-    c.in_default.not-ExpressionN
-    c.in_default.not-ExpressionO
-    c.in_default.not-ExpressionP
-    c.in_default.not-ExpressionQ
-    c.in_default.not-ExpressionR
-    c.in_default.not-ExpressionS
-    c.in_default.not-ExpressionT
-    c.in_default.not-Initializer
-    c.in_default.not-BracedInitializer
+    c.in_default.not-Operation

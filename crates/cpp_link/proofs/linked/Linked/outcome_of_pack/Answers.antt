@@ -6,6 +6,11 @@ pub unreachable-requires : goal.unreachable-requires
 unreachable-requires c = pack c.args.production c.requires.family
     c.in_default.not-LeftFold
     c.in_default.not-RightFold
+    c.in_default.not-LeftFoldFrom
+    c.in_default.not-RightFoldFrom
+    c.in_default.not-FoldSigns
+    c.in_default.not-FoldSign
+    c.in_default.not-FoldValue
     c.in_default.not-FoldOperand
     c.in_default.not-FoldPack
     c.in_default.not-PackSize

@@ -16,5 +16,6 @@ unreachable-requires c = unresolved c.args.production c.requires.family
     c.in_default.not-OperatorReference
     c.in_default.not-FunctionParameter
     c.in_default.not-OuterParameter
+    c.in_default.not-AfterOuter
     c.in_default.not-This
     c.in_default.not-ParameterNumber

@@ -31,6 +31,7 @@ step_second_of_name-requires c = record {
   local_temporary = c.in_default.not-LocalTemporary;
   value_of = c.in_default.not-ValueOf;
   of_concept = c.in_default.not-OfConcept;
+  nested_concept = c.in_default.not-NestedConcept;
   named_concept = c.in_default.not-NamedConcept;
   constraint = c.in_default.not-Constraint;
   inheriting = c.in_default.not-Inheriting;

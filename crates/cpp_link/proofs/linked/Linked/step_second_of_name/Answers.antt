@@ -31,6 +31,7 @@ step_second_of_piece-requires c = record {
   local_temporary = c.requires.local_temporary;
   value_of = c.requires.value_of;
   of_concept = c.requires.of_concept;
+  nested_concept = c.requires.nested_concept;
   named_concept = c.requires.named_concept;
   constraint = c.requires.constraint;
   inheriting = c.requires.inheriting;

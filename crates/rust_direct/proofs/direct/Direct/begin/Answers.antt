@@ -5,8 +5,8 @@ use Rattle.rust_direct.specs.declared.open.Open.TheVariants as opens
 use Rattle.rust_direct.proofs.SymbolsRead.{symbol-begun}
 use Rattle.rust_direct.proofs.direct.Direct.begin.Goals as goal
 
-pub returns-clause-writing : goal.returns-clause-writing
-returns-clause-writing g c =
+pub returns : goal.returns
+returns g c =
     let s = c.args.s.now in
     let first = subst (λ b. StandsAt s 0 (b ∷ [])) c.if-byte_at-ne95.false (c.byte_at.ensures (λ e. omega (arith, e, c.if-byte_at-ne95.false))) in
     let second = subst (λ b. StandsAt s 1 (b ∷ [])) c.if-byte_at-ne82.false

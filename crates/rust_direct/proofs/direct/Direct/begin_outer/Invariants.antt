@@ -1,4 +1,4 @@
--- Expects a path, after those around it.
+-- A path is expected, after the paths around it.
 use Rattle.std.specs.Prelude.{◌-◌, length, false}
 use Rattle.rust_direct.specs.Awaits.{Awaits}
 use Rattle.rust_direct.proofs.direct.Direct.begin_outer.Given as goal

@@ -1,4 +1,4 @@
--- If the rest has written nothing yet, the whole hasn't.
+-- If the entries that are left to test have written nothing yet, all have written nothing.
 use Rattle.std.specs.Prelude.{length, reverse}
 use Rattle.rust_direct.specs.WriterInvariant.{IsUnbegun}
 use Rattle.rust_direct.proofs.direct.Direct.is_unbegun.Given as goal

@@ -48,3 +48,15 @@ returns-clause-entry_room g c = c.print_stack-outcome.ensures.entry_room
 
 pub returns-clause-text_room : goal.returns-clause-text_room
 returns-clause-text_room g c = c.print_stack-outcome.ensures.text_room
+
+pub returns-in-Some-clause-peak : goal.returns-in-Some-clause-peak
+returns-in-Some-clause-peak g c = omega arith
+
+pub returns-in-Some-clause-bounded : goal.returns-in-Some-clause-bounded
+returns-in-Some-clause-bounded g c = omega arith
+
+pub returns-clause-peak : goal.returns-clause-peak
+returns-clause-peak g c = c.print_stack-outcome.ensures.peak
+
+pub returns-clause-bounded : goal.returns-clause-bounded
+returns-clause-bounded g c = c.print_stack-outcome.ensures.bounded

@@ -99,3 +99,21 @@ returns-in-Err-clause-own g c = inr c.in-Err.ensures.own
 
 pub returns-in-Ok-clause-done : goal.returns-in-Ok-clause-done
 returns-in-Ok-clause-done g c = c.is_empty.ensures ∙ ap (λ n. n == 0) c.take.new.self.stack.ok.0
+
+pub returns-in-Some-clause-peak : goal.returns-in-Some-clause-peak
+returns-in-Some-clause-peak g c = omega arith
+
+pub returns-in-Some-clause-bounded : goal.returns-in-Some-clause-bounded
+returns-in-Some-clause-bounded g c = omega arith
+
+pub returns-in-Ok-clause-peak : goal.returns-in-Ok-clause-peak
+returns-in-Ok-clause-peak g c = c.take.ensures.peak
+
+pub returns-in-Ok-clause-bounded : goal.returns-in-Ok-clause-bounded
+returns-in-Ok-clause-bounded g c = c.take.ensures.bounded
+
+pub returns-in-Err-clause-peak : goal.returns-in-Err-clause-peak
+returns-in-Err-clause-peak g c = c.take.ensures.peak
+
+pub returns-in-Err-clause-bounded : goal.returns-in-Err-clause-bounded
+returns-in-Err-clause-bounded g c = c.take.ensures.bounded

@@ -2,7 +2,8 @@ use Rattle.std.proofs.Common.{◌≡◌, ◌+◌, IfSome, ap, arith, length, len
 use Rattle.sym_shape.specs.Table.{symbols_of}
 use Rattle.sym_shape.specs.Reading.{lone_rows}
 use Rattle.sym_shape.specs.Reader.{IsWholeToken}
-use Rattle.sym_shape.proofs.Frames.{IsFramed, frame_rule, frame_lone, frame_empty, next_kind, lone_within}
+use Rattle.sym_shape.specs.Room.{room_of}
+use Rattle.sym_shape.proofs.Frames.{IsFramed, frame_rule, frame_lone, frame_empty, next_kind, lone_within, rule_within}
 use Rattle.sym_shape.proofs.Steps.{takes_none}
 use Rattle.sym_shape.proofs.parse.Parse.enter_kind.Goals as goal
 
@@ -65,3 +66,13 @@ returns-in-None-2-clause-moves g c =
     let none = takes_none g.G.Grammar.table c.args.kind c.args.ended c.args.bytes.now progress.at c.if-may_go_on.ensures.known c.in-None.ensures in
     let moved = frame_empty g.G.Grammar.listed g.G.Grammar.table g.met.G.Grammar.lawful c.args.ended c.args.bytes.now progress.steps progress.at c.args.kind old.top old.below.items old.rows.items c.requires.parsing c.requires.next (sym c.may_be_empty.ensures ∙ c.if-may_be_empty.true) none in
     rw c.further-in-None-2.ensures (moved, omega arith, omega arith)
+
+pub returns-in_ok-take_rule-in-None-lone_token-clause-bounded : goal.returns-in_ok-take_rule-in-None-lone_token-clause-bounded
+returns-in_ok-take_rule-in-None-lone_token-clause-bounded g c =
+    let old = c.args.self.now in
+    rule_within g.G.Grammar.listed g.G.Grammar.table c.args.ended c.args.bytes.now c.args.progress.steps c.args.progress.at old.top old.below.items old.rows.items (room_of old) (room_of (record old { top = c.take_rule.new.top; below = c.take_rule.new.below; rows = c.take_rule.new.rows })) c.requires.parsing c.take_rule.ensures.rows_grown c.take_rule.ensures.rules_grown
+
+pub returns-in_err-take_rule-in-None-lone_token-clause-bounded : goal.returns-in_err-take_rule-in-None-lone_token-clause-bounded
+returns-in_err-take_rule-in-None-lone_token-clause-bounded g c =
+    let old = c.args.self.now in
+    rule_within g.G.Grammar.listed g.G.Grammar.table c.args.ended c.args.bytes.now c.args.progress.steps c.args.progress.at old.top old.below.items old.rows.items (room_of old) (room_of (record old { top = c.take_rule.new.top; below = c.take_rule.new.below; rows = c.take_rule.new.rows })) c.requires.parsing c.take_rule.ensures.rows_grown c.take_rule.ensures.rules_grown

@@ -3,7 +3,8 @@ use Rattle.std.proofs.Common.{◌≡◌, IfSome, refl, sym, subst, ◌+◌}
 use Rattle.sym_shape.specs.Table.{symbols_of}
 use Rattle.sym_shape.specs.Reader.{to_do}
 use Rattle.sym_shape.proofs.Steps.{all_begins, both_not, out_of_memory, memory_passed}
-use Rattle.sym_shape.proofs.Frames.{IsFramed, frame_rule, next_kind}
+use Rattle.sym_shape.specs.Room.{room_of}
+use Rattle.sym_shape.proofs.Frames.{IsFramed, frame_rule, next_kind, rule_within}
 use Rattle.sym_shape.proofs.parse.Parse.read_kind.Goals as goal
 
 pub rule-requires : goal.rule-requires
@@ -39,3 +40,13 @@ returns-in_err-take_rule-in-Some-rule-clause-moves g c =
     let stop = c.in_err-take_rule-in-Some-rule in
     let handed = err_from_is_err_and c.from_residual.result c.from_residual.ensures.1 in
     out_of_memory g.G.Grammar.listed g.G.Grammar.table c.args.ended c.args.bytes.now c.args.self.now (record c.args.self.now { top = c.take_rule.new.top; below = c.take_rule.new.below; rows = c.take_rule.new.rows }) c.from_residual.result handed.0 handed.1 (memory_passed _ stop.field-0.0 handed.0 refl stop.ensures.memory handed.2) refl stop.ensures.one
+
+pub returns-in_ok-take_rule-in-Some-rule-clause-bounded : goal.returns-in_ok-take_rule-in-Some-rule-clause-bounded
+returns-in_ok-take_rule-in-Some-rule-clause-bounded g c =
+    let old = c.args.self.now in
+    rule_within g.G.Grammar.listed g.G.Grammar.table c.args.ended c.args.bytes.now old.steps old.at old.top old.below.items old.rows.items (room_of old) (room_of (record old { top = c.take_rule.new.top; below = c.take_rule.new.below; rows = c.take_rule.new.rows })) c.requires.parsing c.take_rule.ensures.rows_grown c.take_rule.ensures.rules_grown
+
+pub returns-in_err-take_rule-in-Some-rule-clause-bounded : goal.returns-in_err-take_rule-in-Some-rule-clause-bounded
+returns-in_err-take_rule-in-Some-rule-clause-bounded g c =
+    let old = c.args.self.now in
+    rule_within g.G.Grammar.listed g.G.Grammar.table c.args.ended c.args.bytes.now old.steps old.at old.top old.below.items old.rows.items (room_of old) (room_of (record old { top = c.take_rule.new.top; below = c.take_rule.new.below; rows = c.take_rule.new.rows })) c.requires.parsing c.take_rule.ensures.rows_grown c.take_rule.ensures.rules_grown

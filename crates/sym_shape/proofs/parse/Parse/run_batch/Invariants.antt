@@ -1,7 +1,7 @@
 -- The parse fits the bytes up to its place, each step has made at most one row, and the lists hold no less.
 use Rattle.std.proofs.Common.{◌+◌, ◌-◌, ◌*◌, ◌≤◌, length}
 use Rattle.sym_shape.specs.Reader.{IsParse, to_do}
-use Rattle.sym_shape.specs.Room.{KeepsRoom, room_of}
+use Rattle.sym_shape.specs.Room.{KeepsRoom, StaysWithin, room_of}
 use Rattle.sym_shape.proofs.parse.Parse.run_batch.Given as goal
 
 abbrev pub invariant-moves : goal.invariant-moves
@@ -10,6 +10,7 @@ invariant-moves g l = record {
   steps : l.fn.self.steps ≤ l.progress.steps;
   rows : length l.self.rows.items + l.fn.self.steps ≤ length l.fn.self.rows.items + l.progress.steps;
   keeps : KeepsRoom (room_of l.fn.self) (room_of l.self);
+  bounded : StaysWithin (length l.bytes) (room_of l.fn.self) (room_of l.self);
 }
 
 abbrev pub decreases-moves : goal.decreases-moves

@@ -19,3 +19,6 @@ returns-in-None-clause-steps g c =
 
 pub returns-in-Some-clause-refused : goal.returns-in-Some-clause-refused
 returns-in-Some-clause-refused g c = sym (ap (λ (v : Fed). v.refused) c.self.view_is) ∙ c.in-Some.is
+
+pub returns-in-None-clause-room : goal.returns-in-None-clause-room
+returns-in-None-clause-room g c = c.of.ensures.room ∙ ap (λ (v : Fed). v.room) c.self.view_is

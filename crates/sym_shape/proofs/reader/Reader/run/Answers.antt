@@ -36,6 +36,9 @@ returns-in-Some-clause-byte_room g c = refl
 pub returns-in-Some-clause-room : goal.returns-in-Some-clause-room
 returns-in-Some-clause-room g c = (omega arith, omega arith)
 
+pub returns-in-Some-clause-bounded : goal.returns-in-Some-clause-bounded
+returns-in-Some-clause-bounded g c = (omega arith, omega arith)
+
 pub returns-in-Some-clause-again : goal.returns-in-Some-clause-again
 returns-in-Some-clause-again g c = rw (sym (ap (λ (v : Fed). v.refused) c.self.view_is) ∙ c.in-Some.is) (refl, refl)
 
@@ -71,6 +74,9 @@ returns-then-self-clause-byte_room g c = refl
 
 pub returns-then-self-clause-room : goal.returns-then-self-clause-room
 returns-then-self-clause-room g c = (omega arith, omega arith)
+
+pub returns-then-self-clause-bounded : goal.returns-then-self-clause-bounded
+returns-then-self-clause-bounded g c = (omega arith, omega arith)
 
 pub returns-then-self-clause-again : goal.returns-then-self-clause-again
 returns-then-self-clause-again g c = rw (sym (ap (λ (v : Fed). v.refused) c.self.view_is) ∙ unrefused c.self.inside.refused c.in_default.not-Some) tt

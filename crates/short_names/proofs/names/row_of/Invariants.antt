@@ -1,0 +1,12 @@
+use Rattle.std.proofs.Common.{◌≡◌, ◌-◌, length, drop}
+use Rattle.short_names.specs.declared.table.TheConstants.{TEMPLATES}
+use Rattle.short_names.specs.Names.{template_in}
+use Rattle.short_names.proofs.names.row_of.Given as goal
+
+abbrev pub invariant-rows : goal.invariant-rows
+invariant-rows l = record {
+  same : template_in TEMPLATES l.name ≡ template_in (drop l.row TEMPLATES) l.name;
+}
+
+abbrev pub decreases-rows : goal.decreases-rows
+decreases-rows l = length TEMPLATES - l.row

@@ -1,0 +1,10 @@
+use Rattle.std.proofs.Common.{◌-◌, length}
+use Rattle.short_names.specs.Walk.{Written}
+use Rattle.short_names.specs.Writing.{IsAt}
+use Rattle.short_names.proofs.writing.Writing.write.Given as goal
+
+abbrev pub invariant-pieces : goal.invariant-pieces
+invariant-pieces l = (written : Written) × IsAt l.text l.self written
+
+abbrev pub decreases-pieces : goal.decreases-pieces
+decreases-pieces l = length l.text - l.self.at

@@ -1,0 +1,24 @@
+-- A list of a name of the table at the end of a text, and what is written for it.
+use Rattle.std.specs.Prelude.{◌≡◌, ◌≤◌, ◌<◌, ℕ, List, ◌∷◌, ◌++◌, ◌+◌, length, Some}
+use Rattle.short_names.specs.declared.names.Named.{Named}
+use Rattle.short_names.specs.Elements.{joined}
+use Rattle.short_names.specs.Names.{named_in}
+use Rattle.short_names.specs.Starts.{starts_of}
+use Rattle.short_names.specs.Walk.{Answer}
+
+-- A text ends with the list: its name and its elements are behind some bytes.
+pub record IsList (text : List ℕ) (named : Named) (bracket : ℕ) (starts before name : List ℕ) (elements : List (List ℕ)) : Type 0 where
+  pub text_is : text ≡ before ++ name ++ 60 ∷ joined elements
+  pub named_is : named_in name ≡ Some named
+  pub bracket_is : bracket ≡ length (before ++ name)
+  pub starts_are : starts ≡ starts_of (bracket + 1) elements
+  pub some : 0 < length elements
+
+abbrev pub EndsWithList : (text : List ℕ) → Named → (bracket : ℕ) → (starts : List ℕ) → Type 0
+EndsWithList text named bracket starts = (before : List ℕ) × (name : List ℕ) × (elements : List (List ℕ)) × IsList text named bracket starts before name elements
+
+-- an answer was written behind a text, with some of the bytes that follow
+pub record IsAnswered (new before rest : List ℕ) (answer : Answer) (size : ℕ) : Type 0 where
+  pub text_is : new ≡ before ++ answer.bytes
+  pub size_is : size ≡ answer.size
+  pub within : size ≤ length rest

@@ -1,0 +1,15 @@
+pub mod Changes
+pub mod Closing
+pub mod Elements
+pub mod Full
+pub mod Inlines
+pub mod Laws
+pub mod Names
+pub mod Patterns
+pub mod Plain
+pub mod Runs
+pub mod Short
+pub mod Starts
+pub mod Texts
+pub mod Walk
+pub mod Writing

@@ -1,0 +1,99 @@
+// What is written where a list of a name of the table is closed.
+ghost use Rattle.std.specs.Prelude.{◌≡◌, ◌≤◌, ◌++◌, ℕ, List, length, take, drop, codes, IfOk, OnOk};
+ghost use Rattle.short_names.specs.Closing.{EndsWithList, IsAnswered, IsList};
+ghost use Rattle.short_names.specs.Short.{constructor, if_read_back, is_own, short_list};
+
+use crate::elements::Elements;
+use crate::names::{Named, before_constructor, class_of, ends_name, is_constructor, last_part};
+use crate::patterns::text_at;
+use crate::table::Alias;
+use std::alloc::AllocError;
+
+/// Closes a list of a name of the table, whose bracket is at a place of a text, and whose elements begin at others; answers how many of the
+/// bytes that follow it are written with it.
+pub(crate) fn close(
+    text: &mut Vec<u8>,
+    named: Named,
+    bracket: usize,
+    starts: &[usize],
+    rest: &[u8],
+) -> Result<usize, AllocError>
+    requires { EndsWithList text.old.items named bracket starts.now }
+    ensures { (before name : List ℕ) (elements : List (List ℕ)) → IsList text.old.items named bracket starts.now before name elements
+        → IfOk result (λ size. IsAnswered text.new.items before rest.now (short_list named name elements rest.now) size) }
+{
+    let elements = Elements { text, starts };
+    let holes = elements.holes(named);
+    let left = elements.left(named, holes);
+    let name = bracket - text_at(named.template.name).len();
+    if let Some(alias) = read_back(elements.alias(named, holes, left), rest) {
+        text.truncate(name);
+        text.extend_from_slice(text_at(alias.name))?;
+        let size = append_constructor(alias, rest, text)?;
+        return Ok(size);
+    }
+    if elements.is_polymorphic(named, holes) {
+        let end = elements.end(elements.without_defaults(named, holes, starts.len() - 1));
+        text.truncate(end);
+        insert_polymorphic(text, name)?;
+        text.push(b'>')?;
+        return Ok(0);
+    }
+    let end = elements.end(left);
+    text.truncate(end);
+    text.push(b'>')?;
+    Ok(0)
+}
+
+/// A usual name where the text goes on, and it is read back as the same.
+fn read_back(alias: Option<Alias>, rest: &[u8]) -> Option<Alias>
+    ensures { result ≡ if_read_back rest.now alias }
+{
+    let alias = alias?;
+    if ends_name(rest) && is_own(alias, rest) {
+        Some(alias)
+    } else {
+        None
+    }
+}
+
+/// Whether no other member follows a usual name than the constructor by the name that is written for that.
+fn is_own(alias: Alias, rest: &[u8]) -> bool
+    ensures { result ≡ is_own rest.now alias }
+{
+    if !rest.starts_with(b"::") {
+        return true;
+    }
+    if is_constructor(rest, last_part(text_at(alias.template))) {
+        return true;
+    }
+    !is_constructor(rest, class_of(alias))
+}
+
+/// Appends the name of a constructor or destructor that follows a usual name by the template's name; answers how long that was.
+pub(crate) fn append_constructor(
+    alias: Alias,
+    rest: &[u8],
+    text: &mut Vec<u8>,
+) -> Result<usize, AllocError>
+    ensures { IfOk result (λ size. IsAnswered text.new.items text.old.items rest.now (constructor alias rest.now) size) }
+{
+    let class = last_part(text_at(alias.template));
+    let front = before_constructor(rest, class);
+    if front.is_empty() {
+        return Ok(0);
+    }
+    text.extend_from_slice(front)?;
+    text.extend_from_slice(class_of(alias))?;
+    Ok(front.len() + class.len())
+}
+
+/// Puts `pmr::` before the name at a place of a text.
+fn insert_polymorphic(text: &mut Vec<u8>, name: usize) -> Result<(), AllocError>
+    requires { name ≤ length text.old.items }
+    ensures { OnOk result (text.new.items ≡ take name text.old.items ++ codes "pmr::" ++ drop name text.old.items) }
+{
+    text.extend_from_slice(b"pmr::")?;
+    text[name..].rotate_right(5);
+    Ok(())
+}

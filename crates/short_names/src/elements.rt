@@ -1,0 +1,150 @@
+// The elements of a list of a name of the table.
+ghost use Rattle.std.specs.Prelude.{◌≡◌, ◌≤◌, ◌<◌, ◌+◌, ◌-◌, ◌==◌, ◌&&◌, not, nat_eq, ℕ, List, length, take};
+ghost use Rattle.std.specs.Cmp.Lexicographic.{pointwise};
+ghost use Rattle.short_names.specs.Elements.{AreHoles, element, joined, is_default, left_of, left, is_polymorphic, alias_in, aliases_of};
+ghost use Rattle.short_names.specs.Patterns.{filled};
+ghost use Rattle.short_names.specs.Starts.{AreElements};
+
+use crate::names::Named;
+use crate::patterns::{Holes, is_filled, text_at};
+use crate::table::{ALIASES, Alias, DEFAULTS};
+
+/// Elements, at least one, in a text that ends with the last of them: where each begins. `, ` is between two.
+#[derive(Clone, Copy)]
+pub(crate) struct Elements<'a> {
+    pub text: &'a [u8],
+    pub starts: &'a [usize],
+}
+
+impl<'a> Elements<'a> {
+    /// Where the first ones end.
+    pub(crate) fn end(self, count: usize) -> usize
+        requires { (elements : List (List ℕ)) × AreElements self.text.now self.starts.now elements }
+        ensures { (elements : List (List ℕ)) → (e : AreElements self.entry.text.now self.entry.starts.now elements) →
+            result ≡ length e.before + length (joined (take count elements)) }
+    {
+        if count == 0 {
+            self.starts[0]
+        } else if count < self.starts.len() {
+            self.starts[count] - 2
+        } else {
+            self.text.len()
+        }
+    }
+
+    /// An element; nothing where there is none.
+    fn at(self, place: usize) -> &'a [u8]
+        requires { (elements : List (List ℕ)) × AreElements self.text.now self.starts.now elements }
+        ensures { (elements : List (List ℕ)) → AreElements self.entry.text.now self.entry.starts.now elements → result.now ≡ element elements place }
+    {
+        if place >= self.starts.len() {
+            return &[];
+        }
+        &self.text[self.starts[place]..self.end(place + 1)]
+    }
+
+    /// The first ones, with what is between them.
+    fn front(self, count: usize) -> &'a [u8]
+        requires { (elements : List (List ℕ)) × AreElements self.text.now self.starts.now elements }
+        ensures { (elements : List (List ℕ)) → AreElements self.entry.text.now self.entry.starts.now elements → result.now ≡ joined (take count elements) }
+    {
+        &self.text[self.starts[0]..self.end(count)]
+    }
+
+    /// What fills the holes of a name's patterns.
+    pub(crate) fn holes(self, named: Named) -> Holes<'a>
+        requires { (elements : List (List ℕ)) × AreElements self.text.now self.starts.now elements }
+        ensures { (elements : List (List ℕ)) → AreElements self.entry.text.now self.entry.starts.now elements → AreHoles named elements result }
+    {
+        Holes {
+            first: self.at(0),
+            second: self.at(1),
+            whole: text_at(named.whole),
+        }
+    }
+
+    /// Whether an element is what a name has by default.
+    fn is_default(self, named: Named, holes: Holes<'a>, place: usize) -> bool
+        requires { (elements : List (List ℕ)) × (AreElements self.text.now self.starts.now elements) × (AreHoles named elements holes) }
+        ensures { (elements : List (List ℕ)) → AreElements self.entry.text.now self.entry.starts.now elements → AreHoles named elements holes.entry →
+            result ≡ is_default named elements place }
+    {
+        if place >= named.template.count as usize {
+            return false;
+        }
+        let row = named.template.first_default as usize + place;
+        if row >= DEFAULTS.len() {
+            return false;
+        }
+        is_given(self.at(place), text_at(DEFAULTS[row]), holes)
+    }
+
+    /// How many of the first elements are left without those at their end that are what a name has by default.
+    pub(crate) fn without_defaults(self, named: Named, holes: Holes<'a>, count: usize) -> usize
+        requires { (elements : List (List ℕ)) × (AreElements self.text.now self.starts.now elements) × (AreHoles named elements holes) }
+        ensures { (elements : List (List ℕ)) → AreElements self.entry.text.now self.entry.starts.now elements → AreHoles named elements holes.entry →
+            result ≡ left_of named elements count }
+    {
+        let mut left = count;
+        'elements: while left > 0 {
+            if !self.is_default(named, holes, left - 1) {
+                return left;
+            }
+            left -= 1;
+        }
+        left
+    }
+
+    /// How many are left without those at the end that are what a name has by default. None is left out where there are more than the
+    /// name has.
+    pub(crate) fn left(self, named: Named, holes: Holes<'a>) -> usize
+        requires { (elements : List (List ℕ)) × (AreElements self.text.now self.starts.now elements) × (AreHoles named elements holes) }
+        ensures { (elements : List (List ℕ)) → AreElements self.entry.text.now self.entry.starts.now elements → AreHoles named elements holes.entry →
+            result ≡ left named elements }
+    {
+        let all = self.starts.len();
+        if all > named.template.count as usize {
+            return all;
+        }
+        self.without_defaults(named, holes, all)
+    }
+
+    /// Whether they are all that a name has, and the last is the allocator of `std::pmr`.
+    pub(crate) fn is_polymorphic(self, named: Named, holes: Holes<'a>) -> bool
+        requires { (elements : List (List ℕ)) × (AreElements self.text.now self.starts.now elements) × (AreHoles named elements holes) }
+        ensures { (elements : List (List ℕ)) → AreElements self.entry.text.now self.entry.starts.now elements → AreHoles named elements holes.entry →
+            result ≡ is_polymorphic named elements }
+    {
+        let all = self.starts.len();
+        if all != named.template.count as usize {
+            return false;
+        }
+        is_given(self.at(all - 1), text_at(named.template.polymorphic), holes)
+    }
+
+    /// The usual name of a template with the first elements, if there is one.
+    pub(crate) fn alias(self, named: Named, holes: Holes<'a>, count: usize) -> Option<Alias>
+        requires { (elements : List (List ℕ)) × (AreElements self.text.now self.starts.now elements) × (AreHoles named elements holes) }
+        ensures { (elements : List (List ℕ)) → AreElements self.entry.text.now self.entry.starts.now elements → AreHoles named elements holes.entry →
+            result ≡ alias_in (aliases_of named) named elements count }
+    {
+        let text = self.front(count);
+        let mut k = named.template.first_alias as usize;
+        let end = (named.template.end_alias as usize).min(ALIASES.len());
+        'rows: while k < end {
+            let alias = ALIASES[k];
+            if is_filled(text, text_at(alias.arguments), holes) {
+                return Some(alias);
+            }
+            k += 1;
+        }
+        None
+    }
+}
+
+/// Whether there is a pattern, and a text is that with its holes filled.
+fn is_given(text: &[u8], pattern: &[u8], holes: Holes<'_>) -> bool
+    ensures { result ≡ not (length pattern.now == 0) && pointwise nat_eq text.now (filled holes.entry.first.now holes.entry.second.now holes.entry.whole.now pattern.now) }
+{
+    !pattern.is_empty() && is_filled(text, pattern, holes)
+}

@@ -1,0 +1,16 @@
+//! Texts of C++ names without what the library's templates have by default, and with the usual names of their instances.
+#![tactic(auto)]
+
+mod closing;
+mod elements;
+mod finding;
+mod inlines;
+mod names;
+mod patterns;
+mod runs;
+mod short;
+mod table;
+mod writing;
+
+pub use runs::has_std;
+pub use short::Short;
