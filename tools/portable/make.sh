@@ -27,8 +27,9 @@ version=$(sed -n 's/^#define SYMDEMANGLE_VERSION_[A-Z]* \([0-9]*\)$/\1/p' caller
 
 # Inlined as by -O3 (250): with less the C takes more instructions, and with more the C compiler takes longer. INLINE is another number,
 # to measure with. Loops aren't unrolled, and all is optimised twice: the second time finds much that inlining left, so that the C has a
-# fifth fewer lines. Without what is said of x86-64 alone.
-optimise=(-O2 -fno-unroll-loops -fno-vectorize -fno-slp-vectorize -mllvm "-inline-threshold=${INLINE:-250}")
+# fifth fewer lines. Vectors aren't combined, since to_c.py knows the quarters of 64 bytes and no other parts. Without what is said of
+# x86-64 alone.
+optimise=(-O2 -fno-unroll-loops -fno-vectorize -fno-slp-vectorize -mllvm -disable-vector-combine -mllvm "-inline-threshold=${INLINE:-250}")
 OF_X86=' ?"(probe-stack|stack-probe-size|target-cpu|target-features|tune-cpu|frame-pointer)"(="[^"]*")?'
 
 translated() { # translated CRATE : its proved module as $work/CRATE.c, and the verdict as $work/CRATE.verdict
