@@ -97,7 +97,7 @@ run-replaced letters answers runs same are (byte ∷ run) h = step (eqb byte 95)
         replaced-unnamed answers (byte ∷ run) (kind_of-other byte run (other_byte byte e))
         ∙ ap (λ (t : List ℕ). byte ∷ t) (sym (closed-stays letters (changed letters answers) (place_after letters START byte) runs same (closed-after letters START byte runs (same byte ∙ parts.0)) run parts.1))
 
-replaced-is : (answers : Answering) (run : List ℕ) → replaced answers run ≡ word_or_text answers (word_of run) ++ dots_after run
+pub replaced-is : (answers : Answering) (run : List ℕ) → replaced answers run ≡ word_or_text answers (word_of run) ++ dots_after run
 unfolding replaced
 replaced-is answers run = refl
 

@@ -4,6 +4,7 @@ pub mod CarryLemmas
 pub mod EntryLemmas
 pub mod EscapeLemmas
 pub mod EscapeRows
+pub mod EverydayLemmas
 pub mod JoinLemmas
 pub mod LaneLemmas
 pub mod MarkLemmas

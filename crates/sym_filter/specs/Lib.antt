@@ -4,6 +4,7 @@ pub mod CarriedEntries
 pub mod Demangled
 pub mod Entries
 pub mod Escapes
+pub mod Everyday
 pub mod Held
 pub mod Kinds
 pub mod Lanes

@@ -1,4 +1,5 @@
 // What the filtered text is, in the words of runs.
+ghost use Rattle.sym_filter.specs.Everyday.{ReplacedAlike};
 ghost use Rattle.sym_filter.specs.Runs.{TriesAreFew, TriesDecide};
 ghost use Rattle.sym_filter.specs.Splits.{FilteredByJoins, FilteredByJoinsAt, FilteredBySplits, FilteredBySplitsAt};
 ghost use Rattle.sym_filter.specs.declared.kinds.Letters.{Letters};
@@ -24,4 +25,10 @@ pub fn filtered_by_joins()
 pub fn tries_decide()
     ensures decide { TriesDecide }
     ensures few { TriesAreFew }
+{}
+
+/// A law over the definitions alone: a run in ASCII whose word has a text is replaced by the same text where words begin within runs
+/// as where words are runs.
+pub fn replaced_alike()
+    ensures { ReplacedAlike }
 {}

@@ -19,7 +19,7 @@ pub mod words;
 pub use demangler::{Demangled, Demangler};
 pub use filtering::{filter_promptly, filter_telling, filter_with, filter_words};
 pub use kinds::{Kind, Lang, Letters, kind_of};
-pub use laws::{filtered_by_joins, filtered_by_splits, tries_decide};
+pub use laws::{filtered_by_joins, filtered_by_splits, replaced_alike, tries_decide};
 pub use prompt::PromptSource;
 pub use reports::{Quiet, Report};
 pub use standard::{ListSink, ReaderSource, WriterSink};

@@ -1,0 +1,11 @@
+-- What the filter whose words begin within runs has in common with the one whose words are runs.
+use Rattle.std.specs.Prelude.{◌≡◌, ℕ, List, true, false}
+use Rattle.std.specs.List.{list_any}
+use Rattle.sym_filter.specs.declared.kinds.Letters.TheVariants.{Any, Within}
+use Rattle.sym_filter.specs.Bytes.{is_wide}
+use Rattle.sym_filter.specs.Runs.{Answering, has_text, replaced_at}
+
+-- Where words are runs, a run in ASCII has its word replaced by a text. Where words begin within runs, the same text replaces the same word.
+abbrev pub ReplacedAlike : Type 0
+ReplacedAlike = (answers : Answering) (run : List ℕ) → list_any is_wide run ≡ false → has_text answers run ≡ true →
+    replaced_at Within answers run ≡ replaced_at Any answers run
