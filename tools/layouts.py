@@ -99,7 +99,7 @@ def added(call, step):
 
 def of_pieces(matched, steps, function, parts):
     """Each arm's answer, for the pieces of names."""
-    told = parts.replace(" prefix", " (tree_shown c.args.self.now c.args.ctx c.args.prefix)").replace(" c", f" {CONTEXT}", 1)
+    told = parts.replace(" prefix", " (printed_tree c.args.self.now c.args.ctx c.args.prefix)").replace(" c", f" {CONTEXT}", 1)
     for piece in matched[function]:
         fact = f"ap (λ p. {told} (piece_shown c.args.self.now c.args.ctx p)) (sym c.in-{piece}.is)"
         text = TEXTS.format(steps[function, piece]) + " ∙ " if (function, piece) in steps else ""

@@ -28,7 +28,7 @@ def nodes():
 
 # what is said of an argument below a node
 BELOW = {TREE: "{0} < n", OWN: "{0} < n", PIECE: "IsPieceBelow s n {0}", BYTES: "IsWithin {0} s", SIGNED: "IsWithin {0}.digits s",
-         DISCRIMINATOR: "IsSpan s {0}", THUNK: "{0} < held", UNDER: "IsThereBelow n (under_kept {0})"}
+         DISCRIMINATOR: "IsSpan s {0}", THUNK: "{0} < held", UNDER: "IsAliasBelow n (under_kept {0})"}
 def bounds(args): return [(name, sort) for name, sort in args if sort in BELOW]
 
 def placed(args, over):
@@ -101,7 +101,7 @@ def noting(node, tree, own):
     if node in NOTED: return NOTED[node]
     parts = [name for (name, _, _), sort in zip(own, sorts_of(tree)) if sort == TREE]
     if not parts: return None
-    return f"self.noted_type{'s' if len(parts) == 2 else ''}(node, {', '.join(parts)}, Words::{cpp_trees.HEADS.get(tree, 'Plain')})"
+    return f"self.noted_type{'s' if len(parts) == 2 else ''}(node, {', '.join(parts)}, TypeHead::{cpp_trees.HEADS.get(tree, 'Plain')})"
 
 def noted(): return list(arms("Node::", "            ", noting))
 

@@ -45,7 +45,7 @@ def imports(names, text, use):
 
 def meant(row):
     """What the arguments stand for."""
-    whole, own = "(tree_at (trees (table_of self.now)) {0})", "(tree_shown self.now ctx {0})"
+    whole, own = "(tree_at (trees (table_of self.now)) {0})", "(printed_tree self.now ctx {0})"
     forms = {"tree": whole if row.is_encoding else own, "whole": whole, "bytes": "(bytes_at self.now.bytes {0})", "signed": "(signed_of self.now.bytes {0})",
              "Qualifiers": "(qualifiers_of {0})", "Mark": "(mark_of {0})"}
     said = {name: forms[sort].format(name) for name, sort in row.takes if sort in forms}
@@ -88,7 +88,7 @@ def function_of(row):
     given = ["&self", "parts: &mut S", *[f"{argument}: {SORTS.get(sort, sort)}" for argument, sort in row.takes], "detail: Detail" if row.is_encoding else "ctx: Context"]
     head = f"    pub(crate) fn {row.name}<S: PartList<Context>>("
     whole = f"{head}{', '.join(given)})"
-    required = [*([] if row.is_encoding else ["context { IsThereBelow (length self.now.table.nodes) ctx.argument }"]), *REQUIRED[row.of],
+    required = [*([] if row.is_encoding else ["context { IsAliasBelow (length self.now.table.nodes) ctx.argument }"]), *REQUIRED[row.of],
                 *[OF_SORTS[sort].format(argument) for argument, sort in row.takes if sort in OF_SORTS]]
     head = [*([f"    // {row.source}"] if row.source else []), *([whole] if len(whole) <= 100 else [head, *[f"        {argument}," for argument in given], "    )"]),
             *[f"        requires {clause}" for clause in required]]

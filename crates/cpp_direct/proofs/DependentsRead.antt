@@ -16,7 +16,7 @@ use Rattle.cpp_direct.specs.WriterInvariant.{AreCandidates, EncodedBehind, IsKno
 use Rattle.cpp_direct.specs.MidStep.{AwaitsType, AreParametersRead, IsFunctionEnded, IsNamedAgain, most_by_digit, parameter_digits, AreExpanded, comma_text, expansion_letters, separator}
 use Rattle.cpp_direct.specs.Written.{Writes, added, hidden, with_argument, Lists}
 use Rattle.cpp_direct.specs.declared.open.Pattern.TheVariants as patterns
-use Rattle.cpp_grammar.specs.Between.{Going, between, after, applied, listed_so_far, parameter_so_far, index_of, under_expansion}
+use Rattle.cpp_grammar.specs.Between.{Continuation, between, after, applied, listed_so_far, parameter_so_far, index_of, under_expansion}
 use Rattle.cpp_grammar.specs.Grammar.{may_be_empty, number_of_kind, parts_of}
 use Rattle.cpp_grammar.specs.Parts.{types_of}
 use Rattle.cpp_grammar.specs.References.{appended, is_function_type, with_packs, parameter_named, with_type}
@@ -67,11 +67,11 @@ parameter-found around k at st all scope below none = rw (scope, lt-ltb k (count
 
 -- what it names is found
 number-tested : (around : Around) (k at : ℕ) (st later : State) → k ≤ most_by_digit → parameter_named around at k st ≡ Ok later
-    → ◌≡◌ {A = Going} (between Production.Parameter around at (values.text (parameter_digits k) ∷ []) st)
+    → ◌≡◌ {A = Continuation} (between Production.Parameter around at (values.text (parameter_digits k) ∷ []) st)
     (Ok (record { context = after (parameter k) true around; values = tree (parameter k) true ∷ []; state = later }))
 unfolding between parameter_so_far listed_so_far
 number-tested around k at st later few named =
-    subst (λ n. ◌≡◌ {A = Going} (parameter_so_far around at n [] st)
+    subst (λ n. ◌≡◌ {A = Continuation} (parameter_so_far around at n [] st)
     (Ok (record { context = after (parameter k) true around; values = tree (parameter k) true ∷ []; state = later }))) (sym (digits-count k few)) (rw named refl)
 
 -- the parameter is accepted

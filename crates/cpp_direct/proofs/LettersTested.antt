@@ -12,7 +12,7 @@ use Rattle.sym_link.specs.Unfold.{found}
 use Rattle.cpp_grammar.specs.declared.kind.Kind.{Kind}
 use Rattle.cpp_grammar.specs.Term.{operator}
 use Rattle.cpp_grammar.specs.Values.{State, Around, letter, piece, letter_of, part}
-use Rattle.cpp_grammar.specs.Between.{Going, between}
+use Rattle.cpp_grammar.specs.Between.{Continuation, between}
 use Rattle.cpp_grammar.specs.Meaning.{meaning, operator_or_literal}
 use Rattle.cpp_grammar.specs.Unfolding.{opening, close}
 use Rattle.cpp_grammar.proofs.Growing.{same_choice, kept}
@@ -134,14 +134,14 @@ pub record TakesFirst (p : Production) (kind : Kind) : Type 0 where
   pub chain : is_chain p ≡ false
   pub begins : (f : Forest) (at : ℕ) (st : State) → opening p f at st ≡ Ok st
   pub passes : (around : Around) (at : ℕ) (st : State)
-      → ◌≡◌ {A = Going} (between p around at [] st) (Ok (record { context = around; values = []; state = st }))
+      → ◌≡◌ {A = Continuation} (between p around at [] st) (Ok (record { context = around; values = []; state = st }))
   pub closes : (first second : ℕ) (around : Around) (at : ℕ) (before st : State)
       → close p first around at before (letter second ∷ []) st ≡ Ok (found (piece (operator first second)) st)
 
 first-so : (p : Production) {kind other : Kind} → Some kind ≡ Some other → parts_of p ≡ OfKind (number_of_kind kind) ∷ [] → is_chain p ≡ false
     → ((f : Forest) (at : ℕ) (st : State) → opening p f at st ≡ Ok st)
     → ((around : Around) (at : ℕ) (st : State)
-    → ◌≡◌ {A = Going} (between p around at [] st) (Ok (record { context = around; values = []; state = st })))
+    → ◌≡◌ {A = Continuation} (between p around at [] st) (Ok (record { context = around; values = []; state = st })))
     → ((first second : ℕ) (around : Around) (at : ℕ) (before st : State)
     → close p first around at before (letter second ∷ []) st ≡ Ok (found (piece (operator first second)) st)) → TakesFirst p other
 first-so p {kind = kind} {other = other} same parts chain begins passes closes =

@@ -13,7 +13,7 @@ use Rattle.cpp_grammar.specs.declared.production.Production.{Production}
 use Rattle.cpp_grammar.specs.Grammar.{kinds, number_of_kind, choose, parts_of, is_chain, may_be_empty, in_ranges, among, is_in, pick, number_of, alternatives}
 use Rattle.cpp_grammar.specs.Table.{rule_of}
 use Rattle.cpp_grammar.specs.Values.{State, Around, Value, nothing_there, text, tree, outermost}
-use Rattle.cpp_grammar.specs.Between.{Going, between, after, extended, named_so_far}
+use Rattle.cpp_grammar.specs.Between.{Continuation, between, after, extended, named_so_far}
 use Rattle.cpp_grammar.specs.Unfolding.{cpp, opening, close, byte_of}
 use Rattle.cpp_grammar.specs.Wide.{wide_choose, wide_alternatives}
 use Rattle.cpp_grammar.proofs.ClosedTrees.{at_number, its_symbols}
@@ -101,7 +101,7 @@ reads-rule s kind p byte taken around at st inner after bytes vs w chosen small 
     (ap (λ q. close q (byte_of taken) around at st vs inner) (at_number p) ∙ closes)
 
 pub goes-so : (p : Production) (taken : List ℕ) (at0 : ℕ) (around : Around) (before : State) (known : List Value) (st : State) (next : Next Value State Around)
-    → ◌≡◌ {A = Going} (between p around at0 known st) (Ok next)
+    → ◌≡◌ {A = Continuation} (between p around at0 known st) (Ok next)
     → cpp.between (standing (rule_of p) taken at0 around before) known st ≡ Ok next
 unfolding cpp
 goes-so p taken at0 around before known st next goes = ap (λ q. between q around at0 known st) (at_number p) ∙ goes
@@ -110,7 +110,7 @@ goes-so p taken at0 around before known st next goes = ap (λ q. between q aroun
 unfoldable pub joins : (s : Symbol) (p : Production) (taken : List ℕ) (at0 : ℕ) (around : Around) (before : State) (known : List Value) (x : Sym)
     (todo : List Sym) (at : ℕ) (st : State) (context : Around) (values : List Value) (state after inner : State) (v : List Value)
     (first more : List ℕ) (vs : List Value)
-    → ◌≡◌ {A = Going} (between p around at0 known st) (Ok (record { context = context; values = values; state = state }))
+    → ◌≡◌ {A = Continuation} (between p around at0 known st) (Ok (record { context = context; values = values; state = state }))
     → direct.Reads (cpp_language s) s.bytes x context at first state v after
     → ReadsRest s (standing (rule_of p) taken at0 around before) (values ++ v) todo (at + length first) more after vs inner
     → ReadsRest s (standing (rule_of p) taken at0 around before) known (x ∷ todo) at (first ++ more) st vs inner
@@ -127,7 +127,7 @@ none-left s p taken at0 around before known at st = moves.none-left (cpp_languag
 -- the next part of a rule is expected
 pub needs-next : (s : Symbol) (p : Production) (taken : List ℕ) (at0 : ℕ) (around : Around) (before : State) (known : List Value) (x : Sym)
     (todo : List Sym) (os : List Opened) (at : ℕ) (st : State) (context : Around) (values : List Value) (state : State)
-    → ◌≡◌ {A = Going} (between p around at0 known st) (Ok (record { context = context; values = values; state = state }))
+    → ◌≡◌ {A = Continuation} (between p around at0 known st) (Ok (record { context = context; values = values; state = state }))
     → Needs s os (standing (rule_of p) taken at0 around before) known (x ∷ todo) at st
     → ExpectsSym s x context (opened (standing (rule_of p) taken at0 around before) values todo ∷ os) at state
 needs-next s p taken at0 around before known x todo os at st context values state goes needs =
@@ -155,8 +155,8 @@ ends s p taken at0 around before known os at st w after needs closes =
 -- same way.
 pub comes-alike : (s : Symbol) (os : List Opened) (p q : Production) (taken : List ℕ) (at0 : ℕ) (around : Around) (before : State) (x : Sym) (v w : Value) (at : ℕ)
     (st now : State) (context : Around) (vs ws : List Value) (state : State)
-    → ◌≡◌ {A = Going} (between p around at0 (v ∷ []) st) (Ok (record { context = context; values = vs; state = state }))
-    → ◌≡◌ {A = Going} (between q around at0 (w ∷ []) now) (Ok (record { context = context; values = ws; state = state }))
+    → ◌≡◌ {A = Continuation} (between p around at0 (v ∷ []) st) (Ok (record { context = context; values = vs; state = state }))
+    → ◌≡◌ {A = Continuation} (between q around at0 (w ∷ []) now) (Ok (record { context = context; values = ws; state = state }))
     → ((more : List Value) (end : State) → close p (byte_of taken) around at0 before (vs ++ more) end ≡ close q (byte_of taken) around at0 before (ws ++ more) end)
     → Comes s (opened (standing (rule_of p) taken at0 around before) [] (x ∷ []) ∷ os) v at st
     → Comes s (opened (standing (rule_of q) taken at0 around before) [] (x ∷ []) ∷ os) w at now
@@ -326,7 +326,7 @@ eats-widely s kind p byte wide is =
 pub byte-opens : {s : Symbol} {kind : Kind} {p : Production} {byte : ℕ} {around : Around} {os : List Opened} {at : ℕ} {st : State} {x : Sym} {todo : List Sym}
     {context : Around} {values : List Value} {state : State}
     → Taken s kind p (byte ∷ []) → Hole s (OfKind (number_of_kind kind)) around os at st → StandsAt s.bytes at (byte ∷ [])
-    → parts_of p ≡ x ∷ todo → ◌≡◌ {A = Going} (between p around at [] st) (Ok (record { context = context; values = values; state = state }))
+    → parts_of p ≡ x ∷ todo → ◌≡◌ {A = Continuation} (between p around at [] st) (Ok (record { context = context; values = values; state = state }))
     → Hole s x context (opened (standing (rule_of p) (byte ∷ []) at around st) values todo ∷ os) (at + 1) state
 byte-opens {s = s} {kind = kind} {p = p} {byte = byte} {around = around} {os = os} {at = at} {st = st} {x = x} {todo = todo} {context = context} {values = values} {state = state} t h stands parts goes =
     record {
@@ -339,7 +339,7 @@ byte-opens {s = s} {kind = kind} {p = p} {byte = byte} {around = around} {os = o
 pub chain-opens : {s : Symbol} {kind : Kind} {p : Production} {around : Around} {os : List Opened} {at : ℕ} {st : State} {x : Sym} {todo : List Sym}
     {context : Around} {values : List Value} {state : State}
     → Taken s kind p [] → Hole s (OfKind (number_of_kind kind)) around os at st
-    → parts_of p ≡ x ∷ todo → ◌≡◌ {A = Going} (between p around at [] st) (Ok (record { context = context; values = values; state = state }))
+    → parts_of p ≡ x ∷ todo → ◌≡◌ {A = Continuation} (between p around at [] st) (Ok (record { context = context; values = values; state = state }))
     → Hole s x context (opened (standing (rule_of p) [] at around st) values todo ∷ os) at state
 chain-opens {s = s} {kind = kind} {p = p} {around = around} {os = os} {at = at} {st = st} {x = x} {todo = todo} {context = context} {values = values} {state = state} t h parts goes =
     record {
@@ -365,7 +365,7 @@ byte-fills {s = s} {kind = kind} {p = p} {byte = byte} {around = around} {os = o
 pub next-part : {s : Symbol} (p : Production) {taken : List ℕ} {at0 : ℕ} {around : Around} {before : State} {known : List Value} {v : Value} {x : Sym}
     {todo : List Sym} {os : List Opened} {at : ℕ} {st : State} {context : Around} {values : List Value} {state : State}
     → Filled s (opened (standing (rule_of p) taken at0 around before) known (x ∷ todo) ∷ os) v at st
-    → ◌≡◌ {A = Going} (between p around at0 (known ++ v ∷ []) st) (Ok (record { context = context; values = values; state = state }))
+    → ◌≡◌ {A = Continuation} (between p around at0 (known ++ v ∷ []) st) (Ok (record { context = context; values = values; state = state }))
     → Hole s x context (opened (standing (rule_of p) taken at0 around before) values todo ∷ os) at state
 next-part {s = s} p {taken = taken} {at0 = at0} {around = around} {before = before} {known = known} {v = v} {x = x} {todo = todo} {os = os} {at = at} {st = st} {context = context} {values = values} {state = state} f goes =
     record { expects = needs-next s p taken at0 around before (known ++ v ∷ []) x todo os at st context values state goes f.comes }
@@ -422,7 +422,7 @@ digits-fill {s = s} {os = os} {st = st} digits end h is =
 
 -- the first piece of a name is the name so far
 pub first-named : (around : Around) (piece : Term) (st : State) → around.prefix ≡ outermost
-    → ◌≡◌ {A = Going} (named_so_far around (extended around.prefix piece) [] st)
+    → ◌≡◌ {A = Continuation} (named_so_far around (extended around.prefix piece) [] st)
     (Ok (record { context = after (alone piece) false around; values = tree (alone piece) false ∷ []; state = st }))
 unfolding named_so_far extended after
 first-named around piece st first = ap (λ x. named_so_far around (extended x piece) [] st) first

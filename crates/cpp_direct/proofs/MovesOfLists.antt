@@ -11,7 +11,7 @@ use Rattle.cpp_grammar.specs.Table.{rule_of}
 use Rattle.cpp_grammar.specs.Term.{Term, builtin, integer, boolean, pack, list}
 use Rattle.cpp_grammar.specs.Values.{State, Around, signed, tree, tree_of, is_listed, signed_of, signed_digits, prefix_tree, prefix_listed, part, Value, is_there, letter_of, piece_of, text_of, text, outermost}
 use Rattle.cpp_grammar.specs.References.{appended, with_type, with_prefix}
-use Rattle.cpp_grammar.specs.Between.{Going, between, after, inside, no_items, extended, applied}
+use Rattle.cpp_grammar.specs.Between.{Continuation, between, after, inside, no_items, extended, applied}
 use Rattle.cpp_grammar.specs.Meaning.{meaning}
 use Rattle.cpp_grammar.specs.Standing.{ends_arguments, enclosed_argument, is_code, operation_by, operation_or_address}
 use Rattle.cpp_grammar.specs.Unfolding as unfolding_
@@ -27,7 +27,7 @@ use Rattle.cpp_direct.proofs.Moves.{any-argument, awaited, comes-alike, fewer, h
 -- ## Arguments
 
 prefix-listed : (t : Term) (listed : Bool) (around : Around) (at : ℕ) (st : State)
-    → ◌≡◌ {A = Going} (between Production.Arguments (after t listed around) at [] st)
+    → ◌≡◌ {A = Continuation} (between Production.Arguments (after t listed around) at [] st)
     (Ok (record { context = inside around; values = []; state = unless_listed listed around t st }))
 unfolding between after inside with_prefix appended prefix_tree prefix_listed
 prefix-listed t true around at st = refl
@@ -233,7 +233,7 @@ address-opens s os around at st expects stands =
 
 -- a name that isn't looked up becomes a name so far
 named-so : (around : Around) (name : List ℕ) (at : ℕ) (st : State) → around.prefix ≡ outermost
-    → ◌≡◌ {A = Going} (between Production.SimpleId around at (text name ∷ []) st)
+    → ◌≡◌ {A = Continuation} (between Production.SimpleId around at (text name ∷ []) st)
     (Ok (record { context = after (template_named name) true around; values = tree (template_named name) true ∷ []; state = st }))
 unfolding between extended after text_of part
 named-so around name at st first = ap (λ x. between Production.SimpleId (record around { prefix = x }) at (text name ∷ []) st) first

@@ -16,7 +16,7 @@ use Rattle.cpp_grammar.specs.Term.{Term, alone, in_std, abbreviation, source, bu
 use Rattle.cpp_grammar.specs.Scope.{is_open, pack_length}
 use Rattle.cpp_grammar.specs.Values.{Candidate, State, outermost, Around, Value, nothing_there, text, tree, tree_of, text_of, is_listed, part, is_there, letter_of, piece_of, ref_of, signature}
 use Rattle.cpp_grammar.specs.References.{appended, is_function_type, is_module, with_type, with_unqualified, with_packs, packs_in, substituted}
-use Rattle.cpp_grammar.specs.Between.{after, applied, named_so_far, between, extended, Going}
+use Rattle.cpp_grammar.specs.Between.{after, applied, named_so_far, between, extended, Continuation}
 use Rattle.cpp_grammar.specs.Meaning.{meaning, listed_value, reference_to, with_item, signature_or}
 use Rattle.cpp_grammar.specs.Unfolding.{close, byte_of}
 use Rattle.cpp_direct.specs.Symbol.{Symbol}
@@ -497,7 +497,7 @@ referred : {s : Symbol} {outer : List Opened} {made_in : Around} {is_pointer : B
     (g : SignatureGoesOn s outer made_in is_pointer made at st) (is_lvalue : Bool) (item : Production) {os : List Opened}
     → Hole s (OfKind (number_of_kind Kind.Type)) g.around
     (opened (standing (rule_of item) [] (at + 1) g.around st) [] (OfKind (number_of_kind Kind.FunctionRest) ∷ []) ∷ os) (at + 1) st
-    → ((t : Term) (now : State) → ◌≡◌ {A = Going} (between item g.around (at + 1) (tree t true ∷ []) now)
+    → ((t : Term) (now : State) → ◌≡◌ {A = Continuation} (between item g.around (at + 1) (tree t true ∷ []) now)
     (Ok (record { values = tree (reference is_lvalue t) true ∷ []; context = g.around; state = with_candidate g.around (reference is_lvalue t) now })))
     → ((vs : List Value) (inner : State) → close item 0 g.around (at + 1) st vs inner ≡ close Production.RestItem 0 g.around (at + 1) st vs inner)
     → ((l : Term) (there : ℕ) (then_ : State) → Filled s os (signature l any_value) there then_ → Filled s g.inner (signature l any_value) there then_)

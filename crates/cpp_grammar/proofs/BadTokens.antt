@@ -14,7 +14,7 @@ use Rattle.cpp_grammar.specs.Scope.{count, element, is_list, has_pack, length_if
 use Rattle.cpp_grammar.specs.Values.{Lists, both_lists, longer_list, shorter_list, no_list, Candidate, State, Around, prefix_tree, Value, tree, text_of, part, local_number}
 use Rattle.cpp_grammar.specs.References.{appended, with_packs, packs_in, is_module, substituted, parameter_named}
 use Rattle.cpp_grammar.specs.Between.{listed_so_far, parameter_so_far, index_of, between, next, argument_so_far}
-use Rattle.cpp_grammar.specs.Row.{Before, quiet, goes, becomes, tests, holds, unread, before_part}
+use Rattle.cpp_grammar.specs.Row.{Action, quiet, goes, becomes, tests, holds, unread, before_part}
 use Rattle.cpp_grammar.specs.Meant.{tested as tested_, done}
 use Rattle.cpp_grammar.specs.Rows.{row_of}
 use Rattle.cpp_grammar.specs.Rescoping.{generic_so_far, parameter_here, is_foreign, in_scope, under_scope, with_free, restated, substituted_wide, numbered, place_in, named_in, left_at, with_lists, listed_by, opening_wide, is_instance, holder_so_far, module_named, module_so_far, between_wide, close_wide, cpp_wide, unfold_wide, argument_here}
@@ -71,7 +71,7 @@ opening_bad Production.Lambda parts place state = number_bad (place - 1) (last_t
 opening_bad Production.Unnamed parts place state = number_bad (place - 1) (last_token parts []) state
 opening_bad _ parts place state = tt
 
-done_bad : (b : Before) (around : Around) (place : ℕ) (vs : List Value) (state : State) → IsBad (done b around place vs state)
+done_bad : (b : Action) (around : Around) (place : ℕ) (vs : List Value) (state : State) → IsBad (done b around place vs state)
 unfolding done tested_
 done_bad quiet around place vs state = tt
 done_bad (goes gain w) around place vs state = tt

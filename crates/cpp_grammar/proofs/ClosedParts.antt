@@ -11,8 +11,8 @@ use Rattle.cpp_grammar.specs.Term.{Term, holder, parameter}
 use Rattle.cpp_grammar.specs.Scope.{is_open}
 use Rattle.cpp_grammar.specs.Values.{by_some, Candidate, State, Around, prefix_tree, prefix_listed, Value, nothing_there, tree, tree_of, text_of, part}
 use Rattle.cpp_grammar.specs.References.{appended, is_module, parameter_named}
-use Rattle.cpp_grammar.specs.Between.{in_signature, under_expansion, after, inside, Going, listed_so_far, parameter_so_far, argument_so_far, index_of, next, between}
-use Rattle.cpp_grammar.specs.Row.{Where, as_before, in_its_name, in_its_types, in_a_signature, under_it, nameless, after_part, after_the_name, Before, quiet, goes, becomes, tests, holds, unread, before_part}
+use Rattle.cpp_grammar.specs.Between.{in_signature, under_expansion, after, inside, Continuation, listed_so_far, parameter_so_far, argument_so_far, index_of, next, between}
+use Rattle.cpp_grammar.specs.Row.{Where, as_before, in_its_name, in_its_types, in_a_signature, under_it, nameless, after_part, after_the_name, Action, quiet, goes, becomes, tests, holds, unread, before_part}
 use Rattle.cpp_grammar.specs.Meant.{made, is_listing, around_part, packs_within, gained, replaced, tested, done}
 use Rattle.cpp_grammar.specs.Rows.{row_of}
 use Rattle.cpp_grammar.proofs.Ways.{has_signature}
@@ -40,7 +40,7 @@ abbrev GoesOn : (own : Bool) → Around → (at : ℕ) → State → Next Value 
 GoesOn own around at state n = Goes own (Bare own around) around at state n
 
 goes_by : (own : Bool) (s : Type 0) (around : Around) (at : ℕ) (state : State) (vs : List Value) (inner : Around) (new : State) (n : Next Value State Around) →
-    AllGood s vs → Grows own around at state new → Fits own around inner → (s → Bare own inner) → ◌≡◌ {A = Going} (Ok (record { context = inner; values = vs; state = new })) (Ok n) → Goes own s around at state n
+    AllGood s vs → Grows own around at state new → Fits own around inner → (s → Bare own inner) → ◌≡◌ {A = Continuation} (Ok (record { context = inner; values = vs; state = new })) (Ok n) → Goes own s around at state n
 goes_by own s around at state vs inner new n values grows fits bare e =
     let whole : Next Value State Around = record { context = inner; values = vs; state = new } in
     subst (λ x. Goes own s around at state x) (ok_same whole n e) (record { values = values; grows = grows; fits = fits; bare = bare })
@@ -51,7 +51,7 @@ record FitsBare (own : Bool) (around inner : Around) : Type 0 where
   bare : Bare own around → Bare own inner
 
 goes_to : (own : Bool) (around : Around) (at : ℕ) (state : State) (vs : List Value) (inner : Around) (new : State) (n : Next Value State Around) →
-    AllGood (Bare own around) vs → Grows own around at state new → FitsBare own around inner → ◌≡◌ {A = Going} (Ok (record { context = inner; values = vs; state = new })) (Ok n) → GoesOn own around at state n
+    AllGood (Bare own around) vs → Grows own around at state new → FitsBare own around inner → ◌≡◌ {A = Continuation} (Ok (record { context = inner; values = vs; state = new })) (Ok n) → GoesOn own around at state n
 goes_to own around at state vs inner new n values grows fits e = goes_by own (Bare own around) around at state vs inner new n values grows fits.fits fits.bare e
 
 fits_same : (own : Bool) (around : Around) → GoodPrefix (Bare own around) around.prefix → FitsBare own around around
@@ -88,7 +88,7 @@ replaced_good s v (w ∷ ws) good all = (good, all.1)
 -- the first value is a tree now, which may be the name so far
 becomes_goes : (own : Bool) (around : Around) (at : ℕ) (state : State) (t : Term) (is_in is_name : Bool) (vs : List Value) (new : State) (n : Next Value State Around) → GoodPrefix (Bare own around) around.prefix →
     Good (Bare own around) t → AllGood (Bare own around) vs → Grows own around at state new →
-    ◌≡◌ {A = Going} (Ok (record { context = cond is_name (after t is_in around) around; values = replaced (tree t is_in) vs; state = new })) (Ok n) → GoesOn own around at state n
+    ◌≡◌ {A = Continuation} (Ok (record { context = cond is_name (after t is_in around) around; values = replaced (tree t is_in) vs; state = new })) (Ok n) → GoesOn own around at state n
 unfolding held
 becomes_goes own around at state t is_in true vs new n pre good all grows e =
     goes_to own around at state (replaced (tree t is_in) vs) (after t is_in around) new n (replaced_good (Bare own around) (tree t is_in) vs good all) grows (fits_after own around t is_in good) e
@@ -130,7 +130,7 @@ unfolding packs_within
 packs_grow own under_it around at state new grows = grows_packs own around at state new None grows
 packs_grow own _ around at state new grows = grows
 
-done_goes : (own : Bool) (b : Before) (around : Around) (place : ℕ) (vs : List Value) (state : State) (n : Next Value State Around) (at : ℕ) → goes_here b ≡ true →
+done_goes : (own : Bool) (b : Action) (around : Around) (place : ℕ) (vs : List Value) (state : State) (n : Next Value State Around) (at : ℕ) → goes_here b ≡ true →
     GoodPrefix (Bare own around) around.prefix → AllGood (Bare own around) vs → done b around place vs state ≡ Ok n → GoesOn own around at state n
 unfolding goes_here done tree_of
 done_goes own quiet around place vs state n at here pre all e = goes_to own around at state vs around state n all (grows_same own around at state state refl) (fits_same own around pre) e
@@ -142,15 +142,15 @@ done_goes own (becomes m is_in is_name is_candidate) around place vs state n at 
     let good = made_tree_good (Bare own around) 0 around vs m pre all in
     becomes_goes own around at state t is_in is_name vs (cond is_candidate (appended around t state) state) n pre good all (candidate_grows own around at t state is_candidate good) e
 done_goes own (tests after_t is_name) around place vs state n at here pre all e = tests_goes own around (cond after_t (place - 1) place) at state (index_of (part vs 0)) is_name vs n pre all e
-done_goes own holds around place vs state n at here pre all e = let clash : ◌≡◌ {A = Going} (Err (BadReference place)) (Ok n) = e in absurd cc
-done_goes own unread around place vs state n at here pre all e = let clash : ◌≡◌ {A = Going} (Err (BadReference place)) (Ok n) = e in absurd cc
+done_goes own holds around place vs state n at here pre all e = let clash : ◌≡◌ {A = Continuation} (Err (BadReference place)) (Ok n) = e in absurd cc
+done_goes own unread around place vs state n at here pre all e = let clash : ◌≡◌ {A = Continuation} (Err (BadReference place)) (Ok n) = e in absurd cc
 
 within : (own : Bool) (p : Production) (around : Around) (at : ℕ) (state : State) (n : Next Value State Around) → GoesOn own around at state n → Goes own (Within own p around) around at state n
 within own p around at state n g = record { values = all_where (Bare own around) (Within own p around) n.values (λ w. w.0) g.values; grows = g.grows; fits = g.fits; bare = λ w. g.bare w.0 }
 
 -- in a signature only its own parameters are named
 signature_goes : (own : Bool) (p : Production) (around : Around) (at : ℕ) (vs : List Value) (state : State) (n : Next Value State Around) → has_signature p ≡ true → AllGood (Within own p around) vs →
-    ◌≡◌ {A = Going} (next vs (in_signature around) state) (Ok n) → Goes own (Within own p around) around at state n
+    ◌≡◌ {A = Continuation} (next vs (in_signature around) state) (Ok n) → Goes own (Within own p around) around at state n
 unfolding in_signature
 signature_goes own p around at vs state n is all e =
     goes_by own (Within own p around) around at state vs (in_signature around) state n all (grows_same own around at state state refl) (fits_signature own around)
@@ -229,17 +229,17 @@ module_goes around place number at state n old e = found_ (named_by_both state.c
         either (λ o. o ≡ Some c → IsOld true around at c) (nat_eq (place_in false state.candidates number) (place_in true state.candidates number)) _ _
         (λ same is. old_get true around at state.candidates (place_in false state.candidates number) c old is) (λ other is. absurd cc)
 
-    found_ : (o : Option Candidate) → ((c : Candidate) → o ≡ Some c → IsOld true around at c) → ◌≡◌ {A = Going} (elim (module_of o) [ None ↦ Err (BadReference place) | Some t ↦ listed_so_far around t [] state ]) (Ok n) → GoesOn true around at state n
-    found_ None each h = let clash : ◌≡◌ {A = Going} (Err (BadReference place)) (Ok n) = h in absurd cc
+    found_ : (o : Option Candidate) → ((c : Candidate) → o ≡ Some c → IsOld true around at c) → ◌≡◌ {A = Continuation} (elim (module_of o) [ None ↦ Err (BadReference place) | Some t ↦ listed_so_far around t [] state ]) (Ok n) → GoesOn true around at state n
+    found_ None each h = let clash : ◌≡◌ {A = Continuation} (Err (BadReference place)) (Ok n) = h in absurd cc
     found_ (Some c) each h =
-        either (λ m. ◌≡◌ {A = Going} (elim m [ None ↦ Err (BadReference place) | Some t ↦ listed_so_far around t [] state ]) (Ok n) → GoesOn true around at state n) (is_module c.tree && not (is_open c.tree)) (Some c.tree) None
+        either (λ m. ◌≡◌ {A = Continuation} (elim m [ None ↦ Err (BadReference place) | Some t ↦ listed_so_far around t [] state ]) (Ok n) → GoesOn true around at state n) (is_module c.tree && not (is_open c.tree)) (Some c.tree) None
         (λ is g.
         let closed = not_true (is_open c.tree) (second_of_both (is_module c.tree) (not (is_open c.tree)) is) in
         named_goes around at state state c.tree n (record { closed = λ bare. closed; scopes = λ n. (each c refl).scopes }) (grows_same true around at state state refl) g)
-        (λ none g. let clash : ◌≡◌ {A = Going} (Err (BadReference place)) (Ok n) = g in absurd cc) h
+        (λ none g. let clash : ◌≡◌ {A = Continuation} (Err (BadReference place)) (Ok n) = g in absurd cc) h
 
 base_goes : (around : Around) (at : ℕ) (state : State) (n : Next Value State Around) → GoodPrefix (Bare true around) around.prefix →
-    ◌≡◌ {A = Going} (next [] (inside around) (counted_unless (prefix_listed around.prefix) by_some around (prefix_tree around.prefix) state)) (Ok n) → GoesOn true around at state n
+    ◌≡◌ {A = Continuation} (next [] (inside around) (counted_unless (prefix_listed around.prefix) by_some around (prefix_tree around.prefix) state)) (Ok n) → GoesOn true around at state n
 base_goes around at state n pre e =
     let listed = prefix_listed around.prefix in
     let t = prefix_tree around.prefix in

@@ -26,8 +26,8 @@ use Rattle.cpp_grammar.specs.Term.{Term, parameter, lambda, generic_lambda, list
 use Rattle.cpp_grammar.specs.Scope.{count, element, is_open, length_if_pack}
 use Rattle.cpp_grammar.specs.Values.{by_all, Candidate, Expected, prefix_at, qualified_at, State, Around, prefix_tree, prefix_listed, Value, nothing_there, text, tree, piece, tree_of, is_listed, text_of, local_number, part}
 use Rattle.cpp_grammar.specs.References.{appended, is_function_type, with_type, with_unqualified, with_prefix, with_packs, packs_in, is_module, substituted, parameter_named}
-use Rattle.cpp_grammar.specs.Between.{in_name, in_types, in_signature, under_expansion, after, inside, no_items, Going, listed_so_far, parameter_so_far, index_of, between, next, argument_so_far}
-use Rattle.cpp_grammar.specs.Row.{Gain, nothing, the_prefix, type_of, unqualified_of, itself, Where, as_before, in_its_name, in_its_types, in_a_signature, under_it, nameless, after_part, after_the_name, Before, quiet, goes, becomes, tests, holds, unread, before_part}
+use Rattle.cpp_grammar.specs.Between.{in_name, in_types, in_signature, under_expansion, after, inside, no_items, Continuation, listed_so_far, parameter_so_far, index_of, between, next, argument_so_far}
+use Rattle.cpp_grammar.specs.Row.{Gain, nothing, the_prefix, type_of, unqualified_of, itself, Where, as_before, in_its_name, in_its_types, in_a_signature, under_it, nameless, after_part, after_the_name, Action, quiet, goes, becomes, tests, holds, unread, before_part}
 use Rattle.cpp_grammar.specs.Meant.{made, is_listing, around_part, packs_within, gained, replaced, tested as tested_, done}
 use Rattle.cpp_grammar.specs.Rows.{row_of}
 use Rattle.cpp_grammar.specs.Meaning.{parameters, meaning}
@@ -244,7 +244,7 @@ tests_none is_name around place k vs state settled all cs =
         (kept is_name now (appended_none around (parameter k) s none (subst AllHaveNone (sym same) cs)))
     packed arguments is (Err e) same = tt
 
-done_none : (b : Before) (around : Around) (place : ℕ) (vs : List Value) (state : State) → goes_here b ≡ true → Settled around → (around.in_lambda ≡ true → AllNone vs) → AllHaveNone state.candidates →
+done_none : (b : Action) (around : Around) (place : ℕ) (vs : List Value) (state : State) → goes_here b ≡ true → Settled around → (around.in_lambda ≡ true → AllNone vs) → AllHaveNone state.candidates →
     IfOk (done b around place vs state) (NextHasNone around.in_lambda false)
 unfolding goes_here done tree_of is_open
 done_none quiet around place vs state here settled all cs = record { values = all; inside = λ l. l; context = settled; candidates = cs }
@@ -294,12 +294,12 @@ behind_none p byte around began vs state settled all cs =
 -- ## References
 
 -- where an argument is named there is a scope, and so no signature
-named_here : (around : Around) (place k : ℕ) (state : State) (f : State → Going) (own : Going) (n : Next Value State Around) → Settled around → (parameter_named around place k state >>= f) ≡ Ok n →
-    ◌≡◌ {A = Going} (elim around.in_lambda [ true ↦ own | false ↦ parameter_named around place k state >>= f ]) (Ok n)
+named_here : (around : Around) (place k : ℕ) (state : State) (f : State → Continuation) (own : Continuation) (n : Next Value State Around) → Settled around → (parameter_named around place k state >>= f) ≡ Ok n →
+    ◌≡◌ {A = Continuation} (elim around.in_lambda [ true ↦ own | false ↦ parameter_named around place k state >>= f ]) (Ok n)
 unfolding parameter_named
 named_here around place k state f own n settled e =
-    either (λ x. ◌≡◌ {A = Going} x (Ok n)) around.in_lambda own (parameter_named around place k state >>= f)
-    (λ is. absurd (if_there (λ m. (m >>= f) ≡ Ok n → ⊥) around.scope _ _ (λ h. let clash : ◌≡◌ {A = Going} (Err (BadReference place)) (Ok n) = h in cc)
+    either (λ x. ◌≡◌ {A = Continuation} x (Ok n)) around.in_lambda own (parameter_named around place k state >>= f)
+    (λ is. absurd (if_there (λ m. (m >>= f) ≡ Ok n → ⊥) around.scope _ _ (λ h. let clash : ◌≡◌ {A = Continuation} (Err (BadReference place)) (Ok n) = h in cc)
     (λ arguments there h. let clash : ◌≡◌ {A = Option Term} None (Some arguments) = sym (settled.bare is) ∙ there in cc) e)) (λ is. e)
 
 here_stays : (around : Around) (place k : ℕ) (state : State) (n : Next Value State Around) → Settled around → parameter_so_far around place k [] state ≡ Ok n → parameter_here around place k [] state ≡ Ok n
@@ -318,9 +318,9 @@ between_stays Production.Parameter around place (v ∷ []) state n settled e = h
 between_stays Production.NestParameter around place (v ∷ []) state n settled e = here_stays around place (index_of v) state n settled e
 between_stays Production.ParameterArgument around place (v ∷ []) state n settled e = here_stays around (place - 1) (index_of v) state n settled e
 between_stays Production.ParameterExpression around place (v ∷ []) state n settled e = argument_stays around (place - 1) (index_of v) state n settled e
-between_stays Production.HeldArguments around place [] state n settled e = let clash : ◌≡◌ {A = Going} (Err (BadReference place)) (Ok n) = e in absurd cc
-between_stays Production.Holder around place (v ∷ []) state n settled e = let clash : ◌≡◌ {A = Going} (Err (BadReference place)) (Ok n) = e in absurd cc
-between_stays Production.NamedModule around place (v ∷ []) state n settled e = let clash : ◌≡◌ {A = Going} (Err (BadReference place)) (Ok n) = e in absurd cc
+between_stays Production.HeldArguments around place [] state n settled e = let clash : ◌≡◌ {A = Continuation} (Err (BadReference place)) (Ok n) = e in absurd cc
+between_stays Production.Holder around place (v ∷ []) state n settled e = let clash : ◌≡◌ {A = Continuation} (Err (BadReference place)) (Ok n) = e in absurd cc
+between_stays Production.NamedModule around place (v ∷ []) state n settled e = let clash : ◌≡◌ {A = Continuation} (Err (BadReference place)) (Ok n) = e in absurd cc
 between_stays _ around place vs state n settled e = e
 
 -- what isn't refused isn't foreign

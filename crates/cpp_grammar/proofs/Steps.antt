@@ -1,10 +1,10 @@
 -- What holds for each step of a row holds for what is done before any of its parts.
 use Rattle.std.proofs.Common.{◌≡◌, refl, ℕ, zero, suc, List, [], ◌∷◌, Bool, true, false, ◌&&◌, get_or}
 use Rattle.std.proofs.lemmas.Bool.{false≢true}
-use Rattle.cpp_grammar.specs.Row.{Before, goes, Where, in_its_name, in_its_types, in_a_signature, Row, before_part}
+use Rattle.cpp_grammar.specs.Row.{Action, goes, Where, in_its_name, in_its_types, in_a_signature, Row, before_part}
 
 -- the condition holds for these steps, and for what is done before each part after theirs
-unfoldable pub all_pass : (Before → Bool) → List Before → Before → Bool
+unfoldable pub all_pass : (Action → Bool) → List Action → Action → Bool
 all_pass passes [] onward = passes onward
 all_pass passes (b ∷ rest) onward = passes b && all_pass passes rest onward
 
@@ -16,13 +16,13 @@ pub second_of_both : (x y : Bool) → (x && y) ≡ true → y ≡ true
 second_of_both true y h = h
 second_of_both false y h = absurd (false≢true h)
 
-one_passes : (passes : Before → Bool) (steps : List Before) (onward : Before) → all_pass passes steps onward ≡ true → (n : ℕ) → passes (get_or steps n onward) ≡ true
+one_passes : (passes : Action → Bool) (steps : List Action) (onward : Action) → all_pass passes steps onward ≡ true → (n : ℕ) → passes (get_or steps n onward) ≡ true
 unfolding all_pass
 one_passes passes [] onward h n = h
 one_passes passes (b ∷ rest) onward h zero = first_of_both (passes b) (all_pass passes rest onward) h
 one_passes passes (b ∷ rest) onward h (suc n) = one_passes passes rest onward (second_of_both (passes b) (all_pass passes rest onward) h) n
 
-pub step_passes : (passes : Before → Bool) (row : Row) → all_pass passes row.before row.onward ≡ true → (n : ℕ) → passes (before_part row n) ≡ true
+pub step_passes : (passes : Action → Bool) (row : Row) → all_pass passes row.before row.onward ≡ true → (n : ℕ) → passes (before_part row n) ≡ true
 unfolding before_part
 step_passes passes row h n = one_passes passes row.before row.onward h n
 
@@ -33,6 +33,6 @@ is_here in_its_types = false
 is_here in_a_signature = false
 is_here _ = true
 
-unfoldable pub goes_here : Before → Bool
+unfoldable pub goes_here : Action → Bool
 goes_here (goes gain w) = is_here w
 goes_here _ = true

@@ -7,7 +7,7 @@ use Rattle.sym_link.specs.Reading.{Found, Reading}
 use Rattle.sym_link.specs.Unfold.{found}
 use Rattle.cpp_grammar.specs.declared.production.Production.{Production}
 use Rattle.cpp_grammar.specs.Values.{State, Around, Value, nothing_there, text}
-use Rattle.cpp_grammar.specs.Between.{Going, between}
+use Rattle.cpp_grammar.specs.Between.{Continuation, between}
 use Rattle.cpp_grammar.specs.Unfolding.{opening, close, production_at, byte_of}
 use Rattle.cpp_grammar.specs.Rescoping.{opening_wide, between_wide, close_wide}
 
@@ -15,7 +15,7 @@ use Rattle.cpp_grammar.specs.Rescoping.{opening_wide, between_wide, close_wide}
 pub record Way : Type 0 where
   pub own : Bool
   pub opening : Production → Forest → (place : ℕ) → State → Result State Refusal
-  pub between : Production → Around → (place : ℕ) → List Value → State → Going
+  pub between : Production → Around → (place : ℕ) → List Value → State → Continuation
   pub close : Production → (byte : ℕ) → Around → (place : ℕ) → (began : State) → List Value → State → Result (Found Value State) Refusal
 
 unfoldable pub reading_by : Way → Reading Value State Around

@@ -5,10 +5,10 @@ use Rattle.sym_link.specs.Reading.{◌>>=◌}
 use Rattle.cpp_grammar.specs.Term.{Term, list, parameter, pack, absent, any_value}
 use Rattle.cpp_grammar.specs.Values.{State, Around, prefix_tree, Value, nothing_there, letter, tree, piece, named, pair, unqualified, tree_of, piece_of, is_listed, qualifiers_of, ref_of, letter_of, is_there, text_of, signed_of, normal, local_number, part}
 use Rattle.cpp_grammar.specs.References.{appended, with_type, with_unqualified, with_prefix, parameter_named}
-use Rattle.cpp_grammar.specs.Surrounding.{Going, next, in_name, in_types, in_signature, under_expansion, after, inside, extended, with_tag, applied, no_items, index_of}
+use Rattle.cpp_grammar.specs.Surrounding.{Continuation, next, in_name, in_types, in_signature, under_expansion, after, inside, extended, with_tag, applied, no_items, index_of}
 use Rattle.cpp_grammar.specs.Standing.{parameters, discriminator_of, listed_value, with_item, first_letter, second_letter}
 use Rattle.cpp_grammar.specs.Builders.{Argument, a_tree, some_bytes, a_number, a_truth, some_qualifiers, a_mark, a_signed, a_discriminator, tree_in, number_in, truth_in, built}
-use Rattle.cpp_grammar.specs.Row.{Source, tree_at, list_at, parameters_at, piece_at, the_name, no_tree, text_at, digits_at, code, taken, fixed, letter_at, letter_or_taken, letter_or, operator_first_at, operator_second_at, number_at, yes, no, there_at, letter_is, qualifiers_at, qualified_by, ref_at, signed_at, discriminator_at, Made, of, only, extending, tagging, applying, packing, Listing, listed, unlisted, as_part, unless_there, as_part_alone, Form, handed, finished, either, the_byte, makes, a_piece, a_pair, cell, item, a_name, in_place, own, Where, as_before, in_its_name, in_its_types, in_a_signature, under_it, nameless, after_part, after_the_name, Gain, nothing, the_prefix, type_of, unqualified_of, itself, Before, quiet, goes, becomes, tests, holds, unread, Row}
+use Rattle.cpp_grammar.specs.Row.{Source, tree_at, list_at, parameters_at, piece_at, the_name, no_tree, text_at, digits_at, code, taken, fixed, letter_at, letter_or_taken, letter_or, operator_first_at, operator_second_at, number_at, yes, no, there_at, letter_is, qualifiers_at, qualified_by, ref_at, signed_at, discriminator_at, Made, of, only, extending, tagging, applying, packing, Listing, listed, unlisted, as_part, unless_there, as_part_alone, Form, handed, finished, either, the_byte, makes, a_piece, a_pair, cell, item, a_name, in_place, own, Where, as_before, in_its_name, in_its_types, in_a_signature, under_it, nameless, after_part, after_the_name, Gain, nothing, the_prefix, type_of, unqualified_of, itself, Action, quiet, goes, becomes, tests, holds, unread, Row}
 use Rattle.cpp_grammar.specs.Own.{own_meaning}
 
 -- ## Trees
@@ -108,11 +108,11 @@ replaced t [] = []
 replaced t (v ∷ vs) = t ∷ vs
 
 -- a parameter is written in the place of its number
-unfoldable pub tested : (is_name : Bool) → Around → Term → List Value → (now before : State) → Going
+unfoldable pub tested : (is_name : Bool) → Around → Term → List Value → (now before : State) → Continuation
 tested is_name around t vs now before =
     next (replaced (tree t true) vs) (cond is_name (after t true around) around) (cond is_name now (record now { candidates = before.candidates }))
 
-unfoldable pub done : Before → Around → (place : ℕ) → List Value → State → Going
+unfoldable pub done : Action → Around → (place : ℕ) → List Value → State → Continuation
 done quiet around place vs state = next vs around state
 done (goes gain w) around place vs state = next vs (around_part around place vs w) (packs_within w (gained gain around vs nothing_there state))
 done (becomes m is_in is_name is_candidate) around place vs state =

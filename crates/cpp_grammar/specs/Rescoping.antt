@@ -15,7 +15,7 @@ use Rattle.cpp_grammar.specs.Term.{Term, instance, holder, lvalue, rvalue, param
 use Rattle.cpp_grammar.specs.Scope.{count, element, is_list, has_pack, is_open, Free, none_free, one_free, several_free, free_in, pack_length}
 use Rattle.cpp_grammar.specs.Values.{Counted, by_all, by_newer, by_gcc, by_some, Candidate, Lists, both_lists, longer_list, shorter_list, no_list, Expected, prefix_at, qualified_at, State, Around, prefix_tree, prefix_listed, Value, nothing_there, tree, piece, pair, text, tree_of, is_listed, text_of, part}
 use Rattle.cpp_grammar.specs.References.{appended, appended_by, is_module, with_packs, substituted}
-use Rattle.cpp_grammar.specs.Between.{Going, next, inside, listed_so_far, parameter_so_far, argument_so_far, index_of, between}
+use Rattle.cpp_grammar.specs.Between.{Continuation, next, inside, listed_so_far, parameter_so_far, argument_so_far, index_of, between}
 use Rattle.cpp_grammar.specs.Meaning.{meaning}
 use Rattle.cpp_grammar.specs.Unfolding.{opening, close, production_at, byte_of, first_around, first_state, first_tree}
 
@@ -26,18 +26,18 @@ unfoldable pub generic_number : ℕ → ℕ
 generic_number k = cond (nat_lt k (2 ^ 32)) k (2 ^ 32 - 1)
 
 -- a lambda's own parameter, in its signature, is good whatever its number, and a candidate
-unfoldable pub generic_so_far : Around → ℕ → List Value → State → Going
+unfoldable pub generic_so_far : Around → ℕ → List Value → State → Continuation
 generic_so_far around k vs state = listed_so_far around (parameter (generic_number k)) vs (appended around (parameter (generic_number k)) state)
 
 -- in a signature a parameter is the lambda's own, and elsewhere one of the encoding around it
-unfoldable pub parameter_here : Around → (place : ℕ) → ℕ → List Value → State → Going
+unfoldable pub parameter_here : Around → (place : ℕ) → ℕ → List Value → State → Continuation
 parameter_here around place k vs state = elim around.in_lambda [
   | true ↦ generic_so_far around k vs state
   | false ↦ parameter_so_far around place k vs state
 ]
 
 -- likewise a parameter in an expression, which is no candidate
-unfoldable pub argument_here : Around → (place : ℕ) → ℕ → State → Going
+unfoldable pub argument_here : Around → (place : ℕ) → ℕ → State → Continuation
 argument_here around place k state = elim around.in_lambda [
   | true ↦ next (tree (parameter (generic_number k)) true ∷ []) around state
   | false ↦ argument_so_far around place k state
@@ -68,7 +68,7 @@ is_instance _ = false
 
 -- After arguments an M is refused: compilers also differ in whether they count the name of the arguments' template, and what
 -- the arguments name by its number has been read by then.
-unfoldable pub holder_so_far : Around → (place : ℕ) → State → Going
+unfoldable pub holder_so_far : Around → (place : ℕ) → State → Continuation
 holder_so_far around place state = elim (is_instance (prefix_tree around.prefix)) [
   | true ↦ Err (BadReference place)
   | false ↦ let t = holder (prefix_tree around.prefix) in listed_so_far around t [] (with_holder around t state)
@@ -255,7 +255,7 @@ numbered around place number state = elim (nat_eq (place_in false state.candidat
 ]
 
 -- a module that a substitution names before a component of a nested name
-unfoldable pub module_so_far : Around → (place : ℕ) → (number : ℕ) → State → Going
+unfoldable pub module_so_far : Around → (place : ℕ) → (number : ℕ) → State → Continuation
 module_so_far around place number state = elim (module_named number state) [
   | None ↦ Err (BadReference place)
   | Some t ↦ listed_so_far around t [] state
@@ -276,7 +276,7 @@ opening_wide Production.NestTemplate parts place state = Ok (expecting (prefix_a
 opening_wide Production.QualifiedPlain parts place state = Ok (expecting (qualified_at place) state)
 opening_wide production parts place state = opening production parts place state
 
-unfoldable pub between_wide : Production → Around → (place : ℕ) → List Value → State → Going
+unfoldable pub between_wide : Production → Around → (place : ℕ) → List Value → State → Continuation
 between_wide Production.Parameter around place (v ∷ []) state = parameter_here around place (index_of v) [] state
 between_wide Production.NestParameter around place (v ∷ []) state = parameter_here around place (index_of v) [] state
 between_wide Production.ParameterArgument around place (v ∷ []) state = parameter_here around (place - 1) (index_of v) [] state

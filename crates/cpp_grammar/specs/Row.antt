@@ -143,22 +143,22 @@ pub data Gain : Type 0 where
   itself : Gain
 
 -- what is done before a part
-pub data Before : Type 0 where
-  quiet : Before
-  goes : Gain → Where → Before
+pub data Action : Type 0 where
+  quiet : Action
+  goes : Gain → Where → Action
   -- the first part becomes this tree, which may be the name so far, and may become a candidate
-  becomes : Made → (is_in is_name is_candidate : Bool) → Before
+  becomes : Made → (is_in is_name is_candidate : Bool) → Action
   -- the first part is the number of a parameter, which is tested at the place, or at the T before it; it may be the name so far
-  tests : (after_t is_name : Bool) → Before
+  tests : (after_t is_name : Bool) → Action
   -- the first part is an M after the name so far
-  holds : Before
+  holds : Action
   -- what the reading of the ABI's grammar refuses
-  unread : Before
+  unread : Action
 
 pub record Row : Type 0 where
   -- before each part from the first one on, and before each of the others
-  pub before : List Before
-  pub onward : Before
+  pub before : List Action
+  pub onward : Action
   pub form : Form
   pub gain : Gain
   -- at the end the packs are those of the surroundings again
@@ -169,7 +169,7 @@ pub record Row : Type 0 where
 -- ## Counts
 
 -- The number of parts before which nothing is done: none, the first ones, or all, at most five
-unfoldable pub quiet_from : List Before → Before → (n : ℕ) → ℕ
+unfoldable pub quiet_from : List Action → Action → (n : ℕ) → ℕ
 quiet_from [] quiet n = 5
 quiet_from [] onward n = n
 quiet_from (quiet ∷ rest) onward n = quiet_from rest onward (n + 1)
@@ -178,7 +178,7 @@ quiet_from (b ∷ rest) onward n = n
 unfoldable pub quiet_before : Row → ℕ
 quiet_before row = quiet_from row.before row.onward 0
 
-unfoldable pub before_part : Row → ℕ → Before
+unfoldable pub before_part : Row → ℕ → Action
 before_part row n = get_or row.before n row.onward
 
 -- how many nodes are made at most for a tree, before a part, and at the end
@@ -186,7 +186,7 @@ unfoldable pub most_made : Made → ℕ
 most_made (only source) = 0
 most_made m = 1
 
-unfoldable pub most_before : Before → ℕ
+unfoldable pub most_before : Action → ℕ
 most_before (becomes m is_in is_name is_candidate) = most_made m
 most_before (tests after_t is_name) = 1
 most_before holds = 1

@@ -2,7 +2,7 @@
 use Rattle.std.specs.Prelude.{ℕ, List, [], ◌∷◌, true, false}
 use Rattle.cpp_grammar.specs.declared.production.Production.{Production}
 use Rattle.cpp_grammar.specs.Makers.{new_symbol, new_special, new_of_name, new_construction, new_clone, new_in_std, new_instance, new_local, new_abbreviation, new_source, new_operator, new_literal_operator, new_constructor, new_unnamed, new_string_literal, new_conversion, new_enumeration, new_bindings, new_builtin, new_sized_float, new_constrained, new_vendor, new_pointer, new_lvalue, new_rvalue, new_array, new_bounded, new_member_pointer, new_function_type, new_qualified, new_vector, new_complex, new_decltype, new_expansion, new_integer, new_boolean, new_null_pointer, new_encoding_literal, new_operation, new_function_parameter, new_pack}
-use Rattle.cpp_grammar.specs.Row.{Source, tree_at, list_at, parameters_at, piece_at, the_name, no_tree, text_at, digits_at, code, taken, fixed, letter_at, letter_or_taken, letter_or, operator_first_at, operator_second_at, number_at, yes, no, there_at, letter_is, qualifiers_at, qualified_by, ref_at, signed_at, discriminator_at, Made, of, only, extending, tagging, applying, packing, listed, unlisted, as_part, unless_there, as_part_alone, Form, handed, finished, either, the_byte, makes, a_piece, a_pair, cell, item, a_name, in_place, own, Where, as_before, in_its_name, in_its_types, in_a_signature, under_it, nameless, after_part, after_the_name, Gain, nothing, the_prefix, type_of, unqualified_of, itself, Before, quiet, goes, becomes, tests, holds, unread, Row, by_letters, character, closure, covariant_thunk, elements, enclosed, encoding, first_of_operator, in_default, inheriting, local_name, lvalue_signature, many_digits, negative, nest_end, nested_name, no_parameters, no_value, non_virtual_offset, non_virtual_thunk, one_digit, positive, reference, rvalue_signature, substitution, suffix, virtual_offset, virtual_thunk}
+use Rattle.cpp_grammar.specs.Row.{Source, tree_at, list_at, parameters_at, piece_at, the_name, no_tree, text_at, digits_at, code, taken, fixed, letter_at, letter_or_taken, letter_or, operator_first_at, operator_second_at, number_at, yes, no, there_at, letter_is, qualifiers_at, qualified_by, ref_at, signed_at, discriminator_at, Made, of, only, extending, tagging, applying, packing, listed, unlisted, as_part, unless_there, as_part_alone, Form, handed, finished, either, the_byte, makes, a_piece, a_pair, cell, item, a_name, in_place, own, Where, as_before, in_its_name, in_its_types, in_a_signature, under_it, nameless, after_part, after_the_name, Gain, nothing, the_prefix, type_of, unqualified_of, itself, Action, quiet, goes, becomes, tests, holds, unread, Row, by_letters, character, closure, covariant_thunk, elements, enclosed, encoding, first_of_operator, in_default, inheriting, local_name, lvalue_signature, many_digits, negative, nest_end, nested_name, no_parameters, no_value, non_virtual_offset, non_virtual_thunk, one_digit, positive, reference, rvalue_signature, substitution, suffix, virtual_offset, virtual_thunk}
 
 -- ## Rows
 
@@ -11,15 +11,15 @@ abbrev plain : Form → Row
 plain form = record { before = []; onward = quiet; form = form; gain = nothing; restores_packs = false; tests_number = false }
 
 -- each step is done before the part of its place, and nothing before later ones
-abbrev after_steps : (steps : List Before) → Form → Row
+abbrev after_steps : (steps : List Action) → Form → Row
 after_steps steps form = record { before = steps; onward = quiet; form = form; gain = nothing; restores_packs = false; tests_number = false }
 
 -- one step is done before each part
-abbrev throughout : (step : Before) → Form → Row
+abbrev throughout : (step : Action) → Form → Row
 throughout step form = record { before = []; onward = step; form = form; gain = nothing; restores_packs = false; tests_number = false }
 
 -- the first steps are done before the first parts, and the other one before each later part
-abbrev after_first : (steps : List Before) → (later : Before) → Form → Row
+abbrev after_first : (steps : List Action) → (later : Action) → Form → Row
 after_first steps later form = record { before = steps; onward = later; form = form; gain = nothing; restores_packs = false; tests_number = false }
 
 -- this becomes a candidate at the end
@@ -37,35 +37,35 @@ with_number_tested row = record row { tests_number = true }
 -- ## Steps
 
 -- nothing becomes a candidate, and the part has these surroundings
-abbrev enters : Where → Before
+abbrev enters : Where → Action
 enters surroundings = goes nothing surroundings
 
 -- The first part becomes this tree: the name so far, which becomes a candidate where something is added to it; one that is listed;
 -- one that becomes a candidate now; no name but a candidate; and neither.
-abbrev becomes_name : Made → Before
+abbrev becomes_name : Made → Action
 becomes_name tree = becomes tree false true false
 
-abbrev becomes_listed_name : Made → Before
+abbrev becomes_listed_name : Made → Action
 becomes_listed_name tree = becomes tree true true false
 
-abbrev becomes_name_and_candidate : Made → Before
+abbrev becomes_name_and_candidate : Made → Action
 becomes_name_and_candidate tree = becomes tree false true true
 
-abbrev becomes_candidate : Made → Before
+abbrev becomes_candidate : Made → Action
 becomes_candidate tree = becomes tree true false true
 
-abbrev becomes_listed : Made → Before
+abbrev becomes_listed : Made → Action
 becomes_listed tree = becomes tree true false false
 
 -- The first part is the number of a parameter, which is tested: at the place, or at the T before it; it is the name so far, or an
 -- operand.
-abbrev tests_parameter : Before
+abbrev tests_parameter : Action
 tests_parameter = tests false true
 
-abbrev tests_parameter_after_t : Before
+abbrev tests_parameter_after_t : Action
 tests_parameter_after_t = tests true true
 
-abbrev tests_operand_after_t : Before
+abbrev tests_operand_after_t : Action
 tests_operand_after_t = tests true false
 
 -- ## Names of arguments

@@ -56,26 +56,26 @@ inherited prefix digit (pair letter own base) = tree (instance (extended prefix 
 inherited prefix digit base = tree (extended prefix (inheriting digit (tree_of base))) false
 
 -- these values so far, these surroundings of the next part, and this state before it
-abbrev pub Going : Type 0
-Going = Result (Next Value State Around) Refusal
+abbrev pub Continuation : Type 0
+Continuation = Result (Next Value State Around) Refusal
 
-abbrev pub next : List Value → Around → State → Going
+abbrev pub next : List Value → Around → State → Continuation
 next vs around state = Ok (record { values = vs; context = around; state = state })
 
 -- a finished name precedes its arguments
-unfoldable pub named_so_far : Around → Term → List Value → State → Going
+unfoldable pub named_so_far : Around → Term → List Value → State → Continuation
 named_so_far around t vs state = next (tree t false ∷ vs) (after t false around) state
 
 -- a name that is a candidate already, or never is one
-unfoldable pub listed_so_far : Around → Term → List Value → State → Going
+unfoldable pub listed_so_far : Around → Term → List Value → State → Continuation
 listed_so_far around t vs state = next (tree t true ∷ vs) (after t true around) state
 
 -- a parameter is tested, and becomes a candidate, where its number ends
-unfoldable pub parameter_so_far : Around → (place : ℕ) → ℕ → List Value → State → Going
+unfoldable pub parameter_so_far : Around → (place : ℕ) → ℕ → List Value → State → Continuation
 parameter_so_far around place k vs state = parameter_named around place k state >>= λ s. listed_so_far around (parameter k) vs s
 
 -- a parameter in an expression is tested in the same way, and no candidate
-unfoldable pub argument_so_far : Around → (place : ℕ) → ℕ → State → Going
+unfoldable pub argument_so_far : Around → (place : ℕ) → ℕ → State → Continuation
 argument_so_far around place k state = parameter_named around place k state >>= λ s. next (tree (parameter k) true ∷ []) around (record s { candidates = state.candidates })
 
 unfoldable pub index_of : Value → ℕ

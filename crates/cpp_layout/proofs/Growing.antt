@@ -20,10 +20,10 @@ use Rattle.cpp_term.specs.Term as term
 use Rattle.cpp_term.specs.Term.{Term}
 use Rattle.cpp_layout.specs.declared.context.Context.{Context}
 use Rattle.cpp_term.proofs.Reargued.{reargued_none}
-use Rattle.cpp_tree.specs.Nodes.{trees, tree_at, tree_if_there, bytes_at, IsWithin, IsThereBelow}
+use Rattle.cpp_tree.specs.Nodes.{trees, tree_at, tree_if_there, bytes_at, IsWithin, IsAliasBelow}
 use Rattle.cpp_layout.specs.Texts.{fixed_text}
 use Rattle.cpp_layout.specs.declared.texts.TheConstants.{BLANK, BRAIN_FLOAT, COLONS_STAR, COMMA, FLOAT, LEFT, LEFT_BRACKET, RIGHT, RIGHT_BRACKET, VECTOR, WIDER, TAG}
-use Rattle.cpp_layout.specs.Layout.{ReadSymbol, table_of, tree_in, form_of, context_of, text_if, marked, referred, shown_in, tree_shown, item_in, MayCome, IsOwn, unshared_of, bytes_of_part, shown, Shows}
+use Rattle.cpp_layout.specs.Layout.{ReadSymbol, table_of, tree_in, form_of, context_of, text_if, marked, referred, shown_in, printed_tree, item_in, MayCome, IsOwn, unshared_of, bytes_of_part, shown, Shows}
 
 abbrev Others : Type 0
 Others = List (PartOf items.Item)
@@ -37,7 +37,7 @@ pub fills : {below : Held Context} (y : ReadSymbol) (d : Detail) (held : Held Co
 fills {below} y d held others whole shows e = subst (Shows y d below held) e shows
 
 pub item-pushed : {below : Held Context} (y : ReadSymbol) (old new : Held Context) (node form at : ℕ) (c : Context) (others : Others)
-    → new ≡ with_part old (part.Sub (record { node = node; form = form; at = at; ctx = c })) → Shows y c.detail below old others → node < length y.table.nodes → IsThereBelow (length y.table.nodes) c.argument
+    → new ≡ with_part old (part.Sub (record { node = node; form = form; at = at; ctx = c })) → Shows y c.detail below old others → node < length y.table.nodes → IsAliasBelow (length y.table.nodes) c.argument
     → Shows y c.detail below new (sub (item_in (trees (table_of y)) node form at c) ∷ others)
 unfolding not_empty
 item-pushed {below} y old new node form at c others e shows less there =
@@ -197,10 +197,10 @@ module _ (y : ReadSymbol) (c told : Context) (is : c ≡ told) (old new : Held C
   told-item pushed =
       subst (λ (x : Context). (below : Held Context) (others : Others) → Shows y x.detail below old others → Shows y x.detail below new (sub (item_in (trees (table_of y)) node form 0 x) ∷ others)) is pushed
 
-  pub told-list : ((below : Held Context) (others : Others) → Shows y c.detail below old others → Shows y c.detail below new (list_part (form_of form 0) (context_of c) (tree_shown y c node) ++ others))
-      → (below : Held Context) (others : Others) → Shows y told.detail below old others → Shows y told.detail below new (list_part (form_of form 0) (context_of told) (tree_shown y told node) ++ others)
+  pub told-list : ((below : Held Context) (others : Others) → Shows y c.detail below old others → Shows y c.detail below new (list_part (form_of form 0) (context_of c) (printed_tree y c node) ++ others))
+      → (below : Held Context) (others : Others) → Shows y told.detail below old others → Shows y told.detail below new (list_part (form_of form 0) (context_of told) (printed_tree y told node) ++ others)
   told-list pushed =
-      subst (λ (x : Context). (below : Held Context) (others : Others) → Shows y x.detail below old others → Shows y x.detail below new (list_part (form_of form 0) (context_of x) (tree_shown y x node) ++ others)) is pushed
+      subst (λ (x : Context). (below : Held Context) (others : Others) → Shows y x.detail below old others → Shows y x.detail below new (list_part (form_of form 0) (context_of x) (printed_tree y x node) ++ others)) is pushed
 
 pub told-parts : {below held : Held Context} (y : ReadSymbol) (c told : Context) (parts_of : Context → Others) → c ≡ told → Shows y c.detail below held (parts_of c) → Shows y told.detail below held (parts_of told)
 told-parts {below} {held} y c told parts_of is shows = subst (λ (x : Context). Shows y x.detail below held (parts_of x)) is shows

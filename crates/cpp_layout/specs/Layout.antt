@@ -23,7 +23,7 @@ use Rattle.cpp_term.specs.Erased.{erase, CarriesArguments}
 use Rattle.cpp_tree.specs.declared.node.Node.{Node}
 use Rattle.cpp_tree.specs.declared.node.Piece.{Piece}
 use Rattle.cpp_layout.specs.declared.context.Context.{Context}
-use Rattle.cpp_tree.specs.Nodes.{Stored, Table, over, trees, tree_at, tree_of, piece_of, tree_if_there, under_kept, bytes_at, IsWithin, IsThereBelow, IsTable}
+use Rattle.cpp_tree.specs.Nodes.{Stored, Table, over, trees, tree_at, tree_of, piece_of, tree_if_there, under_kept, bytes_at, IsWithin, IsAliasBelow, IsTable}
 use Rattle.cpp_term.specs.Reargued.{reargued}
 use Rattle.cpp_layout.specs.Texts.{fixed_text}
 
@@ -70,8 +70,8 @@ context_of c = record { index = c.index }
 abbrev pub shown_in : List Term → Context → Term → Term
 shown_in ts c t = reargued (tree_if_there ts c.argument) t
 
-abbrev pub tree_shown : ReadSymbol → Context → (node : ℕ) → Term
-tree_shown y c node = shown_in (trees (table_of y)) c (tree_at (trees (table_of y)) node)
+abbrev pub printed_tree : ReadSymbol → Context → (node : ℕ) → Term
+printed_tree y c node = shown_in (trees (table_of y)) c (tree_at (trees (table_of y)) node)
 
 -- a type of an encoding, which is under an argument, if the word says one
 abbrev pub type_shown : ReadSymbol → (under node : ℕ) → Term
@@ -98,7 +98,7 @@ bytes_of y (part.Fixed number) = fixed_text number
 bytes_of y (part.Own bytes count) = take count bytes
 
 abbrev pub MayCome : Table → Part Context → Type 0
-MayCome y (part.Sub i) = (i.node < length y.nodes) × IsThereBelow (length y.nodes) i.ctx.argument
+MayCome y (part.Sub i) = (i.node < length y.nodes) × IsAliasBelow (length y.nodes) i.ctx.argument
 MayCome y (part.Symbol span) = IsWithin span y.bytes × (span.from < span.to)
 MayCome y (part.List span) = ⊥
 MayCome y (part.Fixed number) = 0 < length (fixed_text number)

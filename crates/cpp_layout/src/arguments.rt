@@ -7,8 +7,8 @@ ghost use Rattle.sym_print.specs.Unfold.{PartOf};
 ghost use Rattle.cpp_grammar.specs.Parts.{most_parts};
 ghost use Rattle.cpp_term.specs.Items as items;
 ghost use Rattle.cpp_term.specs.Parts.{integer_parts, precedence_of, operand_parts};
-ghost use Rattle.cpp_tree.specs.Nodes.{IsTable, IsWithin, signed_of, IsThereBelow, is_again, entry_at};
-ghost use Rattle.cpp_layout.specs.Layout.{table_of, context_of, Shows, tree_shown};
+ghost use Rattle.cpp_tree.specs.Nodes.{IsTable, IsWithin, signed_of, IsAliasBelow, is_again, entry_at};
+ghost use Rattle.cpp_layout.specs.Layout.{table_of, context_of, Shows, printed_tree};
 
 use crate::codes::is_plain;
 use crate::context::Context;
@@ -28,12 +28,12 @@ impl Symbol {
         value: Signed,
         ctx: Context,
     )
-        requires context { IsThereBelow (length self.now.table.nodes) ctx.argument }
+        requires context { IsAliasBelow (length self.now.table.nodes) ctx.argument }
         requires table { IsTable (table_of self.now) }
         requires ty { ty < length self.now.table.nodes }
         requires digits { IsWithin value.digits self.now.bytes }
         requires room { 8 ≤ S.room parts.old }
-        ensures shows { Shows self.now ctx.detail (S.held parts.old) (S.held parts.new) (integer_parts (context_of ctx) (tree_shown self.now ctx ty) (signed_of self.now.bytes value)) }
+        ensures shows { Shows self.now ctx.detail (S.held parts.old) (S.held parts.new) (integer_parts (context_of ctx) (printed_tree self.now ctx ty) (signed_of self.now.bytes value)) }
         ensures few { S.room parts.old ≤ S.room parts.new + 8 }
     {
         let place = self.place(ty, ctx);
@@ -55,7 +55,7 @@ impl Symbol {
         requires own { is_again (entry_at self.now.table.nodes node).node ≡ false }
         requires table { IsTable (table_of self.now) }
         requires node { node < length self.now.table.nodes }
-        ensures { result ≡ precedence_of (tree_shown self.now ctx node) }
+        ensures { result ≡ precedence_of (printed_tree self.now ctx node) }
     {
         match self.stored(node, ctx) {
             Node::Operation { first, second, .. } => operation_of(first, second).precedence,
@@ -73,12 +73,12 @@ impl Symbol {
         node: u32,
         ctx: Context,
     )
-        requires context { IsThereBelow (length self.now.table.nodes) ctx.argument }
+        requires context { IsAliasBelow (length self.now.table.nodes) ctx.argument }
         requires table { IsTable (table_of self.now) }
         requires node { node < length self.now.table.nodes }
         requires room { most_parts operand ≤ S.room parts.old }
         ensures shows { (below : Held Context) (others : List (PartOf items.Item)) → Shows self.now ctx.detail below (S.held parts.old) others
-            → Shows self.now ctx.detail below (S.held parts.new) (operand_parts (context_of ctx) operand (tree_shown self.now ctx node) ++ others) }
+            → Shows self.now ctx.detail below (S.held parts.new) (operand_parts (context_of ctx) operand (printed_tree self.now ctx node) ++ others) }
         ensures room { S.room parts.old ≤ S.room parts.new + most_parts operand }
     {
         match operand {

@@ -11,10 +11,10 @@ ghost use Rattle.cpp_term.specs.Term as term;
 ghost use Rattle.cpp_grammar.specs.Items as heads;
 ghost use Rattle.cpp_grammar.specs.Parts.{thunk_text};
 ghost use Rattle.cpp_term.specs.Parts.{as_item, begins_parameters, function_bare, function_full, full_parts, bare_parts, root_parts, text_part};
-ghost use Rattle.cpp_tree.specs.Nodes.{is_again, entry_at, tree_at, trees, under_kept, IsTable, IsThereBelow, IsWithin, bytes_at, thunk_of, qualifiers_of, mark_of};
+ghost use Rattle.cpp_tree.specs.Nodes.{is_again, entry_at, tree_at, trees, under_kept, IsTable, IsAliasBelow, IsWithin, bytes_at, thunk_of, qualifiers_of, mark_of};
 ghost use Rattle.cpp_layout.specs.Texts.{fixed_text, shown_mark, suffix_of};
 ghost use Rattle.cpp_layout.specs.declared.texts.TheConstants.{SUFFIX};
-ghost use Rattle.cpp_layout.specs.Layout.{table_of, tree_shown, type_shown, clone_suffix, Shows};
+ghost use Rattle.cpp_layout.specs.Layout.{table_of, printed_tree, type_shown, clone_suffix, Shows};
 
 use crate::context::Context;
 use crate::symbol::Symbol;
@@ -90,7 +90,7 @@ impl Symbol {
     fn opening_number(&self, mark: Mark, parameters: u32, under: u32, detail: Detail) -> u16
         requires table { IsTable (table_of self.now) }
         requires parameters { parameters < length self.now.table.nodes }
-        requires under { IsThereBelow (length self.now.table.nodes) (under_kept under) }
+        requires under { IsAliasBelow (length self.now.table.nodes) (under_kept under) }
         ensures text { fixed_text result ≡ begins_parameters (mark_of mark) (type_shown self.now under parameters) }
         ensures some { 0 < length (fixed_text result) }
     {
@@ -122,7 +122,7 @@ impl Symbol {
         requires table { IsTable (table_of self.now) }
         requires name { name < length self.now.table.nodes }
         requires parameters { parameters < length self.now.table.nodes }
-        requires under { IsThereBelow (length self.now.table.nodes) (under_kept under) }
+        requires under { IsAliasBelow (length self.now.table.nodes) (under_kept under) }
         requires room { 5 ≤ S.room parts.old }
         ensures shows { (below : Held Context) (others : List (PartOf items.Item)) → Shows self.now detail below (S.held parts.old) others
             → Shows self.now detail below (S.held parts.new) (function_bare true (tree_at (trees (table_of self.now)) name) (qualifiers_of qualifiers) (mark_of mark) (type_shown self.now under parameters) ++ others) }
@@ -151,7 +151,7 @@ impl Symbol {
         requires name { name < length self.now.table.nodes }
         requires returned { returned < length self.now.table.nodes }
         requires parameters { parameters < length self.now.table.nodes }
-        requires under { IsThereBelow (length self.now.table.nodes) (under_kept under) }
+        requires under { IsAliasBelow (length self.now.table.nodes) (under_kept under) }
         requires there { type_shown self.now under returned ≡ term.absent → ⊥ }
         requires room { 8 ≤ S.room parts.old }
         ensures shows { Shows self.now detail (S.held parts.old) (S.held parts.new) (function_full true (tree_at (trees (table_of self.now)) name) (qualifiers_of qualifiers) (mark_of mark) (type_shown self.now under returned) (type_shown self.now under parameters)) }
@@ -197,7 +197,7 @@ impl Symbol {
         requires name { name < length self.now.table.nodes }
         requires returned { returned < length self.now.table.nodes }
         requires parameters { parameters < length self.now.table.nodes }
-        requires under { IsThereBelow (length self.now.table.nodes) (under_kept under) }
+        requires under { IsAliasBelow (length self.now.table.nodes) (under_kept under) }
         requires room { 8 ≤ S.room parts.old }
         ensures shows { Shows self.now detail (S.held parts.old) (S.held parts.new) (function_full true (tree_at (trees (table_of self.now)) name) (qualifiers_of qualifiers) (mark_of mark) (type_shown self.now under returned) (type_shown self.now under parameters)) }
         ensures few { S.room parts.old ≤ S.room parts.new + 8 }
@@ -230,7 +230,7 @@ impl Symbol {
         requires name { name < length self.now.table.nodes }
         requires returned { returned < length self.now.table.nodes }
         requires parameters { parameters < length self.now.table.nodes }
-        requires under { IsThereBelow (length self.now.table.nodes) (under_kept under) }
+        requires under { IsAliasBelow (length self.now.table.nodes) (under_kept under) }
         requires room { 8 ≤ S.room parts.old }
         ensures shows { Shows self.now detail (S.held parts.old) (S.held parts.new) (function_full (has_parameters detail) (tree_at (trees (table_of self.now)) name) (qualifiers_of qualifiers) (mark_of mark) (type_shown self.now under returned) (type_shown self.now under parameters)) }
         ensures few { S.room parts.old ≤ S.room parts.new + 8 }
@@ -258,7 +258,7 @@ impl Symbol {
         requires table { IsTable (table_of self.now) }
         requires name { name < length self.now.table.nodes }
         requires parameters { parameters < length self.now.table.nodes }
-        requires under { IsThereBelow (length self.now.table.nodes) (under_kept under) }
+        requires under { IsAliasBelow (length self.now.table.nodes) (under_kept under) }
         requires room { 8 ≤ S.room parts.old }
         ensures shows { Shows self.now detail (S.held parts.old) (S.held parts.new) (function_bare (has_parameters detail) (tree_at (trees (table_of self.now)) name) (qualifiers_of qualifiers) (mark_of mark) (type_shown self.now under parameters)) }
         ensures few { S.room parts.old ≤ S.room parts.new + 8 }
@@ -276,7 +276,7 @@ impl Symbol {
         requires table { IsTable (table_of self.now) }
         requires node { node < length self.now.table.nodes }
         requires room { 8 ≤ S.room parts.old }
-        ensures shows { Shows self.now ctx.detail (S.held parts.old) (S.held parts.new) (full_parts ctx.detail (tree_shown self.now ctx node)) }
+        ensures shows { Shows self.now ctx.detail (S.held parts.old) (S.held parts.new) (full_parts ctx.detail (printed_tree self.now ctx node)) }
         ensures few { S.room parts.old ≤ S.room parts.new + 8 }
     {
         match self.stored(node, ctx) {
@@ -321,7 +321,7 @@ impl Symbol {
         requires table { IsTable (table_of self.now) }
         requires node { node < length self.now.table.nodes }
         requires room { 8 ≤ S.room parts.old }
-        ensures shows { Shows self.now ctx.detail (S.held parts.old) (S.held parts.new) (bare_parts ctx.detail (tree_shown self.now ctx node)) }
+        ensures shows { Shows self.now ctx.detail (S.held parts.old) (S.held parts.new) (bare_parts ctx.detail (printed_tree self.now ctx node)) }
         ensures few { S.room parts.old ≤ S.room parts.new + 8 }
     {
         match self.stored(node, ctx) {
@@ -358,7 +358,7 @@ impl Symbol {
         requires table { IsTable (table_of self.now) }
         requires node { node < length self.now.table.nodes }
         requires room { 8 ≤ S.room parts.old }
-        ensures shows { Shows self.now ctx.detail (S.held parts.old) (S.held parts.new) (root_parts (tree_shown self.now ctx node)) }
+        ensures shows { Shows self.now ctx.detail (S.held parts.old) (S.held parts.new) (root_parts (printed_tree self.now ctx node)) }
         ensures few { S.room parts.old ≤ S.room parts.new + 8 }
     {
         match self.stored(node, ctx) {

@@ -3,8 +3,8 @@
 
 ghost use Rattle.std.specs.Prelude.{◌≡◌, ◌+◌, ◌<◌, ◌≤◌, length, false};
 ghost use Rattle.cpp_term.specs.Parts.{own_piece, piece_parts, left_parts, low_parts, base_parts};
-ghost use Rattle.cpp_tree.specs.Nodes.{IsTable, IsBelow, IsThereBelow, is_again, entry_at};
-ghost use Rattle.cpp_layout.specs.Layout.{table_of, context_of, Shows, IsNoName, IsNoType, tree_shown, node_shown};
+ghost use Rattle.cpp_tree.specs.Nodes.{IsTable, IsBelow, IsAliasBelow, is_again, entry_at};
+ghost use Rattle.cpp_layout.specs.Layout.{table_of, context_of, Shows, IsNoName, IsNoType, printed_tree, node_shown};
 
 use crate::codes::placeholder;
 use crate::context::Context;
@@ -22,12 +22,12 @@ impl Symbol {
         node: u32,
         ctx: Context,
     )
-        requires context { IsThereBelow (length self.now.table.nodes) ctx.argument }
+        requires context { IsAliasBelow (length self.now.table.nodes) ctx.argument }
         requires own { is_again (entry_at self.now.table.nodes node).node ≡ false }
         requires table { IsTable (table_of self.now) }
         requires node { node < length self.now.table.nodes }
         requires room { 8 ≤ S.room parts.old }
-        ensures shows { Shows self.now ctx.detail (S.held parts.old) (S.held parts.new) (piece_parts (context_of ctx) (own_piece (tree_shown self.now ctx node))) }
+        ensures shows { Shows self.now ctx.detail (S.held parts.old) (S.held parts.new) (piece_parts (context_of ctx) (own_piece (printed_tree self.now ctx node))) }
         ensures few { S.room parts.old ≤ S.room parts.new + 8 }
     {
         match self.stored(node, ctx) {
@@ -47,7 +47,7 @@ impl Symbol {
         node: Node,
         ctx: Context,
     )
-        requires context { IsThereBelow (length self.now.table.nodes) ctx.argument }
+        requires context { IsAliasBelow (length self.now.table.nodes) ctx.argument }
         requires table { IsTable (table_of self.now) }
         requires number { number < length self.now.table.nodes }
         requires below { IsBelow self.now.bytes (length self.now.table.thunks) number node }
@@ -87,7 +87,7 @@ impl Symbol {
         node: Node,
         ctx: Context,
     )
-        requires context { IsThereBelow (length self.now.table.nodes) ctx.argument }
+        requires context { IsAliasBelow (length self.now.table.nodes) ctx.argument }
         requires table { IsTable (table_of self.now) }
         requires number { number < length self.now.table.nodes }
         requires below { IsBelow self.now.bytes (length self.now.table.thunks) number node }
@@ -125,12 +125,12 @@ impl Symbol {
     /// The left parts of a node.
     #[inline(always)]
     pub(crate) fn fill_left<S: PartList<Context>>(&self, parts: &mut S, node: u32, ctx: Context)
-        requires context { IsThereBelow (length self.now.table.nodes) ctx.argument }
+        requires context { IsAliasBelow (length self.now.table.nodes) ctx.argument }
         requires own { is_again (entry_at self.now.table.nodes node).node ≡ false }
         requires table { IsTable (table_of self.now) }
         requires node { node < length self.now.table.nodes }
         requires room { 8 ≤ S.room parts.old }
-        ensures shows { Shows self.now ctx.detail (S.held parts.old) (S.held parts.new) (left_parts ctx.detail (context_of ctx) (tree_shown self.now ctx node)) }
+        ensures shows { Shows self.now ctx.detail (S.held parts.old) (S.held parts.new) (left_parts ctx.detail (context_of ctx) (printed_tree self.now ctx node)) }
         ensures few { S.room parts.old ≤ S.room parts.new + 8 }
     {
         let stored = self.stored(node, ctx);
@@ -158,12 +158,12 @@ impl Symbol {
 
     /// The left parts of a node in a form that has no others.
     fn fill_as_left<S: PartList<Context>>(&self, parts: &mut S, node: u32, ctx: Context)
-        requires context { IsThereBelow (length self.now.table.nodes) ctx.argument }
+        requires context { IsAliasBelow (length self.now.table.nodes) ctx.argument }
         requires own { is_again (entry_at self.now.table.nodes node).node ≡ false }
         requires table { IsTable (table_of self.now) }
         requires node { node < length self.now.table.nodes }
         requires room { 8 ≤ S.room parts.old }
-        ensures shows { Shows self.now ctx.detail (S.held parts.old) (S.held parts.new) (left_parts ctx.detail (context_of ctx) (tree_shown self.now ctx node)) }
+        ensures shows { Shows self.now ctx.detail (S.held parts.old) (S.held parts.new) (left_parts ctx.detail (context_of ctx) (printed_tree self.now ctx node)) }
         ensures few { S.room parts.old ≤ S.room parts.new + 8 }
     {
         self.fill_left(parts, node, ctx);
@@ -171,12 +171,12 @@ impl Symbol {
 
     /// The left parts of a node under a reference to it: a reference is shown as one to an lvalue.
     pub(crate) fn fill_low<S: PartList<Context>>(&self, parts: &mut S, node: u32, ctx: Context)
-        requires context { IsThereBelow (length self.now.table.nodes) ctx.argument }
+        requires context { IsAliasBelow (length self.now.table.nodes) ctx.argument }
         requires own { is_again (entry_at self.now.table.nodes node).node ≡ false }
         requires table { IsTable (table_of self.now) }
         requires node { node < length self.now.table.nodes }
         requires room { 8 ≤ S.room parts.old }
-        ensures shows { Shows self.now ctx.detail (S.held parts.old) (S.held parts.new) (low_parts ctx.detail (context_of ctx) (tree_shown self.now ctx node)) }
+        ensures shows { Shows self.now ctx.detail (S.held parts.old) (S.held parts.new) (low_parts ctx.detail (context_of ctx) (printed_tree self.now ctx node)) }
         ensures few { S.room parts.old ≤ S.room parts.new + 8 }
     {
         match self.stored(node, ctx) {
@@ -192,12 +192,12 @@ impl Symbol {
 
     /// The name of a constructor's class.
     pub(crate) fn fill_base<S: PartList<Context>>(&self, parts: &mut S, node: u32, ctx: Context)
-        requires context { IsThereBelow (length self.now.table.nodes) ctx.argument }
+        requires context { IsAliasBelow (length self.now.table.nodes) ctx.argument }
         requires own { is_again (entry_at self.now.table.nodes node).node ≡ false }
         requires table { IsTable (table_of self.now) }
         requires node { node < length self.now.table.nodes }
         requires room { 8 ≤ S.room parts.old }
-        ensures shows { Shows self.now ctx.detail (S.held parts.old) (S.held parts.new) (base_parts ctx.detail (context_of ctx) (tree_shown self.now ctx node)) }
+        ensures shows { Shows self.now ctx.detail (S.held parts.old) (S.held parts.new) (base_parts ctx.detail (context_of ctx) (printed_tree self.now ctx node)) }
         ensures few { S.room parts.old ≤ S.room parts.new + 8 }
     {
         match self.stored(node, ctx) {

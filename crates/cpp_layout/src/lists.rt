@@ -5,8 +5,8 @@ ghost use Rattle.std.specs.Prelude.{◌≡◌, ◌+◌, ◌<◌, ◌≤◌, leng
 ghost use Rattle.cpp_term.specs.Items as items;
 ghost use Rattle.cpp_term.specs.Term as term;
 ghost use Rattle.cpp_term.specs.Parts.{first_parts, more_parts, expansion_parts};
-ghost use Rattle.cpp_tree.specs.Nodes.{IsTable, IsThereBelow, is_again, entry_at};
-ghost use Rattle.cpp_layout.specs.Layout.{table_of, context_of, Shows, tree_shown};
+ghost use Rattle.cpp_tree.specs.Nodes.{IsTable, IsAliasBelow, is_again, entry_at};
+ghost use Rattle.cpp_layout.specs.Layout.{table_of, context_of, Shows, printed_tree};
 
 use crate::context::Context;
 use crate::symbol::Symbol;
@@ -23,12 +23,12 @@ impl Symbol {
         rest: u32,
         ctx: Context,
     )
-        requires context { IsThereBelow (length self.now.table.nodes) ctx.argument }
+        requires context { IsAliasBelow (length self.now.table.nodes) ctx.argument }
         requires table { IsTable (table_of self.now) }
         requires first { first < length self.now.table.nodes }
         requires rest { rest < length self.now.table.nodes }
         requires room { 8 ≤ S.room parts.old }
-        ensures shows { Shows self.now ctx.detail (S.held parts.old) (S.held parts.new) (first_parts (context_of ctx) (term.list (tree_shown self.now ctx first) (tree_shown self.now ctx rest))) }
+        ensures shows { Shows self.now ctx.detail (S.held parts.old) (S.held parts.new) (first_parts (context_of ctx) (term.list (printed_tree self.now ctx first) (printed_tree self.now ctx rest))) }
         ensures few { S.room parts.old ≤ S.room parts.new + 8 }
     {
         if self.prints_nothing(first, ctx) {
@@ -48,12 +48,12 @@ impl Symbol {
         rest: u32,
         ctx: Context,
     )
-        requires context { IsThereBelow (length self.now.table.nodes) ctx.argument }
+        requires context { IsAliasBelow (length self.now.table.nodes) ctx.argument }
         requires table { IsTable (table_of self.now) }
         requires first { first < length self.now.table.nodes }
         requires rest { rest < length self.now.table.nodes }
         requires room { 8 ≤ S.room parts.old }
-        ensures shows { Shows self.now ctx.detail (S.held parts.old) (S.held parts.new) (more_parts (context_of ctx) (term.list (tree_shown self.now ctx first) (tree_shown self.now ctx rest))) }
+        ensures shows { Shows self.now ctx.detail (S.held parts.old) (S.held parts.new) (more_parts (context_of ctx) (term.list (printed_tree self.now ctx first) (printed_tree self.now ctx rest))) }
         ensures few { S.room parts.old ≤ S.room parts.new + 8 }
     {
         if self.prints_nothing(first, ctx) {
@@ -74,11 +74,11 @@ impl Symbol {
         pattern: u32,
         ctx: Context,
     )
-        requires context { IsThereBelow (length self.now.table.nodes) ctx.argument }
+        requires context { IsAliasBelow (length self.now.table.nodes) ctx.argument }
         requires table { IsTable (table_of self.now) }
         requires pattern { pattern < length self.now.table.nodes }
         requires room { 8 ≤ S.room parts.old }
-        ensures shows { Shows self.now ctx.detail (S.held parts.old) (S.held parts.new) (expansion_parts (context_of ctx) (tree_shown self.now ctx pattern) (items.packs_of (context_of ctx) (tree_shown self.now ctx pattern))) }
+        ensures shows { Shows self.now ctx.detail (S.held parts.old) (S.held parts.new) (expansion_parts (context_of ctx) (printed_tree self.now ctx pattern) (items.packs_of (context_of ctx) (printed_tree self.now ctx pattern))) }
         ensures few { S.room parts.old ≤ S.room parts.new + 8 }
     {
         match self.packs(pattern, ctx) {
@@ -97,12 +97,12 @@ impl Symbol {
 
     /// The parts of a node in the form of a list's elements.
     pub(crate) fn fill_first_of<S: PartList<Context>>(&self, parts: &mut S, node: u32, ctx: Context)
-        requires context { IsThereBelow (length self.now.table.nodes) ctx.argument }
+        requires context { IsAliasBelow (length self.now.table.nodes) ctx.argument }
         requires own { is_again (entry_at self.now.table.nodes node).node ≡ false }
         requires table { IsTable (table_of self.now) }
         requires node { node < length self.now.table.nodes }
         requires room { 8 ≤ S.room parts.old }
-        ensures shows { Shows self.now ctx.detail (S.held parts.old) (S.held parts.new) (first_parts (context_of ctx) (tree_shown self.now ctx node)) }
+        ensures shows { Shows self.now ctx.detail (S.held parts.old) (S.held parts.new) (first_parts (context_of ctx) (printed_tree self.now ctx node)) }
         ensures few { S.room parts.old ≤ S.room parts.new + 8 }
     {
         match self.stored(node, ctx) {
@@ -113,12 +113,12 @@ impl Symbol {
 
     /// The parts of a node in the form of elements after others.
     pub(crate) fn fill_more_of<S: PartList<Context>>(&self, parts: &mut S, node: u32, ctx: Context)
-        requires context { IsThereBelow (length self.now.table.nodes) ctx.argument }
+        requires context { IsAliasBelow (length self.now.table.nodes) ctx.argument }
         requires own { is_again (entry_at self.now.table.nodes node).node ≡ false }
         requires table { IsTable (table_of self.now) }
         requires node { node < length self.now.table.nodes }
         requires room { 8 ≤ S.room parts.old }
-        ensures shows { Shows self.now ctx.detail (S.held parts.old) (S.held parts.new) (more_parts (context_of ctx) (tree_shown self.now ctx node)) }
+        ensures shows { Shows self.now ctx.detail (S.held parts.old) (S.held parts.new) (more_parts (context_of ctx) (printed_tree self.now ctx node)) }
         ensures few { S.room parts.old ≤ S.room parts.new + 8 }
     {
         match self.stored(node, ctx) {

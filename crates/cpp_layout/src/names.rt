@@ -10,10 +10,10 @@ ghost use Rattle.cpp_grammar.specs.Parts.{begins_with, source_text};
 ghost use Rattle.cpp_term.specs.Term as term;
 ghost use Rattle.cpp_term.specs.Items as items;
 ghost use Rattle.cpp_term.specs.Parts.{piece_parts, prefix_item, before_piece, component_parts, attached_parts, within_parts, base_within, base_tagged, own_piece, entity_of, opening_text, last_piece, instance_parts};
-ghost use Rattle.cpp_tree.specs.Nodes.{piece_of, tree_at, trees, bytes_at, IsTable, IsWithin, IsPieceBelow, IsThereBelow};
+ghost use Rattle.cpp_tree.specs.Nodes.{piece_of, tree_at, trees, bytes_at, IsTable, IsWithin, IsPieceBelow, IsAliasBelow};
 ghost use Rattle.cpp_layout.specs.Texts.{fixed_text};
 ghost use Rattle.cpp_layout.specs.declared.texts.TheConstants.{BLANK_LESS, COLONS, COUNT, LESS};
-ghost use Rattle.cpp_layout.specs.Layout.{table_of, context_of, Shows, IsOwn, IsNoSource, tree_shown, piece_shown};
+ghost use Rattle.cpp_layout.specs.Layout.{table_of, context_of, Shows, IsOwn, IsNoSource, printed_tree, piece_shown};
 
 use crate::codes::{is_angle_code, operator};
 use crate::context::{Context, Place};
@@ -132,7 +132,7 @@ impl Symbol {
 
     /// The parts of a piece that is no source name.
     fn fill_rare_piece<S: PartList<Context>>(&self, parts: &mut S, piece: Piece, ctx: Context)
-        requires context { IsThereBelow (length self.now.table.nodes) ctx.argument }
+        requires context { IsAliasBelow (length self.now.table.nodes) ctx.argument }
         requires table { IsTable (table_of self.now) }
         requires piece { IsPieceBelow self.now.bytes (length self.now.table.nodes) piece }
         requires kind { IsNoSource piece }
@@ -161,7 +161,7 @@ impl Symbol {
     /// The parts of a piece of a name.
     #[inline(always)]
     pub(crate) fn fill_piece<S: PartList<Context>>(&self, parts: &mut S, piece: Piece, ctx: Context)
-        requires context { IsThereBelow (length self.now.table.nodes) ctx.argument }
+        requires context { IsAliasBelow (length self.now.table.nodes) ctx.argument }
         requires table { IsTable (table_of self.now) }
         requires piece { IsPieceBelow self.now.bytes (length self.now.table.nodes) piece }
         requires room { 8 ≤ S.room parts.old }
@@ -178,12 +178,12 @@ impl Symbol {
     /// around a local entity, which is shown without its return type.
     #[inline(always)]
     pub(crate) fn push_prefix<S: PartList<Context>>(&self, parts: &mut S, prefix: u32, ctx: Context)
-        requires context { IsThereBelow (length self.now.table.nodes) ctx.argument }
+        requires context { IsAliasBelow (length self.now.table.nodes) ctx.argument }
         requires room { 0 < S.room parts.old }
         requires table { IsTable (table_of self.now) }
         requires prefix { prefix < length self.now.table.nodes }
         ensures shows { (below : Held Context) (others : List (PartOf items.Item)) → Shows self.now ctx.detail below (S.held parts.old) others
-            → Shows self.now ctx.detail below (S.held parts.new) (prefix_item (context_of ctx) (tree_shown self.now ctx prefix) ∷ others) }
+            → Shows self.now ctx.detail below (S.held parts.new) (prefix_item (context_of ctx) (printed_tree self.now ctx prefix) ∷ others) }
         ensures room { S.room parts.new + 1 ≡ S.room parts.old }
     {
         let place = self.place(prefix, ctx);
@@ -208,13 +208,13 @@ impl Symbol {
         piece: Piece,
         ctx: Context,
     )
-        requires context { IsThereBelow (length self.now.table.nodes) ctx.argument }
+        requires context { IsAliasBelow (length self.now.table.nodes) ctx.argument }
         requires table { IsTable (table_of self.now) }
         requires node { node < length self.now.table.nodes }
         requires prefix { prefix < length self.now.table.nodes }
-        requires own { own_piece (tree_shown self.now ctx node) ≡ piece_shown self.now ctx piece }
+        requires own { own_piece (printed_tree self.now ctx node) ≡ piece_shown self.now ctx piece }
         requires room { 8 ≤ S.room parts.old }
-        ensures shows { Shows self.now ctx.detail (S.held parts.old) (S.held parts.new) (within_parts (context_of ctx) (tree_shown self.now ctx prefix) (piece_shown self.now ctx piece)) }
+        ensures shows { Shows self.now ctx.detail (S.held parts.old) (S.held parts.new) (within_parts (context_of ctx) (printed_tree self.now ctx prefix) (piece_shown self.now ctx piece)) }
         ensures few { S.room parts.old ≤ S.room parts.new + 8 }
     {
         match piece {
@@ -233,12 +233,12 @@ impl Symbol {
         prefix: u32,
         ctx: Context,
     )
-        requires context { IsThereBelow (length self.now.table.nodes) ctx.argument }
+        requires context { IsAliasBelow (length self.now.table.nodes) ctx.argument }
         requires table { IsTable (table_of self.now) }
         requires node { node < length self.now.table.nodes }
         requires prefix { prefix < length self.now.table.nodes }
         requires room { 8 ≤ S.room parts.old }
-        ensures shows { Shows self.now ctx.detail (S.held parts.old) (S.held parts.new) (component_parts (context_of ctx) (tree_shown self.now ctx prefix) (own_piece (tree_shown self.now ctx node))) }
+        ensures shows { Shows self.now ctx.detail (S.held parts.old) (S.held parts.new) (component_parts (context_of ctx) (printed_tree self.now ctx prefix) (own_piece (printed_tree self.now ctx node))) }
         ensures few { S.room parts.old ≤ S.room parts.new + 8 }
     {
         let place = self.place(prefix, ctx);
@@ -263,12 +263,12 @@ impl Symbol {
 
     /// Adds a prefix and what is between it and a piece, if there is a prefix.
     fn push_before<S: PartList<Context>>(&self, parts: &mut S, prefix: u32, ctx: Context)
-        requires context { IsThereBelow (length self.now.table.nodes) ctx.argument }
+        requires context { IsAliasBelow (length self.now.table.nodes) ctx.argument }
         requires room { 2 ≤ S.room parts.old }
         requires table { IsTable (table_of self.now) }
         requires prefix { prefix < length self.now.table.nodes }
         ensures shows { (below : Held Context) (others : List (PartOf items.Item)) → Shows self.now ctx.detail below (S.held parts.old) others
-            → Shows self.now ctx.detail below (S.held parts.new) (before_piece (context_of ctx) (tree_shown self.now ctx prefix) ++ others) }
+            → Shows self.now ctx.detail below (S.held parts.new) (before_piece (context_of ctx) (printed_tree self.now ctx prefix) ++ others) }
         ensures room { S.room parts.old ≤ S.room parts.new + 2 }
     {
         let place = self.place(prefix, ctx);
@@ -292,8 +292,8 @@ impl Symbol {
         its_module: u32,
         around: Context,
     )
-        requires context { IsThereBelow (length self.now.table.nodes) ctx.argument }
-        requires around { IsThereBelow (length self.now.table.nodes) around.argument }
+        requires context { IsAliasBelow (length self.now.table.nodes) ctx.argument }
+        requires around { IsAliasBelow (length self.now.table.nodes) around.argument }
         requires index { context_of around ≡ context_of ctx }
         requires detail { around.detail ≡ ctx.detail }
         requires table { IsTable (table_of self.now) }
@@ -301,7 +301,7 @@ impl Symbol {
         requires prefix { prefix < length self.now.table.nodes }
         requires its_module { its_module < length self.now.table.nodes }
         requires room { 8 ≤ S.room parts.old }
-        ensures shows { Shows self.now ctx.detail (S.held parts.old) (S.held parts.new) (attached_parts (context_of ctx) (tree_shown self.now around prefix) (own_piece (tree_shown self.now ctx node)) (tree_shown self.now around its_module)) }
+        ensures shows { Shows self.now ctx.detail (S.held parts.old) (S.held parts.new) (attached_parts (context_of ctx) (printed_tree self.now around prefix) (own_piece (printed_tree self.now ctx node)) (printed_tree self.now around its_module)) }
         ensures few { S.room parts.old ≤ S.room parts.new + 8 }
     {
         self.push_item(parts, its_module, form::LEFT, 0, around);
@@ -315,12 +315,12 @@ impl Symbol {
     pub(crate) fn own_entity(&self, entity: u32, ctx: Context) -> Place
         requires table { IsTable (table_of self.now) }
         requires entity { entity < length self.now.table.nodes }
-        requires context { IsThereBelow (length self.now.table.nodes) ctx.argument }
-        ensures tree { tree_shown self.now result.ctx result.node ≡ entity_of (tree_shown self.now ctx entity) }
+        requires context { IsAliasBelow (length self.now.table.nodes) ctx.argument }
+        ensures tree { printed_tree self.now result.ctx result.node ≡ entity_of (printed_tree self.now ctx entity) }
         ensures index { context_of result.ctx ≡ context_of ctx }
         ensures detail { result.ctx.detail ≡ ctx.detail }
         ensures below { result.node < length self.now.table.nodes }
-        ensures context { IsThereBelow (length self.now.table.nodes) result.ctx.argument }
+        ensures context { IsAliasBelow (length self.now.table.nodes) result.ctx.argument }
     {
         let place = self.place(entity, ctx);
         match self.stored(place.node, place.ctx) {
@@ -336,8 +336,8 @@ impl Symbol {
     fn ends_in_angle(&self, template: u32, ctx: Context) -> bool
         requires table { IsTable (table_of self.now) }
         requires template { template < length self.now.table.nodes }
-        requires context { IsThereBelow (length self.now.table.nodes) ctx.argument }
-        ensures { fixed_text (if result then BLANK_LESS else LESS) ≡ opening_text (last_piece (tree_shown self.now ctx template)) }
+        requires context { IsAliasBelow (length self.now.table.nodes) ctx.argument }
+        ensures { fixed_text (if result then BLANK_LESS else LESS) ≡ opening_text (last_piece (printed_tree self.now ctx template)) }
     {
         let mut place = self.place(template, ctx);
         'entities: loop {
@@ -361,12 +361,12 @@ impl Symbol {
         arguments: u32,
         ctx: Context,
     )
-        requires context { IsThereBelow (length self.now.table.nodes) ctx.argument }
+        requires context { IsAliasBelow (length self.now.table.nodes) ctx.argument }
         requires table { IsTable (table_of self.now) }
         requires template { template < length self.now.table.nodes }
         requires arguments { arguments < length self.now.table.nodes }
         requires room { 8 ≤ S.room parts.old }
-        ensures shows { Shows self.now ctx.detail (S.held parts.old) (S.held parts.new) (instance_parts (has_arguments ctx.detail) (context_of ctx) (tree_shown self.now ctx template) (tree_shown self.now ctx arguments)) }
+        ensures shows { Shows self.now ctx.detail (S.held parts.old) (S.held parts.new) (instance_parts (has_arguments ctx.detail) (context_of ctx) (printed_tree self.now ctx template) (printed_tree self.now ctx arguments)) }
         ensures few { S.room parts.old ≤ S.room parts.new + 8 }
     {
         if ctx.detail.has_arguments() {
@@ -388,12 +388,12 @@ impl Symbol {
         piece: Piece,
         ctx: Context,
     )
-        requires context { IsThereBelow (length self.now.table.nodes) ctx.argument }
+        requires context { IsAliasBelow (length self.now.table.nodes) ctx.argument }
         requires table { IsTable (table_of self.now) }
         requires prefix { prefix < length self.now.table.nodes }
         requires piece { IsPieceBelow self.now.bytes (length self.now.table.nodes) piece }
         requires room { 8 ≤ S.room parts.old }
-        ensures shows { Shows self.now ctx.detail (S.held parts.old) (S.held parts.new) (base_within (context_of ctx) (tree_shown self.now ctx prefix) (piece_shown self.now ctx piece)) }
+        ensures shows { Shows self.now ctx.detail (S.held parts.old) (S.held parts.new) (base_within (context_of ctx) (printed_tree self.now ctx prefix) (piece_shown self.now ctx piece)) }
         ensures few { S.room parts.old ≤ S.room parts.new + 8 }
     {
         match piece {
@@ -413,11 +413,11 @@ impl Symbol {
         name: u32,
         ctx: Context,
     )
-        requires context { IsThereBelow (length self.now.table.nodes) ctx.argument }
+        requires context { IsAliasBelow (length self.now.table.nodes) ctx.argument }
         requires table { IsTable (table_of self.now) }
         requires name { name < length self.now.table.nodes }
         requires room { 8 ≤ S.room parts.old }
-        ensures shows { Shows self.now ctx.detail (S.held parts.old) (S.held parts.new) (base_tagged (context_of ctx) of_structor (tree_shown self.now ctx name)) }
+        ensures shows { Shows self.now ctx.detail (S.held parts.old) (S.held parts.new) (base_tagged (context_of ctx) of_structor (printed_tree self.now ctx name)) }
         ensures few { S.room parts.old ≤ S.room parts.new + 8 }
     {
         if of_structor {

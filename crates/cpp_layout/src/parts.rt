@@ -7,10 +7,10 @@ ghost use Rattle.sym_print.specs.Unfold.{PartOf, text, sub};
 ghost use Rattle.sym_print.specs.declared.detail.Detail.{Detail};
 ghost use Rattle.cpp_term.specs.Items as items;
 ghost use Rattle.cpp_term.specs.Parts.{list_part, text_part};
-ghost use Rattle.cpp_tree.specs.Nodes.{tree_at, trees, under_kept, IsTable, bytes_at, IsWithin, IsThereBelow};
+ghost use Rattle.cpp_tree.specs.Nodes.{tree_at, trees, under_kept, IsTable, bytes_at, IsWithin, IsAliasBelow};
 ghost use Rattle.cpp_layout.specs.Texts.{fixed_text};
 ghost use Rattle.cpp_layout.specs.declared.texts.TheConstants.{COUNT};
-ghost use Rattle.cpp_layout.specs.Layout.{table_of, item_in, form_of, tree_in, context_of, text_if, Shows, tree_shown, type_shown};
+ghost use Rattle.cpp_layout.specs.Layout.{table_of, item_in, form_of, tree_in, context_of, text_if, Shows, printed_tree, type_shown};
 
 use crate::context::Context;
 use crate::symbol::Symbol;
@@ -30,7 +30,7 @@ impl Symbol {
         at: u32,
         ctx: Context,
     )
-        requires context { IsThereBelow (length self.now.table.nodes) ctx.argument }
+        requires context { IsAliasBelow (length self.now.table.nodes) ctx.argument }
         requires room { 0 < S.room parts.old }
         requires node { node < length self.now.table.nodes }
         ensures shows { (below : Held Context) (others : List (PartOf items.Item)) → Shows self.now ctx.detail below (S.held parts.old) others
@@ -131,13 +131,13 @@ impl Symbol {
         form: u32,
         ctx: Context,
     )
-        requires context { IsThereBelow (length self.now.table.nodes) ctx.argument }
+        requires context { IsAliasBelow (length self.now.table.nodes) ctx.argument }
         requires room { 0 < S.room parts.old }
         requires table { IsTable (table_of self.now) }
         requires list { list < length self.now.table.nodes }
         requires plain { form < 6 }
         ensures shows { (below : Held Context) (others : List (PartOf items.Item)) → Shows self.now ctx.detail below (S.held parts.old) others
-            → Shows self.now ctx.detail below (S.held parts.new) (list_part (form_of form 0) (context_of ctx) (tree_shown self.now ctx list) ++ others) }
+            → Shows self.now ctx.detail below (S.held parts.new) (list_part (form_of form 0) (context_of ctx) (printed_tree self.now ctx list) ++ others) }
         ensures room { S.room parts.old ≤ S.room parts.new + 1 }
     {
         let place = self.place(list, ctx);
@@ -175,7 +175,7 @@ impl Symbol {
         under: u32,
         detail: Detail,
     )
-        requires under { IsThereBelow (length self.now.table.nodes) (under_kept under) }
+        requires under { IsAliasBelow (length self.now.table.nodes) (under_kept under) }
         requires room { 0 < S.room parts.old }
         requires node { node < length self.now.table.nodes }
         ensures shows { (below : Held Context) (others : List (PartOf items.Item)) → Shows self.now detail below (S.held parts.old) others
@@ -195,7 +195,7 @@ impl Symbol {
         under: u32,
         detail: Detail,
     )
-        requires under { IsThereBelow (length self.now.table.nodes) (under_kept under) }
+        requires under { IsAliasBelow (length self.now.table.nodes) (under_kept under) }
         requires room { 0 < S.room parts.old }
         requires table { IsTable (table_of self.now) }
         requires list { list < length self.now.table.nodes }

@@ -14,8 +14,8 @@ ghost use Rattle.sym_print.specs.Unfold.{PartOf};
 ghost use Rattle.cpp_term.specs.Items as items;
 ghost use Rattle.cpp_grammar.specs.Parts.{is_below};
 ghost use Rattle.cpp_term.specs.Parts.{parts_in, expand_parts, expand_rest};
-ghost use Rattle.cpp_tree.specs.Nodes.{is_again, entry_at, IsTable, IsThereBelow};
-ghost use Rattle.cpp_layout.specs.Layout.{table_of, context_of, form_of, tree_in, Shows, unshared_of, bytes_of_part, MayBeAsked, shown_symbol, tree_shown};
+ghost use Rattle.cpp_tree.specs.Nodes.{is_again, entry_at, IsTable, IsAliasBelow};
+ghost use Rattle.cpp_layout.specs.Layout.{table_of, context_of, form_of, tree_in, Shows, unshared_of, bytes_of_part, MayBeAsked, shown_symbol, printed_tree};
 
 use crate::context::Context;
 use crate::symbol::Symbol;
@@ -40,12 +40,12 @@ fn has_next(packs: Option<u32>, at: u32) -> bool
 impl Symbol {
     /// Adds an expansion's elements after one.
     fn push_next<S: PartList<Context>>(&self, parts: &mut S, pattern: u32, at: u32, ctx: Context)
-        requires context { IsThereBelow (length self.now.table.nodes) ctx.argument }
+        requires context { IsAliasBelow (length self.now.table.nodes) ctx.argument }
         requires table { IsTable (table_of self.now) }
         requires pattern { pattern < length self.now.table.nodes }
         requires room { 0 < S.room parts.old }
         ensures shows { (below : Held Context) (others : List (PartOf items.Item)) → Shows self.now ctx.detail below (S.held parts.old) others
-            → Shows self.now ctx.detail below (S.held parts.new) (expand_rest (context_of ctx) (tree_shown self.now ctx pattern) (at + 1) ++ others) }
+            → Shows self.now ctx.detail below (S.held parts.new) (expand_rest (context_of ctx) (printed_tree self.now ctx pattern) (at + 1) ++ others) }
         ensures room { S.room parts.old ≤ S.room parts.new + 1 }
     {
         if has_next(self.packs(pattern, ctx), at) {
@@ -55,11 +55,11 @@ impl Symbol {
 
     /// The parts of an expansion's elements from one on.
     fn fill_expand<S: PartList<Context>>(&self, parts: &mut S, pattern: u32, at: u32, ctx: Context)
-        requires context { IsThereBelow (length self.now.table.nodes) ctx.argument }
+        requires context { IsAliasBelow (length self.now.table.nodes) ctx.argument }
         requires table { IsTable (table_of self.now) }
         requires pattern { pattern < length self.now.table.nodes }
         requires room { 8 ≤ S.room parts.old }
-        ensures shows { Shows self.now ctx.detail (S.held parts.old) (S.held parts.new) (expand_parts (context_of ctx) (tree_shown self.now ctx pattern) at) }
+        ensures shows { Shows self.now ctx.detail (S.held parts.old) (S.held parts.new) (expand_parts (context_of ctx) (printed_tree self.now ctx pattern) at) }
         ensures few { S.room parts.old ≤ S.room parts.new + 8 }
     {
         let inner = Context {
@@ -82,11 +82,11 @@ impl Symbol {
         at: u32,
         ctx: Context,
     )
-        requires context { IsThereBelow (length self.now.table.nodes) ctx.argument }
+        requires context { IsAliasBelow (length self.now.table.nodes) ctx.argument }
         requires table { IsTable (table_of self.now) }
         requires node { node < length self.now.table.nodes }
         requires room { 8 ≤ S.room parts.old }
-        ensures shows { Shows self.now ctx.detail (S.held parts.old) (S.held parts.new) (parts_in ctx.detail (context_of ctx) (form_of form at) (tree_in form (tree_shown self.now ctx node))) }
+        ensures shows { Shows self.now ctx.detail (S.held parts.old) (S.held parts.new) (parts_in ctx.detail (context_of ctx) (form_of form at) (tree_in form (printed_tree self.now ctx node))) }
         ensures few { S.room parts.old ≤ S.room parts.new + 8 }
     {
         let place = self.place(node, ctx);
@@ -103,12 +103,12 @@ impl Symbol {
         at: u32,
         ctx: Context,
     )
-        requires context { IsThereBelow (length self.now.table.nodes) ctx.argument }
+        requires context { IsAliasBelow (length self.now.table.nodes) ctx.argument }
         requires own { is_again (entry_at self.now.table.nodes node).node ≡ false }
         requires table { IsTable (table_of self.now) }
         requires node { node < length self.now.table.nodes }
         requires room { 8 ≤ S.room parts.old }
-        ensures shows { Shows self.now ctx.detail (S.held parts.old) (S.held parts.new) (parts_in ctx.detail (context_of ctx) (form_of form at) (tree_in form (tree_shown self.now ctx node))) }
+        ensures shows { Shows self.now ctx.detail (S.held parts.old) (S.held parts.new) (parts_in ctx.detail (context_of ctx) (form_of form at) (tree_in form (printed_tree self.now ctx node))) }
         ensures few { S.room parts.old ≤ S.room parts.new + 8 }
     {
         match form {

@@ -6,10 +6,10 @@ ghost use Rattle.sym_print.specs.Unfold.{text, sub};
 ghost use Rattle.cpp_grammar.specs.Parts.{encoding_text, clone_text, qualifier_text, printed};
 ghost use Rattle.cpp_grammar.specs.Texts.{look_up, special_texts, named_special_texts, literal_endings};
 ghost use Rattle.cpp_term.specs.Parts.{as_item, says, text_part, own_piece, piece_parts, prefix_item, construction_parts, root_parts, left_parts, right_parts, member_parts, array_left, closing_right, function_right, sign_part, operation_parts};
-ghost use Rattle.cpp_tree.specs.Nodes.{is_again, entry_at, tree_at, trees, IsTable, IsWithin, IsThereBelow, bytes_at, qualifiers_of, mark_of, signed_of};
+ghost use Rattle.cpp_tree.specs.Nodes.{is_again, entry_at, tree_at, trees, IsTable, IsWithin, IsAliasBelow, bytes_at, qualifiers_of, mark_of, signed_of};
 ghost use Rattle.cpp_layout.specs.Texts.{fixed_text};
 ghost use Rattle.cpp_layout.specs.declared.texts.TheConstants.{AND, COLONS, RIGHT_BRACKET, STD, TAG};
-ghost use Rattle.cpp_layout.specs.Layout.{table_of, context_of, item_in, marked, text_if, Shows, tree_shown};
+ghost use Rattle.cpp_layout.specs.Layout.{table_of, context_of, item_in, marked, text_if, Shows, printed_tree};
 ghost use Rattle.cpp_grammar.specs.Items as heads;
 ghost use Rattle.cpp_term.specs.Items as items;
 ghost use Rattle.cpp_term.specs.Term as term;
@@ -146,11 +146,11 @@ impl Symbol {
     /// The parts of a name in std.
     // <unscoped-name> ::= St <unqualified-name>
     pub(crate) fn fill_in_std<S: PartList<Context>>(&self, parts: &mut S, node: u32, ctx: Context)
-        requires context { IsThereBelow (length self.now.table.nodes) ctx.argument }
+        requires context { IsAliasBelow (length self.now.table.nodes) ctx.argument }
         requires own { is_again (entry_at self.now.table.nodes node).node ≡ false }
         requires node { node < length self.now.table.nodes }
         requires room { 8 ≤ S.room parts.old }
-        ensures shows { Shows self.now ctx.detail (S.held parts.old) (S.held parts.new) (text (fixed_text STD) ∷ as_item heads.piece (context_of ctx) (own_piece (tree_shown self.now ctx node)) ∷ []) }
+        ensures shows { Shows self.now ctx.detail (S.held parts.old) (S.held parts.new) (text (fixed_text STD) ∷ as_item heads.piece (context_of ctx) (own_piece (printed_tree self.now ctx node)) ∷ []) }
         ensures few { S.room parts.old ≤ S.room parts.new + 8 }
     {
         self.push_item(parts, node, form::PIECE, 0, ctx);
@@ -166,11 +166,11 @@ impl Symbol {
         number: u64,
         ctx: Context,
     )
-        requires context { IsThereBelow (length self.now.table.nodes) ctx.argument }
+        requires context { IsAliasBelow (length self.now.table.nodes) ctx.argument }
         requires table { IsTable (table_of self.now) }
         requires parameters { parameters < length self.now.table.nodes }
         requires room { 8 ≤ S.room parts.old }
-        ensures shows { Shows self.now ctx.detail (S.held parts.old) (S.held parts.new) (piece_parts (context_of ctx) (term.lambda (tree_shown self.now ctx parameters) number)) }
+        ensures shows { Shows self.now ctx.detail (S.held parts.old) (S.held parts.new) (piece_parts (context_of ctx) (term.lambda (printed_tree self.now ctx parameters) number)) }
         ensures few { S.room parts.old ≤ S.room parts.new + 8 }
     {
         self.push_text(parts, texts::BRACE);
@@ -188,7 +188,7 @@ impl Symbol {
         number: u64,
         ctx: Context,
     )
-        requires context { IsThereBelow (length self.now.table.nodes) ctx.argument }
+        requires context { IsAliasBelow (length self.now.table.nodes) ctx.argument }
         requires room { 8 ≤ S.room parts.old }
         ensures shows { Shows self.now ctx.detail (S.held parts.old) (S.held parts.new) (piece_parts (context_of ctx) (term.unnamed number)) }
         ensures few { S.room parts.old ≤ S.room parts.new + 8 }
@@ -206,7 +206,7 @@ impl Symbol {
         name: Span,
         ctx: Context,
     )
-        requires context { IsThereBelow (length self.now.table.nodes) ctx.argument }
+        requires context { IsAliasBelow (length self.now.table.nodes) ctx.argument }
         requires name { IsWithin name self.now.bytes }
         requires room { 8 ≤ S.room parts.old }
         ensures shows { Shows self.now ctx.detail (S.held parts.old) (S.held parts.new) (piece_parts (context_of ctx) (term.literal_operator (bytes_at self.now.bytes name))) }
@@ -219,10 +219,10 @@ impl Symbol {
     /// The parts of the name of a conversion to a type.
     // <operator-name> ::= cv <type>
     pub(crate) fn fill_conversion<S: PartList<Context>>(&self, parts: &mut S, ty: u32, ctx: Context)
-        requires context { IsThereBelow (length self.now.table.nodes) ctx.argument }
+        requires context { IsAliasBelow (length self.now.table.nodes) ctx.argument }
         requires ty { ty < length self.now.table.nodes }
         requires room { 8 ≤ S.room parts.old }
-        ensures shows { Shows self.now ctx.detail (S.held parts.old) (S.held parts.new) (piece_parts (context_of ctx) (term.conversion (tree_shown self.now ctx ty))) }
+        ensures shows { Shows self.now ctx.detail (S.held parts.old) (S.held parts.new) (piece_parts (context_of ctx) (term.conversion (printed_tree self.now ctx ty))) }
         ensures few { S.room parts.old ≤ S.room parts.new + 8 }
     {
         self.push_item(parts, ty, form::RIGHT, 0, ctx);
@@ -239,11 +239,11 @@ impl Symbol {
         name: Span,
         ctx: Context,
     )
-        requires context { IsThereBelow (length self.now.table.nodes) ctx.argument }
+        requires context { IsAliasBelow (length self.now.table.nodes) ctx.argument }
         requires ty { ty < length self.now.table.nodes }
         requires name { IsWithin name self.now.bytes }
         requires room { 8 ≤ S.room parts.old }
-        ensures shows { Shows self.now ctx.detail (S.held parts.old) (S.held parts.new) (piece_parts (context_of ctx) (term.enumeration (tree_shown self.now ctx ty) (bytes_at self.now.bytes name))) }
+        ensures shows { Shows self.now ctx.detail (S.held parts.old) (S.held parts.new) (piece_parts (context_of ctx) (term.enumeration (printed_tree self.now ctx ty) (bytes_at self.now.bytes name))) }
         ensures few { S.room parts.old ≤ S.room parts.new + 8 }
     {
         self.push_text(parts, texts::RIGHT_BRACES);
@@ -262,11 +262,11 @@ impl Symbol {
         names: u32,
         ctx: Context,
     )
-        requires context { IsThereBelow (length self.now.table.nodes) ctx.argument }
+        requires context { IsAliasBelow (length self.now.table.nodes) ctx.argument }
         requires table { IsTable (table_of self.now) }
         requires names { names < length self.now.table.nodes }
         requires room { 8 ≤ S.room parts.old }
-        ensures shows { Shows self.now ctx.detail (S.held parts.old) (S.held parts.new) (piece_parts (context_of ctx) (term.bindings (tree_shown self.now ctx names))) }
+        ensures shows { Shows self.now ctx.detail (S.held parts.old) (S.held parts.new) (piece_parts (context_of ctx) (term.bindings (printed_tree self.now ctx names))) }
         ensures few { S.room parts.old ≤ S.room parts.new + 8 }
     {
         self.push_text(parts, texts::RIGHT_BRACKET);
@@ -283,11 +283,11 @@ impl Symbol {
         number: u16,
         ctx: Context,
     )
-        requires context { IsThereBelow (length self.now.table.nodes) ctx.argument }
+        requires context { IsAliasBelow (length self.now.table.nodes) ctx.argument }
         requires prefix { prefix < length self.now.table.nodes }
         requires number { 0 < length (fixed_text number) }
         requires room { 8 ≤ S.room parts.old }
-        ensures shows { Shows self.now ctx.detail (S.held parts.old) (S.held parts.new) (as_item heads.left (context_of ctx) (tree_shown self.now ctx prefix) ∷ text (fixed_text number) ∷ as_item heads.base (context_of ctx) (tree_shown self.now ctx prefix) ∷ []) }
+        ensures shows { Shows self.now ctx.detail (S.held parts.old) (S.held parts.new) (as_item heads.left (context_of ctx) (printed_tree self.now ctx prefix) ∷ text (fixed_text number) ∷ as_item heads.base (context_of ctx) (printed_tree self.now ctx prefix) ∷ []) }
         ensures few { S.room parts.old ≤ S.room parts.new + 8 }
     {
         self.push_item(parts, prefix, form::BASE, 0, ctx);
@@ -303,12 +303,12 @@ impl Symbol {
         prefix: u32,
         ctx: Context,
     )
-        requires context { IsThereBelow (length self.now.table.nodes) ctx.argument }
+        requires context { IsAliasBelow (length self.now.table.nodes) ctx.argument }
         requires table { IsTable (table_of self.now) }
         requires node { node < length self.now.table.nodes }
         requires prefix { prefix < length self.now.table.nodes }
         requires room { 8 ≤ S.room parts.old }
-        ensures shows { Shows self.now ctx.detail (S.held parts.old) (S.held parts.new) (prefix_item (context_of ctx) (tree_shown self.now ctx prefix) ∷ text (fixed_text COLONS) ∷ as_item heads.piece (context_of ctx) (own_piece (tree_shown self.now ctx node)) ∷ []) }
+        ensures shows { Shows self.now ctx.detail (S.held parts.old) (S.held parts.new) (prefix_item (context_of ctx) (printed_tree self.now ctx prefix) ∷ text (fixed_text COLONS) ∷ as_item heads.piece (context_of ctx) (own_piece (printed_tree self.now ctx node)) ∷ []) }
         ensures few { S.room parts.old ≤ S.room parts.new + 8 }
     {
         self.push_item(parts, node, form::PIECE, 0, ctx);
@@ -325,11 +325,11 @@ impl Symbol {
         tag: Span,
         ctx: Context,
     )
-        requires context { IsThereBelow (length self.now.table.nodes) ctx.argument }
+        requires context { IsAliasBelow (length self.now.table.nodes) ctx.argument }
         requires name { name < length self.now.table.nodes }
         requires tag { IsWithin tag self.now.bytes }
         requires room { 8 ≤ S.room parts.old }
-        ensures shows { Shows self.now ctx.detail (S.held parts.old) (S.held parts.new) (as_item heads.left (context_of ctx) (tree_shown self.now ctx name) ∷ text (fixed_text TAG) ∷ text (bytes_at self.now.bytes tag) ∷ text (fixed_text RIGHT_BRACKET) ∷ []) }
+        ensures shows { Shows self.now ctx.detail (S.held parts.old) (S.held parts.new) (as_item heads.left (context_of ctx) (printed_tree self.now ctx name) ∷ text (fixed_text TAG) ∷ text (bytes_at self.now.bytes tag) ∷ text (fixed_text RIGHT_BRACKET) ∷ []) }
         ensures few { S.room parts.old ≤ S.room parts.new + 8 }
     {
         self.push_text(parts, texts::RIGHT_BRACKET);
@@ -347,13 +347,13 @@ impl Symbol {
         plain: u16,
         ctx: Context,
     )
-        requires context { IsThereBelow (length self.now.table.nodes) ctx.argument }
+        requires context { IsAliasBelow (length self.now.table.nodes) ctx.argument }
         requires table { IsTable (table_of self.now) }
         requires ty { ty < length self.now.table.nodes }
         requires behind { 0 < length (fixed_text behind) }
         requires plain { 0 < length (fixed_text plain) }
         requires room { 8 ≤ S.room parts.old }
-        ensures shows { Shows self.now ctx.detail (S.held parts.old) (S.held parts.new) (marked (heads.is_funarr (items.head (context_of ctx) (tree_shown self.now ctx ty))) (as_item heads.left (context_of ctx) (tree_shown self.now ctx ty)) (fixed_text behind) (fixed_text plain)) }
+        ensures shows { Shows self.now ctx.detail (S.held parts.old) (S.held parts.new) (marked (heads.is_funarr (items.head (context_of ctx) (printed_tree self.now ctx ty))) (as_item heads.left (context_of ctx) (printed_tree self.now ctx ty)) (fixed_text behind) (fixed_text plain)) }
         ensures few { S.room parts.old ≤ S.room parts.new + 8 }
     {
         let is_function = self.is_function(ty, ctx);
@@ -369,12 +369,12 @@ impl Symbol {
         member: u32,
         ctx: Context,
     )
-        requires context { IsThereBelow (length self.now.table.nodes) ctx.argument }
+        requires context { IsAliasBelow (length self.now.table.nodes) ctx.argument }
         requires table { IsTable (table_of self.now) }
         requires class { class < length self.now.table.nodes }
         requires member { member < length self.now.table.nodes }
         requires room { 8 ≤ S.room parts.old }
-        ensures shows { Shows self.now ctx.detail (S.held parts.old) (S.held parts.new) (member_parts (context_of ctx) (tree_shown self.now ctx class) (tree_shown self.now ctx member)) }
+        ensures shows { Shows self.now ctx.detail (S.held parts.old) (S.held parts.new) (member_parts (context_of ctx) (printed_tree self.now ctx class) (printed_tree self.now ctx member)) }
         ensures few { S.room parts.old ≤ S.room parts.new + 8 }
     {
         let is_function = self.is_function(member, ctx);
@@ -386,11 +386,11 @@ impl Symbol {
 
     /// The left parts of an array.
     pub(crate) fn fill_array<S: PartList<Context>>(&self, parts: &mut S, element: u32, ctx: Context)
-        requires context { IsThereBelow (length self.now.table.nodes) ctx.argument }
+        requires context { IsAliasBelow (length self.now.table.nodes) ctx.argument }
         requires table { IsTable (table_of self.now) }
         requires element { element < length self.now.table.nodes }
         requires room { 8 ≤ S.room parts.old }
-        ensures shows { Shows self.now ctx.detail (S.held parts.old) (S.held parts.new) (array_left (context_of ctx) (tree_shown self.now ctx element)) }
+        ensures shows { Shows self.now ctx.detail (S.held parts.old) (S.held parts.new) (array_left (context_of ctx) (printed_tree self.now ctx element)) }
         ensures few { S.room parts.old ≤ S.room parts.new + 8 }
     {
         let is_function = self.is_function(element, ctx);
@@ -406,7 +406,7 @@ impl Symbol {
         number: u16,
         ctx: Context,
     )
-        requires context { IsThereBelow (length self.now.table.nodes) ctx.argument }
+        requires context { IsAliasBelow (length self.now.table.nodes) ctx.argument }
         requires ty { ty < length self.now.table.nodes }
         requires number { 0 < length (fixed_text number) }
         requires room { 8 ≤ S.room parts.old }
@@ -425,11 +425,11 @@ impl Symbol {
         element: u32,
         ctx: Context,
     )
-        requires context { IsThereBelow (length self.now.table.nodes) ctx.argument }
+        requires context { IsAliasBelow (length self.now.table.nodes) ctx.argument }
         requires digits { IsWithin digits self.now.bytes }
         requires element { element < length self.now.table.nodes }
         requires room { 8 ≤ S.room parts.old }
-        ensures shows { Shows self.now ctx.detail (S.held parts.old) (S.held parts.new) (left_parts ctx.detail (context_of ctx) (term.vector (bytes_at self.now.bytes digits) (tree_shown self.now ctx element))) }
+        ensures shows { Shows self.now ctx.detail (S.held parts.old) (S.held parts.new) (left_parts ctx.detail (context_of ctx) (term.vector (bytes_at self.now.bytes digits) (printed_tree self.now ctx element))) }
         ensures few { S.room parts.old ≤ S.room parts.new + 8 }
     {
         self.push_text(parts, texts::RIGHT);
@@ -440,11 +440,11 @@ impl Symbol {
 
     /// The right parts of a pointer or a reference, whose left ones opened a bracket before a function or an array.
     pub(crate) fn fill_closing<S: PartList<Context>>(&self, parts: &mut S, ty: u32, ctx: Context)
-        requires context { IsThereBelow (length self.now.table.nodes) ctx.argument }
+        requires context { IsAliasBelow (length self.now.table.nodes) ctx.argument }
         requires table { IsTable (table_of self.now) }
         requires ty { ty < length self.now.table.nodes }
         requires room { 8 ≤ S.room parts.old }
-        ensures shows { Shows self.now ctx.detail (S.held parts.old) (S.held parts.new) (closing_right (context_of ctx) (tree_shown self.now ctx ty)) }
+        ensures shows { Shows self.now ctx.detail (S.held parts.old) (S.held parts.new) (closing_right (context_of ctx) (printed_tree self.now ctx ty)) }
         ensures few { S.room parts.old ≤ S.room parts.new + 8 }
     {
         let is_function = self.is_function(ty, ctx);
@@ -460,11 +460,11 @@ impl Symbol {
         element: u32,
         ctx: Context,
     )
-        requires context { IsThereBelow (length self.now.table.nodes) ctx.argument }
+        requires context { IsAliasBelow (length self.now.table.nodes) ctx.argument }
         requires digits { IsWithin digits self.now.bytes }
         requires element { element < length self.now.table.nodes }
         requires room { 8 ≤ S.room parts.old }
-        ensures shows { Shows self.now ctx.detail (S.held parts.old) (S.held parts.new) (right_parts (context_of ctx) (term.array (bytes_at self.now.bytes digits) (tree_shown self.now ctx element))) }
+        ensures shows { Shows self.now ctx.detail (S.held parts.old) (S.held parts.new) (right_parts (context_of ctx) (term.array (bytes_at self.now.bytes digits) (printed_tree self.now ctx element))) }
         ensures few { S.room parts.old ≤ S.room parts.new + 8 }
     {
         self.push_item(parts, element, form::RIGHT, 0, ctx);
@@ -481,11 +481,11 @@ impl Symbol {
         element: u32,
         ctx: Context,
     )
-        requires context { IsThereBelow (length self.now.table.nodes) ctx.argument }
+        requires context { IsAliasBelow (length self.now.table.nodes) ctx.argument }
         requires bound { bound < length self.now.table.nodes }
         requires element { element < length self.now.table.nodes }
         requires room { 8 ≤ S.room parts.old }
-        ensures shows { Shows self.now ctx.detail (S.held parts.old) (S.held parts.new) (right_parts (context_of ctx) (term.bounded (tree_shown self.now ctx bound) (tree_shown self.now ctx element))) }
+        ensures shows { Shows self.now ctx.detail (S.held parts.old) (S.held parts.new) (right_parts (context_of ctx) (term.bounded (printed_tree self.now ctx bound) (printed_tree self.now ctx element))) }
         ensures few { S.room parts.old ≤ S.room parts.new + 8 }
     {
         self.push_item(parts, element, form::RIGHT, 0, ctx);
@@ -505,12 +505,12 @@ impl Symbol {
         parameters: u32,
         ctx: Context,
     )
-        requires context { IsThereBelow (length self.now.table.nodes) ctx.argument }
+        requires context { IsAliasBelow (length self.now.table.nodes) ctx.argument }
         requires table { IsTable (table_of self.now) }
         requires returned { returned < length self.now.table.nodes }
         requires parameters { parameters < length self.now.table.nodes }
         requires room { 8 ≤ S.room parts.old }
-        ensures shows { Shows self.now ctx.detail (S.held parts.old) (S.held parts.new) (function_right (context_of ctx) (qualifier_text (qualifiers_of qualifiers)) (mark_of mark) noexcept (tree_shown self.now ctx returned) (tree_shown self.now ctx parameters)) }
+        ensures shows { Shows self.now ctx.detail (S.held parts.old) (S.held parts.new) (function_right (context_of ctx) (qualifier_text (qualifiers_of qualifiers)) (mark_of mark) noexcept (printed_tree self.now ctx returned) (printed_tree self.now ctx parameters)) }
         ensures few { S.room parts.old ≤ S.room parts.new + 8 }
     {
         self.push_item(parts, returned, form::RIGHT, 0, ctx);
@@ -529,7 +529,7 @@ impl Symbol {
         value: Signed,
         ctx: Context,
     )
-        requires context { IsThereBelow (length self.now.table.nodes) ctx.argument }
+        requires context { IsAliasBelow (length self.now.table.nodes) ctx.argument }
         requires digits { IsWithin value.digits self.now.bytes }
         requires room { 8 ≤ S.room parts.old }
         ensures shows { Shows self.now ctx.detail (S.held parts.old) (S.held parts.new) (sign_part (signed_of self.now.bytes value) ++ (text (bytes_at self.now.bytes value.digits) ∷ text_part (look_up (letter ∷ []) literal_endings))) }
@@ -548,11 +548,11 @@ impl Symbol {
         value: Signed,
         ctx: Context,
     )
-        requires context { IsThereBelow (length self.now.table.nodes) ctx.argument }
+        requires context { IsAliasBelow (length self.now.table.nodes) ctx.argument }
         requires ty { ty < length self.now.table.nodes }
         requires digits { IsWithin value.digits self.now.bytes }
         requires room { 8 ≤ S.room parts.old }
-        ensures shows { Shows self.now ctx.detail (S.held parts.old) (S.held parts.new) ((says "(" ∷ as_item heads.left (context_of ctx) (tree_shown self.now ctx ty) ∷ as_item heads.right (context_of ctx) (tree_shown self.now ctx ty) ∷ says ")" ∷ []) ++ sign_part (signed_of self.now.bytes value) ++ (text (bytes_at self.now.bytes value.digits) ∷ [])) }
+        ensures shows { Shows self.now ctx.detail (S.held parts.old) (S.held parts.new) ((says "(" ∷ as_item heads.left (context_of ctx) (printed_tree self.now ctx ty) ∷ as_item heads.right (context_of ctx) (printed_tree self.now ctx ty) ∷ says ")" ∷ []) ++ sign_part (signed_of self.now.bytes value) ++ (text (bytes_at self.now.bytes value.digits) ∷ [])) }
         ensures few { S.room parts.old ≤ S.room parts.new + 8 }
     {
         self.push_bytes(parts, value.digits);
@@ -572,7 +572,7 @@ impl Symbol {
         address: bool,
         ctx: Context,
     )
-        requires context { IsThereBelow (length self.now.table.nodes) ctx.argument }
+        requires context { IsAliasBelow (length self.now.table.nodes) ctx.argument }
         requires encoding { encoding < length self.now.table.nodes }
         requires room { 8 ≤ S.room parts.old }
         ensures shows { Shows self.now ctx.detail (S.held parts.old) (S.held parts.new) (text_if address (fixed_text AND) (as_item heads.bare items.closed (tree_at (trees (table_of self.now)) encoding) ∷ [])) }
@@ -592,12 +592,12 @@ impl Symbol {
         right: u32,
         ctx: Context,
     )
-        requires context { IsThereBelow (length self.now.table.nodes) ctx.argument }
+        requires context { IsAliasBelow (length self.now.table.nodes) ctx.argument }
         requires table { IsTable (table_of self.now) }
         requires left { left < length self.now.table.nodes }
         requires right { right < length self.now.table.nodes }
         requires room { 8 ≤ S.room parts.old }
-        ensures shows { Shows self.now ctx.detail (S.held parts.old) (S.held parts.new) (operation_parts (context_of ctx) (printed first second) (tree_shown self.now ctx left) (tree_shown self.now ctx right)) }
+        ensures shows { Shows self.now ctx.detail (S.held parts.old) (S.held parts.new) (operation_parts (context_of ctx) (printed first second) (printed_tree self.now ctx left) (printed_tree self.now ctx right)) }
         ensures few { S.room parts.old ≤ S.room parts.new + 8 }
     {
         let operation = operation_of(first, second);
@@ -616,7 +616,7 @@ impl Symbol {
         digits: Span,
         ctx: Context,
     )
-        requires context { IsThereBelow (length self.now.table.nodes) ctx.argument }
+        requires context { IsAliasBelow (length self.now.table.nodes) ctx.argument }
         requires digits { IsWithin digits self.now.bytes }
         requires room { 8 ≤ S.room parts.old }
         ensures shows { Shows self.now ctx.detail (S.held parts.old) (S.held parts.new) (says "fp" ∷ text_part (bytes_at self.now.bytes digits)) }
@@ -633,10 +633,10 @@ impl Symbol {
         expression: u32,
         ctx: Context,
     )
-        requires context { IsThereBelow (length self.now.table.nodes) ctx.argument }
+        requires context { IsAliasBelow (length self.now.table.nodes) ctx.argument }
         requires expression { expression < length self.now.table.nodes }
         requires room { 8 ≤ S.room parts.old }
-        ensures shows { Shows self.now ctx.detail (S.held parts.old) (S.held parts.new) (says "decltype(" ∷ as_item heads.left (context_of ctx) (tree_shown self.now ctx expression) ∷ says ")" ∷ []) }
+        ensures shows { Shows self.now ctx.detail (S.held parts.old) (S.held parts.new) (says "decltype(" ∷ as_item heads.left (context_of ctx) (printed_tree self.now ctx expression) ∷ says ")" ∷ []) }
         ensures few { S.room parts.old ≤ S.room parts.new + 8 }
     {
         self.push_text(parts, texts::RIGHT);

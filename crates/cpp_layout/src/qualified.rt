@@ -9,10 +9,10 @@ ghost use Rattle.cpp_grammar.specs.Items as heads;
 ghost use Rattle.cpp_grammar.specs.Parts.{blank_last, qualifier_text};
 ghost use Rattle.cpp_term.specs.Items as items;
 ghost use Rattle.cpp_term.specs.Parts.{text_part, qualified_left};
-ghost use Rattle.cpp_tree.specs.Nodes.{IsTable, qualifiers_of, IsThereBelow};
+ghost use Rattle.cpp_tree.specs.Nodes.{IsTable, qualifiers_of, IsAliasBelow};
 ghost use Rattle.cpp_layout.specs.Texts.{fixed_text};
 ghost use Rattle.cpp_layout.specs.declared.texts.TheConstants.{BLANKED};
-ghost use Rattle.cpp_layout.specs.Layout.{table_of, context_of, Shows, qualifiers_behind, tree_shown};
+ghost use Rattle.cpp_layout.specs.Layout.{table_of, context_of, Shows, qualifiers_behind, printed_tree};
 
 use crate::context::Context;
 use crate::symbol::Symbol;
@@ -50,13 +50,13 @@ impl Symbol {
         ty: u32,
         ctx: Context,
     )
-        requires context { IsThereBelow (length self.now.table.nodes) ctx.argument }
+        requires context { IsAliasBelow (length self.now.table.nodes) ctx.argument }
         requires table { IsTable (table_of self.now) }
         requires ty { ty < length self.now.table.nodes }
         requires room { 0 < S.room parts.old }
         ensures shows { (below : Held Context) (others : List (PartOf items.Item)) → Shows self.now ctx.detail below (S.held parts.old) others
-            → Shows self.now ctx.detail below (S.held parts.new) (qualifiers_behind (heads.is_reference (items.head (context_of ctx) (tree_shown self.now ctx ty)))
-            (heads.is_funarr (items.head (context_of ctx) (tree_shown self.now ctx ty))) (qualifiers_of qualifiers) ++ others) }
+            → Shows self.now ctx.detail below (S.held parts.new) (qualifiers_behind (heads.is_reference (items.head (context_of ctx) (printed_tree self.now ctx ty)))
+            (heads.is_funarr (items.head (context_of ctx) (printed_tree self.now ctx ty))) (qualifiers_of qualifiers) ++ others) }
         ensures room { S.room parts.old ≤ S.room parts.new + 1 }
     {
         if self.is_reference(ty, ctx) {
@@ -78,11 +78,11 @@ impl Symbol {
         ty: u32,
         ctx: Context,
     )
-        requires context { IsThereBelow (length self.now.table.nodes) ctx.argument }
+        requires context { IsAliasBelow (length self.now.table.nodes) ctx.argument }
         requires table { IsTable (table_of self.now) }
         requires ty { ty < length self.now.table.nodes }
         requires room { 8 ≤ S.room parts.old }
-        ensures shows { Shows self.now ctx.detail (S.held parts.old) (S.held parts.new) (qualified_left (context_of ctx) (qualifiers_of qualifiers) (tree_shown self.now ctx ty)) }
+        ensures shows { Shows self.now ctx.detail (S.held parts.old) (S.held parts.new) (qualified_left (context_of ctx) (qualifiers_of qualifiers) (printed_tree self.now ctx ty)) }
         ensures few { S.room parts.old ≤ S.room parts.new + 8 }
     {
         let place = self.place(ty, ctx);

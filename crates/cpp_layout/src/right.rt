@@ -3,8 +3,8 @@
 
 ghost use Rattle.std.specs.Prelude.{◌≡◌, ◌+◌, ◌<◌, ◌≤◌, length, false};
 ghost use Rattle.cpp_term.specs.Parts.{right_parts, qualified_right};
-ghost use Rattle.cpp_tree.specs.Nodes.{IsTable, qualifiers_of, IsThereBelow, is_again, entry_at};
-ghost use Rattle.cpp_layout.specs.Layout.{table_of, context_of, Shows, tree_shown};
+ghost use Rattle.cpp_tree.specs.Nodes.{IsTable, qualifiers_of, IsAliasBelow, is_again, entry_at};
+ghost use Rattle.cpp_layout.specs.Layout.{table_of, context_of, Shows, printed_tree};
 
 use crate::context::Context;
 use crate::form;
@@ -21,11 +21,11 @@ impl Symbol {
         ty: u32,
         ctx: Context,
     )
-        requires context { IsThereBelow (length self.now.table.nodes) ctx.argument }
+        requires context { IsAliasBelow (length self.now.table.nodes) ctx.argument }
         requires table { IsTable (table_of self.now) }
         requires ty { ty < length self.now.table.nodes }
         requires room { 8 ≤ S.room parts.old }
-        ensures shows { Shows self.now ctx.detail (S.held parts.old) (S.held parts.new) (qualified_right (context_of ctx) (qualifiers_of qualifiers) (tree_shown self.now ctx ty)) }
+        ensures shows { Shows self.now ctx.detail (S.held parts.old) (S.held parts.new) (qualified_right (context_of ctx) (qualifiers_of qualifiers) (printed_tree self.now ctx ty)) }
         ensures few { S.room parts.old ≤ S.room parts.new + 8 }
     {
         let place = self.place(ty, ctx);
@@ -45,12 +45,12 @@ impl Symbol {
 
     /// The right parts of a type.
     pub(crate) fn fill_right<S: PartList<Context>>(&self, parts: &mut S, node: u32, ctx: Context)
-        requires context { IsThereBelow (length self.now.table.nodes) ctx.argument }
+        requires context { IsAliasBelow (length self.now.table.nodes) ctx.argument }
         requires own { is_again (entry_at self.now.table.nodes node).node ≡ false }
         requires table { IsTable (table_of self.now) }
         requires node { node < length self.now.table.nodes }
         requires room { 8 ≤ S.room parts.old }
-        ensures shows { Shows self.now ctx.detail (S.held parts.old) (S.held parts.new) (right_parts (context_of ctx) (tree_shown self.now ctx node)) }
+        ensures shows { Shows self.now ctx.detail (S.held parts.old) (S.held parts.new) (right_parts (context_of ctx) (printed_tree self.now ctx node)) }
         ensures few { S.room parts.old ≤ S.room parts.new + 8 }
     {
         match self.stored(node, ctx) {

@@ -7,8 +7,8 @@ ghost use Rattle.cpp_grammar.specs.Items as heads;
 ghost use Rattle.cpp_term.specs.Items as items;
 ghost use Rattle.cpp_term.specs.Reargued.{argument_or};
 ghost use Rattle.cpp_term.specs.Scope.{without_tags};
-ghost use Rattle.cpp_tree.specs.Nodes.{tree_at, trees, tree_of, tree_if_there, is_again, bytes_at, IsBelow, IsThereBelow, IsTable, IsWithin, entry_at};
-ghost use Rattle.cpp_layout.specs.Layout.{table_of, context_of, tree_shown, node_shown, IsRead};
+ghost use Rattle.cpp_tree.specs.Nodes.{tree_at, trees, tree_of, tree_if_there, is_again, bytes_at, IsBelow, IsAliasBelow, IsTable, IsWithin, entry_at};
+ghost use Rattle.cpp_layout.specs.Layout.{table_of, context_of, printed_tree, node_shown, IsRead};
 ghost use Rattle.cpp_tree.specs.Fields.{offsets_of, tree_from};
 ghost use Rattle.cpp_tree.specs.Views.{plain_tree, fields_at, seen_fields, offsets_in, IsView, AreBelow, AreWithin, IsKnownThunk};
 
@@ -107,13 +107,13 @@ impl Symbol {
     pub(crate) fn place(&self, node: u32, ctx: Context) -> Place
         requires table { IsTable (table_of self.now) }
         requires node { node < length self.now.table.nodes }
-        requires context { IsThereBelow (length self.now.table.nodes) ctx.argument }
-        ensures tree { tree_shown self.now result.ctx result.node ≡ tree_shown self.now ctx node }
+        requires context { IsAliasBelow (length self.now.table.nodes) ctx.argument }
+        ensures tree { printed_tree self.now result.ctx result.node ≡ printed_tree self.now ctx node }
         ensures index { context_of result.ctx ≡ context_of ctx }
         ensures detail { result.ctx.detail ≡ ctx.detail }
         ensures own { is_again (entry_at self.now.table.nodes result.node).node ≡ false }
         ensures node { result.node < length self.now.table.nodes }
-        ensures context { IsThereBelow (length self.now.table.nodes) result.ctx.argument }
+        ensures context { IsAliasBelow (length self.now.table.nodes) result.ctx.argument }
     {
         let placed = self.nodes.settled(
             &self.bytes,
@@ -148,7 +148,7 @@ impl Symbol {
         requires table { IsTable (table_of self.now) }
         requires node { node < length self.now.table.nodes }
         requires own { is_again (entry_at self.now.table.nodes node).node ≡ false }
-        ensures tree { tree_shown self.now ctx node ≡ node_shown self.now ctx result }
+        ensures tree { printed_tree self.now ctx node ≡ node_shown self.now ctx result }
         ensures plain { tree_at (trees (table_of self.now)) node ≡ tree_of self.now.bytes self.now.table.thunks (trees (table_of self.now)) result }
         ensures own { is_again result ≡ false }
         ensures below { IsBelow self.now.bytes (length self.now.table.thunks) node result }
@@ -161,13 +161,13 @@ impl Symbol {
     pub(crate) fn untagged(&self, name: u32, ctx: Context) -> Place
         requires table { IsTable (table_of self.now) }
         requires name { name < length self.now.table.nodes }
-        requires context { IsThereBelow (length self.now.table.nodes) ctx.argument }
-        ensures tree { tree_shown self.now result.ctx result.node ≡ without_tags (tree_shown self.now ctx name) }
+        requires context { IsAliasBelow (length self.now.table.nodes) ctx.argument }
+        ensures tree { printed_tree self.now result.ctx result.node ≡ without_tags (printed_tree self.now ctx name) }
         ensures index { context_of result.ctx ≡ context_of ctx }
         ensures detail { result.ctx.detail ≡ ctx.detail }
         ensures own { is_again (entry_at self.now.table.nodes result.node).node ≡ false }
         ensures node { result.node < length self.now.table.nodes }
-        ensures context { IsThereBelow (length self.now.table.nodes) result.ctx.argument }
+        ensures context { IsAliasBelow (length self.now.table.nodes) result.ctx.argument }
     {
         let inner = self.nodes.untagged(
             &self.bytes,
@@ -257,8 +257,8 @@ impl Symbol {
     pub(crate) fn is_function(&self, node: u32, ctx: Context) -> bool
         requires table { IsTable (table_of self.now) }
         requires node { node < length self.now.table.nodes }
-        requires context { IsThereBelow (length self.now.table.nodes) ctx.argument }
-        ensures { result ≡ heads.is_funarr (items.head (context_of ctx) (tree_shown self.now ctx node)) }
+        requires context { IsAliasBelow (length self.now.table.nodes) ctx.argument }
+        ensures { result ≡ heads.is_funarr (items.head (context_of ctx) (printed_tree self.now ctx node)) }
     {
         self.nodes.is_function(
             &self.bytes,
@@ -274,8 +274,8 @@ impl Symbol {
     pub(crate) fn is_reference(&self, node: u32, ctx: Context) -> bool
         requires table { IsTable (table_of self.now) }
         requires node { node < length self.now.table.nodes }
-        requires context { IsThereBelow (length self.now.table.nodes) ctx.argument }
-        ensures { result ≡ heads.is_reference (items.head (context_of ctx) (tree_shown self.now ctx node)) }
+        requires context { IsAliasBelow (length self.now.table.nodes) ctx.argument }
+        ensures { result ≡ heads.is_reference (items.head (context_of ctx) (printed_tree self.now ctx node)) }
     {
         self.nodes.is_reference(
             &self.bytes,
@@ -291,8 +291,8 @@ impl Symbol {
     pub(crate) fn prints_nothing(&self, node: u32, ctx: Context) -> bool
         requires table { IsTable (table_of self.now) }
         requires node { node < length self.now.table.nodes }
-        requires context { IsThereBelow (length self.now.table.nodes) ctx.argument }
-        ensures { result ≡ items.is_empty (context_of ctx) (tree_shown self.now ctx node) }
+        requires context { IsAliasBelow (length self.now.table.nodes) ctx.argument }
+        ensures { result ≡ items.is_empty (context_of ctx) (printed_tree self.now ctx node) }
     {
         self.nodes.prints_nothing(
             &self.bytes,
@@ -307,8 +307,8 @@ impl Symbol {
     pub(crate) fn packs(&self, node: u32, ctx: Context) -> Option<u32>
         requires table { IsTable (table_of self.now) }
         requires node { node < length self.now.table.nodes }
-        requires context { IsThereBelow (length self.now.table.nodes) ctx.argument }
-        ensures { result ≡ items.packs_of (context_of ctx) (tree_shown self.now ctx node) }
+        requires context { IsAliasBelow (length self.now.table.nodes) ctx.argument }
+        ensures { result ≡ items.packs_of (context_of ctx) (printed_tree self.now ctx node) }
     {
         self.nodes.packs(
             &self.bytes,
@@ -325,7 +325,7 @@ impl Symbol {
     fn given_or(&self, given: Option<u32>, number: u32, own: u32) -> u32
         requires table { IsTable (table_of self.now) }
         requires own { own < length self.now.table.nodes }
-        requires given { IsThereBelow (length self.now.table.nodes) given }
+        requires given { IsAliasBelow (length self.now.table.nodes) given }
         ensures tree { tree_at (trees (table_of self.now)) result ≡ argument_or (tree_if_there (trees (table_of self.now)) given) number (tree_at (trees (table_of self.now)) own) }
         ensures below { result < length self.now.table.nodes }
     {
@@ -340,12 +340,12 @@ impl Symbol {
     pub(crate) fn argument_of(&self, number: u32, own: u32, ctx: Context) -> Place
         requires table { IsTable (table_of self.now) }
         requires own { own < length self.now.table.nodes }
-        requires context { IsThereBelow (length self.now.table.nodes) ctx.argument }
-        ensures tree { tree_shown self.now result.ctx result.node ≡ items.argument (context_of ctx) (argument_or (tree_if_there (trees (table_of self.now)) ctx.argument) number (tree_at (trees (table_of self.now)) own)) }
+        requires context { IsAliasBelow (length self.now.table.nodes) ctx.argument }
+        ensures tree { printed_tree self.now result.ctx result.node ≡ items.argument (context_of ctx) (argument_or (tree_if_there (trees (table_of self.now)) ctx.argument) number (tree_at (trees (table_of self.now)) own)) }
         ensures closed { context_of result.ctx ≡ items.closed }
         ensures detail { result.ctx.detail ≡ ctx.detail }
         ensures node { result.node < length self.now.table.nodes }
-        ensures context { IsThereBelow (length self.now.table.nodes) result.ctx.argument }
+        ensures context { IsAliasBelow (length self.now.table.nodes) result.ctx.argument }
     {
         let argument = self.given_or(ctx.argument, number, own);
         let alone = Placed {

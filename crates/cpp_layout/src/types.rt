@@ -7,9 +7,9 @@ ghost use Rattle.cpp_grammar.specs.Items as heads;
 ghost use Rattle.cpp_term.specs.Items as items;
 ghost use Rattle.cpp_term.specs.Parts.{as_item, reference_parts, float_parts};
 ghost use Rattle.cpp_term.specs.Reargued.{argument_or};
-ghost use Rattle.cpp_tree.specs.Nodes.{tree_if_there, tree_at, trees, IsTable, bytes_at, IsWithin, IsThereBelow};
+ghost use Rattle.cpp_tree.specs.Nodes.{tree_if_there, tree_at, trees, IsTable, bytes_at, IsWithin, IsAliasBelow};
 ghost use Rattle.cpp_layout.specs.Texts.{fixed_text};
-ghost use Rattle.cpp_layout.specs.Layout.{table_of, item_in, form_of, context_of, marked, referred, Shows, tree_shown};
+ghost use Rattle.cpp_layout.specs.Layout.{table_of, item_in, form_of, context_of, marked, referred, Shows, printed_tree};
 
 use crate::context::Context;
 use crate::symbol::Symbol;
@@ -28,14 +28,14 @@ impl Symbol {
         plain: u16,
         ctx: Context,
     )
-        requires context { IsThereBelow (length self.now.table.nodes) ctx.argument }
+        requires context { IsAliasBelow (length self.now.table.nodes) ctx.argument }
         requires table { IsTable (table_of self.now) }
         requires ty { ty < length self.now.table.nodes }
         requires behind { 0 < length (fixed_text behind) }
         requires plain { 0 < length (fixed_text plain) }
         requires room { 8 ≤ S.room parts.old }
-        ensures shows { Shows self.now ctx.detail (S.held parts.old) (S.held parts.new) (referred (heads.is_reference (items.head (context_of ctx) (tree_shown self.now ctx ty))) (sub (item_in (trees (table_of self.now)) ty form 0 ctx))
-            (marked (heads.is_funarr (items.head (context_of ctx) (tree_shown self.now ctx ty))) (as_item heads.left (context_of ctx) (tree_shown self.now ctx ty)) (fixed_text behind) (fixed_text plain))) }
+        ensures shows { Shows self.now ctx.detail (S.held parts.old) (S.held parts.new) (referred (heads.is_reference (items.head (context_of ctx) (printed_tree self.now ctx ty))) (sub (item_in (trees (table_of self.now)) ty form 0 ctx))
+            (marked (heads.is_funarr (items.head (context_of ctx) (printed_tree self.now ctx ty))) (as_item heads.left (context_of ctx) (printed_tree self.now ctx ty)) (fixed_text behind) (fixed_text plain))) }
         ensures few { S.room parts.old ≤ S.room parts.new + 8 }
     {
         if self.is_reference(ty, ctx) {
@@ -48,11 +48,11 @@ impl Symbol {
     /// The left parts of a reference to an lvalue.
     // <type> ::= R <type>
     pub(crate) fn fill_lvalue<S: PartList<Context>>(&self, parts: &mut S, ty: u32, ctx: Context)
-        requires context { IsThereBelow (length self.now.table.nodes) ctx.argument }
+        requires context { IsAliasBelow (length self.now.table.nodes) ctx.argument }
         requires table { IsTable (table_of self.now) }
         requires ty { ty < length self.now.table.nodes }
         requires room { 8 ≤ S.room parts.old }
-        ensures shows { Shows self.now ctx.detail (S.held parts.old) (S.held parts.new) (reference_parts (context_of ctx) heads.low (tree_shown self.now ctx ty) "&") }
+        ensures shows { Shows self.now ctx.detail (S.held parts.old) (S.held parts.new) (reference_parts (context_of ctx) heads.low (printed_tree self.now ctx ty) "&") }
         ensures few { S.room parts.old ≤ S.room parts.new + 8 }
     {
         self.fill_reference(parts, ty, form::LOW, texts::LEFT_AND, texts::AND, ctx);
@@ -61,11 +61,11 @@ impl Symbol {
     /// The left parts of a reference to an rvalue.
     // <type> ::= O <type>
     pub(crate) fn fill_rvalue<S: PartList<Context>>(&self, parts: &mut S, ty: u32, ctx: Context)
-        requires context { IsThereBelow (length self.now.table.nodes) ctx.argument }
+        requires context { IsAliasBelow (length self.now.table.nodes) ctx.argument }
         requires table { IsTable (table_of self.now) }
         requires ty { ty < length self.now.table.nodes }
         requires room { 8 ≤ S.room parts.old }
-        ensures shows { Shows self.now ctx.detail (S.held parts.old) (S.held parts.new) (reference_parts (context_of ctx) heads.left (tree_shown self.now ctx ty) "&&") }
+        ensures shows { Shows self.now ctx.detail (S.held parts.old) (S.held parts.new) (reference_parts (context_of ctx) heads.left (printed_tree self.now ctx ty) "&&") }
         ensures few { S.room parts.old ≤ S.room parts.new + 8 }
     {
         self.fill_reference(
@@ -87,7 +87,7 @@ impl Symbol {
         end: u8,
         ctx: Context,
     )
-        requires context { IsThereBelow (length self.now.table.nodes) ctx.argument }
+        requires context { IsAliasBelow (length self.now.table.nodes) ctx.argument }
         requires digits { IsWithin digits self.now.bytes }
         requires room { 8 ≤ S.room parts.old }
         ensures shows { Shows self.now ctx.detail (S.held parts.old) (S.held parts.new) (float_parts (bytes_at self.now.bytes digits) end) }
@@ -111,7 +111,7 @@ impl Symbol {
         form: u32,
         ctx: Context,
     )
-        requires context { IsThereBelow (length self.now.table.nodes) ctx.argument }
+        requires context { IsAliasBelow (length self.now.table.nodes) ctx.argument }
         requires table { IsTable (table_of self.now) }
         requires argument { argument < length self.now.table.nodes }
         requires plain { form < 6 }

@@ -10,7 +10,7 @@ use Rattle.sym_link.specs.Reading.{Found, Next, ◌>>=◌}
 use Rattle.sym_link.specs.Unfold.{found}
 use Rattle.cpp_grammar.specs.declared.production.Production.{Production}
 use Rattle.cpp_grammar.specs.KindNumbers.{PARAMETER_AFTER_T, NEST, NEST_AFTER_S, NEST_REST, NEST_TAIL, NEST_REST_OR_END, NEST_REST_ALONE, NEST_MORE_OR_END, COMPONENT, CONSTRUCTOR_AFTER_C, HELD_COMPONENT, COMPONENT_AFTER_C, ABBREVIATION, ITEM_AFTER_D, AFTER_D, SOLID, SOLID_BUT_T, TYPE_AFTER_S, TYPE_IN_STD, UNNESTED_NAME, LITERAL_TYPE, LITERAL_SOLID, MAYBE_ARGUMENTS, ARGUMENTS, ARGUMENTS_ALONE, MAYBE_TAGS, ARGUMENT_AFTER_T, LEVELED_PARAMETER, ANY_ARRAY, ARRAY_REST, BASE_ARGUMENTS, CONVERTED_SOLID, CONVERTED_AFTER_D, DECLTYPE_AFTER_D, UNRESOLVED_TYPE, NAME_AFTER_MODULE, NAME_IN_MODULE, NEST_ON}
-use Rattle.cpp_grammar.specs.Row.{of, only, extending, tagging, applying, packing, Where, under_it, nothing, the_prefix, type_of, unqualified_of, itself, Before, quiet, goes, becomes, tests, holds, unread, Row, before_part}
+use Rattle.cpp_grammar.specs.Row.{of, only, extending, tagging, applying, packing, Where, under_it, nothing, the_prefix, type_of, unqualified_of, itself, Action, quiet, goes, becomes, tests, holds, unread, Row, before_part}
 use Rattle.cpp_grammar.specs.Rows.{row_of}
 use Rattle.cpp_grammar.proofs.ClosedStates.{ok_same, behind_bind}
 use Rattle.cpp_grammar.specs.Values as plain
@@ -18,7 +18,7 @@ use Rattle.cpp_term.specs.Term.{Term, parameter}
 use Rattle.cpp_term.specs.Scope.{count, element, is_open, length_if_pack, pack_length}
 use Rattle.cpp_term.specs.Values.{State, Around, Candidate, prefix_tree, prefix_listed, Value, nothing_there, tree, named, tree_of, is_listed, is_there, part}
 use Rattle.cpp_term.specs.References.{appended, is_function_type, with_type, with_unqualified, with_prefix, with_packs, is_module, substituted, parameter_named}
-use Rattle.cpp_term.specs.Between.{Going, after, argument_at, index_of, between}
+use Rattle.cpp_term.specs.Between.{Continuation, after, argument_at, index_of, between}
 use Rattle.cpp_term.specs.Meant.{made, meant, around_part, packs_within, gained, replaced, tested, done, state_after}
 use Rattle.cpp_term.specs.Meaning.{meaning}
 use Rattle.cpp_term.specs.Unfolding.{behind, close}
@@ -312,7 +312,7 @@ parameter-one around place k state new e = go around.scope e
 
 -- ## Steps
 
-pub came : {x : Sym} {made now : ℕ} {state : State} {rest : List Value → ℕ → Type 0} (n next : Next Value State Around) → ◌≡◌ {A = Going}
+pub came : {x : Sym} {made now : ℕ} {state : State} {rest : List Value → ℕ → Type 0} (n next : Next Value State Around) → ◌≡◌ {A = Continuation}
     (Ok n) (Ok next)
     → Onward x made now state rest n → Onward x made now state rest next
 came {x} {made} {now} {state} {rest} n next e on = subst (λ m. Onward x made now state rest m) (ok_same n next e) on
@@ -396,14 +396,14 @@ both-of false b h = (refl, h)
 both-of true b h = absurd (false≢true h)
 
 -- what is appended before a part is made there
-unfoldable pub keeps : Before → Bool
+unfoldable pub keeps : Action → Bool
 keeps (goes nothing w) = true
 keeps (goes gain w) = false
 keeps (becomes (of maker sources) is_in is_name is_candidate) = true
 keeps (becomes m is_in is_name is_candidate) = not is_candidate
 keeps _ = true
 
-unfoldable pub all_keep : List Before → Bool
+unfoldable pub all_keep : List Action → Bool
 all_keep [] = true
 all_keep (b ∷ bs) = keeps b && all_keep bs
 
@@ -412,11 +412,11 @@ unfolding packs_within
 packs-same under_it state = refl
 packs-same _ state = refl
 
-stays : (vs : List Value) (around : Around) (state : State) (next : Next Value State Around) (made : ℕ) → ◌≡◌ {A = Going} (Ok (going vs around state)) (Ok next)
+stays : (vs : List Value) (around : Around) (state : State) (next : Next Value State Around) (made : ℕ) → ◌≡◌ {A = Continuation} (Ok (going vs around state)) (Ok next)
     → length next.state.candidates ≤ length state.candidates + made
 stays vs around state next made e = omega (arith, ap (λ n. length n.state.candidates) (ok_same (going vs around state) next e))
 
-keeps-few : (b : Before) → keeps b ≡ true → (around : Around) (place : ℕ) (vs : List Value) (state : State) (next : Next Value State Around) → done b around place vs state ≡ Ok next
+keeps-few : (b : Action) → keeps b ≡ true → (around : Around) (place : ℕ) (vs : List Value) (state : State) (next : Next Value State Around) → done b around place vs state ≡ Ok next
     → length next.state.candidates ≤ length state.candidates + nodes_before b vs
 unfolding keeps done gained tested nodes_before nodes_made
 keeps-few quiet is around place vs state next e = stays vs around state next 0 e
@@ -445,13 +445,13 @@ keeps-few (tests after_t is_name) is around place vs state next e =
     by is_name (replaced (tree t true) vs) (cond is_name (after t true around) around) b.value (parameter-one around (cond after_t (place - 1) place) k state b.value b.is) b.next
   where
     by : (is_name : Bool) (us : List Value) (a : Around) (s : State) → length s.candidates ≡ length state.candidates + 1
-        → ◌≡◌ {A = Going} (Ok (going us a (cond is_name s (record s { candidates = state.candidates })))) (Ok next) → length next.state.candidates ≤ length state.candidates + 1
+        → ◌≡◌ {A = Continuation} (Ok (going us a (cond is_name s (record s { candidates = state.candidates })))) (Ok next) → length next.state.candidates ≤ length state.candidates + 1
     by true us a s one h = omega (arith, one, ap (λ n. length n.state.candidates) (ok_same (going us a s) next h))
     by false us a s one h = omega (arith, ap (λ n. length n.state.candidates) (ok_same (going us a (record s { candidates = state.candidates })) next h))
-keeps-few holds is around place vs state next e = absurd (let clash : ◌≡◌ {A = Going} (Err (BadReference place)) (Ok next) = e in cc)
-keeps-few unread is around place vs state next e = absurd (let clash : ◌≡◌ {A = Going} (Err (BadReference place)) (Ok next) = e in cc)
+keeps-few holds is around place vs state next e = absurd (let clash : ◌≡◌ {A = Continuation} (Err (BadReference place)) (Ok next) = e in cc)
+keeps-few unread is around place vs state next e = absurd (let clash : ◌≡◌ {A = Continuation} (Err (BadReference place)) (Ok next) = e in cc)
 
-kept-part : (bs : List Before) (onward : Before) (k : ℕ) → all_keep bs ≡ true → keeps onward ≡ true → keeps (get_or bs k onward) ≡ true
+kept-part : (bs : List Action) (onward : Action) (k : ℕ) → all_keep bs ≡ true → keeps onward ≡ true → keeps (get_or bs k onward) ≡ true
 unfolding all_keep
 kept-part [] onward k all is = is
 kept-part (b ∷ bs) onward zero all is = (and_parts (keeps b) (all_keep bs) all).0

@@ -12,13 +12,13 @@ use Rattle.cpp_grammar.specs.declared.production.Production.{Production}
 use Rattle.cpp_grammar.specs.declared.production.Operation.{Operation}
 use Rattle.cpp_grammar.specs.KindNumbers.{PARAMETER_AFTER_T, INTEGER, ANONYMOUS, OPERATOR, OTHER_OPERATOR, OPERATOR_AFTER_C, CONSTRUCTOR_DIGIT, COMPONENT_AFTER_D, BINDING_AFTER_D, SOURCE_OR_LOCAL, NEST, NEST_AFTER_S, AFTER_D, ITEM_AFTER_D, SOLID, SOLID_BUT_T, ARGUMENT_AFTER_T, LEVELED_PARAMETER, ANY_ARRAY, ARRAY_REST, LITERAL_TYPE, CONVERTED_SOLID, DECLTYPE_AFTER_D, UNRESOLVED_TYPE, UNRESOLVED_NAME, UNQUALIFIED, NEST_REST, NEST_REST_OR_END, NEST_REST_ALONE, NEST_TAIL, NEST_MORE_OR_END, COMPONENT, COMPONENT_AFTER_C, CONSTRUCTOR_AFTER_C, HOLDER_MARK, HELD_COMPONENT, ABBREVIATION, TYPE_AFTER_S, TYPE_IN_STD, UNNESTED_NAME, MAYBE_ARGUMENTS, MAYBE_TAGS, ARGUMENTS, ARGUMENTS_ALONE, ARGUMENTS_FIRST, BASE_ARGUMENTS, HELD_ARGUMENTS, LITERAL_SOLID, CONVERTED_AFTER_D, FIRST_MODULE, NAMED_MODULE, NAME_AFTER_MODULE, NAME_IN_MODULE, NEST_ON}
 use Rattle.cpp_grammar.specs.Grammar.{parts_of, number_of_kind}
-use Rattle.cpp_grammar.specs.Row.{Made, unlisted, unless_there, Form, handed, finished, either, a_name, as_before, as_part, after_part, nameless, Gain, nothing, type_of, unqualified_of, itself, Before, quiet, goes, becomes, tests, Row, before_part}
+use Rattle.cpp_grammar.specs.Row.{Made, unlisted, unless_there, Form, handed, finished, either, a_name, as_before, as_part, after_part, nameless, Gain, nothing, type_of, unqualified_of, itself, Action, quiet, goes, becomes, tests, Row, before_part}
 use Rattle.cpp_grammar.specs.Rows.{row_of}
 use Rattle.cpp_term.specs.Term.{Term, in_std, instance, parameter}
 use Rattle.cpp_term.specs.Values.{State, Around, prefix_tree, prefix_listed, Value, nothing_there, tree, named, tree_of, piece_of, text_of, is_listed, is_there, part}
 use Rattle.cpp_term.specs.References.{appended, with_type, with_prefix, parameter_named}
 use Rattle.cpp_term.specs.Builders.{argument, built, bytes_in, tree_in, truth_in, number_in}
-use Rattle.cpp_term.specs.Between.{Going, after, inside, argument_at, index_of, no_items, applied}
+use Rattle.cpp_term.specs.Between.{Continuation, after, inside, argument_at, index_of, no_items, applied}
 use Rattle.cpp_term.specs.Meant.{all_given, given, made, meant, is_listing, around_part, packs_within, gained, replaced, tested, done, state_after}
 use Rattle.cpp_term.specs.Own.{own_meaning}
 use Rattle.cpp_term.specs.Meaning.{listed_value}
@@ -32,7 +32,7 @@ use Rattle.cpp_link.proofs.CandidatesFew.{is_component, becomes_candidate, goes_
 abbrev plain : Form → Gain → Row
 plain form gain = record { before = []; onward = quiet; form = form; gain = gain; restores_packs = false; tests_number = false }
 
-abbrev after_steps : List Before → Form → Row
+abbrev after_steps : List Action → Form → Row
 after_steps before form = record { before = before; onward = quiet; form = form; gain = nothing; restores_packs = false; tests_number = false }
 
 -- a name is made before the second part; a name that is a candidate already, or never is one; a module before a name; the name of a parameter
@@ -338,7 +338,7 @@ unfolding pending_around goes_on is_arguments row_of before_part done nodes_befo
 holder-component around place = λ state next e. came (going [] around state) next e (none-appended (going [] around state) (omega arith) (λ v. refl) held)
   where
     held : (v : Value) → By Production.Holder around place (OfKind HELD_COMPONENT ∷ []) (v ∷ []) 0
-    held v = λ state next e. absurd (let clash : ◌≡◌ {A = Going} (Err (BadReference place)) (Ok next) = e in cc)
+    held v = λ state next e. absurd (let clash : ◌≡◌ {A = Continuation} (Err (BadReference place)) (Ok next) = e in cc)
 
 nest-arguments : (around : Around) (place : ℕ) → By Production.NestArguments around place (OfKind ARGUMENTS_FIRST ∷ Byte 69 ∷ OfKind COMPONENT ∷ OfKind NEST_TAIL ∷ []) [] (few_.unlisted_around around)
 unfolding pending pending_around goes_on is_arguments is_component becomes_candidate row_of before_part done around_part packs_within replaced made given all_given built argument tree_in is_listing state_after gained meant nodes_before nodes_made nodes_at_end leaves makes_name may_leave part

@@ -15,7 +15,7 @@ use Rattle.sym_link.specs.Threads.{IsAt, GoesOn}
 use Rattle.cpp_grammar.specs.declared.production.Production.{Production}
 use Rattle.cpp_grammar.specs.Unfolding.{production_at}
 use Rattle.cpp_term.specs.Values.{State, Value, Around}
-use Rattle.cpp_term.specs.Between.{Going, between}
+use Rattle.cpp_term.specs.Between.{Continuation, between}
 use Rattle.cpp_term.specs.Meant.{done}
 use Rattle.cpp_term.specs.Unfolding.{cpp}
 use Rattle.cpp_term.proofs.Notes.{both}
@@ -45,7 +45,7 @@ use Rattle.cpp_link.proofs.Viewing.{parts_are, parts_all, held_state}
 
 -- What is done before the next part of the frame's rule by this reading of the language, once the parts from its base on are
 -- these.
-module _ (reading : Reading Value State Around) (before : Production → Around → ℕ → List Value → State → Going)
+module _ (reading : Reading Value State Around) (before : Production → Around → ℕ → List Value → State → Continuation)
     (reads : (rule : Open State Around) (known : List Value) (state : State) → reading.between rule known state ≡ before (production_at rule.rule.number) rule.context rule.place known state)
     (s : List ℕ) (old : Linked) (frame : Frame Surroundings) (parts own : List Part) (production : Production) (same : own ≡ drop frame.base parts) (numbered : production ≡ production_at frame.rule) where
   abbrev view : View Linked Part Surroundings Value State Around
@@ -72,7 +72,7 @@ module _ (reading : Reading Value State Around) (before : Production → Around 
   gone mid new_parts then state = record { values = values_in s mid.nodes (drop frame.base new_parts); context = around_of (trees_in s mid.nodes) then; state = state }
 
   -- the step that was taken, with what is marked then, is that of the reading, and these are the candidates after it
-  pub goes_right : (mid : Linked) (more : Candidates) (new_parts : List Part) (step : Step) (then : Surroundings) (marking : Going → Going)
+  pub goes_right : (mid : Linked) (more : Candidates) (new_parts : List Part) (step : Step) (then : Surroundings) (marking : Continuation → Continuation)
       → ((n : Next Value State Around) → before production around frame.place (values_in s old.nodes own) (state_of s old) ≡ Ok n → IsClosed around → IsClosed n.context)
       → before production around frame.place (values_in s old.nodes own) (record (state_of s old) { packs = old.packs })
       ≡ marking (goes_on s old.nodes frame.kept (values_in s old.nodes own) (state_of s old) old.packs step)

@@ -8,7 +8,7 @@ use Rattle.cpp_grammar.specs.declared.production.Production.{Production}
 use Rattle.cpp_grammar.specs.Values.{Counted, Lists, both_lists, longer_list, shorter_list, no_list, by_newer}
 use Rattle.cpp_term.specs.Term.{Term, holder}
 use Rattle.cpp_term.specs.Values.{State, Around, Value, tree, tree_of, part, prefix_tree}
-use Rattle.cpp_term.specs.Between.{Going, inside, after, listed_so_far}
+use Rattle.cpp_term.specs.Between.{Continuation, inside, after, listed_so_far}
 use Rattle.cpp_term.specs.References.{appended, appended_by}
 use Rattle.cpp_term.specs.Rescoping.{with_holder, is_instance, holder_so_far, place_in, named_in, left_at, with_lists, listed_by, substituted_wide, numbered, between_wide}
 use Rattle.cpp_tree.specs.Nodes as nodes
@@ -45,14 +45,14 @@ held_read s y kept place (v ∷ w ∷ vs) state packs name one prefix none = abs
 held_read s y kept place (v ∷ []) state packs name one prefix none =
     by (is_instance (prefix_tree (prefix_of (trees_in s y) (name_of kept)))) (prefix_tree (prefix_of (trees_in s y) (name_of kept))) (ap is_instance (sym prefix) ∙ none) ∙ ap ends (sym prefix)
   where
-    ends : Term → Going
+    ends : Term → Continuation
     ends t = Ok (record {
       values = tree (holder t) true ∷ [];
       context = after (holder t) true (around_of (trees_in s y) kept);
       state = with_holder (around_of (trees_in s y) kept) (holder t) (record state { packs = packs });
     })
 
-    by : (b : Bool) (t : Term) → b ≡ false → ◌≡◌ {A = Going} (elim b [ true ↦ Err (BadReference place) | false ↦ ends t ]) (ends t)
+    by : (b : Bool) (t : Term) → b ≡ false → ◌≡◌ {A = Continuation} (elim b [ true ↦ Err (BadReference place) | false ↦ ends t ]) (ends t)
     by true t h = absurd (true≢false h)
     by false t h = refl
 
@@ -65,7 +65,7 @@ held_refused around place (v ∷ w ∷ vs) state one named = absurd (omega (arit
 held_refused around place (v ∷ []) state one named = by (is_instance (prefix_tree around.prefix)) named
   where
     by : (b : Bool) → b ≡ true
-        → ◌≡◌ {A = Going} (elim b [ true ↦ Err (BadReference place) | false ↦ listed_so_far around (holder (prefix_tree around.prefix)) [] (with_holder around (holder (prefix_tree around.prefix)) state) ]) (Err (BadReference place))
+        → ◌≡◌ {A = Continuation} (elim b [ true ↦ Err (BadReference place) | false ↦ listed_so_far around (holder (prefix_tree around.prefix)) [] (with_holder around (holder (prefix_tree around.prefix)) state) ]) (Err (BadReference place))
     by true h = refl
     by false h = absurd (false≢true h)
 
@@ -78,7 +78,7 @@ unfolding between_wide goes_on going_marked with_mark with_candidate
 base_read s y kept then place (v ∷ vs) state packs none surrounds = absurd (omega (arith, none))
 base_read s y kept then place [] state packs none surrounds = ap ends (sym surrounds)
   where
-    ends : Around → Going
+    ends : Around → Continuation
     ends a = Ok (record { values = []; context = a; state = with_mark Production.HeldArguments (around_of (trees_in s y) kept) [] (record state { packs = packs }) })
 
 -- how many nodes are made

@@ -14,7 +14,7 @@ use Rattle.cpp_term.specs.Values as values
 use Rattle.cpp_term.specs.Values.{State, Around, Value, Prefix, is_listed}
 use Rattle.cpp_term.specs.Between.{extended, inherited}
 use Rattle.cpp_term.specs.Unfolding.{behind, close}
-use Rattle.cpp_tree.specs.Nodes.{Stored, tree_at, IsThereBelow}
+use Rattle.cpp_tree.specs.Nodes.{Stored, tree_at, IsAliasBelow}
 use Rattle.cpp_references.specs.declared.around.Surroundings.{Surroundings}
 use Rattle.cpp_link.specs.declared.linked.Linked.{Linked}
 use Rattle.cpp_link.specs.declared.part.Part.{Part}
@@ -37,7 +37,7 @@ counted_alone s ts around _ state other = refl
 
 -- the base class is counted once the constructor's node is there
 pub counted_after : (s : List ℕ) (y z : Stored) (kept : Surroundings) (base : Option ℕ) (before mid : State) → ((i : ℕ) → i < length y.nodes → tree_at (trees_in s z) i ≡ tree_at (trees_in s y) i)
-    → IsKeptThere (length y.nodes) kept → IsThereBelow (length y.nodes) base → before ≡ mid
+    → IsKeptThere (length y.nodes) kept → IsAliasBelow (length y.nodes) base → before ≡ mid
     → with_candidate by_gcc (around_of (trees_in s y) kept) (trees_in s y) base before ≡ with_candidate by_gcc (around_of (trees_in s z) kept) (trees_in s z) base mid
 unfolding with_candidate
 counted_after s y z kept None before mid stays kept_there there same = same

@@ -8,7 +8,7 @@ use Rattle.cpp_grammar.specs.declared.production.Production.{Production}
 use Rattle.cpp_term.specs.Term.{Term}
 use Rattle.cpp_term.specs.Scope.{is_open}
 use Rattle.cpp_term.specs.Values.{State, Around, Value, part, text_of}
-use Rattle.cpp_term.specs.Between.{Going, listed_so_far}
+use Rattle.cpp_term.specs.Between.{Continuation, listed_so_far}
 use Rattle.cpp_term.specs.References.{is_module}
 use Rattle.cpp_term.specs.Rescoping.{named_by_both, module_of, module_named, module_so_far, between_wide}
 use Rattle.cpp_tree.specs.Nodes.{Stored, tree_at}
@@ -57,7 +57,7 @@ unfolding between_wide module_so_far module_named listed_so_far goes_on going_ma
 module_read s y kept place [] state packs digits node one own named = absurd (omega (arith, one))
 module_read s y kept place (v ∷ w ∷ vs) state packs digits node one own named = absurd (omega (arith, one))
 module_read s y kept place (v ∷ []) state packs digits node one own named =
-    ap (λ m. elim m as (λ _. Going) [ None ↦ Err (BadReference (place - 1)) | Some t ↦ listed_so_far (around_of (trees_in s y) kept) t [] (record state { packs = packs }) ])
+    ap (λ m. elim m as (λ _. Continuation) [ None ↦ Err (BadReference (place - 1)) | Some t ↦ listed_so_far (around_of (trees_in s y) kept) t [] (record state { packs = packs }) ])
     (ap (λ ds. module_of (named_by_both state.candidates (counted_value Seq36 ds))) (sym own) ∙ named)
 
 -- what is no module is refused
@@ -67,7 +67,7 @@ unfolding between_wide module_so_far module_named part
 module_refused around place [] state packs digits one own none = absurd (omega (arith, one))
 module_refused around place (v ∷ w ∷ vs) state packs digits one own none = absurd (omega (arith, one))
 module_refused around place (v ∷ []) state packs digits one own none =
-    ap (λ m. elim m as (λ _. Going) [ None ↦ Err (BadReference (place - 1)) | Some t ↦ listed_so_far around t [] (record state { packs = packs }) ])
+    ap (λ m. elim m as (λ _. Continuation) [ None ↦ Err (BadReference (place - 1)) | Some t ↦ listed_so_far around t [] (record state { packs = packs }) ])
     (ap (λ ds. module_of (named_by_both state.candidates (counted_value Seq36 ds))) (sym own) ∙ none)
 
 -- no node is made

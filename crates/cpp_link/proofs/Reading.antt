@@ -12,7 +12,7 @@ use Rattle.cpp_term.specs.Meaning.{is_void, is_nil, parameters, encoding_of}
 use Rattle.cpp_term.specs.Rescoping.{is_instance, fits}
 use Rattle.cpp_term.specs.Values.{Value, tree_of, qualifiers_of, ref_of}
 use Rattle.cpp_tree.specs.Nodes as nodes
-use Rattle.cpp_tree.specs.Nodes.{tree_at, tree_if_there, is_again, IsBelow, IsThereBelow}
+use Rattle.cpp_tree.specs.Nodes.{tree_at, tree_if_there, is_again, IsBelow, IsAliasBelow}
 use Rattle.cpp_link.specs.declared.signatures.Split.{Split}
 use Rattle.cpp_term.specs.Reargued.{reargued}
 use Rattle.cpp_term.proofs.Notes.{both}
@@ -105,7 +105,7 @@ unfolding cell_under
 no_cell (Node.Cell first rest) under other = absurd (other first rest refl)
 no_cell _ under other = refl
 
-pub split_there : (s : List ℕ) (held n : ℕ) (node : Node) (under : Option ℕ) → IsBelow s held n node → IsThereBelow n under → IfSome (cell_under node under) (IsSplitThere n)
+pub split_there : (s : List ℕ) (held n : ℕ) (node : Node) (under : Option ℕ) → IsBelow s held n node → IsAliasBelow n under → IfSome (cell_under node under) (IsSplitThere n)
 unfolding cell_under
 split_there s held n (Node.Cell first rest) under below there = (below.0, (below.1, there))
 split_there s held n _ under below there = tt

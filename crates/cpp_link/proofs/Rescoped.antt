@@ -24,7 +24,7 @@ use Rattle.cpp_term.specs.Values.{State, Value, tree, Around, part, text_of}
 use Rattle.sym_core.specs.Value.{counted_value}
 use Rattle.sym_core.specs.declared.NumberKind.TheVariants.{Decimal}
 use Rattle.cpp_term.specs.References.{parameter_named}
-use Rattle.cpp_term.specs.Between.{Going, next, parameter_so_far, argument_so_far, index_of, between, listed_so_far}
+use Rattle.cpp_term.specs.Between.{Continuation, next, parameter_so_far, argument_so_far, index_of, between, listed_so_far}
 use Rattle.cpp_term.specs.Meaning.{meaning}
 use Rattle.cpp_term.specs.Unfolding.{cpp}
 use Rattle.cpp_term.specs.Rescoping.{generic_so_far, parameter_here, argument_here, lambda_with, as_generic_lambda, between_wide, close_wide, cpp_wide}
@@ -69,7 +69,7 @@ apart_between Production.NestParameter around place (v ∷ []) state apart = nam
 apart_between Production.ParameterArgument around place (v ∷ []) state apart = named_outside around.in_lambda around (place - 1) (index_of v) state apart
 apart_between Production.ParameterExpression around place (v ∷ []) state apart = go around.in_lambda apart
   where
-    own : Going
+    own : Continuation
     own = next (tree (term.parameter (generic_number (index_of v)) auto) true ∷ []) around state
 
     go : (b : Bool) → (b && true) ≡ false → elim b [ true ↦ own | false ↦ argument_so_far around (place - 1) (index_of v) state ] ≡ argument_so_far around (place - 1) (index_of v) state
@@ -204,13 +204,13 @@ generic_between : (p : Production) (around : Around) (place : ℕ) (v : Value) (
     → between_wide p around place (v ∷ []) state ≡ generic_read (is_parameter_argument p) around (index_of v) state
 unfolding is_parameter is_parameter_argument generic_read between_wide parameter_here argument_here
 generic_between Production.Parameter around place v state is lambda =
-    ap (λ b. elim b as (λ _. Going) [ true ↦ generic_so_far around (index_of v) [] state | false ↦ parameter_so_far around place (index_of v) [] state ]) lambda
+    ap (λ b. elim b as (λ _. Continuation) [ true ↦ generic_so_far around (index_of v) [] state | false ↦ parameter_so_far around place (index_of v) [] state ]) lambda
 generic_between Production.NestParameter around place v state is lambda =
-    ap (λ b. elim b as (λ _. Going) [ true ↦ generic_so_far around (index_of v) [] state | false ↦ parameter_so_far around place (index_of v) [] state ]) lambda
+    ap (λ b. elim b as (λ _. Continuation) [ true ↦ generic_so_far around (index_of v) [] state | false ↦ parameter_so_far around place (index_of v) [] state ]) lambda
 generic_between Production.ParameterArgument around place v state is lambda =
-    ap (λ b. elim b as (λ _. Going) [ true ↦ generic_so_far around (index_of v) [] state | false ↦ parameter_so_far around (place - 1) (index_of v) [] state ]) lambda
+    ap (λ b. elim b as (λ _. Continuation) [ true ↦ generic_so_far around (index_of v) [] state | false ↦ parameter_so_far around (place - 1) (index_of v) [] state ]) lambda
 generic_between Production.ParameterExpression around place v state is lambda =
-    ap (λ b. elim b as (λ _. Going) [ true ↦ next (tree (term.parameter (generic_number (index_of v)) auto) true ∷ []) around state | false ↦ argument_so_far around (place - 1) (index_of v) state ]) lambda
+    ap (λ b. elim b as (λ _. Continuation) [ true ↦ next (tree (term.parameter (generic_number (index_of v)) auto) true ∷ []) around state | false ↦ argument_so_far around (place - 1) (index_of v) state ]) lambda
 generic_between _ around place v state is lambda = absurd (false≢true is)
 
 pub generic_is : (s : List ℕ) (y : Stored) (kept : Surroundings) (p : Production) (place : ℕ) (own : List Part) (digits : List ℕ) (state : values.State) (packs : Option ℕ) (step : Step)
@@ -248,7 +248,7 @@ unmarked Production.Holder around vs state held own = absurd (held refl)
 unmarked Production.HeldArguments around vs state held own = absurd (own refl)
 unmarked _ around vs state held own = refl
 
-pub going_unmarked : (p : Production) (around : Around) (going : Going) → (p ≡ Production.Holder → ⊥) → (p ≡ Production.HeldArguments → ⊥) → going_marked p around going ≡ going
+pub going_unmarked : (p : Production) (around : Around) (going : Continuation) → (p ≡ Production.Holder → ⊥) → (p ≡ Production.HeldArguments → ⊥) → going_marked p around going ≡ going
 unfolding going_marked
 going_unmarked p around (Ok n) held own = ap (λ x. Ok (record n { state = x })) (unmarked p around n.values n.state held own)
 going_unmarked p around (Err e) held own = refl

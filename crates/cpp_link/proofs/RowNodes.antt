@@ -2,7 +2,7 @@
 use Rattle.std.proofs.Common.{◌≡◌, refl, ◌∙◌, ap, arith, ℕ, zero, suc, ◌+◌, ◌<◌, List, [], ◌∷◌, length, get_or, Bool, true, false}
 use Rattle.std.specs.Prelude.{if◌then◌else◌, cond, ◌&&◌}
 use Rattle.cpp_grammar.specs.declared.production.Production.{Production}
-use Rattle.cpp_grammar.specs.Row.{Before, quiet, goes, becomes, tests, holds, unread, before_part, quiet_before, quiet_from}
+use Rattle.cpp_grammar.specs.Row.{Action, quiet, goes, becomes, tests, holds, unread, before_part, quiet_before, quiet_from}
 use Rattle.cpp_grammar.specs.Rows.{row_of}
 use Rattle.cpp_term.specs.Values.{Value, part, tree_of}
 use Rattle.cpp_term.specs.Between.{no_items}
@@ -44,7 +44,7 @@ unfolding quiet_parts row_of quiet_before quiet_from
 same_quiet Production.Mark = refl
 same_quiet _ = refl
 
-quiet_at : (before : List Before) (onward : Before) (m k : ℕ) → m + k < quiet_from before onward m → get_or before k onward ≡ quiet
+quiet_at : (before : List Action) (onward : Action) (m k : ℕ) → m + k < quiet_from before onward m → get_or before k onward ≡ quiet
 unfolding quiet_from
 quiet_at [] quiet m k less = refl
 quiet_at [] (goes gain w) m k less = absurd (omega (arith, less))

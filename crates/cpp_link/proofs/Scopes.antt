@@ -7,14 +7,14 @@ use Rattle.sym_core.specs.Value.{counted_value}
 use Rattle.sym_core.specs.declared.NumberKind.TheVariants.{Seq36}
 use Rattle.sym_link.specs.Reading.{Next, ◌>>=◌}
 use Rattle.cpp_grammar.specs.declared.production.Production.{Production}
-use Rattle.cpp_grammar.specs.Row.{Where, as_before, in_its_name, in_its_types, in_a_signature, under_it, nameless, after_part, after_the_name, Before, quiet, goes, becomes, tests, holds, unread, before_part}
+use Rattle.cpp_grammar.specs.Row.{Where, as_before, in_its_name, in_its_types, in_a_signature, under_it, nameless, after_part, after_the_name, Action, quiet, goes, becomes, tests, holds, unread, before_part}
 use Rattle.cpp_grammar.specs.Rows.{row_of}
 use Rattle.cpp_term.specs.Term.{Term, holder, parameter}
 use Rattle.cpp_term.specs.Items.{auto}
 use Rattle.cpp_grammar.specs.Rescoping.{generic_number}
 use Rattle.cpp_term.specs.Values.{State, Around, prefix_tree, Value, tree, tree_of, text_of, part}
 use Rattle.cpp_term.specs.References.{parameter_named}
-use Rattle.cpp_term.specs.Between.{Going, in_name, in_types, in_signature, under_expansion, after, inside, listed_so_far, parameter_so_far, argument_so_far, argument_at, index_of, next, between}
+use Rattle.cpp_term.specs.Between.{Continuation, in_name, in_types, in_signature, under_expansion, after, inside, listed_so_far, parameter_so_far, argument_so_far, argument_at, index_of, next, between}
 use Rattle.cpp_term.specs.Meant.{made, around_part, tested, done}
 use Rattle.cpp_term.specs.Rescoping.{parameter_here, argument_here, generic_so_far, with_holder, is_instance, holder_so_far, module_named, module_so_far, between_wide}
 use Rattle.cpp_references.proofs.Arguments.{closed_are}
@@ -22,7 +22,7 @@ use Rattle.cpp_link.specs.Parts.{IsClosed}
 
 -- ## What surrounds the next part
 
-abbrev GoesClosed : Going → Type 0
+abbrev GoesClosed : Continuation → Type 0
 GoesClosed going = IfOk going (λ n. IsClosed n.context)
 
 around_closed : (w : Where) (around : Around) (place : ℕ) (vs : List Value) → IsClosed around → IsClosed (around_part around place vs w)
@@ -41,7 +41,7 @@ unfolding after
 name_closed true around t is_in closed = closed
 name_closed false around t is_in closed = closed
 
-done_closed : (b : Before) (around : Around) (place : ℕ) (vs : List Value) (state : State) → IsClosed around → GoesClosed (done b around place vs state)
+done_closed : (b : Action) (around : Around) (place : ℕ) (vs : List Value) (state : State) → IsClosed around → GoesClosed (done b around place vs state)
 unfolding done tested
 done_closed quiet around place vs state closed = closed
 done_closed (goes gain w) around place vs state closed = around_closed w around place vs closed
@@ -73,7 +73,7 @@ here_closed around place k state closed = by around.in_lambda
     named_closed (Ok s) = closed
     named_closed (Err e) = tt
 
-    by : (b : Bool) → GoesClosed (elim b as (λ _. Going) [ true ↦ generic_so_far around k [] state | false ↦ parameter_so_far around place k [] state ])
+    by : (b : Bool) → GoesClosed (elim b as (λ _. Continuation) [ true ↦ generic_so_far around k [] state | false ↦ parameter_so_far around place k [] state ])
     by true = closed
     by false = named_closed (parameter_named around place k state)
 
@@ -85,7 +85,7 @@ argument_here_closed around place k state closed = by around.in_lambda
     named_closed (Ok s) = closed
     named_closed (Err e) = tt
 
-    by : (b : Bool) → GoesClosed (elim b as (λ _. Going) [ true ↦ next (tree (parameter (generic_number k) auto) true ∷ []) around state | false ↦ argument_so_far around place k state ])
+    by : (b : Bool) → GoesClosed (elim b as (λ _. Continuation) [ true ↦ next (tree (parameter (generic_number k) auto) true ∷ []) around state | false ↦ argument_so_far around place k state ])
     by true = closed
     by false = named_closed (parameter_named around place k state)
 
@@ -93,7 +93,7 @@ holder_closed : (around : Around) (place : ℕ) (state : State) → IsClosed aro
 unfolding holder_so_far listed_so_far after
 holder_closed around place state closed = by (is_instance (prefix_tree around.prefix))
   where
-    by : (b : Bool) → GoesClosed (elim b as (λ _. Going) [
+    by : (b : Bool) → GoesClosed (elim b as (λ _. Continuation) [
       | true ↦ Err (BadReference place)
       | false ↦ listed_so_far around (holder (prefix_tree around.prefix)) [] (with_holder around (holder (prefix_tree around.prefix)) state)
     ])
@@ -104,7 +104,7 @@ module_closed : (around : Around) (place number : ℕ) (state : State) → IsClo
 unfolding module_so_far listed_so_far after
 module_closed around place number state closed = by (module_named number state)
   where
-    by : (o : Option Term) → GoesClosed (elim o as (λ _. Going) [ None ↦ Err (BadReference place) | Some t ↦ listed_so_far around t [] state ])
+    by : (o : Option Term) → GoesClosed (elim o as (λ _. Continuation) [ None ↦ Err (BadReference place) | Some t ↦ listed_so_far around t [] state ])
     by None = tt
     by (Some t) = closed
 

@@ -6,7 +6,7 @@ use Rattle.cpp_grammar.specs.declared.production.Production.{Production}
 use Rattle.cpp_term.specs.Term.{Term}
 use Rattle.cpp_term.specs.Values as values
 use Rattle.cpp_term.specs.Values.{State, Value, Around}
-use Rattle.cpp_term.specs.Between.{Going}
+use Rattle.cpp_term.specs.Between.{Continuation}
 use Rattle.cpp_tree.specs.Nodes.{Stored, over, tree_at, IsTable}
 use Rattle.cpp_tree.specs.declared.node.Node.{Node}
 use Rattle.cpp_link.specs.declared.linked.Linked.{Linked}
@@ -73,7 +73,7 @@ first_values s ts base parts new_parts node listed own =
     ap (λ vs. values.tree (tree_at ts node) listed ∷ vs) (rest_values s ts base parts ∙ ap (λ k. values_of s ts (drop k parts)) after_one)
     ∙ ap (λ ps. values_of s ts ps) (sym own)
 
-abbrev going : List Value → Around → State → Going
+abbrev going : List Value → Around → State → Continuation
 going vs around state = Ok (record { values = vs; context = around; state = state })
 
 same_going : (vs ws : List Value) (a b : Around) (x y : State) → vs ≡ ws → a ≡ b → x ≡ y

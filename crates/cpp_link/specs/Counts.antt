@@ -7,7 +7,7 @@ use Rattle.cpp_grammar.specs.declared.production.Production.{Production}
 use Rattle.cpp_term.specs.Term.{parameter}
 use Rattle.cpp_term.specs.Values.{State, Value, tree, Around, part}
 use Rattle.cpp_term.specs.References.{parameter_named}
-use Rattle.cpp_grammar.specs.Row.{Before, quiet, goes, becomes, tests, holds, unread, before_part}
+use Rattle.cpp_grammar.specs.Row.{Action, quiet, goes, becomes, tests, holds, unread, before_part}
 use Rattle.cpp_grammar.specs.Rows.{row_of}
 use Rattle.cpp_term.specs.Between.{between, next, listed_so_far, parameter_so_far, argument_so_far, argument_at, index_of}
 use Rattle.cpp_term.specs.Meant.{done, made, replaced, tested}
@@ -33,7 +33,7 @@ unfolding replaced
 replaced_counts t [] = refl
 replaced_counts t (v ∷ vs) = refl
 
-done_counts : (b : Before) (around : Around) (place : ℕ) (vs : List Value) (state : State) → IfOk (done b around place vs state) (λ next. length next.values ≡ length vs)
+done_counts : (b : Action) (around : Around) (place : ℕ) (vs : List Value) (state : State) → IfOk (done b around place vs state) (λ next. length next.values ≡ length vs)
 unfolding done tested
 done_counts quiet around place vs state = refl
 done_counts (goes gain w) around place vs state = refl

@@ -17,7 +17,7 @@ use Rattle.cpp_term.specs.Items.{auto}
 use Rattle.cpp_term.specs.Values.{Candidate, State, Around, Value, tree, tree_of, prefix_tree, prefix_listed, text_of, part}
 use Rattle.cpp_term.specs.Unfolding.{first_around, first_state}
 use Rattle.cpp_term.specs.Rescoping.{generic_so_far, with_holder, counted_unless, is_foreign, as_generic_lambda, counted_base, place_in, named_in, left_at, with_lists, expecting, close_wide, cpp_wide}
-use Rattle.cpp_term.specs.Between.{Going, next}
+use Rattle.cpp_term.specs.Between.{Continuation, next}
 use Rattle.cpp_link.specs.declared.linked.Linked.{Linked}
 use Rattle.cpp_link.specs.declared.rescoping.Rescoping.{Rescoping}
 use Rattle.cpp_link.specs.declared.part.Part.{Part}
@@ -97,12 +97,12 @@ with_mark Production.HeldArguments around vs state = counted_unless (prefix_list
 with_mark _ around vs state = state
 
 -- what is done, and what becomes a candidate then
-unfoldable pub going_marked : Production → Around → Going → Going
+unfoldable pub going_marked : Production → Around → Continuation → Continuation
 going_marked production around (Ok next) = Ok (record next { state = with_mark production around next.values next.state })
 going_marked production around (Err e) = Err e
 
 -- the value of the lambda's own parameter of this number, which may be an argument itself
-unfoldable pub generic_read : (is_argument : Bool) → Around → ℕ → State → Going
+unfoldable pub generic_read : (is_argument : Bool) → Around → ℕ → State → Continuation
 generic_read true around k state = next (tree (parameter (generic_number k) auto) true ∷ []) around state
 generic_read false around k state = generic_so_far around k [] state
 

@@ -80,7 +80,7 @@ IsOutcomeThere s held n (Outcome.Entity node q m) = IsBelow s held n node
 IsOutcomeThere s held n (Outcome.Items node m) = IsBelow s held n node
 IsOutcomeThere s held n (Outcome.Thunk thunk encoding) = IsThunkWithin s thunk × (encoding < n)
 IsOutcomeThere s held n (Outcome.Character letter value) = IsWithin value.digits s
-IsOutcomeThere s held n (Outcome.MadeOperand letter left node) = nodes.IsThereBelow n left × IsBelow s held n node
+IsOutcomeThere s held n (Outcome.MadeOperand letter left node) = nodes.IsAliasBelow n left × IsBelow s held n node
 IsOutcomeThere s held n (Outcome.Enclosed first rest) = (first < n) × (rest < n)
 IsOutcomeThere s held n (Outcome.Applied name arguments) = IsBelow s held n name × (arguments < n)
 IsOutcomeThere s held n (Outcome.Lambda first rest number) = (first < n) × (rest < n)
@@ -90,6 +90,6 @@ abbrev pub AreCandidatesThere : ℕ → Candidates → Type 0
 AreCandidatesThere n cs = AreNodesThere n cs.list.items × IsCounted cs
 
 abbrev pub IsStepThere : List ℕ → (held n : ℕ) → Step → Type 0
-IsStepThere s held n (Step.Go candidate then packs) = nodes.IsThereBelow n candidate × IsKeptThere n then
+IsStepThere s held n (Step.Go candidate then packs) = nodes.IsAliasBelow n candidate × IsKeptThere n then
 IsStepThere s held n (Step.Named node listed is_name) = node < n
 IsStepThere s held n (Step.Made node listed is_name is_candidate packs) = IsBelow s held n node

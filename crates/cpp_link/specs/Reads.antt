@@ -9,8 +9,8 @@ use Rattle.cpp_grammar.specs.Values.{Counted, by_all}
 use Rattle.cpp_term.specs.References.{appended, appended_by}
 use Rattle.cpp_term.specs.Values as values
 use Rattle.cpp_term.specs.Values.{State, Value, Around, tree_of, qualifiers_of, ref_of}
-use Rattle.cpp_tree.specs.Nodes.{Stored, tree_at, tree_if_there, IsThereBelow}
-use Rattle.cpp_term.specs.Between.{Going, after}
+use Rattle.cpp_tree.specs.Nodes.{Stored, tree_at, tree_if_there, IsAliasBelow}
+use Rattle.cpp_term.specs.Between.{Continuation, after}
 use Rattle.cpp_link.specs.declared.part.Step.{Step}
 use Rattle.cpp_references.specs.declared.around.Surroundings.{Surroundings}
 use Rattle.cpp_tree.specs.declared.node.Node.{Node}
@@ -60,7 +60,7 @@ unfoldable pub split_of : OpenedNode → Option Split
 split_of list = cell_under list.node list.under
 
 abbrev pub IsSplitThere : ℕ → Split → Type 0
-IsSplitThere n items = (items.first < n) × ((items.rest < n) × IsThereBelow n items.under)
+IsSplitThere n items = (items.first < n) × ((items.rest < n) × IsAliasBelow n items.under)
 
 -- the parameters of the items that these are
 unfoldable pub parameters_by : List Term → Option Split → Term → Term
@@ -104,7 +104,7 @@ appended_if false around t state = state
 appended_if true around t state = appended around t state
 
 -- the result of a step, before a part with these surroundings, after these values
-unfoldable pub goes_on : List ℕ → Stored → Surroundings → List Value → State → Option ℕ → Step → Going
+unfoldable pub goes_on : List ℕ → Stored → Surroundings → List Value → State → Option ℕ → Step → Continuation
 goes_on s y kept vs state before (Step.Go candidate then packs) =
     Ok (record { values = vs; context = around_of (trees_in s y) then; state = with_candidate by_all (around_of (trees_in s y) kept) (trees_in s y) candidate (record state { packs = packs }) })
 goes_on s y kept vs state before (Step.Named node listed is_name) =

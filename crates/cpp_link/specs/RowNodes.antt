@@ -1,6 +1,6 @@
 -- How many nodes a row makes of parts with these values.
 use Rattle.std.specs.Prelude.{ℕ, ◌+◌, List, ◌&&◌, cond}
-use Rattle.cpp_grammar.specs.Row.{Made, only, applying, packing, Own, closure, inheriting, by_letters, enclosed, elements, substitution, Form, makes, a_pair, cell, item, a_name, in_place, own, Before, becomes, tests, holds}
+use Rattle.cpp_grammar.specs.Row.{Made, only, applying, packing, Own, closure, inheriting, by_letters, enclosed, elements, substitution, Form, makes, a_pair, cell, item, a_name, in_place, own, Action, becomes, tests, holds}
 use Rattle.cpp_term.specs.Values.{Value, part, tree_of}
 use Rattle.cpp_term.specs.Between.{no_items}
 use Rattle.cpp_term.specs.Meaning.{is_void, is_nil}
@@ -14,7 +14,7 @@ nodes_made (packing k) vs = one_if_there (part vs k)
 nodes_made m vs = 1
 
 -- before a part
-unfoldable pub nodes_before : Before → List Value → ℕ
+unfoldable pub nodes_before : Action → List Value → ℕ
 nodes_before (becomes m is_in is_name is_candidate) vs = nodes_made m vs
 nodes_before (tests after_t is_name) vs = 1
 nodes_before holds vs = 1

@@ -1,6 +1,6 @@
 -- Existing nodes denote what they denoted, where nodes are added.
 use Rattle.std.proofs.Common.{◌≡◌, refl, arith, ℕ, ◌<◌, ◌≤◌, List, [], ◌∷◌, length, Option, Some, None}
-use Rattle.cpp_tree.specs.Nodes.{Stored, tree_at, piece_of, tree_if_there, IsPieceBelow, IsThereBelow}
+use Rattle.cpp_tree.specs.Nodes.{Stored, tree_at, piece_of, tree_if_there, IsPieceBelow, IsAliasBelow}
 use Rattle.cpp_tree.specs.declared.node.Piece.{Piece}
 use Rattle.cpp_link.specs.declared.part.Part.{Part}
 use Rattle.cpp_references.specs.declared.around.Prefix.{Prefix}
@@ -38,7 +38,7 @@ module _ (s : List ℕ) (old new : Stored) (stays : (i : ℕ) → i < length old
   values_stay [] there = refl
   values_stay (p ∷ ps) there = rw (value_stays p there.0, values_stay ps there.1) refl
 
-  arguments_stay : (o : Option ℕ) → IsThereBelow (length old.nodes) o → tree_if_there (trees_in s new) o ≡ tree_if_there (trees_in s old) o
+  arguments_stay : (o : Option ℕ) → IsAliasBelow (length old.nodes) o → tree_if_there (trees_in s new) o ≡ tree_if_there (trees_in s old) o
   unfolding tree_if_there
   arguments_stay None there = refl
   arguments_stay (Some a) there = rw (stays a there) refl
@@ -92,7 +92,7 @@ candidates_more m n cs le there = (nodes_more m n cs.list.items le there.0, ther
 pub kept_more : (m n : ℕ) (kept : Surroundings) → m ≤ n → IsKeptThere m kept → IsKeptThere n kept
 kept_more m n kept le there = (arguments (scope_of kept) there.0, prefix (name_of kept) there.1)
   where
-    arguments : (o : Option ℕ) → IsThereBelow m o → IsThereBelow n o
+    arguments : (o : Option ℕ) → IsAliasBelow m o → IsAliasBelow n o
     arguments None below = tt
     arguments (Some a) below = omega (arith, le, below)
 

@@ -9,7 +9,7 @@ ghost use Rattle.cpp_link.specs.declared.part.Part.TheVariants as variants;
 ghost use Rattle.cpp_grammar.specs.Values.{by_all};
 ghost use Rattle.cpp_term.specs.Term.{Term};
 ghost use Rattle.cpp_grammar.specs.Unfolding.{production_at};
-ghost use Rattle.cpp_tree.specs.Nodes.{IsThereBelow, IsBelow, tree_at};
+ghost use Rattle.cpp_tree.specs.Nodes.{IsAliasBelow, IsBelow, tree_at};
 ghost use Rattle.cpp_link.specs.Grows.{Grows, HasPlace};
 ghost use Rattle.cpp_link.specs.Making.{state_of};
 ghost use Rattle.cpp_link.specs.NodeCount.{makes_before};
@@ -76,7 +76,7 @@ impl Linked {
         candidate: Option<u32>,
         packs: Option<u32>,
     ) -> Result<(), Refusal>
-        requires candidate { IsThereBelow (length self.old.nodes.nodes) candidate }
+        requires candidate { IsAliasBelow (length self.old.nodes.nodes) candidate }
         requires there { AreCandidatesThere (length self.old.nodes.nodes) self.old.candidates }
         ensures nodes { self.new.nodes ≡ self.old.nodes }
         ensures there { OnOk result (AreCandidatesThere (length self.old.nodes.nodes) self.new.candidates) }

@@ -6,7 +6,7 @@ ghost use Rattle.cpp_term.specs.Values as values;
 ghost use Rattle.cpp_term.specs.Values.{State};
 ghost use Rattle.cpp_term.specs.References.{with_unqualified};
 ghost use Rattle.cpp_term.specs.Unfolding as unfolding_;
-ghost use Rattle.cpp_tree.specs.Nodes.{over, IsThereBelow, IsTable};
+ghost use Rattle.cpp_tree.specs.Nodes.{over, IsAliasBelow, IsTable};
 ghost use Rattle.cpp_link.specs.LinkReading.{link_meaning};
 ghost use Rattle.cpp_link.specs.Parts.{trees_in, value_in, values_in, packs_of, around_of, IsThere, AreThere};
 ghost use Rattle.cpp_link.specs.Reads.{with_candidate};
@@ -23,7 +23,7 @@ impl Linked {
         requires table { IsTable (over symbol.now self.now.nodes) }
         requires there { IsThere symbol.now (length self.now.nodes.nodes) part }
         ensures is { (state : State) → with_unqualified (around_of (trees_in symbol.now self.now.nodes) kept) (value_in symbol.now self.now.nodes part) state ≡ with_candidate by_all (around_of (trees_in symbol.now self.now.nodes) kept) (trees_in symbol.now self.now.nodes) result state }
-        ensures there { IsThereBelow (length self.now.nodes.nodes) result }
+        ensures there { IsAliasBelow (length self.now.nodes.nodes) result }
     {
         let node = self.node(symbol, part);
         if is_function_type(&self.nodes, symbol, node) {
@@ -51,7 +51,7 @@ impl Linked {
         ensures is { (began : State) (state : values.State) → began.packs ≡ packs_of kept
             → unfolding_.behind production byte (around_of (trees_in symbol.now self.now.nodes) kept) began (values_in symbol.now self.now.nodes parts.now) (record state { packs = self.now.packs })
             ≡ with_candidate by_all (around_of (trees_in symbol.now self.now.nodes) kept) (trees_in symbol.now self.now.nodes) result.candidate (record state { packs = result.packs }) }
-        ensures there { IsThereBelow (length self.now.nodes.nodes) result.candidate }
+        ensures there { IsAliasBelow (length self.now.nodes.nodes) result.candidate }
     {
         match production {
             Production::RestrictType

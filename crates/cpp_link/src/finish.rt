@@ -177,7 +177,7 @@ impl Linked {
         ensures made { MakesPart symbol.now self.old self.new (ends_of production parts.now) (makes_at_end production (values_in symbol.now self.old.nodes parts.now)) result }
         ensures memory { IfErr result (λ e. e ≡ refusals.Memory) }
     {
-        let outcome = self.outcome_of_rare(symbol, production, place, kept, parts);
+        let outcome = self.outcome_by_family(symbol, production, place, kept, parts);
         self.add_node_and_candidate(symbol, production, place, kept, parts, outcome)
     }
 

@@ -15,7 +15,7 @@ ghost use Rattle.cpp_grammar.specs.Unfolding.{production_at};
 ghost use Rattle.cpp_grammar.specs.Values.{by_gcc};
 ghost use Rattle.cpp_term.specs.Rescoping.{counted_base, is_instance, can_be_named, named_by_both};
 ghost use Rattle.cpp_term.specs.Values.{State, Around, part};
-ghost use Rattle.cpp_tree.specs.Nodes.{over, tree_at, bytes_at, IsThereBelow, IsWithin, IsTable};
+ghost use Rattle.cpp_tree.specs.Nodes.{over, tree_at, bytes_at, IsAliasBelow, IsWithin, IsTable};
 ghost use Rattle.cpp_link.specs.Closes.{ends_of};
 ghost use Rattle.cpp_link.specs.Grows.{HasPlace};
 ghost use Rattle.cpp_link.specs.LinkReading.{link_meaning};
@@ -201,7 +201,7 @@ impl Linked {
         requires table { IsTable (over symbol.now self.now.nodes) }
         requires there { IsThere symbol.now (length self.now.nodes.nodes) base }
         ensures is { (around : Around) (state : State) → counted_base around (value_in symbol.now self.now.nodes base) state ≡ with_candidate by_gcc around (trees_in symbol.now self.now.nodes) result state }
-        ensures there { IsThereBelow (length self.now.nodes.nodes) result }
+        ensures there { IsAliasBelow (length self.now.nodes.nodes) result }
     {
         match base {
             Part::Pair { .. } => None,

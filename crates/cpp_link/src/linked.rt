@@ -5,7 +5,7 @@ ghost use Rattle.sym_core.specs.declared.refusal.Refusal.TheVariants as refusals
 ghost use Rattle.sym_link.specs.Threads.{IsTaken};
 ghost use Rattle.cpp_term.specs.Unfolding.{first_state};
 ghost use Rattle.cpp_term.specs.Term.{Term};
-ghost use Rattle.cpp_tree.specs.Nodes.{IsThereBelow, tree_at};
+ghost use Rattle.cpp_tree.specs.Nodes.{IsAliasBelow, tree_at};
 ghost use Rattle.cpp_term.specs.Values.{State};
 ghost use Rattle.cpp_references.specs.Around.{counted_of};
 ghost use Rattle.cpp_link.specs.Counting.{candidate_by};
@@ -101,7 +101,7 @@ impl Linked {
         candidate: Option<u32>,
         counted: Counted,
     ) -> Result<(), Refusal>
-        requires candidate { IsThereBelow (length self.old.nodes.nodes) candidate }
+        requires candidate { IsAliasBelow (length self.old.nodes.nodes) candidate }
         requires there { AreCandidatesThere (length self.old.nodes.nodes) self.old.candidates }
         ensures nodes { self.new.nodes ≡ self.old.nodes }
         ensures packs { self.new.packs ≡ self.old.packs }
@@ -137,7 +137,7 @@ impl Linked {
         again: bool,
         counted: Counted,
     ) -> Result<(), Refusal>
-        requires candidate { IsThereBelow (length self.old.nodes.nodes) candidate }
+        requires candidate { IsAliasBelow (length self.old.nodes.nodes) candidate }
         requires there { AreCandidatesThere (length self.old.nodes.nodes) self.old.candidates }
         ensures nodes { self.new.nodes ≡ self.old.nodes }
         ensures packs { self.new.packs ≡ self.old.packs }

@@ -75,7 +75,7 @@ pub(crate) fn qualified(restrict: bool, volatile: bool, const_: bool, ty: u32) -
 impl Linked {
     /// What a rare production that begins at a place denotes, given its parts.
     #[inline(never)]
-    pub fn outcome_of_rare(
+    pub fn outcome_by_family(
         &self,
         symbol: &[u8],
         production: Production,

@@ -15,7 +15,7 @@ ghost use Rattle.cpp_grammar.specs.Rescoping.{is_by_all, generic_number};
 ghost use Rattle.cpp_grammar.specs.Unfolding.{production_at};
 ghost use Rattle.cpp_term.specs.Values as values;
 ghost use Rattle.cpp_term.specs.Rescoping.{is_foreign, module_named, restated, numbered, as_generic_lambda, between_wide};
-ghost use Rattle.cpp_tree.specs.Nodes.{over, tree_at, bytes_at, piece_of, IsThereBelow, IsPieceBelow, IsWithin, IsTable};
+ghost use Rattle.cpp_tree.specs.Nodes.{over, tree_at, bytes_at, piece_of, IsAliasBelow, IsPieceBelow, IsWithin, IsTable};
 ghost use Rattle.cpp_link.specs.Grows.{HasPlace};
 ghost use Rattle.cpp_link.specs.LinkRescoping.{is_parameter, is_parameter_argument, steps_apart, counted_before, counts_again, with_mark, going_marked, generic_read, number_in, named_by, substituted_nodes, wide_ends, wide_view};
 ghost use Rattle.cpp_link.specs.Making.{state_of};
@@ -287,7 +287,7 @@ impl Linked {
         requires digits { IsWithin digits symbol.now }
         requires candidates { AreCandidatesThere (length self.now.nodes.nodes) self.now.candidates }
         ensures is { (state : values.State) → state.candidates ≡ candidates_of (trees_in symbol.now self.now.nodes) self.now.candidates.list.items → MatchOption result (module_named (counted_value kinds.Seq36 (bytes_at symbol.now digits)) state ≡ None) (λ node. module_named (counted_value kinds.Seq36 (bytes_at symbol.now digits)) state ≡ Some (tree_at (trees_in symbol.now self.now.nodes) node)) }
-        ensures there { IsThereBelow (length self.now.nodes.nodes) result }
+        ensures there { IsAliasBelow (length self.now.nodes.nodes) result }
     {
         match self.named_by_both(symbol, digits) {
             Some(candidate) => {
@@ -314,7 +314,7 @@ impl Linked {
         requires there { AreThere symbol.now (length self.now.nodes.nodes) parts.now }
         ensures is { (state : values.State) → with_candidates (counts_again production (prefix_listed (around_of (trees_in symbol.now self.now.nodes) kept).prefix)) (counted_before production) (around_of (trees_in symbol.now self.now.nodes) kept) (trees_in symbol.now self.now.nodes) result state
             ≡ with_mark production (around_of (trees_in symbol.now self.now.nodes) kept) (values_in symbol.now self.now.nodes parts.now) state }
-        ensures there { IsThereBelow (length self.now.nodes.nodes) result }
+        ensures there { IsAliasBelow (length self.now.nodes.nodes) result }
     {
         match production {
             // <data-member-prefix> ::= <prefix> M

@@ -11,7 +11,7 @@ ghost use Rattle.cpp_term.specs.Scope.{is_structor};
 ghost use Rattle.cpp_term.specs.Between.{between, no_items, applied, named_so_far, with_tag};
 ghost use Rattle.cpp_term.specs.References.{with_prefix, with_type};
 ghost use Rattle.cpp_tree.specs.Nodes as nodes;
-ghost use Rattle.cpp_tree.specs.Nodes.{over, tree_at, bytes_at, IsWithin, IsPieceBelow, IsThereBelow, IsBelow, IsTable};
+ghost use Rattle.cpp_tree.specs.Nodes.{over, tree_at, bytes_at, IsWithin, IsPieceBelow, IsAliasBelow, IsBelow, IsTable};
 ghost use Rattle.cpp_references.specs.declared.around.Surroundings.{Surroundings};
 ghost use Rattle.cpp_link.specs.declared.part.Part.TheVariants as variants;
 ghost use Rattle.cpp_link.specs.declared.part.Step.{Step};
@@ -37,7 +37,7 @@ use sym_core::{Refusal, Span};
 fn prefix_candidate(kept: Surroundings) -> Option<u32>
     ensures is { (ts : List term.Term) (state : State) → with_prefix (around_of ts kept) state ≡ with_candidate by_all (around_of ts kept) ts result state }
     ensures some { (ts : List term.Term) (state : State) → counted_unless (prefix_listed (around_of ts kept).prefix) by_some (around_of ts kept) (prefix_tree (around_of ts kept).prefix) state ≡ with_candidate by_some (around_of ts kept) ts result state }
-    ensures there { (n : ℕ) → IsPrefixThere n (name_of kept) → IsThereBelow n result }
+    ensures there { (n : ℕ) → IsPrefixThere n (name_of kept) → IsAliasBelow n result }
 {
     match kept.naming {
         Naming::Outermost => None,
@@ -105,7 +105,7 @@ impl Linked {
         ensures is { (state : State) → with_prefix (around_of (trees_in symbol.now self.now.nodes) kept) state ≡ with_candidate by_all (around_of (trees_in symbol.now self.now.nodes) kept) (trees_in symbol.now self.now.nodes) result state }
         ensures some { (state : State) → counted_unless (prefix_listed (around_of (trees_in symbol.now self.now.nodes) kept).prefix) by_some (around_of (trees_in symbol.now self.now.nodes) kept) (prefix_tree (around_of (trees_in symbol.now self.now.nodes) kept).prefix) state
             ≡ with_candidate by_some (around_of (trees_in symbol.now self.now.nodes) kept) (trees_in symbol.now self.now.nodes) result state }
-        ensures there { IsThereBelow (length self.now.nodes.nodes) result }
+        ensures there { IsAliasBelow (length self.now.nodes.nodes) result }
     {
         prefix_candidate(kept)
     }
@@ -116,7 +116,7 @@ impl Linked {
         requires table { IsTable (over symbol.now self.now.nodes) }
         requires there { IsThere symbol.now (length self.now.nodes.nodes) part }
         ensures is { (state : State) → with_type (around_of (trees_in symbol.now self.now.nodes) kept) (value_in symbol.now self.now.nodes part) state ≡ with_candidate by_all (around_of (trees_in symbol.now self.now.nodes) kept) (trees_in symbol.now self.now.nodes) result state }
-        ensures there { IsThereBelow (length self.now.nodes.nodes) result }
+        ensures there { IsAliasBelow (length self.now.nodes.nodes) result }
     {
         if is_listed(part) {
             return None;

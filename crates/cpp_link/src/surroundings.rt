@@ -4,7 +4,7 @@ ghost use Rattle.std.specs.Prelude.{◌≡◌, ◌<◌, List, length, true, fals
 ghost use Rattle.cpp_term.specs.Term as term;
 ghost use Rattle.cpp_term.specs.Values as values;
 ghost use Rattle.cpp_term.specs.Between.{in_signature, under_expansion, after, inside};
-ghost use Rattle.cpp_tree.specs.Nodes.{tree_at, tree_if_there, IsThereBelow};
+ghost use Rattle.cpp_tree.specs.Nodes.{tree_at, tree_if_there, IsAliasBelow};
 ghost use Rattle.cpp_link.specs.Parts.{around_of, IsKeptThere};
 
 use crate::linked::Linked;
@@ -20,7 +20,7 @@ impl Linked {
         place: u32,
         scope: Option<u32>,
     ) -> Surroundings
-        requires scope { IsThereBelow (length self.now.nodes.nodes) scope }
+        requires scope { IsAliasBelow (length self.now.nodes.nodes) scope }
         ensures around { (ts : List term.Term) → around_of ts result ≡ record { scope = tree_if_there ts scope; encoding = place; in_lambda = false; in_expansion = false; prefix = values.outermost } }
         ensures there { IsKeptThere (length self.now.nodes.nodes) result }
     {

@@ -2,6 +2,6 @@ mod Open
 mod Placing
 mod NodesOfRead
 mod Counting
-mod Going
+mod Continuation
 mod Telling
 mod Numbered

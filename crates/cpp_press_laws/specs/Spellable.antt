@@ -14,7 +14,7 @@ use Rattle.cpp_grammar.specs.declared.production.Production.{Production}
 use Rattle.cpp_grammar.specs.Grammar.{kinds, choose, parts_of, is_chain}
 use Rattle.cpp_grammar.specs.Term.{Signed, operator}
 use Rattle.cpp_grammar.specs.Values.{Around, State, letter, piece, normal, is_zero}
-use Rattle.cpp_grammar.specs.Between.{Going, between}
+use Rattle.cpp_grammar.specs.Between.{Continuation, between}
 use Rattle.cpp_grammar.specs.Unfolding.{opening, close}
 
 -- a name as it can be spelled: its bytes, and its length, which a name has whose first byte is no digit
@@ -43,7 +43,7 @@ pub record IsOperator (first second : ℕ) : Type 0 where
   pub parts : parts_of production ≡ OfKind number ∷ []
   pub marked : choose kind second ≡ Some Production.Mark
   pub own : is_chain production ≡ false
-  pub goes : (around : Around) (place : ℕ) (s : State) → ◌≡◌ {A = Going} (between production around place [] s)
+  pub goes : (around : Around) (place : ℕ) (s : State) → ◌≡◌ {A = Continuation} (between production around place [] s)
       (Ok (record { context = around; values = []; state = s }))
   pub opens : (place : ℕ) (f : Forest) (s : State) → opening production f place s ≡ Ok s
   pub means : (around : Around) (place : ℕ) (began s : State)

@@ -85,7 +85,7 @@ IsPrefixThere n Prefix.Outermost = Unit {0}
 IsPrefixThere n (Prefix.Behind node listed) = node < n
 
 abbrev pub IsKeptThere : ℕ → Surroundings → Type 0
-IsKeptThere n kept = nodes.IsThereBelow n (scope_of kept) × IsPrefixThere n (name_of kept)
+IsKeptThere n kept = nodes.IsAliasBelow n (scope_of kept) × IsPrefixThere n (name_of kept)
 
 abbrev pub AreNodesThere : ℕ → List Candidate → Type 0
 AreNodesThere n [] = Unit {0}

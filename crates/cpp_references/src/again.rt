@@ -2,7 +2,7 @@
 
 ghost use Rattle.std.specs.Prelude.{◌≡◌, ◌<◌, length, false};
 ghost use Rattle.cpp_term.specs.Reargued.{reargued};
-ghost use Rattle.cpp_tree.specs.Nodes.{over, tree_at, is_again, IsBelow, tree_if_there, IsThereBelow, IsTable};
+ghost use Rattle.cpp_tree.specs.Nodes.{over, tree_at, is_again, IsBelow, tree_if_there, IsAliasBelow, IsTable};
 ghost use Rattle.cpp_references.specs.Around.{trees_in, tree_of_node};
 
 use cpp_tree::Nodes;
@@ -22,7 +22,7 @@ pub fn opened(nodes: &Nodes, symbol: &[u8], node: u32) -> OpenedNode
     ensures tree { tree_at (trees_in symbol.now nodes.now) node ≡ reargued (tree_if_there (trees_in symbol.now nodes.now) result.under) (tree_of_node symbol.now nodes.now result.node) }
     ensures own { is_again result.node ≡ false }
     ensures below { IsBelow symbol.now (length nodes.now.thunks) (length nodes.now.nodes) result.node }
-    ensures there { IsThereBelow (length nodes.now.nodes) result.under }
+    ensures there { IsAliasBelow (length nodes.now.nodes) result.under }
 {
     let settled = nodes.settled(symbol, Placed { node, under: None });
     OpenedNode {

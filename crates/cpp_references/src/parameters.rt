@@ -9,7 +9,7 @@ ghost use Rattle.cpp_term.specs.References.{parameter_named};
 ghost use Rattle.cpp_term.specs.Scope.{is_open, count, element};
 ghost use Rattle.cpp_term.specs.Term as term;
 ghost use Rattle.cpp_term.specs.Values as values;
-ghost use Rattle.cpp_tree.specs.Nodes.{over, tree_at, bytes_at, IsBelow, IsWithin, tree_if_there, IsThereBelow, IsTable};
+ghost use Rattle.cpp_tree.specs.Nodes.{over, tree_at, bytes_at, IsBelow, IsWithin, tree_if_there, IsAliasBelow, IsTable};
 ghost use Rattle.cpp_references.specs.Around.{trees_in, tree_of_node, around_of, IsClosed, IsKeptThere};
 ghost use Rattle.cpp_references.specs.References.{parameter_read};
 
@@ -49,7 +49,7 @@ pub fn closed_arguments(nodes: &Nodes, symbol: &[u8], name: u32) -> Option<u32>
     requires table { IsTable (over symbol.now nodes.now) }
     requires below { name < length nodes.now.nodes }
     ensures is { tree_if_there (trees_in symbol.now nodes.now) result ≡ closed_arguments (tree_at (trees_in symbol.now nodes.now) name) }
-    ensures there { IsThereBelow (length nodes.now.nodes) result }
+    ensures there { IsAliasBelow (length nodes.now.nodes) result }
 {
     if nodes.is_open(symbol, name) {
         return None;

@@ -4,7 +4,7 @@ use Rattle.std.specs.Prelude.{false}
 use Rattle.cpp_term.specs.Erased.{erase}
 use Rattle.cpp_term.proofs.Notes.{both}
 use Rattle.cpp_term.proofs.Reargued.{erase_reargued}
-use Rattle.cpp_tree.specs.Nodes.{Table, trees, tree_at, tree_of, tree_if_there, under_kept, is_again, entry_at, qualifiers_of, mark_of, IsBelow, IsPieceBelow, IsThereBelow, IsFlat, IsTable}
+use Rattle.cpp_tree.specs.Nodes.{Table, trees, tree_at, tree_of, tree_if_there, under_kept, is_again, entry_at, qualifiers_of, mark_of, IsBelow, IsPieceBelow, IsAliasBelow, IsFlat, IsTable}
 use Rattle.cpp_tree.specs.declared.node.Node.{Node}
 use Rattle.cpp_tree.specs.declared.node.Piece.{Piece}
 use Rattle.cpp_tree.specs.declared.node.Qualifiers.{Qualifiers}
@@ -17,7 +17,7 @@ use Rattle.cpp_spelling.specs.Tasks.{◌onto◌, in_way, in_name, plain_at, node
 use Rattle.cpp_spelling.specs.Spelled.{encoding_onto}
 use Rattle.cpp_spelling.specs.Weight.{weight}
 
-there-later : (m n : ℕ) (o : Option ℕ) → IsThereBelow m o → m ≤ n → IsThereBelow n o
+there-later : (m n : ℕ) (o : Option ℕ) → IsAliasBelow m o → m ≤ n → IsAliasBelow n o
 there-later m n None b most = tt
 there-later m n (Some i) b most = omega (arith, b, most)
 

@@ -4,7 +4,7 @@ use Rattle.cpp_grammar.specs.Scope.{without_tags}
 use Rattle.cpp_term.specs.Term.{Term, tagged}
 use Rattle.cpp_term.specs.Scope as noted
 use Rattle.cpp_term.specs.Erased.{erase}
-use Rattle.cpp_tree.specs.Nodes.{Table, trees, tree_at, entry_at, placed_tree, untagged_is, IsTable}
+use Rattle.cpp_tree.specs.Nodes.{Table, trees, tree_at, entry_at, tree_under, untagged_is, IsTable}
 use Rattle.cpp_tree.specs.declared.node.Placed.{Placed}
 use Rattle.cpp_tree.proofs.Trees.{erased_place}
 
@@ -18,7 +18,7 @@ pub untagged-some : (y : Table) (name : ℕ) (p : Placed) → IsTable y → name
 unfolding untagged_is
 untagged-some y name p table there is =
     let t : Term = tree_at (trees y) name in
-    let noted_is : placed_tree (trees y) p ≡ noted.without_tags t =
+    let noted_is : tree_under (trees y) p ≡ noted.without_tags t =
     subst (λ o. untagged_is (trees y) t o ≡ noted.without_tags t) is (table.each name there).untagged in
     erased_place y p (noted.without_tags t) noted_is ∙ untagged-erased t
 

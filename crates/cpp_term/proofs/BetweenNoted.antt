@@ -18,7 +18,7 @@ use Rattle.cpp_grammar.specs.Between.{in_signature, under_expansion, after, insi
 use Rattle.cpp_grammar.specs.Meaning.{parameters, meaning}
 use Rattle.cpp_grammar.specs.Unfolding as unfolding_
 use Rattle.cpp_grammar.specs.Unfolding.{close}
-use Rattle.cpp_grammar.specs.Row.{Gain, nothing, the_prefix, type_of, unqualified_of, itself, Where, as_before, in_its_name, in_its_types, in_a_signature, under_it, nameless, after_part, after_the_name, Before, quiet, goes, becomes, tests, holds, unread, Row, before_part}
+use Rattle.cpp_grammar.specs.Row.{Gain, nothing, the_prefix, type_of, unqualified_of, itself, Where, as_before, in_its_name, in_its_types, in_a_signature, under_it, nameless, after_part, after_the_name, Action, quiet, goes, becomes, tests, holds, unread, Row, before_part}
 use Rattle.cpp_grammar.specs.Meant.{made, is_listing, around_part, packs_within, gained, replaced, tested, done}
 use Rattle.cpp_grammar.specs.Rows.{row_of}
 use Rattle.cpp_grammar.proofs.ClosedParts.{StaysInside}
@@ -188,12 +188,12 @@ goes_noted own after_the_name around place vs x new y other here m =
     record { values = refl; context = after_noted own around (prefix_tree around.prefix) _ true (prefix_tree_noted (around_place own around) around.prefix); moves = m; scope = inl (refl, refl); place = inl refl }
 
 -- what is done is as in the encoding around it, and a tree is made of no encodings
-unfoldable is_plain : Before → Bool
+unfoldable is_plain : Action → Bool
 is_plain (goes gain w) = is_here w
 is_plain (becomes m is_in is_name is_candidate) = is_of_none m
 is_plain _ = true
 
-done_noted : (own : Bool) (b : Before) (around : Around) (place : ℕ) (vs : List Value) (x : State) (y : value_.State) → is_plain b ≡ true → Alongside x y →
+done_noted : (own : Bool) (b : Action) (around : Around) (place : ℕ) (vs : List Value) (x : State) (y : value_.State) → is_plain b ≡ true → Alongside x y →
     Alike (Goes own (around_place own around) around x y) (done b around place vs x) (meant_.done b (noted_around own around) place (noted_values (around_place own around) vs) y)
 unfolding is_plain done meant_.done tree_of value_.tree_of annotate
 done_noted own quiet around place vs x y plain packs = same_goes own around x y vs packs

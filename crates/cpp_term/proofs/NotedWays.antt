@@ -15,7 +15,7 @@ use Rattle.sym_core.specs.declared.refusal.Refusal.TheVariants.{BadValue}
 use Rattle.cpp_grammar.proofs.ClosedParts.{StaysInside}
 use Rattle.cpp_grammar.proofs.Ways.{Way, abi_way, wide_way, differs}
 use Rattle.cpp_term.specs.Values.{State, Around, Value, nothing_there, text}
-use Rattle.cpp_term.specs.Between.{Going, between}
+use Rattle.cpp_term.specs.Between.{Continuation, between}
 use Rattle.cpp_term.specs.Unfolding.{number_tested, opening, close}
 use Rattle.cpp_term.specs.Rescoping.{opening_wide, between_wide, close_wide}
 use Rattle.cpp_term.specs.Annotated.{noted_values, noted_around}
@@ -25,7 +25,7 @@ use Rattle.cpp_term.proofs.BetweenNoted.{parts_place, Goes, between_noted, close
 
 pub record NotedWay : Type 0 where
   pub opening : Production → Forest → (place : ℕ) → State → Result State Refusal
-  pub between : Production → Around → (place : ℕ) → List Value → State → Going
+  pub between : Production → Around → (place : ℕ) → List Value → State → Continuation
   pub close : Production → (byte : ℕ) → Around → (place : ℕ) → (began : State) → List Value → State → Result (Found Value State) Refusal
 
 unfoldable pub reading_noted_by : NotedWay → Reading Value State Around

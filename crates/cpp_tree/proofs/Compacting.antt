@@ -14,7 +14,7 @@ use Rattle.cpp_tree.specs.declared.node.HeadFrom.{HeadFrom}
 use Rattle.cpp_tree.specs.declared.node.Free.{Free}
 use Rattle.cpp_tree.specs.declared.node.ByArgument.{ByArgument}
 use Rattle.cpp_tree.specs.declared.node.Entry.{Entry}
-use Rattle.cpp_tree.specs.declared.compact.Words.{Words}
+use Rattle.cpp_tree.specs.declared.compact.TypeHead.{TypeHead}
 use Rattle.cpp_tree.specs.declared.compact.Compact.{Compact}
 use Rattle.cpp_tree.specs.Nodes.{entry_at, by_none, under_kept}
 use Rattle.cpp_tree.specs.Notes.{passed, joined, of_expansion, of_pack, piece_by_argument, node_by_argument, placed_under, if_own, packs_by, empty_by, pack_class, class_by, collapses, both_free, piece_frees, piece_packs, argument_packs, frees, empties, ends_in, untagging, classes, packing, returning, counting, running, having_pack, noting, bare_entry}
@@ -30,12 +30,12 @@ pub other-packs : (m n : ℕ) → m ≡ 0 → packs_kept n ≡ first_of (packs_k
 unfolding packs_kept first_of
 other-packs m n none = rw none refl
 
-pub over-is : (n : Node) (f : ByArgument → ByArgument) (l : ByArgument) (w : Words) (first second : ℕ) (c part : Compact) (e : Entry) → entry_of part ≡ e → l ≡ f part.by_argument
+pub over-is : (n : Node) (f : ByArgument → ByArgument) (l : ByArgument) (w : TypeHead) (first second : ℕ) (c part : Compact) (e : Entry) → entry_of part ≡ e → l ≡ f part.by_argument
     → entry_of c ≡ kept n (packs_kept part.packs) (free_kept part.free part.number) false l w first second → entry_of c ≡ kept n e.packs e.free false (f e.by_argument) w first second
 over-is n f l w first second c part e at depends made =
     made ∙ ap (λ x. kept n (packs_kept part.packs) (free_kept part.free part.number) false x w first second) depends ∙ ap (λ x. kept n x.packs x.free false (f x.by_argument) w first second) at
 
-pub over-two-is : (n : Node) (empty : Bool) (f : ByArgument → ByArgument → ByArgument) (l : ByArgument) (w : Words) (first second : ℕ) (c one other : Compact) (e g : Entry) → entry_of one ≡ e → entry_of other ≡ g
+pub over-two-is : (n : Node) (empty : Bool) (f : ByArgument → ByArgument → ByArgument) (l : ByArgument) (w : TypeHead) (first second : ℕ) (c one other : Compact) (e g : Entry) → entry_of one ≡ e → entry_of other ≡ g
     → l ≡ f one.by_argument other.by_argument
     → entry_of c ≡ kept n (first_of (packs_kept one.packs) (packs_kept other.packs)) (both_free (free_kept one.free one.number) (free_kept other.free other.number)) empty l w first second
     → entry_of c ≡ kept n (first_of e.packs g.packs) (both_free e.free g.free) empty (f e.by_argument g.by_argument) w first second
@@ -49,7 +49,7 @@ or-false true = refl
 or-false false = refl
 
 pub other-alone : (ns : List Entry) (n : Node) (piece : Piece) → ((p k : ℕ) → piece ≡ Piece.Lambda p k → ⊥) → ((k t : ℕ) → piece ≡ Piece.Inheriting k t → ⊥) → ((t : ℕ) → piece ≡ Piece.Conversion t → ⊥) → ((t : ℕ) (name : Span) → piece ≡ Piece.Enumeration t name → ⊥) → ((names : ℕ) → piece ≡ Piece.Bindings names → ⊥)
-    → bare_entry n false ≡ kept n (piece_packs ns piece) (piece_frees ns piece) false (piece_by_argument ns piece) Words.Plain 0 0
+    → bare_entry n false ≡ kept n (piece_packs ns piece) (piece_frees ns piece) false (piece_by_argument ns piece) TypeHead.Plain 0 0
 unfolding piece_packs piece_frees piece_by_argument class_kept arguments_kept untagged_kept returns_kept count_kept run_kept has_pack_kept
 other-alone ns n (Piece.Lambda p k) other inherits none nameless unbound = absurd (other p k refl)
 other-alone ns n (Piece.Inheriting k t) other inherits none nameless unbound = absurd (inherits k t refl)
@@ -73,16 +73,16 @@ both-none Free.None = refl
 both-none (Free.One k) = refl
 both-none (Free.Several m) = refl
 
-within-none : (n : Node) (e : Entry) → kept n e.packs e.free false (passed e.by_argument) Words.Plain 0 0
-    ≡ kept n (first_of e.packs None) (both_free e.free Free.None) false (joined e.by_argument (by_none false)) Words.Plain 0 0
+within-none : (n : Node) (e : Entry) → kept n e.packs e.free false (passed e.by_argument) TypeHead.Plain 0 0
+    ≡ kept n (first_of e.packs None) (both_free e.free Free.None) false (joined e.by_argument (by_none false)) TypeHead.Plain 0 0
 within-none n e =
-    ap (λ p. kept n p e.free false (passed e.by_argument) Words.Plain 0 0) (first-none e.packs)
-    ∙ ap (λ f. kept n (first_of e.packs None) f false (passed e.by_argument) Words.Plain 0 0) (both-none e.free)
-    ∙ ap (λ l. kept n (first_of e.packs None) (both_free e.free Free.None) false l Words.Plain 0 0) (joined-none e.by_argument)
+    ap (λ p. kept n p e.free false (passed e.by_argument) TypeHead.Plain 0 0) (first-none e.packs)
+    ∙ ap (λ f. kept n (first_of e.packs None) f false (passed e.by_argument) TypeHead.Plain 0 0) (both-none e.free)
+    ∙ ap (λ l. kept n (first_of e.packs None) (both_free e.free Free.None) false l TypeHead.Plain 0 0) (joined-none e.by_argument)
 
 pub other-within : (ns : List Entry) (n : Node) (e : Entry) (piece : Piece) → ((p k : ℕ) → piece ≡ Piece.Lambda p k → ⊥) → ((k t : ℕ) → piece ≡ Piece.Inheriting k t → ⊥) → ((t : ℕ) → piece ≡ Piece.Conversion t → ⊥) → ((t : ℕ) (name : Span) → piece ≡ Piece.Enumeration t name → ⊥) → ((names : ℕ) → piece ≡ Piece.Bindings names → ⊥)
-    → kept n e.packs e.free false (passed e.by_argument) Words.Plain 0 0
-    ≡ kept n (first_of e.packs (piece_packs ns piece)) (both_free e.free (piece_frees ns piece)) false (joined e.by_argument (piece_by_argument ns piece)) Words.Plain 0 0
+    → kept n e.packs e.free false (passed e.by_argument) TypeHead.Plain 0 0
+    ≡ kept n (first_of e.packs (piece_packs ns piece)) (both_free e.free (piece_frees ns piece)) false (joined e.by_argument (piece_by_argument ns piece)) TypeHead.Plain 0 0
 unfolding piece_packs piece_frees piece_by_argument
 other-within ns n e (Piece.Lambda p k) other inherits none nameless unbound = absurd (other p k refl)
 other-within ns n e (Piece.Inheriting k t) other inherits none nameless unbound = absurd (inherits k t refl)
@@ -92,14 +92,14 @@ other-within ns n e (Piece.Bindings names) other inherits none nameless unbound 
 other-within ns n e _ other inherits none nameless unbound = within-none n e
 
 pub expansion-is : (n : Node) (empty : Bool) (held : Compact) (e : Entry) → entry_of held ≡ e → empty ≡ heads.is_none_of (packs_kept held.packs)
-    → kept n None (free_kept held.free held.number) empty (of_expansion held.by_argument) Words.Plain 0 0
-    ≡ kept n None e.free (heads.is_none_of e.packs) (of_expansion e.by_argument) Words.Plain 0 0
+    → kept n None (free_kept held.free held.number) empty (of_expansion held.by_argument) TypeHead.Plain 0 0
+    ≡ kept n None e.free (heads.is_none_of e.packs) (of_expansion e.by_argument) TypeHead.Plain 0 0
 expansion-is n empty held e at made =
-    ap (λ b. kept n None (free_kept held.free held.number) b (of_expansion held.by_argument) Words.Plain 0 0) made ∙ ap (λ x. kept n None x.free (heads.is_none_of x.packs) (of_expansion x.by_argument) Words.Plain 0 0) at
+    ap (λ b. kept n None (free_kept held.free held.number) b (of_expansion held.by_argument) TypeHead.Plain 0 0) made ∙ ap (λ x. kept n None x.free (heads.is_none_of x.packs) (of_expansion x.by_argument) TypeHead.Plain 0 0) at
 
 pub pack-is : (n : Node) (held : Compact) (e : Entry) → entry_of held ≡ e
-    → kept n (packs_kept held.packs) (free_kept held.free held.number) held.is_empty (of_pack held.by_argument) Words.Plain 0 0 ≡ kept n e.packs e.free e.is_empty (of_pack e.by_argument) Words.Plain 0 0
-pack-is n held e at = ap (λ x. kept n x.packs x.free x.is_empty (of_pack x.by_argument) Words.Plain 0 0) at
+    → kept n (packs_kept held.packs) (free_kept held.free held.number) held.is_empty (of_pack held.by_argument) TypeHead.Plain 0 0 ≡ kept n e.packs e.free e.is_empty (of_pack e.by_argument) TypeHead.Plain 0 0
+pack-is n held e at = ap (λ x. kept n x.packs x.free x.is_empty (of_pack x.by_argument) TypeHead.Plain 0 0) at
 
 -- one more is kept
 pub held-one-more : (olds news : List Compact) (c : Compact) (ns : List Entry) (e : Entry) → news ≡ olds ++ c ∷ [] → map entry_of olds ≡ ns → entry_of c ≡ e
@@ -183,7 +183,7 @@ pub pack-packs : (ns : List Entry) (n : Node) (elements count : ℕ) → n ≡ N
 unfolding argument_packs packs_kept
 pack-packs ns n elements count is counted = rw (is, counted, one-more (entry_at ns elements).count) refl
 
-pub pack-head : (n : Node) (c : HeadClass) (under : Option ℕ) (elements second : ℕ) → n ≡ Node.Pack elements → under_kept second ≡ under → class_kept Words.OfElement elements second ≡ pack_class under n c
+pub pack-head : (n : Node) (c : HeadClass) (under : Option ℕ) (elements second : ℕ) → n ≡ Node.Pack elements → under_kept second ≡ under → class_kept TypeHead.OfElement elements second ≡ pack_class under n c
 unfolding pack_class class_kept
 pack-head n c under elements second is there = rw (is, sym there) refl
 

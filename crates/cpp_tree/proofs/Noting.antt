@@ -7,7 +7,7 @@ use Rattle.cpp_grammar.specs.Scope as scope
 use Rattle.cpp_term.proofs.Notes.{both}
 use Rattle.cpp_tree.specs.declared.node.Piece.{Piece}
 use Rattle.cpp_tree.specs.declared.node.Node.{Node}
-use Rattle.cpp_tree.specs.Nodes.{Table, tree_at, piece_of, tree_of, trees, entry_at, IsPieceBelow, IsBelow, IsThereBelow, IsPlacedBelow, IsClassBelow, IsPlacedThere, IsTable, tree_if_there, placed_tree, class_is, head_of, placed_if_there, untagged_is, head_noted, by_argument_of, free_is, is_again, IsFlat, IsLone, IsSettled, IsNoted}
+use Rattle.cpp_tree.specs.Nodes.{Table, tree_at, piece_of, tree_of, trees, entry_at, IsPieceBelow, IsBelow, IsAliasBelow, IsPlacedBelow, IsClassBelow, IsPlacedThere, IsTable, tree_if_there, tree_under, class_is, head_of, placed_if_there, untagged_is, head_noted, by_argument_of, free_is, is_again, IsFlat, IsLone, IsSettled, IsNoted}
 use Rattle.cpp_term.specs.Term as term
 use Rattle.cpp_grammar.specs.Items as heads
 use Rattle.cpp_term.specs.Items as items
@@ -224,11 +224,11 @@ module _ (y : Table) (table : IsTable y) where
 
   -- ## What a node denotes
 
-  pub place-is : (i : ℕ) → i < length y.nodes → placed_tree (trees y) (resolved_at y.nodes i) ≡ tree_at (trees y) i
-  unfolding placed_tree tree_if_there place_of tree_of
+  pub place-is : (i : ℕ) → i < length y.nodes → tree_under (trees y) (resolved_at y.nodes i) ≡ tree_at (trees y) i
+  unfolding tree_under tree_if_there place_of tree_of
   place-is i less = go (entry_at y.nodes i).node (table.each i less).built
     where
-      go : (n : Node) → tree_at (trees y) i ≡ tree_of y.bytes y.thunks (trees y) n → placed_tree (trees y) (place_of i n) ≡ tree_at (trees y) i
+      go : (n : Node) → tree_at (trees y) i ≡ tree_of y.bytes y.thunks (trees y) n → tree_under (trees y) (place_of i n) ≡ tree_at (trees y) i
       go (Node.Reargued t a) e = sym e
       go _ e = reargued_none (tree_at (trees y) i)
 
@@ -240,11 +240,11 @@ module _ (y : Table) (table : IsTable y) where
       go (Node.Reargued t a) b = omega (arith, less, b.0)
       go _ b = less
 
-  place-under : (i : ℕ) → i < length y.nodes → IsThereBelow (length y.nodes) (resolved_at y.nodes i).under
+  place-under : (i : ℕ) → i < length y.nodes → IsAliasBelow (length y.nodes) (resolved_at y.nodes i).under
   unfolding place_of
   place-under i less = go (entry_at y.nodes i).node (table.each i less).below
     where
-      go : (n : Node) → IsBelow y.bytes (length y.thunks) i n → IsThereBelow (length y.nodes) (place_of i n).under
+      go : (n : Node) → IsBelow y.bytes (length y.thunks) i n → IsAliasBelow (length y.nodes) (place_of i n).under
       go (Node.Reargued t a) b = omega (arith, less, b.1)
       go _ b = tt
 
@@ -257,14 +257,14 @@ module _ (y : Table) (table : IsTable y) where
       go _ flat is = ap is_again is
 
   pub resolved-is : (i : ℕ) (r : Placed) → i < length y.nodes → r ≡ resolved_at y.nodes i
-      → (placed_tree (trees y) r ≡ tree_at (trees y) i) × ((is_again (entry_at y.nodes r.node).node ≡ false) × IsPlacedBelow (length y.nodes) r)
+      → (tree_under (trees y) r ≡ tree_at (trees y) i) × ((is_again (entry_at y.nodes r.node).node ≡ false) × IsPlacedBelow (length y.nodes) r)
   resolved-is i r less is = rw is (place-is i less, (shape-flat i less, (place-below i less, place-under i less)))
 
   empty-at : (i : ℕ) → i < length y.nodes → (entry_at y.nodes i).is_empty ≡ items.is_empty items.closed (tree_at (trees y) i)
   empty-at i less = (table.each i less).empty
 
   arguments-again : (a : ℕ) (o : Option Placed) → placed_if_there (trees y) (placed_under a o) ≡ reargued_if_there (Some (tree_at (trees y) a)) (placed_if_there (trees y) o)
-  unfolding placed_if_there placed_under reargued_if_there placed_tree tree_if_there
+  unfolding placed_if_there placed_under reargued_if_there tree_under tree_if_there
   arguments-again a None = refl
   arguments-again a (Some p) = ap Some (sym (reargued_twice (tree_if_there (trees y) p.under) (tree_at (trees y) a) (tree_at (trees y) p.node)))
 
@@ -299,7 +299,7 @@ module _ (y : Table) (table : IsTable y) where
       which HeadFrom.Collapsed is = none (plain-at t less (λ o. cc (is, o)))
 
   pub node-ends : (n : Node) → IsBelow y.bytes (length y.thunks) (length y.nodes) n → placed_if_there (trees y) (ends_in y.nodes n) ≡ arguments_of (tree_of y.bytes y.thunks (trees y) n)
-  unfolding ends_in tree_of arguments_of placed_if_there placed_tree tree_if_there
+  unfolding ends_in tree_of arguments_of placed_if_there tree_under tree_if_there
   node-ends (Node.Instance template arguments) b = ap Some (reargued_none (tree_at (trees y) arguments))
   node-ends (Node.Local e entity d) b = (table.each entity b.1).arguments
   node-ends (Node.OfDefault digits entity) b = (table.each entity b.1).arguments
@@ -309,7 +309,7 @@ module _ (y : Table) (table : IsTable y) where
   pub placed-below : (i n : ℕ) (p : Placed) → i < n → IsPlacedBelow i p → IsPlacedBelow n p
   placed-below i n p less b = (omega (arith, less, b.0), go p.under b.1)
     where
-      go : (u : Option ℕ) → IsThereBelow i u → IsThereBelow n u
+      go : (u : Option ℕ) → IsAliasBelow i u → IsAliasBelow n u
       go None d = tt
       go (Some k) d = omega (arith, less, d)
 
@@ -337,14 +337,14 @@ module _ (y : Table) (table : IsTable y) where
       (under-below (length y.nodes) a (entry_at y.nodes t).arguments b.1 (arguments-below t (length y.nodes) (entry_at y.nodes t).arguments b.0 (table.each t b.0).arguments_below))
   node-ends-below _ b = tt
 
-  name-untagged : (t : Term) (name : ℕ) (o : Option Placed) → untagged_is (trees y) (tree_at (trees y) name) o ≡ t → placed_tree (trees y) (or_itself name o) ≡ t
-  unfolding untagged_is or_itself placed_tree tree_if_there
+  name-untagged : (t : Term) (name : ℕ) (o : Option Placed) → untagged_is (trees y) (tree_at (trees y) name) o ≡ t → tree_under (trees y) (or_itself name o) ≡ t
+  unfolding untagged_is or_itself tree_under tree_if_there
   name-untagged t name None e = reargued_none (tree_at (trees y) name) ∙ e
   name-untagged t name (Some i) e = e
 
   untagged-again : (t a : ℕ) (h : HeadFrom) → t < length y.nodes → (by_argument_at y.nodes t).head ≡ h
       → untagged_is (trees y) (reargued (Some (tree_at (trees y) a)) (tree_at (trees y) t)) (if_own h (placed_under a (entry_at y.nodes t).untagged) None) ≡ without_tags (reargued (Some (tree_at (trees y) a)) (tree_at (trees y) t))
-  unfolding if_own untagged_is placed_under placed_tree tree_if_there
+  unfolding if_own untagged_is placed_under tree_under tree_if_there
   untagged-again t a h less is = which h is ∙ sym (untagged_reargued (Some (tree_at (trees y) a)) (tree_at (trees y) t))
     where
       own : (o : Option Placed) → untagged_is (trees y) (tree_at (trees y) t) o ≡ without_tags (tree_at (trees y) t) → untagged_is (trees y) (reargued (Some (tree_at (trees y) a)) (tree_at (trees y) t)) (placed_under a o) ≡ reargued (Some (tree_at (trees y) a)) (without_tags (tree_at (trees y) t))
@@ -386,13 +386,13 @@ module _ (y : Table) (table : IsTable y) where
 
   shape-is : (u : Option Term) (k : ℕ) (under : Option ℕ) (n : Node) (c : HeadClass) → u ≡ tree_if_there (trees y) under → is_again n ≡ false → class_is (trees y) c ≡ items.class_of (reargued u (tree_of y.bytes y.thunks (trees y) n))
       → class_is (trees y) (pack_class under n c) ≡ items.class_of (term.parameter k (reargued u (tree_of y.bytes y.thunks (trees y) n)))
-  unfolding pack_class class_is tree_of items.class_of reargued argument_or is_again placed_tree
+  unfolding pack_class class_is tree_of items.class_of reargued argument_or is_again tree_under
   shape-is u k under (Node.Pack elements) c is flat e = ap (λ v. items.of_element (reargued v (tree_at (trees y) elements))) (sym is)
   shape-is u k under (Node.Reargued t a) c is flat e = absurd (true≢false flat)
   shape-is u k under _ c is flat e = e
 
   pub argument-is : (k a : ℕ) → a < length y.nodes → class_is (trees y) (argument_class y.nodes a) ≡ items.class_of (term.parameter k (tree_at (trees y) a))
-  unfolding placed_tree
+  unfolding tree_under
   argument-is k a less =
       let r = resolved_at y.nodes a in
       let built = (table.each r.node (place-below a less)).built in
@@ -447,7 +447,7 @@ module _ (y : Table) (table : IsTable y) where
   collapse-below n (HeadClass.OfElement e) b = b
   collapse-below n (HeadClass.CollapsedOfElement e) b = b
 
-  pack-below : (i m : ℕ) (under : Option ℕ) (n : Node) (c : HeadClass) → i < m → IsThereBelow m under → IsBelow y.bytes (length y.thunks) i n → IsClassBelow m c → IsClassBelow m (pack_class under n c)
+  pack-below : (i m : ℕ) (under : Option ℕ) (n : Node) (c : HeadClass) → i < m → IsAliasBelow m under → IsBelow y.bytes (length y.thunks) i n → IsClassBelow m c → IsClassBelow m (pack_class under n c)
   unfolding pack_class
   pack-below i m under (Node.Pack elements) c less there b d = (omega (arith, less, b), there)
   pack-below i m under _ c less there b d = d
@@ -495,7 +495,7 @@ module _ (y : Table) (table : IsTable y) where
   length-is i _ less flat b = refl
 
   pub argument-pack : (a : ℕ) → a < length y.nodes → argument_packs y.nodes (shape_at y.nodes a) ≡ length_if_pack (tree_at (trees y) a)
-  unfolding placed_tree
+  unfolding tree_under
   argument-pack a less =
       let r = resolved_at y.nodes a in
       let e = table.each r.node (place-below a less) in
@@ -570,7 +570,7 @@ module _ (y : Table) (table : IsTable y) where
   structor-node _ flat = refl
 
   structor-shape : (i : ℕ) → i < length y.nodes → is_structor_node (shape_at y.nodes i) ≡ is_structor (tree_at (trees y) i)
-  unfolding placed_tree
+  unfolding tree_under
   structor-shape i less =
       let r = resolved_at y.nodes i in
       structor-node (shape_at y.nodes i) (shape-flat i less) ∙ ap is_structor (sym (table.each r.node (place-below i less)).built)
@@ -648,7 +648,7 @@ module _ (y : Table) (table : IsTable y) where
 
   -- whether a node's tree is an argument proper
   pub alone-shape : (i : ℕ) → i < length y.nodes → is_argument_node (shape_at y.nodes i) && not (is_open (tree_at (trees y) i)) ≡ is_alone (tree_at (trees y) i)
-  unfolding placed_tree
+  unfolding tree_under
   alone-shape i less =
       let r = resolved_at y.nodes i in
       let u = tree_if_there (trees y) r.under in

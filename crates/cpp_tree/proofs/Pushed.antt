@@ -12,7 +12,7 @@ use Rattle.cpp_tree.specs.declared.node.Head.{Head}
 use Rattle.cpp_tree.specs.declared.node.Free.{Free}
 use Rattle.cpp_tree.specs.declared.node.Entry.{Entry}
 use Rattle.cpp_tree.specs.Notes.{bare_entry}
-use Rattle.cpp_tree.specs.Nodes.{Stored, over, head_of, Table, tree_at, piece_of, tree_of, trees_onto, trees, entry_at, IsPieceBelow, IsBelow, IsThereBelow, under_kept, IsPlacedBelow, IsClassBelow, tree_if_there, placed_tree, class_is, placed_if_there, IsPlacedThere, untagged_is, free_is, head_noted, by_argument_of, by_none, is_again, IsFlat, IsEntry, IsTable, IsNoted, with_entry, with_thunk, IsThunkWithin}
+use Rattle.cpp_tree.specs.Nodes.{Stored, over, head_of, Table, tree_at, piece_of, tree_of, trees_onto, trees, entry_at, IsPieceBelow, IsBelow, IsAliasBelow, under_kept, IsPlacedBelow, IsClassBelow, tree_if_there, tree_under, class_is, placed_if_there, IsPlacedThere, untagged_is, free_is, head_noted, by_argument_of, by_none, is_again, IsFlat, IsEntry, IsTable, IsNoted, with_entry, with_thunk, IsThunkWithin}
 use Rattle.cpp_tree.specs.declared.node.Placed.{Placed}
 use Rattle.cpp_term.specs.Reargued.{bare, head_from, is_empty_with}
 
@@ -43,7 +43,7 @@ module _ (s : List ℕ) (us : List Thunk) (ts : List Term) (t : Term) (i : ℕ) 
   early : (k : ℕ) → k < i → tree_at (ts ++ t ∷ []) k ≡ tree_at ts k
   early k less = get-early ts t absent k (omega (arith, less, most))
 
-  tree-stays : (o : Option ℕ) → IsThereBelow i o → tree_if_there (ts ++ t ∷ []) o ≡ tree_if_there ts o
+  tree-stays : (o : Option ℕ) → IsAliasBelow i o → tree_if_there (ts ++ t ∷ []) o ≡ tree_if_there ts o
   unfolding tree_if_there
   tree-stays None b = refl
   tree-stays (Some a) b = rw (early a b) refl
@@ -109,8 +109,8 @@ module _ (s : List ℕ) (us : List Thunk) (ts : List Term) (t : Term) (i : ℕ) 
   node-stays (Node.Whole e suffix) b = rw (early e b.0) refl
   node-stays (Node.Reargued x a) b = rw (early x b.0, early a b.1) refl
 
-  placed-stays : (p : Placed) → IsPlacedBelow i p → placed_tree (ts ++ t ∷ []) p ≡ placed_tree ts p
-  unfolding placed_tree
+  placed-stays : (p : Placed) → IsPlacedBelow i p → tree_under (ts ++ t ∷ []) p ≡ tree_under ts p
+  unfolding tree_under
   placed-stays p b = rw (early p.node b.0, tree-stays p.under b.1) refl
 
   class-stays : (c : HeadClass) → IsClassBelow i c → class_is (ts ++ t ∷ []) c ≡ class_is ts c

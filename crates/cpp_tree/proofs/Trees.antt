@@ -26,7 +26,7 @@ use Rattle.cpp_tree.specs.Fields.{fields, fields_of, qualifiers_number, mark_num
 use Rattle.cpp_tree.specs.Views.{AreBelow, plain_tree, seen_of, seen_fields, no_text}
 use Rattle.cpp_term.proofs.Notes.{both}
 use Rattle.cpp_tree.proofs.Noting.{class-later, again-pack, again-empty, alone-shape}
-use Rattle.cpp_tree.specs.Nodes.{Table, tree_at, tree_of, trees, entry_at, IsBelow, IsThereBelow, IsFlat, IsSettled, free_is, tree_if_there, under_kept, qualifiers_of, mark_of, placed_tree, is_again, IsClassBelow, IsPlacedThere, head_of, class_is, untagged_is, IsTable}
+use Rattle.cpp_tree.specs.Nodes.{Table, tree_at, tree_of, trees, entry_at, IsBelow, IsAliasBelow, IsFlat, IsSettled, free_is, tree_if_there, under_kept, qualifiers_of, mark_of, tree_under, is_again, IsClassBelow, IsPlacedThere, head_of, class_is, untagged_is, IsTable}
 
 -- a node's tree is its production over those of its parts, which are earlier
 pub node_is : (y : Table) (i : ℕ) (n : Node) → IsTable y → i < length y.nodes → (entry_at y.nodes i).node ≡ n
@@ -73,38 +73,38 @@ run_at y i k run table less is most = ap (λ m. element (tree_at (trees y) i) m)
 abbrev under_tree : Table → Option ℕ → Term → Term
 under_tree y u t = reargued (tree_if_there (trees y) u) t
 
-pub placed_element : (y : Table) (p : Placed) (k : ℕ) → element (placed_tree (trees y) p) k ≡ under_tree y p.under (element (tree_at (trees y) p.node) k)
-unfolding placed_tree
+pub placed_element : (y : Table) (p : Placed) (k : ℕ) → element (tree_under (trees y) p) k ≡ under_tree y p.under (element (tree_at (trees y) p.node) k)
+unfolding tree_under
 placed_element y p k = element_reargued (tree_if_there (trees y) p.under) (tree_at (trees y) p.node) k
 
 -- the first element, and those after it
 pub cell_first : (y : Table) (p : Placed) (first rest : ℕ) → IsTable y → p.node < length y.nodes → (entry_at y.nodes p.node).node ≡ Node.Cell first rest
-    → placed_tree (trees y) (record { node = first; under = p.under }) ≡ element (placed_tree (trees y) p) 0
-unfolding placed_tree
+    → tree_under (trees y) (record { node = first; under = p.under }) ≡ element (tree_under (trees y) p) 0
+unfolding tree_under
 cell_first y p first rest table less is =
     ap (under_tree y p.under) (element_first (tree_at (trees y) p.node) (tree_at (trees y) first) (tree_at (trees y) rest) (cell_is y p.node first rest table less is).0) ∙ sym (placed_element y p 0)
 
 pub cell_next : (y : Table) (p : Placed) (first rest k : ℕ) → IsTable y → p.node < length y.nodes → (entry_at y.nodes p.node).node ≡ Node.Cell first rest
-    → element (placed_tree (trees y) (record { node = rest; under = p.under })) k ≡ element (placed_tree (trees y) p) (suc k)
+    → element (tree_under (trees y) (record { node = rest; under = p.under })) k ≡ element (tree_under (trees y) p) (suc k)
 cell_next y p first rest k table less is =
     placed_element y (record { node = rest; under = p.under }) k
     ∙ ap (under_tree y p.under) (sym (element_next (tree_at (trees y) p.node) (tree_at (trees y) first) (tree_at (trees y) rest) k (cell_is y p.node first rest table less is).0))
     ∙ sym (placed_element y p (suc k))
 
 pub cell_none : (y : Table) (p : Placed) (k : ℕ) → IsTable y → p.node < length y.nodes → is_again (entry_at y.nodes p.node).node ≡ false → ((first rest : ℕ) → (entry_at y.nodes p.node).node ≡ Node.Cell first rest → ⊥)
-    → element (placed_tree (trees y) p) k ≡ absent
+    → element (tree_under (trees y) p) k ≡ absent
 unfolding reargued
 cell_none y p k table less flat other = placed_element y p k ∙ ap (under_tree y p.under) (element_none y p.node k table less flat other)
 
 -- an element in a run is the first one of its cell
 pub placed_run : (y : Table) (i k run : ℕ) (u : Option ℕ) → IsTable y → i < length y.nodes → (entry_at y.nodes i).run ≡ run → k ≤ run
-    → element (placed_tree (trees y) (record { node = i - k; under = u })) 0 ≡ element (placed_tree (trees y) (record { node = i; under = u })) k
+    → element (tree_under (trees y) (record { node = i - k; under = u })) 0 ≡ element (tree_under (trees y) (record { node = i; under = u })) k
 placed_run y i k run u table less is most =
     placed_element y (record { node = i - k; under = u }) 0 ∙ ap (under_tree y u) (sym (run_at y i k run table less is most)) ∙ sym (placed_element y (record { node = i; under = u }) k)
 
 -- after the end of a run
 placed_behind : (y : Table) (i k run : ℕ) (u : Option ℕ) → IsTable y → i < length y.nodes → (entry_at y.nodes i).run ≡ run → run < k
-    → element (placed_tree (trees y) (record { node = i - run; under = u })) (suc (k - (run + 1))) ≡ element (placed_tree (trees y) (record { node = i; under = u })) k
+    → element (tree_under (trees y) (record { node = i - run; under = u })) (suc (k - (run + 1))) ≡ element (tree_under (trees y) (record { node = i; under = u })) k
 placed_behind y i k run u table less is more =
     placed_element y (record { node = i - run; under = u }) (suc (k - (run + 1)))
     ∙ ap (under_tree y u) (sym (run_is y i run (suc (k - (run + 1))) table less (omega (arith, is))))
@@ -113,45 +113,45 @@ placed_behind y i k run u table less is more =
 
 -- the list continues with the last cell's rest
 pub run_next : (y : Table) (i k run first rest : ℕ) (u : Option ℕ) (s : Placed) → IsTable y → i < length y.nodes → (entry_at y.nodes i).run ≡ run → run < k
-    → placed_tree (trees y) s ≡ placed_tree (trees y) (record { node = i - run; under = u }) → s.node < length y.nodes → (entry_at y.nodes s.node).node ≡ Node.Cell first rest
-    → element (placed_tree (trees y) (record { node = rest; under = s.under })) (k - (run + 1)) ≡ element (placed_tree (trees y) (record { node = i; under = u })) k
+    → tree_under (trees y) s ≡ tree_under (trees y) (record { node = i - run; under = u }) → s.node < length y.nodes → (entry_at y.nodes s.node).node ≡ Node.Cell first rest
+    → element (tree_under (trees y) (record { node = rest; under = s.under })) (k - (run + 1)) ≡ element (tree_under (trees y) (record { node = i; under = u })) k
 run_next y i k run first rest u s table less is more same inside cell =
     cell_next y s first rest (k - (run + 1)) table inside cell ∙ ap (λ t. element t (suc (k - (run + 1)))) same ∙ placed_behind y i k run u table less is more
 
 pub run_ends : (y : Table) (i k run : ℕ) (u : Option ℕ) (s : Placed) → IsTable y → i < length y.nodes → (entry_at y.nodes i).run ≡ run → run < k
-    → placed_tree (trees y) s ≡ placed_tree (trees y) (record { node = i - run; under = u }) → s.node < length y.nodes → is_again (entry_at y.nodes s.node).node ≡ false → ((first rest : ℕ) → (entry_at y.nodes s.node).node ≡ Node.Cell first rest → ⊥)
-    → element (placed_tree (trees y) (record { node = i; under = u })) k ≡ absent
+    → tree_under (trees y) s ≡ tree_under (trees y) (record { node = i - run; under = u }) → s.node < length y.nodes → is_again (entry_at y.nodes s.node).node ≡ false → ((first rest : ℕ) → (entry_at y.nodes s.node).node ≡ Node.Cell first rest → ⊥)
+    → element (tree_under (trees y) (record { node = i; under = u })) k ≡ absent
 run_ends y i k run u s table less is more same inside flat other =
     sym (placed_behind y i k run u table less is more) ∙ ap (λ t. element t (suc (k - (run + 1)))) (sym same) ∙ cell_none y s (suc (k - (run + 1))) table inside flat other
 
 -- ## Trees under an argument
 
-pub placed-alone : (ts : List Term) (i : ℕ) → placed_tree ts (record { node = i; under = None }) ≡ tree_at ts i
-unfolding placed_tree tree_if_there
+pub placed-alone : (ts : List Term) (i : ℕ) → tree_under ts (record { node = i; under = None }) ≡ tree_at ts i
+unfolding tree_under tree_if_there
 placed-alone ts i = reargued_none (tree_at ts i)
 
-pub placed-none : (ts : List Term) (p : Placed) → p.under ≡ None → placed_tree ts p ≡ tree_at ts p.node
-unfolding placed_tree tree_if_there
+pub placed-none : (ts : List Term) (p : Placed) → p.under ≡ None → tree_under ts p ≡ tree_at ts p.node
+unfolding tree_under tree_if_there
 placed-none ts p is = ap (λ u. reargued (tree_if_there ts u) (tree_at ts p.node)) is ∙ reargued_none (tree_at ts p.node)
 
-pub placed-some : (ts : List Term) (p : Placed) (a : ℕ) → p.under ≡ Some a → placed_tree ts p ≡ reargued (Some (tree_at ts a)) (tree_at ts p.node)
-unfolding placed_tree tree_if_there
+pub placed-some : (ts : List Term) (p : Placed) (a : ℕ) → p.under ≡ Some a → tree_under ts p ≡ reargued (Some (tree_at ts a)) (tree_at ts p.node)
+unfolding tree_under tree_if_there
 placed-some ts p a is = ap (λ u. reargued (tree_if_there ts u) (tree_at ts p.node)) is
 
 -- the outer argument counts
-pub over-some : (ts : List Term) (a : ℕ) (inner : Placed) (t : Term) → placed_tree ts inner ≡ t → placed_tree ts (record { node = inner.node; under = Some a }) ≡ reargued (Some (tree_at ts a)) t
-unfolding placed_tree tree_if_there
+pub over-some : (ts : List Term) (a : ℕ) (inner : Placed) (t : Term) → tree_under ts inner ≡ t → tree_under ts (record { node = inner.node; under = Some a }) ≡ reargued (Some (tree_at ts a)) t
+unfolding tree_under tree_if_there
 over-some ts a inner t is = sym (reargued_twice (tree_if_there ts inner.under) (tree_at ts a) (tree_at ts inner.node)) ∙ ap (reargued (Some (tree_at ts a))) is
 
-pub there-below : (n : ℕ) (u : Option ℕ) (a : ℕ) → u ≡ Some a → IsThereBelow n u → a < n
-there-below n u a is b = subst (λ x. IsThereBelow n x) is b
+pub there-below : (n : ℕ) (u : Option ℕ) (a : ℕ) → u ≡ Some a → IsAliasBelow n u → a < n
+there-below n u a is b = subst (λ x. IsAliasBelow n x) is b
 
 pub untagged-over : (a t : Term) → reargued (Some a) (without_tags t) ≡ without_tags (reargued (Some a) t)
 untagged-over a t = sym (untagged_reargued (Some a) t)
 
-pub flat-tree : (s : List ℕ) (us : List Thunk) (ts : List Term) (t a : ℕ) (n : Node) (inner : Placed) → n ≡ Node.Reargued t a → placed_tree ts inner ≡ tree_at ts t
+pub flat-tree : (s : List ℕ) (us : List Thunk) (ts : List Term) (t a : ℕ) (n : Node) (inner : Placed) → n ≡ Node.Reargued t a → tree_under ts inner ≡ tree_at ts t
     → tree_of s us ts (Node.Reargued inner.node a) ≡ tree_of s us ts n
-unfolding tree_of placed_tree tree_if_there
+unfolding tree_of tree_under tree_if_there
 flat-tree s us ts t a n inner is same = rw is (over-some ts a inner (tree_at ts t) same)
 
 pub flat-other : (es : List Entry) (n : Node) → ((t a : ℕ) → n ≡ Node.Reargued t a → ⊥) → IsFlat es n
@@ -167,8 +167,8 @@ again-below s held n t a node is b = subst (λ x. IsBelow s held n x) is b
 
 -- ## Trees without arguments
 
-pub erased_place : (y : Table) (p : Placed) (t : Term) → placed_tree (trees y) p ≡ t → erase (tree_at (trees y) p.node) ≡ erase t
-unfolding placed_tree
+pub erased_place : (y : Table) (p : Placed) (t : Term) → tree_under (trees y) p ≡ t → erase (tree_at (trees y) p.node) ≡ erase t
+unfolding tree_under
 erased_place y p t is = sym (erase_reargued (tree_if_there (trees y) p.under) (tree_at (trees y) p.node)) ∙ ap erase is
 
 pub erased_again : (y : Table) (t a : ℕ) (n : Node) → n ≡ Node.Reargued t a → erase (tree_of y.bytes y.thunks (trees y) n) ≡ erase (tree_at (trees y) t)
@@ -209,15 +209,15 @@ no_list_node s us ts (Node.Cell first rest) flat other = absurd (other first res
 no_list_node s us ts (Node.Reargued t a) flat other = absurd (true≢false flat)
 no_list_node s us ts _ flat other = refl
 
-placed-list : (y : Table) (p : Placed) (t : Term) → placed_tree (trees y) p ≡ t → is_list t ≡ is_list (tree_at (trees y) p.node)
-unfolding placed_tree
+placed-list : (y : Table) (p : Placed) (t : Term) → tree_under (trees y) p ≡ t → is_list t ≡ is_list (tree_at (trees y) p.node)
+unfolding tree_under
 placed-list y p t is = ap is_list (sym is) ∙ list_reargued (tree_if_there (trees y) p.under) (tree_at (trees y) p.node)
 
-pub is_cell_list : (y : Table) (p : Placed) (t : Term) (first rest : ℕ) → IsTable y → p.node < length y.nodes → placed_tree (trees y) p ≡ t → (entry_at y.nodes p.node).node ≡ Node.Cell first rest → true ≡ is_list t
+pub is_cell_list : (y : Table) (p : Placed) (t : Term) (first rest : ℕ) → IsTable y → p.node < length y.nodes → tree_under (trees y) p ≡ t → (entry_at y.nodes p.node).node ≡ Node.Cell first rest → true ≡ is_list t
 unfolding is_list
 is_cell_list y p t first rest table less is cell = sym (placed-list y p t is ∙ ap is_list (cell_is y p.node first rest table less cell).0)
 
-pub is_no_list : (y : Table) (p : Placed) (t : Term) → IsTable y → p.node < length y.nodes → placed_tree (trees y) p ≡ t → is_again (entry_at y.nodes p.node).node ≡ false
+pub is_no_list : (y : Table) (p : Placed) (t : Term) → IsTable y → p.node < length y.nodes → tree_under (trees y) p ≡ t → is_again (entry_at y.nodes p.node).node ≡ false
     → ((first rest : ℕ) → (entry_at y.nodes p.node).node ≡ Node.Cell first rest → ⊥) → false ≡ is_list t
 is_no_list y p t table less is flat other =
     sym (placed-list y p t is ∙ ap is_list (table.each p.node less).built ∙ no_list_node y.bytes y.thunks (trees y) (entry_at y.nodes p.node).node flat other)
@@ -228,28 +228,28 @@ unfolding if_alone
 chosen-by t b is = ap (λ x. elim x as (λ _. Term) [ true ↦ t | false ↦ absent ]) is
 
 alone-by : (y : Table) (p : Placed) (argued opened : Bool) → IsTable y → p.node < length y.nodes → is_argument_node (shape_at y.nodes p.node) ≡ argued → is_open (tree_at (trees y) p.node) ≡ opened
-    → is_alone (placed_tree (trees y) p) ≡ (argued && not opened)
-unfolding placed_tree
+    → is_alone (tree_under (trees y) p) ≡ (argued && not opened)
+unfolding tree_under
 alone-by y p argued opened table less is-argued is-opened =
     alone_reargued (tree_if_there (trees y) p.under) (tree_at (trees y) p.node) ∙ sym (alone-shape y table p.node less) ∙ both (λ a b. a && not b) is-argued is-opened
 
-pub given_open : (y : Table) (p : Placed) → IsTable y → p.node < length y.nodes → is_open (tree_at (trees y) p.node) ≡ true → tree_at (trees y) 0 ≡ if_alone (placed_tree (trees y) p)
+pub given_open : (y : Table) (p : Placed) → IsTable y → p.node < length y.nodes → is_open (tree_at (trees y) p.node) ≡ true → tree_at (trees y) 0 ≡ if_alone (tree_under (trees y) p)
 given_open y p table less opened =
-    table.no_tree ∙ sym (chosen-by (placed_tree (trees y) p) false (alone-by y p (is_argument_node (shape_at y.nodes p.node)) true table less refl opened ∙ never (is_argument_node (shape_at y.nodes p.node))))
+    table.no_tree ∙ sym (chosen-by (tree_under (trees y) p) false (alone-by y p (is_argument_node (shape_at y.nodes p.node)) true table less refl opened ∙ never (is_argument_node (shape_at y.nodes p.node))))
   where
     never : (b : Bool) → (b && false) ≡ false
     never true = refl
     never false = refl
 
-pub given_pack : (y : Table) (p : Placed) → IsTable y → p.node < length y.nodes → is_argument_node (shape_at y.nodes p.node) ≡ false → tree_at (trees y) 0 ≡ if_alone (placed_tree (trees y) p)
+pub given_pack : (y : Table) (p : Placed) → IsTable y → p.node < length y.nodes → is_argument_node (shape_at y.nodes p.node) ≡ false → tree_at (trees y) 0 ≡ if_alone (tree_under (trees y) p)
 given_pack y p table less argued =
-    table.no_tree ∙ sym (chosen-by (placed_tree (trees y) p) false (alone-by y p false (is_open (tree_at (trees y) p.node)) table less argued refl))
+    table.no_tree ∙ sym (chosen-by (tree_under (trees y) p) false (alone-by y p false (is_open (tree_at (trees y) p.node)) table less argued refl))
 
 pub given_alone_node : (y : Table) (p : Placed) → IsTable y → p.node < length y.nodes → is_argument_node (shape_at y.nodes p.node) ≡ true → is_open (tree_at (trees y) p.node) ≡ false
-    → tree_at (trees y) p.node ≡ if_alone (placed_tree (trees y) p)
-unfolding placed_tree
+    → tree_at (trees y) p.node ≡ if_alone (tree_under (trees y) p)
+unfolding tree_under
 given_alone_node y p table less argued opened =
-    sym (chosen-by (placed_tree (trees y) p) true (alone-by y p true false table less argued opened) ∙ reargued_closed (tree_if_there (trees y) p.under) (tree_at (trees y) p.node) opened)
+    sym (chosen-by (tree_under (trees y) p) true (alone-by y p true false table less argued opened) ∙ reargued_closed (tree_if_there (trees y) p.under) (tree_at (trees y) p.node) opened)
 
 -- of a list its element is given
 pub given_listed : (a : Term) (k : ℕ) → is_list a ≡ true → given_for a k ≡ if_alone (element a k)
@@ -284,8 +284,8 @@ unfolding indexed reargued
 indexed_is c i t elements is = rw is refl
 
 pub indexed_pack : (y : Table) (p : Placed) (i elements : ℕ) → IsTable y → p.node < length y.nodes → (entry_at y.nodes p.node).node ≡ Node.Pack elements
-    → element (placed_tree (trees y) (record { node = elements; under = p.under })) i ≡ indexed (Some i) (placed_tree (trees y) p)
-unfolding tree_of placed_tree
+    → element (tree_under (trees y) (record { node = elements; under = p.under })) i ≡ indexed (Some i) (tree_under (trees y) p)
+unfolding tree_of tree_under
 indexed_pack y p i elements table less is =
     sym (indexed_is (tree_if_there (trees y) p.under) i (tree_at (trees y) p.node) (tree_at (trees y) elements) (node_is y p.node (Node.Pack elements) table less is).0)
 
@@ -304,8 +304,8 @@ unfolding indexed
 indexed_none t = refl
 
 pub indexed_other : (y : Table) (p : Placed) (index : Option ℕ) → IsTable y → p.node < length y.nodes → is_again (entry_at y.nodes p.node).node ≡ false → ((elements : ℕ) → (entry_at y.nodes p.node).node ≡ Node.Pack elements → ⊥)
-    → indexed index (placed_tree (trees y) p) ≡ placed_tree (trees y) p
-unfolding placed_tree
+    → indexed index (tree_under (trees y) p) ≡ tree_under (trees y) p
+unfolding tree_under
 indexed_other y p index table less flat other =
     let e = table.each p.node less in
     let c = tree_if_there (trees y) p.under in
@@ -343,11 +343,11 @@ pub known_head : (ts : List Term) (index : Option ℕ) (h : Head) → head_of h 
 unfolding head_of_class class_is
 known_head ts index h = refl
 
-pub of_element_head : (ts : List Term) (index : Option ℕ) (n : Placed) → element_head index (placed_tree ts n) ≡ head_of_class index (class_is ts (HeadClass.OfElement n))
+pub of_element_head : (ts : List Term) (index : Option ℕ) (n : Placed) → element_head index (tree_under ts n) ≡ head_of_class index (class_is ts (HeadClass.OfElement n))
 unfolding head_of_class class_is
 of_element_head ts index n = refl
 
-pub collapsed_head : (ts : List Term) (index : Option ℕ) (n : Placed) → heads.collapsed (element_head index (placed_tree ts n)) ≡ head_of_class index (class_is ts (HeadClass.CollapsedOfElement n))
+pub collapsed_head : (ts : List Term) (index : Option ℕ) (n : Placed) → heads.collapsed (element_head index (tree_under ts n)) ≡ head_of_class index (class_is ts (HeadClass.CollapsedOfElement n))
 unfolding head_of_class class_is
 collapsed_head ts index n = refl
 
@@ -361,8 +361,8 @@ none_element t = refl
 
 -- ## Lists
 
-pub nil_is : (y : Table) (p : Placed) → IsTable y → p.node < length y.nodes → (entry_at y.nodes p.node).node ≡ Node.Nil → placed_tree (trees y) p ≡ nil
-unfolding tree_of placed_tree reargued
+pub nil_is : (y : Table) (p : Placed) → IsTable y → p.node < length y.nodes → (entry_at y.nodes p.node).node ≡ Node.Nil → tree_under (trees y) p ≡ nil
+unfolding tree_of tree_under reargued
 nil_is y p table less is = ap (reargued (tree_if_there (trees y) p.under)) (node_is y p.node Node.Nil table less is).0
 
 other_node : (s : List ℕ) (us : List Thunk) (ts : List Term) (c : Option Term) (n : Node) → is_again n ≡ false → (n ≡ Node.Nil → ⊥) → reargued c (tree_of s us ts n) ≡ nil → ⊥
@@ -371,8 +371,8 @@ other_node s us ts c Node.Nil flat other e = other refl
 other_node s us ts c (Node.Reargued t a) flat other e = true≢false flat
 other_node s us ts c _ flat other e = cc e
 
-pub not_nil : (y : Table) (p : Placed) → IsTable y → p.node < length y.nodes → is_again (entry_at y.nodes p.node).node ≡ false → ((entry_at y.nodes p.node).node ≡ Node.Nil → ⊥) → placed_tree (trees y) p ≡ nil → ⊥
-unfolding placed_tree
+pub not_nil : (y : Table) (p : Placed) → IsTable y → p.node < length y.nodes → is_again (entry_at y.nodes p.node).node ≡ false → ((entry_at y.nodes p.node).node ≡ Node.Nil → ⊥) → tree_under (trees y) p ≡ nil → ⊥
+unfolding tree_under
 not_nil y p table less flat other e =
     other_node y.bytes y.thunks (trees y) (tree_if_there (trees y) p.under) (entry_at y.nodes p.node).node flat other (ap (reargued (tree_if_there (trees y) p.under)) (sym (table.each p.node less).built) ∙ e)
 
@@ -383,20 +383,20 @@ empty_closed c (pack elements) = empty_closed c elements
 empty_closed c (list e rest) = rw (empty_closed c e, empty_closed c rest) refl
 empty_closed c _ = refl
 
-pub empty_in : (y : Table) (p : Placed) (held : Entry) (c : items.Context) → IsTable y → p.node < length y.nodes → held ≡ entry_at y.nodes p.node → p.under ≡ None → held.is_empty ≡ items.is_empty c (placed_tree (trees y) p)
+pub empty_in : (y : Table) (p : Placed) (held : Entry) (c : items.Context) → IsTable y → p.node < length y.nodes → held ≡ entry_at y.nodes p.node → p.under ≡ None → held.is_empty ≡ items.is_empty c (tree_under (trees y) p)
 empty_in y p held c table less at none = ap (λ e. e.is_empty) at ∙ (table.each p.node less).empty ∙ empty_closed c (tree_at (trees y) p.node) ∙ ap (items.is_empty c) (sym (placed-none (trees y) p none))
 
 pub empty_again : (y : Table) (p : Placed) (held : Entry) (a : ℕ) (given : Option ℕ) (none result : Bool) (c : items.Context) → IsTable y → p.node < length y.nodes → a < length y.nodes → held ≡ entry_at y.nodes p.node → p.under ≡ Some a
-    → given ≡ argument_packs y.nodes (shape_at y.nodes a) → none ≡ heads.is_none_of given → result ≡ empty_by none held.by_argument → result ≡ items.is_empty c (placed_tree (trees y) p)
+    → given ≡ argument_packs y.nodes (shape_at y.nodes a) → none ≡ heads.is_none_of given → result ≡ empty_by none held.by_argument → result ≡ items.is_empty c (tree_under (trees y) p)
 empty_again y p held a given none result c table less few at under given-is none-is is =
     is ∙ ap (λ b. empty_by b held.by_argument) (none-is ∙ ap heads.is_none_of given-is) ∙ ap (λ e. empty_by (heads.is_none_of (argument_packs y.nodes (shape_at y.nodes a))) e.by_argument) at
     ∙ again-empty y table p.node a less few ∙ empty_closed c _ ∙ ap (items.is_empty c) (sym (placed-some (trees y) p a under))
 
-pub packs_in : (y : Table) (p : Placed) (held : Entry) → IsTable y → p.node < length y.nodes → held ≡ entry_at y.nodes p.node → p.under ≡ None → held.packs ≡ pack_length (placed_tree (trees y) p)
+pub packs_in : (y : Table) (p : Placed) (held : Entry) → IsTable y → p.node < length y.nodes → held ≡ entry_at y.nodes p.node → p.under ≡ None → held.packs ≡ pack_length (tree_under (trees y) p)
 packs_in y p held table less at none = ap (λ e. e.packs) at ∙ (table.each p.node less).packs ∙ ap pack_length (sym (placed-none (trees y) p none))
 
 pub packs_again : (y : Table) (p : Placed) (held : Entry) (a : ℕ) (given result : Option ℕ) → IsTable y → p.node < length y.nodes → a < length y.nodes → held ≡ entry_at y.nodes p.node → p.under ≡ Some a
-    → given ≡ argument_packs y.nodes (shape_at y.nodes a) → result ≡ packs_by held.by_argument.is_bare given → result ≡ pack_length (placed_tree (trees y) p)
+    → given ≡ argument_packs y.nodes (shape_at y.nodes a) → result ≡ packs_by held.by_argument.is_bare given → result ≡ pack_length (tree_under (trees y) p)
 packs_again y p held a given result table less few at under given-is is =
     is ∙ ap (packs_by held.by_argument.is_bare) given-is ∙ ap (λ e. packs_by e.by_argument.is_bare (argument_packs y.nodes (shape_at y.nodes a))) at
     ∙ again-pack y table p.node a less few ∙ ap pack_length (sym (placed-some (trees y) p a under))
@@ -405,8 +405,8 @@ packs_again y p held a given result table less few at under given-is is =
 
 -- a tree that is a pack has as many elements under an argument
 pub pack_length_is : (y : Table) (p : Placed) (elements many : ℕ) → IsTable y → p.node < length y.nodes → (entry_at y.nodes p.node).node ≡ Node.Pack elements → many ≡ (entry_at y.nodes elements).count
-    → Some many ≡ length_if_pack (placed_tree (trees y) p)
-unfolding placed_tree tree_of length_if_pack
+    → Some many ≡ length_if_pack (tree_under (trees y) p)
+unfolding tree_under tree_of length_if_pack
 pack_length_is y p elements many table less is counted =
     let n = node_is y p.node (Node.Pack elements) table less is in
     ap Some (counted ∙ (table.each elements (omega (arith, less, n.1))).counted)
@@ -419,8 +419,8 @@ no_length s us ts (Node.Reargued t a) flat other = absurd (true≢false flat)
 no_length s us ts _ flat other = refl
 
 pub no_pack_length : (y : Table) (p : Placed) → IsTable y → p.node < length y.nodes → is_again (entry_at y.nodes p.node).node ≡ false → ((elements : ℕ) → (entry_at y.nodes p.node).node ≡ Node.Pack elements → ⊥)
-    → length_if_pack (placed_tree (trees y) p) ≡ None
-unfolding placed_tree
+    → length_if_pack (tree_under (trees y) p) ≡ None
+unfolding tree_under
 no_pack_length y p table less flat other =
     length_reargued (tree_if_there (trees y) p.under) (tree_at (trees y) p.node)
     ∙ ap length_if_pack (table.each p.node less).built ∙ no_length y.bytes y.thunks (trees y) (entry_at y.nodes p.node).node flat other

@@ -8,7 +8,7 @@ use Rattle.cpp_tree.specs.declared.node.HeadClass.{HeadClass}
 use Rattle.cpp_tree.specs.declared.node.Free.{Free}
 use Rattle.cpp_tree.specs.declared.node.ByArgument.{ByArgument}
 use Rattle.cpp_tree.specs.declared.compact.FreeCount.{FreeCount}
-use Rattle.cpp_tree.specs.declared.compact.Words.{Words}
+use Rattle.cpp_tree.specs.declared.compact.TypeHead.{TypeHead}
 use Rattle.cpp_tree.specs.declared.compact.Compact.{Compact}
 use Rattle.cpp_tree.specs.Nodes.{under_kept}
 use Rattle.cpp_tree.specs.Notes.{placed_under, if_own, class_by}
@@ -22,39 +22,39 @@ packs_kept (suc n) = Some n
 abbrev pub placed_kept : (first second : ℕ) → Placed
 placed_kept first second = record { node = first; under = under_kept second }
 
-unfoldable pub class_kept : Words → (first second : ℕ) → HeadClass
-class_kept Words.FunctionOrArray n m = HeadClass.Known Head.FunctionOrArray
-class_kept Words.Lvalue n m = HeadClass.Known Head.Lvalue
-class_kept Words.Rvalue n m = HeadClass.Known Head.Rvalue
-class_kept Words.OfElement n m = HeadClass.OfElement (placed_kept n m)
-class_kept Words.CollapsedOfElement n m = HeadClass.CollapsedOfElement (placed_kept n m)
+unfoldable pub class_kept : TypeHead → (first second : ℕ) → HeadClass
+class_kept TypeHead.FunctionOrArray n m = HeadClass.Known Head.FunctionOrArray
+class_kept TypeHead.Lvalue n m = HeadClass.Known Head.Lvalue
+class_kept TypeHead.Rvalue n m = HeadClass.Known Head.Rvalue
+class_kept TypeHead.OfElement n m = HeadClass.OfElement (placed_kept n m)
+class_kept TypeHead.CollapsedOfElement n m = HeadClass.CollapsedOfElement (placed_kept n m)
 class_kept _ n m = HeadClass.Known Head.Plain
 
-unfoldable pub arguments_kept : Words → (first second : ℕ) → Option Placed
-arguments_kept Words.Arguments n m = Some (placed_kept n m)
-arguments_kept Words.ReturningArguments n m = Some (placed_kept n m)
+unfoldable pub arguments_kept : TypeHead → (first second : ℕ) → Option Placed
+arguments_kept TypeHead.Arguments n m = Some (placed_kept n m)
+arguments_kept TypeHead.ReturningArguments n m = Some (placed_kept n m)
 arguments_kept _ n m = None
 
-unfoldable pub untagged_kept : Words → (first second : ℕ) → Option Placed
-untagged_kept Words.Tagged n m = Some (placed_kept n m)
+unfoldable pub untagged_kept : TypeHead → (first second : ℕ) → Option Placed
+untagged_kept TypeHead.Tagged n m = Some (placed_kept n m)
 untagged_kept _ n m = None
 
-unfoldable pub returns_kept : Words → Bool
-returns_kept Words.ReturningArguments = true
+unfoldable pub returns_kept : TypeHead → Bool
+returns_kept TypeHead.ReturningArguments = true
 returns_kept _ = false
 
-unfoldable pub count_kept : Words → ℕ → ℕ
-count_kept Words.Elements n = n
-count_kept Words.ElementsWithPack n = n
+unfoldable pub count_kept : TypeHead → ℕ → ℕ
+count_kept TypeHead.Elements n = n
+count_kept TypeHead.ElementsWithPack n = n
 count_kept _ n = 0
 
-unfoldable pub run_kept : Words → ℕ → ℕ
-run_kept Words.Elements n = n
-run_kept Words.ElementsWithPack n = n
+unfoldable pub run_kept : TypeHead → ℕ → ℕ
+run_kept TypeHead.Elements n = n
+run_kept TypeHead.ElementsWithPack n = n
 run_kept _ n = 0
 
-unfoldable pub has_pack_kept : Words → Bool
-has_pack_kept Words.ElementsWithPack = true
+unfoldable pub has_pack_kept : TypeHead → Bool
+has_pack_kept TypeHead.ElementsWithPack = true
 has_pack_kept _ = false
 
 -- the free parameters: the number is that of the only one, or the greatest of several
@@ -64,7 +64,7 @@ free_kept FreeCount.One k = Free.One k
 free_kept FreeCount.Several k = Free.Several k
 
 -- an entry, by what is shared in two words
-abbrev pub kept : (n : Node) (packs : Option ℕ) (free : Free) (is_empty : Bool) (by_argument : ByArgument) (words : Words) (first second : ℕ) → Entry
+abbrev pub kept : (n : Node) (packs : Option ℕ) (free : Free) (is_empty : Bool) (by_argument : ByArgument) (words : TypeHead) (first second : ℕ) → Entry
 kept n packs free is_empty by_argument words first second = record {
   node = n;
   packs = packs;
@@ -149,7 +149,7 @@ with_tags n packs free by_argument untagged = record {
 }
 
 -- the entry of an alias with an argument, where its head is its own, by the words of the tree
-abbrev pub own_entry : (n : Node) (packs : Option ℕ) (free : Free) (is_empty : Bool) (by_argument : ByArgument) (words : Words) (first second argument : ℕ) → Entry
+abbrev pub own_entry : (n : Node) (packs : Option ℕ) (free : Free) (is_empty : Bool) (by_argument : ByArgument) (words : TypeHead) (first second argument : ℕ) → Entry
 own_entry n packs free is_empty by_argument words first second argument = record {
   node = n;
   packs = packs;

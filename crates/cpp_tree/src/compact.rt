@@ -11,7 +11,7 @@ use crate::node::{ByArgument, Entry, Free, Head, HeadClass, HeadFrom, Node, Plac
 /// What two words beside a node record: of a type a list of elements, of a name its arguments or itself without tags, each with
 /// the argument under which it is, and of a list its count and its run, and whether it has a pack among its elements.
 #[derive(Clone, Copy)]
-pub enum Words {
+pub enum TypeHead {
     Plain,
     FunctionOrArray,
     Lvalue,
@@ -47,7 +47,7 @@ pub struct Compact {
     pub number: u32,
     pub free: FreeCount,
     pub is_empty: bool,
-    pub words: Words,
+    pub words: TypeHead,
     pub by_argument: ByArgument,
 }
 
@@ -76,15 +76,15 @@ fn placed(first: u32, second: u32) -> Placed
 /// The head of a type.
 #[inline(always)]
 #[tactic(auto, unfolding(crate::specs::Compact::class_kept))]
-pub(crate) fn class(words: Words, first: u32, second: u32) -> HeadClass
+pub(crate) fn class(words: TypeHead, first: u32, second: u32) -> HeadClass
     ensures { result ≡ class_kept words first second }
 {
     match words {
-        Words::FunctionOrArray => HeadClass::Known(Head::FunctionOrArray),
-        Words::Lvalue => HeadClass::Known(Head::Lvalue),
-        Words::Rvalue => HeadClass::Known(Head::Rvalue),
-        Words::OfElement => HeadClass::OfElement(placed(first, second)),
-        Words::CollapsedOfElement => HeadClass::CollapsedOfElement(placed(first, second)),
+        TypeHead::FunctionOrArray => HeadClass::Known(Head::FunctionOrArray),
+        TypeHead::Lvalue => HeadClass::Known(Head::Lvalue),
+        TypeHead::Rvalue => HeadClass::Known(Head::Rvalue),
+        TypeHead::OfElement => HeadClass::OfElement(placed(first, second)),
+        TypeHead::CollapsedOfElement => HeadClass::CollapsedOfElement(placed(first, second)),
         _ => HeadClass::Known(Head::Plain),
     }
 }
@@ -92,12 +92,12 @@ pub(crate) fn class(words: Words, first: u32, second: u32) -> HeadClass
 /// The arguments that a name ends in.
 #[inline(always)]
 #[tactic(auto, unfolding(crate::specs::Compact::arguments_kept))]
-fn arguments(words: Words, first: u32, second: u32) -> Option<Placed>
+fn arguments(words: TypeHead, first: u32, second: u32) -> Option<Placed>
     ensures { result ≡ arguments_kept words first second }
 {
     match words {
-        Words::Arguments => Some(placed(first, second)),
-        Words::ReturningArguments => Some(placed(first, second)),
+        TypeHead::Arguments => Some(placed(first, second)),
+        TypeHead::ReturningArguments => Some(placed(first, second)),
         _ => None,
     }
 }
@@ -105,11 +105,11 @@ fn arguments(words: Words, first: u32, second: u32) -> Option<Placed>
 /// The name under the tags of a name.
 #[inline(always)]
 #[tactic(auto, unfolding(crate::specs::Compact::untagged_kept))]
-fn untagged(words: Words, first: u32, second: u32) -> Option<Placed>
+fn untagged(words: TypeHead, first: u32, second: u32) -> Option<Placed>
     ensures { result ≡ untagged_kept words first second }
 {
     match words {
-        Words::Tagged => Some(placed(first, second)),
+        TypeHead::Tagged => Some(placed(first, second)),
         _ => None,
     }
 }
@@ -117,11 +117,11 @@ fn untagged(words: Words, first: u32, second: u32) -> Option<Placed>
 /// Whether a function of a name has its return type.
 #[inline(always)]
 #[tactic(auto, unfolding(crate::specs::Compact::returns_kept))]
-fn returns(words: Words) -> bool
+fn returns(words: TypeHead) -> bool
     ensures { result ≡ returns_kept words }
 {
     match words {
-        Words::ReturningArguments => true,
+        TypeHead::ReturningArguments => true,
         _ => false,
     }
 }
@@ -129,12 +129,12 @@ fn returns(words: Words) -> bool
 /// How many elements a list has.
 #[inline(always)]
 #[tactic(auto, unfolding(crate::specs::Compact::count_kept))]
-fn count(words: Words, first: u32) -> u32
+fn count(words: TypeHead, first: u32) -> u32
     ensures { result ≡ count_kept words first }
 {
     match words {
-        Words::Elements => first,
-        Words::ElementsWithPack => first,
+        TypeHead::Elements => first,
+        TypeHead::ElementsWithPack => first,
         _ => 0,
     }
 }
@@ -142,12 +142,12 @@ fn count(words: Words, first: u32) -> u32
 /// How many cells precede a cell.
 #[inline(always)]
 #[tactic(auto, unfolding(crate::specs::Compact::run_kept))]
-fn run(words: Words, second: u32) -> u32
+fn run(words: TypeHead, second: u32) -> u32
     ensures { result ≡ run_kept words second }
 {
     match words {
-        Words::Elements => second,
-        Words::ElementsWithPack => second,
+        TypeHead::Elements => second,
+        TypeHead::ElementsWithPack => second,
         _ => 0,
     }
 }
@@ -155,11 +155,11 @@ fn run(words: Words, second: u32) -> u32
 /// Whether a list has a pack among its elements.
 #[inline(always)]
 #[tactic(auto, unfolding(crate::specs::Compact::has_pack_kept))]
-fn has_pack(words: Words) -> bool
+fn has_pack(words: TypeHead) -> bool
     ensures { result ≡ has_pack_kept words }
 {
     match words {
-        Words::ElementsWithPack => true,
+        TypeHead::ElementsWithPack => true,
         _ => false,
     }
 }
@@ -227,7 +227,7 @@ pub(crate) fn bare(node: Node, is_empty: bool) -> Compact
         number: 0,
         free: FreeCount::None,
         is_empty,
-        words: Words::Plain,
+        words: TypeHead::Plain,
         by_argument: by_none(is_empty),
     }
 }

@@ -5,7 +5,7 @@ ghost use Rattle.std.specs.Prelude.{◌≡◌, ◌<◌, length, false};
 ghost use Rattle.cpp_term.specs.Reargued.{if_alone, given_for, given_alone};
 ghost use Rattle.cpp_term.specs.Scope.{element, is_list, has_pack, is_open, free_in, length_if_pack};
 ghost use Rattle.cpp_term.specs.Items.{indexed};
-ghost use Rattle.cpp_tree.specs.Nodes.{over, trees, tree_at, placed_tree, free_is, IsPlacedBelow, IsTable};
+ghost use Rattle.cpp_tree.specs.Nodes.{over, trees, tree_at, tree_under, free_is, IsPlacedBelow, IsTable};
 
 use crate::node::{Free, Node, Placed};
 use crate::nodes::{ABSENT, Nodes};
@@ -22,7 +22,7 @@ impl Nodes {
     fn first(&self, symbol: &[u8], list: Placed) -> Placed
         requires table { IsTable (over symbol.now self.now) }
         requires list { IsPlacedBelow (length self.now.nodes) list }
-        ensures tree { placed_tree (trees (over symbol.now self.now)) result ≡ element (placed_tree (trees (over symbol.now self.now)) list) 0 }
+        ensures tree { tree_under (trees (over symbol.now self.now)) result ≡ element (tree_under (trees (over symbol.now self.now)) list) 0 }
         ensures below { IsPlacedBelow (length self.now.nodes) result }
     {
         let settled = self.settled(symbol, list);
@@ -39,7 +39,7 @@ impl Nodes {
     pub fn element(&self, symbol: &[u8], list: Placed, k: u32) -> Placed
         requires table { IsTable (over symbol.now self.now) }
         requires list { IsPlacedBelow (length self.now.nodes) list }
-        ensures tree { placed_tree (trees (over symbol.now self.now)) result ≡ element (placed_tree (trees (over symbol.now self.now)) list) k }
+        ensures tree { tree_under (trees (over symbol.now self.now)) result ≡ element (tree_under (trees (over symbol.now self.now)) list) k }
         ensures below { IsPlacedBelow (length self.now.nodes) result }
     {
         let mut cell = list.node;
@@ -78,7 +78,7 @@ impl Nodes {
     pub fn indexed(&self, symbol: &[u8], index: Option<u32>, argument: Placed) -> Placed
         requires table { IsTable (over symbol.now self.now) }
         requires argument { IsPlacedBelow (length self.now.nodes) argument }
-        ensures tree { placed_tree (trees (over symbol.now self.now)) result ≡ indexed index (placed_tree (trees (over symbol.now self.now)) argument) }
+        ensures tree { tree_under (trees (over symbol.now self.now)) result ≡ indexed index (tree_under (trees (over symbol.now self.now)) argument) }
         ensures below { IsPlacedBelow (length self.now.nodes) result }
     {
         let Some(i) = index else {
@@ -103,8 +103,8 @@ impl Nodes {
     pub fn closed_node(&self, symbol: &[u8], tree: Placed) -> u32
         requires table { IsTable (over symbol.now self.now) }
         requires tree { IsPlacedBelow (length self.now.nodes) tree }
-        requires closed { is_open (placed_tree (trees (over symbol.now self.now)) tree) ≡ false }
-        ensures tree { tree_at (trees (over symbol.now self.now)) result ≡ placed_tree (trees (over symbol.now self.now)) tree }
+        requires closed { is_open (tree_under (trees (over symbol.now self.now)) tree) ≡ false }
+        ensures tree { tree_at (trees (over symbol.now self.now)) result ≡ tree_under (trees (over symbol.now self.now)) tree }
         ensures below { result < length self.now.nodes }
     {
         tree.node
@@ -137,7 +137,7 @@ impl Nodes {
     fn if_alone(&self, symbol: &[u8], element: Placed) -> u32
         requires table { IsTable (over symbol.now self.now) }
         requires element { IsPlacedBelow (length self.now.nodes) element }
-        ensures tree { tree_at (trees (over symbol.now self.now)) result ≡ if_alone (placed_tree (trees (over symbol.now self.now)) element) }
+        ensures tree { tree_at (trees (over symbol.now self.now)) result ≡ if_alone (tree_under (trees (over symbol.now self.now)) element) }
         ensures below { result < length self.now.nodes }
     {
         if self.is_open(symbol, element.node) {

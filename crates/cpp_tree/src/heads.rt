@@ -7,7 +7,7 @@ ghost use Rattle.cpp_term.specs.Items as items;
 ghost use Rattle.cpp_grammar.specs.Items.{collapsed};
 ghost use Rattle.cpp_term.specs.Items.{class_of, plain_class, element_head};
 ghost use Rattle.cpp_term.specs.Scope.{pack_length};
-ghost use Rattle.cpp_tree.specs.Nodes.{over, trees, placed_tree, class_is, IsClassBelow, IsPlacedBelow, IsTable, head_of};
+ghost use Rattle.cpp_tree.specs.Nodes.{over, trees, tree_under, class_is, IsClassBelow, IsPlacedBelow, IsTable, head_of};
 ghost use Rattle.cpp_tree.specs.Notes.{packs_by, empty_by, class_by};
 
 use crate::node::{ByArgument, Head, HeadClass, HeadFrom, Placed};
@@ -19,7 +19,7 @@ impl Nodes {
         requires table { IsTable (over symbol.now self.now) }
         requires ty { IsPlacedBelow (length self.now.nodes) ty }
         requires room { length self.now.nodes + 1 < 2 ^ 32 }
-        ensures class { class_is (trees (over symbol.now self.now)) result ≡ class_of (placed_tree (trees (over symbol.now self.now)) ty) }
+        ensures class { class_is (trees (over symbol.now self.now)) result ≡ class_of (tree_under (trees (over symbol.now self.now)) ty) }
         ensures below { IsClassBelow (length self.now.nodes) result }
     {
         let held = self.entry(ty.node);
@@ -41,7 +41,7 @@ impl Nodes {
         requires table { IsTable (over symbol.now self.now) }
         requires ty { IsPlacedBelow (length self.now.nodes) ty }
         requires room { length self.now.nodes + 1 < 2 ^ 32 }
-        ensures { head_of result ≡ plain_class (class_of (placed_tree (trees (over symbol.now self.now)) ty)) }
+        ensures { head_of result ≡ plain_class (class_of (tree_under (trees (over symbol.now self.now)) ty)) }
     {
         match self.class(symbol, ty) {
             HeadClass::Known(head) => head,
@@ -55,7 +55,7 @@ impl Nodes {
         requires table { IsTable (over symbol.now self.now) }
         requires elements { IsPlacedBelow (length self.now.nodes) elements }
         requires room { length self.now.nodes + 1 < 2 ^ 32 }
-        ensures { head_of result ≡ element_head index (placed_tree (trees (over symbol.now self.now)) elements) }
+        ensures { head_of result ≡ element_head index (tree_under (trees (over symbol.now self.now)) elements) }
     {
         match index {
             Some(i) => self.plain_head(symbol, self.element(symbol, elements, i)),
@@ -68,7 +68,7 @@ impl Nodes {
         requires table { IsTable (over symbol.now self.now) }
         requires ty { IsPlacedBelow (length self.now.nodes) ty }
         requires room { length self.now.nodes + 1 < 2 ^ 32 }
-        ensures { head_of result ≡ items.head (record { index = index }) (placed_tree (trees (over symbol.now self.now)) ty) }
+        ensures { head_of result ≡ items.head (record { index = index }) (tree_under (trees (over symbol.now self.now)) ty) }
     {
         match self.class(symbol, ty) {
             HeadClass::Known(head) => head,
@@ -85,7 +85,7 @@ impl Nodes {
         requires table { IsTable (over symbol.now self.now) }
         requires tree { IsPlacedBelow (length self.now.nodes) tree }
         requires room { length self.now.nodes + 1 < 2 ^ 32 }
-        ensures { result ≡ pack_length (placed_tree (trees (over symbol.now self.now)) tree) }
+        ensures { result ≡ pack_length (tree_under (trees (over symbol.now self.now)) tree) }
     {
         let held = self.entry(tree.node);
         match tree.under {
@@ -103,7 +103,7 @@ impl Nodes {
         requires table { IsTable (over symbol.now self.now) }
         requires tree { IsPlacedBelow (length self.now.nodes) tree }
         requires room { length self.now.nodes + 1 < 2 ^ 32 }
-        ensures { (c : items.Context) → result ≡ items.is_empty c (placed_tree (trees (over symbol.now self.now)) tree) }
+        ensures { (c : items.Context) → result ≡ items.is_empty c (tree_under (trees (over symbol.now self.now)) tree) }
     {
         let held = self.entry(tree.node);
         match tree.under {
@@ -182,7 +182,7 @@ impl Nodes {
         requires table { IsTable (over symbol.now self.now) }
         requires ty { IsPlacedBelow (length self.now.nodes) ty }
         requires room { length self.now.nodes + 1 < 2 ^ 32 }
-        ensures { result ≡ heads.is_funarr (items.head (record { index = index }) (placed_tree (trees (over symbol.now self.now)) ty)) }
+        ensures { result ≡ heads.is_funarr (items.head (record { index = index }) (tree_under (trees (over symbol.now self.now)) ty)) }
     {
         is_function(self.head(symbol, index, ty))
     }
@@ -192,7 +192,7 @@ impl Nodes {
         requires table { IsTable (over symbol.now self.now) }
         requires ty { IsPlacedBelow (length self.now.nodes) ty }
         requires room { length self.now.nodes + 1 < 2 ^ 32 }
-        ensures { result ≡ heads.is_reference (items.head (record { index = index }) (placed_tree (trees (over symbol.now self.now)) ty)) }
+        ensures { result ≡ heads.is_reference (items.head (record { index = index }) (tree_under (trees (over symbol.now self.now)) ty)) }
     {
         is_reference(self.head(symbol, index, ty))
     }

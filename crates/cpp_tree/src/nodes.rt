@@ -5,7 +5,7 @@ ghost use Rattle.std.specs.Prelude.{◌≡◌, ℕ, ◌+◌, ◌<◌, ◌≤◌,
 ghost use Rattle.sym_core.specs.declared.Refusal.{Refusal};
 ghost use Rattle.cpp_term.specs.Scope.{without_tags};
 ghost use Rattle.cpp_term.specs.Reargued.{reargued};
-ghost use Rattle.cpp_tree.specs.Nodes.{over, tree_at, trees, tree_of, entry_at, placed_tree, is_again, IsFlat, IsLone, IsSettled, IsPlacedBelow, IsBelow, IsThunkWithin, IsTable};
+ghost use Rattle.cpp_tree.specs.Nodes.{over, tree_at, trees, tree_of, entry_at, tree_under, is_again, IsFlat, IsLone, IsSettled, IsPlacedBelow, IsBelow, IsThunkWithin, IsTable};
 ghost use Rattle.cpp_tree.specs.Notes.{resolved_at};
 ghost use Rattle.cpp_tree.specs.Compact.{entry_of};
 
@@ -137,7 +137,7 @@ impl Nodes {
         requires table { IsTable (over symbol.now self.now) }
         requires node { node < length self.now.nodes }
         ensures is { result ≡ resolved_at self.now.nodes node }
-        ensures tree { placed_tree (trees (over symbol.now self.now)) result ≡ tree_at (trees (over symbol.now self.now)) node }
+        ensures tree { tree_under (trees (over symbol.now self.now)) result ≡ tree_at (trees (over symbol.now self.now)) node }
         ensures flat { is_again (entry_at self.now.nodes result.node).node ≡ false }
         ensures below { IsPlacedBelow (length self.now.nodes) result }
     {
@@ -155,7 +155,7 @@ impl Nodes {
     pub fn settled(&self, symbol: &[u8], tree: Placed) -> Placed
         requires table { IsTable (over symbol.now self.now) }
         requires tree { IsPlacedBelow (length self.now.nodes) tree }
-        ensures tree { placed_tree (trees (over symbol.now self.now)) result ≡ placed_tree (trees (over symbol.now self.now)) tree }
+        ensures tree { tree_under (trees (over symbol.now self.now)) result ≡ tree_under (trees (over symbol.now self.now)) tree }
         ensures flat { is_again (entry_at self.now.nodes result.node).node ≡ false }
         ensures below { IsPlacedBelow (length self.now.nodes) result }
     {
@@ -174,7 +174,7 @@ impl Nodes {
     pub fn untagged(&self, symbol: &[u8], name: Placed) -> Placed
         requires table { IsTable (over symbol.now self.now) }
         requires name { IsPlacedBelow (length self.now.nodes) name }
-        ensures tree { placed_tree (trees (over symbol.now self.now)) result ≡ without_tags (placed_tree (trees (over symbol.now self.now)) name) }
+        ensures tree { tree_under (trees (over symbol.now self.now)) result ≡ without_tags (tree_under (trees (over symbol.now self.now)) name) }
         ensures below { IsPlacedBelow (length self.now.nodes) result }
     {
         let inner = self.untagged_node(symbol, name.node);
@@ -192,7 +192,7 @@ impl Nodes {
     fn untagged_node(&self, symbol: &[u8], name: u32) -> Placed
         requires table { IsTable (over symbol.now self.now) }
         requires name { name < length self.now.nodes }
-        ensures tree { placed_tree (trees (over symbol.now self.now)) result ≡ without_tags (tree_at (trees (over symbol.now self.now)) name) }
+        ensures tree { tree_under (trees (over symbol.now self.now)) result ≡ without_tags (tree_at (trees (over symbol.now self.now)) name) }
         ensures below { IsPlacedBelow (length self.now.nodes) result }
     {
         match self.entry(name).untagged {

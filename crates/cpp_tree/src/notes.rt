@@ -8,12 +8,12 @@ ghost use Rattle.cpp_tree.specs.declared.node.Node.{Node};
 ghost use Rattle.cpp_tree.specs.declared.node.Free.{Free};
 ghost use Rattle.cpp_tree.specs.declared.node.HeadFrom.{HeadFrom};
 ghost use Rattle.cpp_tree.specs.declared.node.ByArgument.{ByArgument};
-ghost use Rattle.cpp_tree.specs.declared.compact.Words.{Words};
+ghost use Rattle.cpp_tree.specs.declared.compact.TypeHead.{TypeHead};
 ghost use Rattle.cpp_tree.specs.Compact.{packs_kept, class_kept, arguments_kept, untagged_kept, returns_kept, placed_kept, free_kept, entry_of, kept, with_elements, with_head, with_arguments, with_tags, own_entry, restated_entry};
 ghost use Rattle.cpp_tree.specs.Nodes.{over, entry_at, IsBelow, IsPieceBelow, IsTable};
 ghost use Rattle.cpp_tree.specs.Notes.{itself, or_itself, by_argument_at, passed, joined, of_parameter, of_expansion, of_pack, of_cell, of_head, collapses_from, piece_by_argument, both_free, piece_frees, piece_packs, argument_packs, argument_class, shape_at, packs_by, empty_by, collapses, placed_under, is_structor_node, alone_at, noting};
 
-use crate::compact::{Compact, FreeCount, Words, bare, class, packs};
+use crate::compact::{Compact, FreeCount, TypeHead, bare, class, packs};
 use crate::heads::empty_by;
 use crate::node::{ByArgument, HeadClass, HeadFrom, Node, Piece, under_word};
 use crate::nodes::Nodes;
@@ -36,7 +36,7 @@ fn under_tags(held: Compact, name: u32) -> Pair
     ensures { placed_kept result.first result.second ≡ or_itself name (untagged_kept held.words held.first held.second) }
 {
     match held.words {
-        Words::Tagged => Pair {
+        TypeHead::Tagged => Pair {
             first: held.first,
             second: held.second,
         },
@@ -53,7 +53,7 @@ fn noted_over(
     node: Node,
     part: Compact,
     by_argument: ByArgument,
-    words: Words,
+    words: TypeHead,
     first: u32,
     second: u32,
 ) -> Compact
@@ -176,7 +176,7 @@ fn noted_over_two(
     other: Compact,
     is_empty: bool,
     by_argument: ByArgument,
-    words: Words,
+    words: TypeHead,
     first: u32,
     second: u32,
 ) -> Compact
@@ -201,7 +201,7 @@ fn noted_over_two(
 #[derive(Clone, Copy)]
 struct Given {
     packs: u32,
-    words: Words,
+    words: TypeHead,
     first: u32,
     second: u32,
 }
@@ -223,11 +223,11 @@ fn second_under(held: Compact, argument: u32) -> u32
     ensures { (n : Node) (packs : Option ℕ) (free : Free) (is_empty : Bool) (l : ByArgument) → kept n packs free is_empty l held.words held.first result ≡ own_entry n packs free is_empty l held.words held.first held.second argument }
 {
     match held.words {
-        Words::Arguments => argument + 1,
-        Words::ReturningArguments => argument + 1,
-        Words::Tagged => argument + 1,
-        Words::Elements => 0,
-        Words::ElementsWithPack => 0,
+        TypeHead::Arguments => argument + 1,
+        TypeHead::ReturningArguments => argument + 1,
+        TypeHead::Tagged => argument + 1,
+        TypeHead::Elements => 0,
+        TypeHead::ElementsWithPack => 0,
         _ => held.second,
     }
 }
@@ -296,7 +296,7 @@ impl Nodes {
         match self.node(symbol, place.node) {
             Node::Pack(elements) => Given {
                 packs: self.at(elements).entry().count + 1,
-                words: Words::OfElement,
+                words: TypeHead::OfElement,
                 first: elements,
                 second: under_word(place.under),
             },
@@ -340,14 +340,14 @@ impl Nodes {
     #[tactic(auto, unfolding(crate::specs::Notes::piece_packs, crate::specs::Notes::piece_frees, crate::specs::Notes::piece_by_argument))]
     fn noted_piece(&self, symbol: &[u8], node: Node, piece: Piece) -> Compact
         requires below { IsPieceBelow symbol.now (length self.now.nodes) piece }
-        ensures { entry_of result ≡ kept node (piece_packs self.now.nodes piece) (piece_frees self.now.nodes piece) false (piece_by_argument self.now.nodes piece) Words.Plain 0 0 }
+        ensures { entry_of result ≡ kept node (piece_packs self.now.nodes piece) (piece_frees self.now.nodes piece) false (piece_by_argument self.now.nodes piece) TypeHead.Plain 0 0 }
     {
         match piece {
-            Piece::Lambda { parameters, .. } => self.noted_type(node, parameters, Words::Plain),
-            Piece::Inheriting { base, .. } => self.noted_type(node, base, Words::Plain),
-            Piece::Conversion(ty) => self.noted_type(node, ty, Words::Plain),
-            Piece::Enumeration { ty, .. } => self.noted_type(node, ty, Words::Plain),
-            Piece::Bindings(names) => self.noted_type(node, names, Words::Plain),
+            Piece::Lambda { parameters, .. } => self.noted_type(node, parameters, TypeHead::Plain),
+            Piece::Inheriting { base, .. } => self.noted_type(node, base, TypeHead::Plain),
+            Piece::Conversion(ty) => self.noted_type(node, ty, TypeHead::Plain),
+            Piece::Enumeration { ty, .. } => self.noted_type(node, ty, TypeHead::Plain),
+            Piece::Bindings(names) => self.noted_type(node, names, TypeHead::Plain),
             _ => bare(node, false),
         }
     }
@@ -359,17 +359,17 @@ impl Nodes {
         requires prefix { prefix < length self.now.nodes }
         requires below { IsPieceBelow symbol.now (length self.now.nodes) piece }
         ensures { entry_of result ≡ kept node (first_of (entry_at self.now.nodes prefix).packs (piece_packs self.now.nodes piece)) (both_free (entry_at self.now.nodes prefix).free (piece_frees self.now.nodes piece)) false
-            (joined (by_argument_at self.now.nodes prefix) (piece_by_argument self.now.nodes piece)) Words.Plain 0 0 }
+            (joined (by_argument_at self.now.nodes prefix) (piece_by_argument self.now.nodes piece)) TypeHead.Plain 0 0 }
     {
         match piece {
             Piece::Lambda { parameters, .. } => {
-                self.noted_types(node, prefix, parameters, Words::Plain)
+                self.noted_types(node, prefix, parameters, TypeHead::Plain)
             }
-            Piece::Inheriting { base, .. } => self.noted_types(node, prefix, base, Words::Plain),
-            Piece::Conversion(ty) => self.noted_types(node, prefix, ty, Words::Plain),
-            Piece::Enumeration { ty, .. } => self.noted_types(node, prefix, ty, Words::Plain),
-            Piece::Bindings(names) => self.noted_types(node, prefix, names, Words::Plain),
-            _ => self.noted_type(node, prefix, Words::Plain),
+            Piece::Inheriting { base, .. } => self.noted_types(node, prefix, base, TypeHead::Plain),
+            Piece::Conversion(ty) => self.noted_types(node, prefix, ty, TypeHead::Plain),
+            Piece::Enumeration { ty, .. } => self.noted_types(node, prefix, ty, TypeHead::Plain),
+            Piece::Bindings(names) => self.noted_types(node, prefix, names, TypeHead::Plain),
+            _ => self.noted_type(node, prefix, TypeHead::Plain),
         }
     }
 
@@ -421,7 +421,7 @@ impl Nodes {
     #[inline(always)]
     fn noted_expansion(&self, node: Node, pattern: u32) -> Compact
         requires pattern { pattern < length self.now.nodes }
-        ensures { entry_of result ≡ kept node None (entry_at self.now.nodes pattern).free (heads.is_none_of (entry_at self.now.nodes pattern).packs) (of_expansion (by_argument_at self.now.nodes pattern)) Words.Plain 0 0 }
+        ensures { entry_of result ≡ kept node None (entry_at self.now.nodes pattern).free (heads.is_none_of (entry_at self.now.nodes pattern).packs) (of_expansion (by_argument_at self.now.nodes pattern)) TypeHead.Plain 0 0 }
     {
         let held = self.at(pattern);
         Compact {
@@ -432,7 +432,7 @@ impl Nodes {
             number: held.number,
             free: held.free,
             is_empty: has_no_elements(held.packs),
-            words: Words::Plain,
+            words: TypeHead::Plain,
             by_argument: ByArgument {
                 is_bare: false,
                 head: HeadFrom::Own,
@@ -446,7 +446,7 @@ impl Nodes {
     #[inline(always)]
     fn noted_pack(&self, node: Node, elements: u32) -> Compact
         requires elements { elements < length self.now.nodes }
-        ensures { entry_of result ≡ kept node (entry_at self.now.nodes elements).packs (entry_at self.now.nodes elements).free (entry_at self.now.nodes elements).is_empty (of_pack (by_argument_at self.now.nodes elements)) Words.Plain 0 0 }
+        ensures { entry_of result ≡ kept node (entry_at self.now.nodes elements).packs (entry_at self.now.nodes elements).free (entry_at self.now.nodes elements).is_empty (of_pack (by_argument_at self.now.nodes elements)) TypeHead.Plain 0 0 }
     {
         let held = self.at(elements);
         Compact {
@@ -457,7 +457,7 @@ impl Nodes {
             number: held.number,
             free: held.free,
             is_empty: held.is_empty,
-            words: Words::Plain,
+            words: TypeHead::Plain,
             by_argument: ByArgument {
                 is_bare: held.by_argument.is_bare,
                 head: HeadFrom::Own,
@@ -525,7 +525,7 @@ impl Nodes {
 
     /// A node over a type, recorded by these words.
     #[inline(always)]
-    fn noted_type(&self, node: Node, ty: u32, words: Words) -> Compact
+    fn noted_type(&self, node: Node, ty: u32, words: TypeHead) -> Compact
         requires { ty < length self.now.nodes }
         ensures { entry_of result ≡ kept node (entry_at self.now.nodes ty).packs (entry_at self.now.nodes ty).free false (passed (by_argument_at self.now.nodes ty)) words 0 0 }
     {
@@ -535,7 +535,7 @@ impl Nodes {
 
     /// A node over two types, recorded by these words.
     #[inline(always)]
-    fn noted_types(&self, node: Node, one: u32, other: u32, words: Words) -> Compact
+    fn noted_types(&self, node: Node, one: u32, other: u32, words: TypeHead) -> Compact
         requires one { one < length self.now.nodes }
         requires other { other < length self.now.nodes }
         ensures { entry_of result ≡ kept node (first_of (entry_at self.now.nodes one).packs (entry_at self.now.nodes other).packs) (both_free (entry_at self.now.nodes one).free (entry_at self.now.nodes other).free) false (joined (by_argument_at self.now.nodes one) (by_argument_at self.now.nodes other)) words 0 0 }
@@ -619,7 +619,7 @@ impl Nodes {
             node,
             held,
             passed(held.by_argument),
-            Words::Tagged,
+            TypeHead::Tagged,
             under.first,
             under.second,
         )
@@ -668,36 +668,38 @@ impl Nodes {
                 arguments,
             } => self.noted_instance(symbol, node, template, arguments),
             Node::Local { entity, .. } => self.noted_local(node, entity),
-            Node::Holder(name) => self.noted_type(node, name, Words::Plain),
+            Node::Holder(name) => self.noted_type(node, name, TypeHead::Plain),
             Node::Tagged { name, .. } => self.noted_tagged(node, name),
             Node::OfDefault { entity, .. } => self.noted_local(node, entity),
             Node::Parameter { number, argument } => {
                 self.noted_parameter(symbol, node, number, argument)
             }
-            Node::Constrained { concept, .. } => self.noted_type(node, concept, Words::Plain),
-            Node::Pointer(ty) => self.noted_type(node, ty, Words::Plain),
-            Node::Lvalue(ty) => self.noted_type(node, ty, Words::Lvalue),
+            Node::Constrained { concept, .. } => self.noted_type(node, concept, TypeHead::Plain),
+            Node::Pointer(ty) => self.noted_type(node, ty, TypeHead::Plain),
+            Node::Lvalue(ty) => self.noted_type(node, ty, TypeHead::Lvalue),
             Node::Rvalue(ty) => self.noted_rvalue(node, ty),
-            Node::Array { element, .. } => self.noted_type(node, element, Words::FunctionOrArray),
+            Node::Array { element, .. } => {
+                self.noted_type(node, element, TypeHead::FunctionOrArray)
+            }
             Node::Bounded { bound, element } => {
-                self.noted_types(node, bound, element, Words::FunctionOrArray)
+                self.noted_types(node, bound, element, TypeHead::FunctionOrArray)
             }
             Node::MemberPointer { class, member } => {
-                self.noted_types(node, class, member, Words::Plain)
+                self.noted_types(node, class, member, TypeHead::Plain)
             }
             Node::FunctionType {
                 returned,
                 parameters,
                 ..
-            } => self.noted_types(node, returned, parameters, Words::FunctionOrArray),
+            } => self.noted_types(node, returned, parameters, TypeHead::FunctionOrArray),
             Node::Qualified { ty, .. } => self.noted_qualified(node, ty),
-            Node::Vector { element, .. } => self.noted_type(node, element, Words::Plain),
-            Node::Complex(ty) => self.noted_type(node, ty, Words::Plain),
-            Node::Decltype(expression) => self.noted_type(node, expression, Words::Plain),
+            Node::Vector { element, .. } => self.noted_type(node, element, TypeHead::Plain),
+            Node::Complex(ty) => self.noted_type(node, ty, TypeHead::Plain),
+            Node::Decltype(expression) => self.noted_type(node, expression, TypeHead::Plain),
             Node::Expansion(pattern) => self.noted_expansion(node, pattern),
-            Node::Integer { ty, .. } => self.noted_type(node, ty, Words::Plain),
+            Node::Integer { ty, .. } => self.noted_type(node, ty, TypeHead::Plain),
             Node::Operation { left, right, .. } => {
-                self.noted_types(node, left, right, Words::Plain)
+                self.noted_types(node, left, right, TypeHead::Plain)
             }
             Node::Pack(elements) => self.noted_pack(node, elements),
             Node::Cell { first, rest } => self.noted_cell(symbol, node, first, rest),

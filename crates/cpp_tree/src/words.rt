@@ -8,7 +8,7 @@ ghost use Rattle.cpp_tree.specs.declared.node.ByArgument.{ByArgument};
 ghost use Rattle.cpp_tree.specs.Compact.{class_kept, arguments_kept, returns_kept, kept, with_elements, with_head, with_arguments};
 ghost use Rattle.cpp_tree.specs.Notes.{itself, passed, joined, of_cell, of_head, collapses_from, collapses, is_structor_node};
 
-use crate::compact::Words;
+use crate::compact::TypeHead;
 use crate::node::{ByArgument, HeadFrom, Node};
 
 /// What another argument changes of a tree over one: its packs.
@@ -80,29 +80,29 @@ pub(crate) fn collapsed_from(head: HeadFrom) -> HeadFrom
 /// What two words record of a reference to an rvalue of a type.
 #[inline(always)]
 #[tactic(auto, unfolding(crate::specs::Compact::class_kept, crate::specs::Compact::arguments_kept, crate::specs::Compact::untagged_kept, crate::specs::Compact::returns_kept, crate::specs::Compact::count_kept, crate::specs::Compact::run_kept, crate::specs::Compact::has_pack_kept, crate::specs::Notes::collapses))]
-pub(crate) fn collapsed(words: Words) -> Words
+pub(crate) fn collapsed(words: TypeHead) -> TypeHead
     ensures { (n : Node) (packs : Option ℕ) (free : Free) (is_empty : Bool) (l : ByArgument) (first second : ℕ) → kept n packs free is_empty l result first second ≡ with_head n packs free is_empty l (collapses (class_kept words first second)) }
 {
     match words {
-        Words::Lvalue => Words::Lvalue,
-        Words::OfElement => Words::CollapsedOfElement,
-        Words::CollapsedOfElement => Words::CollapsedOfElement,
-        _ => Words::Rvalue,
+        TypeHead::Lvalue => TypeHead::Lvalue,
+        TypeHead::OfElement => TypeHead::CollapsedOfElement,
+        TypeHead::CollapsedOfElement => TypeHead::CollapsedOfElement,
+        _ => TypeHead::Rvalue,
     }
 }
 
 /// What two words record of a type with the head of a type.
 #[inline(always)]
 #[tactic(auto, unfolding(crate::specs::Compact::class_kept, crate::specs::Compact::arguments_kept, crate::specs::Compact::untagged_kept, crate::specs::Compact::returns_kept, crate::specs::Compact::count_kept, crate::specs::Compact::run_kept, crate::specs::Compact::has_pack_kept))]
-pub(crate) fn of_type(words: Words) -> Words
+pub(crate) fn of_type(words: TypeHead) -> TypeHead
     ensures { (n : Node) (packs : Option ℕ) (free : Free) (is_empty : Bool) (l : ByArgument) (first second : ℕ) → kept n packs free is_empty l result first second ≡ with_head n packs free is_empty l (class_kept words first second) }
 {
     match words {
-        Words::Arguments => Words::Plain,
-        Words::ReturningArguments => Words::Plain,
-        Words::Tagged => Words::Plain,
-        Words::Elements => Words::Plain,
-        Words::ElementsWithPack => Words::Plain,
+        TypeHead::Arguments => TypeHead::Plain,
+        TypeHead::ReturningArguments => TypeHead::Plain,
+        TypeHead::Tagged => TypeHead::Plain,
+        TypeHead::Elements => TypeHead::Plain,
+        TypeHead::ElementsWithPack => TypeHead::Plain,
         _ => words,
     }
 }
@@ -110,38 +110,38 @@ pub(crate) fn of_type(words: Words) -> Words
 /// What two words record of a name that ends in a name.
 #[inline(always)]
 #[tactic(auto, unfolding(crate::specs::Compact::class_kept, crate::specs::Compact::arguments_kept, crate::specs::Compact::untagged_kept, crate::specs::Compact::returns_kept, crate::specs::Compact::count_kept, crate::specs::Compact::run_kept, crate::specs::Compact::has_pack_kept))]
-pub(crate) fn of_name(words: Words) -> Words
+pub(crate) fn of_name(words: TypeHead) -> TypeHead
     ensures { (n : Node) (packs : Option ℕ) (free : Free) (l : ByArgument) (first second : ℕ) → kept n packs free false l result first second ≡ with_arguments n packs free l (arguments_kept words first second) (returns_kept words) }
 {
     match words {
-        Words::Arguments => Words::Arguments,
-        Words::ReturningArguments => Words::ReturningArguments,
-        _ => Words::Plain,
+        TypeHead::Arguments => TypeHead::Arguments,
+        TypeHead::ReturningArguments => TypeHead::ReturningArguments,
+        _ => TypeHead::Plain,
     }
 }
 
 /// What two words record of an instance of a template.
 #[inline(always)]
 #[tactic(auto, unfolding(crate::specs::Nodes::under_kept, crate::specs::Compact::class_kept, crate::specs::Compact::arguments_kept, crate::specs::Compact::untagged_kept, crate::specs::Compact::returns_kept, crate::specs::Compact::count_kept, crate::specs::Compact::run_kept, crate::specs::Compact::has_pack_kept))]
-pub(crate) fn of_instance(template: Node) -> Words
+pub(crate) fn of_instance(template: Node) -> TypeHead
     ensures { (n : Node) (packs : Option ℕ) (free : Free) (l : ByArgument) (first : ℕ) → kept n packs free false l result first 0 ≡ with_arguments n packs free l (Some (itself first)) (not (is_structor_node template)) }
 {
     if template.is_structor() {
-        Words::Arguments
+        TypeHead::Arguments
     } else {
-        Words::ReturningArguments
+        TypeHead::ReturningArguments
     }
 }
 
 /// What two words record of the elements of a list, by whether a pack is among them.
 #[inline(always)]
 #[tactic(auto, unfolding(crate::specs::Compact::class_kept, crate::specs::Compact::arguments_kept, crate::specs::Compact::untagged_kept, crate::specs::Compact::returns_kept, crate::specs::Compact::count_kept, crate::specs::Compact::run_kept, crate::specs::Compact::has_pack_kept))]
-pub(crate) fn of_elements(has_pack: bool) -> Words
+pub(crate) fn of_elements(has_pack: bool) -> TypeHead
     ensures { (n : Node) (packs : Option ℕ) (free : Free) (is_empty : Bool) (l : ByArgument) (first second : ℕ) → kept n packs free is_empty l result first second ≡ with_elements n packs free is_empty l first second has_pack }
 {
     if has_pack {
-        Words::ElementsWithPack
+        TypeHead::ElementsWithPack
     } else {
-        Words::Elements
+        TypeHead::Elements
     }
 }

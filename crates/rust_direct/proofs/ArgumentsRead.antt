@@ -21,7 +21,7 @@ use Rattle.rust_direct.specs.Prints.{PathPrints, TypePrints, opening, closing}
 use Rattle.rust_direct.specs.PrintsInForm.{PathHas, Holds, has_form, is_type, form_of, is_path}
 use Rattle.rust_direct.specs.Written.{Writes, Pushes}
 use Rattle.rust_direct.specs.WriterInvariant.{Stands, IsWriting, Keeps, parked_of, separator_of}
-use Rattle.rust_direct.specs.Awaits.{Awaits, AwaitsPath, AwaitsArgument, Arrives, IsEnded}
+use Rattle.rust_direct.specs.Awaits.{Awaits, AwaitsPath, AwaitsArgument, Receives, IsEnded}
 use Rattle.rust_direct.proofs.Kept.{keeps-same, keeps-written, reverse-last}
 use Rattle.rust_direct.proofs.Moves.{expects-moved}
 use Rattle.rust_direct.proofs.MovesOfArguments.{generic_awaits, generic-opens, generic-goes-on, type_awaits, argument-opens, argument-goes-on, lifetime-goes-on, arguments-close}
@@ -71,7 +71,7 @@ turned old new entry p = ap reverse p.waiting ∙ reverse-last old.waiting.list.
 
 -- the path that arguments belong to is read
 pub generic-read : (brief : Bool) (s : List ℕ) (old middle new : Direct) (is_value : Bool) (place from : ℕ) (f : Forms)
-    → Arrives brief s old (opens.Generic is_value place) from f → has_form is_value f ≡ true → Writes old middle (opening brief is_value)
+    → Receives brief s old (opens.Generic is_value place) from f → has_form is_value f ≡ true → Writes old middle (opening brief is_value)
     → Pushes middle new (opens.Argument place from is_value) → IsWriting brief s new (steps.Arguments true)
 generic-read brief s old middle new is_value place from f arrives is writes pushes =
     let r = arrives.read in
@@ -202,7 +202,7 @@ joined front own opened bytes separator more =
 
 -- a type is read among arguments
 pub argument-read : (brief : Bool) (s : List ℕ) (old new : Direct) (place from here : ℕ) (is_value : Bool) (f : Forms)
-    → Arrives brief s old (opens.Argument place from is_value) here f → is_type f ≡ true → Pushes old new (opens.Argument place from is_value)
+    → Receives brief s old (opens.Argument place from is_value) here f → is_type f ≡ true → Pushes old new (opens.Argument place from is_value)
     → IsWriting brief s new (steps.Arguments false)
 argument-read brief s old new place from here is_value f arrives is pushes =
     let r = arrives.read in

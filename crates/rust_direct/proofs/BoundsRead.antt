@@ -15,7 +15,7 @@ use Rattle.rust_direct.specs.Holes.{Comes, Ends, within, path}
 use Rattle.rust_direct.specs.PrintsInForm.{Holds, has_form}
 use Rattle.rust_direct.specs.Written.{Writes, Pushes, Opens}
 use Rattle.rust_direct.specs.WriterInvariant.{Stands, IsWriting, parked_of}
-use Rattle.rust_direct.specs.Awaits.{Awaits, Arrives, IsEnded}
+use Rattle.rust_direct.specs.Awaits.{Awaits, Receives, IsEnded}
 use Rattle.rust_direct.proofs.Kept.{keeps-written}
 use Rattle.rust_direct.proofs.Moves.{expects-moved}
 use Rattle.rust_direct.proofs.MovesOfBounds.{bound_awaits, dyn-opens, bound-opens, bound-goes-on, bounds-close}
@@ -67,7 +67,7 @@ joined front bytes separator own =
 
 -- a bound is read, and another one is expected
 pub bound-read : (brief : Bool) (s : List ℕ) (old middle new : Direct) (place from here : ℕ) (f : Forms)
-    → Arrives brief s old (opens.Dyn place from) here f → has_form false f ≡ true → Writes old middle (codes " + ")
+    → Receives brief s old (opens.Dyn place from) here f → has_form false f ≡ true → Writes old middle (codes " + ")
     → Pushes middle new (opens.Dyn place from) → IsWriting brief s new (steps.Path false)
 bound-read brief s old middle new place from here f arrives is writes pushes =
     let r = arrives.read in
@@ -106,7 +106,7 @@ bound-read brief s old middle new place from here f arrives is writes pushes =
     }
 
 -- the E of a `dyn` is read, and then its lifetime
-pub dyn-read : (brief : Bool) (s : List ℕ) (old : Direct) (place from here end : ℕ) (f : Forms) → Arrives brief s old (opens.Dyn place from) here f
+pub dyn-read : (brief : Bool) (s : List ℕ) (old : Direct) (place from here end : ℕ) (f : Forms) → Receives brief s old (opens.Dyn place from) here f
     → StandsAt s old.at (69 ∷ []) → StandsAt s (old.at + 1) (76 ∷ []) → StandsAt s (old.at + 1 + 1) (95 ∷ []) → has_form false f ≡ true
     → end ≡ old.at + 1 + 1 + 1 → IsEnded brief s (record old { at = end }) place from forms.Typed forms.Typed
 dyn-read brief s old place from here end f arrives letter lifetime digits is end_is =

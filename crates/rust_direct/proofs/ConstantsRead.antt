@@ -16,7 +16,7 @@ use Rattle.rust_direct.specs.PrintsInForm.{Holds, is_type}
 use Rattle.rust_direct.specs.Written.{Writes, Notes, Pushes}
 use Rattle.rust_direct.specs.Constants.{sign_text, IsHexAt, IsConstantAt, BeginsInteger, WritesConstant}
 use Rattle.rust_direct.specs.WriterInvariant.{Stands, IsWriting, parked_of, separator_of}
-use Rattle.rust_direct.specs.Awaits.{Awaits, AwaitsArgument, Arrives, IsEnded}
+use Rattle.rust_direct.specs.Awaits.{Awaits, AwaitsArgument, Receives, IsEnded}
 use Rattle.rust_direct.proofs.Kept.{keeps-written, keeps-noted}
 use Rattle.rust_direct.proofs.Moves.{expects-moved}
 use Rattle.rust_direct.proofs.MovesOfConstants.{false-comes, true-comes, placeholder-comes, constant-goes-on, array-opens}
@@ -129,7 +129,7 @@ arrayed front mark bytes middle own closing =
     ∙ append_assoc front (mark ++ bytes ++ middle) own) ∙ append_assoc front (mark ++ bytes ++ middle ++ own) closing
 
 -- the size of an array is read
-pub array-read : (brief : Bool) (s : List ℕ) (old one two three four : Direct) (place from here begins end : ℕ) (f : Forms) → Arrives brief s old (opens.Array place from) here f
+pub array-read : (brief : Bool) (s : List ℕ) (old one two three four : Direct) (place from here begins end : ℕ) (f : Forms) → Receives brief s old (opens.Array place from) here f
     → is_type f ≡ true → Writes old one (codes "; ") → begins ≡ length one.text.list.items → WritesConstant s one two old.at end
     → Notes two three old.at begins forms.Unnamed → Writes (record three { at = end }) four (codes "]")
     → IsEnded brief s four place from forms.Typed forms.Typed

@@ -13,7 +13,7 @@ use Rattle.rust_direct.specs.Holes.{Comes, within, path, type, Ends, IsDisambigu
 use Rattle.rust_direct.specs.PrintsInForm.{Holds, is_type, is_path}
 use Rattle.rust_direct.specs.Written.{Writes, Pushes}
 use Rattle.rust_direct.specs.WriterInvariant.{Stands, IsWriting, parked_of}
-use Rattle.rust_direct.specs.Awaits.{AwaitsPath, AwaitsImplType, Arrives, IsEnded}
+use Rattle.rust_direct.specs.Awaits.{AwaitsPath, AwaitsImplType, Receives, IsEnded}
 use Rattle.rust_direct.proofs.Kept.{keeps-written, keeps-turned}
 use Rattle.rust_direct.proofs.MovesOfTypes.{impl-opens}
 use Rattle.rust_direct.proofs.PrintedPaths.{impl-prints}
@@ -54,7 +54,7 @@ impl-begun brief s old new count end plain awaits letter counted shown waiting r
     }
 
 -- the path of an impl is read
-pub impl-path-read : (brief : Bool) (s : List ℕ) (old shown : Direct) (place here : ℕ) (f : Forms) → Arrives brief s old (opens.Impl place) here f → is_path f ≡ true
+pub impl-path-read : (brief : Bool) (s : List ℕ) (old shown : Direct) (place here : ℕ) (f : Forms) → Receives brief s old (opens.Impl place) here f → is_path f ≡ true
     → old.is_aside ≡ true → shown.text ≡ old.aside → shown.aside ≡ old.text → shown.is_aside ≡ not old.is_aside → shown.notes ≡ old.notes
     → shown.numbers ≡ old.numbers → shown.waiting ≡ old.waiting → shown.at ≡ old.at → AwaitsImplType brief s shown place
 impl-path-read brief s old shown place here f arrives is hidden text aside is_aside notes numbers waiting at =
@@ -107,7 +107,7 @@ impl-typed brief s old middle new place from a from_is writes pushes =
     }
 
 -- the type of an impl is read
-pub angle-read : (brief : Bool) (s : List ℕ) (old middle : Direct) (place from here : ℕ) (f : Forms) → Arrives brief s old (opens.Wrap place from closings.Angle) here f
+pub angle-read : (brief : Bool) (s : List ℕ) (old middle : Direct) (place from here : ℕ) (f : Forms) → Receives brief s old (opens.Wrap place from closings.Angle) here f
     → is_type f ≡ true → Writes old middle (codes ">") → IsEnded brief s middle place from forms.Alike forms.Alike
 angle-read brief s old middle place from here f arrives is writes =
     let r = arrives.read in

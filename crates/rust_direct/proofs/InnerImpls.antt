@@ -11,7 +11,7 @@ use Rattle.rust_direct.specs.Holes.{Opened, Comes, within, path, IsDisambiguator
 use Rattle.rust_direct.specs.PrintsInForm.{is_path}
 use Rattle.rust_direct.specs.Written.{Opens}
 use Rattle.rust_direct.specs.WriterInvariant.{Stands, IsWriting, IsUnbegun, parked_of}
-use Rattle.rust_direct.specs.Awaits.{AwaitsPath, AwaitsImplType, AwaitsTraitType, Arrives}
+use Rattle.rust_direct.specs.Awaits.{AwaitsPath, AwaitsImplType, AwaitsTraitType, Receives}
 use Rattle.rust_direct.proofs.Again.{path-needs}
 use Rattle.rust_direct.proofs.MovesOfTypes.{impl-opens, trait-opens}
 use Rattle.rust_direct.proofs.Opened.{keeps-opened, stands-opened}
@@ -59,7 +59,7 @@ inner-impl-begun brief s old new count end plain awaits letter counted unbegun o
     }
 
 -- the path of an impl is read
-pub inner-impl-path-read : (brief : Bool) (s : List ℕ) (w : Direct) (place here : ℕ) (f : Forms) → Arrives brief s w (opens.InnerImpl place) here f → is_path f ≡ true
+pub inner-impl-path-read : (brief : Bool) (s : List ℕ) (w : Direct) (place here : ℕ) (f : Forms) → Receives brief s w (opens.InnerImpl place) here f → is_path f ≡ true
     → AwaitsImplType brief s w place
 inner-impl-path-read brief s w place here f arrives is =
     let r = arrives.read in
@@ -105,7 +105,7 @@ inner-trait-begun brief s old new count end plain awaits letter counted unbegun 
     }
 
 -- the path of an impl of a trait is read
-pub inner-trait-path-read : (brief : Bool) (s : List ℕ) (w : Direct) (place here : ℕ) (f : Forms) → Arrives brief s w (opens.InnerTraitImpl place) here f
+pub inner-trait-path-read : (brief : Bool) (s : List ℕ) (w : Direct) (place here : ℕ) (f : Forms) → Receives brief s w (opens.InnerTraitImpl place) here f
     → is_path f ≡ true → AwaitsTraitType brief s w place
 inner-trait-path-read brief s w place here f arrives is =
     let r = arrives.read in

@@ -18,7 +18,7 @@ use Rattle.rust_direct.specs.Prints.{PathPrints}
 use Rattle.rust_direct.specs.PrintsInForm.{PathHas, HaveRoom, Says, Holds, has_form, is_path}
 use Rattle.rust_direct.specs.Written.{Writes, Notes}
 use Rattle.rust_direct.specs.WriterInvariant.{Stands, IsWriting, parked_of}
-use Rattle.rust_direct.specs.Awaits.{Awaits, AwaitsPath, Arrives, IsEnded, IsEndedWithRoom}
+use Rattle.rust_direct.specs.Awaits.{Awaits, AwaitsPath, Receives, IsEnded, IsEndedWithRoom}
 use Rattle.rust_direct.proofs.Kept.{keeps-same, keeps-written, keeps-noted, reverse-last}
 use Rattle.rust_direct.proofs.Moves.{expects-moved, identifier-comes, crate-comes, nest_awaits, nest-opens, nest-goes-on}
 use Rattle.sym_direct.specs.Marked.{IsUnmarked}
@@ -68,8 +68,8 @@ stands-written brief s old new bytes os text writes h =
     (subst (λ a. Stands brief s (reverse old.waiting.list.items) os text (cond old.is_aside a.list.items [])) (sym writes.aside) h))
 
 -- the waiting entry is this
-pub waited-for : (brief : Bool) (s : List ℕ) (w : Direct) (entry known : Open) (from : ℕ) (f : Forms) → entry ≡ known → Arrives brief s w entry from f → Arrives brief s w known from f
-waited-for brief s w entry known from f is = subst (λ e. Arrives brief s w e from f) is
+pub waited-for : (brief : Bool) (s : List ℕ) (w : Direct) (entry known : Open) (from : ℕ) (f : Forms) → entry ≡ known → Receives brief s w entry from f → Receives brief s w known from f
+waited-for brief s w entry known from f is = subst (λ e. Receives brief s w e from f) is
 
 -- an entry waits from here on
 pub waits-too : (brief : Bool) (s : List ℕ) (old new : List Open) (entry : Open) (os : List Opened) (text parked : List ℕ) → new ≡ old ++ entry ∷ []
@@ -170,7 +170,7 @@ nested-rooms brief forms.Unnamed letter p bytes count name is lower filled h = a
 
 -- its name is read
 pub nest-named : (brief : Bool) (s : List ℕ) (old middle last : Direct) (letter place from : ℕ) (f : Forms) (count behind_ : ℕ) (name : List ℕ) (end : ℕ)
-    → Arrives brief s old (opens.Nest letter place) from f → is_path f ≡ true → 97 ≤ letter → IsDisambiguatorAt s old.at count behind_
+    → Receives brief s old (opens.Nest letter place) from f → is_path f ≡ true → 97 ≤ letter → IsDisambiguatorAt s old.at count behind_
     → IsNameAt s behind_ name end → 1 ≤ length name → Writes old middle (codes "::") → Writes middle last name
     → IsEndedWithRoom brief s (record last { at = end }) place from f
 nest-named brief s old middle last letter place from f count behind_ name end arrives is lower counted named filled first second =

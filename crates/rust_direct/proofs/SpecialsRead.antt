@@ -14,7 +14,7 @@ use Rattle.rust_direct.specs.Holes.{Comes, within, behind, IsNameAt, IsDisambigu
 use Rattle.rust_direct.specs.PrintsInForm.{PathHas, is_path}
 use Rattle.rust_direct.specs.Written.{Writes}
 use Rattle.rust_direct.specs.Specials.{behind_colon, special_text}
-use Rattle.rust_direct.specs.Awaits.{Arrives, IsEnded}
+use Rattle.rust_direct.specs.Awaits.{Receives, IsEnded}
 use Rattle.rust_direct.proofs.Kept.{keeps-written}
 use Rattle.rust_direct.proofs.Moves.{identifier-comes}
 use Rattle.rust_direct.proofs.PathsRead.{path-held, path-says, stands-written}
@@ -62,7 +62,7 @@ special-has brief forms.Unnamed letter p bytes count name is upper plain h = abs
 
 -- the name and the number of a closure or a shim are read
 pub special-read : (brief : Bool) (s : List ℕ) (old middle : Direct) (letter place from : ℕ) (f : Forms) (count behind_ : ℕ) (name namespace : List ℕ) (end : ℕ)
-    → Arrives brief s old (opens.Nest letter place) from f → is_path f ≡ true → nat_le 97 letter ≡ false → 65 ≤ letter → IsDisambiguatorAt s old.at count behind_
+    → Receives brief s old (opens.Nest letter place) from f → is_path f ≡ true → nat_le 97 letter ≡ false → 65 ≤ letter → IsDisambiguatorAt s old.at count behind_
     → IsNameAt s behind_ name end → namespace ≡ namespace_text letter → Writes old middle (special_text namespace name count)
     → IsEnded brief s (record middle { at = end }) place from f f
 special-read brief s old middle letter place from f count behind_ name namespace end arrives is upper above counted named named_so wrote =

@@ -24,7 +24,7 @@ use Rattle.rust_direct.specs.Prints.{detail_by, IsWrittenAs, PathPrints}
 use Rattle.rust_direct.specs.PrintsInForm.{has_form, is_path}
 use Rattle.rust_direct.specs.Written.{Writes}
 use Rattle.rust_direct.specs.WriterInvariant.{Stands, IsWriting, IsWhole, IsShown, HasRooms, parked_of}
-use Rattle.rust_direct.specs.Awaits.{IsFresh, Arrives, IsSymbolEnded}
+use Rattle.rust_direct.specs.Awaits.{IsFresh, Receives, IsSymbolEnded}
 use Rattle.rust_direct.proofs.Kept.{keeps-written, keeps-turned, none-noted}
 use Rattle.rust_direct.proofs.WrittenTexts.{written-before, text-seen, suffix-unmarked}
 use Rattle.rust_direct.proofs.MovesOfSymbols.{symbol-starts}
@@ -99,7 +99,7 @@ symbol-begun brief s old w n starts fresh text aside shown notes numbers few wai
 -- ## The paths of a symbol
 
 -- the path is read, and the symbol may end
-pub path-ended : (brief : Bool) (s : List ℕ) (w : Direct) (from : ℕ) (f : Forms) → Arrives brief s w opens.Symbol from f → has_form true f ≡ true → IsSymbolEnded brief s w
+pub path-ended : (brief : Bool) (s : List ℕ) (w : Direct) (from : ℕ) (f : Forms) → Receives brief s w opens.Symbol from f → has_form true f ≡ true → IsSymbolEnded brief s w
 path-ended brief s w from f arrives is =
     let r = arrives.read in
     let held = form-held brief true f r.v r.bytes is r.holds in
@@ -113,7 +113,7 @@ path-ended brief s w from f arrives is =
     }
 
 -- the path of the instantiating crate is expected
-pub other-begun : (brief : Bool) (s : List ℕ) (old new : Direct) (from : ℕ) (f : Forms) (is_value : Bool) → Arrives brief s old opens.Symbol from f → has_form true f ≡ true
+pub other-begun : (brief : Bool) (s : List ℕ) (old new : Direct) (from : ℕ) (f : Forms) (is_value : Bool) → Receives brief s old opens.Symbol from f → has_form true f ≡ true
     → old.is_aside ≡ false → new.waiting.list.items ≡ old.waiting.list.items ++ opens.Other ∷ [] → new.waiting.room ≡ old.waiting.room → new.text ≡ old.aside → new.aside ≡ old.text
     → new.is_aside ≡ not old.is_aside → new.notes ≡ old.notes → new.numbers ≡ old.numbers → new.at ≡ old.at → IsWriting brief s new (steps.Path is_value)
 other-begun brief s old new from f is_value arrives is shown waiting room text aside is_aside notes numbers at =
@@ -141,7 +141,7 @@ other-begun brief s old new from f is_value arrives is shown waiting room text a
     }
 
 -- the path of the instantiating crate is read, and the symbol may end
-pub other-read : (brief : Bool) (s : List ℕ) (old new : Direct) (from : ℕ) (f : Forms) → Arrives brief s old opens.Other from f → is_path f ≡ true
+pub other-read : (brief : Bool) (s : List ℕ) (old new : Direct) (from : ℕ) (f : Forms) → Receives brief s old opens.Other from f → is_path f ≡ true
     → old.is_aside ≡ true → new.text ≡ old.aside → new.aside ≡ old.text
     → new.is_aside ≡ not old.is_aside → new.notes ≡ old.notes → new.numbers ≡ old.numbers → new.waiting ≡ old.waiting → new.at ≡ old.at
     → IsSymbolEnded brief s new

@@ -12,7 +12,7 @@ use Rattle.rust_direct.specs.Holes.{Comes, within, path, type, IsDisambiguatorAt
 use Rattle.rust_direct.specs.PrintsInForm.{PathHas, is_type, is_path, has_form}
 use Rattle.rust_direct.specs.Written.{Writes, Pushes, Opens}
 use Rattle.rust_direct.specs.WriterInvariant.{Stands, IsWriting, parked_of}
-use Rattle.rust_direct.specs.Awaits.{AwaitsPath, AwaitsTraitType, Arrives, IsEnded}
+use Rattle.rust_direct.specs.Awaits.{AwaitsPath, AwaitsTraitType, Receives, IsEnded}
 use Rattle.rust_direct.proofs.Kept.{keeps-written, keeps-turned}
 use Rattle.rust_direct.proofs.MovesOfTypes.{trait-opens, definition-opens}
 use Rattle.rust_direct.proofs.PrintedPaths.{trait-prints, definition-prints}
@@ -55,7 +55,7 @@ trait-begun brief s old new count end plain awaits letter counted shown waiting 
     }
 
 -- the path of an impl of a trait is read
-pub trait-path-read : (brief : Bool) (s : List ℕ) (old shown : Direct) (place here : ℕ) (f : Forms) → Arrives brief s old (opens.TraitImpl place) here f
+pub trait-path-read : (brief : Bool) (s : List ℕ) (old shown : Direct) (place here : ℕ) (f : Forms) → Receives brief s old (opens.TraitImpl place) here f
     → is_path f ≡ true → old.is_aside ≡ true → shown.text ≡ old.aside → shown.aside ≡ old.text → shown.is_aside ≡ not old.is_aside
     → shown.notes ≡ old.notes → shown.numbers ≡ old.numbers → shown.waiting ≡ old.waiting → shown.at ≡ old.at → AwaitsTraitType brief s shown place
 trait-path-read brief s old shown place here f arrives is hidden text aside is_aside notes numbers waiting at =
@@ -137,7 +137,7 @@ definition-begun brief s old new from behind awaits letter next from_is opened =
 
 -- the type that implements a trait is read, and the trait is expected
 pub implementing-read : (brief : Bool) (s : List ℕ) (old middle new : Direct) (place from here : ℕ) (f : Forms) (plain : Bool)
-    → Arrives brief s old (opens.Implementing place from) here f → is_type f ≡ true → Writes old middle (codes " as ")
+    → Receives brief s old (opens.Implementing place from) here f → is_type f ≡ true → Writes old middle (codes " as ")
     → Pushes middle new (opens.Implemented place from) → IsWriting brief s new (steps.Path plain)
 implementing-read brief s old middle new place from here f plain arrives is writes pushes =
     let r = arrives.read in
@@ -171,7 +171,7 @@ implementing-read brief s old middle new place from here f plain arrives is writ
     }
 
 -- the trait that a type implements is read
-pub implemented-read : (brief : Bool) (s : List ℕ) (old middle : Direct) (place from here : ℕ) (f : Forms) → Arrives brief s old (opens.Implemented place from) here f
+pub implemented-read : (brief : Bool) (s : List ℕ) (old middle : Direct) (place from here : ℕ) (f : Forms) → Receives brief s old (opens.Implemented place from) here f
     → has_form false f ≡ true → Writes old middle (codes ">") → IsEnded brief s middle place from forms.Alike forms.Alike
 implemented-read brief s old middle place from here f arrives is writes =
     let r = arrives.read in

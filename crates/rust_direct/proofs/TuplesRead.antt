@@ -14,7 +14,7 @@ use Rattle.rust_direct.specs.Prints.{TypePrints}
 use Rattle.rust_direct.specs.PrintsInForm.{Holds, is_type}
 use Rattle.rust_direct.specs.Written.{Writes, Pushes, Opens}
 use Rattle.rust_direct.specs.WriterInvariant.{Stands, IsWriting, TypesCount, tuple_end, parked_of}
-use Rattle.rust_direct.specs.Awaits.{Awaits, Arrives, IsEnded}
+use Rattle.rust_direct.specs.Awaits.{Awaits, Receives, IsEnded}
 use Rattle.rust_direct.proofs.Kept.{keeps-written}
 use Rattle.rust_direct.proofs.MovesOfArguments.{more_awaits, tuple-opens, element-opens, element-goes-on, types-close}
 use Rattle.rust_direct.proofs.PrintedTypes.{no-types-begin, types-begin, tuple-prints}
@@ -72,7 +72,7 @@ counts-on is_first made t c = record {
 
 -- a type of a tuple is read, and another one is expected
 pub element-read : (brief : Bool) (s : List ℕ) (old middle new : Direct) (place from here : ℕ) (is_first : Bool) (f : Forms)
-    → Arrives brief s old (opens.Tuple place from is_first) here f → is_type f ≡ true → Writes old middle (codes ", ")
+    → Receives brief s old (opens.Tuple place from is_first) here f → is_type f ≡ true → Writes old middle (codes ", ")
     → Pushes middle new (opens.Tuple place from false) → IsWriting brief s new steps.Type
 element-read brief s old middle new place from here is_first f arrives is writes pushes =
     let r = arrives.read in
@@ -112,7 +112,7 @@ element-read brief s old middle new place from here is_first f arrives is writes
 
 -- the E of a tuple is read
 pub tuple-read : (brief : Bool) (s : List ℕ) (old middle : Direct) (place from here end : ℕ) (is_first : Bool) (f : Forms)
-    → Arrives brief s old (opens.Tuple place from is_first) here f → StandsAt s old.at (69 ∷ []) → is_type f ≡ true → end ≡ old.at + 1
+    → Receives brief s old (opens.Tuple place from is_first) here f → StandsAt s old.at (69 ∷ []) → is_type f ≡ true → end ≡ old.at + 1
     → Writes (record old { at = end }) middle (tuple_end is_first) → IsEnded brief s middle place from forms.Typed forms.Typed
 tuple-read brief s old middle place from here end is_first f arrives letter is end_is writes =
     let r = arrives.read in

@@ -16,7 +16,7 @@ use Rattle.rust_direct.specs.Prints.{TypePrints}
 use Rattle.rust_direct.specs.PrintsInForm.{Holds, is_type}
 use Rattle.rust_direct.specs.Written.{Writes, Opens}
 use Rattle.rust_direct.specs.WriterInvariant.{Stands, IsWriting, WrapHolds, closing_text, closing_forms, parked_of}
-use Rattle.rust_direct.specs.Awaits.{Awaits, Arrives, IsEnded}
+use Rattle.rust_direct.specs.Awaits.{Awaits, Receives, IsEnded}
 use Rattle.rust_direct.proofs.Kept.{keeps-written}
 use Rattle.rust_direct.proofs.MovesOfTypes.{shared-opens, mutable-opens, const-opens, mut-opens, slice-opens}
 use Rattle.rust_direct.proofs.PrintedTypes.{shared-prints, mutable-prints, const-prints, mut-prints, slice-prints}
@@ -101,7 +101,7 @@ slice-begun brief s old new behind entry a letter is_next is opened =
 -- ## The ends of such types
 
 typed-read : (brief : Bool) (s : List ℕ) (old middle : Direct) (place from here : ℕ) (f : Forms) (closing : Closing) → closing_forms closing ≡ forms.Typed
-    → Arrives brief s old (opens.Wrap place from closing) here f → is_type f ≡ true → Writes old middle (closing_text closing)
+    → Receives brief s old (opens.Wrap place from closing) here f → is_type f ≡ true → Writes old middle (closing_text closing)
     → IsEnded brief s middle place from forms.Typed forms.Typed
 typed-read brief s old middle place from here f closing typed arrives is writes =
     let r = arrives.read in
@@ -126,7 +126,7 @@ typed-read brief s old middle place from here f closing typed arrives is writes 
     }
 
 -- the type of a reference or a pointer is read
-pub bare-read : (brief : Bool) (s : List ℕ) (old : Direct) (place from here : ℕ) (f : Forms) → Arrives brief s old (opens.Wrap place from closings.Nothing) here f
+pub bare-read : (brief : Bool) (s : List ℕ) (old : Direct) (place from here : ℕ) (f : Forms) → Receives brief s old (opens.Wrap place from closings.Nothing) here f
     → is_type f ≡ true → IsEnded brief s old place from forms.Typed forms.Typed
 bare-read brief s old place from here f arrives is =
     typed-read brief s old old place from here f closings.Nothing refl arrives is (record {
@@ -141,6 +141,6 @@ bare-read brief s old place from here f arrives is =
     })
 
 -- the type of a slice's elements is read
-pub bracket-read : (brief : Bool) (s : List ℕ) (old middle : Direct) (place from here : ℕ) (f : Forms) → Arrives brief s old (opens.Wrap place from closings.Bracket) here f
+pub bracket-read : (brief : Bool) (s : List ℕ) (old middle : Direct) (place from here : ℕ) (f : Forms) → Receives brief s old (opens.Wrap place from closings.Bracket) here f
     → is_type f ≡ true → Writes old middle (codes "]") → IsEnded brief s middle place from forms.Typed forms.Typed
 bracket-read brief s old middle place from here f arrives is writes = typed-read brief s old middle place from here f closings.Bracket refl arrives is writes

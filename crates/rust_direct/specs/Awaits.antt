@@ -30,7 +30,7 @@ abbrev pub AwaitsPath : (brief : Bool) (s : List ℕ) → Direct → Type 0
 AwaitsPath brief s w = (for_type : Bool) × Awaits brief s w for_type
 
 -- A path or a type is read, and the entry that waited for it is removed.
-pub record Arrives (brief : Bool) (s : List ℕ) (w : Direct) (entry : Open) (from : ℕ) (forms : Forms) : Type 0 where
+pub record Receives (brief : Bool) (s : List ℕ) (w : Direct) (entry : Open) (from : ℕ) (forms : Forms) : Type 0 where
   pub state : State
   pub keeps : Keeps brief s w state
   pub read : IsRead brief s w state (entry ∷ reverse w.waiting.list.items) from forms

@@ -9,7 +9,7 @@ ghost use Rattle.rust_direct.specs.declared.open.Open.TheVariants as opens;
 ghost use Rattle.rust_direct.specs.Prints.{opening, closing};
 ghost use Rattle.rust_direct.specs.Written.{Writes};
 ghost use Rattle.rust_direct.specs.WriterInvariant.{IsWriting};
-ghost use Rattle.rust_direct.specs.Awaits.{AwaitsArgument, Arrives};
+ghost use Rattle.rust_direct.specs.Awaits.{AwaitsArgument, Receives};
 
 use crate::direct::Direct;
 use crate::open::{Forms, Open, Step, form_of, has_form, is_type};
@@ -27,7 +27,7 @@ impl Direct {
         is_value: bool,
         place: usize,
     ) -> Option<Step>
-        requires { Arrives S.IS_BRIEF _s.now self.old (opens.Generic is_value place) from forms }
+        requires { Receives S.IS_BRIEF _s.now self.old (opens.Generic is_value place) from forms }
         ensures { IfSome result (IsWriting S.IS_BRIEF _s.now self.new) }
     {
         if !has_form(is_value, forms) {
@@ -152,7 +152,7 @@ impl Direct {
         from: usize,
         is_value: bool,
     ) -> Option<Step>
-        requires { Arrives S.IS_BRIEF _s.now self.old (opens.Argument place from is_value) _here forms }
+        requires { Receives S.IS_BRIEF _s.now self.old (opens.Argument place from is_value) _here forms }
         ensures { IfSome result (IsWriting S.IS_BRIEF _s.now self.new) }
     {
         if !is_type(forms) {

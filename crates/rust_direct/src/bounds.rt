@@ -6,7 +6,7 @@ ghost use Rattle.sym_direct.specs.Holes.{StandsAt};
 ghost use Rattle.rust_direct.specs.declared.open.Open.TheVariants as opens;
 ghost use Rattle.rust_direct.specs.PrintsInForm.{has_form};
 ghost use Rattle.rust_direct.specs.WriterInvariant.{IsWriting};
-ghost use Rattle.rust_direct.specs.Awaits.{Awaits, Arrives};
+ghost use Rattle.rust_direct.specs.Awaits.{Awaits, Receives};
 
 use crate::direct::Direct;
 use crate::open::{Forms, Open, Step, has_form};
@@ -38,7 +38,7 @@ impl Direct {
         place: usize,
         from: usize,
     ) -> Option<Step>
-        requires { Arrives S.IS_BRIEF s.now self.old (opens.Dyn place from) here forms }
+        requires { Receives S.IS_BRIEF s.now self.old (opens.Dyn place from) here forms }
         ensures { IfSome result (IsWriting S.IS_BRIEF s.now self.new) }
     {
         if !has_form(false, forms) {
@@ -64,7 +64,7 @@ impl Direct {
     ) -> Option<Step>
         requires letter { StandsAt s.now self.old.at (69 ∷ []) }
         requires form { has_form false _forms ≡ true }
-        requires arrives { Arrives S.IS_BRIEF s.now self.old (opens.Dyn place from) _here _forms }
+        requires arrives { Receives S.IS_BRIEF s.now self.old (opens.Dyn place from) _here _forms }
         ensures { IfSome result (IsWriting S.IS_BRIEF s.now self.new) }
     {
         let lifetime = self.at.checked_add(1)?;

@@ -7,7 +7,7 @@ ghost use Rattle.sym_direct.specs.Holes.{StandsAt};
 ghost use Rattle.rust_direct.specs.declared.open.Open.TheVariants as opens;
 ghost use Rattle.rust_direct.specs.Constants.{is_signed, is_unsigned, sign_text, BeginsInteger, WritesConstant};
 ghost use Rattle.rust_direct.specs.WriterInvariant.{IsWriting};
-ghost use Rattle.rust_direct.specs.Awaits.{Awaits, AwaitsArgument, Arrives};
+ghost use Rattle.rust_direct.specs.Awaits.{Awaits, AwaitsArgument, Receives};
 
 use crate::direct::Direct;
 use crate::open::{Forms, Open, Step, is_type};
@@ -93,7 +93,7 @@ impl Direct {
         from: usize,
     ) -> Option<Step>
         requires fits { FitsSymbol s.now }
-        requires arrives { Arrives S.IS_BRIEF s.now self.old (opens.Array place from) _here forms }
+        requires arrives { Receives S.IS_BRIEF s.now self.old (opens.Array place from) _here forms }
         ensures { IfSome result (IsWriting S.IS_BRIEF s.now self.new) }
     {
         if !is_type(forms) {

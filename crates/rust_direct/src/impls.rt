@@ -7,7 +7,7 @@ ghost use Rattle.sym_direct.specs.Holes.{StandsAt};
 ghost use Rattle.rust_direct.specs.declared.open.Closing.TheVariants as closings;
 ghost use Rattle.rust_direct.specs.declared.open.Open.TheVariants as opens;
 ghost use Rattle.rust_direct.specs.WriterInvariant.{IsWriting};
-ghost use Rattle.rust_direct.specs.Awaits.{AwaitsPath, AwaitsImplType, Arrives};
+ghost use Rattle.rust_direct.specs.Awaits.{AwaitsPath, AwaitsImplType, Receives};
 
 use crate::direct::Direct;
 use crate::hashes::disambiguator_end;
@@ -42,7 +42,7 @@ impl Direct {
         forms: Forms,
         place: usize,
     ) -> Option<Step>
-        requires { Arrives S.IS_BRIEF _s.now self.old (opens.Impl place) _here forms }
+        requires { Receives S.IS_BRIEF _s.now self.old (opens.Impl place) _here forms }
         ensures { IfSome result (IsWriting S.IS_BRIEF _s.now self.new) }
     {
         if !is_path(forms) {
@@ -64,7 +64,7 @@ impl Direct {
         forms: Forms,
         place: usize,
     ) -> Option<Step>
-        requires { Arrives S.IS_BRIEF _s.now self.old (opens.InnerImpl place) _here forms }
+        requires { Receives S.IS_BRIEF _s.now self.old (opens.InnerImpl place) _here forms }
         ensures { IfSome result (IsWriting S.IS_BRIEF _s.now self.new) }
     {
         if !is_path(forms) {
@@ -101,7 +101,7 @@ impl Direct {
         place: usize,
         from: usize,
     ) -> Option<Step>
-        requires { Arrives S.IS_BRIEF s.now self.old (opens.Wrap place from closings.Angle) _here forms }
+        requires { Receives S.IS_BRIEF s.now self.old (opens.Wrap place from closings.Angle) _here forms }
         ensures { IfSome result (IsWriting S.IS_BRIEF s.now self.new) }
     {
         if !is_type(forms) {

@@ -7,7 +7,7 @@ ghost use Rattle.sym_direct.specs.Holes.{StandsAt};
 ghost use Rattle.rust_direct.specs.declared.open.Step.TheVariants as steps;
 ghost use Rattle.rust_direct.specs.declared.open.Open.TheVariants as opens;
 ghost use Rattle.rust_direct.specs.WriterInvariant.{IsWriting};
-ghost use Rattle.rust_direct.specs.Awaits.{Awaits, AwaitsPath, Arrives, IsEndedWithRoom};
+ghost use Rattle.rust_direct.specs.Awaits.{Awaits, AwaitsPath, Receives, IsEndedWithRoom};
 
 use crate::direct::Direct;
 use crate::hashes::disambiguator_end;
@@ -105,7 +105,7 @@ impl Direct {
     ) -> Option<()>
         requires fits { FitsSymbol s.now }
         requires lower { 97 ≤ letter }
-        requires arrives { Arrives S.IS_BRIEF s.now self.old (opens.Nest letter place) from forms }
+        requires arrives { Receives S.IS_BRIEF s.now self.old (opens.Nest letter place) from forms }
         ensures writing { OnSome result (IsWriting S.IS_BRIEF s.now self.new (steps.Value from forms)) }
         ensures waiting { OnSome result (length self.new.waiting.list.items ≤ length self.old.waiting.list.items) }
     {

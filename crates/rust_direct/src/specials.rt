@@ -9,7 +9,7 @@ ghost use Rattle.rust_direct.specs.PrintsInForm.{is_path};
 ghost use Rattle.rust_direct.specs.Written.{Writes};
 ghost use Rattle.rust_direct.specs.Specials.{behind_colon, special_text};
 ghost use Rattle.rust_direct.specs.WriterInvariant.{IsWriting};
-ghost use Rattle.rust_direct.specs.Awaits.{Arrives};
+ghost use Rattle.rust_direct.specs.Awaits.{Receives};
 
 use crate::direct::Direct;
 use crate::names::name_at;
@@ -31,7 +31,7 @@ impl Direct {
         place: usize,
     ) -> Option<Step>
         requires fits { FitsSymbol s.now }
-        requires arrives { Arrives S.IS_BRIEF s.now self.old (opens.Nest letter place) from forms }
+        requires arrives { Receives S.IS_BRIEF s.now self.old (opens.Nest letter place) from forms }
         ensures { IfSome result (IsWriting S.IS_BRIEF s.now self.new) }
     {
         if letter < b'A' || letter >= b'a' || !is_path(forms) {
@@ -59,7 +59,7 @@ impl Direct {
         requires special { _letter < 97 }
         requires upper { 65 ≤ _letter }
         requires path { is_path forms ≡ true }
-        requires arrives { Arrives S.IS_BRIEF s.now self.old (opens.Nest _letter place) from forms }
+        requires arrives { Receives S.IS_BRIEF s.now self.old (opens.Nest _letter place) from forms }
         requires text { namespace.now ≡ namespace_text _letter }
         ensures { IfSome result (IsWriting S.IS_BRIEF s.now self.new) }
     {

@@ -5,7 +5,7 @@ ghost use Rattle.std.specs.Option.{IfSome, OnSome};
 ghost use Rattle.sym_core.specs.Number.{FitsSymbol};
 ghost use Rattle.rust_direct.specs.declared.open.Open.TheVariants as opens;
 ghost use Rattle.rust_direct.specs.WriterInvariant.{IsWriting, IsWhole, IsShown, HasRooms};
-ghost use Rattle.rust_direct.specs.Awaits.{IsFresh, Arrives, IsSymbolEnded};
+ghost use Rattle.rust_direct.specs.Awaits.{IsFresh, Receives, IsSymbolEnded};
 
 use crate::direct::Direct;
 use crate::open::{Forms, Open, Step, has_form, is_path};
@@ -157,7 +157,7 @@ impl Direct {
         forms: Forms,
     ) -> Option<Step>
         requires fits { FitsSymbol s.now }
-        requires arrives { Arrives S.IS_BRIEF s.now self.old opens.Symbol _from forms }
+        requires arrives { Receives S.IS_BRIEF s.now self.old opens.Symbol _from forms }
         ensures { IfSome result (IsWriting S.IS_BRIEF s.now self.new) }
     {
         if !has_form(true, forms) {
@@ -183,7 +183,7 @@ impl Direct {
         forms: Forms,
     ) -> Option<Step>
         requires fits { FitsSymbol s.now }
-        requires arrives { Arrives S.IS_BRIEF s.now self.old opens.Other _from forms }
+        requires arrives { Receives S.IS_BRIEF s.now self.old opens.Other _from forms }
         ensures { IfSome result (IsWriting S.IS_BRIEF s.now self.new) }
     {
         if !is_path(forms) {

@@ -6,7 +6,7 @@ ghost use Rattle.sym_core.specs.Number.{FitsSymbol};
 ghost use Rattle.sym_direct.specs.Holes.{StandsAt};
 ghost use Rattle.rust_direct.specs.declared.open.Open.TheVariants as opens;
 ghost use Rattle.rust_direct.specs.WriterInvariant.{IsWriting};
-ghost use Rattle.rust_direct.specs.Awaits.{AwaitsPath, AwaitsTraitType, Arrives};
+ghost use Rattle.rust_direct.specs.Awaits.{AwaitsPath, AwaitsTraitType, Receives};
 
 use crate::direct::Direct;
 use crate::hashes::disambiguator_end;
@@ -41,7 +41,7 @@ impl Direct {
         forms: Forms,
         place: usize,
     ) -> Option<Step>
-        requires { Arrives S.IS_BRIEF _s.now self.old (opens.TraitImpl place) _here forms }
+        requires { Receives S.IS_BRIEF _s.now self.old (opens.TraitImpl place) _here forms }
         ensures { IfSome result (IsWriting S.IS_BRIEF _s.now self.new) }
     {
         if !is_path(forms) {
@@ -63,7 +63,7 @@ impl Direct {
         forms: Forms,
         place: usize,
     ) -> Option<Step>
-        requires { Arrives S.IS_BRIEF _s.now self.old (opens.InnerTraitImpl place) _here forms }
+        requires { Receives S.IS_BRIEF _s.now self.old (opens.InnerTraitImpl place) _here forms }
         ensures { IfSome result (IsWriting S.IS_BRIEF _s.now self.new) }
     {
         if !is_path(forms) {
@@ -108,7 +108,7 @@ impl Direct {
         place: usize,
         from: usize,
     ) -> Option<Step>
-        requires { Arrives S.IS_BRIEF _s.now self.old (opens.Implementing place from) _here forms }
+        requires { Receives S.IS_BRIEF _s.now self.old (opens.Implementing place from) _here forms }
         ensures { IfSome result (IsWriting S.IS_BRIEF _s.now self.new) }
     {
         if !is_type(forms) {
@@ -129,7 +129,7 @@ impl Direct {
         place: usize,
         from: usize,
     ) -> Option<Step>
-        requires { Arrives S.IS_BRIEF s.now self.old (opens.Implemented place from) _here forms }
+        requires { Receives S.IS_BRIEF s.now self.old (opens.Implemented place from) _here forms }
         ensures { IfSome result (IsWriting S.IS_BRIEF s.now self.new) }
     {
         if !has_form(false, forms) {

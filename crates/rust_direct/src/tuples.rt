@@ -5,7 +5,7 @@ ghost use Rattle.std.specs.Option.{IfSome};
 ghost use Rattle.sym_direct.specs.Holes.{StandsAt};
 ghost use Rattle.rust_direct.specs.declared.open.Open.TheVariants as opens;
 ghost use Rattle.rust_direct.specs.WriterInvariant.{IsWriting, tuple_end};
-ghost use Rattle.rust_direct.specs.Awaits.{Awaits, Arrives};
+ghost use Rattle.rust_direct.specs.Awaits.{Awaits, Receives};
 
 use crate::direct::Direct;
 use crate::open::{Forms, Open, Step, is_type};
@@ -54,7 +54,7 @@ impl Direct {
         from: usize,
         is_first: bool,
     ) -> Option<Step>
-        requires { Arrives S.IS_BRIEF s.now self.old (opens.Tuple place from is_first) here forms }
+        requires { Receives S.IS_BRIEF s.now self.old (opens.Tuple place from is_first) here forms }
         ensures { IfSome result (IsWriting S.IS_BRIEF s.now self.new) }
     {
         if !is_type(forms) {
@@ -84,7 +84,7 @@ impl Direct {
         is_first: bool,
     ) -> Option<Step>
         requires letter { StandsAt s.now self.old.at (69 ∷ []) }
-        requires arrives { Arrives S.IS_BRIEF s.now self.old (opens.Tuple place from is_first) _here forms }
+        requires arrives { Receives S.IS_BRIEF s.now self.old (opens.Tuple place from is_first) _here forms }
         ensures { IfSome result (IsWriting S.IS_BRIEF s.now self.new) }
     {
         if !is_type(forms) {

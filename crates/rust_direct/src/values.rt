@@ -4,7 +4,7 @@ ghost use Rattle.std.specs.Option.{IfSome};
 ghost use Rattle.sym_core.specs.Number.{FitsSymbol};
 ghost use Rattle.rust_direct.specs.declared.open.Step.TheVariants as steps;
 ghost use Rattle.rust_direct.specs.WriterInvariant.{IsWriting};
-ghost use Rattle.rust_direct.specs.Awaits.{Arrives};
+ghost use Rattle.rust_direct.specs.Awaits.{Receives};
 
 use crate::direct::Direct;
 use crate::open::{Forms, Open, Step};
@@ -17,7 +17,7 @@ impl Direct {
     fn take_waiting<S: Showing>(&mut self, s: &[u8], from: usize, forms: Forms) -> Option<Open>
         requires fits { FitsSymbol s.now }
         requires writing { IsWriting S.IS_BRIEF s.now self.old (steps.Value from forms) }
-        ensures { IfSome result (λ entry. Arrives S.IS_BRIEF s.now self.new entry from forms) }
+        ensures { IfSome result (λ entry. Receives S.IS_BRIEF s.now self.new entry from forms) }
     {
         'names: loop {
             let entry = self.waiting.pop()?;

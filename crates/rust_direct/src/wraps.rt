@@ -7,7 +7,7 @@ ghost use Rattle.rust_direct.specs.declared.open.Closing.TheVariants as closings
 ghost use Rattle.rust_direct.specs.declared.open.Open.TheVariants as opens;
 ghost use Rattle.rust_direct.specs.Holes.{IsErasedAt};
 ghost use Rattle.rust_direct.specs.WriterInvariant.{IsWriting};
-ghost use Rattle.rust_direct.specs.Awaits.{Awaits, Arrives};
+ghost use Rattle.rust_direct.specs.Awaits.{Awaits, Receives};
 
 use crate::direct::Direct;
 use crate::open::{Closing, Forms, Open, Step, is_type};
@@ -114,7 +114,7 @@ impl Direct {
         from: usize,
         closing: Closing,
     ) -> Option<Step>
-        requires { Arrives S.IS_BRIEF s.now self.old (opens.Wrap place from closing) here forms }
+        requires { Receives S.IS_BRIEF s.now self.old (opens.Wrap place from closing) here forms }
         ensures { IfSome result (IsWriting S.IS_BRIEF s.now self.new) }
     {
         match closing {
@@ -135,7 +135,7 @@ impl Direct {
         place: usize,
         from: usize,
     ) -> Option<Step>
-        requires { Arrives S.IS_BRIEF s.now self.old (opens.Wrap place from closings.Nothing) _here forms }
+        requires { Receives S.IS_BRIEF s.now self.old (opens.Wrap place from closings.Nothing) _here forms }
         ensures { IfSome result (IsWriting S.IS_BRIEF s.now self.new) }
     {
         if !is_type(forms) {
@@ -155,7 +155,7 @@ impl Direct {
         place: usize,
         from: usize,
     ) -> Option<Step>
-        requires { Arrives S.IS_BRIEF s.now self.old (opens.Wrap place from closings.Bracket) _here forms }
+        requires { Receives S.IS_BRIEF s.now self.old (opens.Wrap place from closings.Bracket) _here forms }
         ensures { IfSome result (IsWriting S.IS_BRIEF s.now self.new) }
     {
         if !is_type(forms) {

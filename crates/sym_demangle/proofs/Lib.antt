@@ -2,5 +2,5 @@ pub mod Standing
 pub mod Answering
 pub mod Reasons
 pub mod Feeding
-mod Going
+mod Continuation
 mod Rows

@@ -20,7 +20,7 @@ use Rattle.cpp_grammar.specs.Table.{abi}
 use Rattle.cpp_grammar.specs.Term.{Term, Thunk, special, thunk, of_name, literal_operator}
 use Rattle.cpp_grammar.specs.Values.{State, outermost, behind, Around, Value, nothing_there, letter, text, tree, piece, tree_of, piece_of, qualifiers_of, ref_of, letter_of, text_of, signed_of, adjustment_of, mark_of}
 use Rattle.cpp_grammar.specs.References.{with_prefix}
-use Rattle.cpp_grammar.specs.Between.{after, Going, between}
+use Rattle.cpp_grammar.specs.Between.{after, Continuation, between}
 use Rattle.cpp_grammar.specs.Meaning.{discriminator_of}
 use Rattle.cpp_grammar.specs.Unfolding.{cpp, opening, close, byte_of}
 use Rattle.cpp_grammar.proofs.ClosedValues.{AllGood, GoodPrefix, held, good_where}
@@ -188,7 +188,7 @@ SymbolRead (Number kind) around v old new = (new ≡ old) × (v ≡ text (text_o
 SymbolRead (Byte b) around v old new = (new ≡ old) × (v ≡ nothing_there)
 
 -- a fact that holds unless the step was refused
-abbrev pub Unless : Going → (Next Value State Around → Type 0) → Type 0
+abbrev pub Unless : Continuation → (Next Value State Around → Type 0) → Type 0
 Unless (Ok next) G = G next
 Unless (Err e) G = Unit {0}
 
@@ -304,7 +304,7 @@ parts-read p byte around place old v new stays bare pre inner closes (x ∷ xs) 
     or_first : (a b : Bool) → a ≡ true → a || b ≡ true
     or_first a b h = ap (λ c. c || b) h
 
-    go : (m : Going)
+    go : (m : Continuation)
         → ((n : Next Value State Around) → m ≡ Ok n → Goes false (Within false p around) around from state n × LambdasAreBare n.context)
         → OnGoing m (λ next. PartGoes ShapeRead x f from next (PartsGo ShapeRead p around place inner xs))
         → ((g : Forest) (ws : List Value) (later : ℕ) (s : State) → from ≤ later → AllGood (Within false p around) ws → AllOld false around later
@@ -505,7 +505,7 @@ each-part p byte around place old v new R plain (x ∷ xs) f vs from s goes hold
     P : List Value → State → Type 0
     P ws t = R (Meant p byte around ws) (Later p byte around old ws t)
 
-    go : (g : Going) → OnGoing g (λ next. PartRead x f from next (PartsRead p byte around place old v new xs))
+    go : (g : Continuation) → OnGoing g (λ next. PartRead x f from next (PartsRead p byte around place old v new xs))
         → Unless g (λ next. (w : Value) (after : State) → SymbolRead x next.context w next.state after → Parts p around place P xs (next.values ++ w ∷ []) after)
         → ((g : Forest) (ws : List Value) (later : ℕ) (t : State) → PartsRead p byte around place old v new xs g ws later t
         → Parts p around place P xs ws t → R v new) → R v new

@@ -14,10 +14,10 @@ use Rattle.cpp_grammar.specs.Term.{Term, parameter}
 use Rattle.cpp_grammar.specs.Scope.{count, element, length_if_pack, is_open}
 use Rattle.cpp_grammar.specs.Values.{Candidate, State, Around, Value, nothing_there, tree, prefix_tree, prefix_listed, is_listed, text_of, tree_of, part}
 use Rattle.cpp_grammar.specs.References.{appended, is_function_type, with_type, with_unqualified, with_prefix, with_packs, packs_in, is_module, substituted, parameter_named}
-use Rattle.cpp_grammar.specs.Between.{in_name, in_types, in_signature, after, inside, Going, index_of, between}
+use Rattle.cpp_grammar.specs.Between.{in_name, in_types, in_signature, after, inside, Continuation, index_of, between}
 use Rattle.cpp_grammar.specs.Meaning.{meaning}
 use Rattle.cpp_grammar.specs.Row as row
-use Rattle.cpp_grammar.specs.Row.{Where, in_its_name, in_its_types, under_it, Gain, the_prefix, type_of, unqualified_of, itself, Before, quiet, goes, becomes, tests, holds, unread, Row, before_part}
+use Rattle.cpp_grammar.specs.Row.{Where, in_its_name, in_its_types, under_it, Gain, the_prefix, type_of, unqualified_of, itself, Action, quiet, goes, becomes, tests, holds, unread, Row, before_part}
 use Rattle.cpp_grammar.specs.Meant.{around_part, packs_within, gained, made, tested, done, state_after}
 use Rattle.cpp_grammar.specs.Rows.{row_of}
 use Rattle.cpp_grammar.specs.Unfolding as unfolding_
@@ -108,12 +108,12 @@ abbrev NoExpansion : Production → Type 0
 NoExpansion p = (row_of p).restores_packs ≡ false
 
 outside-next : (state : State) (inner : Around) (vs : List Value) (new : State) (next : Next Value State Around) → inner.in_expansion ≡ false
-    → new.packs ≡ state.packs → ◌≡◌ {A = Going} (Ok (record { context = inner; values = vs; state = new })) (Ok next) → Outside state next
+    → new.packs ≡ state.packs → ◌≡◌ {A = Continuation} (Ok (record { context = inner; values = vs; state = new })) (Ok next) → Outside state next
 outside-next state inner vs new next outside packs e =
     let whole : Next Value State Around = record { context = inner; values = vs; state = new } in
     subst (Outside state) (ok_same whole next e) (record { expands = outside; packs = packs })
 
-unfoldable stays_outside : Before → Bool
+unfoldable stays_outside : Action → Bool
 stays_outside (goes gain under_it) = false
 stays_outside _ = true
 
@@ -137,7 +137,7 @@ gained-kept itself around vs v state = refl
 
 named-outside : (is_in is_name : Bool) (around : Around) (t : Term) (vs : List Value) (state new : State) (next : Next Value State Around)
     → around.in_expansion ≡ false → new.packs ≡ state.packs
-    → ◌≡◌ {A = Going} (Ok (record { context = cond is_name (after t is_in around) around; values = vs; state = new })) (Ok next)
+    → ◌≡◌ {A = Continuation} (Ok (record { context = cond is_name (after t is_in around) around; values = vs; state = new })) (Ok next)
     → Outside state next
 unfolding after
 named-outside is_in true around t vs state new next outside packs e = outside-next state (after t is_in around) vs new next outside packs e
@@ -165,7 +165,7 @@ goes-outside gain w around place vs state next stays outside e =
     outside-next state (around_part around place vs w) vs (packs_within w (gained gain around vs nothing_there state)) next outside
     (gained-kept gain around vs nothing_there state) e
 
-done-outside : (b : Before) (around : Around) (place : ℕ) (vs : List Value) (state : State) (next : Next Value State Around)
+done-outside : (b : Action) (around : Around) (place : ℕ) (vs : List Value) (state : State) (next : Next Value State Around)
     → stays_outside b ≡ true → around.in_expansion ≡ false → done b around place vs state ≡ Ok next → Outside state next
 unfolding done tested
 done-outside quiet around place vs state next stays outside e = outside-next state around vs state next outside refl e
@@ -180,8 +180,8 @@ done-outside (tests after_t is_name) around place vs state next stays outside e 
     let b = behind_bind (parameter_named around at k state) (λ s. tested is_name around (parameter k) vs s state) next e in
     named-outside true is_name around (parameter k) _ state (cond is_name b.value (record b.value { candidates = state.candidates })) next outside
     (tested-kept is_name b.value state (parameter-kept around at k state b.value outside b.is)) b.next
-done-outside holds around place vs state next stays outside e = let clash : ◌≡◌ {A = Going} (Err (BadReference place)) (Ok next) = e in absurd cc
-done-outside unread around place vs state next stays outside e = let clash : ◌≡◌ {A = Going} (Err (BadReference place)) (Ok next) = e in absurd cc
+done-outside holds around place vs state next stays outside e = let clash : ◌≡◌ {A = Continuation} (Err (BadReference place)) (Ok next) = e in absurd cc
+done-outside unread around place vs state next stays outside e = let clash : ◌≡◌ {A = Continuation} (Err (BadReference place)) (Ok next) = e in absurd cc
 
 between-outside : (p : Production) (around : Around) (place : ℕ) (vs : List Value) (state : State) (next : Next Value State Around)
     → NoExpansion p → around.in_expansion ≡ false → between p around place vs state ≡ Ok next → Outside state next

@@ -16,7 +16,7 @@ use Rattle.cpp_grammar.specs.Grammar.{alternatives, choose, pick, is_in, in_rang
 use Rattle.cpp_grammar.specs.Table.{abi}
 use Rattle.cpp_grammar.specs.Term.{Term, operator, literal_operator, source, lambda, unnamed, list}
 use Rattle.cpp_grammar.specs.Values.{Candidate, State, Around, Value, letter, text, piece, tree_of, piece_of, letter_of, text_of, local_number, part}
-use Rattle.cpp_grammar.specs.Between.{Going, between, in_signature, no_items}
+use Rattle.cpp_grammar.specs.Between.{Continuation, between, in_signature, no_items}
 use Rattle.cpp_grammar.specs.Meaning.{meaning, parameters, operator_or_literal}
 use Rattle.cpp_grammar.specs.Unfolding as unfolding_
 use Rattle.cpp_grammar.specs.Unfolding.{last_token, number_tested, opening, close, byte_of, cpp}
@@ -102,7 +102,7 @@ record TwoLetters (p : Production) (kind : Kind) : Type 0 where
   pub at : slice_get kinds (number_of_kind kind) ≡ Some kind
   pub parts : parts_of p ≡ OfKind (number_of_kind kind) ∷ []
   pub own : is_chain p ≡ false
-  pub goes : (around : Around) (place : ℕ) (s : State) → ◌≡◌ {A = Going} (between p around place [] s)
+  pub goes : (around : Around) (place : ℕ) (s : State) → ◌≡◌ {A = Continuation} (between p around place [] s)
       (Ok (record { context = around; values = []; state = s }))
   pub opens : (place : ℕ) (f : Forest) (s : State) → opening p f place s ≡ Ok s
   pub means : (first second : ℕ) (around : Around) (place : ℕ) (began s : State)

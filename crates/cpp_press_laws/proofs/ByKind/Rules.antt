@@ -15,7 +15,7 @@ use Rattle.cpp_grammar.specs.declared.production.Production.{Production}
 use Rattle.cpp_grammar.specs.Grammar.{Alternative, is_in, pick, alternatives, choose, kinds, number_of_kind, number_of, parts_of, is_chain}
 use Rattle.cpp_grammar.specs.Table.{abi, rule_of, rule_taken}
 use Rattle.cpp_grammar.specs.Values.{State, Around, Value}
-use Rattle.cpp_grammar.specs.Between.{Going, between}
+use Rattle.cpp_grammar.specs.Between.{Continuation, between}
 use Rattle.cpp_grammar.specs.Unfolding.{opening, close, production_at, byte_of, cpp}
 use Rattle.cpp_grammar.proofs.Choosing.{rule_at_kind}
 use Rattle.cpp_grammar.proofs.ClosedStates.{ok_same, behind_bind}
@@ -48,7 +48,7 @@ pub record PartGoes (P : Shape → Type 0) (x : Sym) (f : Forest) (from : ℕ) (
   pub unfolds : unfold_tree cpp next.context from shape next.state ≡ Ok (found (value ∷ []) after)
   pub onward : rest others (next.values ++ value ∷ []) (from + length (spell shape)) after
 
-abbrev pub OnGoing : Going → (Next Value State Around → Type 0) → Type 0
+abbrev pub OnGoing : Continuation → (Next Value State Around → Type 0) → Type 0
 OnGoing (Ok next) G = G next
 OnGoing (Err e) G = ⊥
 
@@ -103,7 +103,7 @@ parts-go P p rule taken around place before number inner (grown t f) (x ∷ xs) 
     rest : Forest → List Value → ℕ → State → Type 0
     rest = PartsGo P p around place inner xs
 
-    go : (g : Going) → (g >>= onward) ≡ Ok inner
+    go : (g : Continuation) → (g >>= onward) ≡ Ok inner
         → ((ws : List Value) (later : ℕ) (s : State) → unfold_forest cpp (standing rule taken place around before) ws later f s ≡ Ok inner
         → PartsGo P p around place inner xs f ws later s)
         → OnGoing g (λ next. PartGoes P x (grown t f) from next (PartsGo P p around place inner xs))

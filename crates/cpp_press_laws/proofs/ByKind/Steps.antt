@@ -8,15 +8,15 @@ use Rattle.cpp_grammar.specs.declared.production.Production.{Production}
 use Rattle.cpp_grammar.specs.Term.{Term, parameter}
 use Rattle.cpp_grammar.specs.Values.{State, Around, Value, nothing_there, part}
 use Rattle.cpp_grammar.specs.References.{parameter_named}
-use Rattle.cpp_grammar.specs.Between.{in_name, in_types, in_signature, under_expansion, after, inside, Going, index_of, between}
-use Rattle.cpp_grammar.specs.Row.{Where, in_its_name, in_its_types, in_a_signature, Before, quiet, goes, becomes, tests, holds, unread, before_part}
+use Rattle.cpp_grammar.specs.Between.{in_name, in_types, in_signature, under_expansion, after, inside, Continuation, index_of, between}
+use Rattle.cpp_grammar.specs.Row.{Where, in_its_name, in_its_types, in_a_signature, Action, quiet, goes, becomes, tests, holds, unread, before_part}
 use Rattle.cpp_grammar.specs.Meant.{around_part, packs_within, gained, made, tested, done}
 use Rattle.cpp_grammar.specs.Rows.{row_of}
 use Rattle.cpp_grammar.proofs.ClosedStates.{ok_same, behind_bind}
 use Rattle.cpp_press_laws.proofs.Fits.Solids.{LambdasAreBare}
 
 bare-next : (inner : Around) (vs : List Value) (s : State) (n : Next Value State Around) → LambdasAreBare inner
-    → ◌≡◌ {A = Going} (Ok (record { context = inner; values = vs; state = s })) (Ok n) → LambdasAreBare n.context
+    → ◌≡◌ {A = Continuation} (Ok (record { context = inner; values = vs; state = s })) (Ok n) → LambdasAreBare n.context
 bare-next inner vs s n bare e =
     subst (λ m. LambdasAreBare m.context) (ok_same (record { context = inner; values = vs; state = s }) n e) bare
 
@@ -30,13 +30,13 @@ bare-around _ around place vs bare = bare
 
 bare-name : (is_in is_name : Bool) (around : Around) (t : Term) (vs : List Value) (s : State) (n : Next Value State Around)
     → LambdasAreBare around
-    → ◌≡◌ {A = Going} (Ok (record { context = cond is_name (after t is_in around) around; values = vs; state = s })) (Ok n)
+    → ◌≡◌ {A = Continuation} (Ok (record { context = cond is_name (after t is_in around) around; values = vs; state = s })) (Ok n)
     → LambdasAreBare n.context
 unfolding after
 bare-name is_in true around t vs s n bare e = bare-next (after t is_in around) vs s n bare e
 bare-name is_in false around t vs s n bare e = bare-next around vs s n bare e
 
-bare-done : (b : Before) (around : Around) (place : ℕ) (vs : List Value) (state : State) (n : Next Value State Around)
+bare-done : (b : Action) (around : Around) (place : ℕ) (vs : List Value) (state : State) (n : Next Value State Around)
     → LambdasAreBare around → done b around place vs state ≡ Ok n → LambdasAreBare n.context
 unfolding done tested
 bare-done quiet around place vs state n bare e = bare-next around vs state n bare e
@@ -50,8 +50,8 @@ bare-done (tests after_t is_name) around place vs state n bare e =
     let b = behind_bind (parameter_named around (cond after_t (place - 1) place) k state)
     (λ s. tested is_name around (parameter k) vs s state) n e in
     bare-name true is_name around (parameter k) _ _ n bare b.next
-bare-done holds around place vs state n bare e = let clash : ◌≡◌ {A = Going} (Err (BadReference place)) (Ok n) = e in absurd cc
-bare-done unread around place vs state n bare e = let clash : ◌≡◌ {A = Going} (Err (BadReference place)) (Ok n) = e in absurd cc
+bare-done holds around place vs state n bare e = let clash : ◌≡◌ {A = Continuation} (Err (BadReference place)) (Ok n) = e in absurd cc
+bare-done unread around place vs state n bare e = let clash : ◌≡◌ {A = Continuation} (Err (BadReference place)) (Ok n) = e in absurd cc
 
 -- a lambda's signature has no scope, nor has what is in one
 pub lambdas-go : (p : Production) (around : Around) (place : ℕ) (vs : List Value) (state : State) (n : Next Value State Around)

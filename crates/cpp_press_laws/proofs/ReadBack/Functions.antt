@@ -16,7 +16,7 @@ use Rattle.cpp_grammar.specs.Scope.{count, element, length_if_pack}
 use Rattle.cpp_grammar.specs.Values as value
 use Rattle.cpp_grammar.specs.Values.{State, Around, Value, nothing_there, letter, tree, signature, text_of}
 use Rattle.cpp_grammar.specs.References.{appended, with_packs, parameter_named}
-use Rattle.cpp_grammar.specs.Between.{between, after, applied, listed_so_far, parameter_so_far, index_of, Going}
+use Rattle.cpp_grammar.specs.Between.{between, after, applied, listed_so_far, parameter_so_far, index_of, Continuation}
 use Rattle.cpp_grammar.specs.Meaning.{meaning, listed_value, with_item, signature_or, parameters}
 use Rattle.cpp_grammar.specs.Unfolding as unfolding_
 use Rattle.cpp_grammar.specs.Unfolding.{close, byte_of}
@@ -65,7 +65,7 @@ named-in around place k s new arguments scoped below goes =
 -- what is known of a parameter after its number, in a state with these components
 pub record ParameterPasses (around : Around) (allowed : Option ℕ) (at k : ℕ) (cs : List Component) (s : State) : Type 0 where
   pub state : State
-  pub goes : ◌≡◌ {A = Going} (parameter_so_far around at (index_of (value.text (ordinal_digits k))) [] s)
+  pub goes : ◌≡◌ {A = Continuation} (parameter_so_far around at (index_of (value.text (ordinal_digits k))) [] s)
       (Ok (record { context = after (parameter k) true around; values = tree (parameter k) true ∷ []; state = state }))
   pub candidates : components_of state.candidates ≡ more around cs (parameter k)
   pub packs : IsAllowed allowed state.packs
@@ -86,7 +86,7 @@ parameter-passes around allowed at k cs s is same packs =
 -- the digits of a parameter, and what follows the parameter in its scope
 pub parameter-parts : (p : Production) (around : Around) (allowed : Option ℕ) (at k place : ℕ) (cs : List Component) (End : List Value → Type 0)
     (x : Sym) (v : Value) (w : Written) → IsInScope around allowed k
-    → ((s : State) → ◌≡◌ {A = Going} (between p around at [] s) (Ok (record { context = around; values = []; state = s })))
+    → ((s : State) → ◌≡◌ {A = Continuation} (between p around at [] s) (Ok (record { context = around; values = []; state = s })))
     → ((s : State) → between p around at (value.text (ordinal_digits k) ∷ []) s
     ≡ parameter_so_far around at (index_of (value.text (ordinal_digits k))) [] s)
     → ReadsAt (after (parameter k) true around) allowed x (Is v) (place + length (ordinal k)) (more around cs (parameter k)) w

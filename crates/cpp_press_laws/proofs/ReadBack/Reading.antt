@@ -16,7 +16,7 @@ use Rattle.cpp_grammar.specs.Table.{abi, rule_of, rule_taken}
 use Rattle.cpp_grammar.specs.Term.{Term}
 use Rattle.cpp_grammar.specs.Values.{Candidate, State, Around, Value, nothing_there, text, tree, tree_of, text_of, piece_of, letter_of, ref_of, signed_of, adjustment_of, is_there, part, by_all}
 use Rattle.cpp_grammar.specs.References.{appended}
-use Rattle.cpp_grammar.specs.Between.{Going, between}
+use Rattle.cpp_grammar.specs.Between.{Continuation, between}
 use Rattle.cpp_grammar.specs.Meaning.{meaning}
 use Rattle.cpp_grammar.specs.Unfolding as unfolding_
 use Rattle.cpp_grammar.specs.Unfolding.{cpp, opening, close, byte_of}
@@ -129,7 +129,7 @@ row-of p taken around allowed at End (x ∷ xs) (v ∷ vs) (w ∷ ws) known plac
     Row passed middle =
         ReadsRow p taken around allowed at began xs passed End (place + length w.bytes) middle (written (all_bytes ws) (last_components w.components ws))
 
-    go : (m : Going) → between p around at known s ≡ m
+    go : (m : Continuation) → between p around at known s ≡ m
         → OnGoing m (λ next. Reads next.context allowed x (Is v) place next.state w
         × PartsRead p around allowed at End xs vs ws (next.values ++ v ∷ []) (place + length w.bytes) w.components)
         → ((passed : List Value) (middle : State)

@@ -12,7 +12,7 @@ use Rattle.cpp_grammar.specs.declared.production.Production.{Production}
 use Rattle.cpp_grammar.specs.Grammar.{kinds, number_of_kind, number_of, parts_of, is_chain}
 use Rattle.cpp_grammar.specs.Term.{Term}
 use Rattle.cpp_grammar.specs.Values.{State, Prefix, Around, Value, tree}
-use Rattle.cpp_grammar.specs.Row.{Made, Form, Before, quiet, becomes, nothing, Row, before_part}
+use Rattle.cpp_grammar.specs.Row.{Made, Form, Action, quiet, becomes, nothing, Row, before_part}
 use Rattle.cpp_grammar.specs.Rows.{row_of}
 use Rattle.cpp_grammar.specs.Meant.{made, meant, done, gained, packs_within, replaced, state_after}
 use Rattle.cpp_grammar.specs.Between.{between, next, after}
@@ -222,7 +222,7 @@ Claim around P (x ∷ xs) vs s cost credit =
 unfoldable pub all_quiet : Row → Bool
 all_quiet row = go row.before row.onward
   where
-    go : List Before → Before → Bool
+    go : List Action → Action → Bool
     go [] quiet = true
     go _ _ = false
 
@@ -230,7 +230,7 @@ quiet-part : (row : Row) (n : ℕ) → all_quiet row ≡ true → before_part ro
 unfolding all_quiet before_part
 quiet-part row n is = go row.before row.onward is
   where
-    go : (before : List Before) (onward : Before) → all_quiet (record row { before = before; onward = onward }) ≡ true → get_or before n onward ≡ quiet
+    go : (before : List Action) (onward : Action) → all_quiet (record row { before = before; onward = onward }) ≡ true → get_or before n onward ≡ quiet
     go [] quiet is = refl
     go [] _ is = absurd (false≢true is)
     go (b ∷ bs) _ is = absurd (false≢true is)

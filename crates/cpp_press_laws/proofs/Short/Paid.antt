@@ -23,7 +23,7 @@ use Rattle.cpp_grammar.specs.declared.production.Production.{Production}
 use Rattle.cpp_grammar.specs.Grammar.{alternatives, choose, number_of_kind, parts_of, is_chain}
 use Rattle.cpp_grammar.specs.Table.{abi, rule_of, rule_taken}
 use Rattle.cpp_grammar.specs.Values.{State, Around, Value, nothing_there, text, text_of}
-use Rattle.cpp_grammar.specs.Between.{Going, between}
+use Rattle.cpp_grammar.specs.Between.{Continuation, between}
 use Rattle.cpp_grammar.specs.Unfolding.{opening, production_at, cpp, close, byte_of}
 use Rattle.cpp_grammar.proofs.ClosedStates.{ok_same, behind_bind}
 use Rattle.cpp_grammar.proofs.Chosen.{either}
@@ -216,7 +216,7 @@ parts-paid p around place inner [] nothing vs from s goes are = (goes, refl)
 parts-paid p around place inner [] (grown t f) vs from s goes are = absurd are
 parts-paid p around place inner (x ∷ xs) f vs from s goes are = go (between p around place vs s) goes (λ g ws later t. parts-paid p around place inner xs g ws later t)
   where
-    go : (g : Going) → OnGoing g (λ next. PartGoes ShapeGains x f from next (PartsGo ShapeGains p around place inner xs))
+    go : (g : Continuation) → OnGoing g (λ next. PartGoes ShapeGains x f from next (PartsGo ShapeGains p around place inner xs))
         → ((g : Forest) (ws : List Value) (later : ℕ) (t : State) → PartsGo ShapeGains p around place inner xs g ws later t → AreTrees abi xs g
         → Paid p around place inner xs (length (spell_all g)) ws t)
         → OnGoing g (λ next. PaidPart x (length (spell_all f)) next (Paid p around place inner xs))

@@ -8,7 +8,7 @@ use Rattle.cpp_press_laws.specs.Short.{IsShort}
 use Rattle.cpp_press_laws.proofs.Short.Law.{pressed-short}
 use Rattle.cpp_press.specs.Places.{known_in, noted}
 use Rattle.cpp_spelling.specs.Standings.{standing_of, template_standing_of}
-use Rattle.cpp_press.proofs.Going.{popped, task-there, weight-there, changed-goes, text-goes, ended-goes, first-goes, last-goes, last-few}
+use Rattle.cpp_press.proofs.Continuation.{popped, task-there, weight-there, changed-goes, text-goes, ended-goes, first-goes, last-goes, last-few}
 use Rattle.cpp_press.proofs.pressing.press_tasks.Goals as goal
 
 -- ## What each task requires

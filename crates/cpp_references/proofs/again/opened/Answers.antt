@@ -1,11 +1,11 @@
 use Rattle.std.proofs.Common.{sym, ◌∙◌, ap, refl}
 use Rattle.cpp_term.specs.Reargued.{reargued}
-use Rattle.cpp_tree.specs.Nodes.{over, trees, tree_if_there, placed_tree}
+use Rattle.cpp_tree.specs.Nodes.{over, trees, tree_if_there, tree_under}
 use Rattle.cpp_tree.proofs.Trees.{placed-none}
 use Rattle.cpp_references.proofs.again.opened.Goals as goal
 
 pub returns-clause-tree : goal.returns-clause-tree
-unfolding placed_tree
+unfolding tree_under
 returns-clause-tree c =
     let ts = trees (over c.args.symbol.now c.args.nodes.now) in
     sym (c.settled-settled.ensures.tree ∙ placed-none ts _ refl) ∙ ap (reargued (tree_if_there ts c.settled-settled.result.under)) c.node.ensures.tree

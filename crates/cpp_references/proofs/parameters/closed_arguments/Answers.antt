@@ -1,5 +1,5 @@
 use Rattle.std.proofs.Common.{sym, ◌∙◌, ap, Some}
-use Rattle.cpp_tree.specs.Nodes.{tree_at, tree_if_there, placed_if_there, placed_tree}
+use Rattle.cpp_tree.specs.Nodes.{tree_at, tree_if_there, placed_if_there, tree_under}
 use Rattle.cpp_references.specs.Around.{trees_in}
 use Rattle.cpp_references.proofs.Arguments.{argument_closed, none_closed, some_closed}
 use Rattle.cpp_references.proofs.parameters.closed_arguments.Goals as goal
@@ -9,7 +9,7 @@ unfolding placed_if_there
 closed_node-requires-clause-closed c =
     let ts = trees_in c.args.symbol.now c.args.nodes.now in
     let held = c.requires.table.each c.args.name c.requires.below in
-    argument_closed (tree_at ts c.args.name) (placed_tree ts c.in-Some.arguments) (sym c.is_open.ensures ∙ c.if-is_open.false)
+    argument_closed (tree_at ts c.args.name) (tree_under ts c.in-Some.arguments) (sym c.is_open.ensures ∙ c.if-is_open.false)
     (sym held.arguments ∙ ap (λ o. placed_if_there ts o) (sym (ap (λ e. e.arguments) c.entry.ensures) ∙ c.in-Some.is))
 
 pub returns-then-is_open-clause-is : goal.returns-then-is_open-clause-is

@@ -1,5 +1,5 @@
 use Rattle.std.proofs.Common.{ap, arith, length, subst, ◌≡◌, ◌∙◌}
-use Rattle.cpp_tree.specs.Nodes.{over, placed_tree, tree_at, trees}
+use Rattle.cpp_tree.specs.Nodes.{over, tree_under, tree_at, trees}
 use Rattle.cpp_tree.proofs.Trees.{placed-alone}
 use Rattle.cpp_term.specs.Items.{argument, indexed}
 use Rattle.cpp_layout.specs.Layout.{table_of}
@@ -9,10 +9,10 @@ pub indexed-placed-requires-clause-argument : goal.indexed-placed-requires-claus
 indexed-placed-requires-clause-argument c = (omega (arith, ap (λ y. length y.table.nodes) c.self.view_is, c.given_or-argument.ensures.below), tt)
 
 pub returns-clause-tree : goal.returns-clause-tree
-unfolding placed_tree argument
+unfolding tree_under argument
 returns-clause-tree c =
     let read = trees (over c.deref.result.now c.self.inside.nodes) in
-    subst (λ ts. placed_tree ts c.indexed-placed.result ≡ indexed c.args.ctx.index (tree_at ts c.given_or-argument.result))
+    subst (λ ts. tree_under ts c.indexed-placed.result ≡ indexed c.args.ctx.index (tree_at ts c.given_or-argument.result))
     (ap (λ b. trees (over b c.self.inside.nodes)) c.deref.ensures.value ∙ ap (λ y. trees (table_of y)) c.self.view_is)
     (c.indexed-placed.ensures.tree ∙ ap (indexed c.args.ctx.index) (placed-alone read c.given_or-argument.result))
     ∙ ap (indexed c.args.ctx.index) c.given_or-argument.ensures.tree

@@ -2,7 +2,7 @@
 use Rattle.std.proofs.Common.{[], ap, refl, sym, ◌∙◌, ◌∷◌}
 use Rattle.cpp_layout.proofs.Growing.{fills, starts}
 use Rattle.cpp_layout.proofs.Typing.{marked-whole}
-use Rattle.cpp_layout.specs.Layout.{context_of, node_shown, tree_shown}
+use Rattle.cpp_layout.specs.Layout.{context_of, node_shown, printed_tree}
 use Rattle.cpp_grammar.specs.Items.{left}
 use Rattle.cpp_term.specs.Parts.{as_item, left_parts}
 use Rattle.cpp_tree.specs.Nodes.{tree_of}
@@ -69,7 +69,7 @@ returns-in-SizedFloat-clause-shows g c = fills c.args.self.now c.args.ctx.detail
 
 pub returns-in-Constrained-clause-shows : goal.returns-in-Constrained-clause-shows
 unfolding tree_of left_parts reargued
-returns-in-Constrained-clause-shows g c = fills c.args.self.now c.args.ctx.detail _ _ _ c.fill_left_text-in-Constrained.ensures.shows (ap (λ t. as_item left (context_of c.args.ctx) (tree_shown c.args.self.now c.args.ctx c.in-Constrained.concept) ∷ text t ∷ []) c.placeholder.ensures.text ∙ ap (λ n. left_parts c.args.ctx.detail (context_of c.args.ctx) (node_shown c.args.self.now c.args.ctx n)) (sym c.in-Constrained.is))
+returns-in-Constrained-clause-shows g c = fills c.args.self.now c.args.ctx.detail _ _ _ c.fill_left_text-in-Constrained.ensures.shows (ap (λ t. as_item left (context_of c.args.ctx) (printed_tree c.args.self.now c.args.ctx c.in-Constrained.concept) ∷ text t ∷ []) c.placeholder.ensures.text ∙ ap (λ n. left_parts c.args.ctx.detail (context_of c.args.ctx) (node_shown c.args.self.now c.args.ctx n)) (sym c.in-Constrained.is))
 
 pub fill_left_argument-requires-clause-kind : goal.fill_left_argument-requires-clause-kind
 fill_left_argument-requires-clause-kind g c = no-type c.args.node c.requires.kind (record { not_builtin = c.in_default.not-Builtin; not_builtinwithd = c.in_default.not-BuiltinWithD; not_vendor = c.in_default.not-Vendor; not_pointer = c.in_default.not-Pointer; not_lvalue = c.in_default.not-Lvalue; not_rvalue = c.in_default.not-Rvalue; not_array = c.in_default.not-Array; not_bounded = c.in_default.not-Bounded; not_functiontype = c.in_default.not-FunctionType; not_memberpointer = c.in_default.not-MemberPointer; not_qualified = c.in_default.not-Qualified; not_vector = c.in_default.not-Vector; not_complex = c.in_default.not-Complex; not_sizedfloat = c.in_default.not-SizedFloat; not_constrained = c.in_default.not-Constrained })

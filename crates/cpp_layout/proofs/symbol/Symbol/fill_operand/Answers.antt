@@ -2,7 +2,7 @@ use Rattle.std.proofs.Common.{ap, ◌∙◌}
 use Rattle.cpp_term.specs.Parts.{operand_parts, precedence_of}
 use Rattle.cpp_layout.proofs.Growing.{fills}
 use Rattle.cpp_layout.proofs.Operating.{enclosed-by}
-use Rattle.cpp_layout.specs.Layout.{context_of, tree_shown}
+use Rattle.cpp_layout.specs.Layout.{context_of, printed_tree}
 use Rattle.cpp_layout.proofs.symbol.Symbol.fill_operand.Goals as goal
 
 pub returns-in-AsItIs-clause-shows : goal.returns-in-AsItIs-clause-shows
@@ -20,4 +20,4 @@ returns-in-AsList-clause-shows g c below others shows = rw c.in-AsList.is (c.pus
 pub returns-in-From-clause-shows : goal.returns-in-From-clause-shows
 returns-in-From-clause-shows g c below others shows =
     rw c.in-From.is (fills c.args.self.now c.args.ctx.detail _ _ _ (c.push_text_if-in-From.ensures.shows _ below _ (c.push_item-in-From.ensures.shows below _ (c.push_text_if.ensures.shows _ below others shows)))
-    (enclosed-by (context_of c.args.ctx) c.in-From.least c.precedence.result (tree_shown c.args.self.now c.args.ctx c.args.node) others (c.precedence.ensures ∙ ap precedence_of c.place-place.ensures.tree)))
+    (enclosed-by (context_of c.args.ctx) c.in-From.least c.precedence.result (printed_tree c.args.self.now c.args.ctx c.args.node) others (c.precedence.ensures ∙ ap precedence_of c.place-place.ensures.tree)))

@@ -3,7 +3,7 @@ use Rattle.cpp_grammar.specs.Parts.{qualifier_text}
 use Rattle.cpp_term.specs.Parts.{function_right}
 use Rattle.cpp_layout.proofs.Functions.{qualified-function, qualified-other}
 use Rattle.cpp_layout.proofs.Growing.{fills, starts, told-so}
-use Rattle.cpp_layout.specs.Layout.{context_of, table_of, tree_shown}
+use Rattle.cpp_layout.specs.Layout.{context_of, table_of, printed_tree}
 use Rattle.cpp_tree.specs.Nodes.{mark_of, qualifiers_of, tree_of, trees}
 use Rattle.cpp_term.specs.Reargued.{reargued}
 use Rattle.cpp_layout.proofs.symbol.Symbol.fill_qualified_right.Goals as goal
@@ -15,7 +15,7 @@ returns-in-FunctionType-clause-shows g c =
     let said = c.place-place.ensures in
     let f = c.in-FunctionType in
     fills c.args.self.now c.args.ctx.detail _ _ _ (told-so c.args.self.now told.detail c.args.ctx.detail _ _ said.detail c.fill_function_right.ensures.shows)
-    (ap (λ x. function_right x (qualifier_text (qualifiers_of c.args.qualifiers)) (mark_of f.mark) f.noexcept (tree_shown c.args.self.now told f.returned) (tree_shown c.args.self.now told f.parameters)) said.index
+    (ap (λ x. function_right x (qualifier_text (qualifiers_of c.args.qualifiers)) (mark_of f.mark) f.noexcept (printed_tree c.args.self.now told f.returned) (printed_tree c.args.self.now told f.parameters)) said.index
     ∙ qualified-function (context_of c.args.ctx) (qualifiers_of c.args.qualifiers) _ _ _ _ _ _ (sym said.tree ∙ f.ensures.tree))
 
 pub returns-in_default-clause-shows : goal.returns-in_default-clause-shows

@@ -1,12 +1,12 @@
 use Rattle.std.proofs.Common.{ap, subst, ◌≡◌, ◌∙◌}
-use Rattle.cpp_tree.specs.Nodes.{over, placed_tree, trees}
+use Rattle.cpp_tree.specs.Nodes.{over, tree_under, trees}
 use Rattle.cpp_grammar.specs.Items as heads
 use Rattle.cpp_term.specs.Items as items
 use Rattle.cpp_layout.specs.Layout.{context_of, table_of}
 use Rattle.cpp_layout.proofs.symbol.Symbol.is_function.Goals as goal
 
 pub returns : goal.returns
-unfolding placed_tree
+unfolding tree_under
 returns c =
-    subst (λ ts. c.is_function.result ≡ heads.is_funarr (items.head (context_of c.args.ctx) (placed_tree ts (record { node = c.args.node; under = c.args.ctx.argument }))))
+    subst (λ ts. c.is_function.result ≡ heads.is_funarr (items.head (context_of c.args.ctx) (tree_under ts (record { node = c.args.node; under = c.args.ctx.argument }))))
     (ap (λ b. trees (over b c.self.inside.nodes)) c.deref.ensures.value ∙ ap (λ y. trees (table_of y)) c.self.view_is) c.is_function.ensures

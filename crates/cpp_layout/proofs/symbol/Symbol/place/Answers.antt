@@ -1,10 +1,10 @@
 use Rattle.std.proofs.Common.{ap, subst, ◌≡◌, ◌∙◌}
-use Rattle.cpp_tree.specs.Nodes.{over, placed_tree, trees}
+use Rattle.cpp_tree.specs.Nodes.{over, tree_under, trees}
 use Rattle.cpp_layout.specs.Layout.{table_of}
 use Rattle.cpp_layout.proofs.symbol.Symbol.place.Goals as goal
 
 pub returns-clause-tree : goal.returns-clause-tree
-unfolding placed_tree
+unfolding tree_under
 returns-clause-tree c =
-    subst (λ ts. placed_tree ts c.settled-placed.result ≡ placed_tree ts (record { node = c.args.node; under = c.args.ctx.argument }))
+    subst (λ ts. tree_under ts c.settled-placed.result ≡ tree_under ts (record { node = c.args.node; under = c.args.ctx.argument }))
     (ap (λ b. trees (over b c.self.inside.nodes)) c.deref.ensures.value ∙ ap (λ y. trees (table_of y)) c.self.view_is) c.settled-placed.ensures.tree

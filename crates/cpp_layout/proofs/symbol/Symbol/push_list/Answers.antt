@@ -2,14 +2,14 @@ use Rattle.std.proofs.Common.{sym, ◌∙◌}
 use Rattle.cpp_term.specs.Reargued.{reargued}
 use Rattle.cpp_layout.proofs.Functions.{not-nil}
 use Rattle.cpp_layout.proofs.Growing.{fills, list-here, list-none}
-use Rattle.cpp_layout.specs.Layout.{context_of, form_of, table_of, tree_shown}
+use Rattle.cpp_layout.specs.Layout.{context_of, form_of, table_of, printed_tree}
 use Rattle.cpp_tree.specs.Nodes.{tree_of, trees}
 use Rattle.cpp_layout.proofs.symbol.Symbol.push_list.Goals as goal
 
 pub returns-in-Nil-clause-shows : goal.returns-in-Nil-clause-shows
 unfolding tree_of reargued
 returns-in-Nil-clause-shows g c below others shows =
-    fills c.args.self.now c.args.ctx.detail _ _ _ shows (list-none (form_of c.args.form 0) (context_of c.args.ctx) (tree_shown c.args.self.now c.args.ctx c.args.list) others (sym c.place-place.ensures.tree ∙ c.in-Nil.ensures.tree))
+    fills c.args.self.now c.args.ctx.detail _ _ _ shows (list-none (form_of c.args.form 0) (context_of c.args.ctx) (printed_tree c.args.self.now c.args.ctx c.args.list) others (sym c.place-place.ensures.tree ∙ c.in-Nil.ensures.tree))
 
 pub returns-in_default-clause-shows : goal.returns-in_default-clause-shows
 returns-in_default-clause-shows g c below others shows =

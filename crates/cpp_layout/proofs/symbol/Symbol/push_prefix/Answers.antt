@@ -3,7 +3,7 @@ use Rattle.cpp_grammar.specs.Items as heads
 use Rattle.cpp_term.specs.Parts.{as_item}
 use Rattle.cpp_layout.proofs.Growing.{fills, told-so}
 use Rattle.cpp_layout.proofs.Naming.{prefix-held}
-use Rattle.cpp_layout.specs.Layout.{context_of, table_of, tree_shown}
+use Rattle.cpp_layout.specs.Layout.{context_of, table_of, printed_tree}
 use Rattle.cpp_tree.specs.Nodes.{trees}
 use Rattle.cpp_layout.proofs.Others.{prefix-encoding, prefix-other}
 use Rattle.cpp_layout.proofs.symbol.Symbol.push_prefix.Goals as goal
@@ -22,7 +22,7 @@ returns-in-Holder-clause-shows g c below others shows =
     let stored = c.stored-stored.ensures in
     fills c.args.self.now c.args.ctx.detail _ _ _
     (told-so c.args.self.now told.detail c.args.ctx.detail _ _ said.detail (c.push_item.ensures.shows _ _ (told-so c.args.self.now c.args.ctx.detail told.detail _ _ (sym said.detail) shows)))
-    (ap (λ x. as_item heads.left x (tree_shown c.args.self.now told c.in-Holder.name) ∷ others) said.index
+    (ap (λ x. as_item heads.left x (printed_tree c.args.self.now told c.in-Holder.name) ∷ others) said.index
     ∙ ap (λ i. i ∷ others) (prefix-held c.args.self.now.bytes c.args.self.now.table.thunks (trees (table_of c.args.self.now)) _ (context_of c.args.ctx) c.stored-stored.result stored.own _ _ (sym said.tree ∙ stored.tree) c.in-Holder.is))
 
 pub returns-in_default-clause-shows : goal.returns-in_default-clause-shows

@@ -1,13 +1,13 @@
 use Rattle.std.proofs.Common.{ap, subst, ◌≡◌, ◌∙◌}
-use Rattle.cpp_tree.specs.Nodes.{over, placed_tree, trees}
+use Rattle.cpp_tree.specs.Nodes.{over, tree_under, trees}
 use Rattle.cpp_term.specs.Scope.{without_tags}
 use Rattle.cpp_layout.specs.Layout.{table_of}
 use Rattle.cpp_layout.proofs.symbol.Symbol.untagged.Goals as goal
 
 pub returns-clause-tree : goal.returns-clause-tree
-unfolding placed_tree
+unfolding tree_under
 returns-clause-tree c =
     let seen = ap (λ y. trees (table_of y)) c.self.view_is in
-    subst (λ ts. placed_tree ts c.settled-placed.result ≡ placed_tree ts c.untagged-inner.result) (ap (λ b. trees (over b c.self.inside.nodes)) c.deref-2.ensures.value ∙ seen) c.settled-placed.ensures.tree
-    ∙ subst (λ ts. placed_tree ts c.untagged-inner.result ≡ without_tags (placed_tree ts (record { node = c.args.name; under = c.args.ctx.argument })))
+    subst (λ ts. tree_under ts c.settled-placed.result ≡ tree_under ts c.untagged-inner.result) (ap (λ b. trees (over b c.self.inside.nodes)) c.deref-2.ensures.value ∙ seen) c.settled-placed.ensures.tree
+    ∙ subst (λ ts. tree_under ts c.untagged-inner.result ≡ without_tags (tree_under ts (record { node = c.args.name; under = c.args.ctx.argument })))
     (ap (λ b. trees (over b c.self.inside.nodes)) c.deref.ensures.value ∙ seen) c.untagged-inner.ensures.tree

@@ -1,6 +1,6 @@
 use Rattle.std.proofs.Common.{sym, ◌∙◌, ap, subst, length}
 use Rattle.cpp_term.specs.Values.{State}
-use Rattle.cpp_tree.specs.Nodes.{IsThereBelow}
+use Rattle.cpp_tree.specs.Nodes.{IsAliasBelow}
 use Rattle.cpp_references.specs.Around.{counted_of}
 use Rattle.cpp_link.specs.Parts.{trees_in, around_of, candidates_of}
 use Rattle.cpp_link.specs.Reads.{with_candidate}
@@ -8,7 +8,7 @@ use Rattle.cpp_link.proofs.Appending.{one_noted, none_noted}
 use Rattle.cpp_link.proofs.linked.Linked.append.Goals as goal
 
 pub push_candidate-requires-clause-below : goal.push_candidate-requires-clause-below
-push_candidate-requires-clause-below c = subst (λ o. IsThereBelow (length c.args.self.now.nodes.nodes) o) c.in-Some.is c.requires.candidate
+push_candidate-requires-clause-below c = subst (λ o. IsAliasBelow (length c.args.self.now.nodes.nodes) o) c.in-Some.is c.requires.candidate
 
 pub returns-in_ok-push_candidate-in-Some-clause-is : goal.returns-in_ok-push_candidate-in-Some-clause-is
 returns-in_ok-push_candidate-in-Some-clause-is c state =

@@ -3,7 +3,7 @@ use Rattle.std.specs.Prelude.{MatchOption}
 use Rattle.sym_core.specs.Value.{counted_value}
 use Rattle.sym_core.specs.declared.NumberKind.TheVariants.{Decimal, Seq36}
 use Rattle.sym_core.specs.declared.refusal.Refusal.TheVariants.{BadReference}
-use Rattle.cpp_term.specs.Between.{Going}
+use Rattle.cpp_term.specs.Between.{Continuation}
 use Rattle.cpp_term.specs.Rescoping.{is_instance, module_named, between_wide}
 use Rattle.cpp_term.specs.Values.{Value}
 use Rattle.cpp_tree.specs.Nodes.{bytes_at, tree_at}
@@ -114,7 +114,7 @@ returns-in_default-named_module-clause-refused c state counted =
     let s = c.args.symbol.now in
     let y = c.args.self.now.nodes in
     let one = module_second c.args.production (is_lambda c.args.kept.scope) (length c.args.parts.now) c.in-NamedModule.is c.requires.apart in
-    let refused : ℕ → Going = λ place. Err (BadReference place) in
+    let refused : ℕ → Continuation = λ place. Err (BadReference place) in
     ap (λ p. between_wide p (around_of (trees_in s y) c.args.kept) c.args.place (values_in s y c.args.parts.now) (record state { packs = c.args.self.now.packs })) c.in-NamedModule.is
     ∙ module_refused (around_of (trees_in s y) c.args.kept) c.args.place (values_in s y c.args.parts.now) state c.args.self.now.packs (bytes_at s c.text-digits.result)
     (values_length s (trees_in s y) c.args.parts.now ∙ one) c.text-digits.ensures.is (c.in_default-named_module.ensures.is state counted) ∙ ap refused (sym c.saturating_sub-at.ensures)

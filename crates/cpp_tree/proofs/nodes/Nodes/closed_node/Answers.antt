@@ -1,10 +1,10 @@
 use Rattle.std.proofs.Common.{sym, ◌∙◌}
 use Rattle.cpp_term.proofs.Reargued.{reargued_closed, open_reargued}
-use Rattle.cpp_tree.specs.Nodes.{over, trees, tree_at, tree_if_there, placed_tree}
+use Rattle.cpp_tree.specs.Nodes.{over, trees, tree_at, tree_if_there, tree_under}
 use Rattle.cpp_tree.proofs.nodes.Nodes.closed_node.Goals as goal
 
 pub returns-clause-tree : goal.returns-clause-tree
-unfolding placed_tree
+unfolding tree_under
 returns-clause-tree c =
     let ts = trees (over c.args.symbol.now c.args.self.now) in
     let given = tree_if_there ts c.args.tree.under in

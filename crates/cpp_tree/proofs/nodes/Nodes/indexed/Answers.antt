@@ -1,5 +1,5 @@
 use Rattle.std.proofs.Common.{arith, sym, ◌∙◌, ap, Some}
-use Rattle.cpp_tree.specs.Nodes.{over, trees, placed_tree}
+use Rattle.cpp_tree.specs.Nodes.{over, trees, tree_under}
 use Rattle.cpp_term.specs.Items.{indexed}
 use Rattle.cpp_tree.proofs.Trees.{indexed_pack, pack_below, indexed_none, indexed_other}
 use Rattle.cpp_tree.proofs.nodes.Nodes.indexed.Goals as goal
@@ -13,11 +13,11 @@ pub returns-in-Pack-clause-tree : goal.returns-in-Pack-clause-tree
 returns-in-Pack-clause-tree c =
     let y = over c.args.symbol.now c.args.self.now in
     c.element.ensures.tree ∙ indexed_pack y c.settled-settled.result c.in-Some.i c.in-Pack.elements c.requires.table c.settled-settled.ensures.below.0 (sym c.node.ensures.is ∙ c.in-Pack.is)
-    ∙ ap (λ t. indexed (Some c.in-Some.i) t) c.settled-settled.ensures.tree ∙ ap (λ x. indexed x (placed_tree (trees y) c.args.argument)) (sym c.in-Some.is)
+    ∙ ap (λ t. indexed (Some c.in-Some.i) t) c.settled-settled.ensures.tree ∙ ap (λ x. indexed x (tree_under (trees y) c.args.argument)) (sym c.in-Some.is)
 
 pub returns-in_default-clause-tree : goal.returns-in_default-clause-tree
 returns-in_default-clause-tree c =
-    let t = placed_tree (trees (over c.args.symbol.now c.args.self.now)) c.args.argument in
+    let t = tree_under (trees (over c.args.symbol.now c.args.self.now)) c.args.argument in
     sym (ap (λ x. indexed x t) c.in_default.is ∙ indexed_none t)
 
 pub returns-in_default-node : goal.returns-in_default-node

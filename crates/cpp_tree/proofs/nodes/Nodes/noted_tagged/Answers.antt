@@ -1,6 +1,6 @@
 use Rattle.std.proofs.Common.{ap, ◌∙◌}
 use Rattle.cpp_tree.specs.Nodes.{entry_at}
-use Rattle.cpp_tree.specs.declared.compact.Words.{Words}
+use Rattle.cpp_tree.specs.declared.compact.TypeHead.{TypeHead}
 use Rattle.cpp_tree.specs.Notes.{passed, or_itself}
 use Rattle.cpp_tree.specs.Compact.{with_tags, class_kept, arguments_kept, untagged_kept, returns_kept, count_kept, run_kept, has_pack_kept}
 use Rattle.cpp_tree.proofs.Compacting.{over-is}
@@ -10,6 +10,6 @@ pub returns : goal.returns
 unfolding class_kept arguments_kept untagged_kept returns_kept count_kept run_kept has_pack_kept
 returns c =
     let e = entry_at c.args.self.now.nodes c.args.name in
-    over-is c.args.node passed c.passed.result Words.Tagged c.under_tags-under.result.first c.under_tags-under.result.second c.noted_over.result c.at-held.result e c.at-held.ensures c.passed.ensures c.noted_over.ensures
+    over-is c.args.node passed c.passed.result TypeHead.Tagged c.under_tags-under.result.first c.under_tags-under.result.second c.noted_over.result c.at-held.result e c.at-held.ensures c.passed.ensures c.noted_over.ensures
     ∙ ap (λ p. with_tags c.args.node e.packs e.free (passed e.by_argument) p) c.under_tags-under.ensures
     ∙ ap (λ x. with_tags c.args.node e.packs e.free (passed e.by_argument) (or_itself c.args.name x.untagged)) c.at-held.ensures

@@ -11,7 +11,7 @@ use Rattle.sym_link.specs.Room.{KeepRoom, OnlyForRoom}
 use Rattle.sym_link.proofs.Room.{room_same}
 use Rattle.sym_link.proofs.Driving.{none_kept}
 use Rattle.sym_core.specs.declared.refusal.Refusal.TheVariants.{Memory as memory}
-use Rattle.sym_demangle.proofs.Going.{few_of, goes_on, has_run}
+use Rattle.sym_demangle.proofs.Continuation.{few_of, goes_on, has_run}
 use Rattle.sym_shape.proofs.Keeping.{never_both, never_err, never_done}
 use Rattle.sym_demangle.proofs.linker.Linker.run.Goals as goal
 

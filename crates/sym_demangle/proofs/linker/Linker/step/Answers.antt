@@ -11,7 +11,7 @@ use Rattle.sym_link.specs.Room.{KeepRoom, OnlyForRoom}
 use Rattle.sym_link.proofs.Room.{room_same}
 use Rattle.sym_link.proofs.Driving.{none_kept}
 use Rattle.sym_core.specs.declared.refusal.Refusal.TheVariants.{Memory as memory}
-use Rattle.sym_demangle.proofs.Going.{few_of, goes_on, has_stepped, counts_step, counts_none, stays_open, counts_refusal}
+use Rattle.sym_demangle.proofs.Continuation.{few_of, goes_on, has_stepped, counts_step, counts_none, stays_open, counts_refusal}
 use Rattle.sym_shape.proofs.Keeping.{never_both, never_ok, never_err, never_false, never_done, same_answer}
 use Rattle.sym_demangle.proofs.linker.Linker.step.Goals as goal
 

@@ -4,7 +4,7 @@ use Rattle.sym_shape.specs.Tree.{spell}
 use Rattle.sym_link.specs.Driving.{Fails}
 use Rattle.sym_link.specs.Following.{meaning_of}
 use Rattle.sym_demangle.specs.Standing.{Begins}
-use Rattle.sym_demangle.proofs.Going.{has_run, reset_of}
+use Rattle.sym_demangle.proofs.Continuation.{has_run, reset_of}
 use Rattle.sym_demangle.proofs.Standing.{driving_fails, refused_of}
 use Rattle.sym_demangle.proofs.workspace.Workspace.run.Goals as goal
 
