@@ -20,5 +20,6 @@ pub mod RowLemmas
 pub mod RunLemmas
 pub mod SignLemmas
 pub mod SizeLemmas
+pub mod StringLemmas
 pub mod TemplateLemmas
 pub mod WalkLemmas
