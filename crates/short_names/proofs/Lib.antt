@@ -9,6 +9,7 @@ pub mod FindingLemmas
 pub mod FrontLemmas
 pub mod InlineLemmas
 pub mod LaneLemmas
+pub mod LengthLemmas
 pub mod ListLemmas
 pub mod ListedLemmas
 pub mod NameLemmas
@@ -18,6 +19,7 @@ pub mod PatternLemmas
 pub mod PlainLemmas
 pub mod RowLemmas
 pub mod RunLemmas
+pub mod ShorterLemmas
 pub mod SignLemmas
 pub mod SizeLemmas
 pub mod StringLemmas

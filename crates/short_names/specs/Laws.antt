@@ -1,8 +1,12 @@
--- What holds of short and full texts. These are statements: nothing proves them yet.
-use Rattle.std.specs.Prelude.{◌≡◌, ◌≤◌, ℕ, List, length}
-use Rattle.short_names.specs.Short.{short}
+-- What holds of short and full texts. The first is proved by `short_texts_are_no_longer`; nothing proves the others yet.
+use Rattle.std.specs.Prelude.{◌≡◌, ◌≤◌, ℕ, Bool, List, length}
+use Rattle.short_names.specs.Short.{short, shortened}
 use Rattle.short_names.specs.Full.{full, full_to, full_rules}
 use Rattle.short_names.specs.Walk.{Pairs}
+
+-- A short text isn't longer than its text, with inline namespaces or without them.
+abbrev pub IsNoLonger : (keeps_inline : Bool) → List ℕ → Type 0
+IsNoLonger keeps_inline text = length (shortened keeps_inline text) ≤ length text
 
 -- A short text has the full text of its text.
 abbrev pub KeepsFull : List ℕ → Type 0
@@ -11,7 +15,3 @@ KeepsFull text = Pairs (full_rules (full_to 3)) text → full (short text) ≡ f
 -- A full text has the short text of its text.
 abbrev pub KeepsShort : List ℕ → Type 0
 KeepsShort text = Pairs (full_rules (full_to 3)) text → short (full text) ≡ short text
-
--- A short text isn't longer than its text.
-abbrev pub IsNoLonger : List ℕ → Type 0
-IsNoLonger text = length (short text) ≤ length text

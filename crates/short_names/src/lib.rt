@@ -5,6 +5,7 @@ mod closing;
 mod elements;
 mod finding;
 mod inlines;
+mod laws;
 mod names;
 mod patterns;
 mod runs;
@@ -12,5 +13,6 @@ mod short;
 mod table;
 mod writing;
 
+pub use laws::short_texts_are_no_longer;
 pub use runs::has_std;
 pub use short::Short;
