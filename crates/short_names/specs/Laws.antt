@@ -1,4 +1,5 @@
--- What holds of short and full texts. The first is proved by `short_texts_are_no_longer`; nothing proves the others yet.
+-- What holds of short and full texts. `short_texts_are_no_longer` proves the first, and `alike_texts_are_alike` that the last follows from the
+-- two before it. Nothing proves these two yet.
 use Rattle.std.specs.Prelude.{◌≡◌, ◌≤◌, ℕ, Bool, List, length}
 use Rattle.short_names.specs.Short.{short, shortened}
 use Rattle.short_names.specs.Full.{full, full_to, full_rules}
@@ -15,3 +16,7 @@ KeepsFull text = Pairs (full_rules (full_to 3)) text → full (short text) ≡ f
 -- A full text has the short text of its text.
 abbrev pub KeepsShort : List ℕ → Type 0
 KeepsShort text = Pairs (full_rules (full_to 3)) text → short (full text) ≡ short text
+
+-- Two texts have one short text exactly where they have one full text.
+abbrev pub AreAlike : List ℕ → List ℕ → Type 0
+AreAlike text other = (short text ≡ short other → full text ≡ full other) × (full text ≡ full other → short text ≡ short other)

@@ -1,8 +1,17 @@
 // What follows from the definition of short texts.
 ghost use Rattle.std.specs.Prelude.{ℕ, Bool, List};
-ghost use Rattle.short_names.specs.Laws.{IsNoLonger};
+ghost use Rattle.short_names.specs.Full.{full_rules, full_to};
+ghost use Rattle.short_names.specs.Laws.{AreAlike, IsNoLonger, KeepsFull, KeepsShort};
+ghost use Rattle.short_names.specs.Walk.{Pairs};
 
 /// No short text is longer than its text.
 pub fn short_texts_are_no_longer()
     ensures { (keeps_inline : Bool) (text : List ℕ) → IsNoLonger keeps_inline text }
+{}
+
+/// Where short texts keep full texts and full texts keep short ones, two texts whose brackets pair have one short text exactly where they have
+/// one full text.
+pub fn alike_texts_are_alike()
+    ensures { (text other : List ℕ) → KeepsFull text → KeepsShort text → KeepsFull other → KeepsShort other
+        → Pairs (full_rules (full_to 3)) text → Pairs (full_rules (full_to 3)) other → AreAlike text other }
 {}
