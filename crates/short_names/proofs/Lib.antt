@@ -14,6 +14,7 @@ pub mod ListLemmas
 pub mod ListedLemmas
 pub mod NameLemmas
 pub mod NameSteps
+pub mod OtherLemmas
 pub mod OutsideLemmas
 pub mod PatternLemmas
 pub mod PlainLemmas
