@@ -5,9 +5,9 @@
 
 Files have symbols, one a line; without files they are those of `crates/check_rows/stdin` and of `bench`. The definitions are those of
 `crates/short_names/specs`, by the table of `tools/tables/short_names.txt`: what SYMFILT prints with `--short`, with and without
-`--keep-inline`, is the short text of what it prints without. Of each of these texts, and of texts that are made of names of the table,
-arguments and members, with defaults and without: a short text has the full text of its text, a full text has the short text of its text,
-and no short text is longer. The status is 1 where one fails.
+`--keep-inline`, is the short text of what it prints without, also of symbols of each template of the table. Of each of these texts, and of
+texts that are made of names of the table, arguments and members, with defaults and without: a short text has the full text of its text, a
+full text has the short text of its text, and no short text is longer. The status is 1 where one fails.
 """
 
 import argparse
@@ -311,6 +311,58 @@ def made_texts(count, seed):
         yield f"f({text(3)})" if chosen.random() < 0.4 else text(3)
 
 
+LETTERS = {"int": "i", "char": "c", "wchar_t": "w", "char8_t": "Du", "char16_t": "Ds", "char32_t": "Di", "long": "l", "long long": "x", "unsigned long": "m", "void": "v", "false": "Lb0E"}
+
+
+def mangled(text):
+    """A type, or a number, as a symbol has it without substitutions."""
+    if text in LETTERS:
+        return LETTERS[text]
+    for end, letter in ((" const", "K"), ("*", "P"), ("&", "R")):
+        if text.endswith(end):
+            return letter + mangled(text[:-len(end)])
+    if text[0].isdigit():
+        return f"Lm{text[:-2]}E" if text.endswith("ul") else f"Ll{text[:-1]}E"
+    name, *arguments = text.split("<", 1)
+    arguments = "I" + "".join(map(mangled, elements_of(arguments[0][:-1]))) + "E" if arguments else ""
+    first, *others = [part if part == "std" else f"{len(part)}{part}" for part in name.split("::")]
+    written = first.replace("std", "St") + "".join(others) + arguments
+    return f"N{written}E" if len(others) > (first == "std") else written
+
+
+def elements_of(text):
+    """What `, ` outside of lists parts."""
+    found, depth = [""], 0
+    for piece in re.split("(, |<|>)", text):
+        depth += (piece == "<") - (piece == ">")
+        if piece == ", " and depth == 0:
+            found.append("")
+        else:
+            found[-1] += piece
+    return found
+
+
+def made_symbols():
+    """Symbols of each template of the table with some of its defaults, and with others."""
+    for whole in ("std::", "std::__1::", "std::__cxx11::", "my::"):
+        inner = whole if whole == "std::__1::" else "std::"
+        for name, defaults in DEFAULTS.items():
+            for argument in ("char", "A", "long long" if inner == "std::__1::" else "long"):
+                elements = [argument]
+                for pattern in defaults[1:]:
+                    elements.append(filled_for(inner, elements, pattern) if pattern else "int")
+                lists = [elements[:count] for count in range(1, len(elements) + 1)] + [elements + ["int"]]
+                if polymorphic(name):
+                    lists.append(elements[:-1] + [filled_for(inner, elements, polymorphic(name))])
+                for each in lists:
+                    text = listed(whole + name, each)
+                    yield "_Z1f" + mangled(text)
+                    yield "_Z1f" + mangled(f"std::vector<{text}, std::allocator<{text}>>")
+    for alias, template, arguments in ALIASES:
+        yield "_Z1f" + mangled(f"std::{template}<{filled(arguments, '', '', 'std::')}>")
+        yield "_Z1f" + mangled(f"std::{alias}")
+
+
 def lines_of(program, options, symbols):
     """What the program prints for symbols, one a line."""
     printed = subprocess.run([program, "--wide", *options], input="\n".join(symbols).encode("latin-1") + b"\n", stdout=subprocess.PIPE, check=True)
@@ -331,7 +383,7 @@ def main():
     parser.add_argument("files", nargs="*")
     options = parser.parse_args()
     rows = [os.path.join(HERE, "..", *path) for path in (("crates", "check_rows", "stdin"), ("bench", "fresh_cpp.txt"), ("bench", "fresh_instances.txt"))]
-    symbols = sorted({symbol for path in options.files or rows for symbol in symbols_in(path)})
+    symbols = sorted({symbol for path in options.files or rows for symbol in symbols_in(path)} | set(made_symbols()))
     texts = lines_of(options.program, [], symbols)
     kept = lines_of(options.program, ["--short", "--keep-inline"], symbols)
     plain = lines_of(options.program, ["--short"], symbols)
