@@ -58,9 +58,18 @@ def rows_of(numbers):
         line += f" {number},"
     return lines + [line]
 
+def whole_list(arguments, defaults):
+    """The list of a template in `std` with the defaults behind some arguments."""
+    elements = [*arguments]
+    for default in defaults[len(elements):]:
+        for byte, text in {"\0": elements[0], "\2": "std::"}.items():
+            default = default.replace(byte, text)
+        elements.append(default)
+    return f"<{', '.join(elements)}>"
+
 def files(crates):
     """The path and the text of the file."""
-    texts, rows, aliases, defaults_rows = Texts(), [], [], []
+    texts, rows, aliases, defaults_rows, usual = Texts(), [], [], [], []
     listed = entries("short_names.txt")
     pmr = {name for words in listed["pmr"] for name in words}
     of = {}
@@ -71,6 +80,7 @@ def files(crates):
     for name, defaults in listed_templates:
         first = len(aliases)
         for alias, arguments in of.pop(name, []):
+            usual.append(alias)
             aliases.append(f"    alias!({texts.place(name)}, {texts.place(pattern(arguments))}, {texts.place(alias)}), // {alias}")
         first_default = len(defaults_rows)
         defaults_rows += [f"    {texts.place(default)}, // {name}" for default in defaults]
@@ -85,7 +95,9 @@ def files(crates):
     places = {name: [f"    {texts.place(text)}, // {text}" for text in rows] for name, rows in lists.items()}
     marks = [str(ord(name[0]) + 256 * ord(name[-3])) for name, _ in listed_templates]
     std, lines = texts.place("std::"), "".join(texts.texts)
+    string = next((row, whole_list(["char"], defaults)) for row, (name, defaults) in enumerate(listed_templates) if name == "basic_string")
     firsts = [sum(size < k for size in sizes) for k in range(max(sizes) + 2)]
     yield "short_names/src/table.rt", template("short_names/table.rt", std=std, marks=["    " + ", ".join(marks[k:k + 13]) + "," for k in range(0, len(marks), 13)], places=texts.constants(), longest=str(len(firsts) - 1), firsts=str(len(firsts)), first=["    " + ", ".join(map(str, firsts[k:k + 25])) + "," for k in range(0, len(firsts), 25)], texts=escaped(lines), length=str(len(lines)), templates=rows, count=str(len(rows)), defaults=defaults_rows, defaults_count=str(len(defaults_rows)), aliases=aliases, names=str(len(aliases)),
+        string_template=str(string[0]), string=str(usual.index("string")), string_size=str(len(string[1])), string_list=string[1],
         usual_firsts=flags({alias[0] for alias, _, _ in listed["alias"]}), inline_firsts=marks_of(groups, 0), inline_thirds=marks_of(groups, 2),
         **{name.lower(): rows for name, rows in places.items()}, **{f"{name.lower()}_count": str(len(rows)) for name, rows in places.items()})

@@ -101,7 +101,7 @@ class-follows text class is = by (starts_with nat_eq (drop (front_size text) tex
     by true h = h
     by false h = absurd (true≢false (sym is ∙ no-class text class (colons-from text class is) h))
 
-constructor-room : (text class : List ℕ) → is_constructor text class ≡ true → front_size text + length class ≤ length text
+pub constructor-room : (text class : List ℕ) → is_constructor text class ≡ true → front_size text + length class ≤ length text
 constructor-room text class is =
     omega
     (arith, front-within text (colons-from text class is), starts-within (drop (front_size text) text) class (class-follows text class is), length-drop (front_size text) text)

@@ -75,6 +75,22 @@ from-one k elements within =
     lead-splits k elements within
     ∙ ap (λ t. lead k elements ++ t) (ap joined (drop_more elements k [] within) ∙ joined-first (get_or elements k []) (drop (k + 1) elements))
 
+first-within : (k : ℕ) (elements : List (List ℕ)) → k < length elements → length (joined (take k elements)) ≤ length (lead k elements)
+unfolding joined lead
+first-within zero elements within = omega arith
+first-within (suc k) elements within = omega (arith, lead-next k elements (omega (arith, within)))
+
+-- without an element and those behind it the text is shorter, by that element at least
+pub joined-before : (k : ℕ) (elements : List (List ℕ)) → k < length elements → length (joined (take k elements)) + length (get_or elements k []) ≤ length (joined elements)
+joined-before k elements within =
+    omega (
+      arith,
+      first-within k elements within,
+      ap length (from-one k elements within),
+      length-append (lead k elements) (get_or elements k [] ++ tail (drop (k + 1) elements)),
+      length-append (get_or elements k []) (tail (drop (k + 1) elements)),
+    )
+
 take-front : (p q r : List ℕ) → take (length (p ++ q)) (p ++ r) ≡ p ++ take (length q) r
 take-front [] q r = refl
 take-front (x ∷ p) q r = ap (λ t. x ∷ t) (take-front p q r)
@@ -89,6 +105,10 @@ front-of-joined (suc (suc count)) (first ∷ []) = take_all (length first) first
 front-of-joined (suc (suc count)) (first ∷ next ∷ elements) =
     take-front (first ++ codes ", ") (joined (next ∷ take count elements)) (joined (next ∷ elements))
     ∙ ap (λ t. first ++ codes ", " ++ t) (front-of-joined (suc count) (next ∷ elements))
+
+-- no text of the first elements is longer
+pub joined-front : (count : ℕ) (elements : List (List ℕ)) → length (joined (take count elements)) ≤ length (joined elements)
+joined-front count elements = omega (arith, ap length (front-of-joined count elements), length-take (length (joined (take count elements))) (joined elements))
 
 module _ (text starts : List ℕ) (elements : List (List ℕ)) (e : AreElements text starts elements) where
   pub starts-length : length starts ≡ length elements

@@ -198,7 +198,7 @@ member_goes text now written alias size more after is less letter no_list member
 
 -- ## Runs that don't begin with `std::`
 
-begins-by : (text row : List ℕ) → starts_with nat_eq text row ≡ true → begins_std row ≡ true → begins_std text ≡ true
+pub begins-by : (text row : List ℕ) → starts_with nat_eq text row ≡ true → begins_std row ≡ true → begins_std text ≡ true
 begins-by text row starts begins =
     let front : take 5 text ≡ codes "std::" =
     sym (take-take 5 (length row) text (starts-within row (codes "std::") begins)) ∙ ap (take 5) (begun text row starts) ∙ begun row (codes "std::") begins in

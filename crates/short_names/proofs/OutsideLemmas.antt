@@ -22,7 +22,7 @@ abbrev pub outside : List ℕ → Written
 outside last = record { opened = []; last = last }
 
 -- the byte behind a run isn't of a name
-run-stops : (text : List ℕ) → is_name_byte (get_or text (length (run_of text)) 0) ≡ false
+pub run-stops : (text : List ℕ) → is_name_byte (get_or text (length (run_of text)) 0) ≡ false
 unfolding run_of is_name_byte is_letter
 run-stops [] = refl
 run-stops (byte ∷ text) = by (is_name_byte byte) refl (run-stops text)
@@ -48,14 +48,14 @@ run-letter (byte ∷ text) (suc k) less = run-letter text k (next (is_name_byte 
     next false h = absurd (omega (arith, h))
 
 -- `std::` begins with a byte of a name
-std-letter : (text : List ℕ) (k : ℕ) → begins_std (drop k text) ≡ true → is_name_byte (get_or text k 0) ≡ true
+pub std-letter : (text : List ℕ) (k : ℕ) → begins_std (drop k text) ≡ true → is_name_byte (get_or text k 0) ≡ true
 unfolding is_name_byte is_letter
 std-letter text k h =
     let first : get_or text k 0 ≡ 115 = sym (ap (λ n. get_or text n 0) (omega arith)) ∙ sym (get_or-drop k text 0 0) ∙ sym (get_or-take 5 (drop k text) 0 0 (omega arith)) ∙ ap (λ t. get_or t 0 0) (begun (drop k text) (codes "std::") h) in
     ap is_name_byte first
 
 -- a place behind a piece of a text is looked at as the first one of what follows
-at-drop : (text : List ℕ) (size k : ℕ) → 0 < size → (begins_std (drop size text) ≡ true → is_name_byte (get_or text (size - 1) 0) ≡ false)
+pub at-drop : (text : List ℕ) (size k : ℕ) → 0 < size → (begins_std (drop size text) ≡ true → is_name_byte (get_or text (size - 1) 0) ≡ false)
     → is_std_at (drop size text) k ≡ is_std_at text (size + k)
 at-drop text size zero some boundary =
     by (begins_std (drop size text)) refl ∙ ap (is_std_at text) (omega arith)

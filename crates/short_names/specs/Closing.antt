@@ -1,8 +1,11 @@
 -- A list of a name of the table at the end of a text, and what is written for it.
-use Rattle.std.specs.Prelude.{◌≡◌, ◌≤◌, ◌<◌, ℕ, List, ◌∷◌, ◌++◌, ◌+◌, length, Some}
+use Rattle.std.specs.Prelude.{◌≡◌, ◌≤◌, ◌<◌, ℕ, List, ◌∷◌, ◌++◌, ◌+◌, true, length, take, drop, slice_get, Some, IfSome}
 use Rattle.short_names.specs.declared.names.Named.{Named}
+use Rattle.short_names.specs.declared.table.Place.{Place}
+use Rattle.short_names.specs.declared.table.TheConstants.{ALIASES, STD, STRING, STRING_LIST, STRING_TEMPLATE}
 use Rattle.short_names.specs.Elements.{joined}
 use Rattle.short_names.specs.Names.{named_in}
+use Rattle.short_names.specs.Short.{is_read_back}
 use Rattle.short_names.specs.Starts.{starts_of}
 use Rattle.short_names.specs.Walk.{Answer}
 
@@ -16,6 +19,13 @@ pub record IsList (text : List ℕ) (named : Named) (bracket : ℕ) (starts befo
 
 abbrev pub EndsWithList : (text : List ℕ) → Named → (bracket : ℕ) → (starts : List ℕ) → Type 0
 EndsWithList text named bracket starts = (before : List ℕ) × (name : List ℕ) × (elements : List (List ℕ)) × IsList text named bracket starts before name elements
+
+-- The list of `std::string` follows its template's name, where it becomes that.
+pub record IsString (whole : Place) (row : ℕ) (rest : List ℕ) : Type 0 where
+  pub whole_is : whole ≡ STD
+  pub row_is : row ≡ STRING_TEMPLATE
+  pub follows : take (length STRING_LIST) rest ≡ STRING_LIST
+  pub read_back : IfSome (slice_get ALIASES STRING) (λ alias. is_read_back (drop (length STRING_LIST) rest) alias ≡ true)
 
 -- an answer was written behind a text, with some of the bytes that follow
 pub record IsAnswered (new before rest : List ℕ) (answer : Answer) (size : ℕ) : Type 0 where

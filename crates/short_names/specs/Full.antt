@@ -5,7 +5,7 @@ use Rattle.short_names.specs.declared.table.Place.{Place}
 use Rattle.short_names.specs.declared.table.Alias.{Alias}
 use Rattle.short_names.specs.declared.table.TheConstants.{ALIASES}
 use Rattle.short_names.specs.declared.names.Named.{Named}
-use Rattle.short_names.specs.Elements.{listed, filled_for, defaults_of}
+use Rattle.short_names.specs.Elements.{listed, filled_for, defaults_of, left_of}
 use Rattle.short_names.specs.Names.{StdName, std_name, table_name, named_in, last_part, front_size, is_constructor, class_of, ends_name}
 use Rattle.short_names.specs.Patterns.{filled}
 use Rattle.short_names.specs.Texts.{text_of}
@@ -38,12 +38,13 @@ if_polymorphic (Some named) = if length (text_of named.template.polymorphic) == 
 abbrev pub pmr_in : (run : List ℕ) → Option Named
 pmr_in run = if_polymorphic (table_name (without_pmr (std_name run)))
 
--- the elements of one with its allocator, and the name without `pmr::`
+-- the elements of one with its allocator, and the name without `pmr::`; where the last of them is a default, the list stays, since no short
+-- text has such a list
 abbrev pub pmr_list : (full : List ℕ → List ℕ) → Named → (run : List ℕ) → List (List ℕ) → List ℕ
 pmr_list full named run elements =
     let all = defaulted full named (named.template.count - 1) elements in
     let from = length run - length (text_of named.template.name) in
-    if length all + 1 == named.template.count
+    if length all + 1 == named.template.count && left_of named elements (length elements) == length elements
     then take (from - 5) run ++ drop from run ++ listed (all ++ full (filled_for named all (text_of named.template.polymorphic)) ∷ [])
     else run ++ listed elements
 

@@ -3,13 +3,14 @@ use Rattle.std.specs.Prelude.{◌≡◌, ◌≤◌, ◌<◌, ℕ, List, [], ◌�
 use Rattle.short_names.specs.declared.writing.Listed.{Listed}
 use Rattle.short_names.specs.declared.writing.Bracket.{Bracket}
 use Rattle.short_names.specs.declared.writing.Writing.{Writing}
-use Rattle.short_names.specs.declared.table.TheConstants.{TEMPLATES}
+use Rattle.short_names.specs.declared.table.TheConstants.{TEMPLATES, STD, STRING_LIST, STRING_TEMPLATE}
 use Rattle.short_names.specs.declared.names.Change.{Change}
 use Rattle.short_names.specs.declared.names.Change.TheVariants as changes
 use Rattle.short_names.specs.Changes.{IsChange, is_nothing}
 use Rattle.short_names.specs.Names.{named_in, with_template}
 use Rattle.short_names.specs.Plain.{behind_run}
 use Rattle.short_names.specs.Runs.{run_of, is_name_byte}
+use Rattle.short_names.specs.Closing.{IsString}
 use Rattle.short_names.specs.Elements.{joined}
 use Rattle.short_names.specs.Short.{short_rules, for_list}
 use Rattle.short_names.specs.Starts.{starts_of}
@@ -90,6 +91,13 @@ abbrev pub IsAtMember : (text : List ℕ) → Writing → (row size : ℕ) → T
 IsAtMember text now row size =
     CanStep text now × (is_name_byte (get_or text now.at 0) ≡ true)
     × IsChange (run_of (drop now.at text)) (behind_run (drop now.at text)) (changes.Member row size) × (now.at + size ≤ length text)
+
+-- the template of `std::string` and its list, which become that, are at the place
+abbrev pub IsAtString : (text : List ℕ) → Writing → (size : ℕ) → Type 0
+IsAtString text now size =
+    CanStep text now × (is_name_byte (get_or text now.at 0) ≡ true) × (size ≡ length (run_of (drop now.at text)))
+    × (named_in (run_of (drop now.at text)) ≡ with_template STD (slice_get TEMPLATES STRING_TEMPLATE)) × IsString STD STRING_TEMPLATE (behind_run (drop now.at text))
+    × (now.at + size + length STRING_LIST ≤ length text)
 
 -- whatever was written before, more was written
 abbrev pub GoesFrom : {E : Type 0} → (text : List ℕ) → (old new : Writing) → Result (Unit {0}) E → Type 0

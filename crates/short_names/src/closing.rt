@@ -1,12 +1,12 @@
 // What is written where a list of a name of the table is closed.
-ghost use Rattle.std.specs.Prelude.{◌≡◌, ◌≤◌, ◌++◌, ℕ, List, length, take, drop, codes, IfOk, OnOk};
-ghost use Rattle.short_names.specs.Closing.{EndsWithList, IsAnswered, IsList};
-ghost use Rattle.short_names.specs.Short.{constructor, if_read_back, is_own, short_list};
+ghost use Rattle.std.specs.Prelude.{◌≡◌, ◌≤◌, ◌++◌, ℕ, List, length, take, drop, codes, true, IfOk, OnOk};
+ghost use Rattle.short_names.specs.Closing.{EndsWithList, IsAnswered, IsList, IsString};
+ghost use Rattle.short_names.specs.Short.{constructor, if_read_back, is_own, is_read_back, short_list};
 
 use crate::elements::Elements;
 use crate::names::{Named, before_constructor, class_of, ends_name, is_constructor, last_part};
 use crate::patterns::text_at;
-use crate::table::Alias;
+use crate::table::{ALIASES, Alias, Place, STD, STRING, STRING_LIST, STRING_TEMPLATE};
 use std::alloc::AllocError;
 
 /// Closes a list of a name of the table, whose bracket is at a place of a text, and whose elements begin at others; answers how many of the
@@ -50,10 +50,31 @@ fn read_back(alias: Option<Alias>, rest: &[u8]) -> Option<Alias>
     ensures { result ≡ if_read_back rest.now alias }
 {
     let alias = alias?;
-    if ends_name(rest) && is_own(alias, rest) {
+    if is_read_back(alias, rest) {
         Some(alias)
     } else {
         None
+    }
+}
+
+/// Whether a usual name is one where the text goes on, and is read back as the same.
+fn is_read_back(alias: Alias, rest: &[u8]) -> bool
+    ensures { result ≡ is_read_back rest.now alias }
+{
+    ends_name(rest) && is_own(alias, rest)
+}
+
+/// Whether a name of the table and the list that follows it become `std::string`. Its list is the most frequent by far.
+#[inline(always)]
+pub(crate) fn is_string(whole: Place, row: usize, rest: &[u8]) -> bool
+    ensures { result ≡ true → IsString whole row rest.now }
+{
+    if row != STRING_TEMPLATE || whole.from != STD.from || whole.to != STD.to {
+        return false;
+    }
+    match rest.strip_prefix(&STRING_LIST) {
+        Some(rest) => is_read_back(ALIASES[STRING], rest),
+        None => false,
     }
 }
 

@@ -5,6 +5,7 @@ mod closing;
 mod elements;
 mod finding;
 mod inlines;
+mod laws;
 mod names;
 mod patterns;
 mod runs;
@@ -12,5 +13,6 @@ mod short;
 mod table;
 mod writing;
 
+pub use laws::{alike_texts_are_alike, short_texts_are_no_longer, texts_without_std_stay};
 pub use runs::has_std;
 pub use short::Short;

@@ -753,6 +753,15 @@ pub static ALIASES: [Alias; 47] = [
     alias!(T150, T153, T154), // mt19937_64
 ];
 
+/// The row of the template of `std::string`.
+pub const STRING_TEMPLATE: usize = 28;
+
+/// The row of `std::string` among the usual names.
+pub const STRING: usize = 4;
+
+/// The list of `std::string`, with what is the default.
+pub static STRING_LIST: [u8; 52] = *b"<char, std::char_traits<char>, std::allocator<char>>";
+
 /// `std::` with each inline namespace that holds all of `std`, and `std::` alone, which is last.
 pub static WHOLES: [Place; 7] = [
     T156, // std::__1::

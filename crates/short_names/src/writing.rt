@@ -2,15 +2,16 @@
 ghost use Rattle.std.specs.Prelude.{◌≡◌, ◌≤◌, ◌<◌, ◌++◌, ◌+◌, ◌-◌, ◌^◌, ◌∷◌, [], ℕ, List, length, take, drop, get_or, IfOk, OnOk, Bool, true, false, if◌then◌else◌};
 ghost use Rattle.short_names.specs.Runs.{is_name_byte};
 ghost use Rattle.short_names.specs.Short.{short};
-ghost use Rattle.short_names.specs.Writing.{CanStep, CanChange, CanClose, IsAtMember, GoesFrom, StepsFrom, IsAt, IsPending, IsShortened, IsClosed, Goes};
+ghost use Rattle.short_names.specs.Writing.{CanStep, CanChange, CanClose, IsAtMember, IsAtString, GoesFrom, StepsFrom, IsAt, IsPending, IsShortened, IsClosed, Goes};
 ghost use Rattle.short_names.specs.Walk.{Written, is_opening, is_closing};
 ghost use Rattle.short_names.specs.declared.writing.Bracket.{Bracket as Innermost};
 
-use crate::closing::{append_constructor, close};
+use crate::closing::{append_constructor, close, is_string};
 use crate::finding::first_change;
 use crate::names::{Change, Named, change_at};
+use crate::patterns::text_at;
 use crate::runs::{is_name_byte, operator_size, run_at};
-use crate::table::{ALIASES, Place};
+use crate::table::{ALIASES, Place, STRING, STRING_LIST};
 use std::alloc::{AllocError, Global};
 
 /// Whether a byte is a bracket that opens one.
@@ -174,12 +175,31 @@ impl Writing {
                 Ok(())
             }
             Change::List { whole, row } => {
+                if is_string(whole, row, &text[self.at + size..]) {
+                    return self.write_string(text, size);
+                }
                 self.at += size;
                 self.open_bracket(true, Some(Listed { whole, row }))?;
                 Ok(())
             }
             Change::Member { row, size } => self.write_member(text, row, size),
         }
+    }
+
+    /// Writes `std::string` for a run of a size and the list that follows it, and the constructor or destructor behind them.
+    fn write_string(&mut self, text: &[u8], size: usize) -> Result<(), AllocError>
+        requires { IsAtString text.now self.old size }
+        ensures { GoesFrom text.now self.old self.new result }
+    {
+        let alias = ALIASES[STRING];
+        let end = self.at + size + STRING_LIST.len();
+        self.at += size - text_at(alias.template).len();
+        self.copy(text)?;
+        self.out.extend_from_slice(text_at(alias.name))?;
+        let more = append_constructor(alias, &text[end..], &mut self.out)?;
+        self.at = end + more;
+        self.copied = self.at;
+        Ok(())
     }
 
     /// Writes a usual name that ends after some bytes, and the constructor or destructor behind it.

@@ -1,5 +1,9 @@
-use Rattle.std.proofs.Common.{◌∙◌, ◌+◌, ◌-◌, sym, ap, length, subst, take, drop, arith, length-drop}
-use Rattle.std.proofs.lemmas.List.{take_rest}
+use Rattle.std.proofs.Common.{◌∙◌, ◌+◌, ◌-◌, sym, ap, refl, length, subst, take, drop, slice_get, arith, length-drop}
+use Rattle.std.proofs.lemmas.List.{drop-drop, take_rest}
+use Rattle.short_names.specs.declared.table.TheConstants.{STD, STRING_TEMPLATE, TEMPLATES}
+use Rattle.short_names.specs.Closing.{IsString}
+use Rattle.short_names.specs.Names.{with_template}
+use Rattle.short_names.proofs.StringLemmas.{string-room}
 use Rattle.short_names.specs.Changes.{IsChange, is_nothing}
 use Rattle.short_names.specs.Plain.{behind_run}
 use Rattle.short_names.specs.Runs.{run_of}
@@ -38,3 +42,14 @@ write_member-requires c =
     let here = subst (λ x. IsChange (run_of (drop at text)) (behind_run (drop at text)) x) c.in-Member.is c.requires.3 in
     let member = row_member (run_of (drop at text)) (behind_run (drop at text)) c.in-Member.row c.in-Member.size none here.1 here.2 in
     (c.requires.0, c.requires.1, here, omega (arith, member.within, run-within (drop at text), length-drop at text, c.requires.0.2))
+
+pub write_string-requires : goal.write_string-requires
+write_string-requires c =
+    let text = c.args.text.now in
+    let at = c.args.self.now.at in
+    let list = subst (λ x. IsChange (run_of (drop at text)) (behind_run (drop at text)) x) c.in-List.is c.requires.3 in
+    let string = c.is_string.ensures c.if-is_string.true in
+    let u = drop at text in
+    let rest_is = take_rest text (at + c.args.size) ∙ sym (drop-drop c.args.size at text) ∙ ap (λ n. drop n u) c.requires.2 in
+    let here = subst (λ t. IsString STD STRING_TEMPLATE t) rest_is (record { whole_is = refl; row_is = refl; follows = string.follows; read_back = string.read_back }) in
+    (c.requires.0, c.requires.1, c.requires.2, list.2 ∙ ap (λ w. with_template w (slice_get TEMPLATES c.in-List.row)) string.whole_is ∙ ap (λ r. with_template STD (slice_get TEMPLATES r)) string.row_is, here, string-room text at c.args.size c.requires.0.2 c.requires.2 here)

@@ -1,0 +1,113 @@
+-- Texts without names of `std`, which rules leave as they are that change such names alone.
+use Rattle.std.proofs.Common.{◌≡◌, ◌≤◌, ◌<◌, ◌+◌, ◌-◌, ◌&&◌, ◌||◌, refl, sym, ap, ◌∙◌, ℕ, zero, suc, arith, Bool, true, false, List, [], ◌∷◌, ◌++◌, length, take, drop, get_or, None, Some, is_some, nat_eq, codes, append_assoc, append-nil, length-drop, if◌then◌else◌}
+use Rattle.std.proofs.lemmas.Bool.{true≢false}
+use Rattle.std.proofs.lemmas.List.{take-append-drop}
+use Rattle.std.specs.List.{starts_with}
+use lib.Pointwise.{bytes_decides}
+use Rattle.short_names.specs.Full.{full, full_to, full_rules, without_pmr, if_polymorphic, for_name as full_name}
+use Rattle.short_names.specs.Laws.{HasNoStd}
+use Rattle.short_names.specs.Names.{named_in, table_name}
+use Rattle.short_names.specs.Plain.{behind_run}
+use Rattle.short_names.specs.Runs.{is_name_byte, begins_std, is_std_at, run_of}
+use Rattle.short_names.specs.Short.{short, short_rules, for_name}
+use Rattle.short_names.specs.Walk.{Rules, Written, by_rules, text_or, written_for, stepped, at_name, at_plain, keeps, opens}
+use Rattle.short_names.proofs.BracketLemmas.{and_false}
+use Rattle.short_names.proofs.NameSteps.{begins-by, no_named, no_std_name, run-some, run-take, run-within}
+use Rattle.short_names.proofs.OutsideLemmas.{at-drop, outside, run-stops, std-letter}
+use Rattle.short_names.proofs.WalkLemmas.{goes}
+
+-- other names stay
+abbrev Leaves : Rules → Type 0
+Leaves rules = (run rest : List ℕ) → begins_std run ≡ false → (rules.opens run ≡ false) × (rules.for_name run rest ≡ None)
+
+short-leaves : Leaves short_rules
+short-leaves run rest other = (ap is_some (no_named run other), ap (for_name run rest) (no_std_name run other))
+
+full-leaves : (inner : List ℕ → List ℕ) → Leaves (full_rules inner)
+unfolding named_in
+full-leaves inner run rest other = (
+  ap (λ std. is_some (table_name std) || is_some (if_polymorphic (table_name (without_pmr std)))) (no_std_name run other),
+  ap (full_name inner run rest) (no_std_name run other),
+)
+
+-- ## A piece
+
+at_run_by : (rules : Rules) (byte : ℕ) (rest : List ℕ) (written : Written) → is_name_byte byte ≡ true
+    → stepped rules byte rest written ≡ at_name rules (run_of (byte ∷ rest)) (behind_run (byte ∷ rest)) written
+unfolding stepped
+at_run_by rules byte rest written letter = rw letter refl
+
+at_sign_by : (rules : Rules) (byte : ℕ) (rest last : List ℕ) → is_name_byte byte ≡ false → stepped rules byte rest (outside last) ≡ keeps (byte ∷ []) (outside last)
+unfolding stepped
+at_sign_by rules byte rest last no_letter = rw no_letter refl
+
+run-other : (text : List ℕ) → begins_std text ≡ false → begins_std (run_of text) ≡ false
+run-other text other = by (begins_std (run_of text)) refl
+  where
+    by : (b : Bool) → begins_std (run_of text) ≡ b → begins_std (run_of text) ≡ false
+    by true e = absurd (true≢false (sym (begins-by text (run_of text) ((bytes_decides (run_of text) (take (length (run_of text)) text)).1 (sym (run-take text))) e) ∙ other))
+    by false e = e
+
+run_step : (rules : Rules) → Leaves rules → (byte : ℕ) (rest last : List ℕ) → is_name_byte byte ≡ true → begins_std (byte ∷ rest) ≡ false
+    → stepped rules byte rest (outside last) ≡ Some (record { size = length (run_of (byte ∷ rest)); written = outside (last ++ take (length (run_of (byte ∷ rest))) (byte ∷ rest)) })
+run_step rules leaves byte rest last letter other =
+    let text : List ℕ = byte ∷ rest in
+    let run : List ℕ = run_of text in
+    let back : List ℕ = behind_run text in
+    let w : Written = outside last in
+    let both = leaves run back (run-other text other) in
+    at_run_by rules byte rest w letter
+    ∙ ap (λ b. if starts_with nat_eq back (codes "<") && b then opens 60 run w else at_plain run back w (rules.for_name run back)) both.0
+    ∙ ap (λ b. if b then opens 60 run w else at_plain run back w (rules.for_name run back)) (and_false (starts_with nat_eq back (codes "<")))
+    ∙ ap (at_plain run back w) both.1
+    ∙ ap (λ t. keeps t w) (append-nil run)
+    ∙ ap (λ t. Some (record { size = length run; written = outside (last ++ t) })) (sym (run-take text))
+
+-- ## A text
+
+first-other : (text : List ℕ) → is_std_at text 0 ≡ false → begins_std text ≡ false
+first-other text = by (begins_std text)
+  where
+    by : (b : Bool) → (b && true) ≡ false → b ≡ false
+    by true e = e
+    by false e = refl
+
+stays : (rules : Rules) → Leaves rules → (fuel : ℕ) (text last : List ℕ) → length text ≤ fuel → HasNoStd text → written_for rules 0 text (outside last) ≡ Some (outside (last ++ text))
+unfolding written_for
+stays rules leaves fuel [] last less none = ap (λ t. Some (outside t)) (sym (append-nil last))
+stays rules leaves zero (byte ∷ rest) last less none = absurd (omega (arith, less))
+stays rules leaves (suc fuel) (byte ∷ rest) last less none = by (is_name_byte byte) refl (λ text more h. stays rules leaves fuel text more h)
+  where
+    on : (size : ℕ) → 0 < size → size ≤ length (byte ∷ rest) → (begins_std (drop size (byte ∷ rest)) ≡ true → is_name_byte (get_or (byte ∷ rest) (size - 1) 0) ≡ false)
+        → stepped rules byte rest (outside last) ≡ Some (record { size = size; written = outside (last ++ take size (byte ∷ rest)) })
+        → ((text more : List ℕ) → length text ≤ fuel → HasNoStd text → written_for rules 0 text (outside more) ≡ Some (outside (more ++ text)))
+        → written_for rules 0 (byte ∷ rest) (outside last) ≡ Some (outside (last ++ byte ∷ rest))
+    on size some within boundary step again =
+        let text : List ℕ = byte ∷ rest in
+        let next : Written = outside (last ++ take size text) in
+        goes rules text 0 byte rest (outside last) next size refl step some
+        ∙ ap (λ n. written_for rules 0 (drop n text) next) (omega arith)
+        ∙ again (drop size text) (last ++ take size text) (omega (arith, less, some, within, length-drop size text)) (λ k. at-drop text size k some boundary ∙ none (size + k))
+        ∙ ap (λ t. Some (outside t)) (append_assoc last (take size text) (drop size text) ∙ ap (λ t. last ++ t) (take-append-drop size text))
+
+    by : (b : Bool) → is_name_byte byte ≡ b
+        → ((text more : List ℕ) → length text ≤ fuel → HasNoStd text → written_for rules 0 text (outside more) ≡ Some (outside (more ++ text)))
+        → written_for rules 0 (byte ∷ rest) (outside last) ≡ Some (outside (last ++ byte ∷ rest))
+    by true letter again =
+        let text : List ℕ = byte ∷ rest in
+        on (length (run_of text)) (run-some text letter) (run-within text)
+        (λ begins. absurd (true≢false (sym (std-letter text (length (run_of text)) begins) ∙ run-stops text)))
+        (run_step rules leaves byte rest last letter (first-other text (none 0))) again
+    by false no_letter again = on 1 (omega arith) (omega arith) (λ _. no_letter) (at_sign_by rules byte rest last no_letter) again
+
+by-rules : (rules : Rules) → Leaves rules → (text : List ℕ) → HasNoStd text → by_rules rules text ≡ text
+unfolding by_rules
+by-rules rules leaves text none = ap (text_or text) (stays rules leaves (length text) text [] (omega arith) none)
+
+pub short-stays : (text : List ℕ) → HasNoStd text → short text ≡ text
+unfolding short
+short-stays text none = by-rules short_rules short-leaves text none
+
+pub full-stays : (text : List ℕ) → HasNoStd text → full text ≡ text
+unfolding full full_to
+full-stays text none = by-rules (full_rules (full_to 3)) (full-leaves (full_to 3)) text none
