@@ -1,8 +1,8 @@
 use Rattle.std.proofs.Common.{◌∙◌, ℕ, ap, sym, get_or}
 use Rattle.sym_filter.specs.Entries.{newline_of}
-use Rattle.demangle_names.specs.ReasonLaws.{line-more}
-use Rattle.demangle_names.specs.Reasons.{line_after}
-use Rattle.demangle_names.proofs.reasons.line_after.Goals as goal
+use Rattle.demangle_names.specs.SayingLaws.{line-more}
+use Rattle.demangle_names.specs.Saying.{line_after}
+use Rattle.demangle_names.proofs.sayings.line_after.Goals as goal
 
 pub bytes-preserved : goal.bytes-preserved
 bytes-preserved c =
