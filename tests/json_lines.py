@@ -49,7 +49,7 @@ NAMES = [
     (["--escape"], b"_Zli2_sPKc", text('operator"" _s(char const*)', ITANIUM)),
     ([], "_Z7größei".encode(), text("größe(int)", ITANIUM)),
     (["--no-params"], b"_ZNK1A1fEv", text("A::f", ITANIUM)),
-    (["--brief"], b"_ZN1A1fIiEEvT_", text("A::f", ITANIUM)),
+    (["--brief"], b"_ZN1A1fIiEEvT_", text("void A::f(int)", ITANIUM)),
     (["--types"], b"PKc", text("char const*", ITANIUM)),
     (["--types"], b"_Z1fv", text("f()", ITANIUM)),
     ([], b"PKc", error("not-a-symbol")),
@@ -65,7 +65,8 @@ NAMES = [
     ([], b"_Z1fv\n", error("malformed", 5)),
     ([], b"\x01\x1b\x7f\t\r\n", error("not-a-symbol")),
     ([], b"\xff\xfe", error("not-a-symbol")),
-    ([], b"_Z1\xff", error("malformed", 3)),
+    ([], b"_Z1\xff", text("\ufffd", ITANIUM)),
+    ([], b"_Z1fv\xff", error("malformed", 5)),
     ([], b"\xe2\x82", error("not-a-symbol")),
     ([], b"\xed\xa0\x80", error("not-a-symbol")),
     ([], "\u2028\U0001f600".encode(), error("not-a-symbol")),
@@ -85,6 +86,7 @@ OBJECTS = [
     (5, "_Z\ufffd", error("malformed", 2)),
 ]
 
+OTHER_BYTES = re.compile(rb"[^A-Za-z0-9_.$\x80-\xff]")
 REASONS = {"malformed": "malformed at %d", "bad-reference": "bad reference at %d", "bad-value": "bad value at %d", "too-long": "too long", "not-a-symbol": "not a symbol"}
 
 
@@ -137,7 +139,7 @@ class Checks:
         if self.jq:
             read = subprocess.run([self.jq, "-c", "."], input=out, capture_output=True, timeout=120)
             self.require(read.returncode == 0, "jq: %r" % read.stderr[:200])
-            by_jq = [json.loads(line) for line in read.stdout.splitlines()]
+            by_jq = [json.loads(line) for line in read.stdout.split(b"\n")[:-1]]
             self.require(by_jq == objects, "jq reads other objects")
         return objects
 
@@ -161,8 +163,11 @@ class Checks:
             self.require(found.get("symbol") == shown(name), "%r: %r" % (name, found))
             said = found.get("text")
             if said is not None:
+                # without objects a name is a line of text, where no symbol has a byte of no word
                 out, _, _ = self.with_names([], [name])
-                self.require(out == said.encode() + b"\n", "%r: %r, not %r" % (name, said, out))
+                self.require(OTHER_BYTES.search(name) or shown(out) == said + "\n", "%r: %r, not %r" % (name, said, out))
+            elif found.get("error") not in REASONS:
+                self.require(False, "%r: neither a text nor a reason: %r" % (name, found))
             elif found["error"] != "not-a-symbol" and b"\n" not in name:
                 reason = REASONS[found["error"]]
                 reason = reason % found["at"] if "at" in found else reason

@@ -7,7 +7,6 @@ use Rattle.clap.specs.Words.{Row, Text, IsAmong}
 use Rattle.clap.specs.declared.error.kind.ErrorKind.{ErrorKind}
 use Rattle.clap.specs.declared.error.kind.ErrorKind.TheVariants.{DisplayHelp, DisplayVersion, OutOfMemory}
 use Rattle.sym_print.specs.declared.detail.Detail.{Detail}
-use Rattle.sym_filter.specs.Entries.{Entry}
 use Rattle.sym_filter.specs.Runs.{Answering}
 use Rattle.sym_filter.specs.Streams.{BeginsWith, PutsFront}
 use Rattle.sym_filter.specs.declared.words.Tally.{Tally}
@@ -19,7 +18,6 @@ use Rattle.sym_command.proofs.PageLemmas.{Took-as, Took-said, OnErr-anyway}
 use Rattle.demangle_command.specs.Command.{answers_of, ByObjects, ByObjectsFront, EndsOf, FiltersInput, FiltersInputFront, IsEndedOf, IsStoppedOf, IsTold, StopsOf, Stops, is_request, summary_if, unescaped_of}
 use Rattle.demangle_command.specs.CommandLine.{AreGiven, AreOptions, faults_in, names_of}
 use Rattle.demangle_names.specs.Names.{AnswersNames, NamesFront, status_of}
-use Rattle.demangle_names.specs.Saying.{Saying, Told, Untold as Begun, said_from, said_of_words}
 use Rattle.demangle_names.specs.declared.options.Options.{Options}
 use Rattle.demangle_names.specs.Style.{reads_paths}
 use Rattle.demangle_names.specs.declared.style.Style.{Style}
@@ -194,19 +192,3 @@ summary-front asked tally err = record { gone = []; writes = Appends-none err; b
 -- some of it was written
 pub summary-said : (asked : Bool) (tally : Tally) (bytes gone : List ℕ) (err err' : Option (List ℕ)) → bytes ≡ summary_if asked tally → Appends err err' gone → BeginsWith bytes gone → PutsFront err err' [] (summary_if asked tally)
 summary-said asked tally bytes gone err err' is writes begins = record { gone = gone; writes = writes; begins = subst (λ (t : List ℕ). BeginsWith t gone) is begins }
-
--- what a report said of a text from its first line on
-pub words-said : (saying other last : Saying) (line next : ℕ) (left left' : Bool) (err err' before after : Option (List ℕ)) (entries : List Entry) → other ≡ saying → line ≡ 1 → before ≡ err → after ≡ err' → Told other last line next left left' before after entries
-    → Appends err err' (said_of_words saying entries)
-words-said saying other last line next left left' err err' before after entries same first begins ends told =
-    subst (λ (b : Option (List ℕ)). Appends b err' (said_of_words saying entries)) begins
-    (subst (λ (a : Option (List ℕ)). Appends before a (said_of_words saying entries)) ends
-    (subst (λ (t : List ℕ). Appends before after t) (ap₂ (λ (a : Saying) (n : ℕ). said_from a n entries) same first) told.says))
-
--- a beginning of that
-pub words-begun : (saying other : Saying) (line : ℕ) (err err' before after : Option (List ℕ)) (entries : List Entry) → other ≡ saying → line ≡ 1 → before ≡ err → after ≡ err' → Begun other line before after entries
-    → PutsFront err err' [] (said_of_words saying entries)
-words-begun saying other line err err' before after entries same first begins ends told =
-    subst (λ (b : Option (List ℕ)). PutsFront b err' [] (said_of_words saying entries)) begins
-    (subst (λ (a : Option (List ℕ)). PutsFront before a [] (said_of_words saying entries)) ends
-    (subst (λ (t : List ℕ). PutsFront before after [] t) (ap₂ (λ (a : Saying) (n : ℕ). said_from a n entries) same first) told))

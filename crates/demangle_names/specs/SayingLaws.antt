@@ -1,5 +1,5 @@
 -- Laws of what is said of entries, which a report takes one after the other.
-use Rattle.std.proofs.Common.{◌≡◌, ◌∙◌, ◌+◌, ◌<◌, ℕ, Bool, true, false, cond, eqb, List, [], ◌∷◌, ◌++◌, ◌||◌, Option, refl, sym, ap, subst, append_assoc, get_or, length, take}
+use Rattle.std.proofs.Common.{◌≡◌, ◌∙◌, ◌+◌, ◌<◌, ℕ, Bool, true, false, cond, eqb, List, [], ◌∷◌, ◌++◌, ◌||◌, Option, refl, sym, ap, ap₂, subst, append_assoc, get_or, length, take}
 use Rattle.std.specs.Prelude.{Result, Ok, Err, IfErr, OnErr}
 use Rattle.std.specs.Io.KnownBytes.{Appends}
 use Rattle.std.proofs.Math.Bool.{or_assoc, or-false}
@@ -9,7 +9,7 @@ use Rattle.sym_filter.specs.Runs.{capped}
 use Rattle.sym_filter.specs.Streams.{PutsFront}
 use Rattle.sym_filter.proofs.StreamLemmas.{Appends-join, Appends-none, PutsFront-none, PutsFront-same}
 use Rattle.sym_filter.proofs.EntryLemmas.{newlines-append, newlines-byte, newlines-cons}
-use Rattle.demangle_names.specs.Saying.{Saying, Told, Untold, line_after, one_stays, said_from}
+use Rattle.demangle_names.specs.Saying.{Saying, Told, Untold, line_after, one_stays, said_from, said_of_words}
 
 pub line-both : (line : ℕ) (entries more : List Entry) → line_after line (entries ++ more) ≡ line_after (line_after line entries) more
 line-both line [] more = refl
@@ -123,3 +123,21 @@ untold-none saying line said entries = PutsFront-none said [] (said_from saying 
 pub err-both : {T E : Type 0} (r : Result T E) (P : E → Type 0) (Q R : Type 0) → (Q → R) → IfErr r P → OnErr r Q → IfErr r (λ e. P e × R)
 err-both (Ok x) P Q R f h i = tt
 err-both (Err e) P Q R f h i = (h, f i)
+
+-- ## A report from the first line of a text on
+
+-- what a report said of a text from its first line on
+pub text-said : (saying other last : Saying) (line next : ℕ) (left left' : Bool) (err err' before after : Option (List ℕ)) (entries : List Entry) → other ≡ saying → line ≡ 1 → before ≡ err → after ≡ err' → Told other last line next left left' before after entries
+    → Appends err err' (said_of_words saying entries)
+text-said saying other last line next left left' err err' before after entries same first begins ends told =
+    subst (λ (b : Option (List ℕ)). Appends b err' (said_of_words saying entries)) begins
+    (subst (λ (a : Option (List ℕ)). Appends before a (said_of_words saying entries)) ends
+    (subst (λ (t : List ℕ). Appends before after t) (ap₂ (λ (a : Saying) (n : ℕ). said_from a n entries) same first) told.says))
+
+-- a beginning of that
+pub text-begun : (saying other : Saying) (line : ℕ) (err err' before after : Option (List ℕ)) (entries : List Entry) → other ≡ saying → line ≡ 1 → before ≡ err → after ≡ err' → Untold other line before after entries
+    → PutsFront err err' [] (said_of_words saying entries)
+text-begun saying other line err err' before after entries same first begins ends told =
+    subst (λ (b : Option (List ℕ)). PutsFront b err' [] (said_of_words saying entries)) begins
+    (subst (λ (a : Option (List ℕ)). PutsFront before a [] (said_of_words saying entries)) ends
+    (subst (λ (t : List ℕ). PutsFront before after [] t) (ap₂ (λ (a : Saying) (n : ℕ). said_from a n entries) same first) told))

@@ -1,5 +1,6 @@
 -- The tokens of objects, and their lines.
 use Rattle.std.proofs.Common.{◌≡◌, ◌∙◌, ◌<◌, ◌≤◌, ◌^◌, refl, ap, sym, ℕ, arith, List, [], ◌∷◌, ◌++◌, append_assoc, Option, Some, None}
+use Rattle.std.specs.Fmt.{decimal}
 use Rattle.json.specs.Json.{Json, Members, no_members, member, object, document, max_depth}
 use Rattle.json.specs.Print.{print}
 use Rattle.json.specs.Token.{Token}
@@ -25,25 +26,25 @@ pub object-tokens : (line : Option ℕ) (name : List ℕ) (meaning : Meaning)
     ≡ json_tokens (object_of line name meaning)
 object-tokens None name meaning = sym (ap (λ (ts : List Token). Token.begin_object ∷ ts) (tokens-front (name_members name meaning)))
 object-tokens (Some line) name meaning =
-    sym (ap (λ (ts : List Token). Token.begin_object ∷ Token.key (codes "line") ∷ Token.number _ ∷ ts) (tokens-front (name_members name meaning)))
+    sym (ap (λ (ts : List Token). Token.begin_object ∷ Token.key (codes "line") ∷ Token.number (decimal line) ∷ ts) (tokens-front (name_members name meaning)))
 
 -- ## Laws
 
 refusal-numbers : (refusal : Refusal) → HasPlace refusal → MembersHaveNumbers (refusal_members refusal)
-refusal-numbers (Malformed at) fits = (tt, IsNumber-decimal at fits, tt)
-refusal-numbers (BadReference at) fits = (tt, IsNumber-decimal at fits, tt)
-refusal-numbers (BadValue at) fits = (tt, IsNumber-decimal at fits, tt)
+refusal-numbers (Malformed at) fits = (tt, (IsNumber-decimal at fits, tt))
+refusal-numbers (BadReference at) fits = (tt, (IsNumber-decimal at fits, tt))
+refusal-numbers (BadValue at) fits = (tt, (IsNumber-decimal at fits, tt))
 refusal-numbers TooLong fits = (tt, tt)
 refusal-numbers Memory fits = tt
 
 meaning-numbers : (meaning : Meaning) → IsMeaning meaning → MembersHaveNumbers (meaning_members meaning)
-meaning-numbers (has_text mangling text) fits = (tt, tt, tt, tt)
+meaning-numbers (has_text mangling text) fits = (tt, (tt, (tt, tt)))
 meaning-numbers (refused refusal) fits = refusal-numbers refusal fits
 meaning-numbers no_symbol fits = (tt, tt)
 
 object-numbers : (line : Option ℕ) (name : List ℕ) (meaning : Meaning) → IsLine line → IsMeaning meaning → HasNumbers (object_of line name meaning)
 object-numbers None name meaning fits is = (tt, meaning-numbers meaning is)
-object-numbers (Some line) name meaning fits is = (IsNumber-decimal line fits, tt, meaning-numbers meaning is)
+object-numbers (Some line) name meaning fits is = (IsNumber-decimal line fits, (tt, meaning-numbers meaning is))
 
 object-shallow : (line : Option ℕ) (name : List ℕ) (meaning : Meaning) → depth (object_of line name meaning) ≤ max_depth
 object-shallow None name (has_text mangling text) = omega arith

@@ -1,8 +1,9 @@
 // The objects of names.
-ghost use Rattle.std.specs.Prelude.{◌≡◌, ◌≢◌, ◌+◌, ◌-◌, ◌^◌, ◌<◌, [], IfOk, OnOk, OnErr, IfErr, map};
+ghost use Rattle.std.specs.Prelude.{◌≡◌, ◌≢◌, ◌+◌, ◌-◌, ◌^◌, ◌<◌, ℕ, List, [], IfOk, OnOk, OnErr, IfErr, map};
 ghost use Rattle.std.specs.List.{flat_map};
 ghost use Rattle.std.specs.Io.KnownBytes.{Appends};
 ghost use Rattle.sym_filter.specs.Streams.{PutsFront, writer_faults};
+ghost use Rattle.demangle_names.specs.Style.{reads_paths};
 ghost use Rattle.json_lines.specs.Meanings.{meaning_of, stays};
 ghost use Rattle.json_lines.specs.Objects.{AnswersObjects, name_line};
 

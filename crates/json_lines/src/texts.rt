@@ -6,7 +6,7 @@ ghost use Rattle.json_lines.specs.Meanings.{named_by};
 ghost use Rattle.json_lines.specs.Texts.{TellsObjects, TellsObjectsFront};
 
 use crate::lines::line_of;
-use crate::meanings::{Meaning, symbol_meaning};
+use crate::meanings::symbol_meaning;
 use crate::unanswered::{Nowhere, Unanswered};
 use demangle_names::{Said, Says, WordReport};
 use std::alloc::{AllocError, Global};
@@ -60,11 +60,8 @@ fn has_text<D: Demangler>(alloc: Global, demangler: &D, word: &[u8]) -> Result<b
     ensures { IfOk result (λ has. has ≡ is_some (text_for (D.answer demangler.now) word.now)) }
 {
     // whether legacy Rust names are paths changes no answer
-    match symbol_meaning(alloc, demangler, false, word)? {
-        Meaning::Text { .. } => Ok(true),
-        Meaning::Refused(_) => Ok(false),
-        Meaning::NoSymbol => Ok(false),
-    }
+    let meaning = symbol_meaning(alloc, demangler, false, word)?;
+    Ok(!meaning.stays())
 }
 
 /// Where the last bytes of a word begin that are dots or aren't ASCII.

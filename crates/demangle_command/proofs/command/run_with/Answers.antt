@@ -4,15 +4,23 @@ use Rattle.sym_command.proofs.CommandLemmas.{no-words}
 use Rattle.sym_command.proofs.PageLemmas.{OnErr-anyway}
 use Rattle.demangle_command.specs.Command.{escaped_by}
 use Rattle.demangle_command.specs.Texts.{bytes_of}
-use Rattle.demangle_command.proofs.CommandLemmas.{input-ends, input-stops, names-end, names-stop, stops-unbegun}
+use Rattle.demangle_command.proofs.CommandLemmas.{input-ends, input-stops, names-end, names-stop, objects-end, objects-stop, stops-unbegun}
 use Rattle.demangle_command.proofs.TextLemmas.{some-words}
 use Rattle.demangle_command.proofs.command.run_with.Goals as goal
 
 pub returns-then-json-clause-ok : goal.returns-then-json-clause-ok
-returns-then-json-clause-ok g c = ?
+returns-then-json-clause-ok g c =
+    let texts = c.names_of-texts.result.now in
+    objects-end (rows_of (found_of c.args.matches.now)) c.args.options (g.D.Demangler.answer c.args.demangler) (map bytes_of (map (λ (text : Bor (List ℕ)). text.now) texts)) c.write_objects.result
+    (g.S.Source.coming c.args.input.now) (g.S.Source.coming c.write_objects.new.input) (g.W.Sink.taken c.args.out.now) (g.W.Sink.taken c.write_objects.new.out) (g.E.Sink.taken c.args.err.now)
+    c.requires.given c.if-json.true c.requires.texts (ap (map bytes_of) c.names_of-texts.ensures) c.write_objects.ensures.ok
 
 pub returns-then-json-clause-err : goal.returns-then-json-clause-err
-returns-then-json-clause-err g c = ?
+returns-then-json-clause-err g c =
+    let texts = c.names_of-texts.result.now in
+    objects-stop (rows_of (found_of c.args.matches.now)) c.args.options (g.D.Demangler.answer c.args.demangler) (map bytes_of (map (λ (text : Bor (List ℕ)). text.now) texts)) c.write_objects.result
+    (g.S.Source.coming c.args.input.now) (g.S.Source.coming c.write_objects.new.input) (g.W.Sink.taken c.args.out.now) (g.W.Sink.taken c.write_objects.new.out) (g.E.Sink.taken c.args.err.now)
+    c.requires.given c.if-json.true c.requires.texts (ap (map bytes_of) c.names_of-texts.ensures) c.write_objects.ensures.err
 
 pub returns-in-Ok-clause-ok : goal.returns-in-Ok-clause-ok
 returns-in-Ok-clause-ok g c =
