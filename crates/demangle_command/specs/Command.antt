@@ -1,7 +1,6 @@
 -- What a command line did to an input and two outputs.
 use Rattle.std.specs.Prelude.{◌≡◌, ◌≢◌, ◌⊎◌, ℕ, List, [], ◌∷◌, ◌++◌, Bool, true, false, not, ◌==◌, Option, None, codes}
 use Rattle.std.specs.Fmt.{decimal}
-use Rattle.std.specs.List.{flat_map}
 use Rattle.std.specs.Io.KnownBytes.{Appends, Consumes, IsAtEnd}
 use Rattle.clap.specs.Words.{Row, Text, IsAmong}
 use Rattle.clap.specs.declared.error.kind.ErrorKind.{ErrorKind}
@@ -21,7 +20,7 @@ use Rattle.demangle_names.specs.Saying.{said_of_words}
 use Rattle.demangle_command.specs.Styled.{styled_answer}
 use Rattle.demangle_names.specs.Style.{reads_paths}
 use Rattle.demangle_names.specs.declared.options.Options.{Options}
-use Rattle.json_lines.specs.Objects.{AnswersObjects, name_line}
+use Rattle.json_lines.specs.Objects.{name_lines, names_stay}
 use Rattle.json_lines.specs.Texts.{TellsObjects, TellsObjectsFront}
 
 -- what is answered for symbols as options ask: their texts, whole or short
@@ -116,11 +115,8 @@ pub record FilteredFront (rows : List Row) (coming coming' out out' err err' : O
 pub record NamesByObjects (answers : Answering) (options : Options) (names : List (List ℕ)) (coming coming' out out' : Option (List ℕ)) (status : ℕ) : Type 0 where
   pub some : names ≢ []
   pub unread : coming' ≡ coming
-  pub one_stays : Bool
-  pub lines : List ℕ
-  pub answered : AnswersObjects options.types (reads_paths options.style) answers names one_stays lines
-  pub writes : Appends out out' lines
-  pub ends : status ≡ status_of options.strict one_stays
+  pub writes : Appends out out' (name_lines options.types (reads_paths options.style) answers names)
+  pub ends : status ≡ status_of options.strict (names_stay options.types (reads_paths options.style) answers names)
 
 -- There is no name, and the words of the input have objects.
 pub record InputByObjects (answers : Answering) (options : Options) (names : List (List ℕ)) (coming coming' out out' : Option (List ℕ)) (status : ℕ) : Type 0 where
@@ -136,7 +132,7 @@ ByObjects answers options names coming coming' out out' status =
 -- a beginning of that
 abbrev pub ByObjectsFront : Answering → Options → List (List ℕ) → (coming coming' out out' : Option (List ℕ)) → Type 0
 ByObjectsFront answers options names coming coming' out out' =
-    ((coming' ≡ coming) × PutsFront out out' [] (flat_map (name_line options.types (reads_paths options.style) answers) names))
+    ((coming' ≡ coming) × PutsFront out out' [] (name_lines options.types (reads_paths options.style) answers names))
     ⊎ ((names ≡ []) × TellsObjectsFront (reads_paths options.style) answers coming coming' out out')
 
 -- Its names, or the words of the input, have objects of JSON, as its options ask; texts in them aren't escaped twice. Nothing is

@@ -69,10 +69,17 @@ json_line json = print (json_tokens json) ++ 10 ∷ []
 abbrev pub name_line : (types reads_paths : Bool) → Answering → List ℕ → List ℕ
 name_line types reads_paths answers name = json_line (object_of None name (meaning_of types reads_paths answers name))
 
--- the lines of names, one after the other, and whether a name stays
-pub record AnswersObjects (types reads_paths : Bool) (answers : Answering) (names : List (List ℕ)) (one_stays : Bool) (lines : List ℕ) : Type 0 where
-  pub are_lines : lines ≡ flat_map (name_line types reads_paths answers) names
-  pub stay : one_stays ≡ list_any (λ name. stays (meaning_of types reads_paths answers name)) names
+-- whether it has no text
+abbrev pub name_stays : (types reads_paths : Bool) → Answering → List ℕ → Bool
+name_stays types reads_paths answers name = stays (meaning_of types reads_paths answers name)
+
+-- the lines of names, one after the other
+abbrev pub name_lines : (types reads_paths : Bool) → Answering → List (List ℕ) → List ℕ
+name_lines types reads_paths answers names = flat_map (name_line types reads_paths answers) names
+
+-- whether one of them has no text
+abbrev pub names_stay : (types reads_paths : Bool) → Answering → List (List ℕ) → Bool
+names_stay types reads_paths answers names = list_any (name_stays types reads_paths answers) names
 
 -- What is said of a word of a text: the line of the name that it is, which has the number of the text's line, too.
 abbrev pub objects_of : (reads_paths : Bool) → Answering → Saying

@@ -1,13 +1,16 @@
 // The lines of objects.
-ghost use Rattle.std.specs.Prelude.{◌≡◌, IfOk};
-ghost use Rattle.json.specs.Json.{member, no_members};
+ghost use Rattle.std.specs.Prelude.{◌≡◌, ◌++◌, [], ◌∷◌, true, false, IfOk, OnOk};
+ghost use Rattle.std.specs.Fmt.{decimal};
+ghost use Rattle.json.specs.Json.{member, no_members, number, string};
+ghost use Rattle.json.specs.Print.{print_from};
+ghost use Rattle.json.specs.Token.{key};
 ghost use Rattle.json_lines.specs.Meanings.{meaning_in};
 ghost use Rattle.json_lines.specs.Objects.{LinesAreObjects, StringsAreEscaped, at_place, json_line, line_members, mangling_members, meaning_members, object_of, refusal_members, text_of, without_place};
-ghost use Rattle.json_lines.specs.Tokens.{Adds};
+ghost use Rattle.json_lines.specs.Tokens.{members_text};
 
 use crate::manglings::Mangling;
 use crate::meanings::Meaning;
-use json::Writer;
+use crate::strings::push_string;
 use std::alloc::{AllocError, Global};
 use sym_core::Refusal;
 
@@ -20,96 +23,115 @@ pub(crate) fn line_of(
 ) -> Result<Vec<u8>, AllocError>
     ensures { IfOk result (λ bytes. bytes.items ≡ json_line (object_of line name.now (meaning_in meaning.now))) }
 {
-    let mut writer = Writer::new(Vec::new(alloc));
-    writer.begin_object()?;
-    push_line(&mut writer, line)?;
-    push_text(alloc, &mut writer, "symbol", name)?;
-    push_meaning(alloc, &mut writer, meaning)?;
-    writer.end_object()?;
-    let mut bytes = writer.into_inner();
-    bytes.push(b'\n')?;
+    let mut bytes = Vec::from_slice(alloc, b"{")?;
+    push_line(line, &mut bytes)?;
+    push_text(alloc, line.is_some(), "symbol", name, &mut bytes)?;
+    push_meaning(alloc, meaning, &mut bytes)?;
+    bytes.extend_from_slice(b"}\n")?;
     Ok(bytes)
 }
 
 /// Appends the member for the line that a word is in, if it is in one.
-fn push_line(writer: &mut Writer, line: Option<u64>) -> Result<(), AllocError>
-    ensures { Adds result writer.old writer.new (line_members line) }
+fn push_line(line: Option<u64>, out: &mut Vec<u8>) -> Result<(), AllocError>
+    ensures { OnOk result (out.new.items ≡ out.old.items ++ members_text false (line_members line)) }
 {
     match line {
         None => Ok(()),
-        Some(line) => {
-            writer.key("line")?;
-            writer.u64(line)
-        }
+        Some(line) => push_number(false, "line", line, out),
     }
 }
 
-/// Appends a member for some bytes.
-fn push_text(
-    alloc: Global,
-    writer: &mut Writer,
-    name: &str,
-    bytes: &[u8],
-) -> Result<(), AllocError>
-    ensures { Adds result writer.old writer.new (member name.now (text_of bytes.now) no_members) }
-{
-    let text = String::from_utf8_lossy(alloc, bytes)?;
-    writer.key(name)?;
-    writer.string(text.as_str())
-}
-
 /// Appends the members that say what a name is.
-fn push_meaning(alloc: Global, writer: &mut Writer, meaning: &Meaning) -> Result<(), AllocError>
-    ensures { Adds result writer.old writer.new (meaning_members (meaning_in meaning.now)) }
+fn push_meaning(alloc: Global, meaning: &Meaning, out: &mut Vec<u8>) -> Result<(), AllocError>
+    ensures { OnOk result (out.new.items ≡ out.old.items ++ members_text true (meaning_members (meaning_in meaning.now))) }
 {
     match meaning {
         Meaning::Text { text, mangling } => {
-            push_text(alloc, writer, "text", text)?;
-            push_mangling(writer, *mangling)
+            push_text(alloc, true, "text", text, out)?;
+            push_mangling(*mangling, out)
         }
-        Meaning::Refused(refusal) => push_refusal(writer, *refusal),
-        Meaning::NoSymbol => push_error(writer, "not-a-symbol"),
+        Meaning::Refused(refusal) => push_refusal(*refusal, out),
+        Meaning::NoSymbol => push_word("error", "not-a-symbol", out),
     }
 }
 
 /// Appends the members that say how a name is mangled.
-fn push_mangling(writer: &mut Writer, mangling: Mangling) -> Result<(), AllocError>
-    ensures { Adds result writer.old writer.new (mangling_members mangling) }
+fn push_mangling(mangling: Mangling, out: &mut Vec<u8>) -> Result<(), AllocError>
+    ensures { OnOk result (out.new.items ≡ out.old.items ++ members_text true (mangling_members mangling)) }
 {
-    writer.key("language")?;
-    writer.string(mangling.language())?;
-    writer.key("mangling")?;
-    writer.string(mangling.name())
+    push_word("language", mangling.language(), out)?;
+    push_word("mangling", mangling.name(), out)
 }
 
 /// Appends the members that say why a symbol has no text.
-fn push_refusal(writer: &mut Writer, refusal: Refusal) -> Result<(), AllocError>
-    ensures { Adds result writer.old writer.new (refusal_members refusal) }
+fn push_refusal(refusal: Refusal, out: &mut Vec<u8>) -> Result<(), AllocError>
+    ensures { OnOk result (out.new.items ≡ out.old.items ++ members_text true (refusal_members refusal)) }
 {
     match refusal {
-        Refusal::Malformed { at } => push_error_at(writer, "malformed", at),
-        Refusal::BadReference { at } => push_error_at(writer, "bad-reference", at),
-        Refusal::BadValue { at } => push_error_at(writer, "bad-value", at),
-        Refusal::TooLong => push_error(writer, "too-long"),
+        Refusal::Malformed { at } => push_error("malformed", at, out),
+        Refusal::BadReference { at } => push_error("bad-reference", at, out),
+        Refusal::BadValue { at } => push_error("bad-value", at, out),
+        Refusal::TooLong => push_word("error", "too-long", out),
         Refusal::Memory => Ok(()),
     }
 }
 
-/// Appends the member that says why a name has no text.
-fn push_error(writer: &mut Writer, reason: &str) -> Result<(), AllocError>
-    ensures { Adds result writer.old writer.new (without_place reason.now) }
+/// Appends the members that say why a symbol has no text, and at which of its bytes.
+fn push_error(reason: &str, at: u32, out: &mut Vec<u8>) -> Result<(), AllocError>
+    ensures { OnOk result (out.new.items ≡ out.old.items ++ members_text true (at_place reason.now at)) }
 {
-    writer.key("error")?;
-    writer.string(reason)
+    push_word("error", reason, out)?;
+    push_number(true, "at", u64::from(at), out)
 }
 
-/// The same, and at which byte of the symbol.
-fn push_error_at(writer: &mut Writer, reason: &str, at: u32) -> Result<(), AllocError>
-    ensures { Adds result writer.old writer.new (at_place reason.now at) }
+/// Appends a member for some bytes, where members come before it or none.
+fn push_text(
+    alloc: Global,
+    has_some: bool,
+    name: &str,
+    bytes: &[u8],
+    out: &mut Vec<u8>,
+) -> Result<(), AllocError>
+    ensures { OnOk result (out.new.items ≡ out.old.items ++ members_text has_some (member name.now (text_of bytes.now) no_members)) }
 {
-    push_error(writer, reason)?;
-    writer.key("at")?;
-    writer.u64(u64::from(at))
+    let text = String::from_utf8_lossy(alloc, bytes)?;
+    push_name(has_some, name, out)?;
+    push_string(text.as_bytes(), out)
+}
+
+/// Appends a member that is a word, where members come before it.
+fn push_word(name: &str, word: &str, out: &mut Vec<u8>) -> Result<(), AllocError>
+    ensures { OnOk result (out.new.items ≡ out.old.items ++ members_text true (member name.now (string word.now) no_members)) }
+{
+    push_name(true, name, out)?;
+    push_string(word.as_bytes(), out)
+}
+
+/// Appends a member that is a number, where members come before it or none.
+fn push_number(
+    has_some: bool,
+    name: &str,
+    value: u64,
+    out: &mut Vec<u8>,
+) -> Result<(), AllocError>
+    ensures { OnOk result (out.new.items ≡ out.old.items ++ members_text has_some (member name.now (number (decimal value)) no_members)) }
+{
+    push_name(has_some, name, out)?;
+    let digits = format!(in *out.allocator(); "{value}")?;
+    out.extend_from_slice(digits.as_bytes())?;
+    Ok(())
+}
+
+/// Appends the name of a member, after a comma where members come before it.
+fn push_name(has_some: bool, name: &str, out: &mut Vec<u8>) -> Result<(), AllocError>
+    ensures { OnOk result (out.new.items ≡ out.old.items ++ print_from has_some (key name.now ∷ [])) }
+{
+    if has_some {
+        out.push(b',')?;
+    }
+    push_string(name.as_bytes(), out)?;
+    out.push(b':')?;
+    Ok(())
 }
 
 /// A law over the definitions alone: whatever the bytes of a name and of its text are, a reader of JSON gets the object from its line.

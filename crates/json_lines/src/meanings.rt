@@ -32,30 +32,22 @@ impl Meaning {
     }
 }
 
-/// How names are read.
-#[derive(Clone, Copy, Debug, PartialEq, Eq)]
-pub(crate) struct Reading {
-    /// Whether names are read as types, too.
-    pub(crate) types: bool,
-    /// Whether legacy Rust names are read as paths.
-    pub(crate) reads_paths: bool,
-}
-
 /// What a name is: a type, where types are read and it is one, or else what is answered for it as a symbol.
 pub(crate) fn meaning_of<D: Demangler>(
     alloc: Global,
     demangler: &D,
-    reading: Reading,
+    types: bool,
+    reads_paths: bool,
     name: &[u8],
 ) -> Result<Meaning, AllocError>
-    ensures { IfOk result (λ meaning. meaning_in meaning ≡ meaning_of reading.types reading.reads_paths (D.answer demangler.now) name.now) }
+    ensures { IfOk result (λ meaning. meaning_in meaning ≡ meaning_of types reads_paths (D.answer demangler.now) name.now) }
 {
-    match type_for(alloc, demangler, reading.types, name)? {
+    match type_for(alloc, demangler, types, name)? {
         Some(text) => Ok(Meaning::Text {
             text,
             mangling: Mangling::Itanium,
         }),
-        None => symbol_meaning(alloc, demangler, reading.reads_paths, name),
+        None => symbol_meaning(alloc, demangler, reads_paths, name),
     }
 }
 
