@@ -1,7 +1,7 @@
 -- The tokens of objects, and their lines.
 use Rattle.std.proofs.Common.{◌≡◌, ◌∙◌, ◌≤◌, refl, ap, sym, ℕ, arith, Bool, true, false, List, [], ◌∷◌, ◌++◌, append_assoc, append-nil, Option, Some, None, is_some, cond}
 use Rattle.std.specs.Fmt.{decimal}
-use Rattle.json.specs.Json.{Json, Members, no_members, member, number, object, string, max_depth}
+use Rattle.json.specs.Json.{Members, no_members, member, number, object, string, max_depth}
 use Rattle.std.specs.Str.Lossy.{utf8_lossy}
 use Rattle.json.specs.Print.{ends, print, print_from, quoted}
 use Rattle.json.specs.Token.{Token}

@@ -7,7 +7,7 @@ use Rattle.sym_filter.specs.Kinds.{kind_of, symbol_of}
 use Rattle.sym_filter.specs.Runs.{Answering, text_for, trimmed}
 use Rattle.sym_filter.specs.declared.kinds.Kind.{Kind}
 use Rattle.json_lines.specs.declared.manglings.Mangling.{Mangling}
-use Rattle.json_lines.specs.Meanings.{Meaning, no_symbol, answered, mangling_of, meaning_by, named_by, stays, symbol_meaning}
+use Rattle.json_lines.specs.Meanings.{no_symbol, answered, mangling_of, meaning_by, named_by, stays, symbol_meaning}
 
 pub unnamed : (reads_paths : Bool) (answers : Answering) (name : List ℕ) → kind_of name ≡ None → no_symbol ≡ symbol_meaning reads_paths answers name
 unfolding symbol_meaning

@@ -43,7 +43,7 @@ module _ (types reads_paths : Bool) (answers : Answering) where
         begins = (
           front.begins.0 ++ later,
           ap (flat_map line) e ∙ flat_map-append line names (name ∷ rest)
-          ∙ ap (λ (t : List ℕ). first ++ t) (ap (λ (t : List ℕ). t ++ later) front.begins.1 ∙ append_assoc front.gone front.begins.0 later)
-          ∙ sym (append_assoc first front.gone (front.begins.0 ++ later)),
+              ∙ ap (λ (t : List ℕ). first ++ t) (ap (λ (t : List ℕ). t ++ later) front.begins.1 ∙ append_assoc front.gone front.begins.0 later)
+              ∙ sym (append_assoc first front.gone (front.begins.0 ++ later)),
         );
       }

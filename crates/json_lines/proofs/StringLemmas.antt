@@ -1,5 +1,5 @@
 -- What stands in a string for the bytes of a text without control characters.
-use Rattle.std.proofs.Common.{◌≡◌, ◌≢◌, ◌∙◌, ◌<◌, refl, ap, ap₂, sym, ℕ, suc, arith, Bool, List, [], ◌∷◌, ◌++◌, ◌==◌, ◌||◌, false, true, inl, inr, cond}
+use Rattle.std.proofs.Common.{◌≡◌, ◌≢◌, ◌∙◌, ◌<◌, refl, ap, ap₂, ℕ, suc, arith, Bool, List, [], ◌∷◌, ◌++◌, ◌==◌, ◌||◌, false, inl, inr, cond}
 use Rattle.std.specs.Prelude.{codes, nat_lt}
 use Rattle.std.specs.List.{All}
 use Rattle.std.proofs.lemmas.Bool.{cases_Bool, le-ltb, lt-ltb, ne_eqb}

@@ -1,5 +1,5 @@
 -- What a name is.
-use Rattle.std.specs.Prelude.{ℕ, List, Bool, ◌&&◌, is_some, not, false, true, Option, Some, None, Result, Ok, Err, codes, if◌then◌else◌}
+use Rattle.std.specs.Prelude.{ℕ, List, Bool, ◌&&◌, is_some, false, true, Option, Some, None, Result, Ok, Err, codes, if◌then◌else◌}
 use Rattle.sym_core.specs.declared.refusal.Refusal.{Refusal}
 use Rattle.rust_legacy.specs.Path.{legacy_of}
 use Rattle.sym_filter.specs.Kinds.{kind_of, symbol_of}

@@ -1,5 +1,5 @@
 -- The objects of the words of a text.
-use Rattle.std.specs.Prelude.{◌≡◌, ℕ, List, [], Bool, Option, Result, Err}
+use Rattle.std.specs.Prelude.{◌≡◌, ℕ, List, [], Bool, Option, Err}
 use Rattle.std.specs.Io.KnownBytes.{Appends, Consumes, IsAtEnd}
 use Rattle.sym_core.specs.declared.refusal.Refusal.TheVariants.{Malformed}
 use Rattle.sym_filter.specs.Entries.{Entry, entries_of}

@@ -108,12 +108,7 @@ fn push_word(name: &str, word: &str, out: &mut Vec<u8>) -> Result<(), AllocError
 }
 
 /// Appends a member that is a number, where members come before it or none.
-fn push_number(
-    has_some: bool,
-    name: &str,
-    value: u64,
-    out: &mut Vec<u8>,
-) -> Result<(), AllocError>
+fn push_number(has_some: bool, name: &str, value: u64, out: &mut Vec<u8>) -> Result<(), AllocError>
     ensures { OnOk result (out.new.items ≡ out.old.items ++ members_text has_some (member name.now (number (decimal value)) no_members)) }
 {
     push_name(has_some, name, out)?;

@@ -1,4 +1,4 @@
-use Rattle.std.proofs.Common.{◌≡◌, ◌∙◌, ◌++◌, [], ◌∷◌, List, ℕ, Bool, ap, sym, codes, true, false, is_some}
+use Rattle.std.proofs.Common.{◌∙◌, ◌++◌, [], ◌∷◌, List, ℕ, Bool, ap, sym, codes, true, false, is_some}
 use Rattle.json.specs.Json.{member, no_members}
 use Rattle.json_lines.specs.Meanings.{meaning_in}
 use Rattle.json_lines.specs.Objects.{line_members, meaning_members, text_of}

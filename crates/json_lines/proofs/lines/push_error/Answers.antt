@@ -1,4 +1,4 @@
-use Rattle.std.proofs.Common.{◌∙◌, ◌++◌, List, ℕ, ap, codes, true}
+use Rattle.std.proofs.Common.{◌∙◌, ◌++◌, ℕ, ap, codes, true}
 use Rattle.std.proofs.lemmas.Result.{on_ok_weaker}
 use Rattle.std.specs.Fmt.{decimal}
 use Rattle.json.specs.Json.{Members, member, no_members, number, string}

@@ -1,4 +1,4 @@
-use Rattle.std.proofs.Common.{◌≡◌, ◌∙◌, ◌++◌, Option, ℕ, ap, sym, false, append-nil}
+use Rattle.std.proofs.Common.{◌∙◌, ◌++◌, Option, ℕ, ap, sym, false, append-nil}
 use Rattle.json_lines.specs.Objects.{line_members}
 use Rattle.json_lines.specs.Tokens.{members_text}
 use Rattle.json_lines.proofs.LineLemmas.{no-text}

@@ -1,4 +1,4 @@
-use Rattle.std.proofs.Common.{◌≡◌, ◌∙◌, ◌++◌, List, ℕ, ap, sym, codes, true}
+use Rattle.std.proofs.Common.{◌∙◌, ◌++◌, List, ℕ, ap, sym, codes, true}
 use Rattle.std.proofs.lemmas.Result.{on_ok_weaker}
 use Rattle.std.specs.Str.Lossy.{utf8_lossy}
 use Rattle.json.specs.Json.{member, no_members}

@@ -1,4 +1,4 @@
-use Rattle.std.proofs.Common.{◌≡◌, ◌∙◌, ◌++◌, ap, sym, subst, true, append-nil}
+use Rattle.std.proofs.Common.{◌∙◌, ◌++◌, ap, sym, true, append-nil}
 use Rattle.std.proofs.lemmas.Result.{on_ok_weaker}
 use Rattle.sym_core.specs.declared.refusal.Refusal.{Refusal}
 use Rattle.json_lines.specs.Objects.{refusal_members}

@@ -1,8 +1,7 @@
-use Rattle.std.proofs.Common.{◌∙◌, ap}
+use Rattle.std.proofs.Common.{◌∙◌}
 use Rattle.std.proofs.lemmas.Result.{on_ok_weaker}
 use Rattle.std.specs.Str.Lossy.{utf8_lossy}
-use Rattle.json.specs.Print.{quoted}
-use Rattle.json_lines.proofs.LineLemmas.{put-two, put-word}
+use Rattle.json_lines.proofs.LineLemmas.{put-word}
 use Rattle.json_lines.proofs.lines.push_text.Goals as goal
 
 pub returns : goal.returns

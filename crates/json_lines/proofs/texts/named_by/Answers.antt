@@ -1,6 +1,6 @@
-use Rattle.std.proofs.Common.{◌≡◌, ◌∙◌, ℕ, List, refl, sym, ap, arith, is_some, take}
+use Rattle.std.proofs.Common.{◌∙◌, ℕ, List, sym, ap, is_some, take}
 use Rattle.std.proofs.Math.Seq.{take-length}
-use Rattle.sym_filter.specs.Runs.{text_for, trimmed}
+use Rattle.sym_filter.specs.Runs.{text_for}
 use Rattle.json_lines.proofs.MeaningLemmas.{named-front, named-whole, named-word}
 use Rattle.json_lines.proofs.texts.named_by.Goals as goal
 
