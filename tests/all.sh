@@ -141,6 +141,7 @@ else
 fi
 try colliding tests/colliding.py "$symfilt"
 try hostile tests/hostile.py "$demangle"
+try json tests/json_lines.py "$demangle"
 if [ -x /usr/bin/time ]; then
     try repeats tests/repeats.py "$symfilt" "$demangle"
 else

@@ -7,7 +7,6 @@ use Rattle.clap.specs.Words.{Row, Text, IsAmong}
 use Rattle.clap.specs.declared.error.kind.ErrorKind.{ErrorKind}
 use Rattle.clap.specs.declared.error.kind.ErrorKind.TheVariants.{DisplayHelp, DisplayVersion, OutOfMemory}
 use Rattle.sym_print.specs.declared.detail.Detail.{Detail}
-use Rattle.sym_filter.specs.Entries.{Entry}
 use Rattle.sym_filter.specs.Runs.{Answering}
 use Rattle.sym_filter.specs.Streams.{BeginsWith, PutsFront}
 use Rattle.sym_filter.specs.declared.words.Tally.{Tally}
@@ -16,10 +15,9 @@ use Rattle.sym_filter.proofs.StreamLemmas.{Appends-none}
 use Rattle.sym_command.specs.Command.{Took, Says}
 use Rattle.sym_command.proofs.CommandLemmas.{faulty}
 use Rattle.sym_command.proofs.PageLemmas.{Took-as, Took-said, OnErr-anyway}
-use Rattle.demangle_command.specs.Command.{answers_of, EndsOf, FiltersInput, FiltersInputFront, IsEndedOf, IsStoppedOf, IsTold, StopsOf, Stops, is_request, summary_if, unescaped_of}
+use Rattle.demangle_command.specs.Command.{answers_of, ByObjects, ByObjectsFront, EndsOf, FiltersInput, FiltersInputFront, IsEndedOf, IsStoppedOf, IsTold, StopsOf, Stops, is_request, summary_if, unescaped_of}
 use Rattle.demangle_command.specs.CommandLine.{AreGiven, AreOptions, faults_in, names_of}
 use Rattle.demangle_names.specs.Names.{AnswersNames, NamesFront, status_of}
-use Rattle.demangle_names.specs.Reasons.{Told, Untold as Begun, said_from, said_of_words}
 use Rattle.demangle_names.specs.declared.options.Options.{Options}
 use Rattle.demangle_names.specs.Style.{reads_paths}
 use Rattle.demangle_names.specs.declared.style.Style.{Style}
@@ -109,14 +107,15 @@ pub stops-unparsed : (words : List Text) (coming out err : Option (List ℕ)) �
 stops-unparsed words coming out err = inr (refl, record { lines = []; said = []; to_out = Appends-none out; to_err = Appends-none err; held = inr (refl, refl) })
 
 -- names
-pub names-end : (rows : List Row) (options : Options) (answers : Answering) (names : List (List ℕ)) (one_stays : Bool) (status : ℕ) (coming out out' err err' : Option (List ℕ)) → AreGiven rows options → answers ≡ answers_of options
+pub names-end : (rows : List Row) (options : Options) (answers : Answering) (names : List (List ℕ)) (one_stays : Bool) (status : ℕ) (coming out out' err err' : Option (List ℕ)) → AreGiven rows options → options.json ≡ false → answers ≡ answers_of options
     → names ≡ names_of rows → names ≢ [] → Took out out' err err' (AnswersNames answers options.types options.why names one_stays) → status ≡ status_of options.strict one_stays → EndsOf rows coming coming out out' err err' status
-names-end rows options answers names one_stays status coming out out' err err' given same are some took ends =
+names-end rows options answers names one_stays status coming out out' err err' given plain same are some took ends =
     inl (
       refl,
       Took-as out out' err err' (AnswersNames answers options.types options.why names one_stays) (IsEndedOf rows status) took (λ lines said held. inl (record {
         options = options;
         given = given;
+        no_objects = plain;
         some = λ none. some (are ∙ none);
         one_stays = one_stays;
         answered = subst (λ (a : Answering). AnswersNames a options.types options.why (names_of rows) one_stays lines said) same (subst (λ (ns : List (List ℕ)). AnswersNames answers options.types options.why ns one_stays lines said) are held);
@@ -124,36 +123,63 @@ names-end rows options answers names one_stays status coming out out' err err' g
       })),
     )
 
-pub names-stop : (rows : List Row) (options : Options) (answers : Answering) (names : List (List ℕ)) (coming out out' err err' : Option (List ℕ)) → AreGiven rows options → answers ≡ answers_of options
+pub names-stop : (rows : List Row) (options : Options) (answers : Answering) (names : List (List ℕ)) (coming out out' err err' : Option (List ℕ)) → AreGiven rows options → options.json ≡ false → answers ≡ answers_of options
     → names ≡ names_of rows → Took out out' err err' (NamesFront answers options.types options.why names) → StopsOf rows coming coming out out' err err'
-names-stop rows options answers names coming out out' err err' given same are took =
+names-stop rows options answers names coming out out' err err' given plain same are took =
     inl (
       refl,
       Took-as out out' err err' (NamesFront answers options.types options.why names) (IsStoppedOf rows) took (λ lines said held. inl (record {
         options = options;
         given = given;
+        no_objects = plain;
         front = subst (λ (a : Answering). NamesFront a options.types options.why (names_of rows) lines said) same (subst (λ (ns : List (List ℕ)). NamesFront answers options.types options.why ns lines said) are held);
       })),
     )
 
 -- an input
-pub input-ends : (rows : List Row) (options : Options) (answers : Answering) (names : List (List ℕ)) (status : ℕ) (coming coming' out out' err err' : Option (List ℕ)) → AreGiven rows options → answers ≡ answers_of options
+pub input-ends : (rows : List Row) (options : Options) (answers : Answering) (names : List (List ℕ)) (status : ℕ) (coming coming' out out' err err' : Option (List ℕ)) → AreGiven rows options → options.json ≡ false → answers ≡ answers_of options
     → names ≡ names_of rows → names ≡ [] → FiltersInput answers options.why options.strict coming coming' out out' err err' status → EndsOf rows coming coming' out out' err err' status
-input-ends rows options answers names status coming coming' out out' err err' given same are none filtered = inr (record {
+input-ends rows options answers names status coming coming' out out' err err' given plain same are none filtered = inr (inl (record {
   options = options;
   given = given;
+  no_objects = plain;
   none = sym are ∙ none;
   filtered = subst (λ (a : Answering). FiltersInput a options.why options.strict coming coming' out out' err err' status) same filtered;
-})
+}))
 
-pub input-stops : (rows : List Row) (options : Options) (answers : Answering) (names : List (List ℕ)) (coming coming' out out' err err' : Option (List ℕ)) → AreGiven rows options → answers ≡ answers_of options
+pub input-stops : (rows : List Row) (options : Options) (answers : Answering) (names : List (List ℕ)) (coming coming' out out' err err' : Option (List ℕ)) → AreGiven rows options → options.json ≡ false → answers ≡ answers_of options
     → names ≡ names_of rows → names ≡ [] → FiltersInputFront answers options.why coming coming' out out' err err' → StopsOf rows coming coming' out out' err err'
-input-stops rows options answers names coming coming' out out' err err' given same are none filtered = inr (record {
+input-stops rows options answers names coming coming' out out' err err' given plain same are none filtered = inr (inl (record {
   options = options;
   given = given;
+  no_objects = plain;
   none = sym are ∙ none;
   filtered = subst (λ (a : Answering). FiltersInputFront a options.why coming coming' out out' err err') same filtered;
-})
+}))
+
+-- ## Objects
+
+pub objects-end : {E : Type 0} (rows : List Row) (options : Options) (answers : Answering) (names : List (List ℕ)) (result : Result ℕ E) (coming coming' out out' err : Option (List ℕ)) → AreGiven rows options → options.json ≡ true → answers ≡ unescaped_of options
+    → names ≡ names_of rows → IfOk result (ByObjects answers options names coming coming' out out') → IfOk result (EndsOf rows coming coming' out out' err err)
+objects-end rows options answers names (Err fault) coming coming' out out' err given asked same are told = tt
+objects-end rows options answers names (Ok status) coming coming' out out' err given asked same are told = inr (inr (record {
+  options = options;
+  given = given;
+  objects = asked;
+  told = subst (λ (a : Answering). ByObjects a options (names_of rows) coming coming' out out' status) same (subst (λ (ns : List (List ℕ)). ByObjects answers options ns coming coming' out out' status) are told);
+  silent = Appends-none err;
+}))
+
+pub objects-stop : {E : Type 0} (rows : List Row) (options : Options) (answers : Answering) (names : List (List ℕ)) (result : Result ℕ E) (coming coming' out out' err : Option (List ℕ)) → AreGiven rows options → options.json ≡ true → answers ≡ unescaped_of options
+    → names ≡ names_of rows → OnErr result (ByObjectsFront answers options names coming coming' out out') → OnErr result (StopsOf rows coming coming' out out' err err)
+objects-stop rows options answers names (Ok status) coming coming' out out' err given asked same are told = tt
+objects-stop rows options answers names (Err fault) coming coming' out out' err given asked same are told = inr (inr (record {
+  options = options;
+  given = given;
+  objects = asked;
+  told = subst (λ (a : Answering). ByObjectsFront a options (names_of rows) coming coming' out out') same (subst (λ (ns : List (List ℕ)). ByObjectsFront answers options ns coming coming' out out') are told);
+  silent = Appends-none err;
+}))
 
 -- ## What is said of an input
 
@@ -166,17 +192,3 @@ summary-front asked tally err = record { gone = []; writes = Appends-none err; b
 -- some of it was written
 pub summary-said : (asked : Bool) (tally : Tally) (bytes gone : List ℕ) (err err' : Option (List ℕ)) → bytes ≡ summary_if asked tally → Appends err err' gone → BeginsWith bytes gone → PutsFront err err' [] (summary_if asked tally)
 summary-said asked tally bytes gone err err' is writes begins = record { gone = gone; writes = writes; begins = subst (λ (t : List ℕ). BeginsWith t gone) is begins }
-
--- what a report said of a text from its first line on
-pub words-said : (answers other last : Answering) (line next : ℕ) (err err' before after : Option (List ℕ)) (entries : List Entry) → other ≡ answers → line ≡ 1 → before ≡ err → after ≡ err' → Told other last line next before after entries → Appends err err' (said_of_words answers entries)
-words-said answers other last line next err err' before after entries same first begins ends told =
-    subst (λ (b : Option (List ℕ)). Appends b err' (said_of_words answers entries)) begins
-    (subst (λ (a : Option (List ℕ)). Appends before a (said_of_words answers entries)) ends
-    (subst (λ (t : List ℕ). Appends before after t) (ap₂ (λ (a : Answering) (n : ℕ). said_from a n entries) same first) told.says))
-
--- a beginning of that
-pub words-begun : (answers other : Answering) (line : ℕ) (err err' before after : Option (List ℕ)) (entries : List Entry) → other ≡ answers → line ≡ 1 → before ≡ err → after ≡ err' → Begun other line before after entries → PutsFront err err' [] (said_of_words answers entries)
-words-begun answers other line err err' before after entries same first begins ends told =
-    subst (λ (b : Option (List ℕ)). PutsFront b err' [] (said_of_words answers entries)) begins
-    (subst (λ (a : Option (List ℕ)). PutsFront before a [] (said_of_words answers entries)) ends
-    (subst (λ (t : List ℕ). PutsFront before after [] t) (ap₂ (λ (a : Answering) (n : ℕ). said_from a n entries) same first) told))

@@ -15,10 +15,13 @@ use Rattle.sym_command.specs.Command.{Took}
 use Rattle.demangle_command.specs.CommandLine.{AreGiven, AreOptions, names_of, found_in, faults_in}
 use Rattle.demangle_command.specs.Escaping.{answer_by}
 use Rattle.demangle_names.specs.Names.{AnswersNames, NamesFront, status_of}
-use Rattle.demangle_names.specs.Reasons.{said_of_words}
+use Rattle.demangle_names.specs.Reasons.{reasons_of}
+use Rattle.demangle_names.specs.Saying.{said_of_words}
 use Rattle.demangle_command.specs.Styled.{styled_answer}
 use Rattle.demangle_names.specs.Style.{reads_paths}
 use Rattle.demangle_names.specs.declared.options.Options.{Options}
+use Rattle.json_lines.specs.Objects.{name_lines, names_stay}
+use Rattle.json_lines.specs.Texts.{TellsObjects, TellsObjectsFront}
 
 -- what is answered for symbols as options ask: their texts, whole or short
 abbrev pub unescaped_of : Options → Answering
@@ -40,7 +43,7 @@ summary_if false tally = []
 
 -- what is said of the words of an input that are left, where that is asked
 abbrev pub reasons_if : Bool → Answering → List ℕ → List ℕ
-reasons_if true answers text = said_of_words answers (entries_of Within answers text)
+reasons_if true answers text = said_of_words (reasons_of answers) (entries_of Within answers text)
 reasons_if false answers text = []
 
 -- It was filtered to its end, and it was said of each word that is left where it is and why, where that is asked.
@@ -79,6 +82,7 @@ FiltersInputFront answers why coming coming' out out' err err' =
 pub record Answered (rows : List Row) (status : ℕ) (lines said : List ℕ) : Type 0 where
   pub options : Options
   pub given : AreGiven rows options
+  pub no_objects : options.json ≡ false
   pub some : names_of rows ≢ []
   pub one_stays : Bool
   pub answered : AnswersNames (answers_of options) options.types options.why (names_of rows) one_stays lines said
@@ -87,20 +91,67 @@ pub record Answered (rows : List Row) (status : ℕ) (lines said : List ℕ) : T
 pub record AnsweredFront (rows : List Row) (lines said : List ℕ) : Type 0 where
   pub options : Options
   pub given : AreGiven rows options
+  pub no_objects : options.json ≡ false
   pub front : NamesFront (answers_of options) options.types options.why (names_of rows) lines said
 
 -- it has no names, and the input was filtered as its options ask
 pub record Filtered (rows : List Row) (coming coming' out out' err err' : Option (List ℕ)) (status : ℕ) : Type 0 where
   pub options : Options
   pub given : AreGiven rows options
+  pub no_objects : options.json ≡ false
   pub none : names_of rows ≡ []
   pub filtered : FiltersInput (answers_of options) options.why options.strict coming coming' out out' err err' status
 
 pub record FilteredFront (rows : List Row) (coming coming' out out' err err' : Option (List ℕ)) : Type 0 where
   pub options : Options
   pub given : AreGiven rows options
+  pub no_objects : options.json ≡ false
   pub none : names_of rows ≡ []
   pub filtered : FiltersInputFront (answers_of options) options.why coming coming' out out' err err'
+
+-- ## Objects
+
+-- Names have objects, and the input wasn't read.
+pub record NamesByObjects (answers : Answering) (options : Options) (names : List (List ℕ)) (coming coming' out out' : Option (List ℕ)) (status : ℕ) : Type 0 where
+  pub some : names ≢ []
+  pub unread : coming' ≡ coming
+  pub writes : Appends out out' (name_lines options.types (reads_paths options.style) answers names)
+  pub ends : status ≡ status_of options.strict (names_stay options.types (reads_paths options.style) answers names)
+
+-- There is no name, and the words of the input have objects.
+pub record InputByObjects (answers : Answering) (options : Options) (names : List (List ℕ)) (coming coming' out out' : Option (List ℕ)) (status : ℕ) : Type 0 where
+  pub none : names ≡ []
+  pub one_stays : Bool
+  pub told : TellsObjects (reads_paths options.style) answers coming coming' out out' one_stays
+  pub ends : status ≡ status_of options.strict one_stays
+
+abbrev pub ByObjects : Answering → Options → List (List ℕ) → (coming coming' out out' : Option (List ℕ)) → ℕ → Type 0
+ByObjects answers options names coming coming' out out' status =
+    NamesByObjects answers options names coming coming' out out' status ⊎ InputByObjects answers options names coming coming' out out' status
+
+-- a beginning of that
+abbrev pub ByObjectsFront : Answering → Options → List (List ℕ) → (coming coming' out out' : Option (List ℕ)) → Type 0
+ByObjectsFront answers options names coming coming' out out' =
+    ((coming' ≡ coming) × PutsFront out out' [] (name_lines options.types (reads_paths options.style) answers names))
+    ⊎ ((names ≡ []) × TellsObjectsFront (reads_paths options.style) answers coming coming' out out')
+
+-- Its names, or the words of the input, have objects of JSON, as its options ask; texts in them aren't escaped twice. Nothing is
+-- said on standard error.
+pub record Objects (rows : List Row) (coming coming' out out' err err' : Option (List ℕ)) (status : ℕ) : Type 0 where
+  pub options : Options
+  pub given : AreGiven rows options
+  pub objects : options.json ≡ true
+  pub told : ByObjects (unescaped_of options) options (names_of rows) coming coming' out out' status
+  pub silent : Appends err err' []
+
+pub record ObjectsFront (rows : List Row) (coming coming' out out' err err' : Option (List ℕ)) : Type 0 where
+  pub options : Options
+  pub given : AreGiven rows options
+  pub objects : options.json ≡ true
+  pub told : ByObjectsFront (unescaped_of options) options (names_of rows) coming coming' out out'
+  pub silent : Appends err err' []
+
+-- ## What it did
 
 -- its names are answered; or no style has the name that is given, and no line was written
 abbrev pub IsEndedOf : List Row → ℕ → List ℕ → List ℕ → Type 0
@@ -110,14 +161,16 @@ IsEndedOf rows status lines said = Answered rows status lines said ⊎ ((status 
 abbrev pub IsStoppedOf : List Row → List ℕ → List ℕ → Type 0
 IsStoppedOf rows lines said = AnsweredFront rows lines said ⊎ (lines ≡ [])
 
--- the same of the whole command line, which may filter the input
+-- the same of the whole command line, which may filter the input, or write objects
 abbrev pub EndsOf : List Row → (coming coming' out out' err err' : Option (List ℕ)) → ℕ → Type 0
 EndsOf rows coming coming' out out' err err' status =
     ((coming' ≡ coming) × Took out out' err err' (IsEndedOf rows status)) ⊎ Filtered rows coming coming' out out' err err' status
+    ⊎ Objects rows coming coming' out out' err err' status
 
 abbrev pub StopsOf : List Row → (coming coming' out out' err err' : Option (List ℕ)) → Type 0
 StopsOf rows coming coming' out out' err err' =
     ((coming' ≡ coming) × Took out out' err err' (IsStoppedOf rows)) ⊎ FilteredFront rows coming coming' out out' err err'
+    ⊎ ObjectsFront rows coming coming' out out' err err'
 
 -- ## One that it doesn't take
 

@@ -56,7 +56,8 @@ with_texts app = with_rule (with_rule (with_rule (with_short (with_rule (with_ru
 
 -- with those on how texts are written, and on what is said of names that are left
 abbrev pub with_reports : App → App
-with_reports app = with_rule (with_rule (with_rule app (flag (codes "escape"))) (flag (codes "why"))) (flag (codes "strict"))
+with_reports app =
+    with_rule (with_rule (with_rule (with_rule app (flag (codes "escape"))) (flag (codes "json"))) (flag (codes "why"))) (flag (codes "strict"))
 
 -- The program's command line. Its parser adds help. An option may be given again.
 unfoldable pub command_line : App
@@ -66,7 +67,7 @@ command_line = record {
     disable_version_flag = true;
     args_override_self = true;
     rules = no_params ∷ flag (codes "brief") ∷ flag (codes "short") ∷ flag (codes "keep-inline") ∷ types ∷ limit ∷ style_option ∷ flag (codes "escape")
-        ∷ flag (codes "why") ∷ flag (codes "strict") ∷ version_option ∷ taken_options ∷ name_arguments ∷ [];
+        ∷ flag (codes "json") ∷ flag (codes "why") ∷ flag (codes "strict") ∷ version_option ∷ taken_options ∷ name_arguments ∷ [];
   };
   subs = [];
 }
@@ -96,6 +97,7 @@ pub record AreGiven (rows : List Row) (options : Options) : Type 0 where
   pub limit : IsLimit rows options.limit
   pub style : IsAskedStyle rows (Some options.style)
   pub escape : IsFlag rows (codes "escape") options.escape
+  pub json : IsFlag rows (codes "json") options.json
   pub types : IsFlag rows (codes "types") options.types
   pub why : IsFlag rows (codes "why") options.why
   pub strict : IsFlag rows (codes "strict") options.strict

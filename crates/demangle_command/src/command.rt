@@ -5,9 +5,9 @@ ghost use Rattle.clap.specs.Words.{found_of, kind_of, rows_of};
 ghost use Rattle.clap.specs.declared.error.kind.ErrorKind.{ErrorKind as ErrorKind-type};
 ghost use Rattle.sym_filter.specs.Streams.{PutsFront, reader_faults, writer_faults};
 ghost use Rattle.sym_command.specs.Command.{Took, Says};
-ghost use Rattle.demangle_command.specs.Command.{unescaped_of, Ends, Stops, EndsOf, StopsOf, FiltersInput, FiltersInputFront, IsTold, TellsInput, TellsInputFront, is_request, summary_if};
+ghost use Rattle.demangle_command.specs.Command.{ByObjects, ByObjectsFront, unescaped_of, Ends, Stops, EndsOf, StopsOf, FiltersInput, FiltersInputFront, IsTold, TellsInput, TellsInputFront, is_request, summary_if};
 ghost use Rattle.demangle_command.specs.CommandLine.{AreGiven};
-ghost use Rattle.demangle_command.specs.Texts.{texts_of};
+ghost use Rattle.demangle_command.specs.Texts.{bytes_of, texts_of};
 ghost use Rattle.demangle_names.specs.Names.{status_of};
 
 use crate::complaints::{complaint, style_complaint};
@@ -17,7 +17,8 @@ use crate::styled::Styled;
 use crate::texts::{lent_texts, lent_words, texts_of, words_of};
 use clap::error::ErrorKind;
 use clap::{ArgMatches, Error};
-use demangle_names::{DONE, Options, Reasons, answer_names, status_of};
+use demangle_names::{DONE, Options, Reasons, WordReport, answer_names, status_of};
+use json_lines::{answer_objects, tell_objects};
 use std::alloc::Global;
 use sym_command::WRONG_USE;
 use sym_filter::{
@@ -218,11 +219,14 @@ fn run_with<D: Alike + Copy + Drop, S: Source, W: Sink, E: Sink>(
     ensures write_failed { W.failure_count out.new + E.failure_count err.new
         ≡ W.failure_count out.old + E.failure_count err.old + writer_faults result }
 {
+    let texts = names_of(matches);
+    if options.json {
+        return write_objects(alloc, &demangler, options, texts, input, out);
+    }
     let escaping = Escaping {
         demangler,
         escapes: options.escape,
     };
-    let texts = names_of(matches);
     if texts.is_empty() {
         let recent = Recent {
             demangler: escaping,
@@ -235,6 +239,38 @@ fn run_with<D: Alike + Copy + Drop, S: Source, W: Sink, E: Sink>(
     let names = words_of(alloc, texts)?;
     let lent = lent_words(alloc, &names)?;
     match answer_names(alloc, &escaping, options, &lent, out, err) {
+        Ok(one_stays) => Ok(status_of(options.strict, one_stays)),
+        Err(fault) => Err(fault),
+    }
+}
+
+/// Writes the objects of names, or of the input's words where there is no name, and answers the status.
+fn write_objects<D: Demangler, S: Source, W: Sink>(
+    alloc: Global,
+    demangler: &D,
+    options: Options,
+    texts: &[&str],
+    input: &mut S,
+    out: &mut W,
+) -> Result<u8, FilterFault>
+    requires in_failures { S.failure_count input.old < 2 ^ 64 - 1 }
+    requires out_failures { W.failure_count out.old < 2 ^ 64 - 1 }
+    ensures ok { IfOk result (ByObjects (D.answer demangler.now) options (map bytes_of (map (λ text. text.now) texts.now))
+        (S.coming input.old) (S.coming input.new) (W.taken out.old) (W.taken out.new)) }
+    ensures err { OnErr result (ByObjectsFront (D.answer demangler.now) options (map bytes_of (map (λ text. text.now) texts.now))
+        (S.coming input.old) (S.coming input.new) (W.taken out.old) (W.taken out.new)) }
+    ensures read_failed { S.failure_count input.new ≡ S.failure_count input.old + reader_faults result }
+    ensures write_failed { W.failure_count out.new ≡ W.failure_count out.old + writer_faults result }
+{
+    if texts.is_empty() {
+        return match tell_objects(alloc, demangler, options.style.reads_paths(), input, out) {
+            Ok(one_stays) => Ok(status_of(options.strict, one_stays)),
+            Err(fault) => Err(fault),
+        };
+    }
+    let names = words_of(alloc, texts)?;
+    let lent = lent_words(alloc, &names)?;
+    match answer_objects(alloc, demangler, options, &lent, out) {
         Ok(one_stays) => Ok(status_of(options.strict, one_stays)),
         Err(fault) => Err(fault),
     }
@@ -334,8 +370,9 @@ fn filter_saying<D: Demangler, S: Source, W: Sink, E: Sink>(
     ensures write_failed { W.failure_count out.new + E.failure_count err.new
         ≡ W.failure_count out.old + E.failure_count err.old + writer_faults result }
 {
-    let mut reasons = Reasons::new(alloc, demangler, err);
-    filter_telling(alloc, input, out, demangler, Letters::Within, &mut reasons)
+    let reasons = Reasons { demangler };
+    let mut report = WordReport::new(alloc, &reasons, err);
+    filter_telling(alloc, input, out, demangler, Letters::Within, &mut report)
 }
 
 /// Says how many symbols of an input stay, where that is asked.

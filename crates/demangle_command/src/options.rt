@@ -25,6 +25,8 @@ const LIMIT: &str = "Longest text, about its bytes [default: 1000000]";
 
 const ESCAPE: &str = "Escape \" and \\ in replaced text";
 
+const JSON: &str = "Write an object of JSON for each name";
+
 const WHY: &str = "Say on standard error why a name is left, and in which line";
 
 const STRICT: &str = "Exit with status 1 if a name is left";
@@ -88,7 +90,8 @@ fn with_reports<'a>(alloc: Global, command: Command<'a>) -> Result<Command<'a>, 
     ensures { IfOk result (λ with_them. app_of with_them ≡ with_reports (app_of command.entry)) }
 {
     let escape = with_flag(alloc, command, "escape", ESCAPE)?;
-    let why = with_flag(alloc, escape, "why", WHY)?;
+    let json = with_flag(alloc, escape, "json", JSON)?;
+    let why = with_flag(alloc, json, "why", WHY)?;
     with_flag(alloc, why, "strict", STRICT)
 }
 
@@ -218,6 +221,7 @@ pub(crate) fn options_of(matches: &ArgMatches<'_>) -> Option<Options>
         style,
         texts: texts_of(has_flag(matches, "short"), has_flag(matches, "keep-inline")),
         escape: has_flag(matches, "escape"),
+        json: has_flag(matches, "json"),
         types: has_flag(matches, "types"),
         why: has_flag(matches, "why"),
         strict: has_flag(matches, "strict"),

@@ -1,6 +1,7 @@
 pub mod Escaped
 pub mod Names
-pub mod ReasonLaws
 pub mod Reasons
+pub mod Saying
+pub mod SayingLaws
 pub mod Strings
 pub mod Style

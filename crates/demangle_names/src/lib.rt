@@ -6,6 +6,7 @@ mod escaping;
 mod names;
 mod options;
 mod reasons;
+mod sayings;
 mod status;
 mod style;
 
@@ -15,5 +16,6 @@ pub use escaping::{
 pub use names::answer_names;
 pub use options::Options;
 pub use reasons::Reasons;
+pub use sayings::{Said, Says, WordReport};
 pub use status::{DONE, status_of};
 pub use style::{Style, style_of};

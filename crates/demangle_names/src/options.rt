@@ -14,6 +14,8 @@ pub struct Options {
     pub texts: Texts,
     /// Whether texts are escaped for strings of JSON.
     pub escape: bool,
+    /// Whether names are answered by objects of JSON.
+    pub json: bool,
     /// Whether names are read as types, too.
     pub types: bool,
     /// Whether it is said why a name stays.

@@ -4,12 +4,12 @@ ghost use Rattle.std.specs.Io.KnownBytes.{Appends};
 ghost use Rattle.sym_filter.specs.Streams.{PutsFront, writer_faults};
 ghost use Rattle.sym_command.specs.Lines.{answer_for};
 ghost use Rattle.demangle_names.specs.Names.{reason_by, said_if, said_line};
-ghost use Rattle.sym_filter.specs.Entries.{newline_of, newlines_in};
-ghost use Rattle.demangle_names.specs.Reasons.{line_after, placed};
+ghost use Rattle.demangle_names.specs.Reasons.{placed};
 
+use crate::sayings::{Said, Says, write_said};
 use std::alloc::{AllocError, Global};
 use sym_command::reason;
-use sym_filter::{Demangler, FilterFault, Report, Sink, kind_of, write_all};
+use sym_filter::{Demangler, FilterFault, Sink, kind_of};
 
 /// The reason why a name stays that is no symbol.
 const NO_SYMBOL: &str = "not a symbol";
@@ -31,31 +31,21 @@ pub(crate) fn say_why<D: Demangler, E: Sink>(
     if !asked {
         return Ok(());
     }
-    say_reason(alloc, demangler, name, name, err)
+    let line = reason_line(alloc, demangler, name, name)?;
+    write_said(err, &line)
 }
 
-/// Says why a name stays. The line begins with `subject`: the name, or the name after the number of its line.
-fn say_reason<D: Demangler, E: Sink>(
+/// The line that says why a name stays. It begins with `subject`: the name, or the name after the number of its line.
+fn reason_line<D: Demangler>(
     alloc: Global,
     demangler: &D,
     subject: &[u8],
     name: &[u8],
-    err: &mut E,
-) -> Result<(), FilterFault>
-    requires err_failures { E.failure_count err.old < 2 ^ 64 - 1 }
-    ensures ok { OnOk result (Appends (E.taken err.old) (E.taken err.new)
-        (said_line subject.now (reason_by (answer_for (D.answer demangler.now) name.now)))) }
-    ensures err { OnErr result (PutsFront (E.taken err.old) (E.taken err.new) []
-        (said_line subject.now (reason_by (answer_for (D.answer demangler.now) name.now)))) }
-    ensures fault { IfErr result (λ fault. fault ≢ FilterFault.Read) }
-    ensures failures { E.failure_count err.new ≡ E.failure_count err.old + writer_faults result }
+) -> Result<Vec<u8>, AllocError>
+    ensures { IfOk result (λ line. line.items ≡ said_line subject.now (reason_by (answer_for (D.answer demangler.now) name.now))) }
 {
     let reason = reason_why(alloc, demangler, name)?;
-    let line = said_line(alloc, subject, reason.as_str())?;
-    match write_all(err, &line) {
-        Ok(()) => Ok(()),
-        Err(fault) => Err(fault),
-    }
+    said_line(alloc, subject, reason.as_str())
 }
 
 /// The line that says why a name stays.
@@ -85,30 +75,21 @@ fn reason_why<D: Demangler>(alloc: Global, demangler: &D, name: &[u8]) -> Result
     }
 }
 
-/// A report that says for each word that is left of a text why it stays, and in which line it is.
-#[derive(Drop)]
-pub struct Reasons<'r, D: Demangler, E: Sink> {
-    alloc: Global,
-    demangler: &'r D,
-    err: &'r mut E,
-    // the line that the text is in, from 1 on
-    line: u64,
+/// Says why each word stays, and in which line it is.
+#[derive(Clone, Copy, Drop)]
+pub struct Reasons<'r, D: Demangler> {
+    pub demangler: &'r D,
 }
 
-impl<'r, D: Demangler, E: Sink> Reasons<'r, D, E> {
-    /// A report that begins with the text.
-    pub fn new(alloc: Global, demangler: &'r D, err: &'r mut E) -> Reasons<'r, D, E>
-        ensures demangler { result.demangler.now ≡ demangler.now }
-        ensures same_reference { result.err.ghost_name ≡ err.entry.ghost_name }
-        ensures err { result.err.now ≡ err.old }
-        ensures first { result.line ≡ 1 }
-    {
-        Reasons {
-            alloc,
-            demangler,
-            err,
-            line: 1,
-        }
+impl<'r, D: Demangler> Says for Reasons<'r, D> {
+    ghost use Rattle.demangle_names.specs.Reasons.{reasons_of};
+
+    ghost saying = { λ reasons. reasons_of (D.answer reasons.demangler.now) };
+
+    fn say(&self, alloc: Global, line: u64, word: &[u8]) -> Result<Said, AllocError> {
+        let subject = placed(alloc, line, word)?;
+        let bytes = reason_line(alloc, self.demangler, &subject, word)?;
+        Ok(Said { bytes, stays: true })
     }
 }
 
@@ -120,68 +101,4 @@ fn placed(alloc: Global, line: u64, word: &[u8]) -> Result<Vec<u8>, AllocError>
     let mut subject = Vec::from_slice(alloc, place.as_bytes())?;
     subject.extend_from_slice(word)?;
     Ok(subject)
-}
-
-/// The number of the line after some bytes of a text.
-fn line_after(line: u64, bytes: &[u8]) -> u64
-    ensures { result ≡ line_after line (newlines_in bytes.now) }
-{
-    let mut here = line;
-    'bytes: for byte in bytes {
-        here = next_line(here, *byte);
-    }
-    here
-}
-
-/// The number of the line after a byte.
-fn next_line(line: u64, byte: u8) -> u64
-    ensures { result ≡ line_after line (newline_of byte) }
-{
-    if byte == b'\n' {
-        return line.saturating_add(1);
-    }
-    line
-}
-
-impl<'r, D: Demangler, E: Sink> Report for Reasons<'r, D, E> {
-    ghost use Rattle.std.proofs.Common.{refl, ◌∙◌};
-    ghost use Rattle.demangle_names.specs.Reasons.{Told, Untold};
-    ghost use Rattle.demangle_names.specs.ReasonLaws.{told-both, told-none, untold-before, untold-later, untold-within};
-
-    ghost failure_count = { λ reasons. E.failure_count reasons.err.now };
-
-    ghost Tells = { λ old new entries. (old.err.ghost_name ≡ new.err.ghost_name) × Told (D.answer old.demangler.now) (D.answer new.demangler.now) old.line new.line (E.taken old.err.now) (E.taken new.err.now) entries };
-
-    ghost Stops = { λ old new entries. (old.err.ghost_name ≡ new.err.ghost_name) × Untold (D.answer old.demangler.now) old.line (E.taken old.err.now) (E.taken new.err.now) entries };
-
-    ghost tells_none = { λ report. (refl, told-none (D.answer report.demangler.now) report.line (E.taken report.err.now)) };
-
-    ghost tells_both = { λ old mid new entries more h i. (
-      h.0 ∙ i.0,
-      told-both (D.answer old.demangler.now) (D.answer mid.demangler.now) (D.answer new.demangler.now) old.line mid.line new.line (E.taken old.err.now) (E.taken mid.err.now) (E.taken new.err.now) entries more h.1 i.1,
-    ) };
-
-    ghost stops_within = { λ old new entries more h. (
-      h.0,
-      untold-within (D.answer old.demangler.now) (D.answer new.demangler.now) old.line new.line (E.taken old.err.now) (E.taken new.err.now) entries more h.1,
-    ) };
-
-    ghost stops_later = { λ old mid new entries more h i. (
-      h.0 ∙ i.0,
-      untold-later (D.answer old.demangler.now) (D.answer mid.demangler.now) old.line mid.line (E.taken old.err.now) (E.taken mid.err.now) (E.taken new.err.now) entries more h.1 i.1,
-    ) };
-
-    ghost stops_before = { λ old new entries more h. (
-      h.0,
-      untold-before (D.answer old.demangler.now) old.line (E.taken old.err.now) (E.taken new.err.now) entries more h.1,
-    ) };
-
-    fn passes(&mut self, bytes: &[u8]) {
-        self.line = line_after(self.line, bytes);
-    }
-
-    fn leaves(&mut self, word: &[u8]) -> Result<(), FilterFault> {
-        let subject = placed(self.alloc, self.line, word)?;
-        say_reason(self.alloc, self.demangler, &subject, word, self.err)
-    }
 }

@@ -1,0 +1,4 @@
+pub mod LineLemmas
+pub mod MeaningLemmas
+pub mod NameLemmas
+pub mod StringLemmas

@@ -1,0 +1,142 @@
+-- The tokens of objects, and their lines.
+use Rattle.std.proofs.Common.{◌≡◌, ◌∙◌, ◌≤◌, refl, ap, sym, ℕ, arith, Bool, true, false, List, [], ◌∷◌, ◌++◌, append_assoc, append-nil, Option, Some, None, is_some, cond}
+use Rattle.std.specs.Fmt.{decimal}
+use Rattle.json.specs.Json.{Members, no_members, member, number, object, string, max_depth}
+use Rattle.std.specs.Str.Lossy.{utf8_lossy}
+use Rattle.json.specs.Print.{ends, print, print_from, quoted}
+use Rattle.json.specs.Token.{Token}
+use Rattle.json.specs.Tree.{json_tokens, members_tokens, depth, HasNumbers, MembersHaveNumbers}
+use Rattle.json.proofs.Printed.Decimals.{IsNumber-decimal}
+use Rattle.json.proofs.Printed.Tokens.{print_from-append}
+use Rattle.json.proofs.Printed.Trees.{document-print}
+use Rattle.sym_core.specs.declared.refusal.Refusal.{Refusal}
+use Rattle.sym_core.specs.declared.refusal.Refusal.TheVariants.{Malformed, BadReference, BadValue, TooLong, Memory}
+use Rattle.std.specs.Prelude.{codes, fold}
+use Rattle.json_lines.specs.Meanings.{Meaning, has_text, refused, no_symbol}
+use Rattle.json_lines.specs.Objects.{HasPlace, IsLine, IsMeaning, LinesAreObjects, line_members, meaning_members, name_members, object_of, refusal_members, text_of}
+use Rattle.json_lines.specs.Tokens.{front_of, members_text}
+
+pub tokens-front : (members : Members) → members_tokens members ≡ front_of members ++ Token.end_object ∷ []
+tokens-front no_members = refl
+tokens-front (member name json members) =
+    ap (λ (ts : List Token). Token.key name ∷ ts)
+    (ap (λ (ts : List Token). json_tokens json ++ ts) (tokens-front members) ∙ sym (append_assoc (json_tokens json) (front_of members) (Token.end_object ∷ [])))
+
+end-text : (has_some : Bool) → print_from has_some (Token.end_object ∷ []) ≡ 125 ∷ []
+unfolding print_from
+end-text true = refl
+end-text false = refl
+
+-- ## The text of members, one after the other
+
+-- no members
+pub no-text : (has_some : Bool) → members_text has_some no_members ≡ []
+unfolding print_from
+no-text has_some = refl
+
+-- after a member that is a string or a number come the others
+pub text-word : (has_some : Bool) (name word : List ℕ) (members : Members) → members_text has_some (member name (string word) members) ≡ members_text has_some (member name (string word) no_members) ++ members_text true members
+text-word has_some name word members = print_from-append has_some (Token.key name ∷ Token.string word ∷ []) (front_of members)
+
+pub text-number : (has_some : Bool) (name digits : List ℕ) (members : Members) → members_text has_some (member name (number digits) members) ≡ members_text has_some (member name (number digits) no_members) ++ members_text true members
+text-number has_some name digits members = print_from-append has_some (Token.key name ∷ Token.number digits ∷ []) (front_of members)
+
+-- a name, and its string or number
+pub word-text : (has_some : Bool) (name word : List ℕ) → members_text has_some (member name (string word) no_members) ≡ print_from has_some (Token.key name ∷ []) ++ quoted word
+unfolding print_from
+word-text has_some name word = print_from-append has_some (Token.key name ∷ []) (Token.string word ∷ []) ∙ ap (λ (t : List ℕ). print_from has_some (Token.key name ∷ []) ++ t) (append-nil (quoted word))
+
+pub number-text : (has_some : Bool) (name digits : List ℕ) → members_text has_some (member name (number digits) no_members) ≡ print_from has_some (Token.key name ∷ []) ++ digits
+unfolding print_from
+number-text has_some name digits = print_from-append has_some (Token.key name ∷ []) (Token.number digits ∷ []) ∙ ap (λ (t : List ℕ). print_from has_some (Token.key name ∷ []) ++ t) (append-nil digits)
+
+-- a name alone
+pub name-after : (name : List ℕ) → print_from true (Token.key name ∷ []) ≡ 44 ∷ (quoted name ++ 58 ∷ [])
+unfolding print_from
+name-after name = ap (λ (t : List ℕ). 44 ∷ t) (append-nil (quoted name ++ 58 ∷ []))
+
+pub name-first : (name : List ℕ) → print_from false (Token.key name ∷ []) ≡ quoted name ++ 58 ∷ []
+unfolding print_from
+name-first name = append-nil (quoted name ++ 58 ∷ [])
+
+-- ## Bytes that are appended in turn
+
+pub put-two : (old mid new first second both : List ℕ) → mid ≡ old ++ first → new ≡ mid ++ second → both ≡ first ++ second → new ≡ old ++ both
+put-two old mid new first second both e f is = f ∙ ap (λ (t : List ℕ). t ++ second) e ∙ append_assoc old first second ∙ ap (λ (t : List ℕ). old ++ t) (sym is)
+
+-- a name and its string
+pub put-word : (has_some : Bool) (name word bytes old mid new : List ℕ) → bytes ≡ word → mid ≡ old ++ print_from has_some (Token.key name ∷ []) → new ≡ mid ++ quoted bytes → new ≡ old ++ members_text has_some (member name (string word) no_members)
+put-word has_some name word bytes old mid new is named pushed =
+    put-two old mid new (print_from has_some (Token.key name ∷ [])) (quoted word) (members_text has_some (member name (string word) no_members)) named (pushed ∙ ap (λ (t : List ℕ). mid ++ quoted t) is) (word-text has_some name word)
+
+-- a name, after a comma or not
+pub put-name : (has_some : Bool) (name old begun mid new : List ℕ) → begun ≡ old ++ cond has_some (44 ∷ []) [] → mid ≡ begun ++ quoted name → new ≡ mid ++ 58 ∷ [] → new ≡ old ++ print_from has_some (Token.key name ∷ [])
+put-name true name old begun mid new d e f =
+    f ∙ ap (λ (t : List ℕ). t ++ 58 ∷ []) (e ∙ ap (λ (t : List ℕ). t ++ quoted name) d) ∙ append_assoc (old ++ 44 ∷ []) (quoted name) (58 ∷ []) ∙ append_assoc old (44 ∷ []) (quoted name ++ 58 ∷ [])
+    ∙ ap (λ (t : List ℕ). old ++ t) (sym (name-after name))
+put-name false name old begun mid new d e f =
+    f ∙ ap (λ (t : List ℕ). t ++ 58 ∷ []) (e ∙ ap (λ (t : List ℕ). t ++ quoted name) (d ∙ append-nil old)) ∙ append_assoc old (quoted name) (58 ∷ []) ∙ ap (λ (t : List ℕ). old ++ t) (sym (name-first name))
+
+pub put-line : (line symbol meaning begun with_line with_symbol with_meaning all : List ℕ) → begun ≡ 123 ∷ [] → with_line ≡ begun ++ line → with_symbol ≡ with_line ++ symbol → with_meaning ≡ with_symbol ++ meaning → all ≡ with_meaning ++ 125 ∷ 10 ∷ []
+    → all ≡ (123 ∷ (((line ++ symbol) ++ meaning) ++ 125 ∷ [])) ++ 10 ∷ []
+put-line line symbol meaning begun with_line with_symbol with_meaning all d e f g h =
+    h ∙ ap (λ (t : List ℕ). t ++ 125 ∷ 10 ∷ []) (g ∙ ap (λ (t : List ℕ). t ++ meaning) (f ∙ ap (λ (t : List ℕ). t ++ symbol) (e ∙ ap (λ (t : List ℕ). t ++ line) d)))
+    ∙ ap (λ (t : List ℕ). 123 ∷ t) (sym (append_assoc ((line ++ symbol) ++ meaning) (125 ∷ []) (10 ∷ [])))
+
+-- ## The text of an object
+
+pub object-text : (members : Members) → print (json_tokens (object members)) ≡ 123 ∷ (members_text false members ++ 125 ∷ [])
+unfolding print_from
+object-text members =
+    ap (λ (ts : List Token). 123 ∷ print_from false ts) (tokens-front members)
+    ∙ ap (λ (t : List ℕ). 123 ∷ t) (print_from-append false (front_of members) (Token.end_object ∷ []) ∙ ap (λ (t : List ℕ). members_text false members ++ t) (end-text (fold (λ _ u. ends u) false (front_of members))))
+
+-- the members of a name after those of its line
+pub all-members : (line : Option ℕ) (name : List ℕ) (meaning : Meaning) → print (json_tokens (object_of line name meaning))
+    ≡ 123 ∷ (((members_text false (line_members line) ++ members_text (is_some line) (member (codes "symbol") (text_of name) no_members)) ++ members_text true (meaning_members meaning)) ++ 125 ∷ [])
+unfolding print_from
+all-members None name meaning =
+    object-text (name_members name meaning) ∙ ap (λ (t : List ℕ). 123 ∷ (t ++ 125 ∷ [])) (text-word false (codes "symbol") (utf8_lossy name) (meaning_members meaning))
+all-members (Some line) name meaning =
+    let first = members_text false (line_members (Some line)) in
+    let symbol = members_text true (member (codes "symbol") (text_of name) no_members) in
+    object-text (member (codes "line") (number (decimal line)) (name_members name meaning))
+    ∙ ap (λ (t : List ℕ). 123 ∷ (t ++ 125 ∷ [])) (text-number false (codes "line") (decimal line) (name_members name meaning)
+    ∙ ap (λ (t : List ℕ). first ++ t) (text-word true (codes "symbol") (utf8_lossy name) (meaning_members meaning)) ∙ sym (append_assoc first symbol (members_text true (meaning_members meaning))))
+
+-- ## Laws
+
+refusal-numbers : (refusal : Refusal) → HasPlace refusal → MembersHaveNumbers (refusal_members refusal)
+refusal-numbers (Malformed at) fits = (tt, (IsNumber-decimal at fits, tt))
+refusal-numbers (BadReference at) fits = (tt, (IsNumber-decimal at fits, tt))
+refusal-numbers (BadValue at) fits = (tt, (IsNumber-decimal at fits, tt))
+refusal-numbers TooLong fits = (tt, tt)
+refusal-numbers Memory fits = tt
+
+meaning-numbers : (meaning : Meaning) → IsMeaning meaning → MembersHaveNumbers (meaning_members meaning)
+meaning-numbers (has_text mangling text) fits = (tt, (tt, (tt, tt)))
+meaning-numbers (refused refusal) fits = refusal-numbers refusal fits
+meaning-numbers no_symbol fits = (tt, tt)
+
+object-numbers : (line : Option ℕ) (name : List ℕ) (meaning : Meaning) → IsLine line → IsMeaning meaning → HasNumbers (object_of line name meaning)
+object-numbers None name meaning fits is = (tt, meaning-numbers meaning is)
+object-numbers (Some line) name meaning fits is = (IsNumber-decimal line fits, (tt, meaning-numbers meaning is))
+
+object-shallow : (line : Option ℕ) (name : List ℕ) (meaning : Meaning) → depth (object_of line name meaning) ≤ max_depth
+object-shallow None name (has_text mangling text) = omega arith
+object-shallow None name (refused (Malformed at)) = omega arith
+object-shallow None name (refused (BadReference at)) = omega arith
+object-shallow None name (refused (BadValue at)) = omega arith
+object-shallow None name (refused TooLong) = omega arith
+object-shallow None name (refused Memory) = omega arith
+object-shallow None name no_symbol = omega arith
+object-shallow (Some line) name (has_text mangling text) = omega arith
+object-shallow (Some line) name (refused (Malformed at)) = omega arith
+object-shallow (Some line) name (refused (BadReference at)) = omega arith
+object-shallow (Some line) name (refused (BadValue at)) = omega arith
+object-shallow (Some line) name (refused TooLong) = omega arith
+object-shallow (Some line) name (refused Memory) = omega arith
+object-shallow (Some line) name no_symbol = omega arith
+
+pub line-read : LinesAreObjects
+line-read line name meaning fits is = document-print (object_of line name meaning) (object-numbers line name meaning fits is) (object-shallow line name meaning)

@@ -1,0 +1,53 @@
+-- What a name is as a symbol, by what was answered for the symbol.
+use Rattle.std.proofs.Common.{◌≡◌, ◌∙◌, ℕ, Bool, List, Option, None, Some, Result, Ok, Err, refl, true, false, is_some, not, sym, ap, ap₂}
+use Rattle.std.specs.Prelude.{option_and_then, if◌then◌else◌}
+use Rattle.std.specs.Result.{result_ok}
+use Rattle.sym_core.specs.declared.refusal.Refusal.{Refusal}
+use Rattle.sym_filter.specs.Kinds.{kind_of, symbol_of}
+use Rattle.sym_filter.specs.Runs.{Answering, text_for, trimmed}
+use Rattle.sym_filter.specs.declared.kinds.Kind.{Kind}
+use Rattle.json_lines.specs.declared.manglings.Mangling.{Mangling}
+use Rattle.json_lines.specs.Meanings.{no_symbol, answered, mangling_of, meaning_by, named_by, stays, symbol_meaning}
+
+pub unnamed : (reads_paths : Bool) (answers : Answering) (name : List ℕ) → kind_of name ≡ None → no_symbol ≡ symbol_meaning reads_paths answers name
+unfolding symbol_meaning
+unnamed reads_paths answers name none = sym (ap (meaning_by reads_paths answers name) none)
+
+pub named : (reads_paths : Bool) (answers : Answering) (name symbol : List ℕ) (kind : Kind) (mangling : Mangling) (answer : Result (List ℕ) Refusal) → kind_of name ≡ Some kind → symbol ≡ symbol_of kind name
+    → mangling ≡ mangling_of reads_paths kind.lang symbol → answers kind symbol ≡ answer → answered mangling answer ≡ symbol_meaning reads_paths answers name
+unfolding symbol_meaning
+named reads_paths answers name symbol kind mangling answer kind_is same is given =
+    ap₂ answered (is ∙ ap (mangling_of reads_paths kind.lang) same) (sym given ∙ ap (answers kind) same) ∙ sym (ap (meaning_by reads_paths answers name) kind_is)
+
+-- ## Whether a word has a text
+
+known : (mangling : Mangling) (answer : Result (List ℕ) Refusal) → not (stays (answered mangling answer)) ≡ is_some (result_ok answer)
+known mangling (Ok text) = refl
+known mangling (Err refusal) = refl
+
+known-by : (reads_paths : Bool) (answers : Answering) (word : List ℕ) (kind : Option Kind)
+    → not (stays (meaning_by reads_paths answers word kind)) ≡ is_some (option_and_then (λ kind. result_ok (answers kind (symbol_of kind word))) kind)
+known-by reads_paths answers word None = refl
+known-by reads_paths answers word (Some kind) = known (mangling_of reads_paths kind.lang (symbol_of kind word)) (answers kind (symbol_of kind word))
+
+pub text-known : (reads_paths : Bool) (answers : Answering) (word : List ℕ) → not (stays (symbol_meaning reads_paths answers word)) ≡ is_some (text_for answers word)
+unfolding symbol_meaning text_for
+text-known reads_paths answers word = known-by reads_paths answers word (kind_of word)
+
+-- ## The name that a word is
+
+either-word : (word front : List ℕ) (b : Bool) → front ≡ word → word ≡ (if b then front else word)
+either-word word front true same = sym same
+either-word word front false same = refl
+
+pub named-whole : (answers : Answering) (word : List ℕ) → trimmed word ≡ word → word ≡ named_by answers word
+unfolding named_by
+named-whole answers word same = either-word word (trimmed word) (is_some (text_for answers (trimmed word))) same
+
+pub named-front : (answers : Answering) (word : List ℕ) → is_some (text_for answers (trimmed word)) ≡ true → trimmed word ≡ named_by answers word
+unfolding named_by
+named-front answers word has = sym (ap (λ (b : Bool). if b then trimmed word else word) has)
+
+pub named-word : (answers : Answering) (word : List ℕ) → is_some (text_for answers (trimmed word)) ≡ false → word ≡ named_by answers word
+unfolding named_by
+named-word answers word none = sym (ap (λ (b : Bool). if b then trimmed word else word) none)

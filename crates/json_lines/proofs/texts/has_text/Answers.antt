@@ -1,0 +1,7 @@
+use Rattle.std.proofs.Common.{◌∙◌, ap, false, not}
+use Rattle.json_lines.specs.Meanings.{stays}
+use Rattle.json_lines.proofs.MeaningLemmas.{text-known}
+use Rattle.json_lines.proofs.texts.has_text.Goals as goal
+
+pub returns : goal.returns
+returns g c = ap not (c.stays.ensures ∙ ap stays c.in_ok-meaning.ensures) ∙ text-known false (g.D.Demangler.answer c.args.demangler.now) c.args.word.now

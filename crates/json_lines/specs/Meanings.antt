@@ -1,0 +1,81 @@
+-- What a name is.
+use Rattle.std.specs.Prelude.{ℕ, List, Bool, ◌&&◌, is_some, false, true, Option, Some, None, Result, Ok, Err, codes, if◌then◌else◌}
+use Rattle.sym_core.specs.declared.refusal.Refusal.{Refusal}
+use Rattle.rust_legacy.specs.Path.{legacy_of}
+use Rattle.sym_filter.specs.Kinds.{kind_of, symbol_of}
+use Rattle.sym_filter.specs.Runs.{Answering, text_for, trimmed}
+use Rattle.sym_filter.specs.declared.kinds.Kind.{Kind}
+use Rattle.sym_filter.specs.declared.kinds.Lang.{Lang}
+use Rattle.sym_filter.specs.declared.kinds.Lang.TheVariants.{Cpp, Rust}
+use Rattle.type_names.specs.Types.{type_for}
+use Rattle.json_lines.specs.declared.manglings.Mangling.{Mangling}
+use Rattle.json_lines.specs.declared.manglings.Mangling.TheVariants.{Itanium, RustV0, RustLegacy}
+use Rattle.json_lines.specs.declared.meanings.Meaning.{Meaning as Meaning-type}
+use Rattle.json_lines.specs.declared.meanings.Meaning.TheVariants as meanings
+
+-- ## Manglings
+
+abbrev pub language_of : Mangling → List ℕ
+language_of Itanium = codes "c++"
+language_of RustV0 = codes "rust"
+language_of RustLegacy = codes "rust"
+
+abbrev pub mangling_name : Mangling → List ℕ
+mangling_name Itanium = codes "itanium"
+mangling_name RustV0 = codes "rust-v0"
+mangling_name RustLegacy = codes "rust-legacy"
+
+-- a legacy Rust name is one of C++, too, and of Rust only where it is read as a path
+abbrev pub mangling_of : (reads_paths : Bool) → Lang → List ℕ → Mangling
+mangling_of reads_paths Cpp symbol = if reads_paths && is_some (legacy_of symbol) then RustLegacy else Itanium
+mangling_of reads_paths Rust symbol = RustV0
+
+-- ## Meanings
+
+-- a symbol or a type with a text, a symbol that has none, and why, or no symbol
+pub data Meaning : Type 0 where
+  has_text : Mangling → List ℕ → Meaning
+  refused : Refusal → Meaning
+  no_symbol : Meaning
+
+-- by what is answered for a symbol
+abbrev pub answered : Mangling → Result (List ℕ) Refusal → Meaning
+answered mangling (Ok text) = has_text mangling text
+answered mangling (Err refusal) = refused refusal
+
+-- of a name as a symbol, by its kind
+abbrev pub meaning_by : (reads_paths : Bool) → Answering → List ℕ → Option Kind → Meaning
+meaning_by reads_paths answers name None = no_symbol
+meaning_by reads_paths answers name (Some kind) =
+    answered (mangling_of reads_paths kind.lang (symbol_of kind name)) (answers kind (symbol_of kind name))
+
+unfoldable pub symbol_meaning : (reads_paths : Bool) → Answering → List ℕ → Meaning
+symbol_meaning reads_paths answers name = meaning_by reads_paths answers name (kind_of name)
+
+-- of a name that may be a type
+abbrev pub meaning_or : Option (List ℕ) → Meaning → Meaning
+meaning_or (Some text) meaning = has_text Itanium text
+meaning_or None meaning = meaning
+
+-- What a name is: a type, where types are read and it is one, or else what is answered for it as a symbol.
+abbrev pub meaning_of : (types reads_paths : Bool) → Answering → List ℕ → Meaning
+meaning_of types reads_paths answers name = meaning_or (type_for types answers name) (symbol_meaning reads_paths answers name)
+
+-- a name stays that has no text
+abbrev pub stays : Meaning → Bool
+stays (has_text mangling text) = false
+stays (refused refusal) = true
+stays no_symbol = true
+
+-- what code has of it
+abbrev pub meaning_in : Meaning-type → Meaning
+meaning_in (meanings.Text text mangling) = has_text mangling text.items
+meaning_in (meanings.Refused refusal) = refused refusal
+meaning_in meanings.NoSymbol = no_symbol
+
+-- ## Names in a text
+
+-- The name that a word of a text is: the word without its last bytes that are dots or aren't ASCII, where that has a text, and
+-- else the word.
+unfoldable pub named_by : Answering → List ℕ → List ℕ
+named_by answers word = if is_some (text_for answers (trimmed word)) then trimmed word else word

@@ -1,0 +1,20 @@
+-- Members of an object as the text of their tokens.
+use Rattle.std.specs.Prelude.{ℕ, ◌/◌, ◌%◌, List, [], ◌∷◌, ◌++◌, Bool}
+use Rattle.std.specs.Char.{digit_char}
+use Rattle.json.specs.Json.{Members, no_members, member}
+use Rattle.json.specs.Print.{print_from}
+use Rattle.json.specs.Token.{Token}
+use Rattle.json.specs.Tree.{json_tokens}
+
+-- the tokens of members, without the bracket that closes their object
+abbrev pub front_of : Members → List Token
+front_of no_members = []
+front_of (member name json members) = Token.key name ∷ (json_tokens json ++ front_of members)
+
+-- their text, where the object has members before them or none
+abbrev pub members_text : (has_some : Bool) → Members → List ℕ
+members_text has_some members = print_from has_some (front_of members)
+
+-- the escape of a control character by its number
+abbrev pub code_escape : ℕ → List ℕ
+code_escape byte = 92 ∷ 117 ∷ 48 ∷ 48 ∷ digit_char (byte / 16) ∷ digit_char (byte % 16) ∷ []

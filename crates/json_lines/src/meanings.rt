@@ -1,0 +1,79 @@
+// What a name is.
+ghost use Rattle.std.specs.Prelude.{◌≡◌, IfOk};
+ghost use Rattle.json_lines.specs.Meanings.{meaning_in, meaning_of, stays, symbol_meaning};
+
+use crate::manglings::{Mangling, mangling_of};
+use std::alloc::{AllocError, Global};
+use sym_core::Refusal;
+use sym_filter::{Demangler, kind_of};
+use type_names::type_for;
+
+/// What a name is.
+#[derive(Drop)]
+pub enum Meaning {
+    /// A symbol or a type, and its text.
+    Text { text: Vec<u8>, mangling: Mangling },
+    /// A symbol that has no text, and why.
+    Refused(Refusal),
+    /// No symbol.
+    NoSymbol,
+}
+
+impl Meaning {
+    /// Whether the name has no text.
+    pub fn stays(&self) -> bool
+        ensures { result ≡ stays (meaning_in self.now) }
+    {
+        match self {
+            Meaning::Text { .. } => false,
+            Meaning::Refused(_) => true,
+            Meaning::NoSymbol => true,
+        }
+    }
+}
+
+/// What a name is: a type, where types are read and it is one, or else what is answered for it as a symbol.
+pub(crate) fn meaning_of<D: Demangler>(
+    alloc: Global,
+    demangler: &D,
+    types: bool,
+    reads_paths: bool,
+    name: &[u8],
+) -> Result<Meaning, AllocError>
+    ensures { IfOk result (λ meaning. meaning_in meaning ≡ meaning_of types reads_paths (D.answer demangler.now) name.now) }
+{
+    match type_for(alloc, demangler, types, name)? {
+        Some(text) => Ok(Meaning::Text {
+            text,
+            mangling: Mangling::Itanium,
+        }),
+        None => symbol_meaning(alloc, demangler, reads_paths, name),
+    }
+}
+
+/// What a name is as a symbol.
+pub(crate) fn symbol_meaning<D: Demangler>(
+    alloc: Global,
+    demangler: &D,
+    reads_paths: bool,
+    name: &[u8],
+) -> Result<Meaning, AllocError>
+    ensures { IfOk result (λ meaning. meaning_in meaning ≡ symbol_meaning reads_paths (D.answer demangler.now) name.now) }
+{
+    let Some(kind) = kind_of(name) else {
+        return Ok(Meaning::NoSymbol);
+    };
+    let symbol = kind.symbol_of(name);
+    let mut lists = demangler.lists(alloc)?;
+    let mut text = Vec::new(alloc);
+    match demangler.append(&mut lists, kind, symbol, &mut text) {
+        Ok(()) => {
+            let mangling = mangling_of(reads_paths, kind.lang, symbol);
+            Ok(Meaning::Text { text, mangling })
+        }
+        Err(refusal) => match refusal {
+            Refusal::Memory => Err(AllocError),
+            _ => Ok(Meaning::Refused(refusal)),
+        },
+    }
+}

@@ -1,0 +1,229 @@
+#!/usr/bin/env python3
+"""Reads what `demangle --json` writes by Python's reader of JSON and by jq, and names what comes out otherwise than it has to.
+
+    tests/json_lines.py DEMANGLE [--seed N] [--count N]
+
+The names are of each sort, some that can't be in a text of JSON as they are, and some of any bytes, as arguments and in a text.
+Each line has to be UTF-8 without control characters and one object by both readers; jq is left out where it isn't installed.
+What the object of a name says is compared with what the program says of the name without `--json`. The status is 1 where something
+comes out otherwise, 2 where the program can't be run.
+"""
+
+import argparse
+import json
+import random
+import re
+import shutil
+import subprocess
+import sys
+import tempfile
+
+ITANIUM = {"language": "c++", "mangling": "itanium"}
+V0 = {"language": "rust", "mangling": "rust-v0"}
+LEGACY = {"language": "rust", "mangling": "rust-legacy"}
+LEGACY_NAME = b"_ZN4demo4main17h0123456789abcdefE"
+CPP_LEGACY = "demo::main::h0123456789abcdef"
+LONG = b"_Z" + b"9" * 65_535
+
+
+def text(words, mangling):
+    return {"text": words, **mangling}
+
+
+def error(reason, at=None):
+    return {"error": reason} if at is None else {"error": reason, "at": at}
+
+
+# options, names and what each one's object has to say beside the name
+NAMES = [
+    ([], b"_Z1fv", text("f()", ITANIUM)),
+    ([], b"__Z1fv", text("f()", ITANIUM)),
+    ([], b"_RNvC3foo3bar", text("foo::bar", V0)),
+    ([], b"__RNvC3foo3bar", text("foo::bar", V0)),
+    ([], LEGACY_NAME, text("demo::main", LEGACY)),
+    ([], LEGACY_NAME + b".llvm.123", text("demo::main (.llvm.123)", LEGACY)),
+    (["-s", "gnu-v3"], LEGACY_NAME, text(CPP_LEGACY, ITANIUM)),
+    (["-s", "rust"], LEGACY_NAME, text("demo::main", LEGACY)),
+    (["-s", "rust"], b"_Z1fv", error("malformed", 0)),
+    ([], b"_Zli2_sPKc", text('operator"" _s(char const*)', ITANIUM)),
+    (["--escape"], b"_Zli2_sPKc", text('operator"" _s(char const*)', ITANIUM)),
+    ([], "_Z7größei".encode(), text("größe(int)", ITANIUM)),
+    (["--no-params"], b"_ZNK1A1fEv", text("A::f", ITANIUM)),
+    (["--brief"], b"_ZN1A1fIiEEvT_", text("void A::f(int)", ITANIUM)),
+    (["--types"], b"PKc", text("char const*", ITANIUM)),
+    (["--types"], b"_Z1fv", text("f()", ITANIUM)),
+    ([], b"PKc", error("not-a-symbol")),
+    ([], b"_Z1fY", error("malformed", 4)),
+    ([], b"__RNvC3fo", error("malformed", 8)),
+    ([], b"_Z1fT_", error("bad-reference", 4)),
+    (["--limit=5"], b"_Z1fv", error("too-long")),
+    ([], b"foo", error("not-a-symbol")),
+    ([], b'"', error("not-a-symbol")),
+    ([], b"\\", error("not-a-symbol")),
+    ([], b'{"symbol":"x"}', error("not-a-symbol")),
+    ([], b"a _Z1fv", error("not-a-symbol")),
+    ([], b"_Z1fv\n", error("malformed", 5)),
+    ([], b"\x01\x1b\x7f\t\r\n", error("not-a-symbol")),
+    ([], b"\xff\xfe", error("not-a-symbol")),
+    ([], b"_Z1\xff", text("\ufffd", ITANIUM)),
+    ([], b"_Z1fv\xff", error("malformed", 5)),
+    ([], b"\xe2\x82", error("not-a-symbol")),
+    ([], b"\xed\xa0\x80", error("not-a-symbol")),
+    ([], "\u2028\U0001f600".encode(), error("not-a-symbol")),
+    ([], LONG, error("not-a-symbol")),
+]
+
+# a text, and the lines, names and words of its objects
+TEXT = b"""a _Z1fv _Z1fY\n{"at":"_Zli2_sPKc"}\xff\n\n\xe2\x80\x98_Z1fv\xe2\x80\x99 .text._ZN1A1fEv. \x1b[31m_RNvC3foo3bar\x1b[0m\x00_ZL5caf\xc3\xa9\nno name _Z\xff"""
+OBJECTS = [
+    (1, "_Z1fv", text("f()", ITANIUM)),
+    (1, "_Z1fY", error("malformed", 4)),
+    (2, "_Zli2_sPKc", text('operator"" _s(char const*)', ITANIUM)),
+    (4, "_Z1fv", text("f()", ITANIUM)),
+    (4, "_ZN1A1fEv", text("A::f()", ITANIUM)),
+    (4, "_RNvC3foo3bar", text("foo::bar", V0)),
+    (4, "_ZL5café", text("café", ITANIUM)),
+    (5, "_Z\ufffd", error("malformed", 2)),
+]
+
+OTHER_BYTES = re.compile(rb"[^A-Za-z0-9_.$\x80-\xff]")
+REASONS = {"malformed": "malformed at %d", "bad-reference": "bad reference at %d", "bad-value": "bad value at %d", "too-long": "too long", "not-a-symbol": "not a symbol"}
+
+
+def shown(name):
+    """A name's bytes as a string of JSON has them."""
+    return name.decode("utf-8", "replace")
+
+
+def quoted(name):
+    """A name as a file of arguments has it."""
+    return b"'" + name.replace(b"\\", b"\\\\").replace(b"'", b"\\'") + b"'"
+
+
+class Checks:
+    def __init__(self, program):
+        self.program = program
+        self.jq = shutil.which("jq")
+        self.wrong = []
+        self.count = 0
+
+    def require(self, holds, what):
+        self.count += 1
+        if not holds:
+            self.wrong.append(what)
+
+    def run(self, words, data=b""):
+        done = subprocess.run([self.program, *words], input=data, capture_output=True, timeout=120)
+        return done.stdout, done.stderr, done.returncode
+
+    def with_names(self, options, names):
+        """The program over any names, by a file of arguments."""
+        with tempfile.NamedTemporaryFile() as file:
+            file.write(b"\n".join(quoted(name) for name in names))
+            file.flush()
+            return self.run([*options, "--", "@" + file.name])
+
+    def objects(self, out):
+        """The objects of an output, by both readers."""
+        lines = out.split(b"\n")
+        self.require(lines.pop() == b"", "the last line has no newline: %r" % out[-80:])
+        objects = []
+        for line in lines:
+            try:
+                self.require(re.search(rb"[\x00-\x1f]", line) is None, "a control character: %r" % line[:200])
+                objects.append(json.loads(line.decode("utf-8")))
+                self.require(isinstance(objects[-1], dict), "no object: %r" % line[:200])
+            except ValueError as fault:
+                self.require(False, "%s: %r" % (fault, line[:200]))
+                objects.append({})
+        if self.jq:
+            read = subprocess.run([self.jq, "-c", "."], input=out, capture_output=True, timeout=120)
+            self.require(read.returncode == 0, "jq: %r" % read.stderr[:200])
+            by_jq = [json.loads(line) for line in read.stdout.split(b"\n")[:-1]]
+            self.require(by_jq == objects, "jq reads other objects")
+        return objects
+
+    def check_name(self, options, name, wanted):
+        out, err, status = self.with_names(["--json", *options], [name])
+        wanted = {"symbol": shown(name), **wanted}
+        self.require((self.objects(out), err, status) == ([wanted], b"", 0), "%r: %r, %r, %d" % (name[:80], out[:300], err[:80], status))
+        out, err, status = self.with_names(["--json", "--strict", *options], [name])
+        self.require(status == ("error" in wanted), "%r: status %d with --strict" % (name[:80], status))
+
+    def check_text(self, options, text_, wanted):
+        out, err, status = self.run(["--json", *options], text_)
+        self.require((self.objects(out), err, status) == (wanted, b"", 0), "%r: %r, %r, %d" % (text_[:80], out[:300], err[:80], status))
+
+    def check_any(self, names):
+        """Names of any bytes: each has the text, or the reason, that the program says without objects."""
+        out, err, status = self.with_names(["--json"], names)
+        objects = self.objects(out)
+        self.require((len(objects), err, status) == (len(names), b"", 0), "%d objects for %d names" % (len(objects), len(names)))
+        for name, found in zip(names, objects):
+            self.require(found.get("symbol") == shown(name), "%r: %r" % (name, found))
+            said = found.get("text")
+            if said is not None:
+                # without objects a name is a line of text, where no symbol has a byte of no word
+                out, _, _ = self.with_names([], [name])
+                self.require(OTHER_BYTES.search(name) or shown(out) == said + "\n", "%r: %r, not %r" % (name, said, out))
+            elif found.get("error") not in REASONS:
+                self.require(False, "%r: neither a text nor a reason: %r" % (name, found))
+            elif found["error"] != "not-a-symbol" and b"\n" not in name:
+                reason = REASONS[found["error"]]
+                reason = reason % found["at"] if "at" in found else reason
+                _, err, _ = self.with_names(["--why"], [name])
+                self.require(err in (b"", b"demangle: " + name + b": " + reason.encode() + b"\n"), "%r: %r, not %r" % (name, reason, err))
+
+    def check_any_text(self, text_):
+        """A text of any bytes: an object for each word that `--why` counts, and the lines are those of the words left."""
+        out, _, _ = self.run(["--json"], text_)
+        objects = self.objects(out)
+        _, err, _ = self.run(["--why"], text_)
+        counted = re.search(rb"demangle: (\d+) of (\d+) symbols stay\n\Z", err)
+        self.require(counted is not None and len(objects) == int(counted[2]), "%d objects: %r" % (len(objects), err[-80:]))
+        left = [int(line) for line in re.findall(rb"^demangle: line (\d+): ", err, re.M)]
+        without_text = [found.get("line") for found in objects if "error" in found]
+        self.require(all(line in without_text for line in left), "lines %r, not %r" % (without_text, left))
+
+
+def mutated(pick, name):
+    """A name with some bytes changed, put in or left out."""
+    name = bytearray(name)
+    for _ in range(pick.randrange(4)):
+        at = pick.randrange(len(name) + 1)
+        name[at : at + pick.randrange(2)] = bytes([pick.choice([pick.randrange(256), 34, 92, 0, 10, 31, 127, 128, 237, 255])]) * pick.randrange(2)
+    return bytes(name) or b"_Z"
+
+
+def main():
+    parser = argparse.ArgumentParser()
+    parser.add_argument("demangle")
+    parser.add_argument("--seed", type=int, default=1)
+    parser.add_argument("--count", type=int, default=300)
+    asked = parser.parse_args()
+    checks = Checks(asked.demangle)
+    try:
+        checks.run(["--version"])
+    except OSError as fault:
+        sys.exit("%s: %s" % (asked.demangle, fault.strerror))
+    for options, name, wanted in NAMES:
+        checks.check_name(options, name, wanted)
+    checks.check_text([], TEXT, [{"line": line, "symbol": symbol, **wanted} for line, symbol, wanted in OBJECTS])
+    checks.check_text([], b"no name, and no newline", [])
+    checks.check_text(["--why"], b"_Z1fY\n", [{"line": 1, "symbol": "_Z1fY", **error("malformed", 4)}])
+    pick = random.Random(asked.seed)
+    names = [name for _, name, _ in NAMES if len(name) < 100]
+    checks.check_any([mutated(pick, pick.choice(names)) for _ in range(asked.count)])
+    for _ in range(asked.count // 10):
+        ends = [b" ", b"\n", b"\x00", b"\"", b"\xff", b".", b"\\n", "’".encode()]
+        checks.check_any_text(b"".join(mutated(pick, pick.choice(names)) + pick.choice(ends) for _ in range(50)))
+    for what in checks.wrong[:20]:
+        print(what)
+    if not checks.jq:
+        print("left out: no jq, so only Python's reader was asked")
+    print("%d checks, %d come out otherwise" % (checks.count, len(checks.wrong)))
+    return 1 if checks.wrong else 0
+
+
+if __name__ == "__main__":
+    sys.exit(main())
