@@ -22,6 +22,7 @@ use Rattle.cpp_direct.specs.declared.open.Step.TheVariants as steps
 use Rattle.cpp_direct.specs.AllHoles.{Comes, Expects, IsNameAt, IsQualifiable, IsReferable, IsSeqAt, StandsAt, TypeNamed, TypeOpens, reference_letter, unless_listed, with_candidate}
 use Rattle.cpp_direct.specs.Prints.{Prints, PrintsAs}
 use Rattle.cpp_direct.specs.WriterInvariant.{IsScoped, IsWriting, Marks, Stands, below, Kept}
+use Rattle.cpp_direct.specs.MidStepOfLocals.{IsBuiltinAt}
 use Rattle.cpp_direct.specs.MidStep.{AwaitsType, AwaitsNamedType, AwaitsNest, IsNamedAgain, IsTypeNamed, AwaitsMark}
 use Rattle.cpp_direct.specs.Written.{Reads, Writes, Lists, OpensEntry, added, added_unless, OpensArguments}
 use Rattle.cpp_direct.proofs.Unmarked.{name-unmarked}
@@ -190,7 +191,7 @@ builtin-done s old new letter a stands has text candidates waits scope at =
     (subst (λ k. Comes s a.os (tree (builtin (letter ∷ [])) true) k a.state) (sym at)
     (builtin-comes s a.kind a.around a.os old.at a.state letter a.typed is a.awaits (stands (no-builtin letter is))))
 
-no-builtin-with-d : (letter : ℕ) → is_builtin_with_d letter ≡ true → letter ≢ 0
+pub no-builtin-with-d : (letter : ℕ) → is_builtin_with_d letter ≡ true → letter ≢ 0
 unfolding is_builtin_with_d among
 no-builtin-with-d letter is none = let clash : false ≡ true = subst (λ l. is_builtin_with_d l ≡ true) none is in cc clash
 
@@ -207,6 +208,19 @@ builtin-with-d-done s old new letter a first stands is text candidates waits sco
     (subst (λ k. Comes s a.os (tree (builtin (68 ∷ letter ∷ [])) true) k a.state) (omega (arith, at))
     (builtin-with-d-comes s a.kind a.around a.os old.at a.state letter a.typed is a.awaits
     (stands-join s.bytes old.at (68 ∷ []) (letter ∷ []) first (stands (no-builtin-with-d letter is)))))
+
+-- and either is an item of a list
+pub builtin-item : (s : Symbol) (around : Around) (os : List Opened) (at end : ℕ) (st : State) → IsBuiltinAt s.bytes at end → Expects s Kind.Item around os at st
+    → (r : Term) × Comes s os (tree r true) end st
+builtin-item s around os at end st is expects = elim is.1 [
+  | inl one ↦
+      let listed = builtin-listed is.0 one.0 in
+      let r = builtin (is.0 ∷ []) in
+      (r, subst (λ k. Comes s os (tree r true) k st) (sym one.2) (builtin-comes s Kind.Item around os at st is.0 tt listed expects (one.1 (no-builtin is.0 listed))))
+  | inr two ↦
+      let r = builtin (68 ∷ is.0 ∷ []) in
+      (r, subst (λ k. Comes s os (tree r true) k st) (sym two.2) (builtin-with-d-comes s Kind.Item around os at st is.0 tt two.0 expects two.1))
+]
 
 -- ## Names
 
