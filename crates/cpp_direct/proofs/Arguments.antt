@@ -1,19 +1,11 @@
 -- The arguments of a name, as long as they are types, and packs of them.
-use Rattle.sym_print.specs.declared.detail.Detail.{Detail}
+use Rattle.cpp_direct.specs.AllTerms.{Around, Detail, Kind, list, nil, pack, Term}
 use Rattle.std.proofs.Common.{arith, ◌≡◌, ℕ, zero, suc, ◌+◌, ◌-◌, ◌≤◌, ◌<◌, length, List, [], ◌∷◌, ◌++◌, reverse, slice_get, inr, inl, Bool, true, false, Some, refl, ap, sym, ◌∙◌, subst, codes, append_assoc, append-nil}
 use Rattle.std.proofs.lemmas.Bool.{false≢true}
 use Rattle.std.proofs.lemmas.Option.{slice_get_within}
 use Rattle.std.proofs.lemmas.List.{length-append}
-use Rattle.cpp_grammar.specs.declared.kind.Kind.{Kind}
-use Rattle.cpp_grammar.specs.Term.{list, Term, nil, pack}
-use Rattle.cpp_grammar.specs.Values.{Around}
-use Rattle.cpp_direct.specs.WriterTypes.{Argument, Arguments, Direct, Open, Symbol, detail_of}
+use Rattle.cpp_direct.specs.AllStates.{AreAmong, AreKnown, Argument, argument_around, argument_entry, Arguments, arguments_or_pack, ArgumentsGoOn, AwaitsArgument, AwaitsArgumentOfName, AwaitsKnownArgument, Belongs, below, Closes, ComeBefore, detail_of, Direct, element_kind, EndsNamed, extra_of, GoesOn, HasPack, in_front_of_next, is_noted, IsAmong, IsArgumentRead, IsElementAs, IsKnown, IsListEnded, IsLiteralRead, IsScoped, IsTemplate, IsTypeRead, IsWriting, Kept, KnowsMore, led_by, list_of, list_with, may_name, Names, nowhere, of_template, Open, opening_bracket, place_of, PrintAll, PrintAllBy, Prints, Scope, scoped_in, Stands, Symbol, Writes}
 use Rattle.cpp_direct.specs.Holes.{Opened, Expects, StandsAt}
-use Rattle.cpp_direct.specs.Prints.{Names, Prints, PrintAll, IsElementAs, PrintAllBy, list_of, opening_bracket}
-use Rattle.cpp_direct.specs.WriterInvariant.{AwaitsArgument, Scope, arguments_or_pack, ComeBefore, element_kind, below, HasPack, scoped_in, is_noted, may_name, AreAmong, ArgumentsGoOn, Belongs, EndsNamed, GoesOn, IsAmong, IsKnown, IsScoped, IsTemplate, IsWriting, Stands, extra_of, of_template, in_front_of_next, led_by, list_with, nowhere, place_of, Closes, Kept, IsTypeRead}
-use Rattle.cpp_direct.specs.MidStep.{AreKnown, AwaitsKnownArgument, IsArgumentRead, IsListEnded, IsLiteralRead, KnowsMore, argument_around, argument_entry}
-use Rattle.cpp_direct.specs.MidStepOfAddresses.{AwaitsArgumentOfName}
-use Rattle.cpp_direct.specs.Written.{Writes}
 use Rattle.cpp_direct.proofs.Ending.{next-written}
 use Rattle.cpp_direct.proofs.Kept.{awaited-in, kept-same, kept-written, reverse-last, template-stays, none-known, kept-read}
 use Rattle.cpp_direct.proofs.Listed.{pack-ends, list-ends, empty-pack-ends, last-found, element-goes-on, element-kind, pack-goes-on, some-elements, template-listed}

@@ -21,23 +21,8 @@ use Rattle.cpp_direct.proofs.Scopes.{has-member, has-plain, arguments-named, ent
 use Rattle.cpp_direct.proofs.TypesRead.{builtin-item, popped}
 use Rattle.cpp_direct.proofs.Unmarked.{name-unmarked}
 use Rattle.cpp_direct.specs.AllHoles.{Comes, Discriminator, Expects, IsDiscriminatorAt, IsNameAt, IsPieceAt, Opened, StandsAt, local_in, with_candidate}
-use Rattle.cpp_direct.specs.Marks.{IsMarkPlace, has_const, called_on, mark_text}
-use Rattle.cpp_direct.specs.MidStep.{AwaitsNamedType, AwaitsNest, IsElementRead}
-use Rattle.cpp_direct.specs.MidStepOfAddresses.{AwaitsAddressedParameters, AwaitsArgumentOfName, IsAddressNamed, IsAddressedFrontRead, IsAddressedParameterRead, IsAddressedRead}
-use Rattle.cpp_direct.specs.MidStepOfLocals.{AwaitsEnclosingParameters, AwaitsTypeName, IsEnclosingNamed, IsEnclosingParameterRead, IsBuiltinAt, IsEnclosingRead, IsLedFunctionRead, AwaitsLedParameters, IsLedParameterRead}
-use Rattle.cpp_direct.specs.Prints.{PrintsName, PrintsPiece, Shows, IsElementIn, Encloses, list_of}
-use Rattle.cpp_direct.specs.WriterInvariant.{HasNameSo, IsNesting, IsOwn, IsWriting, ItemsGoOn, Serves, TypeWithin, below, in_front_of_next, nowhere, qualifiers, Kept, AddressWithin, AreNamed, HasAddressedFront, HasArguments, IsAddressed, IsTypeRead, ItemsOf, Scope, Stands, no_scope, IsLedFunction, HasLed, AwaitsLed, IsScoped, HasScope}
-use Rattle.cpp_direct.specs.WriterTypes.{Direct, Mark, MarkPlace, Open, Symbol, detail_of, Arguments}
-use Rattle.cpp_direct.specs.Written.{Writes, Reads, added, AreLeft}
-use Rattle.cpp_grammar.specs.Between.{after, in_name, in_types, no_items}
-use Rattle.cpp_grammar.specs.Grammar.{may_be_empty}
-use Rattle.cpp_grammar.specs.Meaning.{encoding_of, parameters}
-use Rattle.cpp_grammar.specs.Parts.{source_text, types_of}
-use Rattle.cpp_grammar.specs.References.{is_function_type}
-use Rattle.cpp_grammar.specs.Scope.{has_return_type, arguments_of}
-use Rattle.cpp_grammar.specs.Term.{Term, alone, source, builtin, nil, list, absent, address_of, function}
-use Rattle.cpp_grammar.specs.Values.{State, Value, nothing_there, tree, named, tree_of, Around}
-use Rattle.cpp_grammar.specs.declared.kind.Kind.{Kind}
+use Rattle.cpp_direct.specs.AllStates.{added, AddressWithin, AreLeft, AreNamed, Arguments, AwaitsAddressedParameters, AwaitsArgumentOfName, AwaitsEnclosingParameters, AwaitsLed, AwaitsLedParameters, AwaitsNamedType, AwaitsNest, AwaitsTypeName, below, called_on, detail_of, Direct, Encloses, has_const, HasAddressedFront, HasArguments, HasLed, HasNameSo, HasScope, in_front_of_next, IsAddressed, IsAddressedFrontRead, IsAddressedParameterRead, IsAddressedRead, IsAddressNamed, IsBuiltinAt, IsElementIn, IsElementRead, IsEnclosingNamed, IsEnclosingParameterRead, IsEnclosingRead, IsLedFunction, IsLedFunctionRead, IsLedParameterRead, IsMarkPlace, IsNesting, IsOwn, IsScoped, IsTypeRead, IsWriting, ItemsGoOn, ItemsOf, Kept, list_of, Mark, mark_text, MarkPlace, no_scope, nowhere, Open, PrintsName, PrintsPiece, qualifiers, Reads, Scope, Serves, Shows, Stands, Symbol, TypeWithin, Writes}
+use Rattle.cpp_direct.specs.AllTerms.{absent, address_of, after, alone, arguments_of, Around, builtin, encoding_of, function, has_return_type, in_name, in_types, is_function_type, Kind, list, may_be_empty, named, nil, no_items, nothing_there, parameters, source, source_text, State, Term, tree, tree_of, types_of, Value}
 use Rattle.std.specs.List.{ends_with}
 use Rattle.std.proofs.Common.{nat_eq, ◌≡◌, ◌≢◌, refl, ap, sym, ◌∙◌, subst, ℕ, ◌+◌, List, [], ◌∷◌, ◌++◌, length, reverse, true, false, arith, codes, append-nil, append_assoc, Bool, ◌-◌, take, slice_get, Some, ◌&&◌, ◌≤◌, length-append}
 use Rattle.std.proofs.lemmas.Bool.{false≢true}

@@ -14,21 +14,8 @@ use Rattle.cpp_direct.proofs.PrintedTypes.{as-in}
 use Rattle.cpp_direct.proofs.Scopes.{arguments-named, entry-scoped, has-member}
 use Rattle.cpp_direct.proofs.TypesRead.{builtin-item, popped}
 use Rattle.cpp_direct.specs.AllHoles.{Comes, Opened, StandsAt}
-use Rattle.cpp_direct.specs.Marks.{has_const, called_on}
-use Rattle.cpp_direct.specs.MidStep.{IsElementRead}
-use Rattle.cpp_direct.specs.MidStepOfLocals.{AwaitsLedParameters, IsBuiltinAt, IsEnclosingNamed, IsEnclosingParameterRead, IsInstanceNamed, IsInstanceParameterRead}
-use Rattle.cpp_direct.specs.Prints.{IsElementIn, PrintsIn}
-use Rattle.cpp_direct.specs.WriterInvariant.{AreNamed, HasArguments, IsNesting, IsOwn, IsScopedWithin, IsTypeRead, IsWriting, ItemsGoOn, ItemsOf, Kept, Scope, Serves, TypeWithin, below, no_scope, nowhere, qualifiers}
-use Rattle.cpp_direct.specs.WriterTypes.{Arguments, Direct, Mark, Open, Symbol, detail_of}
-use Rattle.cpp_direct.specs.Written.{AreLeft, Writes}
-use Rattle.cpp_grammar.specs.Items.{Context}
-use Rattle.cpp_grammar.specs.Meaning.{encoding_of}
-use Rattle.cpp_grammar.specs.Parts.{types_of}
-use Rattle.cpp_grammar.specs.Scope.{has_return_type, arguments_of}
-use Rattle.cpp_grammar.specs.Term.{Term, list}
-use Rattle.cpp_grammar.specs.Values.{State, named}
-use Rattle.cpp_grammar.specs.declared.kind.Kind.{Kind}
-use Rattle.sym_print.specs.declared.detail.Detail.{Detail}
+use Rattle.cpp_direct.specs.AllStates.{AreLeft, AreNamed, Arguments, AwaitsLedParameters, below, called_on, detail_of, Direct, has_const, HasArguments, IsBuiltinAt, IsElementIn, IsElementRead, IsEnclosingNamed, IsEnclosingParameterRead, IsInstanceNamed, IsInstanceParameterRead, IsNesting, IsOwn, IsScopedWithin, IsTypeRead, IsWriting, ItemsGoOn, ItemsOf, Kept, Mark, no_scope, nowhere, Open, PrintsIn, qualifiers, Scope, Serves, Symbol, TypeWithin, Writes}
+use Rattle.cpp_direct.specs.AllTerms.{arguments_of, Context, Detail, encoding_of, has_return_type, Kind, list, named, State, Term, types_of}
 use Rattle.std.proofs.Common.{◌≡◌, refl, ap, sym, ◌∙◌, subst, ℕ, ◌+◌, ◌-◌, List, [], ◌∷◌, ◌++◌, length, reverse, take, slice_get, Some, Bool, true, false, ◌&&◌, arith, codes, append-nil}
 use Rattle.cpp_direct.specs.declared.open.Open.TheVariants as opens
 use Rattle.cpp_direct.specs.declared.open.Purpose.TheVariants as purposes

@@ -1,7 +1,6 @@
 -- These arguments of a name are read, and the known ones are at their places.
 use Rattle.std.proofs.Common.{false}
-use Rattle.cpp_direct.specs.MidStep.{AwaitsKnownArgument}
-use Rattle.cpp_direct.specs.Symbol.{symbol_by}
+use Rattle.cpp_direct.specs.AllStates.{AwaitsKnownArgument, symbol_by}
 use Rattle.cpp_direct.proofs.direct.Direct.argument_ended.Given as goal
 
 abbrev pub invariant-literals : goal.invariant-literals
