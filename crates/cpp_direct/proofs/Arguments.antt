@@ -78,7 +78,7 @@ none-next s w p named =
     )
 
 -- or some of them are, and a comma is written
-pub known-next : (s : Symbol) (old mid : Direct) (is_pack : Bool) (last number : ℕ) (known : Arguments) (p : AwaitsKnownArgument s old is_pack last known)
+abbrev pub known-next : (s : Symbol) (old mid : Direct) (is_pack : Bool) (last number : ℕ) (known : Arguments) (p : AwaitsKnownArgument s old is_pack last known)
     → Writes old mid (codes ", ") → number ≡ last + 1 → AwaitsNext s mid is_pack old.at number known
 known-next s old mid is_pack last number known p writes number_is =
     let led = led_by (detail_of s) (arguments_or_pack is_pack p.before p.before_text) p.front p.name in
@@ -106,7 +106,7 @@ known-next s old mid is_pack last number known p writes number_is =
     }
 
 -- and then the elements of a pack come
-pack-next : (s : Symbol) (w : Direct) (place number : ℕ) (known : Arguments) → AwaitsNext s w false place number known → StandsAt s.bytes place (74 ∷ [])
+abbrev pack-next : (s : Symbol) (w : Direct) (place number : ℕ) (known : Arguments) → AwaitsNext s w false place number known → StandsAt s.bytes place (74 ∷ [])
     → AwaitsNext s w true (place + 1) number (record known { before = number })
 pack-next s w place number known p letter =
     let none : p.before ≡ [] = p.come_before.none refl in

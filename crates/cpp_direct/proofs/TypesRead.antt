@@ -5,12 +5,12 @@ use Rattle.std.proofs.Math.Seq.{take-append_seam}
 use Rattle.std.specs.Bool.{◌==◌}
 use Rattle.std.proofs.lemmas.Bool.{false≢true}
 use Rattle.sym_core.specs.declared.NumberKind.TheVariants.{Seq36}
-use Rattle.cpp_direct.specs.AllTerms.{abbreviation, abbreviation_texts, after, alone, among, builtin, builtin_texts, counted_value, in_std, inside, Kind, look_up, lvalue, may_be_empty, Naming, no_items, pointer, rvalue, same_bytes, source, source_text, State, Term, tree}
+use Rattle.cpp_direct.specs.AllTerms.{abbreviation, abbreviation_texts, after, alone, among, Around, builtin, builtin_texts, counted_value, in_std, inside, Kind, look_up, lvalue, may_be_empty, Naming, no_items, pointer, rvalue, same_bytes, source, source_text, State, Term, tree}
 use Rattle.cpp_direct.specs.AllStates.{abbreviation_letters, added, added_unless, AwaitsMark, AwaitsNamedType, AwaitsNest, AwaitsType, below, builtin_letters, builtin_letters_with_d, Candidate, detail_of, Direct, is_abbreviated, is_builtin, is_builtin_with_d, IsBuiltinAt, IsNamedAgain, IsScoped, IsTypeNamed, IsWriting, Kept, Lists, Marks, Open, OpensArguments, OpensEntry, Prints, PrintsAs, Reads, Stands, Symbol, Writes}
 use Rattle.cpp_direct.specs.declared.open.Open.TheVariants as opens
 use Rattle.cpp_direct.specs.declared.open.Purpose.TheVariants as purposes
 use Rattle.cpp_direct.specs.declared.open.Step.TheVariants as steps
-use Rattle.cpp_direct.specs.AllHoles.{Comes, Expects, IsNameAt, IsQualifiable, IsReferable, IsSeqAt, StandsAt, TypeNamed, TypeOpens, reference_letter, unless_listed, with_candidate}
+use Rattle.cpp_direct.specs.AllHoles.{Comes, Expects, IsNameAt, IsQualifiable, IsReferable, IsSeqAt, Opened, StandsAt, TypeNamed, TypeOpens, reference_letter, unless_listed, with_candidate}
 use Rattle.cpp_direct.proofs.Unmarked.{name-unmarked}
 use Rattle.cpp_direct.proofs.Scopes.{scoped-inside}
 use Rattle.cpp_direct.proofs.Kept.{candidate-found, kept-grown, kept-same, piece-found, reverse-last, type-comes, value-added, value-comes, list-begins, kept-unless, awaited-in}

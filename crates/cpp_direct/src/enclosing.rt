@@ -33,10 +33,12 @@ fn builtin_end(s: &[u8], at: usize) -> Option<usize>
     let letter = byte_at(s, at);
     let behind = at.checked_add(1)?;
     if letter == b'D' {
-        if !is_builtin_with_d(byte_at(s, behind)) {
+        let second = byte_at(s, behind);
+        if !is_builtin_with_d(second) {
             return None;
         }
-        return behind.checked_add(1);
+        let end = behind.checked_add(1)?;
+        return Some(end);
     }
     if cpp_layout::builtin_text(letter).is_empty() {
         return None;
