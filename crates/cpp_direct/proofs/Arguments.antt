@@ -1,19 +1,11 @@
 -- The arguments of a name, as long as they are types, and packs of them.
-use Rattle.sym_print.specs.declared.detail.Detail.{Detail}
+use Rattle.cpp_direct.specs.AllTerms.{Around, Detail, Kind, list, nil, pack, Term}
 use Rattle.std.proofs.Common.{arith, ◌≡◌, ℕ, zero, suc, ◌+◌, ◌-◌, ◌≤◌, ◌<◌, length, List, [], ◌∷◌, ◌++◌, reverse, slice_get, inr, inl, Bool, true, false, Some, refl, ap, sym, ◌∙◌, subst, codes, append_assoc, append-nil}
 use Rattle.std.proofs.lemmas.Bool.{false≢true}
 use Rattle.std.proofs.lemmas.Option.{slice_get_within}
 use Rattle.std.proofs.lemmas.List.{length-append}
-use Rattle.cpp_grammar.specs.declared.kind.Kind.{Kind}
-use Rattle.cpp_grammar.specs.Term.{list, Term, nil, pack}
-use Rattle.cpp_grammar.specs.Values.{Around}
-use Rattle.cpp_direct.specs.WriterTypes.{Argument, Arguments, Direct, Open, Symbol, detail_of}
+use Rattle.cpp_direct.specs.AllStates.{AreAmong, AreKnown, Argument, argument_around, argument_entry, Arguments, arguments_or_pack, ArgumentsGoOn, AwaitsArgument, AwaitsArgumentOfName, AwaitsKnownArgument, Belongs, below, Closes, ComeBefore, detail_of, Direct, element_kind, EndsNamed, extra_of, GoesOn, HasPack, in_front_of_next, is_noted, IsAmong, IsArgumentRead, IsElementAs, IsKnown, IsListEnded, IsLiteralRead, IsScoped, IsTemplate, IsTypeRead, IsWriting, Kept, KnowsMore, led_by, list_of, list_with, may_name, Names, nowhere, of_template, Open, opening_bracket, place_of, PrintAll, PrintAllBy, Prints, Scope, scoped_in, Stands, Symbol, Writes}
 use Rattle.cpp_direct.specs.Holes.{Opened, Expects, StandsAt}
-use Rattle.cpp_direct.specs.Prints.{Names, Prints, PrintAll, IsElementAs, PrintAllBy, list_of, opening_bracket}
-use Rattle.cpp_direct.specs.WriterInvariant.{AwaitsArgument, Scope, arguments_or_pack, ComeBefore, element_kind, below, HasPack, scoped_in, is_noted, may_name, AreAmong, ArgumentsGoOn, Belongs, EndsNamed, GoesOn, IsAmong, IsKnown, IsScoped, IsTemplate, IsWriting, Stands, extra_of, of_template, in_front_of_next, led_by, list_with, nowhere, place_of, Closes, Kept, IsTypeRead}
-use Rattle.cpp_direct.specs.MidStep.{AreKnown, AwaitsKnownArgument, IsArgumentRead, IsListEnded, IsLiteralRead, KnowsMore, argument_around, argument_entry}
-use Rattle.cpp_direct.specs.MidStepOfAddresses.{AwaitsArgumentOfName}
-use Rattle.cpp_direct.specs.Written.{Writes}
 use Rattle.cpp_direct.proofs.Ending.{next-written}
 use Rattle.cpp_direct.proofs.Kept.{awaited-in, kept-same, kept-written, reverse-last, template-stays, none-known, kept-read}
 use Rattle.cpp_direct.proofs.Listed.{pack-ends, list-ends, empty-pack-ends, last-found, element-goes-on, element-kind, pack-goes-on, some-elements, template-listed}
@@ -26,40 +18,118 @@ use Rattle.cpp_direct.specs.declared.open.Step.TheVariants as steps
 
 -- ## What comes next
 
--- nothing is read yet of the arguments of a name
-record HasNoArgument (s : Symbol) (w : Direct) : Type 0 where
+-- nothing precedes the first argument, or the first element of a pack that is the first argument
+none-before : (detail : Detail) (is_pack : Bool) → ComeBefore detail is_pack nowhere [] []
+none-before detail is_pack = record { none = λ e. refl; prints = none-print detail 3; count_is = λ e. refl; no_pack = refl }
+
+-- Arguments of a name were read, or elements of a pack among them, and the known ones were recorded. What precedes the next one is
+-- written.
+pub record AwaitsNext (s : Symbol) (w : Direct) (is_pack : Bool) (place number : ℕ) (known : Arguments) : Type 0 where
   pub kept : Kept s w
   pub open kept use *
   pub owner : Open
   pub rest : List Open
-  pub open_is : reverse w.waiting.list.items ≡ owner ∷ rest
   pub front : List ℕ
   pub template : Term
   pub name : List ℕ
+  pub ts : List Term
+  pub texts : List ℕ
   pub is_template : IsTemplate (detail_of s) scope.names owner front template name w.text.list.items
-  pub written : w.text.list.items ≡ front ++ name ++ opening_bracket (detail_of s) ++ []
-  pub goes : ArgumentsGoOn s owner (below s scope rest) front template [] w.at state
+  pub before : List Term
+  pub before_text : List ℕ
+  pub come_before : ComeBefore (detail_of s) is_pack known before before_text
+  pub elements : PrintAll (detail_of s) (extra_of (arguments_or_pack is_pack before before_text)) ts texts
+  pub written : w.text.list.items ≡ led_by (detail_of s) (arguments_or_pack is_pack before before_text) front name ++ in_front_of_next ts texts
+  pub number_is : number ≡ length (before ++ ts)
+  pub among : AreAmong (detail_of s) w.text.list.items known (before ++ ts)
+  pub goes : GoesOn s (arguments_or_pack is_pack before before_text) owner (below s scope rest) front template ts place state
 
-none-read : (s : Symbol) (w : Direct) → IsWriting s w (steps.List true) → EndsNamed (reverse w.waiting.list.items) → HasNoArgument s w
-none-read s w p named =
+-- nothing is read yet of the arguments of a name
+pub none-next : (s : Symbol) (w : Direct) → IsWriting s w (steps.List true) → EndsNamed (reverse w.waiting.list.items)
+    → (n : AwaitsNext s w false w.at 0 nowhere) × (reverse w.waiting.list.items ≡ n.owner ∷ n.rest)
+none-next s w p named =
     let place = p.is_before.0 in
     let ts_is : p.is_before.1 ≡ [] = p.is_before.5 refl in
     let a = template-listed s p.scope w p.state place.listing place.owner place.rest place.front place.template place.name p.is_before.1 p.is_before.2 p.is_before.2
     (λ rest e. subst (λ ws. EndsNamed ws) e named) place.belongs p.is_before.3 p.is_before.4
     p.is_before.7 in
-    let by = IsElementAs (detail_of s) p.scope.names (is_noted place.owner) 3 in
+    let by = IsElementAs (detail_of s) p.scope.names (is_noted place.owner) 3 in (
+      record {
+        kept = p.kept;
+        owner = place.owner;
+        rest = place.rest;
+        front = place.front;
+        template = place.template;
+        name = place.name;
+        ts = [];
+        texts = [];
+        is_template = place.is_template;
+        before = [];
+        before_text = [];
+        come_before = none-before (detail_of s) false;
+        elements = none-print (detail_of s) 3;
+        written = a.2 ∙ ap (λ l. place.front ++ place.name ++ opening_bracket (detail_of s) ++ l)
+            (none-text by p.is_before.2 (subst (λ ts. PrintAllBy by ts p.is_before.2) ts_is a.1));
+        number_is = refl;
+        among = λ k known. absurd (none-known k known);
+        goes = subst (λ ts. ArgumentsGoOn s place.owner (below s p.scope place.rest) place.front place.template ts w.at p.state) ts_is a.3;
+      },
+      a.0,
+    )
+
+-- or some of them are, and a comma is written
+abbrev pub known-next : (s : Symbol) (old mid : Direct) (is_pack : Bool) (last number : ℕ) (known : Arguments) (p : AwaitsKnownArgument s old is_pack last known)
+    → Writes old mid (codes ", ") → number ≡ last + 1 → AwaitsNext s mid is_pack old.at number known
+known-next s old mid is_pack last number known p writes number_is =
+    let led = led_by (detail_of s) (arguments_or_pack is_pack p.before p.before_text) p.front p.name in
+    record {
+      kept = kept-written s old mid (codes ", ") writes p.kept;
+      owner = p.owner;
+      rest = p.rest;
+      front = p.front;
+      template = p.template;
+      name = p.name;
+      ts = p.ts;
+      texts = p.texts;
+      is_template = subst (λ l. IsTemplate (detail_of s) p.scope.names p.owner p.front p.template p.name l) (sym writes.text)
+          (template-stays (detail_of s) p.scope.names p.owner p.front p.template p.name old.text.list.items (codes ", ") p.is_template);
+      before = p.before;
+      before_text = p.before_text;
+      come_before = p.come_before;
+      elements = p.elements;
+      written = writes.text ∙ ap (λ l. l ++ codes ", ") p.written ∙ append_assoc led p.texts (codes ", ")
+          ∙ ap (λ l. led ++ l) (sym (next-written p.ts p.texts p.some));
+      number_is = number_is ∙ p.number_is;
+      among = subst (λ l. AreAmong (detail_of s) l known (p.before ++ p.ts)) (sym writes.text)
+          (among-stay old.text.list.items (codes ", ") known (p.before ++ p.ts) p.among);
+      goes = p.goes;
+    }
+
+-- and then the elements of a pack come
+abbrev pack-next : (s : Symbol) (w : Direct) (place number : ℕ) (known : Arguments) → AwaitsNext s w false place number known → StandsAt s.bytes place (74 ∷ [])
+    → AwaitsNext s w true (place + 1) number (record known { before = number })
+pack-next s w place number known p letter =
+    let none : p.before ≡ [] = p.come_before.none refl in
+    let count_is : number ≡ length p.ts = p.number_is ∙ ap (λ (l : List Term). length (l ++ p.ts)) none in
     record {
       kept = p.kept;
-      owner = place.owner;
-      rest = place.rest;
-      open_is = a.0;
-      front = place.front;
-      template = place.template;
-      name = place.name;
-      is_template = place.is_template;
-      written = a.2 ∙ ap (λ l. place.front ++ place.name ++ opening_bracket (detail_of s) ++ l)
-          (none-text by p.is_before.2 (subst (λ ts. PrintAllBy by ts p.is_before.2) ts_is a.1));
-      goes = subst (λ ts. ArgumentsGoOn s place.owner (below s p.scope place.rest) place.front place.template ts w.at p.state) ts_is a.3;
+      owner = p.owner;
+      rest = p.rest;
+      front = p.front;
+      template = p.template;
+      name = p.name;
+      ts = [];
+      texts = [];
+      is_template = p.is_template;
+      before = p.ts;
+      before_text = p.texts;
+      come_before = record { none = λ e. absurd (false≢true (sym e)); prints = p.elements; count_is = λ e. count_is; no_pack = p.come_before.no_pack };
+      elements = none-print (detail_of s) 0;
+      written = p.written ∙ sym (append-nil (p.front ++ p.name ++ opening_bracket (detail_of s) ++ in_front_of_next p.ts p.texts));
+      number_is = count_is ∙ ap length (sym (append-nil p.ts));
+      among = λ k o. subst (λ l. IsAmong (detail_of s) w.text.list.items (place_of known k) k l) (sym (append-nil p.ts))
+          (subst (λ (l : List Term). IsAmong (detail_of s) w.text.list.items (place_of known k) k (l ++ p.ts)) none (p.among k o));
+      goes = pack-goes-on s p.owner (below s p.scope p.rest) p.front p.template p.ts p.texts place p.state p.goes letter;
     }
 
 argument-stands : (s : Symbol) (scope : Scope) (is_pack : Bool) (from number : ℕ) (known : Arguments) (owner : Open) (rest : List Open) (os : List Opened) (text : List ℕ)
@@ -68,54 +138,43 @@ argument-stands : (s : Symbol) (scope : Scope) (is_pack : Bool) (from number : �
 argument-stands s scope false from number known owner rest os text p = p
 argument-stands s scope true from number known owner rest os text p = p
 
--- nothing precedes the first argument, or the first element of a pack that is the first argument
-none-before : (detail : Detail) (is_pack : Bool) → ComeBefore detail is_pack nowhere [] []
-none-before detail is_pack = record { none = λ e. refl; prints = none-print detail 3; count_is = λ e. refl; no_pack = refl }
-
 argument-scoped : (scope : Scope) (around : Around) (is_pack : Bool) (from number : ℕ) (known : Arguments) (opened : List Open)
     → IsScoped scope around (argument_entry is_pack from number known ∷ opened)
 argument-scoped scope around false from number known opened = none-scoped scope around (opens.Argument from number known ∷ opened) refl
 argument-scoped scope around true from number known opened = none-scoped scope around (opens.Element from number known ∷ opened) refl
 
--- an argument comes next after these, or an element of the pack, and what precedes it is written
-argument-next : (s : Symbol) (old new : Direct) (is_pack : Bool) (from number place : ℕ) (known : Arguments) (kept : Kept s old) (owner : Open) (rest : List Open)
-    (front : List ℕ) (template : Term) (name : List ℕ) (ts : List Term) (texts : List ℕ) (before : List Term) (before_text : List ℕ) → ComeBefore (detail_of s) is_pack known before before_text
-    → IsTemplate (detail_of s) kept.scope.names owner front template name old.text.list.items
-    → PrintAll (detail_of s) (extra_of (arguments_or_pack is_pack before before_text)) ts texts
-    → old.text.list.items ≡ led_by (detail_of s) (arguments_or_pack is_pack before before_text) front name ++ in_front_of_next ts texts
-    → from ≡ length old.text.list.items → number ≡ length (before ++ ts)
-    → AreAmong (detail_of s) old.text.list.items known (before ++ ts)
-    → GoesOn s (arguments_or_pack is_pack before before_text) owner (below s kept.scope rest) front template ts place kept.state
-    → reverse new.waiting.list.items ≡ argument_entry is_pack from number known ∷ argument_around is_pack owner rest → new.text ≡ old.text
-    → new.candidates ≡ old.candidates → new.has_scope ≡ old.has_scope → new.at ≡ place → AwaitsArgumentOfName s new
-argument-next s old new is_pack from number place known kept owner rest front template name ts texts before before_text come_before is_template elements
-    written from_is number_is among goes opened text candidates scope_same at =
-    let listing = arguments_or_pack is_pack before before_text in
-    let element = listed-awaits s (element_kind listing) goes.1 goes.0 place kept.state (element-kind listing) goes.4 in
-    let stands = argument-stands s kept.scope is_pack from number known owner rest element.inner old.text.list.items (
-      front,
-      template,
-      name,
-      ts,
-      texts,
-      is_template,
-      before,
-      before_text,
-      come_before,
-      elements,
-      written,
+-- the entry of an argument is opened, or that of an element of the pack
+argument-next : (s : Symbol) (old new : Direct) (is_pack : Bool) (from number place : ℕ) (known : Arguments) (p : AwaitsNext s old is_pack place number known)
+    → from ≡ length old.text.list.items → reverse new.waiting.list.items ≡ argument_entry is_pack from number known ∷ argument_around is_pack p.owner p.rest
+    → new.text ≡ old.text → new.candidates ≡ old.candidates → new.has_scope ≡ old.has_scope → new.at ≡ place → AwaitsArgumentOfName s new
+argument-next s old new is_pack from number place known p from_is opened text candidates scope_same at =
+    let listing = arguments_or_pack is_pack p.before p.before_text in
+    let goes = p.goes in
+    let element = listed-awaits s (element_kind listing) goes.1 goes.0 place p.state (element-kind listing) goes.4 in
+    let stands = argument-stands s p.scope is_pack from number known p.owner p.rest element.inner old.text.list.items (
+      p.front,
+      p.template,
+      p.name,
+      p.ts,
+      p.texts,
+      p.is_template,
+      p.before,
+      p.before_text,
+      p.come_before,
+      p.elements,
+      p.written,
       from_is,
-      number_is,
-      among,
-      λ t here now comes. element-goes-on s (element_kind listing) (scoped_in owner (below s kept.scope rest))
-          (λ l there later. Closes s listing owner (below s kept.scope rest) front template l there later)
-          ts t place here kept.state now goes (element.onward t here now comes),
+      p.number_is,
+      p.among,
+      λ t here now comes. element-goes-on s (element_kind listing) (scoped_in p.owner (below s p.scope p.rest))
+          (λ l there later. Closes s listing p.owner (below s p.scope p.rest) p.front p.template l there later)
+          p.ts t place here p.state now goes (element.onward t here now comes),
     ) in
     record {
-      kept = kept-same s old new text candidates scope_same kept;
-      awaited = awaited-in s kept.scope old new goes.0 element.inner (ap (λ v. v.list.items) text) opened goes.2 stands
-          (argument-scoped kept.scope goes.0 is_pack from number known (argument_around is_pack owner rest));
-      awaits = subst (λ n. Expects s Kind.Argument goes.0 element.inner n kept.state) (sym at) element.awaits;
+      kept = kept-same s old new text candidates scope_same p.kept;
+      awaited = awaited-in s p.scope old new goes.0 element.inner (ap (λ v. v.list.items) text) opened goes.2 stands
+          (argument-scoped p.scope goes.0 is_pack from number known (argument_around is_pack p.owner p.rest));
+      awaits = subst (λ n. Expects s Kind.Argument goes.0 element.inner n p.state) (sym at) element.awaits;
     }
 
 -- it may be a type
@@ -128,12 +187,10 @@ pub argument-begins : (s : Symbol) (old new : Direct) (from : ℕ) → IsWriting
     → new.waiting.list.items ≡ old.waiting.list.items ++ opens.Argument from 0 nowhere ∷ [] → new.text ≡ old.text → new.candidates ≡ old.candidates → new.has_scope ≡ old.has_scope → new.at ≡ old.at
     → AwaitsArgumentOfName s new
 argument-begins s old new from p named from_is waits text candidates scope_same at =
-    let b = none-read s old p named in
+    let n = none-next s old p named in
     let entry = opens.Argument from 0 nowhere in
-    argument-next s old new false from 0 old.at nowhere b.kept b.owner b.rest b.front b.template b.name [] [] [] [] (none-before (detail_of s) false)
-    b.is_template (none-print (detail_of s) 3) b.written
-    from_is refl (λ k known. absurd (none-known k known)) b.goes
-    (ap reverse waits ∙ reverse-last old.waiting.list.items entry ∙ ap (λ ws. entry ∷ ws) b.open_is) text candidates scope_same at
+    argument-next s old new false from 0 old.at nowhere n.0 from_is
+    (ap reverse waits ∙ reverse-last old.waiting.list.items entry ∙ ap (λ ws. entry ∷ ws) n.1) text candidates scope_same at
 
 -- or the first element of the pack
 pub element-begins : (s : Symbol) (old new : Direct) (from : ℕ) → IsWriting s old (steps.List true)
@@ -141,15 +198,12 @@ pub element-begins : (s : Symbol) (old new : Direct) (from : ℕ) → IsWriting 
     → new.waiting.list.items ≡ (old.waiting.list.items ++ opens.Pack ∷ []) ++ opens.Element from 0 nowhere ∷ [] → new.text ≡ old.text
     → new.candidates ≡ old.candidates → new.has_scope ≡ old.has_scope → new.at ≡ old.at + 1 → IsWriting s new steps.Type
 element-begins s old new from p named letter from_is waits text candidates scope_same at =
-    let b = none-read s old p named in
+    let n = none-next s old p named in
     let entry = opens.Element from 0 nowhere in
     argument-type s new
-    (argument-next s old new true from 0 (old.at + 1) nowhere b.kept b.owner b.rest b.front b.template b.name [] [] [] [] (none-before (detail_of s) true)
-    b.is_template (none-print (detail_of s) 0)
-    (b.written ∙ sym (append-nil (b.front ++ b.name ++ opening_bracket (detail_of s) ++ []))) from_is refl (λ k known. absurd (none-known k known))
-    (pack-goes-on s b.owner (below s b.scope b.rest) b.front b.template [] [] old.at b.state b.goes letter)
+    (argument-next s old new true from 0 (old.at + 1) nowhere (pack-next s old old.at 0 nowhere n.0 letter) from_is
     (ap reverse waits ∙ reverse-last (old.waiting.list.items ++ opens.Pack ∷ []) entry
-    ∙ ap (λ ws. entry ∷ ws) (reverse-last old.waiting.list.items opens.Pack ∙ ap (λ ws. opens.Pack ∷ ws) b.open_is)) text candidates scope_same at)
+    ∙ ap (λ ws. entry ∷ ws) (reverse-last old.waiting.list.items opens.Pack ∙ ap (λ ws. opens.Pack ∷ ws) n.1)) text candidates scope_same at)
 
 -- or another one
 pub next-argument-begins : (s : Symbol) (old mid new : Direct) (is_pack : Bool) (last from number : ℕ) (known : Arguments) → AwaitsKnownArgument s old is_pack last known
@@ -158,15 +212,7 @@ pub next-argument-begins : (s : Symbol) (old mid new : Direct) (is_pack : Bool) 
     → new.has_scope ≡ mid.has_scope → new.at ≡ mid.at → AwaitsArgumentOfName s new
 next-argument-begins s old mid new is_pack last from number known p writes from_is number_is waits text candidates scope_same at =
     let entry = argument_entry is_pack from number known in
-    let led = led_by (detail_of s) (arguments_or_pack is_pack p.before p.before_text) p.front p.name in
-    argument-next s mid new is_pack from number old.at known (kept-written s old mid (codes ", ") writes p.kept) p.owner p.rest p.front p.template p.name p.ts p.texts
-    p.before p.before_text p.come_before
-    (subst (λ l. IsTemplate (detail_of s) p.scope.names p.owner p.front p.template p.name l) (sym writes.text)
-    (template-stays (detail_of s) p.scope.names p.owner p.front p.template p.name old.text.list.items (codes ", ") p.is_template)) p.elements
-    (writes.text ∙ ap (λ l. l ++ codes ", ") p.written ∙ append_assoc led p.texts (codes ", ")
-    ∙ ap (λ l. led ++ l) (sym (next-written p.ts p.texts p.some))) from_is (number_is ∙ p.number_is)
-    (subst (λ l. AreAmong (detail_of s) l known (p.before ++ p.ts)) (sym writes.text)
-    (among-stay old.text.list.items (codes ", ") known (p.before ++ p.ts) p.among)) p.goes
+    argument-next s mid new is_pack from number old.at known (known-next s old mid is_pack last number known p writes number_is) from_is
     (ap reverse waits ∙ reverse-last mid.waiting.list.items entry
     ∙ ap (λ ws. entry ∷ ws) (ap (λ v. reverse v.list.items) writes.waiting ∙ p.open_is)) text candidates scope_same (at ∙ writes.at)
 
@@ -176,26 +222,10 @@ pub pack-after : (s : Symbol) (old mid new : Direct) (last from number : ℕ) (k
     → new.waiting.list.items ≡ (mid.waiting.list.items ++ opens.Pack ∷ []) ++ opens.Element from number (record known { before = number }) ∷ []
     → new.text ≡ mid.text → new.candidates ≡ mid.candidates → new.has_scope ≡ mid.has_scope → new.at ≡ old.at + 1 → IsWriting s new steps.Type
 pack-after s old mid new last from number known p letter writes from_is number_is waits text candidates scope_same at =
-    let now : Arguments = record known { before = number } in
-    let entry = opens.Element from number now in
-    let led = p.front ++ p.name ++ opening_bracket (detail_of s) in
-    let none = p.come_before.none refl in
-    let count_is : number ≡ length p.ts = number_is ∙ p.number_is ∙ ap (λ (l : List Term). length (l ++ p.ts)) none in
-    let among = among-stay old.text.list.items (codes ", ") known (p.before ++ p.ts) p.among in
+    let entry = opens.Element from number (record known { before = number }) in
     argument-type s new
-    (argument-next s mid new true from number (old.at + 1) now (kept-written s old mid (codes ", ") writes p.kept) p.owner p.rest p.front p.template p.name [] [] p.ts p.texts
-    (record { none = λ e. absurd (false≢true (sym e)); prints = p.elements; count_is = λ e. count_is; no_pack = p.come_before.no_pack })
-    (subst (λ l. IsTemplate (detail_of s) p.scope.names p.owner p.front p.template p.name l) (sym writes.text)
-    (template-stays (detail_of s) p.scope.names p.owner p.front p.template p.name old.text.list.items (codes ", ") p.is_template))
-    (none-print (detail_of s) 0)
-    (writes.text ∙ ap (λ l. l ++ codes ", ") p.written ∙ append_assoc led p.texts (codes ", ")
-    ∙ ap (λ l. led ++ l) (sym (next-written p.ts p.texts p.some)) ∙ sym (append-nil (led ++ in_front_of_next p.ts p.texts)))
-    from_is (count_is ∙ ap length (sym (append-nil p.ts)))
-    (λ k o.
-    subst (λ l. IsAmong (detail_of s) mid.text.list.items (place_of known k) k l) (sym (append-nil p.ts))
-    (subst (λ l. IsAmong (detail_of s) l (place_of known k) k p.ts) (sym writes.text)
-    (subst (λ (l : List Term). IsAmong (detail_of s) (old.text.list.items ++ codes ", ") (place_of known k) k (l ++ p.ts)) none (among k o))))
-    (pack-goes-on s p.owner (below s p.scope p.rest) p.front p.template p.ts p.texts old.at p.state p.goes letter)
+    (argument-next s mid new true from number (old.at + 1) (record known { before = number })
+    (pack-next s mid old.at number known (known-next s old mid false last number known p writes number_is) letter) from_is
     (ap reverse waits ∙ reverse-last (mid.waiting.list.items ++ opens.Pack ∷ []) entry
     ∙ ap (λ ws. entry ∷ ws) (reverse-last mid.waiting.list.items opens.Pack
     ∙ ap (λ ws. opens.Pack ∷ ws) (ap (λ v. reverse v.list.items) writes.waiting ∙ p.open_is))) text candidates scope_same at)
@@ -252,42 +282,43 @@ value-argument s w is_pack is_reference from number known p found =
     go true (opens.Pack ∷ owner ∷ rest) is waits = read true owner rest is waits
     go true _ is waits = absurd waits
 
--- or a literal that is the first argument
-pub literal-argument : (s : Symbol) (old begun new : Direct) (from : ℕ) → IsWriting s old (steps.List true) → EndsNamed (reverse old.waiting.list.items)
-    → from ≡ length old.text.list.items → begun.waiting.list.items ≡ old.waiting.list.items ++ opens.Argument from 0 nowhere ∷ [] → begun.text ≡ old.text
-    → begun.candidates ≡ old.candidates → begun.has_scope ≡ old.has_scope → begun.at ≡ old.at → IsLiteralRead s begun new
-    → IsArgumentRead s new false from 0 nowhere false
-literal-argument s old begun new from p named from_is waits text candidates scope_same at l =
-    let b = none-read s old p named in
-    let entry = opens.Argument from 0 nowhere in
-    let outer = below s b.scope b.rest in
-    let grown : new.text.list.items ≡ old.text.list.items ++ l.bytes = l.reads.text ∙ ap (λ v. v.list.items ++ l.bytes) text in
+-- or a literal
+pub literal-read : (s : Symbol) (old begun new : Direct) (from number place : ℕ) (known : Arguments) (p : AwaitsNext s old false place number known)
+    → reverse old.waiting.list.items ≡ p.owner ∷ p.rest → from ≡ length old.text.list.items
+    → begun.waiting.list.items ≡ old.waiting.list.items ++ opens.Argument from number known ∷ [] → begun.text ≡ old.text
+    → begun.candidates ≡ old.candidates → begun.has_scope ≡ old.has_scope → begun.at ≡ place → IsLiteralRead s begun new
+    → IsArgumentRead s new false from number known false
+literal-read s old begun new from number place known p open_is from_is waits text candidates scope_same at l =
+    let entry = opens.Argument from number known in
+    let outer = below s p.scope p.rest in
+    let here = old.text.list.items in
+    let grown : new.text.list.items ≡ here ++ l.bytes = l.reads.text ∙ ap (λ v. v.list.items ++ l.bytes) text in
     record {
-      kept = kept-read s begun new l.bytes l.reads (kept-same s old begun text candidates scope_same b.kept);
-      owner = b.owner;
-      rest = b.rest;
-      open_is = ap (λ v. reverse v.list.items) l.reads.waiting ∙ ap reverse waits ∙ reverse-last old.waiting.list.items entry ∙ ap (λ ws. entry ∷ ws) b.open_is;
-      front = b.front;
-      template = b.template;
-      name = b.name;
-      ts = [];
-      texts = [];
+      kept = kept-read s begun new l.bytes l.reads (kept-same s old begun text candidates scope_same p.kept);
+      owner = p.owner;
+      rest = p.rest;
+      open_is = ap (λ v. reverse v.list.items) l.reads.waiting ∙ ap reverse waits ∙ reverse-last old.waiting.list.items entry ∙ ap (λ ws. entry ∷ ws) open_is;
+      front = p.front;
+      template = p.template;
+      name = p.name;
+      ts = p.ts;
+      texts = p.texts;
       t = l.own;
       bytes = l.bytes;
-      is_template = subst (λ t. IsTemplate (detail_of s) b.scope.names b.owner b.front b.template b.name t) (sym grown)
-          (template-stays (detail_of s) b.scope.names b.owner b.front b.template b.name old.text.list.items l.bytes b.is_template);
-      before = [];
-      before_text = [];
-      come_before = none-before (detail_of s) false;
-      elements = none-print (detail_of s) 3;
-      written = grown ∙ ap (λ t. t ++ l.bytes) b.written;
-      from_is = from_is ∙ ap length b.written;
-      number_is = refl;
-      among = λ k known. absurd (none-known k known);
+      is_template = subst (λ t. IsTemplate (detail_of s) p.scope.names p.owner p.front p.template p.name t) (sym grown)
+          (template-stays (detail_of s) p.scope.names p.owner p.front p.template p.name here l.bytes p.is_template);
+      before = p.before;
+      before_text = p.before_text;
+      come_before = p.come_before;
+      elements = p.elements;
+      written = grown ∙ ap (λ t. t ++ l.bytes) p.written;
+      from_is = from_is ∙ ap length p.written;
+      number_is = p.number_is;
+      among = subst (λ t. AreAmong (detail_of s) t known (p.before ++ p.ts)) (sym grown) (among-stay here l.bytes known (p.before ++ p.ts) p.among);
       prints = l.prints;
-      goes = element-goes-on s Kind.ArgumentList (scoped_in b.owner outer) (λ u now then. Closes s of_template b.owner outer b.front b.template u now then)
-          [] l.own old.at new.at b.state b.state b.goes (l.goes_on Kind.ArgumentList b.goes.0 b.goes.1 b.state tt
-          (subst (λ n. Expects s Kind.ArgumentList b.goes.0 b.goes.1 n b.state) (sym at) b.goes.4));
+      goes = element-goes-on s Kind.ArgumentList (scoped_in p.owner outer) (λ u now then. Closes s of_template p.owner outer p.front p.template u now then)
+          p.ts l.own place new.at p.state p.state p.goes (l.goes_on Kind.ArgumentList p.goes.0 p.goes.1 p.state tt
+          (subst (λ n. Expects s Kind.ArgumentList p.goes.0 p.goes.1 n p.state) (sym at) p.goes.4));
     }
 
 argument-belongs : (detail : Detail) (names : Names) (is_pack : Bool) (known : Arguments) (opened : List Open) (owner : Open) (rest : List Open)

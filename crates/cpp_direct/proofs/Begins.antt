@@ -1,29 +1,12 @@
 -- The beginnings of symbols, and their answers.
 use Rattle.std.proofs.Common.{◌≡◌, ◌≢◌, ◌≤◌, ◌⊎◌, ℕ, ◌+◌, inl, inr, length, List, [], ◌∷◌, ◌++◌, reverse, ◌||◌, Bool, true, false, nat_eq, refl, ap, sym, subst, ◌∙◌, arith, codes, cond}
 use Rattle.std.proofs.lemmas.Bool.{false≢true, ne_eqb}
-use Rattle.cpp_grammar.specs.declared.kind.Kind.{Kind}
-use Rattle.cpp_grammar.specs.declared.production.Production.{Production}
-use Rattle.cpp_grammar.specs.Term.{Term, Adjustment, non_virtual, by_table, adjusting, special, of_name, thunk, clone, nil}
-use Rattle.cpp_grammar.specs.Parts.{thunk_text, clone_text}
-use Rattle.cpp_grammar.specs.Texts.{look_up, special_texts, same_bytes}
-use Rattle.cpp_grammar.specs.Values.{State, Value, nothing_there, tree, named, tree_of, qualifiers_of, ref_of, signed_digits}
-use Rattle.cpp_grammar.specs.Between.{in_name, in_types, no_items}
-use Rattle.cpp_grammar.specs.Meaning.{encoding_of}
-use Rattle.cpp_grammar.specs.Unfolding.{first_around, first_state}
-use Rattle.cpp_direct.specs.WriterTypes.{Direct, MarkPlace, Purpose, Symbol, detail_of}
+use Rattle.cpp_direct.specs.AllTerms.{adjusting, Adjustment, among, by_table, clone, clone_text, encoding_of, first_around, first_state, in_name, in_types, Kind, look_up, may_be_empty, named, nil, no_items, non_virtual, nothing_there, of_name, Production, qualifiers_of, ref_of, same_bytes, signed_digits, special, special_texts, State, Term, thunk, thunk_text, tree, tree_of, Value}
+use Rattle.cpp_direct.specs.AllStates.{AwaitsEncoding, AwaitsItems, AwaitsName, AwaitsNest, below, called_on, detail_of, Direct, Encoded, EncodedBehind, EndsBehind, has_const, is_guard, is_local, is_object, is_special_letter, is_type, IsFresh, IsMarkPlace, IsScoped, IsWriting, Kept, MarkPlace, no_scope, Purpose, qualifiers, Reads, Serves, Shows, special_letters, Stands, Symbol, TakesItems, Writes}
 use Rattle.cpp_direct.specs.declared.open.Purpose.TheVariants as purposes
 use Rattle.cpp_direct.specs.declared.open.Open.TheVariants as opens
 use Rattle.cpp_direct.specs.declared.open.Step.TheVariants as steps
-use Rattle.cpp_direct.specs.Bytes.{is_local, is_guard, is_object}
 use Rattle.cpp_direct.specs.AllHoles.{BaseOpened, Comes, EncodingOpened, Expects, GuardOpened, IsOffsetAt, ItemsOpened, Opened, StandsAt, SymbolOpened, mark_letters}
-use Rattle.cpp_grammar.specs.Grammar.{among, may_be_empty}
-use Rattle.cpp_direct.specs.ItemBytes.{is_special_letter}
-use Rattle.cpp_direct.specs.Letters.{special_letters}
-use Rattle.cpp_direct.specs.Marks.{IsMarkPlace, has_const, called_on}
-use Rattle.cpp_direct.specs.Prints.{Shows}
-use Rattle.cpp_direct.specs.WriterInvariant.{Kept, Serves, below, is_type, Encoded, EndsBehind, EncodedBehind, AwaitsItems, TakesItems, IsScoped, Stands, IsWriting, no_scope, qualifiers}
-use Rattle.cpp_direct.specs.MidStep.{IsFresh, AwaitsEncoding, AwaitsName, AwaitsNest}
-use Rattle.cpp_direct.specs.Written.{Writes, Reads}
 use Rattle.cpp_direct.proofs.Kept.{kept-same, none-kept}
 use Rattle.cpp_direct.proofs.NamePlaces.{reads-then}
 use Rattle.cpp_direct.proofs.Moves.{stands-join, is_eaten, expects-empty}

@@ -1,8 +1,6 @@
 -- A type that names an argument of a function's template is read, and so is what expands a pack.
-use Rattle.sym_print.specs.declared.detail.Detail.{Detail}
-use Rattle.cpp_grammar.specs.Unfolding.{byte_of, close}
-use Rattle.cpp_grammar.specs.Meaning.{is_void, meaning, listed_value}
-use Rattle.cpp_direct.specs.WriterTypes.{Argument, Arguments, Candidate, Direct, Mark, Pattern, Symbol, detail_of}
+use Rattle.cpp_direct.specs.AllTerms.{after, appended, applied, between, byte_of, close, Continuation, count, counted_value, Detail, element, expansion, index_of, is_function_type, is_void, Kind, length_if_pack, listed_so_far, listed_value, lvalue, may_be_empty, meaning, number_of_kind, parameter, parameter_named, parameter_so_far, parts_of, Production, rvalue, Term, types_of, under_expansion, with_packs, with_type}
+use Rattle.cpp_direct.specs.AllStates.{added, AreCandidates, AreExpanded, AreParametersRead, Argument, argument_of, Arguments, AwaitsType, Candidate, comma_text, detail_of, Direct, EncodedBehind, expansion_letters, hidden, in_front_of_next, IsFunctionEnded, IsKnown, IsMarkedBy, IsNamedAgain, IsPackOf, IsPackThere, IsPlaced, IsScope, IsSingle, IsWriting, Kept, list_of, Lists, made_by, Mark, most_by_digit, parameter_digits, ParametersGoOn, Pattern, pattern_letters, place_of, PrintAllBy, PrintsAs, PrintsGiven, PrintsMade, Scope, separator, Symbol, with_argument, Writes}
 use Rattle.cpp_direct.proofs.Kept.{candidate-found, kept-argument, kept-grown, kept-same, kept-written, made-here, piece-found, placed-stays, value-added, value-comes, candidate-inside, kept-as, kept-with}
 use Rattle.cpp_direct.proofs.Listed.{some-elements}
 use Rattle.cpp_direct.proofs.Moves.{hole, eats, byte-opens, next-part, closes, none-fills, number-fills, is_eaten, stands-join, stands-split, expects-empty, open_at, fill, filled-at}
@@ -11,26 +9,13 @@ use Rattle.cpp_direct.proofs.PrintedExpansions.{expansion-element, expansion-emp
 use Rattle.cpp_direct.proofs.PrintedTypes.{parameter-given, rvalue-given}
 use Rattle.cpp_direct.proofs.NamedArguments.{again-substituted, named-here}
 use Rattle.cpp_direct.specs.AllHoles.{Comes, Expects, IsReferable, IsTyped, Opened, StandsAt, TypeOpens, as_const, candidate, with_candidate}
-use Rattle.cpp_direct.specs.Prints.{IsMarkedBy, PrintsAs, PrintsGiven, PrintsMade, PrintAllBy, list_of, made_by, pattern_letters}
-use Rattle.cpp_direct.specs.WriterInvariant.{AreCandidates, EncodedBehind, IsKnown, IsPackOf, IsPackThere, IsPlaced, IsScope, IsSingle, IsWriting, ParametersGoOn, argument_of, in_front_of_next, place_of, Kept, Scope}
-use Rattle.cpp_direct.specs.MidStep.{AwaitsType, AreParametersRead, IsFunctionEnded, IsNamedAgain, most_by_digit, parameter_digits, AreExpanded, comma_text, expansion_letters, separator}
-use Rattle.cpp_direct.specs.Written.{Writes, added, hidden, with_argument, Lists}
 use Rattle.cpp_direct.specs.declared.open.Pattern.TheVariants as patterns
-use Rattle.cpp_grammar.specs.Between.{Continuation, between, after, applied, listed_so_far, parameter_so_far, index_of, under_expansion}
-use Rattle.cpp_grammar.specs.Grammar.{may_be_empty, number_of_kind, parts_of}
-use Rattle.cpp_grammar.specs.Parts.{types_of}
-use Rattle.cpp_grammar.specs.References.{appended, is_function_type, with_packs, parameter_named, with_type}
-use Rattle.cpp_grammar.specs.Scope.{element, count, length_if_pack}
-use Rattle.cpp_grammar.specs.Term.{Term, parameter, expansion, lvalue, rvalue}
 use Rattle.cpp_grammar.specs.Values.{tree, State, Around, text_of, is_there, letter_of, part, piece_of, tree_of, is_listed}
-use Rattle.cpp_grammar.specs.declared.kind.Kind.{Kind}
-use Rattle.cpp_grammar.specs.declared.production.Production.{Production}
 use Rattle.std.proofs.Common.{Bool, ◌≡◌, ◌≢◌, ℕ, zero, suc, ◌+◌, ◌-◌, ◌≤◌, ◌<◌, length, List, [], ◌∷◌, ◌++◌, take, drop, reverse, slice_get, get_or, true, false, replicate, Some, None, nat_le, ◌&&◌, refl, ap, sym, ◌∙◌, subst, arith, append_assoc, append-nil, Ok, codes}
 use Rattle.std.proofs.lemmas.Bool.{le-leb, lt-ltb}
 use Rattle.std.proofs.lemmas.List.{length-append}
 use Rattle.std.proofs.lemmas.Option.{slice_get_within, get_or_from_slice_get}
 use Rattle.std.proofs.Math.Seq.{get_or-append_seam}
-use Rattle.sym_core.specs.Value.{counted_value}
 use Rattle.sym_core.specs.declared.NumberKind.TheVariants.{Seq36, Decimal}
 use Rattle.sym_core.specs.Token.{Token, IsNumberToken}
 use Rattle.cpp_direct.proofs.Ending.{next-separated, nothing-ended, parameter-goes_on}

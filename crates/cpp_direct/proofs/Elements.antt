@@ -1,21 +1,10 @@
 -- Numbers and literals that were read, and arguments that are literals.
-use Rattle.sym_print.specs.declared.detail.Detail.{Detail}
+use Rattle.cpp_direct.specs.AllTerms.{among, boolean, builtin, builtin_texts, Detail, integer, is_plain_integer, is_zero, Kind, literal_endings, look_up, normal, Signed, signed_digits, Term}
 use Rattle.std.proofs.Common.{◌≡◌, ◌≢◌, ℕ, ◌+◌, ◌⊎◌, List, [], ◌∷◌, ◌++◌, length, reverse, nat_eq, Bool, true, false, cond, refl, ap, sym, subst, ◌∙◌, arith, codes, append_assoc, append-nil, drop, inl, inr, ◌<◌, ◌≤◌, get_or, not, ◌&&◌}
 use Rattle.std.proofs.lemmas.Bool.{false≢true, ne_eqb}
 use Rattle.std.specs.List.{ends_with}
-use Rattle.cpp_direct.specs.WriterTypes.{Direct, Open, Symbol, detail_of}
+use Rattle.cpp_direct.specs.AllStates.{AwaitsNamedType, AwaitsNextArgument, AwaitsNumber, below, Closes, detail_of, Direct, element_kind, EndsAsInteger, extra_of, GoesOn, in_front_of_next, integer_text, is_integer_letter, IsElement, IsListing, IsLiteralRead, IsUnmarked, IsWriting, Kept, led_by, may_name, number_text, Open, PrintAllAs, Prints, Reads, scoped_in, sign_text, Symbol, truth_text, Writes}
 use Rattle.cpp_direct.specs.AllHoles.{IsDigitsAt, IsOffsetAt, ListGoesOn, StandsAt, TreeOpens, minus_sign}
-use Rattle.cpp_grammar.specs.declared.kind.Kind.{Kind}
-use Rattle.cpp_grammar.specs.Parts.{is_plain_integer}
-use Rattle.cpp_grammar.specs.Term.{Term, builtin, boolean, integer, Signed}
-use Rattle.cpp_grammar.specs.Texts.{look_up, builtin_texts, literal_endings}
-use Rattle.cpp_grammar.specs.Grammar.{among}
-use Rattle.cpp_grammar.specs.Values.{normal, signed_digits, is_zero}
-use Rattle.cpp_direct.specs.ItemBytes.{is_integer_letter}
-use Rattle.cpp_direct.specs.Prints.{Prints, sign_text, EndsAsInteger, IsElement, PrintAllAs, IsUnmarked}
-use Rattle.cpp_direct.specs.WriterInvariant.{below, scoped_in, may_name, Closes, GoesOn, IsWriting, element_kind, extra_of, led_by, in_front_of_next, IsListing, Kept}
-use Rattle.cpp_direct.specs.MidStep.{AwaitsNextArgument, IsLiteralRead, truth_text, number_text, integer_text, AwaitsNumber, AwaitsNamedType}
-use Rattle.cpp_direct.specs.Written.{Reads, Writes}
 use Rattle.cpp_direct.proofs.Ending.{ends-so}
 use Rattle.cpp_direct.proofs.Scopes.{none-scoped}
 use Rattle.cpp_direct.proofs.Kept.{kept-grown, kept-read, reverse-last, awaited-in}

@@ -1,28 +1,13 @@
 -- How a symbol ends: its encoding's name, its return type, its parameters, and what follows them.
-use Rattle.sym_print.specs.declared.detail.Detail.{Detail}
-use Rattle.cpp_grammar.specs.Scope.{arguments_of}
+use Rattle.cpp_direct.specs.AllTerms.{absent, among, arguments_of, Around, builtin, Detail, encoding_of, encoding_text, function, is_empty, is_void, Kind, list, may_be_empty, nil, no_items, nothing_there, parameters, qualifier_text, qualifiers_of, ref_of, ref_text, source_text, State, symbol, Term, tree, tree_of, types_of, Value}
 use Rattle.std.proofs.Common.{◌≡◌, ◌≢◌, ◌⊎◌, refl, ap, sym, ◌∙◌, subst, ℕ, ◌+◌, ◌-◌, ◌≤◌, List, [], ◌∷◌, ◌++◌, length, take, drop, reverse, inl, inr, Bool, true, false, nat_eq, arith, codes, append-nil, append_assoc}
 use Rattle.std.specs.List.{ends_with}
 use Rattle.std.specs.Cmp.Lexicographic.{pointwise}
 use Rattle.std.proofs.lemmas.Bool.{false≢true}
 use Rattle.std.proofs.lemmas.List.{length-append, length-drop, take_rest}
 use Rattle.std.proofs.Math.Seq.{drop-append_seam, take-append_seam}
-use Rattle.cpp_grammar.specs.declared.kind.Kind.{Kind}
-use Rattle.cpp_grammar.specs.Term.{Term, symbol, function, nil, list, builtin, absent}
-use Rattle.cpp_grammar.specs.Grammar.{may_be_empty, among}
-use Rattle.cpp_grammar.specs.Parts.{encoding_text, qualifier_text, ref_text, types_of, source_text}
-use Rattle.cpp_grammar.specs.Between.{no_items}
-use Rattle.cpp_grammar.specs.Items.{is_empty}
-use Rattle.cpp_grammar.specs.Meaning.{encoding_of, is_void, parameters}
-use Rattle.cpp_grammar.specs.Values.{Around, State, Value, nothing_there, tree, tree_of, qualifiers_of, ref_of}
-use Rattle.cpp_direct.specs.WriterTypes.{Arguments, Direct, Mark, Open, Symbol, detail_of}
-use Rattle.cpp_direct.specs.Bytes.{is_builtin, is_local}
+use Rattle.cpp_direct.specs.AllStates.{AreParametersRead, Arguments, AwaitsParameters, called_on, Cuts, detail_of, Direct, Encloses, Encoded, EncodedBehind, EndsBehind, Fronts, has_const, HasArguments, HasInstance, HasParameters, HasScope, in_front_of_next, is_builtin, is_local, IsEncodedAt, IsEncodingEnded, IsFrontRead, IsFunctionEnded, IsInstance, IsNamedSo, IsNameEnded, IsNameScoped, IsOwnName, IsScoped, IsSymbolEnded, IsWhole, IsWriting, ItemsGoOn, Keeps, Kept, list_of, list_with, Mark, mark_text, no_scope, Open, ParametersGoOn, plain_encoding, PrintsName, qualifiers, Scope, separator, Shows, Stands, Symbol, TakesItems, Writes}
 use Rattle.cpp_direct.specs.AllHoles.{Comes, Expects, IsSuffix, ListGoesOn, Opened, StandsAt}
-use Rattle.cpp_direct.specs.Marks.{has_const, called_on, mark_text}
-use Rattle.cpp_direct.specs.Prints.{PrintsName, Shows, Encloses, list_of}
-use Rattle.cpp_direct.specs.WriterInvariant.{list_with, HasParameters, Scope, TakesItems, Encoded, EndsBehind, EncodedBehind, Fronts, IsWhole, IsScoped, IsWriting, HasArguments, HasScope, IsEncodedAt, ItemsGoOn, ParametersGoOn, Stands, qualifiers, in_front_of_next, no_scope, IsNamedSo, Kept, IsInstance, Keeps, plain_encoding, HasInstance, IsOwnName}
-use Rattle.cpp_direct.specs.MidStep.{AreParametersRead, IsNameEnded, IsNameScoped, AwaitsParameters, separator, IsFunctionEnded, IsEncodingEnded, IsSymbolEnded, IsFrontRead}
-use Rattle.cpp_direct.specs.Written.{Writes, Cuts}
 use Rattle.cpp_direct.proofs.Unmarked.{suffix-unmarked}
 use Rattle.cpp_direct.proofs.Kept.{keeps-as, kept-same, kept-written, none-kept, reverse-last, type-comes}
 use Rattle.cpp_direct.proofs.Moves.{expects-empty}

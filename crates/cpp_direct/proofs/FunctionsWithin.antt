@@ -8,7 +8,6 @@ use Rattle.cpp_direct.proofs.Moves.{expects-empty, stands-split}
 use Rattle.cpp_direct.proofs.MovesOfEncodings.{encoding-opens, name-source}
 use Rattle.cpp_direct.proofs.MovesOfLists.{element-awaits, address-opens}
 use Rattle.cpp_direct.proofs.MovesOfLocals.{local-type-opens, nowhere-scoped}
-use Rattle.cpp_direct.proofs.MovesOfTypes.{builtin-comes}
 use Rattle.cpp_direct.proofs.NamePlaces.{reads-of, reads-then}
 use Rattle.cpp_direct.proofs.NamedArguments.{arguments-given, named-there, scope_at, scope-kept}
 use Rattle.cpp_direct.proofs.Nesting.{nest-comes, closed-prints}
@@ -19,27 +18,11 @@ use Rattle.cpp_direct.proofs.PrintedParts.{has-none, has-parameters}
 use Rattle.cpp_direct.proofs.PrintedSymbols.{encoding-plain, encoding-returned, object-encoded, function-shows, mark-opens, parameters-kept, void-shows, made-void, made-with}
 use Rattle.cpp_direct.proofs.PrintedTypes.{as-in}
 use Rattle.cpp_direct.proofs.Scopes.{has-member, has-plain, arguments-named, entry-scoped}
-use Rattle.cpp_direct.proofs.TypesRead.{popped, builtin-listed, no-builtin}
+use Rattle.cpp_direct.proofs.TypesRead.{builtin-item, popped}
 use Rattle.cpp_direct.proofs.Unmarked.{name-unmarked}
 use Rattle.cpp_direct.specs.AllHoles.{Comes, Discriminator, Expects, IsDiscriminatorAt, IsNameAt, IsPieceAt, Opened, StandsAt, local_in, with_candidate}
-use Rattle.cpp_direct.specs.Marks.{IsMarkPlace, has_const, called_on, mark_text}
-use Rattle.cpp_direct.specs.MidStep.{AwaitsNamedType, AwaitsNest, IsElementRead}
-use Rattle.cpp_direct.specs.MidStepOfAddresses.{AwaitsAddressedParameters, AwaitsArgumentOfName, IsAddressNamed, IsAddressedFrontRead, IsAddressedParameterRead, IsAddressedRead}
-use Rattle.cpp_direct.specs.MidStepOfLocals.{AwaitsEnclosingParameters, AwaitsTypeName, IsEnclosingNamed, IsEnclosingParameterRead, IsEnclosingRead, IsLedFunctionRead, AwaitsLedParameters, IsLedParameterRead}
-use Rattle.cpp_direct.specs.Prints.{PrintsName, PrintsPiece, Shows, IsElementIn, Encloses, list_of}
-use Rattle.cpp_direct.specs.WriterInvariant.{HasNameSo, IsNesting, IsOwn, IsWriting, ItemsGoOn, Serves, TypeWithin, below, in_front_of_next, nowhere, qualifiers, Kept, AddressWithin, AreNamed, HasAddressedFront, HasArguments, IsAddressed, IsTypeRead, ItemsOf, Scope, Stands, no_scope, IsLedFunction, HasLed, AwaitsLed, IsScoped, HasScope}
-use Rattle.cpp_direct.specs.WriterTypes.{Direct, Mark, MarkPlace, Open, Symbol, detail_of, Arguments}
-use Rattle.cpp_direct.specs.Written.{Writes, Reads, added, AreLeft}
-use Rattle.cpp_grammar.specs.Between.{after, in_name, in_types, no_items}
-use Rattle.cpp_grammar.specs.Grammar.{may_be_empty}
-use Rattle.cpp_grammar.specs.Meaning.{encoding_of, parameters}
-use Rattle.cpp_grammar.specs.Parts.{source_text, types_of}
-use Rattle.cpp_grammar.specs.References.{is_function_type}
-use Rattle.cpp_grammar.specs.Scope.{has_return_type, arguments_of}
-use Rattle.cpp_grammar.specs.Term.{Term, alone, source, builtin, nil, list, absent, address_of, function}
-use Rattle.cpp_grammar.specs.Texts.{builtin_texts, look_up}
-use Rattle.cpp_grammar.specs.Values.{State, Value, nothing_there, tree, named, tree_of, Around}
-use Rattle.cpp_grammar.specs.declared.kind.Kind.{Kind}
+use Rattle.cpp_direct.specs.AllStates.{added, AddressWithin, AreLeft, AreNamed, Arguments, AwaitsAddressedParameters, AwaitsArgumentOfName, AwaitsEnclosingParameters, AwaitsLed, AwaitsLedParameters, AwaitsNamedType, AwaitsNest, AwaitsTypeName, below, called_on, detail_of, Direct, Encloses, has_const, HasAddressedFront, HasArguments, HasLed, HasNameSo, HasScope, in_front_of_next, IsAddressed, IsAddressedFrontRead, IsAddressedParameterRead, IsAddressedRead, IsAddressNamed, IsBuiltinAt, IsElementIn, IsElementRead, IsEnclosingNamed, IsEnclosingParameterRead, IsEnclosingRead, IsLedFunction, IsLedFunctionRead, IsLedParameterRead, IsMarkPlace, IsNesting, IsOwn, IsScoped, IsTypeRead, IsWriting, ItemsGoOn, ItemsOf, Kept, list_of, Mark, mark_text, MarkPlace, no_scope, nowhere, Open, PrintsName, PrintsPiece, qualifiers, Reads, Scope, Serves, Shows, Stands, Symbol, TypeWithin, Writes}
+use Rattle.cpp_direct.specs.AllTerms.{absent, address_of, after, alone, arguments_of, Around, builtin, encoding_of, function, has_return_type, in_name, in_types, is_function_type, Kind, list, may_be_empty, named, nil, no_items, nothing_there, parameters, source, source_text, State, Term, tree, tree_of, types_of, Value}
 use Rattle.std.specs.List.{ends_with}
 use Rattle.std.proofs.Common.{nat_eq, ◌≡◌, ◌≢◌, refl, ap, sym, ◌∙◌, subst, ℕ, ◌+◌, List, [], ◌∷◌, ◌++◌, length, reverse, true, false, arith, codes, append-nil, append_assoc, Bool, ◌-◌, take, slice_get, Some, ◌&&◌, ◌≤◌, length-append}
 use Rattle.std.proofs.lemmas.Bool.{false≢true}
@@ -408,18 +391,16 @@ name-within s old kept t mark encoding is_instance n returns here is_name =
     }
 
 -- after its return type, which is a builtin one, a function expects its parameters
-pub returned-awaits : (s : Symbol) (w : Direct) (n : ℕ) (mark : Mark) (from letter : ℕ) → IsEnclosingNamed s w mark true from
-    → look_up (letter ∷ []) builtin_texts ≢ [] → (letter ≢ 0 → StandsAt s.bytes w.at (letter ∷ [])) → n ≡ w.at + 1
+pub returned-awaits : (s : Symbol) (w : Direct) (n : ℕ) (mark : Mark) (from : ℕ) → IsEnclosingNamed s w mark true from → IsBuiltinAt s.bytes w.at n
     → AwaitsEnclosingParameters s (record w { at = n }) mark from
-returned-awaits s w n mark from letter p has stands at_is =
-    let r = builtin (letter ∷ []) in
+returned-awaits s w n mark from p is =
     let make : Term → Term = λ l. encoding_of p.v l in
     let becomes : Term → ℕ → State → Type 0 = TypeWithin s (below s p.scope (reverse w.waiting.list.items)) p.lead in
-    let listed = builtin-listed letter has in
     let element = element-awaits s Kind.Items p.goes.inner p.goes.around w.at p.state tt p.goes.awaits in
-    let goes = returned-first make r (w.at + 1) p.state (parameter-goes_on s nowhere becomes make [] w.at p.state p.goes r (w.at + 1) p.state
-    (element.onward r (w.at + 1) p.state
-    (builtin-comes s Kind.Item p.goes.around element.inner w.at p.state letter tt listed element.awaits (stands (no-builtin letter listed))))) in
+    let returned = builtin-item s p.goes.around element.inner w.at n p.state is element.awaits in
+    let r = returned.0 in
+    let goes = returned-first make r n p.state (parameter-goes_on s nowhere becomes make [] w.at p.state p.goes r n p.state
+    (element.onward r n p.state returned.1)) in
     record {
       kept = kept-same s w (record w { at = n }) refl refl refl p.kept;
       has = record {
@@ -428,7 +409,7 @@ returned-awaits s w n mark from letter p has stands at_is =
         leads = p.from_is;
       };
       written = p.written;
-      goes = subst (λ k. ItemsGoOn s nowhere becomes (λ l. make (list r l)) [] k p.state) (sym at_is) goes;
+      goes = goes;
     }
 
 -- one is read

@@ -1,14 +1,9 @@
 -- A type was read, and is forwarded to the entry that waits for it.
 use Rattle.std.proofs.Common.{◌≡◌, ℕ, ◌-◌, length, List, [], ◌∷◌, ◌++◌, reverse, slice_get, Bool, true, false, Option, Some, refl, ap, sym, ◌∙◌, subst, codes, append_assoc, ◌+◌}
 use Rattle.std.proofs.lemmas.Bool.{false≢true}
-use Rattle.cpp_grammar.specs.Term.{Term, special, instance}
-use Rattle.cpp_grammar.specs.Parts.{types_of}
-use Rattle.cpp_grammar.specs.Values.{tree, State}
-use Rattle.cpp_direct.specs.WriterTypes.{Access, Arguments, Direct, Mark, Open, Purpose, Symbol, detail_of, Nest}
+use Rattle.cpp_direct.specs.AllTerms.{Detail, instance, no_items, special, State, Term, tree, types_of}
+use Rattle.cpp_direct.specs.AllStates.{Access, AreParametersRead, argument_of, Arguments, arguments_in, ArgumentsGoOn, AwaitsElementOf, AwaitsEnumerator, AwaitsMark, AwaitsNumber, AwaitsSignature, Belongs, below, detail_of, Direct, extra_of, FirstType, in_front_of_next, is_noted, is_type, is_within_type, IsDependentNow, IsElementIn, IsElementRead, IsFrontRead, IsNaming, IsNest, IsOwn, IsPassedClosed, IsReturned, IsSymbolEnded, IsTemplate, IsTypeRead, IsWriting, Kept, led_by, list_with, Listing, Mark, Marks, Names, Nest, of_pack, of_template, Open, opening_bracket, opening_text, Owns, PrintAllAs, PrintsAs, Purpose, Scope, Shows, Stands, Symbol}
 use Rattle.cpp_direct.specs.Holes.{Opened, Comes}
-use Rattle.cpp_direct.specs.Prints.{Names, PrintsAs, IsElementIn, Shows, PrintAllAs, opening_bracket}
-use Rattle.cpp_direct.specs.WriterInvariant.{FirstType, IsNaming, IsTemplate, IsWriting, Marks, AwaitsEnumerator, Belongs, Listing, Scope, of_template, of_pack, Stands, below, opening_text, extra_of, led_by, in_front_of_next, argument_of, Kept, IsTypeRead, arguments_in, IsOwn, is_noted, is_type, is_within_type, IsNest, Owns, ArgumentsGoOn, AwaitsElementOf, list_with}
-use Rattle.cpp_direct.specs.MidStep.{AwaitsMark, AwaitsNumber, AwaitsSignature, IsElementRead, IsFrontRead, AreParametersRead, IsPassedClosed, IsReturned, IsSymbolEnded, IsDependentNow}
 use Rattle.cpp_direct.proofs.Elements.{element-added}
 use Rattle.cpp_direct.proofs.Listed.{TakesElements, last-found, list-waits, some-elements}
 use Rattle.cpp_direct.proofs.PrintedLists.{element-in, next-prints, next-prints-in, type-element, type-in, all-given, next-prints-as, type-element-as}
@@ -16,8 +11,6 @@ use Rattle.cpp_direct.proofs.PrintedTypes.{as-in, prints-as-given}
 use Rattle.cpp_direct.proofs.PrintedSymbols.{special-shows}
 use Rattle.cpp_direct.proofs.Kept.{made-here, template-stays, kept-same, reverse-last}
 use Rattle.cpp_direct.proofs.Scopes.{parameters-as}
-use Rattle.sym_print.specs.declared.detail.Detail.{Detail}
-use Rattle.cpp_grammar.specs.Between.{no_items}
 use Rattle.cpp_direct.specs.declared.open.Open.TheVariants as opens
 use Rattle.cpp_direct.specs.declared.open.Step.TheVariants as steps
 use Rattle.cpp_direct.specs.declared.open.Purpose.TheVariants as purposes

@@ -5,7 +5,6 @@ use Rattle.cpp_direct.proofs.Kept.{kept-same, kept-closed, reverse-last}
 use Rattle.cpp_direct.proofs.Listed.{last-found}
 use Rattle.cpp_direct.proofs.MovesOfLists.{element-awaits}
 use Rattle.cpp_direct.proofs.MovesOfLocals.{nowhere-scoped}
-use Rattle.cpp_direct.proofs.MovesOfTypes.{builtin-comes}
 use Rattle.cpp_direct.proofs.NamedArguments.{arguments-given, named-there, scope_at, scope-kept}
 use Rattle.cpp_direct.proofs.Nesting.{nest-comes, closed-prints}
 use Rattle.cpp_direct.proofs.PrintedLists.{element-in}
@@ -13,23 +12,10 @@ use Rattle.cpp_direct.proofs.PrintedNames.{as-name}
 use Rattle.cpp_direct.proofs.PrintedSymbols.{encoding-returned}
 use Rattle.cpp_direct.proofs.PrintedTypes.{as-in}
 use Rattle.cpp_direct.proofs.Scopes.{arguments-named, entry-scoped, has-member}
-use Rattle.cpp_direct.proofs.TypesRead.{popped, builtin-listed, no-builtin}
+use Rattle.cpp_direct.proofs.TypesRead.{builtin-item, popped}
 use Rattle.cpp_direct.specs.AllHoles.{Comes, Opened, StandsAt}
-use Rattle.cpp_direct.specs.Marks.{has_const, called_on}
-use Rattle.cpp_direct.specs.MidStep.{IsElementRead}
-use Rattle.cpp_direct.specs.MidStepOfLocals.{AwaitsLedParameters, IsBuiltinAt, IsEnclosingNamed, IsEnclosingParameterRead, IsInstanceNamed, IsInstanceParameterRead}
-use Rattle.cpp_direct.specs.Prints.{IsElementIn, PrintsIn}
-use Rattle.cpp_direct.specs.WriterInvariant.{AreNamed, HasArguments, IsNesting, IsOwn, IsScopedWithin, IsTypeRead, IsWriting, ItemsGoOn, ItemsOf, Kept, Scope, Serves, TypeWithin, below, no_scope, nowhere, qualifiers}
-use Rattle.cpp_direct.specs.WriterTypes.{Arguments, Direct, Mark, Open, Symbol, detail_of}
-use Rattle.cpp_direct.specs.Written.{AreLeft, Writes}
-use Rattle.cpp_grammar.specs.Items.{Context}
-use Rattle.cpp_grammar.specs.Meaning.{encoding_of}
-use Rattle.cpp_grammar.specs.Parts.{types_of}
-use Rattle.cpp_grammar.specs.Scope.{has_return_type, arguments_of}
-use Rattle.cpp_grammar.specs.Term.{Term, builtin, list}
-use Rattle.cpp_grammar.specs.Values.{State, named}
-use Rattle.cpp_grammar.specs.declared.kind.Kind.{Kind}
-use Rattle.sym_print.specs.declared.detail.Detail.{Detail}
+use Rattle.cpp_direct.specs.AllStates.{AreLeft, AreNamed, Arguments, AwaitsLedParameters, below, called_on, detail_of, Direct, has_const, HasArguments, IsBuiltinAt, IsElementIn, IsElementRead, IsEnclosingNamed, IsEnclosingParameterRead, IsInstanceNamed, IsInstanceParameterRead, IsNesting, IsOwn, IsScopedWithin, IsTypeRead, IsWriting, ItemsGoOn, ItemsOf, Kept, Mark, no_scope, nowhere, Open, PrintsIn, qualifiers, Scope, Serves, Symbol, TypeWithin, Writes}
+use Rattle.cpp_direct.specs.AllTerms.{arguments_of, Context, Detail, encoding_of, has_return_type, Kind, list, named, State, Term, types_of}
 use Rattle.std.proofs.Common.{◌≡◌, refl, ap, sym, ◌∙◌, subst, ℕ, ◌+◌, ◌-◌, List, [], ◌∷◌, ◌++◌, length, reverse, take, slice_get, Some, Bool, true, false, ◌&&◌, arith, codes, append-nil}
 use Rattle.cpp_direct.specs.declared.open.Open.TheVariants as opens
 use Rattle.cpp_direct.specs.declared.open.Purpose.TheVariants as purposes
@@ -67,14 +53,13 @@ instance-named s w mark encoding from p = record {
 }
 
 -- after its return type, which is a builtin one, it expects its parameters, whose types may name its arguments
-pub instance-awaits : (s : Symbol) (old new : Direct) (mark : Mark) (from to : ℕ) (argument : Arguments) → IsInstanceNamed s old mark argument.encoding from
+pub instance-awaits : (s : Symbol) (old new : Direct) (mark : Mark) (from to end : ℕ) (argument : Arguments) → IsInstanceNamed s old mark argument.encoding from
     → old.has_scope ≡ false → new.has_scope ≡ true → new.text ≡ old.text → new.candidates ≡ old.candidates → new.waiting ≡ old.waiting
-    → new.at ≡ old.at + 1 → argument ≡ record (old.argument) { encoding = argument.encoding } → to ≡ length old.text.list.items → IsBuiltinAt s.bytes old.at
+    → new.at ≡ end → argument ≡ record (old.argument) { encoding = argument.encoding } → to ≡ length old.text.list.items → IsBuiltinAt s.bytes old.at end
     → AwaitsLedParameters s new 6 mark argument (λ scope. IsScopedWithin s scope from to argument) (λ scope waits. TypeWithin s (below s no_scope waits))
-instance-awaits s old new mark from to argument p first now text candidates waiting at same to_is letter =
+instance-awaits s old new mark from to end argument p first now text candidates waiting at same to_is is =
     let here = old.text.list.items in
     let rest = reverse old.waiting.list.items in
-    let r = builtin (letter.0 ∷ []) in
     let make : Term → Term = λ l. encoding_of p.v l in
     let becomes : Term → ℕ → State → Type 0 = TypeWithin s (below s no_scope rest) p.lead in
     let names : HasArguments (detail_of s) here argument p.own =
@@ -84,10 +69,10 @@ instance-awaits s old new mark from to argument p first now text candidates wait
     let begun = items-scoped argument p.v old.at p.state items
     (types-scoped here argument items.around p.own (λ real. (items.encoding_is, items.no_lambda)) (items.scope_is ∙ ap arguments_of p.named_so.tree_is) names) in
     let element = element-awaits s Kind.Items begun.inner begun.around old.at p.state tt begun.awaits in
-    let listed = builtin-listed letter.0 letter.1 in
-    let goes = returned-first make r (old.at + 1) p.state (parameter-goes_on s argument becomes make [] old.at p.state begun r (old.at + 1) p.state
-    (element.onward r (old.at + 1) p.state
-    (builtin-comes s Kind.Item begun.around element.inner old.at p.state letter.0 tt listed element.awaits (letter.2 (no-builtin letter.0 listed))))) in
+    let returned = builtin-item s begun.around element.inner old.at end p.state is element.awaits in
+    let r = returned.0 in
+    let goes = returned-first make r end p.state (parameter-goes_on s argument becomes make [] old.at p.state begun r end p.state
+    (element.onward r end p.state returned.1)) in
     let scope = scope_at here argument in
     record {
       kept = record { state = p.state; scope = scope; keeps = scope-kept s old new p.kept argument p.own names first now text candidates };

@@ -1,18 +1,12 @@
 -- What a writer keeps while its text and its lists grow.
-use Rattle.sym_print.specs.declared.detail.Detail.{Detail}
+use Rattle.cpp_direct.specs.AllTerms.{Around, Detail, outermost, State, Term, tree}
 use Rattle.std.proofs.Common.{◌≡◌, ℕ, zero, suc, ◌+◌, ◌-◌, ◌≤◌, length, List, [], ◌∷◌, ◌++◌, take, drop, reverse, slice_get, Bool, true, false, Option, Some, None, refl, ap, sym, ◌∙◌, subst, arith, append_assoc, append-nil, ◌<◌, inl, inr, get_or, length-append}
 use Rattle.std.specs.Option.{IfSome}
 use Rattle.std.proofs.lemmas.List.{reverse-append}
 use Rattle.std.proofs.Math.Seq.{drop-append_seam, take-append-add, take-append_seam}
-use Rattle.cpp_grammar.specs.Term.{Term}
-use Rattle.cpp_grammar.specs.Values.{State, Around, tree, outermost}
-use Rattle.cpp_direct.specs.Bytes.{is_object}
-use Rattle.cpp_direct.specs.WriterTypes.{Argument, Candidate, Direct, Hiding, Nest, Open, Purpose, Step, Symbol, detail_of}
+use Rattle.cpp_direct.specs.AllStates.{added, added_unless, AreCandidates, AreLeft, AreNamed, Argument, argument_of, arguments_in, ArgumentsGoOn, AwaitsTypeIn, below, Candidate, detail_of, Direct, ExpectsType, HasScope, HasSingles, Hiding, is_object, is_type, is_within_type, IsBetween, IsCandidate, IsKnown, IsLeft, IsMadeIn, IsNaming, IsNest, IsOwn, IsPlaced, IsScoped, IsTemplate, IsTypeRead, IsWriting, Keeps, Kept, Lists, Names, Nest, no_scope, nowhere, of_template, Open, opening_bracket, OpensArguments, PrintsAs, PrintsGiven, Purpose, Reads, Scope, Stands, Stays, Step, Symbol, with_argument, Writes}
 use Rattle.cpp_direct.specs.declared.open.Purpose.TheVariants as purposes
 use Rattle.cpp_direct.specs.Holes.{Comes, Opened, candidate, with_candidate, unless_listed}
-use Rattle.cpp_direct.specs.Prints.{Names, PrintsAs, PrintsGiven, opening_bracket}
-use Rattle.cpp_direct.specs.WriterInvariant.{AreCandidates, AreNamed, ArgumentsGoOn, ExpectsType, HasScope, IsCandidate, IsMadeIn, IsNaming, IsNest, IsPlaced, HasSingles, IsScoped, IsTemplate, IsWriting, Keeps, Scope, Stands, argument_of, arguments_in, below, is_within_type, no_scope, of_template, IsOwn, is_type, IsKnown, nowhere, Kept, IsBetween, AwaitsTypeIn, IsTypeRead}
-use Rattle.cpp_direct.specs.Written.{Writes, Reads, Lists, OpensArguments, added, added_unless, with_argument, IsLeft, AreLeft, Stays}
 use Rattle.std.specs.Prelude.{slice_set}
 use Rattle.cpp_grammar.specs.Values as values
 use Rattle.cpp_direct.specs.declared.open.Open.TheVariants as opens

@@ -3,22 +3,11 @@ use Rattle.std.proofs.Common.{◌≡◌, ◌≢◌, refl, ap, sym, ◌∙◌, su
 use Rattle.std.specs.Prelude.{decimal}
 use Rattle.std.proofs.lemmas.Bool.{false≢true}
 use Rattle.std.proofs.lemmas.Fmt.{decimal_digit}
-use Rattle.cpp_grammar.specs.declared.kind.Kind.{Kind}
-use Rattle.cpp_grammar.specs.Grammar.{may_be_empty}
-use Rattle.cpp_grammar.specs.Term.{Term, within, lambda, nil, list}
-use Rattle.cpp_grammar.specs.Items.{closed}
-use Rattle.cpp_grammar.specs.Scope.{has_return_type, arguments_of}
-use Rattle.cpp_grammar.specs.Values.{State, Around, local_number, nothing_there, tree}
-use Rattle.cpp_grammar.specs.Between.{after, no_items}
-use Rattle.cpp_direct.specs.WriterTypes.{Direct, Purpose, Symbol, detail_of}
+use Rattle.cpp_direct.specs.AllTerms.{after, arguments_of, Around, closed, has_return_type, Kind, lambda, list, local_number, may_be_empty, nil, no_items, nothing_there, State, Term, tree, within}
+use Rattle.cpp_direct.specs.AllStates.{added, AwaitsTypeName, below, detail_of, Direct, in_front_of_next, IsElementRead, IsLambdaOpened, IsLambdaParameterRead, IsLambdaRead, IsLed, IsNest, IsUnmarked, IsWriting, Kept, LambdaComes, LambdaWithin, list_of, nowhere, PrintsPiece, Purpose, Reads, Stands, Symbol, Writes}
 use Rattle.cpp_direct.specs.declared.open.Open.TheVariants as opens
 use Rattle.cpp_direct.specs.declared.open.Step.TheVariants as steps
 use Rattle.cpp_direct.specs.AllHoles.{Comes, Discriminator, Expects, IsDiscriminatorAt, IsLambdaDigit, IsPieceAt, Opened, StandsAt, lambda_digits, lambda_ending, lambda_number, lambda_with, local_in, with_candidate}
-use Rattle.cpp_direct.specs.Prints.{IsLed, PrintsPiece, list_of, IsUnmarked}
-use Rattle.cpp_direct.specs.WriterInvariant.{IsNest, IsWriting, LambdaComes, LambdaWithin, Stands, below, in_front_of_next, nowhere, Kept}
-use Rattle.cpp_direct.specs.MidStep.{IsElementRead}
-use Rattle.cpp_direct.specs.MidStepOfLocals.{AwaitsTypeName, IsLambdaOpened, IsLambdaParameterRead, IsLambdaRead}
-use Rattle.cpp_direct.specs.Written.{Writes, Reads, added}
 use Rattle.cpp_direct.proofs.Ending.{item-comes, next-written}
 use Rattle.cpp_direct.proofs.Kept.{kept-grown, kept-read, kept-same, kept-written, reverse-last, type-comes, value-added}
 use Rattle.cpp_direct.proofs.Listed.{some-elements}

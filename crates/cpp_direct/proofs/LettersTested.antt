@@ -1,20 +1,10 @@
 -- What is computed at each letter of a list holds at a letter among them: the letters that have texts, codes of two, and those of operators.
 use Rattle.std.proofs.Common.{◌≡◌, ℕ, ◌<◌, List, [], ◌∷◌, Bool, true, false, ◌||◌, ◌&&◌, nat_eq, slice_get, Option, Some, None, refl, ap, sym, subst, ◌∙◌, ltb, ◌≢◌, ◌⊎◌, inl, inr, Ok, arith}
 use Rattle.std.proofs.lemmas.Bool.{false≢true, eqb-true, ltb-true, and_parts}
-use Rattle.cpp_grammar.specs.declared.production.Production.{Production}
-use Rattle.cpp_grammar.specs.declared.production.Operation.{Operation}
-use Rattle.cpp_grammar.specs.Grammar.{among, number_of, productions, in_ranges, is_in, pick, alternatives, number_of_kind, choose, parts_of, is_chain}
-use Rattle.cpp_grammar.specs.Texts.{Naming, look_up, builtin_texts, same_bytes, operator_texts}
+use Rattle.cpp_direct.specs.AllTerms.{alternatives, among, between, builtin_texts, choose, close, Continuation, Forest, found, in_ranges, is_chain, is_in, Kind, look_up, meaning, Naming, number_of, number_of_kind, opening, Operation, operator, operator_or_literal, operator_texts, parts_of, pick, Production, productions, same_bytes}
 use Rattle.cpp_direct.specs.Letters.{integer_letters}
 use Rattle.sym_shape.specs.declared.rule.Sym.TheVariants.{Kind as OfKind}
-use Rattle.sym_shape.specs.Tree.{Forest}
-use Rattle.sym_link.specs.Unfold.{found}
-use Rattle.cpp_grammar.specs.declared.kind.Kind.{Kind}
-use Rattle.cpp_grammar.specs.Term.{operator}
 use Rattle.cpp_grammar.specs.Values.{State, Around, letter, piece, letter_of, part}
-use Rattle.cpp_grammar.specs.Between.{Continuation, between}
-use Rattle.cpp_grammar.specs.Meaning.{meaning, operator_or_literal}
-use Rattle.cpp_grammar.specs.Unfolding.{opening, close}
 use Rattle.cpp_grammar.proofs.Growing.{same_choice, kept}
 use Rattle.cpp_grammar.specs.Unfolding as unfolding_
 

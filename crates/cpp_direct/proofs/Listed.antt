@@ -1,23 +1,13 @@
 -- A writer at the end of arguments or a pack, and between two elements.
-use Rattle.sym_print.specs.declared.detail.Detail.{Detail}
+use Rattle.cpp_direct.specs.AllTerms.{arguments_of, Around, count, Detail, element, instance, Kind, list, may_be_empty, nil, no_items, nothing_there, pack, State, Term, tree, tree_of}
 use Rattle.std.proofs.Common.{◌≡◌, ◌≢◌, inl, inr, ℕ, ◌+◌, ◌-◌, ◌<◌, length, List, [], ◌∷◌, ◌++◌, reverse, slice_get, get_or, Bool, true, false, Some, None, refl, ap, sym, ◌∙◌, subst, arith, codes, append_assoc, append-nil}
 use Rattle.std.proofs.lemmas.List.{length-reverse, get_or-reverse}
 use Rattle.std.proofs.lemmas.Option.{slice_get_within, get_or_from_slice_get}
-use Rattle.cpp_grammar.specs.declared.kind.Kind.{Kind}
-use Rattle.cpp_grammar.specs.Grammar.{may_be_empty}
-use Rattle.cpp_grammar.specs.Term.{Term, nil, list, instance, pack}
-use Rattle.cpp_grammar.specs.Scope.{element, count, arguments_of}
-use Rattle.cpp_grammar.specs.Values.{Around, State, tree, nothing_there, tree_of}
-use Rattle.cpp_grammar.specs.Between.{no_items}
 use Rattle.cpp_direct.specs.declared.open.Mark.TheVariants as marks
-use Rattle.cpp_direct.specs.WriterTypes.{Arguments, Direct, Nest, Open, Symbol, detail_of}
+use Rattle.cpp_direct.specs.AllStates.{added, AreKnown, Arguments, arguments_in, ArgumentsGoOn, AwaitsElementOf, AwaitsEnumerator, AwaitsNextArgument, Belongs, Below, below, Closes, closing_bracket, detail_of, Direct, element_kind, ElementsGoOn, EnumeratorGoesOn, extra_of, GoesOn, HasArguments, HasPack, in_front_of_next, is_noted, IsListEnded, IsListing, IsNameEnded, IsNaming, IsNest, IsScoped, IsTail, IsTemplate, IsWriting, Kept, led_by, list_of, list_with, Listing, Lists, may_name, Names, Nest, nowhere, of_pack, of_template, Open, opening_bracket, OpensEntry, Owns, PrintAllAs, PrintsAs, Scope, scoped_in, Serves, Stands, Symbol, Writes}
 use Rattle.cpp_direct.specs.declared.open.Open.TheVariants as opens
 use Rattle.cpp_direct.specs.declared.open.Step.TheVariants as steps
 use Rattle.cpp_direct.specs.AllHoles.{AwaitsComponent, Comes, IsArgumentKind, IsListKind, ListGoesOn, Opened, StandsAt, with_candidate}
-use Rattle.cpp_direct.specs.Prints.{Names, PrintAllAs, PrintsAs, list_of, opening_bracket, closing_bracket}
-use Rattle.cpp_direct.specs.WriterInvariant.{HasPack, Below, HasArguments, arguments_in, below, IsListing, IsNaming, IsScoped, Scope, scoped_in, is_noted, may_name, IsNest, IsTail, IsTemplate, IsWriting, Owns, Serves, ArgumentsGoOn, AwaitsElementOf, AwaitsEnumerator, Belongs, Closes, ElementsGoOn, EnumeratorGoesOn, GoesOn, Listing, of_template, of_pack, Stands, element_kind, extra_of, led_by, list_with, in_front_of_next, nowhere, Kept}
-use Rattle.cpp_direct.specs.MidStep.{AreKnown, IsListEnded, AwaitsNextArgument, IsNameEnded}
-use Rattle.cpp_direct.specs.Written.{Writes, added, Lists, OpensEntry}
 use Rattle.cpp_direct.proofs.Moves.{expects-empty, stands-split}
 use Rattle.cpp_direct.proofs.MovesOfLists.{element-awaits, pack-opens}
 use Rattle.cpp_direct.proofs.PrintedLists.{element-as, list-more, list-with-none, next-prints-as, none-print, pack-element}

@@ -1,18 +1,11 @@
 -- A writer in an argument that is a member of an instance of a template.
 use Rattle.std.proofs.Common.{◌≡◌, ◌≢◌, ℕ, ◌+◌, List, [], ◌∷◌, ◌++◌, reverse, Bool, true, false, refl, ap, sym, ◌∙◌, subst, codes, append_assoc, arith}
 use Rattle.std.proofs.lemmas.Bool.{false≢true}
-use Rattle.cpp_grammar.specs.Term.{instance}
-use Rattle.cpp_grammar.specs.Parts.{source_text}
-use Rattle.cpp_grammar.specs.Values.{tree}
-use Rattle.cpp_grammar.specs.Between.{inside}
-use Rattle.cpp_direct.specs.WrittenParts.{opening_bracket, closing_bracket}
-use Rattle.cpp_direct.specs.WriterTypes.{Direct, Symbol, detail_of}
+use Rattle.cpp_direct.specs.AllTerms.{inside, instance, source_text, tree}
+use Rattle.cpp_direct.specs.AllStates.{AwaitsMember, AwaitsNextArgument, closing_bracket, detail_of, Direct, element_kind, IsScoped, IsWriting, list_with, opening_bracket, OpensArguments, Reads, Stands, Symbol, Writes}
 use Rattle.cpp_direct.specs.declared.open.Open.TheVariants as opens
 use Rattle.cpp_direct.specs.declared.open.Step.TheVariants as steps
 use Rattle.cpp_direct.specs.AllHoles.{Comes, IsNameAt, StandsAt, member_of, template_named}
-use Rattle.cpp_direct.specs.WriterInvariant.{IsScoped, IsWriting, Stands, element_kind, list_with}
-use Rattle.cpp_direct.specs.MidStep.{AwaitsMember, AwaitsNextArgument}
-use Rattle.cpp_direct.specs.Written.{Reads, Writes, OpensArguments}
 use Rattle.cpp_direct.proofs.Kept.{kept-grown, kept-read, list-begins, value-comes}
 use Rattle.cpp_direct.proofs.Listed.{IsClosed, element-kind, element-scoped, element-stands}
 use Rattle.cpp_direct.proofs.Moves.{stands-moved}

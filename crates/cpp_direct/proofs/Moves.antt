@@ -1,29 +1,15 @@
 -- The moves of a reader that goes from left to right: a rule opens, its next part is expected, and it closes.
 use Rattle.std.proofs.Common.{◌≡◌, ℕ, ◌+◌, ◌<◌, List, [], ◌∷◌, ◌++◌, length, slice_get, true, not, Some, Result, Ok, Err, refl, ap, subst, ◌∙◌, Bool, false, ◌&&◌, Option, sym, arith}
 use Rattle.std.specs.Prelude.{if◌then◌else◌}
-use Rattle.sym_shape.specs.declared.rule.Sym.{Sym}
+use Rattle.cpp_direct.specs.AllTerms.{after, alone, alternatives, among, AreTrees, between, byte_of, choose, close, Continuation, cpp, extended, Forest, Found, found, grown, in_ranges, is_chain, is_in, IsTree, Kind, kinds, may_be_empty, named_so_far, Next, nothing, number_of, number_of_kind, NumberKind, opening, parts_of, pick, Production, Refusal, rule_of, spell_all, standing, Sym, symbols_of, TakesRule, Term, Tree, unfold_forest, unfold_tree, wide_alternatives, wide_choose, ◌>>=◌}
 use Rattle.sym_shape.specs.declared.rule.Sym.TheVariants.{Kind as OfKind, Name, Number, Byte}
-use Rattle.sym_shape.specs.Table.{symbols_of}
-use Rattle.sym_core.specs.declared.refusal.Refusal.{Refusal}
-use Rattle.sym_shape.specs.Tree.{Forest, nothing, grown, AreTrees, TakesRule, spell_all, Tree, IsTree}
-use Rattle.sym_link.specs.Reading.{Next, Found, ◌>>=◌}
-use Rattle.sym_link.specs.Unfold.{found, standing, unfold_tree, unfold_forest}
-use Rattle.cpp_grammar.specs.declared.kind.Kind.{Kind}
-use Rattle.cpp_grammar.specs.declared.production.Production.{Production}
-use Rattle.cpp_grammar.specs.Grammar.{kinds, number_of_kind, choose, parts_of, is_chain, may_be_empty, in_ranges, among, is_in, pick, number_of, alternatives}
-use Rattle.cpp_grammar.specs.Table.{rule_of}
 use Rattle.cpp_grammar.specs.Values.{State, Around, Value, nothing_there, text, tree, outermost}
-use Rattle.cpp_grammar.specs.Between.{Continuation, between, after, extended, named_so_far}
-use Rattle.cpp_grammar.specs.Unfolding.{cpp, opening, close, byte_of}
-use Rattle.cpp_grammar.specs.Wide.{wide_choose, wide_alternatives}
 use Rattle.cpp_grammar.proofs.ClosedTrees.{at_number, its_symbols}
 use Rattle.cpp_direct.proofs.Tables.{takes-by, empty-by, names-by, arguments-by, tails-by, item-by}
 use Rattle.cpp_direct.specs.Symbol.{Symbol, table_by}
 use Rattle.cpp_direct.specs.Holes.{cpp_language, Awaits, Opened, opened, ReadsRest, StandsAt, Comes, Needs, ExpectsSym, Expects, IsNameAt, IsNumberAt}
 use Rattle.std.proofs.lemmas.Bool.{false≢true, and_parts, not-true}
 use Rattle.sym_core.specs.Token.{Token, bytes_of, IsNumberToken}
-use Rattle.sym_core.specs.declared.NumberKind.{NumberKind}
-use Rattle.cpp_grammar.specs.Term.{Term, alone}
 use Rattle.cpp_direct.proofs.LettersTested.{is_small, small, takes, taken}
 use Rattle.cpp_direct.proofs.Tables as tables
 use Rattle.sym_direct.specs.Holes as direct

@@ -6,26 +6,13 @@ use Rattle.std.proofs.Math.Nat.{zero-add}
 use Rattle.std.proofs.Math.Seq.{take-append_seam}
 use Rattle.std.proofs.lemmas.Bool.Decides.{nat_tests}
 use Rattle.std.proofs.lemmas.List.{take_all}
-use Rattle.sym_shape.specs.declared.rule.Sym.{Sym}
+use Rattle.cpp_direct.specs.AllTerms.{adjusting, alone, alternatives, among, any_value, applied, between, by_table, byte_of, choose, clone, close, explicit_object, extended, first_around, first_state, first_tree, in_name, in_ranges, in_std, is_chain, is_in, Kind, lvalue_only, may_be_empty, meaning, named_so_far, non_virtual, number_of_kind, opening, operator, parts_of, pick, Production, RefQualifier, rule_of, rvalue_only, source, standing, StandsFor, Sym, SYMBOL, symbol, Term, thunk, unfold_cpp}
 use Rattle.sym_shape.specs.declared.rule.Sym.TheVariants.{Kind as OfKind}
-use Rattle.sym_link.specs.Unfold.{standing}
-use Rattle.sym_demangle.specs.Mangled.{StandsFor}
-use Rattle.cpp_grammar.specs.declared.kind.Kind.{Kind}
-use Rattle.cpp_grammar.specs.declared.production.Production.{Production}
-use Rattle.cpp_grammar.specs.KindNumbers.{SYMBOL}
-use Rattle.cpp_grammar.specs.Grammar.{in_ranges, among, is_in, pick, alternatives, number_of_kind, choose, may_be_empty, parts_of, is_chain}
-use Rattle.cpp_grammar.specs.Table.{rule_of}
-use Rattle.cpp_grammar.specs.Term.{RefQualifier, any_value, lvalue_only, rvalue_only, explicit_object, non_virtual, by_table, adjusting, Term, symbol, thunk, clone, alone, in_std, operator, source}
 use Rattle.cpp_grammar.specs.Values.{State, outermost, Around, Value, nothing_there, letter, piece, text, tree, tree_of, text_of, qualifiers_of, ref_of, signed_of, signed_digits, is_there, mark_of, letter_of, part, piece_of}
-use Rattle.cpp_grammar.specs.Between.{in_name, applied, named_so_far, between, extended}
-use Rattle.cpp_grammar.specs.Unfolding.{first_around, first_state, first_tree, unfold_cpp, byte_of, close, opening}
-use Rattle.cpp_grammar.specs.Meaning.{meaning}
 use Rattle.cpp_grammar.specs.Unfolding as unfolding_
-use Rattle.cpp_direct.specs.Symbol.{Symbol, mangled_of}
+use Rattle.cpp_direct.specs.AllStates.{is_special_letter, is_suffix_byte, mangled_of, special_letters, Symbol}
 use Rattle.cpp_direct.specs.AllHoles.{BaseOpened, Comes, EncodingOpened, Expects, GuardOpened, IsNameAt, IsOffsetAt, IsSuffix, Named, NestOpened, Opened, SpecialOpened, StandsAt, SymbolOpened, const_letter, cpp_language, nest_marks, opened}
 use Rattle.sym_direct.specs.Holes as direct
-use Rattle.cpp_direct.specs.ItemBytes.{is_special_letter, is_suffix_byte}
-use Rattle.cpp_direct.specs.Letters.{special_letters}
 use Rattle.cpp_direct.proofs.Moves.{awaited, Hole, Filled, hole, open_at, fill, filled-at, hole-at, chosen-byte, eats, eats-widely, leaves, is_eaten, is_eaten_widely, byte-opens, chain-opens, byte-fills, next-part, closes, none-fills, fixed-fills, name-fills, first-named, is_left, stands-split}
 use Rattle.cpp_direct.proofs.LettersTested.{each_passes, tested, IsOperator}
 use Rattle.cpp_direct.proofs.MovesOfNests.{named-by, named-outside, operator-fills}

@@ -2,24 +2,11 @@
 -- elements, also after a member of an instance of a template.
 use Rattle.std.proofs.Common.{◌≡◌, ℕ, ◌+◌, ◌⊎◌, inl, inr, length, List, [], ◌∷◌, Bool, true, false, nat_eq, Ok, refl, ap, subst, arith}
 use Rattle.sym_shape.specs.declared.rule.Sym.TheVariants.{Kind as OfKind}
-use Rattle.sym_link.specs.Unfold.{standing}
-use Rattle.cpp_grammar.specs.declared.kind.Kind.{Kind}
-use Rattle.cpp_grammar.specs.declared.production.Production.{Production}
-use Rattle.cpp_grammar.specs.declared.production.Operation.{Operation}
-use Rattle.cpp_grammar.specs.Grammar.{number_of_kind, parts_of, may_be_empty}
-use Rattle.cpp_grammar.specs.Table.{rule_of}
-use Rattle.cpp_grammar.specs.Term.{Term, builtin, integer, boolean, pack, list}
+use Rattle.cpp_direct.specs.AllTerms.{after, appended, applied, between, boolean, builtin, byte_of, close, Continuation, enclosed_argument, ends_arguments, extended, inside, integer, is_code, Kind, list, may_be_empty, meaning, no_items, number_of_kind, Operation, operation_by, operation_or_address, pack, parts_of, Production, rule_of, standing, Term, with_prefix, with_type}
 use Rattle.cpp_grammar.specs.Values.{State, Around, signed, tree, tree_of, is_listed, signed_of, signed_digits, prefix_tree, prefix_listed, part, Value, is_there, letter_of, piece_of, text_of, text, outermost}
-use Rattle.cpp_grammar.specs.References.{appended, with_type, with_prefix}
-use Rattle.cpp_grammar.specs.Between.{Continuation, between, after, inside, no_items, extended, applied}
-use Rattle.cpp_grammar.specs.Meaning.{meaning}
-use Rattle.cpp_grammar.specs.Standing.{ends_arguments, enclosed_argument, is_code, operation_by, operation_or_address}
 use Rattle.cpp_grammar.specs.Unfolding as unfolding_
-use Rattle.cpp_grammar.specs.Unfolding.{close, byte_of}
-use Rattle.cpp_direct.specs.Symbol.{Symbol}
+use Rattle.cpp_direct.specs.AllStates.{integer_letters, is_integer_letter, Symbol}
 use Rattle.cpp_direct.specs.AllHoles.{AddressOpened, ArgumentsOpened, AwaitsElement, AwaitsElementAs, Comes, EnumeratorOpened, Expects, IsArgumentKind, IsDigitsAt, IsListKind, ListGoesOn, LiteralOpened, Opened, PackOpened, StandsAt, minus_sign, opened, unless_listed, with_candidate, IsNameAt, LevelOpened, template_named}
-use Rattle.cpp_direct.specs.ItemBytes.{is_integer_letter}
-use Rattle.cpp_direct.specs.Letters.{integer_letters}
 use Rattle.cpp_direct.proofs.LettersTested.{each_passes, tested}
 use Rattle.cpp_direct.proofs.Tables.{lists-by}
 use Rattle.cpp_direct.proofs.Moves.{any-argument, awaited, comes-alike, fewer, hole-of, Hole, Filled, hole, open_at, fill, eats, leaves, is_eaten, byte-opens, chain-opens, byte-fills, next-part, closes, fixed-fills, is_left, stands-split, digits-fill, filled-at, hole-at, came, eats-widely, is_eaten_widely, name-fills, none-fills}

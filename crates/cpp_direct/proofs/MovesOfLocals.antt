@@ -2,28 +2,15 @@
 use Rattle.std.proofs.Common.{◌≡◌, ℕ, ◌+◌, ◌-◌, ◌<◌, ◌≤◌, Ok, List, [], ◌∷◌, ◌++◌, length, Bool, true, false, cond, Option, None, Some, refl, ap, sym, subst, arith, append-nil}
 use Rattle.std.proofs.lemmas.Bool.{le-leb}
 use Rattle.sym_core.specs.declared.NumberKind.TheVariants.{Decimal}
-use Rattle.sym_core.specs.Number.{AreDigitsOf}
+use Rattle.cpp_direct.specs.AllTerms.{after, alternatives, among, applied, AreDigitsOf, between, builtin, byte_of, choose, close, cpp, empty, extended, fixed, in_ranges, in_signature, is_chain, is_in, is_nil, is_void, Kind, lambda, last_token, listed_value, may_be_empty, meaning, named_so_far, nil, no_items, number_of_kind, number_tested, opening, padded, parameters, parts_of, pick, Production, rule_of, source, standing, Term, token, with_type, within}
 use Rattle.sym_core.specs.Token.{Token}
-use Rattle.sym_shape.specs.Tree.{empty, fixed, token}
 use Rattle.sym_shape.specs.declared.rule.Sym.TheVariants.{Kind as OfKind, Number, Byte}
-use Rattle.sym_link.specs.Unfold.{standing}
-use Rattle.cpp_grammar.specs.declared.kind.Kind.{Kind}
-use Rattle.cpp_grammar.specs.declared.production.Production.{Production}
-use Rattle.cpp_grammar.specs.Grammar.{in_ranges, among, is_in, pick, number_of_kind, alternatives, choose, parts_of, is_chain, may_be_empty}
-use Rattle.cpp_grammar.specs.Table.{rule_of, padded}
-use Rattle.cpp_grammar.specs.Term.{Term, source, within, lambda, builtin, nil}
 use Rattle.cpp_grammar.specs.Values.{State, Around, outermost, nothing_there, text, tree, piece, tree_of, text_of, is_listed, qualifiers_of, ref_of, local_number, part, is_there, letter_of, piece_of}
-use Rattle.cpp_grammar.specs.References.{with_type}
-use Rattle.cpp_grammar.specs.Between.{between, no_items, after, in_signature, extended, applied, named_so_far}
-use Rattle.cpp_grammar.specs.Meaning.{meaning, parameters, is_void, is_nil, listed_value}
 use Rattle.cpp_grammar.specs.Unfolding as unfolding_
-use Rattle.cpp_grammar.specs.Unfolding.{cpp, opening, close, byte_of, last_token, number_tested}
-use Rattle.cpp_direct.specs.Symbol.{Symbol}
+use Rattle.cpp_direct.specs.AllStates.{HasScope, ItemsGoOn, nowhere, short_numbers, Symbol}
 use Rattle.cpp_direct.specs.AllHoles.{Comes, Discriminator, Expects, IsDiscriminatorAt, IsLambdaDigit, IsNameAt, IsNamedKind, IsPieceAt, LocalOpened, LocalTypeOpened, Opened, StandsAt, by_digit, by_digits, cpp_language, discriminator_value, lambda_digits, lambda_ending, lambda_with, opened, unnumbered}
 use Rattle.sym_direct.specs.Holes as direct
 use Rattle.sym_direct.proofs.Moves as moves
-use Rattle.cpp_direct.specs.Bytes.{short_numbers}
-use Rattle.cpp_direct.specs.WriterInvariant.{HasScope, ItemsGoOn, nowhere}
 use Rattle.cpp_direct.proofs.Kept.{none-known}
 use Rattle.cpp_direct.proofs.ShortNumbers.{lambda-begins, tested}
 use Rattle.cpp_direct.proofs.MovesOfTypes.{named-taken}

@@ -2,28 +2,16 @@
 use Rattle.std.proofs.Common.{◌≡◌, ℕ, ◌+◌, List, [], ◌∷◌, Ok, Some, true, false, refl, subst, arith, inl, inr, Bool, sym}
 use Rattle.std.specs.Prelude.{slice_get}
 use Rattle.sym_core.specs.declared.NumberKind.TheVariants.{Seq36}
-use Rattle.sym_core.specs.Value.{counted_value}
+use Rattle.cpp_direct.specs.AllTerms.{abbreviation, after, alone, appended, applied, between, byte_of, choose, close, constructor, counted_value, destructor, extended, found, in_std, inside, instance, is_chain, Kind, listed_so_far, meaning, named_so_far, no_items, number_of_kind, opening, operator, parts_of, Production, rule_of, source, standing, substituted, Term, with_prefix, with_tag, within}
 use Rattle.sym_shape.specs.declared.rule.Sym.TheVariants.{Kind as OfKind, Byte}
-use Rattle.sym_link.specs.Unfold.{found, standing}
-use Rattle.cpp_grammar.specs.declared.kind.Kind.{Kind}
-use Rattle.cpp_grammar.specs.declared.production.Production.{Production}
-use Rattle.cpp_grammar.specs.Grammar.{number_of_kind, parts_of, choose, is_chain}
-use Rattle.cpp_grammar.specs.Table.{rule_of}
-use Rattle.cpp_grammar.specs.Term.{Term, alone, in_std, abbreviation, source, within, instance, operator, constructor, destructor}
-use Rattle.cpp_grammar.specs.References.{substituted, appended, with_prefix}
 use Rattle.cpp_grammar.specs.Values.{Candidate, State, outermost, Around, Value, nothing_there, tree, piece, is_there, letter_of, part, piece_of, text_of, tree_of, prefix_tree, prefix_listed}
-use Rattle.cpp_grammar.specs.Between.{after, applied, named_so_far, listed_so_far, between, extended, inside, no_items, with_tag}
-use Rattle.cpp_grammar.specs.Unfolding.{byte_of, close, opening}
-use Rattle.cpp_grammar.specs.Meaning.{meaning}
 use Rattle.cpp_grammar.specs.Unfolding as unfolding_
-use Rattle.cpp_direct.specs.Symbol.{Symbol}
-use Rattle.cpp_direct.specs.Bytes.{is_abbreviated}
+use Rattle.cpp_direct.specs.AllStates.{is_abbreviated, IsConstructorDigit, IsDestructorDigit, Symbol}
 use Rattle.cpp_direct.specs.AllHoles.{AwaitsArguments, AwaitsComponent, AwaitsInstance, Comes, Expects, IsFirstRest, IsNameAt, IsRest, IsSeqAt, IsTagAt, Named, NestGoesOn, NestNamed, Opened, SamePasses, StandsAt, bare_name, opened, unless_listed, with_candidate}
 use Rattle.cpp_direct.proofs.Tables.{lists-by, rests-by}
 use Rattle.cpp_direct.proofs.Moves.{awaited, fewer, hole-of, stands-split, Hole, Filled, hole, open_at, fill, filled-at, eats, leaves, byte-opens, chain-opens, next-part, closes, name-fills, first-named, is_eaten, is_left, Taken, eats-widely, chosen-byte, byte-fills, fixed-fills, is_eaten_widely}
 use Rattle.cpp_direct.proofs.MovesOfTypes.{abbreviation-fills, substitution-fills}
 use Rattle.std.proofs.lemmas.Bool.{le-leb, lt-ltb}
-use Rattle.cpp_direct.specs.Names.{IsConstructorDigit, IsDestructorDigit}
 use Rattle.cpp_direct.proofs.LettersTested.{IsOperator}
 
 -- ## Pieces

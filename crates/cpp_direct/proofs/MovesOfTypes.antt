@@ -2,32 +2,17 @@
 use Rattle.std.proofs.lemmas.Bool.{eq-eqb}
 use Rattle.std.proofs.Math.Bool.{and-false, and-true}
 use Rattle.std.proofs.Common.{◌≡◌, ℕ, ◌+◌, ◌-◌, List, [], ◌∷◌, slice_get, Bool, true, false, ◌&&◌, ◌||◌, not, nat_eq, Option, Some, None, Result, Ok, Err, refl, ap, subst, ◌∙◌, arith, length}
-use Rattle.sym_core.specs.declared.refusal.Refusal.{Refusal}
+use Rattle.cpp_direct.specs.AllTerms.{abbreviation, after, alone, any_value, appended, applied, array, between, builtin, byte_of, close, Continuation, counted_value, extended, Found, found, in_std, instance, is_function_type, is_module, is_open, Kind, list, listed_value, may_be_empty, meaning, named_so_far, nil, number_of_kind, pack_length, packs_in, parts_of, pointer, Production, reference_to, Refusal, rule_of, signature_or, source, standing, substituted, Term, with_item, with_packs, with_type, with_unqualified, ◌>>=◌}
 use Rattle.sym_core.specs.declared.refusal.Refusal.TheVariants.{BadReference}
 use Rattle.sym_core.specs.declared.NumberKind.TheVariants.{Seq36}
-use Rattle.sym_core.specs.Value.{counted_value}
 use Rattle.sym_shape.specs.declared.rule.Sym.TheVariants.{Kind as OfKind}
-use Rattle.sym_link.specs.Reading.{Found, ◌>>=◌}
-use Rattle.sym_link.specs.Unfold.{found, standing}
-use Rattle.cpp_grammar.specs.declared.kind.Kind.{Kind}
-use Rattle.cpp_grammar.specs.declared.production.Production.{Production}
-use Rattle.cpp_grammar.specs.Grammar.{number_of_kind, may_be_empty, parts_of}
-use Rattle.cpp_grammar.specs.Term.{Term, alone, in_std, abbreviation, source, builtin, pointer, instance, array, any_value, list, nil}
-use Rattle.cpp_grammar.specs.Scope.{is_open, pack_length}
 use Rattle.cpp_grammar.specs.Values.{Candidate, State, outermost, Around, Value, nothing_there, text, tree, tree_of, text_of, is_listed, part, is_there, letter_of, piece_of, ref_of, signature}
-use Rattle.cpp_grammar.specs.References.{appended, is_function_type, is_module, with_type, with_unqualified, with_packs, packs_in, substituted}
-use Rattle.cpp_grammar.specs.Between.{after, applied, named_so_far, between, extended, Continuation}
-use Rattle.cpp_grammar.specs.Meaning.{meaning, listed_value, reference_to, with_item, signature_or}
-use Rattle.cpp_grammar.specs.Unfolding.{close, byte_of}
-use Rattle.cpp_direct.specs.Symbol.{Symbol}
-use Rattle.cpp_direct.specs.Bytes.{is_builtin, is_builtin_with_d, is_abbreviated}
-use Rattle.cpp_direct.specs.Letters.{builtin_letters, builtin_letters_with_d, abbreviation_letters}
+use Rattle.cpp_direct.specs.AllStates.{abbreviation_letters, builtin_letters, builtin_letters_with_d, is_abbreviated, is_builtin, is_builtin_with_d, Symbol}
 use Rattle.cpp_direct.proofs.Moves.{alone-arguments, awaited, comes-alike, hole-of, stands-split, Hole, Filled, hole, open_at, fill, filled-at, eats, leaves, is_eaten, is_left, byte-opens, chain-opens, byte-fills, next-part, closes, none-fills, name-fills, first-named, came, digits-fill}
 use Rattle.cpp_direct.proofs.LettersTested.{each_passes, tested}
 use Rattle.cpp_direct.specs.Holes.{Awaits}
 use Rattle.cpp_direct.specs.AllHoles.{ArrayOpened, Comes, Expects, FunctionOpened, IsNameAt, IsNamedKind, IsQualifiable, IsReferable, IsSeqAt, IsSizeAt, IsTyped, NameOpens, Opened, ParameterOpened, ReferenceOpened, SignatureGoesOn, StandsAt, TreeOpens, TreePasses, TypeNamed, TypeOpens, access_letters, as_const, opened, plain_function, reference, reference_letter, unless_listed, with_candidate}
 use Rattle.cpp_direct.specs.declared.open.Access.{Access}
-use Rattle.cpp_grammar.specs.Table.{rule_of}
 use Rattle.cpp_grammar.specs.Unfolding as unfolding_
 use Rattle.cpp_grammar.specs.Values as values
 use Rattle.cpp_direct.specs.declared.open.Access.TheVariants as accesses

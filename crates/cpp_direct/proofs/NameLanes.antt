@@ -5,8 +5,7 @@ use Rattle.std.proofs.lemmas.Simd.{map-map, mask_l-mod, length-chunk, get_or-chu
 use Rattle.std.proofs.lemmas.List.{length-map}
 use Rattle.std.proofs.lemmas.List.Sums.{prefix_len_passes}
 use Rattle.sym_core.specs.declared.NameClass.TheVariants.{Cpp}
-use Rattle.sym_core.specs.Scan.{ReachesNameBytes}
-use Rattle.sym_core.specs.Token.{is_name_byte}
+use Rattle.cpp_direct.specs.AllTerms.{is_name_byte, ReachesNameBytes}
 use lib.Lanes.{chunk, mask_l, top}
 
 module _ (q : ℕ → Bool) (d : List ℕ) (i : ℕ) (z : List ℕ) (f : ℕ → ℕ) (room : i + 16 ≤ length d)

@@ -5,25 +5,18 @@ use Rattle.std.proofs.lemmas.Bool.{and_parts, le-leb, ltb-false, ltb-true}
 use Rattle.std.proofs.lemmas.Bool.Decides.{nat_tests}
 use Rattle.std.proofs.Math.Seq.{drop-append_seam}
 use Rattle.sym_core.specs.declared.NameClass.TheVariants.{Cpp}
-use Rattle.sym_core.specs.Number.{is_decimal_digit}
-use Rattle.sym_core.specs.Scan.{ReachesNameBytes}
-use Rattle.sym_core.specs.declared.tokens.TokenPlace.{TokenPlace}
+use Rattle.cpp_direct.specs.AllTerms.{is_decimal_digit, NumberKind, ReachesNameBytes, signed_digits, source_text, TokenPlace}
 use Rattle.sym_core.specs.Token.{AreNameBytes, IsSeparator, IsName, HasToken, is_name_byte, Token, IsNumberToken, FindsToken}
-use Rattle.cpp_grammar.specs.Parts.{source_text}
 use Rattle.cpp_direct.specs.declared.direct.Direct.{Direct}
 use Rattle.cpp_direct.specs.declared.names.NamePlace.{NamePlace}
 use Rattle.sym_direct.proofs.Moves.{stands-join}
 use Rattle.cpp_direct.proofs.Kept.{piece-found}
 use Rattle.cpp_direct.specs.AllHoles.{IsDigitsAt, IsNameAt, IsNumberAt, IsTagAt, StandsAt}
-use Rattle.cpp_direct.specs.Names.{IsLengthRead, IsNamePlace, tag_text}
-use Rattle.cpp_direct.specs.Written.{Writes, Reads}
+use Rattle.cpp_direct.specs.AllStates.{IsLengthRead, IsNamePlace, number_text, Reads, tag_text, Writes}
 use Rattle.std.proofs.lemmas.Option.{slice_get_read}
 use Rattle.std.specs.Option.{OnSome}
 use Rattle.std.specs.Result.{result_ok}
-use Rattle.sym_core.specs.declared.NumberKind.{NumberKind}
 use Rattle.sym_core.specs.declared.NumberKind.TheVariants.{Digits}
-use Rattle.cpp_grammar.specs.Values.{signed_digits}
-use Rattle.cpp_direct.specs.MidStep.{number_text}
 
 -- ## Tokens
 

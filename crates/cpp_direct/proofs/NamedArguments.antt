@@ -1,18 +1,9 @@
 -- The arguments of the symbol's own name, which its types may name from there on, and their texts.
-use Rattle.sym_print.specs.declared.detail.Detail.{Detail}
+use Rattle.cpp_direct.specs.AllTerms.{arguments_of, Around, Detail, element, found, length_if_pack, State, substituted, Term, tree, types_of}
 use Rattle.std.proofs.Common.{◌≡◌, ◌≢◌, ℕ, ◌-◌, List, take, drop, reverse, Bool, Ok, true, false, Option, Some, None, is_some, nat_lt, not, ◌&&◌, ◌||◌, ◌<◌, refl, ap, sym, ◌∙◌, subst}
 use Rattle.std.proofs.lemmas.Bool.{false≢true, and_parts, lt-ltb, ltb-true}
-use Rattle.cpp_grammar.specs.Parts.{types_of}
-use Rattle.sym_link.specs.Unfold.{found}
-use Rattle.cpp_grammar.specs.References.{substituted}
-use Rattle.cpp_grammar.specs.Scope.{arguments_of, element, length_if_pack}
-use Rattle.cpp_grammar.specs.Term.{Term}
 use Rattle.cpp_grammar.specs.Values as values
-use Rattle.cpp_grammar.specs.Values.{Around, State, tree}
-use Rattle.cpp_direct.specs.WriterTypes.{Argument, Arguments, Candidate, Direct, Mark, Open, Symbol, detail_of}
-use Rattle.cpp_direct.specs.Prints.{AreSingle, IsGiven, Named, Names, Prints, PrintsAs, PrintsGiven}
-use Rattle.cpp_direct.specs.WriterInvariant.{AreCandidates, AreNamed, HasArguments, IsCandidate, IsMadeIn, IsNaming, IsPlaced, HasSingles, IsScoped, IsSingle, Keeps, Scope, argument_of, encoding_place, no_scope, place_of, Kept}
-use Rattle.cpp_direct.specs.MidStep.{IsNameEnded, IsNameScoped}
+use Rattle.cpp_direct.specs.AllStates.{AreCandidates, AreNamed, AreSingle, Argument, argument_of, Arguments, Candidate, detail_of, Direct, encoding_place, HasArguments, HasSingles, IsCandidate, IsGiven, IsMadeIn, IsNameEnded, IsNameScoped, IsNaming, IsPlaced, IsScoped, IsSingle, Keeps, Kept, Mark, Named, Names, no_scope, Open, place_of, Prints, PrintsAs, PrintsGiven, Scope, Symbol}
 use Rattle.cpp_direct.proofs.Kept.{candidates-as, encoded-here, piece-found}
 use Rattle.cpp_direct.proofs.MovesOfTypes.{no-pack-named, substituted-open}
 use Rattle.cpp_direct.proofs.PrintedTypes.{types-given, no-module}

@@ -1,18 +1,10 @@
 -- A component of a nested name is written: the state of the writer then.
 use Rattle.std.proofs.Common.{◌≡◌, ◌≢◌, ℕ, ◌+◌, ◌-◌, inl, inr, length, List, [], ◌∷◌, ◌++◌, take, drop, reverse, Bool, true, false, refl, ap, sym, ◌∙◌, subst, arith, codes, append_assoc, append-nil}
 use Rattle.std.proofs.lemmas.Bool.{false≢true}
-use Rattle.cpp_grammar.specs.Term.{Term, within, instance, source, operator, constructor, destructor}
-use Rattle.cpp_grammar.specs.Parts.{opening_text, source_text}
-use Rattle.cpp_grammar.specs.Scope.{arguments_of, has_return_type, is_structor}
-use Rattle.cpp_grammar.specs.Values.{State, Around}
-use Rattle.cpp_direct.specs.WriterTypes.{Direct, Nest, Open, Purpose, Symbol, detail_of}
+use Rattle.cpp_direct.specs.AllTerms.{arguments_of, Around, constructor, destructor, has_return_type, instance, is_structor, opening_text, operator, source, source_text, State, Term, within}
+use Rattle.cpp_direct.specs.AllStates.{AwaitsClass, below, detail_of, Direct, is_angle, IsConstructorDigit, IsDestructorDigit, IsNestNamed, IsNestSoFar, IsOperatorAt, IsOperatorRead, IsOwn, IsWriting, Kept, Nest, Open, operator_text, Prints, PrintsAs, Purpose, Reads, Scope, Serves, Symbol, Writes}
 use Rattle.cpp_direct.specs.declared.open.Step.TheVariants as steps
 use Rattle.cpp_direct.specs.Holes.{Opened, StandsAt, IsNameAt, Named, NestNamed, AwaitsComponent}
-use Rattle.cpp_direct.specs.Names.{IsConstructorDigit, IsDestructorDigit, IsOperatorAt, is_angle, operator_text}
-use Rattle.cpp_direct.specs.Prints.{Prints, PrintsAs}
-use Rattle.cpp_direct.specs.WriterInvariant.{IsOwn, IsWriting, Scope, Serves, below, Kept, IsNestSoFar}
-use Rattle.cpp_direct.specs.MidStep.{AwaitsClass, IsNestNamed, IsOperatorRead}
-use Rattle.cpp_direct.specs.Written.{Writes, Reads}
 use Rattle.cpp_direct.proofs.Unmarked.{name-unmarked}
 use Rattle.cpp_direct.proofs.Kept.{kept-grown, piece-found, placed-last, placed-moved}
 use Rattle.cpp_direct.proofs.Nesting.{closed-prints, nest-scoped, nest-further}

@@ -1,36 +1,17 @@
 -- Nested names are read and written from left to right.
-use Rattle.sym_print.specs.declared.detail.Detail.{Detail}
+use Rattle.cpp_direct.specs.AllTerms.{abbreviation, abbreviation_texts, after, alone, arguments_of, Around, counted_value, Detail, found, has_return_type, in_std, inside, instance, is_function_type, is_structor, Kind, look_up, may_be_empty, named, no_items, same_bytes, source, source_text, State, substituted, Term, tree, with_tag}
 use Rattle.cpp_direct.proofs.Unmarked.{name-unmarked}
 use Rattle.cpp_direct.proofs.Scopes.{no-arguments, scoped-inside, has-member}
 use Rattle.std.proofs.Common.{◌≡◌, ◌≢◌, ℕ, ◌+◌, ◌-◌, ◌≤◌, List, [], ◌∷◌, ◌++◌, length, take, drop, reverse, slice_get, Bool, true, false, Some, refl, ap, sym, ◌∙◌, subst, arith, codes, append-nil, append_assoc, length-append, nat_eq, ◌&&◌, Ok}
 use Rattle.std.proofs.lemmas.Bool.{false≢true, eqb-true}
 use Rattle.std.proofs.lemmas.List.{take-append-drop}
 use Rattle.sym_core.specs.declared.NumberKind.TheVariants.{Seq36}
-use Rattle.sym_core.specs.Value.{counted_value}
-use Rattle.cpp_grammar.specs.declared.kind.Kind.{Kind}
-use Rattle.cpp_grammar.specs.Grammar.{may_be_empty}
-use Rattle.cpp_grammar.specs.Term.{Term, alone, in_std, source, abbreviation, instance}
-use Rattle.cpp_grammar.specs.Texts.{look_up, abbreviation_texts, same_bytes}
-use Rattle.cpp_grammar.specs.Parts.{source_text}
-use Rattle.sym_link.specs.Unfold.{found}
 use Rattle.cpp_grammar.specs.Values as values
-use Rattle.cpp_grammar.specs.References.{is_function_type, substituted}
-use Rattle.cpp_grammar.specs.Scope.{has_return_type, arguments_of, is_structor}
-use Rattle.cpp_grammar.specs.Values.{State, Around, tree, named}
-use Rattle.cpp_grammar.specs.Between.{with_tag, after, inside, no_items}
 use Rattle.cpp_direct.specs.declared.open.Purpose.TheVariants as purposes
-use Rattle.cpp_direct.specs.WriterTypes.{Arguments, Candidate, Direct, Mark, Nest, Open, Purpose, Symbol, detail_of}
+use Rattle.cpp_direct.specs.AllStates.{abbreviation_letters, added, added_unless, argument_of, Arguments, AwaitsNest, below, Candidate, detail_of, Direct, HasArguments, HasSingles, is_abbreviated, is_type, is_unmarked, IsMadeIn, IsNameEnded, IsNaming, IsNest, IsNesting, IsNestKnown, IsNestNamed, IsNestScoped, IsNestSoFar, IsOperatorRead, IsOwn, IsScoped, IsUnmarked, IsWriting, Kept, Lists, Mark, Names, NamesClass, Nest, nowhere, Open, opening_bracket, OpensArguments, Prints, PrintsAs, Purpose, Reads, Scope, Serves, Symbol, tag_text}
 use Rattle.cpp_direct.specs.declared.open.Open.TheVariants as opens
 use Rattle.cpp_direct.specs.declared.open.Step.TheVariants as steps
 use Rattle.cpp_direct.specs.AllHoles.{AwaitsComponent, Comes, IsFirstRest, IsNameAt, IsRest, IsSeqAt, IsTagAt, NestGoesOn, Opened, SamePasses, StandsAt, unless_listed, with_candidate}
-use Rattle.cpp_direct.specs.Bytes.{is_abbreviated}
-use Rattle.cpp_direct.specs.Letters.{abbreviation_letters}
-use Rattle.cpp_direct.specs.Names.{tag_text}
-use Rattle.cpp_direct.specs.Prints.{Names, Prints, PrintsAs, NamesClass, opening_bracket}
-use Rattle.cpp_direct.specs.WrittenParts.{IsUnmarked, is_unmarked}
-use Rattle.cpp_direct.specs.WriterInvariant.{HasArguments, IsMadeIn, IsNaming, IsNest, IsNestScoped, IsNesting, IsOwn, IsScoped, Scope, Serves, IsWriting, below, is_type, nowhere, HasSingles, argument_of, Kept, IsNestSoFar}
-use Rattle.cpp_direct.specs.MidStep.{AwaitsNest, IsNestKnown, IsNestNamed, IsNameEnded, IsOperatorRead}
-use Rattle.cpp_direct.specs.Written.{Reads, added, added_unless, Lists, OpensArguments}
 use Rattle.cpp_direct.proofs.LettersTested.{each_passes, tested}
 use Rattle.cpp_direct.proofs.Moves.{alone-arguments, any-tail, expects-empty, stands-join, comes-moved}
 use Rattle.cpp_direct.proofs.Kept.{kept-grown, kept-read, kept-same, made-here, candidate-found, piece-found, nest-stays, value-comes, list-begins, type-named, kept-unless, kept-with, placed-last, placed-moved}

@@ -1,15 +1,10 @@
 -- What a parameter prints that expands a pack: what its pattern makes of each type of the pack.
-use Rattle.sym_print.specs.declared.detail.Detail.{Detail}
+use Rattle.cpp_direct.specs.AllTerms.{argument, arguments_of, as_item, at_index, comma_before, Context, count, Detail, element, expand, expand_parts, expand_rest, expansion, expansion_parts, indexed, is_below, is_empty, is_none_of, is_void, left, left_parts, length_if_pack, lvalue, not_empty, pack, pack_length, packs_of, parameter, parts_in, qualified, right, right_parts, rvalue, says, Term, types_of}
 use Rattle.cpp_direct.specs.declared.open.Pattern.{Pattern}
 use Rattle.cpp_direct.specs.declared.open.Pattern.TheVariants as patterns
 use Rattle.std.proofs.Math.Dec.{eqb-suc-zero}
 use Rattle.std.proofs.lemmas.Bool.{le-ltb, lt-ltb}
 use Rattle.cpp_direct.specs.Prints.{Prints, PrintsIn, PrintsMade, IsMarkedBy, written_of, IsElementIn, PrintEachBy, PrintAllBy, joined, list_of, made_by}
-use Rattle.cpp_grammar.specs.Items.{left, right, Context, argument, expand, indexed, is_empty, is_none_of, packs_of}
-use Rattle.cpp_grammar.specs.Meaning.{is_void}
-use Rattle.cpp_grammar.specs.Parts.{as_item, says, left_parts, right_parts, parts_in, not_empty, at_index, comma_before, expand_parts, expand_rest, expansion_parts, is_below, types_of}
-use Rattle.cpp_grammar.specs.Scope.{pack_length, length_if_pack, arguments_of, count, element}
-use Rattle.cpp_grammar.specs.Term.{Term, lvalue, rvalue, qualified, parameter, expansion, pack}
 use Rattle.std.proofs.Common.{◌≡◌, refl, ap, ◌∙◌, ℕ, ◌+◌, ◌*◌, ◌≤◌, List, [], ◌∷◌, ◌++◌, length, Bool, true, false, arith, codes, length-append, sym, subst, append-nil, append_assoc, ◌≢◌, slice_get, Some, zero, suc, ◌<◌}
 use Rattle.sym_print.specs.Unshared.{text_of, cost_of}
 use Rattle.cpp_direct.proofs.PrintedLists.{further, joined-further}

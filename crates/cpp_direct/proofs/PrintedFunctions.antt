@@ -1,15 +1,9 @@
 -- Function types and arrays, and pointers and references to them, as elements of lists.
-use Rattle.sym_print.specs.declared.detail.Detail.{Detail}
+use Rattle.cpp_direct.specs.AllTerms.{any_value, array, array_left, as_item, builtin, closed, closing_right, Context, Detail, first, first_of, function_right, function_type, head, head_with, is_empty, is_funarr, is_nil, is_open, is_reference, is_void, left, left_parts, list_part, lvalue, marked_parts, nil, not_empty, pack_length, parameters, parts_in, pointer, ref_text, reference_parts, right, right_parts, says, Term, text_part}
 use Rattle.std.proofs.Common.{◌≡◌, ◌≢◌, refl, ap, sym, ◌∙◌, ℕ, ◌+◌, ◌*◌, ◌≤◌, List, [], ◌∷◌, ◌++◌, length, Bool, true, false, None, arith, codes, length-append, append-nil, append_assoc, inl, subst}
 use Rattle.sym_print.specs.Unshared.{text_of, cost_of}
-use Rattle.cpp_grammar.specs.Term.{Term, any_value, pointer, function_type, builtin, nil, array, lvalue}
-use Rattle.cpp_grammar.specs.Scope.{is_open, pack_length, first_of}
-use Rattle.cpp_grammar.specs.Items.{closed, left, right, first, Context, head, head_with, is_funarr, is_empty, is_reference}
-use Rattle.cpp_grammar.specs.Meaning.{is_void, is_nil, parameters}
-use Rattle.cpp_grammar.specs.Parts.{as_item, says, text_part, list_part, left_parts, right_parts, function_right, marked_parts, closing_right, ref_text, parts_in, not_empty, array_left, reference_parts}
-use Rattle.cpp_direct.specs.Prints.{written_of, Prints, IsElement, PrintAll, list_of, IsUnmarked}
+use Rattle.cpp_direct.specs.AllStates.{IsElement, IsUnmarked, list_of, list_with, opening_text, PrintAll, Prints, written_of}
 use Rattle.cpp_direct.specs.AllHoles.{accessed, array_opening, plain_function, pointed}
-use Rattle.cpp_direct.specs.WriterInvariant.{list_with, opening_text}
 use Rattle.cpp_direct.proofs.PrintedParts.{shown_by, text_shown, cost_shown, text_append, cost_append, part-text, part-cost}
 use Rattle.cpp_direct.proofs.PrintedLists.{all-in, list-with-none, list-text, list-cost, list-closed, list-packless, none-print}
 use Rattle.cpp_direct.proofs.PrintedSymbols.{parameters-kept}

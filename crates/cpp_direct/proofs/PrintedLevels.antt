@@ -1,13 +1,7 @@
 -- What a member of an instance prints, whose names aren't looked up.
-use Rattle.sym_print.specs.declared.detail.Detail.{Detail}
+use Rattle.cpp_direct.specs.AllTerms.{alone, Context, Detail, first_of, is_function_type, is_open, left, length_if_pack, operation_of_code, operations, pack_length, right, same_bytes, source, Term}
 use Rattle.std.proofs.Common.{◌≡◌, ◌≢◌, refl, ◌∙◌, ℕ, List, [], ◌∷◌, ◌++◌, Bool, true, false, arith, codes, length-append}
 use Rattle.sym_print.specs.Unshared.{text_of}
-use Rattle.cpp_grammar.specs.Term.{Term, alone, source}
-use Rattle.cpp_grammar.specs.Scope.{is_open, pack_length, length_if_pack, first_of}
-use Rattle.cpp_grammar.specs.References.{is_function_type}
-use Rattle.cpp_grammar.specs.Texts.{same_bytes}
-use Rattle.cpp_grammar.specs.Operations.{operations, operation_of_code}
-use Rattle.cpp_grammar.specs.Items.{left, right, Context}
 use Rattle.cpp_grammar.specs.Parts.{as_item, says, source_text, prefix_item, component_parts, last_piece, opening_text, left_parts, right_parts, parts_in, not_empty, operation_parts, operand_parts, printed, text_part}
 use Rattle.cpp_direct.specs.HolesOfLevels.{member_of}
 use Rattle.cpp_direct.specs.Prints.{written_of, Prints, PrintsIn, PrintsAs, Names, IsUnmarked}

@@ -1,14 +1,8 @@
 -- Lists of trees with known texts.
-use Rattle.sym_print.specs.declared.detail.Detail.{Detail}
+use Rattle.cpp_direct.specs.AllTerms.{as_item, Context, Detail, first, first_of, first_parts, is_empty, is_open, is_void, left, left_parts, list, list_part, more, more_parts, nil, not_empty, pack, pack_length, parts_in, right, right_parts, says, Term}
 use Rattle.std.proofs.Common.{◌≡◌, ◌≢◌, inl, inr, refl, ap, sym, subst, ◌∙◌, ℕ, ◌+◌, ◌*◌, ◌≤◌, List, [], ◌∷◌, ◌++◌, length, Bool, true, false, None, arith, codes, length-append, append-nil, append_assoc}
 use Rattle.sym_print.specs.Unshared.{text_of, cost_of}
-use Rattle.cpp_grammar.specs.Term.{Term, nil, list, pack}
-use Rattle.cpp_grammar.specs.Scope.{is_open, pack_length, first_of}
-use Rattle.cpp_grammar.specs.Items.{left, right, first, more, Context, is_empty}
-use Rattle.cpp_grammar.specs.Meaning.{is_void}
-use Rattle.cpp_grammar.specs.Parts.{as_item, says, list_part, first_parts, more_parts, left_parts, right_parts, parts_in, not_empty}
-use Rattle.cpp_direct.specs.Prints.{written_of, Prints, PrintsIn, PrintsAs, Names, IsGiven, AreSingle, IsElement, IsElementGiven, IsElementAs, list_of, joined, IsElementIn, PrintEachBy, PrintAllBy, PrintEach, PrintAll, PrintAllAs, PrintEachIn, PrintAllIn}
-use Rattle.cpp_direct.specs.WriterInvariant.{IsTail, list_with, in_front_of_next}
+use Rattle.cpp_direct.specs.AllStates.{AreSingle, in_front_of_next, IsElement, IsElementAs, IsElementGiven, IsElementIn, IsGiven, IsTail, joined, list_of, list_with, Names, PrintAll, PrintAllAs, PrintAllBy, PrintAllIn, PrintEach, PrintEachBy, PrintEachIn, Prints, PrintsAs, PrintsIn, written_of}
 use Rattle.cpp_direct.proofs.PrintedParts.{shown_by, text_shown, cost_shown}
 
 -- ## What a list prints

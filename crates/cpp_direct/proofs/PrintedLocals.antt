@@ -1,15 +1,9 @@
 -- Entities and types in encodings, and guard variables.
 use Rattle.std.proofs.Common.{◌≡◌, ◌≢◌, refl, ap, sym, ◌∙◌, ℕ, List, [], ◌∷◌, ◌++◌, length, Bool, false, None, true, arith, codes, length-append, append-nil, subst, append_assoc}
-use Rattle.sym_print.specs.declared.detail.Detail.{Detail}
-use Rattle.sym_print.specs.Details.{has_parameters}
+use Rattle.cpp_direct.specs.AllTerms.{absent, address_of, any_value, as_item, bare_parts, component_parts, Detail, encoding_of, encoding_text, entity_of, first_of, full_parts, function, function_bare, function_full, has_parameters, is_open, lambda, last_piece, left_parts, list_part, nil, not_empty, object, opening_text, pack_length, parts_in, piece_parts, prefix_item, qualifier_text, Qualifiers, qualifiers_of, ref_of, ref_text, RefQualifier, right_parts, says, source, source_text, Term, tree_of, unqualified, Value, within, within_parts}
 use Rattle.sym_print.specs.Unfold.{text}
 use Rattle.sym_print.specs.Unshared.{text_of, cost_of}
-use Rattle.cpp_grammar.specs.Term.{Qualifiers, RefQualifier, any_value, Term, function, object, within, source, nil, absent, lambda, address_of}
-use Rattle.cpp_grammar.specs.Scope.{is_open, pack_length, first_of}
 use Rattle.cpp_grammar.specs.Items.{full, bare, left, piece, Context, closed, right, first}
-use Rattle.cpp_grammar.specs.Values.{Value, unqualified, tree_of, qualifiers_of, ref_of}
-use Rattle.cpp_grammar.specs.Meaning.{encoding_of}
-use Rattle.cpp_grammar.specs.Parts.{as_item, says, source_text, prefix_item, component_parts, within_parts, qualifier_text, ref_text, encoding_text, function_bare, function_full, full_parts, bare_parts, left_parts, entity_of, parts_in, not_empty, list_part, opening_text, piece_parts, right_parts, last_piece}
 use Rattle.cpp_direct.specs.Prints.{written_of, PrintsName, Shows, Encloses, Prints, PrintsPiece, PrintAll, joined_to, list_of, IsUnmarked}
 use Rattle.cpp_direct.proofs.PrintedParts.{shown_by, writes_parts, text_shown, cost_shown, first_shown, first_cost_shown, text_append, cost_append}
 use Rattle.cpp_direct.proofs.PrintedNames.{as-name, besides, own-prints}

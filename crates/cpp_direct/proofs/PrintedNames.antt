@@ -1,23 +1,14 @@
 -- Names, types and arguments that are one text: source names, abbreviations, builtin types, booleans and integers.
 use Rattle.std.proofs.Common.{◌≡◌, ◌≢◌, refl, ap, Option, None, sym, ◌∙◌, ℕ, ◌+◌, ◌*◌, ◌≤◌, List, [], ◌∷◌, ◌++◌, length, drop, Bool, true, false, arith, codes, length-append, append-nil, subst, nat_eq, ◌||◌, inl, inr, cond, append_assoc}
 use Rattle.std.proofs.lemmas.Bool.{eqb-true, false≢true}
-use Rattle.sym_print.specs.declared.detail.Detail.{Detail}
-use Rattle.sym_print.specs.Details.{has_arguments}
+use Rattle.cpp_direct.specs.AllTerms.{abbreviation, abbreviation_texts, alone, as_item, base_parts, boolean, builtin, builtin_code, builtin_texts, component_parts, Detail, has_arguments, in_std, integer, integer_parts, is_function_type, is_open, is_plain_integer, is_void, last_piece, left_parts, length_if_pack, literal_endings, look_up, normal, not_empty, opening_text, operator, operator_texts, pack_length, parts_in, piece_parts, prefix_item, right_parts, same_bytes, says, sign_part, Signed, source, source_text, Term, text_part}
 use Rattle.sym_print.specs.Unfold.{PartOf, text}
 use Rattle.sym_print.specs.Unshared.{text_of, cost_of}
-use Rattle.cpp_grammar.specs.Term.{Term, alone, in_std, abbreviation, source, operator, builtin, Signed, integer, boolean}
-use Rattle.cpp_grammar.specs.Scope.{is_open, pack_length, length_if_pack}
-use Rattle.cpp_grammar.specs.References.{is_function_type}
-use Rattle.cpp_grammar.specs.Texts.{look_up, abbreviation_texts, builtin_texts, operator_texts, same_bytes, literal_endings}
 use Rattle.cpp_grammar.specs.Items.{Item, left, right, base, piece, closed, Context, head_with, head, is_reference, is_funarr, is_empty}
-use Rattle.cpp_grammar.specs.Meaning.{is_void}
-use Rattle.cpp_grammar.specs.Parts.{as_item, says, source_text, prefix_item, component_parts, last_piece, opening_text, piece_parts, left_parts, right_parts, base_parts, parts_in, not_empty, is_plain_integer, text_part, sign_part, builtin_code, integer_parts}
-use Rattle.cpp_direct.specs.Names.{is_angle, operator_text}
-use Rattle.cpp_direct.specs.Prints.{written_of, EndsAsInteger, Prints, PrintsIn, PrintsName, NamesClass, joined_to, sign_text, IsUnmarked, unmarked_parts, written_in}
+use Rattle.cpp_direct.specs.AllStates.{EndsAsInteger, is_angle, IsUnmarked, joined_to, NamesClass, operator_text, Prints, PrintsIn, PrintsName, sign_text, unmarked_parts, written_in, written_of}
 use Rattle.cpp_direct.proofs.Unmarked.{source-unmarked, operator-unmarked, abbreviation-unmarked, builtin-unmarked, truth-unmarked, ending-unmarked, rest-unmarked}
 use Rattle.cpp_direct.proofs.PrintedParts.{text_shown, cost_shown, alone_shown, first_cost_shown, length-filled, shown_by, first_shown, text_append, cost_append, part-text, part-cost}
 use Rattle.cpp_direct.proofs.PrintedTypes.{made-prints}
-use Rattle.cpp_grammar.specs.Values.{normal}
 
 -- what a tree is besides its text at the left
 pub record Besides : Type 0 where

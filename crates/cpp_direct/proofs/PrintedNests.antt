@@ -1,24 +1,15 @@
 -- Names in other names, constructors and destructors, names with arguments, and names with tags.
-use Rattle.sym_print.specs.declared.detail.Detail.{Detail}
+use Rattle.cpp_direct.specs.AllTerms.{as_item, base_parts, base_tagged, base_within, component_parts, constructor, destructor, Detail, first_of, has_arguments, in_std, instance, instance_parts, is_function_type, is_open, is_plain_integer, is_structor, last_piece, left_parts, length_if_pack, list_part, look_up, not_empty, opening_text, operator, operator_texts, own_piece, pack_length, parts_in, piece_parts, prefix_item, right_parts, says, source, source_text, tagged, Term, with_tag, within, within_parts, without_tags}
 use Rattle.std.proofs.Common.{◌≡◌, ◌≢◌, refl, ap, sym, ◌∙◌, ℕ, ◌+◌, ◌*◌, ◌≤◌, List, [], ◌∷◌, ◌++◌, length, Bool, true, false, None, arith, codes, length-append, append-nil, append_assoc}
-use Rattle.sym_print.specs.Details.{has_arguments}
 use Rattle.sym_print.specs.Unfold.{text}
 use Rattle.sym_print.specs.Unshared.{text_of, cost_of}
-use Rattle.cpp_grammar.specs.Term.{Term, within, instance, source, operator, constructor, destructor, in_std, tagged}
-use Rattle.cpp_grammar.specs.Scope.{is_open, pack_length, length_if_pack, first_of, is_structor, without_tags}
-use Rattle.cpp_grammar.specs.References.{is_function_type}
-use Rattle.cpp_grammar.specs.Texts.{look_up, operator_texts}
 use Rattle.cpp_grammar.specs.Items.{Form, left, right, base, piece, first, Context}
-use Rattle.cpp_grammar.specs.Parts.{as_item, says, list_part, source_text, prefix_item, component_parts, last_piece, opening_text, own_piece, piece_parts, within_parts, base_within, base_tagged, instance_parts, left_parts, right_parts, base_parts, parts_in, not_empty, is_plain_integer}
-use Rattle.cpp_direct.specs.Names.{is_angle, operator_text, tag_text}
-use Rattle.cpp_direct.specs.Prints.{written_of, Prints, PrintsIn, PrintsAs, Names, PrintsName, NamesClass, PrintAll, PrintAllIn, PrintAllAs, IsUnmarked, joined_to, opening_byte, closing_byte, opening_bracket, closing_bracket, written_instance}
-use Rattle.cpp_direct.specs.WriterInvariant.{IsTail, list_with}
+use Rattle.cpp_direct.specs.AllStates.{closing_bracket, closing_byte, is_angle, IsTail, IsUnmarked, joined_to, list_with, Names, NamesClass, opening_bracket, opening_byte, operator_text, PrintAll, PrintAllAs, PrintAllIn, Prints, PrintsAs, PrintsIn, PrintsName, tag_text, written_instance, written_of}
 use Rattle.cpp_direct.proofs.PrintedParts.{printed_by, shown_by, text_shown, cost_shown, first_cost_shown, writes_parts, text-append, cost-append, list-unmarked, first_shown}
 use Rattle.cpp_direct.proofs.Unmarked.{source-unmarked, operator-unmarked}
 use Rattle.cpp_direct.proofs.PrintedNames.{besides, own-in, own-prints, source-filled, piece-text, piece-cost, operator-text, operator-cost, std-prints, as-name, base-names}
 use Rattle.cpp_direct.proofs.PrintedLists.{list-text-before, list-cost-before, list-closed, list-packless, list-packless-as, all-in, all-as-in}
 use Rattle.cpp_direct.proofs.PrintedTypes.{prints-in, made-prints, made-given}
-use Rattle.cpp_grammar.specs.Between.{with_tag}
 
 -- a text, a mark and a text
 pub joins : (x m y b n : List ℕ) → x ≡ b → y ≡ n → x ++ (m ++ (y ++ [])) ≡ b ++ m ++ n

@@ -1,20 +1,12 @@
 -- What an item prints is what its parts print.
 use Rattle.std.proofs.Common.{◌≡◌, Bool, true, false, refl, ap, sym, ◌∙◌, ℕ, ◌+◌, ◌≤◌, List, [], ◌∷◌, ◌++◌, length, arith, subst, append-nil, append_assoc, ◌≢◌}
-use Rattle.sym_print.specs.declared.detail.Detail.{Detail}
-use Rattle.sym_print.specs.Details.{has_arguments, has_parameters}
+use Rattle.cpp_direct.specs.AllTerms.{closes, Context, Detail, first, Form, has_arguments, has_parameters, instance, instance_parts, Item, last_piece, left, left_parts, list_part, low, low_parts, nil, not_empty, opening_text, parts, parts_in, rank, rank_in, says, Term, text_part}
 use Rattle.sym_print.specs.declared.detail.Detail.TheVariants.{Full}
 use Rattle.sym_print.specs.Unfold.{PartOf, text, sub, printed_parts, RanksBelow}
 use Rattle.sym_print.specs.Unshared.{Unshared, text_of, cost_of}
 use Rattle.sym_print.proofs.Unfolding.{printed-parts}
-use Rattle.sym_direct.specs.Marked.{closes}
-use Rattle.cpp_grammar.specs.Term.{Term, instance, nil}
-use Rattle.cpp_grammar.specs.Items.{Form, left, low, first, Context, Item}
-use Rattle.cpp_grammar.specs.Parts.{text_part, list_part, says, opening_text, last_piece, instance_parts, left_parts, low_parts, parts_in, not_empty, parts}
-use Rattle.cpp_grammar.specs.Ranks.{rank, rank_in}
 use Rattle.cpp_grammar.proofs.RanksFall.{ranks_fall}
-use Rattle.cpp_direct.specs.Symbol.{Symbol, detail_by, detail_of}
-use Rattle.cpp_direct.specs.WrittenParts.{IsUnmarked, unmarked, unmarked_parts, written_instance, written_name, written_in, written_parts, written}
-use Rattle.cpp_direct.specs.Prints.{written_of}
+use Rattle.cpp_direct.specs.AllStates.{detail_by, detail_of, IsUnmarked, Symbol, unmarked, unmarked_parts, written, written_in, written_instance, written_name, written_of, written_parts}
 use Rattle.cpp_direct.proofs.Unmarked.{unmarked-same, length-unmarked}
 
 whole-by : (is_brief : Bool) → has_parameters (detail_by false is_brief) ≡ true

@@ -1,22 +1,11 @@
 -- Encodings with a known text, and the symbols that they are.
 use Rattle.std.proofs.Common.{◌≡◌, ◌≢◌, refl, ap, sym, ◌∙◌, ℕ, ◌*◌, ◌≤◌, List, [], ◌∷◌, ◌++◌, length, Bool, true, false, ◌&&◌, arith, codes, nat_eq, length-append, append-nil, append_assoc, subst}
-use Rattle.sym_print.specs.declared.detail.Detail.{Detail}
-use Rattle.sym_print.specs.Details.{has_arguments, has_parameters}
+use Rattle.cpp_direct.specs.AllTerms.{absent, adjusting, any_value, as_item, begins_parameters, builtin, by_table, clone, clone_text, closed, Context, covariant, Detail, encoding_of, encoding_text, explicit_object, first, full, full_parts, function, function_bare, function_full, has_arguments, has_parameters, has_return_type, is_nil, is_void, left, left_parts, list, list_part, look_up, lvalue_only, named_special_texts, nil, non_virtual, not_empty, object, of_name, parameters, parts_in, Qualifiers, qualifiers_of, ref_of, RefQualifier, right, root, root_item, root_parts, rvalue_only, same_bytes, says, shown, special, special_texts, symbol, Term, text_part, Thunk, thunk, thunk_text, tree_of, types_of, Value}
 use Rattle.sym_print.specs.Unfold.{text}
 use Rattle.sym_print.specs.Unshared.{text_of, cost_of}
-use Rattle.cpp_grammar.specs.Term.{Qualifiers, RefQualifier, any_value, lvalue_only, rvalue_only, explicit_object, non_virtual, by_table, Thunk, adjusting, covariant, Term, symbol, function, object, special, of_name, thunk, clone, builtin, nil, list, absent}
-use Rattle.cpp_grammar.specs.Scope.{has_return_type}
-use Rattle.cpp_grammar.specs.Texts.{look_up, same_bytes, special_texts, named_special_texts}
-use Rattle.cpp_grammar.specs.Items.{root, full, left, right, first, Context, closed}
-use Rattle.cpp_grammar.specs.Values.{Value, tree_of, qualifiers_of, ref_of}
-use Rattle.cpp_grammar.specs.Meaning.{is_void, is_nil, parameters, encoding_of}
-use Rattle.cpp_grammar.specs.Parts.{as_item, says, text_part, list_part, types_of, encoding_text, begins_parameters, function_bare, function_full, thunk_text, clone_text, full_parts, left_parts, root_parts, parts_in, not_empty}
-use Rattle.cpp_grammar.specs.Answer.{shown, root_item}
 use Rattle.cpp_direct.specs.declared.open.Mark.{Mark}
 use Rattle.cpp_direct.specs.declared.open.Mark.TheVariants as marks
-use Rattle.cpp_direct.specs.Marks.{has_const, called_on}
-use Rattle.cpp_direct.specs.Prints.{written_of, PrintsName, PrintsIn, IsElement, Shows, list_of, joined, PrintEachIn, PrintAllIn, IsUnmarked, written, written_in, unmarked_parts}
-use Rattle.cpp_direct.specs.WriterInvariant.{qualifiers, list_with, plain_encoding, IsNamedSo}
+use Rattle.cpp_direct.specs.AllStates.{called_on, has_const, IsElement, IsNamedSo, IsUnmarked, joined, list_of, list_with, plain_encoding, PrintAllIn, PrintEachIn, PrintsIn, PrintsName, qualifiers, Shows, unmarked_parts, written, written_in, written_of}
 use Rattle.std.proofs.lemmas.Bool.{false≢true}
 use Rattle.cpp_direct.proofs.Unmarked.{length-unmarked, qualifiers-unmarked, special-unmarked, thunk-unmarked, unmarked-same}
 use Rattle.cpp_direct.proofs.PrintedParts.{shown_by, text_shown, cost_shown, first_shown, first_cost_shown, text_append, cost_append, part-text, part-cost, length-filled}

@@ -1,16 +1,10 @@
 -- Types that are made of another type: pointers, references and constant types, and parameters that name one.
-use Rattle.sym_print.specs.declared.detail.Detail.{Detail}
+use Rattle.cpp_direct.specs.AllTerms.{absent, arguments_of, as_item, attached_parts, before_piece, closing_right, component_parts, Detail, element, function_type, has_arguments, is_function_type, is_module, is_open, is_plain_integer, is_void, last_piece, left_parts, length_if_pack, lvalue, marked_parts, nil, not_empty, opening_text, operation, pack_length, parameter, parts_in, pointer, prefix_item, qualified, qualified_left, qualified_right, qualifier_text, Qualifiers, reference_parts, right_parts, rvalue, says, Term, text_part, types_of}
 use Prim.Native.String.{String}
-use Rattle.sym_print.specs.Details.{has_arguments}
 use Rattle.sym_print.specs.Unfold.{text}
 use Rattle.cpp_direct.proofs.PrintedParts.{text_shown, cost_shown, alone_shown, first_cost_shown}
 use Rattle.cpp_direct.specs.Prints.{Prints, PrintsIn, PrintsGiven, PrintsAs, Named, Names, IsGiven, AreSingle, EndsAsInteger, joined_to, written_of, IsUnmarked, unmarked_parts, written_in}
 use Rattle.cpp_grammar.specs.Items.{closed, Form, left, right, piece, low, Context, Head, lref, collapsed, head_with, head, is_reference, is_funarr, is_empty, argument, head_closed, indexed}
-use Rattle.cpp_grammar.specs.Meaning.{is_void}
-use Rattle.cpp_grammar.specs.Parts.{as_item, says, text_part, qualifier_text, prefix_item, before_piece, attached_parts, component_parts, last_piece, opening_text, marked_parts, reference_parts, qualified_left, qualified_right, closing_right, left_parts, right_parts, parts_in, not_empty, is_plain_integer, types_of}
-use Rattle.cpp_grammar.specs.References.{is_function_type, is_module}
-use Rattle.cpp_grammar.specs.Scope.{is_open, pack_length, length_if_pack, arguments_of, element}
-use Rattle.cpp_grammar.specs.Term.{Qualifiers, Term, function_type, pointer, lvalue, rvalue, qualified, parameter, operation, nil, absent}
 use Rattle.std.proofs.Common.{◌≡◌, refl, ap, ◌∙◌, ℕ, ◌+◌, ◌*◌, ◌≤◌, List, [], ◌∷◌, ◌++◌, length, Bool, true, false, nat_eq, None, arith, codes, length-append, sym, subst, append-nil, Some}
 use Rattle.sym_print.specs.Unshared.{text_of, cost_of}
 

@@ -1,21 +1,13 @@
 -- What a parameter of a template may name, and where it is.
-use Rattle.sym_print.specs.declared.detail.Detail.{Detail}
+use Rattle.cpp_direct.specs.AllTerms.{arguments_of, Around, before_arguments, count, Detail, element, has_return_type, inside, instance, is_structor, qualifiers_of, ref_of, Term, tree, tree_of, types_of}
 use Rattle.std.proofs.Common.{◌+◌, ◌≡◌, ℕ, zero, suc, ◌<◌, List, [], ◌∷◌, ◌++◌, length, slice_get, Some, None, is_some, arith, ap, sym, ◌∙◌, subst, refl, true, false}
 use Rattle.std.proofs.lemmas.Bool.{false≢true}
-use Rattle.cpp_grammar.specs.Scope.{count, element, arguments_of, before_arguments, has_return_type, is_structor}
-use Rattle.cpp_grammar.specs.Term.{Term, instance}
-use Rattle.cpp_grammar.specs.Values.{Around, tree, tree_of, qualifiers_of, ref_of}
 use Rattle.cpp_grammar.specs.Values as values
-use Rattle.cpp_grammar.specs.Between.{inside}
-use Rattle.cpp_grammar.specs.Parts.{types_of}
 use Rattle.cpp_direct.specs.declared.open.Mark.TheVariants as marks
-use Rattle.cpp_direct.specs.Marks.{called_on, has_const}
-use Rattle.cpp_direct.specs.WriterInvariant.{HasNameSo, nowhere, IsPackOf, IsAmong, AreAmong, HasArguments, HasScope, IsScoped, Scope, argument_of, arguments_in, is_within_type, list_with, place_of, IsNamedSo, qualifiers, HasParameters, IsOwnName}
-use Rattle.cpp_direct.specs.MidStep.{AreKnown}
+use Rattle.cpp_direct.specs.AllStates.{AreAmong, AreKnown, Argument, argument_of, Arguments, arguments_in, called_on, detail_of, has_const, HasArguments, HasNameSo, HasParameters, HasScope, is_within_type, IsAmong, IsNamedSo, IsOwnName, IsPackOf, IsScoped, list_with, Mark, nowhere, Open, place_of, PrintAllIn, PrintsName, qualifiers, Scope, Symbol}
 use Rattle.cpp_direct.proofs.Kept.{none-known, placed-stays}
-use Rattle.cpp_direct.specs.Prints.{PrintAllIn, PrintsName}
+
 -- trees stay at their places where more is written
-use Rattle.cpp_direct.specs.WriterTypes.{Argument, Arguments, Mark, Open, Symbol, detail_of}
 
 one-stays : {detail : Detail} (text more : List ℕ) (p : Argument) (k : ℕ) (ts : List Term) → IsAmong detail text p k ts → IsAmong detail (text ++ more) p k ts
 one-stays text more p k ts h = record {

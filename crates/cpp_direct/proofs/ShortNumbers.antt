@@ -7,19 +7,11 @@ use Rattle.std.proofs.lemmas.Bool.{and_parts, lt-ltb, ltb-true}
 use Rattle.sym_core.specs.declared.NumberKind.TheVariants.{Decimal}
 use Rattle.sym_shape.specs.declared.rule.Sym.TheVariants.{Number}
 use Rattle.sym_core.specs.declared.refusal.Refusal.TheVariants.{BadValue}
-use Rattle.sym_core.specs.Number.{AreDigits, is_decimal_digit}
-use Rattle.sym_core.specs.Token.{IsNumberToken}
-use Rattle.sym_core.specs.Value.{value_onto}
+use Rattle.cpp_direct.specs.AllTerms.{AreDigits, AreTrees, branch, empty, fixed, Forest, grown, is_decimal_digit, IsNumberToken, last_token, local_number, nothing, number_tested, opening, parts_of, Production, spell, spell_all, State, token, Tree, value_onto}
 use Rattle.sym_core.proofs.Horner.{decimal_small, ten_more}
 use Rattle.sym_shape.specs.Table.{Token, bytes_of}
-use Rattle.sym_shape.specs.Tree.{Tree, Forest, branch, empty, token, fixed, nothing, grown, AreTrees, spell, spell_all}
-use Rattle.cpp_grammar.specs.declared.production.Production.{Production}
-use Rattle.cpp_grammar.specs.Grammar.{parts_of}
-use Rattle.cpp_grammar.specs.Values.{State, local_number}
-use Rattle.cpp_grammar.specs.Unfolding.{last_token, number_tested, opening}
-use Rattle.cpp_direct.specs.Bytes.{short_numbers}
+use Rattle.cpp_direct.specs.AllStates.{short_numbers, table_by}
 use Rattle.cpp_direct.specs.Holes.{StandsAt}
-use Rattle.cpp_direct.specs.Symbol.{table_by}
 use Rattle.cpp_direct.proofs.Moves.{stands-split}
 use Rattle.cpp_direct.proofs.Tables.{names-are}
 

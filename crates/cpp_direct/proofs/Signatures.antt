@@ -1,17 +1,9 @@
 -- A writer within a function type: where it begins, after its return type, between its parameters, and after it; and within an array.
 use Rattle.std.proofs.Common.{◌≡◌, ◌≢◌, inl, inr, ℕ, ◌+◌, ◌-◌, length, List, [], ◌∷◌, ◌++◌, reverse, Bool, true, false, refl, ap, sym, take, ◌∙◌, subst, arith, codes, append_assoc, append-nil, nat_eq, ◌≤◌, drop, slice_get, Some, if◌then◌else◌}
 use Rattle.std.specs.List.{ends_with}
-use Rattle.cpp_grammar.specs.Grammar.{among}
-use Rattle.cpp_grammar.specs.Term.{Term, builtin, nil, list, pointer, array, lvalue}
-use Rattle.cpp_grammar.specs.Values.{Around, State, tree, outermost}
-use Rattle.cpp_grammar.specs.declared.kind.Kind.{Kind}
-use Rattle.cpp_direct.specs.WriterTypes.{Access, Candidate, Direct, Open, Symbol, detail_of, Arguments, Mark}
-use Rattle.cpp_direct.specs.Bytes.{is_builtin}
+use Rattle.cpp_direct.specs.AllTerms.{among, Around, array, builtin, is_name_byte, Kind, list, lvalue, nil, outermost, pointer, State, Term, tree}
+use Rattle.cpp_direct.specs.AllStates.{Access, AreCandidates, Arguments, AwaitsParameter, AwaitsSignature, below, Candidate, detail_of, Direct, ElementOf, hidden, hidden_behind, is_builtin, IsArrayRead, IsElement, IsElementPassed, IsElementRead, IsFunctionRead, IsReadable, IsReturned, IsScoped, IsUnmarked, IsWriting, list_with, Mark, Marks, Open, opening_text, OpensEntry, PrintAll, Scope, Stands, Symbol, TakesFunction, with_hidden, Writes}
 use Rattle.cpp_direct.specs.AllHoles.{Comes, Expects, FunctionOpened, IsQualifiable, IsReferable, IsSizeAt, NoReference, Opened, SignatureGoesOn, StandsAt, access_letters, accessed, array_opening, candidate, is_marked, plain_function, pointed, reference, reference_letter, with_accessed, with_candidate, with_pointed}
-use Rattle.cpp_direct.specs.Prints.{PrintAll, IsElement, IsUnmarked}
-use Rattle.cpp_direct.specs.WriterInvariant.{below, IsScoped, AreCandidates, IsWriting, Marks, Scope, Stands, TakesFunction, opening_text, list_with}
-use Rattle.cpp_direct.specs.MidStep.{AwaitsParameter, AwaitsSignature, IsElementPassed, IsFunctionRead, IsReturned, IsArrayRead, IsElementRead, ElementOf}
-use Rattle.cpp_direct.specs.Written.{Writes, hidden, hidden_behind, with_hidden, OpensEntry}
 use Rattle.cpp_direct.proofs.Ending.{no-void}
 use Rattle.cpp_direct.proofs.Handed.{first-type, value-element}
 use Rattle.cpp_direct.proofs.Kept.{kept-grown, kept-same, kept-written, candidates-more, reverse-last, type-comes, kept-as}
@@ -23,8 +15,6 @@ use Rattle.cpp_direct.proofs.PrintedLists.{list-more, none-print, none-text}
 use Rattle.cpp_direct.proofs.Scopes.{none-scoped}
 use Rattle.cpp_direct.proofs.TypesRead.{popped, reference_entry, whole-awaited}
 use Rattle.sym_core.specs.declared.NameClass.TheVariants.{Cpp}
-use Rattle.sym_core.specs.Token.{is_name_byte}
-use Rattle.cpp_direct.specs.Names.{IsReadable}
 use Rattle.cpp_direct.proofs.Unmarked.{each-unmarked, name-byte}
 use Rattle.cpp_direct.proofs.NamePlaces.{all-reached, own-each}
 use Rattle.cpp_direct.proofs.PrintedNames.{normal-unmarked}

@@ -3,20 +3,8 @@ use Rattle.std.proofs.Common.{◌≡◌, ℕ, ◌<◌, List, [], ◌∷◌, slic
 use Rattle.std.specs.Prelude.{Ok, if◌then◌else◌}
 use Rattle.sym_core.specs.declared.NameClass.TheVariants.{Cpp}
 use Rattle.sym_core.specs.Token.{Token}
-use Rattle.sym_shape.specs.declared.rule.Rule.{Rule}
-use Rattle.sym_shape.specs.declared.rule.Sym.{Sym}
+use Rattle.cpp_direct.specs.AllTerms.{abi, among, ARGUMENT_LIST, ARGUMENTS_ALONE, ARGUMENTS_FIRST, branch, choose, empty, fixed, in_ranges, is_chain, is_in, IsToken, IsTree, ITEM, Kind, kinds, may_be_empty, MAYBE_ARGUMENTS, NEST_MORE_OR_END, NEST_REST, NEST_REST_ALONE, NEST_TAIL, number_of, pick, Production, Rule, rule_of, rule_taken, spell, StandsFor, Sym, SYMBOL, TakesRule, Term, token, Tree, unfold_cpp, wide, wide_alternatives, wide_choose}
 use Rattle.sym_shape.specs.declared.rule.Sym.TheVariants.{Kind as OfKind}
-use Rattle.sym_shape.specs.Table.{IsToken}
-use Rattle.sym_shape.specs.Tree.{Tree, TakesRule, IsTree, branch, empty, token, fixed, spell}
-use Rattle.sym_demangle.specs.Mangled.{StandsFor}
-use Rattle.cpp_grammar.specs.declared.kind.Kind.{Kind}
-use Rattle.cpp_grammar.specs.declared.production.Production.{Production}
-use Rattle.cpp_grammar.specs.Grammar.{choose, in_ranges, among, is_in, pick, number_of, is_chain, kinds, may_be_empty}
-use Rattle.cpp_grammar.specs.Wide.{wide_alternatives, wide_choose}
-use Rattle.cpp_grammar.specs.KindNumbers.{SYMBOL, MAYBE_ARGUMENTS, ARGUMENTS_ALONE, NEST_REST, NEST_REST_ALONE, NEST_TAIL, NEST_MORE_OR_END, ARGUMENT_LIST, ARGUMENTS_FIRST, ITEM}
-use Rattle.cpp_grammar.specs.Table.{abi, wide, rule_of, rule_taken}
-use Rattle.cpp_grammar.specs.Term.{Term}
-use Rattle.cpp_grammar.specs.Unfolding.{unfold_cpp}
 use Rattle.cpp_grammar.proofs.Arguments.{AsArgument, abi_argument, wide_argument}
 use Rattle.cpp_grammar.proofs.Alone.{arguments_maybe, rest_any, list_first}
 use Rattle.cpp_grammar.proofs.Choosing.{rule_at_kind, empty_at_kind, wide_rule_at, wide_empty_at}

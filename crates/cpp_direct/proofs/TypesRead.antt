@@ -5,25 +5,12 @@ use Rattle.std.proofs.Math.Seq.{take-append_seam}
 use Rattle.std.specs.Bool.{◌==◌}
 use Rattle.std.proofs.lemmas.Bool.{false≢true}
 use Rattle.sym_core.specs.declared.NumberKind.TheVariants.{Seq36}
-use Rattle.sym_core.specs.Value.{counted_value}
-use Rattle.cpp_grammar.specs.declared.kind.Kind.{Kind}
-use Rattle.cpp_grammar.specs.Grammar.{among, may_be_empty}
-use Rattle.cpp_grammar.specs.Term.{Term, alone, in_std, abbreviation, source, builtin, pointer, lvalue, rvalue}
-use Rattle.cpp_grammar.specs.Texts.{Naming, look_up, builtin_texts, abbreviation_texts, same_bytes}
-use Rattle.cpp_grammar.specs.Parts.{source_text}
-use Rattle.cpp_grammar.specs.Values.{State, tree}
-use Rattle.cpp_grammar.specs.Between.{after, inside, no_items}
-use Rattle.cpp_direct.specs.WriterTypes.{Candidate, Direct, Open, Symbol, detail_of}
-use Rattle.cpp_direct.specs.Bytes.{is_builtin, is_builtin_with_d, is_abbreviated}
-use Rattle.cpp_direct.specs.Letters.{builtin_letters, builtin_letters_with_d, abbreviation_letters}
+use Rattle.cpp_direct.specs.AllTerms.{abbreviation, abbreviation_texts, after, alone, among, Around, builtin, builtin_texts, counted_value, in_std, inside, Kind, look_up, lvalue, may_be_empty, Naming, no_items, pointer, rvalue, same_bytes, source, source_text, State, Term, tree}
+use Rattle.cpp_direct.specs.AllStates.{abbreviation_letters, added, added_unless, AwaitsMark, AwaitsNamedType, AwaitsNest, AwaitsType, below, builtin_letters, builtin_letters_with_d, Candidate, detail_of, Direct, is_abbreviated, is_builtin, is_builtin_with_d, IsBuiltinAt, IsNamedAgain, IsScoped, IsTypeNamed, IsWriting, Kept, Lists, Marks, Open, OpensArguments, OpensEntry, Prints, PrintsAs, Reads, Stands, Symbol, Writes}
 use Rattle.cpp_direct.specs.declared.open.Open.TheVariants as opens
 use Rattle.cpp_direct.specs.declared.open.Purpose.TheVariants as purposes
 use Rattle.cpp_direct.specs.declared.open.Step.TheVariants as steps
-use Rattle.cpp_direct.specs.AllHoles.{Comes, Expects, IsNameAt, IsQualifiable, IsReferable, IsSeqAt, StandsAt, TypeNamed, TypeOpens, reference_letter, unless_listed, with_candidate}
-use Rattle.cpp_direct.specs.Prints.{Prints, PrintsAs}
-use Rattle.cpp_direct.specs.WriterInvariant.{IsScoped, IsWriting, Marks, Stands, below, Kept}
-use Rattle.cpp_direct.specs.MidStep.{AwaitsType, AwaitsNamedType, AwaitsNest, IsNamedAgain, IsTypeNamed, AwaitsMark}
-use Rattle.cpp_direct.specs.Written.{Reads, Writes, Lists, OpensEntry, added, added_unless, OpensArguments}
+use Rattle.cpp_direct.specs.AllHoles.{Comes, Expects, IsNameAt, IsQualifiable, IsReferable, IsSeqAt, Opened, StandsAt, TypeNamed, TypeOpens, reference_letter, unless_listed, with_candidate}
 use Rattle.cpp_direct.proofs.Unmarked.{name-unmarked}
 use Rattle.cpp_direct.proofs.Scopes.{scoped-inside}
 use Rattle.cpp_direct.proofs.Kept.{candidate-found, kept-grown, kept-same, piece-found, reverse-last, type-comes, value-added, value-comes, list-begins, kept-unless, awaited-in}
@@ -190,7 +177,7 @@ builtin-done s old new letter a stands has text candidates waits scope at =
     (subst (λ k. Comes s a.os (tree (builtin (letter ∷ [])) true) k a.state) (sym at)
     (builtin-comes s a.kind a.around a.os old.at a.state letter a.typed is a.awaits (stands (no-builtin letter is))))
 
-no-builtin-with-d : (letter : ℕ) → is_builtin_with_d letter ≡ true → letter ≢ 0
+pub no-builtin-with-d : (letter : ℕ) → is_builtin_with_d letter ≡ true → letter ≢ 0
 unfolding is_builtin_with_d among
 no-builtin-with-d letter is none = let clash : false ≡ true = subst (λ l. is_builtin_with_d l ≡ true) none is in cc clash
 
@@ -207,6 +194,19 @@ builtin-with-d-done s old new letter a first stands is text candidates waits sco
     (subst (λ k. Comes s a.os (tree (builtin (68 ∷ letter ∷ [])) true) k a.state) (omega (arith, at))
     (builtin-with-d-comes s a.kind a.around a.os old.at a.state letter a.typed is a.awaits
     (stands-join s.bytes old.at (68 ∷ []) (letter ∷ []) first (stands (no-builtin-with-d letter is)))))
+
+-- and either is an item of a list
+pub builtin-item : (s : Symbol) (around : Around) (os : List Opened) (at end : ℕ) (st : State) → IsBuiltinAt s.bytes at end → Expects s Kind.Item around os at st
+    → (r : Term) × Comes s os (tree r true) end st
+builtin-item s around os at end st is expects = elim is.1 [
+  | inl one ↦
+      let listed = builtin-listed is.0 one.0 in
+      let r = builtin (is.0 ∷ []) in
+      (r, subst (λ k. Comes s os (tree r true) k st) (sym one.2) (builtin-comes s Kind.Item around os at st is.0 tt listed expects (one.1 (no-builtin is.0 listed))))
+  | inr two ↦
+      let r = builtin (68 ∷ is.0 ∷ []) in
+      (r, subst (λ k. Comes s os (tree r true) k st) (sym two.2) (builtin-with-d-comes s Kind.Item around os at st is.0 tt two.0 expects two.1))
+]
 
 -- ## Names
 

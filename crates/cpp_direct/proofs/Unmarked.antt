@@ -3,19 +3,12 @@ use Rattle.std.proofs.Common.{◌≡◌, refl, ap, sym, subst, ℕ, List, [], �
 use Rattle.std.proofs.lemmas.Bool.{false≢true}
 use Rattle.std.specs.List.{AllByRecursion}
 use Rattle.sym_core.specs.declared.NameClass.TheVariants.{Cpp}
-use Rattle.sym_core.specs.Token.{is_name_byte}
-use Rattle.sym_core.specs.Number.{is_decimal_digit}
+use Rattle.cpp_direct.specs.AllTerms.{abbreviation_texts, adjusting, among, any_value, begins_with, builtin_texts, by_table, covariant, encoding_text, explicit_object, is_decimal_digit, is_name_byte, literal_endings, look_up, lvalue_only, Naming, non_virtual, operator_texts, qualifier_text, Qualifiers, ref_text, RefQualifier, rvalue_only, same_bytes, source_text, special_texts, Thunk, thunk_text}
 pub use Rattle.sym_direct.specs.Marked.{is_mark}
 pub use Rattle.sym_direct.proofs.Seen.{rest-unmarked, more-unmarked, unmarked-append, is-no-mark, each-unmarked}
 use Rattle.sym_direct.proofs.Seen.{first-unmarked, test-unmarked}
-use Rattle.cpp_grammar.specs.Texts.{Naming, look_up, same_bytes, builtin_texts, operator_texts, abbreviation_texts, special_texts, literal_endings}
-use Rattle.cpp_grammar.specs.Parts.{source_text, begins_with, thunk_text, encoding_text, qualifier_text, ref_text}
-use Rattle.cpp_grammar.specs.Term.{Thunk, adjusting, covariant, non_virtual, by_table, Qualifiers, RefQualifier, any_value, lvalue_only, rvalue_only, explicit_object}
 use Rattle.cpp_direct.specs.AllHoles.{IsNameAt, IsSuffix}
-use Rattle.cpp_grammar.specs.Grammar.{among}
-use Rattle.cpp_direct.specs.ItemBytes.{is_suffix_byte}
-use Rattle.cpp_direct.specs.Names.{operator_text}
-use Rattle.cpp_direct.specs.WrittenParts.{unmarked_byte, unmarked, is_unmarked, IsUnmarked}
+use Rattle.cpp_direct.specs.AllStates.{is_suffix_byte, is_unmarked, IsUnmarked, operator_text, unmarked, unmarked_byte}
 
 byte-same : (shown : Bool) (byte : ℕ) → is_mark byte ≡ false → unmarked_byte shown byte ≡ byte
 byte-same shown byte is = ap (λ b. elim b [ true ↦ elim shown [ true ↦ byte | false ↦ 0 ] | false ↦ byte ]) is

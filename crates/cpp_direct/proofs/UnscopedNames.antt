@@ -3,21 +3,10 @@ use Rattle.cpp_direct.proofs.Unmarked.{name-unmarked}
 use Rattle.cpp_direct.proofs.Scopes.{no-arguments}
 use Rattle.std.proofs.Common.{◌≡◌, ◌≢◌, ℕ, ◌+◌, length, List, [], ◌∷◌, ◌++◌, Bool, true, false, not, cond, refl, ap, sym, subst, ◌∙◌, arith, append_assoc, codes, append-nil}
 use Rattle.std.proofs.lemmas.Bool.{false≢true}
-use Rattle.cpp_grammar.specs.declared.kind.Kind.{Kind}
-use Rattle.cpp_grammar.specs.Grammar.{may_be_empty}
-use Rattle.cpp_grammar.specs.Term.{Term, alone, in_std, source, operator, instance, any_value, object, of_name}
-use Rattle.cpp_grammar.specs.Parts.{source_text}
-use Rattle.cpp_grammar.specs.Scope.{has_return_type, arguments_of, is_structor}
+use Rattle.cpp_direct.specs.AllTerms.{after, alone, any_value, arguments_of, encoding_of, first_around, first_state, has_return_type, in_name, in_std, in_types, inside, instance, is_structor, Kind, may_be_empty, no_items, object, of_name, operator, source, source_text, Term, with_tag}
 use Rattle.cpp_grammar.specs.Values.{State, piece, tree, tree_of, qualifiers_of, ref_of, Value, nothing_there, named, unqualified}
-use Rattle.cpp_grammar.specs.Between.{after, in_name, inside, no_items, with_tag, in_types}
-use Rattle.cpp_direct.specs.WriterTypes.{Direct, Symbol, detail_of}
-use Rattle.cpp_direct.specs.Bytes.{is_local}
+use Rattle.cpp_direct.specs.AllStates.{added, AwaitsEncoding, AwaitsEntity, AwaitsSource, detail_of, Direct, encoding_place, EntityBehind, HasName, is_angle, is_local, IsFresh, IsNameEnded, IsOperatorAt, IsSymbolEnded, IsUnscoped, IsWriting, Kept, Lists, no_scope, nowhere, OpensArguments, operator_text, Prints, PrintsName, Reads, Shows, Symbol, tag_text, Writes}
 use Rattle.cpp_direct.specs.AllHoles.{Comes, Discriminator, EncodingOpened, GuardOpened, IsDiscriminatorAt, IsEntityAt, IsNameAt, IsTagAt, LocalOpened, Named, Opened, StandsAt, SymbolOpened, entity_in}
-use Rattle.cpp_direct.specs.Names.{IsOperatorAt, is_angle, operator_text, tag_text}
-use Rattle.cpp_direct.specs.Prints.{Prints, PrintsName, Shows}
-use Rattle.cpp_direct.specs.WriterInvariant.{IsWriting, encoding_place, nowhere, no_scope, EntityBehind, Kept}
-use Rattle.cpp_direct.specs.MidStep.{AwaitsEncoding, AwaitsSource, HasName, IsNameEnded, IsUnscoped, IsFresh, IsSymbolEnded}
-use Rattle.cpp_direct.specs.Written.{Writes, Reads, added, Lists, OpensArguments}
 use Rattle.cpp_direct.proofs.Begins.{encoding-expected, items-await, encoded-whole}
 use Rattle.cpp_direct.proofs.Moves.{alone-arguments, expects-empty, stands-join}
 use Rattle.cpp_direct.proofs.PrintedNests.{tagged-names, tagged-prints}
@@ -28,9 +17,6 @@ use Rattle.cpp_direct.proofs.MovesOfLists.{arguments-open}
 use Rattle.cpp_direct.proofs.MovesOfNests.{piece-comes, tag-follows}
 use Rattle.cpp_direct.proofs.LettersTested.{operator-listed}
 use Rattle.cpp_direct.proofs.PrintedNames.{as-name, source-prints, std-prints, operator-names, operator-prints, std-operator-names, std-operator-prints}
-use Rattle.cpp_grammar.specs.Meaning.{encoding_of}
-use Rattle.cpp_grammar.specs.Unfolding.{first_around, first_state}
-use Rattle.cpp_direct.specs.MidStepOfLocals.{AwaitsEntity}
 use Rattle.cpp_direct.proofs.MovesOfLocals.{local-opens}
 use Rattle.cpp_direct.proofs.PrintedLocals.{entity-shows}
 use Rattle.cpp_direct.proofs.PrintedSymbols.{guarded-shows}

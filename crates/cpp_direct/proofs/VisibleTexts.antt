@@ -1,20 +1,11 @@
 -- What is written of a tree is what it shows once what is between marks is left out.
 use Rattle.std.proofs.Common.{◌≡◌, ◌≢◌, ◌⊎◌, inl, inr, refl, ap, sym, subst, ◌∙◌, ℕ, zero, suc, ◌≤◌, List, [], ◌∷◌, ◌++◌, length, Bool, true, false, Option, Some, None, arith, append-nil, append_assoc}
 use Rattle.std.specs.Option.{OnSome}
-use Rattle.sym_print.specs.declared.detail.Detail.{Detail}
-use Rattle.sym_print.specs.Details.{has_arguments}
+use Rattle.cpp_direct.specs.AllTerms.{closes, Context, Detail, first, Form, has_arguments, HasNoZero, instance, instance_parts, is_mark, Item, left, left_parts, list_part, low, low_parts, not_empty, opens, parts, parts_in, rank, root_item, shown, Term, visible}
 use Rattle.sym_print.specs.Unfold.{PartOf, text, sub, printed_parts, printed_to, printed}
 use Rattle.sym_print.specs.Unshared.{Unshared, text_of, cost_of}
-use Rattle.sym_direct.specs.Marked.{opens, closes, visible, is_mark, HasNoZero}
 use Rattle.sym_direct.proofs.Seen.{more-unmarked, unmarked-hidden, unmarked-seen, stretch-left}
-use Rattle.cpp_grammar.specs.Answer.{shown, root_item}
-use Rattle.cpp_grammar.specs.Items.{Form, left, low, first, Context, Item}
-use Rattle.cpp_grammar.specs.Parts.{list_part, instance_parts, left_parts, low_parts, parts_in, not_empty, parts}
-use Rattle.cpp_grammar.specs.Ranks.{rank}
-use Rattle.cpp_grammar.specs.Term.{Term, instance}
-use Rattle.cpp_direct.specs.Symbol.{Symbol, detail_by, detail_of}
-use Rattle.cpp_direct.specs.WriterInvariant.{IsWhole, IsShown}
-use Rattle.cpp_direct.specs.WrittenParts.{unmarked_byte, unmarked, unmarked_parts, IsUnmarked, written_instance, written_in, written_parts, written}
+use Rattle.cpp_direct.specs.AllStates.{detail_by, detail_of, IsShown, IsUnmarked, IsWhole, Symbol, unmarked, unmarked_byte, unmarked_parts, written, written_in, written_instance, written_parts}
 use Rattle.cpp_direct.proofs.PrintedParts.{parts-joined, list-unmarked}
 use Rattle.cpp_direct.proofs.Unmarked.{is_mark, more-unmarked, unmarked-same, length-unmarked}
 

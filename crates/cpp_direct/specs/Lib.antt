@@ -1,4 +1,6 @@
 pub mod AllHoles
+pub mod AllStates
+pub mod AllTerms
 pub mod Bytes
 pub mod Holes
 pub mod HolesOfArrays

@@ -186,8 +186,7 @@ abbrev pub argument_around : (is_pack : Bool) → (owner : Open) → (rest : Lis
 argument_around false owner rest = owner ∷ rest
 argument_around true owner rest = opens.Pack ∷ owner ∷ rest
 
--- An argument of a name was read, or an element of a pack among them, after n others. It is a type, or the first argument and a
--- literal.
+-- An argument of a name was read, or an element of a pack among them, after n others. It is a type, or an argument and a literal.
 pub record IsArgumentRead (s : Symbol) (w : Direct) (is_pack : Bool) (from number : ℕ) (known : Arguments) (is_reference : Bool) : Type 0 where
   pub kept : Kept s w
   pub open kept use *

@@ -1,5 +1,5 @@
 -- Where a writer is between two of its functions within a step: local entities, and types in functions.
-use Rattle.std.specs.Prelude.{◌≡◌, ◌≢◌, ℕ, ◌+◌, List, [], ◌∷◌, ◌++◌, length, reverse, Bool, true, false, cond, Option, codes}
+use Rattle.std.specs.Prelude.{◌≡◌, ◌≢◌, ℕ, ◌+◌, List, [], ◌∷◌, ◌++◌, length, reverse, Bool, true, false, cond, Option, codes, ◌⊎◌}
 use Rattle.cpp_grammar.specs.Term.{Term, within}
 use Rattle.cpp_grammar.specs.Scope.{has_return_type}
 use Rattle.cpp_grammar.specs.Texts.{builtin_texts, look_up}
@@ -13,7 +13,7 @@ use Rattle.cpp_direct.specs.declared.open.Purpose.{Purpose}
 use Rattle.cpp_direct.specs.declared.open.Open.{Open}
 use Rattle.cpp_direct.specs.declared.open.Open.TheVariants as opens
 use Rattle.cpp_direct.specs.declared.direct.Direct.{Direct}
-use Rattle.cpp_direct.specs.Bytes.{is_local, short_numbers}
+use Rattle.cpp_direct.specs.Bytes.{is_builtin_with_d, is_local, short_numbers}
 use Rattle.cpp_direct.specs.Holes.{StandsAt}
 use Rattle.cpp_direct.specs.Marks.{mark_text}
 use Rattle.cpp_direct.specs.Prints.{Encloses, IsLed, PrintsPiece, PrintAll}
@@ -43,10 +43,11 @@ pub record IsEnclosingNamed (s : Symbol) (w : Direct) (mark : Mark) (is_instance
   pub returns : has_return_type own ≡ is_instance
   pub goes : ItemsGoOn s nowhere (TypeWithin s (below s scope (reverse w.waiting.list.items)) lead) (λ l. encoding_of v l) [] w.at state
 
--- A builtin type is at the place.
-abbrev pub IsBuiltinAt : List ℕ → (at : ℕ) → Type 0
-IsBuiltinAt bytes at =
-    (letter : ℕ) × (look_up (letter ∷ []) builtin_texts ≢ []) × (letter ≢ 0 → StandsAt bytes at (letter ∷ []))
+-- A builtin type is at the place, with a code of one letter or of two, and this is the place after it.
+abbrev pub IsBuiltinAt : List ℕ → (at end : ℕ) → Type 0
+IsBuiltinAt bytes at end =
+    (letter : ℕ) × (((look_up (letter ∷ []) builtin_texts ≢ []) × (letter ≢ 0 → StandsAt bytes at (letter ∷ [])) × (end ≡ at + 1))
+    ⊎ ((is_builtin_with_d letter ≡ true) × StandsAt bytes at (68 ∷ letter ∷ []) × (end ≡ at + 2)))
 
 -- The name of an instance of a function template that contains a type was read and written from a place on, except for its
 -- qualifier. Expects its return type. Its encoding begins at this place, and its known arguments are at theirs.

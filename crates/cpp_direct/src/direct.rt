@@ -19,8 +19,8 @@ pub struct Direct {
     pub(crate) candidates: Bounded<Candidate>,
     pub(crate) waiting: Bounded<Open>,
     pub(crate) nest: Nest,
-    /// the arguments of the name that was read last: the first of them, if they are types other than function types and arrays
-    /// (the first may also be a literal), or the elements of a pack of such types, if this is the only argument
+    /// the arguments of the name that was read last: the first of them, if they are literals other than enumerators, or types
+    /// other than function types and arrays, and the elements of a pack of such types after them
     pub(crate) argument: Arguments,
     /// whether the arguments are known that types may name: those of the symbol's own name, or, while its types are read, of a
     /// function whose address is an argument; or no types follow the name

@@ -16,6 +16,7 @@ ghost use Rattle.cpp_direct.specs.Symbol.{detail_by, symbol_by};
 
 use crate::direct::Direct;
 use crate::grammar::Grammar;
+use crate::letters::is_builtin_with_d;
 use crate::marks::mark_at;
 use crate::open::{Arguments, Mark, Open, Purpose, Step};
 use crate::tokens::byte_at;
@@ -23,6 +24,27 @@ use crate::tokens::byte_at;
 /// The longest symbol, in bytes, that is scanned once more, or whose candidates are, at a lambda with parameters, at parameters
 /// that aren't shown or at the address of a function.
 pub(crate) const LONGEST_GONE_OVER: usize = 1_024;
+
+/// The place after the builtin type at a place.
+// <builtin-type> ::= v | w | b | .. | Di | Ds | Du | Da | Dc | Dn
+fn builtin_end(s: &[u8], at: usize) -> Option<usize>
+    ensures { IfSome result (IsBuiltinAt s.now at) }
+{
+    let letter = byte_at(s, at);
+    let behind = at.checked_add(1)?;
+    if letter == b'D' {
+        let second = byte_at(s, behind);
+        if !is_builtin_with_d(second) {
+            return None;
+        }
+        let end = behind.checked_add(1)?;
+        return Some(end);
+    }
+    if cpp_layout::builtin_text(letter).is_empty() {
+        return None;
+    }
+    Some(behind)
+}
 
 impl Direct {
     /// Reads the first bytes of a type in a function, up to the first type in that function's name.
@@ -86,15 +108,12 @@ impl Direct {
         requires named { IsInstanceNamed (symbol_by G.IS_WIDE G.IS_BARE G.IS_BRIEF s.now) self.old mark encoding from }
         ensures { IfSome result (IsWriting (symbol_by G.IS_WIDE G.IS_BARE G.IS_BRIEF s.now) self.new) }
     {
-        if cpp_layout::builtin_text(byte_at(s, self.at)).is_empty() {
-            return None;
-        }
-        let behind = self.at.checked_add(1)?;
+        let behind = builtin_end(s, self.at)?;
         if self.has_scope || s.len() > LONGEST_GONE_OVER || byte_at(s, behind) == b'v' {
             self.at = behind;
             return self.enclosing_parameters::<G>(s, mark, from);
         }
-        self.instance_parameters::<G>(s, mark, encoding, from)
+        self.instance_parameters::<G>(s, mark, encoding, from, behind)
     }
 
     /// Reads the return type of such a function, a builtin one, in a symbol that isn't a long one: candidates are visited where
@@ -102,17 +121,18 @@ impl Direct {
     // <bare-function-type> ::= <return type> <parameter type>+
     fn instance_parameters<G: Grammar>(
         &mut self,
-        s: &[u8],
+        _s: &[u8],
         mark: Mark,
         encoding: u16,
         from: u32,
+        behind: usize,
     ) -> Option<Step>
-        requires named { IsInstanceNamed (symbol_by G.IS_WIDE G.IS_BARE G.IS_BRIEF s.now) self.old mark encoding from }
+        requires named { IsInstanceNamed (symbol_by G.IS_WIDE G.IS_BARE G.IS_BRIEF _s.now) self.old mark encoding from }
         requires outside { self.old.has_scope ≡ false }
-        requires letter { IsBuiltinAt s.now self.old.at }
-        ensures { IfSome result (IsWriting (symbol_by G.IS_WIDE G.IS_BARE G.IS_BRIEF s.now) self.new) }
+        requires returned { IsBuiltinAt _s.now self.old.at behind }
+        ensures { IfSome result (IsWriting (symbol_by G.IS_WIDE G.IS_BARE G.IS_BRIEF _s.now) self.new) }
     {
-        self.at = self.at.checked_add(1)?;
+        self.at = behind;
         self.has_scope = true;
         let to = self.text.end();
         let argument = Arguments {

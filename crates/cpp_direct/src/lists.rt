@@ -78,6 +78,13 @@ pub fn is_enumerator_at(s: &[u8], at: usize) -> bool {
     }
 }
 
+/// Whether a literal of a builtin type is at a place.
+pub fn is_plain_literal_at(s: &[u8], at: usize) -> bool
+    ensures { result ≡ true → StandsAt s.now at (76 ∷ []) }
+{
+    byte_at(s, at) == b'L' && !is_enumerator_at(s, at)
+}
+
 impl Direct {
     /// Reads an argument or an element of a pack up to the first type in it, or the end of either.
     // <template-args> ::= I <template-arg>* E

@@ -17,7 +17,7 @@ ghost use Rattle.cpp_direct.specs.Written.{Writes, hidden};
 
 use crate::direct::Direct;
 use crate::grammar::Grammar;
-use crate::lists::is_enumerator_at;
+use crate::lists::{is_enumerator_at, is_plain_literal_at};
 use crate::open::{Argument, Arguments, Candidate, MOST_KNOWN, Mark, Open, Pattern, Purpose, Step};
 use crate::symbols::NOWHERE;
 use crate::tokens::{byte_at, may_end};
@@ -563,7 +563,7 @@ impl Direct {
         }
     }
 
-    /// An argument of a name is read, after n others: others follow, or the end.
+    /// An argument of a name is read, after n others: others follow, or the end. Literals are read at once.
     // <template-args> ::= I <template-arg>* E
     pub(crate) fn argument_ended<G: Grammar>(
         &mut self,
@@ -577,20 +577,65 @@ impl Direct {
         requires read { IsArgumentRead (symbol_by G.IS_WIDE G.IS_BARE G.IS_BRIEF s.now) self.old false from number known is_reference }
         ensures { IfSome result (IsWriting (symbol_by G.IS_WIDE G.IS_BARE G.IS_BRIEF s.now) self.new) }
     {
-        let more = self.note_argument::<G>(s, false, from, number, known, is_reference);
+        let mut more = self.note_argument::<G>(s, false, from, number, known, is_reference);
+        let mut last = number;
+        'literals: for _ in 0..MOST_KNOWN {
+            if !is_plain_literal_at(s, self.at) {
+                return self.argument_known::<G>(s, last, more);
+            }
+            more = self.next_literal::<G>(s, last, more)?;
+            last = last.checked_add(1)?;
+        }
+        Some(Step::List { is_first: false })
+    }
+
+    /// The arguments of a name up to the last one are known: others follow, or the end.
+    // <template-args> ::= I <template-arg>* E
+    #[inline(always)]
+    fn argument_known<G: Grammar>(&mut self, s: &[u8], last: u8, known: Arguments) -> Option<Step>
+        requires fits { IsReadable s.now }
+        requires awaits { AwaitsKnownArgument (symbol_by G.IS_WIDE G.IS_BARE G.IS_BRIEF s.now) self.old false last known }
+        ensures { IfSome result (IsWriting (symbol_by G.IS_WIDE G.IS_BARE G.IS_BRIEF s.now) self.new) }
+    {
         let byte = byte_at(s, self.at);
-        // a literal isn't known, nor is what follows it
+        // an enumerator isn't known, nor is what follows it
         if byte == b'L' || is_element_at(s, self.at) {
             return Some(Step::List { is_first: false });
         }
         if byte == b'J' {
-            return self.next_pack::<G>(s, number, more);
+            return self.next_pack::<G>(s, last, known);
         }
         if byte != b'E' {
-            return self.next_argument::<G>(s, number, more);
+            return self.next_argument::<G>(s, last, known);
         }
         self.at = self.at.checked_add(1)?;
-        self.close_list::<G>(s, more)
+        self.close_list::<G>(s, known)
+    }
+
+    /// A literal of a builtin type comes next, after n + 1 arguments of a name: it becomes known, too.
+    // <template-arg> ::= <expr-primary>
+    #[inline(never)]
+    fn next_literal<G: Grammar>(
+        &mut self,
+        s: &[u8],
+        last: u8,
+        known: Arguments,
+    ) -> Option<Arguments>
+        requires fits { IsReadable s.now }
+        requires letter { StandsAt s.now self.old.at (76 ∷ []) }
+        requires awaits { AwaitsKnownArgument (symbol_by G.IS_WIDE G.IS_BARE G.IS_BRIEF s.now) self.old false last known }
+        ensures { IfSome result (AwaitsKnownArgument (symbol_by G.IS_WIDE G.IS_BARE G.IS_BRIEF s.now) self.new false (last + 1)) }
+    {
+        self.push_pair(b',', b' ')?;
+        let from = self.text.end();
+        let number = last.checked_add(1)?;
+        self.waiting.push(Open::Argument {
+            from,
+            number,
+            known,
+        })?;
+        self.plain_literal::<G>(s)?;
+        Some(self.note_argument::<G>(s, false, from, number, known, false))
     }
 
     /// An argument of a name comes next, after n others.

@@ -1,13 +1,6 @@
-use Rattle.std.proofs.Common.{arith, false}
-use Rattle.cpp_direct.proofs.Arguments.{argument-closes, known-passes}
-use Rattle.cpp_direct.proofs.TypesRead.{there}
+use Rattle.std.proofs.Common.{false}
+use Rattle.cpp_direct.proofs.Arguments.{known-passes}
 use Rattle.cpp_direct.proofs.direct.Direct.argument_ended.Goals as goal
 
-pub returns-then-byte-eq76 : goal.returns-then-byte-eq76
-returns-then-byte-eq76 g c = known-passes _ c.note_argument-more.new.self false c.args.number c.note_argument-more.result c.note_argument-more.ensures
-
-pub close_list-requires-clause-ended : goal.close_list-requires-clause-ended
-close_list-requires-clause-ended g c =
-    let w = c.note_argument-more.new.self in
-    argument-closes _ w c.in_ok-self.field-0 c.args.number c.note_argument-more.result c.note_argument-more.ensures
-    (there c.args.s.now w.at c.byte_at-byte.result 69 c.if-byte-ne69.false (omega arith) c.byte_at-byte.ensures) c.in_ok-self.ensures.1
+pub returns : goal.returns
+returns g c = known-passes _ c.literals.self false c.literals.last c.literals.more c.literals.invariant

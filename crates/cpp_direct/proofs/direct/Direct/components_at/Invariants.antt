@@ -1,7 +1,6 @@
 -- A component is expected.
 use Rattle.cpp_direct.specs.declared.open.Step.TheVariants as steps
-use Rattle.cpp_direct.specs.WriterInvariant.{IsWriting}
-use Rattle.cpp_direct.specs.Symbol.{symbol_by}
+use Rattle.cpp_direct.specs.AllStates.{IsWriting, symbol_by}
 use Rattle.cpp_direct.proofs.direct.Direct.components_at.Given as goal
 
 abbrev pub invariant-loop : goal.invariant-loop

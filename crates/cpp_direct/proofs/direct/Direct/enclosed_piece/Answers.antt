@@ -1,5 +1,4 @@
-use Rattle.cpp_grammar.specs.Parts.{source_text}
-use Rattle.cpp_grammar.specs.Term.{source}
+use Rattle.cpp_direct.specs.AllTerms.{source, source_text}
 use Rattle.std.proofs.Common.{false}
 use Rattle.cpp_direct.specs.Symbol.{symbol_by}
 use Rattle.cpp_direct.proofs.Unmarked.{name-unmarked}

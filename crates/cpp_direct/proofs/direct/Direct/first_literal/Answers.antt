@@ -1,5 +1,5 @@
 use Rattle.std.proofs.Common.{refl, true}
-use Rattle.cpp_direct.proofs.Arguments.{literal-argument}
+use Rattle.cpp_direct.proofs.Arguments.{literal-read, none-next}
 use Rattle.cpp_direct.proofs.Listed.{first-expected}
 use Rattle.cpp_direct.proofs.direct.Direct.first_literal.Goals as goal
 
@@ -11,5 +11,7 @@ literal-requires-then-is_enumerator_at-clause-awaits g c = first-expected _ c.ar
 
 pub argument_ended-requires-clause-read : goal.argument_ended-requires-clause-read
 argument_ended-requires-clause-read g c =
-    literal-argument _ c.args.self.now _ c.plain_literal.new.self c.end-from.result
-    c.requires.writing (c.is_named.ensures c.if-not-is_named.false) c.end-from.ensures c.in_ok-push.ensures.items refl refl refl refl c.in_ok-plain_literal.ensures
+    let old = c.args.self.now in
+    let n = none-next _ old c.requires.writing (c.is_named.ensures c.if-not-is_named.false) in
+    literal-read _ old _ c.plain_literal.new.self c.end-from.result 0 old.at _ n.0 n.1 c.end-from.ensures c.in_ok-push.ensures.items refl refl refl refl
+    c.in_ok-plain_literal.ensures

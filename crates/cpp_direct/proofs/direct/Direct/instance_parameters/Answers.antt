@@ -10,9 +10,9 @@ pub returns : goal.returns
 returns g c =
     let old = c.args.self.now in
     let argument = record (old.argument) { encoding = c.args.encoding } in
-    let begun = record old { at = c.in_ok-self.field-0; has_scope = true } in
-    let p = instance-awaits _ old begun c.args.mark c.args.from c.end-to.result argument c.requires.named c.requires.outside refl refl refl refl
-    c.in_ok-self.ensures.1 refl c.end-to.ensures c.requires.letter in
+    let begun = record old { at = c.args.behind; has_scope = true } in
+    let p = instance-awaits _ old begun c.args.mark c.args.from c.end-to.result c.args.behind argument c.requires.named c.requires.outside refl refl refl refl
+    refl refl c.end-to.ensures c.requires.returned in
     let entry = opens.EnclosingInstance c.args.mark c.args.from c.end-to.result argument in
     first-led (IsScopedWithin _ p.scope c.args.from c.end-to.result argument) begun c.push_byte.new.self _ entry p p.leads
     c.in_ok-push_byte.ensures c.in_ok-push.ensures.items refl refl refl refl (λ os h. h)

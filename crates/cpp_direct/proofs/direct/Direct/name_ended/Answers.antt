@@ -1,6 +1,5 @@
 use Rattle.std.proofs.Common.{subst}
-use Rattle.cpp_direct.specs.Symbol.{symbol_by}
-use Rattle.cpp_direct.specs.MidStep.{IsNameScoped}
+use Rattle.cpp_direct.specs.AllStates.{IsNameScoped, symbol_by}
 use Rattle.cpp_direct.proofs.Ending.{object-ended, parameters-begin}
 use Rattle.cpp_direct.proofs.NamedArguments.{scope-begins}
 use Rattle.cpp_direct.proofs.direct.Direct.name_ended.Goals as goal

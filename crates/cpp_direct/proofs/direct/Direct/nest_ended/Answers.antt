@@ -1,11 +1,6 @@
 use Rattle.std.proofs.Common.{true, false, subst, sym, ◌∙◌}
-use Rattle.cpp_direct.specs.Symbol.{symbol_by}
-use Rattle.cpp_direct.specs.WriterInvariant.{IsOwn, IsWriting}
+use Rattle.cpp_direct.specs.AllStates.{added_unless, IsAddressNamed, IsEnclosingNamed, IsInstanceNamed, IsNameEnded, IsOwn, IsWriting, Lists, symbol_by}
 use Rattle.cpp_direct.specs.declared.open.Step.TheVariants as steps
-use Rattle.cpp_direct.specs.MidStep.{IsNameEnded}
-use Rattle.cpp_direct.specs.Written.{Lists, added_unless}
-use Rattle.cpp_direct.specs.MidStepOfLocals.{IsEnclosingNamed, IsInstanceNamed}
-use Rattle.cpp_direct.specs.MidStepOfAddresses.{IsAddressNamed}
 use Rattle.cpp_direct.proofs.FunctionsWithin.{name-addressed, name-within}
 use Rattle.cpp_direct.proofs.InstancesWithin.{has-arguments, instance-within}
 use Rattle.cpp_direct.proofs.Nesting.{arguments-noted, type-ended, name-comes}

@@ -3,10 +3,8 @@ use Rattle.std.proofs.lemmas.Bool.{false≢true}
 use Rattle.std.specs.Bool.{◌==◌}
 use Rattle.sym_core.specs.declared.NumberKind.TheVariants.{Seq36}
 use Rattle.sym_core.specs.Value.{counted_value}
-use Rattle.cpp_direct.specs.Symbol.{symbol_by}
+use Rattle.cpp_direct.specs.AllStates.{argument_of, is_type, IsNestKnown, symbol_by}
 use Rattle.cpp_direct.specs.Holes.{StandsAt, IsSeqAt}
-use Rattle.cpp_direct.specs.MidStep.{IsNestKnown}
-use Rattle.cpp_direct.specs.WriterInvariant.{argument_of, is_type}
 use Rattle.cpp_direct.specs.declared.open.Arguments.{Arguments}
 use Rattle.cpp_direct.specs.declared.open.Nest.{Nest}
 use Rattle.cpp_direct.proofs.Moves.{stands-join}

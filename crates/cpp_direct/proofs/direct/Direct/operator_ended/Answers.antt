@@ -1,7 +1,5 @@
 use Rattle.std.proofs.Common.{arith, false, subst, sym}
-use Rattle.cpp_direct.specs.WriterInvariant.{nowhere}
-use Rattle.cpp_direct.specs.Symbol.{symbol_by}
-use Rattle.cpp_direct.specs.MidStep.{IsNameEnded}
+use Rattle.cpp_direct.specs.AllStates.{IsNameEnded, nowhere, symbol_by}
 use Rattle.cpp_direct.proofs.Nesting.{operator-ends}
 use Rattle.cpp_direct.proofs.TypesRead.{there}
 use Rattle.cpp_direct.proofs.direct.Direct.operator_ended.Goals as goal

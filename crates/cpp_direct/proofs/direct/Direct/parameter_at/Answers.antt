@@ -1,7 +1,6 @@
 use Rattle.std.proofs.Common.{append-nil, arith, false, refl, sym, true, subst, ap, ◌∙◌, codes, nat_eq}
 use Rattle.std.specs.List.{ends_with}
-use Rattle.cpp_direct.specs.Symbol.{symbol_by}
-use Rattle.cpp_direct.specs.MidStep.{AwaitsParameter, AwaitsSignature}
+use Rattle.cpp_direct.specs.AllStates.{AwaitsParameter, AwaitsSignature, symbol_by}
 use Rattle.cpp_direct.proofs.Signatures.{parameter-next, signature-closed}
 use Rattle.cpp_direct.proofs.TypesRead.{there}
 use Rattle.cpp_direct.proofs.direct.Direct.parameter_at.Goals as goal

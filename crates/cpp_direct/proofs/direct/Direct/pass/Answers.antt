@@ -1,7 +1,6 @@
 use Rattle.std.proofs.Common.{refl, subst}
-use Rattle.cpp_direct.specs.Symbol.{symbol_by}
+use Rattle.cpp_direct.specs.AllStates.{IsWriting, symbol_by}
 use Rattle.cpp_direct.specs.declared.open.Step.TheVariants as steps
-use Rattle.cpp_direct.specs.WriterInvariant.{IsWriting}
 use Rattle.cpp_direct.proofs.Listed.{waits-last}
 use Rattle.cpp_direct.proofs.Handed.{value-front, value-parameter, passed-closed}
 use Rattle.cpp_direct.proofs.direct.Direct.pass.Goals as goal

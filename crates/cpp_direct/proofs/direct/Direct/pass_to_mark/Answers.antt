@@ -1,9 +1,7 @@
 use Rattle.std.proofs.Common.{codes, false, true, subst, refl, ap, ◌∙◌, Some}
 use Rattle.cpp_grammar.specs.Term.{pointer, lvalue, rvalue, qualified}
-use Rattle.cpp_direct.specs.Symbol.{detail_by}
+use Rattle.cpp_direct.specs.AllStates.{detail_by, PrintsAs, qualifiers}
 use Rattle.cpp_direct.specs.declared.open.Open.TheVariants as opens
-use Rattle.cpp_direct.specs.Prints.{PrintsAs}
-use Rattle.cpp_direct.specs.WriterInvariant.{qualifiers}
 use Rattle.cpp_direct.proofs.PrintedTypes.{pointer-as, lvalue-as, rvalue-as, const-as}
 use Rattle.cpp_direct.proofs.Handed.{value-marked}
 use Rattle.cpp_direct.proofs.direct.Direct.pass_to_mark.Goals as goal

@@ -1,7 +1,6 @@
 use Rattle.std.proofs.Common.{true, arith, ◌∷◌, [], subst}
-use Rattle.cpp_direct.specs.Symbol.{symbol_by}
+use Rattle.cpp_direct.specs.AllStates.{IsWriting, symbol_by}
 use Rattle.cpp_direct.specs.declared.open.Step.TheVariants as steps
-use Rattle.cpp_direct.specs.WriterInvariant.{IsWriting}
 use Rattle.cpp_direct.specs.Holes.{StandsAt}
 use Rattle.cpp_direct.proofs.MovesOfNests.{first-is-rest}
 use Rattle.cpp_direct.proofs.Kept.{opened-so}

@@ -1,7 +1,6 @@
 use Rattle.std.proofs.Common.{ap, arith, ◌∙◌}
 use Rattle.sym_core.specs.declared.NumberKind.TheVariants.{Seq36}
-use Rattle.sym_core.specs.Token.{IsNumberToken}
-use Rattle.sym_core.specs.Value.{counted_value}
+use Rattle.cpp_direct.specs.AllTerms.{counted_value, IsNumberToken}
 use Rattle.cpp_direct.proofs.NamePlaces.{place-found, number-found, there-at}
 use Rattle.cpp_direct.proofs.direct.Direct.substitution.Goals as goal
 

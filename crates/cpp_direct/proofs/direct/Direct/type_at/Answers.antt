@@ -1,6 +1,5 @@
 use Rattle.std.proofs.Common.{◌∷◌, [], true, arith, subst, if◌then◌else◌}
-use Rattle.cpp_direct.specs.Symbol.{symbol_by}
-use Rattle.cpp_direct.specs.WriterInvariant.{IsWriting}
+use Rattle.cpp_direct.specs.AllStates.{IsWriting, symbol_by}
 use Rattle.cpp_direct.specs.declared.open.Step.TheVariants as steps
 use Rattle.cpp_direct.proofs.Kept.{opened-so}
 use Rattle.cpp_direct.proofs.Moves.{stands-join}

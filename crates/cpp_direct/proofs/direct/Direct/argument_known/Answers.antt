@@ -1,0 +1,13 @@
+use Rattle.std.proofs.Common.{arith, false}
+use Rattle.cpp_direct.proofs.Arguments.{argument-closes, known-passes}
+use Rattle.cpp_direct.proofs.TypesRead.{there}
+use Rattle.cpp_direct.proofs.direct.Direct.argument_known.Goals as goal
+
+pub returns-then-byte-eq76 : goal.returns-then-byte-eq76
+returns-then-byte-eq76 g c = known-passes _ c.args.self.now false c.args.last c.args.known c.requires.awaits
+
+pub close_list-requires-clause-ended : goal.close_list-requires-clause-ended
+close_list-requires-clause-ended g c =
+    let w = c.args.self.now in
+    argument-closes _ w c.in_ok-self.field-0 c.args.last c.args.known c.requires.awaits
+    (there c.args.s.now w.at c.byte_at-byte.result 69 c.if-byte-ne69.false (omega arith) c.byte_at-byte.ensures) c.in_ok-self.ensures.1
