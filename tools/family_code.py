@@ -21,7 +21,7 @@ for head, below in sections("cpp_families.txt"):
         wrapped = " ".join(production for _, production, _ in cpp_trees.WRAPPERS)
         FAMILIES[module][name] = says, " ".join(line for line, _ in below).replace("wrappers", wrapped).split()
 
-# ## What a row stands for
+# ## What a row means
 
 def source(text):
     """An argument of a tree, in code."""
@@ -54,7 +54,7 @@ def pair(letter, left, right, node_of):
     return f"Outcome::Given(Part::Pair {{ letter: {source(letter)}, left: {source(left)}, right: {source(right)} }})"
 
 def outcome(means, node_of):
-    """What a row stands for, in code."""
+    """What a row means, in code."""
     if known := said("means", means, CODE): return known
     if m := re.fullmatch(r"piece (.*)", means): return f"piece({piece(m[1])})"
     if m := re.fullmatch(r"pair\((.*)\)", means): return pair(*split(m[1]), node_of)

@@ -84,7 +84,7 @@ def lines_of_crates():
 
 
 def below(name):
-    """The repository's crates that a crate stands on, lowest first."""
+    """The repository's crates that a crate depends on, lowest first."""
     uses = {crate: line.partition(":")[2].split() for crate, line in lines_of_crates().items()}
     found = []
 
@@ -110,7 +110,7 @@ def time_edits(crate, edits, tells):
         edited = text
         for old, new in pairs:
             if edited.count(old) != 1:
-                sys.exit(f"{edit.name}: its text stands {edited.count(old)} times in {file}")
+                sys.exit(f"{edit.name}: its text occurs {edited.count(old)} times in {file}")
             edited = edited.replace(old, new)
         (crate / file).write_text(edited)
         seconds, printed = timed(crate, "rt", "check", "--jobs", "1")

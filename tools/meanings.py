@@ -37,7 +37,7 @@ def pair(means):
     return source(letter), made(left), made(right)
 
 def form(text, nodes):
-    """What a production stands for."""
+    """What a production denotes."""
     if known := said("means", text, nodes=nodes): return known
     if text.startswith("pair("): return "a_pair " + " ".join(map(braced, pair(text)))
     if m := re.fullmatch(r"piece (.*)", text): return f"a_piece ({made(m[1])})"

@@ -20,7 +20,7 @@ def defined(production):
 
 
 def coded(production):
-    """A production in code, behind the name of the enum."""
+    """A production in code, after the name of the enum."""
     group = group_of(production)
     return f"{group}({group}::{production})" if group else production
 
@@ -42,7 +42,7 @@ def defined_cases(values):
 
 
 def coded_cases(values):
-    """The cases in code: the name of each, its pattern behind the name of the enum, and the value."""
+    """The cases in code: the name of each, its pattern after the name of the enum, and the value."""
     return [(case, f"{case}(_)" if case in ALIKE else coded(case), value) for case, value in met(values)]
 
 

@@ -140,7 +140,7 @@ class Fitting:
             self.known[0] = {"trees"}
 
     def form(self, text):
-        """What the production stands for."""
+        """What the production denotes."""
         word, *rest = parsed(text)
         if word == "makes":
             self.made(rest[0], "trees")
@@ -162,7 +162,7 @@ class Fitting:
                 self.part(rest[1], second)
 
     def gives(self, text):
-        """The sorts of what it stands for."""
+        """The sorts of what it denotes."""
         word, *rest = parsed(text)
         if word == "handed":
             return self.known[int(rest[0])]

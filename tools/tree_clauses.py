@@ -29,7 +29,7 @@ def carried(lines):
 # ## Trees
 
 def fold(function, before, joined, none, special={}, over=SUBTREES, closed=None, trees=cpp_trees.TREES, crate=""):
-    """What is computed of the subtrees, joined; `closed` stands for `before` at trees under a scope of their own."""
+    """What is computed of the subtrees, joined; `closed` replaces `before` at trees under a scope of their own."""
     special = {**special, **CLAUSES.get(crate + function, {})}
     def right(tree):
         if tree[0] in special: return special[tree[0]]
@@ -184,7 +184,7 @@ def inside_shut():
 
 BEHIND_LETTERS = "IsTemplateBehindLetters own name (name_letters q ref)"
 def never_referred():
-    """Where a tree has a template behind the letters of its name, so that no reference names it."""
+    """Where a tree has a template after the letters of its name, so that no reference names it."""
     def below(first, *rest): return f"IsNeverReferred own {first}" + (f" ⊎ ({below(*rest)})" if len(rest) > 1 else f" ⊎ {below(*rest)}" if rest else "")
     special = {"function": f"\n    {BEHIND_LETTERS}\n    ⊎ ({below('name', 'returned', 'parameters')})", "object": f"{BEHIND_LETTERS} ⊎ {below('name')}",
                "of_name": f"{BEHIND_LETTERS} ⊎ {below('name')}", "local": f"IsTemplateOf own entity ⊎ ({below('e', 'entity')})",

@@ -157,7 +157,7 @@ class Computing:
         return self.operand(it.operands[0], it.type)
 
     def step_value(self, it):
-        """An address so many steps after another."""
+        """An address that is a number of steps after another."""
         base, count = self.operand(it.operands[0], "ptr"), self.operand(it.operands[1], it.type)
         if count.binds < UNARY and count.type != kind(it.type):
             count = widened(count, it.type)

@@ -243,7 +243,7 @@ def choice(condition, one, other, type_):
 
 
 def further(base, distance):
-    """An address so many bytes after another."""
+    """An address that is a number of bytes after another."""
     if not distance:
         return base
     sign = "+" if distance > 0 else "-"

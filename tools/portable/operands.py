@@ -60,7 +60,7 @@ class Name(NamedTuple):
 
 
 class Address(NamedTuple):
-    """So many bytes after a table's or a function's beginning."""
+    """A number of bytes after a table's or a function's beginning."""
 
     of: str
     distance: int

@@ -36,7 +36,7 @@ class Tables:
         return self.name("t_" + hashlib.sha256(bytes_).hexdigest()[:4], of)
 
     def address(self, operand):
-        """So many bytes after a table's or a function's beginning."""
+        """A number of bytes after a table's or a function's beginning."""
         it = Expression(f"(u8*){'&' if operand.of in self.mixed else ''}{self.names[operand.of]}", POINTER, UNARY)
         return further(it, operand.distance)
 

@@ -27,7 +27,7 @@ class Widened(NamedTuple):
 
 
 class After(NamedTuple):
-    """The address so many bytes after a value that is an address."""
+    """The address that is a number of bytes after a value that is an address."""
 
     of: object
     distance: int
@@ -72,7 +72,7 @@ class Values:
                 self.aliases[it.name] = base
 
     def flatten(self):
-        """No alias stands for another one."""
+        """No alias denotes another alias."""
         changed = True
         while changed:
             changed = False

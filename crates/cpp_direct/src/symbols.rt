@@ -153,7 +153,7 @@ impl Direct {
         if letter == b'A' {
             return None;
         }
-        // the M is of no symbol's name: it stands for the GI of a module's initializer
+        // the M begins no symbol's name: it means the GI of a module's initializer
         if letter == b'M' {
             return None;
         }

@@ -378,7 +378,7 @@ form_fits known (a_name listing) = reads known 0 (trees ∷ []) && is_part known
 form_fits known in_place = reads known 0 (trees ∷ []) && is_part known 1
 form_fits known (own o most) = true
 
--- of which sorts what a production stands for may be
+-- the sorts that what a production denotes may have
 unfoldable pub gives : Known → Form → List Sort
 gives known (handed k) = sorts_at known k
 gives known (either k n) = without_none (sorts_at known k) ++ sorts_at known n

@@ -608,7 +608,7 @@ impl Symbol {
         self.push_own_text(parts, operation.front);
     }
 
-    /// A parameter of the function in whose types an expression is.
+    /// A parameter of the function that has an expression in its types.
     // <function-param> ::= fp [ <parameter-2 number> ] _ | fL <L-1 number> p [ <parameter-2 number> ] _
     pub(crate) fn fill_function_parameter<S: PartList<Context>>(
         &self,

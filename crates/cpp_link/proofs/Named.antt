@@ -173,7 +173,7 @@ module _ (s : List ℕ) (l : Linked) (place number : ℕ) where
       there = tt;
     }
 
-    -- no list has so many
+    -- no list has that many
     pub named_nowhere : (bound : ℕ) → bound ≤ number → (c : Option Candidate) → ((n : ℕ) → bound ≤ n → c ≡ slice_get items n) → (lists : Lists) → IsNamed s l place number c lists
     named_nowhere bound past c at lists =
         let nothing : c ≡ None = at (number + length items) (omega (arith, past)) ∙ none_at items (number + length items) (omega arith) in
@@ -253,7 +253,7 @@ module _ (s : List ℕ) (l : Linked) (place number : ℕ) where
     pub both_two : (o p : Option ℕ) → IsAt false o → IsAt true p → is_one_place o p ≡ false → IsBoth None
     both_two o p longer shorter two = (both_none (other_place o p longer shorter two), tt)
 
-    -- where no list has so many
+    -- where no list has that many
     pub both_nowhere : (bound : ℕ) → bound ≤ number → (c : Option Candidate) → ((n : ℕ) → bound ≤ n → c ≡ slice_get items n) → IsBoth None
     both_nowhere bound past c named =
         let nothing : c ≡ None = named (number + length items) (omega (arith, past)) ∙ none_at items (number + length items) (omega arith) in

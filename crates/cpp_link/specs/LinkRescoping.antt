@@ -16,7 +16,7 @@ use Rattle.cpp_term.specs.Term.{parameter}
 use Rattle.cpp_term.specs.Items.{auto}
 use Rattle.cpp_term.specs.Values.{Candidate, State, Around, Value, tree, tree_of, prefix_tree, prefix_listed, text_of, part}
 use Rattle.cpp_term.specs.Unfolding.{first_around, first_state}
-use Rattle.cpp_term.specs.Rescoping.{generic_so_far, with_holder, counted_unless, is_foreign, as_generic_lambda, counted_base, place_in, named_in, left_at, with_lists, expecting, close_wide, cpp_wide}
+use Rattle.cpp_term.specs.Rescoping.{generic_so_far, with_holder, counted_unless, is_foreign, as_generic_lambda, counted_base, place_in, named_in, left_at, expecting, close_wide, cpp_wide}
 use Rattle.cpp_term.specs.Between.{Continuation, next}
 use Rattle.cpp_link.specs.declared.linked.Linked.{Linked}
 use Rattle.cpp_link.specs.declared.rescoping.Rescoping.{Rescoping}
@@ -133,9 +133,6 @@ named_after place number state = elim (nat_eq (place_in false state.candidates n
 -- the candidate that a substitution at this place with these parts names, and the state after it
 abbrev pub named_by : (place : ℕ) → State → List Value → Option Candidate
 named_by place state known = named_after (place - 1) (number_in known) state
-
-abbrev pub left_by : (place : ℕ) → State → List Value → State
-left_by place state known = with_lists (lists_after (place - 1) (number_in known) state) state
 
 -- ## What a symbol makes
 

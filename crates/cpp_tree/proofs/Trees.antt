@@ -361,20 +361,11 @@ none_element t = refl
 
 -- ## Lists
 
-pub nil_is : (y : Table) (p : Placed) → IsTable y → p.node < length y.nodes → (entry_at y.nodes p.node).node ≡ Node.Nil → tree_under (trees y) p ≡ nil
-unfolding tree_of tree_under reargued
-nil_is y p table less is = ap (reargued (tree_if_there (trees y) p.under)) (node_is y p.node Node.Nil table less is).0
-
 other_node : (s : List ℕ) (us : List Thunk) (ts : List Term) (c : Option Term) (n : Node) → is_again n ≡ false → (n ≡ Node.Nil → ⊥) → reargued c (tree_of s us ts n) ≡ nil → ⊥
 unfolding tree_of reargued is_again
 other_node s us ts c Node.Nil flat other e = other refl
 other_node s us ts c (Node.Reargued t a) flat other e = true≢false flat
 other_node s us ts c _ flat other e = cc e
-
-pub not_nil : (y : Table) (p : Placed) → IsTable y → p.node < length y.nodes → is_again (entry_at y.nodes p.node).node ≡ false → ((entry_at y.nodes p.node).node ≡ Node.Nil → ⊥) → tree_under (trees y) p ≡ nil → ⊥
-unfolding tree_under
-not_nil y p table less flat other e =
-    other_node y.bytes y.thunks (trees y) (tree_if_there (trees y) p.under) (entry_at y.nodes p.node).node flat other (ap (reargued (tree_if_there (trees y) p.under)) (sym (table.each p.node less).built) ∙ e)
 
 -- whether a tree prints nothing doesn't depend on the index
 empty_closed : (c : items.Context) (t : Term) → items.is_empty items.closed t ≡ items.is_empty c t

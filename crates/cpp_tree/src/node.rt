@@ -264,7 +264,7 @@ pub enum Node {
         left: u32,
         right: u32,
     },
-    /// A parameter of the function in whose types it is, as an expression.
+    /// A parameter of the function that has this expression in its types.
     FunctionParameter(Span),
     Pack(u32),
     Cell {

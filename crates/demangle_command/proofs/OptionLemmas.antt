@@ -1,4 +1,4 @@
--- What the parser of the command line finds, by what it is told.
+-- What the parser of the command line finds, by the options and arguments that it is given.
 use Rattle.std.proofs.Common.{◌≡◌, ◌∙◌, ap, refl, subst, map, Bor, [], ◌∷◌, ◌++◌, ℕ, Bool, List, Option, Some, None, false, true}
 use Rattle.std.proofs.lemmas.List.{map-append}
 use Rattle.clap.specs.Words.{AddsAliases, AddsShortAliases, Rule, Text, is_simple, is_simple_and_free, rule_of}

@@ -1,4 +1,4 @@
--- The words of a file, which an argument `@FILE` stands for.
+-- The words of a file that an argument `@FILE` names.
 use Rattle.std.specs.Prelude.{codes, ℕ, List, [], ◌∷◌, ◌++◌, Bool, true, false, Option, Some, None, ◌==◌, ◌||◌, ◌&&◌, nat_le, map, if◌then◌else◌, Vec}
 use Rattle.std.specs.Global.{Global}
 use Rattle.std.specs.Fmt.{decimal}
@@ -34,7 +34,7 @@ ended reading = if reading.is_begun then record reading { words = reading.words 
 abbrev pub quoted : ℕ → Reading → ℕ → Reading
 quoted quote reading byte = if byte == quote then record reading { quote = None } else pushed reading byte
 
--- a byte outside of quotes, which opens one, stands between words or belongs to one
+-- a byte outside of quotes, which opens one, separates words or belongs to one
 abbrev pub plain : Reading → ℕ → Reading
 plain reading byte =
     if is_quote byte then record reading { is_begun = true; quote = Some byte }

@@ -11,7 +11,7 @@ use Rattle.demangle_names.specs.declared.style.Style.{Style}
 use Rattle.demangle_names.specs.declared.style.Style.TheVariants.{Auto}
 use Rattle.demangle_names.specs.declared.options.Options.{Options}
 
--- ## What the parser is told
+-- ## What the parser is given
 
 -- `-p`, `--no-params`
 abbrev pub no_params : Rule

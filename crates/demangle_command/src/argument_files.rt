@@ -1,4 +1,4 @@
-// The words of a file, which an argument `@FILE` stands for.
+// The words of a file that an argument `@FILE` names.
 ghost use Rattle.std.specs.Prelude.{◌≡◌, IfOk, OnOk};
 ghost use Rattle.demangle_command.specs.ArgumentFiles.{after_byte, ended, is_blank, is_quote, plain, pushed, quoted, reading_of, words_in, words_of};
 
@@ -36,7 +36,7 @@ pub fn words_in(alloc: Global, text: &[u8]) -> Result<Vec<Vec<u8>>, AllocError>
     Ok(reading.words)
 }
 
-/// Whether a byte stands between words.
+/// Whether a byte separates words.
 fn is_blank(byte: u8) -> bool
     ensures { result ≡ is_blank byte }
 {

@@ -9,7 +9,7 @@ use lib.Lanes.{chunk, zip2, mask_l, top}
 use Rattle.short_names.specs.Runs.{begins_std}
 use Rattle.short_names.proofs.FrontLemmas.{front-byte, false-from}
 
--- a bit of a number, and of what is left behind some bits
+-- a bit of a number, and of what is left after some bits
 pub bit_at-shr : (n s k : ℕ) → s ≤ k → bit_at n k ≡ bit_at (n / 2 ^ s) (k - s)
 bit_at-shr n s k le =
     let on : k ≡ s + (k - s) = omega arith in

@@ -78,7 +78,7 @@ take-past xs ys k =
 drop-past : (xs ys : List ℕ) (k : ℕ) → drop (length xs + k) (xs ++ ys) ≡ drop k ys
 drop-past xs ys k = sym (drop-drop k (length xs) (xs ++ ys)) ∙ ap (drop k) (drop_at xs ys (length xs) refl)
 
--- ## A constructor behind a usual name
+-- ## A constructor after a usual name
 
 front-some : (text : List ℕ) → 2 ≤ front_size text
 front-some text = by (starts_with nat_eq text (codes "::~"))

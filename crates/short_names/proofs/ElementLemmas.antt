@@ -10,7 +10,7 @@ lead zero elements = []
 lead (suc k) [] = []
 lead (suc k) (element ∷ elements) = element ++ codes ", " ++ lead k elements
 
--- what comes behind the first
+-- what comes after the first
 tail : List (List ℕ) → List ℕ
 tail [] = []
 tail (next ∷ elements) = codes ", " ++ joined (next ∷ elements)
@@ -50,7 +50,7 @@ take-more (suc k) (first ∷ next ∷ elements) within =
     ap (λ t. first ++ codes ", " ++ t) (take-more k (next ∷ elements) (omega (arith, within)))
     ∙ sym (append_assoc (first ++ codes ", ") (lead k (next ∷ elements)) (get_or (next ∷ elements) k []))
 
--- the next element begins two bytes behind the end of one
+-- the next element begins two bytes after the end of one
 lead-next : (k : ℕ) (elements : List (List ℕ)) → k < length elements → length (lead (suc k) elements) ≡ length (joined (take (suc k) elements)) + 2
 unfolding lead
 lead-next k [] within = absurd (omega (arith, within))
@@ -80,7 +80,7 @@ unfolding joined lead
 first-within zero elements within = omega arith
 first-within (suc k) elements within = omega (arith, lead-next k elements (omega (arith, within)))
 
--- without an element and those behind it the text is shorter, by that element at least
+-- without an element and those after it the text is shorter, by that element at least
 pub joined-before : (k : ℕ) (elements : List (List ℕ)) → k < length elements → length (joined (take k elements)) + length (get_or elements k []) ≤ length (joined elements)
 joined-before k elements within =
     omega (

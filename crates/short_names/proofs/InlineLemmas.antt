@@ -26,7 +26,7 @@ one-more : (rows : List Place) (byte : ℕ) (name : List ℕ) (next : ℕ) → s
 unfolding inlines_size
 one-more rows byte name next is = rw (is, inlines_size) refl
 
--- behind one of them
+-- after one of them
 pub size-behind : (rows : List Place) (name : List ℕ) (next : ℕ) → size_of (row_in rows name) ≡ next → inlines_size rows 0 name ≡ next + inlines_size rows 0 (drop next name)
 size-behind rows name zero is = omega arith
 size-behind rows [] (suc next) is = absurd (omega (arith, is, row-length rows []))
@@ -210,7 +210,7 @@ module _ (text : List ℕ) (run front inner nested : ℕ) (is : is_std_at text r
         ∙ sym (append_assoc (piece text copied run) (piece text run (run + 5)) (rest ++ last))
         ∙ ap (λ t. t ++ (rest ++ last)) (piece-join text copied run (run + 5) (omega (arith, low, high)) (omega arith))
 
-    -- what is written where there are some, and nothing is copied behind them
+    -- what is written where there are some, and nothing is copied after them
     pub some-left-out : (out first : List ℕ) → out ++ (piece text copied at ++ from_on text at) ≡ first
         → out ++ piece text copied (run + 5) ++ piece text (run + 5 + front) (run + 5 + front + inner)
         ++ (piece text (run + 5 + front + inner + nested) (run + 5 + front + inner + nested) ++ from_on text (run + 5 + front + inner + nested)) ≡ first

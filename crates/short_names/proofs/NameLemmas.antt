@@ -20,7 +20,7 @@ some-bytes (b ∷ t) h = omega arith
 
 -- ## Names of std
 
--- a `_` comes behind `std::` in all rows but the last
+-- a `_` comes after `std::` in all rows but the last
 low_sixth : List ℕ → Bool
 low_sixth t = nat_lt 5 (length t) && get_or t 5 0 == 95
 

@@ -21,7 +21,7 @@ use Rattle.short_names.proofs.NameSteps.{run-take, run-within, run-some, at_run,
 abbrev pub outside : List ℕ → Written
 outside last = record { opened = []; last = last }
 
--- the byte behind a run isn't of a name
+-- the byte after a run isn't of a name
 pub run-stops : (text : List ℕ) → is_name_byte (get_or text (length (run_of text)) 0) ≡ false
 unfolding run_of is_name_byte is_letter
 run-stops [] = refl
@@ -54,7 +54,7 @@ std-letter text k h =
     let first : get_or text k 0 ≡ 115 = sym (ap (λ n. get_or text n 0) (omega arith)) ∙ sym (get_or-drop k text 0 0) ∙ sym (get_or-take 5 (drop k text) 0 0 (omega arith)) ∙ ap (λ t. get_or t 0 0) (begun (drop k text) (codes "std::") h) in
     ap is_name_byte first
 
--- a place behind a piece of a text is looked at as the first one of what follows
+-- a place after a piece of a text is looked at as the first one of what follows
 pub at-drop : (text : List ℕ) (size k : ℕ) → 0 < size → (begins_std (drop size text) ≡ true → is_name_byte (get_or text (size - 1) 0) ≡ false)
     → is_std_at (drop size text) k ≡ is_std_at text (size + k)
 at-drop text size zero some boundary =
@@ -84,7 +84,7 @@ pub record Piece (text : List ℕ) (to : ℕ) : Type 0 where
   pub step : (last : List ℕ) → stepped short_rules byte rest (outside last) ≡ Some (record { size = size; written = outside (last ++ take size text) })
   pub boundary : begins_std (drop size text) ≡ true → is_name_byte (get_or text (size - 1) 0) ≡ false
 
--- the place after which something becomes shorter is behind the pieces before it
+-- the place after which something becomes shorter is after the pieces before it
 ends-behind : (text : List ℕ) (to k : ℕ) → (is_std_at text to ≡ true) ⊎ (to ≡ length text) → to < k → k ≤ length text → 0 < to → is_name_byte (get_or text (to - 1) 0) ≡ true → ⊥
 ends-behind text to k end less within some letter = elim end [
   | inl begins ↦ absurd (true≢false (sym begins ∙ ap (λ b. begins_std (drop to text) && (b || not (is_name_byte (get_or text (to - 1) 0)))) (ne_eqb to 0 (λ z. absurd (omega (arith, z, some)))) ∙ ap (λ b. begins_std (drop to text) && not b) letter ∙ and_false (begins_std (drop to text))))

@@ -17,7 +17,7 @@ none-in p text other (row ∷ rows) all =
     let parts = and_parts (p (text_of row)) (list_all (λ row. p (text_of row)) rows) all in
     rw (other (text_of row) parts.0) (none-in p text other rows parts.1)
 
--- rows behind others that a text doesn't begin with
+-- rows after others that a text doesn't begin with
 pub row_in-append : (xs ys : List Place) (text : List ℕ) → row_in xs text ≡ None → row_in (xs ++ ys) text ≡ row_in ys text
 unfolding row_in
 row_in-append [] ys text none = refl

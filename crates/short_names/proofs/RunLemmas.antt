@@ -36,7 +36,7 @@ std-room text at is =
       | inr room ↦ room
     ]
 
--- at none of some places, of those behind them, and of the next
+-- at none of some places, of those after them, and of the next
 pub no-std-more : (text : List ℕ) (from at next : ℕ) → ((k : ℕ) → from ≤ k → k < at → is_std_at text k ≡ false)
     → ((k : ℕ) → at ≤ k → k < next → begins_std (drop k text) ≡ false) → is_std_at text next ≡ false
     → (k : ℕ) → from ≤ k → k < next + 1 → is_std_at text k ≡ false

@@ -150,7 +150,7 @@ left-within named elements (suc count) = by (is_default named elements count) (l
     by true h = omega (arith, h)
     by false h = omega arith
 
--- an answer for a name and its list with the text behind it
+-- an answer for a name and its list with the text after it
 pub record IsShorter (run : List ℕ) (elements : List (List ℕ)) (rest : List ℕ) (answer : Answer) : Type 0 where
   pub short : length answer.bytes ≤ length run + length (joined elements) + 2 + answer.size
   pub within : answer.size ≤ length rest

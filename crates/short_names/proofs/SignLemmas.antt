@@ -41,7 +41,7 @@ kept text now written byte rest bytes to is here step take_is some within to_is 
   further = omega (arith, to_is, some);
 }
 
--- a bracket that is opened, behind its name
+-- a bracket that is opened, after its name
 pub opened : (text : List ℕ) (now : Writing) (written : Written) (byte : ℕ) (rest : List ℕ) (mark : ℕ) (name : List ℕ) (listed : Option Listed) (after : Writing)
     → IsAt text now written → drop now.at text ≡ byte ∷ rest → stepped short_rules byte rest written ≡ opens mark name written
     → take (length name + 1) (drop now.at text) ≡ name ++ mark ∷ [] → now.at + (length name + 1) ≤ length text → IsListed name listed → ((mark == 60) ≡ false → name ≡ [])

@@ -38,7 +38,7 @@ where-it-fits k row name h is =
     let parts = and_parts (nat_le (get_or FIRST (length (text_of row.name)) 0) k) (nat_lt k (get_or FIRST (length (text_of row.name) + 1) 0)) h in
     subst (λ (n : List ℕ). (get_or FIRST (length n) 0 ≤ k) × (k < get_or FIRST (length n + 1) 0)) (name-is row name is) (leb-true _ _ parts.0, ltb-true _ _ parts.1)
 
--- no row behind those of a name's size has the name
+-- no row after those of a name's size has the name
 past : (k : ℕ) (rows : List Template) (name : List ℕ) → placed k rows ≡ true → get_or FIRST (length name + 1) 0 ≤ k → template_in rows name ≡ None
 unfolding template_in placed
 past k [] name all le = refl

@@ -9,7 +9,7 @@ use Rattle.short_names.specs.Short.{is_read_back}
 use Rattle.short_names.specs.Starts.{starts_of}
 use Rattle.short_names.specs.Walk.{Answer}
 
--- A text ends with the list: its name and its elements are behind some bytes.
+-- A text ends with the list: its name and its elements are after some bytes.
 pub record IsList (text : List ℕ) (named : Named) (bracket : ℕ) (starts before name : List ℕ) (elements : List (List ℕ)) : Type 0 where
   pub text_is : text ≡ before ++ name ++ 60 ∷ joined elements
   pub named_is : named_in name ≡ Some named
@@ -27,7 +27,7 @@ pub record IsString (whole : Place) (row : ℕ) (rest : List ℕ) : Type 0 where
   pub follows : take (length STRING_LIST) rest ≡ STRING_LIST
   pub read_back : IfSome (slice_get ALIASES STRING) (λ alias. is_read_back (drop (length STRING_LIST) rest) alias ≡ true)
 
--- an answer was written behind a text, with some of the bytes that follow
+-- an answer was written after a text, with some of the bytes that follow
 pub record IsAnswered (new before rest : List ℕ) (answer : Answer) (size : ℕ) : Type 0 where
   pub text_is : new ≡ before ++ answer.bytes
   pub size_is : size ≡ answer.size

@@ -13,7 +13,7 @@ use Rattle.short_names.specs.Walk.{Answer, Rules, by_rules}
 
 -- ## Defaults
 
--- elements, and the defaults in the places behind them that have some, each as a full text
+-- elements, and the defaults in the places after them that have some, each as a full text
 unfoldable pub with_defaults : (full : List ℕ → List ℕ) → Named → List (List ℕ) → (places : List Place) → List (List ℕ)
 with_defaults full named elements [] = elements
 with_defaults full named elements (place ∷ places) =
@@ -58,7 +58,7 @@ for_list full run elements (Some named) = record { bytes = run ++ listed (defaul
 
 -- ## Usual names
 
--- the row of the usual name with which a name begins, and ends there; `text` is the name and what comes behind it
+-- the row of the usual name with which a name begins, and ends there; `text` is the name and what comes after it
 unfoldable pub usual_in : List Alias → (name text : List ℕ) → Option Alias
 usual_in [] name text = None
 usual_in (row ∷ rows) name text =

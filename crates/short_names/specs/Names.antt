@@ -21,13 +21,13 @@ size_of (Some row) = length (text_of row)
 
 -- ## A name of std
 
--- A name of std: its `std::`, with the inline namespace that holds all of `std` if there is one, and what comes behind that, without the
+-- A name of std: its `std::`, with the inline namespace that holds all of `std` if there is one, and what comes after that, without the
 -- inline namespace that holds a part of `std` if there is one.
 pub record StdName : Type 0 where
   pub whole : Place
   pub name : List ℕ
 
--- the name behind an inline namespace that holds a part of `std`
+-- the name after an inline namespace that holds a part of `std`
 abbrev pub behind_part : List ℕ → List ℕ
 behind_part name = drop (size_of (row_in PARTS name)) name
 
@@ -100,7 +100,7 @@ ends_name (byte ∷ rest) = starts_with nat_eq (byte ∷ rest) (codes "::") || n
 -- ## A usual name that was written already
 
 -- the row of the usual name with which a name begins, where a constructor or destructor follows by the template's name; `behind` is what
--- comes behind the name in its text
+-- comes after the name in its text
 unfoldable pub member_in : List Alias → (name behind : List ℕ) → Option Alias
 member_in [] name text = None
 member_in (row ∷ rows) name text =

@@ -5,7 +5,7 @@ use Rattle.short_names.specs.declared.finding.Found.{Found}
 use Rattle.short_names.specs.Changes.{IsChange, is_nothing}
 use Rattle.short_names.specs.Runs.{run_of, is_std_at}
 
--- the rest of a text behind the run with which it begins
+-- the rest of a text after the run with which it begins
 abbrev pub behind_run : List ℕ → List ℕ
 behind_run text = drop (length (run_of text)) text
 

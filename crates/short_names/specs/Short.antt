@@ -52,8 +52,8 @@ abbrev pub for_list : Option Named → (run : List ℕ) → (elements : List (Li
 for_list None run elements rest = record { bytes = run ++ listed elements; size = 0 }
 for_list (Some named) run elements rest = short_list named run elements rest
 
--- A usual name that was written already, with a constructor or destructor that has the template's name. What comes behind the usual name in
--- the run is looked at with the text behind the run.
+-- A usual name that was written already, with a constructor or destructor that has the template's name. What comes after the usual name in
+-- the run is looked at with the text after the run.
 abbrev pub member : (run rest name : List ℕ) → Option Alias → Option Answer
 member run rest name None = None
 member run rest name (Some alias) =

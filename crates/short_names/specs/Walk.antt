@@ -8,8 +8,8 @@ pub record Answer : Type 0 where
   pub bytes : List ℕ
   pub size : ℕ
 
--- Rules: which names have lists that are changed; what is written for another name, with the text behind it, if it is changed, in
--- the place of how many bytes from the name's first on; and what is written for a name and its list, by the list's elements and the text behind it. A list that is behind no such name has none.
+-- Rules: which names have lists that are changed; what is written for another name, with the text after it, if it is changed, in
+-- the place of how many bytes from the name's first on; and what is written for a name and its list, by the list's elements and the text after it. A list that is after no such name has none.
 pub record Rules : Type 0 where
   pub opens : (run : List ℕ) → Bool
   pub for_name : (run rest : List ℕ) → Option Answer
@@ -54,7 +54,7 @@ opens bracket name written = Some (record {
   written = record { opened = record { bracket = bracket; name = name; before = written.last; elements = [] } ∷ written.opened; last = [] };
 })
 
--- the operator's sign behind a run, which is no bracket; outside of brackets it makes no difference
+-- the operator's sign after a run, which is no bracket; outside of brackets it makes no difference
 abbrev pub sign_of : List Opened → (run rest : List ℕ) → List ℕ
 sign_of [] run rest = []
 sign_of (top ∷ around) run rest = take (operator_size run rest) rest
@@ -115,7 +115,7 @@ stepped rules byte rest written =
 
 -- ## A text
 
--- What is written for a text behind some bytes of it that were written before; none where its brackets don't pair.
+-- What is written for a text after some bytes of it that were written before; none where its brackets don't pair.
 unfoldable pub written_for : Rules → (skipped : ℕ) → List ℕ → Written → Option Written
 written_for rules skipped [] written = Some written
 written_for rules (suc skipped) (byte ∷ text) written = written_for rules skipped text written

@@ -16,7 +16,7 @@ use Rattle.short_names.specs.Short.{short_rules, for_list}
 use Rattle.short_names.specs.Starts.{starts_of}
 use Rattle.short_names.specs.Walk.{Answer, Opened, Written, is_list, written_for, start}
 
--- elements that have ended, each with `, ` behind it
+-- elements that have ended, each with `, ` after it
 unfoldable pub ended : List (List ℕ) → List ℕ
 ended [] = []
 ended (element ∷ elements) = element ++ codes ", " ++ ended elements
@@ -34,7 +34,7 @@ abbrev pub IsListed : (name : List ℕ) → Option Listed → Type 0
 IsListed name None = named_in name ≡ None
 IsListed name (Some listed) = (listed.row < length TEMPLATES) × (named_in name ≡ with_template listed.whole (slice_get TEMPLATES listed.row))
 
--- an open bracket, behind the text before its element, and behind the elements around it that have begun
+-- an open bracket, after the text before its element, and after the elements around it that have begun
 pub record IsOpen (top : Opened) (before : List ℕ) (bracket : Bracket) (earlier : ℕ) (starts : List ℕ) : Type 0 where
   pub kind : bracket.is_list ≡ is_list top
   pub named : IsListed top.name bracket.named
@@ -117,7 +117,7 @@ pub record IsClosed (old new : Writing) (around : List Bracket) (bracket : Brack
   pub brackets_are : new.brackets.items ≡ around
   pub starts_are : new.starts.items ≡ take bracket.first old.starts.items
 
--- A list of a name of the table ends at the place, with the name and its elements behind a text.
+-- A list of a name of the table ends at the place, with the name and its elements after a text.
 pub record IsPending (text : List ℕ) (now : Writing) (list : Bracket) (listed : Listed) (before name : List ℕ) (elements : List (List ℕ)) : Type 0 where
   pub copied : now.copied ≤ now.at
   pub within : now.at < length text
@@ -132,7 +132,7 @@ pub record IsPending (text : List ℕ) (now : Writing) (list : Bracket) (listed 
 abbrev pub CanClose : (text : List ℕ) → Writing → Bracket → Listed → Type 0
 CanClose text now list listed = (before : List ℕ) × (name : List ℕ) × (elements : List (List ℕ)) × IsPending text now list listed before name elements
 
--- what is written for a name and its list is behind that text
+-- what is written for a name and its list is after that text
 abbrev pub answer_of : (text : List ℕ) → (at : ℕ) → (name : List ℕ) → (elements : List (List ℕ)) → Answer
 answer_of text at name elements = for_list (named_in name) name elements (drop (at + 1) text)
 

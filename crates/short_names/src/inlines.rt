@@ -41,7 +41,7 @@ fn may_have_inlines(name: &[u8]) -> bool
     }
 }
 
-/// Where inline namespaces are in a name behind `std::`: at its front, and behind a namespace that has some of its own.
+/// Where inline namespaces are in a name after `std::`: at its front, and after a namespace that has some of its own.
 #[derive(Clone, Copy)]
 struct Inlines {
     front: usize,
@@ -103,7 +103,7 @@ impl Inlines {
     }
 }
 
-/// Whether a name behind `std::` has inline namespaces.
+/// Whether a name after `std::` has inline namespaces.
 #[inline(always)]
 pub(crate) fn has_inlines(name: &[u8]) -> bool
     ensures { result ≡ has_inlines name.now }

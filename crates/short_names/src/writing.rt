@@ -186,7 +186,7 @@ impl Writing {
         }
     }
 
-    /// Writes `std::string` for a run of a size and the list that follows it, and the constructor or destructor behind them.
+    /// Writes `std::string` for a run of a size and the list that follows it, and the constructor or destructor after them.
     fn write_string(&mut self, text: &[u8], size: usize) -> Result<(), AllocError>
         requires { IsAtString text.now self.old size }
         ensures { GoesFrom text.now self.old self.new result }
@@ -202,7 +202,7 @@ impl Writing {
         Ok(())
     }
 
-    /// Writes a usual name that ends after some bytes, and the constructor or destructor behind it.
+    /// Writes a usual name that ends after some bytes, and the constructor or destructor after it.
     fn write_member(&mut self, text: &[u8], row: usize, size: usize) -> Result<(), AllocError>
         requires { IsAtMember text.now self.old row size }
         ensures { GoesFrom text.now self.old self.new result }

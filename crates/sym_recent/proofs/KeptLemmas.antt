@@ -9,7 +9,7 @@ use Rattle.sym_filter.specs.declared.kinds.Kind.{Kind}
 use Rattle.sym_recent.specs.Kept.{IsKept}
 use Rattle.sym_recent.specs.declared.table.Entry.{Entry}
 
--- a stretch of bytes is the same with more bytes behind them
+-- a stretch of bytes is the same with more bytes after them
 pub stretch-longer : (bytes more : List ℕ) (at size : ℕ) → at + size ≤ length bytes → take size (drop at (bytes ++ more)) ≡ take size (drop at bytes)
 stretch-longer bytes more at size within =
     ap (take size) (drop-append-le at bytes more (omega (arith, within)))
@@ -29,7 +29,7 @@ pub all-longer : (answer : Kind → List ℕ → Result (List ℕ) Refusal) (byt
     → All (IsKept answer bytes) entries → All (IsKept answer (bytes ++ more)) entries
 all-longer answer bytes more entries kept = All-weaker (IsKept answer bytes) (IsKept answer (bytes ++ more)) (λ entry. IsKept-longer answer bytes more entry) entries kept
 
--- a symbol and its text behind the bytes so far
+-- a symbol and its text after the bytes so far
 pub IsKept-new : (answer : Kind → List ℕ → Result (List ℕ) Refusal) (bytes symbol text : List ℕ) (kind : Kind)
     → answer kind symbol ≡ Ok text
     → IsKept answer ((bytes ++ symbol) ++ text) (record { kind = kind; at = length bytes; symbol = length symbol; text = length text })
@@ -56,7 +56,7 @@ all-longer-if answer false bytes more now entries is kept = subst (λ l. All (Is
 pub done : {X : Type 0} (some err : Bool) (now long short : X) → some ≡ not err → err ≡ false → now ≡ cond some long short → now ≡ long
 done some err now long short some_is err_is is = is ∙ ap (λ b. cond b long short) (some_is ∙ ap not err_is)
 
--- An entry is added behind the others, with its symbol and its text behind the bytes.
+-- An entry is added after the others, with its symbol and its text after the bytes.
 pub all-one_more : (answer : Kind → List ℕ → Result (List ℕ) Refusal) (bytes symbol text : List ℕ) (kind : Kind) (entries : List Entry)
     → answer kind symbol ≡ Ok text → All (IsKept answer bytes) entries
     → All (IsKept answer ((bytes ++ symbol) ++ text)) (entries ++ record { kind = kind; at = length bytes; symbol = length symbol; text = length text } ∷ [])
@@ -84,7 +84,7 @@ both some other err err_other bytes symbol text first second some_is err_is firs
     done other err_other second (first ++ text) first other_is err_other_is second_is
     ∙ ap (λ l. l ++ text) (done some err first (bytes ++ symbol) bytes some_is err_is first_is)
 
--- what is behind a list's front
+-- what is after a list's front
 pub behind : (old new now text : List ℕ) (at : ℕ) → at ≡ length old → now ≡ new → new ≡ old ++ text → take (length now - at) (drop at now) ≡ text
 behind old new now text at at_is now_is is =
     rw (at_is, now_is, is)

@@ -1,4 +1,4 @@
-//! Symbols that the wide grammar alone reads, which the checker computes by its definitions: laws alone.
+//! Symbols that the wide grammar alone reads, which the checker computes by its definitions: only laws.
 #![tactic(auto)]
 
 mod laws;

@@ -82,7 +82,7 @@ parameter-so-far outer k old new named bare =
     let one = (parameter-fits (λ slot. true) outer k old new named bare).types any_type tt refl in
     record { apart = λ n place cs front. refl; prefix = one; template = one }
 
--- where a name between N and E begins: nothing is named so far, or the encoding in whose scope it is
+-- where a name between N and E begins: nothing is named so far, or the encoding that is its scope
 abbrev pub BeginsName : Around → Type 0
 BeginsName around = (around.prefix ≡ outermost) ⊎ ((e : Term) × (is_encoding e ≡ true) × (around.prefix ≡ behind e true))
 
