@@ -281,12 +281,13 @@ abbreviation-fills {s = s} letter is h stands =
 behind-s-named : (s : Symbol) (kind : Kind) (around : Around) (os : List Opened) (at : ℕ) (st : State) (t : Term) (end : ℕ) → IsNamedKind kind
     → ((inner : List Opened) → Hole s (OfKind (number_of_kind Kind.Abbreviation)) around inner (at + 1) st → Filled s inner (tree t true) end st)
     → TreeOpens s kind os around at st → StandsAt s.bytes at (83 ∷ []) → TypeNamed s os around t true end st
-unfolding is_eaten is_left number_of_kind parts_of between close unfolding_.behind meaning part byte_of tree_of text_of piece_of letter_of is_there
+unfolding is_eaten is_left number_of_kind parts_of between close unfolding is_eaten is_left number_of_kind parts_of may_be_empty between close unfolding_.behind meaning part byte_of tree_of text_of piece_of letter_of is_there is_listed after
 behind-s-named s kind around os at st t end is_named fills solid stands =
     let p = Production.AbbreviatedType in
     let w = name-with-s-opens s kind around os at st is_named solid stands in
     let short = chain-opens (leaves s Kind.TypeAfterS p 95 refl) (hole s Kind.TypeAfterS around w.inner (at + 1) st w.awaits) refl refl in
-    w.onward t true end st (closes p (fills (open_at short) short) refl).comes
+    let tagless = none-fills Kind.MaybeTags (next-part p (fills (open_at short) short) refl) refl in
+    w.onward t true end st (closes p tagless refl).comes
 
 -- an abbreviation
 pub abbreviation-opens : (s : Symbol) (kind : Kind) (around : Around) (os : List Opened) (at : ℕ) (st : State) (letter : ℕ) → IsNamedKind kind

@@ -69,6 +69,8 @@ piece_parts context string_literal = says "string literal" ∷ []
 piece_parts context (conversion t) = says "operator " ∷ as_item left context t ∷ as_item right context t ∷ []
 piece_parts context (enumeration t name) = says "{enum:" ∷ as_item left context t ∷ as_item right context t ∷ says "{" ∷ text name ∷ says "}}" ∷ []
 piece_parts context (bindings names) = says "[" ∷ list_part first context names ++ (says "]" ∷ [])
+-- an abbreviation under tags is without std
+piece_parts context (abbreviation letter) = text (drop 5 (look_up (letter ∷ []) abbreviation_texts)) ∷ []
 piece_parts context _ = []
 
 -- a prefix is a name, or the enclosing encoding, which names no parameters of what is in it

@@ -340,8 +340,8 @@ row_of Production.Complex = plain (makes (of new_complex (tree_at 0 ∷ [])) unl
 row_of Production.BitWidth = plain (makes (of new_vendor (digits_at 0 ∷ [])) listed)
 -- <unscoped-name> ::= St <unqualified-name>, as a type; and <type> ::= <substitution>
 row_of Production.TypeInStd = plain (handed 0)
--- <type> ::= <substitution>, of those that stand for a name
-row_of Production.AbbreviatedType = plain (handed 0)
+-- <type> ::= <substitution>, of those that stand for a name, perhaps with <abi-tags>
+row_of Production.AbbreviatedType = after_steps (quiet ∷ enters (after_part 0 (as_part 0)) ∷ []) (either (preferred 1) (otherwise 0))
 -- <function-type> ::= F .. E, without a <ref-qualifier>
 row_of Production.RestEnd = plain (own no_parameters (nodes 0))
 -- <ref-qualifier> ::= R, or <type> ::= R <type>, a parameter

@@ -714,7 +714,7 @@ pub static HEADS: [Head; 264] = [
     takes!(1), // 115 Complex
     chains!(1), // 116 BitWidth
     chains!(1), // 117 TypeInStd
-    chains!(1), // 118 AbbreviatedType
+    chains!(2), // 118 AbbreviatedType
     takes!(0), // 119 RestEnd
     takes!(1), // 120 RestLvalue
     takes!(1), // 121 RestRvalue
@@ -982,7 +982,7 @@ pub static SYMBOLS: [Sym; 1590] = symbols_listed! {
     [TYPE, NONE, NONE, NONE, NONE], // 115 Complex
     [DIGITS, NONE, NONE, NONE, NONE], // 116 BitWidth
     [TYPE_IN_STD, NONE, NONE, NONE, NONE], // 117 TypeInStd
-    [ABBREVIATION, NONE, NONE, NONE, NONE], // 118 AbbreviatedType
+    [ABBREVIATION, MAYBE_TAGS, NONE, NONE, NONE], // 118 AbbreviatedType
     [NONE, NONE, NONE, NONE, NONE], // 119 RestEnd
     [AFTER_R, NONE, NONE, NONE, NONE], // 120 RestLvalue
     [AFTER_O, NONE, NONE, NONE, NONE], // 121 RestRvalue
@@ -1154,7 +1154,7 @@ static AFTER: [u8; 1590] = [
     0, 0, 0, 0, 0, 0, 0, 0, 0, 3, 2, 1, 0, 0, 0, 4, 3, 2, 1, 0, 0, 2, 1, 0, 0, 0, 0, 2, 1, 0, 0, 0,
     0, 1, 0, 0, 0, 0, 0, 2, 1, 0, 0, 0, 0, 2, 1, 0, 0, 0, 0, 2, 1, 0, 0, 0, 0, 4, 3, 2, 1, 0, 0, 0,
     0, 0, 0, 0, 0, 1, 0, 0, 0, 0, 0, 1, 0, 0, 0, 0, 0, 3, 2, 1, 0, 0, 0, 1, 0, 0, 0, 0, 0, 1, 0, 0,
-    0, 0, 0, 1, 0, 0, 0, 0, 0, 1, 0, 0, 0, 0, 0, 0, 0, 0, 0, 0, 0, 1, 0, 0, 0, 0, 0, 1, 0, 0, 0, 0,
+    0, 0, 0, 1, 0, 0, 0, 0, 0, 2, 1, 0, 0, 0, 0, 0, 0, 0, 0, 0, 0, 1, 0, 0, 0, 0, 0, 1, 0, 0, 0, 0,
     0, 2, 1, 0, 0, 0, 0, 0, 0, 0, 0, 0, 0, 2, 1, 0, 0, 0, 0, 2, 1, 0, 0, 0, 0, 2, 1, 0, 0, 0, 0, 2,
     1, 0, 0, 0, 0, 3, 2, 1, 0, 0, 0, 3, 2, 1, 0, 0, 0, 2, 1, 0, 0, 0, 0, 3, 2, 1, 0, 0, 0, 2, 1, 0,
     0, 0, 0, 2, 1, 0, 0, 0, 0, 1, 0, 0, 0, 0, 0, 1, 0, 0, 0, 0, 0, 2, 1, 0, 0, 0, 0, 1, 0, 0, 0, 0,

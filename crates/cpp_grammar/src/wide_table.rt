@@ -98,7 +98,7 @@ static WIDE_ROWS: [Row; 181] = rows! {
     [0, b"                                                                               !       "], // OperatorAfterS
     [0, b"                                                                                    !  "], // OperatorAfterI
     [0, b"                                                                 !              !      "], // OperatorAfterG
-    [0, b"            IIIIIIIIII         II I  \x9c  II     I I I         I III I I  IIIII II       "], // NestRestOrEnd
+    [5, b"            DDDDDDDDDD        \xffDD D  \x97  DD     D D D         D DDD D D  DDDDD DD       "], // NestRestOrEnd
     [0, b"                                     \x7f                                                 "], // ArgumentsAlone
     [0, b"            IIIIIIIIII         II I  H  II     I I I         I III I I  IIIII II       "], // NestRestAlone
     [0, b"            \x9d\x9d\x9d\x9d\x9d\x9d\x9d\x9d\x9d\x9d                                                                 "], // FirstModule

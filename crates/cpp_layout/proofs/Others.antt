@@ -105,6 +105,7 @@ pub record IsOtherOwnPiece (n : Node) : Type 0 where
   pub not_alone : (x0 : Piece) → n ≡ Node.Alone x0 → ⊥
   pub not_instd : (x0 : Piece) → n ≡ Node.InStd x0 → ⊥
   pub not_within : (x0 : ℕ) (x1 : Piece) → n ≡ Node.Within x0 x1 → ⊥
+  pub not_abbreviation : (x0 : ℕ) → n ≡ Node.Abbreviation x0 → ⊥
 
 pub own-none : (s : List ℕ) (us : List Thunk) (ts : List Term) (given : Option Term) (c : items.Context) (n : Node) (flat : is_again n ≡ false) (t : Term) → t ≡ reargued given (tree_of s us ts n) → IsOtherOwnPiece n → [] ≡ piece_parts c (own_piece t)
 unfolding tree_of piece_parts own_piece reargued is_again
@@ -114,6 +115,7 @@ own-none s us ts given c n flat t is other = subst (λ u. [] ≡ piece_parts c (
     by (Node.Alone x0) flat other = absurd (other.not_alone x0 refl)
     by (Node.InStd x0) flat other = absurd (other.not_instd x0 refl)
     by (Node.Within x0 x1) flat other = absurd (other.not_within x0 x1 refl)
+    by (Node.Abbreviation x0) flat other = absurd (other.not_abbreviation x0 refl)
     by (Node.Reargued x z) flat other = absurd (true≢false flat)
     by _ flat other = refl
 

@@ -34,6 +34,7 @@ impl Symbol {
             Node::Alone(piece) => self.fill_piece(parts, piece, ctx),
             Node::InStd(piece) => self.fill_piece(parts, piece, ctx),
             Node::Within { piece, .. } => self.fill_piece(parts, piece, ctx),
+            Node::Abbreviation(letter) => self.push_some(parts, last_of_abbreviation(letter)),
             _ => {}
         }
     }

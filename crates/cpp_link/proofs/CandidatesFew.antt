@@ -54,14 +54,22 @@ goes_on k = nat_eq k NEST_REST || nat_eq k NEST_TAIL || nat_eq k NEST_REST_OR_EN
 unfoldable pub is_arguments : ℕ → Bool
 is_arguments k = nat_eq k MAYBE_ARGUMENTS || nat_eq k ARGUMENTS || nat_eq k ARGUMENTS_ALONE || nat_eq k MAYBE_TAGS
 
+-- of these, tags alone
+unfoldable pub is_tags : ℕ → Bool
+is_tags k = nat_eq k MAYBE_TAGS
+
 -- a name with tags in the place of the arguments after it, which isn't a candidate yet
 unfoldable pub in_place : Value → ℕ
 in_place (named t qualifiers ref) = 1
 in_place _ = 0
 
+-- after what continues with a name
+unfoldable pub behind_arguments : ℕ → Value → ℕ
+behind_arguments k v = cond (is_tags k) (one_if_there v) (in_place v)
+
 -- what is pending after a part with this value
 unfoldable pub pending : Sym → Value → ℕ
-pending (OfKind k) v = cond (is_component k) 1 (cond (becomes_candidate k) (unlisted v) (cond (is_arguments k) (in_place v) 0))
+pending (OfKind k) v = cond (is_component k) 1 (cond (becomes_candidate k) (unlisted v) (cond (is_arguments k) (behind_arguments k v) 0))
 pending _ v = 0
 
 -- what is pending before it, and it may append

@@ -27,7 +27,7 @@ use Rattle.cpp_link.specs.NodeCount.{one_if_there, one_if_arguments}
 use Rattle.cpp_link.specs.RowNodes.{nodes_made, nodes_before, nodes_of, nodes_at_end}
 use Rattle.cpp_grammar.proofs.ClosedStates.{behind_bind}
 use Rattle.cpp_link.proofs.CandidatesFew as few_
-use Rattle.cpp_link.proofs.CandidatesFew.{is_component, becomes_candidate, goes_on, is_arguments, in_place, behind_name, pending, pending_around, makes_name, may_leave, takes_name, begins_arguments, leaves, starts_with, takes_pending, take_nothing, keeps, all_keep, closes_by_row, Flow, RowFlow, By, going, appended-one, typed-one, unqualified-one, prefix-one, substituted-none, parameter-one, came, none-appended, plain-flow, of-row, there-or-not, spent-or-not, rest-step}
+use Rattle.cpp_link.proofs.CandidatesFew.{is_component, becomes_candidate, goes_on, is_arguments, is_tags, in_place, behind_arguments, behind_name, pending, pending_around, makes_name, may_leave, takes_name, begins_arguments, leaves, starts_with, takes_pending, take_nothing, keeps, all_keep, closes_by_row, Flow, RowFlow, By, going, appended-one, typed-one, unqualified-one, prefix-one, substituted-none, parameter-one, came, none-appended, plain-flow, of-row, there-or-not, spent-or-not, rest-step}
 
 abbrev plain : Form → Gain → Row
 plain form gain = record { before = []; onward = quiet; form = form; gain = gain; restores_packs = false; tests_number = false }
@@ -58,7 +58,7 @@ Untaken x = (around : Around) (v : Value) → pending_around x around v ≡ 0
 
 -- arguments or tags that may be after a name
 abbrev AfterName : ℕ → Type 0
-AfterName k = ((w : Value) → pending (OfKind k) w ≡ in_place w) × ((around : Around) (w : Value) → pending_around (OfKind k) around w ≡ cond (is_there w) (few_.unlisted_around around) 0)
+AfterName k = ((w : Value) → in_place w ≤ pending (OfKind k) w) × ((around : Around) (w : Value) → pending_around (OfKind k) around w ≡ cond (is_there w) (few_.unlisted_around around) 0)
 
 -- ## Names
 
@@ -101,7 +101,7 @@ listed-flow m leave around place x k leaves_none none follows = λ state next e.
 
 -- a name after a module, which is no candidate yet
 module-name-flow : (m : Made) (leave : Left) (around : Around) (place : ℕ) (x : Sym) → ((v : Value) → leave v ≤ 1) → Untaken x → RowFlow (module_row m) leave around place (x ∷ OfKind NAME_AFTER_MODULE ∷ []) [] 0
-unfolding pending pending_around goes_on is_arguments is_component becomes_candidate before_part done around_part packs_within replaced state_after gained meant nodes_before nodes_at_end part
+unfolding pending pending_around goes_on is_arguments is_tags behind_arguments is_component becomes_candidate before_part done around_part packs_within replaced state_after gained meant nodes_before nodes_at_end part
 module-name-flow m leave around place x few none = λ state next e. came (going [] (inside around) state) next e (none-appended (going [] (inside around) state) (omega arith) (λ v. none (inside around) v) begun)
   where
     begun : (v : Value) → RowFlow (module_row m) leave around place (OfKind NAME_AFTER_MODULE ∷ []) (v ∷ []) 0
@@ -123,9 +123,16 @@ spent-behind false nothing_there = omega arith
 spent-behind false (named t qualifiers ref) = omega arith
 spent-behind false _ = omega arith
 
+-- a name with tags is there
+place-there : (w : Value) → in_place w ≤ one_if_there w
+unfolding in_place one_if_there is_there
+place-there nothing_there = omega arith
+place-there (named t qualifiers ref) = omega arith
+place-there _ = omega arith
+
 -- a parameter is a candidate before its arguments
 parameter-flow : (after_t : Bool) (around : Around) (place : ℕ) → RowFlow (parameter_row after_t) few_.unlisted around place (Number Decimal ∷ OfKind ARGUMENTS_ALONE ∷ []) [] 0
-unfolding pending pending_around few_.unlisted few_.unlisted_around goes_on is_arguments is_component becomes_candidate before_part done tested replaced after prefix_listed state_after gained meant is_listing is_listed nodes_before nodes_at_end part
+unfolding pending pending_around few_.unlisted few_.unlisted_around goes_on is_arguments is_tags behind_arguments is_component becomes_candidate before_part done tested replaced after prefix_listed state_after gained meant is_listing is_listed nodes_before nodes_at_end part
 parameter-flow after_t around place = λ state next e. came (going [] around state) next e (none-appended (going [] around state) (omega arith) (λ v. refl) begun)
   where
     closes : (u w : Value) → RowFlow (parameter_row after_t) few_.unlisted around place [] (u ∷ w ∷ []) (behind_name 0 w)
@@ -144,7 +151,7 @@ parameter-flow after_t around place = λ state next e. came (going [] around sta
 
 -- a parameter in an expression is made, and is no candidate: what is pending around it may become one before its arguments
 expression-parameter : (around : Around) (place : ℕ) → By Production.ParameterExpression around place (Number Decimal ∷ OfKind ARGUMENTS_ALONE ∷ []) [] 0
-unfolding pending pending_around few_.unlisted_around goes_on is_arguments is_component becomes_candidate row_of before_part done tested replaced state_after gained nodes_before nodes_at_end leaves makes_name may_leave part
+unfolding pending pending_around few_.unlisted_around goes_on is_arguments is_tags behind_arguments is_component becomes_candidate row_of before_part done tested replaced state_after gained nodes_before nodes_at_end leaves makes_name may_leave part
 expression-parameter around place = λ state next e. came (going [] around state) next e (none-appended (going [] around state) (omega arith) (λ v. refl) begun)
   where
     closes : (u w : Value) (now : ℕ) → By Production.ParameterExpression around place [] (u ∷ w ∷ []) now
@@ -168,7 +175,7 @@ expression-parameter around place = λ state next e. came (going [] around state
 
 -- an abbreviation or what a reference names, or a name in std, before its arguments
 with-s-type : (around : Around) (place : ℕ) → By Production.TypeWithS around place (OfKind TYPE_AFTER_S ∷ OfKind ARGUMENTS_ALONE ∷ []) [] 0
-unfolding pending pending_around few_.unlisted few_.unlisted_around goes_on is_arguments is_component becomes_candidate row_of before_part done around_part packs_within gained after prefix_listed is_listing is_listed meant state_after nodes_before nodes_at_end leaves makes_name may_leave part
+unfolding pending pending_around few_.unlisted few_.unlisted_around goes_on is_arguments is_tags behind_arguments is_component becomes_candidate row_of before_part done around_part packs_within gained after prefix_listed is_listing is_listed meant state_after nodes_before nodes_at_end leaves makes_name may_leave part
 with-s-type around place = λ state next e. came (going [] around state) next e (record {
   over = 0;
   few = omega arith;
@@ -183,6 +190,40 @@ with-s-type around place = λ state next e. came (going [] around state) next e 
       over = few_.unlisted v;
       few = omega arith;
       later = λ w. record { now = behind_name (few_.unlisted v) w; few = spent-or-not (few_.unlisted v) w; goes = closes v w };
+    })
+
+-- an abbreviation or what a reference names, or the same with tags, which isn't a candidate yet
+abbreviated-type : (around : Around) (place : ℕ) → By Production.AbbreviatedType around place (OfKind ABBREVIATION ∷ OfKind MAYBE_TAGS ∷ []) [] 0
+unfolding pending pending_around few_.unlisted few_.unlisted_around goes_on is_arguments is_tags behind_arguments is_component becomes_candidate one_if_there row_of before_part done around_part packs_within gained after prefix_listed is_listing is_listed meant state_after nodes_before nodes_at_end leaves makes_name may_leave part
+abbreviated-type around place = λ state next e. came (going [] around state) next e (record {
+  over = 0;
+  few = omega arith;
+  later = λ v. record { now = few_.unlisted v; few = omega arith; goes = begun v };
+})
+  where
+    spent : (n : ℕ) (w : Value) → cond (is_there w) 1 n + cond (is_there w) n 0 ≤ n + one_if_there w
+    spent n w = go (is_there w)
+      where
+        go : (b : Bool) → cond b 1 n + cond b n 0 ≤ n + (if b then 1 else 0)
+        go true = omega arith
+        go false = omega arith
+
+    closes : (v w : Value) → By Production.AbbreviatedType around place [] (v ∷ w ∷ []) (cond (is_there w) 1 (few_.unlisted v))
+    closes v w = λ byte began state. omega (arith, left (is_there w))
+      where
+        small : (b : Bool) → cond b 0 1 ≤ 1
+        small true = omega arith
+        small false = omega arith
+
+        left : (b : Bool) → few_.unlisted (elim b [ true ↦ w | false ↦ v ]) ≤ cond b 1 (few_.unlisted v)
+        left true = small (is_listed w)
+        left false = omega arith
+
+    begun : (v : Value) → By Production.AbbreviatedType around place (OfKind MAYBE_TAGS ∷ []) (v ∷ []) (few_.unlisted v)
+    begun v = λ state next e. came (going (v ∷ []) (after (tree_of v) (is_listed v) around) state) next e (record {
+      over = few_.unlisted v;
+      few = omega arith;
+      later = λ w. record { now = cond (is_there w) 1 (few_.unlisted v); few = spent (few_.unlisted v) w; goes = closes v w };
     })
 
 -- ## What is forwarded
@@ -257,7 +298,7 @@ of-type-flow form leave around place x y none free is left = λ state next e. ca
 -- a piece is added to the name so far, and what follows continues with it
 nest-flow : (m : Made) (leave : Left) (around : Around) (place : ℕ) (x : Sym) → ((v : Value) → leave v ≡ few_.unlisted v) → ((vs : List Value) → nodes_made m vs ≡ 1) → Untaken x
     → RowFlow (named_row m (handed 1)) leave around place (x ∷ OfKind NEST_REST ∷ []) [] 0
-unfolding pending pending_around goes_on is_arguments is_component becomes_candidate before_part done replaced state_after gained meant nodes_before nodes_at_end part
+unfolding pending pending_around goes_on is_arguments is_tags behind_arguments is_component becomes_candidate before_part done replaced state_after gained meant nodes_before nodes_at_end part
 nest-flow m leave around place x left one none = λ state next e. came (going [] around state) next e (none-appended (going [] around state) (omega arith) (λ v. none around v) begun)
   where
     begun : (v : Value) → RowFlow (named_row m (handed 1)) leave around place (OfKind NEST_REST ∷ []) (v ∷ []) 0
@@ -268,7 +309,7 @@ nest-flow m leave around place x left one none = λ state next e. came (going []
         (λ w. λ byte began last. omega (arith, left w))))
 
 nest-template : (around : Around) (place : ℕ) → By Production.NestTemplate around place (OfKind ABBREVIATION ∷ OfKind NEST_REST_OR_END ∷ []) [] 0
-unfolding pending pending_around goes_on is_arguments is_component becomes_candidate row_of before_part done replaced made given tree_in state_after gained meant nodes_before nodes_made nodes_at_end leaves makes_name may_leave part
+unfolding pending pending_around goes_on is_arguments is_tags behind_arguments is_component becomes_candidate row_of before_part done replaced made given tree_in state_after gained meant nodes_before nodes_made nodes_at_end leaves makes_name may_leave part
 nest-template around place = λ state next e. came (going [] around state) next e
     (none-appended (going [] around state) (omega arith) (λ v. refl) (λ v.
     λ later after_ f. came (going (tree (tree_of v) true ∷ []) (after (tree_of v) true around) later) after_ f
@@ -276,7 +317,7 @@ nest-template around place = λ state next e. came (going [] around state) next 
     (λ w. refl) (omega arith) (λ w. λ byte began last. omega arith))))
 
 nest-parameter : (around : Around) (place : ℕ) → By Production.NestParameter around place (Number Decimal ∷ OfKind NEST_REST_ALONE ∷ []) [] 0
-unfolding pending pending_around goes_on is_arguments is_component becomes_candidate row_of before_part done tested replaced state_after gained meant nodes_before nodes_at_end leaves makes_name may_leave part
+unfolding pending pending_around goes_on is_arguments is_tags behind_arguments is_component becomes_candidate row_of before_part done tested replaced state_after gained meant nodes_before nodes_at_end leaves makes_name may_leave part
 nest-parameter around place = λ state next e. came (going [] around state) next e (none-appended (going [] around state) (omega arith) (λ v. refl) begun)
   where
     begun : (v : Value) → By Production.NestParameter around place (OfKind NEST_REST_ALONE ∷ []) (v ∷ []) 0
@@ -289,7 +330,7 @@ nest-parameter around place = λ state next e. came (going [] around state) next
         (omega (arith, parameter-one around place k state b.value b.is)) (λ w. λ byte began last. omega arith)))
 
 nest-std : (around : Around) (place : ℕ) → By Production.NestStd around place (OfKind UNQUALIFIED ∷ OfKind MAYBE_ARGUMENTS ∷ OfKind NEST_TAIL ∷ []) [] 0
-unfolding pending pending_around few_.unlisted_around goes_on is_arguments is_component becomes_candidate after prefix_listed row_of before_part done replaced made given all_given built argument tree_in state_after gained meant nodes_before nodes_made nodes_at_end leaves makes_name may_leave part
+unfolding pending pending_around few_.unlisted_around goes_on is_arguments is_tags behind_arguments is_component becomes_candidate after prefix_listed row_of before_part done replaced made given all_given built argument tree_in state_after gained meant nodes_before nodes_made nodes_at_end leaves makes_name may_leave part
 nest-std around place = λ state next e. came (going [] around state) next e (none-appended (going [] around state) (omega arith) (λ v. refl) named_)
   where
     ends : (u w : Value) → By Production.NestStd around place (OfKind NEST_TAIL ∷ []) (u ∷ w ∷ []) (behind_name 1 w)
@@ -307,7 +348,7 @@ nest-std around place = λ state next e. came (going [] around state) next e (no
         }))
 
 nest-next : (around : Around) (place : ℕ) → By Production.NestNext around place (OfKind COMPONENT ∷ OfKind NEST_TAIL ∷ []) [] (few_.unlisted_around around)
-unfolding pending pending_around goes_on is_arguments is_component becomes_candidate row_of before_part done around_part packs_within is_listing state_after gained meant nodes_before nodes_at_end leaves makes_name may_leave part
+unfolding pending pending_around goes_on is_arguments is_tags behind_arguments is_component becomes_candidate row_of before_part done around_part packs_within is_listing state_after gained meant nodes_before nodes_at_end leaves makes_name may_leave part
 nest-next around place = λ state next e. came (going [] around (with_prefix around state)) next e (record {
   over = 0;
   few = omega (arith, prefix-one around state);
@@ -320,7 +361,7 @@ nest-next around place = λ state next e. came (going [] around (with_prefix aro
         (λ w. λ byte began last. omega arith))
 
 nest-module : (around : Around) (place : ℕ) → By Production.NestModule around place (OfKind NAME_IN_MODULE ∷ OfKind NEST_ON ∷ []) [] 0
-unfolding pending pending_around goes_on is_arguments is_component becomes_candidate row_of before_part done around_part packs_within is_listing state_after gained meant nodes_before nodes_at_end leaves makes_name may_leave part
+unfolding pending pending_around goes_on is_arguments is_tags behind_arguments is_component becomes_candidate row_of before_part done around_part packs_within is_listing state_after gained meant nodes_before nodes_at_end leaves makes_name may_leave part
 nest-module around place = λ state next e. came (going [] around state) next e (record {
   over = 0;
   few = omega arith;
@@ -341,7 +382,7 @@ holder-component around place = λ state next e. came (going [] around state) ne
     held v = λ state next e. absurd (let clash : ◌≡◌ {A = Continuation} (Err (BadReference place)) (Ok next) = e in cc)
 
 nest-arguments : (around : Around) (place : ℕ) → By Production.NestArguments around place (OfKind ARGUMENTS_FIRST ∷ Byte 69 ∷ OfKind COMPONENT ∷ OfKind NEST_TAIL ∷ []) [] (few_.unlisted_around around)
-unfolding pending pending_around goes_on is_arguments is_component becomes_candidate row_of before_part done around_part packs_within replaced made given all_given built argument tree_in is_listing state_after gained meant nodes_before nodes_made nodes_at_end leaves makes_name may_leave part
+unfolding pending pending_around goes_on is_arguments is_tags behind_arguments is_component becomes_candidate row_of before_part done around_part packs_within replaced made given all_given built argument tree_in is_listing state_after gained meant nodes_before nodes_made nodes_at_end leaves makes_name may_leave part
 nest-arguments around place = λ state next e. came (going [] (inside around) (with_prefix around state)) next e (record {
   over = 0;
   few = omega (arith, prefix-one around state);
@@ -366,7 +407,7 @@ nest-arguments around place = λ state next e. came (going [] (inside around) (w
     ended-by v = λ state next e. came (going (v ∷ []) around state) next e (none-appended (going (v ∷ []) around state) (omega arith) (λ b. refl) (λ b. instanced v b))
 
 nest-instance : (around : Around) (place : ℕ) → By Production.NestInstance around place (OfKind ARGUMENTS_FIRST ∷ Byte 69 ∷ OfKind NEST_MORE_OR_END ∷ []) [] (few_.unlisted_around around)
-unfolding pending pending_around goes_on is_arguments is_component becomes_candidate row_of before_part done around_part packs_within replaced made given all_given built argument tree_in state_after gained meant nodes_before nodes_made nodes_at_end leaves makes_name may_leave part
+unfolding pending pending_around goes_on is_arguments is_tags behind_arguments is_component becomes_candidate row_of before_part done around_part packs_within replaced made given all_given built argument tree_in state_after gained meant nodes_before nodes_made nodes_at_end leaves makes_name may_leave part
 nest-instance around place = λ state next e. came (going [] (inside around) (with_prefix around state)) next e (record {
   over = 0;
   few = omega (arith, prefix-one around state);
@@ -388,7 +429,7 @@ unfolding few_.unlisted few_.unlisted_around is_listed row_of state_after gained
 nest-end around place = λ byte began state. omega arith
 
 arguments : (around : Around) (place : ℕ) → By Production.Arguments around place (OfKind ARGUMENTS_FIRST ∷ Byte 69 ∷ []) [] (few_.unlisted_around around)
-unfolding pending pending_around goes_on is_arguments is_component becomes_candidate row_of before_part done around_part packs_within state_after gained nodes_before nodes_made nodes_at_end leaves makes_name may_leave
+unfolding pending pending_around goes_on is_arguments is_tags behind_arguments is_component becomes_candidate row_of before_part done around_part packs_within state_after gained nodes_before nodes_made nodes_at_end leaves makes_name may_leave
 arguments around place = λ state next e. came (going [] (inside around) (with_prefix around state)) next e (record {
   over = 0;
   few = omega (arith, prefix-one around state);
@@ -402,7 +443,7 @@ arguments around place = λ state next e. came (going [] (inside around) (with_p
 -- ## The base class of an inherited constructor
 
 base-arguments : (around : Around) (place : ℕ) → By Production.BaseArguments around place (OfKind ARGUMENTS_FIRST ∷ Byte 69 ∷ OfKind HELD_ARGUMENTS ∷ []) [] (few_.unlisted_around around)
-unfolding pending pending_around goes_on is_arguments is_component becomes_candidate row_of before_part done around_part packs_within replaced made given all_given built argument tree_in state_after gained meant nodes_before nodes_made nodes_at_end leaves makes_name may_leave part
+unfolding pending pending_around goes_on is_arguments is_tags behind_arguments is_component becomes_candidate row_of before_part done around_part packs_within replaced made given all_given built argument tree_in state_after gained meant nodes_before nodes_made nodes_at_end leaves makes_name may_leave part
 base-arguments around place = λ state next e. came (going [] (inside around) (with_prefix around state)) next e (record {
   over = 0;
   few = omega (arith, prefix-one around state);
@@ -421,7 +462,7 @@ base-arguments around place = λ state next e. came (going [] (inside around) (w
 -- after the name of a base class its arguments continue with it
 base-flow : (leave : Left) (around : Around) (place : ℕ) (x : Sym) → Untaken x → ((v : Value) → pending x v ≡ few_.unlisted v) → ((v : Value) → leave v ≡ 0)
     → RowFlow (after_steps (quiet ∷ goes nothing (after_part 0 (as_part 0)) ∷ []) (either 1 0)) leave around place (x ∷ OfKind BASE_ARGUMENTS ∷ []) [] 0
-unfolding pending pending_around few_.unlisted few_.unlisted_around goes_on is_arguments is_component becomes_candidate before_part done around_part packs_within is_listing is_listed after prefix_listed state_after gained nodes_before nodes_at_end part
+unfolding pending pending_around few_.unlisted few_.unlisted_around goes_on is_arguments is_tags behind_arguments is_component becomes_candidate before_part done around_part packs_within is_listing is_listed after prefix_listed state_after gained nodes_before nodes_at_end part
 base-flow leave around place x none one left = λ state next e. came (going [] around state) next e (record {
   over = 0;
   few = omega arith;
@@ -439,7 +480,7 @@ base-flow leave around place x none one left = λ state next e. came (going [] a
 -- a type is the name so far, as it is, and what follows continues with it
 type-name-flow : (leave : Left) (around : Around) (place : ℕ) (x : Sym) → Untaken x → ((v : Value) → pending x v ≡ few_.unlisted v) → ((v : Value) → leave v ≡ few_.unlisted v)
     → RowFlow (after_steps (quiet ∷ goes nothing (after_part 0 (as_part 0)) ∷ []) (handed 1)) leave around place (x ∷ OfKind NEST_REST_ALONE ∷ []) [] 0
-unfolding pending pending_around few_.unlisted few_.unlisted_around goes_on is_arguments is_component becomes_candidate before_part done around_part packs_within is_listing is_listed after prefix_listed state_after gained meant nodes_before nodes_at_end part
+unfolding pending pending_around few_.unlisted few_.unlisted_around goes_on is_arguments is_tags behind_arguments is_component becomes_candidate before_part done around_part packs_within is_listing is_listed after prefix_listed state_after gained meant nodes_before nodes_at_end part
 type-name-flow leave around place x none one left = λ state next e. came (going [] around state) next e (record {
   over = 0;
   few = omega arith;
@@ -479,20 +520,20 @@ leaves-one p v = go (makes_name p) (may_leave p) (is_listed v)
     go false false c = omega arith
 
 maybe-arguments : AfterName MAYBE_ARGUMENTS
-unfolding pending pending_around goes_on is_arguments is_component becomes_candidate
-maybe-arguments = (λ w. refl, λ around w. refl)
+unfolding pending pending_around goes_on is_arguments is_tags behind_arguments is_component becomes_candidate
+maybe-arguments = (λ w. omega arith, λ around w. refl)
 
 arguments-next : AfterName ARGUMENTS
-unfolding pending pending_around goes_on is_arguments is_component becomes_candidate
-arguments-next = (λ w. refl, λ around w. refl)
+unfolding pending pending_around goes_on is_arguments is_tags behind_arguments is_component becomes_candidate
+arguments-next = (λ w. omega arith, λ around w. refl)
 
 arguments-alone : AfterName ARGUMENTS_ALONE
-unfolding pending pending_around goes_on is_arguments is_component becomes_candidate
-arguments-alone = (λ w. refl, λ around w. refl)
+unfolding pending pending_around goes_on is_arguments is_tags behind_arguments is_component becomes_candidate
+arguments-alone = (λ w. omega arith, λ around w. refl)
 
 maybe-tags : AfterName MAYBE_TAGS
-unfolding pending pending_around goes_on is_arguments is_component becomes_candidate
-maybe-tags = (λ w. refl, λ around w. refl)
+unfolding pending pending_around goes_on is_arguments is_tags behind_arguments is_component becomes_candidate
+maybe-tags = (place-there, λ around w. refl)
 
 module _ (p : Production) (is : closes_by_row p ≡ true) (around : Around) (place : ℕ) where
   made_name : (m : Made) (form : Form) (x : Sym) (k : ℕ) → row_of p ≡ named_row m form → ((vs : List Value) → nodes_made m vs ≡ 1)
@@ -551,12 +592,12 @@ module _ (p : Production) (is : closes_by_row p ≡ true) (around : Around) (pla
   simple xs keep none closes = plain-flow p around place keep (λ vs. of-row p is around place [] vs 0 (closes vs)) xs none []
 
 pub flows : (p : Production) (around : Around) (place : ℕ) → Flow p around place (parts_of p) [] (starts_with p around)
-unfolding parts_of number_of_kind starts_with takes_name begins_arguments take_nothing takes_pending all_keep keeps closes_by_row row_of pending pending_around goes_on is_arguments is_component becomes_candidate state_after gained meant own_meaning is_listing made given all_given built argument tree_in bytes_in truth_in number_in nodes_made nodes_of nodes_at_end leaves makes_name may_leave few_.unlisted is_listed listed_value part
+unfolding parts_of number_of_kind starts_with takes_name begins_arguments take_nothing takes_pending all_keep keeps closes_by_row row_of pending pending_around goes_on is_arguments is_tags behind_arguments is_component becomes_candidate state_after gained meant own_meaning is_listing made given all_given built argument tree_in bytes_in truth_in number_in nodes_made nodes_of nodes_at_end leaves makes_name may_leave few_.unlisted is_listed listed_value part
 flows Production.NestWithS around place = handed_on Production.NestWithS refl around place (OfKind NEST_AFTER_S) refl (λ a v. refl) (λ v. omega arith)
 flows Production.NestedType around place = handed_on Production.NestedType refl around place (OfKind NEST) refl (λ a v. refl) (λ v. omega arith)
 flows Production.ItemIsType around place = handed_on Production.ItemIsType refl around place (OfKind AFTER_D) refl (λ a v. refl) (λ v. omega arith)
 flows Production.UnnestedWithS around place = handed_on Production.UnnestedWithS refl around place (OfKind TYPE_AFTER_S) refl (λ a v. refl) (λ v. omega arith)
-flows Production.AbbreviatedType around place = handed_on Production.AbbreviatedType refl around place (OfKind ABBREVIATION) refl (λ a v. refl) (λ v. omega arith)
+flows Production.AbbreviatedType around place = of-row Production.AbbreviatedType refl around place (parts_of Production.AbbreviatedType) [] 0 (abbreviated-type around place)
 flows Production.ArrayType around place = handed_on Production.ArrayType refl around place (OfKind ANY_ARRAY) refl (λ a v. refl) (λ v. omega arith)
 flows Production.AnyArray around place = handed_on Production.AnyArray refl around place (OfKind ARRAY_REST) refl (λ a v. refl) (λ v. omega arith)
 flows Production.ConvertedWithT around place = handed_on Production.ConvertedWithT refl around place (OfKind PARAMETER_AFTER_T) refl (λ a v. refl) (λ v. omega arith)

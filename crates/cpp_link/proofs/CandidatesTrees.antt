@@ -32,8 +32,8 @@ use Rattle.cpp_term.specs.Values.{State, Around, Value, nothing_there, named, te
 use Rattle.cpp_term.specs.Between.{between}
 use Rattle.cpp_term.specs.Meaning.{meaning}
 use Rattle.cpp_term.specs.Unfolding.{number_tested, opening, behind, close, cpp, first_around, first_state}
-use Rattle.cpp_link.specs.NodeCount.{makes_before, makes_at_end, cpp_makes, counted_nodes, nodes_of_shape}
-use Rattle.cpp_link.proofs.CandidatesFew.{unlisted, unlisted_around, is_component, becomes_candidate, goes_on, is_arguments, in_place, pending, pending_around, makes_name, may_leave, takes_name, begins_arguments, leaves, starts_with, Flow}
+use Rattle.cpp_link.specs.NodeCount.{makes_before, makes_at_end, one_if_there, cpp_makes, counted_nodes, nodes_of_shape}
+use Rattle.cpp_link.proofs.CandidatesFew.{unlisted, unlisted_around, is_component, becomes_candidate, goes_on, is_arguments, is_tags, in_place, behind_arguments, pending, pending_around, makes_name, may_leave, takes_name, begins_arguments, leaves, starts_with, Flow}
 use Rattle.cpp_link.proofs.CandidatesFlow.{flows}
 
 -- ## Kinds and their productions
@@ -43,14 +43,14 @@ unfoldable fits : (k : ℕ) → Production → Bool
 fits k p =
     (not (is_component k) || makes_name p)
     && ((not (becomes_candidate k) || (makes_name p || may_leave p)) &&
-    ((not (takes_name p) || goes_on k) && ((not (begins_arguments p) || is_arguments k) && (not (is_arguments k) || (begins_arguments p || makes_name p)))))
+    ((not (takes_name p) || goes_on k) && ((not (is_tags k) || makes_name p) && ((not (begins_arguments p) || is_arguments k) && (not (is_arguments k) || (begins_arguments p || makes_name p))))))
 
 unfoldable all_fit : (k : ℕ) → List Alternative → Bool
 all_fit k [] = true
 all_fit k (a ∷ rest) = fits k a.production && all_fit k rest
 
 kinds-fit : (kind : Kind) → all_fit (number_of_kind kind) (wide_alternatives kind) ≡ true
-unfolding all_fit fits wide_alternatives number_of_kind is_component becomes_candidate goes_on is_arguments makes_name may_leave takes_name begins_arguments
+unfolding all_fit fits wide_alternatives number_of_kind is_component becomes_candidate goes_on is_arguments is_tags makes_name may_leave takes_name begins_arguments
 kinds-fit Kind.Symbol = refl
 kinds-fit _ = refl
 
@@ -72,15 +72,21 @@ place-small (named t qualifiers ref) = omega arith
 place-small nothing_there = omega arith
 place-small _ = omega arith
 
+there-small : (v : Value) → one_if_there v ≤ 1
+unfolding one_if_there is_there
+there-small nothing_there = omega arith
+there-small _ = omega arith
+
 -- what is pending after a kind is left by its production
 pending-left : (k : ℕ) (p : Production) (v : Value) → fits k p ≡ true → (begins_arguments p ≡ true → in_place v ≡ 0) → pending (OfKind k) v ≤ leaves p v
-unfolding fits pending leaves unlisted
+unfolding fits pending behind_arguments leaves unlisted
 pending-left k p v h alone_ =
     let one = and_parts (not (is_component k) || makes_name p) _ h in
     let two = and_parts (not (becomes_candidate k) || (makes_name p || may_leave p)) _ one.1 in
     let three = and_parts (not (takes_name p) || goes_on k) _ two.1 in
-    let four = and_parts (not (begins_arguments p) || is_arguments k) (not (is_arguments k) || (begins_arguments p || makes_name p)) three.1 in
-    go (is_component k) (becomes_candidate k) (is_arguments k) (makes_name p) (may_leave p) (begins_arguments p) (cond_small v) (place-small v) alone_ one.0 two.0 four.1
+    let tags = and_parts (not (is_tags k) || makes_name p) _ three.1 in
+    let four = and_parts (not (begins_arguments p) || is_arguments k) (not (is_arguments k) || (begins_arguments p || makes_name p)) tags.1 in
+    go (is_component k) (becomes_candidate k) (is_arguments k) (is_tags k) (makes_name p) (may_leave p) (begins_arguments p) (cond_small v) (place-small v) (there-small v) alone_ one.0 two.0 four.1 tags.0
   where
     cond_small : (v : Value) → unlisted v ≤ 1
     cond_small v = small (is_listed v)
@@ -89,17 +95,19 @@ pending-left k p v h alone_ =
         small true = omega arith
         small false = omega arith
 
-    go : (c b a m l g : Bool) → unlisted v ≤ 1 → in_place v ≤ 1 → (g ≡ true → in_place v ≡ 0) → not c || m ≡ true → not b || (m || l) ≡ true → not a || (g || m) ≡ true
-        → cond c 1 (cond b (unlisted v) (cond a (in_place v) 0)) ≤ cond m 1 (cond l (unlisted v) 0)
-    go true b a true l g few one plain e f h = omega arith
-    go true b a false l g few one plain e f h = absurd (false≢true e)
-    go false true a true l g few one plain e f h = few
-    go false true a false true g few one plain e f h = omega arith
-    go false true a false false g few one plain e f h = absurd (false≢true f)
-    go false false false m l g few one plain e f h = omega arith
-    go false false true true l g few one plain e f h = one
-    go false false true false l true few one plain e f h = omega (arith, plain refl)
-    go false false true false l false few one plain e f h = absurd (false≢true h)
+    go : (c b a t m l g : Bool) → unlisted v ≤ 1 → in_place v ≤ 1 → one_if_there v ≤ 1 → (g ≡ true → in_place v ≡ 0) → not c || m ≡ true → not b || (m || l) ≡ true → not a || (g || m) ≡ true
+        → not t || m ≡ true → cond c 1 (cond b (unlisted v) (cond a (cond t (one_if_there v) (in_place v)) 0)) ≤ cond m 1 (cond l (unlisted v) 0)
+    go true b a t true l g few one there plain e f h i = omega arith
+    go true b a t false l g few one there plain e f h i = absurd (false≢true e)
+    go false true a t true l g few one there plain e f h i = few
+    go false true a t false true g few one there plain e f h i = omega arith
+    go false true a t false false g few one there plain e f h i = absurd (false≢true f)
+    go false false false t m l g few one there plain e f h i = omega arith
+    go false false true true true l g few one there plain e f h i = there
+    go false false true false true l g few one there plain e f h i = one
+    go false false true true false l g few one there plain e f h i = absurd (false≢true i)
+    go false false true false false l true few one there plain e f h i = omega (arith, plain refl)
+    go false false true false false l false few one there plain e f h i = absurd (false≢true h)
 
 -- what a production begins with is pending before its kind
 pending-first : (k : ℕ) (p : Production) (around : Around) (v : Value) → fits k p ≡ true → (begins_arguments p ≡ true → is_there v ≡ true)
@@ -109,7 +117,8 @@ pending-first k p around v h there =
     let one = and_parts (not (is_component k) || makes_name p) _ h in
     let two = and_parts (not (becomes_candidate k) || (makes_name p || may_leave p)) _ one.1 in
     let three = and_parts (not (takes_name p) || goes_on k) _ two.1 in
-    let four = and_parts (not (begins_arguments p) || is_arguments k) (not (is_arguments k) || (begins_arguments p || makes_name p)) three.1 in
+    let tags = and_parts (not (is_tags k) || makes_name p) _ three.1 in
+    let four = and_parts (not (begins_arguments p) || is_arguments k) (not (is_arguments k) || (begins_arguments p || makes_name p)) tags.1 in
     go (takes_name p) (begins_arguments p) (goes_on k) (is_arguments k) (is_there v) there three.0 four.0
   where
     go : (t b g a w : Bool) → (b ≡ true → w ≡ true) → not t || g ≡ true → not b || a ≡ true
@@ -178,24 +187,25 @@ never-empty Kind.Symbol = refl
 never-empty _ = refl
 
 empty-leaves : (k : ℕ) → k < wide.kinds → wide.may_be_empty k ≡ true → pending (OfKind k) nothing_there ≡ 0
-unfolding pending in_place
+unfolding pending behind_arguments one_if_there is_there in_place
 empty-leaves k lt may = go (slice_get kinds k) refl
   where
-    none : (a : Bool) → ◌≡◌ {A = ℕ} (cond a 0 0) 0
-    none true = refl
-    none false = refl
+    none : (a t : Bool) → ◌≡◌ {A = ℕ} (cond a (cond t 0 0) 0) 0
+    none true true = refl
+    none true false = refl
+    none false t = refl
 
-    tested : (e c b a : Bool) → e ≡ true → not e || not (c || b) ≡ true → cond c 1 (cond b (unlisted nothing_there) (cond a 0 0)) ≡ 0
-    tested false c b a is h = absurd (false≢true is)
-    tested true true b a is h = absurd (false≢true h)
-    tested true false true a is h = absurd (false≢true h)
-    tested true false false a is h = none a
+    tested : (e c b a t : Bool) → e ≡ true → not e || not (c || b) ≡ true → cond c 1 (cond b (unlisted nothing_there) (cond a (cond t 0 0) 0)) ≡ 0
+    tested false c b a t is h = absurd (false≢true is)
+    tested true true b a t is h = absurd (false≢true h)
+    tested true false true a t is h = absurd (false≢true h)
+    tested true false false a t is h = none a t
 
-    go : (o : Option Kind) → slice_get kinds k ≡ o → cond (is_component k) 1 (cond (becomes_candidate k) (unlisted nothing_there) (cond (is_arguments k) 0 0)) ≡ 0
+    go : (o : Option Kind) → slice_get kinds k ≡ o → cond (is_component k) 1 (cond (becomes_candidate k) (unlisted nothing_there) (cond (is_arguments k) (cond (is_tags k) 0 0) 0)) ≡ 0
     go None none = absurd (is_wide_kind k lt none)
     go (Some kind) at =
         let number : number_of_kind kind ≡ k = omega (arith, number_at 0 kinds k kind kinds_numbered at) in
-        tested (may_be_empty kind) (is_component k) (becomes_candidate k) (is_arguments k) (sym (wide_empty_at k kind at) ∙ may)
+        tested (may_be_empty kind) (is_component k) (becomes_candidate k) (is_arguments k) (is_tags k) (sym (wide_empty_at k kind at) ∙ may)
         (ap (λ n. not (may_be_empty kind) || not (is_component n || becomes_candidate n)) (sym number) ∙ never-empty kind)
 
 -- ## Trees

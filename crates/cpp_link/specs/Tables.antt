@@ -36,6 +36,7 @@ quiet_parts Production.Expansion = 0
 quiet_parts Production.Parameter = 1
 quiet_parts Production.TypeWithS = 1
 quiet_parts Production.LocalType = 1
+quiet_parts Production.AbbreviatedType = 1
 quiet_parts Production.LvalueItem = 1
 quiet_parts Production.RvalueItem = 1
 quiet_parts Production.Arguments = 0

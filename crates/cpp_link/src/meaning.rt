@@ -159,12 +159,12 @@ impl Linked {
             Production::NestWithS
             // <class-enum-type> ::= <nested-name>
             | Production::NestedType
-            // <type> ::= <substitution>
-            | Production::AbbreviatedType
             // <unscoped-name> ::= St <unqualified-name>, as a type
             | Production::TypeInStd
             // <encoding> ::= <special-name>
             | Production::Special => Outcome::Given(self.given(symbol, parts, 0)),
+            // <type> ::= <substitution>, perhaps with <abi-tags>
+            Production::AbbreviatedType => Outcome::Given(self.either(symbol, parts, 1, 0)),
             // <prefix> ::= <source-name>
             Production::NestSource
             // <prefix> ::= <substitution>, and what is within it, or <template-prefix> ::= <substitution>, and its arguments

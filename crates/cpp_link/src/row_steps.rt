@@ -140,6 +140,7 @@ impl Linked {
         requires expansion { production ≡ productions.Expansion → ⊥ }
         requires type_with_s { production ≡ productions.TypeWithS → ⊥ }
         requires local_type { production ≡ productions.LocalType → ⊥ }
+        requires abbreviated_type { production ≡ productions.AbbreviatedType → ⊥ }
         requires lvalue_item { production ≡ productions.LvalueItem → ⊥ }
         requires rvalue_item { production ≡ productions.RvalueItem → ⊥ }
         requires integer_literal { production ≡ productions.IntegerLiteral → ⊥ }
@@ -295,6 +296,7 @@ impl Linked {
         requires expansion { production ≡ productions.Expansion → ⊥ }
         requires type_with_s { production ≡ productions.TypeWithS → ⊥ }
         requires local_type { production ≡ productions.LocalType → ⊥ }
+        requires abbreviated_type { production ≡ productions.AbbreviatedType → ⊥ }
         requires lvalue_item { production ≡ productions.LvalueItem → ⊥ }
         requires rvalue_item { production ≡ productions.RvalueItem → ⊥ }
         requires integer_literal { production ≡ productions.IntegerLiteral → ⊥ }
@@ -448,6 +450,11 @@ impl Linked {
             Production::LocalType => {
                 self.go(self.behind_name(kept, self.node(symbol, first), true))
             }
+            Production::AbbreviatedType => self.go(self.behind_name(
+                kept,
+                self.node(symbol, first),
+                is_listed(first),
+            )),
             Production::LvalueItem => Step::Made {
                 node: Node::Lvalue(self.node(symbol, first)),
                 listed: true,

@@ -390,7 +390,7 @@ pub(crate) const PART_COUNTS: [u8; 264] = [
     1, // Complex
     1, // BitWidth
     1, // TypeInStd
-    1, // AbbreviatedType
+    2, // AbbreviatedType
     0, // RestEnd
     1, // RestLvalue
     1, // RestRvalue
@@ -926,7 +926,7 @@ pub(crate) const QUIET_PARTS: [u8; 264] = [
     5, // Complex
     5, // BitWidth
     5, // TypeInStd
-    5, // AbbreviatedType
+    1, // AbbreviatedType
     5, // RestEnd
     5, // RestLvalue
     5, // RestRvalue

@@ -144,4 +144,8 @@ rows_2 =
     prints "_ZDC1a1bE" "[a, b]" 15 ∷
     prints "_ZDCL1aL1bE" "[a, b]" 15 ∷
     prints "_ZN1nDC1a1bEE" "n::[a, b]" 20 ∷
+    prints "_Z1fSsB3fooS_" "f(std::string[abi:foo], std::string[abi:foo])" 56 ∷
+    prints "_Z1fSaB1aIcE" "f(std::allocator[abi:a]<char>)" 41 ∷
+    prints "_Z1fNSsB3foo1xES_S0_" "f(std::string[abi:foo]::x, std::string[abi:foo], std::string[abi:foo]::x)" 92 ∷
+    prints "_ZNSsB1aC1Ev" "std::string[abi:a]::string()" 34 ∷
     []

@@ -87,6 +87,17 @@ unfolding alternatives
 maybe-tags-branch rule taken parts all around at old v new front is e =
     absurd (opened-read Kind.MaybeTags rule taken parts all around at old v new front is e)
 
+-- nor after an abbreviation or what a reference names
+abbreviated-come : (around : Around) (at : ℕ) (old : State) (v : Value) (new : State)
+    → OpenedRead Kind.TypeAfterS around at old v new Production.AbbreviatedType → NameRead around v old new
+unfolding parts_of number_of_kind between is_there meaning part unfolding_.behind
+abbreviated-come around at old v new o =
+    by-parts (λ w s. NameRead around w old s) Production.AbbreviatedType tt tt o (λ w s one b q tags.
+    let none = tags Kind.MaybeTags refl in
+    subst (λ u. NameRead around (elim (is_there u) [ true ↦ u | false ↦ w ]) old q) (sym none.0)
+    (subst (λ r. NameRead around w old r) (sym none.1)
+    (abbreviated-type around (byte_of o.taken) old w old s (one Kind.Abbreviation refl))))
+
 pub type-after-s-branch : BranchRead Kind.TypeAfterS
 unfolding alternatives parts_of number_of_kind between meaning part unfolding_.behind number_of
 type-after-s-branch rule taken parts all around at old v new front is e outer =
@@ -96,8 +107,7 @@ type-after-s-branch rule taken parts all around at old v new front is e outer =
     arm : (p : Production) → IsAmong (alternatives Kind.TypeAfterS) p → OpenedRead Kind.TypeAfterS around at old v new p
         → KindFits Kind.TypeAfterS around v old new
     arm Production.TypeInStd here o = by-parts (λ w s. NameRead around w old s) Production.TypeInStd tt tt o (λ w s one. one Kind.TypeInStd refl outer)
-    arm Production.AbbreviatedType here o = by-parts (λ w s. NameRead around w old s) Production.AbbreviatedType tt tt o
-        (λ w s one. abbreviated-type around (byte_of o.taken) old w old s (one Kind.Abbreviation refl))
+    arm Production.AbbreviatedType here o = abbreviated-come around at old v new o
     arm (Production.Operation Operation.ExpressionC) here o = absurd here
     arm p here o = absurd here
 

@@ -40,9 +40,9 @@ referred-name around old new c r = record {
 
 -- after an S
 pub abbreviated-type : (around : Around) (byte : ℕ) (began : State) (v : Value) (old new : State) → KindFits Kind.Abbreviation around v old new
-    → KindFits Kind.TypeAfterS around (Meant Production.AbbreviatedType byte around (v ∷ [])) old
-    (Later Production.AbbreviatedType byte around began (v ∷ []) new)
-unfolding meaning part unfolding_.behind
+    → KindFits Kind.TypeAfterS around (Meant Production.AbbreviatedType byte around (v ∷ nothing_there ∷ [])) old
+    (Later Production.AbbreviatedType byte around began (v ∷ nothing_there ∷ []) new)
+unfolding meaning part is_there unfolding_.behind
 abbreviated-type around byte began v old new (inl (l, value, is, same)) =
     subst (λ s. NameRead around v old s) (sym same)
     (subst (λ w. NameRead around w old old) (sym value) (abbreviation-name around l old is))

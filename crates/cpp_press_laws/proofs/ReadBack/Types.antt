@@ -164,11 +164,11 @@ solid-with-s k around allowed place t listed cs w takes one =
 -- an abbreviation or a reference as a type after an S
 pub behind-s : (around : Around) (allowed : Option ℕ) (t : Term) (place : ℕ) (cs : List Component) (w : Written)
     → ReadsAt around allowed (OfKind ABBREVIATION) (Is (tree t true)) (place + 0) cs w → ReadsAt around allowed (OfKind TYPE_AFTER_S) (Is (tree t true)) place cs w
-unfolding grammar
+unfolding grammar after is_listed
 behind-s around allowed t place cs w one =
-    read-by-parts Production.AbbreviatedType TYPE_AFTER_S [] (tree t true ∷ []) (w ∷ [])
-    (takes-none TYPE_AFTER_S Kind.TypeAfterS Production.AbbreviatedType 95 refl refl (omega arith) refl) tt refl
-    (λ s c q. one s c q before λ began s. refl)
+    read-by-parts Production.AbbreviatedType TYPE_AFTER_S [] (tree t true ∷ nothing_there ∷ []) (w ∷ written [] w.components ∷ [])
+    (takes-none TYPE_AFTER_S Kind.TypeAfterS Production.AbbreviatedType 95 refl refl (omega arith) refl) tt (append-nil w.bytes)
+    (λ s c q. one s c q before λ s c q. empty-reads Kind.MaybeTags refl refl s c q before λ began s. refl)
 
 -- the same as a type
 pub type-behind-s : (k : ℕ) (around : Around) (allowed : Option ℕ) (place : ℕ) (t : Term) (cs : List Component) (w : Written)

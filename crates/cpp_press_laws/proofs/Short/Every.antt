@@ -23,7 +23,7 @@ use Rattle.cpp_press_laws.proofs.Short.Types.{Idle, Free, type_rows, abbreviatio
 use Rattle.cpp_press_laws.proofs.Short.ByRow.{is_read, is_listed_in}
 use Rattle.cpp_press_laws.proofs.Short.Lists.{free_rows, idle_rows, free-gains, idle-gains, arguments-gains, encoding-gains, given-gains, lambda-gains, lvalue-item-gains, other-special-gains, pack-argument-gains, ref-end-gains, rvalue-item-gains, special-gains}
 use Rattle.cpp_press_laws.proofs.Short.Names.{name_rows, name-gains, abbreviated-name, constructor-name, destructor-name, internal-name, local-name, local-type, local-type-name, may-end-behind, nest-arguments, nest-end, nest-instance, nest-internal, nest-local-type, nest-next, nest-parameter, nest-source, nest-std, nest-template, operator-name, operator-name-with-c, other-operator-name, source-name, std-name, string-literal, tagged-std-type, as-name, further_rows, further-gains}
-use Rattle.cpp_press_laws.proofs.Short.Qualified.{qualified_rows, qualified-gains, as-type, bare-reference-gains, granted, integer-gains, parameter-argument-gains, parameter-gains, substitution-gains, type-with-s-gains}
+use Rattle.cpp_press_laws.proofs.Short.Qualified.{qualified_rows, qualified-gains, as-type, bare-reference-gains, granted, integer-gains, parameter-argument-gains, parameter-gains, substitution-gains, type-with-s-gains, abbreviated-type-gains}
 
 -- a production of a kind
 abbrev Arm : Kind → Production → Type 0
@@ -95,7 +95,7 @@ arms Kind.ItemAfterD is = (expansion-gains, type-gains Production.ItemIsType ref
 arms Kind.AfterD is = (type-gains Production.BuiltinWithD refl, (type-gains Production.Vector refl, type-gains Production.NoexceptFunction refl))
 arms Kind.Solid is = (type-gains Production.Builtin refl, (type-gains Production.Vendor refl, (type-gains Production.ArrayType refl, (type-gains Production.Function refl, (type-gains Production.Complex refl, (type-gains Production.Pointer refl, (type-gains Production.MemberPointer refl, (parameter-gains, (type-with-s-gains, (named (name-gains Production.NestedType refl), (named local-type, (named (as-name local-type-name), named (as-name source-name)))))))))))))
 arms Kind.MaybeCLinkage is = free-gains leaf Production.Mark refl
-arms Kind.TypeAfterS is = (type-gains Production.TypeInStd refl, type-gains Production.AbbreviatedType refl)
+arms Kind.TypeAfterS is = (type-gains Production.TypeInStd refl, abbreviated-type-gains)
 arms Kind.SourceOrLocal is = (free-gains unit Production.InternalPiece refl, (free-gains unit Production.LocalTypePiece refl, free-gains unit Production.SourcePiece refl))
 arms Kind.FunctionRest is = (idle-gains rest Production.RestEnd refl, (idle-gains rest Production.RestLvalue refl, (idle-gains rest Production.RestRvalue refl, idle-gains rest Production.RestItem refl)))
 arms Kind.AfterR is = (ref-end-gains, lvalue-item-gains)
@@ -172,7 +172,7 @@ gains-empty Kind.PackList around old is all = record { few = omega arith; known 
 gains-empty Kind.MaybeZero around old is all = record { few = omega arith; known = tt; kept = tt; small = all }
 gains-empty Kind.ArgumentsAlone around old is all = record { few = omega arith; known = inl refl; kept = λ h. refl; small = all }
 gains-empty Kind.ArgumentsFirst around old is all = record { few = omega arith; known = tt; kept = tt; small = all }
-gains-empty Kind.MaybeTags around old is all = record { few = omega arith; known = inl refl; kept = λ h. refl; small = all }
+gains-empty Kind.MaybeTags around old is all = record { few = omega arith; known = refl; kept = refl; small = all }
 gains-empty Kind.Declarations around old is all = tt
 gains-empty Kind.BaseArguments around old is all = tt
 gains-empty Kind.HeldArguments around old is all = tt

@@ -50,6 +50,8 @@ pub data Class : Type 0 where
   items : Class
   arguments : Class
   given : Class
+  -- what may be tags after a name: the ABI's grammar has none
+  tagless : Class
   -- a further piece of a name, with those before it
   further : Class
   -- the second letter of an operator and its operands
@@ -142,7 +144,7 @@ class_of Kind.PackList = items
 class_of Kind.MaybeArguments = arguments
 class_of Kind.Arguments = given
 class_of Kind.ArgumentsAlone = arguments
-class_of Kind.MaybeTags = arguments
+class_of Kind.MaybeTags = tagless
 class_of Kind.MaybeRestrict = leaf
 class_of Kind.MaybeVolatile = leaf
 class_of Kind.MaybeConst = leaf
@@ -180,6 +182,7 @@ need whole around v s = size (tree_of v) + front (tree_of v)
 need items around v s = size (no_items v) - 1
 need arguments around v s = cond (is_there v) (size (tree_of v) + 13) 0
 need given around v s = size (tree_of v) + 13
+need tagless around v s = 0
 need operands around v s = part (tree_of v)
 need leaf around v s = held v
 need mark around v s = 8
@@ -278,12 +281,14 @@ IsKnown type around v s =
     × (is_listed v ≡ true → is_function_type (tree_of v) ≡ true → is_among around.encoding (tree_of v) (components_of s.candidates) ≡ true))
 IsKnown arguments around v s = (v ≡ nothing_there) ⊎ (v ≡ tree (tree_of v) true)
 IsKnown given around v s = v ≡ tree (tree_of v) true
+IsKnown tagless around v s = v ≡ nothing_there
 IsKnown operands around v s = (second : ℕ) × (left : Term) × (right : Term) × (v ≡ pair second left right)
 IsKnown _ around v s = Unit {0}
 
 -- an absent value leaves the state as it was
 unfoldable pub IsKept : Class → Value → (old new : State) → Type 0
 IsKept arguments v old new = v ≡ nothing_there → new ≡ old
+IsKept tagless v old new = new ≡ old
 IsKept _ v old new = Unit {0}
 
 -- This many bytes pay for a value and for what became candidates.

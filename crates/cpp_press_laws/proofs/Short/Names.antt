@@ -25,7 +25,7 @@ use Rattle.cpp_press_laws.specs.Components.{components_of}
 use Rattle.cpp_press_laws.specs.Pressing.{is_component, is_encoding}
 use Rattle.cpp_press_laws.proofs.Short.Size.{part_of, front_of, lettered, size, over, part, front-part, name-own, size-some}
 use Rattle.cpp_press_laws.proofs.Short.Worth.{full, full-most, worths}
-use Rattle.cpp_press_laws.proofs.Short.Gains.{wealth, IsSmall, AllSmall, front, name, arguments, class_of, typed, letters_in, need, lent, owed, loan, returned, grant, SmallPrefix, IsBehind, MayEnd, ready_for, Ready, IsKnown, IsKept, Gains, Gained, Grown, appended-grown, prefix-grown, KindGains, fronted, further}
+use Rattle.cpp_press_laws.proofs.Short.Gains.{wealth, IsSmall, AllSmall, front, name, arguments, tagless, class_of, typed, letters_in, need, lent, owed, loan, returned, grant, SmallPrefix, IsBehind, MayEnd, ready_for, Ready, IsKnown, IsKept, Gains, Gained, Grown, appended-grown, prefix-grown, KindGains, fronted, further}
 use Rattle.cpp_press_laws.proofs.Short.Paid.{Ended, comes-to}
 use Rattle.cpp_press_laws.proofs.Short.ByRow.{is_read, part_passes, parts_pass, cost_of, credit_of, Knows, all_quiet, refers, Pays, row_goes, is_listed_in, each_goes, one-goes, naming, closes-naming, named-first, by-row, may_read, may_be_part, Standing}
 use Rattle.cpp_press_laws.proofs.Short.Slots.{letters-short}
@@ -234,9 +234,16 @@ pub std-name : Free Production.StdName further 0
 unfolding row_of kinds number_of_kind parts_of is_chain part_passes may_be_part may_read is_read class_of refers Ready ready_for grant Gained made built argument given truth_in bytes_in number_in tree_in all_given values.part cost_of credit_of Knows need loan returned letter_of size
 std-name = named-by-row Production.StdName _ _ Kind.MaybeArguments 0 refl refl refl refl (λ prefix. tt) (λ around v old new b g. g) (λ around v s n small k. in-std-paid _ (omega (arith)))
 
+-- where there are no tags, there are no arguments
+as-arguments : (around : Around) (v : Value) (old new : State) (b : ℕ) → Gains tagless 0 around v old new b → Gains arguments 0 around v old new b
+unfolding need loan returned IsKnown IsKept is_there
+as-arguments around v old new b g =
+    subst (λ w. Gains arguments 0 around w old new b) (sym g.known)
+    (record { few = omega (arith, g.few); known = inl refl; kept = λ h. g.kept; small = g.small })
+
 pub tagged-std-type : Free Production.TaggedStdType further 0
 unfolding row_of kinds number_of_kind parts_of is_chain part_passes may_be_part may_read is_read class_of refers Ready ready_for grant Gained made built argument given truth_in bytes_in number_in tree_in all_given values.part cost_of credit_of Knows need loan returned letter_of size
-tagged-std-type = named-by-row Production.TaggedStdType _ _ Kind.MaybeTags 0 refl refl refl refl (λ prefix. tt) (λ around v old new b g. g) (λ around v s n small k. in-std-paid _ (omega (arith)))
+tagged-std-type = named-by-row Production.TaggedStdType _ _ Kind.MaybeTags 0 refl refl refl refl (λ prefix. tt) as-arguments (λ around v s n small k. in-std-paid _ (omega (arith)))
 
 pub nest-internal : Free Production.NestInternal name 0
 unfolding row_of kinds number_of_kind parts_of is_chain part_passes may_be_part may_read is_read class_of refers Ready ready_for grant Gained made built argument given truth_in bytes_in number_in tree_in all_given values.part cost_of credit_of Knows need loan returned letter_of size

@@ -32,7 +32,7 @@ use Rattle.cpp_press_laws.specs.Fits.{has_letters}
 use Rattle.cpp_press_laws.proofs.Components.Parts.{Has, has-before, has-itself, has-closed}
 use Rattle.cpp_press_laws.proofs.Fits.References.{Substituted, substitution-refers}
 use Rattle.cpp_press_laws.proofs.Short.Slots.{letters-short}
-use Rattle.cpp_press_laws.proofs.Short.Types.{Idle, Free, listed, reference-gains, held-signed}
+use Rattle.cpp_press_laws.proofs.Short.Types.{Idle, Free, listed, handed, reference-gains, held-signed}
 use Rattle.cpp_press_laws.proofs.Short.Names.{parameter-goes}
 
 -- ## Conversions
@@ -281,6 +281,21 @@ type-with-s-gains around at old v new b idle small all o =
     (tree (applied t p1.value) (is_listed p0.value && not (is_there p1.value))) p1.after p1.onward.0 refl
     (applied-type around t (is_listed p0.value) p1.value p1.after p0.after old p1.own b 0 g0.known.0 g0.known.1.0 g0.known.1.1 g1
     (omega (arith, o.sum, g0.few, p0.sum, p1.sum, p1.onward.1)))
+
+-- an abbreviation or a substitution after an S, which no tag follows
+pub abbreviated-type-gains : Idle Production.AbbreviatedType type
+unfolding parts_of between is_chain close unfolding_.behind meaning values.part class_of grant Gained Ready ready_for need typed loan returned IsKnown IsKept tree_of is_there after SmallPrefix
+abbreviated-type-gains around at old v new b idle small all o =
+    let p0 = o.paid in
+    let g0 = p0.gains Kind.Abbreviation refl tt small all in
+    let t : Term = tree_of p0.value in
+    let p1 = p0.onward in
+    let g1 = p1.gains Kind.MaybeTags refl tt (small-prefix t (is_listed p0.value) (λ h. (g0.known.1.0 h, g0.known.0))) g0.small in
+    comes-to (λ w s. Gains type 0 around w old s b) o (p0.value ∷ p1.value ∷ []) p1.after
+    (elim (is_there p1.value) [ true ↦ p1.value | false ↦ p0.value ]) p1.after p1.onward.0 refl
+    (subst (λ u. Gains type 0 around (elim (is_there u) [ true ↦ u | false ↦ p0.value ]) old p1.after b) (sym g1.known)
+    (subst (λ s. Gains type 0 around p0.value old s b) (sym g1.kept)
+    (handed around p0.value p0.after old b g0.known g0.small (omega (arith, o.sum, g0.few, p0.sum, p1.sum, p1.onward.1)))))
 
 pub parameter-gains : Idle Production.Parameter type
 unfolding parts_of between is_chain close unfolding_.behind meaning values.part class_of grant Gained Ready ready_for need typed loan returned IsKnown IsKept tree_of named_so_far after SmallPrefix index_of full over size part_of is_component is_function_type is_encoding parameter_so_far parameter_named element appended listed_so_far

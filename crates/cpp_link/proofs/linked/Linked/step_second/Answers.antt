@@ -23,6 +23,7 @@ step_second_of_name-requires c = record {
   expansion = c.in_default.not-Expansion;
   type_with_s = c.in_default.not-TypeWithS;
   local_type = c.in_default.not-LocalType;
+  abbreviated_type = c.in_default.not-AbbreviatedType;
   lvalue_item = c.in_default.not-LvalueItem;
   rvalue_item = c.in_default.not-RvalueItem;
   integer_literal = c.in_default.not-IntegerLiteral;

@@ -23,6 +23,7 @@ step_second_of_piece-requires c = record {
   expansion = c.requires.expansion;
   type_with_s = c.requires.type_with_s;
   local_type = c.requires.local_type;
+  abbreviated_type = c.requires.abbreviated_type;
   lvalue_item = c.requires.lvalue_item;
   rvalue_item = c.requires.rvalue_item;
   integer_literal = c.requires.integer_literal;
