@@ -54,7 +54,7 @@ def operands():
 
 def operations():
     """How operations are printed, as definitions."""
-    rows = [f'    printed_as "{code}" {words.PRECEDENCES[own]} "{front}" {braced(operand(left))} "{between}" {braced(operand(right))} "{back}" ∷'
+    rows = [f'    printed_as "{code}" {words.PRECEDENCES[own]} {quoted(front)} {braced(operand(left))} {quoted(between)} {braced(operand(right))} {quoted(back)} ∷'
             for code, own, front, left, between, right, back in words.OPERATIONS]
     return template("cpp_grammar/Operations.antt", precedences="\n\n".join(f"abbrev pub {name} : ℕ\n{name} = {i}" for i, name in enumerate(words.PRECEDENCES)),
                     operations="\n".join(rows) + " []")

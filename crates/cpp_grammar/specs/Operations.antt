@@ -173,6 +173,7 @@ operations =
     printed_as "DB" PRIMARY "_BitInt(" Operand.AsItIs ")" Operand.NotPrinted "" ∷
     printed_as "DU" PRIMARY "unsigned _BitInt(" Operand.AsItIs ")" Operand.NotPrinted "" ∷
     printed_as "Lf" PRIMARY "(" Operand.AsType ")[" Operand.AsItIs "]" ∷
+    printed_as "LA" PRIMARY "\"<" Operand.AsType ">\"" Operand.NotPrinted "" ∷
     printed_as "di" PRIMARY "." Operand.AsItIs "" Operand.AsItIs "" ∷
     printed_as "dx" PRIMARY "[" Operand.AsItIs "]" Operand.AsItIs "" ∷
     printed_as "= " PRIMARY " = " Operand.AsItIs "" Operand.NotPrinted "" ∷

@@ -382,6 +382,8 @@ row_of Production.IntegerLiteral = after_steps (quiet ∷ goes (type_of 0) as_be
 row_of Production.NullLiteral = plain (makes (of new_null_pointer []) listed)
 -- <expr-primary> ::= L <type> <value number> E, of char8_t, char16_t or char32_t
 row_of Production.CharLiteral = plain (own character (nodes 2))
+-- <array-type> ::= A <number> _ <element type>, after the A
+row_of Production.TextArray = gains itself (plain (makes (of new_array (digits_at 0 ∷ tree_at 1 ∷ [])) listed))
 -- <value float>, as digits of base 16
 row_of Production.HexText = plain (makes (of new_vendor (text_at 0 ∷ [])) listed)
 -- <value float>, digit by digit
@@ -577,6 +579,8 @@ row_of Production.ConstLiteral = gains itself (plain (makes (of new_qualified (q
 row_of Production.VolatileLiteral = gains itself (plain (makes (of new_qualified (qualified_by (restrict no) (volatile yes) (const (there_at 0)) ∷ tree_at 1 ∷ [])) listed))
 -- <expr-primary> ::= L <type> <value float> E, of a type of a size that is said
 row_of Production.SizedFloatLiteral = plain (makes (of new_operation (fixed 76 ∷ fixed 102 ∷ tree_at 0 ∷ tree_at 1 ∷ [])) listed)
+-- <expr-primary> ::= L <string type> E
+row_of Production.TextLiteral = plain (makes (of new_operation (fixed 76 ∷ fixed 65 ∷ tree_at 0 ∷ no_tree ∷ [])) listed)
 -- <expr-primary> ::= L <type> <value float> E
 row_of Production.FloatLiteral = plain (makes (of new_operation (fixed 76 ∷ fixed 102 ∷ tree_at 0 ∷ tree_at 1 ∷ [])) listed)
 -- <unqualified-name> ::= <unqualified-name> <abi-tags>, perhaps with <template-args>; a name without its tags is no candidate

@@ -116,261 +116,263 @@ const LITERAL_AFTER_D: Sym = Sym::Kind(51);
 
 const FLOAT_TYPE: Sym = Sym::Kind(52);
 
-const SIZED_FLOAT_TYPE: Sym = Sym::Kind(53);
+const TEXT_ARRAY: Sym = Sym::Kind(53);
 
-const HEX_TEXT: Sym = Sym::Kind(54);
+const SIZED_FLOAT_TYPE: Sym = Sym::Kind(54);
 
-const HEX_DIGITS: Sym = Sym::Kind(55);
+const HEX_TEXT: Sym = Sym::Kind(55);
 
-const HEX_MORE: Sym = Sym::Kind(56);
+const HEX_DIGITS: Sym = Sym::Kind(56);
 
-const MAYBE_ZERO: Sym = Sym::Kind(57);
+const HEX_MORE: Sym = Sym::Kind(57);
 
-const LITERAL_TYPE: Sym = Sym::Kind(58);
+const MAYBE_ZERO: Sym = Sym::Kind(58);
 
-const LITERAL_PLAIN: Sym = Sym::Kind(59);
+const LITERAL_TYPE: Sym = Sym::Kind(59);
 
-const LITERAL_SOLID: Sym = Sym::Kind(60);
+const LITERAL_PLAIN: Sym = Sym::Kind(60);
 
-const OPERATOR: Sym = Sym::Kind(61);
+const LITERAL_SOLID: Sym = Sym::Kind(61);
 
-const OPERATOR_AFTER_N: Sym = Sym::Kind(62);
+const OPERATOR: Sym = Sym::Kind(62);
 
-const OPERATOR_AFTER_D: Sym = Sym::Kind(63);
+const OPERATOR_AFTER_N: Sym = Sym::Kind(63);
 
-const OPERATOR_AFTER_A: Sym = Sym::Kind(64);
+const OPERATOR_AFTER_D: Sym = Sym::Kind(64);
 
-const OPERATOR_AFTER_P: Sym = Sym::Kind(65);
+const OPERATOR_AFTER_A: Sym = Sym::Kind(65);
 
-const OPERATOR_AFTER_C: Sym = Sym::Kind(66);
+const OPERATOR_AFTER_P: Sym = Sym::Kind(66);
 
-const OPERATOR_AFTER_M: Sym = Sym::Kind(67);
+const OPERATOR_AFTER_C: Sym = Sym::Kind(67);
 
-const OPERATOR_AFTER_R: Sym = Sym::Kind(68);
+const OPERATOR_AFTER_M: Sym = Sym::Kind(68);
 
-const OPERATOR_AFTER_O: Sym = Sym::Kind(69);
+const OPERATOR_AFTER_R: Sym = Sym::Kind(69);
 
-const OPERATOR_AFTER_E: Sym = Sym::Kind(70);
+const OPERATOR_AFTER_O: Sym = Sym::Kind(70);
 
-const OPERATOR_AFTER_L: Sym = Sym::Kind(71);
+const OPERATOR_AFTER_E: Sym = Sym::Kind(71);
 
-const OPERATOR_AFTER_S: Sym = Sym::Kind(72);
+const OPERATOR_AFTER_L: Sym = Sym::Kind(72);
 
-const OPERATOR_AFTER_I: Sym = Sym::Kind(73);
+const OPERATOR_AFTER_S: Sym = Sym::Kind(73);
 
-const OPERATOR_AFTER_G: Sym = Sym::Kind(74);
+const OPERATOR_AFTER_I: Sym = Sym::Kind(74);
 
-const NEST_REST_OR_END: Sym = Sym::Kind(75);
+const OPERATOR_AFTER_G: Sym = Sym::Kind(75);
 
-const ARGUMENTS_ALONE: Sym = Sym::Kind(76);
+const NEST_REST_OR_END: Sym = Sym::Kind(76);
 
-const NEST_REST_ALONE: Sym = Sym::Kind(77);
+const ARGUMENTS_ALONE: Sym = Sym::Kind(77);
 
-const FIRST_MODULE: Sym = Sym::Kind(78);
+const NEST_REST_ALONE: Sym = Sym::Kind(78);
 
-const NAMED_MODULE: Sym = Sym::Kind(79);
+const FIRST_MODULE: Sym = Sym::Kind(79);
 
-const MORE_MODULE: Sym = Sym::Kind(80);
+const NAMED_MODULE: Sym = Sym::Kind(80);
 
-const MAYBE_PARTITION: Sym = Sym::Kind(81);
+const MORE_MODULE: Sym = Sym::Kind(81);
 
-const NAME_AFTER_MODULE: Sym = Sym::Kind(82);
+const MAYBE_PARTITION: Sym = Sym::Kind(82);
 
-const NAME_IN_MODULE: Sym = Sym::Kind(83);
+const NAME_AFTER_MODULE: Sym = Sym::Kind(83);
 
-const NEST_ON: Sym = Sym::Kind(84);
+const NAME_IN_MODULE: Sym = Sym::Kind(84);
 
-const HOLDER_MARK: Sym = Sym::Kind(85);
+const NEST_ON: Sym = Sym::Kind(85);
 
-const HELD_COMPONENT: Sym = Sym::Kind(86);
+const HOLDER_MARK: Sym = Sym::Kind(86);
 
-const BINDING_AFTER_D: Sym = Sym::Kind(87);
+const HELD_COMPONENT: Sym = Sym::Kind(87);
 
-const BOUND_NAMES: Sym = Sym::Kind(88);
+const BINDING_AFTER_D: Sym = Sym::Kind(88);
 
-const MORE_NAMES: Sym = Sym::Kind(89);
+const BOUND_NAMES: Sym = Sym::Kind(89);
 
-const BOUND_NAME: Sym = Sym::Kind(90);
+const MORE_NAMES: Sym = Sym::Kind(90);
 
-const FLOAT_END: Sym = Sym::Kind(91);
+const BOUND_NAME: Sym = Sym::Kind(91);
 
-const COMPONENT_AFTER_C: Sym = Sym::Kind(92);
+const FLOAT_END: Sym = Sym::Kind(92);
 
-const OTHER_OPERATOR: Sym = Sym::Kind(93);
+const COMPONENT_AFTER_C: Sym = Sym::Kind(93);
 
-const HELD_ARGUMENTS: Sym = Sym::Kind(94);
+const OTHER_OPERATOR: Sym = Sym::Kind(94);
 
-const BASE_CLASS: Sym = Sym::Kind(95);
+const HELD_ARGUMENTS: Sym = Sym::Kind(95);
 
-const UNNESTED_NAME: Sym = Sym::Kind(96);
+const BASE_CLASS: Sym = Sym::Kind(96);
 
-const BASE_ARGUMENTS: Sym = Sym::Kind(97);
+const UNNESTED_NAME: Sym = Sym::Kind(97);
 
-const ARGUMENTS_FIRST: Sym = Sym::Kind(98);
+const BASE_ARGUMENTS: Sym = Sym::Kind(98);
 
-const PLAIN_ENTITY: Sym = Sym::Kind(99);
+const ARGUMENTS_FIRST: Sym = Sym::Kind(99);
 
-const PLAIN_TYPE_ENTITY: Sym = Sym::Kind(100);
+const PLAIN_ENTITY: Sym = Sym::Kind(100);
 
-const SPECIAL_MARK: Sym = Sym::Kind(101);
+const PLAIN_TYPE_ENTITY: Sym = Sym::Kind(101);
 
-const SPECIAL_AFTER_G: Sym = Sym::Kind(102);
+const SPECIAL_MARK: Sym = Sym::Kind(102);
 
-const TEMPORARY_NAME: Sym = Sym::Kind(103);
+const SPECIAL_AFTER_G: Sym = Sym::Kind(103);
 
-const CLONE_LETTER: Sym = Sym::Kind(104);
+const TEMPORARY_NAME: Sym = Sym::Kind(104);
 
-const TYPE_IN_STD: Sym = Sym::Kind(105);
+const CLONE_LETTER: Sym = Sym::Kind(105);
 
-const MAYBE_TAGS: Sym = Sym::Kind(106);
+const TYPE_IN_STD: Sym = Sym::Kind(106);
 
-const ARGUMENT: Sym = Sym::Kind(107);
+const MAYBE_TAGS: Sym = Sym::Kind(107);
 
-const ARGUMENT_AFTER_T: Sym = Sym::Kind(108);
+const ARGUMENT: Sym = Sym::Kind(108);
 
-const LEVELED_PARAMETER: Sym = Sym::Kind(109);
+const ARGUMENT_AFTER_T: Sym = Sym::Kind(109);
 
-const ONE_ARGUMENT: Sym = Sym::Kind(110);
+const LEVELED_PARAMETER: Sym = Sym::Kind(110);
 
-const DECLARATION_AFTER_T: Sym = Sym::Kind(111);
+const ONE_ARGUMENT: Sym = Sym::Kind(111);
 
-const DECLARATIONS: Sym = Sym::Kind(112);
+const DECLARATION_AFTER_T: Sym = Sym::Kind(112);
 
-const CONCEPT: Sym = Sym::Kind(113);
+const DECLARATIONS: Sym = Sym::Kind(113);
 
-const CONCEPT_ARGUMENTS: Sym = Sym::Kind(114);
+const CONCEPT: Sym = Sym::Kind(114);
 
-const SOLID_BUT_T: Sym = Sym::Kind(115);
+const CONCEPT_ARGUMENTS: Sym = Sym::Kind(115);
 
-const EXPRESSION: Sym = Sym::Kind(116);
+const SOLID_BUT_T: Sym = Sym::Kind(116);
 
-const EXPRESSION_PARAMETER: Sym = Sym::Kind(117);
+const EXPRESSION: Sym = Sym::Kind(117);
 
-const UNLEVELED_EXPRESSION: Sym = Sym::Kind(118);
+const EXPRESSION_PARAMETER: Sym = Sym::Kind(118);
 
-const ADDRESSED_EXPRESSION: Sym = Sym::Kind(119);
+const UNLEVELED_EXPRESSION: Sym = Sym::Kind(119);
 
-const ADDRESSED_LITERAL: Sym = Sym::Kind(120);
+const ADDRESSED_EXPRESSION: Sym = Sym::Kind(120);
 
-const EXPRESSION_AFTER_A: Sym = Sym::Kind(121);
+const ADDRESSED_LITERAL: Sym = Sym::Kind(121);
 
-const EXPRESSION_AFTER_C: Sym = Sym::Kind(122);
+const EXPRESSION_AFTER_A: Sym = Sym::Kind(122);
 
-const EXPRESSION_AFTER_D: Sym = Sym::Kind(123);
+const EXPRESSION_AFTER_C: Sym = Sym::Kind(123);
 
-const EXPRESSION_AFTER_E: Sym = Sym::Kind(124);
+const EXPRESSION_AFTER_D: Sym = Sym::Kind(124);
 
-const EXPRESSION_AFTER_F: Sym = Sym::Kind(125);
+const EXPRESSION_AFTER_E: Sym = Sym::Kind(125);
 
-const EXPRESSION_AFTER_G: Sym = Sym::Kind(126);
+const EXPRESSION_AFTER_F: Sym = Sym::Kind(126);
 
-const EXPRESSION_AFTER_I: Sym = Sym::Kind(127);
+const EXPRESSION_AFTER_G: Sym = Sym::Kind(127);
 
-const EXPRESSION_AFTER_L: Sym = Sym::Kind(128);
+const EXPRESSION_AFTER_I: Sym = Sym::Kind(128);
 
-const EXPRESSION_AFTER_M: Sym = Sym::Kind(129);
+const EXPRESSION_AFTER_L: Sym = Sym::Kind(129);
 
-const EXPRESSION_AFTER_N: Sym = Sym::Kind(130);
+const EXPRESSION_AFTER_M: Sym = Sym::Kind(130);
 
-const EXPRESSION_AFTER_O: Sym = Sym::Kind(131);
+const EXPRESSION_AFTER_N: Sym = Sym::Kind(131);
 
-const EXPRESSION_AFTER_P: Sym = Sym::Kind(132);
+const EXPRESSION_AFTER_O: Sym = Sym::Kind(132);
 
-const EXPRESSION_AFTER_Q: Sym = Sym::Kind(133);
+const EXPRESSION_AFTER_P: Sym = Sym::Kind(133);
 
-const EXPRESSION_AFTER_R: Sym = Sym::Kind(134);
+const EXPRESSION_AFTER_Q: Sym = Sym::Kind(134);
 
-const EXPRESSION_AFTER_S: Sym = Sym::Kind(135);
+const EXPRESSION_AFTER_R: Sym = Sym::Kind(135);
 
-const EXPRESSION_AFTER_T: Sym = Sym::Kind(136);
+const EXPRESSION_AFTER_S: Sym = Sym::Kind(136);
 
-const EXPRESSIONS: Sym = Sym::Kind(137);
+const EXPRESSION_AFTER_T: Sym = Sym::Kind(137);
 
-const MAYBE_BEFORE: Sym = Sym::Kind(138);
+const EXPRESSIONS: Sym = Sym::Kind(138);
 
-const FOLD_OPERATOR: Sym = Sym::Kind(139);
+const MAYBE_BEFORE: Sym = Sym::Kind(139);
 
-const FOLD_OPERATOR_AFTER_L: Sym = Sym::Kind(140);
+const FOLD_OPERATOR: Sym = Sym::Kind(140);
 
-const AFTER_OUTER: Sym = Sym::Kind(141);
+const FOLD_OPERATOR_AFTER_L: Sym = Sym::Kind(141);
 
-const FOLD_SIGNS: Sym = Sym::Kind(142);
+const AFTER_OUTER: Sym = Sym::Kind(142);
 
-const FOLD_SIGN: Sym = Sym::Kind(143);
+const FOLD_SIGNS: Sym = Sym::Kind(143);
 
-const FOLD_VALUE: Sym = Sym::Kind(144);
+const FOLD_SIGN: Sym = Sym::Kind(144);
 
-const FOLD_OPERAND: Sym = Sym::Kind(145);
+const FOLD_VALUE: Sym = Sym::Kind(145);
 
-const FOLD_PACK: Sym = Sym::Kind(146);
+const FOLD_OPERAND: Sym = Sym::Kind(146);
 
-const VALUE_PACK: Sym = Sym::Kind(147);
+const FOLD_PACK: Sym = Sym::Kind(147);
 
-const TYPE_PACK: Sym = Sym::Kind(148);
+const VALUE_PACK: Sym = Sym::Kind(148);
 
-const DESIGNATED_VALUE: Sym = Sym::Kind(149);
+const TYPE_PACK: Sym = Sym::Kind(149);
 
-const DESIGNATOR_AFTER_D: Sym = Sym::Kind(150);
+const DESIGNATED_VALUE: Sym = Sym::Kind(150);
 
-const PLAIN_VALUE: Sym = Sym::Kind(151);
+const DESIGNATOR_AFTER_D: Sym = Sym::Kind(151);
 
-const FIELD_NAME: Sym = Sym::Kind(152);
+const PLAIN_VALUE: Sym = Sym::Kind(152);
 
-const PLACEMENT: Sym = Sym::Kind(153);
+const FIELD_NAME: Sym = Sym::Kind(153);
 
-const SOME_EXPRESSIONS: Sym = Sym::Kind(154);
+const PLACEMENT: Sym = Sym::Kind(154);
 
-const INITIALIZER: Sym = Sym::Kind(155);
+const SOME_EXPRESSIONS: Sym = Sym::Kind(155);
 
-const INITIALIZER_AFTER_P: Sym = Sym::Kind(156);
+const INITIALIZER: Sym = Sym::Kind(156);
 
-const INITIALIZER_AFTER_I: Sym = Sym::Kind(157);
+const INITIALIZER_AFTER_P: Sym = Sym::Kind(157);
 
-const OUTER_REST: Sym = Sym::Kind(158);
+const INITIALIZER_AFTER_I: Sym = Sym::Kind(158);
 
-const PARAMETER_NUMBER: Sym = Sym::Kind(159);
+const OUTER_REST: Sym = Sym::Kind(159);
 
-const CONVERTED_TYPE: Sym = Sym::Kind(160);
+const PARAMETER_NUMBER: Sym = Sym::Kind(160);
 
-const CONVERTED_SOLID: Sym = Sym::Kind(161);
+const CONVERTED_TYPE: Sym = Sym::Kind(161);
 
-const PARAMETER_AFTER_T: Sym = Sym::Kind(162);
+const CONVERTED_SOLID: Sym = Sym::Kind(162);
 
-const DECLTYPE_AFTER_D: Sym = Sym::Kind(163);
+const PARAMETER_AFTER_T: Sym = Sym::Kind(163);
 
-const CONVERTED_AFTER_D: Sym = Sym::Kind(164);
+const DECLTYPE_AFTER_D: Sym = Sym::Kind(164);
 
-const CONVERT_REST: Sym = Sym::Kind(165);
+const CONVERTED_AFTER_D: Sym = Sym::Kind(165);
 
-const UNRESOLVED: Sym = Sym::Kind(166);
+const CONVERT_REST: Sym = Sym::Kind(166);
 
-const UNRESOLVED_TYPE: Sym = Sym::Kind(167);
+const UNRESOLVED: Sym = Sym::Kind(167);
 
-const DESTRUCTOR_NAME: Sym = Sym::Kind(168);
+const UNRESOLVED_TYPE: Sym = Sym::Kind(168);
 
-const REQUIREMENTS: Sym = Sym::Kind(169);
+const DESTRUCTOR_NAME: Sym = Sym::Kind(169);
 
-const MAYBE_NOEXCEPT: Sym = Sym::Kind(170);
+const REQUIREMENTS: Sym = Sym::Kind(170);
 
-const AFTER_NOEXCEPT: Sym = Sym::Kind(171);
+const MAYBE_NOEXCEPT: Sym = Sym::Kind(171);
 
-const REQUIRED_TYPES: Sym = Sym::Kind(172);
+const AFTER_NOEXCEPT: Sym = Sym::Kind(172);
 
-const LEVEL: Sym = Sym::Kind(173);
+const REQUIRED_TYPES: Sym = Sym::Kind(173);
 
-const MORE_LEVELS: Sym = Sym::Kind(174);
+const LEVEL: Sym = Sym::Kind(174);
 
-const UNRESOLVED_NAME: Sym = Sym::Kind(175);
+const MORE_LEVELS: Sym = Sym::Kind(175);
 
-const OPERATOR_NAME: Sym = Sym::Kind(176);
+const UNRESOLVED_NAME: Sym = Sym::Kind(176);
 
-const ANY_ARRAY: Sym = Sym::Kind(177);
+const OPERATOR_NAME: Sym = Sym::Kind(177);
 
-const ARRAY_REST: Sym = Sym::Kind(178);
+const ANY_ARRAY: Sym = Sym::Kind(178);
 
-const BOUND: Sym = Sym::Kind(179);
+const ARRAY_REST: Sym = Sym::Kind(179);
 
-const NEST_MORE_OR_END: Sym = Sym::Kind(180);
+const BOUND: Sym = Sym::Kind(180);
+
+const NEST_MORE_OR_END: Sym = Sym::Kind(181);
 
 const NAME: Sym = Sym::Name;
 
@@ -383,7 +385,7 @@ const DIGITS: Sym = Sym::Number(NumberKind::Digits);
 // The letter of a production is the byte with its number. The production with the number of the blank has none here.
 
 // For each kind a row: for each byte from `$` to `z` the letter of the production that the kind takes there.
-static LETTERS: [[u8; 87]; 181] = [
+static LETTERS: [[u8; 87]; 182] = [
     // $%&'()*+,-./0123456789:;<=>?@ABCDEFGHIJKLMNOPQRSTUVWXYZ[\]^_`abcdefghijklmnopqrstuvwxyz
     *b"                                                           -                           ", // Symbol
     *b"          .                                                                            ", // MaybeSuffix
@@ -438,15 +440,16 @@ static LETTERS: [[u8; 87]; 181] = [
     *b"            !!                                                                         ", // Bit
     *b"                                                                     \x8a    \x89    \x8a \x8a     ", // LiteralAfterD
     *b"                                                                oooo                   ", // FloatType
+    *b"            \x8b\x8b\x8b\x8b\x8b\x8b\x8b\x8b\x8b\x8b                                     \x8b                           ", // TextArray
     *b"                                  h                                                    ", // SizedFloatType
-    *b"            \x8b\x8b\x8b\x8b\x8b\x8b\x8b\x8b\x8b\x8b                                       \x8b\x8b\x8b\x8b\x8b\x8b                    ", // HexText
-    *b"            \x8c\x8c\x8c\x8c\x8c\x8c\x8c\x8c\x8c\x8c                                       \x8c\x8c\x8c\x8c\x8c\x8c                    ", // HexDigits
-    *b"            \x8c\x8c\x8c\x8c\x8c\x8c\x8c\x8c\x8c\x8c                                       \x8c\x8c\x8c\x8c\x8c\x8c                    ", // HexMore
+    *b"            \x8c\x8c\x8c\x8c\x8c\x8c\x8c\x8c\x8c\x8c                                       \x8c\x8c\x8c\x8c\x8c\x8c                    ", // HexText
+    *b"            \x8d\x8d\x8d\x8d\x8d\x8d\x8d\x8d\x8d\x8d                                       \x8d\x8d\x8d\x8d\x8d\x8d                    ", // HexDigits
+    *b"            \x8d\x8d\x8d\x8d\x8d\x8d\x8d\x8d\x8d\x8d                                       \x8d\x8d\x8d\x8d\x8d\x8d                    ", // HexMore
     *b"            !                                                                          ", // MaybeZero
     *b"            $$$$$$$$$$                   kS j  ml#    n      o o    ooo oooo   oo  ooo ", // LiteralType
-    *b"            \x8d\x8d\x8d\x8d\x8d\x8d\x8d\x8d\x8d\x8d                   \x8d\x8d \x8d  \x8d\x8d\x8d    \x8d      \x8d \x8d    \x8d\x8d\x8d \x8d\x8d\x8d\x8d   \x8d\x8d  \x8d\x8d\x8d ", // LiteralPlain
+    *b"            \x8e\x8e\x8e\x8e\x8e\x8e\x8e\x8e\x8e\x8e                   \x8e\x8e \x8e  \x8e\x8e\x8e    \x8e      \x8e \x8e    \x8e\x8e\x8e \x8e\x8e\x8e\x8e   \x8e\x8e  \x8e\x8e\x8e ", // LiteralPlain
     *b"            $$$$$$$$$$                   kS j  ml#    n      o o    ooo oooo   oo  ooo ", // LiteralSolid
-    *b"                                                             \x90 \x92\x8f\x96 \x9a \x99  \x97\x93\x8e\x95\x91 \x94\x98       ", // Operator
+    *b"                                                             \x91 \x93\x90\x97 \x9b \x9a  \x98\x94\x8f\x96\x92 \x95\x99       ", // Operator
     *b"                                                             !   ! !            !  !   ", // OperatorAfterN
     *b"                                                  !          !   !      !         !    ", // OperatorAfterD
     *b"                                          !    !             !  !         !        !   ", // OperatorAfterA
@@ -456,16 +459,16 @@ static LETTERS: [[u8; 87]; 181] = [
     *b"                                         !     !                         !     !       ", // OperatorAfterR
     *b"                                              !                            !  !        ", // OperatorAfterO
     *b"                                           !                               ! !         ", // OperatorAfterE
-    *b"                                               !                 !   \x9b         !!      ", // OperatorAfterL
+    *b"                                               !                 !   \x9c         !!      ", // OperatorAfterL
     *b"                                                                               !       ", // OperatorAfterS
     *b"                                                                                    !  ", // OperatorAfterI
     *b"                                                                 !              !      ", // OperatorAfterG
-    *b"            IIIIIIIIII         II    \x9c  I        I           I III I I  IIIII II       ", // NestRestOrEnd
+    *b"            IIIIIIIIII         II    \x9d  I        I           I III I I  IIIII II       ", // NestRestOrEnd
     *b"                                     \x7f                                                 ", // ArgumentsAlone
     *b"            IIIIIIIIII         II    H  I        I           I III I I  IIIII II       ", // NestRestAlone
-    *b"            \x9d\x9d\x9d\x9d\x9d\x9d\x9d\x9d\x9d\x9d                                                                 ", // FirstModule
-    *b"            \x9e\x9e\x9e\x9e\x9e\x9e\x9e\x9e\x9e\x9e       \x9e\x9e\x9e\x9e\x9e\x9e\x9e\x9e\x9e\x9e\x9e\x9e\x9e\x9e\x9e\x9e\x9e\x9e\x9e\x9e\x9e\x9e\x9e\x9e\x9e\x9e    \x9e                           ", // NamedModule
-    *b"                                                   \x9f                                   ", // MoreModule
+    *b"            \x9e\x9e\x9e\x9e\x9e\x9e\x9e\x9e\x9e\x9e                                                                 ", // FirstModule
+    *b"            \x9f\x9f\x9f\x9f\x9f\x9f\x9f\x9f\x9f\x9f       \x9f\x9f\x9f\x9f\x9f\x9f\x9f\x9f\x9f\x9f\x9f\x9f\x9f\x9f\x9f\x9f\x9f\x9f\x9f\x9f\x9f\x9f\x9f\x9f\x9f\x9f    \x9f                           ", // NamedModule
+    *b"                                                   \xa0                                   ", // MoreModule
     *b"                                            !                                          ", // MaybePartition
     *b"            $$$$$$$$$$                  \"        #           % %%% % %  %%%%% %%       ", // NameAfterModule
     *b"                                                   *                                   ", // NameInModule
@@ -473,98 +476,98 @@ static LETTERS: [[u8; 87]; 181] = [
     *b"                                         !                                             ", // HolderMark
     *b"            $$$$$$$$$$         KL       \"      + # *         N MNN N N  NNNNN NN       ", // HeldComponent
     *b"                               P                                                       ", // BindingAfterD
-    *b"            \xa1\xa1\xa1\xa1\xa1\xa1\xa1\xa1\xa1\xa1                  \xa1                                              ", // BoundNames
-    *b"            \xa1\xa1\xa1\xa1\xa1\xa1\xa1\xa1\xa1\xa1                  \xa1                                              ", // MoreNames
-    *b"            \xa0\xa0\xa0\xa0\xa0\xa0\xa0\xa0\xa0\xa0                  p                                              ", // BoundName
+    *b"            \xa2\xa2\xa2\xa2\xa2\xa2\xa2\xa2\xa2\xa2                  \xa2                                              ", // BoundNames
+    *b"            \xa2\xa2\xa2\xa2\xa2\xa2\xa2\xa2\xa2\xa2                  \xa2                                              ", // MoreNames
+    *b"            \xa1\xa1\xa1\xa1\xa1\xa1\xa1\xa1\xa1\xa1                  p                                              ", // BoundName
     *b"                                                           !  !                     !  ", // FloatEnd
-    *b"                                                                        \xa2\xa2 \xa2           ", // ComponentAfterC
-    *b"                                                             \x90  \x8f\x96 \x9a \x99  \x97\x93\x8e\x95\x91 \x94\x98       ", // OtherOperator
-    *b"                                     \xa3                                                 ", // HeldArguments
-    *b"            \xa5\xa5\xa5\xa5\xa5\xa5\xa5\xa5\xa5\xa5                    \xa4    \xa5      n                                ", // BaseClass
-    *b"            \xa7\xa7\xa7\xa7\xa7\xa7\xa7\xa7\xa7\xa7                         \xa6                                       ", // UnnestedName
-    *b"                                     \xa8                                                 ", // BaseArguments
+    *b"                                                                        \xa3\xa3 \xa3           ", // ComponentAfterC
+    *b"                                                             \x91  \x90\x97 \x9b \x9a  \x98\x94\x8f\x96\x92 \x95\x99       ", // OtherOperator
+    *b"                                     \xa4                                                 ", // HeldArguments
+    *b"            \xa6\xa6\xa6\xa6\xa6\xa6\xa6\xa6\xa6\xa6                    \xa5    \xa6      n                                ", // BaseClass
+    *b"            \xa8\xa8\xa8\xa8\xa8\xa8\xa8\xa8\xa8\xa8                         \xa7                                       ", // UnnestedName
+    *b"                                     \xa9                                                 ", // BaseArguments
     *b"            \x82\x82\x82\x82\x82\x82\x82\x82\x82\x82       \x82 \x82\x82 \x82   \x80\x82\x81\x82\x82\x82\x82 \x82\x82\x82\x82\x82 \x82 \x82      \x82\x82\x82\x82\x82\x82\x82\x82\x82\x82 \x82\x82\x82\x82  \x82\x82\x82\x82\x82\x82\x82\x82\x82", // ArgumentsFirst
     *b"            $$$$$$$$$$                  \" ,      #                                     ", // PlainEntity
     *b"            $$$$$$$$$$                  \" S      #                                     ", // PlainTypeEntity
     *b"                                   !                                                   ", // SpecialMark
     *b"                                                  7                                    ", // SpecialAfterG
-    *b"            $$$$$$$$$$          &       \" ,    < #    \xa9                                ", // TemporaryName
+    *b"            $$$$$$$$$$          &       \" ,    < #    \xaa                                ", // TemporaryName
     *b"                                                                          !     !      ", // CloneLetter
-    *b"                                                                                \xaa      ", // TypeInStd
+    *b"                                                                                \xab      ", // TypeInStd
     *b"                                                                                       ", // MaybeTags
-    *b"            \xad\xad\xad\xad\xad\xad\xad\xad\xad\xad       \xad \xadb \xad    \\ \xad\xad]\xad ]\xad\xac\xad[ \xab \xad      \xad\xad\xad\xad\xad\xad\xad\xad\xad\xad \xad\xad\xad\xad  Z\xad\xad\xad\xad\xad\xad\xad\xad", // Argument
-    *b"            \xae\xae\xae\xae\xae\xae\xae\xae\xae\xae                                     \xae                           ", // ArgumentAfterT
-    *b"            \xae\xae\xae\xae\xae\xae\xae\xae\xae\xae                                     \xae                           ", // LeveledParameter
-    *b"            \xad\xad\xad\xad\xad\xad\xad\xad\xad\xad       \xad \xadb \xad   \xb1\\\xb0\xad\xad]\xad ]\xad\xac\xad[ \xab \xad      \xad\xad\xad\xad\xad\xad\xad\xad\xad\xad \xad\xad\xad\xad  Z\xad\xad\xad\xad\xad\xad\xad\xad", // OneArgument
-    *b"                                                                       \xb3  \xb2 \xb5   \xb4    ! ", // DeclarationAfterT
-    *b"                                                \xb6                                      ", // Declarations
-    *b"            \xb8\xb8\xb8\xb8\xb8\xb8\xb8\xb8\xb8\xb8                    \xb7    \xb8                                       ", // Concept
-    *b"                                     \xb9                                                 ", // ConceptArguments
+    *b"            \xae\xae\xae\xae\xae\xae\xae\xae\xae\xae       \xae \xaeb \xae    \\ \xae\xae]\xae ]\xae\xad\xae[ \xac \xae      \xae\xae\xae\xae\xae\xae\xae\xae\xae\xae \xae\xae\xae\xae  Z\xae\xae\xae\xae\xae\xae\xae\xae", // Argument
+    *b"            \xaf\xaf\xaf\xaf\xaf\xaf\xaf\xaf\xaf\xaf                                     \xaf                           ", // ArgumentAfterT
+    *b"            \xaf\xaf\xaf\xaf\xaf\xaf\xaf\xaf\xaf\xaf                                     \xaf                           ", // LeveledParameter
+    *b"            \xae\xae\xae\xae\xae\xae\xae\xae\xae\xae       \xae \xaeb \xae   \xb2\\\xb1\xae\xae]\xae ]\xae\xad\xae[ \xac \xae      \xae\xae\xae\xae\xae\xae\xae\xae\xae\xae \xae\xae\xae\xae  Z\xae\xae\xae\xae\xae\xae\xae\xae", // OneArgument
+    *b"                                                                       \xb4  \xb3 \xb6   \xb5    ! ", // DeclarationAfterT
+    *b"                                                \xb7                                      ", // Declarations
+    *b"            \xb9\xb9\xb9\xb9\xb9\xb9\xb9\xb9\xb9\xb9                    \xb8    \xb9                                       ", // Concept
+    *b"                                     \xba                                                 ", // ConceptArguments
     *b"            $$$$$$$$$$       q s  r      kS j  m #    n      oooooooooo oooo   oopooooo", // SolidButT
-    *b"                                                             \xd7                         ", // Expression
-    *b"            \xe8\xe8\xe8\xe8\xe8\xe8\xe8\xe8\xe8\xe8                  \xe9                  \xe8                           ", // ExpressionParameter
-    *b"            \xe8\xe8\xe8\xe8\xe8\xe8\xe8\xe8\xe8\xe8                                     \xe8                           ", // UnleveledExpression
-    *b"                                        \xea                                              ", // AddressedExpression
+    *b"                                                             \xd8                         ", // Expression
+    *b"            \xe9\xe9\xe9\xe9\xe9\xe9\xe9\xe9\xe9\xe9                  \xea                  \xe9                           ", // ExpressionParameter
+    *b"            \xe9\xe9\xe9\xe9\xe9\xe9\xe9\xe9\xe9\xe9                                     \xe9                           ", // UnleveledExpression
+    *b"                                        \xeb                                              ", // AddressedExpression
     *b"                                                           \x85                           ", // AddressedLiteral
-    *b"                                                                \xbe                      ", // ExpressionAfterA
-    *b"                                                               \xba        \xc2\xbf \xc0\xc2     \xc3    ", // ExpressionAfterC
-    *b"                                                  \xbf          \xc0 \xba \xc0   \xc4  \xc0 \xc6    \xbf\xbf \xbf \xc5  ", // ExpressionAfterD
-    *b"                                           \xbf                               \xbf \xbf         ", // ExpressionAfterE
-    *b"                                        \xc7     \xc8                         \xc9   \xbd \xca        ", // ExpressionAfterF
-    *b"                                                                 \xbf             \xc0\xbf      ", // ExpressionAfterG
-    *b"                                                                        \xcb           \xbf  ", // ExpressionAfterI
-    *b"                                               \xbf                 \xbf             \xbf\xbf      ", // ExpressionAfterL
-    *b"                                     \xbf  \xbf                            \xbf  \xbf\xcc             ", // ExpressionAfterM
-    *b"                                                             \xcd   \xbf \xc0            \xc0  \xcd\xc0  ", // ExpressionAfterN
-    *b"                                              \xbf                           \xbb\xbf  \xbf        ", // ExpressionAfterO
-    *b"                                        \xbf                               \xbf\xbf  \xcc  \xc0\xbf      ", // ExpressionAfterP
-    *b"                                                                                 \xce     ", // ExpressionAfterQ
-    *b"                                         \xbf   \xd0 \xbf               \xba         \xbf   \xcf \xbf       ", // ExpressionAfterR
-    *b"                                                      \xd2        \xba            \xd1 \xd3\xbf\xc1    \xd4\xc0", // ExpressionAfterS
-    *b"                                                                 \xc0   \xc1  \xd5     \xd6    \xc0   ", // ExpressionAfterT
-    *b"                                                             \xeb                         ", // Expressions
+    *b"                                                                \xbf                      ", // ExpressionAfterA
+    *b"                                                               \xbb        \xc3\xc0 \xc1\xc3     \xc4    ", // ExpressionAfterC
+    *b"                                                  \xc0          \xc1 \xbb \xc1   \xc5  \xc1 \xc7    \xc0\xc0 \xc0 \xc6  ", // ExpressionAfterD
+    *b"                                           \xc0                               \xc0 \xc0         ", // ExpressionAfterE
+    *b"                                        \xc8     \xc9                         \xca   \xbe \xcb        ", // ExpressionAfterF
+    *b"                                                                 \xc0             \xc1\xc0      ", // ExpressionAfterG
+    *b"                                                                        \xcc           \xc0  ", // ExpressionAfterI
+    *b"                                               \xc0                 \xc0             \xc0\xc0      ", // ExpressionAfterL
+    *b"                                     \xc0  \xc0                            \xc0  \xc0\xcd             ", // ExpressionAfterM
+    *b"                                                             \xce   \xc0 \xc1            \xc1  \xce\xc1  ", // ExpressionAfterN
+    *b"                                              \xc0                           \xbc\xc0  \xc0        ", // ExpressionAfterO
+    *b"                                        \xc0                               \xc0\xc0  \xcd  \xc1\xc0      ", // ExpressionAfterP
+    *b"                                                                                 \xcf     ", // ExpressionAfterQ
+    *b"                                         \xc0   \xd1 \xc0               \xbb         \xc0   \xd0 \xc0       ", // ExpressionAfterR
+    *b"                                                      \xd3        \xbb            \xd2 \xd4\xc0\xc2    \xd5\xc1", // ExpressionAfterS
+    *b"                                                                 \xc1   \xc2  \xd6     \xd7    \xc1   ", // ExpressionAfterT
+    *b"                                                             \xec                         ", // Expressions
     *b"                                                           !                           ", // MaybeBefore
-    *b"                                                             \x90 \x92\x8f\x96 \x9a \x99  \xec\x93\x8e\x95\x91 \x94\x98       ", // FoldOperator
+    *b"                                                             \x91 \x93\x90\x97 \x9b \x9a  \xed\x94\x8f\x96\x92 \x95\x99       ", // FoldOperator
     *b"                                               !                 !             !!      ", // FoldOperatorAfterL
-    *b"            \xed\xed\xed\xed\xed\xed\xed\xed\xed\xed                                       \x00 \x00\x00\x00 \x00 \x00  \x00\x00\x00\x00\x00 \x00\x00       ", // AfterOuter
+    *b"            \xee\xee\xee\xee\xee\xee\xee\xee\xee\xee                                       \x00 \x00\x00\x00 \x00 \x00  \x00\x00\x00\x00\x00 \x00\x00       ", // AfterOuter
     *b"                                                             \x01 \x01\x01\x01 \x01 \x01  \x01\x01\x01\x01\x01 \x01\x01       ", // FoldSigns
     *b"                                                             \x02 \x02\x02\x02 \x02 \x02  \x02\x02\x02\x02\x02 \x02\x02       ", // FoldSign
     *b"                                                             \x03                         ", // FoldValue
     *b"                                                             \x04                         ", // FoldOperand
     *b"                                                             \x05                         ", // FoldPack
-    *b"                                      \xb1                      \x05                         ", // ValuePack
-    *b"            \x06\x06\x06\x06\x06\x06\x06\x06\x06\x06       \x06 \x06\x06 \x06   \xb1\x06 \x06\x06\x06\x06 \x06\x06\x06\x06\x06   \x06      \x06\x06\x06\x06\x06\x06\x06\x06\x06\x06 \x06\x06\x06\x06  \x06\x06\x06\x06\x06\x06\x06\x06\x06", // TypePack
+    *b"                                      \xb2                      \x05                         ", // ValuePack
+    *b"            \x06\x06\x06\x06\x06\x06\x06\x06\x06\x06       \x06 \x06\x06 \x06   \xb2\x06 \x06\x06\x06\x06 \x06\x06\x06\x06\x06   \x06      \x06\x06\x06\x06\x06\x06\x06\x06\x06\x06 \x06\x06\x06\x06  \x06\x06\x06\x06\x06\x06\x06\x06\x06", // TypePack
     *b"            \x08\x08\x08\x08\x08\x08\x08\x08\x08\x08                  \x08       \x08            \x08 \x08\x07\x08\x08\x08 \x08  \x08\x08\x08\x08\x08\x08\x08\x08\x08      ", // DesignatedValue
-    *b"                                                                     \xc4              \xc5  ", // DesignatorAfterD
-    *b"            \xbc\xbc\xbc\xbc\xbc\xbc\xbc\xbc\xbc\xbc                  \xb0       \xe7            \xd7 \xd8 \xda\xdb\xdc \xdd  \xde\xdf\xe0\xe1\xe2\xe3\xe4\xe5\xe6      ", // PlainValue
-    *b"            \xa0\xa0\xa0\xa0\xa0\xa0\xa0\xa0\xa0\xa0                                                                 ", // FieldName
+    *b"                                                                     \xc5              \xc6  ", // DesignatorAfterD
+    *b"            \xbd\xbd\xbd\xbd\xbd\xbd\xbd\xbd\xbd\xbd                  \xb1       \xe8            \xd8 \xd9 \xdb\xdc\xdd \xde  \xdf\xe0\xe1\xe2\xe3\xe4\xe5\xe6\xe7      ", // PlainValue
+    *b"            \xa1\xa1\xa1\xa1\xa1\xa1\xa1\xa1\xa1\xa1                                                                 ", // FieldName
     *b"                                                           ! \x09                         ", // Placement
-    *b"                                                             \xeb                         ", // SomeExpressions
+    *b"                                                             \xec                         ", // SomeExpressions
     *b"                                 {                                   \x0b      \x0a          ", // Initializer
-    *b"                                                                     \xcb                 ", // InitializerAfterP
-    *b"                                                                        \xcb              ", // InitializerAfterI
-    *b"                                                                            \xbd          ", // OuterRest
+    *b"                                                                     \xcc                 ", // InitializerAfterP
+    *b"                                                                        \xcc              ", // InitializerAfterI
+    *b"                                                                            \xbe          ", // OuterRest
     *b"            \x0d\x0d\x0d\x0d\x0d\x0d\x0d\x0d\x0d\x0d                          \x0c          \x0d                           ", // ParameterNumber
     *b"            \x12\x12\x12\x12\x12\x12\x12\x12\x12\x12          \x0e \x12    \x0f  \x12\x11\x10 \x11\x12\x12\x12           \x12\x12\x12\x12\x12\x12\x12\x12\x12\x12 \x12\x12\x12\x12   \x12\x12 \x12\x12\x12\x12\x12", // ConvertedType
     *b"            $$$$$$$$$$            r       S    m\x13#           oooooooooo oooo   oo ooooo", // ConvertedSolid
-    *b"            \xae\xae\xae\xae\xae\xae\xae\xae\xae\xae                  \xaf                  \xae                           ", // ParameterAfterT
+    *b"            \xaf\xaf\xaf\xaf\xaf\xaf\xaf\xaf\xaf\xaf                  \xb0                  \xaf                           ", // ParameterAfterT
     *b"                                                i                               i      ", // DecltypeAfterD
     *b"                                                i            e e                i      ", // ConvertedAfterD
-    *b"            \xbc\xbc\xbc\xbc\xbc\xbc\xbc\xbc\xbc\xbc                  \xb0       \xe7          \xcb \xd7 \xd8\xd9\xda\xdb\xdc \xdd  \xde\xdf\xe0\xe1\xe2\xe3\xe4\xe5\xe6      ", // ConvertRest
+    *b"            \xbd\xbd\xbd\xbd\xbd\xbd\xbd\xbd\xbd\xbd                  \xb1       \xe8          \xcc \xd8 \xd9\xda\xdb\xdc\xdd \xde  \xdf\xe0\xe1\xe2\xe3\xe4\xe5\xe6\xe7      ", // ConvertRest
     *b"            \x15\x15\x15\x15\x15\x15\x15\x15\x15\x15          \x14         \x14    \x14\x14                                      ", // Unresolved
     *b"                                \x0e         S    m\x13                                      ", // UnresolvedType
-    *b"            \xbc\xbc\xbc\xbc\xbc\xbc\xbc\xbc\xbc\xbc          \x16         \x16    \x16\x16                                      ", // DestructorName
+    *b"            \xbd\xbd\xbd\xbd\xbd\xbd\xbd\xbd\xbd\xbd          \x16         \x16    \x16\x16                                      ", // DestructorName
     *b"                                             \x19  \x18   \x17                                  ", // Requirements
     *b"                                          !                                            ", // MaybeNoexcept
     *b"                                             \x19\x1a \x18   \x17                                  ", // AfterNoexcept
-    *b"            \x1b\x1b\x1b\x1b\x1b\x1b\x1b\x1b\x1b\x1b          \x1b \x1b    \x1b  \x1b\x1b\x1b \x1b\x1b\x1b\x1b         \xcf \x1b\x1b\x1b\x1b\x1b\x1b\x1b\x1b\x1b\x1b \x1b\x1b\x1b\x1b   \x1b\x1b \x1b\x1b\x1b\x1b\x1b", // RequiredTypes
-    *b"            \xbc\xbc\xbc\xbc\xbc\xbc\xbc\xbc\xbc\xbc                                                                 ", // Level
+    *b"            \x1b\x1b\x1b\x1b\x1b\x1b\x1b\x1b\x1b\x1b          \x1b \x1b    \x1b  \x1b\x1b\x1b \x1b\x1b\x1b\x1b         \xd0 \x1b\x1b\x1b\x1b\x1b\x1b\x1b\x1b\x1b\x1b \x1b\x1b\x1b\x1b   \x1b\x1b \x1b\x1b\x1b\x1b\x1b", // RequiredTypes
+    *b"            \xbd\xbd\xbd\xbd\xbd\xbd\xbd\xbd\xbd\xbd                                                                 ", // Level
     *b"            \x15\x15\x15\x15\x15\x15\x15\x15\x15\x15           \x1c                                                     ", // MoreLevels
-    *b"            \xbc\xbc\xbc\xbc\xbc\xbc\xbc\xbc\xbc\xbc                                                     \x1d           ", // UnresolvedName
-    *b"                                                                          \xbb            ", // OperatorName
+    *b"            \xbd\xbd\xbd\xbd\xbd\xbd\xbd\xbd\xbd\xbd                                                     \x1d           ", // UnresolvedName
+    *b"                                                                          \xbc            ", // OperatorName
     *b"                             \x1e                                                         ", // AnyArray
     *b"            \x1f\x1f\x1f\x1f\x1f\x1f\x1f\x1f\x1f\x1f                                     \x1f                           ", // ArrayRest
-    *b"                                        \xb0       \xe7            \xd7 \xd8\xd9\xda\xdb\xdc \xdd  \xde\xdf\xe0\xe1\xe2\xe3\xe4\xe5\xe6      ", // Bound
+    *b"                                        \xb1       \xe8            \xd8 \xd9\xda\xdb\xdc\xdd \xde  \xdf\xe0\xe1\xe2\xe3\xe4\xe5\xe6\xe7      ", // Bound
     *b"            IIIIIIIIII         II       I        I           I III I I  IIIII II       ", // NestMoreOrEnd
 ];
 
@@ -595,7 +598,7 @@ macro_rules! chains {
 }
 
 // The rules of the productions, in the order of their numbers.
-pub static HEADS: [Head; 264] = [
+pub static HEADS: [Head; 266] = [
     chains!(3), // 0 LeftFoldFrom
     chains!(1), // 1 FoldSigns
     chains!(1), // 2 FoldSign
@@ -735,135 +738,137 @@ pub static HEADS: [Head; 264] = [
     chains!(2), // 136 IntegerLiteral
     takes!(1), // 137 NullLiteral
     takes!(1), // 138 CharLiteral
-    chains!(1), // 139 HexText
-    takes!(1), // 140 HexDigit
-    chains!(1), // 141 QualifiedLiteral
-    takes!(1), // 142 OperatorN
-    takes!(1), // 143 OperatorD
-    takes!(1), // 144 OperatorA
-    takes!(1), // 145 OperatorP
-    takes!(1), // 146 OperatorC
-    takes!(1), // 147 OperatorM
-    takes!(1), // 148 OperatorR
-    takes!(1), // 149 OperatorO
-    takes!(1), // 150 OperatorE
-    takes!(1), // 151 OperatorL
-    takes!(1), // 152 OperatorS
-    takes!(1), // 153 OperatorI
-    takes!(1), // 154 OperatorG
-    takes!(1), // 155 LiteralOperator
-    takes!(3), // 156 NestInstance
-    chains!(2), // 157 FirstModule
-    chains!(2), // 158 NamedModule
-    takes!(3), // 159 MoreModule
-    chains!(1), // 160 FieldName
-    chains!(2), // 161 BoundNames
-    chains!(2), // 162 OperatorNameWithC
-    takes!(2), // 163 HeldArguments
-    takes!(2), // 164 NestedBase
-    chains!(2), // 165 UnnestedBase
-    takes!(1), // 166 UnnestedWithS
-    chains!(2), // 167 TaggedSource
-    takes!(3), // 168 BaseArguments
-    takes!(3), // 169 LocalTemporary
-    takes!(2), // 170 TaggedStdType
-    takes!(2), // 171 Expression
-    takes!(1), // 172 ArgumentWithT
-    chains!(1), // 173 PlainArgument
-    chains!(2), // 174 ParameterArgument
-    takes!(2), // 175 LeveledParameter
-    takes!(2), // 176 OneLiteral
-    takes!(2), // 177 OnePack
-    takes!(1), // 178 ValueOf
-    takes!(1), // 179 OfConcept
-    takes!(2), // 180 TemplateOf
-    takes!(2), // 181 PackOf
-    takes!(2), // 182 Declarations
-    takes!(2), // 183 NestedConcept
-    chains!(2), // 184 NamedConcept
-    takes!(2), // 185 ConceptArguments
-    takes!(2), // 186 Cast
-    takes!(2), // 187 OperatorReference
-    chains!(2), // 188 SimpleId
-    takes!(4), // 189 FunctionParameter
-    takes!(1), // 190 AddressExpression
-    takes!(2), // 191 Binary
-    takes!(1), // 192 Unary
-    takes!(1), // 193 OfType
-    takes!(3), // 194 Call
-    takes!(2), // 195 Convert
-    takes!(2), // 196 Designated
-    takes!(2), // 197 DesignatedElement
-    takes!(1), // 198 DestructorName
-    takes!(1), // 199 AfterOuter
-    takes!(3), // 200 RightFoldFrom
-    takes!(2), // 201 LeftFold
-    takes!(2), // 202 RightFold
-    takes!(2), // 203 Braces
-    takes!(2), // 204 Step
-    takes!(3), // 205 New
-    takes!(3), // 206 Conditional
-    takes!(2), // 207 Requires
-    takes!(1), // 208 RequiresOf
-    takes!(1), // 209 ExpandExpression
-    takes!(1), // 210 PackSize
-    takes!(1), // 211 Unresolved
-    takes!(2), // 212 PackIndex
-    takes!(3), // 213 TypedBraces
-    takes!(0), // 214 Rethrow
-    takes!(1), // 215 ExpressionA
-    takes!(1), // 216 ExpressionC
-    takes!(1), // 217 ExpressionD
-    takes!(1), // 218 ExpressionE
-    takes!(1), // 219 ExpressionF
-    takes!(1), // 220 ExpressionG
-    takes!(1), // 221 ExpressionI
-    takes!(1), // 222 ExpressionL
-    takes!(1), // 223 ExpressionM
-    takes!(1), // 224 ExpressionN
-    takes!(1), // 225 ExpressionO
-    takes!(1), // 226 ExpressionP
-    takes!(1), // 227 ExpressionQ
-    takes!(1), // 228 ExpressionR
-    takes!(1), // 229 ExpressionS
-    takes!(1), // 230 ExpressionT
-    takes!(1), // 231 ExpressionWithT
-    chains!(2), // 232 ParameterExpression
-    takes!(2), // 233 LeveledExpression
-    takes!(2), // 234 AddressedLiteral
-    chains!(2), // 235 Expressions
-    takes!(1), // 236 FoldOperatorL
-    chains!(2), // 237 OuterParameter
-    chains!(3), // 238 BoundedArray
-    chains!(2), // 239 DeclaredArgument
-    takes!(2), // 240 TypeTag
-    takes!(2), // 241 Clone
-    takes!(2), // 242 ModuleInitializer
-    takes!(2), // 243 Temporary
-    takes!(1), // 244 Conversion
-    takes!(1), // 245 ConstLiteral
-    takes!(2), // 246 VolatileLiteral
-    chains!(2), // 247 SizedFloatLiteral
-    chains!(2), // 248 FloatLiteral
-    takes!(2), // 249 Tag
-    takes!(1), // 250 Constraint
-    takes!(2), // 251 IndexedType
-    takes!(2), // 252 BitInt
-    takes!(1), // 253 ConstrainedAuto
-    takes!(2), // 254 Enumeration
-    takes!(2), // 255 DefaultTypeEntity
-    takes!(2), // 256 DefaultEntity
-    takes!(2), // 257 Inheriting
-    takes!(2), // 258 Friend
-    chains!(2), // 259 Holder
-    takes!(2), // 260 NestTag
-    takes!(2), // 261 NestDecltype
-    chains!(2), // 262 NestModule
-    takes!(4), // 263 ConstructionVtable
+    chains!(2), // 139 TextArray
+    chains!(1), // 140 HexText
+    takes!(1), // 141 HexDigit
+    chains!(1), // 142 QualifiedLiteral
+    takes!(1), // 143 OperatorN
+    takes!(1), // 144 OperatorD
+    takes!(1), // 145 OperatorA
+    takes!(1), // 146 OperatorP
+    takes!(1), // 147 OperatorC
+    takes!(1), // 148 OperatorM
+    takes!(1), // 149 OperatorR
+    takes!(1), // 150 OperatorO
+    takes!(1), // 151 OperatorE
+    takes!(1), // 152 OperatorL
+    takes!(1), // 153 OperatorS
+    takes!(1), // 154 OperatorI
+    takes!(1), // 155 OperatorG
+    takes!(1), // 156 LiteralOperator
+    takes!(3), // 157 NestInstance
+    chains!(2), // 158 FirstModule
+    chains!(2), // 159 NamedModule
+    takes!(3), // 160 MoreModule
+    chains!(1), // 161 FieldName
+    chains!(2), // 162 BoundNames
+    chains!(2), // 163 OperatorNameWithC
+    takes!(2), // 164 HeldArguments
+    takes!(2), // 165 NestedBase
+    chains!(2), // 166 UnnestedBase
+    takes!(1), // 167 UnnestedWithS
+    chains!(2), // 168 TaggedSource
+    takes!(3), // 169 BaseArguments
+    takes!(3), // 170 LocalTemporary
+    takes!(2), // 171 TaggedStdType
+    takes!(2), // 172 Expression
+    takes!(1), // 173 ArgumentWithT
+    chains!(1), // 174 PlainArgument
+    chains!(2), // 175 ParameterArgument
+    takes!(2), // 176 LeveledParameter
+    takes!(2), // 177 OneLiteral
+    takes!(2), // 178 OnePack
+    takes!(1), // 179 ValueOf
+    takes!(1), // 180 OfConcept
+    takes!(2), // 181 TemplateOf
+    takes!(2), // 182 PackOf
+    takes!(2), // 183 Declarations
+    takes!(2), // 184 NestedConcept
+    chains!(2), // 185 NamedConcept
+    takes!(2), // 186 ConceptArguments
+    takes!(2), // 187 Cast
+    takes!(2), // 188 OperatorReference
+    chains!(2), // 189 SimpleId
+    takes!(4), // 190 FunctionParameter
+    takes!(1), // 191 AddressExpression
+    takes!(2), // 192 Binary
+    takes!(1), // 193 Unary
+    takes!(1), // 194 OfType
+    takes!(3), // 195 Call
+    takes!(2), // 196 Convert
+    takes!(2), // 197 Designated
+    takes!(2), // 198 DesignatedElement
+    takes!(1), // 199 DestructorName
+    takes!(1), // 200 AfterOuter
+    takes!(3), // 201 RightFoldFrom
+    takes!(2), // 202 LeftFold
+    takes!(2), // 203 RightFold
+    takes!(2), // 204 Braces
+    takes!(2), // 205 Step
+    takes!(3), // 206 New
+    takes!(3), // 207 Conditional
+    takes!(2), // 208 Requires
+    takes!(1), // 209 RequiresOf
+    takes!(1), // 210 ExpandExpression
+    takes!(1), // 211 PackSize
+    takes!(1), // 212 Unresolved
+    takes!(2), // 213 PackIndex
+    takes!(3), // 214 TypedBraces
+    takes!(0), // 215 Rethrow
+    takes!(1), // 216 ExpressionA
+    takes!(1), // 217 ExpressionC
+    takes!(1), // 218 ExpressionD
+    takes!(1), // 219 ExpressionE
+    takes!(1), // 220 ExpressionF
+    takes!(1), // 221 ExpressionG
+    takes!(1), // 222 ExpressionI
+    takes!(1), // 223 ExpressionL
+    takes!(1), // 224 ExpressionM
+    takes!(1), // 225 ExpressionN
+    takes!(1), // 226 ExpressionO
+    takes!(1), // 227 ExpressionP
+    takes!(1), // 228 ExpressionQ
+    takes!(1), // 229 ExpressionR
+    takes!(1), // 230 ExpressionS
+    takes!(1), // 231 ExpressionT
+    takes!(1), // 232 ExpressionWithT
+    chains!(2), // 233 ParameterExpression
+    takes!(2), // 234 LeveledExpression
+    takes!(2), // 235 AddressedLiteral
+    chains!(2), // 236 Expressions
+    takes!(1), // 237 FoldOperatorL
+    chains!(2), // 238 OuterParameter
+    chains!(3), // 239 BoundedArray
+    chains!(2), // 240 DeclaredArgument
+    takes!(2), // 241 TypeTag
+    takes!(2), // 242 Clone
+    takes!(2), // 243 ModuleInitializer
+    takes!(2), // 244 Temporary
+    takes!(1), // 245 Conversion
+    takes!(1), // 246 ConstLiteral
+    takes!(2), // 247 VolatileLiteral
+    chains!(2), // 248 SizedFloatLiteral
+    takes!(1), // 249 TextLiteral
+    chains!(2), // 250 FloatLiteral
+    takes!(2), // 251 Tag
+    takes!(1), // 252 Constraint
+    takes!(2), // 253 IndexedType
+    takes!(2), // 254 BitInt
+    takes!(1), // 255 ConstrainedAuto
+    takes!(2), // 256 Enumeration
+    takes!(2), // 257 DefaultTypeEntity
+    takes!(2), // 258 DefaultEntity
+    takes!(2), // 259 Inheriting
+    takes!(2), // 260 Friend
+    chains!(2), // 261 Holder
+    takes!(2), // 262 NestTag
+    takes!(2), // 263 NestDecltype
+    chains!(2), // 264 NestModule
+    takes!(4), // 265 ConstructionVtable
 ];
 
 // The symbols of the rules, in the same order.
-pub static SYMBOLS: [Sym; 1590] = symbols_listed! {
+pub static SYMBOLS: [Sym; 1602] = symbols_listed! {
     [FOLD_SIGNS, FOLD_VALUE, FOLD_OPERAND, NONE, NONE], // 0 LeftFoldFrom
     [FOLD_SIGN, NONE, NONE, NONE, NONE], // 1 FoldSigns
     [FOLD_OPERATOR, NONE, NONE, NONE, NONE], // 2 FoldSign
@@ -1003,135 +1008,137 @@ pub static SYMBOLS: [Sym; 1590] = symbols_listed! {
     [LITERAL_TYPE, INTEGER, NONE, NONE, NONE], // 136 IntegerLiteral
     [MAYBE_ZERO, NONE, NONE, NONE, NONE], // 137 NullLiteral
     [INTEGER, NONE, NONE, NONE, NONE], // 138 CharLiteral
-    [HEX_DIGITS, NONE, NONE, NONE, NONE], // 139 HexText
-    [HEX_MORE, NONE, NONE, NONE, NONE], // 140 HexDigit
-    [LITERAL_SOLID, NONE, NONE, NONE, NONE], // 141 QualifiedLiteral
-    [OPERATOR_AFTER_N, NONE, NONE, NONE, NONE], // 142 OperatorN
-    [OPERATOR_AFTER_D, NONE, NONE, NONE, NONE], // 143 OperatorD
-    [OPERATOR_AFTER_A, NONE, NONE, NONE, NONE], // 144 OperatorA
-    [OPERATOR_AFTER_P, NONE, NONE, NONE, NONE], // 145 OperatorP
-    [OPERATOR_AFTER_C, NONE, NONE, NONE, NONE], // 146 OperatorC
-    [OPERATOR_AFTER_M, NONE, NONE, NONE, NONE], // 147 OperatorM
-    [OPERATOR_AFTER_R, NONE, NONE, NONE, NONE], // 148 OperatorR
-    [OPERATOR_AFTER_O, NONE, NONE, NONE, NONE], // 149 OperatorO
-    [OPERATOR_AFTER_E, NONE, NONE, NONE, NONE], // 150 OperatorE
-    [OPERATOR_AFTER_L, NONE, NONE, NONE, NONE], // 151 OperatorL
-    [OPERATOR_AFTER_S, NONE, NONE, NONE, NONE], // 152 OperatorS
-    [OPERATOR_AFTER_I, NONE, NONE, NONE, NONE], // 153 OperatorI
-    [OPERATOR_AFTER_G, NONE, NONE, NONE, NONE], // 154 OperatorG
-    [NAME, NONE, NONE, NONE, NONE], // 155 LiteralOperator
-    [ARGUMENTS_FIRST, Sym::Byte(b'E'), NEST_MORE_OR_END, NONE, NONE], // 156 NestInstance
-    [FIELD_NAME, MORE_MODULE, NONE, NONE, NONE], // 157 FirstModule
-    [SEQ36, MORE_MODULE, NONE, NONE, NONE], // 158 NamedModule
-    [MAYBE_PARTITION, FIELD_NAME, MORE_MODULE, NONE, NONE], // 159 MoreModule
-    [NAME, NONE, NONE, NONE, NONE], // 160 FieldName
-    [BOUND_NAME, MORE_NAMES, NONE, NONE, NONE], // 161 BoundNames
-    [OPERATOR_AFTER_C, MAYBE_ARGUMENTS, NONE, NONE, NONE], // 162 OperatorNameWithC
-    [ARGUMENTS_FIRST, Sym::Byte(b'E'), NONE, NONE, NONE], // 163 HeldArguments
-    [NEST, HELD_ARGUMENTS, NONE, NONE, NONE], // 164 NestedBase
-    [UNNESTED_NAME, BASE_ARGUMENTS, NONE, NONE, NONE], // 165 UnnestedBase
-    [TYPE_AFTER_S, NONE, NONE, NONE, NONE], // 166 UnnestedWithS
-    [NAME, MAYBE_TAGS, NONE, NONE, NONE], // 167 TaggedSource
-    [ARGUMENTS_FIRST, Sym::Byte(b'E'), HELD_ARGUMENTS, NONE, NONE], // 168 BaseArguments
-    [ENCODING, Sym::Byte(b'E'), ENTITY, NONE, NONE], // 169 LocalTemporary
-    [SOURCE_OR_LOCAL, MAYBE_TAGS, NONE, NONE, NONE], // 170 TaggedStdType
-    [EXPRESSION, Sym::Byte(b'E'), NONE, NONE, NONE], // 171 Expression
-    [ARGUMENT_AFTER_T, NONE, NONE, NONE, NONE], // 172 ArgumentWithT
-    [SOLID_BUT_T, NONE, NONE, NONE, NONE], // 173 PlainArgument
-    [DECIMAL, ARGUMENTS_ALONE, NONE, NONE, NONE], // 174 ParameterArgument
-    [DECIMAL, LEVELED_PARAMETER, NONE, NONE, NONE], // 175 LeveledParameter
-    [LITERAL, Sym::Byte(b'E'), NONE, NONE, NONE], // 176 OneLiteral
-    [PACK_LIST, Sym::Byte(b'E'), NONE, NONE, NONE], // 177 OnePack
-    [TYPE, NONE, NONE, NONE, NONE], // 178 ValueOf
-    [CONCEPT, NONE, NONE, NONE, NONE], // 179 OfConcept
-    [DECLARATIONS, Sym::Byte(b'E'), NONE, NONE, NONE], // 180 TemplateOf
-    [Sym::Byte(b'T'), DECLARATION_AFTER_T, NONE, NONE, NONE], // 181 PackOf
-    [DECLARATION_AFTER_T, DECLARATIONS, NONE, NONE, NONE], // 182 Declarations
-    [NEST, CONCEPT_ARGUMENTS, NONE, NONE, NONE], // 183 NestedConcept
-    [UNNESTED_NAME, HELD_ARGUMENTS, NONE, NONE, NONE], // 184 NamedConcept
-    [ARGUMENTS_FIRST, Sym::Byte(b'E'), NONE, NONE, NONE], // 185 ConceptArguments
-    [TYPE, EXPRESSION, NONE, NONE, NONE], // 186 Cast
-    [OPERATOR, ARGUMENTS_ALONE, NONE, NONE, NONE], // 187 OperatorReference
-    [NAME, ARGUMENTS_ALONE, NONE, NONE, NONE], // 188 SimpleId
-    [MAYBE_RESTRICT, MAYBE_VOLATILE, MAYBE_CONST, PARAMETER_NUMBER, NONE], // 189 FunctionParameter
-    [ADDRESSED_EXPRESSION, NONE, NONE, NONE, NONE], // 190 AddressExpression
-    [EXPRESSION, EXPRESSION, NONE, NONE, NONE], // 191 Binary
-    [EXPRESSION, NONE, NONE, NONE, NONE], // 192 Unary
-    [CONVERTED_TYPE, NONE, NONE, NONE, NONE], // 193 OfType
-    [EXPRESSION, EXPRESSIONS, Sym::Byte(b'E'), NONE, NONE], // 194 Call
-    [CONVERTED_TYPE, CONVERT_REST, NONE, NONE, NONE], // 195 Convert
-    [FIELD_NAME, DESIGNATED_VALUE, NONE, NONE, NONE], // 196 Designated
-    [EXPRESSION, DESIGNATED_VALUE, NONE, NONE, NONE], // 197 DesignatedElement
-    [DESTRUCTOR_NAME, NONE, NONE, NONE, NONE], // 198 DestructorName
-    [AFTER_OUTER, NONE, NONE, NONE, NONE], // 199 AfterOuter
-    [FOLD_SIGNS, FOLD_OPERAND, FOLD_VALUE, NONE, NONE], // 200 RightFoldFrom
-    [FOLD_OPERATOR, FOLD_OPERAND, NONE, NONE, NONE], // 201 LeftFold
-    [FOLD_OPERATOR, FOLD_OPERAND, NONE, NONE, NONE], // 202 RightFold
-    [EXPRESSIONS, Sym::Byte(b'E'), NONE, NONE, NONE], // 203 Braces
-    [MAYBE_BEFORE, EXPRESSION, NONE, NONE, NONE], // 204 Step
-    [PLACEMENT, TYPE, INITIALIZER, NONE, NONE], // 205 New
-    [EXPRESSION, EXPRESSION, EXPRESSION, NONE, NONE], // 206 Conditional
-    [REQUIREMENTS, Sym::Byte(b'E'), NONE, NONE, NONE], // 207 Requires
-    [REQUIRED_TYPES, NONE, NONE, NONE, NONE], // 208 RequiresOf
-    [EXPRESSION, NONE, NONE, NONE, NONE], // 209 ExpandExpression
-    [EXPRESSION, NONE, NONE, NONE, NONE], // 210 PackSize
-    [UNRESOLVED, NONE, NONE, NONE, NONE], // 211 Unresolved
-    [VALUE_PACK, EXPRESSION, NONE, NONE, NONE], // 212 PackIndex
-    [TYPE, EXPRESSIONS, Sym::Byte(b'E'), NONE, NONE], // 213 TypedBraces
-    [NONE, NONE, NONE, NONE, NONE], // 214 Rethrow
-    [EXPRESSION_AFTER_A, NONE, NONE, NONE, NONE], // 215 ExpressionA
-    [EXPRESSION_AFTER_C, NONE, NONE, NONE, NONE], // 216 ExpressionC
-    [EXPRESSION_AFTER_D, NONE, NONE, NONE, NONE], // 217 ExpressionD
-    [EXPRESSION_AFTER_E, NONE, NONE, NONE, NONE], // 218 ExpressionE
-    [EXPRESSION_AFTER_F, NONE, NONE, NONE, NONE], // 219 ExpressionF
-    [EXPRESSION_AFTER_G, NONE, NONE, NONE, NONE], // 220 ExpressionG
-    [EXPRESSION_AFTER_I, NONE, NONE, NONE, NONE], // 221 ExpressionI
-    [EXPRESSION_AFTER_L, NONE, NONE, NONE, NONE], // 222 ExpressionL
-    [EXPRESSION_AFTER_M, NONE, NONE, NONE, NONE], // 223 ExpressionM
-    [EXPRESSION_AFTER_N, NONE, NONE, NONE, NONE], // 224 ExpressionN
-    [EXPRESSION_AFTER_O, NONE, NONE, NONE, NONE], // 225 ExpressionO
-    [EXPRESSION_AFTER_P, NONE, NONE, NONE, NONE], // 226 ExpressionP
-    [EXPRESSION_AFTER_Q, NONE, NONE, NONE, NONE], // 227 ExpressionQ
-    [EXPRESSION_AFTER_R, NONE, NONE, NONE, NONE], // 228 ExpressionR
-    [EXPRESSION_AFTER_S, NONE, NONE, NONE, NONE], // 229 ExpressionS
-    [EXPRESSION_AFTER_T, NONE, NONE, NONE, NONE], // 230 ExpressionT
-    [EXPRESSION_PARAMETER, NONE, NONE, NONE, NONE], // 231 ExpressionWithT
-    [DECIMAL, ARGUMENTS_ALONE, NONE, NONE, NONE], // 232 ParameterExpression
-    [DECIMAL, UNLEVELED_EXPRESSION, NONE, NONE, NONE], // 233 LeveledExpression
-    [ADDRESSED_LITERAL, Sym::Byte(b'E'), NONE, NONE, NONE], // 234 AddressedLiteral
-    [EXPRESSION, EXPRESSIONS, NONE, NONE, NONE], // 235 Expressions
-    [FOLD_OPERATOR_AFTER_L, NONE, NONE, NONE, NONE], // 236 FoldOperatorL
-    [DIGITS, OUTER_REST, NONE, NONE, NONE], // 237 OuterParameter
-    [BOUND, Sym::Byte(b'_'), TYPE, NONE, NONE], // 238 BoundedArray
-    [DECLARATION_AFTER_T, ONE_ARGUMENT, NONE, NONE, NONE], // 239 DeclaredArgument
-    [NAME, MAYBE_TAGS, NONE, NONE, NONE], // 240 TypeTag
-    [CLONE_LETTER, ENCODING, NONE, NONE, NONE], // 241 Clone
-    [Sym::Byte(b'W'), FIRST_MODULE, NONE, NONE, NONE], // 242 ModuleInitializer
-    [TEMPORARY_NAME, Sym::Byte(b'_'), NONE, NONE, NONE], // 243 Temporary
-    [TYPE, NONE, NONE, NONE, NONE], // 244 Conversion
-    [LITERAL_PLAIN, NONE, NONE, NONE, NONE], // 245 ConstLiteral
-    [MAYBE_CONST, LITERAL_PLAIN, NONE, NONE, NONE], // 246 VolatileLiteral
-    [SIZED_FLOAT_TYPE, HEX_TEXT, NONE, NONE, NONE], // 247 SizedFloatLiteral
-    [FLOAT_TYPE, HEX_TEXT, NONE, NONE, NONE], // 248 FloatLiteral
-    [NAME, MAYBE_ARGUMENTS, NONE, NONE, NONE], // 249 Tag
-    [EXPRESSION, NONE, NONE, NONE, NONE], // 250 Constraint
-    [TYPE_PACK, EXPRESSION, NONE, NONE, NONE], // 251 IndexedType
-    [BIT_WIDTH, Sym::Byte(b'_'), NONE, NONE, NONE], // 252 BitInt
-    [CONCEPT, NONE, NONE, NONE, NONE], // 253 ConstrainedAuto
-    [TYPE, NAME, NONE, NONE, NONE], // 254 Enumeration
-    [DECIMAL, PLAIN_TYPE_ENTITY, NONE, NONE, NONE], // 255 DefaultTypeEntity
-    [DECIMAL, PLAIN_ENTITY, NONE, NONE, NONE], // 256 DefaultEntity
-    [INHERITED_DIGIT, BASE_CLASS, NONE, NONE, NONE], // 257 Inheriting
-    [UNQUALIFIED, MAYBE_ARGUMENTS, NONE, NONE, NONE], // 258 Friend
-    [HOLDER_MARK, HELD_COMPONENT, NONE, NONE, NONE], // 259 Holder
-    [NAME, NEST_REST, NONE, NONE, NONE], // 260 NestTag
-    [DECLTYPE_AFTER_D, NEST_REST_ALONE, NONE, NONE, NONE], // 261 NestDecltype
-    [NAME_IN_MODULE, NEST_ON, NONE, NONE, NONE], // 262 NestModule
-    [TYPE, DIGITS, Sym::Byte(b'_'), TYPE, NONE], // 263 ConstructionVtable
+    [DECIMAL, TYPE, NONE, NONE, NONE], // 139 TextArray
+    [HEX_DIGITS, NONE, NONE, NONE, NONE], // 140 HexText
+    [HEX_MORE, NONE, NONE, NONE, NONE], // 141 HexDigit
+    [LITERAL_SOLID, NONE, NONE, NONE, NONE], // 142 QualifiedLiteral
+    [OPERATOR_AFTER_N, NONE, NONE, NONE, NONE], // 143 OperatorN
+    [OPERATOR_AFTER_D, NONE, NONE, NONE, NONE], // 144 OperatorD
+    [OPERATOR_AFTER_A, NONE, NONE, NONE, NONE], // 145 OperatorA
+    [OPERATOR_AFTER_P, NONE, NONE, NONE, NONE], // 146 OperatorP
+    [OPERATOR_AFTER_C, NONE, NONE, NONE, NONE], // 147 OperatorC
+    [OPERATOR_AFTER_M, NONE, NONE, NONE, NONE], // 148 OperatorM
+    [OPERATOR_AFTER_R, NONE, NONE, NONE, NONE], // 149 OperatorR
+    [OPERATOR_AFTER_O, NONE, NONE, NONE, NONE], // 150 OperatorO
+    [OPERATOR_AFTER_E, NONE, NONE, NONE, NONE], // 151 OperatorE
+    [OPERATOR_AFTER_L, NONE, NONE, NONE, NONE], // 152 OperatorL
+    [OPERATOR_AFTER_S, NONE, NONE, NONE, NONE], // 153 OperatorS
+    [OPERATOR_AFTER_I, NONE, NONE, NONE, NONE], // 154 OperatorI
+    [OPERATOR_AFTER_G, NONE, NONE, NONE, NONE], // 155 OperatorG
+    [NAME, NONE, NONE, NONE, NONE], // 156 LiteralOperator
+    [ARGUMENTS_FIRST, Sym::Byte(b'E'), NEST_MORE_OR_END, NONE, NONE], // 157 NestInstance
+    [FIELD_NAME, MORE_MODULE, NONE, NONE, NONE], // 158 FirstModule
+    [SEQ36, MORE_MODULE, NONE, NONE, NONE], // 159 NamedModule
+    [MAYBE_PARTITION, FIELD_NAME, MORE_MODULE, NONE, NONE], // 160 MoreModule
+    [NAME, NONE, NONE, NONE, NONE], // 161 FieldName
+    [BOUND_NAME, MORE_NAMES, NONE, NONE, NONE], // 162 BoundNames
+    [OPERATOR_AFTER_C, MAYBE_ARGUMENTS, NONE, NONE, NONE], // 163 OperatorNameWithC
+    [ARGUMENTS_FIRST, Sym::Byte(b'E'), NONE, NONE, NONE], // 164 HeldArguments
+    [NEST, HELD_ARGUMENTS, NONE, NONE, NONE], // 165 NestedBase
+    [UNNESTED_NAME, BASE_ARGUMENTS, NONE, NONE, NONE], // 166 UnnestedBase
+    [TYPE_AFTER_S, NONE, NONE, NONE, NONE], // 167 UnnestedWithS
+    [NAME, MAYBE_TAGS, NONE, NONE, NONE], // 168 TaggedSource
+    [ARGUMENTS_FIRST, Sym::Byte(b'E'), HELD_ARGUMENTS, NONE, NONE], // 169 BaseArguments
+    [ENCODING, Sym::Byte(b'E'), ENTITY, NONE, NONE], // 170 LocalTemporary
+    [SOURCE_OR_LOCAL, MAYBE_TAGS, NONE, NONE, NONE], // 171 TaggedStdType
+    [EXPRESSION, Sym::Byte(b'E'), NONE, NONE, NONE], // 172 Expression
+    [ARGUMENT_AFTER_T, NONE, NONE, NONE, NONE], // 173 ArgumentWithT
+    [SOLID_BUT_T, NONE, NONE, NONE, NONE], // 174 PlainArgument
+    [DECIMAL, ARGUMENTS_ALONE, NONE, NONE, NONE], // 175 ParameterArgument
+    [DECIMAL, LEVELED_PARAMETER, NONE, NONE, NONE], // 176 LeveledParameter
+    [LITERAL, Sym::Byte(b'E'), NONE, NONE, NONE], // 177 OneLiteral
+    [PACK_LIST, Sym::Byte(b'E'), NONE, NONE, NONE], // 178 OnePack
+    [TYPE, NONE, NONE, NONE, NONE], // 179 ValueOf
+    [CONCEPT, NONE, NONE, NONE, NONE], // 180 OfConcept
+    [DECLARATIONS, Sym::Byte(b'E'), NONE, NONE, NONE], // 181 TemplateOf
+    [Sym::Byte(b'T'), DECLARATION_AFTER_T, NONE, NONE, NONE], // 182 PackOf
+    [DECLARATION_AFTER_T, DECLARATIONS, NONE, NONE, NONE], // 183 Declarations
+    [NEST, CONCEPT_ARGUMENTS, NONE, NONE, NONE], // 184 NestedConcept
+    [UNNESTED_NAME, HELD_ARGUMENTS, NONE, NONE, NONE], // 185 NamedConcept
+    [ARGUMENTS_FIRST, Sym::Byte(b'E'), NONE, NONE, NONE], // 186 ConceptArguments
+    [TYPE, EXPRESSION, NONE, NONE, NONE], // 187 Cast
+    [OPERATOR, ARGUMENTS_ALONE, NONE, NONE, NONE], // 188 OperatorReference
+    [NAME, ARGUMENTS_ALONE, NONE, NONE, NONE], // 189 SimpleId
+    [MAYBE_RESTRICT, MAYBE_VOLATILE, MAYBE_CONST, PARAMETER_NUMBER, NONE], // 190 FunctionParameter
+    [ADDRESSED_EXPRESSION, NONE, NONE, NONE, NONE], // 191 AddressExpression
+    [EXPRESSION, EXPRESSION, NONE, NONE, NONE], // 192 Binary
+    [EXPRESSION, NONE, NONE, NONE, NONE], // 193 Unary
+    [CONVERTED_TYPE, NONE, NONE, NONE, NONE], // 194 OfType
+    [EXPRESSION, EXPRESSIONS, Sym::Byte(b'E'), NONE, NONE], // 195 Call
+    [CONVERTED_TYPE, CONVERT_REST, NONE, NONE, NONE], // 196 Convert
+    [FIELD_NAME, DESIGNATED_VALUE, NONE, NONE, NONE], // 197 Designated
+    [EXPRESSION, DESIGNATED_VALUE, NONE, NONE, NONE], // 198 DesignatedElement
+    [DESTRUCTOR_NAME, NONE, NONE, NONE, NONE], // 199 DestructorName
+    [AFTER_OUTER, NONE, NONE, NONE, NONE], // 200 AfterOuter
+    [FOLD_SIGNS, FOLD_OPERAND, FOLD_VALUE, NONE, NONE], // 201 RightFoldFrom
+    [FOLD_OPERATOR, FOLD_OPERAND, NONE, NONE, NONE], // 202 LeftFold
+    [FOLD_OPERATOR, FOLD_OPERAND, NONE, NONE, NONE], // 203 RightFold
+    [EXPRESSIONS, Sym::Byte(b'E'), NONE, NONE, NONE], // 204 Braces
+    [MAYBE_BEFORE, EXPRESSION, NONE, NONE, NONE], // 205 Step
+    [PLACEMENT, TYPE, INITIALIZER, NONE, NONE], // 206 New
+    [EXPRESSION, EXPRESSION, EXPRESSION, NONE, NONE], // 207 Conditional
+    [REQUIREMENTS, Sym::Byte(b'E'), NONE, NONE, NONE], // 208 Requires
+    [REQUIRED_TYPES, NONE, NONE, NONE, NONE], // 209 RequiresOf
+    [EXPRESSION, NONE, NONE, NONE, NONE], // 210 ExpandExpression
+    [EXPRESSION, NONE, NONE, NONE, NONE], // 211 PackSize
+    [UNRESOLVED, NONE, NONE, NONE, NONE], // 212 Unresolved
+    [VALUE_PACK, EXPRESSION, NONE, NONE, NONE], // 213 PackIndex
+    [TYPE, EXPRESSIONS, Sym::Byte(b'E'), NONE, NONE], // 214 TypedBraces
+    [NONE, NONE, NONE, NONE, NONE], // 215 Rethrow
+    [EXPRESSION_AFTER_A, NONE, NONE, NONE, NONE], // 216 ExpressionA
+    [EXPRESSION_AFTER_C, NONE, NONE, NONE, NONE], // 217 ExpressionC
+    [EXPRESSION_AFTER_D, NONE, NONE, NONE, NONE], // 218 ExpressionD
+    [EXPRESSION_AFTER_E, NONE, NONE, NONE, NONE], // 219 ExpressionE
+    [EXPRESSION_AFTER_F, NONE, NONE, NONE, NONE], // 220 ExpressionF
+    [EXPRESSION_AFTER_G, NONE, NONE, NONE, NONE], // 221 ExpressionG
+    [EXPRESSION_AFTER_I, NONE, NONE, NONE, NONE], // 222 ExpressionI
+    [EXPRESSION_AFTER_L, NONE, NONE, NONE, NONE], // 223 ExpressionL
+    [EXPRESSION_AFTER_M, NONE, NONE, NONE, NONE], // 224 ExpressionM
+    [EXPRESSION_AFTER_N, NONE, NONE, NONE, NONE], // 225 ExpressionN
+    [EXPRESSION_AFTER_O, NONE, NONE, NONE, NONE], // 226 ExpressionO
+    [EXPRESSION_AFTER_P, NONE, NONE, NONE, NONE], // 227 ExpressionP
+    [EXPRESSION_AFTER_Q, NONE, NONE, NONE, NONE], // 228 ExpressionQ
+    [EXPRESSION_AFTER_R, NONE, NONE, NONE, NONE], // 229 ExpressionR
+    [EXPRESSION_AFTER_S, NONE, NONE, NONE, NONE], // 230 ExpressionS
+    [EXPRESSION_AFTER_T, NONE, NONE, NONE, NONE], // 231 ExpressionT
+    [EXPRESSION_PARAMETER, NONE, NONE, NONE, NONE], // 232 ExpressionWithT
+    [DECIMAL, ARGUMENTS_ALONE, NONE, NONE, NONE], // 233 ParameterExpression
+    [DECIMAL, UNLEVELED_EXPRESSION, NONE, NONE, NONE], // 234 LeveledExpression
+    [ADDRESSED_LITERAL, Sym::Byte(b'E'), NONE, NONE, NONE], // 235 AddressedLiteral
+    [EXPRESSION, EXPRESSIONS, NONE, NONE, NONE], // 236 Expressions
+    [FOLD_OPERATOR_AFTER_L, NONE, NONE, NONE, NONE], // 237 FoldOperatorL
+    [DIGITS, OUTER_REST, NONE, NONE, NONE], // 238 OuterParameter
+    [BOUND, Sym::Byte(b'_'), TYPE, NONE, NONE], // 239 BoundedArray
+    [DECLARATION_AFTER_T, ONE_ARGUMENT, NONE, NONE, NONE], // 240 DeclaredArgument
+    [NAME, MAYBE_TAGS, NONE, NONE, NONE], // 241 TypeTag
+    [CLONE_LETTER, ENCODING, NONE, NONE, NONE], // 242 Clone
+    [Sym::Byte(b'W'), FIRST_MODULE, NONE, NONE, NONE], // 243 ModuleInitializer
+    [TEMPORARY_NAME, Sym::Byte(b'_'), NONE, NONE, NONE], // 244 Temporary
+    [TYPE, NONE, NONE, NONE, NONE], // 245 Conversion
+    [LITERAL_PLAIN, NONE, NONE, NONE, NONE], // 246 ConstLiteral
+    [MAYBE_CONST, LITERAL_PLAIN, NONE, NONE, NONE], // 247 VolatileLiteral
+    [SIZED_FLOAT_TYPE, HEX_TEXT, NONE, NONE, NONE], // 248 SizedFloatLiteral
+    [TEXT_ARRAY, NONE, NONE, NONE, NONE], // 249 TextLiteral
+    [FLOAT_TYPE, HEX_TEXT, NONE, NONE, NONE], // 250 FloatLiteral
+    [NAME, MAYBE_ARGUMENTS, NONE, NONE, NONE], // 251 Tag
+    [EXPRESSION, NONE, NONE, NONE, NONE], // 252 Constraint
+    [TYPE_PACK, EXPRESSION, NONE, NONE, NONE], // 253 IndexedType
+    [BIT_WIDTH, Sym::Byte(b'_'), NONE, NONE, NONE], // 254 BitInt
+    [CONCEPT, NONE, NONE, NONE, NONE], // 255 ConstrainedAuto
+    [TYPE, NAME, NONE, NONE, NONE], // 256 Enumeration
+    [DECIMAL, PLAIN_TYPE_ENTITY, NONE, NONE, NONE], // 257 DefaultTypeEntity
+    [DECIMAL, PLAIN_ENTITY, NONE, NONE, NONE], // 258 DefaultEntity
+    [INHERITED_DIGIT, BASE_CLASS, NONE, NONE, NONE], // 259 Inheriting
+    [UNQUALIFIED, MAYBE_ARGUMENTS, NONE, NONE, NONE], // 260 Friend
+    [HOLDER_MARK, HELD_COMPONENT, NONE, NONE, NONE], // 261 Holder
+    [NAME, NEST_REST, NONE, NONE, NONE], // 262 NestTag
+    [DECLTYPE_AFTER_D, NEST_REST_ALONE, NONE, NONE, NONE], // 263 NestDecltype
+    [NAME_IN_MODULE, NEST_ON, NONE, NONE, NONE], // 264 NestModule
+    [TYPE, DIGITS, Sym::Byte(b'_'), TYPE, NONE], // 265 ConstructionVtable
 };
 
 // How many symbols follow each of them, up to an end.
-static AFTER: [u8; 1590] = [
+static AFTER: [u8; 1602] = [
     0, 0, 0, 0, 0, 3, 2, 1, 0, 0, 0, 1, 0, 0, 0, 0, 0, 1, 0, 0, 0, 0, 0, 1, 0, 0, 0, 0, 0, 1, 0, 0,
     0, 0, 0, 1, 0, 0, 0, 0, 0, 1, 0, 0, 0, 0, 0, 1, 0, 0, 0, 0, 0, 1, 0, 0, 0, 0, 0, 2, 1, 0, 0, 0,
     0, 1, 0, 0, 0, 0, 0, 1, 0, 0, 0, 0, 0, 0, 0, 0, 0, 0, 0, 1, 0, 0, 0, 0, 0, 1, 0, 0, 0, 0, 0, 1,
@@ -1158,37 +1165,38 @@ static AFTER: [u8; 1590] = [
     0, 2, 1, 0, 0, 0, 0, 0, 0, 0, 0, 0, 0, 2, 1, 0, 0, 0, 0, 2, 1, 0, 0, 0, 0, 2, 1, 0, 0, 0, 0, 2,
     1, 0, 0, 0, 0, 3, 2, 1, 0, 0, 0, 3, 2, 1, 0, 0, 0, 2, 1, 0, 0, 0, 0, 3, 2, 1, 0, 0, 0, 2, 1, 0,
     0, 0, 0, 2, 1, 0, 0, 0, 0, 1, 0, 0, 0, 0, 0, 1, 0, 0, 0, 0, 0, 2, 1, 0, 0, 0, 0, 1, 0, 0, 0, 0,
-    0, 1, 0, 0, 0, 0, 0, 1, 0, 0, 0, 0, 0, 1, 0, 0, 0, 0, 0, 1, 0, 0, 0, 0, 0, 1, 0, 0, 0, 0, 0, 1,
+    0, 1, 0, 0, 0, 0, 0, 2, 1, 0, 0, 0, 0, 1, 0, 0, 0, 0, 0, 1, 0, 0, 0, 0, 0, 1, 0, 0, 0, 0, 0, 1,
     0, 0, 0, 0, 0, 1, 0, 0, 0, 0, 0, 1, 0, 0, 0, 0, 0, 1, 0, 0, 0, 0, 0, 1, 0, 0, 0, 0, 0, 1, 0, 0,
     0, 0, 0, 1, 0, 0, 0, 0, 0, 1, 0, 0, 0, 0, 0, 1, 0, 0, 0, 0, 0, 1, 0, 0, 0, 0, 0, 1, 0, 0, 0, 0,
-    0, 1, 0, 0, 0, 0, 0, 1, 0, 0, 0, 0, 0, 3, 2, 1, 0, 0, 0, 2, 1, 0, 0, 0, 0, 2, 1, 0, 0, 0, 0, 3,
-    2, 1, 0, 0, 0, 1, 0, 0, 0, 0, 0, 2, 1, 0, 0, 0, 0, 2, 1, 0, 0, 0, 0, 2, 1, 0, 0, 0, 0, 2, 1, 0,
-    0, 0, 0, 2, 1, 0, 0, 0, 0, 1, 0, 0, 0, 0, 0, 2, 1, 0, 0, 0, 0, 3, 2, 1, 0, 0, 0, 3, 2, 1, 0, 0,
-    0, 2, 1, 0, 0, 0, 0, 2, 1, 0, 0, 0, 0, 1, 0, 0, 0, 0, 0, 1, 0, 0, 0, 0, 0, 2, 1, 0, 0, 0, 0, 2,
-    1, 0, 0, 0, 0, 2, 1, 0, 0, 0, 0, 2, 1, 0, 0, 0, 0, 1, 0, 0, 0, 0, 0, 1, 0, 0, 0, 0, 0, 2, 1, 0,
+    0, 1, 0, 0, 0, 0, 0, 1, 0, 0, 0, 0, 0, 1, 0, 0, 0, 0, 0, 3, 2, 1, 0, 0, 0, 2, 1, 0, 0, 0, 0, 2,
+    1, 0, 0, 0, 0, 3, 2, 1, 0, 0, 0, 1, 0, 0, 0, 0, 0, 2, 1, 0, 0, 0, 0, 2, 1, 0, 0, 0, 0, 2, 1, 0,
+    0, 0, 0, 2, 1, 0, 0, 0, 0, 2, 1, 0, 0, 0, 0, 1, 0, 0, 0, 0, 0, 2, 1, 0, 0, 0, 0, 3, 2, 1, 0, 0,
+    0, 3, 2, 1, 0, 0, 0, 2, 1, 0, 0, 0, 0, 2, 1, 0, 0, 0, 0, 1, 0, 0, 0, 0, 0, 1, 0, 0, 0, 0, 0, 2,
+    1, 0, 0, 0, 0, 2, 1, 0, 0, 0, 0, 2, 1, 0, 0, 0, 0, 2, 1, 0, 0, 0, 0, 1, 0, 0, 0, 0, 0, 1, 0, 0,
     0, 0, 0, 2, 1, 0, 0, 0, 0, 2, 1, 0, 0, 0, 0, 2, 1, 0, 0, 0, 0, 2, 1, 0, 0, 0, 0, 2, 1, 0, 0, 0,
-    0, 2, 1, 0, 0, 0, 0, 2, 1, 0, 0, 0, 0, 2, 1, 0, 0, 0, 0, 4, 3, 2, 1, 0, 0, 1, 0, 0, 0, 0, 0, 2,
-    1, 0, 0, 0, 0, 1, 0, 0, 0, 0, 0, 1, 0, 0, 0, 0, 0, 3, 2, 1, 0, 0, 0, 2, 1, 0, 0, 0, 0, 2, 1, 0,
-    0, 0, 0, 2, 1, 0, 0, 0, 0, 1, 0, 0, 0, 0, 0, 1, 0, 0, 0, 0, 0, 3, 2, 1, 0, 0, 0, 2, 1, 0, 0, 0,
-    0, 2, 1, 0, 0, 0, 0, 2, 1, 0, 0, 0, 0, 2, 1, 0, 0, 0, 0, 3, 2, 1, 0, 0, 0, 3, 2, 1, 0, 0, 0, 2,
-    1, 0, 0, 0, 0, 1, 0, 0, 0, 0, 0, 1, 0, 0, 0, 0, 0, 1, 0, 0, 0, 0, 0, 1, 0, 0, 0, 0, 0, 2, 1, 0,
-    0, 0, 0, 3, 2, 1, 0, 0, 0, 0, 0, 0, 0, 0, 0, 1, 0, 0, 0, 0, 0, 1, 0, 0, 0, 0, 0, 1, 0, 0, 0, 0,
+    0, 2, 1, 0, 0, 0, 0, 2, 1, 0, 0, 0, 0, 2, 1, 0, 0, 0, 0, 2, 1, 0, 0, 0, 0, 4, 3, 2, 1, 0, 0, 1,
+    0, 0, 0, 0, 0, 2, 1, 0, 0, 0, 0, 1, 0, 0, 0, 0, 0, 1, 0, 0, 0, 0, 0, 3, 2, 1, 0, 0, 0, 2, 1, 0,
+    0, 0, 0, 2, 1, 0, 0, 0, 0, 2, 1, 0, 0, 0, 0, 1, 0, 0, 0, 0, 0, 1, 0, 0, 0, 0, 0, 3, 2, 1, 0, 0,
+    0, 2, 1, 0, 0, 0, 0, 2, 1, 0, 0, 0, 0, 2, 1, 0, 0, 0, 0, 2, 1, 0, 0, 0, 0, 3, 2, 1, 0, 0, 0, 3,
+    2, 1, 0, 0, 0, 2, 1, 0, 0, 0, 0, 1, 0, 0, 0, 0, 0, 1, 0, 0, 0, 0, 0, 1, 0, 0, 0, 0, 0, 1, 0, 0,
+    0, 0, 0, 2, 1, 0, 0, 0, 0, 3, 2, 1, 0, 0, 0, 0, 0, 0, 0, 0, 0, 1, 0, 0, 0, 0, 0, 1, 0, 0, 0, 0,
     0, 1, 0, 0, 0, 0, 0, 1, 0, 0, 0, 0, 0, 1, 0, 0, 0, 0, 0, 1, 0, 0, 0, 0, 0, 1, 0, 0, 0, 0, 0, 1,
     0, 0, 0, 0, 0, 1, 0, 0, 0, 0, 0, 1, 0, 0, 0, 0, 0, 1, 0, 0, 0, 0, 0, 1, 0, 0, 0, 0, 0, 1, 0, 0,
-    0, 0, 0, 1, 0, 0, 0, 0, 0, 1, 0, 0, 0, 0, 0, 1, 0, 0, 0, 0, 0, 2, 1, 0, 0, 0, 0, 2, 1, 0, 0, 0,
-    0, 2, 1, 0, 0, 0, 0, 2, 1, 0, 0, 0, 0, 1, 0, 0, 0, 0, 0, 2, 1, 0, 0, 0, 0, 3, 2, 1, 0, 0, 0, 2,
-    1, 0, 0, 0, 0, 2, 1, 0, 0, 0, 0, 2, 1, 0, 0, 0, 0, 2, 1, 0, 0, 0, 0, 2, 1, 0, 0, 0, 0, 1, 0, 0,
-    0, 0, 0, 1, 0, 0, 0, 0, 0, 2, 1, 0, 0, 0, 0, 2, 1, 0, 0, 0, 0, 2, 1, 0, 0, 0, 0, 2, 1, 0, 0, 0,
-    0, 1, 0, 0, 0, 0, 0, 2, 1, 0, 0, 0, 0, 2, 1, 0, 0, 0, 0, 1, 0, 0, 0, 0, 0, 2, 1, 0, 0, 0, 0, 2,
-    1, 0, 0, 0, 0, 2, 1, 0, 0, 0, 0, 2, 1, 0, 0, 0, 0, 2, 1, 0, 0, 0, 0, 2, 1, 0, 0, 0, 0, 2, 1, 0,
-    0, 0, 0, 2, 1, 0, 0, 0, 0, 2, 1, 0, 0, 0, 0, 4, 3, 2, 1, 0, 0, 0,
+    0, 0, 0, 1, 0, 0, 0, 0, 0, 1, 0, 0, 0, 0, 0, 1, 0, 0, 0, 0, 0, 1, 0, 0, 0, 0, 0, 2, 1, 0, 0, 0,
+    0, 2, 1, 0, 0, 0, 0, 2, 1, 0, 0, 0, 0, 2, 1, 0, 0, 0, 0, 1, 0, 0, 0, 0, 0, 2, 1, 0, 0, 0, 0, 3,
+    2, 1, 0, 0, 0, 2, 1, 0, 0, 0, 0, 2, 1, 0, 0, 0, 0, 2, 1, 0, 0, 0, 0, 2, 1, 0, 0, 0, 0, 2, 1, 0,
+    0, 0, 0, 1, 0, 0, 0, 0, 0, 1, 0, 0, 0, 0, 0, 2, 1, 0, 0, 0, 0, 2, 1, 0, 0, 0, 0, 1, 0, 0, 0, 0,
+    0, 2, 1, 0, 0, 0, 0, 2, 1, 0, 0, 0, 0, 1, 0, 0, 0, 0, 0, 2, 1, 0, 0, 0, 0, 2, 1, 0, 0, 0, 0, 1,
+    0, 0, 0, 0, 0, 2, 1, 0, 0, 0, 0, 2, 1, 0, 0, 0, 0, 2, 1, 0, 0, 0, 0, 2, 1, 0, 0, 0, 0, 2, 1, 0,
+    0, 0, 0, 2, 1, 0, 0, 0, 0, 2, 1, 0, 0, 0, 0, 2, 1, 0, 0, 0, 0, 2, 1, 0, 0, 0, 0, 4, 3, 2, 1, 0,
+    0, 0,
 ];
 
 /// The number of the rule that a kind takes at a byte, if it takes one.
 #[inline]
 fn number(kind: u16, byte: u8) -> Option<usize>
     requires { kind < abi.kinds }
-    ensures few { IfSome result (λ number. number < 264) }
+    ensures few { IfSome result (λ number. number < 266) }
     ensures rule { (head : Head) → MatchOption result (abi.rule kind byte ≡ None) (λ number. abi.rule kind byte ≡ Some (listed_rule head number)) }
 {
     let row = &LETTERS[kind as usize];

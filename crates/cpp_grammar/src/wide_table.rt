@@ -21,14 +21,14 @@ macro_rules! rows {
 }
 
 // For each kind a row: for each byte from `$` to `z` the letter of the production that the kind takes there.
-static WIDE_ROWS: [Row; 181] = rows! {
+static WIDE_ROWS: [Row; 182] = rows! {
     // $%&'()*+,-./0123456789:;<=>?@ABCDEFGHIJKLMNOPQRSTUVWXYZ[\]^_`abcdefghijklmnopqrstuvwxyz
     [0, b"                                                           -                           "], // Symbol
     [0, b"          .                                                                            "], // MaybeSuffix
     [0, b"/         / //////////       //////////////////////////    / //////////////////////////"], // SuffixFirst
     [0, b"/         / //////////       //////////////////////////    / //////////////////////////"], // SuffixMore
     [0, b"            2222222222          2  1    2 2    202 2  2      2 222 2 2  22222 22       "], // Encoding
-    [8, b"                             \x18 \xff    /+         ++ +/           .    ,             -    "], // Special
+    [10, b"                             \x16 \xff    -)         )) )-           ,    *             +    "], // Special
     [0, b"                                                                    8             9    "], // CallOffset
     [0, b"            ;;;;;;;;;;                                                    :            "], // Integer
     [0, b"            $$$$$$$$$$          &       \" ,    < # *  =      % %%% % %  %%%%% %%       "], // CompleteName
@@ -38,27 +38,27 @@ static WIDE_ROWS: [Row; 181] = rows! {
     [0, b"                                    !      !  !                                        "], // MaybeRef
     [0, b"            ??????????       ??????????????????????????    ? ?? ?    ?     ?   ?>      "], // NameAfterS
     [0, b"            ))))))))))                  '        (           @ @@@ @ @  @@@@@ @@       "], // Unqualified
-    [7, b"            >>>>>>>>>>          \xfe       <      :;= \xff                                   "], // Nest
+    [9, b"            <<<<<<<<<<          \xfe       :      89; \xff                                   "], // Nest
     [0, b"            GGGGGGGGGG       GGGGGGGGGGGGGGGGGGGGGGGGGG    G GG G    G     G   GF      "], // NestAfterS
-    [5, b"            DDDDDDDDDD        \xffDD D  C  DD     D D D         D DDD D D  DDDDD DD       "], // NestRest
+    [7, b"            BBBBBBBBBB        \xffBB B  A  BB     B B B         B BBB B B  BBBBB BB       "], // NestRest
     [0, b"            IIIIIIIIII         IIJI     II     I I I         I III I I  IIIII II       "], // NestTail
-    [5, b"            \x1f\x1f\x1f\x1f\x1f\x1f\x1f\x1f\x1f\x1f         FG \xfd     \x1d\xfe     & \x1e %         I HII I I  IIIII II       "], // Component
-    [2, b"             MMMMM                   \xff                                                 "], // ConstructorAfterC
+    [6, b"            \x1e\x1e\x1e\x1e\x1e\x1e\x1e\x1e\x1e\x1e         EF \xfe     \x1c\xff     % \x1d $         H GHH H H  HHHHH HH       "], // Component
+    [4, b"             KKKKK                   \xff                                                 "], // ConstructorAfterC
     [0, b"             !!!!!                                                                     "], // ConstructorDigit
     [0, b"             !! !!                                                                     "], // InheritedDigit
     [0, b"            !!! !!             P                                                       "], // ComponentAfterD
     [0, b"            RRRRRRRRRR       RRRRRRRRRRRRRRRRRRRRRRRRRR    R QQ Q    Q     Q   Q       "], // Abbreviation
-    [1, b"            ##########          %       ! +      \"              \xff              S       "], // Entity
-    [0, b"            $$$$$$$$$$                  \" S      #              \xff                      "], // TypeEntity
+    [5, b"            \x1f\x1f\x1f\x1f\x1f\x1f\x1f\x1f\x1f\x1f          !       \x1d '      \x1e              \xfd              O       "], // Entity
+    [5, b"            \x1f\x1f\x1f\x1f\x1f\x1f\x1f\x1f\x1f\x1f                  \x1d N      \x1e              \xfc                      "], // TypeEntity
     [0, b"                                                           U                           "], // MaybeDiscriminator
     [0, b"            VVVVVVVVVV                                     W                           "], // DiscriminatorRest
-    [0, b"                                                                 \xfe      X       Y      "], // Anonymous
+    [1, b"                                                                 \xff      W       X      "], // Anonymous
     [0, b"            ^^^^^^^^^^       ^ ^_ ^    \\ ^^]^ ]^^^[^  ^      ^^^^^^^^^^ ^^^^  Z^^^^^^^^"], // Type
     [0, b"            aaaaaaaaaa       a a` a      aa]a ]aaa a  a      aaaaaaaaaa aaaa   aaaaaaaa"], // Plain
     [0, b"            ^^^^^^^^^^       ^ ^b ^    \\ ^^]^ ]^^^[^  ^      ^^^^^^^^^^ ^^^^  Z^^^^^^^^"], // Item
     [0, b"            ^^^^^^^^^^       ^ ^b ^    \\ ^^ ^  ^^^[^  ^      ^^^^^^^^^^ ^^^^  Z^^^^^^^^"], // ItemButRef
     [0, b"                              d   d    d        dd           d dddd dd d  ddc  dddd  d "], // ItemAfterD
-    [0, b"                              \xfc   h    \xfd        i\xfc           e eeee ee \xfd  eg   eief  \xfb "], // AfterD
+    [0, b"                              \xfe   h    \xff        i\xfe           e eeee ee \xff  eg   eief  \xfd "], // AfterD
     [0, b"            $$$$$$$$$$       q s  r      kS j  ml# *  n      oooooooooo oooo   oopooooo"], // Solid
     [0, b"                                                     !                                 "], // MaybeCLinkage
     [0, b"            tttttttttt                                                                 "], // BitWidth
@@ -67,24 +67,25 @@ static WIDE_ROWS: [Row; 181] = rows! {
     [0, b"            zzzzzzzzzz       z zzwz    z zzyz xzzzzz  z      zzzzzzzzzz zzzz  zzzzzzzzz"], // FunctionRest
     [0, b"            ||||||||||       | ||{|    | |||| ||||||  |      |||||||||| ||||  |||||||||"], // AfterR
     [0, b"            }}}}}}}}}}       } }}{}    } }}}} }}}}}}  }      }}}}}}}}}} }}}}  }}}}}}}}}"], // AfterO
-    [0, b"            ~~~~~~~~~~       ~ ~~ ~    ~ ~~~~\xfa~~~~~~  ~      ~~~~~~~~~~ ~~~~  ~~~~~~~~~"], // Items
-    [0, b"                              \xf9      \x7f                                                 "], // MaybeArguments
+    [0, b"            ~~~~~~~~~~       ~ ~~ ~    ~ ~~~~\xfc~~~~~~  ~      ~~~~~~~~~~ ~~~~  ~~~~~~~~~"], // Items
+    [0, b"                              \xfb      \x7f                                                 "], // MaybeArguments
     [0, b"                                     \x7f                                                 "], // Arguments
-    [0, b"            \x82\x82\x82\x82\x82\x82\x82\x82\x82\x82       \x82 \x82\x82 \x82   \x80\x82\x81\x82\x82\x82\x82\xfa\x82\x82\x82\x82\x82\x82\x82 \x82      \x82\x82\x82\x82\x82\x82\x82\x82\x82\x82 \x82\x82\x82\x82  \x82\x82\x82\x82\x82\x82\x82\x82\x82"], // ArgumentList
+    [0, b"            \x82\x82\x82\x82\x82\x82\x82\x82\x82\x82       \x82 \x82\x82 \x82   \x80\x82\x81\x82\x82\x82\x82\xfc\x82\x82\x82\x82\x82\x82\x82 \x82      \x82\x82\x82\x82\x82\x82\x82\x82\x82\x82 \x82\x82\x82\x82  \x82\x82\x82\x82\x82\x82\x82\x82\x82"], // ArgumentList
     [0, b"            \x84\x84\x84\x84\x84\x84\x84\x84\x84\x84       \x84 \x84\x84 \x84    \x84\x83\x84\x84\x84\x84 \x84\x84\x84\x84\x84\x84\x84 \x84      \x84\x84\x84\x84\x84\x84\x84\x84\x84\x84 \x84\x84\x84\x84  \x84\x84\x84\x84\x84\x84\x84\x84\x84"], // PackList
-    [0, b"            \x88\x88\x88\x88\x88\x88\x88\x88\x88\x88          \x87      \x88 \x88\x88 \x88  \x88\x88\x88\x88\x88  \x88    \x85 \x88\x86\x88\xf8\xf8\xf8\xf8\x88\x88\x88 \x88\x88\x88\x88   \x88\x88  \x88\x88\x88 "], // Literal
+    [0, b"            \x88\x88\x88\x88\x88\x88\x88\x88\x88\x88       \xf9  \x87      \x88 \x88\x88 \x88  \x88\x88\x88\x88\x88  \x88    \x85 \x88\x86\x88\xfa\xfa\xfa\xfa\x88\x88\x88 \x88\x88\x88\x88   \x88\x88  \x88\x88\x88 "], // Literal
     [0, b"            !!                                                                         "], // Bit
-    [0, b"                                  \xf7                                  \x8a    \x89    \x8a \x8a     "], // LiteralAfterD
+    [0, b"                                  \xf8                                  \x8a    \x89    \x8a \x8a     "], // LiteralAfterD
     [0, b"                                                                oooo                   "], // FloatType
+    [0, b"            \x8b\x8b\x8b\x8b\x8b\x8b\x8b\x8b\x8b\x8b                                     \x8b                           "], // TextArray
     [0, b"                                  h                                                    "], // SizedFloatType
-    [0, b"            \x8b\x8b\x8b\x8b\x8b\x8b\x8b\x8b\x8b\x8b                                       \x8b\x8b\x8b\x8b\x8b\x8b                    "], // HexText
-    [0, b"            \x8c\x8c\x8c\x8c\x8c\x8c\x8c\x8c\x8c\x8c                                       \x8c\x8c\x8c\x8c\x8c\x8c                    "], // HexDigits
-    [0, b"            \x8c\x8c\x8c\x8c\x8c\x8c\x8c\x8c\x8c\x8c                                       \x8c\x8c\x8c\x8c\x8c\x8c                    "], // HexMore
+    [0, b"            \x8c\x8c\x8c\x8c\x8c\x8c\x8c\x8c\x8c\x8c                                       \x8c\x8c\x8c\x8c\x8c\x8c                    "], // HexText
+    [0, b"            \x8d\x8d\x8d\x8d\x8d\x8d\x8d\x8d\x8d\x8d                                       \x8d\x8d\x8d\x8d\x8d\x8d                    "], // HexDigits
+    [0, b"            \x8d\x8d\x8d\x8d\x8d\x8d\x8d\x8d\x8d\x8d                                       \x8d\x8d\x8d\x8d\x8d\x8d                    "], // HexMore
     [0, b"            !                                                                          "], // MaybeZero
-    [0, b"            $$$$$$$$$$                 \xf5 kS j  ml#\xf6*  n      o o    ooo oooo   oo  ooo "], // LiteralType
-    [0, b"            \x8d\x8d\x8d\x8d\x8d\x8d\x8d\x8d\x8d\x8d                   \x8d\x8d \x8d  \x8d\x8d\x8d \x8d  \x8d      \x8d \x8d    \x8d\x8d\x8d \x8d\x8d\x8d\x8d   \x8d\x8d  \x8d\x8d\x8d "], // LiteralPlain
+    [0, b"            $$$$$$$$$$                 \xf6 kS j  ml#\xf7*  n      o o    ooo oooo   oo  ooo "], // LiteralType
+    [0, b"            \x8e\x8e\x8e\x8e\x8e\x8e\x8e\x8e\x8e\x8e                   \x8e\x8e \x8e  \x8e\x8e\x8e \x8e  \x8e      \x8e \x8e    \x8e\x8e\x8e \x8e\x8e\x8e\x8e   \x8e\x8e  \x8e\x8e\x8e "], // LiteralPlain
     [0, b"            $$$$$$$$$$                   kS j  ml# *  n      o o    ooo oooo   oo  ooo "], // LiteralSolid
-    [0, b"                                                             \x90 \x92\x8f\x96 \x9a \x99  \x97\x93\x8e\x95\x91 \x94\x98       "], // Operator
+    [0, b"                                                             \x91 \x93\x90\x97 \x9b \x9a  \x98\x94\x8f\x96\x92 \x95\x99       "], // Operator
     [0, b"                                                             !   ! !            !  !   "], // OperatorAfterN
     [0, b"                                                  !          !   !      !         !    "], // OperatorAfterD
     [0, b"                                          !    !             !  !         !        !   "], // OperatorAfterA
@@ -94,16 +95,16 @@ static WIDE_ROWS: [Row; 181] = rows! {
     [0, b"                                         !     !                         !     !       "], // OperatorAfterR
     [0, b"                                              !                            !  !        "], // OperatorAfterO
     [0, b"                                           !                               ! !         "], // OperatorAfterE
-    [0, b"                                               !                 !   \x9b         !!      "], // OperatorAfterL
+    [0, b"                                               !                 !   \x9c         !!      "], // OperatorAfterL
     [0, b"                                                                               !       "], // OperatorAfterS
     [0, b"                                                                                    !  "], // OperatorAfterI
     [0, b"                                                                 !              !      "], // OperatorAfterG
-    [5, b"            DDDDDDDDDD        \xffDD D  \x97  DD     D D D         D DDD D D  DDDDD DD       "], // NestRestOrEnd
+    [7, b"            BBBBBBBBBB        \xffBB B  \x96  BB     B B B         B BBB B B  BBBBB BB       "], // NestRestOrEnd
     [0, b"                                     \x7f                                                 "], // ArgumentsAlone
     [0, b"            IIIIIIIIII         II I  H  II     I I I         I III I I  IIIII II       "], // NestRestAlone
-    [0, b"            \x9d\x9d\x9d\x9d\x9d\x9d\x9d\x9d\x9d\x9d                                                                 "], // FirstModule
-    [0, b"            \x9e\x9e\x9e\x9e\x9e\x9e\x9e\x9e\x9e\x9e       \x9e\x9e\x9e\x9e\x9e\x9e\x9e\x9e\x9e\x9e\x9e\x9e\x9e\x9e\x9e\x9e\x9e\x9e\x9e\x9e\x9e\x9e\x9e\x9e\x9e\x9e    \x9e                           "], // NamedModule
-    [0, b"                                                   \x9f                                   "], // MoreModule
+    [0, b"            \x9e\x9e\x9e\x9e\x9e\x9e\x9e\x9e\x9e\x9e                                                                 "], // FirstModule
+    [0, b"            \x9f\x9f\x9f\x9f\x9f\x9f\x9f\x9f\x9f\x9f       \x9f\x9f\x9f\x9f\x9f\x9f\x9f\x9f\x9f\x9f\x9f\x9f\x9f\x9f\x9f\x9f\x9f\x9f\x9f\x9f\x9f\x9f\x9f\x9f\x9f\x9f    \x9f                           "], // NamedModule
+    [0, b"                                                   \xa0                                   "], // MoreModule
     [0, b"                                            !                                          "], // MaybePartition
     [0, b"            $$$$$$$$$$                  \"        #           % %%% % %  %%%%% %%       "], // NameAfterModule
     [0, b"                                                   *                                   "], // NameInModule
@@ -111,98 +112,98 @@ static WIDE_ROWS: [Row; 181] = rows! {
     [0, b"                                         !                                             "], // HolderMark
     [0, b"            $$$$$$$$$$         KL       \"      + # *         N MNN N N  NNNNN NN       "], // HeldComponent
     [0, b"                               P                                                       "], // BindingAfterD
-    [0, b"            \xa1\xa1\xa1\xa1\xa1\xa1\xa1\xa1\xa1\xa1                  \xa1                                              "], // BoundNames
-    [0, b"            \xa1\xa1\xa1\xa1\xa1\xa1\xa1\xa1\xa1\xa1                  \xa1                                              "], // MoreNames
-    [0, b"            \xa0\xa0\xa0\xa0\xa0\xa0\xa0\xa0\xa0\xa0                  p                                              "], // BoundName
+    [0, b"            \xa2\xa2\xa2\xa2\xa2\xa2\xa2\xa2\xa2\xa2                  \xa2                                              "], // BoundNames
+    [0, b"            \xa2\xa2\xa2\xa2\xa2\xa2\xa2\xa2\xa2\xa2                  \xa2                                              "], // MoreNames
+    [0, b"            \xa1\xa1\xa1\xa1\xa1\xa1\xa1\xa1\xa1\xa1                  p                                              "], // BoundName
     [0, b"                                                           !  !                     !  "], // FloatEnd
-    [0, b"                                                                        \xa2\xa2 \xa2      \xf4    "], // ComponentAfterC
-    [0, b"                                                             \x90  \x8f\x96 \x9a \x99  \x97\x93\x8e\x95\x91 \x94\x98       "], // OtherOperator
-    [0, b"                                     \xa3                                                 "], // HeldArguments
-    [0, b"            \xa5\xa5\xa5\xa5\xa5\xa5\xa5\xa5\xa5\xa5                    \xa4    \xa5      n                                "], // BaseClass
-    [0, b"            \xa7\xa7\xa7\xa7\xa7\xa7\xa7\xa7\xa7\xa7                         \xa6                                       "], // UnnestedName
-    [0, b"                                     \xa8                                                 "], // BaseArguments
-    [0, b"            \x82\x82\x82\x82\x82\x82\x82\x82\x82\x82       \x82 \x82\x82 \x82  \x80\x80\x82\x81\x82\x82\x82\x82\xfa\x82\x82\x82\x82\x82\x82\x82 \x82      \x82\x82\x82\x82\x82\x82\x82\x82\x82\x82 \x82\x82\x82\x82  \x82\x82\x82\x82\x82\x82\x82\x82\x82"], // ArgumentsFirst
+    [0, b"                                                                        \xa3\xa3 \xa3      \xf5    "], // ComponentAfterC
+    [0, b"                                                             \x91  \x90\x97 \x9b \x9a  \x98\x94\x8f\x96\x92 \x95\x99       "], // OtherOperator
+    [0, b"                                     \xa4                                                 "], // HeldArguments
+    [0, b"            \xa6\xa6\xa6\xa6\xa6\xa6\xa6\xa6\xa6\xa6                    \xa5    \xa6      n                                "], // BaseClass
+    [0, b"            \xa8\xa8\xa8\xa8\xa8\xa8\xa8\xa8\xa8\xa8                         \xa7                                       "], // UnnestedName
+    [0, b"                                     \xa9                                                 "], // BaseArguments
+    [0, b"            \x82\x82\x82\x82\x82\x82\x82\x82\x82\x82       \x82 \x82\x82 \x82  \x80\x80\x82\x81\x82\x82\x82\x82\xfc\x82\x82\x82\x82\x82\x82\x82 \x82      \x82\x82\x82\x82\x82\x82\x82\x82\x82\x82 \x82\x82\x82\x82  \x82\x82\x82\x82\x82\x82\x82\x82\x82"], // ArgumentsFirst
     [0, b"            $$$$$$$$$$          &       \" ,      #                                     "], // PlainEntity
     [0, b"            $$$$$$$$$$                  \" S      #                                     "], // PlainTypeEntity
     [0, b"                                   !                                                   "], // SpecialMark
-    [0, b"                                     \xf2        \xf3 \xf1 7                                    "], // SpecialAfterG
-    [0, b"            $$$$$$$$$$          &       \" ,    < #    \xa9                                "], // TemporaryName
+    [0, b"                                     \xf3        \xf4 \xf2 7                                    "], // SpecialAfterG
+    [0, b"            $$$$$$$$$$          &       \" ,    < #    \xaa                                "], // TemporaryName
     [0, b"                                                                          !     !      "], // CloneLetter
-    [0, b"                                                                                \xaa      "], // TypeInStd
-    [0, b"                              \xf0                                                        "], // MaybeTags
-    [0, b"            \xad\xad\xad\xad\xad\xad\xad\xad\xad\xad       \xad \xadb \xad    \\ \xad\xad]\xad ]\xad\xac\xad[\xad\xab \xad      \xad\xad\xad\xad\xad\xad\xad\xad\xad\xad \xad\xad\xad\xad  Z\xad\xad\xad\xad\xad\xad\xad\xad"], // Argument
-    [0, b"            \xae\xae\xae\xae\xae\xae\xae\xae\xae\xae                  \xaf                  \xae           \xef  \xef \xef   \xef    \xef "], // ArgumentAfterT
-    [0, b"            \xae\xae\xae\xae\xae\xae\xae\xae\xae\xae                                     \xae                           "], // LeveledParameter
-    [0, b"            \xad\xad\xad\xad\xad\xad\xad\xad\xad\xad       \xad \xadb \xad   \xb1\\\xb0\xad\xad]\xad ]\xad\xac\xad[\xad\xab \xad      \xad\xad\xad\xad\xad\xad\xad\xad\xad\xad \xad\xad\xad\xad  Z\xad\xad\xad\xad\xad\xad\xad\xad"], // OneArgument
-    [0, b"                                                                       \xb3  \xb2 \xb5   \xb4    ! "], // DeclarationAfterT
-    [0, b"                                                \xb6                                      "], // Declarations
-    [0, b"            \xb8\xb8\xb8\xb8\xb8\xb8\xb8\xb8\xb8\xb8                    \xb7    \xb8                                       "], // Concept
-    [0, b"                                     \xb9                                                 "], // ConceptArguments
+    [0, b"                                                                                \xab      "], // TypeInStd
+    [0, b"                              \xf1                                                        "], // MaybeTags
+    [0, b"            \xae\xae\xae\xae\xae\xae\xae\xae\xae\xae       \xae \xaeb \xae    \\ \xae\xae]\xae ]\xae\xad\xae[\xae\xac \xae      \xae\xae\xae\xae\xae\xae\xae\xae\xae\xae \xae\xae\xae\xae  Z\xae\xae\xae\xae\xae\xae\xae\xae"], // Argument
+    [0, b"            \xaf\xaf\xaf\xaf\xaf\xaf\xaf\xaf\xaf\xaf                  \xb0                  \xaf           \xf0  \xf0 \xf0   \xf0    \xf0 "], // ArgumentAfterT
+    [0, b"            \xaf\xaf\xaf\xaf\xaf\xaf\xaf\xaf\xaf\xaf                                     \xaf                           "], // LeveledParameter
+    [0, b"            \xae\xae\xae\xae\xae\xae\xae\xae\xae\xae       \xae \xaeb \xae   \xb2\\\xb1\xae\xae]\xae ]\xae\xad\xae[\xae\xac \xae      \xae\xae\xae\xae\xae\xae\xae\xae\xae\xae \xae\xae\xae\xae  Z\xae\xae\xae\xae\xae\xae\xae\xae"], // OneArgument
+    [0, b"                                                                       \xb4  \xb3 \xb6   \xb5    ! "], // DeclarationAfterT
+    [0, b"                                                \xb7                                      "], // Declarations
+    [0, b"            \xb9\xb9\xb9\xb9\xb9\xb9\xb9\xb9\xb9\xb9                    \xb8    \xb9                                       "], // Concept
+    [0, b"                                     \xba                                                 "], // ConceptArguments
     [0, b"            $$$$$$$$$$       q s  r      kS j  m # *  n      oooooooooo oooo   oopooooo"], // SolidButT
-    [0, b"            \xbc\xbc\xbc\xbc\xbc\xbc\xbc\xbc\xbc\xbc                  \xb0       \xe7            \xd7 \xd8\xd9\xda\xdb\xdc \xdd  \xde\xdf\xe0\xe1\xe2\xe3\xe4\xe5\xe6      "], // Expression
-    [0, b"            \xe8\xe8\xe8\xe8\xe8\xe8\xe8\xe8\xe8\xe8                  \xe9                  \xe8                           "], // ExpressionParameter
-    [0, b"            \xe8\xe8\xe8\xe8\xe8\xe8\xe8\xe8\xe8\xe8                                     \xe8                           "], // UnleveledExpression
-    [0, b"            \xbc\xbc\xbc\xbc\xbc\xbc\xbc\xbc\xbc\xbc                  \xea       \xe7            \xd7 \xd8\xd9\xda\xdb\xdc \xdd  \xde\xdf\xe0\xe1\xe2\xe3\xe4\xe5\xe6      "], // AddressedExpression
-    [0, b"            \x88\x88\x88\x88\x88\x88\x88\x88\x88\x88          \x87      \x88 \x88\x88 \x88  \x88\x88\x88\x88\x88  \x88    \x85 \x88\x86\x88\xf8\xf8\xf8\xf8\x88\x88\x88 \x88\x88\x88\x88   \x88\x88  \x88\x88\x88 "], // AddressedLiteral
-    [0, b"                                          \xbf    \xbf             \xbf  \xbe         \xbf     \xc1  \xc0  \xc0"], // ExpressionAfterA
-    [0, b"                                                               \xba        \xc2\xbf \xc0\xc2     \xc3    "], // ExpressionAfterC
-    [0, b"                                                  \xbf          \xc0 \xba \xc0   \xc4  \xc0 \xc6    \xbf\xbf \xbf \xc5  "], // ExpressionAfterD
-    [0, b"                                           \xbf                               \xbf \xbf         "], // ExpressionAfterE
-    [0, b"                                        \xc7     \xc8                         \xc9   \xbd \xca        "], // ExpressionAfterF
-    [0, b"                                                                 \xbf             \xc0\xbf      "], // ExpressionAfterG
-    [0, b"                                                                        \xcb           \xbf  "], // ExpressionAfterI
-    [0, b"                                               \xbf                 \xbf             \xbf\xbf      "], // ExpressionAfterL
-    [0, b"                                     \xbf  \xbf                            \xbf  \xbf\xcc             "], // ExpressionAfterM
-    [0, b"                                                             \xcd   \xbf \xc0            \xc0  \xcd\xc0  "], // ExpressionAfterN
-    [0, b"                                              \xbf                           \xbb\xbf  \xbf        "], // ExpressionAfterO
-    [0, b"                                        \xbf                               \xbf\xbf  \xcc  \xc0\xbf      "], // ExpressionAfterP
-    [0, b"                                                                                 \xce     "], // ExpressionAfterQ
-    [0, b"                                         \xbf   \xd0 \xbf               \xba         \xbf   \xcf \xbf       "], // ExpressionAfterR
-    [0, b"                                                      \xd2        \xba            \xd1 \xd3\xbf\xc1    \xd4\xc0"], // ExpressionAfterS
-    [0, b"                                                                 \xc0   \xc1  \xd5     \xd6    \xc0   "], // ExpressionAfterT
-    [0, b"            \xeb\xeb\xeb\xeb\xeb\xeb\xeb\xeb\xeb\xeb                  \xeb       \xeb            \xeb \xeb\xeb\xeb\xeb\xeb \xeb  \xeb\xeb\xeb\xeb\xeb\xeb\xeb\xeb\xeb      "], // Expressions
+    [0, b"            \xbd\xbd\xbd\xbd\xbd\xbd\xbd\xbd\xbd\xbd                  \xb1       \xe8            \xd8 \xd9\xda\xdb\xdc\xdd \xde  \xdf\xe0\xe1\xe2\xe3\xe4\xe5\xe6\xe7      "], // Expression
+    [0, b"            \xe9\xe9\xe9\xe9\xe9\xe9\xe9\xe9\xe9\xe9                  \xea                  \xe9                           "], // ExpressionParameter
+    [0, b"            \xe9\xe9\xe9\xe9\xe9\xe9\xe9\xe9\xe9\xe9                                     \xe9                           "], // UnleveledExpression
+    [0, b"            \xbd\xbd\xbd\xbd\xbd\xbd\xbd\xbd\xbd\xbd                  \xeb       \xe8            \xd8 \xd9\xda\xdb\xdc\xdd \xde  \xdf\xe0\xe1\xe2\xe3\xe4\xe5\xe6\xe7      "], // AddressedExpression
+    [0, b"            \x88\x88\x88\x88\x88\x88\x88\x88\x88\x88       \xf9  \x87      \x88 \x88\x88 \x88  \x88\x88\x88\x88\x88  \x88    \x85 \x88\x86\x88\xfa\xfa\xfa\xfa\x88\x88\x88 \x88\x88\x88\x88   \x88\x88  \x88\x88\x88 "], // AddressedLiteral
+    [0, b"                                          \xc0    \xc0             \xc0  \xbf         \xc0     \xc2  \xc1  \xc1"], // ExpressionAfterA
+    [0, b"                                                               \xbb        \xc3\xc0 \xc1\xc3     \xc4    "], // ExpressionAfterC
+    [0, b"                                                  \xc0          \xc1 \xbb \xc1   \xc5  \xc1 \xc7    \xc0\xc0 \xc0 \xc6  "], // ExpressionAfterD
+    [0, b"                                           \xc0                               \xc0 \xc0         "], // ExpressionAfterE
+    [0, b"                                        \xc8     \xc9                         \xca   \xbe \xcb        "], // ExpressionAfterF
+    [0, b"                                                                 \xc0             \xc1\xc0      "], // ExpressionAfterG
+    [0, b"                                                                        \xcc           \xc0  "], // ExpressionAfterI
+    [0, b"                                               \xc0                 \xc0             \xc0\xc0      "], // ExpressionAfterL
+    [0, b"                                     \xc0  \xc0                            \xc0  \xc0\xcd             "], // ExpressionAfterM
+    [0, b"                                                             \xce   \xc0 \xc1            \xc1  \xce\xc1  "], // ExpressionAfterN
+    [0, b"                                              \xc0                           \xbc\xc0  \xc0        "], // ExpressionAfterO
+    [0, b"                                        \xc0                               \xc0\xc0  \xcd  \xc1\xc0      "], // ExpressionAfterP
+    [0, b"                                                                                 \xcf     "], // ExpressionAfterQ
+    [0, b"                                         \xc0   \xd1 \xc0               \xbb         \xc0   \xd0 \xc0       "], // ExpressionAfterR
+    [0, b"                                                      \xd3        \xbb            \xd2 \xd4\xc0\xc2    \xd5\xc1"], // ExpressionAfterS
+    [0, b"                                                                 \xc1   \xc2  \xd6     \xd7    \xc1   "], // ExpressionAfterT
+    [0, b"            \xec\xec\xec\xec\xec\xec\xec\xec\xec\xec                  \xec       \xec            \xec \xec\xec\xec\xec\xec \xec  \xec\xec\xec\xec\xec\xec\xec\xec\xec      "], // Expressions
     [0, b"                                                           !                           "], // MaybeBefore
-    [0, b"                                                             \x90 \x92\x8f\x96 \x9a \x99  \xec\x93\x8e\x95\x91 \x94\x98       "], // FoldOperator
+    [0, b"                                                             \x91 \x93\x90\x97 \x9b \x9a  \xed\x94\x8f\x96\x92 \x95\x99       "], // FoldOperator
     [0, b"                                               !                 !             !!      "], // FoldOperatorAfterL
-    [0, b"            \xed\xed\xed\xed\xed\xed\xed\xed\xed\xed                                       \x00 \x00\x00\x00 \x00 \x00  \x00\x00\x00\x00\x00 \x00\x00       "], // AfterOuter
+    [0, b"            \xee\xee\xee\xee\xee\xee\xee\xee\xee\xee                                       \x00 \x00\x00\x00 \x00 \x00  \x00\x00\x00\x00\x00 \x00\x00       "], // AfterOuter
     [0, b"                                                             \x01 \x01\x01\x01 \x01 \x01  \x01\x01\x01\x01\x01 \x01\x01       "], // FoldSigns
     [0, b"                                                             \x02 \x02\x02\x02 \x02 \x02  \x02\x02\x02\x02\x02 \x02\x02       "], // FoldSign
     [0, b"            \x03\x03\x03\x03\x03\x03\x03\x03\x03\x03                  \x03       \x03            \x03 \x03\x03\x03\x03\x03 \x03  \x03\x03\x03\x03\x03\x03\x03\x03\x03      "], // FoldValue
     [0, b"            \x04\x04\x04\x04\x04\x04\x04\x04\x04\x04                  \x04       \x04            \x04 \x04\x04\x04\x04\x04 \x04  \x04\x04\x04\x04\x04\x04\x04\x04\x04      "], // FoldOperand
     [0, b"            \x05\x05\x05\x05\x05\x05\x05\x05\x05\x05                  \x05       \x05            \x05 \x05\x05\x05\x05\x05 \x05  \x05\x05\x05\x05\x05\x05\x05\x05\x05      "], // FoldPack
-    [0, b"            \x05\x05\x05\x05\x05\x05\x05\x05\x05\x05                \xb1 \x05       \x05            \x05 \x05\x05\x05\x05\x05 \x05  \x05\x05\x05\x05\x05\x05\x05\x05\x05      "], // ValuePack
-    [0, b"            \x06\x06\x06\x06\x06\x06\x06\x06\x06\x06       \x06 \x06\x06 \x06   \xb1\x06 \x06\x06\x06\x06 \x06\x06\x06\x06\x06\x06  \x06      \x06\x06\x06\x06\x06\x06\x06\x06\x06\x06 \x06\x06\x06\x06  \x06\x06\x06\x06\x06\x06\x06\x06\x06"], // TypePack
+    [0, b"            \x05\x05\x05\x05\x05\x05\x05\x05\x05\x05                \xb2 \x05       \x05            \x05 \x05\x05\x05\x05\x05 \x05  \x05\x05\x05\x05\x05\x05\x05\x05\x05      "], // ValuePack
+    [0, b"            \x06\x06\x06\x06\x06\x06\x06\x06\x06\x06       \x06 \x06\x06 \x06   \xb2\x06 \x06\x06\x06\x06 \x06\x06\x06\x06\x06\x06  \x06      \x06\x06\x06\x06\x06\x06\x06\x06\x06\x06 \x06\x06\x06\x06  \x06\x06\x06\x06\x06\x06\x06\x06\x06"], // TypePack
     [0, b"            \x08\x08\x08\x08\x08\x08\x08\x08\x08\x08                  \x08       \x08            \x08 \x08\x07\x08\x08\x08 \x08  \x08\x08\x08\x08\x08\x08\x08\x08\x08      "], // DesignatedValue
-    [0, b"                                                                     \xc4              \xc5  "], // DesignatorAfterD
-    [0, b"            \xbc\xbc\xbc\xbc\xbc\xbc\xbc\xbc\xbc\xbc                  \xb0       \xe7            \xd7 \xd8 \xda\xdb\xdc \xdd  \xde\xdf\xe0\xe1\xe2\xe3\xe4\xe5\xe6      "], // PlainValue
-    [0, b"            \xa0\xa0\xa0\xa0\xa0\xa0\xa0\xa0\xa0\xa0                                                                 "], // FieldName
+    [0, b"                                                                     \xc5              \xc6  "], // DesignatorAfterD
+    [0, b"            \xbd\xbd\xbd\xbd\xbd\xbd\xbd\xbd\xbd\xbd                  \xb1       \xe8            \xd8 \xd9 \xdb\xdc\xdd \xde  \xdf\xe0\xe1\xe2\xe3\xe4\xe5\xe6\xe7      "], // PlainValue
+    [0, b"            \xa1\xa1\xa1\xa1\xa1\xa1\xa1\xa1\xa1\xa1                                                                 "], // FieldName
     [0, b"            \x09\x09\x09\x09\x09\x09\x09\x09\x09\x09                  \x09       \x09          ! \x09 \x09\x09\x09\x09\x09 \x09  \x09\x09\x09\x09\x09\x09\x09\x09\x09      "], // Placement
-    [0, b"            \xeb\xeb\xeb\xeb\xeb\xeb\xeb\xeb\xeb\xeb                  \xeb       \xeb            \xeb \xeb\xeb\xeb\xeb\xeb \xeb  \xeb\xeb\xeb\xeb\xeb\xeb\xeb\xeb\xeb      "], // SomeExpressions
+    [0, b"            \xec\xec\xec\xec\xec\xec\xec\xec\xec\xec                  \xec       \xec            \xec \xec\xec\xec\xec\xec \xec  \xec\xec\xec\xec\xec\xec\xec\xec\xec      "], // SomeExpressions
     [0, b"                                 {                                   \x0b      \x0a          "], // Initializer
-    [0, b"                                                                     \xcb                 "], // InitializerAfterP
-    [0, b"                                                                        \xcb              "], // InitializerAfterI
-    [0, b"                                                                            \xbd          "], // OuterRest
+    [0, b"                                                                     \xcc                 "], // InitializerAfterP
+    [0, b"                                                                        \xcc              "], // InitializerAfterI
+    [0, b"                                                                            \xbe          "], // OuterRest
     [0, b"            \x0d\x0d\x0d\x0d\x0d\x0d\x0d\x0d\x0d\x0d                          \x0c          \x0d                           "], // ParameterNumber
     [0, b"            \x12\x12\x12\x12\x12\x12\x12\x12\x12\x12          \x0e \x12    \x0f  \x12\x11\x10 \x11\x12\x12\x12           \x12\x12\x12\x12\x12\x12\x12\x12\x12\x12 \x12\x12\x12\x12   \x12\x12 \x12\x12\x12\x12\x12"], // ConvertedType
     [0, b"            $$$$$$$$$$            r       S    m\x13#           oooooooooo oooo   oo ooooo"], // ConvertedSolid
-    [0, b"            \xae\xae\xae\xae\xae\xae\xae\xae\xae\xae                  \xaf                  \xae                           "], // ParameterAfterT
+    [0, b"            \xaf\xaf\xaf\xaf\xaf\xaf\xaf\xaf\xaf\xaf                  \xb0                  \xaf                           "], // ParameterAfterT
     [0, b"                                                i                               i      "], // DecltypeAfterD
     [0, b"                                                i            e e                i      "], // ConvertedAfterD
-    [0, b"            \xbc\xbc\xbc\xbc\xbc\xbc\xbc\xbc\xbc\xbc                  \xb0       \xe7          \xcb \xd7 \xd8\xd9\xda\xdb\xdc \xdd  \xde\xdf\xe0\xe1\xe2\xe3\xe4\xe5\xe6      "], // ConvertRest
+    [0, b"            \xbd\xbd\xbd\xbd\xbd\xbd\xbd\xbd\xbd\xbd                  \xb1       \xe8          \xcc \xd8 \xd9\xda\xdb\xdc\xdd \xde  \xdf\xe0\xe1\xe2\xe3\xe4\xe5\xe6\xe7      "], // ConvertRest
     [0, b"            \x15\x15\x15\x15\x15\x15\x15\x15\x15\x15          \x14         \x14    \x14\x14                                      "], // Unresolved
     [0, b"                                \x0e         S    m\x13                                      "], // UnresolvedType
-    [0, b"            \xbc\xbc\xbc\xbc\xbc\xbc\xbc\xbc\xbc\xbc          \x16         \x16    \x16\x16                                      "], // DestructorName
+    [0, b"            \xbd\xbd\xbd\xbd\xbd\xbd\xbd\xbd\xbd\xbd          \x16         \x16    \x16\x16                                      "], // DestructorName
     [0, b"                                             \x19  \x18   \x17                                  "], // Requirements
     [0, b"                                          !                                            "], // MaybeNoexcept
     [0, b"                                             \x19\x1a \x18   \x17                                  "], // AfterNoexcept
-    [0, b"            \x1b\x1b\x1b\x1b\x1b\x1b\x1b\x1b\x1b\x1b          \x1b \x1b    \x1b  \x1b\x1b\x1b \x1b\x1b\x1b\x1b         \xcf \x1b\x1b\x1b\x1b\x1b\x1b\x1b\x1b\x1b\x1b \x1b\x1b\x1b\x1b   \x1b\x1b \x1b\x1b\x1b\x1b\x1b"], // RequiredTypes
-    [0, b"            \xbc\xbc\xbc\xbc\xbc\xbc\xbc\xbc\xbc\xbc                                                                 "], // Level
+    [0, b"            \x1b\x1b\x1b\x1b\x1b\x1b\x1b\x1b\x1b\x1b          \x1b \x1b    \x1b  \x1b\x1b\x1b \x1b\x1b\x1b\x1b         \xd0 \x1b\x1b\x1b\x1b\x1b\x1b\x1b\x1b\x1b\x1b \x1b\x1b\x1b\x1b   \x1b\x1b \x1b\x1b\x1b\x1b\x1b"], // RequiredTypes
+    [0, b"            \xbd\xbd\xbd\xbd\xbd\xbd\xbd\xbd\xbd\xbd                                                                 "], // Level
     [0, b"            \x15\x15\x15\x15\x15\x15\x15\x15\x15\x15           \x1c                                                     "], // MoreLevels
-    [0, b"            \xbc\xbc\xbc\xbc\xbc\xbc\xbc\xbc\xbc\xbc                                                     \x1d           "], // UnresolvedName
-    [0, b"                                                                          \xbb            "], // OperatorName
+    [0, b"            \xbd\xbd\xbd\xbd\xbd\xbd\xbd\xbd\xbd\xbd                                                     \x1d           "], // UnresolvedName
+    [0, b"                                                                          \xbc            "], // OperatorName
     [0, b"                             \x1e                                                         "], // AnyArray
-    [0, b"            \x1f\x1f\x1f\x1f\x1f\x1f\x1f\x1f\x1f\x1f                  \xee       \xee          \x1f \xee \xee\xee\xee\xee\xee \xee  \xee\xee\xee\xee\xee\xee\xee\xee\xee      "], // ArrayRest
-    [0, b"                                        \xb0       \xe7            \xd7 \xd8\xd9\xda\xdb\xdc \xdd  \xde\xdf\xe0\xe1\xe2\xe3\xe4\xe5\xe6      "], // Bound
+    [0, b"            \x1f\x1f\x1f\x1f\x1f\x1f\x1f\x1f\x1f\x1f                  \xef       \xef          \x1f \xef \xef\xef\xef\xef\xef \xef  \xef\xef\xef\xef\xef\xef\xef\xef\xef      "], // ArrayRest
+    [0, b"                                        \xb1       \xe8            \xd8 \xd9\xda\xdb\xdc\xdd \xde  \xdf\xe0\xe1\xe2\xe3\xe4\xe5\xe6\xe7      "], // Bound
     [0, b"            IIIIIIIIII         IIJI     II     I I I         I III I I  IIIII II       "], // NestMoreOrEnd
 };
 
@@ -210,7 +211,7 @@ static WIDE_ROWS: [Row; 181] = rows! {
 #[inline]
 fn number(kind: u16, byte: u8) -> Option<usize>
     requires { kind < wide.kinds }
-    ensures few { IfSome result (λ number. number < 264) }
+    ensures few { IfSome result (λ number. number < 266) }
     ensures rule { (head : Head) → MatchOption result (wide.rule kind byte ≡ None) (λ number. wide.rule kind byte ≡ Some (listed_rule head number)) }
 {
     let row = &WIDE_ROWS[kind as usize];

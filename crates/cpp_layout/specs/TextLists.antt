@@ -206,4 +206,6 @@ operation_texts =
     codes ")[" ∷
     codes "_BitInt(" ∷
     codes "unsigned _BitInt(" ∷
+    codes "\"<" ∷
+    codes ">\"" ∷
     codes ":" ∷ []

@@ -42,7 +42,7 @@ macro_rules! row {
 }
 
 /// The operations in the order of the table, and what is printed where there is none.
-static OPERATIONS: [Operation; 102] = [
+static OPERATIONS: [Operation; 103] = [
     row!(2 => OPERATION + 0, Operand::From(2), NONE, Operand::NotPrinted, NONE), // ps
     row!(2 => OPERATION + 1, Operand::From(2), NONE, Operand::NotPrinted, NONE), // ng
     row!(2 => OPERATION + 2, Operand::From(2), NONE, Operand::NotPrinted, NONE), // ad
@@ -138,12 +138,13 @@ static OPERATIONS: [Operation; 102] = [
     row!(0 => OPERATION + 78, Operand::AsItIs, OPERATION + 53, Operand::NotPrinted, NONE), // DB
     row!(0 => OPERATION + 79, Operand::AsItIs, OPERATION + 53, Operand::NotPrinted, NONE), // DU
     row!(0 => OPERATION + 52, Operand::AsType, OPERATION + 77, Operand::AsItIs, OPERATION + 47), // Lf
+    row!(0 => OPERATION + 80, Operand::AsType, OPERATION + 81, Operand::NotPrinted, NONE), // LA
     row!(0 => OPERATION + 48, Operand::AsItIs, NONE, Operand::AsItIs, NONE), // di
     row!(0 => OPERATION + 46, Operand::AsItIs, OPERATION + 47, Operand::AsItIs, NONE), // dx
     row!(0 => OPERATION + 35, Operand::AsItIs, NONE, Operand::NotPrinted, NONE), // =
     row!(0 => NONE, Operand::AsItIs, NONE, Operand::NotPrinted, NONE), // W1
     row!(0 => NONE, Operand::AsItIs, OPERATION + 48, Operand::AsItIs, NONE), // WW
-    row!(0 => NONE, Operand::AsItIs, OPERATION + 80, Operand::AsItIs, NONE), // WP
+    row!(0 => NONE, Operand::AsItIs, OPERATION + 82, Operand::AsItIs, NONE), // WP
     row!(0 => NONE, Operand::NotPrinted, NONE, Operand::NotPrinted, NONE), // no operation
 ];
 
@@ -247,13 +248,14 @@ fn place_of(code: u16) -> usize
         17474 => 92, // DB
         17493 => 93, // DU
         19558 => 94, // Lf
-        25705 => 95, // di
-        25720 => 96, // dx
-        15648 => 97, // =
-        22321 => 98, // W1
-        22359 => 99, // WW
-        22352 => 100, // WP
-        _ => 101,
+        19521 => 95, // LA
+        25705 => 96, // di
+        25720 => 97, // dx
+        15648 => 98, // =
+        22321 => 99, // W1
+        22359 => 100, // WW
+        22352 => 101, // WP
+        _ => 102,
     }
 }
 

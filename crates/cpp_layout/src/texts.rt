@@ -147,70 +147,70 @@ pub const OPERATOR_ALONE: u16 = 168;
 pub const OPERATION: u16 = 169;
 
 /// Where the names of operators begin.
-pub const OPERATOR: u16 = 250;
+pub const OPERATOR: u16 = 252;
 
 /// How many operators there are.
 pub const OPERATORS: u16 = 48;
 
 /// How many texts there are.
-pub const COUNT: u16 = 298;
+pub const COUNT: u16 = 300;
 
 /// The name of an operator.
 #[tactic(auto, unfolding(crate::specs::Texts::fixed_text, cpp_grammar::specs::Texts::builtin_texts, cpp_grammar::specs::Texts::operator_texts, cpp_grammar::specs::Texts::abbreviation_texts, cpp_grammar::specs::Texts::special_texts, cpp_grammar::specs::Texts::named_special_texts, cpp_grammar::specs::Texts::literal_endings))]
 #[inline(always)]
 fn operator_text(number: u16) -> &'static [u8]
-    requires { 250 ≤ number }
+    requires { 252 ≤ number }
     ensures { result.now ≡ fixed_text number }
 {
     match number {
-        250 => b"operator new",
-        251 => b"operator new[]",
-        252 => b"operator delete",
-        253 => b"operator delete[]",
-        254 => b"operator co_await",
-        255 => b"operator+",
-        256 => b"operator-",
-        257 => b"operator&",
-        258 => b"operator*",
-        259 => b"operator~",
-        260 => b"operator+",
-        261 => b"operator-",
-        262 => b"operator*",
-        263 => b"operator/",
-        264 => b"operator%",
-        265 => b"operator&",
-        266 => b"operator^",
-        267 => b"operator=",
-        268 => b"operator+=",
-        269 => b"operator-=",
-        270 => b"operator*=",
-        271 => b"operator/=",
-        272 => b"operator%=",
-        273 => b"operator&=",
-        274 => b"operator|=",
-        275 => b"operator^=",
-        276 => b"operator<<",
-        277 => b"operator>>",
-        278 => b"operator<<=",
-        279 => b"operator>>=",
-        280 => b"operator==",
-        281 => b"operator!=",
-        282 => b"operator<",
-        283 => b"operator>",
-        284 => b"operator<=",
-        285 => b"operator>=",
-        286 => b"operator<=>",
-        287 => b"operator!",
-        288 => b"operator&&",
-        289 => b"operator||",
-        290 => b"operator++",
-        291 => b"operator--",
-        292 => b"operator,",
-        293 => b"operator->*",
-        294 => b"operator->",
-        295 => b"operator()",
-        296 => b"operator[]",
-        297 => b"operator|",
+        252 => b"operator new",
+        253 => b"operator new[]",
+        254 => b"operator delete",
+        255 => b"operator delete[]",
+        256 => b"operator co_await",
+        257 => b"operator+",
+        258 => b"operator-",
+        259 => b"operator&",
+        260 => b"operator*",
+        261 => b"operator~",
+        262 => b"operator+",
+        263 => b"operator-",
+        264 => b"operator*",
+        265 => b"operator/",
+        266 => b"operator%",
+        267 => b"operator&",
+        268 => b"operator^",
+        269 => b"operator=",
+        270 => b"operator+=",
+        271 => b"operator-=",
+        272 => b"operator*=",
+        273 => b"operator/=",
+        274 => b"operator%=",
+        275 => b"operator&=",
+        276 => b"operator|=",
+        277 => b"operator^=",
+        278 => b"operator<<",
+        279 => b"operator>>",
+        280 => b"operator<<=",
+        281 => b"operator>>=",
+        282 => b"operator==",
+        283 => b"operator!=",
+        284 => b"operator<",
+        285 => b"operator>",
+        286 => b"operator<=",
+        287 => b"operator>=",
+        288 => b"operator<=>",
+        289 => b"operator!",
+        290 => b"operator&&",
+        291 => b"operator||",
+        292 => b"operator++",
+        293 => b"operator--",
+        294 => b"operator,",
+        295 => b"operator->*",
+        296 => b"operator->",
+        297 => b"operator()",
+        298 => b"operator[]",
+        299 => b"operator|",
         _ => b"",
     }
 }
@@ -303,7 +303,9 @@ fn operation_text(number: u16) -> &'static [u8]
         246 => b")[",
         247 => b"_BitInt(",
         248 => b"unsigned _BitInt(",
-        249 => b":",
+        249 => b"\"<",
+        250 => b">\"",
+        251 => b":",
         _ => operator_text(number),
     }
 }

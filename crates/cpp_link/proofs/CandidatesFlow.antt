@@ -659,6 +659,7 @@ flows Production.PlainWithD around place = unqualified Production.PlainWithD ref
 flows Production.QualifiedPlain around place = unqualified Production.QualifiedPlain refl around place (OfKind SOLID) refl (λ a v. refl) (λ v. refl) (λ v. refl)
 flows Production.ItemWithD around place = typed Production.ItemWithD refl around place (OfKind ITEM_AFTER_D) refl (λ a v. refl) (λ v. refl) (λ v. refl)
 flows Production.IntegerLiteral around place = of_type Production.IntegerLiteral refl around place _ (OfKind LITERAL_TYPE) (OfKind INTEGER) refl (λ a v. refl) (λ a v. refl) (λ v. refl) (λ byte vs. omega arith)
+flows Production.TextArray around place = own_type Production.TextArray refl around place _ (parts_of Production.TextArray) refl refl refl (λ byte vs. refl) (λ vs. refl)
 flows Production.QualifiedLiteral around place = unqualified Production.QualifiedLiteral refl around place (OfKind LITERAL_SOLID) refl (λ a v. refl) (λ v. refl) (λ v. refl)
 flows Production.OperatorNameWithC around place = made_name Production.OperatorNameWithC refl around place _ _ (OfKind OPERATOR_AFTER_C) MAYBE_ARGUMENTS refl (λ vs. refl) (λ vs. refl) (λ a v. refl) maybe-arguments
 flows Production.TaggedSource around place = made_name Production.TaggedSource refl around place _ _ Name MAYBE_TAGS refl (λ vs. refl) (λ vs. refl) (λ a v. refl) maybe-tags

@@ -313,6 +313,7 @@ pub compound_type : (p : Production) → family_of p ≡ Family.CompoundType
     → (p ≡ Production.Complex → ⊥)
     → (p ≡ Production.RestrictType → ⊥)
     → (p ≡ Production.VolatileType → ⊥)
+    → (p ≡ Production.TextArray → ⊥)
     → (p ≡ Production.VolatileLiteral → ⊥)
     → (p ≡ Production.ConstLiteral → ⊥)
     → (p ≡ Production.QualifiedLiteral → ⊥)
@@ -327,22 +328,23 @@ pub compound_type : (p : Production) → family_of p ≡ Family.CompoundType
     → (p ≡ Production.ConvertedReference → ⊥)
     → ⊥
 unfolding family_of
-compound_type Production.Complex is n0 n1 n2 n3 n4 n5 n6 n7 n8 n9 n10 n11 n12 n13 n14 = n0 refl
-compound_type Production.RestrictType is n0 n1 n2 n3 n4 n5 n6 n7 n8 n9 n10 n11 n12 n13 n14 = n1 refl
-compound_type Production.VolatileType is n0 n1 n2 n3 n4 n5 n6 n7 n8 n9 n10 n11 n12 n13 n14 = n2 refl
-compound_type Production.VolatileLiteral is n0 n1 n2 n3 n4 n5 n6 n7 n8 n9 n10 n11 n12 n13 n14 = n3 refl
-compound_type Production.ConstLiteral is n0 n1 n2 n3 n4 n5 n6 n7 n8 n9 n10 n11 n12 n13 n14 = n4 refl
-compound_type Production.QualifiedLiteral is n0 n1 n2 n3 n4 n5 n6 n7 n8 n9 n10 n11 n12 n13 n14 = n5 refl
-compound_type Production.MemberPointer is n0 n1 n2 n3 n4 n5 n6 n7 n8 n9 n10 n11 n12 n13 n14 = n6 refl
-compound_type Production.ArrayType is n0 n1 n2 n3 n4 n5 n6 n7 n8 n9 n10 n11 n12 n13 n14 = n7 refl
-compound_type Production.AnyArray is n0 n1 n2 n3 n4 n5 n6 n7 n8 n9 n10 n11 n12 n13 n14 = n8 refl
-compound_type Production.LengthArray is n0 n1 n2 n3 n4 n5 n6 n7 n8 n9 n10 n11 n12 n13 n14 = n9 refl
-compound_type Production.BoundedArray is n0 n1 n2 n3 n4 n5 n6 n7 n8 n9 n10 n11 n12 n13 n14 = n10 refl
-compound_type Production.Vector is n0 n1 n2 n3 n4 n5 n6 n7 n8 n9 n10 n11 n12 n13 n14 = n11 refl
-compound_type Production.ConvertedConst is n0 n1 n2 n3 n4 n5 n6 n7 n8 n9 n10 n11 n12 n13 n14 = n12 refl
-compound_type Production.ConvertedPointer is n0 n1 n2 n3 n4 n5 n6 n7 n8 n9 n10 n11 n12 n13 n14 = n13 refl
-compound_type Production.ConvertedReference is n0 n1 n2 n3 n4 n5 n6 n7 n8 n9 n10 n11 n12 n13 n14 = n14 refl
-compound_type _ is n0 n1 n2 n3 n4 n5 n6 n7 n8 n9 n10 n11 n12 n13 n14 = subst IsCompoundType (sym is) tt
+compound_type Production.Complex is n0 n1 n2 n3 n4 n5 n6 n7 n8 n9 n10 n11 n12 n13 n14 n15 = n0 refl
+compound_type Production.RestrictType is n0 n1 n2 n3 n4 n5 n6 n7 n8 n9 n10 n11 n12 n13 n14 n15 = n1 refl
+compound_type Production.VolatileType is n0 n1 n2 n3 n4 n5 n6 n7 n8 n9 n10 n11 n12 n13 n14 n15 = n2 refl
+compound_type Production.TextArray is n0 n1 n2 n3 n4 n5 n6 n7 n8 n9 n10 n11 n12 n13 n14 n15 = n3 refl
+compound_type Production.VolatileLiteral is n0 n1 n2 n3 n4 n5 n6 n7 n8 n9 n10 n11 n12 n13 n14 n15 = n4 refl
+compound_type Production.ConstLiteral is n0 n1 n2 n3 n4 n5 n6 n7 n8 n9 n10 n11 n12 n13 n14 n15 = n5 refl
+compound_type Production.QualifiedLiteral is n0 n1 n2 n3 n4 n5 n6 n7 n8 n9 n10 n11 n12 n13 n14 n15 = n6 refl
+compound_type Production.MemberPointer is n0 n1 n2 n3 n4 n5 n6 n7 n8 n9 n10 n11 n12 n13 n14 n15 = n7 refl
+compound_type Production.ArrayType is n0 n1 n2 n3 n4 n5 n6 n7 n8 n9 n10 n11 n12 n13 n14 n15 = n8 refl
+compound_type Production.AnyArray is n0 n1 n2 n3 n4 n5 n6 n7 n8 n9 n10 n11 n12 n13 n14 n15 = n9 refl
+compound_type Production.LengthArray is n0 n1 n2 n3 n4 n5 n6 n7 n8 n9 n10 n11 n12 n13 n14 n15 = n10 refl
+compound_type Production.BoundedArray is n0 n1 n2 n3 n4 n5 n6 n7 n8 n9 n10 n11 n12 n13 n14 n15 = n11 refl
+compound_type Production.Vector is n0 n1 n2 n3 n4 n5 n6 n7 n8 n9 n10 n11 n12 n13 n14 n15 = n12 refl
+compound_type Production.ConvertedConst is n0 n1 n2 n3 n4 n5 n6 n7 n8 n9 n10 n11 n12 n13 n14 n15 = n13 refl
+compound_type Production.ConvertedPointer is n0 n1 n2 n3 n4 n5 n6 n7 n8 n9 n10 n11 n12 n13 n14 n15 = n14 refl
+compound_type Production.ConvertedReference is n0 n1 n2 n3 n4 n5 n6 n7 n8 n9 n10 n11 n12 n13 n14 n15 = n15 refl
+compound_type _ is n0 n1 n2 n3 n4 n5 n6 n7 n8 n9 n10 n11 n12 n13 n14 n15 = subst IsCompoundType (sym is) tt
 
 abbrev IsFunctionType : Family → Type 0
 IsFunctionType Family.FunctionType = Unit {0}
@@ -601,19 +603,21 @@ pub literal : (p : Production) → family_of p ≡ Family.Literal
     → (p ≡ Production.FloatLiteral → ⊥)
     → (p ≡ Production.SizedFloatLiteral → ⊥)
     → (p ≡ Production.HexText → ⊥)
+    → (p ≡ Production.TextLiteral → ⊥)
     → ⊥
 unfolding family_of
-literal Production.LiteralWithD is n0 n1 n2 n3 n4 n5 n6 n7 n8 n9 = n0 refl
-literal Production.AddressedLiteral is n0 n1 n2 n3 n4 n5 n6 n7 n8 n9 = n1 refl
-literal Production.EncodingLiteral is n0 n1 n2 n3 n4 n5 n6 n7 n8 n9 = n2 refl
-literal Production.BoolLiteral is n0 n1 n2 n3 n4 n5 n6 n7 n8 n9 = n3 refl
-literal Production.IntegerLiteral is n0 n1 n2 n3 n4 n5 n6 n7 n8 n9 = n4 refl
-literal Production.NullLiteral is n0 n1 n2 n3 n4 n5 n6 n7 n8 n9 = n5 refl
-literal Production.CharLiteral is n0 n1 n2 n3 n4 n5 n6 n7 n8 n9 = n6 refl
-literal Production.FloatLiteral is n0 n1 n2 n3 n4 n5 n6 n7 n8 n9 = n7 refl
-literal Production.SizedFloatLiteral is n0 n1 n2 n3 n4 n5 n6 n7 n8 n9 = n8 refl
-literal Production.HexText is n0 n1 n2 n3 n4 n5 n6 n7 n8 n9 = n9 refl
-literal _ is n0 n1 n2 n3 n4 n5 n6 n7 n8 n9 = subst IsLiteral (sym is) tt
+literal Production.LiteralWithD is n0 n1 n2 n3 n4 n5 n6 n7 n8 n9 n10 = n0 refl
+literal Production.AddressedLiteral is n0 n1 n2 n3 n4 n5 n6 n7 n8 n9 n10 = n1 refl
+literal Production.EncodingLiteral is n0 n1 n2 n3 n4 n5 n6 n7 n8 n9 n10 = n2 refl
+literal Production.BoolLiteral is n0 n1 n2 n3 n4 n5 n6 n7 n8 n9 n10 = n3 refl
+literal Production.IntegerLiteral is n0 n1 n2 n3 n4 n5 n6 n7 n8 n9 n10 = n4 refl
+literal Production.NullLiteral is n0 n1 n2 n3 n4 n5 n6 n7 n8 n9 n10 = n5 refl
+literal Production.CharLiteral is n0 n1 n2 n3 n4 n5 n6 n7 n8 n9 n10 = n6 refl
+literal Production.FloatLiteral is n0 n1 n2 n3 n4 n5 n6 n7 n8 n9 n10 = n7 refl
+literal Production.SizedFloatLiteral is n0 n1 n2 n3 n4 n5 n6 n7 n8 n9 n10 = n8 refl
+literal Production.HexText is n0 n1 n2 n3 n4 n5 n6 n7 n8 n9 n10 = n9 refl
+literal Production.TextLiteral is n0 n1 n2 n3 n4 n5 n6 n7 n8 n9 n10 = n10 refl
+literal _ is n0 n1 n2 n3 n4 n5 n6 n7 n8 n9 n10 = subst IsLiteral (sym is) tt
 
 abbrev IsCommon : Family → Type 0
 IsCommon Family.Common = Unit {0}

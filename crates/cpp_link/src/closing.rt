@@ -59,6 +59,7 @@ impl Linked {
             | Production::ConstType
             | Production::VolatileLiteral
             | Production::ConstLiteral
+            | Production::TextArray
             | Production::ReferenceType
             | Production::ConvertedConst
             | Production::ConvertedPointer

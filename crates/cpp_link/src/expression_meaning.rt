@@ -560,6 +560,16 @@ impl Linked {
             ),
             // <value float>, as digits of base 16
             Production::HexText => made(Node::Vendor(self.text(symbol, parts, 0)), true),
+            // <expr-primary> ::= L <string type> E
+            Production::TextLiteral => made(
+                Node::Operation {
+                    first: b'L',
+                    second: b'A',
+                    left: self.tree(symbol, parts, 0),
+                    right: ABSENT,
+                },
+                true,
+            ),
             _ => unreachable!(),
         }
     }

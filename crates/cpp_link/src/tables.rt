@@ -3,7 +3,7 @@
 use cpp_grammar::production::{Operation, Production};
 
 /// The productions.
-pub(crate) const PRODUCTIONS: [Production; 264] = [
+pub(crate) const PRODUCTIONS: [Production; 266] = [
     Production::LeftFoldFrom,
     Production::FoldSigns,
     Production::FoldSign,
@@ -143,6 +143,7 @@ pub(crate) const PRODUCTIONS: [Production; 264] = [
     Production::IntegerLiteral,
     Production::NullLiteral,
     Production::CharLiteral,
+    Production::TextArray,
     Production::HexText,
     Production::HexDigit,
     Production::QualifiedLiteral,
@@ -252,6 +253,7 @@ pub(crate) const PRODUCTIONS: [Production; 264] = [
     Production::ConstLiteral,
     Production::VolatileLiteral,
     Production::SizedFloatLiteral,
+    Production::TextLiteral,
     Production::FloatLiteral,
     Production::Tag,
     Production::Constraint,
@@ -271,7 +273,7 @@ pub(crate) const PRODUCTIONS: [Production; 264] = [
 ];
 
 /// How many parts each has.
-pub(crate) const PART_COUNTS: [u8; 264] = [
+pub(crate) const PART_COUNTS: [u8; 266] = [
     3, // LeftFoldFrom
     1, // FoldSigns
     1, // FoldSign
@@ -411,6 +413,7 @@ pub(crate) const PART_COUNTS: [u8; 264] = [
     2, // IntegerLiteral
     1, // NullLiteral
     1, // CharLiteral
+    2, // TextArray
     1, // HexText
     1, // HexDigit
     1, // QualifiedLiteral
@@ -520,6 +523,7 @@ pub(crate) const PART_COUNTS: [u8; 264] = [
     1, // ConstLiteral
     2, // VolatileLiteral
     2, // SizedFloatLiteral
+    1, // TextLiteral
     2, // FloatLiteral
     2, // Tag
     1, // Constraint
@@ -539,7 +543,7 @@ pub(crate) const PART_COUNTS: [u8; 264] = [
 ];
 
 /// Whether some part of each but the last may have no row: a fixed byte, or a kind that may be empty.
-pub(crate) const SKIPS_PARTS: [bool; 264] = [
+pub(crate) const SKIPS_PARTS: [bool; 266] = [
     false, // LeftFoldFrom
     false, // FoldSigns
     false, // FoldSign
@@ -679,6 +683,7 @@ pub(crate) const SKIPS_PARTS: [bool; 264] = [
     false, // IntegerLiteral
     false, // NullLiteral
     false, // CharLiteral
+    false, // TextArray
     false, // HexText
     false, // HexDigit
     false, // QualifiedLiteral
@@ -788,6 +793,7 @@ pub(crate) const SKIPS_PARTS: [bool; 264] = [
     false, // ConstLiteral
     true, // VolatileLiteral
     false, // SizedFloatLiteral
+    false, // TextLiteral
     false, // FloatLiteral
     false, // Tag
     false, // Constraint
@@ -807,7 +813,7 @@ pub(crate) const SKIPS_PARTS: [bool; 264] = [
 ];
 
 /// Before how many of its parts nothing is done in each: before none, the first, or all, which are five at most.
-pub(crate) const QUIET_PARTS: [u8; 264] = [
+pub(crate) const QUIET_PARTS: [u8; 266] = [
     5, // LeftFoldFrom
     5, // FoldSigns
     5, // FoldSign
@@ -947,6 +953,7 @@ pub(crate) const QUIET_PARTS: [u8; 264] = [
     1, // IntegerLiteral
     5, // NullLiteral
     5, // CharLiteral
+    5, // TextArray
     5, // HexText
     5, // HexDigit
     5, // QualifiedLiteral
@@ -1056,6 +1063,7 @@ pub(crate) const QUIET_PARTS: [u8; 264] = [
     5, // ConstLiteral
     5, // VolatileLiteral
     5, // SizedFloatLiteral
+    5, // TextLiteral
     5, // FloatLiteral
     1, // Tag
     0, // Constraint

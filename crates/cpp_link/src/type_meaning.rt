@@ -155,6 +155,14 @@ impl Linked {
                 self.there(symbol, parts, 0),
                 self.tree(symbol, parts, 1),
             ),
+            // <array-type> ::= A <number> _ <element type>, after the A
+            Production::TextArray => made(
+                Node::Array {
+                    digits: normal(symbol, self.text(symbol, parts, 0)),
+                    element: self.tree(symbol, parts, 1),
+                },
+                true,
+            ),
             // <type> ::= <CV-qualifiers> <type>
             Production::VolatileLiteral => qualified(
                 false,

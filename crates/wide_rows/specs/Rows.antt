@@ -148,4 +148,5 @@ rows_2 =
     prints "_Z1fSaB1aIcE" "f(std::allocator[abi:a]<char>)" 41 ∷
     prints "_Z1fNSsB3foo1xES_S0_" "f(std::string[abi:foo]::x, std::string[abi:foo], std::string[abi:foo]::x)" 92 ∷
     prints "_ZNSsB1aC1Ev" "std::string[abi:a]::string()" 34 ∷
+    prints "_Z1fILA2_KcELA3_KcEEvS0_" "void f<\"<char const [2]>\", \"<char const [3]>\">(char const)" 87 ∷
     []

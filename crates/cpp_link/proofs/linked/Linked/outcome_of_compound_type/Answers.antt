@@ -7,6 +7,7 @@ unreachable-requires c = compound_type c.args.production c.requires.family
     c.in_default.not-Complex
     c.in_default.not-RestrictType
     c.in_default.not-VolatileType
+    c.in_default.not-TextArray
     c.in_default.not-VolatileLiteral
     c.in_default.not-ConstLiteral
     c.in_default.not-QualifiedLiteral

@@ -14,3 +14,4 @@ unreachable-requires c = literal c.args.production c.requires.family
     c.in_default.not-FloatLiteral
     c.in_default.not-SizedFloatLiteral
     c.in_default.not-HexText
+    c.in_default.not-TextLiteral
