@@ -53,15 +53,16 @@ class Computing:
             parts = ",".join(self.operand(*part).text for part in zip(operand.operands, operand.type.parts))
             return Expression(f"({self.structs.c_type(operand.type)}){{{parts}}}", WHOLE)
         if isinstance(operand, (Parts, Splat)):
-            return self.vector_constant(operand)
+            return self.vector_constant(operand, type_)
         if operand.name in self.pending:
             return self.pending.pop(operand.name)
         return Expression(self.values.c_name(operand.name), kind(self.function.types[operand.name]))
 
-    def vector_constant(self, operand):
+    def vector_constant(self, operand, type_):
         self.structs.used.add("v16")
         if isinstance(operand, Splat):
-            return Expression(f"splat({self.operand(operand.operand, operand.type).text})", WHOLE)
+            repeated = "v64_splat" if type_ == BYTES_64 else "splat"
+            return Expression(f"{repeated}({self.operand(operand.operand, operand.type).text})", WHOLE)
         return Expression("(v16){{" + ",".join(self.operand(part, "i8").text for part in operand.operands) + "}}", WHOLE)
 
     def real_constant(self, real):
@@ -80,6 +81,8 @@ class Computing:
         if it.type == BYTES_16:
             self.structs.used.add("v16")
             return Expression(f"v16_{it.word}({one.text},{other.text})", WHOLE, reads=reads)
+        if it.type == BITS_64:
+            return Expression(f"v64_{it.word}({one.text},{other.text})", WHOLE, reads=reads)
         if not isinstance(it.type, str):
             return Expression(f"{one.at(UNARY)}{SIGN[it.word]}{other.at(UNARY)}", SMALL, OR, reads=reads)
         if it.word == "ashr":

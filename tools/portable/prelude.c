@@ -131,6 +131,7 @@ FN v16 v16_add(v16 a, v16 b) { a.m = _mm_add_epi8(a.m, b.m); return a; }
 FN v16 v16_or(v16 a, v16 b) { a.m = _mm_or_si128(a.m, b.m); return a; }
 FN v16 v16_and(v16 a, v16 b) { a.m = _mm_and_si128(a.m, b.m); return a; }
 FN u16 v16_ult(v16 a, v16 b) { return (u16)~_mm_movemask_epi8(_mm_cmpeq_epi8(_mm_max_epu8(a.m, b.m), a.m)); }
+FN u16 v16_sgt(v16 a, v16 b) { return (u16)_mm_movemask_epi8(_mm_cmpgt_epi8(a.m, b.m)); }
 FN u16 v16_top(v16 a) { return (u16)_mm_movemask_epi8(a.m); }
 FN v16 v16_at(const u8 *p) { v16 x; x.m = _mm_loadu_si128((const __m128i *)(const void *)p); return x; }
 FN v16 splat(int b) { v16 x; x.m = _mm_set1_epi8((char)b); return x; }
@@ -141,6 +142,7 @@ FN v16 v16_add(v16 a, v16 b) { for (int i = 0; i < 16; i++) a.b[i] = (u8)(a.b[i]
 FN v16 v16_or(v16 a, v16 b) { for (int i = 0; i < 16; i++) a.b[i] |= b.b[i]; return a; }
 FN v16 v16_and(v16 a, v16 b) { for (int i = 0; i < 16; i++) a.b[i] &= b.b[i]; return a; }
 FN u16 v16_ult(v16 a, v16 b) { u16 m = 0; for (int i = 0; i < 16; i++) m |= (u16)((a.b[i] < b.b[i]) << i); return m; }
+FN u16 v16_sgt(v16 a, v16 b) { u16 m = 0; for (int i = 0; i < 16; i++) m |= (u16)(((a.b[i] ^ 128) > (b.b[i] ^ 128)) << i); return m; }
 FN u16 v16_top(v16 a) { u16 m = 0; for (int i = 0; i < 16; i++) m |= (u16)(a.b[i] >> 7 << i); return m; }
 FN v16 v16_at(const u8 *p) { v16 x; memcpy(x.b, p, 16); return x; }
 FN v16 splat(int b) { v16 x; memset(x.b, b, 16); return x; }
@@ -151,6 +153,9 @@ FN u16 v16_ne(v16 a, v16 b) { return (u16)~v16_eq(a, b); }
 typedef struct { v16 p[4]; } v64;
 FN v64 v64_at(const u8 *p) { v64 x; for (int k = 0; k < 4; k++) x.p[k] = v16_at(p + 16 * k); return x; }
 FN v64 v64_ne(v64 a, v64 b) { for (int k = 0; k < 4; k++) for (int i = 0; i < 16; i++) a.p[k].b[i] = (u8)-(a.p[k].b[i] != b.p[k].b[i]); return a; }
+FN v64 v64_eq(v64 a, v64 b) { for (int k = 0; k < 4; k++) for (int i = 0; i < 16; i++) a.p[k].b[i] = (u8)-(a.p[k].b[i] == b.p[k].b[i]); return a; }
+FN v64 v64_and(v64 a, v64 b) { for (int k = 0; k < 4; k++) a.p[k] = v16_and(a.p[k], b.p[k]); return a; }
+FN v64 v64_splat(int b) { v64 x; for (int k = 0; k < 4; k++) x.p[k] = splat(b); return x; }
 /*: all */
 /*: double */
 FN double rd(const u8 *p) { double v; memcpy(&v, p, 8); return v; }
