@@ -113,9 +113,13 @@ enum symdemangle_flags {
     SYMDEMANGLE_WITHIN = 64,       /* of symdemangle_filter: words are those of the program `demangle`: they begin within runs of
                                       word bytes, too, as in .text._Z1fv and after typographic quotes, and may have names with
                                       bytes from 0x80: recommended. With it SYMDEMANGLE_ASCII_WORDS changes nothing */
-    SYMDEMANGLE_TYPES = 128        /* of symdemangle_text, _texts and _string: a name that begins as no symbol does is read as a
+    SYMDEMANGLE_TYPES = 128,       /* of symdemangle_text, _texts and _string: a name that begins as no symbol does is read as a
                                       C++ type, as typeid(..).name() gives it (PKc: char const*), where it has at most 65,536
                                       bytes, all of them those of words, and no dot. What is no type is refused as a symbol is */
+    SYMDEMANGLE_SHORT = 256,       /* texts of C++ names are short: without what the templates of std have by default and without
+                                      its inline namespaces, and with usual names (std::string). Different names may have one
+                                      short text. The limit is that of the whole text */
+    SYMDEMANGLE_KEEP_INLINE = 512  /* with SYMDEMANGLE_SHORT: inline namespaces stay, and different texts stay different */
 };
 
 /* What comes with a status: of SYMDEMANGLE_OK the bytes that were written, of SYMDEMANGLE_BUFFER those that are needed, else 0;
