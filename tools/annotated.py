@@ -44,13 +44,19 @@ BY_HAND = ("Items", "Ranks")
 FALLING = "cpp_grammar/proofs/RanksFall.antt"
 # lemmas that speak of the scope of an item, and those that are said otherwise
 SCOPED = {"weight_grows": None, "arguments_weight": None, "types_weight": None,
-          "argument_weight": ("argument_weight : (c : Context) (a : Term) → weight (argument c a) < 2 + weight a", "unfolding argument", "argument_weight c a = omega (arith, indexed_weight c.index a)"),
+          "own_weight": None,
+          "argument_weight": ("argument_weight : (c : Context) (a : Term) → light (argument c a) (weight (argument c a)) < 2 + light a (weight a)", "unfolding argument", "argument_weight c a = omega (arith, indexed_light c.index a)"),
+          "generic_falls": ("generic_falls : (r : ℕ) (c : Context) (parameters : Term) (number : ℕ) → weight parameters < r → RanksBelow rank r (generic_parts c parameters number)",
+                            "unfolding generic_parts rank rank_in weight_in weight", "generic_falls r c (declaring heads parameters) number h =",
+                            "    let own = reargued (Some (declaring heads parameters)) parameters in",
+                            "    (omega (arith, h, named_weight heads parameters heads), falls_append r (list_part first c own) _ (falls_first r c own (omega (arith, h, named_weight heads parameters parameters))) tt)",
+                            "generic_falls r c parameters number h = falls_append r (list_part first c parameters) _ (falls_first r c parameters h) tt"),
           "below_count": ("-- an index that is below the length of the packs", "below_count : (c : Context) (t : Term) (i : ℕ) → is_below i (packs_of c t) ≡ true → i < pack_count t",
                           "unfolding packs_of pack_count", "below_count c t i e = below_some i (pack_length t) e")}
 # what a weight is told besides the tree, and what is said of that
 UNTOLD = [("(a : ℕ) (scope : Option Term) ", ""), ("_weight (scope_weight c.scope) c.scope ", "_weight "), ("weight a scope ", "weight "), ("weight 0 None ", "weight "), ("weight_positive a scope ", "weight_positive "), ("weight_positive 0 None ", "weight_positive "), ("pack_count c.scope ", "pack_count "),
-          ("unfolding piece_parts rank rank_in weight_in scope_weight weight", "unfolding piece_parts rank rank_in weight_in weight"), (" scope_weight\n", "\n"), ("(signature_in c)", "c"),
-          ("(let less : weight parameters < r = omega (arith, h) in less)", "(omega arith)"), ("(parameter k) = (argument_weight c k, tt)", "(parameter k a) = (argument_weight c a, tt)"),
+          ("unfolding piece_parts rank rank_in weight_in scope_weight weight", "unfolding piece_parts rank rank_in weight_in weight"), (" scope_weight\n", "\n"), ("(let less : weight parameters < r = omega (arith, h) in less)", "(omega arith)"), ("_falls d c (parameter k) =", "_falls d c (parameter k a) ="),
+          ("right_falls c (parameter k) =", "right_falls c (parameter k a) ="), ("(argument c k) (argument_weight c k)", "(argument c a) (argument_weight c a)"),
           ("(omega (arith, types_weight name returned))", "(omega arith)"), ("(omega (arith, types_weight name parameters))", "(omega arith)"),
           ("below_count c.scope c.index c.in_signature t", "below_count c t")]
 

@@ -106,6 +106,11 @@ unfolding light weight
 light_less (declaring heads parameters) = omega arith
 light_less _ = omega arith
 
+indexed_light : (index : Option ℕ) (t : Term) → light (indexed index t) (weight 0 None (indexed index t)) ≤ light t (weight 0 None t)
+unfolding light weight indexed
+indexed_light (Some i) (pack elements) = omega (arith, light_less (element elements i), element_weight elements i)
+indexed_light index t = omega arith
+
 own_weight : (s : Signature) → light (own_argument s) (weight 0 None (own_argument s)) < 2
 unfolding own_argument light weight
 own_weight in_none = omega arith
@@ -119,7 +124,7 @@ argument_weight c k = scoped c.scope
     scoped : (scope : Option Term) →
         light (elim scope [ None ↦ own_argument c.in_signature | Some arguments ↦ indexed c.index (element arguments k) ]) (weight 0 None (elim scope [ None ↦ own_argument c.in_signature | Some arguments ↦ indexed c.index (element arguments k) ])) < 2 + scope_weight scope
     scoped None = own_weight c.in_signature
-    scoped (Some arguments) = omega (arith, light_less (indexed c.index (element arguments k)), indexed_weight c.index (element arguments k), element_weight arguments k)
+    scoped (Some arguments) = omega (arith, indexed_light c.index (element arguments k), light_less (element arguments k), element_weight arguments k)
 
 -- the name of a lambda's own parameter is texts
 name_falls : (r k : ℕ) (head : Term) → RanksBelow rank r (name_of_own k head)

@@ -6,11 +6,11 @@ use Rattle.std.proofs.lemmas.Bool.{false≢true, ltb-true}
 use Rattle.sym_print.specs.declared.detail.Detail.{Detail}
 use Rattle.sym_print.specs.Details.{has_arguments, has_parameters}
 use Rattle.sym_print.specs.Unfold.{PartOf, text, sub, RanksBelow}
-use Rattle.cpp_term.specs.Term.{Term, symbol, function, object, special, thunk, of_name, construction, clone, alone, in_std, within, instance, local, holder, tagged, of_default, abbreviation, parameter, source, constructor, destructor, inheriting, lambda, generic_lambda, conversion, sized_float, pointer, lvalue, rvalue, array, bounded, member_pointer, function_type, qualified, expansion, integer, operation, function_parameter, pack, nil, list, absent, enumeration, bindings}
+use Rattle.cpp_term.specs.Term.{Term, symbol, function, object, special, thunk, of_name, construction, clone, alone, in_std, within, instance, local, holder, tagged, of_default, abbreviation, parameter, source, constructor, destructor, inheriting, lambda, generic_lambda, conversion, sized_float, pointer, lvalue, rvalue, array, bounded, member_pointer, function_type, qualified, expansion, integer, operation, function_parameter, pack, nil, list, absent, enumeration, bindings, declaring}
 use Rattle.cpp_grammar.specs.Term.{Qualifiers, RefQualifier, Signed}
 use Rattle.cpp_term.specs.Scope.{element, pack_length, without_tags}
-use Rattle.cpp_term.specs.Items.{Context, Item, indexed, argument, head, packs_of, is_empty}
-use Rattle.cpp_grammar.specs.Items.{Form, root, full, bare, left, right, low, base, piece, first, more, expand, is_reference, is_funarr}
+use Rattle.cpp_term.specs.Items.{Context, Item, closed, indexed, argument, head, packs_of, is_empty}
+use Rattle.cpp_grammar.specs.Items.{Form, root, full, bare, left, right, low, base, piece, first, more, expand, declared, is_reference, is_funarr}
 use Rattle.cpp_term.specs.Parts.{as_item, says, text_part, list_part, piece_parts, prefix_item, before_piece, attached_parts, component_parts, within_parts, instance_parts, marked_parts, reference_parts, qualified_left, expansion_parts, sign_part, is_plain_integer, integer_parts, builtin_code, member_parts, array_left, entity_of, float_parts, precedence_of, operand_parts, operation_parts, left_parts, low_parts, function_right, closing_right, qualified_right, right_parts, base_within, base_tagged, base_parts, types_of, function_bare, function_full, full_parts, bare_parts, root_parts, first_parts, more_parts, at_index, comma_before, expand_rest, expand_parts, parts_in, not_empty, parts, own_piece}
 use Rattle.cpp_grammar.specs.Parts.{blank_last, qualifier_text, printed, ref_text, encoding_text, is_below}
 use Rattle.cpp_term.specs.Ranks.{pack_count, weight, weight_in, rank_in, rank}
@@ -70,20 +70,53 @@ unfolding weight indexed
 indexed_weight (Some i) (pack elements) = omega (arith, element_weight elements i)
 indexed_weight index t = omega arith
 
-argument_weight : (c : Context) (a : Term) → weight (argument c a) < 2 + weight a
+light_less : (t : Term) → light t (weight t) ≤ weight t
+unfolding light weight
+light_less (declaring heads parameters) = omega arith
+light_less _ = omega arith
+
+indexed_light : (index : Option ℕ) (t : Term) → light (indexed index t) (weight (indexed index t)) ≤ light t (weight t)
+unfolding light weight indexed
+indexed_light (Some i) (pack elements) = omega (arith, light_less (element elements i), element_weight elements i)
+indexed_light index t = omega arith
+
+argument_weight : (c : Context) (a : Term) → light (argument c a) (weight (argument c a)) < 2 + light a (weight a)
 unfolding argument
-argument_weight c a = omega (arith, indexed_weight c.index a)
+argument_weight c a = omega (arith, indexed_light c.index a)
+
+-- the name of a lambda's own parameter is texts
+name_falls : (r k : ℕ) (head : Term) → RanksBelow rank r (name_of_own k head)
+unfolding name_of_own
+name_falls r k absent = tt
+name_falls r k _ = tt
+
+own_falls : (r : ℕ) (form : Form) (k : ℕ) (head : Term) → RanksBelow rank r (own_name form k head)
+unfolding own_name
+own_falls r right k head = tt
+own_falls r form k head = name_falls r k head
+
+parameter_falls : (r : ℕ) (form : Form) (k : ℕ) (a : Term) → light a (weight a) < r → rank_in closed form a ≡ weight a → RanksBelow rank r (parameter_parts form k a)
+unfolding parameter_parts light rank
+parameter_falls r form k (declaring heads parameters) h is = own_falls r form k (element heads k)
+parameter_falls r form k a h is = (omega (arith, h, is), tt)
 
 -- ## Forms
 
 abbrev Below : ℕ → Context → Term → Type 0
 Below r c t = weight_in c t < r
 
+generic_falls : (r : ℕ) (c : Context) (parameters : Term) (number : ℕ) → weight parameters < r → RanksBelow rank r (generic_parts c parameters number)
+unfolding generic_parts rank rank_in weight_in weight
+generic_falls r c (declaring heads parameters) number h =
+    let own = reargued (Some (declaring heads parameters)) parameters in
+    (omega (arith, h, named_weight heads parameters heads), falls_append r (list_part first c own) _ (falls_first r c own (omega (arith, h, named_weight heads parameters parameters))) tt)
+generic_falls r c parameters number h = falls_append r (list_part first c parameters) _ (falls_first r c parameters h) tt
+
 piece_falls : (r : ℕ) (c : Context) (p : Term) → weight_in c p ≤ r → RanksBelow rank r (piece_parts c p)
 unfolding piece_parts rank rank_in weight_in weight
 piece_falls r c (source internal name) h = tt
 piece_falls r c (lambda parameters number) h = falls_append r (list_part first c parameters) _ (falls_first r c parameters (omega arith)) tt
-piece_falls r c (generic_lambda parameters number) h = falls_append r (list_part first c parameters) _ (falls_first r c parameters (omega arith)) tt
+piece_falls r c (generic_lambda parameters number) h = generic_falls r c parameters number (omega arith)
 piece_falls r c (bindings names) h = falls_append r (list_part first c names) _ (falls_first r c names (omega (arith, h))) tt
 piece_falls r c (conversion t) h = (omega (arith, h), (omega (arith, h), tt))
 piece_falls r c (enumeration t name) h = (omega (arith, h), (omega (arith, h), tt))
@@ -198,7 +231,7 @@ left_falls d c (alone p) = piece_falls _ c p (omega arith)
 left_falls d c (within prefix p) = within_falls _ c prefix p (omega arith) (omega arith)
 left_falls d c (instance t arguments) = instance_falls _ (has_arguments d) c t arguments (omega arith) (omega arith)
 left_falls d c (sized_float digits end) = float_falls _ digits end
-left_falls d c (parameter k a) = (argument_weight c a, tt)
+left_falls d c (parameter k a) = parameter_falls _ left k (argument c a) (argument_weight c a) refl
 left_falls d c (pointer t) = marked_falls _ c t "*" (omega arith)
 left_falls d c (lvalue t) = low_reference_falls _ c t "&" (omega arith)
 left_falls d c (rvalue t) = left_reference_falls _ c t "&&" (omega arith)
@@ -219,7 +252,7 @@ unfolding low_parts rank rank_in weight_in weight
 low_falls d c (lvalue t) = low_reference_falls _ c t "&" (omega arith)
 low_falls d c (rvalue t) = low_reference_falls _ c t "&" (omega arith)
 low_falls d c (qualified q t) = (omega arith, tt)
-low_falls d c (parameter k a) = (argument_weight c a, tt)
+low_falls d c (parameter k a) = parameter_falls _ low k (argument c a) (argument_weight c a) refl
 low_falls d c t = left_falls d c t
 
 function_right_falls : (r : ℕ) (c : Context) (q : List ℕ) (ref : RefQualifier) (noexcept : Bool) (returned parameters : Term) → Below r c returned → Below r c parameters →
@@ -250,7 +283,7 @@ right_falls c (array digits t) = falls_append _ (says "[" ∷ text_part digits) 
 right_falls c (bounded bound t) = (omega arith, (omega arith, tt))
 right_falls c (function_type c_linkage noexcept ref returned parameters) = function_right_falls _ c [] ref noexcept returned parameters (omega arith) (omega arith)
 right_falls c (qualified q t) = qualified_right_falls c q t
-right_falls c (parameter k a) = (argument_weight c a, tt)
+right_falls c (parameter k a) = parameter_falls _ right k (argument c a) (argument_weight c a) refl
 right_falls c _ = first_of (assumption tt, grind arith)
 
 base_within_falls : (r : ℕ) (c : Context) (prefix p : Term) → Below r c prefix → Below r c p → RanksBelow rank r (base_within c prefix p)
@@ -264,13 +297,6 @@ untagged_weight : (t : Term) → weight (without_tags t) ≤ weight t
 unfolding without_tags weight
 untagged_weight (tagged of_structor name tag) = omega (arith, untagged_weight name)
 untagged_weight _ = omega arith
-
-own_weight : (t : Term) → weight (own_piece t) ≤ weight t
-unfolding own_piece weight
-own_weight (alone p) = omega arith
-own_weight (in_std p) = omega arith
-own_weight (within prefix p) = omega arith
-own_weight _ = omega arith
 
 base_tagged_falls : (r : ℕ) (c : Context) (of_structor : Bool) (t : Term) → Below r c t → RanksBelow rank r (base_tagged c of_structor t)
 unfolding base_tagged rank rank_in weight_in
@@ -287,7 +313,7 @@ base_falls d c (local encoding entity discriminator) = (omega (arith, entity_wei
 base_falls d c (holder name) = (omega arith, tt)
 base_falls d c (tagged of_structor name tag) = base_tagged_falls _ c of_structor name (omega arith)
 base_falls d c (abbreviation letter) = tt
-base_falls d c (parameter k a) = (argument_weight c a, tt)
+base_falls d c (parameter k a) = parameter_falls _ base k (argument c a) (argument_weight c a) refl
 base_falls d c t = left_falls d c t
 
 bare_function_falls : (r : ℕ) (all : Bool) (name : Term) (q : Qualifiers) (ref : RefQualifier) (parameters : Term) → weight name < r → weight_in (types_of name) parameters < r →
@@ -373,6 +399,20 @@ expand_falls c t i =
     (falls_append _ (comma_before i) (as_item left (at_index i c) t ∷ as_item right (at_index i c) t ∷ []) (comma_falls _ i) (omega arith, (omega arith, tt)))
     (rest_falls c t i)
 
+next_falls : (r : ℕ) (c : Context) (t : Term) (i : ℕ) → weight_in c t < r → RanksBelow rank r (declared_rest c t i)
+unfolding declared_rest list_part rank rank_in
+next_falls r c t i h = falls_choice r (nat_lt (i + 1) (2 ^ 32)) _ _ (falls_declared t h) tt
+  where
+    falls_declared : (t : Term) → weight_in c t < r → RanksBelow rank r (list_part (declared (i + 1)) c t)
+    falls_declared nil h = tt
+    falls_declared _ h = (h, tt)
+
+declared_falls : (c : Context) (t : Term) (i : ℕ) → RanksBelow rank (rank_in c (declared i) t) (declared_parts c t i)
+unfolding declared_parts rank rank_in weight_in weight
+declared_falls c (list e rest) i =
+    falls_append _ (comma_before i) _ (comma_falls _ i) (falls_append _ (as_item left c e ∷ says " " ∷ text (front_of_name e) ∷ text (decimal i) ∷ []) _ (omega arith, tt) (next_falls _ c rest i (omega arith)))
+declared_falls c _ i = tt
+
 forms_fall : (d : Detail) (c : Context) (form : Form) (t : Term) → RanksBelow rank (rank_in c form t) (parts_in d c form t)
 unfolding parts_in rank_in
 forms_fall d c root t = root_falls c t
@@ -386,6 +426,7 @@ forms_fall d c piece t = piece_falls _ c t (omega arith)
 forms_fall d c first t = first_falls c t
 forms_fall d c more t = more_falls c t
 forms_fall d c (expand i) t = expand_falls c t i
+forms_fall d c (declared i) t = declared_falls c t i
 
 falls_not_empty : (r : ℕ) (ps : List (PartOf Item)) → RanksBelow rank r ps → RanksBelow rank r (not_empty ps)
 unfolding not_empty
