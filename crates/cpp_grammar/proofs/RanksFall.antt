@@ -70,6 +70,7 @@ weight_grows a b scope (lambda parameters number) h = omega (arith, weight_grows
 weight_grows a b scope (conversion t) h = omega (arith, weight_grows a b scope t h)
 weight_grows a b scope (enumeration t bytes) h = omega (arith, weight_grows a b scope t h)
 weight_grows a b scope (bindings names) h = omega (arith, weight_grows a b scope names h)
+weight_grows a b scope (declaring heads parameters) h = omega (arith, weight_grows a b scope heads h, weight_grows a b scope parameters h)
 weight_grows a b scope (constrained letter concept) h = omega (arith, weight_grows a b scope concept h)
 weight_grows a b scope (pointer t) h = omega (arith, weight_grows a b scope t h)
 weight_grows a b scope (lvalue t) h = omega (arith, weight_grows a b scope t h)

@@ -1,6 +1,6 @@
 -- What productions denote: parameters, encodings, references, signatures.
 use Rattle.std.specs.Prelude.{ℕ, List, [], ◌∷◌, Bool, true, false, cond, ◌||◌, ◌&&◌, nat_eq, Option, Some, None}
-use Rattle.cpp_grammar.specs.Term.{RefQualifier, Term, function, object, of_default, operator, lambda, generic_lambda, declaring, builtin, lvalue, rvalue, encoding_literal, address_of, operation, nil, list, absent}
+use Rattle.cpp_grammar.specs.Term.{RefQualifier, Term, function, object, of_default, operator, declaring, builtin, lvalue, rvalue, encoding_literal, address_of, operation, nil, list, absent}
 use Rattle.cpp_grammar.specs.Scope.{has_return_type}
 use Rattle.cpp_grammar.specs.Values.{Value, nothing_there, letter, text, tree, piece, named, pair, signature, tree_of, qualifiers_of, ref_of, normal}
 
@@ -23,10 +23,10 @@ unfoldable pub declared_first : Value → Value → Value
 declared_first head (pair letter first heads) = pair letter first (list (tree_of head) heads)
 declared_first head first = pair 84 (tree_of first) (list (tree_of head) nil)
 
--- A lambda with these parameters and this number. What is declared of its parameters is with the first of its types.
-unfoldable pub closure_of : (first : Value) → (parameters : Term) → (number : ℕ) → Term
-closure_of (pair letter first heads) parameters number = generic_lambda (declaring heads parameters) number
-closure_of first parameters number = lambda parameters number
+-- The signature of a lambda with these parameters. What is declared of its own parameters is with the first of its types.
+unfoldable pub signature_with : (first : Value) → (parameters : Term) → Term
+signature_with (pair letter first heads) parameters = declaring heads parameters
+signature_with first parameters = parameters
 
 -- an encoding without items is data; with items it's a function
 unfoldable pub encoding_of : Value → Term → Term

@@ -14,7 +14,7 @@ ghost use Rattle.cpp_layout.specs.Texts.{fixed_text};
 ghost use Rattle.cpp_layout.specs.declared.texts.TheConstants.{COUNT};
 ghost use Rattle.cpp_layout.specs.Layout.{table_of, context_of, form_of, Shows, printed_tree};
 
-use crate::context::{Context, Place};
+use crate::context::Context;
 use crate::numbered::builtin_with_d;
 use crate::symbol::Symbol;
 use crate::{form, texts};

@@ -6,7 +6,7 @@ ghost use Rattle.cpp_term.specs.Term.{Term};
 ghost use Rattle.cpp_term.specs.Values as values;
 ghost use Rattle.cpp_term.specs.Values.{tree_of, letter_of, is_there, text_of, part, prefix_tree, prefix_listed};
 ghost use Rattle.cpp_term.specs.Between.{applied, no_items, extended, inherited};
-ghost use Rattle.cpp_term.specs.Meaning.{is_void, is_nil, parameters, closure_of, declared_first, default_entity, discriminator_of, reference_to, listed_value, signature_or, operator_or_literal};
+ghost use Rattle.cpp_term.specs.Meaning.{is_void, is_nil, parameters, signature_with, declared_first, default_entity, discriminator_of, reference_to, listed_value, signature_or, operator_or_literal};
 ghost use Rattle.cpp_grammar.specs.Term.{any_value};
 ghost use Rattle.cpp_grammar.specs.Values.{unqualified, local_number};
 ghost use Rattle.cpp_tree.specs.Nodes as nodes;
@@ -266,7 +266,7 @@ impl Linked {
     pub fn lambda(&self, symbol: &[u8], parts: &[Part]) -> Outcome
         requires table { IsTable (over symbol.now self.now.nodes) }
         requires there { AreThere symbol.now (length self.now.nodes.nodes) parts.now }
-        ensures is { outcome_value symbol.now self.now.nodes result ≡ values.piece (closure_of (part (values_in symbol.now self.now.nodes parts.now) 0) (parameters (term.list (tree_of (part (values_in symbol.now self.now.nodes parts.now) 0)) (no_items (part (values_in symbol.now self.now.nodes parts.now) 1)))) (in_64_bits (local_number (text_of (part (values_in symbol.now self.now.nodes parts.now) 3))))) }
+        ensures is { outcome_value symbol.now self.now.nodes result ≡ values.piece (term.lambda (signature_with (part (values_in symbol.now self.now.nodes parts.now) 0) (parameters (term.list (tree_of (part (values_in symbol.now self.now.nodes parts.now) 0)) (no_items (part (values_in symbol.now self.now.nodes parts.now) 1))))) (in_64_bits (local_number (text_of (part (values_in symbol.now self.now.nodes parts.now) 3))))) }
         ensures there { IsOutcomeThere symbol.now (length self.now.nodes.thunks) (length self.now.nodes.nodes) result }
         ensures nodes { nodes_of_outcome result ≤ 2 }
         ensures makes { nodes_of_outcome result ≡ lambda_at_end (values_in symbol.now self.now.nodes parts.now) }
@@ -295,7 +295,7 @@ impl Linked {
         requires heads { heads < length self.now.nodes.nodes }
         requires first { first < length self.now.nodes.nodes }
         requires rest { rest < length self.now.nodes.nodes }
-        ensures is { outcome_value symbol.now self.now.nodes result ≡ values.piece (term.generic_lambda (term.declaring (tree_at (trees_in symbol.now self.now.nodes) heads) (parameters (term.list (tree_at (trees_in symbol.now self.now.nodes) first) (tree_at (trees_in symbol.now self.now.nodes) rest)))) number) }
+        ensures is { outcome_value symbol.now self.now.nodes result ≡ values.piece (term.lambda (term.declaring (tree_at (trees_in symbol.now self.now.nodes) heads) (parameters (term.list (tree_at (trees_in symbol.now self.now.nodes) first) (tree_at (trees_in symbol.now self.now.nodes) rest)))) number) }
         ensures there { IsOutcomeThere symbol.now (length self.now.nodes.thunks) (length self.now.nodes.nodes) result }
         ensures makes { nodes_of_outcome result ≡ (if is_void (tree_at (trees_in symbol.now self.now.nodes) first) && is_nil (tree_at (trees_in symbol.now self.now.nodes) rest) then 0 else 1) + 1 }
     {

@@ -1062,7 +1062,7 @@ pub(crate) const QUIET_PARTS: [u8; 268] = [
     5, // FoldOperatorL
     5, // OuterParameter
     5, // BoundedArray
-    5, // DeclaredFirst
+    0, // DeclaredFirst
     5, // DeclaredArgument
     1, // TypeTag
     5, // Clone

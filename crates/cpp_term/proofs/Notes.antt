@@ -1,7 +1,7 @@
 -- What annotating keeps.
 use Rattle.std.proofs.Common.{◌≡◌, refl, ap, sym, ◌∙◌, subst, nat_eq, max, not, cond, ℕ, zero, suc, Bool, true, false, ◌||◌, ◌&&◌, Option, Some, None}
 use Rattle.std.proofs.lemmas.Bool.{true≢false, eqb-true}
-use Rattle.cpp_grammar.specs.Term.{Term, alone, in_std, within, instance, local, holder, tagged, of_default, parameter, lambda, conversion, pointer, lvalue, rvalue, array, constrained, bounded, member_pointer, function_type, qualified, vector, complex, expansion, integer, pack, list, absent, decltype, inheriting, operation, enumeration, bindings}
+use Rattle.cpp_grammar.specs.Term.{Term, alone, in_std, within, instance, local, holder, tagged, of_default, parameter, lambda, conversion, pointer, lvalue, rvalue, array, constrained, bounded, member_pointer, function_type, qualified, vector, complex, expansion, integer, pack, list, absent, decltype, inheriting, operation, enumeration, bindings, declaring}
 use Rattle.cpp_grammar.specs.Scope.{count, element, is_alone, has_pack, arguments_of, is_open, Free, none_free, one_free, several_free, both_free, free_in, first_of, length_if_pack, pack_length}
 use Rattle.cpp_grammar.specs.Items.{Context, auto, indexed, argument, Head, lref, collapsed, head_with, head_closed, head, packs_of, is_none_of, is_empty}
 use Rattle.cpp_grammar.specs.References.{packs_in}
@@ -86,6 +86,7 @@ open_noted s (lambda parameters number) = open_noted s parameters
 open_noted s (conversion t) = open_noted s t
 open_noted s (enumeration t bytes) = open_noted s t
 open_noted s (bindings names) = open_noted s names
+open_noted s (declaring heads parameters) = both (λ x y. x || y) (open_noted s heads) (open_noted s parameters)
 open_noted s (constrained letter concept) = open_noted s concept
 open_noted s (pointer t) = open_noted s t
 open_noted s (lvalue t) = open_noted s t
@@ -130,6 +131,7 @@ closed_noted s r (lambda parameters number) e = ap (λ x. term_.lambda x number)
 closed_noted s r (conversion t) e = ap term_.conversion (closed_noted s r t e)
 closed_noted s r (enumeration t bytes) e = ap (λ x. term_.enumeration x bytes) (closed_noted s r t e)
 closed_noted s r (bindings names) e = ap term_.bindings (closed_noted s r names e)
+closed_noted s r (declaring heads parameters) e = both term_.declaring (closed_noted s r heads (or_left (is_open heads) (is_open parameters) e)) (closed_noted s r parameters (or_right (is_open heads) (is_open parameters) e))
 closed_noted s r (constrained letter concept) e = ap (term_.constrained letter) (closed_noted s r concept e)
 closed_noted s r (pointer t) e = ap term_.pointer (closed_noted s r t e)
 closed_noted s r (lvalue t) e = ap term_.lvalue (closed_noted s r t e)
@@ -201,6 +203,7 @@ renoted r s a (lambda parameters number) e = ap (λ x. term_.lambda x number) (r
 renoted r s a (conversion t) e = ap term_.conversion (renoted r s a t e)
 renoted r s a (enumeration t bytes) e = ap (λ x. term_.enumeration x bytes) (renoted r s a t e)
 renoted r s a (bindings names) e = ap term_.bindings (renoted r s a names e)
+renoted r s a (declaring heads parameters) e = both term_.declaring (renoted r s a heads (names_both r a (free_in heads) (free_in parameters) e).0) (renoted r s a parameters (names_both r a (free_in heads) (free_in parameters) e).1)
 renoted r s a (constrained letter concept) e = ap (term_.constrained letter) (renoted r s a concept e)
 renoted r s a (pointer t) e = ap term_.pointer (renoted r s a t e)
 renoted r s a (lvalue t) e = ap term_.lvalue (renoted r s a t e)
@@ -236,6 +239,7 @@ free_noted s (lambda parameters number) = free_noted s parameters
 free_noted s (conversion t) = free_noted s t
 free_noted s (enumeration t bytes) = free_noted s t
 free_noted s (bindings names) = free_noted s names
+free_noted s (declaring heads parameters) = both both_free (free_noted s heads) (free_noted s parameters)
 free_noted s (constrained letter concept) = free_noted s concept
 free_noted s (pointer t) = free_noted s t
 free_noted s (lvalue t) = free_noted s t
@@ -279,6 +283,7 @@ pack_none (lambda parameters number) = pack_none parameters
 pack_none (conversion t) = pack_none t
 pack_none (enumeration t bytes) = pack_none t
 pack_none (bindings names) = pack_none names
+pack_none (declaring heads parameters) = both first_of (pack_none heads) (pack_none parameters)
 pack_none (constrained letter concept) = pack_none concept
 pack_none (pointer t) = pack_none t
 pack_none (lvalue t) = pack_none t
@@ -314,6 +319,7 @@ pack_own (lambda parameters number) = pack_own parameters
 pack_own (conversion t) = pack_own t
 pack_own (enumeration t bytes) = pack_own t
 pack_own (bindings names) = pack_own names
+pack_own (declaring heads parameters) = both first_of (pack_own heads) (pack_own parameters)
 pack_own (constrained letter concept) = pack_own concept
 pack_own (pointer t) = pack_own t
 pack_own (lvalue t) = pack_own t
@@ -349,6 +355,7 @@ pack_some all (lambda parameters number) = pack_some all parameters
 pack_some all (conversion t) = pack_some all t
 pack_some all (enumeration t bytes) = pack_some all t
 pack_some all (bindings names) = pack_some all names
+pack_some all (declaring heads parameters) = both first_of (pack_some all heads) (pack_some all parameters)
 pack_some all (constrained letter concept) = pack_some all concept
 pack_some all (pointer t) = pack_some all t
 pack_some all (lvalue t) = pack_some all t

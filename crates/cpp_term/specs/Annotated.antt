@@ -65,7 +65,7 @@ annotate s string_literal = term_.string_literal
 annotate s (conversion t) = term_.conversion (annotate s t)
 annotate s (enumeration t bytes) = term_.enumeration (annotate s t) bytes
 annotate s (bindings names) = term_.bindings (annotate s names)
-annotate s (declaring heads parameters) = term_.declaring (annotate in_own heads) (annotate in_own parameters)
+annotate s (declaring heads parameters) = term_.declaring (annotate s heads) (annotate s parameters)
 annotate s (builtin code) = term_.builtin code
 annotate s (sized_float digits end) = term_.sized_float digits end
 annotate s (constrained letter concept) = term_.constrained letter (annotate s concept)
@@ -113,7 +113,7 @@ around_place own around = place_in around.scope (own && around.in_lambda)
 unfoldable pub place_within : Option Term → Signature → Place
 place_within None in_none = nowhere
 place_within None undeclared = in_own
-place_within None (declared_in heads parameters) = in_declared (annotate nowhere (declaring heads parameters))
+place_within None (declared_in heads parameters) = in_declared (annotate in_own (declaring heads parameters))
 place_within (Some arguments) signature = in_arguments (annotate nowhere arguments)
 
 -- and in what is printed
