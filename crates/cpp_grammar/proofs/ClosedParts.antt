@@ -252,6 +252,8 @@ wide_goes Production.Parameter around place (v ∷ []) state n at stays pre old 
 wide_goes Production.ParameterArgument around place (v ∷ []) state n at stays pre old all e = here_within Production.ParameterArgument around (place - 1) at state (index_of v) n pre e
 wide_goes Production.ParameterExpression around place (v ∷ []) state n at stays pre old all e =
     within true Production.ParameterExpression around at state n (argument_here_goes around (place - 1) at state (index_of v) n pre e)
+wide_goes Production.DeclaredFirst around place [] state n at stays pre old all e =
+    within true Production.DeclaredFirst around at state n (goes_to true around at state [] around state n tt (grows_same true around at state state refl) (fits_same true around pre) e)
 wide_goes Production.HeldArguments around place [] state n at stays pre old all e = within true Production.HeldArguments around at state n (base_goes around at state n pre e)
 wide_goes Production.Holder around place (v ∷ []) state n at stays pre old all e = within true Production.Holder around at state n (holder_goes around place at state n pre e)
 wide_goes Production.NamedModule around place (v ∷ []) state n at stays pre old all e =

@@ -178,6 +178,19 @@ module _ {q : Type 0} where
   good_signature_or s ref (letter b) g = g
   good_signature_or s ref v g = g
 
+  -- what a lambda declares of its parameters
+  good_declared : (s : Type 0) (head v : Value) → GoodIf q s (tree_of head) → GoodIf q s (held v) → GoodIf q s (held (declared_first head v))
+  unfolding declared_first held
+  good_declared s head (pair letter first heads) g h = good_list s first _ (good_first s first heads h) (good_list s (tree_of head) heads g (good_second s first heads h))
+  good_declared s head nothing_there g h = good_list s absent _ (good_nothing s) (good_list s (tree_of head) nil g (good_nil s))
+  good_declared s head v g h = good_list s (tree_of v) _ (good_tree s v h) (good_list s (tree_of head) nil g (good_nil s))
+
+  good_signature : (s : Type 0) (v : Value) (t : Term) → GoodIf q s (held v) → GoodIf q s t → GoodIf q s (signature_with v t)
+  unfolding signature_with held is_open
+  good_signature s (pair letter first heads) t g h = let b = good_second s first heads g in record { closed = λ c. or_no _ _ (b.closed c) (h.closed c); scopes = λ n. (b.scopes n, h.scopes n) }
+  good_signature s nothing_there t g h = h
+  good_signature s v t g h = h
+
   good_operator : (s : Type 0) (first : ℕ) (v : Value) → GoodIf q s (held v) → GoodIf q s (held (operator_or_literal first v))
   unfolding operator_or_literal held is_open
   good_operator s first (letter second) g = record { closed = λ h. refl; scopes = λ n. tt }
@@ -331,7 +344,9 @@ module _ {q : Type 0} where
       let e = good_part s vs 0 all in let g = good_part s vs 2 all in record { closed = g.closed; scopes = λ n. (e.scopes n, g.scopes n) }
   own_good s in_default most byte around vs other pre all = let g = good_part s vs 1 all in record { closed = g.closed; scopes = g.scopes }
   own_good s nest_end most byte around vs other pre all = good_prefix s around.prefix pre
-  own_good s closure most byte around vs other pre all = let g = good_parameters s _ (good_pair s vs 0 1 all) in record { closed = g.closed; scopes = g.scopes }
+  own_good s closure most byte around vs other pre all =
+      let g = good_signature s (part vs 0) _ (good_held s vs 0 all) (good_parameters s _ (good_pair s vs 0 1 all)) in record { closed = g.closed; scopes = g.scopes }
+  own_good s declared_before most byte around vs other pre all = good_declared s (part vs 0) (part vs 1) (good_part s vs 0 all) (good_held s vs 1 all)
   own_good s inheriting_ most byte around vs other pre all = good_inherited s around.prefix (letter_of (part vs 0)) (part vs 1) pre (good_held s vs 1 all)
   own_good s by_letters most byte around vs other pre all = good_by s byte (part vs 0) (good_held s vs 0 all)
   own_good s enclosed most byte around vs other pre all = good_argument s (part vs 0) (good_held s vs 0 all)

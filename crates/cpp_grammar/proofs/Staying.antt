@@ -318,6 +318,7 @@ between_stays Production.Parameter around place (v ∷ []) state n settled e = h
 between_stays Production.NestParameter around place (v ∷ []) state n settled e = here_stays around place (index_of v) state n settled e
 between_stays Production.ParameterArgument around place (v ∷ []) state n settled e = here_stays around (place - 1) (index_of v) state n settled e
 between_stays Production.ParameterExpression around place (v ∷ []) state n settled e = argument_stays around (place - 1) (index_of v) state n settled e
+between_stays Production.DeclaredFirst around place [] state n settled e = let clash : ◌≡◌ {A = Continuation} (Err (BadReference place)) (Ok n) = e in absurd cc
 between_stays Production.HeldArguments around place [] state n settled e = let clash : ◌≡◌ {A = Continuation} (Err (BadReference place)) (Ok n) = e in absurd cc
 between_stays Production.Holder around place (v ∷ []) state n settled e = let clash : ◌≡◌ {A = Continuation} (Err (BadReference place)) (Ok n) = e in absurd cc
 between_stays Production.NamedModule around place (v ∷ []) state n settled e = let clash : ◌≡◌ {A = Continuation} (Err (BadReference place)) (Ok n) = e in absurd cc

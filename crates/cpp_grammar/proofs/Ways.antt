@@ -45,6 +45,7 @@ differs Production.HeldArguments = true
 differs Production.Inheriting = true
 differs Production.Holder = true
 differs Production.NamedModule = true
+differs Production.DeclaredFirst = true
 differs _ = false
 
 -- the productions with parts in a signature: lambdas, what is declared of an argument, and constraints on arguments

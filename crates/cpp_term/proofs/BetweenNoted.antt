@@ -8,7 +8,7 @@ use Rattle.sym_link.specs.Unfold.{found}
 use Rattle.sym_core.specs.declared.NumberKind.TheVariants.{Decimal, Seq36}
 use Rattle.sym_core.specs.Value.{counted_value}
 use Rattle.cpp_grammar.specs.declared.production.Production.{Production}
-use Rattle.cpp_grammar.specs.Rescoping.{generic_number, generic_so_far, parameter_here, argument_here, lambda_with, as_generic_lambda, with_holder, is_instance, holder_so_far, named_by_both, module_of, module_named, module_so_far, numbered, counted_unless, counted_base, between_wide, close_wide}
+use Rattle.cpp_grammar.specs.Rescoping.{generic_number, generic_so_far, parameter_here, argument_here, is_declaring, lambda_with, as_generic_lambda, with_holder, is_instance, holder_so_far, named_by_both, module_of, module_named, module_so_far, numbered, counted_unless, counted_base, between_wide, close_wide}
 use Rattle.cpp_grammar.specs.Scope.{count, element, is_open, length_if_pack}
 use Rattle.cpp_grammar.specs.Term.{Term, list, holder, parameter}
 use Rattle.cpp_grammar.specs.Values as leaf_
@@ -36,7 +36,7 @@ use Rattle.cpp_term.specs.Unfolding as unfolded_
 use Rattle.cpp_term.specs.Rescoping as wide_
 use Rattle.cpp_term.specs.Annotated.{Place, nowhere, around_place, place_in, in_own, argument_in, annotate, noted_scope, noted_value, noted_values, noted_prefix, noted_around}
 use Rattle.cpp_term.proofs.Notes.{both, choose, choose_cond, open_noted, closed_noted}
-use Rattle.cpp_term.proofs.SeenNoted.{is_instance_noted}
+use Rattle.cpp_term.proofs.SeenNoted.{is_instance_noted, is_declaring_noted}
 use Rattle.cpp_term.proofs.MeaningNoted.{part_noted, tree_part, tree_noted, text_noted, text_part, prefix_tree_noted, prefix_listed_noted, Inside, lambda_noted, takes_encodings, is_of_none, made_inside, made_noted, listing_noted, listed_noted, meaning_noted}
 use Rattle.cpp_term.proofs.StatesNoted.{Alongside, IsOutside, Settled, own_place, Alike, alike_bind, Same, Moves, moves_none, one_moves, type_moves, unqualified_moves, prefix_moves, Comes, AreNoted, get_noted, module_noted, substituted_noted, both_named_noted, wide_numbered_noted, held_moves, more_moves, parameter_noted}
 
@@ -386,6 +386,7 @@ wide_between_noted Production.Parameter around place (v ∷ []) x y stays settle
 wide_between_noted Production.NestParameter around place (v ∷ []) x y stays settled same = here_goes around x y place v settled same.packs
 wide_between_noted Production.ParameterArgument around place (v ∷ []) x y stays settled same = here_goes around x y (place - 1) v settled same.packs
 wide_between_noted Production.ParameterExpression around place (v ∷ []) x y stays settled same = argument_here_goes around x y (place - 1) v settled same.packs
+wide_between_noted Production.DeclaredFirst around place [] x y stays settled same = same_goes true around x y [] same.packs
 wide_between_noted Production.HeldArguments around place [] x y stays settled same = base_goes around x y same.packs
 wide_between_noted Production.Holder around place (v ∷ []) x y stays settled same = holder_goes around x y place same.packs
 wide_between_noted Production.NamedModule around place (v ∷ []) x y stays settled same =
@@ -395,10 +396,15 @@ wide_between_noted Production.NamedModule around place (v ∷ []) x y stays sett
 wide_between_noted p around place vs x y stays settled same = between_noted true p around place vs x y stays same.packs
 
 -- the cases of a lambda are decided alike, and what is in its signature is under its own parameters
+second_no : (a b : Bool) → (a || b) ≡ false → b ≡ false
+second_no true b e = absurd (true≢false e)
+second_no false b e = e
+
 lambda_with_noted : (s : Place) (t : Term) (number : ℕ) → wide_.lambda_with (annotate in_own t) number ≡ annotate s (lambda_with t number)
 unfolding lambda_with wide_.lambda_with annotate
 lambda_with_noted s t number =
-    choose (λ a b. b ≡ annotate s a) (is_open t) (scope_.is_open (annotate in_own t)) _ _ _ _ (open_noted in_own t) (λ is. refl) (λ is. ap (λ u. term_.lambda u number) (closed_noted in_own s t is))
+    choose (λ a b. b ≡ annotate s a) (is_declaring t || is_open t) (wide_.is_declaring (annotate in_own t) || scope_.is_open (annotate in_own t)) _ _ _ _ (both (λ a b. a || b) (is_declaring_noted in_own t) (open_noted in_own t)) (λ is. refl)
+    (λ is. ap (λ u. term_.lambda u number) (closed_noted in_own s t (second_no (is_declaring t) (is_open t) is)))
 
 -- `meaning_noted` says it at the place of the values
 own_lambda : (s : Place) (byte : ℕ) (around : Around) (other : value_.Around) (vs : List Value) →
@@ -406,7 +412,7 @@ own_lambda : (s : Place) (byte : ℕ) (around : Around) (other : value_.Around) 
 unfolding as_generic_lambda wide_.as_generic_lambda meaning noted_.meaning noted_value annotate
 own_lambda s byte around other vs =
     ap wide_.as_generic_lambda (lambda_noted in_own vs)
-    ∙ ap value_.piece (lambda_with_noted s (parameters (list (tree_of (part vs 0)) (no_items (part vs 1)))) (local_number (text_of (part vs 3))))
+    ∙ ap value_.piece (lambda_with_noted s (signature_with (part vs 0) (parameters (list (tree_of (part vs 0)) (no_items (part vs 1))))) (local_number (text_of (part vs 3))))
 
 counted_moves : (around : Around) (v : Value) (x : State) (y : value_.State) → Alongside x y → Moves true around x y (counted_base around v x) (wide_.counted_base (noted_around true around) (noted_value (around_place true around) v) y)
 unfolding counted_base wide_.counted_base noted_value

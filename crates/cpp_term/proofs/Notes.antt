@@ -3,13 +3,14 @@ use Rattle.std.proofs.Common.{◌≡◌, refl, ap, sym, ◌∙◌, subst, nat_eq
 use Rattle.std.proofs.lemmas.Bool.{true≢false, eqb-true}
 use Rattle.cpp_grammar.specs.Term.{Term, alone, in_std, within, instance, local, holder, tagged, of_default, parameter, lambda, conversion, pointer, lvalue, rvalue, array, constrained, bounded, member_pointer, function_type, qualified, vector, complex, expansion, integer, pack, list, absent, decltype, inheriting, operation, enumeration, bindings, declaring}
 use Rattle.cpp_grammar.specs.Scope.{count, element, is_alone, has_pack, arguments_of, is_open, Free, none_free, one_free, several_free, both_free, free_in, first_of, length_if_pack, pack_length}
-use Rattle.cpp_grammar.specs.Items.{Context, auto, indexed, argument, Head, lref, collapsed, head_with, head_closed, head, packs_of, is_none_of, is_empty}
+use Rattle.cpp_grammar.specs.Items.{Signature, in_none, undeclared, declared_in, Context, auto, indexed, own_argument, argument, Head, lref, collapsed, head_with, head_closed, head, packs_of, is_none_of, is_empty}
 use Rattle.cpp_grammar.specs.References.{packs_in}
 use Rattle.cpp_term.specs.Term as term_
 use Rattle.cpp_term.specs.Scope as scope_
 use Rattle.cpp_term.specs.Items as item_
-use Rattle.cpp_term.specs.Reargued.{given_for, argument_or, reargued}
-use Rattle.cpp_term.specs.Annotated.{Place, nowhere, in_arguments, in_own, place_of, place_in, argument_in, annotate, noted_scope, context_place, noted_context}
+use Rattle.cpp_term.specs.Reargued.{given_for, argument_or, reargued, bare}
+use Rattle.cpp_term.proofs.Reargued.{pack_reargued}
+use Rattle.cpp_term.specs.Annotated.{Place, nowhere, in_arguments, in_own, in_declared, place_of, place_in, place_within, argument_in, annotate, noted_scope, context_place, noted_context}
 
 pub both : {A B C : Type 0} (f : A → B → C) {a b : A} {c d : B} → a ≡ b → c ≡ d → f a c ≡ f b d
 both f {a} {b} {c} {d} e g = ap (λ x. f x c) e ∙ ap (f b) g
@@ -380,13 +381,38 @@ packs_noted None true t = pack_own t
 packs_noted None false t = pack_none t
 packs_noted (Some arguments) in_signature t = pack_some arguments t
 
+-- a signature that declares parameters is what each of them is given
+pub declared_noted : (heads parameters t : Term) → reargued (Some (annotate in_own (declaring heads parameters))) (annotate in_own t) ≡ annotate (in_declared (annotate in_own (declaring heads parameters))) t
+unfolding annotate argument_in given_for
+declared_noted heads parameters t = renoted (in_declared s) in_own s t (names (free_in t))
+  where
+    s : term_.Term
+    s = term_.declaring (annotate in_own heads) (annotate in_own parameters)
+
+    names : (x : Free) → NameThis (in_declared s) s x
+    names none_free = tt
+    names (one_free k) = refl
+    names (several_free m) = λ k. refl
+
+cond_none : (b : Bool) → cond b None None ≡ None {A = ℕ}
+cond_none true = refl
+cond_none false = refl
+
+-- it is no pack
+packs_within : (s : Signature) (t : Term) → scope_.pack_length (annotate (place_within None s) t) ≡ None
+unfolding place_within annotate scope_.length_if_pack
+packs_within in_none t = pack_none t
+packs_within undeclared t = pack_own t
+packs_within (declared_in heads parameters) t =
+    ap scope_.pack_length (sym (declared_noted heads parameters t)) ∙ pack_reargued (annotate in_own (declaring heads parameters)) (annotate in_own t) ∙ cond_none (bare (annotate in_own t))
+
 pub packs_of_noted : (c : Context) (t : Term) → item_.packs_of (noted_context c) (annotate (context_place c) t) ≡ packs_of c t
 unfolding packs_of item_.packs_of packs_in
 packs_of_noted c t = go c.scope
   where
-    go : (o : Option Term) → scope_.pack_length (annotate (place_in o c.in_signature) t) ≡ elim o [ None ↦ None | Some arguments ↦ pack_length arguments t ]
-    go None = packs_noted None c.in_signature t
-    go (Some arguments) = packs_noted (Some arguments) c.in_signature t
+    go : (o : Option Term) → scope_.pack_length (annotate (place_within o c.in_signature) t) ≡ elim o [ None ↦ None | Some arguments ↦ pack_length arguments t ]
+    go None = packs_within c.in_signature t
+    go (Some arguments) = pack_some arguments t
 
 -- ## Arguments and heads
 
@@ -396,22 +422,9 @@ indexed_noted s None t = refl
 indexed_noted s (Some i) (pack elements) = element_noted s elements i
 indexed_noted s (Some i) _ = refl
 
-pub argument_noted : (c : Context) (k : ℕ) → item_.argument (noted_context c) (argument_in (context_place c) k) ≡ annotate nowhere (argument c k)
-unfolding item_.argument argument argument_in noted_context place_in indexed item_.indexed annotate
-argument_noted c k = go c.scope
-  where
-    none : (index : Option ℕ) (b : Bool) → item_.indexed index (argument_in (place_in None b) k) ≡ annotate nowhere (elim b [ true ↦ auto | false ↦ absent ])
-    none None true = refl
-    none (Some i) true = refl
-    none None false = refl
-    none (Some i) false = refl
-
-    go : (o : Option Term) → item_.indexed c.index (argument_in (place_in o c.in_signature) k) ≡ annotate nowhere (elim o [
-      | None ↦ elim c.in_signature [ true ↦ auto | false ↦ absent ]
-      | Some arguments ↦ indexed c.index (element arguments k)
-    ])
-    go None = none c.index c.in_signature
-    go (Some arguments) = ap (item_.indexed c.index) (element_noted nowhere arguments k) ∙ indexed_noted nowhere c.index (element arguments k)
+-- under a scope
+pub argument_noted : (index : Option ℕ) (arguments : Term) (k : ℕ) → item_.indexed index (scope_.element (annotate nowhere arguments) k) ≡ annotate nowhere (indexed index (element arguments k))
+argument_noted index arguments k = ap (item_.indexed index) (element_noted nowhere arguments k) ∙ indexed_noted nowhere index (element arguments k)
 
 collapsed_twice : (h : Head) → collapsed h ≡ collapsed (collapsed h)
 unfolding collapsed
@@ -457,17 +470,18 @@ parameter_head None k t = closed_head None t
 parameter_head (Some i) k t = closed_head (Some i) t
 
 head_named : (c : Context) (k : ℕ) → item_.head_of_class c.index (item_.class_of (term_.parameter k (argument_in (context_place c) k))) ≡ head_closed (argument c k)
-unfolding argument indexed argument_in annotate place_in
+unfolding argument indexed argument_in annotate place_within own_argument item_.class_of item_.head_of_class head_closed head_with
 head_named c k = go c.scope
   where
-    none : (index : Option ℕ) (b : Bool) → item_.head_of_class index (item_.class_of (term_.parameter k (argument_in (place_in None b) k))) ≡ head_closed (elim b [ true ↦ auto | false ↦ absent ])
-    none None true = parameter_head None k auto
-    none (Some i) true = parameter_head (Some i) k auto
-    none None false = parameter_head None k absent
-    none (Some i) false = parameter_head (Some i) k absent
+    none : (index : Option ℕ) (s : Signature) → item_.head_of_class index (item_.class_of (term_.parameter k (argument_in (place_within None s) k))) ≡ head_closed (own_argument s)
+    none None undeclared = parameter_head None k auto
+    none (Some i) undeclared = parameter_head (Some i) k auto
+    none None in_none = parameter_head None k absent
+    none (Some i) in_none = parameter_head (Some i) k absent
+    none index (declared_in heads parameters) = refl
 
-    go : (o : Option Term) → item_.head_of_class c.index (item_.class_of (term_.parameter k (argument_in (place_in o c.in_signature) k))) ≡ head_closed (elim o [
-      | None ↦ elim c.in_signature [ true ↦ auto | false ↦ absent ]
+    go : (o : Option Term) → item_.head_of_class c.index (item_.class_of (term_.parameter k (argument_in (place_within o c.in_signature) k))) ≡ head_closed (elim o [
+      | None ↦ own_argument c.in_signature
       | Some arguments ↦ indexed c.index (element arguments k)
     ])
     go None = none c.index c.in_signature

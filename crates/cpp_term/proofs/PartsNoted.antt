@@ -1,22 +1,23 @@
 -- The parts of an annotated item are those of the item.
-use Rattle.std.proofs.Common.{◌≡◌, refl, ap, sym, ◌∙◌, ℕ, zero, suc, ◌+◌, List, [], ◌∷◌, ◌++◌, Bool, true, false, cond, nat_eq, nat_le, Option, Some, None, codes}
+use Rattle.std.proofs.Common.{◌≡◌, refl, ap, sym, ◌∙◌, ℕ, zero, suc, ◌+◌, List, [], ◌∷◌, ◌++◌, Bool, true, false, cond, nat_eq, nat_le, Option, Some, None, codes, decimal, nat_lt, ◌^◌}
 use Prim.Native.String.{String}
 use Rattle.sym_print.specs.declared.detail.Detail.{Detail}
 use Rattle.sym_print.specs.Details.{has_arguments, has_parameters}
 use Rattle.sym_print.specs.Unfold.{PartOf, text, sub}
-use Rattle.cpp_grammar.specs.Term.{Qualifiers, RefQualifier, any_value, lvalue_only, rvalue_only, explicit_object, Signed, Term, symbol, function, object, of_name, alone, in_std, within, instance, local, holder, tagged, of_default, abbreviation, parameter, source, constructor, destructor, inheriting, lambda, generic_lambda, bindings, builtin, sized_float, pointer, lvalue, rvalue, array, bounded, member_pointer, function_type, qualified, expansion, integer, operation, function_parameter, pack, nil, list, absent}
-use Rattle.cpp_grammar.specs.Scope.{arguments_of, without_tags}
-use Rattle.cpp_grammar.specs.Items.{Form, root, full, bare, left, right, low, base, piece, first, more, expand, Context, signature_in, Item, closed, argument, head, is_reference, is_funarr, packs_of, is_empty}
+use Rattle.cpp_grammar.specs.Term.{Qualifiers, RefQualifier, any_value, lvalue_only, rvalue_only, explicit_object, Signed, Term, symbol, function, object, of_name, alone, in_std, within, instance, local, holder, tagged, of_default, abbreviation, parameter, source, constructor, destructor, inheriting, lambda, generic_lambda, bindings, builtin, sized_float, pointer, lvalue, rvalue, array, bounded, member_pointer, function_type, qualified, expansion, integer, operation, function_parameter, pack, nil, list, absent, declaring}
+use Rattle.cpp_grammar.specs.Scope.{element, arguments_of, without_tags}
+use Rattle.cpp_grammar.specs.Items.{Form, root, full, bare, left, right, low, base, piece, first, more, expand, declared, Signature, in_none, undeclared, declared_in, signature_of, indexed, own_argument, Context, signature_in, Item, closed, argument, head, is_reference, is_funarr, packs_of, is_empty}
 use Rattle.cpp_grammar.specs.Parts as leaf_
-use Rattle.cpp_grammar.specs.Parts.{qualifier_text, ref_text, blank_last, encoding_text, is_below}
+use Rattle.cpp_grammar.specs.Parts.{letter_name, qualifier_text, ref_text, blank_last, encoding_text, is_below}
 use Rattle.cpp_grammar.specs.declared.operand.Operand.{Operand}
 use Rattle.cpp_grammar.specs.Operations.{Operation}
 use Rattle.cpp_grammar.specs.Texts.{look_up, named_special_texts, literal_endings}
 use Rattle.cpp_term.specs.Items as item_
 use Rattle.cpp_term.specs.Scope as scope_
 use Rattle.cpp_term.specs.Parts as part_
-use Rattle.cpp_term.specs.Annotated.{Place, nowhere, place_of, place_in, context_place, argument_in, annotate, noted_scope, noted_context, noted_item, noted_part, noted_parts}
-use Rattle.cpp_term.proofs.Notes.{both, choose, choose_cond, types_place, argument_noted, packs_of_noted, head_noted, empty_noted}
+use Rattle.cpp_term.specs.Reargued.{reargued}
+use Rattle.cpp_term.specs.Annotated.{Place, nowhere, in_own, place_of, place_in, place_within, context_place, argument_in, annotate, noted_scope, noted_context, noted_item, noted_part, noted_parts}
+use Rattle.cpp_term.proofs.Notes.{both, choose, choose_cond, types_place, element_noted, declared_noted, argument_noted, packs_of_noted, head_noted, empty_noted}
 use Rattle.cpp_term.proofs.SeenNoted.{opening_text_noted, precedence_of_noted}
 
 noted_append : (xs ys : List (PartOf Item)) → noted_parts (xs ++ ys) ≡ noted_parts xs ++ noted_parts ys
@@ -46,12 +47,51 @@ unfolding part_.list_part leaf_.list_part annotate noted_parts noted_part noted_
 list_noted form c nil = refl
 list_noted form c _ = refl
 
+generic_noted : (c : Context) (parameters : Term) (number : ℕ) → part_.generic_parts (noted_context c) (annotate in_own parameters) number ≡ noted_parts (leaf_.generic_parts (signature_in c parameters) parameters number)
+unfolding part_.generic_parts leaf_.generic_parts annotate noted_parts noted_part noted_item noted_context place_within signature_of
+generic_noted c (declaring heads parameters) number =
+    let own = signature_in c (declaring heads parameters) in
+    both (λ h ps. text (codes "{lambda<") ∷ part_.as_item (declared 0) (noted_context c) h ∷ text (codes ">(") ∷ ps) (declared_noted heads parameters heads)
+    (joins (leaf_.list_part first own parameters) _ (part_.list_part first (noted_context c) (reargued (Some (annotate in_own (declaring heads parameters))) (annotate in_own parameters))) _
+    (ap (part_.list_part first (noted_context c)) (declared_noted heads parameters parameters) ∙ list_noted first own parameters) refl)
+generic_noted c parameters number = ap (λ ps. text (codes "{lambda(") ∷ ps)
+    (joins (leaf_.list_part first (signature_in c parameters) parameters) _ (part_.list_part first (noted_context c) (annotate (at (signature_in c parameters)) parameters)) _ (list_noted first (signature_in c parameters) parameters) refl)
+
+-- ## Parameters that a lambda declares
+
+letter_noted : (s : Place) (t : Term) → part_.declared_letter (annotate s t) ≡ leaf_.declared_letter t
+unfolding part_.declared_letter leaf_.declared_letter annotate
+letter_noted s (operation a b x y) = refl
+letter_noted s _ = refl
+
+front_noted : (s : Place) (t : Term) → part_.front_of_name (annotate s t) ≡ leaf_.front_of_name t
+unfolding part_.front_of_name leaf_.front_of_name annotate
+front_noted s (operation a b x y) = ap (λ l. cond (nat_eq b 112) (letter_name l) (letter_name b)) (letter_noted s x)
+front_noted s _ = refl
+
+name_noted : (s : Place) (k : ℕ) (t : Term) → part_.name_of_own k (annotate s t) ≡ noted_parts (leaf_.name_of_own k t)
+unfolding part_.name_of_own leaf_.name_of_own annotate noted_parts noted_part
+name_noted s k absent = refl
+name_noted s k t = ap (λ b. text b ∷ text (decimal k) ∷ []) (front_noted s t)
+
+own_name_noted : (s : Place) (form : Form) (k : ℕ) (t : Term) → part_.own_name form k (annotate s t) ≡ noted_parts (leaf_.own_name form k t)
+unfolding part_.own_name leaf_.own_name noted_parts
+own_name_noted s right k t = refl
+own_name_noted s form k t = name_noted s k t
+
+declaring_noted : (s : Place) (form : Form) (k : ℕ) (heads : Term) → part_.own_name form k (scope_.element (annotate s heads) k) ≡ noted_parts (leaf_.own_name form k (element heads k))
+declaring_noted s form k heads = ap (part_.own_name form k) (element_noted s heads k) ∙ own_name_noted s form k (element heads k)
+
+parameter_noted : (form : Form) (k : ℕ) (a : Term) → part_.parameter_parts form k (annotate nowhere a) ≡ noted_parts (leaf_.parameter_parts form k a)
+unfolding part_.parameter_parts leaf_.parameter_parts annotate noted_parts noted_part noted_item noted_context place_within
+parameter_noted form k (declaring heads parameters) = declaring_noted nowhere form k heads
+parameter_noted form k _ = refl
+
 piece_noted : (c : Context) (t : Term) → part_.piece_parts (noted_context c) (annotate (at c) t) ≡ noted_parts (leaf_.piece_parts c t)
 unfolding part_.piece_parts leaf_.piece_parts annotate noted_parts noted_part noted_item noted_context place_in
 piece_noted c (lambda parameters number) = ap (λ ps. text (codes "{lambda(") ∷ ps)
     (joins (leaf_.list_part first c parameters) _ (part_.list_part first (noted_context c) (annotate (at c) parameters)) _ (list_noted first c parameters) refl)
-piece_noted c (generic_lambda parameters number) = ap (λ ps. text (codes "{lambda(") ∷ ps)
-    (joins (leaf_.list_part first (signature_in c) parameters) _ (part_.list_part first (noted_context (signature_in c)) (annotate (at (signature_in c)) parameters)) _ (list_noted first (signature_in c) parameters) refl)
+piece_noted c (generic_lambda parameters number) = generic_noted c parameters number
 piece_noted c (bindings names) = ap (λ ps. text (codes "[") ∷ ps)
     (joins (leaf_.list_part first c names) _ (part_.list_part first (noted_context c) (annotate (at c) names)) _ (list_noted first c names) refl)
 piece_noted c (source internal bytes) = refl
@@ -170,9 +210,22 @@ array_noted : (c : Context) (t : Term) → part_.array_left (noted_context c) (a
 unfolding part_.array_left leaf_.array_left noted_parts noted_part noted_item
 array_noted c t = choice (is_funarr (head c t)) (is_funarr (item_.head (noted_context c) (annotate (at c) t))) _ _ _ _ (ap is_funarr (head_noted c t)) refl refl
 
-named_noted : (c : Context) (form : Form) (k : ℕ) → (part_.as_item form item_.closed (item_.argument (noted_context c) (argument_in (at c) k)) ∷ []) ≡ noted_parts (leaf_.as_item form closed (argument c k) ∷ [])
-unfolding noted_parts noted_part noted_item noted_context noted_scope place_in place_of
-named_noted c form k = ap (λ t. part_.as_item form item_.closed t ∷ []) (argument_noted c k)
+named_noted : (c : Context) (form : Form) (k : ℕ) → part_.parameter_parts form k (item_.argument (noted_context c) (argument_in (at c) k)) ≡ noted_parts (leaf_.parameter_parts form k (argument c k))
+unfolding part_.parameter_parts leaf_.parameter_parts item_.argument item_.indexed argument own_argument argument_in annotate noted_parts noted_part noted_item noted_context place_within
+named_noted c form k = go c.scope
+  where
+    none : (index : Option ℕ) (s : Signature) → part_.parameter_parts form k (item_.indexed index (argument_in (place_within None s) k)) ≡ noted_parts (leaf_.parameter_parts form k (own_argument s))
+    none None in_none = refl
+    none (Some i) in_none = refl
+    none None undeclared = refl
+    none (Some i) undeclared = refl
+    none None (declared_in heads parameters) = declaring_noted in_own form k heads
+    none (Some i) (declared_in heads parameters) = declaring_noted in_own form k heads
+
+    go : (o : Option Term) → part_.parameter_parts form k (item_.indexed c.index (argument_in (place_within o c.in_signature) k))
+        ≡ noted_parts (leaf_.parameter_parts form k (elim o [ None ↦ own_argument c.in_signature | Some arguments ↦ indexed c.index (element arguments k) ]))
+    go None = none c.index c.in_signature
+    go (Some arguments) = ap (part_.parameter_parts form k) (argument_noted c.index arguments k) ∙ parameter_noted form k (indexed c.index (element arguments k))
 
 float_noted : (digits : List ℕ) (end : ℕ) → part_.float_parts digits end ≡ noted_parts (leaf_.float_parts digits end)
 unfolding part_.float_parts leaf_.float_parts noted_parts noted_part
@@ -390,6 +443,18 @@ expand_noted c t i =
 
 -- ## All forms
 
+next_noted : (c : Context) (t : Term) (i : ℕ) → part_.declared_rest (noted_context c) (annotate (at c) t) i ≡ noted_parts (leaf_.declared_rest c t i)
+unfolding part_.declared_rest leaf_.declared_rest noted_parts
+next_noted c t i = choice (nat_lt (i + 1) (2 ^ 32)) (nat_lt (i + 1) (2 ^ 32)) _ [] _ [] refl (list_noted (declared (i + 1)) c t) refl
+
+declarations_noted : (c : Context) (t : Term) (i : ℕ) → part_.declared_parts (noted_context c) (annotate (at c) t) i ≡ noted_parts (leaf_.declared_parts c t i)
+unfolding part_.declared_parts leaf_.declared_parts annotate noted_parts noted_part noted_item
+declarations_noted c (list e rest) i =
+    joins (leaf_.comma_before i) _ (part_.comma_before i) _ (comma_noted i)
+    (joins (leaf_.as_item left c e ∷ leaf_.says " " ∷ text (leaf_.front_of_name e) ∷ text (decimal i) ∷ []) (leaf_.declared_rest c rest i) _ (part_.declared_rest (noted_context c) (annotate (at c) rest) i)
+    (ap (λ b. part_.as_item left (noted_context c) (annotate (at c) e) ∷ part_.says " " ∷ text b ∷ text (decimal i) ∷ []) (front_noted (at c) e)) (next_noted c rest i))
+declarations_noted c _ i = refl
+
 in_noted : (d : Detail) (c : Context) (form : Form) (t : Term) → part_.parts_in d (noted_context c) form (annotate (at c) t) ≡ noted_parts (leaf_.parts_in d c form t)
 unfolding part_.parts_in leaf_.parts_in
 in_noted d c root t = root_noted (at c) t
@@ -403,6 +468,7 @@ in_noted d c piece t = piece_noted c t
 in_noted d c first t = first_noted c t
 in_noted d c more t = more_noted c t
 in_noted d c (expand i) t = expand_noted c t i
+in_noted d c (declared i) t = declarations_noted c t i
 
 kept_noted : (ps : List (PartOf Item)) → part_.not_empty (noted_parts ps) ≡ noted_parts (leaf_.not_empty ps)
 unfolding part_.not_empty leaf_.not_empty noted_parts noted_part

@@ -18,6 +18,8 @@ use Rattle.cpp_grammar.specs.Ranks.{or_none}
 use Rattle.cpp_grammar.specs.declared.operand.Operand.{Operand}
 use Rattle.cpp_grammar.specs.Operations.{Operation}
 use Rattle.cpp_grammar.specs.Texts.{look_up, literal_endings}
+use Rattle.cpp_term.specs.Reargued.{reargued}
+use Rattle.cpp_term.proofs.NamedWeight.{named_weight}
 
 -- ## Lists of parts
 
