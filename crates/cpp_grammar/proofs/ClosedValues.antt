@@ -181,13 +181,13 @@ module _ {q : Type 0} where
   -- what a lambda declares of its parameters
   good_declared : (s : Type 0) (head v : Value) → GoodIf q s (tree_of head) → GoodIf q s (held v) → GoodIf q s (held (declared_first head v))
   unfolding declared_first held
-  good_declared s head (pair letter first heads) g h = good_list s first _ (good_first s first heads h) (good_list s (tree_of head) heads g (good_second s first heads h))
+  good_declared s head (pair key first heads) g h = good_list s first _ (good_first s first heads h) (good_list s (tree_of head) heads g (good_second s first heads h))
   good_declared s head nothing_there g h = good_list s absent _ (good_nothing s) (good_list s (tree_of head) nil g (good_nil s))
   good_declared s head v g h = good_list s (tree_of v) _ (good_tree s v h) (good_list s (tree_of head) nil g (good_nil s))
 
   good_signature : (s : Type 0) (v : Value) (t : Term) → GoodIf q s (held v) → GoodIf q s t → GoodIf q s (signature_with v t)
   unfolding signature_with held is_open
-  good_signature s (pair letter first heads) t g h = let b = good_second s first heads g in record { closed = λ c. or_no _ _ (b.closed c) (h.closed c); scopes = λ n. (b.scopes n, h.scopes n) }
+  good_signature s (pair key first heads) t g h = let b = good_second s first heads g in record { closed = λ c. or_no _ _ (b.closed c) (h.closed c); scopes = λ n. (b.scopes n, h.scopes n) }
   good_signature s nothing_there t g h = h
   good_signature s v t g h = h
 

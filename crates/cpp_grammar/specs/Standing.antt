@@ -20,12 +20,12 @@ parameters t = t
 -- What is declared of one more of a lambda's parameters, before its first type: of the first value it is the tree, and the second is that type, or
 -- that type and a list of what is declared of the others.
 unfoldable pub declared_first : Value → Value → Value
-declared_first head (pair letter first heads) = pair letter first (list (tree_of head) heads)
+declared_first head (pair key first heads) = pair key first (list (tree_of head) heads)
 declared_first head first = pair 84 (tree_of first) (list (tree_of head) nil)
 
 -- The signature of a lambda with these parameters. What is declared of its own parameters is with the first of its types.
 unfoldable pub signature_with : (first : Value) → (parameters : Term) → Term
-signature_with (pair letter first heads) parameters = declaring heads parameters
+signature_with (pair key first heads) parameters = declaring heads parameters
 signature_with first parameters = parameters
 
 -- an encoding without items is data; with items it's a function
