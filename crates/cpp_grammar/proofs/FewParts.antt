@@ -1,5 +1,5 @@
 -- Each item has at most eight parts.
-use Rattle.std.specs.Prelude.{◌≡◌, refl, ℕ, zero, suc, ◌+◌, ◌≤◌, length, List, [], ◌∷◌, ◌++◌, Bool, true, false, ◌&&◌, cond, nat_eq, nat_le, Option, Some, None, codes, decimal}
+use Rattle.std.specs.Prelude.{◌≡◌, refl, ℕ, zero, suc, ◌+◌, ◌^◌, ◌≤◌, length, List, [], ◌∷◌, ◌++◌, Bool, true, false, ◌&&◌, cond, nat_eq, nat_le, nat_lt, Option, Some, None, codes, decimal}
 use Prim.Native.String.{String}
 use Rattle.std.proofs.Common.{arith}
 use Rattle.std.proofs.lemmas.List.{length-append}
@@ -8,8 +8,8 @@ use Rattle.sym_print.specs.Details.{has_arguments, has_parameters}
 use Rattle.sym_print.specs.Unfold.{PartOf, text, sub}
 use Rattle.cpp_grammar.specs.Term.{Qualifiers, RefQualifier, Signed, Term, symbol, function, object, of_name, alone, in_std, within, instance, local, holder, tagged, abbreviation, parameter, source, constructor, destructor, inheriting, lambda, generic_lambda, bindings, declaring, sized_float, pointer, lvalue, rvalue, array, bounded, member_pointer, function_type, qualified, expansion, integer, operation, function_parameter, pack, nil, list, absent}
 use Rattle.cpp_grammar.specs.Items.{Form, root, full, bare, left, right, low, base, piece, first, more, expand, declared, Context, Item, closed, signature_in, argument, head, is_reference, is_funarr, packs_of, is_empty}
-use Rattle.cpp_grammar.specs.Parts.{as_item, begins_parameters, says, text_part, list_part, piece_parts, before_piece, attached_parts, component_parts, within_parts, last_piece, opening_text, instance_parts, marked_parts, reference_parts, qualified_left, blank_last, qualifier_text, expansion_parts, sign_part, is_plain_integer, integer_parts, builtin_code, member_parts, array_left, float_parts, no_operation, precedence_of, operand_parts, operation_parts, printed, left_parts, low_parts, function_right, ref_text, closing_right, qualified_right, right_parts, base_within, base_tagged, base_parts, types_of, encoding_text, function_bare, function_full, full_parts, bare_parts, root_parts, first_parts, more_parts, at_index, is_below, comma_before, expand_rest, expand_parts, parts_in, not_empty, parts, own_piece, most_parts, most_of}
-use Rattle.cpp_grammar.specs.Scope.{without_tags}
+use Rattle.cpp_grammar.specs.Parts.{as_item, begins_parameters, says, text_part, list_part, piece_parts, before_piece, attached_parts, component_parts, within_parts, last_piece, opening_text, instance_parts, marked_parts, reference_parts, qualified_left, blank_last, qualifier_text, expansion_parts, sign_part, is_plain_integer, integer_parts, builtin_code, member_parts, array_left, float_parts, no_operation, precedence_of, operand_parts, operation_parts, printed, left_parts, low_parts, function_right, ref_text, closing_right, qualified_right, right_parts, base_within, base_tagged, base_parts, types_of, encoding_text, function_bare, function_full, full_parts, bare_parts, root_parts, first_parts, more_parts, at_index, is_below, comma_before, expand_rest, expand_parts, parts_in, not_empty, parts, own_piece, most_parts, most_of, generic_parts, name_of_own, own_name, parameter_parts, declared_rest, declared_parts, front_of_name}
+use Rattle.cpp_grammar.specs.Scope.{element, without_tags}
 use Rattle.std.proofs.lemmas.Bool.{leb-true}
 use Rattle.cpp_grammar.specs.declared.operand.Operand.{Operand}
 use Rattle.cpp_grammar.specs.Operations.{Operation, operations, operation_of_code}
@@ -325,7 +325,8 @@ next_few c t i = choice_few 1 (nat_lt (i + 1) (2 ^ 32)) _ _ (list_few (declared 
 declared_few : (c : Context) (t : Term) (i : ℕ) → HasFew 6 (declared_parts c t i)
 unfolding declared_parts
 declared_few c (list e rest) i =
-    append_few 1 5 (comma_before i) _ (comma_few i) (append_few 4 1 (as_item left c e ∷ says " " ∷ text (front_of_name e) ∷ text (decimal i) ∷ []) _ (omega arith) (next_few c rest i))
+    let name = as_item left c e ∷ says " " ∷ text (front_of_name e) ∷ text (decimal i) ∷ [] in
+    append_few 5 1 (comma_before i ++ name) (declared_rest c rest i) (append_few 1 4 (comma_before i) name (comma_few i) (omega arith)) (next_few c rest i)
 declared_few c _ i = omega arith
 
 forms_few : (d : Detail) (c : Context) (form : Form) (t : Term) → HasFew 8 (parts_in d c form t)

@@ -1,5 +1,5 @@
 -- The parts of an item have smaller ranks than the item.
-use Rattle.std.specs.Prelude.{◌≡◌, refl, ℕ, zero, suc, ◌+◌, ◌-◌, ◌<◌, ◌≤◌, List, [], ◌∷◌, ◌++◌, Bool, true, false, cond, nat_eq, nat_le, Option, Some, None, codes}
+use Rattle.std.specs.Prelude.{◌≡◌, refl, ℕ, zero, suc, ◌+◌, ◌-◌, ◌^◌, ◌<◌, ◌≤◌, List, [], ◌∷◌, ◌++◌, Bool, true, false, cond, nat_eq, nat_le, nat_lt, Option, Some, None, codes, decimal}
 use Prim.Native.String.{String}
 use Rattle.std.proofs.Common.{arith}
 use Rattle.std.proofs.lemmas.Bool.{false≢true, ltb-true}
@@ -9,8 +9,8 @@ use Rattle.sym_print.specs.Unfold.{PartOf, text, sub, RanksBelow}
 use Rattle.cpp_grammar.specs.Term.{Qualifiers, RefQualifier, Signed, Term, symbol, function, object, special, thunk, of_name, construction, clone, alone, in_std, within, instance, local, holder, tagged, of_default, abbreviation, parameter, source, constructor, destructor, inheriting, lambda, generic_lambda, conversion, sized_float, constrained, pointer, lvalue, rvalue, array, bounded, member_pointer, function_type, qualified, vector, complex, expansion, integer, operation, function_parameter, pack, nil, list, absent, decltype, enumeration, bindings, declaring}
 use Rattle.cpp_grammar.specs.Scope.{element, arguments_of, pack_length, without_tags}
 use Rattle.cpp_grammar.specs.Items.{Form, root, full, bare, left, right, low, base, piece, first, more, expand, declared, Signature, in_none, undeclared, declared_in, Context, Item, closed, indexed, own_argument, signature_in, argument, head, is_reference, is_funarr, packs_of, is_empty}
-use Rattle.cpp_grammar.specs.Parts.{as_item, says, text_part, list_part, piece_parts, prefix_item, before_piece, attached_parts, component_parts, within_parts, instance_parts, marked_parts, reference_parts, qualified_left, blank_last, qualifier_text, expansion_parts, sign_part, is_plain_integer, integer_parts, builtin_code, member_parts, array_left, entity_of, float_parts, precedence_of, operand_parts, operation_parts, printed, left_parts, low_parts, function_right, ref_text, closing_right, qualified_right, right_parts, base_within, base_tagged, base_parts, types_of, encoding_text, function_bare, function_full, full_parts, bare_parts, root_parts, first_parts, more_parts, at_index, is_below, comma_before, expand_rest, expand_parts, parts_in, not_empty, parts, own_piece}
-use Rattle.cpp_grammar.specs.Ranks.{or_none, pack_count, weight, scope_weight, weight_in, rank_in, rank}
+use Rattle.cpp_grammar.specs.Parts.{as_item, says, text_part, list_part, piece_parts, prefix_item, before_piece, attached_parts, component_parts, within_parts, instance_parts, marked_parts, reference_parts, qualified_left, blank_last, qualifier_text, expansion_parts, sign_part, is_plain_integer, integer_parts, builtin_code, member_parts, array_left, entity_of, float_parts, precedence_of, operand_parts, operation_parts, printed, left_parts, low_parts, function_right, ref_text, closing_right, qualified_right, right_parts, base_within, base_tagged, base_parts, types_of, encoding_text, function_bare, function_full, full_parts, bare_parts, root_parts, first_parts, more_parts, at_index, is_below, comma_before, expand_rest, expand_parts, parts_in, not_empty, parts, own_piece, generic_parts, name_of_own, own_name, parameter_parts, declared_rest, declared_parts, front_of_name}
+use Rattle.cpp_grammar.specs.Ranks.{or_none, pack_count, weight, scope_weight, weight_in, rank_in, rank, light}
 use Rattle.cpp_grammar.specs.declared.operand.Operand.{Operand}
 use Rattle.cpp_grammar.specs.Operations.{Operation}
 use Rattle.cpp_grammar.specs.Texts.{look_up, literal_endings}
@@ -112,11 +112,11 @@ unfolding light weight indexed
 indexed_light (Some i) (pack elements) = omega (arith, light_less (element elements i), element_weight elements i)
 indexed_light index t = omega arith
 
-own_weight : (s : Signature) → light (own_argument s) (weight 0 None (own_argument s)) < 2
+own_light : (s : Signature) → light (own_argument s) (weight 0 None (own_argument s)) < 2
 unfolding own_argument light weight
-own_weight in_none = omega arith
-own_weight undeclared = omega arith
-own_weight (declared_in heads parameters) = omega arith
+own_light in_none = omega arith
+own_light undeclared = omega arith
+own_light (declared_in heads parameters) = omega arith
 
 argument_weight : (c : Context) (k : ℕ) → light (argument c k) (weight 0 None (argument c k)) < 2 + scope_weight c.scope
 unfolding argument scope_weight
@@ -124,7 +124,7 @@ argument_weight c k = scoped c.scope
   where
     scoped : (scope : Option Term) →
         light (elim scope [ None ↦ own_argument c.in_signature | Some arguments ↦ indexed c.index (element arguments k) ]) (weight 0 None (elim scope [ None ↦ own_argument c.in_signature | Some arguments ↦ indexed c.index (element arguments k) ])) < 2 + scope_weight scope
-    scoped None = own_weight c.in_signature
+    scoped None = own_light c.in_signature
     scoped (Some arguments) = omega (arith, indexed_light c.index (element arguments k), light_less (element arguments k), element_weight arguments k)
 
 -- the name of a lambda's own parameter is texts
@@ -473,7 +473,9 @@ next_falls r c t i h = falls_choice r (nat_lt (i + 1) (2 ^ 32)) _ _ (falls_decla
 declared_falls : (c : Context) (t : Term) (i : ℕ) → RanksBelow rank (rank_in c (declared i) t) (declared_parts c t i)
 unfolding declared_parts rank rank_in weight_in weight
 declared_falls c (list e rest) i =
-    falls_append _ (comma_before i) _ (comma_falls _ i) (falls_append _ (as_item left c e ∷ says " " ∷ text (front_of_name e) ∷ text (decimal i) ∷ []) _ (omega arith, tt) (next_falls _ c rest i (omega arith)))
+    let r = rank_in c (declared i) (list e rest) in
+    let name = as_item left c e ∷ says " " ∷ text (front_of_name e) ∷ text (decimal i) ∷ [] in
+    falls_append r (comma_before i ++ name) (declared_rest c rest i) (falls_append r (comma_before i) name (comma_falls r i) (omega arith, tt)) (next_falls r c rest i (omega arith))
 declared_falls c _ i = tt
 
 forms_fall : (d : Detail) (c : Context) (form : Form) (t : Term) → RanksBelow rank (rank_in c form t) (parts_in d c form t)
