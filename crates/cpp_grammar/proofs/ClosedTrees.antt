@@ -34,7 +34,7 @@ use Rattle.cpp_grammar.proofs.ClosedValues.{good_where, Good, AllGood, GoodPrefi
 use Rattle.cpp_grammar.proofs.ClosedStates.{Bare, Within, YieldsOf, Yields, yields, AllOld, AllNew, Grows, old_later, grows_same, grows_then, old_grows, ok_same, behind_bind, close_good, wide_close_good}
 use Rattle.cpp_grammar.proofs.ClosedParts.{Fits, Moves, StaysInside, abi_moves, wide_moves}
 use Rattle.cpp_grammar.proofs.Ways.{has_signature, Way, reading_by, abi_way, wide_way, differs, IsPlain, abi_plain, wide_plain}
-use Rattle.cpp_grammar.proofs.Declared.{declares, makes_declared, only_declared, skips, parts_apart, declared_apart, is_nothing, some_values, read_of, read_abi, read_none, read_then, hides, next_apart}
+use Rattle.cpp_grammar.proofs.Declared.{is_declaration, is_first, declares, makes_declared, only_declared, skips, parts_apart, declared_apart, is_nothing, some_values, read_of, read_abi, read_none, read_then, hides, next_apart}
 use Rattle.cpp_grammar.proofs.Steps.{first_of_both, second_of_both, all_pass}
 use Rattle.cpp_grammar.specs.Rescoping.{is_by_all, counted_so_far, expecting, opening_wide, cpp_wide, unfold_wide}
 use Rattle.cpp_grammar.proofs.Chosen.{either}
@@ -344,6 +344,17 @@ first_good : (v : Value) (vs : List Value) → vs ≡ v ∷ [] → ScopesAreClos
 unfolding first_tree
 first_good v vs is good = subst (λ ws. ScopesAreClosed (first_tree ws)) (sym is) good
 
+-- the parts that are left, behind some values
+pub left_apart : (p : Production) (first : Bool) (vs us : List Value) (x : Sym) (xs : List Sym) (value : Value) → us ≡ value ∷ [] → parts_apart p first (x ∷ xs) ≡ true → parts_apart p (is_nothing (vs ++ us)) xs ≡ true
+unfolding parts_apart
+left_apart p first vs us x xs value is apart =
+    ap (λ b. parts_apart p b xs) (ap (λ ws. is_nothing (vs ++ ws)) is ∙ some_values vs value)
+    ∙ second_of_both (not (declares x) || (has_signature p || (first && skips p))) (parts_apart p false xs) apart
+
+pub rule_apart : (p : Production) (rule : Rule) → rule ≡ rule_of p → parts_apart (production_at rule.number) true (symbols_of rule) ≡ true
+rule_apart p rule is =
+    ap (λ q. parts_apart q true (symbols_of rule)) (ap (λ x. production_at x.number) is ∙ at_number p) ∙ ap (parts_apart p true) (ap symbols_of is ∙ its_symbols p) ∙ declared_apart p
+
 -- ## Either reading
 
 module _ (w : Way) (keeps : KeepsClosed w) where
@@ -355,12 +366,25 @@ module _ (w : Way) (keeps : KeepsClosed w) where
       ap (λ x. x.values) (sym (ok_same whole n (sym (keeps.plain.between Production.DeclaredArgument refl around place vs state) ∙ e)))
   skipped_stays _ around place vs state n h e = absurd (false≢true h)
 
+  -- one more part is read: a value that is used is closed
+  pub one_read : (p : Production) (around : Around) (place : ℕ) (vs us : List Value) (state : State) (n : Next Value State Around) (x : Sym) (xs : List Sym) (value : Value) → us ≡ value ∷ [] → parts_apart p (is_nothing vs) (x ∷ xs) ≡ true →
+      w.between p around place vs state ≡ Ok n → AllGood (Within w.own p around) (read_of p w.own n.values) → (Within w.own p around → Bare w.own n.context) → Good (UnlessDeclared w.own x n.context) (held value) →
+      AllGood (Within w.own p around) (read_of p w.own (n.values ++ us))
+  unfolding parts_apart
+  one_read p around place vs us state n x xs value is apart goes values bare good =
+      let s = Within w.own p around in
+      let here : (not (declares x) || (has_signature p || (is_nothing vs && skips p))) ≡ true = first_of_both (not (declares x) || (has_signature p || (is_nothing vs && skips p))) (parts_apart p false xs) apart in
+      let used : hides p w.own n.values ≡ false → Good s (held value) =
+      λ unhidden. good_where (UnlessDeclared w.own x n.context) s (held value)
+      (λ within. (bare within, λ own. next_apart p w.own vs n.values x here (λ h. skipped_stays p around place vs state n h goes) unhidden own (within.1 own))) good in
+      subst (λ ws. AllGood s (read_of p w.own (n.values ++ ws))) (sym is) (read_then s p w.own n.values value values used)
+
   pub forest_good : (f : Forest) → AllTreesGood w f → (rule : Open State Around) (xs : List Sym) (vs : List Value) (at : ℕ) (state : State) (r : Found (List Value) State) →
       StaysInside (production_at rule.rule.number) → parts_apart (production_at rule.rule.number) (is_nothing vs) xs ≡ true → AreSymbols wide xs → AreTrees wide xs f → rule.context.encoding ≤ at →
       (has_encoding xs ≡ true → rule.context.encoding < at) → GoodPrefix (Bare w.own rule.context) rule.context.prefix →
       AllGood (Within w.own (production_at rule.rule.number) rule.context) (read_of (production_at rule.rule.number) w.own vs) → AllOld w.own rule.context at state.candidates → unfold_forest (reading_by w) rule vs at f state ≡ Ok r →
       ForestComes w.own (production_at rule.rule.number) rule.context (at + length (spell_all f)) state r
-  unfolding reading_by has_encoding parts_apart
+  unfolding reading_by has_encoding
   forest_good nothing all rule xs vs at state r stays apart known trees le inside pre good old e =
       subst (λ x. ForestComes w.own (production_at rule.rule.number) rule.context (at + length (spell_all nothing)) state x) (ok_same (found vs state) r e)
       (record { good = good; grows = grows_same w.own rule.context (at + length (spell_all nothing)) state state refl })
@@ -382,14 +406,8 @@ module _ (w : Way) (keeps : KeepsClosed w) where
       g.fits.prefix (old_fits w.own around n.context at n.state.candidates g.fits old1) c.is in
       let grown1 = grows_fits w.own around n.context later n.state part.state g.fits tree.grows in
       let old2 = old_grows w.own around at later n.state part.state (omega arith) old1 grown1 in
-      let here : (not (declares x) || (has_signature p || (is_nothing vs && skips p))) ≡ true = first_of_both (not (declares x) || (has_signature p || (is_nothing vs && skips p))) (parts_apart p false xs) apart in
-      let onward : parts_apart p false xs ≡ true = second_of_both (not (declares x) || (has_signature p || (is_nothing vs && skips p))) (parts_apart p false xs) apart in
-      let good1 : hides p w.own n.values ≡ false → Good s (held tree.value) =
-      λ used. good_where (UnlessDeclared w.own x n.context) s (held tree.value)
-      (λ within. (g.bare within, λ own. next_apart p w.own vs n.values x here (λ h. skipped_stays p around rule.place vs state n h b.is) used own (within.1 own))) tree.good in
-      let values : AllGood s (read_of p w.own (n.values ++ part.value)) = subst (λ ws. AllGood s (read_of p w.own (n.values ++ ws))) (sym tree.is) (read_then s p w.own n.values tree.value g.values good1) in
-      let some : is_nothing (n.values ++ part.value) ≡ false = ap (λ ws. is_nothing (n.values ++ ws)) tree.is ∙ some_values n.values tree.value in
-      let rest = forest_good f all.1 rule xs (n.values ++ part.value) later part.state r stays (ap (λ first. parts_apart p first xs) some ∙ onward) known.1 trees.1 (omega (arith, le))
+      let values = one_read p around rule.place vs part.value state n x xs tree.value tree.is apart b.is g.values g.bare tree.good in
+      let rest = forest_good f all.1 rule xs (n.values ++ part.value) later part.state r stays (left_apart p (is_nothing vs) n.values part.value x xs tree.value tree.is apart) known.1 trees.1 (omega (arith, le))
       (λ opening. omega (arith, inside (or_true (is_encoding x) (has_encoding xs) opening))) pre values old2 c.next in
       record {
         good = rest.good;
@@ -421,7 +439,7 @@ module _ (w : Way) (keeps : KeepsClosed w) where
   special_comes : (f : Forest) → AllTreesGood w f → (rule : Open State Around) (from : ℕ) (state : State) (r : Found (List Value) State) → production_at rule.rule.number ≡ Production.Special →
       AreTrees wide (parts_of Production.Special) f → rule.context.encoding < rule.place → rule.place ≤ from → rule.place < from + length (spell_all f) → AllOld w.own rule.context rule.place state.candidates →
       unfold_forest (reading_by w) rule [] from f state ≡ Ok r → InnerComes w.own Production.Special rule.context (from + length (spell_all f)) state r
-  unfolding differs reading_by parts_of number_of_kind between meaning held is_encoding nameless part in_name declares
+  unfolding differs reading_by parts_of number_of_kind between meaning held is_encoding nameless part in_name declares is_declaration is_first
   special_comes (grown t nothing) all rule from state r is trees lt le more old e =
       let around = rule.context in
       let at = rule.place in
@@ -474,14 +492,14 @@ module _ (w : Way) (keeps : KeepsClosed w) where
   other_special_comes : (f : Forest) → AllTreesGood w f → (rule : Open State Around) (from : ℕ) (state : State) (r : Found (List Value) State) → production_at rule.rule.number ≡ Production.OtherSpecial →
       AreTrees wide (parts_of Production.OtherSpecial) f → rule.context.encoding < rule.place → rule.place ≤ from → rule.place < from + length (spell_all f) → AllOld w.own rule.context rule.place state.candidates →
       unfold_forest (reading_by w) rule [] from f state ≡ Ok r → InnerComes w.own Production.OtherSpecial rule.context (from + length (spell_all f)) state r
-  unfolding differs parts_of number_of_kind between meaning is_encoding nameless part declares
+  unfolding differs parts_of number_of_kind between meaning is_encoding nameless part declares is_declaration is_first
   other_special_comes = two_come Production.OtherSpecial (OfKind SPECIAL_MARK) (OfKind SPECIAL_AFTER_G) (known SPECIAL_MARK (lit≤ tt)) (known SPECIAL_AFTER_G (lit≤ tt)) refl refl refl refl (keeps.plain.between Production.OtherSpecial refl)
       (λ byte at around u v good. always w.own (Bare w.own around) at (held v) good)
 
   encoding_comes : (f : Forest) → AllTreesGood w f → (rule : Open State Around) (from : ℕ) (state : State) (r : Found (List Value) State) → production_at rule.rule.number ≡ Production.Encoding →
       AreTrees wide (parts_of Production.Encoding) f → rule.context.encoding < rule.place → rule.place ≤ from → rule.place < from + length (spell_all f) → AllOld w.own rule.context rule.place state.candidates →
       unfold_forest (reading_by w) rule [] from f state ≡ Ok r → InnerComes w.own Production.Encoding rule.context (from + length (spell_all f)) state r
-  unfolding differs reading_by parts_of number_of_kind between meaning held is_encoding nameless part in_name in_types declares
+  unfolding differs reading_by parts_of number_of_kind between meaning held is_encoding nameless part in_name in_types declares is_declaration is_first
   encoding_comes (grown t (grown u nothing)) all rule from state r is trees lt le more old e =
       let around = rule.context in
       let at = rule.place in
@@ -535,8 +553,7 @@ module _ (w : Way) (keeps : KeepsClosed w) where
       let from = at + length taken in
       let end = at + length (taken ++ spell_all parts) in
       let symbols = wide_sound.symbols k tree.0.byte rule lt tree.0.is_byte tree.0.found in
-      let apart : parts_apart (production_at rule.number) true (symbols_of rule) ≡ true = ap (λ q. parts_apart q true (symbols_of rule)) number ∙ ap (parts_apart p true) (ap symbols_of is ∙ its_symbols p) ∙ declared_apart p in
-      let forest = forest_good parts all (Whole rule taken at around state) (symbols_of rule) [] from begun inner inside_ apart symbols tree.1 (omega (arith, le))
+      let forest = forest_good parts all (Whole rule taken at around state) (symbols_of rule) [] from begun inner inside_ (rule_apart p rule is) symbols tree.1 (omega (arith, le))
       (λ has. omega (arith, le, takes_byte p rule k taken is tree.0 has)) pre (read_none (Within w.own (production_at rule.number) around) (production_at rule.number) w.own) (old_later w.own around at from begun.candidates (omega arith) (subst (λ cs. AllOld w.own around at cs) (sym begins) old)) e in
       let grown1 = grows_then w.own around end end state begun inner.state (omega arith) (grows_same w.own around end state begun begins)
       (grows_on w.own around (from + length (spell_all parts)) end begun inner.state (omega (arith, length-append taken (spell_all parts))) forest.grows) in
@@ -605,7 +622,7 @@ module _ (w : Way) (keeps : KeepsClosed w) where
 
   -- In the tree that a symbol denotes the arguments that are a scope have no free parameters.
   pub scopes_are_closed_by : (shape : Tree) (t : Term) → IsTree wide (OfKind SYMBOL) shape → (unfold_tree (reading_by w) first_around 0 shape first_state >>= λ whole. Ok (first_tree whole.value)) ≡ Ok t → ScopesAreClosed t
-  unfolding first_around first_state first_tree is_encoding declares
+  unfolding first_around first_state first_tree is_encoding declares is_declaration is_first
   scopes_are_closed_by shape t is e =
       let whole = behind_bind (unfold_tree (reading_by w) first_around 0 shape first_state) (λ whole. Ok (first_tree whole.value)) t e in
       let comes = tree_comes w.own (OfKind SYMBOL) first_around (0 + length (spell shape)) first_state whole.value (λ own. refl)

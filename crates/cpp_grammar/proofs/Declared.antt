@@ -15,10 +15,18 @@ use Rattle.cpp_grammar.proofs.Choosing.{each_passes}
 use Rattle.cpp_grammar.proofs.ClosedValues.{Good, AllGood, all_append, good_nothing, held}
 use Rattle.cpp_grammar.proofs.Ways.{has_signature}
 
--- the kinds of what is declared, and of a lambda's first type with what is declared before it
+-- the kinds of what is declared
+unfoldable pub is_declaration : Sym → Bool
+is_declaration (OfKind k) = nat_eq k DECLARATION_AFTER_T || nat_eq k DECLARATIONS
+is_declaration _ = false
+
+-- and of a lambda's first type, with what is declared before it
+unfoldable pub is_first : Sym → Bool
+is_first (OfKind k) = nat_eq k FIRST_OF_LAMBDA || nat_eq k FIRST_AFTER_T
+is_first _ = false
+
 unfoldable pub declares : Sym → Bool
-declares (OfKind k) = nat_eq k DECLARATION_AFTER_T || (nat_eq k DECLARATIONS || (nat_eq k FIRST_OF_LAMBDA || nat_eq k FIRST_AFTER_T))
-declares _ = false
+declares x = is_declaration x || is_first x
 
 -- their productions that have parts
 unfoldable pub makes_declared : Production → Bool
@@ -32,7 +40,7 @@ makes_declared Production.FirstWithT = true
 makes_declared _ = false
 
 pub only_declared : (kind : Kind) → each_passes (λ p. not (makes_declared p) || declares (OfKind (number_of_kind kind))) (wide_alternatives kind) ≡ true
-unfolding makes_declared declares number_of_kind wide_alternatives each_passes
+unfolding makes_declared declares is_declaration is_first number_of_kind wide_alternatives each_passes
 only_declared Kind.Symbol = refl
 only_declared _ = refl
 
@@ -47,7 +55,7 @@ parts_apart p first [] = true
 parts_apart p first (x ∷ xs) = (not (declares x) || (has_signature p || (first && skips p))) && parts_apart p false xs
 
 pub declared_apart : (p : Production) → parts_apart p true (parts_of p) ≡ true
-unfolding parts_apart declares has_signature skips parts_of number_of_kind
+unfolding parts_apart declares is_declaration is_first has_signature skips parts_of number_of_kind
 declared_apart Production.Mark = refl
 declared_apart (Production.Operation Operation.ExpressionC) = refl
 declared_apart _ = refl

@@ -20,7 +20,7 @@ pub mod ClosedParts
 pub mod ClosedTrees
 pub mod NoneFree
 pub mod Staying
-mod Undeclared
+pub mod Undeclared
 pub mod Declared
 pub mod RanksFall
 pub mod FewParts

@@ -30,6 +30,7 @@ use Rattle.cpp_grammar.proofs.Choosing.{each_passes, chosen_rule, taken_passes, 
 use Rattle.cpp_grammar.proofs.Chosen.{either}
 use Rattle.cpp_grammar.proofs.ClosedStates.{ok_same, behind_bind}
 use Rattle.cpp_grammar.proofs.ClosedTrees.{at_number, its_symbols, taken_rule}
+use Rattle.cpp_grammar.proofs.Declared.{is_first}
 use Rattle.cpp_grammar.proofs.Steps.{all_pass}
 
 -- ## Values
@@ -64,11 +65,6 @@ unfolding parameters is_declaring
 plain_parameters first rest = either (λ x. is_declaring x ≡ false) (is_void first && is_nil rest) nil (list first rest) (λ is. refl) (λ is. refl)
 
 -- ## Productions
-
--- the kinds of the first type of a lambda
-unfoldable pub is_first : Sym → Bool
-is_first (OfKind k) = nat_eq k FIRST_OF_LAMBDA || nat_eq k FIRST_AFTER_T
-is_first _ = false
 
 unfoldable pub begins_first : List Sym → Bool
 begins_first [] = false

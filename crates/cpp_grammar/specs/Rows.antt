@@ -2,7 +2,7 @@
 use Rattle.std.specs.Prelude.{ℕ, List, [], ◌∷◌, true, false}
 use Rattle.cpp_grammar.specs.declared.production.Production.{Production}
 use Rattle.cpp_grammar.specs.Makers.{new_symbol, new_special, new_of_name, new_construction, new_clone, new_in_std, new_instance, new_local, new_abbreviation, new_source, new_operator, new_literal_operator, new_constructor, new_unnamed, new_string_literal, new_conversion, new_enumeration, new_bindings, new_builtin, new_sized_float, new_constrained, new_vendor, new_pointer, new_lvalue, new_rvalue, new_array, new_bounded, new_member_pointer, new_function_type, new_qualified, new_vector, new_complex, new_decltype, new_expansion, new_integer, new_boolean, new_null_pointer, new_encoding_literal, new_operation, new_function_parameter, new_pack}
-use Rattle.cpp_grammar.specs.Row.{Source, tree_at, list_at, parameters_at, piece_at, the_name, no_tree, text_at, digits_at, code, taken, fixed, letter_at, letter_or_taken, letter_or, operator_first_at, operator_second_at, number_at, yes, no, there_at, letter_is, qualifiers_at, qualified_by, ref_at, signed_at, discriminator_at, Made, of, only, extending, tagging, applying, packing, listed, unlisted, as_part, unless_there, as_part_alone, Form, handed, finished, either, the_byte, makes, a_piece, a_pair, cell, item, a_name, in_place, own, Where, as_before, in_its_name, in_its_types, in_a_signature, under_it, nameless, after_part, Gain, nothing, the_prefix, type_of, unqualified_of, itself, Action, quiet, goes, becomes, tests, holds, unread, Row, by_letters, character, closure, covariant_thunk, declared_before, elements, enclosed, encoding, first_of_operator, in_default, inheriting, local_name, lvalue_signature, many_digits, negative, nest_end, nested_name, no_parameters, no_value, non_virtual_offset, non_virtual_thunk, one_digit, positive, reference, rvalue_signature, substitution, suffix, virtual_offset, virtual_thunk}
+use Rattle.cpp_grammar.specs.Row.{Source, tree_at, list_at, parameters_at, piece_at, the_name, no_tree, text_at, digits_at, code, taken, fixed, letter_at, letter_or_taken, letter_or, operator_first_at, operator_second_at, number_at, yes, no, there_at, letter_is, qualifiers_at, qualified_by, ref_at, signed_at, discriminator_at, Made, of, only, extending, tagging, applying, packing, listed, unlisted, as_part, unless_there, as_part_alone, Form, handed, finished, either, the_byte, makes, a_piece, a_pair, cell, item, a_name, in_place, own, Where, as_before, in_its_name, in_its_types, in_a_signature, under_it, nameless, after_part, after_the_name, Gain, nothing, the_prefix, type_of, unqualified_of, itself, Action, quiet, goes, becomes, tests, holds, unread, Row, by_letters, character, closure, covariant_thunk, declared_before, elements, enclosed, encoding, first_of_operator, in_default, inheriting, local_name, lvalue_signature, many_digits, negative, nest_end, nested_name, no_parameters, no_value, non_virtual_offset, non_virtual_thunk, one_digit, positive, reference, rvalue_signature, substitution, suffix, virtual_offset, virtual_thunk}
 
 -- ## Rows
 
