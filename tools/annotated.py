@@ -44,7 +44,7 @@ BY_HAND = ("Items", "Ranks")
 FALLING = "cpp_grammar/proofs/RanksFall.antt"
 # lemmas that speak of the scope of an item, and those that are said otherwise
 SCOPED = {"weight_grows": None, "arguments_weight": None, "types_weight": None,
-          "own_weight": None,
+          "own_light": None,
           "argument_weight": ("argument_weight : (c : Context) (a : Term) → light (argument c a) (weight (argument c a)) < 2 + light a (weight a)", "unfolding argument", "argument_weight c a = omega (arith, indexed_light c.index a)"),
           "generic_falls": ("generic_falls : (r : ℕ) (c : Context) (parameters : Term) (number : ℕ) → weight parameters < r → RanksBelow rank r (generic_parts c parameters number)",
                             "unfolding generic_parts rank rank_in weight_in weight", "generic_falls r c (declaring heads parameters) number h =",

@@ -359,7 +359,7 @@ rule_apart p rule is =
 
 module _ (w : Way) (keeps : KeepsClosed w) where
   -- before a second part the values stay as they are
-  skipped_stays : (p : Production) (around : Around) (place : ℕ) (vs : List Value) (state : State) (n : Next Value State Around) → skips p ≡ true → w.between p around place vs state ≡ Ok n → n.values ≡ vs
+  pub skipped_stays : (p : Production) (around : Around) (place : ℕ) (vs : List Value) (state : State) (n : Next Value State Around) → skips p ≡ true → w.between p around place vs state ≡ Ok n → n.values ≡ vs
   unfolding skips between all_pass differs
   skipped_stays Production.DeclaredArgument around place vs state n h e =
       let whole : Next Value State Around = record { context = around; values = vs; state = state } in

@@ -97,7 +97,7 @@ read_then s Production.DeclaredArgument true (u ∷ vs) v all good = (all.0, all
 read_then s Production.DeclaredArgument false vs v all good = all_append s vs (v ∷ []) all (good refl, tt)
 read_then s p own vs v all good = all_append s vs (v ∷ []) all (good refl, tt)
 
-none_hidden : (p : Production) (own : Bool) (vs : List Value) → own ≡ true → hides p own vs ≡ false → (is_nothing vs && skips p) ≡ false
+pub none_hidden : (p : Production) (own : Bool) (vs : List Value) → own ≡ true → hides p own vs ≡ false → (is_nothing vs && skips p) ≡ false
 unfolding hides is_nothing skips
 none_hidden Production.DeclaredArgument true [] e h = absurd (true≢false h)
 none_hidden Production.DeclaredArgument true (v ∷ vs) e h = refl
@@ -105,7 +105,7 @@ none_hidden Production.DeclaredArgument false vs e h = absurd (false≢true e)
 none_hidden p own [] e h = refl
 none_hidden p own (v ∷ vs) e h = refl
 
-same_skipped : (p : Production) (new old : List Value) → (skips p ≡ true → new ≡ old) → (is_nothing old && skips p) ≡ (is_nothing new && skips p)
+pub same_skipped : (p : Production) (new old : List Value) → (skips p ≡ true → new ≡ old) → (is_nothing old && skips p) ≡ (is_nothing new && skips p)
 same_skipped p new old same = go (skips p) refl
   where
     never : (b : Bool) → (b && false) ≡ false

@@ -17,7 +17,8 @@ use Rattle.cpp_term.specs.Scope as scope_
 use Rattle.cpp_term.specs.Parts as part_
 use Rattle.cpp_term.specs.Reargued.{reargued}
 use Rattle.cpp_term.specs.Annotated.{Place, nowhere, in_own, place_of, place_in, place_within, context_place, argument_in, annotate, noted_scope, noted_context, noted_item, noted_part, noted_parts}
-use Rattle.cpp_term.proofs.Notes.{both, choose, choose_cond, types_place, element_noted, declared_noted, argument_noted, packs_of_noted, head_noted, empty_noted}
+use Rattle.cpp_term.proofs.Notes.{both, choose, choose_cond, element_noted}
+use Rattle.cpp_term.proofs.HeadsNoted.{within_types, declared_noted, argument_noted, packs_of_noted, head_noted, empty_noted}
 use Rattle.cpp_term.proofs.SeenNoted.{opening_text_noted, precedence_of_noted}
 
 noted_append : (xs ys : List (PartOf Item)) → noted_parts (xs ++ ys) ≡ noted_parts xs ++ noted_parts ys
@@ -254,7 +255,7 @@ entity_noted c form (symbol e suffix) = refl
 entity_noted c form _ = refl
 
 left_noted : (d : Detail) (c : Context) (t : Term) → part_.left_parts d (noted_context c) (annotate (at c) t) ≡ noted_parts (leaf_.left_parts d c t)
-unfolding part_.left_parts leaf_.left_parts annotate noted_parts noted_part noted_item noted_context noted_scope place_in place_of
+unfolding part_.left_parts leaf_.left_parts annotate noted_parts noted_part noted_item noted_context noted_scope place_within place_of
 left_noted d c (alone p) = piece_noted c p
 left_noted d c (within prefix p) = within_noted c prefix p
 left_noted d c (instance template arguments) = instance_noted (has_arguments d) c template arguments
@@ -367,44 +368,44 @@ begins_noted s lvalue_only t = refl
 begins_noted s rvalue_only t = refl
 
 bare_noted : (all : Bool) (name : Term) (q : Qualifiers) (ref : RefQualifier) (parameters : Term) →
-    part_.function_bare all (annotate nowhere name) q ref (annotate (place_in (arguments_of name) false) parameters) ≡ noted_parts (leaf_.function_bare all name q ref parameters)
-unfolding part_.function_bare leaf_.function_bare part_.types_of leaf_.types_of noted_parts noted_part noted_item noted_context noted_scope place_in place_of
+    part_.function_bare all (annotate nowhere name) q ref (annotate (place_within (arguments_of name) in_none) parameters) ≡ noted_parts (leaf_.function_bare all name q ref parameters)
+unfolding part_.function_bare leaf_.function_bare part_.types_of leaf_.types_of noted_parts noted_part noted_item noted_context noted_scope place_within place_of
 bare_noted false name q ref parameters = refl
 bare_noted true name q ref parameters =
     joins (leaf_.as_item left closed name ∷ text (leaf_.begins_parameters ref parameters) ∷ leaf_.list_part first (leaf_.types_of name) parameters) (leaf_.says ")" ∷ leaf_.text_part (encoding_text q ref)) _
     (part_.says ")" ∷ part_.text_part (encoding_text q ref))
-    (both (λ o ps. part_.as_item left item_.closed (annotate nowhere name) ∷ text o ∷ ps) (begins_noted (place_in (arguments_of name) false) ref parameters)
+    (both (λ o ps. part_.as_item left item_.closed (annotate nowhere name) ∷ text o ∷ ps) (begins_noted (place_within (arguments_of name) in_none) ref parameters)
     (list_noted first (leaf_.types_of name) parameters))
     (ap (λ ps. part_.says ")" ∷ ps) (text_noted (encoding_text q ref)))
 
 whole_noted : (all : Bool) (name : Term) (q : Qualifiers) (ref : RefQualifier) (returned parameters : Term) →
-    part_.function_full all (annotate nowhere name) q ref (annotate (place_in (arguments_of name) false) returned) (annotate (place_in (arguments_of name) false) parameters)
+    part_.function_full all (annotate nowhere name) q ref (annotate (place_within (arguments_of name) in_none) returned) (annotate (place_within (arguments_of name) in_none) parameters)
     ≡ noted_parts (leaf_.function_full all name q ref returned parameters)
 unfolding part_.function_full leaf_.function_full annotate part_.types_of leaf_.types_of noted_parts noted_part noted_item noted_context
 whole_noted false name q ref returned parameters = bare_noted false name q ref parameters
 whole_noted true name q ref absent parameters = bare_noted true name q ref parameters
 whole_noted true name q ref returned parameters =
     let types = leaf_.types_of name in
-    let s = place_in (arguments_of name) false in
+    let s = place_within (arguments_of name) in_none in
     joins (leaf_.as_item left types returned ∷ leaf_.says " " ∷ []) (leaf_.function_bare true name q ref parameters ++ (leaf_.as_item right types returned ∷ [])) _ (part_.function_bare true (annotate nowhere name) q ref (annotate s parameters) ++ (part_.as_item right item_.closed (annotate s returned) ∷ []))
     refl
     (joins (leaf_.function_bare true name q ref parameters) (leaf_.as_item right types returned ∷ []) (part_.function_bare true (annotate nowhere name) q ref (annotate s parameters)) (part_.as_item right item_.closed (annotate s returned) ∷ []) (bare_noted true name q ref parameters) refl)
 
 full_noted : (d : Detail) (s : Place) (t : Term) → part_.full_parts d (annotate s t) ≡ noted_parts (leaf_.full_parts d t)
-unfolding part_.full_parts leaf_.full_parts annotate noted_parts noted_part noted_item noted_context noted_scope place_in place_of
+unfolding part_.full_parts leaf_.full_parts annotate noted_parts noted_part noted_item noted_context noted_scope place_within place_of
 full_noted d s (function name q ref returned parameters) =
-    ap (λ r. part_.function_full (has_parameters d) (annotate nowhere name) q ref (annotate r returned) (annotate r parameters)) (types_place name) ∙ whole_noted (has_parameters d) name q ref returned parameters
+    ap (λ r. part_.function_full (has_parameters d) (annotate nowhere name) q ref (annotate r returned) (annotate r parameters)) (within_types name) ∙ whole_noted (has_parameters d) name q ref returned parameters
 full_noted d s (object name q ref) = ap (λ ps. part_.as_item left item_.closed (annotate nowhere name) ∷ ps) (text_noted (encoding_text q ref))
 full_noted d s (of_name letter name q ref) = ap (λ ps. text (look_up (letter ∷ []) named_special_texts) ∷ part_.as_item left item_.closed (annotate nowhere name) ∷ ps) (text_noted (encoding_text q ref))
 full_noted d s _ = refl
 
 bare_all_noted : (d : Detail) (s : Place) (t : Term) → part_.bare_parts d (annotate s t) ≡ noted_parts (leaf_.bare_parts d t)
 unfolding part_.bare_parts leaf_.bare_parts annotate
-bare_all_noted d s (function name q ref returned parameters) = ap (λ r. part_.function_bare (has_parameters d) (annotate nowhere name) q ref (annotate r parameters)) (types_place name) ∙ bare_noted (has_parameters d) name q ref parameters
+bare_all_noted d s (function name q ref returned parameters) = ap (λ r. part_.function_bare (has_parameters d) (annotate nowhere name) q ref (annotate r parameters)) (within_types name) ∙ bare_noted (has_parameters d) name q ref parameters
 bare_all_noted d s t = full_noted d s t
 
 root_noted : (s : Place) (t : Term) → part_.root_parts (annotate s t) ≡ noted_parts (leaf_.root_parts t)
-unfolding part_.root_parts leaf_.root_parts annotate noted_parts noted_part noted_item noted_context noted_scope place_in place_of
+unfolding part_.root_parts leaf_.root_parts annotate noted_parts noted_part noted_item noted_context noted_scope place_within place_of
 root_noted s (symbol e []) = refl
 root_noted s (symbol e (b ∷ bs)) = refl
 root_noted s _ = refl
@@ -450,9 +451,11 @@ next_noted c t i = choice (nat_lt (i + 1) (2 ^ 32)) (nat_lt (i + 1) (2 ^ 32)) _ 
 declarations_noted : (c : Context) (t : Term) (i : ℕ) → part_.declared_parts (noted_context c) (annotate (at c) t) i ≡ noted_parts (leaf_.declared_parts c t i)
 unfolding part_.declared_parts leaf_.declared_parts annotate noted_parts noted_part noted_item
 declarations_noted c (list e rest) i =
-    joins (leaf_.comma_before i) _ (part_.comma_before i) _ (comma_noted i)
-    (joins (leaf_.as_item left c e ∷ leaf_.says " " ∷ text (leaf_.front_of_name e) ∷ text (decimal i) ∷ []) (leaf_.declared_rest c rest i) _ (part_.declared_rest (noted_context c) (annotate (at c) rest) i)
-    (ap (λ b. part_.as_item left (noted_context c) (annotate (at c) e) ∷ part_.says " " ∷ text b ∷ text (decimal i) ∷ []) (front_noted (at c) e)) (next_noted c rest i))
+    let name : List (PartOf Item) = leaf_.as_item left c e ∷ leaf_.says " " ∷ text (leaf_.front_of_name e) ∷ text (decimal i) ∷ [] in
+    let other = part_.as_item left (noted_context c) (annotate (at c) e) ∷ part_.says " " ∷ text (part_.front_of_name (annotate (at c) e)) ∷ text (decimal i) ∷ [] in
+    joins (leaf_.comma_before i ++ name) (leaf_.declared_rest c rest i) (part_.comma_before i ++ other) (part_.declared_rest (noted_context c) (annotate (at c) rest) i)
+    (joins (leaf_.comma_before i) name (part_.comma_before i) other (comma_noted i)
+    (ap (λ b. part_.as_item left (noted_context c) (annotate (at c) e) ∷ part_.says " " ∷ text b ∷ text (decimal i) ∷ []) (front_noted (at c) e))) (next_noted c rest i)
 declarations_noted c _ i = refl
 
 in_noted : (d : Detail) (c : Context) (form : Form) (t : Term) → part_.parts_in d (noted_context c) form (annotate (at c) t) ≡ noted_parts (leaf_.parts_in d c form t)
