@@ -77,6 +77,7 @@ apart_between Production.ParameterExpression around place (v ∷ []) state apart
     go false e = refl
 apart_between Production.Holder around place (v ∷ []) state apart = absurd (true≢false apart)
 apart_between Production.HeldArguments around place [] state apart = absurd (true≢false apart)
+apart_between Production.DeclaredFirst around place [] state apart = absurd (true≢false apart)
 apart_between Production.NamedModule around place (v ∷ []) state apart = absurd (true≢false apart)
 apart_between p around place vs state apart = refl
 

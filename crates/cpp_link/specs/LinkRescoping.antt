@@ -78,6 +78,7 @@ steps_apart Production.ParameterExpression in_lambda before = in_lambda && nat_e
 steps_apart Production.Holder in_lambda before = nat_eq before 1
 steps_apart Production.HeldArguments in_lambda before = nat_eq before 0
 steps_apart Production.NamedModule in_lambda before = nat_eq before 1
+steps_apart Production.DeclaredFirst in_lambda before = nat_eq before 0
 steps_apart _ in_lambda before = false
 
 -- by which compilers the tree is counted that becomes a candidate then

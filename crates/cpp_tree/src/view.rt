@@ -11,8 +11,8 @@ ghost use Rattle.cpp_tree.specs.Views.{plain_tree, prefix_trees, seen_of, seen_b
 use crate::node::{Adjustment, Mark, Piece, Qualifiers, Signed, Thunk, bit};
 use crate::tree_production::{
     ABBREVIATION, ABSENT, ADDRESS_OF, ARRAY, BINDINGS, BOOLEAN, BOUNDED, BUILTIN, BUILTIN_WITH_D,
-    CLONE, COMPLEX, CONSTRAINED, CONSTRUCTION, CONSTRUCTOR, CONVERSION, COVARIANT_THUNK, DECLTYPE,
-    DESTRUCTOR, ENCODING_LITERAL, ENUMERATION, EXPANSION, FUNCTION, FUNCTION_PARAMETER,
+    CLONE, COMPLEX, CONSTRAINED, CONSTRUCTION, CONSTRUCTOR, CONVERSION, COVARIANT_THUNK, DECLARING,
+    DECLTYPE, DESTRUCTOR, ENCODING_LITERAL, ENUMERATION, EXPANSION, FUNCTION, FUNCTION_PARAMETER,
     FUNCTION_TYPE, GENERIC_LAMBDA, GUARD, HOLDER, INHERITING, INSTANCE, INTEGER, LAMBDA, LIST,
     LITERAL_OPERATOR, LOCAL, LVALUE, MEMBER_POINTER, NESTED_BINDINGS, NESTED_CONSTRUCTOR,
     NESTED_CONVERSION, NESTED_DESTRUCTOR, NESTED_ENUMERATION, NESTED_GENERIC_LAMBDA,
@@ -445,6 +445,9 @@ fn view_of_own(symbol: &[u8], nodes: &Nodes, node: node::Node) -> NodeView
         node::Node::OfDefault { digits, entity } => one(OF_DEFAULT, none, digits, entity),
         node::Node::Abbreviation(letter) => leaf(ABBREVIATION, letter as u64),
         node::Node::Parameter { number, .. } => leaf(PARAMETER, number as u64),
+        node::Node::Declaring { heads, parameters } => {
+            two(DECLARING, none, NO_TEXT, heads, parameters)
+        }
         node::Node::Builtin(letter) => leaf(BUILTIN, letter as u64),
         node::Node::BuiltinWithD(letter) => leaf(BUILTIN_WITH_D, letter as u64),
         node::Node::SizedFloat { digits, end } => {
