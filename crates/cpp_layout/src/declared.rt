@@ -100,8 +100,8 @@ impl Symbol {
         }
     }
 
-    /// The parts of the name of a lambda whose signature declares parameters of its own, in the context that has them for what they
-    /// name.
+    /// The parts of the name of a lambda that declares parameters, in a context where the argument of each parameter is the
+    /// lambda's signature.
     // <closure-type-name> ::= Ul <lambda-sig> E [ <nonnegative number> ] _
     pub(crate) fn fill_declaring<S: PartList<Context>>(
         &self,
