@@ -1,7 +1,7 @@
 // The parameters that a lambda declares: what is declared of each, and its name.
 #![tactic(auto)]
 
-ghost use Rattle.std.specs.Prelude.{◌≡◌, ◌+◌, ◌<◌, ◌≤◌, ◌∷◌, [], ◌++◌, length, decimal, false};
+ghost use Rattle.std.specs.Prelude.{◌≡◌, ◌+◌, ◌<◌, ◌≤◌, ◌∷◌, [], ◌++◌, List, length, decimal, false};
 ghost use Rattle.sym_print.specs.Held.{Held};
 ghost use Rattle.sym_print.specs.Unfold.{PartOf, text};
 ghost use Rattle.cpp_grammar.specs.Items as forms;
@@ -24,7 +24,8 @@ use sym_print::{Detail, PartList};
 /// What the name of a parameter begins with, by the letter of its declaration.
 #[tactic(auto, unfolding(cpp_grammar::specs::Parts::letter_name))]
 fn letter_name(letter: u8) -> u16
-    ensures { fixed_text result ≡ letter_name letter }
+    ensures text { fixed_text result ≡ letter_name letter }
+    ensures some { 0 < length (fixed_text result) }
 {
     match letter {
         b'n' => texts::VALUE_NAME,
@@ -53,7 +54,8 @@ impl Symbol {
         requires context { IsAliasBelow (length self.now.table.nodes) ctx.argument }
         requires table { IsTable (table_of self.now) }
         requires head { head < length self.now.table.nodes }
-        ensures { fixed_text result ≡ front_of_name (printed_tree self.now ctx head) }
+        ensures text { fixed_text result ≡ front_of_name (printed_tree self.now ctx head) }
+        ensures some { 0 < length (fixed_text result) }
     {
         let place = self.place(head, ctx);
         match self.stored(place.node, place.ctx) {
@@ -98,8 +100,8 @@ impl Symbol {
         }
     }
 
-    /// The parts of the name of a lambda whose signature declares parameters of its own, in the context that has them for what they
-    /// name.
+    /// The parts of the name of a lambda that declares parameters, in a context where the argument of each parameter is the
+    /// lambda's signature.
     // <closure-type-name> ::= Ul <lambda-sig> E [ <nonnegative number> ] _
     pub(crate) fn fill_declaring<S: PartList<Context>>(
         &self,

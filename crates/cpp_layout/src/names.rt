@@ -132,7 +132,7 @@ impl Symbol {
             Node::Declaring {
                 heads,
                 parameters: types,
-            } => self.fill_declaring(parts, heads, types, number, ctx.under(place.node)),
+            } => self.fill_declaring(parts, heads, types, number, ctx.under(parameters)),
             _ => self.fill_lambda(parts, parameters, number, ctx.of_its_own()),
         }
     }

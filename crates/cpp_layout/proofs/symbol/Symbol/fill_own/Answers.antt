@@ -60,4 +60,4 @@ unfolding parts_in
 returns-in-11-clause-shows g c = fills c.args.self.now c.args.ctx.detail _ _ _ c.fill_declared.ensures.shows (ap (λ f. parts_in c.args.ctx.detail (context_of c.args.ctx) (form_of f c.args.at) (tree_in f (printed_tree c.args.self.now c.args.ctx c.args.node))) (sym c.in-11.is))
 
 pub returns-in_default-clause-shows : goal.returns-in_default-clause-shows
-returns-in_default-clause-shows g c = fills c.args.self.now c.args.ctx.detail _ _ _ c.fill_expand.ensures.shows (form-expand c.args.form c.args.at (printed_tree c.args.self.now c.args.ctx c.args.node) c.args.ctx.detail (context_of c.args.ctx) (omega (arith, c.in_default)))
+returns-in_default-clause-shows g c = fills c.args.self.now c.args.ctx.detail _ _ _ c.fill_expand.ensures.shows (form-expand c.args.form c.args.at (printed_tree c.args.self.now c.args.ctx c.args.node) c.args.ctx.detail (context_of c.args.ctx) (omega (arith, c.in_default)) (omega (arith, c.in_default)))
