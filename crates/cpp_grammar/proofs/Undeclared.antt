@@ -1,6 +1,6 @@
 -- By the ABI's grammar nothing is declared of a lambda's parameters: what it reads of the first of them is no pair.
-use Rattle.std.proofs.Common.{◌≡◌, refl, ap, sym, ◌∙◌, subst, ℕ, ◌+◌, List, [], ◌∷◌, ◌++◌, length, Bool, true, false, not, ◌||◌, ◌&&◌, nat_eq, ◌<◌, Ok, Err}
-use Rattle.std.proofs.lemmas.Bool.{true≢false, false≢true}
+use Rattle.std.proofs.Common.{◌≡◌, refl, ap, sym, ◌∙◌, subst, ℕ, ◌+◌, List, [], ◌∷◌, ◌++◌, length, Bool, true, false, not, ◌||◌, ◌&&◌, nat_eq, ◌<◌, lit≤, Ok, Err}
+use Rattle.std.proofs.lemmas.Bool.{true≢false, false≢true, eqb-true}
 use Rattle.sym_core.specs.declared.refusal.Refusal.TheVariants.{BadReference}
 use Rattle.sym_shape.specs.declared.rule.Rule.{Rule}
 use Rattle.sym_shape.specs.declared.rule.Sym.{Sym}
@@ -29,7 +29,7 @@ use Rattle.cpp_grammar.specs.TableLaws.{wide_sound}
 use Rattle.cpp_grammar.proofs.Choosing.{each_passes, chosen_rule, taken_passes, implied}
 use Rattle.cpp_grammar.proofs.Chosen.{either}
 use Rattle.cpp_grammar.proofs.ClosedStates.{ok_same, behind_bind}
-use Rattle.cpp_grammar.proofs.ClosedTrees.{at_number, its_symbols, taken_rule}
+use Rattle.cpp_grammar.proofs.ClosedTrees.{at_number, its_symbols, taken_rule, known}
 use Rattle.cpp_grammar.proofs.Declared.{is_first}
 use Rattle.cpp_grammar.proofs.Steps.{all_pass}
 
@@ -230,3 +230,16 @@ mutual
 -- the parts of a lambda begin with such a kind
 pub lambda_begins : (p : Production) → has_first p ≡ true → begins_first (parts_of p) ≡ true
 lambda_begins p h = implied (has_first p) (begins_first (parts_of p)) (first_parts p) h
+
+first_known : (x : Sym) → is_first x ≡ true → IsSymbol wide x
+unfolding is_first
+first_known (OfKind k) h = go (nat_eq k FIRST_OF_LAMBDA) refl h
+  where
+    go : (b : Bool) → nat_eq k FIRST_OF_LAMBDA ≡ b → b || nat_eq k FIRST_AFTER_T ≡ true → k < wide.kinds
+    go true is h = subst (λ n. n < wide.kinds) (sym (eqb-true k FIRST_OF_LAMBDA is)) (known FIRST_OF_LAMBDA (lit≤ tt))
+    go false is h = subst (λ n. n < wide.kinds) (sym (eqb-true k FIRST_AFTER_T h)) (known FIRST_AFTER_T (lit≤ tt))
+first_known _ h = absurd (false≢true h)
+
+-- What is read of the first type of a lambda is no pair.
+pub read_first : (t : Tree) (x : Sym) (around : Around) (place : ℕ) (state : State) (r : Found (List Value) State) → IsTree wide x t → is_first x ≡ true → unfold_tree cpp around place t state ≡ Ok r → starts r.value ≡ true
+read_first t x around place state r is first e = first_tree t x around place state r (first_known x first) is first e
