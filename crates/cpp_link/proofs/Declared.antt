@@ -45,4 +45,4 @@ pub undeclared_makes : (s : List ℕ) (ts : List Term) (p : Part) (first : Value
     → value_of s ts p ≡ first → t ≡ tree_of first → rest ≡ items
     → (if is_void t && is_nil rest then 0 else 1) ≡ (if is_void (tree_of first) && is_nil items then 0 else 1) + one_if_declared first
 undeclared_makes s ts p first t rest items other is same others =
-    omega (arith, none_declared s ts p other, ap one_if_declared is, ap (λ u. if is_void u && is_nil rest then 0 else 1) same, ap (λ u. if is_void (tree_of first) && is_nil u then 0 else 1) others)
+    omega (arith, none_declared s ts p other, ap one_if_declared is, ap {B = ℕ} (λ u. if is_void u && is_nil rest then 0 else 1) same, ap {B = ℕ} (λ u. if is_void (tree_of first) && is_nil u then 0 else 1) others)
