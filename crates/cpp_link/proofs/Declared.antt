@@ -1,11 +1,18 @@
 -- What a lambda denotes, whether it declares parameters or not.
-use Rattle.std.proofs.Common.{◌≡◌, refl, ap, subst, arith, ℕ, ◌+◌, List}
+use Rattle.std.proofs.Common.{◌≡◌, refl, ap, subst, arith, ℕ, ◌+◌, List, Bool, true, false, Option}
+use Rattle.std.proofs.lemmas.Bool.{true≢false}
 use Rattle.std.specs.Prelude.{◌&&◌, if◌then◌else◌}
 use Rattle.cpp_term.specs.Term as term
 use Rattle.cpp_term.specs.Term.{Term}
 use Rattle.cpp_term.specs.Values as values
 use Rattle.cpp_term.specs.Values.{Value, tree_of}
 use Rattle.cpp_term.specs.Meaning.{is_void, is_nil, parameters, signature_with}
+use Rattle.cpp_term.specs.Reargued.{reargued}
+use Rattle.cpp_term.specs.Rescoping.{is_declaring}
+use Rattle.cpp_tree.specs.Nodes as nodes
+use Rattle.cpp_tree.specs.Nodes.{is_again}
+use Rattle.cpp_tree.specs.declared.node.Node.{Node}
+use Rattle.cpp_tree.specs.declared.node.Thunk.{Thunk}
 use Rattle.cpp_link.specs.declared.part.Part.{Part}
 use Rattle.cpp_link.specs.NodeCount.{one_if_declared}
 use Rattle.cpp_link.specs.Parts.{value_of}
@@ -46,3 +53,17 @@ pub undeclared_makes : (s : List ℕ) (ts : List Term) (p : Part) (first : Value
     → (if is_void t && is_nil rest then 0 else 1) ≡ (if is_void (tree_of first) && is_nil items then 0 else 1) + one_if_declared first
 undeclared_makes s ts p first t rest items other is same others =
     omega (arith, none_declared s ts p other, ap one_if_declared is, ap {B = ℕ} (λ u. if is_void u && is_nil rest then 0 else 1) same, ap {B = ℕ} (λ u. if is_void (tree_of first) && is_nil u then 0 else 1) others)
+
+-- ## A signature that declares some
+
+pub signature_declares : (s : List ℕ) (us : List Thunk) (ts : List Term) (given : Option Term) (node : Node) (heads types : ℕ) → node ≡ Node.Declaring heads types → is_declaring (reargued given (nodes.tree_of s us ts node)) ≡ true
+unfolding is_declaring nodes.tree_of reargued
+signature_declares s us ts given node heads types is = rw is refl
+
+pub signature_declares_none : (s : List ℕ) (us : List Thunk) (ts : List Term) (given : Option Term) (node : Node) → is_again node ≡ false → ((heads types : ℕ) → node ≡ Node.Declaring heads types → ⊥)
+    → is_declaring (reargued given (nodes.tree_of s us ts node)) ≡ false
+unfolding is_declaring nodes.tree_of reargued is_again
+signature_declares_none s us ts given (Node.Reargued t a) own other = absurd (true≢false own)
+signature_declares_none s us ts given (Node.Declaring heads types) own other = absurd (other heads types refl)
+signature_declares_none s us ts given Node.Absent own other = refl
+signature_declares_none s us ts given _ own other = refl

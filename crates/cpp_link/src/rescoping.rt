@@ -479,11 +479,10 @@ impl Linked {
         requires below { parameters < length self.now.nodes.nodes }
         ensures { result ≡ (is_declaring (tree_at (trees_in symbol.now self.now.nodes) parameters) || is_open (tree_at (trees_in symbol.now self.now.nodes) parameters)) }
     {
-        let declares = match opened(&self.nodes, symbol, parameters).node {
+        match opened(&self.nodes, symbol, parameters).node {
             Node::Declaring { .. } => true,
-            _ => false,
-        };
-        declares || self.nodes.is_open(symbol, parameters)
+            _ => self.nodes.is_open(symbol, parameters),
+        }
     }
 
     /// The piece itself, unless it is a lambda whose signature declares parameters or has free ones: that has parameters of its
