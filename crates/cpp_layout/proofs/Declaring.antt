@@ -1,5 +1,5 @@
 -- What a lambda declares of its parameters.
-use Rattle.std.proofs.Common.{◌≡◌, refl, sym, ap, subst, ◌∙◌, ℕ, zero, suc, ◌+◌, ◌^◌, ◌<◌, ◌≤◌, List, [], ◌∷◌, ◌++◌, Bool, true, false, nat_eq, nat_lt, Option, None, Some, decimal, append-nil, arith}
+use Rattle.std.proofs.Common.{◌≡◌, refl, sym, ap, subst, ◌∙◌, ℕ, zero, suc, ◌+◌, ◌^◌, ◌<◌, ◌≤◌, List, [], ◌∷◌, ◌++◌, Bool, true, false, nat_lt, Option, None, Some, decimal, append-nil, arith}
 use Rattle.std.proofs.lemmas.Bool.{true≢false, eq-eqb, ne_eqb, le-ltb, lt-ltb}
 use Rattle.sym_print.specs.declared.detail.Detail.{Detail}
 use Rattle.sym_print.specs.Unfold.{PartOf, text, sub}
@@ -164,7 +164,7 @@ declaring_parts c h p number =
 
 pub declaring-whole : (c : items.Context) (h p : Term) (number : ℕ)
     → text (fixed_text DECLARING) ∷ as_item (heads.declared 0) c h ∷ text (fixed_text TYPES) ∷ (list_part heads.first c p ++ (text (fixed_text RIGHT_NUMBER) ∷ text (decimal number) ∷ text (fixed_text BRACE) ∷ []))
-      ≡ declaring_parts c h p number
+    ≡ declaring_parts c h p number
 declaring-whole c h p number = refl
 
 -- its parameters name what its own signature declares
