@@ -1,5 +1,5 @@
 -- What a lambda declares of its parameters.
-use Rattle.std.proofs.Common.{◌≡◌, refl, sym, ap, subst, ◌∙◌, ℕ, zero, suc, ◌+◌, ◌^◌, ◌<◌, ◌≤◌, List, [], ◌∷◌, ◌++◌, Bool, true, false, nat_eq, nat_lt, Option, None, Some, decimal, append-nil, arith}
+use Rattle.std.proofs.Common.{◌≡◌, refl, sym, ap, subst, ◌∙◌, ℕ, zero, suc, ◌+◌, ◌^◌, ◌<◌, ◌≤◌, List, [], ◌∷◌, ◌++◌, Bool, true, false, nat_lt, Option, None, Some, decimal, append-nil, arith}
 use Rattle.std.proofs.lemmas.Bool.{true≢false, eq-eqb, ne_eqb, le-ltb, lt-ltb}
 use Rattle.sym_print.specs.declared.detail.Detail.{Detail}
 use Rattle.sym_print.specs.Unfold.{PartOf, text, sub}
@@ -45,7 +45,7 @@ module _ (s : List ℕ) (us : List Thunk) (ts : List Term) (given : Option Term)
       by (Node.Reargued x z) flat other = absurd (true≢false flat)
       by _ flat other = refl
 
-  -- of what isn't declared there is no name
+  -- what is declared has a name and a number
   pub name-some : (k : ℕ) → (n ≡ Node.Absent → ⊥) → text (front_of_name t) ∷ text (decimal k) ∷ [] ≡ name_of_own k t
   unfolding tree_of name_of_own reargued is_again
   name-some k other = subst (λ u. text (front_of_name u) ∷ text (decimal k) ∷ [] ≡ name_of_own k u) (sym is) (by n flat other)
@@ -96,7 +96,7 @@ pub generic-plain : (s : List ℕ) (us : List Thunk) (ts : List Term) (given : O
 generic-plain s us ts given n flat c number t u v own same is other =
     ap (λ x. piece_parts c (term.lambda x number)) (reargued_none t) ∙ generic-own s us ts given n flat t (sym own ∙ sym same ∙ is) c number other
 
--- a pack's name is that of what it is a pack of
+-- a pack's name begins as that of what is in the pack
 pub front-pack : (a b : ℕ) (x y : Term) → b ≡ 112 → letter_name (declared_letter x) ≡ front_of_name (term.operation a b x y)
 unfolding front_of_name
 front-pack a b x y is = rw (front_of_name, eq-eqb b 112 is) refl
@@ -164,7 +164,7 @@ declaring_parts c h p number =
 
 pub declaring-whole : (c : items.Context) (h p : Term) (number : ℕ)
     → text (fixed_text DECLARING) ∷ as_item (heads.declared 0) c h ∷ text (fixed_text TYPES) ∷ (list_part heads.first c p ++ (text (fixed_text RIGHT_NUMBER) ∷ text (decimal number) ∷ text (fixed_text BRACE) ∷ []))
-      ≡ declaring_parts c h p number
+    ≡ declaring_parts c h p number
 declaring-whole c h p number = refl
 
 -- its parameters name what its own signature declares

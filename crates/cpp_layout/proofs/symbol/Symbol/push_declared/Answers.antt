@@ -1,4 +1,4 @@
-use Rattle.std.proofs.Common.{ap, arith, sym, ℕ, ◌∙◌, ◌∷◌}
+use Rattle.std.proofs.Common.{ap, arith, sym, ◌∙◌, ◌∷◌}
 use Rattle.cpp_grammar.specs.Items as heads
 use Rattle.cpp_layout.proofs.Declaring.{rest-nil, rest-none, rest-some}
 use Rattle.cpp_layout.proofs.Functions.{not-nil}
