@@ -445,8 +445,8 @@ module _ (way : Way) (keeps : KeepsClosed way) (noted_way : NotedWay) (ways : Is
       let t = taken_rule k rule taken lt is.0 in
       elim (cases_Bool (opens t.production)) [
         | inl opening_ ↦ subst (λ o. Alike (Many way.own o around state other) (unfold_tree (reading_by way) around at (branch rule taken parts) state) (unfold_tree (reading_noted_by noted_way) (noted_around way.own around) at (branch rule taken parts) other))
-              (sym (plain_place way.own (OfKind k) around (encoding_kind k rule taken t.production lt is.0 t.is opening_)))
-              (encoded_noted k rule taken parts all t.production t.is opening_ around at state other is (inside (t.encoding opening_)) old same)
+            (sym (plain_place way.own (OfKind k) around (encoding_kind k rule taken t.production lt is.0 t.is opening_)))
+            (encoded_noted k rule taken parts all t.production t.is opening_ around at state other is (inside (t.encoding opening_)) old same)
         | inr plain ↦ plain_noted k rule taken parts all t.production t.is plain around at state other lt is le special first settled pre old same
       ]
   branch_noted rule taken parts all _ around at state other lt is le inside special first settled pre old same = absurd is

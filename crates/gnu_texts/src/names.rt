@@ -38,7 +38,8 @@ impl Name {
             Name::Istream => b"std::basic_istream<char, std::char_traits<char> >",
             Name::Iostream => b"std::basic_iostream<char, std::char_traits<char> >",
             Name::Ostream => b"std::basic_ostream<char, std::char_traits<char> >",
-            Name::String => b"std::basic_string<char, std::char_traits<char>, std::allocator<char> >",
+            Name::String =>
+                b"std::basic_string<char, std::char_traits<char>, std::allocator<char> >",
             Name::NullPointer => b"decltype(nullptr)",
         }
     }

@@ -51,11 +51,7 @@ fn operator_size(last: u8, text: &[u8]) -> usize
         return 0;
     }
     let sign = sign_size(&text[8..]);
-    if sign == 0 {
-        0
-    } else {
-        8 + sign
-    }
+    if sign == 0 { 0 } else { 8 + sign }
 }
 
 /// Whether a text begins with a bracket before which a blank is written.
@@ -111,12 +107,7 @@ fn append_spaced(byte: u8, out: &mut Vec<u8>) -> Result<(), AllocError>
 }
 
 /// Appends what is written for a name with which a text begins, and for the constructor or destructor after it.
-fn append_name(
-    name: Name,
-    front: usize,
-    text: &[u8],
-    out: &mut Vec<u8>,
-) -> Result<(), AllocError>
+fn append_name(name: Name, front: usize, text: &[u8], out: &mut Vec<u8>) -> Result<(), AllocError>
     requires { 5 + length (name_of name) + front ≤ length text.now }
     ensures { OnOk result (out.new.items ≡ out.old.items ++ written_of name ++ member_bytes name front (drop (5 + length (name_of name)) text.now)) }
 {

@@ -25,12 +25,7 @@ impl Rewrites for Shortening {
         has_std(text)
     }
 
-    fn rewrite(
-        &self,
-        lists: &mut Short,
-        from: usize,
-        out: &mut Vec<u8>,
-    ) -> Result<(), AllocError> {
+    fn rewrite(&self, lists: &mut Short, from: usize, out: &mut Vec<u8>) -> Result<(), AllocError> {
         lists.shorten(self.keeps_inline, from, out)
     }
 
