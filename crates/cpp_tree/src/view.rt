@@ -8,106 +8,23 @@ ghost use Rattle.cpp_tree.specs.Nodes.{over, trees, tree_of, piece_of, qualifier
 ghost use Rattle.cpp_tree.specs.Fields.{bit, linkage_number, name_fields, named_fields, local_fields, thunk_fields, fields_of, offsets_of};
 ghost use Rattle.cpp_tree.specs.Views.{plain_tree, prefix_trees, seen_of, seen_behind, seen_fields, no_text, offsets_in, AreBelow, IsSlotBelow, AreWithin, IsSeen, IsKnownThunk};
 
-use crate::Nodes;
-use crate::node;
-use crate::node::Adjustment;
-use crate::node::Mark;
-use crate::node::Piece;
-use crate::node::Qualifiers;
-use crate::node::Signed;
-use crate::node::Thunk;
-use crate::node::bit;
-use crate::tree_production::ABBREVIATION;
-use crate::tree_production::ABSENT;
-use crate::tree_production::ADDRESS_OF;
-use crate::tree_production::ARRAY;
-use crate::tree_production::BINDINGS;
-use crate::tree_production::BOOLEAN;
-use crate::tree_production::BOUNDED;
-use crate::tree_production::BUILTIN;
-use crate::tree_production::BUILTIN_WITH_D;
-use crate::tree_production::CLONE;
-use crate::tree_production::COMPLEX;
-use crate::tree_production::CONSTRAINED;
-use crate::tree_production::CONSTRUCTION;
-use crate::tree_production::CONSTRUCTOR;
-use crate::tree_production::CONVERSION;
-use crate::tree_production::COVARIANT_THUNK;
-use crate::tree_production::DECLARING;
-use crate::tree_production::DECLTYPE;
-use crate::tree_production::DESTRUCTOR;
-use crate::tree_production::ENCODING_LITERAL;
-use crate::tree_production::ENUMERATION;
-use crate::tree_production::EXPANSION;
-use crate::tree_production::FUNCTION;
-use crate::tree_production::FUNCTION_PARAMETER;
-use crate::tree_production::FUNCTION_TYPE;
-use crate::tree_production::GENERIC_LAMBDA;
-use crate::tree_production::GUARD;
-use crate::tree_production::HOLDER;
-use crate::tree_production::INHERITING;
-use crate::tree_production::INSTANCE;
-use crate::tree_production::INTEGER;
-use crate::tree_production::LAMBDA;
-use crate::tree_production::LIST;
-use crate::tree_production::LITERAL_OPERATOR;
-use crate::tree_production::LOCAL;
-use crate::tree_production::LVALUE;
-use crate::tree_production::MEMBER_POINTER;
-use crate::tree_production::NESTED_BINDINGS;
-use crate::tree_production::NESTED_CONSTRUCTOR;
-use crate::tree_production::NESTED_CONVERSION;
-use crate::tree_production::NESTED_DESTRUCTOR;
-use crate::tree_production::NESTED_ENUMERATION;
-use crate::tree_production::NESTED_GENERIC_LAMBDA;
-use crate::tree_production::NESTED_INHERITING;
-use crate::tree_production::NESTED_LAMBDA;
-use crate::tree_production::NESTED_LITERAL_OPERATOR;
-use crate::tree_production::NESTED_NO_PIECE;
-use crate::tree_production::NESTED_OPERATOR;
-use crate::tree_production::NESTED_SOURCE;
-use crate::tree_production::NESTED_STRING_LITERAL;
-use crate::tree_production::NESTED_UNNAMED;
-use crate::tree_production::NIL;
-use crate::tree_production::NO_PIECE;
-use crate::tree_production::NULL_POINTER;
-use crate::tree_production::NUMBERED_LOCAL;
-use crate::tree_production::OBJECT;
-use crate::tree_production::OF_DEFAULT;
-use crate::tree_production::OF_NAME;
-use crate::tree_production::OPERATION;
-use crate::tree_production::OPERATOR;
-use crate::tree_production::PACK;
-use crate::tree_production::PARAMETER;
-use crate::tree_production::POINTER;
-use crate::tree_production::QUALIFIED;
-use crate::tree_production::RVALUE;
-use crate::tree_production::SIZED_FLOAT;
-use crate::tree_production::SOURCE;
-use crate::tree_production::SPECIAL;
-use crate::tree_production::STD_BINDINGS;
-use crate::tree_production::STD_CONSTRUCTOR;
-use crate::tree_production::STD_CONVERSION;
-use crate::tree_production::STD_DESTRUCTOR;
-use crate::tree_production::STD_ENUMERATION;
-use crate::tree_production::STD_GENERIC_LAMBDA;
-use crate::tree_production::STD_INHERITING;
-use crate::tree_production::STD_LAMBDA;
-use crate::tree_production::STD_LITERAL_OPERATOR;
-use crate::tree_production::STD_NO_PIECE;
-use crate::tree_production::STD_OPERATOR;
-use crate::tree_production::STD_SOURCE;
-use crate::tree_production::STD_STRING_LITERAL;
-use crate::tree_production::STD_UNNAMED;
-use crate::tree_production::STRING_LITERAL;
-use crate::tree_production::SYMBOL;
-use crate::tree_production::TABLE_THUNK;
-use crate::tree_production::TAGGED;
-use crate::tree_production::THUNK;
-use crate::tree_production::UNNAMED;
-use crate::tree_production::VECTOR;
-use crate::tree_production::VENDOR;
-use crate::tree_production::WIDE_THUNK;
+use crate::node::{Adjustment, Mark, Piece, Qualifiers, Signed, Thunk, bit};
+use crate::tree_production::{
+    ABBREVIATION, ABSENT, ADDRESS_OF, ARRAY, BINDINGS, BOOLEAN, BOUNDED, BUILTIN, BUILTIN_WITH_D,
+    CLONE, COMPLEX, CONSTRAINED, CONSTRUCTION, CONSTRUCTOR, CONVERSION, COVARIANT_THUNK, DECLARING,
+    DECLTYPE, DESTRUCTOR, ENCODING_LITERAL, ENUMERATION, EXPANSION, FUNCTION, FUNCTION_PARAMETER,
+    FUNCTION_TYPE, GENERIC_LAMBDA, GUARD, HOLDER, INHERITING, INSTANCE, INTEGER, LAMBDA, LIST,
+    LITERAL_OPERATOR, LOCAL, LVALUE, MEMBER_POINTER, NESTED_BINDINGS, NESTED_CONSTRUCTOR,
+    NESTED_CONVERSION, NESTED_DESTRUCTOR, NESTED_ENUMERATION, NESTED_GENERIC_LAMBDA,
+    NESTED_INHERITING, NESTED_LAMBDA, NESTED_LITERAL_OPERATOR, NESTED_NO_PIECE, NESTED_OPERATOR,
+    NESTED_SOURCE, NESTED_STRING_LITERAL, NESTED_UNNAMED, NIL, NO_PIECE, NULL_POINTER,
+    NUMBERED_LOCAL, OBJECT, OF_DEFAULT, OF_NAME, OPERATION, OPERATOR, PACK, PARAMETER, POINTER,
+    QUALIFIED, RVALUE, SIZED_FLOAT, SOURCE, SPECIAL, STD_BINDINGS, STD_CONSTRUCTOR, STD_CONVERSION,
+    STD_DESTRUCTOR, STD_ENUMERATION, STD_GENERIC_LAMBDA, STD_INHERITING, STD_LAMBDA,
+    STD_LITERAL_OPERATOR, STD_NO_PIECE, STD_OPERATOR, STD_SOURCE, STD_STRING_LITERAL, STD_UNNAMED,
+    STRING_LITERAL, SYMBOL, TABLE_THUNK, TAGGED, THUNK, UNNAMED, VECTOR, VENDOR, WIDE_THUNK,
+};
+use crate::{Nodes, node};
 use sym_core::Span;
 
 /// The view of a node. What its numbers, texts and parts are is at its production in `tree_production`.
