@@ -209,8 +209,8 @@ impl Linked {
     }
 
     /// What is done before the next part where the wide reading does something of its own, except for the mark: a parameter of
-    /// a lambda is named, a name has its `M`, or the base class of an inherited constructor or the name of a concept becomes a
-    /// candidate.
+    /// a lambda is named, what a lambda declares is read, a name has its `M`, or the base class of an inherited constructor or
+    /// the name of a concept becomes a candidate.
     ///
     /// # Errors
     ///
@@ -479,14 +479,14 @@ impl Linked {
         requires below { parameters < length self.now.nodes.nodes }
         ensures { result ≡ (is_declaring (tree_at (trees_in symbol.now self.now.nodes) parameters) || is_open (tree_at (trees_in symbol.now self.now.nodes) parameters)) }
     {
-        let declares = match opened(&self.nodes, symbol, parameters).node {
+        match opened(&self.nodes, symbol, parameters).node {
             Node::Declaring { .. } => true,
-            _ => false,
-        };
-        declares || self.nodes.is_open(symbol, parameters)
+            _ => self.nodes.is_open(symbol, parameters),
+        }
     }
 
-    /// The piece itself, unless it is a lambda whose signature has free parameters: that has parameters of its own (ABI 5.1.8).
+    /// The piece itself, unless it is a lambda whose signature declares parameters or has free ones: that has parameters of its
+    /// own (ABI 5.1.8).
     // <closure-type-name> ::= Ul <lambda-sig> E [ <nonnegative number> ] _
     #[tactic(auto, unfolding(cpp_tree::specs::Nodes::piece_of))]
     fn piece_as_generic_lambda(&self, symbol: &[u8], piece: Piece) -> Piece

@@ -318,6 +318,7 @@ impl Linked {
         requires rest { rest < length self.now.nodes.nodes }
         ensures is { outcome_value symbol.now self.now.nodes result ≡ values.piece (term.lambda (parameters (term.list (tree_at (trees_in symbol.now self.now.nodes) first) (tree_at (trees_in symbol.now self.now.nodes) rest))) number) }
         ensures there { IsOutcomeThere symbol.now (length self.now.nodes.thunks) (length self.now.nodes.nodes) result }
+        ensures nodes { nodes_of_outcome result ≤ 1 }
         ensures makes { nodes_of_outcome result ≡ (if is_void (tree_at (trees_in symbol.now self.now.nodes) first) && is_nil (tree_at (trees_in symbol.now self.now.nodes) rest) then 0 else 1) }
     {
         if self.is_lone_void(symbol, first, rest) {
