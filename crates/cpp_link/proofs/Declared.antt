@@ -1,5 +1,5 @@
 -- What a lambda denotes, whether it declares parameters or not.
-use Rattle.std.proofs.Common.{◌≡◌, refl, ap, subst, arith, ℕ, ◌+◌, List, Bool, true, false, Option}
+use Rattle.std.proofs.Common.{◌≡◌, refl, ap, subst, arith, ℕ, ◌+◌, List, true, false, Option}
 use Rattle.std.proofs.lemmas.Bool.{true≢false}
 use Rattle.std.specs.Prelude.{◌&&◌, if◌then◌else◌}
 use Rattle.cpp_term.specs.Term as term
