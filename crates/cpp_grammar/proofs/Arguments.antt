@@ -11,7 +11,7 @@ use Rattle.sym_link.specs.Reading.{Found, Next, ◌>>=◌}
 use Rattle.sym_link.specs.Unfold.{alone, found, standing, unfold_tree, unfold_forest}
 use Rattle.cpp_grammar.specs.declared.kind.Kind.{Kind}
 use Rattle.cpp_grammar.specs.declared.production.Production.{Production}
-use Rattle.cpp_grammar.specs.KindNumbers.{ITEM, SOLID, SOLID_BUT_T, ARGUMENT, ARGUMENT_AFTER_T, FIRST_OF_LAMBDA, FIRST_AFTER_T, PARAMETER_AFTER_T}
+use Rattle.cpp_grammar.specs.KindNumbers.{ITEM, SOLID, SOLID_BUT_T, ARGUMENT, ARGUMENT_AFTER_T, FIRST_OF_LAMBDA, FIRST_AFTER_T, LEVELED_PARAMETER}
 use Rattle.cpp_grammar.specs.Grammar.{Alternative, in_ranges, among, is_in, pick, alternatives, kinds, productions, number_of, number_of_kind, parts_of, is_chain, may_be_empty}
 use Rattle.cpp_grammar.specs.Wide.{wide_alternatives}
 use Rattle.cpp_grammar.specs.Table.{rule_of, rule_taken, padded, sheet, abi, wide_sheet, wide, sheet_with}
@@ -246,7 +246,7 @@ module _ (begins : Kind → List Alternative) where
   parameter_argument picked (grown (token digits) nothing) trees takes = absurd trees.1
   parameter_argument picked (grown (token digits) (grown arguments (grown u f))) trees takes = absurd trees.1.1
 
-  parameter_first : pick (begins Kind.FirstAfterT) 95 ≡ Some Production.FirstParameter → pick (begins Kind.ParameterAfterT) 95 ≡ Some Production.ParameterArgument
+  parameter_first : pick (begins Kind.FirstAfterT) 95 ≡ Some Production.FirstParameter → pick (begins Kind.LeveledParameter) 95 ≡ Some Production.ParameterArgument
       → AsParameter FIRST_OF_LAMBDA Production.FirstWithT
   unfolding rule_of parts_of padded number_of_kind is_chain kinds
   parameter_first first picked (grown (token digits) (grown arguments nothing)) trees takes =
@@ -258,7 +258,7 @@ module _ (begins : Kind → List Alternative) where
           (
             (
               chained FIRST_AFTER_T Kind.FirstAfterT Production.FirstParameter refl first refl,
-              ((chained PARAMETER_AFTER_T Kind.ParameterAfterT Production.ParameterArgument refl picked refl, trees), tt),
+              ((chained LEVELED_PARAMETER Kind.LeveledParameter Production.ParameterArgument refl picked refl, trees), tt),
             ),
             tt,
           ),

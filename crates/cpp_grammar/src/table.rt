@@ -503,7 +503,7 @@ static LETTERS: [[u8; 87]; 183] = [
     *b"                                                                       \xb4  \xb3 \xb6   \xb5    \xb2 ", // DeclarationAfterT
     *b"                                                \xb7                                      ", // Declarations
     *b"            \xad\xad\xad\xad\xad\xad\xad\xad\xad\xad       \xad \xadb \xad    \\ \xad\xad]\xad ]\xad\xb8\xad[   \xad      \xad\xad\xad\xad\xad\xad\xad\xad\xad\xad \xad\xad\xad\xad  Z\xad\xad\xad\xad\xad\xad\xad\xad", // FirstOfLambda
-    *b"            \xb9\xb9\xb9\xb9\xb9\xb9\xb9\xb9\xb9\xb9                  \xb9                  \xb9                           ", // FirstAfterT
+    *b"            \xb9\xb9\xb9\xb9\xb9\xb9\xb9\xb9\xb9\xb9                                     \xb9                           ", // FirstAfterT
     *b"            \xbb\xbb\xbb\xbb\xbb\xbb\xbb\xbb\xbb\xbb                    \xba    \xbb                                       ", // Concept
     *b"                                     \xbc                                                 ", // ConceptArguments
     *b"            $$$$$$$$$$       q s  r      kS j  m #    n      oooooooooo oooo   oopooooo", // SolidButT
@@ -1059,7 +1059,7 @@ pub static SYMBOLS: [Sym; 1614] = symbols_listed! {
     [Sym::Byte(b'T'), DECLARATION_AFTER_T, NONE, NONE, NONE], // 182 PackOf
     [DECLARATION_AFTER_T, DECLARATIONS, NONE, NONE, NONE], // 183 Declarations
     [FIRST_AFTER_T, NONE, NONE, NONE, NONE], // 184 FirstWithT
-    [PARAMETER_AFTER_T, NONE, NONE, NONE, NONE], // 185 FirstParameter
+    [LEVELED_PARAMETER, NONE, NONE, NONE, NONE], // 185 FirstParameter
     [NEST, CONCEPT_ARGUMENTS, NONE, NONE, NONE], // 186 NestedConcept
     [UNNESTED_NAME, HELD_ARGUMENTS, NONE, NONE, NONE], // 187 NamedConcept
     [ARGUMENTS_FIRST, Sym::Byte(b'E'), NONE, NONE, NONE], // 188 ConceptArguments

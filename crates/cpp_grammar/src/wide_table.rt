@@ -137,7 +137,7 @@ static WIDE_ROWS: [Row; 183] = rows! {
     [0, b"                                                                       \xb4  \xb3 \xb6   \xb5    \xb2 "], // DeclarationAfterT
     [0, b"                                                \xb7                                      "], // Declarations
     [0, b"            \xad\xad\xad\xad\xad\xad\xad\xad\xad\xad       \xad \xadb \xad    \\ \xad\xad]\xad ]\xad\xb8\xad[\xad  \xad      \xad\xad\xad\xad\xad\xad\xad\xad\xad\xad \xad\xad\xad\xad  Z\xad\xad\xad\xad\xad\xad\xad\xad"], // FirstOfLambda
-    [0, b"            \xb9\xb9\xb9\xb9\xb9\xb9\xb9\xb9\xb9\xb9                  \xb9                  \xb9           \xf2  \xf2 \xf2   \xf2    \xf2 "], // FirstAfterT
+    [0, b"            \xb9\xb9\xb9\xb9\xb9\xb9\xb9\xb9\xb9\xb9                                     \xb9           \xf2  \xf2 \xf2   \xf2    \xf2 "], // FirstAfterT
     [0, b"            \xbb\xbb\xbb\xbb\xbb\xbb\xbb\xbb\xbb\xbb                    \xba    \xbb                                       "], // Concept
     [0, b"                                     \xbc                                                 "], // ConceptArguments
     [0, b"            $$$$$$$$$$       q s  r      kS j  m # *  n      oooooooooo oooo   oopooooo"], // SolidButT

@@ -146,7 +146,7 @@ pub first-after-t-branch : BranchRead Kind.FirstAfterT
 unfolding alternatives parts_of between meaning listed_value tree_of part unfolding_.behind takes_all
 first-after-t-branch rule taken parts all around at old v new front is e outer =
     let o = opened-read Kind.FirstAfterT rule taken parts all around at old v new front is e in
-    by-parts (In around item_type old) Production.FirstParameter tt tt o (λ w s one. (one Kind.ParameterAfterT refl outer).types item_type tt refl)
+    by-parts (In around item_type old) Production.FirstParameter tt tt o (λ w s one. (one Kind.LeveledParameter refl outer).types item_type tt refl)
 
 pub first-branch : BranchRead Kind.FirstOfLambda
 unfolding alternatives takes_qualified takes_all takes_expansions meaning listed_value part unfolding_.behind tree_of parts_of between number_of
