@@ -440,13 +440,8 @@ any-argument s around os at st expects bytes vs after read stands =
     expects bytes vs after (record { shape = argument.tree; shaped = argument.is; spelled = argument.spells ∙ read.spelled; unfolds = argument.says around at st ∙ read.unfolds }) stands
 
 -- and the first type of a lambda
-pub first-read : (s : Symbol) (around : Around) (at : ℕ) (bytes : List ℕ) (st : State) (vs : List Value) (after : State)
-    → direct.Reads (cpp_language s) s.bytes (OfKind (number_of_kind Kind.Item)) around at bytes st vs after
-    → direct.Reads (cpp_language s) s.bytes (OfKind (number_of_kind Kind.FirstOfLambda)) around at bytes st vs after
-unfolding number_of_kind
-first-read s around at bytes st vs after read =
-    let first = first-by s.is_wide read.shape read.shaped in
-    record { shape = first.tree; shaped = first.is; spelled = first.spells ∙ read.spelled; unfolds = first.says around at st ∙ read.unfolds }
-
 pub any-first : (s : Symbol) (around : Around) (os : List Opened) (at : ℕ) (st : State) → Expects s Kind.FirstOfLambda around os at st → Expects s Kind.Item around os at st
-any-first s around os at st expects bytes vs after read stands = expects bytes vs after (first-read s around at bytes st vs after read) stands
+unfolding number_of_kind
+any-first s around os at st expects bytes vs after read stands =
+    let first = first-by s.is_wide read.shape read.shaped in
+    expects bytes vs after (record { shape = first.tree; shaped = first.is; spelled = first.spells ∙ read.spelled; unfolds = first.says around at st ∙ read.unfolds }) stands

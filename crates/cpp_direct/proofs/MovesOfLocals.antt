@@ -14,7 +14,7 @@ use Rattle.sym_direct.proofs.Moves as moves
 use Rattle.cpp_direct.proofs.Kept.{none-known}
 use Rattle.cpp_direct.proofs.ShortNumbers.{lambda-begins, tested}
 use Rattle.cpp_direct.proofs.MovesOfTypes.{named-taken}
-use Rattle.cpp_direct.proofs.Moves.{awaited, stands-split, kind-at, reads-rule, joins, none-left, opens-where, needs-next, hole, open_at, fill, filled-at, hole-at, eats, leaves, chosen-byte, is_left, byte-opens, chain-opens, byte-fills, next-part, closes, none-fills, fixed-fills, name-fills, number-fills, is_eaten, digits-fill, any-first, first-read}
+use Rattle.cpp_direct.proofs.Moves.{awaited, stands-split, kind-at, reads-rule, joins, none-left, opens-where, needs-next, hole, open_at, fill, filled-at, hole-at, eats, leaves, chosen-byte, is_left, byte-opens, chain-opens, byte-fills, next-part, closes, none-fills, fixed-fills, name-fills, number-fills, is_eaten, digits-fill, any-first}
 use Rattle.cpp_direct.proofs.Tables.{empty-by, names-by}
 
 -- ## Discriminators
@@ -97,18 +97,18 @@ pub source-name-piece : (s : Symbol) (at : ℕ) (name : List ℕ) (end : ℕ) �
 unfolding is_left
 source-name-piece s at name end is os around e st expects = source-comes s Kind.TypeEntity os around e at name end st refl expects is
 
--- void is read as an item
+-- void is read as the first type of a lambda
 void-read : (s : Symbol) (around : Around) (at : ℕ) (st : State)
-    → direct.Reads (cpp_language s) s.bytes (OfKind (number_of_kind Kind.Item)) around at (118 ∷ []) st (tree (builtin (118 ∷ [])) true ∷ []) st
+    → direct.Reads (cpp_language s) s.bytes (OfKind (number_of_kind Kind.FirstOfLambda)) around at (118 ∷ []) st (tree (builtin (118 ∷ [])) true ∷ []) st
 unfolding choose alternatives pick is_in in_ranges among is_chain parts_of rule_of padded number_of_kind between opening close unfolding_.behind meaning
     with_type listed_value tree_of is_listed part byte_of
 void-read s around at st =
-    let p = Production.PlainType in
+    let p = Production.PlainArgument in
     let q = Production.Builtin in
     let v = tree (builtin (118 ∷ [])) true in
-    reads-rule s Kind.Item p 118 [] around at st st st (118 ∷ []) (v ∷ []) v refl (omega arith) refl
-    (joins s p [] at around st [] (OfKind (number_of_kind Kind.Solid)) [] (at + 0) st around [] st st st (v ∷ []) (118 ∷ []) [] (v ∷ []) refl
-    (reads-rule s Kind.Solid q 118 (118 ∷ []) around (at + 0) st st st [] [] v refl (omega arith) refl
+    reads-rule s Kind.FirstOfLambda p 118 [] around at st st st (118 ∷ []) (v ∷ []) v refl (omega arith) refl
+    (joins s p [] at around st [] (OfKind (number_of_kind Kind.SolidButT)) [] (at + 0) st around [] st st st (v ∷ []) (118 ∷ []) [] (v ∷ []) refl
+    (reads-rule s Kind.SolidButT q 118 (118 ∷ []) around (at + 0) st st st [] [] v refl (omega arith) refl
     (none-left s q (118 ∷ []) (at + 0) around st [] (at + 0 + 1) st) refl refl)
     (none-left s p [] at around st (v ∷ []) (at + 0 + 1) st)) refl refl
 
@@ -137,7 +137,7 @@ lambda-read s around at digits st are small =
     reads-rule s Kind.Anonymous p 108 (108 ∷ []) around at st st st (118 ∷ 69 ∷ ((digits ++ 95 ∷ []) ++ [])) four (piece (lambda nil (local_number digits)))
     refl (omega arith) refl
     (joins s p (108 ∷ []) at around st [] (OfKind (number_of_kind Kind.FirstOfLambda)) (items ∷ Byte 69 ∷ Number Decimal ∷ []) (at + 1) st c [] st st st one
-    (118 ∷ []) (69 ∷ ((digits ++ 95 ∷ []) ++ [])) four refl (first-read s c (at + 1) (118 ∷ []) st one st (void-read s c (at + 1) st))
+    (118 ∷ []) (69 ∷ ((digits ++ 95 ∷ []) ++ [])) four refl (void-read s c (at + 1) st)
     (joins s p (108 ∷ []) at around st one items (Byte 69 ∷ Number Decimal ∷ []) (at + 1 + 1) st c one st st st (nothing_there ∷ [])
     [] (69 ∷ ((digits ++ 95 ∷ []) ++ [])) four refl
     (record { shape = empty; shaped = empty-by s.is_wide (number_of_kind Kind.Items) Kind.Items (kind-at Kind.Items); spelled = refl; unfolds = refl })
