@@ -21,7 +21,7 @@ use Rattle.cpp_direct.proofs.Scopes.{has-member, has-plain, arguments-named, ent
 use Rattle.cpp_direct.proofs.TypesRead.{builtin-item, popped}
 use Rattle.cpp_direct.proofs.Unmarked.{name-unmarked}
 use Rattle.cpp_direct.specs.AllHoles.{Comes, Discriminator, Expects, IsDiscriminatorAt, IsNameAt, IsPieceAt, Opened, StandsAt, local_in, with_candidate}
-use Rattle.cpp_direct.specs.AllStates.{added, AddressWithin, AreLeft, AreNamed, Arguments, AwaitsAddressedParameters, AwaitsArgumentOfName, AwaitsEnclosingParameters, AwaitsLed, AwaitsLedParameters, AwaitsNamedType, AwaitsNest, AwaitsTypeName, below, called_on, detail_of, Direct, Encloses, has_const, HasAddressedFront, HasArguments, HasLed, HasNameSo, HasScope, in_front_of_next, IsAddressed, IsAddressedFrontRead, IsAddressedParameterRead, IsAddressedRead, IsAddressNamed, IsBuiltinAt, IsElementIn, IsElementRead, IsEnclosingNamed, IsEnclosingParameterRead, IsEnclosingRead, IsLedFunction, IsLedFunctionRead, IsLedParameterRead, IsMarkPlace, IsNesting, IsOwn, IsScoped, IsTypeRead, IsWriting, ItemsGoOn, ItemsOf, Kept, list_of, Mark, mark_text, MarkPlace, no_scope, nowhere, Open, PrintsName, PrintsPiece, qualifiers, Reads, Scope, Serves, Shows, Stands, Symbol, TypeWithin, Writes}
+use Rattle.cpp_direct.specs.AllStates.{added, AddressWithin, AreLeft, AreNamed, Arguments, AwaitsAddressedParameters, AwaitsArgumentOfName, AwaitsEnclosingParameters, AwaitsFront, AwaitsLed, AwaitsLedParameters, AwaitsNamedType, AwaitsNest, AwaitsTypeName, below, called_on, detail_of, Direct, Encloses, has_const, HasArguments, HasLed, HasNameSo, HasScope, in_front_of_next, IsAddressed, IsAddressedParameterRead, IsAddressedRead, IsAddressNamed, IsBuiltinAt, IsElementIn, IsElementRead, IsEnclosingNamed, IsEnclosingParameterRead, IsEnclosingRead, IsInnerFrontRead, IsLedFunction, IsLedFunctionRead, IsLedParameterRead, IsMarkPlace, IsNesting, IsOwn, IsScoped, IsTypeRead, IsWriting, ItemsGoOn, ItemsOf, Kept, list_of, Mark, mark_text, MarkPlace, no_scope, nowhere, Open, PrintsName, PrintsPiece, qualifiers, Reads, Scope, Serves, Shows, Stands, Symbol, TypeWithin, Writes}
 use Rattle.cpp_direct.specs.AllTerms.{absent, address_of, after, alone, arguments_of, Around, builtin, encoding_of, function, has_return_type, in_name, in_types, is_function_type, Kind, list, may_be_empty, named, nil, no_items, nothing_there, parameters, source, source_text, State, Term, tree, tree_of, types_of, Value}
 use Rattle.std.specs.List.{ends_with}
 use Rattle.std.proofs.Common.{nat_eq, ◌≡◌, ◌≢◌, refl, ap, sym, ◌∙◌, subst, ℕ, ◌+◌, List, [], ◌∷◌, ◌++◌, length, reverse, true, false, arith, codes, append-nil, append_assoc, Bool, ◌-◌, take, slice_get, Some, ◌&&◌, ◌≤◌, length-append}
@@ -125,6 +125,76 @@ plain-awaits {s = s} {extra = extra} {mark = mark} w kept p no_return leads goes
   written = p.written;
   goes = goes;
 }
+
+-- ## Return types
+
+-- a function that has a return type expects it
+pub front-awaits : {s : Symbol} {mark : Mark} {from : ℕ} {argument : Arguments} (Leads : LeadsSo) (Within : WithinOpen) (w new : Direct) (entry : Open) (kept : Kept s w)
+    (p : HasNameSo s w.text.list.items mark from) → Leads kept.scope p.own p.lead p.name → has_return_type p.own ≡ true
+    → (goes : ItemsGoOn s argument (Within kept.scope (reverse w.waiting.list.items) p.lead) (λ l. encoding_of p.v l) [] w.at kept.state)
+    → new.waiting.list.items ≡ w.waiting.list.items ++ entry ∷ [] → new.text ≡ w.text → new.candidates ≡ w.candidates → new.has_scope ≡ w.has_scope → new.at ≡ w.at
+    → ((os : List Opened) → AwaitsFront s mark argument (Leads kept.scope) (Within kept.scope (reverse w.waiting.list.items)) os w.text.list.items
+    → Stands s kept.scope (entry ∷ reverse w.waiting.list.items) os w.text.list.items)
+    → IsScoped kept.scope goes.around (entry ∷ reverse w.waiting.list.items) → IsWriting s new steps.Type
+front-awaits {s = s} {from = from} {argument = argument} Leads Within w new entry kept p leads returns goes waiting text candidates scope_same at stands scoped =
+    let rest = reverse w.waiting.list.items in
+    item-comes s w new kept argument (Within kept.scope rest p.lead) (λ l. encoding_of p.v l) [] w.at goes (entry ∷ rest) text candidates scope_same at
+    (ap reverse waiting ∙ reverse-last w.waiting.list.items entry)
+    (λ os onward. stands os (record { from = from; has = p; leads = leads; returns = returns }, onward)) scoped
+
+-- it is read
+pub front-read : {s : Symbol} {mark : Mark} {argument : Arguments} {entry : Open} {Leads : LeadsSo} {Within : WithinOpen} (w : Direct) (is_reference is_dependent : Bool)
+    → IsWriting s w (steps.Value is_reference is_dependent) → slice_get w.waiting.list.items (length w.waiting.list.items - 1) ≡ Some entry
+    → ((scope : Scope) (rest : List Open) (os : List Opened) (text : List ℕ) → Stands s scope (entry ∷ rest) os text
+    → AwaitsFront s mark argument (Leads scope) (Within scope rest) os text)
+    → IsInnerFrontRead s w mark argument entry Leads Within
+front-read {s = s} {entry = entry} w is_reference is_dependent p found awaits =
+    let last = last-found w.waiting.list.items entry found in
+    let v = subst (λ ws. IsTypeRead s p.scope w p.state ws is_reference is_dependent) last.1 p.is_before in
+    let waits = awaits p.scope last.0 v.os v.front v.stands in
+    record {
+      kept = p.kept;
+      rest = last.0;
+      open_is = last.1;
+      text = v.front;
+      front = waits.0;
+      returned = v.own;
+      bytes = v.bytes;
+      reads = v.written;
+      goes = waits.1 v.own w.at p.state v.comes;
+    }
+
+-- it is removed
+pub front-cut : {s : Symbol} {extra : ℕ} {mark : Mark} {argument : Arguments} {entry : Open} {Leads : LeadsSo} {Within : WithinOpen} (w shut new : Direct) (to : ℕ)
+    (p : IsInnerFrontRead s w mark argument entry Leads Within) → IsAddressed s p.scope to argument p.own p.lead p.name
+    → shut.text ≡ w.text → shut.candidates ≡ w.candidates → shut.has_scope ≡ w.has_scope → shut.at ≡ w.at
+    → shut.waiting.list.items ≡ take (length w.waiting.list.items - 1) w.waiting.list.items
+    → new.text.list.items ≡ take to shut.text.list.items → AreLeft (hidings.After to) shut.candidates.list.items new.candidates.list.items
+    → new.waiting ≡ shut.waiting → new.has_scope ≡ shut.has_scope → new.at ≡ shut.at → AwaitsLedParameters s new extra mark argument Leads Within
+unfolding no_items
+front-cut {s = s} {extra = extra} {mark = mark} {argument = argument} {entry = entry} {Within = Within} w shut new to p addressed same_text same_candidates same_scope same_at waits text are waiting scope_same at =
+    let left = p.lead ++ p.name in
+    let whole_ : w.text.list.items ≡ left ++ p.bytes = p.reads ∙ ap (λ l. l ++ p.bytes) p.written in
+    let left_is : new.text.list.items ≡ left =
+    text ∙ front-left shut.text.list.items left p.bytes to (ap (λ v. v.list.items) same_text ∙ whole_) addressed.to_is in
+    let r = p.returned in
+    record {
+      kept = kept-cut s w new p.kept left p.bytes to whole_ addressed.to_is left_is
+          (subst (λ v. AreLeft (hidings.After to) v.list.items new.candidates.list.items) same_candidates are) (scope_same ∙ same_scope) addressed.there;
+      has = record {
+        is_led = led-by s extra mark p.own r (λ l. encoding_of p.v (list r l)) p.lead p.name p.prints
+            (λ t rest. encoding-returned p.v mark p.own p.named_so p.returns r (list t rest));
+        leads = p.leads;
+      };
+      written = left_is;
+      goes = subst (λ ws. ItemsGoOn s argument (Within p.scope ws p.lead) (λ l. encoding_of p.v (list r l)) [] new.at p.state)
+          (sym (ap (λ v. reverse v.list.items) waiting
+          ∙ popped w.waiting.list.items shut.waiting.list.items p.rest entry (length w.waiting.list.items) refl p.open_is waits))
+          (subst (λ n. ItemsGoOn s argument (Within p.scope p.rest p.lead) (λ l. encoding_of p.v (list r l)) [] n p.state) (sym (at ∙ same_at))
+          (returned-first (encoding_of p.v) r w.at p.state p.goes));
+    }
+
+-- ## Parameters that follow
 
 -- a parameter comes next
 led-expected : {s : Symbol} {extra : ℕ} {mark : Mark} {argument : Arguments} {entry : Open} {rest : List Open} {ts : List Term} {texts : List ℕ} {Leads : Term → List ℕ → List ℕ → Type 0} (Within : WithinOpen) (w : Direct)
@@ -585,64 +655,10 @@ pub front-addressed : (s : Symbol) (w new : Direct) (mark : Mark) (to : ℕ) (ar
     → new.waiting.list.items ≡ w.waiting.list.items ++ opens.AddressedFront mark to argument ∷ [] → new.text ≡ w.text
     → new.candidates ≡ w.candidates → new.has_scope ≡ w.has_scope → new.at ≡ w.at → IsWriting s new steps.Type
 front-addressed s w new mark to argument p waiting text candidates scope_same at =
-    let g = p.goes in
-    let rest = reverse w.waiting.list.items in
-    let becomes : Term → ℕ → State → Type 0 = AddressWithin s (below s no_scope rest) p.lead in
-    let has : HasAddressedFront s p.scope w.text.list.items mark to argument =
-    record { from = p.from; has = p.has; is_addressed = p.addressed; returns = p.returns refl } in
-    item-comes s w new p.kept argument becomes (λ l. encoding_of p.v l) [] w.at g (opens.AddressedFront mark to argument ∷ rest) text candidates scope_same at
-    (ap reverse waiting ∙ reverse-last w.waiting.list.items (opens.AddressedFront mark to argument)) (λ os onward. (has, onward))
-    (entry-scoped p.scope g.around (opens.AddressedFront mark to argument) argument rest refl refl p.named g.scoped)
-
--- it is read
-pub value-addressed-front : (s : Symbol) (w : Direct) (is_reference is_dependent : Bool) (mark : Mark) (to : ℕ) (argument : Arguments)
-    → IsWriting s w (steps.Value is_reference is_dependent)
-    → slice_get w.waiting.list.items (length w.waiting.list.items - 1) ≡ Some (opens.AddressedFront mark to argument)
-    → IsAddressedFrontRead s w mark to argument
-value-addressed-front s w is_reference is_dependent mark to argument p found =
-    let last = last-found w.waiting.list.items (opens.AddressedFront mark to argument) found in
-    let v = subst (λ ws. IsTypeRead s p.scope w p.state ws is_reference is_dependent) last.1 p.is_before in
-    let waits = v.stands in
-    record {
-      kept = p.kept;
-      rest = last.0;
-      open_is = last.1;
-      text = v.front;
-      addressed = waits.0;
-      returned = v.own;
-      bytes = v.bytes;
-      reads = v.written;
-      goes = waits.1 v.own w.at p.state v.comes;
-    }
-
--- it is removed
-pub front-cut : (s : Symbol) (w shut new : Direct) (mark : Mark) (to : ℕ) (argument : Arguments) (p : IsAddressedFrontRead s w mark to argument)
-    → shut.text ≡ w.text → shut.candidates ≡ w.candidates → shut.has_scope ≡ w.has_scope → shut.at ≡ w.at
-    → shut.waiting.list.items ≡ take (length w.waiting.list.items - 1) w.waiting.list.items
-    → new.text.list.items ≡ take to shut.text.list.items → AreLeft (hidings.After to) shut.candidates.list.items new.candidates.list.items
-    → new.waiting ≡ shut.waiting → new.has_scope ≡ shut.has_scope → new.at ≡ shut.at → AwaitsAddressedParameters s new mark to argument
-unfolding no_items
-front-cut s w shut new mark to argument p same_text same_candidates same_scope same_at waits text are waiting scope_same at =
-    let left = p.lead ++ p.name in
-    let whole_ : w.text.list.items ≡ left ++ p.bytes = p.reads ∙ ap (λ l. l ++ p.bytes) p.written in
-    let left_is : new.text.list.items ≡ left =
-    text ∙ front-left shut.text.list.items left p.bytes to (ap (λ v. v.list.items) same_text ∙ whole_) p.to_is in
-    let r = p.returned in
-    record {
-      kept = kept-cut s w new p.kept left p.bytes to whole_ p.to_is left_is
-          (subst (λ v. AreLeft (hidings.After to) v.list.items new.candidates.list.items) same_candidates are) (scope_same ∙ same_scope) p.there;
-      has = record {
-        is_led = led-by s 3 mark p.own r (λ l. encoding_of p.v (list r l)) p.lead p.name p.prints
-            (λ t rest. encoding-returned p.v mark p.own p.named_so p.returns r (list t rest));
-        leads = p.is_addressed;
-      };
-      written = left_is;
-      goes = subst (λ ws. ItemsGoOn s argument (AddressWithin s (below s no_scope ws) p.lead) (λ l. encoding_of p.v (list r l)) [] new.at p.state)
-          (sym (ap (λ v. reverse v.list.items) waiting
-          ∙ popped w.waiting.list.items shut.waiting.list.items p.rest (opens.AddressedFront mark to argument) (length w.waiting.list.items) refl p.open_is waits))
-          (subst (λ n. ItemsGoOn s argument (AddressWithin s (below s no_scope p.rest) p.lead) (λ l. encoding_of p.v (list r l)) [] n p.state) (sym (at ∙ same_at))
-          (returned-first (encoding_of p.v) r w.at p.state p.goes));
-    }
+    let entry = opens.AddressedFront mark to argument in
+    front-awaits (λ scope. IsAddressed s scope to argument) (λ scope waits. AddressWithin s (below s no_scope waits)) w new entry p.kept p.has p.addressed (p.returns refl)
+    p.goes waiting text candidates scope_same at (λ os h. h)
+    (entry-scoped p.scope p.goes.around entry argument (reverse w.waiting.list.items) refl refl p.named p.goes.scoped)
 
 -- one is read
 pub value-addressed : (s : Symbol) (w : Direct) (is_reference is_dependent : Bool) (mark : Mark) (to : ℕ) (argument : Arguments)

@@ -1,18 +1,16 @@
 -- Instances of function templates that contain a type, whose parameters may name their arguments: from their names to their ends.
-use Rattle.cpp_direct.proofs.Ending.{parameter-goes_on, types-scoped}
-use Rattle.cpp_direct.proofs.FunctionsWithin.{first-led, items-scoped, led-by, led-read, next-led, returned-first}
+use Rattle.cpp_direct.proofs.Ending.{types-scoped}
+use Rattle.cpp_direct.proofs.FunctionsWithin.{front-awaits, items-scoped, led-read}
 use Rattle.cpp_direct.proofs.Kept.{kept-same, kept-closed, reverse-last}
 use Rattle.cpp_direct.proofs.Listed.{last-found}
-use Rattle.cpp_direct.proofs.MovesOfLists.{element-awaits}
 use Rattle.cpp_direct.proofs.MovesOfLocals.{nowhere-scoped}
 use Rattle.cpp_direct.proofs.NamedArguments.{arguments-given, named-there, scope_at, scope-kept}
 use Rattle.cpp_direct.proofs.Nesting.{nest-comes, closed-prints}
 use Rattle.cpp_direct.proofs.PrintedLists.{element-in}
 use Rattle.cpp_direct.proofs.PrintedNames.{as-name}
-use Rattle.cpp_direct.proofs.PrintedSymbols.{encoding-returned}
 use Rattle.cpp_direct.proofs.PrintedTypes.{as-in}
 use Rattle.cpp_direct.proofs.Scopes.{arguments-named, entry-scoped, has-member}
-use Rattle.cpp_direct.proofs.TypesRead.{builtin-item, popped}
+use Rattle.cpp_direct.proofs.TypesRead.{popped}
 use Rattle.cpp_direct.specs.AllHoles.{Comes, Opened, StandsAt}
 use Rattle.cpp_direct.specs.AllStates.{AreLeft, AreNamed, Arguments, AwaitsLedParameters, below, called_on, detail_of, Direct, has_const, HasArguments, IsBuiltinAt, IsElementIn, IsElementRead, IsEnclosingNamed, IsEnclosingParameterRead, IsInstanceNamed, IsInstanceParameterRead, IsNesting, IsOwn, IsScopedWithin, IsTypeRead, IsWriting, ItemsGoOn, ItemsOf, Kept, Mark, no_scope, nowhere, Open, PrintsIn, qualifiers, Scope, Serves, Symbol, TypeWithin, Writes}
 use Rattle.cpp_direct.specs.AllTerms.{arguments_of, Context, Detail, encoding_of, has_return_type, Kind, list, named, State, Term, types_of}
@@ -52,48 +50,35 @@ instance-named s w mark encoding from p = record {
   goes = items-scoped nowhere p.v w.at p.state p.items (nowhere-scoped p.items.around);
 }
 
--- after its return type, which is a builtin one, it expects its parameters, whose types may name its arguments
-pub instance-awaits : (s : Symbol) (old new : Direct) (mark : Mark) (from to end : ℕ) (argument : Arguments) → IsInstanceNamed s old mark argument.encoding from
-    → old.has_scope ≡ false → new.has_scope ≡ true → new.text ≡ old.text → new.candidates ≡ old.candidates → new.waiting ≡ old.waiting
-    → new.at ≡ end → argument ≡ record (old.argument) { encoding = argument.encoding } → to ≡ length old.text.list.items → IsBuiltinAt s.bytes old.at end
-    → AwaitsLedParameters s new 6 mark argument (λ scope. IsScopedWithin s scope from to argument) (λ scope waits. TypeWithin s (below s no_scope waits))
-instance-awaits s old new mark from to end argument p first now text candidates waiting at same to_is is =
+-- it expects its return type, and then its parameters, all of whose types may name its arguments
+pub instance-front : (s : Symbol) (old new : Direct) (mark : Mark) (from to : ℕ) (argument : Arguments) → IsInstanceNamed s old mark argument.encoding from
+    → old.has_scope ≡ false → new.has_scope ≡ true → new.text ≡ old.text → new.candidates ≡ old.candidates
+    → new.waiting.list.items ≡ old.waiting.list.items ++ opens.EnclosingFront mark from to argument ∷ [] → new.at ≡ old.at
+    → argument ≡ record (old.argument) { encoding = argument.encoding } → to ≡ length old.text.list.items → IsWriting s new steps.Type
+instance-front s old new mark from to argument p first now text candidates waiting at same to_is =
     let here = old.text.list.items in
     let rest = reverse old.waiting.list.items in
-    let make : Term → Term = λ l. encoding_of p.v l in
-    let becomes : Term → ℕ → State → Type 0 = TypeWithin s (below s no_scope rest) p.lead in
+    let begun : Direct = record old { has_scope = true } in
     let names : HasArguments (detail_of s) here argument p.own =
     subst (λ (k : Arguments). HasArguments (detail_of s) here k p.own) (sym same) (arguments-named here argument.encoding old.argument p.own p.names) in
-    let items : ItemsOf s argument.encoding becomes p.v old.at p.state =
+    let items : ItemsOf s argument.encoding (TypeWithin s (below s no_scope rest) p.lead) p.v old.at p.state =
     subst (λ (k : Scope). ItemsOf s argument.encoding (TypeWithin s (below s k rest) p.lead) p.v old.at p.state) (p.keeps.unknown first).0 p.items in
-    let begun = items-scoped argument p.v old.at p.state items
+    let goes = items-scoped argument p.v old.at p.state items
     (types-scoped here argument items.around p.own (λ real. (items.encoding_is, items.no_lambda)) (items.scope_is ∙ ap arguments_of p.named_so.tree_is) names) in
-    let element = element-awaits s Kind.Items begun.inner begun.around old.at p.state tt begun.awaits in
-    let returned = builtin-item s begun.around element.inner old.at end p.state is element.awaits in
-    let r = returned.0 in
-    let goes = returned-first make r end p.state (parameter-goes_on s argument becomes make [] old.at p.state begun r end p.state
-    (element.onward r end p.state returned.1)) in
     let scope = scope_at here argument in
-    record {
-      kept = record { state = p.state; scope = scope; keeps = scope-kept s old new p.kept argument p.own names first now text candidates };
-      has = record {
-        is_led = led-by s 6 mark p.own r (λ l. make (list r l)) p.lead p.name p.prints
-            (λ t rest. encoding-returned p.v mark p.own p.named_so p.returns r (list t rest));
-        leads = (
-          p.from_is,
-          record {
-            to_is = to_is ∙ ap length p.written;
-            given = arguments-given here argument p.own names;
-            named = refl;
-            there = subst (λ l. AreNamed l scope) p.written (named-there here argument p.own names);
-            typed = (p.keeps.unknown first).1;
-          },
-        );
-      };
-      written = ap (λ k. k.list.items) text ∙ p.written;
-      goes = subst (λ v. ItemsGoOn s argument (TypeWithin s (below s no_scope (reverse v.list.items)) p.lead) (λ l. make (list r l)) [] new.at p.state) (sym waiting)
-          (subst (λ k. ItemsGoOn s argument becomes (λ l. make (list r l)) [] k p.state) (sym at) goes);
-    }
+    let entry = opens.EnclosingFront mark from to argument in
+    front-awaits (λ k. IsScopedWithin s k from to argument) (λ k waits. TypeWithin s (below s no_scope waits)) begun new entry
+    (record { state = p.state; scope = scope; keeps = scope-kept s old begun p.kept argument p.own names first refl refl refl }) p.has
+    (
+      p.from_is,
+      record {
+        to_is = to_is ∙ ap length p.written;
+        given = arguments-given here argument p.own names;
+        named = refl;
+        there = subst (λ l. AreNamed l scope) p.written (named-there here argument p.own names);
+        typed = (p.keeps.unknown first).1;
+      },
+    ) p.returns goes waiting text candidates now at (λ os h. h) (entry-scoped scope goes.around entry argument rest refl refl refl goes.scoped)
 
 -- a type is read as an element
 read-more : {detail : Detail} (c : Context) (t : Term) (b : List ℕ) (r : Bool) → PrintsIn detail c 3 t b r → IsElementIn detail c 6 t b

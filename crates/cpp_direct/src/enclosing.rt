@@ -10,7 +10,7 @@ ghost use Rattle.cpp_direct.specs.HolesOfLocals.{IsPieceAt};
 ghost use Rattle.cpp_direct.specs.Prints.{PrintsPiece};
 ghost use Rattle.cpp_direct.specs.WriterInvariant.{IsWriting};
 ghost use Rattle.cpp_direct.specs.MidStep.{AwaitsNamedType};
-ghost use Rattle.cpp_direct.specs.MidStepOfLocals.{AwaitsEnclosingParameters, AwaitsTypeName, IsBuiltinAt, IsEnclosingNamed, IsEnclosingParameterRead, IsEnclosingRead, IsInstanceNamed, IsInstanceParameterRead};
+ghost use Rattle.cpp_direct.specs.MidStepOfLocals.{AwaitsEnclosingParameters, AwaitsTypeName, IsBuiltinAt, IsEnclosingFrontRead, IsEnclosingNamed, IsEnclosingParameterRead, IsEnclosingRead, IsInstanceNamed, IsInstanceParameterRead};
 ghost use Rattle.cpp_direct.specs.Written.{Reads};
 ghost use Rattle.cpp_direct.specs.Symbol.{detail_by, symbol_by};
 
@@ -94,8 +94,9 @@ impl Direct {
         self.enclosing_parameters::<G>(s, mark, from)
     }
 
-    /// The name of an instance of a function template is read that contains a type. The function's return type follows, a
-    /// builtin one, and is not written.
+    /// The name of an instance of a function template is read that contains a type. The function's return type follows, and is
+    /// not written. In a symbol that isn't a long one, outside the types of another function, the types of its parameters may
+    /// name its own arguments: candidates are visited where the function ends.
     // <bare-function-type> ::= <return type> <parameter type>+
     pub(crate) fn enclosing_instance<G: Grammar>(
         &mut self,
@@ -108,37 +109,62 @@ impl Direct {
         requires named { IsInstanceNamed (symbol_by G.IS_WIDE G.IS_BARE G.IS_BRIEF s.now) self.old mark encoding from }
         ensures { IfSome result (IsWriting (symbol_by G.IS_WIDE G.IS_BARE G.IS_BRIEF s.now) self.new) }
     {
-        let behind = builtin_end(s, self.at)?;
-        if self.has_scope || s.len() > LONGEST_GONE_OVER || byte_at(s, behind) == b'v' {
+        if let Some(behind) = builtin_end(s, self.at)
+            && (self.has_scope || s.len() > LONGEST_GONE_OVER || byte_at(s, behind) == b'v')
+        {
             self.at = behind;
             return self.enclosing_parameters::<G>(s, mark, from);
         }
-        self.instance_parameters::<G>(s, mark, encoding, from, behind)
+        if self.has_scope || s.len() > LONGEST_GONE_OVER {
+            return None;
+        }
+        self.instance_front::<G>(s, mark, encoding, from)
     }
 
-    /// Reads the return type of such a function, a builtin one, in a symbol that isn't a long one: candidates are visited where
-    /// the function ends. The types of its parameters may name its own arguments.
+    /// Expects the return type of such a function.
     // <bare-function-type> ::= <return type> <parameter type>+
-    fn instance_parameters<G: Grammar>(
+    fn instance_front<G: Grammar>(
         &mut self,
         _s: &[u8],
         mark: Mark,
         encoding: u16,
         from: u32,
-        behind: usize,
     ) -> Option<Step>
         requires named { IsInstanceNamed (symbol_by G.IS_WIDE G.IS_BARE G.IS_BRIEF _s.now) self.old mark encoding from }
         requires outside { self.old.has_scope ≡ false }
-        requires returned { IsBuiltinAt _s.now self.old.at behind }
         ensures { IfSome result (IsWriting (symbol_by G.IS_WIDE G.IS_BARE G.IS_BRIEF _s.now) self.new) }
     {
-        self.at = behind;
         self.has_scope = true;
         let to = self.text.end();
         let argument = Arguments {
             encoding,
             ..self.argument
         };
+        self.waiting.push(Open::EnclosingFront {
+            mark,
+            from,
+            to,
+            argument,
+        })?;
+        Some(Step::Type)
+    }
+
+    /// The return type of such a function is read and not shown: its parameters follow.
+    // <bare-function-type> ::= <return type> <parameter type>+
+    pub(crate) fn enclosing_front<G: Grammar>(
+        &mut self,
+        _s: &[u8],
+        mark: Mark,
+        from: u32,
+        to: u32,
+        argument: Arguments,
+    ) -> Option<Step>
+        requires fits { IsReadable _s.now }
+        requires read { IsEnclosingFrontRead (symbol_by G.IS_WIDE G.IS_BARE G.IS_BRIEF _s.now) self.old mark from to argument }
+        ensures { IfSome result (IsWriting (symbol_by G.IS_WIDE G.IS_BARE G.IS_BRIEF _s.now) self.new) }
+    {
+        let _open = self.waiting.pop();
+        self.leave_out(to)?;
         self.push_byte(b'(')?;
         self.waiting.push(Open::EnclosingInstance {
             mark,

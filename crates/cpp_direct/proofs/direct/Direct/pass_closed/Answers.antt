@@ -1,7 +1,7 @@
 use Rattle.std.proofs.Common.{Some, true, false, ap, ◌∙◌}
 use Rattle.cpp_direct.specs.declared.open.Open.TheVariants as opens
 use Rattle.cpp_direct.proofs.Handed.{value-element, value-returned, value-signature, value-enumerator, argument-read, special-read, takes-elements}
-use Rattle.cpp_direct.proofs.FunctionsWithin.{parameter-read-within, value-addressed, value-addressed-front}
+use Rattle.cpp_direct.proofs.FunctionsWithin.{front-read, parameter-read-within, value-addressed}
 use Rattle.cpp_direct.proofs.InstancesWithin.{value-instance}
 use Rattle.cpp_direct.proofs.LambdasRead.{lambda-parameter-read}
 use Rattle.cpp_direct.proofs.Arguments.{value-argument}
@@ -34,8 +34,11 @@ instance_parameter-requires-clause-read g c =
 
 pub addressed_front-requires-clause-read : goal.addressed_front-requires-clause-read
 addressed_front-requires-clause-read g c =
-    value-addressed-front _ c.args.self.now c.args.is_reference false c.in-AddressedFront.mark c.in-AddressedFront.to c.in-AddressedFront.argument
-    c.requires.writing (c.requires.waits ∙ ap (λ o. Some o) c.in-AddressedFront.is)
+    front-read c.args.self.now c.args.is_reference false c.requires.writing (c.requires.waits ∙ ap (λ o. Some o) c.in-AddressedFront.is) (λ scope rest os text h. h)
+
+pub enclosing_front-requires-clause-read : goal.enclosing_front-requires-clause-read
+enclosing_front-requires-clause-read g c =
+    front-read c.args.self.now c.args.is_reference false c.requires.writing (c.requires.waits ∙ ap (λ o. Some o) c.in-EnclosingFront.is) (λ scope rest os text h. h)
 
 pub addressed_parameter-requires-clause-read : goal.addressed_parameter-requires-clause-read
 addressed_parameter-requires-clause-read g c =
@@ -72,5 +75,5 @@ returns-in_default g c =
     argument-read _ c.args.self.now c.args.entry
     (value-element _ c.args.self.now c.args.is_reference c.args.entry c.requires.writing c.requires.waits)
     (takes-elements c.args.entry c.requires.others c.in_default.not-Returned c.in_default.not-Signature c.in_default.not-Special c.in_default.not-Enumerator
-    c.in_default.not-Enclosing c.in_default.not-EnclosingInstance c.in_default.not-Argument c.in_default.not-Lambda c.in_default.not-Element c.in_default.not-Array
+    c.in_default.not-Enclosing c.in_default.not-EnclosingInstance c.in_default.not-EnclosingFront c.in_default.not-Argument c.in_default.not-Lambda c.in_default.not-Element c.in_default.not-Array
     c.in_default.not-Address c.in_default.not-AddressedFront c.in_default.not-Addressed)

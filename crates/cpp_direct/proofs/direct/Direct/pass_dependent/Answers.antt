@@ -1,5 +1,5 @@
 use Rattle.std.proofs.Common.{true}
-use Rattle.cpp_direct.proofs.FunctionsWithin.{value-addressed, value-addressed-front}
+use Rattle.cpp_direct.proofs.FunctionsWithin.{front-read, value-addressed}
 use Rattle.cpp_direct.proofs.InstancesWithin.{value-instance}
 use Rattle.cpp_direct.proofs.Listed.{waits-last}
 use Rattle.cpp_direct.proofs.direct.Direct.pass_dependent.Goals as goal
@@ -11,8 +11,13 @@ instance_parameter-requires-clause-read g c =
 
 pub addressed_front-requires-clause-read : goal.addressed_front-requires-clause-read
 addressed_front-requires-clause-read g c =
-    value-addressed-front _ c.args.self.now c.requires.writing.0 true c.in-AddressedFront.mark c.in-AddressedFront.to c.in-AddressedFront.argument c.requires.writing.1
-    (waits-last _ _ _ _ c.as_slice.ensures c.in_ok-entry.ensures.value c.in-AddressedFront.is)
+    front-read c.args.self.now c.requires.writing.0 true c.requires.writing.1
+    (waits-last _ _ _ _ c.as_slice.ensures c.in_ok-entry.ensures.value c.in-AddressedFront.is) (λ scope rest os text h. h)
+
+pub enclosing_front-requires-clause-read : goal.enclosing_front-requires-clause-read
+enclosing_front-requires-clause-read g c =
+    front-read c.args.self.now c.requires.writing.0 true c.requires.writing.1
+    (waits-last _ _ _ _ c.as_slice.ensures c.in_ok-entry.ensures.value c.in-EnclosingFront.is) (λ scope rest os text h. h)
 
 pub addressed_parameter-requires-clause-read : goal.addressed_parameter-requires-clause-read
 addressed_parameter-requires-clause-read g c =
