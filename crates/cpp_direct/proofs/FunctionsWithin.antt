@@ -21,7 +21,7 @@ use Rattle.cpp_direct.proofs.Scopes.{has-member, has-plain, arguments-named, ent
 use Rattle.cpp_direct.proofs.TypesRead.{builtin-item, popped}
 use Rattle.cpp_direct.proofs.Unmarked.{name-unmarked}
 use Rattle.cpp_direct.specs.AllHoles.{Comes, Discriminator, Expects, IsDiscriminatorAt, IsNameAt, IsPieceAt, Opened, StandsAt, local_in, with_candidate}
-use Rattle.cpp_direct.specs.AllStates.{added, AddressWithin, AreLeft, AreNamed, Arguments, AwaitsAddressedParameters, AwaitsArgumentOfName, AwaitsEnclosingParameters, AwaitsFront, AwaitsLed, AwaitsLedParameters, AwaitsNamedType, AwaitsNest, AwaitsTypeName, below, called_on, detail_of, Direct, Encloses, has_const, HasArguments, HasLed, HasNameSo, HasScope, in_front_of_next, IsAddressed, IsAddressedParameterRead, IsAddressedRead, IsAddressNamed, IsBuiltinAt, IsElementIn, IsElementRead, IsEnclosingNamed, IsEnclosingParameterRead, IsEnclosingRead, IsInnerFrontRead, IsLedFunction, IsLedFunctionRead, IsLedParameterRead, IsMarkPlace, IsNesting, IsOwn, IsScoped, IsTypeRead, IsWriting, ItemsGoOn, ItemsOf, Kept, list_of, Mark, mark_text, MarkPlace, no_scope, nowhere, Open, PrintsName, PrintsPiece, qualifiers, Reads, Scope, Serves, Shows, Stands, Symbol, TypeWithin, Writes}
+use Rattle.cpp_direct.specs.AllStates.{added, AddressWithin, AreLeft, AreNamed, Arguments, AwaitsArgumentOfName, AwaitsEnclosingParameters, AwaitsFront, AwaitsLed, AwaitsLedParameters, AwaitsNamedType, AwaitsNest, AwaitsTypeName, below, called_on, detail_of, Direct, Encloses, has_const, HasArguments, HasLed, HasNameSo, HasScope, in_front_of_next, IsAddressed, IsAddressedRead, IsAddressNamed, IsBuiltinAt, IsElementIn, IsElementRead, IsEnclosingNamed, IsEnclosingParameterRead, IsEnclosingRead, IsGiven, IsInnerFrontRead, IsLedFunction, IsLedFunctionRead, IsLedParameterRead, IsMarkPlace, IsNesting, IsOwn, IsScoped, IsTypeRead, IsWriting, ItemsGoOn, ItemsOf, Kept, list_of, Mark, mark_text, MarkPlace, no_scope, nowhere, Open, PrintsName, PrintsPiece, qualifiers, Reads, Scope, Serves, Shows, Stands, Symbol, TypeWithin, Writes}
 use Rattle.cpp_direct.specs.AllTerms.{absent, address_of, after, alone, arguments_of, Around, builtin, encoding_of, function, has_return_type, in_name, in_types, is_function_type, Kind, list, may_be_empty, named, nil, no_items, nothing_there, parameters, source, source_text, State, Term, tree, tree_of, types_of, Value}
 use Rattle.std.specs.List.{ends_with}
 use Rattle.std.proofs.Common.{nat_eq, ◌≡◌, ◌≢◌, refl, ap, sym, ◌∙◌, subst, ℕ, ◌+◌, List, [], ◌∷◌, ◌++◌, length, reverse, true, false, arith, codes, append-nil, append_assoc, Bool, ◌-◌, take, slice_get, Some, ◌&&◌, ◌≤◌, length-append}
@@ -253,6 +253,22 @@ led-read {s = s} {rest = rest} w os kept t front bytes open_is written comes wai
       written = written ∙ ap (λ l. l ++ bytes) waits.3 ∙ append_assoc (h.front ++ h.name ++ codes "(") (in_front_of_next ts texts) bytes;
       goes = waits.4 t w.at kept.state comes;
     }
+
+-- likewise a type that may name the function's arguments
+pub type-led : {s : Symbol} {extra : ℕ} {mark : Mark} {argument : Arguments} {entry : Open} {Leads : LeadsSo} {Within : WithinOpen} (w : Direct) (is_reference is_dependent : Bool)
+    → 3 ≤ extra → IsWriting s w (steps.Value is_reference is_dependent) → slice_get w.waiting.list.items (length w.waiting.list.items - 1) ≡ Some entry
+    → ((scope : Scope) (rest : List Open) (os : List Opened) (text : List ℕ) → Stands s scope (entry ∷ rest) os text
+    → AwaitsLed s extra mark argument (Leads scope) (Within scope rest) os text)
+    → ((scope : Scope) (own : Term) (front name : List ℕ) → Leads scope own front name → IsGiven (detail_of s) scope.names (types_of own))
+    → IsLedParameterRead s w extra mark argument entry Leads Within
+type-led {s = s} {extra = extra} {entry = entry} w is_reference is_dependent most p found awaits given =
+    let last = last-found w.waiting.list.items entry found in
+    let v = subst (λ ws. IsTypeRead s p.scope w p.state ws is_reference is_dependent) last.1 p.is_before in
+    let waits = awaits p.scope last.0 v.os v.front v.stands in
+    let h = waits.2 in
+    led-read w v.os p.kept v.own v.front v.bytes last.1 v.written v.comes waits
+    (type-in (types_of h.own) extra v.own v.bytes is_reference most
+    (as-in (detail_of s) p.scope.names is_dependent (types_of h.own) v.own v.bytes is_reference (given p.scope h.own h.front h.name h.leads) v.prints))
 
 -- ## Their ends
 
@@ -659,20 +675,6 @@ front-addressed s w new mark to argument p waiting text candidates scope_same at
     front-awaits (λ scope. IsAddressed s scope to argument) (λ scope waits. AddressWithin s (below s no_scope waits)) w new entry p.kept p.has p.addressed (p.returns refl)
     p.goes waiting text candidates scope_same at (λ os h. h)
     (entry-scoped p.scope p.goes.around entry argument (reverse w.waiting.list.items) refl refl p.named p.goes.scoped)
-
--- one is read
-pub value-addressed : (s : Symbol) (w : Direct) (is_reference is_dependent : Bool) (mark : Mark) (to : ℕ) (argument : Arguments)
-    → IsWriting s w (steps.Value is_reference is_dependent)
-    → slice_get w.waiting.list.items (length w.waiting.list.items - 1) ≡ Some (opens.Addressed mark to argument) → IsAddressedParameterRead s w mark to
-value-addressed s w is_reference is_dependent mark to argument p found =
-    let last = last-found w.waiting.list.items (opens.Addressed mark to argument) found in
-    let v = subst (λ ws. IsTypeRead s p.scope w p.state ws is_reference is_dependent) last.1 p.is_before in
-    let h = v.stands.2 in
-    let types = types_of h.own in (
-      argument,
-      led-read w v.os p.kept v.own v.front v.bytes last.1 v.written v.comes v.stands
-          (type-in types 3 v.own v.bytes is_reference (as-in (detail_of s) p.scope.names is_dependent types v.own v.bytes is_reference h.leads.given v.prints)),
-    )
 
 -- Its E is read and that of its address, which is accepted like a type.
 pub address-ended : (s : Symbol) (w new : Direct) → IsAddressedRead s w marks.Plain → StandsAt s.bytes w.at (69 ∷ 69 ∷ []) → new.text ≡ w.text

@@ -1,5 +1,5 @@
 -- A type was read, and is forwarded to the entry that waits for it.
-use Rattle.std.proofs.Common.{◌≡◌, ℕ, ◌-◌, length, List, [], ◌∷◌, ◌++◌, reverse, slice_get, Bool, true, false, Option, Some, refl, ap, sym, ◌∙◌, subst, codes, append_assoc, ◌+◌}
+use Rattle.std.proofs.Common.{arith, ◌≡◌, ℕ, ◌-◌, length, List, [], ◌∷◌, ◌++◌, reverse, slice_get, Bool, true, false, Option, Some, refl, ap, sym, ◌∙◌, subst, codes, append_assoc, ◌+◌}
 use Rattle.std.proofs.lemmas.Bool.{false≢true}
 use Rattle.cpp_direct.specs.AllTerms.{Detail, instance, no_items, special, State, Term, tree, types_of}
 use Rattle.cpp_direct.specs.AllStates.{Access, AreParametersRead, argument_of, Arguments, arguments_in, ArgumentsGoOn, AwaitsElementOf, AwaitsEnumerator, AwaitsMark, AwaitsNumber, AwaitsSignature, Belongs, below, detail_of, Direct, extra_of, FirstType, in_front_of_next, is_noted, is_type, is_within_type, IsDependentNow, IsElementIn, IsElementRead, IsFrontRead, IsNaming, IsNest, IsOwn, IsPassedClosed, IsReturned, IsSymbolEnded, IsTemplate, IsTypeRead, IsWriting, Kept, led_by, list_with, Listing, Mark, Marks, Names, Nest, of_pack, of_template, Open, opening_bracket, opening_text, Owns, PrintAllAs, PrintsAs, Purpose, Scope, Shows, Stands, Symbol}
@@ -112,7 +112,7 @@ value-parameter s w is_reference is_dependent mark start argument p found =
     let f = v.stands.2.is_function in
     let types = types_of f.own in
     parameter-got s w mark start argument p.kept last.0 v.os v.own v.front v.bytes v.stands last.1 v.written v.comes
-    (type-in types 3 v.own v.bytes is_reference (as-in (detail_of s) p.scope.names is_dependent types v.own v.bytes is_reference f.given v.prints))
+    (type-in types 3 v.own v.bytes is_reference (omega arith) (as-in (detail_of s) p.scope.names is_dependent types v.own v.bytes is_reference f.given v.prints))
 
 -- the type of a special object was read
 pub special-read : (s : Symbol) (w : Direct) → IsElementRead s w opens.Special → IsSymbolEnded s w

@@ -2,19 +2,17 @@
 use Rattle.cpp_direct.proofs.Ending.{types-scoped}
 use Rattle.cpp_direct.proofs.FunctionsWithin.{front-awaits, items-scoped, led-read}
 use Rattle.cpp_direct.proofs.Kept.{kept-same, kept-closed, reverse-last}
-use Rattle.cpp_direct.proofs.Listed.{last-found}
 use Rattle.cpp_direct.proofs.MovesOfLocals.{nowhere-scoped}
 use Rattle.cpp_direct.proofs.NamedArguments.{arguments-given, named-there, scope_at, scope-kept}
 use Rattle.cpp_direct.proofs.Nesting.{nest-comes, closed-prints}
 use Rattle.cpp_direct.proofs.PrintedLists.{element-in}
 use Rattle.cpp_direct.proofs.PrintedNames.{as-name}
-use Rattle.cpp_direct.proofs.PrintedTypes.{as-in}
 use Rattle.cpp_direct.proofs.Scopes.{arguments-named, entry-scoped, has-member}
 use Rattle.cpp_direct.proofs.TypesRead.{popped}
-use Rattle.cpp_direct.specs.AllHoles.{Comes, Opened, StandsAt}
-use Rattle.cpp_direct.specs.AllStates.{AreLeft, AreNamed, Arguments, AwaitsLedParameters, below, called_on, detail_of, Direct, has_const, HasArguments, IsBuiltinAt, IsElementIn, IsElementRead, IsEnclosingNamed, IsEnclosingParameterRead, IsInstanceNamed, IsInstanceParameterRead, IsNesting, IsOwn, IsScopedWithin, IsTypeRead, IsWriting, ItemsGoOn, ItemsOf, Kept, Mark, no_scope, nowhere, Open, PrintsIn, qualifiers, Scope, Serves, Symbol, TypeWithin, Writes}
-use Rattle.cpp_direct.specs.AllTerms.{arguments_of, Context, Detail, encoding_of, has_return_type, Kind, list, named, State, Term, types_of}
-use Rattle.std.proofs.Common.{◌≡◌, refl, ap, sym, ◌∙◌, subst, ℕ, ◌+◌, ◌-◌, List, [], ◌∷◌, ◌++◌, length, reverse, take, slice_get, Some, Bool, true, false, ◌&&◌, arith, codes, append-nil}
+use Rattle.cpp_direct.specs.AllHoles.{StandsAt}
+use Rattle.cpp_direct.specs.AllStates.{AreLeft, AreNamed, Arguments, below, detail_of, Direct, HasArguments, IsElementRead, IsEnclosingNamed, IsEnclosingParameterRead, IsInstanceNamed, IsInstanceParameterRead, IsNesting, IsOwn, IsScopedWithin, IsWriting, ItemsGoOn, ItemsOf, Kept, Mark, no_scope, nowhere, Scope, Serves, Symbol, TypeWithin}
+use Rattle.cpp_direct.specs.AllTerms.{arguments_of, has_return_type, Kind, list, named, Term, types_of}
+use Rattle.std.proofs.Common.{◌≡◌, refl, ap, sym, ◌∙◌, subst, ℕ, ◌+◌, ◌-◌, [], ◌∷◌, ◌++◌, length, reverse, take, Bool, true, false, ◌&&◌}
 use Rattle.cpp_direct.specs.declared.open.Open.TheVariants as opens
 use Rattle.cpp_direct.specs.declared.open.Purpose.TheVariants as purposes
 use Rattle.cpp_direct.specs.declared.open.Step.TheVariants as steps
@@ -80,30 +78,7 @@ instance-front s old new mark from to argument p first now text candidates waiti
       },
     ) p.returns goes waiting text candidates now at (λ os h. h) (entry-scoped scope goes.around entry argument rest refl refl refl goes.scoped)
 
--- a type is read as an element
-read-more : {detail : Detail} (c : Context) (t : Term) (b : List ℕ) (r : Bool) → PrintsIn detail c 3 t b r → IsElementIn detail c 6 t b
-read-more c t b r p = record {
-  both_texts = rw (p.left_text, p.right_text) (append-nil b);
-  cost = omega (arith, p.cost);
-  filled = p.filled;
-  void = p.void;
-}
-
--- a parameter is read
-pub value-instance : (s : Symbol) (w : Direct) (is_reference is_dependent : Bool) (mark : Mark) (from to : ℕ) (argument : Arguments)
-    → IsWriting s w (steps.Value is_reference is_dependent)
-    → slice_get w.waiting.list.items (length w.waiting.list.items - 1) ≡ Some (opens.EnclosingInstance mark from to argument) → IsInstanceParameterRead s w mark from to
-value-instance s w is_reference is_dependent mark from to argument p found =
-    let last = last-found w.waiting.list.items (opens.EnclosingInstance mark from to argument) found in
-    let v = subst (λ ws. IsTypeRead s p.scope w p.state ws is_reference is_dependent) last.1 p.is_before in
-    let h = v.stands.2 in
-    let types = types_of h.own in (
-      argument,
-      led-read w v.os p.kept v.own v.front v.bytes last.1 v.written v.comes v.stands
-          (read-more types v.own v.bytes is_reference (as-in (detail_of s) p.scope.names is_dependent types v.own v.bytes is_reference h.leads.1.given v.prints)),
-    )
-
--- one that prints on both sides of a name is
+-- a parameter is read that prints on both sides of a name
 pub element-instance : (s : Symbol) (w : Direct) (mark : Mark) (from to : ℕ) (argument : Arguments) → IsElementRead s w (opens.EnclosingInstance mark from to argument)
     → IsInstanceParameterRead s w mark from to
 element-instance s w mark from to argument p =

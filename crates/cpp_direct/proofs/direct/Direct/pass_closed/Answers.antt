@@ -1,8 +1,7 @@
-use Rattle.std.proofs.Common.{Some, true, false, ap, ◌∙◌}
+use Rattle.std.proofs.Common.{Some, true, false, ap, arith, ◌∙◌}
 use Rattle.cpp_direct.specs.declared.open.Open.TheVariants as opens
 use Rattle.cpp_direct.proofs.Handed.{value-element, value-returned, value-signature, value-enumerator, argument-read, special-read, takes-elements}
-use Rattle.cpp_direct.proofs.FunctionsWithin.{front-read, parameter-read-within, value-addressed}
-use Rattle.cpp_direct.proofs.InstancesWithin.{value-instance}
+use Rattle.cpp_direct.proofs.FunctionsWithin.{front-read, parameter-read-within, type-led}
 use Rattle.cpp_direct.proofs.LambdasRead.{lambda-parameter-read}
 use Rattle.cpp_direct.proofs.Arguments.{value-argument}
 use Rattle.cpp_direct.proofs.Signatures.{value-array}
@@ -29,8 +28,8 @@ enclosing_parameter-requires-clause-read g c =
 
 pub instance_parameter-requires-clause-read : goal.instance_parameter-requires-clause-read
 instance_parameter-requires-clause-read g c =
-    value-instance _ c.args.self.now c.args.is_reference false c.in-EnclosingInstance.mark c.in-EnclosingInstance.from c.in-EnclosingInstance.to
-    c.in-EnclosingInstance.argument c.requires.writing (c.requires.waits ∙ ap (λ o. Some o) c.in-EnclosingInstance.is)
+    (c.in-EnclosingInstance.argument, type-led c.args.self.now c.args.is_reference false (omega arith) c.requires.writing
+    (c.requires.waits ∙ ap (λ o. Some o) c.in-EnclosingInstance.is) (λ scope rest os text h. h) (λ scope own front name h. h.1.given))
 
 pub addressed_front-requires-clause-read : goal.addressed_front-requires-clause-read
 addressed_front-requires-clause-read g c =
@@ -42,8 +41,8 @@ enclosing_front-requires-clause-read g c =
 
 pub addressed_parameter-requires-clause-read : goal.addressed_parameter-requires-clause-read
 addressed_parameter-requires-clause-read g c =
-    value-addressed _ c.args.self.now c.args.is_reference false c.in-Addressed.mark c.in-Addressed.to c.in-Addressed.argument
-    c.requires.writing (c.requires.waits ∙ ap (λ o. Some o) c.in-Addressed.is)
+    (c.in-Addressed.argument, type-led c.args.self.now c.args.is_reference false (omega arith) c.requires.writing
+    (c.requires.waits ∙ ap (λ o. Some o) c.in-Addressed.is) (λ scope rest os text h. h) (λ scope own front name h. h.given))
 
 pub lambda_parameter-requires-clause-read : goal.lambda_parameter-requires-clause-read
 lambda_parameter-requires-clause-read g c =
