@@ -74,6 +74,29 @@ pub items-scoped : {s : Symbol} {encoding : ℕ} {becomes : Term → (at : ℕ) 
 items-scoped argument v at st p scoped =
     record { around = p.around; inner = p.inner; outside = p.outside; scoped = scoped; awaits = p.awaits; onward = p.onward }
 
+-- the arguments that its name ends in are known now, and its types may name them
+pub now-scoped : {s : Symbol} {mark : Mark} {from : ℕ} {becomes : Term → (at : ℕ) → State → Type 0} (old new : Direct) (to : ℕ) (argument noted : Arguments) (kept : Kept s old)
+    (p : HasNameSo s old.text.list.items mark from) → ItemsOf s argument.encoding becomes p.v old.at kept.state → old.has_scope ≡ false → new.has_scope ≡ true
+    → new.text ≡ old.text → new.candidates ≡ old.candidates → argument ≡ record noted { encoding = argument.encoding }
+    → HasArguments (detail_of s) old.text.list.items noted p.own → to ≡ length old.text.list.items
+    → (now : Kept s new) × IsAddressed s now.scope to argument p.own p.lead p.name × ItemsGoOn s argument becomes (λ l. encoding_of p.v l) [] old.at now.state
+now-scoped {s = s} old new to argument noted kept p items first now text candidates same noted_there to_is =
+    let here = old.text.list.items in
+    let names : HasArguments (detail_of s) here argument p.own =
+    subst (λ (k : Arguments). HasArguments (detail_of s) here k p.own) (sym same) (arguments-named here argument.encoding noted p.own noted_there) in
+    let scope = scope_at here argument in (
+      record { state = kept.state; scope = scope; keeps = scope-kept s old new kept argument p.own names first now text candidates },
+      record {
+        to_is = to_is ∙ ap length p.written;
+        given = arguments-given here argument p.own names;
+        named = refl;
+        there = subst (λ l. AreNamed l scope) p.written (named-there here argument p.own names);
+        typed = (kept.keeps.unknown first).1;
+      },
+      items-scoped argument p.v old.at kept.state items
+          (types-scoped here argument items.around p.own (λ real. (items.encoding_is, items.no_lambda)) (items.scope_is ∙ ap arguments_of p.named_so.tree_is) names),
+    )
+
 -- its return type was read
 pub returned-first : {s : Symbol} {argument : Arguments} {becomes : Term → (at : ℕ) → State → Type 0} (make : Term → Term) (r : Term) (at : ℕ) (st : State)
     (p : ItemsGoOn s argument becomes make (r ∷ []) at st) → ItemsGoOn s argument becomes (λ l. make (list r l)) [] at st
@@ -127,6 +150,28 @@ plain-awaits {s = s} {extra = extra} {mark = mark} w kept p no_return leads goes
 }
 
 -- ## Return types
+
+-- after its return type, which is a builtin one, a function expects its parameters
+pub returned-awaits : {s : Symbol} {extra : ℕ} {mark : Mark} {from : ℕ} {argument : Arguments} {Leads : LeadsSo} {Within : WithinOpen} (w : Direct) (n : ℕ) (kept : Kept s w)
+    (p : HasNameSo s w.text.list.items mark from) → has_return_type p.own ≡ true → Leads kept.scope p.own p.lead p.name
+    → ItemsGoOn s argument (Within kept.scope (reverse w.waiting.list.items) p.lead) (λ l. encoding_of p.v l) [] w.at kept.state
+    → IsBuiltinAt s.bytes w.at n → AwaitsLedParameters s (record w { at = n }) extra mark argument Leads Within
+returned-awaits {s = s} {extra = extra} {mark = mark} {argument = argument} {Within = Within} w n kept p returns leads begun is =
+    let make : Term → Term = λ l. encoding_of p.v l in
+    let element = element-awaits s Kind.Items begun.inner begun.around w.at kept.state tt begun.awaits in
+    let returned = builtin-item s begun.around element.inner w.at n kept.state is element.awaits in
+    let r = returned.0 in
+    record {
+      kept = kept-same s w (record w { at = n }) refl refl refl kept;
+      has = record {
+        is_led = led-by s extra mark p.own r (λ l. make (list r l)) p.lead p.name p.prints
+            (λ t rest. encoding-returned p.v mark p.own p.named_so returns r (list t rest));
+        leads = leads;
+      };
+      written = p.written;
+      goes = returned-first make r n kept.state (parameter-goes_on s argument (Within kept.scope (reverse w.waiting.list.items) p.lead) make [] w.at kept.state begun r n kept.state
+          (element.onward r n kept.state returned.1));
+    }
 
 -- a function that has a return type expects it
 pub front-awaits : {s : Symbol} {mark : Mark} {from : ℕ} {argument : Arguments} (Leads : LeadsSo) (Within : WithinOpen) (w new : Direct) (entry : Open) (kept : Kept s w)
@@ -476,28 +521,6 @@ name-within s old kept t mark encoding is_instance n returns here is_name =
       goes = items-scoped nowhere (named t (qualifiers (has_const mark)) (called_on mark)) (old.at + 1) kept.state items (nowhere-scoped items.around);
     }
 
--- after its return type, which is a builtin one, a function expects its parameters
-pub returned-awaits : (s : Symbol) (w : Direct) (n : ℕ) (mark : Mark) (from : ℕ) → IsEnclosingNamed s w mark true from → IsBuiltinAt s.bytes w.at n
-    → AwaitsEnclosingParameters s (record w { at = n }) mark from
-returned-awaits s w n mark from p is =
-    let make : Term → Term = λ l. encoding_of p.v l in
-    let becomes : Term → ℕ → State → Type 0 = TypeWithin s (below s p.scope (reverse w.waiting.list.items)) p.lead in
-    let element = element-awaits s Kind.Items p.goes.inner p.goes.around w.at p.state tt p.goes.awaits in
-    let returned = builtin-item s p.goes.around element.inner w.at n p.state is element.awaits in
-    let r = returned.0 in
-    let goes = returned-first make r n p.state (parameter-goes_on s nowhere becomes make [] w.at p.state p.goes r n p.state
-    (element.onward r n p.state returned.1)) in
-    record {
-      kept = kept-same s w (record w { at = n }) refl refl refl p.kept;
-      has = record {
-        is_led = led-by s 6 mark p.own r (λ l. make (list r l)) p.lead p.name p.prints
-            (λ t rest. encoding-returned p.v mark p.own p.named_so p.returns r (list t rest));
-        leads = p.from_is;
-      };
-      written = p.written;
-      goes = goes;
-    }
-
 -- one is read
 pub parameter-read-within : (s : Symbol) (w : Direct) (mark : Mark) (from to : ℕ) → IsElementRead s w (opens.Enclosing mark from to)
     → IsEnclosingParameterRead s w mark from to
@@ -609,72 +632,27 @@ name-addressed s old kept t mark n no_return returns names here is_name =
       stands = serves.2;
     }
 
--- The name of a function whose address is an argument was read, and written up to a place. Its types may name these arguments.
-pub record IsAddressScoped (s : Symbol) (w : Direct) (mark : Mark) (is_instance : Bool) (to : ℕ) (argument : Arguments) : Type 0 where
-  pub kept : Kept s w
-  pub open kept use *
-  pub from : ℕ
-  pub has : HasNameSo s w.text.list.items mark from
-  pub open has use *
-  pub addressed : IsAddressed s scope to argument own lead name
-  pub open addressed use *
-  pub no_return : is_instance ≡ false → has_return_type own ≡ false
-  pub returns : is_instance ≡ true → has_return_type own ≡ true
-  pub goes : ItemsGoOn s argument (AddressWithin s (below s no_scope (reverse w.waiting.list.items)) lead) (λ l. encoding_of v l) [] w.at state
-
-pub address-scoped : (s : Symbol) (old new : Direct) (mark : Mark) (is_instance : Bool) (to : ℕ) (argument noted : Arguments) (p : IsAddressNamed s old mark)
-    → old.waiting.list.items ≡ new.waiting.list.items ++ opens.Address argument.encoding ∷ [] → old.has_scope ≡ false → new.has_scope ≡ true
-    → new.text ≡ old.text → new.candidates ≡ old.candidates → new.at ≡ old.at → argument ≡ record noted { encoding = argument.encoding }
-    → HasArguments (detail_of s) old.text.list.items noted p.own → to ≡ length old.text.list.items
-    → is_instance ≡ (old.nest.is_instance && old.nest.has_class) → IsAddressScoped s new mark is_instance to argument
-address-scoped s old new mark is_instance to argument noted p waiting first now text candidates at same noted_there to_is instance_is =
-    let here = old.text.list.items in
-    let rest = reverse new.waiting.list.items in
-    let names : HasArguments (detail_of s) here argument p.own =
-    subst (λ (k : Arguments). HasArguments (detail_of s) here k p.own) (sym same) (arguments-named here argument.encoding noted p.own noted_there) in
-    let waits : reverse old.waiting.list.items ≡ opens.Address argument.encoding ∷ rest =
-    ap reverse waiting ∙ reverse-last new.waiting.list.items (opens.Address argument.encoding) in
-    let taken : Stands s no_scope (opens.Address argument.encoding ∷ rest) p.os p.lead =
-    subst (λ (k : Scope). Stands s k (opens.Address argument.encoding ∷ rest) p.os p.lead) (p.keeps.unknown first).0
-    (subst (λ ws. Stands s p.scope ws p.os p.lead) waits p.stands) in
-    let items = taken p.v old.at p.state p.comes in
-    let scope = scope_at here argument in
-    record {
-      kept = record { state = p.state; scope = scope; keeps = scope-kept s old new p.kept argument p.own names first now text candidates };
-      from = old.nest.from;
-      has = record {
-        own = p.own;
-        v = p.v;
-        named_so = p.named_so;
-        lead = p.lead;
-        name = p.name;
-        written = ap (λ k. k.list.items) text ∙ p.written;
-        from_is = p.from_is;
-        prints = p.prints;
-      };
-      addressed = record {
-        to_is = to_is ∙ ap length p.written;
-        given = arguments-given here argument p.own names;
-        named = refl;
-        there = subst (λ l. AreNamed l scope) p.written (named-there here argument p.own names);
-        typed = (p.keeps.unknown first).1;
-      };
-      no_return = λ e. p.no_return (sym instance_is ∙ e);
-      returns = λ e. p.returns (sym instance_is ∙ e);
-      goes = subst (λ n. ItemsGoOn s argument (AddressWithin s (below s no_scope rest) p.lead) (λ l. encoding_of p.v l) [] n p.state) (sym at)
-          (items-scoped argument p.v old.at p.state items
-          (types-scoped here argument items.around p.own (λ real. (items.encoding_is, items.no_lambda)) (items.scope_is ∙ ap arguments_of p.named_so.tree_is) names));
-    }
+-- the open entry accepts its types
+pub address-items : (s : Symbol) (old new : Direct) (mark : Mark) (encoding : ℕ) (p : IsAddressNamed s old mark)
+    → old.waiting.list.items ≡ new.waiting.list.items ++ opens.Address encoding ∷ [] → old.has_scope ≡ false
+    → ItemsOf s encoding (AddressWithin s (below s no_scope (reverse new.waiting.list.items)) p.lead) p.v old.at p.state
+address-items s old new mark encoding p waiting first =
+    let all = opens.Address encoding ∷ reverse new.waiting.list.items in
+    let waits : reverse old.waiting.list.items ≡ all = ap reverse waiting ∙ reverse-last new.waiting.list.items (opens.Address encoding) in
+    let taken : Stands s no_scope all p.os p.lead =
+    subst (λ (k : Scope). Stands s k all p.os p.lead) (p.keeps.unknown first).0 (subst (λ ws. Stands s p.scope ws p.os p.lead) waits p.stands) in
+    taken p.v old.at p.state p.comes
 
 -- expects the return type after the name
-pub front-addressed : (s : Symbol) (w new : Direct) (mark : Mark) (to : ℕ) (argument : Arguments) (p : IsAddressScoped s w mark true to argument)
+pub front-addressed : (s : Symbol) (w new : Direct) (mark : Mark) (from to : ℕ) (argument : Arguments) (kept : Kept s w) (p : HasNameSo s w.text.list.items mark from)
+    → has_return_type p.own ≡ true → IsAddressed s kept.scope to argument p.own p.lead p.name
+    → ItemsGoOn s argument (AddressWithin s (below s no_scope (reverse w.waiting.list.items)) p.lead) (λ l. encoding_of p.v l) [] w.at kept.state
     → new.waiting.list.items ≡ w.waiting.list.items ++ opens.AddressedFront mark to argument ∷ [] → new.text ≡ w.text
     → new.candidates ≡ w.candidates → new.has_scope ≡ w.has_scope → new.at ≡ w.at → IsWriting s new steps.Type
-front-addressed s w new mark to argument p waiting text candidates scope_same at =
+front-addressed s w new mark from to argument kept p returns addressed goes waiting text candidates scope_same at =
     let entry = opens.AddressedFront mark to argument in
-    front-awaits (λ scope. IsAddressed s scope to argument) (λ scope waits. AddressWithin s (below s no_scope waits)) w new entry p.kept p.has p.addressed (p.returns refl)
-    p.goes waiting text candidates scope_same at (λ os h. h)
-    (entry-scoped p.scope p.goes.around entry argument (reverse w.waiting.list.items) refl refl p.named p.goes.scoped)
+    front-awaits (λ scope. IsAddressed s scope to argument) (λ scope waits. AddressWithin s (below s no_scope waits)) w new entry kept p addressed returns goes
+    waiting text candidates scope_same at (λ os h. h) (entry-scoped kept.scope goes.around entry argument (reverse w.waiting.list.items) refl refl addressed.named goes.scoped)
 
 -- Its E is read and that of its address, which is accepted like a type.
 pub address-ended : (s : Symbol) (w new : Direct) → IsAddressedRead s w marks.Plain → StandsAt s.bytes w.at (69 ∷ 69 ∷ []) → new.text ≡ w.text

@@ -1,17 +1,15 @@
 -- Instances of function templates that contain a type, whose parameters may name their arguments: from their names to their ends.
-use Rattle.cpp_direct.proofs.Ending.{types-scoped}
-use Rattle.cpp_direct.proofs.FunctionsWithin.{front-awaits, items-scoped, led-read}
+use Rattle.cpp_direct.proofs.FunctionsWithin.{front-awaits, items-scoped, led-read, now-scoped, returned-awaits}
 use Rattle.cpp_direct.proofs.Kept.{kept-same, kept-closed, reverse-last}
 use Rattle.cpp_direct.proofs.MovesOfLocals.{nowhere-scoped}
-use Rattle.cpp_direct.proofs.NamedArguments.{arguments-given, named-there, scope_at, scope-kept}
 use Rattle.cpp_direct.proofs.Nesting.{nest-comes, closed-prints}
 use Rattle.cpp_direct.proofs.PrintedLists.{element-in}
 use Rattle.cpp_direct.proofs.PrintedNames.{as-name}
-use Rattle.cpp_direct.proofs.Scopes.{arguments-named, entry-scoped, has-member}
+use Rattle.cpp_direct.proofs.Scopes.{entry-scoped, has-member}
 use Rattle.cpp_direct.proofs.TypesRead.{popped}
 use Rattle.cpp_direct.specs.AllHoles.{StandsAt}
-use Rattle.cpp_direct.specs.AllStates.{AreLeft, AreNamed, Arguments, below, detail_of, Direct, HasArguments, IsElementRead, IsEnclosingNamed, IsEnclosingParameterRead, IsInstanceNamed, IsInstanceParameterRead, IsNesting, IsOwn, IsScopedWithin, IsWriting, ItemsGoOn, ItemsOf, Kept, Mark, no_scope, nowhere, Scope, Serves, Symbol, TypeWithin}
-use Rattle.cpp_direct.specs.AllTerms.{arguments_of, has_return_type, Kind, list, named, Term, types_of}
+use Rattle.cpp_direct.specs.AllStates.{AreLeft, Arguments, AwaitsLedParameters, below, detail_of, Direct, HasArguments, IsAddressed, IsBuiltinAt, IsElementRead, IsEnclosingNamed, IsEnclosingParameterRead, IsInstanceNamed, IsInstanceParameterRead, IsNesting, IsOwn, IsScopedWithin, IsWriting, ItemsGoOn, ItemsOf, Kept, Mark, no_scope, nowhere, Scope, Serves, Symbol, TypeWithin}
+use Rattle.cpp_direct.specs.AllTerms.{encoding_of, has_return_type, Kind, list, named, Term, types_of}
 use Rattle.std.proofs.Common.{◌≡◌, refl, ap, sym, ◌∙◌, subst, ℕ, ◌+◌, ◌-◌, [], ◌∷◌, ◌++◌, length, reverse, take, Bool, true, false, ◌&&◌}
 use Rattle.cpp_direct.specs.declared.open.Open.TheVariants as opens
 use Rattle.cpp_direct.specs.declared.open.Purpose.TheVariants as purposes
@@ -48,35 +46,34 @@ instance-named s w mark encoding from p = record {
   goes = items-scoped nowhere p.v w.at p.state p.items (nowhere-scoped p.items.around);
 }
 
--- it expects its return type, and then its parameters, all of whose types may name its arguments
+-- all of its types may name its arguments
+instance-scoped : (s : Symbol) (old : Direct) (mark : Mark) (from to : ℕ) (argument : Arguments) (p : IsInstanceNamed s old mark argument.encoding from) → old.has_scope ≡ false
+    → argument ≡ record (old.argument) { encoding = argument.encoding } → to ≡ length old.text.list.items
+    → (now : Kept s (record old { has_scope = true })) × IsAddressed s now.scope to argument p.own p.lead p.name
+    × ItemsGoOn s argument (TypeWithin s (below s no_scope (reverse old.waiting.list.items)) p.lead) (λ l. encoding_of p.v l) [] old.at now.state
+instance-scoped s old mark from to argument p first same to_is =
+    now-scoped old (record old { has_scope = true }) to argument old.argument p.kept p.has
+    (subst (λ (k : Scope). ItemsOf s argument.encoding (TypeWithin s (below s k (reverse old.waiting.list.items)) p.lead) p.v old.at p.state) (p.keeps.unknown first).0 p.items)
+    first refl refl refl same p.names to_is
+
+-- it expects its return type,
 pub instance-front : (s : Symbol) (old new : Direct) (mark : Mark) (from to : ℕ) (argument : Arguments) → IsInstanceNamed s old mark argument.encoding from
     → old.has_scope ≡ false → new.has_scope ≡ true → new.text ≡ old.text → new.candidates ≡ old.candidates
     → new.waiting.list.items ≡ old.waiting.list.items ++ opens.EnclosingFront mark from to argument ∷ [] → new.at ≡ old.at
     → argument ≡ record (old.argument) { encoding = argument.encoding } → to ≡ length old.text.list.items → IsWriting s new steps.Type
 instance-front s old new mark from to argument p first now text candidates waiting at same to_is =
-    let here = old.text.list.items in
-    let rest = reverse old.waiting.list.items in
-    let begun : Direct = record old { has_scope = true } in
-    let names : HasArguments (detail_of s) here argument p.own =
-    subst (λ (k : Arguments). HasArguments (detail_of s) here k p.own) (sym same) (arguments-named here argument.encoding old.argument p.own p.names) in
-    let items : ItemsOf s argument.encoding (TypeWithin s (below s no_scope rest) p.lead) p.v old.at p.state =
-    subst (λ (k : Scope). ItemsOf s argument.encoding (TypeWithin s (below s k rest) p.lead) p.v old.at p.state) (p.keeps.unknown first).0 p.items in
-    let goes = items-scoped argument p.v old.at p.state items
-    (types-scoped here argument items.around p.own (λ real. (items.encoding_is, items.no_lambda)) (items.scope_is ∙ ap arguments_of p.named_so.tree_is) names) in
-    let scope = scope_at here argument in
+    let q = instance-scoped s old mark from to argument p first same to_is in
     let entry = opens.EnclosingFront mark from to argument in
-    front-awaits (λ k. IsScopedWithin s k from to argument) (λ k waits. TypeWithin s (below s no_scope waits)) begun new entry
-    (record { state = p.state; scope = scope; keeps = scope-kept s old begun p.kept argument p.own names first refl refl refl }) p.has
-    (
-      p.from_is,
-      record {
-        to_is = to_is ∙ ap length p.written;
-        given = arguments-given here argument p.own names;
-        named = refl;
-        there = subst (λ l. AreNamed l scope) p.written (named-there here argument p.own names);
-        typed = (p.keeps.unknown first).1;
-      },
-    ) p.returns goes waiting text candidates now at (λ os h. h) (entry-scoped scope goes.around entry argument rest refl refl refl goes.scoped)
+    front-awaits (λ k. IsScopedWithin s k from to argument) (λ k waits. TypeWithin s (below s no_scope waits)) (record old { has_scope = true }) new entry q.0 p.has (p.from_is, q.1) p.returns q.2
+    waiting text candidates now at (λ os h. h) (entry-scoped q.0.scope q.2.around entry argument (reverse old.waiting.list.items) refl refl q.1.named q.2.scoped)
+
+-- or, after one that is a builtin type, its parameters
+pub instance-awaits : (s : Symbol) (old : Direct) (mark : Mark) (from to end : ℕ) (argument : Arguments) → IsInstanceNamed s old mark argument.encoding from
+    → old.has_scope ≡ false → argument ≡ record (old.argument) { encoding = argument.encoding } → to ≡ length old.text.list.items → IsBuiltinAt s.bytes old.at end
+    → AwaitsLedParameters s (record old { has_scope = true; at = end }) 6 mark argument (λ k. IsScopedWithin s k from to argument) (λ k waits. TypeWithin s (below s no_scope waits))
+instance-awaits s old mark from to end argument p first same to_is is =
+    let q = instance-scoped s old mark from to argument p first same to_is in
+    returned-awaits (record old { has_scope = true }) end q.0 p.has p.returns (p.from_is, q.1) q.2 is
 
 -- a parameter is read that prints on both sides of a name
 pub element-instance : (s : Symbol) (w : Direct) (mark : Mark) (from to : ℕ) (argument : Arguments) → IsElementRead s w (opens.EnclosingInstance mark from to argument)

@@ -8,9 +8,9 @@ ghost use Rattle.cpp_direct.specs.declared.open.Mark.TheVariants as marks;
 ghost use Rattle.cpp_direct.specs.Holes.{StandsAt};
 ghost use Rattle.cpp_direct.specs.HolesOfLocals.{IsPieceAt};
 ghost use Rattle.cpp_direct.specs.Prints.{PrintsPiece};
-ghost use Rattle.cpp_direct.specs.WriterInvariant.{IsWriting};
+ghost use Rattle.cpp_direct.specs.WriterInvariant.{IsScopedWithin, IsWriting, TypeWithin, below, no_scope};
 ghost use Rattle.cpp_direct.specs.MidStep.{AwaitsNamedType};
-ghost use Rattle.cpp_direct.specs.MidStepOfLocals.{AwaitsEnclosingParameters, AwaitsTypeName, IsBuiltinAt, IsEnclosingFrontRead, IsEnclosingNamed, IsEnclosingParameterRead, IsEnclosingRead, IsInstanceNamed, IsInstanceParameterRead};
+ghost use Rattle.cpp_direct.specs.MidStepOfLocals.{AwaitsEnclosingParameters, AwaitsLedParameters, AwaitsTypeName, IsBuiltinAt, IsEnclosingFrontRead, IsEnclosingNamed, IsEnclosingParameterRead, IsEnclosingRead, IsInstanceNamed, IsInstanceParameterRead};
 ghost use Rattle.cpp_direct.specs.Written.{Reads};
 ghost use Rattle.cpp_direct.specs.Symbol.{detail_by, symbol_by};
 
@@ -109,19 +109,45 @@ impl Direct {
         requires named { IsInstanceNamed (symbol_by G.IS_WIDE G.IS_BARE G.IS_BRIEF s.now) self.old mark encoding from }
         ensures { IfSome result (IsWriting (symbol_by G.IS_WIDE G.IS_BARE G.IS_BRIEF s.now) self.new) }
     {
-        if let Some(behind) = builtin_end(s, self.at)
-            && (self.has_scope || s.len() > LONGEST_GONE_OVER || byte_at(s, behind) == b'v')
-        {
+        let Some(behind) = builtin_end(s, self.at) else {
+            if self.has_scope || s.len() > LONGEST_GONE_OVER {
+                return None;
+            }
+            return self.instance_front::<G>(s, mark, encoding, from);
+        };
+        if self.has_scope || s.len() > LONGEST_GONE_OVER || byte_at(s, behind) == b'v' {
             self.at = behind;
             return self.enclosing_parameters::<G>(s, mark, from);
         }
-        if self.has_scope || s.len() > LONGEST_GONE_OVER {
-            return None;
-        }
-        self.instance_front::<G>(s, mark, encoding, from)
+        self.instance_parameters::<G>(s, mark, encoding, from, behind)
     }
 
-    /// Expects the return type of such a function.
+    /// Reads the return type of such a function, a builtin one.
+    // <bare-function-type> ::= <return type> <parameter type>+
+    fn instance_parameters<G: Grammar>(
+        &mut self,
+        s: &[u8],
+        mark: Mark,
+        encoding: u16,
+        from: u32,
+        behind: usize,
+    ) -> Option<Step>
+        requires named { IsInstanceNamed (symbol_by G.IS_WIDE G.IS_BARE G.IS_BRIEF s.now) self.old mark encoding from }
+        requires outside { self.old.has_scope ≡ false }
+        requires returned { IsBuiltinAt s.now self.old.at behind }
+        ensures { IfSome result (IsWriting (symbol_by G.IS_WIDE G.IS_BARE G.IS_BRIEF s.now) self.new) }
+    {
+        self.at = behind;
+        self.has_scope = true;
+        let to = self.text.end();
+        let argument = Arguments {
+            encoding,
+            ..self.argument
+        };
+        self.instance_opened::<G>(s, mark, from, to, argument)
+    }
+
+    /// Expects the return type of such a function, another one.
     // <bare-function-type> ::= <return type> <parameter type>+
     fn instance_front<G: Grammar>(
         &mut self,
@@ -153,18 +179,37 @@ impl Direct {
     // <bare-function-type> ::= <return type> <parameter type>+
     pub(crate) fn enclosing_front<G: Grammar>(
         &mut self,
+        s: &[u8],
+        mark: Mark,
+        from: u32,
+        to: u32,
+        argument: Arguments,
+    ) -> Option<Step>
+        requires fits { IsReadable s.now }
+        requires read { IsEnclosingFrontRead (symbol_by G.IS_WIDE G.IS_BARE G.IS_BRIEF s.now) self.old mark from to argument }
+        ensures { IfSome result (IsWriting (symbol_by G.IS_WIDE G.IS_BARE G.IS_BRIEF s.now) self.new) }
+    {
+        let _open = self.waiting.pop();
+        self.leave_out(to)?;
+        self.instance_opened::<G>(s, mark, from, to, argument)
+    }
+
+    /// Reads the parameters of such a function, up to the first type in them.
+    // <bare-function-type> ::= <parameter type>+
+    #[inline(always)]
+    fn instance_opened<G: Grammar>(
+        &mut self,
         _s: &[u8],
         mark: Mark,
         from: u32,
         to: u32,
         argument: Arguments,
     ) -> Option<Step>
-        requires fits { IsReadable _s.now }
-        requires read { IsEnclosingFrontRead (symbol_by G.IS_WIDE G.IS_BARE G.IS_BRIEF _s.now) self.old mark from to argument }
+        requires awaits { AwaitsLedParameters (symbol_by G.IS_WIDE G.IS_BARE G.IS_BRIEF _s.now) self.old 6 mark argument
+            (λ scope. IsScopedWithin (symbol_by G.IS_WIDE G.IS_BARE G.IS_BRIEF _s.now) scope from to argument)
+            (λ scope waits. TypeWithin (symbol_by G.IS_WIDE G.IS_BARE G.IS_BRIEF _s.now) (below (symbol_by G.IS_WIDE G.IS_BARE G.IS_BRIEF _s.now) no_scope waits)) }
         ensures { IfSome result (IsWriting (symbol_by G.IS_WIDE G.IS_BARE G.IS_BRIEF _s.now) self.new) }
     {
-        let _open = self.waiting.pop();
-        self.leave_out(to)?;
         self.push_byte(b'(')?;
         self.waiting.push(Open::EnclosingInstance {
             mark,
