@@ -21,7 +21,7 @@ use Rattle.cpp_direct.proofs.Scopes.{has-member, has-plain, arguments-named, ent
 use Rattle.cpp_direct.proofs.TypesRead.{builtin-item, popped}
 use Rattle.cpp_direct.proofs.Unmarked.{name-unmarked}
 use Rattle.cpp_direct.specs.AllHoles.{Comes, Discriminator, Expects, IsDiscriminatorAt, IsNameAt, IsPieceAt, Opened, StandsAt, local_in, with_candidate}
-use Rattle.cpp_direct.specs.AllStates.{added, AddressWithin, AreLeft, AreNamed, Arguments, AwaitsArgumentOfName, AwaitsEnclosingParameters, AwaitsFront, AwaitsLed, AwaitsLedParameters, AwaitsNamedType, AwaitsNest, AwaitsTypeName, below, called_on, detail_of, Direct, Encloses, has_const, HasArguments, HasLed, HasNameSo, HasScope, in_front_of_next, IsAddressed, IsAddressedRead, IsAddressNamed, IsBuiltinAt, IsElementIn, IsElementRead, IsEnclosingNamed, IsEnclosingParameterRead, IsEnclosingRead, IsGiven, IsInnerFrontRead, IsLedFunction, IsLedFunctionRead, IsLedParameterRead, IsMarkPlace, IsNesting, IsOwn, IsScoped, IsTypeRead, IsWriting, ItemsGoOn, ItemsOf, Kept, list_of, Mark, mark_text, MarkPlace, no_scope, nowhere, Open, PrintsName, PrintsPiece, qualifiers, Reads, Scope, Serves, Shows, Stands, Symbol, TypeWithin, Writes}
+use Rattle.cpp_direct.specs.AllStates.{added, AddressWithin, AreLeft, AreNamed, Arguments, AwaitsArgumentOfName, AwaitsFront, AwaitsLed, AwaitsLedParameters, AwaitsNamedType, AwaitsNest, AwaitsTypeName, below, called_on, detail_of, Direct, Encloses, has_const, HasArguments, HasLed, HasNameSo, HasScope, in_front_of_next, IsAddressed, IsAddressedRead, IsAddressNamed, IsBuiltinAt, IsElementIn, IsElementRead, IsEnclosingNamed, IsEnclosingParameterRead, IsEnclosingRead, IsGiven, IsInnerFrontRead, IsLedFunction, IsLedFunctionRead, IsLedParameterRead, IsMarkPlace, IsNesting, IsOwn, IsScoped, IsTypeRead, IsWriting, ItemsGoOn, ItemsOf, Kept, list_of, Mark, mark_text, MarkPlace, no_scope, nowhere, Open, PrintsName, PrintsPiece, qualifiers, Reads, Scope, Serves, Shows, Stands, Symbol, TypeWithin, Writes}
 use Rattle.cpp_direct.specs.AllTerms.{absent, address_of, after, alone, arguments_of, Around, builtin, encoding_of, function, has_return_type, in_name, in_types, is_function_type, Kind, list, may_be_empty, named, nil, no_items, nothing_there, parameters, source, source_text, State, Term, tree, tree_of, types_of, Value}
 use Rattle.std.specs.List.{ends_with}
 use Rattle.std.proofs.Common.{nat_eq, ◌≡◌, ◌≢◌, refl, ap, sym, ◌∙◌, subst, ℕ, ◌+◌, List, [], ◌∷◌, ◌++◌, length, reverse, true, false, arith, codes, append-nil, append_assoc, Bool, ◌-◌, take, slice_get, Some, ◌&&◌, ◌≤◌, length-append}

@@ -9,7 +9,7 @@ use Rattle.cpp_direct.proofs.Scopes.{entry-scoped, has-member}
 use Rattle.cpp_direct.proofs.TypesRead.{popped}
 use Rattle.cpp_direct.specs.AllHoles.{StandsAt}
 use Rattle.cpp_direct.specs.AllStates.{AreLeft, Arguments, AwaitsLedParameters, below, detail_of, Direct, HasArguments, IsAddressed, IsBuiltinAt, IsElementRead, IsEnclosingNamed, IsEnclosingParameterRead, IsInstanceNamed, IsInstanceParameterRead, IsNesting, IsOwn, IsScopedWithin, IsWriting, ItemsGoOn, ItemsOf, Kept, Mark, no_scope, nowhere, Scope, Serves, Symbol, TypeWithin}
-use Rattle.cpp_direct.specs.AllTerms.{encoding_of, has_return_type, Kind, list, named, Term, types_of}
+use Rattle.cpp_direct.specs.AllTerms.{encoding_of, has_return_type, Kind, Term, types_of}
 use Rattle.std.proofs.Common.{◌≡◌, refl, ap, sym, ◌∙◌, subst, ℕ, ◌+◌, ◌-◌, [], ◌∷◌, ◌++◌, length, reverse, take, Bool, true, false, ◌&&◌}
 use Rattle.cpp_direct.specs.declared.open.Open.TheVariants as opens
 use Rattle.cpp_direct.specs.declared.open.Purpose.TheVariants as purposes

@@ -1,13 +1,11 @@
 -- Where a writer is between two of its functions within a step: addresses of functions, as arguments of a name.
-use Rattle.std.specs.Prelude.{◌≡◌, ℕ, List, [], ◌∷◌, ◌++◌, ◌&&◌, reverse, true, false}
+use Rattle.std.specs.Prelude.{◌≡◌, ℕ, List, ◌&&◌, reverse, true, false}
 use Rattle.cpp_grammar.specs.declared.kind.Kind.{Kind}
-use Rattle.cpp_grammar.specs.Term.{Term}
 use Rattle.cpp_grammar.specs.Scope.{has_return_type}
 use Rattle.cpp_direct.specs.Bytes.{is_object}
 use Rattle.cpp_direct.specs.Symbol.{detail_of, Symbol}
 use Rattle.cpp_direct.specs.declared.open.Arguments.{Arguments}
 use Rattle.cpp_direct.specs.declared.open.Mark.{Mark}
-use Rattle.cpp_direct.specs.declared.open.Open.{Open}
 use Rattle.cpp_direct.specs.declared.open.Open.TheVariants as opens
 use Rattle.cpp_direct.specs.declared.direct.Direct.{Direct}
 use Rattle.cpp_direct.specs.Holes.{Comes, Expects, Opened}

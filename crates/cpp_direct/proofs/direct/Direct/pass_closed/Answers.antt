@@ -27,9 +27,11 @@ enclosing_parameter-requires-clause-read g c =
     c.requires.writing (c.requires.waits ∙ ap (λ o. Some o) c.in-Enclosing.is))
 
 pub instance_parameter-requires-clause-read : goal.instance_parameter-requires-clause-read
-instance_parameter-requires-clause-read g c =
-    (c.in-EnclosingInstance.argument, type-led c.args.self.now c.args.is_reference false (omega arith) c.requires.writing
-    (c.requires.waits ∙ ap (λ o. Some o) c.in-EnclosingInstance.is) (λ scope rest os text h. h) (λ scope own front name h. h.1.given))
+instance_parameter-requires-clause-read g c = (
+  c.in-EnclosingInstance.argument,
+  type-led c.args.self.now c.args.is_reference false (omega arith) c.requires.writing
+      (c.requires.waits ∙ ap (λ o. Some o) c.in-EnclosingInstance.is) (λ scope rest os text h. h) (λ scope own front name h. h.1.given),
+)
 
 pub addressed_front-requires-clause-read : goal.addressed_front-requires-clause-read
 addressed_front-requires-clause-read g c =
@@ -40,9 +42,11 @@ enclosing_front-requires-clause-read g c =
     front-read c.args.self.now c.args.is_reference false c.requires.writing (c.requires.waits ∙ ap (λ o. Some o) c.in-EnclosingFront.is) (λ scope rest os text h. h)
 
 pub addressed_parameter-requires-clause-read : goal.addressed_parameter-requires-clause-read
-addressed_parameter-requires-clause-read g c =
-    (c.in-Addressed.argument, type-led c.args.self.now c.args.is_reference false (omega arith) c.requires.writing
-    (c.requires.waits ∙ ap (λ o. Some o) c.in-Addressed.is) (λ scope rest os text h. h) (λ scope own front name h. h.given))
+addressed_parameter-requires-clause-read g c = (
+  c.in-Addressed.argument,
+  type-led c.args.self.now c.args.is_reference false (omega arith) c.requires.writing
+      (c.requires.waits ∙ ap (λ o. Some o) c.in-Addressed.is) (λ scope rest os text h. h) (λ scope own front name h. h.given),
+)
 
 pub lambda_parameter-requires-clause-read : goal.lambda_parameter-requires-clause-read
 lambda_parameter-requires-clause-read g c =
