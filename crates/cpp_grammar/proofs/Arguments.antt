@@ -253,8 +253,16 @@ module _ (begins : Kind → List Alternative) where
       let t : Tree = branch (rule_of Production.ParameterArgument) [] (grown (token digits) (grown arguments nothing)) in
       record {
         tree = as_first t;
-        is = (takes, ((chained FIRST_AFTER_T Kind.FirstAfterT Production.FirstParameter refl first refl,
-            ((chained PARAMETER_AFTER_T Kind.ParameterAfterT Production.ParameterArgument refl picked refl, trees), tt)), tt));
+        is = (
+          takes,
+          (
+            (
+              chained FIRST_AFTER_T Kind.FirstAfterT Production.FirstParameter refl first refl,
+              ((chained PARAMETER_AFTER_T Kind.ParameterAfterT Production.ParameterArgument refl picked refl, trees), tt),
+            ),
+            tt,
+          ),
+        );
         spells = ap (λ l. 84 ∷ l) (append-nil (spell t ++ []));
         says = λ around place state. first_same_as t around place state ∙ named_same digits arguments around place state;
       }
