@@ -87,6 +87,7 @@ fn arguments_in(entry: Open) -> Option<Arguments>
     match entry {
         Open::Front { argument, .. } => Some(argument),
         Open::Parameters { argument, .. } => Some(argument),
+        Open::EnclosingFront { argument, .. } => Some(argument),
         Open::EnclosingInstance { argument, .. } => Some(argument),
         Open::AddressedFront { argument, .. } => Some(argument),
         Open::Addressed { argument, .. } => Some(argument),
