@@ -332,7 +332,7 @@ pub first-parameter-gains : Granted Production.FirstParameter
 unfolding parts_of between is_chain close unfolding_.behind meaning values.part class_of grant Gained Ready ready_for need typed loan returned IsKnown IsKept listed_value
 first-parameter-gains around at old v new b idle small all o =
     let p0 = o.paid in
-    let g0 = p0.gains Kind.ParameterAfterT refl idle small all in
+    let g0 = p0.gains Kind.LeveledParameter refl idle small all in
     comes-to (λ w s. Gains type 8 around w old s b) o (p0.value ∷ []) p0.after (tree (tree_of p0.value) true) (with_type around p0.value p0.after) p0.onward.0 refl
     (listed-granted 8 around p0.value p0.after old b g0.small g0.known (omega (arith, o.sum, g0.few, p0.sum, p0.onward.1)))
 
