@@ -1,5 +1,5 @@
 -- A suffix that a compiler added to a symbol, as GNU's demangler spells it.
-use Rattle.std.specs.Prelude.{ℕ, List, [], ◌∷◌, ◌++◌, ◌-◌, Bool, not, ◌==◌, ◌&&◌, nat_eq, length, take, drop, get_or, codes, if◌then◌else◌}
+use Rattle.std.specs.Prelude.{ℕ, List, [], ◌∷◌, ◌++◌, ◌-◌, Bool, not, ◌&&◌, nat_eq, length, take, drop, get_or, codes, if◌then◌else◌}
 use Rattle.std.specs.List.{starts_with, ends_with, list_all}
 use Rattle.short_names.specs.Runs.{is_letter, is_between}
 

@@ -1,5 +1,5 @@
 -- The names of `std` that GNU's demangler writes otherwise: abbreviations of the ABI (5.1.10) as the templates that they are for.
-use Rattle.std.specs.Prelude.{ℕ, List, [], ◌∷◌, ◌++◌, ◌+◌, Bool, not, ◌==◌, ◌||◌, ◌&&◌, nat_eq, length, take, drop, get_or, codes, Option, None, Some, if◌then◌else◌}
+use Rattle.std.specs.Prelude.{ℕ, List, [], ◌++◌, ◌+◌, Bool, not, ◌==◌, ◌||◌, ◌&&◌, nat_eq, length, take, drop, get_or, codes, Option, None, Some, if◌then◌else◌}
 use Rattle.std.specs.List.{starts_with}
 use Rattle.short_names.specs.Runs.{is_letter}
 use Rattle.gnu_texts.specs.declared.names.Name.{Name}

@@ -1,5 +1,5 @@
 -- The pieces of a text that GNU's demangler spells in its own way.
-use Rattle.std.specs.Prelude.{◌≤◌, ◌<◌, ℕ, List, [], ◌∷◌, ◌++◌, ◌+◌, Bool, not, ◌==◌, ◌||◌, ◌&&◌, nat_eq, length, take, drop, get_or, codes, Option, None, Some, if◌then◌else◌}
+use Rattle.std.specs.Prelude.{◌≤◌, ◌<◌, ℕ, List, ◌∷◌, ◌++◌, ◌+◌, Bool, not, ◌==◌, ◌||◌, ◌&&◌, nat_eq, length, take, drop, get_or, codes, Option, None, Some, if◌then◌else◌}
 use Rattle.std.specs.List.{starts_with}
 use Rattle.gnu_texts.specs.declared.names.Name.{Name}
 use Rattle.gnu_texts.specs.declared.piece.Piece.{Piece}
@@ -24,6 +24,10 @@ operator_size last text =
 -- that closes
 unfoldable pub is_spaced : (last : ℕ) → List ℕ → Bool
 is_spaced last text = (last == 62 && starts_with nat_eq text (codes ">")) || (last == 41 && starts_with nat_eq text (codes "["))
+
+-- a byte begins no piece but itself
+unfoldable pub is_plain : ℕ → Bool
+is_plain byte = not (byte == 111 || byte == 115 || byte == 32 || byte == 62 || byte == 91)
 
 abbrev pub plain_piece : (last : ℕ) → List ℕ → Piece
 plain_piece last text = if is_suffix text then pieces.Suffix else (if is_spaced last text then pieces.Spaced else pieces.Byte)

@@ -1,7 +1,7 @@
 // The pieces of a text that GNU's demangler spells in its own way.
 ghost use Rattle.std.specs.Prelude.{◌≡◌, ◌≤◌, ◌<◌, ◌+◌, ◌++◌, ◌∷◌, [], length, drop, OnOk};
 ghost use Rattle.gnu_texts.specs.Names.{name_of, written_of, member_bytes};
-ghost use Rattle.gnu_texts.specs.Pieces.{sign_size, operator_size, is_spaced, piece_at, size_of, bytes_of, last_of, IsPiece};
+ghost use Rattle.gnu_texts.specs.Pieces.{sign_size, operator_size, is_spaced, is_plain, piece_at, size_of, bytes_of, last_of, IsPiece};
 
 use crate::clones::{append_clones, is_suffix};
 use crate::names::{Name, member_front, name_at};
@@ -62,13 +62,26 @@ fn is_spaced(last: u8, text: &[u8]) -> bool
     (last == b'>' && text.starts_with(b">")) || (last == b')' && text.starts_with(b"["))
 }
 
+/// Whether a byte begins no piece but itself.
+#[inline(always)]
+#[tactic(auto, unfolding(crate::specs::Pieces::is_plain))]
+fn is_plain(byte: u8) -> bool
+    ensures { result ≡ is_plain byte }
+{
+    !(byte == b'o' || byte == b's' || byte == b' ' || byte == b'>' || byte == b'[')
+}
+
 /// The piece with which a text begins, after a byte.
+#[inline(always)]
 #[tactic(auto, unfolding(crate::specs::Pieces::piece_at, crate::specs::Pieces::IsPiece))]
 pub(crate) fn piece_at(last: u8, text: &[u8]) -> Piece
     requires { 0 < length text.now }
     ensures piece { result ≡ piece_at last text.now }
     ensures whole { IsPiece result text.now }
 {
+    if is_plain(text[0]) {
+        return Piece::Byte;
+    }
     let operator = operator_size(last, text);
     if operator > 0 {
         return Piece::Operator { size: operator };
@@ -90,6 +103,7 @@ pub(crate) fn piece_at(last: u8, text: &[u8]) -> Piece
 }
 
 /// Appends a byte.
+#[inline(always)]
 fn append_byte(byte: u8, out: &mut Vec<u8>) -> Result<(), AllocError>
     ensures { OnOk result (out.new.items ≡ out.old.items ++ byte ∷ []) }
 {
@@ -123,6 +137,7 @@ fn append_name(name: Name, front: usize, text: &[u8], out: &mut Vec<u8>) -> Resu
 
 impl Piece {
     /// How many bytes of the text it is.
+    #[inline(always)]
     #[tactic(auto, unfolding(crate::specs::Pieces::size_of, crate::specs::Pieces::IsPiece))]
     pub(crate) fn size(self, text: &[u8]) -> usize
         requires { IsPiece self text.now }
@@ -141,6 +156,7 @@ impl Piece {
     }
 
     /// The byte that is before what comes next. An operator's sign is no bracket.
+    #[inline(always)]
     #[tactic(auto, unfolding(crate::specs::Pieces::last_of))]
     pub(crate) fn last(self, text: &[u8]) -> u8
         requires { 0 < length text.now }
@@ -157,6 +173,7 @@ impl Piece {
     }
 
     /// Appends what is written for it.
+    #[inline(always)]
     #[tactic(auto, unfolding(crate::specs::Pieces::bytes_of, crate::specs::Pieces::IsPiece))]
     pub(crate) fn append(self, text: &[u8], out: &mut Vec<u8>) -> Result<(), AllocError>
         requires { IsPiece self text.now }

@@ -1,4 +1,4 @@
-use Rattle.std.proofs.Common.{◌≡◌, ◌++◌, ◌∷◌, [], ◌∙◌, ap, sym, codes, drop, append_assoc}
+use Rattle.std.proofs.Common.{◌++◌, ◌∷◌, [], ◌∙◌, ap, codes, drop, append_assoc}
 use Rattle.gnu_texts.specs.Clones.{letter_bytes, parted}
 use Rattle.gnu_texts.proofs.ClonesLemmas.{letter-more, letters-end}
 use Rattle.gnu_texts.proofs.FrontLemmas.{rest-all}
