@@ -21,7 +21,7 @@ use Rattle.cpp_direct.proofs.Scopes.{has-member, has-plain, arguments-named, ent
 use Rattle.cpp_direct.proofs.TypesRead.{builtin-item, popped}
 use Rattle.cpp_direct.proofs.Unmarked.{name-unmarked}
 use Rattle.cpp_direct.specs.AllHoles.{Comes, Discriminator, Expects, IsDiscriminatorAt, IsNameAt, IsPieceAt, Opened, StandsAt, local_in, with_candidate}
-use Rattle.cpp_direct.specs.AllStates.{added, AddressWithin, AreLeft, AreNamed, Arguments, AwaitsAddressedParameters, AwaitsArgumentOfName, AwaitsEnclosingParameters, AwaitsLed, AwaitsLedParameters, AwaitsNamedType, AwaitsNest, AwaitsTypeName, below, called_on, detail_of, Direct, Encloses, has_const, HasAddressedFront, HasArguments, HasLed, HasNameSo, HasScope, in_front_of_next, IsAddressed, IsAddressedFrontRead, IsAddressedParameterRead, IsAddressedRead, IsAddressNamed, IsBuiltinAt, IsElementIn, IsElementRead, IsEnclosingNamed, IsEnclosingParameterRead, IsEnclosingRead, IsLedFunction, IsLedFunctionRead, IsLedParameterRead, IsMarkPlace, IsNesting, IsOwn, IsScoped, IsTypeRead, IsWriting, ItemsGoOn, ItemsOf, Kept, list_of, Mark, mark_text, MarkPlace, no_scope, nowhere, Open, PrintsName, PrintsPiece, qualifiers, Reads, Scope, Serves, Shows, Stands, Symbol, TypeWithin, Writes}
+use Rattle.cpp_direct.specs.AllStates.{added, AddressWithin, AreLeft, AreNamed, Arguments, AwaitsArgumentOfName, AwaitsFront, AwaitsLed, AwaitsLedParameters, AwaitsNamedType, AwaitsNest, AwaitsTypeName, below, called_on, detail_of, Direct, Encloses, has_const, HasArguments, HasLed, HasNameSo, HasScope, in_front_of_next, IsAddressed, IsAddressedRead, IsAddressNamed, IsBuiltinAt, IsElementIn, IsElementRead, IsEnclosingNamed, IsEnclosingParameterRead, IsEnclosingRead, IsGiven, IsInnerFrontRead, IsLedFunction, IsLedFunctionRead, IsLedParameterRead, IsMarkPlace, IsNesting, IsOwn, IsScoped, IsTypeRead, IsWriting, ItemsGoOn, ItemsOf, Kept, list_of, Mark, mark_text, MarkPlace, no_scope, nowhere, Open, PrintsName, PrintsPiece, qualifiers, Reads, Scope, Serves, Shows, Stands, Symbol, TypeWithin, Writes}
 use Rattle.cpp_direct.specs.AllTerms.{absent, address_of, after, alone, arguments_of, Around, builtin, encoding_of, function, has_return_type, in_name, in_types, is_function_type, Kind, list, may_be_empty, named, nil, no_items, nothing_there, parameters, source, source_text, State, Term, tree, tree_of, types_of, Value}
 use Rattle.std.specs.List.{ends_with}
 use Rattle.std.proofs.Common.{nat_eq, ◌≡◌, ◌≢◌, refl, ap, sym, ◌∙◌, subst, ℕ, ◌+◌, List, [], ◌∷◌, ◌++◌, length, reverse, true, false, arith, codes, append-nil, append_assoc, Bool, ◌-◌, take, slice_get, Some, ◌&&◌, ◌≤◌, length-append}
@@ -74,6 +74,29 @@ pub items-scoped : {s : Symbol} {encoding : ℕ} {becomes : Term → (at : ℕ) 
 items-scoped argument v at st p scoped =
     record { around = p.around; inner = p.inner; outside = p.outside; scoped = scoped; awaits = p.awaits; onward = p.onward }
 
+-- the arguments that its name ends in are known now, and its types may name them
+pub now-scoped : {s : Symbol} {mark : Mark} {from : ℕ} {becomes : Term → (at : ℕ) → State → Type 0} (old new : Direct) (to : ℕ) (argument noted : Arguments) (kept : Kept s old)
+    (p : HasNameSo s old.text.list.items mark from) → ItemsOf s argument.encoding becomes p.v old.at kept.state → old.has_scope ≡ false → new.has_scope ≡ true
+    → new.text ≡ old.text → new.candidates ≡ old.candidates → argument ≡ record noted { encoding = argument.encoding }
+    → HasArguments (detail_of s) old.text.list.items noted p.own → to ≡ length old.text.list.items
+    → (now : Kept s new) × IsAddressed s now.scope to argument p.own p.lead p.name × ItemsGoOn s argument becomes (λ l. encoding_of p.v l) [] old.at now.state
+now-scoped {s = s} old new to argument noted kept p items first now text candidates same noted_there to_is =
+    let here = old.text.list.items in
+    let names : HasArguments (detail_of s) here argument p.own =
+    subst (λ (k : Arguments). HasArguments (detail_of s) here k p.own) (sym same) (arguments-named here argument.encoding noted p.own noted_there) in
+    let scope = scope_at here argument in (
+      record { state = kept.state; scope = scope; keeps = scope-kept s old new kept argument p.own names first now text candidates },
+      record {
+        to_is = to_is ∙ ap length p.written;
+        given = arguments-given here argument p.own names;
+        named = refl;
+        there = subst (λ l. AreNamed l scope) p.written (named-there here argument p.own names);
+        typed = (kept.keeps.unknown first).1;
+      },
+      items-scoped argument p.v old.at kept.state items
+          (types-scoped here argument items.around p.own (λ real. (items.encoding_is, items.no_lambda)) (items.scope_is ∙ ap arguments_of p.named_so.tree_is) names),
+    )
+
 -- its return type was read
 pub returned-first : {s : Symbol} {argument : Arguments} {becomes : Term → (at : ℕ) → State → Type 0} (make : Term → Term) (r : Term) (at : ℕ) (st : State)
     (p : ItemsGoOn s argument becomes make (r ∷ []) at st) → ItemsGoOn s argument becomes (λ l. make (list r l)) [] at st
@@ -125,6 +148,98 @@ plain-awaits {s = s} {extra = extra} {mark = mark} w kept p no_return leads goes
   written = p.written;
   goes = goes;
 }
+
+-- ## Return types
+
+-- after its return type, which is a builtin one, a function expects its parameters
+pub returned-awaits : {s : Symbol} {extra : ℕ} {mark : Mark} {from : ℕ} {argument : Arguments} {Leads : LeadsSo} {Within : WithinOpen} (w : Direct) (n : ℕ) (kept : Kept s w)
+    (p : HasNameSo s w.text.list.items mark from) → has_return_type p.own ≡ true → Leads kept.scope p.own p.lead p.name
+    → ItemsGoOn s argument (Within kept.scope (reverse w.waiting.list.items) p.lead) (λ l. encoding_of p.v l) [] w.at kept.state
+    → IsBuiltinAt s.bytes w.at n → AwaitsLedParameters s (record w { at = n }) extra mark argument Leads Within
+returned-awaits {s = s} {extra = extra} {mark = mark} {argument = argument} {Within = Within} w n kept p returns leads begun is =
+    let make : Term → Term = λ l. encoding_of p.v l in
+    let element = element-awaits s Kind.Items begun.inner begun.around w.at kept.state tt begun.awaits in
+    let returned = builtin-item s begun.around element.inner w.at n kept.state is element.awaits in
+    let r = returned.0 in
+    record {
+      kept = kept-same s w (record w { at = n }) refl refl refl kept;
+      has = record {
+        is_led = led-by s extra mark p.own r (λ l. make (list r l)) p.lead p.name p.prints
+            (λ t rest. encoding-returned p.v mark p.own p.named_so returns r (list t rest));
+        leads = leads;
+      };
+      written = p.written;
+      goes = returned-first make r n kept.state (parameter-goes_on s argument (Within kept.scope (reverse w.waiting.list.items) p.lead) make [] w.at kept.state begun r n kept.state
+          (element.onward r n kept.state returned.1));
+    }
+
+-- a function that has a return type expects it
+pub front-awaits : {s : Symbol} {mark : Mark} {from : ℕ} {argument : Arguments} (Leads : LeadsSo) (Within : WithinOpen) (w new : Direct) (entry : Open) (kept : Kept s w)
+    (p : HasNameSo s w.text.list.items mark from) → Leads kept.scope p.own p.lead p.name → has_return_type p.own ≡ true
+    → (goes : ItemsGoOn s argument (Within kept.scope (reverse w.waiting.list.items) p.lead) (λ l. encoding_of p.v l) [] w.at kept.state)
+    → new.waiting.list.items ≡ w.waiting.list.items ++ entry ∷ [] → new.text ≡ w.text → new.candidates ≡ w.candidates → new.has_scope ≡ w.has_scope → new.at ≡ w.at
+    → ((os : List Opened) → AwaitsFront s mark argument (Leads kept.scope) (Within kept.scope (reverse w.waiting.list.items)) os w.text.list.items
+    → Stands s kept.scope (entry ∷ reverse w.waiting.list.items) os w.text.list.items)
+    → IsScoped kept.scope goes.around (entry ∷ reverse w.waiting.list.items) → IsWriting s new steps.Type
+front-awaits {s = s} {from = from} {argument = argument} Leads Within w new entry kept p leads returns goes waiting text candidates scope_same at stands scoped =
+    let rest = reverse w.waiting.list.items in
+    item-comes s w new kept argument (Within kept.scope rest p.lead) (λ l. encoding_of p.v l) [] w.at goes (entry ∷ rest) text candidates scope_same at
+    (ap reverse waiting ∙ reverse-last w.waiting.list.items entry)
+    (λ os onward. stands os (record { from = from; has = p; leads = leads; returns = returns }, onward)) scoped
+
+-- it is read
+pub front-read : {s : Symbol} {mark : Mark} {argument : Arguments} {entry : Open} {Leads : LeadsSo} {Within : WithinOpen} (w : Direct) (is_reference is_dependent : Bool)
+    → IsWriting s w (steps.Value is_reference is_dependent) → slice_get w.waiting.list.items (length w.waiting.list.items - 1) ≡ Some entry
+    → ((scope : Scope) (rest : List Open) (os : List Opened) (text : List ℕ) → Stands s scope (entry ∷ rest) os text
+    → AwaitsFront s mark argument (Leads scope) (Within scope rest) os text)
+    → IsInnerFrontRead s w mark argument entry Leads Within
+front-read {s = s} {entry = entry} w is_reference is_dependent p found awaits =
+    let last = last-found w.waiting.list.items entry found in
+    let v = subst (λ ws. IsTypeRead s p.scope w p.state ws is_reference is_dependent) last.1 p.is_before in
+    let waits = awaits p.scope last.0 v.os v.front v.stands in
+    record {
+      kept = p.kept;
+      rest = last.0;
+      open_is = last.1;
+      text = v.front;
+      front = waits.0;
+      returned = v.own;
+      bytes = v.bytes;
+      reads = v.written;
+      goes = waits.1 v.own w.at p.state v.comes;
+    }
+
+-- it is removed
+pub front-cut : {s : Symbol} {extra : ℕ} {mark : Mark} {argument : Arguments} {entry : Open} {Leads : LeadsSo} {Within : WithinOpen} (w shut new : Direct) (to : ℕ)
+    (p : IsInnerFrontRead s w mark argument entry Leads Within) → IsAddressed s p.scope to argument p.own p.lead p.name
+    → shut.text ≡ w.text → shut.candidates ≡ w.candidates → shut.has_scope ≡ w.has_scope → shut.at ≡ w.at
+    → shut.waiting.list.items ≡ take (length w.waiting.list.items - 1) w.waiting.list.items
+    → new.text.list.items ≡ take to shut.text.list.items → AreLeft (hidings.After to) shut.candidates.list.items new.candidates.list.items
+    → new.waiting ≡ shut.waiting → new.has_scope ≡ shut.has_scope → new.at ≡ shut.at → AwaitsLedParameters s new extra mark argument Leads Within
+unfolding no_items
+front-cut {s = s} {extra = extra} {mark = mark} {argument = argument} {entry = entry} {Within = Within} w shut new to p addressed same_text same_candidates same_scope same_at waits text are waiting scope_same at =
+    let left = p.lead ++ p.name in
+    let whole_ : w.text.list.items ≡ left ++ p.bytes = p.reads ∙ ap (λ l. l ++ p.bytes) p.written in
+    let left_is : new.text.list.items ≡ left =
+    text ∙ front-left shut.text.list.items left p.bytes to (ap (λ v. v.list.items) same_text ∙ whole_) addressed.to_is in
+    let r = p.returned in
+    record {
+      kept = kept-cut s w new p.kept left p.bytes to whole_ addressed.to_is left_is
+          (subst (λ v. AreLeft (hidings.After to) v.list.items new.candidates.list.items) same_candidates are) (scope_same ∙ same_scope) addressed.there;
+      has = record {
+        is_led = led-by s extra mark p.own r (λ l. encoding_of p.v (list r l)) p.lead p.name p.prints
+            (λ t rest. encoding-returned p.v mark p.own p.named_so p.returns r (list t rest));
+        leads = p.leads;
+      };
+      written = left_is;
+      goes = subst (λ ws. ItemsGoOn s argument (Within p.scope ws p.lead) (λ l. encoding_of p.v (list r l)) [] new.at p.state)
+          (sym (ap (λ v. reverse v.list.items) waiting
+          ∙ popped w.waiting.list.items shut.waiting.list.items p.rest entry (length w.waiting.list.items) refl p.open_is waits))
+          (subst (λ n. ItemsGoOn s argument (Within p.scope p.rest p.lead) (λ l. encoding_of p.v (list r l)) [] n p.state) (sym (at ∙ same_at))
+          (returned-first (encoding_of p.v) r w.at p.state p.goes));
+    }
+
+-- ## Parameters that follow
 
 -- a parameter comes next
 led-expected : {s : Symbol} {extra : ℕ} {mark : Mark} {argument : Arguments} {entry : Open} {rest : List Open} {ts : List Term} {texts : List ℕ} {Leads : Term → List ℕ → List ℕ → Type 0} (Within : WithinOpen) (w : Direct)
@@ -183,6 +298,22 @@ led-read {s = s} {rest = rest} w os kept t front bytes open_is written comes wai
       written = written ∙ ap (λ l. l ++ bytes) waits.3 ∙ append_assoc (h.front ++ h.name ++ codes "(") (in_front_of_next ts texts) bytes;
       goes = waits.4 t w.at kept.state comes;
     }
+
+-- likewise a type that may name the function's arguments
+pub type-led : {s : Symbol} {extra : ℕ} {mark : Mark} {argument : Arguments} {entry : Open} {Leads : LeadsSo} {Within : WithinOpen} (w : Direct) (is_reference is_dependent : Bool)
+    → 3 ≤ extra → IsWriting s w (steps.Value is_reference is_dependent) → slice_get w.waiting.list.items (length w.waiting.list.items - 1) ≡ Some entry
+    → ((scope : Scope) (rest : List Open) (os : List Opened) (text : List ℕ) → Stands s scope (entry ∷ rest) os text
+    → AwaitsLed s extra mark argument (Leads scope) (Within scope rest) os text)
+    → ((scope : Scope) (own : Term) (front name : List ℕ) → Leads scope own front name → IsGiven (detail_of s) scope.names (types_of own))
+    → IsLedParameterRead s w extra mark argument entry Leads Within
+type-led {s = s} {extra = extra} {entry = entry} w is_reference is_dependent most p found awaits given =
+    let last = last-found w.waiting.list.items entry found in
+    let v = subst (λ ws. IsTypeRead s p.scope w p.state ws is_reference is_dependent) last.1 p.is_before in
+    let waits = awaits p.scope last.0 v.os v.front v.stands in
+    let h = waits.2 in
+    led-read w v.os p.kept v.own v.front v.bytes last.1 v.written v.comes waits
+    (type-in (types_of h.own) extra v.own v.bytes is_reference most
+    (as-in (detail_of s) p.scope.names is_dependent (types_of h.own) v.own v.bytes is_reference (given p.scope h.own h.front h.name h.leads) v.prints))
 
 -- ## Their ends
 
@@ -390,28 +521,6 @@ name-within s old kept t mark encoding is_instance n returns here is_name =
       goes = items-scoped nowhere (named t (qualifiers (has_const mark)) (called_on mark)) (old.at + 1) kept.state items (nowhere-scoped items.around);
     }
 
--- after its return type, which is a builtin one, a function expects its parameters
-pub returned-awaits : (s : Symbol) (w : Direct) (n : ℕ) (mark : Mark) (from : ℕ) → IsEnclosingNamed s w mark true from → IsBuiltinAt s.bytes w.at n
-    → AwaitsEnclosingParameters s (record w { at = n }) mark from
-returned-awaits s w n mark from p is =
-    let make : Term → Term = λ l. encoding_of p.v l in
-    let becomes : Term → ℕ → State → Type 0 = TypeWithin s (below s p.scope (reverse w.waiting.list.items)) p.lead in
-    let element = element-awaits s Kind.Items p.goes.inner p.goes.around w.at p.state tt p.goes.awaits in
-    let returned = builtin-item s p.goes.around element.inner w.at n p.state is element.awaits in
-    let r = returned.0 in
-    let goes = returned-first make r n p.state (parameter-goes_on s nowhere becomes make [] w.at p.state p.goes r n p.state
-    (element.onward r n p.state returned.1)) in
-    record {
-      kept = kept-same s w (record w { at = n }) refl refl refl p.kept;
-      has = record {
-        is_led = led-by s 6 mark p.own r (λ l. make (list r l)) p.lead p.name p.prints
-            (λ t rest. encoding-returned p.v mark p.own p.named_so p.returns r (list t rest));
-        leads = p.from_is;
-      };
-      written = p.written;
-      goes = goes;
-    }
-
 -- one is read
 pub parameter-read-within : (s : Symbol) (w : Direct) (mark : Mark) (from to : ℕ) → IsElementRead s w (opens.Enclosing mark from to)
     → IsEnclosingParameterRead s w mark from to
@@ -523,140 +632,27 @@ name-addressed s old kept t mark n no_return returns names here is_name =
       stands = serves.2;
     }
 
--- The name of a function whose address is an argument was read, and written up to a place. Its types may name these arguments.
-pub record IsAddressScoped (s : Symbol) (w : Direct) (mark : Mark) (is_instance : Bool) (to : ℕ) (argument : Arguments) : Type 0 where
-  pub kept : Kept s w
-  pub open kept use *
-  pub from : ℕ
-  pub has : HasNameSo s w.text.list.items mark from
-  pub open has use *
-  pub addressed : IsAddressed s scope to argument own lead name
-  pub open addressed use *
-  pub no_return : is_instance ≡ false → has_return_type own ≡ false
-  pub returns : is_instance ≡ true → has_return_type own ≡ true
-  pub goes : ItemsGoOn s argument (AddressWithin s (below s no_scope (reverse w.waiting.list.items)) lead) (λ l. encoding_of v l) [] w.at state
-
-pub address-scoped : (s : Symbol) (old new : Direct) (mark : Mark) (is_instance : Bool) (to : ℕ) (argument noted : Arguments) (p : IsAddressNamed s old mark)
-    → old.waiting.list.items ≡ new.waiting.list.items ++ opens.Address argument.encoding ∷ [] → old.has_scope ≡ false → new.has_scope ≡ true
-    → new.text ≡ old.text → new.candidates ≡ old.candidates → new.at ≡ old.at → argument ≡ record noted { encoding = argument.encoding }
-    → HasArguments (detail_of s) old.text.list.items noted p.own → to ≡ length old.text.list.items
-    → is_instance ≡ (old.nest.is_instance && old.nest.has_class) → IsAddressScoped s new mark is_instance to argument
-address-scoped s old new mark is_instance to argument noted p waiting first now text candidates at same noted_there to_is instance_is =
-    let here = old.text.list.items in
-    let rest = reverse new.waiting.list.items in
-    let names : HasArguments (detail_of s) here argument p.own =
-    subst (λ (k : Arguments). HasArguments (detail_of s) here k p.own) (sym same) (arguments-named here argument.encoding noted p.own noted_there) in
-    let waits : reverse old.waiting.list.items ≡ opens.Address argument.encoding ∷ rest =
-    ap reverse waiting ∙ reverse-last new.waiting.list.items (opens.Address argument.encoding) in
-    let taken : Stands s no_scope (opens.Address argument.encoding ∷ rest) p.os p.lead =
-    subst (λ (k : Scope). Stands s k (opens.Address argument.encoding ∷ rest) p.os p.lead) (p.keeps.unknown first).0
-    (subst (λ ws. Stands s p.scope ws p.os p.lead) waits p.stands) in
-    let items = taken p.v old.at p.state p.comes in
-    let scope = scope_at here argument in
-    record {
-      kept = record { state = p.state; scope = scope; keeps = scope-kept s old new p.kept argument p.own names first now text candidates };
-      from = old.nest.from;
-      has = record {
-        own = p.own;
-        v = p.v;
-        named_so = p.named_so;
-        lead = p.lead;
-        name = p.name;
-        written = ap (λ k. k.list.items) text ∙ p.written;
-        from_is = p.from_is;
-        prints = p.prints;
-      };
-      addressed = record {
-        to_is = to_is ∙ ap length p.written;
-        given = arguments-given here argument p.own names;
-        named = refl;
-        there = subst (λ l. AreNamed l scope) p.written (named-there here argument p.own names);
-        typed = (p.keeps.unknown first).1;
-      };
-      no_return = λ e. p.no_return (sym instance_is ∙ e);
-      returns = λ e. p.returns (sym instance_is ∙ e);
-      goes = subst (λ n. ItemsGoOn s argument (AddressWithin s (below s no_scope rest) p.lead) (λ l. encoding_of p.v l) [] n p.state) (sym at)
-          (items-scoped argument p.v old.at p.state items
-          (types-scoped here argument items.around p.own (λ real. (items.encoding_is, items.no_lambda)) (items.scope_is ∙ ap arguments_of p.named_so.tree_is) names));
-    }
+-- the open entry accepts its types
+pub address-items : (s : Symbol) (old new : Direct) (mark : Mark) (encoding : ℕ) (p : IsAddressNamed s old mark)
+    → old.waiting.list.items ≡ new.waiting.list.items ++ opens.Address encoding ∷ [] → old.has_scope ≡ false
+    → ItemsOf s encoding (AddressWithin s (below s no_scope (reverse new.waiting.list.items)) p.lead) p.v old.at p.state
+address-items s old new mark encoding p waiting first =
+    let all = opens.Address encoding ∷ reverse new.waiting.list.items in
+    let waits : reverse old.waiting.list.items ≡ all = ap reverse waiting ∙ reverse-last new.waiting.list.items (opens.Address encoding) in
+    let taken : Stands s no_scope all p.os p.lead =
+    subst (λ (k : Scope). Stands s k all p.os p.lead) (p.keeps.unknown first).0 (subst (λ ws. Stands s p.scope ws p.os p.lead) waits p.stands) in
+    taken p.v old.at p.state p.comes
 
 -- expects the return type after the name
-pub front-addressed : (s : Symbol) (w new : Direct) (mark : Mark) (to : ℕ) (argument : Arguments) (p : IsAddressScoped s w mark true to argument)
+pub front-addressed : (s : Symbol) (w new : Direct) (mark : Mark) (from to : ℕ) (argument : Arguments) (kept : Kept s w) (p : HasNameSo s w.text.list.items mark from)
+    → has_return_type p.own ≡ true → IsAddressed s kept.scope to argument p.own p.lead p.name
+    → ItemsGoOn s argument (AddressWithin s (below s no_scope (reverse w.waiting.list.items)) p.lead) (λ l. encoding_of p.v l) [] w.at kept.state
     → new.waiting.list.items ≡ w.waiting.list.items ++ opens.AddressedFront mark to argument ∷ [] → new.text ≡ w.text
     → new.candidates ≡ w.candidates → new.has_scope ≡ w.has_scope → new.at ≡ w.at → IsWriting s new steps.Type
-front-addressed s w new mark to argument p waiting text candidates scope_same at =
-    let g = p.goes in
-    let rest = reverse w.waiting.list.items in
-    let becomes : Term → ℕ → State → Type 0 = AddressWithin s (below s no_scope rest) p.lead in
-    let has : HasAddressedFront s p.scope w.text.list.items mark to argument =
-    record { from = p.from; has = p.has; is_addressed = p.addressed; returns = p.returns refl } in
-    item-comes s w new p.kept argument becomes (λ l. encoding_of p.v l) [] w.at g (opens.AddressedFront mark to argument ∷ rest) text candidates scope_same at
-    (ap reverse waiting ∙ reverse-last w.waiting.list.items (opens.AddressedFront mark to argument)) (λ os onward. (has, onward))
-    (entry-scoped p.scope g.around (opens.AddressedFront mark to argument) argument rest refl refl p.named g.scoped)
-
--- it is read
-pub value-addressed-front : (s : Symbol) (w : Direct) (is_reference is_dependent : Bool) (mark : Mark) (to : ℕ) (argument : Arguments)
-    → IsWriting s w (steps.Value is_reference is_dependent)
-    → slice_get w.waiting.list.items (length w.waiting.list.items - 1) ≡ Some (opens.AddressedFront mark to argument)
-    → IsAddressedFrontRead s w mark to argument
-value-addressed-front s w is_reference is_dependent mark to argument p found =
-    let last = last-found w.waiting.list.items (opens.AddressedFront mark to argument) found in
-    let v = subst (λ ws. IsTypeRead s p.scope w p.state ws is_reference is_dependent) last.1 p.is_before in
-    let waits = v.stands in
-    record {
-      kept = p.kept;
-      rest = last.0;
-      open_is = last.1;
-      text = v.front;
-      addressed = waits.0;
-      returned = v.own;
-      bytes = v.bytes;
-      reads = v.written;
-      goes = waits.1 v.own w.at p.state v.comes;
-    }
-
--- it is removed
-pub front-cut : (s : Symbol) (w shut new : Direct) (mark : Mark) (to : ℕ) (argument : Arguments) (p : IsAddressedFrontRead s w mark to argument)
-    → shut.text ≡ w.text → shut.candidates ≡ w.candidates → shut.has_scope ≡ w.has_scope → shut.at ≡ w.at
-    → shut.waiting.list.items ≡ take (length w.waiting.list.items - 1) w.waiting.list.items
-    → new.text.list.items ≡ take to shut.text.list.items → AreLeft (hidings.After to) shut.candidates.list.items new.candidates.list.items
-    → new.waiting ≡ shut.waiting → new.has_scope ≡ shut.has_scope → new.at ≡ shut.at → AwaitsAddressedParameters s new mark to argument
-unfolding no_items
-front-cut s w shut new mark to argument p same_text same_candidates same_scope same_at waits text are waiting scope_same at =
-    let left = p.lead ++ p.name in
-    let whole_ : w.text.list.items ≡ left ++ p.bytes = p.reads ∙ ap (λ l. l ++ p.bytes) p.written in
-    let left_is : new.text.list.items ≡ left =
-    text ∙ front-left shut.text.list.items left p.bytes to (ap (λ v. v.list.items) same_text ∙ whole_) p.to_is in
-    let r = p.returned in
-    record {
-      kept = kept-cut s w new p.kept left p.bytes to whole_ p.to_is left_is
-          (subst (λ v. AreLeft (hidings.After to) v.list.items new.candidates.list.items) same_candidates are) (scope_same ∙ same_scope) p.there;
-      has = record {
-        is_led = led-by s 3 mark p.own r (λ l. encoding_of p.v (list r l)) p.lead p.name p.prints
-            (λ t rest. encoding-returned p.v mark p.own p.named_so p.returns r (list t rest));
-        leads = p.is_addressed;
-      };
-      written = left_is;
-      goes = subst (λ ws. ItemsGoOn s argument (AddressWithin s (below s no_scope ws) p.lead) (λ l. encoding_of p.v (list r l)) [] new.at p.state)
-          (sym (ap (λ v. reverse v.list.items) waiting
-          ∙ popped w.waiting.list.items shut.waiting.list.items p.rest (opens.AddressedFront mark to argument) (length w.waiting.list.items) refl p.open_is waits))
-          (subst (λ n. ItemsGoOn s argument (AddressWithin s (below s no_scope p.rest) p.lead) (λ l. encoding_of p.v (list r l)) [] n p.state) (sym (at ∙ same_at))
-          (returned-first (encoding_of p.v) r w.at p.state p.goes));
-    }
-
--- one is read
-pub value-addressed : (s : Symbol) (w : Direct) (is_reference is_dependent : Bool) (mark : Mark) (to : ℕ) (argument : Arguments)
-    → IsWriting s w (steps.Value is_reference is_dependent)
-    → slice_get w.waiting.list.items (length w.waiting.list.items - 1) ≡ Some (opens.Addressed mark to argument) → IsAddressedParameterRead s w mark to
-value-addressed s w is_reference is_dependent mark to argument p found =
-    let last = last-found w.waiting.list.items (opens.Addressed mark to argument) found in
-    let v = subst (λ ws. IsTypeRead s p.scope w p.state ws is_reference is_dependent) last.1 p.is_before in
-    let h = v.stands.2 in
-    let types = types_of h.own in (
-      argument,
-      led-read w v.os p.kept v.own v.front v.bytes last.1 v.written v.comes v.stands
-          (type-in types 3 v.own v.bytes is_reference (as-in (detail_of s) p.scope.names is_dependent types v.own v.bytes is_reference h.leads.given v.prints)),
-    )
+front-addressed s w new mark from to argument kept p returns addressed goes waiting text candidates scope_same at =
+    let entry = opens.AddressedFront mark to argument in
+    front-awaits (λ scope. IsAddressed s scope to argument) (λ scope waits. AddressWithin s (below s no_scope waits)) w new entry kept p addressed returns goes
+    waiting text candidates scope_same at (λ os h. h) (entry-scoped kept.scope goes.around entry argument (reverse w.waiting.list.items) refl refl addressed.named goes.scoped)
 
 -- Its E is read and that of its address, which is accepted like a type.
 pub address-ended : (s : Symbol) (w new : Direct) → IsAddressedRead s w marks.Plain → StandsAt s.bytes w.at (69 ∷ 69 ∷ []) → new.text ≡ w.text

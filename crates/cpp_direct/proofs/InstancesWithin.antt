@@ -1,22 +1,16 @@
 -- Instances of function templates that contain a type, whose parameters may name their arguments: from their names to their ends.
-use Rattle.cpp_direct.proofs.Ending.{parameter-goes_on, types-scoped}
-use Rattle.cpp_direct.proofs.FunctionsWithin.{first-led, items-scoped, led-by, led-read, next-led, returned-first}
+use Rattle.cpp_direct.proofs.FunctionsWithin.{front-awaits, items-scoped, led-read, now-scoped, returned-awaits}
 use Rattle.cpp_direct.proofs.Kept.{kept-same, kept-closed, reverse-last}
-use Rattle.cpp_direct.proofs.Listed.{last-found}
-use Rattle.cpp_direct.proofs.MovesOfLists.{element-awaits}
 use Rattle.cpp_direct.proofs.MovesOfLocals.{nowhere-scoped}
-use Rattle.cpp_direct.proofs.NamedArguments.{arguments-given, named-there, scope_at, scope-kept}
 use Rattle.cpp_direct.proofs.Nesting.{nest-comes, closed-prints}
 use Rattle.cpp_direct.proofs.PrintedLists.{element-in}
 use Rattle.cpp_direct.proofs.PrintedNames.{as-name}
-use Rattle.cpp_direct.proofs.PrintedSymbols.{encoding-returned}
-use Rattle.cpp_direct.proofs.PrintedTypes.{as-in}
-use Rattle.cpp_direct.proofs.Scopes.{arguments-named, entry-scoped, has-member}
-use Rattle.cpp_direct.proofs.TypesRead.{builtin-item, popped}
-use Rattle.cpp_direct.specs.AllHoles.{Comes, Opened, StandsAt}
-use Rattle.cpp_direct.specs.AllStates.{AreLeft, AreNamed, Arguments, AwaitsLedParameters, below, called_on, detail_of, Direct, has_const, HasArguments, IsBuiltinAt, IsElementIn, IsElementRead, IsEnclosingNamed, IsEnclosingParameterRead, IsInstanceNamed, IsInstanceParameterRead, IsNesting, IsOwn, IsScopedWithin, IsTypeRead, IsWriting, ItemsGoOn, ItemsOf, Kept, Mark, no_scope, nowhere, Open, PrintsIn, qualifiers, Scope, Serves, Symbol, TypeWithin, Writes}
-use Rattle.cpp_direct.specs.AllTerms.{arguments_of, Context, Detail, encoding_of, has_return_type, Kind, list, named, State, Term, types_of}
-use Rattle.std.proofs.Common.{◌≡◌, refl, ap, sym, ◌∙◌, subst, ℕ, ◌+◌, ◌-◌, List, [], ◌∷◌, ◌++◌, length, reverse, take, slice_get, Some, Bool, true, false, ◌&&◌, arith, codes, append-nil}
+use Rattle.cpp_direct.proofs.Scopes.{entry-scoped, has-member}
+use Rattle.cpp_direct.proofs.TypesRead.{popped}
+use Rattle.cpp_direct.specs.AllHoles.{StandsAt}
+use Rattle.cpp_direct.specs.AllStates.{AreLeft, Arguments, AwaitsLedParameters, below, detail_of, Direct, HasArguments, IsAddressed, IsBuiltinAt, IsElementRead, IsEnclosingNamed, IsEnclosingParameterRead, IsInstanceNamed, IsInstanceParameterRead, IsNesting, IsOwn, IsScopedWithin, IsWriting, ItemsGoOn, ItemsOf, Kept, Mark, no_scope, nowhere, Scope, Serves, Symbol, TypeWithin}
+use Rattle.cpp_direct.specs.AllTerms.{encoding_of, has_return_type, Kind, Term, types_of}
+use Rattle.std.proofs.Common.{◌≡◌, refl, ap, sym, ◌∙◌, subst, ℕ, ◌+◌, ◌-◌, [], ◌∷◌, ◌++◌, length, reverse, take, Bool, true, false, ◌&&◌}
 use Rattle.cpp_direct.specs.declared.open.Open.TheVariants as opens
 use Rattle.cpp_direct.specs.declared.open.Purpose.TheVariants as purposes
 use Rattle.cpp_direct.specs.declared.open.Step.TheVariants as steps
@@ -52,73 +46,36 @@ instance-named s w mark encoding from p = record {
   goes = items-scoped nowhere p.v w.at p.state p.items (nowhere-scoped p.items.around);
 }
 
--- after its return type, which is a builtin one, it expects its parameters, whose types may name its arguments
-pub instance-awaits : (s : Symbol) (old new : Direct) (mark : Mark) (from to end : ℕ) (argument : Arguments) → IsInstanceNamed s old mark argument.encoding from
-    → old.has_scope ≡ false → new.has_scope ≡ true → new.text ≡ old.text → new.candidates ≡ old.candidates → new.waiting ≡ old.waiting
-    → new.at ≡ end → argument ≡ record (old.argument) { encoding = argument.encoding } → to ≡ length old.text.list.items → IsBuiltinAt s.bytes old.at end
-    → AwaitsLedParameters s new 6 mark argument (λ scope. IsScopedWithin s scope from to argument) (λ scope waits. TypeWithin s (below s no_scope waits))
-instance-awaits s old new mark from to end argument p first now text candidates waiting at same to_is is =
-    let here = old.text.list.items in
-    let rest = reverse old.waiting.list.items in
-    let make : Term → Term = λ l. encoding_of p.v l in
-    let becomes : Term → ℕ → State → Type 0 = TypeWithin s (below s no_scope rest) p.lead in
-    let names : HasArguments (detail_of s) here argument p.own =
-    subst (λ (k : Arguments). HasArguments (detail_of s) here k p.own) (sym same) (arguments-named here argument.encoding old.argument p.own p.names) in
-    let items : ItemsOf s argument.encoding becomes p.v old.at p.state =
-    subst (λ (k : Scope). ItemsOf s argument.encoding (TypeWithin s (below s k rest) p.lead) p.v old.at p.state) (p.keeps.unknown first).0 p.items in
-    let begun = items-scoped argument p.v old.at p.state items
-    (types-scoped here argument items.around p.own (λ real. (items.encoding_is, items.no_lambda)) (items.scope_is ∙ ap arguments_of p.named_so.tree_is) names) in
-    let element = element-awaits s Kind.Items begun.inner begun.around old.at p.state tt begun.awaits in
-    let returned = builtin-item s begun.around element.inner old.at end p.state is element.awaits in
-    let r = returned.0 in
-    let goes = returned-first make r end p.state (parameter-goes_on s argument becomes make [] old.at p.state begun r end p.state
-    (element.onward r end p.state returned.1)) in
-    let scope = scope_at here argument in
-    record {
-      kept = record { state = p.state; scope = scope; keeps = scope-kept s old new p.kept argument p.own names first now text candidates };
-      has = record {
-        is_led = led-by s 6 mark p.own r (λ l. make (list r l)) p.lead p.name p.prints
-            (λ t rest. encoding-returned p.v mark p.own p.named_so p.returns r (list t rest));
-        leads = (
-          p.from_is,
-          record {
-            to_is = to_is ∙ ap length p.written;
-            given = arguments-given here argument p.own names;
-            named = refl;
-            there = subst (λ l. AreNamed l scope) p.written (named-there here argument p.own names);
-            typed = (p.keeps.unknown first).1;
-          },
-        );
-      };
-      written = ap (λ k. k.list.items) text ∙ p.written;
-      goes = subst (λ v. ItemsGoOn s argument (TypeWithin s (below s no_scope (reverse v.list.items)) p.lead) (λ l. make (list r l)) [] new.at p.state) (sym waiting)
-          (subst (λ k. ItemsGoOn s argument becomes (λ l. make (list r l)) [] k p.state) (sym at) goes);
-    }
+-- all of its types may name its arguments
+instance-scoped : (s : Symbol) (old : Direct) (mark : Mark) (from to : ℕ) (argument : Arguments) (p : IsInstanceNamed s old mark argument.encoding from) → old.has_scope ≡ false
+    → argument ≡ record (old.argument) { encoding = argument.encoding } → to ≡ length old.text.list.items
+    → (now : Kept s (record old { has_scope = true })) × IsAddressed s now.scope to argument p.own p.lead p.name
+    × ItemsGoOn s argument (TypeWithin s (below s no_scope (reverse old.waiting.list.items)) p.lead) (λ l. encoding_of p.v l) [] old.at now.state
+instance-scoped s old mark from to argument p first same to_is =
+    now-scoped old (record old { has_scope = true }) to argument old.argument p.kept p.has
+    (subst (λ (k : Scope). ItemsOf s argument.encoding (TypeWithin s (below s k (reverse old.waiting.list.items)) p.lead) p.v old.at p.state) (p.keeps.unknown first).0 p.items)
+    first refl refl refl same p.names to_is
 
--- a type is read as an element
-read-more : {detail : Detail} (c : Context) (t : Term) (b : List ℕ) (r : Bool) → PrintsIn detail c 3 t b r → IsElementIn detail c 6 t b
-read-more c t b r p = record {
-  both_texts = rw (p.left_text, p.right_text) (append-nil b);
-  cost = omega (arith, p.cost);
-  filled = p.filled;
-  void = p.void;
-}
+-- it expects its return type,
+pub instance-front : (s : Symbol) (old new : Direct) (mark : Mark) (from to : ℕ) (argument : Arguments) → IsInstanceNamed s old mark argument.encoding from
+    → old.has_scope ≡ false → new.has_scope ≡ true → new.text ≡ old.text → new.candidates ≡ old.candidates
+    → new.waiting.list.items ≡ old.waiting.list.items ++ opens.EnclosingFront mark from to argument ∷ [] → new.at ≡ old.at
+    → argument ≡ record (old.argument) { encoding = argument.encoding } → to ≡ length old.text.list.items → IsWriting s new steps.Type
+instance-front s old new mark from to argument p first now text candidates waiting at same to_is =
+    let q = instance-scoped s old mark from to argument p first same to_is in
+    let entry = opens.EnclosingFront mark from to argument in
+    front-awaits (λ k. IsScopedWithin s k from to argument) (λ k waits. TypeWithin s (below s no_scope waits)) (record old { has_scope = true }) new entry q.0 p.has (p.from_is, q.1) p.returns q.2
+    waiting text candidates now at (λ os h. h) (entry-scoped q.0.scope q.2.around entry argument (reverse old.waiting.list.items) refl refl q.1.named q.2.scoped)
 
--- a parameter is read
-pub value-instance : (s : Symbol) (w : Direct) (is_reference is_dependent : Bool) (mark : Mark) (from to : ℕ) (argument : Arguments)
-    → IsWriting s w (steps.Value is_reference is_dependent)
-    → slice_get w.waiting.list.items (length w.waiting.list.items - 1) ≡ Some (opens.EnclosingInstance mark from to argument) → IsInstanceParameterRead s w mark from to
-value-instance s w is_reference is_dependent mark from to argument p found =
-    let last = last-found w.waiting.list.items (opens.EnclosingInstance mark from to argument) found in
-    let v = subst (λ ws. IsTypeRead s p.scope w p.state ws is_reference is_dependent) last.1 p.is_before in
-    let h = v.stands.2 in
-    let types = types_of h.own in (
-      argument,
-      led-read w v.os p.kept v.own v.front v.bytes last.1 v.written v.comes v.stands
-          (read-more types v.own v.bytes is_reference (as-in (detail_of s) p.scope.names is_dependent types v.own v.bytes is_reference h.leads.1.given v.prints)),
-    )
+-- or, after one that is a builtin type, its parameters
+pub instance-awaits : (s : Symbol) (old : Direct) (mark : Mark) (from to end : ℕ) (argument : Arguments) → IsInstanceNamed s old mark argument.encoding from
+    → old.has_scope ≡ false → argument ≡ record (old.argument) { encoding = argument.encoding } → to ≡ length old.text.list.items → IsBuiltinAt s.bytes old.at end
+    → AwaitsLedParameters s (record old { has_scope = true; at = end }) 6 mark argument (λ k. IsScopedWithin s k from to argument) (λ k waits. TypeWithin s (below s no_scope waits))
+instance-awaits s old mark from to end argument p first same to_is is =
+    let q = instance-scoped s old mark from to argument p first same to_is in
+    returned-awaits (record old { has_scope = true }) end q.0 p.has p.returns (p.from_is, q.1) q.2 is
 
--- one that prints on both sides of a name is
+-- a parameter is read that prints on both sides of a name
 pub element-instance : (s : Symbol) (w : Direct) (mark : Mark) (from to : ℕ) (argument : Arguments) → IsElementRead s w (opens.EnclosingInstance mark from to argument)
     → IsInstanceParameterRead s w mark from to
 element-instance s w mark from to argument p =

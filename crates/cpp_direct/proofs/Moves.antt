@@ -5,7 +5,7 @@ use Rattle.cpp_direct.specs.AllTerms.{after, alone, alternatives, among, AreTree
 use Rattle.sym_shape.specs.declared.rule.Sym.TheVariants.{Kind as OfKind, Name, Number, Byte}
 use Rattle.cpp_grammar.specs.Values.{State, Around, Value, nothing_there, text, tree, outermost}
 use Rattle.cpp_grammar.proofs.ClosedTrees.{at_number, its_symbols}
-use Rattle.cpp_direct.proofs.Tables.{takes-by, empty-by, names-by, arguments-by, tails-by, item-by}
+use Rattle.cpp_direct.proofs.Tables.{takes-by, empty-by, names-by, arguments-by, tails-by, item-by, first-by}
 use Rattle.cpp_direct.specs.Symbol.{Symbol, table_by}
 use Rattle.cpp_direct.specs.Holes.{cpp_language, Awaits, Opened, opened, ReadsRest, StandsAt, Comes, Needs, ExpectsSym, Expects, IsNameAt, IsNumberAt}
 use Rattle.std.proofs.lemmas.Bool.{false≢true, and_parts, not-true}
@@ -438,3 +438,10 @@ unfolding number_of_kind
 any-argument s around os at st expects bytes vs after read stands =
     let argument = item-by s.is_wide read.shape read.shaped in
     expects bytes vs after (record { shape = argument.tree; shaped = argument.is; spelled = argument.spells ∙ read.spelled; unfolds = argument.says around at st ∙ read.unfolds }) stands
+
+-- and the first type of a lambda
+pub any-first : (s : Symbol) (around : Around) (os : List Opened) (at : ℕ) (st : State) → Expects s Kind.FirstOfLambda around os at st → Expects s Kind.Item around os at st
+unfolding number_of_kind
+any-first s around os at st expects bytes vs after read stands =
+    let first = first-by s.is_wide read.shape read.shaped in
+    expects bytes vs after (record { shape = first.tree; shaped = first.is; spelled = first.spells ∙ read.spelled; unfolds = first.says around at st ∙ read.unfolds }) stands

@@ -2,7 +2,7 @@
 use Rattle.std.proofs.Common.{◌≡◌, ℕ, ◌+◌, ◌-◌, ◌<◌, ◌≤◌, Ok, List, [], ◌∷◌, ◌++◌, length, Bool, true, false, cond, Option, None, Some, refl, ap, sym, subst, arith, append-nil}
 use Rattle.std.proofs.lemmas.Bool.{le-leb}
 use Rattle.sym_core.specs.declared.NumberKind.TheVariants.{Decimal}
-use Rattle.cpp_direct.specs.AllTerms.{after, alternatives, among, applied, AreDigitsOf, between, builtin, byte_of, choose, close, cpp, empty, extended, fixed, in_ranges, in_signature, is_chain, is_in, is_nil, is_void, Kind, lambda, last_token, listed_value, may_be_empty, meaning, named_so_far, nil, no_items, number_of_kind, number_tested, opening, padded, parameters, parts_of, pick, Production, rule_of, source, standing, Term, token, with_type, within}
+use Rattle.cpp_direct.specs.AllTerms.{after, alternatives, among, applied, AreDigitsOf, between, builtin, byte_of, choose, close, cpp, empty, extended, fixed, in_ranges, in_signature, is_chain, is_in, is_nil, is_void, Kind, lambda, last_token, listed_value, may_be_empty, meaning, named_so_far, nil, no_items, number_of_kind, number_tested, opening, padded, parameters, parts_of, pick, Production, rule_of, signature_with, source, standing, Term, token, with_type, within}
 use Rattle.sym_core.specs.Token.{Token}
 use Rattle.sym_shape.specs.declared.rule.Sym.TheVariants.{Kind as OfKind, Number, Byte}
 use Rattle.cpp_grammar.specs.Values.{State, Around, outermost, nothing_there, text, tree, piece, tree_of, text_of, is_listed, qualifiers_of, ref_of, local_number, part, is_there, letter_of, piece_of}
@@ -14,7 +14,7 @@ use Rattle.sym_direct.proofs.Moves as moves
 use Rattle.cpp_direct.proofs.Kept.{none-known}
 use Rattle.cpp_direct.proofs.ShortNumbers.{lambda-begins, tested}
 use Rattle.cpp_direct.proofs.MovesOfTypes.{named-taken}
-use Rattle.cpp_direct.proofs.Moves.{awaited, stands-split, kind-at, reads-rule, joins, none-left, opens-where, needs-next, hole, open_at, fill, filled-at, hole-at, eats, leaves, chosen-byte, is_left, byte-opens, chain-opens, byte-fills, next-part, closes, none-fills, fixed-fills, name-fills, number-fills, is_eaten, digits-fill}
+use Rattle.cpp_direct.proofs.Moves.{awaited, stands-split, kind-at, reads-rule, joins, none-left, opens-where, needs-next, hole, open_at, fill, filled-at, hole-at, eats, leaves, chosen-byte, is_left, byte-opens, chain-opens, byte-fills, next-part, closes, none-fills, fixed-fills, name-fills, number-fills, is_eaten, digits-fill, any-first}
 use Rattle.cpp_direct.proofs.Tables.{empty-by, names-by}
 
 -- ## Discriminators
@@ -97,18 +97,18 @@ pub source-name-piece : (s : Symbol) (at : ℕ) (name : List ℕ) (end : ℕ) �
 unfolding is_left
 source-name-piece s at name end is os around e st expects = source-comes s Kind.TypeEntity os around e at name end st refl expects is
 
--- void is read as an item
+-- void is read as the first type of a lambda
 void-read : (s : Symbol) (around : Around) (at : ℕ) (st : State)
-    → direct.Reads (cpp_language s) s.bytes (OfKind (number_of_kind Kind.Item)) around at (118 ∷ []) st (tree (builtin (118 ∷ [])) true ∷ []) st
+    → direct.Reads (cpp_language s) s.bytes (OfKind (number_of_kind Kind.FirstOfLambda)) around at (118 ∷ []) st (tree (builtin (118 ∷ [])) true ∷ []) st
 unfolding choose alternatives pick is_in in_ranges among is_chain parts_of rule_of padded number_of_kind between opening close unfolding_.behind meaning
     with_type listed_value tree_of is_listed part byte_of
 void-read s around at st =
-    let p = Production.PlainType in
+    let p = Production.PlainArgument in
     let q = Production.Builtin in
     let v = tree (builtin (118 ∷ [])) true in
-    reads-rule s Kind.Item p 118 [] around at st st st (118 ∷ []) (v ∷ []) v refl (omega arith) refl
-    (joins s p [] at around st [] (OfKind (number_of_kind Kind.Solid)) [] (at + 0) st around [] st st st (v ∷ []) (118 ∷ []) [] (v ∷ []) refl
-    (reads-rule s Kind.Solid q 118 (118 ∷ []) around (at + 0) st st st [] [] v refl (omega arith) refl
+    reads-rule s Kind.FirstOfLambda p 118 [] around at st st st (118 ∷ []) (v ∷ []) v refl (omega arith) refl
+    (joins s p [] at around st [] (OfKind (number_of_kind Kind.SolidButT)) [] (at + 0) st around [] st st st (v ∷ []) (118 ∷ []) [] (v ∷ []) refl
+    (reads-rule s Kind.SolidButT q 118 (118 ∷ []) around (at + 0) st st st [] [] v refl (omega arith) refl
     (none-left s q (118 ∷ []) (at + 0) around st [] (at + 0 + 1) st) refl refl)
     (none-left s p [] at around st (v ∷ []) (at + 0 + 1) st)) refl refl
 
@@ -123,7 +123,7 @@ lambda-read : (s : Symbol) (around : Around) (at : ℕ) (digits : List ℕ) (st 
     (piece (lambda nil (local_number digits)) ∷ []) st
 unfolding choose alternatives pick is_in in_ranges among is_chain parts_of rule_of padded number_of_kind between opening close unfolding_.behind meaning
     last_token void-read reads-rule joins none-left moves.reads-rule moves.joins moves.none-left may_be_empty parameters is_void is_nil
-    no_items tree_of text_of part byte_of cpp
+    signature_with no_items tree_of text_of part byte_of cpp
 lambda-read s around at digits st are small =
     let p = Production.Lambda in
     let c = in_signature around in
@@ -136,7 +136,7 @@ lambda-read s around at digits st are small =
     let four = v ∷ nothing_there ∷ nothing_there ∷ text digits ∷ [] in
     reads-rule s Kind.Anonymous p 108 (108 ∷ []) around at st st st (118 ∷ 69 ∷ ((digits ++ 95 ∷ []) ++ [])) four (piece (lambda nil (local_number digits)))
     refl (omega arith) refl
-    (joins s p (108 ∷ []) at around st [] (OfKind (number_of_kind Kind.Item)) (items ∷ Byte 69 ∷ Number Decimal ∷ []) (at + 1) st c [] st st st one
+    (joins s p (108 ∷ []) at around st [] (OfKind (number_of_kind Kind.FirstOfLambda)) (items ∷ Byte 69 ∷ Number Decimal ∷ []) (at + 1) st c [] st st st one
     (118 ∷ []) (69 ∷ ((digits ++ 95 ∷ []) ++ [])) four refl (void-read s c (at + 1) st)
     (joins s p (108 ∷ []) at around st one items (Byte 69 ∷ Number Decimal ∷ []) (at + 1 + 1) st c one st st st (nothing_there ∷ [])
     [] (69 ∷ ((digits ++ 95 ∷ []) ++ [])) four refl
@@ -234,26 +234,26 @@ piece-taken _ is = absurd is
 -- a lambda begins in a symbol without long numbers
 pub lambda-opens : (s : Symbol) (kind : Kind) (os : List Opened) (around : Around) (e : Term) (listed : Bool) (at : ℕ) (st : State) → IsPieceKind kind
     → short_numbers 0 s.bytes ≡ true → Expects s kind (after e listed around) os at st → StandsAt s.bytes at (85 ∷ 108 ∷ []) → LambdaOpened s os e (at + 2) st
-unfolding is_eaten number_of_kind parts_of may_be_empty between opening close unfolding_.behind meaning part byte_of tree_of text_of piece_of letter_of is_there named_so_far extended applied after in_signature
+unfolding is_eaten number_of_kind parts_of may_be_empty between opening close unfolding_.behind meaning part byte_of tree_of text_of piece_of letter_of is_there named_so_far extended applied after in_signature signature_with
 lambda-opens s kind os around e listed at st is_piece short expects stands =
     let p = Production.LocalTypeName in
     let q = Production.Lambda in
     let here : Around = after e listed around in
     let c = in_signature here in
-    let item = OfKind (number_of_kind Kind.Item) in
+    let item = OfKind (number_of_kind Kind.FirstOfLambda) in
     let todo = OfKind (number_of_kind Kind.Items) ∷ Byte 69 ∷ Number Decimal ∷ [] in
     let places = stands-split s.bytes at (85 ∷ []) (108 ∷ []) stands in
     let anonymous = byte-opens (eats s kind p 85 (piece-taken kind is_piece)) (hole s kind here os at st expects) places.0 refl refl in
     let above = open_at anonymous in
     let needs = opens-where s Kind.Anonymous q 108 (108 ∷ []) here above (at + 1) st refl (omega arith) refl
     (λ f shaped there. lambda-begins s.is_wide s.bytes (at + 1 + 1) (at + 1) st short f shaped there) anonymous.expects places.1 in
-    let first = hole s Kind.Item c (opened (standing (rule_of q) (108 ∷ []) (at + 1) here st) [] todo ∷ above) (at + 1 + 1) st
+    let first = hole s Kind.FirstOfLambda c (opened (standing (rule_of q) (108 ∷ []) (at + 1) here st) [] todo ∷ above) (at + 1 + 1) st
     (needs-next s q (108 ∷ []) (at + 1) here st [] item todo above (at + 1 + 1) st c [] st refl needs) in
     record {
       around = c;
       outside = refl;
       inner = open_at first;
-      awaits = (hole-at (at + 2) first (omega arith)).expects;
+      awaits = any-first s c (open_at first) (at + 2) st (hole-at (at + 2) first (omega arith)).expects;
       onward = λ t there now comes.
           let more = next-part q (fill first (tree t true) there now comes) refl in
           record {

@@ -1,5 +1,5 @@
 -- Nested names are read and written from left to right.
-use Rattle.cpp_direct.specs.AllTerms.{abbreviation, abbreviation_texts, after, alone, arguments_of, Around, counted_value, Detail, found, has_return_type, in_std, inside, instance, is_function_type, is_structor, Kind, look_up, may_be_empty, named, no_items, same_bytes, source, source_text, State, substituted, Term, tree, with_tag}
+use Rattle.cpp_direct.specs.AllTerms.{abbreviation, abbreviation_texts, after, alone, arguments_of, Around, counted_value, Detail, found, has_return_type, in_std, inside, instance, is_function_type, is_structor, Kind, look_up, may_be_empty, no_items, same_bytes, source, source_text, State, substituted, Term, tree, with_tag}
 use Rattle.cpp_direct.proofs.Unmarked.{name-unmarked}
 use Rattle.cpp_direct.proofs.Scopes.{no-arguments, scoped-inside, has-member}
 use Rattle.std.proofs.Common.{◌≡◌, ◌≢◌, ℕ, ◌+◌, ◌-◌, ◌≤◌, List, [], ◌∷◌, ◌++◌, length, take, drop, reverse, slice_get, Bool, true, false, Some, refl, ap, sym, ◌∙◌, subst, arith, codes, append-nil, append_assoc, length-append, nat_eq, ◌&&◌, Ok}

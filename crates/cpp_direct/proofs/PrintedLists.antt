@@ -248,11 +248,11 @@ type-element extra t b r p = record {
 }
 
 -- What prints in a context prints as an element there.
-pub type-in : {detail : Detail} (c : Context) (extra : ℕ) (t : Term) (b : List ℕ) (r : Bool) → PrintsIn detail c extra t b r
+pub type-in : {detail : Detail} (c : Context) (extra : ℕ) (t : Term) (b : List ℕ) (r : Bool) → 3 ≤ extra → PrintsIn detail c 3 t b r
     → IsElementIn detail c extra t b
-type-in c extra t b r p = record {
+type-in c extra t b r most p = record {
   both_texts = rw (p.left_text, p.right_text) (append-nil b);
-  cost = p.cost;
+  cost = omega (arith, p.cost, most);
   filled = p.filled;
   void = p.void;
 }
@@ -381,7 +381,7 @@ list-packless-as detail names is_dependent arguments extra ts tail l single is a
 pub type-element-as : (detail : Detail) (names : Names) (is_dependent : Bool) (t : Term) (b : List ℕ) (r : Bool) → PrintsAs detail names is_dependent t b r
     → IsElementAs detail names is_dependent 3 t b
 type-element-as detail names false t b r p = type-element 3 t b r p
-type-element-as detail names true t b r p = record { prints = λ c given. type-in c 3 t b r (p.prints c given); packless = p.packless }
+type-element-as detail names true t b r p = record { prints = λ c given. type-in c 3 t b r (omega arith) (p.prints c given); packless = p.packless }
 
 -- One more element prints after those before it.
 pub next-prints-as : (detail : Detail) (names : Names) (is_dependent : Bool) (extra : ℕ) (ts : List Term) (l : List ℕ) (t : Term) (b : List ℕ)

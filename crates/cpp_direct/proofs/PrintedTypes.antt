@@ -1,10 +1,10 @@
 -- Types that are made of another type: pointers, references and constant types, and parameters that name one.
-use Rattle.cpp_direct.specs.AllTerms.{absent, arguments_of, as_item, attached_parts, before_piece, closing_right, component_parts, Detail, element, function_type, has_arguments, is_function_type, is_module, is_open, is_plain_integer, is_void, last_piece, left_parts, length_if_pack, lvalue, marked_parts, nil, not_empty, opening_text, operation, pack_length, parameter, parts_in, pointer, prefix_item, qualified, qualified_left, qualified_right, qualifier_text, Qualifiers, reference_parts, right_parts, rvalue, says, Term, text_part, types_of}
+use Rattle.cpp_direct.specs.AllTerms.{absent, arguments_of, as_item, attached_parts, before_piece, closing_right, component_parts, declaring, Detail, element, function_type, has_arguments, is_function_type, is_module, is_open, is_plain_integer, is_void, last_piece, left_parts, length_if_pack, lvalue, marked_parts, nil, not_empty, opening_text, operation, pack_length, parameter, parameter_parts, parts_in, piece_parts, pointer, prefix_item, qualified, qualified_left, qualified_right, qualifier_text, Qualifiers, reference_parts, right_parts, rvalue, says, Term, text_part, types_of}
 use Prim.Native.String.{String}
 use Rattle.sym_print.specs.Unfold.{text}
 use Rattle.cpp_direct.proofs.PrintedParts.{text_shown, cost_shown, alone_shown, first_cost_shown}
 use Rattle.cpp_direct.specs.Prints.{Prints, PrintsIn, PrintsGiven, PrintsAs, Named, Names, IsGiven, AreSingle, EndsAsInteger, joined_to, written_of, IsUnmarked, unmarked_parts, written_in}
-use Rattle.cpp_grammar.specs.Items.{closed, Form, left, right, piece, low, Context, Head, lref, collapsed, head_with, head, is_reference, is_funarr, is_empty, argument, head_closed, indexed}
+use Rattle.cpp_grammar.specs.Items.{closed, Form, left, right, piece, low, Context, Head, lref, collapsed, head_with, head, is_reference, is_funarr, is_empty, argument, head_closed, indexed, own_argument}
 use Rattle.std.proofs.Common.{◌≡◌, refl, ap, ◌∙◌, ℕ, ◌+◌, ◌*◌, ◌≤◌, List, [], ◌∷◌, ◌++◌, length, Bool, true, false, nat_eq, None, arith, codes, length-append, sym, subst, append-nil, Some}
 use Rattle.sym_print.specs.Unshared.{text_of, cost_of}
 
@@ -272,20 +272,28 @@ const-as detail names is_dependent t b p =
 
 -- ## Parameters
 
+-- What a lambda declares of its parameters prints nothing. So of a tree that prints a text a parameter prints the text.
+named : {detail : Detail} (form : Form) (k : ℕ) (a : Term) (b : List ℕ) (r : Bool) → Prints detail a b r → parameter_parts form k a ≡ as_item form closed a ∷ []
+unfolding parameter_parts parts_in left_parts not_empty piece_parts
+named {detail} form k (declaring heads parameters) b r p =
+    let none : b ≡ [] = sym (p.left_text closed) ∙ text_shown detail left closed (declaring heads parameters) [] refl refl in
+    absurd (omega (arith, p.cost closed, ap length none))
+named form k _ b r p = refl
+
 -- A parameter prints the argument that it names.
 pub parameter-in : {detail : Detail} (c : Context) (k : ℕ) (b : List ℕ) (r : Bool) → Prints detail (argument c k) b r → PrintsIn detail c 3 (parameter k) b r
-unfolding parts_in left_parts right_parts not_empty head head_closed head_with argument is_reference is_funarr is_empty is_function_type is_void
+unfolding parts_in left_parts right_parts not_empty head head_closed head_with argument own_argument is_reference is_funarr is_empty is_function_type is_void
 parameter-in {detail} c k b r p =
     let t = parameter k in
     let a = argument c k in
     record {
-      left_text = text_shown detail left c t (as_item left closed a ∷ []) refl refl ∙ append-nil (text_of (written_of detail left closed a)) ∙ p.left_text closed;
-      right_text = text_shown detail right c t (as_item right closed a ∷ []) refl refl ∙ append-nil (text_of (written_of detail right closed a)) ∙ p.right_text closed;
+      left_text = text_shown detail left c t (as_item left closed a ∷ []) (named left k a b r p) refl ∙ append-nil (text_of (written_of detail left closed a)) ∙ p.left_text closed;
+      right_text = text_shown detail right c t (as_item right closed a ∷ []) (named right k a b r p) refl ∙ append-nil (text_of (written_of detail right closed a)) ∙ p.right_text closed;
       cost = omega (
         arith,
         p.cost closed,
-        cost_shown detail left c t (as_item left closed a ∷ []) refl refl,
-        cost_shown detail right c t (as_item right closed a ∷ []) refl refl,
+        cost_shown detail left c t (as_item left closed a ∷ []) (named left k a b r p) refl,
+        cost_shown detail right c t (as_item right closed a ∷ []) (named right k a b r p) refl,
       );
       is_reference_head = p.is_reference_head closed;
       is_funarr_head = p.is_funarr_head closed;
@@ -304,7 +312,7 @@ parameter-given names k n e =
 
 -- An rvalue reference to a reference prints what that reference prints.
 pub rvalue-again : {detail : Detail} (c : Context) (k : ℕ) (b : List ℕ) → Prints detail (argument c k) b true → PrintsIn detail c 3 (rvalue (parameter k)) b true
-unfolding parts_in left_parts right_parts not_empty head head_closed head_with argument is_empty is_function_type is_void reference_parts closing_right
+unfolding parts_in left_parts right_parts not_empty head head_closed head_with argument own_argument is_empty is_function_type is_void reference_parts closing_right
 rvalue-again {detail} c k b p =
     let u = parameter k in
     let a = argument c k in
@@ -317,8 +325,8 @@ rvalue-again {detail} c k b p =
       cost = omega (
         arith,
         p.reference_cost refl closed,
-        cost_shown detail left c u (as_item left closed a ∷ []) refl refl,
-        cost_shown detail right c u (as_item right closed a ∷ []) refl refl,
+        cost_shown detail left c u (as_item left closed a ∷ []) (named left k a b true p) refl,
+        cost_shown detail right c u (as_item right closed a ∷ []) (named right k a b true p) refl,
         cost_shown detail left c (rvalue u) ps is refl,
         cost_shown detail right c (rvalue u) (as_item right c u ∷ []) (closing c u inner.is_funarr_head) refl,
       );

@@ -3,9 +3,9 @@ use Rattle.std.proofs.Common.{◌≡◌, ℕ, ◌<◌, List, [], ◌∷◌, slic
 use Rattle.std.specs.Prelude.{Ok, if◌then◌else◌}
 use Rattle.sym_core.specs.declared.NameClass.TheVariants.{Cpp}
 use Rattle.sym_core.specs.Token.{Token}
-use Rattle.cpp_direct.specs.AllTerms.{abi, among, ARGUMENT_LIST, ARGUMENTS_ALONE, ARGUMENTS_FIRST, branch, choose, empty, fixed, in_ranges, is_chain, is_in, IsToken, IsTree, ITEM, Kind, kinds, may_be_empty, MAYBE_ARGUMENTS, NEST_MORE_OR_END, NEST_REST, NEST_REST_ALONE, NEST_TAIL, number_of, pick, Production, Rule, rule_of, rule_taken, spell, StandsFor, Sym, SYMBOL, TakesRule, Term, token, Tree, unfold_cpp, wide, wide_alternatives, wide_choose}
+use Rattle.cpp_direct.specs.AllTerms.{abi, among, ARGUMENT, ARGUMENT_LIST, ARGUMENTS_ALONE, ARGUMENTS_FIRST, branch, choose, empty, FIRST_OF_LAMBDA, fixed, in_ranges, is_chain, is_in, IsToken, IsTree, ITEM, Kind, kinds, may_be_empty, MAYBE_ARGUMENTS, NEST_MORE_OR_END, NEST_REST, NEST_REST_ALONE, NEST_TAIL, number_of, pick, Production, Rule, rule_of, rule_taken, spell, StandsFor, Sym, SYMBOL, TakesRule, Term, token, Tree, unfold_cpp, wide, wide_alternatives, wide_choose}
 use Rattle.sym_shape.specs.declared.rule.Sym.TheVariants.{Kind as OfKind}
-use Rattle.cpp_grammar.proofs.Arguments.{AsArgument, abi_argument, wide_argument}
+use Rattle.cpp_grammar.proofs.Arguments.{Replaces, abi_argument, wide_argument, abi_first, wide_first}
 use Rattle.cpp_grammar.proofs.Alone.{arguments_maybe, rest_any, list_first}
 use Rattle.cpp_grammar.proofs.Choosing.{rule_at_kind, empty_at_kind, wide_rule_at, wide_empty_at}
 use Rattle.cpp_grammar.proofs.Growing.{wide_kept, same_choice, each_below, below, kept}
@@ -100,10 +100,15 @@ unfolding kinds may_be_empty in_ranges among is_in pick number_of wide_choose wi
 tails-by true is t tree = grows NEST_TAIL NEST_MORE_OR_END Kind.NestTail Kind.NestMoreOrEnd refl refl refl refl t tree
 tails-by false is t tree = let clash : false ≡ true = is in absurd cc
 
--- a type is an argument
-pub item-by : (is_wide : Bool) (t : Tree) → IsTree (table_by is_wide) (OfKind ITEM) t → AsArgument (table_by is_wide) t
+-- a type is an argument,
+pub item-by : (is_wide : Bool) (t : Tree) → IsTree (table_by is_wide) (OfKind ITEM) t → Replaces (table_by is_wide) ARGUMENT t
 item-by true t is = wide_argument t is
 item-by false t is = abi_argument t is
+
+-- and the first type of a lambda
+pub first-by : (is_wide : Bool) (t : Tree) → IsTree (table_by is_wide) (OfKind ITEM) t → Replaces (table_by is_wide) FIRST_OF_LAMBDA t
+first-by true t is = wide_first t is
+first-by false t is = abi_first t is
 
 -- ## Symbols
 

@@ -1,19 +1,16 @@
 -- Where a writer is between two of its functions within a step: addresses of functions, as arguments of a name.
-use Rattle.std.specs.Prelude.{◌≡◌, ℕ, List, [], ◌∷◌, ◌++◌, ◌&&◌, reverse, true, false}
+use Rattle.std.specs.Prelude.{◌≡◌, ℕ, List, ◌&&◌, reverse, true, false}
 use Rattle.cpp_grammar.specs.declared.kind.Kind.{Kind}
-use Rattle.cpp_grammar.specs.Term.{Term}
 use Rattle.cpp_grammar.specs.Scope.{has_return_type}
-use Rattle.cpp_grammar.specs.Meaning.{encoding_of}
 use Rattle.cpp_direct.specs.Bytes.{is_object}
 use Rattle.cpp_direct.specs.Symbol.{detail_of, Symbol}
 use Rattle.cpp_direct.specs.declared.open.Arguments.{Arguments}
 use Rattle.cpp_direct.specs.declared.open.Mark.{Mark}
-use Rattle.cpp_direct.specs.declared.open.Open.{Open}
 use Rattle.cpp_direct.specs.declared.open.Open.TheVariants as opens
 use Rattle.cpp_direct.specs.declared.direct.Direct.{Direct}
 use Rattle.cpp_direct.specs.Holes.{Comes, Expects, Opened}
-use Rattle.cpp_direct.specs.MidStepOfLocals.{AwaitsLedParameters, IsLedFunctionRead, IsLedParameterRead}
-use Rattle.cpp_direct.specs.WriterInvariant.{AddressWithin, AwaitsTypeIn, HasAddressedFront, HasArguments, HasNameSo, IsAddressed, ItemsGoOn, Kept, Stands, below, no_scope}
+use Rattle.cpp_direct.specs.MidStepOfLocals.{AwaitsLedParameters, IsInnerFrontRead, IsLedFunctionRead, IsLedParameterRead}
+use Rattle.cpp_direct.specs.WriterInvariant.{AddressWithin, AwaitsTypeIn, HasArguments, HasNameSo, IsAddressed, Kept, Stands, below, no_scope}
 
 -- Expects an argument of a name, with an entry open that accepts a type.
 pub record AwaitsArgumentOfName (s : Symbol) (w : Direct) : Type 0 where
@@ -38,18 +35,10 @@ pub record IsAddressNamed (s : Symbol) (w : Direct) (mark : Mark) : Type 0 where
   pub stands : Stands s scope (reverse w.waiting.list.items) os lead
 
 -- The return type of such a function was read, and written after its name.
-pub record IsAddressedFrontRead (s : Symbol) (w : Direct) (mark : Mark) (to : ℕ) (argument : Arguments) : Type 0 where
-  pub kept : Kept s w
-  pub open kept use *
-  pub rest : List Open
-  pub open_is : reverse w.waiting.list.items ≡ opens.AddressedFront mark to argument ∷ rest
-  pub text : List ℕ
-  pub addressed : HasAddressedFront s scope text mark to argument
-  pub open addressed use *
-  pub returned : Term
-  pub bytes : List ℕ
-  pub reads : w.text.list.items ≡ text ++ bytes
-  pub goes : ItemsGoOn s argument (AddressWithin s (below s no_scope rest) lead) (λ l. encoding_of v l) (returned ∷ []) w.at state
+abbrev pub IsAddressedFrontRead : (s : Symbol) → (w : Direct) → Mark → (to : ℕ) → Arguments → Type 0
+IsAddressedFrontRead s w mark to argument =
+    IsInnerFrontRead s w mark argument (opens.AddressedFront mark to argument) (λ scope. IsAddressed s scope to argument)
+    (λ scope waits. AddressWithin s (below s no_scope waits))
 
 -- Its name is written, and its return type was read if it has one. Expects its parameters.
 abbrev pub AwaitsAddressedParameters : (s : Symbol) → (w : Direct) → Mark → (to : ℕ) → Arguments → Type 0

@@ -17,7 +17,7 @@ use Rattle.cpp_direct.specs.Bytes.{is_builtin_with_d, is_local, short_numbers}
 use Rattle.cpp_direct.specs.Holes.{StandsAt}
 use Rattle.cpp_direct.specs.Marks.{mark_text}
 use Rattle.cpp_direct.specs.Prints.{Encloses, IsLed, PrintsPiece, PrintAll}
-use Rattle.cpp_direct.specs.WriterInvariant.{HasArguments, ItemsGoOn, ItemsOf, LambdaComes, LambdaWithin, TypeWithin, below, no_scope, nowhere, Kept, HasLed, HasNameSo, IsEnclosing, IsScopedWithin, Scope}
+use Rattle.cpp_direct.specs.WriterInvariant.{HasArguments, HasInnerFront, ItemsGoOn, ItemsOf, LambdaComes, LambdaWithin, TypeWithin, below, no_scope, nowhere, Kept, HasLed, HasNameSo, IsEnclosing, IsScopedWithin, Scope}
 use Rattle.cpp_direct.specs.MidStep.{IsEncodingEnded}
 
 -- ## Local entities
@@ -102,6 +102,29 @@ IsEnclosingParameterRead s w mark from to =
 abbrev pub IsInstanceParameterRead : (s : Symbol) → (w : Direct) → Mark → (from to : ℕ) → Type 0
 IsInstanceParameterRead s w mark from to =
     (argument : Arguments) × IsLedParameterRead s w 6 mark argument (opens.EnclosingInstance mark from to argument) (λ scope. IsScopedWithin s scope from to argument)
+    (λ scope waits. TypeWithin s (below s no_scope waits))
+
+-- The return type was read of a function for which this was opened, and written after its name. This holds of its name, of where
+-- it was read and of the open entries.
+pub record IsInnerFrontRead (s : Symbol) (w : Direct) (mark : Mark) (argument : Arguments) (entry : Open)
+    (Leads : Scope → (own : Term) → (front name : List ℕ) → Type 0)
+    (Within : Scope → List Open → (front : List ℕ) → (e : Term) → (at : ℕ) → State → Type 0) : Type 0 where
+  pub kept : Kept s w
+  pub open kept use *
+  pub rest : List Open
+  pub open_is : reverse w.waiting.list.items ≡ entry ∷ rest
+  pub text : List ℕ
+  pub front : HasInnerFront s text mark (Leads scope)
+  pub open front use *
+  pub returned : Term
+  pub bytes : List ℕ
+  pub reads : w.text.list.items ≡ text ++ bytes
+  pub goes : ItemsGoOn s argument (Within scope rest lead) (λ l. encoding_of v l) (returned ∷ []) w.at state
+
+-- That of an instance of a function template was read which contains a type.
+abbrev pub IsEnclosingFrontRead : (s : Symbol) → (w : Direct) → Mark → (from to : ℕ) → Arguments → Type 0
+IsEnclosingFrontRead s w mark from to argument =
+    IsInnerFrontRead s w mark argument (opens.EnclosingFront mark from to argument) (λ scope. IsScopedWithin s scope from to argument)
     (λ scope waits. TypeWithin s (below s no_scope waits))
 
 -- A function was read and written after a text that satisfies this, except for its qualifier. The place where it was read and

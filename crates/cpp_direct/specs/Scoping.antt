@@ -145,6 +145,7 @@ is_within_type _ = false
 abbrev pub arguments_in : Open → Option Arguments
 arguments_in (opens.Front mark start argument) = Some argument
 arguments_in (opens.Parameters mark start argument) = Some argument
+arguments_in (opens.EnclosingFront mark from to argument) = Some argument
 arguments_in (opens.EnclosingInstance mark from to argument) = Some argument
 arguments_in (opens.AddressedFront mark to argument) = Some argument
 arguments_in (opens.Addressed mark to argument) = Some argument

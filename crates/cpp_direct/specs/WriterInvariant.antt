@@ -248,13 +248,12 @@ pub record IsAddressed (s : Symbol) (scope : Scope) (to : ℕ) (argument : Argum
 abbrev pub IsScopedWithin : (s : Symbol) → Scope → (from to : ℕ) → Arguments → (own : Term) → (front name : List ℕ) → Type 0
 IsScopedWithin s scope from to argument own front name = (from ≡ length front) × IsAddressed s scope to argument own front name
 
--- Likewise, and the function has a return type.
-pub record HasAddressedFront (s : Symbol) (scope : Scope) (text : List ℕ) (mark : Mark) (to : ℕ) (argument : Arguments) : Type 0 where
+-- The name of such a function is written, and this holds of it after what precedes it. The function has a return type.
+pub record HasInnerFront (s : Symbol) (text : List ℕ) (mark : Mark) (Leads : (own : Term) → (front name : List ℕ) → Type 0) : Type 0 where
   pub from : ℕ
   pub has : HasNameSo s text mark from
   pub open has use *
-  pub is_addressed : IsAddressed s scope to argument own lead name
-  pub open is_addressed use *
+  pub leads : Leads own lead name
   pub returns : has_return_type own ≡ true
 
 -- the name of a function that has a return type, and its text
@@ -541,6 +540,13 @@ AwaitsLed s extra mark argument Leads Within os text =
     (ts : List Term) × (texts : List ℕ) × (h : HasLed (detail_of s) extra mark Leads ts texts) × (text ≡ h.front ++ h.name ++ codes "(" ++ in_front_of_next ts texts)
     × ((t : Term) (at : ℕ) (st : State) → Comes s os (tree t true) at st → ItemsGoOn s argument (Within h.front) h.make (ts ++ t ∷ []) at st)
 
+-- Accepts its return type.
+abbrev pub AwaitsFront : (s : Symbol) → Mark → Arguments → (Leads : (own : Term) → (front name : List ℕ) → Type 0)
+    → (Within : (front : List ℕ) → (e : Term) → (at : ℕ) → State → Type 0) → List Opened → (text : List ℕ) → Type 0
+AwaitsFront s mark argument Leads Within os text =
+    (a : HasInnerFront s text mark Leads)
+    × ((t : Term) (at : ℕ) (st : State) → Comes s os (tree t true) at st → ItemsGoOn s argument (Within a.lead) (λ l. encoding_of a.v l) (t ∷ []) at st)
+
 -- The innermost entry accepts a type, after what is written, or the name of a function whose address is read. While the types
 -- of that function are read, the entries around it name nothing.
 abbrev pub Stands : (s : Symbol) → Scope → List Open → List Opened → (text : List ℕ) → Type 0
@@ -558,14 +564,14 @@ Stands s scope (opens.Parameters mark start argument ∷ rest) os text =
     × ((t : Term) (at : ℕ) (st : State) → Comes s os (tree t true) at st → ParametersGoOn s argument p.lead p.make (ts ++ t ∷ []) at st)
 Stands s scope (opens.Enclosing mark from to ∷ rest) os text =
     AwaitsLed s 6 mark nowhere (IsEnclosing from to) (TypeWithin s (outside scope rest (Stands s scope rest))) os text
+Stands s scope (opens.EnclosingFront mark from to argument ∷ rest) os text =
+    AwaitsFront s mark argument (IsScopedWithin s scope from to argument) (TypeWithin s (outside no_scope rest (Stands s no_scope rest))) os text
 Stands s scope (opens.EnclosingInstance mark from to argument ∷ rest) os text =
     AwaitsLed s 6 mark argument (IsScopedWithin s scope from to argument) (TypeWithin s (outside no_scope rest (Stands s no_scope rest))) os text
 Stands s scope (opens.Address encoding ∷ rest) os text =
     (v : Value) (at : ℕ) (st : State) → Comes s os v at st → ItemsOf s encoding (AddressWithin s (outside scope rest (Stands s scope rest)) text) v at st
 Stands s scope (opens.AddressedFront mark to argument ∷ rest) os text =
-    (a : HasAddressedFront s scope text mark to argument)
-    × ((t : Term) (at : ℕ) (st : State) → Comes s os (tree t true) at st
-    → ItemsGoOn s argument (AddressWithin s (outside no_scope rest (Stands s no_scope rest)) a.lead) (λ l. encoding_of a.v l) (t ∷ []) at st)
+    AwaitsFront s mark argument (IsAddressed s scope to argument) (AddressWithin s (outside no_scope rest (Stands s no_scope rest))) os text
 Stands s scope (opens.Addressed mark to argument ∷ rest) os text =
     AwaitsLed s 3 mark argument (IsAddressed s scope to argument) (AddressWithin s (outside no_scope rest (Stands s no_scope rest))) os text
 Stands s scope (opens.Lambda from nested ∷ rest) os text =

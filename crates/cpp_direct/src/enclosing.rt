@@ -8,9 +8,9 @@ ghost use Rattle.cpp_direct.specs.declared.open.Mark.TheVariants as marks;
 ghost use Rattle.cpp_direct.specs.Holes.{StandsAt};
 ghost use Rattle.cpp_direct.specs.HolesOfLocals.{IsPieceAt};
 ghost use Rattle.cpp_direct.specs.Prints.{PrintsPiece};
-ghost use Rattle.cpp_direct.specs.WriterInvariant.{IsWriting};
+ghost use Rattle.cpp_direct.specs.WriterInvariant.{IsScopedWithin, IsWriting, TypeWithin, below, no_scope};
 ghost use Rattle.cpp_direct.specs.MidStep.{AwaitsNamedType};
-ghost use Rattle.cpp_direct.specs.MidStepOfLocals.{AwaitsEnclosingParameters, AwaitsTypeName, IsBuiltinAt, IsEnclosingNamed, IsEnclosingParameterRead, IsEnclosingRead, IsInstanceNamed, IsInstanceParameterRead};
+ghost use Rattle.cpp_direct.specs.MidStepOfLocals.{AwaitsEnclosingParameters, AwaitsLedParameters, AwaitsTypeName, IsBuiltinAt, IsEnclosingFrontRead, IsEnclosingNamed, IsEnclosingParameterRead, IsEnclosingRead, IsInstanceNamed, IsInstanceParameterRead};
 ghost use Rattle.cpp_direct.specs.Written.{Reads};
 ghost use Rattle.cpp_direct.specs.Symbol.{detail_by, symbol_by};
 
@@ -94,8 +94,9 @@ impl Direct {
         self.enclosing_parameters::<G>(s, mark, from)
     }
 
-    /// The name of an instance of a function template is read that contains a type. The function's return type follows, a
-    /// builtin one, and is not written.
+    /// The name of an instance of a function template is read that contains a type. The function's return type follows, and is
+    /// not written. In a symbol that isn't a long one, outside the types of another function, the types of its parameters may
+    /// name its own arguments: candidates are visited where the function ends.
     // <bare-function-type> ::= <return type> <parameter type>+
     pub(crate) fn enclosing_instance<G: Grammar>(
         &mut self,
@@ -108,7 +109,12 @@ impl Direct {
         requires named { IsInstanceNamed (symbol_by G.IS_WIDE G.IS_BARE G.IS_BRIEF s.now) self.old mark encoding from }
         ensures { IfSome result (IsWriting (symbol_by G.IS_WIDE G.IS_BARE G.IS_BRIEF s.now) self.new) }
     {
-        let behind = builtin_end(s, self.at)?;
+        let Some(behind) = builtin_end(s, self.at) else {
+            if self.has_scope || s.len() > LONGEST_GONE_OVER {
+                return None;
+            }
+            return self.instance_front::<G>(s, mark, encoding, from);
+        };
         if self.has_scope || s.len() > LONGEST_GONE_OVER || byte_at(s, behind) == b'v' {
             self.at = behind;
             return self.enclosing_parameters::<G>(s, mark, from);
@@ -116,21 +122,20 @@ impl Direct {
         self.instance_parameters::<G>(s, mark, encoding, from, behind)
     }
 
-    /// Reads the return type of such a function, a builtin one, in a symbol that isn't a long one: candidates are visited where
-    /// the function ends. The types of its parameters may name its own arguments.
+    /// Reads the return type of such a function, a builtin one.
     // <bare-function-type> ::= <return type> <parameter type>+
     fn instance_parameters<G: Grammar>(
         &mut self,
-        _s: &[u8],
+        s: &[u8],
         mark: Mark,
         encoding: u16,
         from: u32,
         behind: usize,
     ) -> Option<Step>
-        requires named { IsInstanceNamed (symbol_by G.IS_WIDE G.IS_BARE G.IS_BRIEF _s.now) self.old mark encoding from }
+        requires named { IsInstanceNamed (symbol_by G.IS_WIDE G.IS_BARE G.IS_BRIEF s.now) self.old mark encoding from }
         requires outside { self.old.has_scope ≡ false }
-        requires returned { IsBuiltinAt _s.now self.old.at behind }
-        ensures { IfSome result (IsWriting (symbol_by G.IS_WIDE G.IS_BARE G.IS_BRIEF _s.now) self.new) }
+        requires returned { IsBuiltinAt s.now self.old.at behind }
+        ensures { IfSome result (IsWriting (symbol_by G.IS_WIDE G.IS_BARE G.IS_BRIEF s.now) self.new) }
     {
         self.at = behind;
         self.has_scope = true;
@@ -139,6 +144,72 @@ impl Direct {
             encoding,
             ..self.argument
         };
+        self.instance_opened::<G>(s, mark, from, to, argument)
+    }
+
+    /// Expects the return type of such a function, another one.
+    // <bare-function-type> ::= <return type> <parameter type>+
+    fn instance_front<G: Grammar>(
+        &mut self,
+        _s: &[u8],
+        mark: Mark,
+        encoding: u16,
+        from: u32,
+    ) -> Option<Step>
+        requires named { IsInstanceNamed (symbol_by G.IS_WIDE G.IS_BARE G.IS_BRIEF _s.now) self.old mark encoding from }
+        requires outside { self.old.has_scope ≡ false }
+        ensures { IfSome result (IsWriting (symbol_by G.IS_WIDE G.IS_BARE G.IS_BRIEF _s.now) self.new) }
+    {
+        self.has_scope = true;
+        let to = self.text.end();
+        let argument = Arguments {
+            encoding,
+            ..self.argument
+        };
+        self.waiting.push(Open::EnclosingFront {
+            mark,
+            from,
+            to,
+            argument,
+        })?;
+        Some(Step::Type)
+    }
+
+    /// The return type of such a function is read and not shown: its parameters follow.
+    // <bare-function-type> ::= <return type> <parameter type>+
+    pub(crate) fn enclosing_front<G: Grammar>(
+        &mut self,
+        s: &[u8],
+        mark: Mark,
+        from: u32,
+        to: u32,
+        argument: Arguments,
+    ) -> Option<Step>
+        requires fits { IsReadable s.now }
+        requires read { IsEnclosingFrontRead (symbol_by G.IS_WIDE G.IS_BARE G.IS_BRIEF s.now) self.old mark from to argument }
+        ensures { IfSome result (IsWriting (symbol_by G.IS_WIDE G.IS_BARE G.IS_BRIEF s.now) self.new) }
+    {
+        let _open = self.waiting.pop();
+        self.leave_out(to)?;
+        self.instance_opened::<G>(s, mark, from, to, argument)
+    }
+
+    /// Reads the parameters of such a function, up to the first type in them.
+    // <bare-function-type> ::= <parameter type>+
+    #[inline(always)]
+    fn instance_opened<G: Grammar>(
+        &mut self,
+        _s: &[u8],
+        mark: Mark,
+        from: u32,
+        to: u32,
+        argument: Arguments,
+    ) -> Option<Step>
+        requires awaits { AwaitsLedParameters (symbol_by G.IS_WIDE G.IS_BARE G.IS_BRIEF _s.now) self.old 6 mark argument
+            (λ scope. IsScopedWithin (symbol_by G.IS_WIDE G.IS_BARE G.IS_BRIEF _s.now) scope from to argument)
+            (λ scope waits. TypeWithin (symbol_by G.IS_WIDE G.IS_BARE G.IS_BRIEF _s.now) (below (symbol_by G.IS_WIDE G.IS_BARE G.IS_BRIEF _s.now) no_scope waits)) }
+        ensures { IfSome result (IsWriting (symbol_by G.IS_WIDE G.IS_BARE G.IS_BRIEF _s.now) self.new) }
+    {
         self.push_byte(b'(')?;
         self.waiting.push(Open::EnclosingInstance {
             mark,

@@ -14,6 +14,7 @@ mod enclosing;
 mod functions;
 mod grammar;
 mod guards;
+mod known;
 mod lambdas;
 mod letters;
 mod levels;

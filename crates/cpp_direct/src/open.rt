@@ -161,6 +161,14 @@ pub enum Open {
         start: u32,
         argument: Arguments,
     },
+    /// the return type of an instance of a function template that contains a type; the type's text begins at the first of these
+    /// places, with the function's name, and the name ends at the other
+    EnclosingFront {
+        mark: Mark,
+        from: u32,
+        to: u32,
+        argument: Arguments,
+    },
     /// the parameters of a function that contains a type; the type's text begins at the first of these places, with the
     /// function's name, and the name ends at the other
     Enclosing {
@@ -168,7 +176,7 @@ pub enum Open {
         from: u32,
         to: u32,
     },
-    /// likewise of an instance of a function template, whose types may name its arguments
+    /// those of such an instance, whose types may name its arguments
     EnclosingInstance {
         mark: Mark,
         from: u32,

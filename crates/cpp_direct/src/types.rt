@@ -294,6 +294,12 @@ impl Direct {
             Open::EnclosingInstance { mark, from, to, .. } => self.instance_parameter::<G>(
                 s, mark, from, to,
             ),
+            Open::EnclosingFront {
+                mark,
+                from,
+                to,
+                argument,
+            } => self.enclosing_front::<G>(s, mark, from, to, argument),
             Open::Lambda { from, nested } => self.lambda_parameter::<G>(s, from, nested),
             Open::AddressedFront { mark, to, argument } => self.addressed_front::<G>(
                 s, mark, to, argument,
@@ -333,6 +339,12 @@ impl Direct {
                 s, mark, to, argument,
             ),
             Open::Addressed { mark, to, .. } => self.addressed_parameter::<G>(s, mark, to),
+            Open::EnclosingFront {
+                mark,
+                from,
+                to,
+                argument,
+            } => self.enclosing_front::<G>(s, mark, from, to, argument),
             _ => self.note_dependent::<G>(s),
         }
     }

@@ -164,6 +164,7 @@ wide_between_bad Production.Parameter around place (v ∷ []) state = here_bad a
 wide_between_bad Production.ParameterArgument around place (v ∷ []) state = here_bad around (place - 1) (index_of v) state
 wide_between_bad Production.ParameterExpression around place (v ∷ []) state = argument_here_bad around (place - 1) (index_of v) state
 wide_between_bad Production.HeldArguments around place [] state = tt
+wide_between_bad Production.DeclaredFirst around place [] state = tt
 wide_between_bad Production.Holder around place (v ∷ []) state = holder_bad around place state
 wide_between_bad Production.NamedModule around place (v ∷ []) state = module_bad around (place - 1) (counted_value Seq36 (text_of v)) state
 wide_between_bad p around place vs state = between_bad p around place vs state

@@ -19,6 +19,7 @@ use Rattle.cpp_grammar.proofs.Ways.{has_signature}
 use Rattle.cpp_grammar.proofs.Chosen.{either}
 use Rattle.cpp_grammar.proofs.Steps.{second_of_both, all_pass, step_passes, is_here, goes_here}
 use Rattle.cpp_grammar.proofs.ClosedValues.{all_where, Good, AllGood, GoodPrefix, held, good_nothing, good_part, good_prefix, made_tree_good}
+use Rattle.cpp_grammar.proofs.Declared.{read_of, read_abi}
 use Rattle.cpp_grammar.proofs.ClosedStates.{Bare, Within, IsOld, AllOld, old_get, Grows, grows_same, grows_one, grows_held, grows_packs, unless_grows, gained_grows, parameter_good, parameter_grows, ok_same, behind_bind}
 
 -- what surrounds a part, which is in the same encoding
@@ -156,6 +157,12 @@ signature_goes own p around at vs state n is all e =
     goes_by own (Within own p around) around at state vs (in_signature around) state n all (grows_same own around at state state refl) (fits_signature own around)
     (λ within. (refl, λ o. absurd (true≢false (sym is ∙ within.1 o)))) e
 
+-- likewise where each production is in one
+quiet_goes : (own : Bool) (p : Production) (around : Around) (at : ℕ) (vs : List Value) (state : State) (n : Next Value State Around) → GoodPrefix (Bare own around) around.prefix → AllGood (Within own p around) vs →
+    ◌≡◌ {A = Continuation} (next vs around state) (Ok n) → Goes own (Within own p around) around at state n
+quiet_goes own p around at vs state n pre all e =
+    goes_by own (Within own p around) around at state vs around state n all (grows_same own around at state state refl) (fits_same own around pre).fits (λ within. within.0) e
+
 -- with the values of any production
 pub goes_within : (own : Bool) (production : Production) (around : Around) (place : ℕ) (vs : List Value) (state : State) (n : Next Value State Around) (at : ℕ) → StaysInside production →
     GoodPrefix (Bare own around) around.prefix → AllGood (Within own production around) vs → between production around place vs state ≡ Ok n → Goes own (Within own production around) around at state n
@@ -167,6 +174,12 @@ goes_within own Production.Lambda around place vs state n at stays pre all e = s
 goes_within own Production.ValueOf around place vs state n at stays pre all e = signature_goes own Production.ValueOf around at vs state n refl all e
 goes_within own Production.OfConcept around place vs state n at stays pre all e = signature_goes own Production.OfConcept around at vs state n refl all e
 goes_within own Production.Constraint around place vs state n at stays pre all e = signature_goes own Production.Constraint around at vs state n refl all e
+goes_within own Production.TemplateOf around place vs state n at stays pre all e = quiet_goes own Production.TemplateOf around at vs state n pre all e
+goes_within own Production.PackOf around place vs state n at stays pre all e = quiet_goes own Production.PackOf around at vs state n pre all e
+goes_within own Production.Declarations around place vs state n at stays pre all e = quiet_goes own Production.Declarations around at vs state n pre all e
+goes_within own Production.FirstWithT around place vs state n at stays pre all e = quiet_goes own Production.FirstWithT around at vs state n pre all e
+goes_within own Production.DeclaredFirst around place [] state n at stays pre all e = let clash : ◌≡◌ {A = Continuation} (Err (BadReference place)) (Ok n) = e in absurd cc
+goes_within own Production.DeclaredFirst around place (v ∷ vs) state n at stays pre all e = quiet_goes own Production.DeclaredFirst around at (v ∷ vs) state n pre all e
 goes_within own p around place vs state n at stays pre all e =
     within own p around at state n (done_goes own (before_part (row_of p) (length vs)) around place vs state n at (step_passes goes_here (row_of p) refl (length vs)) pre
     (all_where (Within own p around) (Bare own around) vs (λ bare. (bare, λ o. refl)) all) e)
@@ -252,9 +265,37 @@ wide_goes Production.Parameter around place (v ∷ []) state n at stays pre old 
 wide_goes Production.ParameterArgument around place (v ∷ []) state n at stays pre old all e = here_within Production.ParameterArgument around (place - 1) at state (index_of v) n pre e
 wide_goes Production.ParameterExpression around place (v ∷ []) state n at stays pre old all e =
     within true Production.ParameterExpression around at state n (argument_here_goes around (place - 1) at state (index_of v) n pre e)
+wide_goes Production.DeclaredFirst around place [] state n at stays pre old all e =
+    within true Production.DeclaredFirst around at state n (goes_to true around at state [] around state n tt (grows_same true around at state state refl) (fits_same true around pre) e)
 wide_goes Production.HeldArguments around place [] state n at stays pre old all e = within true Production.HeldArguments around at state n (base_goes around at state n pre e)
 wide_goes Production.Holder around place (v ∷ []) state n at stays pre old all e = within true Production.Holder around at state n (holder_goes around place at state n pre e)
 wide_goes Production.NamedModule around place (v ∷ []) state n at stays pre old all e =
     within true Production.NamedModule around at state n (module_goes around (place - 1) (counted_value Seq36 (text_of v)) at state n old e)
 wide_goes Production.NestParameter around place (v ∷ []) state n at stays pre old all e = here_within Production.NestParameter around place at state (index_of v) n pre e
 wide_goes p around place vs state n at stays pre old all e = goes_within true p around place vs state n at stays pre all e
+
+-- ## Values that aren't used
+
+-- the inputs of the next part of a production, where the values that it uses are closed
+pub record Moves (own : Bool) (p : Production) (around : Around) (at : ℕ) (state : State) (n : Next Value State Around) : Type 0 where
+  pub values : AllGood (Within own p around) (read_of p own n.values)
+  pub grows : Grows own around at state n.state
+  pub fits : Fits own around n.context
+  pub bare : Within own p around → Bare own n.context
+
+moves_by : (own : Bool) (p : Production) (around : Around) (at : ℕ) (state : State) (n : Next Value State Around) → read_of p own n.values ≡ n.values → Goes own (Within own p around) around at state n → Moves own p around at state n
+moves_by own p around at state n same g = record { values = subst (λ vs. AllGood (Within own p around) vs) (sym same) g.values; grows = g.grows; fits = g.fits; bare = g.bare }
+
+pub abi_moves : (production : Production) (around : Around) (place : ℕ) (vs : List Value) (state : State) (n : Next Value State Around) (at : ℕ) → StaysInside production →
+    GoodPrefix (Bare false around) around.prefix → AllGood (Within false production around) (read_of production false vs) → between production around place vs state ≡ Ok n → Moves false production around at state n
+abi_moves p around place vs state n at stays pre all e =
+    moves_by false p around at state n (read_abi p n.values) (goes_within false p around place vs state n at stays pre (subst (λ us. AllGood (Within false p around) us) (read_abi p vs) all) e)
+
+pub wide_moves : (production : Production) (around : Around) (place : ℕ) (vs : List Value) (state : State) (n : Next Value State Around) (at : ℕ) → StaysInside production →
+    GoodPrefix (Bare true around) around.prefix → AllOld true around at state.candidates → AllGood (Within true production around) (read_of production true vs) → between_wide production around place vs state ≡ Ok n → Moves true production around at state n
+unfolding read_of between_wide between all_pass
+wide_moves Production.DeclaredArgument around place vs state n at stays pre old all e =
+    let whole : Next Value State Around = record { context = around; values = vs; state = state } in
+    subst (λ x. Moves true Production.DeclaredArgument around at state x) (ok_same whole n e)
+    (record { values = all; grows = grows_same true around at state state refl; fits = (fits_same true around pre).fits; bare = λ within. within.0 })
+wide_moves p around place vs state n at stays pre old all e = moves_by true p around at state n refl (wide_goes p around place vs state n at stays pre old all e)

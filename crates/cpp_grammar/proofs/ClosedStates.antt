@@ -12,10 +12,10 @@ use Rattle.cpp_grammar.specs.Scope.{count, element, is_list, has_pack, length_if
 use Rattle.cpp_grammar.specs.Closed.{ScopesAreClosed}
 use Rattle.sym_core.specs.declared.NumberKind.TheVariants.{Seq36}
 use Rattle.sym_core.specs.Value.{counted_value}
-use Rattle.cpp_grammar.specs.Values.{Counted, by_all, by_newer, by_gcc, Candidate, Lists, both_lists, longer_list, shorter_list, no_list, State, Around, prefix_tree, prefix_listed, Value, nothing_there, letter, tree, piece, pair, is_listed, text_of, local_number, part, tree_of}
+use Rattle.cpp_grammar.specs.Values.{Counted, by_all, by_newer, by_gcc, Candidate, Lists, both_lists, longer_list, shorter_list, no_list, State, Around, prefix_tree, prefix_listed, Value, nothing_there, tree, piece, pair, is_listed, text_of, local_number, part, tree_of}
 use Rattle.cpp_grammar.specs.References.{appended, appended_by, is_function_type, with_type, with_unqualified, with_prefix, with_packs, packs_in, is_module, substituted, parameter_named}
-use Rattle.cpp_grammar.specs.Rescoping.{lambda_with, as_generic_lambda, with_holder, counted_unless, counted_base, place_in, named_in, left_at, with_lists, listed_by, is_foreign, in_scope, under_scope, with_free, restated, substituted_wide, numbered, close_wide}
-use Rattle.cpp_grammar.specs.Meaning.{parameters, meaning}
+use Rattle.cpp_grammar.specs.Rescoping.{is_declaring, lambda_with, as_generic_lambda, with_holder, counted_unless, counted_base, place_in, named_in, left_at, with_lists, listed_by, is_foreign, in_scope, under_scope, with_free, restated, substituted_wide, numbered, close_wide}
+use Rattle.cpp_grammar.specs.Meaning.{parameters, signature_with, meaning}
 use Rattle.cpp_grammar.specs.Unfolding as unfolding_
 use Rattle.cpp_grammar.specs.Unfolding.{close}
 use Rattle.cpp_grammar.specs.Between.{no_items}
@@ -23,8 +23,9 @@ use Rattle.cpp_grammar.specs.Row.{Gain, nothing, the_prefix, type_of, unqualifie
 use Rattle.cpp_grammar.specs.Meant.{gained}
 use Rattle.cpp_grammar.specs.Rows.{row_of}
 use Rattle.cpp_grammar.proofs.Ways.{has_signature}
+use Rattle.cpp_grammar.proofs.Declared.{makes_declared, read_of}
 use Rattle.cpp_grammar.proofs.Chosen.{either, either_cond, if_there}
-use Rattle.cpp_grammar.proofs.ClosedValues.{all_where, prefix_where, Good, AllGood, GoodPrefix, HasClosedName, held, good_nothing, good_tree, good_held, good_part, good_prefix, meaning_good}
+use Rattle.cpp_grammar.proofs.ClosedValues.{good_where, all_where, prefix_where, Good, AllGood, GoodPrefix, HasClosedName, held, good_nothing, good_tree, good_held, good_part, good_prefix, meaning_good}
 
 -- No parameters are named here. Where those in a lambda's signature are its own, they are named in none.
 abbrev pub Bare : (own : Bool) → Around → Type 0
@@ -270,10 +271,22 @@ behind_grows own production byte around began vs state end pre all name =
     gained_grows own (row_of production).gain around vs v state end pre all (good_tree (Bare own around) v (meaning_good (Bare own around) production byte around vs pre all (λ n. name))) in
     either_cond (Grows own around end state) (row_of production).restores_packs (record new { packs = began.packs }) new (λ h. grows_packs own around end state new began.packs gains) (λ h. gains)
 
+-- no parameters are in what this production denotes
+abbrev pub YieldsOf : (own : Bool) → Production → Around → Type 0
+YieldsOf own p around = Bare own around × (own ≡ true → makes_declared p ≡ false)
+
 -- the value of a part is good, and the candidates grow
 pub record Comes (own : Bool) (around : Around) (end : ℕ) (old : State) (r : Found Value State) : Type 0 where
   pub good : Good (Bare own around) (held r.value)
   pub grows : Grows own around end old r.state
+
+-- likewise, unless it is declared
+pub record Yields (own : Bool) (p : Production) (around : Around) (end : ℕ) (old : State) (r : Found Value State) : Type 0 where
+  pub good : Good (YieldsOf own p around) (held r.value)
+  pub grows : Grows own around end old r.state
+
+pub yields : (own : Bool) (p : Production) (around : Around) (end : ℕ) (old : State) (r : Found Value State) → Comes own around end old r → Yields own p around end old r
+yields own p around end old r comes = record { good = good_where (Bare own around) (YieldsOf own p around) (held r.value) (λ y. y.0) comes.good; grows = comes.grows }
 
 comes_by : (own : Bool) (around : Around) (end : ℕ) (state new : State) (v : Value) (r : Found Value State) → Good (Bare own around) (held v) → Grows own around end state new →
     ◌≡◌ {A = Result (Found Value State) Refusal} (Ok (found v new)) (Ok r) → Comes own around end state r
@@ -383,11 +396,16 @@ numbered_good around place at n state r all e =
     either (λ x. x ≡ Ok r → IsNamed around state r) (nat_eq (place_in false state.candidates n) (place_in true state.candidates n)) _ _ (λ is h. named_in_good false around place at n state r all h)
     (λ is h. listed_good lists around place at n (with_lists lists state) r all h) e
 
--- a lambda has no free parameters: the case depends on whether its signature has some
+neither : (a b : Bool) → (a || b) ≡ false → b ≡ false
+neither true b e = absurd (true≢false e)
+neither false b e = e
+
+-- a lambda has no free parameters: the case depends on whether its signature has or declares some
 lambda_good : (s : Type 0) (t : Term) (number : ℕ) → ScopesAreClosed t → Good s (lambda_with t number)
 unfolding lambda_with is_open
 lambda_good s t number scopes =
-    either (Good s) (is_open t) (generic_lambda t number) (lambda t number) (λ is. record { closed = λ h. refl; scopes = λ n. scopes }) (λ is. record { closed = λ h. is; scopes = λ n. scopes })
+    either (Good s) (is_declaring t || is_open t) (generic_lambda t number) (lambda t number) (λ is. record { closed = λ h. refl; scopes = λ n. scopes })
+    (λ is. record { closed = λ h. neither (is_declaring t) (is_open t) is; scopes = λ n. scopes })
 
 -- what is found, and no candidate
 found_comes : (around : Around) (state : State) (v : Value) (r : Found Value State) (end : ℕ) → Good (Bare true around) (held v) →
@@ -399,7 +417,7 @@ lambda_comes : (byte : ℕ) (around : Around) (vs : List Value) (state : State) 
 unfolding as_generic_lambda meaning held
 lambda_comes byte around vs state r end pre all e =
     let s = Within true Production.Lambda around in
-    let t = parameters (list (tree_of (part vs 0)) (no_items (part vs 1))) in
+    let t = signature_with (part vs 0) (parameters (list (tree_of (part vs 0)) (no_items (part vs 1)))) in
     let number = local_number (text_of (part vs 3)) in
     let good = meaning_good s Production.Lambda byte around vs (prefix_where (Bare true around) s around.prefix (λ within. within.0) pre) all (λ n. tt) in
     found_comes around state (piece (lambda_with t number)) r end (lambda_good (Bare true around) t number (good.scopes tt)) e
@@ -415,21 +433,44 @@ unfolding counted_base
 counted_grows around end (pair second own base) state good = grows_same true around end state state refl
 counted_grows around end base state good = unless_grows around end (is_listed base) by_gcc (tree_of base) state (good_tree (Bare true around) base good)
 
+-- what is declared is found, and no candidate
+declared_yields : (p : Production) (byte : ℕ) (around : Around) (vs : List Value) (state : State) (r : Found Value State) (end : ℕ) → makes_declared p ≡ true → GoodPrefix (Bare true around) around.prefix →
+    AllGood (Within true p around) vs → HasClosedName p vs → ◌≡◌ {A = Result (Found Value State) Refusal} (Ok (found (meaning p byte around vs) state)) (Ok r) → Yields true p around end state r
+declared_yields p byte around vs state r end is pre all name e =
+    let s = Within true p around in
+    let good = meaning_good s p byte around vs (prefix_where (Bare true around) s around.prefix (λ within. within.0) pre) all (λ n. name) in
+    subst (λ x. Yields true p around end state x) (ok_same (found (meaning p byte around vs) state) r e)
+    (record { good = record { closed = λ y. absurd (true≢false (sym is ∙ y.1 refl)); scopes = good.scopes }; grows = grows_same true around end state state refl })
+
 pub wide_close_good : (production : Production) (byte : ℕ) (around : Around) (place : ℕ) (began : State) (vs : List Value) (state : State) (r : Found Value State) (end : ℕ) →
-    AllOld true around end state.candidates → GoodPrefix (Bare true around) around.prefix → AllGood (Within true production around) vs → HasClosedName production vs →
-    close_wide production byte around place began vs state ≡ Ok r → Comes true around end state r
-unfolding close close_wide unfolding_.behind meaning has_signature held
+    AllOld true around end state.candidates → GoodPrefix (Bare true around) around.prefix → AllGood (Within true production around) (read_of production true vs) → HasClosedName production vs →
+    close_wide production byte around place began vs state ≡ Ok r → Yields true production around end state r
+unfolding read_of makes_declared close close_wide unfolding_.behind meaning has_signature held part
 wide_close_good Production.Substitution byte around place began vs state r end old pre all name e =
     let both = numbered_good around (place - 1) end (counted_value Seq36 (text_of (part vs 0))) state r old e in
-    record { good = both.0; grows = grows_same true around end state r.state both.1 }
-wide_close_good Production.Lambda byte around place began vs state r end old pre all name e = lambda_comes byte around vs state r end pre all e
+    yields true Production.Substitution around end state r (record { good = both.0; grows = grows_same true around end state r.state both.1 })
+wide_close_good Production.Lambda byte around place began vs state r end old pre all name e = yields true Production.Lambda around end state r (lambda_comes byte around vs state r end pre all e)
 wide_close_good Production.Inheriting byte around place began vs state r end old pre all name e =
     let inside = all_where (Within true Production.Inheriting around) (Bare true around) vs (λ bare. (bare, λ own. refl)) all in
-    comes_by true around end state (counted_base around (part vs 1) state) (meaning Production.Inheriting byte around vs) r
+    yields true Production.Inheriting around end state r
+    (comes_by true around end state (counted_base around (part vs 1) state) (meaning Production.Inheriting byte around vs) r
     (meaning_good (Bare true around) Production.Inheriting byte around vs pre inside (λ n. tt))
-    (counted_grows around end (part vs 1) state (good_held (Bare true around) vs 1 inside)) e
-wide_close_good Production.ValueOf byte around place began vs state r end old pre all name e = found_comes around state (letter byte) r end (good_nothing (Bare true around)) e
-wide_close_good Production.OfConcept byte around place began vs state r end old pre all name e = found_comes around state (letter byte) r end (good_nothing (Bare true around)) e
-wide_close_good Production.Constraint byte around place began vs state r end old pre all name e = found_comes around state nothing_there r end (good_nothing (Bare true around)) e
+    (counted_grows around end (part vs 1) state (good_held (Bare true around) vs 1 inside)) e)
+wide_close_good Production.ValueOf byte around place began vs state r end old pre all name e = declared_yields Production.ValueOf byte around vs state r end refl pre all tt e
+wide_close_good Production.OfConcept byte around place began vs state r end old pre all name e = declared_yields Production.OfConcept byte around vs state r end refl pre all tt e
+wide_close_good Production.TemplateOf byte around place began vs state r end old pre all name e = declared_yields Production.TemplateOf byte around vs state r end refl pre all tt e
+wide_close_good Production.PackOf byte around place began vs state r end old pre all name e = declared_yields Production.PackOf byte around vs state r end refl pre all tt e
+wide_close_good Production.Declarations byte around place began vs state r end old pre all name e = declared_yields Production.Declarations byte around vs state r end refl pre all tt e
+wide_close_good Production.DeclaredFirst byte around place began vs state r end old pre all name e = declared_yields Production.DeclaredFirst byte around vs state r end refl pre all tt e
+wide_close_good Production.FirstWithT byte around place began vs state r end old pre all name e = declared_yields Production.FirstWithT byte around vs state r end refl pre all tt e
+wide_close_good Production.Constraint byte around place began vs state r end old pre all name e =
+    yields true Production.Constraint around end state r (found_comes around state nothing_there r end (good_nothing (Bare true around)) e)
+-- nothing is in the place of what is declared
+wide_close_good Production.DeclaredArgument byte around place began [] state r end old pre all name e =
+    yields true Production.DeclaredArgument around end state r (made_good true Production.DeclaredArgument byte around began [] state r end pre tt tt e)
+wide_close_good Production.DeclaredArgument byte around place began (v ∷ vs) state r end old pre all name e =
+    yields true Production.DeclaredArgument around end state r
+    (made_good true Production.DeclaredArgument byte around began (nothing_there ∷ vs) state r end pre (all_where (Within true Production.DeclaredArgument around) (Bare true around) (nothing_there ∷ vs) (λ bare. (bare, λ own. refl)) all) tt e)
 wide_close_good production byte around place began vs state r end old pre all name e =
-    made_good true production byte around began vs state r end pre (all_where (Within true production around) (Bare true around) vs (λ bare. (bare, λ own. refl)) all) name e
+    yields true production around end state r
+    (made_good true production byte around began vs state r end pre (all_where (Within true production around) (Bare true around) vs (λ bare. (bare, λ own. refl)) all) name e)

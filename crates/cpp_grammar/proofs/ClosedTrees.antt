@@ -31,9 +31,11 @@ use Rattle.cpp_grammar.specs.Unfolding as unfolding_
 use Rattle.cpp_grammar.specs.Unfolding.{last_token, number_tested, opening, close, production_at, byte_of, cpp, first_around, first_state, first_tree, unfold_cpp}
 use Rattle.cpp_grammar.proofs.Choosing.{each_passes, chosen_rule, taken_passes, implied}
 use Rattle.cpp_grammar.proofs.ClosedValues.{good_where, Good, AllGood, GoodPrefix, HasClosedName, held, good_tree, good_encoding, good_no_items}
-use Rattle.cpp_grammar.proofs.ClosedStates.{Bare, Within, AllOld, AllNew, Grows, old_later, grows_same, grows_then, old_grows, ok_same, behind_bind, Comes, close_good, wide_close_good}
-use Rattle.cpp_grammar.proofs.ClosedParts.{Fits, Goes, StaysInside, goes_within, wide_goes}
-use Rattle.cpp_grammar.proofs.Ways.{Way, reading_by, abi_way, wide_way, differs, IsPlain, abi_plain, wide_plain}
+use Rattle.cpp_grammar.proofs.ClosedStates.{Bare, Within, YieldsOf, Yields, yields, AllOld, AllNew, Grows, old_later, grows_same, grows_then, old_grows, ok_same, behind_bind, close_good, wide_close_good}
+use Rattle.cpp_grammar.proofs.ClosedParts.{Fits, Moves, StaysInside, abi_moves, wide_moves}
+use Rattle.cpp_grammar.proofs.Ways.{has_signature, Way, reading_by, abi_way, wide_way, differs, IsPlain, abi_plain, wide_plain}
+use Rattle.cpp_grammar.proofs.Declared.{is_declaration, is_first, declares, makes_declared, only_declared, skips, parts_apart, declared_apart, is_nothing, some_values, read_of, read_abi, read_none, read_then, hides, next_apart}
+use Rattle.cpp_grammar.proofs.Steps.{first_of_both, second_of_both, all_pass}
 use Rattle.cpp_grammar.specs.Rescoping.{is_by_all, counted_so_far, expecting, opening_wide, cpp_wide, unfold_wide}
 use Rattle.cpp_grammar.proofs.Chosen.{either}
 
@@ -107,6 +109,17 @@ taken_rule k rule taken lt takes =
     let c = chosen_rule k rule taken lt takes in
     record { production = c.production; is = c.is; encoding = implied (opens c.production) (nat_eq k 4) (taken_passes (λ n p. not (opens p) || nat_eq n 4) only_encodings k rule c) }
 
+-- a production of a kind that declares nothing
+kind_plain : (k : ℕ) (rule : Rule) (taken : List ℕ) → k < wide.kinds → TakesRule wide k rule taken → declares (OfKind k) ≡ false → makes_declared (production_at rule.number) ≡ false
+kind_plain k rule taken lt takes plain =
+    let c = chosen_rule k rule taken lt takes in
+    ap makes_declared (ap (λ x. production_at x.number) c.is ∙ at_number c.production)
+    ∙ without (makes_declared c.production) (declares (OfKind k)) (taken_passes (λ n p. not (makes_declared p) || declares (OfKind n)) only_declared k rule c) plain
+  where
+    without : (a b : Bool) → not a || b ≡ true → b ≡ false → a ≡ false
+    without true b h k = absurd (false≢true (sym k ∙ h))
+    without false b h k = refl
+
 -- ## The value of a part
 
 pub record TreeComes (own : Bool) (around : Around) (end : ℕ) (old : State) (r : Found (List Value) State) : Type 0 where
@@ -115,8 +128,25 @@ pub record TreeComes (own : Bool) (around : Around) (end : ℕ) (old : State) (r
   pub good : Good (Bare own around) (held value)
   pub grows : Grows own around end old r.state
 
-pub record ForestComes (own : Bool) (s : Type 0) (around : Around) (end : ℕ) (old : State) (r : Found (List Value) State) : Type 0 where
-  pub good : AllGood s r.value
+-- no parameters are in what is of this kind, unless it is declared
+abbrev pub UnlessDeclared : (own : Bool) → Sym → Around → Type 0
+UnlessDeclared own x around = Bare own around × (own ≡ true → declares x ≡ false)
+
+pub record TreeYields (own : Bool) (x : Sym) (around : Around) (end : ℕ) (old : State) (r : Found (List Value) State) : Type 0 where
+  pub value : Value
+  pub is : r.value ≡ value ∷ []
+  pub good : Good (UnlessDeclared own x around) (held value)
+  pub grows : Grows own around end old r.state
+
+pub tree_yields : (own : Bool) (x : Sym) (around : Around) (end : ℕ) (old : State) (r : Found (List Value) State) → TreeComes own around end old r → TreeYields own x around end old r
+tree_yields own x around end old r comes = record { value = comes.value; is = comes.is; good = good_where (Bare own around) (UnlessDeclared own x around) (held comes.value) (λ y. y.0) comes.good; grows = comes.grows }
+
+pub tree_comes : (own : Bool) (x : Sym) (around : Around) (end : ℕ) (old : State) (r : Found (List Value) State) → (own ≡ true → declares x ≡ false) → TreeYields own x around end old r → TreeComes own around end old r
+tree_comes own x around end old r plain comes =
+    record { value = comes.value; is = comes.is; good = good_where (UnlessDeclared own x around) (Bare own around) (held comes.value) (λ bare. (bare, plain)) comes.good; grows = comes.grows }
+
+pub record ForestComes (own : Bool) (p : Production) (around : Around) (end : ℕ) (old : State) (r : Found (List Value) State) : Type 0 where
+  pub good : AllGood (Within own p around) (read_of p own r.value)
   pub grows : Grows own around end old r.state
 
 tested_keeps : (b : Bool) (place : ℕ) (state new : State) → ◌≡◌ {A = Result State Refusal} (elim b [ true ↦ Ok state | false ↦ Err (BadValue place) ]) (Ok new) → new ≡ state
@@ -142,10 +172,6 @@ unfolding opening_wide
 wide_begins_same Production.NestTemplate f place state new e = ap (λ s. s.candidates) (sym (ok_same (expecting (prefix_at (place - 1)) state) new e)) ∙ expecting_keeps (prefix_at (place - 1)) state
 wide_begins_same Production.QualifiedPlain f place state new e = ap (λ s. s.candidates) (sym (ok_same (expecting (qualified_at place) state) new e)) ∙ expecting_keeps (qualified_at place) state
 wide_begins_same p f place state new e = begins_same p f place state new e
-
-pub all_append : (s : Type 0) (vs ws : List Value) → AllGood s vs → AllGood s ws → AllGood s (vs ++ ws)
-all_append s [] ws f g = g
-all_append s (v ∷ vs) ws f g = (f.0, all_append s vs ws f.1 g)
 
 pub old_fits : (own : Bool) (around inner : Around) (at : ℕ) (cs : List Candidate) → Fits own around inner → AllOld own around at cs → AllOld own inner at cs
 old_fits own around inner at [] fits all = tt
@@ -212,7 +238,7 @@ one_good s v vs is good = subst (λ ws. AllGood s ws) (sym is) (good, tt)
 abbrev pub TreeGood : Way → Tree → Type 0
 TreeGood w t = (x : Sym) (around : Around) (at : ℕ) (state : State) (r : Found (List Value) State) → IsSymbol wide x → IsTree wide x t → around.encoding ≤ at →
     (is_encoding x ≡ true → around.encoding < at) → GoodPrefix (Bare w.own around) around.prefix → AllOld w.own around at state.candidates → unfold_tree (reading_by w) around at t state ≡ Ok r →
-    TreeComes w.own around (at + length (spell t)) state r
+    TreeYields w.own x around (at + length (spell t)) state r
 
 abbrev pub AllTreesGood : Way → Forest → Type 0
 AllTreesGood w nothing = Unit {0}
@@ -231,11 +257,11 @@ pub record KeepsClosed (w : Way) : Type 0 where
   pub plain : IsPlain w
   pub begins : (production : Production) (f : Forest) (place : ℕ) (state new : State) → w.opening production f place state ≡ Ok new → new.candidates ≡ state.candidates
   pub goes : (production : Production) (around : Around) (place : ℕ) (vs : List Value) (state : State) (n : Next Value State Around) (at : ℕ) → StaysInside production →
-      GoodPrefix (Bare w.own around) around.prefix → AllOld w.own around at state.candidates → AllGood (Within w.own production around) vs → w.between production around place vs state ≡ Ok n →
-      Goes w.own (Within w.own production around) around at state n
+      GoodPrefix (Bare w.own around) around.prefix → AllOld w.own around at state.candidates → AllGood (Within w.own production around) (read_of production w.own vs) → w.between production around place vs state ≡ Ok n →
+      Moves w.own production around at state n
   pub comes : (production : Production) (byte : ℕ) (around : Around) (place : ℕ) (began : State) (vs : List Value) (state : State) (r : Found Value State) (end : ℕ) →
-      AllOld w.own around end state.candidates → GoodPrefix (Bare w.own around) around.prefix → AllGood (Within w.own production around) vs → HasClosedName production vs →
-      w.close production byte around place began vs state ≡ Ok r → Comes w.own around end state r
+      AllOld w.own around end state.candidates → GoodPrefix (Bare w.own around) around.prefix → AllGood (Within w.own production around) (read_of production w.own vs) → HasClosedName production vs →
+      w.close production byte around place began vs state ≡ Ok r → Yields w.own production around end state r
 
 pub opens_apart : (p : Production) → opens p ≡ true → differs p ≡ false
 unfolding opens differs
@@ -318,27 +344,61 @@ first_good : (v : Value) (vs : List Value) → vs ≡ v ∷ [] → ScopesAreClos
 unfolding first_tree
 first_good v vs is good = subst (λ ws. ScopesAreClosed (first_tree ws)) (sym is) good
 
+-- the parts that are left, behind some values
+pub left_apart : (p : Production) (first : Bool) (vs us : List Value) (x : Sym) (xs : List Sym) (value : Value) → us ≡ value ∷ [] → parts_apart p first (x ∷ xs) ≡ true → parts_apart p (is_nothing (vs ++ us)) xs ≡ true
+unfolding parts_apart
+left_apart p first vs us x xs value is apart =
+    ap (λ b. parts_apart p b xs) (ap (λ ws. is_nothing (vs ++ ws)) is ∙ some_values vs value)
+    ∙ second_of_both (not (declares x) || (has_signature p || (first && skips p))) (parts_apart p false xs) apart
+
+pub rule_apart : (p : Production) (rule : Rule) → rule ≡ rule_of p → parts_apart (production_at rule.number) true (symbols_of rule) ≡ true
+rule_apart p rule is =
+    ap (λ q. parts_apart q true (symbols_of rule)) (ap (λ x. production_at x.number) is ∙ at_number p) ∙ ap (parts_apart p true) (ap symbols_of is ∙ its_symbols p) ∙ declared_apart p
+
 -- ## Either reading
 
 module _ (w : Way) (keeps : KeepsClosed w) where
+  -- before a second part the values stay as they are
+  pub skipped_stays : (p : Production) (around : Around) (place : ℕ) (vs : List Value) (state : State) (n : Next Value State Around) → skips p ≡ true → w.between p around place vs state ≡ Ok n → n.values ≡ vs
+  unfolding skips between all_pass differs
+  skipped_stays Production.DeclaredArgument around place vs state n h e =
+      let whole : Next Value State Around = record { context = around; values = vs; state = state } in
+      ap (λ x. x.values) (sym (ok_same whole n (sym (keeps.plain.between Production.DeclaredArgument refl around place vs state) ∙ e)))
+  skipped_stays _ around place vs state n h e = absurd (false≢true h)
+
+  -- one more part is read: a value that is used is closed
+  pub one_read : (p : Production) (around : Around) (place : ℕ) (vs us : List Value) (state : State) (n : Next Value State Around) (x : Sym) (xs : List Sym) (value : Value) → us ≡ value ∷ [] → parts_apart p (is_nothing vs) (x ∷ xs) ≡ true →
+      w.between p around place vs state ≡ Ok n → AllGood (Within w.own p around) (read_of p w.own n.values) → (Within w.own p around → Bare w.own n.context) → Good (UnlessDeclared w.own x n.context) (held value) →
+      AllGood (Within w.own p around) (read_of p w.own (n.values ++ us))
+  unfolding parts_apart
+  one_read p around place vs us state n x xs value is apart goes values bare good =
+      let s = Within w.own p around in
+      let here : (not (declares x) || (has_signature p || (is_nothing vs && skips p))) ≡ true = first_of_both (not (declares x) || (has_signature p || (is_nothing vs && skips p))) (parts_apart p false xs) apart in
+      let used : hides p w.own n.values ≡ false → Good s (held value) =
+      λ unhidden. good_where (UnlessDeclared w.own x n.context) s (held value)
+      (λ within. (bare within, λ own. next_apart p w.own vs n.values x here (λ h. skipped_stays p around place vs state n h goes) unhidden own (within.1 own))) good in
+      subst (λ ws. AllGood s (read_of p w.own (n.values ++ ws))) (sym is) (read_then s p w.own n.values value values used)
+
   pub forest_good : (f : Forest) → AllTreesGood w f → (rule : Open State Around) (xs : List Sym) (vs : List Value) (at : ℕ) (state : State) (r : Found (List Value) State) →
-      StaysInside (production_at rule.rule.number) → AreSymbols wide xs → AreTrees wide xs f → rule.context.encoding ≤ at → (has_encoding xs ≡ true → rule.context.encoding < at) →
-      GoodPrefix (Bare w.own rule.context) rule.context.prefix → AllGood (Within w.own (production_at rule.rule.number) rule.context) vs → AllOld w.own rule.context at state.candidates → unfold_forest (reading_by w) rule vs at f state ≡ Ok r →
-      ForestComes w.own (Within w.own (production_at rule.rule.number) rule.context) rule.context (at + length (spell_all f)) state r
+      StaysInside (production_at rule.rule.number) → parts_apart (production_at rule.rule.number) (is_nothing vs) xs ≡ true → AreSymbols wide xs → AreTrees wide xs f → rule.context.encoding ≤ at →
+      (has_encoding xs ≡ true → rule.context.encoding < at) → GoodPrefix (Bare w.own rule.context) rule.context.prefix →
+      AllGood (Within w.own (production_at rule.rule.number) rule.context) (read_of (production_at rule.rule.number) w.own vs) → AllOld w.own rule.context at state.candidates → unfold_forest (reading_by w) rule vs at f state ≡ Ok r →
+      ForestComes w.own (production_at rule.rule.number) rule.context (at + length (spell_all f)) state r
   unfolding reading_by has_encoding
-  forest_good nothing all rule xs vs at state r stays known trees le inside pre good old e =
-      subst (λ x. ForestComes w.own (Within w.own (production_at rule.rule.number) rule.context) rule.context (at + length (spell_all nothing)) state x) (ok_same (found vs state) r e)
+  forest_good nothing all rule xs vs at state r stays apart known trees le inside pre good old e =
+      subst (λ x. ForestComes w.own (production_at rule.rule.number) rule.context (at + length (spell_all nothing)) state x) (ok_same (found vs state) r e)
       (record { good = good; grows = grows_same w.own rule.context (at + length (spell_all nothing)) state state refl })
-  forest_good (grown t f) all rule [] vs at state r stays known trees le inside pre good old e = absurd trees
-  forest_good (grown t f) all rule (x ∷ xs) vs at state r stays known trees le inside pre good old e =
+  forest_good (grown t f) all rule [] vs at state r stays apart known trees le inside pre good old e = absurd trees
+  forest_good (grown t f) all rule (x ∷ xs) vs at state r stays apart known trees le inside pre good old e =
       let around = rule.context in
-      let s = Within w.own (production_at rule.rule.number) around in
+      let p = production_at rule.rule.number in
+      let s = Within w.own p around in
       let later = at + length (spell t) in
       let end = at + length (spell t ++ spell_all f) in
-      let b = behind_bind (w.between (production_at rule.rule.number) around rule.place vs state)
+      let b = behind_bind (w.between p around rule.place vs state)
       (λ next. unfold_tree (reading_by w) next.context at t next.state >>= λ part. unfold_forest (reading_by w) rule (next.values ++ part.value) (at + length (spell t)) f part.state) r e in
       let n = b.value in
-      let g = keeps.goes (production_at rule.rule.number) around rule.place vs state n at stays pre old good b.is in
+      let g = keeps.goes p around rule.place vs state n at stays pre old good b.is in
       let c = behind_bind (unfold_tree (reading_by w) n.context at t n.state) (λ part. unfold_forest (reading_by w) rule (n.values ++ part.value) (at + length (spell t)) f part.state) r b.next in
       let part = c.value in
       let old1 = old_grows w.own around at at state n.state (omega arith) old g.grows in
@@ -346,9 +406,9 @@ module _ (w : Way) (keeps : KeepsClosed w) where
       g.fits.prefix (old_fits w.own around n.context at n.state.candidates g.fits old1) c.is in
       let grown1 = grows_fits w.own around n.context later n.state part.state g.fits tree.grows in
       let old2 = old_grows w.own around at later n.state part.state (omega arith) old1 grown1 in
-      let good1 = one_good s tree.value part.value tree.is (good_where (Bare w.own n.context) s (held tree.value) g.bare tree.good) in
-      let rest = forest_good f all.1 rule xs (n.values ++ part.value) later part.state r stays known.1 trees.1 (omega (arith, le))
-      (λ opening. omega (arith, inside (or_true (is_encoding x) (has_encoding xs) opening))) pre (all_append s n.values part.value g.values good1) old2 c.next in
+      let values = one_read p around rule.place vs part.value state n x xs tree.value tree.is apart b.is g.values g.bare tree.good in
+      let rest = forest_good f all.1 rule xs (n.values ++ part.value) later part.state r stays (left_apart p (is_nothing vs) n.values part.value x xs tree.value tree.is apart) known.1 trees.1 (omega (arith, le))
+      (λ opening. omega (arith, inside (or_true (is_encoding x) (has_encoding xs) opening))) pre values old2 c.next in
       record {
         good = rest.good;
         grows = grows_then w.own around later end state part.state r.state (omega (arith, length-append (spell t) (spell_all f)))
@@ -360,11 +420,11 @@ module _ (w : Way) (keeps : KeepsClosed w) where
       or_first a b h = ap (λ c. c || b) h
 
   -- one part of an encoding, in which nothing is named
-  pub name_comes : (t : Tree) → TreeGood w t → (x : Sym) (at from : ℕ) (state : State) (part : Found (List Value) State) → IsSymbol wide x → IsTree wide x t → is_encoding x ≡ false → at ≤ from → AllOld w.own (in_name at) from state.candidates →
+  pub name_comes : (t : Tree) → TreeGood w t → (x : Sym) (at from : ℕ) (state : State) (part : Found (List Value) State) → IsSymbol wide x → IsTree wide x t → is_encoding x ≡ false → declares x ≡ false → at ≤ from → AllOld w.own (in_name at) from state.candidates →
       unfold_tree (reading_by w) (in_name at) from t state ≡ Ok part → TreeComes w.own (in_name at) (from + length (spell t)) state part
   unfolding in_name
-  name_comes t good x at from state part known is other le old e =
-      good x (in_name at) from state part known is le (λ opening. absurd (true≢false (sym opening ∙ other))) tt old e
+  name_comes t good x at from state part known is other plain le old e =
+      tree_comes w.own x (in_name at) (from + length (spell t)) state part (λ own. plain) (good x (in_name at) from state part known is le (λ opening. absurd (true≢false (sym opening ∙ other))) tt old e)
 
   pub stepped : (rule : Open State Around) (vs : List Value) (at : ℕ) (state : State) (t : Tree) (f : Forest) (r : Found (List Value) State) (n : Next Value State Around) →
       w.between (production_at rule.rule.number) rule.context rule.place vs state ≡ Ok n → unfold_forest (reading_by w) rule vs at (grown t f) state ≡ Ok r → Stepped w rule n at t f r
@@ -379,12 +439,12 @@ module _ (w : Way) (keeps : KeepsClosed w) where
   special_comes : (f : Forest) → AllTreesGood w f → (rule : Open State Around) (from : ℕ) (state : State) (r : Found (List Value) State) → production_at rule.rule.number ≡ Production.Special →
       AreTrees wide (parts_of Production.Special) f → rule.context.encoding < rule.place → rule.place ≤ from → rule.place < from + length (spell_all f) → AllOld w.own rule.context rule.place state.candidates →
       unfold_forest (reading_by w) rule [] from f state ≡ Ok r → InnerComes w.own Production.Special rule.context (from + length (spell_all f)) state r
-  unfolding differs reading_by parts_of number_of_kind between meaning held is_encoding nameless part in_name
+  unfolding differs reading_by parts_of number_of_kind between meaning held is_encoding nameless part in_name declares is_declaration is_first
   special_comes (grown t nothing) all rule from state r is trees lt le more old e =
       let around = rule.context in
       let at = rule.place in
       let s = stepped rule [] from state t nothing r (nameless at [] state) (ap (λ p. w.between p around at [] state) is ∙ keeps.plain.between Production.Special refl around at [] state) e in
-      let c = name_comes t all.0 (OfKind SPECIAL) at from state s.part (known 5 (lit≤ tt)) trees.0 refl le (old_later w.own (in_name at) at from state.candidates le (old_inner w.own around at state.candidates lt old)) s.is in
+      let c = name_comes t all.0 (OfKind SPECIAL) at from state s.part (known 5 (lit≤ tt)) trees.0 refl refl le (old_later w.own (in_name at) at from state.candidates le (old_inner w.own around at state.candidates lt old)) s.is in
       let same : found (c.value ∷ []) s.part.state ≡ r = same_found [] s.part.value (c.value ∷ []) s.part.state r c.is s.rest in
       let end = from + length (spell t ++ []) in
       subst (λ x. InnerComes w.own Production.Special around end state x) same
@@ -397,25 +457,25 @@ module _ (w : Way) (keeps : KeepsClosed w) where
   special_comes (grown t (grown u f)) all rule from state r is trees lt le more old e = absurd trees.1
 
   -- a production that begins an encoding, and has two parts in which nothing is named
-  two_come : (p : Production) (x y : Sym) → IsSymbol wide x → IsSymbol wide y → is_encoding x ≡ false → is_encoding y ≡ false →
+  two_come : (p : Production) (x y : Sym) → IsSymbol wide x → IsSymbol wide y → is_encoding x ≡ false → is_encoding y ≡ false → declares x ≡ false → declares y ≡ false →
       ((around : Around) (at : ℕ) (vs : List Value) (state : State) → w.between p around at vs state ≡ Ok (nameless at vs state)) →
       ((byte at : ℕ) (around : Around) (u v : Value) → Good (Bare w.own (in_name at)) (held v) → Good (Bare w.own around) (held (meaning p byte around (u ∷ v ∷ [])))) →
       (f : Forest) → AllTreesGood w f → (rule : Open State Around) (from : ℕ) (state : State) (r : Found (List Value) State) → production_at rule.rule.number ≡ p →
       AreTrees wide (x ∷ y ∷ []) f → rule.context.encoding < rule.place → rule.place ≤ from → rule.place < from + length (spell_all f) → AllOld w.own rule.context rule.place state.candidates →
       unfold_forest (reading_by w) rule [] from f state ≡ Ok r → InnerComes w.own p rule.context (from + length (spell_all f)) state r
   unfolding reading_by nameless in_name
-  two_come p x y known_x known_y apart_x apart_y goes means (grown t (grown u nothing)) all rule from state r is trees lt le more old e =
+  two_come p x y known_x known_y apart_x apart_y plain_x plain_y goes means (grown t (grown u nothing)) all rule from state r is trees lt le more old e =
       let around = rule.context in
       let at = rule.place in
       let first = stepped rule [] from state t (grown u nothing) r (nameless at [] state) (ap (λ p. w.between p around at [] state) is ∙ goes around at [] state) e in
       let old0 = old_later w.own (in_name at) at from state.candidates le (old_inner w.own around at state.candidates lt old) in
-      let c = name_comes t all.0 x at from state first.part known_x trees.0 apart_x le old0 first.is in
+      let c = name_comes t all.0 x at from state first.part known_x trees.0 apart_x plain_x le old0 first.is in
       let next = from + length (spell t) in
       let vs = c.value ∷ [] in
       let onward = subst (λ ws. unfold_forest (reading_by w) rule ws next (grown u nothing) first.part.state ≡ Ok r) c.is first.rest in
       let second = stepped rule vs next first.part.state u nothing r (nameless at vs first.part.state) (ap (λ p. w.between p around at vs first.part.state) is ∙ goes around at vs first.part.state) onward in
       let old1 = old_grows w.own (in_name at) from next state first.part.state (omega arith) old0 c.grows in
-      let d = name_comes u all.1.0 y at next first.part.state second.part known_y trees.1.0 apart_y (omega (arith, le)) old1 second.is in
+      let d = name_comes u all.1.0 y at next first.part.state second.part known_y trees.1.0 apart_y plain_y (omega (arith, le)) old1 second.is in
       let same : found (c.value ∷ d.value ∷ []) second.part.state ≡ r = same_found vs second.part.value (d.value ∷ []) second.part.state r d.is second.rest in
       let end = from + length (spell t ++ (spell u ++ [])) in
       subst (λ x. InnerComes w.own p around end state x) same
@@ -425,27 +485,27 @@ module _ (w : Way) (keeps : KeepsClosed w) where
             (grows_then w.own (in_name at) next end state first.part.state second.part.state (omega (arith, length-append (spell t) (spell u ++ []))) c.grows
             (grows_on w.own (in_name at) (next + length (spell u)) end first.part.state second.part.state (omega (arith, length-append (spell t) (spell u ++ []), length-append (spell u) [])) d.grows));
       })
-  two_come p x y known_x known_y apart_x apart_y goes means nothing all rule from state r is trees lt le more old e = absurd trees
-  two_come p x y known_x known_y apart_x apart_y goes means (grown t nothing) all rule from state r is trees lt le more old e = absurd trees.1
-  two_come p x y known_x known_y apart_x apart_y goes means (grown t (grown u (grown v f))) all rule from state r is trees lt le more old e = absurd trees.1.1
+  two_come p x y known_x known_y apart_x apart_y plain_x plain_y goes means nothing all rule from state r is trees lt le more old e = absurd trees
+  two_come p x y known_x known_y apart_x apart_y plain_x plain_y goes means (grown t nothing) all rule from state r is trees lt le more old e = absurd trees.1
+  two_come p x y known_x known_y apart_x apart_y plain_x plain_y goes means (grown t (grown u (grown v f))) all rule from state r is trees lt le more old e = absurd trees.1.1
 
   other_special_comes : (f : Forest) → AllTreesGood w f → (rule : Open State Around) (from : ℕ) (state : State) (r : Found (List Value) State) → production_at rule.rule.number ≡ Production.OtherSpecial →
       AreTrees wide (parts_of Production.OtherSpecial) f → rule.context.encoding < rule.place → rule.place ≤ from → rule.place < from + length (spell_all f) → AllOld w.own rule.context rule.place state.candidates →
       unfold_forest (reading_by w) rule [] from f state ≡ Ok r → InnerComes w.own Production.OtherSpecial rule.context (from + length (spell_all f)) state r
-  unfolding differs parts_of number_of_kind between meaning is_encoding nameless part
-  other_special_comes = two_come Production.OtherSpecial (OfKind SPECIAL_MARK) (OfKind SPECIAL_AFTER_G) (known SPECIAL_MARK (lit≤ tt)) (known SPECIAL_AFTER_G (lit≤ tt)) refl refl (keeps.plain.between Production.OtherSpecial refl)
+  unfolding differs parts_of number_of_kind between meaning is_encoding nameless part declares is_declaration is_first
+  other_special_comes = two_come Production.OtherSpecial (OfKind SPECIAL_MARK) (OfKind SPECIAL_AFTER_G) (known SPECIAL_MARK (lit≤ tt)) (known SPECIAL_AFTER_G (lit≤ tt)) refl refl refl refl (keeps.plain.between Production.OtherSpecial refl)
       (λ byte at around u v good. always w.own (Bare w.own around) at (held v) good)
 
   encoding_comes : (f : Forest) → AllTreesGood w f → (rule : Open State Around) (from : ℕ) (state : State) (r : Found (List Value) State) → production_at rule.rule.number ≡ Production.Encoding →
       AreTrees wide (parts_of Production.Encoding) f → rule.context.encoding < rule.place → rule.place ≤ from → rule.place < from + length (spell_all f) → AllOld w.own rule.context rule.place state.candidates →
       unfold_forest (reading_by w) rule [] from f state ≡ Ok r → InnerComes w.own Production.Encoding rule.context (from + length (spell_all f)) state r
-  unfolding differs reading_by parts_of number_of_kind between meaning held is_encoding nameless part in_name in_types
+  unfolding differs reading_by parts_of number_of_kind between meaning held is_encoding nameless part in_name in_types declares is_declaration is_first
   encoding_comes (grown t (grown u nothing)) all rule from state r is trees lt le more old e =
       let around = rule.context in
       let at = rule.place in
       let first = stepped rule [] from state t (grown u nothing) r (nameless at [] state) (ap (λ p. w.between p around at [] state) is ∙ keeps.plain.between Production.Encoding refl around at [] state) e in
       let old0 = old_later w.own (in_name at) at from state.candidates le (old_inner w.own around at state.candidates lt old) in
-      let c = name_comes t all.0 (OfKind COMPLETE_NAME) at from state first.part (known 8 (lit≤ tt)) trees.0 refl le old0 first.is in
+      let c = name_comes t all.0 (OfKind COMPLETE_NAME) at from state first.part (known 8 (lit≤ tt)) trees.0 refl refl le old0 first.is in
       let next = from + length (spell t) in
       let name = tree_of c.value in
       let named = good_tree (Bare w.own (in_name at)) c.value c.good in
@@ -454,7 +514,8 @@ module _ (w : Way) (keeps : KeepsClosed w) where
       let types : Next Value State Around = record { context = in_types at name; values = vs; state = first.part.state } in
       let second = stepped rule vs next first.part.state u nothing r types (ap (λ p. w.between p around at vs first.part.state) is ∙ keeps.plain.between Production.Encoding refl around at vs first.part.state) onward in
       let old1 = old_types w.own at next name first.part.state.candidates (old_grows w.own (in_name at) from next state first.part.state (omega arith) old0 c.grows) in
-      let d = all.1.0 (OfKind ITEMS) (in_types at name) next first.part.state second.part (known ITEMS (lit≤ tt)) trees.1.0 (omega (arith, le)) (λ opening. absurd (false≢true opening)) tt old1 second.is in
+      let d = tree_comes w.own (OfKind ITEMS) (in_types at name) (next + length (spell u)) first.part.state second.part (λ own. refl)
+      (all.1.0 (OfKind ITEMS) (in_types at name) next first.part.state second.part (known ITEMS (lit≤ tt)) trees.1.0 (omega (arith, le)) (λ opening. absurd (false≢true opening)) tt old1 second.is) in
       let same : found (c.value ∷ d.value ∷ []) second.part.state ≡ r = same_found vs second.part.value (d.value ∷ []) second.part.state r d.is second.rest in
       let end = from + length (spell t ++ (spell u ++ [])) in
       subst (λ x. InnerComes w.own Production.Encoding around end state x) same
@@ -484,20 +545,27 @@ module _ (w : Way) (keeps : KeepsClosed w) where
   pub plain_comes : (k : ℕ) (rule : Rule) (taken : List ℕ) (parts : Forest) → AllTreesGood w parts → (p : Production) → rule ≡ rule_of p → opens p ≡ false → (around : Around) (at : ℕ) (state begun : State)
       (inner : Found (List Value) State) (one : Found Value State) → k < wide.kinds → IsTree wide (OfKind k) (branch rule taken parts) → around.encoding ≤ at → GoodPrefix (Bare w.own around) around.prefix →
       AllOld w.own around at state.candidates → begun.candidates ≡ state.candidates → unfold_forest (reading_by w) (Whole rule taken at around state) [] (at + length taken) parts begun ≡ Ok inner →
-      w.close (production_at rule.number) (byte_of taken) around at state inner.value inner.state ≡ Ok one → TreeComes w.own around (at + length (taken ++ spell_all parts)) state (found (one.value ∷ []) one.state)
+      w.close (production_at rule.number) (byte_of taken) around at state inner.value inner.state ≡ Ok one → TreeYields w.own (OfKind k) around (at + length (taken ++ spell_all parts)) state (found (one.value ∷ []) one.state)
+  unfolding is_nothing
   plain_comes k rule taken parts all p is plain around at state begun inner one lt tree le pre old begins e f =
       let number : production_at rule.number ≡ p = ap (λ x. production_at x.number) is ∙ at_number p in
       let inside_ : StaysInside (production_at rule.number) = subst (λ q. StaysInside q) (sym number) (stays p plain) in
       let from = at + length taken in
       let end = at + length (taken ++ spell_all parts) in
       let symbols = wide_sound.symbols k tree.0.byte rule lt tree.0.is_byte tree.0.found in
-      let forest = forest_good parts all (Whole rule taken at around state) (symbols_of rule) [] from begun inner inside_ symbols tree.1 (omega (arith, le))
-      (λ has. omega (arith, le, takes_byte p rule k taken is tree.0 has)) pre tt (old_later w.own around at from begun.candidates (omega arith) (subst (λ cs. AllOld w.own around at cs) (sym begins) old)) e in
+      let forest = forest_good parts all (Whole rule taken at around state) (symbols_of rule) [] from begun inner inside_ (rule_apart p rule is) symbols tree.1 (omega (arith, le))
+      (λ has. omega (arith, le, takes_byte p rule k taken is tree.0 has)) pre (read_none (Within w.own (production_at rule.number) around) (production_at rule.number) w.own) (old_later w.own around at from begun.candidates (omega arith) (subst (λ cs. AllOld w.own around at cs) (sym begins) old)) e in
       let grown1 = grows_then w.own around end end state begun inner.state (omega arith) (grows_same w.own around end state begun begins)
       (grows_on w.own around (from + length (spell_all parts)) end begun inner.state (omega (arith, length-append taken (spell_all parts))) forest.grows) in
       let comes = keeps.comes (production_at rule.number) (byte_of taken) around at state inner.value inner.state one end (old_grows w.own around at end state inner.state (omega arith) old grown1) pre forest.good
       (needs_no_name (production_at rule.number) inner.value inside_) f in
-      record { value = one.value; is = refl; good = comes.good; grows = grows_then w.own around end end state inner.state one.state (omega arith) grown1 comes.grows }
+      record {
+        value = one.value;
+        is = refl;
+        good = good_where (YieldsOf w.own (production_at rule.number) around) (UnlessDeclared w.own (OfKind k) around) (held one.value)
+            (λ y. (y.0, λ own. kind_plain k rule taken lt tree.0 (y.1 own))) comes.good;
+        grows = grows_then w.own around end end state inner.state one.state (omega arith) grown1 comes.grows;
+      }
 
   pub encoded_comes : (k : ℕ) (rule : Rule) (taken : List ℕ) (parts : Forest) → AllTreesGood w parts → (p : Production) → rule ≡ rule_of p → opens p ≡ true → (around : Around) (at : ℕ) (state begun : State)
       (inner : Found (List Value) State) (one : Found Value State) → k < wide.kinds → IsTree wide (OfKind k) (branch rule taken parts) → around.encoding < at →
@@ -533,8 +601,8 @@ module _ (w : Way) (keeps : KeepsClosed w) where
       let one = ended.value in
       let same : found (one.value ∷ []) one.state ≡ r = ok_same (found (one.value ∷ []) one.state) r ended.next in
       let end = at + length (taken ++ spell_all parts) in
-      subst (λ x. TreeComes w.own around end state x) same (elim (cases_Bool (opens t.production)) [
-        | inl opening ↦ encoded_comes k rule taken parts all t.production t.is opening around at state begun.value inner.value one lt is (inside (t.encoding opening)) old kept inner.is ended.is
+      subst (λ x. TreeYields w.own (OfKind k) around end state x) same (elim (cases_Bool (opens t.production)) [
+        | inl opening ↦ tree_yields w.own (OfKind k) around end state (found (one.value ∷ []) one.state) (encoded_comes k rule taken parts all t.production t.is opening around at state begun.value inner.value one lt is (inside (t.encoding opening)) old kept inner.is ended.is)
         | inr plain ↦ plain_comes k rule taken parts all t.production t.is plain around at state begun.value inner.value one lt is le pre old kept inner.is ended.is
       ])
   branch_good rule taken parts all _ around at state r lt is le inside pre old e = absurd is
@@ -544,9 +612,9 @@ module _ (w : Way) (keeps : KeepsClosed w) where
 
     pub tree_good_by : (t : Tree) → TreeGood w t
     tree_good_by (branch rule taken parts) = branch_good rule taken parts (trees_good_by parts)
-    tree_good_by empty = λ x around at state r lt is le inside pre old e. leaf_comes w.own around (at + length (spell empty)) state nothing_there r (nothing_good w.own around) e
-    tree_good_by (token t) = λ x around at state r lt is le inside pre old e. leaf_comes w.own around (at + length (spell (token t))) state (text t.own) r (text_good w.own around t.own) e
-    tree_good_by (fixed byte) = λ x around at state r lt is le inside pre old e. leaf_comes w.own around (at + length (spell (fixed byte))) state nothing_there r (nothing_good w.own around) e
+    tree_good_by empty = λ x around at state r lt is le inside pre old e. tree_yields w.own x around (at + length (spell empty)) state r (leaf_comes w.own around (at + length (spell empty)) state nothing_there r (nothing_good w.own around) e)
+    tree_good_by (token t) = λ x around at state r lt is le inside pre old e. tree_yields w.own x around (at + length (spell (token t))) state r (leaf_comes w.own around (at + length (spell (token t))) state (text t.own) r (text_good w.own around t.own) e)
+    tree_good_by (fixed byte) = λ x around at state r lt is le inside pre old e. tree_yields w.own x around (at + length (spell (fixed byte))) state r (leaf_comes w.own around (at + length (spell (fixed byte))) state nothing_there r (nothing_good w.own around) e)
 
     pub trees_good_by : (f : Forest) → AllTreesGood w f
     trees_good_by nothing = tt
@@ -554,10 +622,11 @@ module _ (w : Way) (keeps : KeepsClosed w) where
 
   -- In the tree that a symbol denotes the arguments that are a scope have no free parameters.
   pub scopes_are_closed_by : (shape : Tree) (t : Term) → IsTree wide (OfKind SYMBOL) shape → (unfold_tree (reading_by w) first_around 0 shape first_state >>= λ whole. Ok (first_tree whole.value)) ≡ Ok t → ScopesAreClosed t
-  unfolding first_around first_state first_tree is_encoding
+  unfolding first_around first_state first_tree is_encoding declares is_declaration is_first
   scopes_are_closed_by shape t is e =
       let whole = behind_bind (unfold_tree (reading_by w) first_around 0 shape first_state) (λ whole. Ok (first_tree whole.value)) t e in
-      let comes = tree_good_by shape (OfKind SYMBOL) first_around 0 first_state whole.value (known 0 (lit≤ tt)) is (omega arith) (λ opening. absurd (false≢true opening)) tt tt whole.is in
+      let comes = tree_comes w.own (OfKind SYMBOL) first_around (0 + length (spell shape)) first_state whole.value (λ own. refl)
+      (tree_good_by shape (OfKind SYMBOL) first_around 0 first_state whole.value (known 0 (lit≤ tt)) is (omega arith) (λ opening. absurd (false≢true opening)) tt tt whole.is) in
       let same : first_tree whole.value.value ≡ t = ok_same (first_tree whole.value.value) t whole.next in
       subst (λ x. ScopesAreClosed x) same (first_good comes.value whole.value.value comes.is ((good_tree (Bare w.own first_around) comes.value comes.good).scopes tt))
 
@@ -565,13 +634,20 @@ module _ (w : Way) (keeps : KeepsClosed w) where
 
 pub abi_keeps : KeepsClosed abi_way
 unfolding abi_way
-abi_keeps = record { plain = abi_plain; begins = begins_same; goes = λ p around place vs state n at stays pre old all e. goes_within false p around place vs state n at stays pre all e; comes = close_good }
+abi_keeps = record {
+  plain = abi_plain;
+  begins = begins_same;
+  goes = λ p around place vs state n at stays pre old all e. abi_moves p around place vs state n at stays pre all e;
+  comes = λ p byte around place began vs state r end old pre all name e.
+      yields false p around end state r (close_good p byte around place began vs state r end old pre (subst (λ us. AllGood (Within false p around) us) (read_abi p vs) all) name e);
+}
 
 pub tree_good : (t : Tree) (x : Sym) (around : Around) (at : ℕ) (state : State) (r : Found (List Value) State) → IsSymbol wide x → IsTree wide x t → around.encoding ≤ at →
     (is_encoding x ≡ true → around.encoding < at) → GoodPrefix (Bare false around) around.prefix → AllOld false around at state.candidates → unfold_tree cpp around at t state ≡ Ok r →
     TreeComes false around (at + length (spell t)) state r
 unfolding cpp reading_by abi_way
-tree_good t = tree_good_by abi_way abi_keeps t
+tree_good t x around at state r known is le inside pre old e =
+    tree_comes false x around (at + length (spell t)) state r (λ own. absurd (false≢true own)) (tree_good_by abi_way abi_keeps t x around at state r known is le inside pre old e)
 
 -- In the tree that a symbol denotes the arguments that are a scope have no free parameters.
 pub scopes_are_closed : (shape : Tree) (t : Term) → IsTree wide (OfKind SYMBOL) shape → unfold_cpp shape ≡ Ok t → ScopesAreClosed t
@@ -580,7 +656,7 @@ scopes_are_closed shape t is e = scopes_are_closed_by abi_way abi_keeps shape t 
 
 pub wide_keeps : KeepsClosed wide_way
 unfolding wide_way
-wide_keeps = record { plain = wide_plain; begins = wide_begins_same; goes = wide_goes; comes = wide_close_good }
+wide_keeps = record { plain = wide_plain; begins = wide_begins_same; goes = wide_moves; comes = wide_close_good }
 
 pub wide_scopes_are_closed : (shape : Tree) (t : Term) → IsTree wide (OfKind SYMBOL) shape → unfold_wide shape ≡ Ok t → ScopesAreClosed t
 unfolding unfold_wide cpp_wide reading_by wide_way

@@ -1,5 +1,5 @@
 -- What productions denote is closed where the values of their parts are.
-use Rattle.std.proofs.Common.{◌≡◌, refl, ℕ, zero, suc, List, [], ◌∷◌, Bool, true, false, ◌||◌, ◌&&◌, nat_eq}
+use Rattle.std.proofs.Common.{◌≡◌, refl, ℕ, zero, suc, List, [], ◌∷◌, ◌++◌, Bool, true, false, ◌||◌, ◌&&◌, nat_eq}
 use Rattle.std.proofs.lemmas.Bool.{true≢false}
 use Rattle.cpp_grammar.specs.declared.production.Production.{Production}
 use Rattle.cpp_grammar.specs.Term.{RefQualifier, lvalue_only, rvalue_only, Term, symbol, function, within, instance, local, of_default, inheriting, lvalue, rvalue, encoding_literal, operation, nil, list, absent}
@@ -7,10 +7,10 @@ use Rattle.cpp_grammar.specs.Scope.{arguments_of, is_open, has_return_type}
 use Rattle.cpp_grammar.specs.Closed.{HasNoneFree, ScopesAreClosed}
 use Rattle.cpp_grammar.specs.Values.{Around, Prefix, outermost, behind, prefix_tree, Value, nothing_there, letter, tree, piece, named, signature, pair, tree_of, piece_of, letter_of, qualifiers_of, ref_of, is_there, part}
 use Rattle.cpp_grammar.specs.Between.{extended, applied, no_items, with_tag, inherited}
-use Rattle.cpp_grammar.specs.Meaning.{is_void, is_nil, parameters, encoding_of, default_entity, listed_value, with_item, reference_to, signature_or, operator_or_literal, operation_or_address, operation_by, is_code, is_comma, ends_arguments, in_parentheses, enclosed_argument, enclosed_element, meaning}
+use Rattle.cpp_grammar.specs.Meaning.{is_void, is_nil, parameters, encoding_of, default_entity, listed_value, with_item, reference_to, signature_or, operator_or_literal, operation_or_address, operation_by, is_code, is_comma, ends_arguments, in_parentheses, enclosed_argument, enclosed_element, meaning, declared_first, signature_with}
 use Rattle.cpp_grammar.specs.Makers.{Maker, new_symbol, new_special, new_of_name, new_construction, new_clone, new_in_std, new_instance, new_local, new_abbreviation, new_source, new_operator, new_literal_operator, new_constructor, new_unnamed, new_string_literal, new_conversion, new_builtin, new_sized_float, new_constrained, new_vendor, new_pointer, new_lvalue, new_rvalue, new_array, new_bounded, new_member_pointer, new_function_type, new_qualified, new_vector, new_complex, new_expansion, new_integer, new_boolean, new_null_pointer, new_decltype, new_encoding_literal, new_operation, new_function_parameter, new_pack, new_enumeration, new_bindings}
 use Rattle.cpp_grammar.specs.Builders.{Argument, argument, built, tree_in}
-use Rattle.cpp_grammar.specs.Row.{Source, tree_at, list_at, parameters_at, piece_at, the_name, qualified_by, Made, of, only, extending, tagging, applying, packing, Own, nested_name, encoding, non_virtual_thunk, virtual_thunk, covariant_thunk, local_name, in_default, nest_end, closure, inheriting as inheriting_, by_letters, enclosed, elements, first_of_operator, reference, lvalue_signature, rvalue_signature, Form, handed, finished, either, the_byte, makes, a_piece, a_pair, cell, item, a_name, in_place, own}
+use Rattle.cpp_grammar.specs.Row.{Source, tree_at, list_at, parameters_at, piece_at, the_name, qualified_by, Made, of, only, extending, tagging, applying, packing, Own, nested_name, encoding, non_virtual_thunk, virtual_thunk, covariant_thunk, local_name, in_default, nest_end, closure, inheriting as inheriting_, by_letters, enclosed, elements, first_of_operator, reference, lvalue_signature, rvalue_signature, Form, handed, finished, either, the_byte, makes, a_piece, a_pair, cell, item, a_name, in_place, own, declared_before}
 use Rattle.cpp_grammar.specs.Own.{own_meaning}
 use Rattle.cpp_grammar.specs.Meant.{all_given, given, made, meant}
 use Rattle.cpp_grammar.specs.Rows.{row_of}
@@ -178,6 +178,18 @@ module _ {q : Type 0} where
   good_signature_or s ref (letter b) g = g
   good_signature_or s ref v g = g
 
+  -- what a lambda declares of its parameters
+  good_declared : (s : Type 0) (head v : Value) → GoodIf q s (tree_of head) → GoodIf q s (held v) → GoodIf q s (held (declared_first head v))
+  unfolding declared_first held
+  good_declared s head (pair key first heads) g h = good_list s first _ (good_first s first heads h) (good_list s (tree_of head) heads g (good_second s first heads h))
+  good_declared s head v g h = good_list s (tree_of v) _ (good_tree s v h) (good_list s (tree_of head) nil g (good_nil s))
+
+  good_signature : (s : Type 0) (v : Value) (t : Term) → GoodIf q s (held v) → GoodIf q s t → GoodIf q s (signature_with v t)
+  unfolding signature_with held is_open
+  good_signature s (pair key first heads) t g h = let b = good_second s first heads g in record { closed = λ c. or_no _ _ (b.closed c) (h.closed c); scopes = λ n. (b.scopes n, h.scopes n) }
+  good_signature s nothing_there t g h = h
+  good_signature s v t g h = h
+
   good_operator : (s : Type 0) (first : ℕ) (v : Value) → GoodIf q s (held v) → GoodIf q s (held (operator_or_literal first v))
   unfolding operator_or_literal held is_open
   good_operator s first (letter second) g = record { closed = λ h. refl; scopes = λ n. tt }
@@ -331,7 +343,9 @@ module _ {q : Type 0} where
       let e = good_part s vs 0 all in let g = good_part s vs 2 all in record { closed = g.closed; scopes = λ n. (e.scopes n, g.scopes n) }
   own_good s in_default most byte around vs other pre all = let g = good_part s vs 1 all in record { closed = g.closed; scopes = g.scopes }
   own_good s nest_end most byte around vs other pre all = good_prefix s around.prefix pre
-  own_good s closure most byte around vs other pre all = let g = good_parameters s _ (good_pair s vs 0 1 all) in record { closed = g.closed; scopes = g.scopes }
+  own_good s closure most byte around vs other pre all =
+      let g = good_signature s (part vs 0) _ (good_held s vs 0 all) (good_parameters s _ (good_pair s vs 0 1 all)) in record { closed = g.closed; scopes = g.scopes }
+  own_good s declared_before most byte around vs other pre all = good_declared s (part vs 0) (part vs 1) (good_part s vs 0 all) (good_held s vs 1 all)
   own_good s inheriting_ most byte around vs other pre all = good_inherited s around.prefix (letter_of (part vs 0)) (part vs 1) pre (good_held s vs 1 all)
   own_good s by_letters most byte around vs other pre all = good_by s byte (part vs 0) (good_held s vs 0 all)
   own_good s enclosed most byte around vs other pre all = good_argument s (part vs 0) (good_held s vs 0 all)
@@ -366,6 +380,10 @@ module _ {q : Type 0} where
   meaning_good s production byte around vs pre all name = meant_good s (row_of production).form byte around vs tt pre all
 
 -- so are values, and a prefix
+pub all_append : (s : Type 0) (vs ws : List Value) → AllGood s vs → AllGood s ws → AllGood s (vs ++ ws)
+all_append s [] ws f g = g
+all_append s (v ∷ vs) ws f g = (f.0, all_append s vs ws f.1 g)
+
 pub all_where : (s u : Type 0) (vs : List Value) → (u → s) → AllGood s vs → AllGood u vs
 all_where s u [] less all = tt
 all_where s u (v ∷ vs) less all = (good_where s u (held v) less all.0, all_where s u vs less all.1)

@@ -1,15 +1,15 @@
 -- Each item has at most eight parts.
-use Rattle.std.specs.Prelude.{◌≡◌, refl, ℕ, zero, suc, ◌+◌, ◌≤◌, length, List, [], ◌∷◌, ◌++◌, Bool, true, false, ◌&&◌, cond, nat_eq, nat_le, Option, Some, None, codes, decimal}
+use Rattle.std.specs.Prelude.{◌≡◌, refl, ℕ, zero, suc, ◌+◌, ◌^◌, ◌≤◌, length, List, [], ◌∷◌, ◌++◌, Bool, true, false, ◌&&◌, cond, nat_eq, nat_le, nat_lt, Option, Some, None, codes, decimal}
 use Prim.Native.String.{String}
 use Rattle.std.proofs.Common.{arith}
 use Rattle.std.proofs.lemmas.List.{length-append}
 use Rattle.sym_print.specs.declared.detail.Detail.{Detail}
 use Rattle.sym_print.specs.Details.{has_arguments, has_parameters}
 use Rattle.sym_print.specs.Unfold.{PartOf, text, sub}
-use Rattle.cpp_grammar.specs.Term.{Qualifiers, RefQualifier, Signed, Term, symbol, function, object, of_name, alone, in_std, within, instance, local, holder, tagged, abbreviation, parameter, source, constructor, destructor, inheriting, lambda, generic_lambda, bindings, sized_float, pointer, lvalue, rvalue, array, bounded, member_pointer, function_type, qualified, expansion, integer, operation, function_parameter, pack, nil, list, absent}
-use Rattle.cpp_grammar.specs.Items.{Form, root, full, bare, left, right, low, base, piece, first, more, expand, Context, Item, closed, signature_in, head, is_reference, is_funarr, packs_of, is_empty}
-use Rattle.cpp_grammar.specs.Parts.{as_item, begins_parameters, says, text_part, list_part, piece_parts, before_piece, attached_parts, component_parts, within_parts, last_piece, opening_text, instance_parts, marked_parts, reference_parts, qualified_left, blank_last, qualifier_text, expansion_parts, sign_part, is_plain_integer, integer_parts, builtin_code, member_parts, array_left, float_parts, no_operation, precedence_of, operand_parts, operation_parts, printed, left_parts, low_parts, function_right, ref_text, closing_right, qualified_right, right_parts, base_within, base_tagged, base_parts, types_of, encoding_text, function_bare, function_full, full_parts, bare_parts, root_parts, first_parts, more_parts, at_index, is_below, comma_before, expand_rest, expand_parts, parts_in, not_empty, parts, own_piece, most_parts, most_of}
-use Rattle.cpp_grammar.specs.Scope.{without_tags}
+use Rattle.cpp_grammar.specs.Term.{Qualifiers, RefQualifier, Signed, Term, symbol, function, object, of_name, alone, in_std, within, instance, local, holder, tagged, abbreviation, parameter, source, constructor, destructor, inheriting, lambda, generic_lambda, bindings, declaring, sized_float, pointer, lvalue, rvalue, array, bounded, member_pointer, function_type, qualified, expansion, integer, operation, function_parameter, pack, nil, list, absent}
+use Rattle.cpp_grammar.specs.Items.{Form, root, full, bare, left, right, low, base, piece, first, more, expand, declared, Context, Item, closed, signature_in, argument, head, is_reference, is_funarr, packs_of, is_empty}
+use Rattle.cpp_grammar.specs.Parts.{as_item, begins_parameters, says, text_part, list_part, piece_parts, before_piece, attached_parts, component_parts, within_parts, last_piece, opening_text, instance_parts, marked_parts, reference_parts, qualified_left, blank_last, qualifier_text, expansion_parts, sign_part, is_plain_integer, integer_parts, builtin_code, member_parts, array_left, float_parts, no_operation, precedence_of, operand_parts, operation_parts, printed, left_parts, low_parts, function_right, ref_text, closing_right, qualified_right, right_parts, base_within, base_tagged, base_parts, types_of, encoding_text, function_bare, function_full, full_parts, bare_parts, root_parts, first_parts, more_parts, at_index, is_below, comma_before, expand_rest, expand_parts, parts_in, not_empty, parts, own_piece, most_parts, most_of, generic_parts, name_of_own, own_name, parameter_parts, declared_rest, declared_parts, front_of_name}
+use Rattle.cpp_grammar.specs.Scope.{element, without_tags}
 use Rattle.std.proofs.lemmas.Bool.{leb-true}
 use Rattle.cpp_grammar.specs.declared.operand.Operand.{Operand}
 use Rattle.cpp_grammar.specs.Operations.{Operation, operations, operation_of_code}
@@ -51,10 +51,32 @@ comma_few (suc i) = omega arith
 
 -- ## Forms
 
-piece_few : (c : Context) (p : Term) → HasFew 6 (piece_parts c p)
+generic_few : (c : Context) (parameters : Term) (number : ℕ) → HasFew 7 (generic_parts c parameters number)
+unfolding generic_parts
+generic_few c (declaring heads parameters) number =
+    append_few 4 3 (says "{lambda<" ∷ as_item (declared 0) c heads ∷ says ">(" ∷ list_part first c parameters) (says ")#" ∷ text (decimal number) ∷ says "}" ∷ []) (omega (arith, list_few first c parameters)) (omega arith)
+generic_few c parameters number = omega (arith, append_few 2 3 (says "{lambda(" ∷ list_part first c parameters) (says ")#" ∷ text (decimal number) ∷ says "}" ∷ []) (omega (arith, list_few first c parameters)) (omega arith))
+
+-- the name of a lambda's own parameter, or an item
+name_few : (k : ℕ) (head : Term) → HasFew 2 (name_of_own k head)
+unfolding name_of_own
+name_few k absent = omega arith
+name_few k _ = omega arith
+
+own_few : (form : Form) (k : ℕ) (head : Term) → HasFew 2 (own_name form k head)
+unfolding own_name
+own_few right k head = omega arith
+own_few form k head = name_few k head
+
+parameter_few : (form : Form) (k : ℕ) (a : Term) → HasFew 2 (parameter_parts form k a)
+unfolding parameter_parts
+parameter_few form k (declaring heads parameters) = own_few form k (element heads k)
+parameter_few form k _ = omega arith
+
+piece_few : (c : Context) (p : Term) → HasFew 7 (piece_parts c p)
 unfolding piece_parts
 piece_few c (lambda parameters number) = omega (arith, append_few 2 3 (says "{lambda(" ∷ list_part first c parameters) (says ")#" ∷ text (decimal number) ∷ says "}" ∷ []) (omega (arith, list_few first c parameters)) (omega arith))
-piece_few c (generic_lambda parameters number) = omega (arith, append_few 2 3 (says "{lambda(" ∷ list_part first (signature_in c) parameters) (says ")#" ∷ text (decimal number) ∷ says "}" ∷ []) (omega (arith, list_few first (signature_in c) parameters)) (omega arith))
+piece_few c (generic_lambda parameters number) = generic_few (signature_in c parameters) parameters number
 piece_few c (bindings names) = omega (arith, append_few 2 1 (says "[" ∷ list_part first c names) (says "]" ∷ []) (omega (arith, list_few first c names)) (omega arith))
 piece_few c (source internal name) = omega arith
 piece_few c _ = omega arith
@@ -164,6 +186,7 @@ left_few d c (alone p) = omega (arith, piece_few c p)
 left_few d c (in_std p) = omega arith
 left_few d c (within prefix p) = omega (arith, within_few c prefix p)
 left_few d c (instance t arguments) = omega (arith, instance_few (has_arguments d) c t arguments)
+left_few d c (parameter k) = omega (arith, parameter_few left k (argument c k))
 left_few d c (pointer t) = omega (arith, marked_few c t "*")
 left_few d c (lvalue t) = omega (arith, reference_few c low t "&")
 left_few d c (rvalue t) = omega (arith, reference_few c left t "&&")
@@ -184,7 +207,7 @@ unfolding low_parts
 low_few d c (lvalue t) = omega (arith, reference_few c low t "&")
 low_few d c (rvalue t) = omega (arith, reference_few c low t "&")
 low_few d c (qualified q t) = omega arith
-low_few d c (parameter k) = omega arith
+low_few d c (parameter k) = omega (arith, parameter_few low k (argument c k))
 low_few d c t = left_few d c t
 
 function_right_few : (c : Context) (q : List ℕ) (ref : RefQualifier) (noexcept : Bool) (returned parameters : Term) → HasFew 5 (function_right c q ref noexcept returned parameters)
@@ -211,17 +234,18 @@ right_few c (rvalue t) = omega (arith, closing_few c t)
 right_few c (member_pointer class t) = omega (arith, closing_few c t)
 right_few c (array digits t) = omega (arith, append_few 2 2 (says "[" ∷ text_part digits) (says "]" ∷ as_item right c t ∷ []) (omega (arith, text_few digits)) (omega arith))
 right_few c (function_type c_linkage noexcept ref returned parameters) = function_right_few c [] ref noexcept returned parameters
+right_few c (parameter k) = omega (arith, parameter_few right k (argument c k))
 right_few c (qualified q t) = qualified_right_few c q t
 right_few c _ = omega arith
 
-base_within_few : (c : Context) (prefix p : Term) → HasFew 6 (base_within c prefix p)
+base_within_few : (c : Context) (prefix p : Term) → HasFew 7 (base_within c prefix p)
 unfolding base_within
 base_within_few c prefix (constructor digit) = omega arith
 base_within_few c prefix (destructor digit) = omega arith
 base_within_few c prefix (inheriting digit class) = omega arith
 base_within_few c prefix p = piece_few c p
 
-base_tagged_few : (c : Context) (of_structor : Bool) (t : Term) → HasFew 6 (base_tagged c of_structor t)
+base_tagged_few : (c : Context) (of_structor : Bool) (t : Term) → HasFew 7 (base_tagged c of_structor t)
 unfolding base_tagged
 base_tagged_few c true t = omega arith
 base_tagged_few c false t = piece_few c (own_piece (without_tags t))
@@ -236,7 +260,7 @@ base_few d c (local encoding entity discriminator) = omega arith
 base_few d c (holder name) = omega arith
 base_few d c (tagged of_structor name tag) = omega (arith, base_tagged_few c of_structor name)
 base_few d c (abbreviation letter) = omega arith
-base_few d c (parameter k) = omega arith
+base_few d c (parameter k) = omega (arith, parameter_few base k (argument c k))
 base_few d c t = left_few d c t
 
 bare_function_few : (all : Bool) (name : Term) (q : Qualifiers) (ref : RefQualifier) (parameters : Term) → HasFew 5 (function_bare all name q ref parameters)
@@ -294,6 +318,17 @@ expand_few c t i =
     (append_few 1 2 (comma_before i) (as_item left (at_index i c) t ∷ as_item right (at_index i c) t ∷ []) (comma_few i) (omega arith))
     (rest_few c t (i + 1))
 
+next_few : (c : Context) (t : Term) (i : ℕ) → HasFew 1 (declared_rest c t i)
+unfolding declared_rest
+next_few c t i = choice_few 1 (nat_lt (i + 1) (2 ^ 32)) _ _ (list_few (declared (i + 1)) c t) (omega arith)
+
+declared_few : (c : Context) (t : Term) (i : ℕ) → HasFew 6 (declared_parts c t i)
+unfolding declared_parts
+declared_few c (list e rest) i =
+    let name = as_item left c e ∷ says " " ∷ text (front_of_name e) ∷ text (decimal i) ∷ [] in
+    append_few 5 1 (comma_before i ++ name) (declared_rest c rest i) (append_few 1 4 (comma_before i) name (comma_few i) (omega arith)) (next_few c rest i)
+declared_few c _ i = omega arith
+
 forms_few : (d : Detail) (c : Context) (form : Form) (t : Term) → HasFew 8 (parts_in d c form t)
 unfolding parts_in
 forms_few d c root t = omega (arith, root_few t)
@@ -307,6 +342,7 @@ forms_few d c piece t = omega (arith, piece_few c t)
 forms_few d c first t = omega (arith, first_few c t)
 forms_few d c more t = omega (arith, more_few c t)
 forms_few d c (expand i) t = omega (arith, expand_few c t i)
+forms_few d c (declared i) t = omega (arith, declared_few c t i)
 
 dropped_few : (ps : List (PartOf Item)) → length (not_empty ps) ≤ length ps
 unfolding not_empty

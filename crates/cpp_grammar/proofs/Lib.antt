@@ -20,6 +20,8 @@ pub mod ClosedParts
 pub mod ClosedTrees
 pub mod NoneFree
 pub mod Staying
+pub mod Undeclared
+pub mod Declared
 pub mod RanksFall
 pub mod FewParts
 pub mod BadTokens

@@ -9,14 +9,14 @@ use Rattle.cpp_grammar.specs.Values.{prefix_tree, prefix_listed, tree_of, piece_
 use Rattle.cpp_grammar.specs.Scope.{count, element, arguments_of, before_arguments, is_structor, without_tags, has_return_type, is_open, both_free, free_in, is_list, is_alone, has_pack, first_of, length_if_pack, pack_length}
 use Rattle.cpp_grammar.specs.References.{appended, is_function_type, with_type, with_unqualified, with_prefix, with_packs, packs_in, is_module, substituted, parameter_named}
 use Rattle.cpp_grammar.specs.Surrounding.{in_name, in_types, in_signature, under_expansion, after, inside, extended, with_tag, applied, no_items, inherited, named_so_far, listed_so_far, parameter_so_far, argument_so_far, index_of}
-use Rattle.cpp_grammar.specs.Standing.{is_void, is_nil, parameters, encoding_of, listed_value, discriminator_of, with_item, reference_to, signature_or, default_entity, operator_or_literal, is_code, operation_or_address, operation_by, is_comma, ends_arguments, in_parentheses, enclosed_argument, enclosed_element}
+use Rattle.cpp_grammar.specs.Standing.{is_void, is_nil, parameters, declared_first, signature_with, encoding_of, listed_value, discriminator_of, with_item, reference_to, signature_or, default_entity, operator_or_literal, is_code, operation_or_address, operation_by, is_comma, ends_arguments, in_parentheses, enclosed_argument, enclosed_element}
 use Rattle.cpp_grammar.specs.Between.{between}
 use Rattle.cpp_grammar.specs.Meaning.{meaning}
 use Rattle.cpp_grammar.specs.Unfolding.{last_token, number_tested, opening, behind, close, production_at, byte_of, cpp, first_around, first_state, first_tree, unfold_cpp}
 use Rattle.cpp_grammar.specs.Texts.{same_bytes, look_up, builtin_texts, operator_texts, abbreviation_texts, special_texts, named_special_texts, literal_endings}
-use Rattle.cpp_grammar.specs.Items.{indexed, argument, collapsed, head_with, head_closed, head, is_reference, is_funarr, packs_of, is_none_of, is_empty}
-use Rattle.cpp_grammar.specs.Parts.{text_part, list_part, qualifier_text, ref_text, blank_last, begins_with, source_text, piece_parts, prefix_item, before_piece, attached_parts, component_parts, within_parts, last_piece, opening_text, instance_parts, marked_parts, reference_parts, qualified_left, expansion_parts, sign_part, is_plain_integer, builtin_code, integer_parts, member_parts, array_left, float_parts, placeholder_text, printed as printed_as_operation, precedence_of, operand_parts, operation_parts, entity_of, left_parts, low_parts, function_right, closing_right, qualified_right, right_parts, base_within, own_piece, base_tagged, base_parts, types_of, encoding_text, function_bare, begins_parameters, function_full, thunk_text, clone_text, full_parts, bare_parts, root_parts, first_parts, more_parts, at_index, is_below, comma_before, expand_rest, expand_parts, parts_in, not_empty, parts}
-use Rattle.cpp_grammar.specs.Ranks.{or_none, pack_count, weight, scope_weight, weight_in, rank_in, rank}
+use Rattle.cpp_grammar.specs.Items.{indexed, argument, collapsed, head_with, head_closed, head, is_reference, is_funarr, packs_of, is_none_of, is_empty, signature_of, own_argument}
+use Rattle.cpp_grammar.specs.Parts.{text_part, list_part, qualifier_text, ref_text, blank_last, begins_with, source_text, generic_parts, piece_parts, prefix_item, before_piece, attached_parts, component_parts, within_parts, last_piece, opening_text, instance_parts, marked_parts, reference_parts, qualified_left, expansion_parts, sign_part, is_plain_integer, builtin_code, integer_parts, member_parts, array_left, letter_name, declared_letter, front_of_name, name_of_own, own_name, parameter_parts, declared_rest, declared_parts, float_parts, placeholder_text, printed as printed_as_operation, precedence_of, operand_parts, operation_parts, entity_of, left_parts, low_parts, function_right, closing_right, qualified_right, right_parts, base_within, own_piece, base_tagged, base_parts, types_of, encoding_text, function_bare, begins_parameters, function_full, thunk_text, clone_text, full_parts, bare_parts, root_parts, first_parts, more_parts, at_index, is_below, comma_before, expand_rest, expand_parts, parts_in, not_empty, parts}
+use Rattle.cpp_grammar.specs.Ranks.{or_none, pack_count, light, weight, scope_weight, weight_in, rank_in, rank}
 use Rattle.cpp_grammar.proofs.Reader.{front_digits, is_length_form, number_at, are_name_bytes, is_own, name_at, seen_tree, shape_of, see, read_kind, read_symbol, read_all}
 use Rattle.cpp_grammar.proofs.Row.{same_refusal, same_seen, are_right}
 
@@ -65,7 +65,7 @@ rows_0 =
     []
 
 right_0 : are_right rows_0 ≡ true
-unfolding digits printed_to printed in_ranges among is_in pick number_of_kind alternatives choose parts_of is_chain may_be_empty kinds productions number_of padded rule_of listed_rule wide_sheet wide prefix_tree prefix_listed tree_of piece_of is_listed qualifiers_of ref_of letter_of is_there mark_of text_of signed_of adjustment_of normal is_zero signed_digits local_number part count element arguments_of before_arguments is_structor without_tags has_return_type is_open both_free free_in is_list is_alone has_pack first_of length_if_pack pack_length appended is_function_type with_type with_unqualified with_prefix with_packs packs_in is_module substituted parameter_named in_name in_types in_signature under_expansion after inside extended with_tag applied no_items inherited named_so_far listed_so_far parameter_so_far argument_so_far index_of is_void is_nil parameters encoding_of listed_value discriminator_of with_item reference_to signature_or default_entity operator_or_literal is_code operation_or_address operation_by is_comma ends_arguments in_parentheses enclosed_argument enclosed_element between meaning last_token number_tested opening behind close production_at byte_of cpp first_around first_state first_tree unfold_cpp same_bytes look_up builtin_texts operator_texts abbreviation_texts special_texts named_special_texts literal_endings indexed argument collapsed head_with head_closed head is_reference is_funarr packs_of is_none_of is_empty text_part list_part qualifier_text ref_text blank_last begins_with source_text piece_parts prefix_item before_piece attached_parts component_parts within_parts last_piece opening_text instance_parts marked_parts reference_parts qualified_left expansion_parts sign_part is_plain_integer builtin_code integer_parts member_parts array_left float_parts placeholder_text printed_as_operation precedence_of operand_parts operation_parts entity_of left_parts low_parts function_right closing_right qualified_right right_parts base_within own_piece base_tagged base_parts types_of encoding_text function_bare begins_parameters function_full thunk_text clone_text full_parts bare_parts root_parts first_parts more_parts at_index is_below comma_before expand_rest expand_parts parts_in not_empty parts or_none pack_count weight scope_weight weight_in rank_in rank front_digits is_length_form number_at are_name_bytes is_own name_at seen_tree shape_of see read_kind read_symbol read_all same_refusal same_seen are_right
+unfolding digits printed_to printed in_ranges among is_in pick number_of_kind alternatives choose parts_of is_chain may_be_empty kinds productions number_of padded rule_of listed_rule wide_sheet wide prefix_tree prefix_listed tree_of piece_of is_listed qualifiers_of ref_of letter_of is_there mark_of text_of signed_of adjustment_of normal is_zero signed_digits local_number part count element arguments_of before_arguments is_structor without_tags has_return_type is_open both_free free_in is_list is_alone has_pack first_of length_if_pack pack_length appended is_function_type with_type with_unqualified with_prefix with_packs packs_in is_module substituted parameter_named in_name in_types in_signature under_expansion after inside extended with_tag applied no_items inherited named_so_far listed_so_far parameter_so_far argument_so_far index_of is_void is_nil parameters declared_first signature_with encoding_of listed_value discriminator_of with_item reference_to signature_or default_entity operator_or_literal is_code operation_or_address operation_by is_comma ends_arguments in_parentheses enclosed_argument enclosed_element between meaning last_token number_tested opening behind close production_at byte_of cpp first_around first_state first_tree unfold_cpp same_bytes look_up builtin_texts operator_texts abbreviation_texts special_texts named_special_texts literal_endings indexed argument collapsed head_with head_closed head is_reference is_funarr packs_of is_none_of is_empty signature_of own_argument text_part list_part qualifier_text ref_text blank_last begins_with source_text generic_parts piece_parts prefix_item before_piece attached_parts component_parts within_parts last_piece opening_text instance_parts marked_parts reference_parts qualified_left expansion_parts sign_part is_plain_integer builtin_code integer_parts member_parts array_left letter_name declared_letter front_of_name name_of_own own_name parameter_parts declared_rest declared_parts float_parts placeholder_text printed_as_operation precedence_of operand_parts operation_parts entity_of left_parts low_parts function_right closing_right qualified_right right_parts base_within own_piece base_tagged base_parts types_of encoding_text function_bare begins_parameters function_full thunk_text clone_text full_parts bare_parts root_parts first_parts more_parts at_index is_below comma_before expand_rest expand_parts parts_in not_empty parts or_none pack_count light weight scope_weight weight_in rank_in rank front_digits is_length_form number_at are_name_bytes is_own name_at seen_tree shape_of see read_kind read_symbol read_all same_refusal same_seen are_right
 right_0 = refl
 
 abbrev rows_1 : List Row
@@ -113,7 +113,7 @@ rows_1 =
     []
 
 right_1 : are_right rows_1 ≡ true
-unfolding digits printed_to printed in_ranges among is_in pick number_of_kind alternatives choose parts_of is_chain may_be_empty kinds productions number_of padded rule_of listed_rule wide_sheet wide prefix_tree prefix_listed tree_of piece_of is_listed qualifiers_of ref_of letter_of is_there mark_of text_of signed_of adjustment_of normal is_zero signed_digits local_number part count element arguments_of before_arguments is_structor without_tags has_return_type is_open both_free free_in is_list is_alone has_pack first_of length_if_pack pack_length appended is_function_type with_type with_unqualified with_prefix with_packs packs_in is_module substituted parameter_named in_name in_types in_signature under_expansion after inside extended with_tag applied no_items inherited named_so_far listed_so_far parameter_so_far argument_so_far index_of is_void is_nil parameters encoding_of listed_value discriminator_of with_item reference_to signature_or default_entity operator_or_literal is_code operation_or_address operation_by is_comma ends_arguments in_parentheses enclosed_argument enclosed_element between meaning last_token number_tested opening behind close production_at byte_of cpp first_around first_state first_tree unfold_cpp same_bytes look_up builtin_texts operator_texts abbreviation_texts special_texts named_special_texts literal_endings indexed argument collapsed head_with head_closed head is_reference is_funarr packs_of is_none_of is_empty text_part list_part qualifier_text ref_text blank_last begins_with source_text piece_parts prefix_item before_piece attached_parts component_parts within_parts last_piece opening_text instance_parts marked_parts reference_parts qualified_left expansion_parts sign_part is_plain_integer builtin_code integer_parts member_parts array_left float_parts placeholder_text printed_as_operation precedence_of operand_parts operation_parts entity_of left_parts low_parts function_right closing_right qualified_right right_parts base_within own_piece base_tagged base_parts types_of encoding_text function_bare begins_parameters function_full thunk_text clone_text full_parts bare_parts root_parts first_parts more_parts at_index is_below comma_before expand_rest expand_parts parts_in not_empty parts or_none pack_count weight scope_weight weight_in rank_in rank front_digits is_length_form number_at are_name_bytes is_own name_at seen_tree shape_of see read_kind read_symbol read_all same_refusal same_seen are_right
+unfolding digits printed_to printed in_ranges among is_in pick number_of_kind alternatives choose parts_of is_chain may_be_empty kinds productions number_of padded rule_of listed_rule wide_sheet wide prefix_tree prefix_listed tree_of piece_of is_listed qualifiers_of ref_of letter_of is_there mark_of text_of signed_of adjustment_of normal is_zero signed_digits local_number part count element arguments_of before_arguments is_structor without_tags has_return_type is_open both_free free_in is_list is_alone has_pack first_of length_if_pack pack_length appended is_function_type with_type with_unqualified with_prefix with_packs packs_in is_module substituted parameter_named in_name in_types in_signature under_expansion after inside extended with_tag applied no_items inherited named_so_far listed_so_far parameter_so_far argument_so_far index_of is_void is_nil parameters declared_first signature_with encoding_of listed_value discriminator_of with_item reference_to signature_or default_entity operator_or_literal is_code operation_or_address operation_by is_comma ends_arguments in_parentheses enclosed_argument enclosed_element between meaning last_token number_tested opening behind close production_at byte_of cpp first_around first_state first_tree unfold_cpp same_bytes look_up builtin_texts operator_texts abbreviation_texts special_texts named_special_texts literal_endings indexed argument collapsed head_with head_closed head is_reference is_funarr packs_of is_none_of is_empty signature_of own_argument text_part list_part qualifier_text ref_text blank_last begins_with source_text generic_parts piece_parts prefix_item before_piece attached_parts component_parts within_parts last_piece opening_text instance_parts marked_parts reference_parts qualified_left expansion_parts sign_part is_plain_integer builtin_code integer_parts member_parts array_left letter_name declared_letter front_of_name name_of_own own_name parameter_parts declared_rest declared_parts float_parts placeholder_text printed_as_operation precedence_of operand_parts operation_parts entity_of left_parts low_parts function_right closing_right qualified_right right_parts base_within own_piece base_tagged base_parts types_of encoding_text function_bare begins_parameters function_full thunk_text clone_text full_parts bare_parts root_parts first_parts more_parts at_index is_below comma_before expand_rest expand_parts parts_in not_empty parts or_none pack_count light weight scope_weight weight_in rank_in rank front_digits is_length_form number_at are_name_bytes is_own name_at seen_tree shape_of see read_kind read_symbol read_all same_refusal same_seen are_right
 right_1 = refl
 
 abbrev rows_2 : List Row
@@ -161,7 +161,7 @@ rows_2 =
     []
 
 right_2 : are_right rows_2 ≡ true
-unfolding digits printed_to printed in_ranges among is_in pick number_of_kind alternatives choose parts_of is_chain may_be_empty kinds productions number_of padded rule_of listed_rule wide_sheet wide prefix_tree prefix_listed tree_of piece_of is_listed qualifiers_of ref_of letter_of is_there mark_of text_of signed_of adjustment_of normal is_zero signed_digits local_number part count element arguments_of before_arguments is_structor without_tags has_return_type is_open both_free free_in is_list is_alone has_pack first_of length_if_pack pack_length appended is_function_type with_type with_unqualified with_prefix with_packs packs_in is_module substituted parameter_named in_name in_types in_signature under_expansion after inside extended with_tag applied no_items inherited named_so_far listed_so_far parameter_so_far argument_so_far index_of is_void is_nil parameters encoding_of listed_value discriminator_of with_item reference_to signature_or default_entity operator_or_literal is_code operation_or_address operation_by is_comma ends_arguments in_parentheses enclosed_argument enclosed_element between meaning last_token number_tested opening behind close production_at byte_of cpp first_around first_state first_tree unfold_cpp same_bytes look_up builtin_texts operator_texts abbreviation_texts special_texts named_special_texts literal_endings indexed argument collapsed head_with head_closed head is_reference is_funarr packs_of is_none_of is_empty text_part list_part qualifier_text ref_text blank_last begins_with source_text piece_parts prefix_item before_piece attached_parts component_parts within_parts last_piece opening_text instance_parts marked_parts reference_parts qualified_left expansion_parts sign_part is_plain_integer builtin_code integer_parts member_parts array_left float_parts placeholder_text printed_as_operation precedence_of operand_parts operation_parts entity_of left_parts low_parts function_right closing_right qualified_right right_parts base_within own_piece base_tagged base_parts types_of encoding_text function_bare begins_parameters function_full thunk_text clone_text full_parts bare_parts root_parts first_parts more_parts at_index is_below comma_before expand_rest expand_parts parts_in not_empty parts or_none pack_count weight scope_weight weight_in rank_in rank front_digits is_length_form number_at are_name_bytes is_own name_at seen_tree shape_of see read_kind read_symbol read_all same_refusal same_seen are_right
+unfolding digits printed_to printed in_ranges among is_in pick number_of_kind alternatives choose parts_of is_chain may_be_empty kinds productions number_of padded rule_of listed_rule wide_sheet wide prefix_tree prefix_listed tree_of piece_of is_listed qualifiers_of ref_of letter_of is_there mark_of text_of signed_of adjustment_of normal is_zero signed_digits local_number part count element arguments_of before_arguments is_structor without_tags has_return_type is_open both_free free_in is_list is_alone has_pack first_of length_if_pack pack_length appended is_function_type with_type with_unqualified with_prefix with_packs packs_in is_module substituted parameter_named in_name in_types in_signature under_expansion after inside extended with_tag applied no_items inherited named_so_far listed_so_far parameter_so_far argument_so_far index_of is_void is_nil parameters declared_first signature_with encoding_of listed_value discriminator_of with_item reference_to signature_or default_entity operator_or_literal is_code operation_or_address operation_by is_comma ends_arguments in_parentheses enclosed_argument enclosed_element between meaning last_token number_tested opening behind close production_at byte_of cpp first_around first_state first_tree unfold_cpp same_bytes look_up builtin_texts operator_texts abbreviation_texts special_texts named_special_texts literal_endings indexed argument collapsed head_with head_closed head is_reference is_funarr packs_of is_none_of is_empty signature_of own_argument text_part list_part qualifier_text ref_text blank_last begins_with source_text generic_parts piece_parts prefix_item before_piece attached_parts component_parts within_parts last_piece opening_text instance_parts marked_parts reference_parts qualified_left expansion_parts sign_part is_plain_integer builtin_code integer_parts member_parts array_left letter_name declared_letter front_of_name name_of_own own_name parameter_parts declared_rest declared_parts float_parts placeholder_text printed_as_operation precedence_of operand_parts operation_parts entity_of left_parts low_parts function_right closing_right qualified_right right_parts base_within own_piece base_tagged base_parts types_of encoding_text function_bare begins_parameters function_full thunk_text clone_text full_parts bare_parts root_parts first_parts more_parts at_index is_below comma_before expand_rest expand_parts parts_in not_empty parts or_none pack_count light weight scope_weight weight_in rank_in rank front_digits is_length_form number_at are_name_bytes is_own name_at seen_tree shape_of see read_kind read_symbol read_all same_refusal same_seen are_right
 right_2 = refl
 
 abbrev rows_3 : List Row
@@ -209,7 +209,7 @@ rows_3 =
     []
 
 right_3 : are_right rows_3 ≡ true
-unfolding digits printed_to printed in_ranges among is_in pick number_of_kind alternatives choose parts_of is_chain may_be_empty kinds productions number_of padded rule_of listed_rule wide_sheet wide prefix_tree prefix_listed tree_of piece_of is_listed qualifiers_of ref_of letter_of is_there mark_of text_of signed_of adjustment_of normal is_zero signed_digits local_number part count element arguments_of before_arguments is_structor without_tags has_return_type is_open both_free free_in is_list is_alone has_pack first_of length_if_pack pack_length appended is_function_type with_type with_unqualified with_prefix with_packs packs_in is_module substituted parameter_named in_name in_types in_signature under_expansion after inside extended with_tag applied no_items inherited named_so_far listed_so_far parameter_so_far argument_so_far index_of is_void is_nil parameters encoding_of listed_value discriminator_of with_item reference_to signature_or default_entity operator_or_literal is_code operation_or_address operation_by is_comma ends_arguments in_parentheses enclosed_argument enclosed_element between meaning last_token number_tested opening behind close production_at byte_of cpp first_around first_state first_tree unfold_cpp same_bytes look_up builtin_texts operator_texts abbreviation_texts special_texts named_special_texts literal_endings indexed argument collapsed head_with head_closed head is_reference is_funarr packs_of is_none_of is_empty text_part list_part qualifier_text ref_text blank_last begins_with source_text piece_parts prefix_item before_piece attached_parts component_parts within_parts last_piece opening_text instance_parts marked_parts reference_parts qualified_left expansion_parts sign_part is_plain_integer builtin_code integer_parts member_parts array_left float_parts placeholder_text printed_as_operation precedence_of operand_parts operation_parts entity_of left_parts low_parts function_right closing_right qualified_right right_parts base_within own_piece base_tagged base_parts types_of encoding_text function_bare begins_parameters function_full thunk_text clone_text full_parts bare_parts root_parts first_parts more_parts at_index is_below comma_before expand_rest expand_parts parts_in not_empty parts or_none pack_count weight scope_weight weight_in rank_in rank front_digits is_length_form number_at are_name_bytes is_own name_at seen_tree shape_of see read_kind read_symbol read_all same_refusal same_seen are_right
+unfolding digits printed_to printed in_ranges among is_in pick number_of_kind alternatives choose parts_of is_chain may_be_empty kinds productions number_of padded rule_of listed_rule wide_sheet wide prefix_tree prefix_listed tree_of piece_of is_listed qualifiers_of ref_of letter_of is_there mark_of text_of signed_of adjustment_of normal is_zero signed_digits local_number part count element arguments_of before_arguments is_structor without_tags has_return_type is_open both_free free_in is_list is_alone has_pack first_of length_if_pack pack_length appended is_function_type with_type with_unqualified with_prefix with_packs packs_in is_module substituted parameter_named in_name in_types in_signature under_expansion after inside extended with_tag applied no_items inherited named_so_far listed_so_far parameter_so_far argument_so_far index_of is_void is_nil parameters declared_first signature_with encoding_of listed_value discriminator_of with_item reference_to signature_or default_entity operator_or_literal is_code operation_or_address operation_by is_comma ends_arguments in_parentheses enclosed_argument enclosed_element between meaning last_token number_tested opening behind close production_at byte_of cpp first_around first_state first_tree unfold_cpp same_bytes look_up builtin_texts operator_texts abbreviation_texts special_texts named_special_texts literal_endings indexed argument collapsed head_with head_closed head is_reference is_funarr packs_of is_none_of is_empty signature_of own_argument text_part list_part qualifier_text ref_text blank_last begins_with source_text generic_parts piece_parts prefix_item before_piece attached_parts component_parts within_parts last_piece opening_text instance_parts marked_parts reference_parts qualified_left expansion_parts sign_part is_plain_integer builtin_code integer_parts member_parts array_left letter_name declared_letter front_of_name name_of_own own_name parameter_parts declared_rest declared_parts float_parts placeholder_text printed_as_operation precedence_of operand_parts operation_parts entity_of left_parts low_parts function_right closing_right qualified_right right_parts base_within own_piece base_tagged base_parts types_of encoding_text function_bare begins_parameters function_full thunk_text clone_text full_parts bare_parts root_parts first_parts more_parts at_index is_below comma_before expand_rest expand_parts parts_in not_empty parts or_none pack_count light weight scope_weight weight_in rank_in rank front_digits is_length_form number_at are_name_bytes is_own name_at seen_tree shape_of see read_kind read_symbol read_all same_refusal same_seen are_right
 right_3 = refl
 
 abbrev rows_4 : List Row
@@ -257,7 +257,7 @@ rows_4 =
     []
 
 right_4 : are_right rows_4 ≡ true
-unfolding digits printed_to printed in_ranges among is_in pick number_of_kind alternatives choose parts_of is_chain may_be_empty kinds productions number_of padded rule_of listed_rule wide_sheet wide prefix_tree prefix_listed tree_of piece_of is_listed qualifiers_of ref_of letter_of is_there mark_of text_of signed_of adjustment_of normal is_zero signed_digits local_number part count element arguments_of before_arguments is_structor without_tags has_return_type is_open both_free free_in is_list is_alone has_pack first_of length_if_pack pack_length appended is_function_type with_type with_unqualified with_prefix with_packs packs_in is_module substituted parameter_named in_name in_types in_signature under_expansion after inside extended with_tag applied no_items inherited named_so_far listed_so_far parameter_so_far argument_so_far index_of is_void is_nil parameters encoding_of listed_value discriminator_of with_item reference_to signature_or default_entity operator_or_literal is_code operation_or_address operation_by is_comma ends_arguments in_parentheses enclosed_argument enclosed_element between meaning last_token number_tested opening behind close production_at byte_of cpp first_around first_state first_tree unfold_cpp same_bytes look_up builtin_texts operator_texts abbreviation_texts special_texts named_special_texts literal_endings indexed argument collapsed head_with head_closed head is_reference is_funarr packs_of is_none_of is_empty text_part list_part qualifier_text ref_text blank_last begins_with source_text piece_parts prefix_item before_piece attached_parts component_parts within_parts last_piece opening_text instance_parts marked_parts reference_parts qualified_left expansion_parts sign_part is_plain_integer builtin_code integer_parts member_parts array_left float_parts placeholder_text printed_as_operation precedence_of operand_parts operation_parts entity_of left_parts low_parts function_right closing_right qualified_right right_parts base_within own_piece base_tagged base_parts types_of encoding_text function_bare begins_parameters function_full thunk_text clone_text full_parts bare_parts root_parts first_parts more_parts at_index is_below comma_before expand_rest expand_parts parts_in not_empty parts or_none pack_count weight scope_weight weight_in rank_in rank front_digits is_length_form number_at are_name_bytes is_own name_at seen_tree shape_of see read_kind read_symbol read_all same_refusal same_seen are_right
+unfolding digits printed_to printed in_ranges among is_in pick number_of_kind alternatives choose parts_of is_chain may_be_empty kinds productions number_of padded rule_of listed_rule wide_sheet wide prefix_tree prefix_listed tree_of piece_of is_listed qualifiers_of ref_of letter_of is_there mark_of text_of signed_of adjustment_of normal is_zero signed_digits local_number part count element arguments_of before_arguments is_structor without_tags has_return_type is_open both_free free_in is_list is_alone has_pack first_of length_if_pack pack_length appended is_function_type with_type with_unqualified with_prefix with_packs packs_in is_module substituted parameter_named in_name in_types in_signature under_expansion after inside extended with_tag applied no_items inherited named_so_far listed_so_far parameter_so_far argument_so_far index_of is_void is_nil parameters declared_first signature_with encoding_of listed_value discriminator_of with_item reference_to signature_or default_entity operator_or_literal is_code operation_or_address operation_by is_comma ends_arguments in_parentheses enclosed_argument enclosed_element between meaning last_token number_tested opening behind close production_at byte_of cpp first_around first_state first_tree unfold_cpp same_bytes look_up builtin_texts operator_texts abbreviation_texts special_texts named_special_texts literal_endings indexed argument collapsed head_with head_closed head is_reference is_funarr packs_of is_none_of is_empty signature_of own_argument text_part list_part qualifier_text ref_text blank_last begins_with source_text generic_parts piece_parts prefix_item before_piece attached_parts component_parts within_parts last_piece opening_text instance_parts marked_parts reference_parts qualified_left expansion_parts sign_part is_plain_integer builtin_code integer_parts member_parts array_left letter_name declared_letter front_of_name name_of_own own_name parameter_parts declared_rest declared_parts float_parts placeholder_text printed_as_operation precedence_of operand_parts operation_parts entity_of left_parts low_parts function_right closing_right qualified_right right_parts base_within own_piece base_tagged base_parts types_of encoding_text function_bare begins_parameters function_full thunk_text clone_text full_parts bare_parts root_parts first_parts more_parts at_index is_below comma_before expand_rest expand_parts parts_in not_empty parts or_none pack_count light weight scope_weight weight_in rank_in rank front_digits is_length_form number_at are_name_bytes is_own name_at seen_tree shape_of see read_kind read_symbol read_all same_refusal same_seen are_right
 right_4 = refl
 
 abbrev rows_5 : List Row
@@ -292,5 +292,5 @@ rows_5 =
     []
 
 right_5 : are_right rows_5 ≡ true
-unfolding digits printed_to printed in_ranges among is_in pick number_of_kind alternatives choose parts_of is_chain may_be_empty kinds productions number_of padded rule_of listed_rule wide_sheet wide prefix_tree prefix_listed tree_of piece_of is_listed qualifiers_of ref_of letter_of is_there mark_of text_of signed_of adjustment_of normal is_zero signed_digits local_number part count element arguments_of before_arguments is_structor without_tags has_return_type is_open both_free free_in is_list is_alone has_pack first_of length_if_pack pack_length appended is_function_type with_type with_unqualified with_prefix with_packs packs_in is_module substituted parameter_named in_name in_types in_signature under_expansion after inside extended with_tag applied no_items inherited named_so_far listed_so_far parameter_so_far argument_so_far index_of is_void is_nil parameters encoding_of listed_value discriminator_of with_item reference_to signature_or default_entity operator_or_literal is_code operation_or_address operation_by is_comma ends_arguments in_parentheses enclosed_argument enclosed_element between meaning last_token number_tested opening behind close production_at byte_of cpp first_around first_state first_tree unfold_cpp same_bytes look_up builtin_texts operator_texts abbreviation_texts special_texts named_special_texts literal_endings indexed argument collapsed head_with head_closed head is_reference is_funarr packs_of is_none_of is_empty text_part list_part qualifier_text ref_text blank_last begins_with source_text piece_parts prefix_item before_piece attached_parts component_parts within_parts last_piece opening_text instance_parts marked_parts reference_parts qualified_left expansion_parts sign_part is_plain_integer builtin_code integer_parts member_parts array_left float_parts placeholder_text printed_as_operation precedence_of operand_parts operation_parts entity_of left_parts low_parts function_right closing_right qualified_right right_parts base_within own_piece base_tagged base_parts types_of encoding_text function_bare begins_parameters function_full thunk_text clone_text full_parts bare_parts root_parts first_parts more_parts at_index is_below comma_before expand_rest expand_parts parts_in not_empty parts or_none pack_count weight scope_weight weight_in rank_in rank front_digits is_length_form number_at are_name_bytes is_own name_at seen_tree shape_of see read_kind read_symbol read_all same_refusal same_seen are_right
+unfolding digits printed_to printed in_ranges among is_in pick number_of_kind alternatives choose parts_of is_chain may_be_empty kinds productions number_of padded rule_of listed_rule wide_sheet wide prefix_tree prefix_listed tree_of piece_of is_listed qualifiers_of ref_of letter_of is_there mark_of text_of signed_of adjustment_of normal is_zero signed_digits local_number part count element arguments_of before_arguments is_structor without_tags has_return_type is_open both_free free_in is_list is_alone has_pack first_of length_if_pack pack_length appended is_function_type with_type with_unqualified with_prefix with_packs packs_in is_module substituted parameter_named in_name in_types in_signature under_expansion after inside extended with_tag applied no_items inherited named_so_far listed_so_far parameter_so_far argument_so_far index_of is_void is_nil parameters declared_first signature_with encoding_of listed_value discriminator_of with_item reference_to signature_or default_entity operator_or_literal is_code operation_or_address operation_by is_comma ends_arguments in_parentheses enclosed_argument enclosed_element between meaning last_token number_tested opening behind close production_at byte_of cpp first_around first_state first_tree unfold_cpp same_bytes look_up builtin_texts operator_texts abbreviation_texts special_texts named_special_texts literal_endings indexed argument collapsed head_with head_closed head is_reference is_funarr packs_of is_none_of is_empty signature_of own_argument text_part list_part qualifier_text ref_text blank_last begins_with source_text generic_parts piece_parts prefix_item before_piece attached_parts component_parts within_parts last_piece opening_text instance_parts marked_parts reference_parts qualified_left expansion_parts sign_part is_plain_integer builtin_code integer_parts member_parts array_left letter_name declared_letter front_of_name name_of_own own_name parameter_parts declared_rest declared_parts float_parts placeholder_text printed_as_operation precedence_of operand_parts operation_parts entity_of left_parts low_parts function_right closing_right qualified_right right_parts base_within own_piece base_tagged base_parts types_of encoding_text function_bare begins_parameters function_full thunk_text clone_text full_parts bare_parts root_parts first_parts more_parts at_index is_below comma_before expand_rest expand_parts parts_in not_empty parts or_none pack_count light weight scope_weight weight_in rank_in rank front_digits is_length_form number_at are_name_bytes is_own name_at seen_tree shape_of see read_kind read_symbol read_all same_refusal same_seen are_right
 right_5 = refl

@@ -1,16 +1,16 @@
 -- The parts of an item have smaller ranks than the item.
-use Rattle.std.specs.Prelude.{◌≡◌, refl, ℕ, zero, suc, ◌+◌, ◌-◌, ◌<◌, ◌≤◌, List, [], ◌∷◌, ◌++◌, Bool, true, false, cond, nat_eq, nat_le, Option, Some, None, codes}
+use Rattle.std.specs.Prelude.{◌≡◌, refl, ℕ, zero, suc, ◌+◌, ◌-◌, ◌^◌, ◌<◌, ◌≤◌, List, [], ◌∷◌, ◌++◌, Bool, true, false, cond, nat_eq, nat_le, nat_lt, Option, Some, None, codes, decimal}
 use Prim.Native.String.{String}
 use Rattle.std.proofs.Common.{arith}
 use Rattle.std.proofs.lemmas.Bool.{false≢true, ltb-true}
 use Rattle.sym_print.specs.declared.detail.Detail.{Detail}
 use Rattle.sym_print.specs.Details.{has_arguments, has_parameters}
 use Rattle.sym_print.specs.Unfold.{PartOf, text, sub, RanksBelow}
-use Rattle.cpp_grammar.specs.Term.{Qualifiers, RefQualifier, Signed, Term, symbol, function, object, special, thunk, of_name, construction, clone, alone, in_std, within, instance, local, holder, tagged, of_default, abbreviation, parameter, source, constructor, destructor, inheriting, lambda, generic_lambda, conversion, sized_float, constrained, pointer, lvalue, rvalue, array, bounded, member_pointer, function_type, qualified, vector, complex, expansion, integer, operation, function_parameter, pack, nil, list, absent, decltype, enumeration, bindings}
+use Rattle.cpp_grammar.specs.Term.{Qualifiers, RefQualifier, Signed, Term, symbol, function, object, special, thunk, of_name, construction, clone, alone, in_std, within, instance, local, holder, tagged, of_default, abbreviation, parameter, source, constructor, destructor, inheriting, lambda, generic_lambda, conversion, sized_float, constrained, pointer, lvalue, rvalue, array, bounded, member_pointer, function_type, qualified, vector, complex, expansion, integer, operation, function_parameter, pack, nil, list, absent, decltype, enumeration, bindings, declaring}
 use Rattle.cpp_grammar.specs.Scope.{element, arguments_of, pack_length, without_tags}
-use Rattle.cpp_grammar.specs.Items.{Form, root, full, bare, left, right, low, base, piece, first, more, expand, Context, Item, indexed, auto, signature_in, argument, head, is_reference, is_funarr, packs_of, is_empty}
-use Rattle.cpp_grammar.specs.Parts.{as_item, says, text_part, list_part, piece_parts, prefix_item, before_piece, attached_parts, component_parts, within_parts, instance_parts, marked_parts, reference_parts, qualified_left, blank_last, qualifier_text, expansion_parts, sign_part, is_plain_integer, integer_parts, builtin_code, member_parts, array_left, entity_of, float_parts, precedence_of, operand_parts, operation_parts, printed, left_parts, low_parts, function_right, ref_text, closing_right, qualified_right, right_parts, base_within, base_tagged, base_parts, types_of, encoding_text, function_bare, function_full, full_parts, bare_parts, root_parts, first_parts, more_parts, at_index, is_below, comma_before, expand_rest, expand_parts, parts_in, not_empty, parts, own_piece}
-use Rattle.cpp_grammar.specs.Ranks.{or_none, pack_count, weight, scope_weight, weight_in, rank_in, rank}
+use Rattle.cpp_grammar.specs.Items.{Form, root, full, bare, left, right, low, base, piece, first, more, expand, declared, Signature, in_none, undeclared, declared_in, Context, Item, closed, indexed, own_argument, signature_in, argument, head, is_reference, is_funarr, packs_of, is_empty}
+use Rattle.cpp_grammar.specs.Parts.{as_item, says, text_part, list_part, piece_parts, prefix_item, before_piece, attached_parts, component_parts, within_parts, instance_parts, marked_parts, reference_parts, qualified_left, blank_last, qualifier_text, expansion_parts, sign_part, is_plain_integer, integer_parts, builtin_code, member_parts, array_left, entity_of, float_parts, precedence_of, operand_parts, operation_parts, printed, left_parts, low_parts, function_right, ref_text, closing_right, qualified_right, right_parts, base_within, base_tagged, base_parts, types_of, encoding_text, function_bare, function_full, full_parts, bare_parts, root_parts, first_parts, more_parts, at_index, is_below, comma_before, expand_rest, expand_parts, parts_in, not_empty, parts, own_piece, generic_parts, name_of_own, own_name, parameter_parts, declared_rest, declared_parts, front_of_name}
+use Rattle.cpp_grammar.specs.Ranks.{or_none, pack_count, weight, scope_weight, weight_in, rank_in, rank, light}
 use Rattle.cpp_grammar.specs.declared.operand.Operand.{Operand}
 use Rattle.cpp_grammar.specs.Operations.{Operation}
 use Rattle.cpp_grammar.specs.Texts.{look_up, literal_endings}
@@ -70,6 +70,7 @@ weight_grows a b scope (lambda parameters number) h = omega (arith, weight_grows
 weight_grows a b scope (conversion t) h = omega (arith, weight_grows a b scope t h)
 weight_grows a b scope (enumeration t bytes) h = omega (arith, weight_grows a b scope t h)
 weight_grows a b scope (bindings names) h = omega (arith, weight_grows a b scope names h)
+weight_grows a b scope (declaring heads parameters) h = omega (arith, weight_grows a b scope heads h, weight_grows a b scope parameters h)
 weight_grows a b scope (constrained letter concept) h = omega (arith, weight_grows a b scope concept h)
 weight_grows a b scope (pointer t) h = omega (arith, weight_grows a b scope t h)
 weight_grows a b scope (lvalue t) h = omega (arith, weight_grows a b scope t h)
@@ -101,18 +102,46 @@ unfolding weight indexed
 indexed_weight (Some i) (pack elements) = omega (arith, element_weight elements i)
 indexed_weight index t = omega arith
 
-argument_weight : (c : Context) (k : ℕ) → weight 0 None (argument c k) < 2 + scope_weight c.scope
-unfolding argument scope_weight weight
+light_less : (t : Term) → light t (weight 0 None t) ≤ weight 0 None t
+unfolding light weight
+light_less (declaring heads parameters) = omega arith
+light_less _ = omega arith
+
+indexed_light : (index : Option ℕ) (t : Term) → light (indexed index t) (weight 0 None (indexed index t)) ≤ light t (weight 0 None t)
+unfolding light weight indexed
+indexed_light (Some i) (pack elements) = omega (arith, light_less (element elements i), element_weight elements i)
+indexed_light index t = omega arith
+
+own_light : (s : Signature) → light (own_argument s) (weight 0 None (own_argument s)) < 2
+unfolding own_argument light weight
+own_light in_none = omega arith
+own_light undeclared = omega arith
+own_light (declared_in heads parameters) = omega arith
+
+argument_weight : (c : Context) (k : ℕ) → light (argument c k) (weight 0 None (argument c k)) < 2 + scope_weight c.scope
+unfolding argument scope_weight
 argument_weight c k = scoped c.scope
   where
-    alone_ : (b : Bool) → weight 0 None (elim b [ true ↦ auto | false ↦ absent ]) < 2
-    alone_ true = omega arith
-    alone_ false = omega arith
-
     scoped : (scope : Option Term) →
-        weight 0 None (elim scope [ None ↦ elim c.in_signature [ true ↦ auto | false ↦ absent ] | Some arguments ↦ indexed c.index (element arguments k) ]) < 2 + scope_weight scope
-    scoped None = alone_ c.in_signature
-    scoped (Some arguments) = omega (arith, indexed_weight c.index (element arguments k), element_weight arguments k)
+        light (elim scope [ None ↦ own_argument c.in_signature | Some arguments ↦ indexed c.index (element arguments k) ]) (weight 0 None (elim scope [ None ↦ own_argument c.in_signature | Some arguments ↦ indexed c.index (element arguments k) ])) < 2 + scope_weight scope
+    scoped None = own_light c.in_signature
+    scoped (Some arguments) = omega (arith, indexed_light c.index (element arguments k), light_less (element arguments k), element_weight arguments k)
+
+-- the name of a lambda's own parameter is texts
+name_falls : (r k : ℕ) (head : Term) → RanksBelow rank r (name_of_own k head)
+unfolding name_of_own
+name_falls r k absent = tt
+name_falls r k _ = tt
+
+own_falls : (r : ℕ) (form : Form) (k : ℕ) (head : Term) → RanksBelow rank r (own_name form k head)
+unfolding own_name
+own_falls r right k head = tt
+own_falls r form k head = name_falls r k head
+
+parameter_falls : (r : ℕ) (form : Form) (k : ℕ) (a : Term) → light a (weight 0 None a) < r → rank_in closed form a ≡ weight 0 None a → RanksBelow rank r (parameter_parts form k a)
+unfolding parameter_parts light rank
+parameter_falls r form k (declaring heads parameters) h is = own_falls r form k (element heads k)
+parameter_falls r form k a h is = (omega (arith, h, is), tt)
 
 arguments_weight : (name : Term) → scope_weight (arguments_of name) ≤ weight 0 None name
 unfolding arguments_of scope_weight weight
@@ -126,11 +155,18 @@ arguments_weight _ = omega arith
 abbrev Below : ℕ → Context → Term → Type 0
 Below r c t = weight_in c t < r
 
+generic_falls : (r : ℕ) (c : Context) (parameters : Term) (number : ℕ) → weight 0 None parameters < r → RanksBelow rank r (generic_parts (signature_in c parameters) parameters number)
+unfolding generic_parts rank rank_in weight_in scope_weight weight
+generic_falls r c (declaring heads parameters) number h =
+    let own = signature_in c (declaring heads parameters) in
+    (omega (arith, h), falls_append r (list_part first own parameters) _ (falls_first r own parameters (omega (arith, h))) tt)
+generic_falls r c parameters number h = falls_append r (list_part first (signature_in c parameters) parameters) _ (falls_first r (signature_in c parameters) parameters h) tt
+
 piece_falls : (r : ℕ) (c : Context) (p : Term) → weight_in c p ≤ r → RanksBelow rank r (piece_parts c p)
 unfolding piece_parts rank rank_in weight_in scope_weight weight
 piece_falls r c (source internal name) h = tt
 piece_falls r c (lambda parameters number) h = falls_append r (list_part first c parameters) _ (falls_first r c parameters (omega arith)) tt
-piece_falls r c (generic_lambda parameters number) h = falls_append r (list_part first (signature_in c) parameters) _ (falls_first r (signature_in c) parameters (let less : weight 0 None parameters < r = omega (arith, h) in less)) tt
+piece_falls r c (generic_lambda parameters number) h = generic_falls r c parameters number (let less : weight 0 None parameters < r = omega (arith, h) in less)
 piece_falls r c (bindings names) h = falls_append r (list_part first c names) _ (falls_first r c names (omega (arith, h))) tt
 piece_falls r c (conversion t) h = (omega (arith, h), (omega (arith, h), tt))
 piece_falls r c (enumeration t name) h = (omega (arith, h), (omega (arith, h), tt))
@@ -245,7 +281,7 @@ left_falls d c (alone p) = piece_falls _ c p (omega arith)
 left_falls d c (within prefix p) = within_falls _ c prefix p (omega arith) (omega arith)
 left_falls d c (instance t arguments) = instance_falls _ (has_arguments d) c t arguments (omega arith) (omega arith)
 left_falls d c (sized_float digits end) = float_falls _ digits end
-left_falls d c (parameter k) = (argument_weight c k, tt)
+left_falls d c (parameter k) = parameter_falls _ left k (argument c k) (argument_weight c k) refl
 left_falls d c (pointer t) = marked_falls _ c t "*" (omega arith)
 left_falls d c (lvalue t) = low_reference_falls _ c t "&" (omega arith)
 left_falls d c (rvalue t) = left_reference_falls _ c t "&&" (omega arith)
@@ -266,7 +302,7 @@ unfolding low_parts rank rank_in weight_in weight scope_weight
 low_falls d c (lvalue t) = low_reference_falls _ c t "&" (omega arith)
 low_falls d c (rvalue t) = low_reference_falls _ c t "&" (omega arith)
 low_falls d c (qualified q t) = (omega arith, tt)
-low_falls d c (parameter k) = (argument_weight c k, tt)
+low_falls d c (parameter k) = parameter_falls _ low k (argument c k) (argument_weight c k) refl
 low_falls d c t = left_falls d c t
 
 function_right_falls : (r : ℕ) (c : Context) (q : List ℕ) (ref : RefQualifier) (noexcept : Bool) (returned parameters : Term) → Below r c returned → Below r c parameters →
@@ -297,7 +333,7 @@ right_falls c (array digits t) = falls_append _ (says "[" ∷ text_part digits) 
 right_falls c (bounded bound t) = (omega arith, (omega arith, tt))
 right_falls c (function_type c_linkage noexcept ref returned parameters) = function_right_falls _ c [] ref noexcept returned parameters (omega arith) (omega arith)
 right_falls c (qualified q t) = qualified_right_falls c q t
-right_falls c (parameter k) = (argument_weight c k, tt)
+right_falls c (parameter k) = parameter_falls _ right k (argument c k) (argument_weight c k) refl
 right_falls c _ = first_of (assumption tt, grind arith)
 
 base_within_falls : (r : ℕ) (c : Context) (prefix p : Term) → Below r c prefix → Below r c p → RanksBelow rank r (base_within c prefix p)
@@ -334,7 +370,7 @@ base_falls d c (local encoding entity discriminator) = (omega (arith, entity_wei
 base_falls d c (holder name) = (omega arith, tt)
 base_falls d c (tagged of_structor name tag) = base_tagged_falls _ c of_structor name (omega arith)
 base_falls d c (abbreviation letter) = tt
-base_falls d c (parameter k) = (argument_weight c k, tt)
+base_falls d c (parameter k) = parameter_falls _ base k (argument c k) (argument_weight c k) refl
 base_falls d c t = left_falls d c t
 
 -- the types of an encoding weigh less than it
@@ -405,7 +441,7 @@ below_some i None e = absurd (false≢true e)
 below_some i (Some m) e = ltb-true i m e
 
 -- an index that is below the length of the packs
-below_count : (scope : Option Term) (index : Option ℕ) (in_signature : Bool) (t : Term) (i : ℕ) → is_below i (packs_of (record { scope = scope; index = index; in_signature = in_signature }) t) ≡ true → i < pack_count scope t
+below_count : (scope : Option Term) (index : Option ℕ) (in_signature : Signature) (t : Term) (i : ℕ) → is_below i (packs_of (record { scope = scope; index = index; in_signature = in_signature }) t) ≡ true → i < pack_count scope t
 unfolding packs_of pack_count is_below
 below_count None index in_signature t i e = absurd (false≢true e)
 below_count (Some arguments) index in_signature t i e = below_some i (pack_length arguments t) e
@@ -426,6 +462,22 @@ expand_falls c t i =
     (falls_append _ (comma_before i) (as_item left (at_index i c) t ∷ as_item right (at_index i c) t ∷ []) (comma_falls _ i) (omega arith, (omega arith, tt)))
     (rest_falls c t i)
 
+next_falls : (r : ℕ) (c : Context) (t : Term) (i : ℕ) → weight_in c t < r → RanksBelow rank r (declared_rest c t i)
+unfolding declared_rest list_part rank rank_in
+next_falls r c t i h = falls_choice r (nat_lt (i + 1) (2 ^ 32)) _ _ (falls_declared t h) tt
+  where
+    falls_declared : (t : Term) → weight_in c t < r → RanksBelow rank r (list_part (declared (i + 1)) c t)
+    falls_declared nil h = tt
+    falls_declared _ h = (h, tt)
+
+declared_falls : (c : Context) (t : Term) (i : ℕ) → RanksBelow rank (rank_in c (declared i) t) (declared_parts c t i)
+unfolding declared_parts rank rank_in weight_in weight
+declared_falls c (list e rest) i =
+    let r = rank_in c (declared i) (list e rest) in
+    let name = as_item left c e ∷ says " " ∷ text (front_of_name e) ∷ text (decimal i) ∷ [] in
+    falls_append r (comma_before i ++ name) (declared_rest c rest i) (falls_append r (comma_before i) name (comma_falls r i) (omega arith, tt)) (next_falls r c rest i (omega arith))
+declared_falls c _ i = tt
+
 forms_fall : (d : Detail) (c : Context) (form : Form) (t : Term) → RanksBelow rank (rank_in c form t) (parts_in d c form t)
 unfolding parts_in rank_in
 forms_fall d c root t = root_falls c t
@@ -439,6 +491,7 @@ forms_fall d c piece t = piece_falls _ c t (omega arith)
 forms_fall d c first t = first_falls c t
 forms_fall d c more t = more_falls c t
 forms_fall d c (expand i) t = expand_falls c t i
+forms_fall d c (declared i) t = declared_falls c t i
 
 falls_not_empty : (r : ℕ) (ps : List (PartOf Item)) → RanksBelow rank r ps → RanksBelow rank r (not_empty ps)
 unfolding not_empty

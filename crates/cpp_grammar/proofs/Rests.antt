@@ -20,7 +20,7 @@ use Rattle.cpp_grammar.specs.Meaning.{meaning}
 use Rattle.cpp_grammar.specs.Unfolding as unfolding_
 use Rattle.cpp_grammar.specs.Unfolding.{opening, close, production_at, byte_of, cpp}
 use Rattle.cpp_grammar.proofs.Growing.{same_choice, each_below, below, same_production}
-use Rattle.cpp_grammar.proofs.Arguments.{Read, One, refused, one, tree_one, first_same, abi_begins, takes_its, picked_at, same_at, none_empty}
+use Rattle.cpp_grammar.proofs.Arguments.{Read, One, refused, one, tree_one, first_same, takes_its, picked_at, same_at, none_empty}
 
 deep_same : (m : Result Read Refusal) → One m → (a b c d f g : Read → Result Read Refusal) → ((v : Value) (s : State) → (((a (found (v ∷ []) s) >>= b) >>= c) >>= d) ≡ (f (found (v ∷ []) s) >>= g))
     → ((((m >>= a) >>= b) >>= c) >>= d) ≡ ((m >>= f) >>= g)
@@ -83,7 +83,7 @@ rests_stay = refl
 
 more_at : TakesRule abi NEST_MORE_OR_END (rule_of Production.NestNext) []
 unfolding rule_of is_chain kinds number_of in_ranges among is_in pick alternatives same_choice abi sheet
-more_at = record { byte = 48; is_byte = lit≤ tt; found = same_at alternatives abi_begins NEST_MORE_OR_END Kind.NestMoreOrEnd 48 Production.NestNext refl refl; takes = refl }
+more_at = record { byte = 48; is_byte = lit≤ tt; found = same_at alternatives NEST_MORE_OR_END Kind.NestMoreOrEnd 48 Production.NestNext refl refl; takes = refl }
 
 arguments_rest : (parts : Forest) → AreTrees abi (symbols_of (rule_of Production.NestArguments)) parts → TakesRule abi NEST_REST_OR_END (rule_of Production.NestInstance) (73 ∷ [])
     → AsRest (branch (rule_of Production.NestArguments) (73 ∷ []) parts)
@@ -107,7 +107,7 @@ pub abi_rest : (t : Tree) → IsTree abi (OfKind NEST_REST) t → AsRest t
 unfolding abi sheet kinds may_be_empty rest_stays is_chain rule_of
 abi_rest (branch rule taken parts) is =
     let byte = is.0.byte in
-    let p = picked_at alternatives abi_begins NEST_REST Kind.NestRest byte rule refl is.0.found in
+    let p = picked_at alternatives NEST_REST Kind.NestRest byte rule refl is.0.found in
     go p.production p.is (nat_eq (number_of p.production) (number_of Production.NestNext)) refl
     (subst (λ o. rest_stays byte o (pick (alternatives Kind.NestRestOrEnd) byte) (pick (alternatives Kind.NestMoreOrEnd) byte) ≡ true) p.picked
     (below 256 (λ b. rest_stays b (pick (alternatives Kind.NestRest) b) (pick (alternatives Kind.NestRestOrEnd) b) (pick (alternatives Kind.NestMoreOrEnd) b)) byte rests_stay is.0.is_byte))
@@ -122,7 +122,7 @@ abi_rest (branch rule taken parts) is =
         let own : rule ≡ rule_of Production.NestNext = same ∙ ap rule_of (same_production p Production.NestNext e) in
         record {
           tree = branch rule taken parts;
-          is = (record { byte = is.0.byte; is_byte = is.0.is_byte; found = same_at alternatives abi_begins NEST_REST_OR_END Kind.NestRestOrEnd is.0.byte Production.NestNext refl h ∙ ap Some (sym own); takes = is.0.takes }, is.1);
+          is = (record { byte = is.0.byte; is_byte = is.0.is_byte; found = same_at alternatives NEST_REST_OR_END Kind.NestRestOrEnd is.0.byte Production.NestNext refl h ∙ ap Some (sym own); takes = is.0.takes }, is.1);
           spells = refl;
           says = λ around place state. refl;
         }
@@ -135,7 +135,7 @@ abi_rest (branch rule taken parts) is =
         subst (λ r. AsRest (branch r taken parts)) (sym own)
         (subst (λ l. AsRest (branch (rule_of Production.NestArguments) l parts)) (sym behind_i)
         (arguments_rest parts (subst (λ r. AreTrees abi (symbols_of r) parts) own is.1)
-        (record { byte = is.0.byte; is_byte = is.0.is_byte; found = same_at alternatives abi_begins NEST_REST_OR_END Kind.NestRestOrEnd is.0.byte Production.NestInstance refl two.1; takes = ap (λ b. b ∷ []) (sym at) })))
-abi_rest empty is = absurd (none_empty alternatives abi_begins NEST_REST Kind.NestRest refl refl is)
+        (record { byte = is.0.byte; is_byte = is.0.is_byte; found = same_at alternatives NEST_REST_OR_END Kind.NestRestOrEnd is.0.byte Production.NestInstance refl two.1; takes = ap (λ b. b ∷ []) (sym at) })))
+abi_rest empty is = absurd (none_empty alternatives NEST_REST Kind.NestRest refl refl is)
 abi_rest (token t) is = absurd is
 abi_rest (fixed b) is = absurd is

@@ -33,7 +33,7 @@ use Rattle.cpp_grammar.specs.Rows.{row_of}
 use Rattle.cpp_grammar.specs.Meaning.{parameters, meaning}
 use Rattle.cpp_grammar.specs.Unfolding as unfolding_
 use Rattle.cpp_grammar.specs.Unfolding.{opening, close, production_at, byte_of, cpp, first_around, first_state, first_tree, unfold_cpp}
-use Rattle.cpp_grammar.specs.Rescoping.{generic_so_far, parameter_here, lambda_with, as_generic_lambda, is_before_holder, is_by_newer, is_by_all, is_in_list, place_in, named_in, joined, counted_so_far, expecting, opening_wide, is_foreign, restated, substituted_wide, numbered, between_wide, close_wide, cpp_wide, unfold_wide, argument_here, generic_number}
+use Rattle.cpp_grammar.specs.Rescoping.{generic_so_far, parameter_here, is_declaring, lambda_with, as_generic_lambda, is_before_holder, is_by_newer, is_by_all, is_in_list, place_in, named_in, joined, counted_so_far, expecting, opening_wide, is_foreign, restated, substituted_wide, numbered, between_wide, close_wide, cpp_wide, unfold_wide, argument_here, generic_number}
 use Rattle.cpp_grammar.specs.TableLaws.{wide_sound}
 use Rattle.cpp_grammar.proofs.Choosing.{each_passes, chosen_rule, taken_passes, implied}
 use Rattle.cpp_grammar.proofs.Chosen.{either, if_there}
@@ -41,6 +41,7 @@ use Rattle.cpp_grammar.proofs.ClosedValues.{held}
 use Rattle.cpp_grammar.proofs.ClosedStates.{ok_same, behind_bind}
 use Rattle.cpp_grammar.proofs.ClosedTrees.{opens, at_number, its_symbols, taken_rule, opening_keeps, known}
 use Rattle.cpp_grammar.proofs.NoneFree.{HasNone, AllNone, none_tree, none_part, PrefixHasNone, none_prefix, none_encoding, none_signature, made_none, meaning_none}
+use Rattle.cpp_grammar.proofs.Undeclared.{starts, undeclared_signature, plain_parameters, has_first, begins_first, lambda_begins, first_forest}
 use Rattle.cpp_grammar.proofs.Steps.{first_of_both, second_of_both, all_pass, step_passes, is_here, goes_here}
 
 -- ## What is closed
@@ -318,6 +319,7 @@ between_stays Production.Parameter around place (v ∷ []) state n settled e = h
 between_stays Production.NestParameter around place (v ∷ []) state n settled e = here_stays around place (index_of v) state n settled e
 between_stays Production.ParameterArgument around place (v ∷ []) state n settled e = here_stays around (place - 1) (index_of v) state n settled e
 between_stays Production.ParameterExpression around place (v ∷ []) state n settled e = argument_stays around (place - 1) (index_of v) state n settled e
+between_stays Production.DeclaredFirst around place [] state n settled e = let clash : ◌≡◌ {A = Continuation} (Err (BadReference place)) (Ok n) = e in absurd cc
 between_stays Production.HeldArguments around place [] state n settled e = let clash : ◌≡◌ {A = Continuation} (Err (BadReference place)) (Ok n) = e in absurd cc
 between_stays Production.Holder around place (v ∷ []) state n settled e = let clash : ◌≡◌ {A = Continuation} (Err (BadReference place)) (Ok n) = e in absurd cc
 between_stays Production.NamedModule around place (v ∷ []) state n settled e = let clash : ◌≡◌ {A = Continuation} (Err (BadReference place)) (Ok n) = e in absurd cc
@@ -396,13 +398,18 @@ substituted_stays around place n state r cs e =
         let both = named_none_ around place c state r h in
         record { is = named_stays around place c state r (one_of state.candidates n c cs is) h; value = both.0; candidates = subst AllHaveNone (sym both.1) cs }
 
--- a lambda whose signature is closed has no parameters of its own
-lambda_stays : (around : Around) (byte : ℕ) (vs : List Value) → AllNone vs → as_generic_lambda (meaning Production.Lambda byte around vs) ≡ meaning Production.Lambda byte around vs
-unfolding as_generic_lambda meaning lambda_with held is_open
-lambda_stays around byte vs all =
-    let t = parameters (list (tree_of (part vs 0)) (no_items (part vs 1))) in
+-- a lambda whose signature is closed, and declares nothing, has no parameters of its own
+plain_lambda : (t : Term) (number : ℕ) → is_declaring t ≡ false → HasNone t → piece (lambda_with t number) ≡ piece (lambda t number)
+unfolding lambda_with
+plain_lambda t number plain none = ap (λ b. piece (elim b [ true ↦ generic_lambda t number | false ↦ lambda t number ])) (ap (λ b. b || is_open t) plain ∙ none)
+
+lambda_stays : (around : Around) (byte : ℕ) (vs : List Value) → AllNone vs → starts vs ≡ true → as_generic_lambda (meaning Production.Lambda byte around vs) ≡ meaning Production.Lambda byte around vs
+unfolding as_generic_lambda meaning
+lambda_stays around byte vs all first =
+    let types = list (tree_of (part vs 0)) (no_items (part vs 1)) in
     let number = local_number (text_of (part vs 3)) in
-    either (λ x. piece x ≡ piece (lambda t number)) (is_open t) (generic_lambda t number) (lambda t number) (λ is. absurd (true≢false (sym is ∙ none_signature vs all))) (λ is. refl)
+    subst (λ t. piece (lambda_with t number) ≡ piece (lambda t number)) (sym (undeclared_signature vs (parameters types) first))
+    (plain_lambda (parameters types) number (plain_parameters (tree_of (part vs 0)) (no_items (part vs 1))) (none_signature vs all))
 
 closed_stays : (p : Production) (byte : ℕ) (around : Around) (began : State) (vs : List Value) (state : State) (r : Found Value State) → Settled around → (are_closed p around ≡ true → AllNone vs) → AllHaveNone state.candidates →
     ◌≡◌ {A = Result (Found Value State) Refusal} (Ok (found (meaning p byte around vs) (unfolding_.behind p byte around began vs state))) (Ok r) → (read : Result (Found Value State) Refusal) → read ≡ Ok r → Closes around read r
@@ -416,14 +423,14 @@ closed_stays p byte around began vs state r settled all cs e read is =
     }
 
 close_stays : (p : Production) (byte : ℕ) (around : Around) (place : ℕ) (began : State) (vs : List Value) (state : State) (r : Found Value State) → Settled around → (are_closed p around ≡ true → AllNone vs) →
-    AllHaveNone state.candidates → close p byte around place began vs state ≡ Ok r → Closes around (close_wide p byte around place began vs state) r
-unfolding are_closed has_closed_parts close close_wide unfolding_.behind
-close_stays Production.Substitution byte around place began vs state r settled all cs e = substituted_stays around (place - 1) (counted_value Seq36 (text_of (part vs 0))) state r cs e
-close_stays Production.Lambda byte around place began vs state r settled all cs e =
+    (has_first p ≡ true → starts vs ≡ true) → AllHaveNone state.candidates → close p byte around place began vs state ≡ Ok r → Closes around (close_wide p byte around place began vs state) r
+unfolding are_closed has_closed_parts has_first close close_wide unfolding_.behind
+close_stays Production.Substitution byte around place began vs state r settled all first cs e = substituted_stays around (place - 1) (counted_value Seq36 (text_of (part vs 0))) state r cs e
+close_stays Production.Lambda byte around place began vs state r settled all first cs e =
     closed_stays Production.Lambda byte around began vs state r settled all cs e (Ok (found (as_generic_lambda (meaning Production.Lambda byte around vs)) state))
-    (let said : Value → Result (Found Value State) Refusal = λ v. Ok (found v state) in ap said (lambda_stays around byte vs (all refl)) ∙ e)
-close_stays Production.Inheriting byte around place began vs state r settled all cs e = let clash : ◌≡◌ {A = Result (Found Value State) Refusal} (Err (BadReference place)) (Ok r) = e in absurd cc
-close_stays p byte around place began vs state r settled all cs e = closed_stays p byte around began vs state r settled all cs e (close p byte around place began vs state) e
+    (let said : Value → Result (Found Value State) Refusal = λ v. Ok (found v state) in ap said (lambda_stays around byte vs (all refl) (first refl)) ∙ e)
+close_stays Production.Inheriting byte around place began vs state r settled all first cs e = let clash : ◌≡◌ {A = Result (Found Value State) Refusal} (Err (BadReference place)) (Ok r) = e in absurd cc
+close_stays p byte around place began vs state r settled all first cs e = closed_stays p byte around began vs state r settled all cs e (close p byte around place began vs state) e
 
 -- ## Trees
 
@@ -528,8 +535,10 @@ mutual
       let specials : has_specials p ≡ true → are_special (symbols_of rule) ≡ true =
       λ h. ap are_special (ap symbols_of took.is ∙ its_symbols took.production) ∙ implied (has_specials took.production) (are_special (parts_of took.production)) (special_parts took.production) (sym (ap has_specials number) ∙ h) in
       let symbols = wide_sound.symbols k is.0.byte rule lt is.0.is_byte is.0.found in
+      let begins : has_first p ≡ true → begins_first (symbols_of rule) ≡ true =
+      λ h. ap begins_first (ap symbols_of took.is ∙ its_symbols took.production) ∙ lambda_begins took.production (sym (ap has_first number) ∙ h) in
       let forest = forest_stays parts whole (symbols_of rule) [] from begun.value inner.value symbols is.1 specials settled (λ l. tt) (subst (λ s. AllHaveNone s.candidates) (sym kept) cs) inner.is in
-      let closes = close_stays p (byte_of taken) around place state inner.value.value inner.value.state one settled forest.values forest.candidates ended.is in
+      let closes = close_stays p (byte_of taken) around place state inner.value.value inner.value.state one settled forest.values (λ h. first_forest parts whole (symbols_of rule) from begun.value inner.value symbols is.1 h (begins h) inner.is) forest.candidates ended.is in
       let same : found (one.value ∷ []) one.state ≡ r = ok_same (found (one.value ∷ []) one.state) r ended.next in
       record {
         is = then_ok (opening_wide p parts place state) (λ begun. unfold_forest cpp_wide whole [] from parts begun >>= λ inner. close_wide p (byte_of taken) around place state inner.value inner.state >>= alone) begun.value r (opening_stays p parts place state begun.value cs begun.is)

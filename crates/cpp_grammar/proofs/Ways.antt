@@ -45,14 +45,20 @@ differs Production.HeldArguments = true
 differs Production.Inheriting = true
 differs Production.Holder = true
 differs Production.NamedModule = true
+differs Production.DeclaredFirst = true
 differs _ = false
 
--- the productions with parts in a signature: lambdas, what is declared of an argument, and constraints on arguments
+-- the productions with parts in a signature, or of which each is in one: lambdas, what is declared of a parameter, and constraints on arguments
 unfoldable pub has_signature : Production → Bool
 has_signature Production.Lambda = true
 has_signature Production.ValueOf = true
 has_signature Production.OfConcept = true
 has_signature Production.Constraint = true
+has_signature Production.TemplateOf = true
+has_signature Production.PackOf = true
+has_signature Production.Declarations = true
+has_signature Production.DeclaredFirst = true
+has_signature Production.FirstWithT = true
 has_signature _ = false
 
 -- all others agree with the reading of the ABI's grammar

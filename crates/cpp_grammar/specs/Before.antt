@@ -29,6 +29,7 @@ alternatives_before Kind.PackList = on "L" Production.LiteralElement ∷ on_rang
 alternatives_before Kind.ArgumentsFirst = on "J" Production.PackArgument ∷ on "L" Production.LiteralArgument ∷ on_ranges "0-9M-PR-Va-jl-or-z" "ADFKXZ" Production.AnyArgument ∷ []
 alternatives_before Kind.Argument = on "r" Production.RestrictType ∷ on "V" Production.VolatileType ∷ on "K" Production.ConstType ∷ on "D" Production.ItemWithD ∷ on "OR" Production.ReferenceType ∷ on "X" Production.Expression ∷ on "T" Production.ArgumentWithT ∷ on_ranges "0-9a-jl-os-z" "AFMNPSUZ" Production.PlainArgument ∷ []
 alternatives_before Kind.OneArgument = on "L" Production.OneLiteral ∷ on "J" Production.OnePack ∷ on "r" Production.RestrictType ∷ on "V" Production.VolatileType ∷ on "K" Production.ConstType ∷ on "D" Production.ItemWithD ∷ on "OR" Production.ReferenceType ∷ on "X" Production.Expression ∷ on "T" Production.ArgumentWithT ∷ on_ranges "0-9a-jl-os-z" "AFMNPSUZ" Production.PlainArgument ∷ []
+alternatives_before Kind.FirstOfLambda = on "r" Production.RestrictType ∷ on "V" Production.VolatileType ∷ on "K" Production.ConstType ∷ on "D" Production.ItemWithD ∷ on "OR" Production.ReferenceType ∷ on "T" Production.FirstWithT ∷ on_ranges "0-9a-jl-os-z" "AFMNPSUZ" Production.PlainArgument ∷ []
 alternatives_before Kind.SolidButT = on_ranges "a-jl-ov-z" "st" Production.Builtin ∷ on "u" Production.Vendor ∷ on "A" Production.ArrayType ∷ on "F" Production.Function ∷ on "P" Production.Pointer ∷ on "M" Production.MemberPointer ∷ on "S" Production.TypeWithS ∷ on "N" Production.NestedType ∷ on "Z" Production.LocalType ∷ on "U" Production.LocalTypeName ∷ on_ranges "0-9" "" Production.SourceName ∷ []
 alternatives_before Kind.TypePack = on_ranges "0-9M-PR-Va-jl-or-z" "ADFKZ" Production.TypePack ∷ on "J" Production.OnePack ∷ []
 alternatives_before kind = alternatives kind

@@ -1,6 +1,6 @@
 -- Trees in which the arguments that are a scope have no free parameters.
 use Rattle.std.specs.Prelude.{◌≡◌, false, Option, Some, None}
-use Rattle.cpp_grammar.specs.Term.{Term, symbol, function, object, special, thunk, of_name, construction, clone, alone, in_std, within, instance, local, holder, tagged, of_default, lambda, generic_lambda, conversion, pointer, lvalue, rvalue, array, constrained, bounded, member_pointer, function_type, qualified, vector, complex, expansion, integer, encoding_literal, address_of, pack, list, inheriting, decltype, operation, enumeration, bindings}
+use Rattle.cpp_grammar.specs.Term.{Term, symbol, function, object, special, thunk, of_name, construction, clone, alone, in_std, within, instance, local, holder, tagged, of_default, lambda, generic_lambda, conversion, pointer, lvalue, rvalue, array, constrained, bounded, member_pointer, function_type, qualified, vector, complex, expansion, integer, encoding_literal, address_of, pack, list, inheriting, decltype, operation, enumeration, bindings, declaring}
 use Rattle.cpp_grammar.specs.Scope.{arguments_of, is_open}
 
 -- the arguments of a scope, if there are some, have no free parameters
@@ -33,6 +33,7 @@ ScopesAreClosed (generic_lambda parameters number) = ScopesAreClosed parameters
 ScopesAreClosed (conversion t) = ScopesAreClosed t
 ScopesAreClosed (enumeration t bytes) = ScopesAreClosed t
 ScopesAreClosed (bindings names) = ScopesAreClosed names
+ScopesAreClosed (declaring heads parameters) = ScopesAreClosed heads × ScopesAreClosed parameters
 ScopesAreClosed (constrained letter concept) = ScopesAreClosed concept
 ScopesAreClosed (pointer t) = ScopesAreClosed t
 ScopesAreClosed (lvalue t) = ScopesAreClosed t

@@ -1,13 +1,13 @@
 -- What is printed: a tree in a form and a context, and what must be known of it: heads of types, packs, empty elements.
 use Rattle.std.specs.Prelude.{ℕ, [], ◌∷◌, Bool, true, false, ◌&&◌, nat_eq, Option, Some, None}
-use Rattle.cpp_grammar.specs.Term.{Term, parameter, builtin, lvalue, rvalue, array, bounded, function_type, qualified, expansion, pack, nil, list, absent}
+use Rattle.cpp_grammar.specs.Term.{Term, declaring, parameter, builtin, lvalue, rvalue, array, bounded, function_type, qualified, expansion, pack, nil, list, absent}
 use Rattle.cpp_grammar.specs.Scope.{element, pack_length}
 
 -- ## Items
 
 -- Left and right are what precedes and follows a declared name; low is left of a reference under an lvalue reference; base is
 -- the name of a constructor's class; bare is an encoding without its return type. First and more are a list's elements; expand
--- is the elements of an expansion from a number on.
+-- is the elements of an expansion from a number on, and declared what is declared of a lambda's parameters from a number on.
 pub data Form : Type 0 where
   root : Form
   full : Form
@@ -20,13 +20,21 @@ pub data Form : Type 0 where
   first : Form
   more : Form
   expand : ℕ → Form
+  declared : ℕ → Form
 
--- where a tree is printed: the arguments that its parameters name, the index into their packs, and whether it is in the
--- signature of a lambda that has parameters of its own
+-- in which signature of a lambda that has parameters of its own: in none, in one that declares no parameters, or in one in which
+-- this is declared of them before its types
+pub data Signature : Type 0 where
+  in_none : Signature
+  undeclared : Signature
+  declared_in : (heads parameters : Term) → Signature
+
+-- where a tree is printed: the arguments that its parameters name, the index into their packs, and in which signature it is of
+-- a lambda that has parameters of its own
 pub record Context : Type 0 where
   pub scope : Option Term
   pub index : Option ℕ
-  pub in_signature : Bool
+  pub in_signature : Signature
 
 -- a tree in a form; of a list the elements from here on
 pub record Item : Type 0 where
@@ -37,11 +45,16 @@ pub record Item : Type 0 where
 -- ## Contexts and heads
 
 abbrev pub closed : Context
-closed = record { scope = None; index = None; in_signature = false }
+closed = record { scope = None; index = None; in_signature = in_none }
 
--- in the signature, in this context, of a lambda that has parameters of its own
-abbrev pub signature_in : Context → Context
-signature_in context = record { scope = None; index = context.index; in_signature = true }
+-- the signature of a lambda that has parameters of its own
+unfoldable pub signature_of : Term → Signature
+signature_of (declaring heads parameters) = declared_in heads parameters
+signature_of parameters = undeclared
+
+-- in this signature, in this context
+abbrev pub signature_in : Context → Term → Context
+signature_in context parameters = record { scope = None; index = context.index; in_signature = signature_of parameters }
 
 -- for a pack, its element at the index
 unfoldable pub indexed : Option ℕ → Term → Term
@@ -52,10 +65,16 @@ indexed index t = t
 abbrev pub auto : Term
 auto = builtin (68 ∷ 97 ∷ [])
 
+-- what stands for each parameter of a lambda's own: the signature that declares them, if one does
+unfoldable pub own_argument : Signature → Term
+own_argument in_none = absent
+own_argument undeclared = auto
+own_argument (declared_in heads parameters) = declaring heads parameters
+
 -- the argument that a parameter denotes; in a symbol's tree each parameter has one
 unfoldable pub argument : Context → ℕ → Term
 argument context k = elim context.scope [
-  | None ↦ elim context.in_signature [ true ↦ auto | false ↦ absent ]
+  | None ↦ own_argument context.in_signature
   | Some arguments ↦ indexed context.index (element arguments k)
 ]
 

@@ -178,7 +178,12 @@ operations =
     printed_as "= " PRIMARY " = " Operand.AsItIs "" Operand.NotPrinted "" ∷
     printed_as "W1" PRIMARY "" Operand.AsItIs "" Operand.NotPrinted "" ∷
     printed_as "WW" PRIMARY "" Operand.AsItIs "." Operand.AsItIs "" ∷
-    printed_as "WP" PRIMARY "" Operand.AsItIs ":" Operand.AsItIs "" ∷ []
+    printed_as "WP" PRIMARY "" Operand.AsItIs ":" Operand.AsItIs "" ∷
+    printed_as "Ty" PRIMARY "typename" Operand.NotPrinted "" Operand.NotPrinted "" ∷
+    printed_as "Tn" PRIMARY "" Operand.AsType "" Operand.NotPrinted "" ∷
+    printed_as "Tk" PRIMARY "" Operand.AsItIs "" Operand.NotPrinted "" ∷
+    printed_as "Tt" PRIMARY "template<" Operand.AsList "> class" Operand.NotPrinted "" ∷
+    printed_as "Tp" PRIMARY "" Operand.AsItIs "..." Operand.NotPrinted "" ∷ []
 
 -- the operation of a code, and none of another
 unfoldable pub operation_of_code : List ℕ → List Operation → Option Operation

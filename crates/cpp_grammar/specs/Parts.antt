@@ -1,5 +1,5 @@
 -- The parts of what is printed: each item of a C++ tree has at most eight, texts that aren't empty and further items.
-use Rattle.std.specs.Prelude.{ℕ, zero, suc, ◌+◌, List, [], ◌∷◌, ◌++◌, length, drop, Bool, true, false, cond, ◌||◌, ◌&&◌, nat_eq, nat_le, nat_lt, Option, Some, None, codes, decimal}
+use Rattle.std.specs.Prelude.{ℕ, zero, suc, ◌+◌, ◌^◌, List, [], ◌∷◌, ◌++◌, length, drop, Bool, true, false, cond, ◌||◌, ◌&&◌, nat_eq, nat_le, nat_lt, Option, Some, None, codes, decimal}
 use Prim.Native.String.{String}
 use Rattle.sym_print.specs.declared.detail.Detail.{Detail}
 use Rattle.sym_print.specs.Details.{has_arguments, has_parameters}
@@ -7,9 +7,9 @@ use Rattle.sym_print.specs.Unfold.{PartOf, text, sub}
 use Rattle.cpp_grammar.specs.Texts.{same_bytes, look_up, builtin_texts, operator_texts, abbreviation_texts, special_texts, named_special_texts, literal_endings}
 use Rattle.cpp_grammar.specs.declared.operand.Operand.{Operand}
 use Rattle.cpp_grammar.specs.Operations.{UNARY, PRIMARY, Operation, operations, operation_of_code}
-use Rattle.cpp_grammar.specs.Term.{Qualifiers, RefQualifier, any_value, lvalue_only, rvalue_only, explicit_object, Signed, non_virtual, by_table, Thunk, adjusting, covariant, Term, symbol, function, object, special, thunk, of_name, construction, clone, alone, in_std, within, instance, local, holder, tagged, of_default, abbreviation, parameter, source, operator, literal_operator, constructor, destructor, inheriting, lambda, generic_lambda, unnamed, string_literal, conversion, enumeration, bindings, builtin, sized_float, constrained, vendor, pointer, lvalue, rvalue, array, bounded, member_pointer, function_type, qualified, vector, complex, decltype, expansion, integer, boolean, null_pointer, encoding_literal, address_of, operation, function_parameter, pack, nil, list, absent}
-use Rattle.cpp_grammar.specs.Scope.{arguments_of, without_tags}
-use Rattle.cpp_grammar.specs.Items.{Form, root, full, bare, left, right, low, base, piece, first, more, expand, Context, Item, closed, signature_in, argument, head, is_reference, is_funarr, packs_of, is_empty}
+use Rattle.cpp_grammar.specs.Term.{Qualifiers, RefQualifier, any_value, lvalue_only, rvalue_only, explicit_object, Signed, non_virtual, by_table, Thunk, adjusting, covariant, Term, symbol, function, object, special, thunk, of_name, construction, clone, alone, in_std, within, instance, local, holder, tagged, of_default, abbreviation, parameter, source, operator, literal_operator, constructor, destructor, inheriting, lambda, generic_lambda, unnamed, string_literal, conversion, enumeration, bindings, declaring, builtin, sized_float, constrained, vendor, pointer, lvalue, rvalue, array, bounded, member_pointer, function_type, qualified, vector, complex, decltype, expansion, integer, boolean, null_pointer, encoding_literal, address_of, operation, function_parameter, pack, nil, list, absent}
+use Rattle.cpp_grammar.specs.Scope.{element, arguments_of, without_tags}
+use Rattle.cpp_grammar.specs.Items.{Form, root, full, bare, left, right, low, base, piece, first, more, expand, declared, in_none, Context, Item, closed, signature_in, argument, head, is_reference, is_funarr, packs_of, is_empty}
 
 abbrev pub as_item : Form → Context → Term → PartOf Item
 as_item form context t = sub (record { tree = t; form = form; context = context })
@@ -55,6 +55,13 @@ begins_with (a ∷ xs) (b ∷ ys) = nat_eq a b && begins_with xs ys
 unfoldable pub source_text : List ℕ → List ℕ
 source_text name = elim (begins_with (codes "_GLOBAL__N") name) [ true ↦ codes "(anonymous namespace)" | false ↦ name ]
 
+-- the parts of a lambda that has parameters of its own: what it declares of them comes first
+unfoldable pub generic_parts : Context → (signature : Term) → (number : ℕ) → List (PartOf Item)
+generic_parts context (declaring heads parameters) number =
+    (says "{lambda<" ∷ as_item (declared 0) context heads ∷ says ">(" ∷ list_part first context parameters) ++ (says ")#" ∷ text (decimal number) ∷ says "}" ∷ [])
+generic_parts context parameters number =
+    (says "{lambda(" ∷ list_part first context parameters) ++ (says ")#" ∷ text (decimal number) ∷ says "}" ∷ [])
+
 -- the parts of a piece of a name
 unfoldable pub piece_parts : Context → Term → List (PartOf Item)
 piece_parts context (source internal name) = text (source_text name) ∷ []
@@ -62,8 +69,7 @@ piece_parts context (operator a b) = text (codes "operator" ++ look_up (a ∷ b 
 piece_parts context (literal_operator name) = says "operator\"\" " ∷ text name ∷ []
 piece_parts context (lambda parameters number) =
     (says "{lambda(" ∷ list_part first context parameters) ++ (says ")#" ∷ text (decimal number) ∷ says "}" ∷ [])
-piece_parts context (generic_lambda parameters number) =
-    (says "{lambda(" ∷ list_part first (signature_in context) parameters) ++ (says ")#" ∷ text (decimal number) ∷ says "}" ∷ [])
+piece_parts context (generic_lambda parameters number) = generic_parts (signature_in context parameters) parameters number
 piece_parts context (unnamed number) = says "{unnamed type#" ∷ text (decimal number) ∷ says "}" ∷ []
 piece_parts context string_literal = says "string literal" ∷ []
 piece_parts context (conversion t) = says "operator " ∷ as_item left context t ∷ as_item right context t ∷ []
@@ -183,6 +189,50 @@ array_left context t = elim (is_funarr (head context t)) [
   | false ↦ as_item left context t ∷ says " " ∷ []
 ]
 
+-- ## Parameters that a lambda declares
+
+-- what the name of a parameter begins with, by the letter of its declaration: of a value, of a template, or of a type
+unfoldable pub letter_name : ℕ → List ℕ
+letter_name letter = cond (nat_eq letter 110) (codes "$N") (cond (nat_eq letter 116) (codes "$TT") (codes "$T"))
+
+unfoldable pub declared_letter : Term → ℕ
+declared_letter (operation a b x y) = b
+declared_letter _ = 0
+
+-- and by the declaration, which may be that of a pack
+unfoldable pub front_of_name : Term → List ℕ
+front_of_name (operation a b x y) = cond (nat_eq b 112) (letter_name (declared_letter x)) (letter_name b)
+front_of_name _ = letter_name 0
+
+-- the name of the parameter of this number, of which this is declared; one past those that are declared is auto
+unfoldable pub name_of_own : (number : ℕ) → Term → List (PartOf Item)
+name_of_own k absent = text (look_up (68 ∷ 97 ∷ []) builtin_texts) ∷ []
+name_of_own k head = text (front_of_name head) ∷ text (decimal k) ∷ []
+
+-- in a form: there is nothing to the right of a name
+unfoldable pub own_name : Form → (number : ℕ) → Term → List (PartOf Item)
+own_name right k head = []
+own_name form k head = name_of_own k head
+
+-- what a parameter prints: its name, if a signature declares it, or else what its argument prints
+unfoldable pub parameter_parts : Form → (number : ℕ) → (argument : Term) → List (PartOf Item)
+parameter_parts form k (declaring heads parameters) = own_name form k (element heads k)
+parameter_parts form k argument = as_item form closed argument ∷ []
+
+unfoldable pub comma_before : ℕ → List (PartOf Item)
+comma_before zero = []
+comma_before (suc i) = says ", " ∷ []
+
+-- those after one of this number, if the next number has 32 bits
+unfoldable pub declared_rest : Context → Term → (number : ℕ) → List (PartOf Item)
+declared_rest context rest k = elim (nat_lt (k + 1) (2 ^ 32)) [ true ↦ list_part (declared (k + 1)) context rest | false ↦ [] ]
+
+-- what is declared of a lambda's parameters from this number on, each with its name
+unfoldable pub declared_parts : Context → Term → (number : ℕ) → List (PartOf Item)
+declared_parts context (list e rest) k =
+    comma_before k ++ (as_item left context e ∷ says " " ∷ text (front_of_name e) ∷ text (decimal k) ∷ []) ++ declared_rest context rest k
+declared_parts context _ k = []
+
 unfoldable pub float_parts : (digits : List ℕ) → (end : ℕ) → List (PartOf Item)
 float_parts digits end = elim (nat_eq end 98) [
   | true ↦ says "std::bfloat16_t" ∷ []
@@ -248,7 +298,7 @@ left_parts d context (local encoding entity discriminator) = as_item left contex
 left_parts d context (holder name) = as_item left context name ∷ []
 left_parts d context (tagged of_structor name tag) = as_item left context name ∷ says "[abi:" ∷ text tag ∷ says "]" ∷ []
 left_parts d context (abbreviation letter) = text (look_up (letter ∷ []) abbreviation_texts) ∷ []
-left_parts d context (parameter k) = as_item left closed (argument context k) ∷ []
+left_parts d context (parameter k) = parameter_parts left k (argument context k)
 left_parts d context (builtin code) = text (look_up code builtin_texts) ∷ []
 left_parts d context (sized_float digits end) = float_parts digits end
 left_parts d context (constrained letter concept) = as_item left context concept ∷ text (placeholder_text letter) ∷ []
@@ -280,7 +330,7 @@ unfoldable pub low_parts : Detail → Context → Term → List (PartOf Item)
 low_parts d context (lvalue t) = reference_parts context low t "&"
 low_parts d context (rvalue t) = reference_parts context low t "&"
 low_parts d context (qualified q t) = as_item low context t ∷ []
-low_parts d context (parameter k) = as_item low closed (argument context k) ∷ []
+low_parts d context (parameter k) = parameter_parts low k (argument context k)
 low_parts d context t = left_parts d context t
 
 unfoldable pub function_right : Context → List ℕ → RefQualifier → Bool → Term → Term → List (PartOf Item)
@@ -310,7 +360,7 @@ right_parts context (function_type c_linkage noexcept ref returned parameters) =
 right_parts context (qualified q t) = qualified_right context q t
 right_parts context (vector digits t) = as_item right context t ∷ []
 right_parts context (complex t) = as_item right context t ∷ []
-right_parts context (parameter k) = as_item right closed (argument context k) ∷ []
+right_parts context (parameter k) = parameter_parts right k (argument context k)
 right_parts context _ = []
 
 unfoldable pub base_within : Context → Term → Term → List (PartOf Item)
@@ -342,12 +392,12 @@ base_parts d context (local encoding entity discriminator) = as_item base contex
 base_parts d context (holder name) = as_item base context name ∷ []
 base_parts d context (tagged of_structor name tag) = base_tagged context of_structor name
 base_parts d context (abbreviation letter) = text (drop 5 (look_up (letter ∷ []) abbreviation_texts)) ∷ []
-base_parts d context (parameter k) = as_item base closed (argument context k) ∷ []
+base_parts d context (parameter k) = parameter_parts base k (argument context k)
 base_parts d context t = left_parts d context t
 
 -- the context of the types of an encoding with this name
 unfoldable pub types_of : Term → Context
-types_of name = record { scope = arguments_of name; index = None; in_signature = false }
+types_of name = record { scope = arguments_of name; index = None; in_signature = in_none }
 
 unfoldable pub encoding_text : Qualifiers → RefQualifier → List ℕ
 encoding_text q ref = qualifier_text q ++ ref_text ref
@@ -419,10 +469,6 @@ unfoldable pub is_below : ℕ → Option ℕ → Bool
 is_below i None = false
 is_below i (Some m) = nat_lt i m
 
-unfoldable pub comma_before : ℕ → List (PartOf Item)
-comma_before zero = []
-comma_before (suc i) = says ", " ∷ []
-
 unfoldable pub expand_rest : Context → Term → ℕ → List (PartOf Item)
 expand_rest context pattern i = elim (is_below i (packs_of context pattern)) [ true ↦ as_item (expand i) context pattern ∷ [] | false ↦ [] ]
 
@@ -442,6 +488,7 @@ parts_in d context piece t = piece_parts context t
 parts_in d context first t = first_parts context t
 parts_in d context more t = more_parts context t
 parts_in d context (expand i) t = expand_parts context t i
+parts_in d context (declared i) t = declared_parts context t i
 
 -- an empty text isn't a part, so no tree has one, whether a symbol's or not
 unfoldable pub not_empty : List (PartOf Item) → List (PartOf Item)

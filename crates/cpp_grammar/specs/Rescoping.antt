@@ -11,7 +11,7 @@ use Rattle.sym_shape.specs.Tree.{Tree, Forest}
 use Rattle.sym_link.specs.Reading.{Found, Reading, ◌>>=◌}
 use Rattle.sym_link.specs.Unfold.{found, unfold_tree}
 use Rattle.cpp_grammar.specs.declared.production.Production.{Production}
-use Rattle.cpp_grammar.specs.Term.{Term, instance, holder, lvalue, rvalue, parameter, lambda, generic_lambda}
+use Rattle.cpp_grammar.specs.Term.{Term, instance, holder, lvalue, rvalue, parameter, lambda, generic_lambda, declaring}
 use Rattle.cpp_grammar.specs.Scope.{count, element, is_list, has_pack, is_open, Free, none_free, one_free, several_free, free_in, pack_length}
 use Rattle.cpp_grammar.specs.Values.{Counted, by_all, by_newer, by_gcc, by_some, Candidate, Lists, both_lists, longer_list, shorter_list, no_list, Expected, prefix_at, qualified_at, State, Around, prefix_tree, prefix_listed, Value, nothing_there, tree, piece, pair, text, tree_of, is_listed, text_of, part}
 use Rattle.cpp_grammar.specs.References.{appended, appended_by, is_module, with_packs, substituted}
@@ -43,9 +43,13 @@ argument_here around place k state = elim around.in_lambda [
   | false ↦ argument_so_far around place k state
 ]
 
--- a lambda with these parameters: if parameters are free in its signature, it has parameters of its own
+unfoldable pub is_declaring : Term → Bool
+is_declaring (declaring heads parameters) = true
+is_declaring _ = false
+
+-- a lambda with these parameters: if parameters are free in its signature, or declared in it, it has parameters of its own
 unfoldable pub lambda_with : (parameters : Term) → (number : ℕ) → Term
-lambda_with parameters number = elim (is_open parameters) [ true ↦ generic_lambda parameters number | false ↦ lambda parameters number ]
+lambda_with parameters number = elim (is_declaring parameters || is_open parameters) [ true ↦ generic_lambda parameters number | false ↦ lambda parameters number ]
 
 unfoldable pub as_generic_lambda : Value → Value
 as_generic_lambda (piece (lambda parameters number)) = piece (lambda_with parameters number)
@@ -282,6 +286,7 @@ between_wide Production.NestParameter around place (v ∷ []) state = parameter_
 between_wide Production.ParameterArgument around place (v ∷ []) state = parameter_here around (place - 1) (index_of v) [] state
 between_wide Production.ParameterExpression around place (v ∷ []) state = argument_here around (place - 1) (index_of v) state
 between_wide Production.HeldArguments around place [] state = next [] (inside around) (counted_unless (prefix_listed around.prefix) by_some around (prefix_tree around.prefix) state)
+between_wide Production.DeclaredFirst around place [] state = next [] around state
 between_wide Production.Holder around place (v ∷ []) state = holder_so_far around place state
 between_wide Production.NamedModule around place (v ∷ []) state = module_so_far around (place - 1) (counted_value Seq36 (text_of v)) state
 between_wide production around place vs state = between production around place vs state

@@ -74,6 +74,7 @@ pub data Own : Type 0 where
   in_default : Own
   nest_end : Own
   closure : Own
+  declared_before : Own
   inheriting : Own
   by_letters : Own
   enclosed : Own

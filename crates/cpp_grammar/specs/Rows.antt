@@ -2,7 +2,7 @@
 use Rattle.std.specs.Prelude.{ℕ, List, [], ◌∷◌, true, false}
 use Rattle.cpp_grammar.specs.declared.production.Production.{Production}
 use Rattle.cpp_grammar.specs.Makers.{new_symbol, new_special, new_of_name, new_construction, new_clone, new_in_std, new_instance, new_local, new_abbreviation, new_source, new_operator, new_literal_operator, new_constructor, new_unnamed, new_string_literal, new_conversion, new_enumeration, new_bindings, new_builtin, new_sized_float, new_constrained, new_vendor, new_pointer, new_lvalue, new_rvalue, new_array, new_bounded, new_member_pointer, new_function_type, new_qualified, new_vector, new_complex, new_decltype, new_expansion, new_integer, new_boolean, new_null_pointer, new_encoding_literal, new_operation, new_function_parameter, new_pack}
-use Rattle.cpp_grammar.specs.Row.{Source, tree_at, list_at, parameters_at, piece_at, the_name, no_tree, text_at, digits_at, code, taken, fixed, letter_at, letter_or_taken, letter_or, operator_first_at, operator_second_at, number_at, yes, no, there_at, letter_is, qualifiers_at, qualified_by, ref_at, signed_at, discriminator_at, Made, of, only, extending, tagging, applying, packing, listed, unlisted, as_part, unless_there, as_part_alone, Form, handed, finished, either, the_byte, makes, a_piece, a_pair, cell, item, a_name, in_place, own, Where, as_before, in_its_name, in_its_types, in_a_signature, under_it, nameless, after_part, after_the_name, Gain, nothing, the_prefix, type_of, unqualified_of, itself, Action, quiet, goes, becomes, tests, holds, unread, Row, by_letters, character, closure, covariant_thunk, elements, enclosed, encoding, first_of_operator, in_default, inheriting, local_name, lvalue_signature, many_digits, negative, nest_end, nested_name, no_parameters, no_value, non_virtual_offset, non_virtual_thunk, one_digit, positive, reference, rvalue_signature, substitution, suffix, virtual_offset, virtual_thunk}
+use Rattle.cpp_grammar.specs.Row.{Source, tree_at, list_at, parameters_at, piece_at, the_name, no_tree, text_at, digits_at, code, taken, fixed, letter_at, letter_or_taken, letter_or, operator_first_at, operator_second_at, number_at, yes, no, there_at, letter_is, qualifiers_at, qualified_by, ref_at, signed_at, discriminator_at, Made, of, only, extending, tagging, applying, packing, listed, unlisted, as_part, unless_there, as_part_alone, Form, handed, finished, either, the_byte, makes, a_piece, a_pair, cell, item, a_name, in_place, own, Where, as_before, in_its_name, in_its_types, in_a_signature, under_it, nameless, after_part, after_the_name, Gain, nothing, the_prefix, type_of, unqualified_of, itself, Action, quiet, goes, becomes, tests, holds, unread, Row, by_letters, character, closure, covariant_thunk, declared_before, elements, enclosed, encoding, first_of_operator, in_default, inheriting, local_name, lvalue_signature, many_digits, negative, nest_end, nested_name, no_parameters, no_value, non_virtual_offset, non_virtual_thunk, one_digit, positive, reference, rvalue_signature, substitution, suffix, virtual_offset, virtual_thunk}
 
 -- ## Rows
 
@@ -281,7 +281,7 @@ row_of Production.OneDigit = plain (own one_digit (nodes 0))
 -- <discriminator> ::= __ <number> _, after its first _
 row_of Production.ManyDigits = plain (own many_digits (nodes 0))
 -- <closure-type-name> ::= Ul <lambda-sig> E [ <nonnegative number> ] _
-row_of Production.Lambda = with_number_tested (throughout (enters in_a_signature) (own closure (nodes 1)))
+row_of Production.Lambda = with_number_tested (throughout (enters in_a_signature) (own closure (nodes 2)))
 -- <unnamed-type-name> ::= Ut [ <nonnegative number> ] _
 row_of Production.Unnamed = with_number_tested (plain (a_piece (of new_unnamed (number_at 0 ∷ []))))
 -- <CV-qualifiers> ::= [r] [V] [K]; what they qualify is without more of them, and no candidate
@@ -462,16 +462,22 @@ row_of Production.LeveledParameter = plain (handed 1)
 row_of Production.OneLiteral = plain (handed 0)
 -- <template-arg> ::= J <template-arg>* E, after a <template-param-decl>
 row_of Production.OnePack = plain (makes (of new_pack (list_at 0 ∷ [])) listed)
+-- <template-param-decl> ::= Ty
+row_of Production.TypeOf = plain (makes (of new_operation (fixed 84 ∷ taken ∷ no_tree ∷ no_tree ∷ [])) listed)
 -- <template-param-decl> ::= Tn <type>
-row_of Production.ValueOf = throughout (enters in_a_signature) the_byte
+row_of Production.ValueOf = throughout (enters in_a_signature) (makes (of new_operation (fixed 84 ∷ taken ∷ tree_at 0 ∷ no_tree ∷ [])) listed)
 -- <template-param-decl> ::= Tk <concept name>
-row_of Production.OfConcept = throughout (enters in_a_signature) the_byte
+row_of Production.OfConcept = throughout (enters in_a_signature) (makes (of new_operation (fixed 84 ∷ taken ∷ tree_at 0 ∷ no_tree ∷ [])) listed)
 -- <template-param-decl> ::= Tt <template-param-decl>* E
-row_of Production.TemplateOf = plain the_byte
+row_of Production.TemplateOf = plain (makes (of new_operation (fixed 84 ∷ taken ∷ list_at 0 ∷ no_tree ∷ [])) listed)
 -- <template-param-decl> ::= Tp <non-pack template-param-decl>
-row_of Production.PackOf = plain the_byte
+row_of Production.PackOf = plain (makes (of new_operation (fixed 84 ∷ taken ∷ tree_at 1 ∷ no_tree ∷ [])) listed)
 -- <template-param-decl>*
-row_of Production.Declarations = plain the_byte
+row_of Production.Declarations = plain (cell (first 0) (rest 1))
+-- <lambda-sig> ::= <template-param-decl>* <parameter type>+
+row_of Production.FirstWithT = plain (handed 0)
+-- <type> ::= <template-param> [<template-args>], after the T
+row_of Production.FirstParameter = gains (type_of 0) (plain (finished 0))
 -- <type-constraint> ::= <nested-name>. Compilers that count the name of a concept before its arguments put the arguments into the name; the
 -- others put them after it
 row_of Production.NestedConcept = after_steps (quiet ∷ enters (after_part 0 (as_part 0)) ∷ []) (a_name unlisted)
@@ -559,6 +565,8 @@ row_of Production.FoldOperatorL = plain (a_piece (of new_operator (taken ∷ let
 row_of Production.OuterParameter = plain (handed 1)
 -- <array-type> ::= A <expression> _ <element type>, after the A
 row_of Production.BoundedArray = plain (makes (of new_bounded (tree_at 0 ∷ tree_at 2 ∷ [])) unlisted)
+-- <lambda-sig> ::= <template-param-decl> <lambda-sig>, after the T
+row_of Production.DeclaredFirst = after_steps (unread ∷ []) (own declared_before (nodes 1))
 -- <template-arg> ::= <template-param-decl> <template-arg>, after the T; what is declared of it isn't in the tree
 row_of Production.DeclaredArgument = plain (finished 1)
 -- <unqualified-name> ::= <unqualified-name> <abi-tags>, in std as a type

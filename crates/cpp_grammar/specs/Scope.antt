@@ -1,7 +1,7 @@
 -- What the trees of C++ symbols are like: their arguments, free parameters and packs. The scope of an encoding is the list of
 -- arguments that its own name ends in. It holds only for the encoding's types.
 use Rattle.std.specs.Prelude.{ℕ, zero, suc, Bool, true, false, not, ◌||◌, nat_eq, max, Option, Some, None}
-use Rattle.cpp_grammar.specs.Term.{Term, alone, in_std, within, instance, local, holder, tagged, of_default, parameter, constructor, destructor, inheriting, lambda, conversion, pointer, lvalue, rvalue, array, constrained, bounded, member_pointer, function_type, qualified, vector, complex, expansion, integer, pack, list, absent, decltype, operation, enumeration, bindings}
+use Rattle.cpp_grammar.specs.Term.{Term, alone, in_std, within, instance, local, holder, tagged, of_default, parameter, constructor, destructor, inheriting, lambda, conversion, pointer, lvalue, rvalue, array, constrained, bounded, member_pointer, function_type, qualified, vector, complex, expansion, integer, pack, list, absent, decltype, operation, enumeration, bindings, declaring}
 
 -- the length of a list
 unfoldable pub count : Term → ℕ
@@ -63,6 +63,7 @@ is_open (lambda parameters number) = is_open parameters
 is_open (conversion type) = is_open type
 is_open (enumeration type bytes) = is_open type
 is_open (bindings names) = is_open names
+is_open (declaring heads parameters) = is_open heads || is_open parameters
 is_open (constrained letter concept) = is_open concept
 is_open (pointer type) = is_open type
 is_open (lvalue type) = is_open type
@@ -113,6 +114,7 @@ free_in (lambda parameters number) = free_in parameters
 free_in (conversion type) = free_in type
 free_in (enumeration type bytes) = free_in type
 free_in (bindings names) = free_in names
+free_in (declaring heads parameters) = both_free (free_in heads) (free_in parameters)
 free_in (constrained letter concept) = free_in concept
 free_in (pointer type) = free_in type
 free_in (lvalue type) = free_in type
@@ -172,6 +174,7 @@ pack_length scope (lambda parameters number) = pack_length scope parameters
 pack_length scope (conversion type) = pack_length scope type
 pack_length scope (enumeration type bytes) = pack_length scope type
 pack_length scope (bindings names) = pack_length scope names
+pack_length scope (declaring heads parameters) = first_of (pack_length scope heads) (pack_length scope parameters)
 pack_length scope (constrained letter concept) = pack_length scope concept
 pack_length scope (pointer type) = pack_length scope type
 pack_length scope (lvalue type) = pack_length scope type

@@ -8,7 +8,7 @@ use Rattle.cpp_grammar.specs.declared.kind.Kind.{Kind}
 use Rattle.cpp_grammar.specs.declared.production.Production.{Production}
 use Rattle.cpp_grammar.specs.Grammar.{Alternative, kinds, parts_of, may_be_empty}
 use Rattle.cpp_grammar.specs.Makers.{Maker, new_symbol, new_special, new_of_name, new_construction, new_clone, new_in_std, new_instance, new_local, new_abbreviation, new_source, new_operator, new_literal_operator, new_constructor, new_unnamed, new_string_literal, new_conversion, new_enumeration, new_bindings, new_builtin, new_sized_float, new_constrained, new_vendor, new_pointer, new_lvalue, new_rvalue, new_array, new_bounded, new_member_pointer, new_function_type, new_qualified, new_vector, new_complex, new_decltype, new_expansion, new_integer, new_boolean, new_null_pointer, new_encoding_literal, new_operation, new_function_parameter, new_pack}
-use Rattle.cpp_grammar.specs.Row.{Source, tree_at, list_at, parameters_at, piece_at, the_name, no_tree, text_at, digits_at, code, taken, fixed, letter_at, letter_or_taken, letter_or, operator_first_at, operator_second_at, number_at, yes, no, there_at, letter_is, qualifiers_at, qualified_by, ref_at, signed_at, discriminator_at, Made, of, only, extending, tagging, applying, packing, Listing, listed, unlisted, as_part, unless_there, as_part_alone, Own, Form, handed, finished, either, the_byte, makes, a_piece, a_pair, cell, item, a_name, in_place, own, Where, as_before, in_its_name, in_its_types, in_a_signature, under_it, nameless, after_part, after_the_name, Gain, nothing, the_prefix, type_of, unqualified_of, itself, Action, quiet, goes, becomes, tests, holds, unread, Row, before_part, closure, first_of_operator, in_default, local_name, lvalue_signature, many_digits, negative, nested_name, no_parameters, no_value, non_virtual_offset, one_digit, positive, rvalue_signature, suffix, virtual_offset}
+use Rattle.cpp_grammar.specs.Row.{Source, tree_at, list_at, parameters_at, piece_at, the_name, no_tree, text_at, digits_at, code, taken, fixed, letter_at, letter_or_taken, letter_or, operator_first_at, operator_second_at, number_at, yes, no, there_at, letter_is, qualifiers_at, qualified_by, ref_at, signed_at, discriminator_at, Made, of, only, extending, tagging, applying, packing, Listing, listed, unlisted, as_part, unless_there, as_part_alone, Own, Form, handed, finished, either, the_byte, makes, a_piece, a_pair, cell, item, a_name, in_place, own, Where, as_before, in_its_name, in_its_types, in_a_signature, under_it, nameless, after_part, after_the_name, Gain, nothing, the_prefix, type_of, unqualified_of, itself, Action, quiet, goes, becomes, tests, holds, unread, Row, before_part, closure, declared_before, first_of_operator, in_default, local_name, lvalue_signature, many_digits, negative, nested_name, no_parameters, no_value, non_virtual_offset, one_digit, positive, rvalue_signature, suffix, virtual_offset}
 use Rattle.cpp_grammar.specs.Rows.{row_of}
 
 -- ## Sorts
@@ -133,6 +133,7 @@ own_gives nested_name = names ∷ []
 own_gives local_name = names ∷ []
 own_gives in_default = names ∷ []
 own_gives closure = pieces ∷ []
+own_gives declared_before = pairs ∷ []
 own_gives first_of_operator = pieces ∷ []
 own_gives lvalue_signature = signatures ∷ []
 own_gives rvalue_signature = signatures ∷ []
@@ -209,8 +210,8 @@ kind_gives Kind.SpecialMark = letters ∷ []
 kind_gives Kind.TemporaryName = trees ∷ names ∷ []
 kind_gives Kind.CloneLetter = letters ∷ []
 kind_gives Kind.MaybeTags = names ∷ []
-kind_gives Kind.DeclarationAfterT = letters ∷ []
-kind_gives Kind.Declarations = letters ∷ []
+kind_gives Kind.FirstOfLambda = trees ∷ pairs ∷ []
+kind_gives Kind.FirstAfterT = trees ∷ pairs ∷ []
 kind_gives Kind.ConceptArguments = pairs ∷ []
 kind_gives Kind.ExpressionAfterA = pairs ∷ []
 kind_gives Kind.ExpressionAfterC = pairs ∷ []

@@ -1,6 +1,6 @@
 -- What productions denote: parameters, encodings, references, signatures.
 use Rattle.std.specs.Prelude.{ℕ, List, [], ◌∷◌, Bool, true, false, cond, ◌||◌, ◌&&◌, nat_eq, Option, Some, None}
-use Rattle.cpp_grammar.specs.Term.{RefQualifier, Term, function, object, of_default, operator, builtin, lvalue, rvalue, encoding_literal, address_of, operation, nil, list, absent}
+use Rattle.cpp_grammar.specs.Term.{RefQualifier, Term, function, object, of_default, operator, declaring, builtin, lvalue, rvalue, encoding_literal, address_of, operation, nil, list, absent}
 use Rattle.cpp_grammar.specs.Scope.{has_return_type}
 use Rattle.cpp_grammar.specs.Values.{Value, nothing_there, letter, text, tree, piece, named, pair, signature, tree_of, qualifiers_of, ref_of, normal}
 
@@ -16,6 +16,17 @@ is_nil _ = false
 unfoldable pub parameters : Term → Term
 parameters (list first rest) = elim (is_void first && is_nil rest) [ true ↦ nil | false ↦ list first rest ]
 parameters t = t
+
+-- What is declared of one more of a lambda's parameters, before its first type: of the first value it is the tree, and the second is that type, or
+-- that type and a list of what is declared of the others.
+unfoldable pub declared_first : Value → Value → Value
+declared_first head (pair key first heads) = pair key first (list (tree_of head) heads)
+declared_first head first = pair 84 (tree_of first) (list (tree_of head) nil)
+
+-- The signature of a lambda with these parameters. What is declared of its own parameters is with the first of its types.
+unfoldable pub signature_with : (first : Value) → (parameters : Term) → Term
+signature_with (pair key first heads) parameters = declaring heads parameters
+signature_with first parameters = parameters
 
 -- an encoding without items is data; with items it's a function
 unfoldable pub encoding_of : Value → Term → Term

@@ -236,141 +236,145 @@ const DECLARATION_AFTER_T: Sym = Sym::Kind(111);
 
 const DECLARATIONS: Sym = Sym::Kind(112);
 
-const CONCEPT: Sym = Sym::Kind(113);
+const FIRST_OF_LAMBDA: Sym = Sym::Kind(113);
 
-const CONCEPT_ARGUMENTS: Sym = Sym::Kind(114);
+const FIRST_AFTER_T: Sym = Sym::Kind(114);
 
-const SOLID_BUT_T: Sym = Sym::Kind(115);
+const CONCEPT: Sym = Sym::Kind(115);
 
-const EXPRESSION: Sym = Sym::Kind(116);
+const CONCEPT_ARGUMENTS: Sym = Sym::Kind(116);
 
-const EXPRESSION_PARAMETER: Sym = Sym::Kind(117);
+const SOLID_BUT_T: Sym = Sym::Kind(117);
 
-const UNLEVELED_EXPRESSION: Sym = Sym::Kind(118);
+const EXPRESSION: Sym = Sym::Kind(118);
 
-const ADDRESSED_EXPRESSION: Sym = Sym::Kind(119);
+const EXPRESSION_PARAMETER: Sym = Sym::Kind(119);
 
-const ADDRESSED_LITERAL: Sym = Sym::Kind(120);
+const UNLEVELED_EXPRESSION: Sym = Sym::Kind(120);
 
-const EXPRESSION_AFTER_A: Sym = Sym::Kind(121);
+const ADDRESSED_EXPRESSION: Sym = Sym::Kind(121);
 
-const EXPRESSION_AFTER_C: Sym = Sym::Kind(122);
+const ADDRESSED_LITERAL: Sym = Sym::Kind(122);
 
-const EXPRESSION_AFTER_D: Sym = Sym::Kind(123);
+const EXPRESSION_AFTER_A: Sym = Sym::Kind(123);
 
-const EXPRESSION_AFTER_E: Sym = Sym::Kind(124);
+const EXPRESSION_AFTER_C: Sym = Sym::Kind(124);
 
-const EXPRESSION_AFTER_F: Sym = Sym::Kind(125);
+const EXPRESSION_AFTER_D: Sym = Sym::Kind(125);
 
-const EXPRESSION_AFTER_G: Sym = Sym::Kind(126);
+const EXPRESSION_AFTER_E: Sym = Sym::Kind(126);
 
-const EXPRESSION_AFTER_I: Sym = Sym::Kind(127);
+const EXPRESSION_AFTER_F: Sym = Sym::Kind(127);
 
-const EXPRESSION_AFTER_L: Sym = Sym::Kind(128);
+const EXPRESSION_AFTER_G: Sym = Sym::Kind(128);
 
-const EXPRESSION_AFTER_M: Sym = Sym::Kind(129);
+const EXPRESSION_AFTER_I: Sym = Sym::Kind(129);
 
-const EXPRESSION_AFTER_N: Sym = Sym::Kind(130);
+const EXPRESSION_AFTER_L: Sym = Sym::Kind(130);
 
-const EXPRESSION_AFTER_O: Sym = Sym::Kind(131);
+const EXPRESSION_AFTER_M: Sym = Sym::Kind(131);
 
-const EXPRESSION_AFTER_P: Sym = Sym::Kind(132);
+const EXPRESSION_AFTER_N: Sym = Sym::Kind(132);
 
-const EXPRESSION_AFTER_Q: Sym = Sym::Kind(133);
+const EXPRESSION_AFTER_O: Sym = Sym::Kind(133);
 
-const EXPRESSION_AFTER_R: Sym = Sym::Kind(134);
+const EXPRESSION_AFTER_P: Sym = Sym::Kind(134);
 
-const EXPRESSION_AFTER_S: Sym = Sym::Kind(135);
+const EXPRESSION_AFTER_Q: Sym = Sym::Kind(135);
 
-const EXPRESSION_AFTER_T: Sym = Sym::Kind(136);
+const EXPRESSION_AFTER_R: Sym = Sym::Kind(136);
 
-const EXPRESSIONS: Sym = Sym::Kind(137);
+const EXPRESSION_AFTER_S: Sym = Sym::Kind(137);
 
-const MAYBE_BEFORE: Sym = Sym::Kind(138);
+const EXPRESSION_AFTER_T: Sym = Sym::Kind(138);
 
-const FOLD_OPERATOR: Sym = Sym::Kind(139);
+const EXPRESSIONS: Sym = Sym::Kind(139);
 
-const FOLD_OPERATOR_AFTER_L: Sym = Sym::Kind(140);
+const MAYBE_BEFORE: Sym = Sym::Kind(140);
 
-const AFTER_OUTER: Sym = Sym::Kind(141);
+const FOLD_OPERATOR: Sym = Sym::Kind(141);
 
-const FOLD_SIGNS: Sym = Sym::Kind(142);
+const FOLD_OPERATOR_AFTER_L: Sym = Sym::Kind(142);
 
-const FOLD_SIGN: Sym = Sym::Kind(143);
+const AFTER_OUTER: Sym = Sym::Kind(143);
 
-const FOLD_VALUE: Sym = Sym::Kind(144);
+const FOLD_SIGNS: Sym = Sym::Kind(144);
 
-const FOLD_OPERAND: Sym = Sym::Kind(145);
+const FOLD_SIGN: Sym = Sym::Kind(145);
 
-const FOLD_PACK: Sym = Sym::Kind(146);
+const FOLD_VALUE: Sym = Sym::Kind(146);
 
-const VALUE_PACK: Sym = Sym::Kind(147);
+const FOLD_OPERAND: Sym = Sym::Kind(147);
 
-const TYPE_PACK: Sym = Sym::Kind(148);
+const FOLD_PACK: Sym = Sym::Kind(148);
 
-const DESIGNATED_VALUE: Sym = Sym::Kind(149);
+const VALUE_PACK: Sym = Sym::Kind(149);
 
-const DESIGNATOR_AFTER_D: Sym = Sym::Kind(150);
+const TYPE_PACK: Sym = Sym::Kind(150);
 
-const PLAIN_VALUE: Sym = Sym::Kind(151);
+const DESIGNATED_VALUE: Sym = Sym::Kind(151);
 
-const FIELD_NAME: Sym = Sym::Kind(152);
+const DESIGNATOR_AFTER_D: Sym = Sym::Kind(152);
 
-const PLACEMENT: Sym = Sym::Kind(153);
+const PLAIN_VALUE: Sym = Sym::Kind(153);
 
-const SOME_EXPRESSIONS: Sym = Sym::Kind(154);
+const FIELD_NAME: Sym = Sym::Kind(154);
 
-const INITIALIZER: Sym = Sym::Kind(155);
+const PLACEMENT: Sym = Sym::Kind(155);
 
-const INITIALIZER_AFTER_P: Sym = Sym::Kind(156);
+const SOME_EXPRESSIONS: Sym = Sym::Kind(156);
 
-const INITIALIZER_AFTER_I: Sym = Sym::Kind(157);
+const INITIALIZER: Sym = Sym::Kind(157);
 
-const OUTER_REST: Sym = Sym::Kind(158);
+const INITIALIZER_AFTER_P: Sym = Sym::Kind(158);
 
-const PARAMETER_NUMBER: Sym = Sym::Kind(159);
+const INITIALIZER_AFTER_I: Sym = Sym::Kind(159);
 
-const CONVERTED_TYPE: Sym = Sym::Kind(160);
+const OUTER_REST: Sym = Sym::Kind(160);
 
-const CONVERTED_SOLID: Sym = Sym::Kind(161);
+const PARAMETER_NUMBER: Sym = Sym::Kind(161);
 
-const PARAMETER_AFTER_T: Sym = Sym::Kind(162);
+const CONVERTED_TYPE: Sym = Sym::Kind(162);
 
-const DECLTYPE_AFTER_D: Sym = Sym::Kind(163);
+const CONVERTED_SOLID: Sym = Sym::Kind(163);
 
-const CONVERTED_AFTER_D: Sym = Sym::Kind(164);
+const PARAMETER_AFTER_T: Sym = Sym::Kind(164);
 
-const CONVERT_REST: Sym = Sym::Kind(165);
+const DECLTYPE_AFTER_D: Sym = Sym::Kind(165);
 
-const UNRESOLVED: Sym = Sym::Kind(166);
+const CONVERTED_AFTER_D: Sym = Sym::Kind(166);
 
-const UNRESOLVED_TYPE: Sym = Sym::Kind(167);
+const CONVERT_REST: Sym = Sym::Kind(167);
 
-const DESTRUCTOR_NAME: Sym = Sym::Kind(168);
+const UNRESOLVED: Sym = Sym::Kind(168);
 
-const REQUIREMENTS: Sym = Sym::Kind(169);
+const UNRESOLVED_TYPE: Sym = Sym::Kind(169);
 
-const MAYBE_NOEXCEPT: Sym = Sym::Kind(170);
+const DESTRUCTOR_NAME: Sym = Sym::Kind(170);
 
-const AFTER_NOEXCEPT: Sym = Sym::Kind(171);
+const REQUIREMENTS: Sym = Sym::Kind(171);
 
-const REQUIRED_TYPES: Sym = Sym::Kind(172);
+const MAYBE_NOEXCEPT: Sym = Sym::Kind(172);
 
-const LEVEL: Sym = Sym::Kind(173);
+const AFTER_NOEXCEPT: Sym = Sym::Kind(173);
 
-const MORE_LEVELS: Sym = Sym::Kind(174);
+const REQUIRED_TYPES: Sym = Sym::Kind(174);
 
-const UNRESOLVED_NAME: Sym = Sym::Kind(175);
+const LEVEL: Sym = Sym::Kind(175);
 
-const OPERATOR_NAME: Sym = Sym::Kind(176);
+const MORE_LEVELS: Sym = Sym::Kind(176);
 
-const ANY_ARRAY: Sym = Sym::Kind(177);
+const UNRESOLVED_NAME: Sym = Sym::Kind(177);
 
-const ARRAY_REST: Sym = Sym::Kind(178);
+const OPERATOR_NAME: Sym = Sym::Kind(178);
 
-const BOUND: Sym = Sym::Kind(179);
+const ANY_ARRAY: Sym = Sym::Kind(179);
 
-const NEST_MORE_OR_END: Sym = Sym::Kind(180);
+const ARRAY_REST: Sym = Sym::Kind(180);
+
+const BOUND: Sym = Sym::Kind(181);
+
+const NEST_MORE_OR_END: Sym = Sym::Kind(182);
 
 const NAME: Sym = Sym::Name;
 
@@ -383,7 +387,7 @@ const DIGITS: Sym = Sym::Number(NumberKind::Digits);
 // The letter of a production is the byte with its number. The production with the number of the blank has none here.
 
 // For each kind a row: for each byte from `$` to `z` the letter of the production that the kind takes there.
-static LETTERS: [[u8; 87]; 181] = [
+static LETTERS: [[u8; 87]; 183] = [
     // $%&'()*+,-./0123456789:;<=>?@ABCDEFGHIJKLMNOPQRSTUVWXYZ[\]^_`abcdefghijklmnopqrstuvwxyz
     *b"                                                           -                           ", // Symbol
     *b"          .                                                                            ", // MaybeSuffix
@@ -496,37 +500,39 @@ static LETTERS: [[u8; 87]; 181] = [
     *b"            \xae\xae\xae\xae\xae\xae\xae\xae\xae\xae                                     \xae                           ", // ArgumentAfterT
     *b"            \xae\xae\xae\xae\xae\xae\xae\xae\xae\xae                                     \xae                           ", // LeveledParameter
     *b"            \xad\xad\xad\xad\xad\xad\xad\xad\xad\xad       \xad \xadb \xad   \xb1\\\xb0\xad\xad]\xad ]\xad\xac\xad[ \xab \xad      \xad\xad\xad\xad\xad\xad\xad\xad\xad\xad \xad\xad\xad\xad  Z\xad\xad\xad\xad\xad\xad\xad\xad", // OneArgument
-    *b"                                                                       \xb3  \xb2 \xb5   \xb4    ! ", // DeclarationAfterT
-    *b"                                                \xb6                                      ", // Declarations
-    *b"            \xb8\xb8\xb8\xb8\xb8\xb8\xb8\xb8\xb8\xb8                    \xb7    \xb8                                       ", // Concept
-    *b"                                     \xb9                                                 ", // ConceptArguments
+    *b"                                                                       \xb4  \xb3 \xb6   \xb5    \xb2 ", // DeclarationAfterT
+    *b"                                                \xb7                                      ", // Declarations
+    *b"            \xad\xad\xad\xad\xad\xad\xad\xad\xad\xad       \xad \xadb \xad    \\ \xad\xad]\xad ]\xad\xb8\xad[   \xad      \xad\xad\xad\xad\xad\xad\xad\xad\xad\xad \xad\xad\xad\xad  Z\xad\xad\xad\xad\xad\xad\xad\xad", // FirstOfLambda
+    *b"            \xb9\xb9\xb9\xb9\xb9\xb9\xb9\xb9\xb9\xb9                                     \xb9                           ", // FirstAfterT
+    *b"            \xbb\xbb\xbb\xbb\xbb\xbb\xbb\xbb\xbb\xbb                    \xba    \xbb                                       ", // Concept
+    *b"                                     \xbc                                                 ", // ConceptArguments
     *b"            $$$$$$$$$$       q s  r      kS j  m #    n      oooooooooo oooo   oopooooo", // SolidButT
-    *b"                                                             \xd7                         ", // Expression
-    *b"            \xe8\xe8\xe8\xe8\xe8\xe8\xe8\xe8\xe8\xe8                  \xe9                  \xe8                           ", // ExpressionParameter
-    *b"            \xe8\xe8\xe8\xe8\xe8\xe8\xe8\xe8\xe8\xe8                                     \xe8                           ", // UnleveledExpression
-    *b"                                        \xea                                              ", // AddressedExpression
+    *b"                                                             \xda                         ", // Expression
+    *b"            \xeb\xeb\xeb\xeb\xeb\xeb\xeb\xeb\xeb\xeb                  \xec                  \xeb                           ", // ExpressionParameter
+    *b"            \xeb\xeb\xeb\xeb\xeb\xeb\xeb\xeb\xeb\xeb                                     \xeb                           ", // UnleveledExpression
+    *b"                                        \xed                                              ", // AddressedExpression
     *b"                                                           \x85                           ", // AddressedLiteral
-    *b"                                                                \xbe                      ", // ExpressionAfterA
-    *b"                                                               \xba        \xc2\xbf \xc0\xc2     \xc3    ", // ExpressionAfterC
-    *b"                                                  \xbf          \xc0 \xba \xc0   \xc4  \xc0 \xc6    \xbf\xbf \xbf \xc5  ", // ExpressionAfterD
-    *b"                                           \xbf                               \xbf \xbf         ", // ExpressionAfterE
-    *b"                                        \xc7     \xc8                         \xc9   \xbd \xca        ", // ExpressionAfterF
-    *b"                                                                 \xbf             \xc0\xbf      ", // ExpressionAfterG
-    *b"                                                                        \xcb           \xbf  ", // ExpressionAfterI
-    *b"                                               \xbf                 \xbf             \xbf\xbf      ", // ExpressionAfterL
-    *b"                                     \xbf  \xbf                            \xbf  \xbf\xcc             ", // ExpressionAfterM
-    *b"                                                             \xcd   \xbf \xc0            \xc0  \xcd\xc0  ", // ExpressionAfterN
-    *b"                                              \xbf                           \xbb\xbf  \xbf        ", // ExpressionAfterO
-    *b"                                        \xbf                               \xbf\xbf  \xcc  \xc0\xbf      ", // ExpressionAfterP
-    *b"                                                                                 \xce     ", // ExpressionAfterQ
-    *b"                                         \xbf   \xd0 \xbf               \xba         \xbf   \xcf \xbf       ", // ExpressionAfterR
-    *b"                                                      \xd2        \xba            \xd1 \xd3\xbf\xc1    \xd4\xc0", // ExpressionAfterS
-    *b"                                                                 \xc0   \xc1  \xd5     \xd6    \xc0   ", // ExpressionAfterT
-    *b"                                                             \xeb                         ", // Expressions
+    *b"                                                                \xc1                      ", // ExpressionAfterA
+    *b"                                                               \xbd        \xc5\xc2 \xc3\xc5     \xc6    ", // ExpressionAfterC
+    *b"                                                  \xc2          \xc3 \xbd \xc3   \xc7  \xc3 \xc9    \xc2\xc2 \xc2 \xc8  ", // ExpressionAfterD
+    *b"                                           \xc2                               \xc2 \xc2         ", // ExpressionAfterE
+    *b"                                        \xca     \xcb                         \xcc   \xc0 \xcd        ", // ExpressionAfterF
+    *b"                                                                 \xc2             \xc3\xc2      ", // ExpressionAfterG
+    *b"                                                                        \xce           \xc2  ", // ExpressionAfterI
+    *b"                                               \xc2                 \xc2             \xc2\xc2      ", // ExpressionAfterL
+    *b"                                     \xc2  \xc2                            \xc2  \xc2\xcf             ", // ExpressionAfterM
+    *b"                                                             \xd0   \xc2 \xc3            \xc3  \xd0\xc3  ", // ExpressionAfterN
+    *b"                                              \xc2                           \xbe\xc2  \xc2        ", // ExpressionAfterO
+    *b"                                        \xc2                               \xc2\xc2  \xcf  \xc3\xc2      ", // ExpressionAfterP
+    *b"                                                                                 \xd1     ", // ExpressionAfterQ
+    *b"                                         \xc2   \xd3 \xc2               \xbd         \xc2   \xd2 \xc2       ", // ExpressionAfterR
+    *b"                                                      \xd5        \xbd            \xd4 \xd6\xc2\xc4    \xd7\xc3", // ExpressionAfterS
+    *b"                                                                 \xc3   \xc4  \xd8     \xd9    \xc3   ", // ExpressionAfterT
+    *b"                                                             \xee                         ", // Expressions
     *b"                                                           !                           ", // MaybeBefore
-    *b"                                                             \x90 \x92\x8f\x96 \x9a \x99  \xec\x93\x8e\x95\x91 \x94\x98       ", // FoldOperator
+    *b"                                                             \x90 \x92\x8f\x96 \x9a \x99  \xef\x93\x8e\x95\x91 \x94\x98       ", // FoldOperator
     *b"                                               !                 !             !!      ", // FoldOperatorAfterL
-    *b"            \xed\xed\xed\xed\xed\xed\xed\xed\xed\xed                                       \x00 \x00\x00\x00 \x00 \x00  \x00\x00\x00\x00\x00 \x00\x00       ", // AfterOuter
+    *b"            \xf0\xf0\xf0\xf0\xf0\xf0\xf0\xf0\xf0\xf0                                       \x00 \x00\x00\x00 \x00 \x00  \x00\x00\x00\x00\x00 \x00\x00       ", // AfterOuter
     *b"                                                             \x01 \x01\x01\x01 \x01 \x01  \x01\x01\x01\x01\x01 \x01\x01       ", // FoldSigns
     *b"                                                             \x02 \x02\x02\x02 \x02 \x02  \x02\x02\x02\x02\x02 \x02\x02       ", // FoldSign
     *b"                                                             \x03                         ", // FoldValue
@@ -535,36 +541,36 @@ static LETTERS: [[u8; 87]; 181] = [
     *b"                                      \xb1                      \x05                         ", // ValuePack
     *b"            \x06\x06\x06\x06\x06\x06\x06\x06\x06\x06       \x06 \x06\x06 \x06   \xb1\x06 \x06\x06\x06\x06 \x06\x06\x06\x06\x06   \x06      \x06\x06\x06\x06\x06\x06\x06\x06\x06\x06 \x06\x06\x06\x06  \x06\x06\x06\x06\x06\x06\x06\x06\x06", // TypePack
     *b"            \x08\x08\x08\x08\x08\x08\x08\x08\x08\x08                  \x08       \x08            \x08 \x08\x07\x08\x08\x08 \x08  \x08\x08\x08\x08\x08\x08\x08\x08\x08      ", // DesignatedValue
-    *b"                                                                     \xc4              \xc5  ", // DesignatorAfterD
-    *b"            \xbc\xbc\xbc\xbc\xbc\xbc\xbc\xbc\xbc\xbc                  \xb0       \xe7            \xd7 \xd8 \xda\xdb\xdc \xdd  \xde\xdf\xe0\xe1\xe2\xe3\xe4\xe5\xe6      ", // PlainValue
+    *b"                                                                     \xc7              \xc8  ", // DesignatorAfterD
+    *b"            \xbf\xbf\xbf\xbf\xbf\xbf\xbf\xbf\xbf\xbf                  \xb0       \xea            \xda \xdb \xdd\xde\xdf \xe0  \xe1\xe2\xe3\xe4\xe5\xe6\xe7\xe8\xe9      ", // PlainValue
     *b"            \xa0\xa0\xa0\xa0\xa0\xa0\xa0\xa0\xa0\xa0                                                                 ", // FieldName
     *b"                                                           ! \x09                         ", // Placement
-    *b"                                                             \xeb                         ", // SomeExpressions
+    *b"                                                             \xee                         ", // SomeExpressions
     *b"                                 {                                   \x0b      \x0a          ", // Initializer
-    *b"                                                                     \xcb                 ", // InitializerAfterP
-    *b"                                                                        \xcb              ", // InitializerAfterI
-    *b"                                                                            \xbd          ", // OuterRest
+    *b"                                                                     \xce                 ", // InitializerAfterP
+    *b"                                                                        \xce              ", // InitializerAfterI
+    *b"                                                                            \xc0          ", // OuterRest
     *b"            \x0d\x0d\x0d\x0d\x0d\x0d\x0d\x0d\x0d\x0d                          \x0c          \x0d                           ", // ParameterNumber
     *b"            \x12\x12\x12\x12\x12\x12\x12\x12\x12\x12          \x0e \x12    \x0f  \x12\x11\x10 \x11\x12\x12\x12           \x12\x12\x12\x12\x12\x12\x12\x12\x12\x12 \x12\x12\x12\x12   \x12\x12 \x12\x12\x12\x12\x12", // ConvertedType
     *b"            $$$$$$$$$$            r       S    m\x13#           oooooooooo oooo   oo ooooo", // ConvertedSolid
     *b"            \xae\xae\xae\xae\xae\xae\xae\xae\xae\xae                  \xaf                  \xae                           ", // ParameterAfterT
     *b"                                                i                               i      ", // DecltypeAfterD
     *b"                                                i            e e                i      ", // ConvertedAfterD
-    *b"            \xbc\xbc\xbc\xbc\xbc\xbc\xbc\xbc\xbc\xbc                  \xb0       \xe7          \xcb \xd7 \xd8\xd9\xda\xdb\xdc \xdd  \xde\xdf\xe0\xe1\xe2\xe3\xe4\xe5\xe6      ", // ConvertRest
+    *b"            \xbf\xbf\xbf\xbf\xbf\xbf\xbf\xbf\xbf\xbf                  \xb0       \xea          \xce \xda \xdb\xdc\xdd\xde\xdf \xe0  \xe1\xe2\xe3\xe4\xe5\xe6\xe7\xe8\xe9      ", // ConvertRest
     *b"            \x15\x15\x15\x15\x15\x15\x15\x15\x15\x15          \x14         \x14    \x14\x14                                      ", // Unresolved
     *b"                                \x0e         S    m\x13                                      ", // UnresolvedType
-    *b"            \xbc\xbc\xbc\xbc\xbc\xbc\xbc\xbc\xbc\xbc          \x16         \x16    \x16\x16                                      ", // DestructorName
+    *b"            \xbf\xbf\xbf\xbf\xbf\xbf\xbf\xbf\xbf\xbf          \x16         \x16    \x16\x16                                      ", // DestructorName
     *b"                                             \x19  \x18   \x17                                  ", // Requirements
     *b"                                          !                                            ", // MaybeNoexcept
     *b"                                             \x19\x1a \x18   \x17                                  ", // AfterNoexcept
-    *b"            \x1b\x1b\x1b\x1b\x1b\x1b\x1b\x1b\x1b\x1b          \x1b \x1b    \x1b  \x1b\x1b\x1b \x1b\x1b\x1b\x1b         \xcf \x1b\x1b\x1b\x1b\x1b\x1b\x1b\x1b\x1b\x1b \x1b\x1b\x1b\x1b   \x1b\x1b \x1b\x1b\x1b\x1b\x1b", // RequiredTypes
-    *b"            \xbc\xbc\xbc\xbc\xbc\xbc\xbc\xbc\xbc\xbc                                                                 ", // Level
+    *b"            \x1b\x1b\x1b\x1b\x1b\x1b\x1b\x1b\x1b\x1b          \x1b \x1b    \x1b  \x1b\x1b\x1b \x1b\x1b\x1b\x1b         \xd2 \x1b\x1b\x1b\x1b\x1b\x1b\x1b\x1b\x1b\x1b \x1b\x1b\x1b\x1b   \x1b\x1b \x1b\x1b\x1b\x1b\x1b", // RequiredTypes
+    *b"            \xbf\xbf\xbf\xbf\xbf\xbf\xbf\xbf\xbf\xbf                                                                 ", // Level
     *b"            \x15\x15\x15\x15\x15\x15\x15\x15\x15\x15           \x1c                                                     ", // MoreLevels
-    *b"            \xbc\xbc\xbc\xbc\xbc\xbc\xbc\xbc\xbc\xbc                                                     \x1d           ", // UnresolvedName
-    *b"                                                                          \xbb            ", // OperatorName
+    *b"            \xbf\xbf\xbf\xbf\xbf\xbf\xbf\xbf\xbf\xbf                                                     \x1d           ", // UnresolvedName
+    *b"                                                                          \xbe            ", // OperatorName
     *b"                             \x1e                                                         ", // AnyArray
     *b"            \x1f\x1f\x1f\x1f\x1f\x1f\x1f\x1f\x1f\x1f                                     \x1f                           ", // ArrayRest
-    *b"                                        \xb0       \xe7            \xd7 \xd8\xd9\xda\xdb\xdc \xdd  \xde\xdf\xe0\xe1\xe2\xe3\xe4\xe5\xe6      ", // Bound
+    *b"                                        \xb0       \xea            \xda \xdb\xdc\xdd\xde\xdf \xe0  \xe1\xe2\xe3\xe4\xe5\xe6\xe7\xe8\xe9      ", // Bound
     *b"            IIIIIIIIII         II       I        I           I III I I  IIIII II       ", // NestMoreOrEnd
 ];
 
@@ -595,7 +601,7 @@ macro_rules! chains {
 }
 
 // The rules of the productions, in the order of their numbers.
-pub static HEADS: [Head; 264] = [
+pub static HEADS: [Head; 268] = [
     chains!(3), // 0 LeftFoldFrom
     chains!(1), // 1 FoldSigns
     chains!(1), // 2 FoldSign
@@ -774,96 +780,100 @@ pub static HEADS: [Head; 264] = [
     takes!(2), // 175 LeveledParameter
     takes!(2), // 176 OneLiteral
     takes!(2), // 177 OnePack
-    takes!(1), // 178 ValueOf
-    takes!(1), // 179 OfConcept
-    takes!(2), // 180 TemplateOf
-    takes!(2), // 181 PackOf
-    takes!(2), // 182 Declarations
-    takes!(2), // 183 NestedConcept
-    chains!(2), // 184 NamedConcept
-    takes!(2), // 185 ConceptArguments
-    takes!(2), // 186 Cast
-    takes!(2), // 187 OperatorReference
-    chains!(2), // 188 SimpleId
-    takes!(4), // 189 FunctionParameter
-    takes!(1), // 190 AddressExpression
-    takes!(2), // 191 Binary
-    takes!(1), // 192 Unary
-    takes!(1), // 193 OfType
-    takes!(3), // 194 Call
-    takes!(2), // 195 Convert
-    takes!(2), // 196 Designated
-    takes!(2), // 197 DesignatedElement
-    takes!(1), // 198 DestructorName
-    takes!(1), // 199 AfterOuter
-    takes!(3), // 200 RightFoldFrom
-    takes!(2), // 201 LeftFold
-    takes!(2), // 202 RightFold
-    takes!(2), // 203 Braces
-    takes!(2), // 204 Step
-    takes!(3), // 205 New
-    takes!(3), // 206 Conditional
-    takes!(2), // 207 Requires
-    takes!(1), // 208 RequiresOf
-    takes!(1), // 209 ExpandExpression
-    takes!(1), // 210 PackSize
-    takes!(1), // 211 Unresolved
-    takes!(2), // 212 PackIndex
-    takes!(3), // 213 TypedBraces
-    takes!(0), // 214 Rethrow
-    takes!(1), // 215 ExpressionA
-    takes!(1), // 216 ExpressionC
-    takes!(1), // 217 ExpressionD
-    takes!(1), // 218 ExpressionE
-    takes!(1), // 219 ExpressionF
-    takes!(1), // 220 ExpressionG
-    takes!(1), // 221 ExpressionI
-    takes!(1), // 222 ExpressionL
-    takes!(1), // 223 ExpressionM
-    takes!(1), // 224 ExpressionN
-    takes!(1), // 225 ExpressionO
-    takes!(1), // 226 ExpressionP
-    takes!(1), // 227 ExpressionQ
-    takes!(1), // 228 ExpressionR
-    takes!(1), // 229 ExpressionS
-    takes!(1), // 230 ExpressionT
-    takes!(1), // 231 ExpressionWithT
-    chains!(2), // 232 ParameterExpression
-    takes!(2), // 233 LeveledExpression
-    takes!(2), // 234 AddressedLiteral
-    chains!(2), // 235 Expressions
-    takes!(1), // 236 FoldOperatorL
-    chains!(2), // 237 OuterParameter
-    chains!(3), // 238 BoundedArray
-    chains!(2), // 239 DeclaredArgument
-    takes!(2), // 240 TypeTag
-    takes!(2), // 241 Clone
-    takes!(2), // 242 ModuleInitializer
-    takes!(2), // 243 Temporary
-    takes!(1), // 244 Conversion
-    takes!(1), // 245 ConstLiteral
-    takes!(2), // 246 VolatileLiteral
-    chains!(2), // 247 SizedFloatLiteral
-    chains!(2), // 248 FloatLiteral
-    takes!(2), // 249 Tag
-    takes!(1), // 250 Constraint
-    takes!(2), // 251 IndexedType
-    takes!(2), // 252 BitInt
-    takes!(1), // 253 ConstrainedAuto
-    takes!(2), // 254 Enumeration
-    takes!(2), // 255 DefaultTypeEntity
-    takes!(2), // 256 DefaultEntity
-    takes!(2), // 257 Inheriting
-    takes!(2), // 258 Friend
-    chains!(2), // 259 Holder
-    takes!(2), // 260 NestTag
-    takes!(2), // 261 NestDecltype
-    chains!(2), // 262 NestModule
-    takes!(4), // 263 ConstructionVtable
+    takes!(0), // 178 TypeOf
+    takes!(1), // 179 ValueOf
+    takes!(1), // 180 OfConcept
+    takes!(2), // 181 TemplateOf
+    takes!(2), // 182 PackOf
+    takes!(2), // 183 Declarations
+    takes!(1), // 184 FirstWithT
+    chains!(1), // 185 FirstParameter
+    takes!(2), // 186 NestedConcept
+    chains!(2), // 187 NamedConcept
+    takes!(2), // 188 ConceptArguments
+    takes!(2), // 189 Cast
+    takes!(2), // 190 OperatorReference
+    chains!(2), // 191 SimpleId
+    takes!(4), // 192 FunctionParameter
+    takes!(1), // 193 AddressExpression
+    takes!(2), // 194 Binary
+    takes!(1), // 195 Unary
+    takes!(1), // 196 OfType
+    takes!(3), // 197 Call
+    takes!(2), // 198 Convert
+    takes!(2), // 199 Designated
+    takes!(2), // 200 DesignatedElement
+    takes!(1), // 201 DestructorName
+    takes!(1), // 202 AfterOuter
+    takes!(3), // 203 RightFoldFrom
+    takes!(2), // 204 LeftFold
+    takes!(2), // 205 RightFold
+    takes!(2), // 206 Braces
+    takes!(2), // 207 Step
+    takes!(3), // 208 New
+    takes!(3), // 209 Conditional
+    takes!(2), // 210 Requires
+    takes!(1), // 211 RequiresOf
+    takes!(1), // 212 ExpandExpression
+    takes!(1), // 213 PackSize
+    takes!(1), // 214 Unresolved
+    takes!(2), // 215 PackIndex
+    takes!(3), // 216 TypedBraces
+    takes!(0), // 217 Rethrow
+    takes!(1), // 218 ExpressionA
+    takes!(1), // 219 ExpressionC
+    takes!(1), // 220 ExpressionD
+    takes!(1), // 221 ExpressionE
+    takes!(1), // 222 ExpressionF
+    takes!(1), // 223 ExpressionG
+    takes!(1), // 224 ExpressionI
+    takes!(1), // 225 ExpressionL
+    takes!(1), // 226 ExpressionM
+    takes!(1), // 227 ExpressionN
+    takes!(1), // 228 ExpressionO
+    takes!(1), // 229 ExpressionP
+    takes!(1), // 230 ExpressionQ
+    takes!(1), // 231 ExpressionR
+    takes!(1), // 232 ExpressionS
+    takes!(1), // 233 ExpressionT
+    takes!(1), // 234 ExpressionWithT
+    chains!(2), // 235 ParameterExpression
+    takes!(2), // 236 LeveledExpression
+    takes!(2), // 237 AddressedLiteral
+    chains!(2), // 238 Expressions
+    takes!(1), // 239 FoldOperatorL
+    chains!(2), // 240 OuterParameter
+    chains!(3), // 241 BoundedArray
+    chains!(2), // 242 DeclaredFirst
+    chains!(2), // 243 DeclaredArgument
+    takes!(2), // 244 TypeTag
+    takes!(2), // 245 Clone
+    takes!(2), // 246 ModuleInitializer
+    takes!(2), // 247 Temporary
+    takes!(1), // 248 Conversion
+    takes!(1), // 249 ConstLiteral
+    takes!(2), // 250 VolatileLiteral
+    chains!(2), // 251 SizedFloatLiteral
+    chains!(2), // 252 FloatLiteral
+    takes!(2), // 253 Tag
+    takes!(1), // 254 Constraint
+    takes!(2), // 255 IndexedType
+    takes!(2), // 256 BitInt
+    takes!(1), // 257 ConstrainedAuto
+    takes!(2), // 258 Enumeration
+    takes!(2), // 259 DefaultTypeEntity
+    takes!(2), // 260 DefaultEntity
+    takes!(2), // 261 Inheriting
+    takes!(2), // 262 Friend
+    chains!(2), // 263 Holder
+    takes!(2), // 264 NestTag
+    takes!(2), // 265 NestDecltype
+    chains!(2), // 266 NestModule
+    takes!(4), // 267 ConstructionVtable
 ];
 
 // The symbols of the rules, in the same order.
-pub static SYMBOLS: [Sym; 1590] = symbols_listed! {
+pub static SYMBOLS: [Sym; 1614] = symbols_listed! {
     [FOLD_SIGNS, FOLD_VALUE, FOLD_OPERAND, NONE, NONE], // 0 LeftFoldFrom
     [FOLD_SIGN, NONE, NONE, NONE, NONE], // 1 FoldSigns
     [FOLD_OPERATOR, NONE, NONE, NONE, NONE], // 2 FoldSign
@@ -952,7 +962,7 @@ pub static SYMBOLS: [Sym; 1590] = symbols_listed! {
     [DISCRIMINATOR_REST, NONE, NONE, NONE, NONE], // 85 Discriminator
     [NONE, NONE, NONE, NONE, NONE], // 86 OneDigit
     [DIGITS, Sym::Byte(b'_'), NONE, NONE, NONE], // 87 ManyDigits
-    [ITEM, ITEMS, Sym::Byte(b'E'), DECIMAL, NONE], // 88 Lambda
+    [FIRST_OF_LAMBDA, ITEMS, Sym::Byte(b'E'), DECIMAL, NONE], // 88 Lambda
     [DECIMAL, NONE, NONE, NONE, NONE], // 89 Unnamed
     [MAYBE_VOLATILE, MAYBE_CONST, PLAIN, NONE, NONE], // 90 RestrictType
     [MAYBE_CONST, PLAIN, NONE, NONE, NONE], // 91 VolatileType
@@ -1042,96 +1052,100 @@ pub static SYMBOLS: [Sym; 1590] = symbols_listed! {
     [DECIMAL, LEVELED_PARAMETER, NONE, NONE, NONE], // 175 LeveledParameter
     [LITERAL, Sym::Byte(b'E'), NONE, NONE, NONE], // 176 OneLiteral
     [PACK_LIST, Sym::Byte(b'E'), NONE, NONE, NONE], // 177 OnePack
-    [TYPE, NONE, NONE, NONE, NONE], // 178 ValueOf
-    [CONCEPT, NONE, NONE, NONE, NONE], // 179 OfConcept
-    [DECLARATIONS, Sym::Byte(b'E'), NONE, NONE, NONE], // 180 TemplateOf
-    [Sym::Byte(b'T'), DECLARATION_AFTER_T, NONE, NONE, NONE], // 181 PackOf
-    [DECLARATION_AFTER_T, DECLARATIONS, NONE, NONE, NONE], // 182 Declarations
-    [NEST, CONCEPT_ARGUMENTS, NONE, NONE, NONE], // 183 NestedConcept
-    [UNNESTED_NAME, HELD_ARGUMENTS, NONE, NONE, NONE], // 184 NamedConcept
-    [ARGUMENTS_FIRST, Sym::Byte(b'E'), NONE, NONE, NONE], // 185 ConceptArguments
-    [TYPE, EXPRESSION, NONE, NONE, NONE], // 186 Cast
-    [OPERATOR, ARGUMENTS_ALONE, NONE, NONE, NONE], // 187 OperatorReference
-    [NAME, ARGUMENTS_ALONE, NONE, NONE, NONE], // 188 SimpleId
-    [MAYBE_RESTRICT, MAYBE_VOLATILE, MAYBE_CONST, PARAMETER_NUMBER, NONE], // 189 FunctionParameter
-    [ADDRESSED_EXPRESSION, NONE, NONE, NONE, NONE], // 190 AddressExpression
-    [EXPRESSION, EXPRESSION, NONE, NONE, NONE], // 191 Binary
-    [EXPRESSION, NONE, NONE, NONE, NONE], // 192 Unary
-    [CONVERTED_TYPE, NONE, NONE, NONE, NONE], // 193 OfType
-    [EXPRESSION, EXPRESSIONS, Sym::Byte(b'E'), NONE, NONE], // 194 Call
-    [CONVERTED_TYPE, CONVERT_REST, NONE, NONE, NONE], // 195 Convert
-    [FIELD_NAME, DESIGNATED_VALUE, NONE, NONE, NONE], // 196 Designated
-    [EXPRESSION, DESIGNATED_VALUE, NONE, NONE, NONE], // 197 DesignatedElement
-    [DESTRUCTOR_NAME, NONE, NONE, NONE, NONE], // 198 DestructorName
-    [AFTER_OUTER, NONE, NONE, NONE, NONE], // 199 AfterOuter
-    [FOLD_SIGNS, FOLD_OPERAND, FOLD_VALUE, NONE, NONE], // 200 RightFoldFrom
-    [FOLD_OPERATOR, FOLD_OPERAND, NONE, NONE, NONE], // 201 LeftFold
-    [FOLD_OPERATOR, FOLD_OPERAND, NONE, NONE, NONE], // 202 RightFold
-    [EXPRESSIONS, Sym::Byte(b'E'), NONE, NONE, NONE], // 203 Braces
-    [MAYBE_BEFORE, EXPRESSION, NONE, NONE, NONE], // 204 Step
-    [PLACEMENT, TYPE, INITIALIZER, NONE, NONE], // 205 New
-    [EXPRESSION, EXPRESSION, EXPRESSION, NONE, NONE], // 206 Conditional
-    [REQUIREMENTS, Sym::Byte(b'E'), NONE, NONE, NONE], // 207 Requires
-    [REQUIRED_TYPES, NONE, NONE, NONE, NONE], // 208 RequiresOf
-    [EXPRESSION, NONE, NONE, NONE, NONE], // 209 ExpandExpression
-    [EXPRESSION, NONE, NONE, NONE, NONE], // 210 PackSize
-    [UNRESOLVED, NONE, NONE, NONE, NONE], // 211 Unresolved
-    [VALUE_PACK, EXPRESSION, NONE, NONE, NONE], // 212 PackIndex
-    [TYPE, EXPRESSIONS, Sym::Byte(b'E'), NONE, NONE], // 213 TypedBraces
-    [NONE, NONE, NONE, NONE, NONE], // 214 Rethrow
-    [EXPRESSION_AFTER_A, NONE, NONE, NONE, NONE], // 215 ExpressionA
-    [EXPRESSION_AFTER_C, NONE, NONE, NONE, NONE], // 216 ExpressionC
-    [EXPRESSION_AFTER_D, NONE, NONE, NONE, NONE], // 217 ExpressionD
-    [EXPRESSION_AFTER_E, NONE, NONE, NONE, NONE], // 218 ExpressionE
-    [EXPRESSION_AFTER_F, NONE, NONE, NONE, NONE], // 219 ExpressionF
-    [EXPRESSION_AFTER_G, NONE, NONE, NONE, NONE], // 220 ExpressionG
-    [EXPRESSION_AFTER_I, NONE, NONE, NONE, NONE], // 221 ExpressionI
-    [EXPRESSION_AFTER_L, NONE, NONE, NONE, NONE], // 222 ExpressionL
-    [EXPRESSION_AFTER_M, NONE, NONE, NONE, NONE], // 223 ExpressionM
-    [EXPRESSION_AFTER_N, NONE, NONE, NONE, NONE], // 224 ExpressionN
-    [EXPRESSION_AFTER_O, NONE, NONE, NONE, NONE], // 225 ExpressionO
-    [EXPRESSION_AFTER_P, NONE, NONE, NONE, NONE], // 226 ExpressionP
-    [EXPRESSION_AFTER_Q, NONE, NONE, NONE, NONE], // 227 ExpressionQ
-    [EXPRESSION_AFTER_R, NONE, NONE, NONE, NONE], // 228 ExpressionR
-    [EXPRESSION_AFTER_S, NONE, NONE, NONE, NONE], // 229 ExpressionS
-    [EXPRESSION_AFTER_T, NONE, NONE, NONE, NONE], // 230 ExpressionT
-    [EXPRESSION_PARAMETER, NONE, NONE, NONE, NONE], // 231 ExpressionWithT
-    [DECIMAL, ARGUMENTS_ALONE, NONE, NONE, NONE], // 232 ParameterExpression
-    [DECIMAL, UNLEVELED_EXPRESSION, NONE, NONE, NONE], // 233 LeveledExpression
-    [ADDRESSED_LITERAL, Sym::Byte(b'E'), NONE, NONE, NONE], // 234 AddressedLiteral
-    [EXPRESSION, EXPRESSIONS, NONE, NONE, NONE], // 235 Expressions
-    [FOLD_OPERATOR_AFTER_L, NONE, NONE, NONE, NONE], // 236 FoldOperatorL
-    [DIGITS, OUTER_REST, NONE, NONE, NONE], // 237 OuterParameter
-    [BOUND, Sym::Byte(b'_'), TYPE, NONE, NONE], // 238 BoundedArray
-    [DECLARATION_AFTER_T, ONE_ARGUMENT, NONE, NONE, NONE], // 239 DeclaredArgument
-    [NAME, MAYBE_TAGS, NONE, NONE, NONE], // 240 TypeTag
-    [CLONE_LETTER, ENCODING, NONE, NONE, NONE], // 241 Clone
-    [Sym::Byte(b'W'), FIRST_MODULE, NONE, NONE, NONE], // 242 ModuleInitializer
-    [TEMPORARY_NAME, Sym::Byte(b'_'), NONE, NONE, NONE], // 243 Temporary
-    [TYPE, NONE, NONE, NONE, NONE], // 244 Conversion
-    [LITERAL_PLAIN, NONE, NONE, NONE, NONE], // 245 ConstLiteral
-    [MAYBE_CONST, LITERAL_PLAIN, NONE, NONE, NONE], // 246 VolatileLiteral
-    [SIZED_FLOAT_TYPE, HEX_TEXT, NONE, NONE, NONE], // 247 SizedFloatLiteral
-    [FLOAT_TYPE, HEX_TEXT, NONE, NONE, NONE], // 248 FloatLiteral
-    [NAME, MAYBE_ARGUMENTS, NONE, NONE, NONE], // 249 Tag
-    [EXPRESSION, NONE, NONE, NONE, NONE], // 250 Constraint
-    [TYPE_PACK, EXPRESSION, NONE, NONE, NONE], // 251 IndexedType
-    [BIT_WIDTH, Sym::Byte(b'_'), NONE, NONE, NONE], // 252 BitInt
-    [CONCEPT, NONE, NONE, NONE, NONE], // 253 ConstrainedAuto
-    [TYPE, NAME, NONE, NONE, NONE], // 254 Enumeration
-    [DECIMAL, PLAIN_TYPE_ENTITY, NONE, NONE, NONE], // 255 DefaultTypeEntity
-    [DECIMAL, PLAIN_ENTITY, NONE, NONE, NONE], // 256 DefaultEntity
-    [INHERITED_DIGIT, BASE_CLASS, NONE, NONE, NONE], // 257 Inheriting
-    [UNQUALIFIED, MAYBE_ARGUMENTS, NONE, NONE, NONE], // 258 Friend
-    [HOLDER_MARK, HELD_COMPONENT, NONE, NONE, NONE], // 259 Holder
-    [NAME, NEST_REST, NONE, NONE, NONE], // 260 NestTag
-    [DECLTYPE_AFTER_D, NEST_REST_ALONE, NONE, NONE, NONE], // 261 NestDecltype
-    [NAME_IN_MODULE, NEST_ON, NONE, NONE, NONE], // 262 NestModule
-    [TYPE, DIGITS, Sym::Byte(b'_'), TYPE, NONE], // 263 ConstructionVtable
+    [NONE, NONE, NONE, NONE, NONE], // 178 TypeOf
+    [TYPE, NONE, NONE, NONE, NONE], // 179 ValueOf
+    [CONCEPT, NONE, NONE, NONE, NONE], // 180 OfConcept
+    [DECLARATIONS, Sym::Byte(b'E'), NONE, NONE, NONE], // 181 TemplateOf
+    [Sym::Byte(b'T'), DECLARATION_AFTER_T, NONE, NONE, NONE], // 182 PackOf
+    [DECLARATION_AFTER_T, DECLARATIONS, NONE, NONE, NONE], // 183 Declarations
+    [FIRST_AFTER_T, NONE, NONE, NONE, NONE], // 184 FirstWithT
+    [LEVELED_PARAMETER, NONE, NONE, NONE, NONE], // 185 FirstParameter
+    [NEST, CONCEPT_ARGUMENTS, NONE, NONE, NONE], // 186 NestedConcept
+    [UNNESTED_NAME, HELD_ARGUMENTS, NONE, NONE, NONE], // 187 NamedConcept
+    [ARGUMENTS_FIRST, Sym::Byte(b'E'), NONE, NONE, NONE], // 188 ConceptArguments
+    [TYPE, EXPRESSION, NONE, NONE, NONE], // 189 Cast
+    [OPERATOR, ARGUMENTS_ALONE, NONE, NONE, NONE], // 190 OperatorReference
+    [NAME, ARGUMENTS_ALONE, NONE, NONE, NONE], // 191 SimpleId
+    [MAYBE_RESTRICT, MAYBE_VOLATILE, MAYBE_CONST, PARAMETER_NUMBER, NONE], // 192 FunctionParameter
+    [ADDRESSED_EXPRESSION, NONE, NONE, NONE, NONE], // 193 AddressExpression
+    [EXPRESSION, EXPRESSION, NONE, NONE, NONE], // 194 Binary
+    [EXPRESSION, NONE, NONE, NONE, NONE], // 195 Unary
+    [CONVERTED_TYPE, NONE, NONE, NONE, NONE], // 196 OfType
+    [EXPRESSION, EXPRESSIONS, Sym::Byte(b'E'), NONE, NONE], // 197 Call
+    [CONVERTED_TYPE, CONVERT_REST, NONE, NONE, NONE], // 198 Convert
+    [FIELD_NAME, DESIGNATED_VALUE, NONE, NONE, NONE], // 199 Designated
+    [EXPRESSION, DESIGNATED_VALUE, NONE, NONE, NONE], // 200 DesignatedElement
+    [DESTRUCTOR_NAME, NONE, NONE, NONE, NONE], // 201 DestructorName
+    [AFTER_OUTER, NONE, NONE, NONE, NONE], // 202 AfterOuter
+    [FOLD_SIGNS, FOLD_OPERAND, FOLD_VALUE, NONE, NONE], // 203 RightFoldFrom
+    [FOLD_OPERATOR, FOLD_OPERAND, NONE, NONE, NONE], // 204 LeftFold
+    [FOLD_OPERATOR, FOLD_OPERAND, NONE, NONE, NONE], // 205 RightFold
+    [EXPRESSIONS, Sym::Byte(b'E'), NONE, NONE, NONE], // 206 Braces
+    [MAYBE_BEFORE, EXPRESSION, NONE, NONE, NONE], // 207 Step
+    [PLACEMENT, TYPE, INITIALIZER, NONE, NONE], // 208 New
+    [EXPRESSION, EXPRESSION, EXPRESSION, NONE, NONE], // 209 Conditional
+    [REQUIREMENTS, Sym::Byte(b'E'), NONE, NONE, NONE], // 210 Requires
+    [REQUIRED_TYPES, NONE, NONE, NONE, NONE], // 211 RequiresOf
+    [EXPRESSION, NONE, NONE, NONE, NONE], // 212 ExpandExpression
+    [EXPRESSION, NONE, NONE, NONE, NONE], // 213 PackSize
+    [UNRESOLVED, NONE, NONE, NONE, NONE], // 214 Unresolved
+    [VALUE_PACK, EXPRESSION, NONE, NONE, NONE], // 215 PackIndex
+    [TYPE, EXPRESSIONS, Sym::Byte(b'E'), NONE, NONE], // 216 TypedBraces
+    [NONE, NONE, NONE, NONE, NONE], // 217 Rethrow
+    [EXPRESSION_AFTER_A, NONE, NONE, NONE, NONE], // 218 ExpressionA
+    [EXPRESSION_AFTER_C, NONE, NONE, NONE, NONE], // 219 ExpressionC
+    [EXPRESSION_AFTER_D, NONE, NONE, NONE, NONE], // 220 ExpressionD
+    [EXPRESSION_AFTER_E, NONE, NONE, NONE, NONE], // 221 ExpressionE
+    [EXPRESSION_AFTER_F, NONE, NONE, NONE, NONE], // 222 ExpressionF
+    [EXPRESSION_AFTER_G, NONE, NONE, NONE, NONE], // 223 ExpressionG
+    [EXPRESSION_AFTER_I, NONE, NONE, NONE, NONE], // 224 ExpressionI
+    [EXPRESSION_AFTER_L, NONE, NONE, NONE, NONE], // 225 ExpressionL
+    [EXPRESSION_AFTER_M, NONE, NONE, NONE, NONE], // 226 ExpressionM
+    [EXPRESSION_AFTER_N, NONE, NONE, NONE, NONE], // 227 ExpressionN
+    [EXPRESSION_AFTER_O, NONE, NONE, NONE, NONE], // 228 ExpressionO
+    [EXPRESSION_AFTER_P, NONE, NONE, NONE, NONE], // 229 ExpressionP
+    [EXPRESSION_AFTER_Q, NONE, NONE, NONE, NONE], // 230 ExpressionQ
+    [EXPRESSION_AFTER_R, NONE, NONE, NONE, NONE], // 231 ExpressionR
+    [EXPRESSION_AFTER_S, NONE, NONE, NONE, NONE], // 232 ExpressionS
+    [EXPRESSION_AFTER_T, NONE, NONE, NONE, NONE], // 233 ExpressionT
+    [EXPRESSION_PARAMETER, NONE, NONE, NONE, NONE], // 234 ExpressionWithT
+    [DECIMAL, ARGUMENTS_ALONE, NONE, NONE, NONE], // 235 ParameterExpression
+    [DECIMAL, UNLEVELED_EXPRESSION, NONE, NONE, NONE], // 236 LeveledExpression
+    [ADDRESSED_LITERAL, Sym::Byte(b'E'), NONE, NONE, NONE], // 237 AddressedLiteral
+    [EXPRESSION, EXPRESSIONS, NONE, NONE, NONE], // 238 Expressions
+    [FOLD_OPERATOR_AFTER_L, NONE, NONE, NONE, NONE], // 239 FoldOperatorL
+    [DIGITS, OUTER_REST, NONE, NONE, NONE], // 240 OuterParameter
+    [BOUND, Sym::Byte(b'_'), TYPE, NONE, NONE], // 241 BoundedArray
+    [DECLARATION_AFTER_T, FIRST_OF_LAMBDA, NONE, NONE, NONE], // 242 DeclaredFirst
+    [DECLARATION_AFTER_T, ONE_ARGUMENT, NONE, NONE, NONE], // 243 DeclaredArgument
+    [NAME, MAYBE_TAGS, NONE, NONE, NONE], // 244 TypeTag
+    [CLONE_LETTER, ENCODING, NONE, NONE, NONE], // 245 Clone
+    [Sym::Byte(b'W'), FIRST_MODULE, NONE, NONE, NONE], // 246 ModuleInitializer
+    [TEMPORARY_NAME, Sym::Byte(b'_'), NONE, NONE, NONE], // 247 Temporary
+    [TYPE, NONE, NONE, NONE, NONE], // 248 Conversion
+    [LITERAL_PLAIN, NONE, NONE, NONE, NONE], // 249 ConstLiteral
+    [MAYBE_CONST, LITERAL_PLAIN, NONE, NONE, NONE], // 250 VolatileLiteral
+    [SIZED_FLOAT_TYPE, HEX_TEXT, NONE, NONE, NONE], // 251 SizedFloatLiteral
+    [FLOAT_TYPE, HEX_TEXT, NONE, NONE, NONE], // 252 FloatLiteral
+    [NAME, MAYBE_ARGUMENTS, NONE, NONE, NONE], // 253 Tag
+    [EXPRESSION, NONE, NONE, NONE, NONE], // 254 Constraint
+    [TYPE_PACK, EXPRESSION, NONE, NONE, NONE], // 255 IndexedType
+    [BIT_WIDTH, Sym::Byte(b'_'), NONE, NONE, NONE], // 256 BitInt
+    [CONCEPT, NONE, NONE, NONE, NONE], // 257 ConstrainedAuto
+    [TYPE, NAME, NONE, NONE, NONE], // 258 Enumeration
+    [DECIMAL, PLAIN_TYPE_ENTITY, NONE, NONE, NONE], // 259 DefaultTypeEntity
+    [DECIMAL, PLAIN_ENTITY, NONE, NONE, NONE], // 260 DefaultEntity
+    [INHERITED_DIGIT, BASE_CLASS, NONE, NONE, NONE], // 261 Inheriting
+    [UNQUALIFIED, MAYBE_ARGUMENTS, NONE, NONE, NONE], // 262 Friend
+    [HOLDER_MARK, HELD_COMPONENT, NONE, NONE, NONE], // 263 Holder
+    [NAME, NEST_REST, NONE, NONE, NONE], // 264 NestTag
+    [DECLTYPE_AFTER_D, NEST_REST_ALONE, NONE, NONE, NONE], // 265 NestDecltype
+    [NAME_IN_MODULE, NEST_ON, NONE, NONE, NONE], // 266 NestModule
+    [TYPE, DIGITS, Sym::Byte(b'_'), TYPE, NONE], // 267 ConstructionVtable
 };
 
 // How many symbols follow each of them, up to an end.
-static AFTER: [u8; 1590] = [
+static AFTER: [u8; 1614] = [
     0, 0, 0, 0, 0, 3, 2, 1, 0, 0, 0, 1, 0, 0, 0, 0, 0, 1, 0, 0, 0, 0, 0, 1, 0, 0, 0, 0, 0, 1, 0, 0,
     0, 0, 0, 1, 0, 0, 0, 0, 0, 1, 0, 0, 0, 0, 0, 1, 0, 0, 0, 0, 0, 1, 0, 0, 0, 0, 0, 2, 1, 0, 0, 0,
     0, 1, 0, 0, 0, 0, 0, 1, 0, 0, 0, 0, 0, 0, 0, 0, 0, 0, 0, 1, 0, 0, 0, 0, 0, 1, 0, 0, 0, 0, 0, 1,
@@ -1165,30 +1179,31 @@ static AFTER: [u8; 1590] = [
     2, 1, 0, 0, 0, 1, 0, 0, 0, 0, 0, 2, 1, 0, 0, 0, 0, 2, 1, 0, 0, 0, 0, 2, 1, 0, 0, 0, 0, 2, 1, 0,
     0, 0, 0, 2, 1, 0, 0, 0, 0, 1, 0, 0, 0, 0, 0, 2, 1, 0, 0, 0, 0, 3, 2, 1, 0, 0, 0, 3, 2, 1, 0, 0,
     0, 2, 1, 0, 0, 0, 0, 2, 1, 0, 0, 0, 0, 1, 0, 0, 0, 0, 0, 1, 0, 0, 0, 0, 0, 2, 1, 0, 0, 0, 0, 2,
-    1, 0, 0, 0, 0, 2, 1, 0, 0, 0, 0, 2, 1, 0, 0, 0, 0, 1, 0, 0, 0, 0, 0, 1, 0, 0, 0, 0, 0, 2, 1, 0,
-    0, 0, 0, 2, 1, 0, 0, 0, 0, 2, 1, 0, 0, 0, 0, 2, 1, 0, 0, 0, 0, 2, 1, 0, 0, 0, 0, 2, 1, 0, 0, 0,
-    0, 2, 1, 0, 0, 0, 0, 2, 1, 0, 0, 0, 0, 2, 1, 0, 0, 0, 0, 4, 3, 2, 1, 0, 0, 1, 0, 0, 0, 0, 0, 2,
-    1, 0, 0, 0, 0, 1, 0, 0, 0, 0, 0, 1, 0, 0, 0, 0, 0, 3, 2, 1, 0, 0, 0, 2, 1, 0, 0, 0, 0, 2, 1, 0,
-    0, 0, 0, 2, 1, 0, 0, 0, 0, 1, 0, 0, 0, 0, 0, 1, 0, 0, 0, 0, 0, 3, 2, 1, 0, 0, 0, 2, 1, 0, 0, 0,
-    0, 2, 1, 0, 0, 0, 0, 2, 1, 0, 0, 0, 0, 2, 1, 0, 0, 0, 0, 3, 2, 1, 0, 0, 0, 3, 2, 1, 0, 0, 0, 2,
-    1, 0, 0, 0, 0, 1, 0, 0, 0, 0, 0, 1, 0, 0, 0, 0, 0, 1, 0, 0, 0, 0, 0, 1, 0, 0, 0, 0, 0, 2, 1, 0,
-    0, 0, 0, 3, 2, 1, 0, 0, 0, 0, 0, 0, 0, 0, 0, 1, 0, 0, 0, 0, 0, 1, 0, 0, 0, 0, 0, 1, 0, 0, 0, 0,
+    1, 0, 0, 0, 0, 2, 1, 0, 0, 0, 0, 2, 1, 0, 0, 0, 0, 0, 0, 0, 0, 0, 0, 1, 0, 0, 0, 0, 0, 1, 0, 0,
+    0, 0, 0, 2, 1, 0, 0, 0, 0, 2, 1, 0, 0, 0, 0, 2, 1, 0, 0, 0, 0, 1, 0, 0, 0, 0, 0, 1, 0, 0, 0, 0,
+    0, 2, 1, 0, 0, 0, 0, 2, 1, 0, 0, 0, 0, 2, 1, 0, 0, 0, 0, 2, 1, 0, 0, 0, 0, 2, 1, 0, 0, 0, 0, 2,
+    1, 0, 0, 0, 0, 4, 3, 2, 1, 0, 0, 1, 0, 0, 0, 0, 0, 2, 1, 0, 0, 0, 0, 1, 0, 0, 0, 0, 0, 1, 0, 0,
+    0, 0, 0, 3, 2, 1, 0, 0, 0, 2, 1, 0, 0, 0, 0, 2, 1, 0, 0, 0, 0, 2, 1, 0, 0, 0, 0, 1, 0, 0, 0, 0,
+    0, 1, 0, 0, 0, 0, 0, 3, 2, 1, 0, 0, 0, 2, 1, 0, 0, 0, 0, 2, 1, 0, 0, 0, 0, 2, 1, 0, 0, 0, 0, 2,
+    1, 0, 0, 0, 0, 3, 2, 1, 0, 0, 0, 3, 2, 1, 0, 0, 0, 2, 1, 0, 0, 0, 0, 1, 0, 0, 0, 0, 0, 1, 0, 0,
+    0, 0, 0, 1, 0, 0, 0, 0, 0, 1, 0, 0, 0, 0, 0, 2, 1, 0, 0, 0, 0, 3, 2, 1, 0, 0, 0, 0, 0, 0, 0, 0,
     0, 1, 0, 0, 0, 0, 0, 1, 0, 0, 0, 0, 0, 1, 0, 0, 0, 0, 0, 1, 0, 0, 0, 0, 0, 1, 0, 0, 0, 0, 0, 1,
     0, 0, 0, 0, 0, 1, 0, 0, 0, 0, 0, 1, 0, 0, 0, 0, 0, 1, 0, 0, 0, 0, 0, 1, 0, 0, 0, 0, 0, 1, 0, 0,
-    0, 0, 0, 1, 0, 0, 0, 0, 0, 1, 0, 0, 0, 0, 0, 1, 0, 0, 0, 0, 0, 2, 1, 0, 0, 0, 0, 2, 1, 0, 0, 0,
-    0, 2, 1, 0, 0, 0, 0, 2, 1, 0, 0, 0, 0, 1, 0, 0, 0, 0, 0, 2, 1, 0, 0, 0, 0, 3, 2, 1, 0, 0, 0, 2,
-    1, 0, 0, 0, 0, 2, 1, 0, 0, 0, 0, 2, 1, 0, 0, 0, 0, 2, 1, 0, 0, 0, 0, 2, 1, 0, 0, 0, 0, 1, 0, 0,
-    0, 0, 0, 1, 0, 0, 0, 0, 0, 2, 1, 0, 0, 0, 0, 2, 1, 0, 0, 0, 0, 2, 1, 0, 0, 0, 0, 2, 1, 0, 0, 0,
-    0, 1, 0, 0, 0, 0, 0, 2, 1, 0, 0, 0, 0, 2, 1, 0, 0, 0, 0, 1, 0, 0, 0, 0, 0, 2, 1, 0, 0, 0, 0, 2,
-    1, 0, 0, 0, 0, 2, 1, 0, 0, 0, 0, 2, 1, 0, 0, 0, 0, 2, 1, 0, 0, 0, 0, 2, 1, 0, 0, 0, 0, 2, 1, 0,
-    0, 0, 0, 2, 1, 0, 0, 0, 0, 2, 1, 0, 0, 0, 0, 4, 3, 2, 1, 0, 0, 0,
+    0, 0, 0, 1, 0, 0, 0, 0, 0, 1, 0, 0, 0, 0, 0, 1, 0, 0, 0, 0, 0, 1, 0, 0, 0, 0, 0, 1, 0, 0, 0, 0,
+    0, 1, 0, 0, 0, 0, 0, 2, 1, 0, 0, 0, 0, 2, 1, 0, 0, 0, 0, 2, 1, 0, 0, 0, 0, 2, 1, 0, 0, 0, 0, 1,
+    0, 0, 0, 0, 0, 2, 1, 0, 0, 0, 0, 3, 2, 1, 0, 0, 0, 2, 1, 0, 0, 0, 0, 2, 1, 0, 0, 0, 0, 2, 1, 0,
+    0, 0, 0, 2, 1, 0, 0, 0, 0, 2, 1, 0, 0, 0, 0, 2, 1, 0, 0, 0, 0, 1, 0, 0, 0, 0, 0, 1, 0, 0, 0, 0,
+    0, 2, 1, 0, 0, 0, 0, 2, 1, 0, 0, 0, 0, 2, 1, 0, 0, 0, 0, 2, 1, 0, 0, 0, 0, 1, 0, 0, 0, 0, 0, 2,
+    1, 0, 0, 0, 0, 2, 1, 0, 0, 0, 0, 1, 0, 0, 0, 0, 0, 2, 1, 0, 0, 0, 0, 2, 1, 0, 0, 0, 0, 2, 1, 0,
+    0, 0, 0, 2, 1, 0, 0, 0, 0, 2, 1, 0, 0, 0, 0, 2, 1, 0, 0, 0, 0, 2, 1, 0, 0, 0, 0, 2, 1, 0, 0, 0,
+    0, 2, 1, 0, 0, 0, 0, 4, 3, 2, 1, 0, 0, 0,
 ];
 
 /// The number of the rule that a kind takes at a byte, if it takes one.
 #[inline]
 fn number(kind: u16, byte: u8) -> Option<usize>
     requires { kind < abi.kinds }
-    ensures few { IfSome result (λ number. number < 264) }
+    ensures few { IfSome result (λ number. number < 268) }
     ensures rule { (head : Head) → MatchOption result (abi.rule kind byte ≡ None) (λ number. abi.rule kind byte ≡ Some (listed_rule head number)) }
 {
     let row = &LETTERS[kind as usize];

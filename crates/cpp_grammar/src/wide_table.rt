@@ -21,14 +21,14 @@ macro_rules! rows {
 }
 
 // For each kind a row: for each byte from `$` to `z` the letter of the production that the kind takes there.
-static WIDE_ROWS: [Row; 181] = rows! {
+static WIDE_ROWS: [Row; 183] = rows! {
     // $%&'()*+,-./0123456789:;<=>?@ABCDEFGHIJKLMNOPQRSTUVWXYZ[\]^_`abcdefghijklmnopqrstuvwxyz
     [0, b"                                                           -                           "], // Symbol
     [0, b"          .                                                                            "], // MaybeSuffix
     [0, b"/         / //////////       //////////////////////////    / //////////////////////////"], // SuffixFirst
     [0, b"/         / //////////       //////////////////////////    / //////////////////////////"], // SuffixMore
     [0, b"            2222222222          2  1    2 2    202 2  2      2 222 2 2  22222 22       "], // Encoding
-    [8, b"                             \x18 \xff    /+         ++ +/           .    ,             -    "], // Special
+    [12, b"                             \x14 \xff    +'         '' '+           *    (             )    "], // Special
     [0, b"                                                                    8             9    "], // CallOffset
     [0, b"            ;;;;;;;;;;                                                    :            "], // Integer
     [0, b"            $$$$$$$$$$          &       \" ,    < # *  =      % %%% % %  %%%%% %%       "], // CompleteName
@@ -38,27 +38,27 @@ static WIDE_ROWS: [Row; 181] = rows! {
     [0, b"                                    !      !  !                                        "], // MaybeRef
     [0, b"            ??????????       ??????????????????????????    ? ?? ?    ?     ?   ?>      "], // NameAfterS
     [0, b"            ))))))))))                  '        (           @ @@@ @ @  @@@@@ @@       "], // Unqualified
-    [7, b"            >>>>>>>>>>          \xfe       <      :;= \xff                                   "], // Nest
+    [11, b"            ::::::::::          \xfe       8      679 \xff                                   "], // Nest
     [0, b"            GGGGGGGGGG       GGGGGGGGGGGGGGGGGGGGGGGGGG    G GG G    G     G   GF      "], // NestAfterS
-    [5, b"            DDDDDDDDDD        \xffDD D  C  DD     D D D         D DDD D D  DDDDD DD       "], // NestRest
+    [9, b"            @@@@@@@@@@        \xff@@ @  ?  @@     @ @ @         @ @@@ @ @  @@@@@ @@       "], // NestRest
     [0, b"            IIIIIIIIII         IIJI     II     I I I         I III I I  IIIII II       "], // NestTail
-    [5, b"            \x1f\x1f\x1f\x1f\x1f\x1f\x1f\x1f\x1f\x1f         FG \xfd     \x1d\xfe     & \x1e %         I HII I I  IIIII II       "], // Component
-    [2, b"             MMMMM                   \xff                                                 "], // ConstructorAfterC
+    [8, b"            \x1c\x1c\x1c\x1c\x1c\x1c\x1c\x1c\x1c\x1c         CD \xfe     \x1a\xff     # \x1b \"         F EFF F F  FFFFF FF       "], // Component
+    [6, b"             IIIII                   \xff                                                 "], // ConstructorAfterC
     [0, b"             !!!!!                                                                     "], // ConstructorDigit
     [0, b"             !! !!                                                                     "], // InheritedDigit
     [0, b"            !!! !!             P                                                       "], // ComponentAfterD
     [0, b"            RRRRRRRRRR       RRRRRRRRRRRRRRRRRRRRRRRRRR    R QQ Q    Q     Q   Q       "], // Abbreviation
-    [1, b"            ##########          %       ! +      \"              \xff              S       "], // Entity
-    [0, b"            $$$$$$$$$$                  \" S      #              \xff                      "], // TypeEntity
+    [5, b"            \x1f\x1f\x1f\x1f\x1f\x1f\x1f\x1f\x1f\x1f          !       \x1d '      \x1e              \xff              O       "], // Entity
+    [5, b"            \x1f\x1f\x1f\x1f\x1f\x1f\x1f\x1f\x1f\x1f                  \x1d N      \x1e              \xfe                      "], // TypeEntity
     [0, b"                                                           U                           "], // MaybeDiscriminator
     [0, b"            VVVVVVVVVV                                     W                           "], // DiscriminatorRest
-    [0, b"                                                                 \xfe      X       Y      "], // Anonymous
+    [3, b"                                                                 \xff      U       V      "], // Anonymous
     [0, b"            ^^^^^^^^^^       ^ ^_ ^    \\ ^^]^ ]^^^[^  ^      ^^^^^^^^^^ ^^^^  Z^^^^^^^^"], // Type
     [0, b"            aaaaaaaaaa       a a` a      aa]a ]aaa a  a      aaaaaaaaaa aaaa   aaaaaaaa"], // Plain
     [0, b"            ^^^^^^^^^^       ^ ^b ^    \\ ^^]^ ]^^^[^  ^      ^^^^^^^^^^ ^^^^  Z^^^^^^^^"], // Item
     [0, b"            ^^^^^^^^^^       ^ ^b ^    \\ ^^ ^  ^^^[^  ^      ^^^^^^^^^^ ^^^^  Z^^^^^^^^"], // ItemButRef
     [0, b"                              d   d    d        dd           d dddd dd d  ddc  dddd  d "], // ItemAfterD
-    [0, b"                              \xfc   h    \xfd        i\xfc           e eeee ee \xfd  eg   eief  \xfb "], // AfterD
+    [2, b"                              \xfe   f    \xff        g\xfe           c cccc cc \xff  ce   cgcd  \xfd "], // AfterD
     [0, b"            $$$$$$$$$$       q s  r      kS j  ml# *  n      oooooooooo oooo   oopooooo"], // Solid
     [0, b"                                                     !                                 "], // MaybeCLinkage
     [0, b"            tttttttttt                                                                 "], // BitWidth
@@ -67,21 +67,21 @@ static WIDE_ROWS: [Row; 181] = rows! {
     [0, b"            zzzzzzzzzz       z zzwz    z zzyz xzzzzz  z      zzzzzzzzzz zzzz  zzzzzzzzz"], // FunctionRest
     [0, b"            ||||||||||       | ||{|    | |||| ||||||  |      |||||||||| ||||  |||||||||"], // AfterR
     [0, b"            }}}}}}}}}}       } }}{}    } }}}} }}}}}}  }      }}}}}}}}}} }}}}  }}}}}}}}}"], // AfterO
-    [0, b"            ~~~~~~~~~~       ~ ~~ ~    ~ ~~~~\xfa~~~~~~  ~      ~~~~~~~~~~ ~~~~  ~~~~~~~~~"], // Items
-    [0, b"                              \xf9      \x7f                                                 "], // MaybeArguments
+    [0, b"            ~~~~~~~~~~       ~ ~~ ~    ~ ~~~~\xfe~~~~~~  ~      ~~~~~~~~~~ ~~~~  ~~~~~~~~~"], // Items
+    [0, b"                              \xfd      \x7f                                                 "], // MaybeArguments
     [0, b"                                     \x7f                                                 "], // Arguments
-    [0, b"            \x82\x82\x82\x82\x82\x82\x82\x82\x82\x82       \x82 \x82\x82 \x82   \x80\x82\x81\x82\x82\x82\x82\xfa\x82\x82\x82\x82\x82\x82\x82 \x82      \x82\x82\x82\x82\x82\x82\x82\x82\x82\x82 \x82\x82\x82\x82  \x82\x82\x82\x82\x82\x82\x82\x82\x82"], // ArgumentList
+    [0, b"            \x82\x82\x82\x82\x82\x82\x82\x82\x82\x82       \x82 \x82\x82 \x82   \x80\x82\x81\x82\x82\x82\x82\xfe\x82\x82\x82\x82\x82\x82\x82 \x82      \x82\x82\x82\x82\x82\x82\x82\x82\x82\x82 \x82\x82\x82\x82  \x82\x82\x82\x82\x82\x82\x82\x82\x82"], // ArgumentList
     [0, b"            \x84\x84\x84\x84\x84\x84\x84\x84\x84\x84       \x84 \x84\x84 \x84    \x84\x83\x84\x84\x84\x84 \x84\x84\x84\x84\x84\x84\x84 \x84      \x84\x84\x84\x84\x84\x84\x84\x84\x84\x84 \x84\x84\x84\x84  \x84\x84\x84\x84\x84\x84\x84\x84\x84"], // PackList
-    [0, b"            \x88\x88\x88\x88\x88\x88\x88\x88\x88\x88          \x87      \x88 \x88\x88 \x88  \x88\x88\x88\x88\x88  \x88    \x85 \x88\x86\x88\xf8\xf8\xf8\xf8\x88\x88\x88 \x88\x88\x88\x88   \x88\x88  \x88\x88\x88 "], // Literal
+    [0, b"            \x88\x88\x88\x88\x88\x88\x88\x88\x88\x88          \x87      \x88 \x88\x88 \x88  \x88\x88\x88\x88\x88  \x88    \x85 \x88\x86\x88\xfc\xfc\xfc\xfc\x88\x88\x88 \x88\x88\x88\x88   \x88\x88  \x88\x88\x88 "], // Literal
     [0, b"            !!                                                                         "], // Bit
-    [0, b"                                  \xf7                                  \x8a    \x89    \x8a \x8a     "], // LiteralAfterD
+    [0, b"                                  \xfb                                  \x8a    \x89    \x8a \x8a     "], // LiteralAfterD
     [0, b"                                                                oooo                   "], // FloatType
     [0, b"                                  h                                                    "], // SizedFloatType
     [0, b"            \x8b\x8b\x8b\x8b\x8b\x8b\x8b\x8b\x8b\x8b                                       \x8b\x8b\x8b\x8b\x8b\x8b                    "], // HexText
     [0, b"            \x8c\x8c\x8c\x8c\x8c\x8c\x8c\x8c\x8c\x8c                                       \x8c\x8c\x8c\x8c\x8c\x8c                    "], // HexDigits
     [0, b"            \x8c\x8c\x8c\x8c\x8c\x8c\x8c\x8c\x8c\x8c                                       \x8c\x8c\x8c\x8c\x8c\x8c                    "], // HexMore
     [0, b"            !                                                                          "], // MaybeZero
-    [0, b"            $$$$$$$$$$                 \xf5 kS j  ml#\xf6*  n      o o    ooo oooo   oo  ooo "], // LiteralType
+    [0, b"            $$$$$$$$$$                 \xf9 kS j  ml#\xfa*  n      o o    ooo oooo   oo  ooo "], // LiteralType
     [0, b"            \x8d\x8d\x8d\x8d\x8d\x8d\x8d\x8d\x8d\x8d                   \x8d\x8d \x8d  \x8d\x8d\x8d \x8d  \x8d      \x8d \x8d    \x8d\x8d\x8d \x8d\x8d\x8d\x8d   \x8d\x8d  \x8d\x8d\x8d "], // LiteralPlain
     [0, b"            $$$$$$$$$$                   kS j  ml# *  n      o o    ooo oooo   oo  ooo "], // LiteralSolid
     [0, b"                                                             \x90 \x92\x8f\x96 \x9a \x99  \x97\x93\x8e\x95\x91 \x94\x98       "], // Operator
@@ -115,56 +115,58 @@ static WIDE_ROWS: [Row; 181] = rows! {
     [0, b"            \xa1\xa1\xa1\xa1\xa1\xa1\xa1\xa1\xa1\xa1                  \xa1                                              "], // MoreNames
     [0, b"            \xa0\xa0\xa0\xa0\xa0\xa0\xa0\xa0\xa0\xa0                  p                                              "], // BoundName
     [0, b"                                                           !  !                     !  "], // FloatEnd
-    [0, b"                                                                        \xa2\xa2 \xa2      \xf4    "], // ComponentAfterC
+    [0, b"                                                                        \xa2\xa2 \xa2      \xf8    "], // ComponentAfterC
     [0, b"                                                             \x90  \x8f\x96 \x9a \x99  \x97\x93\x8e\x95\x91 \x94\x98       "], // OtherOperator
     [0, b"                                     \xa3                                                 "], // HeldArguments
     [0, b"            \xa5\xa5\xa5\xa5\xa5\xa5\xa5\xa5\xa5\xa5                    \xa4    \xa5      n                                "], // BaseClass
     [0, b"            \xa7\xa7\xa7\xa7\xa7\xa7\xa7\xa7\xa7\xa7                         \xa6                                       "], // UnnestedName
     [0, b"                                     \xa8                                                 "], // BaseArguments
-    [0, b"            \x82\x82\x82\x82\x82\x82\x82\x82\x82\x82       \x82 \x82\x82 \x82  \x80\x80\x82\x81\x82\x82\x82\x82\xfa\x82\x82\x82\x82\x82\x82\x82 \x82      \x82\x82\x82\x82\x82\x82\x82\x82\x82\x82 \x82\x82\x82\x82  \x82\x82\x82\x82\x82\x82\x82\x82\x82"], // ArgumentsFirst
+    [0, b"            \x82\x82\x82\x82\x82\x82\x82\x82\x82\x82       \x82 \x82\x82 \x82  \x80\x80\x82\x81\x82\x82\x82\x82\xfe\x82\x82\x82\x82\x82\x82\x82 \x82      \x82\x82\x82\x82\x82\x82\x82\x82\x82\x82 \x82\x82\x82\x82  \x82\x82\x82\x82\x82\x82\x82\x82\x82"], // ArgumentsFirst
     [0, b"            $$$$$$$$$$          &       \" ,      #                                     "], // PlainEntity
     [0, b"            $$$$$$$$$$                  \" S      #                                     "], // PlainTypeEntity
     [0, b"                                   !                                                   "], // SpecialMark
-    [0, b"                                     \xf2        \xf3 \xf1 7                                    "], // SpecialAfterG
+    [0, b"                                     \xf6        \xf7 \xf5 7                                    "], // SpecialAfterG
     [0, b"            $$$$$$$$$$          &       \" ,    < #    \xa9                                "], // TemporaryName
     [0, b"                                                                          !     !      "], // CloneLetter
     [0, b"                                                                                \xaa      "], // TypeInStd
-    [0, b"                              \xf0                                                        "], // MaybeTags
+    [0, b"                              \xf4                                                        "], // MaybeTags
     [0, b"            \xad\xad\xad\xad\xad\xad\xad\xad\xad\xad       \xad \xadb \xad    \\ \xad\xad]\xad ]\xad\xac\xad[\xad\xab \xad      \xad\xad\xad\xad\xad\xad\xad\xad\xad\xad \xad\xad\xad\xad  Z\xad\xad\xad\xad\xad\xad\xad\xad"], // Argument
-    [0, b"            \xae\xae\xae\xae\xae\xae\xae\xae\xae\xae                  \xaf                  \xae           \xef  \xef \xef   \xef    \xef "], // ArgumentAfterT
+    [0, b"            \xae\xae\xae\xae\xae\xae\xae\xae\xae\xae                  \xaf                  \xae           \xf3  \xf3 \xf3   \xf3    \xf3 "], // ArgumentAfterT
     [0, b"            \xae\xae\xae\xae\xae\xae\xae\xae\xae\xae                                     \xae                           "], // LeveledParameter
     [0, b"            \xad\xad\xad\xad\xad\xad\xad\xad\xad\xad       \xad \xadb \xad   \xb1\\\xb0\xad\xad]\xad ]\xad\xac\xad[\xad\xab \xad      \xad\xad\xad\xad\xad\xad\xad\xad\xad\xad \xad\xad\xad\xad  Z\xad\xad\xad\xad\xad\xad\xad\xad"], // OneArgument
-    [0, b"                                                                       \xb3  \xb2 \xb5   \xb4    ! "], // DeclarationAfterT
-    [0, b"                                                \xb6                                      "], // Declarations
-    [0, b"            \xb8\xb8\xb8\xb8\xb8\xb8\xb8\xb8\xb8\xb8                    \xb7    \xb8                                       "], // Concept
-    [0, b"                                     \xb9                                                 "], // ConceptArguments
+    [0, b"                                                                       \xb4  \xb3 \xb6   \xb5    \xb2 "], // DeclarationAfterT
+    [0, b"                                                \xb7                                      "], // Declarations
+    [0, b"            \xad\xad\xad\xad\xad\xad\xad\xad\xad\xad       \xad \xadb \xad    \\ \xad\xad]\xad ]\xad\xb8\xad[\xad  \xad      \xad\xad\xad\xad\xad\xad\xad\xad\xad\xad \xad\xad\xad\xad  Z\xad\xad\xad\xad\xad\xad\xad\xad"], // FirstOfLambda
+    [0, b"            \xb9\xb9\xb9\xb9\xb9\xb9\xb9\xb9\xb9\xb9                                     \xb9           \xf2  \xf2 \xf2   \xf2    \xf2 "], // FirstAfterT
+    [0, b"            \xbb\xbb\xbb\xbb\xbb\xbb\xbb\xbb\xbb\xbb                    \xba    \xbb                                       "], // Concept
+    [0, b"                                     \xbc                                                 "], // ConceptArguments
     [0, b"            $$$$$$$$$$       q s  r      kS j  m # *  n      oooooooooo oooo   oopooooo"], // SolidButT
-    [0, b"            \xbc\xbc\xbc\xbc\xbc\xbc\xbc\xbc\xbc\xbc                  \xb0       \xe7            \xd7 \xd8\xd9\xda\xdb\xdc \xdd  \xde\xdf\xe0\xe1\xe2\xe3\xe4\xe5\xe6      "], // Expression
-    [0, b"            \xe8\xe8\xe8\xe8\xe8\xe8\xe8\xe8\xe8\xe8                  \xe9                  \xe8                           "], // ExpressionParameter
-    [0, b"            \xe8\xe8\xe8\xe8\xe8\xe8\xe8\xe8\xe8\xe8                                     \xe8                           "], // UnleveledExpression
-    [0, b"            \xbc\xbc\xbc\xbc\xbc\xbc\xbc\xbc\xbc\xbc                  \xea       \xe7            \xd7 \xd8\xd9\xda\xdb\xdc \xdd  \xde\xdf\xe0\xe1\xe2\xe3\xe4\xe5\xe6      "], // AddressedExpression
-    [0, b"            \x88\x88\x88\x88\x88\x88\x88\x88\x88\x88          \x87      \x88 \x88\x88 \x88  \x88\x88\x88\x88\x88  \x88    \x85 \x88\x86\x88\xf8\xf8\xf8\xf8\x88\x88\x88 \x88\x88\x88\x88   \x88\x88  \x88\x88\x88 "], // AddressedLiteral
-    [0, b"                                          \xbf    \xbf             \xbf  \xbe         \xbf     \xc1  \xc0  \xc0"], // ExpressionAfterA
-    [0, b"                                                               \xba        \xc2\xbf \xc0\xc2     \xc3    "], // ExpressionAfterC
-    [0, b"                                                  \xbf          \xc0 \xba \xc0   \xc4  \xc0 \xc6    \xbf\xbf \xbf \xc5  "], // ExpressionAfterD
-    [0, b"                                           \xbf                               \xbf \xbf         "], // ExpressionAfterE
-    [0, b"                                        \xc7     \xc8                         \xc9   \xbd \xca        "], // ExpressionAfterF
-    [0, b"                                                                 \xbf             \xc0\xbf      "], // ExpressionAfterG
-    [0, b"                                                                        \xcb           \xbf  "], // ExpressionAfterI
-    [0, b"                                               \xbf                 \xbf             \xbf\xbf      "], // ExpressionAfterL
-    [0, b"                                     \xbf  \xbf                            \xbf  \xbf\xcc             "], // ExpressionAfterM
-    [0, b"                                                             \xcd   \xbf \xc0            \xc0  \xcd\xc0  "], // ExpressionAfterN
-    [0, b"                                              \xbf                           \xbb\xbf  \xbf        "], // ExpressionAfterO
-    [0, b"                                        \xbf                               \xbf\xbf  \xcc  \xc0\xbf      "], // ExpressionAfterP
-    [0, b"                                                                                 \xce     "], // ExpressionAfterQ
-    [0, b"                                         \xbf   \xd0 \xbf               \xba         \xbf   \xcf \xbf       "], // ExpressionAfterR
-    [0, b"                                                      \xd2        \xba            \xd1 \xd3\xbf\xc1    \xd4\xc0"], // ExpressionAfterS
-    [0, b"                                                                 \xc0   \xc1  \xd5     \xd6    \xc0   "], // ExpressionAfterT
-    [0, b"            \xeb\xeb\xeb\xeb\xeb\xeb\xeb\xeb\xeb\xeb                  \xeb       \xeb            \xeb \xeb\xeb\xeb\xeb\xeb \xeb  \xeb\xeb\xeb\xeb\xeb\xeb\xeb\xeb\xeb      "], // Expressions
+    [0, b"            \xbf\xbf\xbf\xbf\xbf\xbf\xbf\xbf\xbf\xbf                  \xb0       \xea            \xda \xdb\xdc\xdd\xde\xdf \xe0  \xe1\xe2\xe3\xe4\xe5\xe6\xe7\xe8\xe9      "], // Expression
+    [0, b"            \xeb\xeb\xeb\xeb\xeb\xeb\xeb\xeb\xeb\xeb                  \xec                  \xeb                           "], // ExpressionParameter
+    [0, b"            \xeb\xeb\xeb\xeb\xeb\xeb\xeb\xeb\xeb\xeb                                     \xeb                           "], // UnleveledExpression
+    [0, b"            \xbf\xbf\xbf\xbf\xbf\xbf\xbf\xbf\xbf\xbf                  \xed       \xea            \xda \xdb\xdc\xdd\xde\xdf \xe0  \xe1\xe2\xe3\xe4\xe5\xe6\xe7\xe8\xe9      "], // AddressedExpression
+    [0, b"            \x88\x88\x88\x88\x88\x88\x88\x88\x88\x88          \x87      \x88 \x88\x88 \x88  \x88\x88\x88\x88\x88  \x88    \x85 \x88\x86\x88\xfc\xfc\xfc\xfc\x88\x88\x88 \x88\x88\x88\x88   \x88\x88  \x88\x88\x88 "], // AddressedLiteral
+    [0, b"                                          \xc2    \xc2             \xc2  \xc1         \xc2     \xc4  \xc3  \xc3"], // ExpressionAfterA
+    [0, b"                                                               \xbd        \xc5\xc2 \xc3\xc5     \xc6    "], // ExpressionAfterC
+    [0, b"                                                  \xc2          \xc3 \xbd \xc3   \xc7  \xc3 \xc9    \xc2\xc2 \xc2 \xc8  "], // ExpressionAfterD
+    [0, b"                                           \xc2                               \xc2 \xc2         "], // ExpressionAfterE
+    [0, b"                                        \xca     \xcb                         \xcc   \xc0 \xcd        "], // ExpressionAfterF
+    [0, b"                                                                 \xc2             \xc3\xc2      "], // ExpressionAfterG
+    [0, b"                                                                        \xce           \xc2  "], // ExpressionAfterI
+    [0, b"                                               \xc2                 \xc2             \xc2\xc2      "], // ExpressionAfterL
+    [0, b"                                     \xc2  \xc2                            \xc2  \xc2\xcf             "], // ExpressionAfterM
+    [0, b"                                                             \xd0   \xc2 \xc3            \xc3  \xd0\xc3  "], // ExpressionAfterN
+    [0, b"                                              \xc2                           \xbe\xc2  \xc2        "], // ExpressionAfterO
+    [0, b"                                        \xc2                               \xc2\xc2  \xcf  \xc3\xc2      "], // ExpressionAfterP
+    [0, b"                                                                                 \xd1     "], // ExpressionAfterQ
+    [0, b"                                         \xc2   \xd3 \xc2               \xbd         \xc2   \xd2 \xc2       "], // ExpressionAfterR
+    [0, b"                                                      \xd5        \xbd            \xd4 \xd6\xc2\xc4    \xd7\xc3"], // ExpressionAfterS
+    [0, b"                                                                 \xc3   \xc4  \xd8     \xd9    \xc3   "], // ExpressionAfterT
+    [0, b"            \xee\xee\xee\xee\xee\xee\xee\xee\xee\xee                  \xee       \xee            \xee \xee\xee\xee\xee\xee \xee  \xee\xee\xee\xee\xee\xee\xee\xee\xee      "], // Expressions
     [0, b"                                                           !                           "], // MaybeBefore
-    [0, b"                                                             \x90 \x92\x8f\x96 \x9a \x99  \xec\x93\x8e\x95\x91 \x94\x98       "], // FoldOperator
+    [0, b"                                                             \x90 \x92\x8f\x96 \x9a \x99  \xef\x93\x8e\x95\x91 \x94\x98       "], // FoldOperator
     [0, b"                                               !                 !             !!      "], // FoldOperatorAfterL
-    [0, b"            \xed\xed\xed\xed\xed\xed\xed\xed\xed\xed                                       \x00 \x00\x00\x00 \x00 \x00  \x00\x00\x00\x00\x00 \x00\x00       "], // AfterOuter
+    [0, b"            \xf0\xf0\xf0\xf0\xf0\xf0\xf0\xf0\xf0\xf0                                       \x00 \x00\x00\x00 \x00 \x00  \x00\x00\x00\x00\x00 \x00\x00       "], // AfterOuter
     [0, b"                                                             \x01 \x01\x01\x01 \x01 \x01  \x01\x01\x01\x01\x01 \x01\x01       "], // FoldSigns
     [0, b"                                                             \x02 \x02\x02\x02 \x02 \x02  \x02\x02\x02\x02\x02 \x02\x02       "], // FoldSign
     [0, b"            \x03\x03\x03\x03\x03\x03\x03\x03\x03\x03                  \x03       \x03            \x03 \x03\x03\x03\x03\x03 \x03  \x03\x03\x03\x03\x03\x03\x03\x03\x03      "], // FoldValue
@@ -173,36 +175,36 @@ static WIDE_ROWS: [Row; 181] = rows! {
     [0, b"            \x05\x05\x05\x05\x05\x05\x05\x05\x05\x05                \xb1 \x05       \x05            \x05 \x05\x05\x05\x05\x05 \x05  \x05\x05\x05\x05\x05\x05\x05\x05\x05      "], // ValuePack
     [0, b"            \x06\x06\x06\x06\x06\x06\x06\x06\x06\x06       \x06 \x06\x06 \x06   \xb1\x06 \x06\x06\x06\x06 \x06\x06\x06\x06\x06\x06  \x06      \x06\x06\x06\x06\x06\x06\x06\x06\x06\x06 \x06\x06\x06\x06  \x06\x06\x06\x06\x06\x06\x06\x06\x06"], // TypePack
     [0, b"            \x08\x08\x08\x08\x08\x08\x08\x08\x08\x08                  \x08       \x08            \x08 \x08\x07\x08\x08\x08 \x08  \x08\x08\x08\x08\x08\x08\x08\x08\x08      "], // DesignatedValue
-    [0, b"                                                                     \xc4              \xc5  "], // DesignatorAfterD
-    [0, b"            \xbc\xbc\xbc\xbc\xbc\xbc\xbc\xbc\xbc\xbc                  \xb0       \xe7            \xd7 \xd8 \xda\xdb\xdc \xdd  \xde\xdf\xe0\xe1\xe2\xe3\xe4\xe5\xe6      "], // PlainValue
+    [0, b"                                                                     \xc7              \xc8  "], // DesignatorAfterD
+    [0, b"            \xbf\xbf\xbf\xbf\xbf\xbf\xbf\xbf\xbf\xbf                  \xb0       \xea            \xda \xdb \xdd\xde\xdf \xe0  \xe1\xe2\xe3\xe4\xe5\xe6\xe7\xe8\xe9      "], // PlainValue
     [0, b"            \xa0\xa0\xa0\xa0\xa0\xa0\xa0\xa0\xa0\xa0                                                                 "], // FieldName
     [0, b"            \x09\x09\x09\x09\x09\x09\x09\x09\x09\x09                  \x09       \x09          ! \x09 \x09\x09\x09\x09\x09 \x09  \x09\x09\x09\x09\x09\x09\x09\x09\x09      "], // Placement
-    [0, b"            \xeb\xeb\xeb\xeb\xeb\xeb\xeb\xeb\xeb\xeb                  \xeb       \xeb            \xeb \xeb\xeb\xeb\xeb\xeb \xeb  \xeb\xeb\xeb\xeb\xeb\xeb\xeb\xeb\xeb      "], // SomeExpressions
+    [0, b"            \xee\xee\xee\xee\xee\xee\xee\xee\xee\xee                  \xee       \xee            \xee \xee\xee\xee\xee\xee \xee  \xee\xee\xee\xee\xee\xee\xee\xee\xee      "], // SomeExpressions
     [0, b"                                 {                                   \x0b      \x0a          "], // Initializer
-    [0, b"                                                                     \xcb                 "], // InitializerAfterP
-    [0, b"                                                                        \xcb              "], // InitializerAfterI
-    [0, b"                                                                            \xbd          "], // OuterRest
+    [0, b"                                                                     \xce                 "], // InitializerAfterP
+    [0, b"                                                                        \xce              "], // InitializerAfterI
+    [0, b"                                                                            \xc0          "], // OuterRest
     [0, b"            \x0d\x0d\x0d\x0d\x0d\x0d\x0d\x0d\x0d\x0d                          \x0c          \x0d                           "], // ParameterNumber
     [0, b"            \x12\x12\x12\x12\x12\x12\x12\x12\x12\x12          \x0e \x12    \x0f  \x12\x11\x10 \x11\x12\x12\x12           \x12\x12\x12\x12\x12\x12\x12\x12\x12\x12 \x12\x12\x12\x12   \x12\x12 \x12\x12\x12\x12\x12"], // ConvertedType
     [0, b"            $$$$$$$$$$            r       S    m\x13#           oooooooooo oooo   oo ooooo"], // ConvertedSolid
     [0, b"            \xae\xae\xae\xae\xae\xae\xae\xae\xae\xae                  \xaf                  \xae                           "], // ParameterAfterT
     [0, b"                                                i                               i      "], // DecltypeAfterD
     [0, b"                                                i            e e                i      "], // ConvertedAfterD
-    [0, b"            \xbc\xbc\xbc\xbc\xbc\xbc\xbc\xbc\xbc\xbc                  \xb0       \xe7          \xcb \xd7 \xd8\xd9\xda\xdb\xdc \xdd  \xde\xdf\xe0\xe1\xe2\xe3\xe4\xe5\xe6      "], // ConvertRest
+    [0, b"            \xbf\xbf\xbf\xbf\xbf\xbf\xbf\xbf\xbf\xbf                  \xb0       \xea          \xce \xda \xdb\xdc\xdd\xde\xdf \xe0  \xe1\xe2\xe3\xe4\xe5\xe6\xe7\xe8\xe9      "], // ConvertRest
     [0, b"            \x15\x15\x15\x15\x15\x15\x15\x15\x15\x15          \x14         \x14    \x14\x14                                      "], // Unresolved
     [0, b"                                \x0e         S    m\x13                                      "], // UnresolvedType
-    [0, b"            \xbc\xbc\xbc\xbc\xbc\xbc\xbc\xbc\xbc\xbc          \x16         \x16    \x16\x16                                      "], // DestructorName
+    [0, b"            \xbf\xbf\xbf\xbf\xbf\xbf\xbf\xbf\xbf\xbf          \x16         \x16    \x16\x16                                      "], // DestructorName
     [0, b"                                             \x19  \x18   \x17                                  "], // Requirements
     [0, b"                                          !                                            "], // MaybeNoexcept
     [0, b"                                             \x19\x1a \x18   \x17                                  "], // AfterNoexcept
-    [0, b"            \x1b\x1b\x1b\x1b\x1b\x1b\x1b\x1b\x1b\x1b          \x1b \x1b    \x1b  \x1b\x1b\x1b \x1b\x1b\x1b\x1b         \xcf \x1b\x1b\x1b\x1b\x1b\x1b\x1b\x1b\x1b\x1b \x1b\x1b\x1b\x1b   \x1b\x1b \x1b\x1b\x1b\x1b\x1b"], // RequiredTypes
-    [0, b"            \xbc\xbc\xbc\xbc\xbc\xbc\xbc\xbc\xbc\xbc                                                                 "], // Level
+    [0, b"            \x1b\x1b\x1b\x1b\x1b\x1b\x1b\x1b\x1b\x1b          \x1b \x1b    \x1b  \x1b\x1b\x1b \x1b\x1b\x1b\x1b         \xd2 \x1b\x1b\x1b\x1b\x1b\x1b\x1b\x1b\x1b\x1b \x1b\x1b\x1b\x1b   \x1b\x1b \x1b\x1b\x1b\x1b\x1b"], // RequiredTypes
+    [0, b"            \xbf\xbf\xbf\xbf\xbf\xbf\xbf\xbf\xbf\xbf                                                                 "], // Level
     [0, b"            \x15\x15\x15\x15\x15\x15\x15\x15\x15\x15           \x1c                                                     "], // MoreLevels
-    [0, b"            \xbc\xbc\xbc\xbc\xbc\xbc\xbc\xbc\xbc\xbc                                                     \x1d           "], // UnresolvedName
-    [0, b"                                                                          \xbb            "], // OperatorName
+    [0, b"            \xbf\xbf\xbf\xbf\xbf\xbf\xbf\xbf\xbf\xbf                                                     \x1d           "], // UnresolvedName
+    [0, b"                                                                          \xbe            "], // OperatorName
     [0, b"                             \x1e                                                         "], // AnyArray
-    [0, b"            \x1f\x1f\x1f\x1f\x1f\x1f\x1f\x1f\x1f\x1f                  \xee       \xee          \x1f \xee \xee\xee\xee\xee\xee \xee  \xee\xee\xee\xee\xee\xee\xee\xee\xee      "], // ArrayRest
-    [0, b"                                        \xb0       \xe7            \xd7 \xd8\xd9\xda\xdb\xdc \xdd  \xde\xdf\xe0\xe1\xe2\xe3\xe4\xe5\xe6      "], // Bound
+    [0, b"            \x1f\x1f\x1f\x1f\x1f\x1f\x1f\x1f\x1f\x1f                  \xf1       \xf1          \x1f \xf1 \xf1\xf1\xf1\xf1\xf1 \xf1  \xf1\xf1\xf1\xf1\xf1\xf1\xf1\xf1\xf1      "], // ArrayRest
+    [0, b"                                        \xb0       \xea            \xda \xdb\xdc\xdd\xde\xdf \xe0  \xe1\xe2\xe3\xe4\xe5\xe6\xe7\xe8\xe9      "], // Bound
     [0, b"            IIIIIIIIII         IIJI     II     I I I         I III I I  IIIII II       "], // NestMoreOrEnd
 };
 
@@ -210,7 +212,7 @@ static WIDE_ROWS: [Row; 181] = rows! {
 #[inline]
 fn number(kind: u16, byte: u8) -> Option<usize>
     requires { kind < wide.kinds }
-    ensures few { IfSome result (λ number. number < 264) }
+    ensures few { IfSome result (λ number. number < 268) }
     ensures rule { (head : Head) → MatchOption result (wide.rule kind byte ≡ None) (λ number. wide.rule kind byte ≡ Some (listed_rule head number)) }
 {
     let row = &WIDE_ROWS[kind as usize];

@@ -95,7 +95,7 @@ pub list-none : (form : heads.Form) (c : items.Context) (t : Term) (rest : Other
 unfolding list_part
 list-none form c t rest e = rw e refl
 
-list-some : (form : heads.Form) (c : items.Context) (t : Term) (rest : Others) → (t ≡ term.nil → ⊥) → as_item form c t ∷ rest ≡ list_part form c t ++ rest
+pub list-some : (form : heads.Form) (c : items.Context) (t : Term) (rest : Others) → (t ≡ term.nil → ⊥) → as_item form c t ∷ rest ≡ list_part form c t ++ rest
 unfolding list_part
 list-some form c term.nil rest other = absurd (other refl)
 list-some form c _ rest other = refl
@@ -262,9 +262,9 @@ own-pushed y d old new p b others e is some few shows =
 
 -- ## Forms
 
-pub form-expand : (form at : ℕ) (t : Term) (d : Detail) (c : items.Context) → 10 ≤ form → expand_parts c t at ≡ parts_in d c (form_of form at) (tree_in form t)
+pub form-expand : (form at : ℕ) (t : Term) (d : Detail) (c : items.Context) → 10 ≤ form → (form ≡ 11 → ⊥) → expand_parts c t at ≡ parts_in d c (form_of form at) (tree_in form t)
 unfolding parts_in
-form-expand form at t d c more = rw (
+form-expand form at t d c more other = rw (
   ne_eqb form 0 (omega (arith, more)),
   ne_eqb form 1 (omega (arith, more)),
   ne_eqb form 2 (omega (arith, more)),
@@ -275,4 +275,5 @@ form-expand form at t d c more = rw (
   ne_eqb form 7 (omega (arith, more)),
   ne_eqb form 8 (omega (arith, more)),
   ne_eqb form 9 (omega (arith, more)),
+  ne_eqb form 11 other,
 ) refl

@@ -6,5 +6,6 @@ pub mod CodeLetters
 pub mod Coding
 pub mod Operating
 pub mod Naming
+pub mod Declaring
 pub mod Typing
 pub mod Printing

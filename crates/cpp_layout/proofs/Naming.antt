@@ -1,5 +1,5 @@
 -- The parts of names.
-use Rattle.std.proofs.Common.{zero, suc, ◌≡◌, ◌≢◌, ◌<◌, refl, sym, ◌∙◌, ap, subst, arith, slice_index, length, ℕ, List, [], ◌∷◌, ◌++◌, Bool, true, false, nat_eq, ◌&&◌, ◌||◌, cond, codes, decimal, if◌then◌else◌, Option, None}
+use Rattle.std.proofs.Common.{zero, suc, ◌≡◌, ◌≢◌, ◌<◌, refl, sym, ◌∙◌, ap, subst, arith, slice_index, length, ℕ, List, [], ◌∷◌, ◌++◌, Bool, true, false, nat_eq, ◌&&◌, ◌||◌, cond, codes, decimal, if◌then◌else◌, Option}
 use Rattle.std.proofs.lemmas.Bool.{eqb-true, eq-eqb, ne_eqb}
 use Rattle.std.specs.List.{starts_with}
 use Rattle.sym_core.specs.declared.Span.{Span}
@@ -15,7 +15,6 @@ use Rattle.cpp_tree.specs.declared.node.Piece.{Piece}
 use Rattle.cpp_tree.specs.declared.node.Node.{Node}
 use Rattle.cpp_tree.specs.declared.node.Thunk.{Thunk}
 use Rattle.cpp_term.specs.Reargued.{reargued}
-use Rattle.cpp_term.proofs.Reargued.{reargued_none}
 use Rattle.std.proofs.lemmas.Bool.{true≢false}
 use Rattle.cpp_tree.specs.Nodes.{tree_at, tree_of, piece_of, is_again}
 use Rattle.cpp_layout.specs.Texts.{fixed_text}
@@ -90,11 +89,6 @@ opening-shown given _ = refl
 pub lambda-whole : (c : items.Context) (parameters : Term) (number : ℕ) → text (fixed_text LAMBDA) ∷ (list_part heads.first c parameters ++ (text (fixed_text RIGHT_NUMBER) ∷ text (decimal number) ∷ text (fixed_text BRACE) ∷ [])) ≡ piece_parts c (term.lambda parameters number)
 unfolding piece_parts
 lambda-whole c parameters number = refl
-
--- parameters of its own have their own arguments
-pub generic_lambda-whole : (c : items.Context) (parameters : Term) (number : ℕ) → piece_parts c (term.lambda (reargued None parameters) number) ≡ piece_parts c (term.generic_lambda parameters number)
-unfolding piece_parts
-generic_lambda-whole c parameters number = ap (λ t. piece_parts c (term.lambda t number)) (reargued_none parameters)
 
 pub unnamed-whole : (c : items.Context) (number : ℕ) → text (fixed_text UNNAMED) ∷ text (decimal number) ∷ text (fixed_text BRACE) ∷ [] ≡ piece_parts c (term.unnamed number)
 unfolding piece_parts

@@ -58,7 +58,7 @@ abbrev pub form_of : (form at : ℕ) → heads.Form
 form_of form at =
     cond (nat_eq form 0) heads.left (cond (nat_eq form 1) heads.right (cond (nat_eq form 2) heads.first (cond (nat_eq form 3) heads.more
     (cond (nat_eq form 4) heads.low (cond (nat_eq form 5) heads.base (cond (nat_eq form 6) heads.piece (cond (nat_eq form 7) heads.full
-    (cond (nat_eq form 8) heads.bare (cond (nat_eq form 9) heads.root (heads.expand at))))))))))
+    (cond (nat_eq form 8) heads.bare (cond (nat_eq form 9) heads.root (cond (nat_eq form 11) (heads.declared at) (heads.expand at)))))))))))
 
 abbrev pub tree_in : (form : ℕ) → Term → Term
 tree_in form t = cond (nat_eq form 6) (own_piece t) t

@@ -58,7 +58,12 @@ plain_texts =
     codes "@" ∷
     codes "{enum:" ∷
     codes "{" ∷
-    codes "}}" ∷ []
+    codes "}}" ∷
+    codes "{lambda<" ∷
+    codes ">(" ∷
+    codes "$T" ∷
+    codes "$N" ∷
+    codes "$TT" ∷ []
 
 -- what follows a function's parameters
 abbrev pub suffix_texts : List (List ℕ)
@@ -206,4 +211,7 @@ operation_texts =
     codes ")[" ∷
     codes "_BitInt(" ∷
     codes "unsigned _BitInt(" ∷
-    codes ":" ∷ []
+    codes ":" ∷
+    codes "typename" ∷
+    codes "template<" ∷
+    codes "> class" ∷ []

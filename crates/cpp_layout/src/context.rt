@@ -2,7 +2,7 @@
 
 #![tactic(auto)]
 
-ghost use Rattle.std.specs.Prelude.{◌≡◌, None};
+ghost use Rattle.std.specs.Prelude.{◌≡◌, None, Some};
 ghost use Rattle.cpp_tree.specs.Nodes.{under_kept};
 
 use cpp_tree::node::under_of;
@@ -59,6 +59,16 @@ impl Context {
     /// A number of the context: another one for each argument and each index below 65,535.
     pub(crate) fn number(self) -> u64 {
         number_of(self.index).wrapping_add(number_of(self.argument) << 16)
+    }
+
+    /// The same context, except that each parameter has this argument.
+    pub fn under(self, argument: u32) -> Context
+        ensures { result ≡ record { index = self.index; detail = self.detail; argument = Some argument } }
+    {
+        Context {
+            argument: Some(argument),
+            ..self
+        }
     }
 
     /// The same context, except that each parameter has its own argument.

@@ -21,3 +21,5 @@ pub const BARE: u32 = 8;
 pub const ROOT: u32 = 9;
 
 pub const EXPAND: u32 = 10;
+
+pub const DECLARED: u32 = 11;

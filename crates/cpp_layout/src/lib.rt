@@ -4,6 +4,7 @@
 mod arguments;
 mod codes;
 pub mod context;
+mod declared;
 mod encodings;
 mod form;
 mod left;

@@ -127,7 +127,14 @@ impl Symbol {
         ensures shows { Shows self.now ctx.detail (S.held parts.old) (S.held parts.new) (piece_parts (context_of ctx) (term.generic_lambda (tree_at (trees (table_of self.now)) parameters) number)) }
         ensures few { S.room parts.old ≤ S.room parts.new + 8 }
     {
-        self.fill_lambda(parts, parameters, number, ctx.of_its_own());
+        let place = self.place(parameters, ctx.of_its_own());
+        match self.stored(place.node, place.ctx) {
+            Node::Declaring {
+                heads,
+                parameters: types,
+            } => self.fill_declaring(parts, heads, types, number, ctx.under(parameters)),
+            _ => self.fill_lambda(parts, parameters, number, ctx.of_its_own()),
+        }
     }
 
     /// The parts of a piece that is no source name.

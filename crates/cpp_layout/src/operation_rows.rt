@@ -42,7 +42,7 @@ macro_rules! row {
 }
 
 /// The operations in the order of the table, and what is printed where there is none.
-static OPERATIONS: [Operation; 102] = [
+static OPERATIONS: [Operation; 107] = [
     row!(2 => OPERATION + 0, Operand::From(2), NONE, Operand::NotPrinted, NONE), // ps
     row!(2 => OPERATION + 1, Operand::From(2), NONE, Operand::NotPrinted, NONE), // ng
     row!(2 => OPERATION + 2, Operand::From(2), NONE, Operand::NotPrinted, NONE), // ad
@@ -144,6 +144,11 @@ static OPERATIONS: [Operation; 102] = [
     row!(0 => NONE, Operand::AsItIs, NONE, Operand::NotPrinted, NONE), // W1
     row!(0 => NONE, Operand::AsItIs, OPERATION + 48, Operand::AsItIs, NONE), // WW
     row!(0 => NONE, Operand::AsItIs, OPERATION + 80, Operand::AsItIs, NONE), // WP
+    row!(0 => OPERATION + 81, Operand::NotPrinted, NONE, Operand::NotPrinted, NONE), // Ty
+    row!(0 => NONE, Operand::AsType, NONE, Operand::NotPrinted, NONE), // Tn
+    row!(0 => NONE, Operand::AsItIs, NONE, Operand::NotPrinted, NONE), // Tk
+    row!(0 => OPERATION + 82, Operand::AsList, OPERATION + 83, Operand::NotPrinted, NONE), // Tt
+    row!(0 => NONE, Operand::AsItIs, OPERATION + 73, Operand::NotPrinted, NONE), // Tp
     row!(0 => NONE, Operand::NotPrinted, NONE, Operand::NotPrinted, NONE), // no operation
 ];
 
@@ -253,7 +258,12 @@ fn place_of(code: u16) -> usize
         22321 => 98, // W1
         22359 => 99, // WW
         22352 => 100, // WP
-        _ => 101,
+        21625 => 101, // Ty
+        21614 => 102, // Tn
+        21611 => 103, // Tk
+        21620 => 104, // Tt
+        21616 => 105, // Tp
+        _ => 106,
     }
 }
 

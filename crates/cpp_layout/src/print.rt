@@ -122,6 +122,7 @@ impl Symbol {
             form::FULL => self.fill_full(parts, node, ctx),
             form::BARE => self.fill_bare_of(parts, node, ctx),
             form::ROOT => self.fill_root(parts, node, ctx),
+            form::DECLARED => self.fill_declared(parts, node, at, ctx),
             _ => self.fill_expand(parts, node, at, ctx),
         }
     }

@@ -6,7 +6,7 @@ ghost use Rattle.std.specs.List.{All};
 ghost use Rattle.cpp_grammar.specs.Items as heads;
 ghost use Rattle.cpp_term.specs.Items as items;
 ghost use Rattle.cpp_term.specs.Reargued.{argument_or};
-ghost use Rattle.cpp_term.specs.Scope.{without_tags};
+ghost use Rattle.cpp_term.specs.Scope.{element, without_tags};
 ghost use Rattle.cpp_tree.specs.Nodes.{tree_at, trees, tree_of, tree_if_there, is_again, bytes_at, IsBelow, IsAliasBelow, IsTable, IsWithin, entry_at};
 ghost use Rattle.cpp_layout.specs.Layout.{table_of, context_of, printed_tree, node_shown, IsRead};
 ghost use Rattle.cpp_tree.specs.Fields.{offsets_of, tree_from};
@@ -19,6 +19,7 @@ use cpp_tree::{Node as View, Nodes};
 use std::alloc::Global;
 use std::marker::Model;
 use sym_core::{Counts, Span};
+use sym_print::Detail;
 
 /// A symbol that was read: its bytes, its nodes, and what reading it took.
 #[derive(Drop)]
@@ -332,6 +333,29 @@ impl Symbol {
         match given {
             None => own,
             Some(argument) => self.nodes.given_for(&self.bytes, argument, number),
+        }
+    }
+
+    /// The element of a list at a place, or the absent tree.
+    pub(crate) fn element_of(&self, list: u32, k: u32, detail: Detail) -> Place
+        requires table { IsTable (table_of self.now) }
+        requires list { list < length self.now.table.nodes }
+        ensures tree { printed_tree self.now result.ctx result.node ≡ element (tree_at (trees (table_of self.now)) list) k }
+        ensures node { result.node < length self.now.table.nodes }
+        ensures context { IsAliasBelow (length self.now.table.nodes) result.ctx.argument }
+    {
+        let alone = Placed {
+            node: list,
+            under: None,
+        };
+        let placed = self.nodes.element(&self.bytes, alone, k);
+        Place {
+            node: placed.node,
+            ctx: Context {
+                index: None,
+                detail,
+                argument: placed.under,
+            },
         }
     }
 

@@ -114,103 +114,113 @@ pub const LEFT_BRACE: u16 = 53;
 
 pub const RIGHT_BRACES: u16 = 54;
 
+pub const DECLARING: u16 = 55;
+
+pub const TYPES: u16 = 56;
+
+pub const TYPE_NAME: u16 = 57;
+
+pub const VALUE_NAME: u16 = 58;
+
+pub const TEMPLATE_NAME: u16 = 59;
+
 /// Where the texts after a function's parameters begin.
-pub const SUFFIX: u16 = 55;
+pub const SUFFIX: u16 = 60;
 
 /// No text.
-pub const NONE: u16 = 55;
+pub const NONE: u16 = 60;
 
 /// Where the builtin types begin.
-pub const BUILTIN: u16 = 103;
+pub const BUILTIN: u16 = 108;
 
 /// Where the abbreviations begin, and their names without `std::`.
-pub const ABBREVIATION: u16 = 134;
+pub const ABBREVIATION: u16 = 139;
 
-pub const LAST_OF_ABBREVIATION: u16 = 140;
+pub const LAST_OF_ABBREVIATION: u16 = 145;
 
 /// Where the special names begin.
-pub const SPECIAL: u16 = 146;
+pub const SPECIAL: u16 = 151;
 
 /// Where the special names of names begin.
-pub const NAMED_SPECIAL: u16 = 152;
+pub const NAMED_SPECIAL: u16 = 157;
 
 /// Where the endings of integer literals begin.
-pub const ENDING: u16 = 156;
+pub const ENDING: u16 = 161;
 
 /// Where the qualifiers with their blank at the end begin, except for those of no qualifier.
-pub const BLANKED: u16 = 160;
+pub const BLANKED: u16 = 165;
 
 /// The name of an operator without a code.
-pub const OPERATOR_ALONE: u16 = 168;
+pub const OPERATOR_ALONE: u16 = 173;
 
 /// Where the texts of operations begin.
-pub const OPERATION: u16 = 169;
+pub const OPERATION: u16 = 174;
 
 /// Where the names of operators begin.
-pub const OPERATOR: u16 = 250;
+pub const OPERATOR: u16 = 258;
 
 /// How many operators there are.
 pub const OPERATORS: u16 = 48;
 
 /// How many texts there are.
-pub const COUNT: u16 = 298;
+pub const COUNT: u16 = 306;
 
 /// The name of an operator.
 #[tactic(auto, unfolding(crate::specs::Texts::fixed_text, cpp_grammar::specs::Texts::builtin_texts, cpp_grammar::specs::Texts::operator_texts, cpp_grammar::specs::Texts::abbreviation_texts, cpp_grammar::specs::Texts::special_texts, cpp_grammar::specs::Texts::named_special_texts, cpp_grammar::specs::Texts::literal_endings))]
 #[inline(always)]
 fn operator_text(number: u16) -> &'static [u8]
-    requires { 250 ≤ number }
+    requires { 258 ≤ number }
     ensures { result.now ≡ fixed_text number }
 {
     match number {
-        250 => b"operator new",
-        251 => b"operator new[]",
-        252 => b"operator delete",
-        253 => b"operator delete[]",
-        254 => b"operator co_await",
-        255 => b"operator+",
-        256 => b"operator-",
-        257 => b"operator&",
-        258 => b"operator*",
-        259 => b"operator~",
-        260 => b"operator+",
-        261 => b"operator-",
-        262 => b"operator*",
-        263 => b"operator/",
-        264 => b"operator%",
+        258 => b"operator new",
+        259 => b"operator new[]",
+        260 => b"operator delete",
+        261 => b"operator delete[]",
+        262 => b"operator co_await",
+        263 => b"operator+",
+        264 => b"operator-",
         265 => b"operator&",
-        266 => b"operator^",
-        267 => b"operator=",
-        268 => b"operator+=",
-        269 => b"operator-=",
-        270 => b"operator*=",
-        271 => b"operator/=",
-        272 => b"operator%=",
-        273 => b"operator&=",
-        274 => b"operator|=",
-        275 => b"operator^=",
-        276 => b"operator<<",
-        277 => b"operator>>",
-        278 => b"operator<<=",
-        279 => b"operator>>=",
-        280 => b"operator==",
-        281 => b"operator!=",
-        282 => b"operator<",
-        283 => b"operator>",
-        284 => b"operator<=",
-        285 => b"operator>=",
-        286 => b"operator<=>",
-        287 => b"operator!",
-        288 => b"operator&&",
-        289 => b"operator||",
-        290 => b"operator++",
-        291 => b"operator--",
-        292 => b"operator,",
-        293 => b"operator->*",
-        294 => b"operator->",
-        295 => b"operator()",
-        296 => b"operator[]",
-        297 => b"operator|",
+        266 => b"operator*",
+        267 => b"operator~",
+        268 => b"operator+",
+        269 => b"operator-",
+        270 => b"operator*",
+        271 => b"operator/",
+        272 => b"operator%",
+        273 => b"operator&",
+        274 => b"operator^",
+        275 => b"operator=",
+        276 => b"operator+=",
+        277 => b"operator-=",
+        278 => b"operator*=",
+        279 => b"operator/=",
+        280 => b"operator%=",
+        281 => b"operator&=",
+        282 => b"operator|=",
+        283 => b"operator^=",
+        284 => b"operator<<",
+        285 => b"operator>>",
+        286 => b"operator<<=",
+        287 => b"operator>>=",
+        288 => b"operator==",
+        289 => b"operator!=",
+        290 => b"operator<",
+        291 => b"operator>",
+        292 => b"operator<=",
+        293 => b"operator>=",
+        294 => b"operator<=>",
+        295 => b"operator!",
+        296 => b"operator&&",
+        297 => b"operator||",
+        298 => b"operator++",
+        299 => b"operator--",
+        300 => b"operator,",
+        301 => b"operator->*",
+        302 => b"operator->",
+        303 => b"operator()",
+        304 => b"operator[]",
+        305 => b"operator|",
         _ => b"",
     }
 }
@@ -219,91 +229,94 @@ fn operator_text(number: u16) -> &'static [u8]
 #[tactic(auto, unfolding(crate::specs::Texts::fixed_text, cpp_grammar::specs::Texts::builtin_texts, cpp_grammar::specs::Texts::operator_texts, cpp_grammar::specs::Texts::abbreviation_texts, cpp_grammar::specs::Texts::special_texts, cpp_grammar::specs::Texts::named_special_texts, cpp_grammar::specs::Texts::literal_endings))]
 #[inline(always)]
 fn operation_text(number: u16) -> &'static [u8]
-    requires { 169 ≤ number }
+    requires { 174 ≤ number }
     ensures { result.now ≡ fixed_text number }
 {
     match number {
-        169 => b"+",
-        170 => b"-",
-        171 => b"&",
-        172 => b"*",
-        173 => b"~",
-        174 => b"!",
-        175 => b"co_await ",
-        176 => b"delete ",
-        177 => b"delete[] ",
-        178 => b"throw ",
-        179 => b"::",
-        180 => b"++",
-        181 => b"--",
-        182 => b".*",
-        183 => b"->*",
-        184 => b" * ",
-        185 => b" / ",
-        186 => b" % ",
-        187 => b" + ",
-        188 => b" - ",
-        189 => b" << ",
-        190 => b" <=> ",
-        191 => b" < ",
-        192 => b" <= ",
-        193 => b" >= ",
-        194 => b" == ",
-        195 => b" != ",
-        196 => b" & ",
-        197 => b" ^ ",
-        198 => b" | ",
-        199 => b" && ",
-        200 => b" || ",
-        201 => b" > ",
-        202 => b" >> ",
-        203 => b", ",
-        204 => b" = ",
-        205 => b" += ",
-        206 => b" -= ",
-        207 => b" *= ",
-        208 => b" /= ",
-        209 => b" %= ",
-        210 => b" &= ",
-        211 => b" |= ",
-        212 => b" ^= ",
-        213 => b" <<= ",
-        214 => b" >>= ",
-        215 => b"[",
-        216 => b"]",
-        217 => b".",
-        218 => b"->",
-        219 => b" ? ",
-        220 => b" : ",
-        221 => b"(",
-        222 => b")",
-        223 => b")(",
-        224 => b"{",
-        225 => b"}",
-        226 => b"dynamic_cast<",
-        227 => b">(",
-        228 => b"static_cast<",
-        229 => b"const_cast<",
-        230 => b"reinterpret_cast<",
-        231 => b"typeid (",
-        232 => b"sizeof (",
-        233 => b"alignof (",
-        234 => b"noexcept (",
-        235 => b"sizeof...(",
-        236 => b"this",
-        237 => b"new",
-        238 => b" ",
-        239 => b"new[]",
-        240 => b"(...",
-        241 => b"...)",
-        242 => b"...",
-        243 => b"requires {...}",
-        244 => b"requires (...) {...}",
-        245 => b"throw",
-        246 => b")[",
-        247 => b"_BitInt(",
-        248 => b"unsigned _BitInt(",
-        249 => b":",
+        174 => b"+",
+        175 => b"-",
+        176 => b"&",
+        177 => b"*",
+        178 => b"~",
+        179 => b"!",
+        180 => b"co_await ",
+        181 => b"delete ",
+        182 => b"delete[] ",
+        183 => b"throw ",
+        184 => b"::",
+        185 => b"++",
+        186 => b"--",
+        187 => b".*",
+        188 => b"->*",
+        189 => b" * ",
+        190 => b" / ",
+        191 => b" % ",
+        192 => b" + ",
+        193 => b" - ",
+        194 => b" << ",
+        195 => b" <=> ",
+        196 => b" < ",
+        197 => b" <= ",
+        198 => b" >= ",
+        199 => b" == ",
+        200 => b" != ",
+        201 => b" & ",
+        202 => b" ^ ",
+        203 => b" | ",
+        204 => b" && ",
+        205 => b" || ",
+        206 => b" > ",
+        207 => b" >> ",
+        208 => b", ",
+        209 => b" = ",
+        210 => b" += ",
+        211 => b" -= ",
+        212 => b" *= ",
+        213 => b" /= ",
+        214 => b" %= ",
+        215 => b" &= ",
+        216 => b" |= ",
+        217 => b" ^= ",
+        218 => b" <<= ",
+        219 => b" >>= ",
+        220 => b"[",
+        221 => b"]",
+        222 => b".",
+        223 => b"->",
+        224 => b" ? ",
+        225 => b" : ",
+        226 => b"(",
+        227 => b")",
+        228 => b")(",
+        229 => b"{",
+        230 => b"}",
+        231 => b"dynamic_cast<",
+        232 => b">(",
+        233 => b"static_cast<",
+        234 => b"const_cast<",
+        235 => b"reinterpret_cast<",
+        236 => b"typeid (",
+        237 => b"sizeof (",
+        238 => b"alignof (",
+        239 => b"noexcept (",
+        240 => b"sizeof...(",
+        241 => b"this",
+        242 => b"new",
+        243 => b" ",
+        244 => b"new[]",
+        245 => b"(...",
+        246 => b"...)",
+        247 => b"...",
+        248 => b"requires {...}",
+        249 => b"requires (...) {...}",
+        250 => b"throw",
+        251 => b")[",
+        252 => b"_BitInt(",
+        253 => b"unsigned _BitInt(",
+        254 => b":",
+        255 => b"typename",
+        256 => b"template<",
+        257 => b"> class",
         _ => operator_text(number),
     }
 }
@@ -312,44 +325,44 @@ fn operation_text(number: u16) -> &'static [u8]
 #[tactic(auto, unfolding(crate::specs::Texts::fixed_text, cpp_grammar::specs::Texts::builtin_texts, cpp_grammar::specs::Texts::operator_texts, cpp_grammar::specs::Texts::abbreviation_texts, cpp_grammar::specs::Texts::special_texts, cpp_grammar::specs::Texts::named_special_texts, cpp_grammar::specs::Texts::literal_endings))]
 #[inline(always)]
 fn remaining_text(number: u16) -> &'static [u8]
-    requires { 134 ≤ number }
+    requires { 139 ≤ number }
     ensures { result.now ≡ fixed_text number }
 {
     match number {
-        134 => b"std::allocator",
-        135 => b"std::basic_string",
-        136 => b"std::string",
-        137 => b"std::istream",
-        138 => b"std::ostream",
-        139 => b"std::iostream",
-        140 => b"allocator",
-        141 => b"basic_string",
-        142 => b"string",
-        143 => b"istream",
-        144 => b"ostream",
-        145 => b"iostream",
-        146 => b"vtable for ",
-        147 => b"VTT for ",
-        148 => b"typeinfo for ",
-        149 => b"typeinfo name for ",
-        150 => b"template parameter object for ",
-        151 => b"initializer for module ",
-        152 => b"guard variable for ",
-        153 => b"thread-local initialization routine for ",
-        154 => b"thread-local wrapper routine for ",
-        155 => b"reference temporary #0 for ",
-        156 => b"u",
-        157 => b"l",
-        158 => b"ul",
-        159 => b"ll",
-        160 => b"ull",
-        161 => b"restrict ",
-        162 => b"volatile ",
-        163 => b"volatile restrict ",
-        164 => b"const ",
-        165 => b"const restrict ",
-        166 => b"const volatile ",
-        167 => b"const volatile restrict ",
+        139 => b"std::allocator",
+        140 => b"std::basic_string",
+        141 => b"std::string",
+        142 => b"std::istream",
+        143 => b"std::ostream",
+        144 => b"std::iostream",
+        145 => b"allocator",
+        146 => b"basic_string",
+        147 => b"string",
+        148 => b"istream",
+        149 => b"ostream",
+        150 => b"iostream",
+        151 => b"vtable for ",
+        152 => b"VTT for ",
+        153 => b"typeinfo for ",
+        154 => b"typeinfo name for ",
+        155 => b"template parameter object for ",
+        156 => b"initializer for module ",
+        157 => b"guard variable for ",
+        158 => b"thread-local initialization routine for ",
+        159 => b"thread-local wrapper routine for ",
+        160 => b"reference temporary #0 for ",
+        161 => b"u",
+        162 => b"l",
+        163 => b"ul",
+        164 => b"ll",
+        165 => b"ull",
+        166 => b"restrict ",
+        167 => b"volatile ",
+        168 => b"volatile restrict ",
+        169 => b"const ",
+        170 => b"const restrict ",
+        171 => b"const volatile ",
+        172 => b"const volatile restrict ",
         OPERATOR_ALONE => b"operator",
         _ => operation_text(number),
     }
@@ -359,41 +372,41 @@ fn remaining_text(number: u16) -> &'static [u8]
 #[tactic(auto, unfolding(crate::specs::Texts::fixed_text, cpp_grammar::specs::Texts::builtin_texts))]
 #[inline(always)]
 fn builtin_text(number: u16) -> &'static [u8]
-    requires { 103 ≤ number }
+    requires { 108 ≤ number }
     ensures { result.now ≡ fixed_text number }
 {
     match number {
-        103 => b"void",
-        104 => b"wchar_t",
-        105 => b"bool",
-        106 => b"char",
-        107 => b"signed char",
-        108 => b"unsigned char",
-        109 => b"short",
-        110 => b"unsigned short",
-        111 => b"int",
-        112 => b"unsigned int",
-        113 => b"long",
-        114 => b"unsigned long",
-        115 => b"long long",
-        116 => b"unsigned long long",
-        117 => b"__int128",
-        118 => b"unsigned __int128",
-        119 => b"float",
-        120 => b"double",
-        121 => b"long double",
-        122 => b"__float128",
-        123 => b"...",
-        124 => b"char32_t",
-        125 => b"char16_t",
-        126 => b"char8_t",
-        127 => b"auto",
-        128 => b"decltype(auto)",
-        129 => b"std::nullptr_t",
-        130 => b"decimal64",
-        131 => b"decimal128",
-        132 => b"decimal32",
-        133 => b"half",
+        108 => b"void",
+        109 => b"wchar_t",
+        110 => b"bool",
+        111 => b"char",
+        112 => b"signed char",
+        113 => b"unsigned char",
+        114 => b"short",
+        115 => b"unsigned short",
+        116 => b"int",
+        117 => b"unsigned int",
+        118 => b"long",
+        119 => b"unsigned long",
+        120 => b"long long",
+        121 => b"unsigned long long",
+        122 => b"__int128",
+        123 => b"unsigned __int128",
+        124 => b"float",
+        125 => b"double",
+        126 => b"long double",
+        127 => b"__float128",
+        128 => b"...",
+        129 => b"char32_t",
+        130 => b"char16_t",
+        131 => b"char8_t",
+        132 => b"auto",
+        133 => b"decltype(auto)",
+        134 => b"std::nullptr_t",
+        135 => b"decimal64",
+        136 => b"decimal128",
+        137 => b"decimal32",
+        138 => b"half",
         _ => remaining_text(number),
     }
 }
@@ -402,58 +415,58 @@ fn builtin_text(number: u16) -> &'static [u8]
 #[tactic(auto, unfolding(crate::specs::Texts::fixed_text))]
 #[inline(always)]
 fn suffix_text(number: u16) -> &'static [u8]
-    requires { 55 ≤ number }
+    requires { 60 ≤ number }
     ensures { result.now ≡ fixed_text number }
 {
     match number {
         NONE => b"",
-        56 => b" restrict",
-        57 => b" volatile",
-        58 => b" volatile restrict",
-        59 => b" const",
-        60 => b" const restrict",
-        61 => b" const volatile",
-        62 => b" const volatile restrict",
-        63 => b" &",
-        64 => b" restrict &",
-        65 => b" volatile &",
-        66 => b" volatile restrict &",
-        67 => b" const &",
-        68 => b" const restrict &",
-        69 => b" const volatile &",
-        70 => b" const volatile restrict &",
-        71 => b" &&",
-        72 => b" restrict &&",
-        73 => b" volatile &&",
-        74 => b" volatile restrict &&",
-        75 => b" const &&",
-        76 => b" const restrict &&",
-        77 => b" const volatile &&",
-        78 => b" const volatile restrict &&",
-        79 => b" noexcept",
-        80 => b" restrict noexcept",
-        81 => b" volatile noexcept",
-        82 => b" volatile restrict noexcept",
-        83 => b" const noexcept",
-        84 => b" const restrict noexcept",
-        85 => b" const volatile noexcept",
-        86 => b" const volatile restrict noexcept",
-        87 => b" & noexcept",
-        88 => b" restrict & noexcept",
-        89 => b" volatile & noexcept",
-        90 => b" volatile restrict & noexcept",
-        91 => b" const & noexcept",
-        92 => b" const restrict & noexcept",
-        93 => b" const volatile & noexcept",
-        94 => b" const volatile restrict & noexcept",
-        95 => b" && noexcept",
-        96 => b" restrict && noexcept",
-        97 => b" volatile && noexcept",
-        98 => b" volatile restrict && noexcept",
-        99 => b" const && noexcept",
-        100 => b" const restrict && noexcept",
-        101 => b" const volatile && noexcept",
-        102 => b" const volatile restrict && noexcept",
+        61 => b" restrict",
+        62 => b" volatile",
+        63 => b" volatile restrict",
+        64 => b" const",
+        65 => b" const restrict",
+        66 => b" const volatile",
+        67 => b" const volatile restrict",
+        68 => b" &",
+        69 => b" restrict &",
+        70 => b" volatile &",
+        71 => b" volatile restrict &",
+        72 => b" const &",
+        73 => b" const restrict &",
+        74 => b" const volatile &",
+        75 => b" const volatile restrict &",
+        76 => b" &&",
+        77 => b" restrict &&",
+        78 => b" volatile &&",
+        79 => b" volatile restrict &&",
+        80 => b" const &&",
+        81 => b" const restrict &&",
+        82 => b" const volatile &&",
+        83 => b" const volatile restrict &&",
+        84 => b" noexcept",
+        85 => b" restrict noexcept",
+        86 => b" volatile noexcept",
+        87 => b" volatile restrict noexcept",
+        88 => b" const noexcept",
+        89 => b" const restrict noexcept",
+        90 => b" const volatile noexcept",
+        91 => b" const volatile restrict noexcept",
+        92 => b" & noexcept",
+        93 => b" restrict & noexcept",
+        94 => b" volatile & noexcept",
+        95 => b" volatile restrict & noexcept",
+        96 => b" const & noexcept",
+        97 => b" const restrict & noexcept",
+        98 => b" const volatile & noexcept",
+        99 => b" const volatile restrict & noexcept",
+        100 => b" && noexcept",
+        101 => b" restrict && noexcept",
+        102 => b" volatile && noexcept",
+        103 => b" volatile restrict && noexcept",
+        104 => b" const && noexcept",
+        105 => b" const restrict && noexcept",
+        106 => b" const volatile && noexcept",
+        107 => b" const volatile restrict && noexcept",
         _ => builtin_text(number),
     }
 }
@@ -520,6 +533,11 @@ pub fn fixed_text(number: u16) -> &'static [u8]
         ENUM => b"{enum:",
         LEFT_BRACE => b"{",
         RIGHT_BRACES => b"}}",
+        DECLARING => b"{lambda<",
+        TYPES => b">(",
+        TYPE_NAME => b"$T",
+        VALUE_NAME => b"$N",
+        TEMPLATE_NAME => b"$TT",
         _ => suffix_text(number),
     }
 }

@@ -5,7 +5,7 @@ ghost use Rattle.std.specs.Prelude.{◌+◌, ◌<◌, ◌≤◌, ◌∷◌, [], 
 ghost use Rattle.sym_print.specs.Unfold.{sub};
 ghost use Rattle.cpp_grammar.specs.Items as heads;
 ghost use Rattle.cpp_term.specs.Items as items;
-ghost use Rattle.cpp_term.specs.Parts.{as_item, reference_parts, float_parts};
+ghost use Rattle.cpp_term.specs.Parts.{as_item, reference_parts, parameter_parts, float_parts};
 ghost use Rattle.cpp_term.specs.Reargued.{argument_or};
 ghost use Rattle.cpp_tree.specs.Nodes.{tree_if_there, tree_at, trees, IsTable, bytes_at, IsWithin, IsAliasBelow};
 ghost use Rattle.cpp_layout.specs.Texts.{fixed_text};
@@ -14,6 +14,7 @@ ghost use Rattle.cpp_layout.specs.Layout.{table_of, item_in, form_of, context_of
 use crate::context::Context;
 use crate::symbol::Symbol;
 use crate::{form, texts};
+use cpp_tree::node::Node;
 use sym_core::Span;
 use sym_print::PartList;
 
@@ -116,10 +117,16 @@ impl Symbol {
         requires argument { argument < length self.now.table.nodes }
         requires plain { form < 6 }
         requires room { 8 ≤ S.room parts.old }
-        ensures shows { Shows self.now ctx.detail (S.held parts.old) (S.held parts.new) (as_item (form_of form 0) items.closed (items.argument (context_of ctx) (argument_or (tree_if_there (trees (table_of self.now)) ctx.argument) number (tree_at (trees (table_of self.now)) argument))) ∷ []) }
+        ensures shows { Shows self.now ctx.detail (S.held parts.old) (S.held parts.new) (parameter_parts (form_of form 0) number (items.argument (context_of ctx) (argument_or (tree_if_there (trees (table_of self.now)) ctx.argument) number (tree_at (trees (table_of self.now)) argument)))) }
         ensures few { S.room parts.old ≤ S.room parts.new + 8 }
     {
         let place = self.argument_of(number, argument, ctx);
-        self.push_item(parts, place.node, form, 0, place.ctx);
+        let own = self.place(place.node, place.ctx);
+        match self.stored(own.node, own.ctx) {
+            Node::Declaring { heads, .. } => self.fill_own_name(
+                parts, heads, number, form, ctx.detail,
+            ),
+            _ => self.push_item(parts, place.node, form, 0, place.ctx),
+        }
     }
 }

@@ -624,6 +624,7 @@ flows Production.TaggedSource around place = made_name Production.TaggedSource r
 flows Production.TaggedStdType around place = made_name Production.TaggedStdType refl around place _ _ (OfKind SOURCE_OR_LOCAL) MAYBE_TAGS refl (λ vs. refl) (λ vs. refl) (λ a v. refl) maybe-tags
 flows Production.ArgumentWithT around place = typed Production.ArgumentWithT refl around place (OfKind ARGUMENT_AFTER_T) refl (λ a v. refl) (λ v. refl) (λ v. refl)
 flows Production.PlainArgument around place = typed Production.PlainArgument refl around place (OfKind SOLID_BUT_T) refl (λ a v. refl) (λ v. refl) (λ v. refl)
+flows Production.FirstParameter around place = typed Production.FirstParameter refl around place (OfKind LEVELED_PARAMETER) refl (λ a v. refl) (λ v. refl) (λ v. refl)
 flows Production.OperatorReference around place = listed_name Production.OperatorReference refl around place _ (OfKind OPERATOR) ARGUMENTS_ALONE refl (λ v. refl) (λ a v. refl) arguments-alone
 flows Production.SimpleId around place = listed_name Production.SimpleId refl around place _ Name ARGUMENTS_ALONE refl (λ v. refl) (λ a v. refl) arguments-alone
 flows Production.TypeTag around place = made_name Production.TypeTag refl around place _ _ Name MAYBE_TAGS refl (λ vs. refl) (λ vs. refl) (λ a v. refl) maybe-tags

@@ -410,20 +410,28 @@ IsDeclaration _ = ⊥
 
 pub declaration : (p : Production) → family_of p ≡ Family.Declaration
     → (p ≡ Production.DeclaredArgument → ⊥)
+    → (p ≡ Production.TypeOf → ⊥)
     → (p ≡ Production.ValueOf → ⊥)
     → (p ≡ Production.OfConcept → ⊥)
     → (p ≡ Production.TemplateOf → ⊥)
     → (p ≡ Production.PackOf → ⊥)
     → (p ≡ Production.Declarations → ⊥)
+    → (p ≡ Production.FirstWithT → ⊥)
+    → (p ≡ Production.DeclaredFirst → ⊥)
+    → (p ≡ Production.FirstParameter → ⊥)
     → ⊥
 unfolding family_of
-declaration Production.DeclaredArgument is n0 n1 n2 n3 n4 n5 = n0 refl
-declaration Production.ValueOf is n0 n1 n2 n3 n4 n5 = n1 refl
-declaration Production.OfConcept is n0 n1 n2 n3 n4 n5 = n2 refl
-declaration Production.TemplateOf is n0 n1 n2 n3 n4 n5 = n3 refl
-declaration Production.PackOf is n0 n1 n2 n3 n4 n5 = n4 refl
-declaration Production.Declarations is n0 n1 n2 n3 n4 n5 = n5 refl
-declaration _ is n0 n1 n2 n3 n4 n5 = subst IsDeclaration (sym is) tt
+declaration Production.DeclaredArgument is n0 n1 n2 n3 n4 n5 n6 n7 n8 n9 = n0 refl
+declaration Production.TypeOf is n0 n1 n2 n3 n4 n5 n6 n7 n8 n9 = n1 refl
+declaration Production.ValueOf is n0 n1 n2 n3 n4 n5 n6 n7 n8 n9 = n2 refl
+declaration Production.OfConcept is n0 n1 n2 n3 n4 n5 n6 n7 n8 n9 = n3 refl
+declaration Production.TemplateOf is n0 n1 n2 n3 n4 n5 n6 n7 n8 n9 = n4 refl
+declaration Production.PackOf is n0 n1 n2 n3 n4 n5 n6 n7 n8 n9 = n5 refl
+declaration Production.Declarations is n0 n1 n2 n3 n4 n5 n6 n7 n8 n9 = n6 refl
+declaration Production.FirstWithT is n0 n1 n2 n3 n4 n5 n6 n7 n8 n9 = n7 refl
+declaration Production.DeclaredFirst is n0 n1 n2 n3 n4 n5 n6 n7 n8 n9 = n8 refl
+declaration Production.FirstParameter is n0 n1 n2 n3 n4 n5 n6 n7 n8 n9 = n9 refl
+declaration _ is n0 n1 n2 n3 n4 n5 n6 n7 n8 n9 = subst IsDeclaration (sym is) tt
 
 abbrev IsOperation : Family → Type 0
 IsOperation Family.Operation = Unit {0}

@@ -34,6 +34,10 @@ pub base_first : (p : Production) (l : Bool) (before : ℕ) → p ≡ Production
 unfolding steps_apart
 base_first p l before is apart = eqb-true before 0 (ap (λ q. steps_apart q l before) (sym is) ∙ apart)
 
+pub declared_first : (p : Production) (l : Bool) (before : ℕ) → p ≡ Production.DeclaredFirst → steps_apart p l before ≡ true → before ≡ 0
+unfolding steps_apart
+declared_first p l before is apart = eqb-true before 0 (ap (λ q. steps_apart q l before) (sym is) ∙ apart)
+
 -- a name becomes a candidate again with its M
 pub held_read : (s : List ℕ) (y : Stored) (kept : Surroundings) (place : ℕ) (vs : List Value) (state : State) (packs : Option ℕ) (name : ℕ) → length vs ≡ 1
     → tree_at (trees_in s y) name ≡ prefix_tree (prefix_of (trees_in s y) (name_of kept)) → is_instance (tree_at (trees_in s y) name) ≡ false
@@ -81,6 +85,14 @@ base_read s y kept then place [] state packs none surrounds = ap ends (sym surro
     ends : Around → Continuation
     ends a = Ok (record { values = []; context = a; state = with_mark Production.HeldArguments (around_of (trees_in s y) kept) [] (record state { packs = packs }) })
 
+-- nothing is done before what a lambda declares
+pub declared_read : (s : List ℕ) (y : Stored) (kept : Surroundings) (place : ℕ) (vs : List Value) (state : State) (packs : Option ℕ) → length vs ≡ 0
+    → between_wide Production.DeclaredFirst (around_of (trees_in s y) kept) place vs (record state { packs = packs })
+    ≡ going_marked Production.DeclaredFirst (around_of (trees_in s y) kept) (goes_on s y kept vs state packs (Step.Go None kept packs))
+unfolding between_wide goes_on going_marked with_mark with_candidate
+declared_read s y kept place (v ∷ vs) state packs none = absurd (omega (arith, none))
+declared_read s y kept place [] state packs none = refl
+
 -- how many nodes are made
 pub held_makes : (known : List Value) → length known ≡ 1 → 1 ≡ makes_before Production.Holder known
 unfolding makes_before made_before
@@ -92,6 +104,11 @@ pub base_makes : (known : List Value) → length known ≡ 0 → 0 ≡ makes_bef
 unfolding makes_before made_before
 base_makes [] none = refl
 base_makes (v ∷ vs) none = absurd (omega (arith, none))
+
+pub declared_makes : (known : List Value) → length known ≡ 0 → 0 ≡ makes_before Production.DeclaredFirst known
+unfolding makes_before made_before
+declared_makes [] none = refl
+declared_makes (v ∷ vs) none = absurd (omega (arith, none))
 
 pub held_step : (before : ℕ) (node : Node) (packs : Option ℕ) → before ≡ 1 → IsStepOf Production.Holder before (Step.Made node true true false packs)
 unfolding made_before

@@ -27,7 +27,7 @@ use Rattle.cpp_grammar.proofs.ClosedTrees.{Taken, taken_rule, at_number, its_sym
 use Rattle.cpp_term.specs.Values.{State, Around, Value, nothing_there, text, piece, tree_of, text_of, part}
 use Rattle.cpp_term.specs.Term.{list, lambda, unnamed}
 use Rattle.cpp_term.specs.Between.{between, in_signature, no_items}
-use Rattle.cpp_term.specs.Meaning.{parameters, meaning}
+use Rattle.cpp_term.specs.Meaning.{parameters, signature_with, meaning}
 use Rattle.cpp_term.specs.Unfolding.{number_tested, opening, behind, close, cpp, first_around, first_state}
 use Rattle.cpp_link.specs.Numbered.{is_numbered}
 use Rattle.cpp_grammar.proofs.Ways.{differs}
@@ -388,7 +388,7 @@ module _ (way : NotedWay) (plain_way : IsPlainNoted way) (plain_lambda : IsPlain
       let last : last_token (grown a (grown b (grown c (grown (token t) nothing)))) [] ≡ t.own = last_of a b c t in
       let less : nat_lt (local_number (text_of (part inner.value 3))) (2 ^ 64) ≡ true =
       ap (λ ds. nat_lt (local_number ds) (2 ^ 64)) (own ∙ sym last) ∙ number_less (place - 1) _ before begun is_begun in
-      ap (λ n. Ok (found (piece (lambda (parameters (list (tree_of (part inner.value 0)) (no_items (part inner.value 1)))) n)) inner.state)) (within_64 (local_number (text_of (part inner.value 3))) less)
+      ap (λ n. Ok (found (piece (lambda (signature_with (part inner.value 0) (parameters (list (tree_of (part inner.value 0)) (no_items (part inner.value 1))))) n)) inner.state)) (within_64 (local_number (text_of (part inner.value 3))) less)
   lambda_closes s kind taken (grown a (grown b (grown c (grown (branch r x i) nothing)))) place context before begun inner rest takes trees at is_begun is_inner = absurd trees.1.1.1.0
   lambda_closes s kind taken (grown a (grown b (grown c (grown empty nothing)))) place context before begun inner rest takes trees at is_begun is_inner = absurd trees.1.1.1.0
   lambda_closes s kind taken (grown a (grown b (grown c (grown (fixed d) nothing)))) place context before begun inner rest takes trees at is_begun is_inner = absurd trees.1.1.1.0

@@ -24,4 +24,5 @@ quiet_apart Production.ParameterExpression l before lt = first l before lt
 quiet_apart Production.Holder l before lt = first true before lt
 quiet_apart Production.NamedModule l before lt = first true before lt
 quiet_apart Production.HeldArguments l before lt = absurd (omega (arith, lt))
+quiet_apart Production.DeclaredFirst l before lt = absurd (omega (arith, lt))
 quiet_apart _ l before lt = refl

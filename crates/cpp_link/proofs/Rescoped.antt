@@ -1,5 +1,5 @@
 -- What the wide reading says of a rule that is open, in terms of the frame and the nodes.
-use Rattle.std.proofs.Common.{◌≡◌, refl, sym, ◌∙◌, ap, subst, arith, ℕ, ◌+◌, ◌-◌, ◌<◌, ◌≤◌, List, [], ◌∷◌, length, take, drop, Bool, true, false, ◌&&◌, nat_eq, Option, Ok, Err}
+use Rattle.std.proofs.Common.{◌≡◌, refl, sym, ◌∙◌, ap, subst, arith, ℕ, ◌+◌, ◌-◌, ◌<◌, ◌≤◌, List, [], ◌∷◌, length, take, drop, Bool, true, false, ◌&&◌, ◌||◌, nat_eq, Option, Ok, Err}
 use Rattle.std.specs.Prelude.{slice_index, Result, OnOk}
 use Rattle.std.proofs.lemmas.List.{length-drop}
 use Rattle.std.proofs.lemmas.Bool.{true≢false, false≢true, and_parts, eqb-true}
@@ -27,7 +27,7 @@ use Rattle.cpp_term.specs.References.{parameter_named}
 use Rattle.cpp_term.specs.Between.{Continuation, next, parameter_so_far, argument_so_far, index_of, between, listed_so_far}
 use Rattle.cpp_term.specs.Meaning.{meaning}
 use Rattle.cpp_term.specs.Unfolding.{cpp}
-use Rattle.cpp_term.specs.Rescoping.{generic_so_far, parameter_here, argument_here, lambda_with, as_generic_lambda, between_wide, close_wide, cpp_wide}
+use Rattle.cpp_term.specs.Rescoping.{generic_so_far, parameter_here, argument_here, is_declaring, lambda_with, as_generic_lambda, between_wide, close_wide, cpp_wide}
 use Rattle.cpp_tree.specs.Nodes.{Stored, tree_at, piece_of}
 use Rattle.cpp_tree.specs.declared.node.Piece.{Piece}
 use Rattle.cpp_link.specs.declared.linked.Linked.{Linked}
@@ -77,6 +77,7 @@ apart_between Production.ParameterExpression around place (v ∷ []) state apart
     go false e = refl
 apart_between Production.Holder around place (v ∷ []) state apart = absurd (true≢false apart)
 apart_between Production.HeldArguments around place [] state apart = absurd (true≢false apart)
+apart_between Production.DeclaredFirst around place [] state apart = absurd (true≢false apart)
 apart_between Production.NamedModule around place (v ∷ []) state apart = absurd (true≢false apart)
 apart_between p around place vs state apart = refl
 
@@ -229,17 +230,20 @@ pub no_pack : (p : Production) (l : Bool) (before : ℕ) → steps_apart p l bef
 unfolding steps_apart
 no_pack p l before is pack = absurd (false≢true (ap (λ q. steps_apart q l before) (sym pack) ∙ is))
 
--- what is neither a name with its M, nor the arguments of an inherited constructor, nor a module is a parameter of a lambda
-pub apart_generic : (p : Production) (l : Bool) (before : ℕ) → steps_apart p l before ≡ true → (p ≡ Production.Holder → ⊥) → (p ≡ Production.HeldArguments → ⊥) → (p ≡ Production.NamedModule → ⊥) → (is_parameter p ≡ true) × ((l ≡ true) × (before ≡ 1))
+-- what is neither a name with its M, nor the arguments of an inherited constructor, nor a module, nor what a lambda declares is a
+-- parameter of a lambda
+pub apart_generic : (p : Production) (l : Bool) (before : ℕ) → steps_apart p l before ≡ true → (p ≡ Production.Holder → ⊥) → (p ≡ Production.HeldArguments → ⊥) → (p ≡ Production.DeclaredFirst → ⊥) → (p ≡ Production.NamedModule → ⊥)
+    → (is_parameter p ≡ true) × ((l ≡ true) × (before ≡ 1))
 unfolding steps_apart is_parameter
-apart_generic Production.Parameter l before is held own named = (refl, second l before is)
-apart_generic Production.NestParameter l before is held own named = (refl, second l before is)
-apart_generic Production.ParameterArgument l before is held own named = (refl, second l before is)
-apart_generic Production.ParameterExpression l before is held own named = (refl, second l before is)
-apart_generic Production.Holder l before is held own named = absurd (held refl)
-apart_generic Production.HeldArguments l before is held own named = absurd (own refl)
-apart_generic Production.NamedModule l before is held own named = absurd (named refl)
-apart_generic _ l before is held own named = absurd (false≢true is)
+apart_generic Production.Parameter l before is held own declared named = (refl, second l before is)
+apart_generic Production.NestParameter l before is held own declared named = (refl, second l before is)
+apart_generic Production.ParameterArgument l before is held own declared named = (refl, second l before is)
+apart_generic Production.ParameterExpression l before is held own declared named = (refl, second l before is)
+apart_generic Production.Holder l before is held own declared named = absurd (held refl)
+apart_generic Production.HeldArguments l before is held own declared named = absurd (own refl)
+apart_generic Production.DeclaredFirst l before is held own declared named = absurd (declared refl)
+apart_generic Production.NamedModule l before is held own declared named = absurd (named refl)
+apart_generic _ l before is held own declared named = absurd (false≢true is)
 
 -- there is no mark then
 pub unmarked : (p : Production) (around : Around) (vs : List Value) (state : State) → (p ≡ Production.Holder → ⊥) → (p ≡ Production.HeldArguments → ⊥) → with_mark p around vs state ≡ state
@@ -255,11 +259,11 @@ going_unmarked p around (Err e) held own = refl
 
 -- ## Lambdas
 
-pub own_lambda : (t : Term) (number : ℕ) → is_open t ≡ true → as_generic_lambda (values.piece (term.lambda t number)) ≡ values.piece (term.generic_lambda t number)
+pub own_lambda : (t : Term) (number : ℕ) → (is_declaring t || is_open t) ≡ true → as_generic_lambda (values.piece (term.lambda t number)) ≡ values.piece (term.generic_lambda t number)
 unfolding as_generic_lambda lambda_with
 own_lambda t number is = ap (λ b. values.piece (elim b as (λ _. Term) [ true ↦ term.generic_lambda t number | false ↦ term.lambda t number ])) is
 
-pub plain_lambda : (t : Term) (number : ℕ) → is_open t ≡ false → as_generic_lambda (values.piece (term.lambda t number)) ≡ values.piece (term.lambda t number)
+pub plain_lambda : (t : Term) (number : ℕ) → (is_declaring t || is_open t) ≡ false → as_generic_lambda (values.piece (term.lambda t number)) ≡ values.piece (term.lambda t number)
 unfolding as_generic_lambda lambda_with
 plain_lambda t number is = ap (λ b. values.piece (elim b as (λ _. Term) [ true ↦ term.generic_lambda t number | false ↦ term.lambda t number ])) is
 

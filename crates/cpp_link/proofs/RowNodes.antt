@@ -7,7 +7,7 @@ use Rattle.cpp_grammar.specs.Rows.{row_of}
 use Rattle.cpp_term.specs.Values.{Value, part, tree_of}
 use Rattle.cpp_term.specs.Between.{no_items}
 use Rattle.cpp_term.specs.Meaning.{is_void, is_nil}
-use Rattle.cpp_link.specs.NodeCount.{makes_before, makes_at_end, std_before, pack_before, name_at_end, lambda_at_end}
+use Rattle.cpp_link.specs.NodeCount.{makes_before, makes_at_end, std_before, pack_before, name_at_end, lambda_at_end, one_if_declared}
 use Rattle.cpp_link.specs.Owed.{made_before, made_at_end}
 use Rattle.cpp_link.specs.RowNodes.{nodes_made, nodes_before, nodes_of, nodes_at_end}
 use Rattle.cpp_link.specs.Tables.{quiet_parts}
@@ -29,7 +29,7 @@ same_before_nodes _ (v ∷ w ∷ x ∷ y ∷ vs) = refl
 
 pub same_end_nodes : (p : Production) (vs : List Value) → makes_at_end p vs ≡ nodes_at_end (row_of p).form vs
 unfolding makes_at_end made_at_end name_at_end lambda_at_end row_of nodes_at_end nodes_made nodes_of
-same_end_nodes Production.Lambda vs = go (is_void (tree_of (part vs 0)) && is_nil (no_items (part vs 1)))
+same_end_nodes Production.Lambda vs = ap (λ n. n + one_if_declared (part vs 0)) (go (is_void (tree_of (part vs 0)) && is_nil (no_items (part vs 1))))
   where
     go : (b : Bool) → ◌≡◌ {A = ℕ} (if b then 0 else 1) (cond b 0 1)
     go true = refl

@@ -115,6 +115,7 @@ wide_goes_closed Production.NestParameter around place (v ∷ []) state closed =
 wide_goes_closed Production.ParameterArgument around place (v ∷ []) state closed = here_closed around (place - 1) (index_of v) state closed
 wide_goes_closed Production.ParameterExpression around place (v ∷ []) state closed = argument_here_closed around (place - 1) (index_of v) state closed
 wide_goes_closed Production.HeldArguments around place [] state closed = closed
+wide_goes_closed Production.DeclaredFirst around place [] state closed = closed
 wide_goes_closed Production.Holder around place (v ∷ []) state closed = holder_closed around place state closed
 wide_goes_closed Production.NamedModule around place (v ∷ []) state closed = module_closed around (place - 1) (counted_value Seq36 (text_of v)) state closed
 wide_goes_closed p around place vs state closed = goes_closed p around place vs state closed

@@ -11,7 +11,7 @@ use Rattle.cpp_grammar.specs.Values.{local_number}
 use Rattle.cpp_term.specs.Term.{list, lambda, unnamed}
 use Rattle.cpp_term.specs.Values.{State, Around, Value, text, piece, tree_of, text_of, part}
 use Rattle.cpp_term.specs.Between.{no_items}
-use Rattle.cpp_term.specs.Meaning.{parameters, meaning}
+use Rattle.cpp_term.specs.Meaning.{parameters, signature_with, meaning}
 use Rattle.cpp_term.specs.Unfolding.{behind, close, cpp}
 
 -- a number, or the greatest one of 64 bits where it is beyond them
@@ -25,7 +25,7 @@ link_meaning s Production.Suffix byte place around vs = text (take (length (text
 link_meaning s Production.SuffixByte byte place around vs = text (take (length (text_of (part vs 0)) + 1) (drop place s))
 link_meaning s Production.HexDigit byte place around vs = text (take (length (text_of (part vs 0)) + 1) (drop place s))
 link_meaning s Production.Lambda byte place around vs =
-    piece (lambda (parameters (list (tree_of (part vs 0)) (no_items (part vs 1)))) (in_64_bits (local_number (text_of (part vs 3)))))
+    piece (lambda (signature_with (part vs 0) (parameters (list (tree_of (part vs 0)) (no_items (part vs 1))))) (in_64_bits (local_number (text_of (part vs 3)))))
 link_meaning s Production.Unnamed byte place around vs = piece (unnamed (in_64_bits (local_number (text_of (part vs 0)))))
 link_meaning s production byte place around vs = meaning production byte around vs
 

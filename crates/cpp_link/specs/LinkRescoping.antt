@@ -68,8 +68,8 @@ is_parameter_argument Production.ParameterExpression = true
 is_parameter_argument _ = false
 
 -- Before the part after n others of a production the wide reading does something of its own: in a lambda's signature a
--- parameter is named, a name becomes a candidate with its M, or the base class of an inherited constructor or the name of a
--- concept is counted.
+-- parameter is named, or what the lambda declares is read; a name becomes a candidate with its M; or the base class of an
+-- inherited constructor or the name of a concept is counted.
 unfoldable pub steps_apart : Production → (in_lambda : Bool) → (before : ℕ) → Bool
 steps_apart Production.Parameter in_lambda before = in_lambda && nat_eq before 1
 steps_apart Production.NestParameter in_lambda before = in_lambda && nat_eq before 1
@@ -78,6 +78,7 @@ steps_apart Production.ParameterExpression in_lambda before = in_lambda && nat_e
 steps_apart Production.Holder in_lambda before = nat_eq before 1
 steps_apart Production.HeldArguments in_lambda before = nat_eq before 0
 steps_apart Production.NamedModule in_lambda before = nat_eq before 1
+steps_apart Production.DeclaredFirst in_lambda before = nat_eq before 0
 steps_apart _ in_lambda before = false
 
 -- by which compilers the tree is counted that becomes a candidate then

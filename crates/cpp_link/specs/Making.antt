@@ -14,6 +14,7 @@ nodes_of_outcome (Outcome.There node listed) = 0
 nodes_of_outcome (Outcome.Character letter value) = 2
 nodes_of_outcome (Outcome.Enclosed first rest) = 2
 nodes_of_outcome (Outcome.Applied name arguments) = 2
+nodes_of_outcome (Outcome.DeclaringLambda heads first rest number) = 2
 nodes_of_outcome _ = 1
 
 -- the state in which the nodes are

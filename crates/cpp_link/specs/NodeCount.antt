@@ -50,9 +50,15 @@ makes_before p known = get_or (made_before p) (length known) 0
 unfoldable pub name_at_end : List Value → ℕ
 name_at_end known = one_if_arguments (part known 1)
 
--- A lambda makes the list of its parameters, unless they are a lone void: the empty list is at the front of each table.
+-- a signature that declares parameters, which are with its first type
+unfoldable pub one_if_declared : Value → ℕ
+one_if_declared (pair second left right) = 1
+one_if_declared v = 0
+
+-- A lambda makes the list of its parameters, unless they are a lone void: the empty list is at the front of each table. It makes
+-- one node more where it declares parameters.
 unfoldable pub lambda_at_end : List Value → ℕ
-lambda_at_end known = if is_void (tree_of (part known 0)) && is_nil (no_items (part known 1)) then 0 else 1
+lambda_at_end known = (if is_void (tree_of (part known 0)) && is_nil (no_items (part known 1)) then 0 else 1) + one_if_declared (part known 0)
 
 -- an inherited constructor makes its name, and one node more where it has arguments of its own
 unfoldable pub inheriting_at_end : Value → ℕ

@@ -54,6 +54,9 @@ outcome_value s y (Outcome.MadeOperand letter (Some left) node) = values.pair le
 outcome_value s y (Outcome.Enclosed first rest) = values.tree (term.list (in_parentheses (tree_at (trees_in s y) first)) (tree_at (trees_in s y) rest)) true
 outcome_value s y (Outcome.Applied name arguments) = values.tree (term.instance (tree_of_node s y name) (tree_at (trees_in s y) arguments)) false
 outcome_value s y (Outcome.Lambda first rest number) = values.piece (term.lambda (term.list (tree_at (trees_in s y) first) (tree_at (trees_in s y) rest)) number)
+outcome_value s y (Outcome.Declaring heads number) = values.piece (term.lambda (term.declaring (tree_at (trees_in s y) heads) term.nil) number)
+outcome_value s y (Outcome.DeclaringLambda heads first rest number) =
+    values.piece (term.lambda (term.declaring (tree_at (trees_in s y) heads) (term.list (tree_at (trees_in s y) first) (tree_at (trees_in s y) rest))) number)
 
 -- ## Parts that exist
 
@@ -84,6 +87,8 @@ IsOutcomeThere s held n (Outcome.MadeOperand letter left node) = nodes.IsAliasBe
 IsOutcomeThere s held n (Outcome.Enclosed first rest) = (first < n) × (rest < n)
 IsOutcomeThere s held n (Outcome.Applied name arguments) = IsBelow s held n name × (arguments < n)
 IsOutcomeThere s held n (Outcome.Lambda first rest number) = (first < n) × (rest < n)
+IsOutcomeThere s held n (Outcome.Declaring heads number) = heads < n
+IsOutcomeThere s held n (Outcome.DeclaringLambda heads first rest number) = (heads < n) × (first < n) × (rest < n)
 
 -- the candidates are nodes, and their numbers in both lists are noted
 abbrev pub AreCandidatesThere : ℕ → Candidates → Type 0

@@ -74,6 +74,7 @@ wide_between_counts Production.Parameter around place (v ∷ []) state = here_co
 wide_between_counts Production.ParameterArgument around place (v ∷ []) state = here_counts around (place - 1) (index_of v) [] state
 wide_between_counts Production.ParameterExpression around place (v ∷ []) state = argument_here_counts around (place - 1) (index_of v) state
 wide_between_counts Production.HeldArguments around place [] state = refl
+wide_between_counts Production.DeclaredFirst around place [] state = refl
 wide_between_counts Production.Holder around place (v ∷ []) state = holder_counts around place state
 wide_between_counts Production.NamedModule around place (v ∷ []) state = module_counts around (place - 1) (counted_value Seq36 (text_of v)) state
 wide_between_counts p around place vs state = between_counts p around place vs state

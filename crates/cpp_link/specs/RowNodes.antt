@@ -4,7 +4,7 @@ use Rattle.cpp_grammar.specs.Row.{Made, only, applying, packing, Own, closure, i
 use Rattle.cpp_term.specs.Values.{Value, part, tree_of}
 use Rattle.cpp_term.specs.Between.{no_items}
 use Rattle.cpp_term.specs.Meaning.{is_void, is_nil}
-use Rattle.cpp_link.specs.NodeCount.{one_if_there, one_if_arguments, inheriting_at_end, enclosed_at_end, elements_at_end, operation_at_end}
+use Rattle.cpp_link.specs.NodeCount.{one_if_there, one_if_arguments, one_if_declared, inheriting_at_end, enclosed_at_end, elements_at_end, operation_at_end}
 
 -- for a tree: none for an existing one, nor for a tagged name, which takes the place of another
 unfoldable pub nodes_made : Made → List Value → ℕ
@@ -23,7 +23,7 @@ nodes_before _ vs = 0
 -- The list of a lambda's parameters isn't made of a lone void: the empty list is at the front of each table. A substitution
 -- makes at most trees with other arguments here: they are made as parts are.
 unfoldable pub nodes_of : Own → (most : ℕ) → List Value → ℕ
-nodes_of closure most vs = cond (is_void (tree_of (part vs 0)) && is_nil (no_items (part vs 1))) 0 most
+nodes_of closure most vs = cond (is_void (tree_of (part vs 0)) && is_nil (no_items (part vs 1))) 0 1 + one_if_declared (part vs 0)
 nodes_of substitution most vs = 0
 nodes_of inheriting most vs = inheriting_at_end (part vs 1)
 nodes_of by_letters most vs = operation_at_end (part vs 0)

@@ -64,6 +64,7 @@ quiet_parts Production.SimpleId = 1
 quiet_parts Production.ExpandExpression = 0
 quiet_parts Production.PackSize = 0
 quiet_parts Production.ParameterExpression = 1
+quiet_parts Production.DeclaredFirst = 0
 quiet_parts Production.TypeTag = 1
 quiet_parts Production.Conversion = 0
 quiet_parts Production.Tag = 1

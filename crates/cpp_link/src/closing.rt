@@ -69,6 +69,7 @@ impl Linked {
             Production::PlainType
             | Production::PlainArgument
             | Production::ArgumentWithT
+            | Production::FirstParameter
             | Production::TypeWithD
             | Production::ItemWithD
             | Production::ConvertedType

@@ -85,6 +85,18 @@ pub enum Outcome {
         rest: u32,
         number: u64,
     },
+    /// A lambda that declares parameters of its own, and whose signature has no types.
+    Declaring {
+        heads: u32,
+        number: u64,
+    },
+    /// One whose signature has some.
+    DeclaringLambda {
+        heads: u32,
+        first: u32,
+        rest: u32,
+        number: u64,
+    },
 }
 
 /// What is done before the next part of a rule: the state and the surroundings of the part.

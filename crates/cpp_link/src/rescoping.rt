@@ -14,7 +14,7 @@ ghost use Rattle.cpp_grammar.specs.declared.production.Production.{Production as
 ghost use Rattle.cpp_grammar.specs.Rescoping.{is_by_all, generic_number};
 ghost use Rattle.cpp_grammar.specs.Unfolding.{production_at};
 ghost use Rattle.cpp_term.specs.Values as values;
-ghost use Rattle.cpp_term.specs.Rescoping.{is_foreign, module_named, restated, numbered, as_generic_lambda, between_wide};
+ghost use Rattle.cpp_term.specs.Rescoping.{is_foreign, module_named, restated, numbered, is_declaring, as_generic_lambda, between_wide};
 ghost use Rattle.cpp_tree.specs.Nodes.{over, tree_at, bytes_at, piece_of, IsAliasBelow, IsPieceBelow, IsWithin, IsTable};
 ghost use Rattle.cpp_link.specs.Grows.{HasPlace};
 ghost use Rattle.cpp_link.specs.LinkRescoping.{is_parameter, is_parameter_argument, steps_apart, counted_before, counts_again, with_mark, going_marked, generic_read, number_in, named_by, substituted_nodes, wide_ends, wide_view};
@@ -36,6 +36,7 @@ use crate::dispatch::production_of;
 use crate::linked::Linked;
 use crate::part::{Candidate, Naming, Part, Step, Surroundings};
 use cpp_grammar::production::Production;
+use cpp_references::again::opened;
 use cpp_references::candidates::{is_module, substituted};
 use cpp_references::elsewhere::argument_here;
 use cpp_tree::node::{Node, Piece};
@@ -208,8 +209,8 @@ impl Linked {
     }
 
     /// What is done before the next part where the wide reading does something of its own, except for the mark: a parameter of
-    /// a lambda is named, a name has its `M`, or the base class of an inherited constructor or the name of a concept becomes a
-    /// candidate.
+    /// a lambda is named, what a lambda declares is read, a name has its `M`, or the base class of an inherited constructor or
+    /// the name of a concept becomes a candidate.
     ///
     /// # Errors
     ///
@@ -248,6 +249,12 @@ impl Linked {
             Production::HeldArguments => Ok(Step::Go {
                 candidate: None,
                 then: self.inside(kept),
+                packs: self.packs,
+            }),
+            // <lambda-sig> ::= <template-param-decl> <lambda-sig>
+            Production::DeclaredFirst => Ok(Step::Go {
+                candidate: None,
+                then: kept,
                 packs: self.packs,
             }),
             // <module-name> ::= <substitution>
@@ -466,7 +473,20 @@ impl Linked {
         put(parts, frame.base, made)
     }
 
-    /// The piece itself, unless it is a lambda whose signature has free parameters: that has parameters of its own (ABI 5.1.8).
+    /// Whether a signature has parameters of a lambda's own: it declares some, or some are free in it.
+    fn has_own(&self, symbol: &[u8], parameters: u32) -> bool
+        requires table { IsTable (over symbol.now self.now.nodes) }
+        requires below { parameters < length self.now.nodes.nodes }
+        ensures { result ≡ (is_declaring (tree_at (trees_in symbol.now self.now.nodes) parameters) || is_open (tree_at (trees_in symbol.now self.now.nodes) parameters)) }
+    {
+        match opened(&self.nodes, symbol, parameters).node {
+            Node::Declaring { .. } => true,
+            _ => self.nodes.is_open(symbol, parameters),
+        }
+    }
+
+    /// The piece itself, unless it is a lambda whose signature declares parameters or has free ones: that has parameters of its
+    /// own (ABI 5.1.8).
     // <closure-type-name> ::= Ul <lambda-sig> E [ <nonnegative number> ] _
     #[tactic(auto, unfolding(cpp_tree::specs::Nodes::piece_of))]
     fn piece_as_generic_lambda(&self, symbol: &[u8], piece: Piece) -> Piece
@@ -477,7 +497,7 @@ impl Linked {
     {
         match piece {
             Piece::Lambda { parameters, number } => {
-                if self.nodes.is_open(symbol, parameters) {
+                if self.has_own(symbol, parameters) {
                     return Piece::GenericLambda { parameters, number };
                 }
                 piece

@@ -22,7 +22,7 @@ use cpp_tree::nodes::ABSENT;
 
 impl Linked {
     /// What is done before the first part, of a production other than the arguments of an inherited constructor or of a
-    /// concept.
+    /// concept, or what a lambda declares.
     #[tactic(auto, unfolding(cpp_term::specs::Between::between, cpp_term::specs::Between::in_name, cpp_term::specs::Between::in_types, cpp_term::specs::Between::in_signature, cpp_term::specs::Between::under_expansion, cpp_term::specs::Between::after, cpp_term::specs::Between::inside, cpp_term::specs::Between::applied, cpp_term::specs::Between::named_so_far, cpp_term::specs::Between::listed_so_far, cpp_term::specs::Values::tree_of, crate::specs::Parts::around_of, crate::specs::Parts::prefix_of, cpp_tree::specs::Nodes::tree_if_there, cpp_tree::specs::Nodes::tree_of, cpp_tree::specs::Nodes::piece_of, crate::specs::Reads::goes_on, crate::specs::Reads::behind_first, crate::specs::Reads::named_if, crate::specs::Reads::appended_if, crate::specs::Reads::with_candidate, crate::specs::NodeCount::makes_before, crate::specs::Owed::made_before, crate::specs::NodeCount::std_before, crate::specs::NodeCount::one_if_there, crate::specs::NodeCount::pack_before))]
     #[inline(always)]
     pub(crate) fn step_first(
@@ -35,6 +35,7 @@ impl Linked {
         requires table { IsTable (over symbol.now self.now.nodes) }
         requires kept { IsKeptThere (length self.now.nodes.nodes) kept }
         requires own { production ≡ productions.HeldArguments → ⊥ }
+        requires declared { production ≡ productions.DeclaredFirst → ⊥ }
         ensures is { (state : values.State) → between production (around_of (trees_in symbol.now self.now.nodes) kept) place [] (record state { packs = self.now.packs }) ≡ goes_on symbol.now self.now.nodes kept [] state self.now.packs result }
         ensures there { IsStepThere symbol.now (length self.now.nodes.thunks) (length self.now.nodes.nodes) result }
         ensures of { (held : ℕ) → IsStepOf production held result }

@@ -1,17 +1,17 @@
 // What productions denote that distinguish cases of their parts.
 
-ghost use Rattle.std.specs.Prelude.{◌≡◌, ℕ, ◌≤◌, List, length, true, false, not, ◌&&◌};
+ghost use Rattle.std.specs.Prelude.{◌≡◌, ℕ, ◌+◌, ◌<◌, ◌≤◌, List, length, true, false, not, ◌&&◌, if◌then◌else◌};
 ghost use Rattle.cpp_term.specs.Term as term;
 ghost use Rattle.cpp_term.specs.Term.{Term};
 ghost use Rattle.cpp_term.specs.Values as values;
 ghost use Rattle.cpp_term.specs.Values.{tree_of, letter_of, is_there, text_of, part, prefix_tree, prefix_listed};
 ghost use Rattle.cpp_term.specs.Between.{applied, no_items, extended, inherited};
-ghost use Rattle.cpp_term.specs.Meaning.{parameters, default_entity, discriminator_of, reference_to, listed_value, signature_or, operator_or_literal};
+ghost use Rattle.cpp_term.specs.Meaning.{is_void, is_nil, parameters, signature_with, declared_first, default_entity, discriminator_of, reference_to, listed_value, signature_or, operator_or_literal};
 ghost use Rattle.cpp_grammar.specs.Term.{any_value};
 ghost use Rattle.cpp_grammar.specs.Values.{unqualified, local_number};
 ghost use Rattle.cpp_tree.specs.Nodes as nodes;
 ghost use Rattle.cpp_tree.specs.declared.node.Thunk as thunks;
-ghost use Rattle.cpp_tree.specs.Nodes.{over, IsTable, IsSpan, IsPieceBelow, IsBelow};
+ghost use Rattle.cpp_tree.specs.Nodes.{over, tree_at, IsTable, IsSpan, IsPieceBelow, IsBelow};
 ghost use Rattle.cpp_link.specs.Closes.{name_closes};
 ghost use Rattle.cpp_link.specs.LinkReading.{in_64_bits};
 ghost use Rattle.cpp_link.specs.Making.{nodes_of_outcome};
@@ -266,14 +266,61 @@ impl Linked {
     pub fn lambda(&self, symbol: &[u8], parts: &[Part]) -> Outcome
         requires table { IsTable (over symbol.now self.now.nodes) }
         requires there { AreThere symbol.now (length self.now.nodes.nodes) parts.now }
-        ensures is { outcome_value symbol.now self.now.nodes result ≡ values.piece (term.lambda (parameters (term.list (tree_of (part (values_in symbol.now self.now.nodes parts.now) 0)) (no_items (part (values_in symbol.now self.now.nodes parts.now) 1)))) (in_64_bits (local_number (text_of (part (values_in symbol.now self.now.nodes parts.now) 3))))) }
+        ensures is { outcome_value symbol.now self.now.nodes result ≡ values.piece (term.lambda (signature_with (part (values_in symbol.now self.now.nodes parts.now) 0) (parameters (term.list (tree_of (part (values_in symbol.now self.now.nodes parts.now) 0)) (no_items (part (values_in symbol.now self.now.nodes parts.now) 1))))) (in_64_bits (local_number (text_of (part (values_in symbol.now self.now.nodes parts.now) 3))))) }
         ensures there { IsOutcomeThere symbol.now (length self.now.nodes.thunks) (length self.now.nodes.nodes) result }
-        ensures nodes { nodes_of_outcome result ≤ 1 }
+        ensures nodes { nodes_of_outcome result ≤ 2 }
         ensures makes { nodes_of_outcome result ≡ lambda_at_end (values_in symbol.now self.now.nodes parts.now) }
     {
         let number = local_number(symbol, self.text(symbol, parts, 3));
-        let first = self.tree(symbol, parts, 0);
         let rest = self.list(symbol, parts, 1);
+        match self.given(symbol, parts, 0) {
+            Part::Pair { left, right, .. } => self.declaring_lambda(
+                symbol, right, left, rest, number,
+            ),
+            _ => self.undeclared_lambda(symbol, self.tree(symbol, parts, 0), rest, number),
+        }
+    }
+
+    /// What a lambda denotes that declares parameters of its own.
+    #[tactic(auto, unfolding(crate::specs::Parts::outcome_value, cpp_term::specs::Meaning::parameters, crate::specs::Making::nodes_of_outcome))]
+    fn declaring_lambda(
+        &self,
+        symbol: &[u8],
+        heads: u32,
+        first: u32,
+        rest: u32,
+        number: u64,
+    ) -> Outcome
+        requires table { IsTable (over symbol.now self.now.nodes) }
+        requires heads { heads < length self.now.nodes.nodes }
+        requires first { first < length self.now.nodes.nodes }
+        requires rest { rest < length self.now.nodes.nodes }
+        ensures is { outcome_value symbol.now self.now.nodes result ≡ values.piece (term.lambda (term.declaring (tree_at (trees_in symbol.now self.now.nodes) heads) (parameters (term.list (tree_at (trees_in symbol.now self.now.nodes) first) (tree_at (trees_in symbol.now self.now.nodes) rest)))) number) }
+        ensures there { IsOutcomeThere symbol.now (length self.now.nodes.thunks) (length self.now.nodes.nodes) result }
+        ensures makes { nodes_of_outcome result ≡ (if is_void (tree_at (trees_in symbol.now self.now.nodes) first) && is_nil (tree_at (trees_in symbol.now self.now.nodes) rest) then 0 else 1) + 1 }
+    {
+        if self.is_lone_void(symbol, first, rest) {
+            return Outcome::Declaring { heads, number };
+        }
+        Outcome::DeclaringLambda {
+            heads,
+            first,
+            rest,
+            number,
+        }
+    }
+
+    /// What a lambda denotes that declares none.
+    #[tactic(auto, unfolding(crate::specs::Parts::outcome_value, crate::specs::Parts::value_of, cpp_tree::specs::Nodes::piece_of, cpp_term::specs::Meaning::parameters, crate::specs::Making::nodes_of_outcome))]
+    fn undeclared_lambda(&self, symbol: &[u8], first: u32, rest: u32, number: u64) -> Outcome
+        requires table { IsTable (over symbol.now self.now.nodes) }
+        requires first { first < length self.now.nodes.nodes }
+        requires rest { rest < length self.now.nodes.nodes }
+        ensures is { outcome_value symbol.now self.now.nodes result ≡ values.piece (term.lambda (parameters (term.list (tree_at (trees_in symbol.now self.now.nodes) first) (tree_at (trees_in symbol.now self.now.nodes) rest))) number) }
+        ensures there { IsOutcomeThere symbol.now (length self.now.nodes.thunks) (length self.now.nodes.nodes) result }
+        ensures nodes { nodes_of_outcome result ≤ 1 }
+        ensures makes { nodes_of_outcome result ≡ (if is_void (tree_at (trees_in symbol.now self.now.nodes) first) && is_nil (tree_at (trees_in symbol.now self.now.nodes) rest) then 0 else 1) }
+    {
         if self.is_lone_void(symbol, first, rest) {
             return Outcome::Given(Part::Piece(Piece::Lambda {
                 parameters: NIL,
@@ -284,6 +331,35 @@ impl Linked {
             first,
             rest,
             number,
+        }
+    }
+
+    /// What is declared of one more of a lambda's parameters, before its first type.
+    #[tactic(auto, unfolding(crate::specs::Parts::outcome_value, crate::specs::Parts::value_of, cpp_tree::specs::Nodes::tree_of, cpp_term::specs::Meaning::declared_first, cpp_term::specs::Values::tree_of, crate::specs::Making::nodes_of_outcome))]
+    pub fn declared_first(&self, symbol: &[u8], parts: &[Part]) -> Outcome
+        requires table { IsTable (over symbol.now self.now.nodes) }
+        requires there { AreThere symbol.now (length self.now.nodes.nodes) parts.now }
+        ensures is { outcome_value symbol.now self.now.nodes result ≡ declared_first (part (values_in symbol.now self.now.nodes parts.now) 0) (part (values_in symbol.now self.now.nodes parts.now) 1) }
+        ensures there { IsOutcomeThere symbol.now (length self.now.nodes.thunks) (length self.now.nodes.nodes) result }
+        ensures nodes { nodes_of_outcome result ≡ 1 }
+    {
+        let first = self.tree(symbol, parts, 0);
+        let behind = self.given(symbol, parts, 1);
+        match behind {
+            Part::Pair {
+                letter,
+                left,
+                right,
+            } => Outcome::MadeOperand {
+                letter,
+                left: Some(left),
+                node: Node::Cell { first, rest: right },
+            },
+            _ => Outcome::MadeOperand {
+                letter: b'T',
+                left: Some(self.node(symbol, behind)),
+                node: Node::Cell { first, rest: NIL },
+            },
         }
     }
 }

@@ -3,7 +3,7 @@
 use cpp_grammar::production::{Operation, Production};
 
 /// The productions.
-pub(crate) const PRODUCTIONS: [Production; 264] = [
+pub(crate) const PRODUCTIONS: [Production; 268] = [
     Production::LeftFoldFrom,
     Production::FoldSigns,
     Production::FoldSign,
@@ -182,11 +182,14 @@ pub(crate) const PRODUCTIONS: [Production; 264] = [
     Production::LeveledParameter,
     Production::OneLiteral,
     Production::OnePack,
+    Production::TypeOf,
     Production::ValueOf,
     Production::OfConcept,
     Production::TemplateOf,
     Production::PackOf,
     Production::Declarations,
+    Production::FirstWithT,
+    Production::FirstParameter,
     Production::NestedConcept,
     Production::NamedConcept,
     Production::ConceptArguments,
@@ -243,6 +246,7 @@ pub(crate) const PRODUCTIONS: [Production; 264] = [
     Production::FoldOperatorL,
     Production::OuterParameter,
     Production::BoundedArray,
+    Production::DeclaredFirst,
     Production::DeclaredArgument,
     Production::TypeTag,
     Production::Clone,
@@ -271,7 +275,7 @@ pub(crate) const PRODUCTIONS: [Production; 264] = [
 ];
 
 /// How many parts each has.
-pub(crate) const PART_COUNTS: [u8; 264] = [
+pub(crate) const PART_COUNTS: [u8; 268] = [
     3, // LeftFoldFrom
     1, // FoldSigns
     1, // FoldSign
@@ -450,11 +454,14 @@ pub(crate) const PART_COUNTS: [u8; 264] = [
     2, // LeveledParameter
     2, // OneLiteral
     2, // OnePack
+    0, // TypeOf
     1, // ValueOf
     1, // OfConcept
     2, // TemplateOf
     2, // PackOf
     2, // Declarations
+    1, // FirstWithT
+    1, // FirstParameter
     2, // NestedConcept
     2, // NamedConcept
     2, // ConceptArguments
@@ -511,6 +518,7 @@ pub(crate) const PART_COUNTS: [u8; 264] = [
     1, // FoldOperatorL
     2, // OuterParameter
     3, // BoundedArray
+    2, // DeclaredFirst
     2, // DeclaredArgument
     2, // TypeTag
     2, // Clone
@@ -539,7 +547,7 @@ pub(crate) const PART_COUNTS: [u8; 264] = [
 ];
 
 /// Whether some part of each but the last may have no row: a fixed byte, or a kind that may be empty.
-pub(crate) const SKIPS_PARTS: [bool; 264] = [
+pub(crate) const SKIPS_PARTS: [bool; 268] = [
     false, // LeftFoldFrom
     false, // FoldSigns
     false, // FoldSign
@@ -718,11 +726,14 @@ pub(crate) const SKIPS_PARTS: [bool; 264] = [
     false, // LeveledParameter
     false, // OneLiteral
     true, // OnePack
+    false, // TypeOf
     false, // ValueOf
     false, // OfConcept
     true, // TemplateOf
     true, // PackOf
     false, // Declarations
+    false, // FirstWithT
+    false, // FirstParameter
     false, // NestedConcept
     false, // NamedConcept
     true, // ConceptArguments
@@ -779,6 +790,7 @@ pub(crate) const SKIPS_PARTS: [bool; 264] = [
     false, // FoldOperatorL
     false, // OuterParameter
     true, // BoundedArray
+    false, // DeclaredFirst
     false, // DeclaredArgument
     false, // TypeTag
     false, // Clone
@@ -807,7 +819,7 @@ pub(crate) const SKIPS_PARTS: [bool; 264] = [
 ];
 
 /// Before how many of its parts nothing is done in each: before none, the first, or all, which are five at most.
-pub(crate) const QUIET_PARTS: [u8; 264] = [
+pub(crate) const QUIET_PARTS: [u8; 268] = [
     5, // LeftFoldFrom
     5, // FoldSigns
     5, // FoldSign
@@ -986,11 +998,14 @@ pub(crate) const QUIET_PARTS: [u8; 264] = [
     5, // LeveledParameter
     5, // OneLiteral
     5, // OnePack
+    5, // TypeOf
     0, // ValueOf
     0, // OfConcept
     5, // TemplateOf
     5, // PackOf
     5, // Declarations
+    5, // FirstWithT
+    5, // FirstParameter
     1, // NestedConcept
     1, // NamedConcept
     0, // ConceptArguments
@@ -1047,6 +1062,7 @@ pub(crate) const QUIET_PARTS: [u8; 264] = [
     5, // FoldOperatorL
     5, // OuterParameter
     5, // BoundedArray
+    0, // DeclaredFirst
     5, // DeclaredArgument
     1, // TypeTag
     5, // Clone

@@ -397,16 +397,70 @@ impl Linked {
         match production {
             // <template-arg> ::= <template-param-decl> <template-arg>, after the T; what is declared of it isn't in the tree
             Production::DeclaredArgument => tree(self.tree(symbol, parts, 1), true),
+            // <template-param-decl> ::= Ty
+            Production::TypeOf => made(
+                Node::Operation {
+                    first: b'T',
+                    second: byte,
+                    left: ABSENT,
+                    right: ABSENT,
+                },
+                true,
+            ),
             // <template-param-decl> ::= Tn <type>
-            Production::ValueOf => Outcome::Given(Part::Letter(byte)),
+            Production::ValueOf => made(
+                Node::Operation {
+                    first: b'T',
+                    second: byte,
+                    left: self.tree(symbol, parts, 0),
+                    right: ABSENT,
+                },
+                true,
+            ),
             // <template-param-decl> ::= Tk <concept name>
-            Production::OfConcept => Outcome::Given(Part::Letter(byte)),
+            Production::OfConcept => made(
+                Node::Operation {
+                    first: b'T',
+                    second: byte,
+                    left: self.tree(symbol, parts, 0),
+                    right: ABSENT,
+                },
+                true,
+            ),
             // <template-param-decl> ::= Tt <template-param-decl>* E
-            Production::TemplateOf => Outcome::Given(Part::Letter(byte)),
+            Production::TemplateOf => made(
+                Node::Operation {
+                    first: b'T',
+                    second: byte,
+                    left: self.list(symbol, parts, 0),
+                    right: ABSENT,
+                },
+                true,
+            ),
             // <template-param-decl> ::= Tp <non-pack template-param-decl>
-            Production::PackOf => Outcome::Given(Part::Letter(byte)),
+            Production::PackOf => made(
+                Node::Operation {
+                    first: b'T',
+                    second: byte,
+                    left: self.tree(symbol, parts, 1),
+                    right: ABSENT,
+                },
+                true,
+            ),
             // <template-param-decl>*
-            Production::Declarations => Outcome::Given(Part::Letter(byte)),
+            Production::Declarations => made(
+                Node::Cell {
+                    first: self.tree(symbol, parts, 0),
+                    rest: self.list(symbol, parts, 1),
+                },
+                true,
+            ),
+            // <lambda-sig> ::= <template-param-decl>* <parameter type>+
+            Production::FirstWithT => Outcome::Given(self.given(symbol, parts, 0)),
+            // <lambda-sig> ::= <template-param-decl> <lambda-sig>, after the T
+            Production::DeclaredFirst => self.declared_first(symbol, parts),
+            // <type> ::= <template-param> [<template-args>], after the T
+            Production::FirstParameter => tree(self.tree(symbol, parts, 0), true),
             _ => unreachable!(),
         }
     }

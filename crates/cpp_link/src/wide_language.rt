@@ -39,6 +39,7 @@ fn steps_apart(production: Production, kept: Surroundings, before: usize) -> boo
         Production::Holder => before == 1,
         Production::HeldArguments => before == 0,
         Production::NamedModule => before == 1,
+        Production::DeclaredFirst => before == 0,
         _ => false,
     }
 }

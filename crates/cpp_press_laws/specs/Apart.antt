@@ -1,6 +1,6 @@
 -- No two components that are compared and equal are both spelled out.
 use Rattle.std.specs.Prelude.{◌≡◌, ℕ, List, [], ◌∷◌, ◌++◌, ◌⊎◌, true, false}
-use Rattle.cpp_grammar.specs.Term.{Term, symbol, function, object, special, thunk, of_name, construction, clone, alone, in_std, within, instance, local, holder, tagged, of_default, inheriting, lambda, generic_lambda, conversion, pointer, lvalue, rvalue, array, constrained, bounded, member_pointer, function_type, qualified, vector, complex, decltype, expansion, integer, encoding_literal, address_of, operation, pack, list, enumeration, bindings}
+use Rattle.cpp_grammar.specs.Term.{Term, symbol, function, object, special, thunk, of_name, construction, clone, alone, in_std, within, instance, local, holder, tagged, of_default, inheriting, lambda, generic_lambda, conversion, pointer, lvalue, rvalue, array, constrained, bounded, member_pointer, function_type, qualified, vector, complex, decltype, expansion, integer, encoding_literal, address_of, operation, pack, list, enumeration, bindings, declaring}
 use Rattle.cpp_press_laws.specs.Texts.{name_letters}
 use Rattle.cpp_press_laws.specs.Components.{Component, is_same}
 use Rattle.cpp_press_laws.specs.Pressing.{ways_of, pressed}
@@ -46,6 +46,7 @@ IsNeverReferred own (generic_lambda parameters number) = IsNeverReferred own par
 IsNeverReferred own (conversion type) = IsNeverReferred own type
 IsNeverReferred own (enumeration type name) = IsNeverReferred own type
 IsNeverReferred own (bindings names) = IsNeverReferred own names
+IsNeverReferred own (declaring heads parameters) = IsNeverReferred own heads ⊎ IsNeverReferred own parameters
 IsNeverReferred own (constrained letter concept) = IsNeverReferred own concept
 IsNeverReferred own (pointer type) = IsNeverReferred own type
 IsNeverReferred own (lvalue type) = IsNeverReferred own type

@@ -6,7 +6,7 @@ use Rattle.sym_spell.specs.Pressing.{◌and◌, text}
 use Rattle.cpp_grammar.specs.declared.kind.Kind.{Kind}
 use Rattle.cpp_grammar.specs.declared.production.Production.{Production}
 use Rattle.cpp_grammar.specs.Grammar.{choose}
-use Rattle.cpp_grammar.specs.Term.{Qualifiers, RefQualifier, explicit_object, Adjustment, non_virtual, by_table, Thunk, adjusting, covariant, Term, symbol, function, object, special, thunk, of_name, construction, clone, alone, in_std, within, instance, local, holder, tagged, of_default, abbreviation, parameter, source, operator, literal_operator, constructor, destructor, inheriting, lambda, generic_lambda, unnamed, string_literal, conversion, builtin, sized_float, constrained, vendor, pointer, lvalue, rvalue, array, bounded, member_pointer, function_type, qualified, vector, complex, decltype, expansion, integer, boolean, null_pointer, encoding_literal, address_of, operation, function_parameter, pack, nil, list, absent, enumeration, bindings}
+use Rattle.cpp_grammar.specs.Term.{Qualifiers, RefQualifier, explicit_object, Adjustment, non_virtual, by_table, Thunk, adjusting, covariant, Term, symbol, function, object, special, thunk, of_name, construction, clone, alone, in_std, within, instance, local, holder, tagged, of_default, abbreviation, parameter, source, operator, literal_operator, constructor, destructor, inheriting, lambda, generic_lambda, unnamed, string_literal, conversion, builtin, sized_float, constrained, vendor, pointer, lvalue, rvalue, array, bounded, member_pointer, function_type, qualified, vector, complex, decltype, expansion, integer, boolean, null_pointer, encoding_literal, address_of, operation, function_parameter, pack, nil, list, absent, enumeration, bindings, declaring}
 use Rattle.cpp_grammar.specs.Scope.{count, element, length_if_pack, has_return_type, is_open}
 use Rattle.cpp_grammar.specs.References.{packs_in}
 use Rattle.cpp_grammar.specs.Values.{Prefix, outermost, behind, Around}
@@ -487,6 +487,7 @@ fits_of (generic_lambda parameters number) = fits_nowhere
 fits_of (conversion type) = fits_nowhere
 fits_of (enumeration type name) = fits_nowhere
 fits_of (bindings names) = fits_nowhere
+fits_of (declaring heads parameters) = fits_nowhere
 fits_of (sized_float digits end) = fits_nowhere
 fits_of (constrained letter concept) = fits_nowhere
 fits_of (pointer type) = type_fits (pointer type) (λ slot around allowed place cs. behind_bytes (codes "P") ((fits_of type).as_type any_type) around allowed place cs)

@@ -1,7 +1,7 @@
 -- Whether two trees are the same, in each mark, number and name.
 use Rattle.std.specs.Prelude.{ℕ, List, Bool, true, false, not, ◌&&◌, nat_eq, Option, Some, None}
 use Rattle.cpp_grammar.specs.Texts.{same_bytes}
-use Rattle.cpp_grammar.specs.Term.{Qualifiers, RefQualifier, any_value, lvalue_only, rvalue_only, explicit_object, Signed, Adjustment, non_virtual, by_table, Thunk, adjusting, covariant, Term, symbol, function, object, special, thunk, of_name, construction, clone, alone, in_std, within, instance, local, holder, tagged, of_default, abbreviation, parameter, source, operator, literal_operator, constructor, destructor, inheriting, lambda, generic_lambda, unnamed, string_literal, conversion, builtin, sized_float, constrained, vendor, pointer, lvalue, rvalue, array, bounded, member_pointer, function_type, qualified, vector, complex, decltype, expansion, integer, boolean, null_pointer, encoding_literal, address_of, operation, function_parameter, pack, nil, list, absent, enumeration, bindings}
+use Rattle.cpp_grammar.specs.Term.{Qualifiers, RefQualifier, any_value, lvalue_only, rvalue_only, explicit_object, Signed, Adjustment, non_virtual, by_table, Thunk, adjusting, covariant, Term, symbol, function, object, special, thunk, of_name, construction, clone, alone, in_std, within, instance, local, holder, tagged, of_default, abbreviation, parameter, source, operator, literal_operator, constructor, destructor, inheriting, lambda, generic_lambda, unnamed, string_literal, conversion, builtin, sized_float, constrained, vendor, pointer, lvalue, rvalue, array, bounded, member_pointer, function_type, qualified, vector, complex, decltype, expansion, integer, boolean, null_pointer, encoding_literal, address_of, operation, function_parameter, pack, nil, list, absent, enumeration, bindings, declaring}
 
 unfoldable pub same_truth : Bool → Bool → Bool
 same_truth true b = b
@@ -69,6 +69,7 @@ same_tree string_literal string_literal = true
 same_tree (conversion a0) (conversion b0) = same_tree a0 b0
 same_tree (enumeration a0 a1) (enumeration b0 b1) = same_tree a0 b0 && same_bytes a1 b1
 same_tree (bindings a0) (bindings b0) = same_tree a0 b0
+same_tree (declaring a0 a1) (declaring b0 b1) = same_tree a0 b0 && same_tree a1 b1
 same_tree (builtin a0) (builtin b0) = same_bytes a0 b0
 same_tree (sized_float a0 a1) (sized_float b0 b1) = same_bytes a0 b0 && nat_eq a1 b1
 same_tree (constrained a0 a1) (constrained b0 b1) = nat_eq a0 b0 && same_tree a1 b1

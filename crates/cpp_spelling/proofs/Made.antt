@@ -50,6 +50,7 @@ below-later s held m n (Node.Holder name) b most = omega (arith, b, most)
 below-later s held m n (Node.Tagged of_structor name tag) b most = (omega (arith, b.0, most), b.1)
 below-later s held m n (Node.OfDefault digits entity) b most = (b.0, omega (arith, b.1, most))
 below-later s held m n (Node.Parameter k a) b most = omega (arith, b, most)
+below-later s held m n (Node.Declaring heads parameters) b most = (omega (arith, b.0, most), omega (arith, b.1, most))
 below-later s held m n (Node.SizedFloat digits end) b most = b
 below-later s held m n (Node.Constrained letter concept) b most = omega (arith, b, most)
 below-later s held m n (Node.Vendor bytes) b most = b

@@ -1,5 +1,5 @@
 -- What is done between and after the parts of a production, annotated.
-use Rattle.std.proofs.Common.{◌≡◌, refl, ap, sym, ◌∙◌, subst, ℕ, suc, ◌-◌, List, [], ◌∷◌, length, Bool, true, false, not, cond, slice_get, Option, Some, None, Result, Ok, Err, ◌&&◌, nat_lt, ◌⊎◌, inl, inr}
+use Rattle.std.proofs.Common.{◌≡◌, refl, ap, sym, ◌∙◌, subst, ℕ, suc, ◌-◌, List, [], ◌∷◌, length, Bool, true, false, not, cond, slice_get, Option, Some, None, Result, Ok, Err, ◌&&◌, nat_lt, ◌⊎◌, inl, inr, true≢false, ◌||◌}
 use Rattle.std.proofs.lemmas.Bool.{false≢true}
 use Rattle.sym_core.specs.declared.refusal.Refusal.{Refusal}
 use Rattle.sym_core.specs.declared.refusal.Refusal.TheVariants.{BadReference}
@@ -8,14 +8,14 @@ use Rattle.sym_link.specs.Unfold.{found}
 use Rattle.sym_core.specs.declared.NumberKind.TheVariants.{Decimal, Seq36}
 use Rattle.sym_core.specs.Value.{counted_value}
 use Rattle.cpp_grammar.specs.declared.production.Production.{Production}
-use Rattle.cpp_grammar.specs.Rescoping.{generic_number, generic_so_far, parameter_here, argument_here, lambda_with, as_generic_lambda, with_holder, is_instance, holder_so_far, named_by_both, module_of, module_named, module_so_far, numbered, counted_unless, counted_base, between_wide, close_wide}
+use Rattle.cpp_grammar.specs.Rescoping.{generic_number, generic_so_far, parameter_here, argument_here, is_declaring, lambda_with, as_generic_lambda, with_holder, is_instance, holder_so_far, named_by_both, module_of, module_named, module_so_far, numbered, counted_unless, counted_base, between_wide, close_wide}
 use Rattle.cpp_grammar.specs.Scope.{count, element, is_open, length_if_pack}
 use Rattle.cpp_grammar.specs.Term.{Term, list, holder, parameter}
 use Rattle.cpp_grammar.specs.Values as leaf_
 use Rattle.cpp_grammar.specs.Values.{Counted, by_gcc, by_some, Around, prefix_tree, prefix_listed, Value, State, Candidate, local_number, tree_of, text_of, is_listed, part}
 use Rattle.cpp_grammar.specs.References.{appended, with_type, with_unqualified, with_packs, is_module, substituted, parameter_named}
 use Rattle.cpp_grammar.specs.Between.{in_signature, under_expansion, after, inside, no_items, listed_so_far, next, parameter_so_far, argument_so_far, index_of, between}
-use Rattle.cpp_grammar.specs.Meaning.{parameters, meaning}
+use Rattle.cpp_grammar.specs.Meaning.{parameters, meaning, signature_with}
 use Rattle.cpp_grammar.specs.Unfolding as unfolding_
 use Rattle.cpp_grammar.specs.Unfolding.{close}
 use Rattle.cpp_grammar.specs.Row.{Gain, nothing, the_prefix, type_of, unqualified_of, itself, Where, as_before, in_its_name, in_its_types, in_a_signature, under_it, nameless, after_part, after_the_name, Action, quiet, goes, becomes, tests, holds, unread, Row, before_part}
@@ -35,14 +35,33 @@ use Rattle.cpp_term.specs.Meant as meant_
 use Rattle.cpp_term.specs.Unfolding as unfolded_
 use Rattle.cpp_term.specs.Rescoping as wide_
 use Rattle.cpp_term.specs.Annotated.{Place, nowhere, around_place, place_in, in_own, argument_in, annotate, noted_scope, noted_value, noted_values, noted_prefix, noted_around}
-use Rattle.cpp_term.proofs.Notes.{both, choose, choose_cond, open_noted, closed_noted}
-use Rattle.cpp_term.proofs.SeenNoted.{is_instance_noted}
+use Rattle.cpp_term.proofs.Notes.{both, or_right, choose, choose_cond, open_noted, closed_noted}
+use Rattle.cpp_term.proofs.SeenNoted.{is_instance_noted, is_declaring_noted}
 use Rattle.cpp_term.proofs.MeaningNoted.{part_noted, tree_part, tree_noted, text_noted, text_part, prefix_tree_noted, prefix_listed_noted, Inside, lambda_noted, takes_encodings, is_of_none, made_inside, made_noted, listing_noted, listed_noted, meaning_noted}
 use Rattle.cpp_term.proofs.StatesNoted.{Alongside, IsOutside, Settled, own_place, Alike, alike_bind, Same, Moves, moves_none, one_moves, type_moves, unqualified_moves, prefix_moves, Comes, AreNoted, get_noted, module_noted, substituted_noted, both_named_noted, wide_numbered_noted, held_moves, more_moves, parameter_noted}
 
 -- what is inside has the same scope, or none
 abbrev pub InScope : Around → Around → Type 0
 InScope around inner = ((inner.scope ≡ around.scope) × (inner.in_lambda ≡ around.in_lambda)) ⊎ ((inner.scope ≡ None) × (inner.in_lambda ≡ true))
+
+-- the productions of the kinds of what is declared
+unfoldable pub is_declared : Production → Bool
+is_declared Production.TypeOf = true
+is_declared Production.ValueOf = true
+is_declared Production.OfConcept = true
+is_declared Production.TemplateOf = true
+is_declared Production.PackOf = true
+is_declared Production.Declarations = true
+is_declared _ = false
+
+-- productions that are read in signatures, or of which each part is declared or no tree
+unfoldable pub is_quiet : Production → Bool
+is_quiet Production.TemplateOf = true
+is_quiet Production.PackOf = true
+is_quiet Production.Declarations = true
+is_quiet Production.DeclaredFirst = true
+is_quiet Production.FirstWithT = true
+is_quiet _ = false
 
 -- what the parameters of a production's parts name: in a lambda's signature they may be its own
 unfoldable pub parts_place : (own : Bool) → Production → Around → Place
@@ -221,17 +240,22 @@ row_noted own row around place vs x y plain packs =
     (meant_.done (before_part row n) (noted_around own around) place (noted_values (around_place own around) vs) y)) (sym (values_noted (around_place own around) vs))
     (done_noted own (before_part row (length vs)) around place vs x y (step_passes is_plain row plain (length vs)) packs)
 
-pub between_noted : (own : Bool) (production : Production) (around : Around) (place : ℕ) (vs : List Value) (x : State) (y : value_.State) → StaysInside production → Alongside x y →
+pub between_noted : (own : Bool) (production : Production) (around : Around) (place : ℕ) (vs : List Value) (x : State) (y : value_.State) → StaysInside production → is_quiet production ≡ false → Alongside x y →
     Alike (Goes own (parts_place own production around) around x y) (between production around place vs x) (between_.between production (noted_around own around) place (noted_values (parts_place own production around) vs) y)
-unfolding parts_place has_signature between between_.between all_pass is_plain is_here is_of_none takes_encodings
-between_noted own Production.Encoding around place vs x y stays packs = absurd stays
-between_noted own Production.Special around place vs x y stays packs = absurd stays
-between_noted own Production.OtherSpecial around place vs x y stays packs = absurd stays
-between_noted own Production.Lambda around place vs x y stays packs = signature_goes own (parts_place own Production.Lambda around) around x y vs (signature_place own around) packs
-between_noted own Production.ValueOf around place vs x y stays packs = signature_goes own (parts_place own Production.ValueOf around) around x y vs (signature_place own around) packs
-between_noted own Production.OfConcept around place vs x y stays packs = signature_goes own (parts_place own Production.OfConcept around) around x y vs (signature_place own around) packs
-between_noted own Production.Constraint around place vs x y stays packs = signature_goes own (parts_place own Production.Constraint around) around x y vs (signature_place own around) packs
-between_noted own p around place vs x y stays packs = row_noted own (row_of p) around place vs x y refl packs
+unfolding parts_place has_signature is_quiet between between_.between all_pass is_plain is_here is_of_none takes_encodings
+between_noted own Production.Encoding around place vs x y stays loud packs = absurd stays
+between_noted own Production.Special around place vs x y stays loud packs = absurd stays
+between_noted own Production.OtherSpecial around place vs x y stays loud packs = absurd stays
+between_noted own Production.Lambda around place vs x y stays loud packs = signature_goes own (parts_place own Production.Lambda around) around x y vs (signature_place own around) packs
+between_noted own Production.ValueOf around place vs x y stays loud packs = signature_goes own (parts_place own Production.ValueOf around) around x y vs (signature_place own around) packs
+between_noted own Production.OfConcept around place vs x y stays loud packs = signature_goes own (parts_place own Production.OfConcept around) around x y vs (signature_place own around) packs
+between_noted own Production.Constraint around place vs x y stays loud packs = signature_goes own (parts_place own Production.Constraint around) around x y vs (signature_place own around) packs
+between_noted own Production.TemplateOf around place vs x y stays loud packs = absurd (true≢false loud)
+between_noted own Production.PackOf around place vs x y stays loud packs = absurd (true≢false loud)
+between_noted own Production.Declarations around place vs x y stays loud packs = absurd (true≢false loud)
+between_noted own Production.DeclaredFirst around place vs x y stays loud packs = absurd (true≢false loud)
+between_noted own Production.FirstWithT around place vs x y stays loud packs = absurd (true≢false loud)
+between_noted own p around place vs x y stays loud packs = row_noted own (row_of p) around place vs x y refl packs
 
 -- ## After a production
 
@@ -378,27 +402,29 @@ module_goes around x y place number same =
         named_goes true around x x y y c.tree d.tree true [] [] (n.closed closed ∙ closed_noted nowhere (around_place true around) c.tree closed) refl (moves_none true around x x y y refl refl same.packs))
         (λ h. refl)
 
-pub wide_between_noted : (production : Production) (around : Around) (place : ℕ) (vs : List Value) (x : State) (y : value_.State) → StaysInside production → Settled around → Same true around x y →
+pub wide_between_noted : (production : Production) (around : Around) (place : ℕ) (vs : List Value) (x : State) (y : value_.State) → StaysInside production → is_quiet production ≡ false → Settled around → Same true around x y →
     Alike (Goes true (parts_place true production around) around x y) (between_wide production around place vs x)
     (wide_.between_wide production (noted_around true around) place (noted_values (parts_place true production around) vs) y)
-unfolding between_wide wide_.between_wide noted_values parts_place has_signature noted_around noted_prefix
-wide_between_noted Production.Parameter around place (v ∷ []) x y stays settled same = here_goes around x y place v settled same.packs
-wide_between_noted Production.NestParameter around place (v ∷ []) x y stays settled same = here_goes around x y place v settled same.packs
-wide_between_noted Production.ParameterArgument around place (v ∷ []) x y stays settled same = here_goes around x y (place - 1) v settled same.packs
-wide_between_noted Production.ParameterExpression around place (v ∷ []) x y stays settled same = argument_here_goes around x y (place - 1) v settled same.packs
-wide_between_noted Production.HeldArguments around place [] x y stays settled same = base_goes around x y same.packs
-wide_between_noted Production.Holder around place (v ∷ []) x y stays settled same = holder_goes around x y place same.packs
-wide_between_noted Production.NamedModule around place (v ∷ []) x y stays settled same =
+unfolding between_wide wide_.between_wide noted_values parts_place has_signature is_quiet noted_around noted_prefix
+wide_between_noted Production.Parameter around place (v ∷ []) x y stays loud settled same = here_goes around x y place v settled same.packs
+wide_between_noted Production.NestParameter around place (v ∷ []) x y stays loud settled same = here_goes around x y place v settled same.packs
+wide_between_noted Production.ParameterArgument around place (v ∷ []) x y stays loud settled same = here_goes around x y (place - 1) v settled same.packs
+wide_between_noted Production.ParameterExpression around place (v ∷ []) x y stays loud settled same = argument_here_goes around x y (place - 1) v settled same.packs
+wide_between_noted Production.DeclaredFirst around place vs x y stays loud settled same = absurd (true≢false loud)
+wide_between_noted Production.HeldArguments around place [] x y stays loud settled same = base_goes around x y same.packs
+wide_between_noted Production.Holder around place (v ∷ []) x y stays loud settled same = holder_goes around x y place same.packs
+wide_between_noted Production.NamedModule around place (v ∷ []) x y stays loud settled same =
     let s = around_place true around in
     subst (λ bytes. Alike (Goes true s around x y) (module_so_far around (place - 1) (counted_value Seq36 (text_of v)) x) (wide_.module_so_far (noted_around true around) (place - 1) (counted_value Seq36 bytes) y))
     (sym (text_noted s v)) (module_goes around x y (place - 1) (counted_value Seq36 (text_of v)) same)
-wide_between_noted p around place vs x y stays settled same = between_noted true p around place vs x y stays same.packs
+wide_between_noted p around place vs x y stays loud settled same = between_noted true p around place vs x y stays loud same.packs
 
 -- the cases of a lambda are decided alike, and what is in its signature is under its own parameters
 lambda_with_noted : (s : Place) (t : Term) (number : ℕ) → wide_.lambda_with (annotate in_own t) number ≡ annotate s (lambda_with t number)
 unfolding lambda_with wide_.lambda_with annotate
 lambda_with_noted s t number =
-    choose (λ a b. b ≡ annotate s a) (is_open t) (scope_.is_open (annotate in_own t)) _ _ _ _ (open_noted in_own t) (λ is. refl) (λ is. ap (λ u. term_.lambda u number) (closed_noted in_own s t is))
+    choose (λ a b. b ≡ annotate s a) (is_declaring t || is_open t) (wide_.is_declaring (annotate in_own t) || scope_.is_open (annotate in_own t)) _ _ _ _ (both (λ a b. a || b) (is_declaring_noted in_own t) (open_noted in_own t)) (λ is. refl)
+    (λ is. ap (λ u. term_.lambda u number) (closed_noted in_own s t (or_right (is_declaring t) (is_open t) is)))
 
 -- `meaning_noted` says it at the place of the values
 own_lambda : (s : Place) (byte : ℕ) (around : Around) (other : value_.Around) (vs : List Value) →
@@ -406,7 +432,7 @@ own_lambda : (s : Place) (byte : ℕ) (around : Around) (other : value_.Around) 
 unfolding as_generic_lambda wide_.as_generic_lambda meaning noted_.meaning noted_value annotate
 own_lambda s byte around other vs =
     ap wide_.as_generic_lambda (lambda_noted in_own vs)
-    ∙ ap value_.piece (lambda_with_noted s (parameters (list (tree_of (part vs 0)) (no_items (part vs 1)))) (local_number (text_of (part vs 3))))
+    ∙ ap value_.piece (lambda_with_noted s (signature_with (part vs 0) (parameters (list (tree_of (part vs 0)) (no_items (part vs 1))))) (local_number (text_of (part vs 3))))
 
 counted_moves : (around : Around) (v : Value) (x : State) (y : value_.State) → Alongside x y → Moves true around x y (counted_base around v x) (wide_.counted_base (noted_around true around) (noted_value (around_place true around) v) y)
 unfolding counted_base wide_.counted_base noted_value
@@ -416,19 +442,24 @@ counted_moves around v x y packs =
     unless_moves around (is_listed v) (value_.is_listed (noted_value s v)) by_gcc (tree_of v) (value_.tree_of (noted_value s v)) x y packs (listed_noted s v) (tree_noted s v)
 
 pub wide_close_noted : (production : Production) (byte : ℕ) (around : Around) (place : ℕ) (began : State) (first : value_.State) (vs : List Value) (x : State) (y : value_.State) → Inside production vs →
-    Settled around → Same true around x y → Alongside began first →
+    is_quiet production ≡ false → is_declared production ≡ false → Settled around → Same true around x y → Alongside began first →
     Alike (Comes true around x y) (close_wide production byte around place began vs x) (wide_.close_wide production byte (noted_around true around) place first (noted_values (parts_place true production around) vs) y)
-unfolding close unfolded_.close close_wide wide_.close_wide parts_place has_signature meaning noted_.meaning unfolding_.behind unfolded_.behind noted_value
-wide_close_noted Production.Substitution byte around place began first vs x y h settled same e =
+unfolding close unfolded_.close close_wide wide_.close_wide parts_place has_signature is_quiet is_declared meaning noted_.meaning unfolding_.behind unfolded_.behind noted_value
+wide_close_noted Production.Substitution byte around place began first vs x y h loud plain settled same e =
     subst (λ bytes. Alike (Comes true around x y) (numbered around (place - 1) (counted_value Seq36 (text_of (part vs 0))) x) (wide_.numbered (noted_around true around) (place - 1) (counted_value Seq36 bytes) y))
     (sym (text_part (around_place true around) vs 0)) (wide_numbered_noted around (place - 1) (counted_value Seq36 (text_of (part vs 0))) x y settled same)
-wide_close_noted Production.Lambda byte around place began first vs x y h settled same e =
+wide_close_noted Production.Lambda byte around place began first vs x y h loud plain settled same e =
     record { value = own_lambda (around_place true around) byte around (noted_around true around) vs; moves = moves_none true around x x y y refl refl same.packs }
-wide_close_noted Production.Inheriting byte around place began first vs x y h settled same e = record {
+wide_close_noted Production.Inheriting byte around place began first vs x y h loud plain settled same e = record {
   value = meaning_noted true Production.Inheriting byte around vs tt;
   moves = subst (λ v. Moves true around x y (counted_base around (part vs 1) x) (wide_.counted_base (noted_around true around) v y)) (sym (part_noted (around_place true around) vs 1)) (counted_moves around (part vs 1) x y same.packs);
 }
-wide_close_noted Production.ValueOf byte around place began first vs x y h settled same e = record { value = refl; moves = moves_none true around x x y y refl refl same.packs }
-wide_close_noted Production.OfConcept byte around place began first vs x y h settled same e = record { value = refl; moves = moves_none true around x x y y refl refl same.packs }
-wide_close_noted Production.Constraint byte around place began first vs x y h settled same e = record { value = refl; moves = moves_none true around x x y y refl refl same.packs }
-wide_close_noted production byte around place began first vs x y h settled same e = made_close true production byte around began first vs x y h same e
+wide_close_noted Production.ValueOf byte around place began first vs x y h loud plain settled same e = absurd (true≢false plain)
+wide_close_noted Production.OfConcept byte around place began first vs x y h loud plain settled same e = absurd (true≢false plain)
+wide_close_noted Production.TemplateOf byte around place began first vs x y h loud plain settled same e = absurd (true≢false loud)
+wide_close_noted Production.PackOf byte around place began first vs x y h loud plain settled same e = absurd (true≢false loud)
+wide_close_noted Production.Declarations byte around place began first vs x y h loud plain settled same e = absurd (true≢false loud)
+wide_close_noted Production.DeclaredFirst byte around place began first vs x y h loud plain settled same e = absurd (true≢false loud)
+wide_close_noted Production.FirstWithT byte around place began first vs x y h loud plain settled same e = absurd (true≢false loud)
+wide_close_noted Production.Constraint byte around place began first vs x y h loud plain settled same e = record { value = refl; moves = moves_none true around x x y y refl refl same.packs }
+wide_close_noted production byte around place began first vs x y h loud plain settled same e = made_close true production byte around began first vs x y h same e

@@ -24,12 +24,13 @@ use Rattle.cpp_grammar.specs.Between.{in_name, no_items, between}
 use Rattle.cpp_grammar.specs.Meaning.{meaning}
 use Rattle.cpp_grammar.specs.Unfolding.{close, production_at, byte_of}
 use Rattle.cpp_grammar.proofs.Choosing.{chosen_rule, taken_passes, implied}
-use Rattle.cpp_grammar.proofs.ClosedValues.{good_where, AllGood, GoodPrefix, held, good_tree, good_part}
+use Rattle.cpp_grammar.proofs.ClosedValues.{AllGood, GoodPrefix, good_tree, good_part}
 use Rattle.cpp_grammar.proofs.NoneFree.{none_encoding}
 use Rattle.cpp_grammar.proofs.ClosedStates.{Bare, Within, AllOld, old_later, old_grows, ok_same, behind_bind}
 use Rattle.cpp_grammar.proofs.ClosedParts.{StaysInside}
+use Rattle.cpp_grammar.proofs.Declared.{is_declaration, is_first, declares, parts_apart, is_nothing, read_of, read_none}
 use Rattle.cpp_grammar.proofs.Ways.{has_signature, Way, reading_by, abi_way, differs}
-use Rattle.cpp_grammar.proofs.ClosedTrees.{is_encoding, has_encoding, opens, or_true, at_number, its_symbols, stays, takes_byte, Whole, all_append, old_fits, grows_fits, old_inner, one_good, known, name_comes, same_found, stepped, inner_closes, KeepsClosed, opens_apart, forest_good, tree_good_by, trees_good_by}
+use Rattle.cpp_grammar.proofs.ClosedTrees.{is_encoding, has_encoding, opens, or_true, at_number, its_symbols, stays, takes_byte, Whole, old_fits, grows_fits, old_inner, known, name_comes, same_found, stepped, inner_closes, KeepsClosed, opens_apart, forest_good, tree_good_by, trees_good_by, left_apart, rule_apart, one_read}
 use Rattle.cpp_term.proofs.KindsNoted.{is_special_kind, in_special, encodings_open, special_types}
 use Rattle.cpp_term.proofs.MeaningNoted.{Inside}
 
@@ -86,6 +87,11 @@ unfolding in_special has_signature
 special_apart Production.Lambda h = absurd (false≢true h)
 special_apart _ h = cc
 
+special_read : (p : Production) → in_special p ≡ true → (own : Bool) (vs : List Value) → read_of p own vs ≡ vs
+unfolding in_special read_of
+special_read Production.DeclaredArgument h own vs = absurd (false≢true h)
+special_read _ h own vs = refl
+
 abbrev Encodings : List Sym → List Value → Type 0
 Encodings [] vs = Unit {0}
 Encodings (x ∷ xs) [] = Unit {0}
@@ -139,12 +145,12 @@ module _ (way : Way) (keeps : KeepsClosed way) where
   special_closed : (f : Forest) (rule : Open State Around) (from : ℕ) (state : State) (r : Found (List Value) State) → production_at rule.rule.number ≡ Production.Special →
       AreTrees wide (parts_of Production.Special) f → rule.context.encoding < rule.place → rule.place ≤ from → AllOld way.own rule.context rule.place state.candidates →
       unfold_forest (reading_by way) rule [] from f state ≡ Ok r → is_open (tree_of (part r.value 0)) ≡ false
-  unfolding differs reading_by parts_of number_of_kind between is_encoding nameless_ part in_name
+  unfolding differs reading_by parts_of number_of_kind between is_encoding declares is_declaration is_first nameless_ part in_name
   special_closed (grown t nothing) rule from state r is trees lt le old e =
       let around = rule.context in
       let at = rule.place in
       let s = stepped way keeps rule [] from state t nothing r (nameless_ at [] state) (ap (λ p. way.between p around at [] state) is ∙ keeps.plain.between Production.Special refl around at [] state) e in
-      let c = name_comes way keeps t (tree_good_by way keeps t) (OfKind SPECIAL) at from state s.part (known 5 (lit≤ tt)) trees.0 refl le (old_later way.own (in_name at) at from state.candidates le (old_inner way.own around at state.candidates lt old)) s.is in
+      let c = name_comes way keeps t (tree_good_by way keeps t) (OfKind SPECIAL) at from state s.part (known 5 (lit≤ tt)) trees.0 refl refl le (old_later way.own (in_name at) at from state.candidates le (old_inner way.own around at state.candidates lt old)) s.is in
       let same : found (c.value ∷ []) s.part.state ≡ r = same_found [] s.part.value (c.value ∷ []) s.part.state r c.is s.rest in
       subst (λ x. is_open (tree_of (part x.value 0)) ≡ false) same ((good_tree (Bare way.own (in_name at)) c.value c.good).closed (refl, λ o. refl))
   special_closed nothing rule from state r is trees lt le old e = absurd trees
@@ -153,19 +159,19 @@ module _ (way : Way) (keeps : KeepsClosed way) where
   other_special_closed : (f : Forest) (rule : Open State Around) (from : ℕ) (state : State) (r : Found (List Value) State) → production_at rule.rule.number ≡ Production.OtherSpecial →
       AreTrees wide (parts_of Production.OtherSpecial) f → rule.context.encoding < rule.place → rule.place ≤ from → AllOld way.own rule.context rule.place state.candidates →
       unfold_forest (reading_by way) rule [] from f state ≡ Ok r → is_open (tree_of (part r.value 1)) ≡ false
-  unfolding differs reading_by parts_of number_of_kind between is_encoding nameless_ part in_name
+  unfolding differs reading_by parts_of number_of_kind between is_encoding declares is_declaration is_first nameless_ part in_name
   other_special_closed (grown t (grown u nothing)) rule from state r is trees lt le old e =
       let around = rule.context in
       let at = rule.place in
       let first = stepped way keeps rule [] from state t (grown u nothing) r (nameless_ at [] state) (ap (λ p. way.between p around at [] state) is ∙ keeps.plain.between Production.OtherSpecial refl around at [] state) e in
       let old0 = old_later way.own (in_name at) at from state.candidates le (old_inner way.own around at state.candidates lt old) in
-      let c = name_comes way keeps t (tree_good_by way keeps t) (OfKind SPECIAL_MARK) at from state first.part (known SPECIAL_MARK (lit≤ tt)) trees.0 refl le old0 first.is in
+      let c = name_comes way keeps t (tree_good_by way keeps t) (OfKind SPECIAL_MARK) at from state first.part (known SPECIAL_MARK (lit≤ tt)) trees.0 refl refl le old0 first.is in
       let next = from + length (spell t) in
       let vs = c.value ∷ [] in
       let onward = subst (λ ws. unfold_forest (reading_by way) rule ws next (grown u nothing) first.part.state ≡ Ok r) c.is first.rest in
       let second = stepped way keeps rule vs next first.part.state u nothing r (nameless_ at vs first.part.state) (ap (λ p. way.between p around at vs first.part.state) is ∙ keeps.plain.between Production.OtherSpecial refl around at vs first.part.state) onward in
       let old1 = old_grows way.own (in_name at) from next state first.part.state (omega arith) old0 c.grows in
-      let d = name_comes way keeps u (tree_good_by way keeps u) (OfKind SPECIAL_AFTER_G) at next first.part.state second.part (known SPECIAL_AFTER_G (lit≤ tt)) trees.1.0 refl (omega (arith, le)) old1 second.is in
+      let d = name_comes way keeps u (tree_good_by way keeps u) (OfKind SPECIAL_AFTER_G) at next first.part.state second.part (known SPECIAL_AFTER_G (lit≤ tt)) trees.1.0 refl refl (omega (arith, le)) old1 second.is in
       let same : found (c.value ∷ d.value ∷ []) second.part.state ≡ r = same_found vs second.part.value (d.value ∷ []) second.part.state r d.is second.rest in
       subst (λ x. is_open (tree_of (part x.value 1)) ≡ false) same ((good_tree (Bare way.own (in_name at)) d.value d.good).closed (refl, λ o. refl))
   other_special_closed nothing rule from state r is trees lt le old e = absurd trees
@@ -213,14 +219,14 @@ module _ (way : Way) (keeps : KeepsClosed way) where
   keeps_values p has = λ around place vs state n e. plain_keeps p has around place vs state n (sym (keeps.plain.between p (encodings_apart p has) around place vs state) ∙ e)
 
   forest_closed : (f : Forest) (rule : Open State Around) (xs : List Sym) (vs : List Value) (at : ℕ) (state : State) (r : Found (List Value) State) →
-      StaysInside (production_at rule.rule.number) → Keeps way (production_at rule.rule.number) → AreSymbols wide xs → AreTrees wide xs f → rule.context.encoding ≤ at → (has_encoding xs ≡ true → rule.context.encoding < at) →
-      GoodPrefix (Bare way.own rule.context) rule.context.prefix → AllGood (Within way.own (production_at rule.rule.number) rule.context) vs → AllOld way.own rule.context at state.candidates → unfold_forest (reading_by way) rule vs at f state ≡ Ok r → Reads xs vs r
+      StaysInside (production_at rule.rule.number) → parts_apart (production_at rule.rule.number) (is_nothing vs) xs ≡ true → Keeps way (production_at rule.rule.number) → AreSymbols wide xs → AreTrees wide xs f → rule.context.encoding ≤ at → (has_encoding xs ≡ true → rule.context.encoding < at) →
+      GoodPrefix (Bare way.own rule.context) rule.context.prefix → AllGood (Within way.own (production_at rule.rule.number) rule.context) (read_of (production_at rule.rule.number) way.own vs) → AllOld way.own rule.context at state.candidates → unfold_forest (reading_by way) rule vs at f state ≡ Ok r → Reads xs vs r
   unfolding reading_by has_encoding part
-  forest_closed nothing rule [] vs at state r stays keep known trees le inside pre good old e =
+  forest_closed nothing rule [] vs at state r stays apart keep known trees le inside pre good old e =
       record { more = []; is = ap (λ x. x.value) (sym (ok_same (found vs state) r e)) ∙ sym (append-nil vs); closed = tt }
-  forest_closed nothing rule (x ∷ xs) vs at state r stays keep known trees le inside pre good old e = absurd trees
-  forest_closed (grown t f) rule [] vs at state r stays keep known trees le inside pre good old e = absurd trees
-  forest_closed (grown t f) rule (x ∷ xs) vs at state r stays keep known trees le inside pre good old e =
+  forest_closed nothing rule (x ∷ xs) vs at state r stays apart keep known trees le inside pre good old e = absurd trees
+  forest_closed (grown t f) rule [] vs at state r stays apart keep known trees le inside pre good old e = absurd trees
+  forest_closed (grown t f) rule (x ∷ xs) vs at state r stays apart keep known trees le inside pre good old e =
       let around = rule.context in
       let later = at + length (spell t) in
       let b = behind_bind (way.between (production_at rule.rule.number) around rule.place vs state)
@@ -235,9 +241,9 @@ module _ (way : Way) (keeps : KeepsClosed way) where
       g.fits.prefix old3 c.is in
       let grown1 = grows_fits way.own around n.context later n.state this.state g.fits tree.grows in
       let old2 = old_grows way.own around at later n.state this.state (omega arith) old1 grown1 in
-      let good1 = one_good (Within way.own (production_at rule.rule.number) around) tree.value this.value tree.is (good_where (Bare way.own n.context) (Within way.own (production_at rule.rule.number) around) (held tree.value) g.bare tree.good) in
-      let rest = forest_closed f rule xs (n.values ++ this.value) later this.state r stays keep known.1 trees.1 (omega (arith, le))
-      (λ opening. omega (arith, inside (or_true (is_encoding x) (has_encoding xs) opening))) pre (all_append (Within way.own (production_at rule.rule.number) around) n.values this.value g.values good1) old2 c.next in
+      let good1 = one_read way keeps (production_at rule.rule.number) around rule.place vs this.value state n x xs tree.value tree.is apart b.is g.values g.bare tree.good in
+      let rest = forest_closed f rule xs (n.values ++ this.value) later this.state r stays (left_apart (production_at rule.rule.number) (is_nothing vs) n.values this.value x xs tree.value tree.is apart) keep known.1 trees.1 (omega (arith, le))
+      (λ opening. omega (arith, inside (or_true (is_encoding x) (has_encoding xs) opening))) pre good1 old2 c.next in
       record {
         more = tree.value ∷ rest.more;
         is = rest.is ∙ ap (λ us. (us ++ this.value) ++ rest.more) (keep around rule.place vs state n b.is) ∙ ap (λ us. (vs ++ us) ++ rest.more) tree.is ∙ append_assoc vs (tree.value ∷ []) rest.more;
@@ -255,6 +261,7 @@ module _ (way : Way) (keeps : KeepsClosed way) where
   pub insides : (p : Production) (rule : Rule) (taken : List ℕ) (parts : Forest) (k : ℕ) (around : Around) (at : ℕ) (state begun : State) (inner : Found (List Value) State) → rule ≡ rule_of p → opens p ≡ false → k < wide.kinds →
       IsTree wide (OfKind k) (branch rule taken parts) → around.encoding ≤ at → (is_special_kind k ≡ true → Bare way.own around) → GoodPrefix (Bare way.own around) around.prefix → AllOld way.own around at begun.candidates →
       unfold_forest (reading_by way) (Whole rule taken at around state) [] (at + length taken) parts begun ≡ Ok inner → Inside p inner.value
+  unfolding is_nothing
   insides p rule taken parts k around at state begun inner is plain lt tree le special pre old e =
       let whole = Whole rule taken at around state in
       let number : production_at rule.number ≡ p = ap (λ x. production_at x.number) is ∙ at_number p in
@@ -265,11 +272,12 @@ module _ (way : Way) (keeps : KeepsClosed way) where
       let old0 = old_later way.own around at from begun.candidates (omega arith) old in
       inside_values p inner.value plain
       (λ has.
-      let reads = forest_closed parts whole (symbols_of rule) [] from begun inner inside_ (subst (λ q. Keeps way q) (sym number) (keeps_values p has)) symbols tree.1 (omega (arith, le))
-      (λ any. omega (arith, le, takes_byte p rule k taken is tree.0 any)) pre tt old0 e in
+      let reads = forest_closed parts whole (symbols_of rule) [] from begun inner inside_ (rule_apart p rule is) (subst (λ q. Keeps way q) (sym number) (keeps_values p has)) symbols tree.1 (omega (arith, le))
+      (λ any. omega (arith, le, takes_byte p rule k taken is tree.0 any)) pre (read_none (Within way.own (production_at rule.number) around) (production_at rule.number) way.own) old0 e in
       subst (λ us. Encodings (parts_of p) us) (sym reads.is) (subst (λ xs. Encodings xs reads.more) same reads.closed))
       (λ is_special part_number.
-      let all = forest_good way keeps parts (trees_good_by way keeps parts) whole (symbols_of rule) [] from begun inner inside_ symbols tree.1 (omega (arith, le))
-      (λ any. omega (arith, le, takes_byte p rule k taken is tree.0 any)) pre tt old0 e in
-      (good_part (Within way.own (production_at rule.number) around) inner.value part_number all.good).closed
+      let all = forest_good way keeps parts (trees_good_by way keeps parts) whole (symbols_of rule) [] from begun inner inside_ (rule_apart p rule is) symbols tree.1 (omega (arith, le))
+      (λ any. omega (arith, le, takes_byte p rule k taken is tree.0 any)) pre (read_none (Within way.own (production_at rule.number) around) (production_at rule.number) way.own) old0 e in
+      let read : read_of (production_at rule.number) way.own inner.value ≡ inner.value = ap (λ q. read_of q way.own inner.value) number ∙ special_read p is_special way.own inner.value in
+      (good_part (Within way.own (production_at rule.number) around) inner.value part_number (subst (λ us. AllGood (Within way.own (production_at rule.number) around) us) read all.good)).closed
       (special (special_kind p k rule taken is lt tree.0 is_special), λ own. ap has_signature number ∙ special_apart p is_special))

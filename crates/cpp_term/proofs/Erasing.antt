@@ -8,7 +8,7 @@ use Rattle.sym_link.specs.Driving.{Fails}
 use Rattle.sym_link.specs.Reading.{Found, ◌>>=◌}
 use Rattle.sym_link.specs.Unfold.{unfold_tree}
 use Rattle.cpp_grammar.specs.Table.{wide}
-use Rattle.cpp_grammar.specs.Term.{Term, symbol, function, object, special, thunk, of_name, construction, clone, alone, in_std, within, instance, local, holder, tagged, of_default, lambda, generic_lambda, conversion, pointer, lvalue, rvalue, array, constrained, bounded, member_pointer, function_type, qualified, vector, complex, expansion, integer, encoding_literal, address_of, pack, list, decltype, inheriting, operation, enumeration, bindings}
+use Rattle.cpp_grammar.specs.Term.{Term, symbol, function, object, special, thunk, of_name, construction, clone, alone, in_std, within, instance, local, holder, tagged, of_default, lambda, generic_lambda, conversion, pointer, lvalue, rvalue, array, constrained, bounded, member_pointer, function_type, qualified, vector, complex, expansion, integer, encoding_literal, address_of, pack, list, decltype, inheriting, operation, enumeration, bindings, declaring}
 use Rattle.cpp_grammar.specs.Unfolding.{unfold_cpp}
 use Rattle.cpp_grammar.specs.Rescoping.{unfold_wide}
 use Rattle.cpp_term.specs.Term as term_
@@ -49,6 +49,7 @@ erased s (generic_lambda parameters number) = ap (λ a. generic_lambda a number)
 erased s (conversion t) = ap (λ a. conversion a) (erased s t)
 erased s (enumeration t bytes) = ap (λ a. enumeration a bytes) (erased s t)
 erased s (bindings names) = ap (λ a. bindings a) (erased s names)
+erased s (declaring heads parameters) = both (λ a b. declaring a b) (erased s heads) (erased s parameters)
 erased s (constrained letter concept) = ap (λ a. constrained letter a) (erased s concept)
 erased s (pointer t) = ap (λ a. pointer a) (erased s t)
 erased s (lvalue t) = ap (λ a. lvalue a) (erased s t)

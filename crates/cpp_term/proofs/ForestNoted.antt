@@ -1,30 +1,31 @@
 -- The parts of a production that stays in its encoding, annotated.
-use Rattle.std.proofs.Common.{◌≡◌, refl, ap, sym, ◌∙◌, subst, ℕ, ◌+◌, ◌<◌, ◌≤◌, List, [], ◌∷◌, ◌++◌, length, Bool, true, false, ◌||◌, ◌&&◌, ◌⊎◌, None, Result, Ok, Err, inl, inr, arith}
+use Rattle.std.proofs.Common.{◌≡◌, refl, ap, sym, ◌∙◌, subst, ℕ, ◌+◌, ◌<◌, ◌≤◌, List, [], ◌∷◌, ◌++◌, length, Bool, true, false, ◌||◌, ◌&&◌, None, Ok, inl, inr, arith}
 use Rattle.std.proofs.lemmas.Bool.{true≢false}
-use Rattle.sym_core.specs.declared.refusal.Refusal.{Refusal}
 use Rattle.sym_shape.specs.declared.rule.Sym.{Sym}
 use Rattle.sym_shape.specs.declared.rule.Sym.TheVariants.{Kind as OfKind}
 use Rattle.sym_shape.specs.Law.{IsSymbol, AreSymbols}
 use Rattle.sym_shape.specs.Tree.{Tree, Forest, nothing, grown, spell, IsTree, AreTrees}
 use Rattle.sym_link.specs.Reading.{Found, Open, ◌>>=◌}
 use Rattle.sym_link.specs.Unfold.{unfold_tree, unfold_forest}
+use Rattle.cpp_grammar.specs.declared.production.Production.{Production}
 use Rattle.cpp_grammar.specs.Table.{wide}
 use Rattle.cpp_grammar.specs.Scope.{is_open}
 use Rattle.cpp_grammar.specs.Values as leaf_
 use Rattle.cpp_grammar.specs.Values.{Candidate, State, Around, Value}
 use Rattle.cpp_grammar.specs.Unfolding.{production_at}
-use Rattle.cpp_grammar.proofs.ClosedValues.{good_where, AllGood, GoodPrefix, held}
+use Rattle.cpp_grammar.proofs.ClosedValues.{AllGood, GoodPrefix, held}
 use Rattle.cpp_grammar.proofs.ClosedStates.{Bare, Within, AllOld, AllNew, Grows, old_grows}
 use Rattle.cpp_grammar.proofs.ClosedParts.{StaysInside}
 use Rattle.cpp_grammar.proofs.Ways.{Way, reading_by}
-use Rattle.cpp_grammar.proofs.ClosedTrees as trees_
-use Rattle.cpp_grammar.proofs.ClosedTrees.{is_encoding, has_encoding, TreeComes, KeepsClosed, tree_good_by, old_fits, grows_fits, one_good, or_true}
+use Rattle.cpp_grammar.proofs.Declared.{is_first, skips, parts_apart, is_nothing, read_of, hides}
+use Rattle.cpp_grammar.proofs.ClosedTrees.{is_encoding, has_encoding, TreeYields, KeepsClosed, tree_good_by, old_fits, grows_fits, or_true, left_apart, one_read, skipped_stays}
 use Rattle.cpp_term.specs.Values as value_
-use Rattle.cpp_term.specs.Annotated.{Place, nowhere, around_place, place_in, annotate, noted_value, noted_values, noted_around}
+use Rattle.cpp_term.specs.Annotated.{Place, nowhere, in_own, around_place, place_in, annotate, noted_value, noted_values, noted_around}
 use Rattle.cpp_term.proofs.KindsNoted.{is_special_kind}
 use Rattle.cpp_term.proofs.Notes.{both, or_left, or_right, closed_noted}
 use Rattle.cpp_term.proofs.StatesNoted.{Settled, Alike, alike_bind, Same, Moves, moves_none, moves_then, same_moves, IsNoted, AllNoted}
-use Rattle.cpp_term.proofs.BetweenNoted.{InScope, parts_place, Goes}
+use Rattle.cpp_term.proofs.BetweenNoted.{InScope, parts_place}
+use Rattle.cpp_term.proofs.DeclaredNoted.{in_first, parts_placed, left_placed, next_placed, place_at, noted_parts, parts_then, alike_map, Onward, Placed, there, alone, no_tree, hidden_placed, used_placed, first_inside, byte_values}
 use Rattle.cpp_term.proofs.NotedWays.{NotedWay, reading_noted_by, IsNotedBy}
 
 -- ## From a part to what contains it, and back
@@ -98,11 +99,6 @@ moves_outer own around inner end x later y noted e i grows m = record {
 
 -- ## Values
 
-pub values_append : (s : Place) (vs ws : List Value) → noted_values s (vs ++ ws) ≡ noted_values s vs ++ noted_values s ws
-unfolding noted_values
-values_append s [] ws = refl
-values_append s (v ∷ vs) ws = ap (λ us. noted_value s v ∷ us) (values_append s vs ws)
-
 pub value_closed : (s r : Place) (v : Value) → is_open (held v) ≡ false → noted_value s v ≡ noted_value r v
 unfolding noted_value held is_open
 value_closed s r (leaf_.piece p) h = ap value_.piece (closed_noted s r p h)
@@ -111,6 +107,10 @@ value_closed s r (leaf_.named t qualifiers ref) h = ap (λ u. value_.named u qua
 value_closed s r (leaf_.signature t ref) h = ap (λ u. value_.signature u ref) (closed_noted s r t h)
 value_closed s r (leaf_.pair second x y) h = both (value_.pair second) (closed_noted s r x (or_left (is_open x) (is_open y) h)) (closed_noted s r y (or_right (is_open x) (is_open y) h))
 value_closed s r _ h = refl
+
+one_noted : (s : Place) (vs : List Value) (v : Value) → vs ≡ v ∷ [] → noted_values s vs ≡ noted_value s v ∷ []
+unfolding noted_values
+one_noted s vs v is = ap (noted_values s) is
 
 -- ## Trees and forests
 
@@ -130,32 +130,32 @@ pub record Many (own : Bool) (s : Place) (around : Around) (x : State) (y : valu
 
 abbrev pub TreeNoted : Way → NotedWay → Tree → Type 0
 TreeNoted way noted_way t = (x : Sym) (around : Around) (at : ℕ) (state : State) (other : value_.State) → IsSymbol wide x → IsTree wide x t → around.encoding ≤ at → (is_encoding x ≡ true → around.encoding < at) →
-    (is_special x ≡ true → Bare way.own around) → Settled around → GoodPrefix (Bare way.own around) around.prefix → AllOld way.own around at state.candidates → Same way.own around state other →
-    Alike (Many way.own (around_place way.own around) around state other) (unfold_tree (reading_by way) around at t state) (unfold_tree (reading_noted_by noted_way) (noted_around way.own around) at t other)
+    (is_special x ≡ true → Bare way.own around) → (way.own ≡ true → is_first x ≡ true → around.in_lambda ≡ true) → Settled around → GoodPrefix (Bare way.own around) around.prefix → AllOld way.own around at state.candidates → Same way.own around state other →
+    Alike (Many way.own (place_at way.own x around) around state other) (unfold_tree (reading_by way) around at t state) (unfold_tree (reading_noted_by noted_way) (noted_around way.own around) at t other)
 
 abbrev pub AllTreesNoted : Way → NotedWay → Forest → Type 0
 AllTreesNoted way noted_way nothing = Unit {0}
 AllTreesNoted way noted_way (grown t f) = TreeNoted way noted_way t × AllTreesNoted way noted_way f
 
-pub alike_map : {A B : Type 0} (R Q : A → B → Type 0) (x : Result A Refusal) (y : Result B Refusal) → ((a : A) (b : B) → x ≡ Ok a → R a b → Q a b) → Alike R x y → Alike Q x y
-alike_map R Q (Ok a) (Ok b) f r = f a b refl r
-alike_map R Q (Err e) (Err d) f r = r
-alike_map R Q (Ok a) (Err d) f r = absurd r
-alike_map R Q (Err e) (Ok b) f r = absurd r
+-- the values of the parts of a production, both ways
+pub record Parts (own : Bool) (p : Production) (around : Around) (x : State) (y : value_.State) (a : Found (List Value) State) (b : Found (List value_.Value) value_.State) : Type 0 where
+  pub values : b.value ≡ noted_parts p own (parts_place own p around) a.value
+  pub moves : Moves own around x y a.state b.state
 
 -- an existing rule, annotated
 abbrev pub noted_open : (own : Bool) → Open State Around → value_.State → Open value_.State value_.Around
 noted_open own rule first = record { rule = rule.rule; taken = rule.taken; place = rule.place; context = noted_around own rule.context; before = first }
 
--- a part's values, where they are in a part of their own
-outer_values : (own : Bool) (s : Place) (inner : Around) (r : Found (List Value) State) (end : ℕ) (old : State) → (around_place own inner ≡ s) ⊎ ((inner.scope ≡ None) × (own ≡ false)) → TreeComes own inner end old r →
-    noted_values (around_place own inner) r.value ≡ noted_values s r.value
-unfolding noted_values
-outer_values own s inner r end old (inl same) c = ap (λ o. noted_values o r.value) same
-outer_values own s inner r end old (inr bare) c =
-    ap (noted_values (around_place own inner)) c.is
-    ∙ ap (λ v. v ∷ []) (value_closed (around_place own inner) s c.value (c.good.closed (bare.0, λ o. absurd (true≢false (sym o ∙ bare.1)))))
-    ∙ sym (ap (noted_values s) c.is)
+-- the value of a part, as it is annotated with the others
+outer_value : (way : Way) (s : Place) (x : Sym) (inner : Around) (t : Tree) (r : Found (List Value) State) (at end : ℕ) (old : State) → Placed way.own s x inner → (c : TreeYields way.own x inner end old r) → IsTree wide x t → unfold_tree (reading_by way) inner at t old ≡ Ok r →
+    noted_value (place_at way.own x inner) c.value ≡ noted_value s c.value
+unfolding noted_values value_.part
+outer_value way s x inner t r at end old (there same) c is e = ap (λ o. noted_value o c.value) same
+outer_value way s x inner t r at end old (alone none abi) c is e =
+    value_closed (place_at way.own x inner) s c.value (c.good.closed ((none, λ o. absurd (true≢false (sym o ∙ abi))), λ o. absurd (true≢false (sym o ∙ abi))))
+outer_value way s x inner t r at end old (no_tree byte) c is e =
+    let p = place_at way.own x inner in
+    ap (λ us. value_.part us 0) (sym (ap (noted_values p) c.is) ∙ byte_values way x t p s inner at old r byte is e ∙ ap (noted_values s) c.is)
 
 pub settled_inner : (around inner : Around) → InScope around inner → Settled around → Settled inner
 settled_inner around inner (inl same) settled = λ l. same.0 ∙ settled (sym same.1 ∙ l)
@@ -163,47 +163,62 @@ settled_inner around inner (inr bare) settled = λ l. bare.0
 
 module _ (way : Way) (keeps : KeepsClosed way) (noted_way : NotedWay) (ways : IsNotedBy way noted_way) where
   pub forest_noted : (f : Forest) → AllTreesNoted way noted_way f → (rule : Open State Around) (first : value_.State) (xs : List Sym) (vs : List Value) (at : ℕ) (x : State) (y : value_.State) →
-      StaysInside (production_at rule.rule.number) → AreSymbols wide xs → AreTrees wide xs f → rule.context.encoding ≤ at → (has_encoding xs ≡ true → rule.context.encoding < at) → has_special xs ≡ false → Settled rule.context →
-      GoodPrefix (Bare way.own rule.context) rule.context.prefix → AllGood (Within way.own (production_at rule.rule.number) rule.context) vs → AllOld way.own rule.context at x.candidates → Same way.own rule.context x y →
-      Alike (Many way.own (parts_place way.own (production_at rule.rule.number) rule.context) rule.context x y) (unfold_forest (reading_by way) rule vs at f x) (unfold_forest (reading_noted_by noted_way) (noted_open way.own rule first) (noted_values (parts_place way.own (production_at rule.rule.number) rule.context) vs) at f y)
+      StaysInside (production_at rule.rule.number) → parts_apart (production_at rule.rule.number) (is_nothing vs) xs ≡ true → parts_placed (production_at rule.rule.number) (is_nothing vs) xs ≡ true →
+      (way.own ≡ true → in_first (production_at rule.rule.number) ≡ true → rule.context.in_lambda ≡ true) →
+      AreSymbols wide xs → AreTrees wide xs f → rule.context.encoding ≤ at → (has_encoding xs ≡ true → rule.context.encoding < at) → has_special xs ≡ false → Settled rule.context →
+      GoodPrefix (Bare way.own rule.context) rule.context.prefix → AllGood (Within way.own (production_at rule.rule.number) rule.context) (read_of (production_at rule.rule.number) way.own vs) →
+      AllOld way.own rule.context at x.candidates → Same way.own rule.context x y →
+      Alike (Parts way.own (production_at rule.rule.number) rule.context x y) (unfold_forest (reading_by way) rule vs at f x)
+      (unfold_forest (reading_noted_by noted_way) (noted_open way.own rule first) (noted_parts (production_at rule.rule.number) way.own (parts_place way.own (production_at rule.rule.number) rule.context) vs) at f y)
   unfolding reading_by reading_noted_by has_encoding has_special
-  forest_noted nothing all rule first xs vs at x y stays known trees le inside none settled pre good old same =
+  forest_noted nothing all rule first xs vs at x y stays apart placed inner known trees le inside none settled pre good old same =
       record { values = refl; moves = moves_none way.own rule.context x x y y refl refl same.packs }
-  forest_noted (grown t f) all rule first [] vs at x y stays known trees le inside none settled pre good old same = absurd trees
-  forest_noted (grown t f) all rule first (k ∷ ks) vs at x y stays known trees le inside none settled pre good old same =
+  forest_noted (grown t f) all rule first [] vs at x y stays apart placed inner known trees le inside none settled pre good old same = absurd trees
+  forest_noted (grown t f) all rule first (k ∷ ks) vs at x y stays apart placed inner known trees le inside none settled pre good old same =
       let around = rule.context in
-      let s = parts_place way.own (production_at rule.rule.number) around in
-      let w = Within way.own (production_at rule.rule.number) around in
+      let p = production_at rule.rule.number in
+      let s = parts_place way.own p around in
       let later = at + length (spell t) in
-      alike_bind (Goes way.own s around x y) (Many way.own s around x y) (way.between (production_at rule.rule.number) around rule.place vs x) (noted_way.between (production_at rule.rule.number) (noted_around way.own around) rule.place (noted_values s vs) y)
+      alike_bind (Onward way.own p around x y) (Parts way.own p around x y) (way.between p around rule.place vs x) (noted_way.between p (noted_around way.own around) rule.place (noted_parts p way.own s vs) y)
       (λ next. unfold_tree (reading_by way) next.context at t next.state >>= λ part. unfold_forest (reading_by way) rule (next.values ++ part.value) later f part.state)
       (λ next. unfold_tree (reading_noted_by noted_way) next.context at t next.state >>= λ part. unfold_forest (reading_noted_by noted_way) (noted_open way.own rule first) (next.values ++ part.value) later f part.state)
-      (ways.goes (production_at rule.rule.number) around rule.place vs x y stays settled same)
+      (ways.goes p around rule.place vs x y stays settled same)
       (λ n m goes-is goes.
-      let g = keeps.goes (production_at rule.rule.number) around rule.place vs x n at stays pre old good goes-is in
+      let g = keeps.goes p around rule.place vs x n at stays pre old good goes-is in
       let old1 = old_grows way.own around at at x n.state (omega arith) old g.grows in
       let same1 = same_moves way.own around x n.state y m.state same goes.moves in
       let inside1 : is_encoding k ≡ true → n.context.encoding < at = λ opening. omega (arith, g.fits.encoding, inside (or_first (is_encoding k) (has_encoding ks) opening)) in
       let le1 : n.context.encoding ≤ at = omega (arith, g.fits.encoding, le) in
       let old2 = old_fits way.own around n.context at n.state.candidates g.fits old1 in
+      let here_ = next_placed p (is_nothing vs) k ks placed in
+      let first1 = first_inside p way.own (is_nothing vs && skips p) around n.context k here_ goes.scope inner goes.lambda in
+      let settled1 = settled_inner around n.context goes.scope settled in
+      let still : skips p ≡ true → n.values ≡ vs = λ h. skipped_stays way keeps p around rule.place vs x n h goes-is in
       let tree = all.0 k n.context at n.state m.state known.0 trees.0 le1 inside1
-      (λ special. absurd (true≢false (sym (or_first (is_special k) (has_special ks) special) ∙ none))) (settled_inner around n.context goes.scope settled) g.fits.prefix old2 (same_inner way.own around n.context n.state m.state g.fits.encoding goes.scope same1) in
-      alike_bind (Many way.own (around_place way.own n.context) n.context n.state m.state) (Many way.own s around x y) (unfold_tree (reading_by way) n.context at t n.state) (unfold_tree (reading_noted_by noted_way) m.context at t m.state)
+      (λ special. absurd (true≢false (sym (or_first (is_special k) (has_special ks) special) ∙ none))) first1 settled1 g.fits.prefix old2 (same_inner way.own around n.context n.state m.state g.fits.encoding goes.scope same1) in
+      alike_bind (Many way.own (place_at way.own k n.context) n.context n.state m.state) (Parts way.own p around x y) (unfold_tree (reading_by way) n.context at t n.state) (unfold_tree (reading_noted_by noted_way) m.context at t m.state)
       (λ part. unfold_forest (reading_by way) rule (n.values ++ part.value) later f part.state) (λ part. unfold_forest (reading_noted_by noted_way) (noted_open way.own rule first) (m.values ++ part.value) later f part.state)
-      (subst (λ c. Alike (Many way.own (around_place way.own n.context) n.context n.state m.state) (unfold_tree (reading_by way) n.context at t n.state) (unfold_tree (reading_noted_by noted_way) c at t m.state)) (sym goes.context) tree)
+      (subst (λ c. Alike (Many way.own (place_at way.own k n.context) n.context n.state m.state) (unfold_tree (reading_by way) n.context at t n.state) (unfold_tree (reading_noted_by noted_way) c at t m.state)) (sym goes.context) tree)
       (λ a b part-is part.
       let comes = tree_good_by way keeps t k n.context at n.state a known.0 trees.0 le1 inside1 g.fits.prefix old2 part-is in
       let moves1 = moves_outer way.own around n.context later n.state a.state m.state b.state g.fits.encoding goes.scope comes.grows part.moves in
       let grown1 = grows_fits way.own around n.context later n.state a.state g.fits comes.grows in
-      let good1 = one_good w comes.value a.value comes.is (good_where (Bare way.own n.context) w (held comes.value) g.bare comes.good) in
-      let values1 = both (λ us ws. us ++ ws) goes.values (part.values ∙ outer_values way.own s n.context a later n.state goes.place comes) ∙ sym (values_append s n.values a.value) in
+      let good1 = one_read way keeps p around rule.place vs a.value x n k ks comes.value comes.is apart goes-is g.values g.bare comes.good in
+      let v = noted_value (place_at way.own k n.context) comes.value in
+      let one : b.value ≡ v ∷ [] = part.values ∙ one_noted (place_at way.own k n.context) a.value comes.value comes.is in
+      let hidden : hides p way.own n.values ≡ true → v ≡ noted_value in_own comes.value =
+      λ h. ap (λ o. noted_value o comes.value) (hidden_placed p way.own vs n.values k n.context here_ still h) in
+      let used : hides p way.own n.values ≡ false → v ≡ noted_value s comes.value =
+      λ h. outer_value way s k n.context t a at later n.state (used_placed p way.own around n.context vs n.values k here_ still h goes.place settled1 first1) comes trees.0 part-is in
+      let values1 : m.values ++ b.value ≡ noted_parts p way.own s (n.values ++ a.value) =
+      both (λ us ws. us ++ ws) goes.values one ∙ parts_then p way.own s n.values comes.value v hidden used ∙ sym (ap (λ ws. noted_parts p way.own s (n.values ++ ws)) comes.is) in
       let moves2 = moves_then way.own around x n.state a.state y m.state b.state goes.moves moves1 in
-      let rest = forest_noted f all.1 rule first ks (n.values ++ a.value) later a.state b.state stays known.1 trees.1 (omega (arith, le))
-      (λ opening. omega (arith, inside (or_true (is_encoding k) (has_encoding ks) opening))) (or_rest (is_special k) (has_special ks) none) settled pre (trees_.all_append w n.values a.value g.values good1)
+      let rest = forest_noted f all.1 rule first ks (n.values ++ a.value) later a.state b.state stays (left_apart p (is_nothing vs) n.values a.value k ks comes.value comes.is apart) (left_placed p (is_nothing vs) n.values a.value k ks comes.value comes.is placed) inner
+      known.1 trees.1 (omega (arith, le)) (λ opening. omega (arith, inside (or_true (is_encoding k) (has_encoding ks) opening))) (or_rest (is_special k) (has_special ks) none) settled pre good1
       (old_grows way.own around at later n.state a.state (omega arith) old1 grown1) (same_moves way.own around n.state a.state m.state b.state same1 moves1) in
-      alike_map (Many way.own s around a.state b.state) (Many way.own s around x y) (unfold_forest (reading_by way) rule (n.values ++ a.value) later f a.state) (unfold_forest (reading_noted_by noted_way) (noted_open way.own rule first) (m.values ++ b.value) later f b.state)
+      alike_map (Parts way.own p around a.state b.state) (Parts way.own p around x y) (unfold_forest (reading_by way) rule (n.values ++ a.value) later f a.state) (unfold_forest (reading_noted_by noted_way) (noted_open way.own rule first) (m.values ++ b.value) later f b.state)
       (λ u v end-is end. record { values = end.values; moves = moves_then way.own around x a.state u.state y b.state v.state moves2 end.moves })
-      (subst (λ us. Alike (Many way.own s around a.state b.state) (unfold_forest (reading_by way) rule (n.values ++ a.value) later f a.state) (unfold_forest (reading_noted_by noted_way) (noted_open way.own rule first) us later f b.state)) (sym values1) rest)))
+      (subst (λ us. Alike (Parts way.own p around a.state b.state) (unfold_forest (reading_by way) rule (n.values ++ a.value) later f a.state) (unfold_forest (reading_noted_by noted_way) (noted_open way.own rule first) us later f b.state)) (sym values1) rest)))
     where
       or_first : (a b : Bool) → a ≡ true → a || b ≡ true
       or_first a b h = ap (λ c. c || b) h

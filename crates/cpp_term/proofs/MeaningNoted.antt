@@ -340,11 +340,25 @@ default_noted : (s : Place) (vs : List Value) →
 unfolding noted_.default_entity meaning_.default_entity noted_value annotate
 default_noted s vs = four (λ d x q r. value_.named (term_.of_default (normal d) x) q r) (text_part s vs 0) (tree_part s vs 1) (qualifiers_part s vs 1) (ref_part s vs 1)
 
+-- what a lambda declares of its parameters
+signature_with_noted : (s : Place) (v : Value) (t : Term) → noted_.signature_with (noted_value s v) (annotate s t) ≡ annotate s (meaning_.signature_with v t)
+unfolding noted_.signature_with meaning_.signature_with noted_value annotate
+signature_with_noted s (leaf_.pair second left right) t = refl
+signature_with_noted s _ t = refl
+
+declared_first_noted : (s : Place) (head v : Value) → noted_.declared_first (noted_value s head) (noted_value s v) ≡ noted_value s (meaning_.declared_first head v)
+unfolding noted_.declared_first meaning_.declared_first noted_value annotate
+declared_first_noted s head (leaf_.pair second left right) = ap (λ x. value_.pair second (annotate s left) (term_.list x (annotate s right))) (tree_noted s head)
+declared_first_noted s head v = both (λ x y. value_.pair 84 y (term_.list x term_.nil)) (tree_noted s head) (tree_noted s v)
+
 pub lambda_noted : (s : Place) (vs : List Value) →
-    value_.piece (term_.lambda (noted_.parameters (term_.list (value_.tree_of (value_.part (noted_values s vs) 0)) (between_.no_items (value_.part (noted_values s vs) 1)))) (local_number (value_.text_of (value_.part (noted_values s vs) 3))))
-    ≡ value_.piece (annotate s (lambda (meaning_.parameters (list (tree_of (part vs 0)) (going_.no_items (part vs 1)))) (local_number (text_of (part vs 3)))))
+    value_.piece (term_.lambda (noted_.signature_with (value_.part (noted_values s vs) 0) (noted_.parameters (term_.list (value_.tree_of (value_.part (noted_values s vs) 0)) (between_.no_items (value_.part (noted_values s vs) 1))))) (local_number (value_.text_of (value_.part (noted_values s vs) 3))))
+    ≡ value_.piece (annotate s (lambda (meaning_.signature_with (part vs 0) (meaning_.parameters (list (tree_of (part vs 0)) (going_.no_items (part vs 1))))) (local_number (text_of (part vs 3)))))
 unfolding annotate
-lambda_noted s vs = both (λ x d. value_.piece (term_.lambda x (local_number d))) (both (λ x y. noted_.parameters (term_.list x y)) (tree_part s vs 0) (items_part s vs 1) ∙ parameters_noted s (list (tree_of (part vs 0)) (going_.no_items (part vs 1)))) (text_part s vs 3)
+lambda_noted s vs = both (λ x d. value_.piece (term_.lambda x (local_number d)))
+    (both noted_.signature_with (part_noted s vs 0) (both (λ x y. noted_.parameters (term_.list x y)) (tree_part s vs 0) (items_part s vs 1) ∙ parameters_noted s (list (tree_of (part vs 0)) (going_.no_items (part vs 1))))
+    ∙ signature_with_noted s (part vs 0) (meaning_.parameters (list (tree_of (part vs 0)) (going_.no_items (part vs 1)))))
+    (text_part s vs 3)
 
 tag_noted : (s : Place) (t : Term) (u : term_.Term) (tag other : List ℕ) → u ≡ annotate s t → other ≡ tag → between_.with_tag u other ≡ annotate s (going_.with_tag t tag)
 unfolding between_.with_tag going_.with_tag annotate
@@ -651,6 +665,8 @@ own_noted own row_.local_name byte around vs h = five (λ x y d q r. value_.name
 own_noted own row_.in_default byte around vs h = default_noted (around_place own around) vs
 own_noted own row_.nest_end byte around vs h = both value_.tree (prefix_tree_noted (around_place own around) around.prefix) (prefix_listed_noted (around_place own around) around.prefix)
 own_noted own row_.closure byte around vs h = lambda_noted (around_place own around) vs
+own_noted own row_.declared_before byte around vs h =
+    both noted_.declared_first (part_noted (around_place own around) vs 0) (part_noted (around_place own around) vs 1) ∙ declared_first_noted (around_place own around) (part vs 0) (part vs 1)
 own_noted own row_.inheriting byte around vs h =
     both (between_.inherited (noted_prefix (around_place own around) around.prefix)) (letter_part (around_place own around) vs 0) (part_noted (around_place own around) vs 1) ∙ inherited_noted (around_place own around) around.prefix (letter_of (part vs 0)) (part vs 1)
 own_noted own row_.by_letters byte around vs h = ap (noted_.operation_by byte) (part_noted (around_place own around) vs 0) ∙ operation_noted (around_place own around) byte (part vs 0)

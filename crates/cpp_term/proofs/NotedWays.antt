@@ -18,10 +18,11 @@ use Rattle.cpp_term.specs.Values.{State, Around, Value, nothing_there, text}
 use Rattle.cpp_term.specs.Between.{Continuation, between}
 use Rattle.cpp_term.specs.Unfolding.{number_tested, opening, close}
 use Rattle.cpp_term.specs.Rescoping.{opening_wide, between_wide, close_wide}
-use Rattle.cpp_term.specs.Annotated.{noted_values, noted_around}
+use Rattle.cpp_term.specs.Annotated.{noted_around}
 use Rattle.cpp_term.proofs.MeaningNoted.{Inside}
-use Rattle.cpp_term.proofs.StatesNoted.{Alongside, Settled, Alike, Same, Moves, moves_none, expecting_moves, Comes}
-use Rattle.cpp_term.proofs.BetweenNoted.{parts_place, Goes, between_noted, close_noted, wide_between_noted, wide_close_noted}
+use Rattle.cpp_term.proofs.StatesNoted.{Alongside, Settled, Alike, Same, Moves, moves_none, expecting_moves}
+use Rattle.cpp_term.proofs.BetweenNoted.{parts_place}
+use Rattle.cpp_term.proofs.DeclaredNoted.{in_first, noted_parts, Onward, Yield, abi_goes, abi_closes, wide_goes, wide_closes}
 
 pub record NotedWay : Type 0 where
   pub opening : Production → Forest → (place : ℕ) → State → Result State Refusal
@@ -54,10 +55,10 @@ pub record IsNotedBy (w : Way) (v : NotedWay) : Type 0 where
   pub plain : IsPlainNoted v
   pub begins : (production : Production) (f : Forest) (place : ℕ) (around : leaf_.Around) (x : leaf_.State) (y : State) → Same w.own around x y → Alike (Moves w.own around x y) (w.opening production f place x) (v.opening production f place y)
   pub goes : (production : Production) (around : leaf_.Around) (place : ℕ) (vs : List leaf_.Value) (x : leaf_.State) (y : State) → StaysInside production → Settled around → Same w.own around x y →
-      Alike (Goes w.own (parts_place w.own production around) around x y) (w.between production around place vs x) (v.between production (noted_around w.own around) place (noted_values (parts_place w.own production around) vs) y)
+      Alike (Onward w.own production around x y) (w.between production around place vs x) (v.between production (noted_around w.own around) place (noted_parts production w.own (parts_place w.own production around) vs) y)
   pub comes : (production : Production) (byte : ℕ) (around : leaf_.Around) (place : ℕ) (began : leaf_.State) (first : State) (vs : List leaf_.Value) (x : leaf_.State) (y : State) → Inside production vs →
-      Settled around → Same w.own around x y → Alongside began first →
-      Alike (Comes w.own around x y) (w.close production byte around place began vs x) (v.close production byte (noted_around w.own around) place first (noted_values (parts_place w.own production around) vs) y)
+      Settled around → (w.own ≡ true → in_first production ≡ true → around.in_lambda ≡ true) → Same w.own around x y → Alongside began first →
+      Alike (Yield w.own production around x y) (w.close production byte around place began vs x) (v.close production byte (noted_around w.own around) place first (noted_parts production w.own (parts_place w.own production around) vs) y)
 
 -- an opening tests a number, or notes what is expected
 opening_moves : (own : Bool) (p : Production) (f : Forest) (place : ℕ) (around : leaf_.Around) (x : leaf_.State) (y : State) → Alongside x y → Alike (Moves own around x y) (leaf_opening.opening p f place x) (opening p f place y)
@@ -85,8 +86,8 @@ unfolding abi_way abi_noted
 abi_is_noted = record {
   plain = record { between = λ p apart around place vs state. refl; close = λ p apart byte around place began vs state. refl };
   begins = λ production f place around x y same. opening_moves false production f place around x y same.packs;
-  goes = λ production around place vs x y stays settled same. between_noted false production around place vs x y stays same.packs;
-  comes = close_noted;
+  goes = abi_goes;
+  comes = λ production byte around place began first vs x y h settled inside same e. abi_closes production byte around place began first vs x y h settled same e;
 }
 
 plain_between : (p : Production) → differs p ≡ false → (around : Around) (place : ℕ) (vs : List Value) (state : State) → between_wide p around place vs state ≡ between p around place vs state
@@ -102,4 +103,9 @@ plain_close _ apart byte around place began vs state = cc
 
 pub wide_is_noted : IsNotedBy wide_way wide_noted
 unfolding wide_way wide_noted
-wide_is_noted = record { plain = record { between = plain_between; close = plain_close }; begins = wide_opening_moves; goes = wide_between_noted; comes = wide_close_noted }
+wide_is_noted = record {
+  plain = record { between = plain_between; close = plain_close };
+  begins = wide_opening_moves;
+  goes = wide_goes;
+  comes = λ production byte around place began first vs x y h settled inside same e. wide_closes production byte around place began first vs x y h settled (inside refl) same e;
+}

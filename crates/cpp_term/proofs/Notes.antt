@@ -1,15 +1,13 @@
 -- What annotating keeps.
-use Rattle.std.proofs.Common.{◌≡◌, refl, ap, sym, ◌∙◌, subst, nat_eq, max, not, cond, ℕ, zero, suc, Bool, true, false, ◌||◌, ◌&&◌, Option, Some, None}
+use Rattle.std.proofs.Common.{◌≡◌, refl, ap, sym, ◌∙◌, subst, nat_eq, max, not, cond, ℕ, zero, suc, Bool, true, false, ◌||◌, Option, Some, None}
 use Rattle.std.proofs.lemmas.Bool.{true≢false, eqb-true}
-use Rattle.cpp_grammar.specs.Term.{Term, alone, in_std, within, instance, local, holder, tagged, of_default, parameter, lambda, conversion, pointer, lvalue, rvalue, array, constrained, bounded, member_pointer, function_type, qualified, vector, complex, expansion, integer, pack, list, absent, decltype, inheriting, operation, enumeration, bindings}
+use Rattle.cpp_grammar.specs.Term.{Term, alone, in_std, within, instance, local, holder, tagged, of_default, parameter, lambda, conversion, pointer, lvalue, rvalue, array, constrained, bounded, member_pointer, function_type, qualified, vector, complex, expansion, integer, pack, list, decltype, inheriting, operation, enumeration, bindings, declaring}
 use Rattle.cpp_grammar.specs.Scope.{count, element, is_alone, has_pack, arguments_of, is_open, Free, none_free, one_free, several_free, both_free, free_in, first_of, length_if_pack, pack_length}
-use Rattle.cpp_grammar.specs.Items.{Context, auto, indexed, argument, Head, lref, collapsed, head_with, head_closed, head, packs_of, is_none_of, is_empty}
 use Rattle.cpp_grammar.specs.References.{packs_in}
 use Rattle.cpp_term.specs.Term as term_
 use Rattle.cpp_term.specs.Scope as scope_
-use Rattle.cpp_term.specs.Items as item_
 use Rattle.cpp_term.specs.Reargued.{given_for, argument_or, reargued}
-use Rattle.cpp_term.specs.Annotated.{Place, nowhere, in_arguments, in_own, place_of, place_in, argument_in, annotate, noted_scope, context_place, noted_context}
+use Rattle.cpp_term.specs.Annotated.{Place, nowhere, in_arguments, in_own, place_of, place_in, argument_in, annotate, noted_scope}
 
 pub both : {A B C : Type 0} (f : A → B → C) {a b : A} {c d : B} → a ≡ b → c ≡ d → f a c ≡ f b d
 both f {a} {b} {c} {d} e g = ap (λ x. f x c) e ∙ ap (f b) g
@@ -86,6 +84,7 @@ open_noted s (lambda parameters number) = open_noted s parameters
 open_noted s (conversion t) = open_noted s t
 open_noted s (enumeration t bytes) = open_noted s t
 open_noted s (bindings names) = open_noted s names
+open_noted s (declaring heads parameters) = both (λ x y. x || y) (open_noted s heads) (open_noted s parameters)
 open_noted s (constrained letter concept) = open_noted s concept
 open_noted s (pointer t) = open_noted s t
 open_noted s (lvalue t) = open_noted s t
@@ -130,6 +129,7 @@ closed_noted s r (lambda parameters number) e = ap (λ x. term_.lambda x number)
 closed_noted s r (conversion t) e = ap term_.conversion (closed_noted s r t e)
 closed_noted s r (enumeration t bytes) e = ap (λ x. term_.enumeration x bytes) (closed_noted s r t e)
 closed_noted s r (bindings names) e = ap term_.bindings (closed_noted s r names e)
+closed_noted s r (declaring heads parameters) e = both term_.declaring (closed_noted s r heads (or_left (is_open heads) (is_open parameters) e)) (closed_noted s r parameters (or_right (is_open heads) (is_open parameters) e))
 closed_noted s r (constrained letter concept) e = ap (term_.constrained letter) (closed_noted s r concept e)
 closed_noted s r (pointer t) e = ap term_.pointer (closed_noted s r t e)
 closed_noted s r (lvalue t) e = ap term_.lvalue (closed_noted s r t e)
@@ -201,6 +201,7 @@ renoted r s a (lambda parameters number) e = ap (λ x. term_.lambda x number) (r
 renoted r s a (conversion t) e = ap term_.conversion (renoted r s a t e)
 renoted r s a (enumeration t bytes) e = ap (λ x. term_.enumeration x bytes) (renoted r s a t e)
 renoted r s a (bindings names) e = ap term_.bindings (renoted r s a names e)
+renoted r s a (declaring heads parameters) e = both term_.declaring (renoted r s a heads (names_both r a (free_in heads) (free_in parameters) e).0) (renoted r s a parameters (names_both r a (free_in heads) (free_in parameters) e).1)
 renoted r s a (constrained letter concept) e = ap (term_.constrained letter) (renoted r s a concept e)
 renoted r s a (pointer t) e = ap term_.pointer (renoted r s a t e)
 renoted r s a (lvalue t) e = ap term_.lvalue (renoted r s a t e)
@@ -236,6 +237,7 @@ free_noted s (lambda parameters number) = free_noted s parameters
 free_noted s (conversion t) = free_noted s t
 free_noted s (enumeration t bytes) = free_noted s t
 free_noted s (bindings names) = free_noted s names
+free_noted s (declaring heads parameters) = both both_free (free_noted s heads) (free_noted s parameters)
 free_noted s (constrained letter concept) = free_noted s concept
 free_noted s (pointer t) = free_noted s t
 free_noted s (lvalue t) = free_noted s t
@@ -279,6 +281,7 @@ pack_none (lambda parameters number) = pack_none parameters
 pack_none (conversion t) = pack_none t
 pack_none (enumeration t bytes) = pack_none t
 pack_none (bindings names) = pack_none names
+pack_none (declaring heads parameters) = both first_of (pack_none heads) (pack_none parameters)
 pack_none (constrained letter concept) = pack_none concept
 pack_none (pointer t) = pack_none t
 pack_none (lvalue t) = pack_none t
@@ -314,6 +317,7 @@ pack_own (lambda parameters number) = pack_own parameters
 pack_own (conversion t) = pack_own t
 pack_own (enumeration t bytes) = pack_own t
 pack_own (bindings names) = pack_own names
+pack_own (declaring heads parameters) = both first_of (pack_own heads) (pack_own parameters)
 pack_own (constrained letter concept) = pack_own concept
 pack_own (pointer t) = pack_own t
 pack_own (lvalue t) = pack_own t
@@ -349,6 +353,7 @@ pack_some all (lambda parameters number) = pack_some all parameters
 pack_some all (conversion t) = pack_some all t
 pack_some all (enumeration t bytes) = pack_some all t
 pack_some all (bindings names) = pack_some all names
+pack_some all (declaring heads parameters) = both first_of (pack_some all heads) (pack_some all parameters)
 pack_some all (constrained letter concept) = pack_some all concept
 pack_some all (pointer t) = pack_some all t
 pack_some all (lvalue t) = pack_some all t
@@ -372,111 +377,3 @@ unfolding packs_in place_in
 packs_noted None true t = pack_own t
 packs_noted None false t = pack_none t
 packs_noted (Some arguments) in_signature t = pack_some arguments t
-
-pub packs_of_noted : (c : Context) (t : Term) → item_.packs_of (noted_context c) (annotate (context_place c) t) ≡ packs_of c t
-unfolding packs_of item_.packs_of packs_in
-packs_of_noted c t = go c.scope
-  where
-    go : (o : Option Term) → scope_.pack_length (annotate (place_in o c.in_signature) t) ≡ elim o [ None ↦ None | Some arguments ↦ pack_length arguments t ]
-    go None = packs_noted None c.in_signature t
-    go (Some arguments) = packs_noted (Some arguments) c.in_signature t
-
--- ## Arguments and heads
-
-pub indexed_noted : (s : Place) (index : Option ℕ) (t : Term) → item_.indexed index (annotate s t) ≡ annotate s (indexed index t)
-unfolding item_.indexed indexed annotate
-indexed_noted s None t = refl
-indexed_noted s (Some i) (pack elements) = element_noted s elements i
-indexed_noted s (Some i) _ = refl
-
-pub argument_noted : (c : Context) (k : ℕ) → item_.argument (noted_context c) (argument_in (context_place c) k) ≡ annotate nowhere (argument c k)
-unfolding item_.argument argument argument_in noted_context place_in indexed item_.indexed annotate
-argument_noted c k = go c.scope
-  where
-    none : (index : Option ℕ) (b : Bool) → item_.indexed index (argument_in (place_in None b) k) ≡ annotate nowhere (elim b [ true ↦ auto | false ↦ absent ])
-    none None true = refl
-    none (Some i) true = refl
-    none None false = refl
-    none (Some i) false = refl
-
-    go : (o : Option Term) → item_.indexed c.index (argument_in (place_in o c.in_signature) k) ≡ annotate nowhere (elim o [
-      | None ↦ elim c.in_signature [ true ↦ auto | false ↦ absent ]
-      | Some arguments ↦ indexed c.index (element arguments k)
-    ])
-    go None = none c.index c.in_signature
-    go (Some arguments) = ap (item_.indexed c.index) (element_noted nowhere arguments k) ∙ indexed_noted nowhere c.index (element arguments k)
-
-collapsed_twice : (h : Head) → collapsed h ≡ collapsed (collapsed h)
-unfolding collapsed
-collapsed_twice lref = refl
-collapsed_twice _ = refl
-
-collapsed_head : (index : Option ℕ) (x : item_.HeadClass) → item_.head_of_class index (item_.collapsed_class x) ≡ collapsed (item_.head_of_class index x)
-unfolding item_.head_of_class item_.collapsed_class
-collapsed_head index (item_.known h) = refl
-collapsed_head index (item_.of_element elements) = refl
-collapsed_head index (item_.collapsed_of_element elements) = collapsed_twice (item_.element_head index elements)
-
-collapsed_plain : (x : item_.HeadClass) → item_.plain_class (item_.collapsed_class x) ≡ collapsed (item_.plain_class x)
-unfolding item_.plain_class item_.collapsed_class collapsed
-collapsed_plain (item_.known h) = refl
-collapsed_plain (item_.of_element elements) = refl
-collapsed_plain (item_.collapsed_of_element elements) = refl
-
--- the head of a tree in which nothing is named
-closed_head : (index : Option ℕ) (t : Term) → item_.head_of_class index (item_.class_of (annotate nowhere t)) ≡ head_closed t
-unfolding item_.class_of item_.head_of_class head_closed head_with annotate argument_in
-closed_head index (rvalue t) = collapsed_head index (item_.class_of (annotate nowhere t)) ∙ ap collapsed (closed_head index t)
-closed_head index (qualified q t) = closed_head index t
-closed_head index (parameter k) = refl
-closed_head index _ = refl
-
-plain_head_noted : (t : Term) → item_.plain_class (item_.class_of (annotate nowhere t)) ≡ head_closed t
-unfolding item_.class_of item_.plain_class head_closed head_with annotate argument_in
-plain_head_noted (rvalue t) = collapsed_plain (item_.class_of (annotate nowhere t)) ∙ ap collapsed (plain_head_noted t)
-plain_head_noted (qualified q t) = plain_head_noted t
-plain_head_noted (parameter k) = refl
-plain_head_noted _ = refl
-
-element_head_noted : (index : Option ℕ) (elements : Term) → item_.element_head index (annotate nowhere elements) ≡ head_closed (indexed index (pack elements))
-unfolding item_.element_head indexed head_closed item_.head_of_class head_with item_.class_of annotate
-element_head_noted None elements = refl
-element_head_noted (Some i) elements = ap (λ t. item_.plain_class (item_.class_of t)) (element_noted nowhere elements i) ∙ plain_head_noted (element elements i)
-
-parameter_head : (index : Option ℕ) (k : ℕ) (t : Term) → item_.head_of_class index (item_.class_of (term_.parameter k (annotate nowhere t))) ≡ head_closed (indexed index t)
-unfolding item_.class_of indexed annotate item_.head_of_class
-parameter_head index k (pack elements) = element_head_noted index elements
-parameter_head None k t = closed_head None t
-parameter_head (Some i) k t = closed_head (Some i) t
-
-head_named : (c : Context) (k : ℕ) → item_.head_of_class c.index (item_.class_of (term_.parameter k (argument_in (context_place c) k))) ≡ head_closed (argument c k)
-unfolding argument indexed argument_in annotate place_in
-head_named c k = go c.scope
-  where
-    none : (index : Option ℕ) (b : Bool) → item_.head_of_class index (item_.class_of (term_.parameter k (argument_in (place_in None b) k))) ≡ head_closed (elim b [ true ↦ auto | false ↦ absent ])
-    none None true = parameter_head None k auto
-    none (Some i) true = parameter_head (Some i) k auto
-    none None false = parameter_head None k absent
-    none (Some i) false = parameter_head (Some i) k absent
-
-    go : (o : Option Term) → item_.head_of_class c.index (item_.class_of (term_.parameter k (argument_in (place_in o c.in_signature) k))) ≡ head_closed (elim o [
-      | None ↦ elim c.in_signature [ true ↦ auto | false ↦ absent ]
-      | Some arguments ↦ indexed c.index (element arguments k)
-    ])
-    go None = none c.index c.in_signature
-    go (Some arguments) =
-        ap (λ a. item_.head_of_class c.index (item_.class_of (term_.parameter k a))) (element_noted nowhere arguments k) ∙ parameter_head c.index k (element arguments k)
-
-pub head_noted : (c : Context) (t : Term) → item_.head (noted_context c) (annotate (context_place c) t) ≡ head c t
-unfolding item_.head head noted_context item_.class_of item_.head_of_class head_with annotate
-head_noted c (rvalue t) = collapsed_head c.index (item_.class_of (annotate (context_place c) t)) ∙ ap collapsed (head_noted c t)
-head_noted c (qualified q t) = head_noted c t
-head_noted c (parameter k) = head_named c k
-head_noted c _ = refl
-
-pub empty_noted : (c : Context) (t : Term) → item_.is_empty (noted_context c) (annotate (context_place c) t) ≡ is_empty c t
-unfolding item_.is_empty is_empty annotate
-empty_noted c (expansion pattern) = ap is_none_of (packs_of_noted c pattern)
-empty_noted c (pack elements) = empty_noted c elements
-empty_noted c (list e rest) = both (λ x y. x && y) (empty_noted c e) (empty_noted c rest)
-empty_noted c _ = refl

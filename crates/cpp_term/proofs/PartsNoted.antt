@@ -1,22 +1,24 @@
 -- The parts of an annotated item are those of the item.
-use Rattle.std.proofs.Common.{◌≡◌, refl, ap, sym, ◌∙◌, ℕ, zero, suc, ◌+◌, List, [], ◌∷◌, ◌++◌, Bool, true, false, cond, nat_eq, nat_le, Option, Some, None, codes}
+use Rattle.std.proofs.Common.{◌≡◌, refl, ap, sym, ◌∙◌, ℕ, zero, suc, ◌+◌, List, [], ◌∷◌, ◌++◌, Bool, true, false, cond, nat_eq, nat_le, Option, Some, None, codes, decimal, nat_lt, ◌^◌}
 use Prim.Native.String.{String}
 use Rattle.sym_print.specs.declared.detail.Detail.{Detail}
 use Rattle.sym_print.specs.Details.{has_arguments, has_parameters}
 use Rattle.sym_print.specs.Unfold.{PartOf, text, sub}
-use Rattle.cpp_grammar.specs.Term.{Qualifiers, RefQualifier, any_value, lvalue_only, rvalue_only, explicit_object, Signed, Term, symbol, function, object, of_name, alone, in_std, within, instance, local, holder, tagged, of_default, abbreviation, parameter, source, constructor, destructor, inheriting, lambda, generic_lambda, bindings, builtin, sized_float, pointer, lvalue, rvalue, array, bounded, member_pointer, function_type, qualified, expansion, integer, operation, function_parameter, pack, nil, list, absent}
-use Rattle.cpp_grammar.specs.Scope.{arguments_of, without_tags}
-use Rattle.cpp_grammar.specs.Items.{Form, root, full, bare, left, right, low, base, piece, first, more, expand, Context, signature_in, Item, closed, argument, head, is_reference, is_funarr, packs_of, is_empty}
+use Rattle.cpp_grammar.specs.Term.{Qualifiers, RefQualifier, any_value, lvalue_only, rvalue_only, explicit_object, Signed, Term, symbol, function, object, of_name, alone, in_std, within, instance, local, holder, tagged, of_default, abbreviation, parameter, source, constructor, destructor, inheriting, lambda, generic_lambda, bindings, builtin, sized_float, pointer, lvalue, rvalue, array, bounded, member_pointer, function_type, qualified, expansion, integer, operation, function_parameter, pack, nil, list, absent, declaring}
+use Rattle.cpp_grammar.specs.Scope.{element, arguments_of, without_tags}
+use Rattle.cpp_grammar.specs.Items.{Form, root, full, bare, left, right, low, base, piece, first, more, expand, declared, Signature, in_none, undeclared, declared_in, signature_of, indexed, own_argument, Context, signature_in, Item, closed, argument, head, is_reference, is_funarr, packs_of, is_empty}
 use Rattle.cpp_grammar.specs.Parts as leaf_
-use Rattle.cpp_grammar.specs.Parts.{qualifier_text, ref_text, blank_last, encoding_text, is_below}
+use Rattle.cpp_grammar.specs.Parts.{letter_name, qualifier_text, ref_text, blank_last, encoding_text, is_below}
 use Rattle.cpp_grammar.specs.declared.operand.Operand.{Operand}
 use Rattle.cpp_grammar.specs.Operations.{Operation}
 use Rattle.cpp_grammar.specs.Texts.{look_up, named_special_texts, literal_endings}
 use Rattle.cpp_term.specs.Items as item_
 use Rattle.cpp_term.specs.Scope as scope_
 use Rattle.cpp_term.specs.Parts as part_
-use Rattle.cpp_term.specs.Annotated.{Place, nowhere, place_of, place_in, context_place, argument_in, annotate, noted_scope, noted_context, noted_item, noted_part, noted_parts}
-use Rattle.cpp_term.proofs.Notes.{both, choose, choose_cond, types_place, argument_noted, packs_of_noted, head_noted, empty_noted}
+use Rattle.cpp_term.specs.Reargued.{reargued}
+use Rattle.cpp_term.specs.Annotated.{Place, nowhere, in_own, place_of, place_in, place_within, context_place, argument_in, annotate, noted_scope, noted_context, noted_item, noted_part, noted_parts}
+use Rattle.cpp_term.proofs.Notes.{both, choose, choose_cond, element_noted}
+use Rattle.cpp_term.proofs.HeadsNoted.{within_types, declared_noted, argument_noted, packs_of_noted, head_noted, empty_noted}
 use Rattle.cpp_term.proofs.SeenNoted.{opening_text_noted, precedence_of_noted}
 
 noted_append : (xs ys : List (PartOf Item)) → noted_parts (xs ++ ys) ≡ noted_parts xs ++ noted_parts ys
@@ -46,12 +48,51 @@ unfolding part_.list_part leaf_.list_part annotate noted_parts noted_part noted_
 list_noted form c nil = refl
 list_noted form c _ = refl
 
+generic_noted : (c : Context) (parameters : Term) (number : ℕ) → part_.generic_parts (noted_context c) (annotate in_own parameters) number ≡ noted_parts (leaf_.generic_parts (signature_in c parameters) parameters number)
+unfolding part_.generic_parts leaf_.generic_parts annotate noted_parts noted_part noted_item noted_context place_within signature_of
+generic_noted c (declaring heads parameters) number =
+    let own = signature_in c (declaring heads parameters) in
+    both (λ h ps. text (codes "{lambda<") ∷ part_.as_item (declared 0) (noted_context c) h ∷ text (codes ">(") ∷ ps) (declared_noted heads parameters heads)
+    (joins (leaf_.list_part first own parameters) _ (part_.list_part first (noted_context c) (reargued (Some (annotate in_own (declaring heads parameters))) (annotate in_own parameters))) _
+    (ap (part_.list_part first (noted_context c)) (declared_noted heads parameters parameters) ∙ list_noted first own parameters) refl)
+generic_noted c parameters number = ap (λ ps. text (codes "{lambda(") ∷ ps)
+    (joins (leaf_.list_part first (signature_in c parameters) parameters) _ (part_.list_part first (noted_context c) (annotate (at (signature_in c parameters)) parameters)) _ (list_noted first (signature_in c parameters) parameters) refl)
+
+-- ## Parameters that a lambda declares
+
+letter_noted : (s : Place) (t : Term) → part_.declared_letter (annotate s t) ≡ leaf_.declared_letter t
+unfolding part_.declared_letter leaf_.declared_letter annotate
+letter_noted s (operation a b x y) = refl
+letter_noted s _ = refl
+
+front_noted : (s : Place) (t : Term) → part_.front_of_name (annotate s t) ≡ leaf_.front_of_name t
+unfolding part_.front_of_name leaf_.front_of_name annotate
+front_noted s (operation a b x y) = ap (λ l. cond (nat_eq b 112) (letter_name l) (letter_name b)) (letter_noted s x)
+front_noted s _ = refl
+
+name_noted : (s : Place) (k : ℕ) (t : Term) → part_.name_of_own k (annotate s t) ≡ noted_parts (leaf_.name_of_own k t)
+unfolding part_.name_of_own leaf_.name_of_own annotate noted_parts noted_part
+name_noted s k absent = refl
+name_noted s k t = ap (λ b. text b ∷ text (decimal k) ∷ []) (front_noted s t)
+
+own_name_noted : (s : Place) (form : Form) (k : ℕ) (t : Term) → part_.own_name form k (annotate s t) ≡ noted_parts (leaf_.own_name form k t)
+unfolding part_.own_name leaf_.own_name noted_parts
+own_name_noted s right k t = refl
+own_name_noted s form k t = name_noted s k t
+
+declaring_noted : (s : Place) (form : Form) (k : ℕ) (heads : Term) → part_.own_name form k (scope_.element (annotate s heads) k) ≡ noted_parts (leaf_.own_name form k (element heads k))
+declaring_noted s form k heads = ap (part_.own_name form k) (element_noted s heads k) ∙ own_name_noted s form k (element heads k)
+
+parameter_noted : (form : Form) (k : ℕ) (a : Term) → part_.parameter_parts form k (annotate nowhere a) ≡ noted_parts (leaf_.parameter_parts form k a)
+unfolding part_.parameter_parts leaf_.parameter_parts annotate noted_parts noted_part noted_item noted_context place_within
+parameter_noted form k (declaring heads parameters) = declaring_noted nowhere form k heads
+parameter_noted form k _ = refl
+
 piece_noted : (c : Context) (t : Term) → part_.piece_parts (noted_context c) (annotate (at c) t) ≡ noted_parts (leaf_.piece_parts c t)
 unfolding part_.piece_parts leaf_.piece_parts annotate noted_parts noted_part noted_item noted_context place_in
 piece_noted c (lambda parameters number) = ap (λ ps. text (codes "{lambda(") ∷ ps)
     (joins (leaf_.list_part first c parameters) _ (part_.list_part first (noted_context c) (annotate (at c) parameters)) _ (list_noted first c parameters) refl)
-piece_noted c (generic_lambda parameters number) = ap (λ ps. text (codes "{lambda(") ∷ ps)
-    (joins (leaf_.list_part first (signature_in c) parameters) _ (part_.list_part first (noted_context (signature_in c)) (annotate (at (signature_in c)) parameters)) _ (list_noted first (signature_in c) parameters) refl)
+piece_noted c (generic_lambda parameters number) = generic_noted c parameters number
 piece_noted c (bindings names) = ap (λ ps. text (codes "[") ∷ ps)
     (joins (leaf_.list_part first c names) _ (part_.list_part first (noted_context c) (annotate (at c) names)) _ (list_noted first c names) refl)
 piece_noted c (source internal bytes) = refl
@@ -170,9 +211,22 @@ array_noted : (c : Context) (t : Term) → part_.array_left (noted_context c) (a
 unfolding part_.array_left leaf_.array_left noted_parts noted_part noted_item
 array_noted c t = choice (is_funarr (head c t)) (is_funarr (item_.head (noted_context c) (annotate (at c) t))) _ _ _ _ (ap is_funarr (head_noted c t)) refl refl
 
-named_noted : (c : Context) (form : Form) (k : ℕ) → (part_.as_item form item_.closed (item_.argument (noted_context c) (argument_in (at c) k)) ∷ []) ≡ noted_parts (leaf_.as_item form closed (argument c k) ∷ [])
-unfolding noted_parts noted_part noted_item noted_context noted_scope place_in place_of
-named_noted c form k = ap (λ t. part_.as_item form item_.closed t ∷ []) (argument_noted c k)
+named_noted : (c : Context) (form : Form) (k : ℕ) → part_.parameter_parts form k (item_.argument (noted_context c) (argument_in (at c) k)) ≡ noted_parts (leaf_.parameter_parts form k (argument c k))
+unfolding part_.parameter_parts leaf_.parameter_parts item_.argument item_.indexed argument own_argument argument_in annotate noted_parts noted_part noted_item noted_context place_within
+named_noted c form k = go c.scope
+  where
+    none : (index : Option ℕ) (s : Signature) → part_.parameter_parts form k (item_.indexed index (argument_in (place_within None s) k)) ≡ noted_parts (leaf_.parameter_parts form k (own_argument s))
+    none None in_none = refl
+    none (Some i) in_none = refl
+    none None undeclared = refl
+    none (Some i) undeclared = refl
+    none None (declared_in heads parameters) = declaring_noted in_own form k heads
+    none (Some i) (declared_in heads parameters) = declaring_noted in_own form k heads
+
+    go : (o : Option Term) → part_.parameter_parts form k (item_.indexed c.index (argument_in (place_within o c.in_signature) k))
+        ≡ noted_parts (leaf_.parameter_parts form k (elim o [ None ↦ own_argument c.in_signature | Some arguments ↦ indexed c.index (element arguments k) ]))
+    go None = none c.index c.in_signature
+    go (Some arguments) = ap (part_.parameter_parts form k) (argument_noted c.index arguments k) ∙ parameter_noted form k (indexed c.index (element arguments k))
 
 float_noted : (digits : List ℕ) (end : ℕ) → part_.float_parts digits end ≡ noted_parts (leaf_.float_parts digits end)
 unfolding part_.float_parts leaf_.float_parts noted_parts noted_part
@@ -201,7 +255,7 @@ entity_noted c form (symbol e suffix) = refl
 entity_noted c form _ = refl
 
 left_noted : (d : Detail) (c : Context) (t : Term) → part_.left_parts d (noted_context c) (annotate (at c) t) ≡ noted_parts (leaf_.left_parts d c t)
-unfolding part_.left_parts leaf_.left_parts annotate noted_parts noted_part noted_item noted_context noted_scope place_in place_of
+unfolding part_.left_parts leaf_.left_parts annotate noted_parts noted_part noted_item noted_context noted_scope place_within place_of
 left_noted d c (alone p) = piece_noted c p
 left_noted d c (within prefix p) = within_noted c prefix p
 left_noted d c (instance template arguments) = instance_noted (has_arguments d) c template arguments
@@ -314,44 +368,44 @@ begins_noted s lvalue_only t = refl
 begins_noted s rvalue_only t = refl
 
 bare_noted : (all : Bool) (name : Term) (q : Qualifiers) (ref : RefQualifier) (parameters : Term) →
-    part_.function_bare all (annotate nowhere name) q ref (annotate (place_in (arguments_of name) false) parameters) ≡ noted_parts (leaf_.function_bare all name q ref parameters)
-unfolding part_.function_bare leaf_.function_bare part_.types_of leaf_.types_of noted_parts noted_part noted_item noted_context noted_scope place_in place_of
+    part_.function_bare all (annotate nowhere name) q ref (annotate (place_within (arguments_of name) in_none) parameters) ≡ noted_parts (leaf_.function_bare all name q ref parameters)
+unfolding part_.function_bare leaf_.function_bare part_.types_of leaf_.types_of noted_parts noted_part noted_item noted_context noted_scope place_within place_of
 bare_noted false name q ref parameters = refl
 bare_noted true name q ref parameters =
     joins (leaf_.as_item left closed name ∷ text (leaf_.begins_parameters ref parameters) ∷ leaf_.list_part first (leaf_.types_of name) parameters) (leaf_.says ")" ∷ leaf_.text_part (encoding_text q ref)) _
     (part_.says ")" ∷ part_.text_part (encoding_text q ref))
-    (both (λ o ps. part_.as_item left item_.closed (annotate nowhere name) ∷ text o ∷ ps) (begins_noted (place_in (arguments_of name) false) ref parameters)
+    (both (λ o ps. part_.as_item left item_.closed (annotate nowhere name) ∷ text o ∷ ps) (begins_noted (place_within (arguments_of name) in_none) ref parameters)
     (list_noted first (leaf_.types_of name) parameters))
     (ap (λ ps. part_.says ")" ∷ ps) (text_noted (encoding_text q ref)))
 
 whole_noted : (all : Bool) (name : Term) (q : Qualifiers) (ref : RefQualifier) (returned parameters : Term) →
-    part_.function_full all (annotate nowhere name) q ref (annotate (place_in (arguments_of name) false) returned) (annotate (place_in (arguments_of name) false) parameters)
+    part_.function_full all (annotate nowhere name) q ref (annotate (place_within (arguments_of name) in_none) returned) (annotate (place_within (arguments_of name) in_none) parameters)
     ≡ noted_parts (leaf_.function_full all name q ref returned parameters)
 unfolding part_.function_full leaf_.function_full annotate part_.types_of leaf_.types_of noted_parts noted_part noted_item noted_context
 whole_noted false name q ref returned parameters = bare_noted false name q ref parameters
 whole_noted true name q ref absent parameters = bare_noted true name q ref parameters
 whole_noted true name q ref returned parameters =
     let types = leaf_.types_of name in
-    let s = place_in (arguments_of name) false in
+    let s = place_within (arguments_of name) in_none in
     joins (leaf_.as_item left types returned ∷ leaf_.says " " ∷ []) (leaf_.function_bare true name q ref parameters ++ (leaf_.as_item right types returned ∷ [])) _ (part_.function_bare true (annotate nowhere name) q ref (annotate s parameters) ++ (part_.as_item right item_.closed (annotate s returned) ∷ []))
     refl
     (joins (leaf_.function_bare true name q ref parameters) (leaf_.as_item right types returned ∷ []) (part_.function_bare true (annotate nowhere name) q ref (annotate s parameters)) (part_.as_item right item_.closed (annotate s returned) ∷ []) (bare_noted true name q ref parameters) refl)
 
 full_noted : (d : Detail) (s : Place) (t : Term) → part_.full_parts d (annotate s t) ≡ noted_parts (leaf_.full_parts d t)
-unfolding part_.full_parts leaf_.full_parts annotate noted_parts noted_part noted_item noted_context noted_scope place_in place_of
+unfolding part_.full_parts leaf_.full_parts annotate noted_parts noted_part noted_item noted_context noted_scope place_within place_of
 full_noted d s (function name q ref returned parameters) =
-    ap (λ r. part_.function_full (has_parameters d) (annotate nowhere name) q ref (annotate r returned) (annotate r parameters)) (types_place name) ∙ whole_noted (has_parameters d) name q ref returned parameters
+    ap (λ r. part_.function_full (has_parameters d) (annotate nowhere name) q ref (annotate r returned) (annotate r parameters)) (within_types name) ∙ whole_noted (has_parameters d) name q ref returned parameters
 full_noted d s (object name q ref) = ap (λ ps. part_.as_item left item_.closed (annotate nowhere name) ∷ ps) (text_noted (encoding_text q ref))
 full_noted d s (of_name letter name q ref) = ap (λ ps. text (look_up (letter ∷ []) named_special_texts) ∷ part_.as_item left item_.closed (annotate nowhere name) ∷ ps) (text_noted (encoding_text q ref))
 full_noted d s _ = refl
 
 bare_all_noted : (d : Detail) (s : Place) (t : Term) → part_.bare_parts d (annotate s t) ≡ noted_parts (leaf_.bare_parts d t)
 unfolding part_.bare_parts leaf_.bare_parts annotate
-bare_all_noted d s (function name q ref returned parameters) = ap (λ r. part_.function_bare (has_parameters d) (annotate nowhere name) q ref (annotate r parameters)) (types_place name) ∙ bare_noted (has_parameters d) name q ref parameters
+bare_all_noted d s (function name q ref returned parameters) = ap (λ r. part_.function_bare (has_parameters d) (annotate nowhere name) q ref (annotate r parameters)) (within_types name) ∙ bare_noted (has_parameters d) name q ref parameters
 bare_all_noted d s t = full_noted d s t
 
 root_noted : (s : Place) (t : Term) → part_.root_parts (annotate s t) ≡ noted_parts (leaf_.root_parts t)
-unfolding part_.root_parts leaf_.root_parts annotate noted_parts noted_part noted_item noted_context noted_scope place_in place_of
+unfolding part_.root_parts leaf_.root_parts annotate noted_parts noted_part noted_item noted_context noted_scope place_within place_of
 root_noted s (symbol e []) = refl
 root_noted s (symbol e (b ∷ bs)) = refl
 root_noted s _ = refl
@@ -390,6 +444,20 @@ expand_noted c t i =
 
 -- ## All forms
 
+next_noted : (c : Context) (t : Term) (i : ℕ) → part_.declared_rest (noted_context c) (annotate (at c) t) i ≡ noted_parts (leaf_.declared_rest c t i)
+unfolding part_.declared_rest leaf_.declared_rest noted_parts
+next_noted c t i = choice (nat_lt (i + 1) (2 ^ 32)) (nat_lt (i + 1) (2 ^ 32)) _ [] _ [] refl (list_noted (declared (i + 1)) c t) refl
+
+declarations_noted : (c : Context) (t : Term) (i : ℕ) → part_.declared_parts (noted_context c) (annotate (at c) t) i ≡ noted_parts (leaf_.declared_parts c t i)
+unfolding part_.declared_parts leaf_.declared_parts annotate noted_parts noted_part noted_item
+declarations_noted c (list e rest) i =
+    let name : List (PartOf Item) = leaf_.as_item left c e ∷ leaf_.says " " ∷ text (leaf_.front_of_name e) ∷ text (decimal i) ∷ [] in
+    let other = part_.as_item left (noted_context c) (annotate (at c) e) ∷ part_.says " " ∷ text (part_.front_of_name (annotate (at c) e)) ∷ text (decimal i) ∷ [] in
+    joins (leaf_.comma_before i ++ name) (leaf_.declared_rest c rest i) (part_.comma_before i ++ other) (part_.declared_rest (noted_context c) (annotate (at c) rest) i)
+    (joins (leaf_.comma_before i) name (part_.comma_before i) other (comma_noted i)
+    (ap (λ b. part_.as_item left (noted_context c) (annotate (at c) e) ∷ part_.says " " ∷ text b ∷ text (decimal i) ∷ []) (front_noted (at c) e))) (next_noted c rest i)
+declarations_noted c _ i = refl
+
 in_noted : (d : Detail) (c : Context) (form : Form) (t : Term) → part_.parts_in d (noted_context c) form (annotate (at c) t) ≡ noted_parts (leaf_.parts_in d c form t)
 unfolding part_.parts_in leaf_.parts_in
 in_noted d c root t = root_noted (at c) t
@@ -403,6 +471,7 @@ in_noted d c piece t = piece_noted c t
 in_noted d c first t = first_noted c t
 in_noted d c more t = more_noted c t
 in_noted d c (expand i) t = expand_noted c t i
+in_noted d c (declared i) t = declarations_noted c t i
 
 kept_noted : (ps : List (PartOf Item)) → part_.not_empty (noted_parts ps) ≡ noted_parts (leaf_.not_empty ps)
 unfolding part_.not_empty leaf_.not_empty noted_parts noted_part

@@ -14,7 +14,7 @@ use Rattle.sym_print.specs.Answer.{text_within}
 use Rattle.cpp_term.specs.Items as item_
 use Rattle.cpp_term.specs.Parts as part_
 use Rattle.cpp_term.specs.Ranks as rank_
-use Rattle.cpp_term.specs.Annotated.{place_in, noted_item, noted_part, noted_parts, noted_scope, noted_context, noted_tree}
+use Rattle.cpp_term.specs.Annotated.{place_within, noted_item, noted_part, noted_parts, noted_scope, noted_context, noted_tree}
 use Rattle.cpp_term.specs.Answer.{noted_shown, noted_answer}
 use Rattle.cpp_term.specs.Erased.{erase, CarriesArguments}
 use Rattle.cpp_term.specs.Term as term_
@@ -39,11 +39,11 @@ prints_noted d i = alike-prints Noted (parts d) rank (ranks_fall d) (part_.parts
 
 -- The tree of a symbol prints what it does without its arguments.
 pub shows_noted : (d : Detail) (t : term_.Term) → CarriesArguments t → noted_shown d t ≡ shown d (root_item (erase t))
-unfolding noted_item noted_context noted_scope place_in
+unfolding noted_item noted_context noted_scope place_within
 shows_noted d t carries = ap (noted_shown d) (sym carries) ∙ sym (prints_noted d (root_item (erase t)))
 
 -- An annotated result gives the answer.
 pub answer_noted : (d : Detail) (limit : ℕ) (r : Result Term Refusal) → noted_answer d limit (noted_tree r) ≡ answer_within d limit r
-unfolding noted_tree noted_item noted_context noted_scope place_in
+unfolding noted_tree noted_item noted_context noted_scope place_within
 answer_noted d limit (Ok t) = ap (text_within limit) (sym (prints_noted d (root_item t)))
 answer_noted d limit (Err refusal) = refl

@@ -4,7 +4,7 @@ use Rattle.std.proofs.lemmas.Bool.{true≢false, ltb-true}
 use Rattle.cpp_grammar.specs.Items.{is_none_of, lref, collapsed}
 use Rattle.cpp_grammar.specs.Scope.{Free, none_free, one_free, several_free, both_free, first_of}
 use Rattle.cpp_grammar.specs.Term as term_
-use Rattle.cpp_term.specs.Term.{Term, alone, in_std, within, instance, local, holder, tagged, of_default, parameter, constructor, destructor, lambda, conversion, pointer, lvalue, rvalue, array, constrained, bounded, member_pointer, function_type, qualified, vector, complex, expansion, integer, pack, list, absent, decltype, inheriting, operation, enumeration, bindings}
+use Rattle.cpp_term.specs.Term.{Term, alone, in_std, within, instance, local, holder, tagged, of_default, parameter, constructor, destructor, lambda, conversion, pointer, lvalue, rvalue, array, constrained, bounded, member_pointer, function_type, qualified, vector, complex, expansion, integer, pack, list, absent, decltype, inheriting, operation, enumeration, bindings, declaring}
 use Rattle.cpp_term.specs.Scope.{count, element, is_list, is_alone, has_pack, arguments_of, before_arguments, is_structor, without_tags, has_return_type, is_open, free_in, length_if_pack, pack_length}
 use Rattle.cpp_term.specs.Items.{Context, HeadClass, known, of_element, collapsed_of_element, collapsed_class, class_of, packs_of, is_empty}
 use Rattle.cpp_term.specs.Erased.{erase}
@@ -30,6 +30,7 @@ reargued_none (lambda parameters number) = ap (λ x. lambda x number) (reargued_
 reargued_none (conversion t) = ap (λ x. conversion x) (reargued_none t)
 reargued_none (enumeration t bytes) = ap (λ x. enumeration x bytes) (reargued_none t)
 reargued_none (bindings names) = ap (λ x. bindings x) (reargued_none names)
+reargued_none (declaring heads parameters) = both (λ x y. declaring x y) (reargued_none heads) (reargued_none parameters)
 reargued_none (constrained letter concept) = ap (λ x. constrained letter x) (reargued_none concept)
 reargued_none (pointer t) = ap (λ x. pointer x) (reargued_none t)
 reargued_none (lvalue t) = ap (λ x. lvalue x) (reargued_none t)
@@ -66,6 +67,7 @@ reargued_twice c a (lambda parameters number) = ap (λ x. lambda x number) (rear
 reargued_twice c a (conversion t) = ap (λ x. conversion x) (reargued_twice c a t)
 reargued_twice c a (enumeration t bytes) = ap (λ x. enumeration x bytes) (reargued_twice c a t)
 reargued_twice c a (bindings names) = ap (λ x. bindings x) (reargued_twice c a names)
+reargued_twice c a (declaring heads parameters) = both (λ x y. declaring x y) (reargued_twice c a heads) (reargued_twice c a parameters)
 reargued_twice c a (constrained letter concept) = ap (λ x. constrained letter x) (reargued_twice c a concept)
 reargued_twice c a (pointer t) = ap (λ x. pointer x) (reargued_twice c a t)
 reargued_twice c a (lvalue t) = ap (λ x. lvalue x) (reargued_twice c a t)
@@ -102,6 +104,7 @@ reargued_closed c (lambda parameters number) closed = ap (λ x. lambda x number)
 reargued_closed c (conversion t) closed = ap (λ x. conversion x) (reargued_closed c t closed)
 reargued_closed c (enumeration t bytes) closed = ap (λ x. enumeration x bytes) (reargued_closed c t closed)
 reargued_closed c (bindings names) closed = ap (λ x. bindings x) (reargued_closed c names closed)
+reargued_closed c (declaring heads parameters) closed = both (λ x y. declaring x y) (reargued_closed c heads (or_left (is_open heads) (is_open parameters) closed)) (reargued_closed c parameters (or_right (is_open heads) (is_open parameters) closed))
 reargued_closed c (constrained letter concept) closed = ap (λ x. constrained letter x) (reargued_closed c concept closed)
 reargued_closed c (pointer t) closed = ap (λ x. pointer x) (reargued_closed c t closed)
 reargued_closed c (lvalue t) closed = ap (λ x. lvalue x) (reargued_closed c t closed)
@@ -139,6 +142,7 @@ open_reargued c (lambda parameters number) = open_reargued c parameters
 open_reargued c (conversion t) = open_reargued c t
 open_reargued c (enumeration t bytes) = open_reargued c t
 open_reargued c (bindings names) = open_reargued c names
+open_reargued c (declaring heads parameters) = both (λ x y. x || y) (open_reargued c heads) (open_reargued c parameters)
 open_reargued c (constrained letter concept) = open_reargued c concept
 open_reargued c (pointer t) = open_reargued c t
 open_reargued c (lvalue t) = open_reargued c t
@@ -174,6 +178,7 @@ free_reargued c (lambda parameters number) = free_reargued c parameters
 free_reargued c (conversion t) = free_reargued c t
 free_reargued c (enumeration t bytes) = free_reargued c t
 free_reargued c (bindings names) = free_reargued c names
+free_reargued c (declaring heads parameters) = both both_free (free_reargued c heads) (free_reargued c parameters)
 free_reargued c (constrained letter concept) = free_reargued c concept
 free_reargued c (pointer t) = free_reargued c t
 free_reargued c (lvalue t) = free_reargued c t
@@ -209,6 +214,7 @@ erase_reargued c (lambda parameters number) = ap (λ x. term_.lambda x number) (
 erase_reargued c (conversion t) = ap (λ x. term_.conversion x) (erase_reargued c t)
 erase_reargued c (enumeration t bytes) = ap (λ x. term_.enumeration x bytes) (erase_reargued c t)
 erase_reargued c (bindings names) = ap (λ x. term_.bindings x) (erase_reargued c names)
+erase_reargued c (declaring heads parameters) = both (λ x y. term_.declaring x y) (erase_reargued c heads) (erase_reargued c parameters)
 erase_reargued c (constrained letter concept) = ap (λ x. term_.constrained letter x) (erase_reargued c concept)
 erase_reargued c (pointer t) = ap (λ x. term_.pointer x) (erase_reargued c t)
 erase_reargued c (lvalue t) = ap (λ x. term_.lvalue x) (erase_reargued c t)
@@ -390,6 +396,7 @@ pack_reargued a (lambda parameters number) = pack_reargued a parameters
 pack_reargued a (conversion t) = pack_reargued a t
 pack_reargued a (enumeration t bytes) = pack_reargued a t
 pack_reargued a (bindings names) = pack_reargued a names
+pack_reargued a (declaring heads parameters) = bare_first (bare heads) (bare parameters) (length_if_pack a) (pack_reargued a heads) (pack_reargued a parameters)
 pack_reargued a (constrained letter concept) = pack_reargued a concept
 pack_reargued a (pointer t) = pack_reargued a t
 pack_reargued a (lvalue t) = pack_reargued a t
@@ -425,6 +432,7 @@ bare_reargued c (lambda parameters number) = bare_reargued c parameters
 bare_reargued c (conversion t) = bare_reargued c t
 bare_reargued c (enumeration t bytes) = bare_reargued c t
 bare_reargued c (bindings names) = bare_reargued c names
+bare_reargued c (declaring heads parameters) = both (λ x y. x || y) (bare_reargued c heads) (bare_reargued c parameters)
 bare_reargued c (constrained letter concept) = bare_reargued c concept
 bare_reargued c (pointer t) = bare_reargued c t
 bare_reargued c (lvalue t) = bare_reargued c t

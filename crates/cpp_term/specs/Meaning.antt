@@ -6,7 +6,7 @@ use Rattle.cpp_term.specs.Builders.{argument, built, bytes_in, discriminator_in,
 use Rattle.cpp_term.specs.Own.{own_meaning}
 use Rattle.cpp_term.specs.Meant.{all_given, given, is_listing, made, meant}
 use Rattle.cpp_grammar.specs.Rows.{row_of}
-unfoldable pub use Rattle.cpp_term.specs.Standing.{is_void, is_nil, parameters, encoding_of, listed_value, discriminator_of, with_item, reference_to, signature_or, default_entity, operator_or_literal, first_letter, second_letter, operation_or_address, operation_by, is_comma, ends_arguments, in_parentheses, enclosed_argument, enclosed_element}
+unfoldable pub use Rattle.cpp_term.specs.Standing.{is_void, is_nil, parameters, declared_first, signature_with, encoding_of, listed_value, discriminator_of, with_item, reference_to, signature_or, default_entity, operator_or_literal, first_letter, second_letter, operation_or_address, operation_by, is_comma, ends_arguments, in_parentheses, enclosed_argument, enclosed_element}
 
 -- What a production denotes, given the byte that it takes, its surroundings and the values of its parts. A type's tree is
 -- marked as listed where the production makes it a candidate itself.

@@ -1,6 +1,6 @@
 -- A tree whose free parameters carry another argument, and what of it depends on that argument.
 use Rattle.std.specs.Prelude.{ℕ, Bool, true, false, ◌||◌, ◌&&◌, Option, Some, None}
-use Rattle.cpp_term.specs.Term.{Term, alone, in_std, within, instance, local, holder, tagged, of_default, parameter, lambda, conversion, pointer, lvalue, rvalue, array, constrained, bounded, member_pointer, function_type, qualified, vector, complex, expansion, integer, pack, nil, list, absent, decltype, inheriting, operation, enumeration, bindings}
+use Rattle.cpp_term.specs.Term.{Term, alone, in_std, within, instance, local, holder, tagged, of_default, parameter, lambda, conversion, pointer, lvalue, rvalue, array, constrained, bounded, member_pointer, function_type, qualified, vector, complex, expansion, integer, pack, nil, list, absent, decltype, inheriting, operation, enumeration, bindings, declaring}
 use Rattle.cpp_grammar.specs.Scope.{Free, one_free}
 use Rattle.cpp_term.specs.Scope.{element, is_alone}
 use Rattle.cpp_term.specs.Items.{HeadClass, collapsed_class}
@@ -40,6 +40,7 @@ reargued c (lambda parameters number) = lambda (reargued c parameters) number
 reargued c (conversion t) = conversion (reargued c t)
 reargued c (enumeration t bytes) = enumeration (reargued c t) bytes
 reargued c (bindings names) = bindings (reargued c names)
+reargued c (declaring heads parameters) = declaring (reargued c heads) (reargued c parameters)
 reargued c (constrained letter concept) = constrained letter (reargued c concept)
 reargued c (pointer t) = pointer (reargued c t)
 reargued c (lvalue t) = lvalue (reargued c t)
@@ -79,6 +80,7 @@ bare (lambda parameters number) = bare parameters
 bare (conversion t) = bare t
 bare (enumeration t bytes) = bare t
 bare (bindings names) = bare names
+bare (declaring heads parameters) = bare heads || bare parameters
 bare (constrained letter concept) = bare concept
 bare (pointer t) = bare t
 bare (lvalue t) = bare t

@@ -49,6 +49,8 @@ pub data Term : Type 0 where
   enumeration : (type : Term) → (name : List ℕ) → Term
   -- the names of a structured binding, a list of them
   bindings : (names : Term) → Term
+  -- the signature of a lambda that declares parameters: a list of what is declared of them, and the types
+  declaring : (heads parameters : Term) → Term
   -- types
   builtin : (code : List ℕ) → Term
   -- a floating type of this many bits, and the byte after their digits

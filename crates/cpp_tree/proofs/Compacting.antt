@@ -122,6 +122,7 @@ pub record IsOther (n : Node) : Type 0 where
   pub not_tagged : (x : Bool) (i : ℕ) (d : Span) → n ≡ Node.Tagged x i d → ⊥
   pub not_ofdefault : (d : Span) (i : ℕ) → n ≡ Node.OfDefault d i → ⊥
   pub not_parameter : (k : ℕ) (i : ℕ) → n ≡ Node.Parameter k i → ⊥
+  pub not_declaring : (i : ℕ) (j : ℕ) → n ≡ Node.Declaring i j → ⊥
   pub not_constrained : (k : ℕ) (i : ℕ) → n ≡ Node.Constrained k i → ⊥
   pub not_pointer : (i : ℕ) → n ≡ Node.Pointer i → ⊥
   pub not_lvalue : (i : ℕ) → n ≡ Node.Lvalue i → ⊥
@@ -154,6 +155,7 @@ other-node ns (Node.Holder i) other = absurd (other.not_holder i refl)
 other-node ns (Node.Tagged x i d) other = absurd (other.not_tagged x i d refl)
 other-node ns (Node.OfDefault d i) other = absurd (other.not_ofdefault d i refl)
 other-node ns (Node.Parameter k i) other = absurd (other.not_parameter k i refl)
+other-node ns (Node.Declaring i j) other = absurd (other.not_declaring i j refl)
 other-node ns (Node.Constrained k i) other = absurd (other.not_constrained k i refl)
 other-node ns (Node.Pointer i) other = absurd (other.not_pointer i refl)
 other-node ns (Node.Lvalue i) other = absurd (other.not_lvalue i refl)

@@ -1,7 +1,7 @@
 -- Whether a tree has free parameters, from which ones it has.
 use Rattle.std.proofs.Common.{◌≡◌, refl, ap, ◌∙◌, sym, nat_eq, max, ℕ, length, ◌<◌, Bool, true, false, ◌||◌}
 use Rattle.cpp_grammar.specs.Scope.{Free, none_free, one_free, several_free, both_free}
-use Rattle.cpp_term.specs.Term.{Term, alone, in_std, within, instance, local, holder, tagged, of_default, inheriting, lambda, conversion, pointer, lvalue, rvalue, array, constrained, bounded, member_pointer, function_type, qualified, vector, complex, decltype, expansion, integer, operation, pack, list, enumeration, bindings}
+use Rattle.cpp_term.specs.Term.{Term, alone, in_std, within, instance, local, holder, tagged, of_default, inheriting, lambda, conversion, pointer, lvalue, rvalue, array, constrained, bounded, member_pointer, function_type, qualified, vector, complex, decltype, expansion, integer, operation, pack, list, enumeration, bindings, declaring}
 use Rattle.cpp_term.specs.Scope.{is_open, free_in}
 use Rattle.cpp_term.proofs.Notes.{both}
 use Rattle.cpp_tree.specs.Nodes.{Table, tree_at, trees, entry_at, free_is, has_free, IsTable}
@@ -39,6 +39,7 @@ open-free (lambda parameters number) = open-free parameters
 open-free (conversion t) = open-free t
 open-free (enumeration t bytes) = open-free t
 open-free (bindings names) = open-free names
+open-free (declaring heads parameters) = either-open (free_in heads) (free_in parameters) (open-free heads) (open-free parameters)
 open-free (constrained letter concept) = open-free concept
 open-free (pointer t) = open-free t
 open-free (lvalue t) = open-free t

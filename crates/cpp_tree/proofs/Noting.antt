@@ -158,6 +158,7 @@ module _ (y : Table) (table : IsTable y) where
   node-free (Node.Holder name) b = at name b
   node-free (Node.Tagged of_structor name tag) b = at name b.0
   node-free (Node.OfDefault digits entity) b = at entity b.1
+  node-free (Node.Declaring heads parameters) b = both-are (free_at y.nodes heads) (free_at y.nodes parameters) (at heads b.0) (at parameters b.1)
   node-free (Node.Constrained letter concept) b = at concept b
   node-free (Node.Pointer t) b = at t b
   node-free (Node.Lvalue t) b = at t b
@@ -202,6 +203,7 @@ module _ (y : Table) (table : IsTable y) where
   node-by-argument (Node.Tagged of_structor name tag) b = ap passed (by-argument-at name b.0)
   node-by-argument (Node.OfDefault digits entity) b = ap passed (by-argument-at entity b.1)
   node-by-argument (Node.Parameter k a) b = refl
+  node-by-argument (Node.Declaring heads parameters) b = rw (by-argument-at heads b.0, by-argument-at parameters b.1) refl
   node-by-argument (Node.Constrained letter concept) b = ap passed (by-argument-at concept b)
   node-by-argument (Node.Pointer t) b = ap passed (by-argument-at t b)
   node-by-argument (Node.Lvalue t) b = ap passed (by-argument-at t b)
@@ -522,6 +524,7 @@ module _ (y : Table) (table : IsTable y) where
   node-pack (Node.Tagged of_structor name tag) b = pack-at name b.0
   node-pack (Node.OfDefault digits entity) b = pack-at entity b.1
   node-pack (Node.Parameter k a) b = argument-pack a b
+  node-pack (Node.Declaring heads parameters) b = rw (pack-at heads b.0, pack-at parameters b.1) refl
   node-pack (Node.Constrained letter concept) b = pack-at concept b
   node-pack (Node.Pointer t) b = pack-at t b
   node-pack (Node.Lvalue t) b = pack-at t b

@@ -80,6 +80,7 @@ module _ (s : List ℕ) (us : List Thunk) (ts : List Term) (t : Term) (i : ℕ) 
   node-stays (Node.OfDefault digits entity) b = rw (early entity b.1) refl
   node-stays (Node.Abbreviation letter) b = refl
   node-stays (Node.Parameter k a) b = rw (early a b) refl
+  node-stays (Node.Declaring heads parameters) b = rw (early heads b.0, early parameters b.1) refl
   node-stays (Node.Builtin letter) b = refl
   node-stays (Node.BuiltinWithD letter) b = refl
   node-stays (Node.SizedFloat digits end) b = refl

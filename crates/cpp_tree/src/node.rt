@@ -202,6 +202,11 @@ pub enum Node {
         number: u32,
         argument: u32,
     },
+    /// What is declared of a lambda's parameters, and the types of its signature.
+    Declaring {
+        heads: u32,
+        parameters: u32,
+    },
     Builtin(u8),
     BuiltinWithD(u8),
     SizedFloat {

@@ -674,6 +674,9 @@ impl Nodes {
             Node::Parameter { number, argument } => {
                 self.noted_parameter(symbol, node, number, argument)
             }
+            Node::Declaring { heads, parameters } => {
+                self.noted_types(node, heads, parameters, TypeHead::Plain)
+            }
             Node::Constrained { concept, .. } => self.noted_type(node, concept, TypeHead::Plain),
             Node::Pointer(ty) => self.noted_type(node, ty, TypeHead::Plain),
             Node::Lvalue(ty) => self.noted_type(node, ty, TypeHead::Lvalue),

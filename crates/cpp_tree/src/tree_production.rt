@@ -293,3 +293,7 @@ pub const STD_BINDINGS: u16 = 89;
 
 /// As `BINDINGS`, in a prefix: its names are the second part.
 pub const NESTED_BINDINGS: u16 = 90;
+
+/// The signature of a lambda that declares parameters. Parts: the list of what is declared of them, and the list of its types. Only
+/// symbols of the wide grammar have it.
+pub const DECLARING: u16 = 91;

@@ -8,11 +8,11 @@ ghost use Rattle.cpp_tree.specs.Nodes.{over, trees, tree_of, piece_of, qualifier
 ghost use Rattle.cpp_tree.specs.Fields.{bit, linkage_number, name_fields, named_fields, local_fields, thunk_fields, fields_of, offsets_of};
 ghost use Rattle.cpp_tree.specs.Views.{plain_tree, prefix_trees, seen_of, seen_behind, seen_fields, no_text, offsets_in, AreBelow, IsSlotBelow, AreWithin, IsSeen, IsKnownThunk};
 
-use crate::node::{Adjustment, Mark, Piece, Qualifiers, Signed, Thunk, bit};
+use crate::node::{Adjustment, Piece, Thunk, bit};
 use crate::tree_production::{
     ABBREVIATION, ABSENT, ADDRESS_OF, ARRAY, BINDINGS, BOOLEAN, BOUNDED, BUILTIN, BUILTIN_WITH_D,
-    CLONE, COMPLEX, CONSTRAINED, CONSTRUCTION, CONSTRUCTOR, CONVERSION, COVARIANT_THUNK, DECLTYPE,
-    DESTRUCTOR, ENCODING_LITERAL, ENUMERATION, EXPANSION, FUNCTION, FUNCTION_PARAMETER,
+    CLONE, COMPLEX, CONSTRAINED, CONSTRUCTION, CONSTRUCTOR, CONVERSION, COVARIANT_THUNK, DECLARING,
+    DECLTYPE, DESTRUCTOR, ENCODING_LITERAL, ENUMERATION, EXPANSION, FUNCTION, FUNCTION_PARAMETER,
     FUNCTION_TYPE, GENERIC_LAMBDA, GUARD, HOLDER, INHERITING, INSTANCE, INTEGER, LAMBDA, LIST,
     LITERAL_OPERATOR, LOCAL, LVALUE, MEMBER_POINTER, NESTED_BINDINGS, NESTED_CONSTRUCTOR,
     NESTED_CONVERSION, NESTED_DESTRUCTOR, NESTED_ENUMERATION, NESTED_GENERIC_LAMBDA,
@@ -249,8 +249,8 @@ fn view_of_special_name(
     nodes: &Nodes,
     letter: u8,
     name: u32,
-    qualifiers: Qualifiers,
-    mark: Mark,
+    qualifiers: node::Qualifiers,
+    mark: node::Mark,
 ) -> NodeView
     ensures fields { seen_fields (over symbol.now nodes.now) result ≡ named_fields letter (plain_tree (over symbol.now nodes.now) name) (qualifiers_of qualifiers) (mark_of mark) }
     ensures texts { AreWithin symbol.now result.node.texts }
@@ -293,7 +293,7 @@ fn view_of_local(
 }
 
 /// A thunk by an offset in each of two places.
-fn offsets(production: u16, first: Signed, second: Signed, encoding: u32) -> NodeView
+fn offsets(production: u16, first: node::Signed, second: node::Signed, encoding: u32) -> NodeView
     ensures { result ≡ seen_of production (bit first.negative ∷ bit second.negative ∷ []) (first.digits ∷ second.digits ∷ []) 1 (encoding ∷ 0 ∷ 0 ∷ []) }
 {
     seen(
@@ -445,6 +445,9 @@ fn view_of_own(symbol: &[u8], nodes: &Nodes, node: node::Node) -> NodeView
         node::Node::OfDefault { digits, entity } => one(OF_DEFAULT, none, digits, entity),
         node::Node::Abbreviation(letter) => leaf(ABBREVIATION, letter as u64),
         node::Node::Parameter { number, .. } => leaf(PARAMETER, number as u64),
+        node::Node::Declaring { heads, parameters } => {
+            two(DECLARING, none, NO_TEXT, heads, parameters)
+        }
         node::Node::Builtin(letter) => leaf(BUILTIN, letter as u64),
         node::Node::BuiltinWithD(letter) => leaf(BUILTIN_WITH_D, letter as u64),
         node::Node::SizedFloat { digits, end } => {

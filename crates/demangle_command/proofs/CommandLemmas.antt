@@ -15,14 +15,18 @@ use Rattle.sym_filter.proofs.StreamLemmas.{Appends-none}
 use Rattle.sym_command.specs.Command.{Took, Says}
 use Rattle.sym_command.proofs.CommandLemmas.{faulty}
 use Rattle.sym_command.proofs.PageLemmas.{Took-as, Took-said, OnErr-anyway}
-use Rattle.demangle_command.specs.Command.{answers_of, ByObjects, ByObjectsFront, EndsOf, FiltersInput, FiltersInputFront, IsEndedOf, IsStoppedOf, IsTold, StopsOf, Stops, is_request, summary_if, unescaped_of}
+use Rattle.demangle_command.specs.Command.{answers_of, ByObjects, ByObjectsFront, EndsOf, FiltersInput, FiltersInputFront, IsEndedOf, IsStoppedOf, IsTold, StopsOf, Stops, is_request, summary_if, unescaped_of, unspelled_of}
 use Rattle.demangle_command.specs.CommandLine.{AreGiven, AreOptions, faults_in, names_of}
 use Rattle.demangle_names.specs.Names.{AnswersNames, NamesFront, status_of}
 use Rattle.demangle_names.specs.declared.options.Options.{Options}
 use Rattle.demangle_names.specs.Style.{reads_paths}
 use Rattle.demangle_names.specs.declared.style.Style.{Style}
 use Rattle.demangle_command.specs.Styled.{styled_answer}
-use Rattle.sym_short.specs.Shortening.{answers_as, short_answers}
+use Rattle.gnu_texts.specs.Spelling.{gnu_text}
+use Rattle.demangle_names.specs.Spelling.{is_gnu}
+use Rattle.demangle_names.specs.declared.spelling.Spelling.{Spelling}
+use Rattle.demangle_names.specs.declared.spelling.Spelling.TheVariants as spelling
+use Rattle.sym_short.specs.Rewriting.{answers_as, rewritten_answers, short_answers, spelled_answers}
 use Rattle.sym_short.specs.declared.texts.Texts.{Texts}
 use Rattle.sym_short.specs.declared.texts.Texts.TheVariants as texts
 
@@ -88,16 +92,28 @@ module _ (style : Style) (limit : ℕ) (detail : Detail) (options : Options) (s 
       ∙ ap (λ (x : Detail). styled_answer options.style options.limit x) d
 
   -- whole texts
-  pub whole-are : options.texts ≡ texts.Whole → styled_answer style limit detail ≡ unescaped_of options
+  pub whole-are : options.texts ≡ texts.Whole → styled_answer style limit detail ≡ unspelled_of options
   whole-are is = styled-are ∙ ap (λ (t : Texts). answers_as t (reads_paths options.style) (styled_answer options.style options.limit options.detail)) (sym is)
 
   -- short ones
   pub short-are : (keeps_inline paths : Bool) → paths ≡ reads_paths options.style → options.texts ≡ texts.Short keeps_inline
-      → short_answers keeps_inline paths (styled_answer style limit detail) ≡ unescaped_of options
+      → short_answers keeps_inline paths (styled_answer style limit detail) ≡ unspelled_of options
   short-are keeps_inline paths reads is =
       ap (λ (answers : Answering). short_answers keeps_inline paths answers) styled-are
       ∙ ap (λ (p : Bool). short_answers keeps_inline p (styled_answer options.style options.limit options.detail)) reads
       ∙ ap (λ (t : Texts). answers_as t (reads_paths options.style) (styled_answer options.style options.limit options.detail)) (sym is)
+
+-- texts as they are
+pub plain-are : (answers : Answering) (options : Options) → answers ≡ unspelled_of options → options.spelling ≡ spelling.Plain → answers ≡ unescaped_of options
+plain-are answers options are is = are ∙ ap (λ (s : Spelling). spelled_answers (is_gnu s) (reads_paths options.style) (unspelled_of options)) (sym is)
+
+-- and as GNU's demangler spells them
+pub gnu-are : (answers : Answering) (options : Options) → answers ≡ unspelled_of options → (paths : Bool) → paths ≡ reads_paths options.style → options.spelling ≡ spelling.Gnu
+    → rewritten_answers gnu_text paths answers ≡ unescaped_of options
+gnu-are answers options are paths reads is =
+    ap (λ (a : Answering). rewritten_answers gnu_text paths a) are
+    ∙ ap (λ (p : Bool). rewritten_answers gnu_text p (unspelled_of options)) reads
+    ∙ ap (λ (s : Spelling). spelled_answers (is_gnu s) (reads_paths options.style) (unspelled_of options)) (sym is)
 
 -- nothing was read or written
 pub stops-unbegun : (rows : List Row) (coming out err : Option (List ℕ)) → StopsOf rows coming coming out out err err

@@ -3,8 +3,11 @@ use Rattle.std.proofs.Common.{◌≡◌, ◌∙◌, ap, refl, subst, map, Bor, [
 use Rattle.std.proofs.lemmas.List.{map-append}
 use Rattle.clap.specs.Words.{AddsAliases, AddsShortAliases, Rule, Text, is_simple, is_simple_and_free, rule_of}
 use Rattle.clap.specs.declared.builder.arg.Arg.{Arg}
-use Rattle.demangle_command.specs.CommandLine.{IsAsked, command_line}
+use Rattle.demangle_command.specs.CommandLine.{IsAsked, IsSpelled, command_line}
+use Rattle.demangle_names.specs.Spelling.{IsSpelling}
 use Rattle.demangle_names.specs.Style.{IsStyle}
+use Rattle.demangle_names.specs.declared.spelling.Spelling.{Spelling}
+use Rattle.demangle_names.specs.declared.spelling.Spelling.TheVariants.{Plain}
 use Rattle.demangle_names.specs.declared.style.Style.{Style}
 use Rattle.demangle_names.specs.declared.style.Style.TheVariants.{Auto}
 
@@ -42,3 +45,10 @@ asked-none text none = subst (λ t. IsAsked t (Some Auto)) none refl
 
 pub asked-some : (text : Option Text) (name : Text) (asked : Option Style) → Some name ≡ text → IsStyle name asked → IsAsked text asked
 asked-some text name asked some named = subst (λ t. IsAsked t asked) some named
+
+-- the spelling, in the same way
+pub spelled-none : (text : Option Text) → None ≡ text → IsSpelled text (Some Plain)
+spelled-none text none = subst (λ t. IsSpelled t (Some Plain)) none refl
+
+pub spelled-some : (text : Option Text) (name : Text) (asked : Option Spelling) → Some name ≡ text → IsSpelling name asked → IsSpelled text asked
+spelled-some text name asked some named = subst (λ t. IsSpelled t asked) some named

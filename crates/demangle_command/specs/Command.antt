@@ -10,7 +10,7 @@ use Rattle.sym_filter.specs.Runs.{Answering, filtered_at, tally_at}
 use Rattle.sym_filter.specs.declared.kinds.Letters.TheVariants.{Within}
 use Rattle.sym_filter.specs.Streams.{PutsFront}
 use Rattle.sym_filter.specs.declared.words.Tally.{Tally}
-use Rattle.sym_short.specs.Shortening.{answers_as}
+use Rattle.sym_short.specs.Rewriting.{answers_as, spelled_answers}
 use Rattle.sym_command.specs.Command.{Took}
 use Rattle.demangle_command.specs.CommandLine.{AreGiven, AreOptions, names_of, found_in, faults_in}
 use Rattle.demangle_command.specs.Escaping.{answer_by}
@@ -18,14 +18,19 @@ use Rattle.demangle_names.specs.Names.{AnswersNames, NamesFront, status_of}
 use Rattle.demangle_names.specs.Reasons.{reasons_of}
 use Rattle.demangle_names.specs.Saying.{said_of_words}
 use Rattle.demangle_command.specs.Styled.{styled_answer}
+use Rattle.demangle_names.specs.Spelling.{is_gnu}
 use Rattle.demangle_names.specs.Style.{reads_paths}
 use Rattle.demangle_names.specs.declared.options.Options.{Options}
 use Rattle.json_lines.specs.Objects.{name_lines, names_stay}
 use Rattle.json_lines.specs.Texts.{TellsObjects, TellsObjectsFront}
 
 -- what is answered for symbols as options ask: their texts, whole or short
+abbrev pub unspelled_of : Options → Answering
+unspelled_of options = answers_as options.texts (reads_paths options.style) (styled_answer options.style options.limit options.detail)
+
+-- the same, as they are spelled
 abbrev pub unescaped_of : Options → Answering
-unescaped_of options = answers_as options.texts (reads_paths options.style) (styled_answer options.style options.limit options.detail)
+unescaped_of options = spelled_answers (is_gnu options.spelling) (reads_paths options.style) (unspelled_of options)
 
 -- the same, escaped where that is asked
 abbrev pub escaped_by : (escapes : Bool) → Answering → Answering

@@ -1,12 +1,15 @@
 -- The command line: which options there are, what they ask, and what its parser finds in its words.
-use Rattle.std.specs.Prelude.{◌≡◌, List, [], ◌∷◌, Bool, true, Option, Some, None, ℕ, codes, map, unwrap_or}
+use Rattle.std.specs.Prelude.{◌≡◌, ◌⊎◌, List, [], ◌∷◌, Bool, true, Option, Some, None, ℕ, codes, map, unwrap_or}
 use Rattle.clap.specs.Lexer.{usize_max}
 use Rattle.clap.specs.Words.{Text, Rule, Row, App, Kinds, new_rule, new_app, with_rule, matches_of, fault_of, first_of, all_of}
 use Rattle.clap.specs.declared.builder.action.ArgAction.TheVariants.{Append, Version}
-use Rattle.sym_short.specs.Shortening.{texts_by}
+use Rattle.sym_short.specs.Rewriting.{texts_by}
 use Rattle.sym_command.specs.CommandLine.{flag, limit, detail_by, with_short, IsFlag, IsLimit}
+use Rattle.demangle_names.specs.Spelling.{IsSpelling}
 use Rattle.demangle_names.specs.Style.{IsStyle}
 use Rattle.demangle_command.specs.Texts.{bytes_of}
+use Rattle.demangle_names.specs.declared.spelling.Spelling.{Spelling}
+use Rattle.demangle_names.specs.declared.spelling.Spelling.TheVariants.{Plain}
 use Rattle.demangle_names.specs.declared.style.Style.{Style}
 use Rattle.demangle_names.specs.declared.style.Style.TheVariants.{Auto}
 use Rattle.demangle_names.specs.declared.options.Options.{Options}
@@ -24,6 +27,10 @@ types = record (flag (codes "types")) { short = Some 116 }
 -- `-s`, `--format`, with the name of a style
 abbrev pub style_option : Rule
 style_option = record (new_rule (codes "format")) { long = Some (codes "format"); short = Some 115; value_names = 1 }
+
+-- `--spelling`, with the name of a spelling
+abbrev pub spelling_option : Rule
+spelling_option = record (new_rule (codes "spelling")) { long = Some (codes "spelling"); value_names = 1 }
 
 -- `-v`, `-V`, `--version`
 abbrev pub version_flag : Rule
@@ -52,7 +59,8 @@ name_arguments = record (new_rule (codes "NAME")) {
 
 -- with the options on which names have a text, and what of it is shown
 abbrev pub with_texts : App → App
-with_texts app = with_rule (with_rule (with_rule (with_short (with_rule (with_rule app no_params) (flag (codes "brief")))) types) limit) style_option
+with_texts app =
+    with_rule (with_rule (with_rule (with_rule (with_short (with_rule (with_rule app no_params) (flag (codes "brief")))) types) limit) spelling_option) style_option
 
 -- with those on how texts are written, and on what is said of names that are left
 abbrev pub with_reports : App → App
@@ -66,7 +74,7 @@ command_line = record {
     has_version = true;
     disable_version_flag = true;
     args_override_self = true;
-    rules = no_params ∷ flag (codes "brief") ∷ flag (codes "short") ∷ flag (codes "keep-inline") ∷ types ∷ limit ∷ style_option ∷ flag (codes "escape")
+    rules = no_params ∷ flag (codes "brief") ∷ flag (codes "short") ∷ flag (codes "keep-inline") ∷ types ∷ limit ∷ spelling_option ∷ style_option ∷ flag (codes "escape")
         ∷ flag (codes "json") ∷ flag (codes "why") ∷ flag (codes "strict") ∷ version_option ∷ taken_options ∷ name_arguments ∷ [];
   };
   subs = [];
@@ -82,6 +90,14 @@ IsAsked (Some name) asked = IsStyle name asked
 abbrev pub IsAskedStyle : List Row → Option Style → Type 0
 IsAskedStyle rows asked = IsAsked (first_of (codes "format") rows) asked
 
+-- the spelling that `--spelling` names, `plain` where it isn't given; none of another name
+abbrev pub IsSpelled : Option Text → Option Spelling → Type 0
+IsSpelled None asked = asked ≡ Some Plain
+IsSpelled (Some name) asked = IsSpelling name asked
+
+abbrev pub IsAskedSpelling : List Row → Option Spelling → Type 0
+IsAskedSpelling rows asked = IsSpelled (first_of (codes "spelling") rows) asked
+
 -- options as the parser found them
 pub record AreGiven (rows : List Row) (options : Options) : Type 0 where
   pub brief : Bool
@@ -96,16 +112,17 @@ pub record AreGiven (rows : List Row) (options : Options) : Type 0 where
   pub texts : options.texts ≡ texts_by short keep_inline
   pub limit : IsLimit rows options.limit
   pub style : IsAskedStyle rows (Some options.style)
+  pub spelling : IsAskedSpelling rows (Some options.spelling)
   pub escape : IsFlag rows (codes "escape") options.escape
   pub json : IsFlag rows (codes "json") options.json
   pub types : IsFlag rows (codes "types") options.types
   pub why : IsFlag rows (codes "why") options.why
   pub strict : IsFlag rows (codes "strict") options.strict
 
--- the options, or none where no style has the name that is given
+-- the options, or none where no style or no spelling has the name that is given
 abbrev pub AreOptions : List Row → Option Options → Type 0
 AreOptions rows (Some options) = AreGiven rows options
-AreOptions rows None = IsAskedStyle rows None
+AreOptions rows None = IsAskedStyle rows None ⊎ IsAskedSpelling rows None
 
 -- the texts of the names, as the parser found them
 abbrev pub name_texts : List Row → List Text

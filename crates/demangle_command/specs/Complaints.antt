@@ -18,6 +18,10 @@ quoted words text = words ++ codes " '" ++ bytes_of text ++ 39 ∷ []
 abbrev pub unknown_style : List ℕ → List ℕ
 unknown_style name = quoted (codes "unknown style") name ++ codes "; known: auto, gnu-v3, rust, none"
 
+-- no spelling has the name that is given
+abbrev pub unknown_spelling : List ℕ → List ℕ
+unknown_spelling name = quoted (codes "unknown spelling") name ++ codes "; known: plain, gnu"
+
 -- what is said where no argument is a symbol, and one is a file
 abbrev pub hint_of : List ℕ → List ℕ
 hint_of word = codes "demangle: " ++ word ++ codes " is not a name; for a file: demangle < " ++ word ++ 10 ∷ []

@@ -5,19 +5,19 @@ ghost use Rattle.clap.specs.Words.{found_of, kind_of, rows_of};
 ghost use Rattle.clap.specs.declared.error.kind.ErrorKind.{ErrorKind as ErrorKind-type};
 ghost use Rattle.sym_filter.specs.Streams.{PutsFront, reader_faults, writer_faults};
 ghost use Rattle.sym_command.specs.Command.{Took, Says};
-ghost use Rattle.demangle_command.specs.Command.{ByObjects, ByObjectsFront, unescaped_of, Ends, Stops, EndsOf, StopsOf, FiltersInput, FiltersInputFront, IsTold, TellsInput, TellsInputFront, is_request, summary_if};
+ghost use Rattle.demangle_command.specs.Command.{ByObjects, ByObjectsFront, unescaped_of, unspelled_of, Ends, Stops, EndsOf, StopsOf, FiltersInput, FiltersInputFront, IsTold, TellsInput, TellsInputFront, is_request, summary_if};
 ghost use Rattle.demangle_command.specs.CommandLine.{AreGiven};
 ghost use Rattle.demangle_command.specs.Texts.{bytes_of, texts_of};
 ghost use Rattle.demangle_names.specs.Names.{status_of};
 
-use crate::complaints::{complaint, style_complaint};
+use crate::complaints::{complaint, spelling_complaint, style_complaint};
 use crate::escaping::Escaping;
-use crate::options::{found_in, names_of, options_of};
+use crate::options::{asked_style, found_in, names_of, options_of};
 use crate::styled::Styled;
 use crate::texts::{lent_texts, lent_words, texts_of, words_of};
 use clap::error::ErrorKind;
 use clap::{ArgMatches, Error};
-use demangle_names::{DONE, Options, Reasons, WordReport, answer_names, status_of};
+use demangle_names::{DONE, Options, Reasons, Spelling, WordReport, answer_names, status_of};
 use json_lines::{answer_objects, tell_objects};
 use std::alloc::Global;
 use sym_command::WRONG_USE;
@@ -26,7 +26,7 @@ use sym_filter::{
 };
 use sym_languages::{Languages, Wide};
 use sym_recent::{Alike, Recent};
-use sym_short::{Shortening, Texts};
+use sym_short::{Gnu, Rewriting, Shortening, Texts};
 
 /// Runs the program over an input and two outputs: writes the line of each name with its symbols replaced, or filters the input where
 /// there is no name. The words are those of the command line, the program's name first, each of any bytes, and the result is the status.
@@ -160,18 +160,54 @@ fn run_found<S: Source, W: Sink, E: Sink>(
         ≡ W.failure_count out.old + E.failure_count err.old + writer_faults result }
 {
     let Some(options) = options_of(matches) else {
-        return refuse_style(alloc, matches, err);
+        return refuse_options(alloc, matches, err);
     };
     let styled = styled_of(options);
     match options.texts {
-        Texts::Whole => run_with(alloc, styled, options, matches, input, out, err),
+        Texts::Whole => run_spelled(alloc, styled, options, matches, input, out, err),
         Texts::Short { keeps_inline } => {
-            let short = Shortening {
+            let short = Rewriting {
                 demangler: styled,
-                keeps_inline,
+                rewrite: Shortening { keeps_inline },
                 reads_paths: options.style.reads_paths(),
             };
-            run_with(alloc, short, options, matches, input, out, err)
+            run_spelled(alloc, short, options, matches, input, out, err)
+        }
+    }
+}
+
+/// Does what the command line's parser found, with the demangler that its options ask for, but for spellings and escapes.
+fn run_spelled<D: Alike + Copy + Drop, S: Source, W: Sink, E: Sink>(
+    alloc: Global,
+    demangler: D,
+    options: Options,
+    matches: &ArgMatches<'_>,
+    input: &mut S,
+    out: &mut W,
+    err: &mut E,
+) -> Result<u8, FilterFault>
+    requires in_failures { S.failure_count input.old < 2 ^ 64 - 1 }
+    requires out_failures { W.failure_count out.old < 2 ^ 64 - 1 }
+    requires err_failures { E.failure_count err.old < 2 ^ 64 - 1 }
+    requires given { AreGiven (rows_of (found_of matches.now)) options }
+    requires texts { D.answer demangler ≡ unspelled_of options }
+    ensures ok { IfOk result (EndsOf (rows_of (found_of matches.now)) (S.coming input.old) (S.coming input.new)
+        (W.taken out.old) (W.taken out.new) (E.taken err.old) (E.taken err.new)) }
+    ensures err { OnErr result (StopsOf (rows_of (found_of matches.now)) (S.coming input.old) (S.coming input.new)
+        (W.taken out.old) (W.taken out.new) (E.taken err.old) (E.taken err.new)) }
+    ensures read_failed { S.failure_count input.new ≡ S.failure_count input.old + reader_faults result }
+    ensures write_failed { W.failure_count out.new + E.failure_count err.new
+        ≡ W.failure_count out.old + E.failure_count err.old + writer_faults result }
+{
+    match options.spelling {
+        Spelling::Plain => run_with(alloc, demangler, options, matches, input, out, err),
+        Spelling::Gnu => {
+            let spelled = Rewriting {
+                demangler,
+                rewrite: Gnu,
+                reads_paths: options.style.reads_paths(),
+            };
+            run_with(alloc, spelled, options, matches, input, out, err)
         }
     }
 }
@@ -276,8 +312,8 @@ fn write_objects<D: Demangler, S: Source, W: Sink>(
     }
 }
 
-/// Says that no style has the name that is given.
-fn refuse_style<E: Sink>(
+/// Says that no style, or no spelling, has the name that is given.
+fn refuse_options<E: Sink>(
     alloc: Global,
     matches: &ArgMatches<'_>,
     err: &mut E,
@@ -288,8 +324,11 @@ fn refuse_style<E: Sink>(
     ensures fault { IfErr result (λ fault. fault ≢ FilterFault.Read) }
     ensures failures { E.failure_count err.new ≡ E.failure_count err.old + writer_faults result }
 {
-    let name = matches.get_str("format").unwrap_or_default();
-    let line = style_complaint(alloc, name)?;
+    let line = if asked_style(matches).is_none() {
+        style_complaint(alloc, matches.get_str("format").unwrap_or_default())?
+    } else {
+        spelling_complaint(alloc, matches.get_str("spelling").unwrap_or_default())?
+    };
     end_with(err, &line, WRONG_USE)
 }
 

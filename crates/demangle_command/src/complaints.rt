@@ -1,6 +1,6 @@
 // What is said of a command line that its parser doesn't take.
 ghost use Rattle.std.specs.Prelude.{◌≡◌, ◌++◌, List, ℕ, IfOk, OnOk};
-ghost use Rattle.demangle_command.specs.Complaints.{IsComplaint, complaint_of, quoted, unknown_style};
+ghost use Rattle.demangle_command.specs.Complaints.{IsComplaint, complaint_of, quoted, unknown_spelling, unknown_style};
 
 use crate::options::found_in;
 use crate::texts::bytes_of;
@@ -15,7 +15,7 @@ const SEE: &[u8] = b"; see demangle --help";
 
 const LIMIT_TAKES: &[u8] = b"--limit takes a number from 0 to 4294967295";
 
-const VALUES: &[u8] = b"--limit and --format take a value";
+const VALUES: &[u8] = b"--limit, --format and --spelling take a value";
 
 /// Says why the parser doesn't take words, the program's name first, by the kind of its error.
 pub(crate) fn complaint(
@@ -35,6 +35,15 @@ pub(crate) fn style_complaint(alloc: Global, name: &str) -> Result<Vec<u8>, Allo
 {
     let mut reason = quoted(alloc, b"unknown style", name)?;
     reason.extend_from_slice(b"; known: auto, gnu-v3, rust, none")?;
+    line_of(alloc, &reason)
+}
+
+/// Says that no spelling has the name that is given.
+pub(crate) fn spelling_complaint(alloc: Global, name: &str) -> Result<Vec<u8>, AllocError>
+    ensures { IfOk result (λ line. line.items ≡ complaint_of (unknown_spelling name.now)) }
+{
+    let mut reason = quoted(alloc, b"unknown spelling", name)?;
+    reason.extend_from_slice(b"; known: plain, gnu")?;
     line_of(alloc, &reason)
 }
 

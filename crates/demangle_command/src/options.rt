@@ -1,10 +1,10 @@
 // The options of a command line, and its names.
 ghost use Rattle.std.specs.Prelude.{◌≡◌, IfOk, false, map};
 ghost use Rattle.clap.specs.Words.{FailsBy, found_of, rows_of, matches_of, fault_of, app_of, rule_of, with_rule};
-ghost use Rattle.demangle_command.specs.CommandLine.{command_line, no_params, style_option, types, version_flag, version_option, taken_option, taken_options, name_arguments, with_reports, with_texts, AreOptions, IsAskedStyle, name_texts};
+ghost use Rattle.demangle_command.specs.CommandLine.{command_line, no_params, spelling_option, style_option, types, version_flag, version_option, taken_option, taken_options, name_arguments, with_reports, with_texts, AreOptions, IsAskedSpelling, IsAskedStyle, name_texts};
 
 use clap::{Arg, ArgAction, ArgMatches, Command, Error};
-use demangle_names::{Options, Style, style_of};
+use demangle_names::{Options, Spelling, Style, spelling_of, style_of};
 use std::alloc::{AllocError, Global};
 use sym_command::{detail_of, flag, has_flag, limit, limit_of, with_flag, with_short};
 use sym_short::texts_of;
@@ -82,6 +82,7 @@ fn with_texts<'a>(alloc: Global, command: Command<'a>) -> Result<Command<'a>, Al
     command
         .arg(types(alloc))?
         .arg(limit(alloc).help(LIMIT))?
+        .arg(spelling_option(alloc))?
         .arg(style_option(alloc))
 }
 
@@ -143,6 +144,17 @@ fn style_option<'a>(alloc: Global) -> Arg<'a>
         .help("Which names: auto, gnu-v3, rust, none [default: auto]")
 }
 
+/// The option that names a spelling.
+fn spelling_option<'a>(alloc: Global) -> Arg<'a>
+    ensures rule { rule_of result ≡ spelling_option }
+    ensures local { result.global ≡ false }
+{
+    Arg::new(alloc, "spelling")
+        .long("spelling")
+        .value_name("SPELLING")
+        .help("How C++ names are spelled: plain, or gnu (as by c++filt) [default: plain]")
+}
+
 /// The option for the version.
 fn version_option<'a>(alloc: Global) -> Result<Arg<'a>, AllocError>
     ensures rule { IfOk result (λ version. rule_of version ≡ version_option) }
@@ -201,7 +213,7 @@ fn name_arguments<'a>(alloc: Global) -> Arg<'a>
 }
 
 /// The style that is asked for; none where no style has the name that is given.
-fn asked_style(matches: &ArgMatches<'_>) -> Option<Style>
+pub(crate) fn asked_style(matches: &ArgMatches<'_>) -> Option<Style>
     ensures { IsAskedStyle (rows_of (found_of matches.now)) result }
 {
     match matches.get_str("format") {
@@ -210,16 +222,28 @@ fn asked_style(matches: &ArgMatches<'_>) -> Option<Style>
     }
 }
 
-/// The options of a command line; none where no style has the name that is given.
+/// The spelling that is asked for; none where no spelling has the name that is given.
+fn asked_spelling(matches: &ArgMatches<'_>) -> Option<Spelling>
+    ensures { IsAskedSpelling (rows_of (found_of matches.now)) result }
+{
+    match matches.get_str("spelling") {
+        None => Some(Spelling::Plain),
+        Some(name) => spelling_of(name),
+    }
+}
+
+/// The options of a command line; none where no style or no spelling has the name that is given.
 pub(crate) fn options_of(matches: &ArgMatches<'_>) -> Option<Options>
     ensures { AreOptions (rows_of (found_of matches.now)) result }
 {
     let style = asked_style(matches)?;
+    let spelling = asked_spelling(matches)?;
     Some(Options {
         limit: limit_of(matches),
         detail: detail_of(has_flag(matches, "brief"), has_flag(matches, "no-params")),
         style,
         texts: texts_of(has_flag(matches, "short"), has_flag(matches, "keep-inline")),
+        spelling,
         escape: has_flag(matches, "escape"),
         json: has_flag(matches, "json"),
         types: has_flag(matches, "types"),

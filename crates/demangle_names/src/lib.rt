@@ -7,6 +7,7 @@ mod names;
 mod options;
 mod reasons;
 mod sayings;
+mod spelling;
 mod status;
 mod style;
 
@@ -17,5 +18,6 @@ pub use names::answer_names;
 pub use options::Options;
 pub use reasons::Reasons;
 pub use sayings::{Said, Says, WordReport};
+pub use spelling::{Spelling, spelling_of};
 pub use status::{DONE, status_of};
 pub use style::{Style, style_of};

@@ -1,4 +1,5 @@
 // What is requested for names.
+use crate::spelling::Spelling;
 use crate::style::Style;
 use sym_print::Detail;
 use sym_short::Texts;
@@ -12,6 +13,8 @@ pub struct Options {
     pub style: Style,
     /// Which texts of C++ symbols are written.
     pub texts: Texts,
+    /// How texts of C++ symbols are spelled.
+    pub spelling: Spelling,
     /// Whether texts are escaped for strings of JSON.
     pub escape: bool,
     /// Whether names are answered by objects of JSON.

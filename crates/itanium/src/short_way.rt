@@ -31,8 +31,8 @@ const ROUNDS_A_BYTE: usize = 8;
 /// Whatever is answered, at most eight bytes for each of the symbol's and a kilobyte are written, at most eight steps for each
 /// byte are taken, and no list has more entries than the symbol has bytes: no list has room for more. Text and candidates only
 /// grow, up to the end of a function: what was written of an instance of a function template up to its return type is removed
-/// there, and so is the return type of one whose address is an argument, and what was written after the name of one that is
-/// shown only by its name. Arguments that aren't shown are written, too, and left out at the end.
+/// there, and so is the return type of one whose address is an argument or that contains a type, and what was written after the
+/// name of one that is shown only by its name. Arguments that aren't shown are written, too, and left out at the end.
 // inlined at each call, which knows the detail and mostly the grammar: so the steps of the others aren't there
 #[inline(always)]
 pub fn write(writer: &mut Writer, s: &[u8], limit: u32, is_wide: bool, detail: Detail) -> bool

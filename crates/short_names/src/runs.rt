@@ -20,7 +20,7 @@ static LETTERS: [u8; 256] = *b"\
 
 /// Whether a byte may be in a name without `::`.
 #[inline(always)]
-pub(crate) fn is_letter(byte: u8) -> bool
+pub fn is_letter(byte: u8) -> bool
     ensures { result ≡ is_letter byte }
 {
     LETTERS[byte as usize] == b'1'

@@ -12,7 +12,7 @@ use Rattle.sym_filter.specs.Kinds.{kind_by_beginning, symbol_of}
 use Rattle.sym_languages.specs.Languages.{answer_of, answers_by, cpp_by, wide_answer_of, AreCountsOf, AreWideCountsOf, pressed_of}
 use Rattle.sym_languages.specs.WidePressed.{wide_pressed_of}
 use Rattle.sym_filter.specs.Runs.{Answering, filtered_at, tally_at}
-use Rattle.sym_short.specs.Shortening.{answers_as, texts_by}
+use Rattle.sym_short.specs.Rewriting.{answers_as, texts_by}
 use Rattle.type_names.specs.Types.{is_type_word, type_answer}
 use Rattle.sym_calls.specs.declared.flags.Asked.{Asked}
 use Rattle.sym_calls.specs.declared.outcome.Outcome.{Outcome}

@@ -2,7 +2,7 @@
 ghost use Rattle.std.specs.Prelude.{◌≡◌, List, ℕ, length};
 ghost use Rattle.sym_filter.specs.Runs.{filtered_at, tally_at};
 ghost use Rattle.sym_languages.specs.Languages.{answers_by};
-ghost use Rattle.sym_short.specs.Shortening.{answers_as};
+ghost use Rattle.sym_short.specs.Rewriting.{answers_as};
 ghost use Rattle.sym_calls.specs.Calls.{EndsAs, IsTallied, Tallied, asked_of, ending_of, filter_told, written};
 ghost use Rattle.sym_calls.specs.Counted.{Holds};
 
@@ -13,7 +13,7 @@ use std::alloc::Global;
 use sym_filter::{Demangler, Letters, Tally};
 use sym_languages::languages::Cpp;
 use sym_languages::{Abi, Wide};
-use sym_short::{Shortening, Texts};
+use sym_short::{Rewriting, Shortening, Texts};
 
 /// How many words of a text name symbols, were replaced by a text, and were not.
 #[repr(C)]
@@ -108,9 +108,9 @@ fn filter_as<D: Demangler + Copy + Drop>(
     match asked.texts {
         Texts::Whole => filter_by(alloc, &demangler, asked.letters, text, buffer, tally),
         Texts::Short { keeps_inline } => {
-            let short = Shortening {
+            let short = Rewriting {
                 demangler,
-                keeps_inline,
+                rewrite: Shortening { keeps_inline },
                 reads_paths: asked.legacy,
             };
             filter_by(alloc, &short, asked.letters, text, buffer, tally)

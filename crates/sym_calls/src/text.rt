@@ -7,7 +7,7 @@ ghost use Rattle.sym_demangle.specs.Mangled.{answer};
 ghost use Rattle.rust_grammar.specs.Mangled.{v0_mangled};
 ghost use Rattle.sym_filter.specs.declared.kinds.TheConstants.{LONGEST_WORD};
 ghost use Rattle.sym_languages.specs.Languages.{answers_by, language_answer_by};
-ghost use Rattle.sym_short.specs.Shortening.{answers_as, short_answers};
+ghost use Rattle.sym_short.specs.Rewriting.{answers_as, short_answers};
 ghost use Rattle.type_names.specs.Types.{type_answer};
 ghost use Rattle.sym_calls.specs.Calls.{EndsAs, IsTextWritten, PressEndsAs, answered, asked_of, ending_of, name_or_type_told, name_told, press_told, text_told};
 
@@ -22,7 +22,7 @@ use sym_filter::{Demangled, Demangler, Kind, Lang};
 use sym_languages::languages::Cpp;
 use sym_languages::{Abi, Languages, Legacy, Pressing, Wide, WidePressing, may_be_legacy};
 use sym_print::Detail;
-use sym_short::{Shortening, Texts};
+use sym_short::{Rewriting, Shortening, Texts};
 use type_names::append_type;
 
 /// Writes the text of a symbol to the front of the buffer, with lists that are used again.
@@ -294,16 +294,16 @@ fn short_in<C: Cpp>(
     ensures { EndsAs (name_or_type_told (short_answers keeps_inline asked.legacy (answers_by C.mangled asked.legacy limit asked.detail)) asked name.now buffer.old) buffer.old (ending_of result buffer.new) }
 {
     if asked.legacy {
-        let short = Shortening {
+        let short = Rewriting {
             demangler: asked.with_legacy(limit, cpp),
-            keeps_inline,
+            rewrite: Shortening { keeps_inline },
             reads_paths: asked.legacy,
         };
         return text_by(alloc, &short, asked, name, buffer);
     }
-    let short = Shortening {
+    let short = Rewriting {
         demangler: asked.languages(limit, cpp),
-        keeps_inline,
+        rewrite: Shortening { keeps_inline },
         reads_paths: asked.legacy,
     };
     text_by(alloc, &short, asked, name, buffer)

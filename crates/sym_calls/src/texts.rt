@@ -1,7 +1,7 @@
 // The texts of many names, with one set of lists for all of them.
 ghost use Rattle.std.specs.Prelude.{◌≡◌, ◌≤◌, length, true};
 ghost use Rattle.sym_languages.specs.Languages.{answers_by};
-ghost use Rattle.sym_short.specs.Shortening.{answers_as};
+ghost use Rattle.sym_short.specs.Rewriting.{answers_as};
 ghost use Rattle.sym_calls.specs.Calls.{asked_of};
 ghost use Rattle.sym_calls.specs.Texts.{AreTold, IsTold, TextsEndAs, are_ends, placed};
 
@@ -12,7 +12,7 @@ use std::alloc::Global;
 use sym_filter::Demangler;
 use sym_languages::languages::{Cpp, Lists};
 use sym_languages::{Abi, Wide};
-use sym_short::{Shortening, ShorteningLists, Texts};
+use sym_short::{Rewriting, RewritingLists, Shortening, Texts};
 
 /// Whether ends increase, from 0 to at most the length of a text.
 fn are_ends(ends: &[usize], len: usize) -> bool
@@ -114,12 +114,12 @@ fn tell_as<D: Demangler + Copy + Drop>(
             alloc, &demangler, lists, asked, names, ends, buffer, outcomes,
         ),
         Texts::Short { keeps_inline } => {
-            let short = Shortening {
+            let short = Rewriting {
                 demangler,
-                keeps_inline,
+                rewrite: Shortening { keeps_inline },
                 reads_paths: asked.legacy,
             };
-            let lists = ShorteningLists::new(alloc, lists);
+            let lists = RewritingLists::new(alloc, lists);
             tell_each(alloc, &short, lists, asked, names, ends, buffer, outcomes)
         }
     }

@@ -9,7 +9,7 @@ use Rattle.sym_print.specs.declared.detail.Detail.{Detail}
 use Rattle.sym_print.specs.declared.detail.Detail.TheVariants.{Full, Brief, NoParameters, BriefNoParameters}
 use Rattle.sym_filter.specs.declared.kinds.Letters.{Letters}
 use Rattle.sym_filter.specs.declared.kinds.Letters.TheVariants.{Any, Ascii}
-use Rattle.sym_short.specs.Shortening.{texts_by}
+use Rattle.sym_short.specs.Rewriting.{texts_by}
 use Rattle.sym_command.specs.declared.options.Asked.{Asked}
 use Rattle.sym_command.specs.declared.options.Asked.TheVariants.{Text as PlainText, WideText, Pressed, WidePressed}
 use Rattle.sym_command.specs.declared.options.Options.{Options}

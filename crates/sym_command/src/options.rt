@@ -1,7 +1,7 @@
 // The options of a command line, and its symbols.
 ghost use Rattle.std.specs.Prelude.{◌≡◌, IfOk, false, map, codes};
 ghost use Rattle.clap.specs.Words.{FailsBy, found_of, rows_of, matches_of, fault_of, app_of, rule_of, with_rule};
-ghost use Rattle.sym_short.specs.Shortening.{texts_by};
+ghost use Rattle.sym_short.specs.Rewriting.{texts_by};
 ghost use Rattle.sym_command.specs.CommandLine.{command_line, flag, limit, symbols, AreGiven, IsFlag, IsLimit, detail_by, letters_by, asked_by, symbols_of, filtering_by, with_short};
 
 use crate::outcome::Filtering;

@@ -1,1 +1,1 @@
-mod ShortLemmas
+mod RewritingLemmas

@@ -1,8 +1,12 @@
-//! A demangler in front of another, which makes the texts of C++ symbols short.
+//! A demangler in front of another, which rewrites the texts of C++ symbols: makes them short, or spells them as GNU's demangler does.
 #![tactic(auto)]
 
+mod gnu;
+mod rewriting;
 mod shortening;
 mod texts;
 
-pub use shortening::{Shortening, ShorteningLists};
+pub use gnu::{Gnu, GnuLists};
+pub use rewriting::{Rewrites, Rewriting, RewritingLists};
+pub use shortening::Shortening;
 pub use texts::{Texts, texts_of};

@@ -1,6 +1,6 @@
 // Which texts of C++ symbols are written.
 ghost use Rattle.std.specs.Prelude.{◌≡◌};
-ghost use Rattle.sym_short.specs.Shortening.{texts_by};
+ghost use Rattle.sym_short.specs.Rewriting.{texts_by};
 
 /// Which texts of C++ symbols are written.
 #[derive(Clone, Copy, Debug, PartialEq, Eq)]

@@ -3,7 +3,7 @@ use Rattle.std.specs.Prelude.{◌≡◌, ◌≢◌, ◌⊎◌, ℕ, List, [], Bo
 use Rattle.std.specs.Io.KnownBytes.{Appends}
 use Rattle.sym_print.specs.declared.detail.Detail.{Detail}
 use Rattle.sym_filter.specs.Runs.{Answering}
-use Rattle.sym_short.specs.Shortening.{answers_as}
+use Rattle.sym_short.specs.Rewriting.{answers_as}
 use Rattle.sym_short.specs.declared.texts.Texts.{Texts}
 use Rattle.sym_filter.specs.Streams.{FiltersAllAt, FiltersFrontAt}
 use Rattle.sym_filter.specs.declared.words.Tally.{Tally}

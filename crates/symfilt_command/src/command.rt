@@ -5,7 +5,7 @@ ghost use Rattle.clap.specs.declared.error.kind.ErrorKind.{ErrorKind as ErrorKin
 ghost use Rattle.sym_filter.specs.Streams.{reader_faults, writer_faults, FiltersAllAt, FiltersFrontAt};
 ghost use Rattle.sym_command.specs.Command.{Took, Says, AnswersWords, AnswersFront};
 ghost use Rattle.sym_command.specs.declared.outcome.Run.{Run as Run-type};
-ghost use Rattle.sym_short.specs.Shortening.{answers_as};
+ghost use Rattle.sym_short.specs.Rewriting.{answers_as};
 ghost use Rattle.sym_languages.specs.Languages.{answers_by, AreCountsBy};
 ghost use Rattle.symfilt_command.specs.Command.{answers_of, counting_of, filter_answers, AreBegun, IsRun, IsRunOf, IsStopped, Ends, Stops};
 
@@ -21,7 +21,7 @@ use sym_filter::{Demangler, FilterFault, Letters, ListSink, Sink, Source, Tally,
 use sym_languages::languages::Cpp;
 use sym_languages::{Abi, Languages, Legacy, Pressing, Wide, WidePressing};
 use sym_recent::{Alike, Recent};
-use sym_short::{Shortening, Texts};
+use sym_short::{Rewriting, Shortening, Texts};
 
 /// Runs the program over an input and two outputs: answers the symbols of a command line, or filters the input where it has none.
 /// The words are those of the command line, the program's name first, and the result is the status.
@@ -133,9 +133,9 @@ fn filter_as<D: Alike + Copy + Drop, S: Source, W: Sink>(
     match filtering.texts {
         Texts::Whole => filter_by(alloc, demangler, filtering.letters, input, out),
         Texts::Short { keeps_inline } => {
-            let short = Shortening {
+            let short = Rewriting {
                 demangler,
-                keeps_inline,
+                rewrite: Shortening { keeps_inline },
                 reads_paths: filtering.legacy,
             };
             filter_by(alloc, short, filtering.letters, input, out)
@@ -343,9 +343,9 @@ fn answer_as<D: Demangler + Copy + Drop, W: Sink, E: Sink>(
     match options.texts {
         Texts::Whole => answer_words(alloc, &demangler, options, words, out, err),
         Texts::Short { keeps_inline } => {
-            let short = Shortening {
+            let short = Rewriting {
                 demangler,
-                keeps_inline,
+                rewrite: Shortening { keeps_inline },
                 reads_paths: options.legacy,
             };
             answer_words(alloc, &short, options, words, out, err)

@@ -23,10 +23,10 @@ use Rattle.cpp_grammar.specs.References.{with_prefix}
 use Rattle.cpp_grammar.specs.Between.{after, Continuation, between}
 use Rattle.cpp_grammar.specs.Meaning.{discriminator_of}
 use Rattle.cpp_grammar.specs.Unfolding.{cpp, opening, close, byte_of}
-use Rattle.cpp_grammar.proofs.ClosedValues.{AllGood, GoodPrefix, held, good_where}
+use Rattle.cpp_grammar.proofs.ClosedValues.{AllGood, all_append, GoodPrefix, held, good_where}
 use Rattle.cpp_grammar.proofs.ClosedStates.{Bare, Within, AllOld, old_later, old_grows, ok_same}
 use Rattle.cpp_grammar.proofs.ClosedParts.{StaysInside, Goes, goes_within}
-use Rattle.cpp_grammar.proofs.ClosedTrees.{is_encoding as holds_encoding, has_encoding, all_append, old_fits, grows_fits, one_good, or_true}
+use Rattle.cpp_grammar.proofs.ClosedTrees.{is_encoding as holds_encoding, has_encoding, old_fits, grows_fits, one_good, or_true}
 use Rattle.cpp_grammar.proofs.Growing.{same_choice, each_below, below as below_, kept}
 use Rattle.cpp_press_laws.proofs.ByKind.AbiTrees.{known, tree_good}
 use Rattle.cpp_press_laws.specs.Pressing.{is_encoding}

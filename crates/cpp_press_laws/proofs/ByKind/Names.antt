@@ -122,11 +122,11 @@ parameter-solid takes kind around at old v new front outer o =
     (more Kind.ArgumentsAlone refl)))
 
 -- a parameter as an argument, after the T
-parameter-argument : (around : Around) (at : ℕ) (old : State) (v : Value) (new : State)
-    → InFront (OfKind (number_of_kind Kind.ArgumentAfterT)) around at old
-    → OpenedRead Kind.ArgumentAfterT around at old v new Production.ParameterArgument → SolidFits takes_all around v old new
+parameter-argument : (kind : Kind) (around : Around) (at : ℕ) (old : State) (v : Value) (new : State)
+    → InFront (OfKind (number_of_kind kind)) around at old
+    → OpenedRead kind around at old v new Production.ParameterArgument → SolidFits takes_all around v old new
 unfolding parts_of number_of_kind between tree_of is_listed meaning part unfolding_.behind parameter_so_far parameter_named listed_so_far
-parameter-argument around at old v new front o =
+parameter-argument kind around at old v new front o =
     by-parts (λ w s. SolidFits takes_all around w old s) Production.ParameterArgument tt tt o (λ w s digits.
     parameter-goes around (at - 1) (index_of w) s _ (λ t named b q more.
     name-type takes_all around (tree (parameter (index_of w)) true) b old t q
@@ -137,7 +137,27 @@ pub argument-after-t-branch : BranchRead Kind.ArgumentAfterT
 unfolding alternatives
 argument-after-t-branch rule taken parts all around at old v new front is e outer =
     let o = opened-read Kind.ArgumentAfterT rule taken parts all around at old v new front is e in
-    parameter-argument around at old v new front o
+    parameter-argument Kind.ArgumentAfterT around at old v new front o
+
+-- or as the first type of a lambda; in the wide grammar it may say its level
+pub leveled-branch : BranchRead Kind.LeveledParameter
+unfolding alternatives
+leveled-branch rule taken parts all around at old v new front is e outer =
+    let o = opened-read Kind.LeveledParameter rule taken parts all around at old v new front is e in
+    parameter-argument Kind.LeveledParameter around at old v new front o
+
+pub parameter-after-t-branch : BranchRead Kind.ParameterAfterT
+unfolding alternatives number_of parts_of number_of_kind between meaning part unfolding_.behind
+parameter-after-t-branch rule taken parts all around at old v new front is e outer =
+    let one = one-read Kind.ParameterAfterT rule taken parts all around at old v new front is e in
+    arm one.0 one.1 one.2
+  where
+    arm : (p : Production) → IsAmong (alternatives Kind.ParameterAfterT) p → OpenedRead Kind.ParameterAfterT around at old v new p → SolidFits takes_all around v old new
+    arm Production.ParameterArgument here o = parameter-argument Kind.ParameterAfterT around at old v new front o
+    arm Production.LeveledParameter here o = by-parts (λ w s. SolidFits takes_all around w old s) Production.LeveledParameter tt tt o (λ w s digits x t one.
+        subst (λ u. SolidFits takes_all around x u t) digits.0 (one Kind.LeveledParameter refl outer))
+    arm (Production.Operation Operation.ExpressionC) here o = absurd here
+    arm p here o = absurd here
 
 pub nested-solid : (takes : Slot → Bool) (kind : Kind) (around : Around) (at : ℕ) (old : State) (v : Value) (new : State)
     → InFront (OfKind (number_of_kind kind)) around at old → around.prefix ≡ outermost

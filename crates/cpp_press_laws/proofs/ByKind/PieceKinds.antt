@@ -11,15 +11,18 @@ use Rattle.sym_link.specs.Unfold.{found, unfold_tree}
 use Rattle.cpp_grammar.specs.declared.kind.Kind.{Kind}
 use Rattle.cpp_grammar.specs.declared.production.Production.{Production}
 use Rattle.cpp_grammar.specs.declared.production.Operation.{Operation}
-use Rattle.cpp_grammar.specs.KindNumbers.{ITEM, ITEMS}
+use Rattle.cpp_grammar.specs.KindNumbers.{ITEM, ITEMS, FIRST_OF_LAMBDA}
 use Rattle.cpp_grammar.specs.Grammar.{alternatives, choose, pick, is_in, in_ranges, among, kinds, is_chain, number_of_kind, number_of, parts_of}
 use Rattle.cpp_grammar.specs.Table.{abi}
 use Rattle.cpp_grammar.specs.Term.{Term, operator, literal_operator, source, lambda, unnamed, list}
 use Rattle.cpp_grammar.specs.Values.{Candidate, State, Around, Value, letter, text, piece, tree_of, piece_of, letter_of, text_of, local_number, part}
 use Rattle.cpp_grammar.specs.Between.{Continuation, between, in_signature, no_items}
-use Rattle.cpp_grammar.specs.Meaning.{meaning, parameters, operator_or_literal}
+use Rattle.cpp_grammar.specs.Meaning.{meaning, parameters, operator_or_literal, signature_with}
 use Rattle.cpp_grammar.specs.Unfolding as unfolding_
 use Rattle.cpp_grammar.specs.Unfolding.{last_token, number_tested, opening, close, byte_of, cpp}
+use Rattle.cpp_grammar.proofs.Growing.{abi_wide}
+use Rattle.cpp_grammar.proofs.Declared.{is_first}
+use Rattle.cpp_grammar.proofs.Undeclared.{read_first, undeclared_signature}
 use Rattle.cpp_grammar.proofs.ClosedStates.{AllNew, grows_then, ok_same}
 use Rattle.cpp_grammar.proofs.Chosen.{either}
 use Rattle.cpp_press_laws.proofs.ByKind.AbiTrees.{known, tree_good}
@@ -302,7 +305,7 @@ new-shut around end (c ∷ cs) each = (
 
 lambda-type : (around : Around) (at : ℕ) (old : State) (v : Value) (new : State)
     → OpenedRead Kind.Anonymous around at old v new Production.Lambda → AnonymousRead around v old new
-unfolding parts_of between number_of_kind opening meaning part unfolding_.behind piece_of names_type begins_name in_signature
+unfolding parts_of between number_of_kind opening meaning part unfolding_.behind piece_of names_type begins_name in_signature is_first
 lambda-type around at old v new o =
     let inner : Around = in_signature around in
     let g = o.goes tt in
@@ -325,7 +328,7 @@ lambda-type around at old v new o =
     (last-digits j.shape j.others inner _ i.after j.value j.after j.is trees4 j.unfolds))))))) in
     let good : IsLocalNumber k =
     subst (λ ds. IsLocalNumber (local_number ds)) (told []) (tested-number (at - 1) (last_token o.parts []) old o.opens) in
-    let first = tree_good g.shape (OfKind ITEM) inner _ old (found (g.value ∷ []) g.after) (known ITEM (lit≤ tt)) g.is g.front.placed.encoding
+    let first = tree_good g.shape (OfKind FIRST_OF_LAMBDA) inner _ old (found (g.value ∷ []) g.after) (known FIRST_OF_LAMBDA (lit≤ tt)) g.is g.front.placed.encoding
     g.front.opening g.front.prefix g.front.placed.old g.unfolds in
     let rest =
     tree_good h.shape (OfKind ITEMS) inner _ g.after (found (h.value ∷ []) h.after) (known ITEMS (lit≤ tt)) h.is h.front.placed.encoding
@@ -333,13 +336,16 @@ lambda-type around at old v new o =
     let grows = grows_then false inner _ _ old g.after h.after (omega arith) first.grows rest.grows in
     let items = h.read Kind.Items refl refl in
     let one = parameters-fit inner item_type (list a b) old h.after tt
-    (list-fits inner item_type a b old g.after h.after (g.read Kind.Item refl refl) items.1) in
+    (list-fits inner item_type a b old g.after h.after (g.read Kind.FirstOfLambda refl refl) items.1) in
     let fits : PieceFits around (lambda (parameters (list a b)) k) old h.after =
     lambda-fits around (parameters (list a b)) k old h.after grows.more grows.is (new-shut around _ grows.more grows.each) good one in
+    let plain : signature_with g.value (parameters (list a b)) ≡ parameters (list a b) =
+    undeclared_signature (g.value ∷ []) (parameters (list a b)) (read_first g.shape (OfKind FIRST_OF_LAMBDA) inner _ old (found (g.value ∷ []) g.after)
+    (abi_wide (OfKind FIRST_OF_LAMBDA) g.shape g.is) refl g.unfolds) in
     let ends : h.after ≡ j.after = sym (j.read.0 ∙ i.read.0) in
     comes-as (λ w s. AnonymousRead around w old s) Production.Lambda tt (byte_of o.taken) around at old
     (g.value ∷ h.value ∷ i.value ∷ j.value ∷ []) j.after v new j.onward
-    (refl, refl, subst (PieceFits around (lambda (parameters (list a b)) k) old) ends fits)
+    (refl, refl, subst (λ t. PieceFits around (lambda t k) old j.after) (sym plain) (subst (PieceFits around (lambda (parameters (list a b)) k) old) ends fits))
 
 pub anonymous-branch : BranchRead Kind.Anonymous
 unfolding alternatives number_of

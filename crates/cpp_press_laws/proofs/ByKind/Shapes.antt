@@ -26,7 +26,7 @@ use Rattle.cpp_press_laws.proofs.Fits.Solids.{vendor-fits}
 use Rattle.cpp_press_laws.proofs.ByKind.Rules.{AllOf, every-shape, by-name, IsAmong}
 use Rattle.cpp_press_laws.proofs.ByKind.LeafBranches.{letter-branch, mark-branch, ref-branch, operator-after-l-branch, integer-branch, call-offset-branch, discriminator-branch, discriminator-rest-branch, suffix-more-branch, suffix-first-branch, suffix-branch}
 use Rattle.cpp_press_laws.proofs.ByKind.Known.{InFront, ShapeRead, OpenedRead, opened-read, taken-among, BranchRead, fits-by-parts, one-read, OwnNameRead}
-use Rattle.cpp_press_laws.proofs.ByKind.Types.{type-branch, plain-branch, item-branch, argument-branch, parameter-branch, item-d-branch, after-d-branch}
+use Rattle.cpp_press_laws.proofs.ByKind.Types.{type-branch, plain-branch, item-branch, argument-branch, parameter-branch, item-d-branch, after-d-branch, first-branch, first-after-t-branch}
 use Rattle.cpp_press_laws.proofs.ByKind.Solids.{builtin-arm, literal-arm, array-rest-branch, any-array-branch, pointer-arm, member-arm, function-rest-branch, after-r-branch, after-o-branch, items-branch}
 use Rattle.cpp_press_laws.proofs.ByKind.References.{abbreviation-branch}
 use Rattle.cpp_press_laws.proofs.ByKind.Empty.{empty-read}
@@ -34,7 +34,7 @@ use Rattle.cpp_press_laws.proofs.ByKind.Root.{read-fits}
 use Rattle.cpp_press_laws.proofs.ByKind.PieceKinds.{source-or-local-branch, unqualified-branch, operator-branch, other-operator-branch, anonymous-branch}
 use Rattle.cpp_press_laws.proofs.ByKind.Arguments.{argument-list-branch, arguments-first-branch, pack-list-branch, literal-branch, literal-after-d-branch, addressed-literal-branch, addressed-branch, expression-after-a-branch, expression-branch}
 use Rattle.cpp_press_laws.proofs.ByKind.Nests.{nest-branch, nest-after-s-branch, nest-rest-branch, nest-rest-alone-branch, nest-rest-or-end-branch, nest-more-or-end-branch, nest-tail-branch, component-branch, component-after-c-branch, constructor-after-c-branch}
-use Rattle.cpp_press_laws.proofs.ByKind.Names.{arguments-branch, maybe-arguments-branch, arguments-alone-branch, argument-after-t-branch, type-after-s-branch, type-in-std-branch, maybe-tags-branch, name-after-s-branch, with-s-solid, parameter-solid, nested-solid, source-solid, local-type-name-solid, source-own, internal-own, local-type-own, operator-own, with-s-own}
+use Rattle.cpp_press_laws.proofs.ByKind.Names.{arguments-branch, maybe-arguments-branch, arguments-alone-branch, argument-after-t-branch, type-after-s-branch, type-in-std-branch, maybe-tags-branch, name-after-s-branch, with-s-solid, parameter-solid, nested-solid, source-solid, local-type-name-solid, source-own, internal-own, local-type-own, operator-own, with-s-own, parameter-after-t-branch, leveled-branch}
 use Rattle.cpp_press_laws.proofs.ByKind.Encodings.{encoding-branch, special-branch, special-after-g-branch}
 use Rattle.cpp_press_laws.proofs.ByKind.Entities.{entity-branch, type-entity-branch, local-type-solid, local-name-read, nested-name-read}
 
@@ -216,6 +216,10 @@ kind-branch Kind.MaybeTags = maybe-tags-branch
 kind-branch Kind.Argument = argument-branch
 kind-branch Kind.ArgumentAfterT = argument-after-t-branch
 kind-branch Kind.SolidButT = solid-but-t-branch
+kind-branch Kind.ParameterAfterT = parameter-after-t-branch
+kind-branch Kind.LeveledParameter = leveled-branch
+kind-branch Kind.FirstOfLambda = first-branch
+kind-branch Kind.FirstAfterT = first-after-t-branch
 kind-branch Kind.Expression = expression-branch
 kind-branch Kind.AddressedExpression = addressed-branch
 kind-branch Kind.AddressedLiteral = addressed-literal-branch

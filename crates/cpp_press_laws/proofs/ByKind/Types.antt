@@ -20,7 +20,7 @@ use Rattle.cpp_press_laws.proofs.Fits.Lists.{parameters-fit, function-fits}
 use Rattle.cpp_press_laws.proofs.Fits.Arguments.{expansion-fits}
 use Rattle.cpp_press_laws.proofs.Fits.Typed.{type-as-argument}
 use Rattle.cpp_press_laws.proofs.ByKind.LeafKinds.{own-byte, normal-digits}
-use Rattle.cpp_press_laws.proofs.ByKind.Known.{OpenedRead, comes-as, by-parts, fits-by-parts, BranchRead, one-read}
+use Rattle.cpp_press_laws.proofs.ByKind.Known.{OpenedRead, opened-read, comes-as, by-parts, fits-by-parts, BranchRead, one-read}
 use Rattle.cpp_press_laws.proofs.ByKind.Rules.{IsAmong}
 
 -- ## Types that become candidates
@@ -137,6 +137,33 @@ argument-branch rule taken parts all around at old v new front is e outer =
         (λ w s one. (one Kind.ArgumentAfterT refl outer).types item_type tt refl))
     arm Production.PlainArgument here o = typed (by-parts (In around item_type old) Production.PlainArgument tt tt o
         (λ w s one. (one Kind.SolidButT refl outer).types item_type tt refl))
+    arm (Production.Operation Operation.ExpressionC) here o = absurd here
+    arm p here o = absurd here
+
+-- ## The first type of a lambda
+
+pub first-after-t-branch : BranchRead Kind.FirstAfterT
+unfolding alternatives parts_of between meaning listed_value tree_of part unfolding_.behind takes_all
+first-after-t-branch rule taken parts all around at old v new front is e outer =
+    let o = opened-read Kind.FirstAfterT rule taken parts all around at old v new front is e in
+    by-parts (In around item_type old) Production.FirstParameter tt tt o (λ w s one. (one Kind.LeveledParameter refl outer).types item_type tt refl)
+
+pub first-branch : BranchRead Kind.FirstOfLambda
+unfolding alternatives takes_qualified takes_all takes_expansions meaning listed_value part unfolding_.behind tree_of parts_of between number_of
+first-branch rule taken parts all around at old v new front is e outer =
+    let one = one-read Kind.FirstOfLambda rule taken parts all around at old v new front is e in
+    arm one.0 one.1 one.2
+  where
+    arm : (p : Production) → IsAmong (alternatives Kind.FirstOfLambda) p → OpenedRead Kind.FirstOfLambda around at old v new p
+        → KindFits Kind.FirstOfLambda around v old new
+    arm Production.RestrictType here o = restrict-arm Kind.FirstOfLambda item_type refl around at old v new outer o
+    arm Production.VolatileType here o = volatile-arm Kind.FirstOfLambda item_type refl around at old v new outer o
+    arm Production.ConstType here o = const-arm Kind.FirstOfLambda item_type refl around at old v new outer o
+    arm Production.ItemWithD here o = item-d-arm Kind.FirstOfLambda item_type tt refl around at old v new outer o
+    arm Production.ReferenceType here o = reference-arm Kind.FirstOfLambda item_type tt refl around at old v new outer o
+    arm Production.FirstWithT here o = by-parts (In around item_type old) Production.FirstWithT tt tt o (λ w s one. one Kind.FirstAfterT refl outer)
+    arm Production.PlainArgument here o = by-parts (In around item_type old) Production.PlainArgument tt tt o
+        (λ w s one. (one Kind.SolidButT refl outer).types item_type tt refl)
     arm (Production.Operation Operation.ExpressionC) here o = absurd here
     arm p here o = absurd here
 

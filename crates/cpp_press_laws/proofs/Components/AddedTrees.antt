@@ -2,7 +2,7 @@
 use Rattle.std.proofs.Common.{◌≡◌, ℕ, ◌+◌, ◌-◌, ◌≤◌, inl, inr, length, List, [], ◌∷◌, ◌++◌, Option, Some, None, Bool, true, false, ap, arith, sym, subst}
 use Rattle.std.specs.Prelude.{codes, cond}
 use Rattle.sym_spell.specs.Pressing.{◌and◌, text}
-use Rattle.cpp_grammar.specs.Term.{Qualifiers, RefQualifier, Term, symbol, function, object, special, thunk, of_name, construction, clone, alone, in_std, within, instance, local, holder, tagged, of_default, abbreviation, parameter, source, operator, literal_operator, constructor, destructor, inheriting, lambda, generic_lambda, unnamed, string_literal, conversion, builtin, sized_float, constrained, vendor, pointer, lvalue, rvalue, array, bounded, member_pointer, function_type, qualified, vector, complex, decltype, expansion, integer, boolean, null_pointer, encoding_literal, address_of, operation, function_parameter, pack, nil, list, absent, enumeration, bindings}
+use Rattle.cpp_grammar.specs.Term.{Qualifiers, RefQualifier, Term, symbol, function, object, special, thunk, of_name, construction, clone, alone, in_std, within, instance, local, holder, tagged, of_default, abbreviation, parameter, source, operator, literal_operator, constructor, destructor, inheriting, lambda, generic_lambda, unnamed, string_literal, conversion, builtin, sized_float, constrained, vendor, pointer, lvalue, rvalue, array, bounded, member_pointer, function_type, qualified, vector, complex, decltype, expansion, integer, boolean, null_pointer, encoding_literal, address_of, operation, function_parameter, pack, nil, list, absent, enumeration, bindings, declaring}
 use Rattle.cpp_grammar.specs.Scope.{count, has_return_type}
 use Rattle.cpp_grammar.specs.Values.{Around}
 use Rattle.cpp_grammar.specs.Between.{in_name, in_types, in_signature, under_expansion}
@@ -315,6 +315,7 @@ adds string_literal = leaf-piece-add string_literal _ _ (omega arith) (λ x i. i
 adds (conversion type) = nowhere-ways-add (conversion type) _
 adds (enumeration type name) = nowhere-ways-add (enumeration type name) _
 adds (bindings names) = nowhere-ways-add (bindings names) _
+adds (declaring heads parameters) = nowhere-ways-add (declaring heads parameters) _
 adds (sized_float digits end) = nowhere-ways-add (sized_float digits end) _
 adds (constrained letter concept) = nowhere-ways-add (constrained letter concept) _
 adds (pointer type) = type-ways-add (pointer type) _ _ (λ x w. w) (λ slot around allowed place cs fits. after-bytes 1 2 (codes "P") (omega arith) ((adds type).at fit.as_type any_type around allowed (place + length (codes "P")) cs fits))

@@ -2,7 +2,7 @@
 use Rattle.std.proofs.Common.{◌≡◌, ℕ, suc, ◌+◌, ◌-◌, ◌<◌, inl, inr, List, [], ◌∷◌, ◌++◌, Option, Bool, true, false, refl, arith}
 use Rattle.std.specs.Prelude.{cond, ◌&&◌, codes}
 use Rattle.sym_spell.specs.Pressing.{◌and◌, text}
-use Rattle.cpp_grammar.specs.Term.{RefQualifier, Term, symbol, function, object, special, thunk, of_name, construction, clone, alone, in_std, within, instance, local, holder, tagged, of_default, abbreviation, parameter, source, operator, literal_operator, constructor, destructor, inheriting, lambda, generic_lambda, unnamed, string_literal, conversion, builtin, sized_float, constrained, vendor, pointer, lvalue, rvalue, array, bounded, member_pointer, function_type, qualified, vector, complex, decltype, expansion, integer, boolean, null_pointer, encoding_literal, address_of, operation, function_parameter, pack, nil, list, absent, enumeration, bindings}
+use Rattle.cpp_grammar.specs.Term.{RefQualifier, Term, symbol, function, object, special, thunk, of_name, construction, clone, alone, in_std, within, instance, local, holder, tagged, of_default, abbreviation, parameter, source, operator, literal_operator, constructor, destructor, inheriting, lambda, generic_lambda, unnamed, string_literal, conversion, builtin, sized_float, constrained, vendor, pointer, lvalue, rvalue, array, bounded, member_pointer, function_type, qualified, vector, complex, decltype, expansion, integer, boolean, null_pointer, encoding_literal, address_of, operation, function_parameter, pack, nil, list, absent, enumeration, bindings, declaring}
 use Rattle.cpp_grammar.specs.Scope.{without_tags}
 use Rattle.cpp_press_laws.specs.Texts.{counted, ordinal, signed_text, qualifier_letters, mark_letter, name_letters, special_code, thunk_text, discriminator_text}
 use Rattle.cpp_press_laws.specs.Components.{Spelling, component}
@@ -317,6 +317,7 @@ ways-grow whole string_literal in_whole n = piece-ways-grow whole string_literal
 ways-grow whole (conversion type) in_whole n = piece-ways-grow whole (conversion type) (front (codes "cv") (more-grows (ways-grow whole type in_whole n way.as_type) (omega arith)))
 ways-grow whole (enumeration type name) in_whole n = piece-ways-grow whole (enumeration type name) (front (codes "Ue") (back (more-grows (ways-grow whole type in_whole n way.as_type) (omega arith)) (counted name)))
 ways-grow whole (bindings names) in_whole n = no-ways-grow whole (bindings names)
+ways-grow whole (declaring heads parameters) in_whole n = no-ways-grow whole (declaring heads parameters)
 ways-grow whole (builtin code) in_whole n = type-ways-grow whole (builtin code) (text-grows code)
 ways-grow whole (sized_float digits end) in_whole n = type-ways-grow whole (sized_float digits end) (front (codes "DF") (front digits (text-grows (end ∷ []))))
 ways-grow whole (constrained letter concept) in_whole n = no-ways-grow whole (constrained letter concept)

@@ -2,7 +2,7 @@
 use Rattle.std.proofs.Common.{◌≡◌, ℕ, ◌+◌, ◌<◌, ◌≤◌, ◌⊎◌, inl, inr, length, List, [], ◌∷◌, ◌++◌, Bool, true, false, refl, ap, arith, sym, subst, ◌∙◌, length-append, zero, suc, Option, Some, None}
 use Rattle.std.specs.Prelude.{cond, ◌&&◌, ◌||◌, slice_get}
 use Rattle.std.proofs.lemmas.Bool.{true≢false, or_parts}
-use Rattle.cpp_grammar.specs.Term.{Term, symbol, alone, in_std, within, instance, local, holder, tagged, of_default, inheriting, lambda, conversion, pointer, lvalue, rvalue, array, constrained, bounded, member_pointer, function_type, qualified, vector, complex, decltype, expansion, integer, operation, pack, list, enumeration, bindings}
+use Rattle.cpp_grammar.specs.Term.{Term, symbol, alone, in_std, within, instance, local, holder, tagged, of_default, inheriting, lambda, conversion, pointer, lvalue, rvalue, array, constrained, bounded, member_pointer, function_type, qualified, vector, complex, decltype, expansion, integer, operation, pack, list, enumeration, bindings, declaring}
 use Rattle.cpp_grammar.specs.Scope.{is_open}
 use Rattle.cpp_grammar.specs.Values.{Candidate, by_all}
 use Rattle.cpp_grammar.specs.References.{is_function_type}
@@ -53,6 +53,10 @@ inside-shut (lambda parameters k) x closed i = inside-shut parameters x closed i
 inside-shut (conversion type) x closed i = itself-shut type x (Inside type x) closed (inside-shut type x closed) i
 inside-shut (enumeration type name) x closed i = itself-shut type x (Inside type x) closed (inside-shut type x closed) i
 inside-shut (bindings names) x closed i = itself-shut names x (Inside names x) closed (inside-shut names x closed) i
+inside-shut (declaring heads parameters) x closed (inl i) =
+    itself-shut heads x (Inside heads x) (or_parts (is_open heads) (is_open parameters) closed).0 (inside-shut heads x (or_parts (is_open heads) (is_open parameters) closed).0) i
+inside-shut (declaring heads parameters) x closed (inr i) =
+    inside-shut parameters x (or_parts (is_open heads) (is_open parameters) closed).1 i
 inside-shut (constrained letter concept) x closed i = itself-shut concept x (Inside concept x) closed (inside-shut concept x closed) i
 inside-shut (pointer type) x closed i = itself-shut type x (Inside type x) closed (inside-shut type x closed) i
 inside-shut (lvalue type) x closed i = itself-shut type x (Inside type x) closed (inside-shut type x closed) i

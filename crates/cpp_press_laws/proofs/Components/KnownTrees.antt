@@ -3,7 +3,7 @@
 use Rattle.std.proofs.Common.{◌≡◌, ℕ, ◌-◌, ◌<◌, ◌⊎◌, inl, inr, length, List, [], ◌∷◌, ◌++◌, Option, Bool, true, false, refl, arith}
 use Rattle.std.specs.Prelude.{◌&&◌, codes, cond}
 use Rattle.sym_spell.specs.Pressing.{◌and◌, text, nothing}
-use Rattle.cpp_grammar.specs.Term.{Term, symbol, function, object, special, thunk, of_name, construction, clone, alone, in_std, within, instance, local, holder, tagged, of_default, abbreviation, parameter, source, operator, literal_operator, constructor, destructor, inheriting, lambda, generic_lambda, unnamed, string_literal, conversion, builtin, sized_float, constrained, vendor, pointer, lvalue, rvalue, array, bounded, member_pointer, function_type, qualified, vector, complex, decltype, expansion, integer, boolean, null_pointer, encoding_literal, address_of, operation, function_parameter, pack, nil, list, absent, adjusting, covariant, Thunk, enumeration, bindings}
+use Rattle.cpp_grammar.specs.Term.{Term, symbol, function, object, special, thunk, of_name, construction, clone, alone, in_std, within, instance, local, holder, tagged, of_default, abbreviation, parameter, source, operator, literal_operator, constructor, destructor, inheriting, lambda, generic_lambda, unnamed, string_literal, conversion, builtin, sized_float, constrained, vendor, pointer, lvalue, rvalue, array, bounded, member_pointer, function_type, qualified, vector, complex, decltype, expansion, integer, boolean, null_pointer, encoding_literal, address_of, operation, function_parameter, pack, nil, list, absent, adjusting, covariant, Thunk, enumeration, bindings, declaring}
 use Rattle.cpp_grammar.specs.Scope.{is_open, without_tags}
 use Rattle.cpp_press_laws.specs.Texts.{counted, ordinal, signed_text, qualifier_letters, mark_letter, name_letters, special_code, thunk_text, discriminator_text}
 use Rattle.cpp_press_laws.specs.Components.{Spelling, ended, component}
@@ -371,6 +371,7 @@ keeps string_literal open_ n R = piece-ways-keep open_ n R string_literal _ (λ 
 keeps (conversion type) open_ n R = piece-ways-keep open_ n R (conversion type) _ (λ h. behind-text-keeps open_ n R (codes "cv") ((ways_of n type).as_type) (keeps type open_ n R way.as_type h))
 keeps (enumeration type name) open_ n R = piece-ways-keep open_ n R (enumeration type name) _ (λ h. behind-text-keeps open_ n R (codes "Ue") ((ways_of n type).as_type and text (counted name)) (and-keeps open_ n R ((ways_of n type).as_type) (text (counted name)) (keeps type open_ n R way.as_type h) (text-keeps open_ n R (counted name))))
 keeps (bindings names) open_ n R = no-ways-keep open_ n R (bindings names)
+keeps (declaring heads parameters) open_ n R = no-ways-keep open_ n R (declaring heads parameters)
 keeps (builtin code) open_ n R = type-ways-keep open_ n R (builtin code) _ (λ x w. w) (λ x w. w) (λ h. text-keeps open_ n R code)
 keeps (sized_float digits end) open_ n R = type-ways-keep open_ n R (sized_float digits end) _ (λ x w. w) (λ x w. w) (λ h. behind-text-keeps open_ n R (codes "DF") (text digits and text (end ∷ [])) (behind-text-keeps open_ n R digits (text (end ∷ [])) (text-keeps open_ n R (end ∷ []))))
 keeps (constrained letter concept) open_ n R = no-ways-keep open_ n R (constrained letter concept)

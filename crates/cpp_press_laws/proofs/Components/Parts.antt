@@ -3,7 +3,7 @@ use Rattle.std.proofs.Common.{◌≡◌, ℕ, ◌+◌, ◌⊎◌, inl, inr, List
 use Rattle.std.specs.Prelude.{not, ◌&&◌, ◌||◌, nat_eq}
 use Rattle.std.proofs.Math.Bool.{and-true}
 use Rattle.std.proofs.lemmas.Bool.{eq-eqb, eqb-true, and_parts, false≢true}
-use Rattle.cpp_grammar.specs.Term.{Term, symbol, function, object, special, thunk, of_name, construction, clone, alone, in_std, within, instance, local, holder, tagged, of_default, parameter, inheriting, lambda, generic_lambda, conversion, vendor, pointer, lvalue, rvalue, array, constrained, bounded, member_pointer, function_type, qualified, vector, complex, decltype, expansion, integer, encoding_literal, address_of, operation, pack, list, enumeration, bindings}
+use Rattle.cpp_grammar.specs.Term.{Term, symbol, function, object, special, thunk, of_name, construction, clone, alone, in_std, within, instance, local, holder, tagged, of_default, parameter, inheriting, lambda, generic_lambda, conversion, vendor, pointer, lvalue, rvalue, array, constrained, bounded, member_pointer, function_type, qualified, vector, complex, decltype, expansion, integer, encoding_literal, address_of, operation, pack, list, enumeration, bindings, declaring}
 use Rattle.cpp_grammar.specs.Scope.{is_open}
 use Rattle.cpp_press_laws.specs.Same.{same_tree}
 use Rattle.cpp_press_laws.specs.Components.{Component, is_same, first_equal}
@@ -82,6 +82,7 @@ Inside (generic_lambda parameters number) x = Shut (Inside parameters x) x
 Inside (conversion type) x = ItselfOr type (Inside type x) x
 Inside (enumeration type name) x = ItselfOr type (Inside type x) x
 Inside (bindings names) x = ItselfOr names (Inside names x) x
+Inside (declaring heads parameters) x = ItselfOr heads (Inside heads x) x ⊎ Inside parameters x
 Inside (constrained letter concept) x = ItselfOr concept (Inside concept x) x
 Inside (pointer type) x = ItselfOr type (Inside type x) x
 Inside (lvalue type) x = ItselfOr type (Inside type x) x

@@ -4,7 +4,7 @@ use Rattle.std.proofs.Common.{ap, sym}
 use Rattle.std.proofs.lemmas.Bool.{eqb-true, eq-eqb}
 use Rattle.sym_spell.proofs.Tests.{both, all}
 use Rattle.cpp_grammar.specs.Texts.{same_bytes}
-use Rattle.cpp_grammar.specs.Term.{Qualifiers, RefQualifier, any_value, lvalue_only, rvalue_only, explicit_object, Signed, Adjustment, non_virtual, by_table, Thunk, adjusting, covariant, Term, symbol, function, object, special, thunk, of_name, construction, clone, alone, in_std, within, instance, local, holder, tagged, of_default, abbreviation, parameter, source, operator, literal_operator, constructor, destructor, inheriting, lambda, generic_lambda, unnamed, string_literal, conversion, builtin, sized_float, constrained, vendor, pointer, lvalue, rvalue, array, bounded, member_pointer, function_type, qualified, vector, complex, decltype, expansion, integer, boolean, null_pointer, encoding_literal, address_of, operation, function_parameter, pack, nil, list, absent, enumeration, bindings}
+use Rattle.cpp_grammar.specs.Term.{Qualifiers, RefQualifier, any_value, lvalue_only, rvalue_only, explicit_object, Signed, Adjustment, non_virtual, by_table, Thunk, adjusting, covariant, Term, symbol, function, object, special, thunk, of_name, construction, clone, alone, in_std, within, instance, local, holder, tagged, of_default, abbreviation, parameter, source, operator, literal_operator, constructor, destructor, inheriting, lambda, generic_lambda, unnamed, string_literal, conversion, builtin, sized_float, constrained, vendor, pointer, lvalue, rvalue, array, bounded, member_pointer, function_type, qualified, vector, complex, decltype, expansion, integer, boolean, null_pointer, encoding_literal, address_of, operation, function_parameter, pack, nil, list, absent, enumeration, bindings, declaring}
 use Rattle.cpp_press_laws.specs.Same.{same_truth, same_qualifiers, same_mark, same_signed, same_adjustment, same_thunk, same_discriminator, same_tree}
 
 never : false ≡ true → ⊥
@@ -219,6 +219,9 @@ equal-tree (enumeration a0 a1) (enumeration b0 b1) h =
     let e1 : a1 ≡ b1 = equal-bytes a1 b1 (both h).1 in cc
 equal-tree (bindings a0) (bindings b0) h =
     let e0 : a0 ≡ b0 = equal-tree a0 b0 h in cc
+equal-tree (declaring a0 a1) (declaring b0 b1) h =
+    let e0 : a0 ≡ b0 = equal-tree a0 b0 (both h).0 in
+    let e1 : a1 ≡ b1 = equal-tree a1 b1 (both h).1 in cc
 equal-tree (builtin a0) (builtin b0) h =
     let e0 : a0 ≡ b0 = equal-bytes a0 b0 h in cc
 equal-tree (sized_float a0 a1) (sized_float b0 b1) h =
@@ -324,6 +327,7 @@ tree-itself string_literal = refl
 tree-itself (conversion t) = tree-itself t
 tree-itself (enumeration t bytes) = all (tree-itself t) (bytes-itself bytes)
 tree-itself (bindings names) = tree-itself names
+tree-itself (declaring heads parameters) = all (tree-itself heads) (tree-itself parameters)
 tree-itself (builtin code) = bytes-itself code
 tree-itself (sized_float digits end) = all (bytes-itself digits) (eq-eqb end end refl)
 tree-itself (constrained letter concept) = all (eq-eqb letter letter refl) (tree-itself concept)

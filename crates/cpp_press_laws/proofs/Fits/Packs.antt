@@ -4,7 +4,7 @@ use Rattle.std.specs.Prelude.{nat_eq}
 use Rattle.std.proofs.lemmas.Bool.{eqb-true, true≢false, or_parts}
 use Rattle.sym_core.specs.declared.refusal.Refusal.{Refusal}
 use Rattle.sym_core.specs.declared.refusal.Refusal.TheVariants.{BadReference}
-use Rattle.cpp_grammar.specs.Term.{Term, symbol, alone, in_std, within, instance, local, holder, tagged, of_default, parameter, inheriting, lambda, conversion, pointer, lvalue, rvalue, array, constrained, bounded, member_pointer, function_type, qualified, vector, complex, decltype, integer, operation, pack, list, enumeration, bindings}
+use Rattle.cpp_grammar.specs.Term.{Term, symbol, alone, in_std, within, instance, local, holder, tagged, of_default, parameter, inheriting, lambda, conversion, pointer, lvalue, rvalue, array, constrained, bounded, member_pointer, function_type, qualified, vector, complex, decltype, integer, operation, pack, list, enumeration, bindings, declaring}
 use Rattle.cpp_grammar.specs.Scope.{is_open, first_of, pack_length}
 use Rattle.cpp_grammar.specs.Values.{State}
 use Rattle.cpp_grammar.specs.References.{with_packs}
@@ -39,6 +39,9 @@ closed-packs scope (lambda parameters k) closed = closed-packs scope parameters 
 closed-packs scope (conversion type) closed = closed-packs scope type closed
 closed-packs scope (enumeration type name) closed = closed-packs scope type closed
 closed-packs scope (bindings names) closed = closed-packs scope names closed
+closed-packs scope (declaring heads parameters) closed =
+    first-none (pack_length scope heads) (pack_length scope parameters) (closed-packs scope heads (or_parts (is_open heads) (is_open parameters) closed).0)
+    (closed-packs scope parameters (or_parts (is_open heads) (is_open parameters) closed).1)
 closed-packs scope (constrained letter concept) closed = closed-packs scope concept closed
 closed-packs scope (pointer type) closed = closed-packs scope type closed
 closed-packs scope (lvalue type) closed = closed-packs scope type closed

@@ -7,13 +7,13 @@ use Rattle.sym_shape.specs.Tree.{TakesRule}
 use Rattle.sym_link.specs.Unfold.{found}
 use Rattle.cpp_grammar.specs.declared.kind.Kind.{Kind}
 use Rattle.cpp_grammar.specs.declared.production.Production.{Production}
-use Rattle.cpp_grammar.specs.KindNumbers.{INTEGER, TYPE, ITEM, ITEM_AFTER_D, ITEMS, ARGUMENT, ARGUMENT_LIST, PACK_LIST, MAYBE_ARGUMENTS}
+use Rattle.cpp_grammar.specs.KindNumbers.{INTEGER, TYPE, ITEM, ITEM_AFTER_D, ITEMS, ARGUMENT, ARGUMENT_LIST, PACK_LIST, MAYBE_ARGUMENTS, FIRST_OF_LAMBDA}
 use Rattle.cpp_grammar.specs.Table.{abi, rule_of}
 use Rattle.cpp_grammar.specs.Term.{Signed, Term, expansion, nil, list}
 use Rattle.cpp_grammar.specs.Values as value
 use Rattle.cpp_grammar.specs.Values.{Around, Value, nothing_there, signed, tree, normal, is_zero, signed_digits, prefix_listed, prefix_tree}
 use Rattle.cpp_grammar.specs.Between.{inside, under_expansion, no_items, after}
-use Rattle.cpp_grammar.proofs.Arguments.{abi_argument}
+use Rattle.cpp_grammar.proofs.Arguments.{abi_argument, abi_first}
 use Rattle.cpp_press_laws.specs.Components.{Component}
 use Rattle.cpp_press_laws.specs.Texts.{signed_text}
 use Rattle.cpp_press_laws.specs.Spellable.{AreSpellableDigits, IsSpellableNumber}
@@ -35,6 +35,11 @@ items_value t = tree t true
 pub item-as-argument : {around : Around} {allowed : Option ℕ} {Q : Value → Type 0} {place : ℕ} {cs : List Component} {w : Written}
     → ReadsAt around allowed (OfKind ITEM) Q place cs w → ReadsAt around allowed (OfKind ARGUMENT) Q place cs w
 item-as-argument {around} {place} one = reshaped (λ t is. let a = abi_argument t is in (a.tree, a.spells, a.is, a.says around place)) one
+
+-- and as the first type of a lambda
+pub item-as-first : {around : Around} {allowed : Option ℕ} {Q : Value → Type 0} {place : ℕ} {cs : List Component} {w : Written}
+    → ReadsAt around allowed (OfKind ITEM) Q place cs w → ReadsAt around allowed (OfKind FIRST_OF_LAMBDA) Q place cs w
+item-as-first {around} {place} one = reshaped (λ t is. let a = abi_first t is in (a.tree, a.spells, a.is, a.says around place)) one
 
 -- items of an encoding's parameters and of a lambda's, arguments and elements of a pack, and those that are types
 pub items-more : (around : Around) (allowed : Option ℕ) (t items : Term) (last : Value) (place : ℕ) (cs : List Component) (first rest : Written)

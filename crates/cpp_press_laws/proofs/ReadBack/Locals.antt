@@ -9,17 +9,18 @@ use Rattle.sym_shape.specs.declared.rule.Sym.TheVariants.{Kind as OfKind, Number
 use Rattle.sym_link.specs.Unfold.{found}
 use Rattle.cpp_grammar.specs.declared.kind.Kind.{Kind}
 use Rattle.cpp_grammar.specs.declared.production.Production.{Production}
-use Rattle.cpp_grammar.specs.KindNumbers.{ANONYMOUS, ITEM, ITEMS}
+use Rattle.cpp_grammar.specs.KindNumbers.{ANONYMOUS, ITEM, ITEMS, FIRST_OF_LAMBDA}
 use Rattle.cpp_grammar.specs.Term.{Term, lambda, unnamed, list}
 use Rattle.cpp_grammar.specs.Values as value
 use Rattle.cpp_grammar.specs.Values.{State, Around, Value, nothing_there, tree, piece, local_number}
 use Rattle.cpp_grammar.specs.Between.{in_signature, no_items}
-use Rattle.cpp_grammar.specs.Meaning.{parameters}
+use Rattle.cpp_grammar.specs.Meaning.{parameters, signature_with}
 use Rattle.cpp_grammar.specs.Unfolding.{last_token, number_tested, opening}
 use Rattle.cpp_press_laws.specs.Components.{Component}
 use Rattle.cpp_press_laws.specs.Texts.{ordinal}
 use Rattle.cpp_press_laws.specs.Subtrees.{greatest, Written, written, ReadsAt, Is}
 use Rattle.cpp_press_laws.proofs.ReadBack.Tokens.{ordinal_digits, ordinal_token, ordinal-spelled, ordinal-is-token, ordinal-value}
+use Rattle.cpp_press_laws.proofs.ReadBack.Arguments.{item-as-first}
 use Rattle.cpp_press_laws.proofs.ReadBack.Reading.{takes-byte, closes-same, production-opened, fixed-reads, number-reads, grammar, row-of, token-reads, same-written, shape-reads, ◌before◌}
 use Rattle.cpp_press_laws.proofs.ByKind.LeafKinds.{digits-behind}
 use Rattle.sym_shape.specs.Tree.{Tree as Shape, Forest, grown, fixed, token, nothing}
@@ -64,16 +65,17 @@ pub lambda-reads : (around : Around) (allowed : Option ℕ) (t items : Term) (la
     → ReadsAt (in_signature around) allowed (OfKind ITEMS) (Is last) (place + 1 + length first.bytes) first.components rest
     → ReadsAt around allowed (OfKind ANONYMOUS) (Is (piece (lambda (parameters (list t items)) (j + 1)))) place cs
     (written (108 ∷ (first.bytes ++ (rest.bytes ++ (69 ∷ ordinal j)))) rest.components)
-unfolding grammar opening last_token row-of fixed-reads number-reads token-reads shape-reads
-lambda-reads around allowed t items last j place cs first rest are small below one two =
+unfolding grammar opening last_token row-of fixed-reads number-reads token-reads shape-reads signature_with
+lambda-reads around allowed t items last j place cs first rest are small below item two =
+    let one : ReadsAt (in_signature around) allowed (OfKind FIRST_OF_LAMBDA) (Is (tree t true)) (place + 1) cs first = item-as-first item in
     let number : Written = written (bytes_of (ordinal_token j)) rest.components in
     let all : List Value = tree t true ∷ last ∷ nothing_there ∷ value.text (ordinal_digits j) ∷ [] in
     same-written (ap (λ l. 108 ∷ (first.bytes ++ (rest.bytes ++ (69 ∷ l)))) (ordinal-spelled j))
     (production-opened Production.Lambda ANONYMOUS (108 ∷ []) around allowed allowed place (λ values. values ≡ all)
-    (Is (piece (lambda (parameters (list t items)) (j + 1)))) cs rest.components (OfKind ITEM ∷ OfKind ITEMS ∷ Byte 69 ∷ Number Decimal ∷ [])
+    (Is (piece (lambda (parameters (list t items)) (j + 1)))) cs rest.components (OfKind FIRST_OF_LAMBDA ∷ OfKind ITEMS ∷ Byte 69 ∷ Number Decimal ∷ [])
     (written (first.bytes ++ (rest.bytes ++ (69 ∷ number.bytes))) rest.components)
     (takes-byte ANONYMOUS Kind.Anonymous Production.Lambda 108 refl refl (omega arith) refl) refl
-    (row-of Production.Lambda (108 ∷ []) around allowed place _ (OfKind ITEM ∷ OfKind ITEMS ∷ Byte 69 ∷ Number Decimal ∷ []) all
+    (row-of Production.Lambda (108 ∷ []) around allowed place _ (OfKind FIRST_OF_LAMBDA ∷ OfKind ITEMS ∷ Byte 69 ∷ Number Decimal ∷ []) all
     (first ∷ rest ∷ written (69 ∷ []) rest.components ∷ number ∷ []) [] (place + 1) cs
     (λ s c q. one s c q before λ s c q. two s c q before λ s c q. fixed-reads s c q before λ s c q. number-reads Decimal
     (ordinal_token j) (ordinal-is-token j) s c q before refl))

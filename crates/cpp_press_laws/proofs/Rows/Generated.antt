@@ -7,7 +7,7 @@ use Rattle.cpp_grammar.specs.Values.{prefix_tree, prefix_listed, tree_of, piece_
 use Rattle.cpp_grammar.specs.Scope.{count, element, arguments_of, before_arguments, is_structor, has_return_type, is_open, first_of, length_if_pack, pack_length}
 use Rattle.cpp_grammar.specs.References.{appended, is_function_type, with_type, with_unqualified, with_prefix, with_packs, packs_in, is_module, substituted, parameter_named}
 use Rattle.cpp_grammar.specs.Between.{in_name, in_types, in_signature, under_expansion, after, inside, extended, applied, no_items, named_so_far, listed_so_far, parameter_so_far, index_of, between}
-use Rattle.cpp_grammar.specs.Meaning.{is_void, is_nil, parameters, encoding_of, listed_value, discriminator_of, with_item, reference_to, signature_or, operator_or_literal, meaning}
+use Rattle.cpp_grammar.specs.Meaning.{is_void, is_nil, parameters, declared_first, signature_with, encoding_of, listed_value, discriminator_of, with_item, reference_to, signature_or, operator_or_literal, meaning}
 use Rattle.cpp_grammar.specs.Standing.{enclosed_argument, ends_arguments, operation_by, operation_or_address, is_code}
 use Rattle.cpp_grammar.specs.Unfolding.{last_token, number_tested, opening, behind, close, production_at, byte_of, cpp, first_around, first_state, first_tree, unfold_cpp}
 use Rattle.cpp_grammar.specs.Texts.{same_bytes, special_front}
@@ -63,7 +63,7 @@ rows_0 =
     []
 
 right_0 : are_pressed rows_0 ≡ true
-unfolding in_ranges among is_in pick number_of_kind alternatives choose parts_of is_chain may_be_empty kinds productions number_of padded rule_of prefix_tree prefix_listed tree_of piece_of is_listed qualifiers_of ref_of letter_of is_there mark_of text_of signed_of adjustment_of normal is_zero signed_digits local_number part count element arguments_of before_arguments is_structor has_return_type is_open first_of length_if_pack pack_length appended is_function_type with_type with_unqualified with_prefix with_packs packs_in is_module substituted parameter_named in_name in_types in_signature under_expansion after inside extended applied no_items named_so_far listed_so_far parameter_so_far index_of between is_void is_nil parameters encoding_of listed_value discriminator_of with_item reference_to signature_or operator_or_literal enclosed_argument ends_arguments operation_by operation_or_address is_code meaning last_token number_tested opening behind close production_at byte_of cpp first_around first_state first_tree unfold_cpp same_bytes special_front front_digits is_length_form number_at are_name_bytes is_own name_at shape_of read_kind read_symbol read_all same_truth same_qualifiers same_mark same_signed same_adjustment same_thunk same_discriminator same_tree decimal counted ordinal signed_text qualifier_letters mark_letter name_letters offset_text thunk_text discriminator_text is_same first_equal seq_id reference ended spelled_out referred component no_ways type_ways function_text in_N_and_E with_letters name_ways template_before is_operator is_encoding is_one_piece entity_text local_text begun encoding_ways piece_ways argument_ways ways_of pressed pressed_if_read press are_pressed
+unfolding in_ranges among is_in pick number_of_kind alternatives choose parts_of is_chain may_be_empty kinds productions number_of padded rule_of prefix_tree prefix_listed tree_of piece_of is_listed qualifiers_of ref_of letter_of is_there mark_of text_of signed_of adjustment_of normal is_zero signed_digits local_number part count element arguments_of before_arguments is_structor has_return_type is_open first_of length_if_pack pack_length appended is_function_type with_type with_unqualified with_prefix with_packs packs_in is_module substituted parameter_named in_name in_types in_signature under_expansion after inside extended applied no_items named_so_far listed_so_far parameter_so_far index_of between is_void is_nil parameters declared_first signature_with encoding_of listed_value discriminator_of with_item reference_to signature_or operator_or_literal enclosed_argument ends_arguments operation_by operation_or_address is_code meaning last_token number_tested opening behind close production_at byte_of cpp first_around first_state first_tree unfold_cpp same_bytes special_front front_digits is_length_form number_at are_name_bytes is_own name_at shape_of read_kind read_symbol read_all same_truth same_qualifiers same_mark same_signed same_adjustment same_thunk same_discriminator same_tree decimal counted ordinal signed_text qualifier_letters mark_letter name_letters offset_text thunk_text discriminator_text is_same first_equal seq_id reference ended spelled_out referred component no_ways type_ways function_text in_N_and_E with_letters name_ways template_before is_operator is_encoding is_one_piece entity_text local_text begun encoding_ways piece_ways argument_ways ways_of pressed pressed_if_read press are_pressed
 right_0 = refl
 
 abbrev rows_1 : List Row
@@ -111,7 +111,7 @@ rows_1 =
     []
 
 right_1 : are_pressed rows_1 ≡ true
-unfolding in_ranges among is_in pick number_of_kind alternatives choose parts_of is_chain may_be_empty kinds productions number_of padded rule_of prefix_tree prefix_listed tree_of piece_of is_listed qualifiers_of ref_of letter_of is_there mark_of text_of signed_of adjustment_of normal is_zero signed_digits local_number part count element arguments_of before_arguments is_structor has_return_type is_open first_of length_if_pack pack_length appended is_function_type with_type with_unqualified with_prefix with_packs packs_in is_module substituted parameter_named in_name in_types in_signature under_expansion after inside extended applied no_items named_so_far listed_so_far parameter_so_far index_of between is_void is_nil parameters encoding_of listed_value discriminator_of with_item reference_to signature_or operator_or_literal enclosed_argument ends_arguments operation_by operation_or_address is_code meaning last_token number_tested opening behind close production_at byte_of cpp first_around first_state first_tree unfold_cpp same_bytes special_front front_digits is_length_form number_at are_name_bytes is_own name_at shape_of read_kind read_symbol read_all same_truth same_qualifiers same_mark same_signed same_adjustment same_thunk same_discriminator same_tree decimal counted ordinal signed_text qualifier_letters mark_letter name_letters offset_text thunk_text discriminator_text is_same first_equal seq_id reference ended spelled_out referred component no_ways type_ways function_text in_N_and_E with_letters name_ways template_before is_operator is_encoding is_one_piece entity_text local_text begun encoding_ways piece_ways argument_ways ways_of pressed pressed_if_read press are_pressed
+unfolding in_ranges among is_in pick number_of_kind alternatives choose parts_of is_chain may_be_empty kinds productions number_of padded rule_of prefix_tree prefix_listed tree_of piece_of is_listed qualifiers_of ref_of letter_of is_there mark_of text_of signed_of adjustment_of normal is_zero signed_digits local_number part count element arguments_of before_arguments is_structor has_return_type is_open first_of length_if_pack pack_length appended is_function_type with_type with_unqualified with_prefix with_packs packs_in is_module substituted parameter_named in_name in_types in_signature under_expansion after inside extended applied no_items named_so_far listed_so_far parameter_so_far index_of between is_void is_nil parameters declared_first signature_with encoding_of listed_value discriminator_of with_item reference_to signature_or operator_or_literal enclosed_argument ends_arguments operation_by operation_or_address is_code meaning last_token number_tested opening behind close production_at byte_of cpp first_around first_state first_tree unfold_cpp same_bytes special_front front_digits is_length_form number_at are_name_bytes is_own name_at shape_of read_kind read_symbol read_all same_truth same_qualifiers same_mark same_signed same_adjustment same_thunk same_discriminator same_tree decimal counted ordinal signed_text qualifier_letters mark_letter name_letters offset_text thunk_text discriminator_text is_same first_equal seq_id reference ended spelled_out referred component no_ways type_ways function_text in_N_and_E with_letters name_ways template_before is_operator is_encoding is_one_piece entity_text local_text begun encoding_ways piece_ways argument_ways ways_of pressed pressed_if_read press are_pressed
 right_1 = refl
 
 abbrev rows_2 : List Row
@@ -159,7 +159,7 @@ rows_2 =
     []
 
 right_2 : are_pressed rows_2 ≡ true
-unfolding in_ranges among is_in pick number_of_kind alternatives choose parts_of is_chain may_be_empty kinds productions number_of padded rule_of prefix_tree prefix_listed tree_of piece_of is_listed qualifiers_of ref_of letter_of is_there mark_of text_of signed_of adjustment_of normal is_zero signed_digits local_number part count element arguments_of before_arguments is_structor has_return_type is_open first_of length_if_pack pack_length appended is_function_type with_type with_unqualified with_prefix with_packs packs_in is_module substituted parameter_named in_name in_types in_signature under_expansion after inside extended applied no_items named_so_far listed_so_far parameter_so_far index_of between is_void is_nil parameters encoding_of listed_value discriminator_of with_item reference_to signature_or operator_or_literal enclosed_argument ends_arguments operation_by operation_or_address is_code meaning last_token number_tested opening behind close production_at byte_of cpp first_around first_state first_tree unfold_cpp same_bytes special_front front_digits is_length_form number_at are_name_bytes is_own name_at shape_of read_kind read_symbol read_all same_truth same_qualifiers same_mark same_signed same_adjustment same_thunk same_discriminator same_tree decimal counted ordinal signed_text qualifier_letters mark_letter name_letters offset_text thunk_text discriminator_text is_same first_equal seq_id reference ended spelled_out referred component no_ways type_ways function_text in_N_and_E with_letters name_ways template_before is_operator is_encoding is_one_piece entity_text local_text begun encoding_ways piece_ways argument_ways ways_of pressed pressed_if_read press are_pressed
+unfolding in_ranges among is_in pick number_of_kind alternatives choose parts_of is_chain may_be_empty kinds productions number_of padded rule_of prefix_tree prefix_listed tree_of piece_of is_listed qualifiers_of ref_of letter_of is_there mark_of text_of signed_of adjustment_of normal is_zero signed_digits local_number part count element arguments_of before_arguments is_structor has_return_type is_open first_of length_if_pack pack_length appended is_function_type with_type with_unqualified with_prefix with_packs packs_in is_module substituted parameter_named in_name in_types in_signature under_expansion after inside extended applied no_items named_so_far listed_so_far parameter_so_far index_of between is_void is_nil parameters declared_first signature_with encoding_of listed_value discriminator_of with_item reference_to signature_or operator_or_literal enclosed_argument ends_arguments operation_by operation_or_address is_code meaning last_token number_tested opening behind close production_at byte_of cpp first_around first_state first_tree unfold_cpp same_bytes special_front front_digits is_length_form number_at are_name_bytes is_own name_at shape_of read_kind read_symbol read_all same_truth same_qualifiers same_mark same_signed same_adjustment same_thunk same_discriminator same_tree decimal counted ordinal signed_text qualifier_letters mark_letter name_letters offset_text thunk_text discriminator_text is_same first_equal seq_id reference ended spelled_out referred component no_ways type_ways function_text in_N_and_E with_letters name_ways template_before is_operator is_encoding is_one_piece entity_text local_text begun encoding_ways piece_ways argument_ways ways_of pressed pressed_if_read press are_pressed
 right_2 = refl
 
 abbrev rows_3 : List Row
@@ -187,5 +187,5 @@ rows_3 =
     []
 
 right_3 : are_pressed rows_3 ≡ true
-unfolding in_ranges among is_in pick number_of_kind alternatives choose parts_of is_chain may_be_empty kinds productions number_of padded rule_of prefix_tree prefix_listed tree_of piece_of is_listed qualifiers_of ref_of letter_of is_there mark_of text_of signed_of adjustment_of normal is_zero signed_digits local_number part count element arguments_of before_arguments is_structor has_return_type is_open first_of length_if_pack pack_length appended is_function_type with_type with_unqualified with_prefix with_packs packs_in is_module substituted parameter_named in_name in_types in_signature under_expansion after inside extended applied no_items named_so_far listed_so_far parameter_so_far index_of between is_void is_nil parameters encoding_of listed_value discriminator_of with_item reference_to signature_or operator_or_literal enclosed_argument ends_arguments operation_by operation_or_address is_code meaning last_token number_tested opening behind close production_at byte_of cpp first_around first_state first_tree unfold_cpp same_bytes special_front front_digits is_length_form number_at are_name_bytes is_own name_at shape_of read_kind read_symbol read_all same_truth same_qualifiers same_mark same_signed same_adjustment same_thunk same_discriminator same_tree decimal counted ordinal signed_text qualifier_letters mark_letter name_letters offset_text thunk_text discriminator_text is_same first_equal seq_id reference ended spelled_out referred component no_ways type_ways function_text in_N_and_E with_letters name_ways template_before is_operator is_encoding is_one_piece entity_text local_text begun encoding_ways piece_ways argument_ways ways_of pressed pressed_if_read press are_pressed
+unfolding in_ranges among is_in pick number_of_kind alternatives choose parts_of is_chain may_be_empty kinds productions number_of padded rule_of prefix_tree prefix_listed tree_of piece_of is_listed qualifiers_of ref_of letter_of is_there mark_of text_of signed_of adjustment_of normal is_zero signed_digits local_number part count element arguments_of before_arguments is_structor has_return_type is_open first_of length_if_pack pack_length appended is_function_type with_type with_unqualified with_prefix with_packs packs_in is_module substituted parameter_named in_name in_types in_signature under_expansion after inside extended applied no_items named_so_far listed_so_far parameter_so_far index_of between is_void is_nil parameters declared_first signature_with encoding_of listed_value discriminator_of with_item reference_to signature_or operator_or_literal enclosed_argument ends_arguments operation_by operation_or_address is_code meaning last_token number_tested opening behind close production_at byte_of cpp first_around first_state first_tree unfold_cpp same_bytes special_front front_digits is_length_form number_at are_name_bytes is_own name_at shape_of read_kind read_symbol read_all same_truth same_qualifiers same_mark same_signed same_adjustment same_thunk same_discriminator same_tree decimal counted ordinal signed_text qualifier_letters mark_letter name_letters offset_text thunk_text discriminator_text is_same first_equal seq_id reference ended spelled_out referred component no_ways type_ways function_text in_N_and_E with_letters name_ways template_before is_operator is_encoding is_one_piece entity_text local_text begun encoding_ways piece_ways argument_ways ways_of pressed pressed_if_read press are_pressed
 right_3 = refl

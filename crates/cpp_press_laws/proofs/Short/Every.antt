@@ -23,7 +23,7 @@ use Rattle.cpp_press_laws.proofs.Short.Types.{Idle, Free, type_rows, abbreviatio
 use Rattle.cpp_press_laws.proofs.Short.ByRow.{is_read, is_listed_in}
 use Rattle.cpp_press_laws.proofs.Short.Lists.{free_rows, idle_rows, free-gains, idle-gains, arguments-gains, encoding-gains, given-gains, lambda-gains, lvalue-item-gains, other-special-gains, pack-argument-gains, ref-end-gains, rvalue-item-gains, special-gains}
 use Rattle.cpp_press_laws.proofs.Short.Names.{name_rows, name-gains, abbreviated-name, constructor-name, destructor-name, internal-name, local-name, local-type, local-type-name, may-end-behind, nest-arguments, nest-end, nest-instance, nest-internal, nest-local-type, nest-next, nest-parameter, nest-source, nest-std, nest-template, operator-name, operator-name-with-c, other-operator-name, source-name, std-name, string-literal, tagged-std-type, as-name, further_rows, further-gains}
-use Rattle.cpp_press_laws.proofs.Short.Qualified.{qualified_rows, qualified-gains, as-type, bare-reference-gains, granted, integer-gains, parameter-argument-gains, parameter-gains, substitution-gains, type-with-s-gains}
+use Rattle.cpp_press_laws.proofs.Short.Qualified.{qualified_rows, qualified-gains, as-type, bare-reference-gains, granted, integer-gains, parameter-argument-gains, parameter-gains, leveled-parameter-gains, first-parameter-gains, substitution-gains, type-with-s-gains}
 
 -- a production of a kind
 abbrev Arm : Kind → Production → Type 0
@@ -136,11 +136,15 @@ arms Kind.TypeInStd is = named (as-name tagged-std-type)
 arms Kind.MaybeTags is = tt
 arms Kind.Argument is = (qualified-gains type Production.RestrictType refl, (qualified-gains type Production.VolatileType refl, (qualified-gains type Production.ConstType refl, (type-gains Production.ItemWithD refl, (reference-gains, (expression-gains, (type-gains Production.ArgumentWithT refl, type-gains Production.PlainArgument refl)))))))
 arms Kind.ArgumentAfterT is = parameter-argument-gains
+arms Kind.LeveledParameter is = parameter-argument-gains
+arms Kind.FirstOfLambda is = (qualified-gains type Production.RestrictType refl, (qualified-gains type Production.VolatileType refl, (qualified-gains type Production.ConstType refl, (type-gains Production.ItemWithD refl, (reference-gains, (type-gains Production.FirstWithT refl, type-gains Production.PlainArgument refl))))))
+arms Kind.FirstAfterT is = first-parameter-gains
 arms Kind.SolidButT is = (type-gains Production.Builtin refl, (type-gains Production.Vendor refl, (type-gains Production.ArrayType refl, (type-gains Production.Function refl, (type-gains Production.Complex refl, (type-gains Production.Pointer refl, (type-gains Production.MemberPointer refl, (type-with-s-gains, (named (name-gains Production.NestedType refl), (named local-type, (named (as-name local-type-name), named (as-name source-name))))))))))))
 arms Kind.Expression is = type-gains Production.ExpressionA refl
 arms Kind.AddressedExpression is = addressed-gains
 arms Kind.AddressedLiteral is = type-gains Production.EncodingLiteral refl
 arms Kind.ExpressionAfterA is = idle-gains operands Production.AddressExpression refl
+arms Kind.ParameterAfterT is = (parameter-argument-gains, leveled-parameter-gains)
 arms Kind.AnyArray is = type-gains Production.AnyArray refl
 arms Kind.ArrayRest is = type-gains Production.LengthArray refl
 arms Kind.NestMoreOrEnd is = nest-next

@@ -112,6 +112,10 @@ class_of Kind.AnyArray = type
 class_of Kind.ArrayRest = type
 class_of Kind.Argument = type
 class_of Kind.ArgumentAfterT = type
+class_of Kind.ParameterAfterT = type
+class_of Kind.LeveledParameter = type
+class_of Kind.FirstOfLambda = type
+class_of Kind.FirstAfterT = type
 class_of Kind.Literal = type
 class_of Kind.LiteralAfterD = type
 class_of Kind.Expression = type
@@ -227,6 +231,9 @@ grant Kind.AfterO = 8
 grant Kind.Entity = 4
 grant Kind.Literal = 8
 grant Kind.ArgumentAfterT = 8
+grant Kind.ParameterAfterT = 8
+grant Kind.LeveledParameter = 8
+grant Kind.FirstAfterT = 8
 grant _ = 0
 
 -- the name so far, unless it is a candidate, may become one

@@ -15,9 +15,11 @@ use Rattle.cpp_grammar.specs.Values as values
 use Rattle.cpp_grammar.specs.Values.{State, Around, Value, nothing_there, letter, text, tree, piece, tree_of, piece_of, qualifiers_of, ref_of, letter_of, is_there, text_of, signed_of, adjustment_of, normal, is_zero, signed_digits, local_number}
 use Rattle.cpp_grammar.specs.References.{is_function_type}
 use Rattle.cpp_grammar.specs.Between.{in_name, in_types, in_signature, inside, no_items, between}
-use Rattle.cpp_grammar.specs.Meaning.{parameters, encoding_of, discriminator_of, with_item, signature_or, operator_or_literal, meaning}
+use Rattle.cpp_grammar.specs.Meaning.{parameters, signature_with, encoding_of, discriminator_of, with_item, signature_or, operator_or_literal, meaning}
 use Rattle.cpp_grammar.specs.Unfolding as unfolding_
 use Rattle.cpp_grammar.specs.Unfolding.{close}
+use Rattle.cpp_grammar.proofs.Declared.{is_first}
+use Rattle.cpp_grammar.proofs.Undeclared.{undeclared_signature}
 use Rattle.cpp_grammar.proofs.Chosen.{either, either_cond}
 use Rattle.cpp_press_laws.specs.Texts.{ordinal, signed_text, name_letters, offset_text, thunk_text, discriminator_text}
 use Rattle.cpp_press_laws.specs.Pressing.{is_component, is_encoding}
@@ -65,18 +67,20 @@ discriminator-short (d ∷ e ∷ ds) = omega (arith, length-append (codes "__" +
 -- ## Marks, numbers and pieces of names
 
 pub lambda-gains : Free Production.Lambda unit 0
-unfolding parts_of between is_chain close unfolding_.behind meaning values.part class_of grant Gained Ready ready_for need typed loan returned IsKnown IsKept piece_of in_signature lent SmallPrefix local_number size
+unfolding parts_of between is_chain close unfolding_.behind meaning values.part class_of grant Gained Ready ready_for need typed loan returned IsKnown IsKept piece_of in_signature lent SmallPrefix local_number size is_first number_of_kind
 lambda-gains around at old v new b ready small all o =
     let p0 = o.paid in
-    let g0 = p0.gains Kind.Item refl refl tt all in
+    let g0 = p0.gains Kind.FirstOfLambda refl refl tt all in
     let p1 = p0.onward in
     let g1 = p1.gains Kind.Items refl refl tt g0.small in
     let p2 = p1.onward in
     let g2 = p2.gains in
     let p3 = p2.onward in
     let g3 = p3.gains in
-    comes-to (λ w s. Gains unit 0 around w old s b) o (p0.value ∷ p1.value ∷ p2.value ∷ p3.value ∷ []) (p3.after) (piece (lambda (parameters (list (tree_of p0.value) (no_items p1.value))) (local_number (text_of p3.value)))) (p3.after) p3.onward.0 refl
-    (record { few = omega (arith, o.sum, g0.few, p0.sum, g1.few, p1.sum, ap (λ s. wealth s) g2.0, g2.1, p2.sum, ap (λ s. wealth s) g3.0, g3.1.0, g3.1.1, g3.1.2 refl, p3.sum, p3.onward.1, parameters-most (list (tree_of p0.value) (no_items p1.value)), size-some (no_items p1.value), ap (λ n. length (ordinal n)) (back-one (counted_value Decimal (text_of p3.value)))); known = tt; kept = tt; small = (subst (λ s. AllSmall s.candidates) (sym g3.0) (subst (λ s. AllSmall s.candidates) (sym g2.0) g1.small)) })
+    let types = parameters (list (tree_of p0.value) (no_items p1.value)) in
+    comes-to (λ w s. Gains unit 0 around w old s b) o (p0.value ∷ p1.value ∷ p2.value ∷ p3.value ∷ []) (p3.after) (piece (lambda (signature_with p0.value types) (local_number (text_of p3.value)))) (p3.after) p3.onward.0 refl
+    (subst (λ t. Gains unit 0 around (piece (lambda t (local_number (text_of p3.value)))) old p3.after b) (sym (undeclared_signature (p0.value ∷ []) types (p0.first refl)))
+    (record { few = omega (arith, o.sum, g0.few, p0.sum, g1.few, p1.sum, ap (λ s. wealth s) g2.0, g2.1, p2.sum, ap (λ s. wealth s) g3.0, g3.1.0, g3.1.1, g3.1.2 refl, p3.sum, p3.onward.1, parameters-most (list (tree_of p0.value) (no_items p1.value)), size-some (no_items p1.value), ap (λ n. length (ordinal n)) (back-one (counted_value Decimal (text_of p3.value)))); known = tt; kept = tt; small = (subst (λ s. AllSmall s.candidates) (sym g3.0) (subst (λ s. AllSmall s.candidates) (sym g2.0) g1.small)) }))
 
 operator-most : (b : ℕ) (v : Value) → size (piece_of (operator_or_literal b v)) ≤ 1 + size (piece_of v)
 unfolding operator_or_literal piece_of size

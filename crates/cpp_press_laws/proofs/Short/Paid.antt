@@ -25,6 +25,9 @@ use Rattle.cpp_grammar.specs.Table.{abi, rule_of, rule_taken}
 use Rattle.cpp_grammar.specs.Values.{State, Around, Value, nothing_there, text, text_of}
 use Rattle.cpp_grammar.specs.Between.{Continuation, between}
 use Rattle.cpp_grammar.specs.Unfolding.{opening, production_at, cpp, close, byte_of}
+use Rattle.cpp_grammar.proofs.Growing.{abi_wide}
+use Rattle.cpp_grammar.proofs.Declared.{is_first}
+use Rattle.cpp_grammar.proofs.Undeclared.{starts, read_first}
 use Rattle.cpp_grammar.proofs.ClosedStates.{ok_same, behind_bind}
 use Rattle.cpp_grammar.proofs.Chosen.{either}
 use Rattle.cpp_press_laws.specs.Texts.{decimal, counted, ordinal}
@@ -194,6 +197,7 @@ pub record PaidPart (x : Sym) (bytes : ℕ) (next : Next Value State Around) (re
   pub others : ℕ
   pub sum : bytes ≡ own + others
   pub gains : SymGains x next.context value next.state after own
+  pub first : is_first x ≡ true → starts (value ∷ []) ≡ true
   pub onward : rest others (next.values ++ value ∷ []) after
 
 abbrev pub Paid : Production → Around → (place : ℕ) → Found (List Value) State → List Sym → (bytes : ℕ) → List Value → State → Type 0
@@ -228,6 +232,7 @@ parts-paid p around place inner (x ∷ xs) f vs from s goes are = go (between p 
       others = length (spell_all h.others);
       sum = ap (λ g. length (spell_all g)) h.splits ∙ length-append (spell h.shape) (spell_all h.others);
       gains = sym-gains x h.shape h.holds next.context from next.state h.value h.after h.is h.unfolds;
+      first = λ first. read_first h.shape x next.context from next.state (found (h.value ∷ []) h.after) (abi_wide x h.shape h.is) first h.unfolds;
       onward = more h.others (next.values ++ h.value ∷ []) (from + length (spell h.shape)) h.after h.onward
           (rest-are h.shape h.others h.splits);
     }

@@ -32,7 +32,7 @@ use Rattle.cpp_press_laws.specs.Fits.{has_letters}
 use Rattle.cpp_press_laws.proofs.Components.Parts.{Has, has-before, has-itself, has-closed}
 use Rattle.cpp_press_laws.proofs.Fits.References.{Substituted, substitution-refers}
 use Rattle.cpp_press_laws.proofs.Short.Slots.{letters-short}
-use Rattle.cpp_press_laws.proofs.Short.Types.{Idle, Free, listed, reference-gains, held-signed}
+use Rattle.cpp_press_laws.proofs.Short.Types.{Idle, Free, listed, reference-gains, held-signed, listed-granted}
 use Rattle.cpp_press_laws.proofs.Short.Names.{parameter-goes}
 
 -- ## Conversions
@@ -315,6 +315,26 @@ parameter-argument-gains around at old v new b idle small all o =
     (tree (applied (parameter k) p1.value) (not (is_there p1.value))) p1.after p1.onward.0 refl
     (applied-type around (parameter k) true p1.value p1.after q.mid old p1.own b 8 refl (λ h. absurd (true≢false h)) (λ h is. absurd (false≢true is)) g1
     (omega (arith, o.sum, ap (λ s. wealth s) g0.0, g0.1.0, g0.1.2 refl, p0.sum, q.grown.few, p1.sum, p1.onward.1)))
+
+-- a parameter of a level
+pub leveled-parameter-gains : Granted Production.LeveledParameter
+unfolding parts_of between is_chain close unfolding_.behind meaning values.part class_of grant Gained Ready ready_for need typed loan returned IsKnown IsKept
+leveled-parameter-gains around at old v new b idle small all o =
+    let p0 = o.paid in
+    let g0 = p0.gains in
+    let p1 = p0.onward in
+    let g1 = p1.gains Kind.LeveledParameter refl idle small (subst (λ s. AllSmall s.candidates) (sym g0.0) all) in
+    comes-to (λ w s. Gains type 8 around w old s b) o (p0.value ∷ p1.value ∷ []) p1.after p1.value p1.after p1.onward.0 refl
+    (record { few = omega (arith, o.sum, ap (λ s. wealth s) g0.0, g0.1.0, p0.sum, g1.few, p1.sum, p1.onward.1); known = g1.known; kept = tt; small = g1.small })
+
+-- a parameter as the first type of a lambda
+pub first-parameter-gains : Granted Production.FirstParameter
+unfolding parts_of between is_chain close unfolding_.behind meaning values.part class_of grant Gained Ready ready_for need typed loan returned IsKnown IsKept listed_value
+first-parameter-gains around at old v new b idle small all o =
+    let p0 = o.paid in
+    let g0 = p0.gains Kind.LeveledParameter refl idle small all in
+    comes-to (λ w s. Gains type 8 around w old s b) o (p0.value ∷ []) p0.after (tree (tree_of p0.value) true) (with_type around p0.value p0.after) p0.onward.0 refl
+    (listed-granted 8 around p0.value p0.after old b g0.small g0.known (omega (arith, o.sum, g0.few, p0.sum, p0.onward.1)))
 
 pub integer-gains : Granted Production.IntegerLiteral
 unfolding parts_of between is_chain close unfolding_.behind meaning values.part class_of grant Gained Ready ready_for need typed loan returned IsKnown IsKept full over size part_of is_component is_function_type is_encoding is_listed tree_of

@@ -5,7 +5,7 @@ use Rattle.sym_spell.specs.Pressing as spell
 use Rattle.sym_spell.specs.Pressing.{◌and◌, text, nothing}
 use Rattle.sym_spell.specs.Digits.{digit36}
 use Rattle.sym_spell.proofs.DigitValues.{Divides, digits-count}
-use Rattle.cpp_grammar.specs.Term.{RefQualifier, any_value, lvalue_only, rvalue_only, explicit_object, Term, symbol, function, object, special, thunk, of_name, construction, clone, alone, in_std, within, instance, local, holder, tagged, of_default, abbreviation, parameter, source, operator, literal_operator, constructor, destructor, inheriting, lambda, generic_lambda, unnamed, string_literal, conversion, builtin, sized_float, constrained, vendor, pointer, lvalue, rvalue, array, bounded, member_pointer, function_type, qualified, vector, complex, decltype, expansion, integer, boolean, null_pointer, encoding_literal, address_of, operation, function_parameter, pack, nil, list, absent, enumeration, bindings}
+use Rattle.cpp_grammar.specs.Term.{RefQualifier, any_value, lvalue_only, rvalue_only, explicit_object, Term, symbol, function, object, special, thunk, of_name, construction, clone, alone, in_std, within, instance, local, holder, tagged, of_default, abbreviation, parameter, source, operator, literal_operator, constructor, destructor, inheriting, lambda, generic_lambda, unnamed, string_literal, conversion, builtin, sized_float, constrained, vendor, pointer, lvalue, rvalue, array, bounded, member_pointer, function_type, qualified, vector, complex, decltype, expansion, integer, boolean, null_pointer, encoding_literal, address_of, operation, function_parameter, pack, nil, list, absent, enumeration, bindings, declaring}
 use Rattle.cpp_grammar.specs.References.{is_function_type}
 use Rattle.cpp_grammar.specs.Meaning.{is_nil}
 use Rattle.cpp_grammar.specs.Scope.{without_tags}
@@ -512,6 +512,7 @@ all-short string_literal n = piece-all string_literal _ (bytes-short (size strin
 all-short (conversion type) n = piece-all (conversion type) _ (behind-text (part_of type (size type)) (size (conversion type)) (codes "cv") ((ways_of n type).as_type) (omega arith) (all-short type n way.as_type))
 all-short (enumeration type name) n = piece-all (enumeration type name) _ (behind-text (part_of type (size type) + length (counted name)) (size (enumeration type name)) (codes "Ue") ((ways_of n type).as_type and text (counted name)) (omega arith) (before-text (part_of type (size type)) (part_of type (size type) + length (counted name)) (ways_of n type).as_type (counted name) (omega arith) (all-short type n way.as_type)))
 all-short (bindings names) n = none-all (bindings names)
+all-short (declaring heads parameters) n = none-all (declaring heads parameters)
 all-short (builtin code) n = spelled-all (builtin code) (text code) (length code) (bytes-short (length code) code (omega arith)) (omega arith) (omega arith) (omega arith)
 all-short (sized_float digits end) n = spelled-all (sized_float digits end) (text (codes "DF") and text digits and text (end ∷ [])) (3 + length digits) (behind-text (1 + length digits) (3 + length digits) (codes "DF") (text digits and text (end ∷ [])) (omega arith) (behind-text 1 (1 + length digits) digits (text (end ∷ [])) (omega arith) (bytes-short 1 (end ∷ []) (omega arith)))) (omega arith) (omega arith) (omega arith)
 all-short (constrained letter concept) n = none-all (constrained letter concept)

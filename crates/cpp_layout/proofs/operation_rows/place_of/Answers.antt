@@ -410,6 +410,26 @@ pub returns-in-22352 : goal.returns-in-22352
 unfolding operations place_of
 returns-in-22352 c = rw c.in-22352.is refl
 
+pub returns-in-21625 : goal.returns-in-21625
+unfolding operations place_of
+returns-in-21625 c = rw c.in-21625.is refl
+
+pub returns-in-21614 : goal.returns-in-21614
+unfolding operations place_of
+returns-in-21614 c = rw c.in-21614.is refl
+
+pub returns-in-21611 : goal.returns-in-21611
+unfolding operations place_of
+returns-in-21611 c = rw c.in-21611.is refl
+
+pub returns-in-21620 : goal.returns-in-21620
+unfolding operations place_of
+returns-in-21620 c = rw c.in-21620.is refl
+
+pub returns-in-21616 : goal.returns-in-21616
+unfolding operations place_of
+returns-in-21616 c = rw c.in-21616.is refl
+
 pub returns-in_default : goal.returns-in_default
 unfolding operations
-returns-in_default c = none_placed c.args.code operations (let none : any_number operations c.args.code ≡ false = rw (ne_eqb c.args.code 28787 (omega (arith, c.in_default)), ne_eqb c.args.code 28263 (omega (arith, c.in_default)), ne_eqb c.args.code 24932 (omega (arith, c.in_default)), ne_eqb c.args.code 25701 (omega (arith, c.in_default)), ne_eqb c.args.code 25455 (omega (arith, c.in_default)), ne_eqb c.args.code 28276 (omega (arith, c.in_default)), ne_eqb c.args.code 24951 (omega (arith, c.in_default)), ne_eqb c.args.code 25708 (omega (arith, c.in_default)), ne_eqb c.args.code 25697 (omega (arith, c.in_default)), ne_eqb c.args.code 29815 (omega (arith, c.in_default)), ne_eqb c.args.code 26483 (omega (arith, c.in_default)), ne_eqb c.args.code 28767 (omega (arith, c.in_default)), ne_eqb c.args.code 27999 (omega (arith, c.in_default)), ne_eqb c.args.code 28784 (omega (arith, c.in_default)), ne_eqb c.args.code 28013 (omega (arith, c.in_default)), ne_eqb c.args.code 25715 (omega (arith, c.in_default)), ne_eqb c.args.code 28781 (omega (arith, c.in_default)), ne_eqb c.args.code 28012 (omega (arith, c.in_default)), ne_eqb c.args.code 25718 (omega (arith, c.in_default)), ne_eqb c.args.code 29293 (omega (arith, c.in_default)), ne_eqb c.args.code 28780 (omega (arith, c.in_default)), ne_eqb c.args.code 28009 (omega (arith, c.in_default)), ne_eqb c.args.code 27763 (omega (arith, c.in_default)), ne_eqb c.args.code 29555 (omega (arith, c.in_default)), ne_eqb c.args.code 27764 (omega (arith, c.in_default)), ne_eqb c.args.code 27749 (omega (arith, c.in_default)), ne_eqb c.args.code 26469 (omega (arith, c.in_default)), ne_eqb c.args.code 25969 (omega (arith, c.in_default)), ne_eqb c.args.code 28261 (omega (arith, c.in_default)), ne_eqb c.args.code 24942 (omega (arith, c.in_default)), ne_eqb c.args.code 25967 (omega (arith, c.in_default)), ne_eqb c.args.code 28530 (omega (arith, c.in_default)), ne_eqb c.args.code 24929 (omega (arith, c.in_default)), ne_eqb c.args.code 28527 (omega (arith, c.in_default)), ne_eqb c.args.code 26484 (omega (arith, c.in_default)), ne_eqb c.args.code 29299 (omega (arith, c.in_default)), ne_eqb c.args.code 25453 (omega (arith, c.in_default)), ne_eqb c.args.code 24915 (omega (arith, c.in_default)), ne_eqb c.args.code 28748 (omega (arith, c.in_default)), ne_eqb c.args.code 27977 (omega (arith, c.in_default)), ne_eqb c.args.code 27980 (omega (arith, c.in_default)), ne_eqb c.args.code 25686 (omega (arith, c.in_default)), ne_eqb c.args.code 29261 (omega (arith, c.in_default)), ne_eqb c.args.code 24910 (omega (arith, c.in_default)), ne_eqb c.args.code 28498 (omega (arith, c.in_default)), ne_eqb c.args.code 25935 (omega (arith, c.in_default)), ne_eqb c.args.code 27731 (omega (arith, c.in_default)), ne_eqb c.args.code 29267 (omega (arith, c.in_default)), ne_eqb c.args.code 27000 (omega (arith, c.in_default)), ne_eqb c.args.code 25716 (omega (arith, c.in_default)), ne_eqb c.args.code 28788 (omega (arith, c.in_default)), ne_eqb c.args.code 29045 (omega (arith, c.in_default)), ne_eqb c.args.code 28986 (omega (arith, c.in_default)), ne_eqb c.args.code 25452 (omega (arith, c.in_default)), ne_eqb c.args.code 25462 (omega (arith, c.in_default)), ne_eqb c.args.code 25439 (omega (arith, c.in_default)), ne_eqb c.args.code 29804 (omega (arith, c.in_default)), ne_eqb c.args.code 26988 (omega (arith, c.in_default)), ne_eqb c.args.code 25699 (omega (arith, c.in_default)), ne_eqb c.args.code 29539 (omega (arith, c.in_default)), ne_eqb c.args.code 25443 (omega (arith, c.in_default)), ne_eqb c.args.code 29283 (omega (arith, c.in_default)), ne_eqb c.args.code 29801 (omega (arith, c.in_default)), ne_eqb c.args.code 29797 (omega (arith, c.in_default)), ne_eqb c.args.code 29556 (omega (arith, c.in_default)), ne_eqb c.args.code 29562 (omega (arith, c.in_default)), ne_eqb c.args.code 24948 (omega (arith, c.in_default)), ne_eqb c.args.code 24954 (omega (arith, c.in_default)), ne_eqb c.args.code 28280 (omega (arith, c.in_default)), ne_eqb c.args.code 29530 (omega (arith, c.in_default)), ne_eqb c.args.code 29554 (omega (arith, c.in_default)), ne_eqb c.args.code 26196 (omega (arith, c.in_default)), ne_eqb c.args.code 10281 (omega (arith, c.in_default)), ne_eqb c.args.code 25710 (omega (arith, c.in_default)), ne_eqb c.args.code 25456 (omega (arith, c.in_default)), ne_eqb c.args.code 28279 (omega (arith, c.in_default)), ne_eqb c.args.code 28257 (omega (arith, c.in_default)), ne_eqb c.args.code 28200 (omega (arith, c.in_default)), ne_eqb c.args.code 28255 (omega (arith, c.in_default)), ne_eqb c.args.code 28777 (omega (arith, c.in_default)), ne_eqb c.args.code 26220 (omega (arith, c.in_default)), ne_eqb c.args.code 26226 (omega (arith, c.in_default)), ne_eqb c.args.code 26188 (omega (arith, c.in_default)), ne_eqb c.args.code 26194 (omega (arith, c.in_default)), ne_eqb c.args.code 26161 (omega (arith, c.in_default)), ne_eqb c.args.code 26162 (omega (arith, c.in_default)), ne_eqb c.args.code 26158 (omega (arith, c.in_default)), ne_eqb c.args.code 29297 (omega (arith, c.in_default)), ne_eqb c.args.code 29265 (omega (arith, c.in_default)), ne_eqb c.args.code 29810 (omega (arith, c.in_default)), ne_eqb c.args.code 29561 (omega (arith, c.in_default)), ne_eqb c.args.code 17529 (omega (arith, c.in_default)), ne_eqb c.args.code 17474 (omega (arith, c.in_default)), ne_eqb c.args.code 17493 (omega (arith, c.in_default)), ne_eqb c.args.code 19558 (omega (arith, c.in_default)), ne_eqb c.args.code 25705 (omega (arith, c.in_default)), ne_eqb c.args.code 25720 (omega (arith, c.in_default)), ne_eqb c.args.code 15648 (omega (arith, c.in_default)), ne_eqb c.args.code 22321 (omega (arith, c.in_default)), ne_eqb c.args.code 22359 (omega (arith, c.in_default)), ne_eqb c.args.code 22352 (omega (arith, c.in_default))) refl in none)
+returns-in_default c = none_placed c.args.code operations (let none : any_number operations c.args.code ≡ false = rw (ne_eqb c.args.code 28787 (omega (arith, c.in_default)), ne_eqb c.args.code 28263 (omega (arith, c.in_default)), ne_eqb c.args.code 24932 (omega (arith, c.in_default)), ne_eqb c.args.code 25701 (omega (arith, c.in_default)), ne_eqb c.args.code 25455 (omega (arith, c.in_default)), ne_eqb c.args.code 28276 (omega (arith, c.in_default)), ne_eqb c.args.code 24951 (omega (arith, c.in_default)), ne_eqb c.args.code 25708 (omega (arith, c.in_default)), ne_eqb c.args.code 25697 (omega (arith, c.in_default)), ne_eqb c.args.code 29815 (omega (arith, c.in_default)), ne_eqb c.args.code 26483 (omega (arith, c.in_default)), ne_eqb c.args.code 28767 (omega (arith, c.in_default)), ne_eqb c.args.code 27999 (omega (arith, c.in_default)), ne_eqb c.args.code 28784 (omega (arith, c.in_default)), ne_eqb c.args.code 28013 (omega (arith, c.in_default)), ne_eqb c.args.code 25715 (omega (arith, c.in_default)), ne_eqb c.args.code 28781 (omega (arith, c.in_default)), ne_eqb c.args.code 28012 (omega (arith, c.in_default)), ne_eqb c.args.code 25718 (omega (arith, c.in_default)), ne_eqb c.args.code 29293 (omega (arith, c.in_default)), ne_eqb c.args.code 28780 (omega (arith, c.in_default)), ne_eqb c.args.code 28009 (omega (arith, c.in_default)), ne_eqb c.args.code 27763 (omega (arith, c.in_default)), ne_eqb c.args.code 29555 (omega (arith, c.in_default)), ne_eqb c.args.code 27764 (omega (arith, c.in_default)), ne_eqb c.args.code 27749 (omega (arith, c.in_default)), ne_eqb c.args.code 26469 (omega (arith, c.in_default)), ne_eqb c.args.code 25969 (omega (arith, c.in_default)), ne_eqb c.args.code 28261 (omega (arith, c.in_default)), ne_eqb c.args.code 24942 (omega (arith, c.in_default)), ne_eqb c.args.code 25967 (omega (arith, c.in_default)), ne_eqb c.args.code 28530 (omega (arith, c.in_default)), ne_eqb c.args.code 24929 (omega (arith, c.in_default)), ne_eqb c.args.code 28527 (omega (arith, c.in_default)), ne_eqb c.args.code 26484 (omega (arith, c.in_default)), ne_eqb c.args.code 29299 (omega (arith, c.in_default)), ne_eqb c.args.code 25453 (omega (arith, c.in_default)), ne_eqb c.args.code 24915 (omega (arith, c.in_default)), ne_eqb c.args.code 28748 (omega (arith, c.in_default)), ne_eqb c.args.code 27977 (omega (arith, c.in_default)), ne_eqb c.args.code 27980 (omega (arith, c.in_default)), ne_eqb c.args.code 25686 (omega (arith, c.in_default)), ne_eqb c.args.code 29261 (omega (arith, c.in_default)), ne_eqb c.args.code 24910 (omega (arith, c.in_default)), ne_eqb c.args.code 28498 (omega (arith, c.in_default)), ne_eqb c.args.code 25935 (omega (arith, c.in_default)), ne_eqb c.args.code 27731 (omega (arith, c.in_default)), ne_eqb c.args.code 29267 (omega (arith, c.in_default)), ne_eqb c.args.code 27000 (omega (arith, c.in_default)), ne_eqb c.args.code 25716 (omega (arith, c.in_default)), ne_eqb c.args.code 28788 (omega (arith, c.in_default)), ne_eqb c.args.code 29045 (omega (arith, c.in_default)), ne_eqb c.args.code 28986 (omega (arith, c.in_default)), ne_eqb c.args.code 25452 (omega (arith, c.in_default)), ne_eqb c.args.code 25462 (omega (arith, c.in_default)), ne_eqb c.args.code 25439 (omega (arith, c.in_default)), ne_eqb c.args.code 29804 (omega (arith, c.in_default)), ne_eqb c.args.code 26988 (omega (arith, c.in_default)), ne_eqb c.args.code 25699 (omega (arith, c.in_default)), ne_eqb c.args.code 29539 (omega (arith, c.in_default)), ne_eqb c.args.code 25443 (omega (arith, c.in_default)), ne_eqb c.args.code 29283 (omega (arith, c.in_default)), ne_eqb c.args.code 29801 (omega (arith, c.in_default)), ne_eqb c.args.code 29797 (omega (arith, c.in_default)), ne_eqb c.args.code 29556 (omega (arith, c.in_default)), ne_eqb c.args.code 29562 (omega (arith, c.in_default)), ne_eqb c.args.code 24948 (omega (arith, c.in_default)), ne_eqb c.args.code 24954 (omega (arith, c.in_default)), ne_eqb c.args.code 28280 (omega (arith, c.in_default)), ne_eqb c.args.code 29530 (omega (arith, c.in_default)), ne_eqb c.args.code 29554 (omega (arith, c.in_default)), ne_eqb c.args.code 26196 (omega (arith, c.in_default)), ne_eqb c.args.code 10281 (omega (arith, c.in_default)), ne_eqb c.args.code 25710 (omega (arith, c.in_default)), ne_eqb c.args.code 25456 (omega (arith, c.in_default)), ne_eqb c.args.code 28279 (omega (arith, c.in_default)), ne_eqb c.args.code 28257 (omega (arith, c.in_default)), ne_eqb c.args.code 28200 (omega (arith, c.in_default)), ne_eqb c.args.code 28255 (omega (arith, c.in_default)), ne_eqb c.args.code 28777 (omega (arith, c.in_default)), ne_eqb c.args.code 26220 (omega (arith, c.in_default)), ne_eqb c.args.code 26226 (omega (arith, c.in_default)), ne_eqb c.args.code 26188 (omega (arith, c.in_default)), ne_eqb c.args.code 26194 (omega (arith, c.in_default)), ne_eqb c.args.code 26161 (omega (arith, c.in_default)), ne_eqb c.args.code 26162 (omega (arith, c.in_default)), ne_eqb c.args.code 26158 (omega (arith, c.in_default)), ne_eqb c.args.code 29297 (omega (arith, c.in_default)), ne_eqb c.args.code 29265 (omega (arith, c.in_default)), ne_eqb c.args.code 29810 (omega (arith, c.in_default)), ne_eqb c.args.code 29561 (omega (arith, c.in_default)), ne_eqb c.args.code 17529 (omega (arith, c.in_default)), ne_eqb c.args.code 17474 (omega (arith, c.in_default)), ne_eqb c.args.code 17493 (omega (arith, c.in_default)), ne_eqb c.args.code 19558 (omega (arith, c.in_default)), ne_eqb c.args.code 25705 (omega (arith, c.in_default)), ne_eqb c.args.code 25720 (omega (arith, c.in_default)), ne_eqb c.args.code 15648 (omega (arith, c.in_default)), ne_eqb c.args.code 22321 (omega (arith, c.in_default)), ne_eqb c.args.code 22359 (omega (arith, c.in_default)), ne_eqb c.args.code 22352 (omega (arith, c.in_default)), ne_eqb c.args.code 21625 (omega (arith, c.in_default)), ne_eqb c.args.code 21614 (omega (arith, c.in_default)), ne_eqb c.args.code 21611 (omega (arith, c.in_default)), ne_eqb c.args.code 21620 (omega (arith, c.in_default)), ne_eqb c.args.code 21616 (omega (arith, c.in_default))) refl in none)

@@ -114,6 +114,10 @@ pub returns-in-Parameter : goal.returns-in-Parameter
 unfolding fields_of erase tree_of
 returns-in-Parameter c = seen-none (over c.args.symbol.now c.args.nodes.now) (length c.args.nodes.now.nodes) c.in-Parameter.is c.requires.node c.leaf-in-Parameter.ensures refl refl refl (λ k b. none-within c.args.symbol.now)
 
+pub returns-in-Declaring : goal.returns-in-Declaring
+unfolding fields_of erase tree_of
+returns-in-Declaring c = seen-two (over c.args.symbol.now c.args.nodes.now) (length c.args.nodes.now.nodes) c.in-Declaring.is c.requires.node c.two-in-Declaring.ensures refl refl refl (λ k b. (none-within c.args.symbol.now, b.0, b.1))
+
 pub returns-in-Builtin : goal.returns-in-Builtin
 unfolding fields_of erase tree_of
 returns-in-Builtin c = seen-none (over c.args.symbol.now c.args.nodes.now) (length c.args.nodes.now.nodes) c.in-Builtin.is c.requires.node c.leaf-in-Builtin.ensures refl refl refl (λ k b. none-within c.args.symbol.now)

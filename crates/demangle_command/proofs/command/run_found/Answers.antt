@@ -4,21 +4,21 @@ use Rattle.demangle_command.proofs.command.run_found.Goals as goal
 
 pub returns-in_default-clause-ok : goal.returns-in_default-clause-ok
 returns-in_default-clause-ok g c =
-    refused-ends (rows_of (found_of c.args.matches.now)) (g.S.Source.coming c.args.input.now) (g.W.Sink.taken c.args.out.now) (g.E.Sink.taken c.args.err.now) (g.E.Sink.taken c.refuse_style.new.err) c.refuse_style.result
-    c.in_default.ensures c.refuse_style.ensures.wrong_use c.refuse_style.ensures.says
+    refused-ends (rows_of (found_of c.args.matches.now)) (g.S.Source.coming c.args.input.now) (g.W.Sink.taken c.args.out.now) (g.E.Sink.taken c.args.err.now) (g.E.Sink.taken c.refuse_options.new.err) c.refuse_options.result
+    c.in_default.ensures c.refuse_options.ensures.wrong_use c.refuse_options.ensures.says
 
 pub returns-in_default-clause-err : goal.returns-in_default-clause-err
 returns-in_default-clause-err g c =
-    refused-stops (rows_of (found_of c.args.matches.now)) (g.S.Source.coming c.args.input.now) (g.W.Sink.taken c.args.out.now) (g.E.Sink.taken c.args.err.now) (g.E.Sink.taken c.refuse_style.new.err) c.refuse_style.result c.refuse_style.ensures.says
+    refused-stops (rows_of (found_of c.args.matches.now)) (g.S.Source.coming c.args.input.now) (g.W.Sink.taken c.args.out.now) (g.E.Sink.taken c.args.err.now) (g.E.Sink.taken c.refuse_options.new.err) c.refuse_options.result c.refuse_options.ensures.says
 
-pub run_with-requires-clause-texts : goal.run_with-requires-clause-texts
-run_with-requires-clause-texts g c =
+pub run_spelled-requires-clause-texts : goal.run_spelled-requires-clause-texts
+run_spelled-requires-clause-texts g c =
     let styled = c.styled_of-styled.result in
     let is = c.styled_of-styled.ensures in
     whole-are styled.style styled.languages.limit styled.languages.detail c.in-Some.options is.style is.limit is.detail c.in-Whole.is
 
-pub run_with-requires-in-Short-clause-texts : goal.run_with-requires-in-Short-clause-texts
-run_with-requires-in-Short-clause-texts g c =
+pub run_spelled-requires-in-Short-clause-texts : goal.run_spelled-requires-in-Short-clause-texts
+run_spelled-requires-in-Short-clause-texts g c =
     let styled = c.styled_of-styled.result in
     let is = c.styled_of-styled.ensures in
     short-are styled.style styled.languages.limit styled.languages.detail c.in-Some.options is.style is.limit is.detail c.in-Short.keeps_inline c.reads_paths.result c.reads_paths.ensures c.in-Short.is

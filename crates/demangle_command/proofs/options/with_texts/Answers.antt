@@ -4,7 +4,7 @@ use Rattle.clap.specs.Words.{App, app_of, rule_of, with_rule}
 use Rattle.clap.specs.declared.builder.arg.Arg.{Arg}
 use Rattle.sym_command.specs.CommandLine.{flag, limit, with_short}
 use Rattle.sym_command.proofs.OptionLemmas.{with_argument}
-use Rattle.demangle_command.specs.CommandLine.{no_params, style_option, types}
+use Rattle.demangle_command.specs.CommandLine.{no_params, spelling_option, style_option, types}
 use Rattle.demangle_command.proofs.options.with_texts.Goals as goal
 
 -- the options before those for types
@@ -22,4 +22,5 @@ returns c =
     let with-3 : app_of c.in_ok-command-3.command ≡ with_less app = c.in_ok-command-3.ensures ∙ ap with_short with-2 in
     let with-4 = with_argument c.in_ok-command-3.command c.in_ok-arg.field-0 c.types.result (with_less app) types c.in_ok-arg.ensures c.types.ensures.local with-3 c.types.ensures.rule in
     let with-5 = with_argument c.in_ok-arg.field-0 c.in_ok-arg-2.field-0 c.help.result (with_rule (with_less app) types) limit c.in_ok-arg-2.ensures (ap (λ (a : Arg). a.global) c.help.ensures ∙ c.limit.ensures.local) with-4 (ap rule_of c.help.ensures ∙ c.limit.ensures.rule) in
-    IfOk-weaker c.arg-4.result _ _ (λ command adds. with_argument c.in_ok-arg-2.field-0 command c.style_option.result (with_rule (with_rule (with_less app) types) limit) style_option adds c.style_option.ensures.local with-5 c.style_option.ensures.rule) c.arg-4.ensures
+    let with-6 = with_argument c.in_ok-arg-2.field-0 c.in_ok-arg-3.field-0 c.spelling_option.result (with_rule (with_rule (with_less app) types) limit) spelling_option c.in_ok-arg-3.ensures c.spelling_option.ensures.local with-5 c.spelling_option.ensures.rule in
+    IfOk-weaker c.arg-5.result _ _ (λ command adds. with_argument c.in_ok-arg-3.field-0 command c.style_option.result (with_rule (with_rule (with_rule (with_less app) types) limit) spelling_option) style_option adds c.style_option.ensures.local with-6 c.style_option.ensures.rule) c.arg-5.ensures

@@ -1,6 +1,6 @@
 use Rattle.std.proofs.Common.{true, false}
 use Rattle.sym_filter.specs.Runs.{filtered_at, tally_at}
-use Rattle.sym_short.specs.Shortening.{answers_as}
+use Rattle.sym_short.specs.Rewriting.{answers_as}
 use Rattle.sym_calls.specs.Calls.{EndsAs, Tallied, written}
 use Rattle.sym_calls.proofs.Ending.{by-legacy}
 use Rattle.sym_calls.proofs.filtering.filter_in.Goals as goal

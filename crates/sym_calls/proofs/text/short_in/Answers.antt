@@ -1,5 +1,5 @@
 use Rattle.std.proofs.Common.{true, false}
-use Rattle.sym_short.specs.Shortening.{short_answers}
+use Rattle.sym_short.specs.Rewriting.{short_answers}
 use Rattle.sym_calls.specs.Calls.{EndsAs, name_or_type_told}
 use Rattle.sym_calls.proofs.Ending.{by-legacy}
 use Rattle.sym_calls.proofs.text.short_in.Goals as goal

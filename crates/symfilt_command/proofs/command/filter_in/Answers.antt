@@ -1,7 +1,7 @@
 use Rattle.std.proofs.Common.{true, false}
 use Rattle.std.specs.Prelude.{IfOk, OnErr}
 use Rattle.sym_filter.specs.Streams.{FiltersAllAt, FiltersFrontAt}
-use Rattle.sym_short.specs.Shortening.{answers_as}
+use Rattle.sym_short.specs.Rewriting.{answers_as}
 use Rattle.symfilt_command.proofs.CommandLemmas.{by-legacy}
 use Rattle.symfilt_command.proofs.command.filter_in.Goals as goal
 

@@ -1,4 +1,4 @@
-use Rattle.std.proofs.Common.{true, false, subst, sym, ◌∙◌}
+use Rattle.std.proofs.Common.{false, subst, sym, ◌∙◌}
 use Rattle.cpp_direct.specs.AllStates.{added_unless, IsAddressNamed, IsEnclosingNamed, IsInstanceNamed, IsNameEnded, IsOwn, IsWriting, Lists, symbol_by}
 use Rattle.cpp_direct.specs.declared.open.Step.TheVariants as steps
 use Rattle.cpp_direct.proofs.FunctionsWithin.{name-addressed, name-within}

@@ -1,8 +1,7 @@
-use Rattle.std.proofs.Common.{Some, true, false, ap, ◌∙◌}
+use Rattle.std.proofs.Common.{Some, true, false, ap, arith, ◌∙◌}
 use Rattle.cpp_direct.specs.declared.open.Open.TheVariants as opens
 use Rattle.cpp_direct.proofs.Handed.{value-element, value-returned, value-signature, value-enumerator, argument-read, special-read, takes-elements}
-use Rattle.cpp_direct.proofs.FunctionsWithin.{parameter-read-within, value-addressed, value-addressed-front}
-use Rattle.cpp_direct.proofs.InstancesWithin.{value-instance}
+use Rattle.cpp_direct.proofs.FunctionsWithin.{front-read, parameter-read-within, type-led}
 use Rattle.cpp_direct.proofs.LambdasRead.{lambda-parameter-read}
 use Rattle.cpp_direct.proofs.Arguments.{value-argument}
 use Rattle.cpp_direct.proofs.Signatures.{value-array}
@@ -28,19 +27,26 @@ enclosing_parameter-requires-clause-read g c =
     c.requires.writing (c.requires.waits ∙ ap (λ o. Some o) c.in-Enclosing.is))
 
 pub instance_parameter-requires-clause-read : goal.instance_parameter-requires-clause-read
-instance_parameter-requires-clause-read g c =
-    value-instance _ c.args.self.now c.args.is_reference false c.in-EnclosingInstance.mark c.in-EnclosingInstance.from c.in-EnclosingInstance.to
-    c.in-EnclosingInstance.argument c.requires.writing (c.requires.waits ∙ ap (λ o. Some o) c.in-EnclosingInstance.is)
+instance_parameter-requires-clause-read g c = (
+  c.in-EnclosingInstance.argument,
+  type-led c.args.self.now c.args.is_reference false (omega arith) c.requires.writing
+      (c.requires.waits ∙ ap (λ o. Some o) c.in-EnclosingInstance.is) (λ scope rest os text h. h) (λ scope own front name h. h.1.given),
+)
 
 pub addressed_front-requires-clause-read : goal.addressed_front-requires-clause-read
 addressed_front-requires-clause-read g c =
-    value-addressed-front _ c.args.self.now c.args.is_reference false c.in-AddressedFront.mark c.in-AddressedFront.to c.in-AddressedFront.argument
-    c.requires.writing (c.requires.waits ∙ ap (λ o. Some o) c.in-AddressedFront.is)
+    front-read c.args.self.now c.args.is_reference false c.requires.writing (c.requires.waits ∙ ap (λ o. Some o) c.in-AddressedFront.is) (λ scope rest os text h. h)
+
+pub enclosing_front-requires-clause-read : goal.enclosing_front-requires-clause-read
+enclosing_front-requires-clause-read g c =
+    front-read c.args.self.now c.args.is_reference false c.requires.writing (c.requires.waits ∙ ap (λ o. Some o) c.in-EnclosingFront.is) (λ scope rest os text h. h)
 
 pub addressed_parameter-requires-clause-read : goal.addressed_parameter-requires-clause-read
-addressed_parameter-requires-clause-read g c =
-    value-addressed _ c.args.self.now c.args.is_reference false c.in-Addressed.mark c.in-Addressed.to c.in-Addressed.argument
-    c.requires.writing (c.requires.waits ∙ ap (λ o. Some o) c.in-Addressed.is)
+addressed_parameter-requires-clause-read g c = (
+  c.in-Addressed.argument,
+  type-led c.args.self.now c.args.is_reference false (omega arith) c.requires.writing
+      (c.requires.waits ∙ ap (λ o. Some o) c.in-Addressed.is) (λ scope rest os text h. h) (λ scope own front name h. h.given),
+)
 
 pub lambda_parameter-requires-clause-read : goal.lambda_parameter-requires-clause-read
 lambda_parameter-requires-clause-read g c =
@@ -72,5 +78,5 @@ returns-in_default g c =
     argument-read _ c.args.self.now c.args.entry
     (value-element _ c.args.self.now c.args.is_reference c.args.entry c.requires.writing c.requires.waits)
     (takes-elements c.args.entry c.requires.others c.in_default.not-Returned c.in_default.not-Signature c.in_default.not-Special c.in_default.not-Enumerator
-    c.in_default.not-Enclosing c.in_default.not-EnclosingInstance c.in_default.not-Argument c.in_default.not-Lambda c.in_default.not-Element c.in_default.not-Array
+    c.in_default.not-Enclosing c.in_default.not-EnclosingInstance c.in_default.not-EnclosingFront c.in_default.not-Argument c.in_default.not-Lambda c.in_default.not-Element c.in_default.not-Array
     c.in_default.not-Address c.in_default.not-AddressedFront c.in_default.not-Addressed)

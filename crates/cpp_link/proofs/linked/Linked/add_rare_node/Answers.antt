@@ -1,11 +1,11 @@
 use Rattle.std.proofs.Common.{sym, ◌∙◌, ap, subst, arith, length}
 use Rattle.cpp_term.specs.Term as term
 use Rattle.cpp_term.specs.Values as values
-use Rattle.cpp_tree.specs.Nodes.{piece_of, tree_of}
+use Rattle.cpp_tree.specs.Nodes.{tree_at, piece_of, tree_of}
 use Rattle.cpp_tree.specs.declared.node.Piece.{Piece}
 use Rattle.cpp_link.specs.declared.part.Part.{Part}
 use Rattle.cpp_link.specs.declared.part.Outcome.{Outcome}
-use Rattle.cpp_link.specs.Parts.{value_of, outcome_value, IsOutcomeThere}
+use Rattle.cpp_link.specs.Parts.{trees_in, value_of, outcome_value, IsOutcomeThere}
 use Rattle.cpp_link.specs.Making.{nodes_of_outcome}
 use Rattle.cpp_link.proofs.Adding.{lacking, added, unadjusted, tree_added, plain_tree_added, pair_added}
 use Rattle.cpp_link.proofs.linked.Linked.add_rare_node.Goals as goal
@@ -100,3 +100,35 @@ returns-in_ok-parameters-in-Lambda c =
     (unadjusted c.args.symbol.now c.args.self.now c.add_apart-in-Lambda.new.self c.args.outcome 1 (ap nodes_of_outcome c.in-Lambda.is) made.parameters made.ensures.adds made.ensures.thunks)
     (Part.Piece (Piece.Lambda made.parameters c.in-Lambda.number))
     (ap (λ parameters. values.piece (term.lambda parameters c.in-Lambda.number)) made.ensures.tree ∙ sym (ap (outcome_value c.args.symbol.now c.args.self.now.nodes) c.in-Lambda.is)) made.ensures.adds.there
+
+pub returns-in_err-parameters-in-Declaring : goal.returns-in_err-parameters-in-Declaring
+unfolding nodes_of_outcome
+returns-in_err-parameters-in-Declaring c =
+    lacking c.args.symbol.now c.args.self.now c.add_apart-in-Declaring.new.self c.args.outcome 1 (ap nodes_of_outcome c.in-Declaring.is) c.from_residual-in_err-parameters-in-Declaring.result _
+    c.from_residual-in_err-parameters-in-Declaring.ensures.1 c.in_err-parameters-in-Declaring.ensures.adds
+
+pub returns-in_ok-parameters-in-Declaring : goal.returns-in_ok-parameters-in-Declaring
+unfolding nodes_of_outcome outcome_value value_of piece_of tree_of
+returns-in_ok-parameters-in-Declaring c =
+    let made = c.in_ok-parameters-in-Declaring in
+    let heads = tree_at (trees_in c.args.symbol.now c.args.self.now.nodes) c.in-Declaring.heads in
+    added c.args.symbol.now c.args.self.now c.add_apart-in-Declaring.new.self c.args.outcome 1 (ap nodes_of_outcome c.in-Declaring.is) made.parameters made.ensures.adds
+    (unadjusted c.args.symbol.now c.args.self.now c.add_apart-in-Declaring.new.self c.args.outcome 1 (ap nodes_of_outcome c.in-Declaring.is) made.parameters made.ensures.adds made.ensures.thunks)
+    (Part.Piece (Piece.Lambda made.parameters c.in-Declaring.number))
+    (ap (λ parameters. values.piece (term.lambda parameters c.in-Declaring.number)) (made.ensures.tree ∙ ap (λ types. term.declaring heads types) c.requires.place.table.no_list)
+    ∙ sym (ap (outcome_value c.args.symbol.now c.args.self.now.nodes) c.in-Declaring.is)) made.ensures.adds.there
+
+pub returns-in_err-parameters-in-DeclaringLambda : goal.returns-in_err-parameters-in-DeclaringLambda
+unfolding nodes_of_outcome
+returns-in_err-parameters-in-DeclaringLambda c =
+    lacking c.args.symbol.now c.args.self.now c.declaring.new.self c.args.outcome 2 (ap nodes_of_outcome c.in-DeclaringLambda.is) c.from_residual-in_err-parameters-in-DeclaringLambda.result _
+    c.from_residual-in_err-parameters-in-DeclaringLambda.ensures.1 c.in_err-parameters-in-DeclaringLambda.ensures.adds
+
+pub returns-in_ok-parameters-in-DeclaringLambda : goal.returns-in_ok-parameters-in-DeclaringLambda
+unfolding nodes_of_outcome outcome_value value_of piece_of
+returns-in_ok-parameters-in-DeclaringLambda c =
+    let made = c.in_ok-parameters-in-DeclaringLambda in
+    added c.args.symbol.now c.args.self.now c.declaring.new.self c.args.outcome 2 (ap nodes_of_outcome c.in-DeclaringLambda.is) made.parameters made.ensures.adds
+    (unadjusted c.args.symbol.now c.args.self.now c.declaring.new.self c.args.outcome 2 (ap nodes_of_outcome c.in-DeclaringLambda.is) made.parameters made.ensures.adds made.ensures.thunks)
+    (Part.Piece (Piece.Lambda made.parameters c.in-DeclaringLambda.number))
+    (ap (λ parameters. values.piece (term.lambda parameters c.in-DeclaringLambda.number)) made.ensures.tree ∙ sym (ap (outcome_value c.args.symbol.now c.args.self.now.nodes) c.in-DeclaringLambda.is)) made.ensures.adds.there

@@ -5,8 +5,12 @@ use Rattle.cpp_link.proofs.linked.Linked.outcome_of_declaration.Goals as goal
 pub unreachable-requires : goal.unreachable-requires
 unreachable-requires c = declaration c.args.production c.requires.family
     c.in_default.not-DeclaredArgument
+    c.in_default.not-TypeOf
     c.in_default.not-ValueOf
     c.in_default.not-OfConcept
     c.in_default.not-TemplateOf
     c.in_default.not-PackOf
     c.in_default.not-Declarations
+    c.in_default.not-FirstWithT
+    c.in_default.not-DeclaredFirst
+    c.in_default.not-FirstParameter

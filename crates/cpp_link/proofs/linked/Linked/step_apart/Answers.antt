@@ -12,7 +12,7 @@ use Rattle.cpp_link.specs.LinkRescoping.{generic_read}
 use Rattle.cpp_link.specs.Parts.{trees_in, values_in, is_lambda, around_of}
 use Rattle.cpp_link.specs.Reads.{goes_on}
 use Rattle.cpp_link.specs.Stepping.{IsStepOf}
-use Rattle.cpp_link.proofs.Held.{held_second, base_first, held_read, held_refused, base_read, held_makes, base_makes, held_step}
+use Rattle.cpp_link.proofs.Held.{held_second, base_first, declared_first, held_read, held_refused, base_read, declared_read, held_makes, base_makes, declared_makes, held_step}
 use Rattle.cpp_link.proofs.Modules.{module_second, module_read, module_refused, module_makes}
 use Rattle.cpp_link.proofs.Places.{values_length}
 use Rattle.cpp_link.proofs.Rescoped.{apart_generic, going_unmarked, generic_is}
@@ -63,11 +63,25 @@ returns-in-HeldArguments-clause-makes c =
     let none = base_first c.args.production (is_lambda c.args.kept.scope) (length c.args.parts.now) c.in-HeldArguments.is c.requires.apart in
     rw c.in-HeldArguments.is (base_makes (values_in s y c.args.parts.now) (values_length s (trees_in s y) c.args.parts.now ∙ none))
 
+pub returns-in-DeclaredFirst-clause-is : goal.returns-in-DeclaredFirst-clause-is
+returns-in-DeclaredFirst-clause-is c state counted =
+    let s = c.args.symbol.now in
+    let y = c.args.self.now.nodes in
+    let none = declared_first c.args.production (is_lambda c.args.kept.scope) (length c.args.parts.now) c.in-DeclaredFirst.is c.requires.apart in
+    rw c.in-DeclaredFirst.is (declared_read s y c.args.kept c.args.place (values_in s y c.args.parts.now) state c.args.self.now.packs (values_length s (trees_in s y) c.args.parts.now ∙ none))
+
+pub returns-in-DeclaredFirst-clause-makes : goal.returns-in-DeclaredFirst-clause-makes
+returns-in-DeclaredFirst-clause-makes c =
+    let s = c.args.symbol.now in
+    let y = c.args.self.now.nodes in
+    let none = declared_first c.args.production (is_lambda c.args.kept.scope) (length c.args.parts.now) c.in-DeclaredFirst.is c.requires.apart in
+    rw c.in-DeclaredFirst.is (declared_makes (values_in s y c.args.parts.now) (values_length s (trees_in s y) c.args.parts.now ∙ none))
+
 pub returns-in_default-clause-is : goal.returns-in_default-clause-is
 returns-in_default-clause-is c state counted =
     let s = c.args.symbol.now in
     let y = c.args.self.now.nodes in
-    let own = apart_generic c.args.production (is_lambda c.args.kept.scope) (length c.args.parts.now) c.requires.apart c.in_default.not-Holder c.in_default.not-HeldArguments c.in_default.not-NamedModule in
+    let own = apart_generic c.args.production (is_lambda c.args.kept.scope) (length c.args.parts.now) c.requires.apart c.in_default.not-Holder c.in_default.not-HeldArguments c.in_default.not-DeclaredFirst c.in_default.not-NamedModule in
     let Reads : Bool → Value → Type 0 = λ b v.
     generic_read b (around_of (trees_in s y) c.args.kept) (counted_value Decimal (bytes_at s c.text-digits-in_default.result)) (record state { packs = c.args.self.now.packs })
     ≡ goes_on s y c.args.kept (v ∷ []) state c.args.self.now.packs c.generic.result in
@@ -77,14 +91,14 @@ returns-in_default-clause-is c state counted =
 
 pub returns-in_default-clause-of : goal.returns-in_default-clause-of
 returns-in_default-clause-of c =
-    let own = apart_generic c.args.production (is_lambda c.args.kept.scope) (length c.args.parts.now) c.requires.apart c.in_default.not-Holder c.in_default.not-HeldArguments c.in_default.not-NamedModule in
+    let own = apart_generic c.args.production (is_lambda c.args.kept.scope) (length c.args.parts.now) c.requires.apart c.in_default.not-Holder c.in_default.not-HeldArguments c.in_default.not-DeclaredFirst c.in_default.not-NamedModule in
     subst (λ n. IsStepOf c.args.production n c.generic.result) (sym own.1.1) (c.generic.ensures.of c.args.production own.0)
 
 pub returns-in_default-clause-makes : goal.returns-in_default-clause-makes
 returns-in_default-clause-makes c =
     let s = c.args.symbol.now in
     let y = c.args.self.now.nodes in
-    let own = apart_generic c.args.production (is_lambda c.args.kept.scope) (length c.args.parts.now) c.requires.apart c.in_default.not-Holder c.in_default.not-HeldArguments c.in_default.not-NamedModule in
+    let own = apart_generic c.args.production (is_lambda c.args.kept.scope) (length c.args.parts.now) c.requires.apart c.in_default.not-Holder c.in_default.not-HeldArguments c.in_default.not-DeclaredFirst c.in_default.not-NamedModule in
     c.generic.ensures.makes c.args.production (values_in s y c.args.parts.now) own.0 (values_length s (trees_in s y) c.args.parts.now ∙ own.1.1)
 
 pub returns-in-Some-clause-is : goal.returns-in-Some-clause-is

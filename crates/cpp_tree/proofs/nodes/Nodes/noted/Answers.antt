@@ -74,6 +74,13 @@ pub returns-in-Parameter : goal.returns-in-Parameter
 unfolding frees node_by_argument if_own class_by empties ends_in untagging classes packing returning counting running having_pack packs_kept class_kept arguments_kept untagged_kept returns_kept count_kept run_kept has_pack_kept
 returns-in-Parameter c = c.noted_parameter.ensures ∙ rw c.in-Parameter.is refl
 
+pub noted_types-requires : goal.noted_types-requires
+noted_types-requires c = let b = below-as (over c.args.symbol.now c.args.self.now) (length c.args.self.now.nodes) c.in-Declaring.is c.requires.below in record { one = b.0; other = b.1 }
+
+pub returns-in-Declaring : goal.returns-in-Declaring
+unfolding frees node_by_argument if_own class_by empties ends_in untagging classes packing returning counting running having_pack packs_kept class_kept arguments_kept untagged_kept returns_kept count_kept run_kept has_pack_kept
+returns-in-Declaring c = c.noted_types.ensures ∙ rw c.in-Declaring.is refl
+
 pub noted_type-requires-in-Constrained : goal.noted_type-requires-in-Constrained
 noted_type-requires-in-Constrained c = let b = below-as (over c.args.symbol.now c.args.self.now) (length c.args.self.now.nodes) c.in-Constrained.is c.requires.below in b
 
@@ -109,12 +116,12 @@ pub returns-in-Array : goal.returns-in-Array
 unfolding frees node_by_argument if_own class_by empties ends_in untagging classes packing returning counting running having_pack packs_kept class_kept arguments_kept untagged_kept returns_kept count_kept run_kept has_pack_kept
 returns-in-Array c = c.noted_type-in-Array.ensures ∙ rw c.in-Array.is refl
 
-pub noted_types-requires : goal.noted_types-requires
-noted_types-requires c = let b = below-as (over c.args.symbol.now c.args.self.now) (length c.args.self.now.nodes) c.in-Bounded.is c.requires.below in record { one = b.0; other = b.1 }
+pub noted_types-requires-in-Bounded : goal.noted_types-requires-in-Bounded
+noted_types-requires-in-Bounded c = let b = below-as (over c.args.symbol.now c.args.self.now) (length c.args.self.now.nodes) c.in-Bounded.is c.requires.below in record { one = b.0; other = b.1 }
 
 pub returns-in-Bounded : goal.returns-in-Bounded
 unfolding frees node_by_argument if_own class_by empties ends_in untagging classes packing returning counting running having_pack packs_kept class_kept arguments_kept untagged_kept returns_kept count_kept run_kept has_pack_kept
-returns-in-Bounded c = c.noted_types.ensures ∙ rw c.in-Bounded.is refl
+returns-in-Bounded c = c.noted_types-in-Bounded.ensures ∙ rw c.in-Bounded.is refl
 
 pub noted_types-requires-in-MemberPointer : goal.noted_types-requires-in-MemberPointer
 noted_types-requires-in-MemberPointer c = let b = below-as (over c.args.symbol.now c.args.self.now) (length c.args.self.now.nodes) c.in-MemberPointer.is c.requires.below in record { one = b.0; other = b.1 }
@@ -214,6 +221,7 @@ returns-in_default c =
       not_tagged = c.in_default.not-Tagged;
       not_ofdefault = c.in_default.not-OfDefault;
       not_parameter = c.in_default.not-Parameter;
+      not_declaring = c.in_default.not-Declaring;
       not_constrained = c.in_default.not-Constrained;
       not_pointer = c.in_default.not-Pointer;
       not_lvalue = c.in_default.not-Lvalue;

@@ -1,0 +1,17 @@
+use Rattle.std.proofs.Common.{◌++◌, ◌∙◌, ap, refl}
+use Rattle.cpp_direct.proofs.FunctionsWithin.{front-cut, name-inside}
+use Rattle.cpp_direct.proofs.direct.Direct.enclosing_front.Goals as goal
+
+pub leave_out-requires : goal.leave_out-requires
+leave_out-requires g c =
+    let p = c.requires.read in
+    record { within = name-inside c.args.self.now.text.list.items p.lead p.name p.bytes c.args.to (p.reads ∙ ap (λ l. l ++ p.bytes) p.written) p.leads.1.to_is }
+
+pub instance_opened-requires : goal.instance_opened-requires
+instance_opened-requires g c =
+    let p = c.requires.read in
+    let left = c.in_ok-leave_out.ensures in
+    record {
+      awaits = front-cut c.args.self.now (record c.args.self.now { waiting = c.pop-open.new.self }) c.leave_out.new.self c.args.to p p.leads.1
+          refl refl refl refl c.pop-open.ensures.rest left.text left.candidates left.«open» left.scope left.at;
+    }

@@ -1,0 +1,3 @@
+pub mod ClonesLemmas
+pub mod FrontLemmas
+pub mod SpelledLemmas

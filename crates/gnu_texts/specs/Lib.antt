@@ -1,0 +1,4 @@
+pub mod Clones
+pub mod Names
+pub mod Pieces
+pub mod Spelling

@@ -1,0 +1,50 @@
+-- What is answered where texts of C++ symbols are rewritten.
+use Rattle.std.specs.Prelude.{ℕ, List, Bool, true, false, not, ◌&&◌, is_some, Result, Ok, Err}
+use Rattle.sym_core.specs.declared.refusal.Refusal.{Refusal}
+use Rattle.sym_filter.specs.Runs.{Answering}
+use Rattle.sym_filter.specs.declared.kinds.Lang.{Lang}
+use Rattle.sym_filter.specs.declared.kinds.Lang.TheVariants as lang
+use Rattle.rust_legacy.specs.Path.{legacy_of}
+use Rattle.gnu_texts.specs.Spelling.{gnu_text}
+use Rattle.short_names.specs.Short.{shortened}
+use Rattle.sym_short.specs.declared.texts.Texts.{Texts}
+use Rattle.sym_short.specs.declared.texts.Texts.TheVariants as texts
+
+-- the texts that two flags request
+abbrev pub texts_by : (short keeps_inline : Bool) → Texts
+texts_by true keeps_inline = texts.Short keeps_inline
+texts_by false keeps_inline = texts.Whole
+
+abbrev pub is_cpp : Lang → Bool
+is_cpp lang.Cpp = true
+is_cpp lang.Rust = false
+
+-- The text of a C++ symbol is rewritten, but not that of a legacy Rust name where it is the path that the name denotes.
+abbrev pub rewrites : (reads_paths : Bool) → Lang → List ℕ → Bool
+rewrites reads_paths mangling symbol = is_cpp mangling && not (reads_paths && is_some (legacy_of symbol))
+
+abbrev pub rewritten_text : (rewrites : Bool) → (rewritten : List ℕ → List ℕ) → List ℕ → List ℕ
+rewritten_text true rewritten text = rewritten text
+rewritten_text false rewritten text = text
+
+abbrev pub rewritten_answer : (rewrites : Bool) → (rewritten : List ℕ → List ℕ) → Result (List ℕ) Refusal → Result (List ℕ) Refusal
+rewritten_answer rewrites rewritten (Ok text) = Ok (rewritten_text rewrites rewritten text)
+rewritten_answer rewrites rewritten (Err refusal) = Err refusal
+
+-- what is answered with rewritten texts, where it is known what is with others; a symbol that is refused is refused for the same reason
+abbrev pub rewritten_answers : (rewritten : List ℕ → List ℕ) → (reads_paths : Bool) → Answering → Answering
+rewritten_answers rewritten reads_paths answers kind symbol = rewritten_answer (rewrites reads_paths kind.lang symbol) rewritten (answers kind symbol)
+
+-- with short texts
+abbrev pub short_answers : (keeps_inline reads_paths : Bool) → Answering → Answering
+short_answers keeps_inline reads_paths answers = rewritten_answers (shortened keeps_inline) reads_paths answers
+
+-- as these texts
+abbrev pub answers_as : Texts → (reads_paths : Bool) → Answering → Answering
+answers_as texts.Whole reads_paths answers = answers
+answers_as (texts.Short keeps_inline) reads_paths answers = short_answers keeps_inline reads_paths answers
+
+-- as GNU's demangler spells texts, or as they are
+abbrev pub spelled_answers : (gnu reads_paths : Bool) → Answering → Answering
+spelled_answers false reads_paths answers = answers
+spelled_answers true reads_paths answers = rewritten_answers gnu_text reads_paths answers
