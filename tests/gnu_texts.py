@@ -54,7 +54,7 @@ def spelled(text):
             last = b"\0"
         elif found and found["std"]:
             out.append(NAMES[found["name"]])
-            last = b">"
+            last = NAMES[found["name"]][-1:]
             if found["front"]:
                 out.append(found["front"] + b"basic_" + found["name"])
                 last = b"g"
@@ -63,7 +63,7 @@ def spelled(text):
             last = b"]"
         else:
             byte = text[at:at + 1]
-            # an operator's sign is no bracket, and a name that is written in full ends with one
+            # an operator's sign is no bracket, and a template that is written in full ends with one
             if (byte, last) in ((b">", b">"), (b"[", b")")):
                 out.append(b" ")
             out.append(byte)

@@ -54,6 +54,7 @@ def made_step(made, listed, is_name, is_candidate):
     if m := re.fullmatch(r"only \(tree_at (\w+)\)", made): return f"Step::Named {{ node: self.node(symbol, {m[1]}), listed: {listed}, is_name: {is_name} }}"
     if m := re.fullmatch(r"applying \(only \(tree_at (\w+)\)\) (\w+)", made): return f"self.std_name(symbol, self.node(symbol, {m[1]}), {m[2]})"
     if m := re.fullmatch(r"of new_in_std \(piece_at (\w+) ∷ \[\]\)", made): return f"{named}(Node::InStd(self.piece_in(symbol, {m[1]})))"
+    if m := re.fullmatch(r"of new_vendor \(text_at (\w+) ∷ \[\]\)", made): return f"{named}(Node::Vendor(self.text_in(symbol, {m[1]})))"
     if m := re.fullmatch(r"of new_(lvalue|rvalue) \(tree_at (\w+) ∷ \[\]\)", made): new = f"Node::{m[1].capitalize()}(self.node(symbol, {m[2]}))"
     else:
         arguments = re.fullmatch(r"of new_instance \(the_name ∷ list_at (\w+) ∷ \[\]\)", made)[1]
@@ -153,7 +154,7 @@ def answers():
 # ## Which candidates become of a production
 
 # of kinds that may come after a name, what is known of them
-AFTER_NAMES = {"MaybeArguments": "maybe-arguments", "MaybeTags": "maybe-tags", "Arguments": "arguments-next", "ArgumentsAlone": "arguments-alone"}
+AFTER_NAMES = {"MaybeArguments": "maybe-arguments", "MaybeTags": "maybe-tags", "Arguments": "arguments-next", "ArgumentsAlone": "arguments-alone", "VendorArguments": "vendor-arguments"}
 
 def symbol(part): return part if part in TOKENS else f"(OfKind {snake(part).upper()})"
 
@@ -164,6 +165,7 @@ def flow(p, row, parts):
     named = re.match(r"becomes .* (true|false) true false$", before)
     if named and row.form in ("a_name unlisted", "in_place"):
         kind, known = snake(parts[1]).upper(), AFTER_NAMES[parts[1]]
+        if named[1] == "true" and before.startswith("becomes (of "): return f"whole_name {name} _ {first} {kind} refl (λ vs. refl) (λ a v. refl) {known}"
         if named[1] == "true": return f"listed_name {name} _ {first} {kind} refl (λ v. refl) (λ a v. refl) {known}"
         return f"made_name {name} _ _ {first} {kind} refl (λ vs. refl) (λ vs. refl) (λ a v. refl) {known}"
     if named and named[1] == "false" and row.form == "handed 1" and parts[1] == "NestRest": return f"nested {name} _ {first} refl (λ v. refl) (λ vs. refl) (λ a v. refl)"

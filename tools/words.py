@@ -215,7 +215,7 @@ def link_definitions(rows, skips):
 
 # lists of letters: name, what they are, the letters; and of some the name of a test, what it says, and where it is defined
 DIRECT_LISTS = [
-    ("builtin_letters", "builtin types, but for those after a D", CLASSES["@BUILTIN"]), ("builtin_letters_with_d", "builtin types after a D", CLASSES["@BUILTIN_WITH_D"]),
+    ("builtin_letters", "builtin types, except those after a D", CLASSES["@BUILTIN"]), ("builtin_letters_with_d", "builtin types after a D", CLASSES["@BUILTIN_WITH_D"]),
     ("integer_letters", "builtin types that an integer in an argument may have", CLASSES["@INTEGER_TYPE"]),
     ("abbreviation_letters", "classes of std, and std itself, after an S", CLASSES["@ABBREVIATION"]),
     ("special_letters", "special objects that belong to a type, after a T", CLASSES["@SPECIAL"]),

@@ -71,11 +71,12 @@ def is_variable_template(case, difference):
 
 
 def repeats_arguments(case, difference):
-    """For a call of a generic lambda g++ repeats the arguments that `auto` denotes, after themselves."""
+    """For a call of a generic lambda g++ repeats the arguments that `auto`, or what the lambda declares, denotes, after themselves."""
     if difference.part != "name" or not case.is_of_gcc:
         return False
     (scope, own), (told_scope, told_own) = scope_and_own(case.shown.name), scope_and_own(tokens_of(difference.told))
-    if scope[-1:] != ["}"] or "auto" not in scope or own[-1] != ">" or told_own[-1] != ">" or not matches(told_scope, scope):
+    is_generic = any(it == "auto" or it.startswith("$") for it in scope)
+    if scope[-1:] != ["}"] or not is_generic or own[-1] != ">" or told_own[-1] != ">" or not matches(told_scope, scope):
         return False
     arguments, told = split(own[2:-1]), split([it for it in told_own[2:-1] if it != MORE])
     return len(told) > len(arguments) and all(any(matches(one, it) for it in arguments) for one in told)

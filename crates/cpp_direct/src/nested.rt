@@ -317,7 +317,6 @@ impl Direct {
         ensures { IfSome result (IsWriting (symbol_by G.IS_WIDE G.IS_BARE G.IS_BRIEF s.now) self.new) }
     {
         match byte_at(s, self.at) {
-            b'1'..=b'9' => self.source::<G>(s, false),
             b'C' => self.constructor::<G>(s),
             b'D' => self.destructor::<G>(s),
             b'L' => self.source::<G>(s, true),

@@ -164,6 +164,10 @@ wide_between_bad Production.Parameter around place (v ∷ []) state = here_bad a
 wide_between_bad Production.ParameterArgument around place (v ∷ []) state = here_bad around (place - 1) (index_of v) state
 wide_between_bad Production.ParameterExpression around place (v ∷ []) state = argument_here_bad around (place - 1) (index_of v) state
 wide_between_bad Production.HeldArguments around place [] state = tt
+wide_between_bad Production.Constraint around place [] state = tt
+wide_between_bad Production.EncodingLiteral around place (v ∷ []) state = tt
+wide_between_bad Production.Encoding around place [] state = tt
+wide_between_bad Production.Encoding around place (v ∷ []) state = tt
 wide_between_bad Production.DeclaredFirst around place [] state = tt
 wide_between_bad Production.Holder around place (v ∷ []) state = holder_bad around place state
 wide_between_bad Production.NamedModule around place (v ∷ []) state = module_bad around (place - 1) (counted_value Seq36 (text_of v)) state
@@ -173,6 +177,8 @@ wide_close_bad : (p : Production) (byte : ℕ) (around : Around) (place : ℕ) (
 unfolding close_wide
 wide_close_bad Production.Substitution byte around place began vs state = numbered_bad around (place - 1) (counted_value Seq36 (text_of (part vs 0))) state
 wide_close_bad Production.Lambda byte around place began vs state = tt
+wide_close_bad Production.Encoding byte around place began vs state = tt
+wide_close_bad Production.EncodingLiteral byte around place began vs state = tt
 wide_close_bad Production.Inheriting byte around place began vs state = tt
 wide_close_bad p byte around place began vs state = close_bad p byte around place began vs state
 

@@ -6,7 +6,7 @@ use Rattle.sym_core.specs.Value.{counted_value}
 use Rattle.std.proofs.lemmas.Bool.{true≢false, false≢true}
 use Rattle.sym_link.specs.Reading.{Next, ◌>>=◌}
 use Rattle.cpp_grammar.specs.declared.production.Production.{Production}
-use Rattle.cpp_grammar.specs.Rescoping.{generic_number, generic_so_far, parameter_here, argument_here, with_holder, is_instance, holder_so_far, counted_unless, place_in, named_in, named_by_both, module_of, module_named, module_so_far, between_wide}
+use Rattle.cpp_grammar.specs.Rescoping.{in_constraint_of, is_unseen, in_literal, generic_number, generic_so_far, parameter_here, argument_here, with_holder, is_instance, holder_so_far, counted_unless, place_in, named_in, named_by_both, module_of, module_named, module_so_far, between_wide}
 use Rattle.cpp_grammar.specs.Term.{Term, holder, parameter}
 use Rattle.cpp_grammar.specs.Scope.{is_open}
 use Rattle.cpp_grammar.specs.Values.{by_some, Candidate, State, Around, prefix_tree, prefix_listed, Value, nothing_there, tree, tree_of, text_of, part}
@@ -73,6 +73,15 @@ fits_expansion own around pre = record { fits = record { encoding = refl; scope 
 fits_signature : (own : Bool) (around : Around) → Fits own around (in_signature around)
 unfolding in_signature
 fits_signature own around = record { encoding = refl; scope = λ h. refl; back = λ h f. absurd (true≢false f); prefix = tt }
+
+fits_constraint : (around : Around) → Fits true around (in_constraint_of around)
+unfolding in_constraint_of
+fits_constraint around = record { encoding = refl; scope = λ h. refl; back = λ h f. absurd (true≢false f); prefix = tt }
+
+fits_literal : (around : Around) → GoodPrefix (Bare true around) around.prefix → FitsBare true around (in_literal around)
+unfolding in_literal
+fits_literal around pre =
+    either (FitsBare true around) (is_unseen around) _ _ (λ is. record { fits = record { encoding = refl; scope = λ h. h; back = λ h f. (h, f); prefix = pre }; bare = λ h. h }) (λ is. fits_same true around pre)
 
 -- a production whose parts are in the encoding around it
 abbrev pub StaysInside : Production → Type 0
@@ -173,7 +182,8 @@ goes_within own Production.OtherSpecial around place vs state n at stays pre all
 goes_within own Production.Lambda around place vs state n at stays pre all e = signature_goes own Production.Lambda around at vs state n refl all e
 goes_within own Production.ValueOf around place vs state n at stays pre all e = signature_goes own Production.ValueOf around at vs state n refl all e
 goes_within own Production.OfConcept around place vs state n at stays pre all e = signature_goes own Production.OfConcept around at vs state n refl all e
-goes_within own Production.Constraint around place vs state n at stays pre all e = signature_goes own Production.Constraint around at vs state n refl all e
+goes_within own Production.Constraint around place [] state n at stays pre all e = let clash : ◌≡◌ {A = Continuation} (Err (BadReference place)) (Ok n) = e in absurd cc
+goes_within own Production.Constraint around place (v ∷ vs) state n at stays pre all e = quiet_goes own Production.Constraint around at (v ∷ vs) state n pre all e
 goes_within own Production.TemplateOf around place vs state n at stays pre all e = quiet_goes own Production.TemplateOf around at vs state n pre all e
 goes_within own Production.PackOf around place vs state n at stays pre all e = quiet_goes own Production.PackOf around at vs state n pre all e
 goes_within own Production.Declarations around place vs state n at stays pre all e = quiet_goes own Production.Declarations around at vs state n pre all e
@@ -260,13 +270,21 @@ base_goes around at state n pre e =
 
 pub wide_goes : (production : Production) (around : Around) (place : ℕ) (vs : List Value) (state : State) (n : Next Value State Around) (at : ℕ) → StaysInside production →
     GoodPrefix (Bare true around) around.prefix → AllOld true around at state.candidates → AllGood (Within true production around) vs → between_wide production around place vs state ≡ Ok n → Goes true (Within true production around) around at state n
-unfolding between_wide
+unfolding between_wide has_signature
 wide_goes Production.Parameter around place (v ∷ []) state n at stays pre old all e = here_within Production.Parameter around place at state (index_of v) n pre e
 wide_goes Production.ParameterArgument around place (v ∷ []) state n at stays pre old all e = here_within Production.ParameterArgument around (place - 1) at state (index_of v) n pre e
 wide_goes Production.ParameterExpression around place (v ∷ []) state n at stays pre old all e =
     within true Production.ParameterExpression around at state n (argument_here_goes around (place - 1) at state (index_of v) n pre e)
 wide_goes Production.DeclaredFirst around place [] state n at stays pre old all e =
     within true Production.DeclaredFirst around at state n (goes_to true around at state [] around state n tt (grows_same true around at state state refl) (fits_same true around pre) e)
+wide_goes Production.Constraint around place [] state n at stays pre old all e =
+    goes_by true (Within true Production.Constraint around) around at state [] (in_constraint_of around) state n tt (grows_same true around at state state refl) (fits_constraint around)
+    (λ within. absurd (true≢false (within.1 refl))) e
+wide_goes Production.EncodingLiteral around place (v ∷ []) state n at stays pre old all e =
+    within true Production.EncodingLiteral around at state n
+    (goes_to true around at state (v ∷ []) (in_literal around) state n (all_where (Within true Production.EncodingLiteral around) (Bare true around) (v ∷ []) (λ bare. (bare, λ o. refl)) all) (grows_same true around at state state refl)
+    (fits_literal around pre) e)
+wide_goes Production.Encoding around place vs state n at stays pre old all e = absurd stays
 wide_goes Production.HeldArguments around place [] state n at stays pre old all e = within true Production.HeldArguments around at state n (base_goes around at state n pre e)
 wide_goes Production.Holder around place (v ∷ []) state n at stays pre old all e = within true Production.Holder around at state n (holder_goes around place at state n pre e)
 wide_goes Production.NamedModule around place (v ∷ []) state n at stays pre old all e =

@@ -14,7 +14,7 @@ use Rattle.sym_core.specs.declared.NumberKind.TheVariants.{Seq36}
 use Rattle.sym_core.specs.Value.{counted_value}
 use Rattle.cpp_grammar.specs.Values.{Counted, by_all, by_newer, by_gcc, Candidate, Lists, both_lists, longer_list, shorter_list, no_list, State, Around, prefix_tree, prefix_listed, Value, nothing_there, tree, piece, pair, is_listed, text_of, local_number, part, tree_of}
 use Rattle.cpp_grammar.specs.References.{appended, appended_by, is_function_type, with_type, with_unqualified, with_prefix, with_packs, packs_in, is_module, substituted, parameter_named}
-use Rattle.cpp_grammar.specs.Rescoping.{is_declaring, lambda_with, as_generic_lambda, with_holder, counted_unless, counted_base, place_in, named_in, left_at, with_lists, listed_by, is_foreign, in_scope, under_scope, with_free, restated, substituted_wide, numbered, close_wide}
+use Rattle.cpp_grammar.specs.Rescoping.{is_unseen, is_passed_over, name_if, is_declaring, lambda_with, as_generic_lambda, with_holder, counted_unless, counted_base, place_in, named_in, left_at, with_lists, listed_by, is_foreign, in_scope, under_scope, with_free, restated, substituted_wide, numbered, close_wide}
 use Rattle.cpp_grammar.specs.Meaning.{parameters, signature_with, meaning}
 use Rattle.cpp_grammar.specs.Unfolding as unfolding_
 use Rattle.cpp_grammar.specs.Unfolding.{close}
@@ -111,7 +111,7 @@ grows_held own around end t state good =
     (λ is. grows_then own around end end state (appended around t state) (appended_by by_newer around t (appended around t state)) (omega arith) (grows_one own around end t state good) (grows_by by_newer own around end t (appended around t state) good))
     (λ is. grows_by by_newer own around end t state good)
 
-old_append : (own : Bool) (around : Around) (at : ℕ) (cs ds : List Candidate) → AllOld own around at cs → AllOld own around at ds → AllOld own around at (cs ++ ds)
+pub old_append : (own : Bool) (around : Around) (at : ℕ) (cs ds : List Candidate) → AllOld own around at cs → AllOld own around at ds → AllOld own around at (cs ++ ds)
 old_append own around at [] ds f g = g
 old_append own around at (c ∷ cs) ds f g = (f.0, old_append own around at cs ds f.1 g)
 
@@ -442,6 +442,19 @@ declared_yields p byte around vs state r end is pre all name e =
     subst (λ x. Yields true p around end state x) (ok_same (found (meaning p byte around vs) state) r e)
     (record { good = record { closed = λ y. absurd (true≢false (sym is ∙ y.1 refl)); scopes = good.scopes }; grows = grows_same true around end state state refl })
 
+-- an encoding or a literal, or the name that it is alone
+name_if_good : (s : Type 0) (has_free : Bool) (name v : Value) → Good s (tree_of name) → Good s (held v) → Good s (held (name_if has_free name v))
+unfolding name_if held
+name_if_good s true name v n g = n
+name_if_good s false name v n g = g
+
+named_comes : (production : Production) (k byte : ℕ) (has_free : Bool) (around : Around) (vs : List Value) (state : State) (r : Found Value State) (end : ℕ) → GoodPrefix (Bare true around) around.prefix → AllGood (Bare true around) vs →
+    HasClosedName production vs → ◌≡◌ {A = Result (Found Value State) Refusal} (Ok (found (name_if has_free (part vs k) (meaning production byte around vs)) state)) (Ok r) → Comes true around end state r
+named_comes production k byte has_free around vs state r end pre all name e =
+    let s = Bare true around in
+    found_comes around state (name_if has_free (part vs k) (meaning production byte around vs)) r end
+    (name_if_good s has_free (part vs k) (meaning production byte around vs) (good_part s vs k all) (meaning_good s production byte around vs pre all (λ n. name))) e
+
 pub wide_close_good : (production : Production) (byte : ℕ) (around : Around) (place : ℕ) (began : State) (vs : List Value) (state : State) (r : Found Value State) (end : ℕ) →
     AllOld true around end state.candidates → GoodPrefix (Bare true around) around.prefix → AllGood (Within true production around) (read_of production true vs) → HasClosedName production vs →
     close_wide production byte around place began vs state ≡ Ok r → Yields true production around end state r
@@ -449,6 +462,12 @@ unfolding read_of makes_declared close close_wide unfolding_.behind meaning has_
 wide_close_good Production.Substitution byte around place began vs state r end old pre all name e =
     let both = numbered_good around (place - 1) end (counted_value Seq36 (text_of (part vs 0))) state r old e in
     yields true Production.Substitution around end state r (record { good = both.0; grows = grows_same true around end state r.state both.1 })
+wide_close_good Production.Encoding byte around place began vs state r end old pre all name e =
+    yields true Production.Encoding around end state r
+    (named_comes Production.Encoding 0 byte (is_passed_over around && is_open (tree_of (part vs 0))) around vs state r end pre (all_where (Within true Production.Encoding around) (Bare true around) vs (λ bare. (bare, λ own. refl)) all) name e)
+wide_close_good Production.EncodingLiteral byte around place began vs state r end old pre all name e =
+    yields true Production.EncodingLiteral around end state r
+    (named_comes Production.EncodingLiteral 1 byte (is_unseen around && is_open (tree_of (part vs 1))) around vs state r end pre (all_where (Within true Production.EncodingLiteral around) (Bare true around) vs (λ bare. (bare, λ own. refl)) all) name e)
 wide_close_good Production.Lambda byte around place began vs state r end old pre all name e = yields true Production.Lambda around end state r (lambda_comes byte around vs state r end pre all e)
 wide_close_good Production.Inheriting byte around place began vs state r end old pre all name e =
     let inside = all_where (Within true Production.Inheriting around) (Bare true around) vs (λ bare. (bare, λ own. refl)) all in

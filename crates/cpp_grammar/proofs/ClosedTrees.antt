@@ -1,5 +1,5 @@
 -- In the tree of a symbol the arguments that are a scope have no free parameters.
-use Rattle.std.proofs.Common.{◌≡◌, refl, ap, sym, ◌∙◌, subst, ℕ, suc, ◌+◌, ◌-◌, ◌<◌, ◌≤◌, List, [], ◌∷◌, ◌++◌, length, Bool, true, false, not, ◌&&◌, ◌||◌, ◌^◌, nat_eq, nat_lt, Option, Some, Result, Ok, Err, inl, inr, lit≤, arith}
+use Rattle.std.proofs.Common.{◌≡◌, refl, ap, sym, ◌∙◌, subst, ℕ, suc, ◌+◌, ◌-◌, ◌<◌, ◌≤◌, List, [], ◌∷◌, ◌++◌, length, Bool, true, false, not, ◌&&◌, ◌||◌, ◌^◌, nat_eq, nat_lt, Option, Some, None, Result, Ok, Err, inl, inr, lit≤, arith}
 use Rattle.std.proofs.lemmas.Bool.{true≢false, false≢true, cases_Bool}
 use Rattle.std.proofs.lemmas.List.{length-append}
 use Rattle.sym_core.specs.declared.refusal.Refusal.{Refusal}
@@ -31,12 +31,12 @@ use Rattle.cpp_grammar.specs.Unfolding as unfolding_
 use Rattle.cpp_grammar.specs.Unfolding.{last_token, number_tested, opening, close, production_at, byte_of, cpp, first_around, first_state, first_tree, unfold_cpp}
 use Rattle.cpp_grammar.proofs.Choosing.{each_passes, chosen_rule, taken_passes, implied}
 use Rattle.cpp_grammar.proofs.ClosedValues.{good_where, Good, AllGood, GoodPrefix, HasClosedName, held, good_tree, good_encoding, good_no_items}
-use Rattle.cpp_grammar.proofs.ClosedStates.{Bare, Within, YieldsOf, Yields, yields, AllOld, AllNew, Grows, old_later, grows_same, grows_then, old_grows, ok_same, behind_bind, close_good, wide_close_good}
+use Rattle.cpp_grammar.proofs.ClosedStates.{Bare, Within, YieldsOf, Yields, yields, AllOld, AllNew, Grows, old_later, grows_same, grows_then, old_append, old_grows, ok_same, behind_bind, close_good, wide_close_good}
 use Rattle.cpp_grammar.proofs.ClosedParts.{Fits, Moves, StaysInside, abi_moves, wide_moves}
-use Rattle.cpp_grammar.proofs.Ways.{has_signature, Way, reading_by, abi_way, wide_way, differs, IsPlain, abi_plain, wide_plain}
+use Rattle.cpp_grammar.proofs.Ways.{has_signature, Way, reading_by, abi_way, wide_way, differs, name_by, types_by, IsPlain, abi_plain, wide_plain}
 use Rattle.cpp_grammar.proofs.Declared.{is_declaration, is_first, declares, makes_declared, only_declared, skips, parts_apart, declared_apart, is_nothing, some_values, read_of, read_abi, read_none, read_then, hides, next_apart}
 use Rattle.cpp_grammar.proofs.Steps.{first_of_both, second_of_both, all_pass}
-use Rattle.cpp_grammar.specs.Rescoping.{is_by_all, counted_so_far, expecting, opening_wide, cpp_wide, unfold_wide}
+use Rattle.cpp_grammar.specs.Rescoping.{passed_over, name_if, is_by_all, counted_so_far, expecting, opening_wide, cpp_wide, unfold_wide}
 use Rattle.cpp_grammar.proofs.Chosen.{either}
 
 -- ## Productions and their rules
@@ -263,17 +263,12 @@ pub record KeepsClosed (w : Way) : Type 0 where
       AllOld w.own around end state.candidates → GoodPrefix (Bare w.own around) around.prefix → AllGood (Within w.own production around) (read_of production w.own vs) → HasClosedName production vs →
       w.close production byte around place began vs state ≡ Ok r → Yields w.own production around end state r
 
-pub opens_apart : (p : Production) → opens p ≡ true → differs p ≡ false
-unfolding opens differs
-opens_apart Production.Parameter o = absurd (false≢true o)
-opens_apart _ o = cc
-
 -- ## Encodings
 
--- the values of the parts of an encoding
-pub record InnerComes (own : Bool) (production : Production) (around : Around) (end : ℕ) (old : State) (r : Found (List Value) State) : Type 0 where
-  pub means : (byte : ℕ) → Good (Bare own around) (held (meaning production byte around r.value))
-  pub grows : Grows own around end old r.state
+-- what an encoding denotes, by the values of its parts
+pub record InnerComes (w : Way) (production : Production) (around : Around) (place end : ℕ) (old : State) (r : Found (List Value) State) : Type 0 where
+  pub means : (byte : ℕ) (began : State) (one : Found Value State) → w.close production byte around place began r.value r.state ≡ Ok one → Good (Bare w.own around) (held one.value) × (one.state ≡ r.state)
+  pub grows : Grows w.own around end old r.state
 
 kind_count : wide.kinds ≡ KIND_COUNT
 unfolding wide wide_sheet kinds
@@ -291,6 +286,59 @@ pub record Stepped (w : Way) (rule : Open State Around) (n : Next Value State Ar
   pub part : Found (List Value) State
   pub is : unfold_tree (reading_by w) n.context at t n.state ≡ Ok part
   pub rest : unfold_forest (reading_by w) rule (n.values ++ part.value) (at + length (spell t)) f part.state ≡ Ok r
+
+-- the surroundings of an encoding's name and of its types
+pub name_at : (passes : Bool) (at : ℕ) → (name_by passes at).encoding ≡ at
+unfolding name_by passed_over in_name
+name_at true at = refl
+name_at false at = refl
+
+pub name_bare : (passes : Bool) (at : ℕ) → (name_by passes at).scope ≡ None
+unfolding name_by passed_over in_name
+name_bare true at = refl
+name_bare false at = refl
+
+pub name_first : (own passes : Bool) (at : ℕ) → GoodPrefix (Bare own (name_by passes at)) (name_by passes at).prefix
+unfolding name_by passed_over in_name
+name_first own true at = tt
+name_first own false at = tt
+
+pub types_at : (passes : Bool) (at : ℕ) (name : Term) → (types_by passes at name).encoding ≡ at
+unfolding types_by passed_over in_types
+types_at passes at name = either {A = Around} (λ a. a.encoding ≡ at) (passes && is_open name) _ _ (λ is. refl) (λ is. refl)
+
+pub types_first : (own passes : Bool) (at : ℕ) (name : Term) → GoodPrefix (Bare own (types_by passes at name)) (types_by passes at name).prefix
+unfolding types_by passed_over in_types
+types_first own passes at name = either {A = Around} (λ a. GoodPrefix (Bare own a) a.prefix) (passes && is_open name) _ _ (λ is. tt) (λ is. tt)
+
+-- a name that isn't passed over is closed
+pub name_closed : (own passes : Bool) (at : ℕ) (name : Term) → (passes && is_open name) ≡ false → Good (Bare own (name_by passes at)) name → is_open name ≡ false
+unfolding name_by in_name
+name_closed own true at name h good = h
+name_closed own false at name h good = good.closed (refl, λ o. refl)
+
+-- candidates of the encoding around this one, and of this one
+pub old_within : (own : Bool) (around inner : Around) (at : ℕ) (cs : List Candidate) → inner.encoding ≡ at → around.encoding < at → AllOld own around at cs → AllOld own inner at cs
+old_within own around inner at [] is lt all = tt
+old_within own around inner at (c ∷ cs) is lt all =
+    let less : c.encoding < at = elim all.0.place [ inl same ↦ omega (arith, same, lt) | inr before ↦ before ] in
+    (record { scopes = all.0.scopes; closed = λ bare free outside same. absurd (omega (arith, same, is, less)); place = inr less }, old_within own around inner at cs is lt all.1)
+
+pub new_within : (own : Bool) (inner other : Around) (end : ℕ) (cs : List Candidate) → inner.encoding ≡ other.encoding → inner.scope ≡ None → AllNew own inner end cs → AllOld own other end cs
+new_within own inner other end [] is none all = tt
+new_within own inner other end (c ∷ cs) is none all = (
+  elim all.0.place [
+    | inl here ↦ record { scopes = all.0.scopes; closed = λ bare free outside same. here.1 none outside; place = inl (here.0 ∙ is) }
+    | inr deep ↦ record { scopes = all.0.scopes; closed = λ bare free outside same. absurd (omega (arith, deep.0, is, same)); place = inr deep.1 }
+  ],
+  new_within own inner other end cs is none all.1,
+)
+
+pub old_types_by : (own : Bool) (around inner other : Around) (at from next : ℕ) (old new : State) → inner.encoding ≡ at → other.encoding ≡ at → inner.scope ≡ None → around.encoding < at → at ≤ next →
+    AllOld own around at old.candidates → Grows own inner next old new → AllOld own other next new.candidates
+old_types_by own around inner other at from next old new is other_is none lt le all grows =
+    subst (λ cs. AllOld own other next cs) (sym grows.is)
+    (old_append own other next old.candidates grows.more (old_later own other at next old.candidates le (old_within own around other at old.candidates other_is lt all)) (new_within own inner other next grows.more (is ∙ sym other_is) none grows.each))
 
 -- the inputs of a part in which nothing is named
 pub nameless : (at : ℕ) → List Value → State → Next Value State Around
@@ -358,6 +406,30 @@ rule_apart p rule is =
 -- ## Either reading
 
 module _ (w : Way) (keeps : KeepsClosed w) where
+  -- what special names denote, as the plain reading has it
+  plain_means : (p : Production) → opens p ≡ true → differs p ≡ false → (around : Around) (place byte : ℕ) (began : State) (vs : List Value) (state : State) (one : Found Value State) →
+      Good (Bare w.own around) (held (meaning p byte around vs)) → w.close p byte around place began vs state ≡ Ok one → Good (Bare w.own around) (held one.value) × (one.state ≡ state)
+  plain_means p opening apart around place byte began vs state one good e =
+      let same = inner_closes p opening byte around place began vs state one (sym (keeps.plain.close p apart byte around place began vs state) ∙ e) in
+      (subst (λ x. Good (Bare w.own around) (held x.value)) same good, ap (λ x. x.state) (sym same))
+
+  -- what an encoding denotes, or its name alone
+  encoding_means : (around : Around) (at place byte : ℕ) (began : State) (u v : Value) (state : State) (one : Found Value State) → Good (Bare w.own (name_by (w.passes around) at)) (held u) →
+      ScopesAreClosed (no_items v) → w.close Production.Encoding byte around place began (u ∷ v ∷ []) state ≡ Ok one → Good (Bare w.own around) (held one.value) × (one.state ≡ state)
+  unfolding name_if meaning held part
+  encoding_means around at place byte began u v state one good scopes e =
+      let named = good_tree (Bare w.own (name_by (w.passes around) at)) u good in
+      let whole = meaning Production.Encoding byte around (u ∷ v ∷ []) in
+      let same = ok_same (found (name_if (w.passes around && is_open (tree_of u)) u whole) state) one (sym (keeps.plain.encoding byte around place began (u ∷ v ∷ []) state) ∙ e) in
+      let never : (w.passes around && is_open (tree_of u)) ≡ true → Bare w.own around → is_open (tree_of u) ≡ false =
+      λ is bare. (let pass = keeps.plain.passing around (first_of_both (w.passes around) (is_open (tree_of u)) is) in absurd (true≢false (sym pass.1 ∙ bare.1 pass.0))) in (
+        subst (λ x. Good (Bare w.own around) (held x.value)) same
+            (either {A = Value} (λ x. Good (Bare w.own around) (held x)) (w.passes around && is_open (tree_of u)) _ whole
+            (λ is. record { closed = never is; scopes = named.scopes })
+            (λ is. good_encoding (Bare w.own around) u (no_items v) (λ n. name_closed w.own (w.passes around) at (tree_of u) is named) named.scopes (λ n. scopes))),
+        ap (λ x. x.state) (sym same),
+      )
+
   -- before a second part the values stay as they are
   pub skipped_stays : (p : Production) (around : Around) (place : ℕ) (vs : List Value) (state : State) (n : Next Value State Around) → skips p ≡ true → w.between p around place vs state ≡ Ok n → n.values ≡ vs
   unfolding skips between all_pass differs
@@ -438,8 +510,8 @@ module _ (w : Way) (keeps : KeepsClosed w) where
 
   special_comes : (f : Forest) → AllTreesGood w f → (rule : Open State Around) (from : ℕ) (state : State) (r : Found (List Value) State) → production_at rule.rule.number ≡ Production.Special →
       AreTrees wide (parts_of Production.Special) f → rule.context.encoding < rule.place → rule.place ≤ from → rule.place < from + length (spell_all f) → AllOld w.own rule.context rule.place state.candidates →
-      unfold_forest (reading_by w) rule [] from f state ≡ Ok r → InnerComes w.own Production.Special rule.context (from + length (spell_all f)) state r
-  unfolding differs reading_by parts_of number_of_kind between meaning held is_encoding nameless part in_name declares is_declaration is_first
+      unfold_forest (reading_by w) rule [] from f state ≡ Ok r → InnerComes w Production.Special rule.context rule.place (from + length (spell_all f)) state r
+  unfolding differs opens reading_by parts_of number_of_kind between meaning held is_encoding nameless part in_name declares is_declaration is_first
   special_comes (grown t nothing) all rule from state r is trees lt le more old e =
       let around = rule.context in
       let at = rule.place in
@@ -447,9 +519,9 @@ module _ (w : Way) (keeps : KeepsClosed w) where
       let c = name_comes t all.0 (OfKind SPECIAL) at from state s.part (known 5 (lit≤ tt)) trees.0 refl refl le (old_later w.own (in_name at) at from state.candidates le (old_inner w.own around at state.candidates lt old)) s.is in
       let same : found (c.value ∷ []) s.part.state ≡ r = same_found [] s.part.value (c.value ∷ []) s.part.state r c.is s.rest in
       let end = from + length (spell t ++ []) in
-      subst (λ x. InnerComes w.own Production.Special around end state x) same
+      subst (λ x. InnerComes w Production.Special around at end state x) same
       (record {
-        means = λ byte. always w.own (Bare w.own around) at (held c.value) c.good;
+        means = λ byte began one. plain_means Production.Special refl refl around at byte began (c.value ∷ []) s.part.state one (always w.own (Bare w.own around) at (held c.value) c.good);
         grows = grows_inner w.own around (in_name at) at end state s.part.state refl lt more
             (grows_on w.own (in_name at) (from + length (spell t)) end state s.part.state (omega (arith, length-append (spell t) [])) c.grows);
       })
@@ -457,14 +529,14 @@ module _ (w : Way) (keeps : KeepsClosed w) where
   special_comes (grown t (grown u f)) all rule from state r is trees lt le more old e = absurd trees.1
 
   -- a production that begins an encoding, and has two parts in which nothing is named
-  two_come : (p : Production) (x y : Sym) → IsSymbol wide x → IsSymbol wide y → is_encoding x ≡ false → is_encoding y ≡ false → declares x ≡ false → declares y ≡ false →
+  two_come : (p : Production) → opens p ≡ true → differs p ≡ false → (x y : Sym) → IsSymbol wide x → IsSymbol wide y → is_encoding x ≡ false → is_encoding y ≡ false → declares x ≡ false → declares y ≡ false →
       ((around : Around) (at : ℕ) (vs : List Value) (state : State) → w.between p around at vs state ≡ Ok (nameless at vs state)) →
       ((byte at : ℕ) (around : Around) (u v : Value) → Good (Bare w.own (in_name at)) (held v) → Good (Bare w.own around) (held (meaning p byte around (u ∷ v ∷ [])))) →
       (f : Forest) → AllTreesGood w f → (rule : Open State Around) (from : ℕ) (state : State) (r : Found (List Value) State) → production_at rule.rule.number ≡ p →
       AreTrees wide (x ∷ y ∷ []) f → rule.context.encoding < rule.place → rule.place ≤ from → rule.place < from + length (spell_all f) → AllOld w.own rule.context rule.place state.candidates →
-      unfold_forest (reading_by w) rule [] from f state ≡ Ok r → InnerComes w.own p rule.context (from + length (spell_all f)) state r
+      unfold_forest (reading_by w) rule [] from f state ≡ Ok r → InnerComes w p rule.context rule.place (from + length (spell_all f)) state r
   unfolding reading_by nameless in_name
-  two_come p x y known_x known_y apart_x apart_y plain_x plain_y goes means (grown t (grown u nothing)) all rule from state r is trees lt le more old e =
+  two_come p opening apart x y known_x known_y apart_x apart_y plain_x plain_y goes means (grown t (grown u nothing)) all rule from state r is trees lt le more old e =
       let around = rule.context in
       let at = rule.place in
       let first = stepped rule [] from state t (grown u nothing) r (nameless at [] state) (ap (λ p. w.between p around at [] state) is ∙ goes around at [] state) e in
@@ -478,55 +550,61 @@ module _ (w : Way) (keeps : KeepsClosed w) where
       let d = name_comes u all.1.0 y at next first.part.state second.part known_y trees.1.0 apart_y plain_y (omega (arith, le)) old1 second.is in
       let same : found (c.value ∷ d.value ∷ []) second.part.state ≡ r = same_found vs second.part.value (d.value ∷ []) second.part.state r d.is second.rest in
       let end = from + length (spell t ++ (spell u ++ [])) in
-      subst (λ x. InnerComes w.own p around end state x) same
+      subst (λ x. InnerComes w p around at end state x) same
       (record {
-        means = λ byte. means byte at around c.value d.value d.good;
+        means = λ byte began one. plain_means p opening apart around at byte began (c.value ∷ d.value ∷ []) second.part.state one (means byte at around c.value d.value d.good);
         grows = grows_inner w.own around (in_name at) at end state second.part.state refl lt more
             (grows_then w.own (in_name at) next end state first.part.state second.part.state (omega (arith, length-append (spell t) (spell u ++ []))) c.grows
             (grows_on w.own (in_name at) (next + length (spell u)) end first.part.state second.part.state (omega (arith, length-append (spell t) (spell u ++ []), length-append (spell u) [])) d.grows));
       })
-  two_come p x y known_x known_y apart_x apart_y plain_x plain_y goes means nothing all rule from state r is trees lt le more old e = absurd trees
-  two_come p x y known_x known_y apart_x apart_y plain_x plain_y goes means (grown t nothing) all rule from state r is trees lt le more old e = absurd trees.1
-  two_come p x y known_x known_y apart_x apart_y plain_x plain_y goes means (grown t (grown u (grown v f))) all rule from state r is trees lt le more old e = absurd trees.1.1
+  two_come p opening apart x y known_x known_y apart_x apart_y plain_x plain_y goes means nothing all rule from state r is trees lt le more old e = absurd trees
+  two_come p opening apart x y known_x known_y apart_x apart_y plain_x plain_y goes means (grown t nothing) all rule from state r is trees lt le more old e = absurd trees.1
+  two_come p opening apart x y known_x known_y apart_x apart_y plain_x plain_y goes means (grown t (grown u (grown v f))) all rule from state r is trees lt le more old e = absurd trees.1.1
 
   other_special_comes : (f : Forest) → AllTreesGood w f → (rule : Open State Around) (from : ℕ) (state : State) (r : Found (List Value) State) → production_at rule.rule.number ≡ Production.OtherSpecial →
       AreTrees wide (parts_of Production.OtherSpecial) f → rule.context.encoding < rule.place → rule.place ≤ from → rule.place < from + length (spell_all f) → AllOld w.own rule.context rule.place state.candidates →
-      unfold_forest (reading_by w) rule [] from f state ≡ Ok r → InnerComes w.own Production.OtherSpecial rule.context (from + length (spell_all f)) state r
-  unfolding differs parts_of number_of_kind between meaning is_encoding nameless part declares is_declaration is_first
-  other_special_comes = two_come Production.OtherSpecial (OfKind SPECIAL_MARK) (OfKind SPECIAL_AFTER_G) (known SPECIAL_MARK (lit≤ tt)) (known SPECIAL_AFTER_G (lit≤ tt)) refl refl refl refl (keeps.plain.between Production.OtherSpecial refl)
+      unfold_forest (reading_by w) rule [] from f state ≡ Ok r → InnerComes w Production.OtherSpecial rule.context rule.place (from + length (spell_all f)) state r
+  unfolding differs opens parts_of number_of_kind between meaning is_encoding nameless part declares is_declaration is_first
+  other_special_comes = two_come Production.OtherSpecial refl refl (OfKind SPECIAL_MARK) (OfKind SPECIAL_AFTER_G) (known SPECIAL_MARK (lit≤ tt)) (known SPECIAL_AFTER_G (lit≤ tt)) refl refl refl refl (keeps.plain.between Production.OtherSpecial refl)
       (λ byte at around u v good. always w.own (Bare w.own around) at (held v) good)
 
   encoding_comes : (f : Forest) → AllTreesGood w f → (rule : Open State Around) (from : ℕ) (state : State) (r : Found (List Value) State) → production_at rule.rule.number ≡ Production.Encoding →
       AreTrees wide (parts_of Production.Encoding) f → rule.context.encoding < rule.place → rule.place ≤ from → rule.place < from + length (spell_all f) → AllOld w.own rule.context rule.place state.candidates →
-      unfold_forest (reading_by w) rule [] from f state ≡ Ok r → InnerComes w.own Production.Encoding rule.context (from + length (spell_all f)) state r
+      unfold_forest (reading_by w) rule [] from f state ≡ Ok r → InnerComes w Production.Encoding rule.context rule.place (from + length (spell_all f)) state r
   unfolding differs reading_by parts_of number_of_kind between meaning held is_encoding nameless part in_name in_types declares is_declaration is_first
   encoding_comes (grown t (grown u nothing)) all rule from state r is trees lt le more old e =
       let around = rule.context in
       let at = rule.place in
-      let first = stepped rule [] from state t (grown u nothing) r (nameless at [] state) (ap (λ p. w.between p around at [] state) is ∙ keeps.plain.between Production.Encoding refl around at [] state) e in
-      let old0 = old_later w.own (in_name at) at from state.candidates le (old_inner w.own around at state.candidates lt old) in
-      let c = name_comes t all.0 (OfKind COMPLETE_NAME) at from state first.part (known 8 (lit≤ tt)) trees.0 refl refl le old0 first.is in
+      let passes = w.passes around in
+      let inner = name_by passes at in
+      let inside_ = name_at passes at in
+      let begins : Next Value State Around = record { context = inner; values = []; state = state } in
+      let first = stepped rule [] from state t (grown u nothing) r begins (ap (λ p. w.between p around at [] state) is ∙ keeps.plain.name around at state) e in
+      let old0 = old_later w.own inner at from state.candidates le (old_within w.own around inner at state.candidates inside_ lt old) in
       let next = from + length (spell t) in
+      let c = tree_comes w.own (OfKind COMPLETE_NAME) inner next state first.part (λ own. refl)
+      (all.0 (OfKind COMPLETE_NAME) inner from state first.part (known 8 (lit≤ tt)) trees.0 (omega (arith, inside_, le)) (λ opening. absurd (false≢true opening)) (name_first w.own passes at) old0 first.is) in
       let name = tree_of c.value in
-      let named = good_tree (Bare w.own (in_name at)) c.value c.good in
       let vs = c.value ∷ [] in
       let onward = subst (λ ws. unfold_forest (reading_by w) rule ws next (grown u nothing) first.part.state ≡ Ok r) c.is first.rest in
-      let types : Next Value State Around = record { context = in_types at name; values = vs; state = first.part.state } in
-      let second = stepped rule vs next first.part.state u nothing r types (ap (λ p. w.between p around at vs first.part.state) is ∙ keeps.plain.between Production.Encoding refl around at vs first.part.state) onward in
-      let old1 = old_types w.own at next name first.part.state.candidates (old_grows w.own (in_name at) from next state first.part.state (omega arith) old0 c.grows) in
-      let d = tree_comes w.own (OfKind ITEMS) (in_types at name) (next + length (spell u)) first.part.state second.part (λ own. refl)
-      (all.1.0 (OfKind ITEMS) (in_types at name) next first.part.state second.part (known ITEMS (lit≤ tt)) trees.1.0 (omega (arith, le)) (λ opening. absurd (false≢true opening)) tt old1 second.is) in
+      let within_ = types_by passes at name in
+      let there = types_at passes at name in
+      let types : Next Value State Around = record { context = within_; values = vs; state = first.part.state } in
+      let second = stepped rule vs next first.part.state u nothing r types (ap (λ p. w.between p around at vs first.part.state) is ∙ keeps.plain.types around at c.value first.part.state) onward in
+      let old1 = old_types_by w.own around inner within_ at from next state first.part.state inside_ there (name_bare passes at) lt (omega (arith, le)) old c.grows in
+      let d = tree_comes w.own (OfKind ITEMS) within_ (next + length (spell u)) first.part.state second.part (λ own. refl)
+      (all.1.0 (OfKind ITEMS) within_ next first.part.state second.part (known ITEMS (lit≤ tt)) trees.1.0 (omega (arith, there, le)) (λ opening. absurd (false≢true opening)) (types_first w.own passes at name) old1 second.is) in
       let same : found (c.value ∷ d.value ∷ []) second.part.state ≡ r = same_found vs second.part.value (d.value ∷ []) second.part.state r d.is second.rest in
       let end = from + length (spell t ++ (spell u ++ [])) in
-      subst (λ x. InnerComes w.own Production.Encoding around end state x) same
+      subst (λ x. InnerComes w Production.Encoding around at end state x) same
       (record {
-        means = λ byte. good_encoding (Bare w.own around) c.value (no_items d.value) (λ n. named.closed (refl, λ o. refl)) named.scopes
-            (good_no_items (Bare w.own (in_types at name)) d.value (good_tree (Bare w.own (in_types at name)) d.value d.good)).scopes;
+        means = λ byte began one. encoding_means around at at byte began c.value d.value second.part.state one c.good
+            ((good_no_items (Bare w.own within_) d.value (good_tree (Bare w.own within_) d.value d.good)).scopes tt);
         grows = grows_then w.own around end end state first.part.state second.part.state (omega arith)
-            (grows_inner w.own around (in_name at) at end state first.part.state refl lt more
-            (grows_on w.own (in_name at) next end state first.part.state (omega (arith, length-append (spell t) (spell u ++ []))) c.grows))
-            (grows_inner w.own around (in_types at name) at end first.part.state second.part.state refl lt more
-            (grows_on w.own (in_types at name) (next + length (spell u)) end first.part.state second.part.state (omega (arith, length-append (spell t) (spell u ++ []), length-append (spell u) [])) d.grows));
+            (grows_inner w.own around inner at end state first.part.state inside_ lt more
+            (grows_on w.own inner next end state first.part.state (omega (arith, length-append (spell t) (spell u ++ []))) c.grows))
+            (grows_inner w.own around within_ at end first.part.state second.part.state there lt more
+            (grows_on w.own within_ (next + length (spell u)) end first.part.state second.part.state (omega (arith, length-append (spell t) (spell u ++ []), length-append (spell u) [])) d.grows));
       })
   encoding_comes nothing all rule from state r is trees lt le more old e = absurd trees
   encoding_comes (grown t nothing) all rule from state r is trees lt le more old e = absurd trees.1
@@ -534,7 +612,7 @@ module _ (w : Way) (keeps : KeepsClosed w) where
 
   pub inner_comes : (p : Production) → opens p ≡ true → (f : Forest) → AllTreesGood w f → (rule : Open State Around) (from : ℕ) (state : State) (r : Found (List Value) State) → production_at rule.rule.number ≡ p →
       AreTrees wide (parts_of p) f → rule.context.encoding < rule.place → rule.place ≤ from → rule.place < from + length (spell_all f) → AllOld w.own rule.context rule.place state.candidates →
-      unfold_forest (reading_by w) rule [] from f state ≡ Ok r → InnerComes w.own p rule.context (from + length (spell_all f)) state r
+      unfold_forest (reading_by w) rule [] from f state ≡ Ok r → InnerComes w p rule.context rule.place (from + length (spell_all f)) state r
   unfolding opens
   inner_comes Production.Encoding o = encoding_comes
   inner_comes Production.Special o = special_comes
@@ -579,13 +657,15 @@ module _ (w : Way) (keeps : KeepsClosed w) where
       let trees = subst (λ xs. AreTrees wide xs parts) (ap symbols_of is ∙ its_symbols p) tree.1 in
       let comes = inner_comes p opening parts all (Whole rule taken at around state) from begun inner number trees less (omega arith)
       (omega (arith, full, length-append taken (spell_all parts))) (subst (λ cs. AllOld w.own around at cs) (sym begins) old) e in
-      let closed : close p (byte_of taken) around at state inner.value inner.state ≡ Ok one =
-      sym (ap (λ q. w.close q (byte_of taken) around at state inner.value inner.state) number ∙ keeps.plain.close p (opens_apart p opening) (byte_of taken) around at state inner.value inner.state) ∙ f in
-      let same = inner_closes p opening (byte_of taken) around at state inner.value inner.state one closed in
+      let means = comes.means (byte_of taken) state one (sym (ap (λ q. w.close q (byte_of taken) around at state inner.value inner.state) number) ∙ f) in
       let grown1 = grows_then w.own around end end state begun inner.state (omega arith) (grows_same w.own around end state begun begins)
       (grows_on w.own around (from + length (spell_all parts)) end begun inner.state (omega (arith, length-append taken (spell_all parts))) comes.grows) in
-      subst (λ x. TreeComes w.own around end state (found (x.value ∷ []) x.state)) same
-      (record { value = meaning p (byte_of taken) around inner.value; is = refl; good = comes.means (byte_of taken); grows = grown1 })
+      record {
+        value = one.value;
+        is = refl;
+        good = means.0;
+        grows = grows_then w.own around end end state inner.state one.state (omega arith) grown1 (grows_same w.own around end inner.state one.state (ap (λ x. x.candidates) means.1));
+      }
 
   pub branch_good : (rule : Rule) (taken : List ℕ) (parts : Forest) → AllTreesGood w parts → TreeGood w (branch rule taken parts)
   unfolding reading_by is_encoding

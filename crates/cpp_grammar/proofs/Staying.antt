@@ -24,7 +24,7 @@ use Rattle.cpp_grammar.specs.Wide.{wide_alternatives}
 use Rattle.cpp_grammar.specs.Table.{wide}
 use Rattle.cpp_grammar.specs.Term.{Term, parameter, lambda, generic_lambda, list}
 use Rattle.cpp_grammar.specs.Scope.{count, element, is_open, length_if_pack}
-use Rattle.cpp_grammar.specs.Values.{by_all, Candidate, Expected, prefix_at, qualified_at, State, Around, prefix_tree, prefix_listed, Value, nothing_there, text, tree, piece, tree_of, is_listed, text_of, local_number, part}
+use Rattle.cpp_grammar.specs.Values.{by_all, Candidate, Expected, prefix_at, qualified_at, shown, is_in_constraint, is_at_literal, State, Around, prefix_tree, prefix_listed, Value, nothing_there, text, tree, piece, tree_of, is_listed, text_of, local_number, part}
 use Rattle.cpp_grammar.specs.References.{appended, is_function_type, with_type, with_unqualified, with_prefix, with_packs, packs_in, is_module, substituted, parameter_named}
 use Rattle.cpp_grammar.specs.Between.{in_name, in_types, in_signature, under_expansion, after, inside, no_items, Continuation, listed_so_far, parameter_so_far, index_of, between, next, argument_so_far}
 use Rattle.cpp_grammar.specs.Row.{Gain, nothing, the_prefix, type_of, unqualified_of, itself, Where, as_before, in_its_name, in_its_types, in_a_signature, under_it, nameless, after_part, after_the_name, Action, quiet, goes, becomes, tests, holds, unread, before_part}
@@ -33,7 +33,7 @@ use Rattle.cpp_grammar.specs.Rows.{row_of}
 use Rattle.cpp_grammar.specs.Meaning.{parameters, meaning}
 use Rattle.cpp_grammar.specs.Unfolding as unfolding_
 use Rattle.cpp_grammar.specs.Unfolding.{opening, close, production_at, byte_of, cpp, first_around, first_state, first_tree, unfold_cpp}
-use Rattle.cpp_grammar.specs.Rescoping.{generic_so_far, parameter_here, is_declaring, lambda_with, as_generic_lambda, is_before_holder, is_by_newer, is_by_all, is_in_list, place_in, named_in, joined, counted_so_far, expecting, opening_wide, is_foreign, restated, substituted_wide, numbered, between_wide, close_wide, cpp_wide, unfold_wide, argument_here, generic_number}
+use Rattle.cpp_grammar.specs.Rescoping.{is_unseen, in_literal, is_passed_over, passed_over, name_around, types_around, name_if, generic_so_far, parameter_here, is_declaring, lambda_with, as_generic_lambda, is_before_holder, is_by_newer, is_by_all, is_in_list, place_in, named_in, joined, counted_so_far, expecting, opening_wide, is_foreign, restated, substituted_wide, numbered, between_wide, close_wide, cpp_wide, unfold_wide, argument_here, generic_number}
 use Rattle.cpp_grammar.specs.TableLaws.{wide_sound}
 use Rattle.cpp_grammar.proofs.Choosing.{each_passes, chosen_rule, taken_passes, implied}
 use Rattle.cpp_grammar.proofs.Chosen.{either, if_there}
@@ -117,10 +117,11 @@ all_then : (vs ws : List Value) → AllNone vs → AllNone ws → AllNone (vs ++
 all_then [] ws f g = g
 all_then (v ∷ vs) ws f g = (f.0, all_then vs ws f.1 g)
 
--- in a signature the name so far is closed, and no arguments are named
+-- in a signature the name so far is closed, and no arguments are named; all is shown
 record Settled (around : Around) : Type 0 where
   prefix : around.in_lambda ≡ true → PrefixHasNone around.prefix
   bare : around.in_lambda ≡ true → around.scope ≡ None
+  seen : around.showing ≡ shown
 
 record NextHasNone (b special : Bool) (n : Next Value State Around) : Type 0 where
   values : b ≡ true → AllNone n.values
@@ -158,27 +159,27 @@ packs_none place true (Some m) state =
 
 after_none : (around : Around) (t : Term) (listed : Bool) → Settled around → (around.in_lambda ≡ true → HasNone t) → Settled (after t listed around)
 unfolding after
-after_none around t listed settled g = record { prefix = g; bare = settled.bare }
+after_none around t listed settled g = record { prefix = g; bare = settled.bare; seen = settled.seen }
 
 inside_none : (around : Around) → Settled around → Settled (inside around)
 unfolding inside
-inside_none around settled = record { prefix = λ l. tt; bare = settled.bare }
+inside_none around settled = record { prefix = λ l. tt; bare = settled.bare; seen = settled.seen }
 
 name_none : (place : ℕ) → Settled (in_name place)
 unfolding in_name
-name_none place = record { prefix = λ l. tt; bare = λ h. absurd (false≢true h) }
+name_none place = record { prefix = λ l. tt; bare = λ h. absurd (false≢true h); seen = refl }
 
 types_none : (place : ℕ) (t : Term) → Settled (in_types place t)
 unfolding in_types
-types_none place t = record { prefix = λ l. tt; bare = λ h. absurd (false≢true h) }
+types_none place t = record { prefix = λ l. tt; bare = λ h. absurd (false≢true h); seen = refl }
 
-signature_none : (around : Around) → Settled (in_signature around)
+signature_none : (around : Around) → Settled around → Settled (in_signature around)
 unfolding in_signature
-signature_none around = record { prefix = λ l. tt; bare = λ h. refl }
+signature_none around settled = record { prefix = λ l. tt; bare = λ h. refl; seen = settled.seen }
 
 expansion_none : (around : Around) → Settled around → Settled (under_expansion around)
 unfolding under_expansion
-expansion_none around settled = record { prefix = settled.prefix; bare = settled.bare }
+expansion_none around settled = record { prefix = settled.prefix; bare = settled.bare; seen = settled.seen }
 
 replaced_none : (v : Value) (vs : List Value) → HasNone (held v) → AllNone vs → AllNone (replaced v vs)
 unfolding replaced
@@ -265,10 +266,9 @@ between_none Production.Encoding around place [] state settled all cs = record {
 between_none Production.Encoding around place (v ∷ vs) state settled all cs = record { values = λ l. absurd (false≢true l); inside = λ l. absurd (false≢true l); context = types_none place (tree_of v); candidates = cs }
 between_none Production.Special around place vs state settled all cs = record { values = all; inside = λ l. refl; context = name_none place; candidates = cs }
 between_none Production.OtherSpecial around place vs state settled all cs = record { values = all; inside = λ l. refl; context = name_none place; candidates = cs }
-between_none Production.ValueOf around place vs state settled all cs = record { values = all; inside = λ l. refl; context = signature_none around; candidates = cs }
-between_none Production.OfConcept around place vs state settled all cs = record { values = all; inside = λ l. refl; context = signature_none around; candidates = cs }
-between_none Production.Constraint around place vs state settled all cs = record { values = all; inside = λ l. refl; context = signature_none around; candidates = cs }
-between_none Production.Lambda around place vs state settled all cs = record { values = all; inside = λ l. refl; context = signature_none around; candidates = cs }
+between_none Production.ValueOf around place vs state settled all cs = record { values = all; inside = λ l. refl; context = signature_none around settled; candidates = cs }
+between_none Production.OfConcept around place vs state settled all cs = record { values = all; inside = λ l. refl; context = signature_none around settled; candidates = cs }
+between_none Production.Lambda around place vs state settled all cs = record { values = all; inside = λ l. refl; context = signature_none around settled; candidates = cs }
 between_none p around place vs state settled all cs = done_none (before_part (row_of p) (length vs)) around place vs state (step_passes goes_here (row_of p) refl (length vs)) settled all cs
 
 -- ## After the parts of a production
@@ -313,6 +313,31 @@ argument_stays around place k state n settled e =
     named_here around place k state (λ s. next (tree (parameter k) true ∷ []) around (record s { candidates = state.candidates }))
     (next (tree (parameter (generic_number k)) true ∷ []) around state) n settled e
 
+-- so no encoding is passed over
+both_false : (b : Bool) → (b && false) ≡ false
+both_false true = refl
+both_false false = refl
+
+not_unseen : (around : Around) → Settled around → is_unseen around ≡ false
+unfolding is_unseen is_in_constraint
+not_unseen around settled = ap (λ s. around.in_lambda && is_in_constraint s) settled.seen ∙ both_false around.in_lambda
+
+not_passed : (around : Around) → Settled around → is_passed_over around ≡ false
+unfolding is_passed_over is_at_literal
+not_passed around settled = ap (λ s. around.in_lambda && is_at_literal s) settled.seen ∙ both_false around.in_lambda
+
+literal_stays : (around : Around) → Settled around → in_literal around ≡ around
+unfolding in_literal
+literal_stays around settled = either {A = Around} (λ a. a ≡ around) (is_unseen around) _ _ (λ is. absurd (false≢true (sym (not_unseen around settled) ∙ is))) (λ is. refl)
+
+name_stays : (around : Around) (place : ℕ) → Settled around → name_around around place ≡ in_name place
+unfolding name_around
+name_stays around place settled = ap (λ b. elim b [ true ↦ passed_over place | false ↦ in_name place ]) (not_passed around settled)
+
+types_stay : (around : Around) (place : ℕ) (name : Term) → Settled around → types_around around place name ≡ in_types place name
+unfolding types_around
+types_stay around place name settled = ap (λ b. elim (b && is_open name) [ true ↦ passed_over place | false ↦ in_types place name ]) (not_passed around settled)
+
 between_stays : (p : Production) (around : Around) (place : ℕ) (vs : List Value) (state : State) (n : Next Value State Around) → Settled around → between p around place vs state ≡ Ok n → between_wide p around place vs state ≡ Ok n
 unfolding between between_wide parameter_so_far parameter_named listed_so_far argument_so_far
 between_stays Production.Parameter around place (v ∷ []) state n settled e = here_stays around place (index_of v) state n settled e
@@ -320,6 +345,10 @@ between_stays Production.NestParameter around place (v ∷ []) state n settled e
 between_stays Production.ParameterArgument around place (v ∷ []) state n settled e = here_stays around (place - 1) (index_of v) state n settled e
 between_stays Production.ParameterExpression around place (v ∷ []) state n settled e = argument_stays around (place - 1) (index_of v) state n settled e
 between_stays Production.DeclaredFirst around place [] state n settled e = let clash : ◌≡◌ {A = Continuation} (Err (BadReference place)) (Ok n) = e in absurd cc
+between_stays Production.Constraint around place [] state n settled e = let clash : ◌≡◌ {A = Continuation} (Err (BadReference place)) (Ok n) = e in absurd cc
+between_stays Production.EncodingLiteral around place (v ∷ []) state n settled e = ap (λ a. next (v ∷ []) a state) (literal_stays around settled) ∙ e
+between_stays Production.Encoding around place [] state n settled e = ap (λ a. next [] a state) (name_stays around place settled) ∙ e
+between_stays Production.Encoding around place (v ∷ []) state n settled e = ap (λ a. next (v ∷ []) a state) (types_stay around place (tree_of v) settled) ∙ e
 between_stays Production.HeldArguments around place [] state n settled e = let clash : ◌≡◌ {A = Continuation} (Err (BadReference place)) (Ok n) = e in absurd cc
 between_stays Production.Holder around place (v ∷ []) state n settled e = let clash : ◌≡◌ {A = Continuation} (Err (BadReference place)) (Ok n) = e in absurd cc
 between_stays Production.NamedModule around place (v ∷ []) state n settled e = let clash : ◌≡◌ {A = Continuation} (Err (BadReference place)) (Ok n) = e in absurd cc
@@ -422,6 +451,11 @@ closed_stays p byte around began vs state r settled all cs e read is =
       candidates = subst (λ x. AllHaveNone x.state.candidates) same (behind_none p byte around began vs state settled all cs);
     }
 
+-- what isn't passed over isn't its name alone
+named_stays_ : {passed : Bool} → passed ≡ false → (open_ : Bool) (name v : Value) (state : State) → ◌≡◌ {A = Result (Found Value State) Refusal} (Ok (found (name_if (passed && open_) name v) state)) (Ok (found v state))
+unfolding name_if
+named_stays_ is open_ name v state = let said : Bool → Result (Found Value State) Refusal = λ b. Ok (found (name_if (b && open_) name v) state) in ap said is
+
 close_stays : (p : Production) (byte : ℕ) (around : Around) (place : ℕ) (began : State) (vs : List Value) (state : State) (r : Found Value State) → Settled around → (are_closed p around ≡ true → AllNone vs) →
     (has_first p ≡ true → starts vs ≡ true) → AllHaveNone state.candidates → close p byte around place began vs state ≡ Ok r → Closes around (close_wide p byte around place began vs state) r
 unfolding are_closed has_closed_parts has_first close close_wide unfolding_.behind
@@ -429,6 +463,12 @@ close_stays Production.Substitution byte around place began vs state r settled a
 close_stays Production.Lambda byte around place began vs state r settled all first cs e =
     closed_stays Production.Lambda byte around began vs state r settled all cs e (Ok (found (as_generic_lambda (meaning Production.Lambda byte around vs)) state))
     (let said : Value → Result (Found Value State) Refusal = λ v. Ok (found v state) in ap said (lambda_stays around byte vs (all refl) (first refl)) ∙ e)
+close_stays Production.Encoding byte around place began vs state r settled all first cs e =
+    closed_stays Production.Encoding byte around began vs state r settled all cs e _
+    (named_stays_ (not_passed around settled) (is_open (tree_of (part vs 0))) (part vs 0) (meaning Production.Encoding byte around vs) state ∙ e)
+close_stays Production.EncodingLiteral byte around place began vs state r settled all first cs e =
+    closed_stays Production.EncodingLiteral byte around began vs state r settled all cs e _
+    (named_stays_ (not_unseen around settled) (is_open (tree_of (part vs 1))) (part vs 1) (meaning Production.EncodingLiteral byte around vs) state ∙ e)
 close_stays Production.Inheriting byte around place began vs state r settled all first cs e = let clash : ◌≡◌ {A = Result (Found Value State) Refusal} (Err (BadReference place)) (Ok r) = e in absurd cc
 close_stays p byte around place began vs state r settled all first cs e = closed_stays p byte around began vs state r settled all cs e (close p byte around place began vs state) e
 
@@ -589,5 +629,5 @@ pub meaning_stays : (shape : Tree) (t : Term) → IsTree wide (OfKind SYMBOL) sh
 unfolding unfold_cpp unfold_wide first_around first_state
 meaning_stays shape t is e =
     let whole = behind_bind (unfold_tree cpp first_around 0 shape first_state) (λ whole. Ok (first_tree whole.value)) t e in
-    let stays = tree_stays shape (OfKind SYMBOL) first_around 0 first_state whole.value (known 0 (lit≤ tt)) is (record { prefix = λ l. absurd (false≢true l); bare = λ h. absurd (false≢true h) }) tt whole.is in
+    let stays = tree_stays shape (OfKind SYMBOL) first_around 0 first_state whole.value (known 0 (lit≤ tt)) is (record { prefix = λ l. absurd (false≢true l); bare = λ h. absurd (false≢true h); seen = refl }) tt whole.is in
     then_ok (unfold_tree cpp_wide first_around 0 shape first_state) (λ whole. Ok (first_tree whole.value)) whole.value t stays.is whole.next

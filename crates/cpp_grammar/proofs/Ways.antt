@@ -1,19 +1,26 @@
 -- The two readings of C++ as a single one, which takes what is done before the parts of a production, between them and after them.
 use Rattle.std.proofs.Common.{◌≡◌, refl, ℕ, List, [], ◌∷◌, Bool, true, false, Result, Ok}
-use Rattle.std.proofs.lemmas.Bool.{true≢false}
+use Rattle.std.specs.Prelude.{◌&&◌}
+use Rattle.std.proofs.lemmas.Bool.{true≢false, false≢true}
 use Rattle.sym_core.specs.declared.refusal.Refusal.{Refusal}
 use Rattle.sym_shape.specs.Tree.{Forest}
 use Rattle.sym_link.specs.Reading.{Found, Reading}
 use Rattle.sym_link.specs.Unfold.{found}
 use Rattle.cpp_grammar.specs.declared.production.Production.{Production}
-use Rattle.cpp_grammar.specs.Values.{State, Around, Value, nothing_there, text}
-use Rattle.cpp_grammar.specs.Between.{Continuation, between}
+use Rattle.cpp_grammar.specs.Values.{is_at_literal, State, Around, Value, nothing_there, text, tree_of, part}
+use Rattle.cpp_grammar.specs.Term.{Term}
+use Rattle.cpp_grammar.specs.Scope.{is_open}
+use Rattle.cpp_grammar.specs.Between.{Continuation, next, in_name, in_types, between}
+use Rattle.cpp_grammar.specs.Meaning.{meaning}
+use Rattle.cpp_grammar.specs.Unfolding as unfolding_
 use Rattle.cpp_grammar.specs.Unfolding.{opening, close, production_at, byte_of}
-use Rattle.cpp_grammar.specs.Rescoping.{opening_wide, between_wide, close_wide}
+use Rattle.cpp_grammar.specs.Rescoping.{is_passed_over, passed_over, name_around, types_around, name_if, opening_wide, between_wide, close_wide}
+use Rattle.cpp_grammar.proofs.Steps.{first_of_both}
 
--- `own` says whether the parameters in a lambda's signature are the lambda's own
+-- `own` says whether the parameters in a lambda's signature are the lambda's own, and `passes` whether an encoding here is passed over
 pub record Way : Type 0 where
   pub own : Bool
+  pub passes : Around → Bool
   pub opening : Production → Forest → (place : ℕ) → State → Result State Refusal
   pub between : Production → Around → (place : ℕ) → List Value → State → Continuation
   pub close : Production → (byte : ℕ) → Around → (place : ℕ) → (began : State) → List Value → State → Result (Found Value State) Refusal
@@ -28,12 +35,13 @@ reading_by w = record {
 }
 
 unfoldable pub abi_way : Way
-abi_way = record { own = false; opening = opening; between = between; close = close }
+abi_way = record { own = false; passes = λ around. false; opening = opening; between = between; close = close }
 
 unfoldable pub wide_way : Way
-wide_way = record { own = true; opening = opening_wide; between = between_wide; close = close_wide }
+wide_way = record { own = true; passes = is_passed_over; opening = opening_wide; between = between_wide; close = close_wide }
 
--- the only productions that differ: those of references, lambdas, inherited constructors, and modules that a substitution names
+-- the only productions that differ: those of references, lambdas, inherited constructors, constraints, encodings and their literals,
+-- and modules that a substitution names
 unfoldable pub differs : Production → Bool
 differs Production.Lambda = true
 differs Production.Parameter = true
@@ -46,6 +54,9 @@ differs Production.Inheriting = true
 differs Production.Holder = true
 differs Production.NamedModule = true
 differs Production.DeclaredFirst = true
+differs Production.Constraint = true
+differs Production.EncodingLiteral = true
+differs Production.Encoding = true
 differs _ = false
 
 -- the productions with parts in a signature, or of which each is in one: lambdas, what is declared of a parameter, and constraints on arguments
@@ -61,15 +72,35 @@ has_signature Production.DeclaredFirst = true
 has_signature Production.FirstWithT = true
 has_signature _ = false
 
+-- what surrounds the name of an encoding, and its types
+unfoldable pub name_by : (passes : Bool) → (place : ℕ) → Around
+name_by passes place = elim passes [ true ↦ passed_over place | false ↦ in_name place ]
+
+unfoldable pub types_by : (passes : Bool) → (place : ℕ) → (name : Term) → Around
+types_by passes place name = elim (passes && is_open name) [ true ↦ passed_over place | false ↦ in_types place name ]
+
 -- all others agree with the reading of the ABI's grammar
 pub record IsPlain (w : Way) : Type 0 where
+  -- an encoding is passed over in a lambda's signature or in a constraint alone, and its parts are surrounded by what is said above
+  pub passing : (around : Around) → w.passes around ≡ true → (w.own ≡ true) × (around.in_lambda ≡ true)
+  pub name : (around : Around) (place : ℕ) (state : State) → w.between Production.Encoding around place [] state ≡ next [] (name_by (w.passes around) place) state
+  pub types : (around : Around) (place : ℕ) (v : Value) (state : State) → w.between Production.Encoding around place (v ∷ []) state ≡ next (v ∷ []) (types_by (w.passes around) place (tree_of v)) state
+  pub encoding : (byte : ℕ) (around : Around) (place : ℕ) (began : State) (vs : List Value) (state : State) → w.close Production.Encoding byte around place began vs state
+      ≡ Ok (found (name_if (w.passes around && is_open (tree_of (part vs 0))) (part vs 0) (meaning Production.Encoding byte around vs)) state)
   pub between : (p : Production) → differs p ≡ false → (around : Around) (place : ℕ) (vs : List Value) (state : State) → w.between p around place vs state ≡ between p around place vs state
   pub close : (p : Production) → differs p ≡ false → (byte : ℕ) (around : Around) (place : ℕ) (began : State) (vs : List Value) (state : State) →
       w.close p byte around place began vs state ≡ close p byte around place began vs state
 
 pub abi_plain : IsPlain abi_way
-unfolding abi_way
-abi_plain = record { between = λ p apart around place vs state. refl; close = λ p apart byte around place began vs state. refl }
+unfolding abi_way name_by types_by name_if between close unfolding_.behind
+abi_plain = record {
+  passing = λ around is. absurd (false≢true is);
+  name = λ around place state. refl;
+  types = λ around place v state. refl;
+  encoding = λ byte around place began vs state. refl;
+  between = λ p apart around place vs state. refl;
+  close = λ p apart byte around place began vs state. refl;
+}
 
 plain_between : (p : Production) → differs p ≡ false → (around : Around) (place : ℕ) (vs : List Value) (state : State) → between_wide p around place vs state ≡ between p around place vs state
 unfolding differs between_wide
@@ -83,5 +114,12 @@ plain_close Production.Substitution apart byte around place began vs state = abs
 plain_close _ apart byte around place began vs state = cc
 
 pub wide_plain : IsPlain wide_way
-unfolding wide_way
-wide_plain = record { between = plain_between; close = plain_close }
+unfolding wide_way between_wide close_wide name_around types_around name_by types_by is_passed_over
+wide_plain = record {
+  passing = λ around is. (refl, first_of_both around.in_lambda (is_at_literal around.showing) is);
+  name = λ around place state. refl;
+  types = λ around place v state. refl;
+  encoding = λ byte around place began vs state. refl;
+  between = plain_between;
+  close = plain_close;
+}

@@ -13,9 +13,9 @@ use Rattle.sym_link.specs.Unfold.{found, unfold_tree}
 use Rattle.cpp_grammar.specs.declared.production.Production.{Production}
 use Rattle.cpp_grammar.specs.Term.{Term, instance, holder, lvalue, rvalue, parameter, lambda, generic_lambda, declaring}
 use Rattle.cpp_grammar.specs.Scope.{count, element, is_list, has_pack, is_open, Free, none_free, one_free, several_free, free_in, pack_length}
-use Rattle.cpp_grammar.specs.Values.{Counted, by_all, by_newer, by_gcc, by_some, Candidate, Lists, both_lists, longer_list, shorter_list, no_list, Expected, prefix_at, qualified_at, State, Around, prefix_tree, prefix_listed, Value, nothing_there, tree, piece, pair, text, tree_of, is_listed, text_of, part}
+use Rattle.cpp_grammar.specs.Values.{Counted, by_all, by_newer, by_gcc, by_some, Candidate, Lists, both_lists, longer_list, shorter_list, no_list, Expected, prefix_at, qualified_at, outermost, Showing, shown, in_constraint, at_literal, is_in_constraint, is_at_literal, State, Around, prefix_tree, prefix_listed, Value, nothing_there, tree, piece, pair, text, tree_of, is_listed, text_of, part}
 use Rattle.cpp_grammar.specs.References.{appended, appended_by, is_module, with_packs, substituted}
-use Rattle.cpp_grammar.specs.Between.{Continuation, next, inside, listed_so_far, parameter_so_far, argument_so_far, index_of, between}
+use Rattle.cpp_grammar.specs.Between.{Continuation, next, in_name, in_types, inside, listed_so_far, parameter_so_far, argument_so_far, index_of, between}
 use Rattle.cpp_grammar.specs.Meaning.{meaning}
 use Rattle.cpp_grammar.specs.Unfolding.{opening, close, production_at, byte_of, first_around, first_state, first_tree}
 
@@ -42,6 +42,40 @@ argument_here around place k state = elim around.in_lambda [
   | true ↦ next (tree (parameter (generic_number k)) true ∷ []) around state
   | false ↦ argument_so_far around place k state
 ]
+
+-- ## Constraints
+
+-- Nothing is looked up in a constraint (Q <constraint-expression>): its parameters are no arguments' names.
+unfoldable pub in_constraint_of : Around → Around
+in_constraint_of around = record { scope = None; encoding = around.encoding; in_lambda = true; in_expansion = around.in_expansion; prefix = outermost; showing = in_constraint }
+
+unfoldable pub is_unseen : Around → Bool
+is_unseen around = around.in_lambda && is_in_constraint around.showing
+
+-- An encoding that a literal denotes there (L _Z <encoding> E) isn't looked up either.
+unfoldable pub in_literal : Around → Around
+in_literal around = elim (is_unseen around) [
+  | true ↦ record { scope = around.scope; encoding = around.encoding; in_lambda = around.in_lambda; in_expansion = around.in_expansion; prefix = around.prefix; showing = at_literal }
+  | false ↦ around
+]
+
+unfoldable pub is_passed_over : Around → Bool
+is_passed_over around = around.in_lambda && is_at_literal around.showing
+
+unfoldable pub passed_over : (place : ℕ) → Around
+passed_over place = record { scope = None; encoding = place; in_lambda = true; in_expansion = false; prefix = outermost; showing = in_constraint }
+
+-- in the name of an encoding
+unfoldable pub name_around : Around → (place : ℕ) → Around
+name_around around place = elim (is_passed_over around) [ true ↦ passed_over place | false ↦ in_name place ]
+
+-- In its types: where the name has free parameters they have them, too, and otherwise the name is their scope.
+unfoldable pub types_around : Around → (place : ℕ) → (name : Term) → Around
+types_around around place name = elim (is_passed_over around && is_open name) [ true ↦ passed_over place | false ↦ in_types place name ]
+
+-- An encoding whose name has free parameters is that name alone, and so is a literal that denotes it.
+unfoldable pub name_if : Bool → (name : Value) → Value → Value
+name_if has_free name v = elim has_free [ true ↦ tree (tree_of name) true | false ↦ v ]
 
 unfoldable pub is_declaring : Term → Bool
 is_declaring (declaring heads parameters) = true
@@ -288,6 +322,10 @@ between_wide Production.ParameterExpression around place (v ∷ []) state = argu
 between_wide Production.HeldArguments around place [] state = next [] (inside around) (counted_unless (prefix_listed around.prefix) by_some around (prefix_tree around.prefix) state)
 between_wide Production.DeclaredFirst around place [] state = next [] around state
 between_wide Production.Holder around place (v ∷ []) state = holder_so_far around place state
+between_wide Production.Constraint around place [] state = next [] (in_constraint_of around) state
+between_wide Production.EncodingLiteral around place (v ∷ []) state = next (v ∷ []) (in_literal around) state
+between_wide Production.Encoding around place [] state = next [] (name_around around place) state
+between_wide Production.Encoding around place (v ∷ []) state = next (v ∷ []) (types_around around place (tree_of v)) state
 between_wide Production.NamedModule around place (v ∷ []) state = module_so_far around (place - 1) (counted_value Seq36 (text_of v)) state
 between_wide production around place vs state = between production around place vs state
 
@@ -296,6 +334,10 @@ close_wide Production.Substitution byte around place began vs state =
     numbered around (place - 1) (counted_value Seq36 (text_of (part vs 0))) state
 close_wide Production.Lambda byte around place began vs state = Ok (found (as_generic_lambda (meaning Production.Lambda byte around vs)) state)
 close_wide Production.Inheriting byte around place began vs state = Ok (found (meaning Production.Inheriting byte around vs) (counted_base around (part vs 1) state))
+close_wide Production.Encoding byte around place began vs state =
+    Ok (found (name_if (is_passed_over around && is_open (tree_of (part vs 0))) (part vs 0) (meaning Production.Encoding byte around vs)) state)
+close_wide Production.EncodingLiteral byte around place began vs state =
+    Ok (found (name_if (is_unseen around && is_open (tree_of (part vs 1))) (part vs 1) (meaning Production.EncodingLiteral byte around vs)) state)
 close_wide production byte around place began vs state = close production byte around place began vs state
 
 -- C++ by the wide grammar as a language

@@ -329,7 +329,7 @@ row_of Production.LocalType = after_first (quiet ∷ []) (enters (after_part 0 l
 -- <builtin-type> ::= v | w | b | c | ..
 row_of Production.Builtin = plain (makes (of new_builtin (code [] ∷ [])) listed)
 -- <builtin-type> ::= u <source-name>
-row_of Production.Vendor = plain (makes (of new_vendor (text_at 0 ∷ [])) unlisted)
+row_of Production.Vendor = after_steps (quiet ∷ becomes_listed_name (of new_vendor (text_at 0 ∷ [])) ∷ []) (a_name unlisted)
 -- <array-type> ::= A <number> _ <element type> | A <expression> _ <element type>
 row_of Production.ArrayType = plain (handed 0)
 -- <function-type> ::= F [Y] <bare-function-type> [<ref-qualifier>] E
@@ -371,7 +371,7 @@ row_of Production.LiteralElement = plain (cell (first 0) (rest 2))
 -- <template-arg> ::= J <template-arg>* E, an item of it
 row_of Production.AnyElement = plain (cell (first 0) (rest 1))
 -- <expr-primary> ::= L <mangled-name> E
-row_of Production.EncodingLiteral = plain (makes (of new_encoding_literal (tree_at 1 ∷ [])) listed)
+row_of Production.EncodingLiteral = after_steps (quiet ∷ enters as_before ∷ []) (makes (of new_encoding_literal (tree_at 1 ∷ [])) listed)
 -- <expr-primary> ::= Lb 0 E | Lb 1 E
 row_of Production.BoolLiteral = plain (makes (of new_boolean (letter_is 0 (letter 49) ∷ [])) listed)
 -- <expr-primary> ::= L <type> <value number> E, whose type begins with D
@@ -429,6 +429,8 @@ row_of Production.MoreModule = after_steps (quiet ∷ quiet ∷ becomes (of new_
 row_of Production.FieldName = plain (makes (of new_vendor (text_at 0 ∷ [])) listed)
 -- <source-name>+
 row_of Production.BoundNames = plain (cell (first 0) (rest 1))
+-- L <source-name>
+row_of Production.InternalBound = plain (makes (of new_vendor (text_at 0 ∷ [])) listed)
 -- <unqualified-name> ::= <operator-name>, within a nested name, after a c
 row_of Production.OperatorNameWithC = after_steps (quiet ∷ becomes_name (extending (of new_operator (fixed 99 ∷ letter_at 0 ∷ []))) ∷ []) (a_name unlisted)
 -- arguments after a name from which on not all compilers count alike: those of a constructor that is inherited, after its base class, and those
@@ -553,6 +555,8 @@ row_of (Production.Operation _) = plain (own by_letters (nodes 1))
 row_of Production.ExpressionWithT = plain (handed 0)
 -- <template-param> ::= T_ | T <parameter number> _, after the T
 row_of Production.ParameterExpression = after_steps (quiet ∷ tests_operand_after_t ∷ []) (a_name unlisted)
+-- <expression> ::= u <source-name> <template-arg>* E, a vendor's expression
+row_of Production.VendorExpression = after_steps (quiet ∷ enters nameless ∷ []) (makes (of new_operation (fixed 99 ∷ fixed 108 ∷ tree_at 0 ∷ list_at 1 ∷ [])) listed)
 -- <template-param> ::= TL <level> _ _ | TL <level> _ <parameter number> _, after the T
 row_of Production.LeveledExpression = plain (handed 1)
 -- <expression> ::= <expr-primary>, whose address is taken
@@ -590,7 +594,7 @@ row_of Production.FloatLiteral = plain (makes (of new_operation (fixed 76 ∷ fi
 -- <unqualified-name> ::= <unqualified-name> <abi-tags>, perhaps with <template-args>; a name without its tags is no candidate
 row_of Production.Tag = after_steps (quiet ∷ becomes_name (tagging 0) ∷ []) in_place
 -- Q <constraint-expression>. What it says isn't in the tree; parameters in it are those of no encoding, as in a lambda's signature
-row_of Production.Constraint = throughout (enters in_a_signature) (own no_value (nodes 0))
+row_of Production.Constraint = after_steps (unread ∷ []) (own no_value (nodes 0))
 -- <type> ::= Dy <type> <expression>
 row_of Production.IndexedType = plain (makes (of new_operation (fixed 68 ∷ fixed 121 ∷ tree_at 0 ∷ tree_at 1 ∷ [])) unlisted)
 -- <builtin-type> ::= DB <number> _ | DU <number> _

@@ -6,30 +6,30 @@ use Rattle.sym_core.specs.Value.{counted_value}
 use Rattle.sym_link.specs.Reading.{Next, ◌>>=◌}
 use Rattle.cpp_grammar.specs.Term.{Term, alone, within, instance, tagged, parameter, inheriting, nil}
 use Rattle.cpp_grammar.specs.Scope.{arguments_of, is_structor}
-use Rattle.cpp_grammar.specs.Values.{State, Prefix, outermost, behind, Around, Value, nothing_there, tree, named, pair, tree_of, is_there, text_of}
+use Rattle.cpp_grammar.specs.Values.{State, Prefix, outermost, behind, shown, Around, Value, nothing_there, tree, named, pair, tree_of, is_there, text_of}
 use Rattle.cpp_grammar.specs.References.{parameter_named}
 
 -- ## What surrounds a part
 
 -- inside an encoding that begins here, in its name
 unfoldable pub in_name : ℕ → Around
-in_name place = record { scope = None; encoding = place; in_lambda = false; in_expansion = false; prefix = outermost }
+in_name place = record { scope = None; encoding = place; in_lambda = false; in_expansion = false; prefix = outermost; showing = shown }
 
 -- in the types of an encoding with this name
 unfoldable pub in_types : ℕ → Term → Around
-in_types place name = record { scope = arguments_of name; encoding = place; in_lambda = false; in_expansion = false; prefix = outermost }
+in_types place name = record { scope = arguments_of name; encoding = place; in_lambda = false; in_expansion = false; prefix = outermost; showing = shown }
 
 unfoldable pub in_signature : Around → Around
-in_signature around = record { scope = None; encoding = around.encoding; in_lambda = true; in_expansion = around.in_expansion; prefix = outermost }
+in_signature around = record { scope = None; encoding = around.encoding; in_lambda = true; in_expansion = around.in_expansion; prefix = outermost; showing = around.showing }
 
 unfoldable pub under_expansion : Around → Around
-under_expansion around = record { scope = around.scope; encoding = around.encoding; in_lambda = around.in_lambda; in_expansion = true; prefix = around.prefix }
+under_expansion around = record { scope = around.scope; encoding = around.encoding; in_lambda = around.in_lambda; in_expansion = true; prefix = around.prefix; showing = around.showing }
 
 unfoldable pub after : Term → Bool → Around → Around
-after t listed around = record { scope = around.scope; encoding = around.encoding; in_lambda = around.in_lambda; in_expansion = around.in_expansion; prefix = behind t listed }
+after t listed around = record { scope = around.scope; encoding = around.encoding; in_lambda = around.in_lambda; in_expansion = around.in_expansion; prefix = behind t listed; showing = around.showing }
 
 unfoldable pub inside : Around → Around
-inside around = record { scope = around.scope; encoding = around.encoding; in_lambda = around.in_lambda; in_expansion = around.in_expansion; prefix = outermost }
+inside around = record { scope = around.scope; encoding = around.encoding; in_lambda = around.in_lambda; in_expansion = around.in_expansion; prefix = outermost; showing = around.showing }
 
 -- the name so far with one more piece
 unfoldable pub extended : Prefix → Term → Term

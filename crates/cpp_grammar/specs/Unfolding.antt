@@ -12,7 +12,7 @@ use Rattle.sym_link.specs.Unfold.{found, unfold_tree}
 use Rattle.cpp_grammar.specs.declared.production.Production.{Production}
 use Rattle.cpp_grammar.specs.Grammar.{productions}
 use Rattle.cpp_grammar.specs.Term.{Term, absent}
-use Rattle.cpp_grammar.specs.Values.{nothing_counted, State, outermost, Around, Value, nothing_there, text, tree_of, text_of, local_number, part}
+use Rattle.cpp_grammar.specs.Values.{nothing_counted, State, outermost, shown, Around, Value, nothing_there, text, tree_of, text_of, local_number, part}
 use Rattle.cpp_grammar.specs.References.{substituted}
 use Rattle.cpp_grammar.specs.Between.{between}
 use Rattle.cpp_grammar.specs.Meant.{gained, state_after}
@@ -74,7 +74,7 @@ cpp = record {
 }
 
 unfoldable pub first_around : Around
-first_around = record { scope = None; encoding = 0; in_lambda = false; in_expansion = false; prefix = outermost }
+first_around = record { scope = None; encoding = 0; in_lambda = false; in_expansion = false; prefix = outermost; showing = shown }
 
 unfoldable pub first_state : State
 first_state = record { candidates = []; packs = None; counting = nothing_counted }

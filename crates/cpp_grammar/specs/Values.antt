@@ -62,15 +62,30 @@ unfoldable pub prefix_listed : Prefix → Bool
 prefix_listed outermost = true
 prefix_listed (behind t listed) = listed
 
+-- Nothing in a constraint is shown, and nothing in it is looked up; there an encoding may begin that a literal denotes.
+pub data Showing : Type 0 where
+  shown : Showing
+  in_constraint : Showing
+  at_literal : Showing
+
+unfoldable pub is_in_constraint : Showing → Bool
+is_in_constraint in_constraint = true
+is_in_constraint _ = false
+
+unfoldable pub is_at_literal : Showing → Bool
+is_at_literal at_literal = true
+is_at_literal _ = false
+
 -- What surrounds a part: the arguments that parameters name there, the place where the innermost encoding begins,
--- whether the part is in a lambda's signature of that encoding or in what is declared of an argument, whether it is under
--- an expansion, and the name so far.
+-- whether the part is in a lambda's signature of that encoding, in what is declared of an argument or in a constraint, whether
+-- it is under an expansion, the name so far, and whether the part is shown.
 pub record Around : Type 0 where
   pub scope : Option Term
   pub encoding : ℕ
   pub in_lambda : Bool
   pub in_expansion : Bool
   pub prefix : Prefix
+  pub showing : Showing
 
 -- what a part denotes
 pub data Value : Type 0 where

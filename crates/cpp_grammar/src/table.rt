@@ -166,215 +166,217 @@ const ARGUMENTS_ALONE: Sym = Sym::Kind(76);
 
 const NEST_REST_ALONE: Sym = Sym::Kind(77);
 
-const FIRST_MODULE: Sym = Sym::Kind(78);
+const VENDOR_ARGUMENTS: Sym = Sym::Kind(78);
 
-const NAMED_MODULE: Sym = Sym::Kind(79);
+const FIRST_MODULE: Sym = Sym::Kind(79);
 
-const MORE_MODULE: Sym = Sym::Kind(80);
+const NAMED_MODULE: Sym = Sym::Kind(80);
 
-const MAYBE_PARTITION: Sym = Sym::Kind(81);
+const MORE_MODULE: Sym = Sym::Kind(81);
 
-const NAME_AFTER_MODULE: Sym = Sym::Kind(82);
+const MAYBE_PARTITION: Sym = Sym::Kind(82);
 
-const NAME_IN_MODULE: Sym = Sym::Kind(83);
+const NAME_AFTER_MODULE: Sym = Sym::Kind(83);
 
-const NEST_ON: Sym = Sym::Kind(84);
+const NAME_IN_MODULE: Sym = Sym::Kind(84);
 
-const HOLDER_MARK: Sym = Sym::Kind(85);
+const NEST_ON: Sym = Sym::Kind(85);
 
-const HELD_COMPONENT: Sym = Sym::Kind(86);
+const HOLDER_MARK: Sym = Sym::Kind(86);
 
-const BINDING_AFTER_D: Sym = Sym::Kind(87);
+const HELD_COMPONENT: Sym = Sym::Kind(87);
 
-const BOUND_NAMES: Sym = Sym::Kind(88);
+const BINDING_AFTER_D: Sym = Sym::Kind(88);
 
-const MORE_NAMES: Sym = Sym::Kind(89);
+const BOUND_NAMES: Sym = Sym::Kind(89);
 
-const BOUND_NAME: Sym = Sym::Kind(90);
+const MORE_NAMES: Sym = Sym::Kind(90);
 
-const FLOAT_END: Sym = Sym::Kind(91);
+const BOUND_NAME: Sym = Sym::Kind(91);
 
-const COMPONENT_AFTER_C: Sym = Sym::Kind(92);
+const FLOAT_END: Sym = Sym::Kind(92);
 
-const OTHER_OPERATOR: Sym = Sym::Kind(93);
+const COMPONENT_AFTER_C: Sym = Sym::Kind(93);
 
-const HELD_ARGUMENTS: Sym = Sym::Kind(94);
+const OTHER_OPERATOR: Sym = Sym::Kind(94);
 
-const BASE_CLASS: Sym = Sym::Kind(95);
+const HELD_ARGUMENTS: Sym = Sym::Kind(95);
 
-const UNNESTED_NAME: Sym = Sym::Kind(96);
+const BASE_CLASS: Sym = Sym::Kind(96);
 
-const BASE_ARGUMENTS: Sym = Sym::Kind(97);
+const UNNESTED_NAME: Sym = Sym::Kind(97);
 
-const ARGUMENTS_FIRST: Sym = Sym::Kind(98);
+const BASE_ARGUMENTS: Sym = Sym::Kind(98);
 
-const PLAIN_ENTITY: Sym = Sym::Kind(99);
+const ARGUMENTS_FIRST: Sym = Sym::Kind(99);
 
-const PLAIN_TYPE_ENTITY: Sym = Sym::Kind(100);
+const PLAIN_ENTITY: Sym = Sym::Kind(100);
 
-const SPECIAL_MARK: Sym = Sym::Kind(101);
+const PLAIN_TYPE_ENTITY: Sym = Sym::Kind(101);
 
-const SPECIAL_AFTER_G: Sym = Sym::Kind(102);
+const SPECIAL_MARK: Sym = Sym::Kind(102);
 
-const TEMPORARY_NAME: Sym = Sym::Kind(103);
+const SPECIAL_AFTER_G: Sym = Sym::Kind(103);
 
-const CLONE_LETTER: Sym = Sym::Kind(104);
+const TEMPORARY_NAME: Sym = Sym::Kind(104);
 
-const TYPE_IN_STD: Sym = Sym::Kind(105);
+const CLONE_LETTER: Sym = Sym::Kind(105);
 
-const MAYBE_TAGS: Sym = Sym::Kind(106);
+const TYPE_IN_STD: Sym = Sym::Kind(106);
 
-const ARGUMENT: Sym = Sym::Kind(107);
+const MAYBE_TAGS: Sym = Sym::Kind(107);
 
-const ARGUMENT_AFTER_T: Sym = Sym::Kind(108);
+const ARGUMENT: Sym = Sym::Kind(108);
 
-const LEVELED_PARAMETER: Sym = Sym::Kind(109);
+const ARGUMENT_AFTER_T: Sym = Sym::Kind(109);
 
-const ONE_ARGUMENT: Sym = Sym::Kind(110);
+const LEVELED_PARAMETER: Sym = Sym::Kind(110);
 
-const DECLARATION_AFTER_T: Sym = Sym::Kind(111);
+const ONE_ARGUMENT: Sym = Sym::Kind(111);
 
-const DECLARATIONS: Sym = Sym::Kind(112);
+const DECLARATION_AFTER_T: Sym = Sym::Kind(112);
 
-const FIRST_OF_LAMBDA: Sym = Sym::Kind(113);
+const DECLARATIONS: Sym = Sym::Kind(113);
 
-const FIRST_AFTER_T: Sym = Sym::Kind(114);
+const FIRST_OF_LAMBDA: Sym = Sym::Kind(114);
 
-const CONCEPT: Sym = Sym::Kind(115);
+const FIRST_AFTER_T: Sym = Sym::Kind(115);
 
-const CONCEPT_ARGUMENTS: Sym = Sym::Kind(116);
+const CONCEPT: Sym = Sym::Kind(116);
 
-const SOLID_BUT_T: Sym = Sym::Kind(117);
+const CONCEPT_ARGUMENTS: Sym = Sym::Kind(117);
 
-const EXPRESSION: Sym = Sym::Kind(118);
+const SOLID_BUT_T: Sym = Sym::Kind(118);
 
-const EXPRESSION_PARAMETER: Sym = Sym::Kind(119);
+const EXPRESSION: Sym = Sym::Kind(119);
 
-const UNLEVELED_EXPRESSION: Sym = Sym::Kind(120);
+const EXPRESSION_PARAMETER: Sym = Sym::Kind(120);
 
-const ADDRESSED_EXPRESSION: Sym = Sym::Kind(121);
+const UNLEVELED_EXPRESSION: Sym = Sym::Kind(121);
 
-const ADDRESSED_LITERAL: Sym = Sym::Kind(122);
+const ADDRESSED_EXPRESSION: Sym = Sym::Kind(122);
 
-const EXPRESSION_AFTER_A: Sym = Sym::Kind(123);
+const ADDRESSED_LITERAL: Sym = Sym::Kind(123);
 
-const EXPRESSION_AFTER_C: Sym = Sym::Kind(124);
+const EXPRESSION_AFTER_A: Sym = Sym::Kind(124);
 
-const EXPRESSION_AFTER_D: Sym = Sym::Kind(125);
+const EXPRESSION_AFTER_C: Sym = Sym::Kind(125);
 
-const EXPRESSION_AFTER_E: Sym = Sym::Kind(126);
+const EXPRESSION_AFTER_D: Sym = Sym::Kind(126);
 
-const EXPRESSION_AFTER_F: Sym = Sym::Kind(127);
+const EXPRESSION_AFTER_E: Sym = Sym::Kind(127);
 
-const EXPRESSION_AFTER_G: Sym = Sym::Kind(128);
+const EXPRESSION_AFTER_F: Sym = Sym::Kind(128);
 
-const EXPRESSION_AFTER_I: Sym = Sym::Kind(129);
+const EXPRESSION_AFTER_G: Sym = Sym::Kind(129);
 
-const EXPRESSION_AFTER_L: Sym = Sym::Kind(130);
+const EXPRESSION_AFTER_I: Sym = Sym::Kind(130);
 
-const EXPRESSION_AFTER_M: Sym = Sym::Kind(131);
+const EXPRESSION_AFTER_L: Sym = Sym::Kind(131);
 
-const EXPRESSION_AFTER_N: Sym = Sym::Kind(132);
+const EXPRESSION_AFTER_M: Sym = Sym::Kind(132);
 
-const EXPRESSION_AFTER_O: Sym = Sym::Kind(133);
+const EXPRESSION_AFTER_N: Sym = Sym::Kind(133);
 
-const EXPRESSION_AFTER_P: Sym = Sym::Kind(134);
+const EXPRESSION_AFTER_O: Sym = Sym::Kind(134);
 
-const EXPRESSION_AFTER_Q: Sym = Sym::Kind(135);
+const EXPRESSION_AFTER_P: Sym = Sym::Kind(135);
 
-const EXPRESSION_AFTER_R: Sym = Sym::Kind(136);
+const EXPRESSION_AFTER_Q: Sym = Sym::Kind(136);
 
-const EXPRESSION_AFTER_S: Sym = Sym::Kind(137);
+const EXPRESSION_AFTER_R: Sym = Sym::Kind(137);
 
-const EXPRESSION_AFTER_T: Sym = Sym::Kind(138);
+const EXPRESSION_AFTER_S: Sym = Sym::Kind(138);
 
-const EXPRESSIONS: Sym = Sym::Kind(139);
+const EXPRESSION_AFTER_T: Sym = Sym::Kind(139);
 
-const MAYBE_BEFORE: Sym = Sym::Kind(140);
+const EXPRESSIONS: Sym = Sym::Kind(140);
 
-const FOLD_OPERATOR: Sym = Sym::Kind(141);
+const MAYBE_BEFORE: Sym = Sym::Kind(141);
 
-const FOLD_OPERATOR_AFTER_L: Sym = Sym::Kind(142);
+const FOLD_OPERATOR: Sym = Sym::Kind(142);
 
-const AFTER_OUTER: Sym = Sym::Kind(143);
+const FOLD_OPERATOR_AFTER_L: Sym = Sym::Kind(143);
 
-const FOLD_SIGNS: Sym = Sym::Kind(144);
+const AFTER_OUTER: Sym = Sym::Kind(144);
 
-const FOLD_SIGN: Sym = Sym::Kind(145);
+const FOLD_SIGNS: Sym = Sym::Kind(145);
 
-const FOLD_VALUE: Sym = Sym::Kind(146);
+const FOLD_SIGN: Sym = Sym::Kind(146);
 
-const FOLD_OPERAND: Sym = Sym::Kind(147);
+const FOLD_VALUE: Sym = Sym::Kind(147);
 
-const FOLD_PACK: Sym = Sym::Kind(148);
+const FOLD_OPERAND: Sym = Sym::Kind(148);
 
-const VALUE_PACK: Sym = Sym::Kind(149);
+const FOLD_PACK: Sym = Sym::Kind(149);
 
-const TYPE_PACK: Sym = Sym::Kind(150);
+const VALUE_PACK: Sym = Sym::Kind(150);
 
-const DESIGNATED_VALUE: Sym = Sym::Kind(151);
+const TYPE_PACK: Sym = Sym::Kind(151);
 
-const DESIGNATOR_AFTER_D: Sym = Sym::Kind(152);
+const DESIGNATED_VALUE: Sym = Sym::Kind(152);
 
-const PLAIN_VALUE: Sym = Sym::Kind(153);
+const DESIGNATOR_AFTER_D: Sym = Sym::Kind(153);
 
-const FIELD_NAME: Sym = Sym::Kind(154);
+const PLAIN_VALUE: Sym = Sym::Kind(154);
 
-const PLACEMENT: Sym = Sym::Kind(155);
+const FIELD_NAME: Sym = Sym::Kind(155);
 
-const SOME_EXPRESSIONS: Sym = Sym::Kind(156);
+const PLACEMENT: Sym = Sym::Kind(156);
 
-const INITIALIZER: Sym = Sym::Kind(157);
+const SOME_EXPRESSIONS: Sym = Sym::Kind(157);
 
-const INITIALIZER_AFTER_P: Sym = Sym::Kind(158);
+const INITIALIZER: Sym = Sym::Kind(158);
 
-const INITIALIZER_AFTER_I: Sym = Sym::Kind(159);
+const INITIALIZER_AFTER_P: Sym = Sym::Kind(159);
 
-const OUTER_REST: Sym = Sym::Kind(160);
+const INITIALIZER_AFTER_I: Sym = Sym::Kind(160);
 
-const PARAMETER_NUMBER: Sym = Sym::Kind(161);
+const OUTER_REST: Sym = Sym::Kind(161);
 
-const CONVERTED_TYPE: Sym = Sym::Kind(162);
+const PARAMETER_NUMBER: Sym = Sym::Kind(162);
 
-const CONVERTED_SOLID: Sym = Sym::Kind(163);
+const CONVERTED_TYPE: Sym = Sym::Kind(163);
 
-const PARAMETER_AFTER_T: Sym = Sym::Kind(164);
+const CONVERTED_SOLID: Sym = Sym::Kind(164);
 
-const DECLTYPE_AFTER_D: Sym = Sym::Kind(165);
+const PARAMETER_AFTER_T: Sym = Sym::Kind(165);
 
-const CONVERTED_AFTER_D: Sym = Sym::Kind(166);
+const DECLTYPE_AFTER_D: Sym = Sym::Kind(166);
 
-const CONVERT_REST: Sym = Sym::Kind(167);
+const CONVERTED_AFTER_D: Sym = Sym::Kind(167);
 
-const UNRESOLVED: Sym = Sym::Kind(168);
+const CONVERT_REST: Sym = Sym::Kind(168);
 
-const UNRESOLVED_TYPE: Sym = Sym::Kind(169);
+const UNRESOLVED: Sym = Sym::Kind(169);
 
-const DESTRUCTOR_NAME: Sym = Sym::Kind(170);
+const UNRESOLVED_TYPE: Sym = Sym::Kind(170);
 
-const REQUIREMENTS: Sym = Sym::Kind(171);
+const DESTRUCTOR_NAME: Sym = Sym::Kind(171);
 
-const MAYBE_NOEXCEPT: Sym = Sym::Kind(172);
+const REQUIREMENTS: Sym = Sym::Kind(172);
 
-const AFTER_NOEXCEPT: Sym = Sym::Kind(173);
+const MAYBE_NOEXCEPT: Sym = Sym::Kind(173);
 
-const REQUIRED_TYPES: Sym = Sym::Kind(174);
+const AFTER_NOEXCEPT: Sym = Sym::Kind(174);
 
-const LEVEL: Sym = Sym::Kind(175);
+const REQUIRED_TYPES: Sym = Sym::Kind(175);
 
-const MORE_LEVELS: Sym = Sym::Kind(176);
+const LEVEL: Sym = Sym::Kind(176);
 
-const UNRESOLVED_NAME: Sym = Sym::Kind(177);
+const MORE_LEVELS: Sym = Sym::Kind(177);
 
-const OPERATOR_NAME: Sym = Sym::Kind(178);
+const UNRESOLVED_NAME: Sym = Sym::Kind(178);
 
-const ANY_ARRAY: Sym = Sym::Kind(179);
+const OPERATOR_NAME: Sym = Sym::Kind(179);
 
-const ARRAY_REST: Sym = Sym::Kind(180);
+const ANY_ARRAY: Sym = Sym::Kind(180);
 
-const BOUND: Sym = Sym::Kind(181);
+const ARRAY_REST: Sym = Sym::Kind(181);
 
-const NEST_MORE_OR_END: Sym = Sym::Kind(182);
+const BOUND: Sym = Sym::Kind(182);
+
+const NEST_MORE_OR_END: Sym = Sym::Kind(183);
 
 const NAME: Sym = Sym::Name;
 
@@ -387,7 +389,7 @@ const DIGITS: Sym = Sym::Number(NumberKind::Digits);
 // The letter of a production is the byte with its number. The production with the number of the blank has none here.
 
 // For each kind a row: for each byte from `$` to `z` the letter of the production that the kind takes there.
-static LETTERS: [[u8; 87]; 183] = [
+static LETTERS: [[u8; 87]; 184] = [
     // $%&'()*+,-./0123456789:;<=>?@ABCDEFGHIJKLMNOPQRSTUVWXYZ[\]^_`abcdefghijklmnopqrstuvwxyz
     *b"                                                           -                           ", // Symbol
     *b"          .                                                                            ", // MaybeSuffix
@@ -467,6 +469,7 @@ static LETTERS: [[u8; 87]; 183] = [
     *b"            IIIIIIIIII         II    \x9c  I        I           I III I I  IIIII II       ", // NestRestOrEnd
     *b"                                     \x7f                                                 ", // ArgumentsAlone
     *b"            IIIIIIIIII         II    H  I        I           I III I I  IIIII II       ", // NestRestAlone
+    *b"                                                                                       ", // VendorArguments
     *b"            \x9d\x9d\x9d\x9d\x9d\x9d\x9d\x9d\x9d\x9d                                                                 ", // FirstModule
     *b"            \x9e\x9e\x9e\x9e\x9e\x9e\x9e\x9e\x9e\x9e       \x9e\x9e\x9e\x9e\x9e\x9e\x9e\x9e\x9e\x9e\x9e\x9e\x9e\x9e\x9e\x9e\x9e\x9e\x9e\x9e\x9e\x9e\x9e\x9e\x9e\x9e    \x9e                           ", // NamedModule
     *b"                                                   \x9f                                   ", // MoreModule
@@ -479,98 +482,98 @@ static LETTERS: [[u8; 87]; 183] = [
     *b"                               P                                                       ", // BindingAfterD
     *b"            \xa1\xa1\xa1\xa1\xa1\xa1\xa1\xa1\xa1\xa1                  \xa1                                              ", // BoundNames
     *b"            \xa1\xa1\xa1\xa1\xa1\xa1\xa1\xa1\xa1\xa1                  \xa1                                              ", // MoreNames
-    *b"            \xa0\xa0\xa0\xa0\xa0\xa0\xa0\xa0\xa0\xa0                  p                                              ", // BoundName
+    *b"            \xa0\xa0\xa0\xa0\xa0\xa0\xa0\xa0\xa0\xa0                  \xa2                                              ", // BoundName
     *b"                                                           !  !                     !  ", // FloatEnd
-    *b"                                                                        \xa2\xa2 \xa2           ", // ComponentAfterC
+    *b"                                                                        \xa3\xa3 \xa3           ", // ComponentAfterC
     *b"                                                             \x90  \x8f\x96 \x9a \x99  \x97\x93\x8e\x95\x91 \x94\x98       ", // OtherOperator
-    *b"                                     \xa3                                                 ", // HeldArguments
-    *b"            \xa5\xa5\xa5\xa5\xa5\xa5\xa5\xa5\xa5\xa5                    \xa4    \xa5      n                                ", // BaseClass
-    *b"            \xa7\xa7\xa7\xa7\xa7\xa7\xa7\xa7\xa7\xa7                         \xa6                                       ", // UnnestedName
-    *b"                                     \xa8                                                 ", // BaseArguments
+    *b"                                     \xa4                                                 ", // HeldArguments
+    *b"            \xa6\xa6\xa6\xa6\xa6\xa6\xa6\xa6\xa6\xa6                    \xa5    \xa6      n                                ", // BaseClass
+    *b"            \xa8\xa8\xa8\xa8\xa8\xa8\xa8\xa8\xa8\xa8                         \xa7                                       ", // UnnestedName
+    *b"                                     \xa9                                                 ", // BaseArguments
     *b"            \x82\x82\x82\x82\x82\x82\x82\x82\x82\x82       \x82 \x82\x82 \x82   \x80\x82\x81\x82\x82\x82\x82 \x82\x82\x82\x82\x82 \x82 \x82      \x82\x82\x82\x82\x82\x82\x82\x82\x82\x82 \x82\x82\x82\x82  \x82\x82\x82\x82\x82\x82\x82\x82\x82", // ArgumentsFirst
     *b"            $$$$$$$$$$                  \" ,      #                                     ", // PlainEntity
     *b"            $$$$$$$$$$                  \" S      #                                     ", // PlainTypeEntity
     *b"                                   !                                                   ", // SpecialMark
     *b"                                                  7                                    ", // SpecialAfterG
-    *b"            $$$$$$$$$$          &       \" ,    < #    \xa9                                ", // TemporaryName
+    *b"            $$$$$$$$$$          &       \" ,    < #    \xaa                                ", // TemporaryName
     *b"                                                                          !     !      ", // CloneLetter
-    *b"                                                                                \xaa      ", // TypeInStd
+    *b"                                                                                \xab      ", // TypeInStd
     *b"                                                                                       ", // MaybeTags
-    *b"            \xad\xad\xad\xad\xad\xad\xad\xad\xad\xad       \xad \xadb \xad    \\ \xad\xad]\xad ]\xad\xac\xad[ \xab \xad      \xad\xad\xad\xad\xad\xad\xad\xad\xad\xad \xad\xad\xad\xad  Z\xad\xad\xad\xad\xad\xad\xad\xad", // Argument
-    *b"            \xae\xae\xae\xae\xae\xae\xae\xae\xae\xae                                     \xae                           ", // ArgumentAfterT
-    *b"            \xae\xae\xae\xae\xae\xae\xae\xae\xae\xae                                     \xae                           ", // LeveledParameter
-    *b"            \xad\xad\xad\xad\xad\xad\xad\xad\xad\xad       \xad \xadb \xad   \xb1\\\xb0\xad\xad]\xad ]\xad\xac\xad[ \xab \xad      \xad\xad\xad\xad\xad\xad\xad\xad\xad\xad \xad\xad\xad\xad  Z\xad\xad\xad\xad\xad\xad\xad\xad", // OneArgument
-    *b"                                                                       \xb4  \xb3 \xb6   \xb5    \xb2 ", // DeclarationAfterT
-    *b"                                                \xb7                                      ", // Declarations
-    *b"            \xad\xad\xad\xad\xad\xad\xad\xad\xad\xad       \xad \xadb \xad    \\ \xad\xad]\xad ]\xad\xb8\xad[   \xad      \xad\xad\xad\xad\xad\xad\xad\xad\xad\xad \xad\xad\xad\xad  Z\xad\xad\xad\xad\xad\xad\xad\xad", // FirstOfLambda
-    *b"            \xb9\xb9\xb9\xb9\xb9\xb9\xb9\xb9\xb9\xb9                                     \xb9                           ", // FirstAfterT
-    *b"            \xbb\xbb\xbb\xbb\xbb\xbb\xbb\xbb\xbb\xbb                    \xba    \xbb                                       ", // Concept
-    *b"                                     \xbc                                                 ", // ConceptArguments
+    *b"            \xae\xae\xae\xae\xae\xae\xae\xae\xae\xae       \xae \xaeb \xae    \\ \xae\xae]\xae ]\xae\xad\xae[ \xac \xae      \xae\xae\xae\xae\xae\xae\xae\xae\xae\xae \xae\xae\xae\xae  Z\xae\xae\xae\xae\xae\xae\xae\xae", // Argument
+    *b"            \xaf\xaf\xaf\xaf\xaf\xaf\xaf\xaf\xaf\xaf                                     \xaf                           ", // ArgumentAfterT
+    *b"            \xaf\xaf\xaf\xaf\xaf\xaf\xaf\xaf\xaf\xaf                                     \xaf                           ", // LeveledParameter
+    *b"            \xae\xae\xae\xae\xae\xae\xae\xae\xae\xae       \xae \xaeb \xae   \xb2\\\xb1\xae\xae]\xae ]\xae\xad\xae[ \xac \xae      \xae\xae\xae\xae\xae\xae\xae\xae\xae\xae \xae\xae\xae\xae  Z\xae\xae\xae\xae\xae\xae\xae\xae", // OneArgument
+    *b"                                                                       \xb5  \xb4 \xb7   \xb6    \xb3 ", // DeclarationAfterT
+    *b"                                                \xb8                                      ", // Declarations
+    *b"            \xae\xae\xae\xae\xae\xae\xae\xae\xae\xae       \xae \xaeb \xae    \\ \xae\xae]\xae ]\xae\xb9\xae[   \xae      \xae\xae\xae\xae\xae\xae\xae\xae\xae\xae \xae\xae\xae\xae  Z\xae\xae\xae\xae\xae\xae\xae\xae", // FirstOfLambda
+    *b"            \xba\xba\xba\xba\xba\xba\xba\xba\xba\xba                                     \xba                           ", // FirstAfterT
+    *b"            \xbc\xbc\xbc\xbc\xbc\xbc\xbc\xbc\xbc\xbc                    \xbb    \xbc                                       ", // Concept
+    *b"                                     \xbd                                                 ", // ConceptArguments
     *b"            $$$$$$$$$$       q s  r      kS j  m #    n      oooooooooo oooo   oopooooo", // SolidButT
-    *b"                                                             \xda                         ", // Expression
-    *b"            \xeb\xeb\xeb\xeb\xeb\xeb\xeb\xeb\xeb\xeb                  \xec                  \xeb                           ", // ExpressionParameter
-    *b"            \xeb\xeb\xeb\xeb\xeb\xeb\xeb\xeb\xeb\xeb                                     \xeb                           ", // UnleveledExpression
-    *b"                                        \xed                                              ", // AddressedExpression
+    *b"                                                             \xdb                         ", // Expression
+    *b"            \xec\xec\xec\xec\xec\xec\xec\xec\xec\xec                  \xee                  \xec                           ", // ExpressionParameter
+    *b"            \xec\xec\xec\xec\xec\xec\xec\xec\xec\xec                                     \xec                           ", // UnleveledExpression
+    *b"                                        \xef                                              ", // AddressedExpression
     *b"                                                           \x85                           ", // AddressedLiteral
-    *b"                                                                \xc1                      ", // ExpressionAfterA
-    *b"                                                               \xbd        \xc5\xc2 \xc3\xc5     \xc6    ", // ExpressionAfterC
-    *b"                                                  \xc2          \xc3 \xbd \xc3   \xc7  \xc3 \xc9    \xc2\xc2 \xc2 \xc8  ", // ExpressionAfterD
-    *b"                                           \xc2                               \xc2 \xc2         ", // ExpressionAfterE
-    *b"                                        \xca     \xcb                         \xcc   \xc0 \xcd        ", // ExpressionAfterF
-    *b"                                                                 \xc2             \xc3\xc2      ", // ExpressionAfterG
-    *b"                                                                        \xce           \xc2  ", // ExpressionAfterI
-    *b"                                               \xc2                 \xc2             \xc2\xc2      ", // ExpressionAfterL
-    *b"                                     \xc2  \xc2                            \xc2  \xc2\xcf             ", // ExpressionAfterM
-    *b"                                                             \xd0   \xc2 \xc3            \xc3  \xd0\xc3  ", // ExpressionAfterN
-    *b"                                              \xc2                           \xbe\xc2  \xc2        ", // ExpressionAfterO
-    *b"                                        \xc2                               \xc2\xc2  \xcf  \xc3\xc2      ", // ExpressionAfterP
-    *b"                                                                                 \xd1     ", // ExpressionAfterQ
-    *b"                                         \xc2   \xd3 \xc2               \xbd         \xc2   \xd2 \xc2       ", // ExpressionAfterR
-    *b"                                                      \xd5        \xbd            \xd4 \xd6\xc2\xc4    \xd7\xc3", // ExpressionAfterS
-    *b"                                                                 \xc3   \xc4  \xd8     \xd9    \xc3   ", // ExpressionAfterT
-    *b"                                                             \xee                         ", // Expressions
+    *b"                                                                \xc2                      ", // ExpressionAfterA
+    *b"                                                               \xbe        \xc6\xc3 \xc4\xc6     \xc7    ", // ExpressionAfterC
+    *b"                                                  \xc3          \xc4 \xbe \xc4   \xc8  \xc4 \xca    \xc3\xc3 \xc3 \xc9  ", // ExpressionAfterD
+    *b"                                           \xc3                               \xc3 \xc3         ", // ExpressionAfterE
+    *b"                                        \xcb     \xcc                         \xcd   \xc1 \xce        ", // ExpressionAfterF
+    *b"                                                                 \xc3             \xc4\xc3      ", // ExpressionAfterG
+    *b"                                                                        \xcf           \xc3  ", // ExpressionAfterI
+    *b"                                               \xc3                 \xc3             \xc3\xc3      ", // ExpressionAfterL
+    *b"                                     \xc3  \xc3                            \xc3  \xc3\xd0             ", // ExpressionAfterM
+    *b"                                                             \xd1   \xc3 \xc4            \xc4  \xd1\xc4  ", // ExpressionAfterN
+    *b"                                              \xc3                           \xbf\xc3  \xc3        ", // ExpressionAfterO
+    *b"                                        \xc3                               \xc3\xc3  \xd0  \xc4\xc3      ", // ExpressionAfterP
+    *b"                                                                                 \xd2     ", // ExpressionAfterQ
+    *b"                                         \xc3   \xd4 \xc3               \xbe         \xc3   \xd3 \xc3       ", // ExpressionAfterR
+    *b"                                                      \xd6        \xbe            \xd5 \xd7\xc3\xc5    \xd8\xc4", // ExpressionAfterS
+    *b"                                                                 \xc4   \xc5  \xd9     \xda    \xc4   ", // ExpressionAfterT
+    *b"                                                             \xf0                         ", // Expressions
     *b"                                                           !                           ", // MaybeBefore
-    *b"                                                             \x90 \x92\x8f\x96 \x9a \x99  \xef\x93\x8e\x95\x91 \x94\x98       ", // FoldOperator
+    *b"                                                             \x90 \x92\x8f\x96 \x9a \x99  \xf1\x93\x8e\x95\x91 \x94\x98       ", // FoldOperator
     *b"                                               !                 !             !!      ", // FoldOperatorAfterL
-    *b"            \xf0\xf0\xf0\xf0\xf0\xf0\xf0\xf0\xf0\xf0                                       \x00 \x00\x00\x00 \x00 \x00  \x00\x00\x00\x00\x00 \x00\x00       ", // AfterOuter
+    *b"            \xf2\xf2\xf2\xf2\xf2\xf2\xf2\xf2\xf2\xf2                                       \x00 \x00\x00\x00 \x00 \x00  \x00\x00\x00\x00\x00 \x00\x00       ", // AfterOuter
     *b"                                                             \x01 \x01\x01\x01 \x01 \x01  \x01\x01\x01\x01\x01 \x01\x01       ", // FoldSigns
     *b"                                                             \x02 \x02\x02\x02 \x02 \x02  \x02\x02\x02\x02\x02 \x02\x02       ", // FoldSign
     *b"                                                             \x03                         ", // FoldValue
     *b"                                                             \x04                         ", // FoldOperand
     *b"                                                             \x05                         ", // FoldPack
-    *b"                                      \xb1                      \x05                         ", // ValuePack
-    *b"            \x06\x06\x06\x06\x06\x06\x06\x06\x06\x06       \x06 \x06\x06 \x06   \xb1\x06 \x06\x06\x06\x06 \x06\x06\x06\x06\x06   \x06      \x06\x06\x06\x06\x06\x06\x06\x06\x06\x06 \x06\x06\x06\x06  \x06\x06\x06\x06\x06\x06\x06\x06\x06", // TypePack
-    *b"            \x08\x08\x08\x08\x08\x08\x08\x08\x08\x08                  \x08       \x08            \x08 \x08\x07\x08\x08\x08 \x08  \x08\x08\x08\x08\x08\x08\x08\x08\x08      ", // DesignatedValue
-    *b"                                                                     \xc7              \xc8  ", // DesignatorAfterD
-    *b"            \xbf\xbf\xbf\xbf\xbf\xbf\xbf\xbf\xbf\xbf                  \xb0       \xea            \xda \xdb \xdd\xde\xdf \xe0  \xe1\xe2\xe3\xe4\xe5\xe6\xe7\xe8\xe9      ", // PlainValue
+    *b"                                      \xb2                      \x05                         ", // ValuePack
+    *b"            \x06\x06\x06\x06\x06\x06\x06\x06\x06\x06       \x06 \x06\x06 \x06   \xb2\x06 \x06\x06\x06\x06 \x06\x06\x06\x06\x06   \x06      \x06\x06\x06\x06\x06\x06\x06\x06\x06\x06 \x06\x06\x06\x06  \x06\x06\x06\x06\x06\x06\x06\x06\x06", // TypePack
+    *b"            \x08\x08\x08\x08\x08\x08\x08\x08\x08\x08                  \x08       \x08            \x08 \x08\x07\x08\x08\x08 \x08  \x08\x08\x08\x08\x08\x08\x08\x08\x08\x08     ", // DesignatedValue
+    *b"                                                                     \xc8              \xc9  ", // DesignatorAfterD
+    *b"            \xc0\xc0\xc0\xc0\xc0\xc0\xc0\xc0\xc0\xc0                  \xb1       \xeb            \xdb \xdc \xde\xdf\xe0 \xe1  \xe2\xe3\xe4\xe5\xe6\xe7\xe8\xe9\xea\xed     ", // PlainValue
     *b"            \xa0\xa0\xa0\xa0\xa0\xa0\xa0\xa0\xa0\xa0                                                                 ", // FieldName
     *b"                                                           ! \x09                         ", // Placement
-    *b"                                                             \xee                         ", // SomeExpressions
+    *b"                                                             \xf0                         ", // SomeExpressions
     *b"                                 {                                   \x0b      \x0a          ", // Initializer
-    *b"                                                                     \xce                 ", // InitializerAfterP
-    *b"                                                                        \xce              ", // InitializerAfterI
-    *b"                                                                            \xc0          ", // OuterRest
+    *b"                                                                     \xcf                 ", // InitializerAfterP
+    *b"                                                                        \xcf              ", // InitializerAfterI
+    *b"                                                                            \xc1          ", // OuterRest
     *b"            \x0d\x0d\x0d\x0d\x0d\x0d\x0d\x0d\x0d\x0d                          \x0c          \x0d                           ", // ParameterNumber
     *b"            \x12\x12\x12\x12\x12\x12\x12\x12\x12\x12          \x0e \x12    \x0f  \x12\x11\x10 \x11\x12\x12\x12           \x12\x12\x12\x12\x12\x12\x12\x12\x12\x12 \x12\x12\x12\x12   \x12\x12 \x12\x12\x12\x12\x12", // ConvertedType
     *b"            $$$$$$$$$$            r       S    m\x13#           oooooooooo oooo   oo ooooo", // ConvertedSolid
-    *b"            \xae\xae\xae\xae\xae\xae\xae\xae\xae\xae                  \xaf                  \xae                           ", // ParameterAfterT
+    *b"            \xaf\xaf\xaf\xaf\xaf\xaf\xaf\xaf\xaf\xaf                  \xb0                  \xaf                           ", // ParameterAfterT
     *b"                                                i                               i      ", // DecltypeAfterD
     *b"                                                i            e e                i      ", // ConvertedAfterD
-    *b"            \xbf\xbf\xbf\xbf\xbf\xbf\xbf\xbf\xbf\xbf                  \xb0       \xea          \xce \xda \xdb\xdc\xdd\xde\xdf \xe0  \xe1\xe2\xe3\xe4\xe5\xe6\xe7\xe8\xe9      ", // ConvertRest
+    *b"            \xc0\xc0\xc0\xc0\xc0\xc0\xc0\xc0\xc0\xc0                  \xb1       \xeb          \xcf \xdb \xdc\xdd\xde\xdf\xe0 \xe1  \xe2\xe3\xe4\xe5\xe6\xe7\xe8\xe9\xea\xed     ", // ConvertRest
     *b"            \x15\x15\x15\x15\x15\x15\x15\x15\x15\x15          \x14         \x14    \x14\x14                                      ", // Unresolved
     *b"                                \x0e         S    m\x13                                      ", // UnresolvedType
-    *b"            \xbf\xbf\xbf\xbf\xbf\xbf\xbf\xbf\xbf\xbf          \x16         \x16    \x16\x16                                      ", // DestructorName
+    *b"            \xc0\xc0\xc0\xc0\xc0\xc0\xc0\xc0\xc0\xc0          \x16         \x16    \x16\x16                                      ", // DestructorName
     *b"                                             \x19  \x18   \x17                                  ", // Requirements
     *b"                                          !                                            ", // MaybeNoexcept
     *b"                                             \x19\x1a \x18   \x17                                  ", // AfterNoexcept
-    *b"            \x1b\x1b\x1b\x1b\x1b\x1b\x1b\x1b\x1b\x1b          \x1b \x1b    \x1b  \x1b\x1b\x1b \x1b\x1b\x1b\x1b         \xd2 \x1b\x1b\x1b\x1b\x1b\x1b\x1b\x1b\x1b\x1b \x1b\x1b\x1b\x1b   \x1b\x1b \x1b\x1b\x1b\x1b\x1b", // RequiredTypes
-    *b"            \xbf\xbf\xbf\xbf\xbf\xbf\xbf\xbf\xbf\xbf                                                                 ", // Level
+    *b"            \x1b\x1b\x1b\x1b\x1b\x1b\x1b\x1b\x1b\x1b          \x1b \x1b    \x1b  \x1b\x1b\x1b \x1b\x1b\x1b\x1b         \xd3 \x1b\x1b\x1b\x1b\x1b\x1b\x1b\x1b\x1b\x1b \x1b\x1b\x1b\x1b   \x1b\x1b \x1b\x1b\x1b\x1b\x1b", // RequiredTypes
+    *b"            \xc0\xc0\xc0\xc0\xc0\xc0\xc0\xc0\xc0\xc0                                                                 ", // Level
     *b"            \x15\x15\x15\x15\x15\x15\x15\x15\x15\x15           \x1c                                                     ", // MoreLevels
-    *b"            \xbf\xbf\xbf\xbf\xbf\xbf\xbf\xbf\xbf\xbf                                                     \x1d           ", // UnresolvedName
-    *b"                                                                          \xbe            ", // OperatorName
+    *b"            \xc0\xc0\xc0\xc0\xc0\xc0\xc0\xc0\xc0\xc0                                                     \x1d           ", // UnresolvedName
+    *b"                                                                          \xbf            ", // OperatorName
     *b"                             \x1e                                                         ", // AnyArray
     *b"            \x1f\x1f\x1f\x1f\x1f\x1f\x1f\x1f\x1f\x1f                                     \x1f                           ", // ArrayRest
-    *b"                                        \xb0       \xea            \xda \xdb\xdc\xdd\xde\xdf \xe0  \xe1\xe2\xe3\xe4\xe5\xe6\xe7\xe8\xe9      ", // Bound
+    *b"                                        \xb1       \xeb            \xdb \xdc\xdd\xde\xdf\xe0 \xe1  \xe2\xe3\xe4\xe5\xe6\xe7\xe8\xe9\xea\xed     ", // Bound
     *b"            IIIIIIIIII         II       I        I           I III I I  IIIII II       ", // NestMoreOrEnd
 ];
 
@@ -601,7 +604,7 @@ macro_rules! chains {
 }
 
 // The rules of the productions, in the order of their numbers.
-pub static HEADS: [Head; 268] = [
+pub static HEADS: [Head; 270] = [
     chains!(3), // 0 LeftFoldFrom
     chains!(1), // 1 FoldSigns
     chains!(1), // 2 FoldSign
@@ -714,7 +717,7 @@ pub static HEADS: [Head; 268] = [
     takes!(2), // 109 TypeWithS
     takes!(4), // 110 LocalType
     takes!(0), // 111 Builtin
-    takes!(1), // 112 Vendor
+    takes!(2), // 112 Vendor
     chains!(1), // 113 ArrayType
     takes!(3), // 114 Function
     takes!(1), // 115 Complex
@@ -764,116 +767,118 @@ pub static HEADS: [Head; 268] = [
     takes!(3), // 159 MoreModule
     chains!(1), // 160 FieldName
     chains!(2), // 161 BoundNames
-    chains!(2), // 162 OperatorNameWithC
-    takes!(2), // 163 HeldArguments
-    takes!(2), // 164 NestedBase
-    chains!(2), // 165 UnnestedBase
-    takes!(1), // 166 UnnestedWithS
-    chains!(2), // 167 TaggedSource
-    takes!(3), // 168 BaseArguments
-    takes!(3), // 169 LocalTemporary
-    takes!(2), // 170 TaggedStdType
-    takes!(2), // 171 Expression
-    takes!(1), // 172 ArgumentWithT
-    chains!(1), // 173 PlainArgument
-    chains!(2), // 174 ParameterArgument
-    takes!(2), // 175 LeveledParameter
-    takes!(2), // 176 OneLiteral
-    takes!(2), // 177 OnePack
-    takes!(0), // 178 TypeOf
-    takes!(1), // 179 ValueOf
-    takes!(1), // 180 OfConcept
-    takes!(2), // 181 TemplateOf
-    takes!(2), // 182 PackOf
-    takes!(2), // 183 Declarations
-    takes!(1), // 184 FirstWithT
-    chains!(1), // 185 FirstParameter
-    takes!(2), // 186 NestedConcept
-    chains!(2), // 187 NamedConcept
-    takes!(2), // 188 ConceptArguments
-    takes!(2), // 189 Cast
-    takes!(2), // 190 OperatorReference
-    chains!(2), // 191 SimpleId
-    takes!(4), // 192 FunctionParameter
-    takes!(1), // 193 AddressExpression
-    takes!(2), // 194 Binary
-    takes!(1), // 195 Unary
-    takes!(1), // 196 OfType
-    takes!(3), // 197 Call
-    takes!(2), // 198 Convert
-    takes!(2), // 199 Designated
-    takes!(2), // 200 DesignatedElement
-    takes!(1), // 201 DestructorName
-    takes!(1), // 202 AfterOuter
-    takes!(3), // 203 RightFoldFrom
-    takes!(2), // 204 LeftFold
-    takes!(2), // 205 RightFold
-    takes!(2), // 206 Braces
-    takes!(2), // 207 Step
-    takes!(3), // 208 New
-    takes!(3), // 209 Conditional
-    takes!(2), // 210 Requires
-    takes!(1), // 211 RequiresOf
-    takes!(1), // 212 ExpandExpression
-    takes!(1), // 213 PackSize
-    takes!(1), // 214 Unresolved
-    takes!(2), // 215 PackIndex
-    takes!(3), // 216 TypedBraces
-    takes!(0), // 217 Rethrow
-    takes!(1), // 218 ExpressionA
-    takes!(1), // 219 ExpressionC
-    takes!(1), // 220 ExpressionD
-    takes!(1), // 221 ExpressionE
-    takes!(1), // 222 ExpressionF
-    takes!(1), // 223 ExpressionG
-    takes!(1), // 224 ExpressionI
-    takes!(1), // 225 ExpressionL
-    takes!(1), // 226 ExpressionM
-    takes!(1), // 227 ExpressionN
-    takes!(1), // 228 ExpressionO
-    takes!(1), // 229 ExpressionP
-    takes!(1), // 230 ExpressionQ
-    takes!(1), // 231 ExpressionR
-    takes!(1), // 232 ExpressionS
-    takes!(1), // 233 ExpressionT
-    takes!(1), // 234 ExpressionWithT
-    chains!(2), // 235 ParameterExpression
-    takes!(2), // 236 LeveledExpression
-    takes!(2), // 237 AddressedLiteral
-    chains!(2), // 238 Expressions
-    takes!(1), // 239 FoldOperatorL
-    chains!(2), // 240 OuterParameter
-    chains!(3), // 241 BoundedArray
-    chains!(2), // 242 DeclaredFirst
-    chains!(2), // 243 DeclaredArgument
-    takes!(2), // 244 TypeTag
-    takes!(2), // 245 Clone
-    takes!(2), // 246 ModuleInitializer
-    takes!(2), // 247 Temporary
-    takes!(1), // 248 Conversion
-    takes!(1), // 249 ConstLiteral
-    takes!(2), // 250 VolatileLiteral
-    chains!(2), // 251 SizedFloatLiteral
-    chains!(2), // 252 FloatLiteral
-    takes!(2), // 253 Tag
-    takes!(1), // 254 Constraint
-    takes!(2), // 255 IndexedType
-    takes!(2), // 256 BitInt
-    takes!(1), // 257 ConstrainedAuto
-    takes!(2), // 258 Enumeration
-    takes!(2), // 259 DefaultTypeEntity
-    takes!(2), // 260 DefaultEntity
-    takes!(2), // 261 Inheriting
-    takes!(2), // 262 Friend
-    chains!(2), // 263 Holder
-    takes!(2), // 264 NestTag
-    takes!(2), // 265 NestDecltype
-    chains!(2), // 266 NestModule
-    takes!(4), // 267 ConstructionVtable
+    takes!(1), // 162 InternalBound
+    chains!(2), // 163 OperatorNameWithC
+    takes!(2), // 164 HeldArguments
+    takes!(2), // 165 NestedBase
+    chains!(2), // 166 UnnestedBase
+    takes!(1), // 167 UnnestedWithS
+    chains!(2), // 168 TaggedSource
+    takes!(3), // 169 BaseArguments
+    takes!(3), // 170 LocalTemporary
+    takes!(2), // 171 TaggedStdType
+    takes!(2), // 172 Expression
+    takes!(1), // 173 ArgumentWithT
+    chains!(1), // 174 PlainArgument
+    chains!(2), // 175 ParameterArgument
+    takes!(2), // 176 LeveledParameter
+    takes!(2), // 177 OneLiteral
+    takes!(2), // 178 OnePack
+    takes!(0), // 179 TypeOf
+    takes!(1), // 180 ValueOf
+    takes!(1), // 181 OfConcept
+    takes!(2), // 182 TemplateOf
+    takes!(2), // 183 PackOf
+    takes!(2), // 184 Declarations
+    takes!(1), // 185 FirstWithT
+    chains!(1), // 186 FirstParameter
+    takes!(2), // 187 NestedConcept
+    chains!(2), // 188 NamedConcept
+    takes!(2), // 189 ConceptArguments
+    takes!(2), // 190 Cast
+    takes!(2), // 191 OperatorReference
+    chains!(2), // 192 SimpleId
+    takes!(4), // 193 FunctionParameter
+    takes!(1), // 194 AddressExpression
+    takes!(2), // 195 Binary
+    takes!(1), // 196 Unary
+    takes!(1), // 197 OfType
+    takes!(3), // 198 Call
+    takes!(2), // 199 Convert
+    takes!(2), // 200 Designated
+    takes!(2), // 201 DesignatedElement
+    takes!(1), // 202 DestructorName
+    takes!(1), // 203 AfterOuter
+    takes!(3), // 204 RightFoldFrom
+    takes!(2), // 205 LeftFold
+    takes!(2), // 206 RightFold
+    takes!(2), // 207 Braces
+    takes!(2), // 208 Step
+    takes!(3), // 209 New
+    takes!(3), // 210 Conditional
+    takes!(2), // 211 Requires
+    takes!(1), // 212 RequiresOf
+    takes!(1), // 213 ExpandExpression
+    takes!(1), // 214 PackSize
+    takes!(1), // 215 Unresolved
+    takes!(2), // 216 PackIndex
+    takes!(3), // 217 TypedBraces
+    takes!(0), // 218 Rethrow
+    takes!(1), // 219 ExpressionA
+    takes!(1), // 220 ExpressionC
+    takes!(1), // 221 ExpressionD
+    takes!(1), // 222 ExpressionE
+    takes!(1), // 223 ExpressionF
+    takes!(1), // 224 ExpressionG
+    takes!(1), // 225 ExpressionI
+    takes!(1), // 226 ExpressionL
+    takes!(1), // 227 ExpressionM
+    takes!(1), // 228 ExpressionN
+    takes!(1), // 229 ExpressionO
+    takes!(1), // 230 ExpressionP
+    takes!(1), // 231 ExpressionQ
+    takes!(1), // 232 ExpressionR
+    takes!(1), // 233 ExpressionS
+    takes!(1), // 234 ExpressionT
+    takes!(1), // 235 ExpressionWithT
+    chains!(2), // 236 ParameterExpression
+    takes!(3), // 237 VendorExpression
+    takes!(2), // 238 LeveledExpression
+    takes!(2), // 239 AddressedLiteral
+    chains!(2), // 240 Expressions
+    takes!(1), // 241 FoldOperatorL
+    chains!(2), // 242 OuterParameter
+    chains!(3), // 243 BoundedArray
+    chains!(2), // 244 DeclaredFirst
+    chains!(2), // 245 DeclaredArgument
+    takes!(2), // 246 TypeTag
+    takes!(2), // 247 Clone
+    takes!(2), // 248 ModuleInitializer
+    takes!(2), // 249 Temporary
+    takes!(1), // 250 Conversion
+    takes!(1), // 251 ConstLiteral
+    takes!(2), // 252 VolatileLiteral
+    chains!(2), // 253 SizedFloatLiteral
+    chains!(2), // 254 FloatLiteral
+    takes!(2), // 255 Tag
+    takes!(1), // 256 Constraint
+    takes!(2), // 257 IndexedType
+    takes!(2), // 258 BitInt
+    takes!(1), // 259 ConstrainedAuto
+    takes!(2), // 260 Enumeration
+    takes!(2), // 261 DefaultTypeEntity
+    takes!(2), // 262 DefaultEntity
+    takes!(2), // 263 Inheriting
+    takes!(2), // 264 Friend
+    chains!(2), // 265 Holder
+    takes!(2), // 266 NestTag
+    takes!(2), // 267 NestDecltype
+    chains!(2), // 268 NestModule
+    takes!(4), // 269 ConstructionVtable
 ];
 
 // The symbols of the rules, in the same order.
-pub static SYMBOLS: [Sym; 1614] = symbols_listed! {
+pub static SYMBOLS: [Sym; 1626] = symbols_listed! {
     [FOLD_SIGNS, FOLD_VALUE, FOLD_OPERAND, NONE, NONE], // 0 LeftFoldFrom
     [FOLD_SIGN, NONE, NONE, NONE, NONE], // 1 FoldSigns
     [FOLD_OPERATOR, NONE, NONE, NONE, NONE], // 2 FoldSign
@@ -986,7 +991,7 @@ pub static SYMBOLS: [Sym; 1614] = symbols_listed! {
     [TYPE_AFTER_S, ARGUMENTS_ALONE, NONE, NONE, NONE], // 109 TypeWithS
     [ENCODING, Sym::Byte(b'E'), TYPE_ENTITY, MAYBE_DISCRIMINATOR, NONE], // 110 LocalType
     [NONE, NONE, NONE, NONE, NONE], // 111 Builtin
-    [NAME, NONE, NONE, NONE, NONE], // 112 Vendor
+    [NAME, VENDOR_ARGUMENTS, NONE, NONE, NONE], // 112 Vendor
     [ANY_ARRAY, NONE, NONE, NONE, NONE], // 113 ArrayType
     [MAYBE_C_LINKAGE, TYPE, FUNCTION_REST, NONE, NONE], // 114 Function
     [TYPE, NONE, NONE, NONE, NONE], // 115 Complex
@@ -1036,116 +1041,118 @@ pub static SYMBOLS: [Sym; 1614] = symbols_listed! {
     [MAYBE_PARTITION, FIELD_NAME, MORE_MODULE, NONE, NONE], // 159 MoreModule
     [NAME, NONE, NONE, NONE, NONE], // 160 FieldName
     [BOUND_NAME, MORE_NAMES, NONE, NONE, NONE], // 161 BoundNames
-    [OPERATOR_AFTER_C, MAYBE_ARGUMENTS, NONE, NONE, NONE], // 162 OperatorNameWithC
-    [ARGUMENTS_FIRST, Sym::Byte(b'E'), NONE, NONE, NONE], // 163 HeldArguments
-    [NEST, HELD_ARGUMENTS, NONE, NONE, NONE], // 164 NestedBase
-    [UNNESTED_NAME, BASE_ARGUMENTS, NONE, NONE, NONE], // 165 UnnestedBase
-    [TYPE_AFTER_S, NONE, NONE, NONE, NONE], // 166 UnnestedWithS
-    [NAME, MAYBE_TAGS, NONE, NONE, NONE], // 167 TaggedSource
-    [ARGUMENTS_FIRST, Sym::Byte(b'E'), HELD_ARGUMENTS, NONE, NONE], // 168 BaseArguments
-    [ENCODING, Sym::Byte(b'E'), ENTITY, NONE, NONE], // 169 LocalTemporary
-    [SOURCE_OR_LOCAL, MAYBE_TAGS, NONE, NONE, NONE], // 170 TaggedStdType
-    [EXPRESSION, Sym::Byte(b'E'), NONE, NONE, NONE], // 171 Expression
-    [ARGUMENT_AFTER_T, NONE, NONE, NONE, NONE], // 172 ArgumentWithT
-    [SOLID_BUT_T, NONE, NONE, NONE, NONE], // 173 PlainArgument
-    [DECIMAL, ARGUMENTS_ALONE, NONE, NONE, NONE], // 174 ParameterArgument
-    [DECIMAL, LEVELED_PARAMETER, NONE, NONE, NONE], // 175 LeveledParameter
-    [LITERAL, Sym::Byte(b'E'), NONE, NONE, NONE], // 176 OneLiteral
-    [PACK_LIST, Sym::Byte(b'E'), NONE, NONE, NONE], // 177 OnePack
-    [NONE, NONE, NONE, NONE, NONE], // 178 TypeOf
-    [TYPE, NONE, NONE, NONE, NONE], // 179 ValueOf
-    [CONCEPT, NONE, NONE, NONE, NONE], // 180 OfConcept
-    [DECLARATIONS, Sym::Byte(b'E'), NONE, NONE, NONE], // 181 TemplateOf
-    [Sym::Byte(b'T'), DECLARATION_AFTER_T, NONE, NONE, NONE], // 182 PackOf
-    [DECLARATION_AFTER_T, DECLARATIONS, NONE, NONE, NONE], // 183 Declarations
-    [FIRST_AFTER_T, NONE, NONE, NONE, NONE], // 184 FirstWithT
-    [LEVELED_PARAMETER, NONE, NONE, NONE, NONE], // 185 FirstParameter
-    [NEST, CONCEPT_ARGUMENTS, NONE, NONE, NONE], // 186 NestedConcept
-    [UNNESTED_NAME, HELD_ARGUMENTS, NONE, NONE, NONE], // 187 NamedConcept
-    [ARGUMENTS_FIRST, Sym::Byte(b'E'), NONE, NONE, NONE], // 188 ConceptArguments
-    [TYPE, EXPRESSION, NONE, NONE, NONE], // 189 Cast
-    [OPERATOR, ARGUMENTS_ALONE, NONE, NONE, NONE], // 190 OperatorReference
-    [NAME, ARGUMENTS_ALONE, NONE, NONE, NONE], // 191 SimpleId
-    [MAYBE_RESTRICT, MAYBE_VOLATILE, MAYBE_CONST, PARAMETER_NUMBER, NONE], // 192 FunctionParameter
-    [ADDRESSED_EXPRESSION, NONE, NONE, NONE, NONE], // 193 AddressExpression
-    [EXPRESSION, EXPRESSION, NONE, NONE, NONE], // 194 Binary
-    [EXPRESSION, NONE, NONE, NONE, NONE], // 195 Unary
-    [CONVERTED_TYPE, NONE, NONE, NONE, NONE], // 196 OfType
-    [EXPRESSION, EXPRESSIONS, Sym::Byte(b'E'), NONE, NONE], // 197 Call
-    [CONVERTED_TYPE, CONVERT_REST, NONE, NONE, NONE], // 198 Convert
-    [FIELD_NAME, DESIGNATED_VALUE, NONE, NONE, NONE], // 199 Designated
-    [EXPRESSION, DESIGNATED_VALUE, NONE, NONE, NONE], // 200 DesignatedElement
-    [DESTRUCTOR_NAME, NONE, NONE, NONE, NONE], // 201 DestructorName
-    [AFTER_OUTER, NONE, NONE, NONE, NONE], // 202 AfterOuter
-    [FOLD_SIGNS, FOLD_OPERAND, FOLD_VALUE, NONE, NONE], // 203 RightFoldFrom
-    [FOLD_OPERATOR, FOLD_OPERAND, NONE, NONE, NONE], // 204 LeftFold
-    [FOLD_OPERATOR, FOLD_OPERAND, NONE, NONE, NONE], // 205 RightFold
-    [EXPRESSIONS, Sym::Byte(b'E'), NONE, NONE, NONE], // 206 Braces
-    [MAYBE_BEFORE, EXPRESSION, NONE, NONE, NONE], // 207 Step
-    [PLACEMENT, TYPE, INITIALIZER, NONE, NONE], // 208 New
-    [EXPRESSION, EXPRESSION, EXPRESSION, NONE, NONE], // 209 Conditional
-    [REQUIREMENTS, Sym::Byte(b'E'), NONE, NONE, NONE], // 210 Requires
-    [REQUIRED_TYPES, NONE, NONE, NONE, NONE], // 211 RequiresOf
-    [EXPRESSION, NONE, NONE, NONE, NONE], // 212 ExpandExpression
-    [EXPRESSION, NONE, NONE, NONE, NONE], // 213 PackSize
-    [UNRESOLVED, NONE, NONE, NONE, NONE], // 214 Unresolved
-    [VALUE_PACK, EXPRESSION, NONE, NONE, NONE], // 215 PackIndex
-    [TYPE, EXPRESSIONS, Sym::Byte(b'E'), NONE, NONE], // 216 TypedBraces
-    [NONE, NONE, NONE, NONE, NONE], // 217 Rethrow
-    [EXPRESSION_AFTER_A, NONE, NONE, NONE, NONE], // 218 ExpressionA
-    [EXPRESSION_AFTER_C, NONE, NONE, NONE, NONE], // 219 ExpressionC
-    [EXPRESSION_AFTER_D, NONE, NONE, NONE, NONE], // 220 ExpressionD
-    [EXPRESSION_AFTER_E, NONE, NONE, NONE, NONE], // 221 ExpressionE
-    [EXPRESSION_AFTER_F, NONE, NONE, NONE, NONE], // 222 ExpressionF
-    [EXPRESSION_AFTER_G, NONE, NONE, NONE, NONE], // 223 ExpressionG
-    [EXPRESSION_AFTER_I, NONE, NONE, NONE, NONE], // 224 ExpressionI
-    [EXPRESSION_AFTER_L, NONE, NONE, NONE, NONE], // 225 ExpressionL
-    [EXPRESSION_AFTER_M, NONE, NONE, NONE, NONE], // 226 ExpressionM
-    [EXPRESSION_AFTER_N, NONE, NONE, NONE, NONE], // 227 ExpressionN
-    [EXPRESSION_AFTER_O, NONE, NONE, NONE, NONE], // 228 ExpressionO
-    [EXPRESSION_AFTER_P, NONE, NONE, NONE, NONE], // 229 ExpressionP
-    [EXPRESSION_AFTER_Q, NONE, NONE, NONE, NONE], // 230 ExpressionQ
-    [EXPRESSION_AFTER_R, NONE, NONE, NONE, NONE], // 231 ExpressionR
-    [EXPRESSION_AFTER_S, NONE, NONE, NONE, NONE], // 232 ExpressionS
-    [EXPRESSION_AFTER_T, NONE, NONE, NONE, NONE], // 233 ExpressionT
-    [EXPRESSION_PARAMETER, NONE, NONE, NONE, NONE], // 234 ExpressionWithT
-    [DECIMAL, ARGUMENTS_ALONE, NONE, NONE, NONE], // 235 ParameterExpression
-    [DECIMAL, UNLEVELED_EXPRESSION, NONE, NONE, NONE], // 236 LeveledExpression
-    [ADDRESSED_LITERAL, Sym::Byte(b'E'), NONE, NONE, NONE], // 237 AddressedLiteral
-    [EXPRESSION, EXPRESSIONS, NONE, NONE, NONE], // 238 Expressions
-    [FOLD_OPERATOR_AFTER_L, NONE, NONE, NONE, NONE], // 239 FoldOperatorL
-    [DIGITS, OUTER_REST, NONE, NONE, NONE], // 240 OuterParameter
-    [BOUND, Sym::Byte(b'_'), TYPE, NONE, NONE], // 241 BoundedArray
-    [DECLARATION_AFTER_T, FIRST_OF_LAMBDA, NONE, NONE, NONE], // 242 DeclaredFirst
-    [DECLARATION_AFTER_T, ONE_ARGUMENT, NONE, NONE, NONE], // 243 DeclaredArgument
-    [NAME, MAYBE_TAGS, NONE, NONE, NONE], // 244 TypeTag
-    [CLONE_LETTER, ENCODING, NONE, NONE, NONE], // 245 Clone
-    [Sym::Byte(b'W'), FIRST_MODULE, NONE, NONE, NONE], // 246 ModuleInitializer
-    [TEMPORARY_NAME, Sym::Byte(b'_'), NONE, NONE, NONE], // 247 Temporary
-    [TYPE, NONE, NONE, NONE, NONE], // 248 Conversion
-    [LITERAL_PLAIN, NONE, NONE, NONE, NONE], // 249 ConstLiteral
-    [MAYBE_CONST, LITERAL_PLAIN, NONE, NONE, NONE], // 250 VolatileLiteral
-    [SIZED_FLOAT_TYPE, HEX_TEXT, NONE, NONE, NONE], // 251 SizedFloatLiteral
-    [FLOAT_TYPE, HEX_TEXT, NONE, NONE, NONE], // 252 FloatLiteral
-    [NAME, MAYBE_ARGUMENTS, NONE, NONE, NONE], // 253 Tag
-    [EXPRESSION, NONE, NONE, NONE, NONE], // 254 Constraint
-    [TYPE_PACK, EXPRESSION, NONE, NONE, NONE], // 255 IndexedType
-    [BIT_WIDTH, Sym::Byte(b'_'), NONE, NONE, NONE], // 256 BitInt
-    [CONCEPT, NONE, NONE, NONE, NONE], // 257 ConstrainedAuto
-    [TYPE, NAME, NONE, NONE, NONE], // 258 Enumeration
-    [DECIMAL, PLAIN_TYPE_ENTITY, NONE, NONE, NONE], // 259 DefaultTypeEntity
-    [DECIMAL, PLAIN_ENTITY, NONE, NONE, NONE], // 260 DefaultEntity
-    [INHERITED_DIGIT, BASE_CLASS, NONE, NONE, NONE], // 261 Inheriting
-    [UNQUALIFIED, MAYBE_ARGUMENTS, NONE, NONE, NONE], // 262 Friend
-    [HOLDER_MARK, HELD_COMPONENT, NONE, NONE, NONE], // 263 Holder
-    [NAME, NEST_REST, NONE, NONE, NONE], // 264 NestTag
-    [DECLTYPE_AFTER_D, NEST_REST_ALONE, NONE, NONE, NONE], // 265 NestDecltype
-    [NAME_IN_MODULE, NEST_ON, NONE, NONE, NONE], // 266 NestModule
-    [TYPE, DIGITS, Sym::Byte(b'_'), TYPE, NONE], // 267 ConstructionVtable
+    [NAME, NONE, NONE, NONE, NONE], // 162 InternalBound
+    [OPERATOR_AFTER_C, MAYBE_ARGUMENTS, NONE, NONE, NONE], // 163 OperatorNameWithC
+    [ARGUMENTS_FIRST, Sym::Byte(b'E'), NONE, NONE, NONE], // 164 HeldArguments
+    [NEST, HELD_ARGUMENTS, NONE, NONE, NONE], // 165 NestedBase
+    [UNNESTED_NAME, BASE_ARGUMENTS, NONE, NONE, NONE], // 166 UnnestedBase
+    [TYPE_AFTER_S, NONE, NONE, NONE, NONE], // 167 UnnestedWithS
+    [NAME, MAYBE_TAGS, NONE, NONE, NONE], // 168 TaggedSource
+    [ARGUMENTS_FIRST, Sym::Byte(b'E'), HELD_ARGUMENTS, NONE, NONE], // 169 BaseArguments
+    [ENCODING, Sym::Byte(b'E'), ENTITY, NONE, NONE], // 170 LocalTemporary
+    [SOURCE_OR_LOCAL, MAYBE_TAGS, NONE, NONE, NONE], // 171 TaggedStdType
+    [EXPRESSION, Sym::Byte(b'E'), NONE, NONE, NONE], // 172 Expression
+    [ARGUMENT_AFTER_T, NONE, NONE, NONE, NONE], // 173 ArgumentWithT
+    [SOLID_BUT_T, NONE, NONE, NONE, NONE], // 174 PlainArgument
+    [DECIMAL, ARGUMENTS_ALONE, NONE, NONE, NONE], // 175 ParameterArgument
+    [DECIMAL, LEVELED_PARAMETER, NONE, NONE, NONE], // 176 LeveledParameter
+    [LITERAL, Sym::Byte(b'E'), NONE, NONE, NONE], // 177 OneLiteral
+    [PACK_LIST, Sym::Byte(b'E'), NONE, NONE, NONE], // 178 OnePack
+    [NONE, NONE, NONE, NONE, NONE], // 179 TypeOf
+    [TYPE, NONE, NONE, NONE, NONE], // 180 ValueOf
+    [CONCEPT, NONE, NONE, NONE, NONE], // 181 OfConcept
+    [DECLARATIONS, Sym::Byte(b'E'), NONE, NONE, NONE], // 182 TemplateOf
+    [Sym::Byte(b'T'), DECLARATION_AFTER_T, NONE, NONE, NONE], // 183 PackOf
+    [DECLARATION_AFTER_T, DECLARATIONS, NONE, NONE, NONE], // 184 Declarations
+    [FIRST_AFTER_T, NONE, NONE, NONE, NONE], // 185 FirstWithT
+    [LEVELED_PARAMETER, NONE, NONE, NONE, NONE], // 186 FirstParameter
+    [NEST, CONCEPT_ARGUMENTS, NONE, NONE, NONE], // 187 NestedConcept
+    [UNNESTED_NAME, HELD_ARGUMENTS, NONE, NONE, NONE], // 188 NamedConcept
+    [ARGUMENTS_FIRST, Sym::Byte(b'E'), NONE, NONE, NONE], // 189 ConceptArguments
+    [TYPE, EXPRESSION, NONE, NONE, NONE], // 190 Cast
+    [OPERATOR, ARGUMENTS_ALONE, NONE, NONE, NONE], // 191 OperatorReference
+    [NAME, ARGUMENTS_ALONE, NONE, NONE, NONE], // 192 SimpleId
+    [MAYBE_RESTRICT, MAYBE_VOLATILE, MAYBE_CONST, PARAMETER_NUMBER, NONE], // 193 FunctionParameter
+    [ADDRESSED_EXPRESSION, NONE, NONE, NONE, NONE], // 194 AddressExpression
+    [EXPRESSION, EXPRESSION, NONE, NONE, NONE], // 195 Binary
+    [EXPRESSION, NONE, NONE, NONE, NONE], // 196 Unary
+    [CONVERTED_TYPE, NONE, NONE, NONE, NONE], // 197 OfType
+    [EXPRESSION, EXPRESSIONS, Sym::Byte(b'E'), NONE, NONE], // 198 Call
+    [CONVERTED_TYPE, CONVERT_REST, NONE, NONE, NONE], // 199 Convert
+    [FIELD_NAME, DESIGNATED_VALUE, NONE, NONE, NONE], // 200 Designated
+    [EXPRESSION, DESIGNATED_VALUE, NONE, NONE, NONE], // 201 DesignatedElement
+    [DESTRUCTOR_NAME, NONE, NONE, NONE, NONE], // 202 DestructorName
+    [AFTER_OUTER, NONE, NONE, NONE, NONE], // 203 AfterOuter
+    [FOLD_SIGNS, FOLD_OPERAND, FOLD_VALUE, NONE, NONE], // 204 RightFoldFrom
+    [FOLD_OPERATOR, FOLD_OPERAND, NONE, NONE, NONE], // 205 LeftFold
+    [FOLD_OPERATOR, FOLD_OPERAND, NONE, NONE, NONE], // 206 RightFold
+    [EXPRESSIONS, Sym::Byte(b'E'), NONE, NONE, NONE], // 207 Braces
+    [MAYBE_BEFORE, EXPRESSION, NONE, NONE, NONE], // 208 Step
+    [PLACEMENT, TYPE, INITIALIZER, NONE, NONE], // 209 New
+    [EXPRESSION, EXPRESSION, EXPRESSION, NONE, NONE], // 210 Conditional
+    [REQUIREMENTS, Sym::Byte(b'E'), NONE, NONE, NONE], // 211 Requires
+    [REQUIRED_TYPES, NONE, NONE, NONE, NONE], // 212 RequiresOf
+    [EXPRESSION, NONE, NONE, NONE, NONE], // 213 ExpandExpression
+    [EXPRESSION, NONE, NONE, NONE, NONE], // 214 PackSize
+    [UNRESOLVED, NONE, NONE, NONE, NONE], // 215 Unresolved
+    [VALUE_PACK, EXPRESSION, NONE, NONE, NONE], // 216 PackIndex
+    [TYPE, EXPRESSIONS, Sym::Byte(b'E'), NONE, NONE], // 217 TypedBraces
+    [NONE, NONE, NONE, NONE, NONE], // 218 Rethrow
+    [EXPRESSION_AFTER_A, NONE, NONE, NONE, NONE], // 219 ExpressionA
+    [EXPRESSION_AFTER_C, NONE, NONE, NONE, NONE], // 220 ExpressionC
+    [EXPRESSION_AFTER_D, NONE, NONE, NONE, NONE], // 221 ExpressionD
+    [EXPRESSION_AFTER_E, NONE, NONE, NONE, NONE], // 222 ExpressionE
+    [EXPRESSION_AFTER_F, NONE, NONE, NONE, NONE], // 223 ExpressionF
+    [EXPRESSION_AFTER_G, NONE, NONE, NONE, NONE], // 224 ExpressionG
+    [EXPRESSION_AFTER_I, NONE, NONE, NONE, NONE], // 225 ExpressionI
+    [EXPRESSION_AFTER_L, NONE, NONE, NONE, NONE], // 226 ExpressionL
+    [EXPRESSION_AFTER_M, NONE, NONE, NONE, NONE], // 227 ExpressionM
+    [EXPRESSION_AFTER_N, NONE, NONE, NONE, NONE], // 228 ExpressionN
+    [EXPRESSION_AFTER_O, NONE, NONE, NONE, NONE], // 229 ExpressionO
+    [EXPRESSION_AFTER_P, NONE, NONE, NONE, NONE], // 230 ExpressionP
+    [EXPRESSION_AFTER_Q, NONE, NONE, NONE, NONE], // 231 ExpressionQ
+    [EXPRESSION_AFTER_R, NONE, NONE, NONE, NONE], // 232 ExpressionR
+    [EXPRESSION_AFTER_S, NONE, NONE, NONE, NONE], // 233 ExpressionS
+    [EXPRESSION_AFTER_T, NONE, NONE, NONE, NONE], // 234 ExpressionT
+    [EXPRESSION_PARAMETER, NONE, NONE, NONE, NONE], // 235 ExpressionWithT
+    [DECIMAL, ARGUMENTS_ALONE, NONE, NONE, NONE], // 236 ParameterExpression
+    [FIELD_NAME, ARGUMENT_LIST, Sym::Byte(b'E'), NONE, NONE], // 237 VendorExpression
+    [DECIMAL, UNLEVELED_EXPRESSION, NONE, NONE, NONE], // 238 LeveledExpression
+    [ADDRESSED_LITERAL, Sym::Byte(b'E'), NONE, NONE, NONE], // 239 AddressedLiteral
+    [EXPRESSION, EXPRESSIONS, NONE, NONE, NONE], // 240 Expressions
+    [FOLD_OPERATOR_AFTER_L, NONE, NONE, NONE, NONE], // 241 FoldOperatorL
+    [DIGITS, OUTER_REST, NONE, NONE, NONE], // 242 OuterParameter
+    [BOUND, Sym::Byte(b'_'), TYPE, NONE, NONE], // 243 BoundedArray
+    [DECLARATION_AFTER_T, FIRST_OF_LAMBDA, NONE, NONE, NONE], // 244 DeclaredFirst
+    [DECLARATION_AFTER_T, ONE_ARGUMENT, NONE, NONE, NONE], // 245 DeclaredArgument
+    [NAME, MAYBE_TAGS, NONE, NONE, NONE], // 246 TypeTag
+    [CLONE_LETTER, ENCODING, NONE, NONE, NONE], // 247 Clone
+    [Sym::Byte(b'W'), FIRST_MODULE, NONE, NONE, NONE], // 248 ModuleInitializer
+    [TEMPORARY_NAME, Sym::Byte(b'_'), NONE, NONE, NONE], // 249 Temporary
+    [TYPE, NONE, NONE, NONE, NONE], // 250 Conversion
+    [LITERAL_PLAIN, NONE, NONE, NONE, NONE], // 251 ConstLiteral
+    [MAYBE_CONST, LITERAL_PLAIN, NONE, NONE, NONE], // 252 VolatileLiteral
+    [SIZED_FLOAT_TYPE, HEX_TEXT, NONE, NONE, NONE], // 253 SizedFloatLiteral
+    [FLOAT_TYPE, HEX_TEXT, NONE, NONE, NONE], // 254 FloatLiteral
+    [NAME, MAYBE_ARGUMENTS, NONE, NONE, NONE], // 255 Tag
+    [EXPRESSION, NONE, NONE, NONE, NONE], // 256 Constraint
+    [TYPE_PACK, EXPRESSION, NONE, NONE, NONE], // 257 IndexedType
+    [BIT_WIDTH, Sym::Byte(b'_'), NONE, NONE, NONE], // 258 BitInt
+    [CONCEPT, NONE, NONE, NONE, NONE], // 259 ConstrainedAuto
+    [TYPE, NAME, NONE, NONE, NONE], // 260 Enumeration
+    [DECIMAL, PLAIN_TYPE_ENTITY, NONE, NONE, NONE], // 261 DefaultTypeEntity
+    [DECIMAL, PLAIN_ENTITY, NONE, NONE, NONE], // 262 DefaultEntity
+    [INHERITED_DIGIT, BASE_CLASS, NONE, NONE, NONE], // 263 Inheriting
+    [UNQUALIFIED, MAYBE_ARGUMENTS, NONE, NONE, NONE], // 264 Friend
+    [HOLDER_MARK, HELD_COMPONENT, NONE, NONE, NONE], // 265 Holder
+    [NAME, NEST_REST, NONE, NONE, NONE], // 266 NestTag
+    [DECLTYPE_AFTER_D, NEST_REST_ALONE, NONE, NONE, NONE], // 267 NestDecltype
+    [NAME_IN_MODULE, NEST_ON, NONE, NONE, NONE], // 268 NestModule
+    [TYPE, DIGITS, Sym::Byte(b'_'), TYPE, NONE], // 269 ConstructionVtable
 };
 
 // How many symbols follow each of them, up to an end.
-static AFTER: [u8; 1614] = [
+static AFTER: [u8; 1626] = [
     0, 0, 0, 0, 0, 3, 2, 1, 0, 0, 0, 1, 0, 0, 0, 0, 0, 1, 0, 0, 0, 0, 0, 1, 0, 0, 0, 0, 0, 1, 0, 0,
     0, 0, 0, 1, 0, 0, 0, 0, 0, 1, 0, 0, 0, 0, 0, 1, 0, 0, 0, 0, 0, 1, 0, 0, 0, 0, 0, 2, 1, 0, 0, 0,
     0, 1, 0, 0, 0, 0, 0, 1, 0, 0, 0, 0, 0, 0, 0, 0, 0, 0, 0, 1, 0, 0, 0, 0, 0, 1, 0, 0, 0, 0, 0, 1,
@@ -1167,7 +1174,7 @@ static AFTER: [u8; 1614] = [
     0, 0, 0, 0, 0, 1, 0, 0, 0, 0, 0, 1, 0, 0, 0, 0, 0, 1, 0, 0, 0, 0, 0, 1, 0, 0, 0, 0, 0, 1, 0, 0,
     0, 0, 0, 0, 0, 0, 0, 0, 0, 3, 2, 1, 0, 0, 0, 4, 3, 2, 1, 0, 0, 2, 1, 0, 0, 0, 0, 2, 1, 0, 0, 0,
     0, 1, 0, 0, 0, 0, 0, 2, 1, 0, 0, 0, 0, 2, 1, 0, 0, 0, 0, 2, 1, 0, 0, 0, 0, 4, 3, 2, 1, 0, 0, 0,
-    0, 0, 0, 0, 0, 1, 0, 0, 0, 0, 0, 1, 0, 0, 0, 0, 0, 3, 2, 1, 0, 0, 0, 1, 0, 0, 0, 0, 0, 1, 0, 0,
+    0, 0, 0, 0, 0, 2, 1, 0, 0, 0, 0, 1, 0, 0, 0, 0, 0, 3, 2, 1, 0, 0, 0, 1, 0, 0, 0, 0, 0, 1, 0, 0,
     0, 0, 0, 1, 0, 0, 0, 0, 0, 1, 0, 0, 0, 0, 0, 0, 0, 0, 0, 0, 0, 1, 0, 0, 0, 0, 0, 1, 0, 0, 0, 0,
     0, 2, 1, 0, 0, 0, 0, 0, 0, 0, 0, 0, 0, 2, 1, 0, 0, 0, 0, 2, 1, 0, 0, 0, 0, 2, 1, 0, 0, 0, 0, 2,
     1, 0, 0, 0, 0, 3, 2, 1, 0, 0, 0, 3, 2, 1, 0, 0, 0, 2, 1, 0, 0, 0, 0, 3, 2, 1, 0, 0, 0, 2, 1, 0,
@@ -1176,34 +1183,34 @@ static AFTER: [u8; 1614] = [
     0, 0, 0, 0, 0, 1, 0, 0, 0, 0, 0, 1, 0, 0, 0, 0, 0, 1, 0, 0, 0, 0, 0, 1, 0, 0, 0, 0, 0, 1, 0, 0,
     0, 0, 0, 1, 0, 0, 0, 0, 0, 1, 0, 0, 0, 0, 0, 1, 0, 0, 0, 0, 0, 1, 0, 0, 0, 0, 0, 1, 0, 0, 0, 0,
     0, 1, 0, 0, 0, 0, 0, 1, 0, 0, 0, 0, 0, 3, 2, 1, 0, 0, 0, 2, 1, 0, 0, 0, 0, 2, 1, 0, 0, 0, 0, 3,
-    2, 1, 0, 0, 0, 1, 0, 0, 0, 0, 0, 2, 1, 0, 0, 0, 0, 2, 1, 0, 0, 0, 0, 2, 1, 0, 0, 0, 0, 2, 1, 0,
-    0, 0, 0, 2, 1, 0, 0, 0, 0, 1, 0, 0, 0, 0, 0, 2, 1, 0, 0, 0, 0, 3, 2, 1, 0, 0, 0, 3, 2, 1, 0, 0,
-    0, 2, 1, 0, 0, 0, 0, 2, 1, 0, 0, 0, 0, 1, 0, 0, 0, 0, 0, 1, 0, 0, 0, 0, 0, 2, 1, 0, 0, 0, 0, 2,
-    1, 0, 0, 0, 0, 2, 1, 0, 0, 0, 0, 2, 1, 0, 0, 0, 0, 0, 0, 0, 0, 0, 0, 1, 0, 0, 0, 0, 0, 1, 0, 0,
-    0, 0, 0, 2, 1, 0, 0, 0, 0, 2, 1, 0, 0, 0, 0, 2, 1, 0, 0, 0, 0, 1, 0, 0, 0, 0, 0, 1, 0, 0, 0, 0,
-    0, 2, 1, 0, 0, 0, 0, 2, 1, 0, 0, 0, 0, 2, 1, 0, 0, 0, 0, 2, 1, 0, 0, 0, 0, 2, 1, 0, 0, 0, 0, 2,
-    1, 0, 0, 0, 0, 4, 3, 2, 1, 0, 0, 1, 0, 0, 0, 0, 0, 2, 1, 0, 0, 0, 0, 1, 0, 0, 0, 0, 0, 1, 0, 0,
-    0, 0, 0, 3, 2, 1, 0, 0, 0, 2, 1, 0, 0, 0, 0, 2, 1, 0, 0, 0, 0, 2, 1, 0, 0, 0, 0, 1, 0, 0, 0, 0,
-    0, 1, 0, 0, 0, 0, 0, 3, 2, 1, 0, 0, 0, 2, 1, 0, 0, 0, 0, 2, 1, 0, 0, 0, 0, 2, 1, 0, 0, 0, 0, 2,
-    1, 0, 0, 0, 0, 3, 2, 1, 0, 0, 0, 3, 2, 1, 0, 0, 0, 2, 1, 0, 0, 0, 0, 1, 0, 0, 0, 0, 0, 1, 0, 0,
-    0, 0, 0, 1, 0, 0, 0, 0, 0, 1, 0, 0, 0, 0, 0, 2, 1, 0, 0, 0, 0, 3, 2, 1, 0, 0, 0, 0, 0, 0, 0, 0,
-    0, 1, 0, 0, 0, 0, 0, 1, 0, 0, 0, 0, 0, 1, 0, 0, 0, 0, 0, 1, 0, 0, 0, 0, 0, 1, 0, 0, 0, 0, 0, 1,
+    2, 1, 0, 0, 0, 1, 0, 0, 0, 0, 0, 2, 1, 0, 0, 0, 0, 1, 0, 0, 0, 0, 0, 2, 1, 0, 0, 0, 0, 2, 1, 0,
+    0, 0, 0, 2, 1, 0, 0, 0, 0, 2, 1, 0, 0, 0, 0, 1, 0, 0, 0, 0, 0, 2, 1, 0, 0, 0, 0, 3, 2, 1, 0, 0,
+    0, 3, 2, 1, 0, 0, 0, 2, 1, 0, 0, 0, 0, 2, 1, 0, 0, 0, 0, 1, 0, 0, 0, 0, 0, 1, 0, 0, 0, 0, 0, 2,
+    1, 0, 0, 0, 0, 2, 1, 0, 0, 0, 0, 2, 1, 0, 0, 0, 0, 2, 1, 0, 0, 0, 0, 0, 0, 0, 0, 0, 0, 1, 0, 0,
+    0, 0, 0, 1, 0, 0, 0, 0, 0, 2, 1, 0, 0, 0, 0, 2, 1, 0, 0, 0, 0, 2, 1, 0, 0, 0, 0, 1, 0, 0, 0, 0,
+    0, 1, 0, 0, 0, 0, 0, 2, 1, 0, 0, 0, 0, 2, 1, 0, 0, 0, 0, 2, 1, 0, 0, 0, 0, 2, 1, 0, 0, 0, 0, 2,
+    1, 0, 0, 0, 0, 2, 1, 0, 0, 0, 0, 4, 3, 2, 1, 0, 0, 1, 0, 0, 0, 0, 0, 2, 1, 0, 0, 0, 0, 1, 0, 0,
+    0, 0, 0, 1, 0, 0, 0, 0, 0, 3, 2, 1, 0, 0, 0, 2, 1, 0, 0, 0, 0, 2, 1, 0, 0, 0, 0, 2, 1, 0, 0, 0,
+    0, 1, 0, 0, 0, 0, 0, 1, 0, 0, 0, 0, 0, 3, 2, 1, 0, 0, 0, 2, 1, 0, 0, 0, 0, 2, 1, 0, 0, 0, 0, 2,
+    1, 0, 0, 0, 0, 2, 1, 0, 0, 0, 0, 3, 2, 1, 0, 0, 0, 3, 2, 1, 0, 0, 0, 2, 1, 0, 0, 0, 0, 1, 0, 0,
+    0, 0, 0, 1, 0, 0, 0, 0, 0, 1, 0, 0, 0, 0, 0, 1, 0, 0, 0, 0, 0, 2, 1, 0, 0, 0, 0, 3, 2, 1, 0, 0,
+    0, 0, 0, 0, 0, 0, 0, 1, 0, 0, 0, 0, 0, 1, 0, 0, 0, 0, 0, 1, 0, 0, 0, 0, 0, 1, 0, 0, 0, 0, 0, 1,
     0, 0, 0, 0, 0, 1, 0, 0, 0, 0, 0, 1, 0, 0, 0, 0, 0, 1, 0, 0, 0, 0, 0, 1, 0, 0, 0, 0, 0, 1, 0, 0,
     0, 0, 0, 1, 0, 0, 0, 0, 0, 1, 0, 0, 0, 0, 0, 1, 0, 0, 0, 0, 0, 1, 0, 0, 0, 0, 0, 1, 0, 0, 0, 0,
-    0, 1, 0, 0, 0, 0, 0, 2, 1, 0, 0, 0, 0, 2, 1, 0, 0, 0, 0, 2, 1, 0, 0, 0, 0, 2, 1, 0, 0, 0, 0, 1,
-    0, 0, 0, 0, 0, 2, 1, 0, 0, 0, 0, 3, 2, 1, 0, 0, 0, 2, 1, 0, 0, 0, 0, 2, 1, 0, 0, 0, 0, 2, 1, 0,
-    0, 0, 0, 2, 1, 0, 0, 0, 0, 2, 1, 0, 0, 0, 0, 2, 1, 0, 0, 0, 0, 1, 0, 0, 0, 0, 0, 1, 0, 0, 0, 0,
-    0, 2, 1, 0, 0, 0, 0, 2, 1, 0, 0, 0, 0, 2, 1, 0, 0, 0, 0, 2, 1, 0, 0, 0, 0, 1, 0, 0, 0, 0, 0, 2,
-    1, 0, 0, 0, 0, 2, 1, 0, 0, 0, 0, 1, 0, 0, 0, 0, 0, 2, 1, 0, 0, 0, 0, 2, 1, 0, 0, 0, 0, 2, 1, 0,
+    0, 1, 0, 0, 0, 0, 0, 1, 0, 0, 0, 0, 0, 2, 1, 0, 0, 0, 0, 3, 2, 1, 0, 0, 0, 2, 1, 0, 0, 0, 0, 2,
+    1, 0, 0, 0, 0, 2, 1, 0, 0, 0, 0, 1, 0, 0, 0, 0, 0, 2, 1, 0, 0, 0, 0, 3, 2, 1, 0, 0, 0, 2, 1, 0,
     0, 0, 0, 2, 1, 0, 0, 0, 0, 2, 1, 0, 0, 0, 0, 2, 1, 0, 0, 0, 0, 2, 1, 0, 0, 0, 0, 2, 1, 0, 0, 0,
-    0, 2, 1, 0, 0, 0, 0, 4, 3, 2, 1, 0, 0, 0,
+    0, 1, 0, 0, 0, 0, 0, 1, 0, 0, 0, 0, 0, 2, 1, 0, 0, 0, 0, 2, 1, 0, 0, 0, 0, 2, 1, 0, 0, 0, 0, 2,
+    1, 0, 0, 0, 0, 1, 0, 0, 0, 0, 0, 2, 1, 0, 0, 0, 0, 2, 1, 0, 0, 0, 0, 1, 0, 0, 0, 0, 0, 2, 1, 0,
+    0, 0, 0, 2, 1, 0, 0, 0, 0, 2, 1, 0, 0, 0, 0, 2, 1, 0, 0, 0, 0, 2, 1, 0, 0, 0, 0, 2, 1, 0, 0, 0,
+    0, 2, 1, 0, 0, 0, 0, 2, 1, 0, 0, 0, 0, 2, 1, 0, 0, 0, 0, 4, 3, 2, 1, 0, 0, 0,
 ];
 
 /// The number of the rule that a kind takes at a byte, if it takes one.
 #[inline]
 fn number(kind: u16, byte: u8) -> Option<usize>
     requires { kind < abi.kinds }
-    ensures few { IfSome result (λ number. number < 268) }
+    ensures few { IfSome result (λ number. number < 270) }
     ensures rule { (head : Head) → MatchOption result (abi.rule kind byte ≡ None) (λ number. abi.rule kind byte ≡ Some (listed_rule head number)) }
 {
     let row = &LETTERS[kind as usize];

@@ -21,14 +21,14 @@ macro_rules! rows {
 }
 
 // For each kind a row: for each byte from `$` to `z` the letter of the production that the kind takes there.
-static WIDE_ROWS: [Row; 183] = rows! {
+static WIDE_ROWS: [Row; 184] = rows! {
     // $%&'()*+,-./0123456789:;<=>?@ABCDEFGHIJKLMNOPQRSTUVWXYZ[\]^_`abcdefghijklmnopqrstuvwxyz
     [0, b"                                                           -                           "], // Symbol
     [0, b"          .                                                                            "], // MaybeSuffix
     [0, b"/         / //////////       //////////////////////////    / //////////////////////////"], // SuffixFirst
     [0, b"/         / //////////       //////////////////////////    / //////////////////////////"], // SuffixMore
     [0, b"            2222222222          2  1    2 2    202 2  2      2 222 2 2  22222 22       "], // Encoding
-    [12, b"                             \x14 \xff    +'         '' '+           *    (             )    "], // Special
+    [14, b"                             \x12 \xff    )%         %% %)           (    &             '    "], // Special
     [0, b"                                                                    8             9    "], // CallOffset
     [0, b"            ;;;;;;;;;;                                                    :            "], // Integer
     [0, b"            $$$$$$$$$$          &       \" ,    < # *  =      % %%% % %  %%%%% %%       "], // CompleteName
@@ -38,27 +38,27 @@ static WIDE_ROWS: [Row; 183] = rows! {
     [0, b"                                    !      !  !                                        "], // MaybeRef
     [0, b"            ??????????       ??????????????????????????    ? ?? ?    ?     ?   ?>      "], // NameAfterS
     [0, b"            ))))))))))                  '        (           @ @@@ @ @  @@@@@ @@       "], // Unqualified
-    [11, b"            ::::::::::          \xfe       8      679 \xff                                   "], // Nest
+    [13, b"            8888888888          \xfe       6      457 \xff                                   "], // Nest
     [0, b"            GGGGGGGGGG       GGGGGGGGGGGGGGGGGGGGGGGGGG    G GG G    G     G   GF      "], // NestAfterS
-    [9, b"            @@@@@@@@@@        \xff@@ @  ?  @@     @ @ @         @ @@@ @ @  @@@@@ @@       "], // NestRest
+    [11, b"            >>>>>>>>>>        \xff>> >  =  >>     > > >         > >>> > >  >>>>> >>       "], // NestRest
     [0, b"            IIIIIIIIII         IIJI     II     I I I         I III I I  IIIII II       "], // NestTail
-    [8, b"            \x1c\x1c\x1c\x1c\x1c\x1c\x1c\x1c\x1c\x1c         CD \xfe     \x1a\xff     # \x1b \"         F EFF F F  FFFFF FF       "], // Component
-    [6, b"             IIIII                   \xff                                                 "], // ConstructorAfterC
+    [12, b"            \x18\x18\x18\x18\x18\x18\x18\x18\x18\x18         ?@ \xfc     \x16\xfd     \x1f \x17 \x1e         B ABB B B  BBBBB BB       "], // Component
+    [8, b"             GGGGG                   \xff                                                 "], // ConstructorAfterC
     [0, b"             !!!!!                                                                     "], // ConstructorDigit
     [0, b"             !! !!                                                                     "], // InheritedDigit
     [0, b"            !!! !!             P                                                       "], // ComponentAfterD
     [0, b"            RRRRRRRRRR       RRRRRRRRRRRRRRRRRRRRRRRRRR    R QQ Q    Q     Q   Q       "], // Abbreviation
-    [5, b"            \x1f\x1f\x1f\x1f\x1f\x1f\x1f\x1f\x1f\x1f          !       \x1d '      \x1e              \xff              O       "], // Entity
-    [5, b"            \x1f\x1f\x1f\x1f\x1f\x1f\x1f\x1f\x1f\x1f                  \x1d N      \x1e              \xfe                      "], // TypeEntity
+    [7, b"            \x1d\x1d\x1d\x1d\x1d\x1d\x1d\x1d\x1d\x1d          \x1f       \x1b %      \x1c              \xff              M       "], // Entity
+    [6, b"            \x1e\x1e\x1e\x1e\x1e\x1e\x1e\x1e\x1e\x1e                  \x1c M      \x1d              \xff                      "], // TypeEntity
     [0, b"                                                           U                           "], // MaybeDiscriminator
     [0, b"            VVVVVVVVVV                                     W                           "], // DiscriminatorRest
-    [3, b"                                                                 \xff      U       V      "], // Anonymous
+    [5, b"                                                                 \xff      S       T      "], // Anonymous
     [0, b"            ^^^^^^^^^^       ^ ^_ ^    \\ ^^]^ ]^^^[^  ^      ^^^^^^^^^^ ^^^^  Z^^^^^^^^"], // Type
     [0, b"            aaaaaaaaaa       a a` a      aa]a ]aaa a  a      aaaaaaaaaa aaaa   aaaaaaaa"], // Plain
     [0, b"            ^^^^^^^^^^       ^ ^b ^    \\ ^^]^ ]^^^[^  ^      ^^^^^^^^^^ ^^^^  Z^^^^^^^^"], // Item
     [0, b"            ^^^^^^^^^^       ^ ^b ^    \\ ^^ ^  ^^^[^  ^      ^^^^^^^^^^ ^^^^  Z^^^^^^^^"], // ItemButRef
     [0, b"                              d   d    d        dd           d dddd dd d  ddc  dddd  d "], // ItemAfterD
-    [2, b"                              \xfe   f    \xff        g\xfe           c cccc cc \xff  ce   cgcd  \xfd "], // AfterD
+    [4, b"                              \xfe   d    \xff        e\xfe           a aaaa aa \xff  ac   aeab  \xfd "], // AfterD
     [0, b"            $$$$$$$$$$       q s  r      kS j  ml# *  n      oooooooooo oooo   oopooooo"], // Solid
     [0, b"                                                     !                                 "], // MaybeCLinkage
     [0, b"            tttttttttt                                                                 "], // BitWidth
@@ -67,21 +67,21 @@ static WIDE_ROWS: [Row; 183] = rows! {
     [0, b"            zzzzzzzzzz       z zzwz    z zzyz xzzzzz  z      zzzzzzzzzz zzzz  zzzzzzzzz"], // FunctionRest
     [0, b"            ||||||||||       | ||{|    | |||| ||||||  |      |||||||||| ||||  |||||||||"], // AfterR
     [0, b"            }}}}}}}}}}       } }}{}    } }}}} }}}}}}  }      }}}}}}}}}} }}}}  }}}}}}}}}"], // AfterO
-    [0, b"            ~~~~~~~~~~       ~ ~~ ~    ~ ~~~~\xfe~~~~~~  ~      ~~~~~~~~~~ ~~~~  ~~~~~~~~~"], // Items
-    [0, b"                              \xfd      \x7f                                                 "], // MaybeArguments
+    [1, b"            }}}}}}}}}}       } }} }    } }}}}\xff}}}}}}  }      }}}}}}}}}} }}}}  }}}}}}}}}"], // Items
+    [0, b"                              \xff      \x7f                                                 "], // MaybeArguments
     [0, b"                                     \x7f                                                 "], // Arguments
-    [0, b"            \x82\x82\x82\x82\x82\x82\x82\x82\x82\x82       \x82 \x82\x82 \x82   \x80\x82\x81\x82\x82\x82\x82\xfe\x82\x82\x82\x82\x82\x82\x82 \x82      \x82\x82\x82\x82\x82\x82\x82\x82\x82\x82 \x82\x82\x82\x82  \x82\x82\x82\x82\x82\x82\x82\x82\x82"], // ArgumentList
+    [1, b"            \x81\x81\x81\x81\x81\x81\x81\x81\x81\x81       \x81 \x81\x81 \x81   \x7f\x81\x80\x81\x81\x81\x81\xff\x81\x81\x81\x81\x81\x81\x81 \x81      \x81\x81\x81\x81\x81\x81\x81\x81\x81\x81 \x81\x81\x81\x81  \x81\x81\x81\x81\x81\x81\x81\x81\x81"], // ArgumentList
     [0, b"            \x84\x84\x84\x84\x84\x84\x84\x84\x84\x84       \x84 \x84\x84 \x84    \x84\x83\x84\x84\x84\x84 \x84\x84\x84\x84\x84\x84\x84 \x84      \x84\x84\x84\x84\x84\x84\x84\x84\x84\x84 \x84\x84\x84\x84  \x84\x84\x84\x84\x84\x84\x84\x84\x84"], // PackList
-    [0, b"            \x88\x88\x88\x88\x88\x88\x88\x88\x88\x88          \x87      \x88 \x88\x88 \x88  \x88\x88\x88\x88\x88  \x88    \x85 \x88\x86\x88\xfc\xfc\xfc\xfc\x88\x88\x88 \x88\x88\x88\x88   \x88\x88  \x88\x88\x88 "], // Literal
+    [0, b"            \x88\x88\x88\x88\x88\x88\x88\x88\x88\x88          \x87      \x88 \x88\x88 \x88  \x88\x88\x88\x88\x88  \x88    \x85 \x88\x86\x88\xfe\xfe\xfe\xfe\x88\x88\x88 \x88\x88\x88\x88   \x88\x88  \x88\x88\x88 "], // Literal
     [0, b"            !!                                                                         "], // Bit
-    [0, b"                                  \xfb                                  \x8a    \x89    \x8a \x8a     "], // LiteralAfterD
+    [0, b"                                  \xfd                                  \x8a    \x89    \x8a \x8a     "], // LiteralAfterD
     [0, b"                                                                oooo                   "], // FloatType
     [0, b"                                  h                                                    "], // SizedFloatType
     [0, b"            \x8b\x8b\x8b\x8b\x8b\x8b\x8b\x8b\x8b\x8b                                       \x8b\x8b\x8b\x8b\x8b\x8b                    "], // HexText
     [0, b"            \x8c\x8c\x8c\x8c\x8c\x8c\x8c\x8c\x8c\x8c                                       \x8c\x8c\x8c\x8c\x8c\x8c                    "], // HexDigits
     [0, b"            \x8c\x8c\x8c\x8c\x8c\x8c\x8c\x8c\x8c\x8c                                       \x8c\x8c\x8c\x8c\x8c\x8c                    "], // HexMore
     [0, b"            !                                                                          "], // MaybeZero
-    [0, b"            $$$$$$$$$$                 \xf9 kS j  ml#\xfa*  n      o o    ooo oooo   oo  ooo "], // LiteralType
+    [0, b"            $$$$$$$$$$                 \xfb kS j  ml#\xfc*  n      o o    ooo oooo   oo  ooo "], // LiteralType
     [0, b"            \x8d\x8d\x8d\x8d\x8d\x8d\x8d\x8d\x8d\x8d                   \x8d\x8d \x8d  \x8d\x8d\x8d \x8d  \x8d      \x8d \x8d    \x8d\x8d\x8d \x8d\x8d\x8d\x8d   \x8d\x8d  \x8d\x8d\x8d "], // LiteralPlain
     [0, b"            $$$$$$$$$$                   kS j  ml# *  n      o o    ooo oooo   oo  ooo "], // LiteralSolid
     [0, b"                                                             \x90 \x92\x8f\x96 \x9a \x99  \x97\x93\x8e\x95\x91 \x94\x98       "], // Operator
@@ -101,6 +101,7 @@ static WIDE_ROWS: [Row; 183] = rows! {
     [0, b"            IIIIIIIIII         II I  \x9c  II     I I I         I III I I  IIIII II       "], // NestRestOrEnd
     [0, b"                                     \x7f                                                 "], // ArgumentsAlone
     [0, b"            IIIIIIIIII         II I  H  II     I I I         I III I I  IIIII II       "], // NestRestAlone
+    [0, b"                                     \x7f                                                 "], // VendorArguments
     [0, b"            \x9d\x9d\x9d\x9d\x9d\x9d\x9d\x9d\x9d\x9d                                                                 "], // FirstModule
     [0, b"            \x9e\x9e\x9e\x9e\x9e\x9e\x9e\x9e\x9e\x9e       \x9e\x9e\x9e\x9e\x9e\x9e\x9e\x9e\x9e\x9e\x9e\x9e\x9e\x9e\x9e\x9e\x9e\x9e\x9e\x9e\x9e\x9e\x9e\x9e\x9e\x9e    \x9e                           "], // NamedModule
     [0, b"                                                   \x9f                                   "], // MoreModule
@@ -113,98 +114,98 @@ static WIDE_ROWS: [Row; 183] = rows! {
     [0, b"                               P                                                       "], // BindingAfterD
     [0, b"            \xa1\xa1\xa1\xa1\xa1\xa1\xa1\xa1\xa1\xa1                  \xa1                                              "], // BoundNames
     [0, b"            \xa1\xa1\xa1\xa1\xa1\xa1\xa1\xa1\xa1\xa1                  \xa1                                              "], // MoreNames
-    [0, b"            \xa0\xa0\xa0\xa0\xa0\xa0\xa0\xa0\xa0\xa0                  p                                              "], // BoundName
+    [0, b"            \xa0\xa0\xa0\xa0\xa0\xa0\xa0\xa0\xa0\xa0                  \xa2                                              "], // BoundName
     [0, b"                                                           !  !                     !  "], // FloatEnd
-    [0, b"                                                                        \xa2\xa2 \xa2      \xf8    "], // ComponentAfterC
+    [0, b"                                                                        \xa3\xa3 \xa3      \xfa    "], // ComponentAfterC
     [0, b"                                                             \x90  \x8f\x96 \x9a \x99  \x97\x93\x8e\x95\x91 \x94\x98       "], // OtherOperator
-    [0, b"                                     \xa3                                                 "], // HeldArguments
-    [0, b"            \xa5\xa5\xa5\xa5\xa5\xa5\xa5\xa5\xa5\xa5                    \xa4    \xa5      n                                "], // BaseClass
-    [0, b"            \xa7\xa7\xa7\xa7\xa7\xa7\xa7\xa7\xa7\xa7                         \xa6                                       "], // UnnestedName
-    [0, b"                                     \xa8                                                 "], // BaseArguments
-    [0, b"            \x82\x82\x82\x82\x82\x82\x82\x82\x82\x82       \x82 \x82\x82 \x82  \x80\x80\x82\x81\x82\x82\x82\x82\xfe\x82\x82\x82\x82\x82\x82\x82 \x82      \x82\x82\x82\x82\x82\x82\x82\x82\x82\x82 \x82\x82\x82\x82  \x82\x82\x82\x82\x82\x82\x82\x82\x82"], // ArgumentsFirst
+    [0, b"                                     \xa4                                                 "], // HeldArguments
+    [0, b"            \xa6\xa6\xa6\xa6\xa6\xa6\xa6\xa6\xa6\xa6                    \xa5    \xa6      n                                "], // BaseClass
+    [0, b"            \xa8\xa8\xa8\xa8\xa8\xa8\xa8\xa8\xa8\xa8                         \xa7                                       "], // UnnestedName
+    [0, b"                                     \xa9                                                 "], // BaseArguments
+    [1, b"            \x81\x81\x81\x81\x81\x81\x81\x81\x81\x81       \x81 \x81\x81 \x81  \x7f\x7f\x81\x80\x81\x81\x81\x81\xff\x81\x81\x81\x81\x81\x81\x81 \x81      \x81\x81\x81\x81\x81\x81\x81\x81\x81\x81 \x81\x81\x81\x81  \x81\x81\x81\x81\x81\x81\x81\x81\x81"], // ArgumentsFirst
     [0, b"            $$$$$$$$$$          &       \" ,      #                                     "], // PlainEntity
     [0, b"            $$$$$$$$$$                  \" S      #                                     "], // PlainTypeEntity
     [0, b"                                   !                                                   "], // SpecialMark
-    [0, b"                                     \xf6        \xf7 \xf5 7                                    "], // SpecialAfterG
-    [0, b"            $$$$$$$$$$          &       \" ,    < #    \xa9                                "], // TemporaryName
+    [0, b"                                     \xf8        \xf9 \xf7 7                                    "], // SpecialAfterG
+    [0, b"            $$$$$$$$$$          &       \" ,    < #    \xaa                                "], // TemporaryName
     [0, b"                                                                          !     !      "], // CloneLetter
-    [0, b"                                                                                \xaa      "], // TypeInStd
-    [0, b"                              \xf4                                                        "], // MaybeTags
-    [0, b"            \xad\xad\xad\xad\xad\xad\xad\xad\xad\xad       \xad \xadb \xad    \\ \xad\xad]\xad ]\xad\xac\xad[\xad\xab \xad      \xad\xad\xad\xad\xad\xad\xad\xad\xad\xad \xad\xad\xad\xad  Z\xad\xad\xad\xad\xad\xad\xad\xad"], // Argument
-    [0, b"            \xae\xae\xae\xae\xae\xae\xae\xae\xae\xae                  \xaf                  \xae           \xf3  \xf3 \xf3   \xf3    \xf3 "], // ArgumentAfterT
-    [0, b"            \xae\xae\xae\xae\xae\xae\xae\xae\xae\xae                                     \xae                           "], // LeveledParameter
-    [0, b"            \xad\xad\xad\xad\xad\xad\xad\xad\xad\xad       \xad \xadb \xad   \xb1\\\xb0\xad\xad]\xad ]\xad\xac\xad[\xad\xab \xad      \xad\xad\xad\xad\xad\xad\xad\xad\xad\xad \xad\xad\xad\xad  Z\xad\xad\xad\xad\xad\xad\xad\xad"], // OneArgument
-    [0, b"                                                                       \xb4  \xb3 \xb6   \xb5    \xb2 "], // DeclarationAfterT
-    [0, b"                                                \xb7                                      "], // Declarations
-    [0, b"            \xad\xad\xad\xad\xad\xad\xad\xad\xad\xad       \xad \xadb \xad    \\ \xad\xad]\xad ]\xad\xb8\xad[\xad  \xad      \xad\xad\xad\xad\xad\xad\xad\xad\xad\xad \xad\xad\xad\xad  Z\xad\xad\xad\xad\xad\xad\xad\xad"], // FirstOfLambda
-    [0, b"            \xb9\xb9\xb9\xb9\xb9\xb9\xb9\xb9\xb9\xb9                                     \xb9           \xf2  \xf2 \xf2   \xf2    \xf2 "], // FirstAfterT
-    [0, b"            \xbb\xbb\xbb\xbb\xbb\xbb\xbb\xbb\xbb\xbb                    \xba    \xbb                                       "], // Concept
-    [0, b"                                     \xbc                                                 "], // ConceptArguments
+    [0, b"                                                                                \xab      "], // TypeInStd
+    [0, b"                              \xf6                                                        "], // MaybeTags
+    [0, b"            \xae\xae\xae\xae\xae\xae\xae\xae\xae\xae       \xae \xaeb \xae    \\ \xae\xae]\xae ]\xae\xad\xae[\xae\xac \xae      \xae\xae\xae\xae\xae\xae\xae\xae\xae\xae \xae\xae\xae\xae  Z\xae\xae\xae\xae\xae\xae\xae\xae"], // Argument
+    [0, b"            \xaf\xaf\xaf\xaf\xaf\xaf\xaf\xaf\xaf\xaf                  \xb0                  \xaf           \xf5  \xf5 \xf5   \xf5    \xf5 "], // ArgumentAfterT
+    [0, b"            \xaf\xaf\xaf\xaf\xaf\xaf\xaf\xaf\xaf\xaf                                     \xaf                           "], // LeveledParameter
+    [0, b"            \xae\xae\xae\xae\xae\xae\xae\xae\xae\xae       \xae \xaeb \xae   \xb2\\\xb1\xae\xae]\xae ]\xae\xad\xae[\xae\xac \xae      \xae\xae\xae\xae\xae\xae\xae\xae\xae\xae \xae\xae\xae\xae  Z\xae\xae\xae\xae\xae\xae\xae\xae"], // OneArgument
+    [0, b"                                                                       \xb5  \xb4 \xb7   \xb6    \xb3 "], // DeclarationAfterT
+    [0, b"                                                \xb8                                      "], // Declarations
+    [0, b"            \xae\xae\xae\xae\xae\xae\xae\xae\xae\xae       \xae \xaeb \xae    \\ \xae\xae]\xae ]\xae\xb9\xae[\xae  \xae      \xae\xae\xae\xae\xae\xae\xae\xae\xae\xae \xae\xae\xae\xae  Z\xae\xae\xae\xae\xae\xae\xae\xae"], // FirstOfLambda
+    [0, b"            \xba\xba\xba\xba\xba\xba\xba\xba\xba\xba                                     \xba           \xf4  \xf4 \xf4   \xf4    \xf4 "], // FirstAfterT
+    [0, b"            \xbc\xbc\xbc\xbc\xbc\xbc\xbc\xbc\xbc\xbc                    \xbb    \xbc                                       "], // Concept
+    [0, b"                                     \xbd                                                 "], // ConceptArguments
     [0, b"            $$$$$$$$$$       q s  r      kS j  m # *  n      oooooooooo oooo   oopooooo"], // SolidButT
-    [0, b"            \xbf\xbf\xbf\xbf\xbf\xbf\xbf\xbf\xbf\xbf                  \xb0       \xea            \xda \xdb\xdc\xdd\xde\xdf \xe0  \xe1\xe2\xe3\xe4\xe5\xe6\xe7\xe8\xe9      "], // Expression
-    [0, b"            \xeb\xeb\xeb\xeb\xeb\xeb\xeb\xeb\xeb\xeb                  \xec                  \xeb                           "], // ExpressionParameter
-    [0, b"            \xeb\xeb\xeb\xeb\xeb\xeb\xeb\xeb\xeb\xeb                                     \xeb                           "], // UnleveledExpression
-    [0, b"            \xbf\xbf\xbf\xbf\xbf\xbf\xbf\xbf\xbf\xbf                  \xed       \xea            \xda \xdb\xdc\xdd\xde\xdf \xe0  \xe1\xe2\xe3\xe4\xe5\xe6\xe7\xe8\xe9      "], // AddressedExpression
-    [0, b"            \x88\x88\x88\x88\x88\x88\x88\x88\x88\x88          \x87      \x88 \x88\x88 \x88  \x88\x88\x88\x88\x88  \x88    \x85 \x88\x86\x88\xfc\xfc\xfc\xfc\x88\x88\x88 \x88\x88\x88\x88   \x88\x88  \x88\x88\x88 "], // AddressedLiteral
-    [0, b"                                          \xc2    \xc2             \xc2  \xc1         \xc2     \xc4  \xc3  \xc3"], // ExpressionAfterA
-    [0, b"                                                               \xbd        \xc5\xc2 \xc3\xc5     \xc6    "], // ExpressionAfterC
-    [0, b"                                                  \xc2          \xc3 \xbd \xc3   \xc7  \xc3 \xc9    \xc2\xc2 \xc2 \xc8  "], // ExpressionAfterD
-    [0, b"                                           \xc2                               \xc2 \xc2         "], // ExpressionAfterE
-    [0, b"                                        \xca     \xcb                         \xcc   \xc0 \xcd        "], // ExpressionAfterF
-    [0, b"                                                                 \xc2             \xc3\xc2      "], // ExpressionAfterG
-    [0, b"                                                                        \xce           \xc2  "], // ExpressionAfterI
-    [0, b"                                               \xc2                 \xc2             \xc2\xc2      "], // ExpressionAfterL
-    [0, b"                                     \xc2  \xc2                            \xc2  \xc2\xcf             "], // ExpressionAfterM
-    [0, b"                                                             \xd0   \xc2 \xc3            \xc3  \xd0\xc3  "], // ExpressionAfterN
-    [0, b"                                              \xc2                           \xbe\xc2  \xc2        "], // ExpressionAfterO
-    [0, b"                                        \xc2                               \xc2\xc2  \xcf  \xc3\xc2      "], // ExpressionAfterP
-    [0, b"                                                                                 \xd1     "], // ExpressionAfterQ
-    [0, b"                                         \xc2   \xd3 \xc2               \xbd         \xc2   \xd2 \xc2       "], // ExpressionAfterR
-    [0, b"                                                      \xd5        \xbd            \xd4 \xd6\xc2\xc4    \xd7\xc3"], // ExpressionAfterS
-    [0, b"                                                                 \xc3   \xc4  \xd8     \xd9    \xc3   "], // ExpressionAfterT
-    [0, b"            \xee\xee\xee\xee\xee\xee\xee\xee\xee\xee                  \xee       \xee            \xee \xee\xee\xee\xee\xee \xee  \xee\xee\xee\xee\xee\xee\xee\xee\xee      "], // Expressions
+    [0, b"            \xc0\xc0\xc0\xc0\xc0\xc0\xc0\xc0\xc0\xc0                  \xb1       \xeb            \xdb \xdc\xdd\xde\xdf\xe0 \xe1  \xe2\xe3\xe4\xe5\xe6\xe7\xe8\xe9\xea\xed     "], // Expression
+    [0, b"            \xec\xec\xec\xec\xec\xec\xec\xec\xec\xec                  \xee                  \xec                           "], // ExpressionParameter
+    [0, b"            \xec\xec\xec\xec\xec\xec\xec\xec\xec\xec                                     \xec                           "], // UnleveledExpression
+    [0, b"            \xc0\xc0\xc0\xc0\xc0\xc0\xc0\xc0\xc0\xc0                  \xef       \xeb            \xdb \xdc\xdd\xde\xdf\xe0 \xe1  \xe2\xe3\xe4\xe5\xe6\xe7\xe8\xe9\xea\xed     "], // AddressedExpression
+    [0, b"            \x88\x88\x88\x88\x88\x88\x88\x88\x88\x88          \x87      \x88 \x88\x88 \x88  \x88\x88\x88\x88\x88  \x88    \x85 \x88\x86\x88\xfe\xfe\xfe\xfe\x88\x88\x88 \x88\x88\x88\x88   \x88\x88  \x88\x88\x88 "], // AddressedLiteral
+    [0, b"                                          \xc3    \xc3             \xc3  \xc2         \xc3     \xc5  \xc4  \xc4"], // ExpressionAfterA
+    [0, b"                                                               \xbe        \xc6\xc3 \xc4\xc6     \xc7    "], // ExpressionAfterC
+    [0, b"                                                  \xc3          \xc4 \xbe \xc4   \xc8  \xc4 \xca    \xc3\xc3 \xc3 \xc9  "], // ExpressionAfterD
+    [0, b"                                           \xc3                               \xc3 \xc3         "], // ExpressionAfterE
+    [0, b"                                        \xcb     \xcc                         \xcd   \xc1 \xce        "], // ExpressionAfterF
+    [0, b"                                                                 \xc3             \xc4\xc3      "], // ExpressionAfterG
+    [0, b"                                                                        \xcf           \xc3  "], // ExpressionAfterI
+    [0, b"                                               \xc3                 \xc3             \xc3\xc3      "], // ExpressionAfterL
+    [0, b"                                     \xc3  \xc3                            \xc3  \xc3\xd0             "], // ExpressionAfterM
+    [0, b"                                                             \xd1   \xc3 \xc4            \xc4  \xd1\xc4  "], // ExpressionAfterN
+    [0, b"                                              \xc3                           \xbf\xc3  \xc3        "], // ExpressionAfterO
+    [0, b"                                        \xc3                               \xc3\xc3  \xd0  \xc4\xc3      "], // ExpressionAfterP
+    [0, b"                                                                                 \xd2     "], // ExpressionAfterQ
+    [0, b"                                         \xc3   \xd4 \xc3               \xbe         \xc3   \xd3 \xc3       "], // ExpressionAfterR
+    [0, b"                                                      \xd6        \xbe            \xd5 \xd7\xc3\xc5    \xd8\xc4"], // ExpressionAfterS
+    [0, b"                                                                 \xc4   \xc5  \xd9     \xda    \xc4   "], // ExpressionAfterT
+    [0, b"            \xf0\xf0\xf0\xf0\xf0\xf0\xf0\xf0\xf0\xf0                  \xf0       \xf0            \xf0 \xf0\xf0\xf0\xf0\xf0 \xf0  \xf0\xf0\xf0\xf0\xf0\xf0\xf0\xf0\xf0\xf0     "], // Expressions
     [0, b"                                                           !                           "], // MaybeBefore
-    [0, b"                                                             \x90 \x92\x8f\x96 \x9a \x99  \xef\x93\x8e\x95\x91 \x94\x98       "], // FoldOperator
+    [0, b"                                                             \x90 \x92\x8f\x96 \x9a \x99  \xf1\x93\x8e\x95\x91 \x94\x98       "], // FoldOperator
     [0, b"                                               !                 !             !!      "], // FoldOperatorAfterL
-    [0, b"            \xf0\xf0\xf0\xf0\xf0\xf0\xf0\xf0\xf0\xf0                                       \x00 \x00\x00\x00 \x00 \x00  \x00\x00\x00\x00\x00 \x00\x00       "], // AfterOuter
+    [0, b"            \xf2\xf2\xf2\xf2\xf2\xf2\xf2\xf2\xf2\xf2                                       \x00 \x00\x00\x00 \x00 \x00  \x00\x00\x00\x00\x00 \x00\x00       "], // AfterOuter
     [0, b"                                                             \x01 \x01\x01\x01 \x01 \x01  \x01\x01\x01\x01\x01 \x01\x01       "], // FoldSigns
     [0, b"                                                             \x02 \x02\x02\x02 \x02 \x02  \x02\x02\x02\x02\x02 \x02\x02       "], // FoldSign
-    [0, b"            \x03\x03\x03\x03\x03\x03\x03\x03\x03\x03                  \x03       \x03            \x03 \x03\x03\x03\x03\x03 \x03  \x03\x03\x03\x03\x03\x03\x03\x03\x03      "], // FoldValue
-    [0, b"            \x04\x04\x04\x04\x04\x04\x04\x04\x04\x04                  \x04       \x04            \x04 \x04\x04\x04\x04\x04 \x04  \x04\x04\x04\x04\x04\x04\x04\x04\x04      "], // FoldOperand
-    [0, b"            \x05\x05\x05\x05\x05\x05\x05\x05\x05\x05                  \x05       \x05            \x05 \x05\x05\x05\x05\x05 \x05  \x05\x05\x05\x05\x05\x05\x05\x05\x05      "], // FoldPack
-    [0, b"            \x05\x05\x05\x05\x05\x05\x05\x05\x05\x05                \xb1 \x05       \x05            \x05 \x05\x05\x05\x05\x05 \x05  \x05\x05\x05\x05\x05\x05\x05\x05\x05      "], // ValuePack
-    [0, b"            \x06\x06\x06\x06\x06\x06\x06\x06\x06\x06       \x06 \x06\x06 \x06   \xb1\x06 \x06\x06\x06\x06 \x06\x06\x06\x06\x06\x06  \x06      \x06\x06\x06\x06\x06\x06\x06\x06\x06\x06 \x06\x06\x06\x06  \x06\x06\x06\x06\x06\x06\x06\x06\x06"], // TypePack
-    [0, b"            \x08\x08\x08\x08\x08\x08\x08\x08\x08\x08                  \x08       \x08            \x08 \x08\x07\x08\x08\x08 \x08  \x08\x08\x08\x08\x08\x08\x08\x08\x08      "], // DesignatedValue
-    [0, b"                                                                     \xc7              \xc8  "], // DesignatorAfterD
-    [0, b"            \xbf\xbf\xbf\xbf\xbf\xbf\xbf\xbf\xbf\xbf                  \xb0       \xea            \xda \xdb \xdd\xde\xdf \xe0  \xe1\xe2\xe3\xe4\xe5\xe6\xe7\xe8\xe9      "], // PlainValue
+    [0, b"            \x03\x03\x03\x03\x03\x03\x03\x03\x03\x03                  \x03       \x03            \x03 \x03\x03\x03\x03\x03 \x03  \x03\x03\x03\x03\x03\x03\x03\x03\x03\x03     "], // FoldValue
+    [0, b"            \x04\x04\x04\x04\x04\x04\x04\x04\x04\x04                  \x04       \x04            \x04 \x04\x04\x04\x04\x04 \x04  \x04\x04\x04\x04\x04\x04\x04\x04\x04\x04     "], // FoldOperand
+    [0, b"            \x05\x05\x05\x05\x05\x05\x05\x05\x05\x05                  \x05       \x05            \x05 \x05\x05\x05\x05\x05 \x05  \x05\x05\x05\x05\x05\x05\x05\x05\x05\x05     "], // FoldPack
+    [0, b"            \x05\x05\x05\x05\x05\x05\x05\x05\x05\x05                \xb2 \x05       \x05            \x05 \x05\x05\x05\x05\x05 \x05  \x05\x05\x05\x05\x05\x05\x05\x05\x05\x05     "], // ValuePack
+    [0, b"            \x06\x06\x06\x06\x06\x06\x06\x06\x06\x06       \x06 \x06\x06 \x06   \xb2\x06 \x06\x06\x06\x06 \x06\x06\x06\x06\x06\x06  \x06      \x06\x06\x06\x06\x06\x06\x06\x06\x06\x06 \x06\x06\x06\x06  \x06\x06\x06\x06\x06\x06\x06\x06\x06"], // TypePack
+    [0, b"            \x08\x08\x08\x08\x08\x08\x08\x08\x08\x08                  \x08       \x08            \x08 \x08\x07\x08\x08\x08 \x08  \x08\x08\x08\x08\x08\x08\x08\x08\x08\x08     "], // DesignatedValue
+    [0, b"                                                                     \xc8              \xc9  "], // DesignatorAfterD
+    [0, b"            \xc0\xc0\xc0\xc0\xc0\xc0\xc0\xc0\xc0\xc0                  \xb1       \xeb            \xdb \xdc \xde\xdf\xe0 \xe1  \xe2\xe3\xe4\xe5\xe6\xe7\xe8\xe9\xea\xed     "], // PlainValue
     [0, b"            \xa0\xa0\xa0\xa0\xa0\xa0\xa0\xa0\xa0\xa0                                                                 "], // FieldName
-    [0, b"            \x09\x09\x09\x09\x09\x09\x09\x09\x09\x09                  \x09       \x09          ! \x09 \x09\x09\x09\x09\x09 \x09  \x09\x09\x09\x09\x09\x09\x09\x09\x09      "], // Placement
-    [0, b"            \xee\xee\xee\xee\xee\xee\xee\xee\xee\xee                  \xee       \xee            \xee \xee\xee\xee\xee\xee \xee  \xee\xee\xee\xee\xee\xee\xee\xee\xee      "], // SomeExpressions
+    [0, b"            \x09\x09\x09\x09\x09\x09\x09\x09\x09\x09                  \x09       \x09          ! \x09 \x09\x09\x09\x09\x09 \x09  \x09\x09\x09\x09\x09\x09\x09\x09\x09\x09     "], // Placement
+    [0, b"            \xf0\xf0\xf0\xf0\xf0\xf0\xf0\xf0\xf0\xf0                  \xf0       \xf0            \xf0 \xf0\xf0\xf0\xf0\xf0 \xf0  \xf0\xf0\xf0\xf0\xf0\xf0\xf0\xf0\xf0\xf0     "], // SomeExpressions
     [0, b"                                 {                                   \x0b      \x0a          "], // Initializer
-    [0, b"                                                                     \xce                 "], // InitializerAfterP
-    [0, b"                                                                        \xce              "], // InitializerAfterI
-    [0, b"                                                                            \xc0          "], // OuterRest
+    [0, b"                                                                     \xcf                 "], // InitializerAfterP
+    [0, b"                                                                        \xcf              "], // InitializerAfterI
+    [0, b"                                                                            \xc1          "], // OuterRest
     [0, b"            \x0d\x0d\x0d\x0d\x0d\x0d\x0d\x0d\x0d\x0d                          \x0c          \x0d                           "], // ParameterNumber
     [0, b"            \x12\x12\x12\x12\x12\x12\x12\x12\x12\x12          \x0e \x12    \x0f  \x12\x11\x10 \x11\x12\x12\x12           \x12\x12\x12\x12\x12\x12\x12\x12\x12\x12 \x12\x12\x12\x12   \x12\x12 \x12\x12\x12\x12\x12"], // ConvertedType
     [0, b"            $$$$$$$$$$            r       S    m\x13#           oooooooooo oooo   oo ooooo"], // ConvertedSolid
-    [0, b"            \xae\xae\xae\xae\xae\xae\xae\xae\xae\xae                  \xaf                  \xae                           "], // ParameterAfterT
+    [0, b"            \xaf\xaf\xaf\xaf\xaf\xaf\xaf\xaf\xaf\xaf                  \xb0                  \xaf                           "], // ParameterAfterT
     [0, b"                                                i                               i      "], // DecltypeAfterD
     [0, b"                                                i            e e                i      "], // ConvertedAfterD
-    [0, b"            \xbf\xbf\xbf\xbf\xbf\xbf\xbf\xbf\xbf\xbf                  \xb0       \xea          \xce \xda \xdb\xdc\xdd\xde\xdf \xe0  \xe1\xe2\xe3\xe4\xe5\xe6\xe7\xe8\xe9      "], // ConvertRest
+    [0, b"            \xc0\xc0\xc0\xc0\xc0\xc0\xc0\xc0\xc0\xc0                  \xb1       \xeb          \xcf \xdb \xdc\xdd\xde\xdf\xe0 \xe1  \xe2\xe3\xe4\xe5\xe6\xe7\xe8\xe9\xea\xed     "], // ConvertRest
     [0, b"            \x15\x15\x15\x15\x15\x15\x15\x15\x15\x15          \x14         \x14    \x14\x14                                      "], // Unresolved
     [0, b"                                \x0e         S    m\x13                                      "], // UnresolvedType
-    [0, b"            \xbf\xbf\xbf\xbf\xbf\xbf\xbf\xbf\xbf\xbf          \x16         \x16    \x16\x16                                      "], // DestructorName
+    [0, b"            \xc0\xc0\xc0\xc0\xc0\xc0\xc0\xc0\xc0\xc0          \x16         \x16    \x16\x16                                      "], // DestructorName
     [0, b"                                             \x19  \x18   \x17                                  "], // Requirements
     [0, b"                                          !                                            "], // MaybeNoexcept
     [0, b"                                             \x19\x1a \x18   \x17                                  "], // AfterNoexcept
-    [0, b"            \x1b\x1b\x1b\x1b\x1b\x1b\x1b\x1b\x1b\x1b          \x1b \x1b    \x1b  \x1b\x1b\x1b \x1b\x1b\x1b\x1b         \xd2 \x1b\x1b\x1b\x1b\x1b\x1b\x1b\x1b\x1b\x1b \x1b\x1b\x1b\x1b   \x1b\x1b \x1b\x1b\x1b\x1b\x1b"], // RequiredTypes
-    [0, b"            \xbf\xbf\xbf\xbf\xbf\xbf\xbf\xbf\xbf\xbf                                                                 "], // Level
+    [0, b"            \x1b\x1b\x1b\x1b\x1b\x1b\x1b\x1b\x1b\x1b          \x1b \x1b    \x1b  \x1b\x1b\x1b \x1b\x1b\x1b\x1b         \xd3 \x1b\x1b\x1b\x1b\x1b\x1b\x1b\x1b\x1b\x1b \x1b\x1b\x1b\x1b   \x1b\x1b \x1b\x1b\x1b\x1b\x1b"], // RequiredTypes
+    [0, b"            \xc0\xc0\xc0\xc0\xc0\xc0\xc0\xc0\xc0\xc0                                                                 "], // Level
     [0, b"            \x15\x15\x15\x15\x15\x15\x15\x15\x15\x15           \x1c                                                     "], // MoreLevels
-    [0, b"            \xbf\xbf\xbf\xbf\xbf\xbf\xbf\xbf\xbf\xbf                                                     \x1d           "], // UnresolvedName
-    [0, b"                                                                          \xbe            "], // OperatorName
+    [0, b"            \xc0\xc0\xc0\xc0\xc0\xc0\xc0\xc0\xc0\xc0                                                     \x1d           "], // UnresolvedName
+    [0, b"                                                                          \xbf            "], // OperatorName
     [0, b"                             \x1e                                                         "], // AnyArray
-    [0, b"            \x1f\x1f\x1f\x1f\x1f\x1f\x1f\x1f\x1f\x1f                  \xf1       \xf1          \x1f \xf1 \xf1\xf1\xf1\xf1\xf1 \xf1  \xf1\xf1\xf1\xf1\xf1\xf1\xf1\xf1\xf1      "], // ArrayRest
-    [0, b"                                        \xb0       \xea            \xda \xdb\xdc\xdd\xde\xdf \xe0  \xe1\xe2\xe3\xe4\xe5\xe6\xe7\xe8\xe9      "], // Bound
+    [0, b"            \x1f\x1f\x1f\x1f\x1f\x1f\x1f\x1f\x1f\x1f                  \xf3       \xf3          \x1f \xf3 \xf3\xf3\xf3\xf3\xf3 \xf3  \xf3\xf3\xf3\xf3\xf3\xf3\xf3\xf3\xf3\xf3     "], // ArrayRest
+    [0, b"                                        \xb1       \xeb            \xdb \xdc\xdd\xde\xdf\xe0 \xe1  \xe2\xe3\xe4\xe5\xe6\xe7\xe8\xe9\xea\xed     "], // Bound
     [0, b"            IIIIIIIIII         IIJI     II     I I I         I III I I  IIIII II       "], // NestMoreOrEnd
 };
 
@@ -212,7 +213,7 @@ static WIDE_ROWS: [Row; 183] = rows! {
 #[inline]
 fn number(kind: u16, byte: u8) -> Option<usize>
     requires { kind < wide.kinds }
-    ensures few { IfSome result (λ number. number < 268) }
+    ensures few { IfSome result (λ number. number < 270) }
     ensures rule { (head : Head) → MatchOption result (wide.rule kind byte ≡ None) (λ number. wide.rule kind byte ≡ Some (listed_rule head number)) }
 {
     let row = &WIDE_ROWS[kind as usize];

@@ -12,7 +12,7 @@ ghost use Rattle.cpp_term.specs.Items as items;
 ghost use Rattle.cpp_term.specs.Parts.{piece_parts, prefix_item, before_piece, component_parts, attached_parts, within_parts, base_within, base_tagged, own_piece, entity_of, opening_text, last_piece, instance_parts};
 ghost use Rattle.cpp_tree.specs.Nodes.{piece_of, tree_at, trees, bytes_at, IsTable, IsWithin, IsPieceBelow, IsAliasBelow};
 ghost use Rattle.cpp_layout.specs.Texts.{fixed_text};
-ghost use Rattle.cpp_layout.specs.declared.texts.TheConstants.{BLANK_LESS, COLONS, COUNT, LESS};
+ghost use Rattle.cpp_layout.specs.declared.texts.TheConstants.{ANONYMOUS, BLANK_LESS, COLONS, COUNT, LESS};
 ghost use Rattle.cpp_layout.specs.Layout.{table_of, context_of, Shows, IsOwn, IsNoSource, printed_tree, piece_shown};
 
 use crate::codes::{is_angle_code, operator};
@@ -37,6 +37,15 @@ fn is_anonymous(name: &[u8]) -> bool
     name.starts_with(b"_GLOBAL__N")
 }
 
+/// What an unnamed namespace is shown as.
+// It is out of line: with all fixed texts within it, what calls `name_text` would be too large for the kit to inline.
+#[inline(never)]
+fn anonymous_text() -> &'static [u8]
+    ensures { result.now ≡ fixed_text ANONYMOUS }
+{
+    texts::fixed_text(texts::ANONYMOUS)
+}
+
 /// What a source name is shown as: its own bytes, except for an unnamed namespace.
 #[tactic(auto, unfolding(crate::specs::Texts::fixed_text, cpp_grammar::specs::Parts::source_text))]
 #[inline(always)]
@@ -44,7 +53,7 @@ pub fn name_text(name: &[u8]) -> &[u8]
     ensures { result.now ≡ source_text name.now }
 {
     if is_anonymous(name) {
-        return texts::fixed_text(texts::ANONYMOUS);
+        return anonymous_text();
     }
     name
 }
@@ -318,7 +327,8 @@ impl Symbol {
     }
 
     /// The entity of a local name. Its default argument isn't shown.
-    #[inline(always)]
+    // It is out of line: with it `fill_form` would be too large for the kit to inline, and be called for each item.
+    #[inline(never)]
     pub(crate) fn own_entity(&self, entity: u32, ctx: Context) -> Place
         requires table { IsTable (table_of self.now) }
         requires entity { entity < length self.now.table.nodes }

@@ -9,7 +9,7 @@ use Rattle.sym_shape.specs.declared.rule.Sym.TheVariants.{Kind as OfKind}
 use Rattle.sym_link.specs.Reading.{Found, Next, ◌>>=◌}
 use Rattle.sym_link.specs.Unfold.{found}
 use Rattle.cpp_grammar.specs.declared.production.Production.{Production}
-use Rattle.cpp_grammar.specs.KindNumbers.{PARAMETER_AFTER_T, NEST, NEST_AFTER_S, NEST_REST, NEST_TAIL, NEST_REST_OR_END, NEST_REST_ALONE, NEST_MORE_OR_END, COMPONENT, CONSTRUCTOR_AFTER_C, HELD_COMPONENT, COMPONENT_AFTER_C, ABBREVIATION, ITEM_AFTER_D, AFTER_D, SOLID, SOLID_BUT_T, TYPE_AFTER_S, TYPE_IN_STD, UNNESTED_NAME, LITERAL_TYPE, LITERAL_SOLID, MAYBE_ARGUMENTS, ARGUMENTS, ARGUMENTS_ALONE, MAYBE_TAGS, ARGUMENT_AFTER_T, LEVELED_PARAMETER, ANY_ARRAY, ARRAY_REST, BASE_ARGUMENTS, CONVERTED_SOLID, CONVERTED_AFTER_D, DECLTYPE_AFTER_D, UNRESOLVED_TYPE, NAME_AFTER_MODULE, NAME_IN_MODULE, NEST_ON}
+use Rattle.cpp_grammar.specs.KindNumbers.{VENDOR_ARGUMENTS, PARAMETER_AFTER_T, NEST, NEST_AFTER_S, NEST_REST, NEST_TAIL, NEST_REST_OR_END, NEST_REST_ALONE, NEST_MORE_OR_END, COMPONENT, CONSTRUCTOR_AFTER_C, HELD_COMPONENT, COMPONENT_AFTER_C, ABBREVIATION, ITEM_AFTER_D, AFTER_D, SOLID, SOLID_BUT_T, TYPE_AFTER_S, TYPE_IN_STD, UNNESTED_NAME, LITERAL_TYPE, LITERAL_SOLID, MAYBE_ARGUMENTS, ARGUMENTS, ARGUMENTS_ALONE, MAYBE_TAGS, ARGUMENT_AFTER_T, LEVELED_PARAMETER, ANY_ARRAY, ARRAY_REST, BASE_ARGUMENTS, CONVERTED_SOLID, CONVERTED_AFTER_D, DECLTYPE_AFTER_D, UNRESOLVED_TYPE, NAME_AFTER_MODULE, NAME_IN_MODULE, NEST_ON}
 use Rattle.cpp_grammar.specs.Row.{of, only, extending, tagging, applying, packing, Where, under_it, nothing, the_prefix, type_of, unqualified_of, itself, Action, quiet, goes, becomes, tests, holds, unread, Row, before_part}
 use Rattle.cpp_grammar.specs.Rows.{row_of}
 use Rattle.cpp_grammar.proofs.ClosedStates.{ok_same, behind_bind}
@@ -52,7 +52,7 @@ unfoldable pub goes_on : ℕ → Bool
 goes_on k = nat_eq k NEST_REST || nat_eq k NEST_TAIL || nat_eq k NEST_REST_OR_END || nat_eq k NEST_REST_ALONE || nat_eq k NEST_MORE_OR_END || nat_eq k NEST_ON || nat_eq k BASE_ARGUMENTS
 
 unfoldable pub is_arguments : ℕ → Bool
-is_arguments k = nat_eq k MAYBE_ARGUMENTS || nat_eq k ARGUMENTS || nat_eq k ARGUMENTS_ALONE || nat_eq k MAYBE_TAGS
+is_arguments k = nat_eq k MAYBE_ARGUMENTS || nat_eq k ARGUMENTS || nat_eq k ARGUMENTS_ALONE || nat_eq k VENDOR_ARGUMENTS || nat_eq k MAYBE_TAGS
 
 -- a name with tags in the place of the arguments after it, which isn't a candidate yet
 unfoldable pub in_place : Value → ℕ

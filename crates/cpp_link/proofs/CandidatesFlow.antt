@@ -10,7 +10,7 @@ use Rattle.sym_shape.specs.declared.rule.Sym.TheVariants.{Kind as OfKind, Name, 
 use Rattle.sym_link.specs.Reading.{Found}
 use Rattle.cpp_grammar.specs.declared.production.Production.{Production}
 use Rattle.cpp_grammar.specs.declared.production.Operation.{Operation}
-use Rattle.cpp_grammar.specs.KindNumbers.{PARAMETER_AFTER_T, INTEGER, ANONYMOUS, OPERATOR, OTHER_OPERATOR, OPERATOR_AFTER_C, CONSTRUCTOR_DIGIT, COMPONENT_AFTER_D, BINDING_AFTER_D, SOURCE_OR_LOCAL, NEST, NEST_AFTER_S, AFTER_D, ITEM_AFTER_D, SOLID, SOLID_BUT_T, ARGUMENT_AFTER_T, LEVELED_PARAMETER, ANY_ARRAY, ARRAY_REST, LITERAL_TYPE, CONVERTED_SOLID, DECLTYPE_AFTER_D, UNRESOLVED_TYPE, UNRESOLVED_NAME, UNQUALIFIED, NEST_REST, NEST_REST_OR_END, NEST_REST_ALONE, NEST_TAIL, NEST_MORE_OR_END, COMPONENT, COMPONENT_AFTER_C, CONSTRUCTOR_AFTER_C, HOLDER_MARK, HELD_COMPONENT, ABBREVIATION, TYPE_AFTER_S, TYPE_IN_STD, UNNESTED_NAME, MAYBE_ARGUMENTS, MAYBE_TAGS, ARGUMENTS, ARGUMENTS_ALONE, ARGUMENTS_FIRST, BASE_ARGUMENTS, HELD_ARGUMENTS, LITERAL_SOLID, CONVERTED_AFTER_D, FIRST_MODULE, NAMED_MODULE, NAME_AFTER_MODULE, NAME_IN_MODULE, NEST_ON}
+use Rattle.cpp_grammar.specs.KindNumbers.{VENDOR_ARGUMENTS, PARAMETER_AFTER_T, INTEGER, ANONYMOUS, OPERATOR, OTHER_OPERATOR, OPERATOR_AFTER_C, CONSTRUCTOR_DIGIT, COMPONENT_AFTER_D, BINDING_AFTER_D, SOURCE_OR_LOCAL, NEST, NEST_AFTER_S, AFTER_D, ITEM_AFTER_D, SOLID, SOLID_BUT_T, ARGUMENT_AFTER_T, LEVELED_PARAMETER, ANY_ARRAY, ARRAY_REST, LITERAL_TYPE, CONVERTED_SOLID, DECLTYPE_AFTER_D, UNRESOLVED_TYPE, UNRESOLVED_NAME, UNQUALIFIED, NEST_REST, NEST_REST_OR_END, NEST_REST_ALONE, NEST_TAIL, NEST_MORE_OR_END, COMPONENT, COMPONENT_AFTER_C, CONSTRUCTOR_AFTER_C, HOLDER_MARK, HELD_COMPONENT, ABBREVIATION, TYPE_AFTER_S, TYPE_IN_STD, UNNESTED_NAME, MAYBE_ARGUMENTS, MAYBE_TAGS, ARGUMENTS, ARGUMENTS_ALONE, ARGUMENTS_FIRST, BASE_ARGUMENTS, HELD_ARGUMENTS, LITERAL_SOLID, CONVERTED_AFTER_D, FIRST_MODULE, NAMED_MODULE, NAME_AFTER_MODULE, NAME_IN_MODULE, NEST_ON}
 use Rattle.cpp_grammar.specs.Grammar.{parts_of, number_of_kind}
 use Rattle.cpp_grammar.specs.Row.{Made, unlisted, unless_there, Form, handed, finished, either, a_name, as_before, as_part, after_part, nameless, Gain, nothing, type_of, unqualified_of, itself, Action, quiet, goes, becomes, tests, Row, before_part}
 use Rattle.cpp_grammar.specs.Rows.{row_of}
@@ -98,6 +98,28 @@ listed-flow m leave around place x k leaves_none none follows = λ state next e.
         let t : Term = made 0 around (v ∷ []) m in
         came (going (tree t true ∷ []) (after t true around) state) next e
         (none-appended (going (tree t true ∷ []) (after t true around) state) (omega arith) (λ w. follows.1 (after t true around) w ∙ no_more (is_there w)) (λ w. closes (tree t true) w)))
+
+-- a name that is made, and becomes a candidate only as a whole, with the arguments that follow, if there are some
+whole-flow : (m : Made) (leave : Left) (around : Around) (place : ℕ) (x : Sym) (k : ℕ) → ((vs : List Value) → nodes_made m vs ≡ 1) → ((v : Value) → leave v ≤ 1) → Untaken x → AfterName k
+    → RowFlow (listed_row m) leave around place (x ∷ OfKind k ∷ []) [] 0
+unfolding few_.unlisted_around before_part done replaced after prefix_listed state_after gained nodes_before nodes_at_end part
+whole-flow m leave around place x k one few none follows = λ state next e. came (going [] around state) next e (none-appended (going [] around state) (omega arith) (λ v. none around v) begun)
+  where
+    no_more : (b : Bool) → ◌≡◌ {A = ℕ} (cond b 0 0) 0
+    no_more true = refl
+    no_more false = refl
+
+    closes : (u w : Value) → RowFlow (listed_row m) leave around place [] (u ∷ w ∷ []) 1
+    closes u w = λ byte began state. omega (arith, few (meant (a_name unlisted) byte around (u ∷ w ∷ [])))
+
+    begun : (v : Value) → RowFlow (listed_row m) leave around place (OfKind k ∷ []) (v ∷ []) 0
+    begun v = λ state next e. (
+        let t : Term = made 0 around (v ∷ []) m in
+        came (going (tree t true ∷ []) (after t true around) state) next e (record {
+          over = 1;
+          few = omega (arith, one (v ∷ []));
+          later = λ w. record { now = 1; few = omega (arith, follows.1 (after t true around) w, no_more (is_there w)); goes = closes (tree t true) w };
+        }))
 
 -- a name after a module, which is no candidate yet
 module-name-flow : (m : Made) (leave : Left) (around : Around) (place : ℕ) (x : Sym) → ((v : Value) → leave v ≤ 1) → Untaken x → RowFlow (module_row m) leave around place (x ∷ OfKind NAME_AFTER_MODULE ∷ []) [] 0
@@ -490,6 +512,10 @@ arguments-alone : AfterName ARGUMENTS_ALONE
 unfolding pending pending_around goes_on is_arguments is_component becomes_candidate
 arguments-alone = (λ w. refl, λ around w. refl)
 
+vendor-arguments : AfterName VENDOR_ARGUMENTS
+unfolding pending pending_around goes_on is_arguments is_component becomes_candidate
+vendor-arguments = (λ w. refl, λ around w. refl)
+
 maybe-tags : AfterName MAYBE_TAGS
 unfolding pending pending_around goes_on is_arguments is_component becomes_candidate
 maybe-tags = (λ w. refl, λ around w. refl)
@@ -506,6 +532,12 @@ module _ (p : Production) (is : closes_by_row p ≡ true) (around : Around) (pla
   listed_name m x k row left none follows =
       of-row p is around place (x ∷ OfKind k ∷ []) [] 0
       (subst (λ r. RowFlow r (leaves p) around place (x ∷ OfKind k ∷ []) [] 0) (sym row) (listed-flow m (leaves p) around place x k left none follows))
+
+  whole_name : (m : Made) (x : Sym) (k : ℕ) → row_of p ≡ listed_row m → ((vs : List Value) → nodes_made m vs ≡ 1) → Untaken x → AfterName k
+      → Flow p around place (x ∷ OfKind k ∷ []) [] 0
+  whole_name m x k row one none follows =
+      of-row p is around place (x ∷ OfKind k ∷ []) [] 0
+      (subst (λ r. RowFlow r (leaves p) around place (x ∷ OfKind k ∷ []) [] 0) (sym row) (whole-flow m (leaves p) around place x k one (leaves-one p) none follows))
 
   in_module : (m : Made) (x : Sym) → row_of p ≡ module_row m → Untaken x → Flow p around place (x ∷ OfKind NAME_AFTER_MODULE ∷ []) [] 0
   in_module m x row none =
@@ -617,6 +649,7 @@ flows Production.TypeWithD around place = typed Production.TypeWithD refl around
 flows Production.PlainWithD around place = unqualified Production.PlainWithD refl around place (OfKind AFTER_D) refl (λ a v. refl) (λ v. refl) (λ v. refl)
 flows Production.QualifiedPlain around place = unqualified Production.QualifiedPlain refl around place (OfKind SOLID) refl (λ a v. refl) (λ v. refl) (λ v. refl)
 flows Production.ItemWithD around place = typed Production.ItemWithD refl around place (OfKind ITEM_AFTER_D) refl (λ a v. refl) (λ v. refl) (λ v. refl)
+flows Production.Vendor around place = whole_name Production.Vendor refl around place _ Name VENDOR_ARGUMENTS refl (λ vs. refl) (λ a v. refl) vendor-arguments
 flows Production.IntegerLiteral around place = of_type Production.IntegerLiteral refl around place _ (OfKind LITERAL_TYPE) (OfKind INTEGER) refl (λ a v. refl) (λ a v. refl) (λ v. refl) (λ byte vs. omega arith)
 flows Production.QualifiedLiteral around place = unqualified Production.QualifiedLiteral refl around place (OfKind LITERAL_SOLID) refl (λ a v. refl) (λ v. refl) (λ v. refl)
 flows Production.OperatorNameWithC around place = made_name Production.OperatorNameWithC refl around place _ _ (OfKind OPERATOR_AFTER_C) MAYBE_ARGUMENTS refl (λ vs. refl) (λ vs. refl) (λ a v. refl) maybe-arguments

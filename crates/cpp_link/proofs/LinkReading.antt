@@ -431,6 +431,8 @@ wide_plain_closes : (s : List ℕ) (p : Production) (byte : ℕ) (around : Aroun
 unfolding link_close_wide close_wide link_meaning is_plain
 wide_plain_closes s Production.Substitution byte around place began vs state plain = refl
 wide_plain_closes s Production.Inheriting byte around place began vs state plain = refl
+wide_plain_closes s Production.Encoding byte around place began vs state plain = refl
+wide_plain_closes s Production.EncodingLiteral byte around place began vs state plain = refl
 wide_plain_closes s Production.Lambda byte around place began vs state plain = absurd (false≢true plain)
 wide_plain_closes s p byte around place began vs state plain = plain_closes s p byte around place began vs state plain
 
@@ -440,6 +442,8 @@ other_closes : (s : List ℕ) (p : Production) → is_plain p ≡ false → (byt
 unfolding is_plain link_close_wide close_wide link_close close behind
 other_closes s Production.Substitution other byte around place began vs state same = absurd (true≢false other)
 other_closes s Production.Inheriting other byte around place began vs state same = absurd (true≢false other)
+other_closes s Production.Encoding other byte around place began vs state same = absurd (true≢false other)
+other_closes s Production.EncodingLiteral other byte around place began vs state same = absurd (true≢false other)
 other_closes s Production.Lambda other byte around place began vs state same = ap (λ r. r >>= λ made. Ok (found (as_generic_lambda made.value) made.state)) same
 other_closes s p other byte around place began vs state same = same
 

@@ -25,4 +25,7 @@ quiet_apart Production.Holder l before lt = first true before lt
 quiet_apart Production.NamedModule l before lt = first true before lt
 quiet_apart Production.HeldArguments l before lt = absurd (omega (arith, lt))
 quiet_apart Production.DeclaredFirst l before lt = absurd (omega (arith, lt))
+quiet_apart Production.Constraint l before lt = absurd (omega (arith, lt))
+quiet_apart Production.Encoding l before lt = absurd (omega (arith, lt))
+quiet_apart Production.EncodingLiteral l before lt = first l before lt
 quiet_apart _ l before lt = refl

@@ -20,14 +20,15 @@ use Rattle.cpp_term.specs.Term.{Term}
 use Rattle.cpp_term.specs.Items.{auto}
 use Rattle.cpp_term.specs.Scope.{is_open}
 use Rattle.cpp_term.specs.Values as values
-use Rattle.cpp_term.specs.Values.{State, Value, tree, Around, part, text_of}
+use Rattle.cpp_term.specs.Values.{State, Value, tree, tree_of, Around, part, text_of}
+use Rattle.cpp_grammar.specs.Values.{is_in_constraint, is_at_literal}
 use Rattle.sym_core.specs.Value.{counted_value}
 use Rattle.sym_core.specs.declared.NumberKind.TheVariants.{Decimal}
 use Rattle.cpp_term.specs.References.{parameter_named}
-use Rattle.cpp_term.specs.Between.{Continuation, next, parameter_so_far, argument_so_far, index_of, between, listed_so_far}
+use Rattle.cpp_term.specs.Between.{Continuation, next, in_name, in_types, parameter_so_far, argument_so_far, index_of, between, listed_so_far}
 use Rattle.cpp_term.specs.Meaning.{meaning}
 use Rattle.cpp_term.specs.Unfolding.{cpp}
-use Rattle.cpp_term.specs.Rescoping.{generic_so_far, parameter_here, argument_here, is_declaring, lambda_with, as_generic_lambda, between_wide, close_wide, cpp_wide}
+use Rattle.cpp_term.specs.Rescoping.{generic_so_far, parameter_here, argument_here, is_unseen, in_literal, is_passed_over, passed_over, name_around, types_around, is_declaring, lambda_with, as_generic_lambda, between_wide, close_wide, cpp_wide}
 use Rattle.cpp_tree.specs.Nodes.{Stored, tree_at, piece_of}
 use Rattle.cpp_tree.specs.declared.node.Piece.{Piece}
 use Rattle.cpp_link.specs.declared.linked.Linked.{Linked}
@@ -61,9 +62,18 @@ named_outside : (in_lambda : Bool) (around : Around) (place k : ℕ) (state : St
 named_outside true around place k state e = absurd (true≢false e)
 named_outside false around place k state e = refl
 
+-- nor is an encoding passed over
+entered : (in_lambda here : Bool) (own other : Around) → (in_lambda && true) ≡ false → elim (in_lambda && here) [ true ↦ own | false ↦ other ] ≡ other
+entered true here own other e = absurd (true≢false e)
+entered false here own other e = refl
+
+typed : (in_lambda here has_free : Bool) (own other : Around) → (in_lambda && true) ≡ false → elim ((in_lambda && here) && has_free) [ true ↦ own | false ↦ other ] ≡ other
+typed true here has_free own other e = absurd (true≢false e)
+typed false here has_free own other e = refl
+
 -- where the wide reading does nothing of its own, it agrees with the other reading
 apart_between : (p : Production) (around : Around) (place : ℕ) (vs : List Value) (state : State) → steps_apart p around.in_lambda (length vs) ≡ false → between_wide p around place vs state ≡ between p around place vs state
-unfolding between_wide between steps_apart parameter_here argument_here parameter_named parameter_so_far listed_so_far argument_so_far
+unfolding between_wide between steps_apart parameter_here argument_here parameter_named parameter_so_far listed_so_far argument_so_far is_unseen in_literal is_passed_over name_around types_around
 apart_between Production.Parameter around place (v ∷ []) state apart = named_outside around.in_lambda around place (index_of v) state apart
 apart_between Production.NestParameter around place (v ∷ []) state apart = named_outside around.in_lambda around place (index_of v) state apart
 apart_between Production.ParameterArgument around place (v ∷ []) state apart = named_outside around.in_lambda around (place - 1) (index_of v) state apart
@@ -79,6 +89,10 @@ apart_between Production.Holder around place (v ∷ []) state apart = absurd (tr
 apart_between Production.HeldArguments around place [] state apart = absurd (true≢false apart)
 apart_between Production.DeclaredFirst around place [] state apart = absurd (true≢false apart)
 apart_between Production.NamedModule around place (v ∷ []) state apart = absurd (true≢false apart)
+apart_between Production.Constraint around place [] state apart = absurd (true≢false apart)
+apart_between Production.EncodingLiteral around place (v ∷ []) state apart = ap (λ a. next (v ∷ []) a state) (entered around.in_lambda (is_in_constraint around.showing) _ around apart)
+apart_between Production.Encoding around place [] state apart = ap (λ a. next [] a state) (entered around.in_lambda (is_at_literal around.showing) (passed_over place) (in_name place) apart)
+apart_between Production.Encoding around place (v ∷ []) state apart = ap (λ a. next (v ∷ []) a state) (typed around.in_lambda (is_at_literal around.showing) (is_open (tree_of v)) (passed_over place) (in_types place (tree_of v)) apart)
 apart_between p around place vs state apart = refl
 
 pub wide_reads : (s : List ℕ) (rule : Open State Around) (known : List Value) (state : State) → (linked_wide s).between rule known state ≡ between_wide (production_at rule.rule.number) rule.context rule.place known state
@@ -111,23 +125,43 @@ marking_is production around n state is = ap (λ x. Ok (record n { state = x }))
 
 -- ## Where a rule closes
 
-apart_close : (s : List ℕ) (p : Production) (byte : ℕ) (around : Around) (place : ℕ) (began : State) (vs : List Value) (state : State) → (p ≡ Production.Substitution → ⊥) → (p ≡ Production.Lambda → ⊥) → (p ≡ Production.Inheriting → ⊥)
+-- the productions that the wide reading closes in its own way
+pub record IsNoneApart (p : Production) : Type 0 where
+  pub not_substitution : p ≡ Production.Substitution → ⊥
+  pub not_lambda : p ≡ Production.Lambda → ⊥
+  pub not_inheriting : p ≡ Production.Inheriting → ⊥
+  pub not_encoding : p ≡ Production.Encoding → ⊥
+  pub not_encoding_literal : p ≡ Production.EncodingLiteral → ⊥
+
+apart_close : (s : List ℕ) (p : Production) (byte : ℕ) (around : Around) (place : ℕ) (began : State) (vs : List Value) (state : State) → IsNoneApart p
     → link_close_wide s p byte around place began vs state ≡ link_close s p byte around place began vs state
 unfolding link_close_wide
-apart_close s Production.Substitution byte around place began vs state apart other uninherited = absurd (apart refl)
-apart_close s Production.Lambda byte around place began vs state apart other uninherited = absurd (other refl)
-apart_close s Production.Inheriting byte around place began vs state apart other uninherited = absurd (uninherited refl)
-apart_close s _ byte around place began vs state apart other uninherited = refl
+apart_close s Production.Substitution byte around place began vs state other = absurd (other.not_substitution refl)
+apart_close s Production.Lambda byte around place began vs state other = absurd (other.not_lambda refl)
+apart_close s Production.Inheriting byte around place began vs state other = absurd (other.not_inheriting refl)
+apart_close s Production.Encoding byte around place began vs state other = absurd (other.not_encoding refl)
+apart_close s Production.EncodingLiteral byte around place began vs state other = absurd (other.not_encoding_literal refl)
+apart_close s _ byte around place began vs state other = refl
 
--- a rule that is no substitution, no lambda and no inherited constructor closes as in the other reading
-pub apart_closes : (s : List ℕ) (old new : Linked) (frame : Frame Surroundings) (parts new_parts : List Part) (result : Result (Unit {0}) Refusal) → (production_at frame.rule ≡ Production.Substitution → ⊥)
-    → (production_at frame.rule ≡ Production.Lambda → ⊥) → (production_at frame.rule ≡ Production.Inheriting → ⊥)
+-- a rule that the wide reading closes as the other one does, in these surroundings
+pub same_closes : (s : List ℕ) (old new : Linked) (frame : Frame Surroundings) (parts new_parts : List Part) (result : Result (Unit {0}) Refusal)
+    → ((byte place : ℕ) (began : State) (vs : List Value) (state : State) → link_close_wide s (production_at frame.rule) byte (around_of (trees_in s old.nodes) frame.kept) place began vs state
+    ≡ link_close s (production_at frame.rule) byte (around_of (trees_in s old.nodes) frame.kept) place began vs state)
     → ClosesAll (cpp_view s) s old new frame parts new_parts result → ClosesAll (wide_view s) s old new frame parts new_parts result
-apart_closes s old new frame parts new_parts result apart other uninherited closes rule known state is =
+same_closes s old new frame parts new_parts result same closes rule known state is =
     subst (λ read. Puts (cpp_view s) new (take frame.base parts) new_parts result read)
-    (sym (apart_close s (production_at rule.rule.number) (byte_of rule.taken) rule.context rule.place rule.before known state (λ substitution. apart (ap production_at is.number ∙ substitution)) (λ lambda. other (ap production_at is.number ∙ lambda))
-    (λ inheriting. uninherited (ap production_at is.number ∙ inheriting))))
+    (sym (by frame.rule rule.rule.number (around_of (trees_in s old.nodes) frame.kept) rule.context is.number is.kept.surrounds.is (same (byte_of rule.taken) rule.place rule.before known state)))
     (closes rule known state (at_plain s old frame (drop frame.base parts) rule known state is))
+  where
+    by : (m n : ℕ) (a b : Around) → m ≡ n → a ≡ b → link_close_wide s (production_at m) (byte_of rule.taken) a rule.place rule.before known state ≡ link_close s (production_at m) (byte_of rule.taken) a rule.place rule.before known state
+        → link_close_wide s (production_at n) (byte_of rule.taken) b rule.place rule.before known state ≡ link_close s (production_at n) (byte_of rule.taken) b rule.place rule.before known state
+    by m n a b number surrounds h = rw (← number, ← surrounds) h
+
+-- a rule of any other production closes as in the other reading
+pub apart_closes : (s : List ℕ) (old new : Linked) (frame : Frame Surroundings) (parts new_parts : List Part) (result : Result (Unit {0}) Refusal) → IsNoneApart (production_at frame.rule)
+    → ClosesAll (cpp_view s) s old new frame parts new_parts result → ClosesAll (wide_view s) s old new frame parts new_parts result
+apart_closes s old new frame parts new_parts result other =
+    same_closes s old new frame parts new_parts result (λ byte place began vs state. apart_close s (production_at frame.rule) byte (around_of (trees_in s old.nodes) frame.kept) place began vs state other)
 
 -- by the wide reading
 abbrev pub wide_closing : List ℕ → Production → Around → (place : ℕ) → (began : State) → List Value → State → Result (Found Value State) Refusal
@@ -143,6 +177,8 @@ wide_byte_serves s rule known state there = by (production_at rule.rule.number) 
     by Production.Substitution same = refl
     by Production.Lambda same = refl
     by Production.Inheriting same = refl
+    by Production.Encoding same = refl
+    by Production.EncodingLiteral same = refl
     by _ same = same
 
 -- ## How many nodes are made
@@ -230,20 +266,31 @@ pub no_pack : (p : Production) (l : Bool) (before : ℕ) → steps_apart p l bef
 unfolding steps_apart
 no_pack p l before is pack = absurd (false≢true (ap (λ q. steps_apart q l before) (sym pack) ∙ is))
 
--- what is neither a name with its M, nor the arguments of an inherited constructor, nor a module, nor what a lambda declares is a
--- parameter of a lambda
-pub apart_generic : (p : Production) (l : Bool) (before : ℕ) → steps_apart p l before ≡ true → (p ≡ Production.Holder → ⊥) → (p ≡ Production.HeldArguments → ⊥) → (p ≡ Production.DeclaredFirst → ⊥) → (p ≡ Production.NamedModule → ⊥)
-    → (is_parameter p ≡ true) × ((l ≡ true) × (before ≡ 1))
+-- the other productions before whose parts the wide reading does something of its own
+pub record IsNoneRead (p : Production) : Type 0 where
+  pub not_holder : p ≡ Production.Holder → ⊥
+  pub not_held_arguments : p ≡ Production.HeldArguments → ⊥
+  pub not_declared_first : p ≡ Production.DeclaredFirst → ⊥
+  pub not_constraint : p ≡ Production.Constraint → ⊥
+  pub not_encoding_literal : p ≡ Production.EncodingLiteral → ⊥
+  pub not_encoding : p ≡ Production.Encoding → ⊥
+  pub not_named_module : p ≡ Production.NamedModule → ⊥
+
+-- what is none of these is a parameter of a lambda
+pub apart_generic : (p : Production) (l : Bool) (before : ℕ) → steps_apart p l before ≡ true → IsNoneRead p → (is_parameter p ≡ true) × ((l ≡ true) × (before ≡ 1))
 unfolding steps_apart is_parameter
-apart_generic Production.Parameter l before is held own declared named = (refl, second l before is)
-apart_generic Production.NestParameter l before is held own declared named = (refl, second l before is)
-apart_generic Production.ParameterArgument l before is held own declared named = (refl, second l before is)
-apart_generic Production.ParameterExpression l before is held own declared named = (refl, second l before is)
-apart_generic Production.Holder l before is held own declared named = absurd (held refl)
-apart_generic Production.HeldArguments l before is held own declared named = absurd (own refl)
-apart_generic Production.DeclaredFirst l before is held own declared named = absurd (declared refl)
-apart_generic Production.NamedModule l before is held own declared named = absurd (named refl)
-apart_generic _ l before is held own declared named = absurd (false≢true is)
+apart_generic Production.Parameter l before is other = (refl, second l before is)
+apart_generic Production.NestParameter l before is other = (refl, second l before is)
+apart_generic Production.ParameterArgument l before is other = (refl, second l before is)
+apart_generic Production.ParameterExpression l before is other = (refl, second l before is)
+apart_generic Production.Holder l before is other = absurd (other.not_holder refl)
+apart_generic Production.HeldArguments l before is other = absurd (other.not_held_arguments refl)
+apart_generic Production.DeclaredFirst l before is other = absurd (other.not_declared_first refl)
+apart_generic Production.Constraint l before is other = absurd (other.not_constraint refl)
+apart_generic Production.EncodingLiteral l before is other = absurd (other.not_encoding_literal refl)
+apart_generic Production.Encoding l before is other = absurd (other.not_encoding refl)
+apart_generic Production.NamedModule l before is other = absurd (other.not_named_module refl)
+apart_generic _ l before is other = absurd (false≢true is)
 
 -- there is no mark then
 pub unmarked : (p : Production) (around : Around) (vs : List Value) (state : State) → (p ≡ Production.Holder → ⊥) → (p ≡ Production.HeldArguments → ⊥) → with_mark p around vs state ≡ state

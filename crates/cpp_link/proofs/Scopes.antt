@@ -1,5 +1,5 @@
 -- The named arguments are those of a name in which no parameter is free: none is free in them, nor in one of them.
-use Rattle.std.proofs.Common.{◌≡◌, subst, ℕ, ◌-◌, List, [], ◌∷◌, length, Bool, true, false, cond, Option, Some, None, Result, Ok, Err}
+use Rattle.std.proofs.Common.{◌≡◌, subst, ℕ, ◌-◌, List, [], ◌∷◌, length, Bool, true, false, ◌&&◌, cond, Option, Some, None, Result, Ok, Err}
 use Rattle.std.specs.Prelude.{IfOk}
 use Rattle.sym_core.specs.declared.refusal.Refusal.{Refusal}
 use Rattle.sym_core.specs.declared.refusal.Refusal.TheVariants.{BadReference}
@@ -16,7 +16,9 @@ use Rattle.cpp_term.specs.Values.{State, Around, prefix_tree, Value, tree, tree_
 use Rattle.cpp_term.specs.References.{parameter_named}
 use Rattle.cpp_term.specs.Between.{Continuation, in_name, in_types, in_signature, under_expansion, after, inside, listed_so_far, parameter_so_far, argument_so_far, argument_at, index_of, next, between}
 use Rattle.cpp_term.specs.Meant.{made, around_part, tested, done}
-use Rattle.cpp_term.specs.Rescoping.{parameter_here, argument_here, generic_so_far, with_holder, is_instance, holder_so_far, module_named, module_so_far, between_wide}
+use Rattle.cpp_term.specs.Rescoping.{parameter_here, argument_here, generic_so_far, with_holder, is_instance, holder_so_far, module_named, module_so_far, in_constraint_of, is_unseen, in_literal, is_passed_over, passed_over, name_around, types_around, between_wide}
+use Rattle.cpp_term.specs.Scope.{is_open}
+use Rattle.cpp_grammar.specs.Values.{at_literal}
 use Rattle.cpp_references.proofs.Arguments.{closed_are}
 use Rattle.cpp_link.specs.Parts.{IsClosed}
 
@@ -108,14 +110,42 @@ module_closed around place number state closed = by (module_named number state)
     by None = tt
     by (Some t) = closed
 
+literal_closed : (around : Around) → IsClosed around → IsClosed (in_literal around)
+unfolding in_literal
+literal_closed around closed = by (is_unseen around)
+  where
+    by : (b : Bool) → IsClosed (elim b as (λ _. Around) [ true ↦ record around { showing = at_literal } | false ↦ around ])
+    by true = closed
+    by false = closed
+
+name_around_closed : (around : Around) (place : ℕ) → IsClosed (name_around around place)
+unfolding name_around passed_over in_name
+name_around_closed around place = by (is_passed_over around)
+  where
+    by : (b : Bool) → IsClosed (elim b as (λ _. Around) [ true ↦ passed_over place | false ↦ in_name place ])
+    by true = tt
+    by false = tt
+
+types_around_closed : (around : Around) (place : ℕ) (name : Term) → IsClosed (types_around around place name)
+unfolding types_around passed_over in_types
+types_around_closed around place name = by (is_passed_over around && is_open name)
+  where
+    by : (b : Bool) → IsClosed (elim b as (λ _. Around) [ true ↦ passed_over place | false ↦ in_types place name ])
+    by true = tt
+    by false = closed_are name
+
 wide_goes_closed : (p : Production) (around : Around) (place : ℕ) (vs : List Value) (state : State) → IsClosed around → GoesClosed (between_wide p around place vs state)
-unfolding between_wide inside
+unfolding between_wide inside in_constraint_of
 wide_goes_closed Production.Parameter around place (v ∷ []) state closed = here_closed around place (index_of v) state closed
 wide_goes_closed Production.NestParameter around place (v ∷ []) state closed = here_closed around place (index_of v) state closed
 wide_goes_closed Production.ParameterArgument around place (v ∷ []) state closed = here_closed around (place - 1) (index_of v) state closed
 wide_goes_closed Production.ParameterExpression around place (v ∷ []) state closed = argument_here_closed around (place - 1) (index_of v) state closed
 wide_goes_closed Production.HeldArguments around place [] state closed = closed
 wide_goes_closed Production.DeclaredFirst around place [] state closed = closed
+wide_goes_closed Production.Constraint around place [] state closed = tt
+wide_goes_closed Production.EncodingLiteral around place (v ∷ []) state closed = literal_closed around closed
+wide_goes_closed Production.Encoding around place [] state closed = name_around_closed around place
+wide_goes_closed Production.Encoding around place (v ∷ []) state closed = types_around_closed around place (tree_of v)
 wide_goes_closed Production.Holder around place (v ∷ []) state closed = holder_closed around place state closed
 wide_goes_closed Production.NamedModule around place (v ∷ []) state closed = module_closed around (place - 1) (counted_value Seq36 (text_of v)) state closed
 wide_goes_closed p around place vs state closed = goes_closed p around place vs state closed

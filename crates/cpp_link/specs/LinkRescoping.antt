@@ -1,5 +1,5 @@
 -- C++'s reading of the wide grammar as the linker follows it, and how many nodes it makes of a symbol.
-use Rattle.std.specs.Prelude.{◌≡◌, ℕ, ◌+◌, ◌-◌, List, [], ◌∷◌, Option, Some, None, Bool, true, false, ◌&&◌, nat_eq, Result, Ok, Err}
+use Rattle.std.specs.Prelude.{◌≡◌, ℕ, ◌+◌, ◌-◌, List, [], ◌∷◌, Option, Some, None, Bool, true, false, ◌&&◌, nat_eq, nat_lt, Result, Ok, Err}
 use Rattle.sym_core.specs.declared.refusal.Refusal.{Refusal}
 use Rattle.sym_core.specs.declared.NumberKind.TheVariants.{Seq36}
 use Rattle.sym_core.specs.Value.{counted_value}
@@ -12,12 +12,14 @@ use Rattle.cpp_grammar.specs.declared.production.Production.{Production}
 use Rattle.cpp_grammar.specs.Values.{Counted, by_newer, by_some, Lists, longer_list, shorter_list, prefix_at, qualified_at}
 use Rattle.cpp_grammar.specs.Rescoping.{generic_number}
 use Rattle.cpp_grammar.specs.Unfolding.{production_at, byte_of}
-use Rattle.cpp_term.specs.Term.{parameter}
+use Rattle.cpp_term.specs.Term.{Term, parameter}
 use Rattle.cpp_term.specs.Items.{auto}
 use Rattle.cpp_term.specs.Values.{Candidate, State, Around, Value, tree, tree_of, prefix_tree, prefix_listed, text_of, part}
 use Rattle.cpp_term.specs.Unfolding.{first_around, first_state}
-use Rattle.cpp_term.specs.Rescoping.{generic_so_far, with_holder, counted_unless, is_foreign, as_generic_lambda, counted_base, place_in, named_in, left_at, expecting, close_wide, cpp_wide}
+use Rattle.cpp_term.specs.Rescoping.{generic_so_far, with_holder, counted_unless, is_foreign, as_generic_lambda, counted_base, is_unseen, is_passed_over, name_if, place_in, named_in, left_at, expecting, close_wide, cpp_wide}
+use Rattle.cpp_term.specs.Scope.{is_open}
 use Rattle.cpp_term.specs.Between.{Continuation, next}
+use Rattle.cpp_tree.specs.Nodes.{tree_at}
 use Rattle.cpp_link.specs.declared.linked.Linked.{Linked}
 use Rattle.cpp_link.specs.declared.rescoping.Rescoping.{Rescoping}
 use Rattle.cpp_link.specs.declared.part.Part.{Part}
@@ -35,6 +37,10 @@ unfoldable pub link_close_wide : List ℕ → Production → (byte : ℕ) → Ar
 link_close_wide s Production.Substitution byte around place began vs state = close_wide Production.Substitution byte around place began vs state
 link_close_wide s Production.Lambda byte around place began vs state = Ok (found (as_generic_lambda (link_meaning s Production.Lambda byte place around vs)) state)
 link_close_wide s Production.Inheriting byte around place began vs state = Ok (found (link_meaning s Production.Inheriting byte place around vs) (counted_base around (part vs 1) state))
+link_close_wide s Production.Encoding byte around place began vs state =
+    Ok (found (name_if (is_passed_over around && is_open (tree_of (part vs 0))) (part vs 0) (link_meaning s Production.Encoding byte place around vs)) state)
+link_close_wide s Production.EncodingLiteral byte around place began vs state =
+    Ok (found (name_if (is_unseen around && is_open (tree_of (part vs 1))) (part vs 1) (link_meaning s Production.EncodingLiteral byte place around vs)) state)
 link_close_wide s production byte around place began vs state = link_close s production byte around place began vs state
 
 -- At an S of a nested name and at a type under qualifiers it's noted what may be named.
@@ -79,6 +85,9 @@ steps_apart Production.Holder in_lambda before = nat_eq before 1
 steps_apart Production.HeldArguments in_lambda before = nat_eq before 0
 steps_apart Production.NamedModule in_lambda before = nat_eq before 1
 steps_apart Production.DeclaredFirst in_lambda before = nat_eq before 0
+steps_apart Production.Constraint in_lambda before = nat_eq before 0
+steps_apart Production.EncodingLiteral in_lambda before = in_lambda && nat_eq before 1
+steps_apart Production.Encoding in_lambda before = in_lambda && nat_lt before 2
 steps_apart _ in_lambda before = false
 
 -- by which compilers the tree is counted that becomes a candidate then
@@ -134,6 +143,18 @@ named_after place number state = elim (nat_eq (place_in false state.candidates n
 -- the candidate that a substitution at this place with these parts names, and the state after it
 abbrev pub named_by : (place : ℕ) → State → List Value → Option Candidate
 named_by place state known = named_after (place - 1) (number_in known) state
+
+-- ## Names of encodings that are passed over
+
+-- the node of this tree, if it has free parameters
+abbrev pub IsOpenName : List Term → Term → Option ℕ → Type 0
+IsOpenName ts name None = is_open name ≡ false
+IsOpenName ts name (Some node) = (is_open name ≡ true) × (tree_at ts node ≡ name)
+
+-- the name at this node, or the value where there is none
+unfoldable pub name_or : List Term → Option ℕ → Value → Value
+name_or ts None v = v
+name_or ts (Some node) v = tree (tree_at ts node) true
 
 -- ## What a symbol makes
 

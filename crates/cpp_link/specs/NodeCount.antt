@@ -93,6 +93,7 @@ makes_at_end Production.Substitution known = 0
 makes_at_end Production.Lambda known = lambda_at_end known
 makes_at_end Production.Parameter known = name_at_end known
 makes_at_end Production.TypeWithS known = name_at_end known
+makes_at_end Production.Vendor known = name_at_end known
 makes_at_end Production.OperatorNameWithC known = name_at_end known
 makes_at_end Production.TaggedSource known = name_at_end known
 makes_at_end Production.TaggedStdType known = name_at_end known

@@ -13,7 +13,7 @@ use Rattle.cpp_link.specs.declared.part.Step.{Step}
 use Rattle.cpp_link.specs.declared.candidates.Candidates.{Candidates}
 use Rattle.cpp_link.specs.Counting.{IsCounted}
 pub use Rattle.cpp_references.specs.Around.{trees_in, tree_of_node, scope_of, name_of, packs_of, IsClosed, candidate_of, candidates_of, IsPrefixThere, AreNodesThere, IsKeptThere}
-unfoldable pub use Rattle.cpp_references.specs.Around.{prefix_of, arguments_in, is_lambda, prefix_in, packs_in, around_of}
+unfoldable pub use Rattle.cpp_references.specs.Around.{prefix_of, arguments_in, is_lambda, is_constraint, is_literal, showing_in, prefix_in, packs_in, around_of}
 
 -- ## Values
 

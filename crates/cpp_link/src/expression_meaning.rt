@@ -190,6 +190,8 @@ impl Linked {
             ),
             // a <source-name> as it is
             Production::FieldName => made(Node::Vendor(self.text(symbol, parts, 0)), true),
+            // L <source-name>
+            Production::InternalBound => made(Node::Vendor(self.text(symbol, parts, 0)), true),
             // <source-name>+
             Production::BoundNames => made(
                 Node::Cell {
@@ -481,6 +483,16 @@ impl Linked {
             // <function-param> ::= fp [<number>] _, its number
             Production::ParameterNumber => made(
                 Node::FunctionParameter(normal(symbol, self.text(symbol, parts, 0))),
+                true,
+            ),
+            // <expression> ::= u <source-name> <template-arg>* E, a vendor's expression
+            Production::VendorExpression => made(
+                Node::Operation {
+                    first: b'c',
+                    second: b'l',
+                    left: self.tree(symbol, parts, 0),
+                    right: self.list(symbol, parts, 1),
+                },
                 true,
             ),
             _ => unreachable!(),

@@ -118,7 +118,7 @@ impl Linked {
     ///
     /// `BadReference` at a substitution that names no candidate that it may name, `Memory` where a list couldn't grow.
     #[inline(always)]
-    fn close_production(
+    pub(crate) fn close_production(
         &mut self,
         symbol: &[u8],
         production: Production,

@@ -136,6 +136,8 @@ impl Linked {
             Production::AbbreviatedName => self.applied(symbol, parts, false),
             // <unqualified-name> ::= DC <source-name>+ E, a structured binding, perhaps with <template-args>
             Production::BindingName => self.applied(symbol, parts, false),
+            // <builtin-type> ::= u <source-name>
+            Production::Vendor => self.applied(symbol, parts, false),
             _ => unreachable!(),
         }
     }

@@ -14,19 +14,19 @@ ghost use Rattle.cpp_grammar.specs.declared.production.Production.{Production as
 ghost use Rattle.cpp_grammar.specs.Rescoping.{is_by_all, generic_number};
 ghost use Rattle.cpp_grammar.specs.Unfolding.{production_at};
 ghost use Rattle.cpp_term.specs.Values as values;
-ghost use Rattle.cpp_term.specs.Rescoping.{is_foreign, module_named, restated, numbered, is_declaring, as_generic_lambda, between_wide};
+ghost use Rattle.cpp_term.specs.Rescoping.{name_around, types_around, is_foreign, module_named, restated, numbered, is_declaring, as_generic_lambda, between_wide};
 ghost use Rattle.cpp_tree.specs.Nodes.{over, tree_at, bytes_at, piece_of, IsAliasBelow, IsPieceBelow, IsWithin, IsTable};
 ghost use Rattle.cpp_link.specs.Grows.{HasPlace};
-ghost use Rattle.cpp_link.specs.LinkRescoping.{is_parameter, is_parameter_argument, steps_apart, counted_before, counts_again, with_mark, going_marked, generic_read, number_in, named_by, substituted_nodes, wide_ends, wide_view};
+ghost use Rattle.cpp_link.specs.LinkRescoping.{IsOpenName, name_or, is_parameter, is_parameter_argument, steps_apart, counted_before, counts_again, with_mark, going_marked, generic_read, number_in, named_by, substituted_nodes, wide_ends, wide_view};
 ghost use Rattle.cpp_link.specs.Making.{state_of};
 ghost use Rattle.cpp_link.specs.NodeCount.{makes_before};
-ghost use Rattle.cpp_link.specs.Parts.{trees_in, value_in, values_in, is_lambda, around_of, candidate_of, candidates_of, IsClosed, IsThere, AreThere, AreCandidatesThere, IsKeptThere, IsStepThere};
+ghost use Rattle.cpp_link.specs.Parts.{trees_in, value_of, value_in, values_in, is_lambda, is_constraint, is_literal, around_of, candidate_of, candidates_of, IsClosed, IsThere, AreThere, AreCandidatesThere, IsKeptThere, IsStepThere};
 ghost use Rattle.cpp_link.specs.Progress.{Advances, Begins, Finishes, MakesPart};
 ghost use Rattle.cpp_references.specs.Around.{counted_of};
 ghost use Rattle.cpp_term.specs.References.{is_module};
 ghost use Rattle.cpp_term.specs.Scope.{is_open};
 ghost use Rattle.cpp_term.specs.Term.{Term};
-ghost use Rattle.cpp_term.specs.Values.{prefix_listed};
+ghost use Rattle.cpp_term.specs.Values.{prefix_listed, tree_of};
 ghost use Rattle.cpp_link.specs.Reads.{with_candidates, goes_on};
 ghost use Rattle.cpp_link.specs.Stepping.{IsStepOf, nodes_of_step};
 ghost use Rattle.cpp_link.specs.View.{IsPaid, IsWhole, cpp_view};
@@ -39,6 +39,7 @@ use cpp_grammar::production::Production;
 use cpp_references::again::opened;
 use cpp_references::candidates::{is_module, substituted};
 use cpp_references::elsewhere::argument_here;
+use cpp_references::parameters::closed_arguments;
 use cpp_tree::node::{Node, Piece};
 use cpp_tree::nodes::AUTO;
 use std::alloc::Global;
@@ -113,6 +114,18 @@ fn generic_number(counted: Option<u64>) -> u32
             number as u32
         }
         None => u32::MAX,
+    }
+}
+
+/// This name, or the part where there is none.
+#[tactic(auto, unfolding(crate::specs::Parts::value_of, crate::specs::LinkRescoping::name_or))]
+fn name_or(name: Option<u32>, part: Part) -> Part
+    ensures is { (s : List ℕ) (ts : List Term) → value_of s ts result ≡ name_or ts name (value_of s ts part) }
+    ensures there { (s : List ℕ) (n : ℕ) → IsAliasBelow n name → IsThere s n part → IsThere s n result }
+{
+    match name {
+        Some(node) => Part::Tree { node, listed: true },
+        None => part,
     }
 }
 
@@ -208,9 +221,47 @@ impl Linked {
         }
     }
 
+    /// Whether an encoding is passed over whose name has free parameters.
+    fn goes_on_open(&self, symbol: &[u8], kept: Surroundings, name: u32) -> bool
+        requires table { IsTable (over symbol.now self.now.nodes) }
+        requires below { name < length self.now.nodes.nodes }
+        ensures { result ≡ (is_literal kept.scope && is_open (tree_at (trees_in symbol.now self.now.nodes) name)) }
+    {
+        kept.is_passed_over() && self.nodes.is_open(symbol, name)
+    }
+
+    /// What surrounds the part after these of an encoding that begins at this place, in a lambda's signature or in a constraint.
+    #[inline(never)]
+    fn in_encoding_apart(
+        &self,
+        symbol: &[u8],
+        place: u32,
+        kept: Surroundings,
+        parts: &[Part],
+    ) -> Surroundings
+        requires table { IsTable (over symbol.now self.now.nodes) }
+        requires kept { IsKeptThere (length self.now.nodes.nodes) kept }
+        requires there { AreThere symbol.now (length self.now.nodes.nodes) parts.now }
+        ensures name { length parts.now ≡ 0 → around_of (trees_in symbol.now self.now.nodes) result ≡ name_around (around_of (trees_in symbol.now self.now.nodes) kept) place }
+        ensures types { length parts.now ≡ 1 → around_of (trees_in symbol.now self.now.nodes) result ≡ types_around (around_of (trees_in symbol.now self.now.nodes) kept) place (tree_of (values.part (values_in symbol.now self.now.nodes parts.now) 0)) }
+        ensures there { IsKeptThere (length self.now.nodes.nodes) result }
+    {
+        if parts.is_empty() {
+            if kept.is_passed_over() {
+                return self.passed_over(kept, place);
+            }
+            return self.in_encoding(kept, place, None);
+        }
+        let name = self.node(symbol, self.given(symbol, parts, 0));
+        if self.goes_on_open(symbol, kept, name) {
+            return self.passed_over(kept, place);
+        }
+        self.in_encoding(kept, place, closed_arguments(&self.nodes, symbol, name))
+    }
+
     /// What is done before the next part where the wide reading does something of its own, except for the mark: a parameter of
-    /// a lambda is named, what a lambda declares is read, a name has its `M`, or the base class of an inherited constructor or
-    /// the name of a concept becomes a candidate.
+    /// a lambda is named, what a lambda declares is read, a constraint or an encoding in it is read, a name has its `M`, or the
+    /// base class of an inherited constructor or the name of a concept becomes a candidate.
     ///
     /// # Errors
     ///
@@ -246,17 +297,15 @@ impl Linked {
                 Ok(self.listed_name(Node::Holder(name)))
             }
             // <template-args> ::= I <template-arg>* E, of a constructor that is inherited, or of a concept
-            Production::HeldArguments => Ok(Step::Go {
-                candidate: None,
-                then: self.inside(kept),
-                packs: self.packs,
-            }),
+            Production::HeldArguments => Ok(self.go(self.inside(kept))),
             // <lambda-sig> ::= <template-param-decl> <lambda-sig>
-            Production::DeclaredFirst => Ok(Step::Go {
-                candidate: None,
-                then: kept,
-                packs: self.packs,
-            }),
+            Production::DeclaredFirst => Ok(self.go(kept)),
+            // Q <constraint-expression>
+            Production::Constraint => Ok(self.go(self.in_constraint(kept))),
+            // <expr-primary> ::= L <mangled-name> E
+            Production::EncodingLiteral => Ok(self.go(self.in_literal(kept))),
+            // <encoding> ::= <name> <bare-function-type>
+            Production::Encoding => Ok(self.go(self.in_encoding_apart(symbol, place, kept, parts))),
             // <module-name> ::= <substitution>
             Production::NamedModule => {
                 let at = place.saturating_sub(1);
@@ -547,5 +596,137 @@ impl Linked {
             &parts[frame.base..],
         )?;
         put(parts, frame.base, self.as_generic_lambda(symbol, made))
+    }
+
+    /// The name in the part with this number, where it has free parameters.
+    fn open_name(&self, symbol: &[u8], parts: &[Part], number: usize) -> Option<u32>
+        requires table { IsTable (over symbol.now self.now.nodes) }
+        requires there { AreThere symbol.now (length self.now.nodes.nodes) parts.now }
+        ensures is { IsOpenName (trees_in symbol.now self.now.nodes) (tree_of (values.part (values_in symbol.now self.now.nodes parts.now) number)) result }
+        ensures there { IsAliasBelow (length self.now.nodes.nodes) result }
+    {
+        let name = self.node(symbol, self.given(symbol, parts, number));
+        if self.nodes.is_open(symbol, name) {
+            return Some(name);
+        }
+        None
+    }
+
+    /// The frame's rule, an encoding that is passed over, closes: what it is takes the place of its parts. Where its name has free
+    /// parameters, it is that name.
+    ///
+    /// # Errors
+    ///
+    /// `Memory` where a list couldn't grow.
+    #[tactic(auto, using(crate::proofs::Viewing::own_there, crate::proofs::Viewing::open_whole, crate::proofs::Viewing::open_kept))]
+    #[inline(never)]
+    fn finish_passed_over(
+        &mut self,
+        symbol: &[u8],
+        frame: &Frame<Surroundings>,
+        parts: &mut Vec<Part>,
+    ) -> Result<(), Refusal>
+        requires encoding { production_at frame.now.rule ≡ productions.Encoding }
+        requires passed { is_literal frame.now.kept.scope ≡ true }
+        requires room { HasRoom (cpp_view symbol.now) symbol.now self.old (owed_behind (cpp_view symbol.now) frame.now parts.old.items) }
+        requires open { IsOpenAt (cpp_view symbol.now) symbol.now self.old frame.now parts.old.items }
+        requires base { frame.now.base ≤ length parts.old.items }
+        requires place { frame.now.place < length symbol.now }
+        ensures { Finishes (wide_view symbol.now) (wide_ends symbol.now self.old frame.now.place frame.now.kept) symbol.now self.old self.new frame.now parts.old parts.new result }
+    {
+        let own = &parts[frame.base..];
+        let name = self.open_name(symbol, own, 0);
+        let made = self.close_production(
+            symbol,
+            Production::Encoding,
+            frame.place,
+            frame.kept,
+            own,
+        )?;
+        put(parts, frame.base, name_or(name, made))
+    }
+
+    /// The frame's rule, an encoding, closes.
+    ///
+    /// # Errors
+    ///
+    /// `Memory` where a list couldn't grow.
+    #[inline(always)]
+    pub(crate) fn finish_encoding(
+        &mut self,
+        symbol: &[u8],
+        frame: &Frame<Surroundings>,
+        parts: &mut Vec<Part>,
+    ) -> Result<(), Refusal>
+        requires encoding { production_at frame.now.rule ≡ productions.Encoding }
+        requires room { HasRoom (cpp_view symbol.now) symbol.now self.old (owed_behind (cpp_view symbol.now) frame.now parts.old.items) }
+        requires open { IsOpenAt (cpp_view symbol.now) symbol.now self.old frame.now parts.old.items }
+        requires base { frame.now.base ≤ length parts.old.items }
+        requires place { frame.now.place < length symbol.now }
+        ensures { Finishes (wide_view symbol.now) (wide_ends symbol.now self.old frame.now.place frame.now.kept) symbol.now self.old self.new frame.now parts.old parts.new result }
+    {
+        if frame.kept.is_passed_over() {
+            return self.finish_passed_over(symbol, frame, parts);
+        }
+        self.finish_rule(symbol, frame, parts)
+    }
+
+    /// The frame's rule, a literal in a constraint that denotes an encoding, closes: what it is takes the place of its parts. Where
+    /// the encoding is a name with free parameters, it is that name.
+    ///
+    /// # Errors
+    ///
+    /// `Memory` where a list couldn't grow.
+    #[tactic(auto, using(crate::proofs::Viewing::own_there, crate::proofs::Viewing::open_whole, crate::proofs::Viewing::open_kept))]
+    #[inline(never)]
+    fn finish_unseen(
+        &mut self,
+        symbol: &[u8],
+        frame: &Frame<Surroundings>,
+        parts: &mut Vec<Part>,
+    ) -> Result<(), Refusal>
+        requires literal { production_at frame.now.rule ≡ productions.EncodingLiteral }
+        requires unseen { is_constraint frame.now.kept.scope ≡ true }
+        requires room { HasRoom (cpp_view symbol.now) symbol.now self.old (owed_behind (cpp_view symbol.now) frame.now parts.old.items) }
+        requires open { IsOpenAt (cpp_view symbol.now) symbol.now self.old frame.now parts.old.items }
+        requires base { frame.now.base ≤ length parts.old.items }
+        requires place { frame.now.place < length symbol.now }
+        ensures { Finishes (wide_view symbol.now) (wide_ends symbol.now self.old frame.now.place frame.now.kept) symbol.now self.old self.new frame.now parts.old parts.new result }
+    {
+        let own = &parts[frame.base..];
+        let name = self.open_name(symbol, own, 1);
+        let made = self.make_rare(
+            symbol,
+            Production::EncodingLiteral,
+            frame.place,
+            frame.kept,
+            own,
+        )?;
+        put(parts, frame.base, name_or(name, made))
+    }
+
+    /// The frame's rule, a literal that denotes an encoding, closes.
+    ///
+    /// # Errors
+    ///
+    /// `Memory` where a list couldn't grow.
+    #[inline(always)]
+    pub(crate) fn finish_literal(
+        &mut self,
+        symbol: &[u8],
+        frame: &Frame<Surroundings>,
+        parts: &mut Vec<Part>,
+    ) -> Result<(), Refusal>
+        requires literal { production_at frame.now.rule ≡ productions.EncodingLiteral }
+        requires room { HasRoom (cpp_view symbol.now) symbol.now self.old (owed_behind (cpp_view symbol.now) frame.now parts.old.items) }
+        requires open { IsOpenAt (cpp_view symbol.now) symbol.now self.old frame.now parts.old.items }
+        requires base { frame.now.base ≤ length parts.old.items }
+        requires place { frame.now.place < length symbol.now }
+        ensures { Finishes (wide_view symbol.now) (wide_ends symbol.now self.old frame.now.place frame.now.kept) symbol.now self.old self.new frame.now parts.old parts.new result }
+    {
+        if frame.kept.is_unseen() {
+            return self.finish_unseen(symbol, frame, parts);
+        }
+        self.finish_rule(symbol, frame, parts)
     }
 }

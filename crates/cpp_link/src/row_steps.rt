@@ -22,7 +22,7 @@ use cpp_tree::nodes::ABSENT;
 
 impl Linked {
     /// What is done before the first part, of a production other than the arguments of an inherited constructor or of a
-    /// concept, or what a lambda declares.
+    /// concept, what a lambda declares, or a constraint.
     #[tactic(auto, unfolding(cpp_term::specs::Between::between, cpp_term::specs::Between::in_name, cpp_term::specs::Between::in_types, cpp_term::specs::Between::in_signature, cpp_term::specs::Between::under_expansion, cpp_term::specs::Between::after, cpp_term::specs::Between::inside, cpp_term::specs::Between::applied, cpp_term::specs::Between::named_so_far, cpp_term::specs::Between::listed_so_far, cpp_term::specs::Values::tree_of, crate::specs::Parts::around_of, crate::specs::Parts::prefix_of, cpp_tree::specs::Nodes::tree_if_there, cpp_tree::specs::Nodes::tree_of, cpp_tree::specs::Nodes::piece_of, crate::specs::Reads::goes_on, crate::specs::Reads::behind_first, crate::specs::Reads::named_if, crate::specs::Reads::appended_if, crate::specs::Reads::with_candidate, crate::specs::NodeCount::makes_before, crate::specs::Owed::made_before, crate::specs::NodeCount::std_before, crate::specs::NodeCount::one_if_there, crate::specs::NodeCount::pack_before))]
     #[inline(always)]
     pub(crate) fn step_first(
@@ -36,6 +36,7 @@ impl Linked {
         requires kept { IsKeptThere (length self.now.nodes.nodes) kept }
         requires own { production ≡ productions.HeldArguments → ⊥ }
         requires declared { production ≡ productions.DeclaredFirst → ⊥ }
+        requires constraint { production ≡ productions.Constraint → ⊥ }
         ensures is { (state : values.State) → between production (around_of (trees_in symbol.now self.now.nodes) kept) place [] (record state { packs = self.now.packs }) ≡ goes_on symbol.now self.now.nodes kept [] state self.now.packs result }
         ensures there { IsStepThere symbol.now (length self.now.nodes.thunks) (length self.now.nodes.nodes) result }
         ensures of { (held : ℕ) → IsStepOf production held result }
@@ -103,7 +104,6 @@ impl Linked {
                 packs: None,
             },
             Production::Conversion => self.go(self.inside(kept)),
-            Production::Constraint => self.go(self.in_signature(kept)),
             Production::Enumeration => self.go(self.inside(kept)),
             _ => self.go(kept),
         }
@@ -143,6 +143,7 @@ impl Linked {
         requires local_type { production ≡ productions.LocalType → ⊥ }
         requires lvalue_item { production ≡ productions.LvalueItem → ⊥ }
         requires rvalue_item { production ≡ productions.RvalueItem → ⊥ }
+        requires encoding_literal { production ≡ productions.EncodingLiteral → ⊥ }
         requires integer_literal { production ≡ productions.IntegerLiteral → ⊥ }
         requires nested_base { production ≡ productions.NestedBase → ⊥ }
         requires unnested_base { production ≡ productions.UnnestedBase → ⊥ }
@@ -151,7 +152,7 @@ impl Linked {
         requires of_concept { production ≡ productions.OfConcept → ⊥ }
         requires nested_concept { production ≡ productions.NestedConcept → ⊥ }
         requires named_concept { production ≡ productions.NamedConcept → ⊥ }
-        requires constraint { production ≡ productions.Constraint → ⊥ }
+        requires vendor_expression { production ≡ productions.VendorExpression → ⊥ }
         requires inheriting { production ≡ productions.Inheriting → ⊥ }
         requires nest_decltype { production ≡ productions.NestDecltype → ⊥ }
         requires nest_module { production ≡ productions.NestModule → ⊥ }
@@ -161,6 +162,7 @@ impl Linked {
         requires abbreviated_name { production ≡ productions.AbbreviatedName → ⊥ }
         requires nest_std { production ≡ productions.NestStd → ⊥ }
         requires nest_template { production ≡ productions.NestTemplate → ⊥ }
+        requires vendor { production ≡ productions.Vendor → ⊥ }
         requires first_module { production ≡ productions.FirstModule → ⊥ }
         requires tagged_std_type { production ≡ productions.TaggedStdType → ⊥ }
         requires operator_reference { production ≡ productions.OperatorReference → ⊥ }
@@ -298,6 +300,7 @@ impl Linked {
         requires local_type { production ≡ productions.LocalType → ⊥ }
         requires lvalue_item { production ≡ productions.LvalueItem → ⊥ }
         requires rvalue_item { production ≡ productions.RvalueItem → ⊥ }
+        requires encoding_literal { production ≡ productions.EncodingLiteral → ⊥ }
         requires integer_literal { production ≡ productions.IntegerLiteral → ⊥ }
         requires nested_base { production ≡ productions.NestedBase → ⊥ }
         requires unnested_base { production ≡ productions.UnnestedBase → ⊥ }
@@ -306,7 +309,7 @@ impl Linked {
         requires of_concept { production ≡ productions.OfConcept → ⊥ }
         requires nested_concept { production ≡ productions.NestedConcept → ⊥ }
         requires named_concept { production ≡ productions.NamedConcept → ⊥ }
-        requires constraint { production ≡ productions.Constraint → ⊥ }
+        requires vendor_expression { production ≡ productions.VendorExpression → ⊥ }
         requires inheriting { production ≡ productions.Inheriting → ⊥ }
         requires nest_decltype { production ≡ productions.NestDecltype → ⊥ }
         requires nest_module { production ≡ productions.NestModule → ⊥ }
@@ -353,6 +356,7 @@ impl Linked {
                 listed: true,
                 is_name: true,
             },
+            Production::Vendor => self.listed_name(Node::Vendor(self.text_in(symbol, first))),
             Production::FirstModule => Step::Made {
                 node: Node::Operation {
                     first: b'W',
@@ -463,6 +467,7 @@ impl Linked {
                 is_candidate: true,
                 packs: self.packs,
             },
+            Production::EncodingLiteral => self.go(kept),
             Production::IntegerLiteral => Step::Go {
                 candidate: self.type_candidate(symbol, kept, first),
                 then: kept,
@@ -491,7 +496,7 @@ impl Linked {
                 self.node(symbol, first),
                 is_listed(first),
             )),
-            Production::Constraint => self.go(self.in_signature(kept)),
+            Production::VendorExpression => self.go(self.inside(kept)),
             Production::Inheriting => self.go(self.inside(kept)),
             Production::NestDecltype => self.go(self.behind_name(
                 kept,
@@ -581,7 +586,6 @@ impl Linked {
             }
             Production::ValueOf => self.go(self.in_signature(kept)),
             Production::OfConcept => self.go(self.in_signature(kept)),
-            Production::Constraint => self.go(self.in_signature(kept)),
             _ => self.go(kept),
         }
     }
@@ -636,7 +640,6 @@ impl Linked {
             }
             Production::ValueOf => self.go(self.in_signature(kept)),
             Production::OfConcept => self.go(self.in_signature(kept)),
-            Production::Constraint => self.go(self.in_signature(kept)),
             _ => self.go(kept),
         }
     }
@@ -684,7 +687,6 @@ impl Linked {
             }
             Production::ValueOf => self.go(self.in_signature(kept)),
             Production::OfConcept => self.go(self.in_signature(kept)),
-            Production::Constraint => self.go(self.in_signature(kept)),
             _ => self.go(kept),
         }
     }

@@ -260,8 +260,8 @@ impl Linked {
     ///
     /// # Errors
     ///
-    /// `BadReference` at the arguments of a constructor that is inherited or of a concept, and at what a lambda declares, which
-    /// the ABI's grammar doesn't have.
+    /// `BadReference` at the arguments of a constructor that is inherited or of a concept, at what a lambda declares, and at a
+    /// constraint, which the ABI's grammar doesn't have.
     #[tactic(auto, unfolding(cpp_term::specs::Between::between))]
     #[inline(always)]
     fn step_begin(
@@ -283,6 +283,7 @@ impl Linked {
         match production {
             Production::HeldArguments => Err(Refusal::BadReference { at: place }),
             Production::DeclaredFirst => Err(Refusal::BadReference { at: place }),
+            Production::Constraint => Err(Refusal::BadReference { at: place }),
             _ => Ok(self.step_first(symbol, production, place, kept)),
         }
     }

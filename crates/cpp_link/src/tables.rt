@@ -3,7 +3,7 @@
 use cpp_grammar::production::{Operation, Production};
 
 /// The productions.
-pub(crate) const PRODUCTIONS: [Production; 268] = [
+pub(crate) const PRODUCTIONS: [Production; 270] = [
     Production::LeftFoldFrom,
     Production::FoldSigns,
     Production::FoldSign,
@@ -166,6 +166,7 @@ pub(crate) const PRODUCTIONS: [Production; 268] = [
     Production::MoreModule,
     Production::FieldName,
     Production::BoundNames,
+    Production::InternalBound,
     Production::OperatorNameWithC,
     Production::HeldArguments,
     Production::NestedBase,
@@ -240,6 +241,7 @@ pub(crate) const PRODUCTIONS: [Production; 268] = [
     Production::Operation(Operation::ExpressionT),
     Production::ExpressionWithT,
     Production::ParameterExpression,
+    Production::VendorExpression,
     Production::LeveledExpression,
     Production::AddressedLiteral,
     Production::Expressions,
@@ -275,7 +277,7 @@ pub(crate) const PRODUCTIONS: [Production; 268] = [
 ];
 
 /// How many parts each has.
-pub(crate) const PART_COUNTS: [u8; 268] = [
+pub(crate) const PART_COUNTS: [u8; 270] = [
     3, // LeftFoldFrom
     1, // FoldSigns
     1, // FoldSign
@@ -388,7 +390,7 @@ pub(crate) const PART_COUNTS: [u8; 268] = [
     2, // TypeWithS
     4, // LocalType
     0, // Builtin
-    1, // Vendor
+    2, // Vendor
     1, // ArrayType
     3, // Function
     1, // Complex
@@ -438,6 +440,7 @@ pub(crate) const PART_COUNTS: [u8; 268] = [
     3, // MoreModule
     1, // FieldName
     2, // BoundNames
+    1, // InternalBound
     2, // OperatorNameWithC
     2, // HeldArguments
     2, // NestedBase
@@ -512,6 +515,7 @@ pub(crate) const PART_COUNTS: [u8; 268] = [
     1, // ExpressionT
     1, // ExpressionWithT
     2, // ParameterExpression
+    3, // VendorExpression
     2, // LeveledExpression
     2, // AddressedLiteral
     2, // Expressions
@@ -547,7 +551,7 @@ pub(crate) const PART_COUNTS: [u8; 268] = [
 ];
 
 /// Whether some part of each but the last may have no row: a fixed byte, or a kind that may be empty.
-pub(crate) const SKIPS_PARTS: [bool; 268] = [
+pub(crate) const SKIPS_PARTS: [bool; 270] = [
     false, // LeftFoldFrom
     false, // FoldSigns
     false, // FoldSign
@@ -710,6 +714,7 @@ pub(crate) const SKIPS_PARTS: [bool; 268] = [
     true, // MoreModule
     false, // FieldName
     false, // BoundNames
+    false, // InternalBound
     false, // OperatorNameWithC
     true, // HeldArguments
     false, // NestedBase
@@ -784,6 +789,7 @@ pub(crate) const SKIPS_PARTS: [bool; 268] = [
     false, // ExpressionT
     false, // ExpressionWithT
     false, // ParameterExpression
+    true, // VendorExpression
     false, // LeveledExpression
     false, // AddressedLiteral
     false, // Expressions
@@ -819,7 +825,7 @@ pub(crate) const SKIPS_PARTS: [bool; 268] = [
 ];
 
 /// Before how many of its parts nothing is done in each: before none, the first, or all, which are five at most.
-pub(crate) const QUIET_PARTS: [u8; 268] = [
+pub(crate) const QUIET_PARTS: [u8; 270] = [
     5, // LeftFoldFrom
     5, // FoldSigns
     5, // FoldSign
@@ -932,7 +938,7 @@ pub(crate) const QUIET_PARTS: [u8; 268] = [
     1, // TypeWithS
     1, // LocalType
     5, // Builtin
-    5, // Vendor
+    1, // Vendor
     5, // ArrayType
     5, // Function
     5, // Complex
@@ -953,7 +959,7 @@ pub(crate) const QUIET_PARTS: [u8; 268] = [
     5, // AnyArgument
     5, // LiteralElement
     5, // AnyElement
-    5, // EncodingLiteral
+    1, // EncodingLiteral
     5, // BoolLiteral
     5, // LiteralWithD
     1, // IntegerLiteral
@@ -982,6 +988,7 @@ pub(crate) const QUIET_PARTS: [u8; 268] = [
     2, // MoreModule
     5, // FieldName
     5, // BoundNames
+    5, // InternalBound
     1, // OperatorNameWithC
     0, // HeldArguments
     1, // NestedBase
@@ -1056,6 +1063,7 @@ pub(crate) const QUIET_PARTS: [u8; 268] = [
     5, // ExpressionT
     5, // ExpressionWithT
     1, // ParameterExpression
+    1, // VendorExpression
     5, // LeveledExpression
     5, // AddressedLiteral
     5, // Expressions

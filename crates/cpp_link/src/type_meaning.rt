@@ -87,8 +87,6 @@ impl Linked {
                 },
                 true,
             ),
-            // <builtin-type> ::= u <source-name>
-            Production::Vendor => made(Node::Vendor(self.text(symbol, parts, 0)), false),
             // <decltype> ::= Dt <expression> E | DT <expression> E
             Production::Decltype => made(Node::Decltype(self.tree(symbol, parts, 0)), false),
             // <type> ::= Dy <type> <expression>

@@ -1,5 +1,5 @@
 // The moments at which the driver calls C++'s language by the wide grammar. Each does what it does by the ABI's grammar, except
-// for lambdas, the parameters of their signatures, names with an `M`, and substitutions.
+// for lambdas, the parameters of their signatures, names with an `M`, substitutions, and encodings of literals in constraints.
 
 ghost use Rattle.std.specs.Prelude.{◌≡◌, ℕ, ◌<◌, ◌≤◌, ◌∷◌, ◌++◌, [], List, length, drop, OnOk, OnErr};
 ghost use Rattle.sym_link.specs.Driving.{AreAll};
@@ -40,6 +40,9 @@ fn steps_apart(production: Production, kept: Surroundings, before: usize) -> boo
         Production::HeldArguments => before == 0,
         Production::NamedModule => before == 1,
         Production::DeclaredFirst => before == 0,
+        Production::Constraint => before == 0,
+        Production::EncodingLiteral => kept.in_lambda() && before == 1,
+        Production::Encoding => kept.in_lambda() && before < 2,
         _ => false,
     }
 }
@@ -166,6 +169,8 @@ impl Threading for Rescoping {
             Production::Substitution => self.linked.finish_substitution(symbol, frame, parts),
             Production::Lambda => self.linked.finish_lambda(symbol, frame, parts),
             Production::Inheriting => self.linked.finish_inheriting(symbol, frame, parts),
+            Production::Encoding => self.linked.finish_encoding(symbol, frame, parts),
+            Production::EncodingLiteral => self.linked.finish_literal(symbol, frame, parts),
             _ => self.linked.finish_rule(symbol, frame, parts),
         }
     }

@@ -31,7 +31,23 @@ arguments_in _ node = None
 
 unfoldable pub is_lambda : Scope → Bool
 is_lambda Scope.Lambda = true
+is_lambda Scope.Constraint = true
+is_lambda Scope.Literal = true
 is_lambda _ = false
+
+unfoldable pub is_constraint : Scope → Bool
+is_constraint Scope.Constraint = true
+is_constraint _ = false
+
+unfoldable pub is_literal : Scope → Bool
+is_literal Scope.Literal = true
+is_literal _ = false
+
+-- whether the part is shown
+unfoldable pub showing_in : Scope → plain.Showing
+showing_in Scope.Constraint = plain.in_constraint
+showing_in Scope.Literal = plain.at_literal
+showing_in _ = plain.shown
 
 -- the name so far
 unfoldable pub prefix_in : Naming → ℕ → Prefix
@@ -58,7 +74,7 @@ abbrev pub packs_of : Surroundings → Option ℕ
 packs_of kept = packs_in kept.has_packs kept.pack_length
 
 unfoldable pub around_of : List Term → Surroundings → Around
-around_of ts kept = record { scope = nodes.tree_if_there ts (scope_of kept); encoding = kept.encoding; in_lambda = is_lambda kept.scope; in_expansion = kept.in_expansion; prefix = prefix_of ts (name_of kept) }
+around_of ts kept = record { scope = nodes.tree_if_there ts (scope_of kept); encoding = kept.encoding; in_lambda = is_lambda kept.scope; in_expansion = kept.in_expansion; prefix = prefix_of ts (name_of kept); showing = showing_in kept.scope }
 
 -- no parameter is free in the arguments that are named
 abbrev pub IsClosed : Around → Type 0

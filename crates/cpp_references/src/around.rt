@@ -2,7 +2,7 @@
 
 ghost use Rattle.std.specs.Prelude.{◌≡◌, ℕ, List};
 ghost use Rattle.cpp_term.specs.Term.{Term};
-ghost use Rattle.cpp_references.specs.Around.{scope_of, is_lambda, name_of, packs_of, around_of, IsKeptThere};
+ghost use Rattle.cpp_references.specs.Around.{scope_of, is_lambda, is_constraint, is_literal, name_of, packs_of, around_of, IsKeptThere};
 
 /// The name so far, and whether it is a candidate already or never is one.
 #[derive(Clone, Copy)]
@@ -11,11 +11,14 @@ pub enum Prefix {
     Behind { node: u32, listed: bool },
 }
 
-/// What parameters name: nothing, nothing as in the signature of a lambda or in what is declared of an argument, or arguments.
+/// What parameters name: nothing; nothing as in the signature of a lambda or in what is declared of an argument, as in a
+/// constraint, or as where an encoding begins that a literal there denotes; or arguments.
 #[derive(Clone, Copy)]
 pub enum Scope {
     Nothing,
     Lambda,
+    Constraint,
+    Literal,
     Arguments,
 }
 
@@ -56,11 +59,13 @@ impl Surroundings {
         match self.scope {
             Scope::Nothing => None,
             Scope::Lambda => None,
+            Scope::Constraint => None,
+            Scope::Literal => None,
             Scope::Arguments => Some(self.arguments),
         }
     }
 
-    /// Whether it is in the signature of a lambda.
+    /// Whether it is in the signature of a lambda, in what is declared of an argument, or in a constraint.
     #[tactic(auto, unfolding(crate::specs::Around::is_lambda))]
     #[inline(always)]
     pub fn in_lambda(self) -> bool
@@ -69,7 +74,33 @@ impl Surroundings {
         match self.scope {
             Scope::Nothing => false,
             Scope::Lambda => true,
+            Scope::Constraint => true,
+            Scope::Literal => true,
             Scope::Arguments => false,
+        }
+    }
+
+    /// Whether it is in a constraint.
+    #[tactic(auto, unfolding(crate::specs::Around::is_constraint))]
+    #[inline(always)]
+    pub fn is_unseen(self) -> bool
+        ensures { result ≡ is_constraint self.scope }
+    {
+        match self.scope {
+            Scope::Constraint => true,
+            _ => false,
+        }
+    }
+
+    /// Whether an encoding begins that a literal in a constraint denotes.
+    #[tactic(auto, unfolding(crate::specs::Around::is_literal))]
+    #[inline(always)]
+    pub fn is_passed_over(self) -> bool
+        ensures { result ≡ is_literal self.scope }
+    {
+        match self.scope {
+            Scope::Literal => true,
+            _ => false,
         }
     }
 

@@ -8,7 +8,7 @@ use Rattle.sym_link.specs.Unfold.{found}
 use Rattle.sym_core.specs.declared.NumberKind.TheVariants.{Decimal, Seq36}
 use Rattle.sym_core.specs.Value.{counted_value}
 use Rattle.cpp_grammar.specs.declared.production.Production.{Production}
-use Rattle.cpp_grammar.specs.Rescoping.{generic_number, generic_so_far, parameter_here, argument_here, is_declaring, lambda_with, as_generic_lambda, with_holder, is_instance, holder_so_far, named_by_both, module_of, module_named, module_so_far, numbered, counted_unless, counted_base, between_wide, close_wide}
+use Rattle.cpp_grammar.specs.Rescoping.{generic_number, generic_so_far, parameter_here, argument_here, is_declaring, lambda_with, as_generic_lambda, with_holder, is_instance, holder_so_far, named_by_both, module_of, module_named, module_so_far, numbered, counted_unless, counted_base, in_constraint_of, is_unseen, in_literal, name_if, between_wide, close_wide}
 use Rattle.cpp_grammar.specs.Scope.{count, element, is_open, length_if_pack}
 use Rattle.cpp_grammar.specs.Term.{Term, list, holder, parameter}
 use Rattle.cpp_grammar.specs.Values as leaf_
@@ -22,6 +22,7 @@ use Rattle.cpp_grammar.specs.Row.{Gain, nothing, the_prefix, type_of, unqualifie
 use Rattle.cpp_grammar.specs.Meant.{made, is_listing, around_part, packs_within, gained, replaced, tested, done}
 use Rattle.cpp_grammar.specs.Rows.{row_of}
 use Rattle.cpp_grammar.proofs.ClosedParts.{StaysInside}
+use Rattle.cpp_grammar.proofs.Declared.{is_nothing}
 use Rattle.cpp_grammar.proofs.Ways.{has_signature}
 use Rattle.cpp_grammar.proofs.Steps.{all_pass, step_passes, is_here}
 use Rattle.cpp_term.specs.Items as item_
@@ -37,7 +38,7 @@ use Rattle.cpp_term.specs.Rescoping as wide_
 use Rattle.cpp_term.specs.Annotated.{Place, nowhere, around_place, place_in, in_own, argument_in, annotate, noted_scope, noted_value, noted_values, noted_prefix, noted_around}
 use Rattle.cpp_term.proofs.Notes.{both, or_right, choose, choose_cond, open_noted, closed_noted}
 use Rattle.cpp_term.proofs.SeenNoted.{is_instance_noted, is_declaring_noted}
-use Rattle.cpp_term.proofs.MeaningNoted.{part_noted, tree_part, tree_noted, text_noted, text_part, prefix_tree_noted, prefix_listed_noted, Inside, lambda_noted, takes_encodings, is_of_none, made_inside, made_noted, listing_noted, listed_noted, meaning_noted}
+use Rattle.cpp_term.proofs.MeaningNoted.{part_noted, tree_part, tree_noted, text_noted, text_part, prefix_tree_noted, prefix_listed_noted, Inside, Shut, lambda_noted, takes_encodings, is_of_none, made_inside, made_noted, listing_noted, listed_noted, meaning_noted}
 use Rattle.cpp_term.proofs.StatesNoted.{Alongside, IsOutside, Settled, own_place, Alike, alike_bind, Same, Moves, moves_none, one_moves, type_moves, unqualified_moves, prefix_moves, Comes, AreNoted, get_noted, module_noted, substituted_noted, both_named_noted, wide_numbered_noted, held_moves, more_moves, parameter_noted}
 
 -- what is inside has the same scope, or none
@@ -62,6 +63,14 @@ is_quiet Production.Declarations = true
 is_quiet Production.DeclaredFirst = true
 is_quiet Production.FirstWithT = true
 is_quiet _ = false
+
+-- a production with one part, which is in a signature of its own
+unfoldable pub is_alone : Production → Bool
+is_alone Production.Constraint = true
+is_alone _ = false
+
+abbrev pub MayGo : Production → List Value → Type 0
+MayGo p vs = (is_nothing vs || not (is_alone p)) ≡ true
 
 -- what the parameters of a production's parts name: in a lambda's signature they may be its own
 unfoldable pub parts_place : (own : Bool) → Production → Around → Place
@@ -240,22 +249,23 @@ row_noted own row around place vs x y plain packs =
     (meant_.done (before_part row n) (noted_around own around) place (noted_values (around_place own around) vs) y)) (sym (values_noted (around_place own around) vs))
     (done_noted own (before_part row (length vs)) around place vs x y (step_passes is_plain row plain (length vs)) packs)
 
-pub between_noted : (own : Bool) (production : Production) (around : Around) (place : ℕ) (vs : List Value) (x : State) (y : value_.State) → StaysInside production → is_quiet production ≡ false → Alongside x y →
+pub between_noted : (own : Bool) (production : Production) (around : Around) (place : ℕ) (vs : List Value) (x : State) (y : value_.State) → StaysInside production → is_quiet production ≡ false → MayGo production vs → Alongside x y →
     Alike (Goes own (parts_place own production around) around x y) (between production around place vs x) (between_.between production (noted_around own around) place (noted_values (parts_place own production around) vs) y)
-unfolding parts_place has_signature is_quiet between between_.between all_pass is_plain is_here is_of_none takes_encodings
-between_noted own Production.Encoding around place vs x y stays loud packs = absurd stays
-between_noted own Production.Special around place vs x y stays loud packs = absurd stays
-between_noted own Production.OtherSpecial around place vs x y stays loud packs = absurd stays
-between_noted own Production.Lambda around place vs x y stays loud packs = signature_goes own (parts_place own Production.Lambda around) around x y vs (signature_place own around) packs
-between_noted own Production.ValueOf around place vs x y stays loud packs = signature_goes own (parts_place own Production.ValueOf around) around x y vs (signature_place own around) packs
-between_noted own Production.OfConcept around place vs x y stays loud packs = signature_goes own (parts_place own Production.OfConcept around) around x y vs (signature_place own around) packs
-between_noted own Production.Constraint around place vs x y stays loud packs = signature_goes own (parts_place own Production.Constraint around) around x y vs (signature_place own around) packs
-between_noted own Production.TemplateOf around place vs x y stays loud packs = absurd (true≢false loud)
-between_noted own Production.PackOf around place vs x y stays loud packs = absurd (true≢false loud)
-between_noted own Production.Declarations around place vs x y stays loud packs = absurd (true≢false loud)
-between_noted own Production.DeclaredFirst around place vs x y stays loud packs = absurd (true≢false loud)
-between_noted own Production.FirstWithT around place vs x y stays loud packs = absurd (true≢false loud)
-between_noted own p around place vs x y stays loud packs = row_noted own (row_of p) around place vs x y refl packs
+unfolding parts_place has_signature is_quiet is_alone is_nothing between between_.between all_pass is_plain is_here is_of_none takes_encodings noted_values
+between_noted own Production.Encoding around place vs x y stays loud may packs = absurd stays
+between_noted own Production.Special around place vs x y stays loud may packs = absurd stays
+between_noted own Production.OtherSpecial around place vs x y stays loud may packs = absurd stays
+between_noted own Production.Lambda around place vs x y stays loud may packs = signature_goes own (parts_place own Production.Lambda around) around x y vs (signature_place own around) packs
+between_noted own Production.ValueOf around place vs x y stays loud may packs = signature_goes own (parts_place own Production.ValueOf around) around x y vs (signature_place own around) packs
+between_noted own Production.OfConcept around place vs x y stays loud may packs = signature_goes own (parts_place own Production.OfConcept around) around x y vs (signature_place own around) packs
+between_noted own Production.Constraint around place [] x y stays loud may packs = refl
+between_noted own Production.Constraint around place (v ∷ vs) x y stays loud may packs = absurd (false≢true may)
+between_noted own Production.TemplateOf around place vs x y stays loud may packs = absurd (true≢false loud)
+between_noted own Production.PackOf around place vs x y stays loud may packs = absurd (true≢false loud)
+between_noted own Production.Declarations around place vs x y stays loud may packs = absurd (true≢false loud)
+between_noted own Production.DeclaredFirst around place vs x y stays loud may packs = absurd (true≢false loud)
+between_noted own Production.FirstWithT around place vs x y stays loud may packs = absurd (true≢false loud)
+between_noted own p around place vs x y stays loud may packs = row_noted own (row_of p) around place vs x y refl packs
 
 -- ## After a production
 
@@ -402,22 +412,42 @@ module_goes around x y place number same =
         named_goes true around x x y y c.tree d.tree true [] [] (n.closed closed ∙ closed_noted nowhere (around_place true around) c.tree closed) refl (moves_none true around x x y y refl refl same.packs))
         (λ h. refl)
 
-pub wide_between_noted : (production : Production) (around : Around) (place : ℕ) (vs : List Value) (x : State) (y : value_.State) → StaysInside production → is_quiet production ≡ false → Settled around → Same true around x y →
+-- in a constraint nothing is named but a lambda's own parameters
+constraint_goes : (around : Around) (x : State) (y : value_.State) → Alongside x y →
+    Alike {A = Next Value State Around} (Goes true in_own around x y) (next [] (in_constraint_of around) x) (between_.next [] (wide_.in_constraint_of (noted_around true around)) y)
+unfolding in_constraint_of wide_.in_constraint_of noted_around noted_prefix noted_scope noted_values place_in
+constraint_goes around x y packs = record { values = refl; context = refl; moves = moves_none true around x x y y refl refl packs; scope = inr (refl, refl); place = inl refl }
+
+-- an encoding that a literal denotes
+literal_goes : (around : Around) (x : State) (y : value_.State) (v : Value) → Alongside x y →
+    Alike {A = Next Value State Around} (Goes true (around_place true around) around x y) (next (v ∷ []) (in_literal around) x)
+    (between_.next (noted_value (around_place true around) v ∷ []) (wide_.in_literal (noted_around true around)) y)
+unfolding in_literal wide_.in_literal is_unseen wide_.is_unseen noted_around noted_values
+literal_goes around x y v packs =
+    let s = around_place true around in
+    choose (λ a b. Goes true s around x y (record { context = a; values = v ∷ []; state = x }) (record { context = b; values = noted_value s v ∷ []; state = y })) (is_unseen around) (is_unseen around) _ _ _ _ refl
+    (λ unseen. record { values = refl; context = refl; moves = moves_none true around x x y y refl refl packs; scope = inl (refl, refl); place = inl refl })
+    (λ seen. record { values = refl; context = refl; moves = moves_none true around x x y y refl refl packs; scope = inl (refl, refl); place = inl refl })
+
+pub wide_between_noted : (production : Production) (around : Around) (place : ℕ) (vs : List Value) (x : State) (y : value_.State) → StaysInside production → is_quiet production ≡ false → MayGo production vs → Settled around → Same true around x y →
     Alike (Goes true (parts_place true production around) around x y) (between_wide production around place vs x)
     (wide_.between_wide production (noted_around true around) place (noted_values (parts_place true production around) vs) y)
-unfolding between_wide wide_.between_wide noted_values parts_place has_signature is_quiet noted_around noted_prefix
-wide_between_noted Production.Parameter around place (v ∷ []) x y stays loud settled same = here_goes around x y place v settled same.packs
-wide_between_noted Production.NestParameter around place (v ∷ []) x y stays loud settled same = here_goes around x y place v settled same.packs
-wide_between_noted Production.ParameterArgument around place (v ∷ []) x y stays loud settled same = here_goes around x y (place - 1) v settled same.packs
-wide_between_noted Production.ParameterExpression around place (v ∷ []) x y stays loud settled same = argument_here_goes around x y (place - 1) v settled same.packs
-wide_between_noted Production.DeclaredFirst around place vs x y stays loud settled same = absurd (true≢false loud)
-wide_between_noted Production.HeldArguments around place [] x y stays loud settled same = base_goes around x y same.packs
-wide_between_noted Production.Holder around place (v ∷ []) x y stays loud settled same = holder_goes around x y place same.packs
-wide_between_noted Production.NamedModule around place (v ∷ []) x y stays loud settled same =
+unfolding between_wide wide_.between_wide noted_values parts_place has_signature is_quiet is_alone is_nothing noted_around noted_prefix
+wide_between_noted Production.Parameter around place (v ∷ []) x y stays loud may settled same = here_goes around x y place v settled same.packs
+wide_between_noted Production.NestParameter around place (v ∷ []) x y stays loud may settled same = here_goes around x y place v settled same.packs
+wide_between_noted Production.ParameterArgument around place (v ∷ []) x y stays loud may settled same = here_goes around x y (place - 1) v settled same.packs
+wide_between_noted Production.ParameterExpression around place (v ∷ []) x y stays loud may settled same = argument_here_goes around x y (place - 1) v settled same.packs
+wide_between_noted Production.DeclaredFirst around place vs x y stays loud may settled same = absurd (true≢false loud)
+wide_between_noted Production.HeldArguments around place [] x y stays loud may settled same = base_goes around x y same.packs
+wide_between_noted Production.Holder around place (v ∷ []) x y stays loud may settled same = holder_goes around x y place same.packs
+wide_between_noted Production.NamedModule around place (v ∷ []) x y stays loud may settled same =
     let s = around_place true around in
     subst (λ bytes. Alike (Goes true s around x y) (module_so_far around (place - 1) (counted_value Seq36 (text_of v)) x) (wide_.module_so_far (noted_around true around) (place - 1) (counted_value Seq36 bytes) y))
     (sym (text_noted s v)) (module_goes around x y (place - 1) (counted_value Seq36 (text_of v)) same)
-wide_between_noted p around place vs x y stays loud settled same = between_noted true p around place vs x y stays loud same.packs
+wide_between_noted Production.Constraint around place [] x y stays loud may settled same = constraint_goes around x y same.packs
+wide_between_noted Production.EncodingLiteral around place (v ∷ []) x y stays loud may settled same = literal_goes around x y v same.packs
+wide_between_noted Production.Encoding around place vs x y stays loud may settled same = absurd stays
+wide_between_noted p around place vs x y stays loud may settled same = between_noted true p around place vs x y stays loud may same.packs
 
 -- the cases of a lambda are decided alike, and what is in its signature is under its own parameters
 lambda_with_noted : (s : Place) (t : Term) (number : ℕ) → wide_.lambda_with (annotate in_own t) number ≡ annotate s (lambda_with t number)
@@ -441,10 +471,26 @@ counted_moves around v x y packs =
     let s = around_place true around in
     unless_moves around (is_listed v) (value_.is_listed (noted_value s v)) by_gcc (tree_of v) (value_.tree_of (noted_value s v)) x y packs (listed_noted s v) (tree_noted s v)
 
-pub wide_close_noted : (production : Production) (byte : ℕ) (around : Around) (place : ℕ) (began : State) (first : value_.State) (vs : List Value) (x : State) (y : value_.State) → Inside production vs →
+no_open : (unseen o : Bool) → (unseen ≡ false → o ≡ false) → (unseen && o) ≡ false → o ≡ false
+no_open true o shut h = h
+no_open false o shut h = shut refl
+
+-- a literal of an encoding, or the encoding's name alone
+literal_noted : (byte : ℕ) (around : Around) (vs : List Value) → (is_unseen around ≡ false → is_open (tree_of (part vs 1)) ≡ false) →
+    wide_.name_if (is_unseen around && scope_.is_open (value_.tree_of (value_.part (noted_values (around_place true around) vs) 1))) (value_.part (noted_values (around_place true around) vs) 1)
+    (noted_.meaning Production.EncodingLiteral byte (noted_around true around) (noted_values (around_place true around) vs))
+    ≡ noted_value (around_place true around) (name_if (is_unseen around && is_open (tree_of (part vs 1))) (part vs 1) (meaning Production.EncodingLiteral byte around vs))
+unfolding name_if wide_.name_if noted_value
+literal_noted byte around vs shut =
+    let s = around_place true around in
+    choose (λ a b. b ≡ noted_value s a) (is_unseen around && is_open (tree_of (part vs 1))) (is_unseen around && scope_.is_open (value_.tree_of (value_.part (noted_values s vs) 1))) _ _ _ _
+    (ap (λ o. is_unseen around && o) (ap scope_.is_open (tree_part s vs 1) ∙ open_noted s (tree_of (part vs 1)))) (λ open_. ap (λ t. value_.tree t true) (tree_part s vs 1))
+    (λ closed. meaning_noted true Production.EncodingLiteral byte around vs (no_open (is_unseen around) (is_open (tree_of (part vs 1))) shut closed))
+
+pub wide_close_noted : (production : Production) (byte : ℕ) (around : Around) (place : ℕ) (began : State) (first : value_.State) (vs : List Value) (x : State) (y : value_.State) → Shut true production around vs →
     is_quiet production ≡ false → is_declared production ≡ false → Settled around → Same true around x y → Alongside began first →
     Alike (Comes true around x y) (close_wide production byte around place began vs x) (wide_.close_wide production byte (noted_around true around) place first (noted_values (parts_place true production around) vs) y)
-unfolding close unfolded_.close close_wide wide_.close_wide parts_place has_signature is_quiet is_declared meaning noted_.meaning unfolding_.behind unfolded_.behind noted_value
+unfolding close unfolded_.close close_wide wide_.close_wide parts_place has_signature is_quiet is_declared meaning noted_.meaning unfolding_.behind unfolded_.behind noted_value wide_.is_unseen is_unseen noted_around
 wide_close_noted Production.Substitution byte around place began first vs x y h loud plain settled same e =
     subst (λ bytes. Alike (Comes true around x y) (numbered around (place - 1) (counted_value Seq36 (text_of (part vs 0))) x) (wide_.numbered (noted_around true around) (place - 1) (counted_value Seq36 bytes) y))
     (sym (text_part (around_place true around) vs 0)) (wide_numbered_noted around (place - 1) (counted_value Seq36 (text_of (part vs 0))) x y settled same)
@@ -462,4 +508,6 @@ wide_close_noted Production.Declarations byte around place began first vs x y h 
 wide_close_noted Production.DeclaredFirst byte around place began first vs x y h loud plain settled same e = absurd (true≢false loud)
 wide_close_noted Production.FirstWithT byte around place began first vs x y h loud plain settled same e = absurd (true≢false loud)
 wide_close_noted Production.Constraint byte around place began first vs x y h loud plain settled same e = record { value = refl; moves = moves_none true around x x y y refl refl same.packs }
+wide_close_noted Production.Encoding byte around place began first vs x y h loud plain settled same e = absurd h
+wide_close_noted Production.EncodingLiteral byte around place began first vs x y h loud plain settled same e = record { value = literal_noted byte around vs h; moves = moves_none true around x x y y refl refl same.packs }
 wide_close_noted production byte around place began first vs x y h loud plain settled same e = made_close true production byte around began first vs x y h same e

@@ -25,7 +25,7 @@ use Rattle.cpp_grammar.specs.Rescoping.{between_wide, close_wide}
 use Rattle.cpp_grammar.proofs.Choosing.{each_passes, chosen_rule, taken_passes, implied}
 use Rattle.cpp_grammar.proofs.ClosedParts.{StaysInside}
 use Rattle.cpp_grammar.proofs.ClosedStates.{ok_same}
-use Rattle.cpp_grammar.proofs.ClosedTrees.{at_number, its_symbols}
+use Rattle.cpp_grammar.proofs.ClosedTrees.{is_encoding, at_number, its_symbols}
 use Rattle.cpp_grammar.proofs.Declared.{is_declaration, is_first, skips, hides, is_nothing, some_values, same_skipped, none_hidden}
 use Rattle.cpp_grammar.proofs.Steps.{first_of_both, second_of_both, all_pass}
 use Rattle.cpp_grammar.proofs.Ways.{has_signature, Way, reading_by}
@@ -36,9 +36,10 @@ use Rattle.cpp_term.specs.Unfolding as unfolded_
 use Rattle.cpp_term.specs.Rescoping as wide_
 use Rattle.cpp_term.specs.Annotated.{Place, around_place, place_in, in_own, annotate, noted_value, noted_values, noted_around}
 use Rattle.cpp_term.proofs.Notes.{both}
-use Rattle.cpp_term.proofs.MeaningNoted.{Inside, tree_part, meaning_noted}
+use Rattle.cpp_term.proofs.MeaningNoted.{Inside, Shut, tree_part, meaning_noted}
 use Rattle.cpp_term.proofs.StatesNoted.{Alongside, Settled, own_place, Alike, Same, Moves, moves_none, Comes}
-use Rattle.cpp_term.proofs.BetweenNoted.{InScope, is_quiet, is_declared, parts_place, Goes, between_noted, wide_between_noted, close_noted, wide_close_noted}
+use Rattle.cpp_term.proofs.Passing.{is_literal}
+use Rattle.cpp_term.proofs.BetweenNoted.{InScope, is_quiet, is_declared, is_alone, MayGo, parts_place, Goes, between_noted, wide_between_noted, close_noted, wide_close_noted}
 
 -- ## Kinds and productions
 
@@ -95,12 +96,16 @@ part_placed p hidden x =
       | false ↦ elim (is_quiet p) [ true ↦ is_declaration x || (is_byte x || is_first x) | false ↦ not (is_declaration x) ]
     ]) && (not (is_first x) || (is_lambda p || in_first p))
 
+-- behind the first part of a literal of an encoding is that encoding
+unfoldable pub later_placed : Production → (first : Bool) → Sym → Bool
+later_placed p first x = first || (not (is_alone p) && (not (is_literal p) || is_encoding x))
+
 unfoldable pub parts_placed : Production → (first : Bool) → List Sym → Bool
 parts_placed p first [] = true
-parts_placed p first (x ∷ xs) = part_placed p (first && skips p) x && parts_placed p false xs
+parts_placed p first (x ∷ xs) = (part_placed p (first && skips p) x && later_placed p first x) && parts_placed p false xs
 
 all_placed : (p : Production) → parts_placed p true (parts_of p) ≡ true
-unfolding parts_placed part_placed skips is_declaration is_quiet is_byte is_first is_lambda in_first parts_of number_of_kind
+unfolding parts_placed part_placed later_placed is_alone is_literal is_encoding skips is_declaration is_quiet is_byte is_first is_lambda in_first parts_of number_of_kind
 all_placed Production.Mark = refl
 all_placed (Production.Operation Operation.ExpressionC) = refl
 all_placed _ = refl
@@ -113,11 +118,36 @@ rule_placed p rule is =
 pub left_placed : (p : Production) (first : Bool) (vs us : List Value) (x : Sym) (xs : List Sym) (value : Value) → us ≡ value ∷ [] → parts_placed p first (x ∷ xs) ≡ true → parts_placed p (is_nothing (vs ++ us)) xs ≡ true
 unfolding parts_placed
 left_placed p first vs us x xs value is placed =
-    ap (λ b. parts_placed p b xs) (ap (λ ws. is_nothing (vs ++ ws)) is ∙ some_values vs value) ∙ second_of_both (part_placed p (first && skips p) x) (parts_placed p false xs) placed
+    ap (λ b. parts_placed p b xs) (ap (λ ws. is_nothing (vs ++ ws)) is ∙ some_values vs value) ∙ second_of_both (part_placed p (first && skips p) x && later_placed p first x) (parts_placed p false xs) placed
 
 pub next_placed : (p : Production) (first : Bool) (x : Sym) (xs : List Sym) → parts_placed p first (x ∷ xs) ≡ true → part_placed p (first && skips p) x ≡ true
 unfolding parts_placed
-next_placed p first x xs placed = first_of_both (part_placed p (first && skips p) x) (parts_placed p false xs) placed
+next_placed p first x xs placed =
+    first_of_both (part_placed p (first && skips p) x) (later_placed p first x) (first_of_both (part_placed p (first && skips p) x && later_placed p first x) (parts_placed p false xs) placed)
+
+pub next_later : (p : Production) (first : Bool) (x : Sym) (xs : List Sym) → parts_placed p first (x ∷ xs) ≡ true → later_placed p first x ≡ true
+unfolding parts_placed
+next_later p first x xs placed =
+    second_of_both (part_placed p (first && skips p) x) (later_placed p first x) (first_of_both (part_placed p (first && skips p) x && later_placed p first x) (parts_placed p false xs) placed)
+
+pub may_go : (p : Production) (vs : List Value) (x : Sym) → later_placed p (is_nothing vs) x ≡ true → MayGo p vs
+unfolding later_placed
+may_go p vs x placed = go (is_nothing vs) (not (is_alone p)) (not (is_literal p) || is_encoding x) placed
+  where
+    go : (first alone_ literal : Bool) → (first || (alone_ && literal)) ≡ true → (first || alone_) ≡ true
+    go true a l h = refl
+    go false true l h = refl
+    go false false l h = h
+
+pub literal_next : (p : Production) (first : Bool) (x : Sym) → later_placed p first x ≡ true → first ≡ false → is_literal p ≡ true → is_encoding x ≡ true
+unfolding later_placed
+literal_next p first x placed later literal = go first (not (is_alone p)) (is_literal p) (is_encoding x) placed later literal
+  where
+    go : (f a l e : Bool) → (f || (a && (not l || e))) ≡ true → f ≡ false → l ≡ true → e ≡ true
+    go true a l e h later_ is = absurd (true≢false later_)
+    go false true true e h later_ is = h
+    go false true false e h later_ is = absurd (false≢true is)
+    go false false l e h later_ is = absurd (false≢true h)
 
 -- ## Places
 
@@ -240,32 +270,32 @@ unfolding is_lambda between_wide
 wide_lambda_inside Production.Lambda around place vs x h n e = lambda_inside Production.Lambda around place vs x refl n e
 wide_lambda_inside _ around place vs x h n e = absurd (false≢true h)
 
-pub abi_goes : (production : Production) (around : Around) (place : ℕ) (vs : List Value) (x : State) (y : value_.State) → StaysInside production → Settled around → Same false around x y →
+pub abi_goes : (production : Production) (around : Around) (place : ℕ) (vs : List Value) (x : State) (y : value_.State) → StaysInside production → MayGo production vs → Settled around → Same false around x y →
     Alike (Onward false production around x y) (between production around place vs x) (between_.between production (noted_around false around) place (noted_parts production false (parts_place false production around) vs) y)
 unfolding between between_.between all_pass is_quiet is_lambda noted_parts noted_values
-abi_goes Production.TemplateOf around place vs x y stays settled same = quiet_onward false Production.TemplateOf around x y vs refl refl same.packs
-abi_goes Production.PackOf around place vs x y stays settled same = quiet_onward false Production.PackOf around x y vs refl refl same.packs
-abi_goes Production.Declarations around place vs x y stays settled same = quiet_onward false Production.Declarations around x y vs refl refl same.packs
-abi_goes Production.FirstWithT around place vs x y stays settled same = quiet_onward false Production.FirstWithT around x y vs refl refl same.packs
-abi_goes Production.DeclaredFirst around place [] x y stays settled same = refl
-abi_goes Production.DeclaredFirst around place (v ∷ vs) x y stays settled same = quiet_onward false Production.DeclaredFirst around x y (v ∷ vs) refl refl same.packs
-abi_goes p around place vs x y stays settled same =
+abi_goes Production.TemplateOf around place vs x y stays may settled same = quiet_onward false Production.TemplateOf around x y vs refl refl same.packs
+abi_goes Production.PackOf around place vs x y stays may settled same = quiet_onward false Production.PackOf around x y vs refl refl same.packs
+abi_goes Production.Declarations around place vs x y stays may settled same = quiet_onward false Production.Declarations around x y vs refl refl same.packs
+abi_goes Production.FirstWithT around place vs x y stays may settled same = quiet_onward false Production.FirstWithT around x y vs refl refl same.packs
+abi_goes Production.DeclaredFirst around place [] x y stays may settled same = refl
+abi_goes Production.DeclaredFirst around place (v ∷ vs) x y stays may settled same = quiet_onward false Production.DeclaredFirst around x y (v ∷ vs) refl refl same.packs
+abi_goes p around place vs x y stays may settled same =
     onward_by false p around x y (between p around place vs x) (between_.between p (noted_around false around) place (noted_values (parts_place false p around) vs) y) (lambda_inside p around place vs x) (λ us. refl)
-    (between_noted false p around place vs x y stays refl same.packs)
+    (between_noted false p around place vs x y stays refl may same.packs)
 
-pub wide_goes : (production : Production) (around : Around) (place : ℕ) (vs : List Value) (x : State) (y : value_.State) → StaysInside production → Settled around → Same true around x y →
+pub wide_goes : (production : Production) (around : Around) (place : ℕ) (vs : List Value) (x : State) (y : value_.State) → StaysInside production → MayGo production vs → Settled around → Same true around x y →
     Alike (Onward true production around x y) (between_wide production around place vs x) (wide_.between_wide production (noted_around true around) place (noted_parts production true (parts_place true production around) vs) y)
 unfolding between_wide wide_.between_wide between between_.between all_pass is_quiet is_lambda noted_parts noted_values
-wide_goes Production.DeclaredArgument around place vs x y stays settled same = skipped_onward true around x y vs same.packs
-wide_goes Production.TemplateOf around place vs x y stays settled same = quiet_onward true Production.TemplateOf around x y vs refl refl same.packs
-wide_goes Production.PackOf around place vs x y stays settled same = quiet_onward true Production.PackOf around x y vs refl refl same.packs
-wide_goes Production.Declarations around place vs x y stays settled same = quiet_onward true Production.Declarations around x y vs refl refl same.packs
-wide_goes Production.FirstWithT around place vs x y stays settled same = quiet_onward true Production.FirstWithT around x y vs refl refl same.packs
-wide_goes Production.DeclaredFirst around place [] x y stays settled same = quiet_onward true Production.DeclaredFirst around x y [] refl refl same.packs
-wide_goes Production.DeclaredFirst around place (v ∷ vs) x y stays settled same = quiet_onward true Production.DeclaredFirst around x y (v ∷ vs) refl refl same.packs
-wide_goes p around place vs x y stays settled same =
+wide_goes Production.DeclaredArgument around place vs x y stays may settled same = skipped_onward true around x y vs same.packs
+wide_goes Production.TemplateOf around place vs x y stays may settled same = quiet_onward true Production.TemplateOf around x y vs refl refl same.packs
+wide_goes Production.PackOf around place vs x y stays may settled same = quiet_onward true Production.PackOf around x y vs refl refl same.packs
+wide_goes Production.Declarations around place vs x y stays may settled same = quiet_onward true Production.Declarations around x y vs refl refl same.packs
+wide_goes Production.FirstWithT around place vs x y stays may settled same = quiet_onward true Production.FirstWithT around x y vs refl refl same.packs
+wide_goes Production.DeclaredFirst around place [] x y stays may settled same = quiet_onward true Production.DeclaredFirst around x y [] refl refl same.packs
+wide_goes Production.DeclaredFirst around place (v ∷ vs) x y stays may settled same = quiet_onward true Production.DeclaredFirst around x y (v ∷ vs) refl refl same.packs
+wide_goes p around place vs x y stays may settled same =
     onward_by true p around x y (between_wide p around place vs x) (wide_.between_wide p (noted_around true around) place (noted_values (parts_place true p around) vs) y) (wide_lambda_inside p around place vs x) (λ us. refl)
-    (wide_between_noted p around place vs x y stays refl settled same)
+    (wide_between_noted p around place vs x y stays refl may settled same)
 
 -- ## After the parts of a production
 
@@ -290,7 +320,7 @@ first_value : (p : Production) (byte : ℕ) (around : Around) (vs : List Value) 
 first_value p byte around vs h settled l =
     subst (λ s. noted_.meaning p byte (noted_around true around) (noted_values s vs) ≡ noted_value (around_place true around) (meaning p byte around vs)) (own_place around (settled l) l) (meaning_noted true p byte around vs h)
 
-pub wide_closes : (production : Production) (byte : ℕ) (around : Around) (place : ℕ) (began : State) (first : value_.State) (vs : List Value) (x : State) (y : value_.State) → Inside production vs →
+pub wide_closes : (production : Production) (byte : ℕ) (around : Around) (place : ℕ) (began : State) (first : value_.State) (vs : List Value) (x : State) (y : value_.State) → Shut true production around vs →
     Settled around → (in_first production ≡ true → around.in_lambda ≡ true) → Same true around x y → Alongside began first →
     Alike (Yield true production around x y) (close_wide production byte around place began vs x) (wide_.close_wide production byte (noted_around true around) place first (noted_parts production true (parts_place true production around) vs) y)
 unfolding close unfolded_.close close_wide wide_.close_wide tree_of value_.tree_of parts_place has_signature meaning noted_.meaning unfolding_.behind unfolded_.behind yield_place is_declared in_first is_quiet noted_parts noted_values noted_value annotate in_signature place_in part value_.part listed_value noted_.listed_value

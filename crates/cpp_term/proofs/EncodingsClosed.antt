@@ -1,7 +1,7 @@
 -- In a run without arguments, the parts of a production that are encodings have no free parameters, and neither has the subject
 -- of a special name.
-use Rattle.std.proofs.Common.{◌≡◌, refl, ap, sym, ◌∙◌, subst, ℕ, zero, suc, ◌+◌, ◌<◌, ◌≤◌, List, [], ◌∷◌, ◌++◌, length, Bool, true, false, not, ◌||◌, nat_eq, Result, Ok, lit≤, arith}
-use Rattle.std.proofs.lemmas.Bool.{false≢true, eqb-true}
+use Rattle.std.proofs.Common.{◌≡◌, refl, ap, sym, ◌∙◌, subst, ℕ, zero, suc, ◌+◌, ◌<◌, ◌≤◌, List, [], ◌∷◌, ◌++◌, length, Bool, true, false, not, ◌||◌, ◌&&◌, nat_eq, inl, inr, Result, Ok, lit≤, arith}
+use Rattle.std.proofs.lemmas.Bool.{true≢false, false≢true, eqb-true}
 use Rattle.std.proofs.lemmas.List.{append-nil, append_assoc}
 use Rattle.sym_core.specs.declared.refusal.Refusal.{Refusal}
 use Rattle.sym_shape.specs.declared.rule.Rule.{Rule}
@@ -22,7 +22,9 @@ use Rattle.cpp_grammar.specs.Scope.{is_open}
 use Rattle.cpp_grammar.specs.Values.{State, Around, Value, nothing_there, tree_of, part}
 use Rattle.cpp_grammar.specs.Between.{in_name, no_items, between}
 use Rattle.cpp_grammar.specs.Meaning.{meaning}
+use Rattle.cpp_grammar.specs.Unfolding as unfolding_
 use Rattle.cpp_grammar.specs.Unfolding.{close, production_at, byte_of}
+use Rattle.cpp_grammar.specs.Rescoping.{is_unseen, name_if}
 use Rattle.cpp_grammar.proofs.Choosing.{chosen_rule, taken_passes, implied}
 use Rattle.cpp_grammar.proofs.ClosedValues.{AllGood, GoodPrefix, good_tree, good_part}
 use Rattle.cpp_grammar.proofs.NoneFree.{none_encoding}
@@ -30,11 +32,12 @@ use Rattle.cpp_grammar.proofs.ClosedStates.{Bare, Within, AllOld, old_later, old
 use Rattle.cpp_grammar.proofs.ClosedParts.{StaysInside}
 use Rattle.cpp_grammar.proofs.Declared.{is_declaration, is_first, declares, parts_apart, is_nothing, read_of, read_none}
 use Rattle.cpp_grammar.proofs.Ways.{has_signature, Way, reading_by, abi_way, differs}
-use Rattle.cpp_grammar.proofs.ClosedTrees.{is_encoding, has_encoding, opens, or_true, at_number, its_symbols, stays, takes_byte, Whole, old_fits, grows_fits, old_inner, known, name_comes, same_found, stepped, inner_closes, KeepsClosed, opens_apart, forest_good, tree_good_by, trees_good_by, left_apart, rule_apart, one_read}
+use Rattle.cpp_grammar.proofs.ClosedTrees.{is_encoding, has_encoding, opens, or_true, at_number, its_symbols, stays, takes_byte, Whole, old_fits, grows_fits, old_inner, known, name_comes, same_found, stepped, inner_closes, KeepsClosed, forest_good, tree_good_by, trees_good_by, left_apart, rule_apart, one_read}
 use Rattle.cpp_term.proofs.KindsNoted.{is_special_kind, in_special, encodings_open, special_types}
-use Rattle.cpp_term.proofs.MeaningNoted.{Inside}
+use Rattle.cpp_term.proofs.MeaningNoted.{Inside, Shut}
+use Rattle.cpp_term.proofs.Passing.{IsSeen, is_literal, Sees}
 
-one_production : (p q : Production) (rule : Rule) → rule ≡ rule_of p → rule ≡ rule_of q → q ≡ p
+pub one_production : (p q : Production) (rule : Rule) → rule ≡ rule_of p → rule ≡ rule_of q → q ≡ p
 one_production p q rule is so = sym (at_number q) ∙ ap (λ x. production_at x.number) (sym so ∙ is) ∙ at_number p
 
 special_kind : (p : Production) (k : ℕ) (rule : Rule) (taken : List ℕ) → rule ≡ rule_of p → k < wide.kinds → TakesRule wide k rule taken → in_special p ≡ true → is_special_kind k ≡ true
@@ -66,7 +69,9 @@ plain_keeps Production.NonVirtualThunk h around place vs state n e = goes_on vs 
 plain_keeps Production.VirtualThunk h around place vs state n e = goes_on vs around state n e
 plain_keeps Production.CovariantThunk h around place vs state n e = goes_on vs around state n e
 plain_keeps Production.Clone h around place vs state n e = goes_on vs around state n e
-plain_keeps Production.EncodingLiteral h around place vs state n e = goes_on vs around state n e
+plain_keeps Production.EncodingLiteral h around place [] state n e = goes_on [] around state n e
+plain_keeps Production.EncodingLiteral h around place (v ∷ []) state n e = goes_on (v ∷ []) around state n e
+plain_keeps Production.EncodingLiteral h around place (v ∷ u ∷ vs) state n e = goes_on (v ∷ u ∷ vs) around state n e
 plain_keeps Production.LocalName h around place [] state n e = goes_on [] around state n e
 plain_keeps Production.LocalName h around place (v ∷ vs) state n e = goes_on (v ∷ vs) _ state n e
 plain_keeps Production.LocalTemporary h around place [] state n e = goes_on [] around state n e
@@ -76,11 +81,27 @@ plain_keeps Production.LocalType h around place (v ∷ vs) state n e = goes_on (
 plain_keeps (Production.Operation Operation.ExpressionC) h around place vs state n e = absurd (false≢true h)
 plain_keeps _ h around place vs state n e = absurd (false≢true h)
 
-encodings_apart : (p : Production) → has_encoding (parts_of p) ≡ true → differs p ≡ false
-unfolding has_encoding is_encoding parts_of number_of_kind differs
-encodings_apart Production.Parameter h = absurd (false≢true h)
-encodings_apart (Production.Operation Operation.ExpressionC) h = cc
-encodings_apart _ h = cc
+encodings_apart : (p : Production) → has_encoding (parts_of p) ≡ true → is_literal p ≡ false → differs p ≡ false
+unfolding has_encoding is_encoding parts_of number_of_kind differs is_literal
+encodings_apart Production.Parameter h other = absurd (false≢true h)
+encodings_apart Production.EncodingLiteral h other = absurd (true≢false other)
+encodings_apart (Production.Operation Operation.ExpressionC) h other = cc
+encodings_apart _ h other = cc
+
+literal_alone : (p : Production) → is_literal p ≡ true → p ≡ Production.EncodingLiteral
+unfolding is_literal
+literal_alone Production.EncodingLiteral h = refl
+literal_alone _ h = absurd (false≢true h)
+
+-- the parts of this production are read where encodings aren't passed over
+abbrev IsPlainHere : (own : Bool) → Production → Around → Type 0
+IsPlainHere own p around = own ≡ true → is_literal p ≡ true → is_unseen around ≡ false
+
+shut_where : (own : Bool) (p : Production) (around : Around) (vs : List Value) → (IsPlainHere own p around → Inside p vs) → Shut own p around vs
+unfolding is_literal
+shut_where true Production.EncodingLiteral around vs inside = λ seen. inside (λ own literal. seen)
+shut_where true p around vs inside = inside (λ own literal. absurd (false≢true literal))
+shut_where false p around vs inside = inside (λ own. absurd (false≢true own))
 
 special_apart : (p : Production) → in_special p ≡ true → has_signature p ≡ false
 unfolding in_special has_signature
@@ -141,7 +162,7 @@ inside_values _ vs plain all special = first_of (cc, search tt)
 
 -- ## Either reading
 
-module _ (way : Way) (keeps : KeepsClosed way) where
+module _ (way : Way) (keeps : KeepsClosed way) (sees : Sees way) where
   special_closed : (f : Forest) (rule : Open State Around) (from : ℕ) (state : State) (r : Found (List Value) State) → production_at rule.rule.number ≡ Production.Special →
       AreTrees wide (parts_of Production.Special) f → rule.context.encoding < rule.place → rule.place ≤ from → AllOld way.own rule.context rule.place state.candidates →
       unfold_forest (reading_by way) rule [] from f state ≡ Ok r → is_open (tree_of (part r.value 0)) ≡ false
@@ -188,10 +209,21 @@ module _ (way : Way) (keeps : KeepsClosed way) where
   inner_closed Production.Mark o f rule from state r is trees lt le old e byte around = absurd (false≢true o)
   inner_closed _ o f rule from state r is trees lt le old e byte around = absurd (false≢true o)
 
-  encoded_closed : (t : Tree) (around : Around) (at : ℕ) (state : State) (r : Found (List Value) State) → IsTree wide (OfKind ENCODING) t → around.encoding < at → AllOld way.own around at state.candidates →
+  -- where an encoding isn't passed over, it is read as the plain reading does
+  opens_close : (p : Production) → opens p ≡ true → (byte : ℕ) (around : Around) (place : ℕ) (began : State) (vs : List Value) (state : State) → IsSeen around → way.close p byte around place began vs state ≡ close p byte around place began vs state
+  unfolding opens differs name_if close unfolding_.behind
+  opens_close Production.Encoding o byte around place began vs state seen =
+      let said : Bool → Result (Found Value State) Refusal = λ b. Ok (found (name_if (b && is_open (tree_of (part vs 0))) (part vs 0) (meaning Production.Encoding byte around vs)) state) in
+      keeps.plain.encoding byte around place began vs state ∙ ap said (sees.unpassed around seen)
+  opens_close Production.Special o byte around place began vs state seen = keeps.plain.close Production.Special refl byte around place began vs state
+  opens_close Production.OtherSpecial o byte around place began vs state seen = keeps.plain.close Production.OtherSpecial refl byte around place began vs state
+  opens_close Production.Mark o byte around place began vs state seen = absurd (false≢true o)
+  opens_close _ o byte around place began vs state seen = absurd (false≢true o)
+
+  encoded_closed : (t : Tree) (around : Around) (at : ℕ) (state : State) (r : Found (List Value) State) → IsTree wide (OfKind ENCODING) t → IsSeen around → around.encoding < at → AllOld way.own around at state.candidates →
       unfold_tree (reading_by way) around at t state ≡ Ok r → is_open (tree_of (part r.value 0)) ≡ false
   unfolding reading_by part tree_of is_open
-  encoded_closed (branch rule taken parts) around at state r tree less old e =
+  encoded_closed (branch rule taken parts) around at state r tree seen less old e =
       let whole = Whole rule taken at around state in
       let c = chosen_rule ENCODING rule taken (known 4 (lit≤ tt)) tree.0 in
       let p = c.production in
@@ -208,25 +240,29 @@ module _ (way : Way) (keeps : KeepsClosed way) where
       let number : production_at rule.number ≡ p = ap (λ x. production_at x.number) c.is ∙ at_number p in
       let trees = subst (λ xs. AreTrees wide xs parts) (ap symbols_of c.is ∙ its_symbols p) tree.1 in
       let closed = inner_closed p opening_ parts whole from begun.value inner.value number trees less (omega arith) (subst (λ cs. AllOld way.own around at cs) (sym kept) old) inner.is byte around in
-      let ends : close p byte around at state inner.value.value inner.value.state ≡ Ok one = sym (ap (λ q. way.close q byte around at state inner.value.value inner.value.state) number ∙ keeps.plain.close p (opens_apart p opening_) byte around at state inner.value.value inner.value.state) ∙ ended.is in
+      let ends : close p byte around at state inner.value.value inner.value.state ≡ Ok one = sym (ap (λ q. way.close q byte around at state inner.value.value inner.value.state) number ∙ opens_close p opening_ byte around at state inner.value.value inner.value.state seen) ∙ ended.is in
       let means = inner_closes p opening_ byte around at state inner.value.value inner.value.state one ends in
       subst (λ x. is_open (tree_of (part x.value 0)) ≡ false) same (subst (λ x. is_open (tree_of x.value) ≡ false) means closed)
-  encoded_closed empty around at state r tree less old e = subst (λ x. is_open (tree_of (part x.value 0)) ≡ false) (ok_same (found (nothing_there ∷ []) state) r e) refl
-  encoded_closed _ around at state r tree less old e = absurd tree
+  encoded_closed empty around at state r tree seen less old e = subst (λ x. is_open (tree_of (part x.value 0)) ≡ false) (ok_same (found (nothing_there ∷ []) state) r e) refl
+  encoded_closed _ around at state r tree seen less old e = absurd tree
 
   keeps_values : (p : Production) → has_encoding (parts_of p) ≡ true → Keeps way p
   unfolding abi_way
-  keeps_values p has = λ around place vs state n e. plain_keeps p has around place vs state n (sym (keeps.plain.between p (encodings_apart p has) around place vs state) ∙ e)
+  keeps_values p has = go (is_literal p) refl
+    where
+      go : (b : Bool) → is_literal p ≡ b → Keeps way p
+      go true literal = subst (λ q. Keeps way q) (sym (literal_alone p literal)) (λ around place vs state n e. sees.keeps around place vs state n e)
+      go false other = λ around place vs state n e. plain_keeps p has around place vs state n (sym (keeps.plain.between p (encodings_apart p has other) around place vs state) ∙ e)
 
   forest_closed : (f : Forest) (rule : Open State Around) (xs : List Sym) (vs : List Value) (at : ℕ) (state : State) (r : Found (List Value) State) →
-      StaysInside (production_at rule.rule.number) → parts_apart (production_at rule.rule.number) (is_nothing vs) xs ≡ true → Keeps way (production_at rule.rule.number) → AreSymbols wide xs → AreTrees wide xs f → rule.context.encoding ≤ at → (has_encoding xs ≡ true → rule.context.encoding < at) →
+      StaysInside (production_at rule.rule.number) → parts_apart (production_at rule.rule.number) (is_nothing vs) xs ≡ true → Keeps way (production_at rule.rule.number) → AreSymbols wide xs → AreTrees wide xs f → IsSeen rule.context → IsPlainHere way.own (production_at rule.rule.number) rule.context → rule.context.encoding ≤ at → (has_encoding xs ≡ true → rule.context.encoding < at) →
       GoodPrefix (Bare way.own rule.context) rule.context.prefix → AllGood (Within way.own (production_at rule.rule.number) rule.context) (read_of (production_at rule.rule.number) way.own vs) → AllOld way.own rule.context at state.candidates → unfold_forest (reading_by way) rule vs at f state ≡ Ok r → Reads xs vs r
   unfolding reading_by has_encoding part
-  forest_closed nothing rule [] vs at state r stays apart keep known trees le inside pre good old e =
+  forest_closed nothing rule [] vs at state r stays apart keep known trees seen plain le inside pre good old e =
       record { more = []; is = ap (λ x. x.value) (sym (ok_same (found vs state) r e)) ∙ sym (append-nil vs); closed = tt }
-  forest_closed nothing rule (x ∷ xs) vs at state r stays apart keep known trees le inside pre good old e = absurd trees
-  forest_closed (grown t f) rule [] vs at state r stays apart keep known trees le inside pre good old e = absurd trees
-  forest_closed (grown t f) rule (x ∷ xs) vs at state r stays apart keep known trees le inside pre good old e =
+  forest_closed nothing rule (x ∷ xs) vs at state r stays apart keep known trees seen plain le inside pre good old e = absurd trees
+  forest_closed (grown t f) rule [] vs at state r stays apart keep known trees seen plain le inside pre good old e = absurd trees
+  forest_closed (grown t f) rule (x ∷ xs) vs at state r stays apart keep known trees seen plain le inside pre good old e =
       let around = rule.context in
       let later = at + length (spell t) in
       let b = behind_bind (way.between (production_at rule.rule.number) around rule.place vs state)
@@ -242,14 +278,16 @@ module _ (way : Way) (keeps : KeepsClosed way) where
       let grown1 = grows_fits way.own around n.context later n.state this.state g.fits tree.grows in
       let old2 = old_grows way.own around at later n.state this.state (omega arith) old1 grown1 in
       let good1 = one_read way keeps (production_at rule.rule.number) around rule.place vs this.value state n x xs tree.value tree.is apart b.is g.values g.bare tree.good in
-      let rest = forest_closed f rule xs (n.values ++ this.value) later this.state r stays (left_apart (production_at rule.rule.number) (is_nothing vs) n.values this.value x xs tree.value tree.is apart) keep known.1 trees.1 (omega (arith, le))
+      let seen1 : IsSeen n.context =
+      elim (sees.onward (production_at rule.rule.number) around rule.place vs state n seen b.is) [ inl seen_ ↦ seen_ | inr literal ↦ absurd (true≢false (sym literal.2 ∙ plain literal.0 literal.1)) ] in
+      let rest = forest_closed f rule xs (n.values ++ this.value) later this.state r stays (left_apart (production_at rule.rule.number) (is_nothing vs) n.values this.value x xs tree.value tree.is apart) keep known.1 trees.1 seen plain (omega (arith, le))
       (λ opening. omega (arith, inside (or_true (is_encoding x) (has_encoding xs) opening))) pre good1 old2 c.next in
       record {
         more = tree.value ∷ rest.more;
         is = rest.is ∙ ap (λ us. (us ++ this.value) ++ rest.more) (keep around rule.place vs state n b.is) ∙ ap (λ us. (vs ++ us) ++ rest.more) tree.is ∙ append_assoc vs (tree.value ∷ []) rest.more;
         closed = (
           λ opening. subst (λ us. is_open (tree_of (part us 0)) ≡ false) tree.is
-              (encoded_closed t n.context at n.state this (as_encoding x t opening trees.0) (omega (arith, g.fits.encoding, inside (or_first (is_encoding x) (has_encoding xs) opening))) old3 c.is),
+              (encoded_closed t n.context at n.state this (as_encoding x t opening trees.0) seen1 (omega (arith, g.fits.encoding, inside (or_first (is_encoding x) (has_encoding xs) opening))) old3 c.is),
           rest.closed,
         );
       }
@@ -259,10 +297,10 @@ module _ (way : Way) (keeps : KeepsClosed way) where
 
   -- Encodings among the parts of a production have no free parameters.
   pub insides : (p : Production) (rule : Rule) (taken : List ℕ) (parts : Forest) (k : ℕ) (around : Around) (at : ℕ) (state begun : State) (inner : Found (List Value) State) → rule ≡ rule_of p → opens p ≡ false → k < wide.kinds →
-      IsTree wide (OfKind k) (branch rule taken parts) → around.encoding ≤ at → (is_special_kind k ≡ true → Bare way.own around) → GoodPrefix (Bare way.own around) around.prefix → AllOld way.own around at begun.candidates →
-      unfold_forest (reading_by way) (Whole rule taken at around state) [] (at + length taken) parts begun ≡ Ok inner → Inside p inner.value
+      IsTree wide (OfKind k) (branch rule taken parts) → around.encoding ≤ at → (is_special_kind k ≡ true → Bare way.own around) → IsSeen around → GoodPrefix (Bare way.own around) around.prefix → AllOld way.own around at begun.candidates →
+      unfold_forest (reading_by way) (Whole rule taken at around state) [] (at + length taken) parts begun ≡ Ok inner → Shut way.own p around inner.value
   unfolding is_nothing
-  insides p rule taken parts k around at state begun inner is plain lt tree le special pre old e =
+  insides p rule taken parts k around at state begun inner is plain lt tree le special seen pre old e =
       let whole = Whole rule taken at around state in
       let number : production_at rule.number ≡ p = ap (λ x. production_at x.number) is ∙ at_number p in
       let inside_ : StaysInside (production_at rule.number) = subst (λ q. StaysInside q) (sym number) (stays p plain) in
@@ -270,9 +308,10 @@ module _ (way : Way) (keeps : KeepsClosed way) where
       let symbols = wide_sound.symbols k tree.0.byte rule lt tree.0.is_byte tree.0.found in
       let same : symbols_of rule ≡ parts_of p = ap symbols_of is ∙ its_symbols p in
       let old0 = old_later way.own around at from begun.candidates (omega arith) old in
+      shut_where way.own p around inner.value (λ here.
       inside_values p inner.value plain
       (λ has.
-      let reads = forest_closed parts whole (symbols_of rule) [] from begun inner inside_ (rule_apart p rule is) (subst (λ q. Keeps way q) (sym number) (keeps_values p has)) symbols tree.1 (omega (arith, le))
+      let reads = forest_closed parts whole (symbols_of rule) [] from begun inner inside_ (rule_apart p rule is) (subst (λ q. Keeps way q) (sym number) (keeps_values p has)) symbols tree.1 seen (subst (λ q. IsPlainHere way.own q around) (sym number) here) (omega (arith, le))
       (λ any. omega (arith, le, takes_byte p rule k taken is tree.0 any)) pre (read_none (Within way.own (production_at rule.number) around) (production_at rule.number) way.own) old0 e in
       subst (λ us. Encodings (parts_of p) us) (sym reads.is) (subst (λ xs. Encodings xs reads.more) same reads.closed))
       (λ is_special part_number.
@@ -280,4 +319,4 @@ module _ (way : Way) (keeps : KeepsClosed way) where
       (λ any. omega (arith, le, takes_byte p rule k taken is tree.0 any)) pre (read_none (Within way.own (production_at rule.number) around) (production_at rule.number) way.own) old0 e in
       let read : read_of (production_at rule.number) way.own inner.value ≡ inner.value = ap (λ q. read_of q way.own inner.value) number ∙ special_read p is_special way.own inner.value in
       (good_part (Within way.own (production_at rule.number) around) inner.value part_number (subst (λ us. AllGood (Within way.own (production_at rule.number) around) us) read all.good)).closed
-      (special (special_kind p k rule taken is lt tree.0 is_special), λ own. ap has_signature number ∙ special_apart p is_special))
+      (special (special_kind p k rule taken is lt tree.0 is_special), λ own. ap has_signature number ∙ special_apart p is_special)))

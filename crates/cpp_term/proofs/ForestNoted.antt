@@ -24,8 +24,9 @@ use Rattle.cpp_term.specs.Annotated.{Place, nowhere, in_own, around_place, place
 use Rattle.cpp_term.proofs.KindsNoted.{is_special_kind}
 use Rattle.cpp_term.proofs.Notes.{both, or_left, or_right, closed_noted}
 use Rattle.cpp_term.proofs.StatesNoted.{Settled, Alike, alike_bind, Same, Moves, moves_none, moves_then, same_moves, IsNoted, AllNoted}
+use Rattle.cpp_term.proofs.Passing.{IsSeen}
 use Rattle.cpp_term.proofs.BetweenNoted.{InScope, parts_place}
-use Rattle.cpp_term.proofs.DeclaredNoted.{in_first, parts_placed, left_placed, next_placed, place_at, noted_parts, parts_then, alike_map, Onward, Placed, there, alone, no_tree, hidden_placed, used_placed, first_inside, byte_values}
+use Rattle.cpp_term.proofs.DeclaredNoted.{in_first, parts_placed, left_placed, next_placed, next_later, may_go, literal_next, place_at, noted_parts, parts_then, alike_map, Onward, Placed, there, alone, no_tree, hidden_placed, used_placed, first_inside, byte_values}
 use Rattle.cpp_term.proofs.NotedWays.{NotedWay, reading_noted_by, IsNotedBy}
 
 -- ## From a part to what contains it, and back
@@ -130,7 +131,7 @@ pub record Many (own : Bool) (s : Place) (around : Around) (x : State) (y : valu
 
 abbrev pub TreeNoted : Way → NotedWay → Tree → Type 0
 TreeNoted way noted_way t = (x : Sym) (around : Around) (at : ℕ) (state : State) (other : value_.State) → IsSymbol wide x → IsTree wide x t → around.encoding ≤ at → (is_encoding x ≡ true → around.encoding < at) →
-    (is_special x ≡ true → Bare way.own around) → (way.own ≡ true → is_first x ≡ true → around.in_lambda ≡ true) → Settled around → GoodPrefix (Bare way.own around) around.prefix → AllOld way.own around at state.candidates → Same way.own around state other →
+    (is_special x ≡ true → Bare way.own around) → (way.own ≡ true → is_first x ≡ true → around.in_lambda ≡ true) → Settled around → (is_encoding x ≡ false → IsSeen around) → GoodPrefix (Bare way.own around) around.prefix → AllOld way.own around at state.candidates → Same way.own around state other →
     Alike (Many way.own (place_at way.own x around) around state other) (unfold_tree (reading_by way) around at t state) (unfold_tree (reading_noted_by noted_way) (noted_around way.own around) at t other)
 
 abbrev pub AllTreesNoted : Way → NotedWay → Forest → Type 0
@@ -165,24 +166,25 @@ module _ (way : Way) (keeps : KeepsClosed way) (noted_way : NotedWay) (ways : Is
   pub forest_noted : (f : Forest) → AllTreesNoted way noted_way f → (rule : Open State Around) (first : value_.State) (xs : List Sym) (vs : List Value) (at : ℕ) (x : State) (y : value_.State) →
       StaysInside (production_at rule.rule.number) → parts_apart (production_at rule.rule.number) (is_nothing vs) xs ≡ true → parts_placed (production_at rule.rule.number) (is_nothing vs) xs ≡ true →
       (way.own ≡ true → in_first (production_at rule.rule.number) ≡ true → rule.context.in_lambda ≡ true) →
-      AreSymbols wide xs → AreTrees wide xs f → rule.context.encoding ≤ at → (has_encoding xs ≡ true → rule.context.encoding < at) → has_special xs ≡ false → Settled rule.context →
+      AreSymbols wide xs → AreTrees wide xs f → rule.context.encoding ≤ at → (has_encoding xs ≡ true → rule.context.encoding < at) → has_special xs ≡ false → Settled rule.context → IsSeen rule.context →
       GoodPrefix (Bare way.own rule.context) rule.context.prefix → AllGood (Within way.own (production_at rule.rule.number) rule.context) (read_of (production_at rule.rule.number) way.own vs) →
       AllOld way.own rule.context at x.candidates → Same way.own rule.context x y →
       Alike (Parts way.own (production_at rule.rule.number) rule.context x y) (unfold_forest (reading_by way) rule vs at f x)
       (unfold_forest (reading_noted_by noted_way) (noted_open way.own rule first) (noted_parts (production_at rule.rule.number) way.own (parts_place way.own (production_at rule.rule.number) rule.context) vs) at f y)
   unfolding reading_by reading_noted_by has_encoding has_special
-  forest_noted nothing all rule first xs vs at x y stays apart placed inner known trees le inside none settled pre good old same =
+  forest_noted nothing all rule first xs vs at x y stays apart placed inner known trees le inside none settled seen pre good old same =
       record { values = refl; moves = moves_none way.own rule.context x x y y refl refl same.packs }
-  forest_noted (grown t f) all rule first [] vs at x y stays apart placed inner known trees le inside none settled pre good old same = absurd trees
-  forest_noted (grown t f) all rule first (k ∷ ks) vs at x y stays apart placed inner known trees le inside none settled pre good old same =
+  forest_noted (grown t f) all rule first [] vs at x y stays apart placed inner known trees le inside none settled seen pre good old same = absurd trees
+  forest_noted (grown t f) all rule first (k ∷ ks) vs at x y stays apart placed inner known trees le inside none settled seen pre good old same =
       let around = rule.context in
       let p = production_at rule.rule.number in
       let s = parts_place way.own p around in
       let later = at + length (spell t) in
+      let later_ = next_later p (is_nothing vs) k ks placed in
       alike_bind (Onward way.own p around x y) (Parts way.own p around x y) (way.between p around rule.place vs x) (noted_way.between p (noted_around way.own around) rule.place (noted_parts p way.own s vs) y)
       (λ next. unfold_tree (reading_by way) next.context at t next.state >>= λ part. unfold_forest (reading_by way) rule (next.values ++ part.value) later f part.state)
       (λ next. unfold_tree (reading_noted_by noted_way) next.context at t next.state >>= λ part. unfold_forest (reading_noted_by noted_way) (noted_open way.own rule first) (next.values ++ part.value) later f part.state)
-      (ways.goes p around rule.place vs x y stays settled same)
+      (ways.goes p around rule.place vs x y stays (may_go p vs k later_) settled same)
       (λ n m goes-is goes.
       let g = keeps.goes p around rule.place vs x n at stays pre old good goes-is in
       let old1 = old_grows way.own around at at x n.state (omega arith) old g.grows in
@@ -193,9 +195,11 @@ module _ (way : Way) (keeps : KeepsClosed way) (noted_way : NotedWay) (ways : Is
       let here_ = next_placed p (is_nothing vs) k ks placed in
       let first1 = first_inside p way.own (is_nothing vs && skips p) around n.context k here_ goes.scope inner goes.lambda in
       let settled1 = settled_inner around n.context goes.scope settled in
+      let seen1 : is_encoding k ≡ false → IsSeen n.context =
+      λ other. elim (ways.sees.onward p around rule.place vs x n seen goes-is) [ inl seen_ ↦ seen_ | inr literal ↦ absurd (true≢false (sym (literal_next p (is_nothing vs) k later_ literal.3 literal.1) ∙ other)) ] in
       let still : skips p ≡ true → n.values ≡ vs = λ h. skipped_stays way keeps p around rule.place vs x n h goes-is in
       let tree = all.0 k n.context at n.state m.state known.0 trees.0 le1 inside1
-      (λ special. absurd (true≢false (sym (or_first (is_special k) (has_special ks) special) ∙ none))) first1 settled1 g.fits.prefix old2 (same_inner way.own around n.context n.state m.state g.fits.encoding goes.scope same1) in
+      (λ special. absurd (true≢false (sym (or_first (is_special k) (has_special ks) special) ∙ none))) first1 settled1 seen1 g.fits.prefix old2 (same_inner way.own around n.context n.state m.state g.fits.encoding goes.scope same1) in
       alike_bind (Many way.own (place_at way.own k n.context) n.context n.state m.state) (Parts way.own p around x y) (unfold_tree (reading_by way) n.context at t n.state) (unfold_tree (reading_noted_by noted_way) m.context at t m.state)
       (λ part. unfold_forest (reading_by way) rule (n.values ++ part.value) later f part.state) (λ part. unfold_forest (reading_noted_by noted_way) (noted_open way.own rule first) (m.values ++ part.value) later f part.state)
       (subst (λ c. Alike (Many way.own (place_at way.own k n.context) n.context n.state m.state) (unfold_tree (reading_by way) n.context at t n.state) (unfold_tree (reading_noted_by noted_way) c at t m.state)) (sym goes.context) tree)
@@ -214,7 +218,7 @@ module _ (way : Way) (keeps : KeepsClosed way) (noted_way : NotedWay) (ways : Is
       both (λ us ws. us ++ ws) goes.values one ∙ parts_then p way.own s n.values comes.value v hidden used ∙ sym (ap (λ ws. noted_parts p way.own s (n.values ++ ws)) comes.is) in
       let moves2 = moves_then way.own around x n.state a.state y m.state b.state goes.moves moves1 in
       let rest = forest_noted f all.1 rule first ks (n.values ++ a.value) later a.state b.state stays (left_apart p (is_nothing vs) n.values a.value k ks comes.value comes.is apart) (left_placed p (is_nothing vs) n.values a.value k ks comes.value comes.is placed) inner
-      known.1 trees.1 (omega (arith, le)) (λ opening. omega (arith, inside (or_true (is_encoding k) (has_encoding ks) opening))) (or_rest (is_special k) (has_special ks) none) settled pre good1
+      known.1 trees.1 (omega (arith, le)) (λ opening. omega (arith, inside (or_true (is_encoding k) (has_encoding ks) opening))) (or_rest (is_special k) (has_special ks) none) settled seen pre good1
       (old_grows way.own around at later n.state a.state (omega arith) old1 grown1) (same_moves way.own around n.state a.state m.state b.state same1 moves1) in
       alike_map (Parts way.own p around a.state b.state) (Parts way.own p around x y) (unfold_forest (reading_by way) rule (n.values ++ a.value) later f a.state) (unfold_forest (reading_noted_by noted_way) (noted_open way.own rule first) (m.values ++ b.value) later f b.state)
       (λ u v end-is end. record { values = end.values; moves = moves_then way.own around x a.state u.state y b.state v.state moves2 end.moves })

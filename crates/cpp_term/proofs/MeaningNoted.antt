@@ -9,6 +9,7 @@ use Rattle.cpp_grammar.specs.Values.{Around, Prefix, prefix_tree, prefix_listed,
 use Rattle.cpp_grammar.specs.Between as going_
 use Rattle.cpp_grammar.specs.Meaning as meaning_
 use Rattle.cpp_grammar.specs.Meaning.{meaning}
+use Rattle.cpp_grammar.specs.Rescoping.{is_unseen}
 use Rattle.cpp_grammar.specs.Makers.{Maker, new_symbol, new_special, new_of_name, new_construction, new_clone, new_in_std, new_instance, new_local, new_abbreviation, new_source, new_operator, new_literal_operator, new_constructor, new_unnamed, new_string_literal, new_conversion, new_builtin, new_sized_float, new_constrained, new_vendor, new_pointer, new_lvalue, new_rvalue, new_array, new_bounded, new_member_pointer, new_function_type, new_qualified, new_vector, new_complex, new_expansion, new_integer, new_boolean, new_null_pointer, new_decltype, new_encoding_literal, new_operation, new_function_parameter, new_pack, new_enumeration, new_bindings}
 use Rattle.cpp_grammar.specs.Builders.{Argument, a_tree, some_bytes, a_number, a_truth, some_qualifiers, a_mark, a_signed, a_discriminator, tree_in, bytes_in, number_in, truth_in, qualifiers_in, mark_in, signed_in, discriminator_in, argument, built}
 use Rattle.cpp_grammar.specs.Row as row_
@@ -334,6 +335,11 @@ Inside Production.LocalType vs = is_open (tree_of (part vs 0)) ≡ false
 Inside Production.EncodingLiteral vs = is_open (tree_of (part vs 1)) ≡ false
 Inside Production.Encoding vs = ⊥
 Inside _ vs = Unit {0}
+
+-- in a constraint the wide grammar's reading passes over a literal of an encoding, whose name may have free parameters
+abbrev pub Shut : (own : Bool) → Production → Around → List Value → Type 0
+Shut true Production.EncodingLiteral around vs = is_unseen around ≡ false → is_open (tree_of (part vs 1)) ≡ false
+Shut own p around vs = Inside p vs
 
 default_noted : (s : Place) (vs : List Value) →
     noted_.default_entity (value_.text_of (value_.part (noted_values s vs) 0)) (value_.part (noted_values s vs) 1) ≡ noted_value s (meaning_.default_entity (text_of (part vs 0)) (part vs 1))

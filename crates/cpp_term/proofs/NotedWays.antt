@@ -1,5 +1,5 @@
 -- The two readings of C++ over trees with arguments, as one, and what makes one of them the annotated form of one without.
-use Rattle.std.proofs.Common.{◌≡◌, refl, ℕ, ◌-◌, ◌^◌, List, [], ◌∷◌, Bool, true, false, nat_lt, Result, Ok, Err}
+use Rattle.std.proofs.Common.{◌≡◌, refl, ℕ, ◌-◌, ◌^◌, List, [], ◌∷◌, Bool, true, false, ◌&&◌, nat_lt, Result, Ok, Err}
 use Rattle.std.proofs.lemmas.Bool.{true≢false}
 use Rattle.sym_core.specs.declared.refusal.Refusal.{Refusal}
 use Rattle.sym_shape.specs.Tree.{Forest}
@@ -14,17 +14,22 @@ use Rattle.cpp_grammar.specs.Values.{local_number}
 use Rattle.sym_core.specs.declared.refusal.Refusal.TheVariants.{BadValue}
 use Rattle.cpp_grammar.proofs.ClosedParts.{StaysInside}
 use Rattle.cpp_grammar.proofs.Ways.{Way, abi_way, wide_way, differs}
-use Rattle.cpp_term.specs.Values.{State, Around, Value, nothing_there, text}
-use Rattle.cpp_term.specs.Between.{Continuation, between}
-use Rattle.cpp_term.specs.Unfolding.{number_tested, opening, close}
-use Rattle.cpp_term.specs.Rescoping.{opening_wide, between_wide, close_wide}
+use Rattle.cpp_term.specs.Term.{Term}
+use Rattle.cpp_term.specs.Scope.{is_open}
+use Rattle.cpp_term.specs.Values.{State, Around, Value, nothing_there, text, tree_of, part}
+use Rattle.cpp_term.specs.Between.{Continuation, next, in_name, in_types, between}
+use Rattle.cpp_term.specs.Meaning.{meaning}
+use Rattle.cpp_term.specs.Unfolding.{number_tested, opening, behind, close}
+use Rattle.cpp_term.specs.Rescoping.{is_passed_over, passed_over, name_around, types_around, name_if, opening_wide, between_wide, close_wide}
 use Rattle.cpp_term.specs.Annotated.{noted_around}
-use Rattle.cpp_term.proofs.MeaningNoted.{Inside}
+use Rattle.cpp_term.proofs.MeaningNoted.{Shut}
 use Rattle.cpp_term.proofs.StatesNoted.{Alongside, Settled, Alike, Same, Moves, moves_none, expecting_moves}
-use Rattle.cpp_term.proofs.BetweenNoted.{parts_place}
+use Rattle.cpp_term.proofs.Passing.{Sees, abi_sees, wide_sees}
+use Rattle.cpp_term.proofs.BetweenNoted.{MayGo, parts_place}
 use Rattle.cpp_term.proofs.DeclaredNoted.{in_first, noted_parts, Onward, Yield, abi_goes, abi_closes, wide_goes, wide_closes}
 
 pub record NotedWay : Type 0 where
+  pub passes : Around → Bool
   pub opening : Production → Forest → (place : ℕ) → State → Result State Refusal
   pub between : Production → Around → (place : ℕ) → List Value → State → Continuation
   pub close : Production → (byte : ℕ) → Around → (place : ℕ) → (began : State) → List Value → State → Result (Found Value State) Refusal
@@ -39,13 +44,24 @@ reading_noted_by v = record {
 }
 
 unfoldable pub abi_noted : NotedWay
-abi_noted = record { opening = opening; between = between; close = close }
+abi_noted = record { passes = λ around. false; opening = opening; between = between; close = close }
 
 unfoldable pub wide_noted : NotedWay
-wide_noted = record { opening = opening_wide; between = between_wide; close = close_wide }
+wide_noted = record { passes = is_passed_over; opening = opening_wide; between = between_wide; close = close_wide }
 
--- except for references it agrees with the reading of the ABI's grammar
+-- what surrounds the name of an encoding, and its types
+unfoldable pub noted_name_by : (passes : Bool) → (place : ℕ) → Around
+noted_name_by passes place = elim passes [ true ↦ passed_over place | false ↦ in_name place ]
+
+unfoldable pub noted_types_by : (passes : Bool) → (place : ℕ) → (name : Term) → Around
+noted_types_by passes place name = elim (passes && is_open name) [ true ↦ passed_over place | false ↦ in_types place name ]
+
+-- except for references, constraints and encodings it agrees with the reading of the ABI's grammar
 pub record IsPlainNoted (v : NotedWay) : Type 0 where
+  pub name : (around : Around) (place : ℕ) (state : State) → v.between Production.Encoding around place [] state ≡ next [] (noted_name_by (v.passes around) place) state
+  pub types : (around : Around) (place : ℕ) (u : Value) (state : State) → v.between Production.Encoding around place (u ∷ []) state ≡ next (u ∷ []) (noted_types_by (v.passes around) place (tree_of u)) state
+  pub encoding : (byte : ℕ) (around : Around) (place : ℕ) (began : State) (vs : List Value) (state : State) → v.close Production.Encoding byte around place began vs state
+      ≡ Ok (found (name_if (v.passes around && is_open (tree_of (part vs 0))) (part vs 0) (meaning Production.Encoding byte around vs)) state)
   pub between : (p : Production) → differs p ≡ false → (around : Around) (place : ℕ) (vs : List Value) (state : State) → v.between p around place vs state ≡ between p around place vs state
   pub close : (p : Production) → differs p ≡ false → (byte : ℕ) (around : Around) (place : ℕ) (began : State) (vs : List Value) (state : State) →
       v.close p byte around place began vs state ≡ close p byte around place began vs state
@@ -53,10 +69,12 @@ pub record IsPlainNoted (v : NotedWay) : Type 0 where
 -- within an encoding it agrees with the other, with arguments
 pub record IsNotedBy (w : Way) (v : NotedWay) : Type 0 where
   pub plain : IsPlainNoted v
+  pub sees : Sees w
+  pub passes : (around : leaf_.Around) → v.passes (noted_around w.own around) ≡ w.passes around
   pub begins : (production : Production) (f : Forest) (place : ℕ) (around : leaf_.Around) (x : leaf_.State) (y : State) → Same w.own around x y → Alike (Moves w.own around x y) (w.opening production f place x) (v.opening production f place y)
-  pub goes : (production : Production) (around : leaf_.Around) (place : ℕ) (vs : List leaf_.Value) (x : leaf_.State) (y : State) → StaysInside production → Settled around → Same w.own around x y →
+  pub goes : (production : Production) (around : leaf_.Around) (place : ℕ) (vs : List leaf_.Value) (x : leaf_.State) (y : State) → StaysInside production → MayGo production vs → Settled around → Same w.own around x y →
       Alike (Onward w.own production around x y) (w.between production around place vs x) (v.between production (noted_around w.own around) place (noted_parts production w.own (parts_place w.own production around) vs) y)
-  pub comes : (production : Production) (byte : ℕ) (around : leaf_.Around) (place : ℕ) (began : leaf_.State) (first : State) (vs : List leaf_.Value) (x : leaf_.State) (y : State) → Inside production vs →
+  pub comes : (production : Production) (byte : ℕ) (around : leaf_.Around) (place : ℕ) (began : leaf_.State) (first : State) (vs : List leaf_.Value) (x : leaf_.State) (y : State) → Shut w.own production around vs →
       Settled around → (w.own ≡ true → in_first production ≡ true → around.in_lambda ≡ true) → Same w.own around x y → Alongside began first →
       Alike (Yield w.own production around x y) (w.close production byte around place began vs x) (v.close production byte (noted_around w.own around) place first (noted_parts production w.own (parts_place w.own production around) vs) y)
 
@@ -82,9 +100,17 @@ wide_opening_moves Production.QualifiedPlain f place around x y same = expecting
 wide_opening_moves p f place around x y same = opening_moves true p f place around x y same.packs
 
 pub abi_is_noted : IsNotedBy abi_way abi_noted
-unfolding abi_way abi_noted
+unfolding abi_way abi_noted noted_name_by noted_types_by name_if between close behind
 abi_is_noted = record {
-  plain = record { between = λ p apart around place vs state. refl; close = λ p apart byte around place began vs state. refl };
+  plain = record {
+    name = λ around place state. refl;
+    types = λ around place u state. refl;
+    encoding = λ byte around place began vs state. refl;
+    between = λ p apart around place vs state. refl;
+    close = λ p apart byte around place began vs state. refl;
+  };
+  sees = abi_sees;
+  passes = λ around. refl;
   begins = λ production f place around x y same. opening_moves false production f place around x y same.packs;
   goes = abi_goes;
   comes = λ production byte around place began first vs x y h settled inside same e. abi_closes production byte around place began first vs x y h settled same e;
@@ -102,9 +128,17 @@ plain_close Production.Substitution apart byte around place began vs state = abs
 plain_close _ apart byte around place began vs state = cc
 
 pub wide_is_noted : IsNotedBy wide_way wide_noted
-unfolding wide_way wide_noted
+unfolding wide_way wide_noted between_wide close_wide name_around types_around noted_name_by noted_types_by is_passed_over leaf_wide.is_passed_over noted_around
 wide_is_noted = record {
-  plain = record { between = plain_between; close = plain_close };
+  plain = record {
+    name = λ around place state. refl;
+    types = λ around place u state. refl;
+    encoding = λ byte around place began vs state. refl;
+    between = plain_between;
+    close = plain_close;
+  };
+  sees = wide_sees;
+  passes = λ around. refl;
   begins = wide_opening_moves;
   goes = wide_goes;
   comes = λ production byte around place began first vs x y h settled inside same e. wide_closes production byte around place began first vs x y h settled (inside refl) same e;

@@ -144,6 +144,7 @@ noted_around own around = record {
   in_lambda = around.in_lambda;
   in_expansion = around.in_expansion;
   prefix = noted_prefix (around_place own around) around.prefix;
+  showing = around.showing;
 }
 
 unfoldable pub noted_tree : Result Term Refusal → Result term_.Term Refusal

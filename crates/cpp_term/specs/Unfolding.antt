@@ -12,7 +12,7 @@ use Rattle.sym_link.specs.Unfold.{found, unfold_tree}
 use Rattle.cpp_grammar.specs.declared.production.Production.{Production}
 use Rattle.cpp_term.specs.Term.{Term, absent}
 use Rattle.cpp_term.specs.Values.{State, outermost, Around, Value, nothing_there, text, tree_of, text_of, part}
-use Rattle.cpp_grammar.specs.Values.{nothing_counted, local_number}
+use Rattle.cpp_grammar.specs.Values.{nothing_counted, shown, local_number}
 use Rattle.cpp_term.specs.References.{substituted}
 use Rattle.cpp_term.specs.Between.{between}
 use Rattle.cpp_term.specs.Meant.{gained, state_after}
@@ -61,7 +61,7 @@ cpp = record {
 }
 
 unfoldable pub first_around : Around
-first_around = record { scope = None; encoding = 0; in_lambda = false; in_expansion = false; prefix = outermost }
+first_around = record { scope = None; encoding = 0; in_lambda = false; in_expansion = false; prefix = outermost; showing = shown }
 
 unfoldable pub first_state : State
 first_state = record { candidates = []; packs = None; counting = nothing_counted }

@@ -2,7 +2,7 @@
 use Rattle.std.specs.Prelude.{ℕ, zero, suc, List, [], ◌∷◌, Bool, true, false, cond, nat_eq, Option}
 use Rattle.cpp_term.specs.Term.{Term, destructor, absent}
 use Rattle.cpp_grammar.specs.Term.{Qualifiers, RefQualifier, any_value, lvalue_only, rvalue_only, explicit_object, Signed, Adjustment, non_virtual}
-use Rattle.cpp_grammar.specs.Values.{Counted, Counting, unqualified}
+use Rattle.cpp_grammar.specs.Values.{Counted, Counting, Showing, unqualified}
 
 -- a tree that a substitution may name, the place where the encoding begins in which it was made, whether it was made in a
 -- lambda's signature of that encoding, or in what is declared of an argument, and by which compilers it's counted
@@ -33,14 +33,15 @@ prefix_listed outermost = true
 prefix_listed (behind t listed) = listed
 
 -- What surrounds a part: the arguments that parameters name there, the place where the innermost encoding begins,
--- whether the part is in a lambda's signature of that encoding or in what is declared of an argument, whether it is under
--- an expansion, and the name so far.
+-- whether the part is in a lambda's signature of that encoding, in what is declared of an argument or in a constraint, whether
+-- it is under an expansion, the name so far, and whether the part is shown.
 pub record Around : Type 0 where
   pub scope : Option Term
   pub encoding : ℕ
   pub in_lambda : Bool
   pub in_expansion : Bool
   pub prefix : Prefix
+  pub showing : Showing
 
 -- what a part denotes
 pub data Value : Type 0 where

@@ -176,7 +176,8 @@ fn run_found<S: Source, W: Sink, E: Sink>(
     }
 }
 
-/// Does what the command line's parser found, with the demangler that its options ask for, but for spellings and escapes.
+/// Does what the command line's parser found, with the demangler that its options ask for. Spellings and
+/// escapes aren't among these options.
 fn run_spelled<D: Alike + Copy + Drop, S: Source, W: Sink, E: Sink>(
     alloc: Global,
     demangler: D,
@@ -232,7 +233,8 @@ fn styled_of(options: Options) -> Styled
     Styled { style, languages }
 }
 
-/// Does what the command line's parser found, with the demangler that its options ask for, but for escapes.
+/// Does what the command line's parser found, with the demangler that its options ask for. Escapes aren't
+/// among these options.
 fn run_with<D: Alike + Copy + Drop, S: Source, W: Sink, E: Sink>(
     alloc: Global,
     demangler: D,

@@ -64,6 +64,7 @@ impl<D: Demangler> Demangler for Escaping<D> {
         }
     }
 
+    #[inline(always)]
     fn append(
         &self,
         lists: &mut EscapingLists<D>,

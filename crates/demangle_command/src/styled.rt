@@ -52,6 +52,7 @@ impl Demangler for Styled {
         languages.demangle(lists, kind, symbol, out)
     }
 
+    #[inline(always)]
     fn append(
         &self,
         lists: &mut Lists<Wide>,

@@ -1,5 +1,5 @@
 -- What it says of a text that it begins with another, or with a whole name.
-use Rattle.std.proofs.Common.{◌≡◌, ◌<◌, ◌+◌, ◌-◌, ◌==◌, ℕ, Bool, true, false, true≢false, not, ◌&&◌, ◌||◌, if◌then◌else◌, None, List, [], ◌∷◌, lit≤, length, take, drop, get_or, nat_eq, codes, refl, sym, ap, ap₂, ◌∙◌, arith, length-drop, take_all}
+use Rattle.std.proofs.Common.{◌≡◌, ◌≤◌, ◌<◌, ◌+◌, ◌-◌, ◌==◌, ℕ, Bool, true, false, true≢false, not, ◌&&◌, ◌||◌, if◌then◌else◌, None, List, [], ◌∷◌, ◌++◌, lit≤, length, take, drop, get_or, nat_eq, codes, refl, sym, ap, ap₂, ◌∙◌, arith, length-drop, length-append, append_assoc, take_all}
 use Rattle.std.specs.List.{starts_with}
 use Rattle.std.proofs.lemmas.List.{get_or_append_left, get_or_past}
 use Rattle.std.proofs.lemmas.Slice.Eq.{starts_is}
@@ -13,6 +13,22 @@ use Rattle.gnu_texts.specs.declared.piece.Piece.TheVariants as pieces
 -- the rest of a text, as a slice of it is written
 pub rest-all : (text : List ℕ) (n : ℕ) → take (length text - n) (drop n text) ≡ drop n text
 rest-all text n = take_all (length text - n) (drop n text) (omega (arith, length-drop n text))
+
+-- a text that begins with another, and what it is then
+pub front-is : (text p : List ℕ) → starts_with nat_eq text p ≡ true → text ≡ p ++ drop (length p) text
+front-is text p h = (starts_is Decides-eqb text p (starts_with nat_eq text p) refl).0 h
+
+pub begins : (text p rest : List ℕ) → text ≡ p ++ rest → starts_with nat_eq text p ≡ true
+begins text p rest e = (starts_is Decides-eqb text p (starts_with nat_eq text p) refl).1 rest e
+
+pub front-length : (text p : List ℕ) → starts_with nat_eq text p ≡ true → length p ≤ length text
+front-length text p h = omega (arith, ap length (front-is text p h), length-append p (drop (length p) text))
+
+-- one after the other
+pub front-both : (text p q : List ℕ) → starts_with nat_eq text p ≡ true → starts_with nat_eq (drop (length p) text) q ≡ true → starts_with nat_eq text (p ++ q) ≡ true
+front-both text p q one two =
+    let rest : List ℕ = drop (length q) (drop (length p) text) in
+    begins text (p ++ q) rest (front-is text p one ∙ ap (λ t. p ++ t) (front-is (drop (length p) text) q two) ∙ sym (append_assoc p q rest))
 
 -- a whole name that is all of a text
 pub all-whole : (text name : List ℕ) → starts_with nat_eq text name ≡ true → length text ≡ length name → begins_whole text name ≡ true
@@ -31,7 +47,7 @@ other-front byte text p some other =
     other (ap (λ t. get_or t 0 0) ((starts_is Decides-eqb (byte ∷ text) p (starts_with nat_eq (byte ∷ text) p) refl).0 h) ∙ get_or_append_left p (drop (length p) (byte ∷ text)) 0 0 some))
 
 -- a plain byte begins no operator's name,
-no-operator : (last : ℕ) (text : List ℕ) → starts_with nat_eq text (codes "operator") ≡ false → operator_size last text ≡ 0
+pub no-operator : (last : ℕ) (text : List ℕ) → starts_with nat_eq text (codes "operator") ≡ false → operator_size last text ≡ 0
 unfolding operator_size
 no-operator last text starts = by (is_letter last) (starts_with nat_eq text (codes "operator")) (sign_size (drop 8 text) == 0) (8 + sign_size (drop 8 text)) starts
   where
@@ -78,3 +94,9 @@ plain-piece last byte text plain =
 pub plain-first : (last : ℕ) (text : List ℕ) → 0 < length text → is_plain (get_or text 0 0) ≡ true → piece_at last text ≡ pieces.Byte
 plain-first last [] some plain = absurd (omega (arith, some))
 plain-first last (byte ∷ text) some plain = plain-piece last byte text plain
+
+-- a suffix is a piece
+pub suffix-piece : (last : ℕ) (text : List ℕ) → is_suffix text ≡ true → starts_with nat_eq text (codes "operator") ≡ false → starts_with nat_eq text (codes "std::") ≡ false
+    → piece_at last text ≡ pieces.Suffix
+unfolding piece_at
+suffix-piece last text suffix operator name = rw (no-operator last text operator, no-name last text name, suffix) refl

@@ -1,3 +1,9 @@
+pub mod BackLemmas
+pub mod BoundLemmas
+pub mod BytesLemmas
 pub mod ClonesLemmas
 pub mod FrontLemmas
+pub mod KeptLemmas
+pub mod OrderLemmas
+pub mod PieceLemmas
 pub mod SpelledLemmas

@@ -11,6 +11,11 @@ spelled-skipped last zero text = refl
 spelled-skipped last (suc k) [] = refl
 spelled-skipped last (suc k) (byte ∷ text) = spelled-skipped last k text
 
+-- what is behind a piece
+pub drop-less : (n byte : ℕ) (text : List ℕ) → 0 < n → drop (n - 1) text ≡ drop n (byte ∷ text)
+drop-less zero byte text h = absurd (omega (arith, h))
+drop-less (suc n) byte text h = ap (λ k. drop k text) (omega arith)
+
 -- one piece
 pub spelled-piece : (last : ℕ) (text : List ℕ) → 0 < length text → 0 < size_of (piece_at last text) text
     → spelled last 0 text ≡ bytes_of (piece_at last text) text ++ spelled (last_of (piece_at last text) text) 0 (drop (size_of (piece_at last text) text) text)
@@ -20,11 +25,7 @@ spelled-piece last (byte ∷ text) some more =
     let piece = piece_at last (byte ∷ text) in
     ap (λ t. bytes_of piece (byte ∷ text) ++ t)
     (spelled-skipped (last_of piece (byte ∷ text)) (size_of piece (byte ∷ text) - 1) text
-    ∙ ap (λ t. spelled (last_of piece (byte ∷ text)) 0 t) (on (size_of piece (byte ∷ text)) more))
-  where
-    on : (n : ℕ) → 0 < n → drop (n - 1) text ≡ drop n (byte ∷ text)
-    on zero h = absurd (omega (arith, h))
-    on (suc n) h = ap (λ k. drop k text) (omega arith)
+    ∙ ap (λ t. spelled (last_of piece (byte ∷ text)) 0 t) (drop-less (size_of piece (byte ∷ text)) byte text more))
 
 -- what was written so far, and one piece more
 pub piece-more : (text : List ℕ) (at last : ℕ) (old so_far new : List ℕ) (size next : ℕ) → at < length text

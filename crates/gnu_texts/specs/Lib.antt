@@ -1,4 +1,5 @@
 pub mod Clones
+pub mod Laws
 pub mod Names
 pub mod Pieces
 pub mod Spelling

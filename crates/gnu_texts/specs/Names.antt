@@ -25,6 +25,11 @@ written_of names.Ostream = codes "std::basic_ostream<char, std::char_traits<char
 written_of names.String = codes "std::basic_string<char, std::char_traits<char>, std::allocator<char> >"
 written_of names.NullPointer = codes "decltype(nullptr)"
 
+-- the last byte of that
+unfoldable pub end_of : Name → ℕ
+end_of names.NullPointer = 41
+end_of _ = 62
+
 -- the name of that kind with which a text begins, after `std::`
 unfoldable pub named : List ℕ → Option Name
 named text =

@@ -6,7 +6,7 @@ use Rattle.gnu_texts.specs.declared.piece.Piece.{Piece}
 use Rattle.gnu_texts.specs.declared.piece.Piece.TheVariants as pieces
 use Rattle.gnu_texts.specs.Clones.{is_suffix, suffix_of, clones}
 use Rattle.short_names.specs.Runs.{is_letter}
-use Rattle.gnu_texts.specs.Names.{name_at, name_of, written_of, member_front, member_bytes, member_size}
+use Rattle.gnu_texts.specs.Names.{end_of, name_at, name_of, written_of, member_front, member_bytes, member_size}
 
 -- how many bytes of an operator's sign a text begins with, if the sign has a byte that looks like a bracket
 unfoldable pub sign_size : List ℕ → ℕ
@@ -68,7 +68,7 @@ bytes_of pieces.Byte text = take 1 text
 -- the byte that is before what comes next; an operator's sign is no bracket
 unfoldable pub last_of : Piece → List ℕ → ℕ
 last_of (pieces.Operator size) text = 0
-last_of (pieces.Named name front) text = if front == 0 then 62 else 103
+last_of (pieces.Named name front) text = if front == 0 then end_of name else 103
 last_of pieces.Suffix text = 93
 last_of pieces.Spaced text = get_or text 0 0
 last_of pieces.Byte text = get_or text 0 0

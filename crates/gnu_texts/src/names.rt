@@ -1,6 +1,6 @@
 // The names of `std` that GNU's demangler writes otherwise.
 ghost use Rattle.std.specs.Prelude.{◌≡◌, ◌≤◌, ◌+◌, ◌==◌, length, drop, Some, IfSome, true};
-ghost use Rattle.gnu_texts.specs.Names.{begins_whole, name_of, written_of, named, name_at, member_front, member_size};
+ghost use Rattle.gnu_texts.specs.Names.{begins_whole, name_of, written_of, end_of, named, name_at, member_front, member_size};
 
 use short_names::is_letter;
 
@@ -41,6 +41,17 @@ impl Name {
             Name::String =>
                 b"std::basic_string<char, std::char_traits<char>, std::allocator<char> >",
             Name::NullPointer => b"decltype(nullptr)",
+        }
+    }
+
+    /// The last byte of what is written for it.
+    #[tactic(auto, unfolding(crate::specs::Names::end_of))]
+    pub(crate) fn end(self) -> u8
+        ensures { result ≡ end_of self }
+    {
+        match self {
+            Name::NullPointer => b')',
+            Name::Istream | Name::Iostream | Name::Ostream | Name::String => b'>',
         }
     }
 }

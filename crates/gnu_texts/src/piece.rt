@@ -164,7 +164,7 @@ impl Piece {
     {
         match self {
             Piece::Operator { .. } => 0,
-            Piece::Named { front: 0, .. } => b'>',
+            Piece::Named { name, front: 0 } => name.end(),
             Piece::Named { .. } => b'g',
             Piece::Suffix => b']',
             Piece::Spaced => text[0],

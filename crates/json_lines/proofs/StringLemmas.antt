@@ -1,4 +1,4 @@
--- What stands in a string for the bytes of a text without control characters.
+-- How the bytes of a text without control characters are written in a string.
 use Rattle.std.proofs.Common.{◌≡◌, ◌≢◌, ◌∙◌, ◌<◌, refl, ap, ap₂, ℕ, suc, arith, Bool, List, [], ◌∷◌, ◌++◌, ◌==◌, ◌||◌, false, inl, inr, cond}
 use Rattle.std.specs.Prelude.{codes, nat_lt}
 use Rattle.std.specs.List.{All}

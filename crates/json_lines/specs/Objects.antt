@@ -16,7 +16,7 @@ use Rattle.json_lines.specs.Meanings.{Meaning, has_text, refused, no_symbol, lan
 
 -- ## Objects
 
--- a string for some bytes: U+FFFD stands in it for each sequence that isn't UTF-8
+-- a string for some bytes, with U+FFFD in the place of each sequence that isn't UTF-8
 abbrev pub text_of : List ℕ → Json
 text_of bytes = string (utf8_lossy bytes)
 

@@ -17,7 +17,7 @@ pub(crate) fn push_string(text: &[u8], out: &mut Vec<u8>) -> Result<(), AllocErr
     Ok(())
 }
 
-/// Appends what stands in a string for a text.
+/// Appends a text as it is written in a string.
 fn push_bytes(text: &[u8], out: &mut Vec<u8>) -> Result<(), AllocError>
     ensures { OnOk result (out.new.items ≡ out.old.items ++ escape text.now) }
 {
@@ -27,7 +27,7 @@ fn push_bytes(text: &[u8], out: &mut Vec<u8>) -> Result<(), AllocError>
     Ok(())
 }
 
-/// Appends what stands in a string for a byte.
+/// Appends a byte as it is written in a string.
 fn push_byte(byte: u8, out: &mut Vec<u8>) -> Result<(), AllocError>
     ensures { OnOk result (out.new.items ≡ out.old.items ++ escape_byte byte) }
 {
@@ -37,7 +37,7 @@ fn push_byte(byte: u8, out: &mut Vec<u8>) -> Result<(), AllocError>
     push_escaped(&[byte], out)
 }
 
-/// Appends what stands in a string for a control character.
+/// Appends a control character as it is written in a string.
 fn push_control(byte: u8, out: &mut Vec<u8>) -> Result<(), AllocError>
     requires { byte < 32 }
     ensures { OnOk result (out.new.items ≡ out.old.items ++ escape_byte byte) }

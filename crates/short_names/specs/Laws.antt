@@ -1,9 +1,12 @@
 -- What holds of short and full texts. `short_texts_are_no_longer` proves the first, and `alike_texts_are_alike` that the last follows from the
--- two before it. These two are proved of texts without names of `std` alone (`texts_without_std_stay`).
-use Rattle.std.specs.Prelude.{◌≡◌, ◌≤◌, ℕ, Bool, false, List, length}
+-- two before it. These two are proved of texts without names of the table alone (`texts_without_rows_stay`).
+use Rattle.std.specs.Prelude.{◌≡◌, ◌≤◌, ◌++◌, ℕ, Bool, true, false, List, length, drop, Option, None, Some}
+use Rattle.short_names.specs.declared.table.TheConstants.{ALIASES}
+use Rattle.short_names.specs.Full.{full, full_to, full_rules, pmr_in, usual_in}
+use Rattle.short_names.specs.Names.{StdName, member_in, named_in, std_name}
+use Rattle.short_names.specs.Plain.{behind_run}
+use Rattle.short_names.specs.Runs.{is_std_at, run_of}
 use Rattle.short_names.specs.Short.{short, shortened}
-use Rattle.short_names.specs.Full.{full, full_to, full_rules}
-use Rattle.short_names.specs.Runs.{is_std_at}
 use Rattle.short_names.specs.Walk.{Pairs}
 
 -- A short text isn't longer than its text, with inline namespaces or without them.
@@ -25,3 +28,18 @@ AreAlike text other = (short text ≡ short other → full text ≡ full other) 
 -- No name of a text begins with `std::`.
 abbrev pub HasNoStd : List ℕ → Type 0
 HasNoStd text = (k : ℕ) → is_std_at text k ≡ false
+
+-- No usual name begins a name of `std`, and none that was written already does.
+abbrev pub HasNoUsual : (rest : List ℕ) → Option StdName → Type 0
+HasNoUsual rest None = Unit {0}
+HasNoUsual rest (Some std) = (usual_in ALIASES std.name (std.name ++ rest) ≡ None) × (member_in ALIASES std.name (std.name ++ rest) ≡ None)
+
+-- A name of `std`, with the text after it, is none of the table: no template, no template of `std::pmr`, and no usual name.
+pub record IsOther (run rest : List ℕ) : Type 0 where
+  pub named : named_in run ≡ None
+  pub pmr : pmr_in run ≡ None
+  pub usual : HasNoUsual rest (std_name run)
+
+-- No name of a text is one of the table.
+abbrev pub HasNoRow : List ℕ → Type 0
+HasNoRow text = (k : ℕ) → is_std_at text k ≡ true → IsOther (run_of (drop k text)) (behind_run (drop k text))

@@ -1,7 +1,7 @@
 // What follows from the definition of short texts.
 ghost use Rattle.std.specs.Prelude.{◌≡◌, ℕ, Bool, List};
 ghost use Rattle.short_names.specs.Full.{full, full_rules, full_to};
-ghost use Rattle.short_names.specs.Laws.{AreAlike, HasNoStd, IsNoLonger, KeepsFull, KeepsShort};
+ghost use Rattle.short_names.specs.Laws.{AreAlike, HasNoRow, HasNoStd, IsNoLonger, KeepsFull, KeepsShort};
 ghost use Rattle.short_names.specs.Short.{short};
 ghost use Rattle.short_names.specs.Walk.{Pairs};
 
@@ -22,4 +22,11 @@ pub fn alike_texts_are_alike()
 pub fn texts_without_std_stay()
     ensures stays { (text : List ℕ) → HasNoStd text → (short text ≡ text) × (full text ≡ text) }
     ensures laws { (text : List ℕ) → HasNoStd text → KeepsFull text × KeepsShort text }
+{}
+
+/// A text in which no name is one of the table, though some may begin with `std::`, is both its short text and its full text, so short texts keep
+/// full ones there, and full texts keep short ones.
+pub fn texts_without_rows_stay()
+    ensures stays { (text : List ℕ) → HasNoRow text → (short text ≡ text) × (full text ≡ text) }
+    ensures laws { (text : List ℕ) → HasNoRow text → KeepsFull text × KeepsShort text }
 {}

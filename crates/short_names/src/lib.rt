@@ -13,6 +13,9 @@ mod short;
 mod table;
 mod writing;
 
-pub use laws::{alike_texts_are_alike, short_texts_are_no_longer, texts_without_std_stay};
+pub use laws::{
+    alike_texts_are_alike, short_texts_are_no_longer, texts_without_rows_stay,
+    texts_without_std_stay,
+};
 pub use runs::{has_std, is_letter};
 pub use short::Short;

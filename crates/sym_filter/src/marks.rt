@@ -34,7 +34,7 @@ fn begins_with_name(place: Place, word: &[u8]) -> bool
     }
 }
 
-/// As `mark_in`, but for any word: it looks at each place.
+/// As `mark_in`, for any word: it looks at each place.
 #[inline(never)]
 fn mark_behind(word: &[u8], place: Place) -> usize
     ensures within { result ≤ length word.now }

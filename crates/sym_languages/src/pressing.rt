@@ -239,7 +239,7 @@ fn press_wide_into(
     }
 }
 
-/// The most bytes of a spelling that is answered for a symbol of so many: 64 for each, and no more than a symbol has.
+/// The most bytes of a spelling that is answered for a symbol of this length: 64 for each byte, and no more than a symbol has.
 fn most_pressed(len: usize) -> usize
     requires { len ≤ MOST_BYTES }
     ensures { result ≡ most_pressed len }

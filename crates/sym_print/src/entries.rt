@@ -367,7 +367,9 @@ fn print_item<Y: Layout>(
 }
 
 /// Takes entries until none is left. In a dear text each item that is printed more than once is noted.
-#[inline(always)]
+// One loop for dear texts and others: within two, `push_parts` was called for each item, for 4 % more instructions in all where
+// `demangle` reads instances of templates.
+#[inline(never)]
 pub(crate) fn print_entries<Y: Layout>(
     y: &Y,
     stack: &mut Vec<Part<Y::Ctx>>,
@@ -416,7 +418,7 @@ pub(crate) fn print_entries<Y: Layout>(
 }
 
 /// Takes entries until none is left, as those of a dear text.
-// It is a function of its own, so that the loop over other texts tests nothing more for it.
+// out of line, so that all other texts pay nothing for it
 #[inline(never)]
 fn print_dear<Y: Layout>(
     y: &Y,

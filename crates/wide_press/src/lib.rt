@@ -16,7 +16,7 @@ use std::alloc::Global;
 use sym_core::Refusal;
 use sym_demangle::Workspace;
 
-/// The pressed spelling of a symbol that was read by the wide grammar, where it has at most so many bytes and the wide grammar reads it as
+/// The pressed spelling of a symbol that was read by the wide grammar, where it has at most this many bytes and the wide grammar reads it as
 /// the symbol's tree. So symbols with one answer have one tree. Each answer is checked: it is read with the lists, and its nodes are
 /// compared with the symbol's by their numbers.
 ///

@@ -1,6 +1,6 @@
 -- Symbols that the wide grammar alone reads, each with its text and its cost. They take each production that it alone has.
 use Rattle.std.specs.Prelude.{List, [], ◌∷◌}
-use Rattle.cpp_grammar.proofs.Row.{Row, prints}
+use Rattle.cpp_grammar.proofs.Row.{Row, prints, refers_badly}
 
 unfoldable pub rows_0 : List Row
 rows_0 =
@@ -64,6 +64,12 @@ rows_1 =
     prints "_Z1fITkSt3abciEvv" "void f<int>()" 22 ∷
     prints "_Z1fITk1AIiE1BEvv" "void f<B>()" 20 ∷
     prints "_Z1fIiQ1CITL__EEvv" "void f<int>()" 22 ∷
+    prints "_ZN1AIiEC1IiEET_QntL_ZN1BIT_E1xEE" "A<int>::A<int>(int)" 38 ∷
+    prints "_Z1fIiQL_ZN1BIT_E1xEEEvPS2_" "void f<int>(B<int>*)" 40 ∷
+    prints "_Z1fIiQL_ZN1BIT_E1gEiEEvPS2_" "void f<int>(B<int>*)" 40 ∷
+    prints "_Z1fIiQ1CI1AIXL_ZN1BIT_E1xEEEEEEvS4_" "void f<int>(A<B<int>::x>)" 49 ∷
+    prints "_Z1fIiQL_Z1gIT_EvvEEvv" "void f<int>()" 22 ∷
+    refers_badly "_Z1fIiQL_ZZN1BIT_E1gEvE1xEEvv" 15 ∷
     prints "_Z1fIiEDTscT_fp_ET_" "decltype(static_cast<int>(fp)) f<int>(int)" 62 ∷
     prints "_Z1fIiEDTptfpT1xET_" "decltype(this->x) f<int>(int)" 46 ∷
     prints "_Z1fIJEEv1AIXsZT_EE" "void f<>(A<sizeof...()>)" 39 ∷
@@ -144,4 +150,6 @@ rows_2 =
     prints "_ZDC1a1bE" "[a, b]" 15 ∷
     prints "_ZDCL1aL1bE" "[a, b]" 15 ∷
     prints "_ZN1nDC1a1bEE" "n::[a, b]" 20 ∷
+    prints "_Z1fIiEvu7__decayIT_E" "void f<int>(__decay<int>)" 43 ∷
+    prints "_Z1fIiEvu7__decayIT_ES1_" "void f<int>(__decay<int>, __decay<int>)" 66 ∷
     []

@@ -35,6 +35,7 @@ nothing-read Kind.ArgumentsAlone may around state = inl (refl, refl)
 nothing-read Kind.ArgumentList may around state = λ outer. no-arguments around false state
 nothing-read Kind.ArgumentsFirst may around state = λ outer. no-arguments around false state
 nothing-read Kind.MaybeTags may around state = (refl, refl)
+nothing-read Kind.VendorArguments may around state = (refl, refl)
 nothing-read Kind.Declarations may around state = λ outer. tt
 nothing-read Kind.BaseArguments may around state = λ outer. tt
 nothing-read Kind.HeldArguments may around state = λ outer. tt

@@ -146,6 +146,7 @@ KindRead Kind.ArgumentsAlone around v old new = KindFits Kind.MaybeArguments aro
 KindRead Kind.ArgumentsFirst around v old new = around.prefix ≡ outermost → KindFits Kind.ArgumentList around v old new
 KindRead Kind.Arguments around v old new = (v ≡ tree (tree_of v) true) × KindFits Kind.Arguments around v old new
 KindRead Kind.MaybeTags around v old new = (v ≡ nothing_there) × (new ≡ old)
+KindRead Kind.VendorArguments around v old new = (v ≡ nothing_there) × (new ≡ old)
 KindRead Kind.Bit around v old new = new ≡ old
 KindRead Kind.MaybeZero around v old new = new ≡ old
 KindRead Kind.Operator around v old new = (names_function (piece_of v) ≡ true) × PieceFits around (piece_of v) old new

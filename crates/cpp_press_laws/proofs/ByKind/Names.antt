@@ -87,6 +87,11 @@ unfolding alternatives
 maybe-tags-branch rule taken parts all around at old v new front is e =
     absurd (opened-read Kind.MaybeTags rule taken parts all around at old v new front is e)
 
+pub vendor-arguments-branch : BranchRead Kind.VendorArguments
+unfolding alternatives
+vendor-arguments-branch rule taken parts all around at old v new front is e =
+    absurd (opened-read Kind.VendorArguments rule taken parts all around at old v new front is e)
+
 pub type-after-s-branch : BranchRead Kind.TypeAfterS
 unfolding alternatives parts_of number_of_kind between meaning part unfolding_.behind number_of
 type-after-s-branch rule taken parts all around at old v new front is e outer =

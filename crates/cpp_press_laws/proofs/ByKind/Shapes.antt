@@ -1,5 +1,5 @@
 -- Whatever kind a shape of the grammar is read as, what it is read as fits.
-use Rattle.std.proofs.Common.{◌≡◌, ℕ, List, [], ◌∷◌, false, refl, sym, subst}
+use Rattle.std.proofs.Common.{◌≡◌, ℕ, List, false, refl, sym, subst}
 use Rattle.std.proofs.lemmas.Bool.{false≢true}
 use Rattle.sym_shape.specs.declared.rule.Rule.{Rule}
 use Rattle.sym_shape.specs.declared.rule.Sym.TheVariants.{Kind as OfKind}
@@ -8,9 +8,9 @@ use Rattle.cpp_grammar.specs.declared.kind.Kind.{Kind}
 use Rattle.cpp_grammar.specs.declared.production.Production.{Production}
 use Rattle.cpp_grammar.specs.declared.production.Operation.{Operation}
 use Rattle.cpp_grammar.specs.Grammar.{alternatives, choose, pick, is_in, in_ranges, among, number_of_kind, number_of, kinds, parts_of, may_be_empty}
-use Rattle.cpp_grammar.specs.Term.{Term}
-use Rattle.cpp_grammar.specs.Values.{State, outermost, Around, Value, tree_of, ref_of, text_of, is_there, part}
-use Rattle.cpp_grammar.specs.Between.{between}
+use Rattle.cpp_grammar.specs.Term.{Term, vendor}
+use Rattle.cpp_grammar.specs.Values.{State, outermost, Around, Value, tree, tree_of, ref_of, text_of, is_there, part}
+use Rattle.cpp_grammar.specs.Between.{after, applied, between}
 use Rattle.cpp_grammar.specs.Meaning.{meaning, parameters}
 use Rattle.cpp_grammar.specs.Unfolding as unfolding_
 use Rattle.cpp_grammar.specs.Unfolding.{byte_of}
@@ -19,7 +19,7 @@ use Rattle.cpp_grammar.proofs.Growing.{same_choice, each_below}
 use Rattle.cpp_grammar.specs.Table.{abi, sheet, sheet_with}
 use Rattle.cpp_press_laws.specs.PressLaws.{IsReadFrom}
 use Rattle.cpp_press_laws.specs.Fits.{parameter_type, takes_all, SymbolFits}
-use Rattle.cpp_press_laws.proofs.Fits.Sorts.{KindFits, Meant, Later, takes_literals}
+use Rattle.cpp_press_laws.proofs.Fits.Sorts.{KindFits, takes_literals}
 use Rattle.cpp_press_laws.proofs.Fits.Types.{complex-fits}
 use Rattle.cpp_press_laws.proofs.Fits.Lists.{parameters-fit, function-fits}
 use Rattle.cpp_press_laws.proofs.Fits.Solids.{vendor-fits}
@@ -34,7 +34,7 @@ use Rattle.cpp_press_laws.proofs.ByKind.Root.{read-fits}
 use Rattle.cpp_press_laws.proofs.ByKind.PieceKinds.{source-or-local-branch, unqualified-branch, operator-branch, other-operator-branch, anonymous-branch}
 use Rattle.cpp_press_laws.proofs.ByKind.Arguments.{argument-list-branch, arguments-first-branch, pack-list-branch, literal-branch, literal-after-d-branch, addressed-literal-branch, addressed-branch, expression-after-a-branch, expression-branch}
 use Rattle.cpp_press_laws.proofs.ByKind.Nests.{nest-branch, nest-after-s-branch, nest-rest-branch, nest-rest-alone-branch, nest-rest-or-end-branch, nest-more-or-end-branch, nest-tail-branch, component-branch, component-after-c-branch, constructor-after-c-branch}
-use Rattle.cpp_press_laws.proofs.ByKind.Names.{arguments-branch, maybe-arguments-branch, arguments-alone-branch, argument-after-t-branch, type-after-s-branch, type-in-std-branch, maybe-tags-branch, name-after-s-branch, with-s-solid, parameter-solid, nested-solid, source-solid, local-type-name-solid, source-own, internal-own, local-type-own, operator-own, with-s-own, parameter-after-t-branch, leveled-branch}
+use Rattle.cpp_press_laws.proofs.ByKind.Names.{arguments-branch, maybe-arguments-branch, arguments-alone-branch, argument-after-t-branch, type-after-s-branch, type-in-std-branch, maybe-tags-branch, vendor-arguments-branch, name-after-s-branch, with-s-solid, parameter-solid, nested-solid, source-solid, local-type-name-solid, source-own, internal-own, local-type-own, operator-own, with-s-own, parameter-after-t-branch, leveled-branch}
 use Rattle.cpp_press_laws.proofs.ByKind.Encodings.{encoding-branch, special-branch, special-after-g-branch}
 use Rattle.cpp_press_laws.proofs.ByKind.Entities.{entity-branch, type-entity-branch, local-type-solid, local-name-read, nested-name-read}
 
@@ -43,12 +43,14 @@ use Rattle.cpp_press_laws.proofs.ByKind.Entities.{entity-branch, type-entity-bra
 solid-read : (around : Around) (at : ℕ) (old : State) (v : Value) (new : State) → InFront (OfKind (number_of_kind Kind.Solid)) around at old
     → around.prefix ≡ outermost → (p : Production) → IsAmong (alternatives Kind.Solid) p → OpenedRead Kind.Solid around at old v new p
     → KindFits Kind.Solid around v old new
-unfolding alternatives meaning part unfolding_.behind parts_of between number_of
+unfolding alternatives meaning part unfolding_.behind parts_of between number_of number_of_kind applied is_there tree_of after
 solid-read around at old v new front outer Production.Builtin here o = builtin-arm around at old v new o
 solid-read around at old v new front outer Production.Vendor here o =
-    fits-by-parts Kind.Solid Production.Vendor tt tt o (λ w s name.
-    subst (λ t. KindFits Kind.Solid around (Meant Production.Vendor (byte_of o.taken) around (w ∷ [])) old
-    (Later Production.Vendor (byte_of o.taken) around old (w ∷ []) t)) (sym name.0) (vendor-fits around (text_of w) old name.2))
+    fits-by-parts Kind.Solid Production.Vendor tt tt o (λ w s name b q more.
+    let none = more Kind.VendorArguments refl in
+    subst (λ u. KindFits Kind.Solid around (tree (applied (vendor (text_of w)) u) false) old q) (sym none.0)
+    (subst (λ r. KindFits Kind.Solid around (tree (vendor (text_of w)) false) old r) (sym none.1)
+    (subst (λ t. KindFits Kind.Solid around (tree (vendor (text_of w)) false) old t) (sym name.0) (vendor-fits around (text_of w) old name.2))))
 solid-read around at old v new front outer Production.ArrayType here o =
     fits-by-parts Kind.Solid Production.ArrayType tt tt o (λ w s one. one Kind.AnyArray refl outer)
 solid-read around at old v new front outer Production.Function here o =
@@ -213,6 +215,7 @@ kind-branch Kind.SpecialMark = mark-branch Kind.SpecialMark (refl, tt)
 kind-branch Kind.SpecialAfterG = special-after-g-branch
 kind-branch Kind.TypeInStd = type-in-std-branch
 kind-branch Kind.MaybeTags = maybe-tags-branch
+kind-branch Kind.VendorArguments = vendor-arguments-branch
 kind-branch Kind.Argument = argument-branch
 kind-branch Kind.ArgumentAfterT = argument-after-t-branch
 kind-branch Kind.SolidButT = solid-but-t-branch

@@ -6,7 +6,7 @@ use Rattle.cpp_grammar.specs.declared.kind.Kind.{Kind}
 use Rattle.cpp_grammar.specs.declared.production.Production.{Production}
 use Rattle.cpp_grammar.specs.KindNumbers.{COMPLETE_NAME, ENTITY, TYPE_ENTITY}
 use Rattle.cpp_grammar.specs.Term.{Qualifiers, within, string_literal, RefQualifier, any_value, Term, instance, lambda}
-use Rattle.cpp_grammar.specs.Values.{behind, Around, tree, tree_of, qualifiers_of, ref_of, unqualified, Prefix}
+use Rattle.cpp_grammar.specs.Values.{behind, Around, tree, tree_of, qualifiers_of, ref_of, unqualified, Prefix, Showing}
 use Rattle.cpp_grammar.specs.References.{is_function_type}
 use Rattle.cpp_grammar.specs.Between.{after, extended, in_signature}
 use Rattle.cpp_press_laws.proofs.Components.Encodings.{scope-first, no-encoding}
@@ -51,13 +51,13 @@ keeps-joined : (n : ℕ) (x p : Term) → Keeps (joined_spelling n x p)
 keeps-joined n x p = keeps-and (ways_of n x).as_prefix (ways_of n p).as_piece (keeps x n).as_prefix (keeps p n).as_piece
 
 -- a piece fits alike after each prefix
-pub piece-anywhere : (p : Term) (scope : Option Term) (encoding : ℕ) (in_lambda in_expansion : Bool) (one other : Prefix) (allowed : Option ℕ)
+pub piece-anywhere : (p : Term) (scope : Option Term) (encoding : ℕ) (in_lambda in_expansion : Bool) (showing : Showing) (one other : Prefix) (allowed : Option ℕ)
     (place : ℕ) (cs : List Component)
-    → (fits_of p).as_piece (record { scope = scope; encoding = encoding; in_lambda = in_lambda; in_expansion = in_expansion; prefix = one }) allowed place cs
-    → (fits_of p).as_piece (record { scope = scope; encoding = encoding; in_lambda = in_lambda; in_expansion = in_expansion; prefix = other }) allowed place cs
+    → (fits_of p).as_piece (record { scope = scope; encoding = encoding; in_lambda = in_lambda; in_expansion = in_expansion; prefix = one; showing = showing }) allowed place cs
+    → (fits_of p).as_piece (record { scope = scope; encoding = encoding; in_lambda = in_lambda; in_expansion = in_expansion; prefix = other; showing = showing }) allowed place cs
 unfolding fits_of type_fits piece_fits argument_fits encoding_fits fits_nowhere in_signature
-piece-anywhere (lambda parameters k) scope encoding in_lambda in_expansion one other allowed place cs h = h
-piece-anywhere _ scope encoding in_lambda in_expansion one other allowed place cs h = h
+piece-anywhere (lambda parameters k) scope encoding in_lambda in_expansion showing one other allowed place cs h = h
+piece-anywhere _ scope encoding in_lambda in_expansion showing one other allowed place cs h = h
 
 joined-nested : (x p : Term) → Reading x → Reading p → (around : Around) (allowed : Option ℕ) (place : ℕ) (cs : List Component)
     → IsSmall around
@@ -74,7 +74,7 @@ joined-nested x p rx rp around allowed place cs small room h =
     (λ listed. named-piece (after x listed around) allowed 19 p (within x p) (place + length w.bytes) w.components one
     (rp.at spot.as_piece (after x listed around) allowed (place + length w.bytes) w.components small
     (room-rest (ways_of n x).as_prefix (ways_of n p).as_piece place cs room)
-    (piece-anywhere p around.scope n around.in_lambda around.in_expansion (behind x true) (behind x listed) allowed _ _ h.2))
+    (piece-anywhere p around.scope n around.in_lambda around.in_expansion around.showing (behind x true) (behind x listed) allowed _ _ h.2))
     (member-rule p h.1) refl)
 
 -- ## In the scope of an encoding

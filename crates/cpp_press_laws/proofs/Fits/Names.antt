@@ -35,6 +35,7 @@ having prefix around = record {
   in_lambda = around.in_lambda;
   in_expansion = around.in_expansion;
   prefix = prefix;
+  showing = around.showing;
 }
 
 -- what fits after another prefix
@@ -147,7 +148,7 @@ within-joined around t p listed old mid now names one other =
     (λ n allowed place cs both. (
       both.0,
       names,
-      piece-anywhere p around.scope n around.in_lambda around.in_expansion (behind t listed) (behind t true) allowed _ _ both.1,
+      piece-anywhere p around.scope n around.in_lambda around.in_expansion around.showing (behind t listed) (behind t true) allowed _ _ both.1,
     ))
 
 -- A name between N and E that is a component as a prefix.

@@ -23,6 +23,7 @@ pressed_at n around = record {
   in_lambda = around.in_lambda;
   in_expansion = around.in_expansion;
   prefix = around.prefix;
+  showing = around.showing;
 }
 
 -- each function type that may be named in an encoding may be spelled again in its scope

@@ -1,5 +1,5 @@
 -- Types that have a letter of their own are read as what was pressed, from their parts.
-use Rattle.std.proofs.Common.{◌≡◌, ℕ, ◌+◌, length, List, [], ◌∷◌, ◌++◌, Option, Some, true, false, refl, arith, Bool}
+use Rattle.std.proofs.Common.{◌≡◌, ℕ, ◌+◌, length, List, [], ◌∷◌, ◌++◌, Option, Some, true, false, refl, ap, arith, Bool, append-nil}
 use Rattle.std.specs.Prelude.{◌<◌}
 use Rattle.sym_core.specs.declared.NumberKind.TheVariants.{Decimal}
 use Rattle.sym_core.specs.Token.{Token}
@@ -12,7 +12,8 @@ use Rattle.cpp_grammar.specs.Grammar.{choose, kinds, parts_of, is_chain}
 use Rattle.cpp_grammar.specs.Table.{abi, rule_of}
 use Rattle.cpp_grammar.specs.Term.{Term, abbreviation, builtin, vendor, pointer, lvalue, rvalue, array, member_pointer, complex}
 use Rattle.cpp_grammar.specs.Values as value
-use Rattle.cpp_grammar.specs.Values.{Around, Value, tree}
+use Rattle.cpp_grammar.specs.Values.{Around, Value, nothing_there, is_there, tree}
+use Rattle.cpp_grammar.specs.Between.{after, applied}
 use Rattle.cpp_grammar.specs.Meaning.{meaning, listed_value, reference_to}
 use Rattle.cpp_grammar.specs.Unfolding as unfolding_
 use Rattle.cpp_grammar.specs.Unfolding.{close, byte_of}
@@ -20,7 +21,7 @@ use Rattle.cpp_press_laws.specs.Components.{Component}
 use Rattle.cpp_press_laws.specs.Texts.{counted}
 use Rattle.cpp_press_laws.specs.Spellable.{IsSpellableName, AreSpellableDigits}
 use Rattle.cpp_press_laws.specs.Subtrees.{Written, written, ReadsAt, Is}
-use Rattle.cpp_press_laws.proofs.ReadBack.Reading.{takes-byte, takes-none, name-reads, number-reads, component-by-parts, elsewhere, grammar, read-by-parts, more, ◌before◌}
+use Rattle.cpp_press_laws.proofs.ReadBack.Reading.{takes-byte, takes-none, empty-reads, name-reads, number-reads, component-by-parts, elsewhere, grammar, read-by-parts, more, ◌before◌}
 
 -- ## Letters
 
@@ -50,11 +51,11 @@ abbreviation-behind-s around allowed letter place cs small chosen =
 
 pub vendor-solid : (around : Around) (allowed : Option ℕ) (name : List ℕ) (place : ℕ) (cs : List Component) → IsSpellableName name
     → ReadsAt around allowed (OfKind SOLID) (Is (tree (vendor name) false)) place cs (written (117 ∷ counted name) cs)
-unfolding grammar
+unfolding grammar after applied is_there
 vendor-solid around allowed name place cs good =
-    read-by-parts Production.Vendor SOLID (117 ∷ []) (value.text name ∷ []) (written (counted name) cs ∷ [])
-    (takes-byte SOLID Kind.Solid Production.Vendor 117 refl refl (omega arith) refl) tt refl
-    (λ s c q. name-reads name good s c q before λ began s. refl)
+    read-by-parts Production.Vendor SOLID (117 ∷ []) (value.text name ∷ nothing_there ∷ []) (written (counted name) cs ∷ written [] cs ∷ [])
+    (takes-byte SOLID Kind.Solid Production.Vendor 117 refl refl (omega arith) refl) tt (ap (λ l. 117 ∷ l) (append-nil (counted name)))
+    (λ s c q. name-reads name good s c q before λ s c q. empty-reads Kind.VendorArguments refl refl s c q before λ began s. refl)
 
 -- ## Types of a type
 

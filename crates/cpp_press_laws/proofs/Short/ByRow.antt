@@ -1,7 +1,7 @@
 -- What is paid for a production before whose parts nothing is done. Its row says what it is read as, and all that is
 -- left to show is that this needs no more than its parts and its byte.
 use Rattle.std.proofs.Common.{◌≡◌, ℕ, ◌+◌, ◌*◌, ◌≤◌, length, List, [], ◌∷◌, ◌++◌, Bool, true, false, cond, Option, Some, None, Ok, refl, ap, sym, subst, ◌∙◌, arith}
-use Rattle.std.specs.Prelude.{suc, zero, not, ◌&&◌, ◌||◌, nat_eq, get_or, slice_get}
+use Rattle.std.specs.Prelude.{suc, zero, not, ◌&&◌, ◌||◌, nat_eq, slice_get}
 use Rattle.std.proofs.lemmas.Bool.{eqb-true, and_parts, false≢true}
 use Rattle.sym_shape.specs.declared.rule.Sym.{Sym}
 use Rattle.sym_shape.specs.declared.rule.Sym.TheVariants.{Kind as OfKind, Name, Number, Byte}
@@ -12,9 +12,10 @@ use Rattle.cpp_grammar.specs.declared.production.Production.{Production}
 use Rattle.cpp_grammar.specs.Grammar.{kinds, number_of_kind, number_of, parts_of, is_chain}
 use Rattle.cpp_grammar.specs.Term.{Term}
 use Rattle.cpp_grammar.specs.Values.{State, Prefix, Around, Value, tree}
-use Rattle.cpp_grammar.specs.Row.{Made, Form, Action, quiet, becomes, nothing, Row, before_part}
+use Rattle.cpp_grammar.specs.Row.{Made, Form, Action, quiet, goes, becomes, as_before, nothing, Row, before_part}
 use Rattle.cpp_grammar.specs.Rows.{row_of}
-use Rattle.cpp_grammar.specs.Meant.{made, meant, done, gained, packs_within, replaced, state_after}
+use Rattle.cpp_grammar.proofs.Steps.{all_pass, step_passes}
+use Rattle.cpp_grammar.specs.Meant.{made, meant, done, around_part, gained, packs_within, replaced, state_after}
 use Rattle.cpp_grammar.specs.Between.{between, next, after}
 use Rattle.cpp_grammar.specs.Meaning.{meaning}
 use Rattle.cpp_grammar.specs.Unfolding as unfolding_
@@ -219,26 +220,25 @@ Claim around P (x ∷ xs) vs s cost credit =
 
 -- ## Productions
 
-unfoldable pub all_quiet : Row → Bool
-all_quiet row = go row.before row.onward
-  where
-    go : List Action → Action → Bool
-    go [] quiet = true
-    go _ _ = false
+-- nothing is done before a part, which has the surroundings of the production
+unfoldable pub is_idle : Action → Bool
+is_idle quiet = true
+is_idle (goes nothing as_before) = true
+is_idle _ = false
 
-quiet-part : (row : Row) (n : ℕ) → all_quiet row ≡ true → before_part row n ≡ quiet
-unfolding all_quiet before_part
-quiet-part row n is = go row.before row.onward is
-  where
-    go : (before : List Action) (onward : Action) → all_quiet (record row { before = before; onward = onward }) ≡ true → get_or before n onward ≡ quiet
-    go [] quiet is = refl
-    go [] _ is = absurd (false≢true is)
-    go (b ∷ bs) _ is = absurd (false≢true is)
+unfoldable pub all_quiet : Row → Bool
+all_quiet row = all_pass is_idle row.before row.onward
+
+idle-step : (b : Action) (around : Around) (place : ℕ) (vs : List Value) (s : State) → is_idle b ≡ true → done b around place vs s ≡ next vs around s
+unfolding is_idle done around_part packs_within gained
+idle-step quiet around place vs s is = refl
+idle-step (goes nothing as_before) around place vs s is = refl
+idle-step _ around place vs s is = absurd (false≢true is)
 
 quiet-between : (p : Production) (around : Around) (place : ℕ) (vs : List Value) (s : State) → all_quiet (row_of p) ≡ true
     → between p around place vs s ≡ next vs around s
-unfolding between done
-quiet-between p around place vs s still = ap (λ b. done b around place vs s) (quiet-part (row_of p) (length vs) still)
+unfolding between all_quiet
+quiet-between p around place vs s still = idle-step (before_part (row_of p) (length vs)) around place vs s (step_passes is_idle (row_of p) still (length vs))
 
 -- a reference may be refused, and no constructor that is inherited is read
 unfoldable pub refers : Production → Bool
@@ -317,8 +317,8 @@ pub by-row : (anywhere : Bool) (p : Production) (c : Class) (granted : ℕ) → 
     → (around : Around) (at : ℕ) (old : State) (v : Value) (new : State) (b : ℕ) → Standing anywhere around.prefix → SmallPrefix around.prefix
     → AllSmall old.candidates → Ended p around at old v new b → Gains c granted around v old new b
 unfolding row_goes
-by-row anywhere p c granted goes pays around at old v new b here =
-    let one = and_parts (all_quiet (row_of p)) (not (refers p) && parts_pass (may_be_part anywhere) (parts_of p)) goes in
+by-row anywhere p c granted good pays around at old v new b here =
+    let one = and_parts (all_quiet (row_of p)) (not (refers p) && parts_pass (may_be_part anywhere) (parts_of p)) good in
     let two = and_parts (not (refers p)) (parts_pass (may_be_part anywhere) (parts_of p)) one.1 in
     paid-for (Standing anywhere) p c granted one.0 two.0 pays around at old v new b
     (ready-by (may_be_part anywhere) around.prefix (λ kind one. part-ready anywhere kind around.prefix one here) (parts_of p) two.1) here

@@ -23,7 +23,7 @@ use Rattle.cpp_press_laws.proofs.Short.Types.{Idle, Free, type_rows, abbreviatio
 use Rattle.cpp_press_laws.proofs.Short.ByRow.{is_read, is_listed_in}
 use Rattle.cpp_press_laws.proofs.Short.Lists.{free_rows, idle_rows, free-gains, idle-gains, arguments-gains, encoding-gains, given-gains, lambda-gains, lvalue-item-gains, other-special-gains, pack-argument-gains, ref-end-gains, rvalue-item-gains, special-gains}
 use Rattle.cpp_press_laws.proofs.Short.Names.{name_rows, name-gains, abbreviated-name, constructor-name, destructor-name, internal-name, local-name, local-type, local-type-name, may-end-behind, nest-arguments, nest-end, nest-instance, nest-internal, nest-local-type, nest-next, nest-parameter, nest-source, nest-std, nest-template, operator-name, operator-name-with-c, other-operator-name, source-name, std-name, string-literal, tagged-std-type, as-name, further_rows, further-gains}
-use Rattle.cpp_press_laws.proofs.Short.Qualified.{qualified_rows, qualified-gains, as-type, bare-reference-gains, granted, integer-gains, parameter-argument-gains, parameter-gains, leveled-parameter-gains, first-parameter-gains, substitution-gains, type-with-s-gains}
+use Rattle.cpp_press_laws.proofs.Short.Qualified.{qualified_rows, qualified-gains, as-type, bare-reference-gains, granted, integer-gains, parameter-argument-gains, parameter-gains, leveled-parameter-gains, first-parameter-gains, substitution-gains, type-with-s-gains, vendor-gains}
 
 -- a production of a kind
 abbrev Arm : Kind → Production → Type 0
@@ -93,7 +93,7 @@ arms Kind.Item is = (qualified-gains type Production.RestrictType refl, (qualifi
 arms Kind.ItemButRef is = (qualified-gains type Production.RestrictType refl, (qualified-gains type Production.VolatileType refl, (qualified-gains type Production.ConstType refl, (type-gains Production.ItemWithD refl, type-gains Production.PlainType refl))))
 arms Kind.ItemAfterD is = (expansion-gains, type-gains Production.ItemIsType refl)
 arms Kind.AfterD is = (type-gains Production.BuiltinWithD refl, (type-gains Production.Vector refl, type-gains Production.NoexceptFunction refl))
-arms Kind.Solid is = (type-gains Production.Builtin refl, (type-gains Production.Vendor refl, (type-gains Production.ArrayType refl, (type-gains Production.Function refl, (type-gains Production.Complex refl, (type-gains Production.Pointer refl, (type-gains Production.MemberPointer refl, (parameter-gains, (type-with-s-gains, (named (name-gains Production.NestedType refl), (named local-type, (named (as-name local-type-name), named (as-name source-name)))))))))))))
+arms Kind.Solid is = (type-gains Production.Builtin refl, (vendor-gains, (type-gains Production.ArrayType refl, (type-gains Production.Function refl, (type-gains Production.Complex refl, (type-gains Production.Pointer refl, (type-gains Production.MemberPointer refl, (parameter-gains, (type-with-s-gains, (named (name-gains Production.NestedType refl), (named local-type, (named (as-name local-type-name), named (as-name source-name)))))))))))))
 arms Kind.MaybeCLinkage is = free-gains leaf Production.Mark refl
 arms Kind.TypeAfterS is = (type-gains Production.TypeInStd refl, type-gains Production.AbbreviatedType refl)
 arms Kind.SourceOrLocal is = (free-gains unit Production.InternalPiece refl, (free-gains unit Production.LocalTypePiece refl, free-gains unit Production.SourcePiece refl))
@@ -127,6 +127,7 @@ arms Kind.OperatorAfterG is = free-gains mark Production.Mark refl
 arms Kind.NestRestOrEnd is = (nest-instance, nest-next)
 arms Kind.ArgumentsAlone is = arguments-gains
 arms Kind.NestRestAlone is = (nest-arguments, nest-next)
+arms Kind.VendorArguments is = tt
 arms Kind.ComponentAfterC is = operator-name-with-c
 arms Kind.OtherOperator is = (free-gains unit Production.OperatorN refl, (free-gains unit Production.OperatorD refl, (free-gains unit Production.OperatorA refl, (free-gains unit Production.OperatorP refl, (free-gains unit Production.OperatorM refl, (free-gains unit Production.OperatorR refl, (free-gains unit Production.OperatorO refl, (free-gains unit Production.OperatorE refl, (free-gains unit Production.OperatorL refl, (free-gains unit Production.OperatorS refl, (free-gains unit Production.OperatorI refl, free-gains unit Production.OperatorG refl)))))))))))
 arms Kind.ArgumentsFirst is = (pack-argument-gains, (idle-gains items Production.LiteralArgument refl, idle-gains items Production.AnyArgument refl))
@@ -139,7 +140,7 @@ arms Kind.ArgumentAfterT is = parameter-argument-gains
 arms Kind.LeveledParameter is = parameter-argument-gains
 arms Kind.FirstOfLambda is = (qualified-gains type Production.RestrictType refl, (qualified-gains type Production.VolatileType refl, (qualified-gains type Production.ConstType refl, (type-gains Production.ItemWithD refl, (reference-gains, (type-gains Production.FirstWithT refl, type-gains Production.PlainArgument refl))))))
 arms Kind.FirstAfterT is = first-parameter-gains
-arms Kind.SolidButT is = (type-gains Production.Builtin refl, (type-gains Production.Vendor refl, (type-gains Production.ArrayType refl, (type-gains Production.Function refl, (type-gains Production.Complex refl, (type-gains Production.Pointer refl, (type-gains Production.MemberPointer refl, (type-with-s-gains, (named (name-gains Production.NestedType refl), (named local-type, (named (as-name local-type-name), named (as-name source-name))))))))))))
+arms Kind.SolidButT is = (type-gains Production.Builtin refl, (vendor-gains, (type-gains Production.ArrayType refl, (type-gains Production.Function refl, (type-gains Production.Complex refl, (type-gains Production.Pointer refl, (type-gains Production.MemberPointer refl, (type-with-s-gains, (named (name-gains Production.NestedType refl), (named local-type, (named (as-name local-type-name), named (as-name source-name))))))))))))
 arms Kind.Expression is = type-gains Production.ExpressionA refl
 arms Kind.AddressedExpression is = addressed-gains
 arms Kind.AddressedLiteral is = type-gains Production.EncodingLiteral refl
@@ -177,6 +178,7 @@ gains-empty Kind.MaybeZero around old is all = record { few = omega arith; known
 gains-empty Kind.ArgumentsAlone around old is all = record { few = omega arith; known = inl refl; kept = λ h. refl; small = all }
 gains-empty Kind.ArgumentsFirst around old is all = record { few = omega arith; known = tt; kept = tt; small = all }
 gains-empty Kind.MaybeTags around old is all = record { few = omega arith; known = inl refl; kept = λ h. refl; small = all }
+gains-empty Kind.VendorArguments around old is all = record { few = omega arith; known = inl refl; kept = λ h. refl; small = all }
 gains-empty Kind.Declarations around old is all = tt
 gains-empty Kind.BaseArguments around old is all = tt
 gains-empty Kind.HeldArguments around old is all = tt

@@ -147,6 +147,7 @@ class_of Kind.MaybeArguments = arguments
 class_of Kind.Arguments = given
 class_of Kind.ArgumentsAlone = arguments
 class_of Kind.MaybeTags = arguments
+class_of Kind.VendorArguments = arguments
 class_of Kind.MaybeRestrict = leaf
 class_of Kind.MaybeVolatile = leaf
 class_of Kind.MaybeConst = leaf

@@ -21,13 +21,14 @@ use Rattle.cpp_grammar.specs.Unfolding.{close}
 use Rattle.cpp_grammar.proofs.Declared.{is_first}
 use Rattle.cpp_grammar.proofs.Undeclared.{undeclared_signature}
 use Rattle.cpp_grammar.proofs.Chosen.{either, either_cond}
+use Rattle.cpp_grammar.proofs.Steps.{all_pass}
 use Rattle.cpp_press_laws.specs.Texts.{ordinal, signed_text, name_letters, offset_text, thunk_text, discriminator_text}
 use Rattle.cpp_press_laws.specs.Pressing.{is_component, is_encoding}
 use Rattle.cpp_press_laws.proofs.Short.Size.{part_of, front_of, lettered, size, over, size-some, part-some}
 use Rattle.cpp_press_laws.proofs.Short.Worth.{full}
 use Rattle.cpp_press_laws.proofs.Short.Gains.{wealth, AllSmall, front, unit, whole, items, arguments, given, leaf, mark, offset, discriminator, rest, after_mark, second, operands, class_of, typed, letters_in, held, need, lent, loan, returned, grant, SmallPrefix, ready_for, Ready, IsKnown, IsKept, Gains, Gained, appended-grown, prefix-grown, Class}
 use Rattle.cpp_press_laws.proofs.Short.Paid.{Ended, comes-to}
-use Rattle.cpp_press_laws.proofs.Short.ByRow.{is_read, part_passes, parts_pass, cost_of, credit_of, Knows, all_quiet, refers, Pays, row_goes, by-row, is_listed_in, each_goes, one-goes, may_read, may_be_part, Standing}
+use Rattle.cpp_press_laws.proofs.Short.ByRow.{is_read, part_passes, parts_pass, cost_of, credit_of, Knows, is_idle, all_quiet, refers, Pays, row_goes, by-row, is_listed_in, each_goes, one-goes, may_read, may_be_part, Standing}
 use Rattle.cpp_press_laws.proofs.Short.Types.{Idle, Free, normal-short, parameters-most, held-signed}
 
 pub held-text : (v : Value) → 8 * length (text_of v) ≤ held v
@@ -135,7 +136,7 @@ free-pays _ (Production.Operation Operation.ExpressionC) is = absurd (false≢tr
 free-pays _ _ is = absurd (false≢true is)
 
 free-go : (c : Class) → each_goes (may_be_part true) (free_rows c) ≡ true
-unfolding is_listed_in each_goes row_goes all_quiet refers parts_pass part_passes is_read class_of kinds number_of number_of_kind parts_of row_of may_read may_be_part free_rows
+unfolding is_listed_in each_goes row_goes all_quiet all_pass is_idle refers parts_pass part_passes is_read class_of kinds number_of number_of_kind parts_of row_of may_read may_be_part free_rows
 free-go leaf = refl
 free-go mark = refl
 free-go second = refl
@@ -184,7 +185,7 @@ idle-pays _ (Production.Operation Operation.ExpressionC) is = absurd (false≢tr
 idle-pays _ _ is = absurd (false≢true is)
 
 idle-go : (c : Class) → each_goes (may_be_part false) (idle_rows c) ≡ true
-unfolding is_listed_in each_goes row_goes all_quiet refers parts_pass part_passes is_read class_of kinds number_of number_of_kind parts_of row_of may_be_part idle_rows may_read
+unfolding is_listed_in each_goes row_goes all_quiet all_pass is_idle refers parts_pass part_passes is_read class_of kinds number_of number_of_kind parts_of row_of may_be_part idle_rows may_read
 idle-go rest = refl
 idle-go items = refl
 idle-go whole = refl
@@ -201,7 +202,7 @@ AfterMark p =
     → AllSmall old.candidates → Ended p around at old v new b → Gains after_mark 8 around v old new b
 
 pub ref-end-gains : AfterMark Production.RefEnd
-unfolding kinds number_of number_of_kind parts_of is_chain unfolding_.behind meaning class_of row_goes all_quiet refers parts_pass row_of need loan returned IsKnown IsKept signature_or tree_of size
+unfolding kinds number_of number_of_kind parts_of is_chain unfolding_.behind meaning class_of row_goes all_quiet all_pass is_idle refers parts_pass row_of need loan returned IsKnown IsKept signature_or tree_of size
 ref-end-gains = by-row false Production.RefEnd after_mark 8 refl (λ byte around old idle small all b few. record { few = omega (arith, few); known = tt; kept = tt; small = all })
 
 pub lvalue-item-gains : AfterMark Production.LvalueItem

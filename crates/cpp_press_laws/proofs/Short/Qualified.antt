@@ -10,7 +10,7 @@ use Rattle.cpp_grammar.specs.declared.production.Production.{Production}
 use Rattle.cpp_grammar.specs.declared.production.Operation.{Operation}
 use Rattle.cpp_grammar.specs.Grammar.{kinds, number_of, number_of_kind, parts_of, is_chain}
 use Rattle.cpp_grammar.specs.Rows.{row_of}
-use Rattle.cpp_grammar.specs.Term.{Qualifiers, Term, symbol, instance, parameter, lvalue, rvalue, function_type, qualified, integer}
+use Rattle.cpp_grammar.specs.Term.{Qualifiers, Term, symbol, vendor, instance, parameter, lvalue, rvalue, function_type, qualified, integer}
 use Rattle.cpp_grammar.specs.Values as values
 use Rattle.cpp_grammar.specs.Values.{State, Around, Value, nothing_there, tree, named, tree_of, is_listed, is_there, text_of, signed_of, Candidate}
 use Rattle.cpp_grammar.specs.References.{is_function_type, appended, parameter_named, with_type, with_unqualified, substituted}
@@ -19,6 +19,7 @@ use Rattle.cpp_grammar.specs.Meaning.{parameters, listed_value, reference_to, me
 use Rattle.cpp_grammar.specs.Unfolding as unfolding_
 use Rattle.cpp_grammar.specs.Unfolding.{close}
 use Rattle.cpp_grammar.proofs.Chosen.{either_cond}
+use Rattle.cpp_grammar.proofs.Steps.{all_pass}
 use Rattle.cpp_press_laws.specs.Texts.{qualifier_letters}
 use Rattle.cpp_press_laws.specs.Components.{components_of, Component}
 use Rattle.cpp_press_laws.specs.Pressing.{is_component, is_encoding}
@@ -26,7 +27,7 @@ use Rattle.cpp_press_laws.proofs.Short.Size.{part_of, bare_of, size, over, part,
 use Rattle.cpp_press_laws.proofs.Short.Worth.{is_among, is_again, full, worth, full-most, worths, has-among}
 use Rattle.cpp_press_laws.proofs.Short.Gains.{wealth, IsSmall, AllSmall, name, type, bare, arguments, Class, class_of, typed, held, need, lent, owed, loan, returned, grant, SmallPrefix, ready_for, Ready, IsKnown, IsKept, Gains, Gained, appended-wealth, appended-grown, typed-grown}
 use Rattle.cpp_press_laws.proofs.Short.Paid.{Ended, comes-to}
-use Rattle.cpp_press_laws.proofs.Short.ByRow.{is_read, part_passes, parts_pass, cost_of, credit_of, Knows, all_quiet, refers, Pays, row_goes, by-row, is_listed_in, each_goes, one-goes, may_read, may_be_part, Standing}
+use Rattle.cpp_press_laws.proofs.Short.ByRow.{is_read, part_passes, parts_pass, cost_of, credit_of, Knows, is_idle, all_quiet, refers, Pays, row_goes, by-row, is_listed_in, each_goes, one-goes, may_read, may_be_part, Standing}
 use Rattle.cpp_grammar.specs.Scope.{element, is_open}
 use Rattle.cpp_press_laws.specs.Fits.{has_letters}
 use Rattle.cpp_press_laws.proofs.Components.Parts.{Has, has-before, has-itself, has-closed}
@@ -185,7 +186,7 @@ qualified-pays _ (Production.Operation Operation.ExpressionC) is = absurd (false
 qualified-pays _ _ is = absurd (false≢true is)
 
 qualified-go : (c : Class) → each_goes (may_be_part false) (qualified_rows c) ≡ true
-unfolding is_listed_in each_goes row_goes all_quiet refers parts_pass part_passes is_read class_of kinds number_of number_of_kind parts_of row_of may_be_part qualified_rows may_read
+unfolding is_listed_in each_goes row_goes all_quiet all_pass is_idle refers parts_pass part_passes is_read class_of kinds number_of number_of_kind parts_of row_of may_be_part qualified_rows may_read
 qualified-go bare = refl
 qualified-go type = refl
 qualified-go _ = refl
@@ -264,6 +265,25 @@ applied-type around t l w s mid old c b g scope one among gw few = go gw.known
     go (inl none) = bare-type around t l w s mid old c b g none scope one among gw few
     go (inr some) = given-type around t l w s mid old c b g some gw few
 
+-- the same, where the type is no candidate and owes nothing before its arguments
+unlisted-type : (around : Around) (t : Term) (w : Value) (s mid old : State) (c b g : ℕ) → is_encoding t ≡ false → part t ≤ 8
+    → Gains arguments 0 (after t true around) w mid s c → wealth mid + 8 * c + (full t + part t) ≤ wealth old + 8 * b + g
+    → Gains type g around (tree (applied t w) false) old s b
+unfolding IsKnown applied is_there need typed returned loan owed after IsKept is_listed tree_of
+unlisted-type around t w s mid old c b g scope one gw few = go gw.known
+  where
+    go : (w ≡ nothing_there) ⊎ (w ≡ tree (tree_of w) true) → Gains type g around (tree (applied t w) false) old s b
+    go (inl none) = subst (λ u. Gains type g around (tree (applied t u) false) old s b) (sym none)
+        (subst (λ r. Gains type g around (tree t false) old r b) (sym (gw.kept none)) (record {
+          few = omega (arith, few);
+          known = (scope, ((λ h. one), (λ h. absurd (false≢true h))));
+          kept = tt;
+          small = subst (λ r. AllSmall r.candidates) (gw.kept none) gw.small;
+        }))
+    go (inr some) = subst (λ u. Gains type g around (tree (applied t u) false) old s b) (sym some)
+        (instance-made around t (tree_of w) s old b g gw.small
+        (omega (arith, gw.few, ap (λ u. need arguments (after t true around) u s) some, few)))
+
 small-prefix : (t : Term) (l : Bool) → (l ≡ false → IsSmall t) → SmallPrefix (values.behind t l)
 unfolding SmallPrefix
 small-prefix t true h = tt
@@ -281,6 +301,19 @@ type-with-s-gains around at old v new b idle small all o =
     (tree (applied t p1.value) (is_listed p0.value && not (is_there p1.value))) p1.after p1.onward.0 refl
     (applied-type around t (is_listed p0.value) p1.value p1.after p0.after old p1.own b 0 g0.known.0 g0.known.1.0 g0.known.1.1 g1
     (omega (arith, o.sum, g0.few, p0.sum, p1.sum, p1.onward.1)))
+
+-- a vendor's type, which is no candidate, with what may be arguments after it
+pub vendor-gains : Idle Production.Vendor type
+unfolding parts_of between is_chain close unfolding_.behind meaning values.part class_of grant Gained Ready ready_for need typed loan returned IsKnown IsKept tree_of named_so_far listed_so_far after SmallPrefix full over size part_of is_component is_function_type is_encoding is_listed
+vendor-gains around at old v new b idle small all o =
+    let p0 = o.paid in
+    let g0 = p0.gains in
+    let t : Term = vendor (text_of p0.value) in
+    let p1 = p0.onward in
+    let g1 = p1.gains Kind.VendorArguments refl tt tt (subst (λ s. AllSmall s.candidates) (sym g0.0) all) in
+    comes-to (λ w s. Gains type 0 around w old s b) o (tree t true ∷ p1.value ∷ []) p1.after (tree (applied t p1.value) false) p1.after p1.onward.0 refl
+    (unlisted-type around t p1.value p1.after p0.after old p1.own b 0 refl (omega arith) g1
+    (omega (arith, o.sum, ap (λ s. wealth s) g0.0, g0.1.0, g0.1.1, g0.1.2, p0.sum, p1.sum, p1.onward.1)))
 
 pub parameter-gains : Idle Production.Parameter type
 unfolding parts_of between is_chain close unfolding_.behind meaning values.part class_of grant Gained Ready ready_for need typed loan returned IsKnown IsKept tree_of named_so_far after SmallPrefix index_of full over size part_of is_component is_function_type is_encoding parameter_so_far parameter_named element appended listed_so_far

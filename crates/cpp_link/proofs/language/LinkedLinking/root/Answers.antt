@@ -4,7 +4,7 @@ use Rattle.sym_link.specs.Reading.{◌>>=◌}
 use Rattle.sym_link.specs.Unfold.{standing}
 use Rattle.cpp_term.specs.Unfolding.{first_around, first_state}
 use Rattle.cpp_tree.specs.Nodes.{tree_if_there}
-use Rattle.cpp_link.specs.Parts.{arguments_in, is_lambda, prefix_in, packs_in, around_of, prefix_of}
+use Rattle.cpp_link.specs.Parts.{arguments_in, is_lambda, showing_in, prefix_in, packs_in, around_of, prefix_of}
 use Rattle.cpp_link.specs.Room.{lists_of}
 use Rattle.cpp_link.specs.View.{cpp_view}
 use Rattle.cpp_link.specs.NodeCount.{cpp_makes}
@@ -14,7 +14,7 @@ use Rattle.cpp_link.proofs.Endings.{first_begins}
 use Rattle.cpp_link.proofs.language.LinkedLinking.root.Goals as goal
 
 pub returns-clause-opens : goal.returns-clause-opens
-unfolding first_around first_state tree_if_there around_of arguments_in is_lambda prefix_in packs_in prefix_of
+unfolding first_around first_state tree_if_there around_of arguments_in is_lambda showing_in prefix_in packs_in prefix_of
 returns-clause-opens c = root_tallied (cpp_view c.args.symbol.now) cpp_makes c.args.symbol.now c.args._rows.now c.args.self.now c.args.self.now c.args._row (Ok OUTSIDE) refl (λ rule taken parts is holds. (
   record { rule = standing rule taken 0 first_around first_state; values = []; state = first_state },
   ap (λ m. m >>= λ state. Ok (record { rule = standing rule taken 0 first_around first_state; values = []; state = state })) (first_begins (standing rule taken 0 first_around first_state) parts refl),

@@ -17,3 +17,4 @@ unreachable-requires c = applied_name c.args.production c.requires.family
     c.in_default.not-StdName
     c.in_default.not-AbbreviatedName
     c.in_default.not-BindingName
+    c.in_default.not-Vendor

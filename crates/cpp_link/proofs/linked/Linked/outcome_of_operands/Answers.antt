@@ -23,6 +23,7 @@ unreachable-requires c = operands c.args.production c.requires.family
     c.in_default.not-DesignatedElement
     c.in_default.not-DesignatedValue
     c.in_default.not-FieldName
+    c.in_default.not-InternalBound
     c.in_default.not-BoundNames
     c.in_default.not-New
     c.in_default.not-Placed

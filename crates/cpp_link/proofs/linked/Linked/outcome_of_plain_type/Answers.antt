@@ -14,7 +14,6 @@ unreachable-requires c = plain_type c.args.production c.requires.family
     c.in_default.not-BitInt
     c.in_default.not-BitWidth
     c.in_default.not-ConstrainedAuto
-    c.in_default.not-Vendor
     c.in_default.not-Decltype
     c.in_default.not-IndexedType
     c.in_default.not-TypePack

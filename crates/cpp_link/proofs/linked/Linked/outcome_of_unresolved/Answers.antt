@@ -19,3 +19,4 @@ unreachable-requires c = unresolved c.args.production c.requires.family
     c.in_default.not-AfterOuter
     c.in_default.not-This
     c.in_default.not-ParameterNumber
+    c.in_default.not-VendorExpression

@@ -30,6 +30,22 @@ returns-in-Inheriting-clause-closes c =
     closes_counted c.args.symbol.now c.args.self.now c.finish_inheriting.new.self c.args.frame.now c.args.parts.now.items c.finish_inheriting.new.parts.items c.finish_inheriting.result c.requires.room.paid.begun
     c.finish_inheriting.ensures.makes c.finish_inheriting.ensures.closes
 
+pub finish_encoding-requires-clause-encoding : goal.finish_encoding-requires-clause-encoding
+finish_encoding-requires-clause-encoding c = sym c.production_of-production.ensures ∙ c.in-Encoding.is
+
+pub returns-in-Encoding-clause-closes : goal.returns-in-Encoding-clause-closes
+returns-in-Encoding-clause-closes c =
+    closes_counted c.args.symbol.now c.args.self.now c.finish_encoding.new.self c.args.frame.now c.args.parts.now.items c.finish_encoding.new.parts.items c.finish_encoding.result c.requires.room.paid.begun
+    c.finish_encoding.ensures.makes c.finish_encoding.ensures.closes
+
+pub finish_literal-requires-clause-literal : goal.finish_literal-requires-clause-literal
+finish_literal-requires-clause-literal c = sym c.production_of-production.ensures ∙ c.in-EncodingLiteral.is
+
+pub returns-in-EncodingLiteral-clause-closes : goal.returns-in-EncodingLiteral-clause-closes
+returns-in-EncodingLiteral-clause-closes c =
+    closes_counted c.args.symbol.now c.args.self.now c.finish_literal.new.self c.args.frame.now c.args.parts.now.items c.finish_literal.new.parts.items c.finish_literal.result c.requires.room.paid.begun
+    c.finish_literal.ensures.makes c.finish_literal.ensures.closes
+
 pub returns-in_default-clause-closes : goal.returns-in_default-clause-closes
 returns-in_default-clause-closes c =
     let s = c.args.symbol.now in
@@ -42,5 +58,10 @@ returns-in_default-clause-closes c =
     closes_counted s old new frame parts c.finish_rule.new.parts.items c.finish_rule.result c.requires.room.paid.begun
     (subst (λ n. OnOk c.finish_rule.result (length new.nodes.nodes ≡ length old.linked.nodes.nodes + n))
     (apart_end (production_at frame.rule) (around_of (trees_in s old.linked.nodes) frame.kept) frame.place known (state_of s old.linked) (λ e. c.in_default.not-Substitution (is ∙ e))) c.finish_rule.ensures.makes)
-    (apart_closes s old.linked new frame parts c.finish_rule.new.parts.items c.finish_rule.result (λ e. c.in_default.not-Substitution (is ∙ e)) (λ e. c.in_default.not-Lambda (is ∙ e))
-    (λ e. c.in_default.not-Inheriting (is ∙ e)) c.finish_rule.ensures.closes)
+    (apart_closes s old.linked new frame parts c.finish_rule.new.parts.items c.finish_rule.result (record {
+      not_substitution = λ e. c.in_default.not-Substitution (is ∙ e);
+      not_lambda = λ e. c.in_default.not-Lambda (is ∙ e);
+      not_inheriting = λ e. c.in_default.not-Inheriting (is ∙ e);
+      not_encoding = λ e. c.in_default.not-Encoding (is ∙ e);
+      not_encoding_literal = λ e. c.in_default.not-EncodingLiteral (is ∙ e);
+    }) c.finish_rule.ensures.closes)
