@@ -124835,7 +124835,7 @@ static int lends(const void *bytes, size_t length)
         } while (symdemangle_again_of(&tries, (status)));     \
     } while (0)
 
-/* A proved call takes no null pointer: where there are no bytes, one that isn't touched stands in. */
+/* A proved call takes no null pointer: where there are no bytes, it gets one that isn't touched. */
 #define SOME(bytes, none) ((bytes) ? (bytes) : &(none))
 
 uint32_t symdemangle_text(const char *name, size_t name_length, uint32_t limit, uint32_t flags, char *buffer, size_t capacity,
@@ -124916,7 +124916,7 @@ void symdemangle_free(char *string)
     SYMDEMANGLE_FREE(string);
 }
 
-/* A copy of so many bytes with a 0 after them. */
+/* A copy of this many bytes with a 0 after them. */
 static char *copy(const char *text, size_t length)
 {
     char *string = SYMDEMANGLE_MALLOC(length + 1);

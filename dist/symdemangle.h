@@ -105,7 +105,7 @@ enum symdemangle_flags {
     SYMDEMANGLE_WIDE = 4,          /* newer and rarer C++ forms are read, too: recommended. What has a text without it has the
                                       same text with it; a later version may read more */
     SYMDEMANGLE_LEGACY = 8,        /* Rust's older names (_ZN..17h<16 digits>E), which are names of C++ too, are shown as the Rust
-                                      paths that they stand for, without the hash; no text of any other name changes */
+                                      paths that they denote, without the hash; no text of any other name changes */
     SYMDEMANGLE_UNDERSCORE = 16,   /* a name may also begin with __Z or __R, as on macOS: its first underscore is dropped, and
                                       `offset` counts it. symdemangle_filter always takes such words */
     SYMDEMANGLE_ASCII_WORDS = 32,  /* of symdemangle_filter: a word ends at a byte from 0x80, as at typographic quotes, and so
@@ -167,7 +167,7 @@ void symdemangle_free(char *string);
 
 /* The texts of many names, with one set of lists for all of them: the call for who has more than one. Name i is in `names` from
    ends[i - 1], of the first from 0, to ends[i]. What symdemangle_text would answer for it is in results[i]; the texts of those with
-   SYMDEMANGLE_OK are in the buffer, one after the other from its front. One that finds too little of the buffer left is told
+   SYMDEMANGLE_OK are in the buffer, one after the other from its front. One that finds too little of the buffer left gets
    SYMDEMANGLE_BUFFER, and later, shorter ones may still fit. Here `ends` and `results` have `count` entries. SYMDEMANGLE_OK (each
    name is answered, want of memory too), _FLAGS, _ENDS, _NULL; with any answer but SYMDEMANGLE_OK the results stay as they are. */
 uint32_t symdemangle_texts(const char *names, size_t names_length, const size_t *ends, size_t count, uint32_t limit,

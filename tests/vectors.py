@@ -222,6 +222,13 @@ def options_of(field):
     return [] if field == b"-" else field.decode().split(" ")
 
 
+def check_way(program, grammar, detail, word, way, form):
+    """No program shows which way a text was written: only that there is one."""
+    options = ([] if detail == b"full" else [b"--" + detail]) + ([b"--wide"] if grammar == b"wide" else [])
+    out, err, status = program.run([option.decode() for option in options] + [word.decode()])
+    return [] if out and not err and status == 0 else [f"{word!r} has no text: {(out, err, status)!r}"]
+
+
 def check_filter(program, options, text, wanted):
     out, err, status = program.run(options_of(options), unescaped(text))
     found = (out, err, status)
@@ -261,6 +268,7 @@ CHECKS = {
     b"press": check_press,
     b"wide press": check_wide_press,
     b"tree": check_tree,
+    b"way": check_way,
     b"filter": check_filter,
     b"command": check_command,
     b"demangle": check_demangle,

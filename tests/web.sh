@@ -43,7 +43,7 @@ page=$work/page
 if [ -n "$made" ]; then
     # the module alone is that folder's; all else is of this tree
     mkdir "$page"
-    cp "$made/symdemangle.wasm" "$made/module.json" web/*.html web/*.css web/*.js "$page"
+    cp "$made/symdemangle.wasm" "$made/module.json" web/*.html web/*.css web/*.js web/*.svg web/*.webmanifest "$page"
 else
     web/module/make.sh "$page" ${library:+"$library"}
 fi
@@ -89,6 +89,8 @@ if [ $breaks = yes ]; then
     broken module_test words.js 'Uint8Array.of(run[begin], 97, run.at(-1))' 'run.slice(-1)'
     broken module_test words.js 'isDot(run[at - 1]) && ' ''
     broken module_test words.js 'word[end - 1])) end -= 1;' 'word[end - 1])) break;'
+    broken page_test address.js 'words.includes(word)' 'false'
+    broken page_test sw.js 'await kept.match(request)' 'null'
     broken page_test worker.js 'if (bytes > offset) break;' 'units += 1;'
     broken page_test worker.js 'code < 0x80 ? 1 : code < 0x800 ? 2' 'code < 0x800 ? 1'
     broken page_test words.js ' | FLAG.WITHIN |' ' |'

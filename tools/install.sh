@@ -73,7 +73,7 @@ LIST
 LIST
     done
     for document in README.md CHANGELOG.md SECURITY.md LICENSE-MIT LICENSE-APACHE docs/GRAMMARS.md docs/PROMISES.md \
-        docs/SYMFILT.md docs/CXXFILT.md docs/SPEED.md docs/SCALE.md docs/callers/*.md docs/*.svg; do
+        docs/SYMFILT.md docs/CXXFILT.md docs/SPEED.md docs/SHORT_WAYS.md docs/SCALE.md docs/callers/*.md docs/*.svg; do
         [ ! -f "$document" ] || echo "644 $document share/doc/symdemangle/$document"
     done
 }

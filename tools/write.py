@@ -22,6 +22,7 @@ import printing
 import rust_grammar
 import rust_productions
 import short_names
+import short_ways
 import trees
 from files import read, sources
 
@@ -37,6 +38,7 @@ WHOLE = {
     "tools/rust_productions.py": lambda crates: rust_productions.whole_files(),
     "tools/short_names.py": short_names.files,
     "tools/file_table.py": file_table.files,
+    "tools/short_ways.py": short_ways.files,
 }
 IN_PARTS = {"tools/trees.py": trees.files, "tools/rust_productions.py": rust_productions.files, "tools/alike.py": alike.files}
 MOST_ROUNDS = 4

@@ -1,4 +1,5 @@
 // A card for each name: its text, or why it is refused and where; on request what reading it took, and its pressed spelling.
+import { addressOf } from "./address.js";
 import { GREATEST_LIMIT, MOST, STATUS } from "./library.js";
 import { $, copy, cut, element, many, n, visible } from "./show.js";
 
@@ -58,6 +59,8 @@ export function card(name, number, options, { asksDetails, changes }) {
     ].filter(Boolean).join(" · ");
     part(".copy").onclick = ({ target }) => copy(target, name.text ?? name.word);
     part(".copy").setAttribute("aria-label", isRead ? "Copy this text" : "Copy this name");
+    part(".link").href = addressOf(name.word, options);
+    part(".link").setAttribute("aria-label", "A link to this name, as it is shown here");
     part(".raise").hidden = name.status !== STATUS.TOO_LONG || options.limit >= 1e9;
     part(".raise").onclick = () => changes("limit", Math.min(GREATEST_LIMIT, Math.max(1000, options.limit * 10)));
     const details = part("details");

@@ -1,4 +1,5 @@
 // The page: what is typed, pasted or dropped goes to the worker, and its answers are shown.
+import { fromAddress } from "./address.js";
 import { card, opensAtOnce, showDetails, why } from "./cards.js";
 import { endJob, failJob, finishJob, isCurrent, showProgress, startJob } from "./job.js";
 import { DEFAULT_LIMIT, GREATEST_LIMIT, STATUS } from "./library.js";
@@ -16,7 +17,7 @@ const EXAMPLE = `thread 'main' panicked at src/main.rs:12:
    5: _ZNSt6vectorIiSaIiEE9push_backEOi+0x2a
    6: _ZN4demo5cacheIPKcE6lookupERKNSt7__cxx1112basic_stringIcSt11char_traitsIcESaIcEEE
    7: _ZN4demo5paintEv.cold
-   8: _ZN4demo4mainS7_
+   8: _ZN4demo4mainES7_
    9: main
 ld: undefined reference to \`_ZTV6Widget'
 `;
@@ -230,14 +231,12 @@ function goTo(number) {
     it.querySelector(".copy").focus({ preventScroll: true });
 }
 
-/** Takes the name that a link has after its #, which browsers send to no server. */
+/** Takes the name that a link has after its #, with the options that it was shown with. */
 function takeFromAddress() {
-    if (!/^#_/.test(location.hash)) return;
-    try {
-        input.value = decodeURIComponent(location.hash.slice(1));
-    } catch {
-        return; // no UTF-8
-    }
+    const linked = fromAddress(location.hash);
+    if (!linked) return;
+    input.value = linked.word;
+    for (const [name, isChosen] of Object.entries(linked.options)) controls[name].checked = isChosen;
     ask();
 }
 
@@ -318,6 +317,8 @@ addEventListener("drop", (event) => {
 $("settings").open = matchMedia("(min-width: 48rem)").matches;
 takeFromAddress();
 addEventListener("hashchange", takeFromAddress);
+// where a browser keeps no files, the page works as long as it is online
+navigator.serviceWorker?.register("sw.js").catch(() => {});
 
 try {
     const response = await fetch("symdemangle.wasm");

@@ -55,7 +55,7 @@ static int lends(const void *bytes, size_t length)
         } while (symdemangle_again_of(&tries, (status)));     \
     } while (0)
 
-/* A proved call takes no null pointer: where there are no bytes, one that isn't touched stands in. */
+/* A proved call takes no null pointer: where there are no bytes, it gets one that isn't touched. */
 #define SOME(bytes, none) ((bytes) ? (bytes) : &(none))
 
 uint32_t symdemangle_text(const char *name, size_t name_length, uint32_t limit, uint32_t flags, char *buffer, size_t capacity,

@@ -21,7 +21,7 @@ void symdemangle_free(char *string)
     free(string);
 }
 
-/* A copy of so many bytes with a 0 after them. */
+/* A copy of this many bytes with a 0 after them. */
 static char *copy(const char *text, size_t length)
 {
     char *string = malloc(length + 1);

@@ -19,7 +19,7 @@
    What differs from the real ones:
    - The texts are this library's, and programs that take them apart may expect another's: `std::nullptr_t` for libstdc++'s
      `decltype(nullptr)`, a suffix as ` (.cold)` for ` [clone .cold]`.
-   - What the library refuses, with C++ by its wide grammar, is answered as a name that isn't mangled, so it is shown as it stands;
+   - What the library refuses, with C++ by its wide grammar, is answered as a name that isn't mangled, so it is shown as it is;
      so is a text that costs more than a million.
    - __cxa_demangle takes a type's name too (as `i`, `N2ns1AE` of std::type_info), one that the library reads as a typeinfo name;
      so does cplus_demangle with DMGL_TYPES (c++filt -t).

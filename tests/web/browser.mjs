@@ -5,20 +5,22 @@ import http from "node:http";
 import os from "node:os";
 import path from "node:path";
 
-const KINDS = { ".html": "text/html", ".css": "text/css", ".js": "text/javascript", ".wasm": "application/wasm", ".json": "application/json" };
+const KINDS = { ".html": "text/html", ".css": "text/css", ".js": "text/javascript", ".wasm": "application/wasm", ".json": "application/json", ".svg": "image/svg+xml", ".webmanifest": "application/manifest+json" };
 export const sleep = (ms) => new Promise((resolve) => setTimeout(resolve, ms));
 
-/** Serves a folder on this machine; `asked` has the first line of each request. */
+/** Serves a folder on this machine, until it is cut off; `asked` has the first line of each request. */
 export async function serve(folder) {
     const asked = [];
+    let isCutOff = false;
     const server = http.createServer((request, response) => {
+        if (isCutOff) return request.socket.destroy();
         asked.push(`${request.method} ${request.url}`);
         const file = path.join(folder, request.url === "/" ? "index.html" : path.normalize(new URL(request.url, "http://it").pathname));
         if (!fs.existsSync(file)) return response.writeHead(404).end();
         response.writeHead(200, { "Content-Type": KINDS[path.extname(file)] ?? "text/plain" }).end(fs.readFileSync(file));
     });
     await new Promise((resolve) => server.listen(0, "127.0.0.1", resolve));
-    return { address: `http://127.0.0.1:${server.address().port}/`, asked, close: () => server.close() };
+    return { address: `http://127.0.0.1:${server.address().port}/`, asked, cutOff(is) { isCutOff = is; }, close: () => server.close() };
 }
 
 /** Waits until a test holds; else it fails with these words. */

@@ -128,7 +128,7 @@ const steps = {
         const REFUSED = [
             ["_Z1fS9_", "Bad reference at offset 4. It refers to a part that the name doesn’t have before it.", "S (offset 4)"],
             ["_RNvC3foo3barX", "Incomplete. The name breaks off after 14 bytes: more has to follow.", " (the end)"],
-            ["__ZN4demo4mainS7_", "Malformed at offset 14. No name goes on with “S” there.", "S (offset 14)"],
+            ["__ZN4demo4mainY7_", "Malformed at offset 14. No name goes on with “Y” there.", "Y (offset 14)"],
             ["_Z2éY", "Malformed at offset 5. No name goes on with “Y” there.", "Y (offset 5)"],
             ["_Z1é", "Malformed at offset 4. No name goes on with “é” there.", "é (offset 4)"],
         ];
@@ -159,7 +159,7 @@ const steps = {
         const log = await browser.run(() => document.getElementById("input").value);
         await shows("#text", [demangled([], log).toString()]);
         await browser.run(() => document.querySelectorAll("#text a")[4].click());
-        await shows(".card.shown strong", ["Malformed at offset 13."]);
+        await shows(".card.shown strong", ["Bad reference at offset 14."]);
         await puts(`${log}${log}`);
         await until(async () => (await text("status")).startsWith("6 names in 12 places, 5 names demangled, 1 name refused"), "how many, and in how many places");
         wants((await said(".facts"))[0].endsWith("2 times"), "how often", await said(".facts"));
@@ -356,6 +356,35 @@ const steps = {
         await shows(".said", ["f(int)"]);
         await open("#_Z1f%ff");
         wants((await said("#intro")).length, "an address that is no UTF-8 is passed over");
+    },
+
+    async "a link to a name, with its options"() {
+        await open();
+        await puts(NAME);
+        await shows(".said", [TEXT]);
+        wants((await browser.run(() => document.querySelector(".link").getAttribute("href"))) === `#${NAME}`, "the link has the name");
+        await tick("short");
+        await shows(".said", ["demo::cache<char const*>::lookup(std::string const&)"]);
+        const link = await browser.run(() => document.querySelector(".link").getAttribute("href"));
+        wants(link === `#${NAME}&short`, "the link has the option", link);
+        await open(link);
+        await shows(".said", ["demo::cache<char const*>::lookup(std::string const&)"]);
+        await browser.run((hash) => { location.hash = hash; }, `${NAME}&brief`);
+        await shows(".said", ["demo::cache::lookup(std::__cxx11::basic_string const&)"]);
+        await open(`#${encodeURIComponent("_Z1f&short")}`);
+        const isWhole = () => browser.run(() => document.getElementById("input").value === "_Z1f&short" && !document.querySelector("[name=short]").checked);
+        await until(isWhole, "a name with an & is one name");
+    },
+
+    async "a page that was opened works offline"() {
+        await open();
+        await browser.run(() => navigator.serviceWorker.ready.then(() => true));
+        await open();
+        server.cutOff(true);
+        await open();
+        await puts(NAME);
+        await shows(".said", [TEXT]);
+        server.cutOff(false);
     },
 
     async "nothing was sent, and nothing complained"() {

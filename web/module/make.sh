@@ -57,6 +57,6 @@ for call in text filter count press message version; do calls+=("symdemangle_$ca
 wasm-opt --enable-memory64 --enable-bulk-memory --enable-sign-ext --enable-mutable-globals \
     --enable-nontrapping-float-to-int --memory64-lowering "$work/symdemangle64.wasm" -o "$out/symdemangle.wasm"
 
-cp web/*.html web/*.css web/*.js "$out/"
+cp web/*.html web/*.css web/*.js web/*.svg web/*.webmanifest "$out/"
 printf '{"proved": %s}\n' "$proved" >"$out/module.json"
 echo "$out: $(stat -c %s "$out/symdemangle.wasm") bytes of symdemangle.wasm"

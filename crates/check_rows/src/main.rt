@@ -18,6 +18,7 @@ mod rows;
 mod scripted;
 mod streams;
 mod trees;
+mod ways;
 
 use languages::AllLists;
 use rows::verdict_of;

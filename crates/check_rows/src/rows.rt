@@ -17,6 +17,7 @@ use crate::library::{
 use crate::row::{LIMIT, Row, TOO_LONG};
 use crate::streams::ask_long_word;
 use crate::trees::ask_tree;
+use crate::ways::ask_way;
 use rust_v0::{Detail, V0};
 use std::alloc::{AllocError, Global};
 use std::str;
@@ -398,6 +399,21 @@ fn of_tree(verdict: &mut Verdict, fields: &[&[u8]]) {
     }
 }
 
+/// Asks what a row `way` says. Its last field names the form of the symbol, for the page.
+fn of_way(verdict: &mut Verdict, fields: &[&[u8]]) {
+    let [grammar, detail, word, way, _form] = fields else {
+        verdict.require(false);
+        return;
+    };
+    match row_of(word) {
+        Some(row) => match detail_of(detail) {
+            Some(detail) => ask_way(verdict, grammar, row.s, detail, way),
+            None => verdict.require(false),
+        },
+        None => verdict.require(false),
+    }
+}
+
 /// How a program has to end by three fields.
 fn ending<'a>(verdict: &mut Verdict, status: &[u8], out: &'a [u8], err: &'a [u8]) -> Ending<'a> {
     let status = number(status);
@@ -499,6 +515,7 @@ fn of_other(
         b"press" => of_press(verdict, &mut lists.abi, fields),
         b"wide press" => of_wide_press(verdict, &mut lists.wide, fields),
         b"tree" => of_tree(verdict, fields),
+        b"way" => of_way(verdict, fields),
         _ => of_program(verdict, what, fields)?,
     }
     Ok(())

@@ -5,11 +5,13 @@ pub mod Full
 pub mod Inlines
 pub mod Laws
 pub mod Names
+pub mod Parts
 pub mod Patterns
 pub mod Plain
 pub mod Runs
 pub mod Short
 pub mod Starts
 pub mod Texts
+pub mod Usual
 pub mod Walk
 pub mod Writing

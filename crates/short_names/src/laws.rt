@@ -1,8 +1,11 @@
 // What follows from the definition of short texts.
-ghost use Rattle.std.specs.Prelude.{◌≡◌, ℕ, Bool, List};
+ghost use Rattle.std.specs.List.{list_all};
+ghost use Rattle.std.specs.Prelude.{◌≡◌, ◌++◌, ◌&&◌, ℕ, Bool, true, List, codes};
 ghost use Rattle.short_names.specs.Full.{full, full_rules, full_to};
 ghost use Rattle.short_names.specs.Laws.{AreAlike, HasNoRow, HasNoStd, IsNoLonger, KeepsFull, KeepsShort};
+ghost use Rattle.short_names.specs.Parts.{IsMade, is_simple_list, simple_names};
 ghost use Rattle.short_names.specs.Short.{short};
+ghost use Rattle.short_names.specs.Usual.{GoesOn, IsUsual, IsWhole};
 ghost use Rattle.short_names.specs.Walk.{Pairs};
 
 /// No short text is longer than its text.
@@ -29,4 +32,30 @@ pub fn texts_without_std_stay()
 pub fn texts_without_rows_stay()
     ensures stays { (text : List ℕ) → HasNoRow text → (short text ≡ text) × (full text ≡ text) }
     ensures laws { (text : List ℕ) → HasNoRow text → KeepsFull text × KeepsShort text }
+{}
+
+/// In a text that is made of parts of which each list is one of a template without usual names, by no allocator of `std::pmr`, short texts keep
+/// full ones, and full texts keep short ones.
+pub fn texts_of_lists_keep()
+    ensures laws { (text : List ℕ) → IsMade text → KeepsFull text × KeepsShort text }
+    ensures templates { list_all (λ name. is_simple_list (codes "std::" ++ name) && is_simple_list (codes "std::__1::" ++ name)) simple_names ≡ true }
+    ensures example { IsMade (codes "f(std::map<int, std::vector<g<long>>>&)") }
+{}
+
+/// So they do in a text that has usual names, or the lists in full that those are for, outside of its other lists, where neither a list comes
+/// after them nor a name, but one of a member that is no constructor. So two such texts have one short text exactly where they have one full text.
+pub fn texts_of_usual_names_keep()
+    ensures laws { (text : List ℕ) → IsWhole text → KeepsFull text × KeepsShort text }
+    ensures alike { (text other : List ℕ) → IsWhole text → IsWhole other → AreAlike text other }
+    ensures string { IsUsual (codes "std::string") (codes "std::basic_string<char, std::char_traits<char>, std::allocator<char>>") }
+    ensures member { (is : IsUsual (codes "std::string") (codes "std::basic_string<char, std::char_traits<char>, std::allocator<char>>"))
+        × GoesOn (codes "std::string") (codes "std::basic_string<char, std::char_traits<char>, std::allocator<char>>") (codes "::append") is.alias }
+    ensures inlined { IsUsual (codes "std::__cxx11::string") (codes "std::__cxx11::basic_string<char, std::char_traits<char>, std::allocator<char>>") }
+    ensures stream { IsUsual (codes "std::ostream") (codes "std::basic_ostream<char, std::char_traits<char>>") }
+{}
+
+/// Neither law is of every text whose brackets pair: an operator's name at the end of an element becomes another before the list's end.
+pub fn operators_keep_neither()
+    ensures full { KeepsFull (codes "std::ratio<operator, 1l>") → ⊥ }
+    ensures short { KeepsShort (codes "std::map<operator, int>") → ⊥ }
 {}

@@ -321,7 +321,7 @@ static enum answer check_row(bytes *fields, size_t count)
     } else if ((is(sort, "cut") || begins(sort, "put ")) && count >= 2) {
         check_changes(fields, count);
     } else {
-        return is(sort, "filter") || is(sort, "command") || is(sort, "demangle") ? NOT_HERE : UNKNOWN;
+        return is(sort, "filter") || is(sort, "command") || is(sort, "demangle") || is(sort, "way") ? NOT_HERE : UNKNOWN;
     }
     return CHECKED;
 }

@@ -398,7 +398,7 @@ static enum answer check_of_symfilt(bytes *fields, size_t count)
     } else if (is(sort, "command") && count == 5) {
         check_run(fields[1], fields[2], text_of(""), fields[3], fields[4]);
     } else {
-        return is(sort, "demangle") || is(sort, "tree") || is(sort, "oversize") ? NOT_HERE : UNKNOWN;
+        return is(sort, "demangle") || is(sort, "tree") || is(sort, "way") || is(sort, "oversize") ? NOT_HERE : UNKNOWN;
     }
     return CHECKED;
 }

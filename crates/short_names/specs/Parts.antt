@@ -1,0 +1,273 @@
+-- What a text is made of, and what is written for it part by part.
+use Rattle.std.specs.Prelude.{◌≡◌, ℕ, List, [], ◌∷◌, ◌++◌, ◌-◌, Bool, true, false, not, ◌==◌, ◌&&◌, ◌||◌, nat_eq, nat_le, length, get_or, codes, Option, None, Some, is_some, if◌then◌else◌}
+use Rattle.std.specs.Cmp.Lexicographic.{pointwise}
+use Rattle.std.specs.List.{starts_with, list_all}
+use Rattle.short_names.specs.declared.table.TheConstants.{ALIASES}
+use Rattle.short_names.specs.declared.table.Alias.{Alias}
+use Rattle.short_names.specs.declared.names.Named.{Named}
+use Rattle.short_names.specs.Elements.{listed, aliases_of, default_pattern, defaults_of, is_polymorphic}
+use Rattle.short_names.specs.Full.{pmr_in}
+use Rattle.short_names.specs.Full as whole
+use Rattle.short_names.specs.Names.{StdName, named_in, std_name}
+use Rattle.short_names.specs.Patterns.{filled}
+use Rattle.short_names.specs.Runs.{ends_operator, is_letter, is_name_byte}
+use Rattle.short_names.specs.Short.{for_list}
+use Rattle.short_names.specs.Texts.{text_of}
+use Rattle.short_names.specs.Walk.{is_closing, is_opening}
+
+-- Parts of a text, one after the other: names, other bytes, brackets with what they hold, and lists.
+mutual
+  pub data Parts : Type 0 where
+    ends : Parts
+    name_then : (name : List ℕ) → (rest : Parts) → Parts
+    byte_then : (byte : ℕ) → (rest : Parts) → Parts
+    group_then : (opening : ℕ) → (inner : Parts) → (closing : ℕ) → (rest : Parts) → Parts
+    -- a list, with the name of the table before it, or with no bytes before it
+    list_then : (name : List ℕ) → (elements : Elements) → (rest : Parts) → Parts
+
+  pub data Elements : Type 0 where
+    no_more : Elements
+    element_then : (element : Parts) → (others : Elements) → Elements
+
+-- What is written for parts, by what is written for a name and its elements.
+unfoldable mutual
+  pub written : (for_list : List ℕ → List (List ℕ) → List ℕ) → Parts → List ℕ
+  written for_list ends = []
+  written for_list (name_then name rest) = name ++ written for_list rest
+  written for_list (byte_then byte rest) = byte ∷ written for_list rest
+  written for_list (group_then opening inner closing rest) = opening ∷ written for_list inner ++ closing ∷ written for_list rest
+  written for_list (list_then name elements rest) = for_list name (each_written for_list elements) ++ written for_list rest
+
+  pub each_written : (for_list : List ℕ → List (List ℕ) → List ℕ) → Elements → List (List ℕ)
+  each_written for_list no_more = []
+  each_written for_list (element_then element others) = written for_list element ∷ each_written for_list others
+
+-- a list as it is
+abbrev pub as_it_is : List ℕ → List (List ℕ) → List ℕ
+as_it_is name elements = name ++ listed elements
+
+-- The text of parts.
+abbrev pub text_from : Parts → List ℕ
+text_from parts = written as_it_is parts
+
+-- ## Names
+
+abbrev pub is_bare : List ℕ → Bool
+is_bare [] = true
+is_bare (byte ∷ name) = false
+
+-- it begins with no usual name, whatever follows it
+unfoldable pub has_no_usual : List ℕ → Bool
+has_no_usual name = list_all (λ row. not (starts_with nat_eq name (text_of row.name)) || is_letter (get_or name (length (text_of row.name)) 0)) ALIASES
+
+abbrev pub is_no_usual : Option StdName → Bool
+is_no_usual None = true
+is_no_usual (Some std) = has_no_usual std.name
+
+-- a name that is none of the table, whatever follows it
+unfoldable pub is_other : List ℕ → Bool
+is_other name = not (is_bare name) && (list_all is_name_byte name && (not (is_some (named_in name)) && (not (is_some (pmr_in name)) && is_no_usual (std_name name))))
+
+-- ## Lists
+
+-- the name of a list that rules may change
+abbrev pub is_named : List ℕ → Bool
+is_named name = not (is_bare name) && (list_all is_name_byte name && is_some (named_in name))
+
+-- ## Parts within lists
+
+abbrev pub is_end : Parts → Bool
+is_end ends = true
+is_end (name_then name rest) = false
+is_end (byte_then byte rest) = false
+is_end (group_then opening inner closing rest) = false
+is_end (list_then name elements rest) = false
+
+-- parts begin with a byte of a name
+abbrev pub begins_name : Parts → Bool
+begins_name ends = false
+begins_name (name_then name rest) = true
+begins_name (byte_then byte rest) = false
+begins_name (group_then opening inner closing rest) = false
+begins_name (list_then name elements rest) = not (is_bare name)
+
+abbrev pub has_some : Elements → Bool
+has_some no_more = false
+has_some (element_then element others) = true
+
+-- a bracket that opens none of a list
+abbrev pub opens_group : ℕ → Bool
+opens_group byte = byte == 40 || (byte == 91 || byte == 123)
+
+-- A byte of no name that is no bracket, and no comma directly within a list. What comes after `-` is in the same brackets.
+abbrev pub is_between_names : (in_list : Bool) → ℕ → Parts → Bool
+is_between_names in_list byte rest =
+    not (is_name_byte byte) && (not (is_opening byte) && (not (byte == 62) && (not (is_closing byte) && (not (in_list && byte == 44) && not (byte == 45 && is_end rest)))))
+
+-- Parts that stay apart where they are within a list, or within other brackets: no two names are side by side, none ends with the word
+-- `operator`, and each name before a list is one that may have a list.
+unfoldable mutual
+  pub are_apart : (is_list : List ℕ → Bool) → (in_list : Bool) → Parts → Bool
+  are_apart is_list in_list ends = true
+  are_apart is_list in_list (name_then name rest) = (is_other name && not (ends_operator name)) && (not (begins_name rest) && are_apart is_list in_list rest)
+  are_apart is_list in_list (byte_then byte rest) = is_between_names in_list byte rest && are_apart is_list in_list rest
+  are_apart is_list in_list (group_then opening inner closing rest) = opens_group opening && (is_closing closing && (are_apart is_list false inner && are_apart is_list in_list rest))
+  are_apart is_list in_list (list_then name elements rest) = (is_bare name || is_list name) && (has_some elements && (each_apart is_list elements && are_apart is_list in_list rest))
+
+  pub each_apart : (is_list : List ℕ → Bool) → Elements → Bool
+  each_apart is_list no_more = true
+  each_apart is_list (element_then element others) = are_apart is_list true element && each_apart is_list others
+
+-- ## Parts of a whole text
+
+-- Parts that stay apart outside of brackets: there only lists that rules may change are lists.
+unfoldable pub are_outside : (is_list : List ℕ → Bool) → Parts → Bool
+are_outside is_list ends = true
+are_outside is_list (name_then name rest) = is_other name && (not (begins_name rest) && are_outside is_list rest)
+are_outside is_list (byte_then byte rest) = not (is_name_byte byte) && are_outside is_list rest
+are_outside is_list (group_then opening inner closing rest) = false
+are_outside is_list (list_then name elements rest) = is_list name && (has_some elements && (each_apart is_list elements && are_outside is_list rest))
+
+-- parts don't end with a name
+unfoldable pub ends_apart : Parts → Bool
+ends_apart ends = true
+ends_apart (name_then name rest) = not (is_end rest) && ends_apart rest
+ends_apart (byte_then byte rest) = ends_apart rest
+ends_apart (group_then opening inner closing rest) = ends_apart rest
+ends_apart (list_then name elements rest) = ends_apart rest
+
+-- every list within parts passes a test
+unfoldable mutual
+  pub all_lists : (test : List ℕ → Elements → Bool) → Parts → Bool
+  all_lists test ends = true
+  all_lists test (name_then name rest) = all_lists test rest
+  all_lists test (byte_then byte rest) = all_lists test rest
+  all_lists test (group_then opening inner closing rest) = all_lists test inner && all_lists test rest
+  all_lists test (list_then name elements rest) = test name elements && (all_lists_in test elements && all_lists test rest)
+
+  pub all_lists_in : (test : List ℕ → Elements → Bool) → Elements → Bool
+  all_lists_in test no_more = true
+  all_lists_in test (element_then element others) = all_lists test element && all_lists_in test others
+
+-- ## Forms of defaults
+
+-- a name, and a list of one argument after it
+abbrev pub with_argument : (name : List ℕ) → Parts → Parts
+with_argument name argument = name_then name (list_then [] (element_then argument no_more) ends)
+
+abbrev pub first : Parts
+first = byte_then 0 ends
+
+abbrev pub second : Parts
+second = byte_then 1 ends
+
+-- Forms of the defaults that have no list of the table within: bytes 0 to 2 are the holes of patterns.
+unfoldable pub forms : List Parts
+forms =
+    with_argument (2 ∷ codes "less") first ∷ with_argument (2 ∷ codes "allocator") first ∷ with_argument (2 ∷ codes "char_traits") first ∷ with_argument (2 ∷ codes "char_traits") second
+    ∷ with_argument (2 ∷ codes "hash") first ∷ with_argument (2 ∷ codes "equal_to") first ∷ with_argument (2 ∷ codes "default_delete") first ∷ with_argument (2 ∷ codes "default_accessor") first
+    ∷ with_argument (2 ∷ codes "regex_traits") first ∷ with_argument (2 ∷ codes "allocator") (with_argument (2 ∷ codes "sub_match") first)
+    ∷ with_argument (2 ∷ codes "allocator") (name_then (2 ∷ codes "pair") (list_then []
+    (element_then (byte_then 0 (byte_then 32 (name_then (codes "const") ends))) (element_then second no_more)) ends))
+    ∷ name_then (2 ∷ codes "layout_right") ends ∷ name_then (2 ∷ codes "unreachable_sentinel_t") ends
+    ∷ name_then (codes "long") ends ∷ name_then (codes "char") ends ∷ name_then (codes "void") ends ∷ name_then (codes "false") ends ∷ name_then (codes "1l") ends
+    ∷ name_then (codes "18446744073709551615ul") ends ∷ byte_then 1 (byte_then 42 ends) ∷ byte_then 1 (byte_then 38 ends) ∷ []
+
+-- the form whose text a pattern is; none where there is none
+unfoldable pub form_in : List Parts → (pattern : List ℕ) → Option Parts
+form_in [] pattern = None
+form_in (form ∷ others) pattern = if pointwise nat_eq (text_from form) pattern then Some form else form_in others pattern
+
+-- a byte that is no hole for an argument
+abbrev pub is_no_hole : ℕ → Bool
+is_no_hole byte = not (byte == 0) && not (byte == 1)
+
+abbrev pub begins_hole : Parts → Bool
+begins_hole ends = false
+begins_hole (name_then name rest) = false
+begins_hole (byte_then byte rest) = not (is_no_hole byte)
+begins_hole (group_then opening inner closing rest) = false
+begins_hole (list_then name elements rest) = false
+
+-- The parts of a form stay apart, whatever is in its holes, where a `std::` is in its own.
+unfoldable mutual
+  pub is_form : (whole : List ℕ) → Parts → Bool
+  is_form whole ends = true
+  is_form whole (name_then name rest) =
+      (list_all is_no_hole name && (is_other (filled [] [] whole name) && not (ends_operator (filled [] [] whole name)))) && (not (begins_name rest) && (not (begins_hole rest) && is_form whole rest))
+  is_form whole (byte_then byte rest) =
+      (if is_no_hole byte then nat_le 4 byte && (is_between_names true byte rest && not (byte == 45)) else not (begins_name rest) && not (begins_hole rest)) && is_form whole rest
+  is_form whole (group_then opening inner closing rest) = false
+  is_form whole (list_then name elements rest) = is_bare name && (has_some elements && (are_forms whole elements && is_form whole rest))
+
+  pub are_forms : (whole : List ℕ) → Elements → Bool
+  are_forms whole no_more = true
+  are_forms whole (element_then element others) = is_form whole element && are_forms whole others
+
+abbrev pub is_some_form : (whole : List ℕ) → Option Parts → Bool
+is_some_form whole None = false
+is_some_form whole (Some form) = is_form whole form
+
+-- a pattern is of one of the forms
+unfoldable pub has_form : (whole pattern : List ℕ) → Bool
+has_form whole pattern = length pattern == 0 || is_some_form whole (form_in forms pattern)
+
+-- ## Templates without usual names
+
+-- two patterns differ in the first byte after `std::`
+abbrev pub differ_early : (pattern other : List ℕ) → Bool
+differ_early (a ∷ b ∷ pattern) (c ∷ d ∷ other) = a == 2 && (c == 2 && (nat_le 4 b && (nat_le 4 d && not (b == d))))
+differ_early _ _ = false
+
+abbrev pub is_empty : List Alias → Bool
+is_empty [] = true
+is_empty (alias ∷ others) = false
+
+-- A name of the table without usual names, whose defaults have no list of the table within. The first argument has no default, that of the second
+-- hasn't itself in it, and the last isn't the allocator of `std::pmr`.
+unfoldable pub is_simple : Option Named → Bool
+is_simple None = false
+is_simple (Some named) =
+    is_empty (aliases_of named)
+    && (list_all (λ place. has_form (text_of named.whole) (text_of place)) (defaults_of named.template)
+    && (length (default_pattern named 0) == 0
+    && (list_all (λ byte. not (byte == 1)) (default_pattern named 1)
+    && (length (text_of named.template.polymorphic) == 0 || differ_early (default_pattern named (named.template.count - 1)) (text_of named.template.polymorphic)))))
+
+-- The name of a list of a template without usual names.
+unfoldable pub is_simple_list : List ℕ → Bool
+is_simple_list name = not (is_bare name) && (list_all is_name_byte name && is_simple (named_in name))
+
+-- the names of these templates
+unfoldable pub simple_names : List (List ℕ)
+simple_names =
+    codes "basic_ispanstream" ∷ codes "basic_ospanstream" ∷ codes "basic_osyncstream" ∷ codes "basic_spanbuf" ∷ codes "basic_spanstream" ∷
+    codes "basic_syncbuf" ∷ codes "deque" ∷ codes "formatter" ∷ codes "forward_list" ∷ codes "generator" ∷ codes "istream_iterator" ∷
+    codes "istreambuf_iterator" ∷ codes "iterator" ∷ codes "list" ∷ codes "map" ∷ codes "match_results" ∷ codes "mdspan" ∷ codes "moneypunct" ∷
+    codes "moneypunct_byname" ∷ codes "multimap" ∷ codes "multiset" ∷ codes "ostream_iterator" ∷ codes "ostreambuf_iterator" ∷
+    codes "ranges::basic_istream_view" ∷ codes "ranges::iota_view" ∷ codes "ratio" ∷ codes "set" ∷ codes "span" ∷ codes "unique_ptr" ∷
+    codes "unordered_map" ∷ codes "unordered_multimap" ∷ codes "unordered_multiset" ∷ codes "unordered_set" ∷ codes "vector" ∷ []
+
+-- what is written for a list in a short text, where nothing of what follows matters
+unfoldable pub short_bytes : List ℕ → List (List ℕ) → List ℕ
+short_bytes name elements = (for_list (named_in name) name elements []).bytes
+
+-- and in a full text
+unfoldable pub full_bytes : (inner : List ℕ → List ℕ) → List ℕ → List (List ℕ) → List ℕ
+full_bytes inner name elements = (whole.for_list inner name elements (named_in name)).bytes
+
+-- the last of the elements of a list isn't the allocator of `std::pmr`
+abbrev pub is_none_of_pmr : Option Named → (elements : List (List ℕ)) → Bool
+is_none_of_pmr None elements = true
+is_none_of_pmr (Some named) elements = not (is_polymorphic named elements)
+
+unfoldable pub has_no_pmr : List ℕ → Elements → Bool
+has_no_pmr name elements = is_none_of_pmr (named_in name) (each_written short_bytes elements)
+
+-- A text is made of parts of which each list is one of a template of the table without usual names, by another allocator than that of
+-- `std::pmr`; within such a list any list may be, and other brackets. Its other names are none of the table.
+pub record IsMade (text : List ℕ) : Type 0 where
+  pub parts : Parts
+  pub text_is : text ≡ text_from parts
+  pub apart : are_outside is_simple_list parts ≡ true
+  pub no_pmr : all_lists has_no_pmr parts ≡ true

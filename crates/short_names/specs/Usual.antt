@@ -1,0 +1,127 @@
+-- Texts with usual names outside of lists, or with the lists that those are for.
+use Rattle.std.specs.Prelude.{◌≡◌, codes, drop, nat_le, ℕ, List, [], ◌++◌, ◌+◌, ◌-◌, Bool, true, false, not, ◌==◌, ◌&&◌, ◌||◌, nat_eq, length, get_or, take, Some, is_some, if◌then◌else◌}
+use Rattle.std.specs.List.{starts_with, list_all}
+use Rattle.short_names.specs.declared.table.Alias.{Alias}
+use Rattle.short_names.specs.declared.table.TheConstants.{ALIASES}
+use Rattle.short_names.specs.declared.names.Named.{Named}
+use Rattle.short_names.specs.Elements.{alias_in, aliases_of, left}
+use Rattle.short_names.specs.Full.{full_to, instance, pmr_in, usual_in}
+use Rattle.short_names.specs.Names.{StdName, class_of, last_part, named_in, std_name}
+use Rattle.short_names.specs.Parts.{Parts, ends, name_then, byte_then, group_then, list_then, Elements, each_written, as_it_is, are_outside, all_lists, has_no_pmr, ends_apart, each_apart, has_some, is_bare, is_end, is_other, begins_name, is_simple_list, short_bytes, full_bytes, written}
+use Rattle.short_names.specs.Runs.{is_letter, is_name_byte}
+use Rattle.short_names.specs.Short.{before_name}
+use Rattle.short_names.specs.Texts.{text_of}
+
+-- each usual name with which a name begins is that name, or a letter comes after it
+unfoldable pub is_only : List Alias → List ℕ → Bool
+is_only rows name =
+    list_all (λ row. not (starts_with nat_eq name (text_of row.name)) || (is_letter (get_or name (length (text_of row.name)) 0) || length name == length (text_of row.name))) rows
+
+-- A usual name, and the list in full that it is for.
+pub record IsUsual (name list : List ℕ) : Type 0 where
+  pub std : StdName
+  pub alias : Alias
+  -- the name of the template, its row, and all arguments
+  pub run : List ℕ
+  pub named : Named
+  pub elements : Elements
+  -- the full text of the name is the list
+  pub std_is : std_name name ≡ Some std
+  pub bytes : (not (is_bare name) && list_all is_name_byte name) ≡ true
+  pub none_named : (is_some (named_in name) || is_some (pmr_in name)) ≡ false
+  pub only : is_only ALIASES std.name ≡ true
+  pub alias_is : usual_in ALIASES std.name (std.name ++ []) ≡ Some alias
+  pub size_is : length name - length std.name + length (text_of alias.name) ≡ length name
+  pub list_is : full_to 3 (take (length name - length std.name) name ++ instance std alias) ≡ list
+  -- the list stays in full texts, and its short text is the name
+  pub list_from : list ≡ as_it_is run (each_written as_it_is elements)
+  pub run_bytes : (not (is_bare run) && list_all is_name_byte run) ≡ true
+  pub named_is : named_in run ≡ Some named
+  pub apart : (has_some elements && each_apart is_simple_list elements) ≡ true
+  pub whole : full_bytes (full_to 3) run (each_written (full_bytes (full_to 3)) elements) ≡ list
+  pub found : alias_in (aliases_of named) named (each_written short_bytes elements) (left named (each_written short_bytes elements)) ≡ Some alias
+  pub short : before_name named run ++ text_of alias.name ≡ name
+
+-- a text doesn't begin with a name
+abbrev pub is_no_front : (name text : List ℕ) → Bool
+is_no_front name text = list_all is_name_byte name && not (starts_with nat_eq text name)
+
+-- each usual name with which a name begins has the first bytes of it, a number of them, before a member that is no constructor, or a letter comes after it
+unfoldable pub is_only_before : List Alias → (size : ℕ) → List ℕ → Bool
+is_only_before rows size name =
+    list_all (λ row. not (starts_with nat_eq name (text_of row.name))
+    || (is_letter (get_or name (length (text_of row.name)) 0) || (length (text_of row.name) == size && is_no_front (last_part (text_of row.template)) (drop (size + 2) name)))) rows
+
+-- A usual name goes on with the name of a member that is no constructor.
+pub record GoesOn (name list member : List ℕ) (alias : Alias) : Type 0 where
+  pub std : StdName
+  pub front : List ℕ
+  pub is_member : is_other member ≡ true
+  pub colons : starts_with nat_eq member (codes "::") ≡ true
+  pub long : nat_le 3 (length member) ≡ true
+  pub not_own : is_no_front (last_part (text_of alias.template)) (drop 2 member) ≡ true
+  pub not_class : is_no_front (class_of alias) (drop 2 member) ≡ true
+  pub std_is : std_name (name ++ member) ≡ Some std
+  pub name_is : std.name ≡ front ++ member
+  pub none_named : (is_some (named_in (name ++ member)) || is_some (pmr_in (name ++ member))) ≡ false
+  pub only : is_only_before ALIASES (length front) std.name ≡ true
+  pub alias_is : usual_in ALIASES std.name (std.name ++ []) ≡ Some alias
+  pub size_is : length (name ++ member) - length std.name + length (text_of alias.name) ≡ length name
+  pub list_is : full_to 3 (take (length (name ++ member) - length std.name) (name ++ member) ++ instance std alias) ≡ list
+
+-- Parts of a text, and between them usual names or the lists that those are for.
+pub data Whole : Type 0 where
+  last_parts : (parts : Parts) → Whole
+  usual_then : (parts : Parts) → (is_list : Bool) → (name list : List ℕ) → (rest : Whole) → Whole
+  -- and the name of a member after it
+  member_then : (parts : Parts) → (is_list : Bool) → (name list member : List ℕ) → (rest : Whole) → Whole
+
+-- what is written for it
+unfoldable pub whole_written : (for_list : List ℕ → List (List ℕ) → List ℕ) → (usual : Bool → (name list : List ℕ) → List ℕ) → Whole → List ℕ
+whole_written for_list usual (last_parts parts) = written for_list parts
+whole_written for_list usual (usual_then parts is_list name list rest) = written for_list parts ++ (usual is_list name list ++ whole_written for_list usual rest)
+whole_written for_list usual (member_then parts is_list name list member rest) =
+    written for_list parts ++ (usual is_list name list ++ (member ++ whole_written for_list usual rest))
+
+-- a usual name or its list, as it is
+abbrev pub one_of : Bool → (name list : List ℕ) → List ℕ
+one_of is_list name list = if is_list then list else name
+
+-- neither a byte of a name nor a list comes first
+abbrev pub begins_free : Parts → (at_end : Bool) → Bool
+begins_free ends at_end = at_end
+begins_free (name_then name rest) at_end = false
+begins_free (byte_then byte rest) at_end = not (byte == 60)
+begins_free (group_then opening inner closing rest) at_end = false
+begins_free (list_then name elements rest) at_end = false
+
+abbrev pub is_free : Whole → Bool
+is_free (last_parts parts) = begins_free parts true
+is_free (usual_then parts is_list name list rest) = begins_free parts false
+is_free (member_then parts is_list name list member rest) = begins_free parts false
+
+-- no byte of a name comes first
+abbrev pub comes_apart : Whole → Bool
+comes_apart (last_parts parts) = not (begins_name parts)
+comes_apart (usual_then parts is_list name list rest) = not (begins_name parts) && not (is_end parts)
+comes_apart (member_then parts is_list name list member rest) = not (begins_name parts) && not (is_end parts)
+
+-- The parts stay apart, and no usual name goes on but with the name of a member.
+unfoldable pub AreApart : Whole → Type 0
+AreApart (last_parts parts) = are_outside is_simple_list parts ≡ true
+AreApart (usual_then parts is_list name list rest) =
+    (are_outside is_simple_list parts ≡ true) × (ends_apart parts ≡ true) × IsUsual name list × (is_free rest ≡ true) × AreApart rest
+AreApart (member_then parts is_list name list member rest) =
+    (are_outside is_simple_list parts ≡ true) × (ends_apart parts ≡ true) × ((usual : IsUsual name list) × GoesOn name list member usual.alias) × (comes_apart rest ≡ true) × AreApart rest
+
+unfoldable pub none_of_pmr : Whole → Bool
+none_of_pmr (last_parts parts) = all_lists has_no_pmr parts
+none_of_pmr (usual_then parts is_list name list rest) = all_lists has_no_pmr parts && none_of_pmr rest
+none_of_pmr (member_then parts is_list name list member rest) = all_lists has_no_pmr parts && none_of_pmr rest
+
+-- A text is made of such parts, usual names and lists.
+pub record IsWhole (text : List ℕ) : Type 0 where
+  pub whole : Whole
+  pub text_is : text ≡ whole_written as_it_is one_of whole
+  pub apart : AreApart whole
+  pub no_pmr : none_of_pmr whole ≡ true
