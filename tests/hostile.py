@@ -5,15 +5,23 @@
 
 Each word has 100 to 400 bytes and denotes a text of more than a million, or of some ten thousands. A program that prints up to
 the limit before it refuses takes 26 to 74 times as long at the default limit as at one of 5,000; it may take eight times.
+
+Then all these words are one input, for which the program takes at most 30 MB at any time, and at most 50 MB where words as long
+as it reads are among them.
 """
+import os
 import resource
 import subprocess
 import sys
+import tempfile
 
 MOST = 8.0
 RUNS = 5
 WORDS = 40
 LOW = "5000"
+LONGEST = 65_536
+MOST_KILOBYTES = 30_000
+MOST_WITH_LONG_WORDS = 50_000
 DIGITS = "0123456789abcdefghijklmnopqrstuvwxyzABCDEFGHIJKLMNOPQRSTUVWXYZ"
 
 
@@ -104,6 +112,34 @@ def seconds(program, options, text):
     return least
 
 
+def long_words():
+    """Words of as many bytes as the program reads, that have many rows, nodes or levels."""
+    half, quarter, fifth = LONGEST // 2 - 20, LONGEST // 4 - 20, LONGEST // 5 - 20
+    return [
+        "_Z1f" + "P" * 2 * half + "i",
+        "_Z1f" + "i" * 2 * half,
+        "_ZN" + "1a" * half + "E",
+        "_Z1f" + "1AI" * quarter + "i" + "E" * quarter,
+        "_Z1f" + "PF" * quarter + "v" + "E" * quarter,
+        "_Z1fIJ" + "i" * half + "EEvDp" + "P" * half + "T_",
+        "_RNv" + "Nv" * fifth + "C1a" + "1a" * fifth + "1f",
+        "_RINvC1a1f" + "T" * half + "E" * half + "E",
+    ]
+
+
+def kilobytes(program, options, text):
+    """The most memory that a run over the text has at once."""
+    with tempfile.TemporaryFile() as file:
+        file.write(text)
+        file.seek(0)
+        run = subprocess.Popen([program, *options], stdin=file, stdout=subprocess.DEVNULL)
+        _, status, used = os.wait4(run.pid, 0)
+        run.returncode = os.waitstatus_to_exitcode(status)
+    if run.returncode != 0:
+        sys.exit(f"{program} ended with {run.returncode}")
+    return used.ru_maxrss
+
+
 def main():
     if len(sys.argv) != 2:
         sys.exit(__doc__)
@@ -117,10 +153,20 @@ def main():
             times = whole / max(low, 4e-3)
             if times > MOST:
                 slow.append(f"{name} {' '.join(options)}: {times:.0f} times".replace(" :", ":"))
-    for line in slow:
+    words = [word for word in families().values() for _ in range(WORDS)]
+    large = []
+    for what, most, text in (
+        ("words that double", MOST_KILOBYTES, words),
+        ("long words", MOST_WITH_LONG_WORDS, words + long_words() * 5),
+    ):
+        lines = "".join(f"{word}\n" for word in text).encode()
+        took = max(kilobytes(program, options, lines) for options in ([], ["--brief"], ["-p"], ["--json"]))
+        if took > most:
+            large.append(f"{what}: {took} KB, where {most} are allowed")
+    for line in slow + large:
         print(line)
-    print(f"{len(families())} words in three ways, {len(slow)} slow")
-    sys.exit(1 if slow else 0)
+    print(f"{len(families())} words in three ways, {len(slow)} slow; {len(large)} of two inputs take too much memory")
+    sys.exit(1 if slow or large else 0)
 
 
 if __name__ == "__main__":

@@ -66,6 +66,12 @@ int main()
     is(pressed("_ZN3foo3barEN3foo3bazE"), "_ZN3foo3barENS_3bazE", "pressed");
     is(pressed("_Z1fS_", &why), std::nullopt, "no pressed spelling");
     is(why.offset, 4u, "why it isn't pressed");
+    if (!is_older) {
+        is(pressed("_ZN1AC4Ev"), std::nullopt, "a form that is pressed by the wide grammar alone");
+        is(pressed("_ZN1AC4Ev", symdemangle::options{}), "_ZN1AC4Ev", "pressed by the wide grammar");
+        is(pressed("_Z1fIiEDTstT_ES0_", symdemangle::options{}, &why), std::nullopt, "read, and no pressed spelling yet");
+        is(why.status, static_cast<unsigned>(SYMDEMANGLE_NO_SPELLING), "why it has none");
+    }
     auto work = counted("_RNvMC3fooINtB2_1AhE3baz");
     is(work && work->rows == 18 && work->nodes == 11 && work->steps == 56, true, "counts");
     is(counted("_R").has_value(), false, "no counts");

@@ -85,8 +85,8 @@ export function filterText(text, options = {}) {
 }
 
 /** The spelling of a name in which each part that repeats is a reference; Refused says why there is none. */
-export function press(name) {
-    return decoder.decode(answered(library.press(bytesOf(name), FLAG.UNDERSCORE)).bytes);
+export function press(name, { wide = false } = {}) {
+    return decoder.decode(answered(library.press(bytesOf(name), FLAG.UNDERSCORE | (wide ? FLAG.WIDE : 0))).bytes);
 }
 
 /** The work that reading a name takes; Refused says why it isn't read. */

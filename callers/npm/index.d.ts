@@ -52,8 +52,8 @@ export function filterText(text: string, options?: Options): string;
 /** The same of bytes, and how many such words there were. */
 export function filterBytes(text: string | Uint8Array, options?: Options): { bytes: Uint8Array; tally: Tally };
 /** The spelling of a name in which each part that repeats is a reference, so that different spellings of the same symbol become equal;
- *  throws Refused where there is none. */
-export function press(name: string | Uint8Array): string;
+ *  throws Refused where there is none. With `wide` newer and rarer C++ forms are spelled, too, as far as they have a spelling. */
+export function press(name: string | Uint8Array, options?: { wide?: boolean }): string;
 /** The work that reading a name takes; throws Refused where it isn't read. */
 export function counts(name: string | Uint8Array, options?: { wide?: boolean }): Counts;
 /** The library's version, as "0.1.0". */

@@ -3,7 +3,7 @@ import { Refused, counts, demangle, demangleAll, filterBytes, filterText, press,
 
 const options: Options = { brief: true, limit: 25_000 };
 const texts: string[] = demangleAll(["_Z1fv", new Uint8Array()], options);
-const all: string = demangle("_Z1fv") + tryDemangle("_Z1fv", options) + filterText("_Z1fv") + press("_Z1fv") + version() + texts.join();
+const all: string = demangle("_Z1fv") + tryDemangle("_Z1fv", options) + filterText("_Z1fv") + press("_Z1fv") + press("_Z1fv", { wide: true }) + version() + texts.join();
 const { bytes, tally } = filterBytes(all);
 const steps: number = counts("_Z1fv", { wide: false }).steps + tally.words + bytes.length;
 try {

@@ -85,6 +85,8 @@ pub enum Error {
     TooManyBytes,
     /// It begins as no symbol does.
     NoSymbol,
+    /// It is read, and has no pressed spelling yet.
+    NoSpelling,
     /// The library that was linked is older than an option that was asked for. No option of this version is answered so: over a library
     /// that doesn't know [`Options::within`] or [`Options::types`], calls do without.
     OlderLibrary,
@@ -100,6 +102,7 @@ impl fmt::Display for Error {
             Error::Memory => f.write_str("out of memory"),
             Error::TooManyBytes => f.write_str("more than 16777216 bytes"),
             Error::NoSymbol => f.write_str("not a symbol"),
+            Error::NoSpelling => f.write_str("no spelling yet"),
             Error::OlderLibrary => f.write_str("the library is too old for an option"),
         }
     }
@@ -395,9 +398,19 @@ pub fn filter_into(text: &[u8], options: Options, buffer: &mut Vec<u8>) -> Resul
 ///
 /// # Errors
 ///
-/// Every [`Error`] but [`Error::TooLong`].
+/// Every [`Error`] but [`Error::TooLong`] and [`Error::NoSpelling`].
 pub fn press_into(name: &[u8], buffer: &mut Vec<u8>) -> Result<(), Error> {
-    write_into(buffer, |buffer| library::press(name, buffer))
+    write_into(buffer, |buffer| library::press(name, false, buffer))
+}
+
+/// Puts the pressed spelling of a name into `buffer`, as [`press_into`] does, with C++ symbols read by the wide grammar: newer and rarer
+/// forms are spelled, too, as far as they have a spelling.
+///
+/// # Errors
+///
+/// Every [`Error`] but [`Error::TooLong`].
+pub fn press_wide_into(name: &[u8], buffer: &mut Vec<u8>) -> Result<(), Error> {
+    write_into(buffer, |buffer| library::press(name, true, buffer))
 }
 
 /// The work that reading a name takes, which no limit bounds. Of the options the grammar alone says anything here.

@@ -42,6 +42,7 @@ impl Status {
             7 => Err(Error::TooManyBytes),
             8 => Err(Error::OlderLibrary),
             11 => Err(Error::NoSymbol),
+            12 => Err(Error::NoSpelling),
             other => unreachable!("status {other}"),
         }
     }
@@ -95,6 +96,7 @@ unsafe extern "C" {
     ) -> Status;
 }
 
+const WIDE: u32 = 4;
 const UNDERSCORE: u32 = 16;
 const ASCII_WORDS: u32 = 32;
 const WITHIN: u32 = 64;
@@ -107,7 +109,7 @@ fn flags(options: Options) -> u32 {
     let flag = |is_set, flag| if is_set { flag } else { 0 };
     flag(options.brief, 1)
         | flag(options.no_parameters, 2)
-        | flag(options.wide, 4)
+        | flag(options.wide, WIDE)
         | flag(options.legacy, 8)
         | UNDERSCORE
         | flag(options.types, TYPES)
@@ -201,13 +203,14 @@ pub fn count(name: &[u8], options: Options, counts: &mut Counts) -> Outcome {
     outcome
 }
 
-pub fn press(name: &[u8], buffer: &mut [u8]) -> Outcome {
+pub fn press(name: &[u8], wide: bool, buffer: &mut [u8]) -> Outcome {
     let mut outcome = Outcome::default();
+    let flags = if wide { UNDERSCORE | WIDE } else { UNDERSCORE };
     unsafe {
         symdemangle_press(
             name.as_ptr(),
             name.len(),
-            UNDERSCORE,
+            flags,
             buffer.as_mut_ptr(),
             buffer.len(),
             &mut outcome,

@@ -1,5 +1,6 @@
 use symdemangle::{
-    Counts, Error, Options, Tally, counts, demangle, demangle_bytes, demangle_into, filter_into, for_each_text, press_into, try_demangle,
+    Counts, Error, Options, Tally, counts, demangle, demangle_bytes, demangle_into, filter_into, for_each_text, press_into, press_wide_into,
+    try_demangle,
 };
 
 /// Whether the library is one that doesn't know types and words within runs (tests/callers/older.c).
@@ -243,4 +244,7 @@ fn the_work_and_the_pressed_spelling() {
     assert_eq!(buffer, b"_ZN3foo3barENS_3bazE");
     assert_eq!(press_into(b"_Z1fS_", &mut buffer), Err(Error::BadReference { at: 4 }));
     assert_eq!(press_into(b"_ZN1AC4Ev", &mut buffer), Err(Error::Malformed { at: 6 }));
+    press_wide_into(b"_ZN1AC4Ev", &mut buffer).unwrap();
+    assert_eq!(buffer, b"_ZN1AC4Ev");
+    assert_eq!(press_wide_into(b"_Z1fIiEDTstT_ES0_", &mut buffer), Err(Error::NoSpelling));
 }

@@ -1,28 +1,45 @@
-use Rattle.std.proofs.Common.{◌∙◌, arith, slice_set}
-use Rattle.std.specs.Prelude.{get_or}
-use Rattle.sym_direct.proofs.Marking.{front-closed, opened-up, closed-up, passed-by, kept-up, all-closed, same-closed}
+use Rattle.std.proofs.Common.{◌∙◌, ◌<◌, length, arith}
+use Rattle.sym_direct.proofs.Marking.{AreClosedUp, is-run, moved-run, left-run, opened-up, closed-up, all-closed, same-depth}
 use Rattle.sym_direct.proofs.bounded.close_up.Goals as goal
-use Rattle.sym_direct.proofs.bounded.close_up.Goals.{then-byte-gt-CLOSES+then-depth-eq0, then-byte-gt-CLOSES+else-depth-eq0, else-byte-gt-CLOSES+then-byte-eq-CLOSES, else-byte-gt-CLOSES+else-byte-eq-CLOSES+then-byte-eq-OPENS}
+use Rattle.sym_direct.proofs.bounded.close_up.Goals.{then-depth-eq0, else-depth-eq0, then-mark-eq-OPENS, else-mark-eq-OPENS+then-mark-eq-CLOSES}
 
-pub bytes-init : goal.bytes-init
-bytes-init c = front-closed c.args.bytes.now c.front_size-at.result c.front_size-at.ensures.within c.front_size-at.ensures.each
+pub returns-then-end-bytes-clause-front : goal.returns-then-end-bytes-clause-front
+returns-then-end-bytes-clause-front c =
+    let end = c.run_end-end.ensures in
+    let run = is-run _ _ _ end.after end.within end.each in
+    let closed : AreClosedUp c.args.bytes.now c.if-depth-eq0.bytes c.if-depth-eq0.kept c.runs.depth c.run_end-end.result = elim c.if-depth-eq0.branch [
+      | then-depth-eq0 w ↦ moved-run _ _ _ _ _ _ _ _ _ _ w.bytes-is w.kept-is c.runs.invariant run w.if-depth-eq0.true w.keep_run-kept.ensures.size
+          w.keep_run-kept.ensures.front w.keep_run-kept.ensures.rest w.keep_run-kept.ensures.length
+      | else-depth-eq0 w ↦ left-run _ _ _ _ _ _ _ _ w.bytes-is w.kept-is c.runs.invariant run w.if-depth-eq0.false
+    ] in
+    all-closed _ _ _ _ _ (omega (arith, c.if-end-bytes.true, closed.as_long, c.runs.invariant.as_long)) closed
 
-pub bytes-preserved : goal.bytes-preserved
-bytes-preserved c =
-    let bytes = c.bytes.bytes in
-    let p = c.bytes.invariant in
-    elim c.if-byte-gt-CLOSES.branch [
-      | then-byte-gt-CLOSES+then-depth-eq0 w ↦ same-closed _ (slice_set bytes c.bytes.kept (get_or bytes c.bytes.at 0)) _ _ _ _ _ _ w.bytes-is w.kept-is w.depth-is
-          (kept-up _ bytes c.bytes.kept c.bytes.depth c.bytes.at c.bytes-test.true p (λ e. omega (arith, w.if-byte-gt-CLOSES.true, e))
-          (λ e. omega (arith, w.if-byte-gt-CLOSES.true, e)) w.if-depth-eq0.true (λ e. omega (arith, w.if-byte-gt-CLOSES.true, e)))
-      | then-byte-gt-CLOSES+else-depth-eq0 w ↦ same-closed _ bytes _ _ _ _ _ _ w.bytes-is w.kept-is w.depth-is
-          (passed-by _ bytes c.bytes.kept c.bytes.depth c.bytes.at c.bytes-test.true p (λ e. omega (arith, w.if-byte-gt-CLOSES.true, e))
-          (λ e. omega (arith, w.if-byte-gt-CLOSES.true, e)) w.if-depth-eq0.false)
-      | else-byte-gt-CLOSES+then-byte-eq-CLOSES w ↦ same-closed _ bytes _ _ _ _ _ _ w.bytes-is w.kept-is (w.depth-is ∙ w.saturating_sub-depth.ensures)
-          (closed-up _ bytes c.bytes.kept c.bytes.depth c.bytes.at c.bytes-test.true p (λ e. omega (arith, w.if-byte-eq-CLOSES.true, e)) w.if-byte-eq-CLOSES.true)
-      | else-byte-gt-CLOSES+else-byte-eq-CLOSES+then-byte-eq-OPENS w ↦ same-closed _ bytes _ _ _ _ _ _ w.bytes-is w.kept-is w.depth-is
-          (opened-up _ bytes c.bytes.kept c.bytes.depth c.bytes.at c.bytes-test.true p w.if-byte-eq-OPENS.true)
+pub returns-then-end-bytes-clause-plain : goal.returns-then-end-bytes-clause-plain
+returns-then-end-bytes-clause-plain c =
+    let end = c.run_end-end.ensures in
+    let run = is-run _ _ _ end.after end.within end.each in
+    let closed : AreClosedUp c.args.bytes.now c.if-depth-eq0.bytes c.if-depth-eq0.kept c.runs.depth c.run_end-end.result = elim c.if-depth-eq0.branch [
+      | then-depth-eq0 w ↦ moved-run _ _ _ _ _ _ _ _ _ _ w.bytes-is w.kept-is c.runs.invariant run w.if-depth-eq0.true w.keep_run-kept.ensures.size
+          w.keep_run-kept.ensures.front w.keep_run-kept.ensures.rest w.keep_run-kept.ensures.length
+      | else-depth-eq0 w ↦ left-run _ _ _ _ _ _ _ _ w.bytes-is w.kept-is c.runs.invariant run w.if-depth-eq0.false
+    ] in
+    closed.plain
+
+pub runs-preserved : goal.runs-preserved
+runs-preserved c =
+    let end = c.run_end-end.ensures in
+    let run = is-run _ _ _ end.after end.within end.each in
+    let closed : AreClosedUp c.args.bytes.now c.if-depth-eq0.bytes c.if-depth-eq0.kept c.runs.depth c.run_end-end.result = elim c.if-depth-eq0.branch [
+      | then-depth-eq0 w ↦ moved-run _ _ _ _ _ _ _ _ _ _ w.bytes-is w.kept-is c.runs.invariant run w.if-depth-eq0.true w.keep_run-kept.ensures.size
+          w.keep_run-kept.ensures.front w.keep_run-kept.ensures.rest w.keep_run-kept.ensures.length
+      | else-depth-eq0 w ↦ left-run _ _ _ _ _ _ _ _ w.bytes-is w.kept-is c.runs.invariant run w.if-depth-eq0.false
+    ] in
+    let inside : c.run_end-end.result < length c.if-depth-eq0.bytes = omega (arith, c.if-end-bytes.false, closed.inside) in
+    elim c.if-mark-eq-OPENS.branch [
+      | then-mark-eq-OPENS w ↦ same-depth _ _ _ _ _ _ w.depth-is (opened-up _ _ _ _ _ inside closed w.if-mark-eq-OPENS.true)
+      | else-mark-eq-OPENS+then-mark-eq-CLOSES w ↦ same-depth _ _ _ _ _ _ (w.depth-is ∙ w.saturating_sub-depth.ensures)
+          (closed-up _ _ _ _ _ inside closed w.if-mark-eq-OPENS.false w.if-mark-eq-CLOSES.true)
     ]
 
 pub returns-clause-front : goal.returns-clause-front
-returns-clause-front c = all-closed c.args.bytes.now c.bytes.bytes c.bytes.kept c.bytes.depth c.bytes.at (omega (arith, c.bytes-test.false)) c.bytes.invariant
+returns-clause-front c = all-closed _ _ _ _ _ (omega (arith, c.runs-test.false)) c.runs.invariant
