@@ -13,7 +13,8 @@ TREES = []
 # how each is pressed: the sort of its spelling, and its parts; and what it needs so that it fits
 SPELLED, FITTING = {}, {}
 COMPONENTS, ENCODINGS = [], []
-# by tree: what is said of its node, what a type is whose left parts end otherwise than a plain one's, its node, what is noted and seen of that
+# by tree: what is said of its node, what a type is whose left parts end otherwise than a plain one's, its node, what is noted and seen of
+# that
 BELOW = {"says": {}, "head": {}, "node": {}, "noted": {}, "seen": {}, "fields": {}, "told": {}}
 SAYS, HEADS, NODES, NOTED, SEEN, FIELDS, TOLD = BELOW.values()
 # and the trees that have the fields of what is seen, by production
@@ -25,7 +26,6 @@ WRAPPERS, TEXTS, NUMBERED = [], {}, {}
 # names of arguments elsewhere, by where that is
 NAMES = {}
 
-
 def enter(name, arguments, sort="", *spelling):
     """Enters a tree."""
     TREES.append((name, *(tuple(argument.split(":")) for argument in arguments)))
@@ -35,7 +35,6 @@ def enter(name, arguments, sort="", *spelling):
         ENCODINGS.append(name)
     if spelling or sort.startswith("nowhere"):
         SPELLED[name] = (sort, *spelling)
-
 
 def enter_below(name, line):
     """Enters what is said of a tree below it."""
@@ -49,7 +48,6 @@ def enter_below(name, line):
     else:
         BELOW[word][name] = rest
 
-
 def enter_wrapper(name, letter, text, numbered):
     """Enters a component that is a letter before a type, and is printed as that type with a text after it."""
     enter(name, ["t:tree"], "component", f'codes "{letter}"', "type.as_type")
@@ -57,7 +55,6 @@ def enter_wrapper(name, letter, text, numbered):
     WRAPPERS.append((name, camel(name), letter))
     TEXTS[name.upper()] = text
     NUMBERED[name.upper()] = numbered
-
 
 for head, below in sections("cpp_trees.txt"):
     if head.startswith("names "):
@@ -72,7 +69,6 @@ for head, below in sections("cpp_trees.txt"):
         for line, _ in below:
             enter_below(tree, line)
 PRESSED, SCOPES, VIEWED, NAMED = (NAMES[where] for where in ("pressed", "scopes", "viewed", "code"))
-
 
 def named(names, first=(), last=()):
     """The trees with these names of arguments, some of them in front and some at the end."""

@@ -1,4 +1,5 @@
-"""C++'s declarations that are written into files by hand: from each crate's files to the clauses of the names in them. trees.py writes them."""
+"""C++'s declarations that are written into files by hand: from each crate's files to the clauses of the names in them. trees.py writes
+them."""
 import cpp_trees
 import grammar
 import vocabulary as words
@@ -17,21 +18,17 @@ from tree_clauses import (
     summed, tree_itself, weight_grows,
 )
 
-
 def marking(function, marked, value, others, after=()):
     """A value for each of these trees, and another for the others."""
     return cases(function, [], after, lambda tree: value if tree[0] in marked else None, others, named(PRESSED))
-
 
 def scoped(function, joined, none, before=()):
     """What is computed of the subtrees under the scope of the whole, by the names that scopes have; parameters first."""
     return fold(function, list(before), joined, none, over=SCOPED, trees=named(SCOPES, ["parameter"]))
 
-
 def folded(function, joined, none, before=()):
     """What is shown of the subtrees under the scope of the whole."""
     return fold(function, list(before), joined, none, over=SCOPED)
-
 
 def of_grammar():
     """Those of cpp_grammar."""
@@ -46,7 +43,6 @@ def of_grammar():
         "proofs/ClosedValues.antt": {"built_good": built_good()},
     }
 
-
 def of_term():
     """Those of cpp_term."""
     renoted = closed_noted("renoted", ["r", "s", "a"], free_half, "ap (term_.parameter k) (sym e)")
@@ -58,32 +54,42 @@ def of_term():
         "specs/Reargued.antt": {"reargued": reargued(), "bare": carried(folded("bare", either, "false"))},
         "proofs/Reargued.antt": reargued_laws(),
         "proofs/Erasing.antt": {"erased": erased()},
-        "proofs/MeaningNoted.antt": {"takes_encodings": takes_encodings(), "AreShut": are_shut(), "none_are_taken": none_are_taken(), "built_noted": built_noted()},
-        "proofs/Notes.antt": {"open_noted": folded("open_noted", both_by("(λ x y. x || y)"), "refl", before=["s"]), "closed_noted": closed_noted(), "renoted": renoted,
-                              "free_noted": folded("free_noted", both_by("both_free"), "refl", before=["s"]), "pack_own": folded("pack_own", first_by, "refl"),
-                              "pack_none": folded("pack_none", first_by, "refl"), "pack_some": folded("pack_some", first_by, "refl", ["all"])},
+        "proofs/MeaningNoted.antt": {"takes_encodings": takes_encodings(), "AreShut": are_shut(), "none_are_taken": none_are_taken(),
+                                     "built_noted": built_noted()},
+        "proofs/Notes.antt": {"open_noted": folded("open_noted", both_by("(λ x y. x || y)"), "refl", before=["s"]),
+                              "closed_noted": closed_noted(), "renoted": renoted,
+                              "free_noted": folded("free_noted", both_by("both_free"), "refl", before=["s"]),
+                              "pack_own": folded("pack_own", first_by, "refl"),
+                              "pack_none": folded("pack_none", first_by, "refl"),
+                              "pack_some": folded("pack_some", first_by, "refl", ["all"])},
     }
-
 
 def of_notes():
     """Those of cpp_tree that go through what is noted of nodes."""
-    by_argument = {"Parameter": "refl", "Expansion": "expansion-by-argument (by_argument_at y.nodes pattern) (tree_at (trees y) pattern) (by-argument-at pattern b)",
-                   "Pack": "ap of_pack (by-argument-at elements b)", "Rvalue": "rvalue-by-argument (by_argument_at y.nodes t) (tree_at (trees y) t) (by-argument-at t b)",
-                   "Qualified": "ap (λ l. of_head l.head l) (by-argument-at t b)", "Reargued": again_fact("by-argument-at", "by_argument_reargued")}
-    packs = {"Parameter": "argument_packs es (shape_at es a)", "Reargued": "packs_by (by_argument_at es t).is_bare (argument_packs es (shape_at es a))"}
+    by_argument = {"Parameter": "refl", "Expansion": "expansion-by-argument (by_argument_at y.nodes pattern) (tree_at (trees y) pattern) "
+                   "(by-argument-at pattern b)",
+                   "Pack": "ap of_pack (by-argument-at elements b)", "Rvalue": "rvalue-by-argument (by_argument_at y.nodes t) (tree_at "
+                   "(trees y) t) (by-argument-at t b)",
+                   "Qualified": "ap (λ l. of_head l.head l) (by-argument-at t b)",
+                   "Reargued": again_fact("by-argument-at", "by_argument_reargued")}
+    packs = {"Parameter": "argument_packs es (shape_at es a)", "Reargued": "packs_by (by_argument_at es t).is_bare (argument_packs es "
+             "(shape_at es a))"}
     pack_facts = {"Parameter": "argument-pack a b", "Reargued": "again-pack t a b.0 b.1"}
     return {
         "specs/Notes.antt": {
-            "frees": noted("frees", "free_at es {0}", "piece_frees es {0}", both_free, "Free.None", {"Parameter": "Free.One k", "Reargued": "free_at es t"}),
-            "node_by_argument": noted("node_by_argument", "by_argument_at es {0}", "piece_by_argument es {0}", depending, "by_none false", BY_ARGUMENT),
+            "frees": noted("frees", "free_at es {0}", "piece_frees es {0}", both_free, "Free.None",
+                           {"Parameter": "Free.One k", "Reargued": "free_at es t"}),
+            "node_by_argument": noted("node_by_argument", "by_argument_at es {0}", "piece_by_argument es {0}", depending, "by_none false",
+                                      BY_ARGUMENT),
             "packing": noted("packing", "packs_at es {0}", "piece_packs es {0}", first_of, "None", packs, ["Expansion"])},
         "proofs/Noting.antt": {
-            "node-by-argument": through("node-by-argument", "by-argument-at {0} {1}", "piece-by-argument {0} {1}", "refl", by_argument, one=passed_fact),
-            "node-free": through("node-free", "at {0} {1}", "piece-free {0} {1}", "refl", {"Reargued": again_fact("at", "free_reargued")}, without=["Parameter"], joined=both_are),
+            "node-by-argument": through("node-by-argument", "by-argument-at {0} {1}", "piece-by-argument {0} {1}", "refl", by_argument,
+                                        one=passed_fact),
+            "node-free": through("node-free", "at {0} {1}", "piece-free {0} {1}", "refl", {"Reargued": again_fact("at", "free_reargued")},
+                                 without=["Parameter"], joined=both_are),
             "node-pack": through("node-pack", "pack-at {0} {1}", "piece-pack {0} {1}", "refl", pack_facts, without=["Expansion"])},
         "proofs/FreeParameters.antt": {"open-free": carried(folded("open-free", either_open, "refl"))},
     }
-
 
 def of_tree():
     """Those of cpp_tree that go through nodes."""
@@ -95,20 +101,20 @@ def of_tree():
         "proofs/Pushed.antt": {"node-stays": node_stays()},
     }
 
-
 def of_link(crates):
     """Those of cpp_link."""
     rows = grammar.rows()
     before = {production: listed(row.made_before()) for production, row in rows.items() if row.made_before()}
     at_end = {production: row.made_at_end() for production, row in rows.items() if row.made_at_end()}
     return {
-        "specs/Owed.antt": {"made_before": by_production("made_before", before, "[]"), "made_at_end": by_production("made_at_end", at_end, 0), "slack": slack()},
+        "specs/Owed.antt": {"made_before": by_production("made_before", before, "[]"),
+                            "made_at_end": by_production("made_at_end", at_end, 0), "slack": slack()},
         "specs/NodeCount.antt": {"makes_at_end": makes_at_end()},
         "specs/Making.antt": {"IsRare": by_production("IsRare", {production: "⊥" for production in words.COMMON}, "Unit {0}")},
-        "proofs/Making.antt": {"IsNoneOfThem": [f"  pub not_{snake(p)} : p ≡ Production.{p} → ⊥" for p in words.COMMON], "is_rare": is_rare()},
+        "proofs/Making.antt": {"IsNoneOfThem": [f"  pub not_{snake(p)} : p ≡ Production.{p} → ⊥" for p in words.COMMON],
+                               "is_rare": is_rare()},
         "proofs/CandidatesFew.antt": {"may_leave": may_leave(crates)},
     }
-
 
 def of_press_laws():
     """Those of cpp_press_laws."""
@@ -118,21 +124,24 @@ def of_press_laws():
     return {
         "specs/Same.antt": {"same_tree": same_tree()},
         "specs/Apart.antt": {"IsNeverReferred": never_referred()},
-        "specs/Pressing.antt": {"is_component": marking("is_component", cpp_trees.COMPONENTS, "true", "false"), "is_encoding": marking("is_encoding", cpp_trees.ENCODINGS, "true", "false")},
+        "specs/Pressing.antt": {"is_component": marking("is_component", cpp_trees.COMPONENTS, "true", "false"),
+                                "is_encoding": marking("is_encoding", cpp_trees.ENCODINGS, "true", "false")},
         "proofs/Components/Sameness.antt": {"equal-tree": equal_tree(), "tree-itself": tree_itself()},
         "proofs/Components/Parts.antt": {"IsComponent": marking("IsComponent", cpp_trees.COMPONENTS, "Unit {0}", "⊥"), "Inside": inside(),
                                          "PrefixOr": [*prefixes, "PrefixOr t inside x = ItselfOr t inside x"]},
         "proofs/Components/Complete.antt": {"inside-shut": inside_shut()},
         "proofs/Components/Growing.antt": {"size": fold("size", [], lambda parts: f"suc ({' + '.join(parts)})", "1", trees=named(PRESSED))},
-        "proofs/EveryWay/Law.antt": {"reads": by_each("reads", "reads", ["c"], {"symbol": None, **nowhere, **orders}, {"address_of": "address"})},
+        "proofs/EveryWay/Law.antt": {"reads": by_each("reads", "reads", ["c"], {"symbol": None, **nowhere, **orders},
+                {"address_of": "address"})},
         "proofs/Fits/Packs.antt": {"closed-packs": closed_packs()},
     }
 
-
 def declarations(crates):
     """The path and the name of each declaration, and the lines of its clauses."""
-    files = [("cpp_grammar", of_grammar()), ("cpp_term", of_term()), ("cpp_tree", of_tree()), ("cpp_tree", of_notes()), ("cpp_link", of_link(crates)),
-             ("cpp_press", {"proofs/Open.antt": {"open-erased": open_erased()}}), ("cpp_press_laws", of_press_laws()), ("cpp_spelling", {"proofs/Made.antt": {"below-later": below_later()}}),
+    files = [("cpp_grammar", of_grammar()), ("cpp_term", of_term()), ("cpp_tree", of_tree()), ("cpp_tree", of_notes()),
+             ("cpp_link", of_link(crates)),
+             ("cpp_press", {"proofs/Open.antt": {"open-erased": open_erased()}}), ("cpp_press_laws", of_press_laws()),
+             ("cpp_spelling", {"proofs/Made.antt": {"below-later": below_later()}}),
              ("cpp_spelling", {"specs/Weight.antt": {"weight": fold("weight", [], summed("12"), "12", trees=named(PRESSED))}})]
     for crate, paths in files:
         for path, names in paths.items():

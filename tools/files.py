@@ -9,7 +9,6 @@ from functools import lru_cache
 TABLES, TEMPLATES = (os.path.join(os.path.dirname(os.path.abspath(__file__)), folder) for folder in ("tables", "templates"))
 NOTHING = object()
 
-
 def read(path, otherwise=NOTHING):
     """The text of a file, or another value where there is no such file, if one is given."""
     if otherwise is not NOTHING and not os.path.exists(path):
@@ -17,13 +16,11 @@ def read(path, otherwise=NOTHING):
     with open(path, encoding="utf-8", errors="replace") as file:
         return file.read()
 
-
 def sources(folder):
     """The path of each source below a folder. What checks leave in `out` is no source."""
     for at, folders, names in os.walk(folder):
         folders[:] = [name for name in folders if name != "out"]
         yield from (os.path.join(at, name) for name in sorted(names) if name.endswith((".rt", ".antt")))
-
 
 def load(path):
     """The Python module at a path."""
@@ -32,7 +29,6 @@ def load(path):
     sys.modules[spec.name] = module
     spec.loader.exec_module(module)
     return module
-
 
 @lru_cache(maxsize=None)
 def sections(name):
@@ -49,7 +45,6 @@ def sections(name):
         above = []
     return found
 
-
 def entries(name):
     """The entries of a table by their first words, each with its other words. One with a blank in it is in quotes."""
     found = {}
@@ -58,7 +53,6 @@ def entries(name):
         found.setdefault(sort, []).append(tuple(words))
     return found
 
-
 def fill(text, /, **holes):
     """The text, in which each `@HOLE@` is filled: with a text, or with lines, which take the place of its line."""
     def filled(match):
@@ -66,7 +60,6 @@ def fill(text, /, **holes):
         return value if isinstance(value, str) else "\n".join(map(str, value))
 
     return re.sub(r"@([A-Z_]+)@", filled, text)
-
 
 def template(name, /, **holes):
     """The text of a template, filled. A template is a file of the name that it is called by and `.in`: the gate takes each `.rt` and

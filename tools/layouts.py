@@ -1,5 +1,5 @@
-"""What is shown of cpp_layout's functions that have an arm for each of some nodes: the arms are read in the code. Of the nodes without an arm
-a lemma in proofs/Others.antt says what their parts are, and of those with one that what its call adds are the parts of the tree."""
+"""What is shown of cpp_layout's functions that have an arm for each of some nodes: the arms are read in the code. Of the nodes without an
+arm a lemma in proofs/Others.antt says what their parts are, and of those with one that what its call adds are the parts of the tree."""
 import os
 import re
 
@@ -23,12 +23,14 @@ VALUES = ("ends_in_angle", "precedence")
 LEFT = ["fill_left", "fill_left_type", "fill_left_argument"]
 # what is to be said before the parts are the tree's: of the text that is added, or of the arm
 TEXTS = "ap (λ t. text t ∷ []) c.{0}.ensures.text"
-BEFORE = {tuple(arm.split()): said.replace("CONTEXT", CONTEXT).replace("DETAIL", DETAIL).replace("SYMBOL", "c.args.self.now c.args.ctx") for arm, said in ARMS["before"]}
+BEFORE = {tuple(arm.split()): said.replace("CONTEXT", CONTEXT).replace("DETAIL", DETAIL).replace("SYMBOL", "c.args.self.now c.args.ctx")
+          for arm, said in ARMS["before"]}
 BY_HAND = [tuple(arm.split()) for arm, in ARMS["by_hand"]]
 
 def bodies(text):
     """The text of each function of a file, by its name."""
-    for function in re.finditer(r"^( *)(?:pub(?:\(crate\))? )?fn (\w+)[^\n]*\n.*?^\1\{\n(.*?)^\1\}\n", text, re.M | re.S): yield function[2], function[3]
+    for function in re.finditer(r"^( *)(?:pub(?:\(crate\))? )?fn (\w+)[^\n]*\n.*?^\1\{\n(.*?)^\1\}\n", text, re.M | re.S):
+        yield function[2], function[3]
 
 def arms(body, begins="Node|Piece"):
     """What a match has arms for, and the text of each arm."""
@@ -44,9 +46,14 @@ def calls(body, begins="Node|Piece"):
             seen.add(call)
     return steps
 
-def record_of(function): return "IsOther" + camel(function.replace("fill_", ""))
-def applied_to(text, t): return text.replace(" t)", f" {t})") if " t)" in text else text if text in ("[]", "0") or text.startswith("fixed") else f"{text} {t}"
-def none(arms_): return "(record { " + "; ".join(f"not_{node.lower()} = c.in_default.not-{node}" for node in arms_) + " })"
+def record_of(function):
+    return "IsOther" + camel(function.replace("fill_", ""))
+
+def applied_to(text, t):
+    return text.replace(" t)", f" {t})") if " t)" in text else text if text in ("[]", "0") or text.startswith("fixed") else f"{text} {t}"
+
+def none(arms_):
+    return "(record { " + "; ".join(f"not_{node.lower()} = c.in_default.not-{node}" for node in arms_) + " })"
 
 class Shapes:
     """The nodes for which a function has arms: each as it is matched, and what is said of it."""
@@ -63,7 +70,8 @@ class Shapes:
 
     def never(self, function, clause):
         """A clause for each node of a function, which is none of them."""
-        return [clause.format(braced(self.constructed(node))) + f" = absurd ({applied(f'other.not_{node.lower()}', self.constructed(node).split()[1:])} refl)" for node in self.matched[function]]
+        return [clause.format(braced(self.constructed(node))) + " = absurd "
+                f"({applied(f'other.not_{node.lower()}', self.constructed(node).split()[1:])} refl)" for node in self.matched[function]]
 
     def record(self, function):
         """What is known of a node for which a function has no arm."""
@@ -78,19 +86,23 @@ class Shapes:
         """That of such a node the tree has no parts of its own."""
         says = f"{applied_to(of_others, '{0}')} ≡ {applied_to(of_tree, '{0}')}"
         return template("cpp_layout/other_lemma.antt", record_of_them=self.record(function), lemma=lemma, record=record_of(function),
-                        binders="".join(BINDERS[v] + " " for v in variables), variables="".join(v + " " for v in variables), says=says.format("t"), says_of_u=says.format("u"),
-                        says_of_tree=says.format("(reargued given (tree_of s us ts n))"), unfolded=" ".join(filter(None, [of_tree.split()[0], by])),
+                        binders="".join(BINDERS[v] + " " for v in variables), variables="".join(v + " " for v in variables),
+                        says=says.format("t"), says_of_u=says.format("u"),
+                        says_of_tree=says.format("(reargued given (tree_of s us ts n))"),
+                        unfolded=" ".join(filter(None, [of_tree.split()[0], by])),
                         arms=self.never(function, "    by {0} flat other")).rstrip("\n")
 
 def others(matched, types):
     """proofs/Others.antt."""
     shapes, (name, type_, argument) = Shapes(matched, types), LEFT
     none_left = "left-none s us ts given d c {0} flat k other"
-    return template("cpp_layout/Others.antt", whole="\n\n".join(shapes.lemma(*row) for row in WHOLE), left="\n\n".join(map(shapes.record, LEFT)),
+    return template("cpp_layout/Others.antt", whole="\n\n".join(shapes.lemma(*row) for row in WHOLE),
+                    left="\n\n".join(map(shapes.record, LEFT)),
                     no_name=shapes.never(name, "no-name {0} flat other"),
                     no_type=[*shapes.cases([name], "no-type {0} k other = elim k [ ]"), *shapes.never(type_, "no-type {0} k other")],
                     left_none=[*shapes.cases([name, type_], none_left + " = elim k [ ]"), *shapes.never(argument, none_left)],
-                    prefix_encoding=shapes.cases(["fill_full"], "    by {0} flat e = refl"), prefix_other=shapes.cases(["fill_full"], "    by {0} flat e other = cc e"))
+                    prefix_encoding=shapes.cases(["fill_full"], "    by {0} flat e = refl"),
+                    prefix_other=shapes.cases(["fill_full"], "    by {0} flat e other = cc e"))
 
 def added(call, step):
     """That the last part was added."""
@@ -104,7 +116,8 @@ def of_pieces(matched, steps, function, parts):
         fact = f"ap (λ p. {told} (piece_shown c.args.self.now c.args.ctx p)) (sym c.in-{piece}.is)"
         text = TEXTS.format(steps[function, piece]) + " ∙ " if (function, piece) in steps else ""
         goal = f"returns-in-{piece}-clause-shows"
-        yield answer(goal, f" fills {SHOWN} _ _ _ {added(*steps[function][piece])} ({text}{fact})", f"piece_of {parts.split()[0]} reargued", "g c")
+        yield answer(goal, f" fills {SHOWN} _ _ _ {added(*steps[function][piece])} ({text}{fact})", f"piece_of {parts.split()[0]} reargued",
+                     "g c")
 
 def answers(matched, steps, function, parts, by):
     """Each arm's answer."""
@@ -115,13 +128,18 @@ def answers(matched, steps, function, parts, by):
     special = {("fill_right", "FunctionType"): unfolded + " qualifier_text", ("fill_left", "Tagged"): "tree_of reargued"}
     told = re.sub(r"\bd\b", DETAIL, re.sub(r"\bc\b", CONTEXT, parts))
     for node in matched[function]:
-        if (function, node) in BY_HAND: continue
+        if (function, node) in BY_HAND:
+            continue
         adds = added(*steps[function][node])
         facts = [BEFORE[function, node]] if (function, node) in BEFORE else []
-        if steps[function][node][0] == "push_some": facts.append(TEXTS.format(steps[function, node]))
-        if left: facts.append(f"ap (λ n. {told} (node_shown c.args.self.now c.args.ctx n)) (sym c.in-{node}.is)")
-        if function == "fill_left": facts.append(f"ap (λ t. {told} t) (sym c.stored-stored.ensures.tree)")
-        if not left: facts.append(f"ap (λ t. {applied_to(told, 't')}) (sym c.in-{node}.ensures.tree)")
+        if steps[function][node][0] == "push_some":
+            facts.append(TEXTS.format(steps[function, node]))
+        if left:
+            facts.append(f"ap (λ n. {told} (node_shown c.args.self.now c.args.ctx n)) (sym c.in-{node}.is)")
+        if function == "fill_left":
+            facts.append(f"ap (λ t. {told} t) (sym c.stored-stored.ensures.tree)")
+        if not left:
+            facts.append(f"ap (λ t. {applied_to(told, 't')}) (sym c.in-{node}.ensures.tree)")
         goal = f"returns-in-{node}-clause-shows"
         yield answer(goal, f" fills {SHOWN} _ _ _ {adds} ({' ∙ '.join(facts)})", special.get((function, node), unfolded), "g c")
 
@@ -130,15 +148,18 @@ def default(function, lemma, variables, of_others, matched):
     given = " ".join(["_ _ _ _", *(SAID[v] for v in variables)])
     fact = f"{lemma} {given} {STORED} {none(matched[function])}"
     last = " ∙ ap opening_text c.entities.invariant.last" if function == "ends_in_angle" else ""
-    if function in VALUES: return answer(goal, f" {fact}{last}")
-    parts = f"(starts {SHOWN} _)" if of_others == "[]" else f"c.{'fill_full' if function == 'fill_bare_of' else 'fill_as_left'}.ensures.shows"
+    if function in VALUES:
+        return answer(goal, f" {fact}{last}")
+    parts = (f"(starts {SHOWN} _)" if of_others == "[]"
+             else f"c.{'fill_full' if function == 'fill_bare_of' else 'fill_as_left'}.ensures.shows")
     return answer(goal, f" fills {SHOWN} _ _ _ {parts} ({fact})", given="g c")
 
 def left_defaults(matched):
     name, type_, argument = LEFT
     yield name, "fill_left_type-requires-clause-kind", f"no-name c.stored-stored.result c.stored-stored.ensures.own {none(matched[name])}"
     yield type_, "fill_left_argument-requires-clause-kind", f"no-type c.args.node c.requires.kind {none(matched[type_])}"
-    yield argument, "returns-in_default-clause-shows", (f"fills {SHOWN} _ _ _ (starts {SHOWN} _) (left-none _ _ _ _ {DETAIL} {CONTEXT} c.args.node (no-type-flat c.args.node c.requires.kind) c.requires.kind"
+    yield argument, "returns-in_default-clause-shows", (f"fills {SHOWN} _ _ _ (starts {SHOWN} _) (left-none _ _ _ _ {DETAIL} {CONTEXT} "
+            "c.args.node (no-type-flat c.args.node c.requires.kind) c.requires.kind"
         f" {none(matched[argument])})")
 
 def matches(crates):
@@ -149,7 +170,8 @@ def matches(crates):
             matched[function], steps[function] = [node for node, text in arms(body)], calls(body)
             for node, text in arms(body):
                 some = re.search(r"push_some\(parts, (\w+)\(", text)
-                if some: steps[function, node] = some.group(1)
+                if some:
+                    steps[function, node] = some.group(1)
     return matched, steps
 
 def whole_file(function, shown):
@@ -165,8 +187,10 @@ def files(crates, types):
     for function, lemma, variables, of_others, of_tree, by in WHOLE:
         shown = [] if function in VALUES else answers(matched, steps, function, of_tree, by)
         written[function] = [*shown, default(function, lemma, variables, of_others, matched)]
-    for function, parts in PIECES: written[function] = list(of_pieces(matched, steps, function, parts))
-    for function, goal, shown in left_defaults(matched): written[function].append(answer(goal, f" {shown}", given="g c"))
+    for function, parts in PIECES:
+        written[function] = list(of_pieces(matched, steps, function, parts))
+    for function, goal, shown in left_defaults(matched):
+        written[function].append(answer(goal, f" {shown}", given="g c"))
     by_hand = [*VALUES, *(function for function, _ in [*PIECES, *BY_HAND])]
     whole = {function: whole_file(function, shown) for function, shown in written.items() if function not in by_hand}
     return others(matched, types), {function: shown for function, shown in written.items() if function in by_hand}, whole, matched

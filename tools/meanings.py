@@ -1,5 +1,5 @@
-"""What each production does: from its row to definitions of cpp_grammar, and to how many nodes it makes. grammar.py calls it; cpp_names.txt says what
-the words of a row mean."""
+"""What each production does: from its row to definitions of cpp_grammar, and to how many nodes it makes. grammar.py calls it; cpp_names.txt
+says what the words of a row mean."""
 import re
 import cpp_trees
 from files import template
@@ -14,18 +14,26 @@ from cpp_trees import BYTES, NUMBER, TRUTH, QUALIFIERS, MARK, SIGNED, DISCRIMINA
 
 def source(text):
     """An argument of a tree."""
-    if known := said("arguments", text): return known
-    if m := re.fullmatch(r"'(.)'", text): return f"fixed {ord(m[1])}"
-    if m := re.fullmatch(r"l(\d) or '(.)'", text): return f"letter_or {m[1]} {ord(m[2])}"
-    if m := re.fullmatch(r"l(\d) is '(.)'", text): return f"letter_is {m[1]} {ord(m[2])}"
+    if known := said("arguments", text):
+        return known
+    if m := re.fullmatch(r"'(.)'", text):
+        return f"fixed {ord(m[1])}"
+    if m := re.fullmatch(r"l(\d) or '(.)'", text):
+        return f"letter_or {m[1]} {ord(m[2])}"
+    if m := re.fullmatch(r"l(\d) is '(.)'", text):
+        return f"letter_is {m[1]} {ord(m[2])}"
     return "qualified_by " + " ".join(map(braced, map(source, split(re.fullmatch(r"marks\((.*)\)", text)[1]))))
 
 def made(text):
     """A tree that is made."""
-    if m := re.fullmatch(r"name \+ (.*)", text): return f"extending ({made(m[1])})"
-    if m := re.fullmatch(r"tagged\(name, x(\d)\)", text): return f"tagging {m[1]}"
-    if m := re.fullmatch(r"packed\(i(\d)\)", text): return f"packing {m[1]}"
-    if m := re.fullmatch(r"(.*) applied to (\d)", text): return f"applying ({made(m[1])}) {m[2]}"
+    if m := re.fullmatch(r"name \+ (.*)", text):
+        return f"extending ({made(m[1])})"
+    if m := re.fullmatch(r"tagged\(name, x(\d)\)", text):
+        return f"tagging {m[1]}"
+    if m := re.fullmatch(r"packed\(i(\d)\)", text):
+        return f"packing {m[1]}"
+    if m := re.fullmatch(r"(.*) applied to (\d)", text):
+        return f"applying ({made(m[1])}) {m[2]}"
     if m := re.fullmatch(r"(\w+)\((.*)\)", text):
         sources = listed(map(source, split(m[2])))
         return f"of new_{m[1]} " + (f"({sources})" if m[2] else sources)
@@ -38,108 +46,144 @@ def pair(means):
 
 def form(text, nodes):
     """What a production denotes."""
-    if known := said("means", text, nodes=nodes): return known
-    if text.startswith("pair("): return "a_pair " + " ".join(map(braced, pair(text)))
-    if m := re.fullmatch(r"piece (.*)", text): return f"a_piece ({made(m[1])})"
+    if known := said("means", text, nodes=nodes):
+        return known
+    if text.startswith("pair("):
+        return "a_pair " + " ".join(map(braced, pair(text)))
+    if m := re.fullmatch(r"piece (.*)", text):
+        return f"a_piece ({made(m[1])})"
     tree, mark = re.fullmatch(r"(.*?)(, listed)?", text).groups()
     return f"makes ({made(tree)}) {'listed' if mark else 'unlisted'}"
 
 def gain(text):
     """What becomes a candidate."""
-    if text in ("", "itself"): return text or "nothing"
+    if text in ("", "itself"):
+        return text or "nothing"
     word, part = text.split()
     return f"{word}_of {part}"
 
 def step(text):
     """What is done before a part."""
-    if known := said("steps", text): return known
-    if known := said("places", text): return f"goes nothing {braced(known)}"
-    if text == "list the name": return "goes the_prefix as_before"
-    if m := re.fullmatch(r"list the name, (.*)", text): return f"goes the_prefix {braced(said('places', m[1]))}"
-    if m := re.fullmatch(r"list type (\d)", text): return f"goes (type_of {m[1]}) as_before"
+    if known := said("steps", text):
+        return known
+    if known := said("places", text):
+        return f"goes nothing {braced(known)}"
+    if text == "list the name":
+        return "goes the_prefix as_before"
+    if m := re.fullmatch(r"list the name, (.*)", text):
+        return f"goes the_prefix {braced(said('places', m[1]))}"
+    if m := re.fullmatch(r"list type (\d)", text):
+        return f"goes (type_of {m[1]}) as_before"
     tree, *marks = split(re.fullmatch(r"(?:name = )?(.*)", text)[1])
-    return f"becomes ({made(tree)}) {str(bool(marks) and 'unlisted' not in marks).lower()} {str(text.startswith('name = ')).lower()} {str('candidate' in marks).lower()}"
+    return (f"becomes ({made(tree)}) {str(bool(marks) and 'unlisted' not in marks).lower()} {str(text.startswith('name = ')).lower()} "
+            f"{str('candidate' in marks).lower()}")
 
 def steps(text):
     """What is done before each part as far as it is said by its number, and before the others."""
     at, others = {}, "quiet"
     for part in text.split("; ") if text else []:
         where, what = part.split(": ")
-        if where.isdigit(): at[int(where)] = step(what)
+        if where.isdigit():
+            at[int(where)] = step(what)
         else:
             others = step(what)
-            if m := re.fullmatch(r"rest after (\d)", where): at.setdefault(int(m[1]), "quiet")
+            if m := re.fullmatch(r"rest after (\d)", where):
+                at.setdefault(int(m[1]), "quiet")
     return [at.get(i, "quiet") for i in range(max(at) + 1)] if at else [], others
 
 class Row:
     def __init__(self, means, before="", candidate="", packs="", tests="", nodes=0):
         self.means, (self.before, self.onward) = means, steps(before)
-        self.form, self.gain, self.restores_packs, self.tests_number = form(means, nodes), gain(candidate), packs == "own", tests == "number"
+        self.form, self.gain, self.restores_packs, self.tests_number = form(means,
+                nodes), gain(candidate), packs == "own", tests == "number"
 
     def definition(self):
         """The row as the definition has it: what it does beside most, around what its parts become."""
         form, before, onward = named(self.form), listed(map(named, self.before)), named(self.onward)
         row = f"plain {braced(form)}"
-        if self.before and self.onward != "quiet": row = f"after_first ({before}) {braced(onward)} {braced(form)}"
-        elif self.before: row = f"after_steps ({before}) {braced(form)}"
-        elif self.onward != "quiet": row = f"throughout {braced(onward)} {braced(form)}"
-        if self.gain != "nothing": row = f"gains {braced(self.gain)} ({row})"
-        if self.restores_packs: row = f"with_own_packs ({row})"
-        if self.tests_number: row = f"with_number_tested ({row})"
+        if self.before and self.onward != "quiet":
+            row = f"after_first ({before}) {braced(onward)} {braced(form)}"
+        elif self.before:
+            row = f"after_steps ({before}) {braced(form)}"
+        elif self.onward != "quiet":
+            row = f"throughout {braced(onward)} {braced(form)}"
+        if self.gain != "nothing":
+            row = f"gains {braced(self.gain)} ({row})"
+        if self.restores_packs:
+            row = f"with_own_packs ({row})"
+        if self.tests_number:
+            row = f"with_number_tested ({row})"
         return row
 
     def quiet(self):
         """Before how many of its parts nothing is done: none, the first ones, or all, which are five at most."""
         for n, before in enumerate(self.before):
-            if before != "quiet": return n
+            if before != "quiet":
+                return n
         return ALL_PARTS if self.onward == "quiet" else len(self.before)
 
     def made_before(self):
         """How many nodes are made at most before each part, as far as some are."""
         assert not most_before(self.onward)
         counts = [most_before(before) for before in self.before]
-        while counts and not counts[-1]: counts.pop()
+        while counts and not counts[-1]:
+            counts.pop()
         return counts
 
     def made_at_end(self):
         """How many nodes are made at most once its parts are read."""
         word, *others = self.form.split()
-        if word == "makes": return most_made(self.form[len("makes "):])
-        if word == "own": return int(others[1])
-        if word == "a_pair": return sum(most_made(braced(tree)) for tree in pair(self.means)[1:])
+        if word == "makes":
+            return most_made(self.form[len("makes "):])
+        if word == "own":
+            return int(others[1])
+        if word == "a_pair":
+            return sum(most_made(braced(tree)) for tree in pair(self.means)[1:])
         return 1 if word in ("cell", "item", "a_name", "in_place") else 0
 
-# How a row names the arguments of what is in it: each text of definitions, with numbers of parts, as the row has it. Rows.antt says what the names mean.
+# How a row names the arguments of what is in it: each text of definitions, with numbers of parts, as the row has it. Rows.antt says what
+# the names mean.
 NAMES = [(re.compile(old), new) for old, new in (
     (r"becomes (\(.*\)) false true false", r"becomes_name \1"), (r"becomes (\(.*\)) true true false", r"becomes_listed_name \1"),
     (r"becomes (\(.*\)) false true true", r"becomes_name_and_candidate \1"), (r"becomes (\(.*\)) true false true", r"becomes_candidate \1"),
     (r"becomes (\(.*\)) true false false", r"becomes_listed \1"),
-    (r"tests false true", "tests_parameter"), (r"tests true true", "tests_parameter_after_t"), (r"tests true false", "tests_operand_after_t"),
+    (r"tests false true", "tests_parameter"), (r"tests true true", "tests_parameter_after_t"),
+    (r"tests true false", "tests_operand_after_t"),
     (r"\bgoes nothing", "enters"), (r"\bcell (\d) (\d)", r"cell (first \1) (rest \2)"), (r"\bitem (\d) (\d)", r"item (first \1) (rest \2)"),
-    (r"\beither (\d) (\d)", r"either (preferred \1) (otherwise \2)"), (r"\bown (\w+) (\d)", r"own \1 (nodes \2)"), (r"\bapplying (\(.*\)) (\d)", r"applying \1 (arguments \2)"),
+    (r"\beither (\d) (\d)", r"either (preferred \1) (otherwise \2)"), (r"\bown (\w+) (\d)", r"own \1 (nodes \2)"),
+    (r"\bapplying (\(.*\)) (\d)", r"applying \1 (arguments \2)"),
     (r"\bas_part_alone (\d) (\d)", r"as_part_alone \1 (arguments \2)"), (r"\bletter_is (\d) (\d+)", r"letter_is \1 (letter \2)"),
     (r"\bqualified_by (\w+|\(\w+ \d\)) (\w+|\(\w+ \d\)) (\w+|\(\w+ \d\))", r"qualified_by (restrict \1) (volatile \2) (const \3)"))]
 
 def named(text):
     """A text of definitions with the names of its arguments."""
-    for old, new in NAMES: text = old.sub(new, text)
+    for old, new in NAMES:
+        text = old.sub(new, text)
     return text
 
 ALL_PARTS = 5
-def most_made(tree): return 0 if tree.startswith("(only ") else 1
+
+def most_made(tree):
+    return 0 if tree.startswith("(only ") else 1
+
 def most_before(text):
     word = text.split()[0]
-    if word == "becomes": return most_made(text[len("becomes "):])
+    if word == "becomes":
+        return most_made(text[len("becomes "):])
     return 1 if word in ("tests", "holds") else 0
 
-def rows(texts): return {p: Row(**row) for p, row in texts.items()}
+def rows(texts):
+    return {p: Row(**row) for p, row in texts.items()}
 
 # ## Definitions
 
-ARGUMENTS = (("tree_in", "a_tree", "Term", "absent"), ("bytes_in", "some_bytes", "List ℕ", "[]"), ("number_in", "a_number", "ℕ", "0"), ("truth_in", "a_truth", "Bool", "false"),
+ARGUMENTS = (("tree_in", "a_tree", "Term", "absent"), ("bytes_in", "some_bytes", "List ℕ", "[]"), ("number_in", "a_number", "ℕ", "0"),
+             ("truth_in", "a_truth", "Bool", "false"),
              ("qualifiers_in", "some_qualifiers", "Qualifiers", "unqualified"), ("mark_in", "a_mark", "RefQualifier", "any_value"),
-             ("signed_in", "a_signed", "Signed", "record { negative = false; digits = [] }"), ("discriminator_in", "a_discriminator", "Option (List ℕ)", "None"))
-SORTS = {BYTES: "bytes_in", NUMBER: "number_in", TRUTH: "truth_in", QUALIFIERS: "qualifiers_in", MARK: "mark_in", SIGNED: "signed_in", DISCRIMINATOR: "discriminator_in"}
+             ("signed_in", "a_signed", "Signed", "record { negative = false; digits = [] }"),
+             ("discriminator_in", "a_discriminator", "Option (List ℕ)", "None"))
+SORTS = {BYTES: "bytes_in", NUMBER: "number_in", TRUTH: "truth_in", QUALIFIERS: "qualifiers_in", MARK: "mark_in", SIGNED: "signed_in",
+         DISCRIMINATOR: "discriminator_in"}
 
 def makers(table):
     """The trees that some row makes."""
@@ -151,9 +195,12 @@ def antt_builders(table):
     trees = makers(table)
     used = {SORTS.get(sort, "tree_in") for tree in trees for name, sort in tree[1:]}
     arguments = [a for a in ARGUMENTS if a[0] in used | {"tree_in", "number_in"}]
-    readers = [f"unfoldable pub {name} : Argument → {type}\n{name} ({case} x) = x\n{name} _ = {none}" for name, case, type, none in arguments]
-    built = [applied(f"built new_{tree[0]} xs = {tree[0]}", [f"({SORTS.get(sort, 'tree_in')} (argument xs {i}))" for i, (name, sort) in enumerate(tree[1:])]) for tree in trees]
-    return template("cpp_grammar/Builders.antt", trees=", ".join(tree[0] for tree in trees), makers=", ".join("new_" + tree[0] for tree in trees),
+    readers = [f"unfoldable pub {name} : Argument → {type}\n{name} ({case} x) = x\n{name} _ = {none}" for name, case, type,
+               none in arguments]
+    built = [applied(f"built new_{tree[0]} xs = {tree[0]}", [f"({SORTS.get(sort, 'tree_in')} (argument xs {i}))" for i,
+            (name, sort) in enumerate(tree[1:])]) for tree in trees]
+    return template("cpp_grammar/Builders.antt", trees=", ".join(tree[0] for tree in trees),
+                    makers=", ".join("new_" + tree[0] for tree in trees),
                     cases=[f"  {case} : {type} → Argument" for _, case, type, _ in arguments], readers="\n\n".join(readers), built=built)
 
 def antt_rows(table):

@@ -1,5 +1,5 @@
-"""The answers of those functions of cpp_tree that have an arm for each node: what is noted of it, and what is seen of it. trees.py writes them.
-A step of a call has the arm's name from the second call of its function on."""
+"""The answers of those functions of cpp_tree that have an arm for each node: what is noted of it, and what is seen of it. trees.py writes
+them. A step of a call has the arm's name from the second call of its function on."""
 import re
 import cpp_trees
 import node_code
@@ -22,7 +22,8 @@ def noted(crates, others):
     for node, tree, args in nodes():
         own = list(node_code.fields(tree, args))
         right = node_code.noting(node, tree, own)
-        if right is None: continue
+        if right is None:
+            continue
         call, given = re.fullmatch(r"(?:self\.)?(\w+)\((.*)\)", right).groups()
         behind = f"-in-{node}" if call in called else ""
         called.add(call)
@@ -35,22 +36,25 @@ def noted(crates, others):
                 of = next((p for p in re.findall(r"(?<![\w.])\w+", text) if p in taken and p != "symbol"), None)
                 facts.append((name, bound[taken[of]] if of else f"c.requires.{name}"))
             value = f"record {{ {'; '.join(f'{name} = {fact}' for name, fact in facts)} }}" if facts[0][0] else facts[0][1]
-            lines += ["", *answer(f"{call}-requires{behind}", f" let b = below-as (over c.args.symbol.now c.args.self.now) (length c.args.self.now.nodes) c.in-{node}.is c.requires.below in {value}")]
+            lines += ["", *answer(f"{call}-requires{behind}", " let b = below-as (over c.args.symbol.now c.args.self.now) (length "
+                                  f"c.args.self.now.nodes) c.in-{node}.is c.requires.below in {value}")]
         lines += ["", *answer(f"returns-in-{node}", f" c.{call}{behind}.ensures ∙ rw c.in-{node}.is refl", NOTES)]
-    lines += ["", *answer("returns-in_default", "\n".join(["", "    c.bare-in_default.ensures", "    ∙ other-node c.args.self.now.nodes c.args.node (record {",
+    lines += ["", *answer("returns-in_default", "\n".join(["", "    c.bare-in_default.ensures",
+            "    ∙ other-node c.args.self.now.nodes c.args.node (record {",
         *[f"      not_{node.lower()} = c.in_default.not-{node};" for node in others], "    })"]))]
     return template("cpp_tree/noted.antt", answers=lines)
 
 # ## What is seen
 
-# what another call tells of some nodes: the lemma, what it takes beside the node and the call's texts, and where that call asks for a bound, its
-# name and which of the node's it is
+# what another call tells of some nodes: the lemma, what it takes beside the node and the call's texts, and where that call asks for a
+# bound, its name and which of the node's it is
 TOLD = {node_code.node_of(tree)[0]: said.split(" | ") for tree, said in cpp_trees.TOLD.items()}
 TABLE, HELD = "(over c.args.symbol.now c.args.nodes.now)", "(length c.args.nodes.now.nodes)"
 UNFOLDING = "fields_of erase tree_of"
 
 def seen():
-    """That each arm of a node's view shows the node: by the calls that it makes, each of whose steps has the arm's name from its second call on."""
+    """That each arm of a node's view shows the node: by the calls that it makes, each of whose steps has the arm's name from its second
+    call on."""
     called, lines = {}, []
     def place(call, arm):
         called[call] = [*called.get(call, []), arm]
@@ -66,9 +70,13 @@ def seen():
             asked, _, part = bound[0].partition(" ") if bound else ("", "", "")
             call = node_code.SEEN[node].partition("(")[0]
             behind = place(call, node)
-            if asked: lines += ["", *answer(f"{call}-requires{behind}", f" record {{ {asked} = {f'(below-as {shown}){part}' if part else f'below-as {shown}'} }}")]
-            lines += ["", *answer(goal, "\n    ".join(["", "let y = over c.args.symbol.now c.args.nodes.now in", f"let told = c.{call}{behind}.ensures in", f"{lemma} y c.in-{node}.is {fields} told.texts {others}"]), UNFOLDING)]
-        if node in node_code.SEEN and node not in ("Parameter", "BuiltinWithD"): continue
+            if asked:
+                lines += ["", *answer(f"{call}-requires{behind}", f" record {{ {asked} = "
+                                      f"{f'(below-as {shown}){part}' if part else f'below-as {shown}'} }}")]
+            lines += ["", *answer(goal, "\n    ".join(["", "let y = over c.args.symbol.now c.args.nodes.now in",
+                    f"let told = c.{call}{behind}.ensures in", f"{lemma} y c.in-{node}.is {fields} told.texts {others}"]), UNFOLDING)]
+        if node in node_code.SEEN and node not in ("Parameter", "BuiltinWithD"):
+            continue
         own = list(node_code.fields(tree, args))
         numbers, texts, parts = node_code.view(node, tree, own)
         known = [*[fact_of(number, node) for number in numbers], "refl", "refl"][:2]
@@ -77,6 +85,8 @@ def seen():
         bound = facts_of(own, args)
         facts = [bound[texts[0].removesuffix(".digits")] if texts else "none-within c.args.symbol.now", *[bound[part] for part in parts]]
         # (under what a function's types are isn't seen)
-        fields = f"(function_fields {TABLE} {' '.join(f'c.in-Function.{name}' for name in [*parts, 'under', 'qualifiers', 'mark'])})" if node == "Function" else "refl"
-        lines += ["", *answer(goal, f" seen-{count} {shown} c.{call}{place(call, node)}.ensures {' '.join(known)} {fields} (λ k b. {together(facts)})", UNFOLDING if fields == "refl" else None)]
+        fields = (f"(function_fields {TABLE} {' '.join(f'c.in-Function.{name}' for name in [*parts, 'under', 'qualifiers', 'mark'])})"
+                  if node == "Function" else "refl")
+        lines += ["", *answer(goal, f" seen-{count} {shown} c.{call}{place(call, node)}.ensures {' '.join(known)} {fields} (λ k b. "
+                              f"{together(facts)})", UNFOLDING if fields == "refl" else None)]
     return template("cpp_tree/seen.antt", answers=lines)

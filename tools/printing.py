@@ -30,67 +30,85 @@ MODULES = {line.split(" as ")[1]: line.split(" as ")[0] for line, _ in NAMED if 
 # ## What is written of a row
 
 COMMON = "Rattle.std.proofs.Common", "refl ap sym ◌∙◌ append-nil ◌∷◌ ◌++◌ []"
+
 def is_used(name, text):
     """Whether a text names this."""
-    if "◌" in name: return f" {name.strip('◌')} " in text
+    if "◌" in name:
+        return f" {name.strip('◌')} " in text
     return re.search(rf"(?<![\w.:-]){re.escape(name)}(?![\w-])", text) is not None
 
 def imports(names, text, use):
     """The imports of what a text names."""
     for module, known in names.items():
         found = [n for n in known.split() if is_used(n, text)]
-        if found: yield f"{use} {module}.{{{', '.join(found)}}}"
+        if found:
+            yield f"{use} {module}.{{{', '.join(found)}}}"
     for short, module in MODULES.items():
-        if re.search(rf"(?<![\w.]){short}\.", text): yield f"{use} {module} as {short}"
+        if re.search(rf"(?<![\w.]){short}\.", text):
+            yield f"{use} {module} as {short}"
 
 def meant(row):
     """What the arguments stand for."""
     whole, own = "(tree_at (trees (table_of self.now)) {0})", "(printed_tree self.now ctx {0})"
-    forms = {"tree": whole if row.is_encoding else own, "whole": whole, "bytes": "(bytes_at self.now.bytes {0})", "signed": "(signed_of self.now.bytes {0})",
+    forms = {"tree": whole if row.is_encoding else own, "whole": whole, "bytes": "(bytes_at self.now.bytes {0})",
+             "signed": "(signed_of self.now.bytes {0})",
              "Qualifiers": "(qualifiers_of {0})", "Mark": "(mark_of {0})"}
     said = {name: forms[sort].format(name) for name, sort in row.takes if sort in forms}
     return {**said, "c": "(context_of ctx)", "d": "detail" if row.is_encoding else "ctx.detail"}
 
 # what adds what, and what it is given beside that
-CALLS = {"first*": ("push_list", "form::FIRST", "ctx"), "prefix": ("push_prefix", "ctx"), "clone": ("push_clone_suffix",), "own": ("push_own_text",),
+CALLS = {"first*": ("push_list", "form::FIRST", "ctx"), "prefix": ("push_prefix", "ctx"), "clone": ("push_clone_suffix",),
+         "own": ("push_own_text",),
          "operand": ("fill_operand", "ctx"), **{word: (f"push_{word}",) for word in ("text", "bytes", "decimal", "some", "suffix")}}
 
 def steps(row):
-    """What is added from first to last, each the function, what it is given, and whether it is a text that may be empty; and the node of which is asked whether it is a function."""
+    """What is added from first to last, each the function, what it is given, and whether it is a text that may be empty; and the node of
+    which is asked whether it is a function."""
     sorts, added, asked = dict(row.takes), [], None
     of_encoding = row.is_encoding
-    def text(word): return word if sorts.get(word) == "text" else f"texts::{word}"
+    def text(word):
+        return word if sorts.get(word) == "text" else f"texts::{word}"
     for step in row.adds.split(", "):
         what, _, test = step.removeprefix("part ").partition(" if ")
-        if "is_function" in test: test, asked = test.split(" ")
+        if "is_function" in test:
+            test, asked = test.split(" ")
         head, *rest = what.split(" ")
-        if test and rest: call = "push_either", [test, text(head), text(rest[1])]
-        elif test: call = "push_text_if", [test, text(head)]
+        if test and rest:
+            call = "push_either", [test, text(head), text(rest[1])]
+        elif test:
+            call = "push_text_if", [test, text(head)]
         elif head in ("left", "right", "base", "piece", "full", "bare"):
             closed = of_encoding or sorts[rest[0]] == "whole"
-            call = ("push_closed", [*rest, f"form::{head.upper()}", "detail" if of_encoding else "ctx.detail"]) if closed else ("push_item", [*rest, f"form::{head.upper()}", "0", "ctx"])
-        elif head in CALLS: call = CALLS[head][0], [*rest, *CALLS[head][1:]]
-        else: call = "push_text", [text(head)]
+            call = ("push_closed", [*rest, f"form::{head.upper()}", "detail" if of_encoding else "ctx.detail"]) if closed else ("push_item",
+                    [*rest, f"form::{head.upper()}", "0", "ctx"])
+        elif head in CALLS:
+            call = CALLS[head][0], [*rest, *CALLS[head][1:]]
+        else:
+            call = "push_text", [text(head)]
         added.append((*call, step.startswith("part ")))
     return added, asked
 
 # what is told of the parts that were there: the functions that add parts of one detail alone are told no detail
 TOLD = {"push_item": "_ _", "push_closed": "_ _", "push_list": "_ _", "push_prefix": "_ _", "fill_operand": "_ _"}
 
-REQUIRED = {"an encoding": [], None: [], "its own": ["own { is_again (entry_at self.now.table.nodes node).node ≡ false }"], "a table": ["table { IsTable (table_of self.now) }"]}
-OF_SORTS = {"tree": "{0} {{ {0} < length self.now.table.nodes }}", "bytes": "{0} {{ IsWithin {0} self.now.bytes }}", "signed": "digits {{ IsWithin {0}.digits self.now.bytes }}",
+REQUIRED = {"an encoding": [], None: [], "its own": ["own { is_again (entry_at self.now.table.nodes node).node ≡ false }"],
+            "a table": ["table { IsTable (table_of self.now) }"]}
+OF_SORTS = {"tree": "{0} {{ {0} < length self.now.table.nodes }}", "bytes": "{0} {{ IsWithin {0} self.now.bytes }}",
+            "signed": "digits {{ IsWithin {0}.digits self.now.bytes }}",
             "text": "{0} {{ 0 < length (fixed_text {0}) }}"}
 OF_SORTS["whole"] = OF_SORTS["tree"]
 
 def function_of(row):
     """The function."""
     added, asked = steps(row)
-    given = ["&self", "parts: &mut S", *[f"{argument}: {SORTS.get(sort, sort)}" for argument, sort in row.takes], "detail: Detail" if row.is_encoding else "ctx: Context"]
+    given = ["&self", "parts: &mut S", *[f"{argument}: {SORTS.get(sort, sort)}" for argument, sort in row.takes],
+             "detail: Detail" if row.is_encoding else "ctx: Context"]
     head = f"    pub(crate) fn {row.name}<S: PartList<Context>>("
     whole = f"{head}{', '.join(given)})"
     required = [*([] if row.is_encoding else ["context { IsAliasBelow (length self.now.table.nodes) ctx.argument }"]), *REQUIRED[row.of],
                 *[OF_SORTS[sort].format(argument) for argument, sort in row.takes if sort in OF_SORTS]]
-    head = [*([f"    // {row.source}"] if row.source else []), *([whole] if len(whole) <= 100 else [head, *[f"        {argument}," for argument in given], "    )"]),
+    head = [*([f"    // {row.source}"] if row.source else []), *([whole] if len(whole) <= 100
+            else [head, *[f"        {argument}," for argument in given], "    )"]),
             *[f"        requires {clause}" for clause in required]]
     calls = [*([f"        let is_function = self.is_function({asked}, ctx);"] if asked else []),
              *(["        let operation = operation_of(first, second);"] if "operation." in row.adds else []),
@@ -110,32 +128,39 @@ def lemmas(crates):
     found = {}
     for name in sorted(os.listdir(folder)):
         if name.endswith(".antt") and name != "Lib.antt":
-            for lemma in re.findall(r"^ *pub (\S+) : ", read(f"{folder}/{name}"), re.M): found[lemma] = f"Rattle.cpp_layout.proofs.{name[:-5]}"
+            for lemma in re.findall(r"^ *pub (\S+) : ", read(f"{folder}/{name}"), re.M):
+                found[lemma] = f"Rattle.cpp_layout.proofs.{name[:-5]}"
     return found
 
 def answer(row, known):
     """The answer of a row's function."""
     said = meant(row)
     names = "|".join([name for name, sort in row.takes] + ["self", "ctx", "detail"])
-    def argued(text): return re.sub(rf"(?<![\w.-])({names})(?![\w-])", r"c.args.\1", text)
+    def argued(text):
+        return re.sub(rf"(?<![\w.-])({names})(?![\w-])", r"c.args.\1", text)
     detail = argued(said["d"])
     chain, seen = f"(starts c.args.self.now {detail} _)", {}
     for call, what, part in reversed(steps(row)[0]):
         seen[call] = seen.get(call, 0) + 1
         step = call if seen[call] == 1 else f"{call}-{seen[call]}"
         chain = f"(c.{step}.ensures.shows {TOLD.get(call, '_ _ _')} {chain})"
-        if part: chain = f"(part-text c.args.self.now {detail} _ _ _ {chain})"
+        if part:
+            chain = f"(part-text c.args.self.now {detail} _ _ _ {chain})"
     why = argued((row.why or "refl").format(**said))
     body = f"returns-clause-shows g c = fills c.args.self.now {detail} _ _ _ {chain} {why if why == 'refl' else f'({why})'}"
     used = {lemma: known[lemma] for lemma in known if is_used(lemma, body.replace("returns-clause-shows g c = ", ""))}
     by_module = {}
-    for lemma, module in used.items(): by_module[module] = f"{by_module.get(module, '')} {lemma}".strip()
-    lines = [f"-- {GENERATED.strip()}", *imports({COMMON[0]: COMMON[1], **{m: n for m, n in NAMES.items() if "Prelude" not in m}, **by_module}, body, "use"),
-        f"use Rattle.cpp_layout.proofs.symbol.Symbol.{row.name}.Goals as goal", "", "pub returns-clause-shows : goal.returns-clause-shows", body]
+    for lemma, module in used.items():
+        by_module[module] = f"{by_module.get(module, '')} {lemma}".strip()
+    lines = [f"-- {GENERATED.strip()}", *imports({COMMON[0]: COMMON[1], **{m: n for m, n in NAMES.items() if "Prelude" not in m},
+            **by_module}, body, "use"),
+        f"use Rattle.cpp_layout.proofs.symbol.Symbol.{row.name}.Goals as goal", "", "pub returns-clause-shows : goal.returns-clause-shows",
+        body]
     return "\n".join(lines) + "\n"
 
 def files(crates):
     """What is written: each file's path in the folder of the crates, and its text."""
     known = lemmas(crates)
     yield FILE, code()
-    for row in ROWS: yield f"cpp_layout/proofs/symbol/Symbol/{row.name}/Answers.antt", answer(row, known)
+    for row in ROWS:
+        yield f"cpp_layout/proofs/symbol/Symbol/{row.name}/Answers.antt", answer(row, known)

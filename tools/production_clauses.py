@@ -14,9 +14,11 @@ from rules import ALIKE
 from tree_clauses import SCOPED, SUBTREES
 
 # What is read of a value's parts, and of the arguments of a tree, with arguments in its parameters: of a tree it is annotated.
-READ_OF_VALUES = {"tree": "tree_of", "piece": "piece_of", "listed": "is_listed", "qualifiers": "qualifiers_of", "ref": "ref_of", "letter": "letter_of", "there": "is_there",
+READ_OF_VALUES = {"tree": "tree_of", "piece": "piece_of", "listed": "is_listed", "qualifiers": "qualifiers_of", "ref": "ref_of",
+                  "letter": "letter_of", "there": "is_there",
                   "mark": "mark_of", "text": "text_of", "signed": "signed_of", "adjustment": "adjustment_of"}
-READ_OF_ARGUMENTS = {f"{name}_in": f"{name}_in" for name in ("tree", "bytes", "number", "truth", "qualifiers", "mark", "signed", "discriminator")}
+READ_OF_ARGUMENTS = {f"{name}_in": f"{name}_in" for name in ("tree", "bytes", "number", "truth", "qualifiers", "mark", "signed",
+        "discriminator")}
 
 def read_noted(names, module, sort, one, noted, listed, whole, first_of_them, public):
     """That what is read of an annotated thing is what is read of it, and the same of one of a list."""
@@ -25,13 +27,16 @@ def read_noted(names, module, sort, one, noted, listed, whole, first_of_them, pu
         of = (lambda read: f"annotate s ({read})") if trees else (lambda read: read)
         there = name.replace("_in", "_there") if name in READ_OF_ARGUMENTS else f"{name}_part"
         yield (f"{public}{name}_noted : (s : Place) (v : {sort}) → {module}.{function} ({noted} s v) ≡ {of(f'{function} v')}\n"
-            f"unfolding {module}.{function} {function} {noted}{' annotate' if trees else ''}\n{name}_noted s {first_of_them} = refl\n{name}_noted s _ = refl")
-        yield (f"{public}{there} : (s : Place) (vs : List {sort}) (k : ℕ) → {module}.{function} ({module}.{one} ({listed} s vs) k) ≡ {of(f'{function} ({one} vs k)')}\n"
+            f"unfolding {module}.{function} {function} {noted}{' annotate' if trees else ''}\n{name}_noted s {first_of_them} = "
+            f"refl\n{name}_noted s _ = refl")
+        yield (f"{public}{there} : (s : Place) (vs : List {sort}) (k : ℕ) → {module}.{function} ({module}.{one} ({listed} s vs) k) ≡ "
+               f"{of(f'{function} ({one} vs k)')}\n"
             f"{there} s vs k = ap {module}.{function} ({whole} s vs k) ∙ {name}_noted s ({one} vs k)")
 
 # ## Productions
 
-def by_production(function, values, others): return [f"{function} {case} = {v}" for case, v in defined_cases(values)] + [f"{function} _ = {others}"]
+def by_production(function, values, others):
+    return [f"{function} {case} = {v}" for case, v in defined_cases(values)] + [f"{function} _ = {others}"]
 
 # What a kind has at most, less the nodes that its bytes pay for: two a byte.
 SLACK_BASE = 10
@@ -46,7 +51,8 @@ def slack():
     least = {k: SLACK_BASE if empty else 0 for k, (empty, rules) in kinds.items()}
     while True:
         more = {k: max([least[k], *(needed(p, least) for bytes_, p in rules)]) for k, (empty, rules) in kinds.items()}
-        if more == least: return [f"slack = {listed(least.values())}"]
+        if more == least:
+            return [f"slack = {listed(least.values())}"]
         assert max(more.values()) <= 2 * SLACK_BASE, "a production makes more than its bytes pay for"
         least = more
 
@@ -58,28 +64,35 @@ def built_good():
     for tree in makers(grammar.rows()):
         scoped = [f"(all {i}).closed" for i, (name, sort) in enumerate(tree[1:]) if sort in SCOPED]
         scopes = [f"(all {i}).scopes n" for i, (name, sort) in enumerate(tree[1:]) if sort in SUBTREES]
-        closed = "λ h. refl" if not scoped else scoped[0] if len(scoped) == 1 else f"λ h. {applied('or_no _ _', [f'({fact} h)' for fact in scoped])}"
+        closed = ("λ h. refl" if not scoped else scoped[0] if len(scoped) == 1
+                  else f"λ h. {applied('or_no _ _', [f'({fact} h)' for fact in scoped])}")
         lines.append(f"built_good s new_{tree[0]} xs all = record {{ closed = {closed}; scopes = λ n. {together(scopes)} }}")
     return lines
 
 # what reads an argument of a sort, annotated
-READ = {BYTES: "bytes", NUMBER: "number", TRUTH: "truth", QUALIFIERS: "qualifiers", MARK: "mark", SIGNED: "signed", DISCRIMINATOR: "discriminator"}
+READ = {BYTES: "bytes", NUMBER: "number", TRUTH: "truth", QUALIFIERS: "qualifiers", MARK: "mark", SIGNED: "signed",
+        DISCRIMINATOR: "discriminator"}
 
-def encodings_in(tree): return [i for i, (name, sort) in enumerate(tree[1:]) if sort in (OWN, OUTSIDE)]
+def encodings_in(tree):
+    return [i for i, (name, sort) in enumerate(tree[1:]) if sort in (OWN, OUTSIDE)]
 
-def takes_encodings(): return [f"takes_encodings new_{tree[0]} = true" for tree in makers(grammar.rows()) if encodings_in(tree)] + ["takes_encodings _ = false"]
+def takes_encodings():
+    return ([f"takes_encodings new_{tree[0]} = true" for tree in makers(grammar.rows()) if encodings_in(tree)]
+            + ["takes_encodings _ = false"])
 
 def are_shut():
     """Which arguments of a maker have to be closed."""
     lines = []
     for tree in makers(grammar.rows()):
         facts = [f"is_open (tree_in (argument xs {i})) ≡ false" for i in encodings_in(tree)]
-        if facts: lines.append(f"AreShut new_{tree[0]} xs = " + (facts[0] if len(facts) == 1 else " × ".join(f"({fact})" for fact in facts)))
+        if facts:
+            lines.append(f"AreShut new_{tree[0]} xs = " + (facts[0] if len(facts) == 1 else " × ".join(f"({fact})" for fact in facts)))
     return lines + ["AreShut _ xs = Unit {0}"]
 
 def none_are_taken():
     """That a maker which takes encodings isn't one that takes none."""
-    return [f"none_are_taken new_{tree[0]} xs h = absurd (true≢false h)" for tree in makers(grammar.rows()) if encodings_in(tree)] + ["none_are_taken _ xs h = tt"]
+    return ([f"none_are_taken new_{tree[0]} xs h = absurd (true≢false h)" for tree in makers(grammar.rows()) if encodings_in(tree)]
+            + ["none_are_taken _ xs h = tt"])
 
 def built_noted():
     """That what is made of annotated arguments is the annotated tree."""
@@ -87,10 +100,12 @@ def built_noted():
     for tree in makers(grammar.rows()):
         apart = encodings_in(tree)
         def fact(i, sort):
-            if i in apart: return f"(shut_there s xs {i} {'h' if len(apart) == 1 else f'h.{apart.index(i)}'})"
+            if i in apart:
+                return f"(shut_there s xs {i} {'h' if len(apart) == 1 else f'h.{apart.index(i)}'})"
             return f"({READ.get(sort, 'tree')}_there s xs {i})"
         facts = [fact(i, sort) for i, (name, sort) in enumerate(tree[1:])]
-        lines.append(f"built_noted s new_{tree[0]} xs h = " + (applied(["ap", "both", "three", "four", "five"][len(facts) - 1], [f"term_.{tree[0]}", *facts]) if facts else "refl"))
+        lines.append(f"built_noted s new_{tree[0]} xs h = " + (applied(["ap", "both", "three", "four", "five"][len(facts) - 1],
+                [f"term_.{tree[0]}", *facts]) if facts else "refl"))
     return lines
 
 # ## Common productions
@@ -103,7 +118,8 @@ def is_rare():
 
 def families():
     """The productions of each family, and those that are common."""
-    return {**{family: productions for module in family_code.FAMILIES.values() for family, (says, productions) in module.items()}, "Common": words.COMMON}
+    return {**{family: productions for module in family_code.FAMILIES.values() for family, (says, productions) in module.items()},
+            "Common": words.COMMON}
 
 def family_specs(found):
     """The family of each production."""
@@ -124,8 +140,10 @@ def family_law(family, productions):
     others = ["rare"] if is_common else [f"n{i}" for i in range(len(cases))]
     refuted = ["rare" if is_common else f"{other}{' one' if case in ALIKE else ''} refl" for case, other in zip(cases, others * len(cases))]
     premises = " → IsRare p" if is_common else "".join(f"\n    → {isnt(case)}" for case in cases) + "\n   "
-    clauses = [applied(name, [f"(Production.{case} one)" if case in ALIKE else f"Production.{case}", "is", *others]) + f" = {absurd}" for case, absurd in zip(cases, refuted)]
-    return template("cpp_link/family_law.antt", family=family, name=name, premises=premises, others=" ".join(others), clauses=clauses).rstrip("\n")
+    clauses = [applied(name, [f"(Production.{case} one)" if case in ALIKE else f"Production.{case}", "is", *others]) + f" = {absurd}"
+               for case, absurd in zip(cases, refuted)]
+    return template("cpp_link/family_law.antt", family=family, name=name, premises=premises, others=" ".join(others),
+                    clauses=clauses).rstrip("\n")
 
 def family_laws(found):
     """The same of each family."""
@@ -134,13 +152,15 @@ def family_laws(found):
 
 def family_answers(family, productions):
     """The answer that a family's function has an arm for each of its productions."""
-    return template("cpp_link/unreachable.antt", name=snake(family), others=[f"    c.in_default.not-{case}" for case in arms_of(productions)])
+    return template("cpp_link/unreachable.antt", name=snake(family), others=[f"    c.in_default.not-{case}"
+            for case in arms_of(productions)])
 
 def common_answers():
     """The paths and the answers of the functions that have an arm for each common production: others are rare. What `finish_rule` hands to
     `finish_as`, and what it has from it, is passed on; the ABI's reading refuses a constructor that is inherited."""
     others = [f"  not_{snake(p)} = c.in_default.not-{p};" for p in words.COMMON]
-    handed = [template("cpp_link/handed.antt", production=p, at="" if p == words.COMMON[0] else f"-in-{p}").rstrip("\n") for p in words.COMMON]
+    handed = [template("cpp_link/handed.antt", production=p, at="" if p == words.COMMON[0] else f"-in-{p}").rstrip("\n")
+              for p in words.COMMON]
     yield "outcome", template("cpp_link/outcome.antt", others=others)
     yield "finish_rule", template("cpp_link/finish_rule.antt", others=others, handed=handed)
 
@@ -148,11 +168,15 @@ def arms(function, productions):
     """The arms of a match that hand these productions to a function, as rt fmt lays them out."""
     for p in productions:
         line = f"            Production::{p} => self.{function}(symbol, Production::{p}, frame, parts),"
-        if len(line) <= 100: yield line
-        else: yield from [f"            Production::{p} => self.{function}(", "                symbol,", f"                Production::{p},", "                frame,", "                parts,", "            ),"]
+        if len(line) <= 100:
+            yield line
+        else:
+            yield from [f"            Production::{p} => self.{function}(", "                symbol,", f"                Production::{p},",
+                        "                frame,", "                parts,", "            ),"]
 
 def may_leave(crates):
-    """What may leave a tree that is no candidate yet: the productions of the kinds whose trees become candidates later, but for those that make a name."""
+    """What may leave a tree that is no candidate yet: the productions of the kinds whose trees become candidates later, but for those that
+    make a name."""
     text = read(f"{crates}/cpp_link/proofs/CandidatesFew.antt")
     kinds = set(re.findall(r"nat_eq k (\w+)", re.search(r"^becomes_candidate k =\n((?:    .*\n)+)", text, re.M)[1]))
     names = set(re.findall(r"^makes_name Production\.(\w+) = true$", text, re.M))
@@ -161,13 +185,17 @@ def may_leave(crates):
     return by_production("may_leave", {p: "true" for p in productions if p in begun}, "false")
 
 # how many nodes code of its own makes of the values of its parts, where that isn't always as many as its row says
-MAKES_AT_END = {"closure": "lambda_at_end known", "inheriting": "inheriting_at_end (part known 1)", "by_letters": "operation_at_end (part known 0)", "enclosed": "enclosed_at_end known",
+MAKES_AT_END = {"closure": "lambda_at_end known", "inheriting": "inheriting_at_end (part known 1)",
+                "by_letters": "operation_at_end (part known 0)", "enclosed": "enclosed_at_end known",
                 "elements": "elements_at_end known", "substitution": "0"}
 
 def makes_at_end():
     """How many nodes a production makes at its end, of the values of its parts."""
     def value(form):
-        if form == "in_place" or form.startswith("a_name "): return "name_at_end known"
-        if m := re.fullmatch(r"own (\w+) \d", form): return MAKES_AT_END.get(m[1])
+        if form == "in_place" or form.startswith("a_name "):
+            return "name_at_end known"
+        if m := re.fullmatch(r"own (\w+) \d", form):
+            return MAKES_AT_END.get(m[1])
     found = {p: value(row.form) for p, row in grammar.rows().items()}
-    return [*[f"makes_at_end {case} known = {v}" for case, v in defined_cases({p: v for p, v in found.items() if v})], "makes_at_end p known = made_at_end p"]
+    return [*[f"makes_at_end {case} known = {v}" for case, v in defined_cases({p: v for p, v in found.items() if v})],
+            "makes_at_end p known = made_at_end p"]

@@ -21,9 +21,12 @@ def row(reference, symbol, brief=False):
     answer = reference.demangle(symbol, 4_000, brief)
     if answer.answer == "text":
         return f"{'briefly' if brief else 'prints'} {quoted(symbol)} {quoted(answer.text)} {answer.cost}"
-    if answer.answer == "BadReference": return f"refers_badly {quoted(symbol)} {answer.at}"
-    if answer.answer == "BadValue": return f"counts_badly {quoted(symbol)} {answer.at}"
-    if answer.answer == "Malformed": return f"has_no_shape {quoted(symbol)}"
+    if answer.answer == "BadReference":
+        return f"refers_badly {quoted(symbol)} {answer.at}"
+    if answer.answer == "BadValue":
+        return f"counts_badly {quoted(symbol)} {answer.at}"
+    if answer.answer == "Malformed":
+        return f"has_no_shape {quoted(symbol)}"
     return None
 
 def is_plain(symbol):
@@ -34,17 +37,25 @@ def generated(reference, generator, modes):
     for seed, count, mode, size, wild, kinds, wanted in modes:
         found = 0
         for symbol in generator.symbols(seed, count, "cpp", mode, size=size, wild=wild):
-            if found == wanted: break
-            if symbol in seen or not is_plain(symbol) or not symbol.startswith(b"_Z") or not 8 <= len(symbol) <= 90: continue
+            if found == wanted:
+                break
+            if symbol in seen or not is_plain(symbol) or not symbol.startswith(b"_Z") or not 8 <= len(symbol) <= 90:
+                continue
             text = row(reference, symbol)
-            if text is None or len(text) > 400 or text.split()[0] not in kinds: continue
-            seen.add(symbol); out.append(text); found += 1
+            if text is None or len(text) > 400 or text.split()[0] not in kinds:
+                continue
+            seen.add(symbol)
+            out.append(text)
+            found += 1
     return out
 
 # the definitions that rows compute with, by module
-READING = ["cpp_grammar.specs." + m for m in ("Grammar", "Table", "Values", "Scope", "References", "Surrounding", "Standing", "Between", "Meaning", "Unfolding", "Texts")]
-PRINTING = READING + ["cpp_grammar.specs." + m for m in ("Items", "Parts", "Ranks")] + ["cpp_grammar.proofs.Reader", "cpp_grammar.proofs.Row"]
-PRESSING = READING + ["cpp_grammar.proofs.Reader"] + ["cpp_press_laws.specs." + m for m in ("Same", "Texts", "Components", "Pressing")] + ["cpp_press_laws.proofs.Rows.Row"]
+READING = ["cpp_grammar.specs." + m for m in ("Grammar", "Table", "Values", "Scope", "References", "Surrounding", "Standing", "Between",
+        "Meaning", "Unfolding", "Texts")]
+PRINTING = (READING + ["cpp_grammar.specs." + m for m in ("Items", "Parts", "Ranks")]
+            + ["cpp_grammar.proofs.Reader", "cpp_grammar.proofs.Row"])
+PRESSING = (READING + ["cpp_grammar.proofs.Reader"] + ["cpp_press_laws.specs." + m for m in ("Same", "Texts", "Components", "Pressing")]
+            + ["cpp_press_laws.proofs.Rows.Row"])
 # names of those modules that no row needs
 UNPRESSED = ("look_up builtin_texts operator_texts abbreviation_texts special_texts named_special_texts literal_endings see seen_tree").split()
 UNUSED = ("sheet sheet_before blank abi abi_before sheet_with choice_of class_of ranges_of rule_taken").split()
@@ -54,7 +65,8 @@ def names_in(crates, modules, unused):
     for module in modules:
         text = open(f"{crates}/{module.replace('.', '/')}.antt").read()
         found = re.findall(r"^unfoldable pub (\S+) :", text, re.M)
-        for block in re.findall(r"^unfoldable mutual\n((?:  .*\n|\n)+)", text, re.M): found += re.findall(r"^  pub (\S+) :", block, re.M)
+        for block in re.findall(r"^unfoldable mutual\n((?:  .*\n|\n)+)", text, re.M):
+            found += re.findall(r"^  pub (\S+) :", block, re.M)
         names[module] = [n for n in found if n not in unused]
     return names
 
@@ -69,8 +81,10 @@ def write(crates, crate, name, title, uses, modules, groups, test, unused=UNUSED
     out += [f"use Rattle.{module}.{{{', '.join(ns)}}}" for module, ns in names.items() if ns]
     unfolding = " ".join(["unfolding", *others, *[n for ns in names.values() for n in ns]])
     for k, rows in enumerate(groups):
-        out += ["", f"abbrev rows_{k} : List Row", f"rows_{k} =", *[f"    {r} ∷" for r in rows], "    []", "", f"right_{k} : {test} rows_{k} ≡ true", unfolding, f"right_{k} = refl"]
-    with open(f"{crates}/{crate}/proofs/{name}.antt", "w") as f: f.write("\n".join(out) + "\n")
+        out += ["", f"abbrev rows_{k} : List Row", f"rows_{k} =", *[f"    {r} ∷" for r in rows], "    []", "",
+                f"right_{k} : {test} rows_{k} ≡ true", unfolding, f"right_{k} = refl"]
+    with open(f"{crates}/{crate}/proofs/{name}.antt", "w") as f:
+        f.write("\n".join(out) + "\n")
 
 def split(rows, size):
     return [rows[i:i + size] for i in range(0, len(rows), size)]
@@ -84,7 +98,8 @@ def listed_presses(reference):
     # other rows have bytes that are no text
     for line in open(f"{HERE}/../crates/check_rows/stdin", "rb"):
         words = line.rstrip(b"\n").split(b"\t")
-        if words[0] != b"press" or not words[1].startswith(b"_Z") or len(words[1]) > 120: continue
+        if words[0] != b"press" or not words[1].startswith(b"_Z") or len(words[1]) > 120:
+            continue
         text = pressed_row(reference, words[1])
         assert text == f"presses {quoted(words[1])} {quoted(words[2])}", line
         out.append(text)
@@ -96,11 +111,16 @@ def generated_presses(reference, generator, modes):
     for seed, count, size, changed, same in modes:
         left = {True: changed, False: same}
         for symbol in generator.symbols(seed, count, "cpp", "valid", size=size, wild=0.0):
-            if symbol in seen or not is_plain(symbol) or not symbol.startswith(b"_Z") or not 8 <= len(symbol) <= 120: continue
-            if row(reference, symbol) is None or not row(reference, symbol).startswith("prints "): continue
+            if symbol in seen or not is_plain(symbol) or not symbol.startswith(b"_Z") or not 8 <= len(symbol) <= 120:
+                continue
+            if row(reference, symbol) is None or not row(reference, symbol).startswith("prints "):
+                continue
             differs = reference.press(symbol) != symbol
-            if not left[differs]: continue
-            left[differs] -= 1; seen.add(symbol); out.append(pressed_row(reference, symbol))
+            if not left[differs]:
+                continue
+            left[differs] -= 1
+            seen.add(symbol)
+            out.append(pressed_row(reference, symbol))
     return out
 
 def main():
@@ -108,20 +128,24 @@ def main():
     listed = []
     for line in open(f"{HERE}/cpp_symbols.txt"):
         words = line.split()
-        if not words or words[0].startswith("#"): continue
+        if not words or words[0].startswith("#"):
+            continue
         text = row(reference, words[-1].encode(), words[0] == "brief")
         assert text is not None, line
         listed.append(text)
     modes = [(11, 4000, "valid", 8, 0.0, ("prints",), 130), (12, 4000, "valid", 14, 0.0, ("prints",), 60),
              (13, 20000, "valid", 12, 0.4, ("refers_badly", "counts_badly"), 100), (14, 4000, "mutated", 8, 0.0, ("has_no_shape",), 20)]
-    printing = ["use Rattle.std.specs.Fmt.{digits}", "use Rattle.sym_print.specs.Unfold.{printed_to, printed}"], WORDS, ["digits", "printed_to", "printed"]
+    printing = ["use Rattle.std.specs.Fmt.{digits}", "use Rattle.sym_print.specs.Unfold.{printed_to, printed}"], WORDS, ["digits",
+            "printed_to", "printed"]
     for name, title, rows in (("ListedRows", "Symbols of each kind, and at the edges of the rules.", listed),
                               ("GeneratedRows", "Symbols that a generator wrote.", generated(reference, generator, modes))):
         write(crates, "cpp_grammar", name, title, printing, PRINTING, split(rows, 40), "are_right", UNUSED + ["special_front"])
     pressing = [], ("presses",), []
     modes = [(21, 8000, 8, 60, 20), (22, 8000, 14, 50, 10)]
     for name, title, rows in (("Rows/Listed", "Pressed spellings by each rule.", listed_presses(reference)),
-                              ("Rows/Generated", "Pressed spellings of symbols that a generator wrote.", generated_presses(reference, generator, modes))):
+                              ("Rows/Generated", "Pressed spellings of symbols that a generator wrote.",
+                               generated_presses(reference, generator, modes))):
         write(crates, "cpp_press_laws", name, title, pressing, PRESSING, split(rows, 40), "are_pressed", UNUSED + UNPRESSED)
 
-if __name__ == "__main__": main()
+if __name__ == "__main__":
+    main()

@@ -1,5 +1,5 @@
-"""The rules of C++'s grammar: from the tables cpp_names.txt, cpp_types.txt, cpp_arguments.txt, cpp_wide_forms.txt and cpp_expressions.txt to the
-productions with their symbols and rows, and to the kinds with their alternatives. cpp_names.txt says how a rule is written."""
+"""The rules of C++'s grammar: from the tables cpp_names.txt, cpp_types.txt, cpp_arguments.txt, cpp_wide_forms.txt and cpp_expressions.txt
+to the productions with their symbols and rows, and to the kinds with their alternatives. cpp_names.txt says how a rule is written."""
 import cpp_trees
 import vocabulary as words
 from files import sections
@@ -21,11 +21,9 @@ ABOVE = {}
 # the number of the production that no row of letters has, since its byte is the blank
 BLANK = ord(" ")
 
-
 def letters_of(literals, after_d):
     """The letters of builtin types with a code of one letter, or after D, whose literals are of these sorts."""
     return "".join(code[-1] for code, text, literal in words.BUILTINS if (len(code) == 2) == after_d and literal in literals)
-
 
 ANY = {literal for _, _, literal in words.BUILTINS}
 CLASSES = {
@@ -39,7 +37,6 @@ CLASSES = {
 for code, _ in words.OPERATORS:
     CLASSES["@OPERATOR_" + code[0].upper()] = CLASSES.get("@OPERATOR_" + code[0].upper(), "") + code[1]
 
-
 def production(name, eats, symbols, row):
     """Enters a production, which may be entered again as it is."""
     entered = (eats, symbols)
@@ -49,12 +46,10 @@ def production(name, eats, symbols, row):
     if row:
         ROWS[name] = row
 
-
 def row_of(texts):
     """A row, by its words."""
     row = dict(text.split(" ", 1) for text in texts)
     return {**row, "nodes": int(row["nodes"])} if "nodes" in row else row
-
 
 class Reader:
     """What rules refer to: groups, and the first rule of each production."""
@@ -97,7 +92,6 @@ class Reader:
             return list(self.named(rest))
         return [self.rule(f"{rest} Mark" if first == "mark" else line, above)]
 
-
 def build(extended=True, widened=False):
     """Enters one of the grammars: with vector types and the like or without them, and the wide one."""
     for table in (P, ROWS, K, MARKED, ALIKE):
@@ -121,10 +115,9 @@ def build(extended=True, widened=False):
         assert all(one == meant[0] for one in meant), f"productions of {name} that don't mean the same"
     put_in_order()
 
-
 def put_in_order():
-    """Puts the productions in the order of their numbers. Those of the ABI's grammar come first, since the letters of its rows are these numbers.
-    The last of them have the bytes that aren't printed, and one of the wide grammar's own has the number that is no letter."""
+    """Puts the productions in the order of their numbers. Those of the ABI's grammar come first, since the letters of its rows are these
+    numbers. The last of them have the bytes that aren't printed, and one of the wide grammar's own has the number that is no letter."""
     common = {rule[1] for kind, (_, rules) in K.items() for rule in rules if (kind, *rule) not in MARKED}
     first, own = ([(name, P[name]) for name in P if (name in common) == there] for there in (True, False))
     own.reverse()

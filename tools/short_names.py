@@ -85,7 +85,8 @@ def files(crates):
         first_default = len(defaults_rows)
         defaults_rows += [f"    {texts.place(default)}, // {name}" for default in defaults]
         polymorphic = defaults[-1].replace("\2allocator", "\2pmr::polymorphic_allocator") if name in pmr else ""
-        rows.append(f"    template!({texts.place(name)}, {len(defaults)}, {first_default}, {texts.place(polymorphic)}, {first}, {len(aliases)}), // {name}")
+        rows.append(f"    template!({texts.place(name)}, {len(defaults)}, {first_default}, {texts.place(polymorphic)}, {first}, "
+                    f"{len(aliases)}), // {name}")
     assert not of, of
     wholes = [f"std::{name}::" for name in listed["whole"][0]] + ["std::"]
     inlines = [f"{name}::" for sort in ("part", "whole", "other") for name in listed[sort][0]]
@@ -97,7 +98,13 @@ def files(crates):
     std, lines = texts.place("std::"), "".join(texts.texts)
     string = next((row, whole_list(["char"], defaults)) for row, (name, defaults) in enumerate(listed_templates) if name == "basic_string")
     firsts = [sum(size < k for size in sizes) for k in range(max(sizes) + 2)]
-    yield "short_names/src/table.rt", template("short_names/table.rt", std=std, marks=["    " + ", ".join(marks[k:k + 13]) + "," for k in range(0, len(marks), 13)], places=texts.constants(), longest=str(len(firsts) - 1), firsts=str(len(firsts)), first=["    " + ", ".join(map(str, firsts[k:k + 25])) + "," for k in range(0, len(firsts), 25)], texts=escaped(lines), length=str(len(lines)), templates=rows, count=str(len(rows)), defaults=defaults_rows, defaults_count=str(len(defaults_rows)), aliases=aliases, names=str(len(aliases)),
+    yield "short_names/src/table.rt", template("short_names/table.rt", std=std,
+            marks=["    " + ", ".join(marks[k:k + 13]) + "," for k in range(0, len(marks), 13)], places=texts.constants(),
+            longest=str(len(firsts) - 1), firsts=str(len(firsts)), first=["    " + ", ".join(map(str, firsts[k:k + 25])) + ","
+            for k in range(0, len(firsts), 25)], texts=escaped(lines), length=str(len(lines)), templates=rows, count=str(len(rows)),
+            defaults=defaults_rows, defaults_count=str(len(defaults_rows)), aliases=aliases, names=str(len(aliases)),
         string_template=str(string[0]), string=str(usual.index("string")), string_size=str(len(string[1])), string_list=string[1],
-        usual_firsts=flags({alias[0] for alias, _, _ in listed["alias"]}), inline_firsts=marks_of(groups, 0), inline_thirds=marks_of(groups, 2),
-        **{name.lower(): rows for name, rows in places.items()}, **{f"{name.lower()}_count": str(len(rows)) for name, rows in places.items()})
+        usual_firsts=flags({alias[0] for alias, _, _ in listed["alias"]}), inline_firsts=marks_of(groups, 0),
+        inline_thirds=marks_of(groups, 2),
+        **{name.lower(): rows for name, rows in places.items()}, **{f"{name.lower()}_count": str(len(rows)) for name,
+                rows in places.items()})

@@ -27,7 +27,6 @@ pressed is left, too.
 TITLES = {"abi": "C++", "wide": "C++ by the wide grammar", "rust": "Rust"}
 WAYS = ("general", "short")
 
-
 def forms(crates):
     """Of each grammar its forms in order, each with its symbols by their way."""
     found = {grammar: {} for grammar in TITLES}
@@ -39,7 +38,6 @@ def forms(crates):
         shown = f"`{symbol}`" if detail == "full" else f"`{symbol}` with `--{detail}`"
         found[grammar].setdefault(form, {way: [] for way in WAYS})[way].append(shown)
     return found
-
 
 def page(crates):
     """The text of the page."""
@@ -54,7 +52,6 @@ def page(crates):
             lines.append(f"| {form} | {', '.join(symbols['general'])} | {', '.join(symbols['short'])} |")
         lines.append("")
     return "\n".join(lines[:-1]) + "\n"
-
 
 def files(crates):
     """The page, by its path from the crates."""

@@ -1,5 +1,6 @@
-"""Sorts of the values of C++'s parts and of the arguments of its trees: checks that each row fits the parts of its production, and writes what the
-definition checks the same with. grammar.py calls it. What each maker takes is in cpp_trees.txt; cpp_words.txt says what code of its own gives."""
+"""Sorts of the values of C++'s parts and of the arguments of its trees: checks that each row fits the parts of its production, and writes
+what the definition checks the same with. grammar.py calls it. What each maker takes is in cpp_trees.txt; cpp_words.txt says what code of
+its own gives."""
 import re
 
 import cpp_trees
@@ -10,19 +11,26 @@ from notation import listed
 from rules import TOKENS
 
 # the sorts, and those of arguments by what cpp_trees.txt says of them
-ALL = ("trees", "pieces", "texts", "numbers", "truths", "qualifications", "marks", "signed_numbers", "discriminators", "none_read", "letters", "adjustments", "names", "pairs", "signatures")
-OF_ARGUMENT = {PIECE: "pieces", BYTES: "texts", NUMBER: "numbers", TRUTH: "truths", QUALIFIERS: "qualifications", MARK: "marks", SIGNED: "signed_numbers", DISCRIMINATOR: "discriminators"}
-OWN = {word: sorts.split() for head, lines in sections("cpp_words.txt") if head == "own" for line, _ in lines for word, sorts in [line.split(" | ")]}
+ALL = ("trees", "pieces", "texts", "numbers", "truths", "qualifications", "marks", "signed_numbers", "discriminators", "none_read",
+       "letters", "adjustments", "names", "pairs", "signatures")
+OF_ARGUMENT = {PIECE: "pieces", BYTES: "texts", NUMBER: "numbers", TRUTH: "truths", QUALIFIERS: "qualifications", MARK: "marks",
+               SIGNED: "signed_numbers", DISCRIMINATOR: "discriminators"}
+OWN = {word: sorts.split() for head, lines in sections("cpp_words.txt") if head == "own" for line, _ in lines for word,
+       sorts in [line.split(" | ")]}
 
 # of which sort each argument is, and which sorts of a part it reads
 SOURCES = {
-    "tree_at": ("trees", "trees names pairs signatures"), "list_at": ("trees", "trees"), "parameters_at": ("trees", "trees signatures"), "piece_at": ("pieces", "pieces"),
-    "text_at": ("texts", "texts"), "digits_at": ("texts", "texts"), "number_at": ("numbers", "texts"), "letter_at": ("numbers", "letters pairs"),
-    "letter_or_taken": ("numbers", "letters pairs"), "letter_or": ("numbers", "letters pairs"), "operator_first_at": ("numbers", "pieces"), "operator_second_at": ("numbers", "pieces"), "there_at": ("truths", ""),
-    "letter_is": ("truths", "letters"), "qualifiers_at": ("qualifications", "names"), "ref_at": ("marks", "names signatures"), "signed_at": ("signed_numbers", "signed_numbers"),
-    "discriminator_at": ("discriminators", "texts"), "qualified_by": ("qualifications", None), "the_name": ("trees", None), "no_tree": ("trees", None), "code": ("texts", None),
+    "tree_at": ("trees", "trees names pairs signatures"), "list_at": ("trees", "trees"), "parameters_at": ("trees", "trees signatures"),
+    "piece_at": ("pieces", "pieces"),
+    "text_at": ("texts", "texts"), "digits_at": ("texts", "texts"), "number_at": ("numbers", "texts"),
+    "letter_at": ("numbers", "letters pairs"),
+    "letter_or_taken": ("numbers", "letters pairs"), "letter_or": ("numbers", "letters pairs"), "operator_first_at": ("numbers", "pieces"),
+    "operator_second_at": ("numbers", "pieces"), "there_at": ("truths", ""),
+    "letter_is": ("truths", "letters"), "qualifiers_at": ("qualifications", "names"), "ref_at": ("marks", "names signatures"),
+    "signed_at": ("signed_numbers", "signed_numbers"),
+    "discriminator_at": ("discriminators", "texts"), "qualified_by": ("qualifications", None), "the_name": ("trees", None),
+    "no_tree": ("trees", None), "code": ("texts", None),
     "taken": ("numbers", None), "fixed": ("numbers", None), "yes": ("truths", None), "no": ("truths", None)}
-
 
 def parsed(text):
     """A text of definitions as words and what is in parentheses; a list as its items."""
@@ -37,7 +45,6 @@ def parsed(text):
             stack[-1].append(word)
     return stack[0]
 
-
 def items(words):
     """The items of a list: what is between its signs, without the empty list at its end."""
     found, item = [], []
@@ -49,15 +56,13 @@ def items(words):
             item.append(word)
     return found
 
-
 def maker_sorts():
     """Of each tree the sorts of its arguments, and its own."""
-    return {tree: ([OF_ARGUMENT.get(sort, "trees") for _, sort in arguments], "pieces" if cpp_trees.SPELLED.get(tree, ("",))[0].split()[-1:] == ["piece"] else "trees")
+    return {tree: ([OF_ARGUMENT.get(sort, "trees") for _, sort in arguments],
+                   "pieces" if cpp_trees.SPELLED.get(tree, ("",))[0].split()[-1:] == ["piece"] else "trees")
             for tree, *arguments in cpp_trees.TREES}
 
-
 MAKERS = maker_sorts()
-
 
 class Fitting:
     """A production with what its parts may be as far as they are read, and what is wrong with its row."""
@@ -156,7 +161,8 @@ class Fitting:
             self.part(1, "")
             self.listing(rest[0] if rest else "listed")
         elif word not in ("the_byte", "own"):
-            first, second = {"handed": ("", None), "finished": ("trees", None), "either": ("", ""), "cell": ("trees", "trees"), "item": ("trees", "signatures")}[word]
+            first, second = {"handed": ("", None), "finished": ("trees", None), "either": ("", ""), "cell": ("trees", "trees"),
+                             "item": ("trees", "signatures")}[word]
             self.part(rest[0], first)
             if second is not None:
                 self.part(rest[1], second)
@@ -170,15 +176,14 @@ class Fitting:
             return (self.known[int(rest[0])] - {"none_read"}) | self.known[int(rest[1])]
         if word == "own":
             return set(OWN.get(rest[0], ["trees"]))
-        return {{"the_byte": "letters", "a_piece": "pieces", "a_pair": "pairs", "item": "signatures", "in_place": "names"}.get(word, "trees")}
-
+        return {{"the_byte": "letters", "a_piece": "pieces", "a_pair": "pairs", "item": "signatures", "in_place": "names"}.get(word,
+                "trees")}
 
 def of_part(symbol, kinds, known):
     """What a part of this symbol may be, by what is known of kinds."""
     if symbol in TOKENS:
         return {"texts"}
     return {"none_read"} if symbol not in kinds else known[symbol] | ({"none_read"} if kinds[symbol][0] else set())
-
 
 def fitted(production, row, parts, step=lambda fitting, text: fitting.step(text)):
     """A production once its parts are read, with each step before them."""
@@ -189,17 +194,14 @@ def fitted(production, row, parts, step=lambda fitting, text: fitting.step(text)
         fitting.known.append(part)
     return fitting
 
-
 def is_numbered(form):
     """Whether the number of a lambda or an unnamed type is read."""
     return "number_at" in form or form.startswith("own closure")
-
 
 def turned(fitting, text):
     """A step, of which only what it does to the first part is of interest."""
     if fitting.known and text.split()[0] in ("becomes", "tests", "holds"):
         fitting.known[0] = {"trees"}
-
 
 def kind_sorts(kinds, productions, table):
     """The sorts of what each kind's productions stand for."""
@@ -211,7 +213,6 @@ def kind_sorts(kinds, productions, table):
                 parts = [of_part(symbol, kinds, found) for symbol in productions[production][1]]
                 found[kind] |= fitted(production, table[production], parts, turned).gives(table[production].form)
     return found
-
 
 def check(kinds, productions, table):
     """Checks each row against the parts of its production; returns the sorts of kinds."""
@@ -225,17 +226,18 @@ def check(kinds, productions, table):
         assert row.tests_number == is_numbered(row.form), f"the row of {production}: a number is tested where it is read"
     return found
 
-
 def clauses(function, found, prefix=""):
     """A definition by cases, of those that aren't trees alone."""
-    return [f"{function} {prefix}{name} = {listed(sorted(sorts, key=ALL.index))}" for name, sorts in found.items() if set(sorts) != {"trees"}]
-
+    return [f"{function} {prefix}{name} = {listed(sorted(sorts, key=ALL.index))}" for name,
+            sorts in found.items() if set(sorts) != {"trees"}]
 
 def files(kinds, productions, table):
     """What is written: the file's path in the folder of the crates, and its text."""
     trees = [tree[0] for tree in meanings.makers(table)]
     yield "cpp_grammar/specs/Sorts.antt", template(
-        "cpp_grammar/Sorts.antt", makers=", ".join(f"new_{tree}" for tree in trees), own=", ".join(sorted({"closure", *(word for word, sorts in OWN.items() if sorts != ["trees"])})),
+        "cpp_grammar/Sorts.antt", makers=", ".join(f"new_{tree}" for tree in trees),
+        own=", ".join(sorted({"closure", *(word for word, sorts in OWN.items() if sorts != ["trees"])})),
         sorts=[f"  {sort} : Sort" for sort in ALL], ranks=[f"rank_of {sort} = {i}" for i, sort in enumerate(ALL)],
-        takes=[f"takes new_{tree} = {listed(MAKERS[tree][0])}" for tree in trees], made=[f"sort_made new_{tree} = pieces" for tree in trees if MAKERS[tree][1] == "pieces"],
+        takes=[f"takes new_{tree} = {listed(MAKERS[tree][0])}" for tree in trees],
+        made=[f"sort_made new_{tree} = pieces" for tree in trees if MAKERS[tree][1] == "pieces"],
         own_gives=clauses("own_gives", OWN), kind_gives=clauses("kind_gives", check(kinds, productions, table), "Kind."))

@@ -1,13 +1,13 @@
-"""What the tables of both languages' grammars have in common, as code: from the rules of kinds and from the symbols of rules to the rows of a
-table."""
+"""What the tables of both languages' grammars have in common, as code: from the rules of kinds and from the symbols of rules to the rows of
+a table."""
 
 # a table has a column for each of these bytes, and in it the letter of what is taken there, or a blank
 FIRST, LAST = ord("$"), ord("z")
 MOST_SYMBOLS = 5
 
 def letter_rows(name, kinds, bases=None):
-    """The table of the rows by kind, each with a comment: what a kind takes is by byte, as a byte string has it. With bases a row begins with its
-    own, and a macro makes the table."""
+    """The table of the rows by kind, each with a comment: what a kind takes is by byte, as a byte string has it. With bases a row begins
+    with its own, and a macro makes the table."""
     columns = "".join(chr(byte) for byte in range(FIRST, LAST + 1))
     row, opened, closed = ("Row", "rows! {", "}") if bases else (f"[u8; {LAST - FIRST + 1}]", "[", "]")
     yield f"static {name}: [{row}; {len(kinds)}] = {opened}"
@@ -22,10 +22,11 @@ def symbol_row(symbols, comment):
     return f"    [{', '.join([*symbols, *['NONE'] * (MOST_SYMBOLS - len(symbols))])}], // {comment}"
 
 def after_each(rules):
-    """How many symbols come after each place of a list of symbols, up to an end: it has the start kind and then these rules' symbols, in six
-    places each; and how many places that is."""
+    """How many symbols come after each place of a list of symbols, up to an end: it has the start kind and then these rules' symbols, in
+    six places each; and how many places that is."""
     places = MOST_SYMBOLS + 1
     sizes = [1, *map(len, rules), 0]
-    counts = [after if place == MOST_SYMBOLS else max(size - 1 - place, 0) for size, after in zip(sizes, sizes[1:]) for place in range(places)]
+    counts = [after if place == MOST_SYMBOLS else max(size - 1 - place, 0) for size,
+              after in zip(sizes, sizes[1:]) for place in range(places)]
     lines = [f"    {', '.join(map(str, counts[i:i + 32]))}," for i in range(0, len(counts), 32)]
     return {"after": lines, "places": str(len(counts))}

@@ -1,5 +1,5 @@
-"""Writes the declarations that go through C++'s trees, nodes and productions by their rows alone, from cpp_trees.py and grammar.py: each is in
-a file by hand, in a paragraph whose first line says that this script writes it."""
+"""Writes the declarations that go through C++'s trees, nodes and productions by their rows alone, from cpp_trees.py and grammar.py: each is
+in a file by hand, in a paragraph whose first line says that this script writes it."""
 import re
 
 import cpp_trees
@@ -27,20 +27,21 @@ LINKED = "cpp_link/proofs/linked/Linked"
 NOTED = "cpp_term/proofs/MeaningNoted.antt"
 SHOWN = "cpp_layout/proofs/symbol/Symbol/{0}/Answers.antt"
 
-
 def arms_by_production(found):
     """Path, function, and the arms of its match that are written."""
     yield "cpp_link/src/finish.rt", "finish_rule", list(arms("finish_as", words.COMMON))
     yield "cpp_link/src/between.rt", "before_by_step", list(arms("before_as", words.COMMON_BEFORE))
-    yield "cpp_link/src/families.rt", "family_of", [f"        Production::{pattern} => Family::{family}," for family, productions in found.items() for _, pattern, _ in coded_cases(dict.fromkeys(productions))]
+    yield "cpp_link/src/families.rt", "family_of", [f"        Production::{pattern} => Family::{family}," for family,
+            productions in found.items() for _, pattern, _ in coded_cases(dict.fromkeys(productions))]
     yield "cpp_tree/src/node.rt", "Node", list(node_code.variants())
-    yield "cpp_tree/src/node.rt", "is_encoding", [f"            Node::{node} {{ .. }} => true," for node, tree, args in nodes() if tree in cpp_trees.ENCODINGS]
+    yield "cpp_tree/src/node.rt", "is_encoding", [f"            Node::{node} {{ .. }} => true," for node, tree,
+            args in nodes() if tree in cpp_trees.ENCODINGS]
     yield "cpp_tree/src/notes.rt", "noted", node_code.noted()
     yield "cpp_tree/src/view.rt", "view_of_own", node_code.seen()
     yield from step_code.arms()
     compared = [(node, args) for node, tree, args in nodes() if tree in cpp_trees.COMPONENTS]
-    yield "cpp_spelling/src/types.rt", "is_component", [f"        Node::{node}{'(_)' if len(args) == 1 else ' { .. }'} => true," for node, args in compared]
-
+    yield "cpp_spelling/src/types.rt", "is_component", [f"        Node::{node}{'(_)' if len(args) == 1 else ' { .. }'} => true," for node,
+            args in compared]
 
 def whole_files(crates):
     """The files of which all is written, by their paths in the folder of the crates, and their texts."""
@@ -48,20 +49,22 @@ def whole_files(crates):
     return {
         "cpp_link/specs/Families.antt": family_specs(found),
         "cpp_link/proofs/FamilyArms.antt": family_laws(found),
-        **{f"{LINKED}/outcome_of_{snake(family)}/Answers.antt": family_answers(family, productions) for family, productions in found.items() if family != "Common"},
+        **{f"{LINKED}/outcome_of_{snake(family)}/Answers.antt": family_answers(family, productions) for family,
+           productions in found.items() if family != "Common"},
         **{path: f"-- {WRITTEN}\n{text}" for path, text in step_code.answers()},
         **{f"{LINKED}/{function}/Answers.antt": text for function, text in common_answers()},
         "cpp_tree/proofs/nodes/Nodes/noted/Answers.antt": node_answers.noted(crates, [node for node, args in noted_nodes()]),
         "cpp_tree/proofs/view/view_of_own/Answers.antt": node_answers.seen(),
     }
 
-
 def edits(crates):
     """What is written into files by hand: the path of each, how its text changes, and by what."""
     yield from ((path, rewritten, [name, lines]) for path, name, lines in [*declarations(crates), *payments.declarations(crates)])
     yield from wrappers.edits()
-    of_values = read_noted(READ_OF_VALUES, "value_", "Value", "part", "noted_value", "noted_values", "part_noted", "(leaf_.tree t listed)", "pub ")
-    of_arguments = read_noted(READ_OF_ARGUMENTS, "builder_", "Argument", "argument", "noted_argument", "noted_arguments", "argument_noted", "(a_tree x)", "")
+    of_values = read_noted(READ_OF_VALUES, "value_", "Value", "part", "noted_value", "noted_values", "part_noted", "(leaf_.tree t listed)",
+                           "pub ")
+    of_arguments = read_noted(READ_OF_ARGUMENTS, "builder_", "Argument", "argument", "noted_argument", "noted_arguments", "argument_noted",
+                              "(a_tree x)", "")
     yield from ((NOTED, with_declarations, [list(lemmas)]) for lemmas in (of_values, of_arguments))
     types = {node: [NODE_TYPES[sort] for name, sort in args] for node, tree, args in nodes()}
     others, answers, whole, matched = layouts.files(crates, types)
@@ -75,7 +78,6 @@ def edits(crates):
     yield "cpp_link/proofs/CandidatesFlow.antt", extended, ["flows", step_code.flows()]
     yield from ((path, with_requires, [function, lines]) for path, function, lines in step_code.asked())
     yield from ((path, with_arms, [function, lines]) for path, function, lines in arms_by_production(families()))
-
 
 def files(crates):
     """The files that are written, or have declarations that are, by their paths in the folder of the crates, and their texts."""

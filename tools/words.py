@@ -1,5 +1,5 @@
-"""Writes the tables of C++'s words from vocabulary.py: the definitions of cpp_grammar and cpp_layout, the code and the lists of cpp_layout and cpp_direct,
-and cpp_link's tables of productions. grammar.py calls it."""
+"""Writes the tables of C++'s words from vocabulary.py: the definitions of cpp_grammar and cpp_layout, the code and the lists of cpp_layout
+and cpp_direct, and cpp_link's tables of productions. grammar.py calls it."""
 from itertools import accumulate
 
 import vocabulary as words
@@ -17,8 +17,11 @@ BLANKED = ["".join(w + " " for w in q) for q in QUALIFIERS[1:]]
 # those of both grammars
 BUILTINS = [(code, text) for code, text, literal in words.BUILTINS] + words.WIDE_BUILTINS
 
-def rust_string(text): return "b" + quoted(text)
-def codes(text): return "codes " + quoted(text)
+def rust_string(text):
+    return "b" + quoted(text)
+
+def codes(text):
+    return "codes " + quoted(text)
 
 def file_of(lines, says=""):
     """A file of definitions or answers, with what it says of itself."""
@@ -34,19 +37,23 @@ def namings(name, rows, comment=None):
     return "\n".join(lines) + " []\n"
 
 # the special names of names whose codes don't begin with a T
-def other_fronts(): return [c for c, _ in words.NAMED_SPECIALS if c[0] != "T"]
+def other_fronts():
+    return [c for c, _ in words.NAMED_SPECIALS if c[0] != "T"]
 
 def special_front():
     """The letter before the last one of a code, as a definition."""
     lines = ["-- the letter before the last one of such a code", "unfoldable pub special_front : ℕ → ℕ", "special_front letter ="]
     chain = str(ord("T"))
-    for c in reversed(other_fronts()): chain = f"cond (nat_eq letter {ord(c[1])}) {ord(c[0])} ({chain})" if " " in chain else f"cond (nat_eq letter {ord(c[1])}) {ord(c[0])} {chain}"
+    for c in reversed(other_fronts()):
+        chain = (f"cond (nat_eq letter {ord(c[1])}) {ord(c[0])} ({chain})" if " " in chain
+                 else f"cond (nat_eq letter {ord(c[1])}) {ord(c[0])} {chain}")
     return "\n".join([*lines, f"    {chain}"]) + "\n"
 
 # how an operand is printed, in code and in the definitions
 HOW = {words.NONE: "NotPrinted", words.LEFT: "AsItIs", words.BOTH: "AsType", words.LIST: "AsList"}
 
-def operand(how): return f"Operand.From {words.PRECEDENCES[how]}" if isinstance(how, int) else f"Operand.{HOW[how]}"
+def operand(how):
+    return f"Operand.From {words.PRECEDENCES[how]}" if isinstance(how, int) else f"Operand.{HOW[how]}"
 
 def operands():
     """How operands are printed, as an enum."""
@@ -54,9 +61,11 @@ def operands():
 
 def operations():
     """How operations are printed, as definitions."""
-    rows = [f'    printed_as "{code}" {words.PRECEDENCES[own]} "{front}" {braced(operand(left))} "{between}" {braced(operand(right))} "{back}" ∷'
+    rows = [f'    printed_as "{code}" {words.PRECEDENCES[own]} "{front}" {braced(operand(left))} "{between}" {braced(operand(right))} '
+            f'"{back}" ∷'
             for code, own, front, left, between, right, back in words.OPERATIONS]
-    return template("cpp_grammar/Operations.antt", precedences="\n\n".join(f"abbrev pub {name} : ℕ\n{name} = {i}" for i, name in enumerate(words.PRECEDENCES)),
+    return template("cpp_grammar/Operations.antt", precedences="\n\n".join(f"abbrev pub {name} : ℕ\n{name} = {i}" for i,
+            name in enumerate(words.PRECEDENCES)),
                     operations="\n".join(rows) + " []")
 
 # the texts of operations, each once
@@ -66,17 +75,20 @@ def grammar_texts():
     """The texts that codes have, as definitions."""
     tables = [namings("builtin_texts", BUILTINS), namings("operator_texts", words.OPERATORS, "after the word operator"),
               namings("abbreviation_texts", words.ABBREVIATIONS), namings("special_texts", words.ALL_SPECIALS),
-              namings("named_special_texts", [(c[-1], t) for c, t in words.NAMED_SPECIALS], "special names of names, by the last letters of their codes"),
+              namings("named_special_texts", [(c[-1], t) for c, t in words.NAMED_SPECIALS],
+                      "special names of names, by the last letters of their codes"),
               special_front(), namings("literal_endings", words.ENDINGS, "the endings of integer literals, by their types")]
     return template("cpp_grammar/Texts.antt", tables="\n".join(tables).rstrip("\n"))
 
 def listed(name, texts, comment):
     """A list of texts, as a definition."""
-    return [f"-- {comment}", f"abbrev pub {name} : List (List ℕ)", f"{name} =", *[f"    {codes(t)} ∷" for t in texts[:-1]], f"    {codes(texts[-1])} ∷ []", ""]
+    return [f"-- {comment}", f"abbrev pub {name} : List (List ℕ)", f"{name} =", *[f"    {codes(t)} ∷" for t in texts[:-1]],
+            f"    {codes(texts[-1])} ∷ []", ""]
 
 def text_lists():
     """The texts that no code has, as definitions."""
-    out = [f"-- {WRITTEN} The fixed texts that no code has, in the order of their numbers.", "use Rattle.std.specs.Prelude.{ℕ, List, [], ◌∷◌, codes}", ""]
+    out = [f"-- {WRITTEN} The fixed texts that no code has, in the order of their numbers.",
+           "use Rattle.std.specs.Prelude.{ℕ, List, [], ◌∷◌, codes}", ""]
     out += listed("plain_texts", [t for _, t in words.PLAIN_TEXTS], "texts that the layout of a node has of itself")
     out += listed("suffix_texts", SUFFIXES, "what follows a function's parameters")
     out += listed("blanked_texts", BLANKED, "qualifiers whose blank comes after them")
@@ -86,14 +98,18 @@ def text_lists():
 # ## cpp_layout's texts
 
 ALL_TABLES = "builtin_texts operator_texts abbreviation_texts special_texts named_special_texts literal_endings".split()
-def unfolding(*names): return f"#[tactic(auto, unfolding({', '.join(names)}))]"
+
+def unfolding(*names):
+    return f"#[tactic(auto, unfolding({', '.join(names)}))]"
 
 ABBREVIATIONS = [text for _, text in words.ABBREVIATIONS]
 # the texts in groups, in the order of their numbers: a new operator, at the end of the last group, renumbers no text
 GROUPS = {
     "PLAIN": [text for _, text in words.PLAIN_TEXTS], "SUFFIX": SUFFIXES, "BUILTIN": [text for _, text in BUILTINS],
-    "ABBREVIATION": ABBREVIATIONS, "LAST_OF_ABBREVIATION": [text.removeprefix("std::") for text in ABBREVIATIONS], "SPECIAL": [text for _, text in words.ALL_SPECIALS],
-    "NAMED_SPECIAL": [text for _, text in words.NAMED_SPECIALS], "ENDING": [text for _, text in words.ENDINGS], "BLANKED": BLANKED, "OPERATOR_ALONE": ["operator"],
+    "ABBREVIATION": ABBREVIATIONS, "LAST_OF_ABBREVIATION": [text.removeprefix("std::") for text in ABBREVIATIONS],
+    "SPECIAL": [text for _, text in words.ALL_SPECIALS],
+    "NAMED_SPECIAL": [text for _, text in words.NAMED_SPECIALS], "ENDING": [text for _, text in words.ENDINGS], "BLANKED": BLANKED,
+    "OPERATOR_ALONE": ["operator"],
     "OPERATION": OPERATION_TEXTS, "OPERATOR": ["operator" + text for _, text in words.OPERATORS], "COUNT": [],
 }
 # the functions of texts, in the order in which each leaves to the next one what is past its own
@@ -113,7 +129,8 @@ def layout_texts():
     begins = {name.lower(): str(number - (name == "BLANKED")) for name, number in BEGINS.items()}
     return template("cpp_layout/texts.rt", **begins, operators=str(len(words.OPERATORS)),
         constants="\n\n".join(f"pub const {name}: u16 = {i};" for i, (name, _) in enumerate(words.PLAIN_TEXTS)),
-        operation_text=text_arms("OPERATION"), operator_text=text_arms("OPERATOR"), builtin_text=text_arms("BUILTIN"), suffix_text=text_arms("SUFFIX"), fixed_text=text_arms("PLAIN"),
+        operation_text=text_arms("OPERATION"), operator_text=text_arms("OPERATOR"), builtin_text=text_arms("BUILTIN"),
+        suffix_text=text_arms("SUFFIX"), fixed_text=text_arms("PLAIN"),
         remaining_text=text_arms("ABBREVIATION", "LAST_OF_ABBREVIATION", "SPECIAL", "NAMED_SPECIAL", "ENDING", "BLANKED", "OPERATOR_ALONE"))
 
 def text_answers():
@@ -123,13 +140,14 @@ def text_answers():
         lines = answer(f"{after}-requires", f" {past}") if after else answer("returns-in_default", f" past_last c.args.number ({past})")
         uses = [] if after else ["use Rattle.cpp_layout.proofs.Coding.{past_last}"]
         if name != "remaining_text":
-            yield name, file_of(["use Rattle.std.proofs.Common.{arith}", *uses, f"use Rattle.cpp_layout.proofs.texts.{name}.Goals as goal", "", *lines])
+            yield name, file_of(["use Rattle.std.proofs.Common.{arith}", *uses, f"use Rattle.cpp_layout.proofs.texts.{name}.Goals as goal",
+                                 "", *lines])
 
 # ## cpp_layout's numbers of codes
 
 class Coded:
-    """A function from a letter to the number of a text: what is looked up by it, the group of the texts, the letters with their texts and their
-    places in the group, the lemma of other letters, and the name of the list of these."""
+    """A function from a letter to the number of a text: what is looked up by it, the group of the texts, the letters with their texts and
+    their places in the group, the lemma of other letters, and the name of the list of these."""
 
     def __init__(self, name, says, shown, entries, letters):
         self.name, self.says, self.shown, self.letters = name, says, shown, letters
@@ -137,40 +155,57 @@ class Coded:
         self.rows = [(code[-1], place, text.strip()) for place, (code, text) in entries]
         self.codes = "".join(letter for letter, _, _ in self.rows)
 
-def looked_up(table): return f"look_up (letter ∷ []) {table}"
+def looked_up(table):
+    return f"look_up (letter ∷ []) {table}"
+
 BUILTIN_PLACES = list(enumerate(BUILTINS))
 CODED = [
-    Coded("builtin", "The text of a builtin type with a code of one letter.", looked_up("builtin_texts"), [row for row in BUILTIN_PLACES if len(row[1][0]) == 1], "builtin_letters"),
-    Coded("builtin_with_d", "The text of a builtin type with a code of D and a letter.", "look_up (68 ∷ letter ∷ []) builtin_texts", [row for row in BUILTIN_PLACES if len(row[1][0]) == 2], "d_letters"),
-    Coded("abbreviation", "The text of an abbreviation, after S.", looked_up("abbreviation_texts"), enumerate(words.ABBREVIATIONS), "abbreviation_letters"),
+    Coded("builtin", "The text of a builtin type with a code of one letter.", looked_up("builtin_texts"),
+          [row for row in BUILTIN_PLACES if len(row[1][0]) == 1], "builtin_letters"),
+    Coded("builtin_with_d", "The text of a builtin type with a code of D and a letter.", "look_up (68 ∷ letter ∷ []) builtin_texts",
+          [row for row in BUILTIN_PLACES if len(row[1][0]) == 2], "d_letters"),
+    Coded("abbreviation", "The text of an abbreviation, after S.", looked_up("abbreviation_texts"), enumerate(words.ABBREVIATIONS),
+          "abbreviation_letters"),
     Coded("last_of_abbreviation", "The last name of an abbreviation.", f"drop 5 ({looked_up('abbreviation_texts')})",
           [(i, (code, text.removeprefix("std::"))) for i, (code, text) in enumerate(words.ABBREVIATIONS)], "abbreviation_letters"),
-    Coded("special", "The text before the type of a special name, after T.", looked_up("special_texts"), enumerate(words.ALL_SPECIALS), "special_letters"),
-    Coded("named_special", "The text before the name of a special name, by the last letter of its code.", looked_up("named_special_texts"), enumerate(words.NAMED_SPECIALS), "named_special_letters"),
-    Coded("ending", "The ending of an integer literal of a type.", looked_up("literal_endings"), enumerate(words.ENDINGS), "ending_letters"),
+    Coded("special", "The text before the type of a special name, after T.", looked_up("special_texts"), enumerate(words.ALL_SPECIALS),
+          "special_letters"),
+    Coded("named_special", "The text before the name of a special name, by the last letter of its code.", looked_up("named_special_texts"),
+          enumerate(words.NAMED_SPECIALS), "named_special_letters"),
+    Coded("ending", "The ending of an integer literal of a type.", looked_up("literal_endings"), enumerate(words.ENDINGS),
+          "ending_letters"),
 ]
 
-OF_CODES = unfolding("cpp_grammar::specs::Texts::look_up", "cpp_grammar::specs::Texts::same_bytes", *[f"cpp_grammar::specs::Texts::{n}" for n in ALL_TABLES])
+OF_CODES = unfolding("cpp_grammar::specs::Texts::look_up", "cpp_grammar::specs::Texts::same_bytes",
+                     *[f"cpp_grammar::specs::Texts::{n}" for n in ALL_TABLES])
 
 def layout_codes():
     """The numbers of the texts by their codes, in code."""
-    def arms(rows): return [f"        b'{letter}' => texts::{{0}}{f' + {place}' if place else ''}, // {text}" for letter, place, text in rows]
-    functions = [template("cpp_layout/number_of.rt", says=coded.says, tactic=OF_CODES, name=coded.name, shown=coded.shown, arms=[arm.format(coded.group) for arm in arms(coded.rows)]) for coded in CODED]
-    return template("cpp_layout/numbered.rt", functions="\n".join(functions).rstrip("\n"), fronts=[f"        b'{code[1]}' => b'{code[0]}'," for code in other_fronts()],
-                    operators=[f"        {i} => code!(b'{code[0]}', b'{code[1]}'), // operator{text}" for i, (code, text) in enumerate(words.OPERATORS)])
+    def arms(rows):
+        return [f"        b'{letter}' => texts::{{0}}{f' + {place}' if place else ''}, // {text}" for letter, place, text in rows]
+    functions = [template("cpp_layout/number_of.rt", says=coded.says, tactic=OF_CODES, name=coded.name, shown=coded.shown,
+                          arms=[arm.format(coded.group) for arm in arms(coded.rows)]) for coded in CODED]
+    return template("cpp_layout/numbered.rt", functions="\n".join(functions).rstrip("\n"),
+                    fronts=[f"        b'{code[1]}' => b'{code[0]}'," for code in other_fronts()],
+                    operators=[f"        {i} => code!(b'{code[0]}', b'{code[1]}'), // operator{text}" for i,
+                               (code, text) in enumerate(words.OPERATORS)])
 
 # the precedences that the code names
 ENDS = [("PRIMARY", "binds most"), ("UNARY", "an operator before its operand makes")]
 
 def layout_operations():
     """How operations are printed, in code."""
-    def text(t): return f"OPERATION + {OPERATION_TEXTS.index(t)}" if t else "NONE"
-    def how(o): return f"Operand::From({o})" if isinstance(o, int) else f"Operand::{HOW[o]}"
+    def text(t):
+        return f"OPERATION + {OPERATION_TEXTS.index(t)}" if t else "NONE"
+    def how(o):
+        return f"Operand::From({o})" if isinstance(o, int) else f"Operand::{HOW[o]}"
     ends = [f"/// The precedence of what {what}.\npub(crate) const {name}: u8 = {words.PRECEDENCES.index(name)};" for name, what in ENDS]
     rows = [f"    row!({own} => {text(front)}, {how(left)}, {text(between)}, {how(right)}, {text(back)}), // {code.rstrip()}"
-            for code, own, front, left, between, right, back in [*words.OPERATIONS, ("no operation", 0, "", words.NONE, "", words.NONE, "")]]
+            for code, own, front, left, between, right, back in [*words.OPERATIONS,
+                    ("no operation", 0, "", words.NONE, "", words.NONE, "")]]
     places = [f"        {number} => {place}, // {words.OPERATIONS[place][0].rstrip()}" for place, number in enumerate(operation_numbers())]
-    return template("cpp_layout/operation_rows.rt", ends="\n\n".join(ends), rows=rows, count=str(len(rows)), places=[*places, f"        _ => {len(words.OPERATIONS)},"])
+    return template("cpp_layout/operation_rows.rt", ends="\n\n".join(ends), rows=rows, count=str(len(rows)),
+                    places=[*places, f"        _ => {len(words.OPERATIONS)},"])
 
 def operation_numbers():
     """The codes of the operations, each as one number."""
@@ -178,44 +213,56 @@ def operation_numbers():
 
 def operation_answers():
     """Each arm's place is that of its code in the table."""
-    arms = [f"pub returns-in-{n} : goal.returns-in-{n}\nunfolding operations place_of\nreturns-in-{n} c = rw c.in-{n}.is refl" for n in operation_numbers()]
-    return template("cpp_layout/place_of.antt", arms="\n\n".join(arms), others=", ".join(f"ne_eqb c.args.code {n} (omega (arith, c.in_default))" for n in operation_numbers()))
+    arms = [f"pub returns-in-{n} : goal.returns-in-{n}\nunfolding operations place_of\nreturns-in-{n} c = rw c.in-{n}.is refl"
+            for n in operation_numbers()]
+    return template("cpp_layout/place_of.antt", arms="\n\n".join(arms),
+                    others=", ".join(f"ne_eqb c.args.code {n} (omega (arith, c.in_default))" for n in operation_numbers()))
 
 def code_letters():
     """The letters that are codes, for the proofs."""
     lists = {coded.letters: coded.codes for coded in CODED}
-    return file_of(["use Rattle.std.proofs.Common.{ℕ, List, codes}", *letter_lists((name, None, letters) for name, letters in lists.items())], "The letters that are codes, by what they are codes of.")
+    return file_of(["use Rattle.std.proofs.Common.{ℕ, List, codes}", *letter_lists((name, None, letters) for name,
+            letters in lists.items())], "The letters that are codes, by what they are codes of.")
 
 def code_answers():
     """The answers of the functions of codes, by their names."""
     unfolded = f"{' '.join(ALL_TABLES)} look_up same_bytes"
     for coded in CODED:
         others = ", ".join(f"ne_eqb c.args.letter {ord(letter)} (omega (arith, c.in_default))" for letter in coded.codes)
-        none = f"{coded.lemma} c.args.letter (omega (arith, c.ranges.letter.fits)) (let n : any_of {coded.letters} c.args.letter ≡ false = rw ({others}) refl in n)"
+        none = (f"{coded.lemma} c.args.letter (omega (arith, c.ranges.letter.fits)) (let n : any_of {coded.letters} c.args.letter ≡ false = "
+                f"rw ({others}) refl in n)")
         dropped, by_letter = coded.shown.startswith("drop"), coded.codes if coded.name == "builtin" else ""
-        arms = [line for code in map(ord, by_letter) for line in ["", *answer(f"returns-in-{code}-clause-text", f" rw c.in-{code}.is refl", unfolded)]]
-        uses = "use Rattle.std.specs.Prelude.{drop}\n" if dropped else f"use Rattle.cpp_grammar.specs.Texts.{{look_up, same_bytes, {', '.join(ALL_TABLES)}}}\n" if by_letter else ""
-        yield coded.name, template("cpp_layout/number_of.antt", name=coded.name, letters=coded.letters, lemma=coded.lemma, ap="ap, " if dropped else "", uses=uses,
+        arms = [line for code in map(ord, by_letter) for line in ["", *answer(f"returns-in-{code}-clause-text", f" rw c.in-{code}.is refl",
+                unfolded)]]
+        uses = ("use Rattle.std.specs.Prelude.{drop}\n" if dropped else "use Rattle.cpp_grammar.specs.Texts.{look_up, same_bytes, "
+                f"{', '.join(ALL_TABLES)}}}\n" if by_letter else "")
+        yield coded.name, template("cpp_layout/number_of.antt", name=coded.name, letters=coded.letters, lemma=coded.lemma,
+                                   ap="ap, " if dropped else "", uses=uses,
                                    none=f"ap (λ l. drop 5 l) ({none})" if dropped else none, arms=arms).rstrip("\n") + "\n"
 
 # ## cpp_link's tables
 
 def link_tables(productions, rows, skips):
     """The symbols of each production, and its row, by its name."""
-    def each(value): return [f"    {value(p)}, // {p}" for p in productions]
-    return template("cpp_link/tables.rt", enums=", ".join(sorted([*ALIKE, "Production"])), count=str(len(productions)), productions=[f"    Production::{coded(p)}," for p in productions], parts=each(lambda p: len(productions[p])),
+    def each(value):
+        return [f"    {value(p)}, // {p}" for p in productions]
+    return template("cpp_link/tables.rt", enums=", ".join(sorted([*ALIKE, "Production"])), count=str(len(productions)),
+                    productions=[f"    Production::{coded(p)}," for p in productions], parts=each(lambda p: len(productions[p])),
                     skips=each(lambda p: "true" if p in skips else "false"), quiet=each(lambda p: rows[p].quiet()))
 
 def link_definitions(rows, skips):
     """What is known of each production, as definitions."""
-    quiet = [f"quiet_parts {case} = {parts}" for case, parts in defined_cases({p: row.quiet() for p, row in rows.items() if row.quiet() < ALL_PARTS})]
-    return template("cpp_link/Tables.antt", quiet=[*quiet, f"quiet_parts _ = {ALL_PARTS}"], skips=[f"skips_parts {case} = true" for case, skipped in defined_cases(dict.fromkeys(skips, True))])
+    quiet = [f"quiet_parts {case} = {parts}" for case, parts in defined_cases(
+            {p: row.quiet() for p, row in rows.items() if row.quiet() < ALL_PARTS})]
+    return template("cpp_link/Tables.antt", quiet=[*quiet, f"quiet_parts _ = {ALL_PARTS}"],
+                    skips=[f"skips_parts {case} = true" for case, skipped in defined_cases(dict.fromkeys(skips, True))])
 
 # ## cpp_direct's letters
 
 # lists of letters: name, what they are, the letters; and of some the name of a test, what it says, and where it is defined
 DIRECT_LISTS = [
-    ("builtin_letters", "builtin types, except those after a D", CLASSES["@BUILTIN"]), ("builtin_letters_with_d", "builtin types after a D", CLASSES["@BUILTIN_WITH_D"]),
+    ("builtin_letters", "builtin types, except those after a D", CLASSES["@BUILTIN"]),
+    ("builtin_letters_with_d", "builtin types after a D", CLASSES["@BUILTIN_WITH_D"]),
     ("integer_letters", "builtin types that an integer in an argument may have", CLASSES["@INTEGER_TYPE"]),
     ("abbreviation_letters", "classes of std, and std itself, after an S", CLASSES["@ABBREVIATION"]),
     ("special_letters", "special objects that belong to a type, after a T", CLASSES["@SPECIAL"]),
@@ -227,18 +274,22 @@ DIRECT_TESTS = [
 
 def letter_lists(lists):
     """Lists of letters, as definitions."""
-    return [line for name, says, letters in lists for line in ["", *([f"-- {says}"] if says else []), f"abbrev pub {name} : List ℕ", f"{name} = {codes(letters)}"]]
+    return [line for name, says, letters in lists for line in ["", *([f"-- {says}"] if says else []), f"abbrev pub {name} : List ℕ",
+            f"{name} = {codes(letters)}"]]
 
 def direct_letters():
     """The letters that are codes, as definitions of cpp_direct."""
-    return file_of(["use Rattle.std.specs.Prelude.{ℕ, List, codes}", *letter_lists(DIRECT_LISTS)], "Letters that are codes, by what they are codes of.")
+    return file_of(["use Rattle.std.specs.Prelude.{ℕ, List, codes}", *letter_lists(DIRECT_LISTS)],
+                   "Letters that are codes, by what they are codes of.")
 
 def direct_tests():
     """And the tests for them, in code."""
     lists = {name: letters for name, _, letters in DIRECT_LISTS}
-    out = [f"// {WRITTEN} Letters that are codes, by what they are codes of.", "#![tactic(auto)]", "", "ghost use Rattle.std.specs.Prelude.{◌≡◌};",
+    out = [f"// {WRITTEN} Letters that are codes, by what they are codes of.", "#![tactic(auto)]", "",
+           "ghost use Rattle.std.specs.Prelude.{◌≡◌};",
            *[f"ghost use Rattle.cpp_direct.specs.{module}.{{{name}}};" for name, _, _, module in DIRECT_TESTS]]
-    tests = [template("cpp_direct/letter_test.rt", name=name, says=says, tactic=unfolding(f"crate::specs::{module}::{name}", "cpp_grammar::specs::Grammar::among"),
+    tests = [template("cpp_direct/letter_test.rt", name=name, says=says,
+                      tactic=unfolding(f"crate::specs::{module}::{name}", "cpp_grammar::specs::Grammar::among"),
                       arms=[f"        b'{letter}' => true," for letter in lists[letters]]) for name, letters, says, module in DIRECT_TESTS]
     return "\n".join(out) + "\n" + "".join(tests)
 
@@ -253,8 +304,10 @@ def files(productions, rows, skips):
     yield "cpp_layout/src/numbered.rt", layout_codes()
     yield "cpp_layout/proofs/CodeLetters.antt", code_letters()
     yield "cpp_layout/proofs/operation_rows/place_of/Answers.antt", operation_answers()
-    for name, text in text_answers(): yield f"cpp_layout/proofs/texts/{name}/Answers.antt", text
-    for name, text in code_answers(): yield f"cpp_layout/proofs/numbered/{name}/Answers.antt", text
+    for name, text in text_answers():
+        yield f"cpp_layout/proofs/texts/{name}/Answers.antt", text
+    for name, text in code_answers():
+        yield f"cpp_layout/proofs/numbered/{name}/Answers.antt", text
     yield "cpp_direct/specs/Letters.antt", direct_letters()
     yield "cpp_direct/src/letters.rt", direct_tests()
     yield "cpp_link/src/tables.rt", link_tables(productions, rows, skips)
