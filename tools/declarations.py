@@ -2,7 +2,6 @@
 them."""
 import cpp_trees
 import grammar
-import vocabulary as words
 from cpp_trees import PRESSED, SCOPES, named
 from node_clauses import (
     BY_ARGUMENT, again_fact, below_later, both_are, depending, fields_of, is_below, is_other, node_cases, node_stays, noted,
@@ -10,7 +9,7 @@ from node_clauses import (
 )
 from notation import listed, snake
 from production_clauses import (
-    are_shut, built_good, built_noted, by_production, is_rare, makes_at_end, may_leave, none_are_taken, slack, takes_encodings,
+    are_shut, built_good, built_noted, by_production, common, is_rare, makes_at_end, may_leave, none_are_taken, slack, takes_encodings,
 )
 from tree_clauses import (
     FIRST, SCOPED, both_by, both_free, by_each, carried, cases, closed_noted, closed_packs, either, either_open, equal_tree, erased,
@@ -110,8 +109,8 @@ def of_link(crates):
         "specs/Owed.antt": {"made_before": by_production("made_before", before, "[]"),
                             "made_at_end": by_production("made_at_end", at_end, 0), "slack": slack()},
         "specs/NodeCount.antt": {"makes_at_end": makes_at_end()},
-        "specs/Making.antt": {"IsRare": by_production("IsRare", {production: "⊥" for production in words.COMMON}, "Unit {0}")},
-        "proofs/Making.antt": {"IsNoneOfThem": [f"  pub not_{snake(p)} : p ≡ Production.{p} → ⊥" for p in words.COMMON],
+        "specs/Making.antt": {"IsRare": by_production("IsRare", {production: "⊥" for production in common()}, "Unit {0}")},
+        "proofs/Making.antt": {"IsNoneOfThem": [f"  pub not_{snake(p)} : p ≡ Production.{p} → ⊥" for p in common()],
                                "is_rare": is_rare()},
         "proofs/CandidatesFew.antt": {"may_leave": may_leave(crates)},
     }

@@ -3,24 +3,22 @@ grammar.py."""
 import re
 import grammar
 import node_code
-import cpp_trees
 from files import sections, template
 from notation import camel, snake
 from productions import coded_cases
 from row_words import CODE, said
-from rules import ABOVE
+from rules import ABOVE, families
 from rust_layout import arm, split
 
-# of each file what it says, and its families: each with what is said of it, and its productions in the order of their arms
+# of each file what it says, and its families, each with what is said of it
 SAYS, FAMILIES = {}, {}
-for head, below in sections("cpp_families.txt"):
+for head, _ in sections("cpp_families.txt"):
     name, says = head.split(": ", 1)
     if name.startswith("file "):
         module = name.removeprefix("file ")
         SAYS[module], FAMILIES[module] = says, {}
     else:
-        wrapped = " ".join(production for _, production, _ in cpp_trees.WRAPPERS)
-        FAMILIES[module][name] = says, " ".join(line for line, _ in below).replace("wrappers", wrapped).split()
+        FAMILIES[module][name] = says
 
 # ## What a row means
 
@@ -98,8 +96,8 @@ def files():
     """What is written: each file's path in the folder of the crates, and its text."""
     _, _, rows = grammar.wide()
     node_of = {tree: (node, [name for name, _, _ in node_code.fields(tree, given)]) for node, tree, given in node_code.nodes()}
-    for module, families in FAMILIES.items():
-        functions = "\n\n".join(function(family, says, productions, rows, node_of) for family, (says, productions) in families.items())
+    for module, said_of in FAMILIES.items():
+        functions = "\n\n".join(function(family, says, families()[family], rows, node_of) for family, says in said_of.items())
         code = "\n".join(l for l in functions.split("\n") if not l.strip().startswith("//"))
         uses = []
         for path, names in USES:

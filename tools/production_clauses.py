@@ -2,15 +2,13 @@
 cpp_grammar, cpp_term and cpp_link. declarations.py says in which file each is."""
 import re
 
-import family_code
 import grammar
-import vocabulary as words
 from cpp_trees import BYTES, DISCRIMINATOR, MARK, NUMBER, OUTSIDE, OWN, QUALIFIERS, SIGNED, TRUTH
 from files import read, template
 from meanings import makers
 from notation import applied, listed, snake, together
 from productions import coded_cases, defined_cases, imports
-from rules import ALIKE
+from rules import ALIKE, FAMILY, families
 from tree_clauses import SCOPED, SUBTREES
 
 # What is read of a value's parts, and of the arguments of a tree, with arguments in its parameters: of a tree it is annotated.
@@ -110,16 +108,15 @@ def built_noted():
 
 # ## Common productions
 
+def common():
+    """The common productions."""
+    return families()["Common"]
+
 def is_rare():
     """That a production which is none of the common ones is rare."""
-    return [f"is_rare Production.{p} other = absurd (other.not_{snake(p)} refl)" for p in words.COMMON] + ["is_rare _ other = tt"]
+    return [f"is_rare Production.{p} other = absurd (other.not_{snake(p)} refl)" for p in common()] + ["is_rare _ other = tt"]
 
 # ## Families of rare productions
-
-def families():
-    """The productions of each family, and those that are common."""
-    return {**{family: productions for module in family_code.FAMILIES.values() for family, (says, productions) in module.items()},
-            "Common": words.COMMON}
 
 def family_specs(found):
     """The family of each production."""
@@ -158,9 +155,9 @@ def family_answers(family, productions):
 def common_answers():
     """The paths and the answers of the functions that have an arm for each common production: others are rare. What `finish_rule` hands to
     `finish_as`, and what it has from it, is passed on; the ABI's reading refuses a constructor that is inherited."""
-    others = [f"  not_{snake(p)} = c.in_default.not-{p};" for p in words.COMMON]
-    handed = [template("cpp_link/handed.antt", production=p, at="" if p == words.COMMON[0] else f"-in-{p}").rstrip("\n")
-              for p in words.COMMON]
+    others = [f"  not_{snake(p)} = c.in_default.not-{p};" for p in common()]
+    handed = [template("cpp_link/handed.antt", production=p, at="" if p == common()[0] else f"-in-{p}").rstrip("\n")
+              for p in common()]
     yield "outcome", template("cpp_link/outcome.antt", others=others)
     yield "finish_rule", template("cpp_link/finish_rule.antt", others=others, handed=handed)
 

@@ -16,6 +16,8 @@ P, ROWS = {}, {}
 K, MARKED = {}, []         # (kind, class, production)
 # productions that mean the same and differ in what may come in them, by an enum of their own: name -> its productions
 ALIKE = {}
+# the family of each production, and its place among the arms of that; and the common ones that have code before their parts
+FAMILY, WITH_CODE_BEFORE, MOST_ARMS = {}, set(), 256
 # the ABI's lines above a production, and what is said of productions that mean the same
 ABOVE = {}
 # the number of the production that no row of letters has, since its byte is the blank
@@ -47,9 +49,28 @@ def production(name, eats, symbols, row):
         ROWS[name] = row
 
 def row_of(texts):
-    """A row, by its words."""
+    """A row, by its words, but for its family."""
     row = dict(text.split(" ", 1) for text in texts)
+    row.pop("family", None)
     return {**row, "nodes": int(row["nodes"])} if "nodes" in row else row
+
+def family_of(name, texts):
+    """Enters the family of a production: those without a place come after those with one."""
+    for text in texts:
+        word, family, *place = text.split()
+        if word == "family":
+            FAMILY[name] = family, int(place[0]) if place else MOST_ARMS
+            WITH_CODE_BEFORE.update({name} if "before" in place else ())
+
+def families():
+    """The productions of each family, in the order of their arms."""
+    if not FAMILY:
+        build()
+    heads = [head.split(": ")[0] for head, _ in sections("cpp_families.txt")]
+    found = {head: [] for head in [*heads, "Common"] if not head.startswith("file ")}
+    for name, (family, _) in sorted(FAMILY.items(), key=lambda entry: entry[1][1]):
+        found[family].append(name)
+    return found
 
 class Reader:
     """What rules refer to: groups, and the first rule of each production."""
@@ -63,6 +84,7 @@ class Reader:
         taken, name, *symbols = rule.split()
         taken = None if taken == "-" else CLASSES.get(taken, taken)
         production(name, taken is not None, symbols, row_of(row))
+        family_of(name, row)
         if above:
             ABOVE.setdefault(name, above)
         self.first.setdefault(name, (taken, name))
@@ -71,7 +93,7 @@ class Reader:
     def wrappers(self):
         """The rules of the wrappers."""
         for tree, name, letter in cpp_trees.WRAPPERS if self.extended else []:
-            yield self.rule(f"{letter} {name} Type | means {tree}(t0)", [f"<type> ::= {letter} <type>"])
+            yield self.rule(f"{letter} {name} Type | means {tree}(t0) | family CompoundType 0", [f"<type> ::= {letter} <type>"])
 
     def named(self, text):
         """The rules of groups and of productions, less one."""

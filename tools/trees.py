@@ -9,7 +9,6 @@ import node_code
 import payments
 import spellings
 import step_code
-import vocabulary as words
 import wrappers
 from cpp_trees import PRESSED, named
 from declarations import declarations
@@ -19,8 +18,9 @@ from node_code import nodes
 from notation import snake
 from productions import coded_cases
 from production_clauses import (
-    READ_OF_ARGUMENTS, READ_OF_VALUES, arms, common_answers, families, family_answers, family_laws, family_specs, read_noted,
+    READ_OF_ARGUMENTS, READ_OF_VALUES, arms, common_answers, family_answers, family_laws, family_specs, read_noted,
 )
+from rules import WITH_CODE_BEFORE, families
 from splicing import WRITTEN, extended, rewritten, with_arms, with_constants, with_declarations, with_imports, with_requires
 
 LINKED = "cpp_link/proofs/linked/Linked"
@@ -29,8 +29,8 @@ SHOWN = "cpp_layout/proofs/symbol/Symbol/{0}/Answers.antt"
 
 def arms_by_production(found):
     """Path, function, and the arms of its match that are written."""
-    yield "cpp_link/src/finish.rt", "finish_rule", list(arms("finish_as", words.COMMON))
-    yield "cpp_link/src/between.rt", "before_by_step", list(arms("before_as", words.COMMON_BEFORE))
+    yield "cpp_link/src/finish.rt", "finish_rule", list(arms("finish_as", found["Common"]))
+    yield "cpp_link/src/between.rt", "before_by_step", list(arms("before_as", filter(WITH_CODE_BEFORE.__contains__, found["Common"])))
     yield "cpp_link/src/families.rt", "family_of", [f"        Production::{pattern} => Family::{family}," for family,
             productions in found.items() for _, pattern, _ in coded_cases(dict.fromkeys(productions))]
     yield "cpp_tree/src/node.rt", "Node", list(node_code.variants())

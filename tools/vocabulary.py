@@ -12,8 +12,6 @@ INTEGER, CHARACTER, NULL = "integer", "character", "null"
 BUILTINS, WIDE_BUILTINS, OPERATORS = TABLE["builtin"], TABLE["wide_builtin"], TABLE["operator"]
 ABBREVIATIONS, SPECIALS, NAMED_SPECIALS, ENDINGS = TABLE["abbreviation"], TABLE["special"], TABLE["named_special"], TABLE["ending"]
 ALL_SPECIALS = SPECIALS + TABLE["wide_special"]
-COMMON = [production for line in TABLE["common"] for production in line]
-COMMON_BEFORE = list(TABLE["common_before"][0])
 
 PLAIN_TEXTS = [(name, *text) if text else (name, cpp_trees.TEXTS[name]) for name, *text in TABLE["text"]]
 PLAIN_TEXTS += [(name, text) for name, text in cpp_trees.TEXTS.items() if name not in dict(PLAIN_TEXTS)]
