@@ -4,8 +4,8 @@ import cpp_trees
 import grammar
 from cpp_trees import PRESSED, SCOPES, named
 from node_clauses import (
-    BY_ARGUMENT, again_fact, below_later, both_are, depending, fields_of, is_below, is_other, node_cases, node_stays, noted,
-    other_node, passed_fact, through, tree_from, tree_of,
+    alone_or_rewritten, below_later, both_are, depending, fields_of, is_below, is_other, node_cases, node_stays, noted, other_node,
+    passed_fact, through, tree_from, tree_of,
 )
 from notation import listed, snake
 from production_clauses import (
@@ -13,7 +13,7 @@ from production_clauses import (
 )
 from tree_clauses import (
     FIRST, SCOPED, both_by, both_free, by_each, carried, cases, closed_noted, closed_packs, either, either_open, equal_tree, erased,
-    first_of, fold, free_half, inside, inside_shut, never_referred, open_erased, reargued, reargued_laws, rebuilt, same_tree,
+    first_of, fold, free_half, inside, inside_shut, open_erased, reargued, reargued_laws, rebuilt, same_tree,
     summed, tree_itself, weight_grows,
 )
 
@@ -44,7 +44,7 @@ def of_grammar():
 
 def of_term():
     """Those of cpp_term."""
-    renoted = closed_noted("renoted", ["r", "s", "a"], free_half, "ap (term_.parameter k) (sym e)")
+    renoted = closed_noted("renoted", ["r", "s", "a"], free_half)
     first_by = both_by("first_of")
     return {
         "specs/Erased.antt": {"erase": rebuilt("erase", [], [], True)},
@@ -65,34 +65,21 @@ def of_term():
 
 def of_notes():
     """Those of cpp_tree that go through what is noted of nodes."""
-    by_argument = {"Parameter": "refl", "Expansion": "expansion-by-argument (by_argument_at y.nodes pattern) (tree_at (trees y) pattern) "
-                   "(by-argument-at pattern b)",
-                   "Pack": "ap of_pack (by-argument-at elements b)", "Rvalue": "rvalue-by-argument (by_argument_at y.nodes t) (tree_at "
-                   "(trees y) t) (by-argument-at t b)",
-                   "Qualified": "ap (λ l. of_head l.head l) (by-argument-at t b)",
-                   "Reargued": again_fact("by-argument-at", "by_argument_reargued")}
-    packs = {"Parameter": "argument_packs es (shape_at es a)", "Reargued": "packs_by (by_argument_at es t).is_bare (argument_packs es "
-             "(shape_at es a))"}
-    pack_facts = {"Parameter": "argument-pack a b", "Reargued": "again-pack t a b.0 b.1"}
     return {
         "specs/Notes.antt": {
-            "frees": noted("frees", "free_at es {0}", "piece_frees es {0}", both_free, "Free.None",
-                           {"Parameter": "Free.One k", "Reargued": "free_at es t"}),
-            "node_by_argument": noted("node_by_argument", "by_argument_at es {0}", "piece_by_argument es {0}", depending, "by_none false",
-                                      BY_ARGUMENT),
-            "packing": noted("packing", "packs_at es {0}", "piece_packs es {0}", first_of, "None", packs, ["Expansion"])},
+            "frees": noted("frees", "free_at es {0}", "piece_frees es {0}", both_free, "Free.None"),
+            "node_by_argument": noted("node_by_argument", "by_argument_at es {0}", "piece_by_argument es {0}", depending, "by_none false"),
+            "packing": noted("packing", "packs_at es {0}", "piece_packs es {0}", first_of, "None")},
         "proofs/Noting.antt": {
-            "node-by-argument": through("node-by-argument", "by-argument-at {0} {1}", "piece-by-argument {0} {1}", "refl", by_argument,
-                                        one=passed_fact),
-            "node-free": through("node-free", "at {0} {1}", "piece-free {0} {1}", "refl", {"Reargued": again_fact("at", "free_reargued")},
-                                 without=["Parameter"], joined=both_are),
-            "node-pack": through("node-pack", "pack-at {0} {1}", "piece-pack {0} {1}", "refl", pack_facts, without=["Expansion"])},
+            "node-by-argument": through("node-by-argument", "by-argument-at {0} {1}", "piece-by-argument {0} {1}", passed_fact),
+            "node-free": through("node-free", "at {0} {1}", "piece-free {0} {1}", both_are),
+            "node-pack": through("node-pack", "pack-at {0} {1}", "piece-pack {0} {1}", alone_or_rewritten)},
         "proofs/FreeParameters.antt": {"open-free": carried(folded("open-free", either_open, "refl"))},
     }
 
 def of_tree():
     """Those of cpp_tree that go through nodes."""
-    encodings = node_cases("is_encoding", [], [], lambda node, tree, args: "true" if tree in cpp_trees.ENCODINGS else None, "false")
+    encodings = node_cases("is_encoding", [], [], lambda node, given: "true" if node.tree in cpp_trees.ENCODINGS else None, "false")
     return {
         "specs/Nodes.antt": {"tree_of": tree_of(), "is_encoding": encodings, "IsBelow": is_below()},
         "specs/Fields.antt": {"fields_of": fields_of(), "narrow_tree_from": tree_from()},
@@ -117,12 +104,10 @@ def of_link(crates):
 
 def of_press_laws():
     """Those of cpp_press_laws."""
-    nowhere = {tree: None for tree, spelled in cpp_trees.SPELLED.items() if spelled[0].startswith("nowhere")}
-    orders = {("order", "function"): ["name", "returned", "parameters", "q", "ref"], ("before", "function"): ["c"]}
     prefixes = marking("PrefixOr", cpp_trees.ENCODINGS, "⊥", None, after=["inside", "x"])
     return {
         "specs/Same.antt": {"same_tree": same_tree()},
-        "specs/Apart.antt": {"IsNeverReferred": never_referred()},
+        "specs/Apart.antt": {"IsNeverReferred": fold("IsNeverReferred", ["own"], " ⊎ ".join, "⊥", trees=named(PRESSED))},
         "specs/Pressing.antt": {"is_component": marking("is_component", cpp_trees.COMPONENTS, "true", "false"),
                                 "is_encoding": marking("is_encoding", cpp_trees.ENCODINGS, "true", "false")},
         "proofs/Components/Sameness.antt": {"equal-tree": equal_tree(), "tree-itself": tree_itself()},
@@ -130,8 +115,7 @@ def of_press_laws():
                                          "PrefixOr": [*prefixes, "PrefixOr t inside x = ItselfOr t inside x"]},
         "proofs/Components/Complete.antt": {"inside-shut": inside_shut()},
         "proofs/Components/Growing.antt": {"size": fold("size", [], lambda parts: f"suc ({' + '.join(parts)})", "1", trees=named(PRESSED))},
-        "proofs/EveryWay/Law.antt": {"reads": by_each("reads", "reads", ["c"], {"symbol": None, **nowhere, **orders},
-                {"address_of": "address"})},
+        "proofs/EveryWay/Law.antt": {"reads": by_each("reads", "reads", ["c"])},
         "proofs/Fits/Packs.antt": {"closed-packs": closed_packs()},
     }
 

@@ -95,7 +95,7 @@ def function(family, says, productions, rows, node_of):
 def files():
     """What is written: each file's path in the folder of the crates, and its text."""
     _, _, rows = grammar.wide()
-    node_of = {tree: (node, [name for name, _, _ in node_code.fields(tree, given)]) for node, tree, given in node_code.nodes()}
+    node_of = {node.tree: (node.name, [name for name, _, _ in node.fields]) for node in node_code.nodes()}
     for module, said_of in FAMILIES.items():
         functions = "\n\n".join(function(family, says, families()[family], rows, node_of) for family, says in said_of.items())
         code = "\n".join(l for l in functions.split("\n") if not l.strip().startswith("//"))

@@ -4,6 +4,8 @@ import os
 import re
 
 from files import read, sections, template
+from cpp_trees import BELOW
+from node_code import nodes
 from notation import answer, applied, braced, camel
 from printing import imports
 from splicing import WRITTEN
@@ -23,9 +25,14 @@ VALUES = ("ends_in_angle", "precedence")
 LEFT = ["fill_left", "fill_left_type", "fill_left_argument"]
 # what is to be said before the parts are the tree's: of the text that is added, or of the arm
 TEXTS = "ap (λ t. text t ∷ []) c.{0}.ensures.text"
-BEFORE = {tuple(arm.split()): said.replace("CONTEXT", CONTEXT).replace("DETAIL", DETAIL).replace("SYMBOL", "c.args.self.now c.args.ctx")
-          for arm, said in ARMS["before"]}
-BY_HAND = [tuple(arm.split()) for arm, in ARMS["by_hand"]]
+
+def said_of_arms(word):
+    """What the table of trees says of arms by a word, by function and node."""
+    lines = [(line.partition(" "), node.name) for node in nodes() for line in BELOW[word].get(node.tree, [])]
+    return {(function, node): said.replace("CONTEXT", CONTEXT).replace("DETAIL", DETAIL).replace("SYMBOL", "c.args.self.now c.args.ctx")
+            for (function, _, said), node in lines}
+
+BEFORE, BY_HAND, UNFOLDING = map(said_of_arms, ("before", "by_hand", "unfolding"))
 
 def bodies(text):
     """The text of each function of a file, by its name."""
@@ -124,8 +131,6 @@ def answers(matched, steps, function, parts, by):
     head = parts.split()[0]
     unfolded = " ".join(filter(None, ["tree_of", head, by, "reargued"]))
     left = function in LEFT
-    # a function's marks are shown as qualifiers are; what a tag comes to has its own lemma
-    special = {("fill_right", "FunctionType"): unfolded + " qualifier_text", ("fill_left", "Tagged"): "tree_of reargued"}
     told = re.sub(r"\bd\b", DETAIL, re.sub(r"\bc\b", CONTEXT, parts))
     for node in matched[function]:
         if (function, node) in BY_HAND:
@@ -141,7 +146,7 @@ def answers(matched, steps, function, parts, by):
         if not left:
             facts.append(f"ap (λ t. {applied_to(told, 't')}) (sym c.in-{node}.ensures.tree)")
         goal = f"returns-in-{node}-clause-shows"
-        yield answer(goal, f" fills {SHOWN} _ _ _ {adds} ({' ∙ '.join(facts)})", special.get((function, node), unfolded), "g c")
+        yield answer(goal, f" fills {SHOWN} _ _ _ {adds} ({' ∙ '.join(facts)})", UNFOLDING.get((function, node), unfolded), "g c")
 
 def default(function, lemma, variables, of_others, matched):
     goal = "returns-in_default" + ("" if function in VALUES else "-clause-shows")

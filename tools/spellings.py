@@ -4,7 +4,7 @@ import re
 
 from files import template
 from notation import braced, camel
-from cpp_trees import FITTING, SPELLED
+from cpp_trees import BELOW, BYTES, QUALIFIERS, SPELLED
 
 def rows(trees):
     """Each tree with a row: its pattern, the sort of its spelling, its parts, and whether it fits nowhere."""
@@ -84,9 +84,9 @@ def definitions(trees):
 def sizes(trees):
     """How long a tree's spelling is."""
     for tree, shape, sort, parts, nowhere in rows(trees):
-        # a builtin type has one byte at least
+        least = f"{BELOW['least'][tree[0]]} + " if tree[0] in BELOW["least"] else ""
         if sort != "none":
-            yield f"size {shape} = {'1 + ' if tree[0] == 'builtin' else ''}{total(parts)}"
+            yield f"size {shape} = {least}{total(parts)}"
     yield "size _ = 1"
 
 def keeping(trees):
@@ -106,7 +106,7 @@ def keeping(trees):
             return f"and-keeps {known_of} ({rest}) (keeps {part.tree} {known} way.{part.way} {side(parts, i, of)}) {after}"
         if parts[i + 1].way not in ("as_encoding", "as_signature"):
             return f"behind-text-keeps {known_of} ({rest}) {after}"
-        return f"behind-bytes-keeps {known_of} ({rest}) {'(thunk-some kind)' if tree[0] == 'thunk' else '(omega arith)'} {after}"
+        return f"behind-bytes-keeps {known_of} ({rest}) {BELOW['some'].get(tree[0], '(omega arith)')} {after}"
     for tree, shape, sort, parts, nowhere in rows(trees):
         own, subtrees = f"open_ n R {shape}", [part for part in parts if part.tree]
         if sort == "none":
@@ -187,14 +187,14 @@ def short(trees):
 
 def needed(tree):
     """What a tree needs so that it fits, and the slot that the type in it is in."""
-    return FITTING[tree[0]], "bare_type" if tree[0] == "qualified" else "any_type"
+    return BELOW["fits"][tree[0]], BELOW["slot"].get(tree[0], "any_type")
 
 def fitting(trees):
     """Where a tree fits."""
     for tree, shape, sort, parts, nowhere in rows(trees):
         if nowhere:
             yield f"fits_of {shape} = fits_nowhere"
-        elif tree[0] in FITTING:
+        elif tree[0] in BELOW["fits"]:
             tests, slot = needed(tree)
             inner = f"behind_bytes {braced(parts[0].text)} ((fits_of {parts[1].tree}).as_type {slot}) around allowed place cs"
             yield (f"fits_of {shape} = type_fits {shape} (λ slot around allowed place cs. "
@@ -205,14 +205,14 @@ def adding(trees):
     for tree, shape, sort, parts, nowhere in rows(trees):
         if nowhere:
             yield f"adds {shape} = nowhere-ways-add {shape} _"
-        elif tree[0] in FITTING:
+        elif tree[0] in BELOW["fits"]:
             tests, slot = needed(tree)
             fits = f"fits.{len(tests)}" if tests else "fits"
             inner = f"(adds {parts[1].tree}).at fit.as_type {slot} around allowed (place + length {braced(parts[0].text)}) cs {fits}"
-            long = "(omega (arith, letters-long q fits.1))" if tree[0] == "qualified" else "(omega arith)"
+            long = BELOW["long"].get(tree[0], "(omega arith)")
             yield (f"adds {shape} = type-ways-add {shape} _ _ (λ x w. w) (λ slot around allowed place cs fits. after-bytes 1 2 "
                    f"{braced(parts[0].text)} {long} ({inner}))")
-        elif sort == "piece" and len(parts) == 1 and tree[0] != "source":
+        elif sort == "piece" and len(parts) == 1 and "adds" not in BELOW["by_hand"].get(tree[0], []):
             yield f"adds {shape} = leaf-piece-add {shape} _ _ (omega arith) (λ x i. i)"
 
 def typed_arguments(trees):
@@ -289,18 +289,19 @@ def declarations_onto(trees):
 
 # ## Types before which are bytes
 
-TYPED = {"digits": "(digits : List ℕ) ", "q": "(q : Qualifiers) "}
+TYPES = {BYTES: "List ℕ", QUALIFIERS: "Qualifiers"}
 
 def lemmas(trees):
     """Path, and the lemma of each of them."""
     for tree, shape, sort, (front, *after), nowhere in ((*row[:3], row[3] or [None], row[4]) for row in rows(trees)):
-        tests, slot = needed(tree) if tree[0] in FITTING else ([], None)
+        tests, slot = needed(tree) if tree[0] in BELOW["fits"] else ([], None)
         if not tests or slot != "any_type":
             continue
         own, bytes_ = tree[0].replace("_", "-"), braced(front.text)
         names = [name for name, sort in tree[1:] if name != after[0].tree]
         premises = [f"({tests[0]})", *tests[1:], f"(fits_of type).as_type any_type inner allowed (place + length {bytes_}) cs"]
-        lemma = template("cpp_press_laws/fits.antt", own=own, shape=shape, bytes=bytes_, binders="".join(TYPED[name] for name in names),
+        lemma = template("cpp_press_laws/fits.antt", own=own, shape=shape, bytes=bytes_,
+                         binders="".join(f"({name} : {TYPES[dict(tree[1:])[name]]}) " for name in names),
                          given="".join(f"{name} " for name in names),
                          known="".join(f"{test} → " for test in tests[1:]), digit="digit " * len(tests[1:]), premises=" × ".join(premises),
                          facts=", ".join(["take", *["digit"] * len(tests[1:]), "fits"]))

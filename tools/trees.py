@@ -34,14 +34,14 @@ def arms_by_production(found):
     yield "cpp_link/src/families.rt", "family_of", [f"        Production::{pattern} => Family::{family}," for family,
             productions in found.items() for _, pattern, _ in coded_cases(dict.fromkeys(productions))]
     yield "cpp_tree/src/node.rt", "Node", list(node_code.variants())
-    yield "cpp_tree/src/node.rt", "is_encoding", [f"            Node::{node} {{ .. }} => true," for node, tree,
-            args in nodes() if tree in cpp_trees.ENCODINGS]
+    encodings = [f"            Node::{node.name} {{ .. }} => true," for node in nodes() if node.tree in cpp_trees.ENCODINGS]
+    yield "cpp_tree/src/node.rt", "is_encoding", encodings
     yield "cpp_tree/src/notes.rt", "noted", node_code.noted()
     yield "cpp_tree/src/view.rt", "view_of_own", node_code.seen()
     yield from step_code.arms()
-    compared = [(node, args) for node, tree, args in nodes() if tree in cpp_trees.COMPONENTS]
-    yield "cpp_spelling/src/types.rt", "is_component", [f"        Node::{node}{'(_)' if len(args) == 1 else ' { .. }'} => true," for node,
-            args in compared]
+    compared = [node for node in nodes() if node.tree in cpp_trees.COMPONENTS]
+    lines = [f"        Node::{node.name}{'(_)' if len(node.fields) == 1 else ' { .. }'} => true," for node in compared]
+    yield "cpp_spelling/src/types.rt", "is_component", lines
 
 def whole_files(crates):
     """The files of which all is written, by their paths in the folder of the crates, and their texts."""
@@ -66,7 +66,7 @@ def edits(crates):
     of_arguments = read_noted(READ_OF_ARGUMENTS, "builder_", "Argument", "argument", "noted_argument", "noted_arguments", "argument_noted",
                               "(a_tree x)", "")
     yield from ((NOTED, with_declarations, [list(lemmas)]) for lemmas in (of_values, of_arguments))
-    types = {node: [NODE_TYPES[sort] for name, sort in args] for node, tree, args in nodes()}
+    types = {node.name: [NODE_TYPES[sort] for _, sort in node.arguments] for node in nodes()}
     others, answers, whole, matched = layouts.files(crates, types)
     yield "cpp_layout/proofs/Others.antt", lambda text: others, []
     yield from ((SHOWN.format(function), with_declarations, [["\n".join(lines)]]) for function, shown in answers.items() for lines in shown)

@@ -229,7 +229,8 @@ def code_answers():
     unfolded = f"{' '.join(ALL_TABLES)} look_up same_bytes"
     for coded in CODED:
         others = ", ".join(f"ne_eqb c.args.letter {ord(letter)} (omega (arith, c.in_default))" for letter in coded.codes)
-        none = (f"{coded.lemma} c.args.letter (omega (arith, c.ranges.letter.fits)) (let n : any_of {coded.letters} c.args.letter ≡ false = "
+        none = (f"{coded.lemma} c.args.letter (omega (arith, c.ranges.letter.fits)) (let n : any_of {coded.letters} c.args.letter ≡ false "
+                "= "
                 f"rw ({others}) refl in n)")
         dropped, by_letter = coded.shown.startswith("drop"), coded.codes if coded.name == "builtin" else ""
         arms = [line for code in map(ord, by_letter) for line in ["", *answer(f"returns-in-{code}-clause-text", f" rw c.in-{code}.is refl",
