@@ -16,12 +16,6 @@ def source(text):
     """An argument of a tree."""
     if known := said("arguments", text):
         return known
-    if m := re.fullmatch(r"'(.)'", text):
-        return f"fixed {ord(m[1])}"
-    if m := re.fullmatch(r"l(\d) or '(.)'", text):
-        return f"letter_or {m[1]} {ord(m[2])}"
-    if m := re.fullmatch(r"l(\d) is '(.)'", text):
-        return f"letter_is {m[1]} {ord(m[2])}"
     return "qualified_by " + " ".join(map(braced, map(source, split(re.fullmatch(r"marks\((.*)\)", text)[1]))))
 
 def made(text):
@@ -46,7 +40,7 @@ def pair(means):
 
 def form(text, nodes):
     """What a production denotes."""
-    if known := said("means", text, nodes=nodes):
+    if known := said("means", text, nodes_made=nodes):
         return known
     if text.startswith("pair("):
         return "a_pair " + " ".join(map(braced, pair(text)))
@@ -62,40 +56,55 @@ def gain(text):
     word, part = text.split()
     return f"{word}_of {part}"
 
-def step(text):
-    """What is done before a part."""
-    if known := said("steps", text):
-        return known
-    if known := said("places", text):
-        return f"goes nothing {braced(known)}"
-    if text == "list the name":
-        return "goes the_prefix as_before"
-    if m := re.fullmatch(r"list the name, (.*)", text):
-        return f"goes the_prefix {braced(said('places', m[1]))}"
-    if m := re.fullmatch(r"list type (\d)", text):
-        return f"goes (type_of {m[1]}) as_before"
-    tree, *marks = split(re.fullmatch(r"(?:name = )?(.*)", text)[1])
-    return (f"becomes ({made(tree)}) {str(bool(marks) and 'unlisted' not in marks).lower()} {str(text.startswith('name = ')).lower()} "
-            f"{str('candidate' in marks).lower()}")
+class Step:
+    """What is done before a part: as a row says it, and as definitions have it; and the tree that the first part becomes, if it does."""
+
+    def __init__(self, text=""):
+        self.text, self.made, self.is_name = text, "", text.startswith("name = ")
+        candidate = re.fullmatch(r"list (?:the name|type (?P<type>\d))(?:, (?P<place>.*))?", text)
+        if not text or said("steps", text):
+            self.definition = said("steps", text) or "quiet"
+        elif said("places", text):
+            self.definition = f"goes nothing {braced(said('places', text))}"
+        elif candidate:
+            of = f"(type_of {candidate['type']})" if candidate["type"] else "the_prefix"
+            self.definition = f"goes {of} {braced(said('places', candidate['place'] or 'in a literal'))}"
+        else:
+            self.made, *marks = split(text.removeprefix("name = "))
+            self.is_listed, self.is_candidate = bool(marks) and "unlisted" not in marks, "candidate" in marks
+            marked = [str(mark).lower() for mark in (self.is_listed, self.is_name, self.is_candidate)]
+            self.definition = " ".join([f"becomes ({made(self.made)})", *marked])
+
+    def made_before(self):
+        """How many nodes are made at most."""
+        word = self.definition.split()[0]
+        return most_made(self.definition[len("becomes "):]) if word == "becomes" else int(word in ("tests", "holds"))
 
 def steps(text):
     """What is done before each part as far as it is said by its number, and before the others."""
-    at, others = {}, "quiet"
+    at, others = {}, Step()
     for part in text.split("; ") if text else []:
         where, what = part.split(": ")
         if where.isdigit():
-            at[int(where)] = step(what)
+            at[int(where)] = Step(what)
         else:
-            others = step(what)
+            others = Step(what)
             if m := re.fullmatch(r"rest after (\d)", where):
-                at.setdefault(int(m[1]), "quiet")
-    return [at.get(i, "quiet") for i in range(max(at) + 1)] if at else [], others
+                at.setdefault(int(m[1]), Step())
+    return [at.get(i, Step()) for i in range(max(at) + 1)] if at else [], others
 
 class Row:
+    """What a production does."""
+
     def __init__(self, means, before="", candidate="", packs="", tests="", nodes=0):
-        self.means, (self.before, self.onward) = means, steps(before)
-        self.form, self.gain, self.restores_packs, self.tests_number = form(means,
-                nodes), gain(candidate), packs == "own", tests == "number"
+        self.means, (self.steps, self.others) = means, steps(before)
+        self.before, self.onward = [step.definition for step in self.steps], self.others.definition
+        self.form, self.gain = form(means, nodes), gain(candidate)
+        self.restores_packs, self.tests_number = packs == "own", tests == "number"
+
+    def step(self, part):
+        """What is done before a part."""
+        return self.steps[part] if part < len(self.steps) else self.others
 
     def definition(self):
         """The row as the definition has it: what it does beside most, around what its parts become."""
@@ -111,21 +120,17 @@ class Row:
             row = f"gains {braced(self.gain)} ({row})"
         if self.restores_packs:
             row = f"with_own_packs ({row})"
-        if self.tests_number:
-            row = f"with_number_tested ({row})"
-        return row
+        return f"with_number_tested ({row})" if self.tests_number else row
 
     def quiet(self):
         """Before how many of its parts nothing is done: none, the first ones, or all, which are five at most."""
-        for n, before in enumerate(self.before):
-            if before != "quiet":
-                return n
-        return ALL_PARTS if self.onward == "quiet" else len(self.before)
+        loud = [part for part, before in enumerate(self.before) if before != "quiet"]
+        return loud[0] if loud else ALL_PARTS if self.onward == "quiet" else len(self.before)
 
     def made_before(self):
         """How many nodes are made at most before each part, as far as some are."""
-        assert not most_before(self.onward)
-        counts = [most_before(before) for before in self.before]
+        assert not self.others.made_before()
+        counts = [step.made_before() for step in self.steps]
         while counts and not counts[-1]:
             counts.pop()
         return counts
@@ -139,7 +144,7 @@ class Row:
             return int(others[1])
         if word == "a_pair":
             return sum(most_made(braced(tree)) for tree in pair(self.means)[1:])
-        return 1 if word in ("cell", "item", "a_name", "in_place") else 0
+        return int(word in ("cell", "item", "a_name", "in_place"))
 
 # How a row names the arguments of what is in it: each text of definitions, with numbers of parts, as the row has it. Rows.antt says what
 # the names mean.
@@ -164,13 +169,8 @@ def named(text):
 ALL_PARTS = 5
 
 def most_made(tree):
-    return 0 if tree.startswith("(only ") else 1
-
-def most_before(text):
-    word = text.split()[0]
-    if word == "becomes":
-        return most_made(text[len("becomes "):])
-    return 1 if word in ("tests", "holds") else 0
+    """How many nodes are made at most for a tree."""
+    return int(not tree.startswith("(only "))
 
 def rows(texts):
     return {p: Row(**row) for p, row in texts.items()}

@@ -8,6 +8,7 @@ from files import read, template
 from meanings import makers
 from notation import applied, listed, snake, together
 from productions import coded_cases, defined_cases, imports
+from row_words import TABLE
 from rules import ALIKE, FAMILY, families
 from tree_clauses import SCOPED, SUBTREES
 
@@ -181,18 +182,15 @@ def may_leave(crates):
     begun = {p for kind, (empty, alternatives) in rules.items() if snake(kind).upper() in kinds for on, p in alternatives} - names
     return by_production("may_leave", {p: "true" for p in productions if p in begun}, "false")
 
-# how many nodes code of its own makes of the values of its parts, where that isn't always as many as its row says
-MAKES_AT_END = {"closure": "lambda_at_end known", "inheriting": "inheriting_at_end (part known 1)",
-                "by_letters": "operation_at_end (part known 0)", "enclosed": "enclosed_at_end known",
-                "elements": "elements_at_end known", "substitution": "0"}
-
 def makes_at_end():
     """How many nodes a production makes at its end, of the values of its parts."""
+    own = {word: counted[0] for word, _, *counted in TABLE["own"] if counted}
+
     def value(form):
         if form == "in_place" or form.startswith("a_name "):
             return "name_at_end known"
         if m := re.fullmatch(r"own (\w+) \d", form):
-            return MAKES_AT_END.get(m[1])
+            return own.get(m[1])
     found = {p: value(row.form) for p, row in grammar.rows().items()}
     return [*[f"makes_at_end {case} known = {v}" for case, v in defined_cases({p: v for p, v in found.items() if v})],
             "makes_at_end p known = made_at_end p"]

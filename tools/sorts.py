@@ -5,32 +5,15 @@ import re
 
 import cpp_trees
 import meanings
-from cpp_trees import BYTES, DISCRIMINATOR, MARK, NUMBER, PIECE, QUALIFIERS, SIGNED, TRUTH
-from files import sections, template
+from files import template
 from notation import listed
+from row_words import SOURCES, TABLE
 from rules import TOKENS
 
-# the sorts, and those of arguments by what cpp_trees.txt says of them
-ALL = ("trees", "pieces", "texts", "numbers", "truths", "qualifications", "marks", "signed_numbers", "discriminators", "none_read",
-       "letters", "adjustments", "names", "pairs", "signatures")
-OF_ARGUMENT = {PIECE: "pieces", BYTES: "texts", NUMBER: "numbers", TRUTH: "truths", QUALIFIERS: "qualifications", MARK: "marks",
-               SIGNED: "signed_numbers", DISCRIMINATOR: "discriminators"}
-OWN = {word: sorts.split() for head, lines in sections("cpp_words.txt") if head == "own" for line, _ in lines for word,
-       sorts in [line.split(" | ")]}
-
-# of which sort each argument is, and which sorts of a part it reads
-SOURCES = {
-    "tree_at": ("trees", "trees names pairs signatures"), "list_at": ("trees", "trees"), "parameters_at": ("trees", "trees signatures"),
-    "piece_at": ("pieces", "pieces"),
-    "text_at": ("texts", "texts"), "digits_at": ("texts", "texts"), "number_at": ("numbers", "texts"),
-    "letter_at": ("numbers", "letters pairs"),
-    "letter_or_taken": ("numbers", "letters pairs"), "letter_or": ("numbers", "letters pairs"), "operator_first_at": ("numbers", "pieces"),
-    "operator_second_at": ("numbers", "pieces"), "there_at": ("truths", ""),
-    "letter_is": ("truths", "letters"), "qualifiers_at": ("qualifications", "names"), "ref_at": ("marks", "names signatures"),
-    "signed_at": ("signed_numbers", "signed_numbers"),
-    "discriminator_at": ("discriminators", "texts"), "qualified_by": ("qualifications", None), "the_name": ("trees", None),
-    "no_tree": ("trees", None), "code": ("texts", None),
-    "taken": ("numbers", None), "fixed": ("numbers", None), "yes": ("truths", None), "no": ("truths", None)}
+# the sorts, and those of arguments by what cpp_trees.txt says of them; and those of what code of its own gives
+ALL = [sort for sort, *_ in TABLE["sorts"]]
+OF_ARGUMENT = {own: sort for sort, *of in TABLE["sorts"] for own in of}
+OWN = {word: sorts.split() for word, sorts, *_ in TABLE["own"]}
 
 def parsed(text):
     """A text of definitions as words and what is in parentheses; a list as its items."""
@@ -84,14 +67,14 @@ class Fitting:
     def source(self, given, wanted):
         """An argument that is wanted of this sort."""
         given = [given] if isinstance(given, str) else given
-        sort, read = SOURCES[given[0]]
+        sort, read = SOURCES.get(given[0], ("qualifications", ""))
         if sort != wanted:
             self.fault(f"{' '.join(map(str, given))} is of sort {sort}, and {wanted} is wanted")
         if given[0] == "qualified_by":
             for mark in given[1:]:
                 self.source(mark, "truths")
-        elif read is not None:
-            self.part(given[1], read)
+        elif read:
+            self.part(given[1], "" if read == "any" else read)
 
     def made(self, made, wanted):
         """A tree that is made, which is wanted of this sort."""
@@ -189,8 +172,7 @@ def fitted(production, row, parts, step=lambda fitting, text: fitting.step(text)
     """A production once its parts are read, with each step before them."""
     fitting = Fitting(production, [])
     for i, part in enumerate(parts):
-        text = row.before[i] if i < len(row.before) else row.onward
-        step(fitting, text)
+        step(fitting, row.step(i).definition)
         fitting.known.append(part)
     return fitting
 
