@@ -86,6 +86,5 @@ def named(names, first=(), last=()):
         if row[0] in first:
             return first.index(row[0])
         return len(first) + (1 + last.index(row[0]) if row[0] in last else 0)
-
     trees = [(tree, *((called(names, tree, name), sort) for name, sort in arguments)) for tree, *arguments in TREES]
     return sorted(trees, key=place)

@@ -128,5 +128,4 @@ def declarations(crates):
              ("cpp_spelling", {"specs/Weight.antt": {"weight": fold("weight", [], summed("12"), "12", trees=named(PRESSED))}})]
     for crate, paths in files:
         for path, names in paths.items():
-            for name, lines in names.items():
-                yield f"{crate}/{path}", name, lines
+            yield from ((f"{crate}/{path}", name, lines) for name, lines in names.items())

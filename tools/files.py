@@ -58,7 +58,6 @@ def fill(text, /, **holes):
     def filled(match):
         value = holes[match[1].lower()]
         return value if isinstance(value, str) else "\n".join(map(str, value))
-
     return re.sub(r"@([A-Z_]+)@", filled, text)
 
 def template(name, /, **holes):

@@ -80,7 +80,6 @@ def table():
 
     def cells(symbols):
         return [f"Sym::Byte(b{symbol})" if sym_class(symbol) == "byte" else snake(symbol).upper() for symbol in symbols]
-
     rows = [symbol_row(cells(symbols), name) for name, (_, symbols) in zip(names, P.values())]
     return {"constants": constants, "letters": rust_letters("LETTERS", False), "count": str(len(P)), "heads": heads, "symbols": rows,
             **after_each([symbols for _, symbols in P.values()]), "rules": rust_rules("abi", "&LETTERS[kind as usize]", "row",

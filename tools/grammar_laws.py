@@ -83,7 +83,6 @@ def chains():
             first = [P[production][1][0] for cls, production in K[kind][1] if cls is None]
             depth[kind] = max([0, *(1 + (measure(symbol) if sym_class(symbol) == "kind" else 0) for symbol in first)])
         return depth[kind]
-
     for kind in K:
         measure(kind)
     return depth

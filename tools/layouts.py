@@ -85,7 +85,6 @@ class Shapes:
         def field(node):
             given = " ".join(f"(x{i} : {type})" for i, type in enumerate(self.types[node]))
             return f"  pub not_{node.lower()} : {given + ' → ' if given else ''}n ≡ {self.constructed(node)} → ⊥"
-
         fields = [field(node) for node in self.matched[function]]
         return template("cpp_layout/other_record.antt", function=function, record=record_of(function), fields=fields).rstrip("\n")
 

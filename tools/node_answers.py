@@ -71,7 +71,6 @@ def viewed(node, shown, step):
     def fact_of(number):
         call = re.search(r"(\w+)\(", number)
         return f"{step(call[1], node.name)}.ensures{'' if call[1] == 'linkage_number' else '.is'}" if call else "refl"
-
     numbers, texts, parts = node.view()
     facts = [*map(fact_of, numbers), "refl", "refl"][:2]
     count, known = ["none", "one", "two", "three"][len(parts)], node.known()

@@ -36,7 +36,6 @@ def of_arguments(forms, joined, none=None):
     def right(node, given):
         facts = [forms[sort].format(name, fact) for name, sort, fact in placed(given, tuple(forms)) if fact]
         return joined(facts) if facts else none
-
     return right
 
 def tree_of():
@@ -47,7 +46,6 @@ def tree_of():
 
     def right(node, given):
         return applied("term." + node.tree, [made.get(sort, "(tree_at ts {0})").format(name) for name, sort in given])
-
     return node_cases("tree_of", ["s", "us", "ts"], [], right)
 
 def views():
@@ -66,7 +64,6 @@ def fields_of():
         parts = "".join(f"{name} ∷ " for name, sort in arguments(tree, *SUBTREES))
         general = ["fields", tree[0].upper(), *(told + ["0", "0"])[:2], (texts or ["[]"])[0], f"({parts}[])" if parts else "[]"]
         return BELOW["fields"].get(tree[0]) or " ".join(general)
-
     lines = [*cases("fields_of", [], [], right, None, views()), "fields_of t = no_node t"]
     return [line if len(line) <= 160 else line.replace(" = ", " =\n    ") for line in lines]
 
@@ -90,7 +87,6 @@ def is_below():
     """That the arguments of a node are below it."""
     def joined(facts):
         return facts[0] if len(facts) == 1 else " × ".join(f"({fact})" if " < " in fact else fact for fact in facts)
-
     return node_cases("IsBelow", ["s", "held", "n"], [], of_arguments(BOUNDS, joined), "Unit {0}", NAMES["below"])
 
 def below_later():
@@ -115,7 +111,6 @@ def of_parts(text, piece, joined):
         parts = [(piece if sorts[name] == PIECE else text).format(name, fact)
                  for name, _, fact in placed(given, (TREE, OWN, PIECE)) if sorts.get(name) in SCOPED]
         return joined(parts) if parts else None
-
     return right
 
 def noted(function, text, piece, joined, others):
@@ -167,7 +162,6 @@ def is_other():
     def line(node, given):
         premise = "".join(f"({name} : {type}) " for name, type in given) + "→ " if given else ""
         return f"  pub not_{node.lower()} : {premise}n ≡ {applied('Node.' + node, [name for name, _ in given])} → ⊥"
-
     return [line(*noted_node) for noted_node in noted_nodes()]
 
 def other_node():

@@ -162,5 +162,4 @@ def files(crates):
     """What is written: each file's path in the folder of the crates, and its text."""
     known = lemmas(crates)
     yield FILE, code()
-    for row in ROWS:
-        yield f"cpp_layout/proofs/symbol/Symbol/{row.name}/Answers.antt", answer(row, known)
+    yield from ((f"cpp_layout/proofs/symbol/Symbol/{row.name}/Answers.antt", answer(row, known)) for row in ROWS)

@@ -20,8 +20,7 @@ def whole_files():
     yield "rust_v0/src/operands.rt", template("rust_v0/operands.rt", operands="\n\n".join(map(read_in_code, PARTS.values())))
     yield "rust_v0/specs/CodeOperands.antt", template("rust_v0/CodeOperands.antt", operands="\n\n".join(map(read_in_specs, PARTS.values())))
     yield "rust_v0/proofs/OperandLemmas.antt", template("rust_v0/OperandLemmas.antt", lemmas="\n\n".join(map(agrees, PARTS.values())))
-    for of in MUTUAL:
-        yield f"rust_tree/proofs/view/view_of_{of}/Answers.antt", view_answers(of)
+    yield from ((f"rust_tree/proofs/view/view_of_{of}/Answers.antt", view_answers(of)) for of in MUTUAL)
     yield from list_answers()
 
 def declarations():

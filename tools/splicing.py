@@ -23,10 +23,7 @@ def with_declarations(text, owns, mark=WRITTEN):
         name = re.match(r"(?:pub )?(\S+) : ", own).group(1)
         place = declared(text, name)
         own = f"-- {mark}\n{own}"
-        if place:
-            text = text[:place[0]] + own + text[place[1]:]
-        else:
-            text = f"{text[:behind]}\n\n{own}{text[behind:]}"
+        text = text[:place[0]] + own + text[place[1]:] if place else f"{text[:behind]}\n\n{own}{text[behind:]}"
         behind = declared(text, name)[1]
     return text
 

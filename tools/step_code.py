@@ -64,7 +64,6 @@ def of_function(found):
     """The productions of each function, each with what is done."""
     def at(part, test=lambda step: True):
         return {production: own[part] for production, own in found.items() if not is_by_hand(own[part]) and test(own[part])}
-
     return {
         "step_first": at(0), "step_second": at(1, lambda step: not step.is_name),
         "step_second_of_name": at(1, lambda step: step.is_name and not is_piece(step)), "step_second_of_piece": at(1, is_piece),
@@ -124,7 +123,6 @@ def pieces(done):
         step = f"c.{name}-in-{production}" if name in met else f"c.{name}"
         met.add(name)
         return step
-
     for production, step in done.items():
         tree, piece, read, same = shown_piece(step.made.removeprefix("name + "))
         calls = {name: called(name, production) for name in ("named", "extended", "prefix")}

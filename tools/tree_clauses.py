@@ -48,7 +48,6 @@ def fold(function, before, joined, none, over=SUBTREES, closed=None, trees=TREES
         parts = [applied(function, [*(before if closed is None or sort not in APART else closed), name])
                  for name, sort in arguments(tree, *over)]
         return joined(parts) if parts else None
-
     return cases(function, before, [], right, none, trees, crate)
 
 def summed(first):
@@ -64,7 +63,6 @@ def joined_by(lemma, *first, of=None, then=()):
     def joined(facts):
         computed = [f"({of} {fact.split()[-1]})" for fact in facts] if of else []
         return applied(lemma, [*first, *computed, *then, *(f"({fact})" for fact in facts)])
-
     return lambda facts: alone_or(facts, joined)
 
 def both_by(lemma):
@@ -78,7 +76,6 @@ def rebuilt(function, before, closed, carries):
     """The tree again, of what is made of its subtrees."""
     def part(name, sort):
         return f"({applied(function, [*(closed if sort in (OWN, OUTSIDE) else before), name])})" if sort in SUBTREES else name
-
     lines = cases(function, before, [], lambda tree: applied("term_." + tree[0], [part(*argument) for argument in tree[1:]]))
     return carried(lines) if carries else lines
 
@@ -100,7 +97,6 @@ def same_tree():
     """Whether two trees are the same: by their constructors, and argument by argument."""
     def tests(tree):
         return ["nat_eq {0} {1}" if sort == NUMBER else f"same_{TESTS[sort]} {{0}} {{1}}" for name, sort in tree[1:]]
-
     return [*[same_clause("same_tree", tree[0], tests(tree)) for tree in TREES], "same_tree _ _ = false"]
 
 def equal_tree():
@@ -117,7 +113,6 @@ def tree_itself():
     """That `same_tree` finds each tree the same as itself."""
     def fact(name, sort):
         return f"eq-eqb {name} {name} refl" if sort == NUMBER else f"{TESTS[sort]}-itself {name}"
-
     return cases("tree-itself", [], [], lambda tree: itself([fact(*argument) for argument in tree[1:]]))
 
 # ## Trees with their arguments
@@ -126,7 +121,6 @@ def erased():
     """That the annotated tree without its arguments is the tree."""
     def fact(name, sort):
         return f"(erased {'nowhere' if sort in (OWN, OUTSIDE) else 'in_own' if sort == SIGNATURE else 's'} {name})"
-
     return cases("erased", ["s"], [], lambda tree: of_subtrees(tree, tree[0], fact, SUBTREES, "ab"), "refl")
 
 def weight_grows():
@@ -134,7 +128,6 @@ def weight_grows():
     def right(tree):
         parts = [f"weight_grows a b scope {name} h" for name in names(tree, *SCOPED)]
         return f"omega ({', '.join(['arith', *parts])})" if parts else None
-
     return cases("weight_grows", ["a", "b", "scope"], ["h"], right, "omega arith")
 
 def applied_to_scoped(tree):
@@ -167,7 +160,6 @@ def closed_noted(function="closed_noted", before=("s", "r"), half=open_half):
         facts = ["e"] if len(subtrees) == 1 else [half(i, *subtrees) for i in (0, 1)]
         laws = [f"({applied(function, [*before, name, fact])})" for name, fact in zip(subtrees, facts)]
         return applied("ap" if len(subtrees) == 1 else "both", [applied_to_scoped(tree), *laws])
-
     return cases(function, list(before), ["e"], right, "refl", FIRST)
 
 def never_open(name, subtrees):
@@ -185,7 +177,6 @@ def closed_packs():
         tests = " ".join(f"(is_open {name})" for name in subtrees)
         laws = [f"(closed-packs scope {name} (or_parts {tests} closed).{i})" for i, name in enumerate(subtrees)]
         return "\n    " + "\n    ".join([" ".join(["first-none", *(f"(pack_length scope {name})" for name in subtrees), laws[0]]), laws[1]])
-
     return cases("closed-packs", ["scope"], ["closed"], right, "refl", named(PRESSED))
 
 def by_each(function, lemma, before):
@@ -195,7 +186,6 @@ def by_each(function, lemma, before):
             return f"{lemma}-nowhere {pattern(tree)} _"
         known = [f"({applied(function, [*before, name])})" for name in names(tree, *SUBTREES)]
         return applied(f"{lemma}-{tree[0].replace('_', '-')}", [*(name for name, sort in tree[1:]), *known])
-
     return cases(function, before, [], right, None, named(PRESSED))
 
 # ## What is inside
@@ -210,7 +200,6 @@ def inside_shut():
     def right(name, kind, closed, fact):
         below = f"inside-shut {name} x {closed}"
         return f"{kind.lower()}-shut {name} x (Inside {name} x) {closed} ({below}) {fact}" if kind else f"{below} {fact}"
-
     lines = []
     for tree in named(PRESSED):
         subtrees, left = names(tree, *SUBTREES), f"inside-shut {pattern(tree)} x closed"
@@ -236,7 +225,6 @@ def inside():
 
     def right(tree):
         return " ⊎ ".join(part(tree, *argument) for argument in arguments(tree, *SUBTREES)) or None
-
     return cases("Inside", [], ["x"], right, "⊥", named(PRESSED))
 
 # ## Trees whose free parameters carry another argument
@@ -246,7 +234,6 @@ def reargued():
     def right(tree):
         given = [f"(reargued c {name})" if sort in SCOPED else name for name, sort in tree[1:]]
         return applied(tree[0], given) if names(tree, *SCOPED) else None
-
     return [*carried(cases("reargued", ["c"], [], right)), "reargued c t = t"]
 
 def made_again(function, before, after=(), made="", given=lambda name, sort: name):
@@ -254,9 +241,7 @@ def made_again(function, before, after=(), made="", given=lambda name, sort: nam
     def right(tree):
         def fact(name, sort):
             return f"({applied(function, [*before, name, *[never_open(name, names(tree, *SCOPED)) for _ in after]])})"
-
         return of_subtrees(tree, made + tree[0], fact, given=given)
-
     return carried(cases(function, before, list(after), right, "refl"))
 
 def reargued_laws():

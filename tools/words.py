@@ -305,10 +305,8 @@ def files(productions, rows, skips):
     yield "cpp_layout/src/numbered.rt", layout_codes()
     yield "cpp_layout/proofs/CodeLetters.antt", code_letters()
     yield "cpp_layout/proofs/operation_rows/place_of/Answers.antt", operation_answers()
-    for name, text in text_answers():
-        yield f"cpp_layout/proofs/texts/{name}/Answers.antt", text
-    for name, text in code_answers():
-        yield f"cpp_layout/proofs/numbered/{name}/Answers.antt", text
+    yield from ((f"cpp_layout/proofs/texts/{name}/Answers.antt", text) for name, text in text_answers())
+    yield from ((f"cpp_layout/proofs/numbered/{name}/Answers.antt", text) for name, text in code_answers())
     yield "cpp_direct/specs/Letters.antt", direct_letters()
     yield "cpp_direct/src/letters.rt", direct_tests()
     yield "cpp_link/src/tables.rt", link_tables(productions, rows, skips)
