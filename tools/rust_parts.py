@@ -1,5 +1,4 @@
 """The sorts of parts of Rust's rules (rust_parts.txt): from a sort to what reads such a part at the front of others, in code and in
-
 definitions, and why the two agree. Which parts a production has is in rust_grammar.py."""
 import re
 
