@@ -1,12 +1,13 @@
 """What goes through C++'s nodes by their arguments alone: from the rows of cpp_trees.py to the clauses of cpp_tree's definitions and laws.
-declarations.py says in which file each is. Where the table has a clause of a node's tree, that is the clause."""
+Where the table has a clause of a node's tree, that is the clause."""
 from cpp_trees import (
-    BELOW, BYTES, CLAUSES, DISCRIMINATOR, INSIDE, MARK, NAMES, NUMBER, OUTSIDE, OWN, PIECE, PIECES, QUALIFIERS, SIGNATURE, SIGNED, THUNK,
+    BELOW, BYTES, CLAUSES, DISCRIMINATOR, ENCODINGS, INSIDE, MARK, NAMES, NUMBER, OUTSIDE, OWN, PIECE, PIECES, QUALIFIERS, SIGNATURE,
+    SIGNED, THUNK,
     TREE, TRUTH, VIEWED, called, named,
 )
 from node_code import BOUNDS, UNDER, nodes, placed
-from notation import applied, braced, rewritten, together
-from tree_clauses import SCOPED, SUBTREES, arguments, cases
+from notation import alone_or, applied, braced, rewritten, together
+from tree_clauses import SCOPED, SUBTREES, arguments, both_free, cases, first_of
 
 # the types of a node's arguments, and for some the letter of an argument whose node is told apart
 SORTS = {PIECE: ("p", "Piece"), BYTES: ("d", "Span"), MARK: ("m", "Mark"), QUALIFIERS: ("q", "Qualifiers"), SIGNED: ("v", "Signed"),
@@ -138,10 +139,6 @@ def passed_fact(facts):
         return rewritten(facts)
     return facts[0] if facts[0].startswith("piece") else f"ap passed ({facts[0]})"
 
-def alone_or_rewritten(facts):
-    """The one fact, or that both sides are the same by several."""
-    return facts[0] if len(facts) == 1 else rewritten(facts)
-
 def by_nodes(name, matched, functions):
     """False of the nodes for which these functions have arms."""
     found = [node for function in functions for node in matched[function]] + ["Reargued"]
@@ -172,3 +169,23 @@ def other_node():
         own, not_own = braced(applied(f"Node.{node}", names)), applied(f"other.not_{node.lower()}", names)
         lines.append(f"other-node ns {own} other = absurd ({not_own} refl)")
     return [*lines, "other-node ns _ other = refl"]
+
+def declarations():
+    """The path and the name of each declaration, and the lines of its clauses."""
+    encodings = node_cases("is_encoding", [], [], lambda node, given: "true" if node.tree in ENCODINGS else None, "false")
+    found = {
+        "specs/Nodes": {"tree_of": tree_of(), "is_encoding": encodings, "IsBelow": is_below()},
+        "specs/Fields": {"fields_of": fields_of(), "narrow_tree_from": tree_from()},
+        "proofs/Compacting": {"IsOther": is_other(), "other-node": other_node()}, "proofs/Pushed": {"node-stays": node_stays()},
+        "specs/Notes": {
+            "frees": noted("frees", "free_at es {0}", "piece_frees es {0}", both_free, "Free.None"),
+            "node_by_argument": noted("node_by_argument", "by_argument_at es {0}", "piece_by_argument es {0}", depending, "by_none false"),
+            "packing": noted("packing", "packs_at es {0}", "piece_packs es {0}", first_of, "None")},
+        "proofs/Noting": {
+            "node-by-argument": through("node-by-argument", "by-argument-at {0} {1}", "piece-by-argument {0} {1}", passed_fact),
+            "node-free": through("node-free", "at {0} {1}", "piece-free {0} {1}", both_are),
+            "node-pack": through("node-pack", "pack-at {0} {1}", "piece-pack {0} {1}", lambda facts: alone_or(facts, rewritten))},
+    }
+    for path, names in found.items():
+        yield from ((f"cpp_tree/{path}.antt", name, lines) for name, lines in names.items())
+    yield "cpp_spelling/proofs/Made.antt", "below-later", below_later()

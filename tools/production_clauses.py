@@ -1,5 +1,5 @@
 """What is said of each of C++'s productions by its row, by its family, or because it is common: from the grammar's rows to the clauses of
-cpp_grammar, cpp_term and cpp_link. declarations.py says in which file each is."""
+cpp_grammar, cpp_term and cpp_link."""
 import re
 
 import grammar
@@ -191,3 +191,22 @@ def makes_at_end():
     found = {production: value(row.form) for production, row in grammar.rows().items()}
     cases = defined_cases({production: counted for production, counted in found.items() if counted})
     return [*(f"makes_at_end {case} known = {counted}" for case, counted in cases), "makes_at_end p known = made_at_end p"]
+
+def declarations(crates):
+    """The path and the name of each declaration, and the lines of its clauses."""
+    rows = grammar.rows()
+    before = {production: listed(row.made_before()) for production, row in rows.items() if row.made_before()}
+    at_end = {production: row.made_at_end() for production, row in rows.items() if row.made_at_end()}
+    yield "cpp_grammar/proofs/ClosedValues.antt", "built_good", built_good()
+    yield from (("cpp_term/proofs/MeaningNoted.antt", name, lines) for name, lines in (
+        ("takes_encodings", takes_encodings()), ("AreShut", are_shut()), ("none_are_taken", none_are_taken()),
+        ("built_noted", built_noted())))
+    yield "cpp_link/specs/Owed.antt", "made_before", by_production("made_before", before, "[]")
+    yield "cpp_link/specs/Owed.antt", "made_at_end", by_production("made_at_end", at_end, 0)
+    yield "cpp_link/specs/Owed.antt", "slack", slack()
+    yield "cpp_link/specs/NodeCount.antt", "makes_at_end", makes_at_end()
+    yield "cpp_link/specs/Making.antt", "IsRare", by_production("IsRare", dict.fromkeys(common(), "⊥"), "Unit {0}")
+    not_common = [f"  pub not_{snake(name)} : p ≡ Production.{name} → ⊥" for name in common()]
+    yield "cpp_link/proofs/Making.antt", "IsNoneOfThem", not_common
+    yield "cpp_link/proofs/Making.antt", "is_rare", is_rare()
+    yield "cpp_link/proofs/CandidatesFew.antt", "may_leave", may_leave(crates)

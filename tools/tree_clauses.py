@@ -1,9 +1,10 @@
-"""What goes through C++'s trees by their arguments alone: from the rows of cpp_trees.py to the clauses of definitions and laws.
-declarations.py says in which file each is. Where the table has a clause of a tree's own, that is the clause."""
+"""What goes through C++'s trees by their arguments alone: from the rows of cpp_trees.py to the clauses of definitions and laws. Where the
+table has a clause of a tree's own, that is the clause."""
 import cpp_trees
 from cpp_trees import (
-    BELOW, BYTES, CASES, CLAUSES, DISCRIMINATOR, INSIDE, MARK, NUMBER, OUTSIDE, OWN, PIECE, PRESSED, QUALIFIERS, SIGNATURE, SIGNED, THUNK,
-    TREE, TREES, TRUTH, named,
+    BELOW, BYTES, CASES, CLAUSES, COMPONENTS, DISCRIMINATOR, ENCODINGS, INSIDE, MARK, NUMBER, OUTSIDE, OWN, PIECE, PRESSED, QUALIFIERS,
+    SCOPES,
+    SIGNATURE, SIGNED, THUNK, TREE, TREES, TRUTH, named,
 )
 from notation import alone_or, applied, braced, rewritten
 from sameness import equal_clause, itself, same_clause
@@ -70,14 +71,12 @@ def both_by(lemma):
     return joined_by("both", lemma)
 
 both_free, first_of = joined_by("both_free"), joined_by("first_of")
-either_open, bare_first = joined_by("either-open", of="free_in"), joined_by("bare_first", of="bare", then=["(length_if_pack a)"])
 
-def rebuilt(function, before, closed, carries):
+def rebuilt(function, before, closed):
     """The tree again, of what is made of its subtrees."""
     def part(name, sort):
         return f"({applied(function, [*(closed if sort in (OWN, OUTSIDE) else before), name])})" if sort in SUBTREES else name
-    lines = cases(function, before, [], lambda tree: applied("term_." + tree[0], [part(*argument) for argument in tree[1:]]))
-    return carried(lines) if carries else lines
+    return cases(function, before, [], lambda tree: applied("term_." + tree[0], [part(*argument) for argument in tree[1:]]))
 
 def of_subtrees(tree, constructor, fact, over=SCOPED, letters="xy", given=lambda name, sort: name):
     """That a tree is another one, since its subtrees are: the constructor over the facts of these."""
@@ -179,14 +178,14 @@ def closed_packs():
         return "\n    " + "\n    ".join([" ".join(["first-none", *(f"(pack_length scope {name})" for name in subtrees), laws[0]]), laws[1]])
     return cases("closed-packs", ["scope"], ["closed"], right, "refl", named(PRESSED))
 
-def by_each(function, lemma, before):
-    """A lemma for each tree, of its arguments and of what is known of its subtrees."""
+def reads():
+    """That each tree is read, of its arguments and of what is known of its subtrees."""
     def right(tree):
         if cpp_trees.SPELLED.get(tree[0], ("",))[0].startswith("nowhere"):
-            return f"{lemma}-nowhere {pattern(tree)} _"
-        known = [f"({applied(function, [*before, name])})" for name in names(tree, *SUBTREES)]
-        return applied(f"{lemma}-{tree[0].replace('_', '-')}", [*(name for name, sort in tree[1:]), *known])
-    return cases(function, before, [], right, None, named(PRESSED))
+            return f"reads-nowhere {pattern(tree)} _"
+        known = [f"(reads c {name})" for name in names(tree, *SUBTREES)]
+        return applied(f"reads-{tree[0].replace('_', '-')}", [*(name for name, sort in tree[1:]), *known])
+    return cases("reads", ["c"], [], right, None, named(PRESSED))
 
 # ## What is inside
 
@@ -244,20 +243,69 @@ def made_again(function, before, after=(), made="", given=lambda name, sort: nam
         return of_subtrees(tree, made + tree[0], fact, given=given)
     return carried(cases(function, before, list(after), right, "refl"))
 
-def reargued_laws():
-    """The laws of trees with another argument, by their names."""
-    either_by = both_by("(λ x y. x || y)")
-    folds = [("open_reargued", "c", either_by), ("free_reargued", "c", both_by("both_free")), ("bare_reargued", "c", either_by),
-             ("pack_reargued", "a", bare_first)]
-    # another argument in free parameters is erased with the others
-    erased_again = made_again("erase_reargued", ["c"], made="term_.", given=lambda name, sort: f"(erase {name})" if sort in APART else name)
-    return {
-        "reargued_none": made_again("reargued_none", []), "reargued_twice": made_again("reargued_twice", ["c", "a"]),
-        "reargued_closed": made_again("reargued_closed", ["c"], ["closed"]),
-        **{function: carried(fold(function, [before], joined, "refl", over=SCOPED)) for function, before, joined in folds},
-        "erase_reargued": erased_again,
-    }
+# ## Declarations
 
-def open_erased():
-    """That an annotated tree is open where the tree is."""
-    return carried(fold("open-erased", [], lambda parts: alone_or(parts, rewritten), "refl", over=SCOPED))
+def folds():
+    """Those that are folds of trees: path, name, and the lines."""
+    either_by, pressed = both_by("(λ x y. x || y)"), named(PRESSED)
+    # of what is under the scope of the whole: what is given before a tree, how parts are joined, and what it is of none
+    for path, name, before, joined, none in (
+            ("cpp_term/specs/Reargued.antt", "bare", [], either, "false"),
+            ("cpp_term/proofs/Reargued.antt", "open_reargued", ["c"], either_by, "refl"),
+            ("cpp_term/proofs/Reargued.antt", "free_reargued", ["c"], both_by("both_free"), "refl"),
+            ("cpp_term/proofs/Reargued.antt", "bare_reargued", ["c"], either_by, "refl"),
+            ("cpp_term/proofs/Reargued.antt", "pack_reargued", ["a"], joined_by("bare_first", of="bare", then=["(length_if_pack a)"]),
+             "refl"),
+            ("cpp_tree/proofs/FreeParameters.antt", "open-free", [], joined_by("either-open", of="free_in"), "refl"),
+            ("cpp_press/proofs/Open.antt", "open-erased", [], lambda parts: alone_or(parts, rewritten), "refl")):
+        yield path, name, carried(fold(name, before, joined, none, over=SCOPED))
+    for name, before, joined in (
+            ("open_noted", ["s"], either_by), ("free_noted", ["s"], both_by("both_free")), ("pack_own", [], both_by("first_of")),
+            ("pack_none", [], both_by("first_of")), ("pack_some", ["all"], both_by("first_of"))):
+        yield "cpp_term/proofs/Notes.antt", name, fold(name, before, joined, "refl", over=SCOPED)
+    # by the names that scopes have; parameters first
+    for name, before, joined, none in (("is_open", [], either, "false"), ("free_in", [], both_free, "none_free"),
+                                       ("pack_length", ["scope"], first_of, "None")):
+        lines = fold(name, before, joined, none, over=SCOPED, trees=named(SCOPES, ["parameter"]))
+        yield "cpp_grammar/specs/Scope.antt", name, lines
+    # what a local entity is in is no part of its weight
+    weight = fold("weight", ["a", "scope"], summed("1"), "1", closed=["0", "None"], crate="cpp_grammar/")
+    yield "cpp_grammar/specs/Ranks.antt", "weight", weight
+    yield "cpp_term/specs/Ranks.antt", "weight", carried(fold("weight", [], summed("1"), "1", crate="cpp_term/"))
+    yield "cpp_spelling/specs/Weight.antt", "weight", fold("weight", [], summed("12"), "12", trees=pressed)
+    yield "cpp_grammar/specs/Closed.antt", "ScopesAreClosed", fold("ScopesAreClosed", [], " × ".join, "Unit {0}", trees=FIRST)
+    yield "cpp_press_laws/specs/Apart.antt", "IsNeverReferred", fold("IsNeverReferred", ["own"], " ⊎ ".join, "⊥", trees=pressed)
+    sizes = fold("size", [], lambda parts: f"suc ({' + '.join(parts)})", "1", trees=pressed)
+    yield "cpp_press_laws/proofs/Components/Growing.antt", "size", sizes
+
+def markings():
+    """Those that have a value for some trees, and another for the others."""
+    for path, name, marked, value, others, after in (
+            ("specs/Pressing", "is_component", COMPONENTS, "true", "false", []),
+            ("specs/Pressing", "is_encoding", ENCODINGS, "true", "false", []),
+            ("proofs/Components/Parts", "IsComponent", COMPONENTS, "Unit {0}", "⊥", []),
+            ("proofs/Components/Parts", "PrefixOr", ENCODINGS, "⊥", None, ["inside", "x"])):
+        lines = cases(name, [], after, lambda tree: value if tree[0] in marked else None, others, named(PRESSED))
+        yield f"cpp_press_laws/{path}.antt", name, lines + (["PrefixOr t inside x = ItselfOr t inside x"] if after else [])
+
+def declarations():
+    """The path and the name of each declaration, and the lines of its clauses."""
+    yield from folds()
+    yield from markings()
+    yield "cpp_grammar/proofs/RanksFall.antt", "weight_grows", weight_grows()
+    yield "cpp_term/specs/Erased.antt", "erase", carried(rebuilt("erase", [], []))
+    yield "cpp_term/specs/Annotated.antt", "annotate", rebuilt("annotate", ["s"], ["nowhere"])
+    yield "cpp_term/specs/Reargued.antt", "reargued", reargued()
+    yield "cpp_term/proofs/Erasing.antt", "erased", erased()
+    yield "cpp_term/proofs/Notes.antt", "closed_noted", closed_noted()
+    yield "cpp_term/proofs/Notes.antt", "renoted", closed_noted("renoted", ["r", "s", "a"], free_half)
+    # another argument in free parameters is erased with the others
+    erased_again = {"made": "term_.", "given": lambda name, sort: f"(erase {name})" if sort in APART else name}
+    for name, before, after, how in (("reargued_none", [], [], {}), ("reargued_twice", ["c", "a"], [], {}),
+                                     ("reargued_closed", ["c"], ["closed"], {}), ("erase_reargued", ["c"], [], erased_again)):
+        yield "cpp_term/proofs/Reargued.antt", name, made_again(name, before, after, **how)
+    laws = {"specs/Same": {"same_tree": same_tree}, "proofs/Components/Sameness": {"equal-tree": equal_tree, "tree-itself": tree_itself},
+            "proofs/Components/Parts": {"Inside": inside}, "proofs/Components/Complete": {"inside-shut": inside_shut},
+            "proofs/EveryWay/Law": {"reads": reads}, "proofs/Fits/Packs": {"closed-packs": closed_packs}}
+    for path, names_in in laws.items():
+        yield from ((f"cpp_press_laws/{path}.antt", name, lines()) for name, lines in names_in.items())

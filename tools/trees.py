@@ -5,16 +5,16 @@ import re
 import cpp_trees
 import layouts
 import node_answers
+import node_clauses
 import node_code
 import payments
 import production_clauses as clauses
 import spellings
 import step_code
+import tree_clauses
 import wrappers
 from cpp_trees import PRESSED, named
-from declarations import declarations
 from files import read
-from node_clauses import NODE_TYPES, by_nodes, noted_nodes
 from node_code import nodes
 from notation import snake
 from rules import WITH_CODE_BEFORE, families
@@ -49,7 +49,7 @@ def whole_files(crates):
         **{f"{LINKED}/outcome_of_{snake(family)}/Answers.antt": clauses.family_answers(family, own) for family, own in rare.items()},
         **{path: f"-- {WRITTEN}\n{text}" for path, text in step_code.answers()},
         **{f"{LINKED}/{function}/Answers.antt": text for function, text in clauses.common_answers()},
-        "cpp_tree/proofs/nodes/Nodes/noted/Answers.antt": node_answers.noted(crates, [node for node, _ in noted_nodes()]),
+        "cpp_tree/proofs/nodes/Nodes/noted/Answers.antt": node_answers.noted(crates, [node for node, _ in node_clauses.noted_nodes()]),
         "cpp_tree/proofs/view/view_of_own/Answers.antt": node_answers.seen(),
     }
 
@@ -62,18 +62,25 @@ def lemmas():
         yield NOTED, list(clauses.read_noted(names, *of))
     yield from ((path, ["\n".join(lines)]) for path, lines in spellings.lemmas(named(PRESSED)))
 
+def declarations(crates):
+    """The path and the name of each declaration that is written whole, and the lines of its clauses."""
+    yield from tree_clauses.declarations()
+    yield from node_clauses.declarations()
+    yield from clauses.declarations(crates)
+    yield from payments.declarations(crates)
+
 def edits(crates):
     """What is written into files by hand: the path of each, how its text changes, and by what."""
-    yield from ((path, rewritten, [name, lines]) for path, name, lines in [*declarations(crates), *payments.declarations(crates)])
+    yield from ((path, rewritten, [name, lines]) for path, name, lines in declarations(crates))
     yield from wrappers.edits()
-    types = {node.name: [NODE_TYPES[sort] for _, sort in node.arguments] for node in nodes()}
+    types = {node.name: [node_clauses.NODE_TYPES[sort] for _, sort in node.arguments] for node in nodes()}
     others, answers, whole, matched = layouts.files(crates, types)
     yield "cpp_layout/proofs/Others.antt", lambda text: others, []
     yield from ((SHOWN.format(function), with_declarations, [["\n".join(lines)]]) for function, shown in answers.items() for lines in shown)
     yield from ((SHOWN.format(function), lambda text, own: own, [own]) for function, own in whole.items())
     yield from ((path, with_declarations, [owns]) for path, owns in lemmas())
     for name, functions in (("IsNoName", layouts.LEFT[:1]), ("IsNoType", layouts.LEFT[:2])):
-        yield "cpp_layout/specs/Layout.antt", rewritten, [name, by_nodes(name, matched, functions)]
+        yield "cpp_layout/specs/Layout.antt", rewritten, [name, node_clauses.by_nodes(name, matched, functions)]
     yield from ((path, extended, [name, lines]) for path, name, lines in spellings.declarations(named(PRESSED)))
     yield "cpp_link/proofs/CandidatesFlow.antt", extended, ["flows", step_code.flows()]
     yield from ((path, with_requires, [function, lines]) for path, function, lines in step_code.asked())
