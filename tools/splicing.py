@@ -1,6 +1,7 @@
 """Puts what a script writes into files by hand: from a file's text and the lines of a declaration to the text with them, below a line that
 says who writes them."""
 import re
+import textwrap
 
 import cpp_trees
 import grammar
@@ -27,47 +28,33 @@ def with_declarations(text, owns, mark=WRITTEN):
         behind = declared(text, name)[1]
     return text
 
+def replaced(text, begun, ends, lines):
+    """The text, with these lines after the next line that says who writes them, up to what ends them."""
+    start = text.index("\n", text.index(f"// {WRITTEN}", begun)) + 1
+    end = re.compile(ends, re.M).search(text, start).start()
+    return text[:start] + "".join(f"{line}\n" for line in lines) + text[end:]
+
 def with_arms(text, function, lines):
     """The text, with these lines as the arms after the line that says so, up to the other ones or the end of the match; or as the variants
     of an enum."""
     begun = re.search(rf"\benum {function} {{|\bfn {function}\((?s:.*?)\n *{{\n", text).end()
-    start = text.index(f"// {WRITTEN}", begun)
-    indent = start - text.rindex("\n", 0, start) - 1
-    start = text.index("\n", start) + 1
-    end = re.compile(rf"^(?: {{{indent}}}_ =>| {{{indent - 4}}}\}})", re.M).search(text, start).start()
-    return text[:start] + "\n".join(lines) + "\n" + text[end:]
+    indent = re.compile(rf"^( *)// {re.escape(WRITTEN)}", re.M).search(text, begun)[1]
+    return replaced(text, begun, rf"^(?:{indent}_ =>|{indent[4:]}\}})", lines)
 
 def with_requires(text, function, lines):
     """The text, with these lines as those of a function's contract that come after the line that says so."""
-    start = text.index("\n", text.index(f"// {WRITTEN}", re.search(rf"\bfn {function}\(", text).end())) + 1
-    end = re.compile(r"^ +ensures ", re.M).search(text, start).start()
-    return text[:start] + "\n".join(lines) + "\n" + text[end:]
+    return replaced(text, re.search(rf"\bfn {function}\(", text).end(), r"^ +ensures ", lines)
 
 def rewritten(text, name, lines):
-    """The text, with these lines as the clauses of a name."""
-    signature = re.search(rf"^( *)(?:(?:unfoldable|abbrev|pub) )*{re.escape(name)} : |^()pub record {re.escape(name)} .*where$", text, re.M)
+    """The text, with these lines as the clauses of a name, or the fields of a record. The comment above says who writes them."""
+    own = re.escape(name)
+    signature = re.search(rf"^( *)(?:(?:unfoldable|abbrev|pub) )*{own} : |^()pub record {own} .*where$", text, re.M)
     assert signature, f"there is no {name}"
-    indent = signature.group(1) or ""
-    # the clauses, or the fields of a record
-    first = re.compile(r"^  " if "record" in signature.group() else rf"^{indent}{re.escape(name)} (?!: )", re.M).search(text,
-            signature.end())
-    end = text.find("\n\n", first.start())
-    end = len(text.rstrip("\n")) if end < 0 else end
-    # the comment above says who writes it
-    start = signature.start()
-    above = text[:start].rstrip("\n").split("\n")
-    has_comment = text[:start].endswith("\n") and above[-1].startswith(indent + "--") and not text[:start].endswith("\n\n")
-    if has_comment:
-        at = len(above) - 1
-        while above[at - 1].startswith(indent + "--"):
-            at -= 1
-        if WRITTEN not in above[at]:
-            comment = above[at][len(indent) + 3:]
-            above[at] = f"{indent}-- {WRITTEN} {comment[0].upper() + comment[1:]}"
-        text_above = "\n".join(above) + "\n"
-    else:
-        text_above = text[:start] + f"{indent}-- {WRITTEN}\n"
-    return text_above + text[start:first.start()] + "\n".join(indent + l for line in lines for l in line.split("\n")) + text[end:]
+    indent = signature[1] or ""
+    assert WRITTEN in text[:signature.start()].rsplit("\n\n", 1)[-1], f"no comment says who writes {name}"
+    first = re.compile(r"^  " if "record" in signature[0] else rf"^{indent}{own} (?!: )", re.M).search(text, signature.end()).start()
+    end = re.compile(r"\n\n|\s*\Z").search(text, first).start()
+    return text[:first] + "\n".join(indent + line for clause in lines for line in clause.split("\n")) + text[end:]
 
 def extended(text, name, lines):
     """The text, with these lines as those clauses of a name that come after the line that says who writes them, up to a comment or its
@@ -78,36 +65,32 @@ def extended(text, name, lines):
     start = mark.end()
     assert "\n\n" not in text[signature.end():start], f"{name} has no clauses that are written"
     end = re.compile(r"\n(?:\n|--)|\s*\Z").search(text, start).start()
-    return text[:start] + "".join("\n" + line for line in lines) + text[end:]
+    return text[:start] + "".join(f"\n{line}" for line in lines) + text[end:]
 
 def with_imports(text, constants):
     """The text, with the names of trees, of their makers, of what views call them and of kinds imported that its declarations name."""
-    trees, kinds = [t[0] for t in cpp_trees.TREES], [snake(kind).upper() for kind in grammar.K]
-    for module, names, used in ((r"cpp_(?:grammar|term)\.specs\.Term", trees, r"(?<!\w)\({0} "),
-                                (r"cpp_grammar\.specs\.Makers", ["new_" + t for t in trees], r"(?<![\w.]){0}(?!\w)"),
-                                (r"cpp_tree\.specs\.declared\.tree_production\.TheConstants", constants, r"(?<![\w.]){0}(?!\w)"),
-                                (r"cpp_grammar\.specs\.KindNumbers", kinds, r"(?<![\w.]){0}(?!\w)")):
-        lines = [m for m in re.finditer(rf"^use Rattle\.{module}\.{{(.*)}}$", text, re.M) if len(set(names) & set(m[1].split(", "))) > 1]
-        if not lines:
-            continue
-        known = {n for line in re.findall(r"^use \S+\.\{(.*)\}$", text, re.M) for n in line.split(", ")}
-        body = "\n".join(block for block in text.split("\n\n") if WRITTEN in block)
-        missing = [n for n in names if n not in known and re.search(used.format(n), body)]
-        end = max(lines, key=lambda m: len(set(names) & set(m[1].split(", ")))).end() - 1
-        text = text[:end] + "".join(f", {n}" for n in missing) + text[end:]
+    trees, alone = [tree for tree, *_ in cpp_trees.TREES], r"(?<![\w.]){0}(?!\w)"
+    for module, names, used in (
+            (r"cpp_(?:grammar|term)\.specs\.Term", trees, r"(?<!\w)\({0} "),
+            (r"cpp_grammar\.specs\.Makers", [f"new_{tree}" for tree in trees], alone),
+            (r"cpp_tree\.specs\.declared\.tree_production\.TheConstants", constants, alone),
+            (r"cpp_grammar\.specs\.KindNumbers", [snake(kind).upper() for kind in grammar.K], alone)):
+        imported = {line: len(set(names) & set(line[1].split(", "))) for line in re.finditer(rf"^use Rattle\.{module}\.{{(.*)}}$", text,
+                re.M)}
+        if max(imported.values(), default=0) > 1:
+            known = {name for line in re.findall(r"^use \S+\.\{(.*)\}$", text, re.M) for name in line.split(", ")}
+            body = "\n".join(block for block in text.split("\n\n") if WRITTEN in block)
+            missing = [name for name in names if name not in known and re.search(used.format(name), body)]
+            end = max(imported, key=imported.get).end() - 1
+            text = text[:end] + "".join(f", {name}" for name in missing) + text[end:]
     return text
 
 def with_constants(text, constants):
     """Code, with the names of what views call trees imported, as rt fmt lays them out."""
-    block = re.search(r"^use crate::tree_production::\{\n.*?^\};\n", text, re.M | re.S)
-    named = sorted(n for n in constants if re.search(rf"(?<!\w){n}(?!\w)", text[block.end():]))
-    lines = [""]
-    for name in named:
-        if len(f"{lines[-1]} {name},") > 96:
-            lines.append("")
-        lines[-1] += f" {name},"
-    return (text[:block.start()] + "use crate::tree_production::{\n" + "".join(f"   {line}\n" for line in lines) + "};\n"
-            + text[block.end():])
+    block = re.search(r"(?<=^use crate::tree_production::\{\n).*?^(?=\};\n)", text, re.M | re.S)
+    used = sorted(name for name in constants if re.search(rf"(?<!\w){name}(?!\w)", text[block.end():]))
+    lines = textwrap.wrap(" ".join(f"{name}," for name in used), 95)
+    return text[:block.start()] + "".join(f"    {line}\n" for line in lines) + text[block.end():]
 
 def with_runs(text, runs, mark):
     """The text, with these declarations in place of each run of those that say that they are written; clauses stand at the end of a
