@@ -45,6 +45,10 @@ def sections(name):
         above = []
     return found
 
+def columns(line):
+    """What is between the bars of a line."""
+    return [column.strip() for column in re.split(r" \|(?= |$)", line)]
+
 def entries(name):
     """The entries of a table by their first words, each with its other words. One with a blank in it is in quotes."""
     found = {}

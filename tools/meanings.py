@@ -4,11 +4,10 @@ import re
 import cpp_trees
 from files import template
 from notation import applied, braced, listed
-from row_words import said
+from row_words import TABLE, said
 from productions import defined, defined_cases
 from rules import ABOVE, ALIKE
 from rust_layout import split
-from cpp_trees import BYTES, NUMBER, TRUTH, QUALIFIERS, MARK, SIGNED, DISCRIMINATOR
 
 # ## The words of a row
 
@@ -146,19 +145,8 @@ class Row:
             return sum(most_made(braced(tree)) for tree in pair(self.means)[1:])
         return int(word in ("cell", "item", "a_name", "in_place"))
 
-# How a row names the arguments of what is in it: each text of definitions, with numbers of parts, as the row has it. Rows.antt says what
-# the names mean.
-NAMES = [(re.compile(old), new) for old, new in (
-    (r"becomes (\(.*\)) false true false", r"becomes_name \1"), (r"becomes (\(.*\)) true true false", r"becomes_listed_name \1"),
-    (r"becomes (\(.*\)) false true true", r"becomes_name_and_candidate \1"), (r"becomes (\(.*\)) true false true", r"becomes_candidate \1"),
-    (r"becomes (\(.*\)) true false false", r"becomes_listed \1"),
-    (r"tests false true", "tests_parameter"), (r"tests true true", "tests_parameter_after_t"),
-    (r"tests true false", "tests_operand_after_t"),
-    (r"\bgoes nothing", "enters"), (r"\bcell (\d) (\d)", r"cell (first \1) (rest \2)"), (r"\bitem (\d) (\d)", r"item (first \1) (rest \2)"),
-    (r"\beither (\d) (\d)", r"either (preferred \1) (otherwise \2)"), (r"\bown (\w+) (\d)", r"own \1 (nodes \2)"),
-    (r"\bapplying (\(.*\)) (\d)", r"applying \1 (arguments \2)"),
-    (r"\bas_part_alone (\d) (\d)", r"as_part_alone \1 (arguments \2)"), (r"\bletter_is (\d) (\d+)", r"letter_is \1 (letter \2)"),
-    (r"\bqualified_by (\w+|\(\w+ \d\)) (\w+|\(\w+ \d\)) (\w+|\(\w+ \d\))", r"qualified_by (restrict \1) (volatile \2) (const \3)"))]
+# how a row names the arguments of what is in it: each text of definitions, as the row has it
+NAMES = [(re.compile(old), new) for old, new in TABLE["named"]]
 
 def named(text):
     """A text of definitions with the names of its arguments."""
@@ -177,13 +165,9 @@ def rows(texts):
 
 # ## Definitions
 
-ARGUMENTS = (("tree_in", "a_tree", "Term", "absent"), ("bytes_in", "some_bytes", "List ℕ", "[]"), ("number_in", "a_number", "ℕ", "0"),
-             ("truth_in", "a_truth", "Bool", "false"),
-             ("qualifiers_in", "some_qualifiers", "Qualifiers", "unqualified"), ("mark_in", "a_mark", "RefQualifier", "any_value"),
-             ("signed_in", "a_signed", "Signed", "record { negative = false; digits = [] }"),
-             ("discriminator_in", "a_discriminator", "Option (List ℕ)", "None"))
-SORTS = {BYTES: "bytes_in", NUMBER: "number_in", TRUTH: "truth_in", QUALIFIERS: "qualifiers_in", MARK: "mark_in", SIGNED: "signed_in",
-         DISCRIMINATOR: "discriminator_in"}
+# the arguments of trees: what reads each, its constructor, its type, and what there is if it is another; and what reads one of a sort
+ARGUMENTS = [given for _, _, *given in (line for line in TABLE["sorts"] if line[2:])]
+READERS = {sort: reader for _, sort, reader, *_ in (line for line in TABLE["sorts"] if line[2:])}
 
 def makers(table):
     """The trees that some row makes."""
@@ -192,13 +176,14 @@ def makers(table):
 
 def antt_builders(table):
     """What they make of their arguments, as definitions."""
-    trees = makers(table)
-    used = {SORTS.get(sort, "tree_in") for tree in trees for name, sort in tree[1:]}
-    arguments = [a for a in ARGUMENTS if a[0] in used | {"tree_in", "number_in"}]
+    trees, built = makers(table), []
+    for name, *arguments in trees:
+        given = [f"({READERS.get(sort, 'tree_in')} (argument xs {place}))" for place, (_, sort) in enumerate(arguments)]
+        built.append(applied(f"built new_{name} xs = {name}", given))
+    used = {"tree_in", "number_in", *(READERS.get(sort, "tree_in") for tree in trees for _, sort in tree[1:])}
+    arguments = [argument for argument in ARGUMENTS if argument[0] in used]
     readers = [f"unfoldable pub {name} : Argument → {type}\n{name} ({case} x) = x\n{name} _ = {none}" for name, case, type,
                none in arguments]
-    built = [applied(f"built new_{tree[0]} xs = {tree[0]}", [f"({SORTS.get(sort, 'tree_in')} (argument xs {i}))" for i,
-            (name, sort) in enumerate(tree[1:])]) for tree in trees]
     return template("cpp_grammar/Builders.antt", trees=", ".join(tree[0] for tree in trees),
                     makers=", ".join("new_" + tree[0] for tree in trees),
                     cases=[f"  {case} : {type} → Argument" for _, case, type, _ in arguments], readers="\n\n".join(readers), built=built)

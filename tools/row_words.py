@@ -2,7 +2,7 @@
 import re
 
 from cpp_trees import NAMED, NUMBER, TREES, called
-from files import sections
+from files import columns, sections
 from node_code import nodes
 from notation import camel
 from rust_layout import split
@@ -10,8 +10,7 @@ from rust_layout import split
 # what a part is called in a step
 PARTS = ["first", "second", "third"]
 HOLES = {"$1": r"(?P<hole_1>\d)", "$2": r"(?P<hole_2>\d)", "$c": "(?P<hole_c>.)"}
-TABLE = {head: [[column.strip() for column in re.split(r" \|(?= |$)", line)] for line, _ in lines]
-         for head, lines in sections("cpp_words.txt")}
+TABLE = {head: [columns(line) for line, _ in lines] for head, lines in sections("cpp_words.txt")}
 
 class Word:
     """A word, with numbers of parts, and its forms: as definitions have it, as code does, and as code does in a step; each nothing where it

@@ -106,7 +106,8 @@ def write(crates, path, title, rows, module, uses, modules, test, unused):
            f"use Rattle.{module}.{{{', '.join(used)}}}", *[f"use Rattle.{of}.{{{', '.join(own)}}}" for of, own in names.items() if own]]
     unfolding = " ".join(["unfolding", *others, *[name for own in names.values() for name in own]])
     for number, first in enumerate(range(0, len(rows), 40)):
-        out += ["", f"abbrev rows_{number} : List Row", f"rows_{number} =", *[f"    {text} ∷" for text in rows[first:first + 40]], "    []", "",
+        out += ["", f"abbrev rows_{number} : List Row", f"rows_{number} =", *[f"    {text} ∷" for text in rows[first:first + 40]], "    []",
+                "",
                 f"right_{number} : {test} rows_{number} ≡ true", unfolding, f"right_{number} = refl"]
     with open(f"{crates}/{path}.antt", "w", encoding="utf-8") as file:
         file.write("\n".join(out) + "\n")

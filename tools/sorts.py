@@ -12,13 +12,13 @@ from rules import TOKENS
 
 # the sorts, and those of arguments by what cpp_trees.txt says of them; and those of what code of its own gives
 ALL = [sort for sort, *_ in TABLE["sorts"]]
-OF_ARGUMENT = {own: sort for sort, *of in TABLE["sorts"] for own in of}
+OF_ARGUMENT = {own[0]: sort for sort, *own in TABLE["sorts"] if own}
 OWN = {word: sorts.split() for word, sorts, *_ in TABLE["own"]}
 
 def parsed(text):
     """A text of definitions as words and what is in parentheses; a list as its items."""
-    words, stack = re.findall(r"[()∷]|[^\s()∷]+", text), [[]]
-    for word in words:
+    stack = [[]]
+    for word in re.findall(r"[()∷]|[^\s()∷]+", text):
         if word == "(":
             stack.append([])
         elif word == ")":
@@ -30,81 +30,74 @@ def parsed(text):
 
 def items(words):
     """The items of a list: what is between its signs, without the empty list at its end."""
-    found, item = [], []
+    found = [[]]
     for word in words:
         if word == "∷":
-            found.append(item[0] if len(item) == 1 and isinstance(item[0], list) else item)
-            item = []
+            found.append([])
         else:
-            item.append(word)
-    return found
+            found[-1].append(word)
+    return [item[0] if len(item) == 1 and isinstance(item[0], list) else item for item in found[:-1]]
 
-def maker_sorts():
-    """Of each tree the sorts of its arguments, and its own."""
-    return {tree: ([OF_ARGUMENT.get(sort, "trees") for _, sort in arguments],
-                   "pieces" if cpp_trees.SPELLED.get(tree, ("",))[0].split()[-1:] == ["piece"] else "trees")
-            for tree, *arguments in cpp_trees.TREES}
+def maker_sorts(tree, arguments):
+    """The sorts of a tree's arguments, and its own."""
+    return [OF_ARGUMENT.get(sort, "trees") for _, sort in arguments], "pieces" if tree in cpp_trees.PIECES else "trees"
 
-MAKERS = maker_sorts()
+MAKERS = {tree: maker_sorts(tree, arguments) for tree, *arguments in cpp_trees.TREES}
+# what a step reads of the first part, which is a tree then; what forms read of their parts, and what they give, where that isn't a tree
+STEPS = {"becomes": "", "tests": "texts", "holds": "letters"}
+READ_BY = {"handed": [""], "finished": ["trees"], "either": ["", ""], "cell": ["trees", "trees"], "item": ["trees", "signatures"]}
+GIVEN_BY = {"the_byte": "letters", "a_piece": "pieces", "a_pair": "pairs", "item": "signatures", "in_place": "names"}
 
 class Fitting:
     """A production with what its parts may be as far as they are read, and what is wrong with its row."""
-
     def __init__(self, production, known):
         self.production, self.known = production, known
 
-    def fault(self, says):
-        raise AssertionError(f"the row of {self.production}: {says}")
+    def want(self, is_so, says):
+        """What has to be so of the row."""
+        assert is_so, f"the row of {self.production}: {says}"
 
-    def part(self, k, sorts):
+    def part(self, number, sorts=""):
         """A part that is read as one of these sorts, or as any."""
-        k = int(k)
-        if k >= len(self.known):
-            self.fault(f"part {k} isn't read before")
-        if sorts and not self.known[k] & set(sorts.split()):
-            self.fault(f"part {k} is {', '.join(sorted(self.known[k]))} and none of {sorts}")
+        place = int(number)
+        self.want(place < len(self.known), f"part {number} isn't read before")
+        self.want(not sorts or self.known[place] & set(sorts.split()),
+                  f"part {number} is {self.known[place:place + 1]} and none of {sorts}")
 
     def source(self, given, wanted):
         """An argument that is wanted of this sort."""
-        given = [given] if isinstance(given, str) else given
-        sort, read = SOURCES.get(given[0], ("qualifications", ""))
-        if sort != wanted:
-            self.fault(f"{' '.join(map(str, given))} is of sort {sort}, and {wanted} is wanted")
-        if given[0] == "qualified_by":
-            for mark in given[1:]:
+        word, *rest = [given] if isinstance(given, str) else given
+        sort, read = SOURCES.get(word, ("qualifications", ""))
+        self.want(sort == wanted, f"{given} is of sort {sort}, and {wanted} is wanted")
+        if word == "qualified_by":
+            for mark in rest:
                 self.source(mark, "truths")
         elif read:
-            self.part(given[1], "" if read == "any" else read)
+            self.part(rest[0], "" if read == "any" else read)
 
     def made(self, made, wanted):
         """A tree that is made, which is wanted of this sort."""
         word, *rest = made
+        gives = "trees"
+        if word == "only":
+            return self.source(rest[0], wanted)
         if word == "of":
             takes, gives = MAKERS[rest[0].removeprefix("new_")]
             given = [] if rest[1] == "[]" else rest[1]
-            if len(given) != len(takes):
-                self.fault(f"{rest[0]} has {len(given)} arguments, and takes {len(takes)}")
+            self.want(len(given) == len(takes), f"{rest[0]} has {len(given)} arguments, and takes {len(takes)}")
             for one, sort in zip(given, takes):
                 self.source(one, sort)
-        elif word == "only":
-            return self.source(rest[0], wanted)
-        elif word == "extending":
-            self.made(rest[0], "pieces")
-        elif word == "applying":
-            self.made(rest[0], "trees")
-            self.part(rest[1], "")
-        else:
-            self.part(rest[0], {"tagging": "texts", "packing": "trees"}[word])
-        if wanted != (gives if word == "of" else "trees"):
-            self.fault(f"{' '.join(map(str, made))} isn't of the sort {wanted}")
+        elif word in ("extending", "applying"):
+            self.made(rest[0], "pieces" if word == "extending" else "trees")
+        if word not in ("of", "extending"):
+            self.part(rest[-1], {"tagging": "texts", "packing": "trees"}.get(word, ""))
+        return self.want(wanted == gives, f"{made} isn't of the sort {wanted}")
 
     def listing(self, listing):
         """Whether a tree is marked as listed."""
         word, *rest = [listing] if isinstance(listing, str) else listing
-        if rest:
-            self.part(rest[0], "" if word == "unless_there" else "trees")
-        if rest[1:]:
-            self.part(rest[1], "")
+        for part, sorts in zip(rest, ("" if word == "unless_there" else "trees", "")):
+            self.part(part, sorts)
 
     def gain(self, gain):
         """What becomes a candidate."""
@@ -121,8 +114,8 @@ class Fitting:
             elif not isinstance(rest[1], str):
                 self.part(rest[1][1], "trees")
                 self.listing(rest[1][2])
-        elif word in ("becomes", "tests", "holds"):
-            self.part(0, {"becomes": "", "tests": "texts", "holds": "letters"}[word])
+        elif word in STEPS:
+            self.part(0, STEPS[word])
             if word == "becomes":
                 self.made(rest[0], "trees")
             self.known[0] = {"trees"}
@@ -130,25 +123,19 @@ class Fitting:
     def form(self, text):
         """What the production denotes."""
         word, *rest = parsed(text)
-        if word == "makes":
-            self.made(rest[0], "trees")
-            self.listing(rest[1])
-        elif word == "a_piece":
-            self.made(rest[0], "pieces")
+        if word in ("makes", "a_piece"):
+            self.made(rest[0], GIVEN_BY.get(word, "trees"))
+            self.listing(rest[1] if word == "makes" else "listed")
         elif word == "a_pair":
             self.source(rest[0], "numbers")
-            self.made(rest[1], "trees")
-            self.made(rest[2], "trees")
+            for tree in rest[1:]:
+                self.made(tree, "trees")
         elif word in ("a_name", "in_place"):
             self.part(0, "trees")
-            self.part(1, "")
+            self.part(1)
             self.listing(rest[0] if rest else "listed")
-        elif word not in ("the_byte", "own"):
-            first, second = {"handed": ("", None), "finished": ("trees", None), "either": ("", ""), "cell": ("trees", "trees"),
-                             "item": ("trees", "signatures")}[word]
-            self.part(rest[0], first)
-            if second is not None:
-                self.part(rest[1], second)
+        for part, sorts in zip(rest, READ_BY.get(word, [])):
+            self.part(part, sorts)
 
     def gives(self, text):
         """The sorts of what it denotes."""
@@ -157,10 +144,7 @@ class Fitting:
             return self.known[int(rest[0])]
         if word == "either":
             return (self.known[int(rest[0])] - {"none_read"}) | self.known[int(rest[1])]
-        if word == "own":
-            return set(OWN.get(rest[0], ["trees"]))
-        return {{"the_byte": "letters", "a_piece": "pieces", "a_pair": "pairs", "item": "signatures", "in_place": "names"}.get(word,
-                "trees")}
+        return set(OWN.get(rest[0], ["trees"])) if word == "own" else {GIVEN_BY.get(word, "trees")}
 
 def of_part(symbol, kinds, known):
     """What a part of this symbol may be, by what is known of kinds."""
@@ -182,7 +166,7 @@ def is_numbered(form):
 
 def turned(fitting, text):
     """A step, of which only what it does to the first part is of interest."""
-    if fitting.known and text.split()[0] in ("becomes", "tests", "holds"):
+    if fitting.known and text.split()[0] in STEPS:
         fitting.known[0] = {"trees"}
 
 def kind_sorts(kinds, productions, table):
