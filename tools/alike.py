@@ -46,8 +46,8 @@ def files(crates):
         shown, path = "\n".join(answer(goal, value, said.get("unfolding"), given)), f"{folder}/Answers.antt"
         text = read(f"{crates}/{path}")
         if "arms" in said:
-            texts[path] = with_runs(text, [[fill(f"-- {WRITTEN}\n{shown}", arm=arm, call=call) for arm,
-                                            call in arms(crates, *said["arms"].split())]], WRITTEN)
+            texts[path] = with_runs(text, [[fill(f"-- {WRITTEN}\n{shown}", arm=arm, call=call)
+                                            for arm, call in arms(crates, *said["arms"].split())]], WRITTEN)
         else:
             texts[path] = with_declarations(text, [fill(shown, **holes) for holes in exits(crates, *said["exits"].split())], WRITTEN)
     return texts

@@ -54,8 +54,8 @@ def base(numbers):
 def taken():
     """What each kind takes, by the byte: the numbers of productions."""
     numbers = numbered(P)
-    return {kind: {byte: numbers[production] for cls, production in rules for byte in klass(cls, production)} for kind,
-            (_, rules) in K.items()}
+    return {kind: {byte: numbers[production] for cls, production in rules for byte in klass(cls, production)}
+            for kind, (_, rules) in K.items()}
 
 def rust_letters(name, based):
     """The table of rows. In one that isn't based all letters count from 0."""
@@ -113,8 +113,8 @@ def abi_files():
     yield from filled("src/table.rt", **table())
     yield from filled("specs/Grammar.antt", alike=imports(map(defined, P)), kind_numbers=of_kinds("number_of_kind", numbered(K)),
                       alternatives=of_kinds("alternatives", alternatives()),
-                      parts=of_productions("parts_of", {production: listed(map(antt_symbol, symbols)) for production,
-                              (_, symbols) in P.items()}),
+                      parts=of_productions("parts_of", {production: listed(map(antt_symbol, symbols))
+                              for production, (_, symbols) in P.items()}),
                       chains=of_productions("is_chain", {production: "true" for production, (ate, _) in P.items() if not ate}),
                       empty=of_kinds("may_be_empty", dict.fromkeys(may_be_empty, "true")), kinds=listed(f"Kind.{kind}" for kind in K),
                       productions=listed(map(defined, P)), numbers=of_productions("number_of", numbered(P)))

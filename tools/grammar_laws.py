@@ -107,8 +107,8 @@ def laws():
     for kind in K:
         if K[kind][0] and begins(kind) & after[kind]:
             bad.append(f"{kind}: may be empty, and {sorted(begins(kind) & after[kind])} come after it")
-    bad += [f"{kind}/{production}: a digit after Digits" for (kind, production, _),
-            (symbol, found) in tokens.items() if symbol == DIGITS and found & set(DIG)]
+    bad += [f"{kind}/{production}: a digit after Digits" for (kind, production, _), (symbol, found) in tokens.items() if symbol == DIGITS
+            and found & set(DIG)]
     depth, height = chains(), heights()
     bad += [f"{kind}: {depth[kind]} chains at one place" for kind in K if not 0 <= depth[kind] <= MOST_CHAINS]
     bad += [f"{kind}: no completion" for kind in K if kind not in height]

@@ -182,8 +182,8 @@ def antt_builders(table):
         built.append(applied(f"built new_{name} xs = {name}", given))
     used = {"tree_in", "number_in", *(READERS.get(sort, "tree_in") for tree in trees for _, sort in tree[1:])}
     arguments = [argument for argument in ARGUMENTS if argument[0] in used]
-    readers = [f"unfoldable pub {name} : Argument → {type}\n{name} ({case} x) = x\n{name} _ = {none}" for name, case, type,
-               none in arguments]
+    readers = [f"unfoldable pub {name} : Argument → {type}\n{name} ({case} x) = x\n{name} _ = {none}"
+               for name, case, type, none in arguments]
     return template("cpp_grammar/Builders.antt", trees=", ".join(tree[0] for tree in trees),
                     makers=", ".join("new_" + tree[0] for tree in trees),
                     cases=[f"  {case} : {type} → Argument" for _, case, type, _ in arguments], readers="\n\n".join(readers), built=built)

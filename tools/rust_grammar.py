@@ -39,10 +39,10 @@ def symbol(name):
 
 def table():
     """The rule that a kind takes at a byte."""
-    kinds = {kind: {byte: letter.replace("\\", "\\\\") for letter, taken in rules.items() for byte in taken} for kind,
-             (rules, _) in KINDS.items()}
-    heads = [f"    {'takes' if takes else 'chains'}!({production}, {len(symbols)}), // {letter}" for letter,
-             (production, takes, symbols) in RULES.items()]
+    kinds = {kind: {byte: letter.replace("\\", "\\\\") for letter, taken in rules.items() for byte in taken}
+             for kind, (rules, _) in KINDS.items()}
+    heads = [f"    {'takes' if takes else 'chains'}!({production}, {len(symbols)}), // {letter}"
+             for letter, (production, takes, symbols) in RULES.items()]
     cells = [symbol_row(list(map(symbol, symbols)), f"{letter}: {production}") for letter, (production, _, symbols) in RULES.items()]
     empty = "        " + "\n            | ".join(f"kind::{kind}" for kind, (_, may_be_empty) in KINDS.items() if may_be_empty)
     return template("rust_grammar/table.rt", letters=list(letter_rows("LETTERS", kinds)), heads=heads, symbols=cells, count=str(len(RULES)),
@@ -58,7 +58,7 @@ def files():
         numbered=[f"        {number} => Some(Production::{production})," for number, production in enumerate(PRODUCTIONS)])
     yield "rust_grammar/specs/BasicLetters.antt", template("rust_grammar/BasicLetters.antt",
             ranges=", ".join(low if low == high else f"{low} to {high}" for low, high in ranges),
-        letters=" ∷ ".join(f"range {ord(low)} {ord(high)}" for low, high in ranges) + " ∷ []", signed=SIGNED, unsigned=UNSIGNED)
+            letters=" ∷ ".join(f"range {ord(low)} {ord(high)}" for low, high in ranges) + " ∷ []", signed=SIGNED, unsigned=UNSIGNED)
     # the texts of basic types, in code and in definitions, and that none has a text below the letters
     yield "rust_tree/src/basic_types.rt", template("rust_tree/basic_types.rt",
             texts=[f'        {ord(letter)} => b"{text}", // {letter}' for letter, text, _ in words.BASIC_TYPES])

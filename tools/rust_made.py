@@ -43,8 +43,8 @@ def made_in_code(made):
 def made_in_specs(made):
     """And in definitions."""
     names = made.names()
-    read = [f"  {name} ← operands.{part.name} {before}" for name, part,
-            before in zip(names, made.parts, ["parts", *[f"{name}.1" for name in names]])]
+    read = [f"  {name} ← operands.{part.name} {before}" for name, part, before in zip(names, made.parts,
+            ["parts", *[f"{name}.1" for name in names]])]
     given = " ".join(f"{name}.0.0 {name}.0.1" if part.name == "identifier" else f"{name}.0" for name, part in zip(names, made.parts))
     return filled("made.antt", made, read=read, given=given)
 

@@ -31,8 +31,8 @@ def by_node(clause, indent="", without=()):
 def node_tree(of, made):
     """The tree of a node."""
     own = {"identifier": "(identifier_of s name disambiguator)", "name": "(name_of s name)", "abi": "(abi_of s abi)"}
-    values = [own.get(part.name, f"({part.name}_in (slice_get all {field}))" if part.name in SUBTREES else field) for field,
-              part in zip(made.fields, made.parts)]
+    values = [own.get(part.name, f"({part.name}_in (slice_get all {field}))" if part.name in SUBTREES else field)
+              for field, part in zip(made.fields, made.parts)]
     return broken(f"{of}_of {'s ' if of in TEXTUAL else ''}all {node_pattern(made)} =", f"tree.{made.tree} {' '.join(values)}")
 
 def conditions(made):
@@ -54,8 +54,8 @@ def node_parts(of, made):
 
 def node_need(of, made):
     """How many lifetimes a node needs."""
-    needed = [f"(need_at nodes {field})" if part.name in MUTUAL else field for field,
-              part in zip(made.fields, made.parts) if part.name in (*MUTUAL, "lifetime", "some_lifetime")]
+    needed = [f"(need_at nodes {field})" if part.name in MUTUAL else field for field, part in zip(made.fields, made.parts)
+              if part.name in (*MUTUAL, "lifetime", "some_lifetime")]
     whole = needed[0] if needed else "0"
     for k, more in enumerate(needed[1:]):
         whole = f"max {f'({whole})' if k else whole} {more}"
@@ -69,8 +69,8 @@ def tree_grown(of, made):
 
 def need_grown(of, made):
     """That its need stays."""
-    return (f"{of}-needs {node_pattern(made)} h = " + rewritten([f"{part.name}-need {field} {fact}" for part, field,
-            fact in conditions(made) if part.name in MUTUAL]))
+    return (f"{of}-needs {node_pattern(made)} h = " + rewritten([f"{part.name}-need {field} {fact}"
+            for part, field, fact in conditions(made) if part.name in MUTUAL]))
 
 def parts_grown(of, made):
     """That what holds of its parts goes on to hold."""
@@ -83,8 +83,8 @@ def parts_grown(of, made):
 def node_view(of, made):
     """What is seen of a node: its production, its numbers, its name and its parts."""
     name = next((f for f, part in zip(made.fields, made.parts) if part.name in ("name", "identifier")), None)
-    numbers = ["disambiguator" if part.name == "identifier" else field for field,
-               part in zip(made.fields, made.parts) if part.name in (*NUMERIC, "identifier")]
+    numbers = ["disambiguator" if part.name == "identifier" else field for field, part in zip(made.fields, made.parts)
+               if part.name in (*NUMERIC, "identifier")]
     parts = [field for field, part in zip(made.fields, made.parts) if part.name in SUBTREES]
     own, listed = f"production.{made.tree.upper()}", "".join(f"{part} ∷ " for part in [*parts, "0", "0", "0"][:3])
     if name:
@@ -101,8 +101,8 @@ def node_seen(of, made):
     held = conditions(made)
     parts = [(part, field, fact) for part, field, fact in held if part.name in SUBTREES]
     named = next((fact for part, field, fact in held if part.name in ("name", "identifier")), None)
-    shown = [f"(type_part-is all bare {field} {fact})" if part.name == "type" else f"({part.name}-part all {field} {fact})" for part, field,
-             fact in parts]
+    shown = [f"(type_part-is all bare {field} {fact})" if part.name == "type" else f"({part.name}-part all {field} {fact})"
+             for part, field, fact in parts]
     count = ["no", "one", "two", "three"][len(parts)]
     if named and not parts:
         seen = f"no-parts s all _ _ _ name.bytes (bytes_at s name.bytes) {named}.0 refl"

@@ -116,8 +116,8 @@ class Kept:
         self.tree = f"(tree.{made.tree} {' '.join(self.names)})"
         self.value = f"(value.{BY_NAME[made.of].fronts[-1].value} {self.tree})"
         self.means = f"{dashed(made.tree)}-means"
-        letter, self.takes, symbols = next((letter, takes, symbols) for letter,
-                                           (own, takes, symbols) in rust_grammar.RULES.items() if own == made.production)
+        letter, self.takes, symbols = next((letter, takes, symbols) for letter, (own, takes, symbols) in rust_grammar.RULES.items()
+                                           if own == made.production)
         self.bytes = [ord(symbol[1]) for symbol in symbols if symbol[0] == "'"]
         self.kinds = [f"Byte {ord(symbol[1])}" if symbol[0] == "'" else f"Kind {NUMBERS.index(symbol)}" for symbol in symbols]
         self.rule = f"({'taking' if self.takes else 'chaining'} rules.{made.production} {self.kinds_from(0)})"
@@ -165,8 +165,8 @@ def means(kept):
              f"{known} ≡ {'ends' if kept.ends else 'plain'} at {made}"]
     for form in forms:
         if typed:
-            lines += [f"{kept.means} {' '.join(form)} vs ({which}) at = rw {fact} refl" for which,
-                      fact in (("inl e", "e"), ("inr e", "(e.1, e.2)"))]
+            lines += [f"{kept.means} {' '.join(form)} vs ({which}) at = rw {fact} refl"
+                      for which, fact in (("inl e", "e"), ("inr e", "(e.1, e.2)"))]
         else:
             lines.append(f"{kept.means} {' '.join(form)} at = refl")
     return "\n".join(lines)

@@ -106,5 +106,5 @@ def files(crates):
         string_template=str(string[0]), string=str(usual.index("string")), string_size=str(len(string[1])), string_list=string[1],
         usual_firsts=flags({alias[0] for alias, _, _ in listed["alias"]}), inline_firsts=marks_of(groups, 0),
         inline_thirds=marks_of(groups, 2),
-        **{name.lower(): rows for name, rows in places.items()}, **{f"{name.lower()}_count": str(len(rows)) for name,
-                rows in places.items()})
+        **{name.lower(): rows for name, rows in places.items()}, **{f"{name.lower()}_count": str(len(rows))
+                for name, rows in places.items()})

@@ -194,8 +194,8 @@ def check(kinds, productions, table):
 
 def clauses(function, found, prefix=""):
     """A definition by cases, of those that aren't trees alone."""
-    return [f"{function} {prefix}{name} = {listed(sorted(sorts, key=ALL.index))}" for name,
-            sorts in found.items() if set(sorts) != {"trees"}]
+    return [f"{function} {prefix}{name} = {listed(sorted(sorts, key=ALL.index))}" for name, sorts in found.items()
+            if set(sorts) != {"trees"}]
 
 def files(kinds, productions, table):
     """What is written: the file's path in the folder of the crates, and its text."""

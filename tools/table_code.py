@@ -26,7 +26,7 @@ def after_each(rules):
     six places each; and how many places that is."""
     places = MOST_SYMBOLS + 1
     sizes = [1, *map(len, rules), 0]
-    counts = [after if place == MOST_SYMBOLS else max(size - 1 - place, 0) for size,
-              after in zip(sizes, sizes[1:]) for place in range(places)]
+    counts = [after if place == MOST_SYMBOLS else max(size - 1 - place, 0) for size, after in zip(sizes, sizes[1:])
+              for place in range(places)]
     lines = [f"    {', '.join(map(str, counts[i:i + 32]))}," for i in range(0, len(counts), 32)]
     return {"after": lines, "places": str(len(counts))}
