@@ -17,10 +17,11 @@ class Made:
         self.variant = self.variant.removesuffix("()")
         self.of, self.tree = tree.split(".")
         self.parts = parts_of(self.production)
+        self.pairs = list(zip(self.fields, self.parts))
 
     def names(self):
         """The names of the parts in definitions."""
-        return [field if field == "implemented" else part.own for field, part in zip(self.fields, self.parts)]
+        return [field if field == "implemented" else part.own for field, part in self.pairs]
 
 NODES = [Made(*head.split(" | ")) for head, _ in sections("rust_nodes.txt")]
 
@@ -32,7 +33,7 @@ def made_in_code(made):
     """The function of a production, in code."""
     rest = ["parts"] * (len(made.parts) - 1) + ["_"]
     read = [f"    let ({field}, {after}) = operands::{part.other}(parts)?;" for field, part, after in zip(made.fields, made.parts, rest)]
-    fields = [f for field, part in zip(made.fields, made.parts) for f in ([f"name: {field}.0", f"disambiguator: {field}.1"]
+    fields = [f for field, part in made.pairs for f in ([f"name: {field}.0", f"disambiguator: {field}.1"]
             if part.name == "identifier" else [field])]
     inside = f"({fields[0]})" if made.bare else f" {{ {', '.join(fields)} }}"
     if not made.bare and len(", ".join(fields)) > 18:
