@@ -4,9 +4,8 @@ import re
 import grammar
 from files import sections, template
 from notation import snake
-from productions import coded_cases
-from row_words import CODE, made_in_code, piece_in_code, said
-from rules import ABOVE, families
+from rules import ABOVE, coded_cases, families
+from meanings import CODE, made_in_code, piece_in_code, said
 from rust_layout import arm, split
 
 # of each file what it says, and its families, each with what is said of it

@@ -5,8 +5,7 @@ import os
 from files import template
 from grammar_laws import klass, sym_class
 from notation import listed, runs, snake
-from productions import defined, defined_cases, imports, variants
-from rules import ABOVE, ALIKE, BLANK, K, NAME, P, TOKENS
+from rules import ABOVE, ALIKE, BLANK, K, NAME, P, TOKENS, defined, defined_cases, imports, variants
 from table_code import FIRST, LAST, after_each, letter_rows, symbol_row
 
 def filled(path, **holes):

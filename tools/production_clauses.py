@@ -5,11 +5,9 @@ import re
 import grammar
 from cpp_trees import BYTES, DISCRIMINATOR, MARK, NUMBER, OUTSIDE, OWN, QUALIFIERS, SIGNED, TRUTH
 from files import read, template
-from meanings import makers
+from meanings import TABLE, makers
 from notation import applied, listed, snake, together
-from productions import coded_cases, defined_cases, imports
-from row_words import TABLE
-from rules import ALIKE, families
+from rules import ALIKE, coded_cases, defined_cases, families, imports
 from tree_clauses import SCOPED, SUBTREES
 
 # what reads an argument of a sort, and a value of a part: with arguments in its parameters a tree is annotated

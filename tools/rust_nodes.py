@@ -1,10 +1,9 @@
-"""What goes through Rust's nodes by their arguments alone: from the nodes that productions make (rust_made.py) to the clauses of rust_tree,
-to the answers for the views of nodes, and to the code that shows lists, its answers and its lemmas, by the templates of
+"""What goes through Rust's nodes by their arguments alone: from the nodes that productions make (rust_parts.py) to the clauses of
+rust_tree, to the answers for the views of nodes, and to the code that shows lists, its answers and its lemmas, by the templates of
 templates/rust_tree."""
 from files import template
 from notation import rewritten, together
-from rust_made import NODES
-from rust_parts import BY_NAME, WRITTEN
+from rust_parts import BY_NAME, NODES, WRITTEN
 from rust_spelled import names_of
 from rust_trees import FAMILIES, MUTUAL, NUMERIC
 

@@ -1,15 +1,14 @@
 """Writes what is said of each of Rust's productions by its parts alone, and of each sort of part: whole files, and in files by hand
-declarations, each below a line that says so. What is said is in rust_parts.py, rust_made.py, rust_spelled.py, rust_trees.py and
+declarations, each below a line that says so. What is said is in rust_parts.py, rust_spelled.py, rust_trees.py and
 rust_nodes.py."""
 import rust_grammar
 from files import read, template
-from rust_made import NODES, made_gives, made_in_code, made_in_specs
+from rust_parts import NODES, PARTS, WRITTEN, agrees, made_gives, made_in_code, made_in_specs, read_in_code, read_in_specs
 from rust_nodes import (
     LISTS, UNTYPED, by_node, in_lists, list_answers, list_filled, need_grown, node_grown, node_need, node_needs, node_part, node_parts,
     node_same,
     node_seen, node_tree, node_view, of_subtrees, parts_grown, tree_grown, view_answers,
 )
-from rust_parts import PARTS, WRITTEN, agrees, read_in_code, read_in_specs
 from rust_spelled import BINDERS, Kept, good_then, kept_clause, made_good, made_of_slots, means, slot_then, sorts
 from rust_trees import MUTUAL, equal, itself, same, size, summed, weight
 from splicing import with_runs

@@ -1,8 +1,7 @@
-"""What goes through Rust's trees by their arguments alone: from the trees that productions make (rust_made.py) to the clauses of
+"""What goes through Rust's trees by their arguments alone: from the trees that productions make (rust_parts.py) to the clauses of
 rust_press."""
 import sameness
-from rust_made import NODES
-from rust_parts import WRITTEN
+from rust_parts import NODES, WRITTEN
 from rust_spelled import names_of
 
 # the trees of each family, by constructor, each with the sorts of its arguments; those that no production makes of parts by hand

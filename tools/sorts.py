@@ -7,7 +7,7 @@ import cpp_trees
 import meanings
 from files import template
 from notation import listed
-from row_words import SOURCES, TABLE
+from meanings import SOURCES, TABLE
 from rules import TOKENS
 
 # the sorts, and those of arguments by what cpp_trees.txt says of them; and those of what code of its own gives

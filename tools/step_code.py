@@ -3,9 +3,8 @@ that hand on what they have no arm for, from the rows of grammar.py. trees.py wr
 import re
 import grammar
 from files import template
-from meanings import ALL_PARTS
+from meanings import ALL_PARTS, CODE, PARTS, STEP, TABLE, made_in_code, piece_in_code, said
 from notation import applied, camel, snake
-from row_words import CODE, PARTS, STEP, TABLE, made_in_code, piece_in_code, said
 from rules import TOKENS
 from rust_layout import arm, split
 

@@ -4,7 +4,6 @@ import re
 
 import cpp_trees
 import layouts
-import node_answers
 import node_clauses
 import node_code
 import payments
@@ -12,7 +11,7 @@ import production_clauses as clauses
 import spellings
 import step_code
 import tree_clauses
-import wrappers
+import splicing
 from cpp_trees import PRESSED, named
 from files import read
 from node_code import nodes
@@ -49,8 +48,8 @@ def whole_files(crates):
         **{f"{LINKED}/outcome_of_{snake(family)}/Answers.antt": clauses.family_answers(family, own) for family, own in rare.items()},
         **{path: f"-- {WRITTEN}\n{text}" for path, text in step_code.answers()},
         **{f"{LINKED}/{function}/Answers.antt": text for function, text in clauses.common_answers()},
-        "cpp_tree/proofs/nodes/Nodes/noted/Answers.antt": node_answers.noted(crates, [node for node, _ in node_clauses.noted_nodes()]),
-        "cpp_tree/proofs/view/view_of_own/Answers.antt": node_answers.seen(),
+        "cpp_tree/proofs/nodes/Nodes/noted/Answers.antt": node_code.noted_answers(crates, [node for node, _ in node_clauses.noted_nodes()]),
+        "cpp_tree/proofs/view/view_of_own/Answers.antt": node_code.seen_answers(),
     }
 
 def lemmas():
@@ -72,7 +71,7 @@ def declarations(crates):
 def edits(crates):
     """What is written into files by hand: the path of each, how its text changes, and by what."""
     yield from ((path, rewritten, [name, lines]) for path, name, lines in declarations(crates))
-    yield from wrappers.edits()
+    yield from splicing.wrapper_edits()
     types = {node.name: [node_clauses.NODE_TYPES[sort] for _, sort in node.arguments] for node in nodes()}
     others, answers, whole, matched = layouts.files(crates, types)
     yield "cpp_layout/proofs/Others.antt", lambda text: others, []
@@ -91,6 +90,6 @@ def files(crates):
     texts = whole_files(crates)
     for path, edit, given in edits(crates):
         texts[path] = edit(texts.get(path) or read(f"{crates}/{path}"), *given)
-    constants = re.findall(r"^pub const (\w+)", texts[wrappers.NUMBERS], re.M)
+    constants = re.findall(r"^pub const (\w+)", texts[splicing.NUMBERS], re.M)
     texts["cpp_tree/src/view.rt"] = with_constants(texts["cpp_tree/src/view.rt"], constants)
     return {path: with_imports(text, constants) if path.endswith(".antt") else text for path, text in texts.items()}

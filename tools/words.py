@@ -6,8 +6,7 @@ import vocabulary as words
 from files import template
 from meanings import ALL_PARTS
 from notation import answer, braced, quoted
-from productions import coded, defined_cases
-from rules import ALIKE, CLASSES
+from rules import ALIKE, CLASSES, coded, defined_cases
 
 # as the ABI has them: const volatile restrict
 QUALIFIERS = [[word for bit, word in ((4, "const"), (2, "volatile"), (1, "restrict")) if number & bit] for number in range(8)]
