@@ -58,10 +58,12 @@ def entries(name):
     return found
 
 def fill(text, /, **holes):
-    """The text, in which each `@HOLE@` is filled: with a text, or with lines, which take the place of its line."""
+    """The text, in which each `@HOLE@` is filled: with a text or a number, or with lines, which take the place of its line. What ends in
+    `_COUNT` is how many lines there are."""
     def filled(match):
-        value = holes[match[1].lower()]
-        return value if isinstance(value, str) else "\n".join(map(str, value))
+        name = match[1].lower()
+        value = holes[name] if name in holes else len(holes[name.removesuffix("_count")])
+        return str(value) if isinstance(value, (str, int)) else "\n".join(map(str, value))
     return re.sub(r"@([A-Z_]+)@", filled, text)
 
 def template(name, /, **holes):

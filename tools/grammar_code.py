@@ -67,7 +67,7 @@ def rust_letters(name, based):
 
 def rust_rules(of, row, letters, number):
     """The calls that look a rule up, by the row of a kind, its letters, and the number of the production of a letter."""
-    return template("cpp_grammar/rules.rt", table=of, row=row, letters=letters, number=number, count=str(len(P))).rstrip("\n")
+    return template("cpp_grammar/rules.rt", table=of, row=row, letters=letters, number=number, count=len(P)).rstrip("\n")
 
 def table():
     """What the table of the ABI's grammar is filled with: the rule that a kind takes at a byte, and the rules' symbols."""
@@ -117,7 +117,7 @@ def abi_files():
                       chains=of_productions("is_chain", {production: "true" for production, (ate, _) in P.items() if not ate}),
                       empty=of_kinds("may_be_empty", dict.fromkeys(may_be_empty, "true")), kinds=listed(f"Kind.{kind}" for kind in K),
                       productions=listed(map(defined, P)), numbers=of_productions("number_of", numbered(P)))
-    yield from filled("specs/KindNumbers.antt", kind_count=str(len(K)), production_count=str(len(P)), kinds=names)
+    yield from filled("specs/KindNumbers.antt", kind_count=len(K), production_count=len(P), kinds=names)
 
 def wide_files(after, depth, height):
     """Those of the wide grammar: the rule that a kind takes at a byte, what begins each kind and may come after it, and how its trees are

@@ -45,7 +45,7 @@ def table():
              for letter, (production, takes, symbols) in RULES.items()]
     cells = [symbol_row(list(map(symbol, symbols)), f"{letter}: {production}") for letter, (production, _, symbols) in RULES.items()]
     empty = "        " + "\n            | ".join(f"kind::{kind}" for kind, (_, may_be_empty) in KINDS.items() if may_be_empty)
-    return template("rust_grammar/table.rt", letters=list(letter_rows("LETTERS", kinds)), heads=heads, symbols=cells, count=str(len(RULES)),
+    return template("rust_grammar/table.rt", letters=list(letter_rows("LETTERS", kinds)), heads=heads, symbols=cells, count=len(RULES),
                     empty=empty,
                     **after_each([symbols for _, _, symbols in RULES.values()]))
 

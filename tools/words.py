@@ -93,7 +93,7 @@ def layout_texts():
     # the first of the texts that are blanked has the number after
     begins = {name.lower(): str(number - (name == "BLANKED")) for name, number in BEGINS.items()}
     constants = [f"pub const {name}: u16 = {number};" for number, (name, _) in enumerate(words.PLAIN_TEXTS)]
-    return template("cpp_layout/texts.rt", **begins, operators=str(len(words.OPERATORS)), constants="\n\n".join(constants),
+    return template("cpp_layout/texts.rt", **begins, operators=len(words.OPERATORS), constants="\n\n".join(constants),
                     **{function: text_arms(groups) for function, groups in TEXT_FUNCTIONS.items()})
 
 def text_answers():
@@ -162,7 +162,7 @@ def layout_operations():
     rows = [f"    row!({own} => {text(front)}, {how(left)}, {text(between)}, {how(right)}, {text(back)}), // {code.rstrip()}"
             for code, own, front, left, between, right, back in [*words.OPERATIONS, ("no operation", 0, *words.REST[2:])]]
     places = [f"        {number} => {place}, // {row[0].rstrip()}" for place, (row, number) in enumerate(zip(words.OPERATIONS, NUMBERS))]
-    return template("cpp_layout/operation_rows.rt", ends="\n\n".join(ends), rows=rows, count=str(len(rows)),
+    return template("cpp_layout/operation_rows.rt", ends="\n\n".join(ends), rows=rows, count=len(rows),
                     places=[*places, f"        _ => {len(words.OPERATIONS)},"])
 
 # the codes of the operations, each as one number
@@ -200,7 +200,7 @@ def link_tables(productions, rows, skips):
     """The symbols of each production, and its row, by its name."""
     def each(value):
         return [f"    {value(production)}, // {production}" for production in productions]
-    return template("cpp_link/tables.rt", enums=", ".join(sorted([*ALIKE, "Production"])), count=str(len(productions)),
+    return template("cpp_link/tables.rt", enums=", ".join(sorted([*ALIKE, "Production"])), count=len(productions),
                     productions=[f"    Production::{coded(production)}," for production in productions],
                     parts=each(lambda production: len(productions[production])),
                     skips=each(lambda production: str(production in skips).lower()),
