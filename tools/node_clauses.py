@@ -7,7 +7,7 @@ from cpp_trees import (
 )
 from node_code import BOUNDS, UNDER, nodes, placed
 from notation import alone_or, applied, braced, rewritten, together
-from tree_clauses import SCOPED, SUBTREES, arguments, both_free, cases, first_of
+from tree_clauses import SCOPED, SUBTREES, arguments, cases, joined_by
 
 # the types of a node's arguments, and for some the letter of an argument whose node is told apart
 SORTS = {PIECE: ("p", "Piece"), BYTES: ("d", "Span"), MARK: ("m", "Mark"), QUALIFIERS: ("q", "Qualifiers"), SIGNED: ("v", "Signed"),
@@ -178,9 +178,9 @@ def declarations():
         "specs/Fields": {"fields_of": fields_of(), "narrow_tree_from": tree_from()},
         "proofs/Compacting": {"IsOther": is_other(), "other-node": other_node()}, "proofs/Pushed": {"node-stays": node_stays()},
         "specs/Notes": {
-            "frees": noted("frees", "free_at es {0}", "piece_frees es {0}", both_free, "Free.None"),
+            "frees": noted("frees", "free_at es {0}", "piece_frees es {0}", joined_by("both_free"), "Free.None"),
             "node_by_argument": noted("node_by_argument", "by_argument_at es {0}", "piece_by_argument es {0}", depending, "by_none false"),
-            "packing": noted("packing", "packs_at es {0}", "piece_packs es {0}", first_of, "None")},
+            "packing": noted("packing", "packs_at es {0}", "piece_packs es {0}", joined_by("first_of"), "None")},
         "proofs/Noting": {
             "node-by-argument": through("node-by-argument", "by-argument-at {0} {1}", "piece-by-argument {0} {1}", passed_fact),
             "node-free": through("node-free", "at {0} {1}", "piece-free {0} {1}", both_are),

@@ -3,7 +3,8 @@ spelled, and to why what is pressed is read as the same tree."""
 from types import SimpleNamespace
 
 import rust_grammar
-from notation import dashed, together
+from files import template
+from notation import braced, dashed, together
 from rust_parts import BY_NAME, WRITTEN, parts_of
 
 # ## Sorts of values
@@ -48,15 +49,12 @@ def sorts():
 
 def slot_then(part):
     """That a part which is asked for is there, of its sort."""
-    name, tree, own = part.name, part.tree.replace("value.", ""), slot(part)
-    asked = " ".join(f"sorts.{word}" for word in own.split())
-    lines = [f"-- {WRITTEN}", f"{name}_then : (make : Sort) (slots : List Slot) (parts : List Value) (f : {tree} × List Value → Meaning) → "
-             f"Fill ({asked} ∷ slots) parts",
-        f"    → ((found : {tree} × List Value) → Fill slots found.1 → Makes make (f found)) → Makes make ({name}_part parts >>= f)"]
-    lines += [f"{name}_then make slots ({front.valued.replace('value.', '')} ∷ rest) f fill each = each ({front.tree}, rest) (record {{ is "
-              "= fill.is })" for front in part.fronts]
-    return "\n".join([*lines, f"{name}_then make slots parts f fill each = " + (
-            f"each ({part.missing[2]}, parts) (record {{ is = fill.is }})" if part.missing else "absurd (false≢true fill.is)")])
+    name, is_filled = part.name, "(record { is = fill.is })"
+    fronts = [f"{name}_then make slots ({front.valued.replace('value.', '')} ∷ rest) f fill each = each ({front.tree}, rest) {is_filled}"
+              for front in part.fronts]
+    last = f"each ({part.missing[2]}, parts) {is_filled}" if part.missing else "absurd (false≢true fill.is)"
+    return template("rust_v0/slot_then.antt", name=name, tree=part.tree.replace("value.", ""), fronts=fronts, last=last,
+                    asked=" ".join(f"sorts.{word}" for word in slot(part).split())).rstrip("\n")
 
 def made_of_slots(made):
     """That a production makes its sort of the parts that it asks for."""
@@ -77,17 +75,12 @@ def good_then(part):
     """That a part can be spelled where all can."""
     lemma, taken = f"{dashed(part.name)}-then", part.lifetimes and part.lifetimes.replace("@", "x")
     whole = f"({part.good} × ({taken} ≤ b))" if taken else part.good
-    lines = [f"-- {WRITTEN}", f"{lemma} : (p : Production) (b : ℕ) (Q : Found Value State → Type 0) (parts : List Value) (f : {part.tree} "
-             "× List Value → Meaning) → AllGood p b parts",
-        f"    → ((x : {part.tree}) (rest : List Value) → {whole} → AllGood p b rest → Holds Q (f (x, rest))) → Holds Q ({part.name}_part "
-        "parts >>= f)"]
-    if part.name in ("type", "arguments", "bindings"):
-        lines.append(f"unfolding {taken.split()[0]}")
-    for front, fact in zip(part.fronts, part.good_fronts):
-        lines.append(f"{lemma} p b Q ({front.valued} ∷ rest) f good more = more {f'({front.tree})' if ' ' in front.tree else front.tree} "
-                     f"rest {fact} good.1")
-    last = f"more {part.missing[2]} parts {part.good_missing}" + " good" if part.missing else "tt"
-    return "\n".join([*lines, f"{lemma} p b Q parts f good more = {last}"])
+    fronts = [f"unfolding {taken.split()[0]}"] if part.name in ("type", "arguments", "bindings") else []
+    fronts += [f"{lemma} p b Q ({front.valued} ∷ rest) f good more = more {braced(front.tree)} rest {fact} good.1"
+               for front, fact in zip(part.fronts, part.good_fronts)]
+    last = f"more {part.missing[2]} parts {part.good_missing} good" if part.missing else "tt"
+    return template("rust_press/good_then.antt", lemma=lemma, tree=part.tree, whole=whole, name=part.name, fronts=fronts,
+                    last=last).rstrip("\n")
 
 def made_good(made):
     """That what a production makes can be spelled where its parts can."""

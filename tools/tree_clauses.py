@@ -1,11 +1,14 @@
 """What goes through C++'s trees by their arguments alone: from the rows of cpp_trees.py to the clauses of definitions and laws. Where the
 table has a clause of a tree's own, that is the clause."""
+import re
+
 import cpp_trees
 from cpp_trees import (
     BELOW, BYTES, CASES, CLAUSES, COMPONENTS, DISCRIMINATOR, ENCODINGS, INSIDE, MARK, NUMBER, OUTSIDE, OWN, PIECE, PRESSED, QUALIFIERS,
     SCOPES,
     SIGNATURE, SIGNED, THUNK, TREE, TREES, TRUTH, named,
 )
+from files import columns, sections
 from notation import alone_or, applied, braced, rewritten
 from sameness import equal_clause, itself, same_clause
 
@@ -51,26 +54,12 @@ def fold(function, before, joined, none, over=SUBTREES, closed=None, trees=TREES
         return joined(parts) if parts else None
     return cases(function, before, [], right, none, trees, crate)
 
-def summed(first):
-    """Parts are joined by a sum that begins with a number."""
-    return lambda parts: " + ".join([first, *parts])
-
-def either(parts):
-    """Parts are joined by `or`."""
-    return " || ".join(parts)
-
-def joined_by(lemma, *first, of=None, then=()):
-    """Facts are joined by a lemma, which may take what is computed of the subtree of each."""
+def joined_by(lemma, of=None, then=None):
+    """Facts are joined by a lemma, which may take what is computed of the subtree of each, and then another fact."""
     def joined(facts):
         computed = [f"({of} {fact.split()[-1]})" for fact in facts] if of else []
-        return applied(lemma, [*first, *computed, *then, *(f"({fact})" for fact in facts)])
+        return " ".join(filter(None, [lemma, *computed, then, *(f"({fact})" for fact in facts)]))
     return lambda facts: alone_or(facts, joined)
-
-def both_by(lemma):
-    """Facts are joined by what `both` makes of them and a lemma."""
-    return joined_by("both", lemma)
-
-both_free, first_of = joined_by("both_free"), joined_by("first_of")
 
 def rebuilt(function, before, closed):
     """The tree again, of what is made of its subtrees."""
@@ -245,38 +234,26 @@ def made_again(function, before, after=(), made="", given=lambda name, sort: nam
 
 # ## Declarations
 
+def joining(text):
+    """How parts are joined, by a text of cpp_folds.txt."""
+    word, _, rest = text.partition(" ")
+    if word == "by":
+        lemma, of, then = re.fullmatch(r"(.*?)(?: of (\S+))?(?: then (.*))?", rest).groups()
+        return joined_by(lemma, of, then)
+    if text == "rewritten":
+        return lambda parts: alone_or(parts, rewritten)
+    if text == "suc":
+        return lambda parts: f"suc ({' + '.join(parts)})"
+    return (lambda parts: " + ".join([rest, *parts])) if word == "sum" else text.strip('"').join
+
 def folds():
     """Those that are folds of trees: path, name, and the lines."""
-    either_by, pressed = both_by("(λ x y. x || y)"), named(PRESSED)
-    # of what is under the scope of the whole: what is given before a tree, how parts are joined, and what it is of none
-    for path, name, before, joined, none in (
-            ("cpp_term/specs/Reargued.antt", "bare", [], either, "false"),
-            ("cpp_term/proofs/Reargued.antt", "open_reargued", ["c"], either_by, "refl"),
-            ("cpp_term/proofs/Reargued.antt", "free_reargued", ["c"], both_by("both_free"), "refl"),
-            ("cpp_term/proofs/Reargued.antt", "bare_reargued", ["c"], either_by, "refl"),
-            ("cpp_term/proofs/Reargued.antt", "pack_reargued", ["a"], joined_by("bare_first", of="bare", then=["(length_if_pack a)"]),
-             "refl"),
-            ("cpp_tree/proofs/FreeParameters.antt", "open-free", [], joined_by("either-open", of="free_in"), "refl"),
-            ("cpp_press/proofs/Open.antt", "open-erased", [], lambda parts: alone_or(parts, rewritten), "refl")):
-        yield path, name, carried(fold(name, before, joined, none, over=SCOPED))
-    for name, before, joined in (
-            ("open_noted", ["s"], either_by), ("free_noted", ["s"], both_by("both_free")), ("pack_own", [], both_by("first_of")),
-            ("pack_none", [], both_by("first_of")), ("pack_some", ["all"], both_by("first_of"))):
-        yield "cpp_term/proofs/Notes.antt", name, fold(name, before, joined, "refl", over=SCOPED)
-    # by the names that scopes have; parameters first
-    for name, before, joined, none in (("is_open", [], either, "false"), ("free_in", [], both_free, "none_free"),
-                                       ("pack_length", ["scope"], first_of, "None")):
-        lines = fold(name, before, joined, none, over=SCOPED, trees=named(SCOPES, ["parameter"]))
-        yield "cpp_grammar/specs/Scope.antt", name, lines
-    # what a local entity is in is no part of its weight
-    weight = fold("weight", ["a", "scope"], summed("1"), "1", closed=["0", "None"], crate="cpp_grammar/")
-    yield "cpp_grammar/specs/Ranks.antt", "weight", weight
-    yield "cpp_term/specs/Ranks.antt", "weight", carried(fold("weight", [], summed("1"), "1", crate="cpp_term/"))
-    yield "cpp_spelling/specs/Weight.antt", "weight", fold("weight", [], summed("12"), "12", trees=pressed)
-    yield "cpp_grammar/specs/Closed.antt", "ScopesAreClosed", fold("ScopesAreClosed", [], " × ".join, "Unit {0}", trees=FIRST)
-    yield "cpp_press_laws/specs/Apart.antt", "IsNeverReferred", fold("IsNeverReferred", ["own"], " ⊎ ".join, "⊥", trees=pressed)
-    sizes = fold("size", [], lambda parts: f"suc ({' + '.join(parts)})", "1", trees=pressed)
-    yield "cpp_press_laws/proofs/Components/Growing.antt", "size", sizes
+    named_in = {"scopes": named(SCOPES, ["parameter"]), "pressed": named(PRESSED), "first": FIRST}
+    for path, name, before, joined, none, *words in (columns(line) for line, _ in sections("cpp_folds.txt")):
+        said = {word.split(" ", 1)[0]: word.split(" ")[1:] for word in words}
+        lines = fold(name, before.split(), joining(joined), none, over=SCOPED if "scoped" in said else SUBTREES, closed=said.get("closed"),
+                     trees=named_in[said["names"][0]] if "names" in said else TREES, crate="".join(said.get("crate", [])))
+        yield path, name, carried(lines) if "carried" in said else lines
 
 def markings():
     """Those that have a value for some trees, and another for the others."""
