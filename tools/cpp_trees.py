@@ -1,4 +1,4 @@
-"""C++'s trees: from the table cpp_trees.txt to the lists of trees, spellings and names that the other scripts read."""
+"""C++'s trees: from the tables cpp_trees.txt and cpp_sorts.txt to the lists of trees, spellings and names that the other scripts read."""
 import shlex
 from collections import defaultdict
 
@@ -8,7 +8,13 @@ from notation import camel
 # what an argument is
 OWN, OUTSIDE, INSIDE, SIGNATURE, TREE, PIECE = "own", "outside", "inside", "signature", "tree", "piece"
 BYTES, NUMBER, TRUTH, QUALIFIERS, MARK = "bytes", "number", "truth", "qualifiers", "mark"
-SIGNED, THUNK, DISCRIMINATOR = "signed", "thunk", "discriminator"
+SIGNED, DISCRIMINATOR = "signed", "discriminator"
+
+# what is said of the arguments of a sort, by the word that says it
+SORTS = defaultdict(dict)
+for sort, lines in sections("cpp_sorts.txt"):
+    for word, _, text in (line.partition(" ") for line, _ in lines):
+        SORTS[word][sort] = text
 
 # Each tree with its arguments: (name, (argument, what it is), ..). What goes through a tree by its arguments alone is written from here.
 # An alias is a tree of a node, and none of its own.

@@ -1,19 +1,14 @@
 """What goes through C++'s nodes by their arguments alone: from the rows of cpp_trees.py to the clauses of cpp_tree's definitions and laws.
 Where the table has a clause of a node's tree, that is the clause."""
-from cpp_trees import (
-    BELOW, BYTES, CLAUSES, DISCRIMINATOR, ENCODINGS, INSIDE, MARK, NAMES, NUMBER, OUTSIDE, OWN, PIECE, PIECES, QUALIFIERS, SIGNATURE,
-    SIGNED, THUNK,
-    TREE, TRUTH, VIEWED, called, named,
-)
-from node_code import BOUNDS, UNDER, nodes, placed
+import re
+
+from cpp_trees import BELOW, BYTES, CLAUSES, ENCODINGS, NAMES, OWN, PIECE, PIECES, SIGNED, SORTS, TREE, VIEWED, called, named
+from node_code import nodes, placed
 from notation import alone_or, applied, braced, rewritten, together
 from tree_clauses import SCOPED, SUBTREES, arguments, cases, joined_by
 
-# the types of a node's arguments, and for some the letter of an argument whose node is told apart
-SORTS = {PIECE: ("p", "Piece"), BYTES: ("d", "Span"), MARK: ("m", "Mark"), QUALIFIERS: ("q", "Qualifiers"), SIGNED: ("v", "Signed"),
-         DISCRIMINATOR: ("d", "Option Span")}
-NODE_TYPES = {**dict.fromkeys((TREE, OWN, INSIDE, OUTSIDE, SIGNATURE, NUMBER, THUNK, UNDER), "ℕ"), TRUTH: "Bool",
-              **{sort: type for sort, (_, type) in SORTS.items()}}
+# the types of a node's arguments, and for some the letters of arguments where nodes are told apart
+TYPES = {sort: re.fullmatch(r"(.*?)(?: ([a-z]+))?", text).groups() for sort, text in SORTS["type"].items()}
 
 # ## Nodes
 
@@ -41,12 +36,8 @@ def of_arguments(forms, joined, none=None):
 
 def tree_of():
     """The tree of a node."""
-    made = {QUALIFIERS: "(qualifiers_of {0})", MARK: "(mark_of {0})", BYTES: "(bytes_at s {0})", SIGNED: "(signed_of s {0})",
-            DISCRIMINATOR: "(discriminator_of s {0})", THUNK: "(thunk_of s (slice_get us {0}))", PIECE: "(piece_of s ts {0})",
-            NUMBER: "{0}", TRUTH: "{0}"}
-
     def right(node, given):
-        return applied("term." + node.tree, [made.get(sort, "(tree_at ts {0})").format(name) for name, sort in given])
+        return applied("term." + node.tree, [SORTS["denotes"].get(sort, "").format(name) for name, sort in given])
     return node_cases("tree_of", ["s", "us", "ts"], [], right)
 
 def views():
@@ -56,8 +47,7 @@ def views():
 
 def fields_of():
     """What is seen of a tree: production, two numbers, a text, parts."""
-    numbers = {QUALIFIERS: "(qualifiers_number {0})", MARK: "(mark_number {0})", NUMBER: "{0}", TRUTH: "(bit {0})",
-               SIGNED: "(bit {0}.negative)"}
+    numbers = SORTS["seen"]
 
     def right(tree):
         told = [numbers[sort].format(name) for name, sort in tree[1:] if sort in numbers]
@@ -70,14 +60,11 @@ def fields_of():
 
 def tree_from():
     """And the tree of it, by its production."""
-    numbered = {QUALIFIERS: "(qualifiers_in (number_in given {0}))", MARK: "(mark_in (number_in given {0}))",
-                NUMBER: "(number_in given {0})"}
-    others = {TRUTH: "(is_so given 0)", SIGNED: "(signed_in given 0)", BYTES: "(text_in given 0)"}
     rows = []
     for tree in views():
         parts, numbers = iter(range(len(tree))), iter(range(len(tree)))
-        given = [f"(part_in given {next(parts)})" if sort in SUBTREES else others.get(sort) or numbered[sort].format(next(numbers))
-                 for name, sort in tree[1:] if tree[0] not in BELOW["from"]]
+        forms = [f"(part_in given {next(parts)})" if sort in SUBTREES else SORTS["back"].get(sort, "") for _, sort in tree[1:]]
+        given = [form.format(next(numbers)) if "{0}" in form else form for form in forms]
         rows += [row.split(" ", 1) for row in BELOW["from"].get(tree[0], [f"{tree[0].upper()} {applied(tree[0], given)}"])]
     lines = [f"    {'∷ ' if i else ''}({production}, {tree})" for i, (production, tree) in enumerate(rows)]
     pieces = [("ALONE", "0", "alone"), ("IN_STD", "0", "in_std"), ("NESTED", "1", "(within (part_in given 0))")]
@@ -88,20 +75,16 @@ def is_below():
     """That the arguments of a node are below it."""
     def joined(facts):
         return facts[0] if len(facts) == 1 else " × ".join(f"({fact})" if " < " in fact else fact for fact in facts)
-    return node_cases("IsBelow", ["s", "held", "n"], [], of_arguments(BOUNDS, joined), "Unit {0}", NAMES["below"])
+    return node_cases("IsBelow", ["s", "held", "n"], [], of_arguments(SORTS["bound"], joined), "Unit {0}", NAMES["below"])
 
 def below_later():
     """A node's bounds, at a later place."""
-    later = {**dict.fromkeys(BOUNDS, "{1}"), **dict.fromkeys((TREE, OWN), "omega (arith, {1}, most)"),
-             PIECE: "piece-later s m n {0} {1} most", UNDER: "there-later m n (under_kept {0}) {1} most"}
     names = {"m": "k", "n": "e", "b": "v"}
-    return node_cases("below-later", ["s", "held", "m", "n"], ["b", "most"], of_arguments(later, together), "tt", names)
+    return node_cases("below-later", ["s", "held", "m", "n"], ["b", "most"], of_arguments(SORTS["later"], together), "tt", names)
 
 def node_stays():
-    """That a node's tree stays as nodes are added."""
-    stays = {**dict.fromkeys((TREE, OWN), "early {0} {1}"), PIECE: "piece-stays {0} {1}", UNDER: "tree-stays (under_kept {0}) {1}"}
-    # t is another tree here
-    return node_cases("node-stays", [], ["b"], of_arguments(stays, rewritten, "refl"), None, {"t": "x", "b": "y"})
+    """That a node's tree stays as nodes are added; t is another tree here."""
+    return node_cases("node-stays", [], ["b"], of_arguments(SORTS["stays"], rewritten, "refl"), None, {"t": "x", "b": "y"})
 
 # ## What is noted
 
@@ -149,10 +132,9 @@ def noted_nodes():
     """The nodes of which something is noted, each with its name, and its arguments with their types: numbers of nodes are i and j here."""
     for node in nodes():
         if node.tree in ("nil", "parameter", "again") or set(node.sorts) & set(SCOPED):
-            of = {TRUTH: ("xy", "Bool"), NUMBER: ("kl", "ℕ"), **SORTS}
-            letters = {sort: iter(of.get(sort, ("",))[0]) for sort in NODE_TYPES}
+            letters = {sort: iter(own or "") for sort, (_, own) in TYPES.items()}
             others = iter("ij")
-            yield node.name, [(next(letters[sort]), of[sort][1]) if sort in of else (next(others), "ℕ") for _, sort in node.arguments]
+            yield node.name, [(next(letters[sort] if TYPES[sort][1] else others), TYPES[sort][0]) for _, sort in node.arguments]
 
 def is_other():
     """What is known of a node of which nothing is noted: it is none of those."""

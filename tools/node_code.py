@@ -4,24 +4,9 @@ table of cpp_trees.py."""
 import re
 from functools import lru_cache
 
-from cpp_trees import (
-    ALIASES, BELOW, BYTES, DISCRIMINATOR, INSIDE, MARK, NAMED, NAMES, NUMBER, OUTSIDE, OWN, PIECE, PIECES, QUALIFIERS, SIGNATURE,
-    SIGNED, THUNK, TREE, TREES, TRUTH, called,
-)
+from cpp_trees import ALIASES, BELOW, INSIDE, NAMED, NAMES, OUTSIDE, OWN, PIECES, SIGNATURE, SORTS, TREE, TREES, called
 from files import TEMPLATES, fill, read, template
 from notation import answer, camel, together
-
-# the argument under which the types of an encoding are, if they are under one
-UNDER = "under"
-# what is said of an argument below a node
-BOUNDS = {TREE: "{0} < n", OWN: "{0} < n", PIECE: "IsPieceBelow s n {0}", BYTES: "IsWithin {0} s", SIGNED: "IsWithin {0}.digits s",
-          DISCRIMINATOR: "IsSpan s {0}", THUNK: "{0} < held", UNDER: "IsAliasBelow n (under_kept {0})"}
-TYPES = {NUMBER: "u8", TRUTH: "bool", QUALIFIERS: "Qualifiers", MARK: "Mark", BYTES: "Span", SIGNED: "Signed",
-         DISCRIMINATOR: "Option<Span>", PIECE: "Piece"}
-# the code of a number and of a text that is seen of a field
-NUMBERS = {NUMBER: "{0} as u64", TRUTH: "bit({0}) as u64", QUALIFIERS: "{0}.number() as u64", MARK: "{0}.number() as u64",
-           SIGNED: "bit({0}.negative) as u64"}
-TEXTS = {BYTES: "{0}", SIGNED: "{0}.digits"}
 
 class Node:
     """A node: its name, its tree's, its arguments and those of the tree; and its fields, each with its name in code, what it is and its
@@ -31,7 +16,7 @@ class Node:
         others = [tuple(word.split(":")) for word in words if ":" in word]
         self.name = next((word for word in words if ":" not in word), camel(tree))
         self.tree, self.arguments, self.sorts = tree, others or list(given), [sort for _, sort in given]
-        types = {name: NAMES["types"].get((tree, name), TYPES.get(sort, "u32")) for name, sort in self.arguments}
+        types = {name: NAMES["types"].get((tree, name), SORTS["code"].get(sort, "u32")) for name, sort in self.arguments}
         self.fields = [(called(NAMED, tree, name), sort, types[name]) for name, sort in self.arguments]
 
     def said(self, word):
@@ -48,9 +33,9 @@ class Node:
 
     def view(self):
         """What is seen of a node of which no more is seen: the code of its numbers, its texts and its parts."""
-        numbers = [NUMBERS[sort].format(name) for name, sort, _ in self.fields if sort in NUMBERS]
+        numbers = [SORTS["number"][sort].format(name) for name, sort, _ in self.fields if sort in SORTS["number"]]
         said = self.said("numbers")
-        texts = [TEXTS[sort].format(name) for name, sort, _ in self.fields if sort in TEXTS]
+        texts = [SORTS["text"][sort].format(name) for name, sort, _ in self.fields if sort in SORTS["text"]]
         return said.split(" | ") if said else numbers, texts, self.parts(OWN, OUTSIDE, INSIDE, SIGNATURE, TREE)
 
 @lru_cache(maxsize=None)
@@ -61,9 +46,9 @@ def nodes():
     others = [tree for tree in rows if tree not in (*front, *back, *PIECES)]
     return [Node(words.split(), tree, *rows[tree]) for tree in [*front, *others, *back] for words in BELOW["node"].get(tree, [""])]
 
-def placed(arguments, over=tuple(BOUNDS)):
+def placed(arguments, over=tuple(SORTS["bound"])):
     """The arguments, each with the fact of its bound if it is of these sorts: a part of b where there are several bounds."""
-    bounds = [name for name, sort in arguments if sort in BOUNDS]
+    bounds = [name for name, sort in arguments if sort in SORTS["bound"]]
     facts = {name: "b" if len(bounds) == 1 else f"b.{place}" for place, name in enumerate(bounds)}
     return [(name, sort, facts[name] if sort in over else "") for name, sort in arguments]
 

@@ -13,14 +13,13 @@ from tree_clauses import SCOPED, SUBTREES
 # what reads an argument of a sort, and a value of a part: with arguments in its parameters a tree is annotated
 READ = {sort: sort for sort in (BYTES, NUMBER, TRUTH, QUALIFIERS, MARK, SIGNED, DISCRIMINATOR)}
 READ_OF_ARGUMENTS = {f"{name}_in": f"{name}_in" for name in ("tree", *READ)}
-READ_OF_VALUES = {"listed": "is_listed", "there": "is_there",
-                  **{name: f"{name}_of" for name in ("tree", "piece", "qualifiers", "ref", "letter", "mark", "text", "signed",
-                          "adjustment")}}
+READ_OF_VALUES = {name: f"is_{name}" if name in ("listed", "there") else f"{name}_of" for name in (
+    "tree", "piece", "listed", "qualifiers", "ref", "letter", "there", "mark", "text", "signed", "adjustment")}
 
 def read_noted(names, module, sort, one, noted, listed_as, whole, first_of_them, public):
     """That what is read of an annotated thing is what is read of it, and the same of one of a list."""
-    for name in sorted(names, key=list(ORDER).index):
-        function, annotated = names[name], name.split("_")[0] in ("tree", "piece")
+    for name, function in names.items():
+        annotated = name.split("_")[0] in ("tree", "piece")
         there = name.replace("_in", "_there") if name in READ_OF_ARGUMENTS else f"{name}_part"
         own, of_one = (f"annotate s ({text})" if annotated else text for text in (f"{function} v", f"{function} ({one} vs k)"))
         unfolding = f"unfolding {module}.{function} {function} {noted}{' annotate' if annotated else ''}"
@@ -29,10 +28,6 @@ def read_noted(names, module, sort, one, noted, listed_as, whole, first_of_them,
         yield "\n".join(lines)
         says = f"(s : Place) (vs : List {sort}) (k : ℕ) → {module}.{function} ({module}.{one} ({listed_as} s vs) k) ≡ {of_one}"
         yield (f"{public}{there} : {says}\n{there} s vs k = ap {module}.{function} ({whole} s vs k) ∙ {name}_noted s ({one} vs k)")
-
-# the order in which these are
-ORDER = dict.fromkeys(["tree", "piece", "listed", "qualifiers", "ref", "letter", "there", "mark", "text", "signed", "adjustment",
-                       *READ_OF_ARGUMENTS])
 
 # ## Productions
 

@@ -4,9 +4,8 @@ import re
 
 import cpp_trees
 from cpp_trees import (
-    BELOW, BYTES, CASES, CLAUSES, COMPONENTS, DISCRIMINATOR, ENCODINGS, INSIDE, MARK, NUMBER, OUTSIDE, OWN, PIECE, PRESSED, QUALIFIERS,
-    SCOPES,
-    SIGNATURE, SIGNED, THUNK, TREE, TREES, TRUTH, named,
+    BELOW, CASES, CLAUSES, COMPONENTS, ENCODINGS, INSIDE, NUMBER, OUTSIDE, OWN, PIECE, PRESSED, SCOPES, SIGNATURE, SORTS, TREE, TREES,
+    named,
 )
 from files import columns, sections
 from notation import alone_or, applied, braced, rewritten
@@ -79,12 +78,12 @@ def of_subtrees(tree, constructor, fact, over=SCOPED, letters="xy", given=lambda
 
 # ## Sameness
 
-TESTS = {**dict.fromkeys(SUBTREES, "tree"), **{sort: sort for sort in (BYTES, TRUTH, QUALIFIERS, MARK, SIGNED, THUNK, DISCRIMINATOR)}}
+SAME = SORTS["same"]
 
 def same_tree():
     """Whether two trees are the same: by their constructors, and argument by argument."""
     def tests(tree):
-        return ["nat_eq {0} {1}" if sort == NUMBER else f"same_{TESTS[sort]} {{0}} {{1}}" for name, sort in tree[1:]]
+        return ["nat_eq {0} {1}" if sort == NUMBER else f"same_{SAME[sort]} {{0}} {{1}}" for name, sort in tree[1:]]
     return [*[same_clause("same_tree", tree[0], tests(tree)) for tree in TREES], "same_tree _ _ = false"]
 
 def equal_tree():
@@ -93,14 +92,14 @@ def equal_tree():
     for name, *given in TREES:
         facts = {1: ["h"], 2: ["(both h).0", "(both h).1"]}.get(len(given), [f"p.{i}" for i in range(len(given))])
         first = [f"    let p = both_{len(given)} h in"] if len(given) > 2 else []
-        laws = ["eqb-true" if sort == NUMBER else "equal-" + TESTS[sort] for _, sort in given]
+        laws = ["eqb-true" if sort == NUMBER else "equal-" + SAME[sort] for _, sort in given]
         lines += equal_clause("equal-tree", name, laws, facts, first)
     return [*lines, "equal-tree _ _ h = absurd (never h)"]
 
 def tree_itself():
     """That `same_tree` finds each tree the same as itself."""
     def fact(name, sort):
-        return f"eq-eqb {name} {name} refl" if sort == NUMBER else f"{TESTS[sort]}-itself {name}"
+        return f"eq-eqb {name} {name} refl" if sort == NUMBER else f"{SAME[sort]}-itself {name}"
     return cases("tree-itself", [], [], lambda tree: itself([fact(*argument) for argument in tree[1:]]))
 
 # ## Trees with their arguments

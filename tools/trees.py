@@ -72,7 +72,7 @@ def edits(crates):
     """What is written into files by hand: the path of each, how its text changes, and by what."""
     yield from ((path, rewritten, [name, lines]) for path, name, lines in declarations(crates))
     yield from splicing.wrapper_edits()
-    types = {node.name: [node_clauses.NODE_TYPES[sort] for _, sort in node.arguments] for node in nodes()}
+    types = {node.name: [node_clauses.TYPES[sort][0] for _, sort in node.arguments] for node in nodes()}
     others, answers, whole, matched = layouts.files(crates, types)
     yield "cpp_layout/proofs/Others.antt", lambda text: others, []
     yield from ((SHOWN.format(function), with_declarations, [["\n".join(lines)]]) for function, shown in answers.items() for lines in shown)
