@@ -24,8 +24,8 @@ def constants(crates, path, module):
     return dict(re.findall(r"^pub const (\w+): \w+ = (\d+);", text, re.M))
 
 def exits(crates, path, function, *calls):
-    """Each clause of what is so where a function answers, at each call at which it may end with a refusal. The step that hands the refusal
-    on has the call's name from the second on."""
+    """Each clause of what is so where a function answers, at each call at which it may end with a refusal; with the step that forwards
+    it."""
     contract = re.search(rf"^ *(?:pub(?:\([a-z]+\))? )?fn {function}\b.*?^ *{{\n", read(f"{crates}/{path}"), re.M | re.S)[0]
     for call in calls:
         step = "from_residual" if call == calls[0] else f"from_residual-in_err-{call}"

@@ -67,6 +67,5 @@ def fill(text, /, **holes):
     return re.sub(r"@([A-Z_]+)@", filled, text)
 
 def template(name, /, **holes):
-    """The text of a template, filled. A template is a file of the name that it is called by and `.in`: the gate takes each `.rt` and
-    `.antt` outside of a crate for a file that it forgot to read."""
+    """The text of a template, filled: of a file with `.in` after its name, since the gate asks for each other `.rt` and `.antt`."""
     return fill(read(f"{TEMPLATES}/{name}.in"), **holes)

@@ -120,8 +120,7 @@ def abi_files():
     yield from filled("specs/KindNumbers.antt", kind_count=len(K), production_count=len(P), kinds=names)
 
 def wide_files(after, depth, height):
-    """Those of the wide grammar: the rule that a kind takes at a byte, what begins each kind and may come after it, and how its trees are
-    bounded."""
+    """Those of the wide grammar: what a kind takes at a byte, what begins it and may come after it, and how its trees are bounded."""
     merged = {kind: "".join(f"{low}-{high}" for low, high in runs(after[kind], 1)[0]) for kind in K}
     yield from filled("src/wide_table.rt", letters=rust_letters("WIDE_ROWS", True),
                       rules=rust_rules("wide", "&WIDE_ROWS[kind as usize]", "&row.letters", "row.base as usize + letter as usize"))

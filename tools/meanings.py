@@ -18,8 +18,7 @@ HOLES = {"$1": r"(?P<hole_1>\d)", "$2": r"(?P<hole_2>\d)", "$c": "(?P<hole_c>.)"
 TABLE = {head: [columns(line) for line, _ in lines] for head, lines in sections("cpp_words.txt")}
 
 class Word:
-    """A word, with numbers of parts, and its forms: as definitions have it, as code does, and as code does in a step; each nothing where it
-    is by hand."""
+    """A word with numbers of parts; and its forms: in definitions, in code, and in code of a step. Each is empty where it is by hand."""
 
     def __init__(self, word, *forms):
         pattern = re.escape(word)

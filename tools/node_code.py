@@ -9,8 +9,7 @@ from files import TEMPLATES, fill, read, template
 from notation import answer, camel, together
 
 class Node:
-    """A node: its name, its tree's, its arguments and those of the tree; and its fields, each with its name in code, what it is and its
-    type."""
+    """A node: its name, its tree's, its arguments, the sorts of the tree's, and its fields (each with its name in code, sort and type)."""
 
     def __init__(self, words, tree, *given):
         others = [tuple(word.split(":")) for word in words if ":" in word]

@@ -4,17 +4,11 @@ import re
 import grammar
 from files import read
 from notation import dashed
+from rules import PAYS
 
 FOLDER = "cpp_press_laws/proofs/Short"
 # the lists, each with its file: the lemma whose clauses are read is called `pays`, and that which is used `gains`
 LISTS = {"type": "Types", "free": "Lists", "idle": "Lists", "qualified": "Qualified", "name": "Names", "further": "Names"}
-# productions whose lemma isn't called as they are, in any kind or in one
-CALLED = {"Destructor": "destructor-name", "Constructor": "constructor-name", "AddressedLiteral": "addressed-gains",
-          "IntegerLiteral": "integer-gains", "ReferenceType": "reference-gains",
-          ("Plain", "ReferenceType"): "bare-reference-gains", ("Arguments", "Arguments"): "given-gains",
-          ("NestTail", "NestNext"): "λ around at old v new b ready small. nest-next around at old v new b (may-end-behind around.prefix "
-          "ready small) small"}
-
 def listed(text, function, lemma):
     """The productions of a list, by class if it has any."""
     found = {}
@@ -42,7 +36,7 @@ def declarations(crates):
             own = {"type-gains": "type", "name-gains": "name", "further-gains": "further"}.get(used, class_)
             if production in productions and (own == of or used == "name-gains" and of == "type"):
                 return f"{used}{' ' + class_ if class_ else ''} Production.{production} refl", own, 0
-        name = CALLED.get((kind, production)) or CALLED.get(production) or dashed(production)
+        name = PAYS.get((kind, production)) or PAYS.get((production,)) or dashed(production)
         if name not in signatures and f"{name}-gains" in signatures or re.search(rf"^pub {re.escape(name)}-gains : ",
                 "".join(texts.values()), re.M):
             name += "-gains"

@@ -18,8 +18,7 @@ REQUIRED = {"its own": "own { is_again (entry_at self.now.table.nodes node).node
             "a table": "table { IsTable (table_of self.now) }"}
 
 class Row:
-    """A function of cpp_shown.txt: its name, what it is for, the grammar's line, of what it is, what it shows, and why. Its arguments have
-    their sorts."""
+    """A function of cpp_shown.txt: its name, what it is for, its line of the grammar, of what it is, what it shows, why; its arguments."""
     def __init__(self, head, lines):
         self.name, self.says = head.split(": ", 1)
         said = dict(line.split(" ", 1) for line, _ in lines)

@@ -21,6 +21,8 @@ K, MARKED = {}, []         # (kind, class, production)
 ALIKE = {}
 # the family of each production, and its place among the arms of that; and the common ones that have code before their parts
 FAMILY, WITH_CODE_BEFORE, MOST_ARMS = {}, set(), 256
+# the lemma of what a production's bytes pay for, where it isn't called as the production is: in one kind, or in any
+PAYS = {}
 # the ABI's lines above a production, and what is said of productions that mean the same
 ABOVE = {}
 # the number of the production that no row of letters has, since its byte is the blank
@@ -52,18 +54,20 @@ def production(name, eats, symbols, row):
         ROWS[name] = row
 
 def row_of(texts):
-    """A row, by its words, but for its family."""
-    row = dict(text.split(" ", 1) for text in texts)
-    row.pop("family", None)
+    """A row, by its words."""
+    row = dict(text.split(" ", 1) for text in texts if text.split()[0] not in ("family", "pays"))
     return {**row, "nodes": int(row["nodes"])} if "nodes" in row else row
 
-def family_of(name, texts):
-    """Enters the family of a production: those without a place come after those with one."""
-    for text in texts:
-        word, family, *place = text.split()
+def enter_aside(name, texts):
+    """Enters what is said of a production beside its row: its family, where those without a place come after those with one, and the lemma
+    of what its bytes pay for, of each kind or of one."""
+    for word, rest in (text.split(" ", 1) for text in texts):
         if word == "family":
+            family, *place = rest.split()
             FAMILY[name] = family, int(place[0]) if place else MOST_ARMS
             WITH_CODE_BEFORE.update({name} if "before" in place else ())
+        if word == "pays":
+            PAYS.update({(*kind.split(), name): lemma for kind, _, lemma in (said.rpartition(": ") for said in rest.split("; "))})
 
 def families():
     """The productions of each family, in the order of their arms."""
@@ -87,7 +91,7 @@ class Reader:
         taken, name, *symbols = rule.split()
         taken = None if taken == "-" else CLASSES.get(taken, taken)
         production(name, taken is not None, symbols, row_of(row))
-        family_of(name, row)
+        enter_aside(name, row)
         if above:
             ABOVE.setdefault(name, above)
         self.first.setdefault(name, (taken, name))
@@ -170,8 +174,7 @@ def coded(production):
     return f"{group}({group}::{production})" if group else production
 
 def met(values):
-    """Of what is known of productions each case: a production, or the name of several that mean the same and have the same value; and the
-    value."""
+    """Each case of what is known of productions, with the value: a production, or the name of several with the same value."""
     groups = {name: {values.get(member, "none") for member in members} for name, members in ALIKE.items()}
     for production, value in values.items():
         group = group_of(production)

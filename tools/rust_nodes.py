@@ -146,8 +146,7 @@ def node_needs(of, given, is_node):
 # ## Views of nodes, by the arms of the code
 
 def view_answers(of):
-    """That each arm of a family's view shows its node: by the call that the arm makes, whose step has the arm's name from its second call
-    on."""
+    """That each arm of a family's view shows its node, by its call, whose step has the arm's name from its second call on."""
     own, used, lines = "ty" if of == "type" else of, set(), []
     def step(call, arm):
         name = f"c.{call}-in-{arm}.ensures" if call in used else f"c.{call}.ensures"

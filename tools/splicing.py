@@ -38,8 +38,7 @@ def replaced(text, begun, ends, lines):
     return text[:start] + "".join(f"{line}\n" for line in lines) + text[end:]
 
 def with_arms(text, function, lines):
-    """The text, with these lines as the arms after the line that says so, up to the other ones or the end of the match; or as the variants
-    of an enum."""
+    """The text, with these lines as the arms after the line that says so, up to the others or the end; or as an enum's variants."""
     begun = re.search(rf"\benum {function} {{|\bfn {function}\((?s:.*?)\n *{{\n", text).end()
     indent = re.compile(rf"^( *)// {re.escape(WRITTEN)}", re.M).search(text, begun)[1]
     return replaced(text, begun, rf"^(?:{indent}_ =>|{indent[4:]}\}})", lines)
@@ -60,8 +59,7 @@ def rewritten(text, name, lines):
     return text[:first] + "\n".join(indent + line for clause in lines for line in clause.split("\n")) + text[end:]
 
 def extended(text, name, lines):
-    """The text, with these lines as those clauses of a name that come after the line that says who writes them, up to a comment or its
-    end."""
+    """The text, with these lines as the clauses of a name that come after the line that says who writes them, up to a comment."""
     signature = re.search(rf"^(?:(?:unfoldable|abbrev|pub) )*{re.escape(name)} : ", text, re.M)
     mark = re.compile(rf"^-- {re.escape(WRITTEN)}.*(?:\n--.*)*", re.M).search(text, signature.end())
     assert mark, f"no line says who writes clauses of {name}"
@@ -96,8 +94,7 @@ def with_constants(text, constants):
     return text[:block.start()] + "".join(f"    {line}\n" for line in lines) + text[block.end():]
 
 def with_runs(text, runs, mark):
-    """The text, with these declarations in place of each run of those that say that they are written; clauses stand at the end of a
-    paragraph."""
+    """The text, with these declarations in place of each run of written ones; clauses are at the end of a paragraph."""
     out, left, before = [], list(runs), False
     for paragraph in text.rstrip("\n").split("\n\n"):
         by_hand, marked, written = re.match(rf"(?s)(.*?)(^ *(?:--|//) {re.escape(mark)}.*|\Z)", paragraph, re.M).group(1, 2, 0)

@@ -9,9 +9,7 @@ from rules import TOKENS
 from rust_layout import arm, split
 
 FILE = "cpp_link/src/row_steps.rt"
-ITS_TYPES = "\n".join(["{", "                let name = self.node(symbol, first);",
-                       "                self.go(self.in_encoding(kept, place, closed_arguments(&self.nodes, symbol, name)))",
-                       "            }"])
+ITS_TYPES = template("cpp_link/its_types.rt").rstrip("\n")
 
 def made_step(step):
     """The first part becomes a tree."""
@@ -102,8 +100,7 @@ def passed_on(caller, callee, found, functions):
     return template("cpp_link/passed_on.antt", caller=caller, callee=callee, others=others)
 
 def shown_piece(text):
-    """A piece of a name as a tree and in code, by what is read of the first part; the call that reads it; and that the two are the same, by
-    what that call ensures."""
+    """A piece of a name as a tree and in code, by what is read of the first part; the call that reads it; and why the two agree."""
     if "(" not in text:
         return "values.piece_of v", "{0}.result", "piece_in", "{0}.ensures.is"
     name, inside = re.fullmatch(r"(\w+)\((.*)\)", text).groups()
