@@ -76,7 +76,6 @@ def table():
                  for symbol in [*[kind for kind in K if kind in used], *TOKENS]]
     names = [f"{number} {production}" for number, production in enumerate(P)]
     heads = [f"    {'takes' if ate else 'chains'}!({len(symbols)}), // {name}" for name, (ate, symbols) in zip(names, P.values())]
-
     def cells(symbols):
         return [f"Sym::Byte(b{symbol})" if sym_class(symbol) == "byte" else snake(symbol).upper() for symbol in symbols]
     rows = [symbol_row(cells(symbols), name) for name, (_, symbols) in zip(names, P.values())]

@@ -76,7 +76,6 @@ def following():
 def chains():
     """How many chains may be on one another at the beginning of each kind."""
     depth = {}
-
     def measure(kind):
         if kind not in depth:
             depth[kind] = -99

@@ -19,7 +19,6 @@ TABLE = {head: [columns(line) for line, _ in lines] for head, lines in sections(
 
 class Word:
     """A word with numbers of parts; and its forms: in definitions, in code, and in code of a step. Each is empty where it is by hand."""
-
     def __init__(self, word, *forms):
         pattern = re.escape(word)
         for hole, group in HOLES.items():
@@ -122,7 +121,6 @@ def gain(text):
 
 class Step:
     """What is done before a part: as a row says it, and as definitions have it; and the tree that the first part becomes, if it does."""
-
     def __init__(self, text=""):
         self.text, self.made, self.is_name = text, "", text.startswith("name = ")
         candidate = re.fullmatch(r"list (?:the name|type (?P<type>\d))(?:, (?P<place>.*))?", text)
@@ -159,7 +157,6 @@ def steps(text):
 
 class Row:
     """What a production does."""
-
     def __init__(self, means, before="", candidate="", packs="", tests="", nodes=0):
         self.means, (self.steps, self.others) = means, steps(before)
         self.before, self.onward = [step.definition for step in self.steps], self.others.definition

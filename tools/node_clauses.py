@@ -48,7 +48,6 @@ def views():
 def fields_of():
     """What is seen of a tree: production, two numbers, a text, parts."""
     numbers = SORTS["seen"]
-
     def right(tree):
         told = [numbers[sort].format(name) for name, sort in tree[1:] if sort in numbers]
         texts = [name if sort == BYTES else f"{name}.digits" for name, sort in arguments(tree, BYTES, SIGNED)]

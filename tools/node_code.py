@@ -10,7 +10,6 @@ from notation import answer, camel, together
 
 class Node:
     """A node: its name, its tree's, its arguments, the sorts of the tree's, and its fields (each with its name in code, sort and type)."""
-
     def __init__(self, words, tree, *given):
         others = [tuple(word.split(":")) for word in words if ":" in word]
         self.name = next((word for word in words if ":" not in word), camel(tree))
@@ -156,7 +155,6 @@ def noted_answers(crates, others):
 
 class Steps:
     """The calls so far, each with the arms in which it was: a step has the arm's name from the second call of its function on."""
-
     def __init__(self):
         self.arms = {}
 

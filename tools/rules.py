@@ -81,7 +81,6 @@ def families():
 
 class Reader:
     """What rules refer to: groups, and the first rule of each production."""
-
     def __init__(self, extended):
         self.extended, self.groups, self.first = extended, {}, {}
 

@@ -19,7 +19,6 @@ class Front:
 
 class Part:
     """A sort of part: a section of rust_parts.txt, by its words."""
-
     def __init__(self, head, lines):
         self.name, self.what = head.split(" ", 1)[1].split(": ")
         said = {}
@@ -97,7 +96,6 @@ def agrees(part):
 
 class Made:
     """What a production makes: a line of rust_nodes.txt."""
-
     def __init__(self, words, rule, what):
         self.rule, self.what = rule, what
         self.production, self.function, node, tree, *self.fields = words.split()

@@ -13,7 +13,6 @@ NO_FACT, CODES = "(omega arith)", r'codes "\w+"'
 
 class Part:
     """A part of a spelling: bytes, or a subtree in a way. Of two subtrees it says which it is."""
-
     def __init__(self, text):
         tree = re.fullmatch(r"(\w+)\.(as_\w+|under_qualifiers)", text)
         self.text, self.tree, self.way = text, tree and tree.group(1), tree and tree.group(2)
@@ -82,7 +81,6 @@ def arithmetic(*parts):
 
 class Spelling:
     """How a tree is spelled: the tree and its pattern, the sort of its spelling, its parts, where it is, and whether it fits nowhere."""
-
     def __init__(self, tree):
         head, *parts = SPELLED[tree[0]]
         self.tree, self.name, self.shape, self.parts = tree, tree[0], pattern(tree), list(map(Part, parts))
@@ -116,7 +114,6 @@ def size(of):
 def keeping(of):
     """Components stay, and those of a subtree that is closed are kept apart from others."""
     known, fact = "⊥ here (OrOpen R)" if of.sort == "encoding" else "open_ n R", "(λ x w. h x (inr w))" if of.sort == "prefix" else "h"
-
     def law(part, *rest):
         known_of = f"{known} {braced(part.spelled(of.here) if part.tree else part.text)}"
         own = f"keeps {part.tree} {known} way.{part.way} {part.side_of(fact)}" if part.tree else f"text-keeps {known_of}"
@@ -164,7 +161,6 @@ def growing(of):
 def short(of):
     """That a spelling is no longer than its size."""
     whole = braced(total(of.parts)) if of.sort == "type" else f"(size {of.shape})"
-
     def law(bound, part, *rest):
         here, text = of.here, braced(part.text)
         fact = f"all-short {part.tree} {here} way.{part.way}" if part.tree else f"bytes-short {bound} {text} {arithmetic(part)}"

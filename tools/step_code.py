@@ -114,7 +114,6 @@ def shown_piece(text):
 def pieces(done):
     """Each arm by which a piece comes after the name so far, as one record."""
     met = set()
-
     def called(name, production):
         step = f"c.{name}-in-{production}" if name in met else f"c.{name}"
         met.add(name)

@@ -209,7 +209,6 @@ def inside():
             return f"Shut (Inside {name} x) x"
         kind = itself_as(tree, name)
         return f"{kind}Or {name} (Inside {name} x) x" if kind else f"Inside {name} x"
-
     def right(tree):
         return " ⊎ ".join(part(tree, *argument) for argument in arguments(tree, *SUBTREES)) or None
     return cases("Inside", [], ["x"], right, "⊥", named(PRESSED))
