@@ -127,28 +127,13 @@ def with_names(text):
                       text, flags=re.M)
     return text
 
-def with_lines(text, template):
-    """The text, with the lines of each wrapper, each after the same line of the wrapper before."""
-    for line in filter(None, template.split("\n")):
-        own = filled(line)
+def with_texts(text, templates):
+    """The text, with these texts of each wrapper, each after the same text of the wrapper before."""
+    for own in map(filled, templates):
         assert text.count(own[0] + "\n") == 1, own[0]
         for before, after in zip(own, own[1:]):
             if after not in text:
                 text = text.replace(before + "\n", f"{before}\n{after}\n")
-    return text
-
-def with_choices(text, template):
-    """The text, with the clause of each wrapper after that of the wrapper before: the alternatives after it are one place further."""
-    head, body = template.split("\n")
-    front, back = head.split("(@CHOICE@)")
-    clauses, own = re.compile(rf"^{re.escape(front)}(\(.*\)){re.escape(back)}", re.M), filled(body)
-    assert own[0] in text, own[0]
-    for before, after in zip(own, own[1:]):
-        if after not in text:
-            start, end = text.index(before), text.index(before) + len(before)
-            choice = list(clauses.finditer(text, 0, start))[-1][1]
-            later = clauses.sub(lambda clause: f"{front}(inr {clause[1]}){back}", text[end:])
-            text = f"{text[:end]}\n{front}(inr {choice}){back}\n{after}{later}"
     return text
 
 def with_numbers(text):
@@ -167,4 +152,4 @@ def wrapper_edits():
         if mark == "===":
             yield path, with_declarations, [filled(text)]
         else:
-            yield path, with_lines if mark == "+++" else with_choices, [text]
+            yield path, with_texts, [list(filter(None, text.split("\n"))) if mark == "+++" else [text]]
