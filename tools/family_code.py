@@ -56,10 +56,10 @@ USES = [("crate::expressions", "first_letter second_letter".split()), ("crate::m
 def function(family, says, productions, rows):
     """The function of a family."""
     arms = []
-    for case, pattern, means in coded_cases({p: outcome(rows[p].means) for p in productions}):
+    for case, pattern, means in coded_cases({production: outcome(rows[production].means) for production in productions}):
         arms += [f"            // {line}" for line in ABOVE.get(case, [])]
         arms += arm(pattern, means)
-    is_asked = any(re.search(r"\bbyte\b", a) for a in arms if "//" not in a)
+    is_asked = any(re.search(r"\bbyte\b", line) for line in arms if "//" not in line)
     return template("cpp_link/family.rt", says=says, name=snake(family), family=family,
                     byte="        let byte = symbol[place as usize];\n" if is_asked else "", arms=arms).rstrip("\n")
 
@@ -68,13 +68,13 @@ def files():
     _, _, rows = grammar.wide()
     for module, said_of in FAMILIES.items():
         functions = "\n\n".join(function(family, says, families()[family], rows) for family, says in said_of.items())
-        code = "\n".join(l for l in functions.split("\n") if not l.strip().startswith("//"))
+        code = "\n".join(line for line in functions.split("\n") if not line.strip().startswith("//"))
         uses = []
         for path, names in USES:
-            used = [n for n in names if re.search(rf"(?<![\w.:]){n}(?=\(|::|,)", code)]
+            used = [name for name in names if re.search(rf"(?<![\w.:]){name}(?=\(|::|,)", code)]
             if used:
                 uses.append(f"use {path}::{used[0] if len(used) == 1 else '{' + ', '.join(used) + '}'};")
         uses += ["use crate::linked::Linked;", "use crate::part::{Outcome, Part, Surroundings};",
                  "use cpp_grammar::production::Production;"]
         yield f"cpp_link/src/{module}.rt", template("cpp_link/families.rt", says=SAYS[module],
-                uses=sorted(uses, key=lambda u: ("crate" not in u, u)), functions=functions)
+                uses=sorted(uses, key=lambda line: ("crate" not in line, line)), functions=functions)

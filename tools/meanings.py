@@ -223,7 +223,7 @@ def most_made(tree):
     return int(not tree.startswith("(only "))
 
 def rows(texts):
-    return {p: Row(**row) for p, row in texts.items()}
+    return {production: Row(**row) for production, row in texts.items()}
 
 # ## Definitions
 

@@ -14,7 +14,7 @@ def listed(text, function, lemma):
     found = {}
     for class_, production in re.findall(rf"^{lemma} (?:(\w+) )?Production\.(\w+) is =", text, re.M):
         found.setdefault(class_, []).append(production)
-    lines = [f"{function}{' ' + class_ if class_ else ''} = {''.join(f'Production.{p} ∷ ' for p in productions)}[]"
+    lines = [f"{function}{' ' + class_ if class_ else ''} = {''.join(f'Production.{name} ∷ ' for name in productions)}[]"
              for class_, productions in found.items()]
     return found, lines + ([f"{function} _ = []"] if "" not in found else [])
 
@@ -54,6 +54,6 @@ def declarations(crates):
     def pairs(terms):
         return "tt" if not terms else terms[0] if len(terms) == 1 else f"({terms[0]}, {pairs(terms[1:])})"
     grammar.build()
-    lines = [f"arms Kind.{kind} is = {pairs([term(kind, p) for bytes_, p in alternatives])}"
+    lines = [f"arms Kind.{kind} is = {pairs([term(kind, name) for _, name in alternatives])}"
              for kind, (empty, alternatives) in grammar.K.items() if kind in classes]
     yield f"{FOLDER}/Every.antt", "arms", [*lines, "arms _ is = absurd (false≢true is)"]

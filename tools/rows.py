@@ -19,7 +19,8 @@ PRESSING = READING + ["cpp_grammar.proofs.Reader"] + [f"cpp_press_laws.{module}"
     "specs.Same", "specs.Texts", "specs.Components", "specs.Pressing", "proofs.Rows.Row")]
 # names of those modules that no row needs
 UNUSED = "sheet sheet_before blank abi abi_before sheet_with choice_of class_of ranges_of rule_taken".split()
-UNPRESSED = "look_up builtin_texts operator_texts abbreviation_texts special_texts named_special_texts literal_endings see seen_tree".split()
+UNPRESSED = ("look_up builtin_texts operator_texts abbreviation_texts special_texts named_special_texts literal_endings see "
+             "seen_tree").split()
 REFUSED = {"BadReference": "refers_badly {0} {1}", "BadValue": "counts_badly {0} {1}", "Malformed": "has_no_shape {0}"}
 
 def quoted(text):

@@ -35,8 +35,9 @@ def letters_of(literals, after_d):
 ANY = {literal for _, _, literal in words.BUILTINS}
 CLASSES = {
     "@WORD": LETTERS + DIG + "_.$", "@DIGIT": DIG, "@HEX": DIG + "abcdef",
-    "@BUILTIN": letters_of(ANY, False), "@BUILTIN_WITH_D": letters_of(ANY, True), "@WIDE_BUILTIN": "".join(code[1] for code, _ in words.WIDE_BUILTINS),
-    "@INTEGER_TYPE": letters_of({words.INTEGER}, False), "@NULL_TYPE": letters_of({words.NULL}, True), "@CHARACTER_TYPE": letters_of({words.CHARACTER}, True),
+    "@BUILTIN": letters_of(ANY, False), "@BUILTIN_WITH_D": letters_of(ANY, True),
+    "@WIDE_BUILTIN": "".join(code[1] for code, _ in words.WIDE_BUILTINS), "@INTEGER_TYPE": letters_of({words.INTEGER}, False),
+    "@NULL_TYPE": letters_of({words.NULL}, True), "@CHARACTER_TYPE": letters_of({words.CHARACTER}, True),
     "@ABBREVIATION": "".join(letter for letter, _ in words.ABBREVIATIONS), "@SPECIAL": "".join(letter for letter, _ in words.SPECIALS),
     # of those of a name the ones after T
     "@NAMED_SPECIAL": "".join(code[1] for code, _ in words.NAMED_SPECIALS if code[0] == "T"),

@@ -71,9 +71,9 @@ def arms():
     """Each function, and the arms of its match."""
     for function, done in of_function(steps()).items():
         lines = []
-        for p, step in done.items():
-            x = code(step)
-            lines += [f"            Production::{p} => {x}"] if x == ITS_TYPES else arm(p, x)
+        for production, step in done.items():
+            shown = code(step)
+            lines += [f"            Production::{production} => {shown}"] if shown == ITS_TYPES else arm(production, shown)
         yield FILE, function, lines
 
 # the functions that are asked in turn, each with what the one before it hasn't done
@@ -89,14 +89,14 @@ def asked():
     found = steps()
     for function in ASKED:
         others = others_than(function, found, of_function(found))
-        yield FILE, function, [f"        requires {snake(p)} {{ production ≡ productions.{p} → ⊥ }}" for p in others]
+        yield FILE, function, [f"        requires {snake(name)} {{ production ≡ productions.{name} → ⊥ }}" for name in others]
 
 # ## Answers
 
 def passed_on(caller, callee, found, functions):
     """That what is asked with may be asked, and that what it ensures is what is to be ensured: each as one record."""
-    others = [f"  {snake(p)} = c.{f'in_default.not-{p}' if p in functions[caller] else f'requires.{snake(p)}'};"
-              for p in others_than(callee, found, functions)]
+    others = [f"  {snake(name)} = c.{f'in_default.not-{name}' if name in functions[caller] else f'requires.{snake(name)}'};"
+              for name in others_than(callee, found, functions)]
     return template("cpp_link/passed_on.antt", caller=caller, callee=callee, others=others)
 
 def shown_piece(text):
@@ -137,10 +137,10 @@ def answers():
 def symbol(part):
     return part if part in TOKENS else f"(OfKind {snake(part).upper()})"
 
-def flow(p, row, parts):
+def flow(production, row, parts):
     """How the candidates of a production flow, by its row: its lemma, with what it asks for; nothing where it is by hand, or as of most."""
     before = row.before[1] if len(row.before) == 2 and row.before[0] == "quiet" and row.onward == "quiet" else ""
-    name, first = f"Production.{p} refl around place", symbol(parts[0]) if parts else ""
+    name, first = f"Production.{production} refl around place", symbol(parts[0]) if parts else ""
     named = re.match(r"becomes .* (true|false) true false$", before)
     if named and row.form in ("a_name unlisted", "in_place"):
         kind, known = snake(parts[1]).upper(), dict(TABLE["after_names"])[parts[1]]
@@ -156,11 +156,11 @@ def flow(p, row, parts):
     if row.gain in ("type_of 0", "unqualified_of 0") and row.form == "finished 0":
         return f"{'typed' if row.gain == 'type_of 0' else 'unqualified'} {name} {first} refl (λ a v. refl) (λ v. refl) (λ v. refl)"
     if row.gain == "itself":
-        return f"own_type {name} _ (parts_of Production.{p}) refl refl refl (λ byte vs. refl) (λ vs. refl)"
+        return f"own_type {name} _ (parts_of Production.{production}) refl refl refl (λ byte vs. refl) (λ vs. refl)"
     return None
 
 def flows():
     """How candidates flow, for each production of which its row says it."""
     _, productions, rows = grammar.wide()
-    found = {p: flow(p, row, productions[p][1]) for p, row in rows.items()}
-    return [f"flows Production.{p} around place = {lemma}" for p, lemma in found.items() if lemma]
+    found = {name: flow(name, row, productions[name][1]) for name, row in rows.items()}
+    return [f"flows Production.{name} around place = {lemma}" for name, lemma in found.items() if lemma]
