@@ -223,6 +223,7 @@ def most_made(tree):
     return int(not tree.startswith("(only "))
 
 def rows(texts):
+    """The rows, of their words."""
     return {production: Row(**row) for production, row in texts.items()}
 
 # ## Definitions

@@ -16,6 +16,7 @@ from splicing import with_runs
 # ## The files
 
 def whole_files():
+    """The files of which all is written."""
     yield "rust_v0/src/operands.rt", template("rust_v0/operands.rt", operands="\n\n".join(map(read_in_code, PARTS.values())))
     yield "rust_v0/specs/CodeOperands.antt", template("rust_v0/CodeOperands.antt", operands="\n\n".join(map(read_in_specs, PARTS.values())))
     yield "rust_v0/proofs/OperandLemmas.antt", template("rust_v0/OperandLemmas.antt", lemmas="\n\n".join(map(agrees, PARTS.values())))

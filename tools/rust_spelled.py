@@ -117,6 +117,7 @@ class Kept:
         kind = made.of.upper()
         self.kind, self.byte = "kind" if made.of == "path" else str(NUMBERS.index(kind)), str(ord(rust_grammar.KINDS[kind][0][letter][0]))
     def kinds_from(self, first):
+        """The kinds of the parts from one on."""
         return f"({''.join(f'{kind} ∷ ' for kind in self.kinds[first:])}[])"
     def press_from(self, first):
         """The pressing of the parts from one on."""

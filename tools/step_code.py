@@ -135,6 +135,7 @@ def answers():
 # ## Which candidates become of a production
 
 def symbol(part):
+    """A symbol of a rule, in definitions."""
     return part if part in TOKENS else f"(OfKind {snake(part).upper()})"
 
 def flow(production, row, parts):
