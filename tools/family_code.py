@@ -1,6 +1,7 @@
 """Writes the code of cpp_link for what rare productions stand for, a function for each family of productions, from their rows in
 grammar.py."""
 import re
+
 import grammar
 from files import sections, template
 from notation import snake

@@ -166,8 +166,7 @@ class Steps:
         return f"c.{call}" + (f"-in-{arm}" if len(arms) > 1 else "") + (f"-{again}" if 1 < again < len(arms) else "")
 
 def told(node, shown, step):
-    """The answers of a node of which another call tells more, by what the table says: the lemma, what it takes beside the node and the
-    call's texts, and where that call asks for a bound, its name and which of the node's it is."""
+    """The answers of a node of which another call tells more: by which lemma, from what, and where that asks for a bound."""
     lemma, fields, others, *bound = node.said("told").split(" | ")
     call = node.said("seen").partition("(")[0]
     own = step(call, node.name)

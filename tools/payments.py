@@ -1,6 +1,7 @@
 """Of the proofs that a symbol's bytes pay for what is pressed of it (Short of cpp_press_laws): the lists of productions that are shown
 alike, from the clauses that show them, and for each kind which lemma each of its productions has, from the grammar."""
 import re
+
 import grammar
 from files import read
 from notation import dashed

@@ -149,8 +149,7 @@ def family_answers(family, productions):
     return template("cpp_link/unreachable.antt", name=snake(family), others=others)
 
 def common_answers():
-    """The names and the answers of the functions that have an arm for each common production: others are rare. What `finish_rule` hands to
-    `finish_as`, and what it has from it, is passed on; the ABI's reading refuses a constructor that is inherited."""
+    """The names and the answers of the functions with an arm for each common production: others are rare, or are passed on."""
     others = [f"  not_{snake(name)} = c.in_default.not-{name};" for name in common()]
     handed = [template("cpp_link/handed.antt", production=name, at="" if name == common()[0] else f"-in-{name}").rstrip("\n")
               for name in common()]

@@ -101,8 +101,7 @@ def made_good(made):
 NUMBERS = list(rust_grammar.KINDS)
 
 class Kept:
-    """The rule of a production that makes a tree, as it is pressed: its parts and their names in the tree, the tree and its value, its
-    kinds (a byte of its own among them), the rule, and the kind and the byte at which it is taken"""
+    """The rule of a production that makes a tree, as it is pressed: parts, names, tree, value, kinds, and where it is taken."""
     def __init__(self, made):
         self.made, self.ends = made, made.of in ("path", "type")
         self.parts, self.names = made.parts, names_of([part.name for part in made.parts])

@@ -1,6 +1,7 @@
 """The code of cpp_link for what is done before the parts of a production, the facts that a function is asked with, and the answers of those
 that hand on what they have no arm for, from the rows of grammar.py. trees.py writes it."""
 import re
+
 import grammar
 from files import template
 from meanings import ALL_PARTS, CODE, PARTS, STEP, TABLE, made_in_code, piece_in_code, said

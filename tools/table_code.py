@@ -6,8 +6,7 @@ FIRST, LAST = ord("$"), ord("z")
 MOST_SYMBOLS = 5
 
 def letter_rows(name, kinds, bases=None):
-    """The table of the rows by kind: what a kind takes by byte, as a byte string. With bases a row begins with its own, and a macro makes
-    it."""
+    """The table of rows by kind: what is taken by byte, as a byte string. With bases each row has its own, and a macro makes it."""
     columns = "".join(chr(byte) for byte in range(FIRST, LAST + 1))
     row, opened, closed = ("Row", "rows! {", "}") if bases else (f"[u8; {LAST - FIRST + 1}]", "[", "]")
     yield f"static {name}: [{row}; {len(kinds)}] = {opened}"

@@ -109,8 +109,7 @@ def text_answers():
 # ## cpp_layout's numbers of codes
 
 class Coded:
-    """A function from a letter to the number of a text: what is looked up by it, the group of the texts, the letters with their texts and
-    their places in the group, the lemma of other letters, and the name of the list of these."""
+    """A function from a letter to the number of a text of a group: what it looks up, its rows and letters, its list and its lemma."""
     def __init__(self, name, says, entries, table, letters="", code="letter ∷ []", dropped=False):
         self.name, self.says, self.dropped, self.letters = name, says, dropped, f"{letters or name}_letters"
         self.group, self.lemma = name.removesuffix("_with_d").upper(), f"no_{letters or name}"
