@@ -124,6 +124,7 @@ compared() { tests/compare.py "$@" <"$work/symbols"; }
 costs() { tools/pack.sh "$work/packed" && tests/costs.py "$work/packed/libsymdemangle.so" "$module" <"$work/symbols"; }
 
 try written tools/write.py --check
+try tables tests/tables.py
 try stored tests/stored.sh
 try edges tests/edges.sh "$symfilt" "$demangle"
 try process tests/process.sh "$demangle"

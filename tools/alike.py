@@ -1,5 +1,5 @@
-"""Writes answers that are alike for the arms or the exits of a function: from these in the code and the table alike.txt to answers in the function's
-file of answers."""
+"""Writes answers that are alike for the arms or the exits of a function: from these in the code and the table alike.txt to answers in the
+function's file of answers."""
 import os
 import re
 
@@ -24,12 +24,13 @@ def constants(crates, path, module):
     return dict(re.findall(r"^pub const (\w+): \w+ = (\d+);", text, re.M))
 
 def exits(crates, path, function, *calls):
-    """Each clause of what is so where a function answers, at each call at which it may end with a refusal. The step that hands the refusal on has
-    the call's name from the second on."""
+    """Each clause of what is so where a function answers, at each call at which it may end with a refusal; with the step that forwards
+    it."""
     contract = re.search(rf"^ *(?:pub(?:\([a-z]+\))? )?fn {function}\b.*?^ *{{\n", read(f"{crates}/{path}"), re.M | re.S)[0]
     for call in calls:
         step = "from_residual" if call == calls[0] else f"from_residual-in_err-{call}"
-        yield from ({"arm": call, "call": step, "clause": clause} for clause in re.findall(r"^ *ensures (\w+) { (?:IfOk|OnOk) result", contract, re.M))
+        yield from ({"arm": call, "call": step, "clause": clause} for clause in re.findall(r"^ *ensures (\w+) { (?:IfOk|OnOk) result",
+                contract, re.M))
 
 def files(crates):
     """The files that have such answers, by their paths in the folder of the crates, and their texts."""
@@ -45,7 +46,8 @@ def files(crates):
         shown, path = "\n".join(answer(goal, value, said.get("unfolding"), given)), f"{folder}/Answers.antt"
         text = read(f"{crates}/{path}")
         if "arms" in said:
-            texts[path] = with_runs(text, [[fill(f"-- {WRITTEN}\n{shown}", arm=arm, call=call) for arm, call in arms(crates, *said["arms"].split())]], WRITTEN)
+            texts[path] = with_runs(text, [[fill(f"-- {WRITTEN}\n{shown}", arm=arm, call=call)
+                                            for arm, call in arms(crates, *said["arms"].split())]], WRITTEN)
         else:
             texts[path] = with_declarations(text, [fill(shown, **holes) for holes in exits(crates, *said["exits"].split())], WRITTEN)
     return texts

@@ -1,34 +1,40 @@
-"""C++'s trees: from the table cpp_trees.txt to the lists of trees, spellings and names that the other scripts read."""
+"""C++'s trees: from the tables cpp_trees.txt and cpp_sorts.txt to the lists of trees, spellings and names that the other scripts read."""
 import shlex
+from collections import defaultdict
 
 from files import sections
 from notation import camel
 
 # what an argument is
 OWN, OUTSIDE, INSIDE, SIGNATURE, TREE, PIECE = "own", "outside", "inside", "signature", "tree", "piece"
-BYTES, NUMBER, TRUTH, QUALIFIERS, MARK, SIGNED, THUNK, DISCRIMINATOR = "bytes", "number", "truth", "qualifiers", "mark", "signed", "thunk", "discriminator"
+BYTES, NUMBER, TRUTH, QUALIFIERS, MARK = "bytes", "number", "truth", "qualifiers", "mark"
+SIGNED, DISCRIMINATOR = "signed", "discriminator"
+
+# what is said of the arguments of a sort, by the word that says it
+SORTS = defaultdict(dict)
+for sort, lines in sections("cpp_sorts.txt"):
+    for word, _, text in (line.partition(" ") for line, _ in lines):
+        SORTS[word][sort] = text
 
 # Each tree with its arguments: (name, (argument, what it is), ..). What goes through a tree by its arguments alone is written from here.
-TREES = []
-# how each is pressed: the sort of its spelling, and its parts; and what it needs so that it fits
-SPELLED, FITTING = {}, {}
+# An alias is a tree of a node, and none of its own.
+TREES, ALIASES = [], []
+# how each is pressed: the sort of its spelling, and its parts
+SPELLED = {}
 COMPONENTS, ENCODINGS = [], []
-# by tree: what is said of its node, what a type is whose left parts end otherwise than a plain one's, its node, what is noted and seen of that
-BELOW = {"says": {}, "head": {}, "node": {}, "noted": {}, "seen": {}, "fields": {}, "told": {}}
-SAYS, HEADS, NODES, NOTED, SEEN, FIELDS, TOLD = BELOW.values()
-# and the trees that have the fields of what is seen, by production
-FROM = {}
-# the right sides of clauses that aren't as a tree's arguments say, by definition or law; none where there is no clause
-CLAUSES = {}
+# what is said of a tree below it, by the word that says it: for most words a text; for some the texts of all lines with the word
+BELOW = defaultdict(dict)
+OF_LINES = ("fits", "from", "node", "before", "by_hand", "unfolding")
+# the right sides of clauses that aren't as a tree's arguments say, by definition or law: none where there is no clause; and whole clauses
+CLAUSES, CASES = defaultdict(dict), defaultdict(dict)
 # <type> ::= <letter> <type>: tree, production, letter; the text after the type; and what is said of its number
 WRAPPERS, TEXTS, NUMBERED = [], {}, {}
-# names of arguments elsewhere, by where that is
-NAMES = {}
-
+# names of arguments elsewhere, by where that is: of a tree's argument, or of those of this name
+NAMES = defaultdict(dict)
 
 def enter(name, arguments, sort="", *spelling):
     """Enters a tree."""
-    TREES.append((name, *(tuple(argument.split(":")) for argument in arguments)))
+    (ALIASES if sort == "alias" else TREES).append((name, *(tuple(argument.split(":")) for argument in arguments)))
     if sort == "component":
         COMPONENTS.append(name)
     if sort.endswith("encoding"):
@@ -36,19 +42,22 @@ def enter(name, arguments, sort="", *spelling):
     if spelling or sort.startswith("nowhere"):
         SPELLED[name] = (sort, *spelling)
 
-
 def enter_below(name, line):
     """Enters what is said of a tree below it."""
     word, _, rest = line.partition(" ")
-    if word.startswith("clause"):
-        of, _, right = rest.partition(" ")
-        CLAUSES.setdefault(of, {})[name] = (f"\n    {right}" if word == "clause_below" else right) or None
-    elif word in ("fits", "from"):
-        said = {"fits": FITTING, "from": FROM}[word]
-        said[name] = [*said.get(name, []), *filter(None, [rest])]
+    of, _, right = rest.partition(" ")
+    if word == "clause":
+        CLAUSES[of][name] = right or None
+    elif word == "clause_below":
+        CLAUSES[of][name] = f"{CLAUSES[of].get(name, '')}\n    {right}"
+    elif word == "case":
+        CASES[of].setdefault(name, []).append(rest)
+    elif word == "names":
+        NAMES[of].update({(name, argument): called for argument, called in (pair.split("=") for pair in right.split())})
+    elif word in OF_LINES:
+        BELOW[word].setdefault(name, []).extend([rest] if rest else [])
     else:
         BELOW[word][name] = rest
-
 
 def enter_wrapper(name, letter, text, numbered):
     """Enters a component that is a letter before a type, and is printed as that type with a text after it."""
@@ -58,11 +67,9 @@ def enter_wrapper(name, letter, text, numbered):
     TEXTS[name.upper()] = text
     NUMBERED[name.upper()] = numbered
 
-
 for head, below in sections("cpp_trees.txt"):
     if head.startswith("names "):
-        pairs = [pair.split("=") for line, _ in below for pair in line.split()]
-        NAMES[head.split()[1]] = {tuple(of.split(".")) if "." in of else of: name for of, name in pairs}
+        NAMES[head.split()[1]].update(pair.split("=") for line, _ in below for pair in line.split())
     elif head.startswith("wrapper "):
         enter_wrapper(*shlex.split(head)[1:])
     else:
@@ -72,7 +79,12 @@ for head, below in sections("cpp_trees.txt"):
         for line, _ in below:
             enter_below(tree, line)
 PRESSED, SCOPES, VIEWED, NAMED = (NAMES[where] for where in ("pressed", "scopes", "viewed", "code"))
+# the trees that are pieces of names
+PIECES = [tree for tree, (sort, *_) in SPELLED.items() if sort.split()[-1:] == ["piece"]]
 
+def called(names, tree, argument):
+    """The name of a tree's argument, by these names."""
+    return names.get((tree, argument), names.get(argument, argument))
 
 def named(names, first=(), last=()):
     """The trees with these names of arguments, some of them in front and some at the end."""
@@ -80,6 +92,5 @@ def named(names, first=(), last=()):
         if row[0] in first:
             return first.index(row[0])
         return len(first) + (1 + last.index(row[0]) if row[0] in last else 0)
-
-    trees = [(own, *((names.get((own, name), names.get(name, name)), sort) for name, sort in arguments)) for own, *arguments in TREES]
+    trees = [(tree, *((called(names, tree, name), sort) for name, sort in arguments)) for tree, *arguments in TREES]
     return sorted(trees, key=place)

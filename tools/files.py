@@ -9,7 +9,6 @@ from functools import lru_cache
 TABLES, TEMPLATES = (os.path.join(os.path.dirname(os.path.abspath(__file__)), folder) for folder in ("tables", "templates"))
 NOTHING = object()
 
-
 def read(path, otherwise=NOTHING):
     """The text of a file, or another value where there is no such file, if one is given."""
     if otherwise is not NOTHING and not os.path.exists(path):
@@ -17,13 +16,11 @@ def read(path, otherwise=NOTHING):
     with open(path, encoding="utf-8", errors="replace") as file:
         return file.read()
 
-
 def sources(folder):
     """The path of each source below a folder. What checks leave in `out` is no source."""
     for at, folders, names in os.walk(folder):
         folders[:] = [name for name in folders if name != "out"]
         yield from (os.path.join(at, name) for name in sorted(names) if name.endswith((".rt", ".antt")))
-
 
 def load(path):
     """The Python module at a path."""
@@ -32,7 +29,6 @@ def load(path):
     sys.modules[spec.name] = module
     spec.loader.exec_module(module)
     return module
-
 
 @lru_cache(maxsize=None)
 def sections(name):
@@ -49,6 +45,9 @@ def sections(name):
         above = []
     return found
 
+def columns(line):
+    """What is between the bars of a line."""
+    return [column.strip() for column in re.split(r" \|(?= |$)", line)]
 
 def entries(name):
     """The entries of a table by their first words, each with its other words. One with a blank in it is in quotes."""
@@ -58,17 +57,15 @@ def entries(name):
         found.setdefault(sort, []).append(tuple(words))
     return found
 
-
 def fill(text, /, **holes):
-    """The text, in which each `@HOLE@` is filled: with a text, or with lines, which take the place of its line."""
+    """The text, in which each `@HOLE@` is filled: with a text or a number, or with lines, which take the place of its line. What ends in
+    `_COUNT` is how many lines there are."""
     def filled(match):
-        value = holes[match[1].lower()]
-        return value if isinstance(value, str) else "\n".join(map(str, value))
-
+        name = match[1].lower()
+        value = holes[name] if name in holes else len(holes[name.removesuffix("_count")])
+        return str(value) if isinstance(value, (str, int)) else "\n".join(map(str, value))
     return re.sub(r"@([A-Z_]+)@", filled, text)
 
-
 def template(name, /, **holes):
-    """The text of a template, filled. A template is a file of the name that it is called by and `.in`: the gate takes each `.rt` and
-    `.antt` outside of a crate for a file that it forgot to read."""
+    """The text of a template, filled: of a file with `.in` after its name, since the gate asks for each other `.rt` and `.antt`."""
     return fill(read(f"{TEMPLATES}/{name}.in"), **holes)

@@ -2,10 +2,8 @@
 """The C++ grammar as a table, and what is written from it.
 
     grammar.py laws        checks the laws of the three grammars, and says how large they are
-    grammar.py markdown    prints the table to read
 
 The rules are in the tables that rules.py reads."""
-import sys
 from functools import lru_cache
 
 import grammar_code
@@ -15,13 +13,11 @@ import words
 from grammar_laws import begins_symbol, empty, klass, laws, sym_class
 from rules import DECIMAL, DIGITS, K, MARKED, NAME, P, ROWS, SEQ36, build
 
-
 def rows():
     """What each production does."""
     if not ROWS:
         build()
     return meanings.rows({production: ROWS[production] for production in P})
-
 
 @lru_cache(maxsize=None)
 def wide():
@@ -31,14 +27,12 @@ def wide():
     build()
     return found
 
-
 def lawful(extended=True, widened=False):
     """Enters one of the grammars, and returns what its laws say of each kind."""
     build(extended, widened)
     bad, *found = laws()
     assert not bad, bad
     return found
-
 
 def files():
     """What is written: each file's path in the folder of the crates, and its text."""
@@ -52,34 +46,23 @@ def files():
     yield from grammar_code.wide_files(after, depth, height)
     lawful()
     yield from grammar_code.abi_files()
-    skips = [production for production, (_, symbols) in P.items() if any(sym_class(symbol) == "byte" or empty(symbol) for symbol in symbols[:-1])]
+    skips = [production for production, (_, symbols) in P.items() if any(sym_class(symbol) == "byte" or empty(symbol)
+            for symbol in symbols[:-1])]
     yield from words.files({production: symbols for production, (_, symbols) in P.items()}, rows(), skips)
     yield from meanings.files(rows())
     yield from sorts.files(*wide())
-
-
-def markdown():
-    """Prints the table to read."""
-    build(widened=True)
-    print("| Kind | Empty | Rules (those in parentheses of the wide grammar alone) |\n|---|---|---|")
-    for kind, (may_be_empty, rules) in K.items():
-        cells = []
-        for cls, production in rules:
-            cell = " ".join([f"`{cls}`" if cls is not None else "chain", f"**{production}**", *P[production][1]])
-            cells.append(f"({cell})" if (kind, cls, production) in MARKED else cell)
-        print(f"| {kind} | {'yes' if may_be_empty else ''} | {'; '.join(cells)} |")
-
 
 def print_laws():
     """Prints how large each of the grammars is, and its faults."""
     for extended, widened in ((False, False), (True, False), (True, True)):
         build(extended, widened)
         bad, _, depth, height = laws()
-        print(f"{'with' if extended else 'without'} vector, noexcept and complex types{', wide' if widened else ''}: {len(K)} kinds, {len(P)} productions, "
-              f"{sum(len(rules) for _, rules in K.values())} rules; most chains {max(depth.values())}, tallest completion {max(height.values())}")
+        which = f"{'with' if extended else 'without'} vector, noexcept and complex types{', wide' if widened else ''}"
+        rules = sum(len(rules) for _, rules in K.values())
+        print(f"{which}: {len(K)} kinds, {len(P)} productions, {rules} rules; most chains {max(depth.values())}, tallest completion "
+              f"{max(height.values())}")
         for fault in bad:
             print("  BAD", fault)
 
-
 if __name__ == "__main__":
-    {"laws": print_laws, "markdown": markdown}[sys.argv[1]]()
+    print_laws()

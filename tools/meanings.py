@@ -1,31 +1,96 @@
-"""What each production does: from its row to definitions of cpp_grammar, and to how many nodes it makes. grammar.py calls it; cpp_names.txt says what
-the words of a row mean."""
+"""What each production does: from its row and the table of its words, cpp_words.txt, to definitions of cpp_grammar, to how many nodes it
+makes and to the code of what is made. grammar.py calls it; cpp_names.txt says what the words of a row mean."""
 import re
+
 import cpp_trees
-from files import template
-from notation import applied, braced, listed
-from row_words import said
-from productions import defined, defined_cases
-from rules import ABOVE, ALIKE
+from cpp_trees import NAMED, NUMBER, TREES, called
+from files import columns, sections, template
+from node_code import nodes
+from notation import applied, braced, camel, listed
+from rules import ABOVE, ALIKE, defined, defined_cases
 from rust_layout import split
-from cpp_trees import BYTES, NUMBER, TRUTH, QUALIFIERS, MARK, SIGNED, DISCRIMINATOR
+
+# ## The table of words
+
+# what a part is called in a step
+PARTS = ["first", "second", "third"]
+HOLES = {"$1": r"(?P<hole_1>\d)", "$2": r"(?P<hole_2>\d)", "$c": "(?P<hole_c>.)"}
+TABLE = {head: [columns(line) for line, _ in lines] for head, lines in sections("cpp_words.txt")}
+
+class Word:
+    """A word with numbers of parts; and its forms: in definitions, in code, and in code of a step. Each is empty where it is by hand."""
+    def __init__(self, word, *forms):
+        pattern = re.escape(word)
+        for hole, group in HOLES.items():
+            pattern = pattern.replace(re.escape(hole), group)
+        self.pattern, self.forms = re.compile(pattern), forms
+
+    def said(self, text, form, nodes_made):
+        """What a text is, if it is this word; with parts, letters and how many nodes are made."""
+        found = self.pattern.fullmatch(text)
+        if not found:
+            return None
+        holes = {name[-1]: value for name, value in found.groupdict().items()}
+        holes |= {"n": str(nodes_made), "o": str(ord(holes.get("c", " "))), "p": PARTS[min(int(holes.get("1", 0)), 2)]}
+        return re.sub(r"\$([12cnop])", lambda hole: holes[hole[1]], self.forms[form])
+
+DEFINITION, CODE, STEP = 0, 1, 2
+WORDS = {section: [Word(*line) for line in TABLE[section]] for section in ("means", "arguments", "places", "steps")}
+# of which sort an argument is, and which sorts of a part it reads, by the word of its definition
+SOURCES = {line[1].split()[0]: line[4:] for line in TABLE["arguments"]}
+
+def said(section, text, form=DEFINITION, nodes_made=0):
+    """What a text of such words is, if it is one."""
+    return next((found for word in WORDS[section] if (found := word.said(text, form, nodes_made)) is not None), None)
+
+# ## Code of what is made
+
+def filled(path, names, given):
+    """A node or a piece of what it is given: with names, if there are several."""
+    if len(names) > 1:
+        return f"{path} {{ {', '.join(f'{name}: {part}' for name, part in zip(names, given))} }}"
+    return f"{path}({', '.join(given)})" if given else path
+
+def made_of(text, form):
+    """The tree that a text makes, and the code of what it is given."""
+    name, inside = re.fullmatch(r"(\w+)\((.*)\)", text).groups()
+    return name, [said("arguments", argument, form) for argument in split(inside)]
+
+def made_in_code(text, form=CODE):
+    """A node that is made, in code."""
+    name, given = made_of(text, form)
+    if name == "builtin":
+        return f"Node::Builtin{'WithD' if 'D' in text else ''}(byte)"
+    node = next(node for node in nodes() if node.tree == name)
+    return filled(f"Node::{node.name}", [field for field, _, _ in node.fields], given)
+
+def piece_in_code(text, form=CODE):
+    """A piece of a name, in code. One of numbers alone has no names."""
+    if "(" not in text:
+        return said("arguments", text, form)
+    name, given = made_of(text, form)
+    arguments = next(arguments for tree, *arguments in TREES if tree == name)
+    is_named = any(sort != NUMBER for _, sort in arguments)
+    return filled(f"Piece::{camel(name)}", [called(NAMED, name, argument) for argument, _ in arguments if is_named], given)
 
 # ## The words of a row
 
 def source(text):
     """An argument of a tree."""
-    if known := said("arguments", text): return known
-    if m := re.fullmatch(r"'(.)'", text): return f"fixed {ord(m[1])}"
-    if m := re.fullmatch(r"l(\d) or '(.)'", text): return f"letter_or {m[1]} {ord(m[2])}"
-    if m := re.fullmatch(r"l(\d) is '(.)'", text): return f"letter_is {m[1]} {ord(m[2])}"
+    if known := said("arguments", text):
+        return known
     return "qualified_by " + " ".join(map(braced, map(source, split(re.fullmatch(r"marks\((.*)\)", text)[1]))))
 
 def made(text):
     """A tree that is made."""
-    if m := re.fullmatch(r"name \+ (.*)", text): return f"extending ({made(m[1])})"
-    if m := re.fullmatch(r"tagged\(name, x(\d)\)", text): return f"tagging {m[1]}"
-    if m := re.fullmatch(r"packed\(i(\d)\)", text): return f"packing {m[1]}"
-    if m := re.fullmatch(r"(.*) applied to (\d)", text): return f"applying ({made(m[1])}) {m[2]}"
+    if m := re.fullmatch(r"name \+ (.*)", text):
+        return f"extending ({made(m[1])})"
+    if m := re.fullmatch(r"tagged\(name, x(\d)\)", text):
+        return f"tagging {m[1]}"
+    if m := re.fullmatch(r"packed\(i(\d)\)", text):
+        return f"packing {m[1]}"
+    if m := re.fullmatch(r"(.*) applied to (\d)", text):
+        return f"applying ({made(m[1])}) {m[2]}"
     if m := re.fullmatch(r"(\w+)\((.*)\)", text):
         sources = listed(map(source, split(m[2])))
         return f"of new_{m[1]} " + (f"({sources})" if m[2] else sources)
@@ -38,108 +103,134 @@ def pair(means):
 
 def form(text, nodes):
     """What a production denotes."""
-    if known := said("means", text, nodes=nodes): return known
-    if text.startswith("pair("): return "a_pair " + " ".join(map(braced, pair(text)))
-    if m := re.fullmatch(r"piece (.*)", text): return f"a_piece ({made(m[1])})"
+    if known := said("means", text, nodes_made=nodes):
+        return known
+    if text.startswith("pair("):
+        return "a_pair " + " ".join(map(braced, pair(text)))
+    if m := re.fullmatch(r"piece (.*)", text):
+        return f"a_piece ({made(m[1])})"
     tree, mark = re.fullmatch(r"(.*?)(, listed)?", text).groups()
     return f"makes ({made(tree)}) {'listed' if mark else 'unlisted'}"
 
 def gain(text):
     """What becomes a candidate."""
-    if text in ("", "itself"): return text or "nothing"
+    if text in ("", "itself"):
+        return text or "nothing"
     word, part = text.split()
     return f"{word}_of {part}"
 
-def step(text):
-    """What is done before a part."""
-    if known := said("steps", text): return known
-    if known := said("places", text): return f"goes nothing {braced(known)}"
-    if text == "list the name": return "goes the_prefix as_before"
-    if m := re.fullmatch(r"list the name, (.*)", text): return f"goes the_prefix {braced(said('places', m[1]))}"
-    if m := re.fullmatch(r"list type (\d)", text): return f"goes (type_of {m[1]}) as_before"
-    tree, *marks = split(re.fullmatch(r"(?:name = )?(.*)", text)[1])
-    return f"becomes ({made(tree)}) {str(bool(marks) and 'unlisted' not in marks).lower()} {str(text.startswith('name = ')).lower()} {str('candidate' in marks).lower()}"
+class Step:
+    """What is done before a part: as a row says it, and as definitions have it; and the tree that the first part becomes, if it does."""
+    def __init__(self, text=""):
+        self.text, self.made, self.is_name = text, "", text.startswith("name = ")
+        candidate = re.fullmatch(r"list (?:the name|type (?P<type>\d))(?:, (?P<place>.*))?", text)
+        if not text or said("steps", text):
+            self.definition = said("steps", text) or "quiet"
+        elif said("places", text):
+            self.definition = f"goes nothing {braced(said('places', text))}"
+        elif candidate:
+            of = f"(type_of {candidate['type']})" if candidate["type"] else "the_prefix"
+            self.definition = f"goes {of} {braced(said('places', candidate['place'] or 'in a literal'))}"
+        else:
+            self.made, *marks = split(text.removeprefix("name = "))
+            self.is_listed, self.is_candidate = bool(marks) and "unlisted" not in marks, "candidate" in marks
+            marked = [str(mark).lower() for mark in (self.is_listed, self.is_name, self.is_candidate)]
+            self.definition = " ".join([f"becomes ({made(self.made)})", *marked])
+
+    def made_before(self):
+        """How many nodes are made at most."""
+        word = self.definition.split()[0]
+        return most_made(self.definition[len("becomes "):]) if word == "becomes" else int(word in ("tests", "holds"))
 
 def steps(text):
     """What is done before each part as far as it is said by its number, and before the others."""
-    at, others = {}, "quiet"
+    at, others = {}, Step()
     for part in text.split("; ") if text else []:
         where, what = part.split(": ")
-        if where.isdigit(): at[int(where)] = step(what)
+        if where.isdigit():
+            at[int(where)] = Step(what)
         else:
-            others = step(what)
-            if m := re.fullmatch(r"rest after (\d)", where): at.setdefault(int(m[1]), "quiet")
-    return [at.get(i, "quiet") for i in range(max(at) + 1)] if at else [], others
+            others = Step(what)
+            if m := re.fullmatch(r"rest after (\d)", where):
+                at.setdefault(int(m[1]), Step())
+    return [at.get(i, Step()) for i in range(max(at) + 1)] if at else [], others
 
 class Row:
+    """What a production does."""
     def __init__(self, means, before="", candidate="", packs="", tests="", nodes=0):
-        self.means, (self.before, self.onward) = means, steps(before)
-        self.form, self.gain, self.restores_packs, self.tests_number = form(means, nodes), gain(candidate), packs == "own", tests == "number"
+        self.means, (self.steps, self.others) = means, steps(before)
+        self.before, self.onward = [step.definition for step in self.steps], self.others.definition
+        self.form, self.gain = form(means, nodes), gain(candidate)
+        self.restores_packs, self.tests_number = packs == "own", tests == "number"
+
+    def step(self, part):
+        """What is done before a part."""
+        return self.steps[part] if part < len(self.steps) else self.others
 
     def definition(self):
         """The row as the definition has it: what it does beside most, around what its parts become."""
         form, before, onward = named(self.form), listed(map(named, self.before)), named(self.onward)
         row = f"plain {braced(form)}"
-        if self.before and self.onward != "quiet": row = f"after_first ({before}) {braced(onward)} {braced(form)}"
-        elif self.before: row = f"after_steps ({before}) {braced(form)}"
-        elif self.onward != "quiet": row = f"throughout {braced(onward)} {braced(form)}"
-        if self.gain != "nothing": row = f"gains {braced(self.gain)} ({row})"
-        if self.restores_packs: row = f"with_own_packs ({row})"
-        if self.tests_number: row = f"with_number_tested ({row})"
-        return row
+        if self.before and self.onward != "quiet":
+            row = f"after_first ({before}) {braced(onward)} {braced(form)}"
+        elif self.before:
+            row = f"after_steps ({before}) {braced(form)}"
+        elif self.onward != "quiet":
+            row = f"throughout {braced(onward)} {braced(form)}"
+        if self.gain != "nothing":
+            row = f"gains {braced(self.gain)} ({row})"
+        if self.restores_packs:
+            row = f"with_own_packs ({row})"
+        return f"with_number_tested ({row})" if self.tests_number else row
 
     def quiet(self):
         """Before how many of its parts nothing is done: none, the first ones, or all, which are five at most."""
-        for n, before in enumerate(self.before):
-            if before != "quiet": return n
-        return ALL_PARTS if self.onward == "quiet" else len(self.before)
+        loud = [part for part, before in enumerate(self.before) if before != "quiet"]
+        return loud[0] if loud else ALL_PARTS if self.onward == "quiet" else len(self.before)
 
     def made_before(self):
         """How many nodes are made at most before each part, as far as some are."""
-        assert not most_before(self.onward)
-        counts = [most_before(before) for before in self.before]
-        while counts and not counts[-1]: counts.pop()
+        assert not self.others.made_before()
+        counts = [step.made_before() for step in self.steps]
+        while counts and not counts[-1]:
+            counts.pop()
         return counts
 
     def made_at_end(self):
         """How many nodes are made at most once its parts are read."""
         word, *others = self.form.split()
-        if word == "makes": return most_made(self.form[len("makes "):])
-        if word == "own": return int(others[1])
-        if word == "a_pair": return sum(most_made(braced(tree)) for tree in pair(self.means)[1:])
-        return 1 if word in ("cell", "item", "a_name", "in_place") else 0
+        if word == "makes":
+            return most_made(self.form[len("makes "):])
+        if word == "own":
+            return int(others[1])
+        if word == "a_pair":
+            return sum(most_made(braced(tree)) for tree in pair(self.means)[1:])
+        return int(word in ("cell", "item", "a_name", "in_place"))
 
-# How a row names the arguments of what is in it: each text of definitions, with numbers of parts, as the row has it. Rows.antt says what the names mean.
-NAMES = [(re.compile(old), new) for old, new in (
-    (r"becomes (\(.*\)) false true false", r"becomes_name \1"), (r"becomes (\(.*\)) true true false", r"becomes_listed_name \1"),
-    (r"becomes (\(.*\)) false true true", r"becomes_name_and_candidate \1"), (r"becomes (\(.*\)) true false true", r"becomes_candidate \1"),
-    (r"becomes (\(.*\)) true false false", r"becomes_listed \1"),
-    (r"tests false true", "tests_parameter"), (r"tests true true", "tests_parameter_after_t"), (r"tests true false", "tests_operand_after_t"),
-    (r"\bgoes nothing", "enters"), (r"\bcell (\d) (\d)", r"cell (first \1) (rest \2)"), (r"\bitem (\d) (\d)", r"item (first \1) (rest \2)"),
-    (r"\beither (\d) (\d)", r"either (preferred \1) (otherwise \2)"), (r"\bown (\w+) (\d)", r"own \1 (nodes \2)"), (r"\bapplying (\(.*\)) (\d)", r"applying \1 (arguments \2)"),
-    (r"\bas_part_alone (\d) (\d)", r"as_part_alone \1 (arguments \2)"), (r"\bletter_is (\d) (\d+)", r"letter_is \1 (letter \2)"),
-    (r"\bqualified_by (\w+|\(\w+ \d\)) (\w+|\(\w+ \d\)) (\w+|\(\w+ \d\))", r"qualified_by (restrict \1) (volatile \2) (const \3)"))]
+# how a row names the arguments of what is in it: each text of definitions, as the row has it
+NAMES = [(re.compile(old), new) for old, new in TABLE["named"]]
 
 def named(text):
     """A text of definitions with the names of its arguments."""
-    for old, new in NAMES: text = old.sub(new, text)
+    for old, new in NAMES:
+        text = old.sub(new, text)
     return text
 
 ALL_PARTS = 5
-def most_made(tree): return 0 if tree.startswith("(only ") else 1
-def most_before(text):
-    word = text.split()[0]
-    if word == "becomes": return most_made(text[len("becomes "):])
-    return 1 if word in ("tests", "holds") else 0
 
-def rows(texts): return {p: Row(**row) for p, row in texts.items()}
+def most_made(tree):
+    """How many nodes are made at most for a tree."""
+    return int(not tree.startswith("(only "))
+
+def rows(texts):
+    """The rows, of their words."""
+    return {production: Row(**row) for production, row in texts.items()}
 
 # ## Definitions
 
-ARGUMENTS = (("tree_in", "a_tree", "Term", "absent"), ("bytes_in", "some_bytes", "List ℕ", "[]"), ("number_in", "a_number", "ℕ", "0"), ("truth_in", "a_truth", "Bool", "false"),
-             ("qualifiers_in", "some_qualifiers", "Qualifiers", "unqualified"), ("mark_in", "a_mark", "RefQualifier", "any_value"),
-             ("signed_in", "a_signed", "Signed", "record { negative = false; digits = [] }"), ("discriminator_in", "a_discriminator", "Option (List ℕ)", "None"))
-SORTS = {BYTES: "bytes_in", NUMBER: "number_in", TRUTH: "truth_in", QUALIFIERS: "qualifiers_in", MARK: "mark_in", SIGNED: "signed_in", DISCRIMINATOR: "discriminator_in"}
+# the arguments of trees: what reads each, its constructor, its type, and what there is if it is another; and what reads one of a sort
+ARGUMENTS = [given for _, _, *given in (line for line in TABLE["sorts"] if line[2:])]
+READERS = {sort: reader for _, sort, reader, *_ in (line for line in TABLE["sorts"] if line[2:])}
 
 def makers(table):
     """The trees that some row makes."""
@@ -148,12 +239,16 @@ def makers(table):
 
 def antt_builders(table):
     """What they make of their arguments, as definitions."""
-    trees = makers(table)
-    used = {SORTS.get(sort, "tree_in") for tree in trees for name, sort in tree[1:]}
-    arguments = [a for a in ARGUMENTS if a[0] in used | {"tree_in", "number_in"}]
-    readers = [f"unfoldable pub {name} : Argument → {type}\n{name} ({case} x) = x\n{name} _ = {none}" for name, case, type, none in arguments]
-    built = [applied(f"built new_{tree[0]} xs = {tree[0]}", [f"({SORTS.get(sort, 'tree_in')} (argument xs {i}))" for i, (name, sort) in enumerate(tree[1:])]) for tree in trees]
-    return template("cpp_grammar/Builders.antt", trees=", ".join(tree[0] for tree in trees), makers=", ".join("new_" + tree[0] for tree in trees),
+    trees, built = makers(table), []
+    for name, *arguments in trees:
+        given = [f"({READERS.get(sort, 'tree_in')} (argument xs {place}))" for place, (_, sort) in enumerate(arguments)]
+        built.append(applied(f"built new_{name} xs = {name}", given))
+    used = {"tree_in", "number_in", *(READERS.get(sort, "tree_in") for tree in trees for _, sort in tree[1:])}
+    arguments = [argument for argument in ARGUMENTS if argument[0] in used]
+    readers = [f"unfoldable pub {name} : Argument → {type}\n{name} ({case} x) = x\n{name} _ = {none}"
+               for name, case, type, none in arguments]
+    return template("cpp_grammar/Builders.antt", trees=", ".join(tree[0] for tree in trees),
+                    makers=", ".join("new_" + tree[0] for tree in trees),
                     cases=[f"  {case} : {type} → Argument" for _, case, type, _ in arguments], readers="\n\n".join(readers), built=built)
 
 def antt_rows(table):

@@ -1,132 +1,203 @@
-"""The nodes that trees are read into, and the code of cpp_tree that goes through them by their arguments alone: the nodes themselves, what is
-noted of them, and what is seen of them. trees.py writes it, from the table of cpp_trees.py."""
+"""The nodes that trees are read into, and the code of cpp_tree that goes through them by their arguments alone: the nodes themselves, what
+is noted of them, and what is seen of them; and the answers of the functions that have an arm for each node. trees.py writes it, from the
+table of cpp_trees.py."""
 import re
-import cpp_trees
-from notation import camel
-from cpp_trees import NAMED, OWN, OUTSIDE, INSIDE, SIGNATURE, TREE, PIECE, BYTES, NUMBER, TRUTH, QUALIFIERS, MARK, SIGNED, THUNK, DISCRIMINATOR
+from functools import lru_cache
 
-PIECES = "source operator literal_operator constructor destructor inheriting lambda generic_lambda unnamed string_literal conversion enumeration bindings".split()
-# the argument under which the types of an encoding are, if they are under one
-UNDER = "under"
+from cpp_trees import ALIASES, BELOW, INSIDE, NAMED, NAMES, OUTSIDE, OWN, PIECES, SIGNATURE, SORTS, TREE, TREES, called
+from files import TEMPLATES, fill, read, template
+from notation import answer, camel, together
 
-def node_of(tree, *given):
-    """The node of a tree: its name, its tree's, and its arguments, which are the tree's if it has no others."""
-    words = cpp_trees.NODES.get(tree, "").split()
-    others = [tuple(word.split(":")) for word in words if ":" in word]
-    return next((word for word in words if ":" not in word), camel(tree)), tree, others or list(given)
+class Node:
+    """A node: its name, its tree's, its arguments, the sorts of the tree's, and its fields (each with its name in code, sort and type)."""
+    def __init__(self, words, tree, *given):
+        others = [tuple(word.split(":")) for word in words if ":" in word]
+        self.name = next((word for word in words if ":" not in word), camel(tree))
+        self.tree, self.arguments, self.sorts = tree, others or list(given), [sort for _, sort in given]
+        types = {name: NAMES["types"].get((tree, name), SORTS["code"].get(sort, "u32")) for name, sort in self.arguments}
+        self.fields = [(called(NAMED, tree, name), sort, types[name]) for name, sort in self.arguments]
 
+    def said(self, word):
+        """What the table says by a word: of this node, or of those of its tree."""
+        return BELOW[f"{word}.{self.name}"].get(self.tree) or BELOW[word].get(self.tree)
+
+    def parts(self, *sorts):
+        """The fields of trees of these sorts."""
+        return [name for (name, _, _), sort in zip(self.fields, self.sorts) if sort in sorts]
+
+    def known(self):
+        """By each field's name, what is known of it: a part of b where there are several."""
+        return {field: fact for (field, _, _), (_, _, fact) in zip(self.fields, placed(self.arguments)) if fact}
+
+    def view(self):
+        """What is seen of a node of which no more is seen: the code of its numbers, its texts and its parts."""
+        numbers = [SORTS["number"][sort].format(name) for name, sort, _ in self.fields if sort in SORTS["number"]]
+        said = self.said("numbers")
+        texts = [SORTS["text"][sort].format(name) for name, sort, _ in self.fields if sort in SORTS["text"]]
+        return said.split(" | ") if said else numbers, texts, self.parts(OWN, OUTSIDE, INSIDE, SIGNATURE, TREE)
+
+@lru_cache(maxsize=None)
 def nodes():
-    """The nodes: each with its name, its tree's, and its arguments."""
-    rows = {tree[0]: tree for tree in cpp_trees.TREES}
-    others = [tree for tree in rows if tree not in ("absent", "nil", "list", "symbol", *PIECES)]
-    for tree in ["absent", "nil", *others, "list", "symbol"]:
-        # the letters of a builtin type are told apart
-        if tree == "builtin": yield from ((name, tree, [("letter", NUMBER)]) for name in ("Builtin", "BuiltinWithD"))
-        else: yield node_of(*rows[tree])
-    # a tree of another node, with another argument in its free parameters
-    yield "Reargued", "again", [("t", TREE), ("a", TREE)]
+    """The nodes."""
+    rows = {tree: row for tree, *row in [*TREES, *ALIASES]}
+    front, back = ["absent", "nil"], ["list", "symbol", *(tree for tree, *_ in ALIASES)]
+    others = [tree for tree in rows if tree not in (*front, *back, *PIECES)]
+    return [Node(words.split(), tree, *rows[tree]) for tree in [*front, *others, *back] for words in BELOW["node"].get(tree, [""])]
 
-# what is said of an argument below a node
-BELOW = {TREE: "{0} < n", OWN: "{0} < n", PIECE: "IsPieceBelow s n {0}", BYTES: "IsWithin {0} s", SIGNED: "IsWithin {0}.digits s",
-         DISCRIMINATOR: "IsSpan s {0}", THUNK: "{0} < held", UNDER: "IsAliasBelow n (under_kept {0})"}
-def bounds(args): return [(name, sort) for name, sort in args if sort in BELOW]
-
-def placed(args, over):
-    """The arguments of these sorts, each with the fact of its bound: a part of b where there are several bounds."""
-    all_ = bounds(args)
-    return [(name, sort, "b" if len(all_) == 1 else f"b.{all_.index((name, sort))}") for name, sort in args if sort in over]
-
-TYPES = {NUMBER: "u8", TRUTH: "bool", QUALIFIERS: "Qualifiers", MARK: "Mark", BYTES: "Span", SIGNED: "Signed", DISCRIMINATOR: "Option<Span>", PIECE: "Piece"}
-# what is said of a node that is no tree's, or of one of a node's fields
-SAID = {
-    "Reargued": "A tree again, with this argument in each of its free parameters, or with the elements of it if it is a list.",
-    ("Function", "under"): "The argument under which its return type and its parameters are, as a word (`under_word`).",
-}
-
-def fields(tree, arguments):
-    """Each field's name, what it is, and its type."""
-    for name, sort in arguments: yield NAMED.get((tree, name), NAMED.get(name, name)), sort, "u32" if (tree, name) == ("parameter", "k") else TYPES.get(sort, "u32")
+def placed(arguments, over=tuple(SORTS["bound"])):
+    """The arguments, each with the fact of its bound if it is of these sorts: a part of b where there are several bounds."""
+    bounds = [name for name, sort in arguments if sort in SORTS["bound"]]
+    facts = {name: "b" if len(bounds) == 1 else f"b.{place}" for place, name in enumerate(bounds)}
+    return [(name, sort, facts[name] if sort in over else "") for name, sort in arguments]
 
 def variants():
     """The nodes."""
-    for node, tree, arguments in nodes():
-        if tree in cpp_trees.SAYS or node in SAID: yield f"    /// {cpp_trees.SAYS.get(tree) or SAID[node]}"
-        own = list(fields(tree, arguments))
-        if not own: yield f"    {node},"
-        elif len(own) == 1: yield f"    {node}({own[0][2]}),"
-        else:
-            yield f"    {node} {{"
-            for name, sort, type in own:
-                if (node, name) in SAID: yield f"        /// {SAID[node, name]}"
-                yield f"        {name}: {type},"
-            yield "    },"
+    for node in nodes():
+        if node.said("says"):
+            yield f"    /// {node.said('says')}"
+        if len(node.fields) < 2:
+            yield f"    {node.name}{''.join(f'({type})' for _, _, type in node.fields)},"
+            continue
+        field, _, says = (node.said("field") or "").partition(" ")
+        yield f"    {node.name} {{"
+        for name, _, type in node.fields:
+            yield from [f"        /// {says}"] if name == field else []
+            yield f"        {name}: {type},"
+        yield "    },"
 
-def pattern(path, node, names, given, indent):
+def pattern(path, node, given, indent):
     """A node with some of its fields, in one line if there are few."""
-    if not names: return f"{indent}{path}{node}"
-    if len(names) == 1: return f"{indent}{path}{node}({names[0] if names[0] in given else '_'})"
-    shown = [n for n in names if n in given] + ([".."] if any(n not in given for n in names) else [])
+    names = [name for name, _, _ in node.fields]
+    if len(names) < 2:
+        return f"{indent}{path}{node.name}{''.join(f'({name if name in given else chr(95)})' for name in names)}"
+    shown = [*(name for name in names if name in given), *([".."] if set(names) - set(given) else [])]
     inside = ", ".join(shown)
-    if len(inside) <= 18: return f"{indent}{path}{node} {{ {inside} }}"
-    return "\n".join([f"{indent}{path}{node} {{", *[f"{indent}    {n}{'' if n == '..' else ','}" for n in shown], f"{indent}}}"])
+    if len(inside) <= 18:
+        return f"{indent}{path}{node.name} {{ {inside} }}"
+    lines = [f"{indent}    {name}{'' if name == '..' else ','}" for name in shown]
+    return "\n".join([f"{indent}{path}{node.name} {{", *lines, f"{indent}}}"])
 
 def arm(left, right, indent):
     """An arm, as rt fmt lays it out."""
     whole = f"{left} => {right},"
     call, given = re.fullmatch(r"([\w.]+)\((.*)\)", right).groups()
-    if len(given) <= 60: return whole if len(whole.split("\n")[-1]) <= 100 else f"{left} => {{\n{indent}    {right}\n{indent}}}"
+    if len(given) <= 60:
+        return whole if len(whole.split("\n")[-1]) <= 100 else f"{left} => {{\n{indent}    {right}\n{indent}}}"
     return f"{left} => {call}(\n" + "".join(f"{indent}    {g},\n" for g in re.split(r", (?![^\[]*\])", given)) + f"{indent}),"
-
-def named_in(right, names):
-    return [n for n in names if re.search(rf"(?<![\w.:]){n}(?!\w)", right)]
 
 def arms(path, indent, of):
     """An arm for each node of which there is something to say."""
-    for node, tree, arguments in nodes():
-        own = list(fields(tree, arguments))
-        right = of(node, tree, own)
-        if right is None: continue
-        names = [name for name, _, _ in own]
-        yield arm(pattern(path, node, names, named_in(right, names), indent), right, indent)
+    for node, right in ((node, of(node)) for node in nodes()):
+        if right:
+            given = [name for name, _, _ in node.fields if re.search(rf"(?<![\w.:]){name}(?!\w)", right)]
+            yield arm(pattern(path, node, given, indent), right, indent)
 
-# ## What is noted
-
-# by node: what is noted and seen beside its parts. An alias is no node here: the tree that it denotes is shown in its place
-NOTED = {**{node_of(tree)[0]: code for tree, code in cpp_trees.NOTED.items()}, "Reargued": "self.noted_again(symbol, node, tree, argument)"}
-SEEN = {**{node_of(tree)[0]: code for tree, code in cpp_trees.SEEN.items()}, "BuiltinWithD": "leaf(BUILTIN_WITH_D, letter as u64)", "Reargued": "leaf(ABSENT, 0)"}
-def sorts_of(tree): return {t[0]: [sort for name, sort in t[1:]] for t in cpp_trees.TREES}.get(tree, [])
-
-def noting(node, tree, own):
+def noting(node):
     """What is noted of a node, by its parts that aren't under a scope of their own."""
-    if node in NOTED: return NOTED[node]
-    parts = [name for (name, _, _), sort in zip(own, sorts_of(tree)) if sort == TREE]
-    if not parts: return None
-    return f"self.noted_type{'s' if len(parts) == 2 else ''}(node, {', '.join(parts)}, TypeHead::{cpp_trees.HEADS.get(tree, 'Plain')})"
+    parts = node.parts(TREE)
+    general = f"self.noted_type{'s' if len(parts) == 2 else ''}(node, {', '.join(parts)}, TypeHead::{node.said('head') or 'Plain'})"
+    return node.said("noted") or (general if parts else None)
 
-def noted(): return list(arms("Node::", "            ", noting))
+def noted():
+    """The arms of what is noted."""
+    return list(arms("Node::", "            ", noting))
 
-# ## What is seen
-
-NUMBERS = {NUMBER: "{0} as u64", TRUTH: "bit({0}) as u64", QUALIFIERS: "{0}.number() as u64", MARK: "{0}.number() as u64", SIGNED: "bit({0}.negative) as u64"}
-TEXTS = {BYTES: "{0}", SIGNED: "{0}.digits"}
-
-def view(node, tree, own):
-    """What is seen of a node of which no more is seen: the code of its numbers, its texts and its parts."""
-    numbers = [NUMBERS[sort].format(name) for name, sort, _ in own if sort in NUMBERS and not (tree == "builtin" and sort != NUMBER)]
-    if tree == "function_type": numbers = ["linkage_number(c_linkage, noexcept)", numbers[-1]]
-    texts = [TEXTS[sort].format(name) for name, sort, _ in own if sort in TEXTS]
-    parts = [name for (name, sort, _), of_tree in zip(own, sorts_of(tree)) if of_tree in (OWN, OUTSIDE, INSIDE, SIGNATURE, TREE)]
-    return numbers, texts, [] if node == "Parameter" else parts
+def seeing(node):
+    """The view of a node: its production, numbers, text and parts."""
+    numbers, texts, parts = node.view()
+    own, told = node.tree.upper(), f"[{', '.join([*numbers, '0'][:2])}]" if numbers else "none"
+    if not parts and not texts:
+        general = f"leaf({own}, {numbers[0] if numbers else '0'})"
+    elif len(parts) in (1, 2):
+        general = f"{('one', 'two')[len(parts) - 1]}({own}, {told}, {texts[0] if texts else 'NO_TEXT'}, {', '.join(parts)})"
+    else:
+        shown = f"[{texts[0]}, NO_TEXT]" if texts else "[NO_TEXT; 2]"
+        general = f"seen({own}, {told}, {shown}, {len(parts)}, [{', '.join(parts) or '0; 3'}])"
+    return node.said("seen") or general
 
 def seen():
-    """The view of a node: its production, numbers, text and parts."""
-    def of(node, tree, own):
-        if node in SEEN: return SEEN[node]
-        numbers, texts, parts = view(node, tree, own)
-        told = f"[{', '.join([*numbers, '0'][:2])}]" if numbers else "none"
-        text = texts[0] if texts else "NO_TEXT"
-        if not parts and not texts: return f"leaf({tree.upper()}, {numbers[0] if numbers else '0'})"
-        if len(parts) in (1, 2): return f"{('one', 'two')[len(parts) - 1]}({tree.upper()}, {told}, {text}, {', '.join(parts)})"
-        shown = f"[{text}, NO_TEXT]" if texts else "[NO_TEXT; 2]"
-        return f"seen({tree.upper()}, {told}, {shown}, {len(parts)}, [{', '.join(parts) or '0; 3'}])"
-    return list(arms("node::Node::", "        ", of))
+    """The arms of what is seen."""
+    return list(arms("node::Node::", "        ", seeing))
+
+# ## Answers: a step of a call has the arm's name from the second call of its function on
+
+NOTES = " ".join(re.findall(r"^use \S+\.(?:Notes|Compact)\.\{(.*)\}$", read(f"{TEMPLATES}/cpp_tree/noted.antt.in"), re.M)).replace(",", "")
+BELOW_AS = ("let b = below-as (over c.args.symbol.now c.args.self.now) (length c.args.self.now.nodes) c.in-{0}.is c.requires.below in "
+            "{1}").format
+TABLE, HELD = "(over c.args.symbol.now c.args.nodes.now)", "(length c.args.nodes.now.nodes)"
+UNFOLDING = "fields_of erase tree_of"
+
+def required(contract, given, known):
+    """What a call asks for: of what it is given, or of what its caller asks for."""
+    taken, facts = dict(zip(re.findall(r"(\w+): ", contract[1]), given.split(", "))), []
+    for name, text in re.findall(r"requires (?:(\w+) )?{ (.*) }", contract[2]):
+        of = next((word for word in re.findall(r"(?<![\w.])\w+", text) if word in taken and word != "symbol"), None)
+        facts.append((name, known[taken[of]] if of else f"c.requires.{name}"))
+    return f"record {{ {'; '.join(f'{name} = {fact}' for name, fact in facts)} }}" if facts[0][0] else facts[0][1]
+
+def noted_answers(crates, others):
+    """That each arm notes what there is to note: by what it calls, which asks that the arguments are below."""
+    code, called, lines = read(f"{crates}/cpp_tree/src/notes.rt"), set(), []
+    for node, right in ((node, noting(node)) for node in nodes()):
+        if not right:
+            continue
+        call, given = re.fullmatch(r"(?:self\.)?(\w+)\((.*)\)", right).groups()
+        behind = f"-in-{node.name}" if call in called else ""
+        called.add(call)
+        contract = re.search(rf" fn {call}\((.*?)\)(.*?)\n    {{", code, re.S)
+        if contract:
+            asked = BELOW_AS(node.name, required(contract, given, node.known()))
+            lines += ["", *answer(f"{call}-requires{behind}", f" {asked}")]
+        lines += ["", *answer(f"returns-in-{node.name}", f" c.{call}{behind}.ensures ∙ rw c.in-{node.name}.is refl", NOTES)]
+    none = [f"      not_{node.lower()} = c.in_default.not-{node};" for node in others]
+    bare = ["", "    c.bare-in_default.ensures", "    ∙ other-node c.args.self.now.nodes c.args.node (record {", *none, "    })"]
+    return template("cpp_tree/noted.antt", answers=[*lines, "", *answer("returns-in_default", "\n".join(bare))])
+
+class Steps:
+    """The calls so far, each with the arms in which it was: a step has the arm's name from the second call of its function on."""
+    def __init__(self):
+        self.arms = {}
+
+    def __call__(self, call, arm):
+        """The step of a call in an arm."""
+        arms = self.arms.setdefault(call, [])
+        arms.append(arm)
+        again = arms.count(arm)
+        return f"c.{call}" + (f"-in-{arm}" if len(arms) > 1 else "") + (f"-{again}" if 1 < again < len(arms) else "")
+
+def told(node, shown, step):
+    """The answers of a node of which another call tells more: by which lemma, from what, and where that asks for a bound."""
+    lemma, fields, others, *bound = node.said("told").split(" | ")
+    call = node.said("seen").partition("(")[0]
+    own = step(call, node.name)
+    if bound:
+        asked, _, part = bound[0].partition(" ")
+        yield answer(f"{own[2:].replace(call, f'{call}-requires', 1)}",
+                     f" record {{ {asked} = {f'(below-as {shown}){part}' if part else f'below-as {shown}'} }}")
+    yield answer(f"returns-in-{node.name}", "\n    ".join([
+        "", "let y = over c.args.symbol.now c.args.nodes.now in", f"let told = {own}.ensures in",
+        f"{lemma} y c.in-{node.name}.is {fields} told.texts {others}"]), UNFOLDING)
+
+def viewed(node, shown, step):
+    """The answer of a node of which no more is seen than its numbers, a text and its parts."""
+    def fact_of(number):
+        call = re.search(r"(\w+)\(", number)
+        return f"{step(call[1], node.name)}.ensures{'' if call[1] == 'linkage_number' else '.is'}" if call else "refl"
+    numbers, texts, parts = node.view()
+    facts = [*map(fact_of, numbers), "refl", "refl"][:2]
+    count, known = ["none", "one", "two", "three"][len(parts)], node.known()
+    call = "leaf" if not parts and not texts else count if len(parts) in (1, 2) else "seen"
+    within = [known[texts[0].removesuffix(".digits")] if texts else "none-within c.args.symbol.now", *(known[part] for part in parts)]
+    fields = fill(node.said("view") or "refl", table=TABLE)
+    value = " ".join([f" seen-{count} {shown}", f"{step(call, node.name)}.ensures", *facts, fields, f"(λ k b. {together(within)})"])
+    yield answer(f"returns-in-{node.name}", value, UNFOLDING if fields == "refl" else None)
+
+def seen_answers():
+    """That each arm of a node's view shows the node: by the calls that it makes."""
+    step, lines = Steps(), []
+    for node in nodes():
+        shown = f"{TABLE} {HELD} c.in-{node.name}.is c.requires.node"
+        of = told if node.said("told") else viewed
+        if node.tree not in (tree for tree, *_ in ALIASES):
+            lines += [line for shown_by in of(node, shown, step) for line in ["", *shown_by]]
+    return template("cpp_tree/seen.antt", answers=lines)

@@ -1,61 +1,49 @@
 """How the scripts write what code and definitions have in common: from a Python name, list or text to its form in Rattle and in antt."""
 import re
 
-
 def snake(name):
     """`SomeName` as `some_name`."""
     return re.sub(r"(?<!^)(?=[A-Z])", "_", name).lower()
-
 
 def camel(name):
     """`some_name` as `SomeName`."""
     return "".join(part.capitalize() for part in name.split("_"))
 
-
 def dashed(name):
     """`SomeName` as `some-name`."""
     return snake(name).replace("_", "-")
-
 
 def braced(text):
     """An argument, in parentheses if it is more than a word."""
     return f"({text})" if " " in text else text
 
-
 def applied(name, arguments):
     """A function with its arguments."""
     return " ".join([name, *arguments])
-
 
 def listed(items):
     """A list in antt."""
     return "".join(f"{item} ∷ " for item in items) + "[]"
 
-
 def alone_or(parts, joined):
     """The one part, or what several are joined to."""
     return parts[0] if len(parts) == 1 else joined(parts)
-
 
 def together(facts):
     """Facts as one: the trivial one if there are none, the one, or all in parentheses."""
     return alone_or(facts, lambda several: f"({', '.join(several)})") if facts else "tt"
 
-
 def rewritten(facts):
     """That both sides are the same once these facts are rewritten."""
     return f"rw ({', '.join(facts)}) refl" if facts else "refl"
-
 
 def answer(goal, value, unfolding=None, given="c"):
     """The lines of an answer to a goal: `value` follows the sign, in the same line or with its own."""
     return [f"pub {goal} : goal.{goal}", *([f"unfolding {unfolding}"] if unfolding else []), f"{goal} {given} ={value}"]
 
-
 def quoted(text):
     """A text between quotes."""
     return '"' + text.replace("\\", "\\\\").replace('"', '\\"') + '"'
-
 
 def runs(chars, least):
     """The ranges of at least `least` bytes among these, as pairs, and the other bytes."""

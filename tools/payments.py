@@ -1,23 +1,22 @@
-"""Of the proofs that a symbol's bytes pay for what is pressed of it (Short of cpp_press_laws): the lists of productions that are shown alike, from the
-clauses that show them, and for each kind which lemma each of its productions has, from the grammar."""
+"""Of the proofs that a symbol's bytes pay for what is pressed of it (Short of cpp_press_laws): the lists of productions that are shown
+alike, from the clauses that show them, and for each kind which lemma each of its productions has, from the grammar."""
 import re
+
 import grammar
 from files import read
 from notation import dashed
+from rules import PAYS
 
 FOLDER = "cpp_press_laws/proofs/Short"
 # the lists, each with its file: the lemma whose clauses are read is called `pays`, and that which is used `gains`
 LISTS = {"type": "Types", "free": "Lists", "idle": "Lists", "qualified": "Qualified", "name": "Names", "further": "Names"}
-# productions whose lemma isn't called as they are, in any kind or in one
-CALLED = {"Destructor": "destructor-name", "Constructor": "constructor-name", "AddressedLiteral": "addressed-gains", "IntegerLiteral": "integer-gains", "ReferenceType": "reference-gains",
-          ("Plain", "ReferenceType"): "bare-reference-gains", ("Arguments", "Arguments"): "given-gains",
-          ("NestTail", "NestNext"): "λ around at old v new b ready small. nest-next around at old v new b (may-end-behind around.prefix ready small) small"}
-
 def listed(text, function, lemma):
     """The productions of a list, by class if it has any."""
     found = {}
-    for class_, production in re.findall(rf"^{lemma} (?:(\w+) )?Production\.(\w+) is =", text, re.M): found.setdefault(class_, []).append(production)
-    lines = [f"{function}{' ' + class_ if class_ else ''} = {''.join(f'Production.{p} ∷ ' for p in productions)}[]" for class_, productions in found.items()]
+    for class_, production in re.findall(rf"^{lemma} (?:(\w+) )?Production\.(\w+) is =", text, re.M):
+        found.setdefault(class_, []).append(production)
+    lines = [f"{function}{' ' + class_ if class_ else ''} = {''.join(f'Production.{name} ∷ ' for name in productions)}[]"
+             for class_, productions in found.items()]
     return found, lines + ([f"{function} _ = []"] if "" not in found else [])
 
 def declarations(crates):
@@ -38,17 +37,24 @@ def declarations(crates):
             own = {"type-gains": "type", "name-gains": "name", "further-gains": "further"}.get(used, class_)
             if production in productions and (own == of or used == "name-gains" and of == "type"):
                 return f"{used}{' ' + class_ if class_ else ''} Production.{production} refl", own, 0
-        name = CALLED.get((kind, production)) or CALLED.get(production) or dashed(production)
-        if name not in signatures and f"{name}-gains" in signatures or re.search(rf"^pub {re.escape(name)}-gains : ", "".join(texts.values()), re.M): name += "-gains"
+        name = PAYS.get((kind, production)) or PAYS.get((production,)) or dashed(production)
+        if name not in signatures and f"{name}-gains" in signatures or re.search(rf"^pub {re.escape(name)}-gains : ",
+                "".join(texts.values()), re.M):
+            name += "-gains"
         return name, *signatures.get(name, (of, None))
     def term(kind, production):
         text, own, granted = lemma(kind, production)
-        if own == "further" and classes[kind] in ("name", "type"): text, own = f"as-name {text}", "name"
+        if own == "further" and classes[kind] in ("name", "type"):
+            text, own = f"as-name {text}", "name"
         given = f"({text})" if " " in text else text
-        if own == "name" and classes[kind] == "type": return f"named {given}"
-        if kind in grants and granted == 0: return f"granting{'-type' if classes[kind] == 'type' else ''} {grants[kind]} {given}"
+        if own == "name" and classes[kind] == "type":
+            return f"named {given}"
+        if kind in grants and granted == 0:
+            return f"granting{'-type' if classes[kind] == 'type' else ''} {grants[kind]} {given}"
         return text
-    def pairs(terms): return "tt" if not terms else terms[0] if len(terms) == 1 else f"({terms[0]}, {pairs(terms[1:])})"
+    def pairs(terms):
+        return "tt" if not terms else terms[0] if len(terms) == 1 else f"({terms[0]}, {pairs(terms[1:])})"
     grammar.build()
-    lines = [f"arms Kind.{kind} is = {pairs([term(kind, p) for bytes_, p in alternatives])}" for kind, (empty, alternatives) in grammar.K.items() if kind in classes]
+    lines = [f"arms Kind.{kind} is = {pairs([term(kind, name) for _, name in alternatives])}"
+             for kind, (empty, alternatives) in grammar.K.items() if kind in classes]
     yield f"{FOLDER}/Every.antt", "arms", [*lines, "arms _ is = absurd (false≢true is)"]

@@ -1,37 +1,39 @@
 """What is said of each of C++'s productions by its row, by its family, or because it is common: from the grammar's rows to the clauses of
-cpp_grammar, cpp_term and cpp_link. declarations.py says in which file each is."""
+cpp_grammar, cpp_term and cpp_link."""
 import re
 
-import family_code
 import grammar
-import vocabulary as words
 from cpp_trees import BYTES, DISCRIMINATOR, MARK, NUMBER, OUTSIDE, OWN, QUALIFIERS, SIGNED, TRUTH
 from files import read, template
-from meanings import makers
+from meanings import TABLE, makers
 from notation import applied, listed, snake, together
-from productions import coded_cases, defined_cases, imports
-from rules import ALIKE
+from rules import ALIKE, coded_cases, defined_cases, families, imports
 from tree_clauses import SCOPED, SUBTREES
 
-# What is read of a value's parts, and of the arguments of a tree, with arguments in its parameters: of a tree it is annotated.
-READ_OF_VALUES = {"tree": "tree_of", "piece": "piece_of", "listed": "is_listed", "qualifiers": "qualifiers_of", "ref": "ref_of", "letter": "letter_of", "there": "is_there",
-                  "mark": "mark_of", "text": "text_of", "signed": "signed_of", "adjustment": "adjustment_of"}
-READ_OF_ARGUMENTS = {f"{name}_in": f"{name}_in" for name in ("tree", "bytes", "number", "truth", "qualifiers", "mark", "signed", "discriminator")}
+# what reads an argument of a sort, and a value of a part: with arguments in its parameters a tree is annotated
+READ = {sort: sort for sort in (BYTES, NUMBER, TRUTH, QUALIFIERS, MARK, SIGNED, DISCRIMINATOR)}
+READ_OF_ARGUMENTS = {f"{name}_in": f"{name}_in" for name in ("tree", *READ)}
+READ_OF_VALUES = {name: f"is_{name}" if name in ("listed", "there") else f"{name}_of" for name in (
+    "tree", "piece", "listed", "qualifiers", "ref", "letter", "there", "mark", "text", "signed", "adjustment")}
 
-def read_noted(names, module, sort, one, noted, listed, whole, first_of_them, public):
+def read_noted(names, module, sort, one, noted, listed_as, whole, first_of_them, public):
     """That what is read of an annotated thing is what is read of it, and the same of one of a list."""
     for name, function in names.items():
-        trees = name.split("_")[0] in ("tree", "piece")
-        of = (lambda read: f"annotate s ({read})") if trees else (lambda read: read)
+        annotated = name.split("_")[0] in ("tree", "piece")
         there = name.replace("_in", "_there") if name in READ_OF_ARGUMENTS else f"{name}_part"
-        yield (f"{public}{name}_noted : (s : Place) (v : {sort}) → {module}.{function} ({noted} s v) ≡ {of(f'{function} v')}\n"
-            f"unfolding {module}.{function} {function} {noted}{' annotate' if trees else ''}\n{name}_noted s {first_of_them} = refl\n{name}_noted s _ = refl")
-        yield (f"{public}{there} : (s : Place) (vs : List {sort}) (k : ℕ) → {module}.{function} ({module}.{one} ({listed} s vs) k) ≡ {of(f'{function} ({one} vs k)')}\n"
-            f"{there} s vs k = ap {module}.{function} ({whole} s vs k) ∙ {name}_noted s ({one} vs k)")
+        own, of_one = (f"annotate s ({text})" if annotated else text for text in (f"{function} v", f"{function} ({one} vs k)"))
+        unfolding = f"unfolding {module}.{function} {function} {noted}{' annotate' if annotated else ''}"
+        lines = [f"{public}{name}_noted : (s : Place) (v : {sort}) → {module}.{function} ({noted} s v) ≡ {own}", unfolding,
+                 f"{name}_noted s {first_of_them} = refl", f"{name}_noted s _ = refl"]
+        yield "\n".join(lines)
+        says = f"(s : Place) (vs : List {sort}) (k : ℕ) → {module}.{function} ({module}.{one} ({listed_as} s vs) k) ≡ {of_one}"
+        yield (f"{public}{there} : {says}\n{there} s vs k = ap {module}.{function} ({whole} s vs k) ∙ {name}_noted s ({one} vs k)")
 
 # ## Productions
 
-def by_production(function, values, others): return [f"{function} {case} = {v}" for case, v in defined_cases(values)] + [f"{function} _ = {others}"]
+def by_production(function, values, others):
+    """A clause for each production that has a value, and one for the others."""
+    return [f"{function} {case} = {value}" for case, value in defined_cases(values)] + [f"{function} _ = {others}"]
 
 # What a kind has at most, less the nodes that its bytes pay for: two a byte.
 SLACK_BASE = 10
@@ -39,80 +41,86 @@ SLACK_BASE = 10
 def slack():
     """Of each kind, as few as its productions allow: cpp_link's Bound proves that these suffice."""
     kinds, productions, rows = grammar.wide()
-    def needed(p, least):
-        eats, symbols = productions[p]
-        parts = (least[s] - SLACK_BASE if s in kinds else -4 if s == grammar.NAME else -2 for s in symbols)
-        return SLACK_BASE + sum(rows[p].made_before()) + rows[p].made_at_end() + sum(parts) - (2 if eats else 0)
-    least = {k: SLACK_BASE if empty else 0 for k, (empty, rules) in kinds.items()}
-    while True:
-        more = {k: max([least[k], *(needed(p, least) for bytes_, p in rules)]) for k, (empty, rules) in kinds.items()}
-        if more == least: return [f"slack = {listed(least.values())}"]
-        assert max(more.values()) <= 2 * SLACK_BASE, "a production makes more than its bytes pay for"
-        least = more
+    def needed(production, least):
+        eats, symbols = productions[production]
+        parts = (least[symbol] - SLACK_BASE if symbol in kinds else -4 if symbol == grammar.NAME else -2 for symbol in symbols)
+        row = rows[production]
+        return SLACK_BASE + sum(row.made_before()) + row.made_at_end() + sum(parts) - (2 if eats else 0)
+    least, before = {kind: SLACK_BASE if empty else 0 for kind, (empty, _) in kinds.items()}, None
+    while before != least:
+        before = least
+        least = {kind: max([before[kind], *(needed(name, before) for _, name in rules)]) for kind, (_, rules) in kinds.items()}
+        assert max(least.values()) <= 2 * SLACK_BASE, "a production makes more than its bytes pay for"
+    return [f"slack = {listed(least.values())}"]
 
 # ## What rows make
 
+def by_maker(left, value, others=None):
+    """A clause for each maker that has a value; the left side has a hole for the maker."""
+    clauses = [(left.format(f"new_{tree[0]}"), value(tree)) for tree in makers(grammar.rows())]
+    return [f"{case} = {own}" for case, own in [*clauses, (left.format("_"), others)] if own]
+
+def encodings_in(tree):
+    """The places of a tree's arguments that have a scope of their own."""
+    return [place for place, (_, sort) in enumerate(tree[1:]) if sort in (OWN, OUTSIDE)]
+
 def built_good():
     """That what a row makes is closed where its arguments are."""
-    lines = []
-    for tree in makers(grammar.rows()):
-        scoped = [f"(all {i}).closed" for i, (name, sort) in enumerate(tree[1:]) if sort in SCOPED]
-        scopes = [f"(all {i}).scopes n" for i, (name, sort) in enumerate(tree[1:]) if sort in SUBTREES]
-        closed = "λ h. refl" if not scoped else scoped[0] if len(scoped) == 1 else f"λ h. {applied('or_no _ _', [f'({fact} h)' for fact in scoped])}"
-        lines.append(f"built_good s new_{tree[0]} xs all = record {{ closed = {closed}; scopes = λ n. {together(scopes)} }}")
-    return lines
+    def value(tree):
+        scoped = [f"(all {i}).closed" for i, (_, sort) in enumerate(tree[1:]) if sort in SCOPED]
+        scopes = [f"(all {i}).scopes n" for i, (_, sort) in enumerate(tree[1:]) if sort in SUBTREES]
+        closed = scoped[0] if len(scoped) == 1 else f"λ h. {applied('or_no _ _', [f'({fact} h)' for fact in scoped])}"
+        return f"record {{ closed = {closed if scoped else 'λ h. refl'}; scopes = λ n. {together(scopes)} }}"
+    return by_maker("built_good s {} xs all", value)
 
-# what reads an argument of a sort, annotated
-READ = {BYTES: "bytes", NUMBER: "number", TRUTH: "truth", QUALIFIERS: "qualifiers", MARK: "mark", SIGNED: "signed", DISCRIMINATOR: "discriminator"}
-
-def encodings_in(tree): return [i for i, (name, sort) in enumerate(tree[1:]) if sort in (OWN, OUTSIDE)]
-
-def takes_encodings(): return [f"takes_encodings new_{tree[0]} = true" for tree in makers(grammar.rows()) if encodings_in(tree)] + ["takes_encodings _ = false"]
+def takes_encodings():
+    """Whether a maker takes encodings."""
+    return by_maker("takes_encodings {}", lambda tree: encodings_in(tree) and "true", "false")
 
 def are_shut():
     """Which arguments of a maker have to be closed."""
-    lines = []
-    for tree in makers(grammar.rows()):
-        facts = [f"is_open (tree_in (argument xs {i})) ≡ false" for i in encodings_in(tree)]
-        if facts: lines.append(f"AreShut new_{tree[0]} xs = " + (facts[0] if len(facts) == 1 else " × ".join(f"({fact})" for fact in facts)))
-    return lines + ["AreShut _ xs = Unit {0}"]
+    def value(tree):
+        facts = [f"is_open (tree_in (argument xs {place})) ≡ false" for place in encodings_in(tree)]
+        return facts[0] if len(facts) == 1 else " × ".join(f"({fact})" for fact in facts)
+    return by_maker("AreShut {} xs", value, "Unit {0}")
 
 def none_are_taken():
     """That a maker which takes encodings isn't one that takes none."""
-    return [f"none_are_taken new_{tree[0]} xs h = absurd (true≢false h)" for tree in makers(grammar.rows()) if encodings_in(tree)] + ["none_are_taken _ xs h = tt"]
+    return by_maker("none_are_taken {} xs h", lambda tree: encodings_in(tree) and "absurd (true≢false h)", "tt")
 
 def built_noted():
     """That what is made of annotated arguments is the annotated tree."""
-    lines = []
-    for tree in makers(grammar.rows()):
+    def value(tree):
         apart = encodings_in(tree)
-        def fact(i, sort):
-            if i in apart: return f"(shut_there s xs {i} {'h' if len(apart) == 1 else f'h.{apart.index(i)}'})"
-            return f"({READ.get(sort, 'tree')}_there s xs {i})"
-        facts = [fact(i, sort) for i, (name, sort) in enumerate(tree[1:])]
-        lines.append(f"built_noted s new_{tree[0]} xs h = " + (applied(["ap", "both", "three", "four", "five"][len(facts) - 1], [f"term_.{tree[0]}", *facts]) if facts else "refl"))
-    return lines
+        shut = {place: "h" if len(apart) == 1 else f"h.{number}" for number, place in enumerate(apart)}
+        facts = [f"(shut_there s xs {place} {shut[place]})" if place in shut else f"({READ.get(sort, 'tree')}_there s xs {place})"
+                 for place, (_, sort) in enumerate(tree[1:])]
+        return applied(["ap", "both", "three", "four", "five"][len(facts) - 1], [f"term_.{tree[0]}", *facts]) if facts else "refl"
+    return by_maker("built_noted s {} xs h", value)
 
-# ## Common productions
+# ## Families of productions
+
+def common():
+    """The common productions."""
+    return families()["Common"]
 
 def is_rare():
     """That a production which is none of the common ones is rare."""
-    return [f"is_rare Production.{p} other = absurd (other.not_{snake(p)} refl)" for p in words.COMMON] + ["is_rare _ other = tt"]
+    return [f"is_rare Production.{name} other = absurd (other.not_{snake(name)} refl)" for name in common()] + ["is_rare _ other = tt"]
 
-# ## Families of rare productions
-
-def families():
-    """The productions of each family, and those that are common."""
-    return {**{family: productions for module in family_code.FAMILIES.values() for family, (says, productions) in module.items()}, "Common": words.COMMON}
-
-def family_specs(found):
+def family_specs():
     """The family of each production."""
-    of_each = {p: f"Family.{family}" for family, productions in found.items() for p in productions}
+    of_each = {production: f"Family.{family}" for family, productions in families().items() for production in productions}
     return template("cpp_link/Families.antt", clauses=[f"family_of {case} = {family}" for case, family in defined_cases(of_each)])
+
+def family_code():
+    """The same in code, as arms."""
+    return [f"        Production::{pattern} => Family::{family}," for family, productions in families().items()
+            for _, pattern, _ in coded_cases(dict.fromkeys(productions))]
 
 def arms_of(productions):
     """The arms of a match over a family's productions: those that mean the same have one."""
-    return [case for case, pattern, _ in coded_cases(dict.fromkeys(productions))]
+    return [case for case, _, _ in coded_cases(dict.fromkeys(productions))]
 
 def isnt(case):
     """That a production isn't this one, or none of those that mean the same."""
@@ -121,53 +129,75 @@ def isnt(case):
 def family_law(family, productions):
     """That a production of a family is one of those that its function has an arm for, and that one of the family Common isn't rare."""
     name, is_common, cases = snake(family), family == "Common", arms_of(productions)
-    others = ["rare"] if is_common else [f"n{i}" for i in range(len(cases))]
-    refuted = ["rare" if is_common else f"{other}{' one' if case in ALIKE else ''} refl" for case, other in zip(cases, others * len(cases))]
+    others = ["rare"] if is_common else [f"n{place}" for place in range(len(cases))]
     premises = " → IsRare p" if is_common else "".join(f"\n    → {isnt(case)}" for case in cases) + "\n   "
-    clauses = [applied(name, [f"(Production.{case} one)" if case in ALIKE else f"Production.{case}", "is", *others]) + f" = {absurd}" for case, absurd in zip(cases, refuted)]
-    return template("cpp_link/family_law.antt", family=family, name=name, premises=premises, others=" ".join(others), clauses=clauses).rstrip("\n")
+    clauses = []
+    for case, other in zip(cases, others * len(cases)):
+        pattern, one = (f"(Production.{case} one)", " one") if case in ALIKE else (f"Production.{case}", "")
+        clauses.append(f"{applied(name, [pattern, 'is', *others])} = {'rare' if is_common else f'{other}{one} refl'}")
+    return template("cpp_link/family_law.antt", family=family, name=name, premises=premises, others=" ".join(others),
+                    clauses=clauses).rstrip("\n")
 
-def family_laws(found):
+def family_laws():
     """The same of each family."""
-    laws = [family_law(*one) for one in found.items()]
+    laws = [family_law(*family) for family in families().items()]
     return template("cpp_link/FamilyArms.antt", alike=imports(laws), laws=laws)
 
 def family_answers(family, productions):
     """The answer that a family's function has an arm for each of its productions."""
-    return template("cpp_link/unreachable.antt", name=snake(family), others=[f"    c.in_default.not-{case}" for case in arms_of(productions)])
+    others = [f"    c.in_default.not-{case}" for case in arms_of(productions)]
+    return template("cpp_link/unreachable.antt", name=snake(family), others=others)
 
 def common_answers():
-    """The paths and the answers of the functions that have an arm for each common production: others are rare. What `finish_rule` hands to
-    `finish_as`, and what it has from it, is passed on; the ABI's reading refuses a constructor that is inherited."""
-    others = [f"  not_{snake(p)} = c.in_default.not-{p};" for p in words.COMMON]
-    handed = [template("cpp_link/handed.antt", production=p, at="" if p == words.COMMON[0] else f"-in-{p}").rstrip("\n") for p in words.COMMON]
+    """The names and the answers of the functions with an arm for each common production: others are rare, or are passed on."""
+    others = [f"  not_{snake(name)} = c.in_default.not-{name};" for name in common()]
+    handed = [template("cpp_link/handed.antt", production=name, at="" if name == common()[0] else f"-in-{name}").rstrip("\n")
+              for name in common()]
     yield "outcome", template("cpp_link/outcome.antt", others=others)
     yield "finish_rule", template("cpp_link/finish_rule.antt", others=others, handed=handed)
 
 def arms(function, productions):
     """The arms of a match that hand these productions to a function, as rt fmt lays them out."""
-    for p in productions:
-        line = f"            Production::{p} => self.{function}(symbol, Production::{p}, frame, parts),"
-        if len(line) <= 100: yield line
-        else: yield from [f"            Production::{p} => self.{function}(", "                symbol,", f"                Production::{p},", "                frame,", "                parts,", "            ),"]
+    for name in productions:
+        line = f"            Production::{name} => self.{function}(symbol, Production::{name}, frame, parts),"
+        given = [f"                {one}," for one in ("symbol", f"Production::{name}", "frame", "parts")]
+        yield from [line] if len(line) <= 100 else [f"            Production::{name} => self.{function}(", *given, "            ),"]
 
 def may_leave(crates):
-    """What may leave a tree that is no candidate yet: the productions of the kinds whose trees become candidates later, but for those that make a name."""
+    """What may leave a tree that is no candidate yet: what begins the kinds whose trees become candidates later, but for names."""
     text = read(f"{crates}/cpp_link/proofs/CandidatesFew.antt")
     kinds = set(re.findall(r"nat_eq k (\w+)", re.search(r"^becomes_candidate k =\n((?:    .*\n)+)", text, re.M)[1]))
     names = set(re.findall(r"^makes_name Production\.(\w+) = true$", text, re.M))
     rules, productions, _ = grammar.wide()
-    begun = {p for kind, (empty, alternatives) in rules.items() if snake(kind).upper() in kinds for on, p in alternatives} - names
-    return by_production("may_leave", {p: "true" for p in productions if p in begun}, "false")
-
-# how many nodes code of its own makes of the values of its parts, where that isn't always as many as its row says
-MAKES_AT_END = {"closure": "lambda_at_end known", "inheriting": "inheriting_at_end (part known 1)", "by_letters": "operation_at_end (part known 0)", "enclosed": "enclosed_at_end known",
-                "elements": "elements_at_end known", "substitution": "0"}
+    begun = {name for kind, (_, alternatives) in rules.items() if snake(kind).upper() in kinds for _, name in alternatives} - names
+    return by_production("may_leave", {name: "true" for name in productions if name in begun}, "false")
 
 def makes_at_end():
     """How many nodes a production makes at its end, of the values of its parts."""
+    own = {word: counted[0] for word, _, *counted in TABLE["own"] if counted}
     def value(form):
-        if form == "in_place" or form.startswith("a_name "): return "name_at_end known"
-        if m := re.fullmatch(r"own (\w+) \d", form): return MAKES_AT_END.get(m[1])
-    found = {p: value(row.form) for p, row in grammar.rows().items()}
-    return [*[f"makes_at_end {case} known = {v}" for case, v in defined_cases({p: v for p, v in found.items() if v})], "makes_at_end p known = made_at_end p"]
+        if form == "in_place" or form.startswith("a_name "):
+            return "name_at_end known"
+        return own.get(form.split()[1]) if form.startswith("own ") else None
+    found = {production: value(row.form) for production, row in grammar.rows().items()}
+    cases = defined_cases({production: counted for production, counted in found.items() if counted})
+    return [*(f"makes_at_end {case} known = {counted}" for case, counted in cases), "makes_at_end p known = made_at_end p"]
+
+def declarations(crates):
+    """The path and the name of each declaration, and the lines of its clauses."""
+    rows = grammar.rows()
+    before = {production: listed(row.made_before()) for production, row in rows.items() if row.made_before()}
+    at_end = {production: row.made_at_end() for production, row in rows.items() if row.made_at_end()}
+    yield "cpp_grammar/proofs/ClosedValues.antt", "built_good", built_good()
+    yield from (("cpp_term/proofs/MeaningNoted.antt", name, lines) for name, lines in (
+        ("takes_encodings", takes_encodings()), ("AreShut", are_shut()), ("none_are_taken", none_are_taken()),
+        ("built_noted", built_noted())))
+    yield "cpp_link/specs/Owed.antt", "made_before", by_production("made_before", before, "[]")
+    yield "cpp_link/specs/Owed.antt", "made_at_end", by_production("made_at_end", at_end, 0)
+    yield "cpp_link/specs/Owed.antt", "slack", slack()
+    yield "cpp_link/specs/NodeCount.antt", "makes_at_end", makes_at_end()
+    yield "cpp_link/specs/Making.antt", "IsRare", by_production("IsRare", dict.fromkeys(common(), "⊥"), "Unit {0}")
+    not_common = [f"  pub not_{snake(name)} : p ≡ Production.{name} → ⊥" for name in common()]
+    yield "cpp_link/proofs/Making.antt", "IsNoneOfThem", not_common
+    yield "cpp_link/proofs/Making.antt", "is_rare", is_rare()
+    yield "cpp_link/proofs/CandidatesFew.antt", "may_leave", may_leave(crates)

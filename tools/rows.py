@@ -4,124 +4,129 @@ usage: rows.py REFERENCE GENERATOR CRATES
 REFERENCE is a Python module with demangle(symbol, limit, brief) that answers (answer, at, text, cost), and press(symbol) that answers
 the pressed spelling; GENERATOR is one with symbols(seed, count, lang, mode, size=, wild=). CRATES is the folder of the crates. The
 symbols that are printed are in cpp_symbols.txt, those that are pressed in crates/check_rows/stdin."""
-import os, re, sys
+import os
+import re
+import sys
 
-from files import load
+from files import load, read
 
 HERE = os.path.dirname(os.path.abspath(__file__))
-
-WORDS = ("prints", "briefly", "refers_badly", "counts_badly", "has_no_shape")
+# the definitions that rows compute with, by module
+READING = ["cpp_grammar.specs." + module for module in (
+    "Grammar", "Table", "Values", "Scope", "References", "Surrounding", "Standing", "Between", "Meaning", "Unfolding", "Texts")]
+PRINTING = READING + [f"cpp_grammar.{module}" for module in ("specs.Items", "specs.Parts", "specs.Ranks", "proofs.Reader", "proofs.Row")]
+PRESSING = READING + ["cpp_grammar.proofs.Reader"] + [f"cpp_press_laws.{module}" for module in (
+    "specs.Same", "specs.Texts", "specs.Components", "specs.Pressing", "proofs.Rows.Row")]
+# names of those modules that no row needs
+UNUSED = "sheet sheet_before blank abi abi_before sheet_with choice_of class_of ranges_of rule_taken".split()
+UNPRESSED = ("look_up builtin_texts operator_texts abbreviation_texts special_texts named_special_texts literal_endings see "
+             "seen_tree").split()
+REFUSED = {"BadReference": "refers_badly {0} {1}", "BadValue": "counts_badly {0} {1}", "Malformed": "has_no_shape {0}"}
 
 def quoted(text):
-    """each byte as the character with its number, as `codes` reads them"""
+    """Each byte as the character with its number, as `codes` reads them."""
     return '"' + text.decode("latin-1").replace("\\", "\\\\").replace('"', '\\"') + '"'
 
 def row(reference, symbol, brief=False):
-    """the row of a symbol, or None where its text is too long to be written down"""
+    """The row of a symbol, or nothing where its text is too long to be written down."""
     answer = reference.demangle(symbol, 4_000, brief)
     if answer.answer == "text":
         return f"{'briefly' if brief else 'prints'} {quoted(symbol)} {quoted(answer.text)} {answer.cost}"
-    if answer.answer == "BadReference": return f"refers_badly {quoted(symbol)} {answer.at}"
-    if answer.answer == "BadValue": return f"counts_badly {quoted(symbol)} {answer.at}"
-    if answer.answer == "Malformed": return f"has_no_shape {quoted(symbol)}"
-    return None
-
-def is_plain(symbol):
-    return all(33 <= b < 127 or 161 <= b and b != 173 for b in symbol)
-
-def generated(reference, generator, modes):
-    out, seen = [], set()
-    for seed, count, mode, size, wild, kinds, wanted in modes:
-        found = 0
-        for symbol in generator.symbols(seed, count, "cpp", mode, size=size, wild=wild):
-            if found == wanted: break
-            if symbol in seen or not is_plain(symbol) or not symbol.startswith(b"_Z") or not 8 <= len(symbol) <= 90: continue
-            text = row(reference, symbol)
-            if text is None or len(text) > 400 or text.split()[0] not in kinds: continue
-            seen.add(symbol); out.append(text); found += 1
-    return out
-
-# the definitions that rows compute with, by module
-READING = ["cpp_grammar.specs." + m for m in ("Grammar", "Table", "Values", "Scope", "References", "Surrounding", "Standing", "Between", "Meaning", "Unfolding", "Texts")]
-PRINTING = READING + ["cpp_grammar.specs." + m for m in ("Items", "Parts", "Ranks")] + ["cpp_grammar.proofs.Reader", "cpp_grammar.proofs.Row"]
-PRESSING = READING + ["cpp_grammar.proofs.Reader"] + ["cpp_press_laws.specs." + m for m in ("Same", "Texts", "Components", "Pressing")] + ["cpp_press_laws.proofs.Rows.Row"]
-# names of those modules that no row needs
-UNPRESSED = ("look_up builtin_texts operator_texts abbreviation_texts special_texts named_special_texts literal_endings see seen_tree").split()
-UNUSED = ("sheet sheet_before blank abi abi_before sheet_with choice_of class_of ranges_of rule_taken").split()
-
-def names_in(crates, modules, unused):
-    names = {}
-    for module in modules:
-        text = open(f"{crates}/{module.replace('.', '/')}.antt").read()
-        found = re.findall(r"^unfoldable pub (\S+) :", text, re.M)
-        for block in re.findall(r"^unfoldable mutual\n((?:  .*\n|\n)+)", text, re.M): found += re.findall(r"^  pub (\S+) :", block, re.M)
-        names[module] = [n for n in found if n not in unused]
-    return names
-
-def write(crates, crate, name, title, uses, modules, groups, test, unused=UNUSED):
-    """a module of rows: `uses` has the lines and names that it needs besides the definitions of `modules`"""
-    names = names_in(crates, modules, unused)
-    lines, words, others = uses
-    row = "Rows.Row" if crate == "cpp_press_laws" else "Row"
-    used = ["Row"] + [w for w in words if any(r.startswith(w + " ") for rows in groups for r in rows)]
-    out = [f"-- Generated by tools/rows.py. {title}", "use Rattle.std.specs.Prelude.{◌≡◌, refl, true, List, [], ◌∷◌}", *lines,
-           f"use Rattle.{crate}.proofs.{row}.{{{', '.join(used)}}}"]
-    out += [f"use Rattle.{module}.{{{', '.join(ns)}}}" for module, ns in names.items() if ns]
-    unfolding = " ".join(["unfolding", *others, *[n for ns in names.values() for n in ns]])
-    for k, rows in enumerate(groups):
-        out += ["", f"abbrev rows_{k} : List Row", f"rows_{k} =", *[f"    {r} ∷" for r in rows], "    []", "", f"right_{k} : {test} rows_{k} ≡ true", unfolding, f"right_{k} = refl"]
-    with open(f"{crates}/{crate}/proofs/{name}.antt", "w") as f: f.write("\n".join(out) + "\n")
-
-def split(rows, size):
-    return [rows[i:i + size] for i in range(0, len(rows), size)]
+    return REFUSED.get(answer.answer, "").format(quoted(symbol), answer.at)
 
 def pressed_row(reference, symbol):
+    """The row of a symbol that is pressed."""
     return f"presses {quoted(symbol)} {quoted(reference.press(symbol))}"
 
-def listed_presses(reference):
-    """the short symbols that are pressed, each with the spelling that the reference agrees with"""
-    out = []
-    # other rows have bytes that are no text
-    for line in open(f"{HERE}/../crates/check_rows/stdin", "rb"):
-        words = line.rstrip(b"\n").split(b"\t")
-        if words[0] != b"press" or not words[1].startswith(b"_Z") or len(words[1]) > 120: continue
-        text = pressed_row(reference, words[1])
-        assert text == f"presses {quoted(words[1])} {quoted(words[2])}", line
-        out.append(text)
-    return out
+def chosen(symbols, most, seen):
+    """Those of these symbols that are new, plain and of 8 to so many bytes."""
+    for symbol in symbols:
+        is_plain = all(33 <= byte < 127 or 161 <= byte and byte != 173 for byte in symbol)
+        if symbol not in seen and is_plain and symbol.startswith(b"_Z") and 8 <= len(symbol) <= most:
+            yield symbol
 
-def generated_presses(reference, generator, modes):
-    """symbols that were read; of those whose spelling stays some"""
-    out, seen = [], set()
-    for seed, count, size, changed, same in modes:
+def listed(reference):
+    """The rows of the symbols that are listed."""
+    for words in (line.split() for line in read(f"{HERE}/cpp_symbols.txt").split("\n")):
+        if words and not words[0].startswith("#"):
+            text = row(reference, words[-1].encode(), words[0] == "brief")
+            assert text, words
+            yield text
+
+def generated(reference, generator):
+    """The rows of generated symbols, so many of each sort."""
+    seen = {}
+    for seed, count, mode, size, wild, kinds, wanted in (
+            (11, 4000, "valid", 8, 0.0, ("prints",), 130), (12, 4000, "valid", 14, 0.0, ("prints",), 60),
+            (13, 20000, "valid", 12, 0.4, ("refers_badly", "counts_badly"), 100), (14, 4000, "mutated", 8, 0.0, ("has_no_shape",), 20)):
+        before = len(seen)
+        for symbol in chosen(generator.symbols(seed, count, "cpp", mode, size=size, wild=wild), 90, seen):
+            if len(seen) == before + wanted:
+                break
+            text = row(reference, symbol)
+            if text and len(text) <= 400 and text.split()[0] in kinds:
+                seen[symbol] = text
+    return list(seen.values())
+
+def listed_presses(reference):
+    """The short symbols that are pressed, each with the spelling that the reference agrees with. Other rows have bytes that are no text."""
+    with open(f"{HERE}/../crates/check_rows/stdin", "rb") as file:
+        rows = [line.rstrip(b"\n").split(b"\t") for line in file]
+    for words in rows:
+        if words[0] == b"press" and words[1].startswith(b"_Z") and len(words[1]) <= 120:
+            text = pressed_row(reference, words[1])
+            assert text == f"presses {quoted(words[1])} {quoted(words[2])}", words
+            yield text
+
+def generated_presses(reference, generator):
+    """Symbols that were read: so many whose spelling changes, and so many whose spelling stays."""
+    seen = {}
+    for seed, count, size, changed, same in ((21, 8000, 8, 60, 20), (22, 8000, 14, 50, 10)):
         left = {True: changed, False: same}
-        for symbol in generator.symbols(seed, count, "cpp", "valid", size=size, wild=0.0):
-            if symbol in seen or not is_plain(symbol) or not symbol.startswith(b"_Z") or not 8 <= len(symbol) <= 120: continue
-            if row(reference, symbol) is None or not row(reference, symbol).startswith("prints "): continue
-            differs = reference.press(symbol) != symbol
-            if not left[differs]: continue
-            left[differs] -= 1; seen.add(symbol); out.append(pressed_row(reference, symbol))
-    return out
+        for symbol in chosen(generator.symbols(seed, count, "cpp", "valid", size=size, wild=0.0), 120, seen):
+            differs = row(reference, symbol).startswith("prints ") and reference.press(symbol) != symbol
+            if row(reference, symbol).startswith("prints ") and left[differs]:
+                left[differs] -= 1
+                seen[symbol] = pressed_row(reference, symbol)
+    return list(seen.values())
+
+def names_in(crates, module, unused):
+    """The definitions of a module that rows unfold."""
+    text = read(f"{crates}/{module.replace('.', '/')}.antt")
+    found = re.findall(r"^unfoldable pub (\S+) :", text, re.M)
+    for block in re.findall(r"^unfoldable mutual\n((?:  .*\n|\n)+)", text, re.M):
+        found += re.findall(r"^  pub (\S+) :", block, re.M)
+    return [name for name in found if name not in unused]
+
+def write(crates, path, title, rows, module, uses, modules, test, unused):
+    """Writes a module of rows, forty in a group: `uses` has the imports and names that it needs besides the definitions of `modules`."""
+    names = {module: names_in(crates, module, unused) for module in modules}
+    lines, words, others = uses
+    used = ["Row", *(word for word in words if any(text.startswith(word + " ") for text in rows))]
+    out = [f"-- Generated by tools/rows.py. {title}", "use Rattle.std.specs.Prelude.{◌≡◌, refl, true, List, [], ◌∷◌}", *lines,
+           f"use Rattle.{module}.{{{', '.join(used)}}}", *[f"use Rattle.{of}.{{{', '.join(own)}}}" for of, own in names.items() if own]]
+    unfolding = " ".join(["unfolding", *others, *[name for own in names.values() for name in own]])
+    for number, first in enumerate(range(0, len(rows), 40)):
+        out += ["", f"abbrev rows_{number} : List Row", f"rows_{number} =", *[f"    {text} ∷" for text in rows[first:first + 40]], "    []",
+                "",
+                f"right_{number} : {test} rows_{number} ≡ true", unfolding, f"right_{number} = refl"]
+    with open(f"{crates}/{path}.antt", "w", encoding="utf-8") as file:
+        file.write("\n".join(out) + "\n")
 
 def main():
+    """Writes the four files."""
     reference, generator, crates = load(sys.argv[1]), load(sys.argv[2]), sys.argv[3]
-    listed = []
-    for line in open(f"{HERE}/cpp_symbols.txt"):
-        words = line.split()
-        if not words or words[0].startswith("#"): continue
-        text = row(reference, words[-1].encode(), words[0] == "brief")
-        assert text is not None, line
-        listed.append(text)
-    modes = [(11, 4000, "valid", 8, 0.0, ("prints",), 130), (12, 4000, "valid", 14, 0.0, ("prints",), 60),
-             (13, 20000, "valid", 12, 0.4, ("refers_badly", "counts_badly"), 100), (14, 4000, "mutated", 8, 0.0, ("has_no_shape",), 20)]
-    printing = ["use Rattle.std.specs.Fmt.{digits}", "use Rattle.sym_print.specs.Unfold.{printed_to, printed}"], WORDS, ["digits", "printed_to", "printed"]
-    for name, title, rows in (("ListedRows", "Symbols of each kind, and at the edges of the rules.", listed),
-                              ("GeneratedRows", "Symbols that a generator wrote.", generated(reference, generator, modes))):
-        write(crates, "cpp_grammar", name, title, printing, PRINTING, split(rows, 40), "are_right", UNUSED + ["special_front"])
-    pressing = [], ("presses",), []
-    modes = [(21, 8000, 8, 60, 20), (22, 8000, 14, 50, 10)]
-    for name, title, rows in (("Rows/Listed", "Pressed spellings by each rule.", listed_presses(reference)),
-                              ("Rows/Generated", "Pressed spellings of symbols that a generator wrote.", generated_presses(reference, generator, modes))):
-        write(crates, "cpp_press_laws", name, title, pressing, PRESSING, split(rows, 40), "are_pressed", UNUSED + UNPRESSED)
+    uses = (["use Rattle.std.specs.Fmt.{digits}", "use Rattle.sym_print.specs.Unfold.{printed_to, printed}"],
+            ("prints", "briefly", "refers_badly", "counts_badly", "has_no_shape"), ["digits", "printed_to", "printed"])
+    printing = "cpp_grammar.proofs.Row", uses, PRINTING, "are_right", [*UNUSED, "special_front"]
+    pressing = "cpp_press_laws.proofs.Rows.Row", ([], ("presses",), []), PRESSING, "are_pressed", [*UNUSED, *UNPRESSED]
+    for path, title, rows, how in (
+            ("cpp_grammar/proofs/ListedRows", "Symbols of each kind, and at the edges of the rules.", listed(reference), printing),
+            ("cpp_grammar/proofs/GeneratedRows", "Symbols that a generator wrote.", generated(reference, generator), printing),
+            ("cpp_press_laws/proofs/Rows/Listed", "Pressed spellings by each rule.", listed_presses(reference), pressing),
+            ("cpp_press_laws/proofs/Rows/Generated", "Pressed spellings of symbols that a generator wrote.",
+             generated_presses(reference, generator), pressing)):
+        write(crates, path, title, list(rows), *how)
 
-if __name__ == "__main__": main()
+if __name__ == "__main__":
+    main()

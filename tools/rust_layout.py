@@ -13,59 +13,49 @@ def split(text):
             parts[-1] += char
     return [part.strip() for part in parts if part.strip()]
 
-class Call:
-    """A function with what it is given."""
-
-    def __init__(self, name, given):
-        self.name, self.given = name, given
-
-    def __str__(self):
-        return f"{self.name}({', '.join(map(str, self.given))})"
-
-    def fits(self):
-        return all(isinstance(part, str) or part.fits() for part in self.given) and len(", ".join(map(str, self.given))) <= 60
-
-class Fields:
-    """A structure with its fields."""
-
-    def __init__(self, name, given):
-        self.name, self.given = name, given
+class Made:
+    """A call with what it is given, or a structure with its named fields."""
+    def __init__(self, name, given, is_named):
+        self.name, self.given, self.is_named = name, given, is_named
 
     def inside(self):
-        return ", ".join(f"{name}: {part}" for name, part in self.given)
+        """What is between the brackets."""
+        return ", ".join(f"{name}{': ' if name else ''}{part}" for name, part in self.given)
 
     def __str__(self):
-        return f"{self.name} {{ {self.inside()} }}"
+        return f"{self.name} {{ {self.inside()} }}" if self.is_named else f"{self.name}({self.inside()})"
 
     def fits(self):
-        return len(self.inside()) <= 18
+        """Whether it may be in one line."""
+        if self.is_named:
+            return len(self.inside()) <= 18
+        return all(isinstance(part, str) or part.fits() for _, part in self.given) and len(self.inside()) <= 60
 
 def parsed(text):
     """A call or a structure, if the text is one, or the text."""
     if found := re.fullmatch(r"([\w.:]+)\((.*)\)", text):
-        return Call(found[1], list(map(parsed, split(found[2]))))
+        return Made(found[1], [("", parsed(part)) for part in split(found[2])], False)
     if found := re.fullmatch(r"([\w:]+) { (.*) }", text):
-        return Fields(found[1], [(name, parsed(part)) for name, part in (field.split(": ", 1) for field in split(found[2]))])
+        fields = (field.split(": ", 1) for field in split(found[2]))
+        return Made(found[1], [(name, parsed(part)) for name, part in fields], True)
     return text
 
 def lines(tree, indent, broken=False):
     """The lines of an expression that doesn't fit in one, the first without its indentation."""
     if isinstance(tree, str) or not broken and tree.fits() and len(f"{indent}{tree}") < 100:
         return [str(tree)]
-    named = isinstance(tree, Fields)
-    if not named and len(tree.given) == 1:
+    if not tree.is_named and len(tree.given) == 1:
         # what is made of the one thing goes on in its line, down to what is read of a part
-        only = tree.given[0]
-        if isinstance(only, Call) and only.name.startswith("self.") and all(isinstance(part, str) for part in only.given):
-            return [f"{tree.name}(", f"{indent}    {only},", f"{indent})"]
-        first, *rest = lines(only, indent, True)
-        return [f"{tree.name}({first}", *rest[:-1], f"{rest[-1]})"]
-    out = [f"{tree.name} {{" if named else f"{tree.name}("]
-    for name, part in tree.given if named else (("", part) for part in tree.given):
+        only = tree.given[0][1]
+        is_read = isinstance(only, Made) and only.name.startswith("self.") and all(isinstance(part, str) for _, part in only.given)
+        first, *rest = [f"\n{indent}    {only},\n{indent}"] if is_read else lines(only, indent, True)
+        return f"{tree.name}({chr(10).join([first, *rest])})".split("\n")
+    out = [f"{tree.name} {{" if tree.is_named else f"{tree.name}("]
+    for name, part in tree.given:
         first, *rest = lines(part, indent + "    ")
         out += [f"{indent}    {name}{': ' if name else ''}{first}", *rest]
         out[-1] += ","
-    return [*out, indent + ("}" if named else ")")]
+    return [*out, indent + ("}" if tree.is_named else ")")]
 
 def arm(production, text):
     """An arm of a match over productions."""

@@ -1,17 +1,21 @@
-"""What the proofs show of Rust's productions: from the sorts of their parts to the sorts of their values, to why what is read can be spelled, and
-to why what is pressed is read as the same tree."""
+"""What the proofs show of Rust's productions: from the sorts of their parts to the sorts of their values, to why what is read can be
+spelled, and to why what is pressed is read as the same tree."""
 from types import SimpleNamespace
 
 import rust_grammar
-from notation import dashed, together
+from files import template
+from notation import braced, dashed, together
 from rust_parts import BY_NAME, WRITTEN, parts_of
 
 # ## Sorts of values
 
 # the sorts, each with its constructor, and which of these have nothing
-SORTS = {"number": "number", "integer": "an_integer", "letter": "letter", "name": "a_name", "identifier": "an_identifier", "disambiguator": "a_disambiguator", "binder": "a_binder",
-         "lifetime": "a_lifetime", "unsafe": "unsafe_mark", "abi": "an_abi", "truth": "a_truth", "minus": "minus_mark", "path": "a_path", "type": "a_type", "constant": "a_constant",
-         "arguments": "some_arguments", "types": "some_types", "bounds": "some_bounds", "bindings": "some_bindings", "suffix": "a_suffix", "suffix_rest": "suffix_rest", "symbol": "a_symbol"}
+SORTS = {"number": "number", "integer": "an_integer", "letter": "letter", "name": "a_name", "identifier": "an_identifier",
+         "disambiguator": "a_disambiguator", "binder": "a_binder",
+         "lifetime": "a_lifetime", "unsafe": "unsafe_mark", "abi": "an_abi", "truth": "a_truth", "minus": "minus_mark", "path": "a_path",
+         "type": "a_type", "constant": "a_constant",
+         "arguments": "some_arguments", "types": "some_types", "bounds": "some_bounds", "bindings": "some_bindings", "suffix": "a_suffix",
+         "suffix_rest": "suffix_rest", "symbol": "a_symbol"}
 BARE = ("unsafe", "minus", "suffix_rest")
 # the sort of the values of a kind where it isn't the kind's name
 KIND_SORTS = {"SOME_LIFETIME": "lifetime", "SUFFIX_BYTE": "suffix_rest", "NAMESPACE": "letter", "ABI_NAME": "abi"}
@@ -19,7 +23,8 @@ KIND_SORTS = {"SOME_LIFETIME": "lifetime", "SUFFIX_BYTE": "suffix_rest", "NAMESP
 def slot(part):
     """What a production asks for where it has such a part."""
     sort = {"some_lifetime": "lifetime", "other_path": "path"}.get(part.name, part.name)
-    return {"identifier": "an_identifier", "type": "a_type", "abi_value": "an_abi"}.get(part.name, f"{'maybe' if part.missing else 'one'} {sort}")
+    return {"identifier": "an_identifier", "type": "a_type", "abi_value": "an_abi"}.get(part.name,
+            f"{'maybe' if part.missing else 'one'} {sort}")
 
 def production_sort(letter):
     """The sort of what the rule of a letter makes: that of a kind that has the rule, the narrowest one if it is a name."""
@@ -30,21 +35,26 @@ def sorts():
     """Runs of declarations: the sorts, and that of a value; where each is among them; what productions ask for, and what they make."""
     rules = {production: letter for letter, (production, takes, symbols) in rust_grammar.RULES.items()}
     asked = {production: " ∷ ".join(slot(part) for part in parts_of(production)) for production in rules}
-    def written(comment, *lines): return "\n".join([f"-- {WRITTEN}{comment}", *lines])
+    def written(comment, *lines):
+        return "\n".join([f"-- {WRITTEN}{comment}", *lines])
     yield [written(" One for each constructor of `Value`", "pub data Sort : Type 0 where", *[f"  {sort} : Sort" for sort in SORTS]),
-           written("", "abbrev pub sort_of : Value → Sort", *[f"sort_of value.{own} = {sort}" if sort in BARE else f"sort_of (value.{own} _) = {sort}" for sort, own in SORTS.items()])]
-    yield [written(" Where a sort is in that list", "abbrev place_of : Sort → ℕ", *[f"place_of {sort} = {k}" for k, sort in enumerate(SORTS)])]
-    yield [written("", "abbrev pub slots_of : Production → List Slot", *[f"slots_of rules.{production} = {slots} ∷ []" for production, slots in asked.items() if slots], "slots_of _ = []"),
-           written(" The sort of what a production makes", "abbrev pub made_by : Production → Sort", *[f"made_by rules.{production} = {production_sort(letter)}" for production, letter in rules.items()])]
+           written("", "abbrev pub sort_of : Value → Sort", *[f"sort_of value.{own} = {sort}" if sort in BARE
+                   else f"sort_of (value.{own} _) = {sort}" for sort, own in SORTS.items()])]
+    yield [written(" Where a sort is in that list", "abbrev place_of : Sort → ℕ",
+                   *[f"place_of {sort} = {k}" for k, sort in enumerate(SORTS)])]
+    yield [written("", "abbrev pub slots_of : Production → List Slot",
+                   *[f"slots_of rules.{production} = {slots} ∷ []" for production, slots in asked.items() if slots], "slots_of _ = []"),
+           written(" The sort of what a production makes", "abbrev pub made_by : Production → Sort",
+                   *[f"made_by rules.{production} = {production_sort(letter)}" for production, letter in rules.items()])]
 
 def slot_then(part):
     """That a part which is asked for is there, of its sort."""
-    name, tree, own = part.name, part.tree.replace("value.", ""), slot(part)
-    asked = " ".join(f"sorts.{word}" for word in own.split())
-    lines = [f"-- {WRITTEN}", f"{name}_then : (make : Sort) (slots : List Slot) (parts : List Value) (f : {tree} × List Value → Meaning) → Fill ({asked} ∷ slots) parts",
-        f"    → ((found : {tree} × List Value) → Fill slots found.1 → Makes make (f found)) → Makes make ({name}_part parts >>= f)"]
-    lines += [f"{name}_then make slots ({front.valued.replace('value.', '')} ∷ rest) f fill each = each ({front.tree}, rest) (record {{ is = fill.is }})" for front in part.fronts]
-    return "\n".join([*lines, f"{name}_then make slots parts f fill each = " + (f"each ({part.missing[2]}, parts) (record {{ is = fill.is }})" if part.missing else "absurd (false≢true fill.is)")])
+    name, is_filled = part.name, "(record { is = fill.is })"
+    fronts = [f"{name}_then make slots ({front.valued.replace('value.', '')} ∷ rest) f fill each = each ({front.tree}, rest) {is_filled}"
+              for front in part.fronts]
+    last = f"each ({part.missing[2]}, parts) {is_filled}" if part.missing else "absurd (false≢true fill.is)"
+    return template("rust_v0/slot_then.antt", name=name, tree=part.tree.replace("value.", ""), fronts=fronts, last=last,
+                    asked=" ".join(f"sorts.{word}" for word in slot(part).split())).rstrip("\n")
 
 def made_of_slots(made):
     """That a production makes its sort of the parts that it asks for."""
@@ -65,13 +75,12 @@ def good_then(part):
     """That a part can be spelled where all can."""
     lemma, taken = f"{dashed(part.name)}-then", part.lifetimes and part.lifetimes.replace("@", "x")
     whole = f"({part.good} × ({taken} ≤ b))" if taken else part.good
-    lines = [f"-- {WRITTEN}", f"{lemma} : (p : Production) (b : ℕ) (Q : Found Value State → Type 0) (parts : List Value) (f : {part.tree} × List Value → Meaning) → AllGood p b parts",
-        f"    → ((x : {part.tree}) (rest : List Value) → {whole} → AllGood p b rest → Holds Q (f (x, rest))) → Holds Q ({part.name}_part parts >>= f)"]
-    if part.name in ("type", "arguments", "bindings"): lines.append(f"unfolding {taken.split()[0]}")
-    for front, fact in zip(part.fronts, part.good_fronts):
-        lines.append(f"{lemma} p b Q ({front.valued} ∷ rest) f good more = more {f'({front.tree})' if ' ' in front.tree else front.tree} rest {fact} good.1")
-    last = f"more {part.missing[2]} parts {part.good_missing}" + " good" if part.missing else "tt"
-    return "\n".join([*lines, f"{lemma} p b Q parts f good more = {last}"])
+    fronts = [f"unfolding {taken.split()[0]}"] if part.name in ("type", "arguments", "bindings") else []
+    fronts += [f"{lemma} p b Q ({front.valued} ∷ rest) f good more = more {braced(front.tree)} rest {fact} good.1"
+               for front, fact in zip(part.fronts, part.good_fronts)]
+    last = f"more {part.missing[2]} parts {part.good_missing} good" if part.missing else "tt"
+    return template("rust_press/good_then.antt", lemma=lemma, tree=part.tree, whole=whole, name=part.name, fronts=fronts,
+                    last=last).rstrip("\n")
 
 def made_good(made):
     """That what a production makes can be spelled where its parts can."""
@@ -92,21 +101,23 @@ def made_good(made):
 NUMBERS = list(rust_grammar.KINDS)
 
 class Kept:
-    """The rule of a production that makes a tree, as it is pressed: its parts and their names in the tree, the tree and its value, its kinds (a byte of its own
-    among them), the rule, and the kind and the byte at which it is taken"""
+    """The rule of a production that makes a tree, as it is pressed: parts, names, tree, value, kinds, and where it is taken."""
     def __init__(self, made):
         self.made, self.ends = made, made.of in ("path", "type")
         self.parts, self.names = made.parts, names_of([part.name for part in made.parts])
         self.tree = f"(tree.{made.tree} {' '.join(self.names)})"
         self.value = f"(value.{BY_NAME[made.of].fronts[-1].value} {self.tree})"
         self.means = f"{dashed(made.tree)}-means"
-        letter, self.takes, symbols = next((letter, takes, symbols) for letter, (own, takes, symbols) in rust_grammar.RULES.items() if own == made.production)
+        letter, self.takes, symbols = next((letter, takes, symbols) for letter, (own, takes, symbols) in rust_grammar.RULES.items()
+                                           if own == made.production)
         self.bytes = [ord(symbol[1]) for symbol in symbols if symbol[0] == "'"]
         self.kinds = [f"Byte {ord(symbol[1])}" if symbol[0] == "'" else f"Kind {NUMBERS.index(symbol)}" for symbol in symbols]
         self.rule = f"({'taking' if self.takes else 'chaining'} rules.{made.production} {self.kinds_from(0)})"
         kind = made.of.upper()
         self.kind, self.byte = "kind" if made.of == "path" else str(NUMBERS.index(kind)), str(ord(rust_grammar.KINDS[kind][0][letter][0]))
-    def kinds_from(self, first): return f"({''.join(f'{kind} ∷ ' for kind in self.kinds[first:])}[])"
+    def kinds_from(self, first):
+        """The kinds of the parts from one on."""
+        return f"({''.join(f'{kind} ∷ ' for kind in self.kinds[first:])}[])"
     def press_from(self, first):
         """The pressing of the parts from one on."""
         press = [part.press.replace("@", name) for part, name in zip(self.parts, self.names)] + [f"letter {byte}" for byte in self.bytes]
@@ -115,31 +126,42 @@ class Kept:
         """How many lifetimes the tree needs, if its parts need any."""
         needs = [part.lifetimes.replace("@", name) for part, name in zip(self.parts, self.names) if part.lifetimes]
         whole = needs[0] if needs else None
-        for more in needs[1:]: whole = f"max {f'({whole})' if ' ' in whole else whole} ({more})"
+        for more in needs[1:]:
+            whole = f"max {f'({whole})' if ' ' in whole else whole} ({more})"
         return whole
     def fact(self):
         """What values of the parts have to mean."""
-        if self.takes: return f"({'Ends' if self.ends else 'Makes'} {self.rule} {self.byte} c {self.value})"
+        if self.takes:
+            return f"({'Ends' if self.ends else 'Makes'} {self.rule} {self.byte} c {self.value})"
         return f"(λ values. (at : At) → at.bound ≡ c → meaning_of (production_of {self.rule}.number) at values ≡ plain at {self.value})"
 
 def means(kept):
     """What the values of the parts mean together, by the forms in which they come: a type's by which of two they are."""
     arguments, values, forms, typed = [], [], [[]], None
     for part, name in zip(kept.parts, kept.names):
-        if name == "i": argument, value, choices = "(d : ℕ) (m : tree.Name)", "identifier_values d m", [[count, "m"] for count in part.forms]
-        else: argument, value, choices = f"({name} : {part.tree})", part.values.replace("@", name) if part.values else "vs", [[form.replace("@", name)] for form in part.forms]
-        if not part.values: typed = name
+        if name == "i":
+            argument, value, choices = "(d : ℕ) (m : tree.Name)", "identifier_values d m", [[count, "m"] for count in part.forms]
+        else:
+            argument, value, choices = (f"({name} : {part.tree})", part.values.replace("@", name) if part.values else "vs",
+                                        [[form.replace("@", name)] for form in part.forms])
+        if not part.values:
+            typed = name
         arguments.append(argument)
         values.append(value)
         forms = [form + choice for form in forms for choice in choices]
     known = f"({values[0]})"
-    for value in [*values[1:], *["[]" for byte in kept.bytes]]: known = f"({known} ++ ({value}))"
+    for value in [*values[1:], *["[]" for byte in kept.bytes]]:
+        known = f"({known} ++ ({value}))"
     made = kept.value.replace(" i)", " (record { disambiguator = d; name = m }))")
     given = f" (vs : List Value) → IsTypeValue {typed} vs" if typed else ""
-    lines = [f"-- {WRITTEN}", f"pub {kept.means} : {' '.join(arguments)}{given} → (at : At) → meaning rules.{kept.made.production} at {known} ≡ {'ends' if kept.ends else 'plain'} at {made}"]
+    lines = [f"-- {WRITTEN}", f"pub {kept.means} : {' '.join(arguments)}{given} → (at : At) → meaning rules.{kept.made.production} at "
+             f"{known} ≡ {'ends' if kept.ends else 'plain'} at {made}"]
     for form in forms:
-        if typed: lines += [f"{kept.means} {' '.join(form)} vs ({which}) at = rw {fact} refl" for which, fact in (("inl e", "e"), ("inr e", "(e.1, e.2)"))]
-        else: lines.append(f"{kept.means} {' '.join(form)} at = refl")
+        if typed:
+            lines += [f"{kept.means} {' '.join(form)} vs ({which}) at = rw {fact} refl"
+                      for which, fact in (("inl e", "e"), ("inr e", "(e.1, e.2)"))]
+        else:
+            lines.append(f"{kept.means} {' '.join(form)} at = refl")
     return "\n".join(lines)
 
 def kept_parts(kept):
@@ -148,18 +170,22 @@ def kept_parts(kept):
     conditions = [k for k, part in enumerate(kept.made.parts) if part.name not in FREE]
     lines, known, front, facts = [], "[]", "(", ["i.disambiguator i.name" if name == "i" else name for name in kept.names]
     for k, kind in enumerate(kept.kinds):
-        part = kept.parts[k] if k < len(kept.parts) else SimpleNamespace(press=f"letter {kept.bytes[-1]}", values="[]", why=f"byte-presses s c _ _ {kept.bytes[-1]}")
+        part = (kept.parts[k] if k < len(kept.parts) else SimpleNamespace(press=f"letter {kept.bytes[-1]}", values="[]",
+                why=f"byte-presses s c _ _ {kept.bytes[-1]}"))
         name, last = [*kept.names, ""][k], k + 1 == len(kept.kinds)
         values = part.values.replace("@", name) if part.values else None
         good = f"good.{conditions.index(k)}" if k in conditions and len(conditions) > 1 else "good"
-        lemma, rest, after = ("last-presses", "", "") if last else ("and-presses", " " + kept.kinds_from(k + 1), " " + kept.press_from(k + 1))
+        lemma, rest, after = ("last-presses", "", "") if last else ("and-presses", " " + kept.kinds_from(k + 1),
+                " " + kept.press_from(k + 1))
         read_as = f"(λ values. values ≡ ({values}))" if values else "(IsTypeValue t)"
-        lines.append(f"{front}{lemma} s {kept.rule} {taken} c ({kind}){rest} {known} ({part.press.replace('@', name)}){after} {read_as} {kept.fact()}")
+        lines.append(f"{front}{lemma} s {kept.rule} {taken} c ({kind}){rest} {known} ({part.press.replace('@', name)}){after} {read_as} "
+                     f"{kept.fact()}")
         lines.append(f"({part.why.replace('@', name).replace('GOOD', good)})")
         now = f"({values})" if values else f"v{k}"
         known = now if known == "[]" else f"({known} ++ {now})"
         front = f"(λ v{k} h{k}. rw h{k} (" if values else f"(λ v{k} h{k}. ("
-        if not values: facts.append(f"v{k} h{k}")
+        if not values:
+            facts.append(f"v{k} h{k}")
     own = f"λ {at}. {kept.means} {' '.join(facts)} at"
     # each part opens two parentheses, its lemma's and that of what is known after it
     return [*lines, (front + own + ")" if values else front[:-1] + own) + ")" * (2 * len(kept.kinds)), f"(λ {at} values r. r {at})"]
@@ -172,13 +198,17 @@ def kept_clause(kept):
     own = f"(of_{made.of} {kept.tree})" if kept.ends else kept.value
     found = f"has.{made.tree}" if made.of == "path" else "refl"
     lines = [f"let need_is : {need} ≤ c = closed in"] if need else []
-    rule = [f"{takes} s c inside minus {kept.kind} {kept.byte} {kept.rule} {kept.press_from(0)} {kept.fact()} {own} (omega arith) {found} refl", *kept_parts(kept)]
+    rule = [f"{takes} s c inside minus {kept.kind} {kept.byte} {kept.rule} {kept.press_from(0)} {kept.fact()} {own} (omega arith) {found} "
+            "refl", *kept_parts(kept)]
     # a type may be a reference to an earlier one
-    if made.of == "type": rule = [f"own-type-presses s c inside minus {kept.tree} (spell_type {kept.tree}) fits closed", "(" + rule[0], *rule[1:-1], rule[-1] + ")"]
+    if made.of == "type":
+        rule = [f"own-type-presses s c inside minus {kept.tree} (spell_type {kept.tree}) fits closed", "(" + rule[0], *rule[1:-1],
+                rule[-1] + ")"]
     return "\n".join([f"  {front}", *[f"      {line}" for line in lines + rule]])
 
 def names_of(parts):
     """The names of the arguments of a tree, by their sorts."""
     names = []
-    for part in parts: names.append("q" if part == "path" and "p" in names else BY_NAME[part].called)
+    for part in parts:
+        names.append("q" if part == "path" and "p" in names else BY_NAME[part].called)
     return names

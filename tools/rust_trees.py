@@ -1,61 +1,75 @@
-"""What goes through Rust's trees by their arguments alone: from the trees that productions make (rust_made.py) to the clauses of rust_press."""
+"""What goes through Rust's trees by their arguments alone: from the trees that productions make (rust_parts.py) to the clauses of
+rust_press."""
 import sameness
-from rust_made import NODES
-from rust_parts import WRITTEN
+from rust_parts import NODES, WRITTEN
 from rust_spelled import names_of
-from sameness import equal_clause, same_clause
-
-# ## What goes through trees by their arguments alone
 
 # the trees of each family, by constructor, each with the sorts of its arguments; those that no production makes of parts by hand
-FAMILIES = {"path": "Path", "arguments": "Arguments", "type": "Ty", "types": "Tys", "bounds": "Bounds", "bindings": "Bindings", "constant": "Constant"}
-LEAVES = {"arguments": {"no_arguments": []}, "type": {"basic": ["letter"], "path_type": ["path"]}, "types": {"no_types": []}, "bounds": {"no_bounds": []}, "bindings": {"no_bindings": []},
-          "constant": {"integer": ["letter", "truth", "letter"]}}
-TREES = {of: {**LEAVES.get(of, {}), **{made.tree: [part.name for part in made.parts] for made in NODES if made.of == of}} for of in FAMILIES}
+FAMILIES = {"path": "Path", "arguments": "Arguments", "type": "Ty", "types": "Tys", "bounds": "Bounds", "bindings": "Bindings",
+            "constant": "Constant"}
+LEAVES = {"arguments": {"no_arguments": []}, "type": {"basic": ["letter"], "path_type": ["path"]}, "types": {"no_types": []},
+          "bounds": {"no_bounds": []}, "bindings": {"no_bindings": []}, "constant": {"integer": ["letter", "truth", "letter"]}}
+TREES = {of: {**LEAVES.get(of, {}), **{made.tree: [part.name for part in made.parts] for made in NODES if made.of == of}}
+         for of in FAMILIES}
 TREES["constant"] |= {"character": ["letter"], "placeholder": []}
 MUTUAL = [of for of in FAMILIES if of != "constant"]
 NUMERIC = ("letter", "lifetime", "some_lifetime", "disambiguator", "binder")
 
-def by_family(families, indent, signature, clauses, others=None):
-    """A declaration for each family: its signature, its clauses by constructor and what is said of others."""
+def by_family(families, indent, signature, clauses, others=""):
+    """A declaration for each family: its signature, its clauses by constructor and what is said of others. `@` is the family."""
+    found = []
     for of in families:
-        lines = [f"-- {WRITTEN}", signature(of), *[clauses(of, constructor, sorts) for constructor, sorts in TREES[of].items()], *([others(of)] if others else [])]
-        yield "\n".join(indent + line for own in lines for line in own.split("\n"))
+        lines = [f"-- {WRITTEN}", signature, *[clauses(of, constructor, sorts) for constructor, sorts in TREES[of].items()], others]
+        text = "\n".join(filter(None, lines)).replace("@@", FAMILIES[of]).replace("@", of)
+        found.append("\n".join(indent + line for line in text.split("\n")))
+    return found
 
-def sort_of(sort): return "truth" if sort == "unsafe" else sort
+def of_sort(sort, numeric, others):
+    """What is said of an argument by its sort."""
+    return numeric if sort in NUMERIC else others.format("truth" if sort == "unsafe" else sort)
 
 def same(families, indent):
     """Whether two trees are the same, by family."""
-    def test(sort): return "({0} == {1})" if sort in NUMERIC else f"same_{sort_of(sort)} {{0}} {{1}}"
-    def clause(of, constructor, sorts): return same_clause(f"same_{of}", constructor, list(map(test, sorts)))
-    return list(by_family(families, indent, lambda of: f"{'' if indent else 'abbrev '}pub same_{of} : {FAMILIES[of]} → {FAMILIES[of]} → Bool", clause, lambda of: f"same_{of} _ _ = false"))
+    def clause(of, constructor, sorts):
+        tests = [of_sort(sort, "({0} == {1})", "same_{0} {{0}} {{1}}") for sort in sorts]
+        return sameness.same_clause("same_@", constructor, tests)
+    return by_family(families, indent, f"{'' if indent else 'abbrev '}pub same_@ : @@ → @@ → Bool", clause, "same_@ _ _ = false")
 
 def equal(families, indent):
     """That trees which are found the same are equal."""
-    def fact(i, count):
+    def fact(place, count):
         whole = "h"
-        for _ in range(count - 1 - max(i, 1)): whole = f"(both {whole}).0"
-        return whole if count == 1 else f"(both {whole}).{min(i, 1)}"
+        for _ in range(count - 1 - max(place, 1)):
+            whole = f"(both {whole}).0"
+        return whole if count == 1 else f"(both {whole}).{min(place, 1)}"
     def clause(of, constructor, sorts):
-        lemmas = ["eqb-true" if sort in NUMERIC else f"equal-{sort_of(sort)}" for sort in sorts]
-        return "\n".join(equal_clause(f"equal-{of}", constructor, lemmas, [fact(i, len(sorts)) for i in range(len(sorts))]))
-    return list(by_family(families, indent, lambda of: f"pub equal-{of} : (a b : {FAMILIES[of]}) → same_{of} a b ≡ true → a ≡ b", clause, lambda of: f"equal-{of} _ _ h = cc"))
+        lemmas = [of_sort(sort, "eqb-true", "equal-{0}") for sort in sorts]
+        facts = [fact(place, len(sorts)) for place in range(len(sorts))]
+        return "\n".join(sameness.equal_clause("equal-@", constructor, lemmas, facts))
+    return by_family(families, indent, "pub equal-@ : (a b : @@) → same_@ a b ≡ true → a ≡ b", clause, "equal-@ _ _ h = cc")
 
 def itself(families, indent):
     """That each tree is found the same as itself."""
     def clause(of, constructor, sorts):
-        facts = [f"eq-eqb a{i} a{i} refl" if sort in NUMERIC else f"{sort_of(sort)}-itself a{i}" for i, sort in enumerate(sorts)]
-        return f"{of}-itself {sameness.numbered(constructor, len(sorts))} = {sameness.itself(facts)}"
-    return list(by_family(families, indent, lambda of: f"pub {of}-itself : (a : {FAMILIES[of]}) → same_{of} a a ≡ true", clause))
+        facts = [of_sort(sort, f"eq-eqb a{i} a{i} refl", f"{{0}}-itself a{i}") for i, sort in enumerate(sorts)]
+        return f"@-itself {sameness.numbered(constructor, len(sorts))} = {sameness.itself(facts)}"
+    return by_family(families, indent, "pub @-itself : (a : @@) → same_@ a a ≡ true", clause)
 
 def summed(function, public, sum_of):
     """A number of each tree, by those of its subtrees."""
-    def name(of): return function if of == "path" else f"{function}_of_{of}"
+    def name(of):
+        return function if of == "path" else f"{function}_of_{of}"
     def clause(of, constructor, sorts):
         names = names_of(sorts)
         pattern = f"(tree.{constructor} {' '.join(names)})" if sorts else f"tree.{constructor}"
-        return f"{name(of)} {pattern} = {sum_of(constructor, [f'{name(sort)} {own}' for own, sort in zip(names, sorts) if sort in MUTUAL], sorts.count('constant'))}"
-    return list(by_family(MUTUAL, "  ", lambda of: f"{public}{name(of)} : tree.{FAMILIES[of]} → ℕ", clause))
+        parts = [f"{name(sort)} {own}" for own, sort in zip(names, sorts) if sort in MUTUAL]
+        return f"{name(of)} {pattern} = {sum_of(constructor, parts, sorts.count('constant'))}"
+    return [text for of in MUTUAL for text in by_family([of], "  ", f"{public}{name(of)} : tree.@@ → ℕ", clause)]
 
-def weight(constructor, parts, constants): return " + ".join([str(3 + 3 * constants), *parts])
-def size(constructor, parts, constants): return parts[0] if constructor == "path_type" else " + ".join([str(2 + constants if parts else 1), *parts])
+def weight(constructor, parts, constants):
+    """What a tree weighs."""
+    return " + ".join([str(3 + 3 * constants), *parts])
+
+def size(constructor, parts, constants):
+    """How large a tree is."""
+    return parts[0] if constructor == "path_type" else " + ".join([str(2 + constants if parts else 1), *parts])

@@ -1,5 +1,5 @@
-"""That trees are the same by their constructors and argument by argument, in both languages: from a constructor with what its arguments are to the
-clauses of the test, of its soundness and of its reflexivity."""
+"""That trees are the same by their constructors and argument by argument, in both languages: from a constructor with what its arguments are
+to the clauses of the test, of its soundness and of its reflexivity."""
 
 def numbered(constructor, count, letter="a"):
     """A constructor with arguments of its own."""

@@ -1,33 +1,24 @@
-"""Sorts of the values of C++'s parts and of the arguments of its trees: checks that each row fits the parts of its production, and writes what the
-definition checks the same with. grammar.py calls it. What each maker takes is in cpp_trees.txt; cpp_words.txt says what code of its own gives."""
+"""Sorts of the values of C++'s parts and of the arguments of its trees: checks that each row fits the parts of its production, and writes
+what the definition checks the same with. grammar.py calls it. What each maker takes is in cpp_trees.txt; cpp_words.txt says what code of
+its own gives."""
 import re
 
 import cpp_trees
 import meanings
-from cpp_trees import BYTES, DISCRIMINATOR, MARK, NUMBER, PIECE, QUALIFIERS, SIGNED, TRUTH
-from files import sections, template
+from files import template
 from notation import listed
+from meanings import SOURCES, TABLE
 from rules import TOKENS
 
-# the sorts, and those of arguments by what cpp_trees.txt says of them
-ALL = ("trees", "pieces", "texts", "numbers", "truths", "qualifications", "marks", "signed_numbers", "discriminators", "none_read", "letters", "adjustments", "names", "pairs", "signatures")
-OF_ARGUMENT = {PIECE: "pieces", BYTES: "texts", NUMBER: "numbers", TRUTH: "truths", QUALIFIERS: "qualifications", MARK: "marks", SIGNED: "signed_numbers", DISCRIMINATOR: "discriminators"}
-OWN = {word: sorts.split() for head, lines in sections("cpp_words.txt") if head == "own" for line, _ in lines for word, sorts in [line.split(" | ")]}
-
-# of which sort each argument is, and which sorts of a part it reads
-SOURCES = {
-    "tree_at": ("trees", "trees names pairs signatures"), "list_at": ("trees", "trees"), "parameters_at": ("trees", "trees signatures"), "piece_at": ("pieces", "pieces"),
-    "text_at": ("texts", "texts"), "digits_at": ("texts", "texts"), "number_at": ("numbers", "texts"), "letter_at": ("numbers", "letters pairs"),
-    "letter_or_taken": ("numbers", "letters pairs"), "letter_or": ("numbers", "letters pairs"), "operator_first_at": ("numbers", "pieces"), "operator_second_at": ("numbers", "pieces"), "there_at": ("truths", ""),
-    "letter_is": ("truths", "letters"), "qualifiers_at": ("qualifications", "names"), "ref_at": ("marks", "names signatures"), "signed_at": ("signed_numbers", "signed_numbers"),
-    "discriminator_at": ("discriminators", "texts"), "qualified_by": ("qualifications", None), "the_name": ("trees", None), "no_tree": ("trees", None), "code": ("texts", None),
-    "taken": ("numbers", None), "fixed": ("numbers", None), "yes": ("truths", None), "no": ("truths", None)}
-
+# the sorts, and those of arguments by what cpp_trees.txt says of them; and those of what code of its own gives
+ALL = [sort for sort, *_ in TABLE["sorts"]]
+OF_ARGUMENT = {own[0]: sort for sort, *own in TABLE["sorts"] if own}
+OWN = {word: sorts.split() for word, sorts, *_ in TABLE["own"]}
 
 def parsed(text):
     """A text of definitions as words and what is in parentheses; a list as its items."""
-    words, stack = re.findall(r"[()∷]|[^\s()∷]+", text), [[]]
-    for word in words:
+    stack = [[]]
+    for word in re.findall(r"[()∷]|[^\s()∷]+", text):
         if word == "(":
             stack.append([])
         elif word == ")":
@@ -37,86 +28,76 @@ def parsed(text):
             stack[-1].append(word)
     return stack[0]
 
-
 def items(words):
     """The items of a list: what is between its signs, without the empty list at its end."""
-    found, item = [], []
+    found = [[]]
     for word in words:
         if word == "∷":
-            found.append(item[0] if len(item) == 1 and isinstance(item[0], list) else item)
-            item = []
+            found.append([])
         else:
-            item.append(word)
-    return found
+            found[-1].append(word)
+    return [item[0] if len(item) == 1 and isinstance(item[0], list) else item for item in found[:-1]]
 
+def maker_sorts(tree, arguments):
+    """The sorts of a tree's arguments, and its own."""
+    return [OF_ARGUMENT.get(sort, "trees") for _, sort in arguments], "pieces" if tree in cpp_trees.PIECES else "trees"
 
-def maker_sorts():
-    """Of each tree the sorts of its arguments, and its own."""
-    return {tree: ([OF_ARGUMENT.get(sort, "trees") for _, sort in arguments], "pieces" if cpp_trees.SPELLED.get(tree, ("",))[0].split()[-1:] == ["piece"] else "trees")
-            for tree, *arguments in cpp_trees.TREES}
-
-
-MAKERS = maker_sorts()
-
+MAKERS = {tree: maker_sorts(tree, arguments) for tree, *arguments in cpp_trees.TREES}
+# what a step reads of the first part, which is a tree then; what forms read of their parts, and what they give, where that isn't a tree
+STEPS = {"becomes": "", "tests": "texts", "holds": "letters"}
+READ_BY = {"handed": [""], "finished": ["trees"], "either": ["", ""], "cell": ["trees", "trees"], "item": ["trees", "signatures"]}
+GIVEN_BY = {"the_byte": "letters", "a_piece": "pieces", "a_pair": "pairs", "item": "signatures", "in_place": "names"}
 
 class Fitting:
     """A production with what its parts may be as far as they are read, and what is wrong with its row."""
-
     def __init__(self, production, known):
         self.production, self.known = production, known
 
-    def fault(self, says):
-        raise AssertionError(f"the row of {self.production}: {says}")
+    def want(self, is_so, says):
+        """What has to be so of the row."""
+        assert is_so, f"the row of {self.production}: {says}"
 
-    def part(self, k, sorts):
+    def part(self, number, sorts=""):
         """A part that is read as one of these sorts, or as any."""
-        k = int(k)
-        if k >= len(self.known):
-            self.fault(f"part {k} isn't read before")
-        if sorts and not self.known[k] & set(sorts.split()):
-            self.fault(f"part {k} is {', '.join(sorted(self.known[k]))} and none of {sorts}")
+        place = int(number)
+        self.want(place < len(self.known), f"part {number} isn't read before")
+        self.want(not sorts or self.known[place] & set(sorts.split()),
+                  f"part {number} is {self.known[place:place + 1]} and none of {sorts}")
 
     def source(self, given, wanted):
         """An argument that is wanted of this sort."""
-        given = [given] if isinstance(given, str) else given
-        sort, read = SOURCES[given[0]]
-        if sort != wanted:
-            self.fault(f"{' '.join(map(str, given))} is of sort {sort}, and {wanted} is wanted")
-        if given[0] == "qualified_by":
-            for mark in given[1:]:
+        word, *rest = [given] if isinstance(given, str) else given
+        sort, read = SOURCES.get(word, ("qualifications", ""))
+        self.want(sort == wanted, f"{given} is of sort {sort}, and {wanted} is wanted")
+        if word == "qualified_by":
+            for mark in rest:
                 self.source(mark, "truths")
-        elif read is not None:
-            self.part(given[1], read)
+        elif read:
+            self.part(rest[0], "" if read == "any" else read)
 
     def made(self, made, wanted):
         """A tree that is made, which is wanted of this sort."""
         word, *rest = made
+        gives = "trees"
+        if word == "only":
+            return self.source(rest[0], wanted)
         if word == "of":
             takes, gives = MAKERS[rest[0].removeprefix("new_")]
             given = [] if rest[1] == "[]" else rest[1]
-            if len(given) != len(takes):
-                self.fault(f"{rest[0]} has {len(given)} arguments, and takes {len(takes)}")
+            self.want(len(given) == len(takes), f"{rest[0]} has {len(given)} arguments, and takes {len(takes)}")
             for one, sort in zip(given, takes):
                 self.source(one, sort)
-        elif word == "only":
-            return self.source(rest[0], wanted)
-        elif word == "extending":
-            self.made(rest[0], "pieces")
-        elif word == "applying":
-            self.made(rest[0], "trees")
-            self.part(rest[1], "")
-        else:
-            self.part(rest[0], {"tagging": "texts", "packing": "trees"}[word])
-        if wanted != (gives if word == "of" else "trees"):
-            self.fault(f"{' '.join(map(str, made))} isn't of the sort {wanted}")
+        elif word in ("extending", "applying"):
+            self.made(rest[0], "pieces" if word == "extending" else "trees")
+        if word not in ("of", "extending"):
+            self.part(rest[-1], {"tagging": "texts", "packing": "trees"}.get(word, ""))
+        return self.want(wanted == gives, f"{made} isn't of the sort {wanted}")
 
     def listing(self, listing):
         """Whether a tree is marked as listed."""
         word, *rest = [listing] if isinstance(listing, str) else listing
-        if rest:
-            self.part(rest[0], "" if word == "unless_there" else "trees")
-        if rest[1:]:
-            self.part(rest[1], "")
+        for part, sorts in zip(rest, ("" if word == "unless_there" else "trees", "")):
+            self.part(part, sorts)
 
     def gain(self, gain):
         """What becomes a candidate."""
@@ -133,8 +114,8 @@ class Fitting:
             elif not isinstance(rest[1], str):
                 self.part(rest[1][1], "trees")
                 self.listing(rest[1][2])
-        elif word in ("becomes", "tests", "holds"):
-            self.part(0, {"becomes": "", "tests": "texts", "holds": "letters"}[word])
+        elif word in STEPS:
+            self.part(0, STEPS[word])
             if word == "becomes":
                 self.made(rest[0], "trees")
             self.known[0] = {"trees"}
@@ -142,24 +123,19 @@ class Fitting:
     def form(self, text):
         """What the production denotes."""
         word, *rest = parsed(text)
-        if word == "makes":
-            self.made(rest[0], "trees")
-            self.listing(rest[1])
-        elif word == "a_piece":
-            self.made(rest[0], "pieces")
+        if word in ("makes", "a_piece"):
+            self.made(rest[0], GIVEN_BY.get(word, "trees"))
+            self.listing(rest[1] if word == "makes" else "listed")
         elif word == "a_pair":
             self.source(rest[0], "numbers")
-            self.made(rest[1], "trees")
-            self.made(rest[2], "trees")
+            for tree in rest[1:]:
+                self.made(tree, "trees")
         elif word in ("a_name", "in_place"):
             self.part(0, "trees")
-            self.part(1, "")
+            self.part(1)
             self.listing(rest[0] if rest else "listed")
-        elif word not in ("the_byte", "own"):
-            first, second = {"handed": ("", None), "finished": ("trees", None), "either": ("", ""), "cell": ("trees", "trees"), "item": ("trees", "signatures")}[word]
-            self.part(rest[0], first)
-            if second is not None:
-                self.part(rest[1], second)
+        for part, sorts in zip(rest, READ_BY.get(word, [])):
+            self.part(part, sorts)
 
     def gives(self, text):
         """The sorts of what it denotes."""
@@ -168,10 +144,7 @@ class Fitting:
             return self.known[int(rest[0])]
         if word == "either":
             return (self.known[int(rest[0])] - {"none_read"}) | self.known[int(rest[1])]
-        if word == "own":
-            return set(OWN.get(rest[0], ["trees"]))
-        return {{"the_byte": "letters", "a_piece": "pieces", "a_pair": "pairs", "item": "signatures", "in_place": "names"}.get(word, "trees")}
-
+        return set(OWN.get(rest[0], ["trees"])) if word == "own" else {GIVEN_BY.get(word, "trees")}
 
 def of_part(symbol, kinds, known):
     """What a part of this symbol may be, by what is known of kinds."""
@@ -179,27 +152,22 @@ def of_part(symbol, kinds, known):
         return {"texts"}
     return {"none_read"} if symbol not in kinds else known[symbol] | ({"none_read"} if kinds[symbol][0] else set())
 
-
 def fitted(production, row, parts, step=lambda fitting, text: fitting.step(text)):
     """A production once its parts are read, with each step before them."""
     fitting = Fitting(production, [])
     for i, part in enumerate(parts):
-        text = row.before[i] if i < len(row.before) else row.onward
-        step(fitting, text)
+        step(fitting, row.step(i).definition)
         fitting.known.append(part)
     return fitting
-
 
 def is_numbered(form):
     """Whether the number of a lambda or an unnamed type is read."""
     return "number_at" in form or form.startswith("own closure")
 
-
 def turned(fitting, text):
     """A step, of which only what it does to the first part is of interest."""
-    if fitting.known and text.split()[0] in ("becomes", "tests", "holds"):
+    if fitting.known and text.split()[0] in STEPS:
         fitting.known[0] = {"trees"}
-
 
 def kind_sorts(kinds, productions, table):
     """The sorts of what each kind's productions stand for."""
@@ -211,7 +179,6 @@ def kind_sorts(kinds, productions, table):
                 parts = [of_part(symbol, kinds, found) for symbol in productions[production][1]]
                 found[kind] |= fitted(production, table[production], parts, turned).gives(table[production].form)
     return found
-
 
 def check(kinds, productions, table):
     """Checks each row against the parts of its production; returns the sorts of kinds."""
@@ -225,17 +192,18 @@ def check(kinds, productions, table):
         assert row.tests_number == is_numbered(row.form), f"the row of {production}: a number is tested where it is read"
     return found
 
-
 def clauses(function, found, prefix=""):
     """A definition by cases, of those that aren't trees alone."""
-    return [f"{function} {prefix}{name} = {listed(sorted(sorts, key=ALL.index))}" for name, sorts in found.items() if set(sorts) != {"trees"}]
-
+    return [f"{function} {prefix}{name} = {listed(sorted(sorts, key=ALL.index))}" for name, sorts in found.items()
+            if set(sorts) != {"trees"}]
 
 def files(kinds, productions, table):
     """What is written: the file's path in the folder of the crates, and its text."""
     trees = [tree[0] for tree in meanings.makers(table)]
     yield "cpp_grammar/specs/Sorts.antt", template(
-        "cpp_grammar/Sorts.antt", makers=", ".join(f"new_{tree}" for tree in trees), own=", ".join(sorted({"closure", *(word for word, sorts in OWN.items() if sorts != ["trees"])})),
+        "cpp_grammar/Sorts.antt", makers=", ".join(f"new_{tree}" for tree in trees),
+        own=", ".join(sorted({"closure", *(word for word, sorts in OWN.items() if sorts != ["trees"])})),
         sorts=[f"  {sort} : Sort" for sort in ALL], ranks=[f"rank_of {sort} = {i}" for i, sort in enumerate(ALL)],
-        takes=[f"takes new_{tree} = {listed(MAKERS[tree][0])}" for tree in trees], made=[f"sort_made new_{tree} = pieces" for tree in trees if MAKERS[tree][1] == "pieces"],
+        takes=[f"takes new_{tree} = {listed(MAKERS[tree][0])}" for tree in trees],
+        made=[f"sort_made new_{tree} = pieces" for tree in trees if MAKERS[tree][1] == "pieces"],
         own_gives=clauses("own_gives", OWN), kind_gives=clauses("kind_gives", check(kinds, productions, table), "Kind."))

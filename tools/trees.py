@@ -1,87 +1,95 @@
-"""Writes the declarations that go through C++'s trees, nodes and productions by their rows alone, from cpp_trees.py and grammar.py: each is in
-a file by hand, in a paragraph whose first line says that this script writes it."""
+"""Writes the declarations that go through C++'s trees, nodes and productions by their rows alone, from cpp_trees.py and grammar.py: each is
+in a file by hand, in a paragraph whose first line says that this script writes it."""
 import re
 
 import cpp_trees
 import layouts
-import node_answers
+import node_clauses
 import node_code
 import payments
+import production_clauses as clauses
 import spellings
 import step_code
-import vocabulary as words
-import wrappers
+import tree_clauses
+import splicing
 from cpp_trees import PRESSED, named
-from declarations import declarations
 from files import read
-from node_clauses import NODE_TYPES, by_nodes, noted_nodes
 from node_code import nodes
 from notation import snake
-from productions import coded_cases
-from production_clauses import (
-    READ_OF_ARGUMENTS, READ_OF_VALUES, arms, common_answers, families, family_answers, family_laws, family_specs, read_noted,
-)
+from rules import WITH_CODE_BEFORE, families
 from splicing import WRITTEN, extended, rewritten, with_arms, with_constants, with_declarations, with_imports, with_requires
 
 LINKED = "cpp_link/proofs/linked/Linked"
 NOTED = "cpp_term/proofs/MeaningNoted.antt"
 SHOWN = "cpp_layout/proofs/symbol/Symbol/{0}/Answers.antt"
 
-
-def arms_by_production(found):
+def arms_by_production():
     """Path, function, and the arms of its match that are written."""
-    yield "cpp_link/src/finish.rt", "finish_rule", list(arms("finish_as", words.COMMON))
-    yield "cpp_link/src/between.rt", "before_by_step", list(arms("before_as", words.COMMON_BEFORE))
-    yield "cpp_link/src/families.rt", "family_of", [f"        Production::{pattern} => Family::{family}," for family, productions in found.items() for _, pattern, _ in coded_cases(dict.fromkeys(productions))]
+    common, before = families()["Common"], [name for name in families()["Common"] if name in WITH_CODE_BEFORE]
+    yield "cpp_link/src/finish.rt", "finish_rule", list(clauses.arms("finish_as", common))
+    yield "cpp_link/src/between.rt", "before_by_step", list(clauses.arms("before_as", before))
+    yield "cpp_link/src/families.rt", "family_of", clauses.family_code()
     yield "cpp_tree/src/node.rt", "Node", list(node_code.variants())
-    yield "cpp_tree/src/node.rt", "is_encoding", [f"            Node::{node} {{ .. }} => true," for node, tree, args in nodes() if tree in cpp_trees.ENCODINGS]
+    encodings = [f"            Node::{node.name} {{ .. }} => true," for node in nodes() if node.tree in cpp_trees.ENCODINGS]
+    yield "cpp_tree/src/node.rt", "is_encoding", encodings
     yield "cpp_tree/src/notes.rt", "noted", node_code.noted()
     yield "cpp_tree/src/view.rt", "view_of_own", node_code.seen()
     yield from step_code.arms()
-    compared = [(node, args) for node, tree, args in nodes() if tree in cpp_trees.COMPONENTS]
-    yield "cpp_spelling/src/types.rt", "is_component", [f"        Node::{node}{'(_)' if len(args) == 1 else ' { .. }'} => true," for node, args in compared]
-
+    compared = [node for node in nodes() if node.tree in cpp_trees.COMPONENTS]
+    lines = [f"        Node::{node.name}{'(_)' if len(node.fields) == 1 else ' { .. }'} => true," for node in compared]
+    yield "cpp_spelling/src/types.rt", "is_component", lines
 
 def whole_files(crates):
     """The files of which all is written, by their paths in the folder of the crates, and their texts."""
-    found = families()
+    rare = {family: productions for family, productions in families().items() if family != "Common"}
     return {
-        "cpp_link/specs/Families.antt": family_specs(found),
-        "cpp_link/proofs/FamilyArms.antt": family_laws(found),
-        **{f"{LINKED}/outcome_of_{snake(family)}/Answers.antt": family_answers(family, productions) for family, productions in found.items() if family != "Common"},
+        "cpp_link/specs/Families.antt": clauses.family_specs(),
+        "cpp_link/proofs/FamilyArms.antt": clauses.family_laws(),
+        **{f"{LINKED}/outcome_of_{snake(family)}/Answers.antt": clauses.family_answers(family, own) for family, own in rare.items()},
         **{path: f"-- {WRITTEN}\n{text}" for path, text in step_code.answers()},
-        **{f"{LINKED}/{function}/Answers.antt": text for function, text in common_answers()},
-        "cpp_tree/proofs/nodes/Nodes/noted/Answers.antt": node_answers.noted(crates, [node for node, args in noted_nodes()]),
-        "cpp_tree/proofs/view/view_of_own/Answers.antt": node_answers.seen(),
+        **{f"{LINKED}/{function}/Answers.antt": text for function, text in clauses.common_answers()},
+        "cpp_tree/proofs/nodes/Nodes/noted/Answers.antt": node_code.noted_answers(crates, [node for node, _ in node_clauses.noted_nodes()]),
+        "cpp_tree/proofs/view/view_of_own/Answers.antt": node_code.seen_answers(),
     }
 
+def lemmas():
+    """Runs of lemmas, each with its path, that are beside others by hand."""
+    for names, *of in ((clauses.READ_OF_VALUES, "value_", "Value", "part", "noted_value", "noted_values", "part_noted",
+                        "(leaf_.tree t listed)", "pub "),
+                       (clauses.READ_OF_ARGUMENTS, "builder_", "Argument", "argument", "noted_argument", "noted_arguments",
+                        "argument_noted", "(a_tree x)", "")):
+        yield NOTED, list(clauses.read_noted(names, *of))
+    yield from ((path, ["\n".join(lines)]) for path, lines in spellings.lemmas(named(PRESSED)))
+
+def declarations(crates):
+    """The path and the name of each declaration that is written whole, and the lines of its clauses."""
+    yield from tree_clauses.declarations()
+    yield from node_clauses.declarations()
+    yield from clauses.declarations(crates)
+    yield from payments.declarations(crates)
 
 def edits(crates):
     """What is written into files by hand: the path of each, how its text changes, and by what."""
-    yield from ((path, rewritten, [name, lines]) for path, name, lines in [*declarations(crates), *payments.declarations(crates)])
-    yield from wrappers.edits()
-    of_values = read_noted(READ_OF_VALUES, "value_", "Value", "part", "noted_value", "noted_values", "part_noted", "(leaf_.tree t listed)", "pub ")
-    of_arguments = read_noted(READ_OF_ARGUMENTS, "builder_", "Argument", "argument", "noted_argument", "noted_arguments", "argument_noted", "(a_tree x)", "")
-    yield from ((NOTED, with_declarations, [list(lemmas)]) for lemmas in (of_values, of_arguments))
-    types = {node: [NODE_TYPES[sort] for name, sort in args] for node, tree, args in nodes()}
+    yield from ((path, rewritten, [name, lines]) for path, name, lines in declarations(crates))
+    yield from splicing.wrapper_edits()
+    types = {node.name: [node_clauses.TYPES[sort][0] for _, sort in node.arguments] for node in nodes()}
     others, answers, whole, matched = layouts.files(crates, types)
     yield "cpp_layout/proofs/Others.antt", lambda text: others, []
     yield from ((SHOWN.format(function), with_declarations, [["\n".join(lines)]]) for function, shown in answers.items() for lines in shown)
     yield from ((SHOWN.format(function), lambda text, own: own, [own]) for function, own in whole.items())
-    yield from ((path, with_declarations, [["\n".join(lines)]]) for path, lines in spellings.lemmas(named(PRESSED)))
+    yield from ((path, with_declarations, [owns]) for path, owns in lemmas())
     for name, functions in (("IsNoName", layouts.LEFT[:1]), ("IsNoType", layouts.LEFT[:2])):
-        yield "cpp_layout/specs/Layout.antt", rewritten, [name, by_nodes(name, matched, functions)]
+        yield "cpp_layout/specs/Layout.antt", rewritten, [name, node_clauses.by_nodes(name, matched, functions)]
     yield from ((path, extended, [name, lines]) for path, name, lines in spellings.declarations(named(PRESSED)))
     yield "cpp_link/proofs/CandidatesFlow.antt", extended, ["flows", step_code.flows()]
     yield from ((path, with_requires, [function, lines]) for path, function, lines in step_code.asked())
-    yield from ((path, with_arms, [function, lines]) for path, function, lines in arms_by_production(families()))
-
+    yield from ((path, with_arms, [function, lines]) for path, function, lines in arms_by_production())
 
 def files(crates):
     """The files that are written, or have declarations that are, by their paths in the folder of the crates, and their texts."""
     texts = whole_files(crates)
     for path, edit, given in edits(crates):
         texts[path] = edit(texts.get(path) or read(f"{crates}/{path}"), *given)
-    constants = re.findall(r"^pub const (\w+)", texts[wrappers.NUMBERS], re.M)
+    constants = re.findall(r"^pub const (\w+)", texts[splicing.NUMBERS], re.M)
     texts["cpp_tree/src/view.rt"] = with_constants(texts["cpp_tree/src/view.rt"], constants)
     return {path: with_imports(text, constants) if path.endswith(".antt") else text for path, text in texts.items()}

@@ -24,27 +24,35 @@ def paragraph(text, start):
 def unreached(crates):
     texts = {path: open(path, encoding="utf-8").read() for path in sources(crates)}
     everywhere = collections.Counter()
-    for text in texts.values(): everywhere.update(words(re.sub(r"(?<=\w)[:.]{1,2}(?=\w)", " ", text)))
+    for text in texts.values():
+        everywhere.update(words(re.sub(r"(?<=\w)[:.]{1,2}(?=\w)", " ", text)))
     for path, text in texts.items():
-        if not path.endswith(".antt") or LEFT_OUT.search(path): continue
+        if not path.endswith(".antt") or LEFT_OUT.search(path):
+            continue
         for found in DEFINED.finditer(text):
             name = found.group(1)
-            if "◌" in name: continue
+            if "◌" in name:
+                continue
             own = words(re.sub(r"(?<=\w)[:.]{1,2}(?=\w)", " ", paragraph(text, found.start())))[name]
-            if everywhere[name] <= own: yield f"{os.path.relpath(path, crates)}: nothing names {name}"
+            if everywhere[name] <= own:
+                yield f"{os.path.relpath(path, crates)}: nothing names {name}"
 
 def unnamed(root):
-    with open(f"{root}/crates.txt") as f: lines = [line.split("#")[0].strip() for line in f]
+    with open(f"{root}/crates.txt") as f:
+        lines = [line.split("#")[0].strip() for line in f]
     for line in filter(None, lines):
         crate, names = line.split(":")
         text = "\n".join(open(path, encoding="utf-8").read() for path in sources(f"{root}/crates/{crate.split()[0]}"))
         for name in names.split():
-            if not re.search(rf"\b{name}\b", text): yield f"crates.txt: no file of {crate.split()[0]} names {name}"
+            if not re.search(rf"\b{name}\b", text):
+                yield f"crates.txt: no file of {crate.split()[0]} names {name}"
 
 def main():
     root = sys.argv[1] if len(sys.argv) > 1 else os.path.join(os.path.dirname(os.path.abspath(__file__)), "..")
     found = [*unreached(f"{root}/crates"), *unnamed(root)]
-    for fault in found: print(fault)
+    for fault in found:
+        print(fault)
     sys.exit(1 if found else 0)
 
-if __name__ == "__main__": main()
+if __name__ == "__main__":
+    main()
