@@ -19,7 +19,7 @@ same answer. Some 99 of 100 real C++ symbols, and as many Rust ones, go a short 
 show it, and symbols of nearly the form that go the short way. Each line is of rows `way` of `crates/check_rows/stdin`,
 which the gate asks the code.
 
-Sizes, which no row shows: a symbol of more than 65,536 bytes, or whose text is longer than eight times the symbol and a
+Sizes, which no row shows: a symbol of more than 65,536 bytes, or whose text is longer than 32 times the symbol and a
 kilobyte, is left; and so are, in a symbol of more than 1,024 bytes, types without parameters, lambdas with parameters,
 addresses of functions as arguments and members of instances as arguments. Everything that is counted (`--stats`) or
 pressed is left, too.

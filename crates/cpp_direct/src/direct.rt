@@ -62,12 +62,12 @@ impl Direct {
         Some(())
     }
 
-    /// Clears the lists and reserves their room for a symbol: this many bytes of text, at most eight for each of the symbol's
+    /// Clears the lists and reserves their room for a symbol: this many bytes of text, at most 32 for each of the symbol's
     /// and a kilobyte, and an entry for each byte in the other lists.
     #[inline(always)]
     pub fn restart(&mut self, s: &[u8], bytes: u32)
         requires fits { FitsSymbol s.now }
-        requires bytes { bytes ≤ 8 * length s.now + 1024 }
+        requires bytes { bytes ≤ 32 * length s.now + 1024 }
         ensures text { self.new.text.list.items ≡ [] }
         ensures candidates { self.new.candidates.list.items ≡ [] }
         ensures open { self.new.waiting.list.items ≡ [] }
