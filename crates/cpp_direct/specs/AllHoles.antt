@@ -1,6 +1,6 @@
 -- What the open rules still need, for everything that is read, in one place to import it from.
 pub use Rattle.cpp_direct.specs.Holes.{AwaitsComponent, AwaitsElement, AwaitsElementAs, Comes, Expects, IsListKind, IsNameAt, IsNumberAt, IsReferable, IsSeqAt, IsTagAt, IsTyped, ListGoesOn, Named, NestGoesOn, NestNamed, Opened, ReadsRest, SamePasses, StandsAt, TypeNamed, bare_name, candidate, cpp_language, opened, unless_listed, with_candidate}
-pub use Rattle.cpp_direct.specs.HolesOfArrays.{ArrayOpened, IsSizeAt, access_letters, accessed, array_opening, is_marked, with_accessed}
+pub use Rattle.cpp_direct.specs.HolesOfArrays.{ArrayOpened, IsSizeAt, access_letters, accessed, array_opening, is_lvalue, is_marked, with_accessed}
 pub use Rattle.cpp_direct.specs.HolesOfFunctions.{FunctionOpened, ParameterOpened, ReferenceOpened, SignatureGoesOn, plain_function, pointed, reference, reference_letter, with_pointed}
 pub use Rattle.cpp_direct.specs.HolesOfLevels.{LevelOpened, member_of, template_named}
 pub use Rattle.cpp_direct.specs.HolesOfLists.{AddressOpened, ArgumentsOpened, BaseOpened, EncodingOpened, EnumeratorOpened, IsArgumentKind, IsDigitsAt, IsOffsetAt, IsSuffix, ItemsOpened, LiteralOpened, NestOpened, PackOpened, SpecialOpened, SymbolOpened, const_letter, mark_letters, minus_sign, nest_marks}

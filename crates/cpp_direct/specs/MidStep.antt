@@ -32,7 +32,7 @@ use Rattle.cpp_direct.specs.HolesOfArrays.{accessed, with_accessed}
 use Rattle.cpp_direct.specs.HolesOfLevels.{MemberComes}
 use Rattle.cpp_direct.specs.HolesOfTypes.{IsNamedKind, NoReference, TreeOpens}
 use Rattle.cpp_direct.specs.Marks.{has_const, called_on, mark_text}
-use Rattle.cpp_direct.specs.Prints.{NamesClass, Prints, PrintsName, IsElement, PrintAll, Shows, Encloses, sign_text, PrintsAs, PrintsIn, PrintAllAs, IsGiven, PrintAllBy, PrintsMade, pattern_letters}
+use Rattle.cpp_direct.specs.Prints.{NamesClass, Prints, PrintsName, IsElement, PrintAll, Shows, Encloses, sign_text, PrintsAs, PrintsIn, PrintAllAs, IsGiven, PrintAllBy, PrintsAround, PrintsListed, PrintsMade, pattern_letters}
 use Rattle.cpp_direct.specs.WriterInvariant.{AwaitsItems, TakesItems, Encoded, EncodedBehind, Fronts, IsListing, IsTail, IsTemplate, GoesOn, EnumeratorGoesOn, Owns, ParametersGoOn, Serves, Stands, TakesFunction, opening_text, qualifiers, arguments_or_pack, extra_of, led_by, list_with, in_front_of_next, ComeBefore, AreAmong, HasArguments, HasNameSo, HasPack, IsAmong, IsPackOf, IsSingle, IsKnown, IsMadeIn, IsScoped, is_type, place_of, IsNaming, IsNestScoped, Scope, below, is_noted, may_name, encoding_place, IsNesting, Kept, IsBetween, AwaitsTypeIn, HasInstance, HasParameters, IsNestSoFar, FirstType, IsTaken}
 
 -- the digits after the T of a parameter with this number; there is at most one digit
@@ -208,8 +208,8 @@ pub record IsArgumentRead (s : Symbol) (w : Direct) (is_pack : Bool) (from numbe
   pub written : w.text.list.items ≡ (led_by (detail_of s) (arguments_or_pack is_pack before before_text) front name ++ in_front_of_next ts texts) ++ bytes
   pub from_is : from ≡ length (led_by (detail_of s) (arguments_or_pack is_pack before before_text) front name ++ in_front_of_next ts texts)
   pub number_is : number ≡ length (before ++ ts)
-  pub among : AreAmong (detail_of s) w.text.list.items known (before ++ ts)
-  pub prints : Prints (detail_of s) t bytes is_reference
+  pub among : AreAmong is_pack (detail_of s) w.text.list.items known (before ++ ts)
+  pub prints : PrintsListed is_pack (detail_of s) t bytes is_reference
   pub goes : GoesOn s (arguments_or_pack is_pack before before_text) owner (below s scope rest) front template (ts ++ t ∷ []) w.at state
 
 -- Expects another argument after n + 1, with the known ones recorded.
@@ -232,7 +232,7 @@ pub record AwaitsKnownArgument (s : Symbol) (w : Direct) (is_pack : Bool) (last 
   pub some : ts ≢ []
   pub written : w.text.list.items ≡ led_by (detail_of s) (arguments_or_pack is_pack before before_text) front name ++ texts
   pub number_is : last + 1 ≡ length (before ++ ts)
-  pub among : AreAmong (detail_of s) w.text.list.items known (before ++ ts)
+  pub among : AreAmong is_pack (detail_of s) w.text.list.items known (before ++ ts)
   pub goes : GoesOn s (arguments_or_pack is_pack before before_text) owner (below s scope rest) front template ts w.at state
 
 -- the first piece of a nested name is expected
@@ -310,7 +310,7 @@ pub record AwaitsClass (s : Symbol) (w : Direct) : Type 0 where
 -- the known ones among arguments are at their places, and those that are in a pack
 abbrev pub AreKnown : (detail : Detail) (text : List ℕ) → Arguments → List Term → (tail : Term) → Type 0
 AreKnown detail text a ts tail =
-    ((number : ℕ) → IsSingle a number → IsAmong detail text (place_of a number) number ts)
+    ((number : ℕ) → IsSingle a number → IsAmong false detail text (place_of a number) number ts)
     × (a.has_pack ≡ true → (es : List Term) × HasPack (list_with ts tail) a.before es × IsPackOf detail text a es)
 
 -- The innermost argument list has been read up to its E; its closing bracket is still to be written. The known arguments are at
@@ -545,10 +545,11 @@ pub record IsElementRead (s : Symbol) (w : Direct) (o : Open) : Type 0 where
   pub open_is : reverse w.waiting.list.items ≡ o ∷ rest
   pub read : ElementOf s w (o ∷ rest)
 
--- Likewise for a type that prints on both sides of a name, where the open entry accepts it.
-pub record IsElementPassed (s : Symbol) (w : Direct) : Type 0 where
+-- Likewise for a type that prints on both sides of a name, where the open entry accepts it. It may be a reference.
+pub record IsElementPassed (s : Symbol) (w : Direct) (is_reference : Bool) : Type 0 where
   pub read : ElementOf s w (reverse w.waiting.list.items)
   pub takes : TakesFunction (reverse w.waiting.list.items)
+  pub refers : is_reference ≡ true → PrintsAround (detail_of s) read.own read.bytes
 
 -- an entry that accepts a function type or an array after a text
 pub record Taker (s : Symbol) (scope : Scope) : Type 0 where

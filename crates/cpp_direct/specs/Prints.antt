@@ -63,6 +63,22 @@ pub record PrintsIn (detail : Detail) (context : Context) (extra : ℕ) (t : Ter
   pub void : is_void t ≡ true → bytes ≡ codes "void"
   pub some : 1 ≤ length bytes
 
+-- A reference that prints this text on both sides of a name, as one to an array does.
+pub record PrintsAround (detail : Detail) (t : Term) (bytes : List ℕ) : Type 0 where
+  pub both_texts : (context : Context) → text_of (written_of detail left context t) ++ text_of (written_of detail right context t) ≡ bytes
+  pub cost : (context : Context) → 2 + cost_of (written_of detail left context t) + cost_of (written_of detail right context t) ≤ 4 * length bytes
+  pub is_reference_head : (context : Context) → is_reference (head context t) ≡ true
+  pub is_funarr_head : (context : Context) → is_funarr (head context t) ≡ false
+  pub filled : (context : Context) → is_empty context t ≡ false
+  pub is_closed : is_open t ≡ false
+  pub packless : (scope : Term) → pack_length scope t ≡ None
+  pub no_void : is_void t ≡ false
+
+-- A tree that has this text as an argument, or as an element of a pack, where it may be such a reference.
+abbrev pub PrintsListed : (in_pack : Bool) → (detail : Detail) → Term → (bytes : List ℕ) → (reference : Bool) → Type 0
+PrintsListed false detail t bytes reference = Prints detail t bytes reference
+PrintsListed true detail t bytes reference = Prints detail t bytes reference ⊎ ((reference ≡ true) × PrintsAround detail t bytes)
+
 -- ## Types that name arguments of a function's template
 
 -- the text of an argument of a function's template, and whether it is a reference
@@ -123,7 +139,7 @@ IsMarkedBy patterns.Rvalue false marks = marks ≡ codes "&&"
 -- a tree that a pattern turns into one with this text
 abbrev pub PrintsMade : (detail : Detail) → Pattern → Term → List ℕ → Type 0
 PrintsMade detail pattern t bytes =
-    (own : List ℕ) × (reference : Bool) × (marks : List ℕ) × Prints detail t own reference × IsMarkedBy pattern reference marks × (bytes ≡ own ++ marks)
+    (own : List ℕ) × (reference : Bool) × (marks : List ℕ) × PrintsListed true detail t own reference × IsMarkedBy pattern reference marks × (bytes ≡ own ++ marks)
 
 -- A tree that names its class this way before a constructor or a destructor.
 pub record NamesClass (detail : Detail) (t : Term) (class : List ℕ) : Type 0 where

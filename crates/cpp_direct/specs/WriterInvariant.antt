@@ -1,7 +1,7 @@
 -- What a writer's lists say while a symbol is read: the open entries wait for what comes next, and what was written is its
 -- text.
 use Rattle.sym_print.specs.declared.detail.Detail.{Detail}
-use Rattle.std.specs.Prelude.{◌≡◌, ◌≢◌, ◌⊎◌, ℕ, ◌+◌, ◌*◌, ◌≤◌, List, [], ◌∷◌, ◌++◌, ◌-◌, length, take, drop, reverse, Bool, true, false, Option, Some, None, Ok, codes, ◌&&◌}
+use Rattle.std.specs.Prelude.{◌≡◌, ◌≢◌, ◌⊎◌, ℕ, ◌+◌, ◌*◌, ◌≤◌, ◌<◌, List, [], ◌∷◌, ◌++◌, ◌-◌, length, take, drop, reverse, Bool, true, false, Option, Some, None, Ok, codes, ◌&&◌}
 use Rattle.sym_print.specs.Unshared.{text_of, cost_of}
 use Rattle.sym_demangle.specs.Mangled.{StandsFor}
 use Rattle.cpp_grammar.specs.declared.kind.Kind.{Kind}
@@ -411,9 +411,11 @@ abbrev pub GoesOn : (s : Symbol) → Listing → Open → Below → (front : Lis
 GoesOn s listing owner below front template ts at st =
     ElementsGoOn s (element_kind listing) (scoped_in owner below) (λ l now then. Closes s listing owner below front template l now then) ts at st
 
--- those that are known are among these
-abbrev pub AreAmong : (detail : Detail) (text : List ℕ) → Arguments → List Term → Type 0
-AreAmong detail text a ts = (number : ℕ) → IsKnown a number → IsAmong detail text (place_of a number) number ts
+-- those that are known are among these: arguments, or some of them and elements of a pack after them
+abbrev pub AreAmong : (is_pack : Bool) → (detail : Detail) (text : List ℕ) → Arguments → List Term → Type 0
+AreAmong is_pack detail text a ts =
+    ((number : ℕ) → IsKnown a number → (is_pack ≡ true → number < a.before) → IsAmong false detail text (place_of a number) number ts)
+    × (is_pack ≡ true → (number : ℕ) → IsKnown a number → IsAmong true detail text (place_of a number) number ts)
 
 -- this template precedes the arguments
 abbrev pub IsTemplate : (detail : Detail) → Names → Open → (front : List ℕ) → Term → (name : List ℕ) → (text : List ℕ) → Type 0
@@ -455,7 +457,7 @@ AwaitsArgument s names is_pack from number known owner below os text =
     × (before : List Term) × (written : List ℕ) × ComeBefore (detail_of s) is_pack known before written
     × PrintAll (detail_of s) (extra_of (arguments_or_pack is_pack before written)) ts elements
     × (text ≡ led_by (detail_of s) (arguments_or_pack is_pack before written) front name ++ in_front_of_next ts elements) × (from ≡ length text)
-    × (number ≡ length (before ++ ts)) × AreAmong (detail_of s) text known (before ++ ts)
+    × (number ≡ length (before ++ ts)) × AreAmong is_pack (detail_of s) text known (before ++ ts)
     × ((t : Term) (at : ℕ) (st : State) → Comes s os (tree t true) at st
     → GoesOn s (arguments_or_pack is_pack before written) owner below front template (ts ++ t ∷ []) at st)
 
@@ -509,6 +511,7 @@ TakesFunction (opens.FirstArguments nest ∷ rest) = Unit {0}
 TakesFunction (opens.NameArguments from ∷ rest) = Unit {0}
 TakesFunction (opens.LevelArguments is_dependent ∷ rest) = Unit {0}
 TakesFunction (opens.Pack ∷ rest) = Unit {0}
+TakesFunction (opens.Element from number known ∷ rest) = Unit {0}
 TakesFunction (opens.Parameters mark start argument ∷ rest) = Unit {0}
 TakesFunction (opens.Special ∷ rest) = Unit {0}
 TakesFunction (opens.Enclosing mark from to ∷ rest) = Unit {0}

@@ -93,6 +93,14 @@ fn is_element_at(s: &[u8], at: usize) -> bool {
     }
 }
 
+/// Likewise except for a reference to an array, which is known as an element of a pack.
+fn is_unknown_at(s: &[u8], at: usize) -> bool {
+    match s.get(at..) {
+        Some([b'R', b'A', ..]) => false,
+        _ => is_element_at(s, at),
+    }
+}
+
 impl Direct {
     /// Whether the innermost open arguments are those of a function's name.
     #[inline(always)]
@@ -170,7 +178,7 @@ impl Direct {
             return self.begin_pack::<G>(s);
         }
         let behind = self.at.checked_add(1)?;
-        if byte_at(s, behind) == b'L' || is_element_at(s, behind) {
+        if byte_at(s, behind) == b'L' || is_unknown_at(s, behind) {
             return self.begin_pack::<G>(s);
         }
         self.at = behind;
@@ -221,7 +229,7 @@ impl Direct {
         let more = self.note_argument::<G>(s, true, from, number, known, is_reference);
         let byte = byte_at(s, self.at);
         // a literal isn't known, nor is what follows it
-        if byte == b'L' || is_element_at(s, self.at) {
+        if byte == b'L' || is_unknown_at(s, self.at) {
             return Some(Step::List { is_first: false });
         }
         if byte != b'E' {
@@ -370,7 +378,7 @@ impl Direct {
             return self.last_pack_empty::<G>(s, last, known);
         }
         // a literal isn't known, nor is what follows it
-        if byte == b'L' || is_element_at(s, behind) {
+        if byte == b'L' || is_unknown_at(s, behind) {
             return Some(Step::List { is_first: false });
         }
         self.push_pair(b',', b' ')?;
