@@ -1,6 +1,6 @@
 -- What is said of trees, of the grammar and of texts below this crate, as the proofs need it, in one place to import it from.
 pub use Rattle.cpp_grammar.specs.Answer.{root_item, shown}
-unfoldable pub use Rattle.cpp_grammar.specs.Between.{after, applied, between, extended, in_name, in_signature, in_types, index_of, inside, listed_so_far, named_so_far, no_items, parameter_so_far, under_expansion, with_tag}
+unfoldable pub use Rattle.cpp_grammar.specs.Between.{after, applied, argument_so_far, between, extended, in_name, in_signature, in_types, index_of, inside, listed_so_far, named_so_far, no_items, parameter_so_far, under_expansion, with_tag}
 pub use Rattle.cpp_grammar.specs.Between.{Continuation}
 unfoldable pub use Rattle.cpp_grammar.specs.Grammar.{alternatives, among, choose, in_ranges, is_chain, is_in, kinds, may_be_empty, number_of, number_of_kind, parts_of, pick, productions}
 unfoldable pub use Rattle.cpp_grammar.specs.Items.{argument, head, head_with, indexed, is_empty, is_funarr, is_none_of, is_reference, packs_of}

@@ -110,9 +110,10 @@ impl Direct {
             self.push_pair(b',', b' ')?;
         }
         if G::IS_WIDE && byte == b'X' {
-            let behind = self.at.checked_add(1)?;
-            if byte_at(s, behind) == b's' {
-                return self.begin_level::<G>(s);
+            match byte_at(s, self.at.checked_add(1)?) {
+                b's' => return self.begin_level::<G>(s),
+                b'T' => return self.parameter_argument::<G>(s),
+                _ => {}
             }
         }
         match byte {

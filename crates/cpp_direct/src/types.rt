@@ -28,7 +28,7 @@ fn is_array_behind(s: &[u8], at: usize) -> bool
 }
 
 /// The entry for arguments that include one naming an argument of the function's template, if these may name one.
-fn dependent(entry: Open) -> Option<Open>
+pub fn dependent(entry: Open) -> Option<Open>
     ensures { IfSome result (IsDependentNow entry) }
 {
     match entry {
