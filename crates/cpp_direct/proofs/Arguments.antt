@@ -1,16 +1,18 @@
 -- The arguments of a name, as long as they are types, and packs of them.
-use Rattle.cpp_direct.specs.AllTerms.{Around, Detail, Kind, list, nil, pack, Term, tree}
-use Rattle.std.proofs.Common.{arith, ◌≡◌, ℕ, zero, suc, ◌+◌, ◌-◌, ◌≤◌, ◌<◌, length, List, [], ◌∷◌, ◌++◌, reverse, slice_get, inr, inl, Bool, true, false, Some, refl, ap, sym, ◌∙◌, subst, codes, append_assoc, append-nil}
+use Rattle.cpp_direct.specs.AllTerms.{Around, Detail, integer, Kind, list, nil, pack, signed_digits, Term, tree}
+use Rattle.std.proofs.Common.{arith, ◌≡◌, ◌≢◌, ℕ, zero, suc, ◌+◌, ◌-◌, ◌≤◌, ◌<◌, length, List, [], ◌∷◌, ◌++◌, reverse, slice_get, inr, inl, Bool, true, false, Some, refl, ap, sym, ◌∙◌, subst, codes, append_assoc, append-nil}
 use Rattle.std.proofs.lemmas.Bool.{false≢true}
 use Rattle.std.proofs.lemmas.Option.{slice_get_within}
 use Rattle.std.proofs.lemmas.List.{length-append}
-use Rattle.cpp_direct.specs.AllStates.{AreAmong, AreKnown, Argument, argument_around, argument_entry, Arguments, arguments_or_pack, ArgumentsGoOn, AwaitsArgument, AwaitsArgumentOfName, AwaitsKnownArgument, Belongs, below, Closes, ComeBefore, detail_of, Direct, element_kind, EndsNamed, extra_of, GoesOn, HasPack, in_front_of_next, is_noted, IsAmong, IsArgumentRead, IsElementAs, IsElementPassed, IsKnown, IsListEnded, IsLiteralRead, IsScoped, IsTemplate, IsWriting, Kept, KnowsMore, led_by, list_of, list_with, may_name, Names, nowhere, of_template, Open, opening_bracket, place_of, PrintAll, PrintAllBy, Prints, PrintsListed, Scope, scoped_in, Stands, Symbol, Writes}
-use Rattle.cpp_direct.specs.Holes.{Comes, Opened, Expects, StandsAt}
+use Rattle.cpp_direct.specs.AllStates.{AreAmong, AreKnown, Argument, argument_around, argument_entry, Arguments, arguments_or_pack, ArgumentsGoOn, AwaitsArgument, AwaitsArgumentNumber, AwaitsArgumentOfName, AwaitsKnownArgument, AwaitsNamedType, Belongs, below, Closes, ComeBefore, detail_of, Direct, element_kind, EndsNamed, EndsOtherwise, extra_of, GoesOn, HasPack, in_front_of_next, is_noted, IsAmong, IsArgumentRead, IsElementAs, IsElementPassed, IsKnown, IsListEnded, IsLiteralRead, IsScoped, IsTemplate, IsTypeRead, IsWriting, Kept, KnowsMore, led_by, list_of, list_with, may_name, Names, nowhere, number_text, of_template, Open, opening_bracket, place_of, PrintAll, PrintAllBy, Prints, PrintsListed, Reads, Scope, scoped_in, sign_text, Stands, Symbol, Writes}
+use Rattle.cpp_direct.specs.AllHoles.{Comes, Opened, Expects, IsDigitsAt, StandsAt, TreeOpens, minus_sign}
 use Rattle.cpp_direct.proofs.Ending.{next-written}
-use Rattle.cpp_direct.proofs.Kept.{awaited-in, kept-same, kept-written, reverse-last, template-stays, none-known, kept-read}
+use Rattle.cpp_direct.proofs.Kept.{awaited-in, kept-grown, kept-same, kept-written, reverse-last, template-stays, none-known, kept-read}
 use Rattle.cpp_direct.proofs.Listed.{pack-ends, list-ends, empty-pack-ends, last-found, element-goes-on, element-kind, pack-goes-on, some-elements, template-listed}
 use Rattle.cpp_direct.proofs.Moves.{any-argument}
-use Rattle.cpp_direct.proofs.MovesOfLists.{listed-awaits}
+use Rattle.cpp_direct.proofs.MovesOfLists.{enumerator-opens, listed-awaits}
+use Rattle.cpp_direct.proofs.Elements.{IsNumberRead, no-integer-type, number-unmarked}
+use Rattle.cpp_direct.proofs.PrintedNames.{enumerator-prints, normal-filled, normal-unmarked, not-integer}
 use Rattle.cpp_direct.proofs.PrintedLists.{all-as, listed-element, next-prints, none-print, list-more, none-text}
 use Rattle.cpp_direct.proofs.Scopes.{among-stay, element-there, none-scoped}
 use Rattle.cpp_direct.specs.declared.open.Open.TheVariants as opens
@@ -344,6 +346,147 @@ literal-read s old begun new from number place known p open_is from_is waits tex
           p.ts l.own place new.at p.state p.state p.goes (l.goes_on Kind.ArgumentList p.goes.0 p.goes.1 p.state tt
           (subst (λ n. Expects s Kind.ArgumentList p.goes.0 p.goes.1 n p.state) (sym at) p.goes.4));
     }
+
+-- ## Enumerators
+
+-- an enumerator comes next
+pub argument-enumerator-expected : (s : Symbol) (old mid pushed new : Direct) (last from number n : ℕ) (known : Arguments) → AwaitsKnownArgument s old false last known
+    → StandsAt s.bytes old.at (76 ∷ []) → Writes old mid (codes ", ") → from ≡ length mid.text.list.items → number ≡ last + 1 → n ≡ mid.at + 1
+    → Writes (record mid { at = n }) pushed (codes "(") → new.waiting.list.items ≡ pushed.waiting.list.items ++ opens.ArgumentEnumerator from number known ∷ []
+    → new.text ≡ pushed.text → new.candidates ≡ pushed.candidates → new.has_scope ≡ pushed.has_scope → new.at ≡ pushed.at → AwaitsNamedType s new
+argument-enumerator-expected s old mid pushed new last from number n known p letter one from_is number_is n_is two waits text candidates scope_same at =
+    let q = known-next s old mid false last number known p one number_is in
+    let none : p.before ≡ [] = p.come_before.none refl in
+    let outer = below s q.scope q.rest in
+    let entry = opens.ArgumentEnumerator from number known in
+    let e = enumerator-opens s Kind.ArgumentList q.goes.1 q.goes.0 old.at q.state tt q.goes.4 letter in
+    let begun = mid.text.list.items in
+    let written : new.text.list.items ≡ begun ++ codes "(" = ap (λ v. v.list.items) text ∙ two.text in
+    let open_is : reverse new.waiting.list.items ≡ entry ∷ q.owner ∷ q.rest =
+    ap reverse waits ∙ reverse-last pushed.waiting.list.items entry
+    ∙ ap (λ ws. entry ∷ ws) (ap (λ v. reverse v.list.items) (two.waiting ∙ one.waiting) ∙ p.open_is) in
+    record {
+      kept = kept-grown s mid new (codes "(") written (candidates ∙ two.candidates) (scope_same ∙ two.scope) q.kept;
+      awaited = awaited-in s q.scope new new q.goes.0 e.inner refl open_is q.goes.2 (
+        q.front,
+        q.template,
+        q.name,
+        q.ts,
+        q.texts,
+        subst (λ l. IsTemplate (detail_of s) q.scope.names q.owner q.front q.template q.name l) (sym written)
+            (template-stays (detail_of s) q.scope.names q.owner q.front q.template q.name begun (codes "(") q.is_template),
+        begun,
+        written,
+        from_is,
+        q.written,
+        p.come_before.no_pack,
+        q.elements,
+        q.number_is ∙ ap (λ (l : List Term). length (l ++ p.ts)) none,
+        subst (λ l. AreAmong false (detail_of s) l known p.ts) (sym written) (among-stay false begun (codes "(") known p.ts
+            (subst (λ (l : List Term). AreAmong false (detail_of s) begun known (l ++ p.ts)) none q.among)),
+        λ t here now comes negative digits end minus digits_there ended.
+            element-goes-on s Kind.ArgumentList (scoped_in q.owner outer) (λ l there later. Closes s of_template q.owner outer q.front q.template l there later)
+            q.ts (integer t (signed_digits negative digits)) old.at (end + 1) q.state now q.goes (e.onward t here now comes negative digits end minus digits_there ended),
+      ) (none-scoped q.scope q.goes.0 (entry ∷ q.owner ∷ q.rest) refl);
+      kind = Kind.LiteralType;
+      is_named = tt;
+      begins = subst (λ k. TreeOpens s Kind.LiteralType e.inner q.goes.0 k q.state) (sym (at ∙ two.at ∙ n_is ∙ ap (λ k. k + 1) one.at)) e.opens;
+    }
+
+-- its type is read
+pub value-argument-enumerator : (s : Symbol) (w : Direct) (is_reference : Bool) (from number : ℕ) (known : Arguments) → IsWriting s w (steps.Value is_reference false)
+    → slice_get w.waiting.list.items (length w.waiting.list.items - 1) ≡ Some (opens.ArgumentEnumerator from number known) → AwaitsArgumentNumber s w from number known
+value-argument-enumerator s w is_reference from number known p found =
+    let entry = opens.ArgumentEnumerator from number known in
+    let last = last-found w.waiting.list.items entry found in
+    go last.0 last.1 (subst (λ ws. Stands s p.scope ws v.os v.front) last.1 v.stands)
+  where
+    v : IsTypeRead s p.scope w p.state (reverse w.waiting.list.items) is_reference false
+    v = p.is_before
+
+    go : (rest : List Open) → reverse w.waiting.list.items ≡ opens.ArgumentEnumerator from number known ∷ rest
+        → Stands s p.scope (opens.ArgumentEnumerator from number known ∷ rest) v.os v.front → AwaitsArgumentNumber s w from number known
+    go [] is waits = absurd waits
+    go (owner ∷ rest) is waits = record {
+      kept = p.kept;
+      owner = owner;
+      rest = rest;
+      open_is = is;
+      front = waits.0;
+      template = waits.1;
+      name = waits.2;
+      ts = waits.3;
+      texts = waits.4;
+      is_template = subst (λ l. IsTemplate (detail_of s) p.scope.names owner waits.0 waits.1 waits.2 l) (sym v.written)
+          (template-stays (detail_of s) p.scope.names owner waits.0 waits.1 waits.2 v.front v.bytes waits.5);
+      elements = waits.11;
+      no_pack = waits.10;
+      type = v.own;
+      bytes = v.bytes;
+      is_reference = is_reference;
+      prints = v.prints;
+      from_is = waits.8 ∙ ap length waits.9;
+      written = v.written ∙ ap (λ l. l ++ v.bytes) (waits.7 ∙ ap (λ l. l ++ codes "(") waits.9);
+      number_is = waits.12;
+      among = subst (λ l. AreAmong false (detail_of s) l known waits.3) (sym v.written) (among-stay false v.front v.bytes known waits.3 waits.13);
+      goes = waits.14 v.own w.at p.state v.comes;
+    }
+
+-- and so are its number and an E
+pub argument-enumerator-read : (s : Symbol) (old begun pushed middle ended new : Direct) (from number : ℕ) (known : Arguments) (a : AwaitsArgumentNumber s old from number known)
+    → EndsOtherwise old.text.list.items → begun.text ≡ old.text → begun.candidates ≡ old.candidates → begun.has_scope ≡ old.has_scope → begun.at ≡ old.at
+    → reverse begun.waiting.list.items ≡ a.owner ∷ a.rest → Writes begun pushed (codes ")") → (read : IsNumberRead s.bytes pushed middle)
+    → StandsAt s.bytes middle.at (69 ∷ []) × (ended.at ≡ middle.at + 1) × Reads middle ended []
+    → new.waiting.list.items ≡ ended.waiting.list.items ++ opens.Argument from number known ∷ [] → new.text ≡ ended.text → new.candidates ≡ ended.candidates
+    → new.has_scope ≡ ended.has_scope → new.at ≡ ended.at → IsArgumentRead s new false from number known false
+unfolding signed_digits
+argument-enumerator-read s old begun pushed middle ended new from number known a other text candidates scope_same at opened writes read done waits same_text same_candidates same_scope same_at =
+    let negative = read.0 in
+    let ds = read.1 in
+    let n = signed_digits negative ds in
+    let t = integer a.type n in
+    let here : pushed.at ≡ old.at = writes.at ∙ at in
+    let led = led_by (detail_of s) of_template a.front a.name ++ in_front_of_next a.ts a.texts in
+    let more = codes ")" ++ number_text n in
+    let own = codes "(" ++ a.bytes ++ codes ")" ++ sign_text n ++ n.digits in
+    let entry = opens.Argument from number known in
+    let wrote : ended.text.list.items ≡ old.text.list.items ++ more =
+    done.2.text ∙ append-nil middle.text.list.items ∙ read.4.text ∙ ap (λ l. l ++ number_text n) (writes.text ∙ ap (λ v. v.list.items ++ codes ")") text)
+    ∙ append_assoc old.text.list.items (codes ")") (number_text n) in
+    let grown : new.text.list.items ≡ old.text.list.items ++ more = ap (λ v. v.list.items) same_text ∙ wrote in
+    let filled : ds ≢ [] = λ none. absurd (omega (arith, read.3.is_number.digits.1, ap length read.3.own, ap (λ (l : List ℕ). length l) none)) in
+    record {
+      kept = kept-same s ended new same_text same_candidates same_scope (kept-grown s old ended more wrote
+          (done.2.candidates ∙ read.4.candidates ∙ writes.candidates ∙ candidates) (done.2.scope ∙ read.4.scope ∙ writes.scope ∙ scope_same) a.kept);
+      owner = a.owner;
+      rest = a.rest;
+      open_is = ap reverse waits ∙ reverse-last ended.waiting.list.items entry
+          ∙ ap (λ ws. entry ∷ ws) (ap (λ v. reverse v.list.items) (done.2.waiting ∙ read.4.waiting ∙ writes.waiting) ∙ opened);
+      front = a.front;
+      template = a.template;
+      name = a.name;
+      ts = a.ts;
+      texts = a.texts;
+      t = t;
+      bytes = own;
+      is_template = subst (λ l. IsTemplate (detail_of s) a.scope.names a.owner a.front a.template a.name l) (sym grown)
+          (template-stays (detail_of s) a.scope.names a.owner a.front a.template a.name old.text.list.items more a.is_template);
+      before = [];
+      before_text = [];
+      come_before = record { none = λ e. refl; prints = none-print (detail_of s) 3; count_is = λ e. absurd (false≢true e); no_pack = a.no_pack };
+      elements = a.elements;
+      written = grown ∙ ap (λ l. l ++ more) a.written ∙ simp append_assoc;
+      from_is = a.from_is;
+      number_is = a.number_is;
+      among = subst (λ l. AreAmong false (detail_of s) l known a.ts) (sym grown) (among-stay false old.text.list.items more known a.ts a.among);
+      prints = enumerator-prints a.type a.bytes a.is_reference a.prints (not-integer a.type a.bytes a.is_reference a.prints
+          (no-integer-type old.text.list.items led a.bytes a.written other)) n (normal-filled ds filled) (normal-unmarked ds (number-unmarked s.bytes _ ds _ read.3));
+      goes = subst (λ k. GoesOn s of_template a.owner (below s a.scope a.rest) a.front a.template (a.ts ++ t ∷ []) k a.state) (sym (same_at ∙ done.1))
+          (a.goes negative ds middle.at (subst (λ k. StandsAt s.bytes k (minus_sign negative)) here read.2)
+          (subst (λ k. IsDigitsAt s.bytes (k + length (minus_sign negative)) ds middle.at) here read.3) done.0);
+    }
+
+-- ## Further arguments
 
 argument-belongs : (detail : Detail) (names : Names) (is_pack : Bool) (known : Arguments) (opened : List Open) (owner : Open) (rest : List Open)
     (before : List Term) (before_text : List ℕ) → ComeBefore detail is_pack known before before_text

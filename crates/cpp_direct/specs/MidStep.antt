@@ -1,5 +1,6 @@
 -- Where a writer is between two of its functions, within a step.
-use Rattle.std.specs.Prelude.{◌≡◌, ◌≢◌, ◌⊎◌, ℕ, zero, suc, ◌+◌, List, [], ◌∷◌, ◌++◌, length, reverse, ◌≤◌, Bool, true, false, cond, Some, codes, ◌-◌, take, drop, slice_get}
+use Rattle.std.specs.Prelude.{◌≡◌, ◌≢◌, ◌⊎◌, ℕ, zero, suc, ◌+◌, List, [], ◌∷◌, ◌++◌, length, reverse, ◌≤◌, Bool, true, false, cond, Some, codes, ◌-◌, take, drop, slice_get, nat_eq}
+use Rattle.std.specs.List.{ends_with}
 use Rattle.cpp_direct.specs.Written.{Reads, Writes}
 use Rattle.cpp_direct.specs.HolesOfLists.{IsArgumentKind}
 use Rattle.cpp_direct.specs.WrittenParts.{IsUnmarked, opening_bracket}
@@ -33,7 +34,7 @@ use Rattle.cpp_direct.specs.HolesOfLevels.{MemberComes}
 use Rattle.cpp_direct.specs.HolesOfTypes.{IsNamedKind, NoReference, TreeOpens}
 use Rattle.cpp_direct.specs.Marks.{has_const, called_on, mark_text}
 use Rattle.cpp_direct.specs.Prints.{NamesClass, Prints, PrintsName, IsElement, PrintAll, Shows, Encloses, sign_text, PrintsAs, PrintsIn, PrintAllAs, IsGiven, PrintAllBy, PrintsAround, PrintsListed, PrintsMade, pattern_letters}
-use Rattle.cpp_direct.specs.WriterInvariant.{AwaitsItems, TakesItems, Encoded, EncodedBehind, Fronts, IsListing, IsTail, IsTemplate, GoesOn, EnumeratorGoesOn, Owns, ParametersGoOn, Serves, Stands, TakesFunction, opening_text, qualifiers, arguments_or_pack, extra_of, led_by, list_with, in_front_of_next, ComeBefore, AreAmong, HasArguments, HasNameSo, HasPack, IsAmong, IsPackOf, IsSingle, IsKnown, IsMadeIn, IsScoped, is_type, place_of, IsNaming, IsNestScoped, Scope, below, is_noted, may_name, encoding_place, IsNesting, Kept, IsBetween, AwaitsTypeIn, HasInstance, HasParameters, IsNestSoFar, FirstType, IsTaken}
+use Rattle.cpp_direct.specs.WriterInvariant.{AwaitsItems, TakesItems, Encoded, EncodedBehind, Fronts, IsListing, IsTail, IsTemplate, GoesOn, EnumeratorGoesOn, of_template, Owns, ParametersGoOn, Serves, Stands, TakesFunction, opening_text, qualifiers, arguments_or_pack, extra_of, led_by, list_with, in_front_of_next, ComeBefore, AreAmong, HasArguments, HasNameSo, HasPack, IsAmong, IsPackOf, IsSingle, IsKnown, IsMadeIn, IsScoped, is_type, place_of, IsNaming, IsNestScoped, Scope, below, is_noted, may_name, encoding_place, IsNesting, Kept, IsBetween, AwaitsTypeIn, HasInstance, HasParameters, IsNestSoFar, FirstType, IsTaken}
 
 -- the digits after the T of a parameter with this number; there is at most one digit
 abbrev pub parameter_digits : (number : ℕ) → List ℕ
@@ -370,6 +371,38 @@ pub record AwaitsNumber (s : Symbol) (w : Direct) : Type 0 where
   pub prints : Prints (detail_of s) type bytes is_reference
   pub written : w.text.list.items ≡ led_by (detail_of s) place.listing place.front place.name ++ in_front_of_next ts texts ++ codes "(" ++ bytes
   pub goes : EnumeratorGoesOn s place.listing place.owner (below s scope place.rest) place.front place.template ts type w.at state
+
+-- Likewise for one that is the argument of a name with this number, whose text begins at this place.
+pub record AwaitsArgumentNumber (s : Symbol) (w : Direct) (from number : ℕ) (known : Arguments) : Type 0 where
+  pub kept : Kept s w
+  pub open kept use *
+  pub owner : Open
+  pub rest : List Open
+  pub open_is : reverse w.waiting.list.items ≡ opens.ArgumentEnumerator from number known ∷ owner ∷ rest
+  pub front : List ℕ
+  pub template : Term
+  pub name : List ℕ
+  pub ts : List Term
+  pub texts : List ℕ
+  pub is_template : IsTemplate (detail_of s) scope.names owner front template name w.text.list.items
+  pub elements : PrintAll (detail_of s) 3 ts texts
+  pub no_pack : known.has_pack ≡ false
+  pub type : Term
+  pub bytes : List ℕ
+  pub is_reference : Bool
+  pub prints : Prints (detail_of s) type bytes is_reference
+  pub from_is : from ≡ length (led_by (detail_of s) of_template front name ++ in_front_of_next ts texts)
+  pub written : w.text.list.items ≡ led_by (detail_of s) of_template front name ++ in_front_of_next ts texts ++ codes "(" ++ bytes
+  pub number_is : number ≡ length ts
+  pub among : AreAmong false (detail_of s) w.text.list.items known ts
+  pub goes : EnumeratorGoesOn s of_template owner (below s scope rest) front template ts type w.at state
+
+-- A text ends in no type whose integers are without it.
+pub record EndsOtherwise (text : List ℕ) : Type 0 where
+  pub int : ends_with nat_eq text (codes "(int") ≡ false
+  pub blank_int : ends_with nat_eq text (codes " int") ≡ false
+  pub long : ends_with nat_eq text (codes "(long") ≡ false
+  pub blank_long : ends_with nat_eq text (codes " long") ≡ false
 
 -- An instance was read and written that has a member as an element. Expects the member's name, between two Es.
 pub record AwaitsMember (s : Symbol) (w : Direct) (is_dependent : Bool) : Type 0 where

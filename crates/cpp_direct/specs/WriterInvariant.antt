@@ -476,6 +476,15 @@ AwaitsEnumerator s names listing owner below os text =
     × (text ≡ led_by (detail_of s) listing front name ++ in_front_of_next ts elements ++ codes "(")
     × ((t : Term) (at : ℕ) (st : State) → Comes s os (tree t true) at st → EnumeratorGoesOn s listing owner below front template ts t at st)
 
+-- accepts a type as that of an enumerator, which is the argument of a name with this number
+abbrev pub AwaitsArgumentEnumerator : (s : Symbol) → Names → (from number : ℕ) → (known : Arguments) → (owner : Open) → Below → List Opened → (text : List ℕ) → Type 0
+AwaitsArgumentEnumerator s names from number known owner below os text =
+    (front : List ℕ) × (template : Term) × (name : List ℕ) × (ts : List Term) × (elements : List ℕ)
+    × IsTemplate (detail_of s) names owner front template name text × (begun : List ℕ) × (text ≡ begun ++ codes "(") × (from ≡ length begun)
+    × (begun ≡ led_by (detail_of s) of_template front name ++ in_front_of_next ts elements) × (known.has_pack ≡ false) × PrintAll (detail_of s) 3 ts elements
+    × (number ≡ length ts) × AreAmong false (detail_of s) text known ts
+    × ((t : Term) (at : ℕ) (st : State) → Comes s os (tree t true) at st → EnumeratorGoesOn s of_template owner below front template ts t at st)
+
 -- the open entry is this list of this owner
 abbrev pub Belongs : (detail : Detail) → Names → Listing → (opened : List Open) → (owner : Open) → (rest : List Open) → Type 0
 Belongs detail names of_template opened owner rest = opened ≡ owner ∷ rest
@@ -605,6 +614,9 @@ Stands s scope (opens.Argument from number known ∷ owner ∷ rest) os text =
 Stands s scope (opens.Element from number known ∷ opens.Pack ∷ owner ∷ rest) os text =
     AwaitsArgument s scope.names true from number known owner (outside scope rest (Stands s scope rest)) os text
 Stands s scope (opens.Element from number known ∷ rest) os text = ⊥
+Stands s scope (opens.ArgumentEnumerator from number known ∷ []) os text = ⊥
+Stands s scope (opens.ArgumentEnumerator from number known ∷ owner ∷ rest) os text =
+    AwaitsArgumentEnumerator s scope.names from number known owner (outside scope rest (Stands s scope rest)) os text
 Stands s scope (opens.Enumerator ∷ []) os text = ⊥
 Stands s scope (opens.Enumerator ∷ opens.Pack ∷ []) os text = ⊥
 Stands s scope (opens.Enumerator ∷ opens.Pack ∷ owner ∷ rest) os text =

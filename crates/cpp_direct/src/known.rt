@@ -8,7 +8,7 @@ ghost use Rattle.cpp_direct.specs.Names.{IsReadable};
 ghost use Rattle.cpp_direct.specs.declared.open.Step.TheVariants as steps;
 ghost use Rattle.cpp_direct.specs.Holes.{StandsAt};
 ghost use Rattle.cpp_direct.specs.WriterInvariant.{EndsNamed, IsKnown, IsSingle, IsWriting, begin_by, place_of};
-ghost use Rattle.cpp_direct.specs.MidStep.{AwaitsKnownArgument, IsArgumentRead, KnowsMore};
+ghost use Rattle.cpp_direct.specs.MidStep.{AwaitsArgumentNumber, AwaitsKnownArgument, IsArgumentRead, KnowsMore};
 ghost use Rattle.cpp_direct.specs.Symbol.{symbol_by};
 
 use crate::direct::Direct;
@@ -305,8 +305,11 @@ impl Direct {
         ensures { IfSome result (IsWriting (symbol_by G.IS_WIDE G.IS_BARE G.IS_BRIEF s.now) self.new) }
     {
         let byte = byte_at(s, self.at);
-        // an enumerator isn't known, nor is what follows it
-        if byte == b'L' || is_element_at(s, self.at) {
+        if byte == b'L' {
+            return self.next_enumerator::<G>(s, last, known);
+        }
+        // a function type or an array isn't known, nor is what follows it
+        if is_element_at(s, self.at) {
             return Some(Step::List { is_first: false });
         }
         if byte == b'J' {
@@ -343,6 +346,62 @@ impl Direct {
         })?;
         self.plain_literal::<G>(s)?;
         Some(self.note_argument::<G>(s, false, from, number, known, false))
+    }
+
+    /// An enumerator comes next, after n + 1 arguments of a name: reads it up to the first type in its type.
+    // <expr-primary> ::= L <type> <value number> E
+    #[inline(never)]
+    fn next_enumerator<G: Grammar>(
+        &mut self,
+        s: &[u8],
+        last: u8,
+        known: Arguments,
+    ) -> Option<Step>
+        requires fits { IsReadable s.now }
+        requires letter { StandsAt s.now self.old.at (76 ∷ []) }
+        requires awaits { AwaitsKnownArgument (symbol_by G.IS_WIDE G.IS_BARE G.IS_BRIEF s.now) self.old false last known }
+        ensures { IfSome result (IsWriting (symbol_by G.IS_WIDE G.IS_BARE G.IS_BRIEF s.now) self.new) }
+    {
+        self.push_pair(b',', b' ')?;
+        let from = self.text.end();
+        let number = last.checked_add(1)?;
+        self.at = self.at.checked_add(1)?;
+        self.push_byte(b'(')?;
+        self.waiting.push(Open::ArgumentEnumerator {
+            from,
+            number,
+            known,
+        })?;
+        self.named_type::<G>(s)
+    }
+
+    /// The type of such an enumerator is read: reads its number.
+    // <expr-primary> ::= L <type> <value number> E
+    #[inline(never)]
+    pub(crate) fn argument_enumerator<G: Grammar>(
+        &mut self,
+        s: &[u8],
+        from: u32,
+        number: u8,
+        known: Arguments,
+    ) -> Option<Step>
+        requires fits { IsReadable s.now }
+        requires awaits { AwaitsArgumentNumber (symbol_by G.IS_WIDE G.IS_BARE G.IS_BRIEF s.now) self.old from number known }
+        ensures { IfSome result (IsWriting (symbol_by G.IS_WIDE G.IS_BARE G.IS_BRIEF s.now) self.new) }
+    {
+        if self.ends_as_integer() {
+            return None;
+        }
+        let _open = self.waiting.pop();
+        self.push_byte(b')')?;
+        self.number(s)?;
+        self.literal_ended(s)?;
+        self.waiting.push(Open::Argument {
+            from,
+            number,
+            known,
+        })?;
+        self.argument_ended::<G>(s, from, number, known, false)
     }
 
     /// An argument of a name comes next, after n others.

@@ -228,6 +228,12 @@ pub enum Open {
         number: u8,
         known: Arguments,
     },
+    /// the number of an enumerator that is the argument of a name with this number, whose text begins at this place
+    ArgumentEnumerator {
+        from: u32,
+        number: u8,
+        known: Arguments,
+    },
     /// the elements of a pack, an argument of what was opened before
     Pack,
     /// the element with this number of a pack that is the first argument of a name; its text begins at this place

@@ -308,6 +308,11 @@ impl Direct {
             Open::Address { .. } => None,
             Open::Special => self.finish::<G>(s),
             Open::Enumerator => self.enumerator::<G>(s),
+            Open::ArgumentEnumerator {
+                from,
+                number,
+                known,
+            } => self.argument_enumerator::<G>(s, from, number, known),
             Open::Argument {
                 from,
                 number,

@@ -3,7 +3,7 @@ use Rattle.cpp_direct.specs.declared.open.Open.TheVariants as opens
 use Rattle.cpp_direct.proofs.Handed.{value-element, value-returned, value-signature, value-enumerator, argument-read, special-read, takes-elements}
 use Rattle.cpp_direct.proofs.FunctionsWithin.{front-read, parameter-read-within, type-led}
 use Rattle.cpp_direct.proofs.LambdasRead.{lambda-parameter-read}
-use Rattle.cpp_direct.proofs.Arguments.{value-argument}
+use Rattle.cpp_direct.proofs.Arguments.{value-argument, value-argument-enumerator}
 use Rattle.cpp_direct.proofs.Signatures.{value-array}
 use Rattle.cpp_direct.proofs.direct.Direct.pass_closed.Goals as goal
 
@@ -63,6 +63,11 @@ pub enumerator-requires-clause-awaits : goal.enumerator-requires-clause-awaits
 enumerator-requires-clause-awaits g c =
     value-enumerator _ c.args.self.now c.args.is_reference c.requires.writing (c.requires.waits ∙ ap (λ o. Some o) c.in-Enumerator.is)
 
+pub argument_enumerator-requires-clause-awaits : goal.argument_enumerator-requires-clause-awaits
+argument_enumerator-requires-clause-awaits g c =
+    value-argument-enumerator _ c.args.self.now c.args.is_reference c.in-ArgumentEnumerator.from c.in-ArgumentEnumerator.number c.in-ArgumentEnumerator.known
+    c.requires.writing (c.requires.waits ∙ ap (λ o. Some o) c.in-ArgumentEnumerator.is)
+
 pub argument_ended-requires-clause-read : goal.argument_ended-requires-clause-read
 argument_ended-requires-clause-read g c =
     value-argument _ c.args.self.now false c.args.is_reference c.in-Argument.from c.in-Argument.number c.in-Argument.known
@@ -79,4 +84,4 @@ returns-in_default g c =
     (value-element _ c.args.self.now c.args.is_reference c.args.entry c.requires.writing c.requires.waits)
     (takes-elements c.args.entry c.requires.others c.in_default.not-Returned c.in_default.not-Signature c.in_default.not-Special c.in_default.not-Enumerator
     c.in_default.not-Enclosing c.in_default.not-EnclosingInstance c.in_default.not-EnclosingFront c.in_default.not-Argument c.in_default.not-Lambda c.in_default.not-Element c.in_default.not-Array
-    c.in_default.not-Address c.in_default.not-AddressedFront c.in_default.not-Addressed)
+    c.in_default.not-Address c.in_default.not-AddressedFront c.in_default.not-Addressed c.in_default.not-ArgumentEnumerator)
