@@ -350,21 +350,19 @@ literal-read s old begun new from number place known p open_is from_is waits tex
 -- ## Enumerators
 
 -- an enumerator comes next
-pub argument-enumerator-expected : (s : Symbol) (old mid pushed new : Direct) (last from number n : ℕ) (known : Arguments) → AwaitsKnownArgument s old false last known
-    → StandsAt s.bytes old.at (76 ∷ []) → Writes old mid (codes ", ") → from ≡ length mid.text.list.items → number ≡ last + 1 → n ≡ mid.at + 1
+enumerator-begins : (s : Symbol) (mid pushed new : Direct) (from place number n : ℕ) (known : Arguments) (q : AwaitsNext s mid false place number known)
+    → reverse mid.waiting.list.items ≡ q.owner ∷ q.rest → StandsAt s.bytes place (76 ∷ []) → from ≡ length mid.text.list.items → n ≡ place + 1
     → Writes (record mid { at = n }) pushed (codes "(") → new.waiting.list.items ≡ pushed.waiting.list.items ++ opens.ArgumentEnumerator from number known ∷ []
     → new.text ≡ pushed.text → new.candidates ≡ pushed.candidates → new.has_scope ≡ pushed.has_scope → new.at ≡ pushed.at → AwaitsNamedType s new
-argument-enumerator-expected s old mid pushed new last from number n known p letter one from_is number_is n_is two waits text candidates scope_same at =
-    let q = known-next s old mid false last number known p one number_is in
-    let none : p.before ≡ [] = p.come_before.none refl in
+enumerator-begins s mid pushed new from place number n known q opened letter from_is n_is two waits text candidates scope_same at =
+    let none : q.before ≡ [] = q.come_before.none refl in
     let outer = below s q.scope q.rest in
     let entry = opens.ArgumentEnumerator from number known in
-    let e = enumerator-opens s Kind.ArgumentList q.goes.1 q.goes.0 old.at q.state tt q.goes.4 letter in
+    let e = enumerator-opens s Kind.ArgumentList q.goes.1 q.goes.0 place q.state tt q.goes.4 letter in
     let begun = mid.text.list.items in
     let written : new.text.list.items ≡ begun ++ codes "(" = ap (λ v. v.list.items) text ∙ two.text in
     let open_is : reverse new.waiting.list.items ≡ entry ∷ q.owner ∷ q.rest =
-    ap reverse waits ∙ reverse-last pushed.waiting.list.items entry
-    ∙ ap (λ ws. entry ∷ ws) (ap (λ v. reverse v.list.items) (two.waiting ∙ one.waiting) ∙ p.open_is) in
+    ap reverse waits ∙ reverse-last pushed.waiting.list.items entry ∙ ap (λ ws. entry ∷ ws) (ap (λ v. reverse v.list.items) two.waiting ∙ opened) in
     record {
       kept = kept-grown s mid new (codes "(") written (candidates ∙ two.candidates) (scope_same ∙ two.scope) q.kept;
       awaited = awaited-in s q.scope new new q.goes.0 e.inner refl open_is q.goes.2 (
@@ -379,19 +377,37 @@ argument-enumerator-expected s old mid pushed new last from number n known p let
         written,
         from_is,
         q.written,
-        p.come_before.no_pack,
+        q.come_before.no_pack,
         q.elements,
-        q.number_is ∙ ap (λ (l : List Term). length (l ++ p.ts)) none,
-        subst (λ l. AreAmong false (detail_of s) l known p.ts) (sym written) (among-stay false begun (codes "(") known p.ts
-            (subst (λ (l : List Term). AreAmong false (detail_of s) begun known (l ++ p.ts)) none q.among)),
+        q.number_is ∙ ap (λ (l : List Term). length (l ++ q.ts)) none,
+        subst (λ l. AreAmong false (detail_of s) l known q.ts) (sym written) (among-stay false begun (codes "(") known q.ts
+            (subst (λ (l : List Term). AreAmong false (detail_of s) begun known (l ++ q.ts)) none q.among)),
         λ t here now comes negative digits end minus digits_there ended.
             element-goes-on s Kind.ArgumentList (scoped_in q.owner outer) (λ l there later. Closes s of_template q.owner outer q.front q.template l there later)
-            q.ts (integer t (signed_digits negative digits)) old.at (end + 1) q.state now q.goes (e.onward t here now comes negative digits end minus digits_there ended),
+            q.ts (integer t (signed_digits negative digits)) place (end + 1) q.state now q.goes (e.onward t here now comes negative digits end minus digits_there ended),
       ) (none-scoped q.scope q.goes.0 (entry ∷ q.owner ∷ q.rest) refl);
       kind = Kind.LiteralType;
       is_named = tt;
-      begins = subst (λ k. TreeOpens s Kind.LiteralType e.inner q.goes.0 k q.state) (sym (at ∙ two.at ∙ n_is ∙ ap (λ k. k + 1) one.at)) e.opens;
+      begins = subst (λ k. TreeOpens s Kind.LiteralType e.inner q.goes.0 k q.state) (sym (at ∙ two.at ∙ n_is)) e.opens;
     }
+
+-- the first argument
+pub first-enumerator-expected : (s : Symbol) (old pushed new : Direct) (from n : ℕ) → IsWriting s old (steps.List true) → EndsNamed (reverse old.waiting.list.items)
+    → StandsAt s.bytes old.at (76 ∷ []) → from ≡ length old.text.list.items → n ≡ old.at + 1 → Writes (record old { at = n }) pushed (codes "(")
+    → new.waiting.list.items ≡ pushed.waiting.list.items ++ opens.ArgumentEnumerator from 0 nowhere ∷ [] → new.text ≡ pushed.text → new.candidates ≡ pushed.candidates
+    → new.has_scope ≡ pushed.has_scope → new.at ≡ pushed.at → AwaitsNamedType s new
+first-enumerator-expected s old pushed new from n p named letter from_is n_is two waits text candidates scope_same at =
+    let q = none-next s old p named in
+    enumerator-begins s old pushed new from old.at 0 n nowhere q.0 q.1 letter from_is n_is two waits text candidates scope_same at
+
+-- or another one
+pub argument-enumerator-expected : (s : Symbol) (old mid pushed new : Direct) (last from number n : ℕ) (known : Arguments) → AwaitsKnownArgument s old false last known
+    → StandsAt s.bytes old.at (76 ∷ []) → Writes old mid (codes ", ") → from ≡ length mid.text.list.items → number ≡ last + 1 → n ≡ mid.at + 1
+    → Writes (record mid { at = n }) pushed (codes "(") → new.waiting.list.items ≡ pushed.waiting.list.items ++ opens.ArgumentEnumerator from number known ∷ []
+    → new.text ≡ pushed.text → new.candidates ≡ pushed.candidates → new.has_scope ≡ pushed.has_scope → new.at ≡ pushed.at → AwaitsNamedType s new
+argument-enumerator-expected s old mid pushed new last from number n known p letter one from_is number_is n_is two waits text candidates scope_same at =
+    enumerator-begins s mid pushed new from old.at number n known (known-next s old mid false last number known p one number_is)
+    (ap (λ v. reverse v.list.items) one.waiting ∙ p.open_is) letter from_is (n_is ∙ ap (λ k. k + 1) one.at) two waits text candidates scope_same at
 
 -- its type is read
 pub value-argument-enumerator : (s : Symbol) (w : Direct) (is_reference : Bool) (from number : ℕ) (known : Arguments) → IsWriting s w (steps.Value is_reference false)

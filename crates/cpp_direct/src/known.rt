@@ -153,7 +153,7 @@ impl Direct {
             return self.literal::<G>(s);
         }
         if is_enumerator_at(s, self.at) {
-            return self.literal::<G>(s);
+            return self.first_enumerator::<G>(s);
         }
         let from = self.text.end();
         self.waiting.push(Open::Argument {
@@ -346,6 +346,27 @@ impl Direct {
         })?;
         self.plain_literal::<G>(s)?;
         Some(self.note_argument::<G>(s, false, from, number, known, false))
+    }
+
+    /// The first argument of a name is an enumerator: reads it up to the first type in its type.
+    // <expr-primary> ::= L <type> <value number> E
+    #[inline(never)]
+    fn first_enumerator<G: Grammar>(&mut self, s: &[u8]) -> Option<Step>
+        requires fits { IsReadable s.now }
+        requires letter { StandsAt s.now self.old.at (76 ∷ []) }
+        requires named { EndsNamed (reverse self.old.waiting.list.items) }
+        requires writing { IsWriting (symbol_by G.IS_WIDE G.IS_BARE G.IS_BRIEF s.now) self.old (steps.List true) }
+        ensures { IfSome result (IsWriting (symbol_by G.IS_WIDE G.IS_BARE G.IS_BRIEF s.now) self.new) }
+    {
+        let from = self.text.end();
+        self.at = self.at.checked_add(1)?;
+        self.push_byte(b'(')?;
+        self.waiting.push(Open::ArgumentEnumerator {
+            from,
+            number: 0,
+            known: NOWHERE,
+        })?;
+        self.named_type::<G>(s)
     }
 
     /// An enumerator comes next, after n + 1 arguments of a name: reads it up to the first type in its type.
