@@ -19,8 +19,8 @@ pub struct Direct {
     pub(crate) candidates: Bounded<Candidate>,
     pub(crate) waiting: Bounded<Open>,
     pub(crate) nest: Nest,
-    /// the arguments of the name that was read last: the first of them, if they are literals other than enumerators, or types
-    /// other than function types and arrays, and the elements of a pack of such types after them
+    /// the arguments of the name that was read last: the first of them, if they are literals, or types other than function types
+    /// and arrays, and the elements of a pack after them, of such types or references to arrays
     pub(crate) argument: Arguments,
     /// whether the arguments are known that types may name: those of the symbol's own name, or, while its types are read, of a
     /// function whose address is an argument; or no types follow the name
