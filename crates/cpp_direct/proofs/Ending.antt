@@ -280,7 +280,7 @@ first-expected s w first last mark start argument p one text candidates scope_sa
 -- ## What precedes an encoding's text
 
 -- where that is removed, the remaining candidates are some of the old ones
-cut-kept : (s : Symbol) (old new : Direct) (start : ℕ) → Cuts old new start → Kept s old → Kept s new
+pub cut-kept : (s : Symbol) (old new : Direct) (start : ℕ) → Cuts old new start → Kept s old → Kept s new
 cut-kept s old new start cuts kept = go cuts.candidates
   where
     go : ((start ≡ 0) × (new.candidates ≡ old.candidates)) ⊎ (new.candidates.list.items ≡ []) → Kept s new
@@ -293,7 +293,7 @@ cut-kept s old new start cuts kept = go cuts.candidates
     go (inr none) = record { state = record kept.state { candidates = [] }; scope = no_scope; keeps = none-kept s new none (λ e. (kept.keeps.unknown (sym cuts.scope ∙ e)).1) }
 
 -- and the text is what followed it
-cut-text : (old new : Direct) (start : ℕ) (aside text : List ℕ) → Cuts old new start → start ≡ length aside → old.text.list.items ≡ aside ++ text
+pub cut-text : (old new : Direct) (start : ℕ) (aside text : List ℕ) → Cuts old new start → start ≡ length aside → old.text.list.items ≡ aside ++ text
     → new.text.list.items ≡ text
 cut-text old new start aside text cuts start_is written =
     cuts.text ∙ ap (λ n. drop n old.text.list.items) start_is ∙ ap (λ l. drop (length aside) l) written ∙ drop-append_seam aside text

@@ -188,33 +188,35 @@ passed-closed _ p l r c f k = tt
 
 -- an entry that isn't one of those that wait for something else
 pub takes-elements : (o : Open) → IsPassedClosed o → ((x : Bool) → o ≡ opens.Returned x → ⊥) → ((x : Bool) → o ≡ opens.Signature x → ⊥)
-    → (o ≡ opens.Special → ⊥) → (o ≡ opens.Enumerator → ⊥) → ((x : Mark) (y z : ℕ) → o ≡ opens.Enclosing x y z → ⊥)
+    → (o ≡ opens.Special → ⊥) → (o ≡ opens.Derived → ⊥) → ((x : ℕ) → o ≡ opens.Base x → ⊥) → (o ≡ opens.Enumerator → ⊥) → ((x : Mark) (y z : ℕ) → o ≡ opens.Enclosing x y z → ⊥)
     → ((x : Mark) (y t : ℕ) (z : Arguments) → o ≡ opens.EnclosingInstance x y t z → ⊥)
     → ((x : Mark) (y t : ℕ) (z : Arguments) → o ≡ opens.EnclosingFront x y t z → ⊥)
     → ((x y : ℕ) (z : Arguments) → o ≡ opens.Argument x y z → ⊥) → ((x : ℕ) (y : Option Purpose) → o ≡ opens.Lambda x y → ⊥) → ((x y : ℕ) (z : Arguments) → o ≡ opens.Element x y z → ⊥)
     → ((x : Access) (y z : ℕ) → o ≡ opens.Array x y z → ⊥) → ((x : ℕ) → o ≡ opens.Address x → ⊥)
     → ((x : Mark) (y : ℕ) (z : Arguments) → o ≡ opens.AddressedFront x y z → ⊥) → ((x : Mark) (y : ℕ) (z : Arguments) → o ≡ opens.Addressed x y z → ⊥) → TakesElements o
-takes-elements (opens.Pointer x) w u g z n m i h a q e j d f b = absurd w
-takes-elements (opens.Lvalue x) w u g z n m i h a q e j d f b = absurd w
-takes-elements (opens.Rvalue x) w u g z n m i h a q e j d f b = absurd w
-takes-elements (opens.Const x) w u g z n m i h a q e j d f b = absurd w
-takes-elements (opens.Parameters x y v) w u g z n m i h a q e j d f b = absurd w
-takes-elements (opens.Front x y v) w u g z n m i h a q e j d f b = absurd w
-takes-elements (opens.Argument x y v) w u g z n m i h a q e j d f b = absurd (a x y v refl)
-takes-elements (opens.Returned x) w u g z n m i h a q e j d f b = absurd (u x refl)
-takes-elements (opens.Signature x) w u g z n m i h a q e j d f b = absurd (g x refl)
-takes-elements (opens.Enclosing x y v) w u g z n m i h a q e j d f b = absurd (m x y v refl)
-takes-elements (opens.EnclosingInstance x y t v) w u g z n m i h a q e j d f b = absurd (i x y t v refl)
-takes-elements (opens.EnclosingFront x y t v) w u g z n m i h a q e j d f b = absurd (h x y t v refl)
-takes-elements (opens.Lambda x y) w u g z n m i h a q e j d f b = absurd (q x y refl)
-takes-elements (opens.Array x y v) w u g z n m i h a q e j d f b = absurd (j x y v refl)
-takes-elements (opens.Element x y v) w u g z n m i h a q e j d f b = absurd (e x y v refl)
-takes-elements (opens.Address x) w u g z n m i h a q e j d f b = absurd (d x refl)
-takes-elements (opens.AddressedFront x y v) w u g z n m i h a q e j d f b = absurd (f x y v refl)
-takes-elements (opens.Addressed x y v) w u g z n m i h a q e j d f b = absurd (b x y v refl)
-takes-elements opens.Special w u g z n m i h a q e j d f b = absurd (z refl)
-takes-elements opens.Enumerator w u g z n m i h a q e j d f b = absurd (n refl)
-takes-elements _ w u g z n m i h a q e j d f b = tt
+takes-elements (opens.Pointer x) w u g z k c n m i h a q e j d f b = absurd w
+takes-elements (opens.Lvalue x) w u g z k c n m i h a q e j d f b = absurd w
+takes-elements (opens.Rvalue x) w u g z k c n m i h a q e j d f b = absurd w
+takes-elements (opens.Const x) w u g z k c n m i h a q e j d f b = absurd w
+takes-elements (opens.Parameters x y v) w u g z k c n m i h a q e j d f b = absurd w
+takes-elements (opens.Front x y v) w u g z k c n m i h a q e j d f b = absurd w
+takes-elements (opens.Argument x y v) w u g z k c n m i h a q e j d f b = absurd (a x y v refl)
+takes-elements (opens.Returned x) w u g z k c n m i h a q e j d f b = absurd (u x refl)
+takes-elements (opens.Signature x) w u g z k c n m i h a q e j d f b = absurd (g x refl)
+takes-elements (opens.Enclosing x y v) w u g z k c n m i h a q e j d f b = absurd (m x y v refl)
+takes-elements (opens.EnclosingInstance x y t v) w u g z k c n m i h a q e j d f b = absurd (i x y t v refl)
+takes-elements (opens.EnclosingFront x y t v) w u g z k c n m i h a q e j d f b = absurd (h x y t v refl)
+takes-elements (opens.Lambda x y) w u g z k c n m i h a q e j d f b = absurd (q x y refl)
+takes-elements (opens.Array x y v) w u g z k c n m i h a q e j d f b = absurd (j x y v refl)
+takes-elements (opens.Element x y v) w u g z k c n m i h a q e j d f b = absurd (e x y v refl)
+takes-elements (opens.Address x) w u g z k c n m i h a q e j d f b = absurd (d x refl)
+takes-elements (opens.AddressedFront x y v) w u g z k c n m i h a q e j d f b = absurd (f x y v refl)
+takes-elements (opens.Addressed x y v) w u g z k c n m i h a q e j d f b = absurd (b x y v refl)
+takes-elements opens.Special w u g z k c n m i h a q e j d f b = absurd (z refl)
+takes-elements opens.Derived w u g z k c n m i h a q e j d f b = absurd (k refl)
+takes-elements (opens.Base x) w u g z k c n m i h a q e j d f b = absurd (c x refl)
+takes-elements opens.Enumerator w u g z k c n m i h a q e j d f b = absurd (n refl)
+takes-elements _ w u g z k c n m i h a q e j d f b = tt
 
 -- an element was read
 pub argument-read : (s : Symbol) (w : Direct) (o : Open) → IsElementRead s w o → TakesElements o → IsWriting s w (steps.List false)

@@ -1,5 +1,6 @@
 pub mod Arguments
 pub mod Begins
+mod ConstructionTables
 pub mod DependentsRead
 pub mod Elements
 pub mod Ending

@@ -6,7 +6,7 @@ use Rattle.sym_print.specs.Unshared.{text_of, cost_of}
 use Rattle.sym_demangle.specs.Mangled.{StandsFor}
 use Rattle.cpp_grammar.specs.declared.kind.Kind.{Kind}
 use Rattle.cpp_grammar.specs.Answer.{shown, root_item}
-use Rattle.cpp_grammar.specs.Term.{Term, Qualifiers, symbol, function, special, array, pointer, lvalue, rvalue, qualified, instance, within, integer, address_of, pack, nil, list, absent}
+use Rattle.cpp_grammar.specs.Term.{Term, Qualifiers, symbol, function, special, construction, array, pointer, lvalue, rvalue, qualified, instance, within, integer, address_of, pack, nil, list, absent}
 use Rattle.cpp_grammar.specs.Parts.{source_text}
 use Rattle.cpp_grammar.specs.Texts.{look_up, special_texts}
 use Rattle.cpp_grammar.specs.Scope.{has_return_type, is_structor, arguments_of}
@@ -34,10 +34,10 @@ use Rattle.cpp_direct.specs.HolesOfArrays.{accessed, with_accessed}
 use Rattle.cpp_direct.specs.HolesOfTypes.{NoReference}
 use Rattle.cpp_direct.specs.HolesOfNests.{IsFirstRest}
 use Rattle.cpp_direct.specs.HolesOfLevels.{MemberComes}
-use Rattle.cpp_direct.specs.HolesOfLists.{IsSuffix, IsDigitsAt, minus_sign}
+use Rattle.cpp_direct.specs.HolesOfLists.{BaseClassOpened, IsSuffix, IsDigitsAt, minus_sign}
 use Rattle.cpp_direct.specs.HolesOfLocals.{Discriminator, EntityOpened, IsDiscriminatorAt, IsEntityAt, IsLambdaDigit, lambda_ending, lambda_with, local_in}
 use Rattle.cpp_direct.specs.Marks.{has_const, called_on}
-use Rattle.cpp_direct.specs.Prints.{Names, IsGiven, Prints, PrintsAs, PrintsName, Shows, Encloses, IsLed, NamesClass, PrintAll, PrintAllAs, PrintAllIn}
+use Rattle.cpp_direct.specs.Prints.{Names, IsGiven, Prints, PrintsAs, PrintsName, Shows, Encloses, IsElement, IsLed, NamesClass, PrintAll, PrintAllAs, PrintAllIn}
 use Rattle.cpp_grammar.specs.Parts.{types_of}
 pub use Rattle.cpp_direct.specs.Scoping.{encoding_place, IsBetween, IsPlaced, nowhere, begin_by, place_of, IsKnown, IsSingle, IsAmong, IsPackOf, IsArgument, HasPack, OwnPack, HasArguments, IsScope, IsPackThere, IsEncodedAt, HasScope, is_type, is_within_type, arguments_in, argument_of, Scope, no_scope, AreNamed, HasSingles, IsMadeIn, IsCandidate, AreCandidates, Keeps, Kept, IsScoped, IsNaming}
 
@@ -533,6 +533,14 @@ pub record FirstType (s : Symbol) : Type 0 where
   pub is_reference : Bool
   pub prints : Prints (detail_of s) own bytes is_reference
 
+-- The derived class of a construction table is written up to a place, and then what the table is.
+pub record HasDerived (s : Symbol) (text : List ℕ) (to : ℕ) : Type 0 where
+  pub derived : Term
+  pub bytes : List ℕ
+  pub prints : IsElement (detail_of s) 0 derived bytes
+  pub to_is : to ≡ length bytes
+  pub written : text ≡ bytes ++ codes "construction vtable for "
+
 -- Accepts a parameter of such a function, after these; the open entry waits for the function.
 abbrev pub AwaitsLed : (s : Symbol) → (extra : ℕ) → Mark → Arguments → (Leads : (own : Term) → (front name : List ℕ) → Type 0)
     → (Within : (front : List ℕ) → (e : Term) → (at : ℕ) → State → Type 0) → List Opened → (text : List ℕ) → Type 0
@@ -596,6 +604,11 @@ Stands s scope (opens.Array access from to ∷ rest) os text =
 Stands s scope (opens.Special ∷ rest) os text =
     (letter : ℕ) × (text ≡ look_up (letter ∷ []) special_texts) × (text ≢ [])
     × ((t : Term) (at : ℕ) (st : State) → Comes s os (tree t true) at st → Encoded s (special letter t) at)
+Stands s scope (opens.Derived ∷ rest) os text =
+    (text ≡ []) × ((t : Term) (at : ℕ) (st : State) → Comes s os (tree t true) at st → BaseClassOpened s (λ e end now. Encoded s e end) 2 t at st)
+Stands s scope (opens.Base to ∷ rest) os text =
+    (h : HasDerived s text to) × (digits : List ℕ)
+    × ((t : Term) (at : ℕ) (st : State) → Comes s os (tree t true) at st → Encoded s (construction h.derived digits t) at)
 Stands s scope (opens.Argument from number known ∷ []) os text = ⊥
 Stands s scope (opens.Argument from number known ∷ owner ∷ rest) os text =
     AwaitsArgument s scope.names false from number known owner (outside scope rest (Stands s scope rest)) os text

@@ -9,6 +9,7 @@
 mod addresses;
 mod arrays;
 mod clones;
+mod constructions;
 mod direct;
 mod enclosing;
 mod functions;

@@ -207,6 +207,12 @@ pub enum Open {
     },
     /// the name of a special symbol
     Special,
+    /// the derived class of a construction table
+    Derived,
+    /// its base class, after the text of the derived one, which ends at this place
+    Base {
+        to: u32,
+    },
     /// the return type of a function type that is an element or a parameter, plain or after a pointer
     Returned {
         is_pointer: bool,

@@ -114,6 +114,7 @@ impl Direct {
         match byte_at(s, 3) {
             b'h' => self.begin_thunk::<G>(s),
             b'v' => self.begin_virtual_thunk::<G>(s),
+            b'C' => self.begin_table::<G>(s),
             _ => self.begin_special::<G>(s),
         }
     }

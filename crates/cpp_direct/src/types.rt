@@ -307,6 +307,8 @@ impl Direct {
             Open::Addressed { mark, to, .. } => self.addressed_parameter::<G>(s, mark, to),
             Open::Address { .. } => None,
             Open::Special => self.finish::<G>(s),
+            Open::Derived => self.derived_ended::<G>(s),
+            Open::Base { to } => self.base_ended::<G>(s, to),
             Open::Enumerator => self.enumerator::<G>(s),
             Open::Argument {
                 from,

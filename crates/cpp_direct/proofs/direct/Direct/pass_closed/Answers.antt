@@ -59,6 +59,14 @@ finish-requires g c =
     special-read _ c.args.self.now
     (value-element _ c.args.self.now c.args.is_reference opens.Special c.requires.writing (c.requires.waits ∙ ap (λ o. Some o) c.in-Special.is))
 
+pub derived_ended-requires-clause-read : goal.derived_ended-requires-clause-read
+derived_ended-requires-clause-read g c =
+    value-element _ c.args.self.now c.args.is_reference opens.Derived c.requires.writing (c.requires.waits ∙ ap (λ o. Some o) c.in-Derived.is)
+
+pub base_ended-requires-clause-read : goal.base_ended-requires-clause-read
+base_ended-requires-clause-read g c =
+    value-element _ c.args.self.now c.args.is_reference (opens.Base c.in-Base.to) c.requires.writing (c.requires.waits ∙ ap (λ o. Some o) c.in-Base.is)
+
 pub enumerator-requires-clause-awaits : goal.enumerator-requires-clause-awaits
 enumerator-requires-clause-awaits g c =
     value-enumerator _ c.args.self.now c.args.is_reference c.requires.writing (c.requires.waits ∙ ap (λ o. Some o) c.in-Enumerator.is)
@@ -77,6 +85,6 @@ pub returns-in_default : goal.returns-in_default
 returns-in_default g c =
     argument-read _ c.args.self.now c.args.entry
     (value-element _ c.args.self.now c.args.is_reference c.args.entry c.requires.writing c.requires.waits)
-    (takes-elements c.args.entry c.requires.others c.in_default.not-Returned c.in_default.not-Signature c.in_default.not-Special c.in_default.not-Enumerator
+    (takes-elements c.args.entry c.requires.others c.in_default.not-Returned c.in_default.not-Signature c.in_default.not-Special c.in_default.not-Derived c.in_default.not-Base c.in_default.not-Enumerator
     c.in_default.not-Enclosing c.in_default.not-EnclosingInstance c.in_default.not-EnclosingFront c.in_default.not-Argument c.in_default.not-Lambda c.in_default.not-Element c.in_default.not-Array
     c.in_default.not-Address c.in_default.not-AddressedFront c.in_default.not-Addressed)
