@@ -21,8 +21,8 @@ which the gate asks the code.
 
 Sizes, which no row shows: a symbol of more than 65,536 bytes, or whose text is longer than eight times the symbol and a
 kilobyte, is left; and so are, in a symbol of more than 1,024 bytes, types without parameters, lambdas with parameters,
-addresses of functions as arguments and members of instances as arguments. Everything that is counted (`--stats`) or
-pressed is left, too.
+members of local entities, addresses of functions as arguments and members of instances as arguments. Everything that is
+counted (`--stats`) or pressed is left, too.
 """
 TITLES = {"abi": "C++", "wide": "C++ by the wide grammar", "rust": "Rust"}
 WAYS = ("general", "short")

@@ -26,8 +26,9 @@ encoded-whole s opened_ e at st comes = record {
 }
 
 -- where no local entity is named, an encoding ends the symbol
-whole-behind : (s : Symbol) (lead : List ℕ) (e : Term) (at : ℕ) → is_local s.bytes ≡ false → EndsBehind s lead e at → EncodedBehind s lead e at
-whole-behind s lead e at apart p = record { whole = λ f. p; entity = λ is. absurd (false≢true (sym apart ∙ is)) }
+whole-behind : (s : Symbol) (lead : List ℕ) (e : Term) (at : ℕ) (st : State) → is_local s.bytes ≡ false → EndsBehind s lead e at → EncodedBehind s lead e at st
+whole-behind s lead e at st apart p =
+    record { whole = λ f. p; entity = λ is. absurd (false≢true (sym apart ∙ is)); member = λ is. absurd (false≢true (sym apart ∙ is)) }
 
 -- nor an object's guard variable
 no-object : (s : List ℕ) → is_local s ≡ false → is_guard s ≡ false → is_object s ≡ false
@@ -46,7 +47,7 @@ encoding-awaited s w no_text no_candidate starts at_is apart other =
       begins = λ none. at_is ∙ sym (ap (λ b. cond b 3 2) apart);
       awaits = subst (λ n. Expects s Kind.Encoding first_around opened_.inner n first_state) (sym at_is) opened_.awaits;
       onward = λ e at st comes.
-          whole-behind s w.text.list.items e at apart (record {
+          whole-behind s w.text.list.items e at st apart (record {
             made = e;
             encoded = encoded-whole s opened_ e at st comes;
             shows = λ bytes p. subst (λ l. Shows (detail_of s) e (l ++ bytes)) (sym no_text) p;
@@ -106,7 +107,7 @@ base-awaited s opened_ made k w apart other base text_is filled no_candidate sho
   begins = λ none. absurd (omega (arith, filled, ap length (sym text_is ∙ none)));
   awaits = base.awaits;
   onward = λ e at st comes.
-      whole-behind s w.text.list.items e at apart (record {
+      whole-behind s w.text.list.items e at st apart (record {
         made = made e;
         encoded = encoded-whole s opened_ (made e) at st (base.onward e at st comes);
         shows = λ bytes p. subst (λ l. Shows (detail_of s) (made e) (l ++ bytes)) (sym text_is) (shows e bytes p);
@@ -290,7 +291,7 @@ object-begins s old new fresh apart guard starts marks writes =
       onward = λ v at st comes.
           let made = of_name 86 (tree_of v) (qualifiers_of v) (ref_of v) in
           record {
-            ends = whole-behind s new.text.list.items (encoding_of v nil) at apart (record {
+            ends = whole-behind s new.text.list.items (encoding_of v nil) at st apart (record {
               made = made;
               encoded = encoded-whole s opened_ made at st (guard_.onward v at st comes);
               shows = λ bytes p. subst (λ l. Shows (detail_of s) made (l ++ bytes)) (sym text_is)

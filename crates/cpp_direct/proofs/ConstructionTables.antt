@@ -1,8 +1,8 @@
 -- Construction tables: their derived class is read, and their base class.
-use Rattle.std.proofs.Common.{◌≡◌, refl, ap, sym, ◌∙◌, subst, ℕ, ◌+◌, ◌-◌, List, [], ◌∷◌, ◌++◌, length, take, drop, ◌≤◌, reverse, inl, arith, codes, append-nil, append_assoc, true}
+use Rattle.std.proofs.Common.{◌≡◌, refl, ap, sym, ◌∙◌, subst, ℕ, ◌+◌, ◌-◌, List, [], ◌∷◌, ◌++◌, length, take, drop, ◌≤◌, reverse, inl, arith, codes, append-nil, append_assoc}
 use Rattle.std.proofs.Math.Seq.{take-append_seam}
 use Rattle.cpp_direct.specs.AllTerms.{construction, in_name, Kind, normal}
-use Rattle.cpp_direct.specs.AllStates.{Cuts, detail_of, Direct, Encoded, HasDerived, IsElementRead, IsSymbolEnded, IsWriting, Kept, Reads, Shows, Stands, Symbol, Writes}
+use Rattle.cpp_direct.specs.AllStates.{Cuts, detail_of, Direct, Encoded, IsElementRead, IsSymbolEnded, IsWriting, Reads, Shows, Symbol, Writes}
 use Rattle.cpp_direct.specs.AllHoles.{Expects, IsDigitsAt, StandsAt}
 use Rattle.cpp_direct.specs.declared.open.Open.TheVariants as opens
 use Rattle.cpp_direct.specs.declared.open.Step.TheVariants as steps
@@ -46,7 +46,7 @@ base-written s w to p = p.read.written ∙ ap (λ l. l ++ p.read.bytes) p.read.s
 
 -- the derived class is written after the base class, and no longer before it
 pub table-ended : (s : Symbol) (w pushed again new : Direct) (to : ℕ) → IsElementRead s w (opens.Base to) → Writes w pushed (codes "-in-")
-    → Writes pushed again (take (to - 0) (drop 0 pushed.text.list.items)) → Cuts again new to → IsSymbolEnded s new
+    → Writes pushed again (take (to - 0) (drop 0 pushed.text.list.items)) → Cuts s.bytes again new to → IsSymbolEnded s new
 table-ended s w pushed again new to p one two cuts =
     let e = p.read in
     let h = e.stands.0 in
@@ -61,7 +61,7 @@ table-ended s w pushed again new to p one two cuts =
     (two.text ∙ ap (λ l. pushed.text.list.items ++ l) derived ∙ ap (λ l. l ++ h.bytes) front ∙ append_assoc h.bytes shown h.bytes) in
     let made = construction h.derived e.stands.1 e.own in
     record {
-      kept = cut-kept s again new to cuts (kept-written s pushed again (take (to - 0) (drop 0 pushed.text.list.items)) two (kept-written s w pushed (codes "-in-") one e.kept));
+      kept = (cut-kept s again new to cuts (kept-written s pushed again (take (to - 0) (drop 0 pushed.text.list.items)) two (kept-written s w pushed (codes "-in-") one e.kept))).0;
       e = made;
       encoded = subst (λ n. Encoded s made n) (sym (cuts.at ∙ two.at ∙ one.at)) (e.stands.2 e.own w.at e.state e.comes);
       shows = subst (λ l. Shows (detail_of s) made l) (sym text) (table-shows h.derived e.own e.stands.1 e.bytes h.bytes (e.element 0) h.prints);

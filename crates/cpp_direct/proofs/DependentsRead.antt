@@ -478,7 +478,7 @@ expansion-goes s pattern w is_first mark start argument a has_pack below stands 
     let item = element-awaits s Kind.Items a.goes.inner around w.at a.state tt a.goes.awaits in
     let comes = expansion-comes s pattern around item.inner k w.at a.state packed.0 below packed.1 item.awaits stands in (
       size,
-      parameter-goes_on s argument (λ x there then_. EncodedBehind s a.lead x there) a.make a.ts w.at a.state a.goes t end later (item.onward t end later comes),
+      parameter-goes_on s argument (λ x there then_. EncodedBehind s a.lead x there then_) a.make a.ts w.at a.state a.goes t end later (item.onward t end later comes),
     )
 
 -- the elements are at their places where a comma is written

@@ -1,8 +1,8 @@
 -- A type was read, and is forwarded to the entry that waits for it.
-use Rattle.std.proofs.Common.{arith, ◌≡◌, ℕ, ◌-◌, length, List, [], ◌∷◌, ◌++◌, reverse, slice_get, Bool, true, false, Option, Some, refl, ap, sym, ◌∙◌, subst, codes, append_assoc, ◌+◌}
+use Rattle.std.proofs.Common.{arith, ◌≡◌, ℕ, ◌-◌, length, List, [], ◌∷◌, ◌++◌, reverse, slice_get, Bool, true, false, Some, refl, ap, sym, ◌∙◌, subst, codes, append_assoc, ◌+◌}
 use Rattle.std.proofs.lemmas.Bool.{false≢true}
 use Rattle.cpp_direct.specs.AllTerms.{Detail, instance, no_items, special, State, Term, tree, types_of}
-use Rattle.cpp_direct.specs.AllStates.{Access, AreParametersRead, argument_of, Arguments, arguments_in, ArgumentsGoOn, AwaitsElementOf, AwaitsEnumerator, AwaitsMark, AwaitsNumber, AwaitsSignature, Belongs, below, detail_of, Direct, extra_of, FirstType, in_front_of_next, is_noted, is_type, is_within_type, IsDependentNow, IsElementIn, IsElementRead, IsFrontRead, IsNaming, IsNest, IsOwn, IsPassedClosed, IsReturned, IsSymbolEnded, IsTemplate, IsTypeRead, IsWriting, Kept, led_by, list_with, Listing, Mark, Marks, Names, Nest, of_pack, of_template, Open, opening_bracket, opening_text, Owns, PrintAllAs, PrintsAs, Purpose, Scope, Shows, Stands, Symbol}
+use Rattle.cpp_direct.specs.AllStates.{Access, AreParametersRead, argument_of, Arguments, arguments_in, ArgumentsGoOn, AwaitsElementOf, AwaitsEnumerator, AwaitsMark, AwaitsNumber, AwaitsSignature, Belongs, below, detail_of, Direct, extra_of, FirstType, Holder, in_front_of_next, is_noted, is_type, is_within_type, IsDependentNow, IsElementIn, IsElementRead, IsFrontRead, IsNaming, IsNest, IsOwn, IsPassedClosed, IsReturned, IsSymbolEnded, IsTemplate, IsTypeRead, IsWriting, Kept, led_by, list_with, Listing, Mark, Marks, Names, Nest, of_pack, of_template, Open, opening_bracket, opening_text, Owns, PrintAllAs, PrintsAs, Scope, Shows, Stands, Symbol}
 use Rattle.cpp_direct.specs.Holes.{Opened, Comes}
 use Rattle.cpp_direct.proofs.Elements.{element-added}
 use Rattle.cpp_direct.proofs.Listed.{TakesElements, last-found, list-waits, some-elements}
@@ -191,32 +191,33 @@ pub takes-elements : (o : Open) → IsPassedClosed o → ((x : Bool) → o ≡ o
     → (o ≡ opens.Special → ⊥) → (o ≡ opens.Derived → ⊥) → ((x : ℕ) → o ≡ opens.Base x → ⊥) → (o ≡ opens.Enumerator → ⊥) → ((x : Mark) (y z : ℕ) → o ≡ opens.Enclosing x y z → ⊥)
     → ((x : Mark) (y t : ℕ) (z : Arguments) → o ≡ opens.EnclosingInstance x y t z → ⊥)
     → ((x : Mark) (y t : ℕ) (z : Arguments) → o ≡ opens.EnclosingFront x y t z → ⊥)
-    → ((x y : ℕ) (z : Arguments) → o ≡ opens.Argument x y z → ⊥) → ((x : ℕ) (y : Option Purpose) → o ≡ opens.Lambda x y → ⊥) → ((x y : ℕ) (z : Arguments) → o ≡ opens.Element x y z → ⊥)
+    → ((x y : ℕ) (z : Arguments) → o ≡ opens.Argument x y z → ⊥) → ((x : ℕ) (y : Holder) → o ≡ opens.Lambda x y → ⊥) → ((x : Mark) (y : ℕ) → o ≡ opens.Member x y → ⊥) → ((x y : ℕ) (z : Arguments) → o ≡ opens.Element x y z → ⊥)
     → ((x : Access) (y z : ℕ) → o ≡ opens.Array x y z → ⊥) → ((x : ℕ) → o ≡ opens.Address x → ⊥)
     → ((x : Mark) (y : ℕ) (z : Arguments) → o ≡ opens.AddressedFront x y z → ⊥) → ((x : Mark) (y : ℕ) (z : Arguments) → o ≡ opens.Addressed x y z → ⊥) → TakesElements o
-takes-elements (opens.Pointer x) w u g z k c n m i h a q e j d f b = absurd w
-takes-elements (opens.Lvalue x) w u g z k c n m i h a q e j d f b = absurd w
-takes-elements (opens.Rvalue x) w u g z k c n m i h a q e j d f b = absurd w
-takes-elements (opens.Const x) w u g z k c n m i h a q e j d f b = absurd w
-takes-elements (opens.Parameters x y v) w u g z k c n m i h a q e j d f b = absurd w
-takes-elements (opens.Front x y v) w u g z k c n m i h a q e j d f b = absurd w
-takes-elements (opens.Argument x y v) w u g z k c n m i h a q e j d f b = absurd (a x y v refl)
-takes-elements (opens.Returned x) w u g z k c n m i h a q e j d f b = absurd (u x refl)
-takes-elements (opens.Signature x) w u g z k c n m i h a q e j d f b = absurd (g x refl)
-takes-elements (opens.Enclosing x y v) w u g z k c n m i h a q e j d f b = absurd (m x y v refl)
-takes-elements (opens.EnclosingInstance x y t v) w u g z k c n m i h a q e j d f b = absurd (i x y t v refl)
-takes-elements (opens.EnclosingFront x y t v) w u g z k c n m i h a q e j d f b = absurd (h x y t v refl)
-takes-elements (opens.Lambda x y) w u g z k c n m i h a q e j d f b = absurd (q x y refl)
-takes-elements (opens.Array x y v) w u g z k c n m i h a q e j d f b = absurd (j x y v refl)
-takes-elements (opens.Element x y v) w u g z k c n m i h a q e j d f b = absurd (e x y v refl)
-takes-elements (opens.Address x) w u g z k c n m i h a q e j d f b = absurd (d x refl)
-takes-elements (opens.AddressedFront x y v) w u g z k c n m i h a q e j d f b = absurd (f x y v refl)
-takes-elements (opens.Addressed x y v) w u g z k c n m i h a q e j d f b = absurd (b x y v refl)
-takes-elements opens.Special w u g z k c n m i h a q e j d f b = absurd (z refl)
-takes-elements opens.Derived w u g z k c n m i h a q e j d f b = absurd (k refl)
-takes-elements (opens.Base x) w u g z k c n m i h a q e j d f b = absurd (c x refl)
-takes-elements opens.Enumerator w u g z k c n m i h a q e j d f b = absurd (n refl)
-takes-elements _ w u g z k c n m i h a q e j d f b = tt
+takes-elements (opens.Pointer x) w u g z k c n m i h a q r e j d f b = absurd w
+takes-elements (opens.Lvalue x) w u g z k c n m i h a q r e j d f b = absurd w
+takes-elements (opens.Rvalue x) w u g z k c n m i h a q r e j d f b = absurd w
+takes-elements (opens.Const x) w u g z k c n m i h a q r e j d f b = absurd w
+takes-elements (opens.Parameters x y v) w u g z k c n m i h a q r e j d f b = absurd w
+takes-elements (opens.Front x y v) w u g z k c n m i h a q r e j d f b = absurd w
+takes-elements (opens.Argument x y v) w u g z k c n m i h a q r e j d f b = absurd (a x y v refl)
+takes-elements (opens.Returned x) w u g z k c n m i h a q r e j d f b = absurd (u x refl)
+takes-elements (opens.Signature x) w u g z k c n m i h a q r e j d f b = absurd (g x refl)
+takes-elements (opens.Enclosing x y v) w u g z k c n m i h a q r e j d f b = absurd (m x y v refl)
+takes-elements (opens.EnclosingInstance x y t v) w u g z k c n m i h a q r e j d f b = absurd (i x y t v refl)
+takes-elements (opens.EnclosingFront x y t v) w u g z k c n m i h a q r e j d f b = absurd (h x y t v refl)
+takes-elements (opens.Lambda x y) w u g z k c n m i h a q r e j d f b = absurd (q x y refl)
+takes-elements (opens.Member x y) w u g z k c n m i h a q r e j d f b = absurd (r x y refl)
+takes-elements (opens.Array x y v) w u g z k c n m i h a q r e j d f b = absurd (j x y v refl)
+takes-elements (opens.Element x y v) w u g z k c n m i h a q r e j d f b = absurd (e x y v refl)
+takes-elements (opens.Address x) w u g z k c n m i h a q r e j d f b = absurd (d x refl)
+takes-elements (opens.AddressedFront x y v) w u g z k c n m i h a q r e j d f b = absurd (f x y v refl)
+takes-elements (opens.Addressed x y v) w u g z k c n m i h a q r e j d f b = absurd (b x y v refl)
+takes-elements opens.Special w u g z k c n m i h a q r e j d f b = absurd (z refl)
+takes-elements opens.Derived w u g z k c n m i h a q r e j d f b = absurd (k refl)
+takes-elements (opens.Base x) w u g z k c n m i h a q r e j d f b = absurd (c x refl)
+takes-elements opens.Enumerator w u g z k c n m i h a q r e j d f b = absurd (n refl)
+takes-elements _ w u g z k c n m i h a q r e j d f b = tt
 
 -- an element was read
 pub argument-read : (s : Symbol) (w : Direct) (o : Open) → IsElementRead s w o → TakesElements o → IsWriting s w (steps.List false)

@@ -11,6 +11,7 @@ pub mod Kept
 mod LambdasRead
 pub mod LettersTested
 pub mod Members
+mod MemberFunctions
 pub mod Listed
 pub mod Moves
 pub mod MovesOfEncodings

@@ -153,11 +153,11 @@ quality-is true = refl
 quality-is false = refl
 
 -- a nested name begins with an N, and its qualifiers after it; the H of a function with an explicit object is none of them
-pub name-nested : (s : Symbol) (os : List Opened) (around : Around) (const : Bool) (on : RefQualifier) (at : ℕ) (st : State)
-    → on ≢ explicit_object → Expects s Kind.CompleteName around os at st → StandsAt s.bytes at (nest_marks const on)
+nested-opens : (s : Symbol) (kind : Kind) (os : List Opened) (around : Around) (const : Bool) (on : RefQualifier) (at : ℕ) (st : State)
+    → is_eaten kind Production.NestedName 78 ≡ true → on ≢ explicit_object → Expects s kind around os at st → StandsAt s.bytes at (nest_marks const on)
     → NestOpened s os around const on (at + length (nest_marks const on)) st
 unfolding is_eaten number_of_kind parts_of between close unfolding_.behind meaning part byte_of tree_of text_of piece_of letter_of is_there mark_of may_be_empty
-name-nested s os around const on at st other expects stands = go on other stands
+nested-opens s kind os around const on at st taken other expects stands = go on other stands
   where
     part_of : Kind → Sym
     part_of k = OfKind (number_of_kind k)
@@ -169,7 +169,7 @@ name-nested s os around const on at st other expects stands = go on other stands
         → Hole s (part_of Kind.MaybeConst) around (within (nothing_there ∷ nothing_there ∷ []) (part_of Kind.MaybeRef ∷ part_of Kind.Nest ∷ [])) (at + 1) st
     const-awaited first =
         let p = Production.NestedName in
-        let restrict = byte-opens (eats s Kind.CompleteName p 78 refl) (hole s Kind.CompleteName around os at st expects) first refl refl in
+        let restrict = byte-opens (eats s kind p 78 taken) (hole s kind around os at st expects) first refl refl in
         next-part p (none-fills Kind.MaybeVolatile (next-part p (none-fills Kind.MaybeRestrict restrict refl) refl) refl) refl
 
     ref-awaited : (c : Bool) → StandsAt s.bytes at (78 ∷ const_letter c)
@@ -199,6 +199,19 @@ name-nested s os around const on at st other expects stands = go on other stands
     go lvalue_only other there = referred 82 refl there
     go rvalue_only other there = referred 79 refl there
     go explicit_object other there = absurd (other refl)
+
+pub name-nested : (s : Symbol) (os : List Opened) (around : Around) (const : Bool) (on : RefQualifier) (at : ℕ) (st : State)
+    → on ≢ explicit_object → Expects s Kind.CompleteName around os at st → StandsAt s.bytes at (nest_marks const on)
+    → NestOpened s os around const on (at + length (nest_marks const on)) st
+unfolding is_eaten
+name-nested s os around const on at st other expects stands = nested-opens s Kind.CompleteName os around const on at st refl other expects stands
+
+-- so does that of a local entity
+pub entity-nested : (s : Symbol) (os : List Opened) (around : Around) (const : Bool) (on : RefQualifier) (at : ℕ) (st : State)
+    → on ≢ explicit_object → Expects s Kind.Entity around os at st → StandsAt s.bytes at (nest_marks const on)
+    → NestOpened s os around const on (at + length (nest_marks const on)) st
+unfolding is_eaten
+entity-nested s os around const on at st other expects stands = nested-opens s Kind.Entity os around const on at st refl other expects stands
 
 -- a source name, with or without arguments after it
 pub name-source : (s : Symbol) (os : List Opened) (around : Around) (at : ℕ) (name : List ℕ) (end : ℕ) (st : State)

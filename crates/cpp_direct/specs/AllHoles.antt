@@ -4,6 +4,6 @@ pub use Rattle.cpp_direct.specs.HolesOfArrays.{ArrayOpened, IsSizeAt, access_let
 pub use Rattle.cpp_direct.specs.HolesOfFunctions.{FunctionOpened, ParameterOpened, ReferenceOpened, SignatureGoesOn, plain_function, pointed, reference, reference_letter, with_pointed}
 pub use Rattle.cpp_direct.specs.HolesOfLevels.{LevelOpened, member_of, template_named}
 pub use Rattle.cpp_direct.specs.HolesOfLists.{AddressOpened, ArgumentsOpened, BaseClassOpened, BaseOpened, EncodingOpened, EnumeratorOpened, IsArgumentKind, IsDigitsAt, IsOffsetAt, IsSuffix, ItemsOpened, LiteralOpened, NestOpened, PackOpened, SpecialOpened, SymbolOpened, TableOpened, const_letter, mark_letters, minus_sign, nest_marks}
-pub use Rattle.cpp_direct.specs.HolesOfLocals.{Discriminator, GuardOpened, IsDiscriminatorAt, IsEntityAt, IsLambdaDigit, IsPieceAt, LocalOpened, LocalTypeOpened, by_digit, by_digits, discriminator_value, entity_in, lambda_digits, lambda_ending, lambda_number, lambda_with, local_in, unnumbered}
+pub use Rattle.cpp_direct.specs.HolesOfLocals.{Discriminator, FirstOpened, GuardOpened, IsComponentAt, IsDiscriminatorAt, IsEntityAt, IsLambdaDigit, IsPieceAt, LambdaEnds, LocalOpened, LocalTypeOpened, MemberOpened, by_digit, by_digits, discriminator_value, entity_in, lambda_digits, lambda_ending, lambda_number, lambda_with, local_in, member_in, unnumbered}
 pub use Rattle.cpp_direct.specs.HolesOfNests.{AwaitsArguments, AwaitsInstance, IsFirstRest, IsRest}
 pub use Rattle.cpp_direct.specs.HolesOfTypes.{IsNamedKind, IsQualifiable, NameOpens, NoReference, TreeOpens, TreePasses, TypeOpens, as_const}

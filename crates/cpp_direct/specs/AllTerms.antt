@@ -16,7 +16,7 @@ unfoldable pub use Rattle.cpp_grammar.specs.References.{appended, is_function_ty
 unfoldable pub use Rattle.cpp_grammar.specs.Scope.{arguments_of, before_arguments, count, element, first_of, has_return_type, is_open, is_structor, length_if_pack, pack_length, without_tags}
 unfoldable pub use Rattle.cpp_grammar.specs.Standing.{enclosed_argument, ends_arguments, is_code, operation_by, operation_or_address}
 unfoldable pub use Rattle.cpp_grammar.specs.Table.{abi, padded, rule_of, rule_taken, wide}
-pub use Rattle.cpp_grammar.specs.Term.{abbreviation, absent, address_of, adjusting, Adjustment, alone, any_value, array, boolean, builtin, by_table, clone, construction, constructor, covariant, declaring, destructor, expansion, explicit_object, function, function_type, in_std, instance, integer, lambda, list, lvalue, lvalue_only, nil, non_virtual, object, of_name, operation, operator, pack, parameter, pointer, qualified, Qualifiers, RefQualifier, rvalue, rvalue_only, Signed, source, special, symbol, tagged, Term, Thunk, thunk, within}
+pub use Rattle.cpp_grammar.specs.Term.{abbreviation, absent, address_of, adjusting, Adjustment, alone, any_value, array, boolean, builtin, by_table, clone, construction, constructor, covariant, declaring, destructor, expansion, explicit_object, function, function_type, in_std, instance, integer, lambda, list, local, lvalue, lvalue_only, nil, non_virtual, object, of_name, operation, operator, pack, parameter, pointer, qualified, Qualifiers, RefQualifier, rvalue, rvalue_only, Signed, source, special, symbol, tagged, Term, Thunk, thunk, within}
 unfoldable pub use Rattle.cpp_grammar.specs.Texts.{abbreviation_texts, builtin_texts, literal_endings, look_up, named_special_texts, operator_texts, same_bytes, special_texts}
 pub use Rattle.cpp_grammar.specs.Texts.{Naming}
 unfoldable pub use Rattle.cpp_grammar.specs.Unfolding.{byte_of, close, cpp, first_state, first_tree, last_token, number_tested, opening, unfold_cpp}

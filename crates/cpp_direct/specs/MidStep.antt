@@ -14,6 +14,7 @@ use Rattle.cpp_grammar.specs.Meaning.{encoding_of}
 use Rattle.cpp_grammar.specs.Values as values
 use Rattle.cpp_grammar.specs.Values.{State, Around, Value, nothing_there, tree, outermost}
 use Rattle.cpp_direct.specs.Symbol.{Symbol, detail_of}
+use Rattle.cpp_direct.specs.Bytes.{is_local}
 use Rattle.cpp_direct.specs.declared.open.Mark.{Mark}
 use Rattle.cpp_direct.specs.declared.open.Candidate.{Candidate}
 use Rattle.cpp_direct.specs.declared.open.Access.{Access}
@@ -64,7 +65,7 @@ pub record AwaitsEncoding (s : Symbol) (w : Direct) : Type 0 where
   pub outer : List Opened
   pub begins : w.text.list.items ≡ [] → w.at ≡ encoding_place s.bytes
   pub awaits : Expects s Kind.Encoding around outer w.at state
-  pub onward : (e : Term) (at : ℕ) (st : State) → Comes s outer (tree e true) at st → EncodedBehind s w.text.list.items e at
+  pub onward : (e : Term) (at : ℕ) (st : State) → Comes s outer (tree e true) at st → EncodedBehind s w.text.list.items e at st
 
 -- its name is expected, or that of an object
 pub record AwaitsName (s : Symbol) (w : Direct) : Type 0 where
@@ -502,9 +503,9 @@ pub record IsFunctionEnded (s : Symbol) (w : Direct) (mark : Mark) (start : ℕ)
   pub fronts : Fronts s.is_bare front start lead name
   pub written : w.text.list.items ≡ front ++ codes "(" ++ texts
   pub shows : s.is_bare ≡ false → Shows (detail_of s) e (name ++ codes "(" ++ texts ++ codes ")" ++ mark_text mark)
-  pub behind : EncodedBehind s lead e w.at
+  pub behind : EncodedBehind s lead e w.at state
 
--- An encoding was read and written after a text, except for its qualifier.
+-- An encoding was read and written after a text, except for its qualifier. The candidates are kept where a local entity follows.
 pub record IsEncodingEnded (s : Symbol) (w : Direct) (mark : Mark) : Type 0 where
   pub kept : Kept s w
   pub open kept use *
@@ -514,7 +515,9 @@ pub record IsEncodingEnded (s : Symbol) (w : Direct) (mark : Mark) : Type 0 wher
   pub written : w.text.list.items ++ mark_text mark ≡ lead ++ bytes
   pub shows : Shows (detail_of s) e bytes
   pub encloses : Encloses (detail_of s) e bytes
-  pub behind : EncodedBehind s lead e w.at
+  pub now : State
+  pub behind : EncodedBehind s lead e w.at now
+  pub same : is_local s.bytes ≡ true → now ≡ state
 
 -- The encoding of a symbol was read and written, as a detail shows it.
 pub record IsSymbolEnded (s : Symbol) (w : Direct) : Type 0 where

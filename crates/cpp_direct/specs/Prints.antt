@@ -12,7 +12,8 @@ use Rattle.cpp_grammar.specs.Parts.{as_item, says, component_parts, within_parts
 pub use Rattle.cpp_direct.specs.WrittenParts.{IsUnmarked, closing_bracket, closing_byte, opening_bracket, opening_byte, unmarked_parts, written, written_in, written_instance}
 use Rattle.cpp_direct.specs.HolesOfTypes.{as_const}
 use Rattle.cpp_direct.specs.declared.open.Pattern.{Pattern}
-use Rattle.cpp_direct.specs.declared.open.Purpose.{Purpose}
+use Rattle.cpp_direct.specs.declared.open.Holder.{Holder}
+use Rattle.cpp_direct.specs.declared.open.Holder.TheVariants as holders
 use Rattle.cpp_direct.specs.declared.open.Pattern.TheVariants as patterns
 
 -- what is written of a tree in a form, wherever it is, in a detail
@@ -154,17 +155,18 @@ pub record Encloses (detail : Detail) (t : Term) (bytes : List ℕ) : Type 0 whe
   pub packless : (scope : Term) → pack_length scope t ≡ None
 
 -- what precedes a lambda has this text: the function that contains it, or the name so far that it extends
-abbrev pub Leads : (detail : Detail) → (nested : Option Purpose) → Term → (bytes : List ℕ) → Type 0
-Leads detail None e bytes = Encloses detail e bytes
-Leads detail (Some purpose) e bytes = Prints detail e bytes false
+abbrev pub Leads : (detail : Detail) → Holder → Term → (bytes : List ℕ) → Type 0
+Leads detail holders.Function e bytes = Encloses detail e bytes
+Leads detail (holders.Name purpose) e bytes = Prints detail e bytes false
+Leads detail (holders.Member mark) e bytes = Encloses detail e bytes
 
 -- Such a text is written, from a place on.
-pub record IsLed (detail : Detail) (nested : Option Purpose) (from : ℕ) : Type 0 where
+pub record IsLed (detail : Detail) (holder : Holder) (from : ℕ) : Type 0 where
   pub e : Term
   pub front : List ℕ
   pub from_is : from ≡ length front
   pub bytes : List ℕ
-  pub leads : Leads detail nested e bytes
+  pub leads : Leads detail holder e bytes
 
 -- the sign of a number
 abbrev pub sign_text : Signed → List ℕ

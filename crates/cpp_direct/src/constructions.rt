@@ -61,7 +61,7 @@ impl Direct {
     {
         self.push(b"-in-")?;
         self.repeat(0, to)?;
-        self.cut(to)?;
+        self.cut(s, to)?;
         self.finish::<G>(s)
     }
 }

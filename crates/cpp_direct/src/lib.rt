@@ -22,6 +22,7 @@ mod levels;
 mod lists;
 mod locals;
 mod marks;
+mod member_functions;
 mod names;
 mod nested;
 mod open;

@@ -389,11 +389,11 @@ impl Direct {
         if G::IS_BARE {
             let end = self.text.end();
             self.repeat(0, start)?;
-            self.cut(end)?;
+            self.cut(s, end)?;
             return self.encoded::<G>(s);
         }
         self.push_byte(b')')?;
-        self.cut(start)?;
+        self.cut(s, start)?;
         self.end::<G>(s, mark)
     }
 

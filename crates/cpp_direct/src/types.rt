@@ -300,7 +300,8 @@ impl Direct {
                 to,
                 argument,
             } => self.enclosing_front::<G>(s, mark, from, to, argument),
-            Open::Lambda { from, nested } => self.lambda_parameter::<G>(s, from, nested),
+            Open::Lambda { from, holder } => self.lambda_parameter::<G>(s, from, holder),
+            Open::Member { mark, to } => self.member_parameter::<G>(s, mark, to),
             Open::AddressedFront { mark, to, argument } => self.addressed_front::<G>(
                 s, mark, to, argument,
             ),

@@ -3,6 +3,7 @@ use Rattle.cpp_direct.specs.declared.open.Open.TheVariants as opens
 use Rattle.cpp_direct.proofs.Handed.{value-element, value-returned, value-signature, value-enumerator, argument-read, special-read, takes-elements}
 use Rattle.cpp_direct.proofs.FunctionsWithin.{front-read, parameter-read-within, type-led}
 use Rattle.cpp_direct.proofs.LambdasRead.{lambda-parameter-read}
+use Rattle.cpp_direct.proofs.MemberFunctions.{member-parameter-read}
 use Rattle.cpp_direct.proofs.Arguments.{value-argument}
 use Rattle.cpp_direct.proofs.Signatures.{value-array}
 use Rattle.cpp_direct.proofs.direct.Direct.pass_closed.Goals as goal
@@ -50,9 +51,15 @@ addressed_parameter-requires-clause-read g c = (
 
 pub lambda_parameter-requires-clause-read : goal.lambda_parameter-requires-clause-read
 lambda_parameter-requires-clause-read g c =
-    lambda-parameter-read _ c.args.self.now c.in-Lambda.from c.in-Lambda.nested
-    (value-element _ c.args.self.now c.args.is_reference (opens.Lambda c.in-Lambda.from c.in-Lambda.nested) c.requires.writing
+    lambda-parameter-read _ c.args.self.now c.in-Lambda.from c.in-Lambda.holder
+    (value-element _ c.args.self.now c.args.is_reference (opens.Lambda c.in-Lambda.from c.in-Lambda.holder) c.requires.writing
     (c.requires.waits ∙ ap (λ o. Some o) c.in-Lambda.is))
+
+pub member_parameter-requires-clause-read : goal.member_parameter-requires-clause-read
+member_parameter-requires-clause-read g c =
+    member-parameter-read _ c.args.self.now c.in-Member.mark c.in-Member.to
+    (value-element _ c.args.self.now c.args.is_reference (opens.Member c.in-Member.mark c.in-Member.to)
+    c.requires.writing (c.requires.waits ∙ ap (λ o. Some o) c.in-Member.is))
 
 pub finish-requires : goal.finish-requires
 finish-requires g c =
@@ -86,5 +93,5 @@ returns-in_default g c =
     argument-read _ c.args.self.now c.args.entry
     (value-element _ c.args.self.now c.args.is_reference c.args.entry c.requires.writing c.requires.waits)
     (takes-elements c.args.entry c.requires.others c.in_default.not-Returned c.in_default.not-Signature c.in_default.not-Special c.in_default.not-Derived c.in_default.not-Base c.in_default.not-Enumerator
-    c.in_default.not-Enclosing c.in_default.not-EnclosingInstance c.in_default.not-EnclosingFront c.in_default.not-Argument c.in_default.not-Lambda c.in_default.not-Element c.in_default.not-Array
+    c.in_default.not-Enclosing c.in_default.not-EnclosingInstance c.in_default.not-EnclosingFront c.in_default.not-Argument c.in_default.not-Lambda c.in_default.not-Member c.in_default.not-Element c.in_default.not-Array
     c.in_default.not-Address c.in_default.not-AddressedFront c.in_default.not-Addressed)
