@@ -1,8 +1,8 @@
 -- The beginnings of symbols, and their answers.
-use Rattle.std.proofs.Common.{◌≡◌, ◌≢◌, ◌≤◌, ◌⊎◌, ℕ, ◌+◌, inl, inr, length, List, [], ◌∷◌, ◌++◌, reverse, ◌||◌, Bool, true, false, nat_eq, refl, ap, sym, subst, ◌∙◌, arith, codes, cond}
+use Rattle.std.proofs.Common.{◌≡◌, ◌≢◌, ◌≤◌, ◌⊎◌, ℕ, ◌+◌, inl, inr, length, List, [], ◌∷◌, ◌++◌, reverse, ◌||◌, Bool, true, false, None, nat_eq, refl, ap, sym, subst, ◌∙◌, arith, codes, cond}
 use Rattle.std.proofs.lemmas.Bool.{false≢true, ne_eqb}
-use Rattle.cpp_direct.specs.AllTerms.{adjusting, Adjustment, among, by_table, clone, clone_text, encoding_of, first_around, first_state, in_name, in_types, Kind, look_up, may_be_empty, named, nil, no_items, non_virtual, nothing_there, of_name, Production, qualifiers_of, ref_of, same_bytes, signed_digits, special, special_texts, State, Term, thunk, thunk_text, tree, tree_of, Value}
-use Rattle.cpp_direct.specs.AllStates.{AwaitsEncoding, AwaitsItems, AwaitsName, AwaitsNest, below, called_on, detail_of, Direct, Encoded, EncodedBehind, EndsBehind, has_const, is_guard, is_local, is_object, is_special_letter, is_type, IsFresh, IsMarkPlace, IsScoped, IsWriting, Kept, MarkPlace, no_scope, Purpose, qualifiers, Reads, Serves, Shows, special_letters, Stands, Symbol, TakesItems, Writes}
+use Rattle.cpp_direct.specs.AllTerms.{adjusting, Adjustment, among, by_table, clone, clone_text, construction, encoding_of, first_around, first_state, in_name, in_types, Kind, look_up, may_be_empty, named, nil, no_items, non_virtual, normal, nothing_there, of_name, Production, qualifiers_of, ref_of, same_bytes, signed_digits, special, special_texts, State, Term, thunk, thunk_text, tree, tree_of, Value}
+use Rattle.cpp_direct.specs.AllStates.{argument_of, AwaitsEncoding, AwaitsItems, AwaitsName, AwaitsNest, below, called_on, detail_of, Direct, Encoded, EncodedBehind, EndsBehind, has_const, is_guard, is_local, is_object, is_special_letter, is_type, IsFresh, IsMarkPlace, IsScoped, IsWriting, Kept, MarkPlace, no_scope, Open, Purpose, qualifiers, Reads, Serves, Shows, special_letters, Stands, Symbol, TakesItems, Writes}
 use Rattle.cpp_direct.specs.declared.open.Purpose.TheVariants as purposes
 use Rattle.cpp_direct.specs.declared.open.Open.TheVariants as opens
 use Rattle.cpp_direct.specs.declared.open.Step.TheVariants as steps
@@ -10,7 +10,7 @@ use Rattle.cpp_direct.specs.AllHoles.{BaseOpened, Comes, EncodingOpened, Expects
 use Rattle.cpp_direct.proofs.Kept.{kept-same, none-kept}
 use Rattle.cpp_direct.proofs.NamePlaces.{reads-then}
 use Rattle.cpp_direct.proofs.Moves.{stands-join, is_eaten, expects-empty}
-use Rattle.cpp_direct.proofs.MovesOfEncodings.{symbol-starts, encoding-opens, special-opens, thunk-opens, virtual-thunk-opens, clone-opens, guard-opens, name-nested}
+use Rattle.cpp_direct.proofs.MovesOfEncodings.{symbol-starts, encoding-opens, special-opens, thunk-opens, virtual-thunk-opens, clone-opens, guard-opens, name-nested, table-opens}
 use Rattle.cpp_direct.proofs.PrintedSymbols.{never-explicit, thunk-filled, thunk-shows, clone-filled, clone-shows, guarded-shows, encoding-object}
 use Rattle.cpp_direct.proofs.Scopes.{none-scoped}
 use Rattle.cpp_direct.proofs.LettersTested.{codes_pass}
@@ -26,8 +26,9 @@ encoded-whole s opened_ e at st comes = record {
 }
 
 -- where no local entity is named, an encoding ends the symbol
-whole-behind : (s : Symbol) (lead : List ℕ) (e : Term) (at : ℕ) → is_local s.bytes ≡ false → EndsBehind s lead e at → EncodedBehind s lead e at
-whole-behind s lead e at apart p = record { whole = λ f. p; entity = λ is. absurd (false≢true (sym apart ∙ is)) }
+whole-behind : (s : Symbol) (lead : List ℕ) (e : Term) (at : ℕ) (st : State) → is_local s.bytes ≡ false → EndsBehind s lead e at → EncodedBehind s lead e at st
+whole-behind s lead e at st apart p =
+    record { whole = λ f. p; entity = λ is. absurd (false≢true (sym apart ∙ is)); member = λ is. absurd (false≢true (sym apart ∙ is)) }
 
 -- nor an object's guard variable
 no-object : (s : List ℕ) → is_local s ≡ false → is_guard s ≡ false → is_object s ≡ false
@@ -46,7 +47,7 @@ encoding-awaited s w no_text no_candidate starts at_is apart other =
       begins = λ none. at_is ∙ sym (ap (λ b. cond b 3 2) apart);
       awaits = subst (λ n. Expects s Kind.Encoding first_around opened_.inner n first_state) (sym at_is) opened_.awaits;
       onward = λ e at st comes.
-          whole-behind s w.text.list.items e at apart (record {
+          whole-behind s w.text.list.items e at st apart (record {
             made = e;
             encoded = encoded-whole s opened_ e at st comes;
             shows = λ bytes p. subst (λ l. Shows (detail_of s) e (l ++ bytes)) (sym no_text) p;
@@ -106,7 +107,7 @@ base-awaited s opened_ made k w apart other base text_is filled no_candidate sho
   begins = λ none. absurd (omega (arith, filled, ap length (sym text_is ∙ none)));
   awaits = base.awaits;
   onward = λ e at st comes.
-      whole-behind s w.text.list.items e at apart (record {
+      whole-behind s w.text.list.items e at st apart (record {
         made = made e;
         encoded = encoded-whole s opened_ (made e) at st (base.onward e at st comes);
         shows = λ bytes p. subst (λ l. Shows (detail_of s) (made e) (l ++ bytes)) (sym text_is) (shows e bytes p);
@@ -188,33 +189,50 @@ unfolding look_up special_texts same_bytes
 special-stands s letter filled first there =
     stands-join s 2 (84 ∷ []) (letter ∷ []) first (there (λ e. filled (ap (λ l. look_up (l ∷ []) special_texts) e)))
 
+-- the first type of a special symbol is expected
+type-begins : (s : Symbol) (w : Direct) (entry : Open) (os : List Opened) → is_local s.bytes ≡ false → is_guard s.bytes ≡ false → w.at ≡ 4
+    → w.candidates.list.items ≡ [] → w.waiting.list.items ≡ entry ∷ [] → argument_of (entry ∷ []) ≡ None
+    → Stands s no_scope (entry ∷ []) os w.text.list.items → Expects s Kind.Type (in_name 2) os 4 first_state → IsWriting s w steps.Type
+unfolding in_name first_state
+type-begins s w entry os apart other at_is none_ waiting none stands expects = record {
+  kept = record { state = first_state; scope = no_scope; keeps = none-kept s w none_ (λ e. no-object s.bytes apart other) };
+  is_before = (
+    record {
+      os = os;
+      around = in_name 2;
+      outside = refl;
+      stands = subst (λ ws. Stands s no_scope (reverse ws) os w.text.list.items) (sym waiting) stands;
+      scoped = subst (λ ws. IsScoped no_scope (in_name 2) (reverse ws)) (sym waiting) (none-scoped no_scope (in_name 2) (entry ∷ []) none);
+    },
+    inl (subst (λ n. Expects s Kind.Type (in_name 2) os n first_state) (sym at_is) expects),
+  );
+}
+
 -- a special object begins
 pub special-begins : (s : Symbol) (w : Direct) (letter : ℕ) → is_local s.bytes ≡ false → is_guard s.bytes ≡ false
     → StandsAt s.bytes 0 (95 ∷ 90 ∷ []) → StandsAt s.bytes 2 (84 ∷ letter ∷ []) → letter ≢ 65 → letter ≢ 77 → w.at ≡ 4
     → w.text.list.items ≡ look_up (letter ∷ []) special_texts → look_up (letter ∷ []) special_texts ≢ [] → w.candidates.list.items ≡ []
     → w.waiting.list.items ≡ opens.Special ∷ [] → IsWriting s w steps.Type
-unfolding in_name first_state
 special-begins s w letter apart other starts stands of_type of_none at_is written filled none_ waiting =
     let opened_ = symbol-starts s starts in
     let here = special-opens s opened_.inner first_around letter 2 first_state (special-known letter of_type of_none filled) opened_.awaits stands in
-    record {
-      kept = record { state = first_state; scope = no_scope; keeps = none-kept s w none_ (λ e. no-object s.bytes apart other) };
-      is_before = (
-        record {
-          os = here.inner;
-          around = in_name 2;
-          outside = refl;
-          stands = subst (λ ws. Stands s no_scope (reverse ws) here.inner w.text.list.items) (sym waiting) (
-            letter,
-            written,
-            (λ e. filled (sym written ∙ e)),
-            λ t at st comes. encoded-whole s opened_ (special letter t) at st (here.onward t at st comes),
-          );
-          scoped = subst (λ ws. IsScoped no_scope (in_name 2) (reverse ws)) (sym waiting) (none-scoped no_scope (in_name 2) (opens.Special ∷ []) refl);
-        },
-        inl (subst (λ n. Expects s Kind.Type (in_name 2) here.inner n first_state) (sym at_is) here.awaits),
-      );
-    }
+    type-begins s w opens.Special here.inner apart other at_is none_ waiting refl
+    (letter, written, (λ e. filled (sym written ∙ e)), λ t at st comes. encoded-whole s opened_ (special letter t) at st (here.onward t at st comes)) here.awaits
+
+-- a construction table does
+pub table-begins : (s : Symbol) (w : Direct) → s.is_wide ≡ true → is_local s.bytes ≡ false → is_guard s.bytes ≡ false
+    → StandsAt s.bytes 0 (95 ∷ 90 ∷ []) → StandsAt s.bytes 2 (84 ∷ []) → StandsAt s.bytes 3 (67 ∷ []) → w.at ≡ 4
+    → w.text.list.items ≡ [] → w.candidates.list.items ≡ [] → w.waiting.list.items ≡ opens.Derived ∷ [] → IsWriting s w steps.Type
+table-begins s w wide apart other starts first second at_is no_text none_ waiting =
+    let opened_ = symbol-starts s starts in
+    let here = table-opens s opened_.inner first_around 2 first_state wide opened_.awaits (stands-join s.bytes 2 (84 ∷ []) (67 ∷ []) first second) in
+    type-begins s w opens.Derived here.inner apart other at_is none_ waiting refl (
+      no_text,
+      λ t at st comes digits end is line.
+          let base = here.onward t at st comes digits end is line in
+          record { inner = base.inner; awaits = base.awaits; onward = λ u later now came. encoded-whole s opened_ (construction t (normal digits) u) later now (base.onward u later now came) },
+    )
+    here.awaits
 
 -- ## Nested names
 
@@ -273,7 +291,7 @@ object-begins s old new fresh apart guard starts marks writes =
       onward = λ v at st comes.
           let made = of_name 86 (tree_of v) (qualifiers_of v) (ref_of v) in
           record {
-            ends = whole-behind s new.text.list.items (encoding_of v nil) at apart (record {
+            ends = whole-behind s new.text.list.items (encoding_of v nil) at st apart (record {
               made = made;
               encoded = encoded-whole s opened_ made at st (guard_.onward v at st comes);
               shows = λ bytes p. subst (λ l. Shows (detail_of s) made (l ++ bytes)) (sym text_is)

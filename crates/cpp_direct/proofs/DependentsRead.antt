@@ -1,9 +1,10 @@
 -- A type that names an argument of a function's template is read, and so is what expands a pack.
-use Rattle.cpp_direct.specs.AllTerms.{after, appended, applied, between, byte_of, close, Continuation, count, counted_value, Detail, element, expansion, index_of, is_function_type, is_void, Kind, length_if_pack, listed_so_far, listed_value, lvalue, may_be_empty, meaning, number_of_kind, parameter, parameter_named, parameter_so_far, parts_of, Production, rvalue, Term, types_of, under_expansion, with_packs, with_type}
-use Rattle.cpp_direct.specs.AllStates.{added, AreCandidates, AreExpanded, AreParametersRead, Argument, argument_of, Arguments, AwaitsType, Candidate, comma_text, detail_of, Direct, EncodedBehind, expansion_letters, hidden, in_front_of_next, IsFunctionEnded, IsKnown, IsMarkedBy, IsNamedAgain, IsPackOf, IsPackThere, IsPlaced, IsScope, IsSingle, IsWriting, Kept, list_of, Lists, made_by, Mark, most_by_digit, parameter_digits, ParametersGoOn, Pattern, pattern_letters, place_of, PrintAllBy, PrintsAs, PrintsGiven, PrintsMade, Scope, separator, Symbol, with_argument, Writes}
-use Rattle.cpp_direct.proofs.Kept.{candidate-found, kept-argument, kept-grown, kept-same, kept-written, made-here, piece-found, placed-stays, value-added, value-comes, candidate-inside, kept-as, kept-with}
-use Rattle.cpp_direct.proofs.Listed.{some-elements}
-use Rattle.cpp_direct.proofs.Moves.{hole, eats, byte-opens, next-part, closes, none-fills, number-fills, is_eaten, stands-join, stands-split, expects-empty, open_at, fill, filled-at}
+use Rattle.cpp_direct.specs.AllTerms.{after, appended, applied, argument_so_far, between, byte_of, close, Continuation, count, counted_value, Detail, element, enclosed_argument, ends_arguments, expansion, index_of, instance, is_code, is_function_type, is_void, Kind, length_if_pack, listed_so_far, listed_value, lvalue, may_be_empty, meaning, number_of_kind, parameter, parameter_named, parameter_so_far, parts_of, Production, rvalue, Term, types_of, under_expansion, with_packs, with_type}
+use Rattle.cpp_direct.specs.AllStates.{added, AreCandidates, AreExpanded, AreParametersRead, Argument, argument_of, Arguments, arguments_in, ArgumentsGoOn, AwaitsNextArgument, AwaitsType, below, Candidate, comma_text, detail_of, Direct, EncodedBehind, expansion_letters, hidden, in_front_of_next, IsFunctionEnded, IsKnown, IsDependentNow, IsMarkedBy, IsNamedAgain, IsNaming, IsPackOf, IsPackThere, IsPlaced, IsScope, IsScoped, IsSingle, IsTemplate, IsWriting, Kept, list_of, Lists, made_by, Mark, most_by_digit, Open, Owns, parameter_digits, ParametersGoOn, Pattern, pattern_letters, place_of, PrintAllBy, PrintsAs, PrintsGiven, PrintsMade, Scope, scoped_in, separator, Symbol, with_argument, Writes}
+use Rattle.cpp_direct.proofs.Kept.{reverse-last, template-stays, candidate-found, kept-argument, kept-grown, kept-same, kept-written, made-here, piece-found, placed-stays, value-added, value-comes, candidate-inside, kept-as, kept-with}
+use Rattle.cpp_direct.proofs.Listed.{element-goes-on, element-scoped, some-elements, template-listed}
+use Rattle.cpp_direct.proofs.Handed.{noted-added, noted-within}
+use Rattle.cpp_direct.proofs.Moves.{chain-opens, eats-widely, fixed-fills, is_eaten_widely, is_left, leaves, hole, eats, byte-opens, next-part, closes, none-fills, number-fills, is_eaten, stands-join, stands-split, expects-empty, open_at, fill, filled-at}
 use Rattle.cpp_direct.proofs.MovesOfTypes.{const-opens, reference-type-opens, solid-opens, substitution-opens}
 use Rattle.cpp_direct.proofs.PrintedExpansions.{expansion-element, expansion-empty}
 use Rattle.cpp_direct.proofs.PrintedTypes.{parameter-given, rvalue-given}
@@ -19,11 +20,12 @@ use Rattle.std.proofs.Math.Seq.{get_or-append_seam}
 use Rattle.sym_core.specs.declared.NumberKind.TheVariants.{Seq36, Decimal}
 use Rattle.sym_core.specs.Token.{Token, IsNumberToken}
 use Rattle.cpp_direct.proofs.Ending.{next-separated, nothing-ended, parameter-goes_on}
-use Rattle.cpp_direct.proofs.MovesOfLists.{element-awaits}
+use Rattle.cpp_direct.proofs.MovesOfLists.{argument-awaits, element-awaits}
 use Rattle.cpp_direct.proofs.PrintedLists.{all-more, next-prints-in, next-prints-by}
 use Rattle.cpp_direct.proofs.Scopes.{parameters-as, pack-stays}
 use Rattle.cpp_direct.proofs.Signatures.{one-hidden}
 use Rattle.cpp_grammar.specs.Unfolding as unfolding_
+use Rattle.cpp_direct.specs.declared.open.Open.TheVariants as opens
 use Rattle.cpp_direct.specs.declared.open.Step.TheVariants as steps
 use Rattle.cpp_grammar.specs.Values as values
 
@@ -91,25 +93,39 @@ digit-stands s at k digit is first line =
 -- ## The argument
 
 -- the argument that a parameter names is at its place
-named-placed : (s : Symbol) (w : Direct) (all : Arguments) (k : ℕ) (p : Argument) (a : AwaitsType s w) → argument_of (reverse w.waiting.list.items) ≡ Some all
-    → p ≡ place_of all k → IsSingle all k
-    → (bytes : List ℕ) × (a.scope.names k ≡ Some (record { bytes = bytes; reference = p.is_reference })) × IsPlaced w.text.list.items p bytes
-named-placed s w all k p a found is single =
-    let same : p ≡ place_of a.scope.arguments k = is ∙ ap (λ (q : Arguments). place_of q k) (sym (a.scoped all found).0) in
-    let h = a.keeps.named k (subst (λ (q : Arguments). IsSingle q k) (sym (a.scoped all found).0) single) in (
+placed-there : (s : Symbol) (w : Direct) (all : Arguments) (k : ℕ) (p : Argument) (kept : Kept s w) (around : Around) → IsScoped kept.scope around (reverse w.waiting.list.items)
+    → argument_of (reverse w.waiting.list.items) ≡ Some all → p ≡ place_of all k → IsSingle all k
+    → (bytes : List ℕ) × (kept.scope.names k ≡ Some (record { bytes = bytes; reference = p.is_reference })) × IsPlaced w.text.list.items p bytes
+placed-there s w all k p kept around scoped found is single =
+    let same : p ≡ place_of kept.scope.arguments k = is ∙ ap (λ (q : Arguments). place_of q k) (sym (scoped all found).0) in
+    let h = kept.keeps.named k (subst (λ (q : Arguments). IsSingle q k) (sym (scoped all found).0) single) in (
       h.0,
-      subst (λ (q : Argument). a.scope.names k ≡ Some (record { bytes = h.0; reference = q.is_reference })) (sym same) h.1,
+      subst (λ (q : Argument). kept.scope.names k ≡ Some (record { bytes = h.0; reference = q.is_reference })) (sym same) h.1,
       subst (λ (q : Argument). IsPlaced w.text.list.items q h.0) (sym same) h.2,
     )
 
+named-placed : (s : Symbol) (w : Direct) (all : Arguments) (k : ℕ) (p : Argument) (a : AwaitsType s w) → argument_of (reverse w.waiting.list.items) ≡ Some all
+    → p ≡ place_of all k → IsSingle all k
+    → (bytes : List ℕ) × (a.scope.names k ≡ Some (record { bytes = bytes; reference = p.is_reference })) × IsPlaced w.text.list.items p bytes
+named-placed s w all k p a found is single = placed-there s w all k p a.kept a.around a.scoped found is single
+
 -- so it can be written once more
+there-inside : (s : Symbol) (w : Direct) (all : Arguments) (k : ℕ) (p : Argument) (kept : Kept s w) (around : Around) → IsScoped kept.scope around (reverse w.waiting.list.items)
+    → argument_of (reverse w.waiting.list.items) ≡ Some all → p ≡ place_of all k → IsSingle all k → (p.from ≤ p.to) × (p.to ≤ length w.text.list.items)
+there-inside s w all k p kept around scoped found is single =
+    let h = placed-there s w all k p kept around scoped found is single in
+    let found = piece-found w.text.list.items h.0 p.from p.to h.2 in
+    (found.0, found.1)
+
 pub argument-inside : (s : Symbol) (w : Direct) (all : Arguments) (k : ℕ) (p : Argument) → AwaitsType s w
     → argument_of (reverse w.waiting.list.items) ≡ Some all → p ≡ place_of all k → IsSingle all k
     → (p.from ≤ p.to) × (p.to ≤ length w.text.list.items)
-argument-inside s w all k p a found is single =
-    let h = named-placed s w all k p a found is single in
-    let found = piece-found w.text.list.items h.0 p.from p.to h.2 in
-    (found.0, found.1)
+argument-inside s w all k p a found is single = there-inside s w all k p a.kept a.around a.scoped found is single
+
+pub operand-inside : (s : Symbol) (w : Direct) (all : Arguments) (k : ℕ) (p : Argument) → AwaitsNextArgument s w
+    → argument_of (reverse w.waiting.list.items) ≡ Some all → p ≡ place_of all k → IsSingle all k
+    → (p.from ≤ p.to) × (p.to ≤ length w.text.list.items)
+operand-inside s w all k p a found is single = there-inside s w all k p a.kept a.goes.0 (element-scoped s w a) found is single
 
 -- a parameter may name it
 scope-named : (s : Symbol) (w : Direct) (all : Arguments) (k : ℕ) (a : AwaitsType s w) → argument_of (reverse w.waiting.list.items) ≡ Some all
@@ -143,6 +159,81 @@ parameter-done s old mid new all k p n a few letter line found is single real wr
     (subst (λ n. Comes s a.os (tree (parameter k) true) n later) (sym (same_at ∙ writes.at ∙ at))
     (parameter-comes s a.kind a.around a.os k old.at a.state a.typed few (scope-named s old all k a found single) a.awaits
     (stands-join s.bytes old.at (84 ∷ []) (parameter_digits k ++ 95 ∷ []) letter line))) a.stands
+
+-- ## Parameters as expressions
+
+-- what it names is found, and no candidate is made
+operand-tested : (around : Around) (k at : ℕ) (st : State) → k ≤ most_by_digit → IsScope k around
+    → ◌≡◌ {A = Continuation} (between Production.ParameterExpression around at (values.text (parameter_digits k) ∷ []) st)
+    (Ok (record { context = around; values = tree (parameter k) true ∷ []; state = st }))
+unfolding between argument_so_far
+operand-tested around k at st few scope =
+    subst (λ n. ◌≡◌ {A = Continuation} (argument_so_far around (at - 1) n st) (Ok (record { context = around; values = tree (parameter k) true ∷ []; state = st })))
+    (sym (digits-count k few))
+    (rw (parameter-found around k (at - 1) st scope.all scope.scope_is scope.there.1 (ap length_if_pack scope.there.0 ∙ scope.no_pack), argument_so_far) refl)
+
+-- it is accepted as an argument
+operand-comes : (s : Symbol) (around : Around) (os : List Opened) (k at : ℕ) (st : State) → s.is_wide ≡ true → k ≤ most_by_digit → IsScope k around
+    → Expects s Kind.Argument around os at st → StandsAt s.bytes at (88 ∷ []) → StandsAt s.bytes (at + 1) (84 ∷ [])
+    → StandsAt s.bytes (at + 1 + 1) (parameter_digits k ++ 95 ∷ []) → StandsAt s.bytes (at + 1 + 1 + length (parameter_digits k ++ 95 ∷ [])) (69 ∷ [])
+    → Comes s os (tree (parameter k) false) (at + 1 + 1 + length (parameter_digits k ++ 95 ∷ []) + 1) st
+unfolding is_eaten is_eaten_widely is_left number_of_kind parts_of may_be_empty between close unfolding_.behind meaning part byte_of tree_of text_of piece_of letter_of is_there applied enclosed_argument ends_arguments is_code
+operand-comes s around os k at st wide few scope expects x letter line ends =
+    let p = Production.ParameterExpression in
+    let argument = byte-opens (eats s Kind.Argument Production.Expression 88 refl) (hole s Kind.Argument around os at st expects) x refl refl in
+    let expression = byte-opens (eats-widely s Kind.Expression Production.ExpressionWithT 84 wide refl) argument letter refl refl in
+    let number = chain-opens (leaves s Kind.ExpressionParameter p 48 refl) expression refl refl in
+    let arguments = next-part p (number-fills (parameter_token k) number (parameter-number k few) line) (operand-tested around k (at + 1 + 1) st few scope) in
+    let operand = closes Production.ExpressionWithT (closes p (none-fills Kind.ArgumentsAlone arguments refl) refl) refl in
+    (closes Production.Expression (fixed-fills (next-part Production.Expression operand refl) ends) refl).comes
+
+-- it is read, and its argument is written once more
+pub operand-done : (s : Symbol) (old mid new : Direct) (all : Arguments) (k : ℕ) (p : Argument) (n : ℕ) (ws : List Open) (owner noted : Open) → AwaitsNextArgument s old → s.is_wide ≡ true
+    → k ≤ most_by_digit → StandsAt s.bytes old.at (88 ∷ []) → StandsAt s.bytes (old.at + 1) (84 ∷ []) → StandsAt s.bytes (old.at + 1 + 1) (parameter_digits k ++ 95 ∷ [])
+    → StandsAt s.bytes (old.at + 1 + 1 + length (parameter_digits k ++ 95 ∷ [])) (69 ∷ [])
+    → argument_of (reverse old.waiting.list.items) ≡ Some all → p ≡ place_of all k → IsSingle all k → all.encoding ≢ 0
+    → Writes (record old { at = n }) mid (take (p.to - p.from) (drop p.from old.text.list.items))
+    → n ≡ old.at + 1 + 1 + length (parameter_digits k ++ 95 ∷ []) + 1 → mid.waiting.list.items ≡ ws ++ owner ∷ [] → IsDependentNow owner noted
+    → new.waiting.list.items ≡ ws ++ noted ∷ [] → new.text ≡ mid.text → new.candidates ≡ mid.candidates → new.has_scope ≡ mid.has_scope → new.at ≡ mid.at
+    → IsWriting s new (steps.List false)
+operand-done s old mid new all k p n ws owner noted a wide few x letter line ends found is single real writes at waits now now_waits same_text same_candidates same_scope same_at =
+    let text = old.text.list.items in
+    let place = a.place in
+    let around = a.goes.0 in
+    let scoped = element-scoped s old a in
+    let opened : reverse old.waiting.list.items ≡ owner ∷ reverse ws =
+    ap (λ v. reverse v.list.items) (sym writes.waiting) ∙ ap reverse waits ∙ reverse-last ws owner in
+    let apart : (others : List Open) → reverse old.waiting.list.items ≡ opens.Pack ∷ others → ⊥
+    = λ others e. let same : owner ≡ opens.Pack = cc (sym opened ∙ e) in subst (λ o. IsDependentNow o noted) same now in
+    let l = template-listed s a.scope old a.state place.listing place.owner place.rest place.front place.template place.name a.ts a.texts (in_front_of_next a.ts a.texts)
+    apart place.belongs a.elements a.written a.goes in
+    let rest_is : place.rest ≡ reverse ws = cc (sym l.0 ∙ opened) in
+    let owner_is : owner ≡ place.owner = cc (sym opened ∙ l.0) in
+    let noting : IsDependentNow place.owner noted = subst (λ o. IsDependentNow o noted) owner_is now in
+    let within = noted-within place.owner noted noting in
+    let named : argument_of place.rest ≡ Some all =
+    subst (λ b. elim b [ true ↦ argument_of place.rest | false ↦ arguments_in place.owner ] ≡ Some all) within (subst (λ os. argument_of os ≡ Some all) l.0 found) in
+    let h = placed-there s old all k p a.kept around scoped found is single in
+    let bytes = h.0 in
+    let grown : mid.text.list.items ≡ text ++ bytes =
+    writes.text ∙ ap (λ l. text ++ l) (piece-found text bytes p.from p.to h.2).2 in
+    let outer = below s a.scope place.rest in
+    let element = argument-awaits s Kind.ArgumentList l.3.1 l.3.0 old.at a.state false tt l.3.4 in
+    let end = old.at + 1 + 1 + length (parameter_digits k ++ 95 ∷ []) + 1 in
+    let goes = element-goes-on s Kind.ArgumentList (scoped_in place.owner outer) (λ u there later. Owns s place.owner outer place.front (instance place.template u) there later)
+    a.ts (parameter k) old.at end a.state a.state l.3 (element.onward (parameter k) end a.state
+    (operand-comes s l.3.0 element.inner k old.at a.state wide few ((l.3.3 within all named).1.1 k single) element.awaits x letter line ends)) in
+    noted-added s mid new (kept-grown s old mid bytes grown writes.candidates writes.scope a.kept) ws place.owner noted place.front place.template place.name a.ts a.texts
+    (parameter k) bytes p.is_reference
+    (subst (λ t. IsTemplate (detail_of s) a.scope.names place.owner place.front place.template place.name t) (sym grown)
+    (template-stays (detail_of s) a.scope.names place.owner place.front place.template place.name text bytes place.is_template))
+    l.1 (parameter-given a.scope.names k (record { bytes = bytes; reference = p.is_reference }) h.1) (grown ∙ ap (λ t. t ++ bytes) l.2)
+    (subst (λ os. IsNaming a.scope os) (l.0 ∙ ap (λ r. place.owner ∷ r) rest_is) (named-here s old a.kept around all scoped found real))
+    (subst (λ r. ArgumentsGoOn s place.owner (below s a.scope r) place.front place.template (a.ts ++ parameter k ∷ []) mid.at a.state) rest_is
+    (subst (λ j. ArgumentsGoOn s place.owner outer place.front place.template (a.ts ++ parameter k ∷ []) j a.state) (sym (writes.at ∙ at)) goes))
+    noting now_waits same_text same_candidates same_scope same_at
+
+-- ## References to parameters
 
 -- An rvalue reference to it is read; where the argument is a reference, it is that argument itself.
 pub forwarded-done : (s : Symbol) (old mid one new : Direct) (all : Arguments) (k : ℕ) (p : Argument) (n from : ℕ) (a : AwaitsType s old) → k ≤ most_by_digit → IsReferable a.kind
@@ -478,7 +569,7 @@ expansion-goes s pattern w is_first mark start argument a has_pack below stands 
     let item = element-awaits s Kind.Items a.goes.inner around w.at a.state tt a.goes.awaits in
     let comes = expansion-comes s pattern around item.inner k w.at a.state packed.0 below packed.1 item.awaits stands in (
       size,
-      parameter-goes_on s argument (λ x there then_. EncodedBehind s a.lead x there) a.make a.ts w.at a.state a.goes t end later (item.onward t end later comes),
+      parameter-goes_on s argument (λ x there then_. EncodedBehind s a.lead x there then_) a.make a.ts w.at a.state a.goes t end later (item.onward t end later comes),
     )
 
 -- the elements are at their places where a comma is written

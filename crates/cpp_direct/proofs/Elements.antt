@@ -2,8 +2,7 @@
 use Rattle.cpp_direct.specs.AllTerms.{among, boolean, builtin, builtin_texts, Detail, integer, is_plain_integer, is_zero, Kind, literal_endings, look_up, normal, Signed, signed_digits, Term}
 use Rattle.std.proofs.Common.{◌≡◌, ◌≢◌, ℕ, ◌+◌, ◌⊎◌, List, [], ◌∷◌, ◌++◌, length, reverse, nat_eq, Bool, true, false, cond, refl, ap, sym, subst, ◌∙◌, arith, codes, append_assoc, append-nil, drop, inl, inr, ◌<◌, ◌≤◌, get_or, not, ◌&&◌}
 use Rattle.std.proofs.lemmas.Bool.{false≢true, ne_eqb}
-use Rattle.std.specs.List.{ends_with}
-use Rattle.cpp_direct.specs.AllStates.{AwaitsNamedType, AwaitsNextArgument, AwaitsNumber, below, Closes, detail_of, Direct, element_kind, EndsAsInteger, extra_of, GoesOn, in_front_of_next, integer_text, is_integer_letter, IsElement, IsListing, IsLiteralRead, IsUnmarked, IsWriting, Kept, led_by, may_name, number_text, Open, PrintAllAs, Prints, Reads, scoped_in, sign_text, Symbol, truth_text, Writes}
+use Rattle.cpp_direct.specs.AllStates.{AwaitsNamedType, AwaitsNextArgument, AwaitsNumber, below, Closes, detail_of, Direct, element_kind, EndsAsInteger, EndsOtherwise, extra_of, GoesOn, in_front_of_next, integer_text, is_integer_letter, IsElement, IsListing, IsLiteralRead, IsUnmarked, IsWriting, Kept, led_by, may_name, number_text, Open, PrintAllAs, Prints, Reads, scoped_in, sign_text, Symbol, truth_text, Writes}
 use Rattle.cpp_direct.specs.AllHoles.{IsDigitsAt, IsOffsetAt, ListGoesOn, StandsAt, TreeOpens, minus_sign}
 use Rattle.cpp_direct.proofs.Ending.{ends-so}
 use Rattle.cpp_direct.proofs.Scopes.{none-scoped}
@@ -241,7 +240,7 @@ boolean-literal-read s old begun middle new first next nothing read ended =
           (bool-element s kind os around d old.at st is read.1 expects whole);
     }
 
-number-unmarked : (s : List ℕ) (at : ℕ) (digits : List ℕ) (end : ℕ) → IsDigitsAt s at digits end → IsUnmarked digits
+pub number-unmarked : (s : List ℕ) (at : ℕ) (digits : List ℕ) (end : ℕ) → IsDigitsAt s at digits end → IsUnmarked digits
 number-unmarked s at digits end is = subst IsUnmarked is.own (digits-unmarked is.token.own is.is_number.digits.0)
 
 integer-prints : {detail : Detail} (letter : ℕ) (n : Bool) (ds : List ℕ) → is_integer_letter letter ≡ true → ds ≢ [] → IsUnmarked ds
@@ -314,15 +313,8 @@ enumerator-expected s old begun pushed new a stands next nothing writes text can
       begins = subst (λ k. TreeOpens s Kind.LiteralType e.inner a.goes.0 k a.state) (sym (at ∙ writes.at ∙ next)) e.opens;
     }
 
--- A text ends in no type whose integers are without it.
-pub record EndsOtherwise (text : List ℕ) : Type 0 where
-  pub int : ends_with nat_eq text (codes "(int") ≡ false
-  pub blank_int : ends_with nat_eq text (codes " int") ≡ false
-  pub long : ends_with nat_eq text (codes "(long") ≡ false
-  pub blank_long : ends_with nat_eq text (codes " long") ≡ false
-
 -- a type after a bracket at the end of one is none of these
-no-integer-type : (text front bytes : List ℕ) → text ≡ front ++ codes "(" ++ bytes → EndsOtherwise text → EndsAsInteger bytes → ⊥
+pub no-integer-type : (text front bytes : List ℕ) → text ≡ front ++ codes "(" ++ bytes → EndsOtherwise text → EndsAsInteger bytes → ⊥
 no-integer-type text front bytes e other ending = go ending.1
   where
     whole : (last : List ℕ) → bytes ≡ last → text ≡ front ++ (codes "(" ++ last)

@@ -6,10 +6,11 @@ use Rattle.std.specs.Cmp.Lexicographic.{pointwise}
 use Rattle.std.proofs.lemmas.Bool.{false≢true}
 use Rattle.std.proofs.lemmas.List.{length-append, length-drop, take_rest}
 use Rattle.std.proofs.Math.Seq.{drop-append_seam, take-append_seam}
-use Rattle.cpp_direct.specs.AllStates.{AreParametersRead, Arguments, AwaitsParameters, called_on, Cuts, detail_of, Direct, Encloses, Encoded, EncodedBehind, EndsBehind, Fronts, has_const, HasArguments, HasInstance, HasParameters, HasScope, in_front_of_next, is_builtin, is_local, IsEncodedAt, IsEncodingEnded, IsFrontRead, IsFunctionEnded, IsInstance, IsNamedSo, IsNameEnded, IsNameScoped, IsOwnName, IsScoped, IsSymbolEnded, IsWhole, IsWriting, ItemsGoOn, Keeps, Kept, list_of, list_with, Mark, mark_text, no_scope, Open, ParametersGoOn, plain_encoding, PrintsName, qualifiers, Scope, separator, Shows, Stands, Symbol, TakesItems, Writes}
+use Rattle.cpp_direct.specs.declared.open.Hiding.TheVariants as hidings
+use Rattle.cpp_direct.specs.AllStates.{AreLeft, AreParametersRead, Arguments, AwaitsParameters, called_on, Cuts, detail_of, Direct, Encloses, Encoded, EncodedBehind, EndsBehind, Fronts, has_const, HasArguments, HasInstance, HasParameters, HasScope, in_front_of_next, is_builtin, is_local, is_object, IsEncodedAt, IsEncodingEnded, IsFrontRead, IsFunctionEnded, IsInstance, IsNamedSo, IsNameEnded, IsNameScoped, IsOwnName, IsScoped, IsSymbolEnded, IsWhole, IsWriting, ItemsGoOn, Keeps, Kept, list_of, list_with, Mark, mark_text, no_scope, Open, ParametersGoOn, plain_encoding, PrintsName, qualifiers, Scope, separator, Shows, Stands, Symbol, TakesItems, Writes}
 use Rattle.cpp_direct.specs.AllHoles.{Comes, Expects, IsSuffix, ListGoesOn, Opened, StandsAt}
 use Rattle.cpp_direct.proofs.Unmarked.{suffix-unmarked}
-use Rattle.cpp_direct.proofs.Kept.{keeps-as, kept-same, kept-written, none-kept, reverse-last, type-comes}
+use Rattle.cpp_direct.proofs.Kept.{candidates-left, keeps-as, kept-same, kept-written, none-kept, none-named, none-single, reverse-last, type-comes}
 use Rattle.cpp_direct.proofs.Moves.{expects-empty}
 use Rattle.cpp_direct.proofs.MovesOfLists.{element-awaits}
 use Rattle.cpp_direct.proofs.MovesOfTypes.{builtin-comes}
@@ -62,7 +63,9 @@ marks-written s old new mark p writes = record {
   written = append-nil new.text.list.items ∙ writes.text ∙ p.written;
   shows = p.shows;
   encloses = p.encloses;
-  behind = subst (λ n. EncodedBehind s p.lead p.e n) (sym writes.at) p.behind;
+  now = p.now;
+  behind = subst (λ n. EncodedBehind s p.lead p.e n p.now) (sym writes.at) p.behind;
+  same = p.same;
 }
 
 -- an encoding in which no entity is ends the symbol
@@ -133,7 +136,9 @@ object-ended s w mark is_instance argument_ from p =
       written = ap (λ l. l ++ q) p.written ∙ simp append_assoc;
       shows = shows;
       encloses = object-enclosing (detail_of s) p.v (b ++ q) shows;
+      now = p.state;
       behind = p.awaits.ends;
+      same = λ e. refl;
     }
 
 -- ## Parameters
@@ -195,7 +200,7 @@ pub parameter-expected : (s : Symbol) (w last : Direct) (is_first : Bool) (mark 
     → AreParametersRead s w 3 is_first mark start argument → Writes w last (separator is_first) → IsWriting s last steps.Type
 parameter-expected s w last is_first mark start argument a one =
     let between = separator is_first in
-    item-comes s last last (kept-written s w last between one a.kept) argument (λ e there then_. EncodedBehind s a.lead e there) a.make a.ts w.at a.goes
+    item-comes s last last (kept-written s w last between one a.kept) argument (λ e there then_. EncodedBehind s a.lead e there then_) a.make a.ts w.at a.goes
     (opens.Parameters mark start argument ∷ a.rest) refl refl refl one.at (ap (λ v. reverse v.list.items) one.waiting ∙ a.open_is) (λ os onward. (
       a.ts,
       a.texts,
@@ -279,21 +284,45 @@ first-expected s w first last mark start argument p one text candidates scope_sa
 
 -- ## What precedes an encoding's text
 
--- where that is removed, the remaining candidates are some of the old ones
-cut-kept : (s : Symbol) (old new : Direct) (start : ℕ) → Cuts old new start → Kept s old → Kept s new
+-- where that is removed, the remaining candidates are some of the old ones, and all of them before a local entity
+pub cut-kept : (s : Symbol) (old new : Direct) (start : ℕ) → Cuts s.bytes old new start → (kept : Kept s old) → (k : Kept s new) × (is_local s.bytes ≡ true → kept.state ≡ k.state)
 cut-kept s old new start cuts kept = go cuts.candidates
   where
-    go : ((start ≡ 0) × (new.candidates ≡ old.candidates)) ⊎ (new.candidates.list.items ≡ []) → Kept s new
-    go (inl same) = record {
-      state = kept.state;
-      scope = kept.scope;
-      keeps = keeps-as s old new kept.state.candidates (cuts.text ∙ ap (λ n. drop n old.text.list.items) same.0) (ap (λ v. v.list.items) same.1) cuts.scope
-          kept.keeps.candidates kept.keeps.named kept.keeps.single kept.keeps.unknown;
-    }
-    go (inr none) = record { state = record kept.state { candidates = [] }; scope = no_scope; keeps = none-kept s new none (λ e. (kept.keeps.unknown (sym cuts.scope ∙ e)).1) }
+    known : new.has_scope ≡ false → (no_scope ≡ no_scope) × (is_object s.bytes ≡ false)
+    known e = (refl, (kept.keeps.unknown (sym cuts.scope ∙ e)).1)
+
+    go : ((start ≡ 0) × (new.candidates ≡ old.candidates)) ⊎ ((is_local s.bytes ≡ false) × (new.candidates.list.items ≡ []))
+        ⊎ AreLeft hidings.All old.candidates.list.items new.candidates.list.items → (k : Kept s new) × (is_local s.bytes ≡ true → kept.state ≡ k.state)
+    go (inl same) = (
+      record {
+        state = kept.state;
+        scope = kept.scope;
+        keeps = keeps-as s old new kept.state.candidates (cuts.text ∙ ap (λ n. drop n old.text.list.items) same.0) (ap (λ v. v.list.items) same.1) cuts.scope
+            kept.keeps.candidates kept.keeps.named kept.keeps.single kept.keeps.unknown;
+      },
+      λ e. refl,
+    )
+    go (inr (inl none)) = (
+      record { state = record kept.state { candidates = [] }; scope = no_scope; keeps = none-kept s new none.1 (λ e. (known e).1) },
+      λ e. absurd (false≢true (sym none.0 ∙ e)),
+    )
+    go (inr (inr are)) = (
+      record {
+        state = kept.state;
+        scope = no_scope;
+        keeps = record {
+          candidates = candidates-left s hidings.All kept.scope no_scope old.text.list.items new.text.list.items (λ k c never own. absurd never)
+              old.candidates.list.items new.candidates.list.items kept.state.candidates are kept.keeps.candidates;
+          named = none-named new.text.list.items;
+          single = none-single;
+          unknown = known;
+        };
+      },
+      λ e. refl,
+    )
 
 -- and the text is what followed it
-cut-text : (old new : Direct) (start : ℕ) (aside text : List ℕ) → Cuts old new start → start ≡ length aside → old.text.list.items ≡ aside ++ text
+pub cut-text : {s : List ℕ} (old new : Direct) (start : ℕ) (aside text : List ℕ) → Cuts s old new start → start ≡ length aside → old.text.list.items ≡ aside ++ text
     → new.text.list.items ≡ text
 cut-text old new start aside text cuts start_is written =
     cuts.text ∙ ap (λ n. drop n old.text.list.items) start_is ∙ ap (λ l. drop (length aside) l) written ∙ drop-append_seam aside text
@@ -324,7 +353,7 @@ front-begins s w new mark argument from start scoped apart start_is text candida
     let goes : ParametersGoOn s argument p.lead (λ l. encoding_of p.v l) [] w.at p.state =
     none-go_on s argument p.lead p.v w.at p.state scoped.items (name-scoped s w mark true argument from scoped) in
     let rest = reverse w.waiting.list.items in
-    item-comes s w new p.kept argument (λ e there then_. EncodedBehind s p.lead e there) (λ l. encoding_of p.v l) [] w.at goes (opens.Front mark start argument ∷ rest)
+    item-comes s w new p.kept argument (λ e there then_. EncodedBehind s p.lead e there then_) (λ l. encoding_of p.v l) [] w.at goes (opens.Front mark start argument ∷ rest)
     text candidates scope_same at (ap reverse waiting ∙ reverse-last w.waiting.list.items (opens.Front mark start argument)) (λ os onward. (has, onward))
     (entry-scoped p.scope goes.around (opens.Front mark start argument) argument rest refl refl scoped.named goes.scoped)
 
@@ -346,11 +375,11 @@ front-same s w new mark start argument p text candidates scope_same at = record 
 -- An encoding that has a return type ends what the one without it does: the return type precedes the text where there is no
 -- local entity. Before an entity a function shows no return type.
 returned-behind : (s : Symbol) {scope : Scope} {argument : Arguments} {mark : Mark} {v : Value} {name text : List ℕ} (is : IsInstance (detail_of s) scope text argument mark v name)
-    (r items : Term) (at : ℕ) (lead front : List ℕ) → (is_local s.bytes ≡ true → front ≡ lead)
+    (r items : Term) (at : ℕ) (st : State) (lead front : List ℕ) → (is_local s.bytes ≡ true → front ≡ lead)
     → (is_local s.bytes ≡ false → (bytes : List ℕ) → Shows (detail_of s) (plain_encoding mark is.own items) bytes
     → (shown : List ℕ) × (lead ++ shown ≡ front ++ bytes) × Shows (detail_of s) (function is.own (qualifiers (has_const mark)) (called_on mark) r (parameters items)) shown)
-    → EncodedBehind s lead (encoding_of v (list r items)) at → EncodedBehind s front (plain_encoding mark is.own items) at
-returned-behind s {mark = mark} {v = v} is r items at lead front hidden shown p =
+    → EncodedBehind s lead (encoding_of v (list r items)) at st → EncodedBehind s front (plain_encoding mark is.own items) at st
+returned-behind s {mark = mark} {v = v} is r items at st lead front hidden shown p =
     let same = sym (encoding-returned v mark is.own is.named_so is.returns r items) in
     record {
       whole = λ e. let w = p.whole e in record {
@@ -367,6 +396,13 @@ returned-behind s {mark = mark} {v = v} is r items at lead front hidden shown p 
             (w.shows bytes (subst (λ t. Encloses (detail_of s) t bytes) same
             (returned-enclosing (detail_of s) is.own (qualifiers (has_const mark)) (called_on mark) r (parameters items) bytes encloses)));
       };
+      member = λ e two. let w = p.member e two in record {
+        none = hidden e ∙ w.none;
+        made = w.made;
+        encloses = λ bytes encloses. w.encloses bytes (subst (λ t. Encloses (detail_of s) t bytes) same
+            (returned-enclosing (detail_of s) is.own (qualifiers (has_const mark)) (called_on mark) r (parameters items) bytes encloses));
+        opens = w.opens;
+      };
     }
 
 -- after the return type expects parameters, where this was written since
@@ -374,8 +410,8 @@ front-leads : (s : Symbol) (w last : Direct) (mark : Mark) (start to : ℕ) (arg
     → Keeps s p.scope last p.state.candidates
     → IsOwnName (detail_of s) p.scope last.text.list.items argument p.is_instance.own p.name → Fronts s.is_bare front to lead p.name → last.text.list.items ≡ front
     → last.at ≡ w.at
-    → ((items : Term) (there : ℕ) → EncodedBehind s p.lead (encoding_of p.v (list p.returned items)) there
-    → EncodedBehind s lead (plain_encoding mark p.is_instance.own items) there)
+    → ((items : Term) (there : ℕ) (then_ : State) → EncodedBehind s p.lead (encoding_of p.v (list p.returned items)) there then_
+    → EncodedBehind s lead (plain_encoding mark p.is_instance.own items) there then_)
     → AwaitsParameters s last mark to argument
 front-leads s w last mark start to argument p front lead keeps is_own fronts written at turns =
     let is = p.is_instance in
@@ -401,7 +437,7 @@ front-leads s w last mark start to argument p front lead keeps is_own fronts wri
         outside = p.goes.outside;
         scoped = p.goes.scoped;
         awaits = subst (λ n. Expects s Kind.Items p.goes.around p.goes.inner n p.state) (sym at) p.goes.awaits;
-        onward = λ l there then_ comes. turns (no_items l) there (p.goes.onward l there then_ comes);
+        onward = λ l there then_ comes. turns (no_items l) there then_ (p.goes.onward l there then_ comes);
       };
     }
 
@@ -427,7 +463,7 @@ front-turned s w here first last mark start argument p whole_ plain text candida
     (name-stays p.front (p.front ++ lead) lead argument is.own p.name refl is.is_own))
     (subst (λ b. Fronts b (p.front ++ lead ++ p.name) start lead p.name) (sym whole_) (p.front, refl, p.start_is))
     (written ∙ ap (λ l. p.front ++ lead ++ l) named) (two.at ∙ one.at ∙ at)
-    (λ items there goes. returned-behind s is p.returned items there p.lead lead (λ e. absurd (false≢true (sym plain ∙ e))) (λ e bytes shows. (
+    (λ items there then_ goes. returned-behind s is p.returned items there then_ p.lead lead (λ e. absurd (false≢true (sym plain ∙ e))) (λ e bytes shows. (
       lead ++ bytes,
       ap (λ l. l ++ (lead ++ bytes)) none,
       front-shows (has-parameters s whole_) is.own (qualifiers (has_const mark)) (called_on mark) (parameters items) bytes shows p.returned p.bytes p.is_reference p.prints,
@@ -448,7 +484,7 @@ front-hidden s w last mark start begins argument p whole_ local_ begins_is one =
     (name-stays aside last.text.list.items p.front argument is.own p.name written (name-stays p.front aside p.bytes argument is.own p.name refl is.is_own))
     (subst (λ b. Fronts b (aside ++ p.lead ++ p.name) begins p.lead p.name) (sym whole_) (aside, refl, begins_is ∙ ap length p.written))
     (written ∙ ap (λ l. aside ++ l) p.text_is ∙ sym (append_assoc aside p.lead p.name)) one.at
-    (λ items there goes. returned-behind s is p.returned items there p.lead p.lead (λ e. refl) (λ e. absurd (false≢true (sym e ∙ local_))) goes)
+    (λ items there then_ goes. returned-behind s is p.returned items there then_ p.lead p.lead (λ e. refl) (λ e. absurd (false≢true (sym e ∙ local_))) goes)
 
 -- the return type is read, and the parameters are written after it
 pub front-bare : (s : Symbol) (w last : Direct) (mark : Mark) (start : ℕ) (argument : Arguments) → IsFrontRead s w mark start argument
@@ -461,7 +497,7 @@ front-bare s w last mark start argument p bare text candidates scope_same at =
     (name-stays p.front last.text.list.items p.bytes argument is.own p.name written is.is_own)
     (subst (λ b. Fronts b (p.front ++ p.bytes) start p.lead p.name) (sym bare)
     (p.bytes, ap (λ l. l ++ p.bytes) p.text_is, p.start_is ∙ ap length p.text_is))
-    written at (λ items there goes. returned-behind s is p.returned items there p.lead p.lead (λ e. refl)
+    written at (λ items there then_ goes. returned-behind s is p.returned items there then_ p.lead p.lead (λ e. refl)
     (λ e bytes shows. (bytes, refl, returned-shows (has-none s bare) is.own (qualifiers (has_const mark)) (called_on mark) p.returned (parameters items) bytes shows)) goes)
 
 -- ## The end of an encoding
@@ -479,9 +515,9 @@ void-read s argument becomes make at st p stands =
 
 -- a name with its parameters is a function, followed at most by something that prints nothing
 items-ended : (s : Symbol) {scope : Scope} {extra : ℕ} {ts : List Term} {texts text : List ℕ} (here : Direct) (mark : Mark) (start : ℕ) (argument : Arguments)
-    (p : HasParameters s extra scope text mark start argument ts texts) (shown : List ℕ) (e items : Term) → here.text.list.items ≡ p.front ++ codes "(" ++ shown → Kept s here
+    (p : HasParameters s extra scope text mark start argument ts texts) (shown : List ℕ) (e items : Term) → here.text.list.items ≡ p.front ++ codes "(" ++ shown → (kept : Kept s here)
     → e ≡ function p.is_function.own (qualifiers (has_const mark)) (called_on mark) absent items
-    → PrintsItems (detail_of s) (types_of p.is_function.own) items shown → EncodedBehind s p.lead e here.at → IsFunctionEnded s here mark start
+    → PrintsItems (detail_of s) (types_of p.is_function.own) items shown → EncodedBehind s p.lead e here.at kept.state → IsFunctionEnded s here mark start
 items-ended s here mark start argument p shown e items written kept is printed behind =
     let f = p.is_function in
     let made = function f.own (qualifiers (has_const mark)) (called_on mark) absent items in
@@ -517,8 +553,8 @@ void-ended s w first here mark start argument p stands one text candidates scope
     (ap (λ l. l.list.items) text ∙ one.text ∙ ap (λ l. l ++ codes "(") p.written ∙ sym (append-nil (p.front ++ codes "(")))
     (kept-same s first here text candidates scope_same (kept-written s w first (codes "(") one p.kept)) (made-void f.own absent mark p.make f.makes)
     (list-in (detail_of s) (types_of f.own) 3 [] [] (omega arith) f.elements)
-    (subst (λ n. EncodedBehind s p.lead e n) (omega (arith, at, one.at))
-    (void-read s argument (λ u there then_. EncodedBehind s p.lead u there) p.make w.at p.state p.goes stands))
+    (subst (λ n. EncodedBehind s p.lead e n p.state) (omega (arith, at, one.at))
+    (void-read s argument (λ u there then_. EncodedBehind s p.lead u there then_) p.make w.at p.state p.goes stands))
 
 -- parameters that aren't a lone void are the function's
 pub function-ended : (s : Symbol) (w : Direct) (mark : Mark) (start : ℕ) (argument : Arguments)
@@ -530,7 +566,7 @@ function-ended s w mark start argument r apart =
     items-ended s w mark start argument p.has p.texts (p.make (list_of p.ts)) (list_of p.ts) p.written p.kept
     (made-with f.own absent mark p.make f.makes p.ts (p.some refl) (parameters-kept (detail_of s) (types_of f.own) r.0 p.ts p.texts f.elements apart))
     (list-in (detail_of s) (types_of f.own) r.0 p.ts p.texts r.1 f.elements)
-    (subst (λ u. EncodedBehind s p.lead (p.make u) w.at) (list-with-none p.ts)
+    (subst (λ u. EncodedBehind s p.lead (p.make u) w.at p.state) (list-with-none p.ts)
     (p.goes.onward nothing_there w.at p.state (expects-empty s Kind.Items p.goes.around p.goes.inner w.at p.state p.goes.awaits refl)))
 
 -- also where the last of them prints nothing
@@ -544,7 +580,7 @@ nothing-ended s w here is_first mark start argument p t kept text none apart goe
     let items = list_with p.ts (list t nil) in
     items-ended s here mark start argument p.has p.texts (p.make items) items (ap (λ v. v.list.items) text ∙ p.written) kept (made p.ts)
     (list-before (detail_of s) (types_of f.own) p.ts t p.texts none f.elements)
-    (subst (λ u. EncodedBehind s p.lead (p.make u) here.at) (list-more p.ts t nil)
+    (subst (λ u. EncodedBehind s p.lead (p.make u) here.at kept.state) (list-more p.ts t nil)
     (goes.onward nothing_there here.at kept.state (expects-empty s Kind.Items goes.around goes.inner here.at kept.state goes.awaits refl)))
   where
     made : (ts : List Term) → p.make (list_with ts (list t nil))
@@ -555,7 +591,7 @@ nothing-ended s w here is_first mark start argument p t kept text none apart goe
 
 -- a function is an encoding once its last bracket is written, and what precedes its text is removed
 pub function-closed : (s : Symbol) (w last new : Direct) (mark : Mark) (start : ℕ) → IsFunctionEnded s w mark start → s.is_bare ≡ false
-    → Writes w last (codes ")") → Cuts last new start → IsEncodingEnded s new mark
+    → Writes w last (codes ")") → Cuts s.bytes last new start → IsEncodingEnded s new mark
 function-closed s w last new mark start p whole_ one cuts =
     let b = p.name in
     let l = p.texts in
@@ -566,8 +602,9 @@ function-closed s w last new mark start p whole_ one cuts =
     (one.text ∙ ap (λ x. x ++ codes ")") p.written ∙ ap (λ x. x ++ codes "(" ++ l ++ codes ")") fronts.1
     ∙ simp append_assoc) in
     let text = b ++ codes "(" ++ l ++ codes ")" ++ q in
+    let left = cut-kept s last new start cuts (kept-written s w last (codes ")") one p.kept) in
     record {
-      kept = cut-kept s last new start cuts (kept-written s w last (codes ")") one p.kept);
+      kept = left.0;
       e = p.e;
       lead = p.lead;
       bytes = text;
@@ -576,13 +613,15 @@ function-closed s w last new mark start p whole_ one cuts =
       encloses = subst (λ t. Encloses (detail_of s) t text) (sym p.e_is)
           (function-encloses (detail_of s) p.own (qualifiers (has_const mark)) (called_on mark) p.items text
           (subst (λ t. Shows (detail_of s) t text) p.e_is (p.shows whole_)));
-      behind = subst (λ n. EncodedBehind s p.lead p.e n) (sym (cuts.at ∙ one.at)) p.behind;
+      now = p.state;
+      behind = subst (λ n. EncodedBehind s p.lead p.e n p.state) (sym (cuts.at ∙ one.at)) p.behind;
+      same = left.1;
     }
 
 -- likewise where only the names of functions are shown, once what follows the name is removed: the name is written again, and
 -- the rest before it goes
 pub function-named : (s : Symbol) (w last new : Direct) (mark : Mark) (start end : ℕ) (p : IsFunctionEnded s w mark start) → s.is_bare ≡ true
-    → end ≡ length w.text.list.items → Writes w last (take (start - 0) (drop 0 w.text.list.items)) → Cuts last new end → IsEncodingEnded s new marks.Plain
+    → end ≡ length w.text.list.items → Writes w last (take (start - 0) (drop 0 w.text.list.items)) → Cuts s.bytes last new end → IsEncodingEnded s new marks.Plain
 function-named s w last new mark start end p bare end_is one cuts =
     let fronts = subst (λ b. Fronts b p.front start p.lead p.name) bare p.fronts in
     let named = p.lead ++ p.name in
@@ -593,10 +632,11 @@ function-named s w last new mark start end p bare end_is one cuts =
     ap (λ n. take n w.text.list.items) (omega (arith, fronts.2)) ∙ ap (λ l. take (length named) l) whole_ ∙ take-append_seam named behind_ in
     let left_over : new.text.list.items ≡ named =
     cut-text last new end w.text.list.items named cuts end_is (one.text ∙ ap (λ l. w.text.list.items ++ l) again) in
+    let left = cut-kept s last new end cuts (kept-written s w last (take (start - 0) (drop 0 w.text.list.items)) one p.kept) in
     let made = function p.own (qualifiers (has_const mark)) (called_on mark) absent p.items in
     let shows : Shows (detail_of s) made p.name = name-shows (has-none s bare) p.own p.name p.prints (qualifiers (has_const mark)) (called_on mark) absent p.items in
     record {
-      kept = cut-kept s last new end cuts (kept-written s w last (take (start - 0) (drop 0 w.text.list.items)) one p.kept);
+      kept = left.0;
       e = p.e;
       lead = p.lead;
       bytes = p.name;
@@ -604,7 +644,9 @@ function-named s w last new mark start end p bare end_is one cuts =
       shows = subst (λ t. Shows (detail_of s) t p.name) (sym p.e_is) shows;
       encloses = subst (λ t. Encloses (detail_of s) t p.name) (sym p.e_is)
           (function-encloses (detail_of s) p.own (qualifiers (has_const mark)) (called_on mark) p.items p.name shows);
-      behind = subst (λ n. EncodedBehind s p.lead p.e n) (sym (cuts.at ∙ one.at)) p.behind;
+      now = p.state;
+      behind = subst (λ n. EncodedBehind s p.lead p.e n p.state) (sym (cuts.at ∙ one.at)) p.behind;
+      same = left.1;
     }
 
 -- the name is within what is written

@@ -12,7 +12,7 @@ use Rattle.cpp_direct.proofs.NamePlaces.{reads-of, reads-then}
 use Rattle.cpp_direct.proofs.NamedArguments.{arguments-given, named-there, scope_at, scope-kept}
 use Rattle.cpp_direct.proofs.Nesting.{nest-comes, closed-prints}
 use Rattle.cpp_direct.proofs.PrintedLists.{element-in, type-in, list-in, list-with-none, next-prints-in, none-print-in}
-use Rattle.cpp_direct.proofs.PrintedLocals.{object-enclosing, local-prints, address-prints, function-encloses, name-encloses, returned-enclosing}
+use Rattle.cpp_direct.proofs.PrintedLocals.{object-enclosing, local-prints, address-prints, function-encloses, name-encloses, name-shows, returned-enclosing}
 use Rattle.cpp_direct.proofs.PrintedNames.{as-name, source-prints}
 use Rattle.cpp_direct.proofs.PrintedParts.{has-none, has-parameters}
 use Rattle.cpp_direct.proofs.PrintedSymbols.{encoding-plain, encoding-returned, object-encoded, function-shows, mark-opens, parameters-kept, void-shows, made-void, made-with}
@@ -107,9 +107,10 @@ returned-first make r at st p =
 
 -- no parameter is there yet
 abbrev pub led-by : (s : Symbol) (extra : ℕ) (mark : Mark) (own returned : Term) (make : Term → Term) (front name : List ℕ) → PrintsName (detail_of s) own name
+    → (has_return_type own ≡ false → returned ≡ absent)
     → ((t rest : Term) → make (list t rest) ≡ function own (qualifiers (has_const mark)) (called_on mark) returned (parameters (list t rest)))
     → IsLedFunction (detail_of s) extra mark [] []
-led-by s extra mark own returned make front name prints makes = record {
+led-by s extra mark own returned make front name prints none makes = record {
   front = front;
   name = name;
   own = own;
@@ -117,6 +118,7 @@ led-by s extra mark own returned make front name prints makes = record {
   returned = returned;
   make = make;
   makes = makes;
+  none = none;
   elements = none-print-in (detail_of s) (types_of own) extra;
 }
 
@@ -131,6 +133,7 @@ led-more s {extra = extra} {ts = ts} {texts = texts} f t bytes element = record 
   returned = f.returned;
   make = f.make;
   makes = f.makes;
+  none = f.none;
   elements = next-prints-in (types_of f.own) extra ts texts t bytes f.elements element;
 }
 
@@ -142,7 +145,7 @@ pub plain-awaits : {s : Symbol} {extra : ℕ} {mark : Mark} {from : ℕ} {argume
 plain-awaits {s = s} {extra = extra} {mark = mark} w kept p no_return leads goes = record {
   kept = kept;
   has = record {
-    is_led = led-by s extra mark p.own absent (λ l. encoding_of p.v l) p.lead p.name p.prints (encoding-plain p.v mark p.own p.named_so no_return);
+    is_led = led-by s extra mark p.own absent (λ l. encoding_of p.v l) p.lead p.name p.prints (λ e. refl) (encoding-plain p.v mark p.own p.named_so no_return);
     leads = leads;
   };
   written = p.written;
@@ -164,7 +167,7 @@ returned-awaits {s = s} {extra = extra} {mark = mark} {argument = argument} {Wit
     record {
       kept = kept-same s w (record w { at = n }) refl refl refl kept;
       has = record {
-        is_led = led-by s extra mark p.own r (λ l. make (list r l)) p.lead p.name p.prints
+        is_led = led-by s extra mark p.own r (λ l. make (list r l)) p.lead p.name p.prints (λ e. absurd (false≢true (sym e ∙ returns)))
             (λ t rest. encoding-returned p.v mark p.own p.named_so returns r (list t rest));
         leads = leads;
       };
@@ -227,7 +230,7 @@ front-cut {s = s} {extra = extra} {mark = mark} {argument = argument} {entry = e
       kept = kept-cut s w new p.kept left p.bytes to whole_ addressed.to_is left_is
           (subst (λ v. AreLeft (hidings.After to) v.list.items new.candidates.list.items) same_candidates are) (scope_same ∙ same_scope) addressed.there;
       has = record {
-        is_led = led-by s extra mark p.own r (λ l. encoding_of p.v (list r l)) p.lead p.name p.prints
+        is_led = led-by s extra mark p.own r (λ l. encoding_of p.v (list r l)) p.lead p.name p.prints (λ e. absurd (false≢true (sym e ∙ p.returns)))
             (λ t rest. encoding-returned p.v mark p.own p.named_so p.returns r (list t rest));
         leads = p.leads;
       };
@@ -323,24 +326,34 @@ name-inside text front name rest to written to_is =
     omega (arith, to_is, ap length written, length-append (front ++ name) rest)
 
 -- a function was read, and the open entry waits for it
-function-read : {s : Symbol} {Leads : List ℕ → Type 0} {Within : WithinOpen} {rest : List Open} (w : Direct) (mark : Mark) (place : ℕ) (kept : Kept s w) (e : Term) (front bytes : List ℕ)
-    → Leads front → w.text.list.items ++ mark_text mark ≡ front ++ bytes → Encloses (detail_of s) e bytes → reverse w.waiting.list.items ≡ rest
-    → w.at ≡ place → Within kept.scope rest front e place kept.state → IsLedFunctionRead s w mark Leads Within
-function-read {Within = Within} {rest = rest} w mark place kept e front bytes leads written encloses waits at within = record {
+function-read : {s : Symbol} {Leads : Term → List ℕ → Type 0} {Within : WithinOpen} {rest : List Open} (w : Direct) (mark : Mark) (place : ℕ) (kept : Kept s w) (e own : Term) (front bytes : List ℕ)
+    → Leads own front → w.text.list.items ++ mark_text mark ≡ front ++ bytes → Encloses (detail_of s) e bytes → (has_return_type own ≡ false → Shows (detail_of s) e bytes)
+    → reverse w.waiting.list.items ≡ rest → w.at ≡ place → Within kept.scope rest front e place kept.state → IsLedFunctionRead s w mark Leads Within
+function-read {Within = Within} {rest = rest} w mark place kept e own front bytes leads written encloses shows waits at within = record {
   kept = kept;
   e = e;
+  own = own;
   front = front;
   leads = leads;
   bytes = bytes;
   encloses = encloses;
+  shows = shows;
   written = written;
   within = subst (λ ws. Within kept.scope ws front e w.at kept.state) (sym waits)
       (subst (λ n. Within kept.scope rest front e n kept.state) (sym at) within);
 }
 
+-- a function that has no return type shows what it is shown as without one
+shown-plain : (s : Symbol) {extra : ℕ} {mark : Mark} {ts : List Term} {texts : List ℕ} (f : IsLedFunction (detail_of s) extra mark ts texts) (e items : Term) (bytes : List ℕ)
+    → e ≡ function f.own (qualifiers (has_const mark)) (called_on mark) f.returned items
+    → Shows (detail_of s) (function f.own (qualifiers (has_const mark)) (called_on mark) absent items) bytes
+    → has_return_type f.own ≡ false → Shows (detail_of s) e bytes
+shown-plain s {mark = mark} f e items bytes is shows none =
+    subst (λ t. Shows (detail_of s) t bytes) (sym (is ∙ ap (λ r. function f.own (qualifiers (has_const mark)) (called_on mark) r items) (f.none none))) shows
+
 -- a lone void is read and written
-pub void-shown : {s : Symbol} {Leads : LeadsSo} {Now : List ℕ → Type 0} {Within : WithinOpen} {extra : ℕ} {mark : Mark} {argument : Arguments} (w new : Direct) (n : ℕ)
-    (p : AwaitsLedParameters s w extra mark argument Leads Within) → Now p.front → StandsAt s.bytes w.at (118 ∷ []) → n ≡ w.at + 1
+pub void-shown : {s : Symbol} {Leads : LeadsSo} {Now : Term → List ℕ → Type 0} {Within : WithinOpen} {extra : ℕ} {mark : Mark} {argument : Arguments} (w new : Direct) (n : ℕ)
+    (p : AwaitsLedParameters s w extra mark argument Leads Within) → Now p.own p.front → StandsAt s.bytes w.at (118 ∷ []) → n ≡ w.at + 1
     → Writes (record w { at = n }) new (codes "()") → s.is_bare ≡ false → IsLedFunctionRead s new mark Now Within
 void-shown {s = s} {Within = Within} {mark = mark} {argument = argument} w new n p leads stands at one whole =
     let b = p.name in
@@ -349,23 +362,26 @@ void-shown {s = s} {Within = Within} {mark = mark} {argument = argument} w new n
     let shows : Shows (detail_of s) plain (b ++ codes "()" ++ q) = subst (λ l. Shows (detail_of s) plain (b ++ codes "()" ++ l)) (plain-text mark)
     (void-shows (has-parameters s whole) p.own b p.prints (qualifiers (has_const mark)) (called_on mark)) in
     function-read new mark (w.at + 1) (kept-written s (record w { at = n }) new (codes "()") one (kept-same s w (record w { at = n }) refl refl refl p.kept))
-    (p.make (list_of (builtin (118 ∷ []) ∷ []))) p.front (b ++ codes "()" ++ q) leads
+    (p.make (list_of (builtin (118 ∷ []) ∷ []))) p.own p.front (b ++ codes "()" ++ q) leads
     (ap (λ l. l ++ q) (one.text ∙ ap (λ l. l ++ codes "()") p.written) ∙ simp append_assoc)
     (subst (λ t. Encloses (detail_of s) t (b ++ codes "()" ++ q)) (sym (made-void p.own p.returned mark p.make p.makes))
     (returned-enclosing (detail_of s) p.own (qualifiers (has_const mark)) (called_on mark) p.returned nil (b ++ codes "()" ++ q)
     (function-encloses (detail_of s) p.own (qualifiers (has_const mark)) (called_on mark) nil (b ++ codes "()" ++ q) shows)))
+    (shown-plain s p.is_led (p.make (list_of (builtin (118 ∷ []) ∷ []))) nil (b ++ codes "()" ++ q) (made-void p.own p.returned mark p.make p.makes) shows)
     (ap (λ v. reverse v.list.items) one.waiting) (one.at ∙ at)
     (void-read s argument (Within p.scope (reverse w.waiting.list.items) p.front) p.make w.at p.state p.goes stands)
 
 -- where only the names of functions are shown, nothing is written for it
-pub void-unshown : {s : Symbol} {Leads : LeadsSo} {Now : List ℕ → Type 0} {Within : WithinOpen} {extra : ℕ} {mark : Mark} {argument : Arguments} (w : Direct) (n : ℕ)
-    (p : AwaitsLedParameters s w extra mark argument Leads Within) → Now p.front → StandsAt s.bytes w.at (118 ∷ []) → n ≡ w.at + 1 → s.is_bare ≡ true
+pub void-unshown : {s : Symbol} {Leads : LeadsSo} {Now : Term → List ℕ → Type 0} {Within : WithinOpen} {extra : ℕ} {mark : Mark} {argument : Arguments} (w : Direct) (n : ℕ)
+    (p : AwaitsLedParameters s w extra mark argument Leads Within) → Now p.own p.front → StandsAt s.bytes w.at (118 ∷ []) → n ≡ w.at + 1 → s.is_bare ≡ true
     → IsLedFunctionRead s (record w { at = n }) marks.Plain Now Within
 void-unshown {s = s} {Within = Within} {mark = mark} {argument = argument} w n p leads stands at bare =
     function-read (record w { at = n }) marks.Plain (w.at + 1) (kept-same s w (record w { at = n }) refl refl refl p.kept)
-    (p.make (list_of (builtin (118 ∷ []) ∷ []))) p.front p.name leads (append-nil w.text.list.items ∙ p.written)
+    (p.make (list_of (builtin (118 ∷ []) ∷ []))) p.own p.front p.name leads (append-nil w.text.list.items ∙ p.written)
     (subst (λ t. Encloses (detail_of s) t p.name) (sym (made-void p.own p.returned mark p.make p.makes))
     (name-encloses (has-none s bare) p.own p.name p.prints (qualifiers (has_const mark)) (called_on mark) p.returned nil))
+    (λ none. subst (λ t. Shows (detail_of s) t p.name) (sym (made-void p.own p.returned mark p.make p.makes))
+    (name-shows (has-none s bare) p.own p.name p.prints (qualifiers (has_const mark)) (called_on mark) p.returned nil))
     refl at (void-read s argument (Within p.scope (reverse w.waiting.list.items) p.front) p.make w.at p.state p.goes stands)
 
 -- and so is that of a function with one parameter read
@@ -394,8 +410,8 @@ parameters-end {s = s} {w = w} {extra = extra} {mark = mark} {Within = Within} p
 )
 
 -- they are read and written
-pub function-shown : {s : Symbol} {Leads : LeadsSo} {Now : List ℕ → Type 0} {Within : WithinOpen} {extra : ℕ} {mark : Mark} {argument : Arguments} {entry : Open} (w shut last : Direct)
-    (p : IsLedParameterRead s w extra mark argument entry Leads Within) (text : List ℕ) → Now p.front → text ≡ w.text.list.items → ends_with nat_eq text (codes "(void") ≡ false
+pub function-shown : {s : Symbol} {Leads : LeadsSo} {Now : Term → List ℕ → Type 0} {Within : WithinOpen} {extra : ℕ} {mark : Mark} {argument : Arguments} {entry : Open} (w shut last : Direct)
+    (p : IsLedParameterRead s w extra mark argument entry Leads Within) (text : List ℕ) → Now p.own p.front → text ≡ w.text.list.items → ends_with nat_eq text (codes "(void") ≡ false
     → extra ≤ 6 → shut.text ≡ w.text → shut.candidates ≡ w.candidates → shut.has_scope ≡ w.has_scope → shut.at ≡ w.at
     → shut.waiting.list.items ≡ take (length w.waiting.list.items - 1) w.waiting.list.items → Writes shut last (codes ")") → s.is_bare ≡ false → IsLedFunctionRead s last mark Now Within
 function-shown {s = s} {extra = extra} {mark = mark} w shut last p whole_text leads same other few text candidates scope_same at waits one whole =
@@ -407,17 +423,18 @@ function-shown {s = s} {extra = extra} {mark = mark} w shut last p whole_text le
     let shows : Shows (detail_of s) plain bytes = subst (λ x. Shows (detail_of s) plain (b ++ codes "(" ++ p.texts ++ codes ")" ++ x)) (plain-text mark)
     (function-shows (has-parameters s whole) p.own b p.prints (list_of p.ts) p.texts (list-in (detail_of s) (types_of p.own) extra p.ts p.texts few p.elements)
     (qualifiers (has_const mark)) (called_on mark) (mark-opens mark (list_of p.ts))) in
-    function-read last mark w.at (kept-written s shut last (codes ")") one (kept-same s w shut text candidates scope_same p.kept)) (p.make (list_of p.ts)) p.front bytes leads
+    function-read last mark w.at (kept-written s shut last (codes ")") one (kept-same s w shut text candidates scope_same p.kept)) (p.make (list_of p.ts)) p.own p.front bytes leads
     (ap (λ x. x ++ q) (one.text ∙ ap (λ v. v.list.items ++ codes ")") text ∙ ap (λ x. x ++ codes ")") p.written)
     ∙ simp append_assoc)
     (subst (λ t. Encloses (detail_of s) t bytes) (sym end.0)
     (returned-enclosing (detail_of s) p.own (qualifiers (has_const mark)) (called_on mark) p.returned (list_of p.ts) bytes
     (function-encloses (detail_of s) p.own (qualifiers (has_const mark)) (called_on mark) (list_of p.ts) bytes shows)))
+    (shown-plain s p.is_led (p.make (list_of p.ts)) (list_of p.ts) bytes end.0 shows)
     (ap (λ v. reverse v.list.items) one.waiting ∙ led-popped w shut p waits) (one.at ∙ at) end.1
 
 -- what was written after the name is removed, where only the names of functions are shown
-pub function-unshown : {s : Symbol} {Leads : LeadsSo} {Now : List ℕ → Type 0} {Within : WithinOpen} {extra : ℕ} {mark : Mark} {argument : Arguments} {entry : Open} (w shut new : Direct) (to : ℕ)
-    (p : IsLedParameterRead s w extra mark argument entry Leads Within) (text : List ℕ) → Now p.front → text ≡ w.text.list.items → ends_with nat_eq text (codes "(void") ≡ false
+pub function-unshown : {s : Symbol} {Leads : LeadsSo} {Now : Term → List ℕ → Type 0} {Within : WithinOpen} {extra : ℕ} {mark : Mark} {argument : Arguments} {entry : Open} (w shut new : Direct) (to : ℕ)
+    (p : IsLedParameterRead s w extra mark argument entry Leads Within) (text : List ℕ) → Now p.own p.front → text ≡ w.text.list.items → ends_with nat_eq text (codes "(void") ≡ false
     → to ≡ length (p.front ++ p.name) → AreNamed (p.front ++ p.name) p.scope
     → shut.text ≡ w.text → shut.candidates ≡ w.candidates → shut.has_scope ≡ w.has_scope → shut.at ≡ w.at
     → shut.waiting.list.items ≡ take (length w.waiting.list.items - 1) w.waiting.list.items
@@ -432,17 +449,19 @@ function-unshown {s = s} {mark = mark} w shut new to p whole_text leads same oth
     text ∙ front-left shut.text.list.items left behind to (ap (λ v. v.list.items) same_text ∙ whole_) to_is in
     let kept_ = kept-cut s w new p.kept left behind to whole_ to_is left_is
     (subst (λ v. AreLeft (hidings.After to) v.list.items new.candidates.list.items) same_candidates are) (scope_same ∙ same_scope) there in
-    function-read new marks.Plain w.at kept_ (p.make (list_of p.ts)) p.front p.name leads (append-nil new.text.list.items ∙ left_is)
+    function-read new marks.Plain w.at kept_ (p.make (list_of p.ts)) p.own p.front p.name leads (append-nil new.text.list.items ∙ left_is)
     (subst (λ t. Encloses (detail_of s) t p.name) (sym end.0)
     (name-encloses (has-none s bare) p.own p.name p.prints (qualifiers (has_const mark)) (called_on mark) p.returned (list_of p.ts)))
+    (λ none. subst (λ t. Shows (detail_of s) t p.name) (sym end.0)
+    (name-shows (has-none s bare) p.own p.name p.prints (qualifiers (has_const mark)) (called_on mark) p.returned (list_of p.ts)))
     (ap (λ v. reverse v.list.items) waiting ∙ led-popped w shut p waits) (at ∙ same_at) end.1
 
 -- its qualifiers are written
-pub marks-shown : {s : Symbol} {Leads : List ℕ → Type 0} {Within : WithinOpen} (old new : Direct) (mark : Mark) → IsLedFunctionRead s old mark Leads Within
+pub marks-shown : {s : Symbol} {Leads : Term → List ℕ → Type 0} {Within : WithinOpen} (old new : Direct) (mark : Mark) → IsLedFunctionRead s old mark Leads Within
     → Writes old new (mark_text mark) → IsLedFunctionRead s new marks.Plain Leads Within
 marks-shown {s = s} old new mark p writes =
-    function-read new marks.Plain old.at (kept-written s old new (mark_text mark) writes p.kept) p.e p.front p.bytes p.leads
-    (append-nil new.text.list.items ∙ writes.text ∙ p.written) p.encloses (ap (λ v. reverse v.list.items) writes.waiting) writes.at p.within
+    function-read new marks.Plain old.at (kept-written s old new (mark_text mark) writes p.kept) p.e p.own p.front p.bytes p.leads
+    (append-nil new.text.list.items ∙ writes.text ∙ p.written) p.encloses p.shows (ap (λ v. reverse v.list.items) writes.waiting) writes.at p.within
 
 -- ## Types in functions, from their Z to their end
 
@@ -541,10 +560,12 @@ object-within s w mark from p =
     record {
       kept = p.kept;
       e = encoding_of p.v nil;
+      own = p.own;
       front = p.lead;
       leads = p.from_is;
       bytes = b ++ q;
       encloses = object-enclosing (detail_of s) p.v (b ++ q) shows;
+      shows = λ none. shows;
       written = ap (λ l. l ++ q) p.written ∙ simp append_assoc;
       within = p.goes.onward nothing_there w.at p.state (expects-empty s Kind.Items p.goes.around p.goes.inner w.at p.state p.goes.awaits refl);
     }
@@ -569,7 +590,7 @@ type-within s old pushed read last new from awaits one p n is prints two digit t
     let shown = local-prints a.e a.bytes a.encloses p n prints digit in
     let kept = kept-read s old last (codes "::" ++ n ++ []) whole
     (kept-same s (record old { at = awaits.before }) old refl refl refl a.kept) in
-    let named_ = subst (λ k. IsPieceAt s k p read.at) (one.at ∙ awaits.at_is) is in
+    let named_ = (subst (λ k. IsPieceAt s k p read.at) (one.at ∙ awaits.at_is) is).as_type in
     value-added s last new kept w.0 w.1 t a.front bytes from false false written a.leads shown (λ e. absurd (false≢true e)) text candidates scope
     (ap (λ v. reverse v.list.items) (waiting ∙ whole.waiting)) (λ e. absurd (false≢true e))
     (subst (λ k. Comes s w.0 (tree t true) k (with_candidate w.1 t a.state)) (sym here)

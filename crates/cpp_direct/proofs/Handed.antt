@@ -1,8 +1,8 @@
 -- A type was read, and is forwarded to the entry that waits for it.
-use Rattle.std.proofs.Common.{arith, ◌≡◌, ℕ, ◌-◌, length, List, [], ◌∷◌, ◌++◌, reverse, slice_get, Bool, true, false, Option, Some, refl, ap, sym, ◌∙◌, subst, codes, append_assoc, ◌+◌}
+use Rattle.std.proofs.Common.{arith, ◌≡◌, ℕ, ◌-◌, length, List, [], ◌∷◌, ◌++◌, reverse, slice_get, Bool, true, false, Some, refl, ap, sym, ◌∙◌, subst, codes, append_assoc, ◌+◌}
 use Rattle.std.proofs.lemmas.Bool.{false≢true}
 use Rattle.cpp_direct.specs.AllTerms.{Detail, instance, no_items, special, State, Term, tree, types_of}
-use Rattle.cpp_direct.specs.AllStates.{Access, AreParametersRead, argument_of, Arguments, arguments_in, ArgumentsGoOn, AwaitsElementOf, AwaitsEnumerator, AwaitsMark, AwaitsNumber, AwaitsSignature, Belongs, below, detail_of, Direct, extra_of, FirstType, in_front_of_next, is_noted, is_type, is_within_type, IsDependentNow, IsElementIn, IsElementRead, IsFrontRead, IsNaming, IsNest, IsOwn, IsPassedClosed, IsReturned, IsSymbolEnded, IsTemplate, IsTypeRead, IsWriting, Kept, led_by, list_with, Listing, Mark, Marks, Names, Nest, of_pack, of_template, Open, opening_bracket, opening_text, Owns, PrintAllAs, PrintsAs, Purpose, Scope, Shows, Stands, Symbol}
+use Rattle.cpp_direct.specs.AllStates.{Access, AreParametersRead, argument_of, Arguments, arguments_in, ArgumentsGoOn, AwaitsElementOf, AwaitsEnumerator, AwaitsMark, AwaitsNumber, AwaitsSignature, Belongs, below, detail_of, Direct, extra_of, FirstType, in_front_of_next, is_noted, is_type, is_within_type, IsDependentNow, IsElementIn, IsElementRead, IsFrontRead, IsNaming, IsNest, IsOwn, IsPassedClosed, IsReturned, IsSymbolEnded, IsTemplate, IsTypeRead, IsWriting, Kept, led_by, list_with, Listing, Mark, Marks, Names, Nest, of_pack, of_template, Open, opening_bracket, opening_text, Owns, PrintAllAs, PrintsGiven, PrintsAs, Purpose, Scope, Shows, Stands, Symbol, Holder}
 use Rattle.cpp_direct.specs.Holes.{Opened, Comes}
 use Rattle.cpp_direct.proofs.Elements.{element-added}
 use Rattle.cpp_direct.proofs.Listed.{TakesElements, last-found, list-waits, some-elements}
@@ -188,33 +188,38 @@ passed-closed _ p l r c f k = tt
 
 -- an entry that isn't one of those that wait for something else
 pub takes-elements : (o : Open) → IsPassedClosed o → ((x : Bool) → o ≡ opens.Returned x → ⊥) → ((x : Bool) → o ≡ opens.Signature x → ⊥)
-    → (o ≡ opens.Special → ⊥) → (o ≡ opens.Enumerator → ⊥) → ((x : Mark) (y z : ℕ) → o ≡ opens.Enclosing x y z → ⊥)
+    → (o ≡ opens.Special → ⊥) → (o ≡ opens.Derived → ⊥) → ((x : ℕ) → o ≡ opens.Base x → ⊥) → (o ≡ opens.Enumerator → ⊥) → ((x : Mark) (y z : ℕ) → o ≡ opens.Enclosing x y z → ⊥)
     → ((x : Mark) (y t : ℕ) (z : Arguments) → o ≡ opens.EnclosingInstance x y t z → ⊥)
     → ((x : Mark) (y t : ℕ) (z : Arguments) → o ≡ opens.EnclosingFront x y t z → ⊥)
-    → ((x y : ℕ) (z : Arguments) → o ≡ opens.Argument x y z → ⊥) → ((x : ℕ) (y : Option Purpose) → o ≡ opens.Lambda x y → ⊥) → ((x y : ℕ) (z : Arguments) → o ≡ opens.Element x y z → ⊥)
+    → ((x y : ℕ) (z : Arguments) → o ≡ opens.Argument x y z → ⊥) → ((x : ℕ) (y : Holder) → o ≡ opens.Lambda x y → ⊥) → ((x : Mark) (y : ℕ) → o ≡ opens.Member x y → ⊥) → ((x y : ℕ) (z : Arguments) → o ≡ opens.Element x y z → ⊥)
     → ((x : Access) (y z : ℕ) → o ≡ opens.Array x y z → ⊥) → ((x : ℕ) → o ≡ opens.Address x → ⊥)
-    → ((x : Mark) (y : ℕ) (z : Arguments) → o ≡ opens.AddressedFront x y z → ⊥) → ((x : Mark) (y : ℕ) (z : Arguments) → o ≡ opens.Addressed x y z → ⊥) → TakesElements o
-takes-elements (opens.Pointer x) w u g z n m i h a q e j d f b = absurd w
-takes-elements (opens.Lvalue x) w u g z n m i h a q e j d f b = absurd w
-takes-elements (opens.Rvalue x) w u g z n m i h a q e j d f b = absurd w
-takes-elements (opens.Const x) w u g z n m i h a q e j d f b = absurd w
-takes-elements (opens.Parameters x y v) w u g z n m i h a q e j d f b = absurd w
-takes-elements (opens.Front x y v) w u g z n m i h a q e j d f b = absurd w
-takes-elements (opens.Argument x y v) w u g z n m i h a q e j d f b = absurd (a x y v refl)
-takes-elements (opens.Returned x) w u g z n m i h a q e j d f b = absurd (u x refl)
-takes-elements (opens.Signature x) w u g z n m i h a q e j d f b = absurd (g x refl)
-takes-elements (opens.Enclosing x y v) w u g z n m i h a q e j d f b = absurd (m x y v refl)
-takes-elements (opens.EnclosingInstance x y t v) w u g z n m i h a q e j d f b = absurd (i x y t v refl)
-takes-elements (opens.EnclosingFront x y t v) w u g z n m i h a q e j d f b = absurd (h x y t v refl)
-takes-elements (opens.Lambda x y) w u g z n m i h a q e j d f b = absurd (q x y refl)
-takes-elements (opens.Array x y v) w u g z n m i h a q e j d f b = absurd (j x y v refl)
-takes-elements (opens.Element x y v) w u g z n m i h a q e j d f b = absurd (e x y v refl)
-takes-elements (opens.Address x) w u g z n m i h a q e j d f b = absurd (d x refl)
-takes-elements (opens.AddressedFront x y v) w u g z n m i h a q e j d f b = absurd (f x y v refl)
-takes-elements (opens.Addressed x y v) w u g z n m i h a q e j d f b = absurd (b x y v refl)
-takes-elements opens.Special w u g z n m i h a q e j d f b = absurd (z refl)
-takes-elements opens.Enumerator w u g z n m i h a q e j d f b = absurd (n refl)
-takes-elements _ w u g z n m i h a q e j d f b = tt
+    → ((x : Mark) (y : ℕ) (z : Arguments) → o ≡ opens.AddressedFront x y z → ⊥) → ((x : Mark) (y : ℕ) (z : Arguments) → o ≡ opens.Addressed x y z → ⊥)
+    → ((x y : ℕ) (z : Arguments) → o ≡ opens.ArgumentEnumerator x y z → ⊥) → TakesElements o
+takes-elements (opens.Pointer x) w u g z k c n m i h a q r e j d f b p = absurd w
+takes-elements (opens.Lvalue x) w u g z k c n m i h a q r e j d f b p = absurd w
+takes-elements (opens.Rvalue x) w u g z k c n m i h a q r e j d f b p = absurd w
+takes-elements (opens.Const x) w u g z k c n m i h a q r e j d f b p = absurd w
+takes-elements (opens.Parameters x y v) w u g z k c n m i h a q r e j d f b p = absurd w
+takes-elements (opens.Front x y v) w u g z k c n m i h a q r e j d f b p = absurd w
+takes-elements (opens.Argument x y v) w u g z k c n m i h a q r e j d f b p = absurd (a x y v refl)
+takes-elements (opens.Returned x) w u g z k c n m i h a q r e j d f b p = absurd (u x refl)
+takes-elements (opens.Signature x) w u g z k c n m i h a q r e j d f b p = absurd (g x refl)
+takes-elements (opens.Enclosing x y v) w u g z k c n m i h a q r e j d f b p = absurd (m x y v refl)
+takes-elements (opens.EnclosingInstance x y t v) w u g z k c n m i h a q r e j d f b p = absurd (i x y t v refl)
+takes-elements (opens.EnclosingFront x y t v) w u g z k c n m i h a q r e j d f b p = absurd (h x y t v refl)
+takes-elements (opens.Lambda x y) w u g z k c n m i h a q r e j d f b p = absurd (q x y refl)
+takes-elements (opens.Member x y) w u g z k c n m i h a q r e j d f b p = absurd (r x y refl)
+takes-elements (opens.Array x y v) w u g z k c n m i h a q r e j d f b p = absurd (j x y v refl)
+takes-elements (opens.Element x y v) w u g z k c n m i h a q r e j d f b p = absurd (e x y v refl)
+takes-elements (opens.Address x) w u g z k c n m i h a q r e j d f b p = absurd (d x refl)
+takes-elements (opens.AddressedFront x y v) w u g z k c n m i h a q r e j d f b p = absurd (f x y v refl)
+takes-elements (opens.Addressed x y v) w u g z k c n m i h a q r e j d f b p = absurd (b x y v refl)
+takes-elements opens.Special w u g z k c n m i h a q r e j d f b p = absurd (z refl)
+takes-elements opens.Derived w u g z k c n m i h a q r e j d f b p = absurd (k refl)
+takes-elements (opens.Base x) w u g z k c n m i h a q r e j d f b p = absurd (c x refl)
+takes-elements (opens.ArgumentEnumerator x y v) w u g z k c n m i h a q r e j d f b p = absurd (p x y v refl)
+takes-elements opens.Enumerator w u g z k c n m i h a q r e j d f b p = absurd (n refl)
+takes-elements _ w u g z k c n m i h a q r e j d f b p = tt
 
 -- an element was read
 pub argument-read : (s : Symbol) (w : Direct) (o : Open) → IsElementRead s w o → TakesElements o → IsWriting s w (steps.List false)
@@ -236,7 +241,7 @@ noted-now (opens.LevelArguments is_dependent) noted is = ap is_noted is
 noted-now _ noted is = absurd is
 
 -- and that entry is in a type
-noted-within : (o noted : Open) → IsDependentNow o noted → is_within_type o ≡ true
+pub noted-within : (o noted : Open) → IsDependentNow o noted → is_within_type o ≡ true
 noted-within (opens.TypeArguments from is_dependent) noted is = refl
 noted-within (opens.NestArguments nest) noted is = ap is_type is.0
 noted-within (opens.FirstArguments nest) noted is = ap is_type is.0
@@ -291,62 +296,67 @@ noted-awaits s scope (opens.FirstArguments nest) noted rest os text is p = p
 noted-awaits s scope (opens.LevelArguments is_dependent) noted rest os text is p = p
 noted-awaits s scope _ noted rest os text is p = absurd is
 
--- such a type was read as an argument of the innermost entry, which notes it
+-- such an argument of the innermost entry was read, which notes it
+pub noted-added : (s : Symbol) (w new : Direct) (kept : Kept s w) (ws : List Open) (owner noted : Open) (front : List ℕ) (template : Term) (name : List ℕ) (ts : List Term)
+    (texts : List ℕ) (t : Term) (bytes : List ℕ) (is_reference : Bool) → IsTemplate (detail_of s) kept.scope.names owner front template name w.text.list.items
+    → PrintAllAs (detail_of s) kept.scope.names (is_noted owner) 3 ts texts → PrintsGiven (detail_of s) kept.scope.names t bytes is_reference
+    → w.text.list.items ≡ (front ++ name ++ opening_bracket (detail_of s) ++ in_front_of_next ts texts) ++ bytes → IsNaming kept.scope (owner ∷ reverse ws)
+    → ArgumentsGoOn s owner (below s kept.scope (reverse ws)) front template (ts ++ t ∷ []) w.at kept.state → IsDependentNow owner noted
+    → new.waiting.list.items ≡ ws ++ noted ∷ [] → new.text ≡ w.text → new.candidates ≡ w.candidates → new.has_scope ≡ w.has_scope → new.at ≡ w.at
+    → IsWriting s new (steps.List false)
+noted-added s w new kept ws owner noted front template name ts texts t bytes is_reference is_template elements prints written named goes is waits text candidates scope_same at =
+    let scope = kept.scope in
+    let rest = reverse ws in
+    let naming : IsNaming scope rest =
+    (subst (λ b. elim b [ true ↦ argument_of rest | false ↦ arguments_in owner ] ≡ Some scope.arguments) (noted-within owner noted is) named.0, named.1) in
+    let all : PrintAllAs (detail_of s) scope.names true 3 (ts ++ t ∷ []) (in_front_of_next ts texts ++ bytes) =
+    next-prints-as (detail_of s) scope.names true 3 ts texts t bytes (all-given (detail_of s) scope.names (is_noted owner) 3 ts texts elements)
+    (type-element-as (detail_of s) scope.names true t bytes is_reference prints) in
+    record {
+      kept = kept-same s w new text candidates scope_same kept;
+      is_before = (
+        record {
+          listing = of_template;
+          owner = noted;
+          rest = rest;
+          belongs = ap reverse waits ∙ reverse-last ws noted;
+          front = front;
+          template = template;
+          name = name;
+          is_template = noted-template (detail_of s) scope.names owner noted front template name new.text.list.items is
+              (subst (λ v. IsTemplate (detail_of s) scope.names owner front template name v.list.items) (sym text) is_template);
+        },
+        ts ++ t ∷ [],
+        in_front_of_next ts texts ++ bytes,
+        subst (λ d. PrintAllAs (detail_of s) scope.names d 3 (ts ++ t ∷ []) (in_front_of_next ts texts ++ bytes)) (sym (noted-now owner noted is)) all,
+        ap (λ v. v.list.items) text ∙ written ∙ append_assoc (front ++ name ++ opening_bracket (detail_of s)) (in_front_of_next ts texts) bytes,
+        λ first. absurd (false≢true first),
+        λ further. some-elements ts t,
+        subst (λ n. ArgumentsGoOn s noted (below s scope rest) front template (ts ++ t ∷ []) n kept.state) (sym at) (
+          goes.0,
+          goes.1,
+          goes.2,
+          λ within. goes.3 (noted-within owner noted is),
+          goes.4,
+          λ l here now comes ended. noted-owns s scope owner noted rest front (instance template (list_with (ts ++ t ∷ []) (no_items l))) (here + 1) now is naming
+              (goes.5 l here now comes ended),
+        ),
+      );
+    }
+
+-- it is a type
 pub listed-noted : (s : Symbol) (w new : Direct) (is_reference : Bool) (ws : List Open) (owner noted : Open) → IsWriting s w (steps.Value is_reference true)
     → w.waiting.list.items ≡ ws ++ owner ∷ [] → IsDependentNow owner noted → new.waiting.list.items ≡ ws ++ noted ∷ []
     → new.text ≡ w.text → new.candidates ≡ w.candidates → new.has_scope ≡ w.has_scope → new.at ≡ w.at → IsWriting s new (steps.List false)
 listed-noted s w new is_reference ws owner noted p waits is now_waits text candidates scope_same at =
     let scope = p.scope in
     let rest = reverse ws in
-    let opened : reverse w.waiting.list.items ≡ owner ∷ rest = ap reverse waits ∙ reverse-last ws owner in
-    let v = subst (λ os. IsTypeRead s scope w p.state os is_reference true) opened p.is_before in
-    let t = v.own in
-    let front = v.front in
-    let bytes = v.bytes in
-    let named = v.naming refl in
-    let naming : IsNaming scope rest =
-    (subst (λ b. elim b [ true ↦ argument_of rest | false ↦ arguments_in owner ] ≡ Some scope.arguments) (noted-within owner noted is) named.0, named.1) in
-    let waits = noted-awaits s scope owner noted rest v.os front is v.stands in
-    let ts = waits.3 in
-    let texts = waits.4 in
-    let goes = waits.8 t w.at p.state v.comes in
-    let led = waits.0 ++ waits.2 ++ opening_bracket (detail_of s) in
-    let all : PrintAllAs (detail_of s) scope.names true 3 (ts ++ t ∷ []) (in_front_of_next ts texts ++ bytes) =
-    next-prints-as (detail_of s) scope.names true 3 ts texts t bytes (all-given (detail_of s) scope.names (is_noted owner) 3 ts texts waits.6)
-    (type-element-as (detail_of s) scope.names true t bytes is_reference v.prints) in
-    let whole : new.text.list.items ≡ front ++ bytes = ap (λ v. v.list.items) text ∙ v.written in
-    record {
-      kept = kept-same s w new text candidates scope_same p.kept;
-      is_before = (
-        record {
-          listing = of_template;
-          owner = noted;
-          rest = rest;
-          belongs = ap reverse now_waits ∙ reverse-last ws noted;
-          front = waits.0;
-          template = waits.1;
-          name = waits.2;
-          is_template = noted-template (detail_of s) scope.names owner noted waits.0 waits.1 waits.2 new.text.list.items is
-              (subst (λ l. IsTemplate (detail_of s) scope.names owner waits.0 waits.1 waits.2 l) (sym whole)
-              (template-stays (detail_of s) scope.names owner waits.0 waits.1 waits.2 front bytes waits.5));
-        },
-        ts ++ t ∷ [],
-        in_front_of_next ts texts ++ bytes,
-        subst (λ d. PrintAllAs (detail_of s) scope.names d 3 (ts ++ t ∷ []) (in_front_of_next ts texts ++ bytes)) (sym (noted-now owner noted is)) all,
-        whole ∙ ap (λ l. l ++ bytes) waits.7 ∙ append_assoc led (in_front_of_next ts texts) bytes,
-        λ first. absurd (false≢true first),
-        λ further. some-elements ts t,
-        subst (λ n. ArgumentsGoOn s noted (below s scope rest) waits.0 waits.1 (ts ++ t ∷ []) n p.state) (sym at) (
-          goes.0,
-          goes.1,
-          goes.2,
-          λ within. goes.3 (noted-within owner noted is),
-          goes.4,
-          λ l here now comes ended. noted-owns s scope owner noted rest waits.0 (instance waits.1 (list_with (ts ++ t ∷ []) (no_items l))) (here + 1) now is naming
-              (goes.5 l here now comes ended),
-        ),
-      );
-    }
+    let v = subst (λ os. IsTypeRead s scope w p.state os is_reference true) (ap reverse waits ∙ reverse-last ws owner) p.is_before in
+    let waits = noted-awaits s scope owner noted rest v.os v.front is v.stands in
+    noted-added s w new p.kept ws owner noted waits.0 waits.1 waits.2 waits.3 waits.4 v.own v.bytes is_reference
+    (subst (λ l. IsTemplate (detail_of s) scope.names owner waits.0 waits.1 waits.2 l) (sym v.written)
+    (template-stays (detail_of s) scope.names owner waits.0 waits.1 waits.2 v.front v.bytes waits.5))
+    waits.6 v.prints (v.written ∙ ap (λ l. l ++ v.bytes) waits.7) (v.naming refl) (waits.8 v.own w.at p.state v.comes) is now_waits text candidates scope_same at
 
 -- ## Return types
 

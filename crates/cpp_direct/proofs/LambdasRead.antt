@@ -1,21 +1,22 @@
 -- Lambdas: types in functions, and components of nested names.
-use Rattle.std.proofs.Common.{◌≡◌, ◌≢◌, refl, ap, sym, ◌∙◌, subst, inl, inr, ℕ, ◌+◌, List, [], ◌∷◌, ◌++◌, length, reverse, Bool, true, false, Option, None, Some, arith, codes, append-nil, append_assoc}
+use Rattle.std.proofs.Common.{◌≡◌, ◌≢◌, refl, ap, sym, ◌∙◌, subst, inl, inr, ℕ, ◌+◌, List, [], ◌∷◌, ◌++◌, length, reverse, true, false, Option, None, Some, arith, codes, append-nil, append_assoc}
 use Rattle.std.specs.Prelude.{decimal}
 use Rattle.std.proofs.lemmas.Bool.{false≢true}
 use Rattle.std.proofs.lemmas.Fmt.{decimal_digit}
-use Rattle.cpp_direct.specs.AllTerms.{after, arguments_of, Around, closed, has_return_type, Kind, lambda, list, local_number, may_be_empty, nil, no_items, nothing_there, State, Term, tree, within}
-use Rattle.cpp_direct.specs.AllStates.{added, AwaitsTypeName, below, detail_of, Direct, in_front_of_next, IsElementRead, IsLambdaOpened, IsLambdaParameterRead, IsLambdaRead, IsLed, IsNest, IsUnmarked, IsWriting, Kept, LambdaComes, LambdaWithin, list_of, nowhere, PrintsPiece, Purpose, Reads, Stands, Symbol, Writes}
+use Rattle.cpp_direct.specs.AllTerms.{after, arguments_of, closed, has_return_type, Kind, lambda, list, local_number, may_be_empty, nil, no_items, nothing_there, State, Term, tree, within}
+use Rattle.cpp_direct.specs.AllStates.{added, AwaitsFirst, AwaitsMemberFunction, AwaitsTypeName, below, detail_of, Direct, Holder, in_front_of_next, IsElementRead, IsLambdaOpened, IsLambdaParameterRead, IsLambdaRead, IsLed, IsNest, IsUnmarked, IsWriting, Kept, LambdaComes, LambdaWithin, list_of, Mark, nowhere, Prints, PrintsPiece, Purpose, Reads, Stands, Symbol, Writes}
+use Rattle.cpp_direct.specs.declared.open.Holder.TheVariants as holders
 use Rattle.cpp_direct.specs.declared.open.Open.TheVariants as opens
 use Rattle.cpp_direct.specs.declared.open.Step.TheVariants as steps
-use Rattle.cpp_direct.specs.AllHoles.{Comes, Discriminator, Expects, IsDiscriminatorAt, IsLambdaDigit, IsPieceAt, Opened, StandsAt, lambda_digits, lambda_ending, lambda_number, lambda_with, local_in, with_candidate}
+use Rattle.cpp_direct.specs.AllHoles.{Comes, Discriminator, Expects, IsDiscriminatorAt, IsLambdaDigit, IsPieceAt, NestGoesOn, StandsAt, lambda_digits, lambda_ending, lambda_number, lambda_with, local_in, with_candidate}
 use Rattle.cpp_direct.proofs.Ending.{item-comes, next-written}
 use Rattle.cpp_direct.proofs.Kept.{kept-grown, kept-read, kept-same, kept-written, reverse-last, type-comes, value-added}
 use Rattle.cpp_direct.proofs.Listed.{some-elements}
 use Rattle.cpp_direct.proofs.Moves.{expects-empty, stands-join}
-use Rattle.cpp_direct.proofs.MovesOfLocals.{IsPieceKind, LambdaEnds, lambda-opens, lambda-piece, lambda_bytes, number-is}
+use Rattle.cpp_direct.proofs.MovesOfLocals.{LambdaOpened, first-lambda-opens, lambda-opens, lambda-piece, lambda_bytes, number-is}
 use Rattle.cpp_direct.proofs.Nesting.{classless-nest, closed-prints}
 use Rattle.cpp_direct.proofs.PrintedLists.{list-with-none, all-in, next-prints, none-print}
-use Rattle.cpp_direct.proofs.PrintedLocals.{lambda-list-prints, local-prints, component-prints}
+use Rattle.cpp_direct.proofs.PrintedLocals.{enclosed-prints, lambda-list-prints, local-prints, component-prints}
 use Rattle.cpp_direct.proofs.PrintedSymbols.{parameters-kept}
 use Rattle.cpp_direct.proofs.Scopes.{none-scoped}
 use Rattle.cpp_direct.proofs.Unmarked.{is-no-mark, more-unmarked}
@@ -56,19 +57,16 @@ lambda-bracket f b l = simp append_assoc
 -- ## Their parameters
 
 -- the first one comes next
-begun : (s : Symbol) (old new : Direct) (from : ℕ) (nested : Option Purpose) (kept : Kept s old) (h : IsLed (detail_of s) nested from)
-    → old.text.list.items ≡ h.front ++ h.bytes → (kind : Kind) → IsPieceKind kind → (os : List Opened) (around : Around) (listed : Bool)
-    → Expects s kind (after h.e listed around) os old.at kept.state
-    → ((items : Term) (at : ℕ) (st : State) → LambdaEnds s os h.e items at st
-    → LambdaWithin s nested (below s kept.scope (reverse old.waiting.list.items)) h.front h.e items at st)
-    → IsLambdaOpened s.bytes old new from nested → IsWriting s new steps.Type
-begun s old new from nested kept h written kind is os around listed expects becomes entry =
-    let first = lambda-opens s kind os around h.e listed old.at kept.state is entry.short expects entry.stands in
+begun : (s : Symbol) (old new : Direct) (from : ℕ) (holder : Holder) (kept : Kept s old) (h : IsLed (detail_of s) holder from)
+    → old.text.list.items ≡ h.front ++ h.bytes → (made : Term → (at : ℕ) → State → Type 0) → LambdaOpened s made (old.at + 1 + 1) kept.state
+    → ((p : Term) (at : ℕ) (st : State) → made p at st → LambdaComes s holder (below s kept.scope (reverse old.waiting.list.items)) h.front h.e p at st)
+    → IsLambdaOpened s.bytes old new from holder → IsWriting s new steps.Type
+begun s old new from holder kept h written made first becomes entry =
     let rest = reverse old.waiting.list.items in
-    let waits = ap reverse entry.waiting ∙ reverse-last old.waiting.list.items (opens.Lambda from nested) in
+    let waits = ap reverse entry.waiting ∙ reverse-last old.waiting.list.items (opens.Lambda from holder) in
     let told : new.text.list.items ≡ h.front ++ (h.bytes ++ lambda_front) ++ [] =
     entry.text ∙ ap (λ l. l ++ lambda_front) written ∙ append_assoc h.front h.bytes lambda_front ∙ sym (append-nil (h.front ++ (h.bytes ++ lambda_front))) in
-    let stands_ : Stands s kept.scope (opens.Lambda from nested ∷ rest) first.inner new.text.list.items = (
+    let stands_ : Stands s kept.scope (opens.Lambda from holder ∷ rest) first.inner new.text.list.items = (
       h,
       [],
       [],
@@ -82,53 +80,55 @@ begun s old new from nested kept h written kind is os around listed expects beco
             outside = g.outside;
             scoped = g.scoped;
             awaits = g.awaits;
-            onward = λ l there then_ last. becomes (list t (no_items l)) there then_ (g.onward l there then_ last);
+            onward = λ l there then_ last number end is ending ends_.
+                becomes (lambda_with (list t (no_items l)) number) end then_ (g.onward l there then_ last number end is ending ends_);
           },
     ) in
     type-comes s new new (kept-grown s old new lambda_front entry.text entry.candidates entry.scope kept) first.around first.inner refl refl refl waits
-    first.outside (inr (inl (subst (λ k. Expects s Kind.Item first.around first.inner k kept.state) (sym entry.at) first.awaits))) stands_
-    (none-scoped kept.scope first.around (opens.Lambda from nested ∷ rest) refl)
+    first.outside (inr (inl (subst (λ k. Expects s Kind.Item first.around first.inner k kept.state) (omega (arith, entry.at)) first.awaits))) stands_
+    (none-scoped kept.scope first.around (opens.Lambda from holder ∷ rest) refl)
 
 -- of a lambda in a function,
-pub begun-in-function : (s : Symbol) (old new : Direct) (from : ℕ) → AwaitsTypeName s old from → IsLambdaOpened s.bytes old new from None
+pub begun-in-function : (s : Symbol) (old new : Direct) (from : ℕ) → AwaitsTypeName s old from → IsLambdaOpened s.bytes old new from holders.Function
     → IsWriting s new steps.Type
 begun-in-function s old new from a entry =
     let r = a.read in
     let w = r.within in
     let entity = w.2 a.letter in
-    begun s old new from None (kept-same s (record old { at = a.before }) old refl refl refl r.kept)
+    begun s old new from holders.Function (kept-same s (record old { at = a.before }) old refl refl refl r.kept)
     (record { e = r.e; front = r.front; from_is = r.leads; bytes = r.bytes; leads = r.encloses })
-    (sym (append-nil old.text.list.items) ∙ r.written) Kind.TypeEntity tt entity.inner entity.around true
-    (subst (λ k. Expects s Kind.TypeEntity (after r.e true entity.around) entity.inner k r.state) (sym a.at_is) entity.awaits)
-    (λ items at st ends number end is ending ends_. (
-      w.0,
-      w.1,
-      λ digit last told. entity.onward (lambda_with items number) end st (ends number end is ending ends_) digit last told,
-      w.3,
-    )) entry
+    (sym (append-nil old.text.list.items) ∙ r.written) (λ p end now. Comes s entity.inner (tree (within r.e p) false) end now)
+    (lambda-opens s Kind.TypeEntity entity.inner entity.around r.e true old.at r.state tt entry.short
+    (subst (λ k. Expects s Kind.TypeEntity (after r.e true entity.around) entity.inner k r.state) (sym a.at_is) entity.awaits) entry.stands)
+    (λ p at st comes. (w.0, w.1, λ digit last told. entity.onward p at st comes digit last told, w.3)) entry
 
--- and of one in a nested name
+-- of one in a nested name,
 pub begun-in-name : (s : Symbol) (old new : Direct) → IsWriting s old steps.Component → old.nest.is_dependent ≡ false
-    → IsLambdaOpened s.bytes old new old.nest.from (Some old.nest.purpose) → IsWriting s new steps.Type
+    → IsLambdaOpened s.bytes old new old.nest.from (holders.Name old.nest.purpose) → IsWriting s new steps.Type
 begun-in-name s old new p closed_ entry =
     let t = p.is_before.0 in
     let n = p.is_before.1 in
     let a = p.is_before.2 in
-    begun s old new old.nest.from (Some old.nest.purpose) p.kept
+    begun s old new old.nest.from (holders.Name old.nest.purpose) p.kept
     (record { e = t; front = n.front; from_is = n.is_nest.from_is; bytes = n.bytes; leads = closed-prints p.scope.names closed_ n.is_nest.prints })
-    n.written Kind.Component tt a.inner n.around a.listed a.awaits
-    (λ items at st ends number end is ending ends_. (
-      n.outer,
-      n.around,
-      a.onward (within t (lambda_with items number)) end st (ends number end is ending ends_),
-      n.scoped.scoped,
-      n.serves,
-    )) entry
+    n.written (λ u end now. Comes s a.inner (tree (within t u) false) end now)
+    (lambda-opens s Kind.Component a.inner n.around t a.listed old.at p.state tt entry.short a.awaits entry.stands)
+    (λ u at st comes. (n.outer, n.around, a.onward (within t u) at st comes, n.scoped.scoped, n.serves)) entry
+
+-- and of one that has a member function
+pub begun-in-member : (s : Symbol) (old new : Direct) (mark : Mark) → AwaitsFirst s old mark → IsLambdaOpened s.bytes old new 0 (holders.Member mark)
+    → IsWriting s new steps.Type
+begun-in-member s old new mark a entry =
+    let f = a.first in
+    begun s old new 0 (holders.Member mark) a.kept (record { e = a.e; front = []; from_is = refl; bytes = old.text.list.items; leads = a.encloses }) refl
+    (λ p end now. NestGoesOn s Kind.NestRestAlone f.inner f.around (within a.e p) false end now)
+    (first-lambda-opens s f.inner f.around a.e old.at a.state entry.short f.awaits entry.stands)
+    (λ p at st goes. (refl, record { outer = f.inner; around = f.around; goes = goes; ends = f.onward })) entry
 
 -- a parameter is read
-pub lambda-parameter-read : (s : Symbol) (w : Direct) (from : ℕ) (nested : Option Purpose) → IsElementRead s w (opens.Lambda from nested)
-    → IsLambdaParameterRead s w from nested
-lambda-parameter-read s w from nested p =
+pub lambda-parameter-read : (s : Symbol) (w : Direct) (from : ℕ) (holder : Holder) → IsElementRead s w (opens.Lambda from holder)
+    → IsLambdaParameterRead s w from holder
+lambda-parameter-read s w from holder p =
     let waits = p.read.stands in
     let h = waits.0 in
     let ts = waits.1 in
@@ -147,12 +147,12 @@ lambda-parameter-read s w from nested p =
     }
 
 -- another one comes next
-pub lambda-next : (s : Symbol) (w last : Direct) (from : ℕ) (nested : Option Purpose) → IsLambdaParameterRead s w from nested → Writes w last (codes ", ")
+pub lambda-next : (s : Symbol) (w last : Direct) (from : ℕ) (holder : Holder) → IsLambdaParameterRead s w from holder → Writes w last (codes ", ")
     → IsWriting s last steps.Type
-lambda-next s w last from nested p one =
+lambda-next s w last from holder p one =
     let led = p.front ++ (p.bytes ++ lambda_front) in
-    let becomes = LambdaWithin s nested (below s p.scope p.rest) p.front p.e in
-    let entry = opens.Lambda from nested in
+    let becomes = LambdaWithin s holder (below s p.scope p.rest) p.front p.e in
+    let entry = opens.Lambda from holder in
     item-comes s last last (kept-written s w last (codes ", ") one p.kept) nowhere becomes (λ l. l) p.ts w.at p.goes (entry ∷ p.rest) refl refl refl one.at
     (ap (λ l. reverse l.list.items) one.waiting ∙ p.open_is) (λ os onward. (
       p.has,
@@ -166,15 +166,15 @@ lambda-next s w last from nested p one =
 -- ## Their end
 
 -- it is read
-pub lambda-ended : (s : Symbol) (w : Direct) (next : ℕ) (pushed numbered new : Direct) (from : ℕ) (nested : Option Purpose)
-    (p : IsLambdaParameterRead s w from nested) → p.texts ≢ codes "void" → StandsAt s.bytes w.at (69 ∷ []) → next ≡ w.at + 1
+pub lambda-ended : (s : Symbol) (w : Direct) (next : ℕ) (pushed numbered new : Direct) (from : ℕ) (holder : Holder)
+    (p : IsLambdaParameterRead s w from holder) → p.texts ≢ codes "void" → StandsAt s.bytes w.at (69 ∷ []) → next ≡ w.at + 1
     → Writes (record w { at = next }) pushed (codes ")#") → (number : Option ℕ) → IsLambdaDigit number → StandsAt s.bytes pushed.at (lambda_digits number ++ 95 ∷ [])
     → numbered.at ≡ pushed.at + length (lambda_digits number ++ 95 ∷ []) → Reads pushed numbered (lambda_number number ++ codes "}")
     → new.text ≡ numbered.text → new.candidates ≡ numbered.candidates → new.has_scope ≡ numbered.has_scope → new.at ≡ numbered.at
-    → reverse new.waiting.list.items ≡ p.rest → IsLambdaRead s new from nested
+    → reverse new.waiting.list.items ≡ p.rest → IsLambdaRead s new from holder
 unfolding no_items may_be_empty has_return_type arguments_of
-lambda-ended s w next pushed numbered new from nested p apart ends at one number is digits_ numbered_at two text candidates scope here waits =
-    let becomes = LambdaWithin s nested (below s p.scope p.rest) p.front p.e in
+lambda-ended s w next pushed numbered new from holder p apart ends at one number is digits_ numbered_at two text candidates scope here waits =
+    let becomes = LambdaWithin s holder (below s p.scope p.rest) p.front p.e in
     let items = list_of p.ts in
     let num = lambda_number number in
     let n = local_number (lambda_digits number) in
@@ -196,12 +196,12 @@ lambda-ended s w next pushed numbered new from nested p apart ends at one number
       returns = refl;
       written = ap (λ v. v.list.items) text ∙ two.text ∙ ap (λ l. l ++ (num ++ codes "}")) (one.text ∙ ap (λ l. l ++ codes ")#") p.written)
           ∙ simp append_assoc;
-      comes = subst (λ o. LambdaComes s nested (below s p.scope o) p.front p.e (lambda_with items number) new.at p.state) (sym waits)
+      comes = subst (λ o. LambdaComes s holder (below s p.scope o) p.front p.e (lambda_with items number) new.at p.state) (sym waits)
           (ended_ number new.at is ending (omega (arith, here, numbered_at, place)));
     }
 
 -- a lambda in a function is accepted as a type, after its discriminator
-pub ended-in-function : (s : Symbol) (old last new : Direct) (from : ℕ) → IsLambdaRead s old from None
+pub ended-in-function : (s : Symbol) (old last new : Direct) (from : ℕ) → IsLambdaRead s old from holders.Function
     → (digit : Discriminator) → IsDiscriminatorAt s.bytes old.at digit last.at → Reads old last []
     → new.candidates.list.items ≡ added last from false false → new.text ≡ last.text → new.waiting ≡ last.waiting
     → new.has_scope ≡ last.has_scope → new.at ≡ last.at → IsWriting s new (steps.Value false false)
@@ -214,7 +214,7 @@ ended-in-function s old last new from p digit is read candidates text waiting sc
     (subst (λ k. Comes s w.0 (tree t true) k (with_candidate w.1 t p.state)) (sym here) (w.2 digit last.at is)) w.3
 
 -- after a lambda in a nested name this continues
-pub ended-in-name : (s : Symbol) (w : Direct) (from : ℕ) (purpose : Purpose) → IsLambdaRead s w from (Some purpose)
+pub ended-in-name : (s : Symbol) (w : Direct) (from : ℕ) (purpose : Purpose) → IsLambdaRead s w from (holders.Name purpose)
     → IsWriting s (record w { nest = record { from = from; class_from = from; class_to = from; purpose = purpose; is_listed = false; has_class = false; is_instance = false; is_dependent = false } }) steps.Tail
 ended-in-name s w from purpose p =
     let bytes = p.bytes ++ codes "::" ++ p.name in
@@ -243,3 +243,14 @@ ended-in-name s w from purpose p =
         (λ e. absurd (false≢true e)),
       );
     }
+
+-- after one that has a member function expects that
+pub ended-in-member : (s : Symbol) (w : Direct) (from : ℕ) (mark : Mark) → IsLambdaRead s w from (holders.Member mark) → AwaitsMemberFunction s w mark
+ended-in-member s w from mark p = record {
+  kept = p.kept;
+  e = p.e;
+  own = within p.e p.own;
+  prints = subst (λ l. Prints (detail_of s) (within p.e p.own) l false) (sym (p.written ∙ ap (λ l. l ++ (p.bytes ++ codes "::" ++ p.name)) p.comes.0))
+      (enclosed-prints p.e p.bytes p.leads p.own p.name p.prints);
+  goes = p.comes.1;
+}

@@ -1,5 +1,6 @@
 pub mod Arguments
 pub mod Begins
+mod ConstructionTables
 pub mod DependentsRead
 pub mod Elements
 pub mod Ending
@@ -10,6 +11,7 @@ pub mod Kept
 mod LambdasRead
 pub mod LettersTested
 pub mod Members
+mod MemberFunctions
 pub mod Listed
 pub mod Moves
 pub mod MovesOfEncodings

@@ -11,9 +11,9 @@ use Rattle.sym_shape.specs.declared.rule.Sym.TheVariants.{Kind as OfKind}
 use Rattle.cpp_grammar.specs.Values.{State, outermost, Around, Value, nothing_there, letter, piece, text, tree, tree_of, text_of, qualifiers_of, ref_of, signed_of, signed_digits, is_there, mark_of, letter_of, part, piece_of}
 use Rattle.cpp_grammar.specs.Unfolding as unfolding_
 use Rattle.cpp_direct.specs.AllStates.{is_special_letter, is_suffix_byte, mangled_of, special_letters, Symbol}
-use Rattle.cpp_direct.specs.AllHoles.{BaseOpened, Comes, EncodingOpened, Expects, GuardOpened, IsNameAt, IsOffsetAt, IsSuffix, Named, NestOpened, Opened, SpecialOpened, StandsAt, SymbolOpened, const_letter, cpp_language, nest_marks, opened}
+use Rattle.cpp_direct.specs.AllHoles.{BaseOpened, Comes, EncodingOpened, Expects, GuardOpened, IsNameAt, IsOffsetAt, IsSuffix, Named, NestOpened, Opened, SpecialOpened, StandsAt, SymbolOpened, TableOpened, const_letter, cpp_language, nest_marks, opened}
 use Rattle.sym_direct.specs.Holes as direct
-use Rattle.cpp_direct.proofs.Moves.{awaited, Hole, Filled, hole, open_at, fill, filled-at, hole-at, chosen-byte, eats, eats-widely, leaves, is_eaten, is_eaten_widely, byte-opens, chain-opens, byte-fills, next-part, closes, none-fills, fixed-fills, name-fills, first-named, is_left, stands-split}
+use Rattle.cpp_direct.proofs.Moves.{awaited, digits-fill, Hole, Filled, hole, open_at, fill, filled-at, hole-at, chosen-byte, eats, eats-widely, leaves, is_eaten, is_eaten_widely, byte-opens, chain-opens, byte-fills, next-part, closes, none-fills, fixed-fills, name-fills, first-named, is_left, stands-split}
 use Rattle.cpp_direct.proofs.LettersTested.{each_passes, tested, IsOperator}
 use Rattle.cpp_direct.proofs.MovesOfNests.{named-by, named-outside, operator-fills}
 use Rattle.cpp_direct.proofs.MovesOfLists.{integer-fills}
@@ -49,6 +49,19 @@ special-opens s os around b at st is expects stands =
     let type = byte-opens (eats s Kind.Special p b (tested special_letters (λ c. is_eaten Kind.Special p c) refl b is)) (special-expected s os around at st expects places.0) places.1 refl refl in
     awaited (hole-at (at + 2) type (omega arith))
     (λ t here now comes. (closes Production.Special (closes p (fill type (tree t true) here now comes) refl) refl).comes)
+
+-- in the wide grammar a construction table begins with TC, and expects its derived class
+pub table-opens : (s : Symbol) (os : List Opened) (around : Around) (at : ℕ) (st : State) → s.is_wide ≡ true
+    → Expects s Kind.Encoding around os at st → StandsAt s.bytes at (84 ∷ 67 ∷ []) → TableOpened s os at (at + 2) st
+unfolding is_eaten is_eaten_widely number_of_kind parts_of between close unfolding_.behind meaning part byte_of tree_of text_of piece_of letter_of is_there
+table-opens s os around at st wide expects stands =
+    let p = Production.ConstructionVtable in
+    let places = stands-split s.bytes at (84 ∷ []) (67 ∷ []) stands in
+    let derived = byte-opens (eats-widely s Kind.Special p 67 wide refl) (special-expected s os around at st expects places.0) places.1 refl refl in
+    awaited (hole-at (at + 2) derived (omega arith)) (λ t here now comes digits end is line.
+    let number = next-part p (fill derived (tree t true) here now comes) refl in
+    let base = next-part p (fixed-fills (next-part p (digits-fill digits end number is) refl) line) refl in
+    awaited base (λ u there then_ last. (closes Production.Special (closes p (fill base (tree u true) there then_ last) refl) refl).comes))
 
 -- ## Thunks
 
@@ -140,11 +153,11 @@ quality-is true = refl
 quality-is false = refl
 
 -- a nested name begins with an N, and its qualifiers after it; the H of a function with an explicit object is none of them
-pub name-nested : (s : Symbol) (os : List Opened) (around : Around) (const : Bool) (on : RefQualifier) (at : ℕ) (st : State)
-    → on ≢ explicit_object → Expects s Kind.CompleteName around os at st → StandsAt s.bytes at (nest_marks const on)
+nested-opens : (s : Symbol) (kind : Kind) (os : List Opened) (around : Around) (const : Bool) (on : RefQualifier) (at : ℕ) (st : State)
+    → is_eaten kind Production.NestedName 78 ≡ true → on ≢ explicit_object → Expects s kind around os at st → StandsAt s.bytes at (nest_marks const on)
     → NestOpened s os around const on (at + length (nest_marks const on)) st
 unfolding is_eaten number_of_kind parts_of between close unfolding_.behind meaning part byte_of tree_of text_of piece_of letter_of is_there mark_of may_be_empty
-name-nested s os around const on at st other expects stands = go on other stands
+nested-opens s kind os around const on at st taken other expects stands = go on other stands
   where
     part_of : Kind → Sym
     part_of k = OfKind (number_of_kind k)
@@ -156,7 +169,7 @@ name-nested s os around const on at st other expects stands = go on other stands
         → Hole s (part_of Kind.MaybeConst) around (within (nothing_there ∷ nothing_there ∷ []) (part_of Kind.MaybeRef ∷ part_of Kind.Nest ∷ [])) (at + 1) st
     const-awaited first =
         let p = Production.NestedName in
-        let restrict = byte-opens (eats s Kind.CompleteName p 78 refl) (hole s Kind.CompleteName around os at st expects) first refl refl in
+        let restrict = byte-opens (eats s kind p 78 taken) (hole s kind around os at st expects) first refl refl in
         next-part p (none-fills Kind.MaybeVolatile (next-part p (none-fills Kind.MaybeRestrict restrict refl) refl) refl) refl
 
     ref-awaited : (c : Bool) → StandsAt s.bytes at (78 ∷ const_letter c)
@@ -186,6 +199,19 @@ name-nested s os around const on at st other expects stands = go on other stands
     go lvalue_only other there = referred 82 refl there
     go rvalue_only other there = referred 79 refl there
     go explicit_object other there = absurd (other refl)
+
+pub name-nested : (s : Symbol) (os : List Opened) (around : Around) (const : Bool) (on : RefQualifier) (at : ℕ) (st : State)
+    → on ≢ explicit_object → Expects s Kind.CompleteName around os at st → StandsAt s.bytes at (nest_marks const on)
+    → NestOpened s os around const on (at + length (nest_marks const on)) st
+unfolding is_eaten
+name-nested s os around const on at st other expects stands = nested-opens s Kind.CompleteName os around const on at st refl other expects stands
+
+-- so does that of a local entity
+pub entity-nested : (s : Symbol) (os : List Opened) (around : Around) (const : Bool) (on : RefQualifier) (at : ℕ) (st : State)
+    → on ≢ explicit_object → Expects s Kind.Entity around os at st → StandsAt s.bytes at (nest_marks const on)
+    → NestOpened s os around const on (at + length (nest_marks const on)) st
+unfolding is_eaten
+entity-nested s os around const on at st other expects stands = nested-opens s Kind.Entity os around const on at st refl other expects stands
 
 -- a source name, with or without arguments after it
 pub name-source : (s : Symbol) (os : List Opened) (around : Around) (at : ℕ) (name : List ℕ) (end : ℕ) (st : State)

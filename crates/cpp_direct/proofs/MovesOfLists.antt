@@ -6,6 +6,7 @@ use Rattle.cpp_direct.specs.AllTerms.{after, appended, applied, between, boolean
 use Rattle.cpp_grammar.specs.Values.{State, Around, signed, tree, tree_of, is_listed, signed_of, signed_digits, prefix_tree, prefix_listed, part, Value, is_there, letter_of, piece_of, text_of, text, outermost}
 use Rattle.cpp_grammar.specs.Unfolding as unfolding_
 use Rattle.cpp_direct.specs.AllStates.{integer_letters, is_integer_letter, Symbol}
+use Rattle.cpp_direct.specs.Holes.{Awaits}
 use Rattle.cpp_direct.specs.AllHoles.{AddressOpened, ArgumentsOpened, AwaitsElement, AwaitsElementAs, Comes, EnumeratorOpened, Expects, IsArgumentKind, IsDigitsAt, IsListKind, ListGoesOn, LiteralOpened, Opened, PackOpened, StandsAt, minus_sign, opened, unless_listed, with_candidate, IsNameAt, LevelOpened, template_named}
 use Rattle.cpp_direct.proofs.LettersTested.{each_passes, tested}
 use Rattle.cpp_direct.proofs.Tables.{lists-by}
@@ -41,21 +42,26 @@ goes-on : {s : Symbol} {kind : Kind} {around : Around} {inner outer : List Opene
     → ListGoesOn s kind outer around t at st
 goes-on t h closed = awaited h (λ l to now comes. (closed l to now (fill h l to now comes)).comes)
 
--- an element of a list of arguments is expected
-pub listed-awaits : (s : Symbol) (kind : Kind) (os : List Opened) (around : Around) (at : ℕ) (st : State)
-    → IsArgumentKind kind → Expects s kind around os at st → AwaitsElementAs s Kind.Argument kind os around at st
+-- an element of a list of arguments is expected, which is a candidate already or never one, or isn't one yet
+pub argument-awaits : (s : Symbol) (kind : Kind) (os : List Opened) (around : Around) (at : ℕ) (st : State) (listed : Bool)
+    → IsArgumentKind kind → Expects s kind around os at st
+    → Awaits s Kind.Argument around at st (λ inner. (t : Term) (at : ℕ) (st : State) → Comes s inner (tree t listed) at st → ListGoesOn s kind os around t at st)
 unfolding is_eaten is_left number_of_kind parts_of between close unfolding_.behind meaning part byte_of tree_of text_of piece_of letter_of is_there
-listed-awaits s Kind.ArgumentList os around at st is expects =
+argument-awaits s Kind.ArgumentList os around at st listed is expects =
     let p = Production.AnyArgument in
     let one = chain-opens (leaves s Kind.ArgumentList p 80 refl) (hole s Kind.ArgumentList around os at st expects) refl refl in
     awaited one
-    (λ t here now comes. goes-on t (next-part p (fill one (tree t true) here now comes) refl) (λ l to later last. closes p last refl))
-listed-awaits s Kind.PackList os around at st is expects =
+    (λ t here now comes. goes-on t (next-part p (fill one (tree t listed) here now comes) refl) (λ l to later last. closes p last refl))
+argument-awaits s Kind.PackList os around at st listed is expects =
     let p = Production.AnyElement in
     let one = chain-opens (leaves s Kind.PackList p 80 refl) (hole s Kind.PackList around os at st expects) refl refl in
     awaited one
-    (λ t here now comes. goes-on t (next-part p (fill one (tree t true) here now comes) refl) (λ l to later last. closes p last refl))
-listed-awaits s _ os around at st is expects = absurd is
+    (λ t here now comes. goes-on t (next-part p (fill one (tree t listed) here now comes) refl) (λ l to later last. closes p last refl))
+argument-awaits s _ os around at st listed is expects = absurd is
+
+pub listed-awaits : (s : Symbol) (kind : Kind) (os : List Opened) (around : Around) (at : ℕ) (st : State)
+    → IsArgumentKind kind → Expects s kind around os at st → AwaitsElementAs s Kind.Argument kind os around at st
+listed-awaits s kind os around at st is expects = argument-awaits s kind os around at st true is expects
 
 -- an element that is a type
 type-awaits : (s : Symbol) (kind : Kind) (os : List Opened) (around : Around) (at : ℕ) (st : State) → AwaitsElementAs s Kind.Argument kind os around at st

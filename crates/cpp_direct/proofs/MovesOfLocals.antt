@@ -2,20 +2,22 @@
 use Rattle.std.proofs.Common.{◌≡◌, ℕ, ◌+◌, ◌-◌, ◌<◌, ◌≤◌, Ok, List, [], ◌∷◌, ◌++◌, length, Bool, true, false, cond, Option, None, Some, refl, ap, sym, subst, arith, append-nil}
 use Rattle.std.proofs.lemmas.Bool.{le-leb}
 use Rattle.sym_core.specs.declared.NumberKind.TheVariants.{Decimal}
-use Rattle.cpp_direct.specs.AllTerms.{after, alternatives, among, applied, AreDigitsOf, between, builtin, byte_of, choose, close, cpp, empty, extended, fixed, in_ranges, in_signature, is_chain, is_in, is_nil, is_void, Kind, lambda, last_token, listed_value, may_be_empty, meaning, named_so_far, nil, no_items, number_of_kind, number_tested, opening, padded, parameters, parts_of, pick, Production, rule_of, signature_with, source, standing, Term, token, with_type, within}
+use Rattle.cpp_direct.specs.AllTerms.{after, alternatives, among, applied, AreDigitsOf, between, builtin, byte_of, choose, close, cpp, empty, extended, fixed, in_ranges, in_signature, is_chain, is_in, is_nil, is_void, Kind, lambda, last_token, list, listed_value, may_be_empty, meaning, named_so_far, nil, no_items, number_of_kind, number_tested, opening, padded, parameters, parts_of, pick, Production, rule_of, signature_with, source, standing, Term, token, with_type, within}
 use Rattle.sym_core.specs.Token.{Token}
 use Rattle.sym_shape.specs.declared.rule.Sym.TheVariants.{Kind as OfKind, Number, Byte}
-use Rattle.cpp_grammar.specs.Values.{State, Around, outermost, nothing_there, text, tree, piece, tree_of, text_of, is_listed, qualifiers_of, ref_of, local_number, part, is_there, letter_of, piece_of}
+use Rattle.cpp_grammar.specs.Values.{State, Around, outermost, named, nothing_there, text, tree, piece, tree_of, text_of, is_listed, qualifiers_of, ref_of, local_number, part, is_there, letter_of, piece_of}
 use Rattle.cpp_grammar.specs.Unfolding as unfolding_
 use Rattle.cpp_direct.specs.AllStates.{HasScope, ItemsGoOn, nowhere, short_numbers, Symbol}
-use Rattle.cpp_direct.specs.AllHoles.{Comes, Discriminator, Expects, IsDiscriminatorAt, IsLambdaDigit, IsNameAt, IsNamedKind, IsPieceAt, LocalOpened, LocalTypeOpened, Opened, StandsAt, by_digit, by_digits, cpp_language, discriminator_value, lambda_digits, lambda_ending, lambda_with, opened, unnumbered}
+use Rattle.cpp_direct.specs.AllHoles.{Comes, Discriminator, Expects, IsDiscriminatorAt, IsLambdaDigit, IsNameAt, IsNamedKind, IsPieceAt, LambdaEnds, LocalOpened, LocalTypeOpened, NestGoesOn, Opened, StandsAt, by_digit, by_digits, cpp_language, discriminator_value, lambda_digits, lambda_with, opened, unnumbered}
 use Rattle.sym_direct.specs.Holes as direct
 use Rattle.sym_direct.proofs.Moves as moves
 use Rattle.cpp_direct.proofs.Kept.{none-known}
 use Rattle.cpp_direct.proofs.ShortNumbers.{lambda-begins, tested}
+use Rattle.cpp_direct.proofs.MovesOfEncodings.{entity-nested}
+use Rattle.cpp_direct.proofs.MovesOfNests.{goes-on}
 use Rattle.cpp_direct.proofs.MovesOfTypes.{named-taken}
-use Rattle.cpp_direct.proofs.Moves.{awaited, stands-split, kind-at, reads-rule, joins, none-left, opens-where, needs-next, hole, open_at, fill, filled-at, hole-at, eats, leaves, chosen-byte, is_left, byte-opens, chain-opens, byte-fills, next-part, closes, none-fills, fixed-fills, name-fills, number-fills, is_eaten, digits-fill, any-first}
-use Rattle.cpp_direct.proofs.Tables.{empty-by, names-by}
+use Rattle.cpp_direct.proofs.Moves.{awaited, fewer, Filled, Hole, stands-split, kind-at, reads-rule, joins, none-left, opens-where, needs-next, hole, open_at, fill, filled-at, hole-at, eats, leaves, chosen-byte, is_left, byte-opens, chain-opens, byte-fills, next-part, closes, none-fills, fixed-fills, name-fills, number-fills, is_eaten, digits-fill, any-first}
+use Rattle.cpp_direct.proofs.Tables.{empty-by, names-by, rests-by}
 
 -- ## Discriminators
 
@@ -79,23 +81,66 @@ name-comes s os around e at false name end st expects marked is =
 -- a local name begins with a Z and the encoding that contains its entity
 pub local-opens : (s : Symbol) (os : List Opened) (around : Around) (at : ℕ) (st : State)
     → Expects s Kind.CompleteName around os at st → StandsAt s.bytes at (90 ∷ []) → LocalOpened s os around (at + 1) st
-unfolding is_eaten number_of_kind parts_of between close unfolding_.behind meaning part byte_of tree_of text_of piece_of letter_of is_there qualifiers_of ref_of
+unfolding is_eaten number_of_kind parts_of between close unfolding_.behind meaning part byte_of tree_of text_of piece_of letter_of is_there qualifiers_of ref_of may_be_empty
 local-opens s os around at st expects stands =
     let p = Production.LocalName in
     let encoding = byte-opens (eats s Kind.CompleteName p 90 refl) (hole s Kind.CompleteName around os at st expects) stands refl refl in
-    awaited encoding (λ e here now comes internal name digit end is.
-    let entity = next-part p (fixed-fills (next-part p (fill encoding (tree e true) here now comes) refl) is.first) refl in
-    let named_ = name-comes s (open_at entity) around e (here + 1) internal name is.middle now entity.expects is.letter is.is_name in
-    let last = next-part p (fill entity (tree (within e (source internal name)) false) is.middle now named_) refl in
-    let told = discriminator-comes s (open_at last) (after e true around) is.middle digit end now last.expects is.discriminator in
-    (closes p (fill last (discriminator_value digit) end now told) refl).comes)
+    awaited encoding (λ e here now comes. (
+      (λ internal name digit end is.
+          let entity = next-part p (fixed-fills (next-part p (fill encoding (tree e true) here now comes) refl) is.first) refl in
+          let named_ = name-comes s (open_at entity) around e (here + 1) internal name is.middle now entity.expects is.letter is.is_name in
+          let last = next-part p (fill entity (tree (within e (source internal name)) false) is.middle now named_) refl in
+          let told = discriminator-comes s (open_at last) (after e true around) is.middle digit end now last.expects is.discriminator in
+          (closes p (fill last (discriminator_value digit) end now told) refl).comes),
+      (λ const on other closed letters.
+          let entity = next-part p (fixed-fills (next-part p (fill encoding (tree e true) here now comes) refl) closed) refl in
+          let nest = entity-nested s (open_at entity) (after e true around) const on (here + 1) now other entity.expects letters in
+          record {
+            around = around;
+            inner = nest.inner;
+            awaits = nest.awaits;
+            onward = λ t listed there later came.
+                let v = named t (record { restrict = false; volatile = false; const = const }) on in
+                let last = next-part p (fill entity v there later (nest.onward t listed there later came)) refl in
+                (closes p (none-fills Kind.MaybeDiscriminator last refl) refl).comes;
+          }),
+    ))
 
 -- ## Types in functions
+
+-- a source name is the first piece of a nested one in an encoding
+source-first : (s : Symbol) (os : List Opened) (around : Around) (e : Term) (at : ℕ) (name : List ℕ) (end : ℕ) (st : State)
+    → Expects s Kind.Nest (after e true around) os at st → IsNameAt s.bytes at name end
+    → NestGoesOn s Kind.NestRestAlone os around (within e (source false name)) false end st
+unfolding is_eaten is_left number_of_kind parts_of between close unfolding_.behind meaning part byte_of tree_of text_of piece_of letter_of is_there named_so_far extended after
+source-first s os around e at name end st expects is =
+    let p = Production.NestSource in
+    let own = chain-opens (leaves s Kind.Nest p 48 refl) (hole s Kind.Nest (after e true around) os at st expects) refl refl in
+    goes-on (fewer (rests-by s.is_wide) (next-part p (name-fills name end own is) refl)) (λ v to later f. closes p f refl)
+
+-- what a lambda makes of the nested name that it begins in an encoding
+lambda-first : (s : Symbol) (os : List Opened) (around : Around) (e : Term) (at : ℕ) (st : State) → Expects s Kind.Nest (after e true around) os at st
+    → StandsAt s.bytes at (85 ∷ []) → Hole s (OfKind (number_of_kind Kind.Anonymous)) (after e true around)
+    (opened (standing (rule_of Production.NestLocalType) (85 ∷ []) at (after e true around) st) [] (OfKind (number_of_kind Kind.NestRest) ∷ []) ∷ os) (at + 1) st
+unfolding is_eaten number_of_kind parts_of between close unfolding_.behind meaning part byte_of tree_of text_of piece_of letter_of is_there after
+lambda-first s os around e at st expects stands =
+    byte-opens (eats s Kind.Nest Production.NestLocalType 85 refl) (hole s Kind.Nest (after e true around) os at st expects) stands refl refl
+
+lambda-goes : (s : Symbol) (os : List Opened) (around : Around) (e p : Term) (at0 : ℕ) (before : State) (at : ℕ) (st : State)
+    → Filled s (opened (standing (rule_of Production.NestLocalType) (85 ∷ []) at0 (after e true around) before) [] (OfKind (number_of_kind Kind.NestRest) ∷ []) ∷ os) (piece p) at st
+    → NestGoesOn s Kind.NestRestAlone os around (within e p) false at st
+unfolding is_eaten number_of_kind parts_of between close unfolding_.behind meaning part byte_of tree_of text_of piece_of letter_of is_there named_so_far extended after
+lambda-goes s os around e p at0 before at st f =
+    let q = Production.NestLocalType in
+    goes-on (fewer (rests-by s.is_wide) (next-part q f refl)) (λ v to later g. closes q g refl)
 
 -- a source name is the name of a type in a function
 pub source-name-piece : (s : Symbol) (at : ℕ) (name : List ℕ) (end : ℕ) → IsNameAt s.bytes at name end → IsPieceAt s at (source false name) end
 unfolding is_left
-source-name-piece s at name end is os around e st expects = source-comes s Kind.TypeEntity os around e at name end st refl expects is
+source-name-piece s at name end is = record {
+  as_type = λ os around e st expects. source-comes s Kind.TypeEntity os around e at name end st refl expects is;
+  as_first = λ os around e st expects. source-first s os around e at name end st expects is;
+}
 
 -- void is read as the first type of a lambda
 void-read : (s : Symbol) (around : Around) (at : ℕ) (st : State)
@@ -166,19 +211,27 @@ number-is (Some d) is = omega (arith, is.0, is.1)
 pub lambda-piece : (s : Symbol) (at : ℕ) (digit : Option ℕ) (end : ℕ) → IsLambdaDigit digit → StandsAt s.bytes at (85 ∷ lambda_bytes (lambda_digits digit))
     → end ≡ at + length (85 ∷ lambda_bytes (lambda_digits digit)) → IsPieceAt s at (lambda nil (local_number (lambda_digits digit))) end
 unfolding is_eaten number_of_kind parts_of may_be_empty between close unfolding_.behind meaning part byte_of tree_of text_of piece_of letter_of is_there named_so_far extended applied after
-lambda-piece s at digit end is stands ends_ os around e st expects =
-    let p = Production.LocalTypeName in
-    let here : Around = after e true around in
+lambda-piece s at digit end is stands ends_ =
     let digits = lambda_digits digit in
     let bytes = lambda_bytes digits in
     let places = stands-split s.bytes at (85 ∷ []) bytes stands in
-    let anonymous = byte-opens (eats s Kind.TypeEntity p 85 refl) (hole s Kind.TypeEntity here os at st expects) places.0 refl refl in
-    let named = fill anonymous (piece (lambda nil (local_number digits))) (at + 1 + length (bytes ++ [])) st
+    let read : (here : Around) (above : List Opened) (st : State) → Hole s (OfKind (number_of_kind Kind.Anonymous)) here above (at + 1) st
+    → Filled s above (piece (lambda nil (local_number digits))) end st = λ here above st anonymous.
+    filled-at end (fill anonymous (piece (lambda nil (local_number digits))) (at + 1 + length (bytes ++ [])) st
     (anonymous.expects (bytes ++ []) (piece (lambda nil (local_number digits)) ∷ []) st
     (lambda-read s here (at + 1) digits st (digits-of digit is) (tested (at + 1 - 1) digits st (omega (arith, number-is digit is))))
-    (subst (λ l. StandsAt s.bytes (at + 1) l) (sym (append-nil bytes)) places.1)) in
-    let arguments = next-part p (filled-at end named (omega (arith, ends_, ap length (append-nil bytes)))) refl in
-    (closes p (none-fills Kind.MaybeArguments arguments refl) refl).comes
+    (subst (λ l. StandsAt s.bytes (at + 1) l) (sym (append-nil bytes)) places.1))) (omega (arith, ends_, ap length (append-nil bytes))) in
+    record {
+      as_type = λ os around e st expects.
+          let p = Production.LocalTypeName in
+          let here : Around = after e true around in
+          let anonymous = byte-opens (eats s Kind.TypeEntity p 85 refl) (hole s Kind.TypeEntity here os at st expects) places.0 refl refl in
+          let arguments = next-part p (read here (open_at anonymous) st anonymous) refl in
+          (closes p (none-fills Kind.MaybeArguments arguments refl) refl).comes;
+      as_first = λ os around e st expects.
+          let anonymous = lambda-first s os around e at st expects places.0 in
+          lambda-goes s os around e (lambda nil (local_number digits)) at st end st (read (after e true around) (open_at anonymous) st anonymous);
+    }
 
 -- such a type begins with a Z and the encoding that contains it
 pub local-type-opens : (s : Symbol) (kind : Kind) (os : List Opened) (around : Around) (at : ℕ) (st : State) → IsNamedKind kind
@@ -201,19 +254,13 @@ local-type-opens s kind os around at st named_ expects stands =
 
 -- ## Lambdas
 
--- what the parameters of a lambda become, before the E after them
-abbrev pub LambdaEnds : (s : Symbol) → (os : List Opened) → (e : Term) → (items : Term) → (at : ℕ) → State → Type 0
-LambdaEnds s os e items at st =
-    (number : Option ℕ) (end : ℕ) → IsLambdaDigit number → StandsAt s.bytes at (lambda_ending number) → end ≡ at + length (lambda_ending number)
-    → Comes s os (tree (within e (lambda_with items number)) false) end st
-
--- Expects the first parameter of a lambda.
-pub record LambdaOpened (s : Symbol) (os : List Opened) (e : Term) (at : ℕ) (st : State) : Type 0 where
+-- Expects the first parameter of a lambda, and makes something of the lambda.
+pub record LambdaOpened (s : Symbol) (becomes : Term → (at : ℕ) → State → Type 0) (at : ℕ) (st : State) : Type 0 where
   pub around : Around
   pub outside : around.prefix ≡ outermost
   pub inner : List Opened
   pub awaits : Expects s Kind.Item around inner at st
-  pub onward : (t : Term) (at : ℕ) (st : State) → Comes s inner (tree t true) at st → ItemsGoOn s nowhere (LambdaEnds s os e) (λ l. l) (t ∷ []) at st
+  pub onward : (t : Term) (at : ℕ) (st : State) → Comes s inner (tree t true) at st → ItemsGoOn s nowhere (LambdaEnds s becomes) (λ l. l) (t ∷ []) at st
 
 -- no parameter names an argument there
 pub nowhere-scoped : (around : Around) → HasScope nowhere around
@@ -232,28 +279,24 @@ piece-taken Kind.Component is = refl
 piece-taken _ is = absurd is
 
 -- a lambda begins in a symbol without long numbers
-pub lambda-opens : (s : Symbol) (kind : Kind) (os : List Opened) (around : Around) (e : Term) (listed : Bool) (at : ℕ) (st : State) → IsPieceKind kind
-    → short_numbers 0 s.bytes ≡ true → Expects s kind (after e listed around) os at st → StandsAt s.bytes at (85 ∷ 108 ∷ []) → LambdaOpened s os e (at + 2) st
-unfolding is_eaten number_of_kind parts_of may_be_empty between opening close unfolding_.behind meaning part byte_of tree_of text_of piece_of letter_of is_there named_so_far extended applied after in_signature signature_with
-lambda-opens s kind os around e listed at st is_piece short expects stands =
-    let p = Production.LocalTypeName in
+anonymous-opens : (s : Symbol) (here : Around) (above : List Opened) (at : ℕ) (st : State) (becomes : Term → (at : ℕ) → State → Type 0)
+    → short_numbers 0 s.bytes ≡ true → Hole s (OfKind (number_of_kind Kind.Anonymous)) here above at st → StandsAt s.bytes at (108 ∷ [])
+    → ((p : Term) (end : ℕ) (now : State) → Filled s above (piece p) end now → becomes p end now) → LambdaOpened s becomes (at + 1) st
+unfolding is_eaten number_of_kind parts_of may_be_empty between opening close unfolding_.behind meaning part byte_of tree_of text_of piece_of letter_of is_there in_signature signature_with
+anonymous-opens s here above at st becomes short anonymous stands then_ =
     let q = Production.Lambda in
-    let here : Around = after e listed around in
     let c = in_signature here in
     let item = OfKind (number_of_kind Kind.FirstOfLambda) in
     let todo = OfKind (number_of_kind Kind.Items) ∷ Byte 69 ∷ Number Decimal ∷ [] in
-    let places = stands-split s.bytes at (85 ∷ []) (108 ∷ []) stands in
-    let anonymous = byte-opens (eats s kind p 85 (piece-taken kind is_piece)) (hole s kind here os at st expects) places.0 refl refl in
-    let above = open_at anonymous in
-    let needs = opens-where s Kind.Anonymous q 108 (108 ∷ []) here above (at + 1) st refl (omega arith) refl
-    (λ f shaped there. lambda-begins s.is_wide s.bytes (at + 1 + 1) (at + 1) st short f shaped there) anonymous.expects places.1 in
-    let first = hole s Kind.FirstOfLambda c (opened (standing (rule_of q) (108 ∷ []) (at + 1) here st) [] todo ∷ above) (at + 1 + 1) st
-    (needs-next s q (108 ∷ []) (at + 1) here st [] item todo above (at + 1 + 1) st c [] st refl needs) in
+    let needs = opens-where s Kind.Anonymous q 108 (108 ∷ []) here above at st refl (omega arith) refl
+    (λ f shaped there. lambda-begins s.is_wide s.bytes (at + 1) at st short f shaped there) anonymous.expects stands in
+    let first = hole s Kind.FirstOfLambda c (opened (standing (rule_of q) (108 ∷ []) at here st) [] todo ∷ above) (at + 1) st
+    (needs-next s q (108 ∷ []) at here st [] item todo above (at + 1) st c [] st refl needs) in
     record {
       around = c;
       outside = refl;
       inner = open_at first;
-      awaits = any-first s c (open_at first) (at + 2) st (hole-at (at + 2) first (omega arith)).expects;
+      awaits = any-first s c (open_at first) (at + 1) st first.expects;
       onward = λ t there now comes.
           let more = next-part q (fill first (tree t true) there now comes) refl in
           record {
@@ -262,13 +305,35 @@ lambda-opens s kind os around e listed at st is_piece short expects stands =
             outside = refl;
             scoped = nowhere-scoped c;
             awaits = more.expects;
-            onward = λ l to then_ last number end is ending ends_.
+            onward = λ l to later last number end is ending ends_.
                 let digits = lambda_digits number in
                 let token_ : Token = record { before = []; own = digits; behind = 95 ∷ [] } in
                 let split = stands-split s.bytes to (69 ∷ []) (digits ++ 95 ∷ []) ending in
-                let numeral = next-part q (fixed-fills (next-part q (fill more l to then_ last) refl) split.0) refl in
+                let numeral = next-part q (fixed-fills (next-part q (fill more l to later last) refl) split.0) refl in
                 let numbered = number-fills token_ numeral (record { bare = refl; digits = digits-of number is; ends = refl }) split.1 in
-                let arguments = next-part p (filled-at end (closes q numbered refl) (omega (arith, ends_))) refl in
-                (closes p (none-fills Kind.MaybeArguments arguments refl) refl).comes;
+                then_ (lambda_with (list t (no_items l)) number) end later (filled-at end (closes q numbered refl) (omega (arith, ends_)));
           };
     }
+
+-- as a type in a function, or as a component of a name
+pub lambda-opens : (s : Symbol) (kind : Kind) (os : List Opened) (around : Around) (e : Term) (listed : Bool) (at : ℕ) (st : State) → IsPieceKind kind
+    → short_numbers 0 s.bytes ≡ true → Expects s kind (after e listed around) os at st → StandsAt s.bytes at (85 ∷ 108 ∷ [])
+    → LambdaOpened s (λ p end now. Comes s os (tree (within e p) false) end now) (at + 1 + 1) st
+unfolding is_eaten number_of_kind parts_of may_be_empty between opening close unfolding_.behind meaning part byte_of tree_of text_of piece_of letter_of is_there named_so_far extended applied after
+lambda-opens s kind os around e listed at st is_piece short expects stands =
+    let p = Production.LocalTypeName in
+    let here : Around = after e listed around in
+    let places = stands-split s.bytes at (85 ∷ []) (108 ∷ []) stands in
+    let anonymous = byte-opens (eats s kind p 85 (piece-taken kind is_piece)) (hole s kind here os at st expects) places.0 refl refl in
+    anonymous-opens s here (open_at anonymous) (at + 1) st (λ u end now. Comes s os (tree (within e u) false) end now) short anonymous places.1
+    (λ u end now f. (closes p (none-fills Kind.MaybeArguments (next-part p f refl) refl) refl).comes)
+
+-- or as the first piece of a nested one in an encoding
+pub first-lambda-opens : (s : Symbol) (os : List Opened) (around : Around) (e : Term) (at : ℕ) (st : State)
+    → short_numbers 0 s.bytes ≡ true → Expects s Kind.Nest (after e true around) os at st → StandsAt s.bytes at (85 ∷ 108 ∷ [])
+    → LambdaOpened s (λ p end now. NestGoesOn s Kind.NestRestAlone os around (within e p) false end now) (at + 1 + 1) st
+first-lambda-opens s os around e at st short expects stands =
+    let places = stands-split s.bytes at (85 ∷ []) (108 ∷ []) stands in
+    let anonymous = lambda-first s os around e at st expects places.0 in
+    anonymous-opens s (after e true around) (open_at anonymous) (at + 1) st (λ p end now. NestGoesOn s Kind.NestRestAlone os around (within e p) false end now)
+    short anonymous places.1 (λ p end now f. lambda-goes s os around e p at st end now f)

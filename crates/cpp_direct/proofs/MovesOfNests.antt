@@ -27,7 +27,7 @@ piece-comes s os around at st name end expects is =
 -- ## What a nested name begins with
 
 -- a nested name continues after what is read of it
-goes-on : {s : Symbol} {kind : Kind} {around : Around} {inner outer : List Opened} {u : Term} {listed : Bool} {at : ℕ} {st : State}
+pub goes-on : {s : Symbol} {kind : Kind} {around : Around} {inner outer : List Opened} {u : Term} {listed : Bool} {at : ℕ} {st : State}
     → Hole s (OfKind (number_of_kind kind)) (after u listed around) inner at st
     → ((v : Value) (to : ℕ) (now : State) → Filled s inner v to now → Filled s outer v to now) → NestGoesOn s kind outer around u listed at st
 goes-on {inner = inner} h closed = record { inner = inner; awaits = h.expects; passes = λ v to now comes. (closed v to now (fill h v to now comes)).comes }

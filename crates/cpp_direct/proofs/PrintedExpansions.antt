@@ -4,12 +4,12 @@ use Rattle.cpp_direct.specs.declared.open.Pattern.{Pattern}
 use Rattle.cpp_direct.specs.declared.open.Pattern.TheVariants as patterns
 use Rattle.std.proofs.Math.Dec.{eqb-suc-zero}
 use Rattle.std.proofs.lemmas.Bool.{le-ltb, lt-ltb}
-use Rattle.cpp_direct.specs.Prints.{Prints, PrintsIn, PrintsMade, IsMarkedBy, written_of, IsElementIn, PrintEachBy, PrintAllBy, joined, list_of, made_by}
-use Rattle.std.proofs.Common.{◌≡◌, refl, ap, ◌∙◌, ℕ, ◌+◌, ◌*◌, ◌≤◌, List, [], ◌∷◌, ◌++◌, length, Bool, true, false, arith, codes, length-append, sym, subst, append-nil, append_assoc, ◌≢◌, slice_get, Some, zero, suc, ◌<◌}
+use Rattle.cpp_direct.specs.Prints.{Prints, PrintsAround, PrintsIn, PrintsListed, PrintsMade, IsMarkedBy, written_of, IsElementIn, PrintEachBy, PrintAllBy, joined, list_of, made_by}
+use Rattle.std.proofs.Common.{inl, inr, ◌≡◌, refl, ap, ◌∙◌, ℕ, ◌+◌, ◌*◌, ◌≤◌, List, [], ◌∷◌, ◌++◌, length, Bool, true, false, arith, codes, length-append, sym, subst, append-nil, append_assoc, ◌≢◌, slice_get, Some, zero, suc, ◌<◌}
 use Rattle.sym_print.specs.Unshared.{text_of, cost_of}
-use Rattle.cpp_direct.proofs.PrintedLists.{further, joined-further}
+use Rattle.cpp_direct.proofs.PrintedLists.{further, joined-further, type-in}
 use Rattle.cpp_direct.proofs.PrintedParts.{text_shown, cost_shown, shown_by}
-use Rattle.cpp_direct.proofs.PrintedTypes.{const-in, constant, lvalue-in, parameter-in, rvalue-again, rvalue-in}
+use Rattle.cpp_direct.proofs.PrintedTypes.{const-in, constant, lvalue-in, parameter-around, parameter-in, rvalue-again, rvalue-around, rvalue-in}
 
 -- where the argument with this number is a pack of these types
 record IsPacked (c : Context) (k : ℕ) (ts : List Term) : Type 0 where
@@ -67,12 +67,29 @@ makes-in {detail} d k patterns.Rvalue b marks true p is = (
 makes-in {detail} d k patterns.Rvalue b marks false p is =
     (true, subst (λ m. PrintsIn detail d 3 (rvalue (parameter k)) (b ++ m) true) (sym is) (rvalue-in d 3 (parameter k) b (parameter-in d k b false p)))
 
+-- what it makes of a reference with text on both sides of a name
+around-in : {detail : Detail} (d : Context) (k : ℕ) (pattern : Pattern) (b marks : List ℕ) → PrintsAround detail (argument d k) b → IsMarkedBy pattern true marks
+    → IsElementIn detail d 3 (each pattern k) (b ++ marks)
+around-in {detail} d k patterns.Same b marks p is =
+    subst (λ l. IsElementIn detail d 3 (parameter k) l) (sym (ap (λ m. b ++ m) is ∙ append-nil b)) (parameter-around d k b p)
+around-in {detail} d k patterns.Lvalue b marks p is = cc is.0
+around-in {detail} d k patterns.ConstLvalue b marks p is = cc is.0
+around-in {detail} d k patterns.Rvalue b marks p is =
+    subst (λ l. IsElementIn detail d 3 (rvalue (parameter k)) l) (sym (ap (λ m. b ++ m) is ∙ append-nil b)) (rvalue-around d k b p)
+
+listed-in : {detail : Detail} (d : Context) (k : ℕ) (pattern : Pattern) (b marks : List ℕ) (r : Bool) → PrintsListed true detail (argument d k) b r → IsMarkedBy pattern r marks
+    → IsElementIn detail d 3 (each pattern k) (b ++ marks)
+listed-in d k pattern b marks r (inl p) is =
+    let made = makes-in d k pattern b marks r p is in
+    type-in d 3 (each pattern k) (b ++ marks) made.0 (omega arith) made.1
+listed-in d k pattern b marks r (inr p) is = around-in d k pattern b marks p.1 (subst (λ q. IsMarkedBy pattern q marks) p.0 is)
+
 each-prints : {detail : Detail} (c : Context) (k i : ℕ) (ts : List Term) (pattern : Pattern) (own : Term) (b : List ℕ) → IsPacked c k ts → slice_get ts i ≡ Some own
-    → PrintsMade detail pattern own b → (q : Bool) × PrintsIn detail (at_index i c) 3 (each pattern k) b q
+    → PrintsMade detail pattern own b → IsElementIn detail (at_index i c) 3 (each pattern k) b
 each-prints {detail} c k i ts pattern own b packed at p =
     let d = at_index i c in
-    let made = makes-in d k pattern p.0 p.2 p.1 (subst (λ t. Prints detail t p.0 p.1) (sym (argument-at c k i ts own packed at)) p.3) p.4 in
-    (made.0, subst (λ l. PrintsIn detail d 3 (each pattern k) l made.0) (sym p.5) made.1)
+    subst (λ l. IsElementIn detail d 3 (each pattern k) l) (sym p.5) (listed-in d k pattern p.0 p.2 p.1
+    (subst (λ t. PrintsListed true detail t p.0 p.1) (sym (argument-at c k i ts own packed at)) p.3) p.4)
 
 -- ## After the first one
 
@@ -97,20 +114,19 @@ rest-goes c k ts pattern n p lt = rw (packs-are c k ts pattern p, lt-ltb n (coun
 abbrev next_parts : (detail : Detail) → Context → (t : Term) → (m : ℕ) → List ℕ → Type 0
 next_parts detail c t m l = (text_of (shown_by detail (expand_rest c t m)) ≡ l) × (cost_of (shown_by detail (expand_rest c t m)) ≤ 1 + 4 * length l)
 
-one-more : {detail : Detail} (c : Context) (k : ℕ) (ts : List Term) (pattern : Pattern) (m : ℕ) (b l : List ℕ) (q : Bool) → IsPacked c k ts → suc m < length ts
-    → PrintsIn detail (at_index (suc m) c) 3 (each pattern k) b q
+one-more : {detail : Detail} (c : Context) (k : ℕ) (ts : List Term) (pattern : Pattern) (m : ℕ) (b l : List ℕ) → IsPacked c k ts → suc m < length ts
+    → IsElementIn detail (at_index (suc m) c) 3 (each pattern k) b
     → next_parts detail c (each pattern k) (suc m + 1) l → next_parts detail c (each pattern k) (suc m) (codes ", " ++ (b ++ l))
 unfolding parts_in expand_parts comma_before not_empty
-one-more {detail} c k ts pattern m b l q packed lt p n =
+one-more {detail} c k ts pattern m b l packed lt p n =
     let t = each pattern k in
     let d = at_index (suc m) c in
     let rest = expand_rest c t (suc m + 1) in
     let qs = says ", " ∷ as_item left d t ∷ as_item right d t ∷ rest in
     let goes = rest-goes c k ts pattern (suc m) packed lt in (
       ap (λ ps. text_of (shown_by detail ps)) goes ∙ append-nil (text_of (written_of detail (expand (suc m)) c t)) ∙ text_shown detail (expand (suc m)) c t qs refl refl
-          ∙ ap (λ x. codes ", " ++ (x ++ (text_of (written_of detail right d t) ++ text_of (shown_by detail rest)))) p.left_text
-          ∙ ap (λ x. codes ", " ++ (b ++ (x ++ text_of (shown_by detail rest)))) p.right_text
-          ∙ ap (λ x. codes ", " ++ (b ++ x)) n.0,
+          ∙ ap (λ x. codes ", " ++ x) (sym (append_assoc (text_of (written_of detail left d t)) (text_of (written_of detail right d t)) (text_of (shown_by detail rest))))
+          ∙ ap (λ x. codes ", " ++ (x ++ text_of (shown_by detail rest))) p.both_texts ∙ ap (λ x. codes ", " ++ (b ++ x)) n.0,
       omega (
         arith,
         ap (λ ps. cost_of (shown_by detail ps)) goes,
@@ -133,7 +149,7 @@ rest-prints detail c k ts pattern (t ∷ rest) m (b ∷ texts) packed there size
     let behind = rest-prints detail c k ts pattern rest (suc m) texts packed
     (λ i u e. subst (λ n. slice_get ts n ≡ Some u) (omega arith) (there (suc i) u e)) (omega (arith, size)) each_.1 in
     let own = each-prints c k (suc m) ts pattern t b packed at each_.0 in
-    one-more c k ts pattern m b (further texts) own.0 packed (omega (arith, size)) own.1
+    one-more c k ts pattern m b (further texts) packed (omega (arith, size)) own
     (subst (λ n. next_parts detail c (each pattern k) n (further texts)) (omega arith) behind)
 rest-prints detail c k ts pattern [] m (b ∷ texts) packed there size each_ = absurd each_
 rest-prints detail c k ts pattern (t ∷ rest) m [] packed there size each_ = absurd each_
@@ -149,8 +165,7 @@ expanded {detail} c k pattern t rest b texts packed one others =
     let u = each pattern k in
     let d = at_index 0 c in
     let e = expansion u in
-    let own = each-prints c k 0 ts pattern t b packed refl one in
-    let p = own.1 in
+    let p = each-prints c k 0 ts pattern t b packed refl one in
     let n = rest-prints detail c k ts pattern rest 0 texts packed
     (λ i v at. let behind : suc i ≡ suc 0 + i = omega arith in subst (λ m. slice_get ts m ≡ Some v) behind at) (omega arith) others in
     let last = expand_rest c u 1 in
@@ -161,8 +176,8 @@ expanded {detail} c k pattern t rest b texts packed one others =
     record {
       both_texts = ap (λ l. text_of (written_of detail left c e) ++ l) (text_shown detail right c e [] refl refl) ∙ append-nil (text_of (written_of detail left c e))
           ∙ text_shown detail left c e ps is refl ∙ append-nil (text_of (written_of detail (expand 0) c u)) ∙ text_shown detail (expand 0) c u qs refl refl
-          ∙ ap (λ l. l ++ (text_of (written_of detail right d u) ++ text_of (shown_by detail last))) p.left_text
-          ∙ ap (λ l. b ++ (l ++ text_of (shown_by detail last))) p.right_text ∙ ap (λ l. b ++ l) n.0 ∙ sym (joined-further b texts);
+          ∙ sym (append_assoc (text_of (written_of detail left d u)) (text_of (written_of detail right d u)) (text_of (shown_by detail last)))
+          ∙ ap (λ l. l ++ text_of (shown_by detail last)) p.both_texts ∙ ap (λ l. b ++ l) n.0 ∙ sym (joined-further b texts);
       cost = omega (
         arith,
         p.cost,

@@ -2,10 +2,10 @@
 use Rattle.cpp_direct.specs.AllTerms.{any_value, array, array_left, as_item, builtin, closed, closing_right, Context, Detail, first, first_of, function_right, function_type, head, head_with, is_empty, is_funarr, is_nil, is_open, is_reference, is_void, left, left_parts, list_part, lvalue, marked_parts, nil, not_empty, pack_length, parameters, parts_in, pointer, ref_text, reference_parts, right, right_parts, says, Term, text_part}
 use Rattle.std.proofs.Common.{◌≡◌, ◌≢◌, refl, ap, sym, ◌∙◌, ℕ, ◌+◌, ◌*◌, ◌≤◌, List, [], ◌∷◌, ◌++◌, length, Bool, true, false, None, arith, codes, length-append, append-nil, append_assoc, inl, subst}
 use Rattle.sym_print.specs.Unshared.{text_of, cost_of}
-use Rattle.cpp_direct.specs.AllStates.{IsElement, IsUnmarked, list_of, list_with, opening_text, PrintAll, Prints, written_of}
+use Rattle.cpp_direct.specs.AllStates.{IsElement, IsUnmarked, list_of, list_with, opening_text, PrintAll, Prints, PrintsAround, written_of}
 use Rattle.cpp_direct.specs.AllHoles.{accessed, array_opening, plain_function, pointed}
 use Rattle.cpp_direct.proofs.PrintedParts.{shown_by, text_shown, cost_shown, text_append, cost_append, part-text, part-cost}
-use Rattle.cpp_direct.proofs.PrintedLists.{all-in, list-with-none, list-text, list-cost, list-closed, list-packless, none-print}
+use Rattle.cpp_direct.proofs.PrintedLists.{all-in, around-element, list-with-none, list-text, list-cost, list-closed, list-packless, none-print}
 use Rattle.cpp_direct.proofs.PrintedSymbols.{parameters-kept}
 use Rattle.cpp_direct.specs.declared.open.Access.{Access}
 use Rattle.cpp_direct.specs.declared.open.Access.TheVariants as accesses
@@ -184,7 +184,33 @@ array-right-cost detail c digits t =
 
 -- ## What an array is as an element
 
--- An array prints its elements' type and its size, and a mark between them where it is pointed or referred to.
+-- A reference to an array prints its elements' type and its size, and a mark between them,
+pub array-around : {detail : Detail} (digits : List ℕ) → IsUnmarked digits → (t : Term) (b : List ℕ) (r : Bool) → Prints detail t b r
+    → PrintsAround detail (lvalue (array digits t)) (b ++ array_opening accesses.Lvalue ++ digits ++ codes "]")
+unfolding parts_in left_parts right_parts marked_parts reference_parts closing_right head head_with is_reference is_funarr not_empty is_empty is_open pack_length is_void
+array-around {detail} digits plain t b r p = let a = array digits t in record {
+  both_texts = λ c.
+      ap (λ k. k ++ text_of (written_of detail right c (lvalue a))) (text_shown detail left c (lvalue a) (as_item left c a ∷ says "(&" ∷ []) refl refl)
+      ∙ ap (λ k. (text_of (written_of detail left c a) ++ codes "(&") ++ k) (text_shown detail right c (lvalue a) (says ")" ∷ as_item right c a ∷ []) refl refl)
+      ∙ marked_text (text_of (written_of detail left c a)) (text_of (written_of detail right c a)) b digits (codes "&") (codes "[") (codes "]") (array-left-text c digits t b r p) (array-right-text c digits plain t b r p);
+  cost = λ c. omega (
+    arith,
+    p.cost c,
+    array-left-cost c digits t b r p,
+    array-right-cost detail c digits t,
+    cost_shown detail left c (lvalue a) (as_item left c a ∷ says "(&" ∷ []) refl refl,
+    cost_shown detail right c (lvalue a) (says ")" ∷ as_item right c a ∷ []) refl refl,
+    text-length b (codes " (&)[") digits 93,
+  );
+  is_reference_head = λ c. refl;
+  is_funarr_head = λ c. refl;
+  filled = λ c. refl;
+  is_closed = p.is_closed;
+  packless = p.packless;
+  no_void = refl;
+}
+
+-- and so does an array, with a mark where it is pointed or referred to.
 pub array-element : {detail : Detail} (extra : ℕ) (access : Access) (digits : List ℕ) → IsUnmarked digits → (t : Term) (b : List ℕ) (r : Bool) → Prints detail t b r
     → IsElement detail extra (accessed access (array digits t)) (b ++ array_opening access ++ digits ++ codes "]")
 unfolding parts_in left_parts right_parts marked_parts reference_parts closing_right head head_with is_reference is_funarr not_empty is_empty is_open pack_length is_void
@@ -221,22 +247,5 @@ array-element {detail} extra accesses.Pointer digits plain t b r p = let a = arr
   packless = p.packless;
   void = λ e. cc e;
 }
-array-element {detail} extra accesses.Lvalue digits plain t b r p = let a = array digits t in record {
-  both_texts = λ c.
-      ap (λ k. k ++ text_of (written_of detail right c (lvalue a))) (text_shown detail left c (lvalue a) (as_item left c a ∷ says "(&" ∷ []) refl refl)
-      ∙ ap (λ k. (text_of (written_of detail left c a) ++ codes "(&") ++ k) (text_shown detail right c (lvalue a) (says ")" ∷ as_item right c a ∷ []) refl refl)
-      ∙ marked_text (text_of (written_of detail left c a)) (text_of (written_of detail right c a)) b digits (codes "&") (codes "[") (codes "]") (array-left-text c digits t b r p) (array-right-text c digits plain t b r p);
-  cost = λ c. omega (
-    arith,
-    p.cost c,
-    array-left-cost c digits t b r p,
-    array-right-cost detail c digits t,
-    cost_shown detail left c (lvalue a) (as_item left c a ∷ says "(&" ∷ []) refl refl,
-    cost_shown detail right c (lvalue a) (says ")" ∷ as_item right c a ∷ []) refl refl,
-    text-length b (codes " (&)[") digits 93,
-  );
-  filled = λ c. refl;
-  is_closed = p.is_closed;
-  packless = p.packless;
-  void = λ e. cc e;
-}
+array-element {detail} extra accesses.Lvalue digits plain t b r p =
+    around-element extra (lvalue (array digits t)) (b ++ array_opening accesses.Lvalue ++ digits ++ codes "]") (array-around digits plain t b r p)

@@ -2,7 +2,7 @@
 use Rattle.cpp_direct.specs.AllTerms.{as_item, Context, Detail, first, first_of, first_parts, is_empty, is_open, is_void, left, left_parts, list, list_part, more, more_parts, nil, not_empty, pack, pack_length, parts_in, right, right_parts, says, Term}
 use Rattle.std.proofs.Common.{◌≡◌, ◌≢◌, inl, inr, refl, ap, sym, subst, ◌∙◌, ℕ, ◌+◌, ◌*◌, ◌≤◌, List, [], ◌∷◌, ◌++◌, length, Bool, true, false, None, arith, codes, length-append, append-nil, append_assoc}
 use Rattle.sym_print.specs.Unshared.{text_of, cost_of}
-use Rattle.cpp_direct.specs.AllStates.{AreSingle, in_front_of_next, IsElement, IsElementAs, IsElementGiven, IsElementIn, IsGiven, IsTail, joined, list_of, list_with, Names, PrintAll, PrintAllAs, PrintAllBy, PrintAllIn, PrintEach, PrintEachBy, PrintEachIn, Prints, PrintsAs, PrintsIn, written_of}
+use Rattle.cpp_direct.specs.AllStates.{AreSingle, in_front_of_next, IsElement, IsElementAs, IsElementGiven, IsElementIn, IsGiven, IsTail, joined, list_of, list_with, Names, PrintAll, PrintAllAs, PrintAllBy, PrintAllIn, PrintEach, PrintEachBy, PrintEachIn, Prints, PrintsAround, PrintsAs, PrintsIn, PrintsListed, written_of}
 use Rattle.cpp_direct.proofs.PrintedParts.{shown_by, text_shown, cost_shown}
 
 -- ## What a list prints
@@ -246,6 +246,23 @@ type-element extra t b r p = record {
   packless = p.packless;
   void = p.void;
 }
+
+-- A reference that prints on both sides of a name is one, too,
+pub around-element : {detail : Detail} (extra : ℕ) (t : Term) (b : List ℕ) → PrintsAround detail t b → IsElement detail extra t b
+around-element extra t b p = record {
+  both_texts = p.both_texts;
+  cost = λ c. omega (arith, p.cost c);
+  filled = p.filled;
+  is_closed = p.is_closed;
+  packless = p.packless;
+  void = λ e. cc (sym p.no_void ∙ e);
+}
+
+-- and so is what is listed.
+pub listed-element : {detail : Detail} (in_pack : Bool) (extra : ℕ) (t : Term) (b : List ℕ) (r : Bool) → PrintsListed in_pack detail t b r → IsElement detail extra t b
+listed-element false extra t b r p = type-element extra t b r p
+listed-element true extra t b r (inl p) = type-element extra t b r p
+listed-element true extra t b r (inr p) = around-element extra t b p.1
 
 -- What prints in a context prints as an element there.
 pub type-in : {detail : Detail} (c : Context) (extra : ℕ) (t : Term) (b : List ℕ) (r : Bool) → 3 ≤ extra → PrintsIn detail c 3 t b r

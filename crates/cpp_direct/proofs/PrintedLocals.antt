@@ -1,6 +1,6 @@
 -- Entities and types in encodings, and guard variables.
 use Rattle.std.proofs.Common.{◌≡◌, ◌≢◌, refl, ap, sym, ◌∙◌, ℕ, List, [], ◌∷◌, ◌++◌, length, Bool, false, None, true, arith, codes, length-append, append-nil, subst, append_assoc}
-use Rattle.cpp_direct.specs.AllTerms.{absent, address_of, any_value, as_item, bare_parts, component_parts, Detail, encoding_of, encoding_text, entity_of, first_of, full_parts, function, function_bare, function_full, has_parameters, is_open, lambda, last_piece, left_parts, list_part, nil, not_empty, object, opening_text, pack_length, parts_in, piece_parts, prefix_item, qualifier_text, Qualifiers, qualifiers_of, ref_of, ref_text, RefQualifier, right_parts, says, source, source_text, Term, tree_of, unqualified, Value, within, within_parts}
+use Rattle.cpp_direct.specs.AllTerms.{absent, address_of, any_value, as_item, bare_parts, component_parts, Detail, encoding_of, encoding_text, entity_of, first_of, full_parts, function, function_bare, function_full, has_parameters, is_open, lambda, last_piece, left_parts, list_part, local, nil, not_empty, object, opening_text, pack_length, parts_in, piece_parts, prefix_item, qualifier_text, Qualifiers, qualifiers_of, ref_of, ref_text, RefQualifier, right_parts, says, source, source_text, Term, tree_of, unqualified, Value, within, within_parts}
 use Rattle.sym_print.specs.Unfold.{text}
 use Rattle.sym_print.specs.Unshared.{text_of, cost_of}
 use Rattle.cpp_grammar.specs.Items.{full, bare, left, piece, Context, closed, right, first}
@@ -10,7 +10,8 @@ use Rattle.cpp_direct.proofs.PrintedNames.{as-name, besides, own-prints}
 use Rattle.cpp_direct.proofs.PrintedNests.{IsPiece, source-opening, source-piece, within-cost, within-text}
 use Rattle.cpp_direct.proofs.PrintedSymbols.{encoding-object, object-shows}
 use Rattle.std.specs.Prelude.{decimal}
-use Rattle.cpp_direct.specs.HolesOfLocals.{Discriminator, entity_in, local_in}
+use Rattle.cpp_grammar.specs.Meaning.{discriminator_of}
+use Rattle.cpp_direct.specs.HolesOfLocals.{Discriminator, discriminator_value, entity_in, local_in}
 use Rattle.cpp_direct.proofs.PrintedFunctions.{closed-list, packless-list}
 use Rattle.cpp_direct.proofs.PrintedLists.{list-text, list-cost}
 
@@ -82,6 +83,45 @@ component-prints {detail} t b h p n q =
         length-append {A = ℕ},
       );
     }) (rw (h.is_closed, q.is_closed) refl) (λ scope. rw (h.packless scope, q.packless scope) refl) q.opening (λ c. refl)
+
+-- A piece in an encoding prints both.
+pub enclosed-prints : {detail : Detail} (e : Term) (b : List ℕ) → Encloses detail e b → (p : Term) (n : List ℕ) → PrintsPiece detail p n
+    → Prints detail (within e p) (b ++ codes "::" ++ n) false
+unfolding parts_in right_parts not_empty is_open pack_length last_piece besides first_of
+enclosed-prints {detail} e b h p n q =
+    let w = within e p in
+    own-prints w (b ++ codes "::" ++ n) (record {
+      left_text = λ c. within-text detail c bare closed e b h.bare_text p n (q.as_component c e ∙ h.as_prefix c p) (q.piece_text c);
+      cost = λ c. omega (
+        arith,
+        h.bare_cost,
+        q.piece_cost c,
+        within-cost detail c bare closed e p (q.as_component c e ∙ h.as_prefix c p),
+        cost_shown detail right c w [] refl refl,
+        length-append {A = ℕ},
+      );
+    }) (rw (h.is_closed, q.is_closed) refl) (λ scope. rw (h.packless scope, q.packless scope) refl) q.opening (λ c. refl)
+
+-- A member function in an encoding has the text of its name there, in which this piece is the last.
+pub member-prints : {detail : Detail} (e t : Term) (b : List ℕ) → Prints detail t b false → (p : Term) (n : List ℕ) → PrintsPiece detail p n → (digit : Discriminator)
+    → PrintsName detail (local e (within t p) (discriminator_of (discriminator_value digit))) (b ++ codes "::" ++ n)
+unfolding parts_in left_parts right_parts piece_parts not_empty entity_of
+member-prints {detail} e t b h p n q digit =
+    let w = within t p in
+    let u = local e w (discriminator_of (discriminator_value digit)) in
+    record {
+      left_text = λ c. text_shown detail left c u (as_item left c w ∷ []) refl refl ∙ append-nil (text_of (written_of detail left c w))
+          ∙ within-text detail c left c t b (h.left_text c) p n (q.as_component c t ∙ h.as_prefix c p) (q.piece_text c);
+      cost = λ c. omega (
+        arith,
+        h.cost c,
+        q.piece_cost c,
+        within-cost detail c left c t p (q.as_component c t ∙ h.as_prefix c p),
+        cost_shown detail left c u (as_item left c w ∷ []) refl refl,
+        cost_shown detail right c u [] refl refl,
+        length-append {A = ℕ},
+      );
+    }
 
 -- A type in a function prints the function and its own name.
 pub local-prints : {detail : Detail} (e : Term) (b : List ℕ) → Encloses detail e b → (p : Term) (n : List ℕ) → PrintsPiece detail p n → (digit : Discriminator)

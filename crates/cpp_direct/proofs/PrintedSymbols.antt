@@ -1,6 +1,6 @@
 -- Encodings with a known text, and the symbols that they are.
 use Rattle.std.proofs.Common.{◌≡◌, ◌≢◌, refl, ap, sym, ◌∙◌, ℕ, ◌*◌, ◌≤◌, List, [], ◌∷◌, ◌++◌, length, Bool, true, false, ◌&&◌, arith, codes, nat_eq, length-append, append-nil, append_assoc, subst}
-use Rattle.cpp_direct.specs.AllTerms.{absent, adjusting, any_value, as_item, begins_parameters, builtin, by_table, clone, clone_text, closed, Context, covariant, Detail, encoding_of, encoding_text, explicit_object, first, full, full_parts, function, function_bare, function_full, has_arguments, has_parameters, has_return_type, is_nil, is_void, left, left_parts, list, list_part, look_up, lvalue_only, named_special_texts, nil, non_virtual, not_empty, object, of_name, parameters, parts_in, Qualifiers, qualifiers_of, ref_of, RefQualifier, right, root, root_item, root_parts, rvalue_only, same_bytes, says, shown, special, special_texts, symbol, Term, text_part, Thunk, thunk, thunk_text, tree_of, types_of, Value}
+use Rattle.cpp_direct.specs.AllTerms.{absent, adjusting, any_value, as_item, begins_parameters, builtin, by_table, clone, clone_text, closed, construction, Context, covariant, Detail, encoding_of, encoding_text, explicit_object, first, full, full_parts, function, function_bare, function_full, has_arguments, has_parameters, has_return_type, is_nil, is_void, left, left_parts, list, list_part, look_up, lvalue_only, named_special_texts, nil, non_virtual, not_empty, object, of_name, parameters, parts_in, Qualifiers, qualifiers_of, ref_of, RefQualifier, right, root, root_item, root_parts, rvalue_only, same_bytes, says, shown, special, special_texts, symbol, Term, text_part, Thunk, thunk, thunk_text, tree_of, types_of, Value}
 use Rattle.sym_print.specs.Unfold.{text}
 use Rattle.sym_print.specs.Unshared.{text_of, cost_of}
 use Rattle.cpp_direct.specs.declared.open.Mark.{Mark}
@@ -170,6 +170,41 @@ special-shows {detail} letter filled t b p =
         first_cost_shown detail k behind,
         length-filled k filled,
         length-append k b,
+      );
+    }
+
+table_text : (k x r m y z b c : List ℕ) → x ++ r ≡ b → y ++ z ≡ c → k ++ ((x ++ (r ++ [])) ++ (m ++ (y ++ (z ++ [])))) ≡ k ++ b ++ m ++ c
+table_text k x r m y z b c e f =
+    ap (λ l. k ++ ((x ++ l) ++ (m ++ (y ++ (z ++ []))))) (append-nil r) ∙ ap (λ l. k ++ (l ++ (m ++ (y ++ (z ++ []))))) e
+    ∙ ap (λ l. k ++ (b ++ (m ++ (y ++ l)))) (append-nil z) ∙ ap (λ l. k ++ (b ++ (m ++ l))) f ∙ simp append_assoc
+
+-- A construction table prints what it is, its base class, and the derived one.
+pub table-shows : {detail : Detail} (derived parent : Term) (digits b c : List ℕ) → IsElement detail 0 parent b → IsElement detail 0 derived c
+    → Shows detail (construction derived digits parent) (codes "construction vtable for " ++ b ++ codes "-in-" ++ c)
+unfolding parts_in full_parts not_empty
+table-shows {detail} derived parent digits b c p q =
+    let k : List ℕ = codes "construction vtable for " in
+    let m : List ℕ = codes "-in-" in
+    let t = construction derived digits parent in
+    let base = as_item left closed parent ∷ as_item right closed parent ∷ [] in
+    let last = as_item left closed derived ∷ as_item right closed derived ∷ [] in
+    let behind = base ++ (text m ∷ last) in
+    record {
+      shown_text = text_shown detail full closed t (text k ∷ behind) refl refl ∙ first_shown detail k behind refl
+          ∙ ap (λ l. k ++ l) (text_append detail base (text m ∷ last)
+          ∙ ap (λ l. text_of (shown_by detail base) ++ l) (first_shown detail m last refl))
+          ∙ table_text k (text_of (written_of detail left closed parent)) (text_of (written_of detail right closed parent)) m
+          (text_of (written_of detail left closed derived)) (text_of (written_of detail right closed derived)) b c (p.both_texts closed) (q.both_texts closed);
+      shown_cost = omega (
+        arith,
+        p.cost closed,
+        q.cost closed,
+        cost_shown detail full closed t (text k ∷ behind) refl refl,
+        first_cost_shown detail k behind,
+        cost_append detail base (text m ∷ last),
+        first_cost_shown detail m last,
+        length-append (b ++ m) c,
+        length-append b m,
       );
     }
 

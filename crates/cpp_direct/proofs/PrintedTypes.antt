@@ -3,7 +3,7 @@ use Rattle.cpp_direct.specs.AllTerms.{absent, arguments_of, as_item, attached_pa
 use Prim.Native.String.{String}
 use Rattle.sym_print.specs.Unfold.{text}
 use Rattle.cpp_direct.proofs.PrintedParts.{text_shown, cost_shown, alone_shown, first_cost_shown}
-use Rattle.cpp_direct.specs.Prints.{Prints, PrintsIn, PrintsGiven, PrintsAs, Named, Names, IsGiven, AreSingle, EndsAsInteger, joined_to, written_of, IsUnmarked, unmarked_parts, written_in}
+use Rattle.cpp_direct.specs.Prints.{IsElementIn, Prints, PrintsAround, PrintsIn, PrintsGiven, PrintsAs, Named, Names, IsGiven, AreSingle, EndsAsInteger, joined_to, written_of, IsUnmarked, unmarked_parts, written_in}
 use Rattle.cpp_grammar.specs.Items.{closed, Form, left, right, piece, low, Context, Head, lref, collapsed, head_with, head, is_reference, is_funarr, is_empty, argument, head_closed, indexed, own_argument}
 use Rattle.std.proofs.Common.{◌≡◌, refl, ap, ◌∙◌, ℕ, ◌+◌, ◌*◌, ◌≤◌, List, [], ◌∷◌, ◌++◌, length, Bool, true, false, nat_eq, None, arith, codes, length-append, sym, subst, append-nil, Some}
 use Rattle.sym_print.specs.Unshared.{text_of, cost_of}
@@ -345,3 +345,56 @@ unfolding pack_length is_function_type length_if_pack prefix_item component_part
 rvalue-given names k b e =
     let n : Named = record { bytes = b; reference = true } in
     made-given names (rvalue (parameter k)) b true (λ c given. rvalue-again c k b (given k n e)) (λ arguments single. single k n e) refl refl (λ c p. refl) refl
+
+-- ## Parameters that name a reference with text on both sides of a name
+
+named-around : {detail : Detail} (form : Form) (k : ℕ) (a : Term) (b : List ℕ) → PrintsAround detail a b → parameter_parts form k a ≡ as_item form closed a ∷ []
+unfolding parameter_parts head head_with is_reference
+named-around form k (declaring heads parameters) b p = cc (p.is_reference_head closed)
+named-around form k _ b p = refl
+
+-- A parameter prints it,
+pub parameter-around : {detail : Detail} (c : Context) (k : ℕ) (b : List ℕ) → PrintsAround detail (argument c k) b → IsElementIn detail c 3 (parameter k) b
+unfolding parts_in left_parts right_parts not_empty is_empty is_void
+parameter-around {detail} c k b p =
+    let t = parameter k in
+    let a = argument c k in
+    let before = text_shown detail left c t (as_item left closed a ∷ []) (named-around left k a b p) refl ∙ append-nil (text_of (written_of detail left closed a)) in
+    let behind = text_shown detail right c t (as_item right closed a ∷ []) (named-around right k a b p) refl ∙ append-nil (text_of (written_of detail right closed a)) in
+    record {
+      both_texts = ap (λ l. l ++ text_of (written_of detail right c t)) before ∙ ap (λ l. text_of (written_of detail left closed a) ++ l) behind ∙ p.both_texts closed;
+      cost = omega (
+        arith,
+        p.cost closed,
+        cost_shown detail left c t (as_item left closed a ∷ []) (named-around left k a b p) refl,
+        cost_shown detail right c t (as_item right closed a ∷ []) (named-around right k a b p) refl,
+      );
+      filled = refl;
+      void = λ e. cc e;
+    }
+
+-- and so does an rvalue reference to it.
+pub rvalue-around : {detail : Detail} (c : Context) (k : ℕ) (b : List ℕ) → PrintsAround detail (argument c k) b → IsElementIn detail c 3 (rvalue (parameter k)) b
+unfolding parts_in left_parts right_parts not_empty head head_closed head_with argument own_argument is_empty is_void reference_parts closing_right
+rvalue-around {detail} c k b p =
+    let u = parameter k in
+    let a = argument c k in
+    let ps = as_item left c u ∷ [] in
+    let is : reference_parts c left u "&&" ≡ ps = rw (p.is_reference_head closed, reference_parts) refl in
+    let shut = closing c u (p.is_funarr_head closed) in
+    let before = text_shown detail left c (rvalue u) ps is refl ∙ append-nil (text_of (written_of detail left c u)) in
+    let behind = text_shown detail right c (rvalue u) (as_item right c u ∷ []) shut refl ∙ append-nil (text_of (written_of detail right c u)) in
+    record {
+      both_texts = ap (λ l. l ++ text_of (written_of detail right c (rvalue u))) before ∙ ap (λ l. text_of (written_of detail left c u) ++ l) behind
+          ∙ (parameter-around c k b p).both_texts;
+      cost = omega (
+        arith,
+        p.cost closed,
+        cost_shown detail left c u (as_item left closed a ∷ []) (named-around left k a b p) refl,
+        cost_shown detail right c u (as_item right closed a ∷ []) (named-around right k a b p) refl,
+        cost_shown detail left c (rvalue u) ps is refl,
+        cost_shown detail right c (rvalue u) (as_item right c u ∷ []) shut refl,
+      );
+      filled = refl;
+      void = λ e. cc e;
+    }

@@ -1,6 +1,6 @@
 -- What a parameter of a template may name, and where it is.
 use Rattle.cpp_direct.specs.AllTerms.{arguments_of, Around, before_arguments, count, Detail, element, has_return_type, inside, instance, is_structor, qualifiers_of, ref_of, Term, tree, tree_of, types_of}
-use Rattle.std.proofs.Common.{◌+◌, ◌≡◌, ℕ, zero, suc, ◌<◌, List, [], ◌∷◌, ◌++◌, length, slice_get, Some, None, is_some, arith, ap, sym, ◌∙◌, subst, refl, true, false}
+use Rattle.std.proofs.Common.{Bool, ◌+◌, ◌≡◌, ℕ, zero, suc, ◌<◌, List, [], ◌∷◌, ◌++◌, length, slice_get, Some, None, is_some, arith, ap, sym, ◌∙◌, subst, refl, true, false}
 use Rattle.std.proofs.lemmas.Bool.{false≢true}
 use Rattle.cpp_grammar.specs.Values as values
 use Rattle.cpp_direct.specs.declared.open.Mark.TheVariants as marks
@@ -9,7 +9,8 @@ use Rattle.cpp_direct.proofs.Kept.{none-known, placed-stays}
 
 -- trees stay at their places where more is written
 
-one-stays : {detail : Detail} (text more : List ℕ) (p : Argument) (k : ℕ) (ts : List Term) → IsAmong detail text p k ts → IsAmong detail (text ++ more) p k ts
+one-stays : {detail : Detail} {in_pack : Bool} (text more : List ℕ) (p : Argument) (k : ℕ) (ts : List Term) → IsAmong in_pack detail text p k ts
+    → IsAmong in_pack detail (text ++ more) p k ts
 one-stays text more p k ts h = record {
   bytes = h.bytes;
   placed = placed-stays text more p h.bytes h.placed;
@@ -49,8 +50,10 @@ pub no-arguments : {detail : Detail} (text : List ℕ) (name : Term) → HasArgu
 no-arguments text name = (λ k single. absurd (none-known k single.0), λ e. cc e)
 
 -- they also stay while they are read
-pub among-stay : {detail : Detail} (text more : List ℕ) (a : Arguments) (ts : List Term) → AreAmong detail text a ts → AreAmong detail (text ++ more) a ts
-among-stay text more a ts known k o = one-stays text more (place_of a k) k ts (known k o)
+pub among-stay : {detail : Detail} (is_pack : Bool) (text more : List ℕ) (a : Arguments) (ts : List Term) → AreAmong is_pack detail text a ts
+    → AreAmong is_pack detail (text ++ more) a ts
+among-stay is_pack text more a ts known =
+    (λ k o single. one-stays text more (place_of a k) k ts (known.0 k o single), λ e k o. one-stays text more (place_of a k) k ts (known.1 e k o))
 
 -- and after the last of them
 pub known-stay : {detail : Detail} (text more : List ℕ) (a : Arguments) (ts : List Term) (tail : Term) → AreKnown detail text a ts tail

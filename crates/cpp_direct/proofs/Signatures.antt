@@ -1,16 +1,16 @@
 -- A writer within a function type: where it begins, after its return type, between its parameters, and after it; and within an array.
 use Rattle.std.proofs.Common.{◌≡◌, ◌≢◌, inl, inr, ℕ, ◌+◌, ◌-◌, length, List, [], ◌∷◌, ◌++◌, reverse, Bool, true, false, refl, ap, sym, take, ◌∙◌, subst, arith, codes, append_assoc, append-nil, nat_eq, ◌≤◌, drop, slice_get, Some, if◌then◌else◌}
 use Rattle.std.specs.List.{ends_with}
-use Rattle.cpp_direct.specs.AllTerms.{among, Around, array, builtin, is_name_byte, Kind, list, lvalue, nil, outermost, pointer, State, Term, tree}
-use Rattle.cpp_direct.specs.AllStates.{Access, AreCandidates, Arguments, AwaitsParameter, AwaitsSignature, below, Candidate, detail_of, Direct, ElementOf, hidden, hidden_behind, is_builtin, IsArrayRead, IsElement, IsElementPassed, IsElementRead, IsFunctionRead, IsReadable, IsReturned, IsScoped, IsUnmarked, IsWriting, list_with, Mark, Marks, Open, opening_text, OpensEntry, PrintAll, Scope, Stands, Symbol, TakesFunction, with_hidden, Writes}
-use Rattle.cpp_direct.specs.AllHoles.{Comes, Expects, FunctionOpened, IsQualifiable, IsReferable, IsSizeAt, NoReference, Opened, SignatureGoesOn, StandsAt, access_letters, accessed, array_opening, candidate, is_marked, plain_function, pointed, reference, reference_letter, with_accessed, with_candidate, with_pointed}
+use Rattle.cpp_direct.specs.AllTerms.{among, Around, array, builtin, Detail, is_name_byte, Kind, list, lvalue, nil, outermost, pointer, State, Term, tree}
+use Rattle.cpp_direct.specs.AllStates.{Access, AreCandidates, Arguments, AwaitsParameter, AwaitsSignature, below, Candidate, detail_of, Direct, ElementOf, hidden, hidden_behind, is_builtin, IsArrayRead, IsElement, IsElementPassed, IsElementRead, IsFunctionRead, IsReadable, IsReturned, IsScoped, IsUnmarked, IsWriting, list_with, Mark, Marks, Open, opening_text, OpensEntry, PrintAll, Prints, PrintsAround, Scope, Stands, Symbol, TakesFunction, with_hidden, Writes}
+use Rattle.cpp_direct.specs.AllHoles.{Comes, Expects, FunctionOpened, IsQualifiable, IsReferable, IsSizeAt, NoReference, Opened, SignatureGoesOn, StandsAt, access_letters, accessed, array_opening, candidate, is_lvalue, is_marked, plain_function, pointed, reference, reference_letter, with_accessed, with_candidate, with_pointed}
 use Rattle.cpp_direct.proofs.Ending.{no-void}
 use Rattle.cpp_direct.proofs.Handed.{first-type, value-element}
 use Rattle.cpp_direct.proofs.Kept.{kept-grown, kept-same, kept-written, candidates-more, reverse-last, type-comes, kept-as}
 use Rattle.cpp_direct.proofs.Listed.{TakesElements, last-found, comma, in-front}
 use Rattle.cpp_direct.proofs.Moves.{stands-split}
 use Rattle.cpp_direct.proofs.MovesOfTypes.{parameter-opens, reference-opens, signature-ends, builtin-comes, function-opens, pointed-function-opens, array-opens}
-use Rattle.cpp_direct.proofs.PrintedFunctions.{function-element, void-function-element, array-element}
+use Rattle.cpp_direct.proofs.PrintedFunctions.{function-element, void-function-element, array-around, array-element}
 use Rattle.cpp_direct.proofs.PrintedLists.{list-more, none-print, none-text}
 use Rattle.cpp_direct.proofs.Scopes.{none-scoped}
 use Rattle.cpp_direct.proofs.TypesRead.{popped, reference_entry, whole-awaited}
@@ -260,7 +260,7 @@ still-popped s old new is_pointer p left size same length_is is =
 -- a function type is an element or a parameter
 pub function-handed : (s : Symbol) (old new : Direct) (is_pointer : Bool) (p : IsFunctionRead s old is_pointer)
     → new.text.list.items ≡ old.text.list.items ++ codes ")" → new.candidates.list.items ≡ with_hidden old is_pointer → new.has_scope ≡ old.has_scope → reverse new.waiting.list.items ≡ p.taker.rest
-    → new.at ≡ old.at → IsElementPassed s new
+    → new.at ≡ old.at → IsElementPassed s new false
 function-handed s old new is_pointer p text candidates scope_same waits at =
     let own = pointed is_pointer p.made in
     let then_ = with_pointed is_pointer p.taker.made_in p.made p.state in
@@ -280,23 +280,25 @@ function-handed s old new is_pointer p text candidates scope_same waits at =
         stands = subst (λ ws. Stands s p.scope ws p.taker.outer p.taker.front) (sym waits) p.taker.stands;
       };
       takes = subst TakesFunction (sym waits) p.taker.takes;
+      refers = λ e. cc e;
     }
 
 -- an entry that accepts a function type, and isn't parameters or a special object, accepts elements
 pub takes-as-element : (o : Open) (rest : List Open) → TakesFunction (o ∷ rest) → ((x : Mark) (y : ℕ) (z : Arguments) → o ≡ opens.Parameters x y z → ⊥)
     → (o ≡ opens.Special → ⊥) → ((x : Mark) (y t : ℕ) → o ≡ opens.Enclosing x y t → ⊥)
-    → ((x : Mark) (y t : ℕ) (w : Arguments) → o ≡ opens.EnclosingInstance x y t w → ⊥) → TakesElements o
-takes-as-element (opens.TypeArguments from is_dependent) rest takes apart z m i = tt
-takes-as-element (opens.NestArguments nest) rest takes apart z m i = tt
-takes-as-element (opens.FirstArguments nest) rest takes apart z m i = tt
-takes-as-element (opens.NameArguments from) rest takes apart z m i = tt
-takes-as-element (opens.LevelArguments is_dependent) rest takes apart z m i = tt
-takes-as-element opens.Pack rest takes apart z m i = tt
-takes-as-element (opens.Parameters x y w) rest takes apart z m i = absurd (apart x y w refl)
-takes-as-element opens.Special rest takes apart z m i = absurd (z refl)
-takes-as-element (opens.Enclosing x y t) rest takes apart z m i = absurd (m x y t refl)
-takes-as-element (opens.EnclosingInstance x y t w) rest takes apart z m i = absurd (i x y t w refl)
-takes-as-element _ rest takes apart z m i = absurd takes
+    → ((x : Mark) (y t : ℕ) (w : Arguments) → o ≡ opens.EnclosingInstance x y t w → ⊥) → ((x y : ℕ) (w : Arguments) → o ≡ opens.Element x y w → ⊥) → TakesElements o
+takes-as-element (opens.TypeArguments from is_dependent) rest takes apart z m i e = tt
+takes-as-element (opens.NestArguments nest) rest takes apart z m i e = tt
+takes-as-element (opens.FirstArguments nest) rest takes apart z m i e = tt
+takes-as-element (opens.NameArguments from) rest takes apart z m i e = tt
+takes-as-element (opens.LevelArguments is_dependent) rest takes apart z m i e = tt
+takes-as-element opens.Pack rest takes apart z m i e = tt
+takes-as-element (opens.Parameters x y w) rest takes apart z m i e = absurd (apart x y w refl)
+takes-as-element opens.Special rest takes apart z m i e = absurd (z refl)
+takes-as-element (opens.Enclosing x y t) rest takes apart z m i e = absurd (m x y t refl)
+takes-as-element (opens.EnclosingInstance x y t w) rest takes apart z m i e = absurd (i x y t w refl)
+takes-as-element (opens.Element x y w) rest takes apart z m i e = absurd (e x y w refl)
+takes-as-element _ rest takes apart z m i e = absurd takes
 
 -- ## The beginning of an array
 
@@ -350,11 +352,17 @@ size-unmarked s from to digits readable ordered inside is =
     each-unmarked (λ b. is_name_byte Cpp b ≡ true) name-byte digits
     (all-reached digits (own-each s from (to - from) digits (omega (arith, ordered, inside)) (omega (arith, ordered, inside)) (sym is) readable.plain))
 
+refers-around : {detail : Detail} (access : Access) (digits : List ℕ) → IsUnmarked digits → (t : Term) (b : List ℕ) (r : Bool) → Prints detail t b r → is_lvalue access ≡ true
+    → PrintsAround detail (accessed access (array digits t)) (b ++ array_opening access ++ digits ++ codes "]")
+refers-around accesses.Plain digits plain t b r p e = cc e
+refers-around accesses.Pointer digits plain t b r p e = cc e
+refers-around accesses.Lvalue digits plain t b r p e = array-around digits plain t b r p
+
 pub array-written : (s : Symbol) → IsReadable s.bytes → (w begun first second third last : Direct) (access : Access) (from to : ℕ) (p : IsArrayRead s w access from to) (size : List ℕ)
     → begun.text ≡ w.text → begun.candidates ≡ w.candidates → begun.has_scope ≡ w.has_scope → begun.at ≡ w.at → reverse begun.waiting.list.items ≡ p.taker.rest
     → Writes begun first (array_opening access) → size ≡ values.normal (take (to - from) (drop from s.bytes)) → Writes first second size
     → Writes second third (codes "]") → last.candidates.list.items ≡ with_hidden third (is_marked access) → last.text ≡ third.text → last.waiting ≡ third.waiting
-    → last.has_scope ≡ third.has_scope → last.at ≡ third.at → IsElementPassed s last
+    → last.has_scope ≡ third.has_scope → last.at ≡ third.at → IsElementPassed s last (is_lvalue access)
 array-written s readable w begun first second third last access from to p size text candidates scope_same at waits one size_is two three more same_text same_waits
     same_scope same_at =
     let opening = array_opening access in
@@ -389,12 +397,13 @@ array-written s readable w begun first second third last access from to p size t
         stands = subst (λ ws. Stands s p.scope ws p.taker.outer p.taker.front) (sym open_is) p.taker.stands;
       };
       takes = subst TakesFunction (sym open_is) p.taker.takes;
+      refers = refers-around access digits plain p.first.own p.first.bytes p.first.is_reference p.first.prints;
     }
 
 -- ## An array, forwarded
 
 -- the innermost entry accepts what prints on both sides of a name
-pub passed-on : (s : Symbol) (w : Direct) (o : Open) → IsElementPassed s w → slice_get w.waiting.list.items (length w.waiting.list.items - 1) ≡ Some o
+pub passed-on : (s : Symbol) (w : Direct) {is_reference : Bool} (o : Open) → IsElementPassed s w is_reference → slice_get w.waiting.list.items (length w.waiting.list.items - 1) ≡ Some o
     → IsElementRead s w o
 passed-on s w o p found =
     let last = last-found w.waiting.list.items o found in

@@ -3,12 +3,12 @@ use Rattle.cpp_direct.proofs.Unmarked.{name-unmarked}
 use Rattle.cpp_direct.proofs.Scopes.{no-arguments}
 use Rattle.std.proofs.Common.{◌≡◌, ◌≢◌, ℕ, ◌+◌, length, List, [], ◌∷◌, ◌++◌, Bool, true, false, not, cond, refl, ap, sym, subst, ◌∙◌, arith, append_assoc, codes, append-nil}
 use Rattle.std.proofs.lemmas.Bool.{false≢true}
-use Rattle.cpp_direct.specs.AllTerms.{after, alone, any_value, arguments_of, encoding_of, first_around, first_state, has_return_type, in_name, in_std, in_types, inside, instance, is_structor, Kind, may_be_empty, no_items, object, of_name, operator, source, source_text, Term, with_tag}
+use Rattle.cpp_direct.specs.AllTerms.{after, alone, any_value, arguments_of, encoding_of, first_around, first_state, has_return_type, in_name, in_std, in_types, inside, instance, is_structor, Kind, may_be_empty, no_items, object, of_name, operator, source, source_text, State, Term, tree_of, Value, with_tag}
 use Rattle.cpp_grammar.specs.Values.{State, piece, tree, tree_of, qualifiers_of, ref_of, Value, nothing_there, named, unqualified}
-use Rattle.cpp_direct.specs.AllStates.{added, AwaitsEncoding, AwaitsEntity, AwaitsSource, detail_of, Direct, encoding_place, EntityBehind, HasName, is_angle, is_local, IsFresh, IsNameEnded, IsOperatorAt, IsSymbolEnded, IsUnscoped, IsWriting, Kept, Lists, no_scope, nowhere, OpensArguments, operator_text, Prints, PrintsName, Reads, Shows, Symbol, tag_text, Writes}
+use Rattle.cpp_direct.specs.AllStates.{added, AwaitsEncoding, AwaitsEntity, AwaitsSource, detail_of, Direct, Encoded, encoding_place, EntityBehind, HasName, is_angle, is_local, IsFresh, IsNameEnded, IsOperatorAt, IsSymbolEnded, IsUnscoped, IsWriting, ItemsOf, Kept, Lists, no_scope, nowhere, OpensArguments, operator_text, Prints, PrintsName, Reads, Shows, Symbol, tag_text, Writes}
 use Rattle.cpp_direct.specs.AllHoles.{Comes, Discriminator, EncodingOpened, GuardOpened, IsDiscriminatorAt, IsEntityAt, IsNameAt, IsTagAt, LocalOpened, Named, Opened, StandsAt, SymbolOpened, entity_in}
 use Rattle.cpp_direct.proofs.Begins.{encoding-expected, items-await, encoded-whole}
-use Rattle.cpp_direct.proofs.Moves.{alone-arguments, expects-empty, stands-join}
+use Rattle.cpp_direct.proofs.Moves.{alone-arguments, expects-empty, stands-join, stands-split}
 use Rattle.cpp_direct.proofs.PrintedNests.{tagged-names, tagged-prints}
 use Rattle.cpp_direct.proofs.Kept.{kept-grown, kept-read, kept-same, none-kept, list-begins, kept-with}
 use Rattle.cpp_direct.proofs.NamePlaces.{reads-then, reads-of}
@@ -227,9 +227,10 @@ entity-awaited : (s : Symbol) (opened_ : SymbolOpened s) (w : Direct) (lead : Li
     → w.text.list.items ≡ lead → w.candidates.list.items ≡ [] → (w.text.list.items ≡ [] → w.at ≡ encoding_place s.bytes) → LocalOpened s outer (in_name 2) w.at first_state
     → ((t : Term) (at : ℕ) (st : State) → Comes s outer (named t unqualified any_value) at st → Comes s opened_.inner (tree (made t) true) at st)
     → ((t : Term) (bytes : List ℕ) → Shows (detail_of s) (object t unqualified any_value) bytes → Shows (detail_of s) (made t) (lead ++ bytes))
+    → (StandsAt s.bytes 2 (90 ∷ []) → (lead ≡ []) × ((v : Value) (at : ℕ) (st : State) → Comes s outer v at st → ItemsOf s 2 (λ f end last. Encoded s f end) v at st))
     → AwaitsEncoding s w
 unfolding first_state
-entity-awaited s opened_ w lead outer made is_there text_is none begins here comes_ shows_ = record {
+entity-awaited s opened_ w lead outer made is_there text_is none begins here comes_ shows_ items_ = record {
   kept = record { state = first_state; scope = no_scope; keeps = none-kept s w none (λ e. rw is_there refl) };
   around = in_name 2;
   outer = here.inner;
@@ -241,14 +242,43 @@ entity-awaited s opened_ w lead outer made is_there text_is none begins here com
         let t = entity_in e internal name digit in
         record {
           made = made t;
-          encoded = encoded-whole s opened_ (made t) end st (comes_ t end st (here.onward e at st comes internal name digit end is));
+          encoded = encoded-whole s opened_ (made t) end st (comes_ t end st ((here.onward e at st comes).0 internal name digit end is));
           shows = λ bytes p.
               let shown = bytes ++ codes "::" ++ source_text name in
               subst (λ l. Shows (detail_of s) (made t) (l ++ shown)) (sym text_is)
               (shows_ t shown (entity-shows (detail_of s) e bytes p internal name digit is.filled (name-unmarked s.bytes _ name is.middle is.is_name)));
         };
+    member = λ there two. let items = items_ two in record {
+      none = text_is ∙ items.0;
+      made = e;
+      encloses = λ bytes p. p;
+      opens = λ const on other ends letters.
+          let f = (here.onward e at st comes).1 const on other ends letters in
+          record { around = f.around; inner = f.inner; awaits = f.awaits; onward = λ t listed to now came. items.1 _ to now (f.onward t listed to now came) };
+    };
   };
 }
+
+-- where items may follow the name of a symbol's encoding, that ends the symbol with them
+items-whole : (s : Symbol) (opened_ : SymbolOpened s) (encoding_ : EncodingOpened s opened_.inner 2 first_state) (v : Value) (at : ℕ) (st : State)
+    → Comes s encoding_.inner v at st → ItemsOf s 2 (λ f end last. Encoded s f end) v at st
+unfolding in_types
+items-whole s opened_ encoding_ v at st comes =
+    let items = encoding_.onward v at st comes in
+    record {
+      around = in_types 2 (tree_of v);
+      inner = items.inner;
+      outside = refl;
+      scope_is = refl;
+      encoding_is = refl;
+      no_lambda = refl;
+      awaits = items.awaits;
+      onward = λ l end last came. encoded-whole s opened_ (encoding_of v (no_items l)) end last (items.onward l end last came);
+    }
+
+-- one byte is at a place
+one-byte : (s : List ℕ) (at a b : ℕ) → StandsAt s at (a ∷ []) → StandsAt s at (b ∷ []) → a ≡ b
+one-byte s at a b x y = cc (sym x.1 ∙ y.1)
 
 -- likewise for a symbol that has no other text
 pub local-begins : (s : Symbol) (w : Direct) → IsFresh w → is_local s.bytes ≡ true → StandsAt s.bytes 0 (95 ∷ 90 ∷ []) → StandsAt s.bytes 2 (90 ∷ [])
@@ -260,6 +290,7 @@ local-begins s w fresh is_there starts letter =
     entity-awaited s opened_ (record w { at = 3 }) [] encoding_.inner (λ t. object t unqualified any_value) is_there fresh.no_text fresh.no_candidate
     (λ none. sym (ap (λ b. cond b 3 2) is_there)) (local-opens s encoding_.inner (in_name 2) 2 first_state encoding_.awaits letter)
     (λ t at st comes. object-comes s opened_ encoding_ (named t unqualified any_value) at st comes) (λ t bytes p. p)
+    (λ two. (refl, items-whole s opened_ encoding_))
 
 -- likewise for a guard variable
 pub guard-begins : (s : Symbol) (old new : Direct) → IsFresh old → is_local s.bytes ≡ true → StandsAt s.bytes 0 (95 ∷ 90 ∷ []) → StandsAt s.bytes 2 (71 ∷ 86 ∷ [])
@@ -273,6 +304,7 @@ guard-begins s old new fresh is_there starts marks stands writes =
     (ap (λ v. v.list.items) writes.candidates ∙ fresh.no_candidate) (λ none. cc (sym text_is ∙ none))
     (local-opens s guard_.inner (in_name 2) 4 first_state guard_.awaits stands) (λ t at st comes. guard_.onward (named t unqualified any_value) at st comes)
     (λ t bytes p. guarded-shows (detail_of s) t unqualified any_value bytes p)
+    (λ two. absurd (omega (arith, one-byte s.bytes 2 71 90 (stands-split s.bytes 2 (71 ∷ []) (86 ∷ []) marks).0 two)))
 
 -- ## Ends
 

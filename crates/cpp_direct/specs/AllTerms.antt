@@ -1,6 +1,6 @@
 -- What is said of trees, of the grammar and of texts below this crate, as the proofs need it, in one place to import it from.
 pub use Rattle.cpp_grammar.specs.Answer.{root_item, shown}
-unfoldable pub use Rattle.cpp_grammar.specs.Between.{after, applied, between, extended, in_name, in_signature, in_types, index_of, inside, listed_so_far, named_so_far, no_items, parameter_so_far, under_expansion, with_tag}
+unfoldable pub use Rattle.cpp_grammar.specs.Between.{after, applied, argument_so_far, between, extended, in_name, in_signature, in_types, index_of, inside, listed_so_far, named_so_far, no_items, parameter_so_far, under_expansion, with_tag}
 pub use Rattle.cpp_grammar.specs.Between.{Continuation}
 unfoldable pub use Rattle.cpp_grammar.specs.Grammar.{alternatives, among, choose, in_ranges, is_chain, is_in, kinds, may_be_empty, number_of, number_of_kind, parts_of, pick, productions}
 unfoldable pub use Rattle.cpp_grammar.specs.Items.{argument, head, head_with, indexed, is_empty, is_funarr, is_none_of, is_reference, packs_of}
@@ -16,7 +16,7 @@ unfoldable pub use Rattle.cpp_grammar.specs.References.{appended, is_function_ty
 unfoldable pub use Rattle.cpp_grammar.specs.Scope.{arguments_of, before_arguments, count, element, first_of, has_return_type, is_open, is_structor, length_if_pack, pack_length, without_tags}
 unfoldable pub use Rattle.cpp_grammar.specs.Standing.{enclosed_argument, ends_arguments, is_code, operation_by, operation_or_address}
 unfoldable pub use Rattle.cpp_grammar.specs.Table.{abi, padded, rule_of, rule_taken, wide}
-pub use Rattle.cpp_grammar.specs.Term.{abbreviation, absent, address_of, adjusting, Adjustment, alone, any_value, array, boolean, builtin, by_table, clone, constructor, covariant, declaring, destructor, expansion, explicit_object, function, function_type, in_std, instance, integer, lambda, list, lvalue, lvalue_only, nil, non_virtual, object, of_name, operation, operator, pack, parameter, pointer, qualified, Qualifiers, RefQualifier, rvalue, rvalue_only, Signed, source, special, symbol, tagged, Term, Thunk, thunk, within}
+pub use Rattle.cpp_grammar.specs.Term.{abbreviation, absent, address_of, adjusting, Adjustment, alone, any_value, array, boolean, builtin, by_table, clone, construction, constructor, covariant, declaring, destructor, expansion, explicit_object, function, function_type, in_std, instance, integer, lambda, list, local, lvalue, lvalue_only, nil, non_virtual, object, of_name, operation, operator, pack, parameter, pointer, qualified, Qualifiers, RefQualifier, rvalue, rvalue_only, Signed, source, special, symbol, tagged, Term, Thunk, thunk, within}
 unfoldable pub use Rattle.cpp_grammar.specs.Texts.{abbreviation_texts, builtin_texts, literal_endings, look_up, named_special_texts, operator_texts, same_bytes, special_texts}
 pub use Rattle.cpp_grammar.specs.Texts.{Naming}
 unfoldable pub use Rattle.cpp_grammar.specs.Unfolding.{byte_of, close, cpp, first_state, first_tree, last_token, number_tested, opening, unfold_cpp}

@@ -31,6 +31,11 @@ abbrev pub is_marked : Access → Bool
 is_marked accesses.Plain = false
 is_marked _ = true
 
+-- it is referred to
+abbrev pub is_lvalue : Access → Bool
+is_lvalue accesses.Lvalue = true
+is_lvalue _ = false
+
 -- each of them is a candidate
 abbrev pub with_accessed : Access → Around → Term → State → State
 with_accessed accesses.Plain around t st = with_candidate around t st

@@ -4,8 +4,8 @@ use Rattle.std.specs.List.{AllByRecursion}
 use Rattle.sym_core.specs.declared.NumberKind.TheVariants.{Digits}
 use Rattle.sym_demangle.specs.Mangled.{StandsFor}
 use Rattle.cpp_grammar.specs.declared.kind.Kind.{Kind}
-use Rattle.cpp_grammar.specs.Term.{RefQualifier, any_value, lvalue_only, rvalue_only, explicit_object, Term, symbol, special, integer, address_of, pack}
-use Rattle.cpp_grammar.specs.Values.{State, Around, Value, tree, named, tree_of, signed_digits}
+use Rattle.cpp_grammar.specs.Term.{RefQualifier, any_value, lvalue_only, rvalue_only, explicit_object, Term, symbol, special, construction, integer, address_of, pack}
+use Rattle.cpp_grammar.specs.Values.{State, Around, Value, normal, tree, named, tree_of, signed_digits}
 use Rattle.cpp_grammar.specs.Between.{in_name, in_types, inside, no_items}
 use Rattle.cpp_grammar.specs.Meaning.{encoding_of}
 use Rattle.cpp_grammar.specs.Unfolding.{first_around, first_state}
@@ -79,6 +79,19 @@ EncodingOpened s outer at st = Awaits s Kind.CompleteName (in_name at) at st (λ
 abbrev pub SpecialOpened : (s : Symbol) (outer : List Opened) (encoding letter : ℕ) (at : ℕ) (st : State) → Type 0
 SpecialOpened s outer encoding letter at st = Awaits s Kind.Type (in_name encoding) at st (λ inner.
     (t : Term) (at : ℕ) (st : State) → Comes s inner (tree t true) at st → Comes s outer (tree (special letter t) true) at st)
+
+-- Expects the base class of a construction table, after its derived class, an offset and a _, and makes something of the table.
+abbrev pub BaseClassOpened : (s : Symbol) (becomes : Term → (at : ℕ) → State → Type 0) (encoding : ℕ) (derived : Term) (at : ℕ) (st : State) → Type 0
+BaseClassOpened s becomes encoding derived at st =
+    (digits : List ℕ) (end : ℕ) → IsDigitsAt s.bytes at digits end → StandsAt s.bytes end (95 ∷ [])
+    → Awaits s Kind.Type (in_name encoding) (end + 1) st (λ inner.
+    (t : Term) (at : ℕ) (st : State) → Comes s inner (tree t true) at st → becomes (construction derived (normal digits) t) at st)
+
+-- Expects the derived class of one, of an encoding that begins at a place.
+abbrev pub TableOpened : (s : Symbol) (outer : List Opened) (encoding : ℕ) (at : ℕ) (st : State) → Type 0
+TableOpened s outer encoding at st = Awaits s Kind.Type (in_name encoding) at st (λ inner.
+    (t : Term) (at : ℕ) (st : State) → Comes s inner (tree t true) at st
+    → BaseClassOpened s (λ e end now. Comes s outer (tree e true) end now) encoding t at st)
 
 -- an offset of a thunk is at the place, and this is the place after its _
 pub record IsOffsetAt (s : List ℕ) (at : ℕ) (end : ℕ) : Type 0 where

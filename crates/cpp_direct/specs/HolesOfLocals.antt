@@ -1,13 +1,13 @@
 -- What is expected in the name of a local entity, and what becomes of it.
-use Rattle.std.specs.Prelude.{◌≡◌, ◌≢◌, ℕ, ◌+◌, ◌≤◌, List, [], ◌∷◌, ◌++◌, Bool, true, false, cond, Option, Some, None}
+use Rattle.std.specs.Prelude.{◌≡◌, ◌≢◌, ℕ, ◌+◌, ◌≤◌, List, [], ◌∷◌, ◌++◌, length, Bool, true, false, cond, Option, Some, None}
 use Rattle.cpp_grammar.specs.declared.kind.Kind.{Kind}
-use Rattle.cpp_grammar.specs.Term.{Term, any_value, of_name, local, within, source, lambda}
+use Rattle.cpp_grammar.specs.Term.{Qualifiers, RefQualifier, explicit_object, Term, any_value, of_name, local, within, source, lambda}
 use Rattle.cpp_grammar.specs.Values.{State, Around, Value, local_number, normal, nothing_there, text, tree, named, unqualified, tree_of, qualifiers_of, ref_of}
 use Rattle.cpp_grammar.specs.Between.{after, in_name}
 use Rattle.cpp_grammar.specs.Meaning.{discriminator_of, parameters}
 use Rattle.cpp_direct.specs.Symbol.{Symbol}
-use Rattle.cpp_direct.specs.Holes.{Awaits, Comes, Expects, IsNameAt, Opened, StandsAt}
-use Rattle.cpp_direct.specs.HolesOfLists.{IsDigitsAt}
+use Rattle.cpp_direct.specs.Holes.{Awaits, Comes, Expects, IsNameAt, Named, NestGoesOn, Opened, StandsAt}
+use Rattle.cpp_direct.specs.HolesOfLists.{IsDigitsAt, nest_marks}
 
 -- What follows the name of an entity: nothing, a digit after a _, or digits after two and before another one.
 pub data Discriminator : Type 0 where
@@ -45,17 +45,43 @@ local_in e p digit = local e (within e p) (discriminator_of (discriminator_value
 abbrev pub entity_in : (e : Term) → (internal : Bool) → (name : List ℕ) → (digit : Discriminator) → Term
 entity_in e internal name digit = local_in e (source internal name) digit
 
--- Expects the encoding that contains an entity.
+-- Expects the first piece of a nested name in this encoding, and makes something of the name.
+pub record FirstOpened (s : Symbol) (becomes : Term → (at : ℕ) → State → Type 0) (e : Term) (at : ℕ) (st : State) : Type 0 where
+  pub around : Around
+  pub inner : List Opened
+  pub awaits : Expects s Kind.Nest (after e true around) inner at st
+  pub onward : (t : Term) (listed : Bool) (at : ℕ) (st : State) → Comes s inner (tree t listed) at st → becomes t at st
+
+-- the name of a member function that is in an encoding and has this nested name there
+abbrev pub member_in : (e : Term) → (name : Term) → Qualifiers → RefQualifier → Value
+member_in e t q on = named (local e t (discriminator_of nothing_there)) q on
+
+-- After an encoding expects an E and a nested name with these qualifiers, and makes something of the name.
+abbrev pub MemberOpened : (s : Symbol) (becomes : Value → (at : ℕ) → State → Type 0) (e : Term) (at : ℕ) (st : State) → Type 0
+MemberOpened s becomes e at st =
+    (const : Bool) (on : RefQualifier) → on ≢ explicit_object → StandsAt s.bytes at (69 ∷ []) → StandsAt s.bytes (at + 1) (nest_marks const on)
+    → FirstOpened s (λ t there now. becomes (member_in e t (record { restrict = false; volatile = false; const = const }) on) there now) e
+    (at + 1 + length (nest_marks const on)) st
+
+-- Expects the encoding that contains an entity: an object, or a member function of something else.
 abbrev pub LocalOpened : (s : Symbol) (outer : List Opened) (around : Around) (at : ℕ) (st : State) → Type 0
 LocalOpened s outer around at st = Awaits s Kind.Encoding around at st (λ inner.
-    (e : Term) (at : ℕ) (st : State) → Comes s inner (tree e true) at st → (internal : Bool) (name : List ℕ) (digit : Discriminator) (end : ℕ)
+    (e : Term) (at : ℕ) (st : State) → Comes s inner (tree e true) at st → ((internal : Bool) (name : List ℕ) (digit : Discriminator) (end : ℕ)
     → IsEntityAt s.bytes at internal name digit end → Comes s outer (named (entity_in e internal name digit) unqualified any_value) end st)
+    × MemberOpened s (λ v there now. Comes s outer v there now) e at st)
 
--- a piece is at the place as the name of a type in an encoding, and this is the place after it
-abbrev pub IsPieceAt : (s : Symbol) → (at : ℕ) → (piece : Term) → (end : ℕ) → Type 0
-IsPieceAt s at p end =
-    (os : List Opened) (around : Around) (e : Term) (st : State) → Expects s Kind.TypeEntity (after e true around) os at st
-    → Comes s os (tree (within e p) false) end st
+-- a piece is at the place as the name of a type in an encoding or the first piece of a nested one, and this is the place after it
+pub record IsPieceAt (s : Symbol) (at : ℕ) (piece : Term) (end : ℕ) : Type 0 where
+  pub as_type : (os : List Opened) (around : Around) (e : Term) (st : State) → Expects s Kind.TypeEntity (after e true around) os at st
+      → Comes s os (tree (within e piece) false) end st
+  pub as_first : (os : List Opened) (around : Around) (e : Term) (st : State) → Expects s Kind.Nest (after e true around) os at st
+      → NestGoesOn s Kind.NestRestAlone os around (within e piece) false end st
+
+-- it is there as a component of a nested name
+abbrev pub IsComponentAt : (s : Symbol) → (at : ℕ) → (piece : Term) → (end : ℕ) → Type 0
+IsComponentAt s at p end =
+    (os : List Opened) (around : Around) (t : Term) (listed : Bool) (st : State) → Expects s Kind.Component (after t listed around) os at st
+    → Named s os around (within t p) end st
 
 -- Expects the name of a type in this encoding, and makes something of the type.
 pub record EntityOpened (s : Symbol) (becomes : Term → (at : ℕ) → State → Type 0) (e : Term) (at : ℕ) (st : State) : Type 0 where
@@ -93,6 +119,12 @@ lambda_with items number = lambda (parameters items) (local_number (lambda_digit
 -- the bytes after a lambda's parameters
 abbrev pub lambda_ending : Option ℕ → List ℕ
 lambda_ending number = 69 ∷ (lambda_digits number ++ 95 ∷ [])
+
+-- The parameters of a lambda are read, before the E after them: what becomes of the lambda.
+abbrev pub LambdaEnds : (s : Symbol) → (becomes : Term → (at : ℕ) → State → Type 0) → (items : Term) → (at : ℕ) → State → Type 0
+LambdaEnds s becomes items at st =
+    (number : Option ℕ) (end : ℕ) → IsLambdaDigit number → StandsAt s.bytes at (lambda_ending number) → end ≡ at + length (lambda_ending number)
+    → becomes (lambda_with items number) end st
 
 -- Expects the name of the variable that a guard variable guards, in an encoding that begins at a place.
 abbrev pub GuardOpened : (s : Symbol) (outer : List Opened) (encoding : ℕ) (at : ℕ) (st : State) → Type 0

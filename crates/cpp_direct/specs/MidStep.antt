@@ -1,5 +1,6 @@
 -- Where a writer is between two of its functions, within a step.
-use Rattle.std.specs.Prelude.{◌≡◌, ◌≢◌, ◌⊎◌, ℕ, zero, suc, ◌+◌, List, [], ◌∷◌, ◌++◌, length, reverse, ◌≤◌, Bool, true, false, cond, Some, codes, ◌-◌, take, drop, slice_get}
+use Rattle.std.specs.Prelude.{◌≡◌, ◌≢◌, ◌⊎◌, ℕ, zero, suc, ◌+◌, List, [], ◌∷◌, ◌++◌, length, reverse, ◌≤◌, Bool, true, false, cond, Some, codes, ◌-◌, take, drop, slice_get, nat_eq}
+use Rattle.std.specs.List.{ends_with}
 use Rattle.cpp_direct.specs.Written.{Reads, Writes}
 use Rattle.cpp_direct.specs.HolesOfLists.{IsArgumentKind}
 use Rattle.cpp_direct.specs.WrittenParts.{IsUnmarked, opening_bracket}
@@ -14,6 +15,7 @@ use Rattle.cpp_grammar.specs.Meaning.{encoding_of}
 use Rattle.cpp_grammar.specs.Values as values
 use Rattle.cpp_grammar.specs.Values.{State, Around, Value, nothing_there, tree, outermost}
 use Rattle.cpp_direct.specs.Symbol.{Symbol, detail_of}
+use Rattle.cpp_direct.specs.Bytes.{is_local}
 use Rattle.cpp_direct.specs.declared.open.Mark.{Mark}
 use Rattle.cpp_direct.specs.declared.open.Candidate.{Candidate}
 use Rattle.cpp_direct.specs.declared.open.Access.{Access}
@@ -32,8 +34,8 @@ use Rattle.cpp_direct.specs.HolesOfArrays.{accessed, with_accessed}
 use Rattle.cpp_direct.specs.HolesOfLevels.{MemberComes}
 use Rattle.cpp_direct.specs.HolesOfTypes.{IsNamedKind, NoReference, TreeOpens}
 use Rattle.cpp_direct.specs.Marks.{has_const, called_on, mark_text}
-use Rattle.cpp_direct.specs.Prints.{NamesClass, Prints, PrintsName, IsElement, PrintAll, Shows, Encloses, sign_text, PrintsAs, PrintsIn, PrintAllAs, IsGiven, PrintAllBy, PrintsMade, pattern_letters}
-use Rattle.cpp_direct.specs.WriterInvariant.{AwaitsItems, TakesItems, Encoded, EncodedBehind, Fronts, IsListing, IsTail, IsTemplate, GoesOn, EnumeratorGoesOn, Owns, ParametersGoOn, Serves, Stands, TakesFunction, opening_text, qualifiers, arguments_or_pack, extra_of, led_by, list_with, in_front_of_next, ComeBefore, AreAmong, HasArguments, HasNameSo, HasPack, IsAmong, IsPackOf, IsSingle, IsKnown, IsMadeIn, IsScoped, is_type, place_of, IsNaming, IsNestScoped, Scope, below, is_noted, may_name, encoding_place, IsNesting, Kept, IsBetween, AwaitsTypeIn, HasInstance, HasParameters, IsNestSoFar, FirstType, IsTaken}
+use Rattle.cpp_direct.specs.Prints.{NamesClass, Prints, PrintsName, IsElement, PrintAll, Shows, Encloses, sign_text, PrintsAs, PrintsIn, PrintAllAs, IsGiven, PrintAllBy, PrintsAround, PrintsListed, PrintsMade, pattern_letters}
+use Rattle.cpp_direct.specs.WriterInvariant.{AwaitsItems, TakesItems, Encoded, EncodedBehind, Fronts, IsListing, IsTail, IsTemplate, GoesOn, EnumeratorGoesOn, of_template, Owns, ParametersGoOn, Serves, Stands, TakesFunction, opening_text, qualifiers, arguments_or_pack, extra_of, led_by, list_with, in_front_of_next, ComeBefore, AreAmong, HasArguments, HasNameSo, HasPack, IsAmong, IsPackOf, IsSingle, IsKnown, IsMadeIn, IsScoped, is_type, place_of, IsNaming, IsNestScoped, Scope, below, is_noted, may_name, encoding_place, IsNesting, Kept, IsBetween, AwaitsTypeIn, HasInstance, HasParameters, IsNestSoFar, FirstType, IsTaken}
 
 -- the digits after the T of a parameter with this number; there is at most one digit
 abbrev pub parameter_digits : (number : ℕ) → List ℕ
@@ -64,7 +66,7 @@ pub record AwaitsEncoding (s : Symbol) (w : Direct) : Type 0 where
   pub outer : List Opened
   pub begins : w.text.list.items ≡ [] → w.at ≡ encoding_place s.bytes
   pub awaits : Expects s Kind.Encoding around outer w.at state
-  pub onward : (e : Term) (at : ℕ) (st : State) → Comes s outer (tree e true) at st → EncodedBehind s w.text.list.items e at
+  pub onward : (e : Term) (at : ℕ) (st : State) → Comes s outer (tree e true) at st → EncodedBehind s w.text.list.items e at st
 
 -- its name is expected, or that of an object
 pub record AwaitsName (s : Symbol) (w : Direct) : Type 0 where
@@ -208,8 +210,8 @@ pub record IsArgumentRead (s : Symbol) (w : Direct) (is_pack : Bool) (from numbe
   pub written : w.text.list.items ≡ (led_by (detail_of s) (arguments_or_pack is_pack before before_text) front name ++ in_front_of_next ts texts) ++ bytes
   pub from_is : from ≡ length (led_by (detail_of s) (arguments_or_pack is_pack before before_text) front name ++ in_front_of_next ts texts)
   pub number_is : number ≡ length (before ++ ts)
-  pub among : AreAmong (detail_of s) w.text.list.items known (before ++ ts)
-  pub prints : Prints (detail_of s) t bytes is_reference
+  pub among : AreAmong is_pack (detail_of s) w.text.list.items known (before ++ ts)
+  pub prints : PrintsListed is_pack (detail_of s) t bytes is_reference
   pub goes : GoesOn s (arguments_or_pack is_pack before before_text) owner (below s scope rest) front template (ts ++ t ∷ []) w.at state
 
 -- Expects another argument after n + 1, with the known ones recorded.
@@ -232,7 +234,7 @@ pub record AwaitsKnownArgument (s : Symbol) (w : Direct) (is_pack : Bool) (last 
   pub some : ts ≢ []
   pub written : w.text.list.items ≡ led_by (detail_of s) (arguments_or_pack is_pack before before_text) front name ++ texts
   pub number_is : last + 1 ≡ length (before ++ ts)
-  pub among : AreAmong (detail_of s) w.text.list.items known (before ++ ts)
+  pub among : AreAmong is_pack (detail_of s) w.text.list.items known (before ++ ts)
   pub goes : GoesOn s (arguments_or_pack is_pack before before_text) owner (below s scope rest) front template ts w.at state
 
 -- the first piece of a nested name is expected
@@ -310,7 +312,7 @@ pub record AwaitsClass (s : Symbol) (w : Direct) : Type 0 where
 -- the known ones among arguments are at their places, and those that are in a pack
 abbrev pub AreKnown : (detail : Detail) (text : List ℕ) → Arguments → List Term → (tail : Term) → Type 0
 AreKnown detail text a ts tail =
-    ((number : ℕ) → IsSingle a number → IsAmong detail text (place_of a number) number ts)
+    ((number : ℕ) → IsSingle a number → IsAmong false detail text (place_of a number) number ts)
     × (a.has_pack ≡ true → (es : List Term) × HasPack (list_with ts tail) a.before es × IsPackOf detail text a es)
 
 -- The innermost argument list has been read up to its E; its closing bracket is still to be written. The known arguments are at
@@ -370,6 +372,38 @@ pub record AwaitsNumber (s : Symbol) (w : Direct) : Type 0 where
   pub prints : Prints (detail_of s) type bytes is_reference
   pub written : w.text.list.items ≡ led_by (detail_of s) place.listing place.front place.name ++ in_front_of_next ts texts ++ codes "(" ++ bytes
   pub goes : EnumeratorGoesOn s place.listing place.owner (below s scope place.rest) place.front place.template ts type w.at state
+
+-- Likewise for one that is the argument of a name with this number, whose text begins at this place.
+pub record AwaitsArgumentNumber (s : Symbol) (w : Direct) (from number : ℕ) (known : Arguments) : Type 0 where
+  pub kept : Kept s w
+  pub open kept use *
+  pub owner : Open
+  pub rest : List Open
+  pub open_is : reverse w.waiting.list.items ≡ opens.ArgumentEnumerator from number known ∷ owner ∷ rest
+  pub front : List ℕ
+  pub template : Term
+  pub name : List ℕ
+  pub ts : List Term
+  pub texts : List ℕ
+  pub is_template : IsTemplate (detail_of s) scope.names owner front template name w.text.list.items
+  pub elements : PrintAll (detail_of s) 3 ts texts
+  pub no_pack : known.has_pack ≡ false
+  pub type : Term
+  pub bytes : List ℕ
+  pub is_reference : Bool
+  pub prints : Prints (detail_of s) type bytes is_reference
+  pub from_is : from ≡ length (led_by (detail_of s) of_template front name ++ in_front_of_next ts texts)
+  pub written : w.text.list.items ≡ led_by (detail_of s) of_template front name ++ in_front_of_next ts texts ++ codes "(" ++ bytes
+  pub number_is : number ≡ length ts
+  pub among : AreAmong false (detail_of s) w.text.list.items known ts
+  pub goes : EnumeratorGoesOn s of_template owner (below s scope rest) front template ts type w.at state
+
+-- A text ends in no type whose integers are without it.
+pub record EndsOtherwise (text : List ℕ) : Type 0 where
+  pub int : ends_with nat_eq text (codes "(int") ≡ false
+  pub blank_int : ends_with nat_eq text (codes " int") ≡ false
+  pub long : ends_with nat_eq text (codes "(long") ≡ false
+  pub blank_long : ends_with nat_eq text (codes " long") ≡ false
 
 -- An instance was read and written that has a member as an element. Expects the member's name, between two Es.
 pub record AwaitsMember (s : Symbol) (w : Direct) (is_dependent : Bool) : Type 0 where
@@ -502,9 +536,9 @@ pub record IsFunctionEnded (s : Symbol) (w : Direct) (mark : Mark) (start : ℕ)
   pub fronts : Fronts s.is_bare front start lead name
   pub written : w.text.list.items ≡ front ++ codes "(" ++ texts
   pub shows : s.is_bare ≡ false → Shows (detail_of s) e (name ++ codes "(" ++ texts ++ codes ")" ++ mark_text mark)
-  pub behind : EncodedBehind s lead e w.at
+  pub behind : EncodedBehind s lead e w.at state
 
--- An encoding was read and written after a text, except for its qualifier.
+-- An encoding was read and written after a text, except for its qualifier. The candidates are kept where a local entity follows.
 pub record IsEncodingEnded (s : Symbol) (w : Direct) (mark : Mark) : Type 0 where
   pub kept : Kept s w
   pub open kept use *
@@ -514,7 +548,9 @@ pub record IsEncodingEnded (s : Symbol) (w : Direct) (mark : Mark) : Type 0 wher
   pub written : w.text.list.items ++ mark_text mark ≡ lead ++ bytes
   pub shows : Shows (detail_of s) e bytes
   pub encloses : Encloses (detail_of s) e bytes
-  pub behind : EncodedBehind s lead e w.at
+  pub now : State
+  pub behind : EncodedBehind s lead e w.at now
+  pub same : is_local s.bytes ≡ true → now ≡ state
 
 -- The encoding of a symbol was read and written, as a detail shows it.
 pub record IsSymbolEnded (s : Symbol) (w : Direct) : Type 0 where
@@ -545,10 +581,11 @@ pub record IsElementRead (s : Symbol) (w : Direct) (o : Open) : Type 0 where
   pub open_is : reverse w.waiting.list.items ≡ o ∷ rest
   pub read : ElementOf s w (o ∷ rest)
 
--- Likewise for a type that prints on both sides of a name, where the open entry accepts it.
-pub record IsElementPassed (s : Symbol) (w : Direct) : Type 0 where
+-- Likewise for a type that prints on both sides of a name, where the open entry accepts it. It may be a reference.
+pub record IsElementPassed (s : Symbol) (w : Direct) (is_reference : Bool) : Type 0 where
   pub read : ElementOf s w (reverse w.waiting.list.items)
   pub takes : TakesFunction (reverse w.waiting.list.items)
+  pub refers : is_reference ≡ true → PrintsAround (detail_of s) read.own read.bytes
 
 -- an entry that accepts a function type or an array after a text
 pub record Taker (s : Symbol) (scope : Scope) : Type 0 where

@@ -53,4 +53,4 @@ IsAddressedParameterRead s w mark to =
 
 -- Such a function was read and written, except for its qualifier. It is in no object's name.
 abbrev pub IsAddressedRead : (s : Symbol) → (w : Direct) → Mark → Type 0
-IsAddressedRead s w mark = IsLedFunctionRead s w mark (λ front. is_object s.bytes ≡ false) (λ scope waits. AddressWithin s (below s no_scope waits))
+IsAddressedRead s w mark = IsLedFunctionRead s w mark (λ own front. is_object s.bytes ≡ false) (λ scope waits. AddressWithin s (below s no_scope waits))

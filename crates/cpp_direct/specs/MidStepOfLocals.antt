@@ -1,5 +1,5 @@
 -- Where a writer is between two of its functions within a step: local entities, and types in functions.
-use Rattle.std.specs.Prelude.{◌≡◌, ◌≢◌, ℕ, ◌+◌, List, [], ◌∷◌, ◌++◌, length, reverse, Bool, true, false, cond, Option, codes, ◌⊎◌}
+use Rattle.std.specs.Prelude.{◌≡◌, ◌≢◌, ℕ, ◌+◌, List, [], ◌∷◌, ◌++◌, length, reverse, Bool, true, false, cond, codes, ◌⊎◌}
 use Rattle.cpp_grammar.specs.Term.{Term, within}
 use Rattle.cpp_grammar.specs.Scope.{has_return_type}
 use Rattle.cpp_grammar.specs.Texts.{builtin_texts, look_up}
@@ -9,15 +9,16 @@ use Rattle.cpp_direct.specs.Symbol.{detail_of, Symbol}
 use Rattle.cpp_direct.specs.declared.open.Mark.{Mark}
 use Rattle.cpp_direct.specs.declared.open.Mark.TheVariants as marks
 use Rattle.cpp_direct.specs.declared.open.Arguments.{Arguments}
-use Rattle.cpp_direct.specs.declared.open.Purpose.{Purpose}
+use Rattle.cpp_direct.specs.declared.open.Holder.{Holder}
 use Rattle.cpp_direct.specs.declared.open.Open.{Open}
 use Rattle.cpp_direct.specs.declared.open.Open.TheVariants as opens
 use Rattle.cpp_direct.specs.declared.direct.Direct.{Direct}
 use Rattle.cpp_direct.specs.Bytes.{is_builtin_with_d, is_local, short_numbers}
 use Rattle.cpp_direct.specs.Holes.{StandsAt}
-use Rattle.cpp_direct.specs.Marks.{mark_text}
-use Rattle.cpp_direct.specs.Prints.{Encloses, IsLed, PrintsPiece, PrintAll}
-use Rattle.cpp_direct.specs.WriterInvariant.{HasArguments, HasInnerFront, ItemsGoOn, ItemsOf, LambdaComes, LambdaWithin, TypeWithin, below, no_scope, nowhere, Kept, HasLed, HasNameSo, IsEnclosing, IsScopedWithin, Scope}
+use Rattle.cpp_direct.specs.HolesOfLocals.{FirstOpened, member_in}
+use Rattle.cpp_direct.specs.Marks.{called_on, has_const, mark_text}
+use Rattle.cpp_direct.specs.Prints.{Encloses, IsLed, Prints, PrintsPiece, PrintAll, Shows}
+use Rattle.cpp_direct.specs.WriterInvariant.{Encoded, HasArguments, HasInnerFront, ItemsGoOn, LambdaComes, LambdaWithin, TypeWithin, below, no_scope, nowhere, Kept, HasLed, HasNameSo, IsEnclosing, IsMember, IsScopedWithin, ItemsOf, MemberGoesOn, qualifiers, Scope}
 use Rattle.cpp_direct.specs.MidStep.{IsEncodingEnded}
 
 -- ## Local entities
@@ -127,24 +128,26 @@ IsEnclosingFrontRead s w mark from to argument =
     IsInnerFrontRead s w mark argument (opens.EnclosingFront mark from to argument) (λ scope. IsScopedWithin s scope from to argument)
     (λ scope waits. TypeWithin s (below s no_scope waits))
 
--- A function was read and written after a text that satisfies this, except for its qualifier. The place where it was read and
+-- A function was read and written after a text, except for its qualifier. Its name and that text satisfy this. The place where it was read and
 -- the open entries satisfy it, too.
-pub record IsLedFunctionRead (s : Symbol) (w : Direct) (mark : Mark) (Leads : List ℕ → Type 0)
+pub record IsLedFunctionRead (s : Symbol) (w : Direct) (mark : Mark) (Leads : (own : Term) → (front : List ℕ) → Type 0)
     (Within : Scope → List Open → (front : List ℕ) → (e : Term) → (at : ℕ) → State → Type 0) : Type 0 where
   pub kept : Kept s w
   pub open kept use *
   pub e : Term
+  pub own : Term
   pub front : List ℕ
-  pub leads : Leads front
+  pub leads : Leads own front
   pub bytes : List ℕ
   pub encloses : Encloses (detail_of s) e bytes
+  pub shows : has_return_type own ≡ false → Shows (detail_of s) e bytes
   pub written : w.text.list.items ++ mark_text mark ≡ front ++ bytes
   pub within : Within scope (reverse w.waiting.list.items) front e w.at state
 
 -- A function that contains a type was read and written this way, from a place on.
 abbrev pub IsEnclosingRead : (s : Symbol) → (w : Direct) → Mark → (from : ℕ) → Type 0
 IsEnclosingRead s w mark from =
-    IsLedFunctionRead s w mark (λ front. from ≡ length front) (λ scope waits. TypeWithin s (below s scope waits))
+    IsLedFunctionRead s w mark (λ own front. from ≡ length front) (λ scope waits. TypeWithin s (below s scope waits))
 
 -- Expects the name of a type after the E of the function that contains it, which was written from a place on.
 pub record AwaitsTypeName (s : Symbol) (w : Direct) (from : ℕ) : Type 0 where
@@ -156,39 +159,79 @@ pub record AwaitsTypeName (s : Symbol) (w : Direct) (from : ℕ) : Type 0 where
 -- ## Lambdas
 
 -- The parameters of a lambda are open, after its first bytes, which are at the place.
-pub record IsLambdaOpened (s : List ℕ) (old new : Direct) (from : ℕ) (nested : Option Purpose) : Type 0 where
+pub record IsLambdaOpened (s : List ℕ) (old new : Direct) (from : ℕ) (holder : Holder) : Type 0 where
   pub short : short_numbers 0 s ≡ true
   pub stands : StandsAt s old.at (85 ∷ 108 ∷ [])
   pub text : new.text.list.items ≡ old.text.list.items ++ codes "::{lambda("
   pub candidates : new.candidates ≡ old.candidates
   pub scope : new.has_scope ≡ old.has_scope
   pub at : new.at ≡ old.at + 2
-  pub waiting : new.waiting.list.items ≡ old.waiting.list.items ++ opens.Lambda from nested ∷ []
+  pub waiting : new.waiting.list.items ≡ old.waiting.list.items ++ opens.Lambda from holder ∷ []
 
 -- A parameter of a lambda was read: a type in a function, or a component of a nested name.
-pub record IsLambdaParameterRead (s : Symbol) (w : Direct) (from : ℕ) (nested : Option Purpose) : Type 0 where
+pub record IsLambdaParameterRead (s : Symbol) (w : Direct) (from : ℕ) (holder : Holder) : Type 0 where
   pub kept : Kept s w
   pub open kept use *
   pub rest : List Open
-  pub open_is : reverse w.waiting.list.items ≡ opens.Lambda from nested ∷ rest
-  pub has : IsLed (detail_of s) nested from
+  pub open_is : reverse w.waiting.list.items ≡ opens.Lambda from holder ∷ rest
+  pub has : IsLed (detail_of s) holder from
   pub open has use *
   pub ts : List Term
   pub some : ts ≢ []
   pub texts : List ℕ
   pub elements : PrintAll (detail_of s) 0 ts texts
   pub written : w.text.list.items ≡ front ++ (bytes ++ codes "::{lambda(") ++ texts
-  pub goes : ItemsGoOn s nowhere (LambdaWithin s nested (below s scope rest) front e) (λ l. l) ts w.at state
+  pub goes : ItemsGoOn s nowhere (LambdaWithin s holder (below s scope rest) front e) (λ l. l) ts w.at state
 
 -- A lambda was read, and written after its scope.
-pub record IsLambdaRead (s : Symbol) (w : Direct) (from : ℕ) (nested : Option Purpose) : Type 0 where
+pub record IsLambdaRead (s : Symbol) (w : Direct) (from : ℕ) (holder : Holder) : Type 0 where
   pub kept : Kept s w
   pub open kept use *
-  pub has : IsLed (detail_of s) nested from
+  pub has : IsLed (detail_of s) holder from
   pub open has use *
   pub own : Term
   pub name : List ℕ
   pub prints : PrintsPiece (detail_of s) own name
   pub returns : has_return_type (within e own) ≡ false
   pub written : w.text.list.items ≡ front ++ (bytes ++ codes "::" ++ name)
-  pub comes : LambdaComes s nested (below s scope (reverse w.waiting.list.items)) front e own w.at state
+  pub comes : LambdaComes s holder (below s scope (reverse w.waiting.list.items)) front e own w.at state
+
+-- ## Member functions of local entities
+
+-- The function that contains a local entity was read, and is all that is written. Expects the entity, as the first piece of the
+-- name of a member function with these qualifiers.
+pub record AwaitsFirst (s : Symbol) (w : Direct) (mark : Mark) : Type 0 where
+  pub kept : Kept s w
+  pub open kept use *
+  pub e : Term
+  pub encloses : Encloses (detail_of s) e w.text.list.items
+  pub first : FirstOpened s (λ t at st. ItemsOf s 2 (λ f end last. Encoded s f end) (member_in e t (qualifiers (has_const mark)) (called_on mark)) at st) e w.at state
+
+-- The entity was read and written. Expects its member function.
+pub record AwaitsMemberFunction (s : Symbol) (w : Direct) (mark : Mark) : Type 0 where
+  pub kept : Kept s w
+  pub open kept use *
+  pub e : Term
+  pub own : Term
+  pub prints : Prints (detail_of s) own w.text.list.items false
+  pub goes : MemberGoesOn s mark e own w.at state
+
+-- what waits for the member function: the end of the symbol
+abbrev pub MemberWithin : (s : Symbol) → Scope → List Open → (front : List ℕ) → (e : Term) → (at : ℕ) → State → Type 0
+MemberWithin s scope waits front e at st = Encoded s e at
+
+-- the name of a member function, with nothing written before it
+abbrev pub LeadsMember : (own : Term) → (front : List ℕ) → Type 0
+LeadsMember own front = (front ≡ []) × (has_return_type own ≡ false)
+
+-- Expects the parameters of a member function.
+abbrev pub AwaitsMemberParameters : (s : Symbol) → (w : Direct) → Mark → Type 0
+AwaitsMemberParameters s w mark = AwaitsLedParameters s w 6 mark nowhere (λ scope own front name. LeadsMember own front) (MemberWithin s)
+
+-- One was read.
+abbrev pub IsMemberParameterRead : (s : Symbol) → (w : Direct) → Mark → (to : ℕ) → Type 0
+IsMemberParameterRead s w mark to = IsLedParameterRead s w 6 mark nowhere (opens.Member mark to) (λ scope. IsMember to) (MemberWithin s)
+
+-- It was read and written, except for its qualifiers.
+abbrev pub IsMemberRead : (s : Symbol) → (w : Direct) → Mark → Type 0
+IsMemberRead s w mark = IsLedFunctionRead s w mark LeadsMember (MemberWithin s)

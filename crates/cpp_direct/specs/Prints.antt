@@ -12,7 +12,8 @@ use Rattle.cpp_grammar.specs.Parts.{as_item, says, component_parts, within_parts
 pub use Rattle.cpp_direct.specs.WrittenParts.{IsUnmarked, closing_bracket, closing_byte, opening_bracket, opening_byte, unmarked_parts, written, written_in, written_instance}
 use Rattle.cpp_direct.specs.HolesOfTypes.{as_const}
 use Rattle.cpp_direct.specs.declared.open.Pattern.{Pattern}
-use Rattle.cpp_direct.specs.declared.open.Purpose.{Purpose}
+use Rattle.cpp_direct.specs.declared.open.Holder.{Holder}
+use Rattle.cpp_direct.specs.declared.open.Holder.TheVariants as holders
 use Rattle.cpp_direct.specs.declared.open.Pattern.TheVariants as patterns
 
 -- what is written of a tree in a form, wherever it is, in a detail
@@ -62,6 +63,22 @@ pub record PrintsIn (detail : Detail) (context : Context) (extra : ℕ) (t : Ter
   pub no_function : is_function_type t ≡ false
   pub void : is_void t ≡ true → bytes ≡ codes "void"
   pub some : 1 ≤ length bytes
+
+-- A reference that prints this text on both sides of a name, as one to an array does.
+pub record PrintsAround (detail : Detail) (t : Term) (bytes : List ℕ) : Type 0 where
+  pub both_texts : (context : Context) → text_of (written_of detail left context t) ++ text_of (written_of detail right context t) ≡ bytes
+  pub cost : (context : Context) → 2 + cost_of (written_of detail left context t) + cost_of (written_of detail right context t) ≤ 4 * length bytes
+  pub is_reference_head : (context : Context) → is_reference (head context t) ≡ true
+  pub is_funarr_head : (context : Context) → is_funarr (head context t) ≡ false
+  pub filled : (context : Context) → is_empty context t ≡ false
+  pub is_closed : is_open t ≡ false
+  pub packless : (scope : Term) → pack_length scope t ≡ None
+  pub no_void : is_void t ≡ false
+
+-- A tree that has this text as an argument, or as an element of a pack, where it may be such a reference.
+abbrev pub PrintsListed : (in_pack : Bool) → (detail : Detail) → Term → (bytes : List ℕ) → (reference : Bool) → Type 0
+PrintsListed false detail t bytes reference = Prints detail t bytes reference
+PrintsListed true detail t bytes reference = Prints detail t bytes reference ⊎ ((reference ≡ true) × PrintsAround detail t bytes)
 
 -- ## Types that name arguments of a function's template
 
@@ -123,7 +140,7 @@ IsMarkedBy patterns.Rvalue false marks = marks ≡ codes "&&"
 -- a tree that a pattern turns into one with this text
 abbrev pub PrintsMade : (detail : Detail) → Pattern → Term → List ℕ → Type 0
 PrintsMade detail pattern t bytes =
-    (own : List ℕ) × (reference : Bool) × (marks : List ℕ) × Prints detail t own reference × IsMarkedBy pattern reference marks × (bytes ≡ own ++ marks)
+    (own : List ℕ) × (reference : Bool) × (marks : List ℕ) × PrintsListed true detail t own reference × IsMarkedBy pattern reference marks × (bytes ≡ own ++ marks)
 
 -- A tree that names its class this way before a constructor or a destructor.
 pub record NamesClass (detail : Detail) (t : Term) (class : List ℕ) : Type 0 where
@@ -154,17 +171,18 @@ pub record Encloses (detail : Detail) (t : Term) (bytes : List ℕ) : Type 0 whe
   pub packless : (scope : Term) → pack_length scope t ≡ None
 
 -- what precedes a lambda has this text: the function that contains it, or the name so far that it extends
-abbrev pub Leads : (detail : Detail) → (nested : Option Purpose) → Term → (bytes : List ℕ) → Type 0
-Leads detail None e bytes = Encloses detail e bytes
-Leads detail (Some purpose) e bytes = Prints detail e bytes false
+abbrev pub Leads : (detail : Detail) → Holder → Term → (bytes : List ℕ) → Type 0
+Leads detail holders.Function e bytes = Encloses detail e bytes
+Leads detail (holders.Name purpose) e bytes = Prints detail e bytes false
+Leads detail (holders.Member mark) e bytes = Encloses detail e bytes
 
 -- Such a text is written, from a place on.
-pub record IsLed (detail : Detail) (nested : Option Purpose) (from : ℕ) : Type 0 where
+pub record IsLed (detail : Detail) (holder : Holder) (from : ℕ) : Type 0 where
   pub e : Term
   pub front : List ℕ
   pub from_is : from ≡ length front
   pub bytes : List ℕ
-  pub leads : Leads detail nested e bytes
+  pub leads : Leads detail holder e bytes
 
 -- the sign of a number
 abbrev pub sign_text : Signed → List ℕ

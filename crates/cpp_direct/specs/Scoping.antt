@@ -16,7 +16,7 @@ use Rattle.cpp_direct.specs.declared.open.Arguments.{Arguments}
 use Rattle.cpp_direct.specs.declared.open.Open.TheVariants as opens
 use Rattle.cpp_direct.specs.declared.direct.Direct.{Direct}
 use Rattle.cpp_direct.specs.Bytes.{is_local, is_object}
-use Rattle.cpp_direct.specs.Prints.{Named, Names, Prints, PrintsAs, list_of}
+use Rattle.cpp_direct.specs.Prints.{Named, Names, Prints, PrintsAs, PrintsListed, list_of}
 
 -- ## Places
 
@@ -60,18 +60,18 @@ IsKnown a number = number < a.count
 abbrev pub IsSingle : Arguments → (number : ℕ) → Type 0
 IsSingle a number = IsKnown a number × (a.has_pack ≡ true → number < a.before)
 
--- what has this number among trees is at a place
-pub record IsAmong (detail : Detail) (text : List ℕ) (p : Argument) (number : ℕ) (ts : List Term) : Type 0 where
+-- what has this number among arguments, or among elements of a pack, is at a place
+pub record IsAmong (in_pack : Bool) (detail : Detail) (text : List ℕ) (p : Argument) (number : ℕ) (ts : List Term) : Type 0 where
   pub bytes : List ℕ
   pub placed : IsPlaced text p bytes
   pub own : Term
   pub there : slice_get ts number ≡ Some own
-  pub prints : Prints detail own bytes p.is_reference
+  pub prints : PrintsListed in_pack detail own bytes p.is_reference
 
 -- a pack has these elements, and the known ones are at their places
 pub record IsPackOf (detail : Detail) (text : List ℕ) (a : Arguments) (ts : List Term) : Type 0 where
   pub size : length ts ≡ a.elements
-  pub among : (k : ℕ) → IsKnown a (a.before + k) → IsAmong detail text (place_of a (a.before + k)) k ts
+  pub among : (k : ℕ) → IsKnown a (a.before + k) → IsAmong true detail text (place_of a (a.before + k)) k ts
 
 -- The argument of a name with this number is at a place.
 pub record IsArgument (detail : Detail) (text : List ℕ) (p : Argument) (number : ℕ) (name : Term) : Type 0 where

@@ -1,12 +1,12 @@
 -- What a writer's lists say while a symbol is read: the open entries wait for what comes next, and what was written is its
 -- text.
 use Rattle.sym_print.specs.declared.detail.Detail.{Detail}
-use Rattle.std.specs.Prelude.{◌≡◌, ◌≢◌, ◌⊎◌, ℕ, ◌+◌, ◌*◌, ◌≤◌, List, [], ◌∷◌, ◌++◌, ◌-◌, length, take, drop, reverse, Bool, true, false, Option, Some, None, Ok, codes, ◌&&◌}
+use Rattle.std.specs.Prelude.{◌≡◌, ◌≢◌, ◌⊎◌, ℕ, ◌+◌, ◌*◌, ◌≤◌, ◌<◌, List, [], ◌∷◌, ◌++◌, ◌-◌, length, take, drop, reverse, Bool, true, false, Option, Some, None, Ok, codes, ◌&&◌}
 use Rattle.sym_print.specs.Unshared.{text_of, cost_of}
 use Rattle.sym_demangle.specs.Mangled.{StandsFor}
 use Rattle.cpp_grammar.specs.declared.kind.Kind.{Kind}
 use Rattle.cpp_grammar.specs.Answer.{shown, root_item}
-use Rattle.cpp_grammar.specs.Term.{Term, Qualifiers, symbol, function, special, array, pointer, lvalue, rvalue, qualified, instance, within, integer, address_of, pack, nil, list, absent}
+use Rattle.cpp_grammar.specs.Term.{Term, Qualifiers, symbol, function, special, construction, array, pointer, lvalue, rvalue, qualified, instance, within, integer, address_of, pack, nil, list, absent}
 use Rattle.cpp_grammar.specs.Parts.{source_text}
 use Rattle.cpp_grammar.specs.Texts.{look_up, special_texts}
 use Rattle.cpp_grammar.specs.Scope.{has_return_type, is_structor, arguments_of}
@@ -19,6 +19,8 @@ use Rattle.cpp_direct.specs.WrittenParts.{written, opening_bracket}
 use Rattle.cpp_direct.specs.Symbol.{Symbol, detail_of, mangled_of}
 use Rattle.cpp_direct.specs.declared.open.Nest.{Nest}
 use Rattle.cpp_direct.specs.declared.open.Mark.{Mark}
+use Rattle.cpp_direct.specs.declared.open.Holder.{Holder}
+use Rattle.cpp_direct.specs.declared.open.Holder.TheVariants as holders
 use Rattle.cpp_direct.specs.declared.open.Purpose.{Purpose}
 use Rattle.cpp_direct.specs.declared.open.Purpose.TheVariants as purposes
 use Rattle.cpp_direct.specs.declared.open.Open.{Open}
@@ -34,10 +36,10 @@ use Rattle.cpp_direct.specs.HolesOfArrays.{accessed, with_accessed}
 use Rattle.cpp_direct.specs.HolesOfTypes.{NoReference}
 use Rattle.cpp_direct.specs.HolesOfNests.{IsFirstRest}
 use Rattle.cpp_direct.specs.HolesOfLevels.{MemberComes}
-use Rattle.cpp_direct.specs.HolesOfLists.{IsSuffix, IsDigitsAt, minus_sign}
-use Rattle.cpp_direct.specs.HolesOfLocals.{Discriminator, EntityOpened, IsDiscriminatorAt, IsEntityAt, IsLambdaDigit, lambda_ending, lambda_with, local_in}
+use Rattle.cpp_direct.specs.HolesOfLists.{BaseClassOpened, IsSuffix, IsDigitsAt, minus_sign}
+use Rattle.cpp_direct.specs.HolesOfLocals.{Discriminator, EntityOpened, IsDiscriminatorAt, IsEntityAt, LambdaEnds, MemberOpened, local_in, member_in}
 use Rattle.cpp_direct.specs.Marks.{has_const, called_on}
-use Rattle.cpp_direct.specs.Prints.{Names, IsGiven, Prints, PrintsAs, PrintsName, Shows, Encloses, IsLed, NamesClass, PrintAll, PrintAllAs, PrintAllIn}
+use Rattle.cpp_direct.specs.Prints.{Names, IsGiven, Prints, PrintsAs, PrintsName, Shows, Encloses, IsElement, IsLed, NamesClass, PrintAll, PrintAllAs, PrintAllIn}
 use Rattle.cpp_grammar.specs.Parts.{types_of}
 pub use Rattle.cpp_direct.specs.Scoping.{encoding_place, IsBetween, IsPlaced, nowhere, begin_by, place_of, IsKnown, IsSingle, IsAmong, IsPackOf, IsArgument, HasPack, OwnPack, HasArguments, IsScope, IsPackThere, IsEncodedAt, HasScope, is_type, is_within_type, arguments_in, argument_of, Scope, no_scope, AreNamed, HasSingles, IsMadeIn, IsCandidate, AreCandidates, Keeps, Kept, IsScoped, IsNaming}
 
@@ -62,11 +64,32 @@ pub record EntityBehind (s : Symbol) (lead : List ℕ) (e : Term) (name : List �
   pub encoded : Encoded s made at
   pub shows : (bytes : List ℕ) → Encloses (detail_of s) e bytes → Shows (detail_of s) made (lead ++ (bytes ++ codes "::" ++ source_text name))
 
--- An encoding with this tree ends at the place, after a text. It ends the symbol, or a local entity follows it.
-pub record EncodedBehind (s : Symbol) (lead : List ℕ) (e : Term) (at : ℕ) : Type 0 where
+-- The name of an encoding that begins at a place was read, and items may follow. Together they make an encoding, which becomes
+-- something.
+pub record ItemsOf (s : Symbol) (encoding : ℕ) (becomes : Term → (at : ℕ) → State → Type 0) (v : Value) (at : ℕ) (st : State) : Type 0 where
+  pub around : Around
+  pub inner : List Opened
+  pub outside : around.prefix ≡ outermost
+  pub scope_is : around.scope ≡ arguments_of (tree_of v)
+  pub encoding_is : around.encoding ≡ encoding
+  pub no_lambda : around.in_lambda ≡ false
+  pub awaits : Expects s Kind.Items around inner at st
+  pub onward : (l : Value) (at : ℕ) (st : State) → Comes s inner l at st → becomes (encoding_of v (no_items l)) at st
+
+-- Likewise for a member function of a local entity: what is read as the encoding has the same text before what is in it, and its own name
+-- is read next.
+pub record MemberBehind (s : Symbol) (lead : List ℕ) (e : Term) (at : ℕ) (st : State) : Type 0 where
+  pub none : lead ≡ []
+  pub made : Term
+  pub encloses : (bytes : List ℕ) → Encloses (detail_of s) e bytes → Encloses (detail_of s) made bytes
+  pub opens : MemberOpened s (λ v there now. ItemsOf s 2 (λ f end last. Encoded s f end) v there now) made at st
+
+-- An encoding with this tree ends at the place, after a text. It ends the symbol, or a local entity follows it, or a member of one.
+pub record EncodedBehind (s : Symbol) (lead : List ℕ) (e : Term) (at : ℕ) (st : State) : Type 0 where
   pub whole : is_local s.bytes ≡ false → EndsBehind s lead e at
   pub entity : is_local s.bytes ≡ true → (internal : Bool) (name : List ℕ) (digit : Discriminator) (end : ℕ) → IsEntityAt s.bytes at internal name digit end
       → EntityBehind s lead e name end
+  pub member : is_local s.bytes ≡ true → StandsAt s.bytes 2 (90 ∷ []) → MemberBehind s lead e at st
 
 -- the name of an encoding after a text was read, and items may follow
 pub record TakesItems (s : Symbol) (lead : List ℕ) (v : Value) (at : ℕ) (st : State) : Type 0 where
@@ -77,11 +100,11 @@ pub record TakesItems (s : Symbol) (lead : List ℕ) (v : Value) (at : ℕ) (st 
   pub encoding_is : lead ≡ [] → around.encoding ≡ encoding_place s.bytes
   pub no_lambda : around.in_lambda ≡ false
   pub awaits : Expects s Kind.Items around inner at st
-  pub onward : (l : Value) (at : ℕ) (st : State) → Comes s inner l at st → EncodedBehind s lead (encoding_of v (no_items l)) at
+  pub onward : (l : Value) (at : ℕ) (st : State) → Comes s inner l at st → EncodedBehind s lead (encoding_of v (no_items l)) at st
 
 -- the name of an encoding after a text was read, or of the symbol's object, after which no items follow
 pub record AwaitsItems (s : Symbol) (lead : List ℕ) (v : Value) (at : ℕ) (st : State) : Type 0 where
-  pub ends : EncodedBehind s lead (encoding_of v nil) at
+  pub ends : EncodedBehind s lead (encoding_of v nil) at st
   pub items : is_object s.bytes ≡ false → TakesItems s lead v at st
 
 -- This text is written of the whole symbol.
@@ -97,18 +120,6 @@ pub record IsShown (s : Symbol) (most : ℕ) (text : List ℕ) : Type 0 where
   pub stands : StandsFor (mangled_of s) s.bytes (Ok whole)
   pub text_is : text_of (shown (detail_of s) (root_item whole)) ≡ text
   pub cost : cost_of (shown (detail_of s) (root_item whole)) ≤ 4 * most
-
--- The name of an encoding that begins at a place was read, and items may follow. Together they make an encoding, which becomes
--- something.
-pub record ItemsOf (s : Symbol) (encoding : ℕ) (becomes : Term → (at : ℕ) → State → Type 0) (v : Value) (at : ℕ) (st : State) : Type 0 where
-  pub around : Around
-  pub inner : List Opened
-  pub outside : around.prefix ≡ outermost
-  pub scope_is : around.scope ≡ arguments_of (tree_of v)
-  pub encoding_is : around.encoding ≡ encoding
-  pub no_lambda : around.in_lambda ≡ false
-  pub awaits : Expects s Kind.Items around inner at st
-  pub onward : (l : Value) (at : ℕ) (st : State) → Comes s inner l at st → becomes (encoding_of v (no_items l)) at st
 
 -- ## Names
 
@@ -175,7 +186,7 @@ pub record ItemsGoOn (s : Symbol) (argument : Arguments) (becomes : Term → (at
 
 -- They are those of an encoding after a text.
 abbrev pub ParametersGoOn : (s : Symbol) → (argument : Arguments) → (lead : List ℕ) → (make : Term → Term) → (ts : List Term) → (at : ℕ) → State → Type 0
-ParametersGoOn s argument lead make ts at st = ItemsGoOn s argument (λ e here now. EncodedBehind s lead e here) make ts at st
+ParametersGoOn s argument lead make ts at st = ItemsGoOn s argument (λ e here now. EncodedBehind s lead e here now) make ts at st
 
 -- a function of this name and these items, without a return type
 abbrev pub plain_encoding : (mark : Mark) → (own : Term) → (items : Term) → Term
@@ -223,6 +234,7 @@ pub record IsLedFunction (detail : Detail) (extra : ℕ) (mark : Mark) (ts : Lis
   pub returned : Term
   pub make : Term → Term
   pub makes : (t rest : Term) → make (list t rest) ≡ function own (qualifiers (has_const mark)) (called_on mark) returned (parameters (list t rest))
+  pub none : has_return_type own ≡ false → returned ≡ absent
   pub elements : PrintAllIn detail (types_of own) extra ts texts
 
 -- They are written, and this holds of the function's name after that text.
@@ -234,6 +246,10 @@ pub record HasLed (detail : Detail) (extra : ℕ) (mark : Mark) (Leads : (own : 
 -- It is written from a place on, up to another one.
 abbrev pub IsEnclosing : (from to : ℕ) → (own : Term) → (front name : List ℕ) → Type 0
 IsEnclosing from to own front name = (from ≡ length front) × (to ≡ length (front ++ name))
+
+-- The name of a member function of a local entity begins what is written, up to a place. It has no return type.
+abbrev pub IsMember : (to : ℕ) → (own : Term) → (front name : List ℕ) → Type 0
+IsMember to own front name = (front ≡ []) × (to ≡ length (front ++ name)) × (has_return_type own ≡ false)
 
 -- The name of a function whose address is an argument is written up to this place. The known arguments that it ends in are at their
 -- places in what is written up to there, and are those that types may name. It is in no object's name.
@@ -322,23 +338,30 @@ Serves s (purposes.Address mark) below os front =
     → Comes s outer (named t (qualifiers (has_const mark)) (called_on mark)) at st)
     × below.waits outer front
 
+-- This much was read of the nested name of a member function with these qualifiers, in an encoding: what the whole becomes.
+pub record MemberGoesOn (s : Symbol) (mark : Mark) (e t : Term) (at : ℕ) (st : State) : Type 0 where
+  pub outer : List Opened
+  pub around : Around
+  pub goes : NestGoesOn s Kind.NestRestAlone outer around t false at st
+  pub ends : (u : Term) (listed : Bool) (at : ℕ) (st : State) → Comes s outer (tree u listed) at st
+      → ItemsOf s 2 (λ f end last. Encoded s f end) (member_in e u (qualifiers (has_const mark)) (called_on mark)) at st
+
 -- A lambda was read after this tree, as a type in a function before its discriminator, or as a component of a nested name: what
 -- it becomes.
-abbrev pub LambdaComes : (s : Symbol) → (nested : Option Purpose) → Below → (front : List ℕ) → (e : Term) → (lambda : Term) → (at : ℕ) → State → Type 0
-LambdaComes s None below front e p at st =
+abbrev pub LambdaComes : (s : Symbol) → Holder → Below → (front : List ℕ) → (e : Term) → (lambda : Term) → (at : ℕ) → State → Type 0
+LambdaComes s holders.Function below front e p at st =
     (outer : List Opened) × (around : Around)
     × ((digit : Discriminator) (end : ℕ) → IsDiscriminatorAt s.bytes at digit end
     → Comes s outer (tree (local_in e p digit) true) end (with_candidate around (local_in e p digit) st))
     × below.waits outer front
-LambdaComes s (Some purpose) below front e p at st =
+LambdaComes s (holders.Name purpose) below front e p at st =
     (outer : List Opened) × (around : Around) × NestGoesOn s Kind.NestTail outer around (within e p) false at st
     × (is_type purpose ≡ true → below.scoped around) × Serves s purpose below outer front
+LambdaComes s (holders.Member mark) below front e p at st = (front ≡ []) × MemberGoesOn s mark e (within e p) at st
 
 -- Its parameters were read, before the E after them.
-abbrev pub LambdaWithin : (s : Symbol) → (nested : Option Purpose) → Below → (front : List ℕ) → (e : Term) → (items : Term) → (at : ℕ) → State → Type 0
-LambdaWithin s nested below front e items at st =
-    (number : Option ℕ) (end : ℕ) → IsLambdaDigit number → StandsAt s.bytes at (lambda_ending number) → end ≡ at + length (lambda_ending number)
-    → LambdaComes s nested below front e (lambda_with items number) end st
+abbrev pub LambdaWithin : (s : Symbol) → Holder → Below → (front : List ℕ) → (e : Term) → (items : Term) → (at : ℕ) → State → Type 0
+LambdaWithin s holder below front e items at st = LambdaEnds s (LambdaComes s holder below front e) items at st
 
 -- An instance is read, after this text: what it becomes.
 abbrev pub Owns : (s : Symbol) → Open → Below → (front : List ℕ) → Term → (at : ℕ) → State → Type 0
@@ -411,9 +434,11 @@ abbrev pub GoesOn : (s : Symbol) → Listing → Open → Below → (front : Lis
 GoesOn s listing owner below front template ts at st =
     ElementsGoOn s (element_kind listing) (scoped_in owner below) (λ l now then. Closes s listing owner below front template l now then) ts at st
 
--- those that are known are among these
-abbrev pub AreAmong : (detail : Detail) (text : List ℕ) → Arguments → List Term → Type 0
-AreAmong detail text a ts = (number : ℕ) → IsKnown a number → IsAmong detail text (place_of a number) number ts
+-- those that are known are among these: arguments, or some of them and elements of a pack after them
+abbrev pub AreAmong : (is_pack : Bool) → (detail : Detail) (text : List ℕ) → Arguments → List Term → Type 0
+AreAmong is_pack detail text a ts =
+    ((number : ℕ) → IsKnown a number → (is_pack ≡ true → number < a.before) → IsAmong false detail text (place_of a number) number ts)
+    × (is_pack ≡ true → (number : ℕ) → IsKnown a number → IsAmong true detail text (place_of a number) number ts)
 
 -- this template precedes the arguments
 abbrev pub IsTemplate : (detail : Detail) → Names → Open → (front : List ℕ) → Term → (name : List ℕ) → (text : List ℕ) → Type 0
@@ -455,7 +480,7 @@ AwaitsArgument s names is_pack from number known owner below os text =
     × (before : List Term) × (written : List ℕ) × ComeBefore (detail_of s) is_pack known before written
     × PrintAll (detail_of s) (extra_of (arguments_or_pack is_pack before written)) ts elements
     × (text ≡ led_by (detail_of s) (arguments_or_pack is_pack before written) front name ++ in_front_of_next ts elements) × (from ≡ length text)
-    × (number ≡ length (before ++ ts)) × AreAmong (detail_of s) text known (before ++ ts)
+    × (number ≡ length (before ++ ts)) × AreAmong is_pack (detail_of s) text known (before ++ ts)
     × ((t : Term) (at : ℕ) (st : State) → Comes s os (tree t true) at st
     → GoesOn s (arguments_or_pack is_pack before written) owner below front template (ts ++ t ∷ []) at st)
 
@@ -473,6 +498,15 @@ AwaitsEnumerator s names listing owner below os text =
     × IsTemplate (detail_of s) names owner front template name text × PrintAllAs (detail_of s) names (may_name listing owner) (extra_of listing) ts elements
     × (text ≡ led_by (detail_of s) listing front name ++ in_front_of_next ts elements ++ codes "(")
     × ((t : Term) (at : ℕ) (st : State) → Comes s os (tree t true) at st → EnumeratorGoesOn s listing owner below front template ts t at st)
+
+-- accepts a type as that of an enumerator, which is the argument of a name with this number
+abbrev pub AwaitsArgumentEnumerator : (s : Symbol) → Names → (from number : ℕ) → (known : Arguments) → (owner : Open) → Below → List Opened → (text : List ℕ) → Type 0
+AwaitsArgumentEnumerator s names from number known owner below os text =
+    (front : List ℕ) × (template : Term) × (name : List ℕ) × (ts : List Term) × (elements : List ℕ)
+    × IsTemplate (detail_of s) names owner front template name text × (begun : List ℕ) × (text ≡ begun ++ codes "(") × (from ≡ length begun)
+    × (begun ≡ led_by (detail_of s) of_template front name ++ in_front_of_next ts elements) × (known.has_pack ≡ false) × PrintAll (detail_of s) 3 ts elements
+    × (number ≡ length ts) × AreAmong false (detail_of s) text known ts
+    × ((t : Term) (at : ℕ) (st : State) → Comes s os (tree t true) at st → EnumeratorGoesOn s of_template owner below front template ts t at st)
 
 -- the open entry is this list of this owner
 abbrev pub Belongs : (detail : Detail) → Names → Listing → (opened : List Open) → (owner : Open) → (rest : List Open) → Type 0
@@ -509,6 +543,7 @@ TakesFunction (opens.FirstArguments nest ∷ rest) = Unit {0}
 TakesFunction (opens.NameArguments from ∷ rest) = Unit {0}
 TakesFunction (opens.LevelArguments is_dependent ∷ rest) = Unit {0}
 TakesFunction (opens.Pack ∷ rest) = Unit {0}
+TakesFunction (opens.Element from number known ∷ rest) = Unit {0}
 TakesFunction (opens.Parameters mark start argument ∷ rest) = Unit {0}
 TakesFunction (opens.Special ∷ rest) = Unit {0}
 TakesFunction (opens.Enclosing mark from to ∷ rest) = Unit {0}
@@ -532,6 +567,14 @@ pub record FirstType (s : Symbol) : Type 0 where
   pub bytes : List ℕ
   pub is_reference : Bool
   pub prints : Prints (detail_of s) own bytes is_reference
+
+-- The derived class of a construction table is written up to a place, and then what the table is.
+pub record HasDerived (s : Symbol) (text : List ℕ) (to : ℕ) : Type 0 where
+  pub derived : Term
+  pub bytes : List ℕ
+  pub prints : IsElement (detail_of s) 0 derived bytes
+  pub to_is : to ≡ length bytes
+  pub written : text ≡ bytes ++ codes "construction vtable for "
 
 -- Accepts a parameter of such a function, after these; the open entry waits for the function.
 abbrev pub AwaitsLed : (s : Symbol) → (extra : ℕ) → Mark → Arguments → (Leads : (own : Term) → (front name : List ℕ) → Type 0)
@@ -574,11 +617,12 @@ Stands s scope (opens.AddressedFront mark to argument ∷ rest) os text =
     AwaitsFront s mark argument (IsAddressed s scope to argument) (AddressWithin s (outside no_scope rest (Stands s no_scope rest))) os text
 Stands s scope (opens.Addressed mark to argument ∷ rest) os text =
     AwaitsLed s 3 mark argument (IsAddressed s scope to argument) (AddressWithin s (outside no_scope rest (Stands s no_scope rest))) os text
-Stands s scope (opens.Lambda from nested ∷ rest) os text =
-    (h : IsLed (detail_of s) nested from) × (ts : List Term) × (texts : List ℕ) × PrintAll (detail_of s) 0 ts texts
+Stands s scope (opens.Member mark to ∷ rest) os text = AwaitsLed s 6 mark nowhere (IsMember to) (λ front e at st. Encoded s e at) os text
+Stands s scope (opens.Lambda from holder ∷ rest) os text =
+    (h : IsLed (detail_of s) holder from) × (ts : List Term) × (texts : List ℕ) × PrintAll (detail_of s) 0 ts texts
     × (text ≡ h.front ++ (h.bytes ++ codes "::{lambda(") ++ in_front_of_next ts texts)
     × ((t : Term) (at : ℕ) (st : State) → Comes s os (tree t true) at st
-    → ItemsGoOn s nowhere (LambdaWithin s nested (outside scope rest (Stands s scope rest)) h.front h.e) (λ l. l) (ts ++ t ∷ []) at st)
+    → ItemsGoOn s nowhere (LambdaWithin s holder (outside scope rest (Stands s scope rest)) h.front h.e) (λ l. l) (ts ++ t ∷ []) at st)
 Stands s scope (opens.Returned is_pointer ∷ rest) os text =
     (k : IsTaken (outside scope rest (Stands s scope rest)) rest text)
     × ((r : Term) (at : ℕ) (st : State) → Comes s os (tree r true) at st → SignatureGoesOn s k.outer k.made_in is_pointer (λ l. plain_function r l) at st)
@@ -596,12 +640,20 @@ Stands s scope (opens.Array access from to ∷ rest) os text =
 Stands s scope (opens.Special ∷ rest) os text =
     (letter : ℕ) × (text ≡ look_up (letter ∷ []) special_texts) × (text ≢ [])
     × ((t : Term) (at : ℕ) (st : State) → Comes s os (tree t true) at st → Encoded s (special letter t) at)
+Stands s scope (opens.Derived ∷ rest) os text =
+    (text ≡ []) × ((t : Term) (at : ℕ) (st : State) → Comes s os (tree t true) at st → BaseClassOpened s (λ e end now. Encoded s e end) 2 t at st)
+Stands s scope (opens.Base to ∷ rest) os text =
+    (h : HasDerived s text to) × (digits : List ℕ)
+    × ((t : Term) (at : ℕ) (st : State) → Comes s os (tree t true) at st → Encoded s (construction h.derived digits t) at)
 Stands s scope (opens.Argument from number known ∷ []) os text = ⊥
 Stands s scope (opens.Argument from number known ∷ owner ∷ rest) os text =
     AwaitsArgument s scope.names false from number known owner (outside scope rest (Stands s scope rest)) os text
 Stands s scope (opens.Element from number known ∷ opens.Pack ∷ owner ∷ rest) os text =
     AwaitsArgument s scope.names true from number known owner (outside scope rest (Stands s scope rest)) os text
 Stands s scope (opens.Element from number known ∷ rest) os text = ⊥
+Stands s scope (opens.ArgumentEnumerator from number known ∷ []) os text = ⊥
+Stands s scope (opens.ArgumentEnumerator from number known ∷ owner ∷ rest) os text =
+    AwaitsArgumentEnumerator s scope.names from number known owner (outside scope rest (Stands s scope rest)) os text
 Stands s scope (opens.Enumerator ∷ []) os text = ⊥
 Stands s scope (opens.Enumerator ∷ opens.Pack ∷ []) os text = ⊥
 Stands s scope (opens.Enumerator ∷ opens.Pack ∷ owner ∷ rest) os text =

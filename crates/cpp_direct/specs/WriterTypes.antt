@@ -7,6 +7,7 @@ pub use Rattle.cpp_direct.specs.declared.open.Argument.{Argument}
 pub use Rattle.cpp_direct.specs.declared.open.Arguments.{Arguments}
 pub use Rattle.cpp_direct.specs.declared.open.Candidate.{Candidate}
 pub use Rattle.cpp_direct.specs.declared.open.Hiding.{Hiding}
+pub use Rattle.cpp_direct.specs.declared.open.Holder.{Holder}
 pub use Rattle.cpp_direct.specs.declared.open.Mark.{Mark}
 pub use Rattle.cpp_direct.specs.declared.open.Nest.{Nest}
 pub use Rattle.cpp_direct.specs.declared.open.Open.{Open}

@@ -8,6 +8,7 @@ use Rattle.sym_print.specs.declared.detail.Detail.{Detail}
 use Rattle.cpp_direct.specs.declared.direct.Direct.{Direct}
 use Rattle.cpp_direct.specs.declared.open.Open.{Open}
 use Rattle.cpp_direct.specs.WrittenParts.{opening_bracket}
+use Rattle.cpp_direct.specs.Bytes.{is_local}
 
 -- a text was written, and nothing else changed
 pub record Writes (old new : Direct) (bytes : List ℕ) : Type 0 where
@@ -25,13 +26,6 @@ pub record Reads (old new : Direct) (bytes : List ℕ) : Type 0 where
   pub waiting : new.waiting ≡ old.waiting
   pub nest : new.nest ≡ old.nest
   pub scope : new.has_scope ≡ old.has_scope
-
--- What was written up to a place was removed, and with it, if there was any, each candidate.
-pub record Cuts (old new : Direct) (start : ℕ) : Type 0 where
-  pub text : new.text.list.items ≡ drop start old.text.list.items
-  pub candidates : ((start ≡ 0) × (new.candidates ≡ old.candidates)) ⊎ (new.candidates.list.items ≡ [])
-  pub scope : new.has_scope ≡ old.has_scope
-  pub at : new.at ≡ old.at
 
 -- the candidates are these, and nothing else changed
 pub record Lists (old new : Direct) (ks : List Candidate) : Type 0 where
@@ -83,6 +77,7 @@ hidden = record { from = 1; to = 0; is_reference = false; is_dependent = false }
 abbrev pub Stays : Hiding → Candidate → Type 0
 Stays (hidings.After to) k = k.to ≤ to
 Stays hidings.Dependent k = k.is_dependent ≡ false
+Stays hidings.All k = ⊥
 
 -- it stays what it was, or it is nowhere
 abbrev pub IsLeft : Hiding → (old new : Candidate) → Type 0
@@ -101,3 +96,12 @@ hidden_behind false ks = ks ++ hidden ∷ []
 
 abbrev pub with_hidden : Direct → (is_pointer : Bool) → List Candidate
 with_hidden w is_pointer = hidden_behind is_pointer w.candidates.list.items
+
+-- What was written up to a place was removed from what is written of a symbol. If there was any, there is no candidate then, or
+-- before a local entity each of them is nowhere.
+pub record Cuts (s : List ℕ) (old new : Direct) (start : ℕ) : Type 0 where
+  pub text : new.text.list.items ≡ drop start old.text.list.items
+  pub candidates : ((start ≡ 0) × (new.candidates ≡ old.candidates)) ⊎ ((is_local s ≡ false) × (new.candidates.list.items ≡ []))
+      ⊎ AreLeft hidings.All old.candidates.list.items new.candidates.list.items
+  pub scope : new.has_scope ≡ old.has_scope
+  pub at : new.at ≡ old.at

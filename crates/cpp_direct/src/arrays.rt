@@ -5,7 +5,7 @@ ghost use Rattle.std.specs.Option.{IfSome};
 ghost use Rattle.cpp_direct.specs.Names.{IsReadable};
 ghost use Rattle.cpp_direct.specs.declared.open.Step.TheVariants as steps;
 ghost use Rattle.cpp_direct.specs.Holes.{StandsAt};
-ghost use Rattle.cpp_direct.specs.HolesOfArrays.{access_letters, array_opening, is_marked};
+ghost use Rattle.cpp_direct.specs.HolesOfArrays.{access_letters, array_opening, is_lvalue, is_marked};
 ghost use Rattle.cpp_direct.specs.WriterInvariant.{IsWriting};
 ghost use Rattle.cpp_direct.specs.Symbol.{symbol_by};
 ghost use Rattle.cpp_direct.specs.MidStep.{IsArrayRead};
@@ -45,6 +45,17 @@ fn is_marked(access: Access) -> bool
     match access {
         Access::Plain => false,
         Access::Pointer => true,
+        Access::Lvalue => true,
+    }
+}
+
+/// Whether it is behind a reference.
+fn is_lvalue(access: Access) -> bool
+    ensures { result ≡ is_lvalue access }
+{
+    match access {
+        Access::Plain => false,
+        Access::Pointer => false,
         Access::Lvalue => true,
     }
 }
@@ -95,6 +106,6 @@ impl Direct {
         self.push(normal(&s[from as usize..to as usize]))?;
         self.push_byte(b']')?;
         self.add_hidden(is_marked(access))?;
-        self.pass_element::<G>(s)
+        self.pass_element::<G>(s, is_lvalue(access))
     }
 }

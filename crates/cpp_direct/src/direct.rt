@@ -19,8 +19,8 @@ pub struct Direct {
     pub(crate) candidates: Bounded<Candidate>,
     pub(crate) waiting: Bounded<Open>,
     pub(crate) nest: Nest,
-    /// the arguments of the name that was read last: the first of them, if they are literals other than enumerators, or types
-    /// other than function types and arrays, and the elements of a pack of such types after them
+    /// the arguments of the name that was read last: the first of them, if they are literals, or types other than function types
+    /// and arrays, and the elements of a pack after them, of such types or references to arrays
     pub(crate) argument: Arguments,
     /// whether the arguments are known that types may name: those of the symbol's own name, or, while its types are read, of a
     /// function whose address is an argument; or no types follow the name
@@ -62,12 +62,12 @@ impl Direct {
         Some(())
     }
 
-    /// Clears the lists and reserves their room for a symbol: this many bytes of text, at most eight for each of the symbol's
+    /// Clears the lists and reserves their room for a symbol: this many bytes of text, at most 32 for each of the symbol's
     /// and a kilobyte, and an entry for each byte in the other lists.
     #[inline(always)]
     pub fn restart(&mut self, s: &[u8], bytes: u32)
         requires fits { FitsSymbol s.now }
-        requires bytes { bytes ≤ 8 * length s.now + 1024 }
+        requires bytes { bytes ≤ 32 * length s.now + 1024 }
         ensures text { self.new.text.list.items ≡ [] }
         ensures candidates { self.new.candidates.list.items ≡ [] }
         ensures open { self.new.waiting.list.items ≡ [] }

@@ -355,7 +355,7 @@ impl Direct {
 
     // <unqualified-name> ::= <source-name> | <unnamed-type-name>
     #[inline(always)]
-    fn enclosed_piece<G: Grammar>(&mut self, s: &[u8]) -> Option<()>
+    pub(crate) fn enclosed_piece<G: Grammar>(&mut self, s: &[u8]) -> Option<()>
         requires { IsReadable s.now }
         ensures { OnSome result ((p : Term) × (n : List ℕ) × IsPieceAt (symbol_by G.IS_WIDE G.IS_BARE G.IS_BRIEF s.now) self.old.at p self.new.at × PrintsPiece (detail_by G.IS_BARE G.IS_BRIEF) p n × Reads self.old self.new n) }
     {

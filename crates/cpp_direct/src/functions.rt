@@ -27,6 +27,7 @@ impl Direct {
             Some(Open::NameArguments { .. }) => true,
             Some(Open::LevelArguments { .. }) => true,
             Some(Open::Pack) => true,
+            Some(Open::Element { .. }) => true,
             Some(Open::Parameters { .. }) => true,
             Some(Open::Enclosing { .. }) => true,
             Some(Open::EnclosingInstance { .. }) => true,
@@ -136,13 +137,14 @@ impl Direct {
         self.push_byte(b')')?;
         self.add_hidden(is_pointer)?;
         let _open = self.waiting.pop();
-        self.pass_element::<G>(s)
+        self.pass_element::<G>(s, false)
     }
 
-    /// Forwards what prints on both sides of a name to the entry that accepts it.
-    pub(crate) fn pass_element<G: Grammar>(&mut self, s: &[u8]) -> Option<Step>
+    /// Forwards what prints on both sides of a name to the entry that accepts it. Of a pack's elements, those that are
+    /// references become known.
+    pub(crate) fn pass_element<G: Grammar>(&mut self, s: &[u8], is_reference: bool) -> Option<Step>
         requires fits { IsReadable s.now }
-        requires passed { IsElementPassed (symbol_by G.IS_WIDE G.IS_BARE G.IS_BRIEF s.now) self.old }
+        requires passed { IsElementPassed (symbol_by G.IS_WIDE G.IS_BARE G.IS_BRIEF s.now) self.old is_reference }
         ensures { IfSome result (IsWriting (symbol_by G.IS_WIDE G.IS_BARE G.IS_BRIEF s.now) self.new) }
     {
         match *self.waiting.as_slice().last()? {
@@ -156,6 +158,16 @@ impl Direct {
                 s, mark, from, to,
             ),
             Open::Special => self.finish::<G>(s),
+            Open::Element {
+                from,
+                number,
+                known,
+            } => {
+                if !is_reference {
+                    return None;
+                }
+                self.element_ended::<G>(s, from, number, known, true)
+            }
             _ => Some(Step::List { is_first: false }),
         }
     }

@@ -8,7 +8,7 @@ ghost use Rattle.cpp_direct.specs.Names.{IsReadable};
 ghost use Rattle.cpp_direct.specs.declared.open.Step.TheVariants as steps;
 ghost use Rattle.cpp_direct.specs.Holes.{StandsAt};
 ghost use Rattle.cpp_direct.specs.WriterInvariant.{EndsNamed, IsKnown, IsSingle, IsWriting, begin_by, place_of};
-ghost use Rattle.cpp_direct.specs.MidStep.{AwaitsKnownArgument, IsArgumentRead, KnowsMore};
+ghost use Rattle.cpp_direct.specs.MidStep.{AwaitsArgumentNumber, AwaitsKnownArgument, IsArgumentRead, KnowsMore};
 ghost use Rattle.cpp_direct.specs.Symbol.{symbol_by};
 
 use crate::direct::Direct;
@@ -93,6 +93,14 @@ fn is_element_at(s: &[u8], at: usize) -> bool {
     }
 }
 
+/// Likewise except for a reference to an array, which is known as an element of a pack.
+fn is_unknown_at(s: &[u8], at: usize) -> bool {
+    match s.get(at..) {
+        Some([b'R', b'A', ..]) => false,
+        _ => is_element_at(s, at),
+    }
+}
+
 impl Direct {
     /// Whether the innermost open arguments are those of a function's name.
     #[inline(always)]
@@ -145,7 +153,7 @@ impl Direct {
             return self.literal::<G>(s);
         }
         if is_enumerator_at(s, self.at) {
-            return self.literal::<G>(s);
+            return self.first_enumerator::<G>(s);
         }
         let from = self.text.end();
         self.waiting.push(Open::Argument {
@@ -170,7 +178,7 @@ impl Direct {
             return self.begin_pack::<G>(s);
         }
         let behind = self.at.checked_add(1)?;
-        if byte_at(s, behind) == b'L' || is_element_at(s, behind) {
+        if byte_at(s, behind) == b'L' || is_unknown_at(s, behind) {
             return self.begin_pack::<G>(s);
         }
         self.at = behind;
@@ -221,7 +229,7 @@ impl Direct {
         let more = self.note_argument::<G>(s, true, from, number, known, is_reference);
         let byte = byte_at(s, self.at);
         // a literal isn't known, nor is what follows it
-        if byte == b'L' || is_element_at(s, self.at) {
+        if byte == b'L' || is_unknown_at(s, self.at) {
             return Some(Step::List { is_first: false });
         }
         if byte != b'E' {
@@ -297,8 +305,11 @@ impl Direct {
         ensures { IfSome result (IsWriting (symbol_by G.IS_WIDE G.IS_BARE G.IS_BRIEF s.now) self.new) }
     {
         let byte = byte_at(s, self.at);
-        // an enumerator isn't known, nor is what follows it
-        if byte == b'L' || is_element_at(s, self.at) {
+        if byte == b'L' {
+            return self.next_enumerator::<G>(s, last, known);
+        }
+        // a function type or an array isn't known, nor is what follows it
+        if is_element_at(s, self.at) {
             return Some(Step::List { is_first: false });
         }
         if byte == b'J' {
@@ -337,6 +348,78 @@ impl Direct {
         Some(self.note_argument::<G>(s, false, from, number, known, false))
     }
 
+    /// The first argument of a name is an enumerator: reads it up to the first type in its type.
+    // <expr-primary> ::= L <type> <value number> E
+    #[inline(never)]
+    fn first_enumerator<G: Grammar>(&mut self, s: &[u8]) -> Option<Step>
+        requires fits { IsReadable s.now }
+        requires letter { StandsAt s.now self.old.at (76 ∷ []) }
+        requires named { EndsNamed (reverse self.old.waiting.list.items) }
+        requires writing { IsWriting (symbol_by G.IS_WIDE G.IS_BARE G.IS_BRIEF s.now) self.old (steps.List true) }
+        ensures { IfSome result (IsWriting (symbol_by G.IS_WIDE G.IS_BARE G.IS_BRIEF s.now) self.new) }
+    {
+        let from = self.text.end();
+        self.at = self.at.checked_add(1)?;
+        self.push_byte(b'(')?;
+        self.waiting.push(Open::ArgumentEnumerator {
+            from,
+            number: 0,
+            known: NOWHERE,
+        })?;
+        self.named_type::<G>(s)
+    }
+
+    /// An enumerator comes next, after n + 1 arguments of a name: reads it up to the first type in its type.
+    // <expr-primary> ::= L <type> <value number> E
+    #[inline(never)]
+    fn next_enumerator<G: Grammar>(&mut self, s: &[u8], last: u8, known: Arguments) -> Option<Step>
+        requires fits { IsReadable s.now }
+        requires letter { StandsAt s.now self.old.at (76 ∷ []) }
+        requires awaits { AwaitsKnownArgument (symbol_by G.IS_WIDE G.IS_BARE G.IS_BRIEF s.now) self.old false last known }
+        ensures { IfSome result (IsWriting (symbol_by G.IS_WIDE G.IS_BARE G.IS_BRIEF s.now) self.new) }
+    {
+        self.push_pair(b',', b' ')?;
+        let from = self.text.end();
+        let number = last.checked_add(1)?;
+        self.at = self.at.checked_add(1)?;
+        self.push_byte(b'(')?;
+        self.waiting.push(Open::ArgumentEnumerator {
+            from,
+            number,
+            known,
+        })?;
+        self.named_type::<G>(s)
+    }
+
+    /// The type of such an enumerator is read: reads its number.
+    // <expr-primary> ::= L <type> <value number> E
+    #[inline(never)]
+    pub(crate) fn argument_enumerator<G: Grammar>(
+        &mut self,
+        s: &[u8],
+        from: u32,
+        number: u8,
+        known: Arguments,
+    ) -> Option<Step>
+        requires fits { IsReadable s.now }
+        requires awaits { AwaitsArgumentNumber (symbol_by G.IS_WIDE G.IS_BARE G.IS_BRIEF s.now) self.old from number known }
+        ensures { IfSome result (IsWriting (symbol_by G.IS_WIDE G.IS_BARE G.IS_BRIEF s.now) self.new) }
+    {
+        if self.ends_as_integer() {
+            return None;
+        }
+        let _open = self.waiting.pop();
+        self.push_byte(b')')?;
+        self.number(s)?;
+        self.literal_ended(s)?;
+        self.waiting.push(Open::Argument {
+            from,
+            number,
+            known,
+        })?;
+        self.argument_ended::<G>(s, from, number, known, false)
+    }
+
     /// An argument of a name comes next, after n others.
     // <template-args> ::= I <template-arg>* E
     fn next_argument<G: Grammar>(&mut self, s: &[u8], before: u8, known: Arguments) -> Option<Step>
@@ -370,7 +453,7 @@ impl Direct {
             return self.last_pack_empty::<G>(s, last, known);
         }
         // a literal isn't known, nor is what follows it
-        if byte == b'L' || is_element_at(s, behind) {
+        if byte == b'L' || is_unknown_at(s, behind) {
             return Some(Step::List { is_first: false });
         }
         self.push_pair(b',', b' ')?;

@@ -16,7 +16,7 @@ ghost use Rattle.cpp_direct.specs.Symbol.{detail_by, symbol_by};
 use crate::direct::Direct;
 use crate::enclosing::LONGEST_GONE_OVER;
 use crate::grammar::Grammar;
-use crate::open::{Nest, Open, Purpose, Step};
+use crate::open::{Holder, Nest, Open, Step};
 use crate::tokens::{are_numbers_short, byte_at};
 
 impl Direct {
@@ -66,7 +66,7 @@ impl Direct {
         requires letter { StandsAt s.now self.old.at (85 ∷ []) }
         ensures { IfSome result (IsWriting (symbol_by G.IS_WIDE G.IS_BARE G.IS_BRIEF s.now) self.new) }
     {
-        self.open_lambda(s, from, None)?;
+        self.open_lambda(s, from, Holder::Function)?;
         Some(Step::Type)
     }
 
@@ -81,15 +81,16 @@ impl Direct {
         if self.nest.is_dependent {
             return None;
         }
-        self.open_lambda(s, self.nest.from, Some(self.nest.purpose))?;
+        let purpose = self.nest.purpose;
+        self.open_lambda(s, self.nest.from, Holder::Name { purpose })?;
         Some(Step::Type)
     }
 
     /// Opens the parameters of a lambda, in a symbol that isn't a long one: each lambda scans the symbol once more.
     // <closure-type-name> ::= Ul <lambda-sig> E [<nonnegative number>] _
-    fn open_lambda(&mut self, s: &[u8], from: u32, nested: Option<Purpose>) -> Option<()>
+    pub(crate) fn open_lambda(&mut self, s: &[u8], from: u32, holder: Holder) -> Option<()>
         requires { StandsAt s.now self.old.at (85 ∷ []) }
-        ensures { OnSome result (IsLambdaOpened s.now self.old self.new from nested) }
+        ensures { OnSome result (IsLambdaOpened s.now self.old self.new from holder) }
     {
         self.at = self.at.checked_add(1)?;
         if byte_at(s, self.at) != b'l' {
@@ -101,7 +102,7 @@ impl Direct {
         }
         self.at = self.at.checked_add(1)?;
         self.push(b"::{lambda(")?;
-        self.waiting.push(Open::Lambda { from, nested })
+        self.waiting.push(Open::Lambda { from, holder })
     }
 
     /// A parameter of a lambda is read: another one follows, or the lambda's end.
@@ -110,10 +111,10 @@ impl Direct {
         &mut self,
         s: &[u8],
         from: u32,
-        nested: Option<Purpose>,
+        holder: Holder,
     ) -> Option<Step>
         requires fits { IsReadable s.now }
-        requires read { IsLambdaParameterRead (symbol_by G.IS_WIDE G.IS_BARE G.IS_BRIEF s.now) self.old from nested }
+        requires read { IsLambdaParameterRead (symbol_by G.IS_WIDE G.IS_BARE G.IS_BRIEF s.now) self.old from holder }
         ensures { IfSome result (IsWriting (symbol_by G.IS_WIDE G.IS_BARE G.IS_BRIEF s.now) self.new) }
     {
         if byte_at(s, self.at) != b'E' {
@@ -128,25 +129,20 @@ impl Direct {
         self.push_pair(b')', b'#')?;
         self.lambda_number(s)?;
         let _open = self.waiting.pop();
-        self.lambda_ended::<G>(s, from, nested)
+        self.lambda_ended::<G>(s, from, holder)
     }
 
     /// A lambda is read. One in a function is a type. A nested name that has it as a component continues after it, but a
-    /// constructor that is named after it is given up.
+    /// constructor that is named after it is given up. A member function's name ends after it.
     // <local-name> ::= Z <function encoding> E <entity name> [<discriminator>]
     // <prefix> ::= <prefix> <unqualified-name>
-    fn lambda_ended<G: Grammar>(
-        &mut self,
-        s: &[u8],
-        from: u32,
-        nested: Option<Purpose>,
-    ) -> Option<Step>
+    fn lambda_ended<G: Grammar>(&mut self, s: &[u8], from: u32, holder: Holder) -> Option<Step>
         requires fits { IsReadable s.now }
-        requires read { IsLambdaRead (symbol_by G.IS_WIDE G.IS_BARE G.IS_BRIEF s.now) self.old from nested }
+        requires read { IsLambdaRead (symbol_by G.IS_WIDE G.IS_BARE G.IS_BRIEF s.now) self.old from holder }
         ensures { IfSome result (IsWriting (symbol_by G.IS_WIDE G.IS_BARE G.IS_BRIEF s.now) self.new) }
     {
-        match nested {
-            None => {
+        match holder {
+            Holder::Function => {
                 self.discriminator(s)?;
                 self.add_candidate(from, false, false)?;
                 Some(Step::Value {
@@ -154,7 +150,7 @@ impl Direct {
                     is_dependent: false,
                 })
             }
-            Some(purpose) => {
+            Holder::Name { purpose } => {
                 self.nest = Nest {
                     from,
                     class_from: from,
@@ -167,6 +163,7 @@ impl Direct {
                 };
                 Some(Step::Tail)
             }
+            Holder::Member { mark } => self.member_function::<G>(s, mark),
         }
     }
 }

@@ -9,6 +9,7 @@
 mod addresses;
 mod arrays;
 mod clones;
+mod constructions;
 mod direct;
 mod enclosing;
 mod functions;
@@ -21,6 +22,7 @@ mod levels;
 mod lists;
 mod locals;
 mod marks;
+mod member_functions;
 mod names;
 mod nested;
 mod open;

@@ -1,6 +1,6 @@
 // Template arguments.
 
-ghost use Rattle.std.specs.Prelude.{◌≡◌, ◌∷◌, [], ◌⊎◌, ◌+◌, ℕ, List, Bool, length, nat_eq, true};
+ghost use Rattle.std.specs.Prelude.{◌≡◌, ◌∷◌, [], ◌⊎◌, ◌+◌, ℕ, List, Bool, length, nat_eq, true, false};
 ghost use Rattle.std.specs.Option.{OnSome, IfSome};
 ghost use Rattle.cpp_grammar.specs.Parts.{is_plain_integer};
 ghost use Rattle.cpp_grammar.specs.Term.{builtin};
@@ -12,7 +12,7 @@ ghost use Rattle.cpp_direct.specs.Holes.{StandsAt};
 ghost use Rattle.cpp_direct.specs.HolesOfLists.{IsDigitsAt, minus_sign};
 ghost use Rattle.cpp_direct.specs.ItemBytes.{is_integer_letter};
 ghost use Rattle.cpp_direct.specs.WriterInvariant.{IsWriting};
-ghost use Rattle.cpp_direct.specs.MidStep.{IsListEnded, AwaitsNextArgument, AwaitsNumber, IsLiteralRead, truth_text, number_text, integer_text};
+ghost use Rattle.cpp_direct.specs.MidStep.{EndsOtherwise, IsListEnded, AwaitsNextArgument, AwaitsNumber, IsLiteralRead, truth_text, number_text, integer_text};
 ghost use Rattle.cpp_direct.specs.Written.{Reads};
 ghost use Rattle.cpp_direct.specs.Symbol.{symbol_by};
 
@@ -110,9 +110,10 @@ impl Direct {
             self.push_pair(b',', b' ')?;
         }
         if G::IS_WIDE && byte == b'X' {
-            let behind = self.at.checked_add(1)?;
-            if byte_at(s, behind) == b's' {
-                return self.begin_level::<G>(s);
+            match byte_at(s, self.at.checked_add(1)?) {
+                b's' => return self.begin_level::<G>(s),
+                b'T' => return self.parameter_argument::<G>(s),
+                _ => {}
             }
         }
         match byte {
@@ -265,6 +266,25 @@ impl Direct {
         Some(())
     }
 
+    /// Whether what is written ends in a type whose integers omit it, after a bracket or a blank.
+    pub(crate) fn ends_as_integer(&self) -> bool
+        ensures { result ≡ false → EndsOtherwise self.now.text.list.items }
+    {
+        if self.text.as_slice().ends_with(b"(int") {
+            return true;
+        }
+        if self.text.as_slice().ends_with(b" int") {
+            return true;
+        }
+        if self.text.as_slice().ends_with(b"(long") {
+            return true;
+        }
+        if self.text.as_slice().ends_with(b" long") {
+            return true;
+        }
+        false
+    }
+
     /// Reads the number of an enumerator, after its type.
     // <expr-primary> ::= L <type> <value number> E
     pub(crate) fn enumerator<G: Grammar>(&mut self, s: &[u8]) -> Option<Step>
@@ -272,17 +292,7 @@ impl Direct {
         requires awaits { AwaitsNumber (symbol_by G.IS_WIDE G.IS_BARE G.IS_BRIEF s.now) self.old }
         ensures { IfSome result (IsWriting (symbol_by G.IS_WIDE G.IS_BARE G.IS_BRIEF s.now) self.new) }
     {
-        // the integers of some builtin types omit the type
-        if self.text.as_slice().ends_with(b"(int") {
-            return None;
-        }
-        if self.text.as_slice().ends_with(b" int") {
-            return None;
-        }
-        if self.text.as_slice().ends_with(b"(long") {
-            return None;
-        }
-        if self.text.as_slice().ends_with(b" long") {
+        if self.ends_as_integer() {
             return None;
         }
         let _open = self.waiting.pop();
@@ -294,7 +304,7 @@ impl Direct {
 
     /// Reads the end of a literal.
     #[inline(always)]
-    fn literal_ended(&mut self, s: &[u8]) -> Option<()>
+    pub(crate) fn literal_ended(&mut self, s: &[u8]) -> Option<()>
         ensures { OnSome result (StandsAt s.now self.old.at (69 ∷ []) × (self.new.at ≡ self.old.at + 1) × Reads self.old self.new []) }
     {
         if byte_at(s, self.at) != b'E' {
@@ -344,7 +354,7 @@ impl Direct {
     }
 
     // <number> ::= [n] <non-negative decimal integer>
-    fn number(&mut self, s: &[u8]) -> Option<()>
+    pub(crate) fn number(&mut self, s: &[u8]) -> Option<()>
         requires { IsReadable s.now }
         ensures { OnSome result ((is_negative : Bool) × (digits : List ℕ) × StandsAt s.now self.old.at (minus_sign is_negative)
             × IsDigitsAt s.now (self.old.at + length (minus_sign is_negative)) digits self.new.at

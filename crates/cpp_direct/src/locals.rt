@@ -64,6 +64,9 @@ impl Direct {
             return None;
         }
         self.at = self.at.checked_add(1)?;
+        if byte_at(s, self.at) == b'N' {
+            return self.begin_member::<G>(s);
+        }
         if byte_at(s, self.at) == b'L' {
             self.at = self.at.checked_add(1)?;
             return self.entity_name::<G>(s, true);

@@ -17,6 +17,8 @@ pub enum Hiding {
     After { to: u32 },
     /// those that name arguments of the function's template
     Dependent,
+    /// all of them
+    All,
 }
 
 /// An argument of a name, or an element of a pack, and where its text is in what is written.
@@ -85,6 +87,17 @@ pub enum Purpose {
     Enclosing { mark: Mark, encoding: u16 },
     /// the name of a function whose address is an argument, with these qualifiers
     Address { mark: Mark },
+}
+
+/// What a lambda with parameters is a part of.
+#[derive(Clone, Copy)]
+pub enum Holder {
+    /// the function that contains it: it is a type
+    Function,
+    /// a nested name that is read as this
+    Name { purpose: Purpose },
+    /// the name of a function that is its member, in the function that contains it, with these qualifiers
+    Member { mark: Mark },
 }
 
 /// A nested name so far: where its text begins, and where the name of the class is that a constructor would repeat.
@@ -199,14 +212,24 @@ pub enum Open {
         to: u32,
         argument: Arguments,
     },
-    /// the parameters of a lambda in a function, whose text begins at this place; or of one in a nested name, and what that
-    /// name is read as
+    /// the parameters of a lambda, which is a part of this; its text begins at this place
     Lambda {
         from: u32,
-        nested: Option<Purpose>,
+        holder: Holder,
+    },
+    /// the parameters of a function that is a member of a local entity; its name ends at this place
+    Member {
+        mark: Mark,
+        to: u32,
     },
     /// the name of a special symbol
     Special,
+    /// the derived class of a construction table
+    Derived,
+    /// its base class, after the text of the derived one, which ends at this place
+    Base {
+        to: u32,
+    },
     /// the return type of a function type that is an element or a parameter, plain or after a pointer
     Returned {
         is_pointer: bool,
@@ -224,6 +247,12 @@ pub enum Open {
     },
     /// the argument of a name with this number, whose text begins at this place: an element of what was opened before
     Argument {
+        from: u32,
+        number: u8,
+        known: Arguments,
+    },
+    /// the number of an enumerator that is the argument of a name with this number, whose text begins at this place
+    ArgumentEnumerator {
         from: u32,
         number: u8,
         known: Arguments,

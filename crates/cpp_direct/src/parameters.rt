@@ -10,7 +10,7 @@ ghost use Rattle.cpp_direct.specs.Names.{IsReadable};
 ghost use Rattle.cpp_direct.specs.Prints.{IsMarkedBy, pattern_letters};
 ghost use Rattle.cpp_direct.specs.Holes.{StandsAt};
 ghost use Rattle.cpp_direct.specs.WriterInvariant.{IsPackOf, IsWriting, argument_of, arguments_in, is_type, is_within_type};
-ghost use Rattle.cpp_direct.specs.MidStep.{AwaitsType, AreParametersRead, IsNamedAgain, AreExpanded, comma_text, expansion_letters, separator, most_by_digit, parameter_digits};
+ghost use Rattle.cpp_direct.specs.MidStep.{AwaitsNextArgument, AwaitsType, AreParametersRead, IsNamedAgain, AreExpanded, comma_text, expansion_letters, separator, most_by_digit, parameter_digits};
 ghost use Rattle.cpp_direct.specs.Symbol.{symbol_by};
 ghost use Rattle.cpp_direct.specs.Written.{Writes, hidden};
 
@@ -18,6 +18,7 @@ use crate::direct::Direct;
 use crate::grammar::Grammar;
 use crate::open::{Arguments, Candidate, Mark, Open, Pattern, Purpose, Step};
 use crate::tokens::{byte_at, may_end};
+use crate::types::dependent;
 
 /// The number that follows the T of a parameter, one digit at most, and the place after it.
 #[derive(Clone, Copy)]
@@ -357,6 +358,37 @@ impl Direct {
             is_reference: argument.is_reference,
             is_dependent: true,
         })
+    }
+
+    /// Reads an argument that is a parameter as an expression. Only the wide grammar has it.
+    // <template-arg> ::= X <expression> E
+    // <expression> ::= <template-param>
+    #[inline(never)]
+    pub(crate) fn parameter_argument<G: Grammar>(&mut self, s: &[u8]) -> Option<Step>
+        requires fits { IsReadable s.now }
+        requires wide { G.IS_WIDE ≡ true }
+        requires letter { StandsAt s.now self.old.at (88 ∷ []) }
+        requires awaits { AwaitsNextArgument (symbol_by G.IS_WIDE G.IS_BARE G.IS_BRIEF s.now) self.old }
+        ensures { IfSome result (IsWriting (symbol_by G.IS_WIDE G.IS_BARE G.IS_BRIEF s.now) self.new) }
+    {
+        let behind = self.at.checked_add(1)?;
+        if byte_at(s, behind) != b'T' {
+            return None;
+        }
+        let read = parameter_number(s, behind.checked_add(1)?)?;
+        if byte_at(s, read.end) != b'E' {
+            return None;
+        }
+        let named = self.argument()?;
+        let argument = named.single(read.number)?;
+        if named.encoding == 0 {
+            return None;
+        }
+        self.at = read.end.checked_add(1)?;
+        self.repeat(argument.from as u32, argument.to as u32)?;
+        let entry = dependent(self.waiting.pop()?)?;
+        self.waiting.push(entry)?;
+        Some(Step::List { is_first: false })
     }
 
     /// Reads an rvalue reference, up to the first type in it. One to an argument that is itself a reference is that argument.

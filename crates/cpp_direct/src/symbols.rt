@@ -114,6 +114,7 @@ impl Direct {
         match byte_at(s, 3) {
             b'h' => self.begin_thunk::<G>(s),
             b'v' => self.begin_virtual_thunk::<G>(s),
+            b'C' => self.begin_table::<G>(s),
             _ => self.begin_special::<G>(s),
         }
     }
@@ -388,11 +389,11 @@ impl Direct {
         if G::IS_BARE {
             let end = self.text.end();
             self.repeat(0, start)?;
-            self.cut(end)?;
+            self.cut(s, end)?;
             return self.encoded::<G>(s);
         }
         self.push_byte(b')')?;
-        self.cut(start)?;
+        self.cut(s, start)?;
         self.end::<G>(s, mark)
     }
 

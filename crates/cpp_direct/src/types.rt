@@ -28,7 +28,7 @@ fn is_array_behind(s: &[u8], at: usize) -> bool
 }
 
 /// The entry for arguments that include one naming an argument of the function's template, if these may name one.
-fn dependent(entry: Open) -> Option<Open>
+pub fn dependent(entry: Open) -> Option<Open>
     ensures { IfSome result (IsDependentNow entry) }
 {
     match entry {
@@ -300,14 +300,22 @@ impl Direct {
                 to,
                 argument,
             } => self.enclosing_front::<G>(s, mark, from, to, argument),
-            Open::Lambda { from, nested } => self.lambda_parameter::<G>(s, from, nested),
+            Open::Lambda { from, holder } => self.lambda_parameter::<G>(s, from, holder),
+            Open::Member { mark, to } => self.member_parameter::<G>(s, mark, to),
             Open::AddressedFront { mark, to, argument } => self.addressed_front::<G>(
                 s, mark, to, argument,
             ),
             Open::Addressed { mark, to, .. } => self.addressed_parameter::<G>(s, mark, to),
             Open::Address { .. } => None,
             Open::Special => self.finish::<G>(s),
+            Open::Derived => self.derived_ended::<G>(s),
+            Open::Base { to } => self.base_ended::<G>(s, to),
             Open::Enumerator => self.enumerator::<G>(s),
+            Open::ArgumentEnumerator {
+                from,
+                number,
+                known,
+            } => self.argument_enumerator::<G>(s, from, number, known),
             Open::Argument {
                 from,
                 number,

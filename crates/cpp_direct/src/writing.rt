@@ -11,6 +11,7 @@ ghost use Rattle.cpp_direct.specs.declared.open.Hiding.TheVariants as hidings;
 use crate::direct::Direct;
 use crate::grammar::Grammar;
 use crate::open::{Argument, Candidate, Hiding, Open, Step};
+use crate::tokens::is_local;
 use sym_direct::{Bounded, CLOSES, OPENS};
 
 /// A candidate whose text is nowhere: it ends before it begins.
@@ -135,10 +136,11 @@ impl Direct {
         self.text.repeat(from as usize, to as usize)
     }
 
-    /// Removes what was written up to a place, and with it, if there was any, all candidates.
+    /// Removes what was written up to a place. If there was any, there are no candidates then, or before a local entity all of
+    /// them are nowhere.
     #[inline(always)]
-    pub(crate) fn cut(&mut self, start: u32) -> Option<()>
-        ensures { OnSome result (Cuts self.old self.new start) }
+    pub(crate) fn cut(&mut self, s: &[u8], start: u32) -> Option<()>
+        ensures { OnSome result (Cuts s.now self.old self.new start) }
     {
         if start == 0 {
             return Some(());
@@ -147,8 +149,23 @@ impl Direct {
             return None;
         }
         self.text.drop_first(start as usize);
+        if is_local(s) {
+            self.hide_all();
+            return Some(());
+        }
         self.candidates.begin(0);
         Some(())
+    }
+
+    /// All candidates are then nowhere.
+    #[inline(never)]
+    fn hide_all(&mut self)
+        ensures candidates { AreLeft hidings.All self.old.candidates.list.items self.new.candidates.list.items }
+        ensures text { self.new.text ≡ self.old.text }
+        ensures scope { self.new.has_scope ≡ self.old.has_scope }
+        ensures at { self.new.at ≡ self.old.at }
+    {
+        hide(&mut self.candidates, Hiding::All);
     }
 
     /// Removes what was written after a place. Candidates that end after it are then nowhere.
@@ -216,6 +233,7 @@ fn stays(hiding: Hiding, candidate: Candidate) -> bool
     match hiding {
         Hiding::After { to } => candidate.to <= to,
         Hiding::Dependent => !candidate.is_dependent,
+        Hiding::All => false,
     }
 }
 

@@ -11,13 +11,13 @@ use crate::writer::Writer;
 use cpp_direct::{Grammar, Shown, Step, are_name_bytes};
 use sym_print::Detail;
 
-/// The longest symbol that is written this way, in bytes: with its lists, which take at most some 70 bytes for each of its
-/// bytes, a thread keeps 5 MB. The filter has no longer words.
+/// The longest symbol that is written this way, in bytes: with its lists, which take at most some 95 bytes for each of its
+/// bytes, a thread keeps 6 MB. The filter has no longer words.
 const LONGEST: usize = 65_536;
 
-/// The most bytes of text that are written for each byte of a symbol, and those that are written in any case. Of 725,558 real
-/// symbols 70 have longer texts.
-const BYTES_A_BYTE: usize = 8;
+/// The most bytes of text that are written for each byte of a symbol, and those that are written in any case. The text of an
+/// instance is up to twenty times as long as a symbol with many substitutions, and its name is written twice.
+const BYTES_A_BYTE: usize = 32;
 
 const BYTES_ANYWAY: usize = 1_024;
 
@@ -28,7 +28,7 @@ const ROUNDS_A_BYTE: usize = 8;
 /// Writes the text of a symbol, by the wide grammar or by the default and in the requested detail, if the short way reads the
 /// symbol and the text costs at most a limit, and answers whether it did. Where it didn't, nothing is known of the symbol.
 ///
-/// Whatever is answered, at most eight bytes for each of the symbol's and a kilobyte are written, at most eight steps for each
+/// Whatever is answered, at most 32 bytes for each of the symbol's and a kilobyte are written, at most eight steps for each
 /// byte are taken, and no list has more entries than the symbol has bytes: no list has room for more. Text and candidates only
 /// grow, up to the end of a function: what was written of an instance of a function template up to its return type is removed
 /// there, and so is the return type of one whose address is an argument or that contains a type, and what was written after the
@@ -38,7 +38,7 @@ const ROUNDS_A_BYTE: usize = 8;
 pub fn write(writer: &mut Writer, s: &[u8], limit: u32, is_wide: bool, detail: Detail) -> bool
     requires { FitsSymbol s.now }
     ensures answer { result ≡ true → IsAnswer (mangled_by is_wide) detail s.now limit (Ok writer.new.lists.text.list.items) }
-    ensures bytes { length writer.new.lists.text.list.items ≤ 8 * length s.now + 1024 }
+    ensures bytes { length writer.new.lists.text.list.items ≤ 32 * length s.now + 1024 }
     ensures candidates { length writer.new.lists.candidates.list.items ≤ length s.now }
     ensures waiting { length writer.new.lists.waiting.list.items ≤ length s.now }
     ensures rounds { writer.new.rounds ≤ writer.old.rounds + 8 * length s.now }
@@ -60,7 +60,7 @@ pub fn write(writer: &mut Writer, s: &[u8], limit: u32, is_wide: bool, detail: D
 pub fn write_less(writer: &mut Writer, s: &[u8], limit: u32, is_wide: bool, detail: Detail) -> bool
     requires { FitsSymbol s.now }
     ensures answer { result ≡ true → IsAnswer (mangled_by is_wide) detail s.now limit (Ok writer.new.lists.text.list.items) }
-    ensures bytes { length writer.new.lists.text.list.items ≤ 8 * length s.now + 1024 }
+    ensures bytes { length writer.new.lists.text.list.items ≤ 32 * length s.now + 1024 }
     ensures candidates { length writer.new.lists.candidates.list.items ≤ length s.now }
     ensures waiting { length writer.new.lists.waiting.list.items ≤ length s.now }
     ensures rounds { writer.new.rounds ≤ writer.old.rounds + 8 * length s.now }

@@ -42,7 +42,7 @@ impl Writer {
     #[inline(always)]
     pub(crate) fn restart(&mut self, s: &[u8], bytes: u32)
         requires fits { FitsSymbol s.now }
-        requires bytes { bytes ≤ 8 * length s.now + 1024 }
+        requires bytes { bytes ≤ 32 * length s.now + 1024 }
         ensures fresh { IsFresh self.new.lists }
         ensures text_room { self.new.lists.text.room ≡ bytes }
         ensures candidate_room { self.new.lists.candidates.room ≡ length s.now }

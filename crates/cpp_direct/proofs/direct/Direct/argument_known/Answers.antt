@@ -3,8 +3,8 @@ use Rattle.cpp_direct.proofs.Arguments.{argument-closes, known-passes}
 use Rattle.cpp_direct.proofs.TypesRead.{there}
 use Rattle.cpp_direct.proofs.direct.Direct.argument_known.Goals as goal
 
-pub returns-then-byte-eq76 : goal.returns-then-byte-eq76
-returns-then-byte-eq76 g c = known-passes _ c.args.self.now false c.args.last c.args.known c.requires.awaits
+pub returns-then-is_element_at : goal.returns-then-is_element_at
+returns-then-is_element_at g c = known-passes _ c.args.self.now false c.args.last c.args.known c.requires.awaits
 
 pub close_list-requires-clause-ended : goal.close_list-requires-clause-ended
 close_list-requires-clause-ended g c =

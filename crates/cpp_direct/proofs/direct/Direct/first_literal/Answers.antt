@@ -6,8 +6,8 @@ use Rattle.cpp_direct.proofs.direct.Direct.first_literal.Goals as goal
 pub literal-requires-clause-awaits : goal.literal-requires-clause-awaits
 literal-requires-clause-awaits g c = first-expected _ c.args.self.now _ true c.requires.writing refl refl
 
-pub literal-requires-then-is_enumerator_at-clause-awaits : goal.literal-requires-then-is_enumerator_at-clause-awaits
-literal-requires-then-is_enumerator_at-clause-awaits g c = first-expected _ c.args.self.now _ true c.requires.writing refl refl
+pub first_enumerator-requires-clause-named : goal.first_enumerator-requires-clause-named
+first_enumerator-requires-clause-named g c = c.is_named.ensures c.if-not-is_named.false
 
 pub argument_ended-requires-clause-read : goal.argument_ended-requires-clause-read
 argument_ended-requires-clause-read g c =

@@ -6,7 +6,7 @@ use Rattle.cpp_direct.proofs.direct.Direct.lambda_parameter.Goals as goal
 
 pub returns-then-byte_at-ne69 : goal.returns-then-byte_at-ne69
 returns-then-byte_at-ne69 g c =
-    lambda-next _ c.args.self.now c.push_pair.new.self c.args.from c.args.nested c.requires.read c.in_ok-push_pair.ensures
+    lambda-next _ c.args.self.now c.push_pair.new.self c.args.from c.args.holder c.requires.read c.in_ok-push_pair.ensures
 
 pub lambda_ended-requires-clause-read : goal.lambda_ended-requires-clause-read
 lambda_ended-requires-clause-read g c =
@@ -15,7 +15,7 @@ lambda_ended-requires-clause-read g c =
     let number = c.in_ok-lambda_number.ensures in
     let one = c.in_ok-push_pair-2.ensures in
     lambda-ended _ w c.in_ok-self.field-0 c.push_pair-2.new.self c.lambda_number.new.self (record c.lambda_number.new.self { waiting = c.pop-open.new.self })
-    c.args.from c.args.nested p
+    c.args.from c.args.holder p
     (no-void c.as_slice.result.now (p.front ++ (p.bytes ++ codes "::{lambda")) p.texts (c.as_slice.ensures ∙ p.written ∙ lambda-bracket p.front p.bytes p.texts)
     (sym c.ends_with.ensures.value ∙ c.if-ends_with.false))
     (there c.args.s.now w.at c.byte_at.result 69 c.if-byte_at-ne69.false (omega arith) c.byte_at.ensures)

@@ -38,6 +38,15 @@ begin_level-requires-clause-awaits g c = elim c.if-not-is_first.branch [
       first-expected _ c.args.self.now c.if-not-is_first.self c.args.is_first c.requires.writing w.if-not-is_first.false w.self-is
 ]
 
+pub parameter_argument-requires-clause-awaits : goal.parameter_argument-requires-clause-awaits
+parameter_argument-requires-clause-awaits g c = elim c.if-not-is_first.branch [
+  | then-not-is_first+in_ok-push_pair w ↦
+      another-expected _ c.args.self.now w.push_pair.new.self c.if-not-is_first.self c.args.is_first c.requires.writing w.if-not-is_first.true
+      w.in_ok-push_pair.ensures w.self-is
+  | else-not-is_first w ↦
+      first-expected _ c.args.self.now c.if-not-is_first.self c.args.is_first c.requires.writing w.if-not-is_first.false w.self-is
+]
+
 pub returns-else-is_first-3 : goal.returns-else-is_first-3
 returns-else-is_first-3 g c = type-expected _ c.if-not-is_first.self (elim c.if-not-is_first.branch [
   | then-not-is_first+in_ok-push_pair w ↦

@@ -3,7 +3,8 @@ use Rattle.cpp_direct.specs.declared.open.Open.TheVariants as opens
 use Rattle.cpp_direct.proofs.Handed.{value-element, value-returned, value-signature, value-enumerator, argument-read, special-read, takes-elements}
 use Rattle.cpp_direct.proofs.FunctionsWithin.{front-read, parameter-read-within, type-led}
 use Rattle.cpp_direct.proofs.LambdasRead.{lambda-parameter-read}
-use Rattle.cpp_direct.proofs.Arguments.{value-argument}
+use Rattle.cpp_direct.proofs.MemberFunctions.{member-parameter-read}
+use Rattle.cpp_direct.proofs.Arguments.{value-argument, value-argument-enumerator}
 use Rattle.cpp_direct.proofs.Signatures.{value-array}
 use Rattle.cpp_direct.proofs.direct.Direct.pass_closed.Goals as goal
 
@@ -50,18 +51,37 @@ addressed_parameter-requires-clause-read g c = (
 
 pub lambda_parameter-requires-clause-read : goal.lambda_parameter-requires-clause-read
 lambda_parameter-requires-clause-read g c =
-    lambda-parameter-read _ c.args.self.now c.in-Lambda.from c.in-Lambda.nested
-    (value-element _ c.args.self.now c.args.is_reference (opens.Lambda c.in-Lambda.from c.in-Lambda.nested) c.requires.writing
+    lambda-parameter-read _ c.args.self.now c.in-Lambda.from c.in-Lambda.holder
+    (value-element _ c.args.self.now c.args.is_reference (opens.Lambda c.in-Lambda.from c.in-Lambda.holder) c.requires.writing
     (c.requires.waits ∙ ap (λ o. Some o) c.in-Lambda.is))
+
+pub member_parameter-requires-clause-read : goal.member_parameter-requires-clause-read
+member_parameter-requires-clause-read g c =
+    member-parameter-read _ c.args.self.now c.in-Member.mark c.in-Member.to
+    (value-element _ c.args.self.now c.args.is_reference (opens.Member c.in-Member.mark c.in-Member.to)
+    c.requires.writing (c.requires.waits ∙ ap (λ o. Some o) c.in-Member.is))
 
 pub finish-requires : goal.finish-requires
 finish-requires g c =
     special-read _ c.args.self.now
     (value-element _ c.args.self.now c.args.is_reference opens.Special c.requires.writing (c.requires.waits ∙ ap (λ o. Some o) c.in-Special.is))
 
+pub derived_ended-requires-clause-read : goal.derived_ended-requires-clause-read
+derived_ended-requires-clause-read g c =
+    value-element _ c.args.self.now c.args.is_reference opens.Derived c.requires.writing (c.requires.waits ∙ ap (λ o. Some o) c.in-Derived.is)
+
+pub base_ended-requires-clause-read : goal.base_ended-requires-clause-read
+base_ended-requires-clause-read g c =
+    value-element _ c.args.self.now c.args.is_reference (opens.Base c.in-Base.to) c.requires.writing (c.requires.waits ∙ ap (λ o. Some o) c.in-Base.is)
+
 pub enumerator-requires-clause-awaits : goal.enumerator-requires-clause-awaits
 enumerator-requires-clause-awaits g c =
     value-enumerator _ c.args.self.now c.args.is_reference c.requires.writing (c.requires.waits ∙ ap (λ o. Some o) c.in-Enumerator.is)
+
+pub argument_enumerator-requires-clause-awaits : goal.argument_enumerator-requires-clause-awaits
+argument_enumerator-requires-clause-awaits g c =
+    value-argument-enumerator _ c.args.self.now c.args.is_reference c.in-ArgumentEnumerator.from c.in-ArgumentEnumerator.number c.in-ArgumentEnumerator.known
+    c.requires.writing (c.requires.waits ∙ ap (λ o. Some o) c.in-ArgumentEnumerator.is)
 
 pub argument_ended-requires-clause-read : goal.argument_ended-requires-clause-read
 argument_ended-requires-clause-read g c =
@@ -77,6 +97,6 @@ pub returns-in_default : goal.returns-in_default
 returns-in_default g c =
     argument-read _ c.args.self.now c.args.entry
     (value-element _ c.args.self.now c.args.is_reference c.args.entry c.requires.writing c.requires.waits)
-    (takes-elements c.args.entry c.requires.others c.in_default.not-Returned c.in_default.not-Signature c.in_default.not-Special c.in_default.not-Enumerator
-    c.in_default.not-Enclosing c.in_default.not-EnclosingInstance c.in_default.not-EnclosingFront c.in_default.not-Argument c.in_default.not-Lambda c.in_default.not-Element c.in_default.not-Array
-    c.in_default.not-Address c.in_default.not-AddressedFront c.in_default.not-Addressed)
+    (takes-elements c.args.entry c.requires.others c.in_default.not-Returned c.in_default.not-Signature c.in_default.not-Special c.in_default.not-Derived c.in_default.not-Base c.in_default.not-Enumerator
+    c.in_default.not-Enclosing c.in_default.not-EnclosingInstance c.in_default.not-EnclosingFront c.in_default.not-Argument c.in_default.not-Lambda c.in_default.not-Member c.in_default.not-Element c.in_default.not-Array
+    c.in_default.not-Address c.in_default.not-AddressedFront c.in_default.not-Addressed c.in_default.not-ArgumentEnumerator)

@@ -1,6 +1,9 @@
 use Rattle.std.proofs.Common.{refl, subst}
 use Rattle.cpp_direct.specs.declared.open.Open.TheVariants as opens
+use Rattle.cpp_direct.specs.MidStep.{IsElementPassed}
+use Rattle.cpp_direct.specs.Symbol.{symbol_by}
 use Rattle.cpp_direct.specs.WriterInvariant.{TakesFunction}
+use Rattle.cpp_direct.proofs.Arguments.{element-passed}
 use Rattle.cpp_direct.proofs.Signatures.{passed-on, takes-as-element}
 use Rattle.cpp_direct.proofs.FunctionsWithin.{parameter-read-within}
 use Rattle.cpp_direct.proofs.InstancesWithin.{element-instance}
@@ -31,6 +34,13 @@ finish-requires g c =
     special-read _ c.args.self.now (passed-on _ c.args.self.now opens.Special c.requires.passed
     (waits-last _ _ _ _ c.as_slice.ensures c.in_ok-mark.ensures.value c.in-Special.is))
 
+pub element_ended-requires-clause-read : goal.element_ended-requires-clause-read
+element_ended-requires-clause-read g c =
+    let s = symbol_by g.G.Grammar.IS_WIDE g.G.Grammar.IS_BARE g.G.Grammar.IS_BRIEF c.args.s.now in
+    element-passed s c.args.self.now c.in-Element.from c.in-Element.number c.in-Element.known
+    (subst (λ b. IsElementPassed s c.args.self.now b) c.if-not-is_reference.false c.requires.passed)
+    (waits-last _ _ _ _ c.as_slice.ensures c.in_ok-mark.ensures.value c.in-Element.is)
+
 pub returns-in_default : goal.returns-in_default
 returns-in_default g c =
     let o = c.in_ok-mark.field-0.now in
@@ -38,4 +48,4 @@ returns-in_default g c =
     let read = passed-on _ c.args.self.now o p (waits-last _ _ _ _ c.as_slice.ensures c.in_ok-mark.ensures.value refl) in
     argument-read _ c.args.self.now o read
     (takes-as-element o read.rest (subst TakesFunction read.open_is p.takes) c.in_default.not-Parameters c.in_default.not-Special c.in_default.not-Enclosing
-    c.in_default.not-EnclosingInstance)
+    c.in_default.not-EnclosingInstance c.in_default.not-Element)
