@@ -2079,6 +2079,7 @@ static u8 make_ready_9a1(u8* a);
 static COLD u8 grow_amortized_920(u8* a,u64 b);
 static u16 abbreviation_6bb(u8 a);
 static void substitution_9ce(u8* a,u8* b,u8* c,u64 d);
+static void argument_dbb(u8* a,u8* b);
 static u8 repeat_28b(u8* a,u64 b,u64 c);
 static void begin_clone_783(u8* a,u8* b,u8* c,u64 d);
 static void begin_encoding_254(u8* a,u8* b,u8* c,u64 d);
@@ -2087,9 +2088,19 @@ static s_8_8 operator_name_c97(u8* a,u8* b,u64 c);
 static void unscoped_named_e54(u8* a,u8* b,u8* c,u64 d,u32 e,u8 f);
 static void name_ended_fde(u8* a,u8* b,u8* c,u64 d,u8 e,u8 f,u8* g,u32 h);
 static void end_05d(u8* a,u8* b,u8* c,u64 d,u8 e);
+static void begin_member_793(u8* a,u8* b,u8* c,u64 d);
+static u8 open_lambda_2e5(u8* a,u8* b,u64 c,u32 d,u8* e);
+static u8 are_numbers_short_ddb(u8* a,u64 b);
+static u8 lambda_b09(u8* a,u8* b,u64 c);
+static u8 lambda_number_bca(u8* a,u8* b,u64 c);
+static void member_function_aa3(u8* a,u8* b,u8* c,u64 d,u8 e);
+static void member_parameters_1d0(u8* a,u8* b,u8* c,u64 d,u8 e);
+static void member_ended_9dc(u8* a,u8* b,u8* c,u64 d,u8 e);
+static void entity_name_076(u8* a,u8* b,u8* c,u64 d);
 static void finish_8cd(u8* a,u8* b,u8* c,u64 d);
 static void begin_front_2b4(u8* a,u8* b,u8* c,u64 d,u8 e,u8* f,u32 g);
 static void close_a33(u8* a,u8* b,u8* c,u64 d,u8 e,u32 f);
+static void hide_all_828(u8* a);
 static void expansion_d9b(u8* a,u8* b,u8* c,u64 d,u8 e,u8 f,u32 g,u8* h);
 static u8 expand_all_4dc(u8* a,u8* b,u8 c);
 static u8 add_expansion_587(u8* a,u8 b);
@@ -2097,6 +2108,7 @@ static void begin_operator_9c9(u8* a,u8* b,u8* c,u64 d);
 static void begin_name_824(u8* a,u8* b,u8* c,u64 d);
 static void begin_thunk_2c0(u8* a,u8* b,u8* c,u64 d);
 static void begin_virtual_thunk_979(u8* a,u8* b,u8* c,u64 d);
+static void begin_table_89f(u8* a,u8* b);
 static void begin_special_44d(u8* a,u8* b,u8* c,u64 d);
 static void type_at_188(u8* a,u8* b,u8* c,u64 d,u8 e);
 static void begin_function_7aa(u8* a,u8* b,u8 c);
@@ -2110,9 +2122,6 @@ static void dependent_again_186(u8* a,u8* b,u8* c);
 static void begin_enclosing_06f(u8* a,u8* b,u8* c,u64 d);
 static void enclosing_ended_205(u8* a,u8* b,u8* c,u64 d,u8 e,u32 f);
 static void enclosed_named_b0c(u8* a,u8* b,u8* c,u64 d,u32 e);
-static u8 lambda_number_bca(u8* a,u8* b,u64 c);
-static u8 open_lambda_2e5(u8* a,u8* b,u64 c,u32 d,u8* e);
-static u8 are_numbers_short_ddb(u8* a,u64 b);
 static void enclosing_parameters_015(u8* a,u8* b,u8* c,u64 d,u8 e,u32 f);
 static void parameter_ended_06e(u8* a,u8* b,u8* c,u64 d,u8 e,u32 f,u8* g);
 static void front_ended_ee9(u8* a,u8* b,u8* c,u64 d,u8 e,u32 f,u8* g);
@@ -2125,16 +2134,23 @@ static void addressed_parameters_382(u8* a,u8* b,u8* c,u64 d,u8 e,u32 f,u8* g);
 static void addressed_marked_35f(u8* a,u8* b,u8* c,u64 d,u8 e);
 static void addressed_parameter_41c(u8* a,u8* b,u8* c,u64 d,u8 e);
 static void enclosing_front_fa8(u8* a,u8* b,u8 c,u32 d,u32 e,u8* f);
+static void dependent_8e0(u8* a,u8* b);
 static void returned_acd(u8* a,u8* b,u8* c,u64 d,u8 e);
 static void function_ended_049(u8* a,u8* b,u8* c,u64 d,u8 e);
-static void pass_element_c99(u8* a,u8* b,u8* c,u64 d);
+static void pass_element_c99(u8* a,u8* b,u8* c,u64 d,u8 e);
 static void parameter_at_c04(u8* a,u8* b,u8* c,u64 d,u8 e,u8 f);
 static void array_ended_08d(u8* a,u8* b,u8* c,u64 d,u8 e,u32 f,u32 g);
 static void lambda_parameter_f9a(u8* a,u8* b,u8* c,u64 d,u32 e,u8* f);
+static void member_parameter_678(u8* a,u8* b,u8* c,u64 d,u8 e);
+static void derived_ended_aef(u8* a,u8* b,u8* c,u64 d);
+static void base_ended_299(u8* a,u8* b,u8* c,u64 d,u32 e);
 static void enumerator_21c(u8* a,u8* b,u8* c,u64 d);
+static u8 ends_as_integer_bdf(u8* a);
 static u8 number_63f(u8* a,u8* b,u64 c);
 static u8 digits_418(u8* a,u8* b,u64 c,u8 d);
+static void argument_enumerator_c0e(u8* a,u8* b,u8* c,u64 d,u32 e,u8 f,u8* g);
 static void argument_ended_2ff(u8* a,u8* b,u8* c,u64 d,u32 e,u8 f,u8* g,u8 h);
+static void next_enumerator_8be(u8* a,u8* b,u8* c,u64 d,u8 e,u8* f);
 static u8 is_element_at_f4e(u8* a,u64 b,u64 c);
 static void next_pack_bbb(u8* a,u8* b,u8* c,u64 d,u8 e,u8* f);
 static void begin_address_4df(u8* a,u8* b,u8* c,u64 d);
@@ -2147,7 +2163,9 @@ static void element_ended_d46(u8* a,u8* b,u8* c,u64 d,u32 e,u8 f,u8* g,u8 h);
 static void empty_pack_06f(u8* a,u8* b,u8* c,u64 d,u8 e);
 static void first_pack_117(u8* a,u8* b,u8* c,u64 d);
 static void begin_level_d05(u8* a,u8* b,u8* c,u64 d);
+static void parameter_argument_7c8(u8* a,u8* b,u8* c,u64 d);
 static void first_literal_618(u8* a,u8* b,u8* c,u64 d);
+static void first_enumerator_9e2(u8* a,u8* b,u8* c,u64 d);
 static void literal_9d0(u8* a,u8* b,u8* c,u64 d);
 static void nest_ended_003(u8* a,u8* b,u8* c,u64 d);
 static void addressed_named_a52(u8* a,u8* b,u8* c,u64 d,u8 e);
@@ -2162,6 +2180,9 @@ static void begin_in_std_5d2(u8* a,u8* b,u8* c,u64 d);
 static void unscoped_named_6a9(u8* a,u8* b,u8* c,u64 d,u32 e,u8 f);
 static void name_ended_a18(u8* a,u8* b,u8* c,u64 d,u8 e,u8 f,u8* g,u32 h);
 static void encoded_306(u8* a,u8* b,u8* c,u64 d);
+static void begin_member_002(u8* a,u8* b,u8* c,u64 d);
+static void member_function_912(u8* a,u8* b,u8* c,u64 d,u8 e);
+static void member_parameters_ecd(u8* a,u8* b,u8* c,u64 d,u8 e);
 static void close_39a(u8* a,u8* b,u8* c,u64 d,u32 e);
 static void expansion_52e(u8* a,u8* b,u8* c,u64 d,u8 e,u32 f,u8* g);
 static void begin_operator_425(u8* a,u8* b,u8* c,u64 d);
@@ -2183,16 +2204,21 @@ static void addressed_parameters_09a(u8* a,u8* b,u8* c,u64 d,u8 e,u32 f,u8* g);
 static void addressed_parameter_2cf(u8* a,u8* b,u8* c,u64 d,u32 e);
 static void returned_322(u8* a,u8* b,u8* c,u64 d,u8 e);
 static void function_ended_365(u8* a,u8* b,u8* c,u64 d,u8 e);
-static void pass_element_695(u8* a,u8* b,u8* c,u64 d);
+static void pass_element_695(u8* a,u8* b,u8* c,u64 d,u8 e);
 static void parameter_at_3ac(u8* a,u8* b,u8* c,u64 d,u8 e,u8 f);
 static void array_ended_1b3(u8* a,u8* b,u8* c,u64 d,u8 e,u32 f,u32 g);
+static void lambda_parameter_383(u8* a,u8* b,u8* c,u64 d,u32 e,u8* f);
+static void member_parameter_7e4(u8* a,u8* b,u8* c,u64 d,u32 e);
+static void argument_enumerator_83a(u8* a,u8* b,u8* c,u64 d,u32 e,u8 f,u8* g);
 static void argument_ended_511(u8* a,u8* b,u8* c,u64 d,u32 e,u8 f,u8* g,u8 h);
+static void next_enumerator_cc1(u8* a,u8* b,u8* c,u64 d,u8 e,u8* f);
 static void next_pack_66f(u8* a,u8* b,u8* c,u64 d,u8 e,u8* f);
 static void begin_address_ef5(u8* a,u8* b,u8* c,u64 d);
 static void close_list_299(u8* a,u8* b,u8* c,u64 d,u8* e);
 static void element_ended_6b8(u8* a,u8* b,u8* c,u64 d,u32 e,u8 f,u8* g,u8 h);
 static void empty_pack_079(u8* a,u8* b,u8* c,u64 d,u8 e);
 static void first_literal_c4d(u8* a,u8* b,u8* c,u64 d);
+static void first_enumerator_aaf(u8* a,u8* b,u8* c,u64 d);
 static void literal_da7(u8* a,u8* b,u8* c,u64 d);
 static void nest_ended_32a(u8* a,u8* b,u8* c,u64 d);
 static void addressed_named_968(u8* a,u8* b,u8* c,u64 d,u8 e);
@@ -2211,7 +2237,14 @@ static void begin_virtual_thunk_1ab(u8* a,u8* b,u8* c,u64 d);
 static void type_at_d83(u8* a,u8* b,u8* c,u64 d,u8 e);
 static void named_type_de5(u8* a,u8* b,u8* c,u64 d);
 static void begin_enclosing_8b6(u8* a,u8* b,u8* c,u64 d);
+static void returned_087(u8* a,u8* b,u8* c,u64 d,u8 e);
+static void function_ended_faf(u8* a,u8* b,u8* c,u64 d,u8 e);
+static void pass_element_9db(u8* a,u8* b,u8* c,u64 d,u8 e);
+static void parameter_at_d02(u8* a,u8* b,u8* c,u64 d,u8 e,u8 f);
+static void array_ended_a11(u8* a,u8* b,u8* c,u64 d,u8 e,u32 f,u32 g);
+static void argument_enumerator_071(u8* a,u8* b,u8* c,u64 d,u32 e,u8 f,u8* g);
 static void argument_ended_c7c(u8* a,u8* b,u8* c,u64 d,u32 e,u8 f,u8* g,u8 h);
+static void next_enumerator_412(u8* a,u8* b,u8* c,u64 d,u8 e,u8* f);
 static void next_pack_095(u8* a,u8* b,u8* c,u64 d,u8 e,u8* f);
 static void begin_address_731(u8* a,u8* b,u8* c,u64 d);
 static void close_list_148(u8* a,u8* b,u8* c,u64 d,u8* e);
@@ -2219,6 +2252,7 @@ static void element_ended_c50(u8* a,u8* b,u8* c,u64 d,u32 e,u8 f,u8* g,u8 h);
 static void empty_pack_c74(u8* a,u8* b,u8* c,u64 d,u8 e);
 static void begin_level_398(u8* a,u8* b,u8* c,u64 d);
 static void first_literal_898(u8* a,u8* b,u8* c,u64 d);
+static void first_enumerator_82e(u8* a,u8* b,u8* c,u64 d);
 static void literal_47f(u8* a,u8* b,u8* c,u64 d);
 static void components_at_b1b(u8* a,u8* b,u8* c,u64 d);
 static void operator_5af(u8* a,u8* b,u8* c,u64 d);
@@ -2233,12 +2267,20 @@ static void begin_virtual_thunk_2ec(u8* a,u8* b,u8* c,u64 d);
 static void type_at_11d(u8* a,u8* b,u8* c,u64 d,u8 e);
 static void named_type_bf1(u8* a,u8* b,u8* c,u64 d);
 static void begin_enclosing_897(u8* a,u8* b,u8* c,u64 d);
+static void returned_07a(u8* a,u8* b,u8* c,u64 d,u8 e);
+static void function_ended_13c(u8* a,u8* b,u8* c,u64 d,u8 e);
+static void pass_element_fdc(u8* a,u8* b,u8* c,u64 d,u8 e);
+static void parameter_at_257(u8* a,u8* b,u8* c,u64 d,u8 e,u8 f);
+static void array_ended_b9c(u8* a,u8* b,u8* c,u64 d,u8 e,u32 f,u32 g);
+static void argument_enumerator_87a(u8* a,u8* b,u8* c,u64 d,u32 e,u8 f,u8* g);
 static void argument_ended_e71(u8* a,u8* b,u8* c,u64 d,u32 e,u8 f,u8* g,u8 h);
+static void next_enumerator_034(u8* a,u8* b,u8* c,u64 d,u8 e,u8* f);
 static void next_pack_49a(u8* a,u8* b,u8* c,u64 d,u8 e,u8* f);
 static void close_list_3c2(u8* a,u8* b,u8* c,u64 d,u8* e);
 static void element_ended_20b(u8* a,u8* b,u8* c,u64 d,u32 e,u8 f,u8* g,u8 h);
 static void empty_pack_ea9(u8* a,u8* b,u8* c,u64 d,u8 e);
 static void first_literal_c8e(u8* a,u8* b,u8* c,u64 d);
+static void first_enumerator_ea5(u8* a,u8* b,u8* c,u64 d);
 static void literal_4a5(u8* a,u8* b,u8* c,u64 d);
 static void components_at_98c(u8* a,u8* b,u8* c,u64 d);
 static void operator_69e(u8* a,u8* b,u8* c,u64 d);
@@ -44661,21 +44703,20 @@ return;
 /* sym_languages::languages::LanguagesDemangler::append */
 static void append_625(u8* a,u8* b,u8* c,u8 d,u8* e,u64 f,u8* g)
 {
-u8 m[32],o[4],p[32],q[6],s[32],t[32],z[4],A[4];
-A16 u8 h[4],i[4],j[40],k[4],l[4],n[4],r[32],u[4],v[4],w[4],x[32],y[32],B[4],C[4],D[4],E[12],F[12],G[16],H[12],I[12],J[12],K[12],L[12],M[96],N[112],O[24],P[96],Q[88],R[84];
-u32 S,Oa,Xa,Ya,ab,nb,rb,vb,Cb,Kb,Qb,Mc,Yc,ad,sd,ud,Rd,Wd,Zd,qe,se,Be,Ze,ef,hf,jf,kf,of,rf,sf,Bf,Tf,Uf,jg;
-u8 T,Z,fa,ga,ha,ia,ja,ka,na,ta,ua,va,wa,xa,ya,za,Aa,Ca,Da,Ea,Ja,Ma,Na,Ta,Va,Wa,bb,cb,db,eb,hb,ib,jb,kb,lb,ob,sb,tb,ub,wb,xb,Ab,Db,Fb,Hb,Lb,Nb,Ob,Pb,Rb,Tb,Vb,Wb,Xb,Yb,ac,cc,dc,ec,fc,hc,ic,jc,lc,pc,qc,rc,sc,Ac,Ec,Fc,Gc,Hc,Lc,Qc,Uc,Vc,Wc,Xc,Zc,dd,id,jd,kd,od,td,yd,Bd,Gd,Nd,Pd,Qd,Ud,Vd,Xd,Yd,ce,ie,pe,re,Ie,Je,Ke,Le,Se,Te,Ve,Ye,df,ff,gf,mf,nf,xf,yf,zf,Af,Cf,Hf,Vf,Wf,bg,gg,kg,lg;
-u64 U,V,W,X,Y,aa,ba,da,la,ma,oa,pa,qa,Ba,Fa,Ha,Ia,Ka,La,Pa,Sa,fb,gb,mb,pb,qb,yb,zb,Bb,Eb,Gb,Ib,Jb,Mb,Sb,Zb,bc,gc,kc,mc,nc,oc,tc,vc,wc,xc,zc,Bc,Dc,Jc,Nc,Pc,Rc,Tc,bd,cd,fd,gd,hd,ld,md,nd,qd,vd,xd,Ad,Dd,Ed,Fd,Hd,Id,Jd,Md,Od,Td,ae,be,de,ee,fe,je,ke,me,oe,te,ue,ve,we,xe,ye,ze,Ae,Ee,Ge,He,Oe,Qe,Re,Ue,We,Xe,af,tf,Ef,Ff,Gf,If,Jf,Kf,Pf,Qf,Sf,Xf,Yf,Zf,ag,dg,eg,fg,hg,ig,mg;
+u8 m[32],o[4],p[32],s[32],t[32],u[32],A[4],B[4];
+A16 u8 h[4],i[4],j[40],k[4],l[4],n[4],q[6],r[32],v[4],w[4],x[4],y[32],z[32],C[4],D[4],E[4],F[12],G[12],H[16],I[12],J[12],K[12],L[12],M[12],N[96],O[112],P[24],Q[96],R[88],S[84];
+u32 T,Pa,Ya,Za,bb,pb,tb,xb,Eb,Mb,Sb,Oc,ad,cd,ud,xd,Td,Yd,be,se,ue,De,bf,gf,kf,lf,mf,qf,tf,uf,Df,Vf,Wf,lg;
+u8 U,Z,fa,ga,ja,ka,la,ma,na,ta,ua,va,wa,xa,ya,za,Aa,Da,Ea,Fa,Ka,Na,Oa,Ua,Wa,Xa,cb,eb,fb,gb,jb,kb,lb,mb,nb,qb,ub,vb,wb,yb,zb,Cb,Fb,Hb,Jb,Nb,Pb,Qb,Rb,Tb,Vb,Xb,Yb,Zb,ac,cc,ec,fc,gc,hc,jc,kc,lc,nc,rc,sc,tc,uc,Cc,Gc,Hc,Ic,Jc,Nc,Sc,Wc,Xc,Yc,Zc,bd,fd,kd,ld,md,qd,vd,Ad,Dd,Id,Pd,Rd,Sd,Wd,Xd,Zd,ae,ee,ke,re,te,Ke,Le,Me,Ne,Ue,Ve,Xe,af,ff,hf,jf,of,pf,zf,Af,Bf,Cf,Ef,Jf,Xf,Yf,dg,ig,mg,ng;
+u64 V,W,X,Y,aa,ba,da,ha,ia,oa,pa,qa,Ba,Ca,Ga,Ia,Ja,La,Ma,Qa,Ta,hb,ib,ob,rb,sb,Ab,Bb,Db,Gb,Ib,Kb,Lb,Ob,Ub,bc,dc,ic,mc,oc,pc,qc,vc,xc,yc,zc,Bc,Dc,Fc,Lc,Pc,Rc,Tc,Vc,dd,ed,hd,id,jd,nd,od,pd,td,yd,zd,Cd,Fd,Gd,Hd,Jd,Kd,Ld,Od,Qd,Vd,ce,de,fe,ge,he,le,me,oe,qe,ve,we,xe,ye,ze,Ae,Be,Ce,Ge,Ie,Je,Qe,Se,Te,We,Ye,Ze,cf,vf,Gf,Hf,If,Kf,Lf,Mf,Rf,Sf,Uf,Zf,ag,bg,cg,fg,gg,hg,jg,kg,og;
 v16 ca,ea;
-u8 *ra,*sa,*Ga,*Qa,*Ra,*Ua,*Ub,*uc,*yc,*Cc,*Ic,*Kc,*Oc,*Sc,*ed,*pd,*zd,*Cd,*Kd,*Ld,*Sd,*ge,*he,*le,*ne,*Ce,*De,*Fe,*Me,*Ne,*Pe,*bf,*cf,*pf,*qf,*uf,*vf,*wf,*Df,*Lf,*Mf,*Nf,*Of,*Rf,*cg,*ng,*og;
-u16 Za;
-s_64_64 lf;
+u8 *ra,*sa,*Ha,*Ra,*Sa,*Va,*Wb,*wc,*Ac,*Ec,*Kc,*Mc,*Qc,*Uc,*gd,*sd,*Bd,*Ed,*Md,*Nd,*Ud,*ie,*je,*ne,*pe,*Ee,*Fe,*He,*Oe,*Pe,*Re,*df,*ef,*rf,*sf,*wf,*xf,*yf,*Ff,*Nf,*Of,*Pf,*Qf,*Tf,*eg,*pg,*qg;
+u16 ab,db;
+s_64_64 nf;
 if(d==0){
-S=r4(b);
-T=b[4];
-if(T==0){
-U=f<<3;
-V=umin64(S>>2,U+1024);
+T=r4(b);
+U=b[4];
+if(U==0){
+V=umin64(T>>2,(f<<5)+1024);
 if(r8(c+472)!=0)w8(c+472,0);
 w8(c+488,V);
 W=r8(c+480);
@@ -44705,8 +44746,8 @@ ba=da;
 goto L3;}
 L2:ea=v16_at(e+aa);
 if((v16_ult(ea,splat(33))|v16_eq(ea,splat(127)))!=0)goto L1;}
-w4(B,0);
 w4(C,0);
+w4(D,0);
 if(f!=0){
 if(f!=1&&*e==95){
 if(e[1]==90){
@@ -44730,30 +44771,30 @@ case 71:if(e[3]!=86)goto L6;
 if(e[4]!=90)goto L5;
 if(X<19){
 ga=make_ready_8e3(c+464,19,128);
-if(ga==0){
-ha=0;
-ia=0;
+if(!(ga&1)){
 ja=0;
 ka=0;
+la=0;
+ma=0;
 goto L9;}
-la=r8(c+480);
-ma=r8(c+472);}
+ha=r8(c+480);
+ia=r8(c+472);}
 else{
-la=W;
-ma=0;}
-if(la-ma<19){
+ha=W;
+ia=0;}
+if(ha-ia<19){
 na=grow_amortized_e1a(c+464,19);
 if(!na){
-ha=0;
-ia=0;
 ja=0;
 ka=0;
+la=0;
+ma=0;
 goto L9;}
 oa=r8(c+480);
 pa=r8(c+472);}
 else{
-oa=la;
-pa=ma;}
+oa=ha;
+pa=ia;}
 qa=pa+19;
 ra=rp(c+464);
 z16(c+472);
@@ -44764,740 +44805,762 @@ wp(c+464,ra);
 w8(c+472,qa);
 w8(c+480,oa);
 w8(c+640,5);
-begin_encoding_254(z,c+464,e,f);
-ha=z[3];
-ia=z[2];
-ja=z[1];
-ka=*z;
-L9:ta=ha;
-ua=ia;
-va=ja;
-wa=ka;
+begin_encoding_254(A,c+464,e,f);
+ja=A[3];
+ka=A[2];
+la=A[1];
+ma=*A;
+L9:ta=ja;
+ua=ka;
+va=la;
+wa=ma;
 goto L10;
 case 84:break;
 default:goto L8;
 }}
 switch(e[3]){
-case 104:begin_thunk_2c0(C,c+464,e,f);
+case 104:begin_thunk_2c0(D,c+464,e,f);
 goto L11;
-case 118:begin_virtual_thunk_979(C,c+464,e,f);
+case 118:begin_virtual_thunk_979(D,c+464,e,f);
+goto L11;
+case 67:begin_table_89f(D,c+464);
 goto L11;
 default:break;}
-L7:begin_special_44d(C,c+464,e,f);
-L11:xa=C[3];
+L7:begin_special_44d(D,c+464,e,f);
+L11:xa=D[3];
+ya=D[2];
+za=D[1];
+Aa=*D;
+goto L12;
+L6:begin_clone_783(C,c+464,e,f);
+xa=C[3];
 ya=C[2];
 za=C[1];
 Aa=*C;
 goto L12;
-L6:begin_clone_783(B,c+464,e,f);
-xa=B[3];
-ya=B[2];
-za=B[1];
-Aa=*B;
-goto L12;
-L5:begin_object_8f6(B,c+464,e,f);
-xa=B[3];
-ya=B[2];
-za=B[1];
-Aa=*B;
+L5:begin_object_8f6(C,c+464,e,f);
+xa=C[3];
+ya=C[2];
+za=C[1];
+Aa=*C;
 goto L12;
 L4:w8(c+640,3);
-begin_encoding_254(A,c+464,e,f);
-ta=A[3];
-ua=A[2];
-va=A[1];
-wa=*A;
+begin_encoding_254(B,c+464,e,f);
+ta=B[3];
+ua=B[2];
+va=B[1];
+wa=*B;
 L10:xa=ta;
 ya=ua;
 za=va;
 Aa=wa;
 goto L12;}
 L8:w8(c+640,2);
-begin_encoding_254(B,c+464,e,f);
-xa=B[3];
-ya=B[2];
-za=B[1];
-Aa=*B;
+begin_encoding_254(C,c+464,e,f);
+xa=C[3];
+ya=C[2];
+za=C[1];
+Aa=*C;
 L12:if(Aa!=1)goto L1;
-Ba=0;
-Ca=xa;
-Da=ya;
-Ea=za;
-L13:if(Ea==7){
-Fa=r8(c+472);
-if(Fa>V)goto L14;
+Ba=f<<3;
+Ca=0;
+Da=xa;
+Ea=ya;
+Fa=za;
+L13:if(Fa==7){
+Ga=r8(c+472);
+if(Ga>V)goto L14;
 if(r8(c+512)!=0)w8(c+512,0);
 z16(c+528);
 if(r8(c+552)!=0)w8(c+552,0);
 z16(c+568);
-Ga=rp(c+464);
-Ha=r8(g+16);
-Ia=r8(g+8);
-if(Fa>Ha-Ia){
-Ja=grow_amortized_e1a(g,Fa);
-if(!Ja){
-Ma=1;
-Na=4;
-Oa=0;
+Ha=rp(c+464);
+Ia=r8(g+16);
+Ja=r8(g+8);
+if(Ga>Ia-Ja){
+Ka=grow_amortized_e1a(g,Ga);
+if(!Ka){
+Na=1;
+Oa=4;
+Pa=0;
 goto L15;}
-Ka=r8(g+16);
-La=r8(g+8);}
+La=r8(g+16);
+Ma=r8(g+8);}
 else{
-Ka=Ha;
-La=Ia;}
-Pa=La+Fa;
-Qa=rp(g);
+La=Ia;
+Ma=Ja;}
+Qa=Ma+Ga;
+Ra=rp(g);
 z16(g+8);
-Ra=Qa+(i64)La;
-if((u64)Ra-(u64)Ga<Fa)copy_bits_4f4(Ga,Ra,Fa);
-else memmove(Ra,Ga,Fa);
-wp(g,Qa);
-w8(g+8,Pa);
-w8(g+16,Ka);
-Ma=0;
+Sa=Ra+(i64)Ma;
+if((u64)Sa-(u64)Ha<Ga)copy_bits_4f4(Ha,Sa,Ga);
+else memmove(Sa,Ha,Ga);
+wp(g,Ra);
+w8(g+8,Qa);
+w8(g+16,La);
 Na=0;
 Oa=0;
+Pa=0;
 goto L15;}
 w8(c+648,r8(c+648)+1);
-w4(D,0);
-switch(Ea){
-case 0:type_at_188(D,c+464,e,f,0);
+w4(E,0);
+switch(Fa){
+case 0:type_at_188(E,c+464,e,f,0);
 break;
-case 1:type_at_188(D,c+464,e,f,1);
+case 1:type_at_188(E,c+464,e,f,1);
 break;
-case 2:w4(v,0);
-w4(w,0);
-z32(x);
+case 2:w4(w,0);
+w4(x,0);
 z32(y);
-Sa=r8(c+552);
-if(Sa==0)w4(D,0);
+z32(z);
+Ta=r8(c+552);
+if(Ta==0)w4(E,0);
 else{
-Ta=Da&1;
-Ua=rp(c+544)+(i64)(Sa*44);
-Va=Ua[-44];
-Wa=Ua[-43];
-Xa=q4(Ua-40);
-Ya=q4(Ua-36);
-Za=q2(Ua-32);
-switch(Va){
-case 25:case 24:case 23:case 22:case 4:case 5:case 6:case 7:case 8:case 11:case 12:case 13:case 14:case 15:case 16:case 17:case 18:case 19:case 20:case 21:if(Ca&1){
-pass_dependent_123(v,c+464,e,f);
-*D=*v;
-D[1]=v[1];
-D[2]=v[2];
-D[3]=v[3];
+Ua=Ea&1;
+Va=rp(c+544)+(i64)(Ta*44);
+Wa=Va[-44];
+Xa=Va[-43];
+Ya=q4(Va-40);
+Za=q4(Va-36);
+ab=q2(Va-32);
+switch(Wa){
+case 29:case 28:case 27:case 26:case 4:case 5:case 6:case 7:case 8:case 11:case 12:case 13:case 14:case 15:case 16:case 17:case 18:case 19:case 20:case 21:case 22:case 23:case 24:case 25:if(Da&1){
+pass_dependent_123(w,c+464,e,f);
+*E=*w;
+E[1]=w[1];
+E[2]=w[2];
+E[3]=w[3];
 goto L16;}
-ab=q4(Ua-4);
-bb=Ya;
-w4(u,0);
-switch(Va){
-case 19:returned_acd(u,c+464,e,f,Wa&1);
+bb=q4(Va-4);
+cb=Za;
+db=Za>>16;
+w4(v,0);
+switch(Wa){
+case 22:returned_acd(v,c+464,e,f,Xa&1);
 break;
-case 20:parameter_at_c04(u,c+464,e,f,Wa&1,0);
+case 23:parameter_at_c04(v,c+464,e,f,Xa&1,0);
 break;
-case 21:array_ended_08d(u,c+464,e,f,Wa,Xa,Ya);
+case 24:array_ended_08d(v,c+464,e,f,Xa,Ya,Za);
 break;
-case 12:enclosing_parameter_d72(u,c+464,e,f,Wa,Xa);
+case 12:enclosing_parameter_d72(v,c+464,e,f,Xa,Ya);
 break;
-case 13:instance_parameter_e2a(u,c+464,e,f,Wa,Xa,Ya);
+case 13:instance_parameter_e2a(v,c+464,e,f,Xa,Ya,Za);
 break;
-case 11:w2(p,Za);
-memcpy(p+2,Ua-30,26);
-x4(p+28,ab);
-enclosing_front_fa8(u,c+464,Wa,Xa,Ya,p);
+case 11:w2(p,ab);
+memcpy(p+2,Va-30,26);
+x4(p+28,bb);
+enclosing_front_fa8(v,c+464,Xa,Ya,Za,p);
 break;
-case 17:w2(q,(u16)Ya&255);
-w2(q+2,Ya>>16);
-w2(q+4,Za);
-lambda_parameter_f9a(u,c+464,e,f,Xa,q);
+case 17:w4(q,Za);
+w2(q+4,ab);
+lambda_parameter_f9a(v,c+464,e,f,Ya,q);
 break;
-case 15:w4(r,Ya);
-w2(r+4,Za);
-memcpy(r+6,Ua-30,26);
-addressed_front_4c5(u,c+464,e,f,Wa,Xa,r);
+case 18:member_parameter_678(v,c+464,e,f,Xa);
 break;
-case 16:addressed_parameter_41c(u,c+464,e,f,Wa);
+case 15:w4(r,Za);
+w2(r+4,ab);
+memcpy(r+6,Va-30,26);
+addressed_front_4c5(v,c+464,e,f,Xa,Ya,r);
 break;
-case 14:*u=0;
+case 16:addressed_parameter_41c(v,c+464,e,f,Xa);
 break;
-case 18:finish_8cd(u,c+464,e,f);
+case 14:*v=0;
 break;
-case 25:enumerator_21c(u,c+464,e,f);
+case 19:finish_8cd(v,c+464,e,f);
 break;
-case 22:w2(s,Ya>>16);
-w2(s+2,Za);
-memcpy(s+4,Ua-30,26);
-w2(s+30,ab);
-argument_ended_2ff(u,c+464,e,f,Xa,bb,s,Ta);
+case 20:derived_ended_aef(v,c+464,e,f);
 break;
-case 24:w2(t,Ya>>16);
-w2(t+2,Za);
-memcpy(t+4,Ua-30,26);
-w2(t+30,ab);
-element_ended_d46(u,c+464,e,f,Xa,bb,t,Ta);
+case 21:base_ended_299(v,c+464,e,f,Ya);
 break;
-case 23:case 10:case 9:case 8:case 4:case 5:case 6:case 7:*u=1;
-u[1]=3;
-u[2]=0;
-u[3]=0;
+case 29:enumerator_21c(v,c+464,e,f);
+break;
+case 26:w2(s,db);
+w2(s+2,ab);
+memcpy(s+4,Va-30,26);
+w2(s+30,bb);
+argument_enumerator_c0e(v,c+464,e,f,Ya,cb,s);
+break;
+case 25:w2(t,db);
+w2(t+2,ab);
+memcpy(t+4,Va-30,26);
+w2(t+30,bb);
+argument_ended_2ff(v,c+464,e,f,Ya,cb,t,Ua);
+break;
+case 28:w2(u,db);
+w2(u+2,ab);
+memcpy(u+4,Va-30,26);
+w2(u+30,bb);
+element_ended_d46(v,c+464,e,f,Ya,cb,u,Ua);
+break;
+case 27:case 10:case 9:case 8:case 4:case 5:case 6:case 7:*v=1;
+v[1]=3;
+v[2]=0;
+v[3]=0;
 break;
 default:NEVER;
 }
-cb=u[1];
-db=u[2];
-eb=u[3];
-*w=*u;
-w[1]=cb;
-w[2]=db;
-w[3]=eb;
+eb=v[1];
+fb=v[2];
+gb=v[3];
+*x=*v;
+x[1]=eb;
+x[2]=fb;
+x[3]=gb;
 goto L17;
-case 10:w4(x,Ya);
-w2(x+4,Za);
-memcpy(x+6,Ua-30,26);
-parameter_ended_06e(w,c+464,e,f,Wa,Xa,x);
+case 10:w4(y,Za);
+w2(y+4,ab);
+memcpy(y+6,Va-30,26);
+parameter_ended_06e(x,c+464,e,f,Xa,Ya,y);
 goto L17;
-case 9:w4(y,Ya);
-w2(y+4,Za);
-memcpy(y+6,Ua-30,26);
-front_ended_ee9(w,c+464,e,f,Wa,Xa,y);
+case 9:w4(z,Za);
+w2(z+4,ab);
+memcpy(z+6,Va-30,26);
+front_ended_ee9(x,c+464,e,f,Xa,Ya,z);
 goto L17;
-case 0:w8(c+552,Sa-1);
-fb=r8(c+472);
-if(r8(c+496)>fb)gb=fb;
+case 0:w8(c+552,Ta-1);
+hb=r8(c+472);
+if(r8(c+496)>hb)ib=hb;
 else{
-hb=make_ready_8e3(c+464,1,16);
-if(hb==0){
-ib=0;
-jb=0;
+jb=make_ready_8e3(c+464,1,16);
+if(!(jb&1)){
 kb=0;
 lb=0;
+mb=0;
+nb=0;
 goto L18;}
-gb=r8(c+472);}
-*(rp(c+464)+gb)=42;
-mb=gb+1;
-w8(c+472,mb);
-nb=mb;
-ob=Ca&1;
-pb=r8(c+512);
-if(r8(c+536)>pb){
-qb=pb;
-rb=nb;
-sb=0;
-tb=ob;
+ib=r8(c+472);}
+*(rp(c+464)+ib)=42;
+ob=ib+1;
+w8(c+472,ob);
+pb=ob;
+qb=Da&1;
+rb=r8(c+512);
+if(r8(c+536)>rb){
+sb=rb;
+tb=pb;
+ub=0;
+vb=qb;
 goto L19;}
-ub=make_ready_17a(c+504);
-if(ub==0){
-ib=0;
-jb=0;
+wb=make_ready_17a(c+504);
+if(!(wb&1)){
 kb=0;
 lb=0;
+mb=0;
+nb=0;
 goto L18;}
-vb=nb;
-wb=0;
-xb=ob;
+xb=pb;
+yb=0;
+zb=qb;
 break;
-case 1:if(Ta)goto L17;
-w8(c+552,Sa-1);
-yb=r8(c+472);
-if(r8(c+496)>yb)zb=yb;
+case 1:if(Ua)goto L17;
+w8(c+552,Ta-1);
+Ab=r8(c+472);
+if(r8(c+496)>Ab)Bb=Ab;
 else{
-Ab=make_ready_8e3(c+464,1,16);
-if(Ab==0){
-ib=0;
-jb=0;
+Cb=make_ready_8e3(c+464,1,16);
+if(!(Cb&1)){
 kb=0;
 lb=0;
+mb=0;
+nb=0;
 goto L18;}
-zb=r8(c+472);}
-*(rp(c+464)+zb)=38;
-Bb=zb+1;
-w8(c+472,Bb);
-Cb=Bb;
-Db=Ca&1;
-Eb=r8(c+512);
-if(r8(c+536)>Eb){
-qb=Eb;
-rb=Cb;
-sb=1;
-tb=Db;
+Bb=r8(c+472);}
+*(rp(c+464)+Bb)=38;
+Db=Bb+1;
+w8(c+472,Db);
+Eb=Db;
+Fb=Da&1;
+Gb=r8(c+512);
+if(r8(c+536)>Gb){
+sb=Gb;
+tb=Eb;
+ub=1;
+vb=Fb;
 goto L19;}
-Fb=make_ready_17a(c+504);
-if(Fb==0){
-ib=0;
-jb=0;
+Hb=make_ready_17a(c+504);
+if(!(Hb&1)){
 kb=0;
 lb=0;
+mb=0;
+nb=0;
 goto L18;}
-vb=Cb;
-wb=1;
-xb=Db;
+xb=Eb;
+yb=1;
+zb=Fb;
 break;
-case 2:if(Ta)goto L17;
-w8(c+552,Sa-1);
-Gb=r8(c+472);
-if(r8(c+496)-Gb<2){
-Hb=make_ready_8e3(c+464,2,128);
-if(Hb==0){
-ib=0;
-jb=0;
+case 2:if(Ua)goto L17;
+w8(c+552,Ta-1);
+Ib=r8(c+472);
+if(r8(c+496)-Ib<2){
+Jb=make_ready_8e3(c+464,2,128);
+if(!(Jb&1)){
 kb=0;
 lb=0;
+mb=0;
+nb=0;
 goto L18;}
-Ib=r8(c+472);}
-else Ib=Gb;
-*(rp(c+464)+Ib)=38;
-*(rp(c+464)+(i64)Ib+1)=38;
-Jb=Ib+2;
-w8(c+472,Jb);
-Kb=Jb;
-Lb=Ca&1;
-Mb=r8(c+512);
-if(r8(c+536)>Mb){
-qb=Mb;
-rb=Kb;
-sb=1;
-tb=Lb;
+Kb=r8(c+472);}
+else Kb=Ib;
+*(rp(c+464)+Kb)=38;
+*(rp(c+464)+(i64)Kb+1)=38;
+Lb=Kb+2;
+w8(c+472,Lb);
+Mb=Lb;
+Nb=Da&1;
+Ob=r8(c+512);
+if(r8(c+536)>Ob){
+sb=Ob;
+tb=Mb;
+ub=1;
+vb=Nb;
 goto L19;}
-Nb=make_ready_17a(c+504);
-if(Nb==0){
-ib=0;
-jb=0;
+Pb=make_ready_17a(c+504);
+if(!(Pb&1)){
 kb=0;
 lb=0;
+mb=0;
+nb=0;
 goto L18;}
-vb=Kb;
-wb=1;
-xb=Lb;
+xb=Mb;
+yb=1;
+zb=Nb;
 break;
-case 3:if(Ta)goto L17;
-w8(c+552,Sa-1);
+case 3:if(Ua)goto L17;
+w8(c+552,Ta-1);
 if(r8(c+496)-r8(c+472)<6){
-Ob=make_ready_8e3(c+464,6,128);
-if(Ob==0){
-ib=0;
-jb=0;
+Qb=make_ready_8e3(c+464,6,128);
+if(!(Qb&1)){
 kb=0;
 lb=0;
+mb=0;
+nb=0;
 goto L18;}}
-Pb=push_str_b7e(c+464,(u8*)t_f603,6);
-if(Pb!=0){
-ib=0;
-jb=0;
+Rb=push_str_b7e(c+464,(u8*)t_f603,6);
+if(Rb&1){
 kb=0;
 lb=0;
+mb=0;
+nb=0;
 goto L18;}
-Qb=r8(c+472);
-Rb=Ca&1;
-Sb=r8(c+512);
-if(r8(c+536)>Sb){
-qb=Sb;
-rb=Qb;
-sb=0;
-tb=Rb;
+Sb=r8(c+472);
+Tb=Da&1;
+Ub=r8(c+512);
+if(r8(c+536)>Ub){
+sb=Ub;
+tb=Sb;
+ub=0;
+vb=Tb;
 goto L19;}
-Tb=make_ready_17a(c+504);
-if(Tb==0){
-ib=0;
-jb=0;
+Vb=make_ready_17a(c+504);
+if(!(Vb&1)){
 kb=0;
 lb=0;
+mb=0;
+nb=0;
 goto L18;}
-vb=Qb;
-wb=0;
-xb=Rb;
+xb=Sb;
+yb=0;
+zb=Tb;
 break;
 default:NEVER;
 }
-qb=r8(c+512);
-rb=vb;
-sb=wb;
+sb=r8(c+512);
 tb=xb;
-L19:Ub=rp(c+504)+qb*12;
-x4(Ub,Xa);
-x4(Ub+4,rb);
-Ub[8]=sb;
-Ub[9]=tb;
-x2(Ub+10,0);
-w8(c+512,qb+1);
-ib=tb;
-jb=sb;
-kb=2;
-lb=1;
-L18:*w=lb;
-w[1]=kb;
-w[2]=jb;
-w[3]=ib;
-L17:Vb=w[1];
-Wb=w[2];
-Xb=w[3];
-*D=*w;
-D[1]=Vb;
-D[2]=Wb;
-D[3]=Xb;}
+ub=yb;
+vb=zb;
+L19:Wb=rp(c+504)+sb*12;
+x4(Wb,Ya);
+x4(Wb+4,tb);
+Wb[8]=ub;
+Wb[9]=vb;
+x2(Wb+10,0);
+w8(c+512,sb+1);
+kb=vb;
+lb=ub;
+mb=2;
+nb=1;
+L18:*x=nb;
+x[1]=mb;
+x[2]=lb;
+x[3]=kb;
+L17:Xb=x[1];
+Yb=x[2];
+Zb=x[3];
+*E=*x;
+E[1]=Xb;
+E[2]=Yb;
+E[3]=Zb;}
 L16:break;
-case 3:Yb=Da&1;
+case 3:ac=Ea&1;
 w4(n,0);
-Zb=r8(c+640);
-if(Zb<f){
-ac=*(e+Zb);
-switch(ac){
+bc=r8(c+640);
+if(bc<f){
+cc=*(e+bc);
+switch(cc){
 case 69:w4(l,0);
-w8(c+640,Zb+1);
-bc=r8(c+552);
-if(bc==0){
-cc=0;
-dc=0;
+w8(c+640,bc+1);
+dc=r8(c+552);
+if(dc==0){
 ec=0;
-fc=0;}
+fc=0;
+gc=0;
+hc=0;}
 else{
-if(*(rp(c+544)+(i64)(bc*44)-44)==23){
-if(Yb){
-cc=0;
-dc=0;
+if(*(rp(c+544)+(i64)(dc*44)-44)==27){
+if(ac){
 ec=0;
-fc=0;}
+fc=0;
+gc=0;
+hc=0;}
 else{
-w8(c+552,bc-1);
-cc=0;
-dc=0;
-ec=3;
-fc=1;}}
+w8(c+552,dc-1);
+ec=0;
+fc=0;
+gc=3;
+hc=1;}}
 else{
 z32(m);
 close_list_0b3(l,c+464,e,f,m);
-cc=l[3];
-dc=l[2];
-ec=l[1];
-fc=*l;}}
-*D=fc;
-D[1]=ec;
-D[2]=dc;
-D[3]=cc;
+ec=l[3];
+fc=l[2];
+gc=l[1];
+hc=*l;}}
+*E=hc;
+E[1]=gc;
+E[2]=fc;
+E[3]=ec;
 goto L20;
-case 74:gc=Zb+1;
-if(gc<f){
-if(*(e+gc)==69){
-empty_pack_06f(n,c+464,e,f,Yb);
-*D=*n;
-D[1]=n[1];
-D[2]=n[2];
-D[3]=n[3];
+case 74:ic=bc+1;
+if(ic<f){
+if(*(e+ic)==69){
+empty_pack_06f(n,c+464,e,f,ac);
+*E=*n;
+E[1]=n[1];
+E[2]=n[2];
+E[3]=n[3];
 goto L20;}}
-if(!Yb){
-hc=74;
+if(!ac){
+jc=74;
 goto L21;}
 first_pack_117(n,c+464,e,f);
-*D=*n;
-D[1]=n[1];
-D[2]=n[2];
-D[3]=n[3];
+*E=*n;
+E[1]=n[1];
+E[2]=n[2];
+E[3]=n[3];
 goto L20;
-default:ic=ac;
+default:kc=cc;
 break;}}
-else ic=0;
-if(Yb){
-jc=ic;
+else kc=0;
+if(ac){
+lc=kc;
 goto L22;}
-hc=ic;
-L21:kc=r8(c+472);
-if(r8(c+496)-kc<2){
-lc=make_ready_8e3(c+464,2,128);
-if(lc==0){
-w4(D,0);
+jc=kc;
+L21:mc=r8(c+472);
+if(r8(c+496)-mc<2){
+nc=make_ready_8e3(c+464,2,128);
+if(!(nc&1)){
+w4(E,0);
 goto L20;}
-mc=r8(c+472);}
-else mc=kc;
-*(rp(c+464)+mc)=44;
-*(rp(c+464)+(i64)mc+1)=32;
-w8(c+472,mc+2);
-jc=hc;
-L22:switch(jc){
-case 88:nc=r8(c+640);
-if(nc==18446744073709551615u){
-w4(D,0);
+oc=r8(c+472);}
+else oc=mc;
+*(rp(c+464)+oc)=44;
+*(rp(c+464)+(i64)oc+1)=32;
+w8(c+472,oc+2);
+lc=jc;
+L22:switch(lc){
+case 88:pc=r8(c+640);
+if(pc==18446744073709551615u){
+w4(E,0);
 goto L20;}
-oc=nc+1;
-if(oc<f){
-if(*(e+oc)==115){
-begin_level_d05(n,c+464,e,f);
-*D=*n;
-D[1]=n[1];
-D[2]=n[2];
-D[3]=n[3];
-goto L20;}}
+qc=pc+1;
+if(qc<f){
+switch(*(e+qc)){
+case 115:begin_level_d05(n,c+464,e,f);
+*E=*n;
+E[1]=n[1];
+E[2]=n[2];
+E[3]=n[3];
+goto L20;
+case 84:parameter_argument_7c8(n,c+464,e,f);
+*E=*n;
+E[1]=n[1];
+E[2]=n[2];
+E[3]=n[3];
+goto L20;
+default:break;}}
 break;
-case 76:if(Yb){
+case 76:if(ac){
 first_literal_618(n,c+464,e,f);
-*D=*n;
-D[1]=n[1];
-D[2]=n[2];
-D[3]=n[3];
+*E=*n;
+E[1]=n[1];
+E[2]=n[2];
+E[3]=n[3];
 goto L20;}
 literal_9d0(o,c+464,e,f);
-pc=o[3];
-qc=o[2];
-rc=o[1];
-sc=*o;
+rc=o[3];
+sc=o[2];
+tc=o[1];
+uc=*o;
 goto L23;
-case 74:tc=r8(c+552);
-if(tc==0){
-pc=0;
-qc=0;
+case 74:vc=r8(c+552);
+if(vc==0){
 rc=0;
 sc=0;
+tc=0;
+uc=0;
 goto L23;}
-uc=rp(c+544);
-vc=tc*44;
-if(*(uc+(i64)vc-44)==23){
-pc=0;
-qc=0;
+wc=rp(c+544);
+xc=vc*44;
+if(*(wc+(i64)xc-44)==27){
 rc=0;
 sc=0;
+tc=0;
+uc=0;
 goto L23;}
-wc=r8(c+640);
-if(wc==18446744073709551615u){
-pc=0;
-qc=0;
+yc=r8(c+640);
+if(yc==18446744073709551615u){
 rc=0;
 sc=0;
+tc=0;
+uc=0;
 goto L23;}
-w8(c+640,wc+1);
-if(r8(c+576)>tc){
-xc=vc;
-yc=uc;
-zc=tc;}
+w8(c+640,yc+1);
+if(r8(c+576)>vc){
+zc=xc;
+Ac=wc;
+Bc=vc;}
 else{
-Ac=make_ready_9a1(c+544);
-if(Ac==0){
-pc=0;
-qc=0;
+Cc=make_ready_9a1(c+544);
+if(!(Cc&1)){
 rc=0;
 sc=0;
+tc=0;
+uc=0;
 goto L23;}
-Bc=r8(c+552);
-xc=Bc*44;
-yc=rp(c+544);
-zc=Bc;}
-Cc=yc+xc;
-*Cc=23;
-z43(Cc+1);
-w8(c+552,zc+1);
-pc=0;
-qc=1;
-rc=3;
+Dc=r8(c+552);
+zc=Dc*44;
+Ac=rp(c+544);
+Bc=Dc;}
+Ec=Ac+zc;
+*Ec=27;
+z43(Ec+1);
+w8(c+552,Bc+1);
+rc=0;
 sc=1;
+tc=3;
+uc=1;
 goto L23;
 default:break;}
-if(Yb){
-Dc=r8(c+552);
-if(Dc==0){
-Ec=0;
-Fc=0;
+if(ac){
+Fc=r8(c+552);
+if(Fc==0){
 Gc=0;
-Hc=1;}
+Hc=0;
+Ic=0;
+Jc=1;}
 else{
-Ic=rp(c+544);
-Jc=Dc*44;
-Kc=Ic+(i64)Jc;
-switch(Kc[-44]){
-case 5:if(Kc[-28]==0){
-Ec=0;
-Fc=0;
+Kc=rp(c+544);
+Lc=Fc*44;
+Mc=Kc+(i64)Lc;
+switch(Mc[-44]){
+case 5:if(Mc[-28]==0){
 Gc=0;
-Hc=1;
+Hc=0;
+Ic=0;
+Jc=1;
 goto L24;}
 break;
 case 7:break;
-case 0:case 1:case 2:case 3:case 4:case 6:case 8:case 9:case 10:case 11:case 12:case 13:case 14:case 15:case 16:case 17:case 18:case 19:case 20:case 21:case 22:case 23:case 24:case 25:Ec=0;
-Fc=0;
-Gc=0;
-Hc=1;
+case 0:case 1:case 2:case 3:case 4:case 6:case 8:case 9:case 10:case 11:case 12:case 13:case 14:case 15:case 16:case 17:case 18:case 19:case 20:case 21:case 22:case 23:case 24:case 25:case 26:case 27:case 28:case 29:Gc=0;
+Hc=0;
+Ic=0;
+Jc=1;
 goto L24;
 default:NEVER;
 }
-Lc=is_element_at_f4e(e,f,r8(c+640));
-if(Lc){
-Ec=0;
-Fc=0;
-Gc=0;
-Hc=1;}
-else{
-Mc=r8(c+472);
-if(r8(c+576)>Dc){
-Nc=Jc;
-Oc=Ic;
-Pc=Dc;}
-else{
-Qc=make_ready_9a1(c+544);
-if(Qc==0){
-Ec=0;
-Fc=0;
+Nc=is_element_at_f4e(e,f,r8(c+640));
+if(Nc){
 Gc=0;
 Hc=0;
+Ic=0;
+Jc=1;}
+else{
+Oc=r8(c+472);
+if(r8(c+576)>Fc){
+Pc=Lc;
+Qc=Kc;
+Rc=Fc;}
+else{
+Sc=make_ready_9a1(c+544);
+if(!(Sc&1)){
+Gc=0;
+Hc=0;
+Ic=0;
+Jc=0;
 goto L24;}
-Rc=r8(c+552);
-Nc=Rc*44;
-Oc=rp(c+544);
-Pc=Rc;}
-Sc=Oc+Nc;
-*Sc=22;
-Sc[1]=0;
-x2(Sc+2,0);
-x4(Sc+4,Mc);
-z36(Sc+8);
-w8(c+552,Pc+1);
+Tc=r8(c+552);
+Pc=Tc*44;
+Qc=rp(c+544);
+Rc=Tc;}
+Uc=Qc+Pc;
+*Uc=25;
+Uc[1]=0;
+x2(Uc+2,0);
+x4(Uc+4,Oc);
+z36(Uc+8);
+w8(c+552,Rc+1);
 w4(k,0);
-Tc=r8(c+640);
-if(Tc<f){
-if(*(e+Tc)==88){
+Vc=r8(c+640);
+if(Vc<f){
+if(*(e+Vc)==88){
 begin_address_4df(k,c+464,e,f);
-Uc=k[3];
-Vc=k[2];
-Wc=k[1];
-Xc=*k;}
+Wc=k[3];
+Xc=k[2];
+Yc=k[1];
+Zc=*k;}
 else{
-Uc=0;
-Vc=0;
 Wc=0;
-Xc=1;}}
+Xc=0;
+Yc=0;
+Zc=1;}}
 else{
-Uc=0;
-Vc=0;
 Wc=0;
-Xc=1;}
-Ec=Uc;
-Fc=Vc;
+Xc=0;
+Yc=0;
+Zc=1;}
 Gc=Wc;
-Hc=Xc;}}
-L24:*D=Hc;
-D[1]=Gc;
-D[2]=Fc;
-D[3]=Ec;
+Hc=Xc;
+Ic=Yc;
+Jc=Zc;}}
+L24:*E=Jc;
+E[1]=Ic;
+E[2]=Hc;
+E[3]=Gc;
 goto L20;}
-pc=0;
-qc=0;
 rc=0;
-sc=1;
-L23:*D=sc;
-D[1]=rc;
-D[2]=qc;
-D[3]=pc;
+sc=0;
+tc=0;
+uc=1;
+L23:*E=uc;
+E[1]=tc;
+E[2]=sc;
+E[3]=rc;
 L20:break;
 case 4:w4(i,0);
 z20(j+20);
 if(!(c[600]&1)){
-Yc=r4(c+584);
-Zc=c[603];
-ad=r8(c+472);
-bd=r8(c+512);
-if(r8(c+536)>bd)cd=bd;
+ad=r4(c+584);
+bd=c[603];
+cd=r8(c+472);
+dd=r8(c+512);
+if(r8(c+536)>dd)ed=dd;
 else{
-dd=make_ready_17a(c+504);
-if(dd==0){
-w4(D,0);
+fd=make_ready_17a(c+504);
+if(!(fd&1)){
+w4(E,0);
 goto L25;}
-cd=r8(c+512);}
-ed=rp(c+504)+cd*12;
-x4(ed,Yc);
-x4(ed+4,ad);
-ed[8]=0;
-ed[9]=Zc;
-x2(ed+10,0);
-w8(c+512,cd+1);}
-fd=r8(c+640);
-if(fd<f){
-if(*(e+fd)==73){
+ed=r8(c+512);}
+gd=rp(c+504)+ed*12;
+x4(gd,ad);
+x4(gd+4,cd);
+gd[8]=0;
+gd[9]=bd;
+x2(gd+10,0);
+w8(c+512,ed+1);}
+hd=r8(c+640);
+if(hd<f){
+if(*(e+hd)==73){
 memcpy(j,c+584,20);
-gd=r8(c+472);
-if(r8(c+496)>gd)hd=gd;
+id=r8(c+472);
+if(r8(c+496)>id)jd=id;
 else{
-id=make_ready_8e3(c+464,1,16);
-if(id==0){
-jd=0;
-kd=0;
+kd=make_ready_8e3(c+464,1,16);
+if(!(kd&1)){
+ld=0;
+md=0;
 goto L26;}
-hd=r8(c+472);}
-*(rp(c+464)+hd)=60;
-w8(c+472,hd+1);
-ld=r8(c+640);
-if(ld==18446744073709551615u){
-jd=0;
-kd=0;}
+jd=r8(c+472);}
+*(rp(c+464)+jd)=60;
+w8(c+472,jd+1);
+nd=r8(c+640);
+if(nd==18446744073709551615u){
+ld=0;
+md=0;}
 else{
-w8(c+640,ld+1);
-md=r8(c+552);
-if(r8(c+576)>md)nd=md;
+w8(c+640,nd+1);
+od=r8(c+552);
+if(r8(c+576)>od)pd=od;
 else{
-od=make_ready_9a1(c+544);
-if(od==0){
-jd=0;
-kd=0;
+qd=make_ready_9a1(c+544);
+if(!(qd&1)){
+ld=0;
+md=0;
 goto L26;}
-nd=r8(c+552);}
-pd=rp(c+544)+nd*44;
-*pd=6;
-pd[1]=0;
-x2(pd+2,0);
-memcpy(pd+4,j,40);
-w8(c+552,nd+1);
-jd=3;
-kd=1;}
-L26:*D=kd;
-D[1]=jd;
-D[2]=kd;
-D[3]=0;
+pd=r8(c+552);}
+sd=rp(c+544)+pd*44;
+*sd=6;
+sd[1]=0;
+x2(sd+2,0);
+memcpy(sd+4,j,40);
+w8(c+552,pd+1);
+ld=3;
+md=1;}
+L26:*E=md;
+E[1]=ld;
+E[2]=md;
+E[3]=0;
 goto L25;}}
 components_at_af8(i,c+464,e,f);
-*D=*i;
-D[1]=i[1];
-D[2]=i[2];
-D[3]=i[3];
+*E=*i;
+E[1]=i[1];
+E[2]=i[2];
+E[3]=i[3];
 L25:break;
 case 5:w4(h,0);
-qd=r8(c+640);
-if(qd<f){
-if(*(e+qd)==69){
+td=r8(c+640);
+if(td<f){
+if(*(e+td)==69){
 nest_ended_003(h,c+464,e,f);
-*D=*h;
-D[1]=h[1];
-D[2]=h[2];
-D[3]=h[3];
+*E=*h;
+E[1]=h[1];
+E[2]=h[2];
+E[3]=h[3];
 goto L27;}}
 if(!(c[600]&1)){
-sd=r4(c+584);
-td=c[603];
-ud=r8(c+472);
-vd=r8(c+512);
-if(r8(c+536)>vd)xd=vd;
+ud=r4(c+584);
+vd=c[603];
+xd=r8(c+472);
+yd=r8(c+512);
+if(r8(c+536)>yd)zd=yd;
 else{
-yd=make_ready_17a(c+504);
-if(yd==0){
-w4(D,0);
+Ad=make_ready_17a(c+504);
+if(!(Ad&1)){
+w4(E,0);
 goto L27;}
-xd=r8(c+512);}
-zd=rp(c+504)+xd*12;
-x4(zd,sd);
-x4(zd+4,ud);
-zd[8]=0;
-zd[9]=td;
-x2(zd+10,0);
-w8(c+512,xd+1);}
+zd=r8(c+512);}
+Bd=rp(c+504)+zd*12;
+x4(Bd,ud);
+x4(Bd+4,xd);
+Bd[8]=0;
+Bd[9]=vd;
+x2(Bd+10,0);
+w8(c+512,zd+1);}
 components_at_af8(h,c+464,e,f);
-*D=*h;
-D[1]=h[1];
-D[2]=h[2];
-D[3]=h[3];
+*E=*h;
+E[1]=h[1];
+E[2]=h[2];
+E[3]=h[3];
 L27:break;
-case 6:components_at_af8(D,c+464,e,f);
+case 6:components_at_af8(E,c+464,e,f);
 break;
 default:NEVER;
 }
-Ad=Ba+1;
-if(*D!=1||Ad==U)goto L1;
-Ba=Ad;
-Ca=D[3];
-Da=D[2];
-Ea=D[1];
+Cd=Ca+1;
+if(*E!=1||Cd==Ba)goto L1;
+Ca=Cd;
+Da=E[3];
+Ea=E[2];
+Fa=E[1];
 goto L13;}}}
 ;}
 L1:if(r8(c+472)==0)goto L28;
@@ -45509,456 +45572,456 @@ c[636]=0;
 z16(c+528);
 z16(c+568);}
 else{
-Bd=write_less_2c7(c+1504,e,f,S,T);
-if(Bd){
-Cd=rp(c+1504);
-Dd=r8(c+1512);
-Ed=r8(g+16);
-Fd=r8(g+8);
-if(Dd>Ed-Fd){
-Gd=grow_amortized_e1a(g,Dd);
-if(!Gd){
-Ma=1;
-Na=4;
-Oa=0;
+Dd=write_less_2c7(c+1504,e,f,T,U);
+if(Dd){
+Ed=rp(c+1504);
+Fd=r8(c+1512);
+Gd=r8(g+16);
+Hd=r8(g+8);
+if(Fd>Gd-Hd){
+Id=grow_amortized_e1a(g,Fd);
+if(!Id){
+Na=1;
+Oa=4;
+Pa=0;
 goto L15;}
-Hd=r8(g+16);
-Id=r8(g+8);}
+Jd=r8(g+16);
+Kd=r8(g+8);}
 else{
-Hd=Ed;
-Id=Fd;}
-Jd=Id+Dd;
-Kd=rp(g);
+Jd=Gd;
+Kd=Hd;}
+Ld=Kd+Fd;
+Md=rp(g);
 z16(g+8);
-Ld=Kd+(i64)Id;
-if((u64)Ld-(u64)Cd<Dd)copy_bits_4f4(Cd,Ld,Dd);
-else memmove(Ld,Cd,Dd);
-wp(g,Kd);
-w8(g+8,Jd);
-w8(g+16,Hd);
-Ma=0;
+Nd=Md+(i64)Kd;
+if((u64)Nd-(u64)Ed<Fd)copy_bits_4f4(Ed,Nd,Fd);
+else memmove(Nd,Ed,Fd);
+wp(g,Md);
+w8(g+8,Ld);
+w8(g+16,Jd);
 Na=0;
 Oa=0;
+Pa=0;
 goto L15;}}
-z88(Q);
-z84(R);
-z96(P);
-Md=r8(c+664);
-if(!((f<Md)|((Md&4294967295u)==0))){
-Nd=parts_equal_58b(e,Md,rp(c+656),Md);
-if(Nd){
-z96(M);
-z24(O);
-Od=(u64)(u8*)65536;
-memcpy(N,c+656,112);
-x8(c+656,Od);
+z88(R);
+z84(S);
+z96(Q);
+Od=r8(c+664);
+if(!((f<Od)|((Od&4294967295u)==0))){
+Pd=parts_equal_58b(e,Od,rp(c+656),Od);
+if(Pd){
+z96(N);
+z24(P);
+Qd=(u64)(u8*)65536;
+memcpy(O,c+656,112);
+x8(c+656,Qd);
 z40(c+664);
-x8(c+704,Od);
+x8(c+704,Qd);
 z16(c+712);
 xp(c+728,(u8*)65536);
 z32(c+736);
-z12(L);
-Pd=N[28];
-if(Pd!=1){
-Sd=e+(i64)Md;
-Td=f-Md;
-if(N[25]&1)Ud=Pd;
+z12(M);
+Rd=O[28];
+if(Rd!=1){
+Ud=e+(i64)Od;
+Vd=f-Od;
+if(O[25]&1)Wd=Rd;
 else{
-run_888(L,N+40,rp(N),r8(N+8),N[24]&1);
-N[25]=N[24];
-if(*L!=0){
-Vd=L[4];
-Wd=r4(L+8);
-w4(N+28,1);
-w4(N+32,Vd);
-w4(N+36,Wd);
-Qd=Vd;
-Rd=Wd;
+run_888(M,O+40,rp(O),r8(O+8),O[24]&1);
+O[25]=O[24];
+if(*M!=0){
+Xd=M[4];
+Yd=r4(M+8);
+w4(O+28,1);
+w4(O+32,Xd);
+w4(O+36,Yd);
+Sd=Xd;
+Td=Yd;
 goto L29;}
-Ud=N[28];}
-if(f==Md)Xd=Ud;
+Wd=O[28];}
+if(f==Od)Zd=Wd;
 else{
-if(Ud==1){
-Yd=N[32];
-Zd=r4(N+36);
+if(Wd==1){
+ae=O[32];
+be=r4(O+36);
 goto L30;}
-ae=r8(N+16);
-be=r8(N+8);
-if(Td>ae-be){
-ce=grow_amortized_e1a(N,Td);
-if(!ce){
-Yd=4;
-Zd=0;
+ce=r8(O+16);
+de=r8(O+8);
+if(Vd>ce-de){
+ee=grow_amortized_e1a(O,Vd);
+if(!ee){
+ae=4;
+be=0;
 goto L30;}
-de=r8(N+16);
-ee=r8(N+8);}
+fe=r8(O+16);
+ge=r8(O+8);}
 else{
-de=ae;
-ee=be;}
-fe=ee+Td;
-ge=rp(N);
-z16(N+8);
-he=ge+(i64)ee;
-if((u64)he-(u64)Sd<Td)copy_bits_4f4(Sd,he,Td);
-else memmove(he,Sd,Td);
-wp(N,ge);
-w8(N+8,fe);
-w8(N+16,de);
-Xd=N[28];}
-if(Xd==1){
-Yd=N[32];
-Zd=r4(N+36);
+fe=ce;
+ge=de;}
+he=ge+Vd;
+ie=rp(O);
+z16(O+8);
+je=ie+(i64)ge;
+if((u64)je-(u64)Ud<Vd)copy_bits_4f4(Ud,je,Vd);
+else memmove(je,Ud,Vd);
+wp(O,ie);
+w8(O+8,he);
+w8(O+16,fe);
+Zd=O[28];}
+if(Zd==1){
+ae=O[32];
+be=r4(O+36);
 goto L30;}
-N[24]=1;
-z12(K);
-if(N[25]&1)ie=Xd;
+O[24]=1;
+z12(L);
+if(O[25]&1)ke=Zd;
 else{
-run_888(K,N+40,rp(N),r8(N+8),1);
-N[25]=N[24];
-if(*K!=0){
-Yd=K[4];
-Zd=r4(K+8);
+run_888(L,O+40,rp(O),r8(O+8),1);
+O[25]=O[24];
+if(*L!=0){
+ae=L[4];
+be=r4(L+8);
 goto L30;}
-ie=N[28];}
-je=r8(N);
-ke=r8(N+16);
-le=rp(N+48);
-me=r8(N+64);
-ne=rp(N+72);
-oe=r8(N+88);
-if(ie==1){
-pe=N[32];
-qe=r4(N+36);
-if(ke!=0)port_rattle_dealloc((u8*)je);
-if(me!=0)port_rattle_dealloc(le);
-if(oe==0){
-re=pe;
-se=qe;}
+ke=O[28];}
+le=r8(O);
+me=r8(O+16);
+ne=rp(O+48);
+oe=r8(O+64);
+pe=rp(O+72);
+qe=r8(O+88);
+if(ke==1){
+re=O[32];
+se=r4(O+36);
+if(me!=0)port_rattle_dealloc((u8*)le);
+if(oe!=0)port_rattle_dealloc(ne);
+if(qe==0){
+te=re;
+ue=se;}
 else{
-port_rattle_dealloc(ne);
-re=pe;
-se=qe;}}
+port_rattle_dealloc(pe);
+te=re;
+ue=se;}}
 else{
-if(ie==0){
-te=r8(N+8);
-ue=r8(N+40);
-ve=r8(N+56);
-we=r8(N+80);
-xe=q8(c);
-ye=q8(c+16);
-x8(c,je);
-x8(c+8,te);
-x8(c+16,ke);
-ze=q8(c+32);
-memcpy(O,c+40,24);
-Ae=q8(c+72);
-Be=q4(c+92);
-x8(c+24,ue);
-xp(c+32,le);
-x8(c+40,ve);
-x8(c+48,me);
-xp(c+56,ne);
-x8(c+64,we);
-x8(c+72,oe);
-memcpy(c+80,N+96,16);
-Ce=qp(c+656);
-De=qp(c+704);
-Ee=q8(c+720);
-Fe=qp(c+728);
-Ge=q8(c+744);
-He=q8(c+672);
-x8(c+656,xe);
+if(ke==0){
+ve=r8(O+8);
+we=r8(O+40);
+xe=r8(O+56);
+ye=r8(O+80);
+ze=q8(c);
+Ae=q8(c+16);
+x8(c,le);
+x8(c+8,ve);
+x8(c+16,me);
+Be=q8(c+32);
+memcpy(P,c+40,24);
+Ce=q8(c+72);
+De=q4(c+92);
+x8(c+24,we);
+xp(c+32,ne);
+x8(c+40,xe);
+x8(c+48,oe);
+xp(c+56,pe);
+x8(c+64,ye);
+x8(c+72,qe);
+memcpy(c+80,O+96,16);
+Ee=qp(c+656);
+Fe=qp(c+704);
+Ge=q8(c+720);
+He=qp(c+728);
+Ie=q8(c+744);
+Je=q8(c+672);
+x8(c+656,ze);
 x8(c+664,0);
-x8(c+672,ye);
+x8(c+672,Ae);
 z24(c+680);
-x8(c+704,ze);
+x8(c+704,Be);
 x8(c+712,0);
-memcpy(c+720,O+8,16);
+memcpy(c+720,P+8,16);
 x8(c+736,0);
-x8(c+744,Ae);
+x8(c+744,Ce);
 x8(c+752,0);
 x4(c+760,0);
-x4(c+764,Be);
-if(He!=0)port_rattle_dealloc(Ce);
-if(Ee!=0)port_rattle_dealloc(De);
+x4(c+764,De);
+if(Je!=0)port_rattle_dealloc(Ee);
 if(Ge!=0)port_rattle_dealloc(Fe);
-link_7b7(M,c);
-Ie=*M;
-Je=M[4];
-memcpy(P+8,M+8,88);
-Ke=Je;
-Le=Ie;
+if(Ie!=0)port_rattle_dealloc(He);
+link_7b7(N,c);
+Ke=*N;
+Le=N[4];
+memcpy(Q+8,N+8,88);
+Me=Le;
+Ne=Ke;
 goto L31;}
-re=0;
-se=je;}
-w4(M+8,se);
-z84(M+12);
-memcpy(P+8,M+8,88);
-Ke=re;
-Le=1;
+te=0;
+ue=le;}
+w4(N+8,ue);
+z84(N+12);
+memcpy(Q+8,N+8,88);
+Me=te;
+Ne=1;
 goto L31;}
-Qd=N[32];
-Rd=r4(N+36);
-L29:Yd=Qd;
-Zd=Rd;
-L30:if(r8(N+8)!=0)w8(N+8,0);
-N[24]=0;
-N[25]=0;
-z20(N+28);
-if(r8(N+56)!=0)w8(N+56,0);
-if(r8(N+80)!=0)w8(N+80,0);
-w8(N+96,0);
-w4(N+104,0);
-Me=qp(c+656);
-Ne=qp(c+704);
-Oe=q8(c+720);
-Pe=qp(c+728);
-Qe=q8(c+744);
-Re=q8(c+672);
-memcpy(c+656,N,112);
-if(Re!=0)port_rattle_dealloc(Me);
-if(Oe!=0)port_rattle_dealloc(Ne);
+Sd=O[32];
+Td=r4(O+36);
+L29:ae=Sd;
+be=Td;
+L30:if(r8(O+8)!=0)w8(O+8,0);
+O[24]=0;
+O[25]=0;
+z20(O+28);
+if(r8(O+56)!=0)w8(O+56,0);
+if(r8(O+80)!=0)w8(O+80,0);
+w8(O+96,0);
+w4(O+104,0);
+Oe=qp(c+656);
+Pe=qp(c+704);
+Qe=q8(c+720);
+Re=qp(c+728);
+Se=q8(c+744);
+Te=q8(c+672);
+memcpy(c+656,O,112);
+if(Te!=0)port_rattle_dealloc(Oe);
 if(Qe!=0)port_rattle_dealloc(Pe);
-w4(M+8,Zd);
-memcpy(P+8,M+8,88);
-Ke=Yd;
-Le=1;
-L31:Se=Le;
-Te=Ke;
+if(Se!=0)port_rattle_dealloc(Re);
+w4(N+8,be);
+memcpy(Q+8,N+8,88);
+Me=ae;
+Ne=1;
+L31:Ue=Ne;
+Ve=Me;
 goto L32;}}
-z12(J);
+z12(K);
 x4(c+24,0);
 x4(c+28,0);
 if(r8(c+40)!=0)w8(c+40,0);
 if(r8(c+64)!=0)w8(c+64,0);
 w8(c+80,0);
 w4(c+88,0);
-run_888(J,c+24,e,f,1);
-if(*J==0){
+run_888(K,c+24,e,f,1);
+if(*K==0){
 if(r8(c+8)!=0)w8(c+8,0);
-Ue=r8(c+16);
-if(f>Ue){
-Ve=grow_amortized_e1a(c,f);
-if(!Ve){
-Ye=4;
-Ze=0;
-goto L33;}
 We=r8(c+16);
-Xe=r8(c+8);}
+if(f>We){
+Xe=grow_amortized_e1a(c,f);
+if(!Xe){
+af=4;
+bf=0;
+goto L33;}
+Ye=r8(c+16);
+Ze=r8(c+8);}
 else{
-We=Ue;
-Xe=0;}
-af=Xe+f;
-bf=rp(c);
+Ye=We;
+Ze=0;}
+cf=Ze+f;
+df=rp(c);
 z16(c+8);
-cf=bf+(i64)Xe;
-if((u64)cf-(u64)e<f)copy_bits_4f4(e,cf,f);
-else memmove(cf,e,f);
-wp(c,bf);
-w8(c+8,af);
-w8(c+16,We);
-link_7b7(P,c);
-Se=*P;
-Te=P[4];
+ef=df+(i64)Ze;
+if((u64)ef-(u64)e<f)copy_bits_4f4(e,ef,f);
+else memmove(ef,e,f);
+wp(c,df);
+w8(c+8,cf);
+w8(c+16,Ye);
+link_7b7(Q,c);
+Ue=*Q;
+Ve=Q[4];
 goto L32;}
-df=J[4];
-ef=r4(J+8);
+ff=K[4];
+gf=r4(K+8);
 x4(c+24,0);
 x4(c+28,0);
 if(r8(c+40)!=0)w8(c+40,0);
 if(r8(c+64)!=0)w8(c+64,0);
 w8(c+80,0);
 w4(c+88,0);
-Ye=df;
-Ze=ef;
-L33:ff=1;
-gf=Ye;
-hf=Ze;
+af=ff;
+bf=gf;
+L33:hf=1;
+jf=af;
+kf=bf;
 goto L34;
-L32:jf=r4(P+8);
-memcpy(R,P+12,84);
-if(Se==0){
-w4(Q,jf);
-memcpy(Q+4,R,84);
-kf=r4(Q+72);
+L32:lf=r4(Q+8);
+memcpy(S,Q+12,84);
+if(Ue==0){
+w4(R,lf);
+memcpy(R+4,S,84);
+mf=r4(R+72);
 if(r8(c+304)==0){
 if(r8(c+296)==0){
-lf=port_rattle_alloc(288,4);
-if(!(u8)(lf.f0&1)){
-mf=1;
-nf=4;
-of=0;
+nf=port_rattle_alloc(288,4);
+if(!(u8)(nf.f0&1)){
+of=1;
+pf=4;
+qf=0;
 goto L35;}
-wp(c+288,(u8*)lf.f1);
+wp(c+288,(u8*)nf.f1);
 w8(c+304,8);}}
-pf=rp(c+288);
-x4(pf,0);
-x4(pf+4,kf);
-x4(pf+8,9);
-x4(pf+12,0);
-x4(pf+16,0);
-x4(pf+20,0);
-pf[24]=T;
-z11(pf+25);
+rf=rp(c+288);
+x4(rf,0);
+x4(rf+4,mf);
+x4(rf+8,9);
+x4(rf+12,0);
+x4(rf+16,0);
+x4(rf+20,0);
+rf[24]=U;
+z11(rf+25);
 w8(c+296,1);
 if(r8(c+320)!=0)w8(c+320,0);
 x4(c+432,0);
-x4(c+436,S);
+x4(c+436,T);
 z20(c+440);
-z12(H);
 z12(I);
-qf=rp(c+288);
-if(*qf==0){
-rf=r4(qf+4);
-sf=rf<67108864?uadd32(rf<<6,1024):4294967295u;}
-else sf=1024;
-w4(G,0);
-w4(G+4,umin32(sf,S));
-w8(G+8,0);
-print_entries_7a0(H,Q,c+288,c+312,c+336,G,0);
-tf=r8(G+8);
-x4(c+432,r4(G));
-x8(c+440,tf);
-if(r4(G+4)==r4(c+436)){
-uf=H+4;
-vf=H+8;
-wf=H;}
+z12(J);
+sf=rp(c+288);
+if(*sf==0){
+tf=r4(sf+4);
+uf=tf<67108864?uadd32(tf<<6,1024):4294967295u;}
+else uf=1024;
+w4(H,0);
+w4(H+4,umin32(uf,T));
+w8(H+8,0);
+print_entries_7a0(I,R,c+288,c+312,c+336,H,0);
+vf=r8(H+8);
+x4(c+432,r4(H));
+x8(c+440,vf);
+if(r4(H+4)==r4(c+436)){
+wf=I+4;
+xf=I+8;
+yf=I;}
 else{
-xf=*H;
-yf=H[4];
-if(!(xf==1&&yf==3)){
-zf=xf;
-Af=yf;
-Bf=r4(H+8);
+zf=*I;
+Af=I[4];
+if(!(zf==1&&Af==3)){
+Bf=zf;
+Cf=Af;
+Df=r4(I+8);
 goto L36;}
-print_dear_73a(I,Q,c+288,c+312,c+336,c+432);
-uf=I+4;
-vf=I+8;
-wf=I;}
-zf=*wf;
-Af=*uf;
-Bf=q4(vf);
-L36:Cf=zf!=0;
-x4(c+448,Cf);
-x4(c+452,Cf?Af:0);
-x4(c+456,Cf?Bf:0);
-if(zf==0){
-Df=rp(c+312);
-Ef=r8(c+320);
-Ff=r8(g+16);
-Gf=r8(g+8);
-if(Ef>Ff-Gf){
-Hf=grow_amortized_e1a(g,Ef);
-if(!Hf){
-mf=1;
-nf=4;
-of=0;
+print_dear_73a(J,R,c+288,c+312,c+336,c+432);
+wf=J+4;
+xf=J+8;
+yf=J;}
+Bf=*yf;
+Cf=*wf;
+Df=q4(xf);
+L36:Ef=Bf!=0;
+x4(c+448,Ef);
+x4(c+452,Ef?Cf:0);
+x4(c+456,Ef?Df:0);
+if(Bf==0){
+Ff=rp(c+312);
+Gf=r8(c+320);
+Hf=r8(g+16);
+If=r8(g+8);
+if(Gf>Hf-If){
+Jf=grow_amortized_e1a(g,Gf);
+if(!Jf){
+of=1;
+pf=4;
+qf=0;
 goto L35;}
-If=r8(g+16);
-Jf=r8(g+8);}
+Kf=r8(g+16);
+Lf=r8(g+8);}
 else{
-If=Ff;
-Jf=Gf;}
-Kf=Jf+Ef;
-Lf=rp(g);
+Kf=Hf;
+Lf=If;}
+Mf=Lf+Gf;
+Nf=rp(g);
 z16(g+8);
-Mf=Lf+(i64)Jf;
-if((u64)Mf-(u64)Df<Ef)copy_bits_4f4(Df,Mf,Ef);
-else memmove(Mf,Df,Ef);
-wp(g,Lf);
-w8(g+8,Kf);
-w8(g+16,If);
-mf=0;
-nf=0;
-of=0;}
+Of=Nf+(i64)Lf;
+if((u64)Of-(u64)Ff<Gf)copy_bits_4f4(Ff,Of,Gf);
+else memmove(Of,Ff,Gf);
+wp(g,Nf);
+w8(g+8,Mf);
+w8(g+16,Kf);
+of=0;
+pf=0;
+qf=0;}
 else{
-mf=1;
-nf=Af;
-of=Bf;}
-L35:Nf=qp(c+96);
-Of=qp(c+120);
-Pf=q8(c+136);
-Qf=q8(c+112);
-memcpy(c+96,R+20,48);
-if(Qf!=0)port_rattle_dealloc(Nf);
-if(Pf!=0)port_rattle_dealloc(Of);
-Rf=qp(c);
-Sf=q8(c+16);
-memcpy(c,Q,24);
-if(Sf==0){
-ff=mf;
-gf=nf;
-hf=of;}
+of=1;
+pf=Cf;
+qf=Df;}
+L35:Pf=qp(c+96);
+Qf=qp(c+120);
+Rf=q8(c+136);
+Sf=q8(c+112);
+memcpy(c+96,S+20,48);
+if(Sf!=0)port_rattle_dealloc(Pf);
+if(Rf!=0)port_rattle_dealloc(Qf);
+Tf=qp(c);
+Uf=q8(c+16);
+memcpy(c,R,24);
+if(Uf==0){
+hf=of;
+jf=pf;
+kf=qf;}
 else{
-port_rattle_dealloc(Rf);
-ff=mf;
-gf=nf;
-hf=of;}}
+port_rattle_dealloc(Tf);
+hf=of;
+jf=pf;
+kf=qf;}}
 else{
-ff=1;
-gf=Te;
-hf=jf;}
-L34:Ma=ff;
-Na=gf;
-Oa=hf;}
+hf=1;
+jf=Ve;
+kf=lf;}
+L34:Na=hf;
+Oa=jf;
+Pa=kf;}
 else{
-Tf=r4(b);
+Vf=r4(b);
 switch(b[4]){
-case 0:case 2:z12(F);
-append_in_c46(F,c+768,e,f,Tf,0,g);
-Uf=r4(F+8);
-Vf=F[4];
-Wf=*F;
+case 0:case 2:z12(G);
+append_in_c46(G,c+768,e,f,Vf,0,g);
+Wf=r4(G+8);
+Xf=G[4];
+Yf=*G;
 break;
-case 1:case 3:z12(E);
-Xf=(f<<3)+1024;
-Yf=umin64(Tf>>2,Xf);
+case 1:case 3:z12(F);
+Zf=(f<<3)+1024;
+ag=umin64(Vf>>2,Zf);
 if(r8(c+1704)!=0)w8(c+1704,0);
-w8(c+1720,Yf);
-w8(c+1728,umin64(r8(c+1712),Yf));
+w8(c+1720,ag);
+w8(c+1728,umin64(r8(c+1712),ag));
 if(r8(c+1744)!=0)w8(c+1744,0);
-Zf=Xf&0xfffffff8u;
-w8(c+1760,Zf);
-w8(c+1768,umin64(r8(c+1752),Zf));
+bg=Zf&0xfffffff8u;
+w8(c+1760,bg);
+w8(c+1768,umin64(r8(c+1752),bg));
 c[1776]=0;
 if(r8(c+1792)!=0)w8(c+1792,0);
-ag=f&4294967295u;
-w8(c+1808,ag);
-w8(c+1816,umin64(r8(c+1800),ag));
+cg=f&4294967295u;
+w8(c+1808,cg);
+w8(c+1816,umin64(r8(c+1800),cg));
 if(r8(c+1832)!=0)w8(c+1832,0);
 if(r8(c+1856)!=0)w8(c+1856,0);
-w8(c+1872,ag);
-w8(c+1880,umin64(r8(c+1864),ag));
-bg=run_80f(c+1696,e,f,Tf);
-if(bg){
-cg=rp(c+1696);
-dg=r8(c+1704);
-eg=r8(g+16);
-fg=r8(g+8);
-if(dg>eg-fg){
-gg=grow_amortized_e1a(g,dg);
-if(!gg){
-jg=0;
-kg=4;
-lg=1;
+w8(c+1872,cg);
+w8(c+1880,umin64(r8(c+1864),cg));
+dg=run_80f(c+1696,e,f,Vf);
+if(dg){
+eg=rp(c+1696);
+fg=r8(c+1704);
+gg=r8(g+16);
+hg=r8(g+8);
+if(fg>gg-hg){
+ig=grow_amortized_e1a(g,fg);
+if(!ig){
+lg=0;
+mg=4;
+ng=1;
 goto L37;}
-hg=r8(g+16);
-ig=r8(g+8);}
+jg=r8(g+16);
+kg=r8(g+8);}
 else{
-hg=eg;
-ig=fg;}
-mg=ig+dg;
-ng=rp(g);
+jg=gg;
+kg=hg;}
+og=kg+fg;
+pg=rp(g);
 z16(g+8);
-og=ng+(i64)ig;
-if((u64)og-(u64)cg<dg)copy_bits_4f4(cg,og,dg);
-else memmove(og,cg,dg);
-wp(g,ng);
-w8(g+8,mg);
-w8(g+16,hg);
-jg=0;
-kg=0;
-lg=0;}
+qg=pg+(i64)kg;
+if((u64)qg-(u64)eg<fg)copy_bits_4f4(eg,qg,fg);
+else memmove(qg,eg,fg);
+wp(g,pg);
+w8(g+8,og);
+w8(g+16,jg);
+lg=0;
+mg=0;
+ng=0;}
 else{
 if(r8(c+1704)!=0)w8(c+1704,0);
 z16(c+1720);
@@ -45969,2497 +46032,2588 @@ z16(c+1808);
 if(r8(c+1832)!=0)w8(c+1832,0);
 if(r8(c+1856)!=0)w8(c+1856,0);
 z16(c+1872);
-append_in_c46(E,c+768,e,f,Tf,1,g);
-jg=r4(E+8);
-kg=E[4];
-lg=*E;}
-L37:Uf=jg;
-Vf=kg;
-Wf=lg;
+append_in_c46(F,c+768,e,f,Vf,1,g);
+lg=r4(F+8);
+mg=F[4];
+ng=*F;}
+L37:Wf=lg;
+Xf=mg;
+Yf=ng;
 break;
 default:NEVER;
 }
-Ma=Wf;
-Na=Vf;
-Oa=Uf;}
-L15:*a=Ma;
-x4(a+4,Na);
-x4(a+8,Oa);
+Na=Yf;
+Oa=Xf;
+Pa=Wf;}
+L15:*a=Na;
+x4(a+4,Oa);
+x4(a+8,Pa);
 return;
 }
 
 /* itanium::short_way::write_less */
 static u8 write_less_2c7(u8* a,u8* b,u64 c,u32 d,u8 e)
 {
-u8 k[32],m[4],n[32],o[6],q[32],r[32],x[4],y[4],H[32],J[4],K[32],L[6],N[32],O[32],U[4],V[4],ea[32],ga[4],ha[32],ia[6],ka[32],la[32],ra[4],sa[4];
-A16 u8 f[4],g[4],h[40],i[4],j[4],l[4],p[32],s[4],t[4],u[4],v[32],w[32],z[4],A[4],B[4],C[4],D[4],E[40],F[4],G[4],I[4],M[32],P[4],Q[4],R[4],S[32],T[32],W[4],X[4],Y[4],Z[4],aa[4],ba[40],ca[4],da[4],fa[4],ja[32],ma[4],na[4],oa[4],pa[32],qa[32],ta[4],ua[4],va[4];
-u64 wa,xa,ya,za,Aa,Da,Ea,Ga,Oa,Pa,Ra,Sa,Ta,eb,ib,kb,lb,mb,nb,ob,pb,rb,sb,tb,ub,vb,Ib,Jb,Pb,Sb,Tb,bc,cc,ec,hc,jc,lc,mc,pc,vc,Cc,Ec,Jc,Nc,Pc,Qc,Rc,Wc,Yc,Zc,ad,cd,ed,gd,md,qd,td,vd,yd,Gd,Hd,Kd,Ld,Md,Qd,Rd,Sd,Vd,Zd,ae,de,fe,ge,ie,qe,re,te,ue,ve,Ge,Ke,Xe,Ye,ef,hf,jf,rf,sf,uf,xf,zf,Bf,Cf,Ff,Lf,Sf,Uf,Zf,dg,fg,gg,hg,mg,og,pg,qg,sg,ug,wg,Cg,Gg,Ig,Kg,Mg,Ug,Vg,Yg,Zg,ah,eh,fh,gh,jh,nh,oh,rh,th,uh,wh,Eh,Fh,Hh,Ih,Jh,Uh,Yh,ai,bi,ci,di,ei,fi,hi,ii,ji,ki,xi,yi,Ei,Hi,Ii,Qi,Ri,Ti,Wi,Yi,aj,bj,ej,kj,rj,tj,yj,Cj,Ej,Fj,Gj,Lj,Nj,Oj,Pj,Rj,Tj,Vj,bk,fk,hk,jk,lk,tk,uk,xk,yk,zk,Dk,Ek,Fk,Ik,Mk,Nk,Qk;
-u8 Ba,Ca,Ia,Ja,Ka,La,Ma,Na,Qa,Wa,Xa,Ya,Za,ab,bb,cb,db,fb,gb,hb,qb,wb,yb,zb,Eb,Fb,Gb,Hb,Kb,Lb,Mb,Nb,Ob,Rb,Vb,Wb,Xb,Zb,ac,dc,gc,ic,kc,oc,qc,rc,sc,uc,wc,yc,zc,Ac,Bc,Dc,Fc,Gc,Hc,Ic,Kc,Lc,Mc,Oc,Sc,Tc,Uc,Vc,dd,hd,id,jd,kd,od,ud,zd,Ad,Bd,Cd,Ed,Id,Nd,Od,Pd,Td,Xd,be,ee,ke,le,me,ne,oe,pe,se,ye,ze,Ae,Be,Ce,De,Ee,Fe,He,Ie,Je,Le,Ne,Oe,Te,Ue,Ve,We,Ze,af,bf,cf,df,gf,lf,mf,nf,pf,qf,tf,wf,yf,Af,Ef,Gf,Hf,If,Kf,Mf,Of,Pf,Qf,Rf,Tf,Vf,Wf,Xf,Yf,ag,bg,cg,eg,ig,jg,kg,lg,tg,xg,yg,zg,Ag,Eg,Jg,Ng,Og,Pg,Qg,Sg,Wg,bh,ch,dh,hh,lh,ph,sh,yh,zh,Ah,Bh,Ch,Dh,Gh,Mh,Nh,Oh,Ph,Qh,Rh,Sh,Th,Vh,Wh,Xh,gi,li,ni,oi,ti,ui,vi,wi,zi,Ai,Bi,Ci,Di,Gi,Ki,Li,Mi,Oi,Pi,Si,Vi,Xi,Zi,dj,fj,gj,hj,jj,lj,nj,oj,pj,qj,sj,uj,vj,wj,xj,zj,Aj,Bj,Dj,Hj,Ij,Jj,Kj,Sj,Wj,Xj,Yj,Zj,dk,ik,mk,nk,ok,pk,rk,vk,Ak,Bk,Ck,Gk,Kk,Ok,Rk;
-v16 Fa,Ha,he,je,vh,xh;
-u8 *Ua,*Va,*jb,*xb,*xc,*Xc,*bd,*fd,*ld,*nd,*sd,*xd,*Jd,*Ud,*ce,*we,*xe,*Me,*Nf,*ng,*rg,*vg,*Bg,*Dg,*Hg,*Lg,*Xg,*ih,*qh,*Kh,*Lh,*Zh,*mi,*mj,*Mj,*Qj,*Uj,*ak,*ck,*gk,*kk,*wk,*Hk,*Pk;
-u32 Ab,Bb,Db,Qb,Ub,Yb,fc,nc,tc,pd,Dd,Fd,Wd,Yd,Pe,Qe,Se,ff,kf,of,vf,Df,Jf,Fg,Rg,Tg,kh,mh,pi,qi,si,Fi,Ji,Ni,Ui,cj,ij,ek,qk,sk,Jk,Lk;
-u16 Cb,Re,ri;
-wa=c<<3;
-xa=umin64(d>>2,wa+1024);
+u8 k[32],m[4],n[32],q[32],r[32],s[32],y[4],z[4],I[32],K[4],L[32],O[32],P[32],Q[32],W[4],X[4],ga[32],ia[4],ja[32],ma[32],na[32],oa[32],ua[4],va[4];
+A16 u8 f[4],g[4],h[40],i[4],j[4],l[4],o[6],p[32],t[4],u[4],v[4],w[32],x[32],A[4],B[4],C[4],D[4],E[4],F[40],G[4],H[4],J[4],M[6],N[32],R[4],S[4],T[4],U[32],V[32],Y[4],Z[4],aa[4],ba[4],ca[4],da[40],ea[4],fa[4],ha[4],ka[6],la[32],pa[4],qa[4],ra[4],sa[32],ta[32],wa[4],xa[4],ya[4];
+u64 za,Aa,Ba,Ca,Fa,Ga,Ia,Ma,Na,Ta,Ua,Va,gb,hb,lb,nb,ob,pb,qb,sb,tb,ub,vb,wb,zb,Ab,Bb,Cb,Db,Eb,Fb,Tb,Ub,ac,dc,ec,mc,nc,pc,sc,uc,wc,xc,Ac,Gc,Nc,Pc,Uc,Yc,ad,bd,cd,hd,jd,kd,ld,nd,pd,sd,zd,Dd,Fd,Hd,Jd,Rd,Sd,Vd,Wd,Xd,be,ce,de,ge,ke,le,oe,qe,re,te,xe,ye,Ee,Fe,Ge,Re,Se,We,lf,mf,sf,vf,wf,Ef,Ff,Hf,Kf,Mf,Of,Pf,Sf,Yf,fg,hg,mg,qg,sg,tg,ug,zg,Bg,Cg,Dg,Fg,Hg,Jg,Pg,Tg,Vg,Xg,Zg,hh,ih,lh,mh,nh,rh,sh,th,wh,Ah,Bh,Eh,Gh,Hh,Jh,Nh,Oh,Uh,Vh,Wh,hi,ii,mi,oi,pi,qi,ri,ti,ui,vi,wi,xi,Ai,Bi,Ci,Di,Ei,Fi,Ti,Ui,aj,dj,ej,mj,nj,pj,sj,uj,wj,xj,Aj,Gj,Nj,Pj,Uj,Yj,ak,bk,ck,hk,jk,kk,lk,nk,pk,rk,xk,Bk,Dk,Fk,Hk,Pk,Qk,Tk,Uk,Vk,Zk,al,bl,el,il,jl,ml;
+u8 Da,Ea,Ka,La,Oa,Pa,Qa,Ra,Sa,Ya,Za,ab,bb,cb,db,eb,fb,ib,jb,kb,Gb,Ib,Jb,Ob,Qb,Rb,Sb,Vb,Wb,Xb,Yb,Zb,cc,gc,hc,ic,kc,lc,oc,rc,tc,vc,zc,Bc,Cc,Dc,Fc,Hc,Jc,Kc,Lc,Mc,Oc,Qc,Rc,Sc,Tc,Vc,Wc,Xc,Zc,dd,ed,fd,gd,od,td,ud,vd,xd,Bd,Gd,Kd,Ld,Md,Nd,Pd,Td,Yd,Zd,ae,ee,ie,me,pe,ve,we,ze,Ae,Be,Ce,De,Je,Ke,Le,Me,Ne,Oe,Pe,Qe,Te,Ue,Ve,Xe,Ze,af,ff,hf,jf,kf,nf,of,pf,qf,rf,uf,yf,zf,Af,Cf,Df,Gf,Jf,Lf,Nf,Rf,Tf,Uf,Vf,Xf,Zf,bg,cg,dg,eg,gg,ig,jg,kg,lg,ng,og,pg,rg,vg,wg,xg,yg,Gg,Kg,Lg,Mg,Ng,Rg,Wg,ah,bh,ch,dh,fh,jh,oh,ph,qh,uh,yh,Ch,Fh,Lh,Mh,Ph,Qh,Rh,Sh,Th,Zh,ai,bi,ci,di,ei,fi,gi,ji,ki,li,Gi,Ii,Ji,Oi,Qi,Ri,Si,Vi,Wi,Xi,Yi,Zi,cj,gj,hj,ij,kj,lj,oj,rj,tj,vj,zj,Bj,Cj,Dj,Fj,Hj,Jj,Kj,Lj,Mj,Oj,Qj,Rj,Sj,Tj,Vj,Wj,Xj,Zj,dk,ek,fk,gk,ok,sk,tk,uk,vk,zk,Ek,Ik,Jk,Kk,Lk,Nk,Rk,Wk,Xk,Yk,cl,gl,kl,nl;
+v16 Ha,Ja,se,ue,Ih,Kh;
+u8 *Wa,*Xa,*mb,*xb,*yb,*Hb,*Ic,*id,*md,*qd,*yd,*Ad,*Ed,*Id,*Ud,*fe,*ne,*He,*Ie,*Ye,*ag,*Ag,*Eg,*Ig,*Og,*Qg,*Ug,*Yg,*kh,*vh,*Dh,*Xh,*Yh,*ni,*yi,*zi,*Hi,*Ij,*ik,*mk,*qk,*wk,*yk,*Ck,*Gk,*Sk,*dl,*ll;
+u16 rb,Mb,Pb,df,gf,si,Mi,Pi;
+u32 Kb,Lb,Nb,bc,fc,jc,qc,yc,Ec,Cd,Od,Qd,he,je,bf,cf,ef,tf,xf,Bf,If,Qf,Wf,Sg,eh,gh,xh,zh,Ki,Li,Ni,bj,fj,jj,qj,yj,Ej,Ak,Mk,Ok,fl,hl;
+za=umin64(d>>2,(c<<5)+1024);
 if(r8(a+8)!=0)w8(a+8,0);
-w8(a+24,xa);
-ya=r8(a+16);
-za=umin64(ya,xa);
-w8(a+32,za);
+w8(a+24,za);
+Aa=r8(a+16);
+Ba=umin64(Aa,za);
+w8(a+32,Ba);
 if(r8(a+48)!=0)w8(a+48,0);
-Aa=c&4294967295u;
-w8(a+64,Aa);
-w8(a+72,umin64(r8(a+56),Aa));
+Ca=c&4294967295u;
+w8(a+64,Ca);
+w8(a+72,umin64(r8(a+56),Ca));
 if(r8(a+88)!=0)w8(a+88,0);
-w8(a+104,Aa);
-w8(a+112,umin64(r8(a+96),Aa));
+w8(a+104,Ca);
+w8(a+112,umin64(r8(a+96),Ca));
 a[172]=0;
-Ba=c>65536;
+Da=c>65536;
 switch(e){
-case 3:if(Ba)goto L1;
+case 3:if(Da)goto L1;
 if(c<16){
-Ca=are_few_named_14c(b,c);
-if(!Ca)goto L1;}
+Ea=are_few_named_14c(b,c);
+if(!Ea)goto L1;}
 else{
-Da=c-16;
-if(Da==0)goto L2;
-Ea=0;
-L3:Fa=v16_at(b+Ea);
-if((v16_ult(Fa,splat(33))|v16_eq(Fa,splat(127)))!=0)goto L1;
-Ga=Ea+16;
-if(Ga<Da){
-Ea=Ga;
+Fa=c-16;
+if(Fa==0)goto L2;
+Ga=0;
+L3:Ha=v16_at(b+Ga);
+if((v16_ult(Ha,splat(33))|v16_eq(Ha,splat(127)))!=0)goto L1;
+Ia=Ga+16;
+if(Ia<Fa){
+Ga=Ia;
 goto L3;}
-L2:Ha=v16_at(b+Da);
-if((v16_ult(Ha,splat(33))|v16_eq(Ha,splat(127)))!=0)goto L1;}
-w4(z,0);
+L2:Ja=v16_at(b+Fa);
+if((v16_ult(Ja,splat(33))|v16_eq(Ja,splat(127)))!=0)goto L1;}
 w4(A,0);
+w4(B,0);
 if(c!=0){
 if(c!=1&&*b==95){
 if(b[1]==90){
 if(c>=3){
-Ia=b[2];
+Ka=b[2];
 if(c<5){
-if(Ia==90)goto L4;
-if((c!=3)&(Ia==71)){
+if(Ka==90)goto L4;
+if((c!=3)&(Ka==71)){
 if(b[3]==86)goto L5;
 goto L6;}
-switch(Ia){
+switch(Ka){
 case 71:goto L6;
 case 84:if(c==3)goto L7;
 break;
 default:goto L8;
 }}
 else{
-switch(Ia){
+switch(Ka){
 case 90:goto L4;
 case 71:if(b[3]!=86)goto L6;
 if(b[4]!=90)goto L5;
-if(za<19){
-Ja=make_ready_8e3(a,19,128);
-if(Ja==0){
-Ka=0;
-La=0;
-Ma=0;
-Na=0;
+if(Ba<19){
+La=make_ready_8e3(a,19,128);
+if(!(La&1)){
+Oa=0;
+Pa=0;
+Qa=0;
+Ra=0;
 goto L9;}
-Oa=r8(a+16);
-Pa=r8(a+8);}
+Ma=r8(a+16);
+Na=r8(a+8);}
 else{
-Oa=ya;
-Pa=0;}
-if(Oa-Pa<19){
-Qa=grow_amortized_e1a(a,19);
-if(!Qa){
-Ka=0;
-La=0;
-Ma=0;
-Na=0;
+Ma=Aa;
+Na=0;}
+if(Ma-Na<19){
+Sa=grow_amortized_e1a(a,19);
+if(!Sa){
+Oa=0;
+Pa=0;
+Qa=0;
+Ra=0;
 goto L9;}
-Ra=r8(a+16);
-Sa=r8(a+8);}
+Ta=r8(a+16);
+Ua=r8(a+8);}
 else{
-Ra=Oa;
-Sa=Pa;}
-Ta=Sa+19;
-Ua=rp(a);
+Ta=Ma;
+Ua=Na;}
+Va=Ua+19;
+Wa=rp(a);
 z16(a+8);
-Va=Ua+(i64)Sa;
-if((u64)Va-(u64)(u8*)t_c270<19)copy_bits_4f4((u8*)t_c270,Va,19);
-else memcpy(Va,(u8*)t_c270,19);
-wp(a,Ua);
-w8(a+8,Ta);
-w8(a+16,Ra);
+Xa=Wa+(i64)Ua;
+if((u64)Xa-(u64)(u8*)t_c270<19)copy_bits_4f4((u8*)t_c270,Xa,19);
+else memcpy(Xa,(u8*)t_c270,19);
+wp(a,Wa);
+w8(a+8,Va);
+w8(a+16,Ta);
 w8(a+176,5);
-begin_encoding_8af(x,a,b,c);
-Ka=x[3];
-La=x[2];
-Ma=x[1];
-Na=*x;
-L9:Wa=Ka;
-Xa=La;
-Ya=Ma;
-Za=Na;
+begin_encoding_8af(y,a,b,c);
+Oa=y[3];
+Pa=y[2];
+Qa=y[1];
+Ra=*y;
+L9:Ya=Oa;
+Za=Pa;
+ab=Qa;
+bb=Ra;
 goto L10;
 case 84:break;
 default:goto L8;
 }}
 switch(b[3]){
-case 104:begin_thunk_cdf(A,a,b,c);
+case 104:begin_thunk_cdf(B,a,b,c);
 goto L11;
-case 118:begin_virtual_thunk_2ec(A,a,b,c);
+case 118:begin_virtual_thunk_2ec(B,a,b,c);
+goto L11;
+case 67:begin_table_89f(B,a);
 goto L11;
 default:break;}
-L7:begin_special_44d(A,a,b,c);
-L11:ab=A[3];
-bb=A[2];
-cb=A[1];
-db=*A;
+L7:begin_special_44d(B,a,b,c);
+L11:cb=B[3];
+db=B[2];
+eb=B[1];
+fb=*B;
 goto L12;
-L6:begin_clone_d83(z,a,b,c);
-ab=z[3];
-bb=z[2];
-cb=z[1];
-db=*z;
+L6:begin_clone_d83(A,a,b,c);
+cb=A[3];
+db=A[2];
+eb=A[1];
+fb=*A;
 goto L12;
-L5:begin_object_4cd(z,a,b,c);
-ab=z[3];
-bb=z[2];
-cb=z[1];
-db=*z;
+L5:begin_object_4cd(A,a,b,c);
+cb=A[3];
+db=A[2];
+eb=A[1];
+fb=*A;
 goto L12;
 L4:w8(a+176,3);
-begin_encoding_8af(y,a,b,c);
-Wa=y[3];
-Xa=y[2];
-Ya=y[1];
-Za=*y;
-L10:ab=Wa;
-bb=Xa;
-cb=Ya;
+begin_encoding_8af(z,a,b,c);
+Ya=z[3];
+Za=z[2];
+ab=z[1];
+bb=*z;
+L10:cb=Ya;
 db=Za;
+eb=ab;
+fb=bb;
 goto L12;}
 L8:w8(a+176,2);
-begin_encoding_8af(z,a,b,c);
-ab=z[3];
-bb=z[2];
-cb=z[1];
-db=*z;
-L12:if(db!=1)goto L1;
-eb=0;
-fb=ab;
-gb=bb;
-hb=cb;
-L13:if(hb==7){
-ib=r8(a+8);
-if(ib>xa)goto L14;
-jb=rp(a);
-if(ib==0){
-kb=0;
-goto L15;}
-lb=0;
-L16:if(*(jb+lb)>2){
-mb=lb+1;
-if(mb==ib)goto L17;
-lb=mb;
-goto L16;}
-kb=lb;
-L15:if(kb>=ib)goto L17;
-nb=kb;
-ob=kb;
+begin_encoding_8af(A,a,b,c);
+cb=A[3];
+db=A[2];
+eb=A[1];
+fb=*A;
+L12:if(fb!=1)goto L1;
+gb=c<<3;
+hb=0;
+ib=cb;
+jb=db;
+kb=eb;
+L13:if(kb==7){
+lb=r8(a+8);
+if(lb>za)goto L14;
+mb=rp(a);
+if(lb==0)goto L15;
+nb=0;
+ob=0;
 pb=0;
-L18:qb=*(jb+nb);
-if(qb>2){
-if(pb==0){
-*(jb+ob)=qb;
-rb=0;
-sb=ob+1;}
+L16:qb=nb;
+L17:if(lb-qb>15){
+rb=cttz(v16_ult(v16_at(mb+qb),splat(3)),16);
+sb=qb+rb;
+if(rb>=16){
+qb=sb;
+goto L17;}
+tb=sb;}
 else{
-rb=pb;
-sb=ob;}}
-else{
-switch(qb){
-case 2:rb=usub64(pb,1);
-sb=ob;
+if(qb>=lb){
+tb=qb;
+goto L18;}
+ub=qb;
+L19:if(*(mb+ub)>2){
+vb=ub+1;
+if(vb!=lb){
+ub=vb;
+goto L19;}
+tb=lb;}
+else tb=ub;}
+L18:if(pb==0){
+if(ob<nb){
+if(tb!=nb){
+wb=tb-nb;
+xb=mb+(i64)nb;
+yb=mb+(i64)ob;
+zb=0;
+L20:*(yb+(i64)zb)=*(xb+(i64)zb);
+Ab=zb+1;
+if(Ab!=wb){
+zb=Ab;
+goto L20;}}}
+Bb=ob-nb+tb;}
+else Bb=ob;
+if(tb!=lb){
+switch(*(mb+tb)){
+case 1:Cb=pb+1;
 break;
-case 1:rb=pb+1;
-sb=ob;
+case 2:Cb=usub64(pb,1);
 break;
 default:goto L1;
-}}
-tb=nb+1;
-if(tb==ib){
-if(r8(a+8)<=sb)goto L17;
-ub=sb;
-break;}
-nb=tb;
-ob=sb;
-pb=rb;
-goto L18;}
-w8(a+184,r8(a+184)+1);
-w4(B,0);
-switch(hb){
-case 0:type_at_11d(B,a,b,c,0);
-break;
-case 1:type_at_11d(B,a,b,c,1);
-break;
-case 2:w4(t,0);
-w4(u,0);
-z32(v);
-z32(w);
-vb=r8(a+88);
-if(vb==0)w4(B,0);
-else{
-wb=gb&1;
-xb=rp(a+80)+(i64)(vb*44);
-yb=xb[-44];
-zb=xb[-43];
-Ab=q4(xb-40);
-Bb=q4(xb-36);
-Cb=q2(xb-32);
-switch(yb){
-case 25:case 24:case 23:case 22:case 4:case 5:case 6:case 7:case 8:case 11:case 12:case 13:case 14:case 15:case 16:case 17:case 18:case 19:case 20:case 21:if(fb&1){
-pass_dependent_3d7(t,a,b,c);
-*B=*t;
-B[1]=t[1];
-B[2]=t[2];
-B[3]=t[3];
-goto L19;}
-Db=q4(xb-4);
+}
+Db=tb+1;
+if(Db<lb){
+nb=Db;
+ob=Bb;
+pb=Cb;
+goto L16;}}
+if(r8(a+8)<=Bb)goto L15;
 Eb=Bb;
-w4(s,0);
-switch(yb){
-case 19:returned_322(s,a,b,c,zb&1);
+break;}
+w8(a+184,r8(a+184)+1);
+w4(C,0);
+switch(kb){
+case 0:type_at_11d(C,a,b,c,0);
 break;
-case 20:parameter_at_3ac(s,a,b,c,zb&1,0);
+case 1:type_at_11d(C,a,b,c,1);
 break;
-case 21:array_ended_1b3(s,a,b,c,zb,Ab,Bb);
+case 2:w4(u,0);
+w4(v,0);
+z32(w);
+z32(x);
+Fb=r8(a+88);
+if(Fb==0)w4(C,0);
+else{
+Gb=jb&1;
+Hb=rp(a+80)+(i64)(Fb*44);
+Ib=Hb[-44];
+Jb=Hb[-43];
+Kb=q4(Hb-40);
+Lb=q4(Hb-36);
+Mb=q2(Hb-32);
+switch(Ib){
+case 29:case 28:case 27:case 26:case 4:case 5:case 6:case 7:case 8:case 11:case 12:case 13:case 14:case 15:case 16:case 17:case 18:case 19:case 20:case 21:case 22:case 23:case 24:case 25:if(ib&1){
+pass_dependent_3d7(u,a,b,c);
+*C=*u;
+C[1]=u[1];
+C[2]=u[2];
+C[3]=u[3];
+goto L21;}
+Nb=q4(Hb-4);
+Ob=Lb;
+Pb=Lb>>16;
+w4(t,0);
+switch(Ib){
+case 22:returned_07a(t,a,b,c,Jb&1);
 break;
-case 12:enclosing_parameter_fc1(s,a,b,c,Ab,Bb);
+case 23:parameter_at_257(t,a,b,c,Jb&1,0);
 break;
-case 13:instance_parameter_240(s,a,b,c,zb,Ab,Bb);
+case 24:array_ended_b9c(t,a,b,c,Jb,Kb,Lb);
 break;
-case 11:w2(n,Cb);
-memcpy(n+2,xb-30,26);
-x4(n+28,Db);
-enclosing_front_fa8(s,a,zb,Ab,Bb,n);
+case 12:enclosing_parameter_fc1(t,a,b,c,Kb,Lb);
 break;
-case 17:w2(o,(u16)Bb&255);
-w2(o+2,Bb>>16);
-w2(o+4,Cb);
-lambda_parameter_f9a(s,a,b,c,Ab,o);
+case 13:instance_parameter_240(t,a,b,c,Jb,Kb,Lb);
 break;
-case 15:w4(p,Bb);
-w2(p+4,Cb);
-memcpy(p+6,xb-30,26);
-addressed_front_54d(s,a,b,c,zb,Ab,p);
+case 11:w2(n,Mb);
+memcpy(n+2,Hb-30,26);
+x4(n+28,Nb);
+enclosing_front_fa8(t,a,Jb,Kb,Lb,n);
 break;
-case 16:addressed_parameter_2cf(s,a,b,c,Ab);
+case 17:w4(o,Lb);
+w2(o+4,Mb);
+lambda_parameter_383(t,a,b,c,Kb,o);
 break;
-case 14:*s=0;
+case 18:member_parameter_7e4(t,a,b,c,Kb);
 break;
-case 18:finish_8cd(s,a,b,c);
+case 15:w4(p,Lb);
+w2(p+4,Mb);
+memcpy(p+6,Hb-30,26);
+addressed_front_54d(t,a,b,c,Jb,Kb,p);
 break;
-case 25:enumerator_21c(s,a,b,c);
+case 16:addressed_parameter_2cf(t,a,b,c,Kb);
 break;
-case 22:w2(q,Bb>>16);
-w2(q+2,Cb);
-memcpy(q+4,xb-30,26);
-w2(q+30,Db);
-argument_ended_e71(s,a,b,c,Ab,Eb,q,wb);
+case 14:*t=0;
 break;
-case 24:w2(r,Bb>>16);
-w2(r+2,Cb);
-memcpy(r+4,xb-30,26);
-w2(r+30,Db);
-element_ended_20b(s,a,b,c,Ab,Eb,r,wb);
+case 19:finish_8cd(t,a,b,c);
 break;
-case 23:case 10:case 9:case 8:case 4:case 5:case 6:case 7:*s=1;
-s[1]=3;
-s[2]=0;
-s[3]=0;
+case 20:derived_ended_aef(t,a,b,c);
+break;
+case 21:base_ended_299(t,a,b,c,Kb);
+break;
+case 29:enumerator_21c(t,a,b,c);
+break;
+case 26:w2(q,Pb);
+w2(q+2,Mb);
+memcpy(q+4,Hb-30,26);
+w2(q+30,Nb);
+argument_enumerator_87a(t,a,b,c,Kb,Ob,q);
+break;
+case 25:w2(r,Pb);
+w2(r+2,Mb);
+memcpy(r+4,Hb-30,26);
+w2(r+30,Nb);
+argument_ended_e71(t,a,b,c,Kb,Ob,r,Gb);
+break;
+case 28:w2(s,Pb);
+w2(s+2,Mb);
+memcpy(s+4,Hb-30,26);
+w2(s+30,Nb);
+element_ended_20b(t,a,b,c,Kb,Ob,s,Gb);
+break;
+case 27:case 10:case 9:case 8:case 4:case 5:case 6:case 7:*t=1;
+t[1]=3;
+t[2]=0;
+t[3]=0;
 break;
 default:NEVER;
 }
-Fb=s[1];
-Gb=s[2];
-Hb=s[3];
-*u=*s;
-u[1]=Fb;
-u[2]=Gb;
-u[3]=Hb;
-goto L20;
-case 10:w4(v,Bb);
-w2(v+4,Cb);
-memcpy(v+6,xb-30,26);
-parameter_ended_d3f(u,a,b,c,Ab,v);
-goto L20;
-case 9:w4(w,Bb);
-w2(w+4,Cb);
-memcpy(w+6,xb-30,26);
-front_ended_665(u,a,b,c,zb,Ab,w);
-goto L20;
-case 0:w8(a+88,vb-1);
-Ib=r8(a+8);
-if(r8(a+32)>Ib)Jb=Ib;
+Qb=t[1];
+Rb=t[2];
+Sb=t[3];
+*v=*t;
+v[1]=Qb;
+v[2]=Rb;
+v[3]=Sb;
+goto L22;
+case 10:w4(w,Lb);
+w2(w+4,Mb);
+memcpy(w+6,Hb-30,26);
+parameter_ended_d3f(v,a,b,c,Kb,w);
+goto L22;
+case 9:w4(x,Lb);
+w2(x+4,Mb);
+memcpy(x+6,Hb-30,26);
+front_ended_665(v,a,b,c,Jb,Kb,x);
+goto L22;
+case 0:w8(a+88,Fb-1);
+Tb=r8(a+8);
+if(r8(a+32)>Tb)Ub=Tb;
 else{
-Kb=make_ready_8e3(a,1,16);
-if(Kb==0){
-Lb=0;
-Mb=0;
-Nb=0;
-Ob=0;
-goto L21;}
-Jb=r8(a+8);}
-*(rp(a)+Jb)=42;
-Pb=Jb+1;
-w8(a+8,Pb);
-Qb=Pb;
-Rb=fb&1;
-Sb=r8(a+48);
-if(r8(a+72)>Sb){
-Tb=Sb;
-Ub=Qb;
-Vb=0;
-Wb=Rb;
-goto L22;}
-Xb=make_ready_17a(a+40);
-if(Xb==0){
-Lb=0;
-Mb=0;
-Nb=0;
-Ob=0;
-goto L21;}
-Yb=Qb;
+Vb=make_ready_8e3(a,1,16);
+if(!(Vb&1)){
+Wb=0;
+Xb=0;
+Yb=0;
 Zb=0;
-ac=Rb;
-break;
-case 1:if(wb)goto L20;
-w8(a+88,vb-1);
-bc=r8(a+8);
-if(r8(a+32)>bc)cc=bc;
-else{
-dc=make_ready_8e3(a,1,16);
-if(dc==0){
-Lb=0;
-Mb=0;
-Nb=0;
-Ob=0;
-goto L21;}
-cc=r8(a+8);}
-*(rp(a)+cc)=38;
-ec=cc+1;
-w8(a+8,ec);
-fc=ec;
-gc=fb&1;
-hc=r8(a+48);
-if(r8(a+72)>hc){
-Tb=hc;
-Ub=fc;
-Vb=1;
-Wb=gc;
-goto L22;}
+goto L23;}
+Ub=r8(a+8);}
+*(rp(a)+Ub)=42;
+ac=Ub+1;
+w8(a+8,ac);
+bc=ac;
+cc=ib&1;
+dc=r8(a+48);
+if(r8(a+72)>dc){
+ec=dc;
+fc=bc;
+gc=0;
+hc=cc;
+goto L24;}
 ic=make_ready_17a(a+40);
-if(ic==0){
-Lb=0;
-Mb=0;
-Nb=0;
-Ob=0;
-goto L21;}
-Yb=fc;
-Zb=1;
-ac=gc;
-break;
-case 2:if(wb)goto L20;
-w8(a+88,vb-1);
-jc=r8(a+8);
-if(r8(a+32)-jc<2){
-kc=make_ready_8e3(a,2,128);
-if(kc==0){
-Lb=0;
-Mb=0;
-Nb=0;
-Ob=0;
-goto L21;}
-lc=r8(a+8);}
-else lc=jc;
-*(rp(a)+lc)=38;
-*(rp(a)+(i64)lc+1)=38;
-mc=lc+2;
-w8(a+8,mc);
-nc=mc;
-oc=fb&1;
-pc=r8(a+48);
-if(r8(a+72)>pc){
-Tb=pc;
-Ub=nc;
-Vb=1;
-Wb=oc;
-goto L22;}
-qc=make_ready_17a(a+40);
-if(qc==0){
-Lb=0;
-Mb=0;
-Nb=0;
-Ob=0;
-goto L21;}
-Yb=nc;
-Zb=1;
-ac=oc;
-break;
-case 3:if(wb)goto L20;
-w8(a+88,vb-1);
-if(r8(a+32)-r8(a+8)<6){
-rc=make_ready_8e3(a,6,128);
-if(rc==0){
-Lb=0;
-Mb=0;
-Nb=0;
-Ob=0;
-goto L21;}}
-sc=push_str_b7e(a,(u8*)t_f603,6);
-if(sc!=0){
-Lb=0;
-Mb=0;
-Nb=0;
-Ob=0;
-goto L21;}
-tc=r8(a+8);
-uc=fb&1;
-vc=r8(a+48);
-if(r8(a+72)>vc){
-Tb=vc;
-Ub=tc;
-Vb=0;
-Wb=uc;
-goto L22;}
-wc=make_ready_17a(a+40);
-if(wc==0){
-Lb=0;
-Mb=0;
-Nb=0;
-Ob=0;
-goto L21;}
-Yb=tc;
+if(!(ic&1)){
+Wb=0;
+Xb=0;
+Yb=0;
 Zb=0;
-ac=uc;
+goto L23;}
+jc=bc;
+kc=0;
+lc=cc;
+break;
+case 1:if(Gb)goto L22;
+w8(a+88,Fb-1);
+mc=r8(a+8);
+if(r8(a+32)>mc)nc=mc;
+else{
+oc=make_ready_8e3(a,1,16);
+if(!(oc&1)){
+Wb=0;
+Xb=0;
+Yb=0;
+Zb=0;
+goto L23;}
+nc=r8(a+8);}
+*(rp(a)+nc)=38;
+pc=nc+1;
+w8(a+8,pc);
+qc=pc;
+rc=ib&1;
+sc=r8(a+48);
+if(r8(a+72)>sc){
+ec=sc;
+fc=qc;
+gc=1;
+hc=rc;
+goto L24;}
+tc=make_ready_17a(a+40);
+if(!(tc&1)){
+Wb=0;
+Xb=0;
+Yb=0;
+Zb=0;
+goto L23;}
+jc=qc;
+kc=1;
+lc=rc;
+break;
+case 2:if(Gb)goto L22;
+w8(a+88,Fb-1);
+uc=r8(a+8);
+if(r8(a+32)-uc<2){
+vc=make_ready_8e3(a,2,128);
+if(!(vc&1)){
+Wb=0;
+Xb=0;
+Yb=0;
+Zb=0;
+goto L23;}
+wc=r8(a+8);}
+else wc=uc;
+*(rp(a)+wc)=38;
+*(rp(a)+(i64)wc+1)=38;
+xc=wc+2;
+w8(a+8,xc);
+yc=xc;
+zc=ib&1;
+Ac=r8(a+48);
+if(r8(a+72)>Ac){
+ec=Ac;
+fc=yc;
+gc=1;
+hc=zc;
+goto L24;}
+Bc=make_ready_17a(a+40);
+if(!(Bc&1)){
+Wb=0;
+Xb=0;
+Yb=0;
+Zb=0;
+goto L23;}
+jc=yc;
+kc=1;
+lc=zc;
+break;
+case 3:if(Gb)goto L22;
+w8(a+88,Fb-1);
+if(r8(a+32)-r8(a+8)<6){
+Cc=make_ready_8e3(a,6,128);
+if(!(Cc&1)){
+Wb=0;
+Xb=0;
+Yb=0;
+Zb=0;
+goto L23;}}
+Dc=push_str_b7e(a,(u8*)t_f603,6);
+if(Dc&1){
+Wb=0;
+Xb=0;
+Yb=0;
+Zb=0;
+goto L23;}
+Ec=r8(a+8);
+Fc=ib&1;
+Gc=r8(a+48);
+if(r8(a+72)>Gc){
+ec=Gc;
+fc=Ec;
+gc=0;
+hc=Fc;
+goto L24;}
+Hc=make_ready_17a(a+40);
+if(!(Hc&1)){
+Wb=0;
+Xb=0;
+Yb=0;
+Zb=0;
+goto L23;}
+jc=Ec;
+kc=0;
+lc=Fc;
 break;
 default:NEVER;
 }
-Tb=r8(a+48);
-Ub=Yb;
-Vb=Zb;
-Wb=ac;
-L22:xc=rp(a+40)+Tb*12;
-x4(xc,Ab);
-x4(xc+4,Ub);
-xc[8]=Vb;
-xc[9]=Wb;
-x2(xc+10,0);
-w8(a+48,Tb+1);
-Lb=Wb;
-Mb=Vb;
-Nb=2;
-Ob=1;
-L21:*u=Ob;
-u[1]=Nb;
-u[2]=Mb;
-u[3]=Lb;
-L20:yc=u[1];
-zc=u[2];
-Ac=u[3];
-*B=*u;
-B[1]=yc;
-B[2]=zc;
-B[3]=Ac;}
-L19:break;
-case 3:Bc=gb&1;
+ec=r8(a+48);
+fc=jc;
+gc=kc;
+hc=lc;
+L24:Ic=rp(a+40)+ec*12;
+x4(Ic,Kb);
+x4(Ic+4,fc);
+Ic[8]=gc;
+Ic[9]=hc;
+x2(Ic+10,0);
+w8(a+48,ec+1);
+Wb=hc;
+Xb=gc;
+Yb=2;
+Zb=1;
+L23:*v=Zb;
+v[1]=Yb;
+v[2]=Xb;
+v[3]=Wb;
+L22:Jc=v[1];
+Kc=v[2];
+Lc=v[3];
+*C=*v;
+C[1]=Jc;
+C[2]=Kc;
+C[3]=Lc;}
+L21:break;
+case 3:Mc=jb&1;
 w4(l,0);
-Cc=r8(a+176);
-if(Cc<c){
-Dc=*(b+Cc);
-switch(Dc){
+Nc=r8(a+176);
+if(Nc<c){
+Oc=*(b+Nc);
+switch(Oc){
 case 69:w4(j,0);
-w8(a+176,Cc+1);
-Ec=r8(a+88);
-if(Ec==0){
-Fc=0;
-Gc=0;
-Hc=0;
-Ic=0;}
+w8(a+176,Nc+1);
+Pc=r8(a+88);
+if(Pc==0){
+Qc=0;
+Rc=0;
+Sc=0;
+Tc=0;}
 else{
-if(*(rp(a+80)+(i64)(Ec*44)-44)==23){
-if(Bc){
-Fc=0;
-Gc=0;
-Hc=0;
-Ic=0;}
+if(*(rp(a+80)+(i64)(Pc*44)-44)==27){
+if(Mc){
+Qc=0;
+Rc=0;
+Sc=0;
+Tc=0;}
 else{
-w8(a+88,Ec-1);
-Fc=0;
-Gc=0;
-Hc=3;
-Ic=1;}}
+w8(a+88,Pc-1);
+Qc=0;
+Rc=0;
+Sc=3;
+Tc=1;}}
 else{
 z32(k);
 close_list_3c2(j,a,b,c,k);
-Fc=j[3];
-Gc=j[2];
-Hc=j[1];
-Ic=*j;}}
-*B=Ic;
-B[1]=Hc;
-B[2]=Gc;
-B[3]=Fc;
-goto L23;
-case 74:Jc=Cc+1;
-if(Jc<c){
-if(*(b+Jc)==69){
-empty_pack_ea9(l,a,b,c,Bc);
-*B=*l;
-B[1]=l[1];
-B[2]=l[2];
-B[3]=l[3];
-goto L23;}}
-if(!Bc){
-Kc=74;
-goto L24;}
+Qc=j[3];
+Rc=j[2];
+Sc=j[1];
+Tc=*j;}}
+*C=Tc;
+C[1]=Sc;
+C[2]=Rc;
+C[3]=Qc;
+goto L25;
+case 74:Uc=Nc+1;
+if(Uc<c){
+if(*(b+Uc)==69){
+empty_pack_ea9(l,a,b,c,Mc);
+*C=*l;
+C[1]=l[1];
+C[2]=l[2];
+C[3]=l[3];
+goto L25;}}
+if(!Mc){
+Vc=74;
+goto L26;}
 first_pack_117(l,a,b,c);
-*B=*l;
-B[1]=l[1];
-B[2]=l[2];
-B[3]=l[3];
-goto L23;
-default:Lc=Dc;
+*C=*l;
+C[1]=l[1];
+C[2]=l[2];
+C[3]=l[3];
+goto L25;
+default:Wc=Oc;
 break;}}
-else Lc=0;
-if(Bc){
-Mc=Lc;
-goto L25;}
-Kc=Lc;
-L24:Nc=r8(a+8);
-if(r8(a+32)-Nc<2){
-Oc=make_ready_8e3(a,2,128);
-if(Oc==0){
-w4(B,0);
-goto L23;}
-Pc=r8(a+8);}
-else Pc=Nc;
-*(rp(a)+Pc)=44;
-*(rp(a)+(i64)Pc+1)=32;
-w8(a+8,Pc+2);
-Mc=Kc;
-L25:switch(Mc){
-case 88:Qc=r8(a+176);
-if(Qc==18446744073709551615u){
-w4(B,0);
-goto L23;}
-Rc=Qc+1;
-if(Rc<c){
-if(*(b+Rc)==115){
-begin_level_398(l,a,b,c);
-*B=*l;
-B[1]=l[1];
-B[2]=l[2];
-B[3]=l[3];
-goto L23;}}
-break;
-case 76:if(Bc){
-first_literal_c8e(l,a,b,c);
-*B=*l;
-B[1]=l[1];
-B[2]=l[2];
-B[3]=l[3];
-goto L23;}
-literal_4a5(m,a,b,c);
-Sc=m[3];
-Tc=m[2];
-Uc=m[1];
-Vc=*m;
-goto L26;
-case 74:Wc=r8(a+88);
-if(Wc==0){
-Sc=0;
-Tc=0;
-Uc=0;
-Vc=0;
-goto L26;}
-Xc=rp(a+80);
-Yc=Wc*44;
-if(*(Xc+(i64)Yc-44)==23){
-Sc=0;
-Tc=0;
-Uc=0;
-Vc=0;
-goto L26;}
-Zc=r8(a+176);
-if(Zc==18446744073709551615u){
-Sc=0;
-Tc=0;
-Uc=0;
-Vc=0;
-goto L26;}
-w8(a+176,Zc+1);
-if(r8(a+112)>Wc){
-ad=Yc;
-bd=Xc;
-cd=Wc;}
-else{
-dd=make_ready_9a1(a+80);
-if(dd==0){
-Sc=0;
-Tc=0;
-Uc=0;
-Vc=0;
-goto L26;}
-ed=r8(a+88);
-ad=ed*44;
-bd=rp(a+80);
-cd=ed;}
-fd=bd+ad;
-*fd=23;
-z43(fd+1);
-w8(a+88,cd+1);
-Sc=0;
-Tc=1;
-Uc=3;
-Vc=1;
-goto L26;
-default:break;}
-if(Bc){
-gd=r8(a+88);
-if(gd==0){
-hd=0;
-id=0;
-jd=0;
-kd=1;}
-else{
-ld=rp(a+80);
-md=gd*44;
-nd=ld+(i64)md;
-switch(nd[-44]){
-case 5:if(nd[-28]==0){
-hd=0;
-id=0;
-jd=0;
-kd=1;
+else Wc=0;
+if(Mc){
+Xc=Wc;
 goto L27;}
+Vc=Wc;
+L26:Yc=r8(a+8);
+if(r8(a+32)-Yc<2){
+Zc=make_ready_8e3(a,2,128);
+if(!(Zc&1)){
+w4(C,0);
+goto L25;}
+ad=r8(a+8);}
+else ad=Yc;
+*(rp(a)+ad)=44;
+*(rp(a)+(i64)ad+1)=32;
+w8(a+8,ad+2);
+Xc=Vc;
+L27:switch(Xc){
+case 88:bd=r8(a+176);
+if(bd==18446744073709551615u){
+w4(C,0);
+goto L25;}
+cd=bd+1;
+if(cd<c){
+switch(*(b+cd)){
+case 115:begin_level_398(l,a,b,c);
+*C=*l;
+C[1]=l[1];
+C[2]=l[2];
+C[3]=l[3];
+goto L25;
+case 84:parameter_argument_7c8(l,a,b,c);
+*C=*l;
+C[1]=l[1];
+C[2]=l[2];
+C[3]=l[3];
+goto L25;
+default:break;}}
+break;
+case 76:if(Mc){
+first_literal_c8e(l,a,b,c);
+*C=*l;
+C[1]=l[1];
+C[2]=l[2];
+C[3]=l[3];
+goto L25;}
+literal_4a5(m,a,b,c);
+dd=m[3];
+ed=m[2];
+fd=m[1];
+gd=*m;
+goto L28;
+case 74:hd=r8(a+88);
+if(hd==0){
+dd=0;
+ed=0;
+fd=0;
+gd=0;
+goto L28;}
+id=rp(a+80);
+jd=hd*44;
+if(*(id+(i64)jd-44)==27){
+dd=0;
+ed=0;
+fd=0;
+gd=0;
+goto L28;}
+kd=r8(a+176);
+if(kd==18446744073709551615u){
+dd=0;
+ed=0;
+fd=0;
+gd=0;
+goto L28;}
+w8(a+176,kd+1);
+if(r8(a+112)>hd){
+ld=jd;
+md=id;
+nd=hd;}
+else{
+od=make_ready_9a1(a+80);
+if(!(od&1)){
+dd=0;
+ed=0;
+fd=0;
+gd=0;
+goto L28;}
+pd=r8(a+88);
+ld=pd*44;
+md=rp(a+80);
+nd=pd;}
+qd=md+ld;
+*qd=27;
+z43(qd+1);
+w8(a+88,nd+1);
+dd=0;
+ed=1;
+fd=3;
+gd=1;
+goto L28;
+default:break;}
+if(Mc){
+sd=r8(a+88);
+if(sd==0){
+td=0;
+ud=0;
+vd=0;
+xd=1;}
+else{
+yd=rp(a+80);
+zd=sd*44;
+Ad=yd+(i64)zd;
+switch(Ad[-44]){
+case 5:if(Ad[-28]==0){
+td=0;
+ud=0;
+vd=0;
+xd=1;
+goto L29;}
 break;
 case 7:break;
-case 0:case 1:case 2:case 3:case 4:case 6:case 8:case 9:case 10:case 11:case 12:case 13:case 14:case 15:case 16:case 17:case 18:case 19:case 20:case 21:case 22:case 23:case 24:case 25:hd=0;
-id=0;
-jd=0;
-kd=1;
-goto L27;
+case 0:case 1:case 2:case 3:case 4:case 6:case 8:case 9:case 10:case 11:case 12:case 13:case 14:case 15:case 16:case 17:case 18:case 19:case 20:case 21:case 22:case 23:case 24:case 25:case 26:case 27:case 28:case 29:td=0;
+ud=0;
+vd=0;
+xd=1;
+goto L29;
 default:NEVER;
 }
-od=is_element_at_f4e(b,c,r8(a+176));
-if(od){
-hd=0;
-id=0;
-jd=0;
-kd=1;}
+Bd=is_element_at_f4e(b,c,r8(a+176));
+if(Bd){
+td=0;
+ud=0;
+vd=0;
+xd=1;}
 else{
-pd=r8(a+8);
-if(r8(a+112)>gd){
-qd=md;
-sd=ld;
-td=gd;}
+Cd=r8(a+8);
+if(r8(a+112)>sd){
+Dd=zd;
+Ed=yd;
+Fd=sd;}
 else{
-ud=make_ready_9a1(a+80);
-if(ud==0){
-hd=0;
-id=0;
-jd=0;
-kd=0;
-goto L27;}
-vd=r8(a+88);
-qd=vd*44;
-sd=rp(a+80);
-td=vd;}
-xd=sd+qd;
-*xd=22;
-xd[1]=0;
-x2(xd+2,0);
-x4(xd+4,pd);
-z36(xd+8);
-w8(a+88,td+1);
+Gd=make_ready_9a1(a+80);
+if(!(Gd&1)){
+td=0;
+ud=0;
+vd=0;
+xd=0;
+goto L29;}
+Hd=r8(a+88);
+Dd=Hd*44;
+Ed=rp(a+80);
+Fd=Hd;}
+Id=Ed+Dd;
+*Id=25;
+Id[1]=0;
+x2(Id+2,0);
+x4(Id+4,Cd);
+z36(Id+8);
+w8(a+88,Fd+1);
 w4(i,0);
-yd=r8(a+176);
-if(yd<c){
-if(*(b+yd)==88){
+Jd=r8(a+176);
+if(Jd<c){
+if(*(b+Jd)==88){
 begin_address_731(i,a,b,c);
-zd=i[3];
-Ad=i[2];
-Bd=i[1];
-Cd=*i;}
+Kd=i[3];
+Ld=i[2];
+Md=i[1];
+Nd=*i;}
 else{
-zd=0;
-Ad=0;
-Bd=0;
-Cd=1;}}
+Kd=0;
+Ld=0;
+Md=0;
+Nd=1;}}
 else{
-zd=0;
-Ad=0;
-Bd=0;
-Cd=1;}
-hd=zd;
-id=Ad;
-jd=Bd;
-kd=Cd;}}
-L27:*B=kd;
-B[1]=jd;
-B[2]=id;
-B[3]=hd;
-goto L23;}
-Sc=0;
-Tc=0;
-Uc=0;
-Vc=1;
-L26:*B=Vc;
-B[1]=Uc;
-B[2]=Tc;
-B[3]=Sc;
-L23:break;
+Kd=0;
+Ld=0;
+Md=0;
+Nd=1;}
+td=Kd;
+ud=Ld;
+vd=Md;
+xd=Nd;}}
+L29:*C=xd;
+C[1]=vd;
+C[2]=ud;
+C[3]=td;
+goto L25;}
+dd=0;
+ed=0;
+fd=0;
+gd=1;
+L28:*C=gd;
+C[1]=fd;
+C[2]=ed;
+C[3]=dd;
+L25:break;
 case 4:w4(g,0);
 z20(h+20);
 if(!(a[136]&1)){
-Dd=r4(a+120);
-Ed=a[139];
-Fd=r8(a+8);
-Gd=r8(a+48);
-if(r8(a+72)>Gd)Hd=Gd;
+Od=r4(a+120);
+Pd=a[139];
+Qd=r8(a+8);
+Rd=r8(a+48);
+if(r8(a+72)>Rd)Sd=Rd;
 else{
-Id=make_ready_17a(a+40);
-if(Id==0){
-w4(B,0);
-goto L28;}
-Hd=r8(a+48);}
-Jd=rp(a+40)+Hd*12;
-x4(Jd,Dd);
-x4(Jd+4,Fd);
-Jd[8]=0;
-Jd[9]=Ed;
-x2(Jd+10,0);
-w8(a+48,Hd+1);}
-Kd=r8(a+176);
-if(Kd<c){
-if(*(b+Kd)==73){
-memcpy(h,a+120,20);
-Ld=r8(a+8);
-if(r8(a+32)>Ld)Md=Ld;
-else{
-Nd=make_ready_8e3(a,1,16);
-if(Nd==0){
-Od=0;
-Pd=0;
-goto L29;}
-Md=r8(a+8);}
-*(rp(a)+Md)=1;
-w8(a+8,Md+1);
-Qd=r8(a+176);
-if(Qd==18446744073709551615u){
-Od=0;
-Pd=0;}
-else{
-w8(a+176,Qd+1);
-Rd=r8(a+88);
-if(r8(a+112)>Rd)Sd=Rd;
-else{
-Td=make_ready_9a1(a+80);
-if(Td==0){
-Od=0;
-Pd=0;
-goto L29;}
-Sd=r8(a+88);}
-Ud=rp(a+80)+Sd*44;
-*Ud=6;
-Ud[1]=0;
-x2(Ud+2,0);
-memcpy(Ud+4,h,40);
-w8(a+88,Sd+1);
-Od=3;
-Pd=1;}
-L29:*B=Pd;
-B[1]=Od;
-B[2]=Pd;
-B[3]=0;
-goto L28;}}
-components_at_98c(g,a,b,c);
-*B=*g;
-B[1]=g[1];
-B[2]=g[2];
-B[3]=g[3];
-L28:break;
-case 5:w4(f,0);
+Td=make_ready_17a(a+40);
+if(!(Td&1)){
+w4(C,0);
+goto L30;}
+Sd=r8(a+48);}
+Ud=rp(a+40)+Sd*12;
+x4(Ud,Od);
+x4(Ud+4,Qd);
+Ud[8]=0;
+Ud[9]=Pd;
+x2(Ud+10,0);
+w8(a+48,Sd+1);}
 Vd=r8(a+176);
 if(Vd<c){
-if(*(b+Vd)==69){
-nest_ended_32a(f,a,b,c);
-*B=*f;
-B[1]=f[1];
-B[2]=f[2];
-B[3]=f[3];
-goto L30;}}
-if(!(a[136]&1)){
-Wd=r4(a+120);
-Xd=a[139];
-Yd=r8(a+8);
-Zd=r8(a+48);
-if(r8(a+72)>Zd)ae=Zd;
+if(*(b+Vd)==73){
+memcpy(h,a+120,20);
+Wd=r8(a+8);
+if(r8(a+32)>Wd)Xd=Wd;
 else{
-be=make_ready_17a(a+40);
-if(be==0){
-w4(B,0);
-goto L30;}
-ae=r8(a+48);}
-ce=rp(a+40)+ae*12;
-x4(ce,Wd);
-x4(ce+4,Yd);
-ce[8]=0;
-ce[9]=Xd;
-x2(ce+10,0);
-w8(a+48,ae+1);}
-components_at_98c(f,a,b,c);
-*B=*f;
-B[1]=f[1];
-B[2]=f[2];
-B[3]=f[3];
+Yd=make_ready_8e3(a,1,16);
+if(!(Yd&1)){
+Zd=0;
+ae=0;
+goto L31;}
+Xd=r8(a+8);}
+*(rp(a)+Xd)=1;
+w8(a+8,Xd+1);
+be=r8(a+176);
+if(be==18446744073709551615u){
+Zd=0;
+ae=0;}
+else{
+w8(a+176,be+1);
+ce=r8(a+88);
+if(r8(a+112)>ce)de=ce;
+else{
+ee=make_ready_9a1(a+80);
+if(!(ee&1)){
+Zd=0;
+ae=0;
+goto L31;}
+de=r8(a+88);}
+fe=rp(a+80)+de*44;
+*fe=6;
+fe[1]=0;
+x2(fe+2,0);
+memcpy(fe+4,h,40);
+w8(a+88,de+1);
+Zd=3;
+ae=1;}
+L31:*C=ae;
+C[1]=Zd;
+C[2]=ae;
+C[3]=0;
+goto L30;}}
+components_at_98c(g,a,b,c);
+*C=*g;
+C[1]=g[1];
+C[2]=g[2];
+C[3]=g[3];
 L30:break;
-case 6:components_at_98c(B,a,b,c);
+case 5:w4(f,0);
+ge=r8(a+176);
+if(ge<c){
+if(*(b+ge)==69){
+nest_ended_32a(f,a,b,c);
+*C=*f;
+C[1]=f[1];
+C[2]=f[2];
+C[3]=f[3];
+goto L32;}}
+if(!(a[136]&1)){
+he=r4(a+120);
+ie=a[139];
+je=r8(a+8);
+ke=r8(a+48);
+if(r8(a+72)>ke)le=ke;
+else{
+me=make_ready_17a(a+40);
+if(!(me&1)){
+w4(C,0);
+goto L32;}
+le=r8(a+48);}
+ne=rp(a+40)+le*12;
+x4(ne,he);
+x4(ne+4,je);
+ne[8]=0;
+ne[9]=ie;
+x2(ne+10,0);
+w8(a+48,le+1);}
+components_at_98c(f,a,b,c);
+*C=*f;
+C[1]=f[1];
+C[2]=f[2];
+C[3]=f[3];
+L32:break;
+case 6:components_at_98c(C,a,b,c);
 break;
 default:NEVER;
 }
-de=eb+1;
-if(*B!=1||de==wa)goto L1;
-eb=de;
-fb=B[3];
-gb=B[2];
-hb=B[1];
+oe=hb+1;
+if(*C!=1||oe==gb)goto L1;
+hb=oe;
+ib=C[3];
+jb=C[2];
+kb=C[1];
 goto L13;}}}
 goto L1;
-case 2:if(Ba)goto L1;
+case 2:if(Da)goto L1;
 if(c<16){
-ee=are_few_named_14c(b,c);
-if(!ee)goto L1;}
+pe=are_few_named_14c(b,c);
+if(!pe)goto L1;}
 else{
-fe=c-16;
-if(fe==0)goto L31;
-ge=0;
-L32:he=v16_at(b+ge);
-if((v16_ult(he,splat(33))|v16_eq(he,splat(127)))!=0)goto L1;
-ie=ge+16;
-if(ie<fe){
-ge=ie;
-goto L32;}
-L31:je=v16_at(b+fe);
-if((v16_ult(je,splat(33))|v16_eq(je,splat(127)))!=0)goto L1;}
-w4(ta,0);
-w4(ua,0);
+qe=c-16;
+if(qe==0)goto L33;
+re=0;
+L34:se=v16_at(b+re);
+if((v16_ult(se,splat(33))|v16_eq(se,splat(127)))!=0)goto L1;
+te=re+16;
+if(te<qe){
+re=te;
+goto L34;}
+L33:ue=v16_at(b+qe);
+if((v16_ult(ue,splat(33))|v16_eq(ue,splat(127)))!=0)goto L1;}
+w4(wa,0);
+w4(xa,0);
 if(c!=0){
 if(c!=1&&*b==95){
 if(b[1]==90){
 if(c>=3){
-ke=b[2];
+ve=b[2];
 if(c<5){
-if(ke==90)goto L33;
-if((c!=3)&(ke==71)){
-if(b[3]==86)goto L34;
-goto L35;}
-switch(ke){
-case 71:goto L35;
-case 84:if(c==3)goto L36;
+if(ve==90)goto L35;
+if((c!=3)&(ve==71)){
+if(b[3]==86)goto L36;
+goto L37;}
+switch(ve){
+case 71:goto L37;
+case 84:if(c==3)goto L38;
 break;
-default:goto L37;
+default:goto L39;
 }}
 else{
-switch(ke){
-case 90:goto L33;
-case 71:if(b[3]!=86)goto L35;
-if(b[4]!=90)goto L34;
-if(za<19){
-le=make_ready_8e3(a,19,128);
-if(le==0){
-me=0;
-ne=0;
-oe=0;
-pe=0;
-goto L38;}
-qe=r8(a+16);
-re=r8(a+8);}
+switch(ve){
+case 90:goto L35;
+case 71:if(b[3]!=86)goto L37;
+if(b[4]!=90)goto L36;
+if(Ba<19){
+we=make_ready_8e3(a,19,128);
+if(!(we&1)){
+ze=0;
+Ae=0;
+Be=0;
+Ce=0;
+goto L40;}
+xe=r8(a+16);
+ye=r8(a+8);}
 else{
-qe=ya;
-re=0;}
-if(qe-re<19){
-se=grow_amortized_e1a(a,19);
-if(!se){
-me=0;
-ne=0;
-oe=0;
-pe=0;
-goto L38;}
-te=r8(a+16);
-ue=r8(a+8);}
+xe=Aa;
+ye=0;}
+if(xe-ye<19){
+De=grow_amortized_e1a(a,19);
+if(!De){
+ze=0;
+Ae=0;
+Be=0;
+Ce=0;
+goto L40;}
+Ee=r8(a+16);
+Fe=r8(a+8);}
 else{
-te=qe;
-ue=re;}
-ve=ue+19;
-we=rp(a);
+Ee=xe;
+Fe=ye;}
+Ge=Fe+19;
+He=rp(a);
 z16(a+8);
-xe=we+(i64)ue;
-if((u64)xe-(u64)(u8*)t_c270<19)copy_bits_4f4((u8*)t_c270,xe,19);
-else memcpy(xe,(u8*)t_c270,19);
-wp(a,we);
-w8(a+8,ve);
-w8(a+16,te);
+Ie=He+(i64)Fe;
+if((u64)Ie-(u64)(u8*)t_c270<19)copy_bits_4f4((u8*)t_c270,Ie,19);
+else memcpy(Ie,(u8*)t_c270,19);
+wp(a,He);
+w8(a+8,Ge);
+w8(a+16,Ee);
 w8(a+176,5);
-begin_encoding_4d0(ra,a,b,c);
-me=ra[3];
-ne=ra[2];
-oe=ra[1];
-pe=*ra;
-L38:ye=me;
-ze=ne;
-Ae=oe;
-Be=pe;
-goto L39;
+begin_encoding_4d0(ua,a,b,c);
+ze=ua[3];
+Ae=ua[2];
+Be=ua[1];
+Ce=*ua;
+L40:Je=ze;
+Ke=Ae;
+Le=Be;
+Me=Ce;
+goto L41;
 case 84:break;
-default:goto L37;
+default:goto L39;
 }}
 switch(b[3]){
-case 104:begin_thunk_892(ua,a,b,c);
-goto L40;
-case 118:begin_virtual_thunk_faf(ua,a,b,c);
-goto L40;
+case 104:begin_thunk_892(xa,a,b,c);
+goto L42;
+case 118:begin_virtual_thunk_faf(xa,a,b,c);
+goto L42;
+case 67:begin_table_89f(xa,a);
+goto L42;
 default:break;}
-L36:begin_special_44d(ua,a,b,c);
-L40:Ce=ua[3];
-De=ua[2];
-Ee=ua[1];
-Fe=*ua;
-goto L41;
-L35:begin_clone_5b6(ta,a,b,c);
-Ce=ta[3];
-De=ta[2];
-Ee=ta[1];
-Fe=*ta;
-goto L41;
-L34:begin_object_0af(ta,a,b,c);
-Ce=ta[3];
-De=ta[2];
-Ee=ta[1];
-Fe=*ta;
-goto L41;
-L33:w8(a+176,3);
-begin_encoding_4d0(sa,a,b,c);
-ye=sa[3];
-ze=sa[2];
-Ae=sa[1];
-Be=*sa;
-L39:Ce=ye;
-De=ze;
-Ee=Ae;
-Fe=Be;
-goto L41;}
-L37:w8(a+176,2);
-begin_encoding_4d0(ta,a,b,c);
-Ce=ta[3];
-De=ta[2];
-Ee=ta[1];
-Fe=*ta;
-L41:if(Fe!=1)goto L1;
-Ge=0;
-He=Ce;
-Ie=De;
-Je=Ee;
-L42:if(Je==7){
-if(r8(a+8)>xa)goto L14;
-goto L17;}
-w8(a+184,r8(a+184)+1);
-w4(va,0);
-switch(Je){
-case 0:type_at_a00(va,a,b,c,0);
-break;
-case 1:type_at_a00(va,a,b,c,1);
-break;
-case 2:w4(na,0);
-w4(oa,0);
-z32(pa);
-z32(qa);
-Ke=r8(a+88);
-if(Ke==0)w4(va,0);
-else{
-Le=Ie&1;
-Me=rp(a+80)+(i64)(Ke*44);
-Ne=Me[-44];
-Oe=Me[-43];
-Pe=q4(Me-40);
-Qe=q4(Me-36);
-Re=q2(Me-32);
-switch(Ne){
-case 25:case 24:case 23:case 22:case 4:case 5:case 6:case 7:case 8:case 11:case 12:case 13:case 14:case 15:case 16:case 17:case 18:case 19:case 20:case 21:if(He&1){
-pass_dependent_3d7(na,a,b,c);
-*va=*na;
-va[1]=na[1];
-va[2]=na[2];
-va[3]=na[3];
+L38:begin_special_44d(xa,a,b,c);
+L42:Ne=xa[3];
+Oe=xa[2];
+Pe=xa[1];
+Qe=*xa;
+goto L43;
+L37:begin_clone_5b6(wa,a,b,c);
+Ne=wa[3];
+Oe=wa[2];
+Pe=wa[1];
+Qe=*wa;
+goto L43;
+L36:begin_object_0af(wa,a,b,c);
+Ne=wa[3];
+Oe=wa[2];
+Pe=wa[1];
+Qe=*wa;
+goto L43;
+L35:w8(a+176,3);
+begin_encoding_4d0(va,a,b,c);
+Je=va[3];
+Ke=va[2];
+Le=va[1];
+Me=*va;
+L41:Ne=Je;
+Oe=Ke;
+Pe=Le;
+Qe=Me;
 goto L43;}
-Se=q4(Me-4);
-Te=Qe;
-w4(ma,0);
-switch(Ne){
-case 19:returned_322(ma,a,b,c,Oe&1);
+L39:w8(a+176,2);
+begin_encoding_4d0(wa,a,b,c);
+Ne=wa[3];
+Oe=wa[2];
+Pe=wa[1];
+Qe=*wa;
+L43:if(Qe!=1)goto L1;
+Re=c<<3;
+Se=0;
+Te=Ne;
+Ue=Oe;
+Ve=Pe;
+L44:if(Ve==7){
+if(r8(a+8)>za)goto L14;
+goto L15;}
+w8(a+184,r8(a+184)+1);
+w4(ya,0);
+switch(Ve){
+case 0:type_at_a00(ya,a,b,c,0);
 break;
-case 20:parameter_at_3ac(ma,a,b,c,Oe&1,0);
+case 1:type_at_a00(ya,a,b,c,1);
 break;
-case 21:array_ended_1b3(ma,a,b,c,Oe,Pe,Qe);
+case 2:w4(qa,0);
+w4(ra,0);
+z32(sa);
+z32(ta);
+We=r8(a+88);
+if(We==0)w4(ya,0);
+else{
+Xe=Ue&1;
+Ye=rp(a+80)+(i64)(We*44);
+Ze=Ye[-44];
+af=Ye[-43];
+bf=q4(Ye-40);
+cf=q4(Ye-36);
+df=q2(Ye-32);
+switch(Ze){
+case 29:case 28:case 27:case 26:case 4:case 5:case 6:case 7:case 8:case 11:case 12:case 13:case 14:case 15:case 16:case 17:case 18:case 19:case 20:case 21:case 22:case 23:case 24:case 25:if(Te&1){
+pass_dependent_3d7(qa,a,b,c);
+*ya=*qa;
+ya[1]=qa[1];
+ya[2]=qa[2];
+ya[3]=qa[3];
+goto L45;}
+ef=q4(Ye-4);
+ff=cf;
+gf=cf>>16;
+w4(pa,0);
+switch(Ze){
+case 22:returned_322(pa,a,b,c,af&1);
 break;
-case 12:enclosing_parameter_fc1(ma,a,b,c,Pe,Qe);
+case 23:parameter_at_3ac(pa,a,b,c,af&1,0);
 break;
-case 13:instance_parameter_240(ma,a,b,c,Oe,Pe,Qe);
+case 24:array_ended_1b3(pa,a,b,c,af,bf,cf);
 break;
-case 11:w2(ha,Re);
-memcpy(ha+2,Me-30,26);
-x4(ha+28,Se);
-enclosing_front_fa8(ma,a,Oe,Pe,Qe,ha);
+case 12:enclosing_parameter_fc1(pa,a,b,c,bf,cf);
 break;
-case 17:w2(ia,(u16)Qe&255);
-w2(ia+2,Qe>>16);
-w2(ia+4,Re);
-lambda_parameter_f9a(ma,a,b,c,Pe,ia);
+case 13:instance_parameter_240(pa,a,b,c,af,bf,cf);
 break;
-case 15:w4(ja,Qe);
-w2(ja+4,Re);
-memcpy(ja+6,Me-30,26);
-addressed_front_54d(ma,a,b,c,Oe,Pe,ja);
+case 11:w2(ja,df);
+memcpy(ja+2,Ye-30,26);
+x4(ja+28,ef);
+enclosing_front_fa8(pa,a,af,bf,cf,ja);
 break;
-case 16:addressed_parameter_2cf(ma,a,b,c,Pe);
+case 17:w4(ka,cf);
+w2(ka+4,df);
+lambda_parameter_383(pa,a,b,c,bf,ka);
 break;
-case 14:*ma=0;
+case 18:member_parameter_7e4(pa,a,b,c,bf);
 break;
-case 18:finish_8cd(ma,a,b,c);
+case 15:w4(la,cf);
+w2(la+4,df);
+memcpy(la+6,Ye-30,26);
+addressed_front_54d(pa,a,b,c,af,bf,la);
 break;
-case 25:enumerator_21c(ma,a,b,c);
+case 16:addressed_parameter_2cf(pa,a,b,c,bf);
 break;
-case 22:w2(ka,Qe>>16);
-w2(ka+2,Re);
-memcpy(ka+4,Me-30,26);
-w2(ka+30,Se);
-argument_ended_511(ma,a,b,c,Pe,Te,ka,Le);
+case 14:*pa=0;
 break;
-case 24:w2(la,Qe>>16);
-w2(la+2,Re);
-memcpy(la+4,Me-30,26);
-w2(la+30,Se);
-element_ended_6b8(ma,a,b,c,Pe,Te,la,Le);
+case 19:finish_8cd(pa,a,b,c);
 break;
-case 23:case 10:case 9:case 8:case 4:case 5:case 6:case 7:*ma=1;
-ma[1]=3;
-ma[2]=0;
-ma[3]=0;
+case 20:derived_ended_aef(pa,a,b,c);
+break;
+case 21:base_ended_299(pa,a,b,c,bf);
+break;
+case 29:enumerator_21c(pa,a,b,c);
+break;
+case 26:w2(ma,gf);
+w2(ma+2,df);
+memcpy(ma+4,Ye-30,26);
+w2(ma+30,ef);
+argument_enumerator_83a(pa,a,b,c,bf,ff,ma);
+break;
+case 25:w2(na,gf);
+w2(na+2,df);
+memcpy(na+4,Ye-30,26);
+w2(na+30,ef);
+argument_ended_511(pa,a,b,c,bf,ff,na,Xe);
+break;
+case 28:w2(oa,gf);
+w2(oa+2,df);
+memcpy(oa+4,Ye-30,26);
+w2(oa+30,ef);
+element_ended_6b8(pa,a,b,c,bf,ff,oa,Xe);
+break;
+case 27:case 10:case 9:case 8:case 4:case 5:case 6:case 7:*pa=1;
+pa[1]=3;
+pa[2]=0;
+pa[3]=0;
 break;
 default:NEVER;
 }
-Ue=ma[1];
-Ve=ma[2];
-We=ma[3];
-*oa=*ma;
-oa[1]=Ue;
-oa[2]=Ve;
-oa[3]=We;
-goto L44;
-case 10:w4(pa,Qe);
-w2(pa+4,Re);
-memcpy(pa+6,Me-30,26);
-parameter_ended_d3f(oa,a,b,c,Pe,pa);
-goto L44;
-case 9:w4(qa,Qe);
-w2(qa+4,Re);
-memcpy(qa+6,Me-30,26);
-front_ended_665(oa,a,b,c,Oe,Pe,qa);
-goto L44;
-case 0:w8(a+88,Ke-1);
-Xe=r8(a+8);
-if(r8(a+32)>Xe)Ye=Xe;
+hf=pa[1];
+jf=pa[2];
+kf=pa[3];
+*ra=*pa;
+ra[1]=hf;
+ra[2]=jf;
+ra[3]=kf;
+goto L46;
+case 10:w4(sa,cf);
+w2(sa+4,df);
+memcpy(sa+6,Ye-30,26);
+parameter_ended_d3f(ra,a,b,c,bf,sa);
+goto L46;
+case 9:w4(ta,cf);
+w2(ta+4,df);
+memcpy(ta+6,Ye-30,26);
+front_ended_665(ra,a,b,c,af,bf,ta);
+goto L46;
+case 0:w8(a+88,We-1);
+lf=r8(a+8);
+if(r8(a+32)>lf)mf=lf;
 else{
-Ze=make_ready_8e3(a,1,16);
-if(Ze==0){
-af=0;
-bf=0;
-cf=0;
-df=0;
-goto L45;}
-Ye=r8(a+8);}
-*(rp(a)+Ye)=42;
-ef=Ye+1;
-w8(a+8,ef);
-ff=ef;
-gf=He&1;
-hf=r8(a+48);
-if(r8(a+72)>hf){
-jf=hf;
-kf=ff;
-lf=0;
-mf=gf;
-goto L46;}
-nf=make_ready_17a(a+40);
-if(nf==0){
-af=0;
-bf=0;
-cf=0;
-df=0;
-goto L45;}
-of=ff;
+nf=make_ready_8e3(a,1,16);
+if(!(nf&1)){
+of=0;
 pf=0;
-qf=gf;
-break;
-case 1:if(Le)goto L44;
-w8(a+88,Ke-1);
-rf=r8(a+8);
-if(r8(a+32)>rf)sf=rf;
-else{
-tf=make_ready_8e3(a,1,16);
-if(tf==0){
-af=0;
-bf=0;
-cf=0;
-df=0;
-goto L45;}
-sf=r8(a+8);}
-*(rp(a)+sf)=38;
-uf=sf+1;
-w8(a+8,uf);
-vf=uf;
-wf=He&1;
-xf=r8(a+48);
-if(r8(a+72)>xf){
-jf=xf;
-kf=vf;
-lf=1;
-mf=wf;
-goto L46;}
-yf=make_ready_17a(a+40);
-if(yf==0){
-af=0;
-bf=0;
-cf=0;
-df=0;
-goto L45;}
-of=vf;
-pf=1;
-qf=wf;
-break;
-case 2:if(Le)goto L44;
-w8(a+88,Ke-1);
-zf=r8(a+8);
-if(r8(a+32)-zf<2){
-Af=make_ready_8e3(a,2,128);
-if(Af==0){
-af=0;
-bf=0;
-cf=0;
-df=0;
-goto L45;}
-Bf=r8(a+8);}
-else Bf=zf;
-*(rp(a)+Bf)=38;
-*(rp(a)+(i64)Bf+1)=38;
-Cf=Bf+2;
-w8(a+8,Cf);
-Df=Cf;
-Ef=He&1;
-Ff=r8(a+48);
-if(r8(a+72)>Ff){
-jf=Ff;
-kf=Df;
-lf=1;
-mf=Ef;
-goto L46;}
-Gf=make_ready_17a(a+40);
-if(Gf==0){
-af=0;
-bf=0;
-cf=0;
-df=0;
-goto L45;}
-of=Df;
-pf=1;
-qf=Ef;
-break;
-case 3:if(Le)goto L44;
-w8(a+88,Ke-1);
-if(r8(a+32)-r8(a+8)<6){
-Hf=make_ready_8e3(a,6,128);
-if(Hf==0){
-af=0;
-bf=0;
-cf=0;
-df=0;
-goto L45;}}
-If=push_str_b7e(a,(u8*)t_f603,6);
-if(If!=0){
-af=0;
-bf=0;
-cf=0;
-df=0;
-goto L45;}
-Jf=r8(a+8);
-Kf=He&1;
-Lf=r8(a+48);
-if(r8(a+72)>Lf){
-jf=Lf;
-kf=Jf;
-lf=0;
-mf=Kf;
-goto L46;}
-Mf=make_ready_17a(a+40);
-if(Mf==0){
-af=0;
-bf=0;
-cf=0;
-df=0;
-goto L45;}
-of=Jf;
-pf=0;
-qf=Kf;
-break;
-default:NEVER;
-}
-jf=r8(a+48);
-kf=of;
-lf=pf;
-mf=qf;
-L46:Nf=rp(a+40)+jf*12;
-x4(Nf,Pe);
-x4(Nf+4,kf);
-Nf[8]=lf;
-Nf[9]=mf;
-x2(Nf+10,0);
-w8(a+48,jf+1);
-af=mf;
-bf=lf;
-cf=2;
-df=1;
-L45:*oa=df;
-oa[1]=cf;
-oa[2]=bf;
-oa[3]=af;
-L44:Of=oa[1];
-Pf=oa[2];
-Qf=oa[3];
-*va=*oa;
-va[1]=Of;
-va[2]=Pf;
-va[3]=Qf;}
-L43:break;
-case 3:Rf=Ie&1;
-w4(fa,0);
-Sf=r8(a+176);
-if(Sf<c){
-Tf=*(b+Sf);
-switch(Tf){
-case 69:w4(da,0);
-w8(a+176,Sf+1);
-Uf=r8(a+88);
-if(Uf==0){
-Vf=0;
-Wf=0;
-Xf=0;
-Yf=0;}
-else{
-if(*(rp(a+80)+(i64)(Uf*44)-44)==23){
-if(Rf){
-Vf=0;
-Wf=0;
-Xf=0;
-Yf=0;}
-else{
-w8(a+88,Uf-1);
-Vf=0;
-Wf=0;
-Xf=3;
-Yf=1;}}
-else{
-z32(ea);
-close_list_299(da,a,b,c,ea);
-Vf=da[3];
-Wf=da[2];
-Xf=da[1];
-Yf=*da;}}
-*va=Yf;
-va[1]=Xf;
-va[2]=Wf;
-va[3]=Vf;
-goto L47;
-case 74:Zf=Sf+1;
-if(Zf<c){
-if(*(b+Zf)==69){
-empty_pack_079(fa,a,b,c,Rf);
-*va=*fa;
-va[1]=fa[1];
-va[2]=fa[2];
-va[3]=fa[3];
-goto L47;}}
-if(!Rf){
-ag=74;
+qf=0;
+rf=0;
+goto L47;}
+mf=r8(a+8);}
+*(rp(a)+mf)=42;
+sf=mf+1;
+w8(a+8,sf);
+tf=sf;
+uf=Te&1;
+vf=r8(a+48);
+if(r8(a+72)>vf){
+wf=vf;
+xf=tf;
+yf=0;
+zf=uf;
 goto L48;}
-first_pack_117(fa,a,b,c);
-*va=*fa;
-va[1]=fa[1];
-va[2]=fa[2];
-va[3]=fa[3];
-goto L47;
-default:bg=Tf;
-break;}}
-else bg=0;
-if(Rf){
-cg=bg;
-goto L49;}
-ag=bg;
-L48:dg=r8(a+8);
-if(r8(a+32)-dg<2){
-eg=make_ready_8e3(a,2,128);
-if(eg==0){
-w4(va,0);
+Af=make_ready_17a(a+40);
+if(!(Af&1)){
+of=0;
+pf=0;
+qf=0;
+rf=0;
 goto L47;}
-fg=r8(a+8);}
-else fg=dg;
-*(rp(a)+fg)=44;
-*(rp(a)+(i64)fg+1)=32;
-w8(a+8,fg+2);
-cg=ag;
-L49:switch(cg){
-case 88:gg=r8(a+176);
-if(gg==18446744073709551615u){
-w4(va,0);
-goto L47;}
-hg=gg+1;
-if(hg<c){
-if(*(b+hg)==115){
-begin_level_d05(fa,a,b,c);
-*va=*fa;
-va[1]=fa[1];
-va[2]=fa[2];
-va[3]=fa[3];
-goto L47;}}
+Bf=tf;
+Cf=0;
+Df=uf;
 break;
-case 76:if(Rf){
-first_literal_c4d(fa,a,b,c);
-*va=*fa;
-va[1]=fa[1];
-va[2]=fa[2];
-va[3]=fa[3];
+case 1:if(Xe)goto L46;
+w8(a+88,We-1);
+Ef=r8(a+8);
+if(r8(a+32)>Ef)Ff=Ef;
+else{
+Gf=make_ready_8e3(a,1,16);
+if(!(Gf&1)){
+of=0;
+pf=0;
+qf=0;
+rf=0;
 goto L47;}
-literal_da7(ga,a,b,c);
-ig=ga[3];
-jg=ga[2];
-kg=ga[1];
-lg=*ga;
-goto L50;
-case 74:mg=r8(a+88);
-if(mg==0){
+Ff=r8(a+8);}
+*(rp(a)+Ff)=38;
+Hf=Ff+1;
+w8(a+8,Hf);
+If=Hf;
+Jf=Te&1;
+Kf=r8(a+48);
+if(r8(a+72)>Kf){
+wf=Kf;
+xf=If;
+yf=1;
+zf=Jf;
+goto L48;}
+Lf=make_ready_17a(a+40);
+if(!(Lf&1)){
+of=0;
+pf=0;
+qf=0;
+rf=0;
+goto L47;}
+Bf=If;
+Cf=1;
+Df=Jf;
+break;
+case 2:if(Xe)goto L46;
+w8(a+88,We-1);
+Mf=r8(a+8);
+if(r8(a+32)-Mf<2){
+Nf=make_ready_8e3(a,2,128);
+if(!(Nf&1)){
+of=0;
+pf=0;
+qf=0;
+rf=0;
+goto L47;}
+Of=r8(a+8);}
+else Of=Mf;
+*(rp(a)+Of)=38;
+*(rp(a)+(i64)Of+1)=38;
+Pf=Of+2;
+w8(a+8,Pf);
+Qf=Pf;
+Rf=Te&1;
+Sf=r8(a+48);
+if(r8(a+72)>Sf){
+wf=Sf;
+xf=Qf;
+yf=1;
+zf=Rf;
+goto L48;}
+Tf=make_ready_17a(a+40);
+if(!(Tf&1)){
+of=0;
+pf=0;
+qf=0;
+rf=0;
+goto L47;}
+Bf=Qf;
+Cf=1;
+Df=Rf;
+break;
+case 3:if(Xe)goto L46;
+w8(a+88,We-1);
+if(r8(a+32)-r8(a+8)<6){
+Uf=make_ready_8e3(a,6,128);
+if(!(Uf&1)){
+of=0;
+pf=0;
+qf=0;
+rf=0;
+goto L47;}}
+Vf=push_str_b7e(a,(u8*)t_f603,6);
+if(Vf&1){
+of=0;
+pf=0;
+qf=0;
+rf=0;
+goto L47;}
+Wf=r8(a+8);
+Xf=Te&1;
+Yf=r8(a+48);
+if(r8(a+72)>Yf){
+wf=Yf;
+xf=Wf;
+yf=0;
+zf=Xf;
+goto L48;}
+Zf=make_ready_17a(a+40);
+if(!(Zf&1)){
+of=0;
+pf=0;
+qf=0;
+rf=0;
+goto L47;}
+Bf=Wf;
+Cf=0;
+Df=Xf;
+break;
+default:NEVER;
+}
+wf=r8(a+48);
+xf=Bf;
+yf=Cf;
+zf=Df;
+L48:ag=rp(a+40)+wf*12;
+x4(ag,bf);
+x4(ag+4,xf);
+ag[8]=yf;
+ag[9]=zf;
+x2(ag+10,0);
+w8(a+48,wf+1);
+of=zf;
+pf=yf;
+qf=2;
+rf=1;
+L47:*ra=rf;
+ra[1]=qf;
+ra[2]=pf;
+ra[3]=of;
+L46:bg=ra[1];
+cg=ra[2];
+dg=ra[3];
+*ya=*ra;
+ya[1]=bg;
+ya[2]=cg;
+ya[3]=dg;}
+L45:break;
+case 3:eg=Ue&1;
+w4(ha,0);
+fg=r8(a+176);
+if(fg<c){
+gg=*(b+fg);
+switch(gg){
+case 69:w4(fa,0);
+w8(a+176,fg+1);
+hg=r8(a+88);
+if(hg==0){
 ig=0;
 jg=0;
 kg=0;
-lg=0;
-goto L50;}
-ng=rp(a+80);
-og=mg*44;
-if(*(ng+(i64)og-44)==23){
-ig=0;
-jg=0;
-kg=0;
-lg=0;
-goto L50;}
-pg=r8(a+176);
-if(pg==18446744073709551615u){
-ig=0;
-jg=0;
-kg=0;
-lg=0;
-goto L50;}
-w8(a+176,pg+1);
-if(r8(a+112)>mg){
-qg=og;
-rg=ng;
-sg=mg;}
+lg=0;}
 else{
-tg=make_ready_9a1(a+80);
-if(tg==0){
+if(*(rp(a+80)+(i64)(hg*44)-44)==27){
+if(eg){
 ig=0;
 jg=0;
 kg=0;
-lg=0;
-goto L50;}
-ug=r8(a+88);
-qg=ug*44;
-rg=rp(a+80);
-sg=ug;}
-vg=rg+qg;
-*vg=23;
-z43(vg+1);
-w8(a+88,sg+1);
+lg=0;}
+else{
+w8(a+88,hg-1);
 ig=0;
-jg=1;
+jg=0;
 kg=3;
-lg=1;
-goto L50;
-default:break;}
-if(Rf){
-wg=r8(a+88);
-if(wg==0){
-xg=0;
-yg=0;
-zg=0;
-Ag=1;}
+lg=1;}}
 else{
-Bg=rp(a+80);
-Cg=wg*44;
-Dg=Bg+(i64)Cg;
-switch(Dg[-44]){
-case 5:if(Dg[-28]==0){
+z32(ga);
+close_list_299(fa,a,b,c,ga);
+ig=fa[3];
+jg=fa[2];
+kg=fa[1];
+lg=*fa;}}
+*ya=lg;
+ya[1]=kg;
+ya[2]=jg;
+ya[3]=ig;
+goto L49;
+case 74:mg=fg+1;
+if(mg<c){
+if(*(b+mg)==69){
+empty_pack_079(ha,a,b,c,eg);
+*ya=*ha;
+ya[1]=ha[1];
+ya[2]=ha[2];
+ya[3]=ha[3];
+goto L49;}}
+if(!eg){
+ng=74;
+goto L50;}
+first_pack_117(ha,a,b,c);
+*ya=*ha;
+ya[1]=ha[1];
+ya[2]=ha[2];
+ya[3]=ha[3];
+goto L49;
+default:og=gg;
+break;}}
+else og=0;
+if(eg){
+pg=og;
+goto L51;}
+ng=og;
+L50:qg=r8(a+8);
+if(r8(a+32)-qg<2){
+rg=make_ready_8e3(a,2,128);
+if(!(rg&1)){
+w4(ya,0);
+goto L49;}
+sg=r8(a+8);}
+else sg=qg;
+*(rp(a)+sg)=44;
+*(rp(a)+(i64)sg+1)=32;
+w8(a+8,sg+2);
+pg=ng;
+L51:switch(pg){
+case 88:tg=r8(a+176);
+if(tg==18446744073709551615u){
+w4(ya,0);
+goto L49;}
+ug=tg+1;
+if(ug<c){
+switch(*(b+ug)){
+case 115:begin_level_d05(ha,a,b,c);
+*ya=*ha;
+ya[1]=ha[1];
+ya[2]=ha[2];
+ya[3]=ha[3];
+goto L49;
+case 84:parameter_argument_7c8(ha,a,b,c);
+*ya=*ha;
+ya[1]=ha[1];
+ya[2]=ha[2];
+ya[3]=ha[3];
+goto L49;
+default:break;}}
+break;
+case 76:if(eg){
+first_literal_c4d(ha,a,b,c);
+*ya=*ha;
+ya[1]=ha[1];
+ya[2]=ha[2];
+ya[3]=ha[3];
+goto L49;}
+literal_da7(ia,a,b,c);
+vg=ia[3];
+wg=ia[2];
+xg=ia[1];
+yg=*ia;
+goto L52;
+case 74:zg=r8(a+88);
+if(zg==0){
+vg=0;
+wg=0;
 xg=0;
 yg=0;
-zg=0;
-Ag=1;
-goto L51;}
+goto L52;}
+Ag=rp(a+80);
+Bg=zg*44;
+if(*(Ag+(i64)Bg-44)==27){
+vg=0;
+wg=0;
+xg=0;
+yg=0;
+goto L52;}
+Cg=r8(a+176);
+if(Cg==18446744073709551615u){
+vg=0;
+wg=0;
+xg=0;
+yg=0;
+goto L52;}
+w8(a+176,Cg+1);
+if(r8(a+112)>zg){
+Dg=Bg;
+Eg=Ag;
+Fg=zg;}
+else{
+Gg=make_ready_9a1(a+80);
+if(!(Gg&1)){
+vg=0;
+wg=0;
+xg=0;
+yg=0;
+goto L52;}
+Hg=r8(a+88);
+Dg=Hg*44;
+Eg=rp(a+80);
+Fg=Hg;}
+Ig=Eg+Dg;
+*Ig=27;
+z43(Ig+1);
+w8(a+88,Fg+1);
+vg=0;
+wg=1;
+xg=3;
+yg=1;
+goto L52;
+default:break;}
+if(eg){
+Jg=r8(a+88);
+if(Jg==0){
+Kg=0;
+Lg=0;
+Mg=0;
+Ng=1;}
+else{
+Og=rp(a+80);
+Pg=Jg*44;
+Qg=Og+(i64)Pg;
+switch(Qg[-44]){
+case 5:if(Qg[-28]==0){
+Kg=0;
+Lg=0;
+Mg=0;
+Ng=1;
+goto L53;}
 break;
 case 7:break;
-case 0:case 1:case 2:case 3:case 4:case 6:case 8:case 9:case 10:case 11:case 12:case 13:case 14:case 15:case 16:case 17:case 18:case 19:case 20:case 21:case 22:case 23:case 24:case 25:xg=0;
-yg=0;
-zg=0;
-Ag=1;
-goto L51;
+case 0:case 1:case 2:case 3:case 4:case 6:case 8:case 9:case 10:case 11:case 12:case 13:case 14:case 15:case 16:case 17:case 18:case 19:case 20:case 21:case 22:case 23:case 24:case 25:case 26:case 27:case 28:case 29:Kg=0;
+Lg=0;
+Mg=0;
+Ng=1;
+goto L53;
 default:NEVER;
 }
-Eg=is_element_at_f4e(b,c,r8(a+176));
-if(Eg){
-xg=0;
-yg=0;
-zg=0;
-Ag=1;}
+Rg=is_element_at_f4e(b,c,r8(a+176));
+if(Rg){
+Kg=0;
+Lg=0;
+Mg=0;
+Ng=1;}
 else{
-Fg=r8(a+8);
-if(r8(a+112)>wg){
-Gg=Cg;
-Hg=Bg;
-Ig=wg;}
+Sg=r8(a+8);
+if(r8(a+112)>Jg){
+Tg=Pg;
+Ug=Og;
+Vg=Jg;}
 else{
-Jg=make_ready_9a1(a+80);
-if(Jg==0){
-xg=0;
-yg=0;
-zg=0;
-Ag=0;
-goto L51;}
-Kg=r8(a+88);
-Gg=Kg*44;
-Hg=rp(a+80);
-Ig=Kg;}
-Lg=Hg+Gg;
-*Lg=22;
-Lg[1]=0;
-x2(Lg+2,0);
-x4(Lg+4,Fg);
-z36(Lg+8);
-w8(a+88,Ig+1);
-w4(ca,0);
-Mg=r8(a+176);
-if(Mg<c){
-if(*(b+Mg)==88){
-begin_address_ef5(ca,a,b,c);
-Ng=ca[3];
-Og=ca[2];
-Pg=ca[1];
-Qg=*ca;}
-else{
+Wg=make_ready_9a1(a+80);
+if(!(Wg&1)){
+Kg=0;
+Lg=0;
+Mg=0;
 Ng=0;
-Og=0;
-Pg=0;
-Qg=1;}}
-else{
-Ng=0;
-Og=0;
-Pg=0;
-Qg=1;}
-xg=Ng;
-yg=Og;
-zg=Pg;
-Ag=Qg;}}
-L51:*va=Ag;
-va[1]=zg;
-va[2]=yg;
-va[3]=xg;
-goto L47;}
-ig=0;
-jg=0;
-kg=0;
-lg=1;
-L50:*va=lg;
-va[1]=kg;
-va[2]=jg;
-va[3]=ig;
-L47:break;
-case 4:w4(aa,0);
-z20(ba+20);
-if(!(a[136]&1)){
-Rg=r4(a+120);
-Sg=a[139];
-Tg=r8(a+8);
-Ug=r8(a+48);
-if(r8(a+72)>Ug)Vg=Ug;
-else{
-Wg=make_ready_17a(a+40);
-if(Wg==0){
-w4(va,0);
-goto L52;}
-Vg=r8(a+48);}
-Xg=rp(a+40)+Vg*12;
-x4(Xg,Rg);
-x4(Xg+4,Tg);
-Xg[8]=0;
-Xg[9]=Sg;
-x2(Xg+10,0);
-w8(a+48,Vg+1);}
-Yg=r8(a+176);
-if(Yg<c){
-if(*(b+Yg)==73){
-memcpy(ba,a+120,20);
-Zg=r8(a+8);
-if(r8(a+32)>Zg)ah=Zg;
-else{
-bh=make_ready_8e3(a,1,16);
-if(bh==0){
-ch=0;
-dh=0;
 goto L53;}
-ah=r8(a+8);}
-*(rp(a)+ah)=60;
-w8(a+8,ah+1);
-eh=r8(a+176);
-if(eh==18446744073709551615u){
-ch=0;
-dh=0;}
+Xg=r8(a+88);
+Tg=Xg*44;
+Ug=rp(a+80);
+Vg=Xg;}
+Yg=Ug+Tg;
+*Yg=25;
+Yg[1]=0;
+x2(Yg+2,0);
+x4(Yg+4,Sg);
+z36(Yg+8);
+w8(a+88,Vg+1);
+w4(ea,0);
+Zg=r8(a+176);
+if(Zg<c){
+if(*(b+Zg)==88){
+begin_address_ef5(ea,a,b,c);
+ah=ea[3];
+bh=ea[2];
+ch=ea[1];
+dh=*ea;}
 else{
-w8(a+176,eh+1);
-fh=r8(a+88);
-if(r8(a+112)>fh)gh=fh;
-else{
-hh=make_ready_9a1(a+80);
-if(hh==0){
+ah=0;
+bh=0;
 ch=0;
-dh=0;
-goto L53;}
-gh=r8(a+88);}
-ih=rp(a+80)+gh*44;
-*ih=6;
-ih[1]=0;
-x2(ih+2,0);
-memcpy(ih+4,ba,40);
-w8(a+88,gh+1);
-ch=3;
+dh=1;}}
+else{
+ah=0;
+bh=0;
+ch=0;
 dh=1;}
-L53:*va=dh;
-va[1]=ch;
-va[2]=dh;
-va[3]=0;
-goto L52;}}
-components_at_8f9(aa,a,b,c);
-*va=*aa;
-va[1]=aa[1];
-va[2]=aa[2];
-va[3]=aa[3];
-L52:break;
-case 5:w4(Z,0);
-jh=r8(a+176);
-if(jh<c){
-if(*(b+jh)==69){
-nest_ended_32a(Z,a,b,c);
-*va=*Z;
-va[1]=Z[1];
-va[2]=Z[2];
-va[3]=Z[3];
-goto L54;}}
+Kg=ah;
+Lg=bh;
+Mg=ch;
+Ng=dh;}}
+L53:*ya=Ng;
+ya[1]=Mg;
+ya[2]=Lg;
+ya[3]=Kg;
+goto L49;}
+vg=0;
+wg=0;
+xg=0;
+yg=1;
+L52:*ya=yg;
+ya[1]=xg;
+ya[2]=wg;
+ya[3]=vg;
+L49:break;
+case 4:w4(ca,0);
+z20(da+20);
 if(!(a[136]&1)){
-kh=r4(a+120);
-lh=a[139];
-mh=r8(a+8);
-nh=r8(a+48);
-if(r8(a+72)>nh)oh=nh;
+eh=r4(a+120);
+fh=a[139];
+gh=r8(a+8);
+hh=r8(a+48);
+if(r8(a+72)>hh)ih=hh;
 else{
-ph=make_ready_17a(a+40);
-if(ph==0){
-w4(va,0);
+jh=make_ready_17a(a+40);
+if(!(jh&1)){
+w4(ya,0);
 goto L54;}
-oh=r8(a+48);}
-qh=rp(a+40)+oh*12;
-x4(qh,kh);
-x4(qh+4,mh);
-qh[8]=0;
-qh[9]=lh;
-x2(qh+10,0);
-w8(a+48,oh+1);}
-components_at_8f9(Z,a,b,c);
-*va=*Z;
-va[1]=Z[1];
-va[2]=Z[2];
-va[3]=Z[3];
+ih=r8(a+48);}
+kh=rp(a+40)+ih*12;
+x4(kh,eh);
+x4(kh+4,gh);
+kh[8]=0;
+kh[9]=fh;
+x2(kh+10,0);
+w8(a+48,ih+1);}
+lh=r8(a+176);
+if(lh<c){
+if(*(b+lh)==73){
+memcpy(da,a+120,20);
+mh=r8(a+8);
+if(r8(a+32)>mh)nh=mh;
+else{
+oh=make_ready_8e3(a,1,16);
+if(!(oh&1)){
+ph=0;
+qh=0;
+goto L55;}
+nh=r8(a+8);}
+*(rp(a)+nh)=60;
+w8(a+8,nh+1);
+rh=r8(a+176);
+if(rh==18446744073709551615u){
+ph=0;
+qh=0;}
+else{
+w8(a+176,rh+1);
+sh=r8(a+88);
+if(r8(a+112)>sh)th=sh;
+else{
+uh=make_ready_9a1(a+80);
+if(!(uh&1)){
+ph=0;
+qh=0;
+goto L55;}
+th=r8(a+88);}
+vh=rp(a+80)+th*44;
+*vh=6;
+vh[1]=0;
+x2(vh+2,0);
+memcpy(vh+4,da,40);
+w8(a+88,th+1);
+ph=3;
+qh=1;}
+L55:*ya=qh;
+ya[1]=ph;
+ya[2]=qh;
+ya[3]=0;
+goto L54;}}
+components_at_8f9(ca,a,b,c);
+*ya=*ca;
+ya[1]=ca[1];
+ya[2]=ca[2];
+ya[3]=ca[3];
 L54:break;
-case 6:components_at_8f9(va,a,b,c);
+case 5:w4(ba,0);
+wh=r8(a+176);
+if(wh<c){
+if(*(b+wh)==69){
+nest_ended_32a(ba,a,b,c);
+*ya=*ba;
+ya[1]=ba[1];
+ya[2]=ba[2];
+ya[3]=ba[3];
+goto L56;}}
+if(!(a[136]&1)){
+xh=r4(a+120);
+yh=a[139];
+zh=r8(a+8);
+Ah=r8(a+48);
+if(r8(a+72)>Ah)Bh=Ah;
+else{
+Ch=make_ready_17a(a+40);
+if(!(Ch&1)){
+w4(ya,0);
+goto L56;}
+Bh=r8(a+48);}
+Dh=rp(a+40)+Bh*12;
+x4(Dh,xh);
+x4(Dh+4,zh);
+Dh[8]=0;
+Dh[9]=yh;
+x2(Dh+10,0);
+w8(a+48,Bh+1);}
+components_at_8f9(ba,a,b,c);
+*ya=*ba;
+ya[1]=ba[1];
+ya[2]=ba[2];
+ya[3]=ba[3];
+L56:break;
+case 6:components_at_8f9(ya,a,b,c);
 break;
 default:NEVER;
 }
-rh=Ge+1;
-if(*va!=1||rh==wa)goto L1;
-Ge=rh;
-He=va[3];
-Ie=va[2];
-Je=va[1];
-goto L42;}}}
+Eh=Se+1;
+if(*ya!=1||Eh==Re)goto L1;
+Se=Eh;
+Te=ya[3];
+Ue=ya[2];
+Ve=ya[1];
+goto L44;}}}
 goto L1;
-case 1:if(Ba)goto L1;
+case 1:if(Da)goto L1;
 if(c<16){
-sh=are_few_named_14c(b,c);
-if(!sh)goto L1;}
+Fh=are_few_named_14c(b,c);
+if(!Fh)goto L1;}
 else{
-th=c-16;
-if(th==0)goto L55;
-uh=0;
-L56:vh=v16_at(b+uh);
-if((v16_ult(vh,splat(33))|v16_eq(vh,splat(127)))!=0)goto L1;
-wh=uh+16;
-if(wh<th){
-uh=wh;
-goto L56;}
-L55:xh=v16_at(b+th);
-if((v16_ult(xh,splat(33))|v16_eq(xh,splat(127)))!=0)goto L1;}
-w4(W,0);
-w4(X,0);
+Gh=c-16;
+if(Gh==0)goto L57;
+Hh=0;
+L58:Ih=v16_at(b+Hh);
+if((v16_ult(Ih,splat(33))|v16_eq(Ih,splat(127)))!=0)goto L1;
+Jh=Hh+16;
+if(Jh<Gh){
+Hh=Jh;
+goto L58;}
+L57:Kh=v16_at(b+Gh);
+if((v16_ult(Kh,splat(33))|v16_eq(Kh,splat(127)))!=0)goto L1;}
+w4(Y,0);
+w4(Z,0);
 if(c!=0){
 if(c!=1&&*b==95){
 if(b[1]==90){
 if(c>=3){
-yh=b[2];
+Lh=b[2];
 if(c<5){
-if(yh==90)goto L57;
-if((c!=3)&(yh==71)){
-if(b[3]==86)goto L58;
-goto L59;}
-switch(yh){
-case 71:goto L59;
-case 84:if(c==3)goto L60;
+if(Lh==90)goto L59;
+if((c!=3)&(Lh==71)){
+if(b[3]==86)goto L60;
+goto L61;}
+switch(Lh){
+case 71:goto L61;
+case 84:if(c==3)goto L62;
 break;
-default:goto L61;
+default:goto L63;
 }}
 else{
-switch(yh){
-case 90:goto L57;
-case 71:if(b[3]!=86)goto L59;
-if(b[4]!=90)goto L58;
-if(za<19){
-zh=make_ready_8e3(a,19,128);
-if(zh==0){
-Ah=0;
-Bh=0;
-Ch=0;
-Dh=0;
-goto L62;}
-Eh=r8(a+16);
-Fh=r8(a+8);}
+switch(Lh){
+case 90:goto L59;
+case 71:if(b[3]!=86)goto L61;
+if(b[4]!=90)goto L60;
+if(Ba<19){
+Mh=make_ready_8e3(a,19,128);
+if(!(Mh&1)){
+Ph=0;
+Qh=0;
+Rh=0;
+Sh=0;
+goto L64;}
+Nh=r8(a+16);
+Oh=r8(a+8);}
 else{
-Eh=ya;
-Fh=0;}
-if(Eh-Fh<19){
-Gh=grow_amortized_e1a(a,19);
-if(!Gh){
-Ah=0;
-Bh=0;
-Ch=0;
-Dh=0;
-goto L62;}
-Hh=r8(a+16);
-Ih=r8(a+8);}
+Nh=Aa;
+Oh=0;}
+if(Nh-Oh<19){
+Th=grow_amortized_e1a(a,19);
+if(!Th){
+Ph=0;
+Qh=0;
+Rh=0;
+Sh=0;
+goto L64;}
+Uh=r8(a+16);
+Vh=r8(a+8);}
 else{
-Hh=Eh;
-Ih=Fh;}
-Jh=Ih+19;
-Kh=rp(a);
+Uh=Nh;
+Vh=Oh;}
+Wh=Vh+19;
+Xh=rp(a);
 z16(a+8);
-Lh=Kh+(i64)Ih;
-if((u64)Lh-(u64)(u8*)t_c270<19)copy_bits_4f4((u8*)t_c270,Lh,19);
-else memcpy(Lh,(u8*)t_c270,19);
-wp(a,Kh);
-w8(a+8,Jh);
-w8(a+16,Hh);
+Yh=Xh+(i64)Vh;
+if((u64)Yh-(u64)(u8*)t_c270<19)copy_bits_4f4((u8*)t_c270,Yh,19);
+else memcpy(Yh,(u8*)t_c270,19);
+wp(a,Xh);
+w8(a+8,Wh);
+w8(a+16,Uh);
 w8(a+176,5);
-begin_encoding_a64(U,a,b,c);
-Ah=U[3];
-Bh=U[2];
-Ch=U[1];
-Dh=*U;
-L62:Mh=Ah;
-Nh=Bh;
-Oh=Ch;
-Ph=Dh;
-goto L63;
+begin_encoding_a64(W,a,b,c);
+Ph=W[3];
+Qh=W[2];
+Rh=W[1];
+Sh=*W;
+L64:Zh=Ph;
+ai=Qh;
+bi=Rh;
+ci=Sh;
+goto L65;
 case 84:break;
-default:goto L61;
+default:goto L63;
 }}
 switch(b[3]){
-case 104:begin_thunk_50d(X,a,b,c);
-goto L64;
-case 118:begin_virtual_thunk_1ab(X,a,b,c);
-goto L64;
+case 104:begin_thunk_50d(Z,a,b,c);
+goto L66;
+case 118:begin_virtual_thunk_1ab(Z,a,b,c);
+goto L66;
+case 67:begin_table_89f(Z,a);
+goto L66;
 default:break;}
-L60:begin_special_44d(X,a,b,c);
-L64:Qh=X[3];
-Rh=X[2];
-Sh=X[1];
-Th=*X;
-goto L65;
-L59:begin_clone_906(W,a,b,c);
-Qh=W[3];
-Rh=W[2];
-Sh=W[1];
-Th=*W;
-goto L65;
-L58:begin_object_4cd(W,a,b,c);
-Qh=W[3];
-Rh=W[2];
-Sh=W[1];
-Th=*W;
-goto L65;
-L57:w8(a+176,3);
-begin_encoding_a64(V,a,b,c);
-Mh=V[3];
-Nh=V[2];
-Oh=V[1];
-Ph=*V;
-L63:Qh=Mh;
-Rh=Nh;
-Sh=Oh;
-Th=Ph;
-goto L65;}
-L61:w8(a+176,2);
-begin_encoding_a64(W,a,b,c);
-Qh=W[3];
-Rh=W[2];
-Sh=W[1];
-Th=*W;
-L65:if(Th!=1)goto L1;
-Uh=0;
-Vh=Qh;
-Wh=Rh;
-Xh=Sh;
-L66:if(Xh==7){
-Yh=r8(a+8);
-if(Yh>xa)goto L14;
-Zh=rp(a);
-if(Yh==0){
-ai=0;
-goto L67;}
-bi=0;
-L68:if(*(Zh+bi)>2){
-ci=bi+1;
-if(ci==Yh)goto L17;
-bi=ci;
-goto L68;}
-ai=bi;
-L67:if(ai>=Yh)goto L17;
-di=ai;
+L62:begin_special_44d(Z,a,b,c);
+L66:di=Z[3];
+ei=Z[2];
+fi=Z[1];
+gi=*Z;
+goto L67;
+L61:begin_clone_906(Y,a,b,c);
+di=Y[3];
+ei=Y[2];
+fi=Y[1];
+gi=*Y;
+goto L67;
+L60:begin_object_4cd(Y,a,b,c);
+di=Y[3];
+ei=Y[2];
+fi=Y[1];
+gi=*Y;
+goto L67;
+L59:w8(a+176,3);
+begin_encoding_a64(X,a,b,c);
+Zh=X[3];
+ai=X[2];
+bi=X[1];
+ci=*X;
+L65:di=Zh;
 ei=ai;
-fi=0;
-L69:gi=*(Zh+di);
-if(gi>2){
-if(fi==0){
-*(Zh+ei)=gi;
-hi=0;
-ii=ei+1;}
+fi=bi;
+gi=ci;
+goto L67;}
+L63:w8(a+176,2);
+begin_encoding_a64(Y,a,b,c);
+di=Y[3];
+ei=Y[2];
+fi=Y[1];
+gi=*Y;
+L67:if(gi!=1)goto L1;
+hi=c<<3;
+ii=0;
+ji=di;
+ki=ei;
+li=fi;
+L68:if(li==7){
+mi=r8(a+8);
+if(mi>za)goto L14;
+ni=rp(a);
+if(mi==0)goto L15;
+oi=0;
+pi=0;
+qi=0;
+L69:ri=oi;
+L70:if(mi-ri>15){
+si=cttz(v16_ult(v16_at(ni+ri),splat(3)),16);
+ti=ri+si;
+if(si>=16){
+ri=ti;
+goto L70;}
+ui=ti;}
 else{
-hi=fi;
-ii=ei;}}
-else{
-switch(gi){
-case 2:hi=usub64(fi,1);
-ii=ei;
+if(ri>=mi){
+ui=ri;
+goto L71;}
+vi=ri;
+L72:if(*(ni+vi)>2){
+wi=vi+1;
+if(wi!=mi){
+vi=wi;
+goto L72;}
+ui=mi;}
+else ui=vi;}
+L71:if(qi==0){
+if(pi<oi){
+if(ui!=oi){
+xi=ui-oi;
+yi=ni+(i64)oi;
+zi=ni+(i64)pi;
+Ai=0;
+L73:*(zi+(i64)Ai)=*(yi+(i64)Ai);
+Bi=Ai+1;
+if(Bi!=xi){
+Ai=Bi;
+goto L73;}}}
+Ci=pi-oi+ui;}
+else Ci=pi;
+if(ui!=mi){
+switch(*(ni+ui)){
+case 1:Di=qi+1;
 break;
-case 1:hi=fi+1;
-ii=ei;
+case 2:Di=usub64(qi,1);
 break;
 default:goto L1;
-}}
-ji=di+1;
-if(ji==Yh){
-if(r8(a+8)<=ii)goto L17;
-ub=ii;
+}
+Ei=ui+1;
+if(Ei<mi){
+oi=Ei;
+pi=Ci;
+qi=Di;
+goto L69;}}
+if(r8(a+8)<=Ci)goto L15;
+Eb=Ci;
 break;}
-di=ji;
-ei=ii;
-fi=hi;
-goto L69;}
 w8(a+184,r8(a+184)+1);
-w4(Y,0);
-switch(Xh){
-case 0:type_at_d83(Y,a,b,c,0);
+w4(aa,0);
+switch(li){
+case 0:type_at_d83(aa,a,b,c,0);
 break;
-case 1:type_at_d83(Y,a,b,c,1);
+case 1:type_at_d83(aa,a,b,c,1);
 break;
-case 2:w4(Q,0);
+case 2:w4(S,0);
+w4(T,0);
+z32(U);
+z32(V);
+Fi=r8(a+88);
+if(Fi==0)w4(aa,0);
+else{
+Gi=ki&1;
+Hi=rp(a+80)+(i64)(Fi*44);
+Ii=Hi[-44];
+Ji=Hi[-43];
+Ki=q4(Hi-40);
+Li=q4(Hi-36);
+Mi=q2(Hi-32);
+switch(Ii){
+case 29:case 28:case 27:case 26:case 4:case 5:case 6:case 7:case 8:case 11:case 12:case 13:case 14:case 15:case 16:case 17:case 18:case 19:case 20:case 21:case 22:case 23:case 24:case 25:if(ji&1){
+pass_dependent_123(S,a,b,c);
+*aa=*S;
+aa[1]=S[1];
+aa[2]=S[2];
+aa[3]=S[3];
+goto L74;}
+Ni=q4(Hi-4);
+Oi=Li;
+Pi=Li>>16;
 w4(R,0);
-z32(S);
-z32(T);
-ki=r8(a+88);
-if(ki==0)w4(Y,0);
-else{
-li=Wh&1;
-mi=rp(a+80)+(i64)(ki*44);
-ni=mi[-44];
-oi=mi[-43];
-pi=q4(mi-40);
-qi=q4(mi-36);
-ri=q2(mi-32);
-switch(ni){
-case 25:case 24:case 23:case 22:case 4:case 5:case 6:case 7:case 8:case 11:case 12:case 13:case 14:case 15:case 16:case 17:case 18:case 19:case 20:case 21:if(Vh&1){
-pass_dependent_123(Q,a,b,c);
-*Y=*Q;
-Y[1]=Q[1];
-Y[2]=Q[2];
-Y[3]=Q[3];
-goto L70;}
-si=q4(mi-4);
-ti=qi;
-w4(P,0);
-switch(ni){
-case 19:returned_acd(P,a,b,c,oi&1);
+switch(Ii){
+case 22:returned_087(R,a,b,c,Ji&1);
 break;
-case 20:parameter_at_c04(P,a,b,c,oi&1,0);
+case 23:parameter_at_d02(R,a,b,c,Ji&1,0);
 break;
-case 21:array_ended_08d(P,a,b,c,oi,pi,qi);
+case 24:array_ended_a11(R,a,b,c,Ji,Ki,Li);
 break;
-case 12:enclosing_parameter_d72(P,a,b,c,oi,pi);
+case 12:enclosing_parameter_d72(R,a,b,c,Ji,Ki);
 break;
-case 13:instance_parameter_e2a(P,a,b,c,oi,pi,qi);
+case 13:instance_parameter_e2a(R,a,b,c,Ji,Ki,Li);
 break;
-case 11:w2(K,ri);
-memcpy(K+2,mi-30,26);
-x4(K+28,si);
-enclosing_front_fa8(P,a,oi,pi,qi,K);
+case 11:w2(L,Mi);
+memcpy(L+2,Hi-30,26);
+x4(L+28,Ni);
+enclosing_front_fa8(R,a,Ji,Ki,Li,L);
 break;
-case 17:w2(L,(u16)qi&255);
-w2(L+2,qi>>16);
-w2(L+4,ri);
-lambda_parameter_f9a(P,a,b,c,pi,L);
+case 17:w4(M,Li);
+w2(M+4,Mi);
+lambda_parameter_f9a(R,a,b,c,Ki,M);
 break;
-case 15:w4(M,qi);
-w2(M+4,ri);
-memcpy(M+6,mi-30,26);
-addressed_front_4c5(P,a,b,c,oi,pi,M);
+case 18:member_parameter_678(R,a,b,c,Ji);
 break;
-case 16:addressed_parameter_41c(P,a,b,c,oi);
+case 15:w4(N,Li);
+w2(N+4,Mi);
+memcpy(N+6,Hi-30,26);
+addressed_front_4c5(R,a,b,c,Ji,Ki,N);
 break;
-case 14:*P=0;
+case 16:addressed_parameter_41c(R,a,b,c,Ji);
 break;
-case 18:finish_8cd(P,a,b,c);
+case 14:*R=0;
 break;
-case 25:enumerator_21c(P,a,b,c);
+case 19:finish_8cd(R,a,b,c);
 break;
-case 22:w2(N,qi>>16);
-w2(N+2,ri);
-memcpy(N+4,mi-30,26);
-w2(N+30,si);
-argument_ended_c7c(P,a,b,c,pi,ti,N,li);
+case 20:derived_ended_aef(R,a,b,c);
 break;
-case 24:w2(O,qi>>16);
-w2(O+2,ri);
-memcpy(O+4,mi-30,26);
-w2(O+30,si);
-element_ended_c50(P,a,b,c,pi,ti,O,li);
+case 21:base_ended_299(R,a,b,c,Ki);
 break;
-case 23:case 10:case 9:case 8:case 4:case 5:case 6:case 7:*P=1;
-P[1]=3;
-P[2]=0;
-P[3]=0;
+case 29:enumerator_21c(R,a,b,c);
+break;
+case 26:w2(O,Pi);
+w2(O+2,Mi);
+memcpy(O+4,Hi-30,26);
+w2(O+30,Ni);
+argument_enumerator_071(R,a,b,c,Ki,Oi,O);
+break;
+case 25:w2(P,Pi);
+w2(P+2,Mi);
+memcpy(P+4,Hi-30,26);
+w2(P+30,Ni);
+argument_ended_c7c(R,a,b,c,Ki,Oi,P,Gi);
+break;
+case 28:w2(Q,Pi);
+w2(Q+2,Mi);
+memcpy(Q+4,Hi-30,26);
+w2(Q+30,Ni);
+element_ended_c50(R,a,b,c,Ki,Oi,Q,Gi);
+break;
+case 27:case 10:case 9:case 8:case 4:case 5:case 6:case 7:*R=1;
+R[1]=3;
+R[2]=0;
+R[3]=0;
 break;
 default:NEVER;
 }
-ui=P[1];
-vi=P[2];
-wi=P[3];
-*R=*P;
-R[1]=ui;
-R[2]=vi;
-R[3]=wi;
-goto L71;
-case 10:w4(S,qi);
-w2(S+4,ri);
-memcpy(S+6,mi-30,26);
-parameter_ended_06e(R,a,b,c,oi,pi,S);
-goto L71;
-case 9:w4(T,qi);
-w2(T+4,ri);
-memcpy(T+6,mi-30,26);
-front_ended_ee9(R,a,b,c,oi,pi,T);
-goto L71;
-case 0:w8(a+88,ki-1);
-xi=r8(a+8);
-if(r8(a+32)>xi)yi=xi;
+Qi=R[1];
+Ri=R[2];
+Si=R[3];
+*T=*R;
+T[1]=Qi;
+T[2]=Ri;
+T[3]=Si;
+goto L75;
+case 10:w4(U,Li);
+w2(U+4,Mi);
+memcpy(U+6,Hi-30,26);
+parameter_ended_06e(T,a,b,c,Ji,Ki,U);
+goto L75;
+case 9:w4(V,Li);
+w2(V+4,Mi);
+memcpy(V+6,Hi-30,26);
+front_ended_ee9(T,a,b,c,Ji,Ki,V);
+goto L75;
+case 0:w8(a+88,Fi-1);
+Ti=r8(a+8);
+if(r8(a+32)>Ti)Ui=Ti;
 else{
-zi=make_ready_8e3(a,1,16);
-if(zi==0){
-Ai=0;
-Bi=0;
-Ci=0;
-Di=0;
-goto L72;}
-yi=r8(a+8);}
-*(rp(a)+yi)=42;
-Ei=yi+1;
-w8(a+8,Ei);
-Fi=Ei;
-Gi=Vh&1;
-Hi=r8(a+48);
-if(r8(a+72)>Hi){
-Ii=Hi;
-Ji=Fi;
-Ki=0;
-Li=Gi;
-goto L73;}
-Mi=make_ready_17a(a+40);
-if(Mi==0){
-Ai=0;
-Bi=0;
-Ci=0;
-Di=0;
-goto L72;}
-Ni=Fi;
-Oi=0;
-Pi=Gi;
-break;
-case 1:if(li)goto L71;
-w8(a+88,ki-1);
-Qi=r8(a+8);
-if(r8(a+32)>Qi)Ri=Qi;
-else{
-Si=make_ready_8e3(a,1,16);
-if(Si==0){
-Ai=0;
-Bi=0;
-Ci=0;
-Di=0;
-goto L72;}
-Ri=r8(a+8);}
-*(rp(a)+Ri)=38;
-Ti=Ri+1;
-w8(a+8,Ti);
-Ui=Ti;
-Vi=Vh&1;
-Wi=r8(a+48);
-if(r8(a+72)>Wi){
-Ii=Wi;
-Ji=Ui;
-Ki=1;
-Li=Vi;
-goto L73;}
-Xi=make_ready_17a(a+40);
-if(Xi==0){
-Ai=0;
-Bi=0;
-Ci=0;
-Di=0;
-goto L72;}
-Ni=Ui;
-Oi=1;
-Pi=Vi;
-break;
-case 2:if(li)goto L71;
-w8(a+88,ki-1);
-Yi=r8(a+8);
-if(r8(a+32)-Yi<2){
-Zi=make_ready_8e3(a,2,128);
-if(Zi==0){
-Ai=0;
-Bi=0;
-Ci=0;
-Di=0;
-goto L72;}
-aj=r8(a+8);}
-else aj=Yi;
-*(rp(a)+aj)=38;
-*(rp(a)+(i64)aj+1)=38;
-bj=aj+2;
-w8(a+8,bj);
-cj=bj;
-dj=Vh&1;
-ej=r8(a+48);
-if(r8(a+72)>ej){
-Ii=ej;
-Ji=cj;
-Ki=1;
-Li=dj;
-goto L73;}
-fj=make_ready_17a(a+40);
-if(fj==0){
-Ai=0;
-Bi=0;
-Ci=0;
-Di=0;
-goto L72;}
-Ni=cj;
-Oi=1;
-Pi=dj;
-break;
-case 3:if(li)goto L71;
-w8(a+88,ki-1);
-if(r8(a+32)-r8(a+8)<6){
-gj=make_ready_8e3(a,6,128);
-if(gj==0){
-Ai=0;
-Bi=0;
-Ci=0;
-Di=0;
-goto L72;}}
-hj=push_str_b7e(a,(u8*)t_f603,6);
-if(hj!=0){
-Ai=0;
-Bi=0;
-Ci=0;
-Di=0;
-goto L72;}
-ij=r8(a+8);
-jj=Vh&1;
-kj=r8(a+48);
-if(r8(a+72)>kj){
-Ii=kj;
-Ji=ij;
-Ki=0;
-Li=jj;
-goto L73;}
-lj=make_ready_17a(a+40);
-if(lj==0){
-Ai=0;
-Bi=0;
-Ci=0;
-Di=0;
-goto L72;}
-Ni=ij;
-Oi=0;
-Pi=jj;
-break;
-default:NEVER;
-}
-Ii=r8(a+48);
-Ji=Ni;
-Ki=Oi;
-Li=Pi;
-L73:mj=rp(a+40)+Ii*12;
-x4(mj,pi);
-x4(mj+4,Ji);
-mj[8]=Ki;
-mj[9]=Li;
-x2(mj+10,0);
-w8(a+48,Ii+1);
-Ai=Li;
-Bi=Ki;
-Ci=2;
-Di=1;
-L72:*R=Di;
-R[1]=Ci;
-R[2]=Bi;
-R[3]=Ai;
-L71:nj=R[1];
-oj=R[2];
-pj=R[3];
-*Y=*R;
-Y[1]=nj;
-Y[2]=oj;
-Y[3]=pj;}
-L70:break;
-case 3:qj=Wh&1;
-w4(I,0);
-rj=r8(a+176);
-if(rj<c){
-sj=*(b+rj);
-switch(sj){
-case 69:w4(G,0);
-w8(a+176,rj+1);
-tj=r8(a+88);
-if(tj==0){
-uj=0;
-vj=0;
-wj=0;
-xj=0;}
-else{
-if(*(rp(a+80)+(i64)(tj*44)-44)==23){
-if(qj){
-uj=0;
-vj=0;
-wj=0;
-xj=0;}
-else{
-w8(a+88,tj-1);
-uj=0;
-vj=0;
-wj=3;
-xj=1;}}
-else{
-z32(H);
-close_list_148(G,a,b,c,H);
-uj=G[3];
-vj=G[2];
-wj=G[1];
-xj=*G;}}
-*Y=xj;
-Y[1]=wj;
-Y[2]=vj;
-Y[3]=uj;
-goto L74;
-case 74:yj=rj+1;
-if(yj<c){
-if(*(b+yj)==69){
-empty_pack_c74(I,a,b,c,qj);
-*Y=*I;
-Y[1]=I[1];
-Y[2]=I[2];
-Y[3]=I[3];
-goto L74;}}
-if(!qj){
-zj=74;
-goto L75;}
-first_pack_117(I,a,b,c);
-*Y=*I;
-Y[1]=I[1];
-Y[2]=I[2];
-Y[3]=I[3];
-goto L74;
-default:Aj=sj;
-break;}}
-else Aj=0;
-if(qj){
-Bj=Aj;
+Vi=make_ready_8e3(a,1,16);
+if(!(Vi&1)){
+Wi=0;
+Xi=0;
+Yi=0;
+Zi=0;
 goto L76;}
-zj=Aj;
-L75:Cj=r8(a+8);
-if(r8(a+32)-Cj<2){
-Dj=make_ready_8e3(a,2,128);
-if(Dj==0){
-w4(Y,0);
-goto L74;}
-Ej=r8(a+8);}
-else Ej=Cj;
-*(rp(a)+Ej)=44;
-*(rp(a)+(i64)Ej+1)=32;
-w8(a+8,Ej+2);
-Bj=zj;
-L76:switch(Bj){
-case 88:Fj=r8(a+176);
-if(Fj==18446744073709551615u){
-w4(Y,0);
-goto L74;}
-Gj=Fj+1;
-if(Gj<c){
-if(*(b+Gj)==115){
-begin_level_398(I,a,b,c);
-*Y=*I;
-Y[1]=I[1];
-Y[2]=I[2];
-Y[3]=I[3];
-goto L74;}}
+Ui=r8(a+8);}
+*(rp(a)+Ui)=42;
+aj=Ui+1;
+w8(a+8,aj);
+bj=aj;
+cj=ji&1;
+dj=r8(a+48);
+if(r8(a+72)>dj){
+ej=dj;
+fj=bj;
+gj=0;
+hj=cj;
+goto L77;}
+ij=make_ready_17a(a+40);
+if(!(ij&1)){
+Wi=0;
+Xi=0;
+Yi=0;
+Zi=0;
+goto L76;}
+jj=bj;
+kj=0;
+lj=cj;
 break;
-case 76:if(qj){
-first_literal_898(I,a,b,c);
-*Y=*I;
-Y[1]=I[1];
-Y[2]=I[2];
-Y[3]=I[3];
-goto L74;}
-literal_47f(J,a,b,c);
-Hj=J[3];
-Ij=J[2];
-Jj=J[1];
-Kj=*J;
-goto L77;
-case 74:Lj=r8(a+88);
-if(Lj==0){
-Hj=0;
-Ij=0;
-Jj=0;
-Kj=0;
-goto L77;}
-Mj=rp(a+80);
-Nj=Lj*44;
-if(*(Mj+(i64)Nj-44)==23){
-Hj=0;
-Ij=0;
-Jj=0;
-Kj=0;
-goto L77;}
-Oj=r8(a+176);
-if(Oj==18446744073709551615u){
-Hj=0;
-Ij=0;
-Jj=0;
-Kj=0;
-goto L77;}
-w8(a+176,Oj+1);
-if(r8(a+112)>Lj){
-Pj=Nj;
-Qj=Mj;
-Rj=Lj;}
+case 1:if(Gi)goto L75;
+w8(a+88,Fi-1);
+mj=r8(a+8);
+if(r8(a+32)>mj)nj=mj;
 else{
-Sj=make_ready_9a1(a+80);
-if(Sj==0){
-Hj=0;
-Ij=0;
-Jj=0;
-Kj=0;
+oj=make_ready_8e3(a,1,16);
+if(!(oj&1)){
+Wi=0;
+Xi=0;
+Yi=0;
+Zi=0;
+goto L76;}
+nj=r8(a+8);}
+*(rp(a)+nj)=38;
+pj=nj+1;
+w8(a+8,pj);
+qj=pj;
+rj=ji&1;
+sj=r8(a+48);
+if(r8(a+72)>sj){
+ej=sj;
+fj=qj;
+gj=1;
+hj=rj;
 goto L77;}
-Tj=r8(a+88);
-Pj=Tj*44;
-Qj=rp(a+80);
-Rj=Tj;}
-Uj=Qj+Pj;
-*Uj=23;
-z43(Uj+1);
-w8(a+88,Rj+1);
-Hj=0;
-Ij=1;
-Jj=3;
-Kj=1;
-goto L77;
-default:break;}
-if(qj){
-Vj=r8(a+88);
-if(Vj==0){
-Wj=0;
-Xj=0;
-Yj=0;
-Zj=1;}
+tj=make_ready_17a(a+40);
+if(!(tj&1)){
+Wi=0;
+Xi=0;
+Yi=0;
+Zi=0;
+goto L76;}
+jj=qj;
+kj=1;
+lj=rj;
+break;
+case 2:if(Gi)goto L75;
+w8(a+88,Fi-1);
+uj=r8(a+8);
+if(r8(a+32)-uj<2){
+vj=make_ready_8e3(a,2,128);
+if(!(vj&1)){
+Wi=0;
+Xi=0;
+Yi=0;
+Zi=0;
+goto L76;}
+wj=r8(a+8);}
+else wj=uj;
+*(rp(a)+wj)=38;
+*(rp(a)+(i64)wj+1)=38;
+xj=wj+2;
+w8(a+8,xj);
+yj=xj;
+zj=ji&1;
+Aj=r8(a+48);
+if(r8(a+72)>Aj){
+ej=Aj;
+fj=yj;
+gj=1;
+hj=zj;
+goto L77;}
+Bj=make_ready_17a(a+40);
+if(!(Bj&1)){
+Wi=0;
+Xi=0;
+Yi=0;
+Zi=0;
+goto L76;}
+jj=yj;
+kj=1;
+lj=zj;
+break;
+case 3:if(Gi)goto L75;
+w8(a+88,Fi-1);
+if(r8(a+32)-r8(a+8)<6){
+Cj=make_ready_8e3(a,6,128);
+if(!(Cj&1)){
+Wi=0;
+Xi=0;
+Yi=0;
+Zi=0;
+goto L76;}}
+Dj=push_str_b7e(a,(u8*)t_f603,6);
+if(Dj&1){
+Wi=0;
+Xi=0;
+Yi=0;
+Zi=0;
+goto L76;}
+Ej=r8(a+8);
+Fj=ji&1;
+Gj=r8(a+48);
+if(r8(a+72)>Gj){
+ej=Gj;
+fj=Ej;
+gj=0;
+hj=Fj;
+goto L77;}
+Hj=make_ready_17a(a+40);
+if(!(Hj&1)){
+Wi=0;
+Xi=0;
+Yi=0;
+Zi=0;
+goto L76;}
+jj=Ej;
+kj=0;
+lj=Fj;
+break;
+default:NEVER;
+}
+ej=r8(a+48);
+fj=jj;
+gj=kj;
+hj=lj;
+L77:Ij=rp(a+40)+ej*12;
+x4(Ij,Ki);
+x4(Ij+4,fj);
+Ij[8]=gj;
+Ij[9]=hj;
+x2(Ij+10,0);
+w8(a+48,ej+1);
+Wi=hj;
+Xi=gj;
+Yi=2;
+Zi=1;
+L76:*T=Zi;
+T[1]=Yi;
+T[2]=Xi;
+T[3]=Wi;
+L75:Jj=T[1];
+Kj=T[2];
+Lj=T[3];
+*aa=*T;
+aa[1]=Jj;
+aa[2]=Kj;
+aa[3]=Lj;}
+L74:break;
+case 3:Mj=ki&1;
+w4(J,0);
+Nj=r8(a+176);
+if(Nj<c){
+Oj=*(b+Nj);
+switch(Oj){
+case 69:w4(H,0);
+w8(a+176,Nj+1);
+Pj=r8(a+88);
+if(Pj==0){
+Qj=0;
+Rj=0;
+Sj=0;
+Tj=0;}
 else{
-ak=rp(a+80);
-bk=Vj*44;
-ck=ak+(i64)bk;
-switch(ck[-44]){
-case 5:if(ck[-28]==0){
-Wj=0;
-Xj=0;
-Yj=0;
-Zj=1;
+if(*(rp(a+80)+(i64)(Pj*44)-44)==27){
+if(Mj){
+Qj=0;
+Rj=0;
+Sj=0;
+Tj=0;}
+else{
+w8(a+88,Pj-1);
+Qj=0;
+Rj=0;
+Sj=3;
+Tj=1;}}
+else{
+z32(I);
+close_list_148(H,a,b,c,I);
+Qj=H[3];
+Rj=H[2];
+Sj=H[1];
+Tj=*H;}}
+*aa=Tj;
+aa[1]=Sj;
+aa[2]=Rj;
+aa[3]=Qj;
+goto L78;
+case 74:Uj=Nj+1;
+if(Uj<c){
+if(*(b+Uj)==69){
+empty_pack_c74(J,a,b,c,Mj);
+*aa=*J;
+aa[1]=J[1];
+aa[2]=J[2];
+aa[3]=J[3];
+goto L78;}}
+if(!Mj){
+Vj=74;
+goto L79;}
+first_pack_117(J,a,b,c);
+*aa=*J;
+aa[1]=J[1];
+aa[2]=J[2];
+aa[3]=J[3];
+goto L78;
+default:Wj=Oj;
+break;}}
+else Wj=0;
+if(Mj){
+Xj=Wj;
+goto L80;}
+Vj=Wj;
+L79:Yj=r8(a+8);
+if(r8(a+32)-Yj<2){
+Zj=make_ready_8e3(a,2,128);
+if(!(Zj&1)){
+w4(aa,0);
 goto L78;}
+ak=r8(a+8);}
+else ak=Yj;
+*(rp(a)+ak)=44;
+*(rp(a)+(i64)ak+1)=32;
+w8(a+8,ak+2);
+Xj=Vj;
+L80:switch(Xj){
+case 88:bk=r8(a+176);
+if(bk==18446744073709551615u){
+w4(aa,0);
+goto L78;}
+ck=bk+1;
+if(ck<c){
+switch(*(b+ck)){
+case 115:begin_level_398(J,a,b,c);
+*aa=*J;
+aa[1]=J[1];
+aa[2]=J[2];
+aa[3]=J[3];
+goto L78;
+case 84:parameter_argument_7c8(J,a,b,c);
+*aa=*J;
+aa[1]=J[1];
+aa[2]=J[2];
+aa[3]=J[3];
+goto L78;
+default:break;}}
+break;
+case 76:if(Mj){
+first_literal_898(J,a,b,c);
+*aa=*J;
+aa[1]=J[1];
+aa[2]=J[2];
+aa[3]=J[3];
+goto L78;}
+literal_47f(K,a,b,c);
+dk=K[3];
+ek=K[2];
+fk=K[1];
+gk=*K;
+goto L81;
+case 74:hk=r8(a+88);
+if(hk==0){
+dk=0;
+ek=0;
+fk=0;
+gk=0;
+goto L81;}
+ik=rp(a+80);
+jk=hk*44;
+if(*(ik+(i64)jk-44)==27){
+dk=0;
+ek=0;
+fk=0;
+gk=0;
+goto L81;}
+kk=r8(a+176);
+if(kk==18446744073709551615u){
+dk=0;
+ek=0;
+fk=0;
+gk=0;
+goto L81;}
+w8(a+176,kk+1);
+if(r8(a+112)>hk){
+lk=jk;
+mk=ik;
+nk=hk;}
+else{
+ok=make_ready_9a1(a+80);
+if(!(ok&1)){
+dk=0;
+ek=0;
+fk=0;
+gk=0;
+goto L81;}
+pk=r8(a+88);
+lk=pk*44;
+mk=rp(a+80);
+nk=pk;}
+qk=mk+lk;
+*qk=27;
+z43(qk+1);
+w8(a+88,nk+1);
+dk=0;
+ek=1;
+fk=3;
+gk=1;
+goto L81;
+default:break;}
+if(Mj){
+rk=r8(a+88);
+if(rk==0){
+sk=0;
+tk=0;
+uk=0;
+vk=1;}
+else{
+wk=rp(a+80);
+xk=rk*44;
+yk=wk+(i64)xk;
+switch(yk[-44]){
+case 5:if(yk[-28]==0){
+sk=0;
+tk=0;
+uk=0;
+vk=1;
+goto L82;}
 break;
 case 7:break;
-case 0:case 1:case 2:case 3:case 4:case 6:case 8:case 9:case 10:case 11:case 12:case 13:case 14:case 15:case 16:case 17:case 18:case 19:case 20:case 21:case 22:case 23:case 24:case 25:Wj=0;
-Xj=0;
-Yj=0;
-Zj=1;
-goto L78;
+case 0:case 1:case 2:case 3:case 4:case 6:case 8:case 9:case 10:case 11:case 12:case 13:case 14:case 15:case 16:case 17:case 18:case 19:case 20:case 21:case 22:case 23:case 24:case 25:case 26:case 27:case 28:case 29:sk=0;
+tk=0;
+uk=0;
+vk=1;
+goto L82;
 default:NEVER;
 }
-dk=is_element_at_f4e(b,c,r8(a+176));
-if(dk){
-Wj=0;
-Xj=0;
-Yj=0;
-Zj=1;}
+zk=is_element_at_f4e(b,c,r8(a+176));
+if(zk){
+sk=0;
+tk=0;
+uk=0;
+vk=1;}
 else{
-ek=r8(a+8);
-if(r8(a+112)>Vj){
-fk=bk;
-gk=ak;
-hk=Vj;}
+Ak=r8(a+8);
+if(r8(a+112)>rk){
+Bk=xk;
+Ck=wk;
+Dk=rk;}
 else{
-ik=make_ready_9a1(a+80);
-if(ik==0){
-Wj=0;
-Xj=0;
-Yj=0;
-Zj=0;
+Ek=make_ready_9a1(a+80);
+if(!(Ek&1)){
+sk=0;
+tk=0;
+uk=0;
+vk=0;
+goto L82;}
+Fk=r8(a+88);
+Bk=Fk*44;
+Ck=rp(a+80);
+Dk=Fk;}
+Gk=Ck+Bk;
+*Gk=25;
+Gk[1]=0;
+x2(Gk+2,0);
+x4(Gk+4,Ak);
+z36(Gk+8);
+w8(a+88,Dk+1);
+w4(G,0);
+Hk=r8(a+176);
+if(Hk<c){
+if(*(b+Hk)==88){
+begin_address_731(G,a,b,c);
+Ik=G[3];
+Jk=G[2];
+Kk=G[1];
+Lk=*G;}
+else{
+Ik=0;
+Jk=0;
+Kk=0;
+Lk=1;}}
+else{
+Ik=0;
+Jk=0;
+Kk=0;
+Lk=1;}
+sk=Ik;
+tk=Jk;
+uk=Kk;
+vk=Lk;}}
+L82:*aa=vk;
+aa[1]=uk;
+aa[2]=tk;
+aa[3]=sk;
 goto L78;}
-jk=r8(a+88);
-fk=jk*44;
-gk=rp(a+80);
-hk=jk;}
-kk=gk+fk;
-*kk=22;
-kk[1]=0;
-x2(kk+2,0);
-x4(kk+4,ek);
-z36(kk+8);
-w8(a+88,hk+1);
-w4(F,0);
-lk=r8(a+176);
-if(lk<c){
-if(*(b+lk)==88){
-begin_address_731(F,a,b,c);
-mk=F[3];
-nk=F[2];
-ok=F[1];
-pk=*F;}
-else{
-mk=0;
-nk=0;
-ok=0;
-pk=1;}}
-else{
-mk=0;
-nk=0;
-ok=0;
-pk=1;}
-Wj=mk;
-Xj=nk;
-Yj=ok;
-Zj=pk;}}
-L78:*Y=Zj;
-Y[1]=Yj;
-Y[2]=Xj;
-Y[3]=Wj;
-goto L74;}
-Hj=0;
-Ij=0;
-Jj=0;
-Kj=1;
-L77:*Y=Kj;
-Y[1]=Jj;
-Y[2]=Ij;
-Y[3]=Hj;
-L74:break;
-case 4:w4(D,0);
-z20(E+20);
+dk=0;
+ek=0;
+fk=0;
+gk=1;
+L81:*aa=gk;
+aa[1]=fk;
+aa[2]=ek;
+aa[3]=dk;
+L78:break;
+case 4:w4(E,0);
+z20(F+20);
 if(!(a[136]&1)){
-qk=r4(a+120);
-rk=a[139];
-sk=r8(a+8);
-tk=r8(a+48);
-if(r8(a+72)>tk)uk=tk;
+Mk=r4(a+120);
+Nk=a[139];
+Ok=r8(a+8);
+Pk=r8(a+48);
+if(r8(a+72)>Pk)Qk=Pk;
 else{
-vk=make_ready_17a(a+40);
-if(vk==0){
-w4(Y,0);
-goto L79;}
-uk=r8(a+48);}
-wk=rp(a+40)+uk*12;
-x4(wk,qk);
-x4(wk+4,sk);
-wk[8]=0;
-wk[9]=rk;
-x2(wk+10,0);
-w8(a+48,uk+1);}
-xk=r8(a+176);
-if(xk<c){
-if(*(b+xk)==73){
-memcpy(E,a+120,20);
-yk=r8(a+8);
-if(r8(a+32)>yk)zk=yk;
+Rk=make_ready_17a(a+40);
+if(!(Rk&1)){
+w4(aa,0);
+goto L83;}
+Qk=r8(a+48);}
+Sk=rp(a+40)+Qk*12;
+x4(Sk,Mk);
+x4(Sk+4,Ok);
+Sk[8]=0;
+Sk[9]=Nk;
+x2(Sk+10,0);
+w8(a+48,Qk+1);}
+Tk=r8(a+176);
+if(Tk<c){
+if(*(b+Tk)==73){
+memcpy(F,a+120,20);
+Uk=r8(a+8);
+if(r8(a+32)>Uk)Vk=Uk;
 else{
-Ak=make_ready_8e3(a,1,16);
-if(Ak==0){
-Bk=0;
-Ck=0;
-goto L80;}
-zk=r8(a+8);}
-*(rp(a)+zk)=1;
-w8(a+8,zk+1);
-Dk=r8(a+176);
-if(Dk==18446744073709551615u){
-Bk=0;
-Ck=0;}
+Wk=make_ready_8e3(a,1,16);
+if(!(Wk&1)){
+Xk=0;
+Yk=0;
+goto L84;}
+Vk=r8(a+8);}
+*(rp(a)+Vk)=1;
+w8(a+8,Vk+1);
+Zk=r8(a+176);
+if(Zk==18446744073709551615u){
+Xk=0;
+Yk=0;}
 else{
-w8(a+176,Dk+1);
-Ek=r8(a+88);
-if(r8(a+112)>Ek)Fk=Ek;
+w8(a+176,Zk+1);
+al=r8(a+88);
+if(r8(a+112)>al)bl=al;
 else{
-Gk=make_ready_9a1(a+80);
-if(Gk==0){
-Bk=0;
-Ck=0;
-goto L80;}
-Fk=r8(a+88);}
-Hk=rp(a+80)+Fk*44;
-*Hk=6;
-Hk[1]=0;
-x2(Hk+2,0);
-memcpy(Hk+4,E,40);
-w8(a+88,Fk+1);
-Bk=3;
-Ck=1;}
-L80:*Y=Ck;
-Y[1]=Bk;
-Y[2]=Ck;
-Y[3]=0;
-goto L79;}}
+cl=make_ready_9a1(a+80);
+if(!(cl&1)){
+Xk=0;
+Yk=0;
+goto L84;}
+bl=r8(a+88);}
+dl=rp(a+80)+bl*44;
+*dl=6;
+dl[1]=0;
+x2(dl+2,0);
+memcpy(dl+4,F,40);
+w8(a+88,bl+1);
+Xk=3;
+Yk=1;}
+L84:*aa=Yk;
+aa[1]=Xk;
+aa[2]=Yk;
+aa[3]=0;
+goto L83;}}
+components_at_b1b(E,a,b,c);
+*aa=*E;
+aa[1]=E[1];
+aa[2]=E[2];
+aa[3]=E[3];
+L83:break;
+case 5:w4(D,0);
+el=r8(a+176);
+if(el<c){
+if(*(b+el)==69){
+nest_ended_003(D,a,b,c);
+*aa=*D;
+aa[1]=D[1];
+aa[2]=D[2];
+aa[3]=D[3];
+goto L85;}}
+if(!(a[136]&1)){
+fl=r4(a+120);
+gl=a[139];
+hl=r8(a+8);
+il=r8(a+48);
+if(r8(a+72)>il)jl=il;
+else{
+kl=make_ready_17a(a+40);
+if(!(kl&1)){
+w4(aa,0);
+goto L85;}
+jl=r8(a+48);}
+ll=rp(a+40)+jl*12;
+x4(ll,fl);
+x4(ll+4,hl);
+ll[8]=0;
+ll[9]=gl;
+x2(ll+10,0);
+w8(a+48,jl+1);}
 components_at_b1b(D,a,b,c);
-*Y=*D;
-Y[1]=D[1];
-Y[2]=D[2];
-Y[3]=D[3];
-L79:break;
-case 5:w4(C,0);
-Ik=r8(a+176);
-if(Ik<c){
-if(*(b+Ik)==69){
-nest_ended_003(C,a,b,c);
-*Y=*C;
-Y[1]=C[1];
-Y[2]=C[2];
-Y[3]=C[3];
-goto L81;}}
-if(!(a[136]&1)){
-Jk=r4(a+120);
-Kk=a[139];
-Lk=r8(a+8);
-Mk=r8(a+48);
-if(r8(a+72)>Mk)Nk=Mk;
-else{
-Ok=make_ready_17a(a+40);
-if(Ok==0){
-w4(Y,0);
-goto L81;}
-Nk=r8(a+48);}
-Pk=rp(a+40)+Nk*12;
-x4(Pk,Jk);
-x4(Pk+4,Lk);
-Pk[8]=0;
-Pk[9]=Kk;
-x2(Pk+10,0);
-w8(a+48,Nk+1);}
-components_at_b1b(C,a,b,c);
-*Y=*C;
-Y[1]=C[1];
-Y[2]=C[2];
-Y[3]=C[3];
-L81:break;
-case 6:components_at_b1b(Y,a,b,c);
+*aa=*D;
+aa[1]=D[1];
+aa[2]=D[2];
+aa[3]=D[3];
+L85:break;
+case 6:components_at_b1b(aa,a,b,c);
 break;
 default:NEVER;
 }
-Qk=Uh+1;
-if(*Y!=1||Qk==wa)goto L1;
-Uh=Qk;
-Vh=Y[3];
-Wh=Y[2];
-Xh=Y[1];
-goto L66;}}}
+ml=ii+1;
+if(*aa!=1||ml==hi)goto L1;
+ii=ml;
+ji=aa[3];
+ki=aa[2];
+li=aa[1];
+goto L68;}}}
 goto L1;
 default:NEVER;
 }
-w8(a+8,ub);
-L17:if(r8(a+48)!=0)w8(a+48,0);
+w8(a+8,Eb);
+L15:if(r8(a+48)!=0)w8(a+48,0);
 z16(a+64);
 if(r8(a+88)==0){
-Rk=1;
-goto L82;}
+nl=1;
+goto L86;}
 w8(a+88,0);
-Rk=1;
-goto L82;
-L1:if(r8(a+8)==0)goto L83;
+nl=1;
+goto L86;
+L1:if(r8(a+8)==0)goto L87;
 L14:w8(a+8,0);
-L83:z16(a+24);
+L87:z16(a+24);
 if(r8(a+48)!=0)w8(a+48,0);
 if(r8(a+88)!=0)w8(a+88,0);
 a[172]=0;
 z16(a+64);
-Rk=0;
-L82:z16(a+104);
-return Rk;
+nl=0;
+L86:z16(a+104);
+return nl;
 }
 
 /* cpp_direct::names::are_few_named */
@@ -48523,7 +48677,7 @@ if(c[4]==78){
 g=r8(b+8);
 if(r8(b+32)-g<19){
 h=make_ready_8e3(b,19,128);
-if(h==0)goto L1;
+if(!(h&1))goto L1;
 i=r8(b+8);}
 else i=g;
 j=r8(b+16);
@@ -48597,13 +48751,14 @@ L2:return;
 /* cpp_direct::direct::Direct::nest_at */
 static void nest_at_dce(u8* a,u8* b,u8* c,u64 d,u8* e)
 {
-A16 u8 f[44],g[24],h[40],i[40],j[40],k[40],l[16],m[24];
-u64 n,s,u,z,A,C,D,E,H,K,M,N,O,P,Q,R,U,aa,ca,da,fa,ga,ha,la,oa,sa,ta,wa,xa,za,Aa,Ba,Ea,Fa,Ia,Ja,La,Ma,Na,Ta,Wa,Xa,Za,ab,bb,eb,gb,ib,jb,kb,rb,sb,tb,xb,yb,Ab,Bb,Cb,Eb,Fb,Gb,Jb,Lb,Nb,Ob,Pb,Qb,Rb,Sb,Vb,Xb,Zb,bc,cc,ec,gc,hc,jc,lc,mc,oc,tc,vc,wc,yc,zc,Ac;
-u8 o,p,r,v,w,x,y,B,I,L,S,V,ba,ea,ma,na,qa,ua,ya,Ca,Ga,Ka,Oa,Qa,Ra,Sa,Va,Ya,hb,lb,pb,vb,wb,zb,Db,Hb,Mb,Tb,Wb,Yb,ac,dc,fc,ic,kc,nc,uc,xc;
+u8 f[34];
+A16 u8 g[24],h[40],i[40],j[40],k[40],l[16],m[24];
+u64 n,s,u,w,A,C,D,E,H,K,M,N,O,P,Q,R,U,aa,ca,da,fa,ga,ha,la,oa,sa,ta,wa,xa,za,Aa,Ba,Ea,Fa,Ia,Ja,La,Ma,Na,Ta,Wa,Xa,Za,ab,bb,eb,gb,ib,jb,kb,rb,sb,tb,vb,wb,xb,Ab,Cb,Eb,Fb,Gb,Hb,Ib,Jb,Mb,Ob,Qb,Sb,Tb,Vb,Xb,Yb,ac,cc,dc,fc,kc,mc,nc,pc,qc,rc;
+u8 o,p,r,v,x,y,z,B,I,L,S,V,ba,ea,ma,na,qa,ua,ya,Ca,Ga,Ka,Oa,Qa,Ra,Sa,Va,Ya,hb,lb,pb,qb,ub,yb,Db,Kb,Nb,Pb,Rb,Ub,Wb,Zb,bc,ec,lc,oc;
 u16 q;
-u32 t,J,ka,pa,ra,nb,ob,Kb;
-u8 *F,*G,*T,*Z,*ia,*ja,*va,*Da,*Ha,*Pa,*Ua,*cb,*db,*fb,*mb,*qb,*ub,*Ib,*Ub,*sc,*Bc,*Cc;
-s_p_64 W,X,Y,pc,qc,rc;
+u32 t,J,ka,pa,ra,nb,ob,Bb;
+u8 *F,*G,*T,*Z,*ia,*ja,*va,*Da,*Ha,*Pa,*Ua,*cb,*db,*fb,*mb,*zb,*Lb,*jc,*sc,*tc;
+s_p_64 W,X,Y,gc,hc,ic;
 n=r8(b+176);
 if(n<d){
 o=*e;
@@ -48621,26 +48776,26 @@ switch(*(c+u)){
 case 116:w8(b+176,n+2);
 if(r8(b+32)-s<5){
 v=make_ready_8e3(b,5,128);
-if(v==0){
-w=0;
+if(!(v&1)){
 x=0;
 y=0;
+z=0;
 goto L1;}
-z=r8(b+8);}
-else z=s;
+w=r8(b+8);}
+else w=s;
 A=r8(b+16);
-if(A-z<5){
+if(A-w<5){
 B=grow_amortized_e1a(b,5);
 if(!B){
-w=0;
 x=0;
 y=0;
+z=0;
 goto L1;}
 C=r8(b+16);
 D=r8(b+8);}
 else{
 C=A;
-D=z;}
+D=w;}
 E=D+5;
 F=rp(b);
 z16(b+8);
@@ -48668,9 +48823,9 @@ if(*g==1){
 N=r8(g+8);
 O=r8(g+16);
 goto L2;}
-w=0;
 x=0;
 y=0;
+z=0;
 goto L1;}}
 P=(u64)L+(u8)((u8)(I*10)+32);
 if(d-M<P)goto L3;
@@ -48701,10 +48856,10 @@ L5:Z=W.f0;
 aa=W.f1;
 if(r8(b+32)-E<aa){
 ba=make_ready_8e3(b,aa,128);
-if(ba==0){
-w=0;
+if(!(ba&1)){
 x=0;
 y=0;
+z=0;
 goto L1;}
 ca=r8(b+8);
 da=r8(b+16);}
@@ -48714,9 +48869,9 @@ da=C;}
 if(aa>da-ca){
 ea=grow_amortized_e1a(b,aa);
 if(!ea){
-w=0;
 x=0;
 y=0;
+z=0;
 goto L1;}
 fa=r8(b+16);
 ga=r8(b+8);}
@@ -48745,26 +48900,26 @@ b[138]=0;
 b[139]=0;
 la=r8(b+176);
 if(la>=d){
-w=0;
-x=5;
-y=1;
+x=0;
+y=5;
+z=1;
 goto L1;}
 ma=*(c+la);
 if(ma!=66){
 z20(h+20);
 if(ma!=73){
-w=0;
-x=5;
-y=1;
+x=0;
+y=5;
+z=1;
 goto L1;}
 Ea=r8(b+48);
 if(r8(b+72)>Ea)Fa=Ea;
 else{
 Ga=make_ready_17a(b+40);
-if(Ga==0){
-w=0;
+if(!(Ga&1)){
 x=0;
 y=0;
+z=0;
 goto L1;}
 Fa=r8(b+48);}
 Ha=rp(b+40)+Fa*12;
@@ -48779,29 +48934,29 @@ Ia=r8(b+8);
 if(r8(b+32)>Ia)Ja=Ia;
 else{
 Ka=make_ready_8e3(b,1,16);
-if(Ka==0){
-w=0;
+if(!(Ka&1)){
 x=0;
 y=0;
+z=0;
 goto L1;}
 Ja=r8(b+8);}
 *(rp(b)+Ja)=60;
 w8(b+8,Ja+1);
 La=r8(b+176);
 if(La==18446744073709551615u){
-w=0;
 x=0;
 y=0;
+z=0;
 goto L1;}
 w8(b+176,La+1);
 Ma=r8(b+88);
 if(r8(b+112)>Ma)Na=Ma;
 else{
 Oa=make_ready_9a1(b+80);
-if(Oa==0){
-w=0;
+if(!(Oa&1)){
 x=0;
 y=0;
+z=0;
 goto L1;}
 Na=r8(b+88);}
 Pa=rp(b+80)+Na*44;
@@ -48810,27 +48965,27 @@ Pa[1]=0;
 x2(Pa+2,0);
 memcpy(Pa+4,h,40);
 w8(b+88,Na+1);
-w=1;
-x=3;
-y=1;
+x=1;
+y=3;
+z=1;
 goto L1;}
 na=tag_9a7(b,c,d);
-if(na==0){
-w=0;
+if(!(na&1)){
 x=0;
 y=0;
+z=0;
 goto L1;}
 z20(i+20);
 oa=r8(b+176);
 if(oa>=d){
-w=0;
-x=5;
-y=1;
+x=0;
+y=5;
+z=1;
 goto L1;}
 if(*(c+oa)!=73){
-w=0;
-x=5;
-y=1;
+x=0;
+y=5;
+z=1;
 goto L1;}
 pa=r4(b+120);
 qa=b[139];
@@ -48839,10 +48994,10 @@ sa=r8(b+48);
 if(r8(b+72)>sa)ta=sa;
 else{
 ua=make_ready_17a(b+40);
-if(ua==0){
-w=0;
+if(!(ua&1)){
 x=0;
 y=0;
+z=0;
 goto L1;}
 ta=r8(b+48);}
 va=rp(b+40)+ta*12;
@@ -48857,29 +49012,29 @@ wa=r8(b+8);
 if(r8(b+32)>wa)xa=wa;
 else{
 ya=make_ready_8e3(b,1,16);
-if(ya==0){
-w=0;
+if(!(ya&1)){
 x=0;
 y=0;
+z=0;
 goto L1;}
 xa=r8(b+8);}
 *(rp(b)+xa)=60;
 w8(b+8,xa+1);
 za=r8(b+176);
 if(za==18446744073709551615u){
-w=0;
 x=0;
 y=0;
+z=0;
 goto L1;}
 w8(b+176,za+1);
 Aa=r8(b+88);
 if(r8(b+112)>Aa)Ba=Aa;
 else{
 Ca=make_ready_9a1(b+80);
-if(Ca==0){
-w=0;
+if(!(Ca&1)){
 x=0;
 y=0;
+z=0;
 goto L1;}
 Ba=r8(b+88);}
 Da=rp(b+80)+Ba*44;
@@ -48888,16 +49043,16 @@ Da[1]=0;
 x2(Da+2,0);
 memcpy(Da+4,i,40);
 w8(b+88,Ba+1);
-w=1;
-x=3;
-y=1;
+x=1;
+y=3;
+z=1;
 goto L1;}}
-L3:w=0;
-x=0;
+L3:x=0;
 y=0;
-L1:Qa=w;
-Ra=x;
-Sa=y;
+z=0;
+L1:Qa=x;
+Ra=y;
+Sa=z;
 goto L6;
 case 97:Ta=14;
 Ua=(u8*)t_5ec9;
@@ -48922,7 +49077,7 @@ default:goto L7;
 w8(b+176,n+2);
 if(r8(b+32)-s<Ta){
 Va=make_ready_8e3(b,Ta,128);
-if(Va==0){
+if(!(Va&1)){
 Qa=0;
 Ra=0;
 Sa=0;
@@ -48989,7 +49144,7 @@ fb=cb;
 gb=bb;}
 else{
 hb=make_ready_8e3(b,1,16);
-if(hb==0){
+if(!(hb&1)){
 Qa=0;
 Ra=0;
 Sa=0;
@@ -49009,7 +49164,7 @@ jb=r8(b+88);
 if(r8(b+112)>jb)kb=jb;
 else{
 lb=make_ready_9a1(b+80);
-if(lb==0){
+if(!(lb&1)){
 Qa=0;
 Ra=0;
 Sa=0;
@@ -49036,56 +49191,20 @@ nb=r4(l+4);
 ob=r4(l+8);
 pb=l[13];
 if(pb&1){
+z34(f);
 if(o!=0){
 Qa=0;
 Ra=0;
 Sa=0;
 goto L6;}
-qb=rp(b+80);
-rb=16;
-sb=r8(b+88);
-L8:if(sb!=0){
-tb=sb-1;
-ub=qb+(i64)(tb*44);
-vb=*ub;
-wb=ub[16];
-switch(vb){
-case 0:case 1:case 2:case 3:case 4:case 8:break;
-case 5:if(wb!=0)goto L9;
-break;
-case 6:if(wb!=0)goto L9;
-break;
-case 7:case 9:case 10:case 11:case 12:case 13:case 14:case 15:case 16:case 17:case 18:case 19:case 20:case 21:case 22:case 23:case 24:case 25:memcpy(f+4,ub+4,40);
-switch(vb){
-case 9:case 10:case 15:case 16:xb=4;
-break;
-case 11:case 13:xb=8;
-break;
-case 25:case 24:case 23:case 22:case 21:case 20:case 19:case 7:case 8:case 12:case 14:case 17:case 18:goto L9;
-default:NEVER;
-}
-if(r2(f+4+xb)!=0)goto L10;
+argument_dbb(f,b);
+if(!(*f==1&&r2(f+2)!=0)){
 Qa=0;
 Ra=0;
 Sa=0;
-goto L6;
-default:NEVER;
-}
-yb=rb-1;
-if(yb!=0){
-rb=yb;
-sb=tb;
-goto L8;}}
-L9:Qa=0;
-Ra=0;
-Sa=0;
-goto L6;}
-L10:zb=repeat_28b(b,nb,ob);
-if(zb==0){
-Qa=0;
-Ra=0;
-Sa=0;}
-else{
+goto L6;}}
+qb=repeat_28b(b,nb,ob);
+if(qb&1){
 x4(b+120,t);
 x4(b+124,t);
 x4(b+128,t);
@@ -49098,45 +49217,45 @@ b[138]=0;
 b[139]=pb&1;
 z20(k+20);
 if(o==0){
-Ab=r8(b+176);
-if(Ab<d){
-if(*(c+Ab)==73){
+rb=r8(b+176);
+if(rb<d){
+if(*(c+rb)==73){
 memcpy(k,b+120,20);
-Bb=r8(b+8);
-if(r8(b+32)>Bb)Cb=Bb;
+sb=r8(b+8);
+if(r8(b+32)>sb)tb=sb;
 else{
-Db=make_ready_8e3(b,1,16);
-if(Db==0){
+ub=make_ready_8e3(b,1,16);
+if(!(ub&1)){
 Qa=0;
 Ra=0;
 Sa=0;
 goto L6;}
-Cb=r8(b+8);}
-*(rp(b)+Cb)=60;
-w8(b+8,Cb+1);
-Eb=r8(b+176);
-if(Eb==18446744073709551615u){
+tb=r8(b+8);}
+*(rp(b)+tb)=60;
+w8(b+8,tb+1);
+vb=r8(b+176);
+if(vb==18446744073709551615u){
 Qa=0;
 Ra=0;
 Sa=0;}
 else{
-w8(b+176,Eb+1);
-Fb=r8(b+88);
-if(r8(b+112)>Fb)Gb=Fb;
+w8(b+176,vb+1);
+wb=r8(b+88);
+if(r8(b+112)>wb)xb=wb;
 else{
-Hb=make_ready_9a1(b+80);
-if(Hb==0){
+yb=make_ready_9a1(b+80);
+if(!(yb&1)){
 Qa=0;
 Ra=0;
 Sa=0;
 goto L6;}
-Gb=r8(b+88);}
-Ib=rp(b+80)+Gb*44;
-*Ib=5;
-Ib[1]=0;
-x2(Ib+2,0);
-memcpy(Ib+4,k,40);
-w8(b+88,Gb+1);
+xb=r8(b+88);}
+zb=rp(b+80)+xb*44;
+*zb=5;
+zb[1]=0;
+x2(zb+2,0);
+memcpy(zb+4,k,40);
+w8(b+88,xb+1);
 Qa=1;
 Ra=3;
 Sa=1;}}
@@ -49151,7 +49270,11 @@ Sa=1;}}
 else{
 Qa=0;
 Ra=4;
-Sa=1;}}}}
+Sa=1;}}
+else{
+Qa=0;
+Ra=0;
+Sa=0;}}}
 else{
 Qa=0;
 Ra=0;
@@ -49160,110 +49283,110 @@ L6:*a=Sa;
 a[1]=Ra;
 a[2]=Qa;
 a[3]=0;
-goto L11;}
-Jb=r8(b+8);
+goto L8;}
+Ab=r8(b+8);
 z24(m);
 if((u8)(r-58)>=247){
-Kb=Jb;
-Lb=n+1;
-if(Lb<d){
-Mb=*(c+Lb)-48;
-if(Mb<10){
-Nb=n+2;
-if(Nb<d){
-if((u8)(*(c+Nb)-48)<10){
+Bb=Ab;
+Cb=n+1;
+if(Cb<d){
+Db=*(c+Cb)-48;
+if(Db<10){
+Eb=n+2;
+if(Eb<d){
+if((u8)(*(c+Eb)-48)<10){
 long_name_at_8ad(m,c,d,n);
-if(*m!=1)goto L12;
-Ob=r8(m+16);
-Pb=r8(m+8);
-goto L13;}}
-Qb=(u64)Mb+(u8)((u8)(r*10)+32);
-if(d-Nb<Qb)goto L14;
-if((u8)(*(c+(i64)Nb)-48)<10)goto L14;
-Rb=Nb;
-Sb=Qb+Nb;
-goto L15;}}
-Tb=r-48;
-if(d-Lb<Tb)goto L14;
-if((u8)(*(c+(i64)Lb)-48)<10)goto L14;
-Rb=Lb;
-Sb=Lb+Tb;
-L15:Ob=Sb;
-Pb=Rb;
-L13:w8(b+176,Ob);
-Ub=c+(i64)Pb;
-Vb=Ob-Pb;
-if(Ob!=Pb){
-if(Vb<10||*Ub!=95)goto L16;
+if(*m!=1)goto L9;
+Fb=r8(m+16);
+Gb=r8(m+8);
+goto L10;}}
+Hb=(u64)Db+(u8)((u8)(r*10)+32);
+if(d-Eb<Hb)goto L11;
+if((u8)(*(c+(i64)Eb)-48)<10)goto L11;
+Ib=Eb;
+Jb=Hb+Eb;
+goto L12;}}
+Kb=r-48;
+if(d-Cb<Kb)goto L11;
+if((u8)(*(c+(i64)Cb)-48)<10)goto L11;
+Ib=Cb;
+Jb=Cb+Kb;
+L12:Fb=Jb;
+Gb=Ib;
+L10:w8(b+176,Fb);
+Lb=c+(i64)Gb;
+Mb=Fb-Gb;
+if(Fb!=Gb){
+if(Mb<10||*Lb!=95)goto L13;
+Nb=0;
+Ob=0;
+L14:Pb=Nb||*((u8*)t_35ad+(i64)Ob)!=*(Lb+(i64)Ob);
+Qb=Ob+1;
+if(Qb!=8){
+Nb=Pb;
+Ob=Qb;
+goto L14;}
+Rb=0;
+Sb=0;
+L15:Tb=Sb+2;
+Ub=Rb||*((u8*)t_35ad+(i64)Tb)!=*(Lb+(i64)Tb);
+Vb=Sb+1;
+if(Vb!=8){
+Rb=Ub;
+Sb=Vb;
+goto L15;}
 Wb=0;
 Xb=0;
-L17:Yb=Wb||*((u8*)t_35ad+(i64)Xb)!=*(Ub+(i64)Xb);
-Zb=Xb+1;
-if(Zb!=8){
-Wb=Yb;
-Xb=Zb;
-goto L17;}
-ac=0;
+L16:Yb=Xb+2;
+Zb=Wb||*((u8*)t_35ad+(i64)Yb)!=*(Lb+(i64)Yb);
+ac=Xb+1;
+if(ac!=8){
+Wb=Zb;
+Xb=ac;
+goto L16;}
 bc=0;
-L18:cc=bc+2;
-dc=ac||*((u8*)t_35ad+(i64)cc)!=*(Ub+(i64)cc);
-ec=bc+1;
-if(ec!=8){
-ac=dc;
+cc=0;
+L17:dc=cc+2;
+ec=bc||*((u8*)t_35ad+(i64)dc)!=*(Lb+(i64)dc);
+fc=cc+1;
+if(fc!=8){
 bc=ec;
-goto L18;}
-fc=0;
-gc=0;
-L19:hc=gc+2;
-ic=fc||*((u8*)t_35ad+(i64)hc)!=*(Ub+(i64)hc);
-jc=gc+1;
-if(jc!=8){
-fc=ic;
-gc=jc;
-goto L19;}
-kc=0;
-lc=0;
-L20:mc=lc+2;
-nc=kc||*((u8*)t_35ad+(i64)mc)!=*(Ub+(i64)mc);
-oc=lc+1;
-if(oc!=8){
-kc=nc;
-lc=oc;
-goto L20;}
-if(!(((Yb|dc)|ic)|nc)){
-pc=(s_p_64){(u8*)t_62ff,21};
-goto L21;}}
-L16:qc=(s_p_64){0};qc.f0=Ub;
-rc=qc;rc.f1=Vb;
-pc=rc;
-L21:sc=pc.f0;
-tc=pc.f1;
-if(r8(b+32)-Jb<tc){
-uc=make_ready_8e3(b,tc,128);
-if(uc==0)goto L12;
-vc=r8(b+8);}
-else vc=Jb;
-wc=r8(b+16);
-if(tc>wc-vc){
-xc=grow_amortized_e1a(b,tc);
-if(!xc)goto L12;
-yc=r8(b+16);
-zc=r8(b+8);}
+cc=fc;
+goto L17;}
+if(!(((Pb|Ub)|Zb)|ec)){
+gc=(s_p_64){(u8*)t_62ff,21};
+goto L18;}}
+L13:hc=(s_p_64){0};hc.f0=Lb;
+ic=hc;ic.f1=Mb;
+gc=ic;
+L18:jc=gc.f0;
+kc=gc.f1;
+if(r8(b+32)-Ab<kc){
+lc=make_ready_8e3(b,kc,128);
+if(!(lc&1))goto L9;
+mc=r8(b+8);}
+else mc=Ab;
+nc=r8(b+16);
+if(kc>nc-mc){
+oc=grow_amortized_e1a(b,kc);
+if(!oc)goto L9;
+pc=r8(b+16);
+qc=r8(b+8);}
 else{
-yc=wc;
-zc=vc;}
-Ac=zc+tc;
-Bc=rp(b);
+pc=nc;
+qc=mc;}
+rc=qc+kc;
+sc=rp(b);
 z16(b+8);
-Cc=Bc+(i64)zc;
-if((u64)Cc-(u64)sc<tc)copy_bits_4f4(sc,Cc,tc);
-else memmove(Cc,sc,tc);
-wp(b,Bc);
-w8(b+8,Ac);
-w8(b+16,yc);
-w4(b+120,Kb);
-w4(b+124,Kb);
-w4(b+128,Ac);
+tc=sc+(i64)qc;
+if((u64)tc-(u64)jc<kc)copy_bits_4f4(jc,tc,kc);
+else memmove(tc,jc,kc);
+wp(b,sc);
+w8(b+8,rc);
+w8(b+16,pc);
+w4(b+120,Bb);
+w4(b+124,Bb);
+w4(b+128,rc);
 b[132]=o;
 b[133]=p;
 w2(b+134,q);
@@ -49275,9 +49398,9 @@ b[139]=0;
 a[1]=4;
 a[2]=0;
 a[3]=0;
-goto L11;}}
-L14:L12:x4(a,0);
-L11:return;
+goto L8;}}
+L11:L9:x4(a,0);
+L8:return;
 }
 
 /* cpp_direct::direct::Direct::tag */
@@ -49329,7 +49452,7 @@ goto L1;
 L2:r=r8(a+8);
 if(r8(a+32)-r<5){
 s=make_ready_8e3(a,5,128);
-if(s==0){
+if(!(s&1)){
 f=0;
 goto L1;}
 t=r8(a+8);}
@@ -49358,7 +49481,7 @@ B=b+(i64)m;
 C=l-m;
 if(r8(a+32)-y<C){
 D=make_ready_8e3(a,C,128);
-if(D==0){
+if(!(D&1)){
 f=0;
 goto L1;}
 E=r8(a+8);
@@ -49390,7 +49513,7 @@ M=K;
 N=J;}
 else{
 O=make_ready_8e3(a,1,16);
-if(O==0){
+if(!(O&1)){
 f=0;
 goto L1;}
 M=rp(a);
@@ -49688,30 +49811,85 @@ L1:z16(a);}
 L5:return;
 }
 
+/* cpp_direct::direct::Direct::argument */
+static void argument_dbb(u8* a,u8* b)
+{
+u8 c[32],d[32];
+A16 u8 e[44];
+u8 *f,*j;
+u64 g,h,i,m,o;
+u8 k,l;
+u16 n;
+f=rp(b+80);
+g=16;
+h=r8(b+88);
+L1:if(h==0)z34(a);
+else{
+i=h-1;
+j=f+(i64)(i*44);
+k=*j;
+l=j[16];
+switch(k){
+case 0:case 1:case 2:case 3:case 4:case 8:goto L2;
+case 5:if(l==0)goto L2;
+break;
+case 6:if(l==0)goto L2;
+break;
+case 7:case 9:case 10:case 11:case 12:case 13:case 14:case 15:case 16:case 17:case 18:case 19:case 20:case 21:case 22:case 23:case 24:case 25:case 26:case 27:case 28:case 29:memcpy(e+4,j+4,40);
+z32(c);
+switch(k){
+case 9:case 10:case 15:case 16:m=4;
+break;
+case 11:case 13:m=8;
+break;
+case 29:case 28:case 27:case 26:case 25:case 24:case 23:case 7:case 8:case 12:case 14:case 17:case 18:case 19:case 20:case 21:case 22:n=0;
+goto L3;
+default:NEVER;
+}
+memcpy(c,e+4+m,32);
+n=1;
+goto L3;
+default:NEVER;
+}
+z32(c);
+n=0;
+L3:memcpy(d,c,32);
+x2(a,n);
+memcpy(a+2,d,32);
+goto L4;
+L2:o=g-1;
+if(o!=0){
+g=o;
+h=i;
+goto L1;}
+z34(a);}
+L4:return;
+}
+
 /* sym_direct::bounded::Bounded+u8::repeat */
 static u8 repeat_28b(u8* a,u64 b,u64 c)
 {
-u64 d,e,h,i,j,l,m,n,o;
-u8 f,g,k;
+u64 d,e,g,i,j,l,m,n,o;
+u8 f,h,k;
 u8 *p,*q,*r,*s;
 d=c-b;
 e=r8(a+8);
 if(r8(a+32)-e<d){
 f=make_ready_8e3(a,d,128);
-if(f==0){
-g=0;
+if(!(f&1)){
+h=0;
 goto L1;}
-h=r8(a+8);}
-else h=e;
-if(h>(d^18446744073709551615u))g=0;
+g=r8(a+8);}
+else g=e;
+if(g>(d^18446744073709551615u))h=0;
 else{
-i=h+d;
-if(i>h){
+i=g+d;
+if(i>g){
 j=r8(a+16);
-if(d>j-h){
+if(d>j-g){
 k=grow_amortized_e1a(a,d);
 if(!k){
-g=0;
+h=0;
 goto L1;}
 l=r8(a+8);
 m=l+d;
@@ -49720,24 +49898,24 @@ o=l;}
 else{
 m=i;
 n=j;
-o=h;}
+o=g;}
 p=rp(a);
 if(o<m)memset(p+(i64)o,0,d);
 wp(a,p);
 w8(a+8,m);
 w8(a+16,n);}
 else {
-if(h>i)w8(a+8,i);}
+if(g>i)w8(a+8,i);}
 q=rp(a);
-r=q+(i64)h;
+r=q+(i64)g;
 s=q+(i64)b;
-if(h-b<d){
+if(g-b<d){
 copy_bits_4f4(s,r,d);
-g=1;}
+h=1;}
 else{
 memmove(r,s,d);
-g=1;}}
-L1:return g;
+h=1;}}
+L1:return h;
 }
 
 /* cpp_direct::direct::Direct::begin_clone */
@@ -49762,7 +49940,7 @@ default:goto L1;
 h=r8(b+8);
 if(r8(b+32)-h<g){
 i=make_ready_8e3(b,g,128);
-if(i==0)goto L2;
+if(!(i&1))goto L2;
 j=r8(b+8);}
 else j=h;
 k=r8(b+16);
@@ -49894,7 +50072,7 @@ j=h;
 w8(b+176,g+2);
 if(r8(b+32)-h<5){
 k=make_ready_8e3(b,5,128);
-if(k==0)goto L1;
+if(!(k&1))goto L1;
 l=r8(b+8);}
 else l=h;
 m=r8(b+16);
@@ -49972,9 +50150,9 @@ L7:L=I.f0;
 M=I.f1;
 if(r8(b+32)-q<M){
 N=make_ready_8e3(b,M,128);
-if(N==0)goto L3;}
+if(!(N&1))goto L3;}
 O=push_str_b7e(b,L,M);
-if(O!=0)goto L3;
+if(O&1)goto L3;
 unscoped_named_e54(f,b,c,d,j,1);
 *a=*f;
 a[1]=f[1];
@@ -50023,7 +50201,7 @@ w8(a+176,d+2);
 o=r8(a+8);
 if(r8(a+32)-o<m){
 p=make_ready_8e3(a,m,128);
-if(p==0){
+if(!(p&1)){
 f=0;
 g=0;
 goto L1;}
@@ -50077,7 +50255,7 @@ if(k<d){
 l=*(c+k);
 if(l==66){
 m=tag_9a7(b,c,d);
-if(m==0){
+if(!(m&1)){
 x4(a,0);
 goto L1;}
 n=r8(b+176);
@@ -50094,7 +50272,7 @@ p=r8(b+48);
 if(r8(b+72)>p)q=p;
 else{
 r=make_ready_17a(b+40);
-if(r==0){
+if(!(r&1)){
 s=0;
 t=0;
 u=0;
@@ -50112,7 +50290,7 @@ x=r8(b+8);
 if(r8(b+32)>x)y=x;
 else{
 z=make_ready_8e3(b,1,16);
-if(z==0){
+if(!(z&1)){
 s=0;
 t=0;
 u=0;
@@ -50133,7 +50311,7 @@ B=r8(b+88);
 if(r8(b+112)>B)C=B;
 else{
 D=make_ready_9a1(b+80);
-if(D==0){
+if(!(D&1)){
 s=0;
 t=0;
 u=0;
@@ -50175,7 +50353,7 @@ G=r8(b+48);
 if(r8(b+72)>G)H=G;
 else{
 I=make_ready_17a(b+40);
-if(I==0){
+if(!(I&1)){
 J=0;
 K=0;
 L=0;
@@ -50193,7 +50371,7 @@ O=r8(b+8);
 if(r8(b+32)>O)P=O;
 else{
 Q=make_ready_8e3(b,1,16);
-if(Q==0){
+if(!(Q&1)){
 J=0;
 K=0;
 L=0;
@@ -50214,7 +50392,7 @@ S=r8(b+88);
 if(r8(b+112)>S)T=S;
 else{
 U=make_ready_9a1(b+80);
-if(U==0){
+if(!(U&1)){
 J=0;
 K=0;
 L=0;
@@ -50316,7 +50494,7 @@ y=r8(b+8);
 if(r8(b+32)>y)z=y;
 else{
 A=make_ready_8e3(b,1,16);
-if(A==0){
+if(!(A&1)){
 B=0;
 C=0;
 D=0;
@@ -50349,7 +50527,7 @@ I=r8(b+88);
 if(r8(b+112)>I)J=I;
 else{
 K=make_ready_9a1(b+80);
-if(K==0){
+if(!(K&1)){
 B=0;
 C=0;
 D=0;
@@ -50397,350 +50575,1149 @@ L1:return;
 /* cpp_direct::direct::Direct::end */
 static void end_05d(u8* a,u8* b,u8* c,u64 d,u8 e)
 {
-A16 u8 f[24],g[4],h[4];
-u64 i,k,l,n,o,p,s,u,v,x,y,z,C,E,F,H,I,J,M,O,P,R,S,T,W,Y,Z,ba,ca,da,ha,ia,ja,pa,qa,ra,ta,va,wa,xa,ya,za,Aa,Da,Ja,La,Ma,Oa,Pa,Qa,Ta,Ua,Wa,Xa,Ya,Za,ab,bb;
-u8 j,m,t,w,D,G,N,Q,X,aa,ga,ka,la,ma,na,oa,sa,ua,Ba,Ea,Ka,Na,Va,cb,db,eb,fb;
-u8 *q,*r,*A,*B,*K,*L,*U,*V,*ea,*fa,*Ca,*Ia,*Ra,*Sa;
-s_p_64 Fa,Ga,Ha;
+A16 u8 f[4],g[4];
+u64 h,j,k,m,n,o,r,t,u,w,x,y,B,D,E,G,H,I,L,N,O,Q,R,S,V,X,Y,aa,ba,ca,ga,ha;
+u8 i,l,s,v,C,F,M,P,W,Z,fa,ia,ja,ka,la,ma,na,oa,pa;
+u8 *p,*q,*z,*A,*J,*K,*T,*U,*da,*ea;
 switch(e){
 case 0:goto L1;
-case 1:i=r8(b+8);
-if(r8(b+32)-i<6){
-j=make_ready_8e3(b,6,128);
-if(j==0)break;
-k=r8(b+8);}
-else k=i;
-l=r8(b+16);
-if(l-k<6){
-m=grow_amortized_e1a(b,6);
-if(!m)break;
-n=r8(b+16);
-o=r8(b+8);}
+case 1:h=r8(b+8);
+if(r8(b+32)-h<6){
+i=make_ready_8e3(b,6,128);
+if(!(i&1))break;
+j=r8(b+8);}
+else j=h;
+k=r8(b+16);
+if(k-j<6){
+l=grow_amortized_e1a(b,6);
+if(!l)break;
+m=r8(b+16);
+n=r8(b+8);}
 else{
-n=l;
-o=k;}
-p=o+6;
-q=rp(b);
+m=k;
+n=j;}
+o=n+6;
+p=rp(b);
 z16(b+8);
-r=q+(i64)o;
-if((u64)r-(u64)(u8*)t_f603<6)copy_bits_4f4((u8*)t_f603,r,6);
-else memcpy(r,(u8*)t_f603,6);
-wp(b,q);
-w8(b+8,p);
-w8(b+16,n);
+q=p+(i64)n;
+if((u64)q-(u64)(u8*)t_f603<6)copy_bits_4f4((u8*)t_f603,q,6);
+else memcpy(q,(u8*)t_f603,6);
+wp(b,p);
+w8(b+8,o);
+w8(b+16,m);
 goto L1;
-case 2:s=r8(b+8);
-if(r8(b+32)-s<2){
-t=make_ready_8e3(b,2,128);
-if(t==0)break;
-u=r8(b+8);}
-else u=s;
-v=r8(b+16);
-if(v-u<2){
-w=grow_amortized_e1a(b,2);
-if(!w)break;
-x=r8(b+16);
-y=r8(b+8);}
+case 2:r=r8(b+8);
+if(r8(b+32)-r<2){
+s=make_ready_8e3(b,2,128);
+if(!(s&1))break;
+t=r8(b+8);}
+else t=r;
+u=r8(b+16);
+if(u-t<2){
+v=grow_amortized_e1a(b,2);
+if(!v)break;
+w=r8(b+16);
+x=r8(b+8);}
 else{
-x=v;
-y=u;}
-z=y+2;
-A=rp(b);
+w=u;
+x=t;}
+y=x+2;
+z=rp(b);
 z16(b+8);
-B=A+(i64)y;
-if((u64)B-(u64)(u8*)t_8519<2)copy_bits_4f4((u8*)t_8519,B,2);
-else x2(B,9760);
-wp(b,A);
-w8(b+8,z);
-w8(b+16,x);
+A=z+(i64)x;
+if((u64)A-(u64)(u8*)t_8519<2)copy_bits_4f4((u8*)t_8519,A,2);
+else x2(A,9760);
+wp(b,z);
+w8(b+8,y);
+w8(b+16,w);
 goto L1;
-case 3:C=r8(b+8);
-if(r8(b+32)-C<8){
-D=make_ready_8e3(b,8,128);
-if(D==0)break;
-E=r8(b+8);}
-else E=C;
-F=r8(b+16);
-if(F-E<8){
-G=grow_amortized_e1a(b,8);
-if(!G)break;
-H=r8(b+16);
-I=r8(b+8);}
+case 3:B=r8(b+8);
+if(r8(b+32)-B<8){
+C=make_ready_8e3(b,8,128);
+if(!(C&1))break;
+D=r8(b+8);}
+else D=B;
+E=r8(b+16);
+if(E-D<8){
+F=grow_amortized_e1a(b,8);
+if(!F)break;
+G=r8(b+16);
+H=r8(b+8);}
 else{
-H=F;
-I=E;}
-J=I+8;
-K=rp(b);
+G=E;
+H=D;}
+I=H+8;
+J=rp(b);
 z16(b+8);
-L=K+(i64)I;
-if((u64)L-(u64)(u8*)t_5ca3<8)copy_bits_4f4((u8*)t_5ca3,L,8);
-else x8(L,0x262074736e6f6320u);
-wp(b,K);
-w8(b+8,J);
-w8(b+16,H);
+K=J+(i64)H;
+if((u64)K-(u64)(u8*)t_5ca3<8)copy_bits_4f4((u8*)t_5ca3,K,8);
+else x8(K,0x262074736e6f6320u);
+wp(b,J);
+w8(b+8,I);
+w8(b+16,G);
 goto L1;
-case 4:M=r8(b+8);
-if(r8(b+32)-M<3){
-N=make_ready_8e3(b,3,128);
-if(N==0)break;
-O=r8(b+8);}
-else O=M;
-P=r8(b+16);
-if(P-O<3){
-Q=grow_amortized_e1a(b,3);
-if(!Q)break;
-R=r8(b+16);
-S=r8(b+8);}
+case 4:L=r8(b+8);
+if(r8(b+32)-L<3){
+M=make_ready_8e3(b,3,128);
+if(!(M&1))break;
+N=r8(b+8);}
+else N=L;
+O=r8(b+16);
+if(O-N<3){
+P=grow_amortized_e1a(b,3);
+if(!P)break;
+Q=r8(b+16);
+R=r8(b+8);}
 else{
-R=P;
-S=O;}
-T=S+3;
-U=rp(b);
+Q=O;
+R=N;}
+S=R+3;
+T=rp(b);
 z16(b+8);
-V=U+(i64)S;
-if((u64)V-(u64)(u8*)t_617d<3)copy_bits_4f4((u8*)t_617d,V,3);
-else memcpy(V,(u8*)t_617d,3);
-wp(b,U);
-w8(b+8,T);
-w8(b+16,R);
+U=T+(i64)R;
+if((u64)U-(u64)(u8*)t_617d<3)copy_bits_4f4((u8*)t_617d,U,3);
+else memcpy(U,(u8*)t_617d,3);
+wp(b,T);
+w8(b+8,S);
+w8(b+16,Q);
 goto L1;
-case 5:W=r8(b+8);
-if(r8(b+32)-W<9){
-X=make_ready_8e3(b,9,128);
-if(X==0)break;
-Y=r8(b+8);}
-else Y=W;
-Z=r8(b+16);
-if(Z-Y<9){
-aa=grow_amortized_e1a(b,9);
-if(!aa)break;
-ba=r8(b+16);
-ca=r8(b+8);}
+case 5:V=r8(b+8);
+if(r8(b+32)-V<9){
+W=make_ready_8e3(b,9,128);
+if(!(W&1))break;
+X=r8(b+8);}
+else X=V;
+Y=r8(b+16);
+if(Y-X<9){
+Z=grow_amortized_e1a(b,9);
+if(!Z)break;
+aa=r8(b+16);
+ba=r8(b+8);}
 else{
-ba=Z;
-ca=Y;}
-da=ca+9;
-ea=rp(b);
+aa=Y;
+ba=X;}
+ca=ba+9;
+da=rp(b);
 z16(b+8);
-fa=ea+(i64)ca;
-if((u64)fa-(u64)(u8*)t_d4b3<9)copy_bits_4f4((u8*)t_d4b3,fa,9);
-else memcpy(fa,(u8*)t_d4b3,9);
-wp(b,ea);
-w8(b+8,da);
-w8(b+16,ba);
+ea=da+(i64)ba;
+if((u64)ea-(u64)(u8*)t_d4b3<9)copy_bits_4f4((u8*)t_d4b3,ea,9);
+else memcpy(ea,(u8*)t_d4b3,9);
+wp(b,da);
+w8(b+8,ca);
+w8(b+16,aa);
 goto L1;
 default:NEVER;
 }
 x4(a,0);
 goto L2;
-L1:w4(h,0);
+L1:w4(g,0);
 if(d>=3){
-ga=c[2];
+fa=c[2];
 if(d<5){
-if(ga!=90)goto L3;}
+if(fa!=90)goto L3;}
 else{
-switch(ga){
+switch(fa){
 case 90:break;
 case 71:if(c[3]!=86)goto L3;
 if(c[4]!=90)goto L3;
 break;
 default:goto L3;
 }}
-ha=r8(b+176);
-if(ha>=d){
-cb=0;
-db=0;
-eb=0;
-fb=0;
-goto L4;}
-if(*(c+ha)!=69){
-cb=0;
-db=0;
-eb=0;
-fb=0;
-goto L4;}
-ia=ha+1;
-w8(b+176,ia);
-if(ia<d){
-if(*(c+ia)==76)w8(b+176,ha+2);}
-w4(g,0);
-ja=r8(b+8);
-if(r8(b+32)-ja<2){
-ka=make_ready_8e3(b,2,128);
-if(ka==0){
-la=0;
-ma=0;
-na=0;
-oa=0;
-goto L5;}
-pa=r8(b+8);}
-else pa=ja;
-*(rp(b)+pa)=58;
-*(rp(b)+(i64)pa+1)=58;
-qa=pa+2;
-w8(b+8,qa);
-ra=r8(b+176);
-z24(f);
-if(ra<d){
-sa=*(c+ra);
-if((u8)(sa-58)>=247){
-ta=ra+1;
-if(ta<d){
-ua=*(c+ta)-48;
-if(ua<10){
-va=ra+2;
-if(va<d){
-if((u8)(*(c+va)-48)<10){
-long_name_at_8ad(f,c,d,ra);
-if(*f==1){
-wa=r8(f+16);
-xa=r8(f+8);
-goto L6;}
-la=0;
-ma=0;
-na=0;
-oa=0;
-goto L5;}}
-ya=(u64)ua+(u8)((u8)(sa*10)+32);
-if(d-va<ya)goto L7;
-if((u8)(*(c+(i64)va)-48)<10)goto L7;
-za=va;
-Aa=ya+va;
-goto L8;}}
-Ba=sa-48;
-if(d-ta<Ba)goto L7;
-if((u8)(*(c+(i64)ta)-48)<10)goto L7;
-za=ta;
-Aa=ta+Ba;
-L8:wa=Aa;
-xa=za;
-L6:w8(b+176,wa);
-Ca=c+(i64)xa;
-Da=wa-xa;
-if(wa!=xa){
-if(!(Da<10||*Ca!=95)){
-Ea=parts_equal_58b((u8*)t_35ad,10,Ca,10);
-if(Ea){
-Fa=(s_p_64){(u8*)t_62ff,21};
-goto L9;}}}
-Ga=(s_p_64){0};Ga.f0=Ca;
-Ha=Ga;Ha.f1=Da;
-Fa=Ha;
-L9:Ia=Fa.f0;
-Ja=Fa.f1;
-if(r8(b+32)-qa<Ja){
-Ka=make_ready_8e3(b,Ja,128);
-if(Ka==0){
-la=0;
-ma=0;
-na=0;
-oa=0;
-goto L5;}
-La=r8(b+8);}
-else La=qa;
-Ma=r8(b+16);
-if(Ja>Ma-La){
-Na=grow_amortized_e1a(b,Ja);
-if(!Na){
-la=0;
-ma=0;
-na=0;
-oa=0;
-goto L5;}
-Oa=r8(b+16);
-Pa=r8(b+8);}
+w4(f,0);
+ga=r8(b+176);
+if(ga<d){
+if(*(c+ga)==69){
+ha=ga+1;
+w8(b+176,ha);
+if(ha<d){
+switch(*(c+ha)){
+case 78:begin_member_793(f,b,c,d);
+ia=f[3];
+ja=f[2];
+ka=f[1];
+la=*f;
+goto L4;
+case 76:w8(b+176,ga+2);
+entity_name_076(f,b,c,d);
+ia=f[3];
+ja=f[2];
+ka=f[1];
+la=*f;
+goto L4;
+default:break;}}
+entity_name_076(f,b,c,d);
+ia=f[3];
+ja=f[2];
+ka=f[1];
+la=*f;}
 else{
-Oa=Ma;
-Pa=La;}
-Qa=Pa+Ja;
-Ra=rp(b);
-z16(b+8);
-Sa=Ra+(i64)Pa;
-if((u64)Sa-(u64)Ia<Ja)copy_bits_4f4(Ia,Sa,Ja);
-else memmove(Sa,Ia,Ja);
-wp(b,Ra);
-w8(b+8,Qa);
-w8(b+16,Oa);
-Ta=r8(b+176);
-if(Ta<d){
-if(*(c+Ta)==95){
-Ua=Ta+1;
-w8(b+176,Ua);
-if(Ua>=d){
-la=0;
-ma=0;
-na=0;
-oa=0;
-goto L5;}
-Va=*(c+Ua);
-if(Va==95){
-Wa=Ta+2;
-w8(b+176,Wa);
-if(d==Wa){
-Xa=d;
-goto L10;}
-Ya=Wa;
-L11:if((u8)(*(c+Ya)-48)<10){
-Za=Ya+1;
-if(Za!=d){
-Ya=Za;
-goto L11;}
-Xa=d;}
-else Xa=Ya;
-L10:if(Wa>=Xa){
-la=0;
-ma=0;
-na=0;
-oa=0;
-goto L5;}
-ab=Xa&4294967295u;
-if(ab>=d){
-la=0;
-ma=0;
-na=0;
-oa=0;
-goto L5;}
-if(*(c+ab)!=95){
-la=0;
-ma=0;
-na=0;
-oa=0;
-goto L5;}
-bb=ab+1;}
+ia=0;
+ja=0;
+ka=0;
+la=0;}}
 else{
-if((u8)(Va-58)<246){
-la=0;
-ma=0;
-na=0;
-oa=0;
+ia=0;
+ja=0;
+ka=0;
+la=0;}
+L4:ma=ia;
+na=ja;
+oa=ka;
+pa=la;
 goto L5;}
-bb=Ta+2;}
-w8(b+176,bb);}}
-finish_8cd(g,b,c,d);
-la=g[3];
-ma=g[2];
-na=g[1];
-oa=*g;
-goto L5;}}
-L7:la=0;
-ma=0;
-na=0;
-oa=0;
-L5:cb=la;
-db=ma;
-eb=na;
-fb=oa;
-goto L4;}
-L3:finish_8cd(h,b,c,d);
-cb=h[3];
-db=h[2];
-eb=h[1];
-fb=*h;
-L4:*a=fb;
-a[1]=eb;
-a[2]=db;
-a[3]=cb;
+L3:finish_8cd(g,b,c,d);
+ma=g[3];
+na=g[2];
+oa=g[1];
+pa=*g;
+L5:*a=pa;
+a[1]=oa;
+a[2]=na;
+a[3]=ma;
 L2:return;
+}
+
+/* cpp_direct::direct::Direct::begin_member */
+static void begin_member_793(u8* a,u8* b,u8* c,u64 d)
+{
+u8 g[6];
+A16 u8 e[24],f[4];
+u64 h,i,j,l,m,n,o,q,r,s,z,B,C,D,H,J,K,L,M,N,O,R,X;
+u8 k,t,u,v,w,x,y,A,E,F,G,I,P,S,Y,Z;
+u8 *p,*Q,*W;
+s_p_64 T,U,V;
+if(c[2]==90){
+if(d>1024)x4(a,0);
+else{
+h=r8(b+176);
+if(h==18446744073709551615u)x4(a,0);
+else{
+i=h+1;
+if(i<d){
+switch(*(c+i)){
+case 75:j=h+2;
+if(j<d){
+switch(*(c+j)){
+case 82:k=3;
+l=h+3;
+break;
+case 79:k=5;
+l=h+3;
+break;
+default:k=1;
+l=j;
+break;}}
+else{
+k=1;
+l=j;}
+break;
+case 82:k=2;
+l=h+2;
+break;
+case 79:k=4;
+l=h+2;
+break;
+default:k=0;
+l=i;
+break;}}
+else{
+k=0;
+l=i;}
+b[172]=0;
+m=r8(b+48);
+if(m==0)goto L1;
+n=m;
+o=0;
+L2:p=rp(b+40)+o*12;
+if(p[9]&1){
+x4(p,1);
+x8(p+4,0);
+q=r8(b+48);}
+else q=n;
+r=o+1;
+if(r<q){
+n=q;
+o=r;
+goto L2;}
+L1:w8(b+176,l);
+w4(f,0);
+x4(g+2,0);
+if(l<0xfffffffffffffffeu){
+s=l+2;
+if(s<d)t=*(c+s)==118;
+else t=0;
+if(l<d){
+if(!(t||*(c+l)!=85)){
+*g=2;
+g[1]=k;
+u=open_lambda_2e5(b,c,d,0,g);
+v=0;
+w=0;
+x=0;
+y=u;
+goto L3;}}
+z=r8(b+8);
+if(r8(b+32)-z<2){
+A=make_ready_8e3(b,2,128);
+if(!(A&1)){
+v=0;
+w=0;
+x=0;
+y=0;
+goto L3;}
+B=r8(b+8);}
+else B=z;
+*(rp(b)+B)=58;
+*(rp(b)+(i64)B+1)=58;
+C=B+2;
+w8(b+8,C);
+D=r8(b+176);
+if(D<d){
+E=*(c+D);
+if(E==85){
+F=lambda_b09(b,c,d);
+G=F;}
+else{
+z24(e);
+if((u8)(E-58)<247)goto L4;
+H=D+1;
+if(H<d){
+I=*(c+H)-48;
+if(I<10){
+J=D+2;
+if(J<d){
+if((u8)(*(c+J)-48)<10){
+long_name_at_8ad(e,c,d,D);
+if(*e==1){
+K=r8(e+16);
+L=r8(e+8);
+goto L5;}
+v=0;
+w=0;
+x=0;
+y=0;
+goto L3;}}
+M=(u64)I+(u8)((u8)(E*10)+32);
+if(d-J<M)goto L4;
+if((u8)(*(c+(i64)J)-48)<10)goto L4;
+N=J;
+O=M+J;
+goto L6;}}
+P=E-48;
+if(d-H<P)goto L4;
+if((u8)(*(c+(i64)H)-48)<10)goto L4;
+N=H;
+O=H+P;
+L6:K=O;
+L=N;
+L5:w8(b+176,K);
+Q=c+(i64)L;
+R=K-L;
+if(K!=L){
+if(!(R<10||*Q!=95)){
+S=parts_equal_58b((u8*)t_35ad,10,Q,10);
+if(S){
+T=(s_p_64){(u8*)t_62ff,21};
+goto L7;}}}
+U=(s_p_64){0};U.f0=Q;
+V=U;V.f1=R;
+T=V;
+L7:W=T.f0;
+X=T.f1;
+if(r8(b+32)-C<X){
+Y=make_ready_8e3(b,X,128);
+if(!(Y&1)){
+v=0;
+w=0;
+x=0;
+y=0;
+goto L3;}}
+Z=push_str_b7e(b,W,X);
+G=Z^1;}
+if(!(G&1)){
+v=0;
+w=0;
+x=0;
+y=0;
+goto L3;}
+member_function_aa3(f,b,c,d,k);
+v=f[3];
+w=f[2];
+x=f[1];
+y=*f;
+goto L3;}
+L4:v=0;
+w=0;
+x=0;
+y=0;}
+else{
+v=0;
+w=0;
+x=0;
+y=0;}
+L3:*a=y;
+a[1]=x;
+a[2]=w;
+a[3]=v;}}}
+else x4(a,0);
+return;
+}
+
+/* cpp_direct::direct::Direct::open_lambda */
+static u8 open_lambda_2e5(u8* a,u8* b,u64 c,u32 d,u8* e)
+{
+u64 f,m,o,q,r,t,u,v,y,z;
+u8 g,h,i,j,k,n,p,s,A;
+u16 l;
+u8 *w,*x,*B;
+f=r8(a+176);
+if(f==18446744073709551615u)g=0;
+else{
+h=*e;
+i=e[1];
+j=e[2];
+k=e[3];
+l=q2(e+4);
+m=f+1;
+w8(a+176,m);
+if(m<c){
+if(*(b+m)!=108||c>1024)g=0;
+else{
+n=are_numbers_short_ddb(b,c);
+if(n){
+w8(a+176,f+2);
+o=r8(a+8);
+if(r8(a+32)-o<10){
+p=make_ready_8e3(a,10,128);
+if(!(p&1)){
+g=0;
+goto L1;}
+q=r8(a+8);}
+else q=o;
+r=r8(a+16);
+if(r-q<10){
+s=grow_amortized_e1a(a,10);
+if(!s){
+g=0;
+goto L1;}
+t=r8(a+16);
+u=r8(a+8);}
+else{
+t=r;
+u=q;}
+v=u+10;
+w=rp(a);
+z16(a+8);
+x=w+(i64)u;
+if((u64)x-(u64)(u8*)t_a6a7<10)copy_bits_4f4((u8*)t_a6a7,x,10);
+else memcpy(x,(u8*)t_a6a7,10);
+wp(a,w);
+w8(a+8,v);
+w8(a+16,t);
+y=r8(a+88);
+if(r8(a+112)>y)z=y;
+else{
+A=make_ready_9a1(a+80);
+if(!(A&1)){
+g=0;
+goto L1;}
+z=r8(a+88);}
+B=rp(a+80)+z*44;
+*B=17;
+B[1]=0;
+x2(B+2,0);
+x4(B+4,d);
+B[8]=h;
+B[9]=i;
+B[10]=j;
+B[11]=k;
+x2(B+12,l);
+z30(B+14);
+w8(a+88,z+1);
+g=1;}
+else g=0;}}
+else g=0;}
+L1:return g;
+}
+
+/* cpp_direct::tokens::are_numbers_short */
+static u8 are_numbers_short_ddb(u8* a,u64 b)
+{
+u64 c,d,f,g;
+u8 e;
+c=0;
+d=0;
+L1:if((u8)(*(a+d)-48)<10){
+if(c>18){
+e=0;
+goto L2;}
+f=c+1;}
+else f=0;
+g=d+1;
+if(g!=b){
+c=f;
+d=g;
+goto L1;}
+e=1;
+L2:return e;
+}
+
+/* cpp_direct::direct::Direct::lambda */
+static u8 lambda_b09(u8* a,u8* b,u64 c)
+{
+u64 d,f,h,j,k,m,n,p,q,r;
+u8 e,g,i,l,o,u;
+u8 *s,*t;
+d=r8(a+176);
+if(d==18446744073709551615u)e=0;
+else{
+f=d+1;
+if(f<c)g=*(b+f)==108;
+else{
+if(d==0xfffffffffffffffeu){
+e=0;
+goto L1;}
+g=0;}
+h=d+2;
+if(h<c)i=*(b+h)==118;
+else i=0;
+j=d+3;
+if((d<0xfffffffffffffffdu)&(j<c)){
+if(g&i&&*(b+j)==69){
+w8(a+176,d+4);
+k=r8(a+8);
+if(r8(a+32)-k<10){
+l=make_ready_8e3(a,10,128);
+if(!(l&1)){
+e=0;
+goto L1;}
+m=r8(a+8);}
+else m=k;
+n=r8(a+16);
+if(n-m<10){
+o=grow_amortized_e1a(a,10);
+if(!o){
+e=0;
+goto L1;}
+p=r8(a+16);
+q=r8(a+8);}
+else{
+p=n;
+q=m;}
+r=q+10;
+s=rp(a);
+z16(a+8);
+t=s+(i64)q;
+if((u64)t-(u64)(u8*)t_e97f<10)copy_bits_4f4((u8*)t_e97f,t,10);
+else memcpy(t,(u8*)t_e97f,10);
+wp(a,s);
+w8(a+8,r);
+w8(a+16,p);
+u=lambda_number_bca(a,b,c);
+e=u;}
+else e=0;}
+else e=0;}
+L1:return e;
+}
+
+/* cpp_direct::direct::Direct::lambda_number */
+static u8 lambda_number_bca(u8* a,u8* b,u64 c)
+{
+u64 d,f,g,i,k,m,n,o,s,u;
+u8 e,h,j,l,r,t;
+u8 *p,*q;
+d=r8(a+176);
+if(d<c){
+e=*(b+d);
+f=d+1;
+w8(a+176,f);
+if(e==95){
+g=r8(a+8);
+if(r8(a+32)-g<2){
+h=make_ready_8e3(a,2,128);
+if(!(h&1)){
+j=0;
+goto L1;}
+i=r8(a+8);}
+else i=g;
+k=r8(a+16);
+if(k-i<2){
+l=grow_amortized_e1a(a,2);
+if(!l){
+j=0;
+goto L1;}
+m=r8(a+16);
+n=r8(a+8);}
+else{
+m=k;
+n=i;}
+o=n+2;
+p=rp(a);
+z16(a+8);
+q=p+(i64)n;
+if((u64)q-(u64)(u8*)t_2ac1<2)copy_bits_4f4((u8*)t_2ac1,q,2);
+else x2(q,32049);
+wp(a,p);
+w8(a+8,o);
+w8(a+16,m);
+j=1;}
+else{
+if((f<c)&((e&248)==48)){
+if(*(b+f)==95){
+w8(a+176,d+2);
+r=e+2;
+s=r8(a+8);
+if(r8(a+32)-s<2){
+t=make_ready_8e3(a,2,128);
+if(!(t&1)){
+j=0;
+goto L1;}
+u=r8(a+8);}
+else u=s;
+*(rp(a)+u)=r;
+*(rp(a)+(i64)u+1)=125;
+w8(a+8,u+2);
+j=1;}
+else j=0;}
+else j=0;}}
+else{
+if(d==18446744073709551615u)j=0;
+else{
+w8(a+176,d+1);
+j=0;}}
+L1:return j;
+}
+
+/* cpp_direct::direct::Direct::member_function */
+static void member_function_aa3(u8* a,u8* b,u8* c,u64 d,u8 e)
+{
+A16 u8 f[24],g[4];
+u32 h;
+u64 i,j,m,o,p,q,s,u,v,x,y,z,C,E,F,G,H,I,J,M,O,Q,S,T,V,X,Y,aa,ca,da,fa,ka,ma,na,pa,qa,ra,ua;
+u8 k,n,r,t,w,D,K,N,P,R,U,W,Z,ba,ea,la,oa;
+u8 *l,*A,*B,*L,*ja,*sa,*ta;
+s_p_64 ga,ha,ia;
+w4(g,0);
+h=r8(b+8);
+i=r8(b+48);
+if(r8(b+72)>i)j=i;
+else{
+k=make_ready_17a(b+40);
+if(!(k&1)){
+x4(a,0);
+goto L1;}
+j=r8(b+48);}
+l=rp(b+40)+j*12;
+x4(l,0);
+x4(l+4,h);
+l[8]=0;
+l[9]=0;
+x2(l+10,0);
+w8(b+48,j+1);
+m=r8(b+8);
+if(r8(b+32)-m<2){
+n=make_ready_8e3(b,2,128);
+if(!(n&1)){
+x4(a,0);
+goto L1;}
+o=r8(b+8);}
+else o=m;
+*(rp(b)+o)=58;
+*(rp(b)+(i64)o+1)=58;
+p=o+2;
+w8(b+8,p);
+q=r8(b+176);
+if(q<d){
+r=*(c+q);
+if(r==99){
+s=q+1;
+if(s>=d)goto L2;
+if(*(c+s)!=108)goto L2;
+w8(b+176,q+2);
+if(r8(b+32)-p<10){
+t=make_ready_8e3(b,10,128);
+if(!(t&1))goto L2;
+u=r8(b+8);}
+else u=p;
+v=r8(b+16);
+if(v-u<10){
+w=grow_amortized_e1a(b,10);
+if(!w)goto L2;
+x=r8(b+16);
+y=r8(b+8);}
+else{
+x=v;
+y=u;}
+z=y+10;
+A=rp(b);
+z16(b+8);
+B=A+(i64)y;
+if((u64)B-(u64)(u8*)t_1f0f<10)copy_bits_4f4((u8*)t_1f0f,B,10);
+else memcpy(B,(u8*)t_1f0f,10);
+wp(b,A);
+w8(b+8,z);
+w8(b+16,x);}
+else{
+z24(f);
+if((u8)(r-58)<247)goto L3;
+C=q+1;
+if(C<d){
+D=*(c+C)-48;
+if(D<10){
+E=q+2;
+if(E<d){
+if((u8)(*(c+E)-48)<10){
+long_name_at_8ad(f,c,d,q);
+if(*f!=1)goto L2;
+F=r8(f+16);
+G=r8(f+8);
+goto L4;}}
+H=(u64)D+(u8)((u8)(r*10)+32);
+if(d-E<H)goto L3;
+if((u8)(*(c+(i64)E)-48)<10)goto L3;
+I=E;
+J=H+E;
+goto L5;}}
+K=r-48;
+if(d-C<K)goto L3;
+if((u8)(*(c+(i64)C)-48)<10)goto L3;
+I=C;
+J=C+K;
+L5:F=J;
+G=I;
+L4:w8(b+176,F);
+L=c+(i64)G;
+M=F-G;
+if(F!=G){
+if(M<10||*L!=95)goto L6;
+N=0;
+O=0;
+L7:P=N||*((u8*)t_35ad+(i64)O)!=*(L+(i64)O);
+Q=O+1;
+if(Q!=8){
+N=P;
+O=Q;
+goto L7;}
+R=0;
+S=0;
+L8:T=S+2;
+U=R||*((u8*)t_35ad+(i64)T)!=*(L+(i64)T);
+V=S+1;
+if(V!=8){
+R=U;
+S=V;
+goto L8;}
+W=0;
+X=0;
+L9:Y=X+2;
+Z=W||*((u8*)t_35ad+(i64)Y)!=*(L+(i64)Y);
+aa=X+1;
+if(aa!=8){
+W=Z;
+X=aa;
+goto L9;}
+ba=0;
+ca=0;
+L10:da=ca+2;
+ea=ba||*((u8*)t_35ad+(i64)da)!=*(L+(i64)da);
+fa=ca+1;
+if(fa!=8){
+ba=ea;
+ca=fa;
+goto L10;}
+if(!(((P|U)|Z)|ea)){
+ga=(s_p_64){(u8*)t_62ff,21};
+goto L11;}}
+L6:ha=(s_p_64){0};ha.f0=L;
+ia=ha;ia.f1=M;
+ga=ia;
+L11:ja=ga.f0;
+ka=ga.f1;
+if(r8(b+32)-p<ka){
+la=make_ready_8e3(b,ka,128);
+if(!(la&1))goto L2;
+ma=r8(b+8);}
+else ma=p;
+na=r8(b+16);
+if(ka>na-ma){
+oa=grow_amortized_e1a(b,ka);
+if(!oa)goto L2;
+pa=r8(b+16);
+qa=r8(b+8);}
+else{
+pa=na;
+qa=ma;}
+ra=qa+ka;
+sa=rp(b);
+z16(b+8);
+ta=sa+(i64)qa;
+if((u64)ta-(u64)ja<ka)copy_bits_4f4(ja,ta,ka);
+else memmove(ta,ja,ka);
+wp(b,sa);
+w8(b+8,ra);
+w8(b+16,pa);}
+ua=r8(b+176);
+if(ua<d){
+if(*(c+ua)==69){
+w8(b+176,ua+1);
+member_parameters_1d0(g,b,c,d,e);
+*a=*g;
+a[1]=g[1];
+a[2]=g[2];
+a[3]=g[3];
+goto L1;}}
+x4(a,0);
+goto L1;}
+L3:L2:x4(a,0);
+L1:return;
+}
+
+/* cpp_direct::direct::Direct::member_parameters */
+static void member_parameters_1d0(u8* a,u8* b,u8* c,u64 d,u8 e)
+{
+A16 u8 f[4];
+u64 g,h,j,l,m,o,q,r;
+u8 i,k,p,s;
+u32 n;
+u8 *t;
+w4(f,0);
+g=r8(b+176);
+if(g==18446744073709551615u)x4(a,0);
+else{
+h=g+1;
+if(h<d)i=*(c+h);
+else i=0;
+if(g<d){
+if(*(c+g)==118){
+switch(i){
+case 69:case 46:case 0:w8(b+176,h);
+j=r8(b+8);
+if(r8(b+32)-j<2){
+k=make_ready_8e3(b,2,128);
+if(!(k&1)){
+x4(a,0);
+goto L1;}
+l=r8(b+8);}
+else l=j;
+*(rp(b)+l)=40;
+*(rp(b)+(i64)l+1)=41;
+w8(b+8,l+2);
+member_ended_9dc(f,b,c,d,e);
+*a=*f;
+a[1]=f[1];
+a[2]=f[2];
+a[3]=f[3];
+goto L1;
+default:break;}}}
+m=r8(b+8);
+n=m;
+if(r8(b+32)>m)o=m;
+else{
+p=make_ready_8e3(b,1,16);
+if(!(p&1)){
+x4(a,0);
+goto L1;}
+o=r8(b+8);}
+*(rp(b)+o)=40;
+w8(b+8,o+1);
+q=r8(b+88);
+if(r8(b+112)>q)r=q;
+else{
+s=make_ready_9a1(b+80);
+if(!(s&1)){
+x4(a,0);
+goto L1;}
+r=r8(b+88);}
+t=rp(b+80)+r*44;
+*t=18;
+t[1]=e;
+x2(t+2,0);
+x4(t+4,n);
+z36(t+8);
+w8(b+88,r+1);
+*a=1;
+a[1]=0;
+a[2]=0;
+a[3]=0;}
+L1:return;
+}
+
+/* cpp_direct::direct::Direct::member_ended */
+static void member_ended_9dc(u8* a,u8* b,u8* c,u64 d,u8 e)
+{
+A16 u8 f[4];
+u64 g,i,j,l,m,n,q,s,t,v,w,x,A,C,D,F,G,H,K,M,N,P,Q,R,U,W,X,Z,aa,ba;
+u8 h,k,r,u,B,E,L,O,V,Y;
+u8 *o,*p,*y,*z,*I,*J,*S,*T,*ca,*da;
+w4(f,0);
+switch(e){
+case 0:goto L1;
+case 1:g=r8(b+8);
+if(r8(b+32)-g<6){
+h=make_ready_8e3(b,6,128);
+if(!(h&1))break;
+i=r8(b+8);}
+else i=g;
+j=r8(b+16);
+if(j-i<6){
+k=grow_amortized_e1a(b,6);
+if(!k)break;
+l=r8(b+16);
+m=r8(b+8);}
+else{
+l=j;
+m=i;}
+n=m+6;
+o=rp(b);
+z16(b+8);
+p=o+(i64)m;
+if((u64)p-(u64)(u8*)t_f603<6)copy_bits_4f4((u8*)t_f603,p,6);
+else memcpy(p,(u8*)t_f603,6);
+wp(b,o);
+w8(b+8,n);
+w8(b+16,l);
+goto L1;
+case 2:q=r8(b+8);
+if(r8(b+32)-q<2){
+r=make_ready_8e3(b,2,128);
+if(!(r&1))break;
+s=r8(b+8);}
+else s=q;
+t=r8(b+16);
+if(t-s<2){
+u=grow_amortized_e1a(b,2);
+if(!u)break;
+v=r8(b+16);
+w=r8(b+8);}
+else{
+v=t;
+w=s;}
+x=w+2;
+y=rp(b);
+z16(b+8);
+z=y+(i64)w;
+if((u64)z-(u64)(u8*)t_8519<2)copy_bits_4f4((u8*)t_8519,z,2);
+else x2(z,9760);
+wp(b,y);
+w8(b+8,x);
+w8(b+16,v);
+goto L1;
+case 3:A=r8(b+8);
+if(r8(b+32)-A<8){
+B=make_ready_8e3(b,8,128);
+if(!(B&1))break;
+C=r8(b+8);}
+else C=A;
+D=r8(b+16);
+if(D-C<8){
+E=grow_amortized_e1a(b,8);
+if(!E)break;
+F=r8(b+16);
+G=r8(b+8);}
+else{
+F=D;
+G=C;}
+H=G+8;
+I=rp(b);
+z16(b+8);
+J=I+(i64)G;
+if((u64)J-(u64)(u8*)t_5ca3<8)copy_bits_4f4((u8*)t_5ca3,J,8);
+else x8(J,0x262074736e6f6320u);
+wp(b,I);
+w8(b+8,H);
+w8(b+16,F);
+goto L1;
+case 4:K=r8(b+8);
+if(r8(b+32)-K<3){
+L=make_ready_8e3(b,3,128);
+if(!(L&1))break;
+M=r8(b+8);}
+else M=K;
+N=r8(b+16);
+if(N-M<3){
+O=grow_amortized_e1a(b,3);
+if(!O)break;
+P=r8(b+16);
+Q=r8(b+8);}
+else{
+P=N;
+Q=M;}
+R=Q+3;
+S=rp(b);
+z16(b+8);
+T=S+(i64)Q;
+if((u64)T-(u64)(u8*)t_617d<3)copy_bits_4f4((u8*)t_617d,T,3);
+else memcpy(T,(u8*)t_617d,3);
+wp(b,S);
+w8(b+8,R);
+w8(b+16,P);
+goto L1;
+case 5:U=r8(b+8);
+if(r8(b+32)-U<9){
+V=make_ready_8e3(b,9,128);
+if(!(V&1))break;
+W=r8(b+8);}
+else W=U;
+X=r8(b+16);
+if(X-W<9){
+Y=grow_amortized_e1a(b,9);
+if(!Y)break;
+Z=r8(b+16);
+aa=r8(b+8);}
+else{
+Z=X;
+aa=W;}
+ba=aa+9;
+ca=rp(b);
+z16(b+8);
+da=ca+(i64)aa;
+if((u64)da-(u64)(u8*)t_d4b3<9)copy_bits_4f4((u8*)t_d4b3,da,9);
+else memcpy(da,(u8*)t_d4b3,9);
+wp(b,ca);
+w8(b+8,ba);
+w8(b+16,Z);
+goto L1;
+default:NEVER;
+}
+x4(a,0);
+goto L2;
+L1:finish_8cd(f,b,c,d);
+*a=*f;
+a[1]=f[1];
+a[2]=f[2];
+a[3]=f[3];
+L2:return;
+}
+
+/* cpp_direct::direct::Direct::entity_name */
+static void entity_name_076(u8* a,u8* b,u8* c,u64 d)
+{
+A16 u8 e[24],f[4];
+u64 g,i,j,k,m,o,p,q,r,s,t,w,C,E,F,H,I,J,M,N,P,Q,R,S,T,U;
+u8 h,l,n,u,x,D,G,O;
+u8 *v,*B,*K,*L;
+s_p_64 y,z,A;
+w4(f,0);
+g=r8(b+8);
+if(r8(b+32)-g<2){
+h=make_ready_8e3(b,2,128);
+if(!(h&1)){
+x4(a,0);
+goto L1;}
+i=r8(b+8);}
+else i=g;
+*(rp(b)+i)=58;
+*(rp(b)+(i64)i+1)=58;
+j=i+2;
+w8(b+8,j);
+k=r8(b+176);
+z24(e);
+if(k<d){
+l=*(c+k);
+if((u8)(l-58)>=247){
+m=k+1;
+if(m<d){
+n=*(c+m)-48;
+if(n<10){
+o=k+2;
+if(o<d){
+if((u8)(*(c+o)-48)<10){
+long_name_at_8ad(e,c,d,k);
+if(*e!=1)goto L2;
+p=r8(e+16);
+q=r8(e+8);
+goto L3;}}
+r=(u64)n+(u8)((u8)(l*10)+32);
+if(d-o<r)goto L4;
+if((u8)(*(c+(i64)o)-48)<10)goto L4;
+s=o;
+t=r+o;
+goto L5;}}
+u=l-48;
+if(d-m<u)goto L4;
+if((u8)(*(c+(i64)m)-48)<10)goto L4;
+s=m;
+t=m+u;
+L5:p=t;
+q=s;
+L3:w8(b+176,p);
+v=c+(i64)q;
+w=p-q;
+if(p!=q){
+if(!(w<10||*v!=95)){
+x=parts_equal_58b((u8*)t_35ad,10,v,10);
+if(x){
+y=(s_p_64){(u8*)t_62ff,21};
+goto L6;}}}
+z=(s_p_64){0};z.f0=v;
+A=z;A.f1=w;
+y=A;
+L6:B=y.f0;
+C=y.f1;
+if(r8(b+32)-j<C){
+D=make_ready_8e3(b,C,128);
+if(!(D&1))goto L2;
+E=r8(b+8);}
+else E=j;
+F=r8(b+16);
+if(C>F-E){
+G=grow_amortized_e1a(b,C);
+if(!G)goto L2;
+H=r8(b+16);
+I=r8(b+8);}
+else{
+H=F;
+I=E;}
+J=I+C;
+K=rp(b);
+z16(b+8);
+L=K+(i64)I;
+if((u64)L-(u64)B<C)copy_bits_4f4(B,L,C);
+else memmove(L,B,C);
+wp(b,K);
+w8(b+8,J);
+w8(b+16,H);
+M=r8(b+176);
+if(M<d){
+if(*(c+M)==95){
+N=M+1;
+w8(b+176,N);
+if(N<d){
+O=*(c+N);
+if(O==95){
+P=M+2;
+w8(b+176,P);
+if(d==P){
+Q=d;
+goto L7;}
+R=P;
+L8:if((u8)(*(c+R)-48)<10){
+S=R+1;
+if(S!=d){
+R=S;
+goto L8;}
+Q=d;}
+else Q=R;
+L7:if(P>=Q)goto L9;
+T=Q&4294967295u;
+if(T>=d)goto L9;
+if(*(c+T)!=95)goto L9;
+U=T+1;}
+else{
+if((u8)(O-58)<246)goto L9;
+U=M+2;}
+w8(b+176,U);
+goto L10;}
+L9:x4(a,0);
+goto L1;}}
+L10:finish_8cd(f,b,c,d);
+*a=*f;
+a[1]=f[1];
+a[2]=f[2];
+a[3]=f[3];
+goto L1;}}
+L4:L2:x4(a,0);
+L1:return;
 }
 
 /* cpp_direct::direct::Direct::finish */
@@ -50776,7 +51753,7 @@ goto L1;}
 n=r8(b+8);
 if(r8(b+32)-n<2){
 o=make_ready_8e3(b,2,128);
-if(o==0)goto L3;
+if(!(o&1))goto L3;
 p=r8(b+8);}
 else p=n;
 q=r8(b+16);
@@ -50799,7 +51776,7 @@ w8(b+8,u);
 w8(b+16,s);
 if(r8(b+32)-u<h){
 x=make_ready_8e3(b,h,128);
-if(x==0)goto L4;
+if(!(x&1))goto L4;
 y=r8(b+8);
 z=r8(b+16);}
 else{
@@ -50824,7 +51801,7 @@ w8(b+8,D);
 w8(b+16,B);
 if(r8(b+32)==D){
 G=make_ready_8e3(b,1,128);
-if(G==0)goto L5;
+if(!(G&1))goto L5;
 H=r8(b+8);
 I=r8(b+16);}
 else{
@@ -50896,7 +51873,7 @@ k=r8(b+88);
 if(r8(b+112)>k)l=k;
 else{
 m=make_ready_9a1(b+80);
-if(m==0){
+if(!(m&1)){
 x4(a,0);
 goto L3;}
 l=r8(b+88);}
@@ -50920,14 +51897,14 @@ static void close_a33(u8* a,u8* b,u8* c,u64 d,u8 e,u32 f)
 {
 A16 u8 g[4];
 u64 h,i,k,l,m,p,q;
-u8 j;
+u8 j,r;
 u8 *n,*o;
 w4(g,0);
 h=r8(b+8);
 if(r8(b+32)>h)i=h;
 else{
 j=make_ready_8e3(b,1,16);
-if(j==0){
+if(!(j&1)){
 x4(a,0);
 goto L1;}
 i=r8(b+8);}
@@ -50944,20 +51921,51 @@ else{
 n=rp(b);
 o=n+(i64)f;
 p=0;
-L2:*(n+p)=*(o+(i64)p);
+L2:*(n+(i64)p)=*(o+(i64)p);
 q=p+1;
 if(q!=l){
 p=q;
 goto L2;}
 m=r8(b+8);}
 if(m>l)w8(b+8,l);
-if(r8(b+48)!=0)w8(b+48,0);
+if(d>=3){
+r=c[2];
+if(d<5){
+if(r!=90)goto L3;}
+else{
+switch(r){
+case 90:break;
+case 71:if(c[3]!=86)goto L3;
+if(c[4]!=90)goto L3;
+break;
+default:goto L3;
+}}
+hide_all_828(b);
+goto L4;}
+L3:if(r8(b+48)!=0)w8(b+48,0);
 z16(b+64);}
-end_05d(g,b,c,d,e);
+L4:end_05d(g,b,c,d,e);
 *a=*g;
 a[1]=g[1];
 a[2]=g[2];
 a[3]=g[3];
+L1:return;
+}
+
+/* cpp_direct::direct::Direct::hide_all */
+static void hide_all_828(u8* a)
+{
+u64 b,d;
+u8 *c;
+if(r8(a+48)==0)goto L1;
+b=0;
+L2:c=rp(a+40)+b*12;
+x4(c,1);
+d=b+1;
+x8(c+4,0);
+if(d<r8(a+48)){
+b=d;
+goto L2;}
 L1:return;
 }
 
@@ -51017,7 +52025,7 @@ default:goto L3;
 w8(b+176,w);
 if(k[31]==0){
 x=add_expansion_587(b,p);
-if(x==0){
+if(!(x&1)){
 x4(a,0);
 goto L4;}
 close_a33(j,b,c,d,f,g);
@@ -51030,7 +52038,7 @@ if(!e){
 y=r8(b+8);
 if(r8(b+32)-y<2){
 z=make_ready_8e3(b,2,128);
-if(z==0){
+if(!(z&1)){
 x4(a,0);
 goto L4;}
 A=r8(b+8);}
@@ -51039,11 +52047,11 @@ else A=y;
 *(rp(b)+(i64)A+1)=32;
 w8(b+8,A+2);}
 B=expand_all_4dc(b,k,p);
-if(B==0){
+if(!(B&1)){
 x4(a,0);
 goto L4;}
 C=add_expansion_587(b,p);
-if(C==0){
+if(!(C&1)){
 x4(a,0);
 goto L4;}
 w4(i,0);
@@ -51088,7 +52096,7 @@ L2:if(!e){
 R=r8(b+8);
 if(r8(b+32)-R<2){
 S=make_ready_8e3(b,2,128);
-if(S==0){
+if(!(S&1)){
 x4(a,0);
 goto L4;}
 T=r8(b+8);}
@@ -51151,7 +52159,7 @@ if(h!=0){
 r=r8(a+8);
 if(r8(a+32)-r<2){
 s=make_ready_8e3(a,2,128);
-if(s==0)goto L2;
+if(!(s&1))goto L2;
 t=r8(a+8);}
 else t=r;
 u=r8(a+16);
@@ -51173,11 +52181,11 @@ wp(a,z);
 w8(a+8,y);
 w8(a+16,w);}
 B=repeat_28b(a,l,n);
-if(B!=0){
+if(B&1){
 C=r8(a+8);
 if(r8(a+32)-C<q){
 D=make_ready_8e3(a,q,128);
-if(D==0)goto L2;
+if(!(D&1))goto L2;
 E=r8(a+8);}
 else E=C;
 F=r8(a+16);
@@ -51218,7 +52226,7 @@ c=r8(a+48);
 if(r8(a+72)>c)d=c;
 else{
 e=make_ready_17a(a+40);
-if(e==0){
+if(!(e&1)){
 f=0;
 goto L1;}
 d=r8(a+48);}
@@ -51230,7 +52238,7 @@ w8(a+48,h);
 if(r8(a+72)>h)i=h;
 else{
 j=make_ready_17a(a+40);
-if(j==0){
+if(!(j&1)){
 f=0;
 goto L1;}
 i=r8(a+48);}
@@ -51246,14 +52254,14 @@ case 1:if(r8(a+72)>l){
 m=l;
 goto L2;}
 n=make_ready_17a(a+40);
-if(n==0){
+if(!(n&1)){
 f=0;
 goto L1;}
 break;
 case 2:if(r8(a+72)>l)o=l;
 else{
 p=make_ready_17a(a+40);
-if(p==0){
+if(!(p&1)){
 f=0;
 goto L1;}
 o=r8(a+48);}
@@ -51266,7 +52274,7 @@ if(r8(a+72)>r){
 m=r;
 goto L2;}
 s=make_ready_17a(a+40);
-if(s==0){
+if(!(s&1)){
 f=0;
 goto L1;}
 break;
@@ -51274,7 +52282,7 @@ case 3:if(r8(a+72)>l){
 m=l;
 goto L2;}
 t=make_ready_17a(a+40);
-if(t==0){
+if(!(t&1)){
 f=0;
 goto L1;}
 break;
@@ -51408,7 +52416,7 @@ L10:R=O.f0;
 S=O.f1;
 if(r8(b+32)-g<S){
 T=make_ready_8e3(b,S,128);
-if(T==0)goto L1;
+if(!(T&1))goto L1;
 U=r8(b+8);}
 else U=g;
 V=r8(b+16);
@@ -51482,7 +52490,7 @@ L3:w8(b+176,j+1);
 o=r8(b+8);
 if(r8(b+32)-o<21){
 p=make_ready_8e3(b,21,128);
-if(p==0)goto L5;
+if(!(p&1))goto L5;
 q=r8(b+8);}
 else q=o;
 r=r8(b+16);
@@ -51601,7 +52609,7 @@ L8:w8(b+176,u+1);
 z=r8(b+8);
 if(r8(b+32)-z<17){
 A=make_ready_8e3(b,17,128);
-if(A==0)goto L12;
+if(!(A&1))goto L12;
 B=r8(b+8);}
 else B=z;
 C=r8(b+16);
@@ -51634,6 +52642,32 @@ L1:x4(a,0);
 L11:return;
 }
 
+/* cpp_direct::direct::Direct::begin_table */
+static void begin_table_89f(u8* a,u8* b)
+{
+u64 c,d;
+u8 e;
+u8 *f;
+w8(b+176,4);
+c=r8(b+88);
+if(r8(b+112)>c)d=c;
+else{
+e=make_ready_9a1(b+80);
+if(!(e&1)){
+x4(a,0);
+goto L1;}
+d=r8(b+88);}
+f=rp(b+80)+d*44;
+*f=20;
+z43(f+1);
+w8(b+88,d+1);
+*a=1;
+a[1]=0;
+a[2]=0;
+a[3]=0;
+L1:return;
+}
+
 /* cpp_direct::direct::Direct::begin_special */
 static void begin_special_44d(u8* a,u8* b,u8* c,u64 d)
 {
@@ -51663,7 +52697,7 @@ default:goto L2;
 g=r8(b+8);
 if(r8(b+32)-g<e){
 h=make_ready_8e3(b,e,128);
-if(h==0)goto L3;
+if(!(h&1))goto L3;
 i=r8(b+8);}
 else i=g;
 j=r8(b+16);
@@ -51689,12 +52723,12 @@ q=r8(b+88);
 if(r8(b+112)>q)r=q;
 else{
 s=make_ready_9a1(b+80);
-if(s==0){
+if(!(s&1)){
 x4(a,0);
 goto L1;}
 r=r8(b+88);}
 t=rp(b+80)+r*44;
-*t=18;
+*t=19;
 z43(t+1);
 w8(b+88,r+1);
 *a=1;
@@ -51746,7 +52780,7 @@ n=r8(b+88);
 if(r8(b+112)>n)o=n;
 else{
 p=make_ready_9a1(b+80);
-if(p==0){
+if(!(p&1)){
 q=0;
 goto L2;}
 o=r8(b+88);}
@@ -51782,7 +52816,7 @@ t=r8(b+88);
 if(r8(b+112)>t)u=t;
 else{
 v=make_ready_9a1(b+80);
-if(v==0){
+if(!(v&1)){
 w4(h,0);
 goto L3;}
 u=r8(b+88);}
@@ -51813,7 +52847,7 @@ x=r8(b+88);
 if(r8(b+112)>x)y=x;
 else{
 z=make_ready_9a1(b+80);
-if(z==0){
+if(!(z&1)){
 w4(h,0);
 goto L3;}
 y=r8(b+88);}
@@ -51843,9 +52877,9 @@ D=rp((u8*)t_e7e8+(u64)B*8);
 w8(b+176,i+1);
 if(r8(b+32)-j<C){
 E=make_ready_8e3(b,C,128);
-if(E==0)goto L5;}
+if(!(E&1))goto L5;}
 F=push_str_b7e(b,D,C);
-if(F==0){
+if(!(F&1)){
 *h=1;
 h[1]=2;
 h[2]=0;
@@ -51876,7 +52910,7 @@ if(d!=0){
 e=rp(b+80);
 f=d*44;
 switch(*(e+(i64)f-44)){
-case 4:case 5:case 6:case 7:case 8:case 23:case 10:case 12:case 13:case 18:g=r8(b+176);
+case 4:case 5:case 6:case 7:case 8:case 27:case 28:case 10:case 12:case 13:case 19:g=r8(b+176);
 h=c?2:1;
 if(g>(h^18446744073709551615u)){
 x4(a,0);
@@ -51888,7 +52922,7 @@ j=e;
 k=d;}
 else{
 l=make_ready_9a1(b+80);
-if(l==0){
+if(!(l&1)){
 x4(a,0);
 goto L1;}
 m=r8(b+88);
@@ -51896,7 +52930,7 @@ i=m*44;
 j=rp(b+80);
 k=m;}
 n=j+i;
-*n=19;
+*n=22;
 n[1]=c;
 z42(n+2);
 w8(b+88,k+1);
@@ -51905,7 +52939,7 @@ a[1]=0;
 a[2]=0;
 a[3]=0;
 goto L1;
-case 0:case 1:case 2:case 3:case 9:case 11:case 14:case 15:case 16:case 17:case 19:case 20:case 21:case 22:case 24:case 25:break;
+case 0:case 1:case 2:case 3:case 9:case 11:case 14:case 15:case 16:case 17:case 18:case 20:case 21:case 22:case 23:case 24:case 25:case 26:case 29:break;
 default:NEVER;
 }}
 x4(a,0);
@@ -51924,7 +52958,7 @@ if(f!=0){
 g=rp(b+80);
 h=f*44;
 switch(*(g+(i64)h-44)){
-case 4:case 5:case 6:case 7:case 8:case 23:case 10:case 12:case 13:case 18:i=r8(b+176);
+case 4:case 5:case 6:case 7:case 8:case 27:case 28:case 10:case 12:case 13:case 19:i=r8(b+176);
 j=e==0?1:2;
 if(i>(j^18446744073709551615u)){
 x4(a,0);
@@ -51952,7 +52986,7 @@ r=g;
 s=f;}
 else{
 t=make_ready_9a1(b+80);
-if(t==0){
+if(!(t&1)){
 x4(a,0);
 goto L1;}
 u=r8(b+88);
@@ -51960,7 +52994,7 @@ q=u*44;
 r=rp(b+80);
 s=u;}
 v=r+q;
-*v=21;
+*v=24;
 v[1]=e;
 x2(v+2,0);
 x4(v+4,o);
@@ -51974,7 +53008,7 @@ a[3]=0;
 goto L1;}}
 L2:x4(a,0);
 goto L1;
-case 0:case 1:case 2:case 3:case 9:case 11:case 14:case 15:case 16:case 17:case 19:case 20:case 21:case 22:case 24:case 25:break;
+case 0:case 1:case 2:case 3:case 9:case 11:case 14:case 15:case 16:case 17:case 18:case 20:case 21:case 22:case 23:case 24:case 25:case 26:case 29:break;
 default:NEVER;
 }}
 x4(a,0);
@@ -51984,167 +53018,142 @@ L1:return;
 /* cpp_direct::direct::Direct::rvalue_at */
 static void rvalue_at_e1d(u8* a,u8* b,u8* c,u64 d)
 {
-u8 f[32],g[8];
-A16 u8 e[44];
-u64 h,j,k,l,o,q,r,s,t,x,D,E,H,J,N,R,S,T;
-u32 i,C,I;
-u8 m,n,v,w,B,F,K,O,P,U,V;
-u8 *p,*u,*G,*L,*M,*Q,*W;
-u16 y,z,A;
-h=r8(b+176);
-if(h==18446744073709551615u)x4(a,0);
+u8 e[34];
+u64 f,h,i,j,m,t,u,x,z,C,E,F,I,J;
+u32 g,s,y;
+u8 k,l,r,v,A,D,G,K,L;
+u16 n,o,p,q;
+u8 *w,*B,*H,*M;
+z34(e);
+f=r8(b+176);
+if(f==18446744073709551615u)x4(a,0);
 else{
-i=r8(b+8);
-j=h+1;
-if(j<d){
-if(*(c+j)==84){
-k=h+2;
-if(k<d){
-l=h+3;
-m=*(c+k);
-if(m==95){
-n=0;
-o=l;}
+g=r8(b+8);
+h=f+1;
+if(h<d){
+if(*(c+h)==84){
+i=f+2;
+if(i<d){
+j=f+3;
+k=*(c+i);
+if(k==95){
+l=0;
+m=j;}
 else{
-if(!((l<d)&((u8)(m-48)<10)))goto L1;
-if(*(c+l)!=95)goto L1;
-n=m-47;
-o=h+4;}
-p=rp(b+80);
-q=r8(b+88);
-r=16;
-s=q;
-L2:if(s!=0){
-t=s-1;
-u=p+(i64)(t*44);
-v=*u;
-w=u[16];
-switch(v){
-case 0:case 1:case 2:case 3:case 4:case 8:break;
-case 5:if(w!=0)goto L3;
-break;
-case 6:if(w!=0)goto L3;
-break;
-case 7:case 9:case 10:case 11:case 12:case 13:case 14:case 15:case 16:case 17:case 18:case 19:case 20:case 21:case 22:case 23:case 24:case 25:memcpy(e+4,u+4,40);
-switch(v){
-case 9:case 10:case 15:case 16:x=4;
-break;
-case 11:case 13:x=8;
-break;
-case 25:case 24:case 23:case 22:case 21:case 20:case 19:case 7:case 8:case 12:case 14:case 17:case 18:goto L3;
-default:NEVER;
-}
-memcpy(f,e+4+x,32);
-y=r2(f);
-single_540(g,f,n);
-if(*g!=1){
+if(!((j<d)&((u8)(k-48)<10)))goto L1;
+if(*(c+j)!=95)goto L1;
+l=k-47;
+m=f+4;}
+argument_dbb(e,b);
+if(*e!=1){
 x4(a,0);
-goto L4;}
-if(y==0){
-x4(a,0);
-goto L4;}
-if(!(g[6]&1)){
-w8(b+176,j);
-if(r8(b+112)>q){
-M=p;
-N=q;}
+goto L2;}
+if((!(e[31]&1)||e[32]>l)&&e[30]>l){
+n=r2(e+2);
+if(l==0)o=r2(e+4);
 else{
-O=make_ready_9a1(b+80);
-if(O==0){
-P=0;
-goto L5;}
-M=rp(b+80);
-N=r8(b+88);}
-Q=M+N*44;
-*Q=2;
-Q[1]=0;
-x2(Q+2,0);
-x4(Q+4,i);
-z36(Q+8);
-w8(b+88,N+1);
-P=1;
-L5:*a=P;
+if(l>=9)goto L3;
+p=r2(e+6+(i64)((u64)(u8)(l-1)<<1));
+if((l==8)|(p>65533))goto L3;
+o=p+2;}
+if(n==0){
+x4(a,0);
+goto L2;}
+if(!(*(e+22+(i64)l)&1)){
+C=r8(b+176);
+if(C==18446744073709551615u)D=0;
+else{
+w8(b+176,C+1);
+E=r8(b+88);
+if(r8(b+112)>E)F=E;
+else{
+G=make_ready_9a1(b+80);
+if(!(G&1)){
+D=0;
+goto L4;}
+F=r8(b+88);}
+H=rp(b+80)+F*44;
+*H=2;
+H[1]=0;
+x2(H+2,0);
+x4(H+4,g);
+z36(H+8);
+w8(b+88,F+1);
+D=1;}
+L4:*a=D;
 a[1]=0;
 a[2]=0;
 a[3]=0;
-goto L4;}
-z=r2(g+2);
-A=r2(g+4);
-w8(b+176,o);
-B=repeat_28b(b,z,A);
-if(B==0){
+goto L2;}
+q=r2(e+6+(i64)((u64)l<<1));
+w8(b+176,m);
+r=repeat_28b(b,o,q);
+if(!(r&1)){
 x4(a,0);
-goto L4;}
-C=r8(b+8);
-D=r8(b+48);
-if(r8(b+72)>D)E=D;
+goto L2;}
+s=r8(b+8);
+t=r8(b+48);
+if(r8(b+72)>t)u=t;
 else{
-F=make_ready_17a(b+40);
-if(F==0){
+v=make_ready_17a(b+40);
+if(!(v&1)){
 x4(a,0);
-goto L4;}
-E=r8(b+48);}
-G=rp(b+40)+E*12;
-x4(G,i);
-x4(G+4,C);
-G[8]=1;
-G[9]=1;
-x2(G+10,0);
-H=E+1;
-w8(b+48,H);
-I=r8(b+8);
-if(r8(b+72)>H)J=H;
+goto L2;}
+u=r8(b+48);}
+w=rp(b+40)+u*12;
+x4(w,g);
+x4(w+4,s);
+w[8]=1;
+w[9]=1;
+x2(w+10,0);
+x=u+1;
+w8(b+48,x);
+y=r8(b+8);
+if(r8(b+72)>x)z=x;
 else{
-K=make_ready_17a(b+40);
-if(K==0){
+A=make_ready_17a(b+40);
+if(!(A&1)){
 x4(a,0);
-goto L4;}
-J=r8(b+48);}
-L=rp(b+40)+J*12;
-x4(L,i);
-x4(L+4,I);
-L[8]=1;
-L[9]=1;
-x2(L+10,0);
-w8(b+48,J+1);
+goto L2;}
+z=r8(b+48);}
+B=rp(b+40)+z*12;
+x4(B,g);
+x4(B+4,y);
+B[8]=1;
+B[9]=1;
+x2(B+10,0);
+w8(b+48,z+1);
 *a=1;
 a[1]=2;
 a[2]=1;
 a[3]=1;
-goto L4;
-default:NEVER;
-}
-R=r-1;
-if(R!=0){
-r=R;
-s=t;
-goto L2;}}
+goto L2;}
 L3:x4(a,0);
-goto L4;}
+goto L2;}
 L1:x4(a,0);
-goto L4;}}
-w8(b+176,j);
-S=r8(b+88);
-if(r8(b+112)>S)T=S;
+goto L2;}}
+w8(b+176,h);
+I=r8(b+88);
+if(r8(b+112)>I)J=I;
 else{
-U=make_ready_9a1(b+80);
-if(U==0){
-V=0;
-goto L6;}
-T=r8(b+88);}
-W=rp(b+80)+T*44;
-*W=2;
-W[1]=0;
-x2(W+2,0);
-x4(W+4,i);
-z36(W+8);
-w8(b+88,T+1);
-V=1;
-L6:*a=V;
+K=make_ready_9a1(b+80);
+if(!(K&1)){
+L=0;
+goto L5;}
+J=r8(b+88);}
+M=rp(b+80)+J*44;
+*M=2;
+M[1]=0;
+x2(M+2,0);
+x4(M+4,g);
+z36(M+8);
+w8(b+88,J+1);
+L=1;
+L5:*a=L;
 a[1]=0;
 a[2]=0;
 a[3]=0;}
-L4:return;
+L2:return;
 }
 
 /* cpp_direct::open::Arguments::single */
@@ -52212,7 +53221,7 @@ j=rp((u8*)t_1a0f_2+(u64)h*8);
 k=r8(b+8);
 if(r8(b+32)-k<i){
 l=make_ready_8e3(b,i,128);
-if(l==0)goto L1;
+if(!(l&1))goto L1;
 m=r8(b+8);}
 else m=k;
 n=r8(b+16);
@@ -52281,12 +53290,12 @@ L4:return;
 /* cpp_direct::direct::Direct::template_parameter */
 static void template_parameter_3b0(u8* a,u8* b,u8* c,u64 d)
 {
-u8 f[32];
-A16 u8 e[44];
-u64 g,h,i,l,n,o,p,t,z,A,D;
-u8 j,k,r,s,w,y,B;
-u8 *m,*q,*C;
-u16 u,v,x;
+u8 e[32],f[34];
+u64 g,h,i,l,r,s;
+u8 j,k,o,q,t;
+u16 m,n,p;
+u8 *u;
+z34(f);
 g=r8(b+176);
 if(g==18446744073709551615u)x4(a,0);
 else{
@@ -52302,80 +53311,52 @@ if(!((i<d)&((u8)(j-48)<10)))goto L1;
 if(*(c+i)!=95)goto L1;
 k=j-47;
 l=g+3;}
-m=rp(b+80);
-n=16;
-o=r8(b+88);
-L2:if(o!=0){
-p=o-1;
-q=m+(i64)(p*44);
-r=*q;
-s=q[16];
-switch(r){
-case 0:case 1:case 2:case 3:case 4:case 8:break;
-case 5:if(s!=0)goto L3;
-break;
-case 6:if(s!=0)goto L3;
-break;
-case 7:case 9:case 10:case 11:case 12:case 13:case 14:case 15:case 16:case 17:case 18:case 19:case 20:case 21:case 22:case 23:case 24:case 25:memcpy(e+4,q+4,40);
-switch(r){
-case 9:case 10:case 15:case 16:t=4;
-break;
-case 11:case 13:t=8;
-break;
-case 25:case 24:case 23:case 22:case 21:case 20:case 19:case 7:case 8:case 12:case 14:case 17:case 18:goto L3;
-default:NEVER;
-}
-memcpy(f,e+4+t,32);
-if((!(f[29]&1)||f[30]>k)&&f[28]>k){
-if(k==0)u=r2(f+2);
-else{
-if(k>=9)goto L4;
-v=r2(f+4+(i64)((u64)(u8)(k-1)<<1));
-if((k==8)|(v>65533))goto L4;
-u=v+2;}
-if(r2(f)==0){
+argument_dbb(f,b);
+if(*f!=1){
 x4(a,0);
-goto L5;}
-w=*(f+20+(i64)k);
-x=r2(f+4+(i64)((u64)k<<1));
+goto L2;}
+memcpy(e,f+2,32);
+if((!(e[29]&1)||e[30]>k)&&e[28]>k){
+if(k==0)m=r2(e+2);
+else{
+if(k>=9)goto L3;
+n=r2(e+4+(i64)((u64)(u8)(k-1)<<1));
+if((k==8)|(n>65533))goto L3;
+m=n+2;}
+if(r2(e)==0){
+x4(a,0);
+goto L2;}
+o=*(e+20+(i64)k);
+p=r2(e+4+(i64)((u64)k<<1));
 w8(b+176,l);
-y=repeat_28b(b,u,x);
-if(y==0){
+q=repeat_28b(b,m,p);
+if(!(q&1)){
 x4(a,0);
-goto L5;}
-z=r8(b+48);
-if(r8(b+72)>z)A=z;
+goto L2;}
+r=r8(b+48);
+if(r8(b+72)>r)s=r;
 else{
-B=make_ready_17a(b+40);
-if(B==0){
+t=make_ready_17a(b+40);
+if(!(t&1)){
 x4(a,0);
-goto L5;}
-A=r8(b+48);}
-C=rp(b+40)+A*12;
-x4(C,u);
-x4(C+4,x);
-C[8]=w;
-C[9]=1;
-x2(C+10,0);
-w8(b+48,A+1);
+goto L2;}
+s=r8(b+48);}
+u=rp(b+40)+s*12;
+x4(u,m);
+x4(u+4,p);
+u[8]=o;
+u[9]=1;
+x2(u+10,0);
+w8(b+48,s+1);
 *a=1;
 a[1]=2;
-a[2]=w;
+a[2]=o;
 a[3]=1;
-goto L5;}
-L4:x4(a,0);
-goto L5;
-default:NEVER;
-}
-D=n-1;
-if(D!=0){
-n=D;
-o=p;
-goto L2;}}
+goto L2;}
 L3:x4(a,0);
-goto L5;}
+goto L2;}
 L1:x4(a,0);}
-L5:return;
+L2:return;
 }
 
 /* cpp_direct::direct::Direct::named_type */
@@ -52408,7 +53389,7 @@ switch(*(c+o)){
 case 116:w8(b+176,k+2);
 if(r8(b+32)-l<5){
 p=make_ready_8e3(b,5,128);
-if(p==0)goto L1;
+if(!(p&1))goto L1;
 q=r8(b+8);}
 else q=l;
 r=r8(b+16);
@@ -52475,15 +53456,15 @@ L6:P=M.f0;
 Q=M.f1;
 if(r8(b+32)-v<Q){
 R=make_ready_8e3(b,Q,128);
-if(R==0)goto L2;}
+if(!(R&1))goto L2;}
 S=push_str_b7e(b,P,Q);
-if(S!=0)goto L2;
+if(S&1)goto L2;
 T=r8(b+8);
 U=r8(b+48);
 if(r8(b+72)>U)V=U;
 else{
 W=make_ready_17a(b+40);
-if(W==0){
+if(!(W&1)){
 X=0;
 Y=0;
 Z=0;
@@ -52503,7 +53484,7 @@ ca=r8(b+8);
 if(r8(b+32)>ca)da=ca;
 else{
 ea=make_ready_8e3(b,1,16);
-if(ea==0){
+if(!(ea&1)){
 X=0;
 Y=0;
 Z=0;
@@ -52522,7 +53503,7 @@ ga=r8(b+88);
 if(r8(b+112)>ga)ha=ga;
 else{
 ia=make_ready_9a1(b+80);
-if(ia==0){
+if(!(ia&1)){
 X=0;
 Y=0;
 Z=0;
@@ -52578,7 +53559,7 @@ default:goto L9;
 w8(b+176,k+2);
 if(r8(b+32)-l<ka){
 ma=make_ready_8e3(b,ka,128);
-if(ma==0)goto L10;
+if(!(ma&1))goto L10;
 na=r8(b+8);}
 else na=l;
 oa=r8(b+16);
@@ -52607,7 +53588,7 @@ wa=ta;
 xa=sa;}
 else{
 ya=make_ready_8e3(b,1,16);
-if(ya==0){
+if(!(ya&1)){
 za=0;
 Aa=0;
 Ba=0;
@@ -52627,7 +53608,7 @@ Da=r8(b+88);
 if(r8(b+112)>Da)Ea=Da;
 else{
 Fa=make_ready_9a1(b+80);
-if(Fa==0){
+if(!(Fa&1)){
 za=0;
 Aa=0;
 Ba=0;
@@ -52669,8 +53650,7 @@ i[3]=f[3];}
 else{
 Ha=g[12];
 Ia=repeat_28b(b,r4(g+4),r4(g+8));
-if(Ia==0)w4(i,0);
-else{
+if(Ia&1){
 Ja=r8(b+176);
 if(Ja<d){
 Ka=*(c+Ja)!=73;
@@ -52683,7 +53663,7 @@ Oa=r8(b+8);
 if(r8(b+32)>Oa)Pa=Oa;
 else{
 Qa=make_ready_8e3(b,1,16);
-if(Qa==0){
+if(!(Qa&1)){
 La=0;
 Ma=0;
 Na=0;
@@ -52702,7 +53682,7 @@ Sa=r8(b+88);
 if(r8(b+112)>Sa)Ta=Sa;
 else{
 Ua=make_ready_9a1(b+80);
-if(Ua==0){
+if(!(Ua&1)){
 La=0;
 Ma=0;
 Na=0;
@@ -52725,7 +53705,8 @@ Na=1;}
 L12:*i=Na;
 i[1]=Ma;
 i[2]=La;
-i[3]=0;}}}
+i[3]=0;}
+else w4(i,0);}}
 else w4(i,0);
 L8:break;
 case 90:begin_enclosing_06f(i,b,c,d);
@@ -52773,7 +53754,7 @@ L17:lb=ib.f0;
 mb=ib.f1;
 if(r8(b+32)-l<mb){
 nb=make_ready_8e3(b,mb,128);
-if(nb==0)goto L14;
+if(!(nb&1))goto L14;
 ob=r8(b+8);}
 else ob=l;
 pb=r8(b+16);
@@ -52799,7 +53780,7 @@ xb=r8(b+48);
 if(r8(b+72)>xb)yb=xb;
 else{
 zb=make_ready_17a(b+40);
-if(zb==0){
+if(!(zb&1)){
 w4(i,0);
 break;}
 yb=r8(b+48);}
@@ -52817,7 +53798,7 @@ Cb=r8(b+8);
 if(r8(b+32)>Cb)Db=Cb;
 else{
 Eb=make_ready_8e3(b,1,16);
-if(Eb==0){
+if(!(Eb&1)){
 Fb=0;
 Gb=0;
 goto L18;}
@@ -52834,7 +53815,7 @@ Ib=r8(b+88);
 if(r8(b+112)>Ib)Jb=Ib;
 else{
 Kb=make_ready_9a1(b+80);
-if(Kb==0){
+if(!(Kb&1)){
 Fb=0;
 Gb=0;
 goto L18;}
@@ -52873,58 +53854,26 @@ L19:return;
 /* cpp_direct::direct::Direct::dependent_again */
 static void dependent_again_186(u8* a,u8* b,u8* c)
 {
-A16 u8 d[44];
+u8 d[34];
 u32 e,f;
-u8 g,m,n,p;
-u8 *h,*l;
-u64 i,j,k,o,q;
+u8 g,h;
 e=q4(c);
 f=q4(c+4);
 g=c[8];
-h=rp(b+80);
-i=16;
-j=r8(b+88);
-L1:if(j!=0){
-k=j-1;
-l=h+(i64)(k*44);
-m=*l;
-n=l[16];
-switch(m){
-case 0:case 1:case 2:case 3:case 4:case 8:break;
-case 5:if(n!=0)goto L2;
-break;
-case 6:if(n!=0)goto L2;
-break;
-case 7:case 9:case 10:case 11:case 12:case 13:case 14:case 15:case 16:case 17:case 18:case 19:case 20:case 21:case 22:case 23:case 24:case 25:memcpy(d+4,l+4,40);
-switch(m){
-case 9:case 10:case 15:case 16:o=4;
-break;
-case 11:case 13:o=8;
-break;
-case 25:case 24:case 23:case 22:case 21:case 20:case 19:case 7:case 8:case 12:case 14:case 17:case 18:goto L2;
-default:NEVER;
-}
-if(r2(d+4+o)==0){
-x4(a,0);
-goto L3;}
-p=repeat_28b(b,e,f);
-if(p==0){
-x4(a,0);
-goto L3;}
+z34(d);
+argument_dbb(d,b);
+if(*d==1){
+if(r2(d+2)==0)x4(a,0);
+else{
+h=repeat_28b(b,e,f);
+if(h&1){
 *a=1;
 a[1]=2;
 a[2]=g&1;
-a[3]=1;
-goto L3;
-default:NEVER;
-}
-q=i-1;
-if(q!=0){
-i=q;
-j=k;
-goto L1;}}
-L2:x4(a,0);
-L3:return;
+a[3]=1;}
+else x4(a,0);}}
+else x4(a,0);
+return;
 }
 
 /* cpp_direct::direct::Direct::begin_enclosing */
@@ -53031,7 +53980,7 @@ L6:G=D.f0;
 H=D.f1;
 if(r8(b+32)-p<H){
 I=make_ready_8e3(b,H,128);
-if(I==0)goto L2;
+if(!(I&1))goto L2;
 J=r8(b+8);}
 else J=p;
 K=r8(b+16);
@@ -53084,7 +54033,7 @@ case 0:goto L1;
 case 1:i=r8(b+8);
 if(r8(b+32)-i<6){
 j=make_ready_8e3(b,6,128);
-if(j==0)break;
+if(!(j&1))break;
 k=r8(b+8);}
 else k=i;
 l=r8(b+16);
@@ -53109,7 +54058,7 @@ goto L1;
 case 2:s=r8(b+8);
 if(r8(b+32)-s<2){
 t=make_ready_8e3(b,2,128);
-if(t==0)break;
+if(!(t&1))break;
 u=r8(b+8);}
 else u=s;
 v=r8(b+16);
@@ -53134,7 +54083,7 @@ goto L1;
 case 3:C=r8(b+8);
 if(r8(b+32)-C<8){
 D=make_ready_8e3(b,8,128);
-if(D==0)break;
+if(!(D&1))break;
 E=r8(b+8);}
 else E=C;
 F=r8(b+16);
@@ -53159,7 +54108,7 @@ goto L1;
 case 4:M=r8(b+8);
 if(r8(b+32)-M<3){
 N=make_ready_8e3(b,3,128);
-if(N==0)break;
+if(!(N&1))break;
 O=r8(b+8);}
 else O=M;
 P=r8(b+16);
@@ -53184,7 +54133,7 @@ goto L1;
 case 5:W=r8(b+8);
 if(r8(b+32)-W<9){
 X=make_ready_8e3(b,9,128);
-if(X==0)break;
+if(!(X&1))break;
 Y=r8(b+8);}
 else Y=W;
 Z=r8(b+16);
@@ -53260,15 +54209,15 @@ L2:return;
 static void enclosed_named_b0c(u8* a,u8* b,u8* c,u64 d,u32 e)
 {
 A16 u8 f[24];
-u64 g,i,j,k,m,o,q,s,t,v,w,x,B,D,E,F,G,H,I,L,R,T,U,W,X,Y,ba,ca,ea,fa,ga,ha,ia,ja,la,ma;
-u8 h,l,n,p,r,u,A,C,J,M,S,V,da,na;
-u8 *y,*z,*K,*Q,*Z,*aa,*oa;
-s_p_64 N,O,P;
-u32 ka;
+u64 g,i,j,k,n,p,q,r,s,t,u,x,D,F,G,I,J,K,N,O,Q,R,S,T,U,V,X,Y;
+u8 h,l,m,o,v,y,E,H,P,Z;
+u8 *w,*C,*L,*M,*aa;
+s_p_64 z,A,B;
+u32 W;
 g=r8(b+8);
 if(r8(b+32)-g<2){
 h=make_ready_8e3(b,2,128);
-if(h==0){
+if(!(h&1)){
 x4(a,0);
 goto L1;}
 i=r8(b+8);}
@@ -53281,155 +54230,122 @@ k=r8(b+176);
 if(k<d){
 l=*(c+k);
 if(l==85){
-m=k+1;
-if(m<d)n=*(c+m)==108;
-else n=0;
-o=k+2;
-if(o<d)p=*(c+o)==118;
-else p=0;
-q=k+3;
-if(q>=d)goto L2;
-if(!(n&p&&*(c+q)==69))goto L2;
-w8(b+176,k+4);
-if(r8(b+32)-j<10){
-r=make_ready_8e3(b,10,128);
-if(r==0)goto L2;
-s=r8(b+8);}
-else s=j;
-t=r8(b+16);
-if(t-s<10){
-u=grow_amortized_e1a(b,10);
-if(!u)goto L2;
-v=r8(b+16);
-w=r8(b+8);}
-else{
-v=t;
-w=s;}
-x=w+10;
-y=rp(b);
-z16(b+8);
-z=y+(i64)w;
-if((u64)z-(u64)(u8*)t_e97f<10)copy_bits_4f4((u8*)t_e97f,z,10);
-else memcpy(z,(u8*)t_e97f,10);
-wp(b,y);
-w8(b+8,x);
-w8(b+16,v);
-A=lambda_number_bca(b,c,d);
-if(A==0)goto L2;}
+m=lambda_b09(b,c,d);
+if(!(m&1))goto L2;}
 else{
 z24(f);
 if((u8)(l-58)<247)goto L3;
-B=k+1;
-if(B<d){
-C=*(c+B)-48;
-if(C<10){
-D=k+2;
-if(D<d){
-if((u8)(*(c+D)-48)<10){
+n=k+1;
+if(n<d){
+o=*(c+n)-48;
+if(o<10){
+p=k+2;
+if(p<d){
+if((u8)(*(c+p)-48)<10){
 long_name_at_8ad(f,c,d,k);
 if(*f!=1)goto L2;
-E=r8(f+8);
-F=r8(f+16);
+q=r8(f+8);
+r=r8(f+16);
 goto L4;}}
-G=(u64)C+(u8)((u8)(l*10)+32);
-if(d-D<G)goto L3;
-if((u8)(*(c+(i64)D)-48)<10)goto L3;
-H=G+D;
-I=D;
+s=(u64)o+(u8)((u8)(l*10)+32);
+if(d-p<s)goto L3;
+if((u8)(*(c+(i64)p)-48)<10)goto L3;
+t=s+p;
+u=p;
 goto L5;}}
-J=l-48;
-if(d-B<J)goto L3;
-if((u8)(*(c+(i64)B)-48)<10)goto L3;
-H=B+J;
-I=B;
-L5:E=I;
-F=H;
-L4:w8(b+176,F);
-K=c+(i64)E;
-L=F-E;
-if(F!=E){
-if(!(L<10||*K!=95)){
-M=parts_equal_58b((u8*)t_35ad,10,K,10);
-if(M){
-N=(s_p_64){(u8*)t_62ff,21};
+v=l-48;
+if(d-n<v)goto L3;
+if((u8)(*(c+(i64)n)-48)<10)goto L3;
+t=n+v;
+u=n;
+L5:q=u;
+r=t;
+L4:w8(b+176,r);
+w=c+(i64)q;
+x=r-q;
+if(r!=q){
+if(!(x<10||*w!=95)){
+y=parts_equal_58b((u8*)t_35ad,10,w,10);
+if(y){
+z=(s_p_64){(u8*)t_62ff,21};
 goto L6;}}}
-O=(s_p_64){0};O.f0=K;
-P=O;P.f1=L;
-N=P;
-L6:Q=N.f0;
-R=N.f1;
-if(r8(b+32)-j<R){
-S=make_ready_8e3(b,R,128);
-if(S==0)goto L2;
-T=r8(b+8);}
-else T=j;
-U=r8(b+16);
-if(R>U-T){
-V=grow_amortized_e1a(b,R);
-if(!V)goto L2;
-W=r8(b+16);
-X=r8(b+8);}
+A=(s_p_64){0};A.f0=w;
+B=A;B.f1=x;
+z=B;
+L6:C=z.f0;
+D=z.f1;
+if(r8(b+32)-j<D){
+E=make_ready_8e3(b,D,128);
+if(!(E&1))goto L2;
+F=r8(b+8);}
+else F=j;
+G=r8(b+16);
+if(D>G-F){
+H=grow_amortized_e1a(b,D);
+if(!H)goto L2;
+I=r8(b+16);
+J=r8(b+8);}
 else{
-W=U;
-X=T;}
-Y=X+R;
-Z=rp(b);
+I=G;
+J=F;}
+K=J+D;
+L=rp(b);
 z16(b+8);
-aa=Z+(i64)X;
-if((u64)aa-(u64)Q<R)copy_bits_4f4(Q,aa,R);
-else memmove(aa,Q,R);
-wp(b,Z);
-w8(b+8,Y);
-w8(b+16,W);}
-ba=r8(b+176);
-if(ba<d){
-if(*(c+ba)==95){
-ca=ba+1;
-w8(b+176,ca);
-if(ca<d){
-da=*(c+ca);
-if(da==95){
-ea=ba+2;
-w8(b+176,ea);
-if(d==ea){
-fa=d;
+M=L+(i64)J;
+if((u64)M-(u64)C<D)copy_bits_4f4(C,M,D);
+else memmove(M,C,D);
+wp(b,L);
+w8(b+8,K);
+w8(b+16,I);}
+N=r8(b+176);
+if(N<d){
+if(*(c+N)==95){
+O=N+1;
+w8(b+176,O);
+if(O<d){
+P=*(c+O);
+if(P==95){
+Q=N+2;
+w8(b+176,Q);
+if(d==Q){
+R=d;
 goto L7;}
-ga=ea;
-L8:if((u8)(*(c+ga)-48)<10){
-ha=ga+1;
-if(ha!=d){
-ga=ha;
+S=Q;
+L8:if((u8)(*(c+S)-48)<10){
+T=S+1;
+if(T!=d){
+S=T;
 goto L8;}
-fa=d;}
-else fa=ga;
-L7:if(ea>=fa)goto L9;
-ia=fa&4294967295u;
-if(ia>=d)goto L9;
-if(*(c+ia)!=95)goto L9;
-ja=ia+1;}
+R=d;}
+else R=S;
+L7:if(Q>=R)goto L9;
+U=R&4294967295u;
+if(U>=d)goto L9;
+if(*(c+U)!=95)goto L9;
+V=U+1;}
 else{
-if((u8)(da-58)<246)goto L9;
-ja=ba+2;}
-w8(b+176,ja);
+if((u8)(P-58)<246)goto L9;
+V=N+2;}
+w8(b+176,V);
 goto L10;}
 L9:x4(a,0);
 goto L1;}}
-L10:ka=r8(b+8);
-la=r8(b+48);
-if(r8(b+72)>la)ma=la;
+L10:W=r8(b+8);
+X=r8(b+48);
+if(r8(b+72)>X)Y=X;
 else{
-na=make_ready_17a(b+40);
-if(na==0){
+Z=make_ready_17a(b+40);
+if(!(Z&1)){
 x4(a,0);
 goto L1;}
-ma=r8(b+48);}
-oa=rp(b+40)+ma*12;
-x4(oa,e);
-x4(oa+4,ka);
-oa[8]=0;
-oa[9]=0;
-x2(oa+10,0);
-w8(b+48,ma+1);
+Y=r8(b+48);}
+aa=rp(b+40)+Y*12;
+x4(aa,e);
+x4(aa+4,W);
+aa[8]=0;
+aa[9]=0;
+x2(aa+10,0);
+w8(b+48,Y+1);
 *a=1;
 a[1]=2;
 a[2]=0;
@@ -53437,171 +54353,6 @@ a[3]=0;
 goto L1;}
 L3:L2:x4(a,0);
 L1:return;
-}
-
-/* cpp_direct::direct::Direct::lambda_number */
-static u8 lambda_number_bca(u8* a,u8* b,u64 c)
-{
-u64 d,f,g,j,k,m,n,o,s,u;
-u8 e,h,i,l,r,t;
-u8 *p,*q;
-d=r8(a+176);
-if(d<c){
-e=*(b+d);
-f=d+1;
-w8(a+176,f);
-if(e==95){
-g=r8(a+8);
-if(r8(a+32)-g<2){
-h=make_ready_8e3(a,2,128);
-if(h==0){
-i=0;
-goto L1;}
-j=r8(a+8);}
-else j=g;
-k=r8(a+16);
-if(k-j<2){
-l=grow_amortized_e1a(a,2);
-if(!l){
-i=0;
-goto L1;}
-m=r8(a+16);
-n=r8(a+8);}
-else{
-m=k;
-n=j;}
-o=n+2;
-p=rp(a);
-z16(a+8);
-q=p+(i64)n;
-if((u64)q-(u64)(u8*)t_2ac1<2)copy_bits_4f4((u8*)t_2ac1,q,2);
-else x2(q,32049);
-wp(a,p);
-w8(a+8,o);
-w8(a+16,m);
-i=1;}
-else{
-if((f<c)&((e&248)==48)){
-if(*(b+f)==95){
-w8(a+176,d+2);
-r=e+2;
-s=r8(a+8);
-if(r8(a+32)-s<2){
-t=make_ready_8e3(a,2,128);
-if(t==0){
-i=0;
-goto L1;}
-u=r8(a+8);}
-else u=s;
-*(rp(a)+u)=r;
-*(rp(a)+(i64)u+1)=125;
-w8(a+8,u+2);
-i=1;}
-else i=0;}
-else i=0;}}
-else{
-if(d==18446744073709551615u)i=0;
-else{
-w8(a+176,d+1);
-i=0;}}
-L1:return i;
-}
-
-/* cpp_direct::direct::Direct::open_lambda */
-static u8 open_lambda_2e5(u8* a,u8* b,u64 c,u32 d,u8* e)
-{
-u64 f,l,n,p,q,s,t,u,x,y;
-u8 g,h,i,j,m,o,r,z;
-u16 k;
-u8 *v,*w,*A;
-f=r8(a+176);
-if(f==18446744073709551615u)g=0;
-else{
-h=*e;
-i=e[2];
-j=e[3];
-k=q2(e+4);
-l=f+1;
-w8(a+176,l);
-if(l<c){
-if(*(b+l)!=108||c>1024)g=0;
-else{
-m=are_numbers_short_ddb(b,c);
-if(m){
-w8(a+176,f+2);
-n=r8(a+8);
-if(r8(a+32)-n<10){
-o=make_ready_8e3(a,10,128);
-if(o==0){
-g=0;
-goto L1;}
-p=r8(a+8);}
-else p=n;
-q=r8(a+16);
-if(q-p<10){
-r=grow_amortized_e1a(a,10);
-if(!r){
-g=0;
-goto L1;}
-s=r8(a+16);
-t=r8(a+8);}
-else{
-s=q;
-t=p;}
-u=t+10;
-v=rp(a);
-z16(a+8);
-w=v+(i64)t;
-if((u64)w-(u64)(u8*)t_a6a7<10)copy_bits_4f4((u8*)t_a6a7,w,10);
-else memcpy(w,(u8*)t_a6a7,10);
-wp(a,v);
-w8(a+8,u);
-w8(a+16,s);
-x=r8(a+88);
-if(r8(a+112)>x)y=x;
-else{
-z=make_ready_9a1(a+80);
-if(z==0){
-g=0;
-goto L1;}
-y=r8(a+88);}
-A=rp(a+80)+y*44;
-*A=17;
-A[1]=0;
-x2(A+2,0);
-x4(A+4,d);
-x2(A+8,h);
-A[10]=i;
-A[11]=j;
-x2(A+12,k);
-z30(A+14);
-w8(a+88,y+1);
-g=1;}
-else g=0;}}
-else g=0;}
-L1:return g;
-}
-
-/* cpp_direct::tokens::are_numbers_short */
-static u8 are_numbers_short_ddb(u8* a,u64 b)
-{
-u64 c,d,f,g;
-u8 e;
-c=0;
-d=0;
-L1:if((u8)(*(a+d)-48)<10){
-if(c>18){
-e=0;
-goto L2;}
-f=c+1;}
-else f=0;
-g=d+1;
-if(g!=b){
-c=f;
-d=g;
-goto L1;}
-e=1;
-L2:return e;
 }
 
 /* cpp_direct::direct::Direct::enclosing_parameters */
@@ -53625,7 +54376,7 @@ w8(b+176,i);
 k=r8(b+8);
 if(r8(b+32)-k<2){
 l=make_ready_8e3(b,2,128);
-if(l==0){
+if(!(l&1)){
 x4(a,0);
 goto L1;}
 m=r8(b+8);}
@@ -53644,7 +54395,7 @@ o=n;
 if(r8(b+32)>n)p=n;
 else{
 q=make_ready_8e3(b,1,16);
-if(q==0){
+if(!(q&1)){
 x4(a,0);
 goto L1;}
 p=r8(b+8);}
@@ -53654,7 +54405,7 @@ r=r8(b+88);
 if(r8(b+112)>r)s=r;
 else{
 t=make_ready_9a1(b+80);
-if(t==0){
+if(!(t&1)){
 x4(a,0);
 goto L1;}
 s=r8(b+88);}
@@ -53678,9 +54429,9 @@ static void parameter_ended_06e(u8* a,u8* b,u8* c,u64 d,u8 e,u32 f,u8* g)
 {
 u8 j[32];
 A16 u8 h[4],i[4];
-u64 k,p,r,w,z,B,D,E,G,M,N,O,R,S;
-u8 l,m,n,o,q,s,t,u,v,y,A,C,F,H,I,J,K,L;
-u8 *x,*P,*Q;
+u64 k,p,r,w,z,B,D,E;
+u8 l,m,n,o,q,s,t,u,v,y,A,C,F,G,H,I,J;
+u8 *x;
 k=r8(b+176);
 if(k<d){
 switch(*(c+k)){
@@ -53697,7 +54448,7 @@ else{
 p=r8(b+8);
 if(r8(b+32)-p<2){
 q=make_ready_8e3(b,2,128);
-if(q==0){
+if(!(q&1)){
 l=0;
 m=0;
 n=0;
@@ -53718,6 +54469,7 @@ u=m;
 v=l;
 goto L2;
 }}
+w4(h,0);
 w=r8(b+8);
 if(w>=5){
 x=rp(b)+(i64)w;
@@ -53738,56 +54490,20 @@ C=F;
 D=E;
 goto L4;}
 if(!(A|F)){
-s=0;
-t=0;
-u=0;
-v=0;
-goto L2;}}
-w4(h,0);
-if(r8(b+32)>w)G=w;
-else{
-H=make_ready_8e3(b,1,16);
-if(H==0){
+G=0;
+H=0;
 I=0;
 J=0;
-K=0;
-L=0;
-goto L5;}
-G=r8(b+8);}
-*(rp(b)+G)=41;
-M=G+1;
-w8(b+8,M);
-if(f!=0){
-if(f>(u32)M){
-I=0;
-J=0;
-K=0;
-L=0;
-goto L5;}
-N=M-f;
-if(M==f)O=M;
-else{
-P=rp(b);
-Q=P+(i64)f;
-R=0;
-L6:*(P+R)=*(Q+(i64)R);
-S=R+1;
-if(S!=N){
-R=S;
-goto L6;}
-O=r8(b+8);}
-if(O>N)w8(b+8,N);
-if(r8(b+48)!=0)w8(b+48,0);
-z16(b+64);}
-end_05d(h,b,c,d,e);
-I=h[3];
-J=h[2];
-K=h[1];
-L=*h;
-L5:s=L;
-t=K;
-u=J;
-v=I;
+goto L5;}}
+close_a33(h,b,c,d,e,f);
+G=h[3];
+H=h[2];
+I=h[1];
+J=*h;
+L5:s=J;
+t=I;
+u=H;
+v=G;
 L2:*a=s;
 a[1]=t;
 a[2]=u;
@@ -53832,14 +54548,14 @@ L1:o=r8(b+8);
 if(r8(b+32)>o)p=o;
 else{
 q=make_ready_8e3(b,1,16);
-if(q==0){
+if(!(q&1)){
 x4(a,0);
 goto L2;}
 p=r8(b+8);}
 *(rp(b)+p)=32;
 w8(b+8,p+1);
 r=repeat_28b(b,0,f);
-if(r==0){
+if(!(r&1)){
 x4(a,0);
 goto L2;}
 w4(i,0);
@@ -53850,7 +54566,7 @@ u=r8(b+8);
 if(r8(b+32)>u)v=u;
 else{
 w=make_ready_8e3(b,1,16);
-if(w==0){
+if(!(w&1)){
 x=0;
 y=0;
 z=0;
@@ -53883,7 +54599,7 @@ E=r8(b+88);
 if(r8(b+112)>E)F=E;
 else{
 G=make_ready_9a1(b+80);
-if(G==0){
+if(!(G&1)){
 x=0;
 y=0;
 z=0;
@@ -53929,16 +54645,16 @@ L2:return;
 static void front_hidden_955(u8* a,u8* b,u8* c,u64 d,u8 e,u32 f,u8* g)
 {
 A16 u8 h[4],i[4],j[32];
-u64 k,n,p,q,w,x,y,A,G,H,I,J,M,N,O,P;
-u8 l,o,r,s,t,u,v,z,B,C,D,E,F,Q,S,T,U,V,W;
+u64 k,n,p,q,w,x,z,A;
+u8 l,o,r,s,t,u,v,y,B,D,E,F,G,H;
 u32 m;
-u8 *K,*L,*R;
+u8 *C;
 memcpy(j,g,32);
 k=r8(b+8);
 l=repeat_28b(b,0,f);
-if(l==0)x4(a,0);
-else{
+if(l&1){
 m=k;
+w4(i,0);
 n=r8(b+176);
 if(n<d)o=*(c+n)==118;
 else o=0;
@@ -53946,7 +54662,7 @@ p=r8(b+8);
 if(r8(b+32)>p)q=p;
 else{
 r=make_ready_8e3(b,1,16);
-if(r==0){
+if(!(r&1)){
 s=0;
 t=0;
 u=0;
@@ -53954,109 +54670,68 @@ v=0;
 goto L1;}
 q=r8(b+8);}
 *(rp(b)+q)=40;
-w=q+1;
-w8(b+8,w);
-x=r8(b+176);
-if(x==18446744073709551615u){
+w8(b+8,q+1);
+w=r8(b+176);
+if(w==18446744073709551615u){
 s=0;
 t=0;
 u=0;
 v=0;}
 else{
-y=x+1;
-if(y<d)z=*(c+y);
-else z=0;
+x=w+1;
+if(x<d)y=*(c+x);
+else y=0;
 if(o){
-switch(z){
-case 69:case 46:case 0:w8(b+176,y);
-w4(h,0);
-if(r8(b+32)>w)A=w;
-else{
-B=make_ready_8e3(b,1,16);
-if(B==0){
-C=0;
-D=0;
-E=0;
-F=0;
-goto L2;}
-A=r8(b+8);}
-*(rp(b)+A)=41;
-G=A+1;
-w8(b+8,G);
-if(m!=0){
-if(m>(u32)G){
-C=0;
-D=0;
-E=0;
-F=0;
-goto L2;}
-H=k&4294967295u;
-I=G-H;
-if(G==H)J=G;
-else{
-K=rp(b);
-L=K+(i64)H;
-M=0;
-L3:*(K+M)=*(L+(i64)M);
-N=M+1;
-if(N!=I){
-M=N;
-goto L3;}
-J=r8(b+8);}
-if(J>I)w8(b+8,I);
-if(r8(b+48)!=0)w8(b+48,0);
-z16(b+64);}
-end_05d(h,b,c,d,e);
-C=h[3];
-D=h[2];
-E=h[1];
-F=*h;
-L2:s=C;
-t=D;
-u=E;
-v=F;
+switch(y){
+case 69:case 46:case 0:w8(b+176,x);
+close_a33(i,b,c,d,e,m);
+s=i[3];
+t=i[2];
+u=i[1];
+v=*i;
 goto L1;
 default:break;}}
-O=r8(b+88);
-if(r8(b+112)>O)P=O;
+z=r8(b+88);
+if(r8(b+112)>z)A=z;
 else{
-Q=make_ready_9a1(b+80);
-if(Q==0){
+B=make_ready_9a1(b+80);
+if(!(B&1)){
 s=0;
 t=0;
 u=0;
 v=0;
 goto L1;}
-P=r8(b+88);}
-R=rp(b+80)+P*44;
-*R=10;
-R[1]=e;
-x2(R+2,0);
-x4(R+4,m);
-memcpy(R+8,j,32);
-x4(R+40,0);
-w8(b+88,P+1);
-S=j[29];
-w4(i,0);
-if(S&1){
-expansion_d9b(i,b,c,d,1,e,m,j);
-T=*i;
-U=i[1];
-V=i[2];
-W=i[3];}
+A=r8(b+88);}
+C=rp(b+80)+A*44;
+*C=10;
+C[1]=e;
+x2(C+2,0);
+x4(C+4,m);
+memcpy(C+8,j,32);
+x4(C+40,0);
+w8(b+88,A+1);
+D=j[29];
+w4(h,0);
+if(D&1){
+expansion_d9b(h,b,c,d,1,e,m,j);
+E=*h;
+F=h[1];
+G=h[2];
+H=h[3];}
 else{
-T=1;
-U=0;
-V=0;
-W=0;}
-s=W;
-t=V;
-u=U;
-v=T;}
+E=1;
+F=0;
+G=0;
+H=0;}
+s=H;
+t=G;
+u=F;
+v=E;}
 L1:*a=v;
 a[1]=u;
 a[2]=t;
 a[3]=s;}
+else x4(a,0);
 return;
 }
 
@@ -54091,7 +54766,7 @@ break;
 case 11:memcpy(g,j-32,32);
 enclosing_front_fa8(e,b,k,l,m,g);
 break;
-case 0:case 1:case 2:case 3:case 4:case 5:case 6:case 7:case 8:case 9:case 10:case 12:case 14:case 17:case 18:case 19:case 20:case 21:case 22:case 23:case 24:case 25:n=h-1;
+case 0:case 1:case 2:case 3:case 4:case 5:case 6:case 7:case 8:case 9:case 10:case 12:case 14:case 17:case 18:case 19:case 20:case 21:case 22:case 23:case 24:case 25:case 26:case 27:case 28:case 29:n=h-1;
 w8(b+88,n);
 o=n*44;
 p=i+o;
@@ -54156,7 +54831,7 @@ I=1;
 J=0;
 K=0;
 break;
-case 0:case 1:case 2:case 3:case 7:case 9:case 10:case 11:case 12:case 13:case 14:case 15:case 16:case 17:case 18:case 19:case 20:case 21:case 22:case 23:case 24:case 25:goto L1;
+case 0:case 1:case 2:case 3:case 7:case 9:case 10:case 11:case 12:case 13:case 14:case 15:case 16:case 17:case 18:case 19:case 20:case 21:case 22:case 23:case 24:case 25:case 26:case 27:case 28:case 29:goto L1;
 default:NEVER;
 }
 if(r8(b+112)>n){
@@ -54165,7 +54840,7 @@ M=i;
 N=h;}
 else{
 O=make_ready_9a1(b+80);
-if(O==0){
+if(!(O&1)){
 w4(e,0);
 break;}
 P=r8(b+88);
@@ -54226,7 +54901,7 @@ k=l;}
 if(r8(b+112)>k)m=k;
 else{
 n=make_ready_9a1(b+80);
-if(n==0){
+if(!(n&1)){
 x4(a,0);
 goto L1;}
 m=r8(b+88);}
@@ -54263,7 +54938,7 @@ goto L1;}}
 v=r8(b+8);
 if(r8(b+32)-v<2){
 w=make_ready_8e3(b,2,128);
-if(w==0){
+if(!(w&1)){
 x4(a,0);
 goto L1;}
 x=r8(b+8);}
@@ -54316,7 +54991,7 @@ if(s!=0)w8(b+88,s-1);
 if(r8(b+32)>i)t=i;
 else{
 u=make_ready_8e3(b,1,16);
-if(u==0){
+if(!(u&1)){
 x4(a,0);
 goto L3;}
 t=r8(b+8);}
@@ -54331,7 +55006,7 @@ goto L3;}}
 v=r8(b+8);
 if(r8(b+32)-v<2){
 w=make_ready_8e3(b,2,128);
-if(w==0){
+if(!(w&1)){
 x4(a,0);
 goto L3;}
 x=r8(b+8);}
@@ -54358,8 +55033,7 @@ j=r8(b+88);
 if(j!=0)w8(b+88,j-1);
 k=r8(b+8);
 l=repeat_28b(b,0,f);
-if(l==0)x4(a,0);
-else{
+if(l&1){
 m=k&4294967295u;
 n=r8(b+8);
 o=n-m;
@@ -54368,7 +55042,7 @@ else{
 q=rp(b);
 r=q+(i64)m;
 s=0;
-L1:*(q+s)=*(r+(i64)s);
+L1:*(q+(i64)s)=*(r+(i64)s);
 t=s+1;
 if(t!=o){
 s=t;
@@ -54395,6 +55069,7 @@ L2:addressed_parameters_382(h,b,c,d,e,f,i);
 a[1]=h[1];
 a[2]=h[2];
 a[3]=h[3];}
+else x4(a,0);
 return;
 }
 
@@ -54419,7 +55094,7 @@ w8(b+176,k);
 m=r8(b+8);
 if(r8(b+32)-m<2){
 n=make_ready_8e3(b,2,128);
-if(n==0){
+if(!(n&1)){
 x4(a,0);
 goto L1;}
 o=r8(b+8);}
@@ -54437,7 +55112,7 @@ p=r8(b+8);
 if(r8(b+32)>p)q=p;
 else{
 r=make_ready_8e3(b,1,16);
-if(r==0){
+if(!(r&1)){
 x4(a,0);
 goto L1;}
 q=r8(b+8);}
@@ -54447,7 +55122,7 @@ s=r8(b+88);
 if(r8(b+112)>s)t=s;
 else{
 u=make_ready_9a1(b+80);
-if(u==0){
+if(!(u&1)){
 x4(a,0);
 goto L1;}
 t=r8(b+88);}
@@ -54477,7 +55152,7 @@ case 0:goto L1;
 case 1:f=r8(b+8);
 if(r8(b+32)-f<6){
 g=make_ready_8e3(b,6,128);
-if(g==0)break;
+if(!(g&1))break;
 h=r8(b+8);}
 else h=f;
 i=r8(b+16);
@@ -54502,7 +55177,7 @@ goto L1;
 case 2:p=r8(b+8);
 if(r8(b+32)-p<2){
 q=make_ready_8e3(b,2,128);
-if(q==0)break;
+if(!(q&1))break;
 r=r8(b+8);}
 else r=p;
 s=r8(b+16);
@@ -54527,7 +55202,7 @@ goto L1;
 case 3:z=r8(b+8);
 if(r8(b+32)-z<8){
 A=make_ready_8e3(b,8,128);
-if(A==0)break;
+if(!(A&1))break;
 B=r8(b+8);}
 else B=z;
 C=r8(b+16);
@@ -54552,7 +55227,7 @@ goto L1;
 case 4:J=r8(b+8);
 if(r8(b+32)-J<3){
 K=make_ready_8e3(b,3,128);
-if(K==0)break;
+if(!(K&1))break;
 L=r8(b+8);}
 else L=J;
 M=r8(b+16);
@@ -54577,7 +55252,7 @@ goto L1;
 case 5:T=r8(b+8);
 if(r8(b+32)-T<9){
 U=make_ready_8e3(b,9,128);
-if(U==0)break;
+if(!(U&1))break;
 V=r8(b+8);}
 else V=T;
 W=r8(b+16);
@@ -54684,7 +55359,7 @@ if(r!=0)w8(b+88,r-1);
 if(r8(b+32)>h)s=h;
 else{
 t=make_ready_8e3(b,1,16);
-if(t==0){
+if(!(t&1)){
 x4(a,0);
 goto L3;}
 s=r8(b+8);}
@@ -54699,7 +55374,7 @@ goto L3;}}
 u=r8(b+8);
 if(r8(b+32)-u<2){
 v=make_ready_8e3(b,2,128);
-if(v==0){
+if(!(v&1)){
 x4(a,0);
 goto L3;}
 w=r8(b+8);}
@@ -54726,8 +55401,7 @@ h=r8(b+88);
 if(h!=0)w8(b+88,h-1);
 i=r8(b+8);
 j=repeat_28b(b,0,e);
-if(j==0)x4(a,0);
-else{
+if(j&1){
 k=i&4294967295u;
 l=r8(b+8);
 m=l-k;
@@ -54736,7 +55410,7 @@ else{
 o=rp(b);
 p=o+(i64)k;
 q=0;
-L1:*(o+q)=*(p+(i64)q);
+L1:*(o+(i64)q)=*(p+(i64)q);
 r=q+1;
 if(r!=m){
 q=r;
@@ -54767,7 +55441,7 @@ u=r8(b+8);
 L2:if(r8(b+32)>u)A=u;
 else{
 B=make_ready_8e3(b,1,16);
-if(B==0){
+if(!(B&1)){
 C=0;
 goto L4;}
 A=r8(b+8);}
@@ -54777,7 +55451,7 @@ D=r8(b+88);
 if(r8(b+112)>D)E=D;
 else{
 F=make_ready_9a1(b+80);
-if(F==0){
+if(!(F&1)){
 C=0;
 goto L4;}
 E=r8(b+88);}
@@ -54794,7 +55468,122 @@ L4:*a=C;
 a[1]=0;
 a[2]=0;
 a[3]=0;}
+else x4(a,0);
 return;
+}
+
+/* cpp_direct::types::dependent */
+static void dependent_8e0(u8* a,u8* b)
+{
+u8 c,g,h,j,k,l,o,q,r,s,t,v,w,y;
+u32 d,e,f,m,n,u,x;
+u16 i,p;
+c=*b;
+d=q4(b+4);
+e=q4(b+8);
+f=q4(b+12);
+g=b[16];
+h=b[17];
+i=q2(b+18);
+j=b[20];
+k=b[21];
+l=b[22];
+switch(c){
+case 4:m=0;
+n=0;
+o=0;
+p=0;
+q=0;
+r=0;
+s=0;
+t=0;
+u=1;
+v=c;
+w=0;
+x=d;
+y=1;
+break;
+case 5:if(g!=0){
+z48(a);
+goto L1;}
+m=(e>>8)&16777215;
+n=f;
+o=h;
+p=i;
+q=j&1;
+r=k&1;
+s=l&1;
+t=1;
+u=1;
+v=5;
+w=0;
+x=d;
+y=e;
+break;
+case 6:if(g!=0){
+z48(a);
+goto L1;}
+m=(e>>8)&16777215;
+n=f;
+o=h;
+p=i;
+q=j&1;
+r=k&1;
+s=l&1;
+t=1;
+u=1;
+v=6;
+w=0;
+x=d;
+y=e;
+break;
+case 8:m=0;
+n=0;
+o=0;
+p=0;
+q=0;
+r=0;
+s=0;
+t=0;
+u=1;
+v=c;
+w=1;
+x=0;
+y=0;
+break;
+case 0:case 1:case 2:case 3:case 7:case 9:case 10:case 11:case 12:case 13:case 14:case 15:case 16:case 17:case 18:case 19:case 20:case 21:case 22:case 23:case 24:case 25:case 26:case 27:case 28:case 29:m=0;
+n=0;
+o=0;
+p=0;
+q=0;
+r=0;
+s=0;
+t=0;
+u=0;
+v=0;
+w=0;
+x=0;
+y=0;
+break;
+default:NEVER;
+}
+x4(a,u);
+a[4]=v;
+a[5]=w;
+x2(a+6,0);
+x4(a+8,x);
+a[12]=y;
+x3(a+13,m);
+x4(a+16,n);
+a[20]=0;
+a[21]=o;
+x2(a+22,p);
+a[24]=q;
+a[25]=r;
+a[26]=s;
+a[27]=t;
+z20(a+28);
+L1:return;
 }
 
 /* cpp_direct::direct::Direct::returned */
@@ -54811,7 +55600,7 @@ i=e?(u8*)t_cbf6:(u8*)t_4f5a;
 j=r8(b+8);
 if(r8(b+32)-j<h){
 k=make_ready_8e3(b,h,128);
-if(k==0)goto L1;
+if(!(k&1))goto L1;
 l=r8(b+8);}
 else l=j;
 m=r8(b+16);
@@ -54836,12 +55625,12 @@ t=r8(b+88);
 if(r8(b+112)>t)u=t;
 else{
 v=make_ready_9a1(b+80);
-if(v==0){
+if(!(v&1)){
 x4(a,0);
 goto L2;}
 u=r8(b+88);}
 w=rp(b+80)+u*44;
-*w=20;
+*w=23;
 w[1]=e;
 z42(w+2);
 w8(b+88,u+1);
@@ -54891,7 +55680,7 @@ g=r8(b+8);
 if(r8(b+32)>g)h=g;
 else{
 i=make_ready_8e3(b,1,16);
-if(i==0){
+if(!(i&1)){
 x4(a,0);
 goto L1;}
 h=r8(b+8);}
@@ -54902,7 +55691,7 @@ j=r8(b+48);
 if(r8(b+72)>j)k=j;
 else{
 l=make_ready_17a(b+40);
-if(l==0)goto L2;
+if(!(l&1))goto L2;
 k=r8(b+48);}
 m=rp(b+40)+k*12;
 x4(m,1);
@@ -54914,7 +55703,7 @@ else o=r8(b+48);
 if(r8(b+72)>o)p=o;
 else{
 q=make_ready_17a(b+40);
-if(q==0)goto L2;
+if(!(q&1))goto L2;
 p=r8(b+48);}
 r=rp(b+40)+p*12;
 x4(r,1);
@@ -54922,7 +55711,7 @@ x8(r+4,0);
 w8(b+48,p+1);
 s=r8(b+88);
 if(s!=0)w8(b+88,s-1);
-pass_element_c99(f,b,c,d);
+pass_element_c99(f,b,c,d,0);
 *a=*f;
 a[1]=f[1];
 a[2]=f[2];
@@ -54933,46 +55722,54 @@ L1:return;
 }
 
 /* cpp_direct::direct::Direct::pass_element */
-static void pass_element_c99(u8* a,u8* b,u8* c,u64 d)
+static void pass_element_c99(u8* a,u8* b,u8* c,u64 d,u8 e)
 {
-u8 f[32];
-A16 u8 e[4];
-u64 g;
-u8 *h;
-u8 i,k,l,m;
-u32 j;
-w4(e,0);
-g=r8(b+88);
-if(g==0)x4(a,0);
+u8 g[32],h[32];
+A16 u8 f[4];
+u64 i;
+u8 *j;
+u8 k,m,o,p,q;
+u32 l,n;
+w4(f,0);
+i=r8(b+88);
+if(i==0)x4(a,0);
 else{
-h=rp(b+80)+(i64)(g*44);
-switch(h[-44]){
-case 10:i=h[-43];
-j=r4(h-40);
-memcpy(f,h-36,32);
-parameter_ended_06e(e,b,c,d,i,j,f);
+j=rp(b+80)+(i64)(i*44);
+switch(j[-44]){
+case 10:k=j[-43];
+l=r4(j-40);
+memcpy(g,j-36,32);
+parameter_ended_06e(f,b,c,d,k,l,g);
 break;
-case 12:enclosing_parameter_d72(e,b,c,d,h[-43],r4(h-40));
+case 12:enclosing_parameter_d72(f,b,c,d,j[-43],r4(j-40));
 break;
-case 13:instance_parameter_e2a(e,b,c,d,h[-43],r4(h-40),r4(h-36));
+case 13:instance_parameter_e2a(f,b,c,d,j[-43],r4(j-40),r4(j-36));
 break;
-case 18:finish_8cd(e,b,c,d);
+case 19:finish_8cd(f,b,c,d);
 break;
-case 0:case 1:case 2:case 3:case 4:case 5:case 6:case 7:case 8:case 9:case 11:case 14:case 15:case 16:case 17:case 19:case 20:case 21:case 22:case 23:case 24:case 25:*e=1;
-e[1]=3;
-e[2]=0;
-e[3]=0;
+case 28:if(!e){
+x4(a,0);
+goto L1;}
+m=j[-36];
+n=r4(j-40);
+memcpy(h,j-34,32);
+element_ended_d46(f,b,c,d,n,m,h,1);
+break;
+case 0:case 1:case 2:case 3:case 4:case 5:case 6:case 7:case 8:case 9:case 11:case 14:case 15:case 16:case 17:case 18:case 20:case 21:case 22:case 23:case 24:case 25:case 26:case 27:case 29:*f=1;
+f[1]=3;
+f[2]=0;
+f[3]=0;
 break;
 default:NEVER;
 }
-k=e[1];
-l=e[2];
-m=e[3];
-*a=*e;
-a[1]=k;
-a[2]=l;
-a[3]=m;}
-return;
+o=f[1];
+p=f[2];
+q=f[3];
+*a=*f;
+a[1]=o;
+a[2]=p;
+a[3]=q;}
+L1:return;
 }
 
 /* cpp_direct::direct::Direct::parameter_at */
@@ -55022,7 +55819,7 @@ else{
 u=r8(b+8);
 if(r8(b+32)-u<2){
 v=make_ready_8e3(b,2,128);
-if(v==0){
+if(!(v&1)){
 x4(a,0);
 goto L3;}
 w=r8(b+8);}
@@ -55042,7 +55839,7 @@ A=r8(b+88);
 if(r8(b+112)>A)B=A;
 else{
 C=make_ready_9a1(b+80);
-if(C==0){
+if(!(C&1)){
 D=0;
 break;}
 B=r8(b+88);}
@@ -55060,7 +55857,7 @@ F=r8(b+88);
 if(r8(b+112)>F)G=F;
 else{
 H=make_ready_9a1(b+80);
-if(H==0){
+if(!(H&1)){
 D=0;
 break;}
 G=r8(b+88);}
@@ -55100,7 +55897,7 @@ k=rp((u8*)t_7cd2+(u64)e*8);
 l=r8(b+8);
 if(r8(b+32)-l<j){
 m=make_ready_8e3(b,j,128);
-if(m==0)goto L1;
+if(!(m&1))goto L1;
 n=r8(b+8);}
 else n=l;
 o=r8(b+16);
@@ -55135,7 +55932,7 @@ A=v+(i64)z;
 B=w-z;
 if(r8(b+32)-s<B){
 C=make_ready_8e3(b,B,128);
-if(C==0)goto L3;
+if(!(C&1))goto L3;
 D=r8(b+8);
 E=r8(b+16);}
 else{
@@ -55163,7 +55960,7 @@ L=J;
 M=I;}
 else{
 N=make_ready_8e3(b,1,16);
-if(N==0){
+if(!(N&1)){
 x4(a,0);
 goto L4;}
 L=rp(b);
@@ -55176,7 +55973,7 @@ P=r8(b+48);
 if(r8(b+72)>P)Q=P;
 else{
 R=make_ready_17a(b+40);
-if(R==0)goto L5;
+if(!(R&1))goto L5;
 Q=r8(b+48);}
 S=rp(b+40)+Q*12;
 x4(S,1);
@@ -55187,13 +55984,13 @@ O=T;}
 if(r8(b+72)>O)U=O;
 else{
 V=make_ready_17a(b+40);
-if(V==0)goto L5;
+if(!(V&1))goto L5;
 U=r8(b+48);}
 W=rp(b+40)+U*12;
 x4(W,1);
 x8(W+4,0);
 w8(b+48,U+1);
-pass_element_c99(h,b,c,d);
+pass_element_c99(h,b,c,d,e==2);
 *a=*h;
 a[1]=h[1];
 a[2]=h[2];
@@ -55210,148 +56007,176 @@ L4:return;
 /* cpp_direct::direct::Direct::lambda_parameter */
 static void lambda_parameter_f9a(u8* a,u8* b,u8* c,u64 d,u32 e,u8* f)
 {
-u64 g,l,o,q,s,t,w,y,z,A,C,D,E,F,G,H,L,M,P,R;
-u8 h,i,j,n,p,r,u,v,x,B,I,J,N,Q;
-u16 k;
-u8 *m,*O;
-u32 K;
-g=r8(b+176);
-if(g<d){
-if(*(c+g)==69){
-h=*f;
-i=f[2];
-j=f[3];
-k=q2(f+4);
-l=r8(b+8);
-if(l>=5){
-m=rp(b)+(i64)l;
-n=0;
-o=0;
-L1:p=n||*((u8*)t_262b+(i64)o)!=*(m-5+(i64)o);
-q=o+1;
-if(q!=4){
-n=p;
-o=q;
+A16 u8 g[4];
+u64 h,n,q,s,u,v,y,A,B,C,E,F,G,H,I,J,P,Q,T,V;
+u8 i,j,k,l,p,r,t,w,x,z,D,K,L,M,N,R,U;
+u16 m;
+u8 *o,*S;
+u32 O;
+h=r8(b+176);
+if(h<d){
+if(*(c+h)==69){
+i=*f;
+j=f[1];
+k=f[2];
+l=f[3];
+m=q2(f+4);
+n=r8(b+8);
+if(n>=5){
+o=rp(b)+(i64)n;
+p=0;
+q=0;
+L1:r=p||*((u8*)t_262b+(i64)q)!=*(o-5+(i64)q);
+s=q+1;
+if(s!=4){
+p=r;
+q=s;
 goto L1;}
-r=0;
-s=0;
-L2:t=s+1;
-u=r||*((u8*)t_262b+(i64)t)!=*(m-5+(i64)t);
-if(t!=4){
-r=u;
-s=t;
+t=0;
+u=0;
+L2:v=u+1;
+w=t||*((u8*)t_262b+(i64)v)!=*(o-5+(i64)v);
+if(v!=4){
+t=w;
+u=v;
 goto L2;}
-if(!(p|u)){
+if(!(r|w)){
 x4(a,0);
 goto L3;}}
-w8(b+176,g+1);
-if(r8(b+32)-l<2){
-v=make_ready_8e3(b,2,128);
-if(v==0){
+w8(b+176,h+1);
+if(r8(b+32)-n<2){
+x=make_ready_8e3(b,2,128);
+if(!(x&1)){
 x4(a,0);
 goto L3;}
-w=r8(b+8);}
-else w=l;
-*(rp(b)+w)=41;
-*(rp(b)+(i64)w+1)=35;
-w8(b+8,w+2);
-x=lambda_number_bca(b,c,d);
-if(x==0){
+y=r8(b+8);}
+else y=n;
+*(rp(b)+y)=41;
+*(rp(b)+(i64)y+1)=35;
+w8(b+8,y+2);
+z=lambda_number_bca(b,c,d);
+if(!(z&1)){
 x4(a,0);
 goto L3;}
-y=r8(b+88);
-if(y!=0)w8(b+88,y-1);
-if(h==0){
-z=r8(b+176);
-if(z<d){
-if(*(c+z)==95){
-A=z+1;
-w8(b+176,A);
-if(A>=d){
-I=0;
-J=0;
-goto L4;}
-B=*(c+A);
-if(B==95){
-C=z+2;
+A=r8(b+88);
+if(A!=0)w8(b+88,A-1);
+w4(g,0);
+switch(i){
+case 0:B=r8(b+176);
+if(B<d){
+if(*(c+B)==95){
+C=B+1;
 w8(b+176,C);
-if(d==C){
-D=d;
+if(C>=d){
+K=0;
+L=0;
+M=0;
+N=0;
+break;}
+D=*(c+C);
+if(D==95){
+E=B+2;
+w8(b+176,E);
+if(d==E){
+F=d;
+goto L4;}
+G=E;
+L5:if((u8)(*(c+G)-48)<10){
+H=G+1;
+if(H!=d){
+G=H;
 goto L5;}
-E=C;
-L6:if((u8)(*(c+E)-48)<10){
-F=E+1;
-if(F!=d){
-E=F;
-goto L6;}
-D=d;}
-else D=E;
-L5:if(C>=D){
-I=0;
-J=0;
-goto L4;}
-G=D&4294967295u;
-if(G>=d){
-I=0;
-J=0;
-goto L4;}
-if(*(c+G)!=95){
-I=0;
-J=0;
-goto L4;}
-H=G+1;}
+F=d;}
+else F=G;
+L4:if(E>=F){
+K=0;
+L=0;
+M=0;
+N=0;
+break;}
+I=F&4294967295u;
+if(I>=d){
+K=0;
+L=0;
+M=0;
+N=0;
+break;}
+if(*(c+I)!=95){
+K=0;
+L=0;
+M=0;
+N=0;
+break;}
+J=I+1;}
 else{
-if((u8)(B-58)<246){
-I=0;
-J=0;
-goto L4;}
-H=z+2;}
-w8(b+176,H);}}
-K=r8(b+8);
-L=r8(b+48);
-if(r8(b+72)>L)M=L;
+if((u8)(D-58)<246){
+K=0;
+L=0;
+M=0;
+N=0;
+break;}
+J=B+2;}
+w8(b+176,J);}}
+O=r8(b+8);
+P=r8(b+48);
+if(r8(b+72)>P)Q=P;
 else{
-N=make_ready_17a(b+40);
-if(N==0){
-I=0;
-J=0;
-goto L4;}
-M=r8(b+48);}
-O=rp(b+40)+M*12;
-x4(O,e);
-x4(O+4,K);
-O[8]=0;
-O[9]=0;
-x2(O+10,0);
-w8(b+48,M+1);
-I=1;
-J=2;}
-else{
-x4(b+120,e);
+R=make_ready_17a(b+40);
+if(!(R&1)){
+K=0;
+L=0;
+M=0;
+N=0;
+break;}
+Q=r8(b+48);}
+S=rp(b+40)+Q*12;
+x4(S,e);
+x4(S+4,O);
+S[8]=0;
+S[9]=0;
+x2(S+10,0);
+w8(b+48,Q+1);
+K=1;
+L=2;
+M=0;
+N=0;
+break;
+case 1:x4(b+120,e);
 x4(b+124,e);
 x4(b+128,e);
-b[132]=i;
-b[133]=j;
-x2(b+134,k);
+b[132]=k;
+b[133]=l;
+x2(b+134,m);
 x4(b+136,0);
-I=1;
-J=5;}
-L4:*a=I;
-a[1]=J;
-a[2]=0;
-a[3]=0;
+K=1;
+L=5;
+M=0;
+N=0;
+break;
+case 2:member_function_aa3(g,b,c,d,j);
+K=*g;
+L=g[1];
+M=g[2];
+N=g[3];
+break;
+default:NEVER;
+}
+*a=K;
+a[1]=L;
+a[2]=M;
+a[3]=N;
 goto L3;}}
-P=r8(b+8);
-if(r8(b+32)-P<2){
-Q=make_ready_8e3(b,2,128);
-if(Q==0){
+T=r8(b+8);
+if(r8(b+32)-T<2){
+U=make_ready_8e3(b,2,128);
+if(!(U&1)){
 x4(a,0);
 goto L3;}
-R=r8(b+8);}
-else R=P;
-*(rp(b)+R)=44;
-*(rp(b)+(i64)R+1)=32;
-w8(b+8,R+2);
+V=r8(b+8);}
+else V=T;
+*(rp(b)+V)=44;
+*(rp(b)+(i64)V+1)=32;
+w8(b+8,V+2);
 *a=1;
 a[1]=0;
 a[2]=0;
@@ -55359,141 +56184,381 @@ a[3]=0;
 L3:return;
 }
 
+/* cpp_direct::direct::Direct::member_parameter */
+static void member_parameter_678(u8* a,u8* b,u8* c,u64 d,u8 e)
+{
+A16 u8 f[4];
+u64 g,h,j,k,n,p,r,s,u,v;
+u8 i,m,o,q,t,w;
+u8 *l;
+w4(f,0);
+g=r8(b+176);
+if(g<d){
+switch(*(c+g)){
+case 69:case 46:case 0:break;
+default:h=r8(b+8);
+if(r8(b+32)-h<2){
+i=make_ready_8e3(b,2,128);
+if(!(i&1)){
+x4(a,0);
+goto L1;}
+j=r8(b+8);}
+else j=h;
+*(rp(b)+j)=44;
+*(rp(b)+(i64)j+1)=32;
+w8(b+8,j+2);
+*a=1;
+a[1]=0;
+a[2]=0;
+a[3]=0;
+goto L1;
+}}
+k=r8(b+8);
+if(k>=5){
+l=rp(b)+(i64)k;
+m=0;
+n=0;
+L2:o=m||*((u8*)t_262b+(i64)n)!=*(l-5+(i64)n);
+p=n+1;
+if(p!=4){
+m=o;
+n=p;
+goto L2;}
+q=0;
+r=0;
+L3:s=r+1;
+t=q||*((u8*)t_262b+(i64)s)!=*(l-5+(i64)s);
+if(s!=4){
+q=t;
+r=s;
+goto L3;}
+if(!(o|t)){
+x4(a,0);
+goto L1;}}
+u=r8(b+88);
+if(u!=0)w8(b+88,u-1);
+if(r8(b+32)>k)v=k;
+else{
+w=make_ready_8e3(b,1,16);
+if(!(w&1)){
+x4(a,0);
+goto L1;}
+v=r8(b+8);}
+*(rp(b)+v)=41;
+w8(b+8,v+1);
+member_ended_9dc(f,b,c,d,e);
+*a=*f;
+a[1]=f[1];
+a[2]=f[2];
+a[3]=f[3];
+L1:return;
+}
+
+/* cpp_direct::direct::Direct::derived_ended */
+static void derived_ended_aef(u8* a,u8* b,u8* c,u64 d)
+{
+u64 e,f,h,i,j,k,l,n,o,q,r,s,v,w;
+u32 g;
+u8 m,p,x;
+u8 *t,*u,*y;
+e=r8(b+176);
+if(d>=e){
+f=r8(b+8);
+g=f;
+if(d==e){
+h=d;
+goto L1;}
+i=e;
+L2:if((u8)(*(c+i)-48)<10){
+j=i+1;
+if(j!=d){
+i=j;
+goto L2;}
+h=d;}
+else h=i;
+L1:if(e<h){
+k=h&4294967295u;
+if(k<d){
+if(*(c+k)==95){
+w8(b+176,k+1);
+l=r8(b+88);
+if(l!=0)w8(b+88,l-1);
+if(r8(b+32)-f<24){
+m=make_ready_8e3(b,24,128);
+if(!(m&1))goto L3;
+n=r8(b+8);}
+else n=f;
+o=r8(b+16);
+if(o-n<24){
+p=grow_amortized_e1a(b,24);
+if(!p)goto L3;
+q=r8(b+16);
+r=r8(b+8);}
+else{
+q=o;
+r=n;}
+s=r+24;
+t=rp(b);
+z16(b+8);
+u=t+(i64)r;
+if((u64)u-(u64)(u8*)t_1a19<24)copy_bits_4f4((u8*)t_1a19,u,24);
+else memcpy(u,(u8*)t_1a19,24);
+wp(b,t);
+w8(b+8,s);
+w8(b+16,q);
+v=r8(b+88);
+if(r8(b+112)>v)w=v;
+else{
+x=make_ready_9a1(b+80);
+if(!(x&1)){
+x4(a,0);
+goto L4;}
+w=r8(b+88);}
+y=rp(b+80)+w*44;
+*y=21;
+y[1]=0;
+x2(y+2,0);
+x4(y+4,g);
+z36(y+8);
+w8(b+88,w+1);
+*a=1;
+a[1]=0;
+a[2]=0;
+a[3]=0;
+goto L4;
+L3:x4(a,0);
+goto L4;}}}}
+x4(a,0);
+L4:return;
+}
+
+/* cpp_direct::direct::Direct::base_ended */
+static void base_ended_299(u8* a,u8* b,u8* c,u64 d,u32 e)
+{
+A16 u8 f[4];
+u64 g,i,j,l,m,n,r,s,t,w,x;
+u8 h,k,q,y;
+u8 *o,*p,*u,*v;
+w4(f,0);
+g=r8(b+8);
+if(r8(b+32)-g<4){
+h=make_ready_8e3(b,4,128);
+if(!(h&1))goto L1;
+i=r8(b+8);}
+else i=g;
+j=r8(b+16);
+if(j-i<4){
+k=grow_amortized_e1a(b,4);
+if(!k)goto L1;
+l=r8(b+16);
+m=r8(b+8);}
+else{
+l=j;
+m=i;}
+n=m+4;
+o=rp(b);
+z16(b+8);
+p=o+(i64)m;
+if((u64)p-(u64)(u8*)t_7285<4)copy_bits_4f4((u8*)t_7285,p,4);
+else x4(p,762210605);
+wp(b,o);
+w8(b+8,n);
+w8(b+16,l);
+q=repeat_28b(b,0,e);
+if(!(q&1)){
+x4(a,0);
+goto L2;}
+if(e!=0){
+r=r8(b+8);
+if(e>(u32)r){
+x4(a,0);
+goto L2;}
+s=r-e;
+if(r==e)t=e;
+else{
+u=rp(b);
+v=u+(i64)e;
+w=0;
+L3:*(u+(i64)w)=*(v+(i64)w);
+x=w+1;
+if(x!=s){
+w=x;
+goto L3;}
+t=r8(b+8);}
+if(t>s)w8(b+8,s);
+if(d>=3){
+y=c[2];
+if(d<5){
+if(y!=90)goto L4;}
+else{
+switch(y){
+case 90:break;
+case 71:if(c[3]!=86)goto L4;
+if(c[4]!=90)goto L4;
+break;
+default:goto L4;
+}}
+hide_all_828(b);
+goto L5;}
+L4:if(r8(b+48)!=0)w8(b+48,0);
+z16(b+64);}
+L5:finish_8cd(f,b,c,d);
+*a=*f;
+a[1]=f[1];
+a[2]=f[2];
+a[3]=f[3];
+goto L2;
+L1:x4(a,0);
+L2:return;
+}
+
 /* cpp_direct::direct::Direct::enumerator */
 static void enumerator_21c(u8* a,u8* b,u8* c,u64 d)
 {
-u64 e,h,j,l,n,p,r,t,v,x,z,B,C,F,H,J,K,M,O,P,R,S,T,W,Z;
-u8 *f,*U,*V;
-u8 g,i,k,m,o,q,s,u,w,y,A,D,E,G,I,L,N,Q,X,Y;
-e=r8(b+8);
-if(e>=4){
-f=rp(b)+(i64)e;
-g=0;
-h=0;
-L1:i=g||*((u8*)t_bb1b+(i64)h)!=*(f-4+(i64)h);
-j=h+1;
-if(j!=4){
-g=i;
-h=j;
-goto L1;}
-k=0;
-l=0;
-L2:m=k||*((u8*)t_bb1b+(i64)l)!=*(f-4+(i64)l);
-n=l+1;
-if(n!=4){
-k=m;
-l=n;
-goto L2;}
-if(!(i|m)){
-x4(a,0);
-goto L3;}
-o=0;
-p=0;
-L4:q=o||*((u8*)t_91bb+(i64)p)!=*(f-4+(i64)p);
-r=p+1;
-if(r!=4){
-o=q;
-p=r;
-goto L4;}
-s=0;
-t=0;
-L5:u=s||*((u8*)t_91bb+(i64)t)!=*(f-4+(i64)t);
-v=t+1;
-if(v!=4){
-s=u;
-t=v;
-goto L5;}
-if(!(q|u)){
-x4(a,0);
-goto L3;}
-if(e!=4){
-w=0;
-x=0;
-L6:y=w||*((u8*)t_53bd+(i64)x)!=*(f-5+(i64)x);
-z=x+1;
-if(z!=4){
-w=y;
-x=z;
-goto L6;}
-A=0;
-B=0;
-L7:C=B+1;
-D=A||*((u8*)t_53bd+(i64)C)!=*(f-5+(i64)C);
-if(C!=4){
-A=D;
-B=C;
-goto L7;}
-if(!(y|D)){
-x4(a,0);
-goto L3;}
-E=0;
-F=0;
-L8:G=E||*((u8*)t_e9c6+(i64)F)!=*(f-5+(i64)F);
-H=F+1;
-if(H!=4){
-E=G;
-F=H;
-goto L8;}
-I=0;
-J=0;
-L9:K=J+1;
-L=I||*((u8*)t_e9c6+(i64)K)!=*(f-5+(i64)K);
-if(K!=4){
-I=L;
-J=K;
-goto L9;}
-if(!(G|L)){
-x4(a,0);
-goto L3;}}}
-M=r8(b+88);
-if(M!=0)w8(b+88,M-1);
-if(r8(b+32)==e){
-N=make_ready_8e3(b,1,128);
-if(N==0)goto L10;
-O=r8(b+8);}
-else O=e;
-P=r8(b+16);
-if(P==O){
-Q=grow_amortized_e1a(b,1);
-if(!Q)goto L10;
-R=r8(b+16);
-S=r8(b+8);}
+u8 e,h,k,r,s;
+u64 f,g,i,j,l,m,n,q,t;
+u8 *o,*p;
+e=ends_as_integer_bdf(b);
+if(e)x4(a,0);
 else{
-R=P;
-S=O;}
-T=S+1;
-U=rp(b);
+f=r8(b+88);
+if(f!=0)w8(b+88,f-1);
+g=r8(b+8);
+if(r8(b+32)==g){
+h=make_ready_8e3(b,1,128);
+if(!(h&1))goto L1;
+i=r8(b+8);}
+else i=g;
+j=r8(b+16);
+if(j==i){
+k=grow_amortized_e1a(b,1);
+if(!k)goto L1;
+l=r8(b+16);
+m=r8(b+8);}
+else{
+l=j;
+m=i;}
+n=m+1;
+o=rp(b);
 z16(b+8);
-V=U+(i64)S;
-if((u64)V==(u64)(u8*)t_ba5e)copy_bits_4f4((u8*)t_ba5e,V,1);
-else *V=41;
-wp(b,U);
-w8(b+8,T);
-w8(b+16,R);
-W=r8(b+176);
-if(W<d){
-if(*(c+W)==110){
-w8(b+176,W+1);
-X=1;}
-else X=0;}
-else X=0;
-Y=digits_418(b,c,d,X);
-if(Y==0){
+p=o+(i64)m;
+if((u64)p==(u64)(u8*)t_ba5e)copy_bits_4f4((u8*)t_ba5e,p,1);
+else *p=41;
+wp(b,o);
+w8(b+8,n);
+w8(b+16,l);
+q=r8(b+176);
+if(q<d){
+if(*(c+q)==110){
+w8(b+176,q+1);
+r=1;}
+else r=0;}
+else r=0;
+s=digits_418(b,c,d,r);
+if(!(s&1)){
 x4(a,0);
-goto L3;}
-Z=r8(b+176);
-if(Z<d){
-if(*(c+Z)==69){
-w8(b+176,Z+1);
+goto L2;}
+t=r8(b+176);
+if(t<d){
+if(*(c+t)==69){
+w8(b+176,t+1);
 *a=1;
 a[1]=3;
 a[2]=0;
 a[3]=0;
-goto L3;}}
+goto L2;}}
 x4(a,0);
-goto L3;
-L10:x4(a,0);
-L3:return;
+goto L2;
+L1:x4(a,0);}
+L2:return;
+}
+
+/* cpp_direct::direct::Direct::ends_as_integer */
+static u8 ends_as_integer_bdf(u8* a)
+{
+u64 b,f,h,j,l,n,p,r,t,v,x,z,A,D,F,H,I;
+u8 c,e,g,i,k,m,o,q,s,u,w,y,B,C,E,G,J;
+u8 *d;
+b=r8(a+8);
+if(b<4)c=0;
+else{
+d=rp(a)+(i64)b;
+e=0;
+f=0;
+L1:g=e||*((u8*)t_bb1b+(i64)f)!=*(d-4+(i64)f);
+h=f+1;
+if(h!=4){
+e=g;
+f=h;
+goto L1;}
+i=0;
+j=0;
+L2:k=i||*((u8*)t_bb1b+(i64)j)!=*(d-4+(i64)j);
+l=j+1;
+if(l!=4){
+i=k;
+j=l;
+goto L2;}
+if(!(g|k)){
+c=1;
+goto L3;}
+m=0;
+n=0;
+L4:o=m||*((u8*)t_91bb+(i64)n)!=*(d-4+(i64)n);
+p=n+1;
+if(p!=4){
+m=o;
+n=p;
+goto L4;}
+q=0;
+r=0;
+L5:s=q||*((u8*)t_91bb+(i64)r)!=*(d-4+(i64)r);
+t=r+1;
+if(t!=4){
+q=s;
+r=t;
+goto L5;}
+if(o|s){
+if(b==4)c=0;
+else{
+u=0;
+v=0;
+L6:w=u||*((u8*)t_53bd+(i64)v)!=*(d-5+(i64)v);
+x=v+1;
+if(x!=4){
+u=w;
+v=x;
+goto L6;}
+y=0;
+z=0;
+L7:A=z+1;
+B=y||*((u8*)t_53bd+(i64)A)!=*(d-5+(i64)A);
+if(A!=4){
+y=B;
+z=A;
+goto L7;}
+if(!(w|B)){
+c=1;
+goto L3;}
+C=0;
+D=0;
+L8:E=C||*((u8*)t_e9c6+(i64)D)!=*(d-5+(i64)D);
+F=D+1;
+if(F!=4){
+C=E;
+D=F;
+goto L8;}
+G=0;
+H=0;
+L9:I=H+1;
+J=G||*((u8*)t_e9c6+(i64)I)!=*(d-5+(i64)I);
+if(I!=4){
+G=J;
+H=I;
+goto L9;}
+c=!(E|J);}}
+else c=1;}
+L3:return c;
 }
 
 /* cpp_direct::direct::Direct::number */
@@ -55553,7 +56618,7 @@ if(*p==48){
 r=r8(a+8);
 if(r8(a+32)==r){
 s=make_ready_8e3(a,1,128);
-if(s==0){
+if(!(s&1)){
 f=0;
 goto L4;}
 t=r8(a+8);}
@@ -55583,7 +56648,7 @@ goto L4;}}
 B=r8(a+8);
 if(r8(a+32)==B){
 C=make_ready_8e3(a,1,128);
-if(C==0){
+if(!(C&1)){
 f=0;
 goto L4;}
 D=r8(a+8);}
@@ -55610,7 +56675,7 @@ w8(a+8,I);
 w8(a+16,G);
 if(r8(a+32)-I<q){
 L=make_ready_8e3(a,q,128);
-if(L==0){
+if(!(L&1)){
 f=0;
 goto L4;}
 M=r8(a+8);
@@ -55642,7 +56707,7 @@ else{
 U=r8(a+8);
 if(r8(a+32)-U<q){
 V=make_ready_8e3(a,q,128);
-if(V==0){
+if(!(V&1)){
 f=0;
 goto L4;}
 W=r8(a+8);}
@@ -55670,6 +56735,73 @@ w8(a+16,Z);
 f=1;}}
 else f=0;}
 L4:return f;
+}
+
+/* cpp_direct::direct::Direct::argument_enumerator */
+static void argument_enumerator_c0e(u8* a,u8* b,u8* c,u64 d,u32 e,u8 f,u8* g)
+{
+u8 i[32];
+A16 u8 h[4];
+u8 j,n,p,q,u;
+u64 k,l,m,o,r,s,t;
+u8 *v;
+memcpy(i,g,32);
+w4(h,0);
+j=ends_as_integer_bdf(b);
+if(j)x4(a,0);
+else{
+k=r8(b+88);
+if(k!=0)w8(b+88,k-1);
+l=r8(b+8);
+if(r8(b+32)>l)m=l;
+else{
+n=make_ready_8e3(b,1,16);
+if(!(n&1)){
+x4(a,0);
+goto L1;}
+m=r8(b+8);}
+*(rp(b)+m)=41;
+w8(b+8,m+1);
+o=r8(b+176);
+if(o<d){
+if(*(c+o)==110){
+w8(b+176,o+1);
+p=1;}
+else p=0;}
+else p=0;
+q=digits_418(b,c,d,p);
+if(q&1){
+r=r8(b+176);
+if(r<d){
+if(*(c+r)==69){
+w8(b+176,r+1);
+s=r8(b+88);
+if(r8(b+112)>s)t=s;
+else{
+u=make_ready_9a1(b+80);
+if(!(u&1)){
+x4(a,0);
+goto L1;}
+t=r8(b+88);}
+v=rp(b+80)+t*44;
+*v=25;
+v[1]=0;
+x2(v+2,0);
+x4(v+4,e);
+v[8]=f;
+v[9]=0;
+memcpy(v+10,i,32);
+x2(v+42,0);
+w8(b+88,t+1);
+argument_ended_2ff(h,b,c,d,e,f,i,0);
+*a=*h;
+a[1]=h[1];
+a[2]=h[2];
+a[3]=h[3];
+goto L1;}}
+x4(a,0);}
+else x4(a,0);}
+L1:return;
 }
 
 /* cpp_direct::direct::Direct::argument_ended */
@@ -55726,10 +56858,11 @@ switch(E){
 case 78:case 83:break;
 default:if((u8)(E-49)>=9)goto L2;
 break;}
-F=0;
-G=0;
-H=3;
-I=1;
+next_enumerator_8be(l,b,c,d,z,o);
+F=l[3];
+G=l[2];
+H=l[1];
+I=*l;
 goto L3;}
 L2:next_literal_1b3(p,b,c,d,z,o);
 if(*p!=1){
@@ -55784,7 +56917,7 @@ else memcpy(m,o,32);
 K=r8(b+8);
 if(r8(b+32)-K<2){
 L=make_ready_8e3(b,2,128);
-if(L==0){
+if(!(L&1)){
 F=0;
 G=0;
 H=0;
@@ -55808,7 +56941,7 @@ Q=r8(b+88);
 if(r8(b+112)>Q)R=Q;
 else{
 S=make_ready_9a1(b+80);
-if(S==0){
+if(!(S&1)){
 F=0;
 G=0;
 H=0;
@@ -55816,7 +56949,7 @@ I=0;
 goto L3;}
 R=r8(b+88);}
 T=rp(b+80)+R*44;
-*T=22;
+*T=25;
 T[1]=0;
 x2(T+2,0);
 x4(T+4,O);
@@ -55855,6 +56988,72 @@ a[3]=F;
 L4:return;
 }
 
+/* cpp_direct::direct::Direct::next_enumerator */
+static void next_enumerator_8be(u8* a,u8* b,u8* c,u64 d,u8 e,u8* f)
+{
+u8 h[32];
+A16 u8 g[4];
+u64 i,k,l,m,p,r,s;
+u8 j,o,q,t;
+u32 n;
+u8 *u;
+memcpy(h,f,32);
+w4(g,0);
+i=r8(b+8);
+if(r8(b+32)-i<2){
+j=make_ready_8e3(b,2,128);
+if(!(j&1)){
+x4(a,0);
+goto L1;}
+k=r8(b+8);}
+else k=i;
+*(rp(b)+k)=44;
+*(rp(b)+(i64)k+1)=32;
+l=k+2;
+w8(b+8,l);
+if(e==255)x4(a,0);
+else{
+m=r8(b+176);
+if(m==18446744073709551615u)x4(a,0);
+else{
+n=l;
+o=e+1;
+w8(b+176,m+1);
+if(r8(b+32)>l)p=l;
+else{
+q=make_ready_8e3(b,1,16);
+if(!(q&1)){
+x4(a,0);
+goto L1;}
+p=r8(b+8);}
+*(rp(b)+p)=40;
+w8(b+8,p+1);
+r=r8(b+88);
+if(r8(b+112)>r)s=r;
+else{
+t=make_ready_9a1(b+80);
+if(!(t&1)){
+x4(a,0);
+goto L1;}
+s=r8(b+88);}
+u=rp(b+80)+s*44;
+*u=26;
+u[1]=0;
+x2(u+2,0);
+x4(u+4,n);
+u[8]=o;
+u[9]=0;
+memcpy(u+10,h,32);
+x2(u+42,0);
+w8(b+88,s+1);
+named_type_031(g,b,c,d);
+*a=*g;
+a[1]=g[1];
+a[2]=g[2];
+a[3]=g[3];}}
+L1:return;
+}
+
 /* cpp_direct::known::is_element_at */
 static u8 is_element_at_f4e(u8* a,u64 b,u64 c)
 {
@@ -55882,10 +57081,10 @@ static void next_pack_bbb(u8* a,u8* b,u8* c,u64 d,u8 e,u8* f)
 u8 h[16],i[32],j[16];
 A16 u8 g[4];
 u16 k,l;
-u64 m,n,r,t,y,A,B,E,F,I,J;
-u8 o,p,q,u,v,w,x,z,D,G,K;
-u8 *s,*H,*L;
-u32 C;
+u64 m,n,r,t,C,E,F,I,J,M,N;
+u8 o,p,q,s,u,v,w,x,z,A,B,D,H,K,O;
+u8 *y,*L,*P;
+u32 G;
 k=q2(f);
 l=q2(f+2);
 memcpy(j,f+4,16);
@@ -55897,9 +57096,9 @@ o=f[28];
 p=f[29];
 q=f[31];
 r=m+1;
-if(r<d){
-s=c+(i64)r;
-switch(*s){
+s=r>=d;
+if(!s){
+switch(*(c+r)){
 case 69:memcpy(h,f+4,16);
 w4(g,0);
 t=m+2;
@@ -55940,78 +57139,91 @@ a[1]=w;
 a[2]=v;
 a[3]=u;
 goto L1;
-case 76:case 65:case 70:break;
-case 80:case 82:if(usub64(d,r)<2)goto L2;
-switch(s[1]){
-case 70:case 65:break;
-default:goto L2;
-}
+case 76:goto L2;
+default:break;}}
+y=c+(i64)r;
+z=usub64(d,r)<2;
+if(!(d<r||z)){
+if(*y==82){
+A=y[1];
+if(s|(A==65))goto L3;
+B=A;
+goto L4;}}
+if(s)goto L3;
+switch(*y){
+case 65:case 70:goto L2;
+case 80:case 82:if(z)goto L3;
+B=y[1];
 break;
-default:goto L2;
+default:goto L3;
 }
-*a=1;
-a[1]=3;
-a[2]=0;
-a[3]=0;
-goto L1;}
-L2:y=r8(b+8);
-if(r8(b+32)-y<2){
-z=make_ready_8e3(b,2,128);
-if(z==0){
+L4:switch(B){
+case 70:case 65:goto L2;
+default:break;}
+L3:C=r8(b+8);
+if(r8(b+32)-C<2){
+D=make_ready_8e3(b,2,128);
+if(!(D&1)){
 x4(a,0);
 goto L1;}
-A=r8(b+8);}
-else A=y;
-*(rp(b)+A)=44;
-*(rp(b)+(i64)A+1)=32;
-B=A+2;
-w8(b+8,B);
+E=r8(b+8);}
+else E=C;
+*(rp(b)+E)=44;
+*(rp(b)+(i64)E+1)=32;
+F=E+2;
+w8(b+8,F);
 w8(b+176,r);
-if(e==255)x4(a,0);
-else{
-C=B;
-D=e+1;
-E=r8(b+88);
-if(r8(b+112)>E)F=E;
-else{
-G=make_ready_9a1(b+80);
-if(G==0){
+if(e==255){
 x4(a,0);
 goto L1;}
-F=r8(b+88);}
-H=rp(b+80)+F*44;
-*H=23;
-I=F+1;
-z43(H+1);
-w8(b+88,I);
+G=F;
+H=e+1;
+I=r8(b+88);
 if(r8(b+112)>I)J=I;
 else{
 K=make_ready_9a1(b+80);
-if(K==0){
+if(!(K&1)){
 x4(a,0);
 goto L1;}
 J=r8(b+88);}
 L=rp(b+80)+J*44;
-*L=24;
-L[1]=0;
-x2(L+2,0);
-x4(L+4,C);
-L[8]=D;
-L[9]=0;
-x2(L+10,k);
-x2(L+12,l);
-memcpy(L+14,j,16);
-x8(L+30,n);
-L[38]=o;
-L[39]=p;
-L[40]=D;
-L[41]=q;
-x2(L+42,0);
-w8(b+88,J+1);
+*L=27;
+M=J+1;
+z43(L+1);
+w8(b+88,M);
+if(r8(b+112)>M)N=M;
+else{
+O=make_ready_9a1(b+80);
+if(!(O&1)){
+x4(a,0);
+goto L1;}
+N=r8(b+88);}
+P=rp(b+80)+N*44;
+*P=28;
+P[1]=0;
+x2(P+2,0);
+x4(P+4,G);
+P[8]=H;
+P[9]=0;
+x2(P+10,k);
+x2(P+12,l);
+memcpy(P+14,j,16);
+x8(P+30,n);
+P[38]=o;
+P[39]=p;
+P[40]=H;
+P[41]=q;
+x2(P+42,0);
+w8(b+88,N+1);
 *a=1;
 a[1]=0;
 a[2]=0;
-a[3]=0;}}
+a[3]=0;
+goto L1;
+L2:*a=1;
+a[1]=3;
+a[2]=0;
+a[3]=0;}
 L1:return;
 }
 
@@ -56052,7 +57264,7 @@ r=r8(b+8);
 if(r8(b+32)>r)s=r;
 else{
 t=make_ready_8e3(b,1,16);
-if(t==0){
+if(!(t&1)){
 x4(a,0);
 goto L4;}
 s=r8(b+8);}
@@ -56063,7 +57275,7 @@ v=r8(b+88);
 if(r8(b+112)>v)w=v;
 else{
 x=make_ready_9a1(b+80);
-if(x==0){
+if(!(x&1)){
 x4(a,0);
 goto L4;}
 w=r8(b+88);}
@@ -56132,7 +57344,7 @@ h=r8(b+8);
 if(r8(b+32)>h)i=h;
 else{
 j=make_ready_8e3(b,1,16);
-if(j==0){
+if(!(j&1)){
 x4(a,0);
 goto L1;}
 i=r8(b+8);}
@@ -56161,7 +57373,7 @@ y=r8(b+48);
 if(r8(b+72)>y)z=y;
 else{
 A=make_ready_17a(b+40);
-if(A==0){
+if(!(A&1)){
 x4(a,0);
 goto L1;}
 z=r8(b+48);}
@@ -56202,7 +57414,7 @@ I=r8(b+48);
 if(r8(b+72)>I)J=I;
 else{
 K=make_ready_17a(b+40);
-if(K==0){
+if(!(K&1)){
 x4(a,0);
 goto L1;}
 J=r8(b+48);}
@@ -56233,7 +57445,7 @@ case 7:name_ended_fde(g,b,c,d,0,1,f,o);
 break;
 case 8:level_ended_5bf(g,b,c,d,n[1]&1);
 break;
-case 0:case 1:case 2:case 3:case 9:case 10:case 11:case 12:case 13:case 14:case 15:case 16:case 17:case 18:case 19:case 20:case 21:case 22:case 23:case 24:case 25:*g=0;
+case 0:case 1:case 2:case 3:case 9:case 10:case 11:case 12:case 13:case 14:case 15:case 16:case 17:case 18:case 19:case 20:case 21:case 22:case 23:case 24:case 25:case 26:case 27:case 28:case 29:*g=0;
 break;
 default:NEVER;
 }
@@ -56262,7 +57474,7 @@ w8(b+176,g+1);
 h=r8(b+8);
 if(r8(b+32)-h<2){
 i=make_ready_8e3(b,2,128);
-if(i==0){
+if(!(i&1)){
 x4(a,0);
 goto L1;}
 j=r8(b+8);}
@@ -56317,9 +57529,9 @@ L6:C=z.f0;
 D=z.f1;
 if(r8(b+32)-k<D){
 E=make_ready_8e3(b,D,128);
-if(E==0)goto L2;}
+if(!(E&1))goto L2;}
 F=push_str_b7e(b,C,D);
-if(F!=0)goto L2;
+if(F&1)goto L2;
 G=r8(b+176);
 if(G<d){
 if(*(c+G)==69){
@@ -56351,7 +57563,7 @@ z32(k);
 l=r8(b+8);
 if(r8(b+32)-l<2){
 m=make_ready_8e3(b,2,128);
-if(m==0){
+if(!(m&1)){
 z34(a);
 goto L1;}
 n=r8(b+8);}
@@ -56368,12 +57580,12 @@ r=r8(b+88);
 if(r8(b+112)>r)s=r;
 else{
 t=make_ready_9a1(b+80);
-if(t==0){
+if(!(t&1)){
 z34(a);
 goto L1;}
 s=r8(b+88);}
 u=rp(b+80)+s*44;
-*u=22;
+*u=25;
 u[1]=0;
 x2(u+2,0);
 x4(u+4,p);
@@ -56389,14 +57601,14 @@ w8(b+176,w);
 if(w<d){
 if(*(c+w)==98){
 x=boolean_6cc(b,c,d);
-if(x==0)goto L2;
+if(!(x&1))goto L2;
 y=r8(b+176);
 if(y>=d)goto L2;
 if(*(c+y)!=69)goto L2;
 z=y;
 goto L3;}}
 A=integer_bfa(b,c,d);
-if(A==0)goto L2;
+if(!(A&1))goto L2;
 B=r8(b+176);
 if(B>=d)goto L2;
 if(*(c+B)!=69)goto L2;
@@ -56452,7 +57664,7 @@ switch(g){
 case 48:h=r8(a+8);
 if(r8(a+32)-h<5){
 i=make_ready_8e3(a,5,128);
-if(i==0){
+if(!(i&1)){
 e=0;
 break;}
 j=r8(a+8);}
@@ -56482,7 +57694,7 @@ break;
 case 49:r=r8(a+8);
 if(r8(a+32)-r<4){
 s=make_ready_8e3(a,4,128);
-if(s==0){
+if(!(s&1)){
 e=0;
 break;}
 t=r8(a+8);}
@@ -56522,9 +57734,9 @@ return e;
 /* cpp_direct::direct::Direct::integer */
 static u8 integer_bfa(u8* a,u8* b,u64 c)
 {
-u64 d,f,j,l,n,q,r,u,w,y,z,B,C,D,H,I,L,N,O,Q,R,S,W,Z,aa,ca,da,ea,ia,ja,ma,na,pa,ra,sa,ua,va,wa;
-u8 e,g,h,i,x,A,M,P,V,Y,ba,qa,ta,za;
-u8 *k,*m,*o,*p,*s,*t,*v,*E,*F,*G,*J,*K,*T,*U,*X,*fa,*ga,*ha,*ka,*la,*oa,*xa,*ya;
+u64 d,f,i,k,m,p,q,t,v,x,z,B,C,D,H,I,L,N,O,Q,R,S,W,Z,aa,ca,da,ea,ia,ja,ma,na,pa,ra,sa,ua,va,wa;
+u8 e,g,h,w,y,A,M,P,V,Y,ba,qa,ta,za;
+u8 *j,*l,*n,*o,*r,*s,*u,*E,*F,*G,*J,*K,*T,*U,*X,*fa,*ga,*ha,*ka,*la,*oa,*xa,*ya;
 d=r8(a+176);
 if(d<c){
 e=*(b+d);
@@ -56539,93 +57751,93 @@ g=1;}
 else g=0;}
 else g=0;
 h=digits_418(a,b,c,g);
-if(h==0)i=0;
-else{
+if(h&1){
 switch(e){
-case 106:j=1;
-k=(u8*)t_0bfe;
+case 106:i=1;
+j=(u8*)t_0bfe;
 break;
-case 108:j=1;
-k=(u8*)t_acac;
+case 108:i=1;
+j=(u8*)t_acac;
 break;
-case 109:j=2;
-k=(u8*)t_51db;
+case 109:i=2;
+j=(u8*)t_51db;
 break;
-case 120:j=2;
-k=(u8*)t_f9e0;
+case 120:i=2;
+j=(u8*)t_f9e0;
 break;
-case 121:j=3;
-k=(u8*)t_7dd3;
+case 121:i=3;
+j=(u8*)t_7dd3;
 break;
-default:l=r8(a+8);
-m=rp(a);
-n=r8(a+16);
+default:k=r8(a+8);
+l=rp(a);
+m=r8(a+16);
 z16(a+8);
-o=m+(i64)l;
-p=m;
-q=l;
-r=n;
-s=a+8;
-t=(u8*)t_z0;
-u=0;
-v=a+16;
+n=l+(i64)k;
+o=l;
+p=k;
+q=m;
+r=a+8;
+s=(u8*)t_z0;
+t=0;
+u=a+16;
 goto L1;
 }
-w=r8(a+8);
-if(r8(a+32)-w<j){
-x=make_ready_8e3(a,j,128);
-if(x==0){
-i=0;
+v=r8(a+8);
+if(r8(a+32)-v<i){
+w=make_ready_8e3(a,i,128);
+if(!(w&1)){
+y=0;
 break;}
-y=r8(a+8);}
-else y=w;
+x=r8(a+8);}
+else x=v;
 z=r8(a+16);
-if(j>z-y){
-A=grow_amortized_e1a(a,j);
+if(i>z-x){
+A=grow_amortized_e1a(a,i);
 if(!A){
-i=0;
+y=0;
 break;}
 B=r8(a+16);
 C=r8(a+8);}
 else{
 B=z;
-C=y;}
-D=C+j;
+C=x;}
+D=C+i;
 E=rp(a);
 z16(a+8);
 F=E+(i64)C;
-if((u64)F-(u64)k<j){
-copy_bits_4f4(k,F,j);
+if((u64)F-(u64)j<i){
+copy_bits_4f4(j,F,i);
 G=E;
 H=D;
 I=B;
 J=a+8;
 K=a+16;
 goto L2;}
-o=F;
-p=E;
-q=D;
-r=B;
-s=a+8;
-t=k;
-u=j;
-v=a+16;
-L1:memcpy(o,t,u);
-G=p;
-H=q;
-I=r;
-J=s;
-K=v;
+n=F;
+o=E;
+p=D;
+q=B;
+r=a+8;
+s=j;
+t=i;
+u=a+16;
+L1:memcpy(n,s,t);
+G=o;
+H=p;
+I=q;
+J=r;
+K=u;
 L2:wp(a,G);
 w8(J,H);
 w8(K,I);
-i=1;}
+y=1;}
+else y=0;
 break;
 default:L=r8(a+8);
 if(r8(a+32)==L){
 M=make_ready_8e3(a,1,128);
-if(M==0){
-i=0;
+if(!(M&1)){
+y=0;
 break;}
 N=r8(a+8);}
 else N=L;
@@ -56633,7 +57845,7 @@ O=r8(a+16);
 if(O==N){
 P=grow_amortized_e1a(a,1);
 if(!P){
-i=0;
+y=0;
 break;}
 Q=r8(a+16);
 R=r8(a+8);}
@@ -56655,8 +57867,8 @@ W=r8((u8*)t_38e2+(u64)V*8);
 X=rp((u8*)t_1797+(u64)V*8);
 if(r8(a+32)-S<W){
 Y=make_ready_8e3(a,W,128);
-if(Y==0){
-i=0;
+if(!(Y&1)){
+y=0;
 break;}
 Z=r8(a+8);
 aa=r8(a+16);}
@@ -56666,7 +57878,7 @@ aa=Q;}
 if(W>aa-Z){
 ba=grow_amortized_e1a(a,W);
 if(!ba){
-i=0;
+y=0;
 break;}
 ca=r8(a+16);
 da=r8(a+8);}
@@ -56706,8 +57918,8 @@ w8(a+8,ia);
 w8(a+16,ja);
 if(r8(a+32)==ia){
 qa=make_ready_8e3(a,1,128);
-if(qa==0){
-i=0;
+if(!(qa&1)){
+y=0;
 break;}
 ra=r8(a+8);
 sa=r8(a+16);}
@@ -56717,7 +57929,7 @@ sa=ja;}
 if(sa==ra){
 ta=grow_amortized_e1a(a,1);
 if(!ta){
-i=0;
+y=0;
 break;}
 ua=r8(a+16);
 va=r8(a+8);}
@@ -56734,180 +57946,198 @@ wp(a,xa);
 w8(a+8,wa);
 w8(a+16,ua);
 za=number_63f(a,b,c);
-i=za;
+y=za;
 break;}
 break;
-default:i=0;
+default:y=0;
 break;}}
-else i=0;
-return i;
+else y=0;
+return y;
 }
 
 /* cpp_direct::direct::Direct::element_ended */
 static void element_ended_d46(u8* a,u8* b,u8* c,u64 d,u32 e,u8 f,u8* g,u8 h)
 {
-u8 i[32],j[16],k[32],m[16],n[32];
-A16 u8 l[4];
-u64 o,p,q,r,w,D,L,N,R,S,V,W;
-u16 s,t,u,v,B,C,H,J,K;
-u8 x,y,z,A,E,F,G,I,O,P,Q,U,X;
-u8 *M,*Y;
-u32 T;
-w4(l,0);
-z16(m);
-z32(n);
-memcpy(k,g,32);
-o=r8(b+88);
-if(o==0)p=0;
+u8 i[32],j[32],k[16],l[32],n[16],o[32];
+A16 u8 m[4];
+u64 p,q,r,s,x,E,M,U,X,Z,ca,da;
+u16 t,u,v,w,C,D,I,K,L;
+u8 y,z,A,B,F,G,H,J,N,O,P,R,S,T,V,W,Y,ba,ea;
+u8 *Q,*fa;
+u32 aa;
+w4(m,0);
+z16(n);
+z32(o);
+memcpy(l,g,32);
+p=r8(b+88);
+if(p==0)q=0;
 else{
-q=o-1;
-w8(b+88,q);
-p=q;}
-r=r8(b+8);
-if((e|(u32)r)>65535||(f>7||f!=k[28])){
-s=r2(k);
-t=r2(k+2);
-memcpy(j,k+4,16);
-u=s;
+r=p-1;
+w8(b+88,r);
+q=r;}
+s=r8(b+8);
+memcpy(i,l,32);
+if((e|(u32)s)>65535||(f>7||f!=i[28])){
+t=r2(l);
+u=r2(l+2);
+memcpy(k,l+4,16);
 v=t;
-w=q8(k+20);
-x=k[28];
-y=k[29];
-z=k[30];
-A=k[31];}
+w=u;
+x=q8(l+20);
+y=l[28];
+z=l[29];
+A=l[30];
+B=l[31];}
 else{
-B=r2(k);
-C=r2(k+2);
-D=q8(k+20);
-E=k[29];
-F=k[30];
-G=k[31];
-memcpy(i+4,k+4,16);
-x8(i+20,D);
-i[28]=f+1;
-i[29]=E;
-i[30]=F;
-i[31]=G;
-w2(i+4+((u64)f<<1),r);
-*(i+20+f)=h;
+C=r2(i);
+D=r2(i+2);
+E=q8(i+20);
+F=i[29];
+G=i[30];
+H=i[31];
+memcpy(j+4,l+4,16);
+x8(j+20,E);
+j[28]=f+1;
+j[29]=F;
+j[30]=G;
+j[31]=H;
+w2(j+4+((u64)f<<1),s);
+*(j+20+f)=h;
 if(f==0){
-memcpy(j,i+4,16);
-u=B;
-v=e;
-w=q8(i+20);
-x=i[28];
-y=i[29];
-z=i[30];
-A=i[31];}
+memcpy(k,j+4,16);
+v=C;
+w=e;
+x=q8(j+20);
+y=j[28];
+z=j[29];
+A=j[30];
+B=j[31];}
 else{
-H=r2(k+4+(i64)((u64)(u8)(f-1)<<1));
-I=(H<65534)&(e==(u16)(0-usub16(65534,H)));
-J=I?B:r2(k);
-K=I?C:r2(k+2);
-memcpy(j,I?i+4:k+4,16);
-u=J;
+I=r2(i+4+(i64)((u64)(u8)(f-1)<<1));
+J=(I<65534)&(e==(u16)(0-usub16(65534,I)));
+K=J?C:r2(l);
+L=J?D:r2(l+2);
+memcpy(k,J?j+4:l+4,16);
 v=K;
-w=I?q8(i+20):q8(k+20);
-x=I?i[28]:k[28];
-y=I?i[29]:k[29];
-z=I?i[30]:k[30];
-A=I?i[31]:k[31];}}
-memcpy(m,j,16);
-L=r8(b+176);
-if(L<d){
-M=c+(i64)L;
-switch(*M){
-case 76:case 65:case 70:break;
-case 80:case 82:if(usub64(d,L)<2)goto L1;
-switch(M[1]){
-case 70:case 65:break;
-default:goto L1;
-}
+w=L;
+x=J?q8(j+20):q8(l+20);
+y=J?j[28]:l[28];
+z=J?j[29]:l[29];
+A=J?j[30]:l[30];
+B=J?j[31]:l[31];}}
+memcpy(n,k,16);
+M=r8(b+176);
+N=M>=d;
+if(N)O=0;
+else{
+P=*(c+M);
+if(P==76)goto L1;
+O=P;}
+Q=c+(i64)M;
+R=usub64(d,M)<2;
+if(!(d<M||R)){
+if(*Q==82){
+S=Q[1];
+if(N|(S==65))goto L2;
+T=S;
+goto L3;}}
+if(N)goto L2;
+switch(*Q){
+case 65:case 70:goto L1;
+case 80:case 82:if(R)goto L2;
+T=Q[1];
 break;
-case 69:N=L+1;
-if(N<d){
-if(*(c+N)==69){
-if(p!=0)w8(b+88,p-1);
-w8(b+176,L+2);
+default:goto L2;
+}
+L3:switch(T){
+case 70:case 65:goto L1;
+default:break;}
+L2:if(O==69){
+if(M==18446744073709551615u){
+x4(a,0);
+goto L4;}
+U=M+1;
+if(U<d){
+if(*(c+U)==69){
+if(q!=0)w8(b+88,q-1);
+w8(b+176,M+2);
 if(f==255){
 x4(a,0);
-goto L2;}
-O=f+1;
-if(O<z){
+goto L4;}
+V=f+1;
+if(V<A){
 x4(a,0);
-goto L2;}
-w2(n,u);
-w2(n+2,v);
-memcpy(n+4,m,16);
-x8(n+20,w);
-n[28]=x;
-n[29]=1;
-n[30]=z;
-n[31]=O-z;
-close_list_0b3(l,b,c,d,n);
-*a=*l;
-a[1]=l[1];
-a[2]=l[2];
-a[3]=l[3];
-goto L2;}}
+goto L4;}
+w2(o,v);
+w2(o+2,w);
+memcpy(o+4,n,16);
+x8(o+20,x);
+o[28]=y;
+o[29]=1;
+o[30]=A;
+o[31]=V-A;
+close_list_0b3(m,b,c,d,o);
+*a=*m;
+a[1]=m[1];
+a[2]=m[2];
+a[3]=m[3];
+goto L4;}}
 *a=1;
 a[1]=3;
 a[2]=0;
 a[3]=0;
-goto L2;
-default:goto L1;
-}
-*a=1;
-a[1]=3;
-a[2]=0;
-a[3]=0;
-goto L2;}
-L1:if(r8(b+32)-r<2){
-P=make_ready_8e3(b,2,128);
-if(P==0){
-Q=0;
-goto L3;}
-R=r8(b+8);}
-else R=r;
-*(rp(b)+R)=44;
-*(rp(b)+(i64)R+1)=32;
-S=R+2;
-w8(b+8,S);
-if(f==255)Q=0;
+goto L4;}
+if(r8(b+32)-s<2){
+W=make_ready_8e3(b,2,128);
+if(!(W&1)){
+Y=0;
+goto L5;}
+X=r8(b+8);}
+else X=s;
+*(rp(b)+X)=44;
+*(rp(b)+(i64)X+1)=32;
+Z=X+2;
+w8(b+8,Z);
+if(f==255)Y=0;
 else{
-T=S;
-U=f+1;
-V=r8(b+88);
-if(r8(b+112)>V)W=V;
+aa=Z;
+ba=f+1;
+ca=r8(b+88);
+if(r8(b+112)>ca)da=ca;
 else{
-X=make_ready_9a1(b+80);
-if(X==0){
-Q=0;
-goto L3;}
-W=r8(b+88);}
-Y=rp(b+80)+W*44;
-*Y=24;
-Y[1]=0;
-x2(Y+2,0);
-x4(Y+4,T);
-Y[8]=U;
-Y[9]=0;
-x2(Y+10,u);
-x2(Y+12,v);
-memcpy(Y+14,m,16);
-x8(Y+30,w);
-Y[38]=x;
-Y[39]=y;
-Y[40]=z;
-Y[41]=A;
-x2(Y+42,0);
-w8(b+88,W+1);
-Q=1;}
-L3:*a=Q;
+ea=make_ready_9a1(b+80);
+if(!(ea&1)){
+Y=0;
+goto L5;}
+da=r8(b+88);}
+fa=rp(b+80)+da*44;
+*fa=28;
+fa[1]=0;
+x2(fa+2,0);
+x4(fa+4,aa);
+fa[8]=ba;
+fa[9]=0;
+x2(fa+10,v);
+x2(fa+12,w);
+memcpy(fa+14,n,16);
+x8(fa+30,x);
+fa[38]=y;
+fa[39]=z;
+fa[40]=A;
+fa[41]=B;
+x2(fa+42,0);
+w8(b+88,da+1);
+Y=1;}
+L5:*a=Y;
 a[1]=0;
 a[2]=0;
 a[3]=0;
-L2:return;
+goto L4;
+L1:*a=1;
+a[1]=3;
+a[2]=0;
+a[3]=0;
+L4:return;
 }
 
 /* cpp_direct::direct::Direct::empty_pack */
@@ -56929,7 +58159,7 @@ j=r8(b+88);
 if(j==0){
 x4(a,0);
 goto L1;}
-if(*(rp(b+80)+(i64)(j*44)-44)==23){
+if(*(rp(b+80)+(i64)(j*44)-44)==27){
 k=0;
 l=0;
 m=0;
@@ -56958,10 +58188,10 @@ L1:return;
 static void first_pack_117(u8* a,u8* b,u8* c,u64 d)
 {
 A16 u8 e[40];
-u64 f,j,m,n,p,r,v,y,A,C,E,F,I,J,L,N;
-u8 g,h,l,s,t,u,B,G,M;
-u8 *i,*k,*o,*q,*w,*z,*D,*H,*K,*O;
-u32 x;
+u64 f,j,m,n,u,w,y,A,B,E,G,I,M,N,P,R;
+u8 g,h,l,o,q,r,s,x,C,H,J,K,Q;
+u8 *i,*k,*p,*v,*z,*D,*F,*L,*O,*S;
+u32 t;
 f=r8(b+88);
 if(f==0){
 g=0;
@@ -56977,8 +58207,8 @@ z40(e);
 goto L1;}
 break;
 case 7:break;
-case 0:case 1:case 2:case 3:case 4:case 6:case 8:case 9:case 10:case 11:case 12:case 13:case 14:case 15:case 16:case 17:case 18:case 19:case 20:case 21:case 22:case 23:case 24:case 25:z40(e);
-if(l!=23)goto L1;
+case 0:case 1:case 2:case 3:case 4:case 6:case 8:case 9:case 10:case 11:case 12:case 13:case 14:case 15:case 16:case 17:case 18:case 19:case 20:case 21:case 22:case 23:case 24:case 25:case 26:case 27:case 28:case 29:z40(e);
+if(l!=27)goto L1;
 g=0;
 h=0;
 goto L2;
@@ -56989,109 +58219,119 @@ if(m==18446744073709551615u){
 x4(a,0);
 goto L3;}
 n=m+1;
-if(n<d){
-o=c+(i64)n;
-switch(*o){
-case 76:case 65:case 70:break;
-case 80:case 82:if(usub64(d,n)<2)goto L4;
-switch(o[1]){
-case 70:case 65:break;
-default:goto L4;
-}
+o=n>=d;
+if(!o){
+if(*(c+n)==76)goto L4;}
+p=c+(i64)n;
+q=usub64(d,n)<2;
+if(!(d<n||q)){
+if(*p==82){
+r=p[1];
+if(o|(r==65))goto L5;
+s=r;
+goto L6;}}
+if(o)goto L5;
+switch(*p){
+case 65:case 70:goto L4;
+case 80:case 82:if(q)goto L5;
+s=p[1];
 break;
-default:goto L4;
+default:goto L5;
 }
-w8(b+176,n);
+L6:switch(s){
+case 70:case 65:goto L4;
+default:break;}
+L5:w8(b+176,n);
+t=r8(b+8);
 if(r8(b+112)>f){
-p=j;
-q=i;
-r=f;}
+u=j;
+v=i;
+w=f;}
 else{
-s=make_ready_9a1(b+80);
-if(s==0){
-t=0;
-u=0;
-goto L5;}
-v=r8(b+88);
-p=v*44;
-q=rp(b+80);
-r=v;}
-w=q+p;
-*w=23;
-z43(w+1);
-w8(b+88,r+1);
-t=1;
-u=3;
-L5:*a=t;
-a[1]=u;
-a[2]=t;
-a[3]=0;
-goto L3;}
-L4:w8(b+176,n);
-x=r8(b+8);
-if(r8(b+112)>f){
-y=j;
-z=i;
-A=f;}
-else{
-B=make_ready_9a1(b+80);
-if(B==0){
+x=make_ready_9a1(b+80);
+if(!(x&1)){
 x4(a,0);
 goto L3;}
-C=r8(b+88);
-y=C*44;
-z=rp(b+80);
-A=C;}
-D=z+y;
-*D=23;
-E=A+1;
-z43(D+1);
-w8(b+88,E);
-if(r8(b+112)>E)F=E;
+y=r8(b+88);
+u=y*44;
+v=rp(b+80);
+w=y;}
+z=v+u;
+*z=27;
+A=w+1;
+z43(z+1);
+w8(b+88,A);
+if(r8(b+112)>A)B=A;
 else{
-G=make_ready_9a1(b+80);
-if(G==0){
+C=make_ready_9a1(b+80);
+if(!(C&1)){
 x4(a,0);
 goto L3;}
-F=r8(b+88);}
-H=rp(b+80)+F*44;
-*H=24;
-H[1]=0;
-x2(H+2,0);
-x4(H+4,x);
-z36(H+8);
-w8(b+88,F+1);
+B=r8(b+88);}
+D=rp(b+80)+B*44;
+*D=28;
+D[1]=0;
+x2(D+2,0);
+x4(D+4,t);
+z36(D+8);
+w8(b+88,B+1);
 *a=1;
 a[1]=0;
 a[2]=0;
 a[3]=0;
 goto L3;
-L1:I=r8(b+176);
-if(I==18446744073709551615u){
+L4:w8(b+176,n);
+if(r8(b+112)>f){
+E=j;
+F=i;
+G=f;}
+else{
+H=make_ready_9a1(b+80);
+if(!(H&1)){
+J=0;
+K=0;
+goto L7;}
+I=r8(b+88);
+E=I*44;
+F=rp(b+80);
+G=I;}
+L=F+E;
+*L=27;
+z43(L+1);
+w8(b+88,G+1);
+J=1;
+K=3;
+L7:*a=J;
+a[1]=K;
+a[2]=J;
+a[3]=0;
+goto L3;
+L1:M=r8(b+176);
+if(M==18446744073709551615u){
 g=0;
 h=0;}
 else{
-w8(b+176,I+1);
+w8(b+176,M+1);
 if(r8(b+112)>f){
-J=j;
-K=i;
-L=f;}
+N=j;
+O=i;
+P=f;}
 else{
-M=make_ready_9a1(b+80);
-if(M==0){
+Q=make_ready_9a1(b+80);
+if(!(Q&1)){
 g=0;
 h=0;
 goto L2;}
-N=r8(b+88);
-J=N*44;
-K=rp(b+80);
-L=N;}
-O=K+J;
-*O=23;
-O[1]=0;
-x2(O+2,0);
-memcpy(O+4,e,40);
-w8(b+88,L+1);
+R=r8(b+88);
+N=R*44;
+O=rp(b+80);
+P=R;}
+S=O+N;
+*S=27;
+S[1]=0;
+x2(S+2,0);
+memcpy(S+4,e,40);
+w8(b+88,P+1);
 g=1;
 h=3;}}
 L2:*a=g;
@@ -57167,9 +58407,9 @@ L5:z=w.f0;
 A=w.f1;
 if(r8(b+32)-r8(b+8)<A){
 B=make_ready_8e3(b,A,128);
-if(B==0)goto L1;}
+if(!(B&1))goto L1;}
 C=push_str_b7e(b,z,A);
-if(C!=0)goto L1;
+if(C&1)goto L1;
 D=r8(b+176);
 if(D<d){
 if(*(c+D)==73){
@@ -57177,7 +58417,7 @@ E=r8(b+8);
 if(r8(b+32)>E)F=E;
 else{
 G=make_ready_8e3(b,1,16);
-if(G==0){
+if(!(G&1)){
 H=0;
 I=0;
 goto L6;}
@@ -57194,7 +58434,7 @@ K=r8(b+88);
 if(r8(b+112)>K)L=K;
 else{
 M=make_ready_9a1(b+80);
-if(M==0){
+if(!(M&1)){
 H=0;
 I=0;
 goto L6;}
@@ -57220,6 +58460,110 @@ x4(a,0);}
 L7:return;
 }
 
+/* cpp_direct::direct::Direct::parameter_argument */
+static void parameter_argument_7c8(u8* a,u8* b,u8* c,u64 d)
+{
+u8 e[34],f[8];
+A16 u8 g[48],h[44];
+u64 i,j,k,l,o,t,u,w,D,F,H;
+u8 m,n,s,y,A,B,G;
+u16 p,q,r,z,C;
+u8 *v,*x,*E,*I;
+z34(e);
+z48(g);
+i=r8(b+176);
+if(i==18446744073709551615u)x4(a,0);
+else{
+j=i+1;
+if(j<d){
+if(*(c+j)==84){
+k=i+2;
+if(k<d){
+l=i+3;
+m=*(c+k);
+if(m==95){
+n=0;
+o=l;}
+else{
+if(!((l<d)&((u8)(m-48)<10)))goto L1;
+if(*(c+l)!=95)goto L1;
+n=m-47;
+o=i+4;}
+if(o<d){
+if(*(c+o)==69){
+argument_dbb(e,b);
+if(*e!=1){
+x4(a,0);
+goto L2;}
+p=r2(e+2);
+single_540(f,e+2,n);
+if(*f!=1){
+x4(a,0);
+goto L2;}
+if(p==0){
+x4(a,0);
+goto L2;}
+q=r2(f+4);
+r=r2(f+2);
+w8(b+176,o+1);
+s=repeat_28b(b,r,q);
+if(!(s&1)){
+x4(a,0);
+goto L2;}
+t=r8(b+88);
+if(t==0){
+x4(a,0);
+goto L2;}
+u=t-1;
+w8(b+88,u);
+v=rp(b+80);
+w=u*44;
+x=v+w;
+y=x[1];
+z=q2(x+2);
+*h=*x;
+h[1]=y;
+w2(h+2,z);
+memcpy(h+4,x+4,40);
+dependent_8e0(g,h);
+if(*g!=1){
+x4(a,0);
+goto L2;}
+A=g[4];
+B=g[5];
+C=r2(g+6);
+if(r8(b+112)>u){
+D=w;
+E=v;
+F=t;}
+else{
+G=make_ready_9a1(b+80);
+if(!(G&1)){
+x4(a,0);
+goto L2;}
+H=r8(b+88);
+D=H*44;
+E=rp(b+80);
+F=H+1;}
+I=E+D;
+*I=A;
+I[1]=B;
+x2(I+2,C);
+memcpy(I+4,g+8,40);
+w8(b+88,F);
+*a=1;
+a[1]=3;
+a[2]=0;
+a[3]=0;
+goto L2;}}
+x4(a,0);
+goto L2;}
+L1:x4(a,0);
+goto L2;}}
+x4(a,0);}
+L2:return;
+}
+
 /* cpp_direct::direct::Direct::first_literal */
 static void first_literal_618(u8* a,u8* b,u8* c,u64 d)
 {
@@ -57239,7 +58583,7 @@ switch(j[-44]){
 case 5:if(j[-28]==0)goto L1;
 break;
 case 7:break;
-case 0:case 1:case 2:case 3:case 4:case 6:case 8:case 9:case 10:case 11:case 12:case 13:case 14:case 15:case 16:case 17:case 18:case 19:case 20:case 21:case 22:case 23:case 24:case 25:goto L1;
+case 0:case 1:case 2:case 3:case 4:case 6:case 8:case 9:case 10:case 11:case 12:case 13:case 14:case 15:case 16:case 17:case 18:case 19:case 20:case 21:case 22:case 23:case 24:case 25:case 26:case 27:case 28:case 29:goto L1;
 default:NEVER;
 }
 k=r8(b+176);
@@ -57249,7 +58593,7 @@ switch(l){
 case 78:case 83:break;
 default:if((u8)(l-49)>=9)goto L2;
 break;}
-literal_9d0(e,b,c,d);
+first_enumerator_9e2(e,b,c,d);
 *a=*e;
 a[1]=e[1];
 a[2]=e[2];
@@ -57263,7 +58607,7 @@ o=h;
 p=g;}
 else{
 q=make_ready_9a1(b+80);
-if(q==0){
+if(!(q&1)){
 x4(a,0);
 goto L3;}
 r=r8(b+88);
@@ -57271,7 +58615,7 @@ n=r*44;
 o=rp(b+80);
 p=r;}
 s=o+n;
-*s=22;
+*s=25;
 s[1]=0;
 x2(s+2,0);
 x4(s+4,m);
@@ -57284,14 +58628,14 @@ w8(b+176,u);
 if(u<d){
 if(*(c+u)==98){
 v=boolean_6cc(b,c,d);
-if(v==0)goto L4;
+if(!(v&1))goto L4;
 w=r8(b+176);
 if(w>=d)goto L4;
 if(*(c+w)!=69)goto L4;
 x=w;
 goto L5;}}
 y=integer_bfa(b,c,d);
-if(y==0)goto L4;
+if(!(y&1))goto L4;
 z=r8(b+176);
 if(z>=d)goto L4;
 if(*(c+z)!=69)goto L4;
@@ -57314,6 +58658,52 @@ a[3]=e[3];
 L3:return;
 }
 
+/* cpp_direct::direct::Direct::first_enumerator */
+static void first_enumerator_9e2(u8* a,u8* b,u8* c,u64 d)
+{
+A16 u8 e[4];
+u64 f,g,i,k,l;
+u32 h;
+u8 j,m;
+u8 *n;
+f=r8(b+176);
+if(f==18446744073709551615u)x4(a,0);
+else{
+g=r8(b+8);
+h=g;
+w8(b+176,f+1);
+if(r8(b+32)>g)i=g;
+else{
+j=make_ready_8e3(b,1,16);
+if(!(j&1)){
+x4(a,0);
+goto L1;}
+i=r8(b+8);}
+*(rp(b)+i)=40;
+w8(b+8,i+1);
+k=r8(b+88);
+if(r8(b+112)>k)l=k;
+else{
+m=make_ready_9a1(b+80);
+if(!(m&1)){
+x4(a,0);
+goto L1;}
+l=r8(b+88);}
+n=rp(b+80)+l*44;
+*n=26;
+n[1]=0;
+x2(n+2,0);
+x4(n+4,h);
+z36(n+8);
+w8(b+88,l+1);
+named_type_031(e,b,c,d);
+*a=*e;
+a[1]=e[1];
+a[2]=e[2];
+a[3]=e[3];}
+L1:return;
+}
+
 /* cpp_direct::direct::Direct::literal */
 static void literal_9d0(u8* a,u8* b,u8* c,u64 d)
 {
@@ -57333,7 +58723,7 @@ w8(b+176,f+1);
 h=r8(b+8);
 if(r8(b+32)==h){
 i=make_ready_8e3(b,1,128);
-if(i==0)goto L2;
+if(!(i&1))goto L2;
 j=r8(b+8);}
 else j=h;
 k=r8(b+16);
@@ -57358,12 +58748,12 @@ r=r8(b+88);
 if(r8(b+112)>r)s=r;
 else{
 t=make_ready_9a1(b+80);
-if(t==0){
+if(!(t&1)){
 x4(a,0);
 goto L3;}
 s=r8(b+88);}
 u=rp(b+80)+s*44;
-*u=25;
+*u=29;
 z43(u+1);
 w8(b+88,s+1);
 named_type_031(e,b,c,d);
@@ -57380,14 +58770,14 @@ w8(b+176,v);
 if(v<d){
 if(*(c+v)==98){
 w=boolean_6cc(b,c,d);
-if(w==0)goto L4;
+if(!(w&1))goto L4;
 x=r8(b+176);
 if(x>=d)goto L4;
 if(*(c+x)!=69)goto L4;
 y=x;
 goto L5;}}
 z=integer_bfa(b,c,d);
-if(z==0)goto L4;
+if(!(z&1))goto L4;
 A=r8(b+176);
 if(A>=d)goto L4;
 if(*(c+A)!=69)goto L4;
@@ -57428,7 +58818,7 @@ p=r8(b+48);
 if(r8(b+72)>p)q=p;
 else{
 r=make_ready_17a(b+40);
-if(r==0){
+if(!(r&1)){
 x4(a,0);
 goto L1;}
 q=r8(b+48);}
@@ -57502,7 +58892,7 @@ P=b[171];
 if(r8(b+32)>I)Q=I;
 else{
 R=make_ready_8e3(b,1,16);
-if(R==0){
+if(!(R&1)){
 S=0;
 goto L4;}
 Q=r8(b+8);}
@@ -57512,7 +58902,7 @@ T=r8(b+88);
 if(r8(b+112)>T)U=T;
 else{
 V=make_ready_9a1(b+80);
-if(V==0){
+if(!(V&1)){
 S=0;
 goto L4;}
 U=r8(b+88);}
@@ -57563,7 +58953,7 @@ ia=r8(b+88);
 if(r8(b+112)>ia)ja=ia;
 else{
 ka=make_ready_9a1(b+80);
-if(ka==0){
+if(!(ka&1)){
 la=0;
 goto L6;}
 ja=r8(b+88);}
@@ -57678,7 +59068,7 @@ z=k;
 A=i;}
 else{
 B=make_ready_9a1(b+80);
-if(B==0){
+if(!(B&1)){
 x4(a,0);
 goto L2;}
 C=r8(b+88);
@@ -57713,10 +59103,10 @@ L2:return;
 static void components_at_af8(u8* a,u8* b,u8* c,u64 d)
 {
 A16 u8 e[40],f[40],g[40],h[40],i[24],j[40],k[40],l[24],m[40],n[40],o[4],p[4];
-u64 q,r,t,u,w,x,z,A,B,J,M,Q,R,U,V,X,Y,Z,fa,ga,ja,ka,ma,na,qa,sa,ua,va,xa,ya,za,Ha,Ka,Oa,Pa,Sa,Ta,Va,Wa,Xa,db,eb,hb,ib,kb,lb,ob,qb,rb,sb,vb,xb,yb,zb,Ab,Bb,Cb,Fb,Hb,Jb,Lb,Mb,Ob,Qb,Rb,Tb,Vb,Wb,Yb,dc,fc,gc,ic,jc,kc,pc,vc,zc,Ac,Dc,Ec,Gc,Hc,Ic,Mc,Nc,Qc,Rc,Tc,Uc,Vc,cd,ed,fd,gd,jd,ld,md,nd,od,pd,qd,ud,xd,zd,Bd,Cd,Ed,Gd,Hd,Jd,Ld,Md,Od,Td,Vd,Wd,Yd,Zd,ae,fe,le,pe,qe,te,ue,we,xe,ye,Ce,De,Ge,He,Je,Ke,Le,Oe,Se,Te,We;
-u8 s,v,y,E,F,G,H,I,K,L,O,S,W,ba,ha,la,oa,ra,ta,wa,Ca,Da,Ea,Fa,Ga,Ia,Ja,Ma,Qa,Ua,Za,fb,jb,mb,pb,tb,wb,Db,Gb,Ib,Kb,Nb,Pb,Sb,Ub,Xb,ec,hc,oc,qc,rc,sc,tc,uc,xc,Bc,Fc,Jc,Oc,Sc,Wc,Yc,Zc,ad,bd,dd,hd,kd,sd,vd,yd,Ad,Dd,Fd,Id,Kd,Nd,Ud,Xd,ee,ge,he,ie,je,ke,ne,re,ve,ze,Ee,Ie,Me,Qe,Ue;
+u64 q,r,t,u,w,x,z,A,B,G,J,N,O,U,V,X,Y,Z,fa,ga,ja,ka,ma,na,qa,sa,ua,va,xa,ya,za,Ea,Ha,La,Ma,Sa,Ta,Va,Wa,Xa,db,eb,hb,ib,kb,lb,ob,qb,rb,sb,vb,xb,yb,zb,Ab,Bb,Cb,Fb,Hb,Jb,Lb,Mb,Ob,Qb,Rb,Tb,Vb,Wb,Yb,dc,fc,gc,ic,jc,kc,pc,sc,wc,xc,Dc,Ec,Gc,Hc,Ic,Mc,Nc,Qc,Rc,Tc,Uc,Vc,cd,ed,fd,gd,jd,ld,md,nd,od,pd,qd,ud,xd,zd,Bd,Cd,Ed,Gd,Hd,Jd,Ld,Md,Od,Td,Vd,Wd,Yd,Zd,ae,fe,ie,me,ne,te,ue,we,xe,ye,Ce,De,Ge,He,Je,Ke,Le,Oe,Se,Te,We;
+u8 s,v,y,E,F,H,I,L,P,Q,R,S,W,ba,ha,la,oa,ra,ta,wa,Ca,Da,Fa,Ga,Ja,Na,Oa,Pa,Qa,Ua,Za,fb,jb,mb,pb,tb,wb,Db,Gb,Ib,Kb,Nb,Pb,Sb,Ub,Xb,ec,hc,oc,qc,rc,uc,yc,zc,Ac,Bc,Fc,Jc,Oc,Sc,Wc,Yc,Zc,ad,bd,dd,hd,kd,sd,vd,yd,Ad,Dd,Fd,Id,Kd,Nd,Ud,Xd,ee,ge,he,ke,oe,pe,qe,re,ve,ze,Ee,Ie,Me,Qe,Ue;
 u8 *C,*D,*T,*aa,*ca,*ia,*pa,*Aa,*Ba,*Ra,*Ya,*ab,*gb,*nb,*Eb,*cc,*lc,*mc,*Cc,*Kc,*Pc,*Xc,*td,*Sd,*be,*ce,*se,*Ae,*Fe,*Ne,*Ve;
-u32 N,P,da,ea,La,Na,bb,cb,ub,nc,wc,yc,Lc,id,de,me,oe,Be,Pe,Re;
+u32 K,M,da,ea,Ia,Ka,bb,cb,ub,nc,tc,vc,Lc,id,de,je,le,Be,Pe,Re;
 s_p_64 Zb,ac,bc,Pd,Qd,Rd;
 w4(p,0);
 q=0;
@@ -57735,7 +59125,7 @@ w8(b+176,r+2);
 u=r8(b+8);
 if(r8(b+32)-u<2){
 v=make_ready_8e3(b,2,128);
-if(v==0)goto L2;
+if(!(v&1))goto L2;
 w=r8(b+8);}
 else w=u;
 x=r8(b+16);
@@ -57757,75 +59147,71 @@ wp(b,C);
 w8(b+8,B);
 w8(b+16,z);
 E=repeat_28b(b,r4(b+124),r4(b+128));
-if(E==0){
-F=0;
-G=0;
-H=0;}
-else{
-I=b[139];
+if(E&1){
+F=b[139];
 b[136]=0;
 b[137]=0;
 b[138]=0;
-J=r8(b+176);
-if(J<d){
-K=*(c+J);
-if(K==66){
-L=tag_9a7(b,c,d);
-if(L==0){
-F=0;
-G=0;
-H=0;
+G=r8(b+176);
+if(G<d){
+H=*(c+G);
+if(H==66){
+I=tag_9a7(b,c,d);
+if(!(I&1)){
+Q=0;
+R=0;
+S=0;
 goto L3;}
 z20(h+20);
-M=r8(b+176);
-if(M>=d){
-F=0;
-G=5;
-H=1;
+J=r8(b+176);
+if(J>=d){
+Q=0;
+R=5;
+S=1;
 goto L3;}
-if(*(c+M)!=73){
-F=0;
-G=5;
-H=1;
+if(*(c+J)!=73){
+Q=0;
+R=5;
+S=1;
 goto L3;}
-N=r4(b+120);
-O=b[139];
-P=r8(b+8);
-Q=r8(b+48);
-if(r8(b+72)>Q)R=Q;
+K=r4(b+120);
+L=b[139];
+M=r8(b+8);
+N=r8(b+48);
+if(r8(b+72)>N)O=N;
 else{
-S=make_ready_17a(b+40);
-if(S==0){
-F=0;
-G=0;
-H=0;
+P=make_ready_17a(b+40);
+if(!(P&1)){
+Q=0;
+R=0;
+S=0;
 goto L3;}
-R=r8(b+48);}
-T=rp(b+40)+R*12;
-x4(T,N);
-x4(T+4,P);
+O=r8(b+48);}
+T=rp(b+40)+O*12;
+x4(T,K);
+x4(T+4,M);
 T[8]=0;
-T[9]=O;
+T[9]=L;
 x2(T+10,0);
-w8(b+48,R+1);
+w8(b+48,O+1);
 memcpy(h,b+120,20);
 U=r8(b+8);
 if(r8(b+32)>U)V=U;
 else{
 W=make_ready_8e3(b,1,16);
-if(W==0){
-F=0;
-G=0;
-H=0;
+if(!(W&1)){
+Q=0;
+R=0;
+S=0;
 goto L3;}
 V=r8(b+8);}
 *(rp(b)+V)=60;
 w8(b+8,V+1);
 X=r8(b+176);
 if(X==18446744073709551615u){
-F=0;
-G=0;
-H=0;
+Q=0;
+R=0;
+S=0;
 goto L3;}
 w8(b+176,X+1);
 Y=r8(b+88);
@@ -57834,18 +59220,18 @@ Z=Y;
 aa=h;
 goto L4;}
 ba=make_ready_9a1(b+80);
-if(ba==0){
-F=0;
-G=0;
-H=0;
+if(!(ba&1)){
+Q=0;
+R=0;
+S=0;
 goto L3;}
 ca=h;}
 else{
 z20(g+20);
-if(K!=73){
-F=0;
-G=5;
-H=1;
+if(H!=73){
+Q=0;
+R=5;
+S=1;
 goto L3;}
 da=r4(b+120);
 ea=r8(b+8);
@@ -57853,17 +59239,17 @@ fa=r8(b+48);
 if(r8(b+72)>fa)ga=fa;
 else{
 ha=make_ready_17a(b+40);
-if(ha==0){
-F=0;
-G=0;
-H=0;
+if(!(ha&1)){
+Q=0;
+R=0;
+S=0;
 goto L3;}
 ga=r8(b+48);}
 ia=rp(b+40)+ga*12;
 x4(ia,da);
 x4(ia+4,ea);
 ia[8]=0;
-ia[9]=I;
+ia[9]=F;
 x2(ia+10,0);
 w8(b+48,ga+1);
 memcpy(g,b+120,20);
@@ -57871,19 +59257,19 @@ ja=r8(b+8);
 if(r8(b+32)>ja)ka=ja;
 else{
 la=make_ready_8e3(b,1,16);
-if(la==0){
-F=0;
-G=0;
-H=0;
+if(!(la&1)){
+Q=0;
+R=0;
+S=0;
 goto L3;}
 ka=r8(b+8);}
 *(rp(b)+ka)=60;
 w8(b+8,ka+1);
 ma=r8(b+176);
 if(ma==18446744073709551615u){
-F=0;
-G=0;
-H=0;
+Q=0;
+R=0;
+S=0;
 goto L3;}
 w8(b+176,ma+1);
 na=r8(b+88);
@@ -57892,10 +59278,10 @@ Z=na;
 aa=g;
 goto L4;}
 oa=make_ready_9a1(b+80);
-if(oa==0){
-F=0;
-G=0;
-H=0;
+if(!(oa&1)){
+Q=0;
+R=0;
+S=0;
 goto L3;}
 ca=g;}
 Z=r8(b+88);
@@ -57906,16 +59292,20 @@ pa[1]=0;
 x2(pa+2,0);
 memcpy(pa+4,aa,40);
 w8(b+88,Z+1);
-F=1;
-G=3;
-H=1;}
+Q=1;
+R=3;
+S=1;}
 else{
-F=0;
-G=5;
-H=1;}}
-L3:*o=H;
-o[1]=G;
-o[2]=F;
+Q=0;
+R=5;
+S=1;}}
+else{
+Q=0;
+R=0;
+S=0;}
+L3:*o=S;
+o[1]=R;
+o[2]=Q;
 o[3]=0;
 goto L5;
 L2:w4(o,0);
@@ -57935,7 +59325,7 @@ w8(b+176,r+2);
 sa=r8(b+8);
 if(r8(b+32)-sa<3){
 ta=make_ready_8e3(b,3,128);
-if(ta==0)goto L7;
+if(!(ta&1))goto L7;
 ua=r8(b+8);}
 else ua=sa;
 va=r8(b+16);
@@ -57957,75 +59347,71 @@ wp(b,Aa);
 w8(b+8,za);
 w8(b+16,xa);
 Ca=repeat_28b(b,r4(b+124),r4(b+128));
-if(Ca==0){
-Da=0;
-Ea=0;
-Fa=0;}
-else{
-Ga=b[139];
+if(Ca&1){
+Da=b[139];
 b[136]=0;
 b[137]=0;
 b[138]=0;
-Ha=r8(b+176);
-if(Ha<d){
-Ia=*(c+Ha);
-if(Ia==66){
-Ja=tag_9a7(b,c,d);
-if(Ja==0){
-Da=0;
-Ea=0;
-Fa=0;
+Ea=r8(b+176);
+if(Ea<d){
+Fa=*(c+Ea);
+if(Fa==66){
+Ga=tag_9a7(b,c,d);
+if(!(Ga&1)){
+Oa=0;
+Pa=0;
+Qa=0;
 goto L8;}
 z20(f+20);
-Ka=r8(b+176);
-if(Ka>=d){
-Da=0;
-Ea=5;
-Fa=1;
+Ha=r8(b+176);
+if(Ha>=d){
+Oa=0;
+Pa=5;
+Qa=1;
 goto L8;}
-if(*(c+Ka)!=73){
-Da=0;
-Ea=5;
-Fa=1;
+if(*(c+Ha)!=73){
+Oa=0;
+Pa=5;
+Qa=1;
 goto L8;}
-La=r4(b+120);
-Ma=b[139];
-Na=r8(b+8);
-Oa=r8(b+48);
-if(r8(b+72)>Oa)Pa=Oa;
+Ia=r4(b+120);
+Ja=b[139];
+Ka=r8(b+8);
+La=r8(b+48);
+if(r8(b+72)>La)Ma=La;
 else{
-Qa=make_ready_17a(b+40);
-if(Qa==0){
-Da=0;
-Ea=0;
-Fa=0;
+Na=make_ready_17a(b+40);
+if(!(Na&1)){
+Oa=0;
+Pa=0;
+Qa=0;
 goto L8;}
-Pa=r8(b+48);}
-Ra=rp(b+40)+Pa*12;
-x4(Ra,La);
-x4(Ra+4,Na);
+Ma=r8(b+48);}
+Ra=rp(b+40)+Ma*12;
+x4(Ra,Ia);
+x4(Ra+4,Ka);
 Ra[8]=0;
-Ra[9]=Ma;
+Ra[9]=Ja;
 x2(Ra+10,0);
-w8(b+48,Pa+1);
+w8(b+48,Ma+1);
 memcpy(f,b+120,20);
 Sa=r8(b+8);
 if(r8(b+32)>Sa)Ta=Sa;
 else{
 Ua=make_ready_8e3(b,1,16);
-if(Ua==0){
-Da=0;
-Ea=0;
-Fa=0;
+if(!(Ua&1)){
+Oa=0;
+Pa=0;
+Qa=0;
 goto L8;}
 Ta=r8(b+8);}
 *(rp(b)+Ta)=60;
 w8(b+8,Ta+1);
 Va=r8(b+176);
 if(Va==18446744073709551615u){
-Da=0;
-Ea=0;
-Fa=0;
+Oa=0;
+Pa=0;
+Qa=0;
 goto L8;}
 w8(b+176,Va+1);
 Wa=r8(b+88);
@@ -58034,18 +59420,18 @@ Xa=Wa;
 Ya=f;
 goto L9;}
 Za=make_ready_9a1(b+80);
-if(Za==0){
-Da=0;
-Ea=0;
-Fa=0;
+if(!(Za&1)){
+Oa=0;
+Pa=0;
+Qa=0;
 goto L8;}
 ab=f;}
 else{
 z20(e+20);
-if(Ia!=73){
-Da=0;
-Ea=5;
-Fa=1;
+if(Fa!=73){
+Oa=0;
+Pa=5;
+Qa=1;
 goto L8;}
 bb=r4(b+120);
 cb=r8(b+8);
@@ -58053,17 +59439,17 @@ db=r8(b+48);
 if(r8(b+72)>db)eb=db;
 else{
 fb=make_ready_17a(b+40);
-if(fb==0){
-Da=0;
-Ea=0;
-Fa=0;
+if(!(fb&1)){
+Oa=0;
+Pa=0;
+Qa=0;
 goto L8;}
 eb=r8(b+48);}
 gb=rp(b+40)+eb*12;
 x4(gb,bb);
 x4(gb+4,cb);
 gb[8]=0;
-gb[9]=Ga;
+gb[9]=Da;
 x2(gb+10,0);
 w8(b+48,eb+1);
 memcpy(e,b+120,20);
@@ -58071,19 +59457,19 @@ hb=r8(b+8);
 if(r8(b+32)>hb)ib=hb;
 else{
 jb=make_ready_8e3(b,1,16);
-if(jb==0){
-Da=0;
-Ea=0;
-Fa=0;
+if(!(jb&1)){
+Oa=0;
+Pa=0;
+Qa=0;
 goto L8;}
 ib=r8(b+8);}
 *(rp(b)+ib)=60;
 w8(b+8,ib+1);
 kb=r8(b+176);
 if(kb==18446744073709551615u){
-Da=0;
-Ea=0;
-Fa=0;
+Oa=0;
+Pa=0;
+Qa=0;
 goto L8;}
 w8(b+176,kb+1);
 lb=r8(b+88);
@@ -58092,10 +59478,10 @@ Xa=lb;
 Ya=e;
 goto L9;}
 mb=make_ready_9a1(b+80);
-if(mb==0){
-Da=0;
-Ea=0;
-Fa=0;
+if(!(mb&1)){
+Oa=0;
+Pa=0;
+Qa=0;
 goto L8;}
 ab=e;}
 Xa=r8(b+88);
@@ -58106,16 +59492,20 @@ nb[1]=0;
 x2(nb+2,0);
 memcpy(nb+4,Ya,40);
 w8(b+88,Xa+1);
-Da=1;
-Ea=3;
-Fa=1;}
+Oa=1;
+Pa=3;
+Qa=1;}
 else{
-Da=0;
-Ea=5;
-Fa=1;}}
-L8:*o=Fa;
-o[1]=Ea;
-o[2]=Da;
+Oa=0;
+Pa=5;
+Qa=1;}}
+else{
+Oa=0;
+Pa=0;
+Qa=0;}
+L8:*o=Qa;
+o[1]=Pa;
+o[2]=Oa;
 o[3]=0;
 goto L10;
 L7:w4(o,0);
@@ -58126,7 +59516,7 @@ case 76:w8(b+176,r+1);
 ob=r8(b+8);
 if(r8(b+32)-ob<2){
 pb=make_ready_8e3(b,2,128);
-if(pb==0)goto L11;
+if(!(pb&1))goto L11;
 qb=r8(b+8);}
 else qb=ob;
 *(rp(b)+qb)=58;
@@ -58214,7 +59604,7 @@ L20:cc=Zb.f0;
 dc=Zb.f1;
 if(r8(b+32)-rb<dc){
 ec=make_ready_8e3(b,dc,128);
-if(ec==0)goto L11;
+if(!(ec&1))goto L11;
 fc=r8(b+8);}
 else fc=rb;
 gc=r8(b+16);
@@ -58247,63 +59637,59 @@ if(pc<d){
 qc=*(c+pc);
 if(qc==66){
 rc=tag_9a7(b,c,d);
-if(rc==0){
-sc=0;
-tc=0;
-uc=0;}
-else{
+if(rc&1){
 z40(k);
-vc=r8(b+176);
-if(vc<d){
-if(*(c+vc)==73){
-wc=r4(b+120);
-xc=b[139];
-yc=r8(b+8);
-zc=r8(b+48);
-if(r8(b+72)>zc)Ac=zc;
+sc=r8(b+176);
+if(sc<d){
+if(*(c+sc)==73){
+tc=r4(b+120);
+uc=b[139];
+vc=r8(b+8);
+wc=r8(b+48);
+if(r8(b+72)>wc)xc=wc;
 else{
-Bc=make_ready_17a(b+40);
-if(Bc==0){
-sc=0;
-tc=0;
-uc=0;
+yc=make_ready_17a(b+40);
+if(!(yc&1)){
+zc=0;
+Ac=0;
+Bc=0;
 goto L21;}
-Ac=r8(b+48);}
-Cc=rp(b+40)+Ac*12;
-x4(Cc,wc);
-x4(Cc+4,yc);
+xc=r8(b+48);}
+Cc=rp(b+40)+xc*12;
+x4(Cc,tc);
+x4(Cc+4,vc);
 Cc[8]=0;
-Cc[9]=xc;
+Cc[9]=uc;
 x2(Cc+10,0);
-w8(b+48,Ac+1);
+w8(b+48,xc+1);
 memcpy(k,b+120,20);
 Dc=r8(b+8);
 if(r8(b+32)>Dc)Ec=Dc;
 else{
 Fc=make_ready_8e3(b,1,16);
-if(Fc==0){
-sc=0;
-tc=0;
-uc=0;
+if(!(Fc&1)){
+zc=0;
+Ac=0;
+Bc=0;
 goto L21;}
 Ec=r8(b+8);}
 *(rp(b)+Ec)=60;
 w8(b+8,Ec+1);
 Gc=r8(b+176);
 if(Gc==18446744073709551615u){
-sc=0;
-tc=0;
-uc=0;}
+zc=0;
+Ac=0;
+Bc=0;}
 else{
 w8(b+176,Gc+1);
 Hc=r8(b+88);
 if(r8(b+112)>Hc)Ic=Hc;
 else{
 Jc=make_ready_9a1(b+80);
-if(Jc==0){
-sc=0;
-tc=0;
-uc=0;
+if(!(Jc&1)){
+zc=0;
+Ac=0;
+Bc=0;
 goto L21;}
 Ic=r8(b+88);}
 Kc=rp(b+80)+Ic*44;
@@ -58312,17 +59698,21 @@ Kc[1]=0;
 x2(Kc+2,0);
 memcpy(Kc+4,k,40);
 w8(b+88,Ic+1);
-sc=1;
-tc=3;
-uc=1;}}
+zc=1;
+Ac=3;
+Bc=1;}}
 else{
-sc=0;
-tc=5;
-uc=1;}}
+zc=0;
+Ac=5;
+Bc=1;}}
 else{
-sc=0;
-tc=5;
-uc=1;}}}
+zc=0;
+Ac=5;
+Bc=1;}}
+else{
+zc=0;
+Ac=0;
+Bc=0;}}
 else{
 z40(j);
 if(qc==73){
@@ -58331,10 +59721,10 @@ Mc=r8(b+48);
 if(r8(b+72)>Mc)Nc=Mc;
 else{
 Oc=make_ready_17a(b+40);
-if(Oc==0){
-sc=0;
-tc=0;
-uc=0;
+if(!(Oc&1)){
+zc=0;
+Ac=0;
+Bc=0;
 goto L21;}
 Nc=r8(b+48);}
 Pc=rp(b+40)+Nc*12;
@@ -58349,29 +59739,29 @@ Qc=r8(b+8);
 if(r8(b+32)>Qc)Rc=Qc;
 else{
 Sc=make_ready_8e3(b,1,16);
-if(Sc==0){
-sc=0;
-tc=0;
-uc=0;
+if(!(Sc&1)){
+zc=0;
+Ac=0;
+Bc=0;
 goto L21;}
 Rc=r8(b+8);}
 *(rp(b)+Rc)=60;
 w8(b+8,Rc+1);
 Tc=r8(b+176);
 if(Tc==18446744073709551615u){
-sc=0;
-tc=0;
-uc=0;}
+zc=0;
+Ac=0;
+Bc=0;}
 else{
 w8(b+176,Tc+1);
 Uc=r8(b+88);
 if(r8(b+112)>Uc)Vc=Uc;
 else{
 Wc=make_ready_9a1(b+80);
-if(Wc==0){
-sc=0;
-tc=0;
-uc=0;
+if(!(Wc&1)){
+zc=0;
+Ac=0;
+Bc=0;
 goto L21;}
 Vc=r8(b+88);}
 Xc=rp(b+80)+Vc*44;
@@ -58380,24 +59770,24 @@ Xc[1]=0;
 x2(Xc+2,0);
 memcpy(Xc+4,j,40);
 w8(b+88,Vc+1);
-sc=1;
-tc=3;
-uc=1;}}
+zc=1;
+Ac=3;
+Bc=1;}}
 else{
-sc=0;
-tc=5;
-uc=1;}}}
+zc=0;
+Ac=5;
+Bc=1;}}}
 else{
 z40(j);
-sc=0;
-tc=5;
-uc=1;}
-L21:*o=uc;
-o[1]=tc;
+zc=0;
+Ac=5;
+Bc=1;}
+L21:*o=Bc;
+o[1]=Ac;
 Yc=0;
-Zc=sc;
-ad=tc;
-bd=uc;
+Zc=zc;
+ad=Ac;
+bd=Bc;
 goto L22;}}
 L13:goto L11;
 case 85:begin_component_d5a(o,b,c,d);
@@ -58413,7 +59803,7 @@ goto L22;}
 L23:cd=r8(b+8);
 if(r8(b+32)-cd<2){
 dd=make_ready_8e3(b,2,128);
-if(dd==0)goto L11;
+if(!(dd&1))goto L11;
 ed=r8(b+8);}
 else ed=cd;
 *(rp(b)+ed)=58;
@@ -58501,7 +59891,7 @@ L32:Sd=Pd.f0;
 Td=Pd.f1;
 if(r8(b+32)-fd<Td){
 Ud=make_ready_8e3(b,Td,128);
-if(Ud==0)goto L11;
+if(!(Ud&1))goto L11;
 Vd=r8(b+8);}
 else Vd=fd;
 Wd=r8(b+16);
@@ -58534,63 +59924,59 @@ if(fe<d){
 ge=*(c+fe);
 if(ge==66){
 he=tag_9a7(b,c,d);
-if(he==0){
-ie=0;
-je=0;
-ke=0;}
-else{
+if(he&1){
 z40(n);
-le=r8(b+176);
-if(le<d){
-if(*(c+le)==73){
-me=r4(b+120);
-ne=b[139];
-oe=r8(b+8);
-pe=r8(b+48);
-if(r8(b+72)>pe)qe=pe;
+ie=r8(b+176);
+if(ie<d){
+if(*(c+ie)==73){
+je=r4(b+120);
+ke=b[139];
+le=r8(b+8);
+me=r8(b+48);
+if(r8(b+72)>me)ne=me;
 else{
-re=make_ready_17a(b+40);
-if(re==0){
-ie=0;
-je=0;
-ke=0;
+oe=make_ready_17a(b+40);
+if(!(oe&1)){
+pe=0;
+qe=0;
+re=0;
 goto L33;}
-qe=r8(b+48);}
-se=rp(b+40)+qe*12;
-x4(se,me);
-x4(se+4,oe);
+ne=r8(b+48);}
+se=rp(b+40)+ne*12;
+x4(se,je);
+x4(se+4,le);
 se[8]=0;
-se[9]=ne;
+se[9]=ke;
 x2(se+10,0);
-w8(b+48,qe+1);
+w8(b+48,ne+1);
 memcpy(n,b+120,20);
 te=r8(b+8);
 if(r8(b+32)>te)ue=te;
 else{
 ve=make_ready_8e3(b,1,16);
-if(ve==0){
-ie=0;
-je=0;
-ke=0;
+if(!(ve&1)){
+pe=0;
+qe=0;
+re=0;
 goto L33;}
 ue=r8(b+8);}
 *(rp(b)+ue)=60;
 w8(b+8,ue+1);
 we=r8(b+176);
 if(we==18446744073709551615u){
-ie=0;
-je=0;
-ke=0;}
+pe=0;
+qe=0;
+re=0;}
 else{
 w8(b+176,we+1);
 xe=r8(b+88);
 if(r8(b+112)>xe)ye=xe;
 else{
 ze=make_ready_9a1(b+80);
-if(ze==0){
-ie=0;
-je=0;
-ke=0;
+if(!(ze&1)){
+pe=0;
+qe=0;
+re=0;
 goto L33;}
 ye=r8(b+88);}
 Ae=rp(b+80)+ye*44;
@@ -58599,17 +59985,21 @@ Ae[1]=0;
 x2(Ae+2,0);
 memcpy(Ae+4,n,40);
 w8(b+88,ye+1);
-ie=1;
-je=3;
-ke=1;}}
+pe=1;
+qe=3;
+re=1;}}
 else{
-ie=0;
-je=5;
-ke=1;}}
+pe=0;
+qe=5;
+re=1;}}
 else{
-ie=0;
-je=5;
-ke=1;}}}
+pe=0;
+qe=5;
+re=1;}}
+else{
+pe=0;
+qe=0;
+re=0;}}
 else{
 z40(m);
 if(ge==73){
@@ -58618,10 +60008,10 @@ Ce=r8(b+48);
 if(r8(b+72)>Ce)De=Ce;
 else{
 Ee=make_ready_17a(b+40);
-if(Ee==0){
-ie=0;
-je=0;
-ke=0;
+if(!(Ee&1)){
+pe=0;
+qe=0;
+re=0;
 goto L33;}
 De=r8(b+48);}
 Fe=rp(b+40)+De*12;
@@ -58636,29 +60026,29 @@ Ge=r8(b+8);
 if(r8(b+32)>Ge)He=Ge;
 else{
 Ie=make_ready_8e3(b,1,16);
-if(Ie==0){
-ie=0;
-je=0;
-ke=0;
+if(!(Ie&1)){
+pe=0;
+qe=0;
+re=0;
 goto L33;}
 He=r8(b+8);}
 *(rp(b)+He)=60;
 w8(b+8,He+1);
 Je=r8(b+176);
 if(Je==18446744073709551615u){
-ie=0;
-je=0;
-ke=0;}
+pe=0;
+qe=0;
+re=0;}
 else{
 w8(b+176,Je+1);
 Ke=r8(b+88);
 if(r8(b+112)>Ke)Le=Ke;
 else{
 Me=make_ready_9a1(b+80);
-if(Me==0){
-ie=0;
-je=0;
-ke=0;
+if(!(Me&1)){
+pe=0;
+qe=0;
+re=0;
 goto L33;}
 Le=r8(b+88);}
 Ne=rp(b+80)+Le*44;
@@ -58667,24 +60057,24 @@ Ne[1]=0;
 x2(Ne+2,0);
 memcpy(Ne+4,m,40);
 w8(b+88,Le+1);
-ie=1;
-je=3;
-ke=1;}}
+pe=1;
+qe=3;
+re=1;}}
 else{
-ie=0;
-je=5;
-ke=1;}}}
+pe=0;
+qe=5;
+re=1;}}}
 else{
 z40(m);
-ie=0;
-je=5;
-ke=1;}
-L33:*o=ke;
-o[1]=je;
+pe=0;
+qe=5;
+re=1;}
+L33:*o=re;
+o[1]=qe;
 Yc=0;
-Zc=ie;
-ad=je;
-bd=ke;
+Zc=pe;
+ad=qe;
+bd=re;
 goto L22;}}
 L25:L11:goto L34;
 L22:if(bd==1){
@@ -58711,7 +60101,7 @@ Se=r8(b+48);
 if(r8(b+72)>Se)Te=Se;
 else{
 Ue=make_ready_17a(b+40);
-if(Ue==0){
+if(!(Ue&1)){
 x4(a,0);
 goto L35;}
 Te=r8(b+48);}
@@ -58739,26 +60129,25 @@ L35:return;
 static void begin_component_d5a(u8* a,u8* b,u8* c,u64 d)
 {
 u8 e[6];
-u32 f;
-u8 g,h,j;
-u16 i;
+u8 f,i;
+u16 g;
+u32 h;
+w2(e,1);
 if(b[139]&1)x4(a,0);
 else{
-f=r4(b+120);
-g=b[132];
-h=b[133];
-i=r2(b+134);
-w2(e,1);
-e[2]=g;
-e[3]=h;
-w2(e+4,i);
-j=open_lambda_2e5(b,c,d,f,e);
-if(j==0)x4(a,0);
-else{
+f=b[133];
+g=q2(b+134);
+h=r4(b+120);
+e[2]=b[132];
+e[3]=f;
+w2(e+4,g);
+i=open_lambda_2e5(b,c,d,h,e);
+if(i&1){
 *a=1;
 a[1]=0;
 a[2]=0;
-a[3]=0;}}
+a[3]=0;}
+else x4(a,0);}
 return;
 }
 
@@ -58767,17 +60156,17 @@ static void operator_761(u8* a,u8* b,u8* c,u64 d)
 {
 u8 e[4],f[32];
 A16 u8 g[40],h[40];
-u64 i,k,l,p,v,z,A,D,E,G,H,I,M,N,Q,R,T,U,V,Y;
-u8 j,o,q,r,s,t,u,x,B,F,J,O,S,W,Z,aa,ba,ca,da;
+u64 i,k,l,p,s,w,x,D,E,G,H,I,M,N,Q,R,T,U,V,Y;
+u8 j,o,q,r,u,y,z,A,B,F,J,O,S,W,Z,aa,ba,ca,da;
 s_8_8 m;
-u32 n,w,y,L;
+u32 n,t,v,L;
 u8 *C,*K,*P,*X;
 if(b[139]&1)x4(a,0);
 else{
 i=r8(b+8);
 if(r8(b+32)-i<2){
 j=make_ready_8e3(b,2,128);
-if(j==0){
+if(!(j&1)){
 x4(a,0);
 goto L1;}
 k=r8(b+8);}
@@ -58801,63 +60190,59 @@ if(p<d){
 q=*(c+p);
 if(q==66){
 r=tag_9a7(b,c,d);
-if(r==0){
-s=0;
-t=0;
-u=0;}
-else{
+if(r&1){
 z20(h+20);
-v=r8(b+176);
-if(v<d){
-if(*(c+v)==73){
-w=r4(b+120);
-x=b[139];
-y=r8(b+8);
-z=r8(b+48);
-if(r8(b+72)>z)A=z;
+s=r8(b+176);
+if(s<d){
+if(*(c+s)==73){
+t=r4(b+120);
+u=b[139];
+v=r8(b+8);
+w=r8(b+48);
+if(r8(b+72)>w)x=w;
 else{
-B=make_ready_17a(b+40);
-if(B==0){
-s=0;
-t=0;
-u=0;
+y=make_ready_17a(b+40);
+if(!(y&1)){
+z=0;
+A=0;
+B=0;
 goto L2;}
-A=r8(b+48);}
-C=rp(b+40)+A*12;
-x4(C,w);
-x4(C+4,y);
+x=r8(b+48);}
+C=rp(b+40)+x*12;
+x4(C,t);
+x4(C+4,v);
 C[8]=0;
-C[9]=x;
+C[9]=u;
 x2(C+10,0);
-w8(b+48,A+1);
+w8(b+48,x+1);
 memcpy(h,b+120,20);
 D=r8(b+8);
 if(r8(b+32)>D)E=D;
 else{
 F=make_ready_8e3(b,1,16);
-if(F==0){
-s=0;
-t=0;
-u=0;
+if(!(F&1)){
+z=0;
+A=0;
+B=0;
 goto L2;}
 E=r8(b+8);}
 *(rp(b)+E)=60;
 w8(b+8,E+1);
 G=r8(b+176);
 if(G==18446744073709551615u){
-s=0;
-t=0;
-u=0;}
+z=0;
+A=0;
+B=0;}
 else{
 w8(b+176,G+1);
 H=r8(b+88);
 if(r8(b+112)>H)I=H;
 else{
 J=make_ready_9a1(b+80);
-if(J==0){
-s=0;
-t=0;
-u=0;
+if(!(J&1)){
+z=0;
+A=0;
+B=0;
 goto L2;}
 I=r8(b+88);}
 K=rp(b+80)+I*44;
@@ -58866,17 +60251,21 @@ K[1]=0;
 x2(K+2,0);
 memcpy(K+4,h,40);
 w8(b+88,I+1);
-s=1;
-t=3;
-u=1;}}
+z=1;
+A=3;
+B=1;}}
 else{
-s=0;
-t=5;
-u=1;}}
+z=0;
+A=5;
+B=1;}}
 else{
-s=0;
-t=5;
-u=1;}}}
+z=0;
+A=5;
+B=1;}}
+else{
+z=0;
+A=0;
+B=0;}}
 else{
 z20(g+20);
 if(q==73){
@@ -58885,10 +60274,10 @@ M=r8(b+48);
 if(r8(b+72)>M)N=M;
 else{
 O=make_ready_17a(b+40);
-if(O==0){
-s=0;
-t=0;
-u=0;
+if(!(O&1)){
+z=0;
+A=0;
+B=0;
 goto L2;}
 N=r8(b+48);}
 P=rp(b+40)+N*12;
@@ -58903,29 +60292,29 @@ Q=r8(b+8);
 if(r8(b+32)>Q)R=Q;
 else{
 S=make_ready_8e3(b,1,16);
-if(S==0){
-s=0;
-t=0;
-u=0;
+if(!(S&1)){
+z=0;
+A=0;
+B=0;
 goto L2;}
 R=r8(b+8);}
 *(rp(b)+R)=60;
 w8(b+8,R+1);
 T=r8(b+176);
 if(T==18446744073709551615u){
-s=0;
-t=0;
-u=0;}
+z=0;
+A=0;
+B=0;}
 else{
 w8(b+176,T+1);
 U=r8(b+88);
 if(r8(b+112)>U)V=U;
 else{
 W=make_ready_9a1(b+80);
-if(W==0){
-s=0;
-t=0;
-u=0;
+if(!(W&1)){
+z=0;
+A=0;
+B=0;
 goto L2;}
 V=r8(b+88);}
 X=rp(b+80)+V*44;
@@ -58934,20 +60323,20 @@ X[1]=0;
 x2(X+2,0);
 memcpy(X+4,g,40);
 w8(b+88,V+1);
-s=1;
-t=3;
-u=1;}}
+z=1;
+A=3;
+B=1;}}
 else{
-s=0;
-t=5;
-u=1;}}}
+z=0;
+A=5;
+B=1;}}}
 else{
-s=0;
-t=5;
-u=1;}
-L2:*a=u;
-a[1]=t;
-a[2]=s;
+z=0;
+A=5;
+B=1;}
+L2:*a=B;
+a[1]=A;
+a[2]=z;
 a[3]=0;}
 else{
 Y=r8(b+176);
@@ -58998,7 +60387,7 @@ if(c[4]==78){
 g=r8(b+8);
 if(r8(b+32)-g<19){
 h=make_ready_8e3(b,19,128);
-if(h==0)goto L1;
+if(!(h&1))goto L1;
 i=r8(b+8);}
 else i=g;
 j=r8(b+16);
@@ -59072,13 +60461,14 @@ L2:return;
 /* cpp_direct::direct::Direct::nest_at */
 static void nest_at_97a(u8* a,u8* b,u8* c,u64 d,u8* e)
 {
-A16 u8 f[44],g[40],h[40],i[24],j[40],k[40],l[16],m[24];
-u64 n,s,u,z,A,C,D,E,H,K,M,N,O,P,Q,R,U,aa,ca,da,fa,ga,ha,la,oa,sa,ta,wa,xa,za,Aa,Ba,Ea,Fa,Ia,Ja,La,Ma,Na,Ta,Wa,Xa,Za,ab,bb,eb,gb,ib,jb,kb,rb,sb,tb,xb,yb,Ab,Bb,Cb,Eb,Fb,Gb,Jb,Lb,Nb,Ob,Pb,Qb,Rb,Sb,Vb,Xb,Zb,bc,cc,ec,gc,hc,jc,lc,mc,oc,tc,vc,wc,yc,zc,Ac;
-u8 o,p,r,v,w,x,y,B,I,L,S,V,ba,ea,ma,na,qa,ua,ya,Ca,Ga,Ka,Oa,Qa,Ra,Sa,Va,Ya,hb,lb,pb,vb,wb,zb,Db,Hb,Mb,Tb,Wb,Yb,ac,dc,fc,ic,kc,nc,uc,xc;
+u8 f[34];
+A16 u8 g[40],h[40],i[24],j[40],k[40],l[16],m[24];
+u64 n,s,u,w,A,C,D,E,H,K,M,N,O,P,Q,R,U,aa,ca,da,fa,ga,ha,la,oa,sa,ta,wa,xa,za,Aa,Ba,Ea,Fa,Ia,Ja,La,Ma,Na,Ta,Wa,Xa,Za,ab,bb,eb,gb,ib,jb,kb,rb,sb,tb,vb,wb,xb,Ab,Cb,Eb,Fb,Gb,Hb,Ib,Jb,Mb,Ob,Qb,Sb,Tb,Vb,Xb,Yb,ac,cc,dc,fc,kc,mc,nc,pc,qc,rc;
+u8 o,p,r,v,x,y,z,B,I,L,S,V,ba,ea,ma,na,qa,ua,ya,Ca,Ga,Ka,Oa,Qa,Ra,Sa,Va,Ya,hb,lb,pb,qb,ub,yb,Db,Kb,Nb,Pb,Rb,Ub,Wb,Zb,bc,ec,lc,oc;
 u16 q;
-u32 t,J,ka,pa,ra,nb,ob,Kb;
-u8 *F,*G,*T,*Z,*ia,*ja,*va,*Da,*Ha,*Pa,*Ua,*cb,*db,*fb,*mb,*qb,*ub,*Ib,*Ub,*sc,*Bc,*Cc;
-s_p_64 W,X,Y,pc,qc,rc;
+u32 t,J,ka,pa,ra,nb,ob,Bb;
+u8 *F,*G,*T,*Z,*ia,*ja,*va,*Da,*Ha,*Pa,*Ua,*cb,*db,*fb,*mb,*zb,*Lb,*jc,*sc,*tc;
+s_p_64 W,X,Y,gc,hc,ic;
 n=r8(b+176);
 if(n<d){
 o=*e;
@@ -59096,26 +60486,26 @@ switch(*(c+u)){
 case 116:w8(b+176,n+2);
 if(r8(b+32)-s<5){
 v=make_ready_8e3(b,5,128);
-if(v==0){
-w=0;
+if(!(v&1)){
 x=0;
 y=0;
+z=0;
 goto L1;}
-z=r8(b+8);}
-else z=s;
+w=r8(b+8);}
+else w=s;
 A=r8(b+16);
-if(A-z<5){
+if(A-w<5){
 B=grow_amortized_e1a(b,5);
 if(!B){
-w=0;
 x=0;
 y=0;
+z=0;
 goto L1;}
 C=r8(b+16);
 D=r8(b+8);}
 else{
 C=A;
-D=z;}
+D=w;}
 E=D+5;
 F=rp(b);
 z16(b+8);
@@ -59143,9 +60533,9 @@ if(*i==1){
 N=r8(i+8);
 O=r8(i+16);
 goto L2;}
-w=0;
 x=0;
 y=0;
+z=0;
 goto L1;}}
 P=(u64)L+(u8)((u8)(I*10)+32);
 if(d-M<P)goto L3;
@@ -59176,10 +60566,10 @@ L5:Z=W.f0;
 aa=W.f1;
 if(r8(b+32)-E<aa){
 ba=make_ready_8e3(b,aa,128);
-if(ba==0){
-w=0;
+if(!(ba&1)){
 x=0;
 y=0;
+z=0;
 goto L1;}
 ca=r8(b+8);
 da=r8(b+16);}
@@ -59189,9 +60579,9 @@ da=C;}
 if(aa>da-ca){
 ea=grow_amortized_e1a(b,aa);
 if(!ea){
-w=0;
 x=0;
 y=0;
+z=0;
 goto L1;}
 fa=r8(b+16);
 ga=r8(b+8);}
@@ -59220,26 +60610,26 @@ b[138]=0;
 b[139]=0;
 la=r8(b+176);
 if(la>=d){
-w=0;
-x=5;
-y=1;
+x=0;
+y=5;
+z=1;
 goto L1;}
 ma=*(c+la);
 if(ma!=66){
 z20(g+20);
 if(ma!=73){
-w=0;
-x=5;
-y=1;
+x=0;
+y=5;
+z=1;
 goto L1;}
 Ea=r8(b+48);
 if(r8(b+72)>Ea)Fa=Ea;
 else{
 Ga=make_ready_17a(b+40);
-if(Ga==0){
-w=0;
+if(!(Ga&1)){
 x=0;
 y=0;
+z=0;
 goto L1;}
 Fa=r8(b+48);}
 Ha=rp(b+40)+Fa*12;
@@ -59254,29 +60644,29 @@ Ia=r8(b+8);
 if(r8(b+32)>Ia)Ja=Ia;
 else{
 Ka=make_ready_8e3(b,1,16);
-if(Ka==0){
-w=0;
+if(!(Ka&1)){
 x=0;
 y=0;
+z=0;
 goto L1;}
 Ja=r8(b+8);}
 *(rp(b)+Ja)=60;
 w8(b+8,Ja+1);
 La=r8(b+176);
 if(La==18446744073709551615u){
-w=0;
 x=0;
 y=0;
+z=0;
 goto L1;}
 w8(b+176,La+1);
 Ma=r8(b+88);
 if(r8(b+112)>Ma)Na=Ma;
 else{
 Oa=make_ready_9a1(b+80);
-if(Oa==0){
-w=0;
+if(!(Oa&1)){
 x=0;
 y=0;
+z=0;
 goto L1;}
 Na=r8(b+88);}
 Pa=rp(b+80)+Na*44;
@@ -59285,27 +60675,27 @@ Pa[1]=0;
 x2(Pa+2,0);
 memcpy(Pa+4,g,40);
 w8(b+88,Na+1);
-w=1;
-x=3;
-y=1;
+x=1;
+y=3;
+z=1;
 goto L1;}
 na=tag_9a7(b,c,d);
-if(na==0){
-w=0;
+if(!(na&1)){
 x=0;
 y=0;
+z=0;
 goto L1;}
 z20(h+20);
 oa=r8(b+176);
 if(oa>=d){
-w=0;
-x=5;
-y=1;
+x=0;
+y=5;
+z=1;
 goto L1;}
 if(*(c+oa)!=73){
-w=0;
-x=5;
-y=1;
+x=0;
+y=5;
+z=1;
 goto L1;}
 pa=r4(b+120);
 qa=b[139];
@@ -59314,10 +60704,10 @@ sa=r8(b+48);
 if(r8(b+72)>sa)ta=sa;
 else{
 ua=make_ready_17a(b+40);
-if(ua==0){
-w=0;
+if(!(ua&1)){
 x=0;
 y=0;
+z=0;
 goto L1;}
 ta=r8(b+48);}
 va=rp(b+40)+ta*12;
@@ -59332,29 +60722,29 @@ wa=r8(b+8);
 if(r8(b+32)>wa)xa=wa;
 else{
 ya=make_ready_8e3(b,1,16);
-if(ya==0){
-w=0;
+if(!(ya&1)){
 x=0;
 y=0;
+z=0;
 goto L1;}
 xa=r8(b+8);}
 *(rp(b)+xa)=60;
 w8(b+8,xa+1);
 za=r8(b+176);
 if(za==18446744073709551615u){
-w=0;
 x=0;
 y=0;
+z=0;
 goto L1;}
 w8(b+176,za+1);
 Aa=r8(b+88);
 if(r8(b+112)>Aa)Ba=Aa;
 else{
 Ca=make_ready_9a1(b+80);
-if(Ca==0){
-w=0;
+if(!(Ca&1)){
 x=0;
 y=0;
+z=0;
 goto L1;}
 Ba=r8(b+88);}
 Da=rp(b+80)+Ba*44;
@@ -59363,16 +60753,16 @@ Da[1]=0;
 x2(Da+2,0);
 memcpy(Da+4,h,40);
 w8(b+88,Ba+1);
-w=1;
-x=3;
-y=1;
+x=1;
+y=3;
+z=1;
 goto L1;}}
-L3:w=0;
-x=0;
+L3:x=0;
 y=0;
-L1:Qa=w;
-Ra=x;
-Sa=y;
+z=0;
+L1:Qa=x;
+Ra=y;
+Sa=z;
 goto L6;
 case 97:Ta=14;
 Ua=(u8*)t_5ec9;
@@ -59397,7 +60787,7 @@ default:goto L7;
 w8(b+176,n+2);
 if(r8(b+32)-s<Ta){
 Va=make_ready_8e3(b,Ta,128);
-if(Va==0){
+if(!(Va&1)){
 Qa=0;
 Ra=0;
 Sa=0;
@@ -59464,7 +60854,7 @@ fb=cb;
 gb=bb;}
 else{
 hb=make_ready_8e3(b,1,16);
-if(hb==0){
+if(!(hb&1)){
 Qa=0;
 Ra=0;
 Sa=0;
@@ -59484,7 +60874,7 @@ jb=r8(b+88);
 if(r8(b+112)>jb)kb=jb;
 else{
 lb=make_ready_9a1(b+80);
-if(lb==0){
+if(!(lb&1)){
 Qa=0;
 Ra=0;
 Sa=0;
@@ -59511,56 +60901,20 @@ nb=r4(l+4);
 ob=r4(l+8);
 pb=l[13];
 if(pb&1){
+z34(f);
 if(o!=0){
 Qa=0;
 Ra=0;
 Sa=0;
 goto L6;}
-qb=rp(b+80);
-rb=16;
-sb=r8(b+88);
-L8:if(sb!=0){
-tb=sb-1;
-ub=qb+(i64)(tb*44);
-vb=*ub;
-wb=ub[16];
-switch(vb){
-case 0:case 1:case 2:case 3:case 4:case 8:break;
-case 5:if(wb!=0)goto L9;
-break;
-case 6:if(wb!=0)goto L9;
-break;
-case 7:case 9:case 10:case 11:case 12:case 13:case 14:case 15:case 16:case 17:case 18:case 19:case 20:case 21:case 22:case 23:case 24:case 25:memcpy(f+4,ub+4,40);
-switch(vb){
-case 9:case 10:case 15:case 16:xb=4;
-break;
-case 11:case 13:xb=8;
-break;
-case 25:case 24:case 23:case 22:case 21:case 20:case 19:case 7:case 8:case 12:case 14:case 17:case 18:goto L9;
-default:NEVER;
-}
-if(r2(f+4+xb)!=0)goto L10;
+argument_dbb(f,b);
+if(!(*f==1&&r2(f+2)!=0)){
 Qa=0;
 Ra=0;
 Sa=0;
-goto L6;
-default:NEVER;
-}
-yb=rb-1;
-if(yb!=0){
-rb=yb;
-sb=tb;
-goto L8;}}
-L9:Qa=0;
-Ra=0;
-Sa=0;
-goto L6;}
-L10:zb=repeat_28b(b,nb,ob);
-if(zb==0){
-Qa=0;
-Ra=0;
-Sa=0;}
-else{
+goto L6;}}
+qb=repeat_28b(b,nb,ob);
+if(qb&1){
 x4(b+120,t);
 x4(b+124,t);
 x4(b+128,t);
@@ -59573,45 +60927,45 @@ b[138]=0;
 b[139]=pb&1;
 z20(k+20);
 if(o==0){
-Ab=r8(b+176);
-if(Ab<d){
-if(*(c+Ab)==73){
+rb=r8(b+176);
+if(rb<d){
+if(*(c+rb)==73){
 memcpy(k,b+120,20);
-Bb=r8(b+8);
-if(r8(b+32)>Bb)Cb=Bb;
+sb=r8(b+8);
+if(r8(b+32)>sb)tb=sb;
 else{
-Db=make_ready_8e3(b,1,16);
-if(Db==0){
+ub=make_ready_8e3(b,1,16);
+if(!(ub&1)){
 Qa=0;
 Ra=0;
 Sa=0;
 goto L6;}
-Cb=r8(b+8);}
-*(rp(b)+Cb)=60;
-w8(b+8,Cb+1);
-Eb=r8(b+176);
-if(Eb==18446744073709551615u){
+tb=r8(b+8);}
+*(rp(b)+tb)=60;
+w8(b+8,tb+1);
+vb=r8(b+176);
+if(vb==18446744073709551615u){
 Qa=0;
 Ra=0;
 Sa=0;}
 else{
-w8(b+176,Eb+1);
-Fb=r8(b+88);
-if(r8(b+112)>Fb)Gb=Fb;
+w8(b+176,vb+1);
+wb=r8(b+88);
+if(r8(b+112)>wb)xb=wb;
 else{
-Hb=make_ready_9a1(b+80);
-if(Hb==0){
+yb=make_ready_9a1(b+80);
+if(!(yb&1)){
 Qa=0;
 Ra=0;
 Sa=0;
 goto L6;}
-Gb=r8(b+88);}
-Ib=rp(b+80)+Gb*44;
-*Ib=5;
-Ib[1]=0;
-x2(Ib+2,0);
-memcpy(Ib+4,k,40);
-w8(b+88,Gb+1);
+xb=r8(b+88);}
+zb=rp(b+80)+xb*44;
+*zb=5;
+zb[1]=0;
+x2(zb+2,0);
+memcpy(zb+4,k,40);
+w8(b+88,xb+1);
 Qa=1;
 Ra=3;
 Sa=1;}}
@@ -59626,7 +60980,11 @@ Sa=1;}}
 else{
 Qa=0;
 Ra=4;
-Sa=1;}}}}
+Sa=1;}}
+else{
+Qa=0;
+Ra=0;
+Sa=0;}}}
 else{
 Qa=0;
 Ra=0;
@@ -59635,110 +60993,110 @@ L6:*a=Sa;
 a[1]=Ra;
 a[2]=Qa;
 a[3]=0;
-goto L11;}
-Jb=r8(b+8);
+goto L8;}
+Ab=r8(b+8);
 z24(m);
 if((u8)(r-58)>=247){
-Kb=Jb;
-Lb=n+1;
-if(Lb<d){
-Mb=*(c+Lb)-48;
-if(Mb<10){
-Nb=n+2;
-if(Nb<d){
-if((u8)(*(c+Nb)-48)<10){
+Bb=Ab;
+Cb=n+1;
+if(Cb<d){
+Db=*(c+Cb)-48;
+if(Db<10){
+Eb=n+2;
+if(Eb<d){
+if((u8)(*(c+Eb)-48)<10){
 long_name_at_8ad(m,c,d,n);
-if(*m!=1)goto L12;
-Ob=r8(m+16);
-Pb=r8(m+8);
-goto L13;}}
-Qb=(u64)Mb+(u8)((u8)(r*10)+32);
-if(d-Nb<Qb)goto L14;
-if((u8)(*(c+(i64)Nb)-48)<10)goto L14;
-Rb=Nb;
-Sb=Qb+Nb;
-goto L15;}}
-Tb=r-48;
-if(d-Lb<Tb)goto L14;
-if((u8)(*(c+(i64)Lb)-48)<10)goto L14;
-Rb=Lb;
-Sb=Lb+Tb;
-L15:Ob=Sb;
-Pb=Rb;
-L13:w8(b+176,Ob);
-Ub=c+(i64)Pb;
-Vb=Ob-Pb;
-if(Ob!=Pb){
-if(Vb<10||*Ub!=95)goto L16;
+if(*m!=1)goto L9;
+Fb=r8(m+16);
+Gb=r8(m+8);
+goto L10;}}
+Hb=(u64)Db+(u8)((u8)(r*10)+32);
+if(d-Eb<Hb)goto L11;
+if((u8)(*(c+(i64)Eb)-48)<10)goto L11;
+Ib=Eb;
+Jb=Hb+Eb;
+goto L12;}}
+Kb=r-48;
+if(d-Cb<Kb)goto L11;
+if((u8)(*(c+(i64)Cb)-48)<10)goto L11;
+Ib=Cb;
+Jb=Cb+Kb;
+L12:Fb=Jb;
+Gb=Ib;
+L10:w8(b+176,Fb);
+Lb=c+(i64)Gb;
+Mb=Fb-Gb;
+if(Fb!=Gb){
+if(Mb<10||*Lb!=95)goto L13;
+Nb=0;
+Ob=0;
+L14:Pb=Nb||*((u8*)t_35ad+(i64)Ob)!=*(Lb+(i64)Ob);
+Qb=Ob+1;
+if(Qb!=8){
+Nb=Pb;
+Ob=Qb;
+goto L14;}
+Rb=0;
+Sb=0;
+L15:Tb=Sb+2;
+Ub=Rb||*((u8*)t_35ad+(i64)Tb)!=*(Lb+(i64)Tb);
+Vb=Sb+1;
+if(Vb!=8){
+Rb=Ub;
+Sb=Vb;
+goto L15;}
 Wb=0;
 Xb=0;
-L17:Yb=Wb||*((u8*)t_35ad+(i64)Xb)!=*(Ub+(i64)Xb);
-Zb=Xb+1;
-if(Zb!=8){
-Wb=Yb;
-Xb=Zb;
-goto L17;}
-ac=0;
+L16:Yb=Xb+2;
+Zb=Wb||*((u8*)t_35ad+(i64)Yb)!=*(Lb+(i64)Yb);
+ac=Xb+1;
+if(ac!=8){
+Wb=Zb;
+Xb=ac;
+goto L16;}
 bc=0;
-L18:cc=bc+2;
-dc=ac||*((u8*)t_35ad+(i64)cc)!=*(Ub+(i64)cc);
-ec=bc+1;
-if(ec!=8){
-ac=dc;
+cc=0;
+L17:dc=cc+2;
+ec=bc||*((u8*)t_35ad+(i64)dc)!=*(Lb+(i64)dc);
+fc=cc+1;
+if(fc!=8){
 bc=ec;
-goto L18;}
-fc=0;
-gc=0;
-L19:hc=gc+2;
-ic=fc||*((u8*)t_35ad+(i64)hc)!=*(Ub+(i64)hc);
-jc=gc+1;
-if(jc!=8){
-fc=ic;
-gc=jc;
-goto L19;}
-kc=0;
-lc=0;
-L20:mc=lc+2;
-nc=kc||*((u8*)t_35ad+(i64)mc)!=*(Ub+(i64)mc);
-oc=lc+1;
-if(oc!=8){
-kc=nc;
-lc=oc;
-goto L20;}
-if(!(((Yb|dc)|ic)|nc)){
-pc=(s_p_64){(u8*)t_62ff,21};
-goto L21;}}
-L16:qc=(s_p_64){0};qc.f0=Ub;
-rc=qc;rc.f1=Vb;
-pc=rc;
-L21:sc=pc.f0;
-tc=pc.f1;
-if(r8(b+32)-Jb<tc){
-uc=make_ready_8e3(b,tc,128);
-if(uc==0)goto L12;
-vc=r8(b+8);}
-else vc=Jb;
-wc=r8(b+16);
-if(tc>wc-vc){
-xc=grow_amortized_e1a(b,tc);
-if(!xc)goto L12;
-yc=r8(b+16);
-zc=r8(b+8);}
+cc=fc;
+goto L17;}
+if(!(((Pb|Ub)|Zb)|ec)){
+gc=(s_p_64){(u8*)t_62ff,21};
+goto L18;}}
+L13:hc=(s_p_64){0};hc.f0=Lb;
+ic=hc;ic.f1=Mb;
+gc=ic;
+L18:jc=gc.f0;
+kc=gc.f1;
+if(r8(b+32)-Ab<kc){
+lc=make_ready_8e3(b,kc,128);
+if(!(lc&1))goto L9;
+mc=r8(b+8);}
+else mc=Ab;
+nc=r8(b+16);
+if(kc>nc-mc){
+oc=grow_amortized_e1a(b,kc);
+if(!oc)goto L9;
+pc=r8(b+16);
+qc=r8(b+8);}
 else{
-yc=wc;
-zc=vc;}
-Ac=zc+tc;
-Bc=rp(b);
+pc=nc;
+qc=mc;}
+rc=qc+kc;
+sc=rp(b);
 z16(b+8);
-Cc=Bc+(i64)zc;
-if((u64)Cc-(u64)sc<tc)copy_bits_4f4(sc,Cc,tc);
-else memmove(Cc,sc,tc);
-wp(b,Bc);
-w8(b+8,Ac);
-w8(b+16,yc);
-w4(b+120,Kb);
-w4(b+124,Kb);
-w4(b+128,Ac);
+tc=sc+(i64)qc;
+if((u64)tc-(u64)jc<kc)copy_bits_4f4(jc,tc,kc);
+else memmove(tc,jc,kc);
+wp(b,sc);
+w8(b+8,rc);
+w8(b+16,pc);
+w4(b+120,Bb);
+w4(b+124,Bb);
+w4(b+128,rc);
 b[132]=o;
 b[133]=p;
 w2(b+134,q);
@@ -59750,9 +61108,9 @@ b[139]=0;
 a[1]=4;
 a[2]=0;
 a[3]=0;
-goto L11;}}
-L14:L12:x4(a,0);
-L11:return;
+goto L8;}}
+L11:L9:x4(a,0);
+L8:return;
 }
 
 /* cpp_direct::direct::Direct::begin_clone */
@@ -59777,7 +61135,7 @@ default:goto L1;
 h=r8(b+8);
 if(r8(b+32)-h<g){
 i=make_ready_8e3(b,g,128);
-if(i==0)goto L2;
+if(!(i&1))goto L2;
 j=r8(b+8);}
 else j=h;
 k=r8(b+16);
@@ -59909,7 +61267,7 @@ j=h;
 w8(b+176,g+2);
 if(r8(b+32)-h<5){
 k=make_ready_8e3(b,5,128);
-if(k==0)goto L1;
+if(!(k&1))goto L1;
 l=r8(b+8);}
 else l=h;
 m=r8(b+16);
@@ -59987,9 +61345,9 @@ L7:L=I.f0;
 M=I.f1;
 if(r8(b+32)-q<M){
 N=make_ready_8e3(b,M,128);
-if(N==0)goto L3;}
+if(!(N&1))goto L3;}
 O=push_str_b7e(b,L,M);
-if(O!=0)goto L3;
+if(O&1)goto L3;
 unscoped_named_6a9(f,b,c,d,j,1);
 *a=*f;
 a[1]=f[1];
@@ -60018,7 +61376,7 @@ if(k<d){
 l=*(c+k);
 if(l==66){
 m=tag_9a7(b,c,d);
-if(m==0){
+if(!(m&1)){
 x4(a,0);
 goto L1;}
 w4(i,0);
@@ -60036,7 +61394,7 @@ p=r8(b+48);
 if(r8(b+72)>p)q=p;
 else{
 r=make_ready_17a(b+40);
-if(r==0){
+if(!(r&1)){
 s=0;
 t=0;
 u=0;
@@ -60054,7 +61412,7 @@ x=r8(b+8);
 if(r8(b+32)>x)y=x;
 else{
 z=make_ready_8e3(b,1,16);
-if(z==0){
+if(!(z&1)){
 s=0;
 t=0;
 u=0;
@@ -60075,7 +61433,7 @@ B=r8(b+88);
 if(r8(b+112)>B)C=B;
 else{
 D=make_ready_9a1(b+80);
-if(D==0){
+if(!(D&1)){
 s=0;
 t=0;
 u=0;
@@ -60118,7 +61476,7 @@ G=r8(b+48);
 if(r8(b+72)>G)H=G;
 else{
 I=make_ready_17a(b+40);
-if(I==0){
+if(!(I&1)){
 J=0;
 K=0;
 L=0;
@@ -60136,7 +61494,7 @@ O=r8(b+8);
 if(r8(b+32)>O)P=O;
 else{
 Q=make_ready_8e3(b,1,16);
-if(Q==0){
+if(!(Q&1)){
 J=0;
 K=0;
 L=0;
@@ -60157,7 +61515,7 @@ S=r8(b+88);
 if(r8(b+112)>S)T=S;
 else{
 U=make_ready_9a1(b+80);
-if(U==0){
+if(!(U&1)){
 J=0;
 K=0;
 L=0;
@@ -60196,8 +61554,8 @@ static void name_ended_a18(u8* a,u8* b,u8* c,u64 d,u8 e,u8 f,u8* g,u32 h)
 u8 i[4],l[16];
 A16 u8 j[4],k[4],m[4],n[32];
 u16 o,w;
-u64 p,u,y,B,H,I,K,L,S,Y,Z,ba,ca,da,ga,ia,ja,la,ma,na,qa,sa,ta,va,wa,xa,Aa,Ca,Da,Fa,Ga,Ha,Ka,Ma,Na,Pa,Qa,Ra;
-u8 q,r,s,t,x,A,C,D,E,F,G,J,M,O,P,Q,R,T,U,V,W,X,aa,ha,ka,ra,ua,Ba,Ea,La,Oa;
+u64 p,u,y,B,H,I,K,L,S,U,Z,ba,ca,da,ga,ia,ja,la,ma,na,qa,sa,ta,va,wa,xa,Aa,Ca,Da,Fa,Ga,Ha,Ka,Ma,Na,Pa,Qa,Ra;
+u8 q,r,s,t,x,A,C,D,E,F,G,J,M,O,P,Q,R,T,V,W,X,Y,aa,ha,ka,ra,ua,Ba,Ea,La,Oa;
 u8 *v,*N,*ea,*fa,*oa,*pa,*ya,*za,*Ia,*Ja,*Sa,*Ta;
 u32 z;
 o=q2(g+2);
@@ -60262,7 +61620,7 @@ A=*v==118;
 if(r8(b+32)>y)B=y;
 else{
 C=make_ready_8e3(b,1,16);
-if(C==0){
+if(!(C&1)){
 D=0;
 E=0;
 F=0;
@@ -60295,7 +61653,7 @@ K=r8(b+88);
 if(r8(b+112)>K)L=K;
 else{
 M=make_ready_9a1(b+80);
-if(M==0){
+if(!(M&1)){
 D=0;
 E=0;
 F=0;
@@ -60337,28 +61695,28 @@ case 0:break;
 case 1:S=r8(b+8);
 if(r8(b+32)-S<6){
 T=make_ready_8e3(b,6,128);
-if(T==0){
-U=0;
+if(!(T&1)){
 V=0;
 W=0;
 X=0;
+Y=0;
 goto L4;}
-Y=r8(b+8);}
-else Y=S;
+U=r8(b+8);}
+else U=S;
 Z=r8(b+16);
-if(Z-Y<6){
+if(Z-U<6){
 aa=grow_amortized_e1a(b,6);
 if(!aa){
-U=0;
 V=0;
 W=0;
 X=0;
+Y=0;
 goto L4;}
 ba=r8(b+16);
 ca=r8(b+8);}
 else{
 ba=Z;
-ca=Y;}
+ca=U;}
 da=ca+6;
 ea=rp(b);
 z16(b+8);
@@ -60372,11 +61730,11 @@ break;
 case 2:ga=r8(b+8);
 if(r8(b+32)-ga<2){
 ha=make_ready_8e3(b,2,128);
-if(ha==0){
-U=0;
+if(!(ha&1)){
 V=0;
 W=0;
 X=0;
+Y=0;
 goto L4;}
 ia=r8(b+8);}
 else ia=ga;
@@ -60384,10 +61742,10 @@ ja=r8(b+16);
 if(ja-ia<2){
 ka=grow_amortized_e1a(b,2);
 if(!ka){
-U=0;
 V=0;
 W=0;
 X=0;
+Y=0;
 goto L4;}
 la=r8(b+16);
 ma=r8(b+8);}
@@ -60407,11 +61765,11 @@ break;
 case 3:qa=r8(b+8);
 if(r8(b+32)-qa<8){
 ra=make_ready_8e3(b,8,128);
-if(ra==0){
-U=0;
+if(!(ra&1)){
 V=0;
 W=0;
 X=0;
+Y=0;
 goto L4;}
 sa=r8(b+8);}
 else sa=qa;
@@ -60419,10 +61777,10 @@ ta=r8(b+16);
 if(ta-sa<8){
 ua=grow_amortized_e1a(b,8);
 if(!ua){
-U=0;
 V=0;
 W=0;
 X=0;
+Y=0;
 goto L4;}
 va=r8(b+16);
 wa=r8(b+8);}
@@ -60442,11 +61800,11 @@ break;
 case 4:Aa=r8(b+8);
 if(r8(b+32)-Aa<3){
 Ba=make_ready_8e3(b,3,128);
-if(Ba==0){
-U=0;
+if(!(Ba&1)){
 V=0;
 W=0;
 X=0;
+Y=0;
 goto L4;}
 Ca=r8(b+8);}
 else Ca=Aa;
@@ -60454,10 +61812,10 @@ Da=r8(b+16);
 if(Da-Ca<3){
 Ea=grow_amortized_e1a(b,3);
 if(!Ea){
-U=0;
 V=0;
 W=0;
 X=0;
+Y=0;
 goto L4;}
 Fa=r8(b+16);
 Ga=r8(b+8);}
@@ -60477,11 +61835,11 @@ break;
 case 5:Ka=r8(b+8);
 if(r8(b+32)-Ka<9){
 La=make_ready_8e3(b,9,128);
-if(La==0){
-U=0;
+if(!(La&1)){
 V=0;
 W=0;
 X=0;
+Y=0;
 goto L4;}
 Ma=r8(b+8);}
 else Ma=Ka;
@@ -60489,10 +61847,10 @@ Na=r8(b+16);
 if(Na-Ma<9){
 Oa=grow_amortized_e1a(b,9);
 if(!Oa){
-U=0;
 V=0;
 W=0;
 X=0;
+Y=0;
 goto L4;}
 Pa=r8(b+16);
 Qa=r8(b+8);}
@@ -60512,233 +61870,516 @@ break;
 default:NEVER;
 }
 encoded_306(i,b,c,d);
-U=i[3];
-V=i[2];
-W=i[1];
-X=*i;
-L4:*a=X;
-a[1]=W;
-a[2]=V;
-a[3]=U;
+V=i[3];
+W=i[2];
+X=i[1];
+Y=*i;
+L4:*a=Y;
+a[1]=X;
+a[2]=W;
+a[3]=V;
 L1:return;
 }
 
 /* cpp_direct::direct::Direct::encoded */
 static void encoded_306(u8* a,u8* b,u8* c,u64 d)
 {
-A16 u8 e[24],f[4],g[4];
-u8 h,l,m,n,o,p,t,v,C,F,L,O,W,da,ea,fa,ga;
-u64 i,j,k,q,r,s,u,w,x,y,z,A,B,E,K,M,N,P,Q,R,U,V,X,Y,Z,aa,ba,ca;
-u8 *D,*J,*S,*T;
-s_p_64 G,H,I;
-w4(g,0);
+A16 u8 e[4],f[4];
+u8 g,j,k,l,m;
+u64 h,i;
+w4(f,0);
 if(d>=3){
-h=c[2];
+g=c[2];
 if(d<5){
-if(h!=90)goto L1;}
+if(g!=90)goto L1;}
 else{
-switch(h){
+switch(g){
 case 90:break;
 case 71:if(c[3]!=86)goto L1;
 if(c[4]!=90)goto L1;
 break;
 default:goto L1;
 }}
-i=r8(b+176);
+w4(e,0);
+h=r8(b+176);
+if(h<d){
+if(*(c+h)==69){
+i=h+1;
+w8(b+176,i);
 if(i<d){
-if(*(c+i)==69){
-j=i+1;
-w8(b+176,j);
-if(j<d){
-if(*(c+j)==76)w8(b+176,i+2);}
-w4(f,0);
-k=r8(b+8);
-if(r8(b+32)-k<2){
-l=make_ready_8e3(b,2,128);
-if(l==0){
-m=0;
-n=0;
-o=0;
-p=0;
-goto L2;}
-q=r8(b+8);}
-else q=k;
-*(rp(b)+q)=58;
-*(rp(b)+(i64)q+1)=58;
-r=q+2;
-w8(b+8,r);
-s=r8(b+176);
-z24(e);
-if(s<d){
-t=*(c+s);
-if((u8)(t-58)>=247){
-u=s+1;
-if(u<d){
-v=*(c+u)-48;
-if(v<10){
-w=s+2;
-if(w<d){
-if((u8)(*(c+w)-48)<10){
-long_name_at_8ad(e,c,d,s);
-if(*e==1){
-x=r8(e+16);
-y=r8(e+8);
+switch(*(c+i)){
+case 78:begin_member_002(e,b,c,d);
+j=e[3];
+k=e[2];
+l=e[1];
+m=*e;
+goto L2;
+case 76:w8(b+176,h+2);
+entity_name_076(e,b,c,d);
+j=e[3];
+k=e[2];
+l=e[1];
+m=*e;
+goto L2;
+default:break;}}
+entity_name_076(e,b,c,d);
+j=e[3];
+k=e[2];
+l=e[1];
+m=*e;}
+else{
+j=0;
+k=0;
+l=0;
+m=0;}}
+else{
+j=0;
+k=0;
+l=0;
+m=0;}
+L2:*a=m;
+a[1]=l;
+a[2]=k;
+a[3]=j;
 goto L3;}
-m=0;
-n=0;
-o=0;
-p=0;
-goto L2;}}
-z=(u64)v+(u8)((u8)(t*10)+32);
-if(d-w<z)goto L4;
-if((u8)(*(c+(i64)w)-48)<10)goto L4;
-A=w;
-B=z+w;
-goto L5;}}
-C=t-48;
-if(d-u<C)goto L4;
-if((u8)(*(c+(i64)u)-48)<10)goto L4;
-A=u;
-B=u+C;
-L5:x=B;
-y=A;
-L3:w8(b+176,x);
-D=c+(i64)y;
-E=x-y;
-if(x!=y){
-if(!(E<10||*D!=95)){
-F=parts_equal_58b((u8*)t_35ad,10,D,10);
-if(F){
-G=(s_p_64){(u8*)t_62ff,21};
-goto L6;}}}
-H=(s_p_64){0};H.f0=D;
-I=H;I.f1=E;
-G=I;
-L6:J=G.f0;
-K=G.f1;
-if(r8(b+32)-r<K){
-L=make_ready_8e3(b,K,128);
-if(L==0){
-m=0;
-n=0;
-o=0;
-p=0;
-goto L2;}
-M=r8(b+8);}
-else M=r;
-N=r8(b+16);
-if(K>N-M){
-O=grow_amortized_e1a(b,K);
-if(!O){
-m=0;
-n=0;
-o=0;
-p=0;
-goto L2;}
-P=r8(b+16);
-Q=r8(b+8);}
+L1:finish_8cd(f,b,c,d);
+*a=*f;
+a[1]=f[1];
+a[2]=f[2];
+a[3]=f[3];
+L3:return;
+}
+
+/* cpp_direct::direct::Direct::begin_member */
+static void begin_member_002(u8* a,u8* b,u8* c,u64 d)
+{
+u8 g[6];
+A16 u8 e[24],f[4];
+u64 h,i,j,l,m,n,o,q,r,s,z,B,C,D,H,J,K,L,M,N,O,R,X;
+u8 k,t,u,v,w,x,y,A,E,F,G,I,P,S,Y,Z;
+u8 *p,*Q,*W;
+s_p_64 T,U,V;
+if(c[2]==90){
+if(d>1024)x4(a,0);
 else{
-P=N;
-Q=M;}
-R=Q+K;
-S=rp(b);
+h=r8(b+176);
+if(h==18446744073709551615u)x4(a,0);
+else{
+i=h+1;
+if(i<d){
+switch(*(c+i)){
+case 75:j=h+2;
+if(j<d){
+switch(*(c+j)){
+case 82:k=3;
+l=h+3;
+break;
+case 79:k=5;
+l=h+3;
+break;
+default:k=1;
+l=j;
+break;}}
+else{
+k=1;
+l=j;}
+break;
+case 82:k=2;
+l=h+2;
+break;
+case 79:k=4;
+l=h+2;
+break;
+default:k=0;
+l=i;
+break;}}
+else{
+k=0;
+l=i;}
+b[172]=0;
+m=r8(b+48);
+if(m==0)goto L1;
+n=m;
+o=0;
+L2:p=rp(b+40)+o*12;
+if(p[9]&1){
+x4(p,1);
+x8(p+4,0);
+q=r8(b+48);}
+else q=n;
+r=o+1;
+if(r<q){
+n=q;
+o=r;
+goto L2;}
+L1:w8(b+176,l);
+w4(f,0);
+x4(g+2,0);
+if(l<0xfffffffffffffffeu){
+s=l+2;
+if(s<d)t=*(c+s)==118;
+else t=0;
+if(l<d){
+if(!(t||*(c+l)!=85)){
+*g=2;
+g[1]=k;
+u=open_lambda_2e5(b,c,d,0,g);
+v=0;
+w=0;
+x=0;
+y=u;
+goto L3;}}
+z=r8(b+8);
+if(r8(b+32)-z<2){
+A=make_ready_8e3(b,2,128);
+if(!(A&1)){
+v=0;
+w=0;
+x=0;
+y=0;
+goto L3;}
+B=r8(b+8);}
+else B=z;
+*(rp(b)+B)=58;
+*(rp(b)+(i64)B+1)=58;
+C=B+2;
+w8(b+8,C);
+D=r8(b+176);
+if(D<d){
+E=*(c+D);
+if(E==85){
+F=lambda_b09(b,c,d);
+G=F;}
+else{
+z24(e);
+if((u8)(E-58)<247)goto L4;
+H=D+1;
+if(H<d){
+I=*(c+H)-48;
+if(I<10){
+J=D+2;
+if(J<d){
+if((u8)(*(c+J)-48)<10){
+long_name_at_8ad(e,c,d,D);
+if(*e==1){
+K=r8(e+16);
+L=r8(e+8);
+goto L5;}
+v=0;
+w=0;
+x=0;
+y=0;
+goto L3;}}
+M=(u64)I+(u8)((u8)(E*10)+32);
+if(d-J<M)goto L4;
+if((u8)(*(c+(i64)J)-48)<10)goto L4;
+N=J;
+O=M+J;
+goto L6;}}
+P=E-48;
+if(d-H<P)goto L4;
+if((u8)(*(c+(i64)H)-48)<10)goto L4;
+N=H;
+O=H+P;
+L6:K=O;
+L=N;
+L5:w8(b+176,K);
+Q=c+(i64)L;
+R=K-L;
+if(K!=L){
+if(!(R<10||*Q!=95)){
+S=parts_equal_58b((u8*)t_35ad,10,Q,10);
+if(S){
+T=(s_p_64){(u8*)t_62ff,21};
+goto L7;}}}
+U=(s_p_64){0};U.f0=Q;
+V=U;V.f1=R;
+T=V;
+L7:W=T.f0;
+X=T.f1;
+if(r8(b+32)-C<X){
+Y=make_ready_8e3(b,X,128);
+if(!(Y&1)){
+v=0;
+w=0;
+x=0;
+y=0;
+goto L3;}}
+Z=push_str_b7e(b,W,X);
+G=Z^1;}
+if(!(G&1)){
+v=0;
+w=0;
+x=0;
+y=0;
+goto L3;}
+member_function_912(f,b,c,d,k);
+v=f[3];
+w=f[2];
+x=f[1];
+y=*f;
+goto L3;}
+L4:v=0;
+w=0;
+x=0;
+y=0;}
+else{
+v=0;
+w=0;
+x=0;
+y=0;}
+L3:*a=y;
+a[1]=x;
+a[2]=w;
+a[3]=v;}}}
+else x4(a,0);
+return;
+}
+
+/* cpp_direct::direct::Direct::member_function */
+static void member_function_912(u8* a,u8* b,u8* c,u64 d,u8 e)
+{
+A16 u8 f[24],g[4];
+u32 h;
+u64 i,j,m,o,p,q,s,u,v,x,y,z,C,E,F,G,H,I,J,M,O,Q,S,T,V,X,Y,aa,ca,da,fa,ka,ma,na,pa,qa,ra,ua;
+u8 k,n,r,t,w,D,K,N,P,R,U,W,Z,ba,ea,la,oa;
+u8 *l,*A,*B,*L,*ja,*sa,*ta;
+s_p_64 ga,ha,ia;
+w4(g,0);
+h=r8(b+8);
+i=r8(b+48);
+if(r8(b+72)>i)j=i;
+else{
+k=make_ready_17a(b+40);
+if(!(k&1)){
+x4(a,0);
+goto L1;}
+j=r8(b+48);}
+l=rp(b+40)+j*12;
+x4(l,0);
+x4(l+4,h);
+l[8]=0;
+l[9]=0;
+x2(l+10,0);
+w8(b+48,j+1);
+m=r8(b+8);
+if(r8(b+32)-m<2){
+n=make_ready_8e3(b,2,128);
+if(!(n&1)){
+x4(a,0);
+goto L1;}
+o=r8(b+8);}
+else o=m;
+*(rp(b)+o)=58;
+*(rp(b)+(i64)o+1)=58;
+p=o+2;
+w8(b+8,p);
+q=r8(b+176);
+if(q<d){
+r=*(c+q);
+if(r==99){
+s=q+1;
+if(s>=d)goto L2;
+if(*(c+s)!=108)goto L2;
+w8(b+176,q+2);
+if(r8(b+32)-p<10){
+t=make_ready_8e3(b,10,128);
+if(!(t&1))goto L2;
+u=r8(b+8);}
+else u=p;
+v=r8(b+16);
+if(v-u<10){
+w=grow_amortized_e1a(b,10);
+if(!w)goto L2;
+x=r8(b+16);
+y=r8(b+8);}
+else{
+x=v;
+y=u;}
+z=y+10;
+A=rp(b);
 z16(b+8);
-T=S+(i64)Q;
-if((u64)T-(u64)J<K)copy_bits_4f4(J,T,K);
-else memmove(T,J,K);
-wp(b,S);
-w8(b+8,R);
-w8(b+16,P);
-U=r8(b+176);
-if(U<d){
-if(*(c+U)==95){
-V=U+1;
-w8(b+176,V);
-if(V>=d){
-m=0;
-n=0;
-o=0;
-p=0;
-goto L2;}
-W=*(c+V);
-if(W==95){
-X=U+2;
-w8(b+176,X);
-if(d==X){
-Y=d;
+B=A+(i64)y;
+if((u64)B-(u64)(u8*)t_1f0f<10)copy_bits_4f4((u8*)t_1f0f,B,10);
+else memcpy(B,(u8*)t_1f0f,10);
+wp(b,A);
+w8(b+8,z);
+w8(b+16,x);}
+else{
+z24(f);
+if((u8)(r-58)<247)goto L3;
+C=q+1;
+if(C<d){
+D=*(c+C)-48;
+if(D<10){
+E=q+2;
+if(E<d){
+if((u8)(*(c+E)-48)<10){
+long_name_at_8ad(f,c,d,q);
+if(*f!=1)goto L2;
+F=r8(f+16);
+G=r8(f+8);
+goto L4;}}
+H=(u64)D+(u8)((u8)(r*10)+32);
+if(d-E<H)goto L3;
+if((u8)(*(c+(i64)E)-48)<10)goto L3;
+I=E;
+J=H+E;
+goto L5;}}
+K=r-48;
+if(d-C<K)goto L3;
+if((u8)(*(c+(i64)C)-48)<10)goto L3;
+I=C;
+J=C+K;
+L5:F=J;
+G=I;
+L4:w8(b+176,F);
+L=c+(i64)G;
+M=F-G;
+if(F!=G){
+if(M<10||*L!=95)goto L6;
+N=0;
+O=0;
+L7:P=N||*((u8*)t_35ad+(i64)O)!=*(L+(i64)O);
+Q=O+1;
+if(Q!=8){
+N=P;
+O=Q;
 goto L7;}
-Z=X;
-L8:if((u8)(*(c+Z)-48)<10){
-aa=Z+1;
-if(aa!=d){
-Z=aa;
+R=0;
+S=0;
+L8:T=S+2;
+U=R||*((u8*)t_35ad+(i64)T)!=*(L+(i64)T);
+V=S+1;
+if(V!=8){
+R=U;
+S=V;
 goto L8;}
-Y=d;}
-else Y=Z;
-L7:if(X>=Y){
-m=0;
-n=0;
-o=0;
-p=0;
-goto L2;}
-ba=Y&4294967295u;
-if(ba>=d){
-m=0;
-n=0;
-o=0;
-p=0;
-goto L2;}
-if(*(c+ba)!=95){
-m=0;
-n=0;
-o=0;
-p=0;
-goto L2;}
-ca=ba+1;}
-else{
-if((u8)(W-58)<246){
-m=0;
-n=0;
-o=0;
-p=0;
-goto L2;}
-ca=U+2;}
-w8(b+176,ca);}}
-finish_8cd(f,b,c,d);
-m=f[3];
-n=f[2];
-o=f[1];
-p=*f;
-goto L2;}}
-L4:m=0;
-n=0;
-o=0;
-p=0;
-L2:da=m;
-ea=n;
-fa=o;
-ga=p;}
-else{
-da=0;
-ea=0;
-fa=0;
-ga=0;}}
-else{
-da=0;
-ea=0;
-fa=0;
-ga=0;}
-*a=ga;
-a[1]=fa;
-a[2]=ea;
-a[3]=da;
+W=0;
+X=0;
+L9:Y=X+2;
+Z=W||*((u8*)t_35ad+(i64)Y)!=*(L+(i64)Y);
+aa=X+1;
+if(aa!=8){
+W=Z;
+X=aa;
 goto L9;}
-L1:finish_8cd(g,b,c,d);
+ba=0;
+ca=0;
+L10:da=ca+2;
+ea=ba||*((u8*)t_35ad+(i64)da)!=*(L+(i64)da);
+fa=ca+1;
+if(fa!=8){
+ba=ea;
+ca=fa;
+goto L10;}
+if(!(((P|U)|Z)|ea)){
+ga=(s_p_64){(u8*)t_62ff,21};
+goto L11;}}
+L6:ha=(s_p_64){0};ha.f0=L;
+ia=ha;ia.f1=M;
+ga=ia;
+L11:ja=ga.f0;
+ka=ga.f1;
+if(r8(b+32)-p<ka){
+la=make_ready_8e3(b,ka,128);
+if(!(la&1))goto L2;
+ma=r8(b+8);}
+else ma=p;
+na=r8(b+16);
+if(ka>na-ma){
+oa=grow_amortized_e1a(b,ka);
+if(!oa)goto L2;
+pa=r8(b+16);
+qa=r8(b+8);}
+else{
+pa=na;
+qa=ma;}
+ra=qa+ka;
+sa=rp(b);
+z16(b+8);
+ta=sa+(i64)qa;
+if((u64)ta-(u64)ja<ka)copy_bits_4f4(ja,ta,ka);
+else memmove(ta,ja,ka);
+wp(b,sa);
+w8(b+8,ra);
+w8(b+16,pa);}
+ua=r8(b+176);
+if(ua<d){
+if(*(c+ua)==69){
+w8(b+176,ua+1);
+member_parameters_ecd(g,b,c,d,e);
 *a=*g;
 a[1]=g[1];
 a[2]=g[2];
 a[3]=g[3];
-L9:return;
+goto L1;}}
+x4(a,0);
+goto L1;}
+L3:L2:x4(a,0);
+L1:return;
+}
+
+/* cpp_direct::direct::Direct::member_parameters */
+static void member_parameters_ecd(u8* a,u8* b,u8* c,u64 d,u8 e)
+{
+A16 u8 f[4];
+u64 g,h,m,o,q,r;
+u8 i,j,k,l,p,s;
+u32 n;
+u8 *t;
+g=r8(b+176);
+if(g==18446744073709551615u)x4(a,0);
+else{
+h=g+1;
+if(h<d)i=*(c+h);
+else i=0;
+if(g<d){
+if(*(c+g)==118){
+switch(i){
+case 69:case 46:case 0:w8(b+176,h);
+w4(f,0);
+finish_8cd(f,b,c,d);
+j=f[1];
+k=f[2];
+l=f[3];
+*a=*f;
+a[1]=j;
+a[2]=k;
+a[3]=l;
+goto L1;
+default:break;}}}
+m=r8(b+8);
+n=m;
+if(r8(b+32)>m)o=m;
+else{
+p=make_ready_8e3(b,1,16);
+if(!(p&1)){
+x4(a,0);
+goto L1;}
+o=r8(b+8);}
+*(rp(b)+o)=40;
+w8(b+8,o+1);
+q=r8(b+88);
+if(r8(b+112)>q)r=q;
+else{
+s=make_ready_9a1(b+80);
+if(!(s&1)){
+x4(a,0);
+goto L1;}
+r=r8(b+88);}
+t=rp(b+80)+r*44;
+*t=18;
+t[1]=e;
+x2(t+2,0);
+x4(t+4,n);
+z36(t+8);
+w8(b+88,r+1);
+*a=1;
+a[1]=0;
+a[2]=0;
+a[3]=0;}
+L1:return;
 }
 
 /* cpp_direct::direct::Direct::close */
@@ -60746,13 +62387,12 @@ static void close_39a(u8* a,u8* b,u8* c,u64 d,u32 e)
 {
 u8 f[4];
 u64 g,j,k,l,m,p,q;
-u8 h;
+u8 h,r;
 u32 i;
 u8 *n,*o;
 g=r8(b+8);
 h=repeat_28b(b,0,e);
-if(h==0)x4(a,0);
-else{
+if(h&1){
 i=g;
 if(i!=0){
 j=r8(b+8);
@@ -60766,20 +62406,35 @@ else{
 n=rp(b);
 o=n+(i64)k;
 p=0;
-L2:*(n+p)=*(o+(i64)p);
+L2:*(n+(i64)p)=*(o+(i64)p);
 q=p+1;
 if(q!=l){
 p=q;
 goto L2;}
 m=r8(b+8);}
 if(m>l)w8(b+8,l);
-if(r8(b+48)!=0)w8(b+48,0);
+if(d>=3){
+r=c[2];
+if(d<5){
+if(r!=90)goto L3;}
+else{
+switch(r){
+case 90:break;
+case 71:if(c[3]!=86)goto L3;
+if(c[4]!=90)goto L3;
+break;
+default:goto L3;
+}}
+hide_all_828(b);
+goto L4;}
+L3:if(r8(b+48)!=0)w8(b+48,0);
 z16(b+64);}
-encoded_306(f,b,c,d);
+L4:encoded_306(f,b,c,d);
 *a=*f;
 a[1]=f[1];
 a[2]=f[2];
 a[3]=f[3];}
+else x4(a,0);
 L1:return;
 }
 
@@ -60839,7 +62494,7 @@ default:goto L3;
 w8(b+176,v);
 if(j[31]==0){
 w=add_expansion_587(b,o);
-if(w==0){
+if(!(w&1)){
 x4(a,0);
 goto L4;}
 close_39a(i,b,c,d,f);
@@ -60852,7 +62507,7 @@ if(!e){
 x=r8(b+8);
 if(r8(b+32)-x<2){
 y=make_ready_8e3(b,2,128);
-if(y==0){
+if(!(y&1)){
 x4(a,0);
 goto L4;}
 z=r8(b+8);}
@@ -60861,11 +62516,11 @@ else z=x;
 *(rp(b)+(i64)z+1)=32;
 w8(b+8,z+2);}
 A=expand_all_4dc(b,j,o);
-if(A==0){
+if(!(A&1)){
 x4(a,0);
 goto L4;}
 B=add_expansion_587(b,o);
-if(B==0){
+if(!(B&1)){
 x4(a,0);
 goto L4;}
 w4(h,0);
@@ -60910,7 +62565,7 @@ L2:if(!e){
 Q=r8(b+8);
 if(r8(b+32)-Q<2){
 R=make_ready_8e3(b,2,128);
-if(R==0){
+if(!(R&1)){
 x4(a,0);
 goto L4;}
 S=r8(b+8);}
@@ -61044,7 +62699,7 @@ L10:R=O.f0;
 S=O.f1;
 if(r8(b+32)-g<S){
 T=make_ready_8e3(b,S,128);
-if(T==0)goto L1;
+if(!(T&1))goto L1;
 U=r8(b+8);}
 else U=g;
 V=r8(b+16);
@@ -61118,7 +62773,7 @@ L3:w8(b+176,j+1);
 o=r8(b+8);
 if(r8(b+32)-o<21){
 p=make_ready_8e3(b,21,128);
-if(p==0)goto L5;
+if(!(p&1))goto L5;
 q=r8(b+8);}
 else q=o;
 r=r8(b+16);
@@ -61237,7 +62892,7 @@ L8:w8(b+176,u+1);
 z=r8(b+8);
 if(r8(b+32)-z<17){
 A=make_ready_8e3(b,17,128);
-if(A==0)goto L12;
+if(!(A&1))goto L12;
 B=r8(b+8);}
 else B=z;
 C=r8(b+16);
@@ -61308,7 +62963,7 @@ n=r8(b+88);
 if(r8(b+112)>n)o=n;
 else{
 p=make_ready_9a1(b+80);
-if(p==0){
+if(!(p&1)){
 q=0;
 goto L2;}
 o=r8(b+88);}
@@ -61344,7 +62999,7 @@ t=r8(b+88);
 if(r8(b+112)>t)u=t;
 else{
 v=make_ready_9a1(b+80);
-if(v==0){
+if(!(v&1)){
 w4(h,0);
 goto L3;}
 u=r8(b+88);}
@@ -61375,7 +63030,7 @@ x=r8(b+88);
 if(r8(b+112)>x)y=x;
 else{
 z=make_ready_9a1(b+80);
-if(z==0){
+if(!(z&1)){
 w4(h,0);
 goto L3;}
 y=r8(b+88);}
@@ -61405,9 +63060,9 @@ D=rp((u8*)t_e7e8+(u64)B*8);
 w8(b+176,i+1);
 if(r8(b+32)-j<C){
 E=make_ready_8e3(b,C,128);
-if(E==0)goto L5;}
+if(!(E&1))goto L5;}
 F=push_str_b7e(b,D,C);
-if(F==0){
+if(!(F&1)){
 *h=1;
 h[1]=2;
 h[2]=0;
@@ -61457,7 +63112,7 @@ switch(*(c+o)){
 case 116:w8(b+176,k+2);
 if(r8(b+32)-l<5){
 p=make_ready_8e3(b,5,128);
-if(p==0)goto L1;
+if(!(p&1))goto L1;
 q=r8(b+8);}
 else q=l;
 r=r8(b+16);
@@ -61524,15 +63179,15 @@ L6:P=M.f0;
 Q=M.f1;
 if(r8(b+32)-v<Q){
 R=make_ready_8e3(b,Q,128);
-if(R==0)goto L2;}
+if(!(R&1))goto L2;}
 S=push_str_b7e(b,P,Q);
-if(S!=0)goto L2;
+if(S&1)goto L2;
 T=r8(b+8);
 U=r8(b+48);
 if(r8(b+72)>U)V=U;
 else{
 W=make_ready_17a(b+40);
-if(W==0){
+if(!(W&1)){
 X=0;
 Y=0;
 Z=0;
@@ -61552,7 +63207,7 @@ ca=r8(b+8);
 if(r8(b+32)>ca)da=ca;
 else{
 ea=make_ready_8e3(b,1,16);
-if(ea==0){
+if(!(ea&1)){
 X=0;
 Y=0;
 Z=0;
@@ -61571,7 +63226,7 @@ ga=r8(b+88);
 if(r8(b+112)>ga)ha=ga;
 else{
 ia=make_ready_9a1(b+80);
-if(ia==0){
+if(!(ia&1)){
 X=0;
 Y=0;
 Z=0;
@@ -61627,7 +63282,7 @@ default:goto L9;
 w8(b+176,k+2);
 if(r8(b+32)-l<ka){
 ma=make_ready_8e3(b,ka,128);
-if(ma==0)goto L10;
+if(!(ma&1))goto L10;
 na=r8(b+8);}
 else na=l;
 oa=r8(b+16);
@@ -61656,7 +63311,7 @@ wa=ta;
 xa=sa;}
 else{
 ya=make_ready_8e3(b,1,16);
-if(ya==0){
+if(!(ya&1)){
 za=0;
 Aa=0;
 Ba=0;
@@ -61676,7 +63331,7 @@ Da=r8(b+88);
 if(r8(b+112)>Da)Ea=Da;
 else{
 Fa=make_ready_9a1(b+80);
-if(Fa==0){
+if(!(Fa&1)){
 za=0;
 Aa=0;
 Ba=0;
@@ -61718,8 +63373,7 @@ i[3]=f[3];}
 else{
 Ha=g[12];
 Ia=repeat_28b(b,r4(g+4),r4(g+8));
-if(Ia==0)w4(i,0);
-else{
+if(Ia&1){
 Ja=r8(b+176);
 if(Ja<d){
 Ka=*(c+Ja)!=73;
@@ -61732,7 +63386,7 @@ Oa=r8(b+8);
 if(r8(b+32)>Oa)Pa=Oa;
 else{
 Qa=make_ready_8e3(b,1,16);
-if(Qa==0){
+if(!(Qa&1)){
 La=0;
 Ma=0;
 Na=0;
@@ -61751,7 +63405,7 @@ Sa=r8(b+88);
 if(r8(b+112)>Sa)Ta=Sa;
 else{
 Ua=make_ready_9a1(b+80);
-if(Ua==0){
+if(!(Ua&1)){
 La=0;
 Ma=0;
 Na=0;
@@ -61774,7 +63428,8 @@ Na=1;}
 L12:*i=Na;
 i[1]=Ma;
 i[2]=La;
-i[3]=0;}}}
+i[3]=0;}
+else w4(i,0);}}
 else w4(i,0);
 L8:break;
 case 90:begin_enclosing_453(i,b,c,d);
@@ -61822,7 +63477,7 @@ L17:lb=ib.f0;
 mb=ib.f1;
 if(r8(b+32)-l<mb){
 nb=make_ready_8e3(b,mb,128);
-if(nb==0)goto L14;
+if(!(nb&1))goto L14;
 ob=r8(b+8);}
 else ob=l;
 pb=r8(b+16);
@@ -61848,7 +63503,7 @@ xb=r8(b+48);
 if(r8(b+72)>xb)yb=xb;
 else{
 zb=make_ready_17a(b+40);
-if(zb==0){
+if(!(zb&1)){
 w4(i,0);
 break;}
 yb=r8(b+48);}
@@ -61866,7 +63521,7 @@ Cb=r8(b+8);
 if(r8(b+32)>Cb)Db=Cb;
 else{
 Eb=make_ready_8e3(b,1,16);
-if(Eb==0){
+if(!(Eb&1)){
 Fb=0;
 Gb=0;
 goto L18;}
@@ -61883,7 +63538,7 @@ Ib=r8(b+88);
 if(r8(b+112)>Ib)Jb=Ib;
 else{
 Kb=make_ready_9a1(b+80);
-if(Kb==0){
+if(!(Kb&1)){
 Fb=0;
 Gb=0;
 goto L18;}
@@ -62024,7 +63679,7 @@ L6:H=E.f0;
 I=E.f1;
 if(r8(b+32)-q<I){
 J=make_ready_8e3(b,I,128);
-if(J==0)goto L2;
+if(!(J&1))goto L2;
 K=r8(b+8);}
 else K=q;
 L=r8(b+16);
@@ -62139,7 +63794,7 @@ l=k;
 if(r8(b+32)>k)m=k;
 else{
 n=make_ready_8e3(b,1,16);
-if(n==0){
+if(!(n&1)){
 x4(a,0);
 goto L1;}
 m=r8(b+8);}
@@ -62149,7 +63804,7 @@ o=r8(b+88);
 if(r8(b+112)>o)p=o;
 else{
 q=make_ready_9a1(b+80);
-if(q==0){
+if(!(q&1)){
 x4(a,0);
 goto L1;}
 p=r8(b+88);}
@@ -62171,12 +63826,11 @@ L1:return;
 /* cpp_direct::direct::Direct::parameter_ended */
 static void parameter_ended_d3f(u8* a,u8* b,u8* c,u64 d,u32 e,u8* f)
 {
-u8 g[4],i[32];
-A16 u8 h[4];
-u64 j,o,q,v,y,A,C,D,L,M,N,O,R,S;
-u8 k,l,m,n,p,r,s,t,u,x,z,B,E,F,G,H,I,J;
-u8 *w,*P,*Q;
-u32 K;
+u8 i[32];
+A16 u8 g[4],h[4];
+u64 j,o,q,v,y,A,C,D;
+u8 k,l,m,n,p,r,s,t,u,x,z,B,E,F,G,H,I;
+u8 *w;
 j=r8(b+176);
 if(j<d){
 switch(*(c+j)){
@@ -62193,7 +63847,7 @@ else{
 o=r8(b+8);
 if(r8(b+32)-o<2){
 p=make_ready_8e3(b,2,128);
-if(p==0){
+if(!(p&1)){
 k=0;
 l=0;
 m=0;
@@ -62214,6 +63868,7 @@ t=l;
 u=k;
 goto L2;
 }}
+w4(g,0);
 v=r8(b+8);
 if(v>=5){
 w=rp(b)+(i64)v;
@@ -62234,52 +63889,20 @@ B=E;
 C=D;
 goto L4;}
 if(!(z|E)){
-r=0;
-s=0;
-t=0;
-u=0;
-goto L2;}}
-F=repeat_28b(b,0,e);
-if(F==0){
+F=0;
 G=0;
 H=0;
 I=0;
-J=0;}
-else{
-K=v;
-if(K!=0){
-L=r8(b+8);
-if((u32)L<K){
-G=0;
-H=0;
-I=0;
-J=0;
-goto L5;}
-M=v&4294967295u;
-N=L-M;
-if(L==M)O=L;
-else{
-P=rp(b);
-Q=P+(i64)M;
-R=0;
-L6:*(P+R)=*(Q+(i64)R);
-S=R+1;
-if(S!=N){
-R=S;
-goto L6;}
-O=r8(b+8);}
-if(O>N)w8(b+8,N);
-if(r8(b+48)!=0)w8(b+48,0);
-z16(b+64);}
-encoded_306(g,b,c,d);
-G=g[3];
-H=g[2];
-I=g[1];
-J=*g;}
-L5:r=J;
-s=I;
-t=H;
-u=G;
+goto L5;}}
+close_39a(g,b,c,d,e);
+F=g[3];
+G=g[2];
+H=g[1];
+I=*g;
+L5:r=I;
+s=H;
+t=G;
+u=F;
 L2:*a=r;
 a[1]=s;
 a[2]=t;
@@ -62290,12 +63913,10 @@ return;
 /* cpp_direct::direct::Direct::front_ended */
 static void front_ended_665(u8* a,u8* b,u8* c,u64 d,u8 e,u32 f,u8* g)
 {
-u8 h[4];
-A16 u8 i[4],j[32];
-u64 k,n,q,r,x,y,z,H,I,J,K,N,O,P,Q;
-u8 *l,*L,*M,*S;
-u8 m,o,p,s,t,u,v,w,A,B,C,D,E,F,R,T,U,V,W,X;
-u32 G;
+A16 u8 h[4],i[4],j[32];
+u64 k,n,q,r,x,y,A,B;
+u8 *l,*D;
+u8 m,o,p,s,t,u,v,w,z,C,E,F,G,H,I;
 memcpy(j,g,32);
 k=r8(b+176);
 if(k<d){
@@ -62308,12 +63929,13 @@ if(n==0)o=m;
 else{
 w8(b+88,n-1);
 o=*l;}
+w4(i,0);
 p=o==118;
 q=r8(b+8);
 if(r8(b+32)>q)r=q;
 else{
 s=make_ready_8e3(b,1,16);
-if(s==0){
+if(!(s&1)){
 t=0;
 u=0;
 v=0;
@@ -62321,108 +63943,71 @@ w=0;
 goto L1;}
 r=r8(b+8);}
 *(rp(b)+r)=40;
-x=r+1;
-w8(b+8,x);
-y=r8(b+176);
-if(y==18446744073709551615u){
+w8(b+8,r+1);
+x=r8(b+176);
+if(x==18446744073709551615u){
 t=0;
 u=0;
 v=0;
 w=0;}
 else{
-z=y+1;
-if(z<d)A=*(c+z);
-else A=0;
+y=x+1;
+if(y<d)z=*(c+y);
+else z=0;
 if(p){
-switch(A){
-case 69:case 46:case 0:w8(b+176,z);
-B=repeat_28b(b,0,f);
-if(B==0){
-C=0;
-D=0;
-E=0;
-F=0;}
-else{
-G=x;
-if(G!=0){
-H=r8(b+8);
-if((u32)H<G){
-C=0;
-D=0;
-E=0;
-F=0;
-goto L2;}
-I=x&4294967295u;
-J=H-I;
-if(H==I)K=H;
-else{
-L=rp(b);
-M=L+(i64)I;
-N=0;
-L3:*(L+N)=*(M+(i64)N);
-O=N+1;
-if(O!=J){
-N=O;
-goto L3;}
-K=r8(b+8);}
-if(K>J)w8(b+8,J);
-if(r8(b+48)!=0)w8(b+48,0);
-z16(b+64);}
-encoded_306(h,b,c,d);
-C=h[3];
-D=h[2];
-E=h[1];
-F=*h;}
-L2:t=C;
-u=D;
-v=E;
-w=F;
+switch(z){
+case 69:case 46:case 0:w8(b+176,y);
+close_39a(i,b,c,d,f);
+t=i[3];
+u=i[2];
+v=i[1];
+w=*i;
 goto L1;
 default:break;}}
-P=r8(b+88);
-if(r8(b+112)>P)Q=P;
+A=r8(b+88);
+if(r8(b+112)>A)B=A;
 else{
-R=make_ready_9a1(b+80);
-if(R==0){
+C=make_ready_9a1(b+80);
+if(!(C&1)){
 t=0;
 u=0;
 v=0;
 w=0;
 goto L1;}
-Q=r8(b+88);}
-S=rp(b+80)+Q*44;
-*S=10;
-S[1]=e;
-x2(S+2,0);
-x4(S+4,f);
-memcpy(S+8,j,32);
-x4(S+40,0);
-w8(b+88,Q+1);
-T=j[29];
-w4(i,0);
-if(T&1){
-expansion_52e(i,b,c,d,1,f,j);
-U=*i;
-V=i[1];
-W=i[2];
-X=i[3];}
+B=r8(b+88);}
+D=rp(b+80)+B*44;
+*D=10;
+D[1]=e;
+x2(D+2,0);
+x4(D+4,f);
+memcpy(D+8,j,32);
+x4(D+40,0);
+w8(b+88,B+1);
+E=j[29];
+w4(h,0);
+if(E&1){
+expansion_52e(h,b,c,d,1,f,j);
+F=*h;
+G=h[1];
+H=h[2];
+I=h[3];}
 else{
-U=1;
-V=0;
-W=0;
-X=0;}
-t=X;
-u=W;
-v=V;
-w=U;}
+F=1;
+G=0;
+H=0;
+I=0;}
+t=I;
+u=H;
+v=G;
+w=F;}
 L1:*a=w;
 a[1]=v;
 a[2]=u;
 a[3]=t;
-goto L4;
+goto L2;
 }}
 x4(a,0);
-L4:return;
+L2:return;
 }
 
 /* cpp_direct::direct::Direct::pass_dependent */
@@ -62456,7 +64041,7 @@ break;
 case 11:memcpy(g,j-32,32);
 enclosing_front_fa8(e,b,k,l,m,g);
 break;
-case 0:case 1:case 2:case 3:case 4:case 5:case 6:case 7:case 8:case 9:case 10:case 12:case 14:case 17:case 18:case 19:case 20:case 21:case 22:case 23:case 24:case 25:n=h-1;
+case 0:case 1:case 2:case 3:case 4:case 5:case 6:case 7:case 8:case 9:case 10:case 12:case 14:case 17:case 18:case 19:case 20:case 21:case 22:case 23:case 24:case 25:case 26:case 27:case 28:case 29:n=h-1;
 w8(b+88,n);
 o=n*44;
 p=i+o;
@@ -62521,7 +64106,7 @@ I=1;
 J=0;
 K=0;
 break;
-case 0:case 1:case 2:case 3:case 7:case 9:case 10:case 11:case 12:case 13:case 14:case 15:case 16:case 17:case 18:case 19:case 20:case 21:case 22:case 23:case 24:case 25:goto L1;
+case 0:case 1:case 2:case 3:case 7:case 9:case 10:case 11:case 12:case 13:case 14:case 15:case 16:case 17:case 18:case 19:case 20:case 21:case 22:case 23:case 24:case 25:case 26:case 27:case 28:case 29:goto L1;
 default:NEVER;
 }
 if(r8(b+112)>n){
@@ -62530,7 +64115,7 @@ M=i;
 N=h;}
 else{
 O=make_ready_9a1(b+80);
-if(O==0){
+if(!(O&1)){
 w4(e,0);
 break;}
 P=r8(b+88);
@@ -62591,7 +64176,7 @@ k=l;}
 if(r8(b+112)>k)m=k;
 else{
 n=make_ready_9a1(b+80);
-if(n==0){
+if(!(n&1)){
 x4(a,0);
 goto L1;}
 m=r8(b+88);}
@@ -62628,7 +64213,7 @@ goto L1;}}
 v=r8(b+8);
 if(r8(b+32)-v<2){
 w=make_ready_8e3(b,2,128);
-if(w==0){
+if(!(w&1)){
 x4(a,0);
 goto L1;}
 x=r8(b+8);}
@@ -62681,7 +64266,7 @@ if(b[172]&1){
 x4(a,0);
 goto L3;}
 t=repeat_28b(b,0,f);
-if(t==0){
+if(!(t&1)){
 x4(a,0);
 goto L3;}
 u=i&4294967295u;
@@ -62692,7 +64277,7 @@ else{
 y=rp(b);
 z=y+(i64)u;
 A=0;
-L4:*(y+A)=*(z+(i64)A);
+L4:*(y+(i64)A)=*(z+(i64)A);
 B=A+1;
 if(B!=w){
 A=B;
@@ -62723,7 +64308,7 @@ goto L3;}}
 I=r8(b+8);
 if(r8(b+32)-I<2){
 J=make_ready_8e3(b,2,128);
-if(J==0){
+if(!(J&1)){
 x4(a,0);
 goto L3;}
 K=r8(b+8);}
@@ -62752,8 +64337,7 @@ j=r8(b+88);
 if(j!=0)w8(b+88,j-1);
 k=r8(b+8);
 l=repeat_28b(b,0,f);
-if(l==0)x4(a,0);
-else{
+if(l&1){
 m=k&4294967295u;
 n=r8(b+8);
 o=n-m;
@@ -62762,7 +64346,7 @@ else{
 q=rp(b);
 r=q+(i64)m;
 s=0;
-L1:*(q+s)=*(r+(i64)s);
+L1:*(q+(i64)s)=*(r+(i64)s);
 t=s+1;
 if(t!=o){
 s=t;
@@ -62789,6 +64373,7 @@ L2:addressed_parameters_09a(h,b,c,d,e,f,i);
 a[1]=h[1];
 a[2]=h[2];
 a[3]=h[3];}
+else x4(a,0);
 return;
 }
 
@@ -62854,7 +64439,7 @@ v=r8(b+8);
 if(r8(b+32)>v)w=v;
 else{
 x=make_ready_8e3(b,1,16);
-if(x==0){
+if(!(x&1)){
 x4(a,0);
 goto L3;}
 w=r8(b+8);}
@@ -62864,7 +64449,7 @@ y=r8(b+88);
 if(r8(b+112)>y)z=y;
 else{
 A=make_ready_9a1(b+80);
-if(A==0){
+if(!(A&1)){
 x4(a,0);
 goto L3;}
 z=r8(b+88);}
@@ -62917,7 +64502,7 @@ goto L3;}}
 q=r8(b+88);
 if(q!=0)w8(b+88,q-1);
 r=repeat_28b(b,0,e);
-if(r==0){
+if(!(r&1)){
 x4(a,0);
 goto L3;}
 s=g&4294967295u;
@@ -62928,7 +64513,7 @@ else{
 w=rp(b);
 x=w+(i64)s;
 y=0;
-L4:*(w+y)=*(x+(i64)y);
+L4:*(w+(i64)y)=*(x+(i64)y);
 z=y+1;
 if(z!=u){
 y=z;
@@ -62996,7 +64581,7 @@ goto L3;}}
 Q=r8(b+8);
 if(r8(b+32)-Q<2){
 R=make_ready_8e3(b,2,128);
-if(R==0){
+if(!(R&1)){
 x4(a,0);
 goto L3;}
 S=r8(b+8);}
@@ -63025,7 +64610,7 @@ i=e?(u8*)t_cbf6:(u8*)t_4f5a;
 j=r8(b+8);
 if(r8(b+32)-j<h){
 k=make_ready_8e3(b,h,128);
-if(k==0)goto L1;
+if(!(k&1))goto L1;
 l=r8(b+8);}
 else l=j;
 m=r8(b+16);
@@ -63050,12 +64635,12 @@ t=r8(b+88);
 if(r8(b+112)>t)u=t;
 else{
 v=make_ready_9a1(b+80);
-if(v==0){
+if(!(v&1)){
 x4(a,0);
 goto L2;}
 u=r8(b+88);}
 w=rp(b+80)+u*44;
-*w=20;
+*w=23;
 w[1]=e;
 z42(w+2);
 w8(b+88,u+1);
@@ -63105,7 +64690,7 @@ g=r8(b+8);
 if(r8(b+32)>g)h=g;
 else{
 i=make_ready_8e3(b,1,16);
-if(i==0){
+if(!(i&1)){
 x4(a,0);
 goto L1;}
 h=r8(b+8);}
@@ -63116,7 +64701,7 @@ j=r8(b+48);
 if(r8(b+72)>j)k=j;
 else{
 l=make_ready_17a(b+40);
-if(l==0)goto L2;
+if(!(l&1))goto L2;
 k=r8(b+48);}
 m=rp(b+40)+k*12;
 x4(m,1);
@@ -63128,7 +64713,7 @@ else o=r8(b+48);
 if(r8(b+72)>o)p=o;
 else{
 q=make_ready_17a(b+40);
-if(q==0)goto L2;
+if(!(q&1))goto L2;
 p=r8(b+48);}
 r=rp(b+40)+p*12;
 x4(r,1);
@@ -63136,7 +64721,7 @@ x8(r+4,0);
 w8(b+48,p+1);
 s=r8(b+88);
 if(s!=0)w8(b+88,s-1);
-pass_element_695(f,b,c,d);
+pass_element_695(f,b,c,d,0);
 *a=*f;
 a[1]=f[1];
 a[2]=f[2];
@@ -63147,45 +64732,53 @@ L1:return;
 }
 
 /* cpp_direct::direct::Direct::pass_element */
-static void pass_element_695(u8* a,u8* b,u8* c,u64 d)
+static void pass_element_695(u8* a,u8* b,u8* c,u64 d,u8 e)
 {
-u8 f[32];
-A16 u8 e[4];
-u64 g;
-u8 *h;
-u32 i;
-u8 j,k,l;
-w4(e,0);
-g=r8(b+88);
-if(g==0)x4(a,0);
+u8 g[32],h[32];
+A16 u8 f[4];
+u64 i;
+u8 *j;
+u32 k,m;
+u8 l,n,o,p;
+w4(f,0);
+i=r8(b+88);
+if(i==0)x4(a,0);
 else{
-h=rp(b+80)+(i64)(g*44);
-switch(h[-44]){
-case 10:i=r4(h-40);
-memcpy(f,h-36,32);
-parameter_ended_d3f(e,b,c,d,i,f);
+j=rp(b+80)+(i64)(i*44);
+switch(j[-44]){
+case 10:k=r4(j-40);
+memcpy(g,j-36,32);
+parameter_ended_d3f(f,b,c,d,k,g);
 break;
-case 12:enclosing_parameter_fc1(e,b,c,d,r4(h-40),r4(h-36));
+case 12:enclosing_parameter_fc1(f,b,c,d,r4(j-40),r4(j-36));
 break;
-case 13:instance_parameter_240(e,b,c,d,h[-43],r4(h-40),r4(h-36));
+case 13:instance_parameter_240(f,b,c,d,j[-43],r4(j-40),r4(j-36));
 break;
-case 18:finish_8cd(e,b,c,d);
+case 19:finish_8cd(f,b,c,d);
 break;
-case 0:case 1:case 2:case 3:case 4:case 5:case 6:case 7:case 8:case 9:case 11:case 14:case 15:case 16:case 17:case 19:case 20:case 21:case 22:case 23:case 24:case 25:*e=1;
-e[1]=3;
-e[2]=0;
-e[3]=0;
+case 28:if(!e){
+x4(a,0);
+goto L1;}
+l=j[-36];
+m=r4(j-40);
+memcpy(h,j-34,32);
+element_ended_6b8(f,b,c,d,m,l,h,1);
+break;
+case 0:case 1:case 2:case 3:case 4:case 5:case 6:case 7:case 8:case 9:case 11:case 14:case 15:case 16:case 17:case 18:case 20:case 21:case 22:case 23:case 24:case 25:case 26:case 27:case 29:*f=1;
+f[1]=3;
+f[2]=0;
+f[3]=0;
 break;
 default:NEVER;
 }
-j=e[1];
-k=e[2];
-l=e[3];
-*a=*e;
-a[1]=j;
-a[2]=k;
-a[3]=l;}
-return;
+n=f[1];
+o=f[2];
+p=f[3];
+*a=*f;
+a[1]=n;
+a[2]=o;
+a[3]=p;}
+L1:return;
 }
 
 /* cpp_direct::direct::Direct::parameter_at */
@@ -63235,7 +64828,7 @@ else{
 u=r8(b+8);
 if(r8(b+32)-u<2){
 v=make_ready_8e3(b,2,128);
-if(v==0){
+if(!(v&1)){
 x4(a,0);
 goto L3;}
 w=r8(b+8);}
@@ -63255,7 +64848,7 @@ A=r8(b+88);
 if(r8(b+112)>A)B=A;
 else{
 C=make_ready_9a1(b+80);
-if(C==0){
+if(!(C&1)){
 D=0;
 break;}
 B=r8(b+88);}
@@ -63273,7 +64866,7 @@ F=r8(b+88);
 if(r8(b+112)>F)G=F;
 else{
 H=make_ready_9a1(b+80);
-if(H==0){
+if(!(H&1)){
 D=0;
 break;}
 G=r8(b+88);}
@@ -63313,7 +64906,7 @@ k=rp((u8*)t_7cd2+(u64)e*8);
 l=r8(b+8);
 if(r8(b+32)-l<j){
 m=make_ready_8e3(b,j,128);
-if(m==0)goto L1;
+if(!(m&1))goto L1;
 n=r8(b+8);}
 else n=l;
 o=r8(b+16);
@@ -63348,7 +64941,7 @@ A=v+(i64)z;
 B=w-z;
 if(r8(b+32)-s<B){
 C=make_ready_8e3(b,B,128);
-if(C==0)goto L3;
+if(!(C&1))goto L3;
 D=r8(b+8);
 E=r8(b+16);}
 else{
@@ -63376,7 +64969,7 @@ L=J;
 M=I;}
 else{
 N=make_ready_8e3(b,1,16);
-if(N==0){
+if(!(N&1)){
 x4(a,0);
 goto L4;}
 L=rp(b);
@@ -63389,7 +64982,7 @@ P=r8(b+48);
 if(r8(b+72)>P)Q=P;
 else{
 R=make_ready_17a(b+40);
-if(R==0)goto L5;
+if(!(R&1))goto L5;
 Q=r8(b+48);}
 S=rp(b+40)+Q*12;
 x4(S,1);
@@ -63400,13 +64993,13 @@ O=T;}
 if(r8(b+72)>O)U=O;
 else{
 V=make_ready_17a(b+40);
-if(V==0)goto L5;
+if(!(V&1))goto L5;
 U=r8(b+48);}
 W=rp(b+40)+U*12;
 x4(W,1);
 x8(W+4,0);
 w8(b+48,U+1);
-pass_element_695(h,b,c,d);
+pass_element_695(h,b,c,d,e==2);
 *a=*h;
 a[1]=h[1];
 a[2]=h[2];
@@ -63418,6 +65011,352 @@ L3:x4(a,0);
 goto L4;
 L1:x4(a,0);
 L4:return;
+}
+
+/* cpp_direct::direct::Direct::lambda_parameter */
+static void lambda_parameter_383(u8* a,u8* b,u8* c,u64 d,u32 e,u8* f)
+{
+A16 u8 g[4];
+u64 h,n,q,s,u,v,y,A,B,C,E,F,G,H,I,J,P,Q,T,V;
+u8 i,j,k,l,p,r,t,w,x,z,D,K,L,M,N,R,U;
+u16 m;
+u8 *o,*S;
+u32 O;
+h=r8(b+176);
+if(h<d){
+if(*(c+h)==69){
+i=*f;
+j=f[1];
+k=f[2];
+l=f[3];
+m=q2(f+4);
+n=r8(b+8);
+if(n>=5){
+o=rp(b)+(i64)n;
+p=0;
+q=0;
+L1:r=p||*((u8*)t_262b+(i64)q)!=*(o-5+(i64)q);
+s=q+1;
+if(s!=4){
+p=r;
+q=s;
+goto L1;}
+t=0;
+u=0;
+L2:v=u+1;
+w=t||*((u8*)t_262b+(i64)v)!=*(o-5+(i64)v);
+if(v!=4){
+t=w;
+u=v;
+goto L2;}
+if(!(r|w)){
+x4(a,0);
+goto L3;}}
+w8(b+176,h+1);
+if(r8(b+32)-n<2){
+x=make_ready_8e3(b,2,128);
+if(!(x&1)){
+x4(a,0);
+goto L3;}
+y=r8(b+8);}
+else y=n;
+*(rp(b)+y)=41;
+*(rp(b)+(i64)y+1)=35;
+w8(b+8,y+2);
+z=lambda_number_bca(b,c,d);
+if(!(z&1)){
+x4(a,0);
+goto L3;}
+A=r8(b+88);
+if(A!=0)w8(b+88,A-1);
+w4(g,0);
+switch(i){
+case 0:B=r8(b+176);
+if(B<d){
+if(*(c+B)==95){
+C=B+1;
+w8(b+176,C);
+if(C>=d){
+K=0;
+L=0;
+M=0;
+N=0;
+break;}
+D=*(c+C);
+if(D==95){
+E=B+2;
+w8(b+176,E);
+if(d==E){
+F=d;
+goto L4;}
+G=E;
+L5:if((u8)(*(c+G)-48)<10){
+H=G+1;
+if(H!=d){
+G=H;
+goto L5;}
+F=d;}
+else F=G;
+L4:if(E>=F){
+K=0;
+L=0;
+M=0;
+N=0;
+break;}
+I=F&4294967295u;
+if(I>=d){
+K=0;
+L=0;
+M=0;
+N=0;
+break;}
+if(*(c+I)!=95){
+K=0;
+L=0;
+M=0;
+N=0;
+break;}
+J=I+1;}
+else{
+if((u8)(D-58)<246){
+K=0;
+L=0;
+M=0;
+N=0;
+break;}
+J=B+2;}
+w8(b+176,J);}}
+O=r8(b+8);
+P=r8(b+48);
+if(r8(b+72)>P)Q=P;
+else{
+R=make_ready_17a(b+40);
+if(!(R&1)){
+K=0;
+L=0;
+M=0;
+N=0;
+break;}
+Q=r8(b+48);}
+S=rp(b+40)+Q*12;
+x4(S,e);
+x4(S+4,O);
+S[8]=0;
+S[9]=0;
+x2(S+10,0);
+w8(b+48,Q+1);
+K=1;
+L=2;
+M=0;
+N=0;
+break;
+case 1:x4(b+120,e);
+x4(b+124,e);
+x4(b+128,e);
+b[132]=k;
+b[133]=l;
+x2(b+134,m);
+x4(b+136,0);
+K=1;
+L=5;
+M=0;
+N=0;
+break;
+case 2:member_function_912(g,b,c,d,j);
+K=*g;
+L=g[1];
+M=g[2];
+N=g[3];
+break;
+default:NEVER;
+}
+*a=K;
+a[1]=L;
+a[2]=M;
+a[3]=N;
+goto L3;}}
+T=r8(b+8);
+if(r8(b+32)-T<2){
+U=make_ready_8e3(b,2,128);
+if(!(U&1)){
+x4(a,0);
+goto L3;}
+V=r8(b+8);}
+else V=T;
+*(rp(b)+V)=44;
+*(rp(b)+(i64)V+1)=32;
+w8(b+8,V+2);
+*a=1;
+a[1]=0;
+a[2]=0;
+a[3]=0;
+L3:return;
+}
+
+/* cpp_direct::direct::Direct::member_parameter */
+static void member_parameter_7e4(u8* a,u8* b,u8* c,u64 d,u32 e)
+{
+A16 u8 f[4];
+u64 g,h,j,k,n,p,r,s,u,w,x,y,z,C,D,E,F,G,I,J;
+u8 i,m,o,q,t,v,K,L,M;
+u8 *l,*A,*B,*H;
+g=r8(b+176);
+if(g<d){
+switch(*(c+g)){
+case 69:case 46:case 0:break;
+default:h=r8(b+8);
+if(r8(b+32)-h<2){
+i=make_ready_8e3(b,2,128);
+if(!(i&1)){
+x4(a,0);
+goto L1;}
+j=r8(b+8);}
+else j=h;
+*(rp(b)+j)=44;
+*(rp(b)+(i64)j+1)=32;
+w8(b+8,j+2);
+*a=1;
+a[1]=0;
+a[2]=0;
+a[3]=0;
+goto L1;
+}}
+k=r8(b+8);
+if(k>=5){
+l=rp(b)+(i64)k;
+m=0;
+n=0;
+L2:o=m||*((u8*)t_262b+(i64)n)!=*(l-5+(i64)n);
+p=n+1;
+if(p!=4){
+m=o;
+n=p;
+goto L2;}
+q=0;
+r=0;
+L3:s=r+1;
+t=q||*((u8*)t_262b+(i64)s)!=*(l-5+(i64)s);
+if(s!=4){
+q=t;
+r=s;
+goto L3;}
+if(!(o|t)){
+x4(a,0);
+goto L1;}}
+u=r8(b+88);
+if(u!=0)w8(b+88,u-1);
+if(b[172]&1)x4(a,0);
+else{
+v=repeat_28b(b,0,e);
+if(v&1){
+w=k&4294967295u;
+x=r8(b+8);
+y=x-w;
+if(x==w)z=w;
+else{
+A=rp(b);
+B=A+(i64)w;
+C=0;
+L4:*(A+(i64)C)=*(B+(i64)C);
+D=C+1;
+if(D!=y){
+C=D;
+goto L4;}
+z=r8(b+8);}
+if(z>y)w8(b+8,y);
+E=r8(b+48);
+if(E==0)goto L5;
+F=E;
+G=0;
+L6:H=rp(b+40)+G*12;
+if(q4(H+4)>e){
+x4(H,1);
+x8(H+4,0);
+I=r8(b+48);}
+else I=F;
+J=G+1;
+if(J<I){
+F=I;
+G=J;
+goto L6;}
+L5:w4(f,0);
+finish_8cd(f,b,c,d);
+K=f[1];
+L=f[2];
+M=f[3];
+*a=*f;
+a[1]=K;
+a[2]=L;
+a[3]=M;}
+else x4(a,0);}
+L1:return;
+}
+
+/* cpp_direct::direct::Direct::argument_enumerator */
+static void argument_enumerator_83a(u8* a,u8* b,u8* c,u64 d,u32 e,u8 f,u8* g)
+{
+u8 i[32];
+A16 u8 h[4];
+u8 j,n,p,q,u;
+u64 k,l,m,o,r,s,t;
+u8 *v;
+memcpy(i,g,32);
+w4(h,0);
+j=ends_as_integer_bdf(b);
+if(j)x4(a,0);
+else{
+k=r8(b+88);
+if(k!=0)w8(b+88,k-1);
+l=r8(b+8);
+if(r8(b+32)>l)m=l;
+else{
+n=make_ready_8e3(b,1,16);
+if(!(n&1)){
+x4(a,0);
+goto L1;}
+m=r8(b+8);}
+*(rp(b)+m)=41;
+w8(b+8,m+1);
+o=r8(b+176);
+if(o<d){
+if(*(c+o)==110){
+w8(b+176,o+1);
+p=1;}
+else p=0;}
+else p=0;
+q=digits_418(b,c,d,p);
+if(q&1){
+r=r8(b+176);
+if(r<d){
+if(*(c+r)==69){
+w8(b+176,r+1);
+s=r8(b+88);
+if(r8(b+112)>s)t=s;
+else{
+u=make_ready_9a1(b+80);
+if(!(u&1)){
+x4(a,0);
+goto L1;}
+t=r8(b+88);}
+v=rp(b+80)+t*44;
+*v=25;
+v[1]=0;
+x2(v+2,0);
+x4(v+4,e);
+v[8]=f;
+v[9]=0;
+memcpy(v+10,i,32);
+x2(v+42,0);
+w8(b+88,t+1);
+argument_ended_511(h,b,c,d,e,f,i,0);
+*a=*h;
+a[1]=h[1];
+a[2]=h[2];
+a[3]=h[3];
+goto L1;}}
+x4(a,0);}
+else x4(a,0);}
+L1:return;
 }
 
 /* cpp_direct::direct::Direct::argument_ended */
@@ -63474,10 +65413,11 @@ switch(E){
 case 78:case 83:break;
 default:if((u8)(E-49)>=9)goto L2;
 break;}
-F=0;
-G=0;
-H=3;
-I=1;
+next_enumerator_cc1(l,b,c,d,z,o);
+F=l[3];
+G=l[2];
+H=l[1];
+I=*l;
 goto L3;}
 L2:next_literal_1b3(p,b,c,d,z,o);
 if(*p!=1){
@@ -63532,7 +65472,7 @@ else memcpy(m,o,32);
 K=r8(b+8);
 if(r8(b+32)-K<2){
 L=make_ready_8e3(b,2,128);
-if(L==0){
+if(!(L&1)){
 F=0;
 G=0;
 H=0;
@@ -63556,7 +65496,7 @@ Q=r8(b+88);
 if(r8(b+112)>Q)R=Q;
 else{
 S=make_ready_9a1(b+80);
-if(S==0){
+if(!(S&1)){
 F=0;
 G=0;
 H=0;
@@ -63564,7 +65504,7 @@ I=0;
 goto L3;}
 R=r8(b+88);}
 T=rp(b+80)+R*44;
-*T=22;
+*T=25;
 T[1]=0;
 x2(T+2,0);
 x4(T+4,O);
@@ -63603,16 +65543,82 @@ a[3]=F;
 L4:return;
 }
 
+/* cpp_direct::direct::Direct::next_enumerator */
+static void next_enumerator_cc1(u8* a,u8* b,u8* c,u64 d,u8 e,u8* f)
+{
+u8 h[32];
+A16 u8 g[4];
+u64 i,k,l,m,p,r,s;
+u8 j,o,q,t;
+u32 n;
+u8 *u;
+memcpy(h,f,32);
+w4(g,0);
+i=r8(b+8);
+if(r8(b+32)-i<2){
+j=make_ready_8e3(b,2,128);
+if(!(j&1)){
+x4(a,0);
+goto L1;}
+k=r8(b+8);}
+else k=i;
+*(rp(b)+k)=44;
+*(rp(b)+(i64)k+1)=32;
+l=k+2;
+w8(b+8,l);
+if(e==255)x4(a,0);
+else{
+m=r8(b+176);
+if(m==18446744073709551615u)x4(a,0);
+else{
+n=l;
+o=e+1;
+w8(b+176,m+1);
+if(r8(b+32)>l)p=l;
+else{
+q=make_ready_8e3(b,1,16);
+if(!(q&1)){
+x4(a,0);
+goto L1;}
+p=r8(b+8);}
+*(rp(b)+p)=40;
+w8(b+8,p+1);
+r=r8(b+88);
+if(r8(b+112)>r)s=r;
+else{
+t=make_ready_9a1(b+80);
+if(!(t&1)){
+x4(a,0);
+goto L1;}
+s=r8(b+88);}
+u=rp(b+80)+s*44;
+*u=26;
+u[1]=0;
+x2(u+2,0);
+x4(u+4,n);
+u[8]=o;
+u[9]=0;
+memcpy(u+10,h,32);
+x2(u+42,0);
+w8(b+88,s+1);
+named_type_ed0(g,b,c,d);
+*a=*g;
+a[1]=g[1];
+a[2]=g[2];
+a[3]=g[3];}}
+L1:return;
+}
+
 /* cpp_direct::direct::Direct::next_pack */
 static void next_pack_66f(u8* a,u8* b,u8* c,u64 d,u8 e,u8* f)
 {
 u8 h[16],i[32],j[16];
 A16 u8 g[4];
 u16 k,l;
-u64 m,n,r,t,y,A,B,E,F,I,J;
-u8 o,p,q,u,v,w,x,z,D,G,K;
-u8 *s,*H,*L;
-u32 C;
+u64 m,n,r,t,C,E,F,I,J,M,N;
+u8 o,p,q,s,u,v,w,x,z,A,B,D,H,K,O;
+u8 *y,*L,*P;
+u32 G;
 k=q2(f);
 l=q2(f+2);
 memcpy(j,f+4,16);
@@ -63624,9 +65630,9 @@ o=f[28];
 p=f[29];
 q=f[31];
 r=m+1;
-if(r<d){
-s=c+(i64)r;
-switch(*s){
+s=r>=d;
+if(!s){
+switch(*(c+r)){
 case 69:memcpy(h,f+4,16);
 w4(g,0);
 t=m+2;
@@ -63667,78 +65673,91 @@ a[1]=w;
 a[2]=v;
 a[3]=u;
 goto L1;
-case 76:case 65:case 70:break;
-case 80:case 82:if(usub64(d,r)<2)goto L2;
-switch(s[1]){
-case 70:case 65:break;
-default:goto L2;
-}
+case 76:goto L2;
+default:break;}}
+y=c+(i64)r;
+z=usub64(d,r)<2;
+if(!(d<r||z)){
+if(*y==82){
+A=y[1];
+if(s|(A==65))goto L3;
+B=A;
+goto L4;}}
+if(s)goto L3;
+switch(*y){
+case 65:case 70:goto L2;
+case 80:case 82:if(z)goto L3;
+B=y[1];
 break;
-default:goto L2;
+default:goto L3;
 }
-*a=1;
-a[1]=3;
-a[2]=0;
-a[3]=0;
-goto L1;}
-L2:y=r8(b+8);
-if(r8(b+32)-y<2){
-z=make_ready_8e3(b,2,128);
-if(z==0){
+L4:switch(B){
+case 70:case 65:goto L2;
+default:break;}
+L3:C=r8(b+8);
+if(r8(b+32)-C<2){
+D=make_ready_8e3(b,2,128);
+if(!(D&1)){
 x4(a,0);
 goto L1;}
-A=r8(b+8);}
-else A=y;
-*(rp(b)+A)=44;
-*(rp(b)+(i64)A+1)=32;
-B=A+2;
-w8(b+8,B);
+E=r8(b+8);}
+else E=C;
+*(rp(b)+E)=44;
+*(rp(b)+(i64)E+1)=32;
+F=E+2;
+w8(b+8,F);
 w8(b+176,r);
-if(e==255)x4(a,0);
-else{
-C=B;
-D=e+1;
-E=r8(b+88);
-if(r8(b+112)>E)F=E;
-else{
-G=make_ready_9a1(b+80);
-if(G==0){
+if(e==255){
 x4(a,0);
 goto L1;}
-F=r8(b+88);}
-H=rp(b+80)+F*44;
-*H=23;
-I=F+1;
-z43(H+1);
-w8(b+88,I);
+G=F;
+H=e+1;
+I=r8(b+88);
 if(r8(b+112)>I)J=I;
 else{
 K=make_ready_9a1(b+80);
-if(K==0){
+if(!(K&1)){
 x4(a,0);
 goto L1;}
 J=r8(b+88);}
 L=rp(b+80)+J*44;
-*L=24;
-L[1]=0;
-x2(L+2,0);
-x4(L+4,C);
-L[8]=D;
-L[9]=0;
-x2(L+10,k);
-x2(L+12,l);
-memcpy(L+14,j,16);
-x8(L+30,n);
-L[38]=o;
-L[39]=p;
-L[40]=D;
-L[41]=q;
-x2(L+42,0);
-w8(b+88,J+1);
+*L=27;
+M=J+1;
+z43(L+1);
+w8(b+88,M);
+if(r8(b+112)>M)N=M;
+else{
+O=make_ready_9a1(b+80);
+if(!(O&1)){
+x4(a,0);
+goto L1;}
+N=r8(b+88);}
+P=rp(b+80)+N*44;
+*P=28;
+P[1]=0;
+x2(P+2,0);
+x4(P+4,G);
+P[8]=H;
+P[9]=0;
+x2(P+10,k);
+x2(P+12,l);
+memcpy(P+14,j,16);
+x8(P+30,n);
+P[38]=o;
+P[39]=p;
+P[40]=H;
+P[41]=q;
+x2(P+42,0);
+w8(b+88,N+1);
 *a=1;
 a[1]=0;
 a[2]=0;
-a[3]=0;}}
+a[3]=0;
+goto L1;
+L2:*a=1;
+a[1]=3;
+a[2]=0;
+a[3]=0;}
 L1:return;
 }
 
@@ -63779,7 +65798,7 @@ r=r8(b+8);
 if(r8(b+32)>r)s=r;
 else{
 t=make_ready_8e3(b,1,16);
-if(t==0){
+if(!(t&1)){
 x4(a,0);
 goto L4;}
 s=r8(b+8);}
@@ -63790,7 +65809,7 @@ v=r8(b+88);
 if(r8(b+112)>v)w=v;
 else{
 x=make_ready_9a1(b+80);
-if(x==0){
+if(!(x&1)){
 x4(a,0);
 goto L4;}
 w=r8(b+88);}
@@ -63859,7 +65878,7 @@ h=r8(b+8);
 if(r8(b+32)>h)i=h;
 else{
 j=make_ready_8e3(b,1,16);
-if(j==0){
+if(!(j&1)){
 x4(a,0);
 goto L1;}
 i=r8(b+8);}
@@ -63888,7 +65907,7 @@ y=r8(b+48);
 if(r8(b+72)>y)z=y;
 else{
 A=make_ready_17a(b+40);
-if(A==0){
+if(!(A&1)){
 x4(a,0);
 goto L1;}
 z=r8(b+48);}
@@ -63929,7 +65948,7 @@ I=r8(b+48);
 if(r8(b+72)>I)J=I;
 else{
 K=make_ready_17a(b+40);
-if(K==0){
+if(!(K&1)){
 x4(a,0);
 goto L1;}
 J=r8(b+48);}
@@ -63960,7 +65979,7 @@ case 7:name_ended_a18(g,b,c,d,0,1,f,o);
 break;
 case 8:level_ended_5bf(g,b,c,d,n[1]&1);
 break;
-case 0:case 1:case 2:case 3:case 9:case 10:case 11:case 12:case 13:case 14:case 15:case 16:case 17:case 18:case 19:case 20:case 21:case 22:case 23:case 24:case 25:*g=0;
+case 0:case 1:case 2:case 3:case 9:case 10:case 11:case 12:case 13:case 14:case 15:case 16:case 17:case 18:case 19:case 20:case 21:case 22:case 23:case 24:case 25:case 26:case 27:case 28:case 29:*g=0;
 break;
 default:NEVER;
 }
@@ -63977,168 +65996,186 @@ L1:return;
 /* cpp_direct::direct::Direct::element_ended */
 static void element_ended_6b8(u8* a,u8* b,u8* c,u64 d,u32 e,u8 f,u8* g,u8 h)
 {
-u8 i[32],j[16],k[32],m[16],n[32];
-A16 u8 l[4];
-u64 o,p,q,r,w,D,L,N,R,S,V,W;
-u16 s,t,u,v,B,C,H,J,K;
-u8 x,y,z,A,E,F,G,I,O,P,Q,U,X;
-u8 *M,*Y;
-u32 T;
-w4(l,0);
-z16(m);
-z32(n);
-memcpy(k,g,32);
-o=r8(b+88);
-if(o==0)p=0;
+u8 i[32],j[32],k[16],l[32],n[16],o[32];
+A16 u8 m[4];
+u64 p,q,r,s,x,E,M,U,X,Z,ca,da;
+u16 t,u,v,w,C,D,I,K,L;
+u8 y,z,A,B,F,G,H,J,N,O,P,R,S,T,V,W,Y,ba,ea;
+u8 *Q,*fa;
+u32 aa;
+w4(m,0);
+z16(n);
+z32(o);
+memcpy(l,g,32);
+p=r8(b+88);
+if(p==0)q=0;
 else{
-q=o-1;
-w8(b+88,q);
-p=q;}
-r=r8(b+8);
-if((e|(u32)r)>65535||(f>7||f!=k[28])){
-s=r2(k);
-t=r2(k+2);
-memcpy(j,k+4,16);
-u=s;
+r=p-1;
+w8(b+88,r);
+q=r;}
+s=r8(b+8);
+memcpy(i,l,32);
+if((e|(u32)s)>65535||(f>7||f!=i[28])){
+t=r2(l);
+u=r2(l+2);
+memcpy(k,l+4,16);
 v=t;
-w=q8(k+20);
-x=k[28];
-y=k[29];
-z=k[30];
-A=k[31];}
+w=u;
+x=q8(l+20);
+y=l[28];
+z=l[29];
+A=l[30];
+B=l[31];}
 else{
-B=r2(k);
-C=r2(k+2);
-D=q8(k+20);
-E=k[29];
-F=k[30];
-G=k[31];
-memcpy(i+4,k+4,16);
-x8(i+20,D);
-i[28]=f+1;
-i[29]=E;
-i[30]=F;
-i[31]=G;
-w2(i+4+((u64)f<<1),r);
-*(i+20+f)=h;
+C=r2(i);
+D=r2(i+2);
+E=q8(i+20);
+F=i[29];
+G=i[30];
+H=i[31];
+memcpy(j+4,l+4,16);
+x8(j+20,E);
+j[28]=f+1;
+j[29]=F;
+j[30]=G;
+j[31]=H;
+w2(j+4+((u64)f<<1),s);
+*(j+20+f)=h;
 if(f==0){
-memcpy(j,i+4,16);
-u=B;
-v=e;
-w=q8(i+20);
-x=i[28];
-y=i[29];
-z=i[30];
-A=i[31];}
+memcpy(k,j+4,16);
+v=C;
+w=e;
+x=q8(j+20);
+y=j[28];
+z=j[29];
+A=j[30];
+B=j[31];}
 else{
-H=r2(k+4+(i64)((u64)(u8)(f-1)<<1));
-I=(H<65534)&(e==(u16)(0-usub16(65534,H)));
-J=I?B:r2(k);
-K=I?C:r2(k+2);
-memcpy(j,I?i+4:k+4,16);
-u=J;
+I=r2(i+4+(i64)((u64)(u8)(f-1)<<1));
+J=(I<65534)&(e==(u16)(0-usub16(65534,I)));
+K=J?C:r2(l);
+L=J?D:r2(l+2);
+memcpy(k,J?j+4:l+4,16);
 v=K;
-w=I?q8(i+20):q8(k+20);
-x=I?i[28]:k[28];
-y=I?i[29]:k[29];
-z=I?i[30]:k[30];
-A=I?i[31]:k[31];}}
-memcpy(m,j,16);
-L=r8(b+176);
-if(L<d){
-M=c+(i64)L;
-switch(*M){
-case 76:case 65:case 70:break;
-case 80:case 82:if(usub64(d,L)<2)goto L1;
-switch(M[1]){
-case 70:case 65:break;
-default:goto L1;
-}
+w=L;
+x=J?q8(j+20):q8(l+20);
+y=J?j[28]:l[28];
+z=J?j[29]:l[29];
+A=J?j[30]:l[30];
+B=J?j[31]:l[31];}}
+memcpy(n,k,16);
+M=r8(b+176);
+N=M>=d;
+if(N)O=0;
+else{
+P=*(c+M);
+if(P==76)goto L1;
+O=P;}
+Q=c+(i64)M;
+R=usub64(d,M)<2;
+if(!(d<M||R)){
+if(*Q==82){
+S=Q[1];
+if(N|(S==65))goto L2;
+T=S;
+goto L3;}}
+if(N)goto L2;
+switch(*Q){
+case 65:case 70:goto L1;
+case 80:case 82:if(R)goto L2;
+T=Q[1];
 break;
-case 69:N=L+1;
-if(N<d){
-if(*(c+N)==69){
-if(p!=0)w8(b+88,p-1);
-w8(b+176,L+2);
+default:goto L2;
+}
+L3:switch(T){
+case 70:case 65:goto L1;
+default:break;}
+L2:if(O==69){
+if(M==18446744073709551615u){
+x4(a,0);
+goto L4;}
+U=M+1;
+if(U<d){
+if(*(c+U)==69){
+if(q!=0)w8(b+88,q-1);
+w8(b+176,M+2);
 if(f==255){
 x4(a,0);
-goto L2;}
-O=f+1;
-if(O<z){
+goto L4;}
+V=f+1;
+if(V<A){
 x4(a,0);
-goto L2;}
-w2(n,u);
-w2(n+2,v);
-memcpy(n+4,m,16);
-x8(n+20,w);
-n[28]=x;
-n[29]=1;
-n[30]=z;
-n[31]=O-z;
-close_list_299(l,b,c,d,n);
-*a=*l;
-a[1]=l[1];
-a[2]=l[2];
-a[3]=l[3];
-goto L2;}}
+goto L4;}
+w2(o,v);
+w2(o+2,w);
+memcpy(o+4,n,16);
+x8(o+20,x);
+o[28]=y;
+o[29]=1;
+o[30]=A;
+o[31]=V-A;
+close_list_299(m,b,c,d,o);
+*a=*m;
+a[1]=m[1];
+a[2]=m[2];
+a[3]=m[3];
+goto L4;}}
 *a=1;
 a[1]=3;
 a[2]=0;
 a[3]=0;
-goto L2;
-default:goto L1;
-}
-*a=1;
-a[1]=3;
-a[2]=0;
-a[3]=0;
-goto L2;}
-L1:if(r8(b+32)-r<2){
-P=make_ready_8e3(b,2,128);
-if(P==0){
-Q=0;
-goto L3;}
-R=r8(b+8);}
-else R=r;
-*(rp(b)+R)=44;
-*(rp(b)+(i64)R+1)=32;
-S=R+2;
-w8(b+8,S);
-if(f==255)Q=0;
+goto L4;}
+if(r8(b+32)-s<2){
+W=make_ready_8e3(b,2,128);
+if(!(W&1)){
+Y=0;
+goto L5;}
+X=r8(b+8);}
+else X=s;
+*(rp(b)+X)=44;
+*(rp(b)+(i64)X+1)=32;
+Z=X+2;
+w8(b+8,Z);
+if(f==255)Y=0;
 else{
-T=S;
-U=f+1;
-V=r8(b+88);
-if(r8(b+112)>V)W=V;
+aa=Z;
+ba=f+1;
+ca=r8(b+88);
+if(r8(b+112)>ca)da=ca;
 else{
-X=make_ready_9a1(b+80);
-if(X==0){
-Q=0;
-goto L3;}
-W=r8(b+88);}
-Y=rp(b+80)+W*44;
-*Y=24;
-Y[1]=0;
-x2(Y+2,0);
-x4(Y+4,T);
-Y[8]=U;
-Y[9]=0;
-x2(Y+10,u);
-x2(Y+12,v);
-memcpy(Y+14,m,16);
-x8(Y+30,w);
-Y[38]=x;
-Y[39]=y;
-Y[40]=z;
-Y[41]=A;
-x2(Y+42,0);
-w8(b+88,W+1);
-Q=1;}
-L3:*a=Q;
+ea=make_ready_9a1(b+80);
+if(!(ea&1)){
+Y=0;
+goto L5;}
+da=r8(b+88);}
+fa=rp(b+80)+da*44;
+*fa=28;
+fa[1]=0;
+x2(fa+2,0);
+x4(fa+4,aa);
+fa[8]=ba;
+fa[9]=0;
+x2(fa+10,v);
+x2(fa+12,w);
+memcpy(fa+14,n,16);
+x8(fa+30,x);
+fa[38]=y;
+fa[39]=z;
+fa[40]=A;
+fa[41]=B;
+x2(fa+42,0);
+w8(b+88,da+1);
+Y=1;}
+L5:*a=Y;
 a[1]=0;
 a[2]=0;
 a[3]=0;
-L2:return;
+goto L4;
+L1:*a=1;
+a[1]=3;
+a[2]=0;
+a[3]=0;
+L4:return;
 }
 
 /* cpp_direct::direct::Direct::empty_pack */
@@ -64160,7 +66197,7 @@ j=r8(b+88);
 if(j==0){
 x4(a,0);
 goto L1;}
-if(*(rp(b+80)+(i64)(j*44)-44)==23){
+if(*(rp(b+80)+(i64)(j*44)-44)==27){
 k=0;
 l=0;
 m=0;
@@ -64204,7 +66241,7 @@ switch(j[-44]){
 case 5:if(j[-28]==0)goto L1;
 break;
 case 7:break;
-case 0:case 1:case 2:case 3:case 4:case 6:case 8:case 9:case 10:case 11:case 12:case 13:case 14:case 15:case 16:case 17:case 18:case 19:case 20:case 21:case 22:case 23:case 24:case 25:goto L1;
+case 0:case 1:case 2:case 3:case 4:case 6:case 8:case 9:case 10:case 11:case 12:case 13:case 14:case 15:case 16:case 17:case 18:case 19:case 20:case 21:case 22:case 23:case 24:case 25:case 26:case 27:case 28:case 29:goto L1;
 default:NEVER;
 }
 k=r8(b+176);
@@ -64214,7 +66251,7 @@ switch(l){
 case 78:case 83:break;
 default:if((u8)(l-49)>=9)goto L2;
 break;}
-literal_da7(e,b,c,d);
+first_enumerator_aaf(e,b,c,d);
 *a=*e;
 a[1]=e[1];
 a[2]=e[2];
@@ -64228,7 +66265,7 @@ o=h;
 p=g;}
 else{
 q=make_ready_9a1(b+80);
-if(q==0){
+if(!(q&1)){
 x4(a,0);
 goto L3;}
 r=r8(b+88);
@@ -64236,7 +66273,7 @@ n=r*44;
 o=rp(b+80);
 p=r;}
 s=o+n;
-*s=22;
+*s=25;
 s[1]=0;
 x2(s+2,0);
 x4(s+4,m);
@@ -64249,14 +66286,14 @@ w8(b+176,u);
 if(u<d){
 if(*(c+u)==98){
 v=boolean_6cc(b,c,d);
-if(v==0)goto L4;
+if(!(v&1))goto L4;
 w=r8(b+176);
 if(w>=d)goto L4;
 if(*(c+w)!=69)goto L4;
 x=w;
 goto L5;}}
 y=integer_bfa(b,c,d);
-if(y==0)goto L4;
+if(!(y&1))goto L4;
 z=r8(b+176);
 if(z>=d)goto L4;
 if(*(c+z)!=69)goto L4;
@@ -64279,6 +66316,52 @@ a[3]=e[3];
 L3:return;
 }
 
+/* cpp_direct::direct::Direct::first_enumerator */
+static void first_enumerator_aaf(u8* a,u8* b,u8* c,u64 d)
+{
+A16 u8 e[4];
+u64 f,g,i,k,l;
+u32 h;
+u8 j,m;
+u8 *n;
+f=r8(b+176);
+if(f==18446744073709551615u)x4(a,0);
+else{
+g=r8(b+8);
+h=g;
+w8(b+176,f+1);
+if(r8(b+32)>g)i=g;
+else{
+j=make_ready_8e3(b,1,16);
+if(!(j&1)){
+x4(a,0);
+goto L1;}
+i=r8(b+8);}
+*(rp(b)+i)=40;
+w8(b+8,i+1);
+k=r8(b+88);
+if(r8(b+112)>k)l=k;
+else{
+m=make_ready_9a1(b+80);
+if(!(m&1)){
+x4(a,0);
+goto L1;}
+l=r8(b+88);}
+n=rp(b+80)+l*44;
+*n=26;
+n[1]=0;
+x2(n+2,0);
+x4(n+4,h);
+z36(n+8);
+w8(b+88,l+1);
+named_type_ed0(e,b,c,d);
+*a=*e;
+a[1]=e[1];
+a[2]=e[2];
+a[3]=e[3];}
+L1:return;
+}
+
 /* cpp_direct::direct::Direct::literal */
 static void literal_da7(u8* a,u8* b,u8* c,u64 d)
 {
@@ -64298,7 +66381,7 @@ w8(b+176,f+1);
 h=r8(b+8);
 if(r8(b+32)==h){
 i=make_ready_8e3(b,1,128);
-if(i==0)goto L2;
+if(!(i&1))goto L2;
 j=r8(b+8);}
 else j=h;
 k=r8(b+16);
@@ -64323,12 +66406,12 @@ r=r8(b+88);
 if(r8(b+112)>r)s=r;
 else{
 t=make_ready_9a1(b+80);
-if(t==0){
+if(!(t&1)){
 x4(a,0);
 goto L3;}
 s=r8(b+88);}
 u=rp(b+80)+s*44;
-*u=25;
+*u=29;
 z43(u+1);
 w8(b+88,s+1);
 named_type_ed0(e,b,c,d);
@@ -64345,14 +66428,14 @@ w8(b+176,v);
 if(v<d){
 if(*(c+v)==98){
 w=boolean_6cc(b,c,d);
-if(w==0)goto L4;
+if(!(w&1))goto L4;
 x=r8(b+176);
 if(x>=d)goto L4;
 if(*(c+x)!=69)goto L4;
 y=x;
 goto L5;}}
 z=integer_bfa(b,c,d);
-if(z==0)goto L4;
+if(!(z&1))goto L4;
 A=r8(b+176);
 if(A>=d)goto L4;
 if(*(c+A)!=69)goto L4;
@@ -64372,9 +66455,9 @@ static void nest_ended_32a(u8* a,u8* b,u8* c,u64 d)
 {
 u8 e[4],f[4],i[4],j[32];
 A16 u8 g[16],h[16],k[4];
-u64 l,m,q,r,y,H,I,J,M,R,U,V,ea,ja,ka,pa,va,wa,ya,za,Aa,Da,Fa,Ga,Ia,Ja,Ka,Na,Pa,Qa,Sa,Ta,Ua,Xa,Za,ab,cb,db,eb,hb,jb,kb,mb,nb,ob;
+u64 l,m,q,r,y,H,I,J,M,R,U,V,ea,ja,ka,pa,ra,wa,ya,za,Aa,Da,Fa,Ga,Ia,Ja,Ka,Na,Pa,Qa,Sa,Ta,Ua,Xa,Za,ab,cb,db,eb,hb,jb,kb,mb,nb,ob;
 u32 n,p,G,K,ca,oa;
-u8 o,s,u,v,z,A,B,C,D,E,N,O,P,Q,S,T,W,Y,Z,aa,ba,fa,ga,ha,ia,la,ma,qa,ra,sa,ta,ua,xa,Ea,Ha,Oa,Ra,Ya,bb,ib,lb,rb,sb,tb;
+u8 o,s,u,v,z,A,B,C,D,E,N,O,P,Q,S,T,W,Y,Z,aa,ba,fa,ga,ha,ia,la,ma,qa,sa,ta,ua,va,xa,Ea,Ha,Oa,Ra,Ya,bb,ib,lb,rb,sb,tb;
 u8 *t,*X,*na,*Ba,*Ca,*La,*Ma,*Va,*Wa,*fb,*gb,*pb,*qb;
 u16 w,x,F,L,da;
 z32(j);
@@ -64393,7 +66476,7 @@ q=r8(b+48);
 if(r8(b+72)>q)r=q;
 else{
 s=make_ready_17a(b+40);
-if(s==0){
+if(!(s&1)){
 x4(a,0);
 goto L1;}
 r=r8(b+48);}
@@ -64467,7 +66550,7 @@ Q=b[171];
 if(r8(b+32)>J)R=J;
 else{
 S=make_ready_8e3(b,1,16);
-if(S==0){
+if(!(S&1)){
 T=0;
 goto L4;}
 R=r8(b+8);}
@@ -64477,7 +66560,7 @@ U=r8(b+88);
 if(r8(b+112)>U)V=U;
 else{
 W=make_ready_9a1(b+80);
-if(W==0){
+if(!(W&1)){
 T=0;
 goto L4;}
 V=r8(b+88);}
@@ -64528,7 +66611,7 @@ ja=r8(b+88);
 if(r8(b+112)>ja)ka=ja;
 else{
 la=make_ready_9a1(b+80);
-if(la==0){
+if(!(la&1)){
 ma=0;
 goto L6;}
 ka=r8(b+88);}
@@ -64565,28 +66648,28 @@ case 0:break;
 case 1:pa=r8(b+8);
 if(r8(b+32)-pa<6){
 qa=make_ready_8e3(b,6,128);
-if(qa==0){
-ra=0;
+if(!(qa&1)){
 sa=0;
 ta=0;
 ua=0;
+va=0;
 goto L7;}
-va=r8(b+8);}
-else va=pa;
+ra=r8(b+8);}
+else ra=pa;
 wa=r8(b+16);
-if(wa-va<6){
+if(wa-ra<6){
 xa=grow_amortized_e1a(b,6);
 if(!xa){
-ra=0;
 sa=0;
 ta=0;
 ua=0;
+va=0;
 goto L7;}
 ya=r8(b+16);
 za=r8(b+8);}
 else{
 ya=wa;
-za=va;}
+za=ra;}
 Aa=za+6;
 Ba=rp(b);
 z16(b+8);
@@ -64600,11 +66683,11 @@ break;
 case 2:Da=r8(b+8);
 if(r8(b+32)-Da<2){
 Ea=make_ready_8e3(b,2,128);
-if(Ea==0){
-ra=0;
+if(!(Ea&1)){
 sa=0;
 ta=0;
 ua=0;
+va=0;
 goto L7;}
 Fa=r8(b+8);}
 else Fa=Da;
@@ -64612,10 +66695,10 @@ Ga=r8(b+16);
 if(Ga-Fa<2){
 Ha=grow_amortized_e1a(b,2);
 if(!Ha){
-ra=0;
 sa=0;
 ta=0;
 ua=0;
+va=0;
 goto L7;}
 Ia=r8(b+16);
 Ja=r8(b+8);}
@@ -64635,11 +66718,11 @@ break;
 case 3:Na=r8(b+8);
 if(r8(b+32)-Na<8){
 Oa=make_ready_8e3(b,8,128);
-if(Oa==0){
-ra=0;
+if(!(Oa&1)){
 sa=0;
 ta=0;
 ua=0;
+va=0;
 goto L7;}
 Pa=r8(b+8);}
 else Pa=Na;
@@ -64647,10 +66730,10 @@ Qa=r8(b+16);
 if(Qa-Pa<8){
 Ra=grow_amortized_e1a(b,8);
 if(!Ra){
-ra=0;
 sa=0;
 ta=0;
 ua=0;
+va=0;
 goto L7;}
 Sa=r8(b+16);
 Ta=r8(b+8);}
@@ -64670,11 +66753,11 @@ break;
 case 4:Xa=r8(b+8);
 if(r8(b+32)-Xa<3){
 Ya=make_ready_8e3(b,3,128);
-if(Ya==0){
-ra=0;
+if(!(Ya&1)){
 sa=0;
 ta=0;
 ua=0;
+va=0;
 goto L7;}
 Za=r8(b+8);}
 else Za=Xa;
@@ -64682,10 +66765,10 @@ ab=r8(b+16);
 if(ab-Za<3){
 bb=grow_amortized_e1a(b,3);
 if(!bb){
-ra=0;
 sa=0;
 ta=0;
 ua=0;
+va=0;
 goto L7;}
 cb=r8(b+16);
 db=r8(b+8);}
@@ -64705,11 +66788,11 @@ break;
 case 5:hb=r8(b+8);
 if(r8(b+32)-hb<9){
 ib=make_ready_8e3(b,9,128);
-if(ib==0){
-ra=0;
+if(!(ib&1)){
 sa=0;
 ta=0;
 ua=0;
+va=0;
 goto L7;}
 jb=r8(b+8);}
 else jb=hb;
@@ -64717,10 +66800,10 @@ kb=r8(b+16);
 if(kb-jb<9){
 lb=grow_amortized_e1a(b,9);
 if(!lb){
-ra=0;
 sa=0;
 ta=0;
 ua=0;
+va=0;
 goto L7;}
 mb=r8(b+16);
 nb=r8(b+8);}
@@ -64740,14 +66823,14 @@ break;
 default:NEVER;
 }
 enclosed_84c(e,b,c,d,oa);
-ra=e[3];
-sa=e[2];
-ta=e[1];
-ua=*e;
-L7:*k=ua;
-k[1]=ta;
-k[2]=sa;
-k[3]=ra;
+sa=e[3];
+ta=e[2];
+ua=e[1];
+va=*e;
+L7:*k=va;
+k[1]=ua;
+k[2]=ta;
+k[3]=sa;
 goto L8;}}
 enclosing_parameters_1fa(f,b,c,d,E,oa);
 *k=*f;
@@ -64830,7 +66913,7 @@ z=k;
 A=i;}
 else{
 B=make_ready_9a1(b+80);
-if(B==0){
+if(!(B&1)){
 x4(a,0);
 goto L2;}
 C=r8(b+88);
@@ -64865,10 +66948,10 @@ L2:return;
 static void components_at_8f9(u8* a,u8* b,u8* c,u64 d)
 {
 A16 u8 e[40],f[40],g[40],h[40],i[40],j[40],k[24],l[40],m[40],n[24],o[4],p[4];
-u64 q,r,t,u,w,x,z,A,B,J,M,Q,R,U,V,X,Y,Z,fa,ga,ja,ka,ma,na,qa,sa,ua,va,xa,ya,za,Ha,Ka,Oa,Pa,Sa,Ta,Va,Wa,Xa,db,eb,hb,ib,kb,lb,ob,qb,rb,sb,vb,xb,yb,zb,Ab,Bb,Cb,Fb,Hb,Jb,Lb,Mb,Ob,Qb,Rb,Tb,Vb,Wb,Yb,dc,fc,gc,ic,jc,kc,pc,vc,zc,Ac,Dc,Ec,Gc,Hc,Ic,Mc,Nc,Qc,Rc,Tc,Uc,Vc,cd,ed,fd,gd,jd,ld,md,nd,od,pd,qd,ud,xd,zd,Bd,Cd,Ed,Gd,Hd,Jd,Ld,Md,Od,Td,Vd,Wd,Yd,Zd,ae,fe,le,pe,qe,te,ue,we,xe,ye,Ce,De,Ge,He,Je,Ke,Le,Oe,Se,Te,We;
-u8 s,v,y,E,F,G,H,I,K,L,O,S,W,ba,ha,la,oa,ra,ta,wa,Ca,Da,Ea,Fa,Ga,Ia,Ja,Ma,Qa,Ua,Za,fb,jb,mb,pb,tb,wb,Db,Gb,Ib,Kb,Nb,Pb,Sb,Ub,Xb,ec,hc,oc,qc,rc,sc,tc,uc,xc,Bc,Fc,Jc,Oc,Sc,Wc,Yc,Zc,ad,bd,dd,hd,kd,sd,vd,yd,Ad,Dd,Fd,Id,Kd,Nd,Ud,Xd,ee,ge,he,ie,je,ke,ne,re,ve,ze,Ee,Ie,Me,Qe,Ue;
+u64 q,r,t,u,w,x,z,A,B,G,J,N,O,U,V,X,Y,Z,fa,ga,ja,ka,ma,na,qa,sa,ua,va,xa,ya,za,Ea,Ha,La,Ma,Sa,Ta,Va,Wa,Xa,db,eb,hb,ib,kb,lb,ob,qb,rb,sb,vb,xb,yb,zb,Ab,Bb,Cb,Fb,Hb,Jb,Lb,Mb,Ob,Qb,Rb,Tb,Vb,Wb,Yb,dc,fc,gc,ic,jc,kc,pc,sc,wc,xc,Dc,Ec,Gc,Hc,Ic,Mc,Nc,Qc,Rc,Tc,Uc,Vc,cd,ed,fd,gd,jd,ld,md,nd,od,pd,qd,ud,xd,zd,Bd,Cd,Ed,Gd,Hd,Jd,Ld,Md,Od,Td,Vd,Wd,Yd,Zd,ae,fe,ie,me,ne,te,ue,we,xe,ye,Ce,De,Ge,He,Je,Ke,Le,Oe,Se,Te,We;
+u8 s,v,y,E,F,H,I,L,P,Q,R,S,W,ba,ha,la,oa,ra,ta,wa,Ca,Da,Fa,Ga,Ja,Na,Oa,Pa,Qa,Ua,Za,fb,jb,mb,pb,tb,wb,Db,Gb,Ib,Kb,Nb,Pb,Sb,Ub,Xb,ec,hc,oc,qc,rc,uc,yc,zc,Ac,Bc,Fc,Jc,Oc,Sc,Wc,Yc,Zc,ad,bd,dd,hd,kd,sd,vd,yd,Ad,Dd,Fd,Id,Kd,Nd,Ud,Xd,ee,ge,he,ke,oe,pe,qe,re,ve,ze,Ee,Ie,Me,Qe,Ue;
 u8 *C,*D,*T,*aa,*ca,*ia,*pa,*Aa,*Ba,*Ra,*Ya,*ab,*gb,*nb,*Eb,*cc,*lc,*mc,*Cc,*Kc,*Pc,*Xc,*td,*Sd,*be,*ce,*se,*Ae,*Fe,*Ne,*Ve;
-u32 N,P,da,ea,La,Na,bb,cb,ub,nc,wc,yc,Lc,id,de,me,oe,Be,Pe,Re;
+u32 K,M,da,ea,Ia,Ka,bb,cb,ub,nc,tc,vc,Lc,id,de,je,le,Be,Pe,Re;
 s_p_64 Zb,ac,bc,Pd,Qd,Rd;
 w4(p,0);
 q=0;
@@ -64887,7 +66970,7 @@ w8(b+176,r+2);
 u=r8(b+8);
 if(r8(b+32)-u<2){
 v=make_ready_8e3(b,2,128);
-if(v==0)goto L2;
+if(!(v&1))goto L2;
 w=r8(b+8);}
 else w=u;
 x=r8(b+16);
@@ -64909,75 +66992,71 @@ wp(b,C);
 w8(b+8,B);
 w8(b+16,z);
 E=repeat_28b(b,r4(b+124),r4(b+128));
-if(E==0){
-F=0;
-G=0;
-H=0;}
-else{
-I=b[139];
+if(E&1){
+F=b[139];
 b[136]=0;
 b[137]=0;
 b[138]=0;
-J=r8(b+176);
-if(J<d){
-K=*(c+J);
-if(K==66){
-L=tag_9a7(b,c,d);
-if(L==0){
-F=0;
-G=0;
-H=0;
+G=r8(b+176);
+if(G<d){
+H=*(c+G);
+if(H==66){
+I=tag_9a7(b,c,d);
+if(!(I&1)){
+Q=0;
+R=0;
+S=0;
 goto L3;}
 z20(h+20);
-M=r8(b+176);
-if(M>=d){
-F=0;
-G=5;
-H=1;
+J=r8(b+176);
+if(J>=d){
+Q=0;
+R=5;
+S=1;
 goto L3;}
-if(*(c+M)!=73){
-F=0;
-G=5;
-H=1;
+if(*(c+J)!=73){
+Q=0;
+R=5;
+S=1;
 goto L3;}
-N=r4(b+120);
-O=b[139];
-P=r8(b+8);
-Q=r8(b+48);
-if(r8(b+72)>Q)R=Q;
+K=r4(b+120);
+L=b[139];
+M=r8(b+8);
+N=r8(b+48);
+if(r8(b+72)>N)O=N;
 else{
-S=make_ready_17a(b+40);
-if(S==0){
-F=0;
-G=0;
-H=0;
+P=make_ready_17a(b+40);
+if(!(P&1)){
+Q=0;
+R=0;
+S=0;
 goto L3;}
-R=r8(b+48);}
-T=rp(b+40)+R*12;
-x4(T,N);
-x4(T+4,P);
+O=r8(b+48);}
+T=rp(b+40)+O*12;
+x4(T,K);
+x4(T+4,M);
 T[8]=0;
-T[9]=O;
+T[9]=L;
 x2(T+10,0);
-w8(b+48,R+1);
+w8(b+48,O+1);
 memcpy(h,b+120,20);
 U=r8(b+8);
 if(r8(b+32)>U)V=U;
 else{
 W=make_ready_8e3(b,1,16);
-if(W==0){
-F=0;
-G=0;
-H=0;
+if(!(W&1)){
+Q=0;
+R=0;
+S=0;
 goto L3;}
 V=r8(b+8);}
 *(rp(b)+V)=60;
 w8(b+8,V+1);
 X=r8(b+176);
 if(X==18446744073709551615u){
-F=0;
-G=0;
-H=0;
+Q=0;
+R=0;
+S=0;
 goto L3;}
 w8(b+176,X+1);
 Y=r8(b+88);
@@ -64986,18 +67065,18 @@ Z=Y;
 aa=h;
 goto L4;}
 ba=make_ready_9a1(b+80);
-if(ba==0){
-F=0;
-G=0;
-H=0;
+if(!(ba&1)){
+Q=0;
+R=0;
+S=0;
 goto L3;}
 ca=h;}
 else{
 z20(g+20);
-if(K!=73){
-F=0;
-G=5;
-H=1;
+if(H!=73){
+Q=0;
+R=5;
+S=1;
 goto L3;}
 da=r4(b+120);
 ea=r8(b+8);
@@ -65005,17 +67084,17 @@ fa=r8(b+48);
 if(r8(b+72)>fa)ga=fa;
 else{
 ha=make_ready_17a(b+40);
-if(ha==0){
-F=0;
-G=0;
-H=0;
+if(!(ha&1)){
+Q=0;
+R=0;
+S=0;
 goto L3;}
 ga=r8(b+48);}
 ia=rp(b+40)+ga*12;
 x4(ia,da);
 x4(ia+4,ea);
 ia[8]=0;
-ia[9]=I;
+ia[9]=F;
 x2(ia+10,0);
 w8(b+48,ga+1);
 memcpy(g,b+120,20);
@@ -65023,19 +67102,19 @@ ja=r8(b+8);
 if(r8(b+32)>ja)ka=ja;
 else{
 la=make_ready_8e3(b,1,16);
-if(la==0){
-F=0;
-G=0;
-H=0;
+if(!(la&1)){
+Q=0;
+R=0;
+S=0;
 goto L3;}
 ka=r8(b+8);}
 *(rp(b)+ka)=60;
 w8(b+8,ka+1);
 ma=r8(b+176);
 if(ma==18446744073709551615u){
-F=0;
-G=0;
-H=0;
+Q=0;
+R=0;
+S=0;
 goto L3;}
 w8(b+176,ma+1);
 na=r8(b+88);
@@ -65044,10 +67123,10 @@ Z=na;
 aa=g;
 goto L4;}
 oa=make_ready_9a1(b+80);
-if(oa==0){
-F=0;
-G=0;
-H=0;
+if(!(oa&1)){
+Q=0;
+R=0;
+S=0;
 goto L3;}
 ca=g;}
 Z=r8(b+88);
@@ -65058,16 +67137,20 @@ pa[1]=0;
 x2(pa+2,0);
 memcpy(pa+4,aa,40);
 w8(b+88,Z+1);
-F=1;
-G=3;
-H=1;}
+Q=1;
+R=3;
+S=1;}
 else{
-F=0;
-G=5;
-H=1;}}
-L3:*o=H;
-o[1]=G;
-o[2]=F;
+Q=0;
+R=5;
+S=1;}}
+else{
+Q=0;
+R=0;
+S=0;}
+L3:*o=S;
+o[1]=R;
+o[2]=Q;
 o[3]=0;
 goto L5;
 L2:w4(o,0);
@@ -65087,7 +67170,7 @@ w8(b+176,r+2);
 sa=r8(b+8);
 if(r8(b+32)-sa<3){
 ta=make_ready_8e3(b,3,128);
-if(ta==0)goto L7;
+if(!(ta&1))goto L7;
 ua=r8(b+8);}
 else ua=sa;
 va=r8(b+16);
@@ -65109,75 +67192,71 @@ wp(b,Aa);
 w8(b+8,za);
 w8(b+16,xa);
 Ca=repeat_28b(b,r4(b+124),r4(b+128));
-if(Ca==0){
-Da=0;
-Ea=0;
-Fa=0;}
-else{
-Ga=b[139];
+if(Ca&1){
+Da=b[139];
 b[136]=0;
 b[137]=0;
 b[138]=0;
-Ha=r8(b+176);
-if(Ha<d){
-Ia=*(c+Ha);
-if(Ia==66){
-Ja=tag_9a7(b,c,d);
-if(Ja==0){
-Da=0;
-Ea=0;
-Fa=0;
+Ea=r8(b+176);
+if(Ea<d){
+Fa=*(c+Ea);
+if(Fa==66){
+Ga=tag_9a7(b,c,d);
+if(!(Ga&1)){
+Oa=0;
+Pa=0;
+Qa=0;
 goto L8;}
 z20(f+20);
-Ka=r8(b+176);
-if(Ka>=d){
-Da=0;
-Ea=5;
-Fa=1;
+Ha=r8(b+176);
+if(Ha>=d){
+Oa=0;
+Pa=5;
+Qa=1;
 goto L8;}
-if(*(c+Ka)!=73){
-Da=0;
-Ea=5;
-Fa=1;
+if(*(c+Ha)!=73){
+Oa=0;
+Pa=5;
+Qa=1;
 goto L8;}
-La=r4(b+120);
-Ma=b[139];
-Na=r8(b+8);
-Oa=r8(b+48);
-if(r8(b+72)>Oa)Pa=Oa;
+Ia=r4(b+120);
+Ja=b[139];
+Ka=r8(b+8);
+La=r8(b+48);
+if(r8(b+72)>La)Ma=La;
 else{
-Qa=make_ready_17a(b+40);
-if(Qa==0){
-Da=0;
-Ea=0;
-Fa=0;
+Na=make_ready_17a(b+40);
+if(!(Na&1)){
+Oa=0;
+Pa=0;
+Qa=0;
 goto L8;}
-Pa=r8(b+48);}
-Ra=rp(b+40)+Pa*12;
-x4(Ra,La);
-x4(Ra+4,Na);
+Ma=r8(b+48);}
+Ra=rp(b+40)+Ma*12;
+x4(Ra,Ia);
+x4(Ra+4,Ka);
 Ra[8]=0;
-Ra[9]=Ma;
+Ra[9]=Ja;
 x2(Ra+10,0);
-w8(b+48,Pa+1);
+w8(b+48,Ma+1);
 memcpy(f,b+120,20);
 Sa=r8(b+8);
 if(r8(b+32)>Sa)Ta=Sa;
 else{
 Ua=make_ready_8e3(b,1,16);
-if(Ua==0){
-Da=0;
-Ea=0;
-Fa=0;
+if(!(Ua&1)){
+Oa=0;
+Pa=0;
+Qa=0;
 goto L8;}
 Ta=r8(b+8);}
 *(rp(b)+Ta)=60;
 w8(b+8,Ta+1);
 Va=r8(b+176);
 if(Va==18446744073709551615u){
-Da=0;
-Ea=0;
-Fa=0;
+Oa=0;
+Pa=0;
+Qa=0;
 goto L8;}
 w8(b+176,Va+1);
 Wa=r8(b+88);
@@ -65186,18 +67265,18 @@ Xa=Wa;
 Ya=f;
 goto L9;}
 Za=make_ready_9a1(b+80);
-if(Za==0){
-Da=0;
-Ea=0;
-Fa=0;
+if(!(Za&1)){
+Oa=0;
+Pa=0;
+Qa=0;
 goto L8;}
 ab=f;}
 else{
 z20(e+20);
-if(Ia!=73){
-Da=0;
-Ea=5;
-Fa=1;
+if(Fa!=73){
+Oa=0;
+Pa=5;
+Qa=1;
 goto L8;}
 bb=r4(b+120);
 cb=r8(b+8);
@@ -65205,17 +67284,17 @@ db=r8(b+48);
 if(r8(b+72)>db)eb=db;
 else{
 fb=make_ready_17a(b+40);
-if(fb==0){
-Da=0;
-Ea=0;
-Fa=0;
+if(!(fb&1)){
+Oa=0;
+Pa=0;
+Qa=0;
 goto L8;}
 eb=r8(b+48);}
 gb=rp(b+40)+eb*12;
 x4(gb,bb);
 x4(gb+4,cb);
 gb[8]=0;
-gb[9]=Ga;
+gb[9]=Da;
 x2(gb+10,0);
 w8(b+48,eb+1);
 memcpy(e,b+120,20);
@@ -65223,19 +67302,19 @@ hb=r8(b+8);
 if(r8(b+32)>hb)ib=hb;
 else{
 jb=make_ready_8e3(b,1,16);
-if(jb==0){
-Da=0;
-Ea=0;
-Fa=0;
+if(!(jb&1)){
+Oa=0;
+Pa=0;
+Qa=0;
 goto L8;}
 ib=r8(b+8);}
 *(rp(b)+ib)=60;
 w8(b+8,ib+1);
 kb=r8(b+176);
 if(kb==18446744073709551615u){
-Da=0;
-Ea=0;
-Fa=0;
+Oa=0;
+Pa=0;
+Qa=0;
 goto L8;}
 w8(b+176,kb+1);
 lb=r8(b+88);
@@ -65244,10 +67323,10 @@ Xa=lb;
 Ya=e;
 goto L9;}
 mb=make_ready_9a1(b+80);
-if(mb==0){
-Da=0;
-Ea=0;
-Fa=0;
+if(!(mb&1)){
+Oa=0;
+Pa=0;
+Qa=0;
 goto L8;}
 ab=e;}
 Xa=r8(b+88);
@@ -65258,16 +67337,20 @@ nb[1]=0;
 x2(nb+2,0);
 memcpy(nb+4,Ya,40);
 w8(b+88,Xa+1);
-Da=1;
-Ea=3;
-Fa=1;}
+Oa=1;
+Pa=3;
+Qa=1;}
 else{
-Da=0;
-Ea=5;
-Fa=1;}}
-L8:*o=Fa;
-o[1]=Ea;
-o[2]=Da;
+Oa=0;
+Pa=5;
+Qa=1;}}
+else{
+Oa=0;
+Pa=0;
+Qa=0;}
+L8:*o=Qa;
+o[1]=Pa;
+o[2]=Oa;
 o[3]=0;
 goto L10;
 L7:w4(o,0);
@@ -65278,7 +67361,7 @@ case 76:w8(b+176,r+1);
 ob=r8(b+8);
 if(r8(b+32)-ob<2){
 pb=make_ready_8e3(b,2,128);
-if(pb==0)goto L11;
+if(!(pb&1))goto L11;
 qb=r8(b+8);}
 else qb=ob;
 *(rp(b)+qb)=58;
@@ -65366,7 +67449,7 @@ L20:cc=Zb.f0;
 dc=Zb.f1;
 if(r8(b+32)-rb<dc){
 ec=make_ready_8e3(b,dc,128);
-if(ec==0)goto L11;
+if(!(ec&1))goto L11;
 fc=r8(b+8);}
 else fc=rb;
 gc=r8(b+16);
@@ -65399,63 +67482,59 @@ if(pc<d){
 qc=*(c+pc);
 if(qc==66){
 rc=tag_9a7(b,c,d);
-if(rc==0){
-sc=0;
-tc=0;
-uc=0;}
-else{
+if(rc&1){
 z40(j);
-vc=r8(b+176);
-if(vc<d){
-if(*(c+vc)==73){
-wc=r4(b+120);
-xc=b[139];
-yc=r8(b+8);
-zc=r8(b+48);
-if(r8(b+72)>zc)Ac=zc;
+sc=r8(b+176);
+if(sc<d){
+if(*(c+sc)==73){
+tc=r4(b+120);
+uc=b[139];
+vc=r8(b+8);
+wc=r8(b+48);
+if(r8(b+72)>wc)xc=wc;
 else{
-Bc=make_ready_17a(b+40);
-if(Bc==0){
-sc=0;
-tc=0;
-uc=0;
+yc=make_ready_17a(b+40);
+if(!(yc&1)){
+zc=0;
+Ac=0;
+Bc=0;
 goto L21;}
-Ac=r8(b+48);}
-Cc=rp(b+40)+Ac*12;
-x4(Cc,wc);
-x4(Cc+4,yc);
+xc=r8(b+48);}
+Cc=rp(b+40)+xc*12;
+x4(Cc,tc);
+x4(Cc+4,vc);
 Cc[8]=0;
-Cc[9]=xc;
+Cc[9]=uc;
 x2(Cc+10,0);
-w8(b+48,Ac+1);
+w8(b+48,xc+1);
 memcpy(j,b+120,20);
 Dc=r8(b+8);
 if(r8(b+32)>Dc)Ec=Dc;
 else{
 Fc=make_ready_8e3(b,1,16);
-if(Fc==0){
-sc=0;
-tc=0;
-uc=0;
+if(!(Fc&1)){
+zc=0;
+Ac=0;
+Bc=0;
 goto L21;}
 Ec=r8(b+8);}
 *(rp(b)+Ec)=60;
 w8(b+8,Ec+1);
 Gc=r8(b+176);
 if(Gc==18446744073709551615u){
-sc=0;
-tc=0;
-uc=0;}
+zc=0;
+Ac=0;
+Bc=0;}
 else{
 w8(b+176,Gc+1);
 Hc=r8(b+88);
 if(r8(b+112)>Hc)Ic=Hc;
 else{
 Jc=make_ready_9a1(b+80);
-if(Jc==0){
-sc=0;
-tc=0;
-uc=0;
+if(!(Jc&1)){
+zc=0;
+Ac=0;
+Bc=0;
 goto L21;}
 Ic=r8(b+88);}
 Kc=rp(b+80)+Ic*44;
@@ -65464,17 +67543,21 @@ Kc[1]=0;
 x2(Kc+2,0);
 memcpy(Kc+4,j,40);
 w8(b+88,Ic+1);
-sc=1;
-tc=3;
-uc=1;}}
+zc=1;
+Ac=3;
+Bc=1;}}
 else{
-sc=0;
-tc=5;
-uc=1;}}
+zc=0;
+Ac=5;
+Bc=1;}}
 else{
-sc=0;
-tc=5;
-uc=1;}}}
+zc=0;
+Ac=5;
+Bc=1;}}
+else{
+zc=0;
+Ac=0;
+Bc=0;}}
 else{
 z40(i);
 if(qc==73){
@@ -65483,10 +67566,10 @@ Mc=r8(b+48);
 if(r8(b+72)>Mc)Nc=Mc;
 else{
 Oc=make_ready_17a(b+40);
-if(Oc==0){
-sc=0;
-tc=0;
-uc=0;
+if(!(Oc&1)){
+zc=0;
+Ac=0;
+Bc=0;
 goto L21;}
 Nc=r8(b+48);}
 Pc=rp(b+40)+Nc*12;
@@ -65501,29 +67584,29 @@ Qc=r8(b+8);
 if(r8(b+32)>Qc)Rc=Qc;
 else{
 Sc=make_ready_8e3(b,1,16);
-if(Sc==0){
-sc=0;
-tc=0;
-uc=0;
+if(!(Sc&1)){
+zc=0;
+Ac=0;
+Bc=0;
 goto L21;}
 Rc=r8(b+8);}
 *(rp(b)+Rc)=60;
 w8(b+8,Rc+1);
 Tc=r8(b+176);
 if(Tc==18446744073709551615u){
-sc=0;
-tc=0;
-uc=0;}
+zc=0;
+Ac=0;
+Bc=0;}
 else{
 w8(b+176,Tc+1);
 Uc=r8(b+88);
 if(r8(b+112)>Uc)Vc=Uc;
 else{
 Wc=make_ready_9a1(b+80);
-if(Wc==0){
-sc=0;
-tc=0;
-uc=0;
+if(!(Wc&1)){
+zc=0;
+Ac=0;
+Bc=0;
 goto L21;}
 Vc=r8(b+88);}
 Xc=rp(b+80)+Vc*44;
@@ -65532,24 +67615,24 @@ Xc[1]=0;
 x2(Xc+2,0);
 memcpy(Xc+4,i,40);
 w8(b+88,Vc+1);
-sc=1;
-tc=3;
-uc=1;}}
+zc=1;
+Ac=3;
+Bc=1;}}
 else{
-sc=0;
-tc=5;
-uc=1;}}}
+zc=0;
+Ac=5;
+Bc=1;}}}
 else{
 z40(i);
-sc=0;
-tc=5;
-uc=1;}
-L21:*o=uc;
-o[1]=tc;
+zc=0;
+Ac=5;
+Bc=1;}
+L21:*o=Bc;
+o[1]=Ac;
 Yc=0;
-Zc=sc;
-ad=tc;
-bd=uc;
+Zc=zc;
+ad=Ac;
+bd=Bc;
 goto L22;}}
 L13:goto L11;
 case 85:begin_component_d5a(o,b,c,d);
@@ -65565,7 +67648,7 @@ goto L22;}
 L23:cd=r8(b+8);
 if(r8(b+32)-cd<2){
 dd=make_ready_8e3(b,2,128);
-if(dd==0)goto L11;
+if(!(dd&1))goto L11;
 ed=r8(b+8);}
 else ed=cd;
 *(rp(b)+ed)=58;
@@ -65653,7 +67736,7 @@ L32:Sd=Pd.f0;
 Td=Pd.f1;
 if(r8(b+32)-fd<Td){
 Ud=make_ready_8e3(b,Td,128);
-if(Ud==0)goto L11;
+if(!(Ud&1))goto L11;
 Vd=r8(b+8);}
 else Vd=fd;
 Wd=r8(b+16);
@@ -65686,63 +67769,59 @@ if(fe<d){
 ge=*(c+fe);
 if(ge==66){
 he=tag_9a7(b,c,d);
-if(he==0){
-ie=0;
-je=0;
-ke=0;}
-else{
+if(he&1){
 z40(m);
-le=r8(b+176);
-if(le<d){
-if(*(c+le)==73){
-me=r4(b+120);
-ne=b[139];
-oe=r8(b+8);
-pe=r8(b+48);
-if(r8(b+72)>pe)qe=pe;
+ie=r8(b+176);
+if(ie<d){
+if(*(c+ie)==73){
+je=r4(b+120);
+ke=b[139];
+le=r8(b+8);
+me=r8(b+48);
+if(r8(b+72)>me)ne=me;
 else{
-re=make_ready_17a(b+40);
-if(re==0){
-ie=0;
-je=0;
-ke=0;
+oe=make_ready_17a(b+40);
+if(!(oe&1)){
+pe=0;
+qe=0;
+re=0;
 goto L33;}
-qe=r8(b+48);}
-se=rp(b+40)+qe*12;
-x4(se,me);
-x4(se+4,oe);
+ne=r8(b+48);}
+se=rp(b+40)+ne*12;
+x4(se,je);
+x4(se+4,le);
 se[8]=0;
-se[9]=ne;
+se[9]=ke;
 x2(se+10,0);
-w8(b+48,qe+1);
+w8(b+48,ne+1);
 memcpy(m,b+120,20);
 te=r8(b+8);
 if(r8(b+32)>te)ue=te;
 else{
 ve=make_ready_8e3(b,1,16);
-if(ve==0){
-ie=0;
-je=0;
-ke=0;
+if(!(ve&1)){
+pe=0;
+qe=0;
+re=0;
 goto L33;}
 ue=r8(b+8);}
 *(rp(b)+ue)=60;
 w8(b+8,ue+1);
 we=r8(b+176);
 if(we==18446744073709551615u){
-ie=0;
-je=0;
-ke=0;}
+pe=0;
+qe=0;
+re=0;}
 else{
 w8(b+176,we+1);
 xe=r8(b+88);
 if(r8(b+112)>xe)ye=xe;
 else{
 ze=make_ready_9a1(b+80);
-if(ze==0){
-ie=0;
-je=0;
-ke=0;
+if(!(ze&1)){
+pe=0;
+qe=0;
+re=0;
 goto L33;}
 ye=r8(b+88);}
 Ae=rp(b+80)+ye*44;
@@ -65751,17 +67830,21 @@ Ae[1]=0;
 x2(Ae+2,0);
 memcpy(Ae+4,m,40);
 w8(b+88,ye+1);
-ie=1;
-je=3;
-ke=1;}}
+pe=1;
+qe=3;
+re=1;}}
 else{
-ie=0;
-je=5;
-ke=1;}}
+pe=0;
+qe=5;
+re=1;}}
 else{
-ie=0;
-je=5;
-ke=1;}}}
+pe=0;
+qe=5;
+re=1;}}
+else{
+pe=0;
+qe=0;
+re=0;}}
 else{
 z40(l);
 if(ge==73){
@@ -65770,10 +67853,10 @@ Ce=r8(b+48);
 if(r8(b+72)>Ce)De=Ce;
 else{
 Ee=make_ready_17a(b+40);
-if(Ee==0){
-ie=0;
-je=0;
-ke=0;
+if(!(Ee&1)){
+pe=0;
+qe=0;
+re=0;
 goto L33;}
 De=r8(b+48);}
 Fe=rp(b+40)+De*12;
@@ -65788,29 +67871,29 @@ Ge=r8(b+8);
 if(r8(b+32)>Ge)He=Ge;
 else{
 Ie=make_ready_8e3(b,1,16);
-if(Ie==0){
-ie=0;
-je=0;
-ke=0;
+if(!(Ie&1)){
+pe=0;
+qe=0;
+re=0;
 goto L33;}
 He=r8(b+8);}
 *(rp(b)+He)=60;
 w8(b+8,He+1);
 Je=r8(b+176);
 if(Je==18446744073709551615u){
-ie=0;
-je=0;
-ke=0;}
+pe=0;
+qe=0;
+re=0;}
 else{
 w8(b+176,Je+1);
 Ke=r8(b+88);
 if(r8(b+112)>Ke)Le=Ke;
 else{
 Me=make_ready_9a1(b+80);
-if(Me==0){
-ie=0;
-je=0;
-ke=0;
+if(!(Me&1)){
+pe=0;
+qe=0;
+re=0;
 goto L33;}
 Le=r8(b+88);}
 Ne=rp(b+80)+Le*44;
@@ -65819,24 +67902,24 @@ Ne[1]=0;
 x2(Ne+2,0);
 memcpy(Ne+4,l,40);
 w8(b+88,Le+1);
-ie=1;
-je=3;
-ke=1;}}
+pe=1;
+qe=3;
+re=1;}}
 else{
-ie=0;
-je=5;
-ke=1;}}}
+pe=0;
+qe=5;
+re=1;}}}
 else{
 z40(l);
-ie=0;
-je=5;
-ke=1;}
-L33:*o=ke;
-o[1]=je;
+pe=0;
+qe=5;
+re=1;}
+L33:*o=re;
+o[1]=qe;
 Yc=0;
-Zc=ie;
-ad=je;
-bd=ke;
+Zc=pe;
+ad=qe;
+bd=re;
 goto L22;}}
 L25:L11:goto L34;
 L22:if(bd==1){
@@ -65863,7 +67946,7 @@ Se=r8(b+48);
 if(r8(b+72)>Se)Te=Se;
 else{
 Ue=make_ready_17a(b+40);
-if(Ue==0){
+if(!(Ue&1)){
 x4(a,0);
 goto L35;}
 Te=r8(b+48);}
@@ -65892,17 +67975,17 @@ static void operator_b47(u8* a,u8* b,u8* c,u64 d)
 {
 u8 f[32];
 A16 u8 e[4],g[40],h[40];
-u64 i,k,l,p,v,z,A,D,E,G,H,I,M,N,Q,R,T,U,V,Y;
-u8 j,o,q,r,s,t,u,x,B,F,J,O,S,W,Z,aa,ba,ca,da;
+u64 i,k,l,p,s,w,x,D,E,G,H,I,M,N,Q,R,T,U,V,Y;
+u8 j,o,q,r,u,y,z,A,B,F,J,O,S,W,Z,aa,ba,ca,da;
 s_8_8 m;
-u32 n,w,y,L;
+u32 n,t,v,L;
 u8 *C,*K,*P,*X;
 if(b[139]&1)x4(a,0);
 else{
 i=r8(b+8);
 if(r8(b+32)-i<2){
 j=make_ready_8e3(b,2,128);
-if(j==0){
+if(!(j&1)){
 x4(a,0);
 goto L1;}
 k=r8(b+8);}
@@ -65926,63 +68009,59 @@ if(p<d){
 q=*(c+p);
 if(q==66){
 r=tag_9a7(b,c,d);
-if(r==0){
-s=0;
-t=0;
-u=0;}
-else{
+if(r&1){
 z20(h+20);
-v=r8(b+176);
-if(v<d){
-if(*(c+v)==73){
-w=r4(b+120);
-x=b[139];
-y=r8(b+8);
-z=r8(b+48);
-if(r8(b+72)>z)A=z;
+s=r8(b+176);
+if(s<d){
+if(*(c+s)==73){
+t=r4(b+120);
+u=b[139];
+v=r8(b+8);
+w=r8(b+48);
+if(r8(b+72)>w)x=w;
 else{
-B=make_ready_17a(b+40);
-if(B==0){
-s=0;
-t=0;
-u=0;
+y=make_ready_17a(b+40);
+if(!(y&1)){
+z=0;
+A=0;
+B=0;
 goto L2;}
-A=r8(b+48);}
-C=rp(b+40)+A*12;
-x4(C,w);
-x4(C+4,y);
+x=r8(b+48);}
+C=rp(b+40)+x*12;
+x4(C,t);
+x4(C+4,v);
 C[8]=0;
-C[9]=x;
+C[9]=u;
 x2(C+10,0);
-w8(b+48,A+1);
+w8(b+48,x+1);
 memcpy(h,b+120,20);
 D=r8(b+8);
 if(r8(b+32)>D)E=D;
 else{
 F=make_ready_8e3(b,1,16);
-if(F==0){
-s=0;
-t=0;
-u=0;
+if(!(F&1)){
+z=0;
+A=0;
+B=0;
 goto L2;}
 E=r8(b+8);}
 *(rp(b)+E)=60;
 w8(b+8,E+1);
 G=r8(b+176);
 if(G==18446744073709551615u){
-s=0;
-t=0;
-u=0;}
+z=0;
+A=0;
+B=0;}
 else{
 w8(b+176,G+1);
 H=r8(b+88);
 if(r8(b+112)>H)I=H;
 else{
 J=make_ready_9a1(b+80);
-if(J==0){
-s=0;
-t=0;
-u=0;
+if(!(J&1)){
+z=0;
+A=0;
+B=0;
 goto L2;}
 I=r8(b+88);}
 K=rp(b+80)+I*44;
@@ -65991,17 +68070,21 @@ K[1]=0;
 x2(K+2,0);
 memcpy(K+4,h,40);
 w8(b+88,I+1);
-s=1;
-t=3;
-u=1;}}
+z=1;
+A=3;
+B=1;}}
 else{
-s=0;
-t=5;
-u=1;}}
+z=0;
+A=5;
+B=1;}}
 else{
-s=0;
-t=5;
-u=1;}}}
+z=0;
+A=5;
+B=1;}}
+else{
+z=0;
+A=0;
+B=0;}}
 else{
 z20(g+20);
 if(q==73){
@@ -66010,10 +68093,10 @@ M=r8(b+48);
 if(r8(b+72)>M)N=M;
 else{
 O=make_ready_17a(b+40);
-if(O==0){
-s=0;
-t=0;
-u=0;
+if(!(O&1)){
+z=0;
+A=0;
+B=0;
 goto L2;}
 N=r8(b+48);}
 P=rp(b+40)+N*12;
@@ -66028,29 +68111,29 @@ Q=r8(b+8);
 if(r8(b+32)>Q)R=Q;
 else{
 S=make_ready_8e3(b,1,16);
-if(S==0){
-s=0;
-t=0;
-u=0;
+if(!(S&1)){
+z=0;
+A=0;
+B=0;
 goto L2;}
 R=r8(b+8);}
 *(rp(b)+R)=60;
 w8(b+8,R+1);
 T=r8(b+176);
 if(T==18446744073709551615u){
-s=0;
-t=0;
-u=0;}
+z=0;
+A=0;
+B=0;}
 else{
 w8(b+176,T+1);
 U=r8(b+88);
 if(r8(b+112)>U)V=U;
 else{
 W=make_ready_9a1(b+80);
-if(W==0){
-s=0;
-t=0;
-u=0;
+if(!(W&1)){
+z=0;
+A=0;
+B=0;
 goto L2;}
 V=r8(b+88);}
 X=rp(b+80)+V*44;
@@ -66059,20 +68142,20 @@ X[1]=0;
 x2(X+2,0);
 memcpy(X+4,g,40);
 w8(b+88,V+1);
-s=1;
-t=3;
-u=1;}}
+z=1;
+A=3;
+B=1;}}
 else{
-s=0;
-t=5;
-u=1;}}}
+z=0;
+A=5;
+B=1;}}}
 else{
-s=0;
-t=5;
-u=1;}
-L2:*a=u;
-a[1]=t;
-a[2]=s;
+z=0;
+A=5;
+B=1;}
+L2:*a=B;
+a[1]=A;
+a[2]=z;
 a[3]=0;}
 else{
 w4(e,0);
@@ -66124,7 +68207,7 @@ if(c[4]==78){
 g=r8(b+8);
 if(r8(b+32)-g<19){
 h=make_ready_8e3(b,19,128);
-if(h==0)goto L1;
+if(!(h&1))goto L1;
 i=r8(b+8);}
 else i=g;
 j=r8(b+16);
@@ -66198,13 +68281,14 @@ L2:return;
 /* cpp_direct::direct::Direct::nest_at */
 static void nest_at_b4c(u8* a,u8* b,u8* c,u64 d,u8* e)
 {
-A16 u8 f[44],g[40],h[40],i[24],j[40],k[40],l[16],m[24];
-u64 n,s,u,z,A,C,D,E,H,K,M,N,O,P,Q,R,U,aa,ca,da,fa,ga,ha,la,oa,sa,ta,wa,xa,za,Aa,Ba,Ea,Fa,Ia,Ja,La,Ma,Na,Ta,Wa,Xa,Za,ab,bb,eb,gb,ib,jb,kb,rb,sb,tb,xb,yb,Ab,Bb,Cb,Eb,Fb,Gb,Jb,Lb,Nb,Ob,Pb,Qb,Rb,Sb,Vb,Xb,Zb,bc,cc,ec,gc,hc,jc,lc,mc,oc,tc,vc,wc,yc,zc,Ac;
-u8 o,p,r,v,w,x,y,B,I,L,S,V,ba,ea,ma,na,qa,ua,ya,Ca,Ga,Ka,Oa,Qa,Ra,Sa,Va,Ya,hb,lb,pb,vb,wb,zb,Db,Hb,Mb,Tb,Wb,Yb,ac,dc,fc,ic,kc,nc,uc,xc;
+u8 f[34];
+A16 u8 g[40],h[40],i[24],j[40],k[40],l[16],m[24];
+u64 n,s,u,w,A,C,D,E,H,K,M,N,O,P,Q,R,U,aa,ca,da,fa,ga,ha,la,oa,sa,ta,wa,xa,za,Aa,Ba,Ea,Fa,Ia,Ja,La,Ma,Na,Ta,Wa,Xa,Za,ab,bb,eb,gb,ib,jb,kb,rb,sb,tb,vb,wb,xb,Ab,Cb,Eb,Fb,Gb,Hb,Ib,Jb,Mb,Ob,Qb,Sb,Tb,Vb,Xb,Yb,ac,cc,dc,fc,kc,mc,nc,pc,qc,rc;
+u8 o,p,r,v,x,y,z,B,I,L,S,V,ba,ea,ma,na,qa,ua,ya,Ca,Ga,Ka,Oa,Qa,Ra,Sa,Va,Ya,hb,lb,pb,qb,ub,yb,Db,Kb,Nb,Pb,Rb,Ub,Wb,Zb,bc,ec,lc,oc;
 u16 q;
-u32 t,J,ka,pa,ra,nb,ob,Kb;
-u8 *F,*G,*T,*Z,*ia,*ja,*va,*Da,*Ha,*Pa,*Ua,*cb,*db,*fb,*mb,*qb,*ub,*Ib,*Ub,*sc,*Bc,*Cc;
-s_p_64 W,X,Y,pc,qc,rc;
+u32 t,J,ka,pa,ra,nb,ob,Bb;
+u8 *F,*G,*T,*Z,*ia,*ja,*va,*Da,*Ha,*Pa,*Ua,*cb,*db,*fb,*mb,*zb,*Lb,*jc,*sc,*tc;
+s_p_64 W,X,Y,gc,hc,ic;
 n=r8(b+176);
 if(n<d){
 o=*e;
@@ -66222,26 +68306,26 @@ switch(*(c+u)){
 case 116:w8(b+176,n+2);
 if(r8(b+32)-s<5){
 v=make_ready_8e3(b,5,128);
-if(v==0){
-w=0;
+if(!(v&1)){
 x=0;
 y=0;
+z=0;
 goto L1;}
-z=r8(b+8);}
-else z=s;
+w=r8(b+8);}
+else w=s;
 A=r8(b+16);
-if(A-z<5){
+if(A-w<5){
 B=grow_amortized_e1a(b,5);
 if(!B){
-w=0;
 x=0;
 y=0;
+z=0;
 goto L1;}
 C=r8(b+16);
 D=r8(b+8);}
 else{
 C=A;
-D=z;}
+D=w;}
 E=D+5;
 F=rp(b);
 z16(b+8);
@@ -66269,9 +68353,9 @@ if(*i==1){
 N=r8(i+8);
 O=r8(i+16);
 goto L2;}
-w=0;
 x=0;
 y=0;
+z=0;
 goto L1;}}
 P=(u64)L+(u8)((u8)(I*10)+32);
 if(d-M<P)goto L3;
@@ -66302,10 +68386,10 @@ L5:Z=W.f0;
 aa=W.f1;
 if(r8(b+32)-E<aa){
 ba=make_ready_8e3(b,aa,128);
-if(ba==0){
-w=0;
+if(!(ba&1)){
 x=0;
 y=0;
+z=0;
 goto L1;}
 ca=r8(b+8);
 da=r8(b+16);}
@@ -66315,9 +68399,9 @@ da=C;}
 if(aa>da-ca){
 ea=grow_amortized_e1a(b,aa);
 if(!ea){
-w=0;
 x=0;
 y=0;
+z=0;
 goto L1;}
 fa=r8(b+16);
 ga=r8(b+8);}
@@ -66346,26 +68430,26 @@ b[138]=0;
 b[139]=0;
 la=r8(b+176);
 if(la>=d){
-w=0;
-x=5;
-y=1;
+x=0;
+y=5;
+z=1;
 goto L1;}
 ma=*(c+la);
 if(ma!=66){
 z20(g+20);
 if(ma!=73){
-w=0;
-x=5;
-y=1;
+x=0;
+y=5;
+z=1;
 goto L1;}
 Ea=r8(b+48);
 if(r8(b+72)>Ea)Fa=Ea;
 else{
 Ga=make_ready_17a(b+40);
-if(Ga==0){
-w=0;
+if(!(Ga&1)){
 x=0;
 y=0;
+z=0;
 goto L1;}
 Fa=r8(b+48);}
 Ha=rp(b+40)+Fa*12;
@@ -66380,29 +68464,29 @@ Ia=r8(b+8);
 if(r8(b+32)>Ia)Ja=Ia;
 else{
 Ka=make_ready_8e3(b,1,16);
-if(Ka==0){
-w=0;
+if(!(Ka&1)){
 x=0;
 y=0;
+z=0;
 goto L1;}
 Ja=r8(b+8);}
 *(rp(b)+Ja)=1;
 w8(b+8,Ja+1);
 La=r8(b+176);
 if(La==18446744073709551615u){
-w=0;
 x=0;
 y=0;
+z=0;
 goto L1;}
 w8(b+176,La+1);
 Ma=r8(b+88);
 if(r8(b+112)>Ma)Na=Ma;
 else{
 Oa=make_ready_9a1(b+80);
-if(Oa==0){
-w=0;
+if(!(Oa&1)){
 x=0;
 y=0;
+z=0;
 goto L1;}
 Na=r8(b+88);}
 Pa=rp(b+80)+Na*44;
@@ -66411,27 +68495,27 @@ Pa[1]=0;
 x2(Pa+2,0);
 memcpy(Pa+4,g,40);
 w8(b+88,Na+1);
-w=1;
-x=3;
-y=1;
+x=1;
+y=3;
+z=1;
 goto L1;}
 na=tag_9a7(b,c,d);
-if(na==0){
-w=0;
+if(!(na&1)){
 x=0;
 y=0;
+z=0;
 goto L1;}
 z20(h+20);
 oa=r8(b+176);
 if(oa>=d){
-w=0;
-x=5;
-y=1;
+x=0;
+y=5;
+z=1;
 goto L1;}
 if(*(c+oa)!=73){
-w=0;
-x=5;
-y=1;
+x=0;
+y=5;
+z=1;
 goto L1;}
 pa=r4(b+120);
 qa=b[139];
@@ -66440,10 +68524,10 @@ sa=r8(b+48);
 if(r8(b+72)>sa)ta=sa;
 else{
 ua=make_ready_17a(b+40);
-if(ua==0){
-w=0;
+if(!(ua&1)){
 x=0;
 y=0;
+z=0;
 goto L1;}
 ta=r8(b+48);}
 va=rp(b+40)+ta*12;
@@ -66458,29 +68542,29 @@ wa=r8(b+8);
 if(r8(b+32)>wa)xa=wa;
 else{
 ya=make_ready_8e3(b,1,16);
-if(ya==0){
-w=0;
+if(!(ya&1)){
 x=0;
 y=0;
+z=0;
 goto L1;}
 xa=r8(b+8);}
 *(rp(b)+xa)=1;
 w8(b+8,xa+1);
 za=r8(b+176);
 if(za==18446744073709551615u){
-w=0;
 x=0;
 y=0;
+z=0;
 goto L1;}
 w8(b+176,za+1);
 Aa=r8(b+88);
 if(r8(b+112)>Aa)Ba=Aa;
 else{
 Ca=make_ready_9a1(b+80);
-if(Ca==0){
-w=0;
+if(!(Ca&1)){
 x=0;
 y=0;
+z=0;
 goto L1;}
 Ba=r8(b+88);}
 Da=rp(b+80)+Ba*44;
@@ -66489,16 +68573,16 @@ Da[1]=0;
 x2(Da+2,0);
 memcpy(Da+4,h,40);
 w8(b+88,Ba+1);
-w=1;
-x=3;
-y=1;
+x=1;
+y=3;
+z=1;
 goto L1;}}
-L3:w=0;
-x=0;
+L3:x=0;
 y=0;
-L1:Qa=w;
-Ra=x;
-Sa=y;
+z=0;
+L1:Qa=x;
+Ra=y;
+Sa=z;
 goto L6;
 case 97:Ta=14;
 Ua=(u8*)t_5ec9;
@@ -66523,7 +68607,7 @@ default:goto L7;
 w8(b+176,n+2);
 if(r8(b+32)-s<Ta){
 Va=make_ready_8e3(b,Ta,128);
-if(Va==0){
+if(!(Va&1)){
 Qa=0;
 Ra=0;
 Sa=0;
@@ -66590,7 +68674,7 @@ fb=cb;
 gb=bb;}
 else{
 hb=make_ready_8e3(b,1,16);
-if(hb==0){
+if(!(hb&1)){
 Qa=0;
 Ra=0;
 Sa=0;
@@ -66610,7 +68694,7 @@ jb=r8(b+88);
 if(r8(b+112)>jb)kb=jb;
 else{
 lb=make_ready_9a1(b+80);
-if(lb==0){
+if(!(lb&1)){
 Qa=0;
 Ra=0;
 Sa=0;
@@ -66637,56 +68721,20 @@ nb=r4(l+4);
 ob=r4(l+8);
 pb=l[13];
 if(pb&1){
+z34(f);
 if(o!=0){
 Qa=0;
 Ra=0;
 Sa=0;
 goto L6;}
-qb=rp(b+80);
-rb=16;
-sb=r8(b+88);
-L8:if(sb!=0){
-tb=sb-1;
-ub=qb+(i64)(tb*44);
-vb=*ub;
-wb=ub[16];
-switch(vb){
-case 0:case 1:case 2:case 3:case 4:case 8:break;
-case 5:if(wb!=0)goto L9;
-break;
-case 6:if(wb!=0)goto L9;
-break;
-case 7:case 9:case 10:case 11:case 12:case 13:case 14:case 15:case 16:case 17:case 18:case 19:case 20:case 21:case 22:case 23:case 24:case 25:memcpy(f+4,ub+4,40);
-switch(vb){
-case 9:case 10:case 15:case 16:xb=4;
-break;
-case 11:case 13:xb=8;
-break;
-case 25:case 24:case 23:case 22:case 21:case 20:case 19:case 7:case 8:case 12:case 14:case 17:case 18:goto L9;
-default:NEVER;
-}
-if(r2(f+4+xb)!=0)goto L10;
+argument_dbb(f,b);
+if(!(*f==1&&r2(f+2)!=0)){
 Qa=0;
 Ra=0;
 Sa=0;
-goto L6;
-default:NEVER;
-}
-yb=rb-1;
-if(yb!=0){
-rb=yb;
-sb=tb;
-goto L8;}}
-L9:Qa=0;
-Ra=0;
-Sa=0;
-goto L6;}
-L10:zb=repeat_28b(b,nb,ob);
-if(zb==0){
-Qa=0;
-Ra=0;
-Sa=0;}
-else{
+goto L6;}}
+qb=repeat_28b(b,nb,ob);
+if(qb&1){
 x4(b+120,t);
 x4(b+124,t);
 x4(b+128,t);
@@ -66699,45 +68747,45 @@ b[138]=0;
 b[139]=pb&1;
 z20(k+20);
 if(o==0){
-Ab=r8(b+176);
-if(Ab<d){
-if(*(c+Ab)==73){
+rb=r8(b+176);
+if(rb<d){
+if(*(c+rb)==73){
 memcpy(k,b+120,20);
-Bb=r8(b+8);
-if(r8(b+32)>Bb)Cb=Bb;
+sb=r8(b+8);
+if(r8(b+32)>sb)tb=sb;
 else{
-Db=make_ready_8e3(b,1,16);
-if(Db==0){
+ub=make_ready_8e3(b,1,16);
+if(!(ub&1)){
 Qa=0;
 Ra=0;
 Sa=0;
 goto L6;}
-Cb=r8(b+8);}
-*(rp(b)+Cb)=1;
-w8(b+8,Cb+1);
-Eb=r8(b+176);
-if(Eb==18446744073709551615u){
+tb=r8(b+8);}
+*(rp(b)+tb)=1;
+w8(b+8,tb+1);
+vb=r8(b+176);
+if(vb==18446744073709551615u){
 Qa=0;
 Ra=0;
 Sa=0;}
 else{
-w8(b+176,Eb+1);
-Fb=r8(b+88);
-if(r8(b+112)>Fb)Gb=Fb;
+w8(b+176,vb+1);
+wb=r8(b+88);
+if(r8(b+112)>wb)xb=wb;
 else{
-Hb=make_ready_9a1(b+80);
-if(Hb==0){
+yb=make_ready_9a1(b+80);
+if(!(yb&1)){
 Qa=0;
 Ra=0;
 Sa=0;
 goto L6;}
-Gb=r8(b+88);}
-Ib=rp(b+80)+Gb*44;
-*Ib=5;
-Ib[1]=0;
-x2(Ib+2,0);
-memcpy(Ib+4,k,40);
-w8(b+88,Gb+1);
+xb=r8(b+88);}
+zb=rp(b+80)+xb*44;
+*zb=5;
+zb[1]=0;
+x2(zb+2,0);
+memcpy(zb+4,k,40);
+w8(b+88,xb+1);
 Qa=1;
 Ra=3;
 Sa=1;}}
@@ -66752,7 +68800,11 @@ Sa=1;}}
 else{
 Qa=0;
 Ra=4;
-Sa=1;}}}}
+Sa=1;}}
+else{
+Qa=0;
+Ra=0;
+Sa=0;}}}
 else{
 Qa=0;
 Ra=0;
@@ -66761,110 +68813,110 @@ L6:*a=Sa;
 a[1]=Ra;
 a[2]=Qa;
 a[3]=0;
-goto L11;}
-Jb=r8(b+8);
+goto L8;}
+Ab=r8(b+8);
 z24(m);
 if((u8)(r-58)>=247){
-Kb=Jb;
-Lb=n+1;
-if(Lb<d){
-Mb=*(c+Lb)-48;
-if(Mb<10){
-Nb=n+2;
-if(Nb<d){
-if((u8)(*(c+Nb)-48)<10){
+Bb=Ab;
+Cb=n+1;
+if(Cb<d){
+Db=*(c+Cb)-48;
+if(Db<10){
+Eb=n+2;
+if(Eb<d){
+if((u8)(*(c+Eb)-48)<10){
 long_name_at_8ad(m,c,d,n);
-if(*m!=1)goto L12;
-Ob=r8(m+16);
-Pb=r8(m+8);
-goto L13;}}
-Qb=(u64)Mb+(u8)((u8)(r*10)+32);
-if(d-Nb<Qb)goto L14;
-if((u8)(*(c+(i64)Nb)-48)<10)goto L14;
-Rb=Nb;
-Sb=Qb+Nb;
-goto L15;}}
-Tb=r-48;
-if(d-Lb<Tb)goto L14;
-if((u8)(*(c+(i64)Lb)-48)<10)goto L14;
-Rb=Lb;
-Sb=Lb+Tb;
-L15:Ob=Sb;
-Pb=Rb;
-L13:w8(b+176,Ob);
-Ub=c+(i64)Pb;
-Vb=Ob-Pb;
-if(Ob!=Pb){
-if(Vb<10||*Ub!=95)goto L16;
+if(*m!=1)goto L9;
+Fb=r8(m+16);
+Gb=r8(m+8);
+goto L10;}}
+Hb=(u64)Db+(u8)((u8)(r*10)+32);
+if(d-Eb<Hb)goto L11;
+if((u8)(*(c+(i64)Eb)-48)<10)goto L11;
+Ib=Eb;
+Jb=Hb+Eb;
+goto L12;}}
+Kb=r-48;
+if(d-Cb<Kb)goto L11;
+if((u8)(*(c+(i64)Cb)-48)<10)goto L11;
+Ib=Cb;
+Jb=Cb+Kb;
+L12:Fb=Jb;
+Gb=Ib;
+L10:w8(b+176,Fb);
+Lb=c+(i64)Gb;
+Mb=Fb-Gb;
+if(Fb!=Gb){
+if(Mb<10||*Lb!=95)goto L13;
+Nb=0;
+Ob=0;
+L14:Pb=Nb||*((u8*)t_35ad+(i64)Ob)!=*(Lb+(i64)Ob);
+Qb=Ob+1;
+if(Qb!=8){
+Nb=Pb;
+Ob=Qb;
+goto L14;}
+Rb=0;
+Sb=0;
+L15:Tb=Sb+2;
+Ub=Rb||*((u8*)t_35ad+(i64)Tb)!=*(Lb+(i64)Tb);
+Vb=Sb+1;
+if(Vb!=8){
+Rb=Ub;
+Sb=Vb;
+goto L15;}
 Wb=0;
 Xb=0;
-L17:Yb=Wb||*((u8*)t_35ad+(i64)Xb)!=*(Ub+(i64)Xb);
-Zb=Xb+1;
-if(Zb!=8){
-Wb=Yb;
-Xb=Zb;
-goto L17;}
-ac=0;
+L16:Yb=Xb+2;
+Zb=Wb||*((u8*)t_35ad+(i64)Yb)!=*(Lb+(i64)Yb);
+ac=Xb+1;
+if(ac!=8){
+Wb=Zb;
+Xb=ac;
+goto L16;}
 bc=0;
-L18:cc=bc+2;
-dc=ac||*((u8*)t_35ad+(i64)cc)!=*(Ub+(i64)cc);
-ec=bc+1;
-if(ec!=8){
-ac=dc;
+cc=0;
+L17:dc=cc+2;
+ec=bc||*((u8*)t_35ad+(i64)dc)!=*(Lb+(i64)dc);
+fc=cc+1;
+if(fc!=8){
 bc=ec;
-goto L18;}
-fc=0;
-gc=0;
-L19:hc=gc+2;
-ic=fc||*((u8*)t_35ad+(i64)hc)!=*(Ub+(i64)hc);
-jc=gc+1;
-if(jc!=8){
-fc=ic;
-gc=jc;
-goto L19;}
-kc=0;
-lc=0;
-L20:mc=lc+2;
-nc=kc||*((u8*)t_35ad+(i64)mc)!=*(Ub+(i64)mc);
-oc=lc+1;
-if(oc!=8){
-kc=nc;
-lc=oc;
-goto L20;}
-if(!(((Yb|dc)|ic)|nc)){
-pc=(s_p_64){(u8*)t_62ff,21};
-goto L21;}}
-L16:qc=(s_p_64){0};qc.f0=Ub;
-rc=qc;rc.f1=Vb;
-pc=rc;
-L21:sc=pc.f0;
-tc=pc.f1;
-if(r8(b+32)-Jb<tc){
-uc=make_ready_8e3(b,tc,128);
-if(uc==0)goto L12;
-vc=r8(b+8);}
-else vc=Jb;
-wc=r8(b+16);
-if(tc>wc-vc){
-xc=grow_amortized_e1a(b,tc);
-if(!xc)goto L12;
-yc=r8(b+16);
-zc=r8(b+8);}
+cc=fc;
+goto L17;}
+if(!(((Pb|Ub)|Zb)|ec)){
+gc=(s_p_64){(u8*)t_62ff,21};
+goto L18;}}
+L13:hc=(s_p_64){0};hc.f0=Lb;
+ic=hc;ic.f1=Mb;
+gc=ic;
+L18:jc=gc.f0;
+kc=gc.f1;
+if(r8(b+32)-Ab<kc){
+lc=make_ready_8e3(b,kc,128);
+if(!(lc&1))goto L9;
+mc=r8(b+8);}
+else mc=Ab;
+nc=r8(b+16);
+if(kc>nc-mc){
+oc=grow_amortized_e1a(b,kc);
+if(!oc)goto L9;
+pc=r8(b+16);
+qc=r8(b+8);}
 else{
-yc=wc;
-zc=vc;}
-Ac=zc+tc;
-Bc=rp(b);
+pc=nc;
+qc=mc;}
+rc=qc+kc;
+sc=rp(b);
 z16(b+8);
-Cc=Bc+(i64)zc;
-if((u64)Cc-(u64)sc<tc)copy_bits_4f4(sc,Cc,tc);
-else memmove(Cc,sc,tc);
-wp(b,Bc);
-w8(b+8,Ac);
-w8(b+16,yc);
-w4(b+120,Kb);
-w4(b+124,Kb);
-w4(b+128,Ac);
+tc=sc+(i64)qc;
+if((u64)tc-(u64)jc<kc)copy_bits_4f4(jc,tc,kc);
+else memmove(tc,jc,kc);
+wp(b,sc);
+w8(b+8,rc);
+w8(b+16,pc);
+w4(b+120,Bb);
+w4(b+124,Bb);
+w4(b+128,rc);
 b[132]=o;
 b[133]=p;
 w2(b+134,q);
@@ -66876,9 +68928,9 @@ b[139]=0;
 a[1]=4;
 a[2]=0;
 a[3]=0;
-goto L11;}}
-L14:L12:x4(a,0);
-L11:return;
+goto L8;}}
+L11:L9:x4(a,0);
+L8:return;
 }
 
 /* cpp_direct::direct::Direct::begin_clone */
@@ -66903,7 +68955,7 @@ default:goto L1;
 h=r8(b+8);
 if(r8(b+32)-h<g){
 i=make_ready_8e3(b,g,128);
-if(i==0)goto L2;
+if(!(i&1))goto L2;
 j=r8(b+8);}
 else j=h;
 k=r8(b+16);
@@ -67035,7 +69087,7 @@ j=h;
 w8(b+176,g+2);
 if(r8(b+32)-h<5){
 k=make_ready_8e3(b,5,128);
-if(k==0)goto L1;
+if(!(k&1))goto L1;
 l=r8(b+8);}
 else l=h;
 m=r8(b+16);
@@ -67113,9 +69165,9 @@ L7:L=I.f0;
 M=I.f1;
 if(r8(b+32)-q<M){
 N=make_ready_8e3(b,M,128);
-if(N==0)goto L3;}
+if(!(N&1))goto L3;}
 O=push_str_b7e(b,L,M);
-if(O!=0)goto L3;
+if(O&1)goto L3;
 unscoped_named_e23(f,b,c,d,j,1);
 *a=*f;
 a[1]=f[1];
@@ -67143,7 +69195,7 @@ if(k<d){
 l=*(c+k);
 if(l==66){
 m=tag_9a7(b,c,d);
-if(m==0){
+if(!(m&1)){
 x4(a,0);
 goto L1;}
 n=r8(b+176);
@@ -67160,7 +69212,7 @@ p=r8(b+48);
 if(r8(b+72)>p)q=p;
 else{
 r=make_ready_17a(b+40);
-if(r==0){
+if(!(r&1)){
 s=0;
 t=0;
 u=0;
@@ -67178,7 +69230,7 @@ x=r8(b+8);
 if(r8(b+32)>x)y=x;
 else{
 z=make_ready_8e3(b,1,16);
-if(z==0){
+if(!(z&1)){
 s=0;
 t=0;
 u=0;
@@ -67199,7 +69251,7 @@ B=r8(b+88);
 if(r8(b+112)>B)C=B;
 else{
 D=make_ready_9a1(b+80);
-if(D==0){
+if(!(D&1)){
 s=0;
 t=0;
 u=0;
@@ -67241,7 +69293,7 @@ G=r8(b+48);
 if(r8(b+72)>G)H=G;
 else{
 I=make_ready_17a(b+40);
-if(I==0){
+if(!(I&1)){
 J=0;
 K=0;
 L=0;
@@ -67259,7 +69311,7 @@ O=r8(b+8);
 if(r8(b+32)>O)P=O;
 else{
 Q=make_ready_8e3(b,1,16);
-if(Q==0){
+if(!(Q&1)){
 J=0;
 K=0;
 L=0;
@@ -67280,7 +69332,7 @@ S=r8(b+88);
 if(r8(b+112)>S)T=S;
 else{
 U=make_ready_9a1(b+80);
-if(U==0){
+if(!(U&1)){
 J=0;
 K=0;
 L=0;
@@ -67431,7 +69483,7 @@ L10:R=O.f0;
 S=O.f1;
 if(r8(b+32)-g<S){
 T=make_ready_8e3(b,S,128);
-if(T==0)goto L1;
+if(!(T&1))goto L1;
 U=r8(b+8);}
 else U=g;
 V=r8(b+16);
@@ -67505,7 +69557,7 @@ L3:w8(b+176,j+1);
 o=r8(b+8);
 if(r8(b+32)-o<21){
 p=make_ready_8e3(b,21,128);
-if(p==0)goto L5;
+if(!(p&1))goto L5;
 q=r8(b+8);}
 else q=o;
 r=r8(b+16);
@@ -67624,7 +69676,7 @@ L8:w8(b+176,u+1);
 z=r8(b+8);
 if(r8(b+32)-z<17){
 A=make_ready_8e3(b,17,128);
-if(A==0)goto L12;
+if(!(A&1))goto L12;
 B=r8(b+8);}
 else B=z;
 C=r8(b+16);
@@ -67695,7 +69747,7 @@ n=r8(b+88);
 if(r8(b+112)>n)o=n;
 else{
 p=make_ready_9a1(b+80);
-if(p==0){
+if(!(p&1)){
 q=0;
 goto L2;}
 o=r8(b+88);}
@@ -67731,7 +69783,7 @@ t=r8(b+88);
 if(r8(b+112)>t)u=t;
 else{
 v=make_ready_9a1(b+80);
-if(v==0){
+if(!(v&1)){
 w4(h,0);
 goto L3;}
 u=r8(b+88);}
@@ -67762,7 +69814,7 @@ x=r8(b+88);
 if(r8(b+112)>x)y=x;
 else{
 z=make_ready_9a1(b+80);
-if(z==0){
+if(!(z&1)){
 w4(h,0);
 goto L3;}
 y=r8(b+88);}
@@ -67792,9 +69844,9 @@ D=rp((u8*)t_e7e8+(u64)B*8);
 w8(b+176,i+1);
 if(r8(b+32)-j<C){
 E=make_ready_8e3(b,C,128);
-if(E==0)goto L5;}
+if(!(E&1))goto L5;}
 F=push_str_b7e(b,D,C);
-if(F==0){
+if(!(F&1)){
 *h=1;
 h[1]=2;
 h[2]=0;
@@ -67844,7 +69896,7 @@ switch(*(c+o)){
 case 116:w8(b+176,k+2);
 if(r8(b+32)-l<5){
 p=make_ready_8e3(b,5,128);
-if(p==0)goto L1;
+if(!(p&1))goto L1;
 q=r8(b+8);}
 else q=l;
 r=r8(b+16);
@@ -67911,15 +69963,15 @@ L6:P=M.f0;
 Q=M.f1;
 if(r8(b+32)-v<Q){
 R=make_ready_8e3(b,Q,128);
-if(R==0)goto L2;}
+if(!(R&1))goto L2;}
 S=push_str_b7e(b,P,Q);
-if(S!=0)goto L2;
+if(S&1)goto L2;
 T=r8(b+8);
 U=r8(b+48);
 if(r8(b+72)>U)V=U;
 else{
 W=make_ready_17a(b+40);
-if(W==0){
+if(!(W&1)){
 X=0;
 Y=0;
 Z=0;
@@ -67939,7 +69991,7 @@ ca=r8(b+8);
 if(r8(b+32)>ca)da=ca;
 else{
 ea=make_ready_8e3(b,1,16);
-if(ea==0){
+if(!(ea&1)){
 X=0;
 Y=0;
 Z=0;
@@ -67958,7 +70010,7 @@ ga=r8(b+88);
 if(r8(b+112)>ga)ha=ga;
 else{
 ia=make_ready_9a1(b+80);
-if(ia==0){
+if(!(ia&1)){
 X=0;
 Y=0;
 Z=0;
@@ -68014,7 +70066,7 @@ default:goto L9;
 w8(b+176,k+2);
 if(r8(b+32)-l<ka){
 ma=make_ready_8e3(b,ka,128);
-if(ma==0)goto L10;
+if(!(ma&1))goto L10;
 na=r8(b+8);}
 else na=l;
 oa=r8(b+16);
@@ -68043,7 +70095,7 @@ wa=ta;
 xa=sa;}
 else{
 ya=make_ready_8e3(b,1,16);
-if(ya==0){
+if(!(ya&1)){
 za=0;
 Aa=0;
 Ba=0;
@@ -68063,7 +70115,7 @@ Da=r8(b+88);
 if(r8(b+112)>Da)Ea=Da;
 else{
 Fa=make_ready_9a1(b+80);
-if(Fa==0){
+if(!(Fa&1)){
 za=0;
 Aa=0;
 Ba=0;
@@ -68105,8 +70157,7 @@ i[3]=f[3];}
 else{
 Ha=g[12];
 Ia=repeat_28b(b,r4(g+4),r4(g+8));
-if(Ia==0)w4(i,0);
-else{
+if(Ia&1){
 Ja=r8(b+176);
 if(Ja<d){
 Ka=*(c+Ja)!=73;
@@ -68119,7 +70170,7 @@ Oa=r8(b+8);
 if(r8(b+32)>Oa)Pa=Oa;
 else{
 Qa=make_ready_8e3(b,1,16);
-if(Qa==0){
+if(!(Qa&1)){
 La=0;
 Ma=0;
 Na=0;
@@ -68138,7 +70189,7 @@ Sa=r8(b+88);
 if(r8(b+112)>Sa)Ta=Sa;
 else{
 Ua=make_ready_9a1(b+80);
-if(Ua==0){
+if(!(Ua&1)){
 La=0;
 Ma=0;
 Na=0;
@@ -68161,7 +70212,8 @@ Na=1;}
 L12:*i=Na;
 i[1]=Ma;
 i[2]=La;
-i[3]=0;}}}
+i[3]=0;}
+else w4(i,0);}}
 else w4(i,0);
 L8:break;
 case 90:begin_enclosing_8b6(i,b,c,d);
@@ -68209,7 +70261,7 @@ L17:lb=ib.f0;
 mb=ib.f1;
 if(r8(b+32)-l<mb){
 nb=make_ready_8e3(b,mb,128);
-if(nb==0)goto L14;
+if(!(nb&1))goto L14;
 ob=r8(b+8);}
 else ob=l;
 pb=r8(b+16);
@@ -68235,7 +70287,7 @@ xb=r8(b+48);
 if(r8(b+72)>xb)yb=xb;
 else{
 zb=make_ready_17a(b+40);
-if(zb==0){
+if(!(zb&1)){
 w4(i,0);
 break;}
 yb=r8(b+48);}
@@ -68253,7 +70305,7 @@ Cb=r8(b+8);
 if(r8(b+32)>Cb)Db=Cb;
 else{
 Eb=make_ready_8e3(b,1,16);
-if(Eb==0){
+if(!(Eb&1)){
 Fb=0;
 Gb=0;
 goto L18;}
@@ -68270,7 +70322,7 @@ Ib=r8(b+88);
 if(r8(b+112)>Ib)Jb=Ib;
 else{
 Kb=make_ready_9a1(b+80);
-if(Kb==0){
+if(!(Kb&1)){
 Fb=0;
 Gb=0;
 goto L18;}
@@ -68410,7 +70462,7 @@ L6:G=D.f0;
 H=D.f1;
 if(r8(b+32)-p<H){
 I=make_ready_8e3(b,H,128);
-if(I==0)goto L2;
+if(!(I&1))goto L2;
 J=r8(b+8);}
 else J=p;
 K=r8(b+16);
@@ -68447,6 +70499,491 @@ a[2]=T;
 a[3]=U;
 goto L1;}}
 L4:L2:x4(a,0);}
+L1:return;
+}
+
+/* cpp_direct::direct::Direct::returned */
+static void returned_087(u8* a,u8* b,u8* c,u64 d,u8 e)
+{
+A16 u8 f[4];
+u64 g,h,j,l,m,o,p,q,t,u,x,C;
+u8 *i,*r,*s,*w;
+u8 k,n,v,y,z,A,B,D;
+g=r8(b+88);
+if(g!=0)w8(b+88,g-1);
+h=e?5:2;
+i=e?(u8*)t_cbf6:(u8*)t_4f5a;
+j=r8(b+8);
+if(r8(b+32)-j<h){
+k=make_ready_8e3(b,h,128);
+if(!(k&1))goto L1;
+l=r8(b+8);}
+else l=j;
+m=r8(b+16);
+if(h>m-l){
+n=grow_amortized_e1a(b,h);
+if(!n)goto L1;
+o=r8(b+16);
+p=r8(b+8);}
+else{
+o=m;
+p=l;}
+q=p+h;
+r=rp(b);
+z16(b+8);
+s=r+(i64)p;
+if((u64)s-(u64)i<h)copy_bits_4f4(i,s,h);
+else memcpy(s,i,h);
+wp(b,r);
+w8(b+8,q);
+w8(b+16,o);
+t=r8(b+88);
+if(r8(b+112)>t)u=t;
+else{
+v=make_ready_9a1(b+80);
+if(!(v&1)){
+x4(a,0);
+goto L2;}
+u=r8(b+88);}
+w=rp(b+80)+u*44;
+*w=23;
+w[1]=e;
+z42(w+2);
+w8(b+88,u+1);
+w4(f,0);
+x=r8(b+176);
+if(x==18446744073709551615u){
+y=0;
+z=0;
+A=0;
+B=0;}
+else{
+C=x+1;
+if(C<d)D=*(c+C)==69;
+else D=0;
+if(x<d){
+if(D&&*(c+x)==118){
+w8(b+176,x+2);
+function_ended_faf(f,b,c,d,e);
+y=f[3];
+z=f[2];
+A=f[1];
+B=*f;
+goto L3;}}
+parameter_at_d02(f,b,c,d,e,1);
+y=f[3];
+z=f[2];
+A=f[1];
+B=*f;}
+L3:*a=B;
+a[1]=A;
+a[2]=z;
+a[3]=y;
+goto L2;
+L1:x4(a,0);
+L2:return;
+}
+
+/* cpp_direct::direct::Direct::function_ended */
+static void function_ended_faf(u8* a,u8* b,u8* c,u64 d,u8 e)
+{
+A16 u8 f[4];
+u64 g,h,j,k,n,o,p,s;
+u8 i,l,q;
+u8 *m,*r;
+w4(f,0);
+g=r8(b+8);
+if(r8(b+32)>g)h=g;
+else{
+i=make_ready_8e3(b,1,16);
+if(!(i&1)){
+x4(a,0);
+goto L1;}
+h=r8(b+8);}
+*(rp(b)+h)=41;
+w8(b+8,h+1);
+if(e){
+j=r8(b+48);
+if(r8(b+72)>j)k=j;
+else{
+l=make_ready_17a(b+40);
+if(!(l&1))goto L2;
+k=r8(b+48);}
+m=rp(b+40)+k*12;
+x4(m,1);
+n=k+1;
+x8(m+4,0);
+w8(b+48,n);
+o=n;}
+else o=r8(b+48);
+if(r8(b+72)>o)p=o;
+else{
+q=make_ready_17a(b+40);
+if(!(q&1))goto L2;
+p=r8(b+48);}
+r=rp(b+40)+p*12;
+x4(r,1);
+x8(r+4,0);
+w8(b+48,p+1);
+s=r8(b+88);
+if(s!=0)w8(b+88,s-1);
+pass_element_9db(f,b,c,d,0);
+*a=*f;
+a[1]=f[1];
+a[2]=f[2];
+a[3]=f[3];
+goto L1;
+L2:x4(a,0);
+L1:return;
+}
+
+/* cpp_direct::direct::Direct::pass_element */
+static void pass_element_9db(u8* a,u8* b,u8* c,u64 d,u8 e)
+{
+u8 g[32],h[32];
+A16 u8 f[4];
+u64 i;
+u8 *j;
+u8 k,m,o,p,q;
+u32 l,n;
+w4(f,0);
+i=r8(b+88);
+if(i==0)x4(a,0);
+else{
+j=rp(b+80)+(i64)(i*44);
+switch(j[-44]){
+case 10:k=j[-43];
+l=r4(j-40);
+memcpy(g,j-36,32);
+parameter_ended_06e(f,b,c,d,k,l,g);
+break;
+case 12:enclosing_parameter_d72(f,b,c,d,j[-43],r4(j-40));
+break;
+case 13:instance_parameter_e2a(f,b,c,d,j[-43],r4(j-40),r4(j-36));
+break;
+case 19:finish_8cd(f,b,c,d);
+break;
+case 28:if(!e){
+x4(a,0);
+goto L1;}
+m=j[-36];
+n=r4(j-40);
+memcpy(h,j-34,32);
+element_ended_c50(f,b,c,d,n,m,h,1);
+break;
+case 0:case 1:case 2:case 3:case 4:case 5:case 6:case 7:case 8:case 9:case 11:case 14:case 15:case 16:case 17:case 18:case 20:case 21:case 22:case 23:case 24:case 25:case 26:case 27:case 29:*f=1;
+f[1]=3;
+f[2]=0;
+f[3]=0;
+break;
+default:NEVER;
+}
+o=f[1];
+p=f[2];
+q=f[3];
+*a=*f;
+a[1]=o;
+a[2]=p;
+a[3]=q;}
+L1:return;
+}
+
+/* cpp_direct::direct::Direct::parameter_at */
+static void parameter_at_d02(u8* a,u8* b,u8* c,u64 d,u8 e,u8 f)
+{
+u8 g[4];
+u64 h,i,l,n,p,q,s,t,u,w,x,A,B,F,G;
+u8 *j,*E,*I;
+u8 k,m,o,r,v,z,C,D,H;
+u32 y;
+h=r8(b+176);
+if(h<d){
+if(*(c+h)==69){
+i=r8(b+8);
+if(i>=5){
+j=rp(b)+(i64)i;
+k=0;
+l=0;
+L1:m=k||*((u8*)t_262b+(i64)l)!=*(j-5+(i64)l);
+n=l+1;
+if(n!=4){
+k=m;
+l=n;
+goto L1;}
+o=0;
+p=0;
+L2:q=p+1;
+r=o||*((u8*)t_262b+(i64)q)!=*(j-5+(i64)q);
+if(q!=4){
+o=r;
+p=q;
+goto L2;}
+if(!(m|r)){
+x4(a,0);
+goto L3;}}
+w8(b+176,h+1);
+function_ended_faf(g,b,c,d,e);
+*a=*g;
+a[1]=g[1];
+a[2]=g[2];
+a[3]=g[3];
+goto L3;}}
+if(f){
+s=h;
+t=r8(b+8);}
+else{
+u=r8(b+8);
+if(r8(b+32)-u<2){
+v=make_ready_8e3(b,2,128);
+if(!(v&1)){
+x4(a,0);
+goto L3;}
+w=r8(b+8);}
+else w=u;
+*(rp(b)+w)=44;
+*(rp(b)+(i64)w+1)=32;
+x=w+2;
+w8(b+8,x);
+s=r8(b+176);
+t=x;}
+if(s<d){
+y=t;
+z=*(c+s);
+switch(z){
+case 82:w8(b+176,s+1);
+A=r8(b+88);
+if(r8(b+112)>A)B=A;
+else{
+C=make_ready_9a1(b+80);
+if(!(C&1)){
+D=0;
+break;}
+B=r8(b+88);}
+E=rp(b+80)+B*44;
+*E=1;
+E[1]=0;
+x2(E+2,0);
+x4(E+4,y);
+z36(E+8);
+w8(b+88,B+1);
+D=1;
+break;
+case 79:w8(b+176,s+1);
+F=r8(b+88);
+if(r8(b+112)>F)G=F;
+else{
+H=make_ready_9a1(b+80);
+if(!(H&1)){
+D=0;
+break;}
+G=r8(b+88);}
+I=rp(b+80)+G*44;
+*I=2;
+I[1]=0;
+x2(I+2,0);
+x4(I+4,y);
+z36(I+8);
+w8(b+88,G+1);
+D=1;
+break;
+case 0:D=z;
+break;
+default:D=1;
+break;}}
+else D=0;
+*a=D;
+a[1]=0;
+a[2]=0;
+a[3]=0;
+L3:return;
+}
+
+/* cpp_direct::direct::Direct::array_ended */
+static void array_ended_a11(u8* a,u8* b,u8* c,u64 d,u8 e,u32 f,u32 g)
+{
+A16 u8 h[4];
+u64 i,j,l,n,o,q,r,s,w,x,y,z,B,D,E,G,H,I,M,O,P,Q,T,U;
+u8 *k,*t,*u,*v,*A,*J,*K,*L,*S,*W;
+u8 m,p,C,F,N,R,V;
+w4(h,0);
+i=r8(b+88);
+if(i!=0)w8(b+88,i-1);
+j=r8((u8*)t_5b3b+(u64)e*8);
+k=rp((u8*)t_7cd2+(u64)e*8);
+l=r8(b+8);
+if(r8(b+32)-l<j){
+m=make_ready_8e3(b,j,128);
+if(!(m&1))goto L1;
+n=r8(b+8);}
+else n=l;
+o=r8(b+16);
+if(j>o-n){
+p=grow_amortized_e1a(b,j);
+if(!p)goto L1;
+q=r8(b+16);
+r=r8(b+8);}
+else{
+q=o;
+r=n;}
+s=r+j;
+t=rp(b);
+z16(b+8);
+u=t+(i64)r;
+if((u64)u-(u64)k<j)copy_bits_4f4(k,u,j);
+else memcpy(u,k,j);
+wp(b,t);
+w8(b+8,s);
+w8(b+16,q);
+v=c+(i64)f;
+w=(u64)g-f;
+x=usub64(w,1);
+y=0;
+L2:if(y==x)z=x;
+else{
+if(*(v+y)==48){
+y=y+1;
+goto L2;}
+z=y;}
+A=v+(i64)z;
+B=w-z;
+if(r8(b+32)-s<B){
+C=make_ready_8e3(b,B,128);
+if(!(C&1))goto L3;
+D=r8(b+8);
+E=r8(b+16);}
+else{
+D=s;
+E=q;}
+if(B>E-D){
+F=grow_amortized_e1a(b,B);
+if(!F)goto L3;
+G=r8(b+16);
+H=r8(b+8);}
+else{
+G=E;
+H=D;}
+I=H+B;
+J=rp(b);
+z16(b+8);
+K=J+(i64)H;
+if((u64)K-(u64)A<B)copy_bits_4f4(A,K,B);
+else memmove(K,A,B);
+wp(b,J);
+w8(b+8,I);
+w8(b+16,G);
+if(r8(b+32)>I){
+L=J;
+M=I;}
+else{
+N=make_ready_8e3(b,1,16);
+if(!(N&1)){
+x4(a,0);
+goto L4;}
+L=rp(b);
+M=r8(b+8);}
+*(L+M)=93;
+w8(b+8,M+1);
+if(e==0)O=r8(b+48);
+else{
+P=r8(b+48);
+if(r8(b+72)>P)Q=P;
+else{
+R=make_ready_17a(b+40);
+if(!(R&1))goto L5;
+Q=r8(b+48);}
+S=rp(b+40)+Q*12;
+x4(S,1);
+T=Q+1;
+x8(S+4,0);
+w8(b+48,T);
+O=T;}
+if(r8(b+72)>O)U=O;
+else{
+V=make_ready_17a(b+40);
+if(!(V&1))goto L5;
+U=r8(b+48);}
+W=rp(b+40)+U*12;
+x4(W,1);
+x8(W+4,0);
+w8(b+48,U+1);
+pass_element_9db(h,b,c,d,e==2);
+*a=*h;
+a[1]=h[1];
+a[2]=h[2];
+a[3]=h[3];
+goto L4;
+L5:x4(a,0);
+goto L4;
+L3:x4(a,0);
+goto L4;
+L1:x4(a,0);
+L4:return;
+}
+
+/* cpp_direct::direct::Direct::argument_enumerator */
+static void argument_enumerator_071(u8* a,u8* b,u8* c,u64 d,u32 e,u8 f,u8* g)
+{
+u8 i[32];
+A16 u8 h[4];
+u8 j,n,p,q,u;
+u64 k,l,m,o,r,s,t;
+u8 *v;
+memcpy(i,g,32);
+w4(h,0);
+j=ends_as_integer_bdf(b);
+if(j)x4(a,0);
+else{
+k=r8(b+88);
+if(k!=0)w8(b+88,k-1);
+l=r8(b+8);
+if(r8(b+32)>l)m=l;
+else{
+n=make_ready_8e3(b,1,16);
+if(!(n&1)){
+x4(a,0);
+goto L1;}
+m=r8(b+8);}
+*(rp(b)+m)=41;
+w8(b+8,m+1);
+o=r8(b+176);
+if(o<d){
+if(*(c+o)==110){
+w8(b+176,o+1);
+p=1;}
+else p=0;}
+else p=0;
+q=digits_418(b,c,d,p);
+if(q&1){
+r=r8(b+176);
+if(r<d){
+if(*(c+r)==69){
+w8(b+176,r+1);
+s=r8(b+88);
+if(r8(b+112)>s)t=s;
+else{
+u=make_ready_9a1(b+80);
+if(!(u&1)){
+x4(a,0);
+goto L1;}
+t=r8(b+88);}
+v=rp(b+80)+t*44;
+*v=25;
+v[1]=0;
+x2(v+2,0);
+x4(v+4,e);
+v[8]=f;
+v[9]=0;
+memcpy(v+10,i,32);
+x2(v+42,0);
+w8(b+88,t+1);
+argument_ended_c7c(h,b,c,d,e,f,i,0);
+*a=*h;
+a[1]=h[1];
+a[2]=h[2];
+a[3]=h[3];
+goto L1;}}
+x4(a,0);}
+else x4(a,0);}
 L1:return;
 }
 
@@ -68504,10 +71041,11 @@ switch(E){
 case 78:case 83:break;
 default:if((u8)(E-49)>=9)goto L2;
 break;}
-F=0;
-G=0;
-H=3;
-I=1;
+next_enumerator_412(l,b,c,d,z,o);
+F=l[3];
+G=l[2];
+H=l[1];
+I=*l;
 goto L3;}
 L2:next_literal_1b3(p,b,c,d,z,o);
 if(*p!=1){
@@ -68562,7 +71100,7 @@ else memcpy(m,o,32);
 K=r8(b+8);
 if(r8(b+32)-K<2){
 L=make_ready_8e3(b,2,128);
-if(L==0){
+if(!(L&1)){
 F=0;
 G=0;
 H=0;
@@ -68586,7 +71124,7 @@ Q=r8(b+88);
 if(r8(b+112)>Q)R=Q;
 else{
 S=make_ready_9a1(b+80);
-if(S==0){
+if(!(S&1)){
 F=0;
 G=0;
 H=0;
@@ -68594,7 +71132,7 @@ I=0;
 goto L3;}
 R=r8(b+88);}
 T=rp(b+80)+R*44;
-*T=22;
+*T=25;
 T[1]=0;
 x2(T+2,0);
 x4(T+4,O);
@@ -68633,16 +71171,82 @@ a[3]=F;
 L4:return;
 }
 
+/* cpp_direct::direct::Direct::next_enumerator */
+static void next_enumerator_412(u8* a,u8* b,u8* c,u64 d,u8 e,u8* f)
+{
+u8 h[32];
+A16 u8 g[4];
+u64 i,k,l,m,p,r,s;
+u8 j,o,q,t;
+u32 n;
+u8 *u;
+memcpy(h,f,32);
+w4(g,0);
+i=r8(b+8);
+if(r8(b+32)-i<2){
+j=make_ready_8e3(b,2,128);
+if(!(j&1)){
+x4(a,0);
+goto L1;}
+k=r8(b+8);}
+else k=i;
+*(rp(b)+k)=44;
+*(rp(b)+(i64)k+1)=32;
+l=k+2;
+w8(b+8,l);
+if(e==255)x4(a,0);
+else{
+m=r8(b+176);
+if(m==18446744073709551615u)x4(a,0);
+else{
+n=l;
+o=e+1;
+w8(b+176,m+1);
+if(r8(b+32)>l)p=l;
+else{
+q=make_ready_8e3(b,1,16);
+if(!(q&1)){
+x4(a,0);
+goto L1;}
+p=r8(b+8);}
+*(rp(b)+p)=40;
+w8(b+8,p+1);
+r=r8(b+88);
+if(r8(b+112)>r)s=r;
+else{
+t=make_ready_9a1(b+80);
+if(!(t&1)){
+x4(a,0);
+goto L1;}
+s=r8(b+88);}
+u=rp(b+80)+s*44;
+*u=26;
+u[1]=0;
+x2(u+2,0);
+x4(u+4,n);
+u[8]=o;
+u[9]=0;
+memcpy(u+10,h,32);
+x2(u+42,0);
+w8(b+88,s+1);
+named_type_de5(g,b,c,d);
+*a=*g;
+a[1]=g[1];
+a[2]=g[2];
+a[3]=g[3];}}
+L1:return;
+}
+
 /* cpp_direct::direct::Direct::next_pack */
 static void next_pack_095(u8* a,u8* b,u8* c,u64 d,u8 e,u8* f)
 {
 u8 h[16],i[32],j[16];
 A16 u8 g[4];
 u16 k,l;
-u64 m,n,r,t,y,A,B,E,F,I,J;
-u8 o,p,q,u,v,w,x,z,D,G,K;
-u8 *s,*H,*L;
-u32 C;
+u64 m,n,r,t,C,E,F,I,J,M,N;
+u8 o,p,q,s,u,v,w,x,z,A,B,D,H,K,O;
+u8 *y,*L,*P;
+u32 G;
 k=q2(f);
 l=q2(f+2);
 memcpy(j,f+4,16);
@@ -68654,9 +71258,9 @@ o=f[28];
 p=f[29];
 q=f[31];
 r=m+1;
-if(r<d){
-s=c+(i64)r;
-switch(*s){
+s=r>=d;
+if(!s){
+switch(*(c+r)){
 case 69:memcpy(h,f+4,16);
 w4(g,0);
 t=m+2;
@@ -68697,78 +71301,91 @@ a[1]=w;
 a[2]=v;
 a[3]=u;
 goto L1;
-case 76:case 65:case 70:break;
-case 80:case 82:if(usub64(d,r)<2)goto L2;
-switch(s[1]){
-case 70:case 65:break;
-default:goto L2;
-}
+case 76:goto L2;
+default:break;}}
+y=c+(i64)r;
+z=usub64(d,r)<2;
+if(!(d<r||z)){
+if(*y==82){
+A=y[1];
+if(s|(A==65))goto L3;
+B=A;
+goto L4;}}
+if(s)goto L3;
+switch(*y){
+case 65:case 70:goto L2;
+case 80:case 82:if(z)goto L3;
+B=y[1];
 break;
-default:goto L2;
+default:goto L3;
 }
-*a=1;
-a[1]=3;
-a[2]=0;
-a[3]=0;
-goto L1;}
-L2:y=r8(b+8);
-if(r8(b+32)-y<2){
-z=make_ready_8e3(b,2,128);
-if(z==0){
+L4:switch(B){
+case 70:case 65:goto L2;
+default:break;}
+L3:C=r8(b+8);
+if(r8(b+32)-C<2){
+D=make_ready_8e3(b,2,128);
+if(!(D&1)){
 x4(a,0);
 goto L1;}
-A=r8(b+8);}
-else A=y;
-*(rp(b)+A)=44;
-*(rp(b)+(i64)A+1)=32;
-B=A+2;
-w8(b+8,B);
+E=r8(b+8);}
+else E=C;
+*(rp(b)+E)=44;
+*(rp(b)+(i64)E+1)=32;
+F=E+2;
+w8(b+8,F);
 w8(b+176,r);
-if(e==255)x4(a,0);
-else{
-C=B;
-D=e+1;
-E=r8(b+88);
-if(r8(b+112)>E)F=E;
-else{
-G=make_ready_9a1(b+80);
-if(G==0){
+if(e==255){
 x4(a,0);
 goto L1;}
-F=r8(b+88);}
-H=rp(b+80)+F*44;
-*H=23;
-I=F+1;
-z43(H+1);
-w8(b+88,I);
+G=F;
+H=e+1;
+I=r8(b+88);
 if(r8(b+112)>I)J=I;
 else{
 K=make_ready_9a1(b+80);
-if(K==0){
+if(!(K&1)){
 x4(a,0);
 goto L1;}
 J=r8(b+88);}
 L=rp(b+80)+J*44;
-*L=24;
-L[1]=0;
-x2(L+2,0);
-x4(L+4,C);
-L[8]=D;
-L[9]=0;
-x2(L+10,k);
-x2(L+12,l);
-memcpy(L+14,j,16);
-x8(L+30,n);
-L[38]=o;
-L[39]=p;
-L[40]=D;
-L[41]=q;
-x2(L+42,0);
-w8(b+88,J+1);
+*L=27;
+M=J+1;
+z43(L+1);
+w8(b+88,M);
+if(r8(b+112)>M)N=M;
+else{
+O=make_ready_9a1(b+80);
+if(!(O&1)){
+x4(a,0);
+goto L1;}
+N=r8(b+88);}
+P=rp(b+80)+N*44;
+*P=28;
+P[1]=0;
+x2(P+2,0);
+x4(P+4,G);
+P[8]=H;
+P[9]=0;
+x2(P+10,k);
+x2(P+12,l);
+memcpy(P+14,j,16);
+x8(P+30,n);
+P[38]=o;
+P[39]=p;
+P[40]=H;
+P[41]=q;
+x2(P+42,0);
+w8(b+88,N+1);
 *a=1;
 a[1]=0;
 a[2]=0;
-a[3]=0;}}
+a[3]=0;
+goto L1;
+L2:*a=1;
+a[1]=3;
+a[2]=0;
+a[3]=0;}
 L1:return;
 }
 
@@ -68809,7 +71426,7 @@ r=r8(b+8);
 if(r8(b+32)>r)s=r;
 else{
 t=make_ready_8e3(b,1,16);
-if(t==0){
+if(!(t&1)){
 x4(a,0);
 goto L4;}
 s=r8(b+8);}
@@ -68820,7 +71437,7 @@ v=r8(b+88);
 if(r8(b+112)>v)w=v;
 else{
 x=make_ready_9a1(b+80);
-if(x==0){
+if(!(x&1)){
 x4(a,0);
 goto L4;}
 w=r8(b+88);}
@@ -68889,7 +71506,7 @@ h=r8(b+8);
 if(r8(b+32)>h)i=h;
 else{
 j=make_ready_8e3(b,1,16);
-if(j==0){
+if(!(j&1)){
 x4(a,0);
 goto L1;}
 i=r8(b+8);}
@@ -68918,7 +71535,7 @@ y=r8(b+48);
 if(r8(b+72)>y)z=y;
 else{
 A=make_ready_17a(b+40);
-if(A==0){
+if(!(A&1)){
 x4(a,0);
 goto L1;}
 z=r8(b+48);}
@@ -68959,7 +71576,7 @@ I=r8(b+48);
 if(r8(b+72)>I)J=I;
 else{
 K=make_ready_17a(b+40);
-if(K==0){
+if(!(K&1)){
 x4(a,0);
 goto L1;}
 J=r8(b+48);}
@@ -68990,7 +71607,7 @@ case 7:name_ended_fde(g,b,c,d,0,1,f,o);
 break;
 case 8:level_ended_5bf(g,b,c,d,n[1]&1);
 break;
-case 0:case 1:case 2:case 3:case 9:case 10:case 11:case 12:case 13:case 14:case 15:case 16:case 17:case 18:case 19:case 20:case 21:case 22:case 23:case 24:case 25:*g=0;
+case 0:case 1:case 2:case 3:case 9:case 10:case 11:case 12:case 13:case 14:case 15:case 16:case 17:case 18:case 19:case 20:case 21:case 22:case 23:case 24:case 25:case 26:case 27:case 28:case 29:*g=0;
 break;
 default:NEVER;
 }
@@ -69007,168 +71624,186 @@ L1:return;
 /* cpp_direct::direct::Direct::element_ended */
 static void element_ended_c50(u8* a,u8* b,u8* c,u64 d,u32 e,u8 f,u8* g,u8 h)
 {
-u8 i[32],j[16],k[32],m[16],n[32];
-A16 u8 l[4];
-u64 o,p,q,r,w,D,L,N,R,S,V,W;
-u16 s,t,u,v,B,C,H,J,K;
-u8 x,y,z,A,E,F,G,I,O,P,Q,U,X;
-u8 *M,*Y;
-u32 T;
-w4(l,0);
-z16(m);
-z32(n);
-memcpy(k,g,32);
-o=r8(b+88);
-if(o==0)p=0;
+u8 i[32],j[32],k[16],l[32],n[16],o[32];
+A16 u8 m[4];
+u64 p,q,r,s,x,E,M,U,X,Z,ca,da;
+u16 t,u,v,w,C,D,I,K,L;
+u8 y,z,A,B,F,G,H,J,N,O,P,R,S,T,V,W,Y,ba,ea;
+u8 *Q,*fa;
+u32 aa;
+w4(m,0);
+z16(n);
+z32(o);
+memcpy(l,g,32);
+p=r8(b+88);
+if(p==0)q=0;
 else{
-q=o-1;
-w8(b+88,q);
-p=q;}
-r=r8(b+8);
-if((e|(u32)r)>65535||(f>7||f!=k[28])){
-s=r2(k);
-t=r2(k+2);
-memcpy(j,k+4,16);
-u=s;
+r=p-1;
+w8(b+88,r);
+q=r;}
+s=r8(b+8);
+memcpy(i,l,32);
+if((e|(u32)s)>65535||(f>7||f!=i[28])){
+t=r2(l);
+u=r2(l+2);
+memcpy(k,l+4,16);
 v=t;
-w=q8(k+20);
-x=k[28];
-y=k[29];
-z=k[30];
-A=k[31];}
+w=u;
+x=q8(l+20);
+y=l[28];
+z=l[29];
+A=l[30];
+B=l[31];}
 else{
-B=r2(k);
-C=r2(k+2);
-D=q8(k+20);
-E=k[29];
-F=k[30];
-G=k[31];
-memcpy(i+4,k+4,16);
-x8(i+20,D);
-i[28]=f+1;
-i[29]=E;
-i[30]=F;
-i[31]=G;
-w2(i+4+((u64)f<<1),r);
-*(i+20+f)=h;
+C=r2(i);
+D=r2(i+2);
+E=q8(i+20);
+F=i[29];
+G=i[30];
+H=i[31];
+memcpy(j+4,l+4,16);
+x8(j+20,E);
+j[28]=f+1;
+j[29]=F;
+j[30]=G;
+j[31]=H;
+w2(j+4+((u64)f<<1),s);
+*(j+20+f)=h;
 if(f==0){
-memcpy(j,i+4,16);
-u=B;
-v=e;
-w=q8(i+20);
-x=i[28];
-y=i[29];
-z=i[30];
-A=i[31];}
+memcpy(k,j+4,16);
+v=C;
+w=e;
+x=q8(j+20);
+y=j[28];
+z=j[29];
+A=j[30];
+B=j[31];}
 else{
-H=r2(k+4+(i64)((u64)(u8)(f-1)<<1));
-I=(H<65534)&(e==(u16)(0-usub16(65534,H)));
-J=I?B:r2(k);
-K=I?C:r2(k+2);
-memcpy(j,I?i+4:k+4,16);
-u=J;
+I=r2(i+4+(i64)((u64)(u8)(f-1)<<1));
+J=(I<65534)&(e==(u16)(0-usub16(65534,I)));
+K=J?C:r2(l);
+L=J?D:r2(l+2);
+memcpy(k,J?j+4:l+4,16);
 v=K;
-w=I?q8(i+20):q8(k+20);
-x=I?i[28]:k[28];
-y=I?i[29]:k[29];
-z=I?i[30]:k[30];
-A=I?i[31]:k[31];}}
-memcpy(m,j,16);
-L=r8(b+176);
-if(L<d){
-M=c+(i64)L;
-switch(*M){
-case 76:case 65:case 70:break;
-case 80:case 82:if(usub64(d,L)<2)goto L1;
-switch(M[1]){
-case 70:case 65:break;
-default:goto L1;
-}
+w=L;
+x=J?q8(j+20):q8(l+20);
+y=J?j[28]:l[28];
+z=J?j[29]:l[29];
+A=J?j[30]:l[30];
+B=J?j[31]:l[31];}}
+memcpy(n,k,16);
+M=r8(b+176);
+N=M>=d;
+if(N)O=0;
+else{
+P=*(c+M);
+if(P==76)goto L1;
+O=P;}
+Q=c+(i64)M;
+R=usub64(d,M)<2;
+if(!(d<M||R)){
+if(*Q==82){
+S=Q[1];
+if(N|(S==65))goto L2;
+T=S;
+goto L3;}}
+if(N)goto L2;
+switch(*Q){
+case 65:case 70:goto L1;
+case 80:case 82:if(R)goto L2;
+T=Q[1];
 break;
-case 69:N=L+1;
-if(N<d){
-if(*(c+N)==69){
-if(p!=0)w8(b+88,p-1);
-w8(b+176,L+2);
+default:goto L2;
+}
+L3:switch(T){
+case 70:case 65:goto L1;
+default:break;}
+L2:if(O==69){
+if(M==18446744073709551615u){
+x4(a,0);
+goto L4;}
+U=M+1;
+if(U<d){
+if(*(c+U)==69){
+if(q!=0)w8(b+88,q-1);
+w8(b+176,M+2);
 if(f==255){
 x4(a,0);
-goto L2;}
-O=f+1;
-if(O<z){
+goto L4;}
+V=f+1;
+if(V<A){
 x4(a,0);
-goto L2;}
-w2(n,u);
-w2(n+2,v);
-memcpy(n+4,m,16);
-x8(n+20,w);
-n[28]=x;
-n[29]=1;
-n[30]=z;
-n[31]=O-z;
-close_list_148(l,b,c,d,n);
-*a=*l;
-a[1]=l[1];
-a[2]=l[2];
-a[3]=l[3];
-goto L2;}}
+goto L4;}
+w2(o,v);
+w2(o+2,w);
+memcpy(o+4,n,16);
+x8(o+20,x);
+o[28]=y;
+o[29]=1;
+o[30]=A;
+o[31]=V-A;
+close_list_148(m,b,c,d,o);
+*a=*m;
+a[1]=m[1];
+a[2]=m[2];
+a[3]=m[3];
+goto L4;}}
 *a=1;
 a[1]=3;
 a[2]=0;
 a[3]=0;
-goto L2;
-default:goto L1;
-}
-*a=1;
-a[1]=3;
-a[2]=0;
-a[3]=0;
-goto L2;}
-L1:if(r8(b+32)-r<2){
-P=make_ready_8e3(b,2,128);
-if(P==0){
-Q=0;
-goto L3;}
-R=r8(b+8);}
-else R=r;
-*(rp(b)+R)=44;
-*(rp(b)+(i64)R+1)=32;
-S=R+2;
-w8(b+8,S);
-if(f==255)Q=0;
+goto L4;}
+if(r8(b+32)-s<2){
+W=make_ready_8e3(b,2,128);
+if(!(W&1)){
+Y=0;
+goto L5;}
+X=r8(b+8);}
+else X=s;
+*(rp(b)+X)=44;
+*(rp(b)+(i64)X+1)=32;
+Z=X+2;
+w8(b+8,Z);
+if(f==255)Y=0;
 else{
-T=S;
-U=f+1;
-V=r8(b+88);
-if(r8(b+112)>V)W=V;
+aa=Z;
+ba=f+1;
+ca=r8(b+88);
+if(r8(b+112)>ca)da=ca;
 else{
-X=make_ready_9a1(b+80);
-if(X==0){
-Q=0;
-goto L3;}
-W=r8(b+88);}
-Y=rp(b+80)+W*44;
-*Y=24;
-Y[1]=0;
-x2(Y+2,0);
-x4(Y+4,T);
-Y[8]=U;
-Y[9]=0;
-x2(Y+10,u);
-x2(Y+12,v);
-memcpy(Y+14,m,16);
-x8(Y+30,w);
-Y[38]=x;
-Y[39]=y;
-Y[40]=z;
-Y[41]=A;
-x2(Y+42,0);
-w8(b+88,W+1);
-Q=1;}
-L3:*a=Q;
+ea=make_ready_9a1(b+80);
+if(!(ea&1)){
+Y=0;
+goto L5;}
+da=r8(b+88);}
+fa=rp(b+80)+da*44;
+*fa=28;
+fa[1]=0;
+x2(fa+2,0);
+x4(fa+4,aa);
+fa[8]=ba;
+fa[9]=0;
+x2(fa+10,v);
+x2(fa+12,w);
+memcpy(fa+14,n,16);
+x8(fa+30,x);
+fa[38]=y;
+fa[39]=z;
+fa[40]=A;
+fa[41]=B;
+x2(fa+42,0);
+w8(b+88,da+1);
+Y=1;}
+L5:*a=Y;
 a[1]=0;
 a[2]=0;
 a[3]=0;
-L2:return;
+goto L4;
+L1:*a=1;
+a[1]=3;
+a[2]=0;
+a[3]=0;
+L4:return;
 }
 
 /* cpp_direct::direct::Direct::empty_pack */
@@ -69190,7 +71825,7 @@ j=r8(b+88);
 if(j==0){
 x4(a,0);
 goto L1;}
-if(*(rp(b+80)+(i64)(j*44)-44)==23){
+if(*(rp(b+80)+(i64)(j*44)-44)==27){
 k=0;
 l=0;
 m=0;
@@ -69281,9 +71916,9 @@ L5:z=w.f0;
 A=w.f1;
 if(r8(b+32)-r8(b+8)<A){
 B=make_ready_8e3(b,A,128);
-if(B==0)goto L1;}
+if(!(B&1))goto L1;}
 C=push_str_b7e(b,z,A);
-if(C!=0)goto L1;
+if(C&1)goto L1;
 D=r8(b+176);
 if(D<d){
 if(*(c+D)==73){
@@ -69291,7 +71926,7 @@ E=r8(b+8);
 if(r8(b+32)>E)F=E;
 else{
 G=make_ready_8e3(b,1,16);
-if(G==0){
+if(!(G&1)){
 H=0;
 I=0;
 goto L6;}
@@ -69308,7 +71943,7 @@ K=r8(b+88);
 if(r8(b+112)>K)L=K;
 else{
 M=make_ready_9a1(b+80);
-if(M==0){
+if(!(M&1)){
 H=0;
 I=0;
 goto L6;}
@@ -69353,7 +71988,7 @@ switch(j[-44]){
 case 5:if(j[-28]==0)goto L1;
 break;
 case 7:break;
-case 0:case 1:case 2:case 3:case 4:case 6:case 8:case 9:case 10:case 11:case 12:case 13:case 14:case 15:case 16:case 17:case 18:case 19:case 20:case 21:case 22:case 23:case 24:case 25:goto L1;
+case 0:case 1:case 2:case 3:case 4:case 6:case 8:case 9:case 10:case 11:case 12:case 13:case 14:case 15:case 16:case 17:case 18:case 19:case 20:case 21:case 22:case 23:case 24:case 25:case 26:case 27:case 28:case 29:goto L1;
 default:NEVER;
 }
 k=r8(b+176);
@@ -69363,7 +71998,7 @@ switch(l){
 case 78:case 83:break;
 default:if((u8)(l-49)>=9)goto L2;
 break;}
-literal_47f(e,b,c,d);
+first_enumerator_82e(e,b,c,d);
 *a=*e;
 a[1]=e[1];
 a[2]=e[2];
@@ -69377,7 +72012,7 @@ o=h;
 p=g;}
 else{
 q=make_ready_9a1(b+80);
-if(q==0){
+if(!(q&1)){
 x4(a,0);
 goto L3;}
 r=r8(b+88);
@@ -69385,7 +72020,7 @@ n=r*44;
 o=rp(b+80);
 p=r;}
 s=o+n;
-*s=22;
+*s=25;
 s[1]=0;
 x2(s+2,0);
 x4(s+4,m);
@@ -69398,14 +72033,14 @@ w8(b+176,u);
 if(u<d){
 if(*(c+u)==98){
 v=boolean_6cc(b,c,d);
-if(v==0)goto L4;
+if(!(v&1))goto L4;
 w=r8(b+176);
 if(w>=d)goto L4;
 if(*(c+w)!=69)goto L4;
 x=w;
 goto L5;}}
 y=integer_bfa(b,c,d);
-if(y==0)goto L4;
+if(!(y&1))goto L4;
 z=r8(b+176);
 if(z>=d)goto L4;
 if(*(c+z)!=69)goto L4;
@@ -69428,6 +72063,52 @@ a[3]=e[3];
 L3:return;
 }
 
+/* cpp_direct::direct::Direct::first_enumerator */
+static void first_enumerator_82e(u8* a,u8* b,u8* c,u64 d)
+{
+A16 u8 e[4];
+u64 f,g,i,k,l;
+u32 h;
+u8 j,m;
+u8 *n;
+f=r8(b+176);
+if(f==18446744073709551615u)x4(a,0);
+else{
+g=r8(b+8);
+h=g;
+w8(b+176,f+1);
+if(r8(b+32)>g)i=g;
+else{
+j=make_ready_8e3(b,1,16);
+if(!(j&1)){
+x4(a,0);
+goto L1;}
+i=r8(b+8);}
+*(rp(b)+i)=40;
+w8(b+8,i+1);
+k=r8(b+88);
+if(r8(b+112)>k)l=k;
+else{
+m=make_ready_9a1(b+80);
+if(!(m&1)){
+x4(a,0);
+goto L1;}
+l=r8(b+88);}
+n=rp(b+80)+l*44;
+*n=26;
+n[1]=0;
+x2(n+2,0);
+x4(n+4,h);
+z36(n+8);
+w8(b+88,l+1);
+named_type_de5(e,b,c,d);
+*a=*e;
+a[1]=e[1];
+a[2]=e[2];
+a[3]=e[3];}
+L1:return;
+}
+
 /* cpp_direct::direct::Direct::literal */
 static void literal_47f(u8* a,u8* b,u8* c,u64 d)
 {
@@ -69447,7 +72128,7 @@ w8(b+176,f+1);
 h=r8(b+8);
 if(r8(b+32)==h){
 i=make_ready_8e3(b,1,128);
-if(i==0)goto L2;
+if(!(i&1))goto L2;
 j=r8(b+8);}
 else j=h;
 k=r8(b+16);
@@ -69472,12 +72153,12 @@ r=r8(b+88);
 if(r8(b+112)>r)s=r;
 else{
 t=make_ready_9a1(b+80);
-if(t==0){
+if(!(t&1)){
 x4(a,0);
 goto L3;}
 s=r8(b+88);}
 u=rp(b+80)+s*44;
-*u=25;
+*u=29;
 z43(u+1);
 w8(b+88,s+1);
 named_type_de5(e,b,c,d);
@@ -69494,14 +72175,14 @@ w8(b+176,v);
 if(v<d){
 if(*(c+v)==98){
 w=boolean_6cc(b,c,d);
-if(w==0)goto L4;
+if(!(w&1))goto L4;
 x=r8(b+176);
 if(x>=d)goto L4;
 if(*(c+x)!=69)goto L4;
 y=x;
 goto L5;}}
 z=integer_bfa(b,c,d);
-if(z==0)goto L4;
+if(!(z&1))goto L4;
 A=r8(b+176);
 if(A>=d)goto L4;
 if(*(c+A)!=69)goto L4;
@@ -69520,10 +72201,10 @@ L3:return;
 static void components_at_b1b(u8* a,u8* b,u8* c,u64 d)
 {
 A16 u8 e[40],f[40],g[40],h[40],i[40],j[40],k[24],l[40],m[40],n[24],o[4],p[4];
-u64 q,r,t,u,w,x,z,A,B,J,M,Q,R,U,V,X,Y,Z,fa,ga,ja,ka,ma,na,qa,sa,ua,va,xa,ya,za,Ha,Ka,Oa,Pa,Sa,Ta,Va,Wa,Xa,db,eb,hb,ib,kb,lb,ob,qb,rb,sb,vb,xb,yb,zb,Ab,Bb,Cb,Fb,Hb,Jb,Lb,Mb,Ob,Qb,Rb,Tb,Vb,Wb,Yb,dc,fc,gc,ic,jc,kc,pc,vc,zc,Ac,Dc,Ec,Gc,Hc,Ic,Mc,Nc,Qc,Rc,Tc,Uc,Vc,cd,ed,fd,gd,jd,ld,md,nd,od,pd,qd,ud,xd,zd,Bd,Cd,Ed,Gd,Hd,Jd,Ld,Md,Od,Td,Vd,Wd,Yd,Zd,ae,fe,le,pe,qe,te,ue,we,xe,ye,Ce,De,Ge,He,Je,Ke,Le,Oe,Se,Te,We;
-u8 s,v,y,E,F,G,H,I,K,L,O,S,W,ba,ha,la,oa,ra,ta,wa,Ca,Da,Ea,Fa,Ga,Ia,Ja,Ma,Qa,Ua,Za,fb,jb,mb,pb,tb,wb,Db,Gb,Ib,Kb,Nb,Pb,Sb,Ub,Xb,ec,hc,oc,qc,rc,sc,tc,uc,xc,Bc,Fc,Jc,Oc,Sc,Wc,Yc,Zc,ad,bd,dd,hd,kd,sd,vd,yd,Ad,Dd,Fd,Id,Kd,Nd,Ud,Xd,ee,ge,he,ie,je,ke,ne,re,ve,ze,Ee,Ie,Me,Qe,Ue;
+u64 q,r,t,u,w,x,z,A,B,G,J,N,O,U,V,X,Y,Z,fa,ga,ja,ka,ma,na,qa,sa,ua,va,xa,ya,za,Ea,Ha,La,Ma,Sa,Ta,Va,Wa,Xa,db,eb,hb,ib,kb,lb,ob,qb,rb,sb,vb,xb,yb,zb,Ab,Bb,Cb,Fb,Hb,Jb,Lb,Mb,Ob,Qb,Rb,Tb,Vb,Wb,Yb,dc,fc,gc,ic,jc,kc,pc,sc,wc,xc,Dc,Ec,Gc,Hc,Ic,Mc,Nc,Qc,Rc,Tc,Uc,Vc,cd,ed,fd,gd,jd,ld,md,nd,od,pd,qd,ud,xd,zd,Bd,Cd,Ed,Gd,Hd,Jd,Ld,Md,Od,Td,Vd,Wd,Yd,Zd,ae,fe,ie,me,ne,te,ue,we,xe,ye,Ce,De,Ge,He,Je,Ke,Le,Oe,Se,Te,We;
+u8 s,v,y,E,F,H,I,L,P,Q,R,S,W,ba,ha,la,oa,ra,ta,wa,Ca,Da,Fa,Ga,Ja,Na,Oa,Pa,Qa,Ua,Za,fb,jb,mb,pb,tb,wb,Db,Gb,Ib,Kb,Nb,Pb,Sb,Ub,Xb,ec,hc,oc,qc,rc,uc,yc,zc,Ac,Bc,Fc,Jc,Oc,Sc,Wc,Yc,Zc,ad,bd,dd,hd,kd,sd,vd,yd,Ad,Dd,Fd,Id,Kd,Nd,Ud,Xd,ee,ge,he,ke,oe,pe,qe,re,ve,ze,Ee,Ie,Me,Qe,Ue;
 u8 *C,*D,*T,*aa,*ca,*ia,*pa,*Aa,*Ba,*Ra,*Ya,*ab,*gb,*nb,*Eb,*cc,*lc,*mc,*Cc,*Kc,*Pc,*Xc,*td,*Sd,*be,*ce,*se,*Ae,*Fe,*Ne,*Ve;
-u32 N,P,da,ea,La,Na,bb,cb,ub,nc,wc,yc,Lc,id,de,me,oe,Be,Pe,Re;
+u32 K,M,da,ea,Ia,Ka,bb,cb,ub,nc,tc,vc,Lc,id,de,je,le,Be,Pe,Re;
 s_p_64 Zb,ac,bc,Pd,Qd,Rd;
 w4(p,0);
 q=0;
@@ -69542,7 +72223,7 @@ w8(b+176,r+2);
 u=r8(b+8);
 if(r8(b+32)-u<2){
 v=make_ready_8e3(b,2,128);
-if(v==0)goto L2;
+if(!(v&1))goto L2;
 w=r8(b+8);}
 else w=u;
 x=r8(b+16);
@@ -69564,75 +72245,71 @@ wp(b,C);
 w8(b+8,B);
 w8(b+16,z);
 E=repeat_28b(b,r4(b+124),r4(b+128));
-if(E==0){
-F=0;
-G=0;
-H=0;}
-else{
-I=b[139];
+if(E&1){
+F=b[139];
 b[136]=0;
 b[137]=0;
 b[138]=0;
-J=r8(b+176);
-if(J<d){
-K=*(c+J);
-if(K==66){
-L=tag_9a7(b,c,d);
-if(L==0){
-F=0;
-G=0;
-H=0;
+G=r8(b+176);
+if(G<d){
+H=*(c+G);
+if(H==66){
+I=tag_9a7(b,c,d);
+if(!(I&1)){
+Q=0;
+R=0;
+S=0;
 goto L3;}
 z20(h+20);
-M=r8(b+176);
-if(M>=d){
-F=0;
-G=5;
-H=1;
+J=r8(b+176);
+if(J>=d){
+Q=0;
+R=5;
+S=1;
 goto L3;}
-if(*(c+M)!=73){
-F=0;
-G=5;
-H=1;
+if(*(c+J)!=73){
+Q=0;
+R=5;
+S=1;
 goto L3;}
-N=r4(b+120);
-O=b[139];
-P=r8(b+8);
-Q=r8(b+48);
-if(r8(b+72)>Q)R=Q;
+K=r4(b+120);
+L=b[139];
+M=r8(b+8);
+N=r8(b+48);
+if(r8(b+72)>N)O=N;
 else{
-S=make_ready_17a(b+40);
-if(S==0){
-F=0;
-G=0;
-H=0;
+P=make_ready_17a(b+40);
+if(!(P&1)){
+Q=0;
+R=0;
+S=0;
 goto L3;}
-R=r8(b+48);}
-T=rp(b+40)+R*12;
-x4(T,N);
-x4(T+4,P);
+O=r8(b+48);}
+T=rp(b+40)+O*12;
+x4(T,K);
+x4(T+4,M);
 T[8]=0;
-T[9]=O;
+T[9]=L;
 x2(T+10,0);
-w8(b+48,R+1);
+w8(b+48,O+1);
 memcpy(h,b+120,20);
 U=r8(b+8);
 if(r8(b+32)>U)V=U;
 else{
 W=make_ready_8e3(b,1,16);
-if(W==0){
-F=0;
-G=0;
-H=0;
+if(!(W&1)){
+Q=0;
+R=0;
+S=0;
 goto L3;}
 V=r8(b+8);}
 *(rp(b)+V)=1;
 w8(b+8,V+1);
 X=r8(b+176);
 if(X==18446744073709551615u){
-F=0;
-G=0;
-H=0;
+Q=0;
+R=0;
+S=0;
 goto L3;}
 w8(b+176,X+1);
 Y=r8(b+88);
@@ -69641,18 +72318,18 @@ Z=Y;
 aa=h;
 goto L4;}
 ba=make_ready_9a1(b+80);
-if(ba==0){
-F=0;
-G=0;
-H=0;
+if(!(ba&1)){
+Q=0;
+R=0;
+S=0;
 goto L3;}
 ca=h;}
 else{
 z20(g+20);
-if(K!=73){
-F=0;
-G=5;
-H=1;
+if(H!=73){
+Q=0;
+R=5;
+S=1;
 goto L3;}
 da=r4(b+120);
 ea=r8(b+8);
@@ -69660,17 +72337,17 @@ fa=r8(b+48);
 if(r8(b+72)>fa)ga=fa;
 else{
 ha=make_ready_17a(b+40);
-if(ha==0){
-F=0;
-G=0;
-H=0;
+if(!(ha&1)){
+Q=0;
+R=0;
+S=0;
 goto L3;}
 ga=r8(b+48);}
 ia=rp(b+40)+ga*12;
 x4(ia,da);
 x4(ia+4,ea);
 ia[8]=0;
-ia[9]=I;
+ia[9]=F;
 x2(ia+10,0);
 w8(b+48,ga+1);
 memcpy(g,b+120,20);
@@ -69678,19 +72355,19 @@ ja=r8(b+8);
 if(r8(b+32)>ja)ka=ja;
 else{
 la=make_ready_8e3(b,1,16);
-if(la==0){
-F=0;
-G=0;
-H=0;
+if(!(la&1)){
+Q=0;
+R=0;
+S=0;
 goto L3;}
 ka=r8(b+8);}
 *(rp(b)+ka)=1;
 w8(b+8,ka+1);
 ma=r8(b+176);
 if(ma==18446744073709551615u){
-F=0;
-G=0;
-H=0;
+Q=0;
+R=0;
+S=0;
 goto L3;}
 w8(b+176,ma+1);
 na=r8(b+88);
@@ -69699,10 +72376,10 @@ Z=na;
 aa=g;
 goto L4;}
 oa=make_ready_9a1(b+80);
-if(oa==0){
-F=0;
-G=0;
-H=0;
+if(!(oa&1)){
+Q=0;
+R=0;
+S=0;
 goto L3;}
 ca=g;}
 Z=r8(b+88);
@@ -69713,16 +72390,20 @@ pa[1]=0;
 x2(pa+2,0);
 memcpy(pa+4,aa,40);
 w8(b+88,Z+1);
-F=1;
-G=3;
-H=1;}
+Q=1;
+R=3;
+S=1;}
 else{
-F=0;
-G=5;
-H=1;}}
-L3:*o=H;
-o[1]=G;
-o[2]=F;
+Q=0;
+R=5;
+S=1;}}
+else{
+Q=0;
+R=0;
+S=0;}
+L3:*o=S;
+o[1]=R;
+o[2]=Q;
 o[3]=0;
 goto L5;
 L2:w4(o,0);
@@ -69742,7 +72423,7 @@ w8(b+176,r+2);
 sa=r8(b+8);
 if(r8(b+32)-sa<3){
 ta=make_ready_8e3(b,3,128);
-if(ta==0)goto L7;
+if(!(ta&1))goto L7;
 ua=r8(b+8);}
 else ua=sa;
 va=r8(b+16);
@@ -69764,75 +72445,71 @@ wp(b,Aa);
 w8(b+8,za);
 w8(b+16,xa);
 Ca=repeat_28b(b,r4(b+124),r4(b+128));
-if(Ca==0){
-Da=0;
-Ea=0;
-Fa=0;}
-else{
-Ga=b[139];
+if(Ca&1){
+Da=b[139];
 b[136]=0;
 b[137]=0;
 b[138]=0;
-Ha=r8(b+176);
-if(Ha<d){
-Ia=*(c+Ha);
-if(Ia==66){
-Ja=tag_9a7(b,c,d);
-if(Ja==0){
-Da=0;
-Ea=0;
-Fa=0;
+Ea=r8(b+176);
+if(Ea<d){
+Fa=*(c+Ea);
+if(Fa==66){
+Ga=tag_9a7(b,c,d);
+if(!(Ga&1)){
+Oa=0;
+Pa=0;
+Qa=0;
 goto L8;}
 z20(f+20);
-Ka=r8(b+176);
-if(Ka>=d){
-Da=0;
-Ea=5;
-Fa=1;
+Ha=r8(b+176);
+if(Ha>=d){
+Oa=0;
+Pa=5;
+Qa=1;
 goto L8;}
-if(*(c+Ka)!=73){
-Da=0;
-Ea=5;
-Fa=1;
+if(*(c+Ha)!=73){
+Oa=0;
+Pa=5;
+Qa=1;
 goto L8;}
-La=r4(b+120);
-Ma=b[139];
-Na=r8(b+8);
-Oa=r8(b+48);
-if(r8(b+72)>Oa)Pa=Oa;
+Ia=r4(b+120);
+Ja=b[139];
+Ka=r8(b+8);
+La=r8(b+48);
+if(r8(b+72)>La)Ma=La;
 else{
-Qa=make_ready_17a(b+40);
-if(Qa==0){
-Da=0;
-Ea=0;
-Fa=0;
+Na=make_ready_17a(b+40);
+if(!(Na&1)){
+Oa=0;
+Pa=0;
+Qa=0;
 goto L8;}
-Pa=r8(b+48);}
-Ra=rp(b+40)+Pa*12;
-x4(Ra,La);
-x4(Ra+4,Na);
+Ma=r8(b+48);}
+Ra=rp(b+40)+Ma*12;
+x4(Ra,Ia);
+x4(Ra+4,Ka);
 Ra[8]=0;
-Ra[9]=Ma;
+Ra[9]=Ja;
 x2(Ra+10,0);
-w8(b+48,Pa+1);
+w8(b+48,Ma+1);
 memcpy(f,b+120,20);
 Sa=r8(b+8);
 if(r8(b+32)>Sa)Ta=Sa;
 else{
 Ua=make_ready_8e3(b,1,16);
-if(Ua==0){
-Da=0;
-Ea=0;
-Fa=0;
+if(!(Ua&1)){
+Oa=0;
+Pa=0;
+Qa=0;
 goto L8;}
 Ta=r8(b+8);}
 *(rp(b)+Ta)=1;
 w8(b+8,Ta+1);
 Va=r8(b+176);
 if(Va==18446744073709551615u){
-Da=0;
-Ea=0;
-Fa=0;
+Oa=0;
+Pa=0;
+Qa=0;
 goto L8;}
 w8(b+176,Va+1);
 Wa=r8(b+88);
@@ -69841,18 +72518,18 @@ Xa=Wa;
 Ya=f;
 goto L9;}
 Za=make_ready_9a1(b+80);
-if(Za==0){
-Da=0;
-Ea=0;
-Fa=0;
+if(!(Za&1)){
+Oa=0;
+Pa=0;
+Qa=0;
 goto L8;}
 ab=f;}
 else{
 z20(e+20);
-if(Ia!=73){
-Da=0;
-Ea=5;
-Fa=1;
+if(Fa!=73){
+Oa=0;
+Pa=5;
+Qa=1;
 goto L8;}
 bb=r4(b+120);
 cb=r8(b+8);
@@ -69860,17 +72537,17 @@ db=r8(b+48);
 if(r8(b+72)>db)eb=db;
 else{
 fb=make_ready_17a(b+40);
-if(fb==0){
-Da=0;
-Ea=0;
-Fa=0;
+if(!(fb&1)){
+Oa=0;
+Pa=0;
+Qa=0;
 goto L8;}
 eb=r8(b+48);}
 gb=rp(b+40)+eb*12;
 x4(gb,bb);
 x4(gb+4,cb);
 gb[8]=0;
-gb[9]=Ga;
+gb[9]=Da;
 x2(gb+10,0);
 w8(b+48,eb+1);
 memcpy(e,b+120,20);
@@ -69878,19 +72555,19 @@ hb=r8(b+8);
 if(r8(b+32)>hb)ib=hb;
 else{
 jb=make_ready_8e3(b,1,16);
-if(jb==0){
-Da=0;
-Ea=0;
-Fa=0;
+if(!(jb&1)){
+Oa=0;
+Pa=0;
+Qa=0;
 goto L8;}
 ib=r8(b+8);}
 *(rp(b)+ib)=1;
 w8(b+8,ib+1);
 kb=r8(b+176);
 if(kb==18446744073709551615u){
-Da=0;
-Ea=0;
-Fa=0;
+Oa=0;
+Pa=0;
+Qa=0;
 goto L8;}
 w8(b+176,kb+1);
 lb=r8(b+88);
@@ -69899,10 +72576,10 @@ Xa=lb;
 Ya=e;
 goto L9;}
 mb=make_ready_9a1(b+80);
-if(mb==0){
-Da=0;
-Ea=0;
-Fa=0;
+if(!(mb&1)){
+Oa=0;
+Pa=0;
+Qa=0;
 goto L8;}
 ab=e;}
 Xa=r8(b+88);
@@ -69913,16 +72590,20 @@ nb[1]=0;
 x2(nb+2,0);
 memcpy(nb+4,Ya,40);
 w8(b+88,Xa+1);
-Da=1;
-Ea=3;
-Fa=1;}
+Oa=1;
+Pa=3;
+Qa=1;}
 else{
-Da=0;
-Ea=5;
-Fa=1;}}
-L8:*o=Fa;
-o[1]=Ea;
-o[2]=Da;
+Oa=0;
+Pa=5;
+Qa=1;}}
+else{
+Oa=0;
+Pa=0;
+Qa=0;}
+L8:*o=Qa;
+o[1]=Pa;
+o[2]=Oa;
 o[3]=0;
 goto L10;
 L7:w4(o,0);
@@ -69933,7 +72614,7 @@ case 76:w8(b+176,r+1);
 ob=r8(b+8);
 if(r8(b+32)-ob<2){
 pb=make_ready_8e3(b,2,128);
-if(pb==0)goto L11;
+if(!(pb&1))goto L11;
 qb=r8(b+8);}
 else qb=ob;
 *(rp(b)+qb)=58;
@@ -70021,7 +72702,7 @@ L20:cc=Zb.f0;
 dc=Zb.f1;
 if(r8(b+32)-rb<dc){
 ec=make_ready_8e3(b,dc,128);
-if(ec==0)goto L11;
+if(!(ec&1))goto L11;
 fc=r8(b+8);}
 else fc=rb;
 gc=r8(b+16);
@@ -70054,63 +72735,59 @@ if(pc<d){
 qc=*(c+pc);
 if(qc==66){
 rc=tag_9a7(b,c,d);
-if(rc==0){
-sc=0;
-tc=0;
-uc=0;}
-else{
+if(rc&1){
 z40(j);
-vc=r8(b+176);
-if(vc<d){
-if(*(c+vc)==73){
-wc=r4(b+120);
-xc=b[139];
-yc=r8(b+8);
-zc=r8(b+48);
-if(r8(b+72)>zc)Ac=zc;
+sc=r8(b+176);
+if(sc<d){
+if(*(c+sc)==73){
+tc=r4(b+120);
+uc=b[139];
+vc=r8(b+8);
+wc=r8(b+48);
+if(r8(b+72)>wc)xc=wc;
 else{
-Bc=make_ready_17a(b+40);
-if(Bc==0){
-sc=0;
-tc=0;
-uc=0;
+yc=make_ready_17a(b+40);
+if(!(yc&1)){
+zc=0;
+Ac=0;
+Bc=0;
 goto L21;}
-Ac=r8(b+48);}
-Cc=rp(b+40)+Ac*12;
-x4(Cc,wc);
-x4(Cc+4,yc);
+xc=r8(b+48);}
+Cc=rp(b+40)+xc*12;
+x4(Cc,tc);
+x4(Cc+4,vc);
 Cc[8]=0;
-Cc[9]=xc;
+Cc[9]=uc;
 x2(Cc+10,0);
-w8(b+48,Ac+1);
+w8(b+48,xc+1);
 memcpy(j,b+120,20);
 Dc=r8(b+8);
 if(r8(b+32)>Dc)Ec=Dc;
 else{
 Fc=make_ready_8e3(b,1,16);
-if(Fc==0){
-sc=0;
-tc=0;
-uc=0;
+if(!(Fc&1)){
+zc=0;
+Ac=0;
+Bc=0;
 goto L21;}
 Ec=r8(b+8);}
 *(rp(b)+Ec)=1;
 w8(b+8,Ec+1);
 Gc=r8(b+176);
 if(Gc==18446744073709551615u){
-sc=0;
-tc=0;
-uc=0;}
+zc=0;
+Ac=0;
+Bc=0;}
 else{
 w8(b+176,Gc+1);
 Hc=r8(b+88);
 if(r8(b+112)>Hc)Ic=Hc;
 else{
 Jc=make_ready_9a1(b+80);
-if(Jc==0){
-sc=0;
-tc=0;
-uc=0;
+if(!(Jc&1)){
+zc=0;
+Ac=0;
+Bc=0;
 goto L21;}
 Ic=r8(b+88);}
 Kc=rp(b+80)+Ic*44;
@@ -70119,17 +72796,21 @@ Kc[1]=0;
 x2(Kc+2,0);
 memcpy(Kc+4,j,40);
 w8(b+88,Ic+1);
-sc=1;
-tc=3;
-uc=1;}}
+zc=1;
+Ac=3;
+Bc=1;}}
 else{
-sc=0;
-tc=5;
-uc=1;}}
+zc=0;
+Ac=5;
+Bc=1;}}
 else{
-sc=0;
-tc=5;
-uc=1;}}}
+zc=0;
+Ac=5;
+Bc=1;}}
+else{
+zc=0;
+Ac=0;
+Bc=0;}}
 else{
 z40(i);
 if(qc==73){
@@ -70138,10 +72819,10 @@ Mc=r8(b+48);
 if(r8(b+72)>Mc)Nc=Mc;
 else{
 Oc=make_ready_17a(b+40);
-if(Oc==0){
-sc=0;
-tc=0;
-uc=0;
+if(!(Oc&1)){
+zc=0;
+Ac=0;
+Bc=0;
 goto L21;}
 Nc=r8(b+48);}
 Pc=rp(b+40)+Nc*12;
@@ -70156,29 +72837,29 @@ Qc=r8(b+8);
 if(r8(b+32)>Qc)Rc=Qc;
 else{
 Sc=make_ready_8e3(b,1,16);
-if(Sc==0){
-sc=0;
-tc=0;
-uc=0;
+if(!(Sc&1)){
+zc=0;
+Ac=0;
+Bc=0;
 goto L21;}
 Rc=r8(b+8);}
 *(rp(b)+Rc)=1;
 w8(b+8,Rc+1);
 Tc=r8(b+176);
 if(Tc==18446744073709551615u){
-sc=0;
-tc=0;
-uc=0;}
+zc=0;
+Ac=0;
+Bc=0;}
 else{
 w8(b+176,Tc+1);
 Uc=r8(b+88);
 if(r8(b+112)>Uc)Vc=Uc;
 else{
 Wc=make_ready_9a1(b+80);
-if(Wc==0){
-sc=0;
-tc=0;
-uc=0;
+if(!(Wc&1)){
+zc=0;
+Ac=0;
+Bc=0;
 goto L21;}
 Vc=r8(b+88);}
 Xc=rp(b+80)+Vc*44;
@@ -70187,24 +72868,24 @@ Xc[1]=0;
 x2(Xc+2,0);
 memcpy(Xc+4,i,40);
 w8(b+88,Vc+1);
-sc=1;
-tc=3;
-uc=1;}}
+zc=1;
+Ac=3;
+Bc=1;}}
 else{
-sc=0;
-tc=5;
-uc=1;}}}
+zc=0;
+Ac=5;
+Bc=1;}}}
 else{
 z40(i);
-sc=0;
-tc=5;
-uc=1;}
-L21:*o=uc;
-o[1]=tc;
+zc=0;
+Ac=5;
+Bc=1;}
+L21:*o=Bc;
+o[1]=Ac;
 Yc=0;
-Zc=sc;
-ad=tc;
-bd=uc;
+Zc=zc;
+ad=Ac;
+bd=Bc;
 goto L22;}}
 L13:goto L11;
 case 85:begin_component_d5a(o,b,c,d);
@@ -70220,7 +72901,7 @@ goto L22;}
 L23:cd=r8(b+8);
 if(r8(b+32)-cd<2){
 dd=make_ready_8e3(b,2,128);
-if(dd==0)goto L11;
+if(!(dd&1))goto L11;
 ed=r8(b+8);}
 else ed=cd;
 *(rp(b)+ed)=58;
@@ -70308,7 +72989,7 @@ L32:Sd=Pd.f0;
 Td=Pd.f1;
 if(r8(b+32)-fd<Td){
 Ud=make_ready_8e3(b,Td,128);
-if(Ud==0)goto L11;
+if(!(Ud&1))goto L11;
 Vd=r8(b+8);}
 else Vd=fd;
 Wd=r8(b+16);
@@ -70341,63 +73022,59 @@ if(fe<d){
 ge=*(c+fe);
 if(ge==66){
 he=tag_9a7(b,c,d);
-if(he==0){
-ie=0;
-je=0;
-ke=0;}
-else{
+if(he&1){
 z40(m);
-le=r8(b+176);
-if(le<d){
-if(*(c+le)==73){
-me=r4(b+120);
-ne=b[139];
-oe=r8(b+8);
-pe=r8(b+48);
-if(r8(b+72)>pe)qe=pe;
+ie=r8(b+176);
+if(ie<d){
+if(*(c+ie)==73){
+je=r4(b+120);
+ke=b[139];
+le=r8(b+8);
+me=r8(b+48);
+if(r8(b+72)>me)ne=me;
 else{
-re=make_ready_17a(b+40);
-if(re==0){
-ie=0;
-je=0;
-ke=0;
+oe=make_ready_17a(b+40);
+if(!(oe&1)){
+pe=0;
+qe=0;
+re=0;
 goto L33;}
-qe=r8(b+48);}
-se=rp(b+40)+qe*12;
-x4(se,me);
-x4(se+4,oe);
+ne=r8(b+48);}
+se=rp(b+40)+ne*12;
+x4(se,je);
+x4(se+4,le);
 se[8]=0;
-se[9]=ne;
+se[9]=ke;
 x2(se+10,0);
-w8(b+48,qe+1);
+w8(b+48,ne+1);
 memcpy(m,b+120,20);
 te=r8(b+8);
 if(r8(b+32)>te)ue=te;
 else{
 ve=make_ready_8e3(b,1,16);
-if(ve==0){
-ie=0;
-je=0;
-ke=0;
+if(!(ve&1)){
+pe=0;
+qe=0;
+re=0;
 goto L33;}
 ue=r8(b+8);}
 *(rp(b)+ue)=1;
 w8(b+8,ue+1);
 we=r8(b+176);
 if(we==18446744073709551615u){
-ie=0;
-je=0;
-ke=0;}
+pe=0;
+qe=0;
+re=0;}
 else{
 w8(b+176,we+1);
 xe=r8(b+88);
 if(r8(b+112)>xe)ye=xe;
 else{
 ze=make_ready_9a1(b+80);
-if(ze==0){
-ie=0;
-je=0;
-ke=0;
+if(!(ze&1)){
+pe=0;
+qe=0;
+re=0;
 goto L33;}
 ye=r8(b+88);}
 Ae=rp(b+80)+ye*44;
@@ -70406,17 +73083,21 @@ Ae[1]=0;
 x2(Ae+2,0);
 memcpy(Ae+4,m,40);
 w8(b+88,ye+1);
-ie=1;
-je=3;
-ke=1;}}
+pe=1;
+qe=3;
+re=1;}}
 else{
-ie=0;
-je=5;
-ke=1;}}
+pe=0;
+qe=5;
+re=1;}}
 else{
-ie=0;
-je=5;
-ke=1;}}}
+pe=0;
+qe=5;
+re=1;}}
+else{
+pe=0;
+qe=0;
+re=0;}}
 else{
 z40(l);
 if(ge==73){
@@ -70425,10 +73106,10 @@ Ce=r8(b+48);
 if(r8(b+72)>Ce)De=Ce;
 else{
 Ee=make_ready_17a(b+40);
-if(Ee==0){
-ie=0;
-je=0;
-ke=0;
+if(!(Ee&1)){
+pe=0;
+qe=0;
+re=0;
 goto L33;}
 De=r8(b+48);}
 Fe=rp(b+40)+De*12;
@@ -70443,29 +73124,29 @@ Ge=r8(b+8);
 if(r8(b+32)>Ge)He=Ge;
 else{
 Ie=make_ready_8e3(b,1,16);
-if(Ie==0){
-ie=0;
-je=0;
-ke=0;
+if(!(Ie&1)){
+pe=0;
+qe=0;
+re=0;
 goto L33;}
 He=r8(b+8);}
 *(rp(b)+He)=1;
 w8(b+8,He+1);
 Je=r8(b+176);
 if(Je==18446744073709551615u){
-ie=0;
-je=0;
-ke=0;}
+pe=0;
+qe=0;
+re=0;}
 else{
 w8(b+176,Je+1);
 Ke=r8(b+88);
 if(r8(b+112)>Ke)Le=Ke;
 else{
 Me=make_ready_9a1(b+80);
-if(Me==0){
-ie=0;
-je=0;
-ke=0;
+if(!(Me&1)){
+pe=0;
+qe=0;
+re=0;
 goto L33;}
 Le=r8(b+88);}
 Ne=rp(b+80)+Le*44;
@@ -70474,24 +73155,24 @@ Ne[1]=0;
 x2(Ne+2,0);
 memcpy(Ne+4,l,40);
 w8(b+88,Le+1);
-ie=1;
-je=3;
-ke=1;}}
+pe=1;
+qe=3;
+re=1;}}
 else{
-ie=0;
-je=5;
-ke=1;}}}
+pe=0;
+qe=5;
+re=1;}}}
 else{
 z40(l);
-ie=0;
-je=5;
-ke=1;}
-L33:*o=ke;
-o[1]=je;
+pe=0;
+qe=5;
+re=1;}
+L33:*o=re;
+o[1]=qe;
 Yc=0;
-Zc=ie;
-ad=je;
-bd=ke;
+Zc=pe;
+ad=qe;
+bd=re;
 goto L22;}}
 L25:L11:goto L34;
 L22:if(bd==1){
@@ -70518,7 +73199,7 @@ Se=r8(b+48);
 if(r8(b+72)>Se)Te=Se;
 else{
 Ue=make_ready_17a(b+40);
-if(Ue==0){
+if(!(Ue&1)){
 x4(a,0);
 goto L35;}
 Te=r8(b+48);}
@@ -70547,17 +73228,17 @@ static void operator_5af(u8* a,u8* b,u8* c,u64 d)
 {
 u8 e[4],f[32];
 A16 u8 g[40],h[40];
-u64 i,k,l,p,v,z,A,D,E,G,H,I,M,N,Q,R,T,U,V,Y;
-u8 j,o,q,r,s,t,u,x,B,F,J,O,S,W,Z,aa,ba,ca,da;
+u64 i,k,l,p,s,w,x,D,E,G,H,I,M,N,Q,R,T,U,V,Y;
+u8 j,o,q,r,u,y,z,A,B,F,J,O,S,W,Z,aa,ba,ca,da;
 s_8_8 m;
-u32 n,w,y,L;
+u32 n,t,v,L;
 u8 *C,*K,*P,*X;
 if(b[139]&1)x4(a,0);
 else{
 i=r8(b+8);
 if(r8(b+32)-i<2){
 j=make_ready_8e3(b,2,128);
-if(j==0){
+if(!(j&1)){
 x4(a,0);
 goto L1;}
 k=r8(b+8);}
@@ -70581,63 +73262,59 @@ if(p<d){
 q=*(c+p);
 if(q==66){
 r=tag_9a7(b,c,d);
-if(r==0){
-s=0;
-t=0;
-u=0;}
-else{
+if(r&1){
 z20(h+20);
-v=r8(b+176);
-if(v<d){
-if(*(c+v)==73){
-w=r4(b+120);
-x=b[139];
-y=r8(b+8);
-z=r8(b+48);
-if(r8(b+72)>z)A=z;
+s=r8(b+176);
+if(s<d){
+if(*(c+s)==73){
+t=r4(b+120);
+u=b[139];
+v=r8(b+8);
+w=r8(b+48);
+if(r8(b+72)>w)x=w;
 else{
-B=make_ready_17a(b+40);
-if(B==0){
-s=0;
-t=0;
-u=0;
+y=make_ready_17a(b+40);
+if(!(y&1)){
+z=0;
+A=0;
+B=0;
 goto L2;}
-A=r8(b+48);}
-C=rp(b+40)+A*12;
-x4(C,w);
-x4(C+4,y);
+x=r8(b+48);}
+C=rp(b+40)+x*12;
+x4(C,t);
+x4(C+4,v);
 C[8]=0;
-C[9]=x;
+C[9]=u;
 x2(C+10,0);
-w8(b+48,A+1);
+w8(b+48,x+1);
 memcpy(h,b+120,20);
 D=r8(b+8);
 if(r8(b+32)>D)E=D;
 else{
 F=make_ready_8e3(b,1,16);
-if(F==0){
-s=0;
-t=0;
-u=0;
+if(!(F&1)){
+z=0;
+A=0;
+B=0;
 goto L2;}
 E=r8(b+8);}
 *(rp(b)+E)=1;
 w8(b+8,E+1);
 G=r8(b+176);
 if(G==18446744073709551615u){
-s=0;
-t=0;
-u=0;}
+z=0;
+A=0;
+B=0;}
 else{
 w8(b+176,G+1);
 H=r8(b+88);
 if(r8(b+112)>H)I=H;
 else{
 J=make_ready_9a1(b+80);
-if(J==0){
-s=0;
-t=0;
-u=0;
+if(!(J&1)){
+z=0;
+A=0;
+B=0;
 goto L2;}
 I=r8(b+88);}
 K=rp(b+80)+I*44;
@@ -70646,17 +73323,21 @@ K[1]=0;
 x2(K+2,0);
 memcpy(K+4,h,40);
 w8(b+88,I+1);
-s=1;
-t=3;
-u=1;}}
+z=1;
+A=3;
+B=1;}}
 else{
-s=0;
-t=5;
-u=1;}}
+z=0;
+A=5;
+B=1;}}
 else{
-s=0;
-t=5;
-u=1;}}}
+z=0;
+A=5;
+B=1;}}
+else{
+z=0;
+A=0;
+B=0;}}
 else{
 z20(g+20);
 if(q==73){
@@ -70665,10 +73346,10 @@ M=r8(b+48);
 if(r8(b+72)>M)N=M;
 else{
 O=make_ready_17a(b+40);
-if(O==0){
-s=0;
-t=0;
-u=0;
+if(!(O&1)){
+z=0;
+A=0;
+B=0;
 goto L2;}
 N=r8(b+48);}
 P=rp(b+40)+N*12;
@@ -70683,29 +73364,29 @@ Q=r8(b+8);
 if(r8(b+32)>Q)R=Q;
 else{
 S=make_ready_8e3(b,1,16);
-if(S==0){
-s=0;
-t=0;
-u=0;
+if(!(S&1)){
+z=0;
+A=0;
+B=0;
 goto L2;}
 R=r8(b+8);}
 *(rp(b)+R)=1;
 w8(b+8,R+1);
 T=r8(b+176);
 if(T==18446744073709551615u){
-s=0;
-t=0;
-u=0;}
+z=0;
+A=0;
+B=0;}
 else{
 w8(b+176,T+1);
 U=r8(b+88);
 if(r8(b+112)>U)V=U;
 else{
 W=make_ready_9a1(b+80);
-if(W==0){
-s=0;
-t=0;
-u=0;
+if(!(W&1)){
+z=0;
+A=0;
+B=0;
 goto L2;}
 V=r8(b+88);}
 X=rp(b+80)+V*44;
@@ -70714,20 +73395,20 @@ X[1]=0;
 x2(X+2,0);
 memcpy(X+4,g,40);
 w8(b+88,V+1);
-s=1;
-t=3;
-u=1;}}
+z=1;
+A=3;
+B=1;}}
 else{
-s=0;
-t=5;
-u=1;}}}
+z=0;
+A=5;
+B=1;}}}
 else{
-s=0;
-t=5;
-u=1;}
-L2:*a=u;
-a[1]=t;
-a[2]=s;
+z=0;
+A=5;
+B=1;}
+L2:*a=B;
+a[1]=A;
+a[2]=z;
 a[3]=0;}
 else{
 Y=r8(b+176);
@@ -70787,7 +73468,7 @@ default:goto L1;
 h=r8(b+8);
 if(r8(b+32)-h<g){
 i=make_ready_8e3(b,g,128);
-if(i==0)goto L2;
+if(!(i&1))goto L2;
 j=r8(b+8);}
 else j=h;
 k=r8(b+16);
@@ -70919,7 +73600,7 @@ j=h;
 w8(b+176,g+2);
 if(r8(b+32)-h<5){
 k=make_ready_8e3(b,5,128);
-if(k==0)goto L1;
+if(!(k&1))goto L1;
 l=r8(b+8);}
 else l=h;
 m=r8(b+16);
@@ -70997,9 +73678,9 @@ L7:L=I.f0;
 M=I.f1;
 if(r8(b+32)-q<M){
 N=make_ready_8e3(b,M,128);
-if(N==0)goto L3;}
+if(!(N&1))goto L3;}
 O=push_str_b7e(b,L,M);
-if(O!=0)goto L3;
+if(O&1)goto L3;
 unscoped_named_e85(f,b,c,d,j,1);
 *a=*f;
 a[1]=f[1];
@@ -71028,7 +73709,7 @@ if(k<d){
 l=*(c+k);
 if(l==66){
 m=tag_9a7(b,c,d);
-if(m==0){
+if(!(m&1)){
 x4(a,0);
 goto L1;}
 w4(i,0);
@@ -71046,7 +73727,7 @@ p=r8(b+48);
 if(r8(b+72)>p)q=p;
 else{
 r=make_ready_17a(b+40);
-if(r==0){
+if(!(r&1)){
 s=0;
 t=0;
 u=0;
@@ -71064,7 +73745,7 @@ x=r8(b+8);
 if(r8(b+32)>x)y=x;
 else{
 z=make_ready_8e3(b,1,16);
-if(z==0){
+if(!(z&1)){
 s=0;
 t=0;
 u=0;
@@ -71085,7 +73766,7 @@ B=r8(b+88);
 if(r8(b+112)>B)C=B;
 else{
 D=make_ready_9a1(b+80);
-if(D==0){
+if(!(D&1)){
 s=0;
 t=0;
 u=0;
@@ -71128,7 +73809,7 @@ G=r8(b+48);
 if(r8(b+72)>G)H=G;
 else{
 I=make_ready_17a(b+40);
-if(I==0){
+if(!(I&1)){
 J=0;
 K=0;
 L=0;
@@ -71146,7 +73827,7 @@ O=r8(b+8);
 if(r8(b+32)>O)P=O;
 else{
 Q=make_ready_8e3(b,1,16);
-if(Q==0){
+if(!(Q&1)){
 J=0;
 K=0;
 L=0;
@@ -71167,7 +73848,7 @@ S=r8(b+88);
 if(r8(b+112)>S)T=S;
 else{
 U=make_ready_9a1(b+80);
-if(U==0){
+if(!(U&1)){
 J=0;
 K=0;
 L=0;
@@ -71319,7 +74000,7 @@ L10:R=O.f0;
 S=O.f1;
 if(r8(b+32)-g<S){
 T=make_ready_8e3(b,S,128);
-if(T==0)goto L1;
+if(!(T&1))goto L1;
 U=r8(b+8);}
 else U=g;
 V=r8(b+16);
@@ -71393,7 +74074,7 @@ L3:w8(b+176,j+1);
 o=r8(b+8);
 if(r8(b+32)-o<21){
 p=make_ready_8e3(b,21,128);
-if(p==0)goto L5;
+if(!(p&1))goto L5;
 q=r8(b+8);}
 else q=o;
 r=r8(b+16);
@@ -71512,7 +74193,7 @@ L8:w8(b+176,u+1);
 z=r8(b+8);
 if(r8(b+32)-z<17){
 A=make_ready_8e3(b,17,128);
-if(A==0)goto L12;
+if(!(A&1))goto L12;
 B=r8(b+8);}
 else B=z;
 C=r8(b+16);
@@ -71583,7 +74264,7 @@ n=r8(b+88);
 if(r8(b+112)>n)o=n;
 else{
 p=make_ready_9a1(b+80);
-if(p==0){
+if(!(p&1)){
 q=0;
 goto L2;}
 o=r8(b+88);}
@@ -71619,7 +74300,7 @@ t=r8(b+88);
 if(r8(b+112)>t)u=t;
 else{
 v=make_ready_9a1(b+80);
-if(v==0){
+if(!(v&1)){
 w4(h,0);
 goto L3;}
 u=r8(b+88);}
@@ -71650,7 +74331,7 @@ x=r8(b+88);
 if(r8(b+112)>x)y=x;
 else{
 z=make_ready_9a1(b+80);
-if(z==0){
+if(!(z&1)){
 w4(h,0);
 goto L3;}
 y=r8(b+88);}
@@ -71680,9 +74361,9 @@ D=rp((u8*)t_e7e8+(u64)B*8);
 w8(b+176,i+1);
 if(r8(b+32)-j<C){
 E=make_ready_8e3(b,C,128);
-if(E==0)goto L5;}
+if(!(E&1))goto L5;}
 F=push_str_b7e(b,D,C);
-if(F==0){
+if(!(F&1)){
 *h=1;
 h[1]=2;
 h[2]=0;
@@ -71732,7 +74413,7 @@ switch(*(c+o)){
 case 116:w8(b+176,k+2);
 if(r8(b+32)-l<5){
 p=make_ready_8e3(b,5,128);
-if(p==0)goto L1;
+if(!(p&1))goto L1;
 q=r8(b+8);}
 else q=l;
 r=r8(b+16);
@@ -71799,15 +74480,15 @@ L6:P=M.f0;
 Q=M.f1;
 if(r8(b+32)-v<Q){
 R=make_ready_8e3(b,Q,128);
-if(R==0)goto L2;}
+if(!(R&1))goto L2;}
 S=push_str_b7e(b,P,Q);
-if(S!=0)goto L2;
+if(S&1)goto L2;
 T=r8(b+8);
 U=r8(b+48);
 if(r8(b+72)>U)V=U;
 else{
 W=make_ready_17a(b+40);
-if(W==0){
+if(!(W&1)){
 X=0;
 Y=0;
 Z=0;
@@ -71827,7 +74508,7 @@ ca=r8(b+8);
 if(r8(b+32)>ca)da=ca;
 else{
 ea=make_ready_8e3(b,1,16);
-if(ea==0){
+if(!(ea&1)){
 X=0;
 Y=0;
 Z=0;
@@ -71846,7 +74527,7 @@ ga=r8(b+88);
 if(r8(b+112)>ga)ha=ga;
 else{
 ia=make_ready_9a1(b+80);
-if(ia==0){
+if(!(ia&1)){
 X=0;
 Y=0;
 Z=0;
@@ -71902,7 +74583,7 @@ default:goto L9;
 w8(b+176,k+2);
 if(r8(b+32)-l<ka){
 ma=make_ready_8e3(b,ka,128);
-if(ma==0)goto L10;
+if(!(ma&1))goto L10;
 na=r8(b+8);}
 else na=l;
 oa=r8(b+16);
@@ -71931,7 +74612,7 @@ wa=ta;
 xa=sa;}
 else{
 ya=make_ready_8e3(b,1,16);
-if(ya==0){
+if(!(ya&1)){
 za=0;
 Aa=0;
 Ba=0;
@@ -71951,7 +74632,7 @@ Da=r8(b+88);
 if(r8(b+112)>Da)Ea=Da;
 else{
 Fa=make_ready_9a1(b+80);
-if(Fa==0){
+if(!(Fa&1)){
 za=0;
 Aa=0;
 Ba=0;
@@ -71993,8 +74674,7 @@ i[3]=f[3];}
 else{
 Ha=g[12];
 Ia=repeat_28b(b,r4(g+4),r4(g+8));
-if(Ia==0)w4(i,0);
-else{
+if(Ia&1){
 Ja=r8(b+176);
 if(Ja<d){
 Ka=*(c+Ja)!=73;
@@ -72007,7 +74687,7 @@ Oa=r8(b+8);
 if(r8(b+32)>Oa)Pa=Oa;
 else{
 Qa=make_ready_8e3(b,1,16);
-if(Qa==0){
+if(!(Qa&1)){
 La=0;
 Ma=0;
 Na=0;
@@ -72026,7 +74706,7 @@ Sa=r8(b+88);
 if(r8(b+112)>Sa)Ta=Sa;
 else{
 Ua=make_ready_9a1(b+80);
-if(Ua==0){
+if(!(Ua&1)){
 La=0;
 Ma=0;
 Na=0;
@@ -72049,7 +74729,8 @@ Na=1;}
 L12:*i=Na;
 i[1]=Ma;
 i[2]=La;
-i[3]=0;}}}
+i[3]=0;}
+else w4(i,0);}}
 else w4(i,0);
 L8:break;
 case 90:begin_enclosing_897(i,b,c,d);
@@ -72097,7 +74778,7 @@ L17:lb=ib.f0;
 mb=ib.f1;
 if(r8(b+32)-l<mb){
 nb=make_ready_8e3(b,mb,128);
-if(nb==0)goto L14;
+if(!(nb&1))goto L14;
 ob=r8(b+8);}
 else ob=l;
 pb=r8(b+16);
@@ -72123,7 +74804,7 @@ xb=r8(b+48);
 if(r8(b+72)>xb)yb=xb;
 else{
 zb=make_ready_17a(b+40);
-if(zb==0){
+if(!(zb&1)){
 w4(i,0);
 break;}
 yb=r8(b+48);}
@@ -72141,7 +74822,7 @@ Cb=r8(b+8);
 if(r8(b+32)>Cb)Db=Cb;
 else{
 Eb=make_ready_8e3(b,1,16);
-if(Eb==0){
+if(!(Eb&1)){
 Fb=0;
 Gb=0;
 goto L18;}
@@ -72158,7 +74839,7 @@ Ib=r8(b+88);
 if(r8(b+112)>Ib)Jb=Ib;
 else{
 Kb=make_ready_9a1(b+80);
-if(Kb==0){
+if(!(Kb&1)){
 Fb=0;
 Gb=0;
 goto L18;}
@@ -72299,7 +74980,7 @@ L6:H=E.f0;
 I=E.f1;
 if(r8(b+32)-q<I){
 J=make_ready_8e3(b,I,128);
-if(J==0)goto L2;
+if(!(J&1))goto L2;
 K=r8(b+8);}
 else K=q;
 L=r8(b+16);
@@ -72340,6 +75021,490 @@ a[2]=U;
 a[3]=T;
 goto L1;}}
 L4:L2:x4(a,0);}
+L1:return;
+}
+
+/* cpp_direct::direct::Direct::returned */
+static void returned_07a(u8* a,u8* b,u8* c,u64 d,u8 e)
+{
+A16 u8 f[4];
+u64 g,h,j,l,m,o,p,q,t,u,x,C;
+u8 *i,*r,*s,*w;
+u8 k,n,v,y,z,A,B,D;
+g=r8(b+88);
+if(g!=0)w8(b+88,g-1);
+h=e?5:2;
+i=e?(u8*)t_cbf6:(u8*)t_4f5a;
+j=r8(b+8);
+if(r8(b+32)-j<h){
+k=make_ready_8e3(b,h,128);
+if(!(k&1))goto L1;
+l=r8(b+8);}
+else l=j;
+m=r8(b+16);
+if(h>m-l){
+n=grow_amortized_e1a(b,h);
+if(!n)goto L1;
+o=r8(b+16);
+p=r8(b+8);}
+else{
+o=m;
+p=l;}
+q=p+h;
+r=rp(b);
+z16(b+8);
+s=r+(i64)p;
+if((u64)s-(u64)i<h)copy_bits_4f4(i,s,h);
+else memcpy(s,i,h);
+wp(b,r);
+w8(b+8,q);
+w8(b+16,o);
+t=r8(b+88);
+if(r8(b+112)>t)u=t;
+else{
+v=make_ready_9a1(b+80);
+if(!(v&1)){
+x4(a,0);
+goto L2;}
+u=r8(b+88);}
+w=rp(b+80)+u*44;
+*w=23;
+w[1]=e;
+z42(w+2);
+w8(b+88,u+1);
+w4(f,0);
+x=r8(b+176);
+if(x==18446744073709551615u){
+y=0;
+z=0;
+A=0;
+B=0;}
+else{
+C=x+1;
+if(C<d)D=*(c+C)==69;
+else D=0;
+if(x<d){
+if(D&&*(c+x)==118){
+w8(b+176,x+2);
+function_ended_13c(f,b,c,d,e);
+y=f[3];
+z=f[2];
+A=f[1];
+B=*f;
+goto L3;}}
+parameter_at_257(f,b,c,d,e,1);
+y=f[3];
+z=f[2];
+A=f[1];
+B=*f;}
+L3:*a=B;
+a[1]=A;
+a[2]=z;
+a[3]=y;
+goto L2;
+L1:x4(a,0);
+L2:return;
+}
+
+/* cpp_direct::direct::Direct::function_ended */
+static void function_ended_13c(u8* a,u8* b,u8* c,u64 d,u8 e)
+{
+A16 u8 f[4];
+u64 g,h,j,k,n,o,p,s;
+u8 i,l,q;
+u8 *m,*r;
+w4(f,0);
+g=r8(b+8);
+if(r8(b+32)>g)h=g;
+else{
+i=make_ready_8e3(b,1,16);
+if(!(i&1)){
+x4(a,0);
+goto L1;}
+h=r8(b+8);}
+*(rp(b)+h)=41;
+w8(b+8,h+1);
+if(e){
+j=r8(b+48);
+if(r8(b+72)>j)k=j;
+else{
+l=make_ready_17a(b+40);
+if(!(l&1))goto L2;
+k=r8(b+48);}
+m=rp(b+40)+k*12;
+x4(m,1);
+n=k+1;
+x8(m+4,0);
+w8(b+48,n);
+o=n;}
+else o=r8(b+48);
+if(r8(b+72)>o)p=o;
+else{
+q=make_ready_17a(b+40);
+if(!(q&1))goto L2;
+p=r8(b+48);}
+r=rp(b+40)+p*12;
+x4(r,1);
+x8(r+4,0);
+w8(b+48,p+1);
+s=r8(b+88);
+if(s!=0)w8(b+88,s-1);
+pass_element_fdc(f,b,c,d,0);
+*a=*f;
+a[1]=f[1];
+a[2]=f[2];
+a[3]=f[3];
+goto L1;
+L2:x4(a,0);
+L1:return;
+}
+
+/* cpp_direct::direct::Direct::pass_element */
+static void pass_element_fdc(u8* a,u8* b,u8* c,u64 d,u8 e)
+{
+u8 g[32],h[32];
+A16 u8 f[4];
+u64 i;
+u8 *j;
+u32 k,m;
+u8 l,n,o,p;
+w4(f,0);
+i=r8(b+88);
+if(i==0)x4(a,0);
+else{
+j=rp(b+80)+(i64)(i*44);
+switch(j[-44]){
+case 10:k=r4(j-40);
+memcpy(g,j-36,32);
+parameter_ended_d3f(f,b,c,d,k,g);
+break;
+case 12:enclosing_parameter_fc1(f,b,c,d,r4(j-40),r4(j-36));
+break;
+case 13:instance_parameter_240(f,b,c,d,j[-43],r4(j-40),r4(j-36));
+break;
+case 19:finish_8cd(f,b,c,d);
+break;
+case 28:if(!e){
+x4(a,0);
+goto L1;}
+l=j[-36];
+m=r4(j-40);
+memcpy(h,j-34,32);
+element_ended_20b(f,b,c,d,m,l,h,1);
+break;
+case 0:case 1:case 2:case 3:case 4:case 5:case 6:case 7:case 8:case 9:case 11:case 14:case 15:case 16:case 17:case 18:case 20:case 21:case 22:case 23:case 24:case 25:case 26:case 27:case 29:*f=1;
+f[1]=3;
+f[2]=0;
+f[3]=0;
+break;
+default:NEVER;
+}
+n=f[1];
+o=f[2];
+p=f[3];
+*a=*f;
+a[1]=n;
+a[2]=o;
+a[3]=p;}
+L1:return;
+}
+
+/* cpp_direct::direct::Direct::parameter_at */
+static void parameter_at_257(u8* a,u8* b,u8* c,u64 d,u8 e,u8 f)
+{
+u8 g[4];
+u64 h,i,l,n,p,q,s,t,u,w,x,A,B,F,G;
+u8 *j,*E,*I;
+u8 k,m,o,r,v,z,C,D,H;
+u32 y;
+h=r8(b+176);
+if(h<d){
+if(*(c+h)==69){
+i=r8(b+8);
+if(i>=5){
+j=rp(b)+(i64)i;
+k=0;
+l=0;
+L1:m=k||*((u8*)t_262b+(i64)l)!=*(j-5+(i64)l);
+n=l+1;
+if(n!=4){
+k=m;
+l=n;
+goto L1;}
+o=0;
+p=0;
+L2:q=p+1;
+r=o||*((u8*)t_262b+(i64)q)!=*(j-5+(i64)q);
+if(q!=4){
+o=r;
+p=q;
+goto L2;}
+if(!(m|r)){
+x4(a,0);
+goto L3;}}
+w8(b+176,h+1);
+function_ended_13c(g,b,c,d,e);
+*a=*g;
+a[1]=g[1];
+a[2]=g[2];
+a[3]=g[3];
+goto L3;}}
+if(f){
+s=h;
+t=r8(b+8);}
+else{
+u=r8(b+8);
+if(r8(b+32)-u<2){
+v=make_ready_8e3(b,2,128);
+if(!(v&1)){
+x4(a,0);
+goto L3;}
+w=r8(b+8);}
+else w=u;
+*(rp(b)+w)=44;
+*(rp(b)+(i64)w+1)=32;
+x=w+2;
+w8(b+8,x);
+s=r8(b+176);
+t=x;}
+if(s<d){
+y=t;
+z=*(c+s);
+switch(z){
+case 82:w8(b+176,s+1);
+A=r8(b+88);
+if(r8(b+112)>A)B=A;
+else{
+C=make_ready_9a1(b+80);
+if(!(C&1)){
+D=0;
+break;}
+B=r8(b+88);}
+E=rp(b+80)+B*44;
+*E=1;
+E[1]=0;
+x2(E+2,0);
+x4(E+4,y);
+z36(E+8);
+w8(b+88,B+1);
+D=1;
+break;
+case 79:w8(b+176,s+1);
+F=r8(b+88);
+if(r8(b+112)>F)G=F;
+else{
+H=make_ready_9a1(b+80);
+if(!(H&1)){
+D=0;
+break;}
+G=r8(b+88);}
+I=rp(b+80)+G*44;
+*I=2;
+I[1]=0;
+x2(I+2,0);
+x4(I+4,y);
+z36(I+8);
+w8(b+88,G+1);
+D=1;
+break;
+case 0:D=z;
+break;
+default:D=1;
+break;}}
+else D=0;
+*a=D;
+a[1]=0;
+a[2]=0;
+a[3]=0;
+L3:return;
+}
+
+/* cpp_direct::direct::Direct::array_ended */
+static void array_ended_b9c(u8* a,u8* b,u8* c,u64 d,u8 e,u32 f,u32 g)
+{
+A16 u8 h[4];
+u64 i,j,l,n,o,q,r,s,w,x,y,z,B,D,E,G,H,I,M,O,P,Q,T,U;
+u8 *k,*t,*u,*v,*A,*J,*K,*L,*S,*W;
+u8 m,p,C,F,N,R,V;
+w4(h,0);
+i=r8(b+88);
+if(i!=0)w8(b+88,i-1);
+j=r8((u8*)t_5b3b+(u64)e*8);
+k=rp((u8*)t_7cd2+(u64)e*8);
+l=r8(b+8);
+if(r8(b+32)-l<j){
+m=make_ready_8e3(b,j,128);
+if(!(m&1))goto L1;
+n=r8(b+8);}
+else n=l;
+o=r8(b+16);
+if(j>o-n){
+p=grow_amortized_e1a(b,j);
+if(!p)goto L1;
+q=r8(b+16);
+r=r8(b+8);}
+else{
+q=o;
+r=n;}
+s=r+j;
+t=rp(b);
+z16(b+8);
+u=t+(i64)r;
+if((u64)u-(u64)k<j)copy_bits_4f4(k,u,j);
+else memcpy(u,k,j);
+wp(b,t);
+w8(b+8,s);
+w8(b+16,q);
+v=c+(i64)f;
+w=(u64)g-f;
+x=usub64(w,1);
+y=0;
+L2:if(y==x)z=x;
+else{
+if(*(v+y)==48){
+y=y+1;
+goto L2;}
+z=y;}
+A=v+(i64)z;
+B=w-z;
+if(r8(b+32)-s<B){
+C=make_ready_8e3(b,B,128);
+if(!(C&1))goto L3;
+D=r8(b+8);
+E=r8(b+16);}
+else{
+D=s;
+E=q;}
+if(B>E-D){
+F=grow_amortized_e1a(b,B);
+if(!F)goto L3;
+G=r8(b+16);
+H=r8(b+8);}
+else{
+G=E;
+H=D;}
+I=H+B;
+J=rp(b);
+z16(b+8);
+K=J+(i64)H;
+if((u64)K-(u64)A<B)copy_bits_4f4(A,K,B);
+else memmove(K,A,B);
+wp(b,J);
+w8(b+8,I);
+w8(b+16,G);
+if(r8(b+32)>I){
+L=J;
+M=I;}
+else{
+N=make_ready_8e3(b,1,16);
+if(!(N&1)){
+x4(a,0);
+goto L4;}
+L=rp(b);
+M=r8(b+8);}
+*(L+M)=93;
+w8(b+8,M+1);
+if(e==0)O=r8(b+48);
+else{
+P=r8(b+48);
+if(r8(b+72)>P)Q=P;
+else{
+R=make_ready_17a(b+40);
+if(!(R&1))goto L5;
+Q=r8(b+48);}
+S=rp(b+40)+Q*12;
+x4(S,1);
+T=Q+1;
+x8(S+4,0);
+w8(b+48,T);
+O=T;}
+if(r8(b+72)>O)U=O;
+else{
+V=make_ready_17a(b+40);
+if(!(V&1))goto L5;
+U=r8(b+48);}
+W=rp(b+40)+U*12;
+x4(W,1);
+x8(W+4,0);
+w8(b+48,U+1);
+pass_element_fdc(h,b,c,d,e==2);
+*a=*h;
+a[1]=h[1];
+a[2]=h[2];
+a[3]=h[3];
+goto L4;
+L5:x4(a,0);
+goto L4;
+L3:x4(a,0);
+goto L4;
+L1:x4(a,0);
+L4:return;
+}
+
+/* cpp_direct::direct::Direct::argument_enumerator */
+static void argument_enumerator_87a(u8* a,u8* b,u8* c,u64 d,u32 e,u8 f,u8* g)
+{
+u8 i[32];
+A16 u8 h[4];
+u8 j,n,p,q,u;
+u64 k,l,m,o,r,s,t;
+u8 *v;
+memcpy(i,g,32);
+w4(h,0);
+j=ends_as_integer_bdf(b);
+if(j)x4(a,0);
+else{
+k=r8(b+88);
+if(k!=0)w8(b+88,k-1);
+l=r8(b+8);
+if(r8(b+32)>l)m=l;
+else{
+n=make_ready_8e3(b,1,16);
+if(!(n&1)){
+x4(a,0);
+goto L1;}
+m=r8(b+8);}
+*(rp(b)+m)=41;
+w8(b+8,m+1);
+o=r8(b+176);
+if(o<d){
+if(*(c+o)==110){
+w8(b+176,o+1);
+p=1;}
+else p=0;}
+else p=0;
+q=digits_418(b,c,d,p);
+if(q&1){
+r=r8(b+176);
+if(r<d){
+if(*(c+r)==69){
+w8(b+176,r+1);
+s=r8(b+88);
+if(r8(b+112)>s)t=s;
+else{
+u=make_ready_9a1(b+80);
+if(!(u&1)){
+x4(a,0);
+goto L1;}
+t=r8(b+88);}
+v=rp(b+80)+t*44;
+*v=25;
+v[1]=0;
+x2(v+2,0);
+x4(v+4,e);
+v[8]=f;
+v[9]=0;
+memcpy(v+10,i,32);
+x2(v+42,0);
+w8(b+88,t+1);
+argument_ended_e71(h,b,c,d,e,f,i,0);
+*a=*h;
+a[1]=h[1];
+a[2]=h[2];
+a[3]=h[3];
+goto L1;}}
+x4(a,0);}
+else x4(a,0);}
 L1:return;
 }
 
@@ -72397,10 +75562,11 @@ switch(E){
 case 78:case 83:break;
 default:if((u8)(E-49)>=9)goto L2;
 break;}
-F=0;
-G=0;
-H=3;
-I=1;
+next_enumerator_034(l,b,c,d,z,o);
+F=l[3];
+G=l[2];
+H=l[1];
+I=*l;
 goto L3;}
 L2:next_literal_1b3(p,b,c,d,z,o);
 if(*p!=1){
@@ -72455,7 +75621,7 @@ else memcpy(m,o,32);
 K=r8(b+8);
 if(r8(b+32)-K<2){
 L=make_ready_8e3(b,2,128);
-if(L==0){
+if(!(L&1)){
 F=0;
 G=0;
 H=0;
@@ -72479,7 +75645,7 @@ Q=r8(b+88);
 if(r8(b+112)>Q)R=Q;
 else{
 S=make_ready_9a1(b+80);
-if(S==0){
+if(!(S&1)){
 F=0;
 G=0;
 H=0;
@@ -72487,7 +75653,7 @@ I=0;
 goto L3;}
 R=r8(b+88);}
 T=rp(b+80)+R*44;
-*T=22;
+*T=25;
 T[1]=0;
 x2(T+2,0);
 x4(T+4,O);
@@ -72526,16 +75692,82 @@ a[3]=F;
 L4:return;
 }
 
+/* cpp_direct::direct::Direct::next_enumerator */
+static void next_enumerator_034(u8* a,u8* b,u8* c,u64 d,u8 e,u8* f)
+{
+u8 h[32];
+A16 u8 g[4];
+u64 i,k,l,m,p,r,s;
+u8 j,o,q,t;
+u32 n;
+u8 *u;
+memcpy(h,f,32);
+w4(g,0);
+i=r8(b+8);
+if(r8(b+32)-i<2){
+j=make_ready_8e3(b,2,128);
+if(!(j&1)){
+x4(a,0);
+goto L1;}
+k=r8(b+8);}
+else k=i;
+*(rp(b)+k)=44;
+*(rp(b)+(i64)k+1)=32;
+l=k+2;
+w8(b+8,l);
+if(e==255)x4(a,0);
+else{
+m=r8(b+176);
+if(m==18446744073709551615u)x4(a,0);
+else{
+n=l;
+o=e+1;
+w8(b+176,m+1);
+if(r8(b+32)>l)p=l;
+else{
+q=make_ready_8e3(b,1,16);
+if(!(q&1)){
+x4(a,0);
+goto L1;}
+p=r8(b+8);}
+*(rp(b)+p)=40;
+w8(b+8,p+1);
+r=r8(b+88);
+if(r8(b+112)>r)s=r;
+else{
+t=make_ready_9a1(b+80);
+if(!(t&1)){
+x4(a,0);
+goto L1;}
+s=r8(b+88);}
+u=rp(b+80)+s*44;
+*u=26;
+u[1]=0;
+x2(u+2,0);
+x4(u+4,n);
+u[8]=o;
+u[9]=0;
+memcpy(u+10,h,32);
+x2(u+42,0);
+w8(b+88,s+1);
+named_type_bf1(g,b,c,d);
+*a=*g;
+a[1]=g[1];
+a[2]=g[2];
+a[3]=g[3];}}
+L1:return;
+}
+
 /* cpp_direct::direct::Direct::next_pack */
 static void next_pack_49a(u8* a,u8* b,u8* c,u64 d,u8 e,u8* f)
 {
 u8 h[16],i[32],j[16];
 A16 u8 g[4];
 u16 k,l;
-u64 m,n,r,t,y,A,B,E,F,I,J;
-u8 o,p,q,u,v,w,x,z,D,G,K;
-u8 *s,*H,*L;
-u32 C;
+u64 m,n,r,t,C,E,F,I,J,M,N;
+u8 o,p,q,s,u,v,w,x,z,A,B,D,H,K,O;
+u8 *y,*L,*P;
+u32 G;
 k=q2(f);
 l=q2(f+2);
 memcpy(j,f+4,16);
@@ -72547,9 +75779,9 @@ o=f[28];
 p=f[29];
 q=f[31];
 r=m+1;
-if(r<d){
-s=c+(i64)r;
-switch(*s){
+s=r>=d;
+if(!s){
+switch(*(c+r)){
 case 69:memcpy(h,f+4,16);
 w4(g,0);
 t=m+2;
@@ -72590,78 +75822,91 @@ a[1]=w;
 a[2]=v;
 a[3]=u;
 goto L1;
-case 76:case 65:case 70:break;
-case 80:case 82:if(usub64(d,r)<2)goto L2;
-switch(s[1]){
-case 70:case 65:break;
-default:goto L2;
-}
+case 76:goto L2;
+default:break;}}
+y=c+(i64)r;
+z=usub64(d,r)<2;
+if(!(d<r||z)){
+if(*y==82){
+A=y[1];
+if(s|(A==65))goto L3;
+B=A;
+goto L4;}}
+if(s)goto L3;
+switch(*y){
+case 65:case 70:goto L2;
+case 80:case 82:if(z)goto L3;
+B=y[1];
 break;
-default:goto L2;
+default:goto L3;
 }
-*a=1;
-a[1]=3;
-a[2]=0;
-a[3]=0;
-goto L1;}
-L2:y=r8(b+8);
-if(r8(b+32)-y<2){
-z=make_ready_8e3(b,2,128);
-if(z==0){
+L4:switch(B){
+case 70:case 65:goto L2;
+default:break;}
+L3:C=r8(b+8);
+if(r8(b+32)-C<2){
+D=make_ready_8e3(b,2,128);
+if(!(D&1)){
 x4(a,0);
 goto L1;}
-A=r8(b+8);}
-else A=y;
-*(rp(b)+A)=44;
-*(rp(b)+(i64)A+1)=32;
-B=A+2;
-w8(b+8,B);
+E=r8(b+8);}
+else E=C;
+*(rp(b)+E)=44;
+*(rp(b)+(i64)E+1)=32;
+F=E+2;
+w8(b+8,F);
 w8(b+176,r);
-if(e==255)x4(a,0);
-else{
-C=B;
-D=e+1;
-E=r8(b+88);
-if(r8(b+112)>E)F=E;
-else{
-G=make_ready_9a1(b+80);
-if(G==0){
+if(e==255){
 x4(a,0);
 goto L1;}
-F=r8(b+88);}
-H=rp(b+80)+F*44;
-*H=23;
-I=F+1;
-z43(H+1);
-w8(b+88,I);
+G=F;
+H=e+1;
+I=r8(b+88);
 if(r8(b+112)>I)J=I;
 else{
 K=make_ready_9a1(b+80);
-if(K==0){
+if(!(K&1)){
 x4(a,0);
 goto L1;}
 J=r8(b+88);}
 L=rp(b+80)+J*44;
-*L=24;
-L[1]=0;
-x2(L+2,0);
-x4(L+4,C);
-L[8]=D;
-L[9]=0;
-x2(L+10,k);
-x2(L+12,l);
-memcpy(L+14,j,16);
-x8(L+30,n);
-L[38]=o;
-L[39]=p;
-L[40]=D;
-L[41]=q;
-x2(L+42,0);
-w8(b+88,J+1);
+*L=27;
+M=J+1;
+z43(L+1);
+w8(b+88,M);
+if(r8(b+112)>M)N=M;
+else{
+O=make_ready_9a1(b+80);
+if(!(O&1)){
+x4(a,0);
+goto L1;}
+N=r8(b+88);}
+P=rp(b+80)+N*44;
+*P=28;
+P[1]=0;
+x2(P+2,0);
+x4(P+4,G);
+P[8]=H;
+P[9]=0;
+x2(P+10,k);
+x2(P+12,l);
+memcpy(P+14,j,16);
+x8(P+30,n);
+P[38]=o;
+P[39]=p;
+P[40]=H;
+P[41]=q;
+x2(P+42,0);
+w8(b+88,N+1);
 *a=1;
 a[1]=0;
 a[2]=0;
-a[3]=0;}}
+a[3]=0;
+goto L1;
+L2:*a=1;
+a[1]=3;
+a[2]=0;
+a[3]=0;}
 L1:return;
 }
 
@@ -72681,7 +75926,7 @@ h=r8(b+8);
 if(r8(b+32)>h)i=h;
 else{
 j=make_ready_8e3(b,1,16);
-if(j==0){
+if(!(j&1)){
 x4(a,0);
 goto L1;}
 i=r8(b+8);}
@@ -72710,7 +75955,7 @@ y=r8(b+48);
 if(r8(b+72)>y)z=y;
 else{
 A=make_ready_17a(b+40);
-if(A==0){
+if(!(A&1)){
 x4(a,0);
 goto L1;}
 z=r8(b+48);}
@@ -72751,7 +75996,7 @@ I=r8(b+48);
 if(r8(b+72)>I)J=I;
 else{
 K=make_ready_17a(b+40);
-if(K==0){
+if(!(K&1)){
 x4(a,0);
 goto L1;}
 J=r8(b+48);}
@@ -72782,7 +76027,7 @@ case 7:name_ended_a18(g,b,c,d,0,1,f,o);
 break;
 case 8:level_ended_5bf(g,b,c,d,n[1]&1);
 break;
-case 0:case 1:case 2:case 3:case 9:case 10:case 11:case 12:case 13:case 14:case 15:case 16:case 17:case 18:case 19:case 20:case 21:case 22:case 23:case 24:case 25:*g=0;
+case 0:case 1:case 2:case 3:case 9:case 10:case 11:case 12:case 13:case 14:case 15:case 16:case 17:case 18:case 19:case 20:case 21:case 22:case 23:case 24:case 25:case 26:case 27:case 28:case 29:*g=0;
 break;
 default:NEVER;
 }
@@ -72799,168 +76044,186 @@ L1:return;
 /* cpp_direct::direct::Direct::element_ended */
 static void element_ended_20b(u8* a,u8* b,u8* c,u64 d,u32 e,u8 f,u8* g,u8 h)
 {
-u8 i[32],j[16],k[32],m[16],n[32];
-A16 u8 l[4];
-u64 o,p,q,r,w,D,L,N,R,S,V,W;
-u16 s,t,u,v,B,C,H,J,K;
-u8 x,y,z,A,E,F,G,I,O,P,Q,U,X;
-u8 *M,*Y;
-u32 T;
-w4(l,0);
-z16(m);
-z32(n);
-memcpy(k,g,32);
-o=r8(b+88);
-if(o==0)p=0;
+u8 i[32],j[32],k[16],l[32],n[16],o[32];
+A16 u8 m[4];
+u64 p,q,r,s,x,E,M,U,X,Z,ca,da;
+u16 t,u,v,w,C,D,I,K,L;
+u8 y,z,A,B,F,G,H,J,N,O,P,R,S,T,V,W,Y,ba,ea;
+u8 *Q,*fa;
+u32 aa;
+w4(m,0);
+z16(n);
+z32(o);
+memcpy(l,g,32);
+p=r8(b+88);
+if(p==0)q=0;
 else{
-q=o-1;
-w8(b+88,q);
-p=q;}
-r=r8(b+8);
-if((e|(u32)r)>65535||(f>7||f!=k[28])){
-s=r2(k);
-t=r2(k+2);
-memcpy(j,k+4,16);
-u=s;
+r=p-1;
+w8(b+88,r);
+q=r;}
+s=r8(b+8);
+memcpy(i,l,32);
+if((e|(u32)s)>65535||(f>7||f!=i[28])){
+t=r2(l);
+u=r2(l+2);
+memcpy(k,l+4,16);
 v=t;
-w=q8(k+20);
-x=k[28];
-y=k[29];
-z=k[30];
-A=k[31];}
+w=u;
+x=q8(l+20);
+y=l[28];
+z=l[29];
+A=l[30];
+B=l[31];}
 else{
-B=r2(k);
-C=r2(k+2);
-D=q8(k+20);
-E=k[29];
-F=k[30];
-G=k[31];
-memcpy(i+4,k+4,16);
-x8(i+20,D);
-i[28]=f+1;
-i[29]=E;
-i[30]=F;
-i[31]=G;
-w2(i+4+((u64)f<<1),r);
-*(i+20+f)=h;
+C=r2(i);
+D=r2(i+2);
+E=q8(i+20);
+F=i[29];
+G=i[30];
+H=i[31];
+memcpy(j+4,l+4,16);
+x8(j+20,E);
+j[28]=f+1;
+j[29]=F;
+j[30]=G;
+j[31]=H;
+w2(j+4+((u64)f<<1),s);
+*(j+20+f)=h;
 if(f==0){
-memcpy(j,i+4,16);
-u=B;
-v=e;
-w=q8(i+20);
-x=i[28];
-y=i[29];
-z=i[30];
-A=i[31];}
+memcpy(k,j+4,16);
+v=C;
+w=e;
+x=q8(j+20);
+y=j[28];
+z=j[29];
+A=j[30];
+B=j[31];}
 else{
-H=r2(k+4+(i64)((u64)(u8)(f-1)<<1));
-I=(H<65534)&(e==(u16)(0-usub16(65534,H)));
-J=I?B:r2(k);
-K=I?C:r2(k+2);
-memcpy(j,I?i+4:k+4,16);
-u=J;
+I=r2(i+4+(i64)((u64)(u8)(f-1)<<1));
+J=(I<65534)&(e==(u16)(0-usub16(65534,I)));
+K=J?C:r2(l);
+L=J?D:r2(l+2);
+memcpy(k,J?j+4:l+4,16);
 v=K;
-w=I?q8(i+20):q8(k+20);
-x=I?i[28]:k[28];
-y=I?i[29]:k[29];
-z=I?i[30]:k[30];
-A=I?i[31]:k[31];}}
-memcpy(m,j,16);
-L=r8(b+176);
-if(L<d){
-M=c+(i64)L;
-switch(*M){
-case 76:case 65:case 70:break;
-case 80:case 82:if(usub64(d,L)<2)goto L1;
-switch(M[1]){
-case 70:case 65:break;
-default:goto L1;
-}
+w=L;
+x=J?q8(j+20):q8(l+20);
+y=J?j[28]:l[28];
+z=J?j[29]:l[29];
+A=J?j[30]:l[30];
+B=J?j[31]:l[31];}}
+memcpy(n,k,16);
+M=r8(b+176);
+N=M>=d;
+if(N)O=0;
+else{
+P=*(c+M);
+if(P==76)goto L1;
+O=P;}
+Q=c+(i64)M;
+R=usub64(d,M)<2;
+if(!(d<M||R)){
+if(*Q==82){
+S=Q[1];
+if(N|(S==65))goto L2;
+T=S;
+goto L3;}}
+if(N)goto L2;
+switch(*Q){
+case 65:case 70:goto L1;
+case 80:case 82:if(R)goto L2;
+T=Q[1];
 break;
-case 69:N=L+1;
-if(N<d){
-if(*(c+N)==69){
-if(p!=0)w8(b+88,p-1);
-w8(b+176,L+2);
+default:goto L2;
+}
+L3:switch(T){
+case 70:case 65:goto L1;
+default:break;}
+L2:if(O==69){
+if(M==18446744073709551615u){
+x4(a,0);
+goto L4;}
+U=M+1;
+if(U<d){
+if(*(c+U)==69){
+if(q!=0)w8(b+88,q-1);
+w8(b+176,M+2);
 if(f==255){
 x4(a,0);
-goto L2;}
-O=f+1;
-if(O<z){
+goto L4;}
+V=f+1;
+if(V<A){
 x4(a,0);
-goto L2;}
-w2(n,u);
-w2(n+2,v);
-memcpy(n+4,m,16);
-x8(n+20,w);
-n[28]=x;
-n[29]=1;
-n[30]=z;
-n[31]=O-z;
-close_list_3c2(l,b,c,d,n);
-*a=*l;
-a[1]=l[1];
-a[2]=l[2];
-a[3]=l[3];
-goto L2;}}
+goto L4;}
+w2(o,v);
+w2(o+2,w);
+memcpy(o+4,n,16);
+x8(o+20,x);
+o[28]=y;
+o[29]=1;
+o[30]=A;
+o[31]=V-A;
+close_list_3c2(m,b,c,d,o);
+*a=*m;
+a[1]=m[1];
+a[2]=m[2];
+a[3]=m[3];
+goto L4;}}
 *a=1;
 a[1]=3;
 a[2]=0;
 a[3]=0;
-goto L2;
-default:goto L1;
-}
-*a=1;
-a[1]=3;
-a[2]=0;
-a[3]=0;
-goto L2;}
-L1:if(r8(b+32)-r<2){
-P=make_ready_8e3(b,2,128);
-if(P==0){
-Q=0;
-goto L3;}
-R=r8(b+8);}
-else R=r;
-*(rp(b)+R)=44;
-*(rp(b)+(i64)R+1)=32;
-S=R+2;
-w8(b+8,S);
-if(f==255)Q=0;
+goto L4;}
+if(r8(b+32)-s<2){
+W=make_ready_8e3(b,2,128);
+if(!(W&1)){
+Y=0;
+goto L5;}
+X=r8(b+8);}
+else X=s;
+*(rp(b)+X)=44;
+*(rp(b)+(i64)X+1)=32;
+Z=X+2;
+w8(b+8,Z);
+if(f==255)Y=0;
 else{
-T=S;
-U=f+1;
-V=r8(b+88);
-if(r8(b+112)>V)W=V;
+aa=Z;
+ba=f+1;
+ca=r8(b+88);
+if(r8(b+112)>ca)da=ca;
 else{
-X=make_ready_9a1(b+80);
-if(X==0){
-Q=0;
-goto L3;}
-W=r8(b+88);}
-Y=rp(b+80)+W*44;
-*Y=24;
-Y[1]=0;
-x2(Y+2,0);
-x4(Y+4,T);
-Y[8]=U;
-Y[9]=0;
-x2(Y+10,u);
-x2(Y+12,v);
-memcpy(Y+14,m,16);
-x8(Y+30,w);
-Y[38]=x;
-Y[39]=y;
-Y[40]=z;
-Y[41]=A;
-x2(Y+42,0);
-w8(b+88,W+1);
-Q=1;}
-L3:*a=Q;
+ea=make_ready_9a1(b+80);
+if(!(ea&1)){
+Y=0;
+goto L5;}
+da=r8(b+88);}
+fa=rp(b+80)+da*44;
+*fa=28;
+fa[1]=0;
+x2(fa+2,0);
+x4(fa+4,aa);
+fa[8]=ba;
+fa[9]=0;
+x2(fa+10,v);
+x2(fa+12,w);
+memcpy(fa+14,n,16);
+x8(fa+30,x);
+fa[38]=y;
+fa[39]=z;
+fa[40]=A;
+fa[41]=B;
+x2(fa+42,0);
+w8(b+88,da+1);
+Y=1;}
+L5:*a=Y;
 a[1]=0;
 a[2]=0;
 a[3]=0;
-L2:return;
+goto L4;
+L1:*a=1;
+a[1]=3;
+a[2]=0;
+a[3]=0;
+L4:return;
 }
 
 /* cpp_direct::direct::Direct::empty_pack */
@@ -72982,7 +76245,7 @@ j=r8(b+88);
 if(j==0){
 x4(a,0);
 goto L1;}
-if(*(rp(b+80)+(i64)(j*44)-44)==23){
+if(*(rp(b+80)+(i64)(j*44)-44)==27){
 k=0;
 l=0;
 m=0;
@@ -73026,7 +76289,7 @@ switch(j[-44]){
 case 5:if(j[-28]==0)goto L1;
 break;
 case 7:break;
-case 0:case 1:case 2:case 3:case 4:case 6:case 8:case 9:case 10:case 11:case 12:case 13:case 14:case 15:case 16:case 17:case 18:case 19:case 20:case 21:case 22:case 23:case 24:case 25:goto L1;
+case 0:case 1:case 2:case 3:case 4:case 6:case 8:case 9:case 10:case 11:case 12:case 13:case 14:case 15:case 16:case 17:case 18:case 19:case 20:case 21:case 22:case 23:case 24:case 25:case 26:case 27:case 28:case 29:goto L1;
 default:NEVER;
 }
 k=r8(b+176);
@@ -73036,7 +76299,7 @@ switch(l){
 case 78:case 83:break;
 default:if((u8)(l-49)>=9)goto L2;
 break;}
-literal_4a5(e,b,c,d);
+first_enumerator_ea5(e,b,c,d);
 *a=*e;
 a[1]=e[1];
 a[2]=e[2];
@@ -73050,7 +76313,7 @@ o=h;
 p=g;}
 else{
 q=make_ready_9a1(b+80);
-if(q==0){
+if(!(q&1)){
 x4(a,0);
 goto L3;}
 r=r8(b+88);
@@ -73058,7 +76321,7 @@ n=r*44;
 o=rp(b+80);
 p=r;}
 s=o+n;
-*s=22;
+*s=25;
 s[1]=0;
 x2(s+2,0);
 x4(s+4,m);
@@ -73071,14 +76334,14 @@ w8(b+176,u);
 if(u<d){
 if(*(c+u)==98){
 v=boolean_6cc(b,c,d);
-if(v==0)goto L4;
+if(!(v&1))goto L4;
 w=r8(b+176);
 if(w>=d)goto L4;
 if(*(c+w)!=69)goto L4;
 x=w;
 goto L5;}}
 y=integer_bfa(b,c,d);
-if(y==0)goto L4;
+if(!(y&1))goto L4;
 z=r8(b+176);
 if(z>=d)goto L4;
 if(*(c+z)!=69)goto L4;
@@ -73101,6 +76364,52 @@ a[3]=e[3];
 L3:return;
 }
 
+/* cpp_direct::direct::Direct::first_enumerator */
+static void first_enumerator_ea5(u8* a,u8* b,u8* c,u64 d)
+{
+A16 u8 e[4];
+u64 f,g,i,k,l;
+u32 h;
+u8 j,m;
+u8 *n;
+f=r8(b+176);
+if(f==18446744073709551615u)x4(a,0);
+else{
+g=r8(b+8);
+h=g;
+w8(b+176,f+1);
+if(r8(b+32)>g)i=g;
+else{
+j=make_ready_8e3(b,1,16);
+if(!(j&1)){
+x4(a,0);
+goto L1;}
+i=r8(b+8);}
+*(rp(b)+i)=40;
+w8(b+8,i+1);
+k=r8(b+88);
+if(r8(b+112)>k)l=k;
+else{
+m=make_ready_9a1(b+80);
+if(!(m&1)){
+x4(a,0);
+goto L1;}
+l=r8(b+88);}
+n=rp(b+80)+l*44;
+*n=26;
+n[1]=0;
+x2(n+2,0);
+x4(n+4,h);
+z36(n+8);
+w8(b+88,l+1);
+named_type_bf1(e,b,c,d);
+*a=*e;
+a[1]=e[1];
+a[2]=e[2];
+a[3]=e[3];}
+L1:return;
+}
+
 /* cpp_direct::direct::Direct::literal */
 static void literal_4a5(u8* a,u8* b,u8* c,u64 d)
 {
@@ -73120,7 +76429,7 @@ w8(b+176,f+1);
 h=r8(b+8);
 if(r8(b+32)==h){
 i=make_ready_8e3(b,1,128);
-if(i==0)goto L2;
+if(!(i&1))goto L2;
 j=r8(b+8);}
 else j=h;
 k=r8(b+16);
@@ -73145,12 +76454,12 @@ r=r8(b+88);
 if(r8(b+112)>r)s=r;
 else{
 t=make_ready_9a1(b+80);
-if(t==0){
+if(!(t&1)){
 x4(a,0);
 goto L3;}
 s=r8(b+88);}
 u=rp(b+80)+s*44;
-*u=25;
+*u=29;
 z43(u+1);
 w8(b+88,s+1);
 named_type_bf1(e,b,c,d);
@@ -73167,14 +76476,14 @@ w8(b+176,v);
 if(v<d){
 if(*(c+v)==98){
 w=boolean_6cc(b,c,d);
-if(w==0)goto L4;
+if(!(w&1))goto L4;
 x=r8(b+176);
 if(x>=d)goto L4;
 if(*(c+x)!=69)goto L4;
 y=x;
 goto L5;}}
 z=integer_bfa(b,c,d);
-if(z==0)goto L4;
+if(!(z&1))goto L4;
 A=r8(b+176);
 if(A>=d)goto L4;
 if(*(c+A)!=69)goto L4;
@@ -73193,10 +76502,10 @@ L3:return;
 static void components_at_98c(u8* a,u8* b,u8* c,u64 d)
 {
 A16 u8 e[40],f[40],g[40],h[40],i[40],j[40],k[24],l[40],m[40],n[24],o[4],p[4];
-u64 q,r,t,u,w,x,z,A,B,J,M,Q,R,U,V,X,Y,Z,fa,ga,ja,ka,ma,na,qa,sa,ua,va,xa,ya,za,Ha,Ka,Oa,Pa,Sa,Ta,Va,Wa,Xa,db,eb,hb,ib,kb,lb,ob,qb,rb,sb,vb,xb,yb,zb,Ab,Bb,Cb,Fb,Hb,Jb,Lb,Mb,Ob,Qb,Rb,Tb,Vb,Wb,Yb,dc,fc,gc,ic,jc,kc,pc,vc,zc,Ac,Dc,Ec,Gc,Hc,Ic,Mc,Nc,Qc,Rc,Tc,Uc,Vc,cd,ed,fd,gd,jd,ld,md,nd,od,pd,qd,ud,xd,zd,Bd,Cd,Ed,Gd,Hd,Jd,Ld,Md,Od,Td,Vd,Wd,Yd,Zd,ae,fe,le,pe,qe,te,ue,we,xe,ye,Ce,De,Ge,He,Je,Ke,Le,Oe,Se,Te,We;
-u8 s,v,y,E,F,G,H,I,K,L,O,S,W,ba,ha,la,oa,ra,ta,wa,Ca,Da,Ea,Fa,Ga,Ia,Ja,Ma,Qa,Ua,Za,fb,jb,mb,pb,tb,wb,Db,Gb,Ib,Kb,Nb,Pb,Sb,Ub,Xb,ec,hc,oc,qc,rc,sc,tc,uc,xc,Bc,Fc,Jc,Oc,Sc,Wc,Yc,Zc,ad,bd,dd,hd,kd,sd,vd,yd,Ad,Dd,Fd,Id,Kd,Nd,Ud,Xd,ee,ge,he,ie,je,ke,ne,re,ve,ze,Ee,Ie,Me,Qe,Ue;
+u64 q,r,t,u,w,x,z,A,B,G,J,N,O,U,V,X,Y,Z,fa,ga,ja,ka,ma,na,qa,sa,ua,va,xa,ya,za,Ea,Ha,La,Ma,Sa,Ta,Va,Wa,Xa,db,eb,hb,ib,kb,lb,ob,qb,rb,sb,vb,xb,yb,zb,Ab,Bb,Cb,Fb,Hb,Jb,Lb,Mb,Ob,Qb,Rb,Tb,Vb,Wb,Yb,dc,fc,gc,ic,jc,kc,pc,sc,wc,xc,Dc,Ec,Gc,Hc,Ic,Mc,Nc,Qc,Rc,Tc,Uc,Vc,cd,ed,fd,gd,jd,ld,md,nd,od,pd,qd,ud,xd,zd,Bd,Cd,Ed,Gd,Hd,Jd,Ld,Md,Od,Td,Vd,Wd,Yd,Zd,ae,fe,ie,me,ne,te,ue,we,xe,ye,Ce,De,Ge,He,Je,Ke,Le,Oe,Se,Te,We;
+u8 s,v,y,E,F,H,I,L,P,Q,R,S,W,ba,ha,la,oa,ra,ta,wa,Ca,Da,Fa,Ga,Ja,Na,Oa,Pa,Qa,Ua,Za,fb,jb,mb,pb,tb,wb,Db,Gb,Ib,Kb,Nb,Pb,Sb,Ub,Xb,ec,hc,oc,qc,rc,uc,yc,zc,Ac,Bc,Fc,Jc,Oc,Sc,Wc,Yc,Zc,ad,bd,dd,hd,kd,sd,vd,yd,Ad,Dd,Fd,Id,Kd,Nd,Ud,Xd,ee,ge,he,ke,oe,pe,qe,re,ve,ze,Ee,Ie,Me,Qe,Ue;
 u8 *C,*D,*T,*aa,*ca,*ia,*pa,*Aa,*Ba,*Ra,*Ya,*ab,*gb,*nb,*Eb,*cc,*lc,*mc,*Cc,*Kc,*Pc,*Xc,*td,*Sd,*be,*ce,*se,*Ae,*Fe,*Ne,*Ve;
-u32 N,P,da,ea,La,Na,bb,cb,ub,nc,wc,yc,Lc,id,de,me,oe,Be,Pe,Re;
+u32 K,M,da,ea,Ia,Ka,bb,cb,ub,nc,tc,vc,Lc,id,de,je,le,Be,Pe,Re;
 s_p_64 Zb,ac,bc,Pd,Qd,Rd;
 w4(p,0);
 q=0;
@@ -73215,7 +76524,7 @@ w8(b+176,r+2);
 u=r8(b+8);
 if(r8(b+32)-u<2){
 v=make_ready_8e3(b,2,128);
-if(v==0)goto L2;
+if(!(v&1))goto L2;
 w=r8(b+8);}
 else w=u;
 x=r8(b+16);
@@ -73237,75 +76546,71 @@ wp(b,C);
 w8(b+8,B);
 w8(b+16,z);
 E=repeat_28b(b,r4(b+124),r4(b+128));
-if(E==0){
-F=0;
-G=0;
-H=0;}
-else{
-I=b[139];
+if(E&1){
+F=b[139];
 b[136]=0;
 b[137]=0;
 b[138]=0;
-J=r8(b+176);
-if(J<d){
-K=*(c+J);
-if(K==66){
-L=tag_9a7(b,c,d);
-if(L==0){
-F=0;
-G=0;
-H=0;
+G=r8(b+176);
+if(G<d){
+H=*(c+G);
+if(H==66){
+I=tag_9a7(b,c,d);
+if(!(I&1)){
+Q=0;
+R=0;
+S=0;
 goto L3;}
 z20(h+20);
-M=r8(b+176);
-if(M>=d){
-F=0;
-G=5;
-H=1;
+J=r8(b+176);
+if(J>=d){
+Q=0;
+R=5;
+S=1;
 goto L3;}
-if(*(c+M)!=73){
-F=0;
-G=5;
-H=1;
+if(*(c+J)!=73){
+Q=0;
+R=5;
+S=1;
 goto L3;}
-N=r4(b+120);
-O=b[139];
-P=r8(b+8);
-Q=r8(b+48);
-if(r8(b+72)>Q)R=Q;
+K=r4(b+120);
+L=b[139];
+M=r8(b+8);
+N=r8(b+48);
+if(r8(b+72)>N)O=N;
 else{
-S=make_ready_17a(b+40);
-if(S==0){
-F=0;
-G=0;
-H=0;
+P=make_ready_17a(b+40);
+if(!(P&1)){
+Q=0;
+R=0;
+S=0;
 goto L3;}
-R=r8(b+48);}
-T=rp(b+40)+R*12;
-x4(T,N);
-x4(T+4,P);
+O=r8(b+48);}
+T=rp(b+40)+O*12;
+x4(T,K);
+x4(T+4,M);
 T[8]=0;
-T[9]=O;
+T[9]=L;
 x2(T+10,0);
-w8(b+48,R+1);
+w8(b+48,O+1);
 memcpy(h,b+120,20);
 U=r8(b+8);
 if(r8(b+32)>U)V=U;
 else{
 W=make_ready_8e3(b,1,16);
-if(W==0){
-F=0;
-G=0;
-H=0;
+if(!(W&1)){
+Q=0;
+R=0;
+S=0;
 goto L3;}
 V=r8(b+8);}
 *(rp(b)+V)=1;
 w8(b+8,V+1);
 X=r8(b+176);
 if(X==18446744073709551615u){
-F=0;
-G=0;
-H=0;
+Q=0;
+R=0;
+S=0;
 goto L3;}
 w8(b+176,X+1);
 Y=r8(b+88);
@@ -73314,18 +76619,18 @@ Z=Y;
 aa=h;
 goto L4;}
 ba=make_ready_9a1(b+80);
-if(ba==0){
-F=0;
-G=0;
-H=0;
+if(!(ba&1)){
+Q=0;
+R=0;
+S=0;
 goto L3;}
 ca=h;}
 else{
 z20(g+20);
-if(K!=73){
-F=0;
-G=5;
-H=1;
+if(H!=73){
+Q=0;
+R=5;
+S=1;
 goto L3;}
 da=r4(b+120);
 ea=r8(b+8);
@@ -73333,17 +76638,17 @@ fa=r8(b+48);
 if(r8(b+72)>fa)ga=fa;
 else{
 ha=make_ready_17a(b+40);
-if(ha==0){
-F=0;
-G=0;
-H=0;
+if(!(ha&1)){
+Q=0;
+R=0;
+S=0;
 goto L3;}
 ga=r8(b+48);}
 ia=rp(b+40)+ga*12;
 x4(ia,da);
 x4(ia+4,ea);
 ia[8]=0;
-ia[9]=I;
+ia[9]=F;
 x2(ia+10,0);
 w8(b+48,ga+1);
 memcpy(g,b+120,20);
@@ -73351,19 +76656,19 @@ ja=r8(b+8);
 if(r8(b+32)>ja)ka=ja;
 else{
 la=make_ready_8e3(b,1,16);
-if(la==0){
-F=0;
-G=0;
-H=0;
+if(!(la&1)){
+Q=0;
+R=0;
+S=0;
 goto L3;}
 ka=r8(b+8);}
 *(rp(b)+ka)=1;
 w8(b+8,ka+1);
 ma=r8(b+176);
 if(ma==18446744073709551615u){
-F=0;
-G=0;
-H=0;
+Q=0;
+R=0;
+S=0;
 goto L3;}
 w8(b+176,ma+1);
 na=r8(b+88);
@@ -73372,10 +76677,10 @@ Z=na;
 aa=g;
 goto L4;}
 oa=make_ready_9a1(b+80);
-if(oa==0){
-F=0;
-G=0;
-H=0;
+if(!(oa&1)){
+Q=0;
+R=0;
+S=0;
 goto L3;}
 ca=g;}
 Z=r8(b+88);
@@ -73386,16 +76691,20 @@ pa[1]=0;
 x2(pa+2,0);
 memcpy(pa+4,aa,40);
 w8(b+88,Z+1);
-F=1;
-G=3;
-H=1;}
+Q=1;
+R=3;
+S=1;}
 else{
-F=0;
-G=5;
-H=1;}}
-L3:*o=H;
-o[1]=G;
-o[2]=F;
+Q=0;
+R=5;
+S=1;}}
+else{
+Q=0;
+R=0;
+S=0;}
+L3:*o=S;
+o[1]=R;
+o[2]=Q;
 o[3]=0;
 goto L5;
 L2:w4(o,0);
@@ -73415,7 +76724,7 @@ w8(b+176,r+2);
 sa=r8(b+8);
 if(r8(b+32)-sa<3){
 ta=make_ready_8e3(b,3,128);
-if(ta==0)goto L7;
+if(!(ta&1))goto L7;
 ua=r8(b+8);}
 else ua=sa;
 va=r8(b+16);
@@ -73437,75 +76746,71 @@ wp(b,Aa);
 w8(b+8,za);
 w8(b+16,xa);
 Ca=repeat_28b(b,r4(b+124),r4(b+128));
-if(Ca==0){
-Da=0;
-Ea=0;
-Fa=0;}
-else{
-Ga=b[139];
+if(Ca&1){
+Da=b[139];
 b[136]=0;
 b[137]=0;
 b[138]=0;
-Ha=r8(b+176);
-if(Ha<d){
-Ia=*(c+Ha);
-if(Ia==66){
-Ja=tag_9a7(b,c,d);
-if(Ja==0){
-Da=0;
-Ea=0;
-Fa=0;
+Ea=r8(b+176);
+if(Ea<d){
+Fa=*(c+Ea);
+if(Fa==66){
+Ga=tag_9a7(b,c,d);
+if(!(Ga&1)){
+Oa=0;
+Pa=0;
+Qa=0;
 goto L8;}
 z20(f+20);
-Ka=r8(b+176);
-if(Ka>=d){
-Da=0;
-Ea=5;
-Fa=1;
+Ha=r8(b+176);
+if(Ha>=d){
+Oa=0;
+Pa=5;
+Qa=1;
 goto L8;}
-if(*(c+Ka)!=73){
-Da=0;
-Ea=5;
-Fa=1;
+if(*(c+Ha)!=73){
+Oa=0;
+Pa=5;
+Qa=1;
 goto L8;}
-La=r4(b+120);
-Ma=b[139];
-Na=r8(b+8);
-Oa=r8(b+48);
-if(r8(b+72)>Oa)Pa=Oa;
+Ia=r4(b+120);
+Ja=b[139];
+Ka=r8(b+8);
+La=r8(b+48);
+if(r8(b+72)>La)Ma=La;
 else{
-Qa=make_ready_17a(b+40);
-if(Qa==0){
-Da=0;
-Ea=0;
-Fa=0;
+Na=make_ready_17a(b+40);
+if(!(Na&1)){
+Oa=0;
+Pa=0;
+Qa=0;
 goto L8;}
-Pa=r8(b+48);}
-Ra=rp(b+40)+Pa*12;
-x4(Ra,La);
-x4(Ra+4,Na);
+Ma=r8(b+48);}
+Ra=rp(b+40)+Ma*12;
+x4(Ra,Ia);
+x4(Ra+4,Ka);
 Ra[8]=0;
-Ra[9]=Ma;
+Ra[9]=Ja;
 x2(Ra+10,0);
-w8(b+48,Pa+1);
+w8(b+48,Ma+1);
 memcpy(f,b+120,20);
 Sa=r8(b+8);
 if(r8(b+32)>Sa)Ta=Sa;
 else{
 Ua=make_ready_8e3(b,1,16);
-if(Ua==0){
-Da=0;
-Ea=0;
-Fa=0;
+if(!(Ua&1)){
+Oa=0;
+Pa=0;
+Qa=0;
 goto L8;}
 Ta=r8(b+8);}
 *(rp(b)+Ta)=1;
 w8(b+8,Ta+1);
 Va=r8(b+176);
 if(Va==18446744073709551615u){
-Da=0;
-Ea=0;
-Fa=0;
+Oa=0;
+Pa=0;
+Qa=0;
 goto L8;}
 w8(b+176,Va+1);
 Wa=r8(b+88);
@@ -73514,18 +76819,18 @@ Xa=Wa;
 Ya=f;
 goto L9;}
 Za=make_ready_9a1(b+80);
-if(Za==0){
-Da=0;
-Ea=0;
-Fa=0;
+if(!(Za&1)){
+Oa=0;
+Pa=0;
+Qa=0;
 goto L8;}
 ab=f;}
 else{
 z20(e+20);
-if(Ia!=73){
-Da=0;
-Ea=5;
-Fa=1;
+if(Fa!=73){
+Oa=0;
+Pa=5;
+Qa=1;
 goto L8;}
 bb=r4(b+120);
 cb=r8(b+8);
@@ -73533,17 +76838,17 @@ db=r8(b+48);
 if(r8(b+72)>db)eb=db;
 else{
 fb=make_ready_17a(b+40);
-if(fb==0){
-Da=0;
-Ea=0;
-Fa=0;
+if(!(fb&1)){
+Oa=0;
+Pa=0;
+Qa=0;
 goto L8;}
 eb=r8(b+48);}
 gb=rp(b+40)+eb*12;
 x4(gb,bb);
 x4(gb+4,cb);
 gb[8]=0;
-gb[9]=Ga;
+gb[9]=Da;
 x2(gb+10,0);
 w8(b+48,eb+1);
 memcpy(e,b+120,20);
@@ -73551,19 +76856,19 @@ hb=r8(b+8);
 if(r8(b+32)>hb)ib=hb;
 else{
 jb=make_ready_8e3(b,1,16);
-if(jb==0){
-Da=0;
-Ea=0;
-Fa=0;
+if(!(jb&1)){
+Oa=0;
+Pa=0;
+Qa=0;
 goto L8;}
 ib=r8(b+8);}
 *(rp(b)+ib)=1;
 w8(b+8,ib+1);
 kb=r8(b+176);
 if(kb==18446744073709551615u){
-Da=0;
-Ea=0;
-Fa=0;
+Oa=0;
+Pa=0;
+Qa=0;
 goto L8;}
 w8(b+176,kb+1);
 lb=r8(b+88);
@@ -73572,10 +76877,10 @@ Xa=lb;
 Ya=e;
 goto L9;}
 mb=make_ready_9a1(b+80);
-if(mb==0){
-Da=0;
-Ea=0;
-Fa=0;
+if(!(mb&1)){
+Oa=0;
+Pa=0;
+Qa=0;
 goto L8;}
 ab=e;}
 Xa=r8(b+88);
@@ -73586,16 +76891,20 @@ nb[1]=0;
 x2(nb+2,0);
 memcpy(nb+4,Ya,40);
 w8(b+88,Xa+1);
-Da=1;
-Ea=3;
-Fa=1;}
+Oa=1;
+Pa=3;
+Qa=1;}
 else{
-Da=0;
-Ea=5;
-Fa=1;}}
-L8:*o=Fa;
-o[1]=Ea;
-o[2]=Da;
+Oa=0;
+Pa=5;
+Qa=1;}}
+else{
+Oa=0;
+Pa=0;
+Qa=0;}
+L8:*o=Qa;
+o[1]=Pa;
+o[2]=Oa;
 o[3]=0;
 goto L10;
 L7:w4(o,0);
@@ -73606,7 +76915,7 @@ case 76:w8(b+176,r+1);
 ob=r8(b+8);
 if(r8(b+32)-ob<2){
 pb=make_ready_8e3(b,2,128);
-if(pb==0)goto L11;
+if(!(pb&1))goto L11;
 qb=r8(b+8);}
 else qb=ob;
 *(rp(b)+qb)=58;
@@ -73694,7 +77003,7 @@ L20:cc=Zb.f0;
 dc=Zb.f1;
 if(r8(b+32)-rb<dc){
 ec=make_ready_8e3(b,dc,128);
-if(ec==0)goto L11;
+if(!(ec&1))goto L11;
 fc=r8(b+8);}
 else fc=rb;
 gc=r8(b+16);
@@ -73727,63 +77036,59 @@ if(pc<d){
 qc=*(c+pc);
 if(qc==66){
 rc=tag_9a7(b,c,d);
-if(rc==0){
-sc=0;
-tc=0;
-uc=0;}
-else{
+if(rc&1){
 z40(j);
-vc=r8(b+176);
-if(vc<d){
-if(*(c+vc)==73){
-wc=r4(b+120);
-xc=b[139];
-yc=r8(b+8);
-zc=r8(b+48);
-if(r8(b+72)>zc)Ac=zc;
+sc=r8(b+176);
+if(sc<d){
+if(*(c+sc)==73){
+tc=r4(b+120);
+uc=b[139];
+vc=r8(b+8);
+wc=r8(b+48);
+if(r8(b+72)>wc)xc=wc;
 else{
-Bc=make_ready_17a(b+40);
-if(Bc==0){
-sc=0;
-tc=0;
-uc=0;
+yc=make_ready_17a(b+40);
+if(!(yc&1)){
+zc=0;
+Ac=0;
+Bc=0;
 goto L21;}
-Ac=r8(b+48);}
-Cc=rp(b+40)+Ac*12;
-x4(Cc,wc);
-x4(Cc+4,yc);
+xc=r8(b+48);}
+Cc=rp(b+40)+xc*12;
+x4(Cc,tc);
+x4(Cc+4,vc);
 Cc[8]=0;
-Cc[9]=xc;
+Cc[9]=uc;
 x2(Cc+10,0);
-w8(b+48,Ac+1);
+w8(b+48,xc+1);
 memcpy(j,b+120,20);
 Dc=r8(b+8);
 if(r8(b+32)>Dc)Ec=Dc;
 else{
 Fc=make_ready_8e3(b,1,16);
-if(Fc==0){
-sc=0;
-tc=0;
-uc=0;
+if(!(Fc&1)){
+zc=0;
+Ac=0;
+Bc=0;
 goto L21;}
 Ec=r8(b+8);}
 *(rp(b)+Ec)=1;
 w8(b+8,Ec+1);
 Gc=r8(b+176);
 if(Gc==18446744073709551615u){
-sc=0;
-tc=0;
-uc=0;}
+zc=0;
+Ac=0;
+Bc=0;}
 else{
 w8(b+176,Gc+1);
 Hc=r8(b+88);
 if(r8(b+112)>Hc)Ic=Hc;
 else{
 Jc=make_ready_9a1(b+80);
-if(Jc==0){
-sc=0;
-tc=0;
-uc=0;
+if(!(Jc&1)){
+zc=0;
+Ac=0;
+Bc=0;
 goto L21;}
 Ic=r8(b+88);}
 Kc=rp(b+80)+Ic*44;
@@ -73792,17 +77097,21 @@ Kc[1]=0;
 x2(Kc+2,0);
 memcpy(Kc+4,j,40);
 w8(b+88,Ic+1);
-sc=1;
-tc=3;
-uc=1;}}
+zc=1;
+Ac=3;
+Bc=1;}}
 else{
-sc=0;
-tc=5;
-uc=1;}}
+zc=0;
+Ac=5;
+Bc=1;}}
 else{
-sc=0;
-tc=5;
-uc=1;}}}
+zc=0;
+Ac=5;
+Bc=1;}}
+else{
+zc=0;
+Ac=0;
+Bc=0;}}
 else{
 z40(i);
 if(qc==73){
@@ -73811,10 +77120,10 @@ Mc=r8(b+48);
 if(r8(b+72)>Mc)Nc=Mc;
 else{
 Oc=make_ready_17a(b+40);
-if(Oc==0){
-sc=0;
-tc=0;
-uc=0;
+if(!(Oc&1)){
+zc=0;
+Ac=0;
+Bc=0;
 goto L21;}
 Nc=r8(b+48);}
 Pc=rp(b+40)+Nc*12;
@@ -73829,29 +77138,29 @@ Qc=r8(b+8);
 if(r8(b+32)>Qc)Rc=Qc;
 else{
 Sc=make_ready_8e3(b,1,16);
-if(Sc==0){
-sc=0;
-tc=0;
-uc=0;
+if(!(Sc&1)){
+zc=0;
+Ac=0;
+Bc=0;
 goto L21;}
 Rc=r8(b+8);}
 *(rp(b)+Rc)=1;
 w8(b+8,Rc+1);
 Tc=r8(b+176);
 if(Tc==18446744073709551615u){
-sc=0;
-tc=0;
-uc=0;}
+zc=0;
+Ac=0;
+Bc=0;}
 else{
 w8(b+176,Tc+1);
 Uc=r8(b+88);
 if(r8(b+112)>Uc)Vc=Uc;
 else{
 Wc=make_ready_9a1(b+80);
-if(Wc==0){
-sc=0;
-tc=0;
-uc=0;
+if(!(Wc&1)){
+zc=0;
+Ac=0;
+Bc=0;
 goto L21;}
 Vc=r8(b+88);}
 Xc=rp(b+80)+Vc*44;
@@ -73860,24 +77169,24 @@ Xc[1]=0;
 x2(Xc+2,0);
 memcpy(Xc+4,i,40);
 w8(b+88,Vc+1);
-sc=1;
-tc=3;
-uc=1;}}
+zc=1;
+Ac=3;
+Bc=1;}}
 else{
-sc=0;
-tc=5;
-uc=1;}}}
+zc=0;
+Ac=5;
+Bc=1;}}}
 else{
 z40(i);
-sc=0;
-tc=5;
-uc=1;}
-L21:*o=uc;
-o[1]=tc;
+zc=0;
+Ac=5;
+Bc=1;}
+L21:*o=Bc;
+o[1]=Ac;
 Yc=0;
-Zc=sc;
-ad=tc;
-bd=uc;
+Zc=zc;
+ad=Ac;
+bd=Bc;
 goto L22;}}
 L13:goto L11;
 case 85:begin_component_d5a(o,b,c,d);
@@ -73893,7 +77202,7 @@ goto L22;}
 L23:cd=r8(b+8);
 if(r8(b+32)-cd<2){
 dd=make_ready_8e3(b,2,128);
-if(dd==0)goto L11;
+if(!(dd&1))goto L11;
 ed=r8(b+8);}
 else ed=cd;
 *(rp(b)+ed)=58;
@@ -73981,7 +77290,7 @@ L32:Sd=Pd.f0;
 Td=Pd.f1;
 if(r8(b+32)-fd<Td){
 Ud=make_ready_8e3(b,Td,128);
-if(Ud==0)goto L11;
+if(!(Ud&1))goto L11;
 Vd=r8(b+8);}
 else Vd=fd;
 Wd=r8(b+16);
@@ -74014,63 +77323,59 @@ if(fe<d){
 ge=*(c+fe);
 if(ge==66){
 he=tag_9a7(b,c,d);
-if(he==0){
-ie=0;
-je=0;
-ke=0;}
-else{
+if(he&1){
 z40(m);
-le=r8(b+176);
-if(le<d){
-if(*(c+le)==73){
-me=r4(b+120);
-ne=b[139];
-oe=r8(b+8);
-pe=r8(b+48);
-if(r8(b+72)>pe)qe=pe;
+ie=r8(b+176);
+if(ie<d){
+if(*(c+ie)==73){
+je=r4(b+120);
+ke=b[139];
+le=r8(b+8);
+me=r8(b+48);
+if(r8(b+72)>me)ne=me;
 else{
-re=make_ready_17a(b+40);
-if(re==0){
-ie=0;
-je=0;
-ke=0;
+oe=make_ready_17a(b+40);
+if(!(oe&1)){
+pe=0;
+qe=0;
+re=0;
 goto L33;}
-qe=r8(b+48);}
-se=rp(b+40)+qe*12;
-x4(se,me);
-x4(se+4,oe);
+ne=r8(b+48);}
+se=rp(b+40)+ne*12;
+x4(se,je);
+x4(se+4,le);
 se[8]=0;
-se[9]=ne;
+se[9]=ke;
 x2(se+10,0);
-w8(b+48,qe+1);
+w8(b+48,ne+1);
 memcpy(m,b+120,20);
 te=r8(b+8);
 if(r8(b+32)>te)ue=te;
 else{
 ve=make_ready_8e3(b,1,16);
-if(ve==0){
-ie=0;
-je=0;
-ke=0;
+if(!(ve&1)){
+pe=0;
+qe=0;
+re=0;
 goto L33;}
 ue=r8(b+8);}
 *(rp(b)+ue)=1;
 w8(b+8,ue+1);
 we=r8(b+176);
 if(we==18446744073709551615u){
-ie=0;
-je=0;
-ke=0;}
+pe=0;
+qe=0;
+re=0;}
 else{
 w8(b+176,we+1);
 xe=r8(b+88);
 if(r8(b+112)>xe)ye=xe;
 else{
 ze=make_ready_9a1(b+80);
-if(ze==0){
-ie=0;
-je=0;
-ke=0;
+if(!(ze&1)){
+pe=0;
+qe=0;
+re=0;
 goto L33;}
 ye=r8(b+88);}
 Ae=rp(b+80)+ye*44;
@@ -74079,17 +77384,21 @@ Ae[1]=0;
 x2(Ae+2,0);
 memcpy(Ae+4,m,40);
 w8(b+88,ye+1);
-ie=1;
-je=3;
-ke=1;}}
+pe=1;
+qe=3;
+re=1;}}
 else{
-ie=0;
-je=5;
-ke=1;}}
+pe=0;
+qe=5;
+re=1;}}
 else{
-ie=0;
-je=5;
-ke=1;}}}
+pe=0;
+qe=5;
+re=1;}}
+else{
+pe=0;
+qe=0;
+re=0;}}
 else{
 z40(l);
 if(ge==73){
@@ -74098,10 +77407,10 @@ Ce=r8(b+48);
 if(r8(b+72)>Ce)De=Ce;
 else{
 Ee=make_ready_17a(b+40);
-if(Ee==0){
-ie=0;
-je=0;
-ke=0;
+if(!(Ee&1)){
+pe=0;
+qe=0;
+re=0;
 goto L33;}
 De=r8(b+48);}
 Fe=rp(b+40)+De*12;
@@ -74116,29 +77425,29 @@ Ge=r8(b+8);
 if(r8(b+32)>Ge)He=Ge;
 else{
 Ie=make_ready_8e3(b,1,16);
-if(Ie==0){
-ie=0;
-je=0;
-ke=0;
+if(!(Ie&1)){
+pe=0;
+qe=0;
+re=0;
 goto L33;}
 He=r8(b+8);}
 *(rp(b)+He)=1;
 w8(b+8,He+1);
 Je=r8(b+176);
 if(Je==18446744073709551615u){
-ie=0;
-je=0;
-ke=0;}
+pe=0;
+qe=0;
+re=0;}
 else{
 w8(b+176,Je+1);
 Ke=r8(b+88);
 if(r8(b+112)>Ke)Le=Ke;
 else{
 Me=make_ready_9a1(b+80);
-if(Me==0){
-ie=0;
-je=0;
-ke=0;
+if(!(Me&1)){
+pe=0;
+qe=0;
+re=0;
 goto L33;}
 Le=r8(b+88);}
 Ne=rp(b+80)+Le*44;
@@ -74147,24 +77456,24 @@ Ne[1]=0;
 x2(Ne+2,0);
 memcpy(Ne+4,l,40);
 w8(b+88,Le+1);
-ie=1;
-je=3;
-ke=1;}}
+pe=1;
+qe=3;
+re=1;}}
 else{
-ie=0;
-je=5;
-ke=1;}}}
+pe=0;
+qe=5;
+re=1;}}}
 else{
 z40(l);
-ie=0;
-je=5;
-ke=1;}
-L33:*o=ke;
-o[1]=je;
+pe=0;
+qe=5;
+re=1;}
+L33:*o=re;
+o[1]=qe;
 Yc=0;
-Zc=ie;
-ad=je;
-bd=ke;
+Zc=pe;
+ad=qe;
+bd=re;
 goto L22;}}
 L25:L11:goto L34;
 L22:if(bd==1){
@@ -74191,7 +77500,7 @@ Se=r8(b+48);
 if(r8(b+72)>Se)Te=Se;
 else{
 Ue=make_ready_17a(b+40);
-if(Ue==0){
+if(!(Ue&1)){
 x4(a,0);
 goto L35;}
 Te=r8(b+48);}
@@ -74220,17 +77529,17 @@ static void operator_69e(u8* a,u8* b,u8* c,u64 d)
 {
 u8 f[32];
 A16 u8 e[4],g[40],h[40];
-u64 i,k,l,p,v,z,A,D,E,G,H,I,M,N,Q,R,T,U,V,Y;
-u8 j,o,q,r,s,t,u,x,B,F,J,O,S,W,Z,aa,ba,ca,da;
+u64 i,k,l,p,s,w,x,D,E,G,H,I,M,N,Q,R,T,U,V,Y;
+u8 j,o,q,r,u,y,z,A,B,F,J,O,S,W,Z,aa,ba,ca,da;
 s_8_8 m;
-u32 n,w,y,L;
+u32 n,t,v,L;
 u8 *C,*K,*P,*X;
 if(b[139]&1)x4(a,0);
 else{
 i=r8(b+8);
 if(r8(b+32)-i<2){
 j=make_ready_8e3(b,2,128);
-if(j==0){
+if(!(j&1)){
 x4(a,0);
 goto L1;}
 k=r8(b+8);}
@@ -74254,63 +77563,59 @@ if(p<d){
 q=*(c+p);
 if(q==66){
 r=tag_9a7(b,c,d);
-if(r==0){
-s=0;
-t=0;
-u=0;}
-else{
+if(r&1){
 z20(h+20);
-v=r8(b+176);
-if(v<d){
-if(*(c+v)==73){
-w=r4(b+120);
-x=b[139];
-y=r8(b+8);
-z=r8(b+48);
-if(r8(b+72)>z)A=z;
+s=r8(b+176);
+if(s<d){
+if(*(c+s)==73){
+t=r4(b+120);
+u=b[139];
+v=r8(b+8);
+w=r8(b+48);
+if(r8(b+72)>w)x=w;
 else{
-B=make_ready_17a(b+40);
-if(B==0){
-s=0;
-t=0;
-u=0;
+y=make_ready_17a(b+40);
+if(!(y&1)){
+z=0;
+A=0;
+B=0;
 goto L2;}
-A=r8(b+48);}
-C=rp(b+40)+A*12;
-x4(C,w);
-x4(C+4,y);
+x=r8(b+48);}
+C=rp(b+40)+x*12;
+x4(C,t);
+x4(C+4,v);
 C[8]=0;
-C[9]=x;
+C[9]=u;
 x2(C+10,0);
-w8(b+48,A+1);
+w8(b+48,x+1);
 memcpy(h,b+120,20);
 D=r8(b+8);
 if(r8(b+32)>D)E=D;
 else{
 F=make_ready_8e3(b,1,16);
-if(F==0){
-s=0;
-t=0;
-u=0;
+if(!(F&1)){
+z=0;
+A=0;
+B=0;
 goto L2;}
 E=r8(b+8);}
 *(rp(b)+E)=1;
 w8(b+8,E+1);
 G=r8(b+176);
 if(G==18446744073709551615u){
-s=0;
-t=0;
-u=0;}
+z=0;
+A=0;
+B=0;}
 else{
 w8(b+176,G+1);
 H=r8(b+88);
 if(r8(b+112)>H)I=H;
 else{
 J=make_ready_9a1(b+80);
-if(J==0){
-s=0;
-t=0;
-u=0;
+if(!(J&1)){
+z=0;
+A=0;
+B=0;
 goto L2;}
 I=r8(b+88);}
 K=rp(b+80)+I*44;
@@ -74319,17 +77624,21 @@ K[1]=0;
 x2(K+2,0);
 memcpy(K+4,h,40);
 w8(b+88,I+1);
-s=1;
-t=3;
-u=1;}}
+z=1;
+A=3;
+B=1;}}
 else{
-s=0;
-t=5;
-u=1;}}
+z=0;
+A=5;
+B=1;}}
 else{
-s=0;
-t=5;
-u=1;}}}
+z=0;
+A=5;
+B=1;}}
+else{
+z=0;
+A=0;
+B=0;}}
 else{
 z20(g+20);
 if(q==73){
@@ -74338,10 +77647,10 @@ M=r8(b+48);
 if(r8(b+72)>M)N=M;
 else{
 O=make_ready_17a(b+40);
-if(O==0){
-s=0;
-t=0;
-u=0;
+if(!(O&1)){
+z=0;
+A=0;
+B=0;
 goto L2;}
 N=r8(b+48);}
 P=rp(b+40)+N*12;
@@ -74356,29 +77665,29 @@ Q=r8(b+8);
 if(r8(b+32)>Q)R=Q;
 else{
 S=make_ready_8e3(b,1,16);
-if(S==0){
-s=0;
-t=0;
-u=0;
+if(!(S&1)){
+z=0;
+A=0;
+B=0;
 goto L2;}
 R=r8(b+8);}
 *(rp(b)+R)=1;
 w8(b+8,R+1);
 T=r8(b+176);
 if(T==18446744073709551615u){
-s=0;
-t=0;
-u=0;}
+z=0;
+A=0;
+B=0;}
 else{
 w8(b+176,T+1);
 U=r8(b+88);
 if(r8(b+112)>U)V=U;
 else{
 W=make_ready_9a1(b+80);
-if(W==0){
-s=0;
-t=0;
-u=0;
+if(!(W&1)){
+z=0;
+A=0;
+B=0;
 goto L2;}
 V=r8(b+88);}
 X=rp(b+80)+V*44;
@@ -74387,20 +77696,20 @@ X[1]=0;
 x2(X+2,0);
 memcpy(X+4,g,40);
 w8(b+88,V+1);
-s=1;
-t=3;
-u=1;}}
+z=1;
+A=3;
+B=1;}}
 else{
-s=0;
-t=5;
-u=1;}}}
+z=0;
+A=5;
+B=1;}}}
 else{
-s=0;
-t=5;
-u=1;}
-L2:*a=u;
-a[1]=t;
-a[2]=s;
+z=0;
+A=5;
+B=1;}
+L2:*a=B;
+a[1]=A;
+a[2]=z;
 a[3]=0;}
 else{
 w4(e,0);
@@ -99284,11 +102593,11 @@ static u8 run_80f(u8* a,u8* b,u64 c,u32 d)
 {
 u8 h[1];
 A16 u8 e[40],f[40],g[32],i[40],j[32],k[40],l[32],m[12],n[12],o[12],p[24],q[12],r[12],s[12],t[32],u[24],v[12],w[12],x[12],y[32];
-u64 z,A,B,D,E,G,I,J,M,N,P,S,U,V,W,X,Y,Z,ba,ca,da,fa,ha,ia,ka,la,na,oa,qa,ra,ua,ya,Aa,Ba,Da,Fa,Ia,Ja,La,Ma,Na,Pa,Sa,Ua,Va,Wa,Xa,Za,ab,bb,db,eb,fb,hb,kb,ob,pb,qb,rb,sb,vb,wb,xb,Ab,Cb,Db,Eb,Hb,Ib,Jb,Kb,Mb,Nb,Ob,Pb,Tb,Ub,Vb,Wb,Yb,Zb,ac,bc,dc,gc,hc,jc,kc,mc,pc,rc,sc,yc,Ac,Bc,Cc,Dc,Fc,Hc,Ic,Kc,Lc,Mc,Pc,Qc,Tc,Uc,Vc,Wc,Yc,ad,bd,dd,ed,fd,id,jd,md,nd,pd,sd,td,vd,xd,yd,Bd,Cd,Fd,Gd,Id,Kd,Ld,Nd,Od,Pd,Sd,Td,Wd,Xd,Zd,be,ce,ee,fe,ge,je,ke,ne,oe,qe,se,te,ve,we,xe,Ae,Be,Ee,Fe,Ge,He,Ie,Je,Ke,Me,Oe,Pe,Qe,Re,Te,Ue,Ve,We,Xe,Ze,af,bf,df,ef,ff,hf,mf,nf,pf,sf,tf,vf,xf,yf,Bf,Cf,Ef,Ff,Gf,If,Jf,Kf,Nf,Of,Rf,Tf,Vf,Wf,Yf,Zf,ag,dg,eg,gg,jg,og,sg,ug,vg,xg,yg,Eg,Gg,Ig,Jg,Kg,Lg,Mg,Pg,Qg,Rg,Ug,Wg,Xg,Yg,bh,ch,dh,eh,gh,hh,ih,jh,nh,oh,ph,qh,sh,th,uh,vh,xh,Ah,Bh,Dh,Eh,Gh,Jh,Kh,Lh,Mh,Nh,Oh,Ph,Rh,Th,Uh,Vh,Wh,Yh,Zh,ai,bi,ci,ei,fi,gi,ii,ji,ki,mi,qi,ri,ti,wi,yi,zi,Bi,Ei,Fi,Ki,Pi,Ri,Si,Ti,Wi,Xi,Yi,bj,dj,ej,fj,ij,kj,lj,nj,pj,qj,rj,sj,wj,yj,zj,Aj,Cj,Dj,Ej,Fj,Hj,Jj,Kj,Mj,Oj,Pj,Rj,Sj,Tj,Wj,Zj,bk,ek,fk,gk,ik,kk,pk,uk,wk,yk,Ak,Ck,Dk,Fk,Gk,Hk,Kk,Mk,Pk,Rk,Sk,Tk,Xk,Yk,bl,cl,gl,il,kl,ml,nl,pl,ql,tl,ul,wl,zl,Al,Cl,Dl,Fl,Il,Jl,Ll,Ml,Ol,Rl,Sl,Tl,Ul,Vl,Xl,am,cm,dm,fm,gm,hm,km,lm,om,pm,rm,sm,um,vm,wm,ym,Bm,Cm,Em,Fm,Hm,Km,Lm,Nm,Om,Rm,Sm,Um,Vm,Ym,Zm,bn,cn,fn,hn,in,kn,ln,mn,pn,qn,tn,un,wn,xn,zn,Cn;
-u8 C,F,K,O,Q,R,aa,ea,ga,ma,pa,sa,ta,va,xa,za,Ca,Ea,Ga,Ha,Oa,Qa,Ta,Ya,gb,ib,lb,mb,nb,ub,zb,Bb,Gb,Qb,Sb,ec,fc,ic,lc,nc,qc,tc,uc,vc,wc,xc,zc,Ec,Gc,Jc,Rc,Xc,Zc,cd,kd,od,qd,ud,Dd,Hd,Jd,Md,Ud,Yd,ae,de,le,pe,re,ue,Ce,Le,Ne,Ye,cf,kf,lf,of,qf,uf,wf,zf,Df,Hf,Pf,Uf,Xf,fg,hg,ig,kg,ng,pg,qg,rg,tg,wg,zg,Ag,Bg,Cg,Dg,Fg,Og,Tg,Vg,ah,kh,mh,yh,zh,Ch,Fh,Hh,Qh,Sh,di,hi,oi,pi,si,ui,xi,Di,Gi,Hi,Ii,Ji,Li,Mi,Ni,Oi,Qi,Vi,aj,cj,hj,jj,mj,tj,vj,xj,Gj,Ij,Nj,Qj,Yj,ak,ck,jk,mk,nk,ok,qk,rk,sk,tk,vk,xk,Bk,Ek,Lk,Nk,Qk,Uk,Wk,Zk,al,dl,fl,jl,ol,rl,vl,xl,Bl,El,Gl,Kl,Nl,Pl,Wl,Yl,bm,em,mm,qm,xm,zm,Dm,Gm,Im,Mm,Pm,Tm,Wm,an,dn,gn,jn,rn,vn,yn,An;
-u8 *H,*L,*T,*ja,*wa,*Ra,*jb,*tb,*Fb,*Lb,*Rb,*Xb,*cc,*oc,*Nc,*Oc,*Sc,*gd,*hd,*ld,*zd,*Ad,*Ed,*Qd,*Rd,*Vd,*he,*ie,*me,*ye,*ze,*De,*Se,*jf,*rf,*Af,*Lf,*Mf,*Qf,*Sf,*bg,*cg,*lg,*mg,*Hg,*Ng,*Zg,*fh,*lh,*rh,*wh,*Ih,*Xh,*ni,*vi,*Ai,*Ci,*Ui,*gj,*oj,*uj,*Bj,*Lj,*Uj,*Vj,*Xj,*dk,*hk,*lk,*zk,*Ik,*Jk,*Ok,*Vk,*el,*hl,*ll,*sl,*yl,*Hl,*Ql,*Zl,*im,*jm,*nm,*Am,*Jm,*Qm,*Xm,*en,*nn,*on,*sn,*Bn;
-s_8_64 Ka,cb,yb,Sg,Zi,tm;
-u16 gf,li;
+u64 z,A,B,D,E,G,I,J,M,N,P,S,U,V,W,X,Z,aa,ba,ca,da,ga,ha,ia,ja,ka,ma,oa,pa,ra,sa,ua,va,xa,ya,Ba,Fa,Ha,Ia,Ka,Ma,Pa,Qa,Sa,Ta,Ua,Wa,Za,bb,cb,db,eb,gb,hb,ib,kb,lb,mb,ob,rb,vb,wb,xb,yb,zb,Cb,Db,Eb,Hb,Jb,Kb,Lb,Ob,Pb,Qb,Rb,Tb,Ub,Vb,Wb,ac,bc,cc,dc,fc,gc,hc,ic,kc,nc,oc,qc,rc,tc,wc,yc,zc,Fc,Hc,Ic,Jc,Kc,Mc,Oc,Pc,Rc,Sc,Tc,Wc,Xc,ad,bd,cd,dd,fd,hd,id,kd,ld,md,pd,qd,ud,vd,yd,zd,Bd,Dd,Ed,Fd,Id,Jd,Md,Nd,Pd,Qd,Sd,Ud,Vd,Wd,Zd,ae,de,ee,ge,he,je,le,me,ne,qe,re,ue,ve,xe,ye,Ae,Ce,De,Ee,He,Ie,Le,Me,Ne,Oe,Pe,Qe,Re,Te,Ve,We,Xe,Ye,af,bf,cf,df,ef,gf,hf,jf,lf,mf,nf,pf,tf,uf,wf,zf,Af,Cf,Ef,Ff,If,Jf,Lf,Mf,Nf,Pf,Qf,Rf,Uf,Vf,Yf,ag,cg,dg,fg,gg,hg,kg,lg,ng,qg,vg,zg,Bg,Cg,Eg,Fg,Lg,Ng,Pg,Qg,Rg,Sg,Tg,Wg,Xg,Yg,bh,dh,eh,fh,ih,jh,kh,lh,nh,oh,ph,qh,uh,vh,wh,xh,zh,Ah,Bh,Ch,Eh,Hh,Ih,Kh,Lh,Nh,Qh,Rh,Sh,Th,Uh,Vh,Wh,Yh,ai,bi,ci,di,fi,gi,hi,ii,ji,li,mi,ni,pi,qi,ri,ti,xi,yi,Ai,Di,Fi,Gi,Ii,Li,Mi,Ri,Wi,Yi,Zi,aj,dj,ej,fj,ij,kj,lj,mj,pj,rj,sj,uj,wj,xj,yj,zj,Dj,Fj,Gj,Hj,Jj,Kj,Lj,Mj,Oj,Qj,Rj,Tj,Vj,Wj,Yj,Zj,ak,dk,gk,ik,lk,mk,nk,pk,rk,wk,Bk,Dk,Fk,Hk,Jk,Kk,Mk,Nk,Ok,Rk,Tk,Wk,Yk,Zk,al,el,fl,il,jl,nl,pl,rl,tl,ul,wl,xl,Al,Bl,Dl,Gl,Hl,Jl,Kl,Ml,Pl,Ql,Sl,Tl,Vl,Yl,Zl,am,bm,cm,em,hm,jm,km,mm,nm,om,rm,sm,vm,wm,ym,zm,Bm,Cm,Dm,Fm,Im,Jm,Lm,Mm,Om,Rm,Sm,Um,Vm,Ym,Zm,bn,cn,fn,gn,in,jn,mn,on,pn,rn,sn,tn,wn,xn,An,Bn,Dn,En,Gn,Jn;
+u8 C,F,K,O,Q,R,la,na,ta,wa,za,Aa,Ca,Ea,Ga,Ja,La,Na,Oa,Va,Xa,ab,fb,nb,pb,sb,tb,ub,Bb,Gb,Ib,Nb,Xb,Zb,lc,mc,pc,sc,uc,xc,Ac,Bc,Cc,Dc,Ec,Gc,Lc,Nc,Qc,Yc,ed,gd,jd,sd,xd,Ad,Cd,Kd,Od,Rd,Td,be,fe,ie,ke,se,we,ze,Be,Je,Se,Ue,ff,kf,rf,sf,vf,xf,Bf,Df,Gf,Kf,Of,Wf,bg,eg,mg,og,pg,rg,ug,wg,xg,yg,Ag,Dg,Gg,Hg,Ig,Jg,Kg,Mg,Vg,ah,ch,hh,rh,th,Fh,Gh,Jh,Mh,Oh,Xh,Zh,ki,oi,vi,wi,zi,Bi,Ei,Ki,Ni,Oi,Pi,Qi,Si,Ti,Ui,Vi,Xi,cj,hj,jj,oj,qj,tj,Aj,Cj,Ej,Nj,Pj,Uj,Xj,fk,hk,jk,qk,tk,uk,vk,xk,yk,zk,Ak,Ck,Ek,Ik,Lk,Sk,Uk,Xk,bl,dl,gl,hl,kl,ml,ql,vl,yl,Cl,El,Il,Ll,Nl,Rl,Ul,Wl,dm,fm,im,lm,tm,xm,Em,Gm,Km,Nm,Pm,Tm,Wm,an,dn,hn,kn,nn,qn,yn,Cn,Fn,Hn;
+u8 *H,*L,*T,*ea,*fa,*qa,*Da,*Ya,*qb,*Ab,*Mb,*Sb,*Yb,*ec,*jc,*vc,*Uc,*Vc,*Zc,*nd,*od,*td,*Gd,*Hd,*Ld,*Xd,*Yd,*ce,*oe,*pe,*te,*Fe,*Ge,*Ke,*Ze,*qf,*yf,*Hf,*Sf,*Tf,*Xf,*Zf,*ig,*jg,*sg,*tg,*Og,*Ug,*gh,*mh,*sh,*yh,*Dh,*Ph,*ei,*ui,*Ci,*Hi,*Ji,*bj,*nj,*vj,*Bj,*Ij,*Sj,*bk,*ck,*ek,*kk,*ok,*sk,*Gk,*Pk,*Qk,*Vk,*cl,*ll,*ol,*sl,*zl,*Fl,*Ol,*Xl,*gm,*pm,*qm,*um,*Hm,*Qm,*Xm,*en,*ln,*un,*vn,*zn,*In;
+u16 Y,of,si;
+s_8_64 Ra,jb,Fb,Zg,gj,Am;
 if(c-1<65536){
 if(*b==95&&c>1){
 if(b[1]==82){
@@ -99318,7 +102627,7 @@ I=r8(a+160);
 if(r8(a+184)>I)J=I;
 else{
 K=make_ready_e3c(a+152);
-if(K==0){
+if(!(K&1)){
 F=0;
 goto L1;}
 J=r8(a+160);}
@@ -99340,1632 +102649,1643 @@ if(S>(d>>2))F=0;
 else{
 T=rp(a);
 if(S==0){
+F=1;
+goto L1;}
 U=0;
-goto L3;}
 V=0;
-L4:if(*(T+V)>2){
-W=V+1;
-if(W==S){
-F=1;
-goto L1;}
-V=W;
+W=0;
+L3:X=U;
+L4:if(S-X>15){
+Y=cttz(v16_ult(v16_at(T+X),splat(3)),16);
+Z=X+Y;
+if(Y>=16){
+X=Z;
 goto L4;}
-U=V;
-L3:if(U>=S){
-F=1;
-goto L1;}
-X=U;
-Y=U;
-Z=0;
-L5:aa=*(T+X);
-if(aa>2){
-if(Z==0){
-*(T+Y)=aa;
-ba=0;
-ca=Y+1;}
+aa=Z;}
 else{
-ba=Z;
-ca=Y;}}
-else{
-switch(aa){
-case 2:ba=usub64(Z,1);
-ca=Y;
+if(X>=S){
+aa=X;
+goto L5;}
+ba=X;
+L6:if(*(T+ba)>2){
+ca=ba+1;
+if(ca!=S){
+ba=ca;
+goto L6;}
+aa=S;}
+else aa=ba;}
+L5:if(W==0){
+if(V<U){
+if(aa!=U){
+da=aa-U;
+ea=T+(i64)U;
+fa=T+(i64)V;
+ga=0;
+L7:*(fa+(i64)ga)=*(ea+(i64)ga);
+ha=ga+1;
+if(ha!=da){
+ga=ha;
+goto L7;}}}
+ia=V-U+aa;}
+else ia=V;
+if(aa!=S){
+switch(*(T+aa)){
+case 1:ja=W+1;
 break;
-case 1:ba=Z+1;
-ca=Y;
+case 2:ja=usub64(W,1);
 break;
 default:F=0;
 goto L1;
-}}
-da=X+1;
-if(da!=S){
-X=da;
-Y=ca;
-Z=ba;
-goto L5;}
-if(r8(a+8)>ca){
-w8(a+8,ca);
+}
+ka=aa+1;
+if(ka<S){
+U=ka;
+V=ia;
+W=ja;
+goto L3;}}
+if(r8(a+8)>ia){
+w8(a+8,ia);
 F=1;}
 else F=1;}}
 else{
 w8(a+200,r8(a+200)+1);
 switch(R){
-case 3:ea=Q&1;
-fa=r8(a+192);
-if(fa<c){
-ga=*(b+fa);
-if(ga==69){
-ha=r8(a+160);
-if(ha==0){
+case 3:la=Q&1;
+ma=r8(a+192);
+if(ma<c){
+na=*(b+ma);
+if(na==69){
+oa=r8(a+160);
+if(oa==0){
 F=0;
 goto L1;}
-ia=ha-1;
-w8(a+160,ia);
-ja=rp(a+152)+(ia<<5);
-if(*ja!=4){
+pa=oa-1;
+w8(a+160,pa);
+qa=rp(a+152)+(pa<<5);
+if(*qa!=4){
 F=0;
 goto L1;}
-ka=q8(ja+8);
-la=q8(ja+16);
-ma=ja[24];
-w8(a+192,fa+1);
-na=r8(a+8);
-if(r8(a+32)>na)oa=na;
+ra=q8(qa+8);
+sa=q8(qa+16);
+ta=qa[24];
+w8(a+192,ma+1);
+ua=r8(a+8);
+if(r8(a+32)>ua)va=ua;
 else{
-pa=make_ready_8e3(a,1,16);
-if(pa==0){
+wa=make_ready_8e3(a,1,16);
+if(!(wa&1)){
 F=0;
 goto L1;}
-oa=r8(a+8);}
-*(rp(a)+oa)=2;
-qa=oa+1;
-w8(a+8,qa);
-if(r8(a+136)<=ka){
+va=r8(a+8);}
+*(rp(a)+va)=2;
+xa=va+1;
+w8(a+8,xa);
+if(r8(a+136)<=ra){
 F=0;
 goto L1;}
-ra=r8(a+96);
-if(ra>65534){
+ya=r8(a+96);
+if(ya>65534){
 F=0;
 goto L1;}
-sa=2-(ma&1);
-ta=a[80];
-if(r8(a+120)>ra)ua=ra;
+za=2-(ta&1);
+Aa=a[80];
+if(r8(a+120)>ya)Ba=ya;
 else{
-va=make_ready_b73(a+88);
-if(va==0){
+Ca=make_ready_b73(a+88);
+if(!(Ca&1)){
 F=0;
 goto L1;}
-ua=r8(a+96);}
-wa=rp(a+88)+ua*24;
-x8(wa,la);
-x8(wa+8,qa);
-wa[16]=sa;
-wa[17]=ta;
-z6(wa+18);
-w8(a+96,ua+1);
-w2(rp(a+128)+(i64)(ka<<1),(u16)ra+1);
-xa=sa;
-ya=la;
-goto L6;}
-za=ga;}
-else za=0;
-if(ea){
-switch(za){
-case 76:Aa=fa+1;
-if(!((fa!=18446744073709551615u)&(Aa<c))){
+Ba=r8(a+96);}
+Da=rp(a+88)+Ba*24;
+x8(Da,sa);
+x8(Da+8,xa);
+Da[16]=za;
+Da[17]=Aa;
+z6(Da+18);
+w8(a+96,Ba+1);
+w2(rp(a+128)+(i64)(ra<<1),(u16)ya+1);
+Ea=za;
+Fa=sa;
+goto L8;}
+Ga=na;}
+else Ga=0;
+if(la){
+switch(Ga){
+case 76:Ha=ma+1;
+if(!((ma!=18446744073709551615u)&(Ha<c))){
 F=0;
 goto L1;}
-if(*(b+Aa)!=95){
+if(*(b+Ha)!=95){
 F=0;
 goto L1;}
-w8(a+192,fa+2);
-Ba=r8(a+8);
-if(r8(a+32)-Ba<2){
-Ca=make_ready_8e3(a,2,128);
-if(Ca==0){
+w8(a+192,ma+2);
+Ia=r8(a+8);
+if(r8(a+32)-Ia<2){
+Ja=make_ready_8e3(a,2,128);
+if(!(Ja&1)){
 F=0;
 goto L1;}
-Da=r8(a+8);}
-else Da=Ba;
-*(rp(a)+Da)=39;
-*(rp(a)+(i64)Da+1)=95;
-w8(a+8,Da+2);
-Ea=0;
-Fa=0;
-Ga=0;
-Ha=3;
-goto L7;
-case 75:if(fa==18446744073709551615u){
+Ka=r8(a+8);}
+else Ka=Ia;
+*(rp(a)+Ka)=39;
+*(rp(a)+(i64)Ka+1)=95;
+w8(a+8,Ka+2);
+La=0;
+Ma=0;
+Na=0;
+Oa=3;
+goto L9;
+case 75:if(ma==18446744073709551615u){
 F=0;
 goto L1;}
-Ia=fa+1;
-Ja=r8(a+8);
-Ka=constant_at_b72(a,b,c,Ia);
-if(Ka.f0!=1){
+Pa=ma+1;
+Qa=r8(a+8);
+Ra=constant_at_b72(a,b,c,Pa);
+if(Ra.f0!=1){
 F=0;
 goto L1;}
-if(r8(a+136)<=Ia){
+if(r8(a+136)<=Pa){
 F=0;
 goto L1;}
-La=r8(a+96);
-if(La>65534){
+Sa=r8(a+96);
+if(Sa>65534){
 F=0;
 goto L1;}
-Ma=Ka.f1;
-Na=r8(a+8);
-Oa=a[80];
-if(r8(a+120)>La)Pa=La;
+Ta=Ra.f1;
+Ua=r8(a+8);
+Va=a[80];
+if(r8(a+120)>Sa)Wa=Sa;
 else{
-Qa=make_ready_b73(a+88);
-if(Qa==0){
+Xa=make_ready_b73(a+88);
+if(!(Xa&1)){
 F=0;
 goto L1;}
-Pa=r8(a+96);}
-Ra=rp(a+88)+Pa*24;
-x8(Ra,Ja);
-x8(Ra+8,Na);
-Ra[16]=4;
-Ra[17]=Oa;
-z6(Ra+18);
-w8(a+96,Pa+1);
-w2(rp(a+128)+(i64)(Ia<<1),(u16)La+1);
-w8(a+192,Ma);
-Ea=0;
-Fa=0;
-Ga=0;
-Ha=3;
-goto L7;
+Wa=r8(a+96);}
+Ya=rp(a+88)+Wa*24;
+x8(Ya,Qa);
+x8(Ya+8,Ua);
+Ya[16]=4;
+Ya[17]=Va;
+z6(Ya+18);
+w8(a+96,Wa+1);
+w2(rp(a+128)+(i64)(Pa<<1),(u16)Sa+1);
+w8(a+192,Ta);
+La=0;
+Ma=0;
+Na=0;
+Oa=3;
+goto L9;
 default:break;}}
 else{
-Sa=r8(a+8);
-if(r8(a+32)-Sa<2){
-Ta=make_ready_8e3(a,2,128);
-if(Ta==0){
+Za=r8(a+8);
+if(r8(a+32)-Za<2){
+ab=make_ready_8e3(a,2,128);
+if(!(ab&1)){
 F=0;
 goto L1;}
-Ua=r8(a+8);}
-else Ua=Sa;
-*(rp(a)+Ua)=44;
-*(rp(a)+(i64)Ua+1)=32;
-Va=Ua+2;
-w8(a+8,Va);
-switch(za){
-case 76:Wa=r8(a+192);
-Xa=Wa+1;
-if(!((Wa!=18446744073709551615u)&(Xa<c))){
+bb=r8(a+8);}
+else bb=Za;
+*(rp(a)+bb)=44;
+*(rp(a)+(i64)bb+1)=32;
+cb=bb+2;
+w8(a+8,cb);
+switch(Ga){
+case 76:db=r8(a+192);
+eb=db+1;
+if(!((db!=18446744073709551615u)&(eb<c))){
 F=0;
 goto L1;}
-if(*(b+Xa)!=95){
+if(*(b+eb)!=95){
 F=0;
 goto L1;}
-w8(a+192,Wa+2);
-if(r8(a+32)-Va<2){
-Ya=make_ready_8e3(a,2,128);
-if(Ya==0){
+w8(a+192,db+2);
+if(r8(a+32)-cb<2){
+fb=make_ready_8e3(a,2,128);
+if(!(fb&1)){
 F=0;
 goto L1;}
-Za=r8(a+8);}
-else Za=Va;
-*(rp(a)+Za)=39;
-*(rp(a)+(i64)Za+1)=95;
-w8(a+8,Za+2);
-Ea=0;
-Fa=0;
-Ga=0;
-Ha=3;
-goto L7;
-case 75:ab=r8(a+192);
-if(ab==18446744073709551615u){
+gb=r8(a+8);}
+else gb=cb;
+*(rp(a)+gb)=39;
+*(rp(a)+(i64)gb+1)=95;
+w8(a+8,gb+2);
+La=0;
+Ma=0;
+Na=0;
+Oa=3;
+goto L9;
+case 75:hb=r8(a+192);
+if(hb==18446744073709551615u){
 F=0;
 goto L1;}
-bb=ab+1;
-cb=constant_at_b72(a,b,c,bb);
-if(cb.f0!=1){
+ib=hb+1;
+jb=constant_at_b72(a,b,c,ib);
+if(jb.f0!=1){
 F=0;
 goto L1;}
-if(r8(a+136)<=bb){
+if(r8(a+136)<=ib){
 F=0;
 goto L1;}
-db=r8(a+96);
-if(db>65534){
+kb=r8(a+96);
+if(kb>65534){
 F=0;
 goto L1;}
-eb=cb.f1;
-fb=r8(a+8);
-gb=a[80];
-if(r8(a+120)>db)hb=db;
+lb=jb.f1;
+mb=r8(a+8);
+nb=a[80];
+if(r8(a+120)>kb)ob=kb;
 else{
-ib=make_ready_b73(a+88);
-if(ib==0){
+pb=make_ready_b73(a+88);
+if(!(pb&1)){
 F=0;
 goto L1;}
-hb=r8(a+96);}
-jb=rp(a+88)+hb*24;
-x8(jb,Va);
-x8(jb+8,fb);
-jb[16]=4;
-jb[17]=gb;
-z6(jb+18);
-w8(a+96,hb+1);
-w2(rp(a+128)+(i64)(bb<<1),(u16)db+1);
-w8(a+192,eb);
-Ea=0;
-Fa=0;
-Ga=0;
-Ha=3;
-goto L7;
+ob=r8(a+96);}
+qb=rp(a+88)+ob*24;
+x8(qb,cb);
+x8(qb+8,mb);
+qb[16]=4;
+qb[17]=nb;
+z6(qb+18);
+w8(a+96,ob+1);
+w2(rp(a+128)+(i64)(ib<<1),(u16)kb+1);
+w8(a+192,lb);
+La=0;
+Ma=0;
+Na=0;
+Oa=3;
+goto L9;
 default:break;}}
 break;
 case 1:break;
-default:kb=P;
-lb=R;
-mb=Q;
-nb=O;
-goto L8;
+default:rb=P;
+sb=R;
+tb=Q;
+ub=O;
+goto L10;
 }
 z32(y);
-ob=r8(a+192);
-if(ob<c){
-switch(*(b+ob)){
-case 67:pb=r8(a+8);
-qb=ob+1;
-if(qb<c){
-if(*(b+qb)==115){
-rb=ob+2;
-if(c-rb>=12){
-sb=ob+13;
-tb=b+(i64)rb;
-ub=*tb;
-if(!((ub<58)|((u8)(ub-97)<11)))goto L9;
-vb=0;
-L10:if(*((u8*)t_9eba+*(tb+vb))==0){
-wb=vb+1;
-if(wb!=11){
-vb=wb;
-goto L10;}
-if(sb<c){
-if(*(b+sb)==95){
-xb=ob+14;
-goto L11;}}}}
-L9:yb=any_disambiguator_end_f9c(b,c,qb);
-if(yb.f0!=1)goto L12;
-xb=yb.f1;}
-else xb=qb;}
-else xb=qb;
-L11:if(xb<c){
-zb=*(b+xb);
-if((u8)(zb-58)>=247){
-Ab=xb+1;
-if(Ab<c){
-Bb=*(b+Ab)-48;
-if(Bb<10){
-Cb=xb+2;
-Db=(u64)Bb+(u8)((u8)(zb*10)+32);
-if(c-Cb<Db)goto L13;
-Eb=Db+Cb;
-Fb=b+(i64)Cb;
-Gb=*Fb;
-if((Gb==95)|((u8)(Gb-48)<10)){
+vb=r8(a+192);
+if(vb<c){
+switch(*(b+vb)){
+case 67:wb=r8(a+8);
+xb=vb+1;
+if(xb<c){
+if(*(b+xb)==115){
+yb=vb+2;
+if(c-yb>=12){
+zb=vb+13;
+Ab=b+(i64)yb;
+Bb=*Ab;
+if(!((Bb<58)|((u8)(Bb-97)<11)))goto L11;
+Cb=0;
+L12:if(*((u8*)t_9eba+*(Ab+Cb))==0){
+Db=Cb+1;
+if(Db!=11){
+Cb=Db;
+goto L12;}
+if(zb<c){
+if(*(b+zb)==95){
+Eb=vb+14;
+goto L13;}}}}
+L11:Fb=any_disambiguator_end_f9c(b,c,xb);
+if(Fb.f0!=1)goto L14;
+Eb=Fb.f1;}
+else Eb=xb;}
+else Eb=xb;
+L13:if(Eb<c){
+Gb=*(b+Eb);
+if((u8)(Gb-58)>=247){
+Hb=Eb+1;
+if(Hb<c){
+Ib=*(b+Hb)-48;
+if(Ib<10){
+Jb=Eb+2;
+Kb=(u64)Ib+(u8)((u8)(Gb*10)+32);
+if(c-Jb<Kb)goto L15;
+Lb=Kb+Jb;
+Mb=b+(i64)Jb;
+Nb=*Mb;
+if((Nb==95)|((u8)(Nb-48)<10)){
 z12(w);
-any_name_span_9bc(w,b,c,xb);
-Hb=q8(w+4);
-if(*w!=1)goto L13;
-Ib=Hb>>32;
-Jb=Hb&4294967295u;
-goto L14;}
-Kb=0;
-L15:Lb=Fb+Kb;
-if((u8)((u8)(*((u8*)t_4efc+Lb[1])+*((u8*)t_4efc+*Lb))+*((u8*)t_4efc+Lb[2]))==(u8)(0-*((u8*)t_4efc+Lb[3]))){
-Mb=Kb+4;
-if(Db-Mb>3){
-Kb=Mb;
-goto L15;}
-Nb=Mb;}
-else Nb=Kb;
-if(Nb>=Db){
-Ib=Eb;
-Jb=Cb;
-goto L14;}
-Ob=Nb;
-L16:if(*((u8*)t_4efc+*(Fb+Ob))!=0)goto L13;
-Pb=Ob+1;
-if(Pb<Db){
-Ob=Pb;
+any_name_span_9bc(w,b,c,Eb);
+Ob=q8(w+4);
+if(*w!=1)goto L15;
+Pb=Ob>>32;
+Qb=Ob&4294967295u;
 goto L16;}
-Ib=Eb;
-Jb=Cb;
-goto L14;}}
-Qb=zb-48;
-if(c-Ab<Qb)goto L13;
-Rb=b+(i64)Ab;
-Sb=*Rb;
-if((Sb==95)|((u8)(Sb-48)<10)){
-z12(v);
-any_name_span_9bc(v,b,c,xb);
-Tb=q8(v+4);
-if(*v!=1)goto L13;
-Ib=Tb>>32;
-Jb=Tb&4294967295u;
-goto L14;}
-Ub=Ab+Qb;
-if(zb<=51){
-Wb=0;
+Rb=0;
+L17:Sb=Mb+Rb;
+if((u8)((u8)(*((u8*)t_4efc+Sb[1])+*((u8*)t_4efc+*Sb))+*((u8*)t_4efc+Sb[2]))==(u8)(0-*((u8*)t_4efc+Sb[3]))){
+Tb=Rb+4;
+if(Kb-Tb>3){
+Rb=Tb;
 goto L17;}
-Vb=0;
-L18:Xb=Rb+Vb;
-if((u8)((u8)(*((u8*)t_4efc+Xb[1])+*((u8*)t_4efc+*Xb))+*((u8*)t_4efc+Xb[2]))==(u8)(0-*((u8*)t_4efc+Xb[3]))){
-Yb=Vb+4;
-if(Qb-Yb>3){
-Vb=Yb;
+Ub=Tb;}
+else Ub=Rb;
+if(Ub>=Kb){
+Pb=Lb;
+Qb=Jb;
+goto L16;}
+Vb=Ub;
+L18:if(*((u8*)t_4efc+*(Mb+Vb))!=0)goto L15;
+Wb=Vb+1;
+if(Wb<Kb){
+Vb=Wb;
 goto L18;}
-Wb=Yb;}
-else Wb=Vb;
-L17:if(Wb>=Qb){
-Ib=Ub;
-Jb=Ab;
-goto L14;}
-Zb=Wb;
-L19:if(*((u8*)t_4efc+*(Rb+Zb))!=0)goto L13;
-ac=Zb+1;
-if(ac!=Qb){
-Zb=ac;
+Pb=Lb;
+Qb=Jb;
+goto L16;}}
+Xb=Gb-48;
+if(c-Hb<Xb)goto L15;
+Yb=b+(i64)Hb;
+Zb=*Yb;
+if((Zb==95)|((u8)(Zb-48)<10)){
+z12(v);
+any_name_span_9bc(v,b,c,Eb);
+ac=q8(v+4);
+if(*v!=1)goto L15;
+Pb=ac>>32;
+Qb=ac&4294967295u;
+goto L16;}
+bc=Hb+Xb;
+if(Gb<=51){
+dc=0;
 goto L19;}
-Ib=Ub;
-Jb=Ab;
-goto L14;}}
-z12(x);
-any_name_span_9bc(x,b,c,xb);
-bc=q8(x+4);
-if(*x!=1)goto L13;
-Ib=bc>>32;
-Jb=bc&4294967295u;
-L14:if(Ib<=Jb)goto L13;
-cc=b+(i64)Jb;
-dc=Ib-Jb;
-if(r8(a+32)-pb<dc){
-ec=make_ready_8e3(a,dc,128);
-if(ec==0)goto L13;}
-fc=push_str_b7e(a,cc,dc);
-if(fc!=0)goto L13;
-w8(a+192,Ib);
-if(r8(a+136)>ob){
-gc=r8(a+96);
-if(gc>65534){
-hc=0;
-ic=0;
-jc=0;}
-else{
-kc=r8(a+8);
-lc=a[80];
-if(r8(a+120)>gc)mc=gc;
-else{
-nc=make_ready_b73(a+88);
-if(nc==0){
-hc=0;
-ic=0;
-jc=0;
+cc=0;
+L20:ec=Yb+cc;
+if((u8)((u8)(*((u8*)t_4efc+ec[1])+*((u8*)t_4efc+*ec))+*((u8*)t_4efc+ec[2]))==(u8)(0-*((u8*)t_4efc+ec[3]))){
+fc=cc+4;
+if(Xb-fc>3){
+cc=fc;
 goto L20;}
-mc=r8(a+96);}
-oc=rp(a+88)+mc*24;
-x8(oc,pb);
-x8(oc+8,kc);
-oc[16]=0;
-oc[17]=lc;
-z6(oc+18);
-w8(a+96,mc+1);
-w2(rp(a+128)+(i64)(ob<<1),(u16)gc+1);
-hc=1;
-ic=2;
-jc=pb;}}
+dc=fc;}
+else dc=cc;
+L19:if(dc>=Xb){
+Pb=bc;
+Qb=Hb;
+goto L16;}
+gc=dc;
+L21:if(*((u8*)t_4efc+*(Yb+gc))!=0)goto L15;
+hc=gc+1;
+if(hc!=Xb){
+gc=hc;
+goto L21;}
+Pb=bc;
+Qb=Hb;
+goto L16;}}
+z12(x);
+any_name_span_9bc(x,b,c,Eb);
+ic=q8(x+4);
+if(*x!=1)goto L15;
+Pb=ic>>32;
+Qb=ic&4294967295u;
+L16:if(Pb<=Qb)goto L15;
+jc=b+(i64)Qb;
+kc=Pb-Qb;
+if(r8(a+32)-wb<kc){
+lc=make_ready_8e3(a,kc,128);
+if(!(lc&1))goto L15;}
+mc=push_str_b7e(a,jc,kc);
+if(mc&1)goto L15;
+w8(a+192,Pb);
+if(r8(a+136)>vb){
+nc=r8(a+96);
+if(nc>65534){
+oc=0;
+pc=0;
+qc=0;}
 else{
-hc=0;
-ic=0;
-jc=0;}
-L20:w8(y,hc);
-y[8]=ic;
-y[9]=0;
-w8(y+16,jc);
-y[24]=0;
-goto L12;
-case 78:pc=ob+1;
-if(pc>=c)goto L21;
-qc=*(b+pc);
-if(qc<65)goto L21;
-if(!((qc<91)|((u8)(qc-97)<26)))goto L21;
-w8(a+192,ob+2);
-rc=r8(a+160);
-if(r8(a+184)>rc){
-sc=rc;
-tc=2;
-uc=qc;
+rc=r8(a+8);
+sc=a[80];
+if(r8(a+120)>nc)tc=nc;
+else{
+uc=make_ready_b73(a+88);
+if(!(uc&1)){
+oc=0;
+pc=0;
+qc=0;
 goto L22;}
-vc=make_ready_e3c(a+152);
-if(vc==0)goto L21;
-wc=2;
-xc=qc;
-goto L23;
-case 73:w8(a+192,ob+1);
+tc=r8(a+96);}
+vc=rp(a+88)+tc*24;
+x8(vc,wb);
+x8(vc+8,rc);
+vc[16]=0;
+vc[17]=sc;
+z6(vc+18);
+w8(a+96,tc+1);
+w2(rp(a+128)+(i64)(vb<<1),(u16)nc+1);
+oc=1;
+pc=2;
+qc=wb;}}
+else{
+oc=0;
+pc=0;
+qc=0;}
+L22:w8(y,oc);
+y[8]=pc;
+y[9]=0;
+w8(y+16,qc);
+y[24]=0;
+goto L14;
+case 78:wc=vb+1;
+if(wc>=c)goto L23;
+xc=*(b+wc);
+if(xc<65)goto L23;
+if(!((xc<91)|((u8)(xc-97)<26)))goto L23;
+w8(a+192,vb+2);
 yc=r8(a+160);
 if(r8(a+184)>yc){
-sc=yc;
-tc=3;
-uc=0;
-goto L22;}
-zc=make_ready_e3c(a+152);
-if(zc==0)goto L21;
-wc=3;
-xc=0;
-goto L23;
+zc=yc;
+Ac=2;
+Bc=xc;
+goto L24;}
+Cc=make_ready_e3c(a+152);
+if(!(Cc&1))goto L23;
+Dc=2;
+Ec=xc;
+goto L25;
+case 73:w8(a+192,vb+1);
+Fc=r8(a+160);
+if(r8(a+184)>Fc){
+zc=Fc;
+Ac=3;
+Bc=0;
+goto L24;}
+Gc=make_ready_e3c(a+152);
+if(!(Gc&1))goto L23;
+Dc=3;
+Ec=0;
+goto L25;
 case 77:begin_impl_c72(y,a,b,c);
-goto L12;
+goto L14;
 case 88:begin_trait_impl_220(y,a,b,c);
-goto L12;
+goto L14;
 case 89:begin_trait_f9f(y,a);
-goto L12;
-case 82:Ac=ob+1;
-if(Ac<c){
-if(*(b+Ac)==76){
-Bc=ob+2;
-if(Bc>=c){
-Dc=0;
-Ec=0;
-goto L24;}
-if(*(b+Bc)!=95){
-Dc=0;
-Ec=0;
-goto L24;}
-Cc=ob+3;}
-else Cc=Ac;}
-else Cc=Ac;
-Fc=r8(a+8);
-if(r8(a+32)==Fc){
-Gc=make_ready_8e3(a,1,128);
-if(Gc==0){
-Dc=0;
-Ec=0;
-goto L24;}
-Hc=r8(a+8);}
-else Hc=Fc;
-Ic=r8(a+16);
-if(Ic==Hc){
-Jc=grow_amortized_e1a(a,1);
-if(!Jc){
-Dc=0;
-Ec=0;
-goto L24;}
-Kc=r8(a+16);
-Lc=r8(a+8);}
-else{
-Kc=Ic;
-Lc=Hc;}
-Mc=Lc+1;
-Nc=rp(a);
-z16(a+8);
-Oc=Nc+(i64)Lc;
-if((u64)Oc==(u64)(u8*)t_951d)copy_bits_4f4((u8*)t_951d,Oc,1);
-else *Oc=38;
-wp(a,Nc);
-w8(a+8,Mc);
-w8(a+16,Kc);
-Pc=r8(a+160);
-if(r8(a+184)>Pc)Qc=Pc;
-else{
-Rc=make_ready_e3c(a+152);
-if(Rc==0){
-Dc=0;
-Ec=0;
-goto L24;}
-Qc=r8(a+160);}
-Sc=rp(a+152)+(Qc<<5);
-*Sc=9;
-Sc[1]=0;
-x8(Sc+8,ob);
-x8(Sc+16,Fc);
-Sc[24]=0;
-w8(a+160,Qc+1);
-w8(a+192,Cc);
-Dc=1;
-Ec=1;
-L24:w8(y,Dc);
-y[8]=Ec;
-y[9]=0;
-w8(y+16,0);
-y[24]=0;
-goto L12;
-case 81:Tc=ob+1;
-if(Tc<c){
-if(*(b+Tc)==76){
-Uc=ob+2;
-if(Uc>=c){
-Wc=0;
-Xc=0;
-goto L25;}
-if(*(b+Uc)!=95){
-Wc=0;
-Xc=0;
-goto L25;}
-Vc=ob+3;}
-else Vc=Tc;}
-else Vc=Tc;
-Yc=r8(a+8);
-if(r8(a+32)-Yc<5){
-Zc=make_ready_8e3(a,5,128);
-if(Zc==0){
-Wc=0;
-Xc=0;
-goto L25;}
-ad=r8(a+8);}
-else ad=Yc;
-bd=r8(a+16);
-if(bd-ad<5){
-cd=grow_amortized_e1a(a,5);
-if(!cd){
-Wc=0;
-Xc=0;
-goto L25;}
-dd=r8(a+16);
-ed=r8(a+8);}
-else{
-dd=bd;
-ed=ad;}
-fd=ed+5;
-gd=rp(a);
-z16(a+8);
-hd=gd+(i64)ed;
-if((u64)hd-(u64)(u8*)t_d821<5)copy_bits_4f4((u8*)t_d821,hd,5);
-else memcpy(hd,(u8*)t_d821,5);
-wp(a,gd);
-w8(a+8,fd);
-w8(a+16,dd);
-id=r8(a+160);
-if(r8(a+184)>id)jd=id;
-else{
-kd=make_ready_e3c(a+152);
-if(kd==0){
-Wc=0;
-Xc=0;
-goto L25;}
-jd=r8(a+160);}
-ld=rp(a+152)+(jd<<5);
-*ld=9;
-ld[1]=0;
-x8(ld+8,ob);
-x8(ld+16,Yc);
-ld[24]=0;
-w8(a+160,jd+1);
-w8(a+192,Vc);
-Wc=1;
-Xc=1;
-L25:w8(y,Wc);
-y[8]=Xc;
-y[9]=0;
-w8(y+16,0);
-y[24]=0;
-goto L12;
-case 80:md=ob+1;
-nd=r8(a+8);
-if(r8(a+32)-nd<7){
-od=make_ready_8e3(a,7,128);
-if(od==0){
-pd=0;
-qd=0;
+goto L14;
+case 82:Hc=vb+1;
+if(Hc<c){
+if(*(b+Hc)==76){
+Ic=vb+2;
+if(Ic>=c){
+Kc=0;
+Lc=0;
 goto L26;}
-sd=r8(a+8);}
-else sd=nd;
-td=r8(a+16);
-if(td-sd<7){
-ud=grow_amortized_e1a(a,7);
-if(!ud){
-pd=0;
-qd=0;
+if(*(b+Ic)!=95){
+Kc=0;
+Lc=0;
 goto L26;}
-vd=r8(a+16);
-xd=r8(a+8);}
-else{
-vd=td;
-xd=sd;}
-yd=xd+7;
-zd=rp(a);
-z16(a+8);
-Ad=zd+(i64)xd;
-if((u64)Ad-(u64)(u8*)t_ff67<7)copy_bits_4f4((u8*)t_ff67,Ad,7);
-else memcpy(Ad,(u8*)t_ff67,7);
-wp(a,zd);
-w8(a+8,yd);
-w8(a+16,vd);
-Bd=r8(a+160);
-if(r8(a+184)>Bd)Cd=Bd;
-else{
-Dd=make_ready_e3c(a+152);
-if(Dd==0){
-pd=0;
-qd=0;
+Jc=vb+3;}
+else Jc=Hc;}
+else Jc=Hc;
+Mc=r8(a+8);
+if(r8(a+32)==Mc){
+Nc=make_ready_8e3(a,1,128);
+if(!(Nc&1)){
+Kc=0;
+Lc=0;
 goto L26;}
-Cd=r8(a+160);}
-Ed=rp(a+152)+(Cd<<5);
-*Ed=9;
-Ed[1]=0;
-x8(Ed+8,ob);
-x8(Ed+16,nd);
-Ed[24]=0;
-w8(a+160,Cd+1);
-w8(a+192,md);
-pd=1;
-qd=1;
-L26:w8(y,pd);
-y[8]=qd;
-y[9]=0;
-w8(y+16,0);
-y[24]=0;
-goto L12;
-case 79:Fd=ob+1;
-Gd=r8(a+8);
-if(r8(a+32)-Gd<5){
-Hd=make_ready_8e3(a,5,128);
-if(Hd==0){
-Id=0;
-Jd=0;
-goto L27;}
-Kd=r8(a+8);}
-else Kd=Gd;
-Ld=r8(a+16);
-if(Ld-Kd<5){
-Md=grow_amortized_e1a(a,5);
-if(!Md){
-Id=0;
-Jd=0;
-goto L27;}
-Nd=r8(a+16);
-Od=r8(a+8);}
+Oc=r8(a+8);}
+else Oc=Mc;
+Pc=r8(a+16);
+if(Pc==Oc){
+Qc=grow_amortized_e1a(a,1);
+if(!Qc){
+Kc=0;
+Lc=0;
+goto L26;}
+Rc=r8(a+16);
+Sc=r8(a+8);}
 else{
-Nd=Ld;
-Od=Kd;}
-Pd=Od+5;
-Qd=rp(a);
+Rc=Pc;
+Sc=Oc;}
+Tc=Sc+1;
+Uc=rp(a);
 z16(a+8);
-Rd=Qd+(i64)Od;
-if((u64)Rd-(u64)(u8*)t_b2e2<5)copy_bits_4f4((u8*)t_b2e2,Rd,5);
-else memcpy(Rd,(u8*)t_b2e2,5);
-wp(a,Qd);
-w8(a+8,Pd);
-w8(a+16,Nd);
-Sd=r8(a+160);
-if(r8(a+184)>Sd)Td=Sd;
+Vc=Uc+(i64)Sc;
+if((u64)Vc==(u64)(u8*)t_951d)copy_bits_4f4((u8*)t_951d,Vc,1);
+else *Vc=38;
+wp(a,Uc);
+w8(a+8,Tc);
+w8(a+16,Rc);
+Wc=r8(a+160);
+if(r8(a+184)>Wc)Xc=Wc;
 else{
-Ud=make_ready_e3c(a+152);
-if(Ud==0){
-Id=0;
-Jd=0;
+Yc=make_ready_e3c(a+152);
+if(!(Yc&1)){
+Kc=0;
+Lc=0;
+goto L26;}
+Xc=r8(a+160);}
+Zc=rp(a+152)+(Xc<<5);
+*Zc=9;
+Zc[1]=0;
+x8(Zc+8,vb);
+x8(Zc+16,Mc);
+Zc[24]=0;
+w8(a+160,Xc+1);
+w8(a+192,Jc);
+Kc=1;
+Lc=1;
+L26:w8(y,Kc);
+y[8]=Lc;
+y[9]=0;
+w8(y+16,0);
+y[24]=0;
+goto L14;
+case 81:ad=vb+1;
+if(ad<c){
+if(*(b+ad)==76){
+bd=vb+2;
+if(bd>=c){
+dd=0;
+ed=0;
 goto L27;}
-Td=r8(a+160);}
-Vd=rp(a+152)+(Td<<5);
-*Vd=9;
-Vd[1]=0;
-x8(Vd+8,ob);
-x8(Vd+16,Gd);
-Vd[24]=0;
-w8(a+160,Td+1);
-w8(a+192,Fd);
-Id=1;
-Jd=1;
-L27:w8(y,Id);
-y[8]=Jd;
-y[9]=0;
-w8(y+16,0);
-y[24]=0;
-goto L12;
-case 83:Wd=ob+1;
-Xd=r8(a+8);
-if(r8(a+32)==Xd){
-Yd=make_ready_8e3(a,1,128);
-if(Yd==0){
-Zd=0;
-ae=0;
-goto L28;}
-be=r8(a+8);}
-else be=Xd;
-ce=r8(a+16);
-if(ce==be){
-de=grow_amortized_e1a(a,1);
-if(!de){
-Zd=0;
-ae=0;
-goto L28;}
-ee=r8(a+16);
-fe=r8(a+8);}
+if(*(b+bd)!=95){
+dd=0;
+ed=0;
+goto L27;}
+cd=vb+3;}
+else cd=ad;}
+else cd=ad;
+fd=r8(a+8);
+if(r8(a+32)-fd<5){
+gd=make_ready_8e3(a,5,128);
+if(!(gd&1)){
+dd=0;
+ed=0;
+goto L27;}
+hd=r8(a+8);}
+else hd=fd;
+id=r8(a+16);
+if(id-hd<5){
+jd=grow_amortized_e1a(a,5);
+if(!jd){
+dd=0;
+ed=0;
+goto L27;}
+kd=r8(a+16);
+ld=r8(a+8);}
 else{
-ee=ce;
-fe=be;}
-ge=fe+1;
-he=rp(a);
+kd=id;
+ld=hd;}
+md=ld+5;
+nd=rp(a);
 z16(a+8);
-ie=he+(i64)fe;
-if((u64)ie==(u64)(u8*)t_2458)copy_bits_4f4((u8*)t_2458,ie,1);
-else *ie=91;
-wp(a,he);
-w8(a+8,ge);
-w8(a+16,ee);
-je=r8(a+160);
-if(r8(a+184)>je)ke=je;
+od=nd+(i64)ld;
+if((u64)od-(u64)(u8*)t_d821<5)copy_bits_4f4((u8*)t_d821,od,5);
+else memcpy(od,(u8*)t_d821,5);
+wp(a,nd);
+w8(a+8,md);
+w8(a+16,kd);
+pd=r8(a+160);
+if(r8(a+184)>pd)qd=pd;
 else{
-le=make_ready_e3c(a+152);
-if(le==0){
-Zd=0;
-ae=0;
+sd=make_ready_e3c(a+152);
+if(!(sd&1)){
+dd=0;
+ed=0;
+goto L27;}
+qd=r8(a+160);}
+td=rp(a+152)+(qd<<5);
+*td=9;
+td[1]=0;
+x8(td+8,vb);
+x8(td+16,fd);
+td[24]=0;
+w8(a+160,qd+1);
+w8(a+192,cd);
+dd=1;
+ed=1;
+L27:w8(y,dd);
+y[8]=ed;
+y[9]=0;
+w8(y+16,0);
+y[24]=0;
+goto L14;
+case 80:ud=vb+1;
+vd=r8(a+8);
+if(r8(a+32)-vd<7){
+xd=make_ready_8e3(a,7,128);
+if(!(xd&1)){
+zd=0;
+Ad=0;
 goto L28;}
-ke=r8(a+160);}
-me=rp(a+152)+(ke<<5);
-*me=9;
-me[1]=0;
-x8(me+8,ob);
-x8(me+16,Xd);
-me[24]=1;
-w8(a+160,ke+1);
-w8(a+192,Wd);
-Zd=1;
-ae=1;
-L28:w8(y,Zd);
-y[8]=ae;
-y[9]=0;
-w8(y+16,0);
-y[24]=0;
-goto L12;
-case 84:ne=r8(a+8);
-oe=ob+1;
-if(r8(a+32)==ne){
-pe=make_ready_8e3(a,1,128);
-if(pe==0){
-qe=0;
-re=0;
-goto L29;}
-se=r8(a+8);}
-else se=ne;
-te=r8(a+16);
-if(te==se){
-ue=grow_amortized_e1a(a,1);
-if(!ue){
-qe=0;
-re=0;
-goto L29;}
-ve=r8(a+16);
-we=r8(a+8);}
+yd=r8(a+8);}
+else yd=vd;
+Bd=r8(a+16);
+if(Bd-yd<7){
+Cd=grow_amortized_e1a(a,7);
+if(!Cd){
+zd=0;
+Ad=0;
+goto L28;}
+Dd=r8(a+16);
+Ed=r8(a+8);}
 else{
-ve=te;
-we=se;}
-xe=we+1;
-ye=rp(a);
+Dd=Bd;
+Ed=yd;}
+Fd=Ed+7;
+Gd=rp(a);
 z16(a+8);
-ze=ye+(i64)we;
-if((u64)ze==(u64)(u8*)t_32eb)copy_bits_4f4((u8*)t_32eb,ze,1);
-else *ze=40;
-wp(a,ye);
-w8(a+8,xe);
-w8(a+16,ve);
-Ae=r8(a+160);
-if(r8(a+184)>Ae)Be=Ae;
+Hd=Gd+(i64)Ed;
+if((u64)Hd-(u64)(u8*)t_ff67<7)copy_bits_4f4((u8*)t_ff67,Hd,7);
+else memcpy(Hd,(u8*)t_ff67,7);
+wp(a,Gd);
+w8(a+8,Fd);
+w8(a+16,Dd);
+Id=r8(a+160);
+if(r8(a+184)>Id)Jd=Id;
 else{
-Ce=make_ready_e3c(a+152);
-if(Ce==0){
-qe=0;
-re=0;
-goto L29;}
-Be=r8(a+160);}
-De=rp(a+152)+(Be<<5);
-*De=12;
-De[1]=0;
-x8(De+8,ob);
-x8(De+16,ne);
-De[24]=1;
-w8(a+160,Be+1);
-w8(a+192,oe);
-qe=1;
-re=1;
-L29:w8(y,qe);
-y[8]=re;
+Kd=make_ready_e3c(a+152);
+if(!(Kd&1)){
+zd=0;
+Ad=0;
+goto L28;}
+Jd=r8(a+160);}
+Ld=rp(a+152)+(Jd<<5);
+*Ld=9;
+Ld[1]=0;
+x8(Ld+8,vb);
+x8(Ld+16,vd);
+Ld[24]=0;
+w8(a+160,Jd+1);
+w8(a+192,ud);
+zd=1;
+Ad=1;
+L28:w8(y,zd);
+y[8]=Ad;
 y[9]=0;
 w8(y+16,0);
 y[24]=0;
-goto L12;
-case 66:Ee=r8(a+8);
-Fe=ob+1;
-Ge=umin64(c-Fe,11)+Fe;
-if(Fe>=Ge){
-Ie=Fe;
+goto L14;
+case 79:Md=vb+1;
+Nd=r8(a+8);
+if(r8(a+32)-Nd<5){
+Od=make_ready_8e3(a,5,128);
+if(!(Od&1)){
+Qd=0;
+Rd=0;
+goto L29;}
+Pd=r8(a+8);}
+else Pd=Nd;
+Sd=r8(a+16);
+if(Sd-Pd<5){
+Td=grow_amortized_e1a(a,5);
+if(!Td){
+Qd=0;
+Rd=0;
+goto L29;}
+Ud=r8(a+16);
+Vd=r8(a+8);}
+else{
+Ud=Sd;
+Vd=Pd;}
+Wd=Vd+5;
+Xd=rp(a);
+z16(a+8);
+Yd=Xd+(i64)Vd;
+if((u64)Yd-(u64)(u8*)t_b2e2<5)copy_bits_4f4((u8*)t_b2e2,Yd,5);
+else memcpy(Yd,(u8*)t_b2e2,5);
+wp(a,Xd);
+w8(a+8,Wd);
+w8(a+16,Ud);
+Zd=r8(a+160);
+if(r8(a+184)>Zd)ae=Zd;
+else{
+be=make_ready_e3c(a+152);
+if(!(be&1)){
+Qd=0;
+Rd=0;
+goto L29;}
+ae=r8(a+160);}
+ce=rp(a+152)+(ae<<5);
+*ce=9;
+ce[1]=0;
+x8(ce+8,vb);
+x8(ce+16,Nd);
+ce[24]=0;
+w8(a+160,ae+1);
+w8(a+192,Md);
+Qd=1;
+Rd=1;
+L29:w8(y,Qd);
+y[8]=Rd;
+y[9]=0;
+w8(y+16,0);
+y[24]=0;
+goto L14;
+case 83:de=vb+1;
+ee=r8(a+8);
+if(r8(a+32)==ee){
+fe=make_ready_8e3(a,1,128);
+if(!(fe&1)){
+he=0;
+ie=0;
 goto L30;}
-He=Fe;
-L31:if(*((u8*)t_84dd+*(b+He))<62){
-Je=He+1;
-if(Je!=Ge){
-He=Je;
+ge=r8(a+8);}
+else ge=ee;
+je=r8(a+16);
+if(je==ge){
+ke=grow_amortized_e1a(a,1);
+if(!ke){
+he=0;
+ie=0;
+goto L30;}
+le=r8(a+16);
+me=r8(a+8);}
+else{
+le=je;
+me=ge;}
+ne=me+1;
+oe=rp(a);
+z16(a+8);
+pe=oe+(i64)me;
+if((u64)pe==(u64)(u8*)t_2458)copy_bits_4f4((u8*)t_2458,pe,1);
+else *pe=91;
+wp(a,oe);
+w8(a+8,ne);
+w8(a+16,le);
+qe=r8(a+160);
+if(r8(a+184)>qe)re=qe;
+else{
+se=make_ready_e3c(a+152);
+if(!(se&1)){
+he=0;
+ie=0;
+goto L30;}
+re=r8(a+160);}
+te=rp(a+152)+(re<<5);
+*te=9;
+te[1]=0;
+x8(te+8,vb);
+x8(te+16,ee);
+te[24]=1;
+w8(a+160,re+1);
+w8(a+192,de);
+he=1;
+ie=1;
+L30:w8(y,he);
+y[8]=ie;
+y[9]=0;
+w8(y+16,0);
+y[24]=0;
+goto L14;
+case 84:ue=r8(a+8);
+ve=vb+1;
+if(r8(a+32)==ue){
+we=make_ready_8e3(a,1,128);
+if(!(we&1)){
+ye=0;
+ze=0;
 goto L31;}
-Ie=Ge;}
-else Ie=He;
-L30:if(Ie==c){
-Ke=0;
-Le=0;
-Me=0;
-Ne=0;}
+xe=r8(a+8);}
+else xe=ue;
+Ae=r8(a+16);
+if(Ae==xe){
+Be=grow_amortized_e1a(a,1);
+if(!Be){
+ye=0;
+ze=0;
+goto L31;}
+Ce=r8(a+16);
+De=r8(a+8);}
 else{
-if(*(b+Ie)==95){
-Oe=Fe&4294967295u;
-Pe=Ie&4294967295u;
-Qe=Pe+1;
-if(Pe==Oe)Re=2;
+Ce=Ae;
+De=xe;}
+Ee=De+1;
+Fe=rp(a);
+z16(a+8);
+Ge=Fe+(i64)De;
+if((u64)Ge==(u64)(u8*)t_32eb)copy_bits_4f4((u8*)t_32eb,Ge,1);
+else *Ge=40;
+wp(a,Fe);
+w8(a+8,Ee);
+w8(a+16,Ce);
+He=r8(a+160);
+if(r8(a+184)>He)Ie=He;
 else{
-Se=b+(i64)Oe;
-Te=Pe-Oe;
-if(Te>10){
+Je=make_ready_e3c(a+152);
+if(!(Je&1)){
+ye=0;
+ze=0;
+goto L31;}
+Ie=r8(a+160);}
+Ke=rp(a+152)+(Ie<<5);
+*Ke=12;
+Ke[1]=0;
+x8(Ke+8,vb);
+x8(Ke+16,ue);
+Ke[24]=1;
+w8(a+160,Ie+1);
+w8(a+192,ve);
+ye=1;
+ze=1;
+L31:w8(y,ye);
+y[8]=ze;
+y[9]=0;
+w8(y+16,0);
+y[24]=0;
+goto L14;
+case 66:Le=r8(a+8);
+Me=vb+1;
+Ne=umin64(c-Me,11)+Me;
+if(Me>=Ne){
+Pe=Me;
+goto L32;}
+Oe=Me;
+L33:if(*((u8*)t_84dd+*(b+Oe))<62){
+Qe=Oe+1;
+if(Qe!=Ne){
+Oe=Qe;
+goto L33;}
+Pe=Ne;}
+else Pe=Oe;
+L32:if(Pe==c){
+Re=0;
+Se=0;
+Te=0;
+Ue=0;}
+else{
+if(*(b+Pe)==95){
+Ve=Me&4294967295u;
+We=Pe&4294967295u;
+Xe=We+1;
+if(We==Ve)Ye=2;
+else{
+Ze=b+(i64)Ve;
+af=We-Ve;
+if(af>10){
+bf=0;
+cf=0;
+goto L34;}
+df=0;
+ef=0;
+L35:ff=*((u8*)t_84dd+*(Ze+(i64)ef));
+if(ff>=62){
+Re=0;
+Se=0;
+Te=0;
 Ue=0;
-Ve=0;
-goto L32;}
-We=0;
-Xe=0;
-L33:Ye=*((u8*)t_84dd+*(Se+(i64)Xe));
-if(Ye>=62){
-Ke=0;
-Le=0;
-Me=0;
-Ne=0;
+goto L36;}
+gf=df*62+ff;
+hf=ef+1;
+if(hf==af){
+jf=gf;
+goto L37;}
+df=gf;
+ef=hf;
+goto L35;
+L34:kf=*((u8*)t_84dd+*(Ze+(i64)cf));
+if(!((bf<0x421084210842109u)&(kf<62))){
+Re=0;
+Se=0;
+Te=0;
+Ue=0;
+goto L36;}
+lf=bf*62;
+if(lf>(kf^18446744073709551615u)){
+Re=0;
+Se=0;
+Te=0;
+Ue=0;
+goto L36;}
+mf=lf+kf;
+nf=cf+1;
+if(nf!=af){
+bf=mf;
+cf=nf;
 goto L34;}
-Ze=We*62+Ye;
-af=Xe+1;
-if(af==Te){
-bf=Ze;
-goto L35;}
-We=Ze;
-Xe=af;
-goto L33;
-L32:cf=*((u8*)t_84dd+*(Se+(i64)Ve));
-if(!((Ue<0x421084210842109u)&(cf<62))){
-Ke=0;
-Le=0;
-Me=0;
-Ne=0;
-goto L34;}
-df=Ue*62;
-if(df>(cf^18446744073709551615u)){
-Ke=0;
-Le=0;
-Me=0;
-Ne=0;
-goto L34;}
-ef=df+cf;
-ff=Ve+1;
-if(ff!=Te){
-Ue=ef;
-Ve=ff;
-goto L32;}
-bf=ef;
-L35:if(bf>0xfffffffffffffffcu){
-Ke=0;
-Le=0;
-Me=0;
-Ne=0;
-goto L34;}
-Re=bf+3;}
-if(Re<r8(a+136)){
-gf=r2(rp(a+128)+(i64)(Re<<1));
-if(gf==0){
-Ke=0;
-Le=0;
-Me=0;
-Ne=0;}
+jf=mf;
+L37:if(jf>0xfffffffffffffffcu){
+Re=0;
+Se=0;
+Te=0;
+Ue=0;
+goto L36;}
+Ye=jf+3;}
+if(Ye<r8(a+136)){
+of=r2(rp(a+128)+(i64)(Ye<<1));
+if(of==0){
+Re=0;
+Se=0;
+Te=0;
+Ue=0;}
 else{
-hf=(u64)gf-1;
-if(hf<r8(a+96)){
-jf=rp(a+88)+(i64)(hf*24);
-kf=jf[16];
-switch(kf){
-case 0:case 2:case 3:memcpy(u,jf,16);
-u[16]=kf;
-memcpy(u+17,jf+17,7);
-lf=repeat_2ff(a,u);
-if(lf==0){
-Ke=0;
-Le=0;
-Me=0;
-Ne=0;}
+pf=(u64)of-1;
+if(pf<r8(a+96)){
+qf=rp(a+88)+(i64)(pf*24);
+rf=qf[16];
+switch(rf){
+case 0:case 2:case 3:memcpy(u,qf,16);
+u[16]=rf;
+memcpy(u+17,qf+17,7);
+sf=repeat_2ff(a,u);
+if(sf&1){
+w8(a+192,Xe);
+if(r8(a+136)>vb){
+tf=r8(a+96);
+if(tf>65534){
+Re=0;
+Se=0;
+Te=0;
+Ue=0;}
 else{
-w8(a+192,Qe);
-if(r8(a+136)>ob){
-mf=r8(a+96);
-if(mf>65534){
-Ke=0;
-Le=0;
-Me=0;
-Ne=0;}
+uf=r8(a+8);
+vf=a[80];
+if(r8(a+120)>tf)wf=tf;
 else{
-nf=r8(a+8);
-of=a[80];
-if(r8(a+120)>mf)pf=mf;
-else{
-qf=make_ready_b73(a+88);
-if(qf==0){
-Ke=0;
-Le=0;
-Me=0;
-Ne=0;
+xf=make_ready_b73(a+88);
+if(!(xf&1)){
+Re=0;
+Se=0;
+Te=0;
+Ue=0;
 break;}
-pf=r8(a+96);}
-rf=rp(a+88)+pf*24;
-x8(rf,Ee);
-x8(rf+8,nf);
-rf[16]=kf;
-rf[17]=of;
-z6(rf+18);
-w8(a+96,pf+1);
-w2(rp(a+128)+(i64)(ob<<1),(u16)mf+1);
-Ke=1;
-Le=2;
-Me=Ee;
-Ne=3;}}
+wf=r8(a+96);}
+yf=rp(a+88)+wf*24;
+x8(yf,Le);
+x8(yf+8,uf);
+yf[16]=rf;
+yf[17]=vf;
+z6(yf+18);
+w8(a+96,wf+1);
+w2(rp(a+128)+(i64)(vb<<1),(u16)tf+1);
+Re=1;
+Se=2;
+Te=Le;
+Ue=3;}}
 else{
-Ke=0;
-Le=0;
-Me=0;
-Ne=0;}}
+Re=0;
+Se=0;
+Te=0;
+Ue=0;}}
+else{
+Re=0;
+Se=0;
+Te=0;
+Ue=0;}
 break;
-case 1:case 4:Ke=0;
-Le=0;
-Me=0;
-Ne=0;
+case 1:case 4:Re=0;
+Se=0;
+Te=0;
+Ue=0;
 break;
 default:NEVER;
 }}
 else{
-Ke=0;
-Le=0;
-Me=0;
-Ne=0;}}}
+Re=0;
+Se=0;
+Te=0;
+Ue=0;}}}
 else{
-Ke=0;
-Le=0;
-Me=0;
-Ne=0;}}
+Re=0;
+Se=0;
+Te=0;
+Ue=0;}}
 else{
-Ke=0;
-Le=0;
-Me=0;
-Ne=0;}}
-L34:w8(y,Ke);
-y[8]=Le;
+Re=0;
+Se=0;
+Te=0;
+Ue=0;}}
+L36:w8(y,Re);
+y[8]=Se;
 y[9]=0;
-w8(y+16,Me);
-y[24]=Ne;
-goto L12;
-case 65:sf=r8(a+8);
-w8(a+192,ob+1);
-if(r8(a+32)>sf)tf=sf;
+w8(y+16,Te);
+y[24]=Ue;
+goto L14;
+case 65:zf=r8(a+8);
+w8(a+192,vb+1);
+if(r8(a+32)>zf)Af=zf;
 else{
-uf=make_ready_8e3(a,1,16);
-if(uf==0){
-vf=0;
-wf=0;
-goto L36;}
-tf=r8(a+8);}
-*(rp(a)+tf)=91;
-w8(a+8,tf+1);
-xf=r8(a+160);
-if(r8(a+184)>xf)yf=xf;
+Bf=make_ready_8e3(a,1,16);
+if(!(Bf&1)){
+Cf=0;
+Df=0;
+goto L38;}
+Af=r8(a+8);}
+*(rp(a)+Af)=91;
+w8(a+8,Af+1);
+Ef=r8(a+160);
+if(r8(a+184)>Ef)Ff=Ef;
 else{
-zf=make_ready_e3c(a+152);
-if(zf==0){
-vf=0;
-wf=0;
-goto L36;}
-yf=r8(a+160);}
-Af=rp(a+152)+(yf<<5);
-*Af=14;
-Af[1]=0;
-x8(Af+8,ob);
-x8(Af+16,sf);
-Af[24]=0;
-w8(a+160,yf+1);
-vf=1;
-wf=1;
-L36:w8(y,vf);
-y[8]=wf;
+Gf=make_ready_e3c(a+152);
+if(!(Gf&1)){
+Cf=0;
+Df=0;
+goto L38;}
+Ff=r8(a+160);}
+Hf=rp(a+152)+(Ff<<5);
+*Hf=14;
+Hf[1]=0;
+x8(Hf+8,vb);
+x8(Hf+16,zf);
+Hf[24]=0;
+w8(a+160,Ff+1);
+Cf=1;
+Df=1;
+L38:w8(y,Cf);
+y[8]=Df;
 y[9]=0;
 w8(y+16,0);
 y[24]=0;
-goto L12;
-case 68:Bf=r8(a+8);
-Cf=ob+1;
-if(r8(a+32)-Bf<4){
-Df=make_ready_8e3(a,4,128);
-if(Df==0){
-Ef=0;
-goto L37;}
-Ff=r8(a+8);}
-else Ff=Bf;
-Gf=r8(a+16);
-if(Gf-Ff<4){
-Hf=grow_amortized_e1a(a,4);
-if(!Hf){
-Ef=0;
-goto L37;}
-If=r8(a+16);
-Jf=r8(a+8);}
+goto L14;
+case 68:If=r8(a+8);
+Jf=vb+1;
+if(r8(a+32)-If<4){
+Kf=make_ready_8e3(a,4,128);
+if(!(Kf&1)){
+Mf=0;
+goto L39;}
+Lf=r8(a+8);}
+else Lf=If;
+Nf=r8(a+16);
+if(Nf-Lf<4){
+Of=grow_amortized_e1a(a,4);
+if(!Of){
+Mf=0;
+goto L39;}
+Pf=r8(a+16);
+Qf=r8(a+8);}
 else{
-If=Gf;
-Jf=Ff;}
-Kf=Jf+4;
-Lf=rp(a);
+Pf=Nf;
+Qf=Lf;}
+Rf=Qf+4;
+Sf=rp(a);
 z16(a+8);
-Mf=Lf+(i64)Jf;
-if((u64)Mf-(u64)(u8*)t_f616<4)copy_bits_4f4((u8*)t_f616,Mf,4);
-else x4(Mf,544110948);
-wp(a,Lf);
-w8(a+8,Kf);
-w8(a+16,If);
-Nf=r8(a+160);
-if(r8(a+184)>Nf)Of=Nf;
+Tf=Sf+(i64)Qf;
+if((u64)Tf-(u64)(u8*)t_f616<4)copy_bits_4f4((u8*)t_f616,Tf,4);
+else x4(Tf,544110948);
+wp(a,Sf);
+w8(a+8,Rf);
+w8(a+16,Pf);
+Uf=r8(a+160);
+if(r8(a+184)>Uf)Vf=Uf;
 else{
-Pf=make_ready_e3c(a+152);
-if(Pf==0){
-Ef=0;
-goto L37;}
-Of=r8(a+160);}
-Qf=rp(a+152)+(Of<<5);
-*Qf=13;
-Qf[1]=0;
-x8(Qf+8,ob);
-x8(Qf+16,Bf);
-Qf[24]=0;
-w8(a+160,Of+1);
-w8(a+192,Cf);
-Ef=1;
-L37:w8(y,Ef);
+Wf=make_ready_e3c(a+152);
+if(!(Wf&1)){
+Mf=0;
+goto L39;}
+Vf=r8(a+160);}
+Xf=rp(a+152)+(Vf<<5);
+*Xf=13;
+Xf[1]=0;
+x8(Xf+8,vb);
+x8(Xf+16,If);
+Xf[24]=0;
+w8(a+160,Vf+1);
+w8(a+192,Jf);
+Mf=1;
+L39:w8(y,Mf);
 y[8]=0;
 y[9]=0;
 w8(y+16,0);
 y[24]=0;
-goto L12;
-case 97:Rf=2;
-Sf=(u8*)t_4c1d;
+goto L14;
+case 97:Yf=2;
+Zf=(u8*)t_4c1d;
 break;
-case 98:Rf=4;
-Sf=(u8*)t_b760;
+case 98:Yf=4;
+Zf=(u8*)t_b760;
 break;
-case 99:Rf=4;
-Sf=(u8*)t_411b;
+case 99:Yf=4;
+Zf=(u8*)t_411b;
 break;
-case 100:Rf=3;
-Sf=(u8*)t_6a3e;
+case 100:Yf=3;
+Zf=(u8*)t_6a3e;
 break;
-case 101:Rf=3;
-Sf=(u8*)t_8c25;
+case 101:Yf=3;
+Zf=(u8*)t_8c25;
 break;
-case 102:Rf=3;
-Sf=(u8*)t_16b5;
+case 102:Yf=3;
+Zf=(u8*)t_16b5;
 break;
-case 104:Rf=2;
-Sf=(u8*)t_c899;
+case 104:Yf=2;
+Zf=(u8*)t_c899;
 break;
-case 105:Rf=5;
-Sf=(u8*)t_db3b;
+case 105:Yf=5;
+Zf=(u8*)t_db3b;
 break;
-case 106:Rf=5;
-Sf=(u8*)t_f417;
+case 106:Yf=5;
+Zf=(u8*)t_f417;
 break;
-case 108:Rf=3;
-Sf=(u8*)t_579a;
+case 108:Yf=3;
+Zf=(u8*)t_579a;
 break;
-case 109:Rf=3;
-Sf=(u8*)t_d764;
+case 109:Yf=3;
+Zf=(u8*)t_d764;
 break;
-case 110:Rf=4;
-Sf=(u8*)t_9cf5;
+case 110:Yf=4;
+Zf=(u8*)t_9cf5;
 break;
-case 111:Rf=4;
-Sf=(u8*)t_fcd0;
+case 111:Yf=4;
+Zf=(u8*)t_fcd0;
 break;
-case 112:Rf=1;
-Sf=(u8*)t_d2e2;
+case 112:Yf=1;
+Zf=(u8*)t_d2e2;
 break;
-case 115:Rf=3;
-Sf=(u8*)t_7daa;
+case 115:Yf=3;
+Zf=(u8*)t_7daa;
 break;
-case 116:Rf=3;
-Sf=(u8*)t_2988;
+case 116:Yf=3;
+Zf=(u8*)t_2988;
 break;
-case 117:Rf=2;
-Sf=(u8*)t_2e38;
+case 117:Yf=2;
+Zf=(u8*)t_2e38;
 break;
-case 118:Rf=3;
-Sf=(u8*)t_ab5d;
+case 118:Yf=3;
+Zf=(u8*)t_ab5d;
 break;
-case 120:Rf=3;
-Sf=(u8*)t_1a91;
+case 120:Yf=3;
+Zf=(u8*)t_1a91;
 break;
-case 121:Rf=3;
-Sf=(u8*)t_1506;
+case 121:Yf=3;
+Zf=(u8*)t_1506;
 break;
-case 122:Rf=1;
-Sf=(u8*)t_bb72;
+case 122:Yf=1;
+Zf=(u8*)t_bb72;
 break;
-default:goto L12;
+default:goto L14;
 }
-Tf=r8(a+8);
-w8(a+192,ob+1);
-if(r8(a+32)-Tf<Rf){
-Uf=make_ready_8e3(a,Rf,128);
-if(Uf==0)goto L13;
-Vf=r8(a+8);}
-else Vf=Tf;
-Wf=r8(a+16);
-if(Rf>Wf-Vf){
-Xf=grow_amortized_e1a(a,Rf);
-if(!Xf)goto L13;
-Yf=r8(a+16);
-Zf=r8(a+8);}
+ag=r8(a+8);
+w8(a+192,vb+1);
+if(r8(a+32)-ag<Yf){
+bg=make_ready_8e3(a,Yf,128);
+if(!(bg&1))goto L15;
+cg=r8(a+8);}
+else cg=ag;
+dg=r8(a+16);
+if(Yf>dg-cg){
+eg=grow_amortized_e1a(a,Yf);
+if(!eg)goto L15;
+fg=r8(a+16);
+gg=r8(a+8);}
 else{
-Yf=Wf;
-Zf=Vf;}
-ag=Zf+Rf;
-bg=rp(a);
+fg=dg;
+gg=cg;}
+hg=gg+Yf;
+ig=rp(a);
 z16(a+8);
-cg=bg+(i64)Zf;
-if((u64)cg-(u64)Sf<Rf)copy_bits_4f4(Sf,cg,Rf);
-else memmove(cg,Sf,Rf);
-wp(a,bg);
-w8(a+8,ag);
-w8(a+16,Yf);
-if(r8(a+136)>ob){
-dg=r8(a+96);
-if(dg>65534){
-eg=0;
-fg=0;
-gg=0;
-hg=0;}
-else{
-ig=a[80];
-if(r8(a+120)>dg)jg=dg;
-else{
-kg=make_ready_b73(a+88);
-if(kg==0){
-eg=0;
-fg=0;
-gg=0;
-hg=0;
-goto L38;}
-jg=r8(a+96);}
-lg=rp(a+88)+jg*24;
-x8(lg,Tf);
-x8(lg+8,ag);
-lg[16]=3;
-lg[17]=ig;
-z6(lg+18);
-w8(a+96,jg+1);
-w2(rp(a+128)+(i64)(ob<<1),(u16)dg+1);
-eg=1;
-fg=2;
-gg=Tf;
-hg=3;}}
-else{
-eg=0;
-fg=0;
-gg=0;
-hg=0;}
-L38:w8(y,eg);
-y[8]=fg;
-y[9]=0;
-w8(y+16,gg);
-y[24]=hg;
-goto L12;
-L23:sc=r8(a+160);
-tc=wc;
-uc=xc;
-L22:mg=rp(a+152)+(sc<<5);
-*mg=tc;
-mg[1]=uc;
-x8(mg+8,ob);
-x8(mg+16,0);
-mg[24]=0;
-w8(a+160,sc+1);
+jg=ig+(i64)gg;
+if((u64)jg-(u64)Zf<Yf)copy_bits_4f4(Zf,jg,Yf);
+else memmove(jg,Zf,Yf);
+wp(a,ig);
+w8(a+8,hg);
+w8(a+16,fg);
+if(r8(a+136)>vb){
+kg=r8(a+96);
+if(kg>65534){
+lg=0;
+mg=0;
 ng=0;
-goto L39;
-L21:F=0;
+og=0;}
+else{
+pg=a[80];
+if(r8(a+120)>kg)qg=kg;
+else{
+rg=make_ready_b73(a+88);
+if(!(rg&1)){
+lg=0;
+mg=0;
+ng=0;
+og=0;
+goto L40;}
+qg=r8(a+96);}
+sg=rp(a+88)+qg*24;
+x8(sg,ag);
+x8(sg+8,hg);
+sg[16]=3;
+sg[17]=pg;
+z6(sg+18);
+w8(a+96,qg+1);
+w2(rp(a+128)+(i64)(vb<<1),(u16)kg+1);
+lg=1;
+mg=2;
+ng=ag;
+og=3;}}
+else{
+lg=0;
+mg=0;
+ng=0;
+og=0;}
+L40:w8(y,lg);
+y[8]=mg;
+y[9]=0;
+w8(y+16,ng);
+y[24]=og;
+goto L14;
+L25:zc=r8(a+160);
+Ac=Dc;
+Bc=Ec;
+L24:tg=rp(a+152)+(zc<<5);
+*tg=Ac;
+tg[1]=Bc;
+x8(tg+8,vb);
+x8(tg+16,0);
+tg[24]=0;
+w8(a+160,zc+1);
+ug=0;
+goto L41;
+L23:F=0;
 goto L1;
-L12:if(*y!=1){
+L14:if(*y!=1){
 F=0;
 goto L1;}
-kb=r8(y+16);
-lb=y[8];
-mb=y[9];
-nb=y[24];
-goto L8;}
-L13:F=0;
+rb=r8(y+16);
+sb=y[8];
+tb=y[9];
+ub=y[24];
+goto L10;}
+L15:F=0;
 goto L1;
-L8:if(lb!=0){
-og=kb;
-pg=lb;
-qg=mb;
-rg=nb;
-goto L40;}
-ng=mb;
-L39:z32(t);
-sg=r8(a+192);
-if(sg<c){
-tg=ng&1;
-ug=sg;
-L41:switch(*(b+ug)){
-case 78:vg=ug+1;
-if(vg>=c)goto L42;
-wg=*(b+vg);
-if(wg<65)goto L42;
-if(!((wg<91)|((u8)(wg-97)<26)))goto L42;
-w8(a+192,ug+2);
-xg=r8(a+160);
-if(r8(a+184)>xg){
-yg=xg;
-zg=2;
-Ag=wg;
-goto L43;}
-Bg=make_ready_e3c(a+152);
-if(Bg==0)goto L42;
-Cg=2;
-Dg=wg;
-break;
-case 73:w8(a+192,ug+1);
+L10:if(sb!=0){
+vg=rb;
+wg=sb;
+xg=tb;
+yg=ub;
+goto L42;}
+ug=tb;
+L41:z32(t);
+zg=r8(a+192);
+if(zg<c){
+Ag=ug&1;
+Bg=zg;
+L43:switch(*(b+Bg)){
+case 78:Cg=Bg+1;
+if(Cg>=c)goto L44;
+Dg=*(b+Cg);
+if(Dg<65)goto L44;
+if(!((Dg<91)|((u8)(Dg-97)<26)))goto L44;
+w8(a+192,Bg+2);
 Eg=r8(a+160);
 if(r8(a+184)>Eg){
-yg=Eg;
-zg=3;
-Ag=tg;
-goto L43;}
-Fg=make_ready_e3c(a+152);
-if(Fg==0)goto L42;
-Cg=3;
-Dg=tg;
+Fg=Eg;
+Gg=2;
+Hg=Dg;
+goto L45;}
+Ig=make_ready_e3c(a+152);
+if(!(Ig&1))goto L44;
+Jg=2;
+Kg=Dg;
 break;
-default:Gg=ug;
-goto L44;
+case 73:w8(a+192,Bg+1);
+Lg=r8(a+160);
+if(r8(a+184)>Lg){
+Fg=Lg;
+Gg=3;
+Hg=Ag;
+goto L45;}
+Mg=make_ready_e3c(a+152);
+if(!(Mg&1))goto L44;
+Jg=3;
+Kg=Ag;
+break;
+default:Ng=Bg;
+goto L46;
 }
-yg=r8(a+160);
-zg=Cg;
-Ag=Dg;
-L43:Hg=rp(a+152)+(yg<<5);
-*Hg=zg;
-Hg[1]=Ag;
-x8(Hg+8,ug);
-x8(Hg+16,0);
-Hg[24]=0;
-w8(a+160,yg+1);
-Ig=r8(a+192);
-if(Ig<c){
-ug=Ig;
-goto L41;}
-Gg=Ig;
-goto L44;
-L42:F=0;
+Fg=r8(a+160);
+Gg=Jg;
+Hg=Kg;
+L45:Og=rp(a+152)+(Fg<<5);
+*Og=Gg;
+Og[1]=Hg;
+x8(Og+8,Bg);
+x8(Og+16,0);
+Og[24]=0;
+w8(a+160,Fg+1);
+Pg=r8(a+192);
+if(Pg<c){
+Bg=Pg;
+goto L43;}
+Ng=Pg;
+goto L46;
+L44:F=0;
 goto L1;}
-Gg=sg;
-L44:if(Gg<c){
-switch(*(b+Gg)){
-case 67:Jg=r8(a+8);
-Kg=Gg+1;
-if(Kg<c){
-if(*(b+Kg)==115){
-Lg=Gg+2;
-if(c-Lg>=12){
-Mg=Gg+13;
-Ng=b+(i64)Lg;
-Og=*Ng;
-if(!((Og<58)|((u8)(Og-97)<11)))goto L45;
-Pg=0;
-L46:if(*((u8*)t_9eba+*(Ng+Pg))==0){
-Qg=Pg+1;
-if(Qg!=11){
-Pg=Qg;
-goto L46;}
-if(Mg<c){
-if(*(b+Mg)==95){
-Rg=Gg+14;
-goto L47;}}}}
-L45:Sg=any_disambiguator_end_f9c(b,c,Kg);
-if(Sg.f0!=1)goto L48;
-Rg=Sg.f1;}
-else Rg=Kg;}
-else Rg=Kg;
-L47:if(Rg<c){
-Tg=*(b+Rg);
-if((u8)(Tg-58)>=247){
-Ug=Rg+1;
-if(Ug<c){
-Vg=*(b+Ug)-48;
-if(Vg<10){
-Wg=Rg+2;
-Xg=(u64)Vg+(u8)((u8)(Tg*10)+32);
-if(c-Wg<Xg)goto L48;
-Yg=Xg+Wg;
-Zg=b+(i64)Wg;
-ah=*Zg;
-if((ah==95)|((u8)(ah-48)<10)){
+Ng=zg;
+L46:if(Ng<c){
+switch(*(b+Ng)){
+case 67:Qg=r8(a+8);
+Rg=Ng+1;
+if(Rg<c){
+if(*(b+Rg)==115){
+Sg=Ng+2;
+if(c-Sg>=12){
+Tg=Ng+13;
+Ug=b+(i64)Sg;
+Vg=*Ug;
+if(!((Vg<58)|((u8)(Vg-97)<11)))goto L47;
+Wg=0;
+L48:if(*((u8*)t_9eba+*(Ug+Wg))==0){
+Xg=Wg+1;
+if(Xg!=11){
+Wg=Xg;
+goto L48;}
+if(Tg<c){
+if(*(b+Tg)==95){
+Yg=Ng+14;
+goto L49;}}}}
+L47:Zg=any_disambiguator_end_f9c(b,c,Rg);
+if(Zg.f0!=1)goto L50;
+Yg=Zg.f1;}
+else Yg=Rg;}
+else Yg=Rg;
+L49:if(Yg<c){
+ah=*(b+Yg);
+if((u8)(ah-58)>=247){
+bh=Yg+1;
+if(bh<c){
+ch=*(b+bh)-48;
+if(ch<10){
+dh=Yg+2;
+eh=(u64)ch+(u8)((u8)(ah*10)+32);
+if(c-dh<eh)goto L50;
+fh=eh+dh;
+gh=b+(i64)dh;
+hh=*gh;
+if((hh==95)|((u8)(hh-48)<10)){
 z12(r);
-any_name_span_9bc(r,b,c,Rg);
-bh=q8(r+4);
-if(*r!=1)goto L48;
-ch=bh>>32;
-dh=bh&4294967295u;
-goto L49;}
-eh=0;
-L50:fh=Zg+eh;
-if((u8)((u8)(*((u8*)t_4efc+fh[1])+*((u8*)t_4efc+*fh))+*((u8*)t_4efc+fh[2]))==(u8)(0-*((u8*)t_4efc+fh[3]))){
-gh=eh+4;
-if(Xg-gh>3){
-eh=gh;
-goto L50;}
-hh=gh;}
-else hh=eh;
-if(hh>=Xg){
-ch=Yg;
-dh=Wg;
-goto L49;}
-ih=hh;
-L51:if(*((u8*)t_4efc+*(Zg+ih))!=0)goto L48;
-jh=ih+1;
-if(jh<Xg){
-ih=jh;
+any_name_span_9bc(r,b,c,Yg);
+ih=q8(r+4);
+if(*r!=1)goto L50;
+jh=ih>>32;
+kh=ih&4294967295u;
 goto L51;}
-ch=Yg;
-dh=Wg;
-goto L49;}}
-kh=Tg-48;
-if(c-Ug<kh)goto L48;
-lh=b+(i64)Ug;
-mh=*lh;
-if((mh==95)|((u8)(mh-48)<10)){
-z12(q);
-any_name_span_9bc(q,b,c,Rg);
-nh=q8(q+4);
-if(*q!=1)goto L48;
-ch=nh>>32;
-dh=nh&4294967295u;
-goto L49;}
-oh=Ug+kh;
-if(Tg<=51){
-qh=0;
+lh=0;
+L52:mh=gh+lh;
+if((u8)((u8)(*((u8*)t_4efc+mh[1])+*((u8*)t_4efc+*mh))+*((u8*)t_4efc+mh[2]))==(u8)(0-*((u8*)t_4efc+mh[3]))){
+nh=lh+4;
+if(eh-nh>3){
+lh=nh;
 goto L52;}
-ph=0;
-L53:rh=lh+ph;
-if((u8)((u8)(*((u8*)t_4efc+rh[1])+*((u8*)t_4efc+*rh))+*((u8*)t_4efc+rh[2]))==(u8)(0-*((u8*)t_4efc+rh[3]))){
-sh=ph+4;
-if(kh-sh>3){
-ph=sh;
+oh=nh;}
+else oh=lh;
+if(oh>=eh){
+jh=fh;
+kh=dh;
+goto L51;}
+ph=oh;
+L53:if(*((u8*)t_4efc+*(gh+ph))!=0)goto L50;
+qh=ph+1;
+if(qh<eh){
+ph=qh;
 goto L53;}
-qh=sh;}
-else qh=ph;
-L52:if(qh>=kh){
-ch=oh;
-dh=Ug;
-goto L49;}
-th=qh;
-L54:if(*((u8*)t_4efc+*(lh+th))!=0)goto L48;
-uh=th+1;
-if(uh!=kh){
-th=uh;
+jh=fh;
+kh=dh;
+goto L51;}}
+rh=ah-48;
+if(c-bh<rh)goto L50;
+sh=b+(i64)bh;
+th=*sh;
+if((th==95)|((u8)(th-48)<10)){
+z12(q);
+any_name_span_9bc(q,b,c,Yg);
+uh=q8(q+4);
+if(*q!=1)goto L50;
+jh=uh>>32;
+kh=uh&4294967295u;
+goto L51;}
+vh=bh+rh;
+if(ah<=51){
+xh=0;
 goto L54;}
-ch=oh;
-dh=Ug;
-goto L49;}}
-z12(s);
-any_name_span_9bc(s,b,c,Rg);
-vh=q8(s+4);
-if(*s!=1)goto L48;
-ch=vh>>32;
-dh=vh&4294967295u;
-L49:if(ch<=dh)goto L48;
-wh=b+(i64)dh;
-xh=ch-dh;
-if(r8(a+32)-Jg<xh){
-yh=make_ready_8e3(a,xh,128);
-if(yh==0)goto L48;}
-zh=push_str_b7e(a,wh,xh);
-if(zh!=0)goto L48;
-w8(a+192,ch);
-if(r8(a+136)>Gg){
-Ah=r8(a+96);
-if(Ah>65534){
-Bh=0;
-Ch=0;
-Dh=0;}
-else{
-Eh=r8(a+8);
-Fh=a[80];
-if(r8(a+120)>Ah)Gh=Ah;
-else{
-Hh=make_ready_b73(a+88);
-if(Hh==0){
-Bh=0;
-Ch=0;
-Dh=0;
+wh=0;
+L55:yh=sh+wh;
+if((u8)((u8)(*((u8*)t_4efc+yh[1])+*((u8*)t_4efc+*yh))+*((u8*)t_4efc+yh[2]))==(u8)(0-*((u8*)t_4efc+yh[3]))){
+zh=wh+4;
+if(rh-zh>3){
+wh=zh;
 goto L55;}
-Gh=r8(a+96);}
-Ih=rp(a+88)+Gh*24;
-x8(Ih,Jg);
-x8(Ih+8,Eh);
-Ih[16]=0;
-Ih[17]=Fh;
-z6(Ih+18);
-w8(a+96,Gh+1);
-w2(rp(a+128)+(i64)(Gg<<1),(u16)Ah+1);
-Bh=1;
-Ch=2;
-Dh=Jg;}}
+xh=zh;}
+else xh=wh;
+L54:if(xh>=rh){
+jh=vh;
+kh=bh;
+goto L51;}
+Ah=xh;
+L56:if(*((u8*)t_4efc+*(sh+Ah))!=0)goto L50;
+Bh=Ah+1;
+if(Bh!=rh){
+Ah=Bh;
+goto L56;}
+jh=vh;
+kh=bh;
+goto L51;}}
+z12(s);
+any_name_span_9bc(s,b,c,Yg);
+Ch=q8(s+4);
+if(*s!=1)goto L50;
+jh=Ch>>32;
+kh=Ch&4294967295u;
+L51:if(jh<=kh)goto L50;
+Dh=b+(i64)kh;
+Eh=jh-kh;
+if(r8(a+32)-Qg<Eh){
+Fh=make_ready_8e3(a,Eh,128);
+if(!(Fh&1))goto L50;}
+Gh=push_str_b7e(a,Dh,Eh);
+if(Gh&1)goto L50;
+w8(a+192,jh);
+if(r8(a+136)>Ng){
+Hh=r8(a+96);
+if(Hh>65534){
+Ih=0;
+Jh=0;
+Kh=0;}
 else{
-Bh=0;
-Ch=0;
-Dh=0;}
-L55:w8(t,Bh);
-t[8]=Ch;
+Lh=r8(a+8);
+Mh=a[80];
+if(r8(a+120)>Hh)Nh=Hh;
+else{
+Oh=make_ready_b73(a+88);
+if(!(Oh&1)){
+Ih=0;
+Jh=0;
+Kh=0;
+goto L57;}
+Nh=r8(a+96);}
+Ph=rp(a+88)+Nh*24;
+x8(Ph,Qg);
+x8(Ph+8,Lh);
+Ph[16]=0;
+Ph[17]=Mh;
+z6(Ph+18);
+w8(a+96,Nh+1);
+w2(rp(a+128)+(i64)(Ng<<1),(u16)Hh+1);
+Ih=1;
+Jh=2;
+Kh=Qg;}}
+else{
+Ih=0;
+Jh=0;
+Kh=0;}
+L57:w8(t,Ih);
+t[8]=Jh;
 t[9]=0;
-w8(t+16,Dh);
+w8(t+16,Kh);
 t[24]=0;
 break;
-case 66:Jh=r8(a+8);
-Kh=Gg+1;
-Lh=umin64(c-Kh,11)+Kh;
-if(Kh>=Lh){
-Nh=Kh;
-goto L56;}
-Mh=Kh;
-L57:if(*((u8*)t_84dd+*(b+Mh))<62){
-Oh=Mh+1;
-if(Oh!=Lh){
-Mh=Oh;
-goto L57;}
-Nh=Lh;}
-else Nh=Mh;
-L56:if(Nh==c){
-Ph=0;
-Qh=0;
-Rh=0;
-Sh=0;}
+case 66:Qh=r8(a+8);
+Rh=Ng+1;
+Sh=umin64(c-Rh,11)+Rh;
+if(Rh>=Sh){
+Uh=Rh;
+goto L58;}
+Th=Rh;
+L59:if(*((u8*)t_84dd+*(b+Th))<62){
+Vh=Th+1;
+if(Vh!=Sh){
+Th=Vh;
+goto L59;}
+Uh=Sh;}
+else Uh=Th;
+L58:if(Uh==c){
+Wh=0;
+Xh=0;
+Yh=0;
+Zh=0;}
 else{
-if(*(b+Nh)==95){
-Th=Kh&4294967295u;
-Uh=Nh&4294967295u;
-Vh=Uh+1;
-if(Uh==Th)Wh=2;
+if(*(b+Uh)==95){
+ai=Rh&4294967295u;
+bi=Uh&4294967295u;
+ci=bi+1;
+if(bi==ai)di=2;
 else{
-Xh=b+(i64)Th;
-Yh=Uh-Th;
-if(Yh>10){
+ei=b+(i64)ai;
+fi=bi-ai;
+if(fi>10){
+gi=0;
+hi=0;
+goto L60;}
+ii=0;
+ji=0;
+L61:ki=*((u8*)t_84dd+*(ei+(i64)ji));
+if(ki>=62){
+Wh=0;
+Xh=0;
+Yh=0;
 Zh=0;
-ai=0;
-goto L58;}
-bi=0;
-ci=0;
-L59:di=*((u8*)t_84dd+*(Xh+(i64)ci));
-if(di>=62){
-Ph=0;
-Qh=0;
-Rh=0;
-Sh=0;
+goto L62;}
+li=ii*62+ki;
+mi=ji+1;
+if(mi==fi){
+ni=li;
+goto L63;}
+ii=li;
+ji=mi;
+goto L61;
+L60:oi=*((u8*)t_84dd+*(ei+(i64)hi));
+if(!((gi<0x421084210842109u)&(oi<62))){
+Wh=0;
+Xh=0;
+Yh=0;
+Zh=0;
+goto L62;}
+pi=gi*62;
+if(pi>(oi^18446744073709551615u)){
+Wh=0;
+Xh=0;
+Yh=0;
+Zh=0;
+goto L62;}
+qi=pi+oi;
+ri=hi+1;
+if(ri!=fi){
+gi=qi;
+hi=ri;
 goto L60;}
-ei=bi*62+di;
-fi=ci+1;
-if(fi==Yh){
-gi=ei;
-goto L61;}
-bi=ei;
-ci=fi;
-goto L59;
-L58:hi=*((u8*)t_84dd+*(Xh+(i64)ai));
-if(!((Zh<0x421084210842109u)&(hi<62))){
-Ph=0;
-Qh=0;
-Rh=0;
-Sh=0;
-goto L60;}
-ii=Zh*62;
-if(ii>(hi^18446744073709551615u)){
-Ph=0;
-Qh=0;
-Rh=0;
-Sh=0;
-goto L60;}
-ji=ii+hi;
-ki=ai+1;
-if(ki!=Yh){
-Zh=ji;
-ai=ki;
-goto L58;}
-gi=ji;
-L61:if(gi>0xfffffffffffffffcu){
-Ph=0;
-Qh=0;
-Rh=0;
-Sh=0;
-goto L60;}
-Wh=gi+3;}
-if(Wh<r8(a+136)){
-li=r2(rp(a+128)+(i64)(Wh<<1));
-if(li==0){
-Ph=0;
-Qh=0;
-Rh=0;
-Sh=0;}
+ni=qi;
+L63:if(ni>0xfffffffffffffffcu){
+Wh=0;
+Xh=0;
+Yh=0;
+Zh=0;
+goto L62;}
+di=ni+3;}
+if(di<r8(a+136)){
+si=r2(rp(a+128)+(i64)(di<<1));
+if(si==0){
+Wh=0;
+Xh=0;
+Yh=0;
+Zh=0;}
 else{
-mi=(u64)li-1;
-if(mi<r8(a+96)){
-ni=rp(a+88)+(i64)(mi*24);
-oi=ni[16];
-if(oi<3){
-memcpy(p,ni,16);
-p[16]=oi;
-memcpy(p+17,ni+17,7);
-pi=repeat_2ff(a,p);
-if(pi==0){
-Ph=0;
-Qh=0;
-Rh=0;
-Sh=0;}
+ti=(u64)si-1;
+if(ti<r8(a+96)){
+ui=rp(a+88)+(i64)(ti*24);
+vi=ui[16];
+if(vi<3){
+memcpy(p,ui,16);
+p[16]=vi;
+memcpy(p+17,ui+17,7);
+wi=repeat_2ff(a,p);
+if(wi&1){
+w8(a+192,ci);
+if(r8(a+136)>Ng){
+xi=r8(a+96);
+if(xi>65534){
+Wh=0;
+Xh=0;
+Yh=0;
+Zh=0;}
 else{
-w8(a+192,Vh);
-if(r8(a+136)>Gg){
-qi=r8(a+96);
-if(qi>65534){
-Ph=0;
-Qh=0;
-Rh=0;
-Sh=0;}
+yi=r8(a+8);
+zi=a[80];
+if(r8(a+120)>xi)Ai=xi;
 else{
-ri=r8(a+8);
-si=a[80];
-if(r8(a+120)>qi)ti=qi;
+Bi=make_ready_b73(a+88);
+if(!(Bi&1)){
+Wh=0;
+Xh=0;
+Yh=0;
+Zh=0;
+goto L62;}
+Ai=r8(a+96);}
+Ci=rp(a+88)+Ai*24;
+x8(Ci,Qh);
+x8(Ci+8,yi);
+Ci[16]=vi;
+Ci[17]=zi;
+z6(Ci+18);
+w8(a+96,Ai+1);
+w2(rp(a+128)+(i64)(Ng<<1),(u16)xi+1);
+Wh=1;
+Xh=2;
+Yh=Qh;
+Zh=vi;}}
 else{
-ui=make_ready_b73(a+88);
-if(ui==0){
-Ph=0;
-Qh=0;
-Rh=0;
-Sh=0;
-goto L60;}
-ti=r8(a+96);}
-vi=rp(a+88)+ti*24;
-x8(vi,Jh);
-x8(vi+8,ri);
-vi[16]=oi;
-vi[17]=si;
-z6(vi+18);
-w8(a+96,ti+1);
-w2(rp(a+128)+(i64)(Gg<<1),(u16)qi+1);
-Ph=1;
-Qh=2;
-Rh=Jh;
-Sh=oi;}}
+Wh=0;
+Xh=0;
+Yh=0;
+Zh=0;}}
 else{
-Ph=0;
-Qh=0;
-Rh=0;
-Sh=0;}}}
+Wh=0;
+Xh=0;
+Yh=0;
+Zh=0;}}
 else{
-Ph=0;
-Qh=0;
-Rh=0;
-Sh=0;}}
+Wh=0;
+Xh=0;
+Yh=0;
+Zh=0;}}
 else{
-Ph=0;
-Qh=0;
-Rh=0;
-Sh=0;}}}
+Wh=0;
+Xh=0;
+Yh=0;
+Zh=0;}}}
 else{
-Ph=0;
-Qh=0;
-Rh=0;
-Sh=0;}}
+Wh=0;
+Xh=0;
+Yh=0;
+Zh=0;}}
 else{
-Ph=0;
-Qh=0;
-Rh=0;
-Sh=0;}}
-L60:w8(t,Ph);
-t[8]=Qh;
+Wh=0;
+Xh=0;
+Yh=0;
+Zh=0;}}
+L62:w8(t,Wh);
+t[8]=Xh;
 t[9]=0;
-w8(t+16,Rh);
-t[24]=Sh;
+w8(t+16,Yh);
+t[24]=Zh;
 break;
 case 77:begin_impl_c72(t,a,b,c);
 break;
@@ -100973,343 +104293,343 @@ case 88:begin_trait_impl_220(t,a,b,c);
 break;
 case 89:begin_trait_f9f(t,a);
 break;
-default:goto L48;
+default:goto L50;
 }
 if(*t!=1){
 F=0;
 goto L1;}
-og=r8(t+16);
-pg=t[8];
-qg=t[9];
-rg=t[24];
-goto L40;}
-L48:F=0;
+vg=r8(t+16);
+wg=t[8];
+xg=t[9];
+yg=t[24];
+goto L42;}
+L50:F=0;
 goto L1;
-L40:if(pg!=2){
-Ea=rg;
-Fa=og;
-Ga=qg;
-Ha=pg;
-goto L7;}
-xa=rg;
-ya=og;
-L6:wi=r8(a+160);
-if(wi==0){
+L42:if(wg!=2){
+La=yg;
+Ma=vg;
+Na=xg;
+Oa=wg;
+goto L9;}
+Ea=yg;
+Fa=vg;
+L8:Di=r8(a+160);
+if(Di==0){
 F=0;
 goto L1;}
-xi=xa<3;
-yi=wi;
-L62:zi=yi-1;
-w8(a+160,zi);
-Ai=rp(a+152);
-Bi=zi<<5;
-Ci=Ai+Bi;
-Di=Ci[1];
-Ei=q8(Ci+8);
-Fi=q8(Ci+16);
-Gi=Ci[24];
-switch(*Ci){
-case 2:if(Di>=97){
-if(!xi){
+Ei=Ea<3;
+Fi=Di;
+L64:Gi=Fi-1;
+w8(a+160,Gi);
+Hi=rp(a+152);
+Ii=Gi<<5;
+Ji=Hi+Ii;
+Ki=Ji[1];
+Li=q8(Ji+8);
+Mi=q8(Ji+16);
+Ni=Ji[24];
+switch(*Ji){
+case 2:if(Ki>=97){
+if(!Ei){
 F=0;
 goto L1;}
-Ri=r8(a+192);
-if(Ri<c){
-if(*(b+Ri)==115){
-Si=Ri+1;
-if(c-Si>=12){
-Ti=Ri+12;
-Ui=b+(i64)Si;
-Vi=*Ui;
-if(!((Vi<58)|((u8)(Vi-97)<11)))goto L63;
-Wi=0;
-L64:if(*((u8*)t_9eba+*(Ui+Wi))==0){
-Xi=Wi+1;
-if(Xi!=11){
-Wi=Xi;
-goto L64;}
-if(Ti<c){
-if(*(b+Ti)==95){
-Yi=Ri+13;
-goto L65;}}}}
-L63:Zi=any_disambiguator_end_f9c(b,c,Ri);
-if(Zi.f0!=1){
+Yi=r8(a+192);
+if(Yi<c){
+if(*(b+Yi)==115){
+Zi=Yi+1;
+if(c-Zi>=12){
+aj=Yi+12;
+bj=b+(i64)Zi;
+cj=*bj;
+if(!((cj<58)|((u8)(cj-97)<11)))goto L65;
+dj=0;
+L66:if(*((u8*)t_9eba+*(bj+dj))==0){
+ej=dj+1;
+if(ej!=11){
+dj=ej;
+goto L66;}
+if(aj<c){
+if(*(b+aj)==95){
+fj=Yi+13;
+goto L67;}}}}
+L65:gj=any_disambiguator_end_f9c(b,c,Yi);
+if(gj.f0!=1){
 F=0;
 goto L1;}
-Yi=Zi.f1;}
-else Yi=Ri;}
-else Yi=Ri;
-L65:if(Yi<c){
-aj=*(b+Yi);
-if((u8)(aj-58)>=247){
-bj=Yi+1;
-if(bj<c){
-cj=*(b+bj)-48;
-if(cj<10){
-dj=Yi+2;
-ej=(u64)cj+(u8)((u8)(aj*10)+32);
-if(c-dj<ej){
+fj=gj.f1;}
+else fj=Yi;}
+else fj=Yi;
+L67:if(fj<c){
+hj=*(b+fj);
+if((u8)(hj-58)>=247){
+ij=fj+1;
+if(ij<c){
+jj=*(b+ij)-48;
+if(jj<10){
+kj=fj+2;
+lj=(u64)jj+(u8)((u8)(hj*10)+32);
+if(c-kj<lj){
 F=0;
 goto L1;}
-fj=ej+dj;
-gj=b+(i64)dj;
-hj=*gj;
-if((hj==95)|((u8)(hj-48)<10)){
+mj=lj+kj;
+nj=b+(i64)kj;
+oj=*nj;
+if((oj==95)|((u8)(oj-48)<10)){
 z12(n);
-any_name_span_9bc(n,b,c,Yi);
-ij=q8(n+4);
-jj=*n==1;
-kj=jj?ij&4294967295u:0;
-lj=jj?ij>>32:0;
-mj=jj;
-goto L66;}
-nj=0;
-L67:oj=gj+nj;
-if((u8)((u8)(*((u8*)t_4efc+oj[1])+*((u8*)t_4efc+*oj))+*((u8*)t_4efc+oj[2]))==(u8)(0-*((u8*)t_4efc+oj[3]))){
-pj=nj+4;
-if(ej-pj>3){
-nj=pj;
-goto L67;}
-qj=pj;}
-else qj=nj;
-if(qj>=ej){
-kj=dj;
-lj=fj;
-mj=1;
-goto L66;}
-rj=qj;
-L68:if(*((u8*)t_4efc+*(gj+rj))!=0){
-F=0;
-goto L1;}
-sj=rj+1;
-if(sj<ej){
-rj=sj;
+any_name_span_9bc(n,b,c,fj);
+pj=q8(n+4);
+qj=*n==1;
+rj=qj?pj&4294967295u:0;
+sj=qj?pj>>32:0;
+tj=qj;
 goto L68;}
-kj=dj;
-lj=fj;
-mj=1;
-goto L66;}}
-tj=aj-48;
-if(c-bj<tj){
-F=0;
-goto L1;}
-uj=b+(i64)bj;
-vj=*uj;
-if((vj==95)|((u8)(vj-48)<10)){
-z12(m);
-any_name_span_9bc(m,b,c,Yi);
-wj=q8(m+4);
-xj=*m==1;
-kj=xj?wj&4294967295u:0;
-lj=xj?wj>>32:0;
-mj=xj;
-goto L66;}
-yj=bj+tj;
-if(aj<=51){
-Aj=0;
+uj=0;
+L69:vj=nj+uj;
+if((u8)((u8)(*((u8*)t_4efc+vj[1])+*((u8*)t_4efc+*vj))+*((u8*)t_4efc+vj[2]))==(u8)(0-*((u8*)t_4efc+vj[3]))){
+wj=uj+4;
+if(lj-wj>3){
+uj=wj;
 goto L69;}
-zj=0;
-L70:Bj=uj+zj;
-if((u8)((u8)(*((u8*)t_4efc+Bj[1])+*((u8*)t_4efc+*Bj))+*((u8*)t_4efc+Bj[2]))==(u8)(0-*((u8*)t_4efc+Bj[3]))){
-Cj=zj+4;
-if(tj-Cj>3){
-zj=Cj;
+xj=wj;}
+else xj=uj;
+if(xj>=lj){
+rj=kj;
+sj=mj;
+tj=1;
+goto L68;}
+yj=xj;
+L70:if(*((u8*)t_4efc+*(nj+yj))!=0){
+F=0;
+goto L1;}
+zj=yj+1;
+if(zj<lj){
+yj=zj;
 goto L70;}
-Aj=Cj;}
-else Aj=zj;
-L69:if(Aj>=tj){
-kj=bj;
-lj=yj;
-mj=1;
-goto L66;}
-Dj=Aj;
-L71:if(*((u8*)t_4efc+*(uj+Dj))!=0){
+rj=kj;
+sj=mj;
+tj=1;
+goto L68;}}
+Aj=hj-48;
+if(c-ij<Aj){
 F=0;
 goto L1;}
-Ej=Dj+1;
-if(Ej!=tj){
-Dj=Ej;
+Bj=b+(i64)ij;
+Cj=*Bj;
+if((Cj==95)|((u8)(Cj-48)<10)){
+z12(m);
+any_name_span_9bc(m,b,c,fj);
+Dj=q8(m+4);
+Ej=*m==1;
+rj=Ej?Dj&4294967295u:0;
+sj=Ej?Dj>>32:0;
+tj=Ej;
+goto L68;}
+Fj=ij+Aj;
+if(hj<=51){
+Hj=0;
 goto L71;}
-kj=bj;
-lj=yj;
-mj=1;
-goto L66;}}
+Gj=0;
+L72:Ij=Bj+Gj;
+if((u8)((u8)(*((u8*)t_4efc+Ij[1])+*((u8*)t_4efc+*Ij))+*((u8*)t_4efc+Ij[2]))==(u8)(0-*((u8*)t_4efc+Ij[3]))){
+Jj=Gj+4;
+if(Aj-Jj>3){
+Gj=Jj;
+goto L72;}
+Hj=Jj;}
+else Hj=Gj;
+L71:if(Hj>=Aj){
+rj=ij;
+sj=Fj;
+tj=1;
+goto L68;}
+Kj=Hj;
+L73:if(*((u8*)t_4efc+*(Bj+Kj))!=0){
+F=0;
+goto L1;}
+Lj=Kj+1;
+if(Lj!=Aj){
+Kj=Lj;
+goto L73;}
+rj=ij;
+sj=Fj;
+tj=1;
+goto L68;}}
 z12(o);
-any_name_span_9bc(o,b,c,Yi);
-Fj=q8(o+4);
-Gj=*o==1;
-kj=Gj?Fj&4294967295u:0;
-lj=Gj?Fj>>32:0;
-mj=Gj;
-L66:if(!(mj&&lj>kj)){
+any_name_span_9bc(o,b,c,fj);
+Mj=q8(o+4);
+Nj=*o==1;
+rj=Nj?Mj&4294967295u:0;
+sj=Nj?Mj>>32:0;
+tj=Nj;
+L68:if(!(tj&&sj>rj)){
 F=0;
 goto L1;}
-Hj=r8(a+8);
-if(r8(a+32)-Hj<2){
-Ij=make_ready_8e3(a,2,128);
-if(Ij==0){
+Oj=r8(a+8);
+if(r8(a+32)-Oj<2){
+Pj=make_ready_8e3(a,2,128);
+if(!(Pj&1)){
 F=0;
 goto L1;}
-Jj=r8(a+8);}
-else Jj=Hj;
-*(rp(a)+Jj)=58;
-*(rp(a)+(i64)Jj+1)=58;
-Kj=Jj+2;
-w8(a+8,Kj);
-Lj=b+(i64)kj;
-Mj=lj-kj;
-if(r8(a+32)-Kj<Mj){
-Nj=make_ready_8e3(a,Mj,128);
-if(Nj==0){
+Qj=r8(a+8);}
+else Qj=Oj;
+*(rp(a)+Qj)=58;
+*(rp(a)+(i64)Qj+1)=58;
+Rj=Qj+2;
+w8(a+8,Rj);
+Sj=b+(i64)rj;
+Tj=sj-rj;
+if(r8(a+32)-Rj<Tj){
+Uj=make_ready_8e3(a,Tj,128);
+if(!(Uj&1)){
 F=0;
 goto L1;}
-Oj=r8(a+8);}
-else Oj=Kj;
-Pj=r8(a+16);
-if(Mj>Pj-Oj){
-Qj=grow_amortized_e1a(a,Mj);
-if(!Qj){
+Vj=r8(a+8);}
+else Vj=Rj;
+Wj=r8(a+16);
+if(Tj>Wj-Vj){
+Xj=grow_amortized_e1a(a,Tj);
+if(!Xj){
 F=0;
 goto L1;}
-Rj=r8(a+16);
-Sj=r8(a+8);}
+Yj=r8(a+16);
+Zj=r8(a+8);}
 else{
-Rj=Pj;
-Sj=Oj;}
-Tj=Sj+Mj;
-Uj=rp(a);
+Yj=Wj;
+Zj=Vj;}
+ak=Zj+Tj;
+bk=rp(a);
 z16(a+8);
-Vj=Uj+(i64)Sj;
-if((u64)Vj-(u64)Lj<Mj)copy_bits_4f4(Lj,Vj,Mj);
-else memmove(Vj,Lj,Mj);
-wp(a,Uj);
-w8(a+8,Tj);
-w8(a+16,Rj);
-w8(a+192,lj);
-if(lj<c){
-if(*(b+lj)==48){
-Wj=r8(a+160);
-if(Wj!=0){
-Xj=rp(a+152)+(i64)(Wj<<5);
-if(Xj[-32]==2){
-if(Xj[-31]>96){
-Yj=unnamed_ended_c46(a,b,c,Ei,ya,xa);
-if(Yj!=0)goto L72;
+ck=bk+(i64)Zj;
+if((u64)ck-(u64)Sj<Tj)copy_bits_4f4(Sj,ck,Tj);
+else memmove(ck,Sj,Tj);
+wp(a,bk);
+w8(a+8,ak);
+w8(a+16,Yj);
+w8(a+192,sj);
+if(sj<c){
+if(*(b+sj)==48){
+dk=r8(a+160);
+if(dk!=0){
+ek=rp(a+152)+(i64)(dk<<5);
+if(ek[-32]==2){
+if(ek[-31]>96){
+fk=unnamed_ended_c46(a,b,c,Li,Fa,Ea);
+if(fk&1)goto L74;
 F=0;
 goto L1;}}}}}
-if(r8(a+136)<=Ei){
+if(r8(a+136)<=Li){
 F=0;
 goto L1;}
-Zj=r8(a+96);
-if(Zj>65534){
+gk=r8(a+96);
+if(gk>65534){
 F=0;
 goto L1;}
-ak=a[80];
-if(r8(a+120)>Zj)bk=Zj;
+hk=a[80];
+if(r8(a+120)>gk)ik=gk;
 else{
-ck=make_ready_b73(a+88);
-if(ck==0){
+jk=make_ready_b73(a+88);
+if(!(jk&1)){
 F=0;
 goto L1;}
-bk=r8(a+96);}
-dk=rp(a+88)+bk*24;
-x8(dk,ya);
-x8(dk+8,Tj);
-dk[16]=xa;
-dk[17]=ak;
-z6(dk+18);
-w8(a+96,bk+1);
-w2(rp(a+128)+(i64)(Ei<<1),(u16)Zj+1);
-L72:ek=r8(a+160);
-if(ek==0){
+ik=r8(a+96);}
+kk=rp(a+88)+ik*24;
+x8(kk,Fa);
+x8(kk+8,ak);
+kk[16]=Ea;
+kk[17]=hk;
+z6(kk+18);
+w8(a+96,ik+1);
+w2(rp(a+128)+(i64)(Li<<1),(u16)gk+1);
+L74:lk=r8(a+160);
+if(lk==0){
 F=0;
 goto L1;}
-yi=ek;
-goto L62;}
+Fi=lk;
+goto L64;}
 z32(g);
-if(xi&(Di>64)){
-switch(Di){
-case 67:special_named_1bc(g,a,b,c,ya,xa,Ei,(u8*)t_6d4c,7);
+if(Ei&(Ki>64)){
+switch(Ki){
+case 67:special_named_1bc(g,a,b,c,Fa,Ea,Li,(u8*)t_6d4c,7);
 break;
-case 83:special_named_1bc(g,a,b,c,ya,xa,Ei,(u8*)t_04e6,4);
+case 83:special_named_1bc(g,a,b,c,Fa,Ea,Li,(u8*)t_04e6,4);
 break;
-default:*h=Di;
-special_named_1bc(g,a,b,c,ya,xa,Ei,h,1);
+default:*h=Ki;
+special_named_1bc(g,a,b,c,Fa,Ea,Li,h,1);
 break;}
-Hi=*g;
-Ii=g[8];
-Ji=g[9];
-Ki=r8(g+16);
-Li=g[24];}
+Oi=*g;
+Pi=g[8];
+Qi=g[9];
+Ri=r8(g+16);
+Si=g[24];}
 else{
-Hi=0;
-Ii=0;
-Ji=0;
-Ki=0;
-Li=0;}
-Mi=Hi;
-Ni=Ii;
-Oi=Ji;
-Pi=Ki;
-Qi=Li;
+Oi=0;
+Pi=0;
+Qi=0;
+Ri=0;
+Si=0;}
+Ti=Oi;
+Ui=Pi;
+Vi=Qi;
+Wi=Ri;
+Xi=Si;
 break;
-case 0:if(xa>=2){
+case 0:if(Ea>=2){
 F=0;
 goto L1;}
 if(a[80]&1){
 F=0;
 goto L1;}
-fk=r8(a+192);
-if(fk<c){
-if((u8)(*(b+fk)-65)<26){
-if(r8(a+184)>zi){
-gk=Bi;
-hk=Ai;
-ik=yi;}
+mk=r8(a+192);
+if(mk<c){
+if((u8)(*(b+mk)-65)<26){
+if(r8(a+184)>Gi){
+nk=Ii;
+ok=Hi;
+pk=Fi;}
 else{
-jk=make_ready_e3c(a+152);
-if(jk==0){
+qk=make_ready_e3c(a+152);
+if(!(qk&1)){
 F=0;
 goto L1;}
-kk=r8(a+160);
-gk=kk<<5;
-hk=rp(a+152);
-ik=kk+1;}
-lk=hk+gk;
-*lk=1;
-lk[1]=0;
-z17(lk+8);
-w8(a+160,ik);
+rk=r8(a+160);
+nk=rk<<5;
+ok=rp(a+152);
+pk=rk+1;}
+sk=ok+nk;
+*sk=1;
+sk[1]=0;
+z17(sk+8);
+w8(a+160,pk);
 memcpy(k,a,40);
 memcpy(a,a+40,40);
 memcpy(a+40,k,40);
 a[80]=a[80]^1;
-Ea=0;
-Fa=0;
-Ga=0;
-Ha=0;
-goto L7;}}
+La=0;
+Ma=0;
+Na=0;
+Oa=0;
+goto L9;}}
 z32(l);
-if(fk==c){
-mk=1;
-nk=4;
-ok=0;
-pk=0;
-qk=0;}
+if(mk==c){
+tk=1;
+uk=4;
+vk=0;
+wk=0;
+xk=0;}
 else{
 push_suffix_49c(l,a,b,c);
-mk=*l;
-nk=l[8];
-ok=l[9];
-pk=r8(l+16);
-qk=l[24];}
-Mi=mk;
-Ni=nk;
-Oi=ok;
-Pi=pk;
-Qi=qk;
+tk=*l;
+uk=l[8];
+vk=l[9];
+wk=r8(l+16);
+xk=l[24];}
+Ti=tk;
+Ui=uk;
+Vi=vk;
+Wi=wk;
+Xi=xk;
 break;
-case 1:if(!xi){
+case 1:if(!Ei){
 F=0;
 goto L1;}
 if(!(a[80]&1)){
@@ -101321,135 +104641,135 @@ memcpy(a+40,i,40);
 a[80]=0;
 z32(j);
 if(r8(a+192)==c){
-rk=1;
-sk=4;
-tk=0;
-uk=0;
-vk=0;}
+yk=1;
+zk=4;
+Ak=0;
+Bk=0;
+Ck=0;}
 else{
 push_suffix_49c(j,a,b,c);
-rk=*j;
-sk=j[8];
-tk=j[9];
-uk=r8(j+16);
-vk=j[24];}
-Mi=rk;
-Ni=sk;
-Oi=tk;
-Pi=uk;
-Qi=vk;
+yk=*j;
+zk=j[8];
+Ak=j[9];
+Bk=r8(j+16);
+Ck=j[24];}
+Ti=yk;
+Ui=zk;
+Vi=Ak;
+Wi=Bk;
+Xi=Ck;
 break;
-case 12:switch(xa){
-case 0:case 2:case 3:wk=r8(a+192);
-if(wk<c){
-if(*(b+wk)==69){
-if(xa==1){
+case 12:switch(Ea){
+case 0:case 2:case 3:Dk=r8(a+192);
+if(Dk<c){
+if(*(b+Dk)==69){
+if(Ea==1){
 F=0;
 goto L1;}
-xk=Gi&1;
-w8(a+192,wk+1);
-yk=xk?2:1;
-zk=xk?(u8*)t_b4da:(u8*)t_ba5e;
-Ak=r8(a+8);
-if(r8(a+32)-Ak<yk){
-Bk=make_ready_8e3(a,yk,128);
-if(Bk==0){
+Ek=Ni&1;
+w8(a+192,Dk+1);
+Fk=Ek?2:1;
+Gk=Ek?(u8*)t_b4da:(u8*)t_ba5e;
+Hk=r8(a+8);
+if(r8(a+32)-Hk<Fk){
+Ik=make_ready_8e3(a,Fk,128);
+if(!(Ik&1)){
 F=0;
 goto L1;}
-Ck=r8(a+8);}
-else Ck=Ak;
-Dk=r8(a+16);
-if(yk>Dk-Ck){
-Ek=grow_amortized_e1a(a,yk);
-if(!Ek){
+Jk=r8(a+8);}
+else Jk=Hk;
+Kk=r8(a+16);
+if(Fk>Kk-Jk){
+Lk=grow_amortized_e1a(a,Fk);
+if(!Lk){
 F=0;
 goto L1;}
-Fk=r8(a+16);
-Gk=r8(a+8);}
+Mk=r8(a+16);
+Nk=r8(a+8);}
 else{
-Fk=Dk;
-Gk=Ck;}
-Hk=Gk+yk;
-Ik=rp(a);
+Mk=Kk;
+Nk=Jk;}
+Ok=Nk+Fk;
+Pk=rp(a);
 z16(a+8);
-Jk=Ik+(i64)Gk;
-if((u64)Jk-(u64)zk<yk)copy_bits_4f4(zk,Jk,yk);
-else memcpy(Jk,zk,yk);
-wp(a,Ik);
-w8(a+8,Hk);
-w8(a+16,Fk);
-if(r8(a+136)<=Ei){
+Qk=Pk+(i64)Nk;
+if((u64)Qk-(u64)Gk<Fk)copy_bits_4f4(Gk,Qk,Fk);
+else memcpy(Qk,Gk,Fk);
+wp(a,Pk);
+w8(a+8,Ok);
+w8(a+16,Mk);
+if(r8(a+136)<=Li){
 F=0;
 goto L1;}
-Kk=r8(a+96);
-if(Kk>65534){
+Rk=r8(a+96);
+if(Rk>65534){
 F=0;
 goto L1;}
-Lk=a[80];
-if(r8(a+120)>Kk)Mk=Kk;
+Sk=a[80];
+if(r8(a+120)>Rk)Tk=Rk;
 else{
-Nk=make_ready_b73(a+88);
-if(Nk==0){
+Uk=make_ready_b73(a+88);
+if(!(Uk&1)){
 F=0;
 goto L1;}
-Mk=r8(a+96);}
-Ok=rp(a+88)+Mk*24;
-x8(Ok,Fi);
-x8(Ok+8,Hk);
-Ok[16]=3;
-Ok[17]=Lk;
-z6(Ok+18);
-w8(a+96,Mk+1);
-w2(rp(a+128)+(i64)(Ei<<1),(u16)Kk+1);
-Ea=3;
-Fa=Fi;
-Ga=0;
-Ha=2;
-goto L7;}}
-Pk=r8(a+8);
-if(r8(a+32)-Pk<2){
-Qk=make_ready_8e3(a,2,128);
-if(Qk==0){
+Tk=r8(a+96);}
+Vk=rp(a+88)+Tk*24;
+x8(Vk,Mi);
+x8(Vk+8,Ok);
+Vk[16]=3;
+Vk[17]=Sk;
+z6(Vk+18);
+w8(a+96,Tk+1);
+w2(rp(a+128)+(i64)(Li<<1),(u16)Rk+1);
+La=3;
+Ma=Mi;
+Na=0;
+Oa=2;
+goto L9;}}
+Wk=r8(a+8);
+if(r8(a+32)-Wk<2){
+Xk=make_ready_8e3(a,2,128);
+if(!(Xk&1)){
 F=0;
 goto L1;}
-Rk=r8(a+8);}
-else Rk=Pk;
-*(rp(a)+Rk)=44;
-*(rp(a)+(i64)Rk+1)=32;
-w8(a+8,Rk+2);
-Sk=r8(a+160);
-if(r8(a+184)>Sk)Tk=Sk;
+Yk=r8(a+8);}
+else Yk=Wk;
+*(rp(a)+Yk)=44;
+*(rp(a)+(i64)Yk+1)=32;
+w8(a+8,Yk+2);
+Zk=r8(a+160);
+if(r8(a+184)>Zk)al=Zk;
 else{
-Uk=make_ready_e3c(a+152);
-if(Uk==0){
+bl=make_ready_e3c(a+152);
+if(!(bl&1)){
 F=0;
 goto L1;}
-Tk=r8(a+160);}
-Vk=rp(a+152)+(Tk<<5);
-*Vk=12;
-Vk[1]=0;
-x8(Vk+8,Ei);
-x8(Vk+16,Fi);
-Vk[24]=0;
-w8(a+160,Tk+1);
-Ea=0;
-Fa=0;
-Ga=0;
-Ha=1;
-goto L7;
+al=r8(a+160);}
+cl=rp(a+152)+(al<<5);
+*cl=12;
+cl[1]=0;
+x8(cl+8,Li);
+x8(cl+16,Mi);
+cl[24]=0;
+w8(a+160,al+1);
+La=0;
+Ma=0;
+Na=0;
+Oa=1;
+goto L9;
 case 1:case 4:F=0;
 goto L1;
 default:NEVER;
 }
 break;
-case 3:Wk=Di&1;
-switch(xa){
+case 3:dl=Ki&1;
+switch(Ea){
 case 0:break;
-case 1:if(!Wk){
+case 1:if(!dl){
 F=0;
 goto L1;}
 break;
-case 2:if(Wk){
+case 2:if(dl){
 F=0;
 goto L1;}
 break;
@@ -101457,70 +104777,70 @@ case 3:case 4:F=0;
 goto L1;
 default:NEVER;
 }
-Xk=r8(a+8);
-if(r8(a+32)>Xk)Yk=Xk;
+el=r8(a+8);
+if(r8(a+32)>el)fl=el;
 else{
-Zk=make_ready_8e3(a,1,16);
-if(Zk==0){
+gl=make_ready_8e3(a,1,16);
+if(!(gl&1)){
 F=0;
 goto L1;}
-Yk=r8(a+8);}
-*(rp(a)+Yk)=1;
-w8(a+8,Yk+1);
-al=Di&1;
-bl=r8(a+160);
-if(r8(a+184)>bl)cl=bl;
+fl=r8(a+8);}
+*(rp(a)+fl)=1;
+w8(a+8,fl+1);
+hl=Ki&1;
+il=r8(a+160);
+if(r8(a+184)>il)jl=il;
 else{
-dl=make_ready_e3c(a+152);
-if(dl==0){
+kl=make_ready_e3c(a+152);
+if(!(kl&1)){
 F=0;
 goto L1;}
-cl=r8(a+160);}
-el=rp(a+152)+(cl<<5);
-*el=4;
-el[1]=0;
-x8(el+8,Ei);
-x8(el+16,ya);
-el[24]=al;
-w8(a+160,cl+1);
-Ea=0;
-Fa=0;
-Ga=1;
-Ha=3;
-goto L7;
-case 4:switch(xa){
-case 0:case 2:case 3:fl=Gi&1;
-if(r8(a+184)>zi){
-gl=Bi;
-hl=Ai;
-il=yi;}
-else{
-jl=make_ready_e3c(a+152);
-if(jl==0){
-F=0;
-goto L1;}
-kl=r8(a+160);
-gl=kl<<5;
-hl=rp(a+152);
-il=kl+1;}
-ll=hl+gl;
+jl=r8(a+160);}
+ll=rp(a+152)+(jl<<5);
 *ll=4;
 ll[1]=0;
-x8(ll+8,Ei);
-x8(ll+16,Fi);
-ll[24]=fl;
-w8(a+160,il);
-Ea=0;
-Fa=0;
-Ga=0;
-Ha=3;
-goto L7;
+x8(ll+8,Li);
+x8(ll+16,Fa);
+ll[24]=hl;
+w8(a+160,jl+1);
+La=0;
+Ma=0;
+Na=1;
+Oa=3;
+goto L9;
+case 4:switch(Ea){
+case 0:case 2:case 3:ml=Ni&1;
+if(r8(a+184)>Gi){
+nl=Ii;
+ol=Hi;
+pl=Fi;}
+else{
+ql=make_ready_e3c(a+152);
+if(!(ql&1)){
+F=0;
+goto L1;}
+rl=r8(a+160);
+nl=rl<<5;
+ol=rp(a+152);
+pl=rl+1;}
+sl=ol+nl;
+*sl=4;
+sl[1]=0;
+x8(sl+8,Li);
+x8(sl+16,Mi);
+sl[24]=ml;
+w8(a+160,pl);
+La=0;
+Ma=0;
+Na=0;
+Oa=3;
+goto L9;
 case 1:case 4:F=0;
 goto L1;
 default:NEVER;
 }
 break;
-case 5:if(!xi){
+case 5:if(!Ei){
 F=0;
 goto L1;}
 if(!(a[80]&1)){
@@ -101530,157 +104850,157 @@ memcpy(f,a,40);
 memcpy(a,a+40,40);
 memcpy(a+40,f,40);
 a[80]=0;
-ml=r8(a+8);
-if(r8(a+32)>ml)nl=ml;
+tl=r8(a+8);
+if(r8(a+32)>tl)ul=tl;
 else{
-ol=make_ready_8e3(a,1,16);
-if(ol==0){
+vl=make_ready_8e3(a,1,16);
+if(!(vl&1)){
 F=0;
 goto L1;}
-nl=r8(a+8);}
-*(rp(a)+nl)=60;
-w8(a+8,nl+1);
-pl=r8(a+160);
-if(r8(a+184)>pl)ql=pl;
+ul=r8(a+8);}
+*(rp(a)+ul)=60;
+w8(a+8,ul+1);
+wl=r8(a+160);
+if(r8(a+184)>wl)xl=wl;
 else{
-rl=make_ready_e3c(a+152);
-if(rl==0){
+yl=make_ready_e3c(a+152);
+if(!(yl&1)){
 F=0;
 goto L1;}
-ql=r8(a+160);}
-sl=rp(a+152)+(ql<<5);
-*sl=9;
-sl[1]=0;
-x8(sl+8,Ei);
-x8(sl+16,ml);
-sl[24]=2;
-w8(a+160,ql+1);
-Ea=0;
-Fa=0;
-Ga=0;
-Ha=1;
-goto L7;
-case 9:switch(Gi){
-case 0:switch(xa){
-case 0:case 2:case 3:if(r8(a+136)<=Ei){
+xl=r8(a+160);}
+zl=rp(a+152)+(xl<<5);
+*zl=9;
+zl[1]=0;
+x8(zl+8,Li);
+x8(zl+16,tl);
+zl[24]=2;
+w8(a+160,xl+1);
+La=0;
+Ma=0;
+Na=0;
+Oa=1;
+goto L9;
+case 9:switch(Ni){
+case 0:switch(Ea){
+case 0:case 2:case 3:if(r8(a+136)<=Li){
 F=0;
 goto L1;}
-tl=r8(a+96);
-if(tl>65534){
+Al=r8(a+96);
+if(Al>65534){
 F=0;
 goto L1;}
-ul=r8(a+8);
-vl=a[80];
-if(r8(a+120)>tl)wl=tl;
+Bl=r8(a+8);
+Cl=a[80];
+if(r8(a+120)>Al)Dl=Al;
 else{
-xl=make_ready_b73(a+88);
-if(xl==0){
+El=make_ready_b73(a+88);
+if(!(El&1)){
 F=0;
 goto L1;}
-wl=r8(a+96);}
-yl=rp(a+88)+wl*24;
-x8(yl,Fi);
-x8(yl+8,ul);
-yl[16]=3;
-yl[17]=vl;
-z6(yl+18);
-w8(a+96,wl+1);
-w2(rp(a+128)+(i64)(Ei<<1),(u16)tl+1);
-Ea=3;
-Fa=Fi;
-Ga=0;
-Ha=2;
-goto L7;
+Dl=r8(a+96);}
+Fl=rp(a+88)+Dl*24;
+x8(Fl,Mi);
+x8(Fl+8,Bl);
+Fl[16]=3;
+Fl[17]=Cl;
+z6(Fl+18);
+w8(a+96,Dl+1);
+w2(rp(a+128)+(i64)(Li<<1),(u16)Al+1);
+La=3;
+Ma=Mi;
+Na=0;
+Oa=2;
+goto L9;
 case 1:case 4:F=0;
 goto L1;
 default:NEVER;
 }
 break;
-case 1:switch(xa){
-case 0:case 2:case 3:zl=r8(a+8);
-if(r8(a+32)>zl)Al=zl;
+case 1:switch(Ea){
+case 0:case 2:case 3:Gl=r8(a+8);
+if(r8(a+32)>Gl)Hl=Gl;
 else{
-Bl=make_ready_8e3(a,1,16);
-if(Bl==0){
+Il=make_ready_8e3(a,1,16);
+if(!(Il&1)){
 F=0;
 goto L1;}
-Al=r8(a+8);}
-*(rp(a)+Al)=93;
-Cl=Al+1;
-w8(a+8,Cl);
-if(r8(a+136)<=Ei){
+Hl=r8(a+8);}
+*(rp(a)+Hl)=93;
+Jl=Hl+1;
+w8(a+8,Jl);
+if(r8(a+136)<=Li){
 F=0;
 goto L1;}
-Dl=r8(a+96);
-if(Dl>65534){
+Kl=r8(a+96);
+if(Kl>65534){
 F=0;
 goto L1;}
-El=a[80];
-if(r8(a+120)>Dl)Fl=Dl;
+Ll=a[80];
+if(r8(a+120)>Kl)Ml=Kl;
 else{
-Gl=make_ready_b73(a+88);
-if(Gl==0){
+Nl=make_ready_b73(a+88);
+if(!(Nl&1)){
 F=0;
 goto L1;}
-Fl=r8(a+96);}
-Hl=rp(a+88)+Fl*24;
-x8(Hl,Fi);
-x8(Hl+8,Cl);
-Hl[16]=3;
-Hl[17]=El;
-z6(Hl+18);
-w8(a+96,Fl+1);
-w2(rp(a+128)+(i64)(Ei<<1),(u16)Dl+1);
-Ea=3;
-Fa=Fi;
-Ga=0;
-Ha=2;
-goto L7;
+Ml=r8(a+96);}
+Ol=rp(a+88)+Ml*24;
+x8(Ol,Mi);
+x8(Ol+8,Jl);
+Ol[16]=3;
+Ol[17]=Ll;
+z6(Ol+18);
+w8(a+96,Ml+1);
+w2(rp(a+128)+(i64)(Li<<1),(u16)Kl+1);
+La=3;
+Ma=Mi;
+Na=0;
+Oa=2;
+goto L9;
 case 1:case 4:F=0;
 goto L1;
 default:NEVER;
 }
 break;
-case 2:switch(xa){
-case 0:case 2:case 3:Il=r8(a+8);
-if(r8(a+32)>Il)Jl=Il;
+case 2:switch(Ea){
+case 0:case 2:case 3:Pl=r8(a+8);
+if(r8(a+32)>Pl)Ql=Pl;
 else{
-Kl=make_ready_8e3(a,1,16);
-if(Kl==0){
+Rl=make_ready_8e3(a,1,16);
+if(!(Rl&1)){
 F=0;
 goto L1;}
-Jl=r8(a+8);}
-*(rp(a)+Jl)=62;
-Ll=Jl+1;
-w8(a+8,Ll);
-if(r8(a+136)<=Ei){
+Ql=r8(a+8);}
+*(rp(a)+Ql)=62;
+Sl=Ql+1;
+w8(a+8,Sl);
+if(r8(a+136)<=Li){
 F=0;
 goto L1;}
-Ml=r8(a+96);
-if(Ml>65534){
+Tl=r8(a+96);
+if(Tl>65534){
 F=0;
 goto L1;}
-Nl=a[80];
-if(r8(a+120)>Ml)Ol=Ml;
+Ul=a[80];
+if(r8(a+120)>Tl)Vl=Tl;
 else{
-Pl=make_ready_b73(a+88);
-if(Pl==0){
+Wl=make_ready_b73(a+88);
+if(!(Wl&1)){
 F=0;
 goto L1;}
-Ol=r8(a+96);}
-Ql=rp(a+88)+Ol*24;
-x8(Ql,Fi);
-x8(Ql+8,Ll);
-Ql[16]=0;
-Ql[17]=Nl;
-z6(Ql+18);
-w8(a+96,Ol+1);
-w2(rp(a+128)+(i64)(Ei<<1),(u16)Ml+1);
-Ea=0;
-Fa=Fi;
-Ga=0;
-Ha=2;
-goto L7;
+Vl=r8(a+96);}
+Xl=rp(a+88)+Vl*24;
+x8(Xl,Mi);
+x8(Xl+8,Sl);
+Xl[16]=0;
+Xl[17]=Ul;
+z6(Xl+18);
+w8(a+96,Vl+1);
+w2(rp(a+128)+(i64)(Li<<1),(u16)Tl+1);
+La=0;
+Ma=Mi;
+Na=0;
+Oa=2;
+goto L9;
 case 1:case 4:F=0;
 goto L1;
 default:NEVER;
@@ -101689,196 +105009,196 @@ break;
 default:NEVER;
 }
 break;
-case 13:switch(xa){
-case 0:case 2:Rl=r8(a+192);
-if(Rl<c){
-if(*(b+Rl)==69){
-Sl=Rl+1;
-if(Sl>=c){
+case 13:switch(Ea){
+case 0:case 2:Yl=r8(a+192);
+if(Yl<c){
+if(*(b+Yl)==69){
+Zl=Yl+1;
+if(Zl>=c){
 F=0;
 goto L1;}
-if(*(b+Sl)!=76){
+if(*(b+Zl)!=76){
 F=0;
 goto L1;}
-Tl=Rl+2;
-if(Tl>=c){
+am=Yl+2;
+if(am>=c){
 F=0;
 goto L1;}
-if(*(b+Tl)!=95){
+if(*(b+am)!=95){
 F=0;
 goto L1;}
-w8(a+192,Rl+3);
-if(r8(a+136)<=Ei){
+w8(a+192,Yl+3);
+if(r8(a+136)<=Li){
 F=0;
 goto L1;}
-Ul=r8(a+96);
-if(Ul>65534){
+bm=r8(a+96);
+if(bm>65534){
 F=0;
 goto L1;}
-Vl=r8(a+8);
-Wl=a[80];
-if(r8(a+120)>Ul)Xl=Ul;
+cm=r8(a+8);
+dm=a[80];
+if(r8(a+120)>bm)em=bm;
 else{
-Yl=make_ready_b73(a+88);
-if(Yl==0){
+fm=make_ready_b73(a+88);
+if(!(fm&1)){
 F=0;
 goto L1;}
-Xl=r8(a+96);}
-Zl=rp(a+88)+Xl*24;
-x8(Zl,Fi);
-x8(Zl+8,Vl);
-Zl[16]=3;
-Zl[17]=Wl;
-z6(Zl+18);
-w8(a+96,Xl+1);
-w2(rp(a+128)+(i64)(Ei<<1),(u16)Ul+1);
-Ea=3;
-Fa=Fi;
-Ga=0;
-Ha=2;
-goto L7;}}
-am=r8(a+8);
-if(r8(a+32)-am<3){
-bm=make_ready_8e3(a,3,128);
-if(bm==0){
+em=r8(a+96);}
+gm=rp(a+88)+em*24;
+x8(gm,Mi);
+x8(gm+8,cm);
+gm[16]=3;
+gm[17]=dm;
+z6(gm+18);
+w8(a+96,em+1);
+w2(rp(a+128)+(i64)(Li<<1),(u16)bm+1);
+La=3;
+Ma=Mi;
+Na=0;
+Oa=2;
+goto L9;}}
+hm=r8(a+8);
+if(r8(a+32)-hm<3){
+im=make_ready_8e3(a,3,128);
+if(!(im&1)){
 F=0;
 goto L1;}
-cm=r8(a+8);}
-else cm=am;
-dm=r8(a+16);
-if(dm-cm<3){
-em=grow_amortized_e1a(a,3);
-if(!em){
+jm=r8(a+8);}
+else jm=hm;
+km=r8(a+16);
+if(km-jm<3){
+lm=grow_amortized_e1a(a,3);
+if(!lm){
 F=0;
 goto L1;}
-fm=r8(a+16);
-gm=r8(a+8);}
+mm=r8(a+16);
+nm=r8(a+8);}
 else{
-fm=dm;
-gm=cm;}
-hm=gm+3;
-im=rp(a);
+mm=km;
+nm=jm;}
+om=nm+3;
+pm=rp(a);
 z16(a+8);
-jm=im+(i64)gm;
-if((u64)jm-(u64)(u8*)t_4620<3)copy_bits_4f4((u8*)t_4620,jm,3);
-else memcpy(jm,(u8*)t_4620,3);
-wp(a,im);
-w8(a+8,hm);
-w8(a+16,fm);
-km=r8(a+160);
-if(r8(a+184)>km)lm=km;
+qm=pm+(i64)nm;
+if((u64)qm-(u64)(u8*)t_4620<3)copy_bits_4f4((u8*)t_4620,qm,3);
+else memcpy(qm,(u8*)t_4620,3);
+wp(a,pm);
+w8(a+8,om);
+w8(a+16,mm);
+rm=r8(a+160);
+if(r8(a+184)>rm)sm=rm;
 else{
-mm=make_ready_e3c(a+152);
-if(mm==0){
+tm=make_ready_e3c(a+152);
+if(!(tm&1)){
 F=0;
 goto L1;}
-lm=r8(a+160);}
-nm=rp(a+152)+(lm<<5);
-*nm=13;
-nm[1]=0;
-x8(nm+8,Ei);
-x8(nm+16,Fi);
-nm[24]=0;
-w8(a+160,lm+1);
-Ea=0;
-Fa=0;
-Ga=0;
-Ha=0;
-goto L7;
+sm=r8(a+160);}
+um=rp(a+152)+(sm<<5);
+*um=13;
+um[1]=0;
+x8(um+8,Li);
+x8(um+16,Mi);
+um[24]=0;
+w8(a+160,sm+1);
+La=0;
+Ma=0;
+Na=0;
+Oa=0;
+goto L9;
 case 1:case 3:case 4:F=0;
 goto L1;
 default:NEVER;
 }
 break;
-case 14:switch(xa){
-case 0:case 2:case 3:om=r8(a+192);
-pm=r8(a+8);
-if(r8(a+32)-pm<2){
-qm=make_ready_8e3(a,2,128);
-if(qm==0){
-F=0;
-goto L1;}
-rm=r8(a+8);}
-else rm=pm;
-*(rp(a)+rm)=59;
-*(rp(a)+(i64)rm+1)=32;
-sm=rm+2;
-w8(a+8,sm);
-tm=constant_at_b72(a,b,c,om);
-if(tm.f0!=1){
-F=0;
-goto L1;}
-if(r8(a+136)<=om){
-F=0;
-goto L1;}
-um=r8(a+96);
-if(um>65534){
-F=0;
-goto L1;}
-vm=tm.f1;
+case 14:switch(Ea){
+case 0:case 2:case 3:vm=r8(a+192);
 wm=r8(a+8);
-xm=a[80];
-if(r8(a+120)>um)ym=um;
+if(r8(a+32)-wm<2){
+xm=make_ready_8e3(a,2,128);
+if(!(xm&1)){
+F=0;
+goto L1;}
+ym=r8(a+8);}
+else ym=wm;
+*(rp(a)+ym)=59;
+*(rp(a)+(i64)ym+1)=32;
+zm=ym+2;
+w8(a+8,zm);
+Am=constant_at_b72(a,b,c,vm);
+if(Am.f0!=1){
+F=0;
+goto L1;}
+if(r8(a+136)<=vm){
+F=0;
+goto L1;}
+Bm=r8(a+96);
+if(Bm>65534){
+F=0;
+goto L1;}
+Cm=Am.f1;
+Dm=r8(a+8);
+Em=a[80];
+if(r8(a+120)>Bm)Fm=Bm;
 else{
-zm=make_ready_b73(a+88);
-if(zm==0){
+Gm=make_ready_b73(a+88);
+if(!(Gm&1)){
 F=0;
 goto L1;}
-ym=r8(a+96);}
-Am=rp(a+88)+ym*24;
-x8(Am,sm);
-x8(Am+8,wm);
-Am[16]=4;
-Am[17]=xm;
-z6(Am+18);
-w8(a+96,ym+1);
-w2(rp(a+128)+(i64)(om<<1),(u16)um+1);
-w8(a+192,vm);
-Bm=r8(a+8);
-if(r8(a+32)>Bm)Cm=Bm;
+Fm=r8(a+96);}
+Hm=rp(a+88)+Fm*24;
+x8(Hm,zm);
+x8(Hm+8,Dm);
+Hm[16]=4;
+Hm[17]=Em;
+z6(Hm+18);
+w8(a+96,Fm+1);
+w2(rp(a+128)+(i64)(vm<<1),(u16)Bm+1);
+w8(a+192,Cm);
+Im=r8(a+8);
+if(r8(a+32)>Im)Jm=Im;
 else{
-Dm=make_ready_8e3(a,1,16);
-if(Dm==0){
+Km=make_ready_8e3(a,1,16);
+if(!(Km&1)){
 F=0;
 goto L1;}
-Cm=r8(a+8);}
-*(rp(a)+Cm)=93;
-Em=Cm+1;
-w8(a+8,Em);
-if(r8(a+136)<=Ei){
+Jm=r8(a+8);}
+*(rp(a)+Jm)=93;
+Lm=Jm+1;
+w8(a+8,Lm);
+if(r8(a+136)<=Li){
 F=0;
 goto L1;}
-Fm=r8(a+96);
-if(Fm>65534){
+Mm=r8(a+96);
+if(Mm>65534){
 F=0;
 goto L1;}
-Gm=a[80];
-if(r8(a+120)>Fm)Hm=Fm;
+Nm=a[80];
+if(r8(a+120)>Mm)Om=Mm;
 else{
-Im=make_ready_b73(a+88);
-if(Im==0){
+Pm=make_ready_b73(a+88);
+if(!(Pm&1)){
 F=0;
 goto L1;}
-Hm=r8(a+96);}
-Jm=rp(a+88)+Hm*24;
-x8(Jm,Fi);
-x8(Jm+8,Em);
-Jm[16]=3;
-Jm[17]=Gm;
-z6(Jm+18);
-w8(a+96,Hm+1);
-w2(rp(a+128)+(i64)(Ei<<1),(u16)Fm+1);
-Ea=3;
-Fa=Fi;
-Ga=0;
-Ha=2;
-goto L7;
+Om=r8(a+96);}
+Qm=rp(a+88)+Om*24;
+x8(Qm,Mi);
+x8(Qm+8,Lm);
+Qm[16]=3;
+Qm[17]=Nm;
+z6(Qm+18);
+w8(a+96,Om+1);
+w2(rp(a+128)+(i64)(Li<<1),(u16)Mm+1);
+La=3;
+Ma=Mi;
+Na=0;
+Oa=2;
+goto L9;
 case 1:case 4:F=0;
 goto L1;
 default:NEVER;
 }
 break;
-case 6:if(!xi){
+case 6:if(!Ei){
 F=0;
 goto L1;}
 if(!(a[80]&1)){
@@ -101888,44 +105208,11 @@ memcpy(e,a,40);
 memcpy(a,a+40,40);
 memcpy(a+40,e,40);
 a[80]=0;
-Km=r8(a+8);
-if(r8(a+32)>Km)Lm=Km;
-else{
-Mm=make_ready_8e3(a,1,16);
-if(Mm==0){
-F=0;
-goto L1;}
-Lm=r8(a+8);}
-*(rp(a)+Lm)=60;
-w8(a+8,Lm+1);
-Nm=r8(a+160);
-if(r8(a+184)>Nm)Om=Nm;
-else{
-Pm=make_ready_e3c(a+152);
-if(Pm==0){
-F=0;
-goto L1;}
-Om=r8(a+160);}
-Qm=rp(a+152)+(Om<<5);
-*Qm=10;
-Qm[1]=0;
-x8(Qm+8,Ei);
-x8(Qm+16,Km);
-Qm[24]=0;
-w8(a+160,Om+1);
-Ea=0;
-Fa=0;
-Ga=0;
-Ha=1;
-goto L7;
-case 7:if(!xi){
-F=0;
-goto L1;}
 Rm=r8(a+8);
 if(r8(a+32)>Rm)Sm=Rm;
 else{
 Tm=make_ready_8e3(a,1,16);
-if(Tm==0){
+if(!(Tm&1)){
 F=0;
 goto L1;}
 Sm=r8(a+8);}
@@ -101935,30 +105222,30 @@ Um=r8(a+160);
 if(r8(a+184)>Um)Vm=Um;
 else{
 Wm=make_ready_e3c(a+152);
-if(Wm==0){
+if(!(Wm&1)){
 F=0;
 goto L1;}
 Vm=r8(a+160);}
 Xm=rp(a+152)+(Vm<<5);
-*Xm=9;
+*Xm=10;
 Xm[1]=0;
-x8(Xm+8,Ei);
+x8(Xm+8,Li);
 x8(Xm+16,Rm);
-Xm[24]=2;
+Xm[24]=0;
 w8(a+160,Vm+1);
-Ea=0;
-Fa=0;
-Ga=0;
-Ha=1;
-goto L7;
-case 8:if(!xi){
+La=0;
+Ma=0;
+Na=0;
+Oa=1;
+goto L9;
+case 7:if(!Ei){
 F=0;
 goto L1;}
 Ym=r8(a+8);
 if(r8(a+32)>Ym)Zm=Ym;
 else{
 an=make_ready_8e3(a,1,16);
-if(an==0){
+if(!(an&1)){
 F=0;
 goto L1;}
 Zm=r8(a+8);}
@@ -101968,116 +105255,149 @@ bn=r8(a+160);
 if(r8(a+184)>bn)cn=bn;
 else{
 dn=make_ready_e3c(a+152);
-if(dn==0){
+if(!(dn&1)){
 F=0;
 goto L1;}
 cn=r8(a+160);}
 en=rp(a+152)+(cn<<5);
-*en=10;
+*en=9;
 en[1]=0;
-x8(en+8,Ei);
+x8(en+8,Li);
 x8(en+16,Ym);
-en[24]=0;
+en[24]=2;
 w8(a+160,cn+1);
-Ea=0;
-Fa=0;
-Ga=0;
-Ha=1;
-goto L7;
-case 10:switch(xa){
-case 0:case 2:case 3:fn=r8(a+8);
-if(r8(a+32)-fn<4){
-gn=make_ready_8e3(a,4,128);
-if(gn==0){
+La=0;
+Ma=0;
+Na=0;
+Oa=1;
+goto L9;
+case 8:if(!Ei){
 F=0;
 goto L1;}
-hn=r8(a+8);}
-else hn=fn;
-in=r8(a+16);
-if(in-hn<4){
-jn=grow_amortized_e1a(a,4);
-if(!jn){
-F=0;
-goto L1;}
-kn=r8(a+16);
-ln=r8(a+8);}
+fn=r8(a+8);
+if(r8(a+32)>fn)gn=fn;
 else{
-kn=in;
-ln=hn;}
-mn=ln+4;
-nn=rp(a);
+hn=make_ready_8e3(a,1,16);
+if(!(hn&1)){
+F=0;
+goto L1;}
+gn=r8(a+8);}
+*(rp(a)+gn)=60;
+w8(a+8,gn+1);
+in=r8(a+160);
+if(r8(a+184)>in)jn=in;
+else{
+kn=make_ready_e3c(a+152);
+if(!(kn&1)){
+F=0;
+goto L1;}
+jn=r8(a+160);}
+ln=rp(a+152)+(jn<<5);
+*ln=10;
+ln[1]=0;
+x8(ln+8,Li);
+x8(ln+16,fn);
+ln[24]=0;
+w8(a+160,jn+1);
+La=0;
+Ma=0;
+Na=0;
+Oa=1;
+goto L9;
+case 10:switch(Ea){
+case 0:case 2:case 3:mn=r8(a+8);
+if(r8(a+32)-mn<4){
+nn=make_ready_8e3(a,4,128);
+if(!(nn&1)){
+F=0;
+goto L1;}
+on=r8(a+8);}
+else on=mn;
+pn=r8(a+16);
+if(pn-on<4){
+qn=grow_amortized_e1a(a,4);
+if(!qn){
+F=0;
+goto L1;}
+rn=r8(a+16);
+sn=r8(a+8);}
+else{
+rn=pn;
+sn=on;}
+tn=sn+4;
+un=rp(a);
 z16(a+8);
-on=nn+(i64)ln;
-if((u64)on-(u64)(u8*)t_fa21<4)copy_bits_4f4((u8*)t_fa21,on,4);
-else x4(on,544432416);
-wp(a,nn);
-w8(a+8,mn);
-w8(a+16,kn);
-pn=r8(a+160);
-if(r8(a+184)>pn)qn=pn;
+vn=un+(i64)sn;
+if((u64)vn-(u64)(u8*)t_fa21<4)copy_bits_4f4((u8*)t_fa21,vn,4);
+else x4(vn,544432416);
+wp(a,un);
+w8(a+8,tn);
+w8(a+16,rn);
+wn=r8(a+160);
+if(r8(a+184)>wn)xn=wn;
 else{
-rn=make_ready_e3c(a+152);
-if(rn==0){
+yn=make_ready_e3c(a+152);
+if(!(yn&1)){
 F=0;
 goto L1;}
-qn=r8(a+160);}
-sn=rp(a+152)+(qn<<5);
-*sn=11;
-sn[1]=0;
-x8(sn+8,Ei);
-x8(sn+16,Fi);
-sn[24]=0;
-w8(a+160,qn+1);
-Ea=0;
-Fa=0;
-Ga=0;
-Ha=0;
-goto L7;
+xn=r8(a+160);}
+zn=rp(a+152)+(xn<<5);
+*zn=11;
+zn[1]=0;
+x8(zn+8,Li);
+x8(zn+16,Mi);
+zn[24]=0;
+w8(a+160,xn+1);
+La=0;
+Ma=0;
+Na=0;
+Oa=0;
+goto L9;
 case 1:case 4:F=0;
 goto L1;
 default:NEVER;
 }
 break;
-case 11:switch(xa){
-case 0:case 2:tn=r8(a+8);
-if(r8(a+32)>tn)un=tn;
+case 11:switch(Ea){
+case 0:case 2:An=r8(a+8);
+if(r8(a+32)>An)Bn=An;
 else{
-vn=make_ready_8e3(a,1,16);
-if(vn==0){
+Cn=make_ready_8e3(a,1,16);
+if(!(Cn&1)){
 F=0;
 goto L1;}
-un=r8(a+8);}
-*(rp(a)+un)=62;
-wn=un+1;
-w8(a+8,wn);
-if(r8(a+136)<=Ei){
+Bn=r8(a+8);}
+*(rp(a)+Bn)=62;
+Dn=Bn+1;
+w8(a+8,Dn);
+if(r8(a+136)<=Li){
 F=0;
 goto L1;}
-xn=r8(a+96);
-if(xn>65534){
+En=r8(a+96);
+if(En>65534){
 F=0;
 goto L1;}
-yn=a[80];
-if(r8(a+120)>xn)zn=xn;
+Fn=a[80];
+if(r8(a+120)>En)Gn=En;
 else{
-An=make_ready_b73(a+88);
-if(An==0){
+Hn=make_ready_b73(a+88);
+if(!(Hn&1)){
 F=0;
 goto L1;}
-zn=r8(a+96);}
-Bn=rp(a+88)+zn*24;
-x8(Bn,Fi);
-x8(Bn+8,wn);
-Bn[16]=0;
-Bn[17]=yn;
-z6(Bn+18);
-w8(a+96,zn+1);
-w2(rp(a+128)+(i64)(Ei<<1),(u16)xn+1);
-Ea=0;
-Fa=Fi;
-Ga=0;
-Ha=2;
-goto L7;
+Gn=r8(a+96);}
+In=rp(a+88)+Gn*24;
+x8(In,Mi);
+x8(In+8,Dn);
+In[16]=0;
+In[17]=Fn;
+z6(In+18);
+w8(a+96,Gn+1);
+w2(rp(a+128)+(i64)(Li<<1),(u16)En+1);
+La=0;
+Ma=Mi;
+Na=0;
+Oa=2;
+goto L9;
 case 1:case 3:case 4:F=0;
 goto L1;
 default:NEVER;
@@ -102085,20 +105405,20 @@ default:NEVER;
 break;
 default:NEVER;
 }
-if(Mi!=1){
+if(Ti!=1){
 F=0;
 goto L1;}
-Ea=Qi;
-Fa=Pi;
-Ga=Oi;
-Ha=Ni;
-L7:Cn=N+1;
-if(Cn!=M){
-N=Cn;
-O=Ea;
-P=Fa;
-Q=Ga;
-R=Ha;
+La=Xi;
+Ma=Wi;
+Na=Vi;
+Oa=Ui;
+L9:Jn=N+1;
+if(Jn!=M){
+N=Jn;
+O=La;
+P=Ma;
+Q=Na;
+R=Oa;
 goto L2;}
 F=0;}}
 else F=0;}
@@ -102256,9 +105576,9 @@ n=d+3;
 switch(*(b+l)){
 case 48:if(r8(a+32)-r8(a+8)<5){
 o=make_ready_8e3(a,5,128);
-if(o==0)goto L2;}
+if(!(o&1))goto L2;}
 p=push_str_b7e(a,(u8*)t_fcbc,5);
-if(p==0){
+if(!(p&1)){
 f=n;
 g=1;
 break;}
@@ -102267,9 +105587,9 @@ g=0;
 break;
 case 49:if(r8(a+32)-r8(a+8)<4){
 q=make_ready_8e3(a,4,128);
-if(q==0)goto L3;}
+if(!(q&1))goto L3;}
 r=push_str_b7e(a,(u8*)t_b5be,4);
-if(r==0){
+if(!(r&1)){
 f=n;
 g=1;
 break;}
@@ -102291,7 +105611,7 @@ t=r8(a+8);
 if(r8(a+32)>t)u=t;
 else{
 v=make_ready_8e3(a,1,16);
-if(v==0){
+if(!(v&1)){
 f=0;
 g=0;
 break;}
@@ -102379,7 +105699,7 @@ A=z?(u8*)t_3973:(u8*)t_z0;
 B=r8(a+8);
 if(r8(a+32)-B<z){
 C=make_ready_8e3(a,z,128);
-if(C==0){
+if(!(C&1)){
 f=0;
 g=0;
 goto L5;}
@@ -102407,7 +105727,7 @@ wp(a,J);
 w8(a+8,I);
 w8(a+16,G);
 L=push_decimal_701(a,r);
-f=L==0?0:o;
+f=(L&1)?o:0;
 g=L;}
 else{
 f=0;
@@ -102421,10 +105741,10 @@ return N;
 static u8 push_decimal_701(u8* a,u64 b)
 {
 u8 c[40];
-u64 d,e,f,g,h,m,q,r,s,B,C,H,I,L,M,O,P,Q;
+u64 d,e,f,g,h,m,q,r,s,B,C,H,I,K,M,O,P,Q;
 u16 i,w,A;
 u8 *j,*k,*n,*o,*t,*u,*x,*y,*D,*E,*G,*R,*S;
-u8 l,p,v,z,F,J,K,N;
+u8 l,p,v,z,F,J,L,N;
 z40(c);
 if(b<=9999){
 f=40;
@@ -102489,22 +105809,22 @@ H=40-r;
 I=r8(a+8);
 if(r8(a+32)-I<H){
 J=make_ready_8e3(a,H,128);
-if(J==0){
-K=0;
+if(!(J&1)){
+L=0;
 goto L3;}
-L=r8(a+8);}
-else L=I;
+K=r8(a+8);}
+else K=I;
 M=r8(a+16);
-if(H>M-L){
+if(H>M-K){
 N=grow_amortized_e1a(a,H);
 if(!N){
-K=0;
+L=0;
 goto L3;}
 O=r8(a+16);
 P=r8(a+8);}
 else{
 O=M;
-P=L;}
+P=K;}
 Q=P+H;
 R=rp(a);
 z16(a+8);
@@ -102514,8 +105834,8 @@ else memcpy(S,G,H);
 wp(a,R);
 w8(a+8,Q);
 w8(a+16,O);
-K=1;
-L3:return K;
+L=1;
+L3:return L;
 }
 
 /* rust_direct::hashes::any_disambiguator_end */
@@ -102757,7 +106077,7 @@ q=r8(b+160);
 if(r8(b+184)>q)r=q;
 else{
 s=make_ready_e3c(b+152);
-if(s==0){
+if(!(s&1)){
 x8(a,0);
 a[8]=0;
 a[9]=0;
@@ -102809,7 +106129,7 @@ j=d;
 k=e;}
 else{
 l=make_ready_e3c(b+152);
-if(l==0){
+if(!(l&1)){
 f=0;
 break;}
 j=rp(b+152);
@@ -102896,7 +106216,7 @@ q=r8(b+160);
 if(r8(b+184)>q)r=q;
 else{
 s=make_ready_e3c(b+152);
-if(s==0){
+if(!(s&1)){
 x8(a,0);
 a[8]=0;
 a[9]=0;
@@ -102948,7 +106268,7 @@ j=d;
 k=e;}
 else{
 l=make_ready_e3c(b+152);
-if(l==0){
+if(!(l&1)){
 f=0;
 break;}
 j=rp(b+152);
@@ -102990,7 +106310,7 @@ f=r8(b+8);
 g=c+1;
 if(r8(b+32)==f){
 h=make_ready_8e3(b,1,128);
-if(h==0){
+if(!(h&1)){
 d=0;
 e=0;
 goto L1;}
@@ -103021,7 +106341,7 @@ q=r8(b+160);
 if(r8(b+184)>q)r=q;
 else{
 s=make_ready_e3c(b+152);
-if(s==0){
+if(!(s&1)){
 d=0;
 e=0;
 goto L1;}
@@ -103047,9 +106367,9 @@ return;
 /* rust_direct::direct::Direct::repeat */
 static u8 repeat_2ff(u8* a,u8* b)
 {
-u64 c,d,f,g,j,k,m,n,o;
+u64 c,d,f,g,i,k,m,n,o;
 u8 *e,*p,*q;
-u8 h,i,l,r;
+u8 h,j,l,r;
 c=q8(b);
 d=q8(b+8);
 if((u8)(a[80]^b[17])&1){
@@ -103059,22 +106379,22 @@ f=d-c;
 g=r8(a+8);
 if(r8(a+32)-g<f){
 h=make_ready_8e3(a,f,128);
-if(h==0){
-i=0;
+if(!(h&1)){
+j=0;
 goto L1;}
-j=r8(a+8);}
-else j=g;
+i=r8(a+8);}
+else i=g;
 k=r8(a+16);
-if(f>k-j){
+if(f>k-i){
 l=grow_amortized_e1a(a,f);
 if(!l){
-i=0;
+j=0;
 goto L1;}
 m=r8(a+16);
 n=r8(a+8);}
 else{
 m=k;
-n=j;}
+n=i;}
 o=n+f;
 p=rp(a);
 z16(a+8);
@@ -103084,16 +106404,16 @@ else memmove(q,e,f);
 wp(a,p);
 w8(a+8,o);
 w8(a+16,m);
-i=1;}
-else i=0;}
+j=1;}
+else j=0;}
 else{
-if(d<c)i=0;
+if(d<c)j=0;
 else{
-if(r8(a+8)<d)i=0;
+if(r8(a+8)<d)j=0;
 else{
 r=repeat_28b(a,c,d);
-i=r;}}}
-L1:return i;
+j=r;}}}
+L1:return j;
 }
 
 /* rust_direct::direct::Direct::unnamed_ended */
@@ -103112,7 +106432,7 @@ m=a[80];
 if(r8(a+120)>j)n=j;
 else{
 o=make_ready_b73(a+88);
-if(o==0){
+if(!(o&1)){
 k=0;
 goto L1;}
 n=r8(a+96);}
@@ -103247,7 +106567,7 @@ ea=a[80];
 if(r8(a+120)>ca)fa=ca;
 else{
 ga=make_ready_b73(a+88);
-if(ga==0){
+if(!(ga&1)){
 k=0;
 goto L1;}
 fa=r8(a+96);}
@@ -103308,7 +106628,7 @@ goto L1;}
 o=r8(b+8);
 if(r8(b+32)-o<2){
 p=make_ready_8e3(b,2,128);
-if(p==0){
+if(!(p&1)){
 h=0;
 i=0;
 goto L2;}
@@ -103337,7 +106657,7 @@ w8(b+8,v);
 w8(b+16,t);
 if(r8(b+32)-v<g){
 y=make_ready_8e3(b,g,128);
-if(y==0){
+if(!(y&1)){
 h=0;
 i=0;
 goto L2;}
@@ -103368,7 +106688,7 @@ w8(b+8,E);
 w8(b+16,C);
 if(r8(b+32)==E){
 H=make_ready_8e3(b,1,128);
-if(H==0){
+if(!(H&1)){
 h=0;
 i=0;
 goto L2;}
@@ -103635,12 +106955,7 @@ goto L3;}
 aa=ta>>32;
 ba=ta&4294967295u;
 L7:ua=push_special_c7d(b,h,i,c+(i64)ba,aa-ba,P);
-if(ua==0){
-s=0;
-t=0;
-u=0;
-v=0;}
-else{
+if(ua&1){
 w8(b+192,aa);
 if(r8(b+136)>g){
 va=r8(b+96);
@@ -103655,7 +106970,7 @@ xa=b[80];
 if(r8(b+120)>va)ya=va;
 else{
 za=make_ready_b73(b+88);
-if(za==0){
+if(!(za&1)){
 s=0;
 t=0;
 u=0;
@@ -103679,6 +106994,11 @@ s=0;
 t=0;
 u=0;
 v=0;}}
+else{
+s=0;
+t=0;
+u=0;
+v=0;}
 L3:x8(a,s);
 a[8]=t;
 a[9]=0;
@@ -103690,28 +107010,28 @@ return;
 /* rust_direct::direct::Direct::push_special */
 static u8 push_special_c7d(u8* a,u8* b,u64 c,u8* d,u64 e,u64 f)
 {
-u64 g,j,k,m,n,o,s,t,v,w,x,B,D,F,H,I,K,L,M,Q,T,U;
-u8 h,i,l,r,u,E,G,J,R,S,V;
+u64 g,i,k,m,n,o,s,t,v,w,x,B,D,F,H,I,K,L,M,Q,T,U;
+u8 h,j,l,r,u,E,G,J,R,S,V;
 u8 *p,*q,*y,*z,*A,*C,*N,*O,*P;
 g=r8(a+8);
 if(r8(a+32)-g<3){
 h=make_ready_8e3(a,3,128);
-if(h==0){
-i=0;
+if(!(h&1)){
+j=0;
 goto L1;}
-j=r8(a+8);}
-else j=g;
+i=r8(a+8);}
+else i=g;
 k=r8(a+16);
-if(k-j<3){
+if(k-i<3){
 l=grow_amortized_e1a(a,3);
 if(!l){
-i=0;
+j=0;
 goto L1;}
 m=r8(a+16);
 n=r8(a+8);}
 else{
 m=k;
-n=j;}
+n=i;}
 o=n+3;
 p=rp(a);
 z16(a+8);
@@ -103723,8 +107043,8 @@ w8(a+8,o);
 w8(a+16,m);
 if(r8(a+32)-o<c){
 r=make_ready_8e3(a,c,128);
-if(r==0){
-i=0;
+if(!(r&1)){
+j=0;
 goto L1;}
 s=r8(a+8);
 t=r8(a+16);}
@@ -103734,7 +107054,7 @@ t=m;}
 if(c>t-s){
 u=grow_amortized_e1a(a,c);
 if(!u){
-i=0;
+j=0;
 goto L1;}
 v=r8(a+16);
 w=r8(a+8);}
@@ -103759,8 +107079,8 @@ C=y;
 D=x;}
 else{
 E=make_ready_8e3(a,1,16);
-if(E==0){
-i=0;
+if(!(E&1)){
+j=0;
 goto L1;}
 C=rp(a);
 D=r8(a+8);}
@@ -103769,8 +107089,8 @@ F=D+1;
 w8(a+8,F);
 if(r8(a+32)-F<e){
 G=make_ready_8e3(a,e,128);
-if(G==0){
-i=0;
+if(!(G&1)){
+j=0;
 goto L1;}
 H=r8(a+8);}
 else H=F;
@@ -103778,7 +107098,7 @@ I=r8(a+16);
 if(e>I-H){
 J=grow_amortized_e1a(a,e);
 if(!J){
-i=0;
+j=0;
 goto L1;}
 K=r8(a+16);
 L=r8(a+8);}
@@ -103801,28 +107121,28 @@ P=A;
 Q=B;}
 else{
 R=make_ready_8e3(a,1,16);
-if(R==0){
-i=0;
+if(!(R&1)){
+j=0;
 goto L1;}
 P=rp(a);
 Q=r8(a+8);}
 *(P+Q)=35;
 w8(a+8,Q+1);
 S=push_decimal_701(a,f);
-if(S==0)i=0;
-else{
+if(S&1){
 T=r8(a+8);
 if(r8(a+32)>T)U=T;
 else{
 V=make_ready_8e3(a,1,16);
-if(V==0){
-i=0;
+if(!(V&1)){
+j=0;
 goto L1;}
 U=r8(a+8);}
 *(rp(a)+U)=125;
 w8(a+8,U+1);
-i=1;}
-L1:return i;
+j=1;}
+else j=0;
+L1:return j;
 }
 
 /* sym_languages::languages::append_in */
@@ -104262,8 +107582,8 @@ static u8 run_41f(u8* a,u8* b,u64 c,u32 d)
 {
 u8 h[1];
 A16 u8 e[40],f[40],g[32],i[40],j[32],k[40],l[32],m[12],n[12],o[12],p[24],q[12],r[12],s[12],t[32],u[24],v[12],w[12],x[12],y[32];
-u64 z,A,B,D,E,G,I,J,M,N,P,T,V,W,Y,Z,ba,ca,ea,fa,ia,ma,oa,pa,ra,ta,wa,xa,za,Aa,Ba,Da,Ga,Ia,Ja,Ka,La,Na,Oa,Pa,Ra,Sa,Ta,Va,Ya,cb,db,eb,fb,gb,jb,kb,lb,ob,qb,rb,sb,vb,wb,xb,yb,Ab,Bb,Cb,Db,Hb,Ib,Jb,Kb,Mb,Nb,Ob,Pb,Rb,Ub,Vb,Xb,Yb,ac,dc,fc,gc,mc,oc,pc,qc,rc,tc,vc,wc,yc,zc,Ac,Dc,Ec,Hc,Ic,Jc,Kc,Mc,Oc,Pc,Rc,Sc,Tc,Wc,Xc,ad,bd,dd,fd,gd,id,jd,kd,nd,od,sd,td,vd,yd,zd,Bd,Cd,Dd,Gd,Hd,Kd,Ld,Nd,Pd,Qd,Sd,Td,Ud,Xd,Yd,be,ce,ee,ge,he,je,ke,le,oe,pe,se,te,ue,ve,we,xe,ye,Ae,Ce,De,Ee,Fe,He,Ie,Je,Ke,Le,Ne,Oe,Pe,Re,Se,Te,Ve,Ze,af,cf,ff,gf,jf,lf,mf,pf,qf,sf,tf,uf,wf,xf,yf,Bf,Cf,Ff,Hf,Jf,Kf,Mf,Nf,Of,Rf,Sf,Uf,Xf,cg,gg,ig,jg,lg,mg,sg,ug,wg,xg,yg,zg,Ag,Dg,Eg,Fg,Ig,Kg,Lg,Mg,Pg,Qg,Rg,Sg,Ug,Vg,Wg,Xg,bh,ch,dh,eh,gh,hh,ih,jh,lh,oh,ph,rh,sh,uh,xh,yh,zh,Ah,Bh,Ch,Dh,Fh,Hh,Ih,Jh,Kh,Mh,Nh,Oh,Ph,Qh,Sh,Th,Uh,Wh,Xh,Yh,ai,ei,fi,hi,ki,mi,ni,pi,si,ti,yi,Di,Fi,Gi,Hi,Ki,Li,Mi,Pi,Ri,Si,Ti,Wi,Yi,Zi,bj,dj,ej,fj,gj,kj,mj,nj,oj,qj,rj,sj,tj,vj,xj,yj,Aj,Cj,Dj,Fj,Gj,Hj,Kj,Nj,Pj,Sj,Tj,Uj,Wj,Yj,dk,ik,kk,mk,ok,qk,rk,tk,uk,vk,yk,Ak,Dk,Fk,Gk,Hk,Lk,Mk,Ok,Qk,Rk,Tk,Uk,Vk,Zk,al,el,gl,il,kl,ll,nl,ol,rl,sl,ul,xl,yl,Al,Bl,Dl,Gl,Hl,Jl,Kl,Ml,Pl,Ql,Rl,Sl,Tl,Vl,Yl,am,bm,dm,em,fm,im,jm,mm,nm,pm,qm,sm,tm,um,wm,zm,Am,Cm,Dm,Fm,Im,Jm,Lm,Mm,Pm,Qm,Sm,Tm,Wm,Xm,Zm,an,dn,fn,gn,in,jn,kn,nn,on,rn,sn,un,vn,xn,An;
-u8 C,F,K,O,Q,R,S,U,aa,da,ga,ha,ja,la,na,qa,sa,ua,va,Ca,Ea,Ha,Ma,Ua,Wa,Za,ab,bb,ib,nb,pb,ub,Eb,Gb,Sb,Tb,Wb,Zb,bc,ec,hc,ic,jc,kc,lc,nc,sc,uc,xc,Fc,Lc,Nc,Qc,Yc,cd,ed,hd,pd,ud,xd,Ad,Id,Md,Od,Rd,Zd,de,fe,ie,qe,ze,Be,Me,Qe,Xe,Ye,bf,df,hf,kf,nf,rf,vf,Df,If,Lf,Tf,Vf,Wf,Yf,bg,dg,eg,fg,hg,kg,ng,og,pg,qg,rg,tg,Cg,Hg,Jg,Og,Yg,ah,mh,nh,qh,th,vh,Eh,Gh,Rh,Vh,ci,di,gi,ii,li,ri,ui,vi,wi,xi,zi,Ai,Bi,Ci,Ei,Ji,Oi,Qi,Vi,Xi,aj,hj,jj,lj,uj,wj,Bj,Ej,Mj,Oj,Qj,Xj,ak,bk,ck,ek,fk,gk,hk,jk,lk,pk,sk,zk,Bk,Ek,Ik,Kk,Nk,Pk,Sk,Yk,bl,dl,hl,ml,pl,tl,vl,zl,Cl,El,Il,Ll,Nl,Ul,Wl,Zl,cm,km,om,vm,xm,Bm,Em,Gm,Km,Nm,Rm,Um,Ym,bn,en,hn,pn,tn,wn,yn;
+u64 z,A,B,D,E,G,I,J,M,N,P,T,V,W,Y,Z,ba,ca,ea,fa,ia,ma,oa,pa,ra,ta,wa,xa,za,Aa,Ba,Da,Ga,Ia,Ja,Ka,La,Na,Oa,Pa,Ra,Sa,Ta,Va,Ya,cb,db,eb,fb,gb,jb,kb,lb,ob,qb,rb,sb,vb,wb,xb,yb,Ab,Bb,Cb,Db,Hb,Ib,Jb,Kb,Mb,Nb,Ob,Pb,Rb,Ub,Vb,Xb,Yb,ac,dc,fc,gc,mc,oc,pc,qc,rc,tc,vc,wc,yc,zc,Ac,Dc,Ec,Hc,Ic,Jc,Kc,Mc,Oc,Pc,Rc,Sc,Tc,Wc,Xc,ad,bd,dd,ed,gd,id,jd,kd,nd,od,sd,td,vd,xd,zd,Bd,Cd,Dd,Gd,Hd,Kd,Ld,Nd,Od,Qd,Sd,Td,Ud,Xd,Yd,be,ce,ee,fe,he,je,ke,le,oe,pe,se,te,ue,ve,we,xe,ye,Ae,Ce,De,Ee,Fe,He,Ie,Je,Ke,Le,Ne,Oe,Pe,Re,Se,Te,Ve,Ze,af,cf,ff,gf,jf,lf,mf,pf,qf,sf,tf,uf,wf,xf,yf,Bf,Cf,Ff,Hf,Jf,Kf,Mf,Nf,Of,Rf,Sf,Uf,Xf,cg,gg,ig,jg,lg,mg,sg,ug,wg,xg,yg,zg,Ag,Dg,Eg,Fg,Ig,Kg,Lg,Mg,Pg,Qg,Rg,Sg,Ug,Vg,Wg,Xg,bh,ch,dh,eh,gh,hh,ih,jh,lh,oh,ph,rh,sh,uh,xh,yh,zh,Ah,Bh,Ch,Dh,Fh,Hh,Ih,Jh,Kh,Mh,Nh,Oh,Ph,Qh,Sh,Th,Uh,Wh,Xh,Yh,ai,ei,fi,hi,ki,mi,ni,pi,si,ti,yi,Di,Fi,Gi,Hi,Ki,Li,Mi,Pi,Ri,Si,Ti,Wi,Yi,Zi,bj,dj,ej,fj,gj,kj,mj,nj,oj,qj,rj,sj,tj,vj,xj,yj,Aj,Cj,Dj,Fj,Gj,Hj,Kj,Nj,Pj,Sj,Tj,Uj,Wj,Yj,dk,ik,kk,mk,ok,qk,rk,tk,uk,vk,yk,Ak,Dk,Fk,Gk,Hk,Lk,Mk,Ok,Qk,Rk,Tk,Uk,Vk,Zk,al,el,gl,il,kl,ll,nl,ol,rl,sl,ul,xl,yl,Al,Bl,Dl,Gl,Hl,Jl,Kl,Ml,Pl,Ql,Rl,Sl,Tl,Vl,Yl,am,bm,dm,em,fm,im,jm,mm,nm,pm,qm,sm,tm,um,wm,zm,Am,Cm,Dm,Fm,Im,Jm,Lm,Mm,Pm,Qm,Sm,Tm,Wm,Xm,Zm,an,dn,fn,gn,in,jn,kn,nn,on,rn,sn,un,vn,xn,An;
+u8 C,F,K,O,Q,R,S,U,aa,da,ga,ha,ja,la,na,qa,sa,ua,va,Ca,Ea,Ha,Ma,Ua,Wa,Za,ab,bb,ib,nb,pb,ub,Eb,Gb,Sb,Tb,Wb,Zb,bc,ec,hc,ic,jc,kc,lc,nc,sc,uc,xc,Fc,Lc,Nc,Qc,Yc,cd,fd,hd,pd,ud,yd,Ad,Id,Md,Pd,Rd,Zd,de,ge,ie,qe,ze,Be,Me,Qe,Xe,Ye,bf,df,hf,kf,nf,rf,vf,Df,If,Lf,Tf,Vf,Wf,Yf,bg,dg,eg,fg,hg,kg,ng,og,pg,qg,rg,tg,Cg,Hg,Jg,Og,Yg,ah,mh,nh,qh,th,vh,Eh,Gh,Rh,Vh,ci,di,gi,ii,li,ri,ui,vi,wi,xi,zi,Ai,Bi,Ci,Ei,Ji,Oi,Qi,Vi,Xi,aj,hj,jj,lj,uj,wj,Bj,Ej,Mj,Oj,Qj,Xj,ak,bk,ck,ek,fk,gk,hk,jk,lk,pk,sk,zk,Bk,Ek,Ik,Kk,Nk,Pk,Sk,Yk,bl,dl,hl,ml,pl,tl,vl,zl,Cl,El,Il,Ll,Nl,Ul,Wl,Zl,cm,km,om,vm,xm,Bm,Em,Gm,Km,Nm,Rm,Um,Ym,bn,en,hn,pn,tn,wn,yn;
 u8 *H,*L,*X,*ka,*Fa,*Xa,*hb,*tb,*zb,*Fb,*Lb,*Qb,*cc,*Bc,*Cc,*Gc,*Uc,*Vc,*Zc,*ld,*md,*qd,*Ed,*Fd,*Jd,*Vd,*Wd,*ae,*me,*ne,*re,*Ge,*We,*ef,*of,*zf,*Af,*Ef,*Gf,*Pf,*Qf,*Zf,*ag,*vg,*Bg,*Ng,*Tg,*Zg,*fh,*kh,*wh,*Lh,*bi,*ji,*oi,*qi,*Ii,*Ui,*cj,*ij,*pj,*zj,*Ij,*Jj,*Lj,*Rj,*Vj,*Zj,*nk,*wk,*xk,*Ck,*Jk,*Wk,*Xk,*cl,*fl,*jl,*ql,*wl,*Fl,*Ol,*Xl,*gm,*hm,*lm,*ym,*Hm,*Om,*Vm,*cn,*ln,*mn,*qn,*zn;
 s_8_64 ya,Qa,mb,Gg,Ni,rm;
 u16 Ue,Zh;
@@ -104296,7 +107616,7 @@ I=r8(a+160);
 if(r8(a+184)>I)J=I;
 else{
 K=make_ready_e3c(a+152);
-if(K==0){
+if(!(K&1)){
 F=0;
 goto L1;}
 J=r8(a+160);}
@@ -104339,7 +107659,7 @@ ba=r8(a+8);
 if(r8(a+32)>ba)ca=ba;
 else{
 da=make_ready_8e3(a,1,16);
-if(da==0){
+if(!(da&1)){
 F=0;
 goto L1;}
 ca=r8(a+8);}
@@ -104358,7 +107678,7 @@ ha=a[80];
 if(r8(a+120)>fa)ia=fa;
 else{
 ja=make_ready_b73(a+88);
-if(ja==0){
+if(!(ja&1)){
 F=0;
 goto L1;}
 ia=r8(a+96);}
@@ -104388,7 +107708,7 @@ w8(a+192,T+2);
 pa=r8(a+8);
 if(r8(a+32)-pa<2){
 qa=make_ready_8e3(a,2,128);
-if(qa==0){
+if(!(qa&1)){
 F=0;
 goto L1;}
 ra=r8(a+8);}
@@ -104423,7 +107743,7 @@ Ca=a[80];
 if(r8(a+120)>za)Da=za;
 else{
 Ea=make_ready_b73(a+88);
-if(Ea==0){
+if(!(Ea&1)){
 F=0;
 goto L1;}
 Da=r8(a+96);}
@@ -104446,7 +107766,7 @@ else{
 Ga=r8(a+8);
 if(r8(a+32)-Ga<2){
 Ha=make_ready_8e3(a,2,128);
-if(Ha==0){
+if(!(Ha&1)){
 F=0;
 goto L1;}
 Ia=r8(a+8);}
@@ -104467,7 +107787,7 @@ goto L1;}
 w8(a+192,Ka+2);
 if(r8(a+32)-Ja<2){
 Ma=make_ready_8e3(a,2,128);
-if(Ma==0){
+if(!(Ma&1)){
 F=0;
 goto L1;}
 Na=r8(a+8);}
@@ -104502,7 +107822,7 @@ Ua=a[80];
 if(r8(a+120)>Ra)Va=Ra;
 else{
 Wa=make_ready_b73(a+88);
-if(Wa==0){
+if(!(Wa&1)){
 F=0;
 goto L1;}
 Va=r8(a+96);}
@@ -104650,9 +107970,9 @@ Qb=b+(i64)xb;
 Rb=wb-xb;
 if(r8(a+32)-db<Rb){
 Sb=make_ready_8e3(a,Rb,128);
-if(Sb==0)goto L10;}
+if(!(Sb&1))goto L10;}
 Tb=push_str_b7e(a,Qb,Rb);
-if(Tb!=0)goto L10;
+if(Tb&1)goto L10;
 w8(a+192,wb);
 if(r8(a+136)>cb){
 Ub=r8(a+96);
@@ -104666,7 +107986,7 @@ Zb=a[80];
 if(r8(a+120)>Ub)ac=Ub;
 else{
 bc=make_ready_b73(a+88);
-if(bc==0){
+if(!(bc&1)){
 Vb=0;
 Wb=0;
 Xb=0;
@@ -104706,7 +108026,7 @@ hc=2;
 ic=ec;
 goto L19;}
 jc=make_ready_e3c(a+152);
-if(jc==0)goto L18;
+if(!(jc&1))goto L18;
 kc=2;
 lc=ec;
 goto L20;
@@ -104718,7 +108038,7 @@ hc=3;
 ic=0;
 goto L19;}
 nc=make_ready_e3c(a+152);
-if(nc==0)goto L18;
+if(!(nc&1))goto L18;
 kc=3;
 lc=0;
 goto L20;
@@ -104746,7 +108066,7 @@ else qc=oc;
 tc=r8(a+8);
 if(r8(a+32)==tc){
 uc=make_ready_8e3(a,1,128);
-if(uc==0){
+if(!(uc&1)){
 rc=0;
 sc=0;
 goto L21;}
@@ -104777,7 +108097,7 @@ Dc=r8(a+160);
 if(r8(a+184)>Dc)Ec=Dc;
 else{
 Fc=make_ready_e3c(a+152);
-if(Fc==0){
+if(!(Fc&1)){
 rc=0;
 sc=0;
 goto L21;}
@@ -104816,7 +108136,7 @@ else Jc=Hc;
 Mc=r8(a+8);
 if(r8(a+32)-Mc<5){
 Nc=make_ready_8e3(a,5,128);
-if(Nc==0){
+if(!(Nc&1)){
 Kc=0;
 Lc=0;
 goto L22;}
@@ -104847,7 +108167,7 @@ Wc=r8(a+160);
 if(r8(a+184)>Wc)Xc=Wc;
 else{
 Yc=make_ready_e3c(a+152);
-if(Yc==0){
+if(!(Yc&1)){
 Kc=0;
 Lc=0;
 goto L22;}
@@ -104872,24 +108192,24 @@ case 80:ad=cb+1;
 bd=r8(a+8);
 if(r8(a+32)-bd<7){
 cd=make_ready_8e3(a,7,128);
-if(cd==0){
-dd=0;
+if(!(cd&1)){
 ed=0;
+fd=0;
 goto L23;}
-fd=r8(a+8);}
-else fd=bd;
+dd=r8(a+8);}
+else dd=bd;
 gd=r8(a+16);
-if(gd-fd<7){
+if(gd-dd<7){
 hd=grow_amortized_e1a(a,7);
 if(!hd){
-dd=0;
 ed=0;
+fd=0;
 goto L23;}
 id=r8(a+16);
 jd=r8(a+8);}
 else{
 id=gd;
-jd=fd;}
+jd=dd;}
 kd=jd+7;
 ld=rp(a);
 z16(a+8);
@@ -104903,9 +108223,9 @@ nd=r8(a+160);
 if(r8(a+184)>nd)od=nd;
 else{
 pd=make_ready_e3c(a+152);
-if(pd==0){
-dd=0;
+if(!(pd&1)){
 ed=0;
+fd=0;
 goto L23;}
 od=r8(a+160);}
 qd=rp(a+152)+(od<<5);
@@ -104916,10 +108236,10 @@ x8(qd+16,bd);
 qd[24]=0;
 w8(a+160,od+1);
 w8(a+192,ad);
-dd=1;
 ed=1;
-L23:w8(y,dd);
-y[8]=ed;
+fd=1;
+L23:w8(y,ed);
+y[8]=fd;
 y[9]=0;
 w8(y+16,0);
 y[24]=0;
@@ -104928,24 +108248,24 @@ case 79:sd=cb+1;
 td=r8(a+8);
 if(r8(a+32)-td<5){
 ud=make_ready_8e3(a,5,128);
-if(ud==0){
-vd=0;
+if(!(ud&1)){
 xd=0;
+yd=0;
 goto L24;}
-yd=r8(a+8);}
-else yd=td;
+vd=r8(a+8);}
+else vd=td;
 zd=r8(a+16);
-if(zd-yd<5){
+if(zd-vd<5){
 Ad=grow_amortized_e1a(a,5);
 if(!Ad){
-vd=0;
 xd=0;
+yd=0;
 goto L24;}
 Bd=r8(a+16);
 Cd=r8(a+8);}
 else{
 Bd=zd;
-Cd=yd;}
+Cd=vd;}
 Dd=Cd+5;
 Ed=rp(a);
 z16(a+8);
@@ -104959,9 +108279,9 @@ Gd=r8(a+160);
 if(r8(a+184)>Gd)Hd=Gd;
 else{
 Id=make_ready_e3c(a+152);
-if(Id==0){
-vd=0;
+if(!(Id&1)){
 xd=0;
+yd=0;
 goto L24;}
 Hd=r8(a+160);}
 Jd=rp(a+152)+(Hd<<5);
@@ -104972,10 +108292,10 @@ x8(Jd+16,td);
 Jd[24]=0;
 w8(a+160,Hd+1);
 w8(a+192,sd);
-vd=1;
 xd=1;
-L24:w8(y,vd);
-y[8]=xd;
+yd=1;
+L24:w8(y,xd);
+y[8]=yd;
 y[9]=0;
 w8(y+16,0);
 y[24]=0;
@@ -104984,24 +108304,24 @@ case 83:Kd=cb+1;
 Ld=r8(a+8);
 if(r8(a+32)==Ld){
 Md=make_ready_8e3(a,1,128);
-if(Md==0){
-Nd=0;
+if(!(Md&1)){
 Od=0;
+Pd=0;
 goto L25;}
-Pd=r8(a+8);}
-else Pd=Ld;
+Nd=r8(a+8);}
+else Nd=Ld;
 Qd=r8(a+16);
-if(Qd==Pd){
+if(Qd==Nd){
 Rd=grow_amortized_e1a(a,1);
 if(!Rd){
-Nd=0;
 Od=0;
+Pd=0;
 goto L25;}
 Sd=r8(a+16);
 Td=r8(a+8);}
 else{
 Sd=Qd;
-Td=Pd;}
+Td=Nd;}
 Ud=Td+1;
 Vd=rp(a);
 z16(a+8);
@@ -105015,9 +108335,9 @@ Xd=r8(a+160);
 if(r8(a+184)>Xd)Yd=Xd;
 else{
 Zd=make_ready_e3c(a+152);
-if(Zd==0){
-Nd=0;
+if(!(Zd&1)){
 Od=0;
+Pd=0;
 goto L25;}
 Yd=r8(a+160);}
 ae=rp(a+152)+(Yd<<5);
@@ -105028,10 +108348,10 @@ x8(ae+16,Ld);
 ae[24]=1;
 w8(a+160,Yd+1);
 w8(a+192,Kd);
-Nd=1;
 Od=1;
-L25:w8(y,Nd);
-y[8]=Od;
+Pd=1;
+L25:w8(y,Od);
+y[8]=Pd;
 y[9]=0;
 w8(y+16,0);
 y[24]=0;
@@ -105040,24 +108360,24 @@ case 84:be=r8(a+8);
 ce=cb+1;
 if(r8(a+32)==be){
 de=make_ready_8e3(a,1,128);
-if(de==0){
-ee=0;
+if(!(de&1)){
 fe=0;
+ge=0;
 goto L26;}
-ge=r8(a+8);}
-else ge=be;
+ee=r8(a+8);}
+else ee=be;
 he=r8(a+16);
-if(he==ge){
+if(he==ee){
 ie=grow_amortized_e1a(a,1);
 if(!ie){
-ee=0;
 fe=0;
+ge=0;
 goto L26;}
 je=r8(a+16);
 ke=r8(a+8);}
 else{
 je=he;
-ke=ge;}
+ke=ee;}
 le=ke+1;
 me=rp(a);
 z16(a+8);
@@ -105071,9 +108391,9 @@ oe=r8(a+160);
 if(r8(a+184)>oe)pe=oe;
 else{
 qe=make_ready_e3c(a+152);
-if(qe==0){
-ee=0;
+if(!(qe&1)){
 fe=0;
+ge=0;
 goto L26;}
 pe=r8(a+160);}
 re=rp(a+152)+(pe<<5);
@@ -105084,10 +108404,10 @@ x8(re+16,be);
 re[24]=1;
 w8(a+160,pe+1);
 w8(a+192,ce);
-ee=1;
 fe=1;
-L26:w8(y,ee);
-y[8]=fe;
+ge=1;
+L26:w8(y,fe);
+y[8]=ge;
 y[9]=0;
 w8(y+16,0);
 y[24]=0;
@@ -105186,12 +108506,7 @@ case 0:case 2:case 3:memcpy(u,We,16);
 u[16]=Xe;
 memcpy(u+17,We+17,7);
 Ye=repeat_2ff(a,u);
-if(Ye==0){
-ye=0;
-ze=0;
-Ae=0;
-Be=0;}
-else{
+if(Ye&1){
 w8(a+192,Ee);
 if(r8(a+136)>cb){
 Ze=r8(a+96);
@@ -105206,7 +108521,7 @@ bf=a[80];
 if(r8(a+120)>Ze)cf=Ze;
 else{
 df=make_ready_b73(a+88);
-if(df==0){
+if(!(df&1)){
 ye=0;
 ze=0;
 Ae=0;
@@ -105230,6 +108545,11 @@ ye=0;
 ze=0;
 Ae=0;
 Be=0;}}
+else{
+ye=0;
+ze=0;
+Ae=0;
+Be=0;}
 break;
 case 1:case 4:ye=0;
 ze=0;
@@ -105264,7 +108584,7 @@ w8(a+192,cb+1);
 if(r8(a+32)>ff)gf=ff;
 else{
 hf=make_ready_8e3(a,1,16);
-if(hf==0){
+if(!(hf&1)){
 jf=0;
 kf=0;
 goto L33;}
@@ -105275,7 +108595,7 @@ lf=r8(a+160);
 if(r8(a+184)>lf)mf=lf;
 else{
 nf=make_ready_e3c(a+152);
-if(nf==0){
+if(!(nf&1)){
 jf=0;
 kf=0;
 goto L33;}
@@ -105299,22 +108619,22 @@ case 68:pf=r8(a+8);
 qf=cb+1;
 if(r8(a+32)-pf<4){
 rf=make_ready_8e3(a,4,128);
-if(rf==0){
-sf=0;
+if(!(rf&1)){
+tf=0;
 goto L34;}
-tf=r8(a+8);}
-else tf=pf;
+sf=r8(a+8);}
+else sf=pf;
 uf=r8(a+16);
-if(uf-tf<4){
+if(uf-sf<4){
 vf=grow_amortized_e1a(a,4);
 if(!vf){
-sf=0;
+tf=0;
 goto L34;}
 wf=r8(a+16);
 xf=r8(a+8);}
 else{
 wf=uf;
-xf=tf;}
+xf=sf;}
 yf=xf+4;
 zf=rp(a);
 z16(a+8);
@@ -105328,8 +108648,8 @@ Bf=r8(a+160);
 if(r8(a+184)>Bf)Cf=Bf;
 else{
 Df=make_ready_e3c(a+152);
-if(Df==0){
-sf=0;
+if(!(Df&1)){
+tf=0;
 goto L34;}
 Cf=r8(a+160);}
 Ef=rp(a+152)+(Cf<<5);
@@ -105340,8 +108660,8 @@ x8(Ef+16,pf);
 Ef[24]=0;
 w8(a+160,Cf+1);
 w8(a+192,qf);
-sf=1;
-L34:w8(y,sf);
+tf=1;
+L34:w8(y,tf);
 y[8]=0;
 y[9]=0;
 w8(y+16,0);
@@ -105416,7 +108736,7 @@ Hf=r8(a+8);
 w8(a+192,cb+1);
 if(r8(a+32)-Hf<Ff){
 If=make_ready_8e3(a,Ff,128);
-if(If==0)goto L10;
+if(!(If&1))goto L10;
 Jf=r8(a+8);}
 else Jf=Hf;
 Kf=r8(a+16);
@@ -105449,7 +108769,7 @@ Wf=a[80];
 if(r8(a+120)>Rf)Xf=Rf;
 else{
 Yf=make_ready_b73(a+88);
-if(Yf==0){
+if(!(Yf&1)){
 Sf=0;
 Tf=0;
 Uf=0;
@@ -105529,7 +108849,7 @@ ng=2;
 og=kg;
 goto L40;}
 pg=make_ready_e3c(a+152);
-if(pg==0)goto L39;
+if(!(pg&1))goto L39;
 qg=2;
 rg=kg;
 break;
@@ -105541,7 +108861,7 @@ ng=3;
 og=hg;
 goto L40;}
 tg=make_ready_e3c(a+152);
-if(tg==0)goto L39;
+if(!(tg&1))goto L39;
 qg=3;
 rg=hg;
 break;
@@ -105686,9 +109006,9 @@ kh=b+(i64)Rg;
 lh=Qg-Rg;
 if(r8(a+32)-xg<lh){
 mh=make_ready_8e3(a,lh,128);
-if(mh==0)goto L45;}
+if(!(mh&1))goto L45;}
 nh=push_str_b7e(a,kh,lh);
-if(nh!=0)goto L45;
+if(nh&1)goto L45;
 w8(a+192,Qg);
 if(r8(a+136)>ug){
 oh=r8(a+96);
@@ -105702,7 +109022,7 @@ th=a[80];
 if(r8(a+120)>oh)uh=oh;
 else{
 vh=make_ready_b73(a+88);
-if(vh==0){
+if(!(vh&1)){
 ph=0;
 qh=0;
 rh=0;
@@ -105823,12 +109143,7 @@ memcpy(p,bi,16);
 p[16]=ci;
 memcpy(p+17,bi+17,7);
 di=repeat_2ff(a,p);
-if(di==0){
-Dh=0;
-Eh=0;
-Fh=0;
-Gh=0;}
-else{
+if(di&1){
 w8(a+192,Jh);
 if(r8(a+136)>ug){
 ei=r8(a+96);
@@ -105843,7 +109158,7 @@ gi=a[80];
 if(r8(a+120)>ei)hi=ei;
 else{
 ii=make_ready_b73(a+88);
-if(ii==0){
+if(!(ii&1)){
 Dh=0;
 Eh=0;
 Fh=0;
@@ -105866,7 +109181,12 @@ else{
 Dh=0;
 Eh=0;
 Fh=0;
-Gh=0;}}}
+Gh=0;}}
+else{
+Dh=0;
+Eh=0;
+Fh=0;
+Gh=0;}}
 else{
 Dh=0;
 Eh=0;
@@ -106073,7 +109393,7 @@ goto L1;}
 vj=r8(a+8);
 if(r8(a+32)-vj<2){
 wj=make_ready_8e3(a,2,128);
-if(wj==0){
+if(!(wj&1)){
 F=0;
 goto L1;}
 xj=r8(a+8);}
@@ -106086,7 +109406,7 @@ zj=b+(i64)Yi;
 Aj=Zi-Yi;
 if(r8(a+32)-yj<Aj){
 Bj=make_ready_8e3(a,Aj,128);
-if(Bj==0){
+if(!(Bj&1)){
 F=0;
 goto L1;}
 Cj=r8(a+8);}
@@ -106120,7 +109440,7 @@ Lj=rp(a+152)+(i64)(Kj<<5);
 if(Lj[-32]==2){
 if(Lj[-31]>96){
 Mj=unnamed_ended_c46(a,b,c,si,ma,la);
-if(Mj!=0)goto L69;
+if(Mj&1)goto L69;
 F=0;
 goto L1;}}}}}
 if(r8(a+136)<=si){
@@ -106134,7 +109454,7 @@ Oj=a[80];
 if(r8(a+120)>Nj)Pj=Nj;
 else{
 Qj=make_ready_b73(a+88);
-if(Qj==0){
+if(!(Qj&1)){
 F=0;
 goto L1;}
 Pj=r8(a+96);}
@@ -106194,7 +109514,7 @@ Vj=oi;
 Wj=mi;}
 else{
 Xj=make_ready_e3c(a+152);
-if(Xj==0){
+if(!(Xj&1)){
 F=0;
 goto L1;}
 Yj=r8(a+160);
@@ -106279,7 +109599,7 @@ nk=lk?(u8*)t_b4da:(u8*)t_ba5e;
 ok=r8(a+8);
 if(r8(a+32)-ok<mk){
 pk=make_ready_8e3(a,mk,128);
-if(pk==0){
+if(!(pk&1)){
 F=0;
 goto L1;}
 qk=r8(a+8);}
@@ -106315,7 +109635,7 @@ zk=a[80];
 if(r8(a+120)>yk)Ak=yk;
 else{
 Bk=make_ready_b73(a+88);
-if(Bk==0){
+if(!(Bk&1)){
 F=0;
 goto L1;}
 Ak=r8(a+96);}
@@ -106335,7 +109655,7 @@ goto L4;}}
 Dk=r8(a+8);
 if(r8(a+32)-Dk<2){
 Ek=make_ready_8e3(a,2,128);
-if(Ek==0){
+if(!(Ek&1)){
 F=0;
 goto L1;}
 Fk=r8(a+8);}
@@ -106347,7 +109667,7 @@ Gk=r8(a+160);
 if(r8(a+184)>Gk)Hk=Gk;
 else{
 Ik=make_ready_e3c(a+152);
-if(Ik==0){
+if(!(Ik&1)){
 F=0;
 goto L1;}
 Hk=r8(a+160);}
@@ -106387,7 +109707,7 @@ Lk=r8(a+8);
 if(r8(a+32)>Lk)Mk=Lk;
 else{
 Nk=make_ready_8e3(a,1,16);
-if(Nk==0){
+if(!(Nk&1)){
 F=0;
 goto L1;}
 Mk=r8(a+8);}
@@ -106397,7 +109717,7 @@ goto L71;
 L70:Ok=r8(a+8);
 if(r8(a+32)-Ok<3){
 Pk=make_ready_8e3(a,3,128);
-if(Pk==0){
+if(!(Pk&1)){
 F=0;
 goto L1;}
 Qk=r8(a+8);}
@@ -106427,7 +109747,7 @@ Zk=r8(a+160);
 if(r8(a+184)>Zk)al=Zk;
 else{
 bl=make_ready_e3c(a+152);
-if(bl==0){
+if(!(bl&1)){
 F=0;
 goto L1;}
 al=r8(a+160);}
@@ -106451,7 +109771,7 @@ fl=oi;
 gl=mi;}
 else{
 hl=make_ready_e3c(a+152);
-if(hl==0){
+if(!(hl&1)){
 F=0;
 goto L1;}
 il=r8(a+160);
@@ -106489,7 +109809,7 @@ kl=r8(a+8);
 if(r8(a+32)>kl)ll=kl;
 else{
 ml=make_ready_8e3(a,1,16);
-if(ml==0){
+if(!(ml&1)){
 F=0;
 goto L1;}
 ll=r8(a+8);}
@@ -106499,7 +109819,7 @@ nl=r8(a+160);
 if(r8(a+184)>nl)ol=nl;
 else{
 pl=make_ready_e3c(a+152);
-if(pl==0){
+if(!(pl&1)){
 F=0;
 goto L1;}
 ol=r8(a+160);}
@@ -106529,7 +109849,7 @@ tl=a[80];
 if(r8(a+120)>rl)ul=rl;
 else{
 vl=make_ready_b73(a+88);
-if(vl==0){
+if(!(vl&1)){
 F=0;
 goto L1;}
 ul=r8(a+96);}
@@ -106556,7 +109876,7 @@ case 0:case 2:case 3:xl=r8(a+8);
 if(r8(a+32)>xl)yl=xl;
 else{
 zl=make_ready_8e3(a,1,16);
-if(zl==0){
+if(!(zl&1)){
 F=0;
 goto L1;}
 yl=r8(a+8);}
@@ -106574,7 +109894,7 @@ Cl=a[80];
 if(r8(a+120)>Bl)Dl=Bl;
 else{
 El=make_ready_b73(a+88);
-if(El==0){
+if(!(El&1)){
 F=0;
 goto L1;}
 Dl=r8(a+96);}
@@ -106601,7 +109921,7 @@ case 0:case 2:case 3:Gl=r8(a+8);
 if(r8(a+32)>Gl)Hl=Gl;
 else{
 Il=make_ready_8e3(a,1,16);
-if(Il==0){
+if(!(Il&1)){
 F=0;
 goto L1;}
 Hl=r8(a+8);}
@@ -106619,7 +109939,7 @@ Ll=a[80];
 if(r8(a+120)>Kl)Ml=Kl;
 else{
 Nl=make_ready_b73(a+88);
-if(Nl==0){
+if(!(Nl&1)){
 F=0;
 goto L1;}
 Ml=r8(a+96);}
@@ -106675,7 +109995,7 @@ Ul=a[80];
 if(r8(a+120)>Sl)Vl=Sl;
 else{
 Wl=make_ready_b73(a+88);
-if(Wl==0){
+if(!(Wl&1)){
 F=0;
 goto L1;}
 Vl=r8(a+96);}
@@ -106695,7 +110015,7 @@ goto L4;}}
 Yl=r8(a+8);
 if(r8(a+32)-Yl<3){
 Zl=make_ready_8e3(a,3,128);
-if(Zl==0){
+if(!(Zl&1)){
 F=0;
 goto L1;}
 am=r8(a+8);}
@@ -106724,7 +110044,7 @@ im=r8(a+160);
 if(r8(a+184)>im)jm=im;
 else{
 km=make_ready_e3c(a+152);
-if(km==0){
+if(!(km&1)){
 F=0;
 goto L1;}
 jm=r8(a+160);}
@@ -106750,7 +110070,7 @@ case 0:case 2:case 3:mm=r8(a+192);
 nm=r8(a+8);
 if(r8(a+32)-nm<2){
 om=make_ready_8e3(a,2,128);
-if(om==0){
+if(!(om&1)){
 F=0;
 goto L1;}
 pm=r8(a+8);}
@@ -106776,7 +110096,7 @@ vm=a[80];
 if(r8(a+120)>sm)wm=sm;
 else{
 xm=make_ready_b73(a+88);
-if(xm==0){
+if(!(xm&1)){
 F=0;
 goto L1;}
 wm=r8(a+96);}
@@ -106793,7 +110113,7 @@ zm=r8(a+8);
 if(r8(a+32)>zm)Am=zm;
 else{
 Bm=make_ready_8e3(a,1,16);
-if(Bm==0){
+if(!(Bm&1)){
 F=0;
 goto L1;}
 Am=r8(a+8);}
@@ -106811,7 +110131,7 @@ Em=a[80];
 if(r8(a+120)>Dm)Fm=Dm;
 else{
 Gm=make_ready_b73(a+88);
-if(Gm==0){
+if(!(Gm&1)){
 F=0;
 goto L1;}
 Fm=r8(a+96);}
@@ -106847,7 +110167,7 @@ Im=r8(a+8);
 if(r8(a+32)>Im)Jm=Im;
 else{
 Km=make_ready_8e3(a,1,16);
-if(Km==0){
+if(!(Km&1)){
 F=0;
 goto L1;}
 Jm=r8(a+8);}
@@ -106857,7 +110177,7 @@ Lm=r8(a+160);
 if(r8(a+184)>Lm)Mm=Lm;
 else{
 Nm=make_ready_e3c(a+152);
-if(Nm==0){
+if(!(Nm&1)){
 F=0;
 goto L1;}
 Mm=r8(a+160);}
@@ -106880,7 +110200,7 @@ Pm=r8(a+8);
 if(r8(a+32)>Pm)Qm=Pm;
 else{
 Rm=make_ready_8e3(a,1,16);
-if(Rm==0){
+if(!(Rm&1)){
 F=0;
 goto L1;}
 Qm=r8(a+8);}
@@ -106890,7 +110210,7 @@ Sm=r8(a+160);
 if(r8(a+184)>Sm)Tm=Sm;
 else{
 Um=make_ready_e3c(a+152);
-if(Um==0){
+if(!(Um&1)){
 F=0;
 goto L1;}
 Tm=r8(a+160);}
@@ -106913,7 +110233,7 @@ Wm=r8(a+8);
 if(r8(a+32)>Wm)Xm=Wm;
 else{
 Ym=make_ready_8e3(a,1,16);
-if(Ym==0){
+if(!(Ym&1)){
 F=0;
 goto L1;}
 Xm=r8(a+8);}
@@ -106923,7 +110243,7 @@ Zm=r8(a+160);
 if(r8(a+184)>Zm)an=Zm;
 else{
 bn=make_ready_e3c(a+152);
-if(bn==0){
+if(!(bn&1)){
 F=0;
 goto L1;}
 an=r8(a+160);}
@@ -106943,7 +110263,7 @@ case 10:switch(la){
 case 0:case 2:case 3:dn=r8(a+8);
 if(r8(a+32)-dn<4){
 en=make_ready_8e3(a,4,128);
-if(en==0){
+if(!(en&1)){
 F=0;
 goto L1;}
 fn=r8(a+8);}
@@ -106972,7 +110292,7 @@ nn=r8(a+160);
 if(r8(a+184)>nn)on=nn;
 else{
 pn=make_ready_e3c(a+152);
-if(pn==0){
+if(!(pn&1)){
 F=0;
 goto L1;}
 on=r8(a+160);}
@@ -106998,7 +110318,7 @@ case 0:case 2:rn=r8(a+8);
 if(r8(a+32)>rn)sn=rn;
 else{
 tn=make_ready_8e3(a,1,16);
-if(tn==0){
+if(!(tn&1)){
 F=0;
 goto L1;}
 sn=r8(a+8);}
@@ -107016,7 +110336,7 @@ wn=a[80];
 if(r8(a+120)>vn)xn=vn;
 else{
 yn=make_ready_b73(a+88);
-if(yn==0){
+if(!(yn&1)){
 F=0;
 goto L1;}
 xn=r8(a+96);}

@@ -1875,6 +1875,7 @@ static COLD u8 grow_amortized_53f(u8* a,u64 b);
 static u8 make_ready_9a1(u8* a);
 static COLD u8 grow_amortized_920(u8* a,u64 b);
 static void substitution_9ce(u8* a,u8* b,u8* c,u64 d);
+static void argument_dbb(u8* a,u8* b);
 static u8 repeat_28b(u8* a,u64 b,u64 c);
 static void begin_clone_783(u8* a,u8* b,u8* c,u64 d);
 static void begin_encoding_254(u8* a,u8* b,u8* c,u64 d);
@@ -1883,9 +1884,19 @@ static s_8_8 operator_name_c97(u8* a,u8* b,u64 c);
 static void unscoped_named_e54(u8* a,u8* b,u8* c,u64 d,u32 e,u8 f);
 static void name_ended_fde(u8* a,u8* b,u8* c,u64 d,u8 e,u8 f,u8* g,u32 h);
 static void end_05d(u8* a,u8* b,u8* c,u64 d,u8 e);
+static void begin_member_793(u8* a,u8* b,u8* c,u64 d);
+static u8 open_lambda_2e5(u8* a,u8* b,u64 c,u32 d,u8* e);
+static u8 are_numbers_short_ddb(u8* a,u64 b);
+static u8 lambda_b09(u8* a,u8* b,u64 c);
+static u8 lambda_number_bca(u8* a,u8* b,u64 c);
+static void member_function_aa3(u8* a,u8* b,u8* c,u64 d,u8 e);
+static void member_parameters_1d0(u8* a,u8* b,u8* c,u64 d,u8 e);
+static void member_ended_9dc(u8* a,u8* b,u8* c,u64 d,u8 e);
+static void entity_name_076(u8* a,u8* b,u8* c,u64 d);
 static void finish_8cd(u8* a,u8* b,u8* c,u64 d);
 static void begin_front_2b4(u8* a,u8* b,u8* c,u64 d,u8 e,u8* f,u32 g);
 static void close_a33(u8* a,u8* b,u8* c,u64 d,u8 e,u32 f);
+static void hide_all_828(u8* a);
 static void expansion_d9b(u8* a,u8* b,u8* c,u64 d,u8 e,u8 f,u32 g,u8* h);
 static u8 expand_all_4dc(u8* a,u8* b,u8 c);
 static u8 add_expansion_587(u8* a,u8 b);
@@ -1893,6 +1904,7 @@ static void begin_operator_9c9(u8* a,u8* b,u8* c,u64 d);
 static void begin_name_824(u8* a,u8* b,u8* c,u64 d);
 static void begin_thunk_2c0(u8* a,u8* b,u8* c,u64 d);
 static void begin_virtual_thunk_979(u8* a,u8* b,u8* c,u64 d);
+static void begin_table_89f(u8* a,u8* b);
 static void begin_special_44d(u8* a,u8* b,u8* c,u64 d);
 static void type_at_188(u8* a,u8* b,u8* c,u64 d,u8 e);
 static void begin_function_7aa(u8* a,u8* b,u8 c);
@@ -1906,9 +1918,6 @@ static void dependent_again_186(u8* a,u8* b,u8* c);
 static void begin_enclosing_06f(u8* a,u8* b,u8* c,u64 d);
 static void enclosing_ended_205(u8* a,u8* b,u8* c,u64 d,u8 e,u32 f);
 static void enclosed_named_b0c(u8* a,u8* b,u8* c,u64 d,u32 e);
-static u8 lambda_number_bca(u8* a,u8* b,u64 c);
-static u8 open_lambda_2e5(u8* a,u8* b,u64 c,u32 d,u8* e);
-static u8 are_numbers_short_ddb(u8* a,u64 b);
 static void enclosing_parameters_015(u8* a,u8* b,u8* c,u64 d,u8 e,u32 f);
 static void parameter_ended_06e(u8* a,u8* b,u8* c,u64 d,u8 e,u32 f,u8* g);
 static void front_ended_ee9(u8* a,u8* b,u8* c,u64 d,u8 e,u32 f,u8* g);
@@ -1921,16 +1930,23 @@ static void addressed_parameters_382(u8* a,u8* b,u8* c,u64 d,u8 e,u32 f,u8* g);
 static void addressed_marked_35f(u8* a,u8* b,u8* c,u64 d,u8 e);
 static void addressed_parameter_41c(u8* a,u8* b,u8* c,u64 d,u8 e);
 static void enclosing_front_fa8(u8* a,u8* b,u8 c,u32 d,u32 e,u8* f);
+static void dependent_8e0(u8* a,u8* b);
 static void returned_acd(u8* a,u8* b,u8* c,u64 d,u8 e);
 static void function_ended_049(u8* a,u8* b,u8* c,u64 d,u8 e);
-static void pass_element_c99(u8* a,u8* b,u8* c,u64 d);
+static void pass_element_c99(u8* a,u8* b,u8* c,u64 d,u8 e);
 static void parameter_at_c04(u8* a,u8* b,u8* c,u64 d,u8 e,u8 f);
 static void array_ended_08d(u8* a,u8* b,u8* c,u64 d,u8 e,u32 f,u32 g);
 static void lambda_parameter_f9a(u8* a,u8* b,u8* c,u64 d,u32 e,u8* f);
+static void member_parameter_678(u8* a,u8* b,u8* c,u64 d,u8 e);
+static void derived_ended_aef(u8* a,u8* b,u8* c,u64 d);
+static void base_ended_299(u8* a,u8* b,u8* c,u64 d,u32 e);
 static void enumerator_21c(u8* a,u8* b,u8* c,u64 d);
+static u8 ends_as_integer_bdf(u8* a);
 static u8 number_63f(u8* a,u8* b,u64 c);
 static u8 digits_418(u8* a,u8* b,u64 c,u8 d);
+static void argument_enumerator_c0e(u8* a,u8* b,u8* c,u64 d,u32 e,u8 f,u8* g);
 static void argument_ended_2ff(u8* a,u8* b,u8* c,u64 d,u32 e,u8 f,u8* g,u8 h);
+static void next_enumerator_8be(u8* a,u8* b,u8* c,u64 d,u8 e,u8* f);
 static u8 is_element_at_f4e(u8* a,u64 b,u64 c);
 static void next_pack_bbb(u8* a,u8* b,u8* c,u64 d,u8 e,u8* f);
 static void begin_address_4df(u8* a,u8* b,u8* c,u64 d);
@@ -1943,7 +1959,9 @@ static void element_ended_d46(u8* a,u8* b,u8* c,u64 d,u32 e,u8 f,u8* g,u8 h);
 static void empty_pack_06f(u8* a,u8* b,u8* c,u64 d,u8 e);
 static void first_pack_117(u8* a,u8* b,u8* c,u64 d);
 static void begin_level_d05(u8* a,u8* b,u8* c,u64 d);
+static void parameter_argument_7c8(u8* a,u8* b,u8* c,u64 d);
 static void first_literal_618(u8* a,u8* b,u8* c,u64 d);
+static void first_enumerator_9e2(u8* a,u8* b,u8* c,u64 d);
 static void literal_9d0(u8* a,u8* b,u8* c,u64 d);
 static void nest_ended_003(u8* a,u8* b,u8* c,u64 d);
 static void addressed_named_a52(u8* a,u8* b,u8* c,u64 d,u8 e);
@@ -1958,6 +1976,9 @@ static void begin_in_std_5d2(u8* a,u8* b,u8* c,u64 d);
 static void unscoped_named_6a9(u8* a,u8* b,u8* c,u64 d,u32 e,u8 f);
 static void name_ended_a18(u8* a,u8* b,u8* c,u64 d,u8 e,u8 f,u8* g,u32 h);
 static void encoded_306(u8* a,u8* b,u8* c,u64 d);
+static void begin_member_002(u8* a,u8* b,u8* c,u64 d);
+static void member_function_912(u8* a,u8* b,u8* c,u64 d,u8 e);
+static void member_parameters_ecd(u8* a,u8* b,u8* c,u64 d,u8 e);
 static void close_39a(u8* a,u8* b,u8* c,u64 d,u32 e);
 static void expansion_52e(u8* a,u8* b,u8* c,u64 d,u8 e,u32 f,u8* g);
 static void begin_operator_425(u8* a,u8* b,u8* c,u64 d);
@@ -1979,16 +2000,21 @@ static void addressed_parameters_09a(u8* a,u8* b,u8* c,u64 d,u8 e,u32 f,u8* g);
 static void addressed_parameter_2cf(u8* a,u8* b,u8* c,u64 d,u32 e);
 static void returned_322(u8* a,u8* b,u8* c,u64 d,u8 e);
 static void function_ended_365(u8* a,u8* b,u8* c,u64 d,u8 e);
-static void pass_element_695(u8* a,u8* b,u8* c,u64 d);
+static void pass_element_695(u8* a,u8* b,u8* c,u64 d,u8 e);
 static void parameter_at_3ac(u8* a,u8* b,u8* c,u64 d,u8 e,u8 f);
 static void array_ended_1b3(u8* a,u8* b,u8* c,u64 d,u8 e,u32 f,u32 g);
+static void lambda_parameter_383(u8* a,u8* b,u8* c,u64 d,u32 e,u8* f);
+static void member_parameter_7e4(u8* a,u8* b,u8* c,u64 d,u32 e);
+static void argument_enumerator_83a(u8* a,u8* b,u8* c,u64 d,u32 e,u8 f,u8* g);
 static void argument_ended_511(u8* a,u8* b,u8* c,u64 d,u32 e,u8 f,u8* g,u8 h);
+static void next_enumerator_cc1(u8* a,u8* b,u8* c,u64 d,u8 e,u8* f);
 static void next_pack_66f(u8* a,u8* b,u8* c,u64 d,u8 e,u8* f);
 static void begin_address_ef5(u8* a,u8* b,u8* c,u64 d);
 static void close_list_299(u8* a,u8* b,u8* c,u64 d,u8* e);
 static void element_ended_6b8(u8* a,u8* b,u8* c,u64 d,u32 e,u8 f,u8* g,u8 h);
 static void empty_pack_079(u8* a,u8* b,u8* c,u64 d,u8 e);
 static void first_literal_c4d(u8* a,u8* b,u8* c,u64 d);
+static void first_enumerator_aaf(u8* a,u8* b,u8* c,u64 d);
 static void literal_da7(u8* a,u8* b,u8* c,u64 d);
 static void nest_ended_32a(u8* a,u8* b,u8* c,u64 d);
 static void addressed_named_968(u8* a,u8* b,u8* c,u64 d,u8 e);
@@ -2007,7 +2033,14 @@ static void begin_virtual_thunk_1ab(u8* a,u8* b,u8* c,u64 d);
 static void type_at_d83(u8* a,u8* b,u8* c,u64 d,u8 e);
 static void named_type_de5(u8* a,u8* b,u8* c,u64 d);
 static void begin_enclosing_8b6(u8* a,u8* b,u8* c,u64 d);
+static void returned_087(u8* a,u8* b,u8* c,u64 d,u8 e);
+static void function_ended_faf(u8* a,u8* b,u8* c,u64 d,u8 e);
+static void pass_element_9db(u8* a,u8* b,u8* c,u64 d,u8 e);
+static void parameter_at_d02(u8* a,u8* b,u8* c,u64 d,u8 e,u8 f);
+static void array_ended_a11(u8* a,u8* b,u8* c,u64 d,u8 e,u32 f,u32 g);
+static void argument_enumerator_071(u8* a,u8* b,u8* c,u64 d,u32 e,u8 f,u8* g);
 static void argument_ended_c7c(u8* a,u8* b,u8* c,u64 d,u32 e,u8 f,u8* g,u8 h);
+static void next_enumerator_412(u8* a,u8* b,u8* c,u64 d,u8 e,u8* f);
 static void next_pack_095(u8* a,u8* b,u8* c,u64 d,u8 e,u8* f);
 static void begin_address_731(u8* a,u8* b,u8* c,u64 d);
 static void close_list_148(u8* a,u8* b,u8* c,u64 d,u8* e);
@@ -2015,6 +2048,7 @@ static void element_ended_c50(u8* a,u8* b,u8* c,u64 d,u32 e,u8 f,u8* g,u8 h);
 static void empty_pack_c74(u8* a,u8* b,u8* c,u64 d,u8 e);
 static void begin_level_398(u8* a,u8* b,u8* c,u64 d);
 static void first_literal_898(u8* a,u8* b,u8* c,u64 d);
+static void first_enumerator_82e(u8* a,u8* b,u8* c,u64 d);
 static void literal_47f(u8* a,u8* b,u8* c,u64 d);
 static void components_at_b1b(u8* a,u8* b,u8* c,u64 d);
 static void operator_5af(u8* a,u8* b,u8* c,u64 d);
@@ -2029,12 +2063,20 @@ static void begin_virtual_thunk_2ec(u8* a,u8* b,u8* c,u64 d);
 static void type_at_11d(u8* a,u8* b,u8* c,u64 d,u8 e);
 static void named_type_bf1(u8* a,u8* b,u8* c,u64 d);
 static void begin_enclosing_897(u8* a,u8* b,u8* c,u64 d);
+static void returned_07a(u8* a,u8* b,u8* c,u64 d,u8 e);
+static void function_ended_13c(u8* a,u8* b,u8* c,u64 d,u8 e);
+static void pass_element_fdc(u8* a,u8* b,u8* c,u64 d,u8 e);
+static void parameter_at_257(u8* a,u8* b,u8* c,u64 d,u8 e,u8 f);
+static void array_ended_b9c(u8* a,u8* b,u8* c,u64 d,u8 e,u32 f,u32 g);
+static void argument_enumerator_87a(u8* a,u8* b,u8* c,u64 d,u32 e,u8 f,u8* g);
 static void argument_ended_e71(u8* a,u8* b,u8* c,u64 d,u32 e,u8 f,u8* g,u8 h);
+static void next_enumerator_034(u8* a,u8* b,u8* c,u64 d,u8 e,u8* f);
 static void next_pack_49a(u8* a,u8* b,u8* c,u64 d,u8 e,u8* f);
 static void close_list_3c2(u8* a,u8* b,u8* c,u64 d,u8* e);
 static void element_ended_20b(u8* a,u8* b,u8* c,u64 d,u32 e,u8 f,u8* g,u8 h);
 static void empty_pack_ea9(u8* a,u8* b,u8* c,u64 d,u8 e);
 static void first_literal_c8e(u8* a,u8* b,u8* c,u64 d);
+static void first_enumerator_ea5(u8* a,u8* b,u8* c,u64 d);
 static void literal_4a5(u8* a,u8* b,u8* c,u64 d);
 static void components_at_98c(u8* a,u8* b,u8* c,u64 d);
 static void operator_69e(u8* a,u8* b,u8* c,u64 d);
@@ -2052,8 +2094,11 @@ static void begin_virtual_thunk_a25(u8* a,u8* b,u8* c,u64 d);
 static void type_at_78f(u8* a,u8* b,u8* c,u64 d,u8 e);
 static void named_type_132(u8* a,u8* b,u8* c,u64 d);
 static void begin_enclosing_161(u8* a,u8* b,u8* c,u64 d);
+static void argument_enumerator_f1d(u8* a,u8* b,u8* c,u64 d,u32 e,u8 f,u8* g);
 static void argument_ended_f01(u8* a,u8* b,u8* c,u64 d,u32 e,u8 f,u8* g,u8 h);
+static void next_enumerator_f3d(u8* a,u8* b,u8* c,u64 d,u8 e,u8* f);
 static void first_literal_8fe(u8* a,u8* b,u8* c,u64 d);
+static void first_enumerator_7c6(u8* a,u8* b,u8* c,u64 d);
 static void literal_7da(u8* a,u8* b,u8* c,u64 d);
 static void components_at_f93(u8* a,u8* b,u8* c,u64 d);
 static void operator_833(u8* a,u8* b,u8* c,u64 d);
@@ -2067,8 +2112,11 @@ static void begin_virtual_thunk_603(u8* a,u8* b,u8* c,u64 d);
 static void type_at_925(u8* a,u8* b,u8* c,u64 d,u8 e);
 static void named_type_748(u8* a,u8* b,u8* c,u64 d);
 static void begin_enclosing_7ac(u8* a,u8* b,u8* c,u64 d);
+static void argument_enumerator_5cf(u8* a,u8* b,u8* c,u64 d,u32 e,u8 f,u8* g);
 static void argument_ended_d25(u8* a,u8* b,u8* c,u64 d,u32 e,u8 f,u8* g,u8 h);
+static void next_enumerator_4d3(u8* a,u8* b,u8* c,u64 d,u8 e,u8* f);
 static void first_literal_8ab(u8* a,u8* b,u8* c,u64 d);
+static void first_enumerator_b0d(u8* a,u8* b,u8* c,u64 d);
 static void literal_9c1(u8* a,u8* b,u8* c,u64 d);
 static void components_at_ca9(u8* a,u8* b,u8* c,u64 d);
 static void operator_2f3(u8* a,u8* b,u8* c,u64 d);
@@ -2084,8 +2132,11 @@ static void begin_virtual_thunk_3f7(u8* a,u8* b,u8* c,u64 d);
 static void type_at_225(u8* a,u8* b,u8* c,u64 d,u8 e);
 static void named_type_e9a(u8* a,u8* b,u8* c,u64 d);
 static void begin_enclosing_5bc(u8* a,u8* b,u8* c,u64 d);
+static void argument_enumerator_61d(u8* a,u8* b,u8* c,u64 d,u32 e,u8 f,u8* g);
 static void argument_ended_605(u8* a,u8* b,u8* c,u64 d,u32 e,u8 f,u8* g,u8 h);
+static void next_enumerator_b25(u8* a,u8* b,u8* c,u64 d,u8 e,u8* f);
 static void first_literal_d00(u8* a,u8* b,u8* c,u64 d);
+static void first_enumerator_fc4(u8* a,u8* b,u8* c,u64 d);
 static void literal_8fc(u8* a,u8* b,u8* c,u64 d);
 static void components_at_91b(u8* a,u8* b,u8* c,u64 d);
 static void operator_a8d(u8* a,u8* b,u8* c,u64 d);
@@ -2099,8 +2150,11 @@ static void begin_virtual_thunk_f37(u8* a,u8* b,u8* c,u64 d);
 static void type_at_77f(u8* a,u8* b,u8* c,u64 d,u8 e);
 static void named_type_faa(u8* a,u8* b,u8* c,u64 d);
 static void begin_enclosing_9e4(u8* a,u8* b,u8* c,u64 d);
+static void argument_enumerator_2d4(u8* a,u8* b,u8* c,u64 d,u32 e,u8 f,u8* g);
 static void argument_ended_1bb(u8* a,u8* b,u8* c,u64 d,u32 e,u8 f,u8* g,u8 h);
+static void next_enumerator_59c(u8* a,u8* b,u8* c,u64 d,u8 e,u8* f);
 static void first_literal_f44(u8* a,u8* b,u8* c,u64 d);
+static void first_enumerator_d2d(u8* a,u8* b,u8* c,u64 d);
 static void literal_43d(u8* a,u8* b,u8* c,u64 d);
 static void components_at_7bd(u8* a,u8* b,u8* c,u64 d);
 static void operator_c58(u8* a,u8* b,u8* c,u64 d);
@@ -42616,7 +42670,7 @@ if(d==0){
 o=r4(b);
 p=b[4];
 if(p==0){
-q=umin64(o>>2,(f<<3)+1024);
+q=umin64(o>>2,(f<<5)+1024);
 r=q;
 if(r8(c+472)!=0)w8(c+472,0);
 w8(c+488,q);
@@ -42850,5578 +42904,5761 @@ return;
 /* itanium::short_way::write_less */
 static u8 write_less_2c7(u8* a,u8* b,u64 c,u32 d,u8 e,u8 f)
 {
-u8 k[32],m[4],n[32],o[6],q[32],r[32],x[4],y[4],G[32],I[4],J[32],K[6],M[32],N[32],T[4],U[4],ca[32],ea[4],fa[32],ga[6],ia[32],ja[32],pa[4],qa[4],za[32],Ba[4],Ca[32],Da[6],Fa[32],Ga[32],Ma[4],Na[4],Wa[32],Ya[4],Za[32],ab[6],cb[32],db[32],jb[4],kb[4],tb[32],vb[4],wb[32],xb[6],zb[32],Ab[32],Gb[4],Hb[4];
-A16 u8 g[4],h[4],i[40],j[4],l[4],p[32],s[4],t[4],u[4],v[32],w[32],z[4],A[4],B[4],C[4],D[4],E[40],F[4],H[4],L[32],O[4],P[4],Q[4],R[32],S[32],V[4],W[4],X[4],Y[4],Z[4],aa[40],ba[4],da[4],ha[32],ka[4],la[4],ma[4],na[32],oa[32],ra[4],sa[4],ta[4],ua[4],va[4],wa[40],xa[4],ya[4],Aa[4],Ea[32],Ha[4],Ia[4],Ja[4],Ka[32],La[32],Oa[4],Pa[4],Qa[4],Ra[4],Sa[4],Ta[40],Ua[4],Va[4],Xa[4],bb[32],eb[4],fb[4],gb[4],hb[32],ib[32],lb[4],mb[4],nb[4],ob[4],pb[4],qb[40],rb[4],sb[4],ub[4],yb[32],Bb[4],Cb[4],Db[4],Eb[32],Fb[32],Ib[4],Jb[4],Kb[4];
-u64 Lb,Mb,Nb,Ob,Pb,Sb,Tb,Vb,Zb,ac,gc,hc,ic,tc,xc,zc,Ac,Bc,Cc,Dc,Ec,Gc,Hc,Ic,Jc,Kc,Xc,Yc,ed,hd,id,qd,sd,ud,yd,Ad,Cd,Dd,Gd,Md,Td,Vd,ae,ee,ge,he,ie,ne,pe,qe,re,te,ve,xe,De,He,Je,Le,Ne,Ve,We,Ze,af,bf,ff,gf,hf,lf,pf,qf,tf,vf,wf,yf,Cf,Df,Jf,Kf,Lf,Wf,ag,ng,og,ug,xg,yg,Gg,Hg,Jg,Mg,Og,Qg,Rg,Ug,ah,hh,jh,oh,sh,uh,vh,wh,Bh,Dh,Eh,Fh,Hh,Jh,Lh,Rh,Vh,Xh,Zh,bi,ji,ki,ni,oi,pi,ti,ui,vi,yi,Ci,Di,Gi,Ii,Ji,Li,Pi,Qi,Wi,Xi,Yi,jj,nj,pj,qj,rj,sj,tj,uj,wj,xj,yj,zj,Mj,Nj,Tj,Wj,Xj,fk,gk,ik,lk,nk,pk,qk,tk,zk,Gk,Ik,Nk,Rk,Tk,Uk,Vk,al,cl,dl,el,gl,il,kl,ql,ul,wl,yl,Al,Il,Jl,Ml,Nl,Ol,Sl,Tl,Ul,Xl,bm,cm,fm,hm,im,km,om,pm,vm,wm,xm,Im,Mm,Om,Pm,Qm,Rm,Sm,Tm,Vm,Wm,Xm,Ym,ln,mn,sn,vn,wn,En,Fn,Hn,Kn,Mn,On,Pn,Sn,Yn,go,io,no,ro,to,yo,Ao,Bo,Co,Eo,Go,Io,Lo,No,Qo,So,Uo,Zo,ap,dp,ep,fp,jp,kp,lp,pp,vp,yp,Bp,Dp,Ep,Gp,Kp,Lp,Rp,Sp,Tp,eq,iq,vq,wq,Cq,Fq,Gq,Oq,Pq,Rq,Uq,Wq,Yq,Zq,cr,ir,pr,rr,wr,Ar,Cr,Hr,Jr,Kr,Lr,Nr,Pr,Rr,Ur,Wr,Zr,bs,ds,is,js,ms,ns,os,ss,ts,us,xs,Bs,Cs,Fs,Hs,Is,Ks,Os,Ps,Vs,Ws,Xs,it,mt,ot,pt,qt,rt,st,tt,vt,wt,xt,yt,Lt,Mt,St,Vt,Wt,eu,fu,hu,ku,mu,ou,pu,su,yu,Fu,Hu,Mu,Qu,Su,Xu,Zu,av,bv,dv,fv,hv,kv,mv,pv,rv,tv,yv,zv,Cv,Dv,Ev,Iv,Jv,Kv,Nv,Rv,Sv,Vv;
-u8 Qb,Rb,Xb,Yb,bc,cc,dc,ec,fc,lc,mc,nc,oc,pc,qc,rc,sc,uc,vc,wc,Fc,Lc,Nc,Oc,Tc,Uc,Vc,Wc,Zc,ad,bd,cd,dd,gd,kd,ld,md,od,pd,td,xd,zd,Bd,Fd,Hd,Id,Jd,Ld,Nd,Pd,Qd,Rd,Sd,Ud,Wd,Xd,Yd,Zd,be,ce,de,fe,je,ke,le,me,ue,ye,ze,Ae,Be,Fe,Ke,Oe,Pe,Qe,Re,Te,Xe,cf,df,ef,jf,nf,rf,uf,Af,Bf,Ef,Ff,Gf,Hf,If,Of,Pf,Qf,Rf,Sf,Tf,Uf,Vf,Xf,Yf,Zf,bg,dg,eg,jg,kg,lg,mg,pg,qg,rg,sg,tg,wg,Ag,Bg,Cg,Eg,Fg,Ig,Lg,Ng,Pg,Tg,Vg,Wg,Xg,Zg,bh,dh,eh,fh,gh,ih,kh,lh,mh,nh,ph,qh,rh,th,xh,yh,zh,Ah,Ih,Mh,Nh,Oh,Ph,Th,Yh,ci,di,ei,fi,hi,li,qi,ri,si,wi,Ai,Ei,Hi,Ni,Oi,Ri,Si,Ti,Ui,Vi,bj,cj,dj,ej,fj,gj,hj,ij,kj,lj,mj,vj,Aj,Cj,Dj,Ij,Jj,Kj,Lj,Oj,Pj,Qj,Rj,Sj,Vj,Zj,ak,bk,dk,ek,hk,kk,mk,ok,sk,uk,vk,wk,yk,Ak,Ck,Dk,Ek,Fk,Hk,Jk,Kk,Lk,Mk,Ok,Pk,Qk,Sk,Wk,Xk,Yk,Zk,hl,ll,ml,nl,ol,sl,xl,Bl,Cl,Dl,El,Gl,Kl,Pl,Ql,Rl,Vl,Zl,dm,gm,mm,nm,qm,rm,sm,tm,um,Am,Bm,Cm,Dm,Em,Fm,Gm,Hm,Jm,Km,Lm,Um,Zm,bn,cn,hn,in,jn,kn,nn,on,pn,qn,rn,un,yn,zn,An,Cn,Dn,Gn,Jn,Ln,Nn,Rn,Tn,Un,Vn,Xn,Zn,bo,co,eo,fo,ho,jo,ko,lo,mo,oo,po,qo,so,uo,vo,wo,xo,Fo,Jo,To,Xo,bp,gp,hp,ip,np,tp,zp,Cp,Ip,Jp,Mp,Np,Op,Pp,Qp,Wp,Xp,Yp,Zp,aq,bq,cq,dq,fq,gq,hq,jq,lq,mq,rq,sq,tq,uq,xq,yq,zq,Aq,Bq,Eq,Iq,Jq,Kq,Mq,Nq,Qq,Tq,Vq,Xq,br,dr,er,fr,hr,jr,lr,mr,nr,or,qr,sr,tr,ur,vr,xr,yr,zr,Br,Dr,Er,Fr,Gr,Or,Sr,cs,gs,ks,ps,qs,rs,vs,zs,Ds,Gs,Ms,Ns,Qs,Rs,Ss,Ts,Us,at,bt,ct,dt,et,ft,gt,ht,jt,kt,lt,ut,zt,Bt,Ct,Ht,It,Jt,Kt,Nt,Ot,Pt,Qt,Rt,Ut,Yt,Zt,au,cu,du,gu,ju,lu,nu,ru,tu,uu,vu,xu,zu,Bu,Cu,Du,Eu,Gu,Iu,Ju,Ku,Lu,Nu,Ou,Pu,Ru,Tu,Uu,Vu,Wu,ev,iv,sv,wv,Av,Fv,Gv,Hv,Lv,Pv,Tv,Wv;
-v16 Ub,Wb,xf,zf,Ki,Mi,jm,lm,Fp,Hp,Js,Ls;
-u8 *jc,*kc,*yc,*Mc,*Od,*oe,*se,*we,*Ce,*Ee,*Ie,*Me,*Ye,*kf,*sf,*Mf,*Nf,*cg,*ch,*Ch,*Gh,*Kh,*Qh,*Sh,*Wh,*ai,*mi,*xi,*Fi,*Zi,*aj,*oj,*Bj,*Bk,*bl,*fl,*jl,*pl,*rl,*vl,*zl,*Ll,*Wl,*em,*ym,*zm,*Nm,*an,*ao,*zo,*Do,*Ho,*Ko,*Mo,*Oo,*Ro,*Vo,*cp,*op,*Ap,*Up,*Vp,*kq,*kr,*Ir,*Mr,*Qr,*Tr,*Vr,*Xr,*as,*es,*ls,*ws,*Es,*Ys,*Zs,*nt,*At,*Au,*Yu,*cv,*gv,*jv,*lv,*nv,*qv,*uv,*Bv,*Mv,*Uv;
-u32 Pc,Qc,Sc,fd,jd,nd,vd,Ed,Kd,Ge,Se,Ue,mf,of,fg,gg,ig,vg,zg,Dg,Kg,Sg,Yg,Uh,gi,ii,zi,Bi,Ej,Fj,Hj,Uj,Yj,ck,jk,rk,xk,tl,Fl,Hl,Yl,am,dn,en,gn,tn,xn,Bn,In,Qn,Wn,Po,Wo,Yo,sp,up,nq,oq,qq,Dq,Hq,Lq,Sq,ar,gr,Yr,fs,hs,ys,As,Dt,Et,Gt,Tt,Xt,bu,iu,qu,wu,ov,vv,xv,Ov,Qv;
-u16 Rc,hg,Gj,fn,pq,Ft;
-Lb=c<<3;
-Mb=umin64(d>>2,Lb+1024);
+u8 k[32],m[4],n[32],q[32],r[32],s[32],y[4],z[4],H[32],J[4],K[32],N[32],O[32],P[32],V[4],W[4],ea[32],ga[4],ha[32],ka[32],la[32],ma[32],sa[4],ta[4],Ca[32],Ea[4],Fa[32],Ia[32],Ja[32],Ka[32],Qa[4],Ra[4],ab[32],cb[4],db[32],gb[32],hb[32],ib[32],ob[4],pb[4],yb[32],Ab[4],Bb[32],Eb[32],Fb[32],Gb[32],Mb[4],Nb[4];
+A16 u8 g[4],h[4],i[40],j[4],l[4],o[6],p[32],t[4],u[4],v[4],w[32],x[32],A[4],B[4],C[4],D[4],E[4],F[40],G[4],I[4],L[6],M[32],Q[4],R[4],S[4],T[32],U[32],X[4],Y[4],Z[4],aa[4],ba[4],ca[40],da[4],fa[4],ia[6],ja[32],na[4],oa[4],pa[4],qa[32],ra[32],ua[4],va[4],wa[4],xa[4],ya[4],za[40],Aa[4],Ba[4],Da[4],Ga[6],Ha[32],La[4],Ma[4],Na[4],Oa[32],Pa[32],Sa[4],Ta[4],Ua[4],Va[4],Wa[4],Xa[40],Ya[4],Za[4],bb[4],eb[6],fb[32],jb[4],kb[4],lb[4],mb[32],nb[32],qb[4],rb[4],sb[4],tb[4],ub[4],vb[40],wb[4],xb[4],zb[4],Cb[6],Db[32],Hb[4],Ib[4],Jb[4],Kb[32],Lb[32],Ob[4],Pb[4],Qb[4];
+u64 Rb,Sb,Tb,Ub,Xb,Yb,ac,ec,fc,lc,mc,nc,yc,zc,Dc,Fc,Gc,Hc,Ic,Kc,Lc,Mc,Nc,Oc,Rc,Sc,Tc,Uc,Vc,Wc,Xc,ld,md,td,xd,yd,Gd,Hd,Jd,Md,Od,Qd,Rd,Ud,ae,he,je,oe,se,ue,ve,we,Be,De,Ee,Fe,He,Je,Le,Re,Ve,Xe,Ze,bf,kf,lf,of,pf,qf,uf,vf,wf,zf,Df,Ef,Hf,Jf,Kf,Mf,Qf,Rf,Xf,Yf,Zf,kg,lg,pg,Dg,Eg,Kg,Ng,Og,Wg,Xg,Zg,ch,eh,gh,hh,kh,qh,xh,zh,Eh,Ih,Kh,Lh,Mh,Rh,Th,Uh,Vh,Xh,Zh,bi,hi,li,ni,pi,ri,zi,Ai,Di,Ei,Fi,Ji,Ki,Li,Oi,Si,Ti,Wi,Yi,Zi,bj,fj,gj,mj,nj,oj,zj,Aj,Ej,Gj,Hj,Ij,Jj,Lj,Mj,Nj,Oj,Pj,Sj,Tj,Uj,Vj,Wj,Xj,lk,mk,sk,vk,wk,Ek,Fk,Hk,Kk,Mk,Ok,Pk,Sk,Yk,fl,hl,ml,ql,sl,tl,ul,zl,Bl,Cl,Dl,Fl,Hl,Jl,Pl,Tl,Vl,Xl,Zl,hm,im,lm,mm,nm,rm,sm,tm,wm,Am,Bm,Em,Gm,Hm,Jm,Nm,Om,Um,Vm,Wm,hn,in,mn,on,pn,qn,rn,tn,un,vn,wn,xn,An,Bn,Cn,Dn,En,Fn,Tn,Un,ao,eo,fo,no,oo,qo,to,vo,xo,yo,Bo,Ho,Oo,Qo,Vo,Zo,bp,gp,ip,jp,kp,np,pp,tp,yp,Ap,Dp,Fp,Hp,Mp,Np,Qp,Rp,Sp,Wp,Xp,Yp,bq,fq,gq,jq,lq,mq,oq,sq,tq,zq,Aq,Bq,Mq,Nq,Rq,fr,gr,mr,pr,qr,yr,zr,Br,Er,Gr,Ir,Jr,Mr,Sr,Zr,bs,gs,ks,ms,rs,ts,us,vs,xs,zs,Bs,Es,Gs,Js,Ls,Ns,Ss,Ts,Ws,Xs,Ys,ct,dt,et,ht,lt,mt,pt,rt,st,ut,yt,zt,Ft,Gt,Ht,St,Tt,Xt,Zt,au,bu,cu,eu,fu,gu,hu,iu,lu,mu,nu,ou,pu,qu,Eu,Fu,Lu,Ou,Pu,Xu,Yu,av,dv,fv,hv,iv,lv,rv,yv,Av,Fv,Jv,Lv,Qv,Sv,Tv,Uv,Wv,Yv,aw,dw,fw,iw,kw,mw,rw,sw,vw,ww,xw,Bw,Cw,Dw,Gw,Kw,Lw,Ow;
+u8 Vb,Wb,cc,dc,gc,hc,ic,jc,kc,qc,rc,sc,tc,uc,vc,wc,xc,Ac,Bc,Cc,Yc,ad,bd,gd,id,jd,kd,nd,od,pd,qd,sd,vd,Ad,Bd,Cd,Ed,Fd,Id,Ld,Nd,Pd,Td,Vd,Wd,Xd,Zd,be,de,ee,fe,ge,ie,ke,le,me,ne,pe,qe,re,te,xe,ye,ze,Ae,Ie,Me,Ne,Oe,Pe,Te,Ye,cf,df,ef,ff,hf,mf,rf,sf,tf,xf,Bf,Ff,If,Of,Pf,Sf,Tf,Uf,Vf,Wf,cg,dg,eg,fg,gg,hg,ig,jg,mg,ng,og,qg,sg,tg,yg,Ag,Bg,Cg,Fg,Gg,Hg,Ig,Jg,Mg,Qg,Rg,Sg,Ug,Vg,Yg,bh,dh,fh,jh,lh,mh,nh,ph,rh,th,uh,vh,wh,yh,Ah,Bh,Ch,Dh,Fh,Gh,Hh,Jh,Nh,Oh,Ph,Qh,Yh,ci,di,ei,fi,ji,oi,si,ti,ui,vi,xi,Bi,Gi,Hi,Ii,Mi,Qi,Ui,Xi,dj,ej,hj,ij,jj,kj,lj,rj,sj,tj,uj,vj,wj,xj,yj,Bj,Cj,Dj,Yj,ak,bk,gk,ik,jk,kk,nk,ok,pk,qk,rk,uk,yk,zk,Ak,Ck,Dk,Gk,Jk,Lk,Nk,Rk,Tk,Uk,Vk,Xk,Zk,bl,cl,dl,el,gl,il,jl,kl,ll,nl,ol,pl,rl,vl,wl,xl,yl,Gl,Kl,Ll,Ml,Nl,Rl,Wl,am,bm,cm,dm,fm,jm,om,pm,qm,um,ym,Cm,Fm,Lm,Mm,Pm,Qm,Rm,Sm,Tm,Zm,an,bn,cn,dn,en,fn,gn,jn,kn,ln,Gn,In,Jn,On,Qn,Rn,Sn,Vn,Wn,Xn,Yn,Zn,co,ho,io,jo,lo,mo,po,so,uo,wo,Ao,Co,Do,Eo,Go,Io,Ko,Lo,Mo,No,Po,Ro,So,To,Uo,Wo,Xo,Yo,ap,cp,dp,ep,fp,op,up,Gp,Kp,Op,Tp,Up,Vp,Zp,dq,hq,kq,qq,rq,uq,vq,wq,xq,yq,Eq,Fq,Gq,Hq,Iq,Jq,Kq,Lq,Oq,Pq,Qq,Sq,Uq,Vq,ar,cr,dr,er,hr,ir,jr,kr,lr,or,sr,tr,ur,wr,xr,Ar,Dr,Fr,Hr,Lr,Nr,Or,Pr,Rr,Tr,Vr,Wr,Xr,Yr,as,cs,ds,es,fs,hs,is,js,ls,ns,os,ps,qs,ys,Cs,Ms,Qs,Us,Zs,at,bt,ft,jt,nt,qt,wt,xt,At,Bt,Ct,Dt,Et,Kt,Lt,Mt,Nt,Ot,Pt,Qt,Rt,Ut,Vt,Wt,ru,tu,uu,zu,Bu,Cu,Du,Gu,Hu,Iu,Ju,Ku,Nu,Ru,Su,Tu,Vu,Wu,Zu,cv,ev,gv,kv,mv,nv,ov,qv,sv,uv,vv,wv,xv,zv,Bv,Cv,Dv,Ev,Gv,Hv,Iv,Kv,Mv,Nv,Ov,Pv,Xv,bw,lw,pw,tw,yw,zw,Aw,Ew,Iw,Mw,Pw;
+v16 Zb,bc,Lf,Nf,aj,cj,Im,Km,nq,pq,tt,vt;
+u8 *oc,*pc,*Ec,*Pc,*Qc,*Zc,*ce,*Ce,*Ge,*Ke,*Qe,*Se,*We,*af,*nf,*yf,*Gf,*ag,*bg,*rg,*sh,*Sh,*Wh,*ai,*gi,*ii,*mi,*qi,*Ci,*Ni,*Vi,*pj,*qj,*Fj,*Qj,*Rj,*Zj,*al,*Al,*El,*Il,*Ol,*Ql,*Ul,*Yl,*km,*vm,*Dm,*Xm,*Ym,*nn,*yn,*zn,*Hn,*Jo,*hp,*lp,*sp,*vp,*zp,*Bp,*Ep,*Ip,*Pp,*aq,*iq,*Cq,*Dq,*Tq,*Ur,*ss,*ws,*As,*Ds,*Fs,*Hs,*Ks,*Os,*Vs,*gt,*ot,*It,*Jt,*Yt,*ju,*ku,*su,*tv,*Rv,*Vv,*Zv,*cw,*ew,*gw,*jw,*nw,*uw,*Fw,*Nw;
+u16 Jc,ed,hd,wg,zg,Kj,ek,hk,sn,Mn,Pn,Yq,br,du,xu,Au;
+u32 cd,dd,fd,ud,zd,Dd,Kd,Sd,Yd,Ue,gf,jf,Af,Cf,ug,vg,xg,Lg,Pg,Tg,ah,ih,oh,ki,wi,yi,Pi,Ri,ck,dk,fk,tk,xk,Bk,Ik,Qk,Wk,Sl,em,gm,xm,zm,Kn,Ln,Nn,bo,go,ko,ro,zo,Fo,Cp,Jp,Lp,cq,eq,Wq,Xq,Zq,nr,rr,vr,Cr,Kr,Qr,Is,Ps,Rs,it,kt,vu,wu,yu,Mu,Qu,Uu,bv,jv,pv,hw,ow,qw,Hw,Jw;
+Rb=umin64(d>>2,(c<<5)+1024);
 if(r8(a+8)!=0)w8(a+8,0);
-w8(a+24,Mb);
-Nb=r8(a+16);
-Ob=umin64(Nb,Mb);
-w8(a+32,Ob);
+w8(a+24,Rb);
+Sb=r8(a+16);
+Tb=umin64(Sb,Rb);
+w8(a+32,Tb);
 if(r8(a+48)!=0)w8(a+48,0);
-Pb=c&4294967295u;
-w8(a+64,Pb);
-w8(a+72,umin64(r8(a+56),Pb));
+Ub=c&4294967295u;
+w8(a+64,Ub);
+w8(a+72,umin64(r8(a+56),Ub));
 if(r8(a+88)!=0)w8(a+88,0);
-w8(a+104,Pb);
-w8(a+112,umin64(r8(a+96),Pb));
+w8(a+104,Ub);
+w8(a+112,umin64(r8(a+96),Ub));
 a[172]=0;
-Qb=c>65536;
+Vb=c>65536;
 if(e){
 switch(f){
-case 3:if(Qb)goto L1;
+case 3:if(Vb)goto L1;
 if(c<16){
-Rb=are_few_named_14c(b,c);
-if(!Rb)goto L1;}
+Wb=are_few_named_14c(b,c);
+if(!Wb)goto L1;}
 else{
-Sb=c-16;
-if(Sb==0)goto L2;
-Tb=0;
-L3:Ub=v16_at(b+Tb);
-if((v16_ult(Ub,splat(33))|v16_eq(Ub,splat(127)))!=0)goto L1;
-Vb=Tb+16;
-if(Vb<Sb){
-Tb=Vb;
+Xb=c-16;
+if(Xb==0)goto L2;
+Yb=0;
+L3:Zb=v16_at(b+Yb);
+if((v16_ult(Zb,splat(33))|v16_eq(Zb,splat(127)))!=0)goto L1;
+ac=Yb+16;
+if(ac<Xb){
+Yb=ac;
 goto L3;}
-L2:Wb=v16_at(b+Sb);
-if((v16_ult(Wb,splat(33))|v16_eq(Wb,splat(127)))!=0)goto L1;}
-w4(Oa,0);
-w4(Pa,0);
+L2:bc=v16_at(b+Xb);
+if((v16_ult(bc,splat(33))|v16_eq(bc,splat(127)))!=0)goto L1;}
+w4(Sa,0);
+w4(Ta,0);
 if(c!=0){
 if(c!=1&&*b==95){
 if(b[1]==90){
 if(c>=3){
-Xb=b[2];
+cc=b[2];
 if(c<5){
-if(Xb==90)goto L4;
-if((c!=3)&(Xb==71)){
+if(cc==90)goto L4;
+if((c!=3)&(cc==71)){
 if(b[3]==86)goto L5;
 goto L6;}
-switch(Xb){
+switch(cc){
 case 71:goto L6;
 case 84:if(c==3)goto L7;
 break;
 default:goto L8;
 }}
 else{
-switch(Xb){
+switch(cc){
 case 90:goto L4;
 case 71:if(b[3]!=86)goto L6;
 if(b[4]!=90)goto L5;
-if(Ob<19){
-Yb=make_ready_8e3(a,19,128);
-if(!(Yb&1)){
-bc=0;
-cc=0;
-dc=0;
-ec=0;
+if(Tb<19){
+dc=make_ready_8e3(a,19,128);
+if(!(dc&1)){
+gc=0;
+hc=0;
+ic=0;
+jc=0;
 goto L9;}
-Zb=r8(a+16);
-ac=r8(a+8);}
+ec=r8(a+16);
+fc=r8(a+8);}
 else{
-Zb=Nb;
-ac=0;}
-if(Zb-ac<19){
-fc=grow_amortized_2b6(a,19);
-if(!fc){
-bc=0;
-cc=0;
-dc=0;
-ec=0;
+ec=Sb;
+fc=0;}
+if(ec-fc<19){
+kc=grow_amortized_2b6(a,19);
+if(!kc){
+gc=0;
+hc=0;
+ic=0;
+jc=0;
 goto L9;}
-gc=r8(a+16);
-hc=r8(a+8);}
+lc=r8(a+16);
+mc=r8(a+8);}
 else{
-gc=Zb;
-hc=ac;}
-ic=hc+19;
-jc=rp(a);
+lc=ec;
+mc=fc;}
+nc=mc+19;
+oc=rp(a);
 z16(a+8);
-kc=jc+(i64)hc;
-if((u64)kc-(u64)(u8*)t_c270<19)copy_bits_4f4((u8*)t_c270,kc,19);
-else memcpy(kc,(u8*)t_c270,19);
-wp(a,jc);
-w8(a+8,ic);
-w8(a+16,gc);
+pc=oc+(i64)mc;
+if((u64)pc-(u64)(u8*)t_c270<19)copy_bits_4f4((u8*)t_c270,pc,19);
+else memcpy(pc,(u8*)t_c270,19);
+wp(a,oc);
+w8(a+8,nc);
+w8(a+16,lc);
 w8(a+176,5);
-begin_encoding_8af(Ma,a,b,c);
-bc=Ma[3];
-cc=Ma[2];
-dc=Ma[1];
-ec=*Ma;
-L9:lc=bc;
-mc=cc;
-nc=dc;
-oc=ec;
+begin_encoding_8af(Qa,a,b,c);
+gc=Qa[3];
+hc=Qa[2];
+ic=Qa[1];
+jc=*Qa;
+L9:qc=gc;
+rc=hc;
+sc=ic;
+tc=jc;
 goto L10;
 case 84:break;
 default:goto L8;
 }}
 switch(b[3]){
-case 104:begin_thunk_cdf(Pa,a,b,c);
+case 104:begin_thunk_cdf(Ta,a,b,c);
 goto L11;
-case 118:begin_virtual_thunk_2ec(Pa,a,b,c);
+case 118:begin_virtual_thunk_2ec(Ta,a,b,c);
+goto L11;
+case 67:begin_table_89f(Ta,a);
 goto L11;
 default:break;}
-L7:begin_special_44d(Pa,a,b,c);
-L11:pc=Pa[3];
-qc=Pa[2];
-rc=Pa[1];
-sc=*Pa;
+L7:begin_special_44d(Ta,a,b,c);
+L11:uc=Ta[3];
+vc=Ta[2];
+wc=Ta[1];
+xc=*Ta;
 goto L12;
-L6:begin_clone_d83(Oa,a,b,c);
-pc=Oa[3];
-qc=Oa[2];
-rc=Oa[1];
-sc=*Oa;
+L6:begin_clone_d83(Sa,a,b,c);
+uc=Sa[3];
+vc=Sa[2];
+wc=Sa[1];
+xc=*Sa;
 goto L12;
-L5:begin_object_4cd(Oa,a,b,c);
-pc=Oa[3];
-qc=Oa[2];
-rc=Oa[1];
-sc=*Oa;
+L5:begin_object_4cd(Sa,a,b,c);
+uc=Sa[3];
+vc=Sa[2];
+wc=Sa[1];
+xc=*Sa;
 goto L12;
 L4:w8(a+176,3);
-begin_encoding_8af(Na,a,b,c);
-lc=Na[3];
-mc=Na[2];
-nc=Na[1];
-oc=*Na;
-L10:pc=lc;
-qc=mc;
-rc=nc;
-sc=oc;
+begin_encoding_8af(Ra,a,b,c);
+qc=Ra[3];
+rc=Ra[2];
+sc=Ra[1];
+tc=*Ra;
+L10:uc=qc;
+vc=rc;
+wc=sc;
+xc=tc;
 goto L12;}
 L8:w8(a+176,2);
-begin_encoding_8af(Oa,a,b,c);
-pc=Oa[3];
-qc=Oa[2];
-rc=Oa[1];
-sc=*Oa;
-L12:if(sc!=1)goto L1;
-tc=0;
-uc=pc;
-vc=qc;
-wc=rc;
-L13:if(wc==7){
-xc=r8(a+8);
-if(xc>Mb)goto L14;
-yc=rp(a);
-if(xc==0){
+begin_encoding_8af(Sa,a,b,c);
+uc=Sa[3];
+vc=Sa[2];
+wc=Sa[1];
+xc=*Sa;
+L12:if(xc!=1)goto L1;
+yc=c<<3;
 zc=0;
-goto L15;}
-Ac=0;
-L16:if(*(yc+Ac)>2){
-Bc=Ac+1;
-if(Bc==xc)goto L17;
-Ac=Bc;
-goto L16;}
-zc=Ac;
-L15:if(zc>=xc)goto L17;
-Cc=zc;
-Dc=zc;
-Ec=0;
-L18:Fc=*(yc+Cc);
-if(Fc>2){
-if(Ec==0){
-*(yc+Dc)=Fc;
+Ac=uc;
+Bc=vc;
+Cc=wc;
+L13:if(Cc==7){
+Dc=r8(a+8);
+if(Dc>Rb)goto L14;
+Ec=rp(a);
+if(Dc==0)goto L15;
+Fc=0;
 Gc=0;
-Hc=Dc+1;}
+Hc=0;
+L16:Ic=Fc;
+L17:if(Dc-Ic>15){
+Jc=cttz(v16_ult(v16_at(Ec+Ic),splat(3)),16);
+Kc=Ic+Jc;
+if(Jc>=16){
+Ic=Kc;
+goto L17;}
+Lc=Kc;}
 else{
-Gc=Ec;
-Hc=Dc;}}
-else{
-switch(Fc){
-case 2:Gc=usub64(Ec,1);
-Hc=Dc;
+if(Ic>=Dc){
+Lc=Ic;
+goto L18;}
+Mc=Ic;
+L19:if(*(Ec+Mc)>2){
+Nc=Mc+1;
+if(Nc!=Dc){
+Mc=Nc;
+goto L19;}
+Lc=Dc;}
+else Lc=Mc;}
+L18:if(Hc==0){
+if(Gc<Fc){
+if(Lc!=Fc){
+Oc=Lc-Fc;
+Pc=Ec+(i64)Fc;
+Qc=Ec+(i64)Gc;
+Rc=0;
+L20:*(Qc+(i64)Rc)=*(Pc+(i64)Rc);
+Sc=Rc+1;
+if(Sc!=Oc){
+Rc=Sc;
+goto L20;}}}
+Tc=Gc-Fc+Lc;}
+else Tc=Gc;
+if(Lc!=Dc){
+switch(*(Ec+Lc)){
+case 1:Uc=Hc+1;
 break;
-case 1:Gc=Ec+1;
-Hc=Dc;
+case 2:Uc=usub64(Hc,1);
 break;
 default:goto L1;
-}}
-Ic=Cc+1;
-if(Ic==xc){
-if(r8(a+8)<=Hc)goto L17;
-Jc=Hc;
+}
+Vc=Lc+1;
+if(Vc<Dc){
+Fc=Vc;
+Gc=Tc;
+Hc=Uc;
+goto L16;}}
+if(r8(a+8)<=Tc)goto L15;
+Wc=Tc;
 break;}
-Cc=Ic;
-Dc=Hc;
-Ec=Gc;
-goto L18;}
 w8(a+184,r8(a+184)+1);
-w4(Qa,0);
-switch(wc){
-case 0:type_at_11d(Qa,a,b,c,0);
+w4(Ua,0);
+switch(Cc){
+case 0:type_at_11d(Ua,a,b,c,0);
 break;
-case 1:type_at_11d(Qa,a,b,c,1);
+case 1:type_at_11d(Ua,a,b,c,1);
 break;
-case 2:w4(Ia,0);
-w4(Ja,0);
-z32(Ka);
-z32(La);
-Kc=r8(a+88);
-if(Kc==0)w4(Qa,0);
+case 2:w4(Ma,0);
+w4(Na,0);
+z32(Oa);
+z32(Pa);
+Xc=r8(a+88);
+if(Xc==0)w4(Ua,0);
 else{
-Lc=vc&1;
-Mc=rp(a+80)+(i64)(Kc*44);
-Nc=Mc[-44];
-Oc=Mc[-43];
-Pc=q4(Mc-40);
-Qc=q4(Mc-36);
-Rc=q2(Mc-32);
-switch(Nc){
-case 25:case 24:case 23:case 22:case 4:case 5:case 6:case 7:case 8:case 11:case 12:case 13:case 14:case 15:case 16:case 17:case 18:case 19:case 20:case 21:if(uc&1){
-pass_dependent_3d7(Ia,a,b,c);
-*Qa=*Ia;
-Qa[1]=Ia[1];
-Qa[2]=Ia[2];
-Qa[3]=Ia[3];
-goto L19;}
-Sc=q4(Mc-4);
-Tc=Qc;
-w4(Ha,0);
-switch(Nc){
-case 19:returned_322(Ha,a,b,c,Oc&1);
+Yc=Bc&1;
+Zc=rp(a+80)+(i64)(Xc*44);
+ad=Zc[-44];
+bd=Zc[-43];
+cd=q4(Zc-40);
+dd=q4(Zc-36);
+ed=q2(Zc-32);
+switch(ad){
+case 29:case 28:case 27:case 26:case 4:case 5:case 6:case 7:case 8:case 11:case 12:case 13:case 14:case 15:case 16:case 17:case 18:case 19:case 20:case 21:case 22:case 23:case 24:case 25:if(Ac&1){
+pass_dependent_3d7(Ma,a,b,c);
+*Ua=*Ma;
+Ua[1]=Ma[1];
+Ua[2]=Ma[2];
+Ua[3]=Ma[3];
+goto L21;}
+fd=q4(Zc-4);
+gd=dd;
+hd=dd>>16;
+w4(La,0);
+switch(ad){
+case 22:returned_07a(La,a,b,c,bd&1);
 break;
-case 20:parameter_at_3ac(Ha,a,b,c,Oc&1,0);
+case 23:parameter_at_257(La,a,b,c,bd&1,0);
 break;
-case 21:array_ended_1b3(Ha,a,b,c,Oc,Pc,Qc);
+case 24:array_ended_b9c(La,a,b,c,bd,cd,dd);
 break;
-case 12:enclosing_parameter_fc1(Ha,a,b,c,Pc,Qc);
+case 12:enclosing_parameter_fc1(La,a,b,c,cd,dd);
 break;
-case 13:instance_parameter_240(Ha,a,b,c,Oc,Pc,Qc);
+case 13:instance_parameter_240(La,a,b,c,bd,cd,dd);
 break;
-case 11:w2(Ca,Rc);
-memcpy(Ca+2,Mc-30,26);
-x4(Ca+28,Sc);
-enclosing_front_fa8(Ha,a,Oc,Pc,Qc,Ca);
+case 11:w2(Fa,ed);
+memcpy(Fa+2,Zc-30,26);
+x4(Fa+28,fd);
+enclosing_front_fa8(La,a,bd,cd,dd,Fa);
 break;
-case 17:w2(Da,(u16)Qc&255);
-w2(Da+2,Qc>>16);
-w2(Da+4,Rc);
-lambda_parameter_f9a(Ha,a,b,c,Pc,Da);
+case 17:w4(Ga,dd);
+w2(Ga+4,ed);
+lambda_parameter_383(La,a,b,c,cd,Ga);
 break;
-case 15:w4(Ea,Qc);
-w2(Ea+4,Rc);
-memcpy(Ea+6,Mc-30,26);
-addressed_front_54d(Ha,a,b,c,Oc,Pc,Ea);
+case 18:member_parameter_7e4(La,a,b,c,cd);
 break;
-case 16:addressed_parameter_2cf(Ha,a,b,c,Pc);
+case 15:w4(Ha,dd);
+w2(Ha+4,ed);
+memcpy(Ha+6,Zc-30,26);
+addressed_front_54d(La,a,b,c,bd,cd,Ha);
 break;
-case 14:*Ha=0;
+case 16:addressed_parameter_2cf(La,a,b,c,cd);
 break;
-case 18:finish_8cd(Ha,a,b,c);
+case 14:*La=0;
 break;
-case 25:enumerator_21c(Ha,a,b,c);
+case 19:finish_8cd(La,a,b,c);
 break;
-case 22:w2(Fa,Qc>>16);
-w2(Fa+2,Rc);
-memcpy(Fa+4,Mc-30,26);
-w2(Fa+30,Sc);
-argument_ended_e71(Ha,a,b,c,Pc,Tc,Fa,Lc);
+case 20:derived_ended_aef(La,a,b,c);
 break;
-case 24:w2(Ga,Qc>>16);
-w2(Ga+2,Rc);
-memcpy(Ga+4,Mc-30,26);
-w2(Ga+30,Sc);
-element_ended_20b(Ha,a,b,c,Pc,Tc,Ga,Lc);
+case 21:base_ended_299(La,a,b,c,cd);
 break;
-case 23:case 10:case 9:case 8:case 4:case 5:case 6:case 7:*Ha=1;
-Ha[1]=3;
-Ha[2]=0;
-Ha[3]=0;
+case 29:enumerator_21c(La,a,b,c);
+break;
+case 26:w2(Ia,hd);
+w2(Ia+2,ed);
+memcpy(Ia+4,Zc-30,26);
+w2(Ia+30,fd);
+argument_enumerator_87a(La,a,b,c,cd,gd,Ia);
+break;
+case 25:w2(Ja,hd);
+w2(Ja+2,ed);
+memcpy(Ja+4,Zc-30,26);
+w2(Ja+30,fd);
+argument_ended_e71(La,a,b,c,cd,gd,Ja,Yc);
+break;
+case 28:w2(Ka,hd);
+w2(Ka+2,ed);
+memcpy(Ka+4,Zc-30,26);
+w2(Ka+30,fd);
+element_ended_20b(La,a,b,c,cd,gd,Ka,Yc);
+break;
+case 27:case 10:case 9:case 8:case 4:case 5:case 6:case 7:*La=1;
+La[1]=3;
+La[2]=0;
+La[3]=0;
 break;
 default:NEVER;
 }
-Uc=Ha[1];
-Vc=Ha[2];
-Wc=Ha[3];
-*Ja=*Ha;
-Ja[1]=Uc;
-Ja[2]=Vc;
-Ja[3]=Wc;
-goto L20;
-case 10:w4(Ka,Qc);
-w2(Ka+4,Rc);
-memcpy(Ka+6,Mc-30,26);
-parameter_ended_d3f(Ja,a,b,c,Pc,Ka);
-goto L20;
-case 9:w4(La,Qc);
-w2(La+4,Rc);
-memcpy(La+6,Mc-30,26);
-front_ended_665(Ja,a,b,c,Oc,Pc,La);
-goto L20;
-case 0:w8(a+88,Kc-1);
-Xc=r8(a+8);
-if(r8(a+32)>Xc)Yc=Xc;
+id=La[1];
+jd=La[2];
+kd=La[3];
+*Na=*La;
+Na[1]=id;
+Na[2]=jd;
+Na[3]=kd;
+goto L22;
+case 10:w4(Oa,dd);
+w2(Oa+4,ed);
+memcpy(Oa+6,Zc-30,26);
+parameter_ended_d3f(Na,a,b,c,cd,Oa);
+goto L22;
+case 9:w4(Pa,dd);
+w2(Pa+4,ed);
+memcpy(Pa+6,Zc-30,26);
+front_ended_665(Na,a,b,c,bd,cd,Pa);
+goto L22;
+case 0:w8(a+88,Xc-1);
+ld=r8(a+8);
+if(r8(a+32)>ld)md=ld;
 else{
-Zc=make_ready_8e3(a,1,16);
-if(!(Zc&1)){
-ad=0;
-bd=0;
-cd=0;
-dd=0;
-goto L21;}
-Yc=r8(a+8);}
-*(rp(a)+Yc)=42;
-ed=Yc+1;
-w8(a+8,ed);
-fd=ed;
-gd=uc&1;
-hd=r8(a+48);
-if(r8(a+72)>hd){
-id=hd;
-jd=fd;
-kd=0;
-ld=gd;
-goto L22;}
-md=make_ready_17a(a+40);
-if(!(md&1)){
-ad=0;
-bd=0;
-cd=0;
-dd=0;
-goto L21;}
-nd=fd;
+nd=make_ready_8e3(a,1,16);
+if(!(nd&1)){
 od=0;
-pd=gd;
+pd=0;
+qd=0;
+sd=0;
+goto L23;}
+md=r8(a+8);}
+*(rp(a)+md)=42;
+td=md+1;
+w8(a+8,td);
+ud=td;
+vd=Ac&1;
+xd=r8(a+48);
+if(r8(a+72)>xd){
+yd=xd;
+zd=ud;
+Ad=0;
+Bd=vd;
+goto L24;}
+Cd=make_ready_17a(a+40);
+if(!(Cd&1)){
+od=0;
+pd=0;
+qd=0;
+sd=0;
+goto L23;}
+Dd=ud;
+Ed=0;
+Fd=vd;
 break;
-case 1:if(Lc)goto L20;
-w8(a+88,Kc-1);
-qd=r8(a+8);
-if(r8(a+32)>qd)sd=qd;
+case 1:if(Yc)goto L22;
+w8(a+88,Xc-1);
+Gd=r8(a+8);
+if(r8(a+32)>Gd)Hd=Gd;
 else{
-td=make_ready_8e3(a,1,16);
-if(!(td&1)){
-ad=0;
-bd=0;
-cd=0;
-dd=0;
-goto L21;}
-sd=r8(a+8);}
-*(rp(a)+sd)=38;
-ud=sd+1;
-w8(a+8,ud);
-vd=ud;
-xd=uc&1;
-yd=r8(a+48);
-if(r8(a+72)>yd){
-id=yd;
-jd=vd;
-kd=1;
-ld=xd;
-goto L22;}
-zd=make_ready_17a(a+40);
-if(!(zd&1)){
-ad=0;
-bd=0;
-cd=0;
-dd=0;
-goto L21;}
-nd=vd;
-od=1;
-pd=xd;
-break;
-case 2:if(Lc)goto L20;
-w8(a+88,Kc-1);
-Ad=r8(a+8);
-if(r8(a+32)-Ad<2){
-Bd=make_ready_8e3(a,2,128);
-if(!(Bd&1)){
-ad=0;
-bd=0;
-cd=0;
-dd=0;
-goto L21;}
-Cd=r8(a+8);}
-else Cd=Ad;
-*(rp(a)+Cd)=38;
-*(rp(a)+(i64)Cd+1)=38;
-Dd=Cd+2;
-w8(a+8,Dd);
-Ed=Dd;
-Fd=uc&1;
-Gd=r8(a+48);
-if(r8(a+72)>Gd){
-id=Gd;
-jd=Ed;
-kd=1;
-ld=Fd;
-goto L22;}
-Hd=make_ready_17a(a+40);
-if(!(Hd&1)){
-ad=0;
-bd=0;
-cd=0;
-dd=0;
-goto L21;}
-nd=Ed;
-od=1;
-pd=Fd;
-break;
-case 3:if(Lc)goto L20;
-w8(a+88,Kc-1);
-if(r8(a+32)-r8(a+8)<6){
-Id=make_ready_8e3(a,6,128);
+Id=make_ready_8e3(a,1,16);
 if(!(Id&1)){
-ad=0;
-bd=0;
-cd=0;
-dd=0;
-goto L21;}}
-Jd=extend_from_slice_169(a,(u8*)t_f603,6);
-if(Jd&1){
-ad=0;
-bd=0;
-cd=0;
-dd=0;
-goto L21;}
-Kd=r8(a+8);
-Ld=uc&1;
+od=0;
+pd=0;
+qd=0;
+sd=0;
+goto L23;}
+Hd=r8(a+8);}
+*(rp(a)+Hd)=38;
+Jd=Hd+1;
+w8(a+8,Jd);
+Kd=Jd;
+Ld=Ac&1;
 Md=r8(a+48);
 if(r8(a+72)>Md){
-id=Md;
-jd=Kd;
-kd=0;
-ld=Ld;
-goto L22;}
+yd=Md;
+zd=Kd;
+Ad=1;
+Bd=Ld;
+goto L24;}
 Nd=make_ready_17a(a+40);
 if(!(Nd&1)){
-ad=0;
-bd=0;
-cd=0;
-dd=0;
-goto L21;}
-nd=Kd;
 od=0;
-pd=Ld;
+pd=0;
+qd=0;
+sd=0;
+goto L23;}
+Dd=Kd;
+Ed=1;
+Fd=Ld;
+break;
+case 2:if(Yc)goto L22;
+w8(a+88,Xc-1);
+Od=r8(a+8);
+if(r8(a+32)-Od<2){
+Pd=make_ready_8e3(a,2,128);
+if(!(Pd&1)){
+od=0;
+pd=0;
+qd=0;
+sd=0;
+goto L23;}
+Qd=r8(a+8);}
+else Qd=Od;
+*(rp(a)+Qd)=38;
+*(rp(a)+(i64)Qd+1)=38;
+Rd=Qd+2;
+w8(a+8,Rd);
+Sd=Rd;
+Td=Ac&1;
+Ud=r8(a+48);
+if(r8(a+72)>Ud){
+yd=Ud;
+zd=Sd;
+Ad=1;
+Bd=Td;
+goto L24;}
+Vd=make_ready_17a(a+40);
+if(!(Vd&1)){
+od=0;
+pd=0;
+qd=0;
+sd=0;
+goto L23;}
+Dd=Sd;
+Ed=1;
+Fd=Td;
+break;
+case 3:if(Yc)goto L22;
+w8(a+88,Xc-1);
+if(r8(a+32)-r8(a+8)<6){
+Wd=make_ready_8e3(a,6,128);
+if(!(Wd&1)){
+od=0;
+pd=0;
+qd=0;
+sd=0;
+goto L23;}}
+Xd=extend_from_slice_169(a,(u8*)t_f603,6);
+if(Xd&1){
+od=0;
+pd=0;
+qd=0;
+sd=0;
+goto L23;}
+Yd=r8(a+8);
+Zd=Ac&1;
+ae=r8(a+48);
+if(r8(a+72)>ae){
+yd=ae;
+zd=Yd;
+Ad=0;
+Bd=Zd;
+goto L24;}
+be=make_ready_17a(a+40);
+if(!(be&1)){
+od=0;
+pd=0;
+qd=0;
+sd=0;
+goto L23;}
+Dd=Yd;
+Ed=0;
+Fd=Zd;
 break;
 default:NEVER;
 }
-id=r8(a+48);
-jd=nd;
-kd=od;
-ld=pd;
-L22:Od=rp(a+40)+id*12;
-x4(Od,Pc);
-x4(Od+4,jd);
-Od[8]=kd;
-Od[9]=ld;
-x2(Od+10,0);
-w8(a+48,id+1);
-ad=ld;
-bd=kd;
-cd=2;
-dd=1;
-L21:*Ja=dd;
-Ja[1]=cd;
-Ja[2]=bd;
-Ja[3]=ad;
-L20:Pd=Ja[1];
-Qd=Ja[2];
-Rd=Ja[3];
-*Qa=*Ja;
-Qa[1]=Pd;
-Qa[2]=Qd;
-Qa[3]=Rd;}
-L19:break;
-case 3:Sd=vc&1;
-w4(Aa,0);
-Td=r8(a+176);
-if(Td<c){
-Ud=*(b+Td);
-switch(Ud){
-case 69:w4(ya,0);
-w8(a+176,Td+1);
-Vd=r8(a+88);
-if(Vd==0){
-Wd=0;
-Xd=0;
-Yd=0;
-Zd=0;}
+yd=r8(a+48);
+zd=Dd;
+Ad=Ed;
+Bd=Fd;
+L24:ce=rp(a+40)+yd*12;
+x4(ce,cd);
+x4(ce+4,zd);
+ce[8]=Ad;
+ce[9]=Bd;
+x2(ce+10,0);
+w8(a+48,yd+1);
+od=Bd;
+pd=Ad;
+qd=2;
+sd=1;
+L23:*Na=sd;
+Na[1]=qd;
+Na[2]=pd;
+Na[3]=od;
+L22:de=Na[1];
+ee=Na[2];
+fe=Na[3];
+*Ua=*Na;
+Ua[1]=de;
+Ua[2]=ee;
+Ua[3]=fe;}
+L21:break;
+case 3:ge=Bc&1;
+w4(Da,0);
+he=r8(a+176);
+if(he<c){
+ie=*(b+he);
+switch(ie){
+case 69:w4(Ba,0);
+w8(a+176,he+1);
+je=r8(a+88);
+if(je==0){
+ke=0;
+le=0;
+me=0;
+ne=0;}
 else{
-if(*(rp(a+80)+(i64)(Vd*44)-44)==23){
-if(Sd){
-Wd=0;
-Xd=0;
-Yd=0;
-Zd=0;}
+if(*(rp(a+80)+(i64)(je*44)-44)==27){
+if(ge){
+ke=0;
+le=0;
+me=0;
+ne=0;}
 else{
-w8(a+88,Vd-1);
-Wd=0;
-Xd=0;
-Yd=3;
-Zd=1;}}
+w8(a+88,je-1);
+ke=0;
+le=0;
+me=3;
+ne=1;}}
 else{
-z32(za);
-close_list_3c2(ya,a,b,c,za);
-Wd=ya[3];
-Xd=ya[2];
-Yd=ya[1];
-Zd=*ya;}}
-*Qa=Zd;
-Qa[1]=Yd;
-Qa[2]=Xd;
-Qa[3]=Wd;
-goto L23;
-case 74:ae=Td+1;
-if(ae<c){
-if(*(b+ae)==69){
-empty_pack_ea9(Aa,a,b,c,Sd);
-*Qa=*Aa;
-Qa[1]=Aa[1];
-Qa[2]=Aa[2];
-Qa[3]=Aa[3];
-goto L23;}}
-if(!Sd){
-be=74;
-goto L24;}
-first_pack_117(Aa,a,b,c);
-*Qa=*Aa;
-Qa[1]=Aa[1];
-Qa[2]=Aa[2];
-Qa[3]=Aa[3];
-goto L23;
-default:ce=Ud;
+z32(Ca);
+close_list_3c2(Ba,a,b,c,Ca);
+ke=Ba[3];
+le=Ba[2];
+me=Ba[1];
+ne=*Ba;}}
+*Ua=ne;
+Ua[1]=me;
+Ua[2]=le;
+Ua[3]=ke;
+goto L25;
+case 74:oe=he+1;
+if(oe<c){
+if(*(b+oe)==69){
+empty_pack_ea9(Da,a,b,c,ge);
+*Ua=*Da;
+Ua[1]=Da[1];
+Ua[2]=Da[2];
+Ua[3]=Da[3];
+goto L25;}}
+if(!ge){
+pe=74;
+goto L26;}
+first_pack_117(Da,a,b,c);
+*Ua=*Da;
+Ua[1]=Da[1];
+Ua[2]=Da[2];
+Ua[3]=Da[3];
+goto L25;
+default:qe=ie;
 break;}}
-else ce=0;
-if(Sd){
-de=ce;
-goto L25;}
-be=ce;
-L24:ee=r8(a+8);
-if(r8(a+32)-ee<2){
-fe=make_ready_8e3(a,2,128);
-if(!(fe&1)){
-w4(Qa,0);
-goto L23;}
-ge=r8(a+8);}
-else ge=ee;
-*(rp(a)+ge)=44;
-*(rp(a)+(i64)ge+1)=32;
-w8(a+8,ge+2);
-de=be;
-L25:switch(de){
-case 88:he=r8(a+176);
-if(he==18446744073709551615u){
-w4(Qa,0);
-goto L23;}
-ie=he+1;
-if(ie<c){
-if(*(b+ie)==115){
-begin_level_398(Aa,a,b,c);
-*Qa=*Aa;
-Qa[1]=Aa[1];
-Qa[2]=Aa[2];
-Qa[3]=Aa[3];
-goto L23;}}
-break;
-case 76:if(Sd){
-first_literal_c8e(Aa,a,b,c);
-*Qa=*Aa;
-Qa[1]=Aa[1];
-Qa[2]=Aa[2];
-Qa[3]=Aa[3];
-goto L23;}
-literal_4a5(Ba,a,b,c);
-je=Ba[3];
-ke=Ba[2];
-le=Ba[1];
-me=*Ba;
-goto L26;
-case 74:ne=r8(a+88);
-if(ne==0){
-je=0;
-ke=0;
-le=0;
-me=0;
-goto L26;}
-oe=rp(a+80);
-pe=ne*44;
-if(*(oe+(i64)pe-44)==23){
-je=0;
-ke=0;
-le=0;
-me=0;
-goto L26;}
-qe=r8(a+176);
-if(qe==18446744073709551615u){
-je=0;
-ke=0;
-le=0;
-me=0;
-goto L26;}
-w8(a+176,qe+1);
-if(r8(a+112)>ne){
-re=pe;
-se=oe;
-te=ne;}
-else{
-ue=make_ready_9a1(a+80);
-if(!(ue&1)){
-je=0;
-ke=0;
-le=0;
-me=0;
-goto L26;}
-ve=r8(a+88);
-re=ve*44;
-se=rp(a+80);
-te=ve;}
-we=se+re;
-*we=23;
-z43(we+1);
-w8(a+88,te+1);
-je=0;
-ke=1;
-le=3;
-me=1;
-goto L26;
-default:break;}
-if(Sd){
-xe=r8(a+88);
-if(xe==0){
-ye=0;
-ze=0;
-Ae=0;
-Be=1;}
-else{
-Ce=rp(a+80);
-De=xe*44;
-Ee=Ce+(i64)De;
-switch(Ee[-44]){
-case 5:if(Ee[-28]==0){
-ye=0;
-ze=0;
-Ae=0;
-Be=1;
+else qe=0;
+if(ge){
+re=qe;
 goto L27;}
+pe=qe;
+L26:se=r8(a+8);
+if(r8(a+32)-se<2){
+te=make_ready_8e3(a,2,128);
+if(!(te&1)){
+w4(Ua,0);
+goto L25;}
+ue=r8(a+8);}
+else ue=se;
+*(rp(a)+ue)=44;
+*(rp(a)+(i64)ue+1)=32;
+w8(a+8,ue+2);
+re=pe;
+L27:switch(re){
+case 88:ve=r8(a+176);
+if(ve==18446744073709551615u){
+w4(Ua,0);
+goto L25;}
+we=ve+1;
+if(we<c){
+switch(*(b+we)){
+case 115:begin_level_398(Da,a,b,c);
+*Ua=*Da;
+Ua[1]=Da[1];
+Ua[2]=Da[2];
+Ua[3]=Da[3];
+goto L25;
+case 84:parameter_argument_7c8(Da,a,b,c);
+*Ua=*Da;
+Ua[1]=Da[1];
+Ua[2]=Da[2];
+Ua[3]=Da[3];
+goto L25;
+default:break;}}
+break;
+case 76:if(ge){
+first_literal_c8e(Da,a,b,c);
+*Ua=*Da;
+Ua[1]=Da[1];
+Ua[2]=Da[2];
+Ua[3]=Da[3];
+goto L25;}
+literal_4a5(Ea,a,b,c);
+xe=Ea[3];
+ye=Ea[2];
+ze=Ea[1];
+Ae=*Ea;
+goto L28;
+case 74:Be=r8(a+88);
+if(Be==0){
+xe=0;
+ye=0;
+ze=0;
+Ae=0;
+goto L28;}
+Ce=rp(a+80);
+De=Be*44;
+if(*(Ce+(i64)De-44)==27){
+xe=0;
+ye=0;
+ze=0;
+Ae=0;
+goto L28;}
+Ee=r8(a+176);
+if(Ee==18446744073709551615u){
+xe=0;
+ye=0;
+ze=0;
+Ae=0;
+goto L28;}
+w8(a+176,Ee+1);
+if(r8(a+112)>Be){
+Fe=De;
+Ge=Ce;
+He=Be;}
+else{
+Ie=make_ready_9a1(a+80);
+if(!(Ie&1)){
+xe=0;
+ye=0;
+ze=0;
+Ae=0;
+goto L28;}
+Je=r8(a+88);
+Fe=Je*44;
+Ge=rp(a+80);
+He=Je;}
+Ke=Ge+Fe;
+*Ke=27;
+z43(Ke+1);
+w8(a+88,He+1);
+xe=0;
+ye=1;
+ze=3;
+Ae=1;
+goto L28;
+default:break;}
+if(ge){
+Le=r8(a+88);
+if(Le==0){
+Me=0;
+Ne=0;
+Oe=0;
+Pe=1;}
+else{
+Qe=rp(a+80);
+Re=Le*44;
+Se=Qe+(i64)Re;
+switch(Se[-44]){
+case 5:if(Se[-28]==0){
+Me=0;
+Ne=0;
+Oe=0;
+Pe=1;
+goto L29;}
 break;
 case 7:break;
-case 0:case 1:case 2:case 3:case 4:case 6:case 8:case 9:case 10:case 11:case 12:case 13:case 14:case 15:case 16:case 17:case 18:case 19:case 20:case 21:case 22:case 23:case 24:case 25:ye=0;
-ze=0;
-Ae=0;
-Be=1;
-goto L27;
+case 0:case 1:case 2:case 3:case 4:case 6:case 8:case 9:case 10:case 11:case 12:case 13:case 14:case 15:case 16:case 17:case 18:case 19:case 20:case 21:case 22:case 23:case 24:case 25:case 26:case 27:case 28:case 29:Me=0;
+Ne=0;
+Oe=0;
+Pe=1;
+goto L29;
 default:NEVER;
 }
-Fe=is_element_at_f4e(b,c,r8(a+176));
-if(Fe){
-ye=0;
-ze=0;
-Ae=0;
-Be=1;}
-else{
-Ge=r8(a+8);
-if(r8(a+112)>xe){
-He=De;
-Ie=Ce;
-Je=xe;}
-else{
-Ke=make_ready_9a1(a+80);
-if(!(Ke&1)){
-ye=0;
-ze=0;
-Ae=0;
-Be=0;
-goto L27;}
-Le=r8(a+88);
-He=Le*44;
-Ie=rp(a+80);
-Je=Le;}
-Me=Ie+He;
-*Me=22;
-Me[1]=0;
-x2(Me+2,0);
-x4(Me+4,Ge);
-z36(Me+8);
-w8(a+88,Je+1);
-w4(xa,0);
-Ne=r8(a+176);
-if(Ne<c){
-if(*(b+Ne)==88){
-begin_address_731(xa,a,b,c);
-Oe=xa[3];
-Pe=xa[2];
-Qe=xa[1];
-Re=*xa;}
-else{
+Te=is_element_at_f4e(b,c,r8(a+176));
+if(Te){
+Me=0;
+Ne=0;
 Oe=0;
-Pe=0;
-Qe=0;
-Re=1;}}
+Pe=1;}
 else{
-Oe=0;
-Pe=0;
-Qe=0;
-Re=1;}
-ye=Oe;
-ze=Pe;
-Ae=Qe;
-Be=Re;}}
-L27:*Qa=Be;
-Qa[1]=Ae;
-Qa[2]=ze;
-Qa[3]=ye;
-goto L23;}
-je=0;
-ke=0;
-le=0;
-me=1;
-L26:*Qa=me;
-Qa[1]=le;
-Qa[2]=ke;
-Qa[3]=je;
-L23:break;
-case 4:w4(va,0);
-z20(wa+20);
-if(!(a[136]&1)){
-Se=r4(a+120);
-Te=a[139];
 Ue=r8(a+8);
-Ve=r8(a+48);
-if(r8(a+72)>Ve)We=Ve;
+if(r8(a+112)>Le){
+Ve=Re;
+We=Qe;
+Xe=Le;}
 else{
-Xe=make_ready_17a(a+40);
-if(!(Xe&1)){
-w4(Qa,0);
-goto L28;}
-We=r8(a+48);}
-Ye=rp(a+40)+We*12;
-x4(Ye,Se);
-x4(Ye+4,Ue);
-Ye[8]=0;
-Ye[9]=Te;
-x2(Ye+10,0);
-w8(a+48,We+1);}
-Ze=r8(a+176);
-if(Ze<c){
-if(*(b+Ze)==73){
-memcpy(wa,a+120,20);
-af=r8(a+8);
-if(r8(a+32)>af)bf=af;
+Ye=make_ready_9a1(a+80);
+if(!(Ye&1)){
+Me=0;
+Ne=0;
+Oe=0;
+Pe=0;
+goto L29;}
+Ze=r8(a+88);
+Ve=Ze*44;
+We=rp(a+80);
+Xe=Ze;}
+af=We+Ve;
+*af=25;
+af[1]=0;
+x2(af+2,0);
+x4(af+4,Ue);
+z36(af+8);
+w8(a+88,Xe+1);
+w4(Aa,0);
+bf=r8(a+176);
+if(bf<c){
+if(*(b+bf)==88){
+begin_address_731(Aa,a,b,c);
+cf=Aa[3];
+df=Aa[2];
+ef=Aa[1];
+ff=*Aa;}
 else{
-cf=make_ready_8e3(a,1,16);
-if(!(cf&1)){
+cf=0;
 df=0;
 ef=0;
-goto L29;}
-bf=r8(a+8);}
-*(rp(a)+bf)=1;
-w8(a+8,bf+1);
-ff=r8(a+176);
-if(ff==18446744073709551615u){
-df=0;
-ef=0;}
+ff=1;}}
 else{
-w8(a+176,ff+1);
-gf=r8(a+88);
-if(r8(a+112)>gf)hf=gf;
-else{
-jf=make_ready_9a1(a+80);
-if(!(jf&1)){
+cf=0;
 df=0;
 ef=0;
-goto L29;}
-hf=r8(a+88);}
-kf=rp(a+80)+hf*44;
-*kf=6;
-kf[1]=0;
-x2(kf+2,0);
-memcpy(kf+4,wa,40);
-w8(a+88,hf+1);
-df=3;
-ef=1;}
-L29:*Qa=ef;
-Qa[1]=df;
-Qa[2]=ef;
-Qa[3]=0;
-goto L28;}}
-components_at_98c(va,a,b,c);
-*Qa=*va;
-Qa[1]=va[1];
-Qa[2]=va[2];
-Qa[3]=va[3];
-L28:break;
-case 5:w4(ua,0);
-lf=r8(a+176);
-if(lf<c){
-if(*(b+lf)==69){
-nest_ended_32a(ua,a,b,c);
-*Qa=*ua;
-Qa[1]=ua[1];
-Qa[2]=ua[2];
-Qa[3]=ua[3];
-goto L30;}}
+ff=1;}
+Me=cf;
+Ne=df;
+Oe=ef;
+Pe=ff;}}
+L29:*Ua=Pe;
+Ua[1]=Oe;
+Ua[2]=Ne;
+Ua[3]=Me;
+goto L25;}
+xe=0;
+ye=0;
+ze=0;
+Ae=1;
+L28:*Ua=Ae;
+Ua[1]=ze;
+Ua[2]=ye;
+Ua[3]=xe;
+L25:break;
+case 4:w4(ya,0);
+z20(za+20);
 if(!(a[136]&1)){
-mf=r4(a+120);
-nf=a[139];
-of=r8(a+8);
-pf=r8(a+48);
-if(r8(a+72)>pf)qf=pf;
+gf=r4(a+120);
+hf=a[139];
+jf=r8(a+8);
+kf=r8(a+48);
+if(r8(a+72)>kf)lf=kf;
 else{
-rf=make_ready_17a(a+40);
-if(!(rf&1)){
-w4(Qa,0);
+mf=make_ready_17a(a+40);
+if(!(mf&1)){
+w4(Ua,0);
 goto L30;}
-qf=r8(a+48);}
-sf=rp(a+40)+qf*12;
-x4(sf,mf);
-x4(sf+4,of);
-sf[8]=0;
-sf[9]=nf;
-x2(sf+10,0);
-w8(a+48,qf+1);}
-components_at_98c(ua,a,b,c);
-*Qa=*ua;
-Qa[1]=ua[1];
-Qa[2]=ua[2];
-Qa[3]=ua[3];
+lf=r8(a+48);}
+nf=rp(a+40)+lf*12;
+x4(nf,gf);
+x4(nf+4,jf);
+nf[8]=0;
+nf[9]=hf;
+x2(nf+10,0);
+w8(a+48,lf+1);}
+of=r8(a+176);
+if(of<c){
+if(*(b+of)==73){
+memcpy(za,a+120,20);
+pf=r8(a+8);
+if(r8(a+32)>pf)qf=pf;
+else{
+rf=make_ready_8e3(a,1,16);
+if(!(rf&1)){
+sf=0;
+tf=0;
+goto L31;}
+qf=r8(a+8);}
+*(rp(a)+qf)=1;
+w8(a+8,qf+1);
+uf=r8(a+176);
+if(uf==18446744073709551615u){
+sf=0;
+tf=0;}
+else{
+w8(a+176,uf+1);
+vf=r8(a+88);
+if(r8(a+112)>vf)wf=vf;
+else{
+xf=make_ready_9a1(a+80);
+if(!(xf&1)){
+sf=0;
+tf=0;
+goto L31;}
+wf=r8(a+88);}
+yf=rp(a+80)+wf*44;
+*yf=6;
+yf[1]=0;
+x2(yf+2,0);
+memcpy(yf+4,za,40);
+w8(a+88,wf+1);
+sf=3;
+tf=1;}
+L31:*Ua=tf;
+Ua[1]=sf;
+Ua[2]=tf;
+Ua[3]=0;
+goto L30;}}
+components_at_98c(ya,a,b,c);
+*Ua=*ya;
+Ua[1]=ya[1];
+Ua[2]=ya[2];
+Ua[3]=ya[3];
 L30:break;
-case 6:components_at_98c(Qa,a,b,c);
+case 5:w4(xa,0);
+zf=r8(a+176);
+if(zf<c){
+if(*(b+zf)==69){
+nest_ended_32a(xa,a,b,c);
+*Ua=*xa;
+Ua[1]=xa[1];
+Ua[2]=xa[2];
+Ua[3]=xa[3];
+goto L32;}}
+if(!(a[136]&1)){
+Af=r4(a+120);
+Bf=a[139];
+Cf=r8(a+8);
+Df=r8(a+48);
+if(r8(a+72)>Df)Ef=Df;
+else{
+Ff=make_ready_17a(a+40);
+if(!(Ff&1)){
+w4(Ua,0);
+goto L32;}
+Ef=r8(a+48);}
+Gf=rp(a+40)+Ef*12;
+x4(Gf,Af);
+x4(Gf+4,Cf);
+Gf[8]=0;
+Gf[9]=Bf;
+x2(Gf+10,0);
+w8(a+48,Ef+1);}
+components_at_98c(xa,a,b,c);
+*Ua=*xa;
+Ua[1]=xa[1];
+Ua[2]=xa[2];
+Ua[3]=xa[3];
+L32:break;
+case 6:components_at_98c(Ua,a,b,c);
 break;
 default:NEVER;
 }
-tf=tc+1;
-if(*Qa!=1||tf==Lb)goto L1;
-tc=tf;
-uc=Qa[3];
-vc=Qa[2];
-wc=Qa[1];
+Hf=zc+1;
+if(*Ua!=1||Hf==yc)goto L1;
+zc=Hf;
+Ac=Ua[3];
+Bc=Ua[2];
+Cc=Ua[1];
 goto L13;}}}
 goto L1;
-case 2:if(Qb)goto L1;
+case 2:if(Vb)goto L1;
 if(c<16){
-uf=are_few_named_14c(b,c);
-if(!uf)goto L1;}
+If=are_few_named_14c(b,c);
+if(!If)goto L1;}
 else{
-vf=c-16;
-if(vf==0)goto L31;
-wf=0;
-L32:xf=v16_at(b+wf);
-if((v16_ult(xf,splat(33))|v16_eq(xf,splat(127)))!=0)goto L1;
-yf=wf+16;
-if(yf<vf){
-wf=yf;
-goto L32;}
-L31:zf=v16_at(b+vf);
-if((v16_ult(zf,splat(33))|v16_eq(zf,splat(127)))!=0)goto L1;}
-w4(Ib,0);
-w4(Jb,0);
+Jf=c-16;
+if(Jf==0)goto L33;
+Kf=0;
+L34:Lf=v16_at(b+Kf);
+if((v16_ult(Lf,splat(33))|v16_eq(Lf,splat(127)))!=0)goto L1;
+Mf=Kf+16;
+if(Mf<Jf){
+Kf=Mf;
+goto L34;}
+L33:Nf=v16_at(b+Jf);
+if((v16_ult(Nf,splat(33))|v16_eq(Nf,splat(127)))!=0)goto L1;}
+w4(Ob,0);
+w4(Pb,0);
 if(c!=0){
 if(c!=1&&*b==95){
 if(b[1]==90){
 if(c>=3){
-Af=b[2];
+Of=b[2];
 if(c<5){
-if(Af==90)goto L33;
-if((c!=3)&(Af==71)){
-if(b[3]==86)goto L34;
-goto L35;}
-switch(Af){
-case 71:goto L35;
-case 84:if(c==3)goto L36;
+if(Of==90)goto L35;
+if((c!=3)&(Of==71)){
+if(b[3]==86)goto L36;
+goto L37;}
+switch(Of){
+case 71:goto L37;
+case 84:if(c==3)goto L38;
 break;
-default:goto L37;
+default:goto L39;
 }}
 else{
-switch(Af){
-case 90:goto L33;
-case 71:if(b[3]!=86)goto L35;
-if(b[4]!=90)goto L34;
-if(Ob<19){
-Bf=make_ready_8e3(a,19,128);
-if(!(Bf&1)){
-Ef=0;
-Ff=0;
-Gf=0;
-Hf=0;
-goto L38;}
-Cf=r8(a+16);
-Df=r8(a+8);}
+switch(Of){
+case 90:goto L35;
+case 71:if(b[3]!=86)goto L37;
+if(b[4]!=90)goto L36;
+if(Tb<19){
+Pf=make_ready_8e3(a,19,128);
+if(!(Pf&1)){
+Sf=0;
+Tf=0;
+Uf=0;
+Vf=0;
+goto L40;}
+Qf=r8(a+16);
+Rf=r8(a+8);}
 else{
-Cf=Nb;
-Df=0;}
-if(Cf-Df<19){
-If=grow_amortized_2b6(a,19);
-if(!If){
-Ef=0;
-Ff=0;
-Gf=0;
-Hf=0;
-goto L38;}
-Jf=r8(a+16);
-Kf=r8(a+8);}
+Qf=Sb;
+Rf=0;}
+if(Qf-Rf<19){
+Wf=grow_amortized_2b6(a,19);
+if(!Wf){
+Sf=0;
+Tf=0;
+Uf=0;
+Vf=0;
+goto L40;}
+Xf=r8(a+16);
+Yf=r8(a+8);}
 else{
-Jf=Cf;
-Kf=Df;}
-Lf=Kf+19;
-Mf=rp(a);
+Xf=Qf;
+Yf=Rf;}
+Zf=Yf+19;
+ag=rp(a);
 z16(a+8);
-Nf=Mf+(i64)Kf;
-if((u64)Nf-(u64)(u8*)t_c270<19)copy_bits_4f4((u8*)t_c270,Nf,19);
-else memcpy(Nf,(u8*)t_c270,19);
-wp(a,Mf);
-w8(a+8,Lf);
-w8(a+16,Jf);
+bg=ag+(i64)Yf;
+if((u64)bg-(u64)(u8*)t_c270<19)copy_bits_4f4((u8*)t_c270,bg,19);
+else memcpy(bg,(u8*)t_c270,19);
+wp(a,ag);
+w8(a+8,Zf);
+w8(a+16,Xf);
 w8(a+176,5);
-begin_encoding_4d0(Gb,a,b,c);
-Ef=Gb[3];
-Ff=Gb[2];
-Gf=Gb[1];
-Hf=*Gb;
-L38:Of=Ef;
-Pf=Ff;
-Qf=Gf;
-Rf=Hf;
-goto L39;
+begin_encoding_4d0(Mb,a,b,c);
+Sf=Mb[3];
+Tf=Mb[2];
+Uf=Mb[1];
+Vf=*Mb;
+L40:cg=Sf;
+dg=Tf;
+eg=Uf;
+fg=Vf;
+goto L41;
 case 84:break;
-default:goto L37;
+default:goto L39;
 }}
 switch(b[3]){
-case 104:begin_thunk_892(Jb,a,b,c);
-goto L40;
-case 118:begin_virtual_thunk_faf(Jb,a,b,c);
-goto L40;
+case 104:begin_thunk_892(Pb,a,b,c);
+goto L42;
+case 118:begin_virtual_thunk_faf(Pb,a,b,c);
+goto L42;
+case 67:begin_table_89f(Pb,a);
+goto L42;
 default:break;}
-L36:begin_special_44d(Jb,a,b,c);
-L40:Sf=Jb[3];
-Tf=Jb[2];
-Uf=Jb[1];
-Vf=*Jb;
-goto L41;
-L35:begin_clone_5b6(Ib,a,b,c);
-Sf=Ib[3];
-Tf=Ib[2];
-Uf=Ib[1];
-Vf=*Ib;
-goto L41;
-L34:begin_object_0af(Ib,a,b,c);
-Sf=Ib[3];
-Tf=Ib[2];
-Uf=Ib[1];
-Vf=*Ib;
-goto L41;
-L33:w8(a+176,3);
-begin_encoding_4d0(Hb,a,b,c);
-Of=Hb[3];
-Pf=Hb[2];
-Qf=Hb[1];
-Rf=*Hb;
-L39:Sf=Of;
-Tf=Pf;
-Uf=Qf;
-Vf=Rf;
-goto L41;}
-L37:w8(a+176,2);
-begin_encoding_4d0(Ib,a,b,c);
-Sf=Ib[3];
-Tf=Ib[2];
-Uf=Ib[1];
-Vf=*Ib;
-L41:if(Vf!=1)goto L1;
-Wf=0;
-Xf=Sf;
-Yf=Tf;
-Zf=Uf;
-L42:if(Zf==7){
-if(r8(a+8)>Mb)goto L14;
-goto L17;}
-w8(a+184,r8(a+184)+1);
-w4(Kb,0);
-switch(Zf){
-case 0:type_at_a00(Kb,a,b,c,0);
-break;
-case 1:type_at_a00(Kb,a,b,c,1);
-break;
-case 2:w4(Cb,0);
-w4(Db,0);
-z32(Eb);
-z32(Fb);
-ag=r8(a+88);
-if(ag==0)w4(Kb,0);
-else{
-bg=Yf&1;
-cg=rp(a+80)+(i64)(ag*44);
-dg=cg[-44];
-eg=cg[-43];
-fg=q4(cg-40);
-gg=q4(cg-36);
-hg=q2(cg-32);
-switch(dg){
-case 25:case 24:case 23:case 22:case 4:case 5:case 6:case 7:case 8:case 11:case 12:case 13:case 14:case 15:case 16:case 17:case 18:case 19:case 20:case 21:if(Xf&1){
-pass_dependent_3d7(Cb,a,b,c);
-*Kb=*Cb;
-Kb[1]=Cb[1];
-Kb[2]=Cb[2];
-Kb[3]=Cb[3];
+L38:begin_special_44d(Pb,a,b,c);
+L42:gg=Pb[3];
+hg=Pb[2];
+ig=Pb[1];
+jg=*Pb;
+goto L43;
+L37:begin_clone_5b6(Ob,a,b,c);
+gg=Ob[3];
+hg=Ob[2];
+ig=Ob[1];
+jg=*Ob;
+goto L43;
+L36:begin_object_0af(Ob,a,b,c);
+gg=Ob[3];
+hg=Ob[2];
+ig=Ob[1];
+jg=*Ob;
+goto L43;
+L35:w8(a+176,3);
+begin_encoding_4d0(Nb,a,b,c);
+cg=Nb[3];
+dg=Nb[2];
+eg=Nb[1];
+fg=*Nb;
+L41:gg=cg;
+hg=dg;
+ig=eg;
+jg=fg;
 goto L43;}
-ig=q4(cg-4);
-jg=gg;
-w4(Bb,0);
-switch(dg){
-case 19:returned_322(Bb,a,b,c,eg&1);
+L39:w8(a+176,2);
+begin_encoding_4d0(Ob,a,b,c);
+gg=Ob[3];
+hg=Ob[2];
+ig=Ob[1];
+jg=*Ob;
+L43:if(jg!=1)goto L1;
+kg=c<<3;
+lg=0;
+mg=gg;
+ng=hg;
+og=ig;
+L44:if(og==7){
+if(r8(a+8)>Rb)goto L14;
+goto L15;}
+w8(a+184,r8(a+184)+1);
+w4(Qb,0);
+switch(og){
+case 0:type_at_a00(Qb,a,b,c,0);
 break;
-case 20:parameter_at_3ac(Bb,a,b,c,eg&1,0);
+case 1:type_at_a00(Qb,a,b,c,1);
 break;
-case 21:array_ended_1b3(Bb,a,b,c,eg,fg,gg);
+case 2:w4(Ib,0);
+w4(Jb,0);
+z32(Kb);
+z32(Lb);
+pg=r8(a+88);
+if(pg==0)w4(Qb,0);
+else{
+qg=ng&1;
+rg=rp(a+80)+(i64)(pg*44);
+sg=rg[-44];
+tg=rg[-43];
+ug=q4(rg-40);
+vg=q4(rg-36);
+wg=q2(rg-32);
+switch(sg){
+case 29:case 28:case 27:case 26:case 4:case 5:case 6:case 7:case 8:case 11:case 12:case 13:case 14:case 15:case 16:case 17:case 18:case 19:case 20:case 21:case 22:case 23:case 24:case 25:if(mg&1){
+pass_dependent_3d7(Ib,a,b,c);
+*Qb=*Ib;
+Qb[1]=Ib[1];
+Qb[2]=Ib[2];
+Qb[3]=Ib[3];
+goto L45;}
+xg=q4(rg-4);
+yg=vg;
+zg=vg>>16;
+w4(Hb,0);
+switch(sg){
+case 22:returned_322(Hb,a,b,c,tg&1);
 break;
-case 12:enclosing_parameter_fc1(Bb,a,b,c,fg,gg);
+case 23:parameter_at_3ac(Hb,a,b,c,tg&1,0);
 break;
-case 13:instance_parameter_240(Bb,a,b,c,eg,fg,gg);
+case 24:array_ended_1b3(Hb,a,b,c,tg,ug,vg);
 break;
-case 11:w2(wb,hg);
-memcpy(wb+2,cg-30,26);
-x4(wb+28,ig);
-enclosing_front_fa8(Bb,a,eg,fg,gg,wb);
+case 12:enclosing_parameter_fc1(Hb,a,b,c,ug,vg);
 break;
-case 17:w2(xb,(u16)gg&255);
-w2(xb+2,gg>>16);
-w2(xb+4,hg);
-lambda_parameter_f9a(Bb,a,b,c,fg,xb);
+case 13:instance_parameter_240(Hb,a,b,c,tg,ug,vg);
 break;
-case 15:w4(yb,gg);
-w2(yb+4,hg);
-memcpy(yb+6,cg-30,26);
-addressed_front_54d(Bb,a,b,c,eg,fg,yb);
+case 11:w2(Bb,wg);
+memcpy(Bb+2,rg-30,26);
+x4(Bb+28,xg);
+enclosing_front_fa8(Hb,a,tg,ug,vg,Bb);
 break;
-case 16:addressed_parameter_2cf(Bb,a,b,c,fg);
+case 17:w4(Cb,vg);
+w2(Cb+4,wg);
+lambda_parameter_383(Hb,a,b,c,ug,Cb);
 break;
-case 14:*Bb=0;
+case 18:member_parameter_7e4(Hb,a,b,c,ug);
 break;
-case 18:finish_8cd(Bb,a,b,c);
+case 15:w4(Db,vg);
+w2(Db+4,wg);
+memcpy(Db+6,rg-30,26);
+addressed_front_54d(Hb,a,b,c,tg,ug,Db);
 break;
-case 25:enumerator_21c(Bb,a,b,c);
+case 16:addressed_parameter_2cf(Hb,a,b,c,ug);
 break;
-case 22:w2(zb,gg>>16);
-w2(zb+2,hg);
-memcpy(zb+4,cg-30,26);
-w2(zb+30,ig);
-argument_ended_511(Bb,a,b,c,fg,jg,zb,bg);
+case 14:*Hb=0;
 break;
-case 24:w2(Ab,gg>>16);
-w2(Ab+2,hg);
-memcpy(Ab+4,cg-30,26);
-w2(Ab+30,ig);
-element_ended_6b8(Bb,a,b,c,fg,jg,Ab,bg);
+case 19:finish_8cd(Hb,a,b,c);
 break;
-case 23:case 10:case 9:case 8:case 4:case 5:case 6:case 7:*Bb=1;
-Bb[1]=3;
-Bb[2]=0;
-Bb[3]=0;
+case 20:derived_ended_aef(Hb,a,b,c);
+break;
+case 21:base_ended_299(Hb,a,b,c,ug);
+break;
+case 29:enumerator_21c(Hb,a,b,c);
+break;
+case 26:w2(Eb,zg);
+w2(Eb+2,wg);
+memcpy(Eb+4,rg-30,26);
+w2(Eb+30,xg);
+argument_enumerator_83a(Hb,a,b,c,ug,yg,Eb);
+break;
+case 25:w2(Fb,zg);
+w2(Fb+2,wg);
+memcpy(Fb+4,rg-30,26);
+w2(Fb+30,xg);
+argument_ended_511(Hb,a,b,c,ug,yg,Fb,qg);
+break;
+case 28:w2(Gb,zg);
+w2(Gb+2,wg);
+memcpy(Gb+4,rg-30,26);
+w2(Gb+30,xg);
+element_ended_6b8(Hb,a,b,c,ug,yg,Gb,qg);
+break;
+case 27:case 10:case 9:case 8:case 4:case 5:case 6:case 7:*Hb=1;
+Hb[1]=3;
+Hb[2]=0;
+Hb[3]=0;
 break;
 default:NEVER;
 }
-kg=Bb[1];
-lg=Bb[2];
-mg=Bb[3];
-*Db=*Bb;
-Db[1]=kg;
-Db[2]=lg;
-Db[3]=mg;
-goto L44;
-case 10:w4(Eb,gg);
-w2(Eb+4,hg);
-memcpy(Eb+6,cg-30,26);
-parameter_ended_d3f(Db,a,b,c,fg,Eb);
-goto L44;
-case 9:w4(Fb,gg);
-w2(Fb+4,hg);
-memcpy(Fb+6,cg-30,26);
-front_ended_665(Db,a,b,c,eg,fg,Fb);
-goto L44;
-case 0:w8(a+88,ag-1);
-ng=r8(a+8);
-if(r8(a+32)>ng)og=ng;
+Ag=Hb[1];
+Bg=Hb[2];
+Cg=Hb[3];
+*Jb=*Hb;
+Jb[1]=Ag;
+Jb[2]=Bg;
+Jb[3]=Cg;
+goto L46;
+case 10:w4(Kb,vg);
+w2(Kb+4,wg);
+memcpy(Kb+6,rg-30,26);
+parameter_ended_d3f(Jb,a,b,c,ug,Kb);
+goto L46;
+case 9:w4(Lb,vg);
+w2(Lb+4,wg);
+memcpy(Lb+6,rg-30,26);
+front_ended_665(Jb,a,b,c,tg,ug,Lb);
+goto L46;
+case 0:w8(a+88,pg-1);
+Dg=r8(a+8);
+if(r8(a+32)>Dg)Eg=Dg;
 else{
-pg=make_ready_8e3(a,1,16);
-if(!(pg&1)){
-qg=0;
-rg=0;
-sg=0;
-tg=0;
-goto L45;}
-og=r8(a+8);}
-*(rp(a)+og)=42;
-ug=og+1;
-w8(a+8,ug);
-vg=ug;
-wg=Xf&1;
-xg=r8(a+48);
-if(r8(a+72)>xg){
-yg=xg;
-zg=vg;
-Ag=0;
-Bg=wg;
-goto L46;}
-Cg=make_ready_17a(a+40);
-if(!(Cg&1)){
-qg=0;
-rg=0;
-sg=0;
-tg=0;
-goto L45;}
-Dg=vg;
-Eg=0;
-Fg=wg;
-break;
-case 1:if(bg)goto L44;
-w8(a+88,ag-1);
-Gg=r8(a+8);
-if(r8(a+32)>Gg)Hg=Gg;
-else{
-Ig=make_ready_8e3(a,1,16);
-if(!(Ig&1)){
-qg=0;
-rg=0;
-sg=0;
-tg=0;
-goto L45;}
-Hg=r8(a+8);}
-*(rp(a)+Hg)=38;
-Jg=Hg+1;
-w8(a+8,Jg);
-Kg=Jg;
-Lg=Xf&1;
-Mg=r8(a+48);
-if(r8(a+72)>Mg){
-yg=Mg;
-zg=Kg;
-Ag=1;
-Bg=Lg;
-goto L46;}
-Ng=make_ready_17a(a+40);
-if(!(Ng&1)){
-qg=0;
-rg=0;
-sg=0;
-tg=0;
-goto L45;}
-Dg=Kg;
-Eg=1;
-Fg=Lg;
-break;
-case 2:if(bg)goto L44;
-w8(a+88,ag-1);
-Og=r8(a+8);
-if(r8(a+32)-Og<2){
-Pg=make_ready_8e3(a,2,128);
-if(!(Pg&1)){
-qg=0;
-rg=0;
-sg=0;
-tg=0;
-goto L45;}
-Qg=r8(a+8);}
-else Qg=Og;
-*(rp(a)+Qg)=38;
-*(rp(a)+(i64)Qg+1)=38;
-Rg=Qg+2;
-w8(a+8,Rg);
-Sg=Rg;
-Tg=Xf&1;
-Ug=r8(a+48);
-if(r8(a+72)>Ug){
-yg=Ug;
-zg=Sg;
-Ag=1;
-Bg=Tg;
-goto L46;}
-Vg=make_ready_17a(a+40);
-if(!(Vg&1)){
-qg=0;
-rg=0;
-sg=0;
-tg=0;
-goto L45;}
-Dg=Sg;
-Eg=1;
-Fg=Tg;
-break;
-case 3:if(bg)goto L44;
-w8(a+88,ag-1);
-if(r8(a+32)-r8(a+8)<6){
-Wg=make_ready_8e3(a,6,128);
-if(!(Wg&1)){
-qg=0;
-rg=0;
-sg=0;
-tg=0;
-goto L45;}}
-Xg=extend_from_slice_169(a,(u8*)t_f603,6);
-if(Xg&1){
-qg=0;
-rg=0;
-sg=0;
-tg=0;
-goto L45;}
-Yg=r8(a+8);
-Zg=Xf&1;
-ah=r8(a+48);
-if(r8(a+72)>ah){
-yg=ah;
-zg=Yg;
-Ag=0;
-Bg=Zg;
-goto L46;}
-bh=make_ready_17a(a+40);
-if(!(bh&1)){
-qg=0;
-rg=0;
-sg=0;
-tg=0;
-goto L45;}
-Dg=Yg;
-Eg=0;
-Fg=Zg;
-break;
-default:NEVER;
-}
-yg=r8(a+48);
-zg=Dg;
-Ag=Eg;
-Bg=Fg;
-L46:ch=rp(a+40)+yg*12;
-x4(ch,fg);
-x4(ch+4,zg);
-ch[8]=Ag;
-ch[9]=Bg;
-x2(ch+10,0);
-w8(a+48,yg+1);
-qg=Bg;
-rg=Ag;
-sg=2;
-tg=1;
-L45:*Db=tg;
-Db[1]=sg;
-Db[2]=rg;
-Db[3]=qg;
-L44:dh=Db[1];
-eh=Db[2];
-fh=Db[3];
-*Kb=*Db;
-Kb[1]=dh;
-Kb[2]=eh;
-Kb[3]=fh;}
-L43:break;
-case 3:gh=Yf&1;
-w4(ub,0);
-hh=r8(a+176);
-if(hh<c){
-ih=*(b+hh);
-switch(ih){
-case 69:w4(sb,0);
-w8(a+176,hh+1);
-jh=r8(a+88);
-if(jh==0){
-kh=0;
-lh=0;
-mh=0;
-nh=0;}
-else{
-if(*(rp(a+80)+(i64)(jh*44)-44)==23){
-if(gh){
-kh=0;
-lh=0;
-mh=0;
-nh=0;}
-else{
-w8(a+88,jh-1);
-kh=0;
-lh=0;
-mh=3;
-nh=1;}}
-else{
-z32(tb);
-close_list_299(sb,a,b,c,tb);
-kh=sb[3];
-lh=sb[2];
-mh=sb[1];
-nh=*sb;}}
-*Kb=nh;
-Kb[1]=mh;
-Kb[2]=lh;
-Kb[3]=kh;
-goto L47;
-case 74:oh=hh+1;
-if(oh<c){
-if(*(b+oh)==69){
-empty_pack_079(ub,a,b,c,gh);
-*Kb=*ub;
-Kb[1]=ub[1];
-Kb[2]=ub[2];
-Kb[3]=ub[3];
-goto L47;}}
-if(!gh){
-ph=74;
+Fg=make_ready_8e3(a,1,16);
+if(!(Fg&1)){
+Gg=0;
+Hg=0;
+Ig=0;
+Jg=0;
+goto L47;}
+Eg=r8(a+8);}
+*(rp(a)+Eg)=42;
+Kg=Eg+1;
+w8(a+8,Kg);
+Lg=Kg;
+Mg=mg&1;
+Ng=r8(a+48);
+if(r8(a+72)>Ng){
+Og=Ng;
+Pg=Lg;
+Qg=0;
+Rg=Mg;
 goto L48;}
-first_pack_117(ub,a,b,c);
-*Kb=*ub;
-Kb[1]=ub[1];
-Kb[2]=ub[2];
-Kb[3]=ub[3];
-goto L47;
-default:qh=ih;
-break;}}
-else qh=0;
-if(gh){
-rh=qh;
-goto L49;}
-ph=qh;
-L48:sh=r8(a+8);
-if(r8(a+32)-sh<2){
-th=make_ready_8e3(a,2,128);
-if(!(th&1)){
-w4(Kb,0);
+Sg=make_ready_17a(a+40);
+if(!(Sg&1)){
+Gg=0;
+Hg=0;
+Ig=0;
+Jg=0;
 goto L47;}
-uh=r8(a+8);}
-else uh=sh;
-*(rp(a)+uh)=44;
-*(rp(a)+(i64)uh+1)=32;
-w8(a+8,uh+2);
-rh=ph;
-L49:switch(rh){
-case 88:vh=r8(a+176);
-if(vh==18446744073709551615u){
-w4(Kb,0);
+Tg=Lg;
+Ug=0;
+Vg=Mg;
+break;
+case 1:if(qg)goto L46;
+w8(a+88,pg-1);
+Wg=r8(a+8);
+if(r8(a+32)>Wg)Xg=Wg;
+else{
+Yg=make_ready_8e3(a,1,16);
+if(!(Yg&1)){
+Gg=0;
+Hg=0;
+Ig=0;
+Jg=0;
 goto L47;}
-wh=vh+1;
-if(wh<c){
-if(*(b+wh)==115){
-begin_level_d05(ub,a,b,c);
-*Kb=*ub;
-Kb[1]=ub[1];
-Kb[2]=ub[2];
-Kb[3]=ub[3];
+Xg=r8(a+8);}
+*(rp(a)+Xg)=38;
+Zg=Xg+1;
+w8(a+8,Zg);
+ah=Zg;
+bh=mg&1;
+ch=r8(a+48);
+if(r8(a+72)>ch){
+Og=ch;
+Pg=ah;
+Qg=1;
+Rg=bh;
+goto L48;}
+dh=make_ready_17a(a+40);
+if(!(dh&1)){
+Gg=0;
+Hg=0;
+Ig=0;
+Jg=0;
+goto L47;}
+Tg=ah;
+Ug=1;
+Vg=bh;
+break;
+case 2:if(qg)goto L46;
+w8(a+88,pg-1);
+eh=r8(a+8);
+if(r8(a+32)-eh<2){
+fh=make_ready_8e3(a,2,128);
+if(!(fh&1)){
+Gg=0;
+Hg=0;
+Ig=0;
+Jg=0;
+goto L47;}
+gh=r8(a+8);}
+else gh=eh;
+*(rp(a)+gh)=38;
+*(rp(a)+(i64)gh+1)=38;
+hh=gh+2;
+w8(a+8,hh);
+ih=hh;
+jh=mg&1;
+kh=r8(a+48);
+if(r8(a+72)>kh){
+Og=kh;
+Pg=ih;
+Qg=1;
+Rg=jh;
+goto L48;}
+lh=make_ready_17a(a+40);
+if(!(lh&1)){
+Gg=0;
+Hg=0;
+Ig=0;
+Jg=0;
+goto L47;}
+Tg=ih;
+Ug=1;
+Vg=jh;
+break;
+case 3:if(qg)goto L46;
+w8(a+88,pg-1);
+if(r8(a+32)-r8(a+8)<6){
+mh=make_ready_8e3(a,6,128);
+if(!(mh&1)){
+Gg=0;
+Hg=0;
+Ig=0;
+Jg=0;
 goto L47;}}
-break;
-case 76:if(gh){
-first_literal_c4d(ub,a,b,c);
-*Kb=*ub;
-Kb[1]=ub[1];
-Kb[2]=ub[2];
-Kb[3]=ub[3];
+nh=extend_from_slice_169(a,(u8*)t_f603,6);
+if(nh&1){
+Gg=0;
+Hg=0;
+Ig=0;
+Jg=0;
 goto L47;}
-literal_da7(vb,a,b,c);
-xh=vb[3];
-yh=vb[2];
-zh=vb[1];
-Ah=*vb;
-goto L50;
-case 74:Bh=r8(a+88);
-if(Bh==0){
-xh=0;
-yh=0;
-zh=0;
-Ah=0;
-goto L50;}
-Ch=rp(a+80);
-Dh=Bh*44;
-if(*(Ch+(i64)Dh-44)==23){
-xh=0;
-yh=0;
-zh=0;
-Ah=0;
-goto L50;}
-Eh=r8(a+176);
-if(Eh==18446744073709551615u){
-xh=0;
-yh=0;
-zh=0;
-Ah=0;
-goto L50;}
-w8(a+176,Eh+1);
-if(r8(a+112)>Bh){
-Fh=Dh;
-Gh=Ch;
-Hh=Bh;}
-else{
-Ih=make_ready_9a1(a+80);
-if(!(Ih&1)){
-xh=0;
-yh=0;
-zh=0;
-Ah=0;
-goto L50;}
-Jh=r8(a+88);
-Fh=Jh*44;
-Gh=rp(a+80);
-Hh=Jh;}
-Kh=Gh+Fh;
-*Kh=23;
-z43(Kh+1);
-w8(a+88,Hh+1);
-xh=0;
-yh=1;
-zh=3;
-Ah=1;
-goto L50;
-default:break;}
-if(gh){
-Lh=r8(a+88);
-if(Lh==0){
-Mh=0;
-Nh=0;
-Oh=0;
-Ph=1;}
-else{
-Qh=rp(a+80);
-Rh=Lh*44;
-Sh=Qh+(i64)Rh;
-switch(Sh[-44]){
-case 5:if(Sh[-28]==0){
-Mh=0;
-Nh=0;
-Oh=0;
-Ph=1;
-goto L51;}
+oh=r8(a+8);
+ph=mg&1;
+qh=r8(a+48);
+if(r8(a+72)>qh){
+Og=qh;
+Pg=oh;
+Qg=0;
+Rg=ph;
+goto L48;}
+rh=make_ready_17a(a+40);
+if(!(rh&1)){
+Gg=0;
+Hg=0;
+Ig=0;
+Jg=0;
+goto L47;}
+Tg=oh;
+Ug=0;
+Vg=ph;
 break;
-case 7:break;
-case 0:case 1:case 2:case 3:case 4:case 6:case 8:case 9:case 10:case 11:case 12:case 13:case 14:case 15:case 16:case 17:case 18:case 19:case 20:case 21:case 22:case 23:case 24:case 25:Mh=0;
-Nh=0;
-Oh=0;
-Ph=1;
-goto L51;
 default:NEVER;
 }
-Th=is_element_at_f4e(b,c,r8(a+176));
-if(Th){
-Mh=0;
-Nh=0;
-Oh=0;
-Ph=1;}
+Og=r8(a+48);
+Pg=Tg;
+Qg=Ug;
+Rg=Vg;
+L48:sh=rp(a+40)+Og*12;
+x4(sh,ug);
+x4(sh+4,Pg);
+sh[8]=Qg;
+sh[9]=Rg;
+x2(sh+10,0);
+w8(a+48,Og+1);
+Gg=Rg;
+Hg=Qg;
+Ig=2;
+Jg=1;
+L47:*Jb=Jg;
+Jb[1]=Ig;
+Jb[2]=Hg;
+Jb[3]=Gg;
+L46:th=Jb[1];
+uh=Jb[2];
+vh=Jb[3];
+*Qb=*Jb;
+Qb[1]=th;
+Qb[2]=uh;
+Qb[3]=vh;}
+L45:break;
+case 3:wh=ng&1;
+w4(zb,0);
+xh=r8(a+176);
+if(xh<c){
+yh=*(b+xh);
+switch(yh){
+case 69:w4(xb,0);
+w8(a+176,xh+1);
+zh=r8(a+88);
+if(zh==0){
+Ah=0;
+Bh=0;
+Ch=0;
+Dh=0;}
 else{
-Uh=r8(a+8);
-if(r8(a+112)>Lh){
-Vh=Rh;
-Wh=Qh;
-Xh=Lh;}
+if(*(rp(a+80)+(i64)(zh*44)-44)==27){
+if(wh){
+Ah=0;
+Bh=0;
+Ch=0;
+Dh=0;}
 else{
-Yh=make_ready_9a1(a+80);
-if(!(Yh&1)){
-Mh=0;
+w8(a+88,zh-1);
+Ah=0;
+Bh=0;
+Ch=3;
+Dh=1;}}
+else{
+z32(yb);
+close_list_299(xb,a,b,c,yb);
+Ah=xb[3];
+Bh=xb[2];
+Ch=xb[1];
+Dh=*xb;}}
+*Qb=Dh;
+Qb[1]=Ch;
+Qb[2]=Bh;
+Qb[3]=Ah;
+goto L49;
+case 74:Eh=xh+1;
+if(Eh<c){
+if(*(b+Eh)==69){
+empty_pack_079(zb,a,b,c,wh);
+*Qb=*zb;
+Qb[1]=zb[1];
+Qb[2]=zb[2];
+Qb[3]=zb[3];
+goto L49;}}
+if(!wh){
+Fh=74;
+goto L50;}
+first_pack_117(zb,a,b,c);
+*Qb=*zb;
+Qb[1]=zb[1];
+Qb[2]=zb[2];
+Qb[3]=zb[3];
+goto L49;
+default:Gh=yh;
+break;}}
+else Gh=0;
+if(wh){
+Hh=Gh;
+goto L51;}
+Fh=Gh;
+L50:Ih=r8(a+8);
+if(r8(a+32)-Ih<2){
+Jh=make_ready_8e3(a,2,128);
+if(!(Jh&1)){
+w4(Qb,0);
+goto L49;}
+Kh=r8(a+8);}
+else Kh=Ih;
+*(rp(a)+Kh)=44;
+*(rp(a)+(i64)Kh+1)=32;
+w8(a+8,Kh+2);
+Hh=Fh;
+L51:switch(Hh){
+case 88:Lh=r8(a+176);
+if(Lh==18446744073709551615u){
+w4(Qb,0);
+goto L49;}
+Mh=Lh+1;
+if(Mh<c){
+switch(*(b+Mh)){
+case 115:begin_level_d05(zb,a,b,c);
+*Qb=*zb;
+Qb[1]=zb[1];
+Qb[2]=zb[2];
+Qb[3]=zb[3];
+goto L49;
+case 84:parameter_argument_7c8(zb,a,b,c);
+*Qb=*zb;
+Qb[1]=zb[1];
+Qb[2]=zb[2];
+Qb[3]=zb[3];
+goto L49;
+default:break;}}
+break;
+case 76:if(wh){
+first_literal_c4d(zb,a,b,c);
+*Qb=*zb;
+Qb[1]=zb[1];
+Qb[2]=zb[2];
+Qb[3]=zb[3];
+goto L49;}
+literal_da7(Ab,a,b,c);
+Nh=Ab[3];
+Oh=Ab[2];
+Ph=Ab[1];
+Qh=*Ab;
+goto L52;
+case 74:Rh=r8(a+88);
+if(Rh==0){
 Nh=0;
 Oh=0;
 Ph=0;
-goto L51;}
+Qh=0;
+goto L52;}
+Sh=rp(a+80);
+Th=Rh*44;
+if(*(Sh+(i64)Th-44)==27){
+Nh=0;
+Oh=0;
+Ph=0;
+Qh=0;
+goto L52;}
+Uh=r8(a+176);
+if(Uh==18446744073709551615u){
+Nh=0;
+Oh=0;
+Ph=0;
+Qh=0;
+goto L52;}
+w8(a+176,Uh+1);
+if(r8(a+112)>Rh){
+Vh=Th;
+Wh=Sh;
+Xh=Rh;}
+else{
+Yh=make_ready_9a1(a+80);
+if(!(Yh&1)){
+Nh=0;
+Oh=0;
+Ph=0;
+Qh=0;
+goto L52;}
 Zh=r8(a+88);
 Vh=Zh*44;
 Wh=rp(a+80);
 Xh=Zh;}
 ai=Wh+Vh;
-*ai=22;
-ai[1]=0;
-x2(ai+2,0);
-x4(ai+4,Uh);
-z36(ai+8);
+*ai=27;
+z43(ai+1);
 w8(a+88,Xh+1);
-w4(rb,0);
-bi=r8(a+176);
-if(bi<c){
-if(*(b+bi)==88){
-begin_address_ef5(rb,a,b,c);
-ci=rb[3];
-di=rb[2];
-ei=rb[1];
-fi=*rb;}
-else{
-ci=0;
-di=0;
-ei=0;
-fi=1;}}
-else{
+Nh=0;
+Oh=1;
+Ph=3;
+Qh=1;
+goto L52;
+default:break;}
+if(wh){
+bi=r8(a+88);
+if(bi==0){
 ci=0;
 di=0;
 ei=0;
 fi=1;}
-Mh=ci;
-Nh=di;
-Oh=ei;
-Ph=fi;}}
-L51:*Kb=Ph;
-Kb[1]=Oh;
-Kb[2]=Nh;
-Kb[3]=Mh;
-goto L47;}
-xh=0;
-yh=0;
-zh=0;
-Ah=1;
-L50:*Kb=Ah;
-Kb[1]=zh;
-Kb[2]=yh;
-Kb[3]=xh;
-L47:break;
-case 4:w4(pb,0);
-z20(qb+20);
-if(!(a[136]&1)){
-gi=r4(a+120);
-hi=a[139];
-ii=r8(a+8);
-ji=r8(a+48);
-if(r8(a+72)>ji)ki=ji;
 else{
-li=make_ready_17a(a+40);
-if(!(li&1)){
-w4(Kb,0);
-goto L52;}
-ki=r8(a+48);}
-mi=rp(a+40)+ki*12;
-x4(mi,gi);
-x4(mi+4,ii);
-mi[8]=0;
-mi[9]=hi;
-x2(mi+10,0);
-w8(a+48,ki+1);}
-ni=r8(a+176);
-if(ni<c){
-if(*(b+ni)==73){
-memcpy(qb,a+120,20);
-oi=r8(a+8);
-if(r8(a+32)>oi)pi=oi;
-else{
-qi=make_ready_8e3(a,1,16);
-if(!(qi&1)){
-ri=0;
-si=0;
+gi=rp(a+80);
+hi=bi*44;
+ii=gi+(i64)hi;
+switch(ii[-44]){
+case 5:if(ii[-28]==0){
+ci=0;
+di=0;
+ei=0;
+fi=1;
 goto L53;}
-pi=r8(a+8);}
-*(rp(a)+pi)=60;
-w8(a+8,pi+1);
-ti=r8(a+176);
-if(ti==18446744073709551615u){
-ri=0;
-si=0;}
+break;
+case 7:break;
+case 0:case 1:case 2:case 3:case 4:case 6:case 8:case 9:case 10:case 11:case 12:case 13:case 14:case 15:case 16:case 17:case 18:case 19:case 20:case 21:case 22:case 23:case 24:case 25:case 26:case 27:case 28:case 29:ci=0;
+di=0;
+ei=0;
+fi=1;
+goto L53;
+default:NEVER;
+}
+ji=is_element_at_f4e(b,c,r8(a+176));
+if(ji){
+ci=0;
+di=0;
+ei=0;
+fi=1;}
 else{
-w8(a+176,ti+1);
-ui=r8(a+88);
-if(r8(a+112)>ui)vi=ui;
+ki=r8(a+8);
+if(r8(a+112)>bi){
+li=hi;
+mi=gi;
+ni=bi;}
 else{
-wi=make_ready_9a1(a+80);
-if(!(wi&1)){
-ri=0;
-si=0;
+oi=make_ready_9a1(a+80);
+if(!(oi&1)){
+ci=0;
+di=0;
+ei=0;
+fi=0;
 goto L53;}
-vi=r8(a+88);}
-xi=rp(a+80)+vi*44;
-*xi=6;
-xi[1]=0;
-x2(xi+2,0);
-memcpy(xi+4,qb,40);
-w8(a+88,vi+1);
-ri=3;
-si=1;}
-L53:*Kb=si;
-Kb[1]=ri;
-Kb[2]=si;
-Kb[3]=0;
-goto L52;}}
-components_at_8f9(pb,a,b,c);
-*Kb=*pb;
-Kb[1]=pb[1];
-Kb[2]=pb[2];
-Kb[3]=pb[3];
-L52:break;
-case 5:w4(ob,0);
-yi=r8(a+176);
-if(yi<c){
-if(*(b+yi)==69){
-nest_ended_32a(ob,a,b,c);
-*Kb=*ob;
-Kb[1]=ob[1];
-Kb[2]=ob[2];
-Kb[3]=ob[3];
-goto L54;}}
-if(!(a[136]&1)){
-zi=r4(a+120);
-Ai=a[139];
-Bi=r8(a+8);
-Ci=r8(a+48);
-if(r8(a+72)>Ci)Di=Ci;
+pi=r8(a+88);
+li=pi*44;
+mi=rp(a+80);
+ni=pi;}
+qi=mi+li;
+*qi=25;
+qi[1]=0;
+x2(qi+2,0);
+x4(qi+4,ki);
+z36(qi+8);
+w8(a+88,ni+1);
+w4(wb,0);
+ri=r8(a+176);
+if(ri<c){
+if(*(b+ri)==88){
+begin_address_ef5(wb,a,b,c);
+si=wb[3];
+ti=wb[2];
+ui=wb[1];
+vi=*wb;}
 else{
-Ei=make_ready_17a(a+40);
-if(!(Ei&1)){
-w4(Kb,0);
+si=0;
+ti=0;
+ui=0;
+vi=1;}}
+else{
+si=0;
+ti=0;
+ui=0;
+vi=1;}
+ci=si;
+di=ti;
+ei=ui;
+fi=vi;}}
+L53:*Qb=fi;
+Qb[1]=ei;
+Qb[2]=di;
+Qb[3]=ci;
+goto L49;}
+Nh=0;
+Oh=0;
+Ph=0;
+Qh=1;
+L52:*Qb=Qh;
+Qb[1]=Ph;
+Qb[2]=Oh;
+Qb[3]=Nh;
+L49:break;
+case 4:w4(ub,0);
+z20(vb+20);
+if(!(a[136]&1)){
+wi=r4(a+120);
+xi=a[139];
+yi=r8(a+8);
+zi=r8(a+48);
+if(r8(a+72)>zi)Ai=zi;
+else{
+Bi=make_ready_17a(a+40);
+if(!(Bi&1)){
+w4(Qb,0);
 goto L54;}
-Di=r8(a+48);}
-Fi=rp(a+40)+Di*12;
-x4(Fi,zi);
-x4(Fi+4,Bi);
-Fi[8]=0;
-Fi[9]=Ai;
-x2(Fi+10,0);
-w8(a+48,Di+1);}
-components_at_8f9(ob,a,b,c);
-*Kb=*ob;
-Kb[1]=ob[1];
-Kb[2]=ob[2];
-Kb[3]=ob[3];
+Ai=r8(a+48);}
+Ci=rp(a+40)+Ai*12;
+x4(Ci,wi);
+x4(Ci+4,yi);
+Ci[8]=0;
+Ci[9]=xi;
+x2(Ci+10,0);
+w8(a+48,Ai+1);}
+Di=r8(a+176);
+if(Di<c){
+if(*(b+Di)==73){
+memcpy(vb,a+120,20);
+Ei=r8(a+8);
+if(r8(a+32)>Ei)Fi=Ei;
+else{
+Gi=make_ready_8e3(a,1,16);
+if(!(Gi&1)){
+Hi=0;
+Ii=0;
+goto L55;}
+Fi=r8(a+8);}
+*(rp(a)+Fi)=60;
+w8(a+8,Fi+1);
+Ji=r8(a+176);
+if(Ji==18446744073709551615u){
+Hi=0;
+Ii=0;}
+else{
+w8(a+176,Ji+1);
+Ki=r8(a+88);
+if(r8(a+112)>Ki)Li=Ki;
+else{
+Mi=make_ready_9a1(a+80);
+if(!(Mi&1)){
+Hi=0;
+Ii=0;
+goto L55;}
+Li=r8(a+88);}
+Ni=rp(a+80)+Li*44;
+*Ni=6;
+Ni[1]=0;
+x2(Ni+2,0);
+memcpy(Ni+4,vb,40);
+w8(a+88,Li+1);
+Hi=3;
+Ii=1;}
+L55:*Qb=Ii;
+Qb[1]=Hi;
+Qb[2]=Ii;
+Qb[3]=0;
+goto L54;}}
+components_at_8f9(ub,a,b,c);
+*Qb=*ub;
+Qb[1]=ub[1];
+Qb[2]=ub[2];
+Qb[3]=ub[3];
 L54:break;
-case 6:components_at_8f9(Kb,a,b,c);
+case 5:w4(tb,0);
+Oi=r8(a+176);
+if(Oi<c){
+if(*(b+Oi)==69){
+nest_ended_32a(tb,a,b,c);
+*Qb=*tb;
+Qb[1]=tb[1];
+Qb[2]=tb[2];
+Qb[3]=tb[3];
+goto L56;}}
+if(!(a[136]&1)){
+Pi=r4(a+120);
+Qi=a[139];
+Ri=r8(a+8);
+Si=r8(a+48);
+if(r8(a+72)>Si)Ti=Si;
+else{
+Ui=make_ready_17a(a+40);
+if(!(Ui&1)){
+w4(Qb,0);
+goto L56;}
+Ti=r8(a+48);}
+Vi=rp(a+40)+Ti*12;
+x4(Vi,Pi);
+x4(Vi+4,Ri);
+Vi[8]=0;
+Vi[9]=Qi;
+x2(Vi+10,0);
+w8(a+48,Ti+1);}
+components_at_8f9(tb,a,b,c);
+*Qb=*tb;
+Qb[1]=tb[1];
+Qb[2]=tb[2];
+Qb[3]=tb[3];
+L56:break;
+case 6:components_at_8f9(Qb,a,b,c);
 break;
 default:NEVER;
 }
-Gi=Wf+1;
-if(*Kb!=1||Gi==Lb)goto L1;
-Wf=Gi;
-Xf=Kb[3];
-Yf=Kb[2];
-Zf=Kb[1];
-goto L42;}}}
+Wi=lg+1;
+if(*Qb!=1||Wi==kg)goto L1;
+lg=Wi;
+mg=Qb[3];
+ng=Qb[2];
+og=Qb[1];
+goto L44;}}}
 goto L1;
-case 1:if(Qb)goto L1;
+case 1:if(Vb)goto L1;
 if(c<16){
-Hi=are_few_named_14c(b,c);
-if(!Hi)goto L1;}
+Xi=are_few_named_14c(b,c);
+if(!Xi)goto L1;}
 else{
-Ii=c-16;
-if(Ii==0)goto L55;
-Ji=0;
-L56:Ki=v16_at(b+Ji);
-if((v16_ult(Ki,splat(33))|v16_eq(Ki,splat(127)))!=0)goto L1;
-Li=Ji+16;
-if(Li<Ii){
-Ji=Li;
-goto L56;}
-L55:Mi=v16_at(b+Ii);
-if((v16_ult(Mi,splat(33))|v16_eq(Mi,splat(127)))!=0)goto L1;}
-w4(lb,0);
-w4(mb,0);
+Yi=c-16;
+if(Yi==0)goto L57;
+Zi=0;
+L58:aj=v16_at(b+Zi);
+if((v16_ult(aj,splat(33))|v16_eq(aj,splat(127)))!=0)goto L1;
+bj=Zi+16;
+if(bj<Yi){
+Zi=bj;
+goto L58;}
+L57:cj=v16_at(b+Yi);
+if((v16_ult(cj,splat(33))|v16_eq(cj,splat(127)))!=0)goto L1;}
+w4(qb,0);
+w4(rb,0);
 if(c!=0){
 if(c!=1&&*b==95){
 if(b[1]==90){
 if(c>=3){
-Ni=b[2];
+dj=b[2];
 if(c<5){
-if(Ni==90)goto L57;
-if((c!=3)&(Ni==71)){
-if(b[3]==86)goto L58;
-goto L59;}
-switch(Ni){
-case 71:goto L59;
-case 84:if(c==3)goto L60;
+if(dj==90)goto L59;
+if((c!=3)&(dj==71)){
+if(b[3]==86)goto L60;
+goto L61;}
+switch(dj){
+case 71:goto L61;
+case 84:if(c==3)goto L62;
 break;
-default:goto L61;
+default:goto L63;
 }}
 else{
-switch(Ni){
-case 90:goto L57;
-case 71:if(b[3]!=86)goto L59;
-if(b[4]!=90)goto L58;
-if(Ob<19){
-Oi=make_ready_8e3(a,19,128);
-if(!(Oi&1)){
-Ri=0;
-Si=0;
-Ti=0;
-Ui=0;
-goto L62;}
-Pi=r8(a+16);
-Qi=r8(a+8);}
+switch(dj){
+case 90:goto L59;
+case 71:if(b[3]!=86)goto L61;
+if(b[4]!=90)goto L60;
+if(Tb<19){
+ej=make_ready_8e3(a,19,128);
+if(!(ej&1)){
+hj=0;
+ij=0;
+jj=0;
+kj=0;
+goto L64;}
+fj=r8(a+16);
+gj=r8(a+8);}
 else{
-Pi=Nb;
-Qi=0;}
-if(Pi-Qi<19){
-Vi=grow_amortized_2b6(a,19);
-if(!Vi){
-Ri=0;
-Si=0;
-Ti=0;
-Ui=0;
-goto L62;}
-Wi=r8(a+16);
-Xi=r8(a+8);}
+fj=Sb;
+gj=0;}
+if(fj-gj<19){
+lj=grow_amortized_2b6(a,19);
+if(!lj){
+hj=0;
+ij=0;
+jj=0;
+kj=0;
+goto L64;}
+mj=r8(a+16);
+nj=r8(a+8);}
 else{
-Wi=Pi;
-Xi=Qi;}
-Yi=Xi+19;
-Zi=rp(a);
+mj=fj;
+nj=gj;}
+oj=nj+19;
+pj=rp(a);
 z16(a+8);
-aj=Zi+(i64)Xi;
-if((u64)aj-(u64)(u8*)t_c270<19)copy_bits_4f4((u8*)t_c270,aj,19);
-else memcpy(aj,(u8*)t_c270,19);
-wp(a,Zi);
-w8(a+8,Yi);
-w8(a+16,Wi);
+qj=pj+(i64)nj;
+if((u64)qj-(u64)(u8*)t_c270<19)copy_bits_4f4((u8*)t_c270,qj,19);
+else memcpy(qj,(u8*)t_c270,19);
+wp(a,pj);
+w8(a+8,oj);
+w8(a+16,mj);
 w8(a+176,5);
-begin_encoding_a64(jb,a,b,c);
-Ri=jb[3];
-Si=jb[2];
-Ti=jb[1];
-Ui=*jb;
-L62:bj=Ri;
-cj=Si;
-dj=Ti;
-ej=Ui;
-goto L63;
+begin_encoding_a64(ob,a,b,c);
+hj=ob[3];
+ij=ob[2];
+jj=ob[1];
+kj=*ob;
+L64:rj=hj;
+sj=ij;
+tj=jj;
+uj=kj;
+goto L65;
 case 84:break;
-default:goto L61;
+default:goto L63;
 }}
 switch(b[3]){
-case 104:begin_thunk_50d(mb,a,b,c);
-goto L64;
-case 118:begin_virtual_thunk_1ab(mb,a,b,c);
-goto L64;
+case 104:begin_thunk_50d(rb,a,b,c);
+goto L66;
+case 118:begin_virtual_thunk_1ab(rb,a,b,c);
+goto L66;
+case 67:begin_table_89f(rb,a);
+goto L66;
 default:break;}
-L60:begin_special_44d(mb,a,b,c);
-L64:fj=mb[3];
-gj=mb[2];
-hj=mb[1];
-ij=*mb;
-goto L65;
-L59:begin_clone_906(lb,a,b,c);
-fj=lb[3];
-gj=lb[2];
-hj=lb[1];
-ij=*lb;
-goto L65;
-L58:begin_object_4cd(lb,a,b,c);
-fj=lb[3];
-gj=lb[2];
-hj=lb[1];
-ij=*lb;
-goto L65;
-L57:w8(a+176,3);
-begin_encoding_a64(kb,a,b,c);
-bj=kb[3];
-cj=kb[2];
-dj=kb[1];
-ej=*kb;
-L63:fj=bj;
-gj=cj;
-hj=dj;
-ij=ej;
-goto L65;}
-L61:w8(a+176,2);
-begin_encoding_a64(lb,a,b,c);
-fj=lb[3];
-gj=lb[2];
-hj=lb[1];
-ij=*lb;
-L65:if(ij!=1)goto L1;
-jj=0;
-kj=fj;
-lj=gj;
-mj=hj;
-L66:if(mj==7){
-nj=r8(a+8);
-if(nj>Mb)goto L14;
-oj=rp(a);
-if(nj==0){
-pj=0;
+L62:begin_special_44d(rb,a,b,c);
+L66:vj=rb[3];
+wj=rb[2];
+xj=rb[1];
+yj=*rb;
+goto L67;
+L61:begin_clone_906(qb,a,b,c);
+vj=qb[3];
+wj=qb[2];
+xj=qb[1];
+yj=*qb;
+goto L67;
+L60:begin_object_4cd(qb,a,b,c);
+vj=qb[3];
+wj=qb[2];
+xj=qb[1];
+yj=*qb;
+goto L67;
+L59:w8(a+176,3);
+begin_encoding_a64(pb,a,b,c);
+rj=pb[3];
+sj=pb[2];
+tj=pb[1];
+uj=*pb;
+L65:vj=rj;
+wj=sj;
+xj=tj;
+yj=uj;
 goto L67;}
-qj=0;
-L68:if(*(oj+qj)>2){
-rj=qj+1;
-if(rj==nj)goto L17;
-qj=rj;
-goto L68;}
-pj=qj;
-L67:if(pj>=nj)goto L17;
-sj=pj;
-tj=pj;
-uj=0;
-L69:vj=*(oj+sj);
-if(vj>2){
-if(uj==0){
-*(oj+tj)=vj;
-wj=0;
-xj=tj+1;}
+L63:w8(a+176,2);
+begin_encoding_a64(qb,a,b,c);
+vj=qb[3];
+wj=qb[2];
+xj=qb[1];
+yj=*qb;
+L67:if(yj!=1)goto L1;
+zj=c<<3;
+Aj=0;
+Bj=vj;
+Cj=wj;
+Dj=xj;
+L68:if(Dj==7){
+Ej=r8(a+8);
+if(Ej>Rb)goto L14;
+Fj=rp(a);
+if(Ej==0)goto L15;
+Gj=0;
+Hj=0;
+Ij=0;
+L69:Jj=Gj;
+L70:if(Ej-Jj>15){
+Kj=cttz(v16_ult(v16_at(Fj+Jj),splat(3)),16);
+Lj=Jj+Kj;
+if(Kj>=16){
+Jj=Lj;
+goto L70;}
+Mj=Lj;}
 else{
-wj=uj;
-xj=tj;}}
-else{
-switch(vj){
-case 2:wj=usub64(uj,1);
-xj=tj;
+if(Jj>=Ej){
+Mj=Jj;
+goto L71;}
+Nj=Jj;
+L72:if(*(Fj+Nj)>2){
+Oj=Nj+1;
+if(Oj!=Ej){
+Nj=Oj;
+goto L72;}
+Mj=Ej;}
+else Mj=Nj;}
+L71:if(Ij==0){
+if(Hj<Gj){
+if(Mj!=Gj){
+Pj=Mj-Gj;
+Qj=Fj+(i64)Gj;
+Rj=Fj+(i64)Hj;
+Sj=0;
+L73:*(Rj+(i64)Sj)=*(Qj+(i64)Sj);
+Tj=Sj+1;
+if(Tj!=Pj){
+Sj=Tj;
+goto L73;}}}
+Uj=Hj-Gj+Mj;}
+else Uj=Hj;
+if(Mj!=Ej){
+switch(*(Fj+Mj)){
+case 1:Vj=Ij+1;
 break;
-case 1:wj=uj+1;
-xj=tj;
+case 2:Vj=usub64(Ij,1);
 break;
 default:goto L1;
-}}
-yj=sj+1;
-if(yj==nj){
-if(r8(a+8)<=xj)goto L17;
-Jc=xj;
+}
+Wj=Mj+1;
+if(Wj<Ej){
+Gj=Wj;
+Hj=Uj;
+Ij=Vj;
+goto L69;}}
+if(r8(a+8)<=Uj)goto L15;
+Wc=Uj;
 break;}
-sj=yj;
-tj=xj;
-uj=wj;
-goto L69;}
 w8(a+184,r8(a+184)+1);
-w4(nb,0);
-switch(mj){
-case 0:type_at_d83(nb,a,b,c,0);
+w4(sb,0);
+switch(Dj){
+case 0:type_at_d83(sb,a,b,c,0);
 break;
-case 1:type_at_d83(nb,a,b,c,1);
+case 1:type_at_d83(sb,a,b,c,1);
 break;
-case 2:w4(fb,0);
-w4(gb,0);
-z32(hb);
-z32(ib);
-zj=r8(a+88);
-if(zj==0)w4(nb,0);
+case 2:w4(kb,0);
+w4(lb,0);
+z32(mb);
+z32(nb);
+Xj=r8(a+88);
+if(Xj==0)w4(sb,0);
 else{
-Aj=lj&1;
-Bj=rp(a+80)+(i64)(zj*44);
-Cj=Bj[-44];
-Dj=Bj[-43];
-Ej=q4(Bj-40);
-Fj=q4(Bj-36);
-Gj=q2(Bj-32);
-switch(Cj){
-case 25:case 24:case 23:case 22:case 4:case 5:case 6:case 7:case 8:case 11:case 12:case 13:case 14:case 15:case 16:case 17:case 18:case 19:case 20:case 21:if(kj&1){
-pass_dependent_123(fb,a,b,c);
-*nb=*fb;
-nb[1]=fb[1];
-nb[2]=fb[2];
-nb[3]=fb[3];
-goto L70;}
-Hj=q4(Bj-4);
-Ij=Fj;
-w4(eb,0);
-switch(Cj){
-case 19:returned_acd(eb,a,b,c,Dj&1);
+Yj=Cj&1;
+Zj=rp(a+80)+(i64)(Xj*44);
+ak=Zj[-44];
+bk=Zj[-43];
+ck=q4(Zj-40);
+dk=q4(Zj-36);
+ek=q2(Zj-32);
+switch(ak){
+case 29:case 28:case 27:case 26:case 4:case 5:case 6:case 7:case 8:case 11:case 12:case 13:case 14:case 15:case 16:case 17:case 18:case 19:case 20:case 21:case 22:case 23:case 24:case 25:if(Bj&1){
+pass_dependent_123(kb,a,b,c);
+*sb=*kb;
+sb[1]=kb[1];
+sb[2]=kb[2];
+sb[3]=kb[3];
+goto L74;}
+fk=q4(Zj-4);
+gk=dk;
+hk=dk>>16;
+w4(jb,0);
+switch(ak){
+case 22:returned_087(jb,a,b,c,bk&1);
 break;
-case 20:parameter_at_c04(eb,a,b,c,Dj&1,0);
+case 23:parameter_at_d02(jb,a,b,c,bk&1,0);
 break;
-case 21:array_ended_08d(eb,a,b,c,Dj,Ej,Fj);
+case 24:array_ended_a11(jb,a,b,c,bk,ck,dk);
 break;
-case 12:enclosing_parameter_d72(eb,a,b,c,Dj,Ej);
+case 12:enclosing_parameter_d72(jb,a,b,c,bk,ck);
 break;
-case 13:instance_parameter_e2a(eb,a,b,c,Dj,Ej,Fj);
+case 13:instance_parameter_e2a(jb,a,b,c,bk,ck,dk);
 break;
-case 11:w2(Za,Gj);
-memcpy(Za+2,Bj-30,26);
-x4(Za+28,Hj);
-enclosing_front_fa8(eb,a,Dj,Ej,Fj,Za);
+case 11:w2(db,ek);
+memcpy(db+2,Zj-30,26);
+x4(db+28,fk);
+enclosing_front_fa8(jb,a,bk,ck,dk,db);
 break;
-case 17:w2(ab,(u16)Fj&255);
-w2(ab+2,Fj>>16);
-w2(ab+4,Gj);
-lambda_parameter_f9a(eb,a,b,c,Ej,ab);
+case 17:w4(eb,dk);
+w2(eb+4,ek);
+lambda_parameter_f9a(jb,a,b,c,ck,eb);
 break;
-case 15:w4(bb,Fj);
-w2(bb+4,Gj);
-memcpy(bb+6,Bj-30,26);
-addressed_front_4c5(eb,a,b,c,Dj,Ej,bb);
+case 18:member_parameter_678(jb,a,b,c,bk);
 break;
-case 16:addressed_parameter_41c(eb,a,b,c,Dj);
+case 15:w4(fb,dk);
+w2(fb+4,ek);
+memcpy(fb+6,Zj-30,26);
+addressed_front_4c5(jb,a,b,c,bk,ck,fb);
 break;
-case 14:*eb=0;
+case 16:addressed_parameter_41c(jb,a,b,c,bk);
 break;
-case 18:finish_8cd(eb,a,b,c);
+case 14:*jb=0;
 break;
-case 25:enumerator_21c(eb,a,b,c);
+case 19:finish_8cd(jb,a,b,c);
 break;
-case 22:w2(cb,Fj>>16);
-w2(cb+2,Gj);
-memcpy(cb+4,Bj-30,26);
-w2(cb+30,Hj);
-argument_ended_c7c(eb,a,b,c,Ej,Ij,cb,Aj);
+case 20:derived_ended_aef(jb,a,b,c);
 break;
-case 24:w2(db,Fj>>16);
-w2(db+2,Gj);
-memcpy(db+4,Bj-30,26);
-w2(db+30,Hj);
-element_ended_c50(eb,a,b,c,Ej,Ij,db,Aj);
+case 21:base_ended_299(jb,a,b,c,ck);
 break;
-case 23:case 10:case 9:case 8:case 4:case 5:case 6:case 7:*eb=1;
-eb[1]=3;
-eb[2]=0;
-eb[3]=0;
+case 29:enumerator_21c(jb,a,b,c);
+break;
+case 26:w2(gb,hk);
+w2(gb+2,ek);
+memcpy(gb+4,Zj-30,26);
+w2(gb+30,fk);
+argument_enumerator_071(jb,a,b,c,ck,gk,gb);
+break;
+case 25:w2(hb,hk);
+w2(hb+2,ek);
+memcpy(hb+4,Zj-30,26);
+w2(hb+30,fk);
+argument_ended_c7c(jb,a,b,c,ck,gk,hb,Yj);
+break;
+case 28:w2(ib,hk);
+w2(ib+2,ek);
+memcpy(ib+4,Zj-30,26);
+w2(ib+30,fk);
+element_ended_c50(jb,a,b,c,ck,gk,ib,Yj);
+break;
+case 27:case 10:case 9:case 8:case 4:case 5:case 6:case 7:*jb=1;
+jb[1]=3;
+jb[2]=0;
+jb[3]=0;
 break;
 default:NEVER;
 }
-Jj=eb[1];
-Kj=eb[2];
-Lj=eb[3];
-*gb=*eb;
-gb[1]=Jj;
-gb[2]=Kj;
-gb[3]=Lj;
-goto L71;
-case 10:w4(hb,Fj);
-w2(hb+4,Gj);
-memcpy(hb+6,Bj-30,26);
-parameter_ended_06e(gb,a,b,c,Dj,Ej,hb);
-goto L71;
-case 9:w4(ib,Fj);
-w2(ib+4,Gj);
-memcpy(ib+6,Bj-30,26);
-front_ended_ee9(gb,a,b,c,Dj,Ej,ib);
-goto L71;
-case 0:w8(a+88,zj-1);
-Mj=r8(a+8);
-if(r8(a+32)>Mj)Nj=Mj;
+ik=jb[1];
+jk=jb[2];
+kk=jb[3];
+*lb=*jb;
+lb[1]=ik;
+lb[2]=jk;
+lb[3]=kk;
+goto L75;
+case 10:w4(mb,dk);
+w2(mb+4,ek);
+memcpy(mb+6,Zj-30,26);
+parameter_ended_06e(lb,a,b,c,bk,ck,mb);
+goto L75;
+case 9:w4(nb,dk);
+w2(nb+4,ek);
+memcpy(nb+6,Zj-30,26);
+front_ended_ee9(lb,a,b,c,bk,ck,nb);
+goto L75;
+case 0:w8(a+88,Xj-1);
+lk=r8(a+8);
+if(r8(a+32)>lk)mk=lk;
 else{
-Oj=make_ready_8e3(a,1,16);
-if(!(Oj&1)){
-Pj=0;
-Qj=0;
-Rj=0;
-Sj=0;
-goto L72;}
-Nj=r8(a+8);}
-*(rp(a)+Nj)=42;
-Tj=Nj+1;
-w8(a+8,Tj);
-Uj=Tj;
-Vj=kj&1;
-Wj=r8(a+48);
-if(r8(a+72)>Wj){
-Xj=Wj;
-Yj=Uj;
-Zj=0;
-ak=Vj;
-goto L73;}
-bk=make_ready_17a(a+40);
-if(!(bk&1)){
-Pj=0;
-Qj=0;
-Rj=0;
-Sj=0;
-goto L72;}
-ck=Uj;
-dk=0;
-ek=Vj;
-break;
-case 1:if(Aj)goto L71;
-w8(a+88,zj-1);
-fk=r8(a+8);
-if(r8(a+32)>fk)gk=fk;
-else{
-hk=make_ready_8e3(a,1,16);
-if(!(hk&1)){
-Pj=0;
-Qj=0;
-Rj=0;
-Sj=0;
-goto L72;}
-gk=r8(a+8);}
-*(rp(a)+gk)=38;
-ik=gk+1;
-w8(a+8,ik);
-jk=ik;
-kk=kj&1;
-lk=r8(a+48);
-if(r8(a+72)>lk){
-Xj=lk;
-Yj=jk;
-Zj=1;
-ak=kk;
-goto L73;}
-mk=make_ready_17a(a+40);
-if(!(mk&1)){
-Pj=0;
-Qj=0;
-Rj=0;
-Sj=0;
-goto L72;}
-ck=jk;
-dk=1;
-ek=kk;
-break;
-case 2:if(Aj)goto L71;
-w8(a+88,zj-1);
-nk=r8(a+8);
-if(r8(a+32)-nk<2){
-ok=make_ready_8e3(a,2,128);
-if(!(ok&1)){
-Pj=0;
-Qj=0;
-Rj=0;
-Sj=0;
-goto L72;}
-pk=r8(a+8);}
-else pk=nk;
-*(rp(a)+pk)=38;
-*(rp(a)+(i64)pk+1)=38;
-qk=pk+2;
-w8(a+8,qk);
-rk=qk;
-sk=kj&1;
-tk=r8(a+48);
-if(r8(a+72)>tk){
-Xj=tk;
-Yj=rk;
-Zj=1;
-ak=sk;
-goto L73;}
-uk=make_ready_17a(a+40);
-if(!(uk&1)){
-Pj=0;
-Qj=0;
-Rj=0;
-Sj=0;
-goto L72;}
-ck=rk;
-dk=1;
-ek=sk;
-break;
-case 3:if(Aj)goto L71;
-w8(a+88,zj-1);
-if(r8(a+32)-r8(a+8)<6){
-vk=make_ready_8e3(a,6,128);
-if(!(vk&1)){
-Pj=0;
-Qj=0;
-Rj=0;
-Sj=0;
-goto L72;}}
-wk=extend_from_slice_169(a,(u8*)t_f603,6);
-if(wk&1){
-Pj=0;
-Qj=0;
-Rj=0;
-Sj=0;
-goto L72;}
-xk=r8(a+8);
-yk=kj&1;
-zk=r8(a+48);
-if(r8(a+72)>zk){
-Xj=zk;
-Yj=xk;
-Zj=0;
-ak=yk;
-goto L73;}
+nk=make_ready_8e3(a,1,16);
+if(!(nk&1)){
+ok=0;
+pk=0;
+qk=0;
+rk=0;
+goto L76;}
+mk=r8(a+8);}
+*(rp(a)+mk)=42;
+sk=mk+1;
+w8(a+8,sk);
+tk=sk;
+uk=Bj&1;
+vk=r8(a+48);
+if(r8(a+72)>vk){
+wk=vk;
+xk=tk;
+yk=0;
+zk=uk;
+goto L77;}
 Ak=make_ready_17a(a+40);
 if(!(Ak&1)){
-Pj=0;
-Qj=0;
-Rj=0;
-Sj=0;
-goto L72;}
-ck=xk;
-dk=0;
-ek=yk;
+ok=0;
+pk=0;
+qk=0;
+rk=0;
+goto L76;}
+Bk=tk;
+Ck=0;
+Dk=uk;
+break;
+case 1:if(Yj)goto L75;
+w8(a+88,Xj-1);
+Ek=r8(a+8);
+if(r8(a+32)>Ek)Fk=Ek;
+else{
+Gk=make_ready_8e3(a,1,16);
+if(!(Gk&1)){
+ok=0;
+pk=0;
+qk=0;
+rk=0;
+goto L76;}
+Fk=r8(a+8);}
+*(rp(a)+Fk)=38;
+Hk=Fk+1;
+w8(a+8,Hk);
+Ik=Hk;
+Jk=Bj&1;
+Kk=r8(a+48);
+if(r8(a+72)>Kk){
+wk=Kk;
+xk=Ik;
+yk=1;
+zk=Jk;
+goto L77;}
+Lk=make_ready_17a(a+40);
+if(!(Lk&1)){
+ok=0;
+pk=0;
+qk=0;
+rk=0;
+goto L76;}
+Bk=Ik;
+Ck=1;
+Dk=Jk;
+break;
+case 2:if(Yj)goto L75;
+w8(a+88,Xj-1);
+Mk=r8(a+8);
+if(r8(a+32)-Mk<2){
+Nk=make_ready_8e3(a,2,128);
+if(!(Nk&1)){
+ok=0;
+pk=0;
+qk=0;
+rk=0;
+goto L76;}
+Ok=r8(a+8);}
+else Ok=Mk;
+*(rp(a)+Ok)=38;
+*(rp(a)+(i64)Ok+1)=38;
+Pk=Ok+2;
+w8(a+8,Pk);
+Qk=Pk;
+Rk=Bj&1;
+Sk=r8(a+48);
+if(r8(a+72)>Sk){
+wk=Sk;
+xk=Qk;
+yk=1;
+zk=Rk;
+goto L77;}
+Tk=make_ready_17a(a+40);
+if(!(Tk&1)){
+ok=0;
+pk=0;
+qk=0;
+rk=0;
+goto L76;}
+Bk=Qk;
+Ck=1;
+Dk=Rk;
+break;
+case 3:if(Yj)goto L75;
+w8(a+88,Xj-1);
+if(r8(a+32)-r8(a+8)<6){
+Uk=make_ready_8e3(a,6,128);
+if(!(Uk&1)){
+ok=0;
+pk=0;
+qk=0;
+rk=0;
+goto L76;}}
+Vk=extend_from_slice_169(a,(u8*)t_f603,6);
+if(Vk&1){
+ok=0;
+pk=0;
+qk=0;
+rk=0;
+goto L76;}
+Wk=r8(a+8);
+Xk=Bj&1;
+Yk=r8(a+48);
+if(r8(a+72)>Yk){
+wk=Yk;
+xk=Wk;
+yk=0;
+zk=Xk;
+goto L77;}
+Zk=make_ready_17a(a+40);
+if(!(Zk&1)){
+ok=0;
+pk=0;
+qk=0;
+rk=0;
+goto L76;}
+Bk=Wk;
+Ck=0;
+Dk=Xk;
 break;
 default:NEVER;
 }
-Xj=r8(a+48);
-Yj=ck;
-Zj=dk;
-ak=ek;
-L73:Bk=rp(a+40)+Xj*12;
-x4(Bk,Ej);
-x4(Bk+4,Yj);
-Bk[8]=Zj;
-Bk[9]=ak;
-x2(Bk+10,0);
-w8(a+48,Xj+1);
-Pj=ak;
-Qj=Zj;
-Rj=2;
-Sj=1;
-L72:*gb=Sj;
-gb[1]=Rj;
-gb[2]=Qj;
-gb[3]=Pj;
-L71:Ck=gb[1];
-Dk=gb[2];
-Ek=gb[3];
-*nb=*gb;
-nb[1]=Ck;
-nb[2]=Dk;
-nb[3]=Ek;}
-L70:break;
-case 3:Fk=lj&1;
-w4(Xa,0);
-Gk=r8(a+176);
-if(Gk<c){
-Hk=*(b+Gk);
-switch(Hk){
-case 69:w4(Va,0);
-w8(a+176,Gk+1);
-Ik=r8(a+88);
-if(Ik==0){
-Jk=0;
-Kk=0;
-Lk=0;
-Mk=0;}
+wk=r8(a+48);
+xk=Bk;
+yk=Ck;
+zk=Dk;
+L77:al=rp(a+40)+wk*12;
+x4(al,ck);
+x4(al+4,xk);
+al[8]=yk;
+al[9]=zk;
+x2(al+10,0);
+w8(a+48,wk+1);
+ok=zk;
+pk=yk;
+qk=2;
+rk=1;
+L76:*lb=rk;
+lb[1]=qk;
+lb[2]=pk;
+lb[3]=ok;
+L75:bl=lb[1];
+cl=lb[2];
+dl=lb[3];
+*sb=*lb;
+sb[1]=bl;
+sb[2]=cl;
+sb[3]=dl;}
+L74:break;
+case 3:el=Cj&1;
+w4(bb,0);
+fl=r8(a+176);
+if(fl<c){
+gl=*(b+fl);
+switch(gl){
+case 69:w4(Za,0);
+w8(a+176,fl+1);
+hl=r8(a+88);
+if(hl==0){
+il=0;
+jl=0;
+kl=0;
+ll=0;}
 else{
-if(*(rp(a+80)+(i64)(Ik*44)-44)==23){
-if(Fk){
-Jk=0;
-Kk=0;
-Lk=0;
-Mk=0;}
+if(*(rp(a+80)+(i64)(hl*44)-44)==27){
+if(el){
+il=0;
+jl=0;
+kl=0;
+ll=0;}
 else{
-w8(a+88,Ik-1);
-Jk=0;
-Kk=0;
-Lk=3;
-Mk=1;}}
+w8(a+88,hl-1);
+il=0;
+jl=0;
+kl=3;
+ll=1;}}
 else{
-z32(Wa);
-close_list_148(Va,a,b,c,Wa);
-Jk=Va[3];
-Kk=Va[2];
-Lk=Va[1];
-Mk=*Va;}}
-*nb=Mk;
-nb[1]=Lk;
-nb[2]=Kk;
-nb[3]=Jk;
-goto L74;
-case 74:Nk=Gk+1;
-if(Nk<c){
-if(*(b+Nk)==69){
-empty_pack_c74(Xa,a,b,c,Fk);
-*nb=*Xa;
-nb[1]=Xa[1];
-nb[2]=Xa[2];
-nb[3]=Xa[3];
-goto L74;}}
-if(!Fk){
-Ok=74;
-goto L75;}
-first_pack_117(Xa,a,b,c);
-*nb=*Xa;
-nb[1]=Xa[1];
-nb[2]=Xa[2];
-nb[3]=Xa[3];
-goto L74;
-default:Pk=Hk;
+z32(ab);
+close_list_148(Za,a,b,c,ab);
+il=Za[3];
+jl=Za[2];
+kl=Za[1];
+ll=*Za;}}
+*sb=ll;
+sb[1]=kl;
+sb[2]=jl;
+sb[3]=il;
+goto L78;
+case 74:ml=fl+1;
+if(ml<c){
+if(*(b+ml)==69){
+empty_pack_c74(bb,a,b,c,el);
+*sb=*bb;
+sb[1]=bb[1];
+sb[2]=bb[2];
+sb[3]=bb[3];
+goto L78;}}
+if(!el){
+nl=74;
+goto L79;}
+first_pack_117(bb,a,b,c);
+*sb=*bb;
+sb[1]=bb[1];
+sb[2]=bb[2];
+sb[3]=bb[3];
+goto L78;
+default:ol=gl;
 break;}}
-else Pk=0;
-if(Fk){
-Qk=Pk;
-goto L76;}
-Ok=Pk;
-L75:Rk=r8(a+8);
-if(r8(a+32)-Rk<2){
-Sk=make_ready_8e3(a,2,128);
-if(!(Sk&1)){
-w4(nb,0);
-goto L74;}
-Tk=r8(a+8);}
-else Tk=Rk;
-*(rp(a)+Tk)=44;
-*(rp(a)+(i64)Tk+1)=32;
-w8(a+8,Tk+2);
-Qk=Ok;
-L76:switch(Qk){
-case 88:Uk=r8(a+176);
-if(Uk==18446744073709551615u){
-w4(nb,0);
-goto L74;}
-Vk=Uk+1;
-if(Vk<c){
-if(*(b+Vk)==115){
-begin_level_398(Xa,a,b,c);
-*nb=*Xa;
-nb[1]=Xa[1];
-nb[2]=Xa[2];
-nb[3]=Xa[3];
-goto L74;}}
-break;
-case 76:if(Fk){
-first_literal_898(Xa,a,b,c);
-*nb=*Xa;
-nb[1]=Xa[1];
-nb[2]=Xa[2];
-nb[3]=Xa[3];
-goto L74;}
-literal_47f(Ya,a,b,c);
-Wk=Ya[3];
-Xk=Ya[2];
-Yk=Ya[1];
-Zk=*Ya;
-goto L77;
-case 74:al=r8(a+88);
-if(al==0){
-Wk=0;
-Xk=0;
-Yk=0;
-Zk=0;
-goto L77;}
-bl=rp(a+80);
-cl=al*44;
-if(*(bl+(i64)cl-44)==23){
-Wk=0;
-Xk=0;
-Yk=0;
-Zk=0;
-goto L77;}
-dl=r8(a+176);
-if(dl==18446744073709551615u){
-Wk=0;
-Xk=0;
-Yk=0;
-Zk=0;
-goto L77;}
-w8(a+176,dl+1);
-if(r8(a+112)>al){
-el=cl;
-fl=bl;
-gl=al;}
-else{
-hl=make_ready_9a1(a+80);
-if(!(hl&1)){
-Wk=0;
-Xk=0;
-Yk=0;
-Zk=0;
-goto L77;}
-il=r8(a+88);
-el=il*44;
-fl=rp(a+80);
-gl=il;}
-jl=fl+el;
-*jl=23;
-z43(jl+1);
-w8(a+88,gl+1);
-Wk=0;
-Xk=1;
-Yk=3;
-Zk=1;
-goto L77;
-default:break;}
-if(Fk){
-kl=r8(a+88);
-if(kl==0){
-ll=0;
-ml=0;
-nl=0;
-ol=1;}
-else{
-pl=rp(a+80);
-ql=kl*44;
-rl=pl+(i64)ql;
-switch(rl[-44]){
-case 5:if(rl[-28]==0){
-ll=0;
-ml=0;
-nl=0;
-ol=1;
+else ol=0;
+if(el){
+pl=ol;
+goto L80;}
+nl=ol;
+L79:ql=r8(a+8);
+if(r8(a+32)-ql<2){
+rl=make_ready_8e3(a,2,128);
+if(!(rl&1)){
+w4(sb,0);
 goto L78;}
+sl=r8(a+8);}
+else sl=ql;
+*(rp(a)+sl)=44;
+*(rp(a)+(i64)sl+1)=32;
+w8(a+8,sl+2);
+pl=nl;
+L80:switch(pl){
+case 88:tl=r8(a+176);
+if(tl==18446744073709551615u){
+w4(sb,0);
+goto L78;}
+ul=tl+1;
+if(ul<c){
+switch(*(b+ul)){
+case 115:begin_level_398(bb,a,b,c);
+*sb=*bb;
+sb[1]=bb[1];
+sb[2]=bb[2];
+sb[3]=bb[3];
+goto L78;
+case 84:parameter_argument_7c8(bb,a,b,c);
+*sb=*bb;
+sb[1]=bb[1];
+sb[2]=bb[2];
+sb[3]=bb[3];
+goto L78;
+default:break;}}
+break;
+case 76:if(el){
+first_literal_898(bb,a,b,c);
+*sb=*bb;
+sb[1]=bb[1];
+sb[2]=bb[2];
+sb[3]=bb[3];
+goto L78;}
+literal_47f(cb,a,b,c);
+vl=cb[3];
+wl=cb[2];
+xl=cb[1];
+yl=*cb;
+goto L81;
+case 74:zl=r8(a+88);
+if(zl==0){
+vl=0;
+wl=0;
+xl=0;
+yl=0;
+goto L81;}
+Al=rp(a+80);
+Bl=zl*44;
+if(*(Al+(i64)Bl-44)==27){
+vl=0;
+wl=0;
+xl=0;
+yl=0;
+goto L81;}
+Cl=r8(a+176);
+if(Cl==18446744073709551615u){
+vl=0;
+wl=0;
+xl=0;
+yl=0;
+goto L81;}
+w8(a+176,Cl+1);
+if(r8(a+112)>zl){
+Dl=Bl;
+El=Al;
+Fl=zl;}
+else{
+Gl=make_ready_9a1(a+80);
+if(!(Gl&1)){
+vl=0;
+wl=0;
+xl=0;
+yl=0;
+goto L81;}
+Hl=r8(a+88);
+Dl=Hl*44;
+El=rp(a+80);
+Fl=Hl;}
+Il=El+Dl;
+*Il=27;
+z43(Il+1);
+w8(a+88,Fl+1);
+vl=0;
+wl=1;
+xl=3;
+yl=1;
+goto L81;
+default:break;}
+if(el){
+Jl=r8(a+88);
+if(Jl==0){
+Kl=0;
+Ll=0;
+Ml=0;
+Nl=1;}
+else{
+Ol=rp(a+80);
+Pl=Jl*44;
+Ql=Ol+(i64)Pl;
+switch(Ql[-44]){
+case 5:if(Ql[-28]==0){
+Kl=0;
+Ll=0;
+Ml=0;
+Nl=1;
+goto L82;}
 break;
 case 7:break;
-case 0:case 1:case 2:case 3:case 4:case 6:case 8:case 9:case 10:case 11:case 12:case 13:case 14:case 15:case 16:case 17:case 18:case 19:case 20:case 21:case 22:case 23:case 24:case 25:ll=0;
-ml=0;
-nl=0;
-ol=1;
-goto L78;
+case 0:case 1:case 2:case 3:case 4:case 6:case 8:case 9:case 10:case 11:case 12:case 13:case 14:case 15:case 16:case 17:case 18:case 19:case 20:case 21:case 22:case 23:case 24:case 25:case 26:case 27:case 28:case 29:Kl=0;
+Ll=0;
+Ml=0;
+Nl=1;
+goto L82;
 default:NEVER;
 }
-sl=is_element_at_f4e(b,c,r8(a+176));
-if(sl){
-ll=0;
-ml=0;
-nl=0;
-ol=1;}
+Rl=is_element_at_f4e(b,c,r8(a+176));
+if(Rl){
+Kl=0;
+Ll=0;
+Ml=0;
+Nl=1;}
 else{
-tl=r8(a+8);
-if(r8(a+112)>kl){
-ul=ql;
-vl=pl;
-wl=kl;}
+Sl=r8(a+8);
+if(r8(a+112)>Jl){
+Tl=Pl;
+Ul=Ol;
+Vl=Jl;}
 else{
-xl=make_ready_9a1(a+80);
-if(!(xl&1)){
-ll=0;
-ml=0;
-nl=0;
-ol=0;
+Wl=make_ready_9a1(a+80);
+if(!(Wl&1)){
+Kl=0;
+Ll=0;
+Ml=0;
+Nl=0;
+goto L82;}
+Xl=r8(a+88);
+Tl=Xl*44;
+Ul=rp(a+80);
+Vl=Xl;}
+Yl=Ul+Tl;
+*Yl=25;
+Yl[1]=0;
+x2(Yl+2,0);
+x4(Yl+4,Sl);
+z36(Yl+8);
+w8(a+88,Vl+1);
+w4(Ya,0);
+Zl=r8(a+176);
+if(Zl<c){
+if(*(b+Zl)==88){
+begin_address_731(Ya,a,b,c);
+am=Ya[3];
+bm=Ya[2];
+cm=Ya[1];
+dm=*Ya;}
+else{
+am=0;
+bm=0;
+cm=0;
+dm=1;}}
+else{
+am=0;
+bm=0;
+cm=0;
+dm=1;}
+Kl=am;
+Ll=bm;
+Ml=cm;
+Nl=dm;}}
+L82:*sb=Nl;
+sb[1]=Ml;
+sb[2]=Ll;
+sb[3]=Kl;
 goto L78;}
-yl=r8(a+88);
-ul=yl*44;
-vl=rp(a+80);
-wl=yl;}
-zl=vl+ul;
-*zl=22;
-zl[1]=0;
-x2(zl+2,0);
-x4(zl+4,tl);
-z36(zl+8);
-w8(a+88,wl+1);
-w4(Ua,0);
-Al=r8(a+176);
-if(Al<c){
-if(*(b+Al)==88){
-begin_address_731(Ua,a,b,c);
-Bl=Ua[3];
-Cl=Ua[2];
-Dl=Ua[1];
-El=*Ua;}
-else{
-Bl=0;
-Cl=0;
-Dl=0;
-El=1;}}
-else{
-Bl=0;
-Cl=0;
-Dl=0;
-El=1;}
-ll=Bl;
-ml=Cl;
-nl=Dl;
-ol=El;}}
-L78:*nb=ol;
-nb[1]=nl;
-nb[2]=ml;
-nb[3]=ll;
-goto L74;}
-Wk=0;
-Xk=0;
-Yk=0;
-Zk=1;
-L77:*nb=Zk;
-nb[1]=Yk;
-nb[2]=Xk;
-nb[3]=Wk;
-L74:break;
-case 4:w4(Sa,0);
-z20(Ta+20);
+vl=0;
+wl=0;
+xl=0;
+yl=1;
+L81:*sb=yl;
+sb[1]=xl;
+sb[2]=wl;
+sb[3]=vl;
+L78:break;
+case 4:w4(Wa,0);
+z20(Xa+20);
 if(!(a[136]&1)){
-Fl=r4(a+120);
-Gl=a[139];
-Hl=r8(a+8);
-Il=r8(a+48);
-if(r8(a+72)>Il)Jl=Il;
+em=r4(a+120);
+fm=a[139];
+gm=r8(a+8);
+hm=r8(a+48);
+if(r8(a+72)>hm)im=hm;
 else{
-Kl=make_ready_17a(a+40);
-if(!(Kl&1)){
-w4(nb,0);
-goto L79;}
-Jl=r8(a+48);}
-Ll=rp(a+40)+Jl*12;
-x4(Ll,Fl);
-x4(Ll+4,Hl);
-Ll[8]=0;
-Ll[9]=Gl;
-x2(Ll+10,0);
-w8(a+48,Jl+1);}
-Ml=r8(a+176);
-if(Ml<c){
-if(*(b+Ml)==73){
-memcpy(Ta,a+120,20);
-Nl=r8(a+8);
-if(r8(a+32)>Nl)Ol=Nl;
+jm=make_ready_17a(a+40);
+if(!(jm&1)){
+w4(sb,0);
+goto L83;}
+im=r8(a+48);}
+km=rp(a+40)+im*12;
+x4(km,em);
+x4(km+4,gm);
+km[8]=0;
+km[9]=fm;
+x2(km+10,0);
+w8(a+48,im+1);}
+lm=r8(a+176);
+if(lm<c){
+if(*(b+lm)==73){
+memcpy(Xa,a+120,20);
+mm=r8(a+8);
+if(r8(a+32)>mm)nm=mm;
 else{
-Pl=make_ready_8e3(a,1,16);
-if(!(Pl&1)){
-Ql=0;
-Rl=0;
-goto L80;}
-Ol=r8(a+8);}
-*(rp(a)+Ol)=1;
-w8(a+8,Ol+1);
-Sl=r8(a+176);
-if(Sl==18446744073709551615u){
-Ql=0;
-Rl=0;}
+om=make_ready_8e3(a,1,16);
+if(!(om&1)){
+pm=0;
+qm=0;
+goto L84;}
+nm=r8(a+8);}
+*(rp(a)+nm)=1;
+w8(a+8,nm+1);
+rm=r8(a+176);
+if(rm==18446744073709551615u){
+pm=0;
+qm=0;}
 else{
-w8(a+176,Sl+1);
-Tl=r8(a+88);
-if(r8(a+112)>Tl)Ul=Tl;
+w8(a+176,rm+1);
+sm=r8(a+88);
+if(r8(a+112)>sm)tm=sm;
 else{
-Vl=make_ready_9a1(a+80);
-if(!(Vl&1)){
-Ql=0;
-Rl=0;
-goto L80;}
-Ul=r8(a+88);}
-Wl=rp(a+80)+Ul*44;
-*Wl=6;
-Wl[1]=0;
-x2(Wl+2,0);
-memcpy(Wl+4,Ta,40);
-w8(a+88,Ul+1);
-Ql=3;
-Rl=1;}
-L80:*nb=Rl;
-nb[1]=Ql;
-nb[2]=Rl;
-nb[3]=0;
-goto L79;}}
-components_at_b1b(Sa,a,b,c);
-*nb=*Sa;
-nb[1]=Sa[1];
-nb[2]=Sa[2];
-nb[3]=Sa[3];
-L79:break;
-case 5:w4(Ra,0);
-Xl=r8(a+176);
-if(Xl<c){
-if(*(b+Xl)==69){
-nest_ended_003(Ra,a,b,c);
-*nb=*Ra;
-nb[1]=Ra[1];
-nb[2]=Ra[2];
-nb[3]=Ra[3];
-goto L81;}}
+um=make_ready_9a1(a+80);
+if(!(um&1)){
+pm=0;
+qm=0;
+goto L84;}
+tm=r8(a+88);}
+vm=rp(a+80)+tm*44;
+*vm=6;
+vm[1]=0;
+x2(vm+2,0);
+memcpy(vm+4,Xa,40);
+w8(a+88,tm+1);
+pm=3;
+qm=1;}
+L84:*sb=qm;
+sb[1]=pm;
+sb[2]=qm;
+sb[3]=0;
+goto L83;}}
+components_at_b1b(Wa,a,b,c);
+*sb=*Wa;
+sb[1]=Wa[1];
+sb[2]=Wa[2];
+sb[3]=Wa[3];
+L83:break;
+case 5:w4(Va,0);
+wm=r8(a+176);
+if(wm<c){
+if(*(b+wm)==69){
+nest_ended_003(Va,a,b,c);
+*sb=*Va;
+sb[1]=Va[1];
+sb[2]=Va[2];
+sb[3]=Va[3];
+goto L85;}}
 if(!(a[136]&1)){
-Yl=r4(a+120);
-Zl=a[139];
-am=r8(a+8);
-bm=r8(a+48);
-if(r8(a+72)>bm)cm=bm;
+xm=r4(a+120);
+ym=a[139];
+zm=r8(a+8);
+Am=r8(a+48);
+if(r8(a+72)>Am)Bm=Am;
 else{
-dm=make_ready_17a(a+40);
-if(!(dm&1)){
-w4(nb,0);
-goto L81;}
-cm=r8(a+48);}
-em=rp(a+40)+cm*12;
-x4(em,Yl);
-x4(em+4,am);
-em[8]=0;
-em[9]=Zl;
-x2(em+10,0);
-w8(a+48,cm+1);}
-components_at_b1b(Ra,a,b,c);
-*nb=*Ra;
-nb[1]=Ra[1];
-nb[2]=Ra[2];
-nb[3]=Ra[3];
-L81:break;
-case 6:components_at_b1b(nb,a,b,c);
+Cm=make_ready_17a(a+40);
+if(!(Cm&1)){
+w4(sb,0);
+goto L85;}
+Bm=r8(a+48);}
+Dm=rp(a+40)+Bm*12;
+x4(Dm,xm);
+x4(Dm+4,zm);
+Dm[8]=0;
+Dm[9]=ym;
+x2(Dm+10,0);
+w8(a+48,Bm+1);}
+components_at_b1b(Va,a,b,c);
+*sb=*Va;
+sb[1]=Va[1];
+sb[2]=Va[2];
+sb[3]=Va[3];
+L85:break;
+case 6:components_at_b1b(sb,a,b,c);
 break;
 default:NEVER;
 }
-fm=jj+1;
-if(*nb!=1||fm==Lb)goto L1;
-jj=fm;
-kj=nb[3];
-lj=nb[2];
-mj=nb[1];
-goto L66;}}}
+Em=Aj+1;
+if(*sb!=1||Em==zj)goto L1;
+Aj=Em;
+Bj=sb[3];
+Cj=sb[2];
+Dj=sb[1];
+goto L68;}}}
 goto L1;
 default:NEVER;
 }}
 else{
 switch(f){
-case 3:if(Qb)goto L1;
+case 3:if(Vb)goto L1;
 if(c<16){
-gm=are_few_named_14c(b,c);
-if(!gm)goto L1;}
+Fm=are_few_named_14c(b,c);
+if(!Fm)goto L1;}
 else{
-hm=c-16;
-if(hm==0)goto L82;
-im=0;
-L83:jm=v16_at(b+im);
-if((v16_ult(jm,splat(33))|v16_eq(jm,splat(127)))!=0)goto L1;
-km=im+16;
-if(km<hm){
-im=km;
-goto L83;}
-L82:lm=v16_at(b+hm);
-if((v16_ult(lm,splat(33))|v16_eq(lm,splat(127)))!=0)goto L1;}
+Gm=c-16;
+if(Gm==0)goto L86;
+Hm=0;
+L87:Im=v16_at(b+Hm);
+if((v16_ult(Im,splat(33))|v16_eq(Im,splat(127)))!=0)goto L1;
+Jm=Hm+16;
+if(Jm<Gm){
+Hm=Jm;
+goto L87;}
+L86:Km=v16_at(b+Gm);
+if((v16_ult(Km,splat(33))|v16_eq(Km,splat(127)))!=0)goto L1;}
+w4(A,0);
+w4(B,0);
+if(c!=0){
+if(c!=1&&*b==95){
+if(b[1]==90){
+if(c>=3){
+Lm=b[2];
+if(c<5){
+if(Lm==90)goto L88;
+if((c!=3)&(Lm==71)){
+if(b[3]==86)goto L89;
+goto L90;}
+switch(Lm){
+case 71:goto L90;
+case 84:if(c==3)goto L91;
+break;
+default:goto L92;
+}}
+else{
+switch(Lm){
+case 90:goto L88;
+case 71:if(b[3]!=86)goto L90;
+if(b[4]!=90)goto L89;
+if(Tb<19){
+Mm=make_ready_8e3(a,19,128);
+if(!(Mm&1)){
+Pm=0;
+Qm=0;
+Rm=0;
+Sm=0;
+goto L93;}
+Nm=r8(a+16);
+Om=r8(a+8);}
+else{
+Nm=Sb;
+Om=0;}
+if(Nm-Om<19){
+Tm=grow_amortized_2b6(a,19);
+if(!Tm){
+Pm=0;
+Qm=0;
+Rm=0;
+Sm=0;
+goto L93;}
+Um=r8(a+16);
+Vm=r8(a+8);}
+else{
+Um=Nm;
+Vm=Om;}
+Wm=Vm+19;
+Xm=rp(a);
+z16(a+8);
+Ym=Xm+(i64)Vm;
+if((u64)Ym-(u64)(u8*)t_c270<19)copy_bits_4f4((u8*)t_c270,Ym,19);
+else memcpy(Ym,(u8*)t_c270,19);
+wp(a,Xm);
+w8(a+8,Wm);
+w8(a+16,Um);
+w8(a+176,5);
+begin_encoding_33e(y,a,b,c);
+Pm=y[3];
+Qm=y[2];
+Rm=y[1];
+Sm=*y;
+L93:Zm=Pm;
+an=Qm;
+bn=Rm;
+cn=Sm;
+goto L94;
+case 84:break;
+default:goto L92;
+}}
+switch(b[3]){
+case 104:begin_thunk_481(B,a,b,c);
+goto L95;
+case 118:begin_virtual_thunk_f37(B,a,b,c);
+goto L95;
+case 67:begin_clone_893(B);
+goto L95;
+default:break;}
+L91:begin_special_44d(B,a,b,c);
+L95:dn=B[3];
+en=B[2];
+fn=B[1];
+gn=*B;
+goto L96;
+L90:begin_clone_893(A);
+dn=A[3];
+en=A[2];
+fn=A[1];
+gn=*A;
+goto L96;
+L89:begin_object_056(A,a,b,c);
+dn=A[3];
+en=A[2];
+fn=A[1];
+gn=*A;
+goto L96;
+L88:w8(a+176,3);
+begin_encoding_33e(z,a,b,c);
+Zm=z[3];
+an=z[2];
+bn=z[1];
+cn=*z;
+L94:dn=Zm;
+en=an;
+fn=bn;
+gn=cn;
+goto L96;}
+L92:w8(a+176,2);
+begin_encoding_33e(A,a,b,c);
+dn=A[3];
+en=A[2];
+fn=A[1];
+gn=*A;
+L96:if(gn!=1)goto L1;
+hn=c<<3;
+in=0;
+jn=dn;
+kn=en;
+ln=fn;
+L97:if(ln==7){
+mn=r8(a+8);
+if(mn>Rb)goto L14;
+nn=rp(a);
+if(mn==0)goto L15;
+on=0;
+pn=0;
+qn=0;
+L98:rn=on;
+L99:if(mn-rn>15){
+sn=cttz(v16_ult(v16_at(nn+rn),splat(3)),16);
+tn=rn+sn;
+if(sn>=16){
+rn=tn;
+goto L99;}
+un=tn;}
+else{
+if(rn>=mn){
+un=rn;
+goto L100;}
+vn=rn;
+L101:if(*(nn+vn)>2){
+wn=vn+1;
+if(wn!=mn){
+vn=wn;
+goto L101;}
+un=mn;}
+else un=vn;}
+L100:if(qn==0){
+if(pn<on){
+if(un!=on){
+xn=un-on;
+yn=nn+(i64)on;
+zn=nn+(i64)pn;
+An=0;
+L102:*(zn+(i64)An)=*(yn+(i64)An);
+Bn=An+1;
+if(Bn!=xn){
+An=Bn;
+goto L102;}}}
+Cn=pn-on+un;}
+else Cn=pn;
+if(un!=mn){
+switch(*(nn+un)){
+case 1:Dn=qn+1;
+break;
+case 2:Dn=usub64(qn,1);
+break;
+default:goto L1;
+}
+En=un+1;
+if(En<mn){
+on=En;
+pn=Cn;
+qn=Dn;
+goto L98;}}
+if(r8(a+8)<=Cn)goto L15;
+Wc=Cn;
+break;}
+w8(a+184,r8(a+184)+1);
+w4(C,0);
+switch(ln){
+case 0:type_at_77f(C,a,b,c,0);
+break;
+case 1:type_at_77f(C,a,b,c,1);
+break;
+case 2:w4(u,0);
+w4(v,0);
+z32(w);
+z32(x);
+Fn=r8(a+88);
+if(Fn==0)w4(C,0);
+else{
+Gn=kn&1;
+Hn=rp(a+80)+(i64)(Fn*44);
+In=Hn[-44];
+Jn=Hn[-43];
+Kn=q4(Hn-40);
+Ln=q4(Hn-36);
+Mn=q2(Hn-32);
+switch(In){
+case 29:case 28:case 27:case 26:case 4:case 5:case 6:case 7:case 8:case 11:case 12:case 13:case 14:case 15:case 16:case 17:case 18:case 19:case 20:case 21:case 22:case 23:case 24:case 25:if(jn&1){
+pass_dependent_3d7(u,a,b,c);
+*C=*u;
+C[1]=u[1];
+C[2]=u[2];
+C[3]=u[3];
+goto L103;}
+Nn=q4(Hn-4);
+On=Ln;
+Pn=Ln>>16;
+w4(t,0);
+switch(In){
+case 22:returned_07a(t,a,b,c,Jn&1);
+break;
+case 23:parameter_at_257(t,a,b,c,Jn&1,0);
+break;
+case 24:array_ended_b9c(t,a,b,c,Jn,Kn,Ln);
+break;
+case 12:enclosing_parameter_fc1(t,a,b,c,Kn,Ln);
+break;
+case 13:instance_parameter_240(t,a,b,c,Jn,Kn,Ln);
+break;
+case 11:w2(n,Mn);
+memcpy(n+2,Hn-30,26);
+x4(n+28,Nn);
+enclosing_front_fa8(t,a,Jn,Kn,Ln,n);
+break;
+case 17:w4(o,Ln);
+w2(o+4,Mn);
+lambda_parameter_383(t,a,b,c,Kn,o);
+break;
+case 18:member_parameter_7e4(t,a,b,c,Kn);
+break;
+case 15:w4(p,Ln);
+w2(p+4,Mn);
+memcpy(p+6,Hn-30,26);
+addressed_front_54d(t,a,b,c,Jn,Kn,p);
+break;
+case 16:addressed_parameter_2cf(t,a,b,c,Kn);
+break;
+case 14:*t=0;
+break;
+case 19:finish_8cd(t,a,b,c);
+break;
+case 20:derived_ended_aef(t,a,b,c);
+break;
+case 21:base_ended_299(t,a,b,c,Kn);
+break;
+case 29:enumerator_21c(t,a,b,c);
+break;
+case 26:w2(q,Pn);
+w2(q+2,Mn);
+memcpy(q+4,Hn-30,26);
+w2(q+30,Nn);
+argument_enumerator_2d4(t,a,b,c,Kn,On,q);
+break;
+case 25:w2(r,Pn);
+w2(r+2,Mn);
+memcpy(r+4,Hn-30,26);
+w2(r+30,Nn);
+argument_ended_1bb(t,a,b,c,Kn,On,r,Gn);
+break;
+case 28:w2(s,Pn);
+w2(s+2,Mn);
+memcpy(s+4,Hn-30,26);
+w2(s+30,Nn);
+element_ended_20b(t,a,b,c,Kn,On,s,Gn);
+break;
+case 27:case 10:case 9:case 8:case 4:case 5:case 6:case 7:*t=1;
+t[1]=3;
+t[2]=0;
+t[3]=0;
+break;
+default:NEVER;
+}
+Qn=t[1];
+Rn=t[2];
+Sn=t[3];
+*v=*t;
+v[1]=Qn;
+v[2]=Rn;
+v[3]=Sn;
+goto L104;
+case 10:w4(w,Ln);
+w2(w+4,Mn);
+memcpy(w+6,Hn-30,26);
+parameter_ended_d3f(v,a,b,c,Kn,w);
+goto L104;
+case 9:w4(x,Ln);
+w2(x+4,Mn);
+memcpy(x+6,Hn-30,26);
+front_ended_665(v,a,b,c,Jn,Kn,x);
+goto L104;
+case 0:w8(a+88,Fn-1);
+Tn=r8(a+8);
+if(r8(a+32)>Tn)Un=Tn;
+else{
+Vn=make_ready_8e3(a,1,16);
+if(!(Vn&1)){
+Wn=0;
+Xn=0;
+Yn=0;
+Zn=0;
+goto L105;}
+Un=r8(a+8);}
+*(rp(a)+Un)=42;
+ao=Un+1;
+w8(a+8,ao);
+bo=ao;
+co=jn&1;
+eo=r8(a+48);
+if(r8(a+72)>eo){
+fo=eo;
+go=bo;
+ho=0;
+io=co;
+goto L106;}
+jo=make_ready_17a(a+40);
+if(!(jo&1)){
+Wn=0;
+Xn=0;
+Yn=0;
+Zn=0;
+goto L105;}
+ko=bo;
+lo=0;
+mo=co;
+break;
+case 1:if(Gn)goto L104;
+w8(a+88,Fn-1);
+no=r8(a+8);
+if(r8(a+32)>no)oo=no;
+else{
+po=make_ready_8e3(a,1,16);
+if(!(po&1)){
+Wn=0;
+Xn=0;
+Yn=0;
+Zn=0;
+goto L105;}
+oo=r8(a+8);}
+*(rp(a)+oo)=38;
+qo=oo+1;
+w8(a+8,qo);
+ro=qo;
+so=jn&1;
+to=r8(a+48);
+if(r8(a+72)>to){
+fo=to;
+go=ro;
+ho=1;
+io=so;
+goto L106;}
+uo=make_ready_17a(a+40);
+if(!(uo&1)){
+Wn=0;
+Xn=0;
+Yn=0;
+Zn=0;
+goto L105;}
+ko=ro;
+lo=1;
+mo=so;
+break;
+case 2:if(Gn)goto L104;
+w8(a+88,Fn-1);
+vo=r8(a+8);
+if(r8(a+32)-vo<2){
+wo=make_ready_8e3(a,2,128);
+if(!(wo&1)){
+Wn=0;
+Xn=0;
+Yn=0;
+Zn=0;
+goto L105;}
+xo=r8(a+8);}
+else xo=vo;
+*(rp(a)+xo)=38;
+*(rp(a)+(i64)xo+1)=38;
+yo=xo+2;
+w8(a+8,yo);
+zo=yo;
+Ao=jn&1;
+Bo=r8(a+48);
+if(r8(a+72)>Bo){
+fo=Bo;
+go=zo;
+ho=1;
+io=Ao;
+goto L106;}
+Co=make_ready_17a(a+40);
+if(!(Co&1)){
+Wn=0;
+Xn=0;
+Yn=0;
+Zn=0;
+goto L105;}
+ko=zo;
+lo=1;
+mo=Ao;
+break;
+case 3:if(Gn)goto L104;
+w8(a+88,Fn-1);
+if(r8(a+32)-r8(a+8)<6){
+Do=make_ready_8e3(a,6,128);
+if(!(Do&1)){
+Wn=0;
+Xn=0;
+Yn=0;
+Zn=0;
+goto L105;}}
+Eo=extend_from_slice_169(a,(u8*)t_f603,6);
+if(Eo&1){
+Wn=0;
+Xn=0;
+Yn=0;
+Zn=0;
+goto L105;}
+Fo=r8(a+8);
+Go=jn&1;
+Ho=r8(a+48);
+if(r8(a+72)>Ho){
+fo=Ho;
+go=Fo;
+ho=0;
+io=Go;
+goto L106;}
+Io=make_ready_17a(a+40);
+if(!(Io&1)){
+Wn=0;
+Xn=0;
+Yn=0;
+Zn=0;
+goto L105;}
+ko=Fo;
+lo=0;
+mo=Go;
+break;
+default:NEVER;
+}
+fo=r8(a+48);
+go=ko;
+ho=lo;
+io=mo;
+L106:Jo=rp(a+40)+fo*12;
+x4(Jo,Kn);
+x4(Jo+4,go);
+Jo[8]=ho;
+Jo[9]=io;
+x2(Jo+10,0);
+w8(a+48,fo+1);
+Wn=io;
+Xn=ho;
+Yn=2;
+Zn=1;
+L105:*v=Zn;
+v[1]=Yn;
+v[2]=Xn;
+v[3]=Wn;
+L104:Ko=v[1];
+Lo=v[2];
+Mo=v[3];
+*C=*v;
+C[1]=Ko;
+C[2]=Lo;
+C[3]=Mo;}
+L103:break;
+case 3:No=kn&1;
+w4(l,0);
+Oo=r8(a+176);
+if(Oo<c){
+Po=*(b+Oo);
+switch(Po){
+case 69:w4(j,0);
+w8(a+176,Oo+1);
+Qo=r8(a+88);
+if(Qo==0){
+Ro=0;
+So=0;
+To=0;
+Uo=0;}
+else{
+if(*(rp(a+80)+(i64)(Qo*44)-44)==27){
+if(No){
+Ro=0;
+So=0;
+To=0;
+Uo=0;}
+else{
+w8(a+88,Qo-1);
+Ro=0;
+So=0;
+To=3;
+Uo=1;}}
+else{
+z32(k);
+close_list_3c2(j,a,b,c,k);
+Ro=j[3];
+So=j[2];
+To=j[1];
+Uo=*j;}}
+*C=Uo;
+C[1]=To;
+C[2]=So;
+C[3]=Ro;
+goto L107;
+case 74:Vo=Oo+1;
+if(Vo<c){
+if(*(b+Vo)==69){
+empty_pack_ea9(l,a,b,c,No);
+*C=*l;
+C[1]=l[1];
+C[2]=l[2];
+C[3]=l[3];
+goto L107;}}
+if(!No){
+Wo=74;
+goto L108;}
+first_pack_117(l,a,b,c);
+*C=*l;
+C[1]=l[1];
+C[2]=l[2];
+C[3]=l[3];
+goto L107;
+default:Xo=Po;
+break;}}
+else Xo=0;
+if(No){
+Yo=Xo;
+goto L109;}
+Wo=Xo;
+L108:Zo=r8(a+8);
+if(r8(a+32)-Zo<2){
+ap=make_ready_8e3(a,2,128);
+if(!(ap&1)){
+w4(C,0);
+goto L107;}
+bp=r8(a+8);}
+else bp=Zo;
+*(rp(a)+bp)=44;
+*(rp(a)+(i64)bp+1)=32;
+w8(a+8,bp+2);
+Yo=Wo;
+L109:switch(Yo){
+case 76:if(No){
+first_literal_f44(l,a,b,c);
+*C=*l;
+C[1]=l[1];
+C[2]=l[2];
+C[3]=l[3];
+goto L107;}
+literal_43d(m,a,b,c);
+cp=m[3];
+dp=m[2];
+ep=m[1];
+fp=*m;
+break;
+case 74:gp=r8(a+88);
+if(gp==0){
+cp=0;
+dp=0;
+ep=0;
+fp=0;}
+else{
+hp=rp(a+80);
+ip=gp*44;
+if(*(hp+(i64)ip-44)==27){
+cp=0;
+dp=0;
+ep=0;
+fp=0;}
+else{
+jp=r8(a+176);
+if(jp==18446744073709551615u){
+cp=0;
+dp=0;
+ep=0;
+fp=0;}
+else{
+w8(a+176,jp+1);
+if(r8(a+112)>gp){
+kp=ip;
+lp=hp;
+np=gp;}
+else{
+op=make_ready_9a1(a+80);
+if(!(op&1)){
+cp=0;
+dp=0;
+ep=0;
+fp=0;
+break;}
+pp=r8(a+88);
+kp=pp*44;
+lp=rp(a+80);
+np=pp;}
+sp=lp+kp;
+*sp=27;
+z43(sp+1);
+w8(a+88,np+1);
+cp=0;
+dp=1;
+ep=3;
+fp=1;}}}
+break;
+default:if(No){
+tp=r8(a+88);
+if(tp==0)up=1;
+else{
+vp=rp(a+80);
+yp=tp*44;
+zp=vp+(i64)yp;
+switch(zp[-44]){
+case 5:if(zp[-28]==0){
+up=1;
+goto L110;}
+break;
+case 7:break;
+case 0:case 1:case 2:case 3:case 4:case 6:case 8:case 9:case 10:case 11:case 12:case 13:case 14:case 15:case 16:case 17:case 18:case 19:case 20:case 21:case 22:case 23:case 24:case 25:case 26:case 27:case 28:case 29:up=1;
+goto L110;
+default:NEVER;
+}
+Ap=r8(a+176);
+if(Ap<c){
+Bp=b+(i64)Ap;
+switch(*Bp){
+case 65:case 70:up=1;
+goto L110;
+case 80:case 82:if(usub64(c,Ap)>=2){
+switch(Bp[1]){
+case 70:case 65:up=1;
+goto L110;
+default:break;}}
+break;
+default:break;}}
+Cp=r8(a+8);
+if(r8(a+112)>tp){
+Dp=yp;
+Ep=vp;
+Fp=tp;}
+else{
+Gp=make_ready_9a1(a+80);
+if(!(Gp&1)){
+up=0;
+goto L110;}
+Hp=r8(a+88);
+Dp=Hp*44;
+Ep=rp(a+80);
+Fp=Hp;}
+Ip=Ep+Dp;
+*Ip=25;
+Ip[1]=0;
+x2(Ip+2,0);
+x4(Ip+4,Cp);
+z36(Ip+8);
+w8(a+88,Fp+1);
+up=1;}
+L110:*C=up;
+C[1]=0;
+C[2]=0;
+C[3]=0;
+goto L107;}
+cp=0;
+dp=0;
+ep=0;
+fp=1;
+break;}
+*C=fp;
+C[1]=ep;
+C[2]=dp;
+C[3]=cp;
+L107:break;
+case 4:w4(h,0);
+z20(i+20);
+if(!(a[136]&1)){
+Jp=r4(a+120);
+Kp=a[139];
+Lp=r8(a+8);
+Mp=r8(a+48);
+if(r8(a+72)>Mp)Np=Mp;
+else{
+Op=make_ready_17a(a+40);
+if(!(Op&1)){
+w4(C,0);
+goto L111;}
+Np=r8(a+48);}
+Pp=rp(a+40)+Np*12;
+x4(Pp,Jp);
+x4(Pp+4,Lp);
+Pp[8]=0;
+Pp[9]=Kp;
+x2(Pp+10,0);
+w8(a+48,Np+1);}
+Qp=r8(a+176);
+if(Qp<c){
+if(*(b+Qp)==73){
+memcpy(i,a+120,20);
+Rp=r8(a+8);
+if(r8(a+32)>Rp)Sp=Rp;
+else{
+Tp=make_ready_8e3(a,1,16);
+if(!(Tp&1)){
+Up=0;
+Vp=0;
+goto L112;}
+Sp=r8(a+8);}
+*(rp(a)+Sp)=1;
+w8(a+8,Sp+1);
+Wp=r8(a+176);
+if(Wp==18446744073709551615u){
+Up=0;
+Vp=0;}
+else{
+w8(a+176,Wp+1);
+Xp=r8(a+88);
+if(r8(a+112)>Xp)Yp=Xp;
+else{
+Zp=make_ready_9a1(a+80);
+if(!(Zp&1)){
+Up=0;
+Vp=0;
+goto L112;}
+Yp=r8(a+88);}
+aq=rp(a+80)+Yp*44;
+*aq=6;
+aq[1]=0;
+x2(aq+2,0);
+memcpy(aq+4,i,40);
+w8(a+88,Yp+1);
+Up=3;
+Vp=1;}
+L112:*C=Vp;
+C[1]=Up;
+C[2]=Vp;
+C[3]=0;
+goto L111;}}
+components_at_7bd(h,a,b,c);
+*C=*h;
+C[1]=h[1];
+C[2]=h[2];
+C[3]=h[3];
+L111:break;
+case 5:w4(g,0);
+bq=r8(a+176);
+if(bq<c){
+if(*(b+bq)==69){
+nest_ended_32a(g,a,b,c);
+*C=*g;
+C[1]=g[1];
+C[2]=g[2];
+C[3]=g[3];
+goto L113;}}
+if(!(a[136]&1)){
+cq=r4(a+120);
+dq=a[139];
+eq=r8(a+8);
+fq=r8(a+48);
+if(r8(a+72)>fq)gq=fq;
+else{
+hq=make_ready_17a(a+40);
+if(!(hq&1)){
+w4(C,0);
+goto L113;}
+gq=r8(a+48);}
+iq=rp(a+40)+gq*12;
+x4(iq,cq);
+x4(iq+4,eq);
+iq[8]=0;
+iq[9]=dq;
+x2(iq+10,0);
+w8(a+48,gq+1);}
+components_at_7bd(g,a,b,c);
+*C=*g;
+C[1]=g[1];
+C[2]=g[2];
+C[3]=g[3];
+L113:break;
+case 6:components_at_7bd(C,a,b,c);
+break;
+default:NEVER;
+}
+jq=in+1;
+if(*C!=1||jq==hn)goto L1;
+in=jq;
+jn=C[3];
+kn=C[2];
+ln=C[1];
+goto L97;}}}
+goto L1;
+case 2:if(Vb)goto L1;
+if(c<16){
+kq=are_few_named_14c(b,c);
+if(!kq)goto L1;}
+else{
+lq=c-16;
+if(lq==0)goto L114;
+mq=0;
+L115:nq=v16_at(b+mq);
+if((v16_ult(nq,splat(33))|v16_eq(nq,splat(127)))!=0)goto L1;
+oq=mq+16;
+if(oq<lq){
+mq=oq;
+goto L115;}
+L114:pq=v16_at(b+lq);
+if((v16_ult(pq,splat(33))|v16_eq(pq,splat(127)))!=0)goto L1;}
+w4(ua,0);
+w4(va,0);
+if(c!=0){
+if(c!=1&&*b==95){
+if(b[1]==90){
+if(c>=3){
+qq=b[2];
+if(c<5){
+if(qq==90)goto L116;
+if((c!=3)&(qq==71)){
+if(b[3]==86)goto L117;
+goto L118;}
+switch(qq){
+case 71:goto L118;
+case 84:if(c==3)goto L119;
+break;
+default:goto L120;
+}}
+else{
+switch(qq){
+case 90:goto L116;
+case 71:if(b[3]!=86)goto L118;
+if(b[4]!=90)goto L117;
+if(Tb<19){
+rq=make_ready_8e3(a,19,128);
+if(!(rq&1)){
+uq=0;
+vq=0;
+wq=0;
+xq=0;
+goto L121;}
+sq=r8(a+16);
+tq=r8(a+8);}
+else{
+sq=Sb;
+tq=0;}
+if(sq-tq<19){
+yq=grow_amortized_2b6(a,19);
+if(!yq){
+uq=0;
+vq=0;
+wq=0;
+xq=0;
+goto L121;}
+zq=r8(a+16);
+Aq=r8(a+8);}
+else{
+zq=sq;
+Aq=tq;}
+Bq=Aq+19;
+Cq=rp(a);
+z16(a+8);
+Dq=Cq+(i64)Aq;
+if((u64)Dq-(u64)(u8*)t_c270<19)copy_bits_4f4((u8*)t_c270,Dq,19);
+else memcpy(Dq,(u8*)t_c270,19);
+wp(a,Cq);
+w8(a+8,Bq);
+w8(a+16,zq);
+w8(a+176,5);
+begin_encoding_e5c(sa,a,b,c);
+uq=sa[3];
+vq=sa[2];
+wq=sa[1];
+xq=*sa;
+L121:Eq=uq;
+Fq=vq;
+Gq=wq;
+Hq=xq;
+goto L122;
+case 84:break;
+default:goto L120;
+}}
+switch(b[3]){
+case 104:begin_thunk_a5d(va,a,b,c);
+goto L123;
+case 118:begin_virtual_thunk_603(va,a,b,c);
+goto L123;
+case 67:begin_clone_893(va);
+goto L123;
+default:break;}
+L119:begin_special_44d(va,a,b,c);
+L123:Iq=va[3];
+Jq=va[2];
+Kq=va[1];
+Lq=*va;
+goto L124;
+L118:begin_clone_893(ua);
+Iq=ua[3];
+Jq=ua[2];
+Kq=ua[1];
+Lq=*ua;
+goto L124;
+L117:begin_object_103(ua,a,b,c);
+Iq=ua[3];
+Jq=ua[2];
+Kq=ua[1];
+Lq=*ua;
+goto L124;
+L116:w8(a+176,3);
+begin_encoding_e5c(ta,a,b,c);
+Eq=ta[3];
+Fq=ta[2];
+Gq=ta[1];
+Hq=*ta;
+L122:Iq=Eq;
+Jq=Fq;
+Kq=Gq;
+Lq=Hq;
+goto L124;}
+L120:w8(a+176,2);
+begin_encoding_e5c(ua,a,b,c);
+Iq=ua[3];
+Jq=ua[2];
+Kq=ua[1];
+Lq=*ua;
+L124:if(Lq!=1)goto L1;
+Mq=c<<3;
+Nq=0;
+Oq=Iq;
+Pq=Jq;
+Qq=Kq;
+L125:if(Qq==7){
+if(r8(a+8)>Rb)goto L14;
+goto L15;}
+w8(a+184,r8(a+184)+1);
+w4(wa,0);
+switch(Qq){
+case 0:type_at_925(wa,a,b,c,0);
+break;
+case 1:type_at_925(wa,a,b,c,1);
+break;
+case 2:w4(oa,0);
+w4(pa,0);
+z32(qa);
+z32(ra);
+Rq=r8(a+88);
+if(Rq==0)w4(wa,0);
+else{
+Sq=Pq&1;
+Tq=rp(a+80)+(i64)(Rq*44);
+Uq=Tq[-44];
+Vq=Tq[-43];
+Wq=q4(Tq-40);
+Xq=q4(Tq-36);
+Yq=q2(Tq-32);
+switch(Uq){
+case 29:case 28:case 27:case 26:case 4:case 5:case 6:case 7:case 8:case 11:case 12:case 13:case 14:case 15:case 16:case 17:case 18:case 19:case 20:case 21:case 22:case 23:case 24:case 25:if(Oq&1){
+pass_dependent_3d7(oa,a,b,c);
+*wa=*oa;
+wa[1]=oa[1];
+wa[2]=oa[2];
+wa[3]=oa[3];
+goto L126;}
+Zq=q4(Tq-4);
+ar=Xq;
+br=Xq>>16;
+w4(na,0);
+switch(Uq){
+case 22:returned_322(na,a,b,c,Vq&1);
+break;
+case 23:parameter_at_3ac(na,a,b,c,Vq&1,0);
+break;
+case 24:array_ended_1b3(na,a,b,c,Vq,Wq,Xq);
+break;
+case 12:enclosing_parameter_fc1(na,a,b,c,Wq,Xq);
+break;
+case 13:instance_parameter_240(na,a,b,c,Vq,Wq,Xq);
+break;
+case 11:w2(ha,Yq);
+memcpy(ha+2,Tq-30,26);
+x4(ha+28,Zq);
+enclosing_front_fa8(na,a,Vq,Wq,Xq,ha);
+break;
+case 17:w4(ia,Xq);
+w2(ia+4,Yq);
+lambda_parameter_383(na,a,b,c,Wq,ia);
+break;
+case 18:member_parameter_7e4(na,a,b,c,Wq);
+break;
+case 15:w4(ja,Xq);
+w2(ja+4,Yq);
+memcpy(ja+6,Tq-30,26);
+addressed_front_54d(na,a,b,c,Vq,Wq,ja);
+break;
+case 16:addressed_parameter_2cf(na,a,b,c,Wq);
+break;
+case 14:*na=0;
+break;
+case 19:finish_8cd(na,a,b,c);
+break;
+case 20:derived_ended_aef(na,a,b,c);
+break;
+case 21:base_ended_299(na,a,b,c,Wq);
+break;
+case 29:enumerator_21c(na,a,b,c);
+break;
+case 26:w2(ka,br);
+w2(ka+2,Yq);
+memcpy(ka+4,Tq-30,26);
+w2(ka+30,Zq);
+argument_enumerator_5cf(na,a,b,c,Wq,ar,ka);
+break;
+case 25:w2(la,br);
+w2(la+2,Yq);
+memcpy(la+4,Tq-30,26);
+w2(la+30,Zq);
+argument_ended_d25(na,a,b,c,Wq,ar,la,Sq);
+break;
+case 28:w2(ma,br);
+w2(ma+2,Yq);
+memcpy(ma+4,Tq-30,26);
+w2(ma+30,Zq);
+element_ended_6b8(na,a,b,c,Wq,ar,ma,Sq);
+break;
+case 27:case 10:case 9:case 8:case 4:case 5:case 6:case 7:*na=1;
+na[1]=3;
+na[2]=0;
+na[3]=0;
+break;
+default:NEVER;
+}
+cr=na[1];
+dr=na[2];
+er=na[3];
+*pa=*na;
+pa[1]=cr;
+pa[2]=dr;
+pa[3]=er;
+goto L127;
+case 10:w4(qa,Xq);
+w2(qa+4,Yq);
+memcpy(qa+6,Tq-30,26);
+parameter_ended_d3f(pa,a,b,c,Wq,qa);
+goto L127;
+case 9:w4(ra,Xq);
+w2(ra+4,Yq);
+memcpy(ra+6,Tq-30,26);
+front_ended_665(pa,a,b,c,Vq,Wq,ra);
+goto L127;
+case 0:w8(a+88,Rq-1);
+fr=r8(a+8);
+if(r8(a+32)>fr)gr=fr;
+else{
+hr=make_ready_8e3(a,1,16);
+if(!(hr&1)){
+ir=0;
+jr=0;
+kr=0;
+lr=0;
+goto L128;}
+gr=r8(a+8);}
+*(rp(a)+gr)=42;
+mr=gr+1;
+w8(a+8,mr);
+nr=mr;
+or=Oq&1;
+pr=r8(a+48);
+if(r8(a+72)>pr){
+qr=pr;
+rr=nr;
+sr=0;
+tr=or;
+goto L129;}
+ur=make_ready_17a(a+40);
+if(!(ur&1)){
+ir=0;
+jr=0;
+kr=0;
+lr=0;
+goto L128;}
+vr=nr;
+wr=0;
+xr=or;
+break;
+case 1:if(Sq)goto L127;
+w8(a+88,Rq-1);
+yr=r8(a+8);
+if(r8(a+32)>yr)zr=yr;
+else{
+Ar=make_ready_8e3(a,1,16);
+if(!(Ar&1)){
+ir=0;
+jr=0;
+kr=0;
+lr=0;
+goto L128;}
+zr=r8(a+8);}
+*(rp(a)+zr)=38;
+Br=zr+1;
+w8(a+8,Br);
+Cr=Br;
+Dr=Oq&1;
+Er=r8(a+48);
+if(r8(a+72)>Er){
+qr=Er;
+rr=Cr;
+sr=1;
+tr=Dr;
+goto L129;}
+Fr=make_ready_17a(a+40);
+if(!(Fr&1)){
+ir=0;
+jr=0;
+kr=0;
+lr=0;
+goto L128;}
+vr=Cr;
+wr=1;
+xr=Dr;
+break;
+case 2:if(Sq)goto L127;
+w8(a+88,Rq-1);
+Gr=r8(a+8);
+if(r8(a+32)-Gr<2){
+Hr=make_ready_8e3(a,2,128);
+if(!(Hr&1)){
+ir=0;
+jr=0;
+kr=0;
+lr=0;
+goto L128;}
+Ir=r8(a+8);}
+else Ir=Gr;
+*(rp(a)+Ir)=38;
+*(rp(a)+(i64)Ir+1)=38;
+Jr=Ir+2;
+w8(a+8,Jr);
+Kr=Jr;
+Lr=Oq&1;
+Mr=r8(a+48);
+if(r8(a+72)>Mr){
+qr=Mr;
+rr=Kr;
+sr=1;
+tr=Lr;
+goto L129;}
+Nr=make_ready_17a(a+40);
+if(!(Nr&1)){
+ir=0;
+jr=0;
+kr=0;
+lr=0;
+goto L128;}
+vr=Kr;
+wr=1;
+xr=Lr;
+break;
+case 3:if(Sq)goto L127;
+w8(a+88,Rq-1);
+if(r8(a+32)-r8(a+8)<6){
+Or=make_ready_8e3(a,6,128);
+if(!(Or&1)){
+ir=0;
+jr=0;
+kr=0;
+lr=0;
+goto L128;}}
+Pr=extend_from_slice_169(a,(u8*)t_f603,6);
+if(Pr&1){
+ir=0;
+jr=0;
+kr=0;
+lr=0;
+goto L128;}
+Qr=r8(a+8);
+Rr=Oq&1;
+Sr=r8(a+48);
+if(r8(a+72)>Sr){
+qr=Sr;
+rr=Qr;
+sr=0;
+tr=Rr;
+goto L129;}
+Tr=make_ready_17a(a+40);
+if(!(Tr&1)){
+ir=0;
+jr=0;
+kr=0;
+lr=0;
+goto L128;}
+vr=Qr;
+wr=0;
+xr=Rr;
+break;
+default:NEVER;
+}
+qr=r8(a+48);
+rr=vr;
+sr=wr;
+tr=xr;
+L129:Ur=rp(a+40)+qr*12;
+x4(Ur,Wq);
+x4(Ur+4,rr);
+Ur[8]=sr;
+Ur[9]=tr;
+x2(Ur+10,0);
+w8(a+48,qr+1);
+ir=tr;
+jr=sr;
+kr=2;
+lr=1;
+L128:*pa=lr;
+pa[1]=kr;
+pa[2]=jr;
+pa[3]=ir;
+L127:Vr=pa[1];
+Wr=pa[2];
+Xr=pa[3];
+*wa=*pa;
+wa[1]=Vr;
+wa[2]=Wr;
+wa[3]=Xr;}
+L126:break;
+case 3:Yr=Pq&1;
+w4(fa,0);
+Zr=r8(a+176);
+if(Zr<c){
+as=*(b+Zr);
+switch(as){
+case 69:w4(da,0);
+w8(a+176,Zr+1);
+bs=r8(a+88);
+if(bs==0){
+cs=0;
+ds=0;
+es=0;
+fs=0;}
+else{
+if(*(rp(a+80)+(i64)(bs*44)-44)==27){
+if(Yr){
+cs=0;
+ds=0;
+es=0;
+fs=0;}
+else{
+w8(a+88,bs-1);
+cs=0;
+ds=0;
+es=3;
+fs=1;}}
+else{
+z32(ea);
+close_list_299(da,a,b,c,ea);
+cs=da[3];
+ds=da[2];
+es=da[1];
+fs=*da;}}
+*wa=fs;
+wa[1]=es;
+wa[2]=ds;
+wa[3]=cs;
+goto L130;
+case 74:gs=Zr+1;
+if(gs<c){
+if(*(b+gs)==69){
+empty_pack_079(fa,a,b,c,Yr);
+*wa=*fa;
+wa[1]=fa[1];
+wa[2]=fa[2];
+wa[3]=fa[3];
+goto L130;}}
+if(!Yr){
+hs=74;
+goto L131;}
+first_pack_117(fa,a,b,c);
+*wa=*fa;
+wa[1]=fa[1];
+wa[2]=fa[2];
+wa[3]=fa[3];
+goto L130;
+default:is=as;
+break;}}
+else is=0;
+if(Yr){
+js=is;
+goto L132;}
+hs=is;
+L131:ks=r8(a+8);
+if(r8(a+32)-ks<2){
+ls=make_ready_8e3(a,2,128);
+if(!(ls&1)){
+w4(wa,0);
+goto L130;}
+ms=r8(a+8);}
+else ms=ks;
+*(rp(a)+ms)=44;
+*(rp(a)+(i64)ms+1)=32;
+w8(a+8,ms+2);
+js=hs;
+L132:switch(js){
+case 76:if(Yr){
+first_literal_8ab(fa,a,b,c);
+*wa=*fa;
+wa[1]=fa[1];
+wa[2]=fa[2];
+wa[3]=fa[3];
+goto L130;}
+literal_9c1(ga,a,b,c);
+ns=ga[3];
+os=ga[2];
+ps=ga[1];
+qs=*ga;
+break;
+case 74:rs=r8(a+88);
+if(rs==0){
+ns=0;
+os=0;
+ps=0;
+qs=0;}
+else{
+ss=rp(a+80);
+ts=rs*44;
+if(*(ss+(i64)ts-44)==27){
+ns=0;
+os=0;
+ps=0;
+qs=0;}
+else{
+us=r8(a+176);
+if(us==18446744073709551615u){
+ns=0;
+os=0;
+ps=0;
+qs=0;}
+else{
+w8(a+176,us+1);
+if(r8(a+112)>rs){
+vs=ts;
+ws=ss;
+xs=rs;}
+else{
+ys=make_ready_9a1(a+80);
+if(!(ys&1)){
+ns=0;
+os=0;
+ps=0;
+qs=0;
+break;}
+zs=r8(a+88);
+vs=zs*44;
+ws=rp(a+80);
+xs=zs;}
+As=ws+vs;
+*As=27;
+z43(As+1);
+w8(a+88,xs+1);
+ns=0;
+os=1;
+ps=3;
+qs=1;}}}
+break;
+default:if(Yr){
+Bs=r8(a+88);
+if(Bs==0)Cs=1;
+else{
+Ds=rp(a+80);
+Es=Bs*44;
+Fs=Ds+(i64)Es;
+switch(Fs[-44]){
+case 5:if(Fs[-28]==0){
+Cs=1;
+goto L133;}
+break;
+case 7:break;
+case 0:case 1:case 2:case 3:case 4:case 6:case 8:case 9:case 10:case 11:case 12:case 13:case 14:case 15:case 16:case 17:case 18:case 19:case 20:case 21:case 22:case 23:case 24:case 25:case 26:case 27:case 28:case 29:Cs=1;
+goto L133;
+default:NEVER;
+}
+Gs=r8(a+176);
+if(Gs<c){
+Hs=b+(i64)Gs;
+switch(*Hs){
+case 65:case 70:Cs=1;
+goto L133;
+case 80:case 82:if(usub64(c,Gs)>=2){
+switch(Hs[1]){
+case 70:case 65:Cs=1;
+goto L133;
+default:break;}}
+break;
+default:break;}}
+Is=r8(a+8);
+if(r8(a+112)>Bs){
+Js=Es;
+Ks=Ds;
+Ls=Bs;}
+else{
+Ms=make_ready_9a1(a+80);
+if(!(Ms&1)){
+Cs=0;
+goto L133;}
+Ns=r8(a+88);
+Js=Ns*44;
+Ks=rp(a+80);
+Ls=Ns;}
+Os=Ks+Js;
+*Os=25;
+Os[1]=0;
+x2(Os+2,0);
+x4(Os+4,Is);
+z36(Os+8);
+w8(a+88,Ls+1);
+Cs=1;}
+L133:*wa=Cs;
+wa[1]=0;
+wa[2]=0;
+wa[3]=0;
+goto L130;}
+ns=0;
+os=0;
+ps=0;
+qs=1;
+break;}
+*wa=qs;
+wa[1]=ps;
+wa[2]=os;
+wa[3]=ns;
+L130:break;
+case 4:w4(ba,0);
+z20(ca+20);
+if(!(a[136]&1)){
+Ps=r4(a+120);
+Qs=a[139];
+Rs=r8(a+8);
+Ss=r8(a+48);
+if(r8(a+72)>Ss)Ts=Ss;
+else{
+Us=make_ready_17a(a+40);
+if(!(Us&1)){
+w4(wa,0);
+goto L134;}
+Ts=r8(a+48);}
+Vs=rp(a+40)+Ts*12;
+x4(Vs,Ps);
+x4(Vs+4,Rs);
+Vs[8]=0;
+Vs[9]=Qs;
+x2(Vs+10,0);
+w8(a+48,Ts+1);}
+Ws=r8(a+176);
+if(Ws<c){
+if(*(b+Ws)==73){
+memcpy(ca,a+120,20);
+Xs=r8(a+8);
+if(r8(a+32)>Xs)Ys=Xs;
+else{
+Zs=make_ready_8e3(a,1,16);
+if(!(Zs&1)){
+at=0;
+bt=0;
+goto L135;}
+Ys=r8(a+8);}
+*(rp(a)+Ys)=60;
+w8(a+8,Ys+1);
+ct=r8(a+176);
+if(ct==18446744073709551615u){
+at=0;
+bt=0;}
+else{
+w8(a+176,ct+1);
+dt=r8(a+88);
+if(r8(a+112)>dt)et=dt;
+else{
+ft=make_ready_9a1(a+80);
+if(!(ft&1)){
+at=0;
+bt=0;
+goto L135;}
+et=r8(a+88);}
+gt=rp(a+80)+et*44;
+*gt=6;
+gt[1]=0;
+x2(gt+2,0);
+memcpy(gt+4,ca,40);
+w8(a+88,et+1);
+at=3;
+bt=1;}
+L135:*wa=bt;
+wa[1]=at;
+wa[2]=bt;
+wa[3]=0;
+goto L134;}}
+components_at_ca9(ba,a,b,c);
+*wa=*ba;
+wa[1]=ba[1];
+wa[2]=ba[2];
+wa[3]=ba[3];
+L134:break;
+case 5:w4(aa,0);
+ht=r8(a+176);
+if(ht<c){
+if(*(b+ht)==69){
+nest_ended_32a(aa,a,b,c);
+*wa=*aa;
+wa[1]=aa[1];
+wa[2]=aa[2];
+wa[3]=aa[3];
+goto L136;}}
+if(!(a[136]&1)){
+it=r4(a+120);
+jt=a[139];
+kt=r8(a+8);
+lt=r8(a+48);
+if(r8(a+72)>lt)mt=lt;
+else{
+nt=make_ready_17a(a+40);
+if(!(nt&1)){
+w4(wa,0);
+goto L136;}
+mt=r8(a+48);}
+ot=rp(a+40)+mt*12;
+x4(ot,it);
+x4(ot+4,kt);
+ot[8]=0;
+ot[9]=jt;
+x2(ot+10,0);
+w8(a+48,mt+1);}
+components_at_ca9(aa,a,b,c);
+*wa=*aa;
+wa[1]=aa[1];
+wa[2]=aa[2];
+wa[3]=aa[3];
+L136:break;
+case 6:components_at_ca9(wa,a,b,c);
+break;
+default:NEVER;
+}
+pt=Nq+1;
+if(*wa!=1||pt==Mq)goto L1;
+Nq=pt;
+Oq=wa[3];
+Pq=wa[2];
+Qq=wa[1];
+goto L125;}}}
+goto L1;
+case 1:if(Vb)goto L1;
+if(c<16){
+qt=are_few_named_14c(b,c);
+if(!qt)goto L1;}
+else{
+rt=c-16;
+if(rt==0)goto L137;
+st=0;
+L138:tt=v16_at(b+st);
+if((v16_ult(tt,splat(33))|v16_eq(tt,splat(127)))!=0)goto L1;
+ut=st+16;
+if(ut<rt){
+st=ut;
+goto L138;}
+L137:vt=v16_at(b+rt);
+if((v16_ult(vt,splat(33))|v16_eq(vt,splat(127)))!=0)goto L1;}
+w4(X,0);
+w4(Y,0);
+if(c!=0){
+if(c!=1&&*b==95){
+if(b[1]==90){
+if(c>=3){
+wt=b[2];
+if(c<5){
+if(wt==90)goto L139;
+if((c!=3)&(wt==71)){
+if(b[3]==86)goto L140;
+goto L141;}
+switch(wt){
+case 71:goto L141;
+case 84:if(c==3)goto L142;
+break;
+default:goto L143;
+}}
+else{
+switch(wt){
+case 90:goto L139;
+case 71:if(b[3]!=86)goto L141;
+if(b[4]!=90)goto L140;
+if(Tb<19){
+xt=make_ready_8e3(a,19,128);
+if(!(xt&1)){
+At=0;
+Bt=0;
+Ct=0;
+Dt=0;
+goto L144;}
+yt=r8(a+16);
+zt=r8(a+8);}
+else{
+yt=Sb;
+zt=0;}
+if(yt-zt<19){
+Et=grow_amortized_2b6(a,19);
+if(!Et){
+At=0;
+Bt=0;
+Ct=0;
+Dt=0;
+goto L144;}
+Ft=r8(a+16);
+Gt=r8(a+8);}
+else{
+Ft=yt;
+Gt=zt;}
+Ht=Gt+19;
+It=rp(a);
+z16(a+8);
+Jt=It+(i64)Gt;
+if((u64)Jt-(u64)(u8*)t_c270<19)copy_bits_4f4((u8*)t_c270,Jt,19);
+else memcpy(Jt,(u8*)t_c270,19);
+wp(a,It);
+w8(a+8,Ht);
+w8(a+16,Ft);
+w8(a+176,5);
+begin_encoding_a26(V,a,b,c);
+At=V[3];
+Bt=V[2];
+Ct=V[1];
+Dt=*V;
+L144:Kt=At;
+Lt=Bt;
+Mt=Ct;
+Nt=Dt;
+goto L145;
+case 84:break;
+default:goto L143;
+}}
+switch(b[3]){
+case 104:begin_thunk_acc(Y,a,b,c);
+goto L146;
+case 118:begin_virtual_thunk_3f7(Y,a,b,c);
+goto L146;
+case 67:begin_clone_893(Y);
+goto L146;
+default:break;}
+L142:begin_special_44d(Y,a,b,c);
+L146:Ot=Y[3];
+Pt=Y[2];
+Qt=Y[1];
+Rt=*Y;
+goto L147;
+L141:begin_clone_893(X);
+Ot=X[3];
+Pt=X[2];
+Qt=X[1];
+Rt=*X;
+goto L147;
+L140:begin_object_056(X,a,b,c);
+Ot=X[3];
+Pt=X[2];
+Qt=X[1];
+Rt=*X;
+goto L147;
+L139:w8(a+176,3);
+begin_encoding_a26(W,a,b,c);
+Kt=W[3];
+Lt=W[2];
+Mt=W[1];
+Nt=*W;
+L145:Ot=Kt;
+Pt=Lt;
+Qt=Mt;
+Rt=Nt;
+goto L147;}
+L143:w8(a+176,2);
+begin_encoding_a26(X,a,b,c);
+Ot=X[3];
+Pt=X[2];
+Qt=X[1];
+Rt=*X;
+L147:if(Rt!=1)goto L1;
+St=c<<3;
+Tt=0;
+Ut=Ot;
+Vt=Pt;
+Wt=Qt;
+L148:if(Wt==7){
+Xt=r8(a+8);
+if(Xt>Rb)goto L14;
+Yt=rp(a);
+if(Xt==0)goto L15;
+Zt=0;
+au=0;
+bu=0;
+L149:cu=Zt;
+L150:if(Xt-cu>15){
+du=cttz(v16_ult(v16_at(Yt+cu),splat(3)),16);
+eu=cu+du;
+if(du>=16){
+cu=eu;
+goto L150;}
+fu=eu;}
+else{
+if(cu>=Xt){
+fu=cu;
+goto L151;}
+gu=cu;
+L152:if(*(Yt+gu)>2){
+hu=gu+1;
+if(hu!=Xt){
+gu=hu;
+goto L152;}
+fu=Xt;}
+else fu=gu;}
+L151:if(bu==0){
+if(au<Zt){
+if(fu!=Zt){
+iu=fu-Zt;
+ju=Yt+(i64)Zt;
+ku=Yt+(i64)au;
+lu=0;
+L153:*(ku+(i64)lu)=*(ju+(i64)lu);
+mu=lu+1;
+if(mu!=iu){
+lu=mu;
+goto L153;}}}
+nu=au-Zt+fu;}
+else nu=au;
+if(fu!=Xt){
+switch(*(Yt+fu)){
+case 1:ou=bu+1;
+break;
+case 2:ou=usub64(bu,1);
+break;
+default:goto L1;
+}
+pu=fu+1;
+if(pu<Xt){
+Zt=pu;
+au=nu;
+bu=ou;
+goto L149;}}
+if(r8(a+8)<=nu)goto L15;
+Wc=nu;
+break;}
+w8(a+184,r8(a+184)+1);
+w4(Z,0);
+switch(Wt){
+case 0:type_at_225(Z,a,b,c,0);
+break;
+case 1:type_at_225(Z,a,b,c,1);
+break;
+case 2:w4(R,0);
+w4(S,0);
+z32(T);
+z32(U);
+qu=r8(a+88);
+if(qu==0)w4(Z,0);
+else{
+ru=Vt&1;
+su=rp(a+80)+(i64)(qu*44);
+tu=su[-44];
+uu=su[-43];
+vu=q4(su-40);
+wu=q4(su-36);
+xu=q2(su-32);
+switch(tu){
+case 29:case 28:case 27:case 26:case 4:case 5:case 6:case 7:case 8:case 11:case 12:case 13:case 14:case 15:case 16:case 17:case 18:case 19:case 20:case 21:case 22:case 23:case 24:case 25:if(Ut&1){
+pass_dependent_123(R,a,b,c);
+*Z=*R;
+Z[1]=R[1];
+Z[2]=R[2];
+Z[3]=R[3];
+goto L154;}
+yu=q4(su-4);
+zu=wu;
+Au=wu>>16;
+w4(Q,0);
+switch(tu){
+case 22:returned_087(Q,a,b,c,uu&1);
+break;
+case 23:parameter_at_d02(Q,a,b,c,uu&1,0);
+break;
+case 24:array_ended_a11(Q,a,b,c,uu,vu,wu);
+break;
+case 12:enclosing_parameter_d72(Q,a,b,c,uu,vu);
+break;
+case 13:instance_parameter_e2a(Q,a,b,c,uu,vu,wu);
+break;
+case 11:w2(K,xu);
+memcpy(K+2,su-30,26);
+x4(K+28,yu);
+enclosing_front_fa8(Q,a,uu,vu,wu,K);
+break;
+case 17:w4(L,wu);
+w2(L+4,xu);
+lambda_parameter_f9a(Q,a,b,c,vu,L);
+break;
+case 18:member_parameter_678(Q,a,b,c,uu);
+break;
+case 15:w4(M,wu);
+w2(M+4,xu);
+memcpy(M+6,su-30,26);
+addressed_front_4c5(Q,a,b,c,uu,vu,M);
+break;
+case 16:addressed_parameter_41c(Q,a,b,c,uu);
+break;
+case 14:*Q=0;
+break;
+case 19:finish_8cd(Q,a,b,c);
+break;
+case 20:derived_ended_aef(Q,a,b,c);
+break;
+case 21:base_ended_299(Q,a,b,c,vu);
+break;
+case 29:enumerator_21c(Q,a,b,c);
+break;
+case 26:w2(N,Au);
+w2(N+2,xu);
+memcpy(N+4,su-30,26);
+w2(N+30,yu);
+argument_enumerator_61d(Q,a,b,c,vu,zu,N);
+break;
+case 25:w2(O,Au);
+w2(O+2,xu);
+memcpy(O+4,su-30,26);
+w2(O+30,yu);
+argument_ended_605(Q,a,b,c,vu,zu,O,ru);
+break;
+case 28:w2(P,Au);
+w2(P+2,xu);
+memcpy(P+4,su-30,26);
+w2(P+30,yu);
+element_ended_c50(Q,a,b,c,vu,zu,P,ru);
+break;
+case 27:case 10:case 9:case 8:case 4:case 5:case 6:case 7:*Q=1;
+Q[1]=3;
+Q[2]=0;
+Q[3]=0;
+break;
+default:NEVER;
+}
+Bu=Q[1];
+Cu=Q[2];
+Du=Q[3];
+*S=*Q;
+S[1]=Bu;
+S[2]=Cu;
+S[3]=Du;
+goto L155;
+case 10:w4(T,wu);
+w2(T+4,xu);
+memcpy(T+6,su-30,26);
+parameter_ended_06e(S,a,b,c,uu,vu,T);
+goto L155;
+case 9:w4(U,wu);
+w2(U+4,xu);
+memcpy(U+6,su-30,26);
+front_ended_ee9(S,a,b,c,uu,vu,U);
+goto L155;
+case 0:w8(a+88,qu-1);
+Eu=r8(a+8);
+if(r8(a+32)>Eu)Fu=Eu;
+else{
+Gu=make_ready_8e3(a,1,16);
+if(!(Gu&1)){
+Hu=0;
+Iu=0;
+Ju=0;
+Ku=0;
+goto L156;}
+Fu=r8(a+8);}
+*(rp(a)+Fu)=42;
+Lu=Fu+1;
+w8(a+8,Lu);
+Mu=Lu;
+Nu=Ut&1;
+Ou=r8(a+48);
+if(r8(a+72)>Ou){
+Pu=Ou;
+Qu=Mu;
+Ru=0;
+Su=Nu;
+goto L157;}
+Tu=make_ready_17a(a+40);
+if(!(Tu&1)){
+Hu=0;
+Iu=0;
+Ju=0;
+Ku=0;
+goto L156;}
+Uu=Mu;
+Vu=0;
+Wu=Nu;
+break;
+case 1:if(ru)goto L155;
+w8(a+88,qu-1);
+Xu=r8(a+8);
+if(r8(a+32)>Xu)Yu=Xu;
+else{
+Zu=make_ready_8e3(a,1,16);
+if(!(Zu&1)){
+Hu=0;
+Iu=0;
+Ju=0;
+Ku=0;
+goto L156;}
+Yu=r8(a+8);}
+*(rp(a)+Yu)=38;
+av=Yu+1;
+w8(a+8,av);
+bv=av;
+cv=Ut&1;
+dv=r8(a+48);
+if(r8(a+72)>dv){
+Pu=dv;
+Qu=bv;
+Ru=1;
+Su=cv;
+goto L157;}
+ev=make_ready_17a(a+40);
+if(!(ev&1)){
+Hu=0;
+Iu=0;
+Ju=0;
+Ku=0;
+goto L156;}
+Uu=bv;
+Vu=1;
+Wu=cv;
+break;
+case 2:if(ru)goto L155;
+w8(a+88,qu-1);
+fv=r8(a+8);
+if(r8(a+32)-fv<2){
+gv=make_ready_8e3(a,2,128);
+if(!(gv&1)){
+Hu=0;
+Iu=0;
+Ju=0;
+Ku=0;
+goto L156;}
+hv=r8(a+8);}
+else hv=fv;
+*(rp(a)+hv)=38;
+*(rp(a)+(i64)hv+1)=38;
+iv=hv+2;
+w8(a+8,iv);
+jv=iv;
+kv=Ut&1;
+lv=r8(a+48);
+if(r8(a+72)>lv){
+Pu=lv;
+Qu=jv;
+Ru=1;
+Su=kv;
+goto L157;}
+mv=make_ready_17a(a+40);
+if(!(mv&1)){
+Hu=0;
+Iu=0;
+Ju=0;
+Ku=0;
+goto L156;}
+Uu=jv;
+Vu=1;
+Wu=kv;
+break;
+case 3:if(ru)goto L155;
+w8(a+88,qu-1);
+if(r8(a+32)-r8(a+8)<6){
+nv=make_ready_8e3(a,6,128);
+if(!(nv&1)){
+Hu=0;
+Iu=0;
+Ju=0;
+Ku=0;
+goto L156;}}
+ov=extend_from_slice_169(a,(u8*)t_f603,6);
+if(ov&1){
+Hu=0;
+Iu=0;
+Ju=0;
+Ku=0;
+goto L156;}
+pv=r8(a+8);
+qv=Ut&1;
+rv=r8(a+48);
+if(r8(a+72)>rv){
+Pu=rv;
+Qu=pv;
+Ru=0;
+Su=qv;
+goto L157;}
+sv=make_ready_17a(a+40);
+if(!(sv&1)){
+Hu=0;
+Iu=0;
+Ju=0;
+Ku=0;
+goto L156;}
+Uu=pv;
+Vu=0;
+Wu=qv;
+break;
+default:NEVER;
+}
+Pu=r8(a+48);
+Qu=Uu;
+Ru=Vu;
+Su=Wu;
+L157:tv=rp(a+40)+Pu*12;
+x4(tv,vu);
+x4(tv+4,Qu);
+tv[8]=Ru;
+tv[9]=Su;
+x2(tv+10,0);
+w8(a+48,Pu+1);
+Hu=Su;
+Iu=Ru;
+Ju=2;
+Ku=1;
+L156:*S=Ku;
+S[1]=Ju;
+S[2]=Iu;
+S[3]=Hu;
+L155:uv=S[1];
+vv=S[2];
+wv=S[3];
+*Z=*S;
+Z[1]=uv;
+Z[2]=vv;
+Z[3]=wv;}
+L154:break;
+case 3:xv=Vt&1;
+w4(I,0);
+yv=r8(a+176);
+if(yv<c){
+zv=*(b+yv);
+switch(zv){
+case 69:w4(G,0);
+w8(a+176,yv+1);
+Av=r8(a+88);
+if(Av==0){
+Bv=0;
+Cv=0;
+Dv=0;
+Ev=0;}
+else{
+if(*(rp(a+80)+(i64)(Av*44)-44)==27){
+if(xv){
+Bv=0;
+Cv=0;
+Dv=0;
+Ev=0;}
+else{
+w8(a+88,Av-1);
+Bv=0;
+Cv=0;
+Dv=3;
+Ev=1;}}
+else{
+z32(H);
+close_list_148(G,a,b,c,H);
+Bv=G[3];
+Cv=G[2];
+Dv=G[1];
+Ev=*G;}}
+*Z=Ev;
+Z[1]=Dv;
+Z[2]=Cv;
+Z[3]=Bv;
+goto L158;
+case 74:Fv=yv+1;
+if(Fv<c){
+if(*(b+Fv)==69){
+empty_pack_c74(I,a,b,c,xv);
+*Z=*I;
+Z[1]=I[1];
+Z[2]=I[2];
+Z[3]=I[3];
+goto L158;}}
+if(!xv){
+Gv=74;
+goto L159;}
+first_pack_117(I,a,b,c);
+*Z=*I;
+Z[1]=I[1];
+Z[2]=I[2];
+Z[3]=I[3];
+goto L158;
+default:Hv=zv;
+break;}}
+else Hv=0;
+if(xv){
+Iv=Hv;
+goto L160;}
+Gv=Hv;
+L159:Jv=r8(a+8);
+if(r8(a+32)-Jv<2){
+Kv=make_ready_8e3(a,2,128);
+if(!(Kv&1)){
+w4(Z,0);
+goto L158;}
+Lv=r8(a+8);}
+else Lv=Jv;
+*(rp(a)+Lv)=44;
+*(rp(a)+(i64)Lv+1)=32;
+w8(a+8,Lv+2);
+Iv=Gv;
+L160:switch(Iv){
+case 76:if(xv){
+first_literal_d00(I,a,b,c);
+*Z=*I;
+Z[1]=I[1];
+Z[2]=I[2];
+Z[3]=I[3];
+goto L158;}
+literal_8fc(J,a,b,c);
+Mv=J[3];
+Nv=J[2];
+Ov=J[1];
+Pv=*J;
+break;
+case 74:Qv=r8(a+88);
+if(Qv==0){
+Mv=0;
+Nv=0;
+Ov=0;
+Pv=0;}
+else{
+Rv=rp(a+80);
+Sv=Qv*44;
+if(*(Rv+(i64)Sv-44)==27){
+Mv=0;
+Nv=0;
+Ov=0;
+Pv=0;}
+else{
+Tv=r8(a+176);
+if(Tv==18446744073709551615u){
+Mv=0;
+Nv=0;
+Ov=0;
+Pv=0;}
+else{
+w8(a+176,Tv+1);
+if(r8(a+112)>Qv){
+Uv=Sv;
+Vv=Rv;
+Wv=Qv;}
+else{
+Xv=make_ready_9a1(a+80);
+if(!(Xv&1)){
+Mv=0;
+Nv=0;
+Ov=0;
+Pv=0;
+break;}
+Yv=r8(a+88);
+Uv=Yv*44;
+Vv=rp(a+80);
+Wv=Yv;}
+Zv=Vv+Uv;
+*Zv=27;
+z43(Zv+1);
+w8(a+88,Wv+1);
+Mv=0;
+Nv=1;
+Ov=3;
+Pv=1;}}}
+break;
+default:if(xv){
+aw=r8(a+88);
+if(aw==0)bw=1;
+else{
+cw=rp(a+80);
+dw=aw*44;
+ew=cw+(i64)dw;
+switch(ew[-44]){
+case 5:if(ew[-28]==0){
+bw=1;
+goto L161;}
+break;
+case 7:break;
+case 0:case 1:case 2:case 3:case 4:case 6:case 8:case 9:case 10:case 11:case 12:case 13:case 14:case 15:case 16:case 17:case 18:case 19:case 20:case 21:case 22:case 23:case 24:case 25:case 26:case 27:case 28:case 29:bw=1;
+goto L161;
+default:NEVER;
+}
+fw=r8(a+176);
+if(fw<c){
+gw=b+(i64)fw;
+switch(*gw){
+case 65:case 70:bw=1;
+goto L161;
+case 80:case 82:if(usub64(c,fw)>=2){
+switch(gw[1]){
+case 70:case 65:bw=1;
+goto L161;
+default:break;}}
+break;
+default:break;}}
+hw=r8(a+8);
+if(r8(a+112)>aw){
+iw=dw;
+jw=cw;
+kw=aw;}
+else{
+lw=make_ready_9a1(a+80);
+if(!(lw&1)){
+bw=0;
+goto L161;}
+mw=r8(a+88);
+iw=mw*44;
+jw=rp(a+80);
+kw=mw;}
+nw=jw+iw;
+*nw=25;
+nw[1]=0;
+x2(nw+2,0);
+x4(nw+4,hw);
+z36(nw+8);
+w8(a+88,kw+1);
+bw=1;}
+L161:*Z=bw;
+Z[1]=0;
+Z[2]=0;
+Z[3]=0;
+goto L158;}
+Mv=0;
+Nv=0;
+Ov=0;
+Pv=1;
+break;}
+*Z=Pv;
+Z[1]=Ov;
+Z[2]=Nv;
+Z[3]=Mv;
+L158:break;
+case 4:w4(E,0);
+z20(F+20);
+if(!(a[136]&1)){
+ow=r4(a+120);
+pw=a[139];
+qw=r8(a+8);
+rw=r8(a+48);
+if(r8(a+72)>rw)sw=rw;
+else{
+tw=make_ready_17a(a+40);
+if(!(tw&1)){
+w4(Z,0);
+goto L162;}
+sw=r8(a+48);}
+uw=rp(a+40)+sw*12;
+x4(uw,ow);
+x4(uw+4,qw);
+uw[8]=0;
+uw[9]=pw;
+x2(uw+10,0);
+w8(a+48,sw+1);}
+vw=r8(a+176);
+if(vw<c){
+if(*(b+vw)==73){
+memcpy(F,a+120,20);
+ww=r8(a+8);
+if(r8(a+32)>ww)xw=ww;
+else{
+yw=make_ready_8e3(a,1,16);
+if(!(yw&1)){
+zw=0;
+Aw=0;
+goto L163;}
+xw=r8(a+8);}
+*(rp(a)+xw)=1;
+w8(a+8,xw+1);
+Bw=r8(a+176);
+if(Bw==18446744073709551615u){
+zw=0;
+Aw=0;}
+else{
+w8(a+176,Bw+1);
+Cw=r8(a+88);
+if(r8(a+112)>Cw)Dw=Cw;
+else{
+Ew=make_ready_9a1(a+80);
+if(!(Ew&1)){
+zw=0;
+Aw=0;
+goto L163;}
+Dw=r8(a+88);}
+Fw=rp(a+80)+Dw*44;
+*Fw=6;
+Fw[1]=0;
+x2(Fw+2,0);
+memcpy(Fw+4,F,40);
+w8(a+88,Dw+1);
+zw=3;
+Aw=1;}
+L163:*Z=Aw;
+Z[1]=zw;
+Z[2]=Aw;
+Z[3]=0;
+goto L162;}}
+components_at_91b(E,a,b,c);
+*Z=*E;
+Z[1]=E[1];
+Z[2]=E[2];
+Z[3]=E[3];
+L162:break;
+case 5:w4(D,0);
+Gw=r8(a+176);
+if(Gw<c){
+if(*(b+Gw)==69){
+nest_ended_003(D,a,b,c);
+*Z=*D;
+Z[1]=D[1];
+Z[2]=D[2];
+Z[3]=D[3];
+goto L164;}}
+if(!(a[136]&1)){
+Hw=r4(a+120);
+Iw=a[139];
+Jw=r8(a+8);
+Kw=r8(a+48);
+if(r8(a+72)>Kw)Lw=Kw;
+else{
+Mw=make_ready_17a(a+40);
+if(!(Mw&1)){
+w4(Z,0);
+goto L164;}
+Lw=r8(a+48);}
+Nw=rp(a+40)+Lw*12;
+x4(Nw,Hw);
+x4(Nw+4,Jw);
+Nw[8]=0;
+Nw[9]=Iw;
+x2(Nw+10,0);
+w8(a+48,Lw+1);}
+components_at_91b(D,a,b,c);
+*Z=*D;
+Z[1]=D[1];
+Z[2]=D[2];
+Z[3]=D[3];
+L164:break;
+case 6:components_at_91b(Z,a,b,c);
+break;
+default:NEVER;
+}
+Ow=Tt+1;
+if(*Z!=1||Ow==St)goto L1;
+Tt=Ow;
+Ut=Z[3];
+Vt=Z[2];
+Wt=Z[1];
+goto L148;}}}
+goto L1;
+default:NEVER;
+}}
+w8(a+8,Wc);
+L15:if(r8(a+48)!=0)w8(a+48,0);
+z16(a+64);
+if(r8(a+88)==0){
+Pw=1;
+goto L165;}
+w8(a+88,0);
+Pw=1;
+goto L165;
+L1:if(r8(a+8)==0)goto L166;
+L14:w8(a+8,0);
+L166:z16(a+24);
+if(r8(a+48)!=0)w8(a+48,0);
+if(r8(a+88)!=0)w8(a+88,0);
+a[172]=0;
+z16(a+64);
+Pw=0;
+L165:z16(a+104);
+return Pw;
+}
+
+/* itanium::short_way::run */
+static u8 run_48b(u8* a,u8* b,u64 c,u32 d)
+{
+u8 j[32],l[4],m[32],p[32],q[32],r[32],x[4],y[4];
+A16 u8 e[4],f[4],g[40],h[4],i[4],k[4],n[6],o[32],s[4],t[4],u[4],v[32],w[32],z[4],A[4],B[4];
+u8 C,D,J,L,N,O,P,Q,S,Y,Z,aa,ba,ca,da,ea,fa,ia,ja,ka,ma,oa,pa,ua,wa,xa,ya,Ba,Ca,Da,Ea,Fa,Ia,Ma,Na,Oa,Qa,Ra,Ua,Xa,Za,bb,fb,hb,ib,jb,lb,nb,pb,qb,rb,sb,ub,wb,xb,yb,zb,Bb,Cb,Db,Fb,Jb,Kb,Lb,Mb,Ub,Yb,Zb,ac,bc,fc,kc,oc,pc,qc,rc,tc,xc,Cc,Dc,Ec,Ic,Mc,Qc;
+u64 E,F,H,K,M,R,T,U,V,ga,ha,la,za,Aa,Ga,Ja,Ka,Sa,Ta,Va,Ya,ab,cb,db,gb,mb,tb,vb,Ab,Eb,Gb,Hb,Ib,Nb,Pb,Qb,Rb,Tb,Vb,Xb,dc,hc,jc,lc,nc,vc,wc,zc,Ac,Bc,Fc,Gc,Hc,Kc,Oc,Pc,Sc;
+v16 G,I;
+u8 *W,*X,*na,*ob,*Ob,*Sb,*Wb,*cc,*ec,*ic,*mc,*yc,*Jc,*Rc;
+u32 qa,ra,ta,Ha,La,Pa,Wa,eb,kb,gc,sc,uc,Lc,Nc;
+u16 sa,va;
+if(c>65536)C=0;
+else{
+if(c<16){
+D=are_few_named_14c(b,c);
+if(!D){
+C=0;
+goto L1;}}
+else{
+E=c-16;
+if(E==0)goto L2;
+F=0;
+L3:G=v16_at(b+F);
+if((v16_ult(G,splat(33))|v16_eq(G,splat(127)))!=0){
+C=0;
+goto L1;}
+H=F+16;
+if(H<E){
+F=H;
+goto L3;}
+L2:I=v16_at(b+E);
+if((v16_ult(I,splat(33))|v16_eq(I,splat(127)))!=0){
+C=0;
+goto L1;}}
 w4(z,0);
 w4(A,0);
 if(c!=0){
 if(c!=1&&*b==95){
 if(b[1]==90){
 if(c>=3){
-mm=b[2];
+J=b[2];
 if(c<5){
-if(mm==90)goto L84;
-if((c!=3)&(mm==71)){
-if(b[3]==86)goto L85;
-goto L86;}
-switch(mm){
-case 71:goto L86;
-case 84:if(c==3)goto L87;
+if(J==90)goto L4;
+if((c!=3)&(J==71)){
+if(b[3]==86)goto L5;
+goto L6;}
+switch(J){
+case 71:goto L6;
+case 84:if(c==3)goto L7;
 break;
-default:goto L88;
+default:goto L8;
 }}
 else{
-switch(mm){
-case 90:goto L84;
-case 71:if(b[3]!=86)goto L86;
-if(b[4]!=90)goto L85;
-if(Ob<19){
-nm=make_ready_8e3(a,19,128);
-if(!(nm&1)){
-qm=0;
-rm=0;
-sm=0;
-tm=0;
-goto L89;}
-om=r8(a+16);
-pm=r8(a+8);}
+switch(J){
+case 90:goto L4;
+case 71:if(b[3]!=86)goto L6;
+if(b[4]!=90)goto L5;
+K=r8(a+8);
+if(r8(a+32)-K<19){
+L=make_ready_8e3(a,19,128);
+if(!(L&1)){
+N=0;
+O=0;
+P=0;
+Q=0;
+goto L9;}
+M=r8(a+8);}
+else M=K;
+R=r8(a+16);
+if(R-M<19){
+S=grow_amortized_2b6(a,19);
+if(!S){
+N=0;
+O=0;
+P=0;
+Q=0;
+goto L9;}
+T=r8(a+16);
+U=r8(a+8);}
 else{
-om=Nb;
-pm=0;}
-if(om-pm<19){
-um=grow_amortized_2b6(a,19);
-if(!um){
-qm=0;
-rm=0;
-sm=0;
-tm=0;
-goto L89;}
-vm=r8(a+16);
-wm=r8(a+8);}
-else{
-vm=om;
-wm=pm;}
-xm=wm+19;
-ym=rp(a);
+T=R;
+U=M;}
+V=U+19;
+W=rp(a);
 z16(a+8);
-zm=ym+(i64)wm;
-if((u64)zm-(u64)(u8*)t_c270<19)copy_bits_4f4((u8*)t_c270,zm,19);
-else memcpy(zm,(u8*)t_c270,19);
-wp(a,ym);
-w8(a+8,xm);
-w8(a+16,vm);
+X=W+(i64)U;
+if((u64)X-(u64)(u8*)t_c270<19)copy_bits_4f4((u8*)t_c270,X,19);
+else memcpy(X,(u8*)t_c270,19);
+wp(a,W);
+w8(a+8,V);
+w8(a+16,T);
 w8(a+176,5);
-begin_encoding_33e(x,a,b,c);
-qm=x[3];
-rm=x[2];
-sm=x[1];
-tm=*x;
-L89:Am=qm;
-Bm=rm;
-Cm=sm;
-Dm=tm;
-goto L90;
+begin_encoding_254(x,a,b,c);
+N=x[3];
+O=x[2];
+P=x[1];
+Q=*x;
+L9:Y=N;
+Z=O;
+aa=P;
+ba=Q;
+goto L10;
 case 84:break;
-default:goto L88;
+default:goto L8;
 }}
 switch(b[3]){
-case 104:begin_thunk_481(A,a,b,c);
-goto L91;
-case 118:begin_virtual_thunk_f37(A,a,b,c);
-goto L91;
+case 104:begin_thunk_2c0(A,a,b,c);
+goto L11;
+case 118:begin_virtual_thunk_979(A,a,b,c);
+goto L11;
+case 67:begin_table_89f(A,a);
+goto L11;
 default:break;}
-L87:begin_special_44d(A,a,b,c);
-L91:Em=A[3];
-Fm=A[2];
-Gm=A[1];
-Hm=*A;
-goto L92;
-L86:begin_clone_893(z);
-Em=z[3];
-Fm=z[2];
-Gm=z[1];
-Hm=*z;
-goto L92;
-L85:begin_object_056(z,a,b,c);
-Em=z[3];
-Fm=z[2];
-Gm=z[1];
-Hm=*z;
-goto L92;
-L84:w8(a+176,3);
-begin_encoding_33e(y,a,b,c);
-Am=y[3];
-Bm=y[2];
-Cm=y[1];
-Dm=*y;
-L90:Em=Am;
-Fm=Bm;
-Gm=Cm;
-Hm=Dm;
-goto L92;}
-L88:w8(a+176,2);
-begin_encoding_33e(z,a,b,c);
-Em=z[3];
-Fm=z[2];
-Gm=z[1];
-Hm=*z;
-L92:if(Hm!=1)goto L1;
-Im=0;
-Jm=Em;
-Km=Fm;
-Lm=Gm;
-L93:if(Lm==7){
-Mm=r8(a+8);
-if(Mm>Mb)goto L14;
-Nm=rp(a);
-if(Mm==0){
-Om=0;
-goto L94;}
-Pm=0;
-L95:if(*(Nm+Pm)>2){
-Qm=Pm+1;
-if(Qm==Mm)goto L17;
-Pm=Qm;
-goto L95;}
-Om=Pm;
-L94:if(Om>=Mm)goto L17;
-Rm=Om;
-Sm=Om;
-Tm=0;
-L96:Um=*(Nm+Rm);
-if(Um>2){
-if(Tm==0){
-*(Nm+Sm)=Um;
-Vm=0;
-Wm=Sm+1;}
-else{
-Vm=Tm;
-Wm=Sm;}}
-else{
-switch(Um){
-case 2:Vm=usub64(Tm,1);
-Wm=Sm;
-break;
-case 1:Vm=Tm+1;
-Wm=Sm;
-break;
-default:goto L1;
-}}
-Xm=Rm+1;
-if(Xm==Mm){
-if(r8(a+8)<=Wm)goto L17;
-Jc=Wm;
-break;}
-Rm=Xm;
-Sm=Wm;
-Tm=Vm;
-goto L96;}
+L7:begin_special_44d(A,a,b,c);
+L11:ca=A[3];
+da=A[2];
+ea=A[1];
+fa=*A;
+goto L12;
+L6:begin_clone_783(z,a,b,c);
+ca=z[3];
+da=z[2];
+ea=z[1];
+fa=*z;
+goto L12;
+L5:begin_object_8f6(z,a,b,c);
+ca=z[3];
+da=z[2];
+ea=z[1];
+fa=*z;
+goto L12;
+L4:w8(a+176,3);
+begin_encoding_254(y,a,b,c);
+Y=y[3];
+Z=y[2];
+aa=y[1];
+ba=*y;
+L10:ca=Y;
+da=Z;
+ea=aa;
+fa=ba;
+goto L12;}
+L8:w8(a+176,2);
+begin_encoding_254(z,a,b,c);
+ca=z[3];
+da=z[2];
+ea=z[1];
+fa=*z;
+L12:if(fa!=1){
+C=0;
+goto L1;}
+ga=c<<3;
+ha=0;
+ia=ca;
+ja=da;
+ka=ea;
+L13:if(ka==7){
+C=r8(a+8)<=d;
+goto L1;}
 w8(a+184,r8(a+184)+1);
 w4(B,0);
-switch(Lm){
-case 0:type_at_77f(B,a,b,c,0);
+switch(ka){
+case 0:type_at_188(B,a,b,c,0);
 break;
-case 1:type_at_77f(B,a,b,c,1);
+case 1:type_at_188(B,a,b,c,1);
 break;
 case 2:w4(t,0);
 w4(u,0);
 z32(v);
 z32(w);
-Ym=r8(a+88);
-if(Ym==0)w4(B,0);
+la=r8(a+88);
+if(la==0)w4(B,0);
 else{
-Zm=Km&1;
-an=rp(a+80)+(i64)(Ym*44);
-bn=an[-44];
-cn=an[-43];
-dn=q4(an-40);
-en=q4(an-36);
-fn=q2(an-32);
-switch(bn){
-case 25:case 24:case 23:case 22:case 4:case 5:case 6:case 7:case 8:case 11:case 12:case 13:case 14:case 15:case 16:case 17:case 18:case 19:case 20:case 21:if(Jm&1){
-pass_dependent_3d7(t,a,b,c);
+ma=ja&1;
+na=rp(a+80)+(i64)(la*44);
+oa=na[-44];
+pa=na[-43];
+qa=q4(na-40);
+ra=q4(na-36);
+sa=q2(na-32);
+switch(oa){
+case 29:case 28:case 27:case 26:case 4:case 5:case 6:case 7:case 8:case 11:case 12:case 13:case 14:case 15:case 16:case 17:case 18:case 19:case 20:case 21:case 22:case 23:case 24:case 25:if(ia&1){
+pass_dependent_123(t,a,b,c);
 *B=*t;
 B[1]=t[1];
 B[2]=t[2];
 B[3]=t[3];
-goto L97;}
-gn=q4(an-4);
-hn=en;
+goto L14;}
+ta=q4(na-4);
+ua=ra;
+va=ra>>16;
 w4(s,0);
-switch(bn){
-case 19:returned_322(s,a,b,c,cn&1);
+switch(oa){
+case 22:returned_acd(s,a,b,c,pa&1);
 break;
-case 20:parameter_at_3ac(s,a,b,c,cn&1,0);
+case 23:parameter_at_c04(s,a,b,c,pa&1,0);
 break;
-case 21:array_ended_1b3(s,a,b,c,cn,dn,en);
+case 24:array_ended_08d(s,a,b,c,pa,qa,ra);
 break;
-case 12:enclosing_parameter_fc1(s,a,b,c,dn,en);
+case 12:enclosing_parameter_d72(s,a,b,c,pa,qa);
 break;
-case 13:instance_parameter_240(s,a,b,c,cn,dn,en);
+case 13:instance_parameter_e2a(s,a,b,c,pa,qa,ra);
 break;
-case 11:w2(n,fn);
-memcpy(n+2,an-30,26);
-x4(n+28,gn);
-enclosing_front_fa8(s,a,cn,dn,en,n);
+case 11:w2(m,sa);
+memcpy(m+2,na-30,26);
+x4(m+28,ta);
+enclosing_front_fa8(s,a,pa,qa,ra,m);
 break;
-case 17:w2(o,(u16)en&255);
-w2(o+2,en>>16);
-w2(o+4,fn);
-lambda_parameter_f9a(s,a,b,c,dn,o);
+case 17:w4(n,ra);
+w2(n+4,sa);
+lambda_parameter_f9a(s,a,b,c,qa,n);
 break;
-case 15:w4(p,en);
-w2(p+4,fn);
-memcpy(p+6,an-30,26);
-addressed_front_54d(s,a,b,c,cn,dn,p);
+case 18:member_parameter_678(s,a,b,c,pa);
 break;
-case 16:addressed_parameter_2cf(s,a,b,c,dn);
+case 15:w4(o,ra);
+w2(o+4,sa);
+memcpy(o+6,na-30,26);
+addressed_front_4c5(s,a,b,c,pa,qa,o);
+break;
+case 16:addressed_parameter_41c(s,a,b,c,pa);
 break;
 case 14:*s=0;
 break;
-case 18:finish_8cd(s,a,b,c);
+case 19:finish_8cd(s,a,b,c);
 break;
-case 25:enumerator_21c(s,a,b,c);
+case 20:derived_ended_aef(s,a,b,c);
 break;
-case 22:w2(q,en>>16);
-w2(q+2,fn);
-memcpy(q+4,an-30,26);
-w2(q+30,gn);
-argument_ended_1bb(s,a,b,c,dn,hn,q,Zm);
+case 21:base_ended_299(s,a,b,c,qa);
 break;
-case 24:w2(r,en>>16);
-w2(r+2,fn);
-memcpy(r+4,an-30,26);
-w2(r+30,gn);
-element_ended_20b(s,a,b,c,dn,hn,r,Zm);
+case 29:enumerator_21c(s,a,b,c);
 break;
-case 23:case 10:case 9:case 8:case 4:case 5:case 6:case 7:*s=1;
+case 26:w2(p,va);
+w2(p+2,sa);
+memcpy(p+4,na-30,26);
+w2(p+30,ta);
+argument_enumerator_c0e(s,a,b,c,qa,ua,p);
+break;
+case 25:w2(q,va);
+w2(q+2,sa);
+memcpy(q+4,na-30,26);
+w2(q+30,ta);
+argument_ended_2ff(s,a,b,c,qa,ua,q,ma);
+break;
+case 28:w2(r,va);
+w2(r+2,sa);
+memcpy(r+4,na-30,26);
+w2(r+30,ta);
+element_ended_d46(s,a,b,c,qa,ua,r,ma);
+break;
+case 27:case 10:case 9:case 8:case 4:case 5:case 6:case 7:*s=1;
 s[1]=3;
 s[2]=0;
 s[3]=0;
 break;
 default:NEVER;
 }
-in=s[1];
-jn=s[2];
-kn=s[3];
+wa=s[1];
+xa=s[2];
+ya=s[3];
 *u=*s;
-u[1]=in;
-u[2]=jn;
-u[3]=kn;
-goto L98;
-case 10:w4(v,en);
-w2(v+4,fn);
-memcpy(v+6,an-30,26);
-parameter_ended_d3f(u,a,b,c,dn,v);
-goto L98;
-case 9:w4(w,en);
-w2(w+4,fn);
-memcpy(w+6,an-30,26);
-front_ended_665(u,a,b,c,cn,dn,w);
-goto L98;
-case 0:w8(a+88,Ym-1);
-ln=r8(a+8);
-if(r8(a+32)>ln)mn=ln;
-else{
-nn=make_ready_8e3(a,1,16);
-if(!(nn&1)){
-on=0;
-pn=0;
-qn=0;
-rn=0;
-goto L99;}
-mn=r8(a+8);}
-*(rp(a)+mn)=42;
-sn=mn+1;
-w8(a+8,sn);
-tn=sn;
-un=Jm&1;
-vn=r8(a+48);
-if(r8(a+72)>vn){
-wn=vn;
-xn=tn;
-yn=0;
-zn=un;
-goto L100;}
-An=make_ready_17a(a+40);
-if(!(An&1)){
-on=0;
-pn=0;
-qn=0;
-rn=0;
-goto L99;}
-Bn=tn;
-Cn=0;
-Dn=un;
-break;
-case 1:if(Zm)goto L98;
-w8(a+88,Ym-1);
-En=r8(a+8);
-if(r8(a+32)>En)Fn=En;
-else{
-Gn=make_ready_8e3(a,1,16);
-if(!(Gn&1)){
-on=0;
-pn=0;
-qn=0;
-rn=0;
-goto L99;}
-Fn=r8(a+8);}
-*(rp(a)+Fn)=38;
-Hn=Fn+1;
-w8(a+8,Hn);
-In=Hn;
-Jn=Jm&1;
-Kn=r8(a+48);
-if(r8(a+72)>Kn){
-wn=Kn;
-xn=In;
-yn=1;
-zn=Jn;
-goto L100;}
-Ln=make_ready_17a(a+40);
-if(!(Ln&1)){
-on=0;
-pn=0;
-qn=0;
-rn=0;
-goto L99;}
-Bn=In;
-Cn=1;
-Dn=Jn;
-break;
-case 2:if(Zm)goto L98;
-w8(a+88,Ym-1);
-Mn=r8(a+8);
-if(r8(a+32)-Mn<2){
-Nn=make_ready_8e3(a,2,128);
-if(!(Nn&1)){
-on=0;
-pn=0;
-qn=0;
-rn=0;
-goto L99;}
-On=r8(a+8);}
-else On=Mn;
-*(rp(a)+On)=38;
-*(rp(a)+(i64)On+1)=38;
-Pn=On+2;
-w8(a+8,Pn);
-Qn=Pn;
-Rn=Jm&1;
-Sn=r8(a+48);
-if(r8(a+72)>Sn){
-wn=Sn;
-xn=Qn;
-yn=1;
-zn=Rn;
-goto L100;}
-Tn=make_ready_17a(a+40);
-if(!(Tn&1)){
-on=0;
-pn=0;
-qn=0;
-rn=0;
-goto L99;}
-Bn=Qn;
-Cn=1;
-Dn=Rn;
-break;
-case 3:if(Zm)goto L98;
-w8(a+88,Ym-1);
-if(r8(a+32)-r8(a+8)<6){
-Un=make_ready_8e3(a,6,128);
-if(!(Un&1)){
-on=0;
-pn=0;
-qn=0;
-rn=0;
-goto L99;}}
-Vn=extend_from_slice_169(a,(u8*)t_f603,6);
-if(Vn&1){
-on=0;
-pn=0;
-qn=0;
-rn=0;
-goto L99;}
-Wn=r8(a+8);
-Xn=Jm&1;
-Yn=r8(a+48);
-if(r8(a+72)>Yn){
-wn=Yn;
-xn=Wn;
-yn=0;
-zn=Xn;
-goto L100;}
-Zn=make_ready_17a(a+40);
-if(!(Zn&1)){
-on=0;
-pn=0;
-qn=0;
-rn=0;
-goto L99;}
-Bn=Wn;
-Cn=0;
-Dn=Xn;
-break;
-default:NEVER;
-}
-wn=r8(a+48);
-xn=Bn;
-yn=Cn;
-zn=Dn;
-L100:ao=rp(a+40)+wn*12;
-x4(ao,dn);
-x4(ao+4,xn);
-ao[8]=yn;
-ao[9]=zn;
-x2(ao+10,0);
-w8(a+48,wn+1);
-on=zn;
-pn=yn;
-qn=2;
-rn=1;
-L99:*u=rn;
-u[1]=qn;
-u[2]=pn;
-u[3]=on;
-L98:bo=u[1];
-co=u[2];
-eo=u[3];
-*B=*u;
-B[1]=bo;
-B[2]=co;
-B[3]=eo;}
-L97:break;
-case 3:fo=Km&1;
-w4(l,0);
-go=r8(a+176);
-if(go<c){
-ho=*(b+go);
-switch(ho){
-case 69:w4(j,0);
-w8(a+176,go+1);
-io=r8(a+88);
-if(io==0){
-jo=0;
-ko=0;
-lo=0;
-mo=0;}
-else{
-if(*(rp(a+80)+(i64)(io*44)-44)==23){
-if(fo){
-jo=0;
-ko=0;
-lo=0;
-mo=0;}
-else{
-w8(a+88,io-1);
-jo=0;
-ko=0;
-lo=3;
-mo=1;}}
-else{
-z32(k);
-close_list_3c2(j,a,b,c,k);
-jo=j[3];
-ko=j[2];
-lo=j[1];
-mo=*j;}}
-*B=mo;
-B[1]=lo;
-B[2]=ko;
-B[3]=jo;
-goto L101;
-case 74:no=go+1;
-if(no<c){
-if(*(b+no)==69){
-empty_pack_ea9(l,a,b,c,fo);
-*B=*l;
-B[1]=l[1];
-B[2]=l[2];
-B[3]=l[3];
-goto L101;}}
-if(!fo){
-oo=74;
-goto L102;}
-first_pack_117(l,a,b,c);
-*B=*l;
-B[1]=l[1];
-B[2]=l[2];
-B[3]=l[3];
-goto L101;
-default:po=ho;
-break;}}
-else po=0;
-if(fo){
-qo=po;
-goto L103;}
-oo=po;
-L102:ro=r8(a+8);
-if(r8(a+32)-ro<2){
-so=make_ready_8e3(a,2,128);
-if(!(so&1)){
-w4(B,0);
-goto L101;}
-to=r8(a+8);}
-else to=ro;
-*(rp(a)+to)=44;
-*(rp(a)+(i64)to+1)=32;
-w8(a+8,to+2);
-qo=oo;
-L103:switch(qo){
-case 76:if(fo){
-first_literal_f44(l,a,b,c);
-*B=*l;
-B[1]=l[1];
-B[2]=l[2];
-B[3]=l[3];
-goto L101;}
-literal_43d(m,a,b,c);
-uo=m[3];
-vo=m[2];
-wo=m[1];
-xo=*m;
-break;
-case 74:yo=r8(a+88);
-if(yo==0){
-uo=0;
-vo=0;
-wo=0;
-xo=0;}
-else{
-zo=rp(a+80);
-Ao=yo*44;
-if(*(zo+(i64)Ao-44)==23){
-uo=0;
-vo=0;
-wo=0;
-xo=0;}
-else{
-Bo=r8(a+176);
-if(Bo==18446744073709551615u){
-uo=0;
-vo=0;
-wo=0;
-xo=0;}
-else{
-w8(a+176,Bo+1);
-if(r8(a+112)>yo){
-Co=Ao;
-Do=zo;
-Eo=yo;}
-else{
-Fo=make_ready_9a1(a+80);
-if(!(Fo&1)){
-uo=0;
-vo=0;
-wo=0;
-xo=0;
-break;}
-Go=r8(a+88);
-Co=Go*44;
-Do=rp(a+80);
-Eo=Go;}
-Ho=Do+Co;
-*Ho=23;
-z43(Ho+1);
-w8(a+88,Eo+1);
-uo=0;
-vo=1;
-wo=3;
-xo=1;}}}
-break;
-default:if(fo){
-Io=r8(a+88);
-if(Io==0)Jo=1;
-else{
-Ko=rp(a+80);
-Lo=Io*44;
-Mo=Ko+(i64)Lo;
-switch(Mo[-44]){
-case 5:if(Mo[-28]==0){
-Jo=1;
-goto L104;}
-break;
-case 7:break;
-case 0:case 1:case 2:case 3:case 4:case 6:case 8:case 9:case 10:case 11:case 12:case 13:case 14:case 15:case 16:case 17:case 18:case 19:case 20:case 21:case 22:case 23:case 24:case 25:Jo=1;
-goto L104;
-default:NEVER;
-}
-No=r8(a+176);
-if(No<c){
-Oo=b+(i64)No;
-switch(*Oo){
-case 65:case 70:Jo=1;
-goto L104;
-case 80:case 82:if(usub64(c,No)>=2){
-switch(Oo[1]){
-case 70:case 65:Jo=1;
-goto L104;
-default:break;}}
-break;
-default:break;}}
-Po=r8(a+8);
-if(r8(a+112)>Io){
-Qo=Lo;
-Ro=Ko;
-So=Io;}
-else{
-To=make_ready_9a1(a+80);
-if(!(To&1)){
-Jo=0;
-goto L104;}
-Uo=r8(a+88);
-Qo=Uo*44;
-Ro=rp(a+80);
-So=Uo;}
-Vo=Ro+Qo;
-*Vo=22;
-Vo[1]=0;
-x2(Vo+2,0);
-x4(Vo+4,Po);
-z36(Vo+8);
-w8(a+88,So+1);
-Jo=1;}
-L104:*B=Jo;
-B[1]=0;
-B[2]=0;
-B[3]=0;
-goto L101;}
-uo=0;
-vo=0;
-wo=0;
-xo=1;
-break;}
-*B=xo;
-B[1]=wo;
-B[2]=vo;
-B[3]=uo;
-L101:break;
-case 4:w4(h,0);
-z20(i+20);
-if(!(a[136]&1)){
-Wo=r4(a+120);
-Xo=a[139];
-Yo=r8(a+8);
-Zo=r8(a+48);
-if(r8(a+72)>Zo)ap=Zo;
-else{
-bp=make_ready_17a(a+40);
-if(!(bp&1)){
-w4(B,0);
-goto L105;}
-ap=r8(a+48);}
-cp=rp(a+40)+ap*12;
-x4(cp,Wo);
-x4(cp+4,Yo);
-cp[8]=0;
-cp[9]=Xo;
-x2(cp+10,0);
-w8(a+48,ap+1);}
-dp=r8(a+176);
-if(dp<c){
-if(*(b+dp)==73){
-memcpy(i,a+120,20);
-ep=r8(a+8);
-if(r8(a+32)>ep)fp=ep;
-else{
-gp=make_ready_8e3(a,1,16);
-if(!(gp&1)){
-hp=0;
-ip=0;
-goto L106;}
-fp=r8(a+8);}
-*(rp(a)+fp)=1;
-w8(a+8,fp+1);
-jp=r8(a+176);
-if(jp==18446744073709551615u){
-hp=0;
-ip=0;}
-else{
-w8(a+176,jp+1);
-kp=r8(a+88);
-if(r8(a+112)>kp)lp=kp;
-else{
-np=make_ready_9a1(a+80);
-if(!(np&1)){
-hp=0;
-ip=0;
-goto L106;}
-lp=r8(a+88);}
-op=rp(a+80)+lp*44;
-*op=6;
-op[1]=0;
-x2(op+2,0);
-memcpy(op+4,i,40);
-w8(a+88,lp+1);
-hp=3;
-ip=1;}
-L106:*B=ip;
-B[1]=hp;
-B[2]=ip;
-B[3]=0;
-goto L105;}}
-components_at_7bd(h,a,b,c);
-*B=*h;
-B[1]=h[1];
-B[2]=h[2];
-B[3]=h[3];
-L105:break;
-case 5:w4(g,0);
-pp=r8(a+176);
-if(pp<c){
-if(*(b+pp)==69){
-nest_ended_32a(g,a,b,c);
-*B=*g;
-B[1]=g[1];
-B[2]=g[2];
-B[3]=g[3];
-goto L107;}}
-if(!(a[136]&1)){
-sp=r4(a+120);
-tp=a[139];
-up=r8(a+8);
-vp=r8(a+48);
-if(r8(a+72)>vp)yp=vp;
-else{
-zp=make_ready_17a(a+40);
-if(!(zp&1)){
-w4(B,0);
-goto L107;}
-yp=r8(a+48);}
-Ap=rp(a+40)+yp*12;
-x4(Ap,sp);
-x4(Ap+4,up);
-Ap[8]=0;
-Ap[9]=tp;
-x2(Ap+10,0);
-w8(a+48,yp+1);}
-components_at_7bd(g,a,b,c);
-*B=*g;
-B[1]=g[1];
-B[2]=g[2];
-B[3]=g[3];
-L107:break;
-case 6:components_at_7bd(B,a,b,c);
-break;
-default:NEVER;
-}
-Bp=Im+1;
-if(*B!=1||Bp==Lb)goto L1;
-Im=Bp;
-Jm=B[3];
-Km=B[2];
-Lm=B[1];
-goto L93;}}}
-goto L1;
-case 2:if(Qb)goto L1;
-if(c<16){
-Cp=are_few_named_14c(b,c);
-if(!Cp)goto L1;}
-else{
-Dp=c-16;
-if(Dp==0)goto L108;
-Ep=0;
-L109:Fp=v16_at(b+Ep);
-if((v16_ult(Fp,splat(33))|v16_eq(Fp,splat(127)))!=0)goto L1;
-Gp=Ep+16;
-if(Gp<Dp){
-Ep=Gp;
-goto L109;}
-L108:Hp=v16_at(b+Dp);
-if((v16_ult(Hp,splat(33))|v16_eq(Hp,splat(127)))!=0)goto L1;}
-w4(ra,0);
-w4(sa,0);
-if(c!=0){
-if(c!=1&&*b==95){
-if(b[1]==90){
-if(c>=3){
-Ip=b[2];
-if(c<5){
-if(Ip==90)goto L110;
-if((c!=3)&(Ip==71)){
-if(b[3]==86)goto L111;
-goto L112;}
-switch(Ip){
-case 71:goto L112;
-case 84:if(c==3)goto L113;
-break;
-default:goto L114;
-}}
-else{
-switch(Ip){
-case 90:goto L110;
-case 71:if(b[3]!=86)goto L112;
-if(b[4]!=90)goto L111;
-if(Ob<19){
-Jp=make_ready_8e3(a,19,128);
-if(!(Jp&1)){
-Mp=0;
-Np=0;
-Op=0;
-Pp=0;
-goto L115;}
-Kp=r8(a+16);
-Lp=r8(a+8);}
-else{
-Kp=Nb;
-Lp=0;}
-if(Kp-Lp<19){
-Qp=grow_amortized_2b6(a,19);
-if(!Qp){
-Mp=0;
-Np=0;
-Op=0;
-Pp=0;
-goto L115;}
-Rp=r8(a+16);
-Sp=r8(a+8);}
-else{
-Rp=Kp;
-Sp=Lp;}
-Tp=Sp+19;
-Up=rp(a);
-z16(a+8);
-Vp=Up+(i64)Sp;
-if((u64)Vp-(u64)(u8*)t_c270<19)copy_bits_4f4((u8*)t_c270,Vp,19);
-else memcpy(Vp,(u8*)t_c270,19);
-wp(a,Up);
-w8(a+8,Tp);
-w8(a+16,Rp);
-w8(a+176,5);
-begin_encoding_e5c(pa,a,b,c);
-Mp=pa[3];
-Np=pa[2];
-Op=pa[1];
-Pp=*pa;
-L115:Wp=Mp;
-Xp=Np;
-Yp=Op;
-Zp=Pp;
-goto L116;
-case 84:break;
-default:goto L114;
-}}
-switch(b[3]){
-case 104:begin_thunk_a5d(sa,a,b,c);
-goto L117;
-case 118:begin_virtual_thunk_603(sa,a,b,c);
-goto L117;
-default:break;}
-L113:begin_special_44d(sa,a,b,c);
-L117:aq=sa[3];
-bq=sa[2];
-cq=sa[1];
-dq=*sa;
-goto L118;
-L112:begin_clone_893(ra);
-aq=ra[3];
-bq=ra[2];
-cq=ra[1];
-dq=*ra;
-goto L118;
-L111:begin_object_103(ra,a,b,c);
-aq=ra[3];
-bq=ra[2];
-cq=ra[1];
-dq=*ra;
-goto L118;
-L110:w8(a+176,3);
-begin_encoding_e5c(qa,a,b,c);
-Wp=qa[3];
-Xp=qa[2];
-Yp=qa[1];
-Zp=*qa;
-L116:aq=Wp;
-bq=Xp;
-cq=Yp;
-dq=Zp;
-goto L118;}
-L114:w8(a+176,2);
-begin_encoding_e5c(ra,a,b,c);
-aq=ra[3];
-bq=ra[2];
-cq=ra[1];
-dq=*ra;
-L118:if(dq!=1)goto L1;
-eq=0;
-fq=aq;
-gq=bq;
-hq=cq;
-L119:if(hq==7){
-if(r8(a+8)>Mb)goto L14;
-goto L17;}
-w8(a+184,r8(a+184)+1);
-w4(ta,0);
-switch(hq){
-case 0:type_at_925(ta,a,b,c,0);
-break;
-case 1:type_at_925(ta,a,b,c,1);
-break;
-case 2:w4(la,0);
-w4(ma,0);
-z32(na);
-z32(oa);
-iq=r8(a+88);
-if(iq==0)w4(ta,0);
-else{
-jq=gq&1;
-kq=rp(a+80)+(i64)(iq*44);
-lq=kq[-44];
-mq=kq[-43];
-nq=q4(kq-40);
-oq=q4(kq-36);
-pq=q2(kq-32);
-switch(lq){
-case 25:case 24:case 23:case 22:case 4:case 5:case 6:case 7:case 8:case 11:case 12:case 13:case 14:case 15:case 16:case 17:case 18:case 19:case 20:case 21:if(fq&1){
-pass_dependent_3d7(la,a,b,c);
-*ta=*la;
-ta[1]=la[1];
-ta[2]=la[2];
-ta[3]=la[3];
-goto L120;}
-qq=q4(kq-4);
-rq=oq;
-w4(ka,0);
-switch(lq){
-case 19:returned_322(ka,a,b,c,mq&1);
-break;
-case 20:parameter_at_3ac(ka,a,b,c,mq&1,0);
-break;
-case 21:array_ended_1b3(ka,a,b,c,mq,nq,oq);
-break;
-case 12:enclosing_parameter_fc1(ka,a,b,c,nq,oq);
-break;
-case 13:instance_parameter_240(ka,a,b,c,mq,nq,oq);
-break;
-case 11:w2(fa,pq);
-memcpy(fa+2,kq-30,26);
-x4(fa+28,qq);
-enclosing_front_fa8(ka,a,mq,nq,oq,fa);
-break;
-case 17:w2(ga,(u16)oq&255);
-w2(ga+2,oq>>16);
-w2(ga+4,pq);
-lambda_parameter_f9a(ka,a,b,c,nq,ga);
-break;
-case 15:w4(ha,oq);
-w2(ha+4,pq);
-memcpy(ha+6,kq-30,26);
-addressed_front_54d(ka,a,b,c,mq,nq,ha);
-break;
-case 16:addressed_parameter_2cf(ka,a,b,c,nq);
-break;
-case 14:*ka=0;
-break;
-case 18:finish_8cd(ka,a,b,c);
-break;
-case 25:enumerator_21c(ka,a,b,c);
-break;
-case 22:w2(ia,oq>>16);
-w2(ia+2,pq);
-memcpy(ia+4,kq-30,26);
-w2(ia+30,qq);
-argument_ended_d25(ka,a,b,c,nq,rq,ia,jq);
-break;
-case 24:w2(ja,oq>>16);
-w2(ja+2,pq);
-memcpy(ja+4,kq-30,26);
-w2(ja+30,qq);
-element_ended_6b8(ka,a,b,c,nq,rq,ja,jq);
-break;
-case 23:case 10:case 9:case 8:case 4:case 5:case 6:case 7:*ka=1;
-ka[1]=3;
-ka[2]=0;
-ka[3]=0;
-break;
-default:NEVER;
-}
-sq=ka[1];
-tq=ka[2];
-uq=ka[3];
-*ma=*ka;
-ma[1]=sq;
-ma[2]=tq;
-ma[3]=uq;
-goto L121;
-case 10:w4(na,oq);
-w2(na+4,pq);
-memcpy(na+6,kq-30,26);
-parameter_ended_d3f(ma,a,b,c,nq,na);
-goto L121;
-case 9:w4(oa,oq);
-w2(oa+4,pq);
-memcpy(oa+6,kq-30,26);
-front_ended_665(ma,a,b,c,mq,nq,oa);
-goto L121;
-case 0:w8(a+88,iq-1);
-vq=r8(a+8);
-if(r8(a+32)>vq)wq=vq;
-else{
-xq=make_ready_8e3(a,1,16);
-if(!(xq&1)){
-yq=0;
-zq=0;
-Aq=0;
-Bq=0;
-goto L122;}
-wq=r8(a+8);}
-*(rp(a)+wq)=42;
-Cq=wq+1;
-w8(a+8,Cq);
-Dq=Cq;
-Eq=fq&1;
-Fq=r8(a+48);
-if(r8(a+72)>Fq){
-Gq=Fq;
-Hq=Dq;
-Iq=0;
-Jq=Eq;
-goto L123;}
-Kq=make_ready_17a(a+40);
-if(!(Kq&1)){
-yq=0;
-zq=0;
-Aq=0;
-Bq=0;
-goto L122;}
-Lq=Dq;
-Mq=0;
-Nq=Eq;
-break;
-case 1:if(jq)goto L121;
-w8(a+88,iq-1);
-Oq=r8(a+8);
-if(r8(a+32)>Oq)Pq=Oq;
-else{
-Qq=make_ready_8e3(a,1,16);
-if(!(Qq&1)){
-yq=0;
-zq=0;
-Aq=0;
-Bq=0;
-goto L122;}
-Pq=r8(a+8);}
-*(rp(a)+Pq)=38;
-Rq=Pq+1;
-w8(a+8,Rq);
-Sq=Rq;
-Tq=fq&1;
-Uq=r8(a+48);
-if(r8(a+72)>Uq){
-Gq=Uq;
-Hq=Sq;
-Iq=1;
-Jq=Tq;
-goto L123;}
-Vq=make_ready_17a(a+40);
-if(!(Vq&1)){
-yq=0;
-zq=0;
-Aq=0;
-Bq=0;
-goto L122;}
-Lq=Sq;
-Mq=1;
-Nq=Tq;
-break;
-case 2:if(jq)goto L121;
-w8(a+88,iq-1);
-Wq=r8(a+8);
-if(r8(a+32)-Wq<2){
-Xq=make_ready_8e3(a,2,128);
-if(!(Xq&1)){
-yq=0;
-zq=0;
-Aq=0;
-Bq=0;
-goto L122;}
-Yq=r8(a+8);}
-else Yq=Wq;
-*(rp(a)+Yq)=38;
-*(rp(a)+(i64)Yq+1)=38;
-Zq=Yq+2;
-w8(a+8,Zq);
-ar=Zq;
-br=fq&1;
-cr=r8(a+48);
-if(r8(a+72)>cr){
-Gq=cr;
-Hq=ar;
-Iq=1;
-Jq=br;
-goto L123;}
-dr=make_ready_17a(a+40);
-if(!(dr&1)){
-yq=0;
-zq=0;
-Aq=0;
-Bq=0;
-goto L122;}
-Lq=ar;
-Mq=1;
-Nq=br;
-break;
-case 3:if(jq)goto L121;
-w8(a+88,iq-1);
-if(r8(a+32)-r8(a+8)<6){
-er=make_ready_8e3(a,6,128);
-if(!(er&1)){
-yq=0;
-zq=0;
-Aq=0;
-Bq=0;
-goto L122;}}
-fr=extend_from_slice_169(a,(u8*)t_f603,6);
-if(fr&1){
-yq=0;
-zq=0;
-Aq=0;
-Bq=0;
-goto L122;}
-gr=r8(a+8);
-hr=fq&1;
-ir=r8(a+48);
-if(r8(a+72)>ir){
-Gq=ir;
-Hq=gr;
-Iq=0;
-Jq=hr;
-goto L123;}
-jr=make_ready_17a(a+40);
-if(!(jr&1)){
-yq=0;
-zq=0;
-Aq=0;
-Bq=0;
-goto L122;}
-Lq=gr;
-Mq=0;
-Nq=hr;
-break;
-default:NEVER;
-}
-Gq=r8(a+48);
-Hq=Lq;
-Iq=Mq;
-Jq=Nq;
-L123:kr=rp(a+40)+Gq*12;
-x4(kr,nq);
-x4(kr+4,Hq);
-kr[8]=Iq;
-kr[9]=Jq;
-x2(kr+10,0);
-w8(a+48,Gq+1);
-yq=Jq;
-zq=Iq;
-Aq=2;
-Bq=1;
-L122:*ma=Bq;
-ma[1]=Aq;
-ma[2]=zq;
-ma[3]=yq;
-L121:lr=ma[1];
-mr=ma[2];
-nr=ma[3];
-*ta=*ma;
-ta[1]=lr;
-ta[2]=mr;
-ta[3]=nr;}
-L120:break;
-case 3:or=gq&1;
-w4(da,0);
-pr=r8(a+176);
-if(pr<c){
-qr=*(b+pr);
-switch(qr){
-case 69:w4(ba,0);
-w8(a+176,pr+1);
-rr=r8(a+88);
-if(rr==0){
-sr=0;
-tr=0;
-ur=0;
-vr=0;}
-else{
-if(*(rp(a+80)+(i64)(rr*44)-44)==23){
-if(or){
-sr=0;
-tr=0;
-ur=0;
-vr=0;}
-else{
-w8(a+88,rr-1);
-sr=0;
-tr=0;
-ur=3;
-vr=1;}}
-else{
-z32(ca);
-close_list_299(ba,a,b,c,ca);
-sr=ba[3];
-tr=ba[2];
-ur=ba[1];
-vr=*ba;}}
-*ta=vr;
-ta[1]=ur;
-ta[2]=tr;
-ta[3]=sr;
-goto L124;
-case 74:wr=pr+1;
-if(wr<c){
-if(*(b+wr)==69){
-empty_pack_079(da,a,b,c,or);
-*ta=*da;
-ta[1]=da[1];
-ta[2]=da[2];
-ta[3]=da[3];
-goto L124;}}
-if(!or){
-xr=74;
-goto L125;}
-first_pack_117(da,a,b,c);
-*ta=*da;
-ta[1]=da[1];
-ta[2]=da[2];
-ta[3]=da[3];
-goto L124;
-default:yr=qr;
-break;}}
-else yr=0;
-if(or){
-zr=yr;
-goto L126;}
-xr=yr;
-L125:Ar=r8(a+8);
-if(r8(a+32)-Ar<2){
-Br=make_ready_8e3(a,2,128);
-if(!(Br&1)){
-w4(ta,0);
-goto L124;}
-Cr=r8(a+8);}
-else Cr=Ar;
-*(rp(a)+Cr)=44;
-*(rp(a)+(i64)Cr+1)=32;
-w8(a+8,Cr+2);
-zr=xr;
-L126:switch(zr){
-case 76:if(or){
-first_literal_8ab(da,a,b,c);
-*ta=*da;
-ta[1]=da[1];
-ta[2]=da[2];
-ta[3]=da[3];
-goto L124;}
-literal_9c1(ea,a,b,c);
-Dr=ea[3];
-Er=ea[2];
-Fr=ea[1];
-Gr=*ea;
-break;
-case 74:Hr=r8(a+88);
-if(Hr==0){
-Dr=0;
-Er=0;
-Fr=0;
-Gr=0;}
-else{
-Ir=rp(a+80);
-Jr=Hr*44;
-if(*(Ir+(i64)Jr-44)==23){
-Dr=0;
-Er=0;
-Fr=0;
-Gr=0;}
-else{
-Kr=r8(a+176);
-if(Kr==18446744073709551615u){
-Dr=0;
-Er=0;
-Fr=0;
-Gr=0;}
-else{
-w8(a+176,Kr+1);
-if(r8(a+112)>Hr){
-Lr=Jr;
-Mr=Ir;
-Nr=Hr;}
-else{
-Or=make_ready_9a1(a+80);
-if(!(Or&1)){
-Dr=0;
-Er=0;
-Fr=0;
-Gr=0;
-break;}
-Pr=r8(a+88);
-Lr=Pr*44;
-Mr=rp(a+80);
-Nr=Pr;}
-Qr=Mr+Lr;
-*Qr=23;
-z43(Qr+1);
-w8(a+88,Nr+1);
-Dr=0;
-Er=1;
-Fr=3;
-Gr=1;}}}
-break;
-default:if(or){
-Rr=r8(a+88);
-if(Rr==0)Sr=1;
-else{
-Tr=rp(a+80);
-Ur=Rr*44;
-Vr=Tr+(i64)Ur;
-switch(Vr[-44]){
-case 5:if(Vr[-28]==0){
-Sr=1;
-goto L127;}
-break;
-case 7:break;
-case 0:case 1:case 2:case 3:case 4:case 6:case 8:case 9:case 10:case 11:case 12:case 13:case 14:case 15:case 16:case 17:case 18:case 19:case 20:case 21:case 22:case 23:case 24:case 25:Sr=1;
-goto L127;
-default:NEVER;
-}
-Wr=r8(a+176);
-if(Wr<c){
-Xr=b+(i64)Wr;
-switch(*Xr){
-case 65:case 70:Sr=1;
-goto L127;
-case 80:case 82:if(usub64(c,Wr)>=2){
-switch(Xr[1]){
-case 70:case 65:Sr=1;
-goto L127;
-default:break;}}
-break;
-default:break;}}
-Yr=r8(a+8);
-if(r8(a+112)>Rr){
-Zr=Ur;
-as=Tr;
-bs=Rr;}
-else{
-cs=make_ready_9a1(a+80);
-if(!(cs&1)){
-Sr=0;
-goto L127;}
-ds=r8(a+88);
-Zr=ds*44;
-as=rp(a+80);
-bs=ds;}
-es=as+Zr;
-*es=22;
-es[1]=0;
-x2(es+2,0);
-x4(es+4,Yr);
-z36(es+8);
-w8(a+88,bs+1);
-Sr=1;}
-L127:*ta=Sr;
-ta[1]=0;
-ta[2]=0;
-ta[3]=0;
-goto L124;}
-Dr=0;
-Er=0;
-Fr=0;
-Gr=1;
-break;}
-*ta=Gr;
-ta[1]=Fr;
-ta[2]=Er;
-ta[3]=Dr;
-L124:break;
-case 4:w4(Z,0);
-z20(aa+20);
-if(!(a[136]&1)){
-fs=r4(a+120);
-gs=a[139];
-hs=r8(a+8);
-is=r8(a+48);
-if(r8(a+72)>is)js=is;
-else{
-ks=make_ready_17a(a+40);
-if(!(ks&1)){
-w4(ta,0);
-goto L128;}
-js=r8(a+48);}
-ls=rp(a+40)+js*12;
-x4(ls,fs);
-x4(ls+4,hs);
-ls[8]=0;
-ls[9]=gs;
-x2(ls+10,0);
-w8(a+48,js+1);}
-ms=r8(a+176);
-if(ms<c){
-if(*(b+ms)==73){
-memcpy(aa,a+120,20);
-ns=r8(a+8);
-if(r8(a+32)>ns)os=ns;
-else{
-ps=make_ready_8e3(a,1,16);
-if(!(ps&1)){
-qs=0;
-rs=0;
-goto L129;}
-os=r8(a+8);}
-*(rp(a)+os)=60;
-w8(a+8,os+1);
-ss=r8(a+176);
-if(ss==18446744073709551615u){
-qs=0;
-rs=0;}
-else{
-w8(a+176,ss+1);
-ts=r8(a+88);
-if(r8(a+112)>ts)us=ts;
-else{
-vs=make_ready_9a1(a+80);
-if(!(vs&1)){
-qs=0;
-rs=0;
-goto L129;}
-us=r8(a+88);}
-ws=rp(a+80)+us*44;
-*ws=6;
-ws[1]=0;
-x2(ws+2,0);
-memcpy(ws+4,aa,40);
-w8(a+88,us+1);
-qs=3;
-rs=1;}
-L129:*ta=rs;
-ta[1]=qs;
-ta[2]=rs;
-ta[3]=0;
-goto L128;}}
-components_at_ca9(Z,a,b,c);
-*ta=*Z;
-ta[1]=Z[1];
-ta[2]=Z[2];
-ta[3]=Z[3];
-L128:break;
-case 5:w4(Y,0);
-xs=r8(a+176);
-if(xs<c){
-if(*(b+xs)==69){
-nest_ended_32a(Y,a,b,c);
-*ta=*Y;
-ta[1]=Y[1];
-ta[2]=Y[2];
-ta[3]=Y[3];
-goto L130;}}
-if(!(a[136]&1)){
-ys=r4(a+120);
-zs=a[139];
-As=r8(a+8);
-Bs=r8(a+48);
-if(r8(a+72)>Bs)Cs=Bs;
-else{
-Ds=make_ready_17a(a+40);
-if(!(Ds&1)){
-w4(ta,0);
-goto L130;}
-Cs=r8(a+48);}
-Es=rp(a+40)+Cs*12;
-x4(Es,ys);
-x4(Es+4,As);
-Es[8]=0;
-Es[9]=zs;
-x2(Es+10,0);
-w8(a+48,Cs+1);}
-components_at_ca9(Y,a,b,c);
-*ta=*Y;
-ta[1]=Y[1];
-ta[2]=Y[2];
-ta[3]=Y[3];
-L130:break;
-case 6:components_at_ca9(ta,a,b,c);
-break;
-default:NEVER;
-}
-Fs=eq+1;
-if(*ta!=1||Fs==Lb)goto L1;
-eq=Fs;
-fq=ta[3];
-gq=ta[2];
-hq=ta[1];
-goto L119;}}}
-goto L1;
-case 1:if(Qb)goto L1;
-if(c<16){
-Gs=are_few_named_14c(b,c);
-if(!Gs)goto L1;}
-else{
-Hs=c-16;
-if(Hs==0)goto L131;
-Is=0;
-L132:Js=v16_at(b+Is);
-if((v16_ult(Js,splat(33))|v16_eq(Js,splat(127)))!=0)goto L1;
-Ks=Is+16;
-if(Ks<Hs){
-Is=Ks;
-goto L132;}
-L131:Ls=v16_at(b+Hs);
-if((v16_ult(Ls,splat(33))|v16_eq(Ls,splat(127)))!=0)goto L1;}
-w4(V,0);
-w4(W,0);
-if(c!=0){
-if(c!=1&&*b==95){
-if(b[1]==90){
-if(c>=3){
-Ms=b[2];
-if(c<5){
-if(Ms==90)goto L133;
-if((c!=3)&(Ms==71)){
-if(b[3]==86)goto L134;
-goto L135;}
-switch(Ms){
-case 71:goto L135;
-case 84:if(c==3)goto L136;
-break;
-default:goto L137;
-}}
-else{
-switch(Ms){
-case 90:goto L133;
-case 71:if(b[3]!=86)goto L135;
-if(b[4]!=90)goto L134;
-if(Ob<19){
-Ns=make_ready_8e3(a,19,128);
-if(!(Ns&1)){
-Qs=0;
-Rs=0;
-Ss=0;
-Ts=0;
-goto L138;}
-Os=r8(a+16);
-Ps=r8(a+8);}
-else{
-Os=Nb;
-Ps=0;}
-if(Os-Ps<19){
-Us=grow_amortized_2b6(a,19);
-if(!Us){
-Qs=0;
-Rs=0;
-Ss=0;
-Ts=0;
-goto L138;}
-Vs=r8(a+16);
-Ws=r8(a+8);}
-else{
-Vs=Os;
-Ws=Ps;}
-Xs=Ws+19;
-Ys=rp(a);
-z16(a+8);
-Zs=Ys+(i64)Ws;
-if((u64)Zs-(u64)(u8*)t_c270<19)copy_bits_4f4((u8*)t_c270,Zs,19);
-else memcpy(Zs,(u8*)t_c270,19);
-wp(a,Ys);
-w8(a+8,Xs);
-w8(a+16,Vs);
-w8(a+176,5);
-begin_encoding_a26(T,a,b,c);
-Qs=T[3];
-Rs=T[2];
-Ss=T[1];
-Ts=*T;
-L138:at=Qs;
-bt=Rs;
-ct=Ss;
-dt=Ts;
-goto L139;
-case 84:break;
-default:goto L137;
-}}
-switch(b[3]){
-case 104:begin_thunk_acc(W,a,b,c);
-goto L140;
-case 118:begin_virtual_thunk_3f7(W,a,b,c);
-goto L140;
-default:break;}
-L136:begin_special_44d(W,a,b,c);
-L140:et=W[3];
-ft=W[2];
-gt=W[1];
-ht=*W;
-goto L141;
-L135:begin_clone_893(V);
-et=V[3];
-ft=V[2];
-gt=V[1];
-ht=*V;
-goto L141;
-L134:begin_object_056(V,a,b,c);
-et=V[3];
-ft=V[2];
-gt=V[1];
-ht=*V;
-goto L141;
-L133:w8(a+176,3);
-begin_encoding_a26(U,a,b,c);
-at=U[3];
-bt=U[2];
-ct=U[1];
-dt=*U;
-L139:et=at;
-ft=bt;
-gt=ct;
-ht=dt;
-goto L141;}
-L137:w8(a+176,2);
-begin_encoding_a26(V,a,b,c);
-et=V[3];
-ft=V[2];
-gt=V[1];
-ht=*V;
-L141:if(ht!=1)goto L1;
-it=0;
-jt=et;
-kt=ft;
-lt=gt;
-L142:if(lt==7){
-mt=r8(a+8);
-if(mt>Mb)goto L14;
-nt=rp(a);
-if(mt==0){
-ot=0;
-goto L143;}
-pt=0;
-L144:if(*(nt+pt)>2){
-qt=pt+1;
-if(qt==mt)goto L17;
-pt=qt;
-goto L144;}
-ot=pt;
-L143:if(ot>=mt)goto L17;
-rt=ot;
-st=ot;
-tt=0;
-L145:ut=*(nt+rt);
-if(ut>2){
-if(tt==0){
-*(nt+st)=ut;
-vt=0;
-wt=st+1;}
-else{
-vt=tt;
-wt=st;}}
-else{
-switch(ut){
-case 2:vt=usub64(tt,1);
-wt=st;
-break;
-case 1:vt=tt+1;
-wt=st;
-break;
-default:goto L1;
-}}
-xt=rt+1;
-if(xt==mt){
-if(r8(a+8)<=wt)goto L17;
-Jc=wt;
-break;}
-rt=xt;
-st=wt;
-tt=vt;
-goto L145;}
-w8(a+184,r8(a+184)+1);
-w4(X,0);
-switch(lt){
-case 0:type_at_225(X,a,b,c,0);
-break;
-case 1:type_at_225(X,a,b,c,1);
-break;
-case 2:w4(P,0);
-w4(Q,0);
-z32(R);
-z32(S);
-yt=r8(a+88);
-if(yt==0)w4(X,0);
-else{
-zt=kt&1;
-At=rp(a+80)+(i64)(yt*44);
-Bt=At[-44];
-Ct=At[-43];
-Dt=q4(At-40);
-Et=q4(At-36);
-Ft=q2(At-32);
-switch(Bt){
-case 25:case 24:case 23:case 22:case 4:case 5:case 6:case 7:case 8:case 11:case 12:case 13:case 14:case 15:case 16:case 17:case 18:case 19:case 20:case 21:if(jt&1){
-pass_dependent_123(P,a,b,c);
-*X=*P;
-X[1]=P[1];
-X[2]=P[2];
-X[3]=P[3];
-goto L146;}
-Gt=q4(At-4);
-Ht=Et;
-w4(O,0);
-switch(Bt){
-case 19:returned_acd(O,a,b,c,Ct&1);
-break;
-case 20:parameter_at_c04(O,a,b,c,Ct&1,0);
-break;
-case 21:array_ended_08d(O,a,b,c,Ct,Dt,Et);
-break;
-case 12:enclosing_parameter_d72(O,a,b,c,Ct,Dt);
-break;
-case 13:instance_parameter_e2a(O,a,b,c,Ct,Dt,Et);
-break;
-case 11:w2(J,Ft);
-memcpy(J+2,At-30,26);
-x4(J+28,Gt);
-enclosing_front_fa8(O,a,Ct,Dt,Et,J);
-break;
-case 17:w2(K,(u16)Et&255);
-w2(K+2,Et>>16);
-w2(K+4,Ft);
-lambda_parameter_f9a(O,a,b,c,Dt,K);
-break;
-case 15:w4(L,Et);
-w2(L+4,Ft);
-memcpy(L+6,At-30,26);
-addressed_front_4c5(O,a,b,c,Ct,Dt,L);
-break;
-case 16:addressed_parameter_41c(O,a,b,c,Ct);
-break;
-case 14:*O=0;
-break;
-case 18:finish_8cd(O,a,b,c);
-break;
-case 25:enumerator_21c(O,a,b,c);
-break;
-case 22:w2(M,Et>>16);
-w2(M+2,Ft);
-memcpy(M+4,At-30,26);
-w2(M+30,Gt);
-argument_ended_605(O,a,b,c,Dt,Ht,M,zt);
-break;
-case 24:w2(N,Et>>16);
-w2(N+2,Ft);
-memcpy(N+4,At-30,26);
-w2(N+30,Gt);
-element_ended_c50(O,a,b,c,Dt,Ht,N,zt);
-break;
-case 23:case 10:case 9:case 8:case 4:case 5:case 6:case 7:*O=1;
-O[1]=3;
-O[2]=0;
-O[3]=0;
-break;
-default:NEVER;
-}
-It=O[1];
-Jt=O[2];
-Kt=O[3];
-*Q=*O;
-Q[1]=It;
-Q[2]=Jt;
-Q[3]=Kt;
-goto L147;
-case 10:w4(R,Et);
-w2(R+4,Ft);
-memcpy(R+6,At-30,26);
-parameter_ended_06e(Q,a,b,c,Ct,Dt,R);
-goto L147;
-case 9:w4(S,Et);
-w2(S+4,Ft);
-memcpy(S+6,At-30,26);
-front_ended_ee9(Q,a,b,c,Ct,Dt,S);
-goto L147;
-case 0:w8(a+88,yt-1);
-Lt=r8(a+8);
-if(r8(a+32)>Lt)Mt=Lt;
-else{
-Nt=make_ready_8e3(a,1,16);
-if(!(Nt&1)){
-Ot=0;
-Pt=0;
-Qt=0;
-Rt=0;
-goto L148;}
-Mt=r8(a+8);}
-*(rp(a)+Mt)=42;
-St=Mt+1;
-w8(a+8,St);
-Tt=St;
-Ut=jt&1;
-Vt=r8(a+48);
-if(r8(a+72)>Vt){
-Wt=Vt;
-Xt=Tt;
-Yt=0;
-Zt=Ut;
-goto L149;}
-au=make_ready_17a(a+40);
-if(!(au&1)){
-Ot=0;
-Pt=0;
-Qt=0;
-Rt=0;
-goto L148;}
-bu=Tt;
-cu=0;
-du=Ut;
-break;
-case 1:if(zt)goto L147;
-w8(a+88,yt-1);
-eu=r8(a+8);
-if(r8(a+32)>eu)fu=eu;
-else{
-gu=make_ready_8e3(a,1,16);
-if(!(gu&1)){
-Ot=0;
-Pt=0;
-Qt=0;
-Rt=0;
-goto L148;}
-fu=r8(a+8);}
-*(rp(a)+fu)=38;
-hu=fu+1;
-w8(a+8,hu);
-iu=hu;
-ju=jt&1;
-ku=r8(a+48);
-if(r8(a+72)>ku){
-Wt=ku;
-Xt=iu;
-Yt=1;
-Zt=ju;
-goto L149;}
-lu=make_ready_17a(a+40);
-if(!(lu&1)){
-Ot=0;
-Pt=0;
-Qt=0;
-Rt=0;
-goto L148;}
-bu=iu;
-cu=1;
-du=ju;
-break;
-case 2:if(zt)goto L147;
-w8(a+88,yt-1);
-mu=r8(a+8);
-if(r8(a+32)-mu<2){
-nu=make_ready_8e3(a,2,128);
-if(!(nu&1)){
-Ot=0;
-Pt=0;
-Qt=0;
-Rt=0;
-goto L148;}
-ou=r8(a+8);}
-else ou=mu;
-*(rp(a)+ou)=38;
-*(rp(a)+(i64)ou+1)=38;
-pu=ou+2;
-w8(a+8,pu);
-qu=pu;
-ru=jt&1;
-su=r8(a+48);
-if(r8(a+72)>su){
-Wt=su;
-Xt=qu;
-Yt=1;
-Zt=ru;
-goto L149;}
-tu=make_ready_17a(a+40);
-if(!(tu&1)){
-Ot=0;
-Pt=0;
-Qt=0;
-Rt=0;
-goto L148;}
-bu=qu;
-cu=1;
-du=ru;
-break;
-case 3:if(zt)goto L147;
-w8(a+88,yt-1);
-if(r8(a+32)-r8(a+8)<6){
-uu=make_ready_8e3(a,6,128);
-if(!(uu&1)){
-Ot=0;
-Pt=0;
-Qt=0;
-Rt=0;
-goto L148;}}
-vu=extend_from_slice_169(a,(u8*)t_f603,6);
-if(vu&1){
-Ot=0;
-Pt=0;
-Qt=0;
-Rt=0;
-goto L148;}
-wu=r8(a+8);
-xu=jt&1;
-yu=r8(a+48);
-if(r8(a+72)>yu){
-Wt=yu;
-Xt=wu;
-Yt=0;
-Zt=xu;
-goto L149;}
-zu=make_ready_17a(a+40);
-if(!(zu&1)){
-Ot=0;
-Pt=0;
-Qt=0;
-Rt=0;
-goto L148;}
-bu=wu;
-cu=0;
-du=xu;
-break;
-default:NEVER;
-}
-Wt=r8(a+48);
-Xt=bu;
-Yt=cu;
-Zt=du;
-L149:Au=rp(a+40)+Wt*12;
-x4(Au,Dt);
-x4(Au+4,Xt);
-Au[8]=Yt;
-Au[9]=Zt;
-x2(Au+10,0);
-w8(a+48,Wt+1);
-Ot=Zt;
-Pt=Yt;
-Qt=2;
-Rt=1;
-L148:*Q=Rt;
-Q[1]=Qt;
-Q[2]=Pt;
-Q[3]=Ot;
-L147:Bu=Q[1];
-Cu=Q[2];
-Du=Q[3];
-*X=*Q;
-X[1]=Bu;
-X[2]=Cu;
-X[3]=Du;}
-L146:break;
-case 3:Eu=kt&1;
-w4(H,0);
-Fu=r8(a+176);
-if(Fu<c){
-Gu=*(b+Fu);
-switch(Gu){
-case 69:w4(F,0);
-w8(a+176,Fu+1);
-Hu=r8(a+88);
-if(Hu==0){
-Iu=0;
-Ju=0;
-Ku=0;
-Lu=0;}
-else{
-if(*(rp(a+80)+(i64)(Hu*44)-44)==23){
-if(Eu){
-Iu=0;
-Ju=0;
-Ku=0;
-Lu=0;}
-else{
-w8(a+88,Hu-1);
-Iu=0;
-Ju=0;
-Ku=3;
-Lu=1;}}
-else{
-z32(G);
-close_list_148(F,a,b,c,G);
-Iu=F[3];
-Ju=F[2];
-Ku=F[1];
-Lu=*F;}}
-*X=Lu;
-X[1]=Ku;
-X[2]=Ju;
-X[3]=Iu;
-goto L150;
-case 74:Mu=Fu+1;
-if(Mu<c){
-if(*(b+Mu)==69){
-empty_pack_c74(H,a,b,c,Eu);
-*X=*H;
-X[1]=H[1];
-X[2]=H[2];
-X[3]=H[3];
-goto L150;}}
-if(!Eu){
-Nu=74;
-goto L151;}
-first_pack_117(H,a,b,c);
-*X=*H;
-X[1]=H[1];
-X[2]=H[2];
-X[3]=H[3];
-goto L150;
-default:Ou=Gu;
-break;}}
-else Ou=0;
-if(Eu){
-Pu=Ou;
-goto L152;}
-Nu=Ou;
-L151:Qu=r8(a+8);
-if(r8(a+32)-Qu<2){
-Ru=make_ready_8e3(a,2,128);
-if(!(Ru&1)){
-w4(X,0);
-goto L150;}
-Su=r8(a+8);}
-else Su=Qu;
-*(rp(a)+Su)=44;
-*(rp(a)+(i64)Su+1)=32;
-w8(a+8,Su+2);
-Pu=Nu;
-L152:switch(Pu){
-case 76:if(Eu){
-first_literal_d00(H,a,b,c);
-*X=*H;
-X[1]=H[1];
-X[2]=H[2];
-X[3]=H[3];
-goto L150;}
-literal_8fc(I,a,b,c);
-Tu=I[3];
-Uu=I[2];
-Vu=I[1];
-Wu=*I;
-break;
-case 74:Xu=r8(a+88);
-if(Xu==0){
-Tu=0;
-Uu=0;
-Vu=0;
-Wu=0;}
-else{
-Yu=rp(a+80);
-Zu=Xu*44;
-if(*(Yu+(i64)Zu-44)==23){
-Tu=0;
-Uu=0;
-Vu=0;
-Wu=0;}
-else{
-av=r8(a+176);
-if(av==18446744073709551615u){
-Tu=0;
-Uu=0;
-Vu=0;
-Wu=0;}
-else{
-w8(a+176,av+1);
-if(r8(a+112)>Xu){
-bv=Zu;
-cv=Yu;
-dv=Xu;}
-else{
-ev=make_ready_9a1(a+80);
-if(!(ev&1)){
-Tu=0;
-Uu=0;
-Vu=0;
-Wu=0;
-break;}
-fv=r8(a+88);
-bv=fv*44;
-cv=rp(a+80);
-dv=fv;}
-gv=cv+bv;
-*gv=23;
-z43(gv+1);
-w8(a+88,dv+1);
-Tu=0;
-Uu=1;
-Vu=3;
-Wu=1;}}}
-break;
-default:if(Eu){
-hv=r8(a+88);
-if(hv==0)iv=1;
-else{
-jv=rp(a+80);
-kv=hv*44;
-lv=jv+(i64)kv;
-switch(lv[-44]){
-case 5:if(lv[-28]==0){
-iv=1;
-goto L153;}
-break;
-case 7:break;
-case 0:case 1:case 2:case 3:case 4:case 6:case 8:case 9:case 10:case 11:case 12:case 13:case 14:case 15:case 16:case 17:case 18:case 19:case 20:case 21:case 22:case 23:case 24:case 25:iv=1;
-goto L153;
-default:NEVER;
-}
-mv=r8(a+176);
-if(mv<c){
-nv=b+(i64)mv;
-switch(*nv){
-case 65:case 70:iv=1;
-goto L153;
-case 80:case 82:if(usub64(c,mv)>=2){
-switch(nv[1]){
-case 70:case 65:iv=1;
-goto L153;
-default:break;}}
-break;
-default:break;}}
-ov=r8(a+8);
-if(r8(a+112)>hv){
-pv=kv;
-qv=jv;
-rv=hv;}
-else{
-sv=make_ready_9a1(a+80);
-if(!(sv&1)){
-iv=0;
-goto L153;}
-tv=r8(a+88);
-pv=tv*44;
-qv=rp(a+80);
-rv=tv;}
-uv=qv+pv;
-*uv=22;
-uv[1]=0;
-x2(uv+2,0);
-x4(uv+4,ov);
-z36(uv+8);
-w8(a+88,rv+1);
-iv=1;}
-L153:*X=iv;
-X[1]=0;
-X[2]=0;
-X[3]=0;
-goto L150;}
-Tu=0;
-Uu=0;
-Vu=0;
-Wu=1;
-break;}
-*X=Wu;
-X[1]=Vu;
-X[2]=Uu;
-X[3]=Tu;
-L150:break;
-case 4:w4(D,0);
-z20(E+20);
-if(!(a[136]&1)){
-vv=r4(a+120);
-wv=a[139];
-xv=r8(a+8);
-yv=r8(a+48);
-if(r8(a+72)>yv)zv=yv;
-else{
-Av=make_ready_17a(a+40);
-if(!(Av&1)){
-w4(X,0);
-goto L154;}
-zv=r8(a+48);}
-Bv=rp(a+40)+zv*12;
-x4(Bv,vv);
-x4(Bv+4,xv);
-Bv[8]=0;
-Bv[9]=wv;
-x2(Bv+10,0);
-w8(a+48,zv+1);}
-Cv=r8(a+176);
-if(Cv<c){
-if(*(b+Cv)==73){
-memcpy(E,a+120,20);
-Dv=r8(a+8);
-if(r8(a+32)>Dv)Ev=Dv;
-else{
-Fv=make_ready_8e3(a,1,16);
-if(!(Fv&1)){
-Gv=0;
-Hv=0;
-goto L155;}
-Ev=r8(a+8);}
-*(rp(a)+Ev)=1;
-w8(a+8,Ev+1);
-Iv=r8(a+176);
-if(Iv==18446744073709551615u){
-Gv=0;
-Hv=0;}
-else{
-w8(a+176,Iv+1);
-Jv=r8(a+88);
-if(r8(a+112)>Jv)Kv=Jv;
-else{
-Lv=make_ready_9a1(a+80);
-if(!(Lv&1)){
-Gv=0;
-Hv=0;
-goto L155;}
-Kv=r8(a+88);}
-Mv=rp(a+80)+Kv*44;
-*Mv=6;
-Mv[1]=0;
-x2(Mv+2,0);
-memcpy(Mv+4,E,40);
-w8(a+88,Kv+1);
-Gv=3;
-Hv=1;}
-L155:*X=Hv;
-X[1]=Gv;
-X[2]=Hv;
-X[3]=0;
-goto L154;}}
-components_at_91b(D,a,b,c);
-*X=*D;
-X[1]=D[1];
-X[2]=D[2];
-X[3]=D[3];
-L154:break;
-case 5:w4(C,0);
-Nv=r8(a+176);
-if(Nv<c){
-if(*(b+Nv)==69){
-nest_ended_003(C,a,b,c);
-*X=*C;
-X[1]=C[1];
-X[2]=C[2];
-X[3]=C[3];
-goto L156;}}
-if(!(a[136]&1)){
-Ov=r4(a+120);
-Pv=a[139];
-Qv=r8(a+8);
-Rv=r8(a+48);
-if(r8(a+72)>Rv)Sv=Rv;
-else{
-Tv=make_ready_17a(a+40);
-if(!(Tv&1)){
-w4(X,0);
-goto L156;}
-Sv=r8(a+48);}
-Uv=rp(a+40)+Sv*12;
-x4(Uv,Ov);
-x4(Uv+4,Qv);
-Uv[8]=0;
-Uv[9]=Pv;
-x2(Uv+10,0);
-w8(a+48,Sv+1);}
-components_at_91b(C,a,b,c);
-*X=*C;
-X[1]=C[1];
-X[2]=C[2];
-X[3]=C[3];
-L156:break;
-case 6:components_at_91b(X,a,b,c);
-break;
-default:NEVER;
-}
-Vv=it+1;
-if(*X!=1||Vv==Lb)goto L1;
-it=Vv;
-jt=X[3];
-kt=X[2];
-lt=X[1];
-goto L142;}}}
-goto L1;
-default:NEVER;
-}}
-w8(a+8,Jc);
-L17:if(r8(a+48)!=0)w8(a+48,0);
-z16(a+64);
-if(r8(a+88)==0){
-Wv=1;
-goto L157;}
-w8(a+88,0);
-Wv=1;
-goto L157;
-L1:if(r8(a+8)==0)goto L158;
-L14:w8(a+8,0);
-L158:z16(a+24);
-if(r8(a+48)!=0)w8(a+48,0);
-if(r8(a+88)!=0)w8(a+88,0);
-a[172]=0;
-z16(a+64);
-Wv=0;
-L157:z16(a+104);
-return Wv;
-}
-
-/* itanium::short_way::run */
-static u8 run_48b(u8* a,u8* b,u64 c,u32 d)
-{
-u8 j[32],l[4],m[32],n[6],p[32],q[32],w[4],x[4];
-A16 u8 e[4],f[4],g[40],h[4],i[4],k[4],o[32],r[4],s[4],t[4],u[32],v[32],y[4],z[4],A[4];
-u8 B,C,I,K,M,N,O,P,R,X,Y,Z,aa,ba,ca,da,ea,ha,ia,ja,la,na,oa,ta,ua,va,wa,za,Aa,Ba,Ca,Da,Ga,Ka,La,Ma,Oa,Pa,Sa,Va,Xa,Za,db,fb,gb,hb,jb,lb,nb,ob,pb,qb,sb,ub,vb,wb,xb,zb,Ab,Bb,Db,Hb,Ib,Jb,Kb,Sb,Wb,Xb,Yb,Zb,dc,ic,mc,nc,oc,pc,rc,vc,Ac,Bc,Cc,Gc,Kc,Oc;
-u64 D,E,G,J,L,Q,S,T,U,fa,ga,ka,xa,ya,Ea,Ha,Ia,Qa,Ra,Ta,Wa,Ya,ab,bb,eb,kb,rb,tb,yb,Cb,Eb,Fb,Gb,Lb,Nb,Ob,Pb,Rb,Tb,Vb,bc,fc,hc,jc,lc,tc,uc,xc,yc,zc,Dc,Ec,Fc,Ic,Mc,Nc,Qc;
-v16 F,H;
-u8 *V,*W,*ma,*mb,*Mb,*Qb,*Ub,*ac,*cc,*gc,*kc,*wc,*Hc,*Pc;
-u32 pa,qa,sa,Fa,Ja,Na,Ua,cb,ib,ec,qc,sc,Jc,Lc;
-u16 ra;
-if(c>65536)B=0;
-else{
-if(c<16){
-C=are_few_named_14c(b,c);
-if(!C){
-B=0;
-goto L1;}}
-else{
-D=c-16;
-if(D==0)goto L2;
-E=0;
-L3:F=v16_at(b+E);
-if((v16_ult(F,splat(33))|v16_eq(F,splat(127)))!=0){
-B=0;
-goto L1;}
-G=E+16;
-if(G<D){
-E=G;
-goto L3;}
-L2:H=v16_at(b+D);
-if((v16_ult(H,splat(33))|v16_eq(H,splat(127)))!=0){
-B=0;
-goto L1;}}
-w4(y,0);
-w4(z,0);
-if(c!=0){
-if(c!=1&&*b==95){
-if(b[1]==90){
-if(c>=3){
-I=b[2];
-if(c<5){
-if(I==90)goto L4;
-if((c!=3)&(I==71)){
-if(b[3]==86)goto L5;
-goto L6;}
-switch(I){
-case 71:goto L6;
-case 84:if(c==3)goto L7;
-break;
-default:goto L8;
-}}
-else{
-switch(I){
-case 90:goto L4;
-case 71:if(b[3]!=86)goto L6;
-if(b[4]!=90)goto L5;
-J=r8(a+8);
-if(r8(a+32)-J<19){
-K=make_ready_8e3(a,19,128);
-if(!(K&1)){
-M=0;
-N=0;
-O=0;
-P=0;
-goto L9;}
-L=r8(a+8);}
-else L=J;
-Q=r8(a+16);
-if(Q-L<19){
-R=grow_amortized_2b6(a,19);
-if(!R){
-M=0;
-N=0;
-O=0;
-P=0;
-goto L9;}
-S=r8(a+16);
-T=r8(a+8);}
-else{
-S=Q;
-T=L;}
-U=T+19;
-V=rp(a);
-z16(a+8);
-W=V+(i64)T;
-if((u64)W-(u64)(u8*)t_c270<19)copy_bits_4f4((u8*)t_c270,W,19);
-else memcpy(W,(u8*)t_c270,19);
-wp(a,V);
-w8(a+8,U);
-w8(a+16,S);
-w8(a+176,5);
-begin_encoding_254(w,a,b,c);
-M=w[3];
-N=w[2];
-O=w[1];
-P=*w;
-L9:X=M;
-Y=N;
-Z=O;
-aa=P;
-goto L10;
-case 84:break;
-default:goto L8;
-}}
-switch(b[3]){
-case 104:begin_thunk_2c0(z,a,b,c);
-goto L11;
-case 118:begin_virtual_thunk_979(z,a,b,c);
-goto L11;
-default:break;}
-L7:begin_special_44d(z,a,b,c);
-L11:ba=z[3];
-ca=z[2];
-da=z[1];
-ea=*z;
-goto L12;
-L6:begin_clone_783(y,a,b,c);
-ba=y[3];
-ca=y[2];
-da=y[1];
-ea=*y;
-goto L12;
-L5:begin_object_8f6(y,a,b,c);
-ba=y[3];
-ca=y[2];
-da=y[1];
-ea=*y;
-goto L12;
-L4:w8(a+176,3);
-begin_encoding_254(x,a,b,c);
-X=x[3];
-Y=x[2];
-Z=x[1];
-aa=*x;
-L10:ba=X;
-ca=Y;
-da=Z;
-ea=aa;
-goto L12;}
-L8:w8(a+176,2);
-begin_encoding_254(y,a,b,c);
-ba=y[3];
-ca=y[2];
-da=y[1];
-ea=*y;
-L12:if(ea!=1){
-B=0;
-goto L1;}
-fa=c<<3;
-ga=0;
-ha=ba;
-ia=ca;
-ja=da;
-L13:if(ja==7){
-B=r8(a+8)<=d;
-goto L1;}
-w8(a+184,r8(a+184)+1);
-w4(A,0);
-switch(ja){
-case 0:type_at_188(A,a,b,c,0);
-break;
-case 1:type_at_188(A,a,b,c,1);
-break;
-case 2:w4(s,0);
-w4(t,0);
-z32(u);
-z32(v);
-ka=r8(a+88);
-if(ka==0)w4(A,0);
-else{
-la=ia&1;
-ma=rp(a+80)+(i64)(ka*44);
-na=ma[-44];
-oa=ma[-43];
-pa=q4(ma-40);
-qa=q4(ma-36);
-ra=q2(ma-32);
-switch(na){
-case 25:case 24:case 23:case 22:case 4:case 5:case 6:case 7:case 8:case 11:case 12:case 13:case 14:case 15:case 16:case 17:case 18:case 19:case 20:case 21:if(ha&1){
-pass_dependent_123(s,a,b,c);
-*A=*s;
-A[1]=s[1];
-A[2]=s[2];
-A[3]=s[3];
-goto L14;}
-sa=q4(ma-4);
-ta=qa;
-w4(r,0);
-switch(na){
-case 19:returned_acd(r,a,b,c,oa&1);
-break;
-case 20:parameter_at_c04(r,a,b,c,oa&1,0);
-break;
-case 21:array_ended_08d(r,a,b,c,oa,pa,qa);
-break;
-case 12:enclosing_parameter_d72(r,a,b,c,oa,pa);
-break;
-case 13:instance_parameter_e2a(r,a,b,c,oa,pa,qa);
-break;
-case 11:w2(m,ra);
-memcpy(m+2,ma-30,26);
-x4(m+28,sa);
-enclosing_front_fa8(r,a,oa,pa,qa,m);
-break;
-case 17:w2(n,(u16)qa&255);
-w2(n+2,qa>>16);
-w2(n+4,ra);
-lambda_parameter_f9a(r,a,b,c,pa,n);
-break;
-case 15:w4(o,qa);
-w2(o+4,ra);
-memcpy(o+6,ma-30,26);
-addressed_front_4c5(r,a,b,c,oa,pa,o);
-break;
-case 16:addressed_parameter_41c(r,a,b,c,oa);
-break;
-case 14:*r=0;
-break;
-case 18:finish_8cd(r,a,b,c);
-break;
-case 25:enumerator_21c(r,a,b,c);
-break;
-case 22:w2(p,qa>>16);
-w2(p+2,ra);
-memcpy(p+4,ma-30,26);
-w2(p+30,sa);
-argument_ended_2ff(r,a,b,c,pa,ta,p,la);
-break;
-case 24:w2(q,qa>>16);
-w2(q+2,ra);
-memcpy(q+4,ma-30,26);
-w2(q+30,sa);
-element_ended_d46(r,a,b,c,pa,ta,q,la);
-break;
-case 23:case 10:case 9:case 8:case 4:case 5:case 6:case 7:*r=1;
-r[1]=3;
-r[2]=0;
-r[3]=0;
-break;
-default:NEVER;
-}
-ua=r[1];
-va=r[2];
-wa=r[3];
-*t=*r;
-t[1]=ua;
-t[2]=va;
-t[3]=wa;
+u[1]=wa;
+u[2]=xa;
+u[3]=ya;
 goto L15;
-case 10:w4(u,qa);
-w2(u+4,ra);
-memcpy(u+6,ma-30,26);
-parameter_ended_06e(t,a,b,c,oa,pa,u);
+case 10:w4(v,ra);
+w2(v+4,sa);
+memcpy(v+6,na-30,26);
+parameter_ended_06e(u,a,b,c,pa,qa,v);
 goto L15;
-case 9:w4(v,qa);
-w2(v+4,ra);
-memcpy(v+6,ma-30,26);
-front_ended_ee9(t,a,b,c,oa,pa,v);
+case 9:w4(w,ra);
+w2(w+4,sa);
+memcpy(w+6,na-30,26);
+front_ended_ee9(u,a,b,c,pa,qa,w);
 goto L15;
-case 0:w8(a+88,ka-1);
-xa=r8(a+8);
-if(r8(a+32)>xa)ya=xa;
+case 0:w8(a+88,la-1);
+za=r8(a+8);
+if(r8(a+32)>za)Aa=za;
 else{
-za=make_ready_8e3(a,1,16);
-if(!(za&1)){
-Aa=0;
-Ba=0;
+Ba=make_ready_8e3(a,1,16);
+if(!(Ba&1)){
 Ca=0;
 Da=0;
+Ea=0;
+Fa=0;
 goto L16;}
-ya=r8(a+8);}
-*(rp(a)+ya)=42;
-Ea=ya+1;
-w8(a+8,Ea);
-Fa=Ea;
-Ga=ha&1;
-Ha=r8(a+48);
-if(r8(a+72)>Ha){
-Ia=Ha;
-Ja=Fa;
-Ka=0;
-La=Ga;
+Aa=r8(a+8);}
+*(rp(a)+Aa)=42;
+Ga=Aa+1;
+w8(a+8,Ga);
+Ha=Ga;
+Ia=ia&1;
+Ja=r8(a+48);
+if(r8(a+72)>Ja){
+Ka=Ja;
+La=Ha;
+Ma=0;
+Na=Ia;
 goto L17;}
-Ma=make_ready_17a(a+40);
-if(!(Ma&1)){
-Aa=0;
-Ba=0;
+Oa=make_ready_17a(a+40);
+if(!(Oa&1)){
 Ca=0;
 Da=0;
+Ea=0;
+Fa=0;
 goto L16;}
-Na=Fa;
-Oa=0;
-Pa=Ga;
+Pa=Ha;
+Qa=0;
+Ra=Ia;
 break;
-case 1:if(la)goto L15;
-w8(a+88,ka-1);
-Qa=r8(a+8);
-if(r8(a+32)>Qa)Ra=Qa;
+case 1:if(ma)goto L15;
+w8(a+88,la-1);
+Sa=r8(a+8);
+if(r8(a+32)>Sa)Ta=Sa;
 else{
-Sa=make_ready_8e3(a,1,16);
-if(!(Sa&1)){
-Aa=0;
-Ba=0;
+Ua=make_ready_8e3(a,1,16);
+if(!(Ua&1)){
 Ca=0;
 Da=0;
+Ea=0;
+Fa=0;
 goto L16;}
-Ra=r8(a+8);}
-*(rp(a)+Ra)=38;
-Ta=Ra+1;
-w8(a+8,Ta);
-Ua=Ta;
-Va=ha&1;
-Wa=r8(a+48);
-if(r8(a+72)>Wa){
-Ia=Wa;
-Ja=Ua;
-Ka=1;
-La=Va;
+Ta=r8(a+8);}
+*(rp(a)+Ta)=38;
+Va=Ta+1;
+w8(a+8,Va);
+Wa=Va;
+Xa=ia&1;
+Ya=r8(a+48);
+if(r8(a+72)>Ya){
+Ka=Ya;
+La=Wa;
+Ma=1;
+Na=Xa;
 goto L17;}
-Xa=make_ready_17a(a+40);
-if(!(Xa&1)){
-Aa=0;
-Ba=0;
-Ca=0;
-Da=0;
-goto L16;}
-Na=Ua;
-Oa=1;
-Pa=Va;
-break;
-case 2:if(la)goto L15;
-w8(a+88,ka-1);
-Ya=r8(a+8);
-if(r8(a+32)-Ya<2){
-Za=make_ready_8e3(a,2,128);
+Za=make_ready_17a(a+40);
 if(!(Za&1)){
-Aa=0;
-Ba=0;
 Ca=0;
 Da=0;
+Ea=0;
+Fa=0;
 goto L16;}
-ab=r8(a+8);}
-else ab=Ya;
-*(rp(a)+ab)=38;
-*(rp(a)+(i64)ab+1)=38;
-bb=ab+2;
-w8(a+8,bb);
-cb=bb;
-db=ha&1;
-eb=r8(a+48);
-if(r8(a+72)>eb){
-Ia=eb;
-Ja=cb;
-Ka=1;
-La=db;
-goto L17;}
-fb=make_ready_17a(a+40);
-if(!(fb&1)){
-Aa=0;
-Ba=0;
-Ca=0;
-Da=0;
-goto L16;}
-Na=cb;
-Oa=1;
-Pa=db;
+Pa=Wa;
+Qa=1;
+Ra=Xa;
 break;
-case 3:if(la)goto L15;
-w8(a+88,ka-1);
-if(r8(a+32)-r8(a+8)<6){
-gb=make_ready_8e3(a,6,128);
-if(!(gb&1)){
-Aa=0;
-Ba=0;
+case 2:if(ma)goto L15;
+w8(a+88,la-1);
+ab=r8(a+8);
+if(r8(a+32)-ab<2){
+bb=make_ready_8e3(a,2,128);
+if(!(bb&1)){
 Ca=0;
 Da=0;
-goto L16;}}
-hb=extend_from_slice_169(a,(u8*)t_f603,6);
-if(hb&1){
-Aa=0;
-Ba=0;
-Ca=0;
-Da=0;
+Ea=0;
+Fa=0;
 goto L16;}
-ib=r8(a+8);
-jb=ha&1;
-kb=r8(a+48);
-if(r8(a+72)>kb){
-Ia=kb;
-Ja=ib;
-Ka=0;
-La=jb;
+cb=r8(a+8);}
+else cb=ab;
+*(rp(a)+cb)=38;
+*(rp(a)+(i64)cb+1)=38;
+db=cb+2;
+w8(a+8,db);
+eb=db;
+fb=ia&1;
+gb=r8(a+48);
+if(r8(a+72)>gb){
+Ka=gb;
+La=eb;
+Ma=1;
+Na=fb;
 goto L17;}
-lb=make_ready_17a(a+40);
-if(!(lb&1)){
-Aa=0;
-Ba=0;
+hb=make_ready_17a(a+40);
+if(!(hb&1)){
 Ca=0;
 Da=0;
+Ea=0;
+Fa=0;
 goto L16;}
-Na=ib;
-Oa=0;
-Pa=jb;
+Pa=eb;
+Qa=1;
+Ra=fb;
+break;
+case 3:if(ma)goto L15;
+w8(a+88,la-1);
+if(r8(a+32)-r8(a+8)<6){
+ib=make_ready_8e3(a,6,128);
+if(!(ib&1)){
+Ca=0;
+Da=0;
+Ea=0;
+Fa=0;
+goto L16;}}
+jb=extend_from_slice_169(a,(u8*)t_f603,6);
+if(jb&1){
+Ca=0;
+Da=0;
+Ea=0;
+Fa=0;
+goto L16;}
+kb=r8(a+8);
+lb=ia&1;
+mb=r8(a+48);
+if(r8(a+72)>mb){
+Ka=mb;
+La=kb;
+Ma=0;
+Na=lb;
+goto L17;}
+nb=make_ready_17a(a+40);
+if(!(nb&1)){
+Ca=0;
+Da=0;
+Ea=0;
+Fa=0;
+goto L16;}
+Pa=kb;
+Qa=0;
+Ra=lb;
 break;
 default:NEVER;
 }
-Ia=r8(a+48);
-Ja=Na;
-Ka=Oa;
+Ka=r8(a+48);
 La=Pa;
-L17:mb=rp(a+40)+Ia*12;
-x4(mb,pa);
-x4(mb+4,Ja);
-mb[8]=Ka;
-mb[9]=La;
-x2(mb+10,0);
-w8(a+48,Ia+1);
-Aa=La;
-Ba=Ka;
-Ca=2;
-Da=1;
-L16:*t=Da;
-t[1]=Ca;
-t[2]=Ba;
-t[3]=Aa;
-L15:nb=t[1];
-ob=t[2];
-pb=t[3];
-*A=*t;
-A[1]=nb;
-A[2]=ob;
-A[3]=pb;}
+Ma=Qa;
+Na=Ra;
+L17:ob=rp(a+40)+Ka*12;
+x4(ob,qa);
+x4(ob+4,La);
+ob[8]=Ma;
+ob[9]=Na;
+x2(ob+10,0);
+w8(a+48,Ka+1);
+Ca=Na;
+Da=Ma;
+Ea=2;
+Fa=1;
+L16:*u=Fa;
+u[1]=Ea;
+u[2]=Da;
+u[3]=Ca;
+L15:pb=u[1];
+qb=u[2];
+rb=u[3];
+*B=*u;
+B[1]=pb;
+B[2]=qb;
+B[3]=rb;}
 L14:break;
-case 3:qb=ia&1;
+case 3:sb=ja&1;
 w4(k,0);
-rb=r8(a+176);
-if(rb<c){
-sb=*(b+rb);
-switch(sb){
+tb=r8(a+176);
+if(tb<c){
+ub=*(b+tb);
+switch(ub){
 case 69:w4(i,0);
-w8(a+176,rb+1);
-tb=r8(a+88);
-if(tb==0){
-ub=0;
-vb=0;
+w8(a+176,tb+1);
+vb=r8(a+88);
+if(vb==0){
 wb=0;
-xb=0;}
+xb=0;
+yb=0;
+zb=0;}
 else{
-if(*(rp(a+80)+(i64)(tb*44)-44)==23){
-if(qb){
-ub=0;
-vb=0;
+if(*(rp(a+80)+(i64)(vb*44)-44)==27){
+if(sb){
 wb=0;
-xb=0;}
+xb=0;
+yb=0;
+zb=0;}
 else{
-w8(a+88,tb-1);
-ub=0;
-vb=0;
-wb=3;
-xb=1;}}
+w8(a+88,vb-1);
+wb=0;
+xb=0;
+yb=3;
+zb=1;}}
 else{
 z32(j);
 close_list_0b3(i,a,b,c,j);
-ub=i[3];
-vb=i[2];
-wb=i[1];
-xb=*i;}}
-*A=xb;
-A[1]=wb;
-A[2]=vb;
-A[3]=ub;
+wb=i[3];
+xb=i[2];
+yb=i[1];
+zb=*i;}}
+*B=zb;
+B[1]=yb;
+B[2]=xb;
+B[3]=wb;
 goto L18;
-case 74:yb=rb+1;
-if(yb<c){
-if(*(b+yb)==69){
-empty_pack_06f(k,a,b,c,qb);
-*A=*k;
-A[1]=k[1];
-A[2]=k[2];
-A[3]=k[3];
+case 74:Ab=tb+1;
+if(Ab<c){
+if(*(b+Ab)==69){
+empty_pack_06f(k,a,b,c,sb);
+*B=*k;
+B[1]=k[1];
+B[2]=k[2];
+B[3]=k[3];
 goto L18;}}
-if(!qb){
-zb=74;
+if(!sb){
+Bb=74;
 goto L19;}
 first_pack_117(k,a,b,c);
-*A=*k;
-A[1]=k[1];
-A[2]=k[2];
-A[3]=k[3];
+*B=*k;
+B[1]=k[1];
+B[2]=k[2];
+B[3]=k[3];
 goto L18;
-default:Ab=sb;
+default:Cb=ub;
 break;}}
-else Ab=0;
-if(qb){
-Bb=Ab;
+else Cb=0;
+if(sb){
+Db=Cb;
 goto L20;}
-zb=Ab;
-L19:Cb=r8(a+8);
-if(r8(a+32)-Cb<2){
-Db=make_ready_8e3(a,2,128);
-if(!(Db&1)){
-w4(A,0);
+Bb=Cb;
+L19:Eb=r8(a+8);
+if(r8(a+32)-Eb<2){
+Fb=make_ready_8e3(a,2,128);
+if(!(Fb&1)){
+w4(B,0);
 goto L18;}
-Eb=r8(a+8);}
-else Eb=Cb;
-*(rp(a)+Eb)=44;
-*(rp(a)+(i64)Eb+1)=32;
-w8(a+8,Eb+2);
-Bb=zb;
-L20:switch(Bb){
-case 88:Fb=r8(a+176);
-if(Fb==18446744073709551615u){
-w4(A,0);
+Gb=r8(a+8);}
+else Gb=Eb;
+*(rp(a)+Gb)=44;
+*(rp(a)+(i64)Gb+1)=32;
+w8(a+8,Gb+2);
+Db=Bb;
+L20:switch(Db){
+case 88:Hb=r8(a+176);
+if(Hb==18446744073709551615u){
+w4(B,0);
 goto L18;}
-Gb=Fb+1;
-if(Gb<c){
-if(*(b+Gb)==115){
-begin_level_d05(k,a,b,c);
-*A=*k;
-A[1]=k[1];
-A[2]=k[2];
-A[3]=k[3];
-goto L18;}}
+Ib=Hb+1;
+if(Ib<c){
+switch(*(b+Ib)){
+case 115:begin_level_d05(k,a,b,c);
+*B=*k;
+B[1]=k[1];
+B[2]=k[2];
+B[3]=k[3];
+goto L18;
+case 84:parameter_argument_7c8(k,a,b,c);
+*B=*k;
+B[1]=k[1];
+B[2]=k[2];
+B[3]=k[3];
+goto L18;
+default:break;}}
 break;
-case 76:if(qb){
+case 76:if(sb){
 first_literal_618(k,a,b,c);
-*A=*k;
-A[1]=k[1];
-A[2]=k[2];
-A[3]=k[3];
+*B=*k;
+B[1]=k[1];
+B[2]=k[2];
+B[3]=k[3];
 goto L18;}
 literal_9d0(l,a,b,c);
-Hb=l[3];
-Ib=l[2];
-Jb=l[1];
-Kb=*l;
+Jb=l[3];
+Kb=l[2];
+Lb=l[1];
+Mb=*l;
 goto L21;
-case 74:Lb=r8(a+88);
-if(Lb==0){
-Hb=0;
-Ib=0;
+case 74:Nb=r8(a+88);
+if(Nb==0){
 Jb=0;
 Kb=0;
+Lb=0;
+Mb=0;
 goto L21;}
-Mb=rp(a+80);
-Nb=Lb*44;
-if(*(Mb+(i64)Nb-44)==23){
-Hb=0;
-Ib=0;
+Ob=rp(a+80);
+Pb=Nb*44;
+if(*(Ob+(i64)Pb-44)==27){
 Jb=0;
 Kb=0;
+Lb=0;
+Mb=0;
 goto L21;}
-Ob=r8(a+176);
-if(Ob==18446744073709551615u){
-Hb=0;
-Ib=0;
+Qb=r8(a+176);
+if(Qb==18446744073709551615u){
 Jb=0;
 Kb=0;
+Lb=0;
+Mb=0;
 goto L21;}
-w8(a+176,Ob+1);
-if(r8(a+112)>Lb){
-Pb=Nb;
-Qb=Mb;
-Rb=Lb;}
+w8(a+176,Qb+1);
+if(r8(a+112)>Nb){
+Rb=Pb;
+Sb=Ob;
+Tb=Nb;}
 else{
-Sb=make_ready_9a1(a+80);
-if(!(Sb&1)){
-Hb=0;
-Ib=0;
+Ub=make_ready_9a1(a+80);
+if(!(Ub&1)){
 Jb=0;
 Kb=0;
+Lb=0;
+Mb=0;
 goto L21;}
-Tb=r8(a+88);
-Pb=Tb*44;
-Qb=rp(a+80);
-Rb=Tb;}
-Ub=Qb+Pb;
-*Ub=23;
-z43(Ub+1);
-w8(a+88,Rb+1);
-Hb=0;
-Ib=1;
-Jb=3;
+Vb=r8(a+88);
+Rb=Vb*44;
+Sb=rp(a+80);
+Tb=Vb;}
+Wb=Sb+Rb;
+*Wb=27;
+z43(Wb+1);
+w8(a+88,Tb+1);
+Jb=0;
 Kb=1;
+Lb=3;
+Mb=1;
 goto L21;
 default:break;}
-if(qb){
-Vb=r8(a+88);
-if(Vb==0){
-Wb=0;
-Xb=0;
+if(sb){
+Xb=r8(a+88);
+if(Xb==0){
 Yb=0;
-Zb=1;}
+Zb=0;
+ac=0;
+bc=1;}
 else{
-ac=rp(a+80);
-bc=Vb*44;
-cc=ac+(i64)bc;
-switch(cc[-44]){
-case 5:if(cc[-28]==0){
-Wb=0;
-Xb=0;
+cc=rp(a+80);
+dc=Xb*44;
+ec=cc+(i64)dc;
+switch(ec[-44]){
+case 5:if(ec[-28]==0){
 Yb=0;
-Zb=1;
+Zb=0;
+ac=0;
+bc=1;
 goto L22;}
 break;
 case 7:break;
-case 0:case 1:case 2:case 3:case 4:case 6:case 8:case 9:case 10:case 11:case 12:case 13:case 14:case 15:case 16:case 17:case 18:case 19:case 20:case 21:case 22:case 23:case 24:case 25:Wb=0;
-Xb=0;
-Yb=0;
-Zb=1;
+case 0:case 1:case 2:case 3:case 4:case 6:case 8:case 9:case 10:case 11:case 12:case 13:case 14:case 15:case 16:case 17:case 18:case 19:case 20:case 21:case 22:case 23:case 24:case 25:case 26:case 27:case 28:case 29:Yb=0;
+Zb=0;
+ac=0;
+bc=1;
 goto L22;
 default:NEVER;
 }
-dc=is_element_at_f4e(b,c,r8(a+176));
-if(dc){
-Wb=0;
-Xb=0;
-Yb=0;
-Zb=1;}
-else{
-ec=r8(a+8);
-if(r8(a+112)>Vb){
-fc=bc;
-gc=ac;
-hc=Vb;}
-else{
-ic=make_ready_9a1(a+80);
-if(!(ic&1)){
-Wb=0;
-Xb=0;
+fc=is_element_at_f4e(b,c,r8(a+176));
+if(fc){
 Yb=0;
 Zb=0;
+ac=0;
+bc=1;}
+else{
+gc=r8(a+8);
+if(r8(a+112)>Xb){
+hc=dc;
+ic=cc;
+jc=Xb;}
+else{
+kc=make_ready_9a1(a+80);
+if(!(kc&1)){
+Yb=0;
+Zb=0;
+ac=0;
+bc=0;
 goto L22;}
-jc=r8(a+88);
-fc=jc*44;
-gc=rp(a+80);
-hc=jc;}
-kc=gc+fc;
-*kc=22;
-kc[1]=0;
-x2(kc+2,0);
-x4(kc+4,ec);
-z36(kc+8);
-w8(a+88,hc+1);
+lc=r8(a+88);
+hc=lc*44;
+ic=rp(a+80);
+jc=lc;}
+mc=ic+hc;
+*mc=25;
+mc[1]=0;
+x2(mc+2,0);
+x4(mc+4,gc);
+z36(mc+8);
+w8(a+88,jc+1);
 w4(h,0);
-lc=r8(a+176);
-if(lc<c){
-if(*(b+lc)==88){
+nc=r8(a+176);
+if(nc<c){
+if(*(b+nc)==88){
 begin_address_4df(h,a,b,c);
-mc=h[3];
-nc=h[2];
-oc=h[1];
-pc=*h;}
+oc=h[3];
+pc=h[2];
+qc=h[1];
+rc=*h;}
 else{
-mc=0;
-nc=0;
 oc=0;
-pc=1;}}
+pc=0;
+qc=0;
+rc=1;}}
 else{
-mc=0;
-nc=0;
 oc=0;
-pc=1;}
-Wb=mc;
-Xb=nc;
+pc=0;
+qc=0;
+rc=1;}
 Yb=oc;
-Zb=pc;}}
-L22:*A=Zb;
-A[1]=Yb;
-A[2]=Xb;
-A[3]=Wb;
+Zb=pc;
+ac=qc;
+bc=rc;}}
+L22:*B=bc;
+B[1]=ac;
+B[2]=Zb;
+B[3]=Yb;
 goto L18;}
-Hb=0;
-Ib=0;
 Jb=0;
-Kb=1;
-L21:*A=Kb;
-A[1]=Jb;
-A[2]=Ib;
-A[3]=Hb;
+Kb=0;
+Lb=0;
+Mb=1;
+L21:*B=Mb;
+B[1]=Lb;
+B[2]=Kb;
+B[3]=Jb;
 L18:break;
 case 4:w4(f,0);
 z20(g+20);
 if(!(a[136]&1)){
-qc=r4(a+120);
-rc=a[139];
-sc=r8(a+8);
-tc=r8(a+48);
-if(r8(a+72)>tc)uc=tc;
+sc=r4(a+120);
+tc=a[139];
+uc=r8(a+8);
+vc=r8(a+48);
+if(r8(a+72)>vc)wc=vc;
 else{
-vc=make_ready_17a(a+40);
-if(!(vc&1)){
-w4(A,0);
+xc=make_ready_17a(a+40);
+if(!(xc&1)){
+w4(B,0);
 goto L23;}
-uc=r8(a+48);}
-wc=rp(a+40)+uc*12;
-x4(wc,qc);
-x4(wc+4,sc);
-wc[8]=0;
-wc[9]=rc;
-x2(wc+10,0);
-w8(a+48,uc+1);}
-xc=r8(a+176);
-if(xc<c){
-if(*(b+xc)==73){
+wc=r8(a+48);}
+yc=rp(a+40)+wc*12;
+x4(yc,sc);
+x4(yc+4,uc);
+yc[8]=0;
+yc[9]=tc;
+x2(yc+10,0);
+w8(a+48,wc+1);}
+zc=r8(a+176);
+if(zc<c){
+if(*(b+zc)==73){
 memcpy(g,a+120,20);
-yc=r8(a+8);
-if(r8(a+32)>yc)zc=yc;
+Ac=r8(a+8);
+if(r8(a+32)>Ac)Bc=Ac;
 else{
-Ac=make_ready_8e3(a,1,16);
-if(!(Ac&1)){
-Bc=0;
-Cc=0;
+Cc=make_ready_8e3(a,1,16);
+if(!(Cc&1)){
+Dc=0;
+Ec=0;
 goto L24;}
-zc=r8(a+8);}
-*(rp(a)+zc)=60;
-w8(a+8,zc+1);
-Dc=r8(a+176);
-if(Dc==18446744073709551615u){
-Bc=0;
-Cc=0;}
+Bc=r8(a+8);}
+*(rp(a)+Bc)=60;
+w8(a+8,Bc+1);
+Fc=r8(a+176);
+if(Fc==18446744073709551615u){
+Dc=0;
+Ec=0;}
 else{
-w8(a+176,Dc+1);
-Ec=r8(a+88);
-if(r8(a+112)>Ec)Fc=Ec;
+w8(a+176,Fc+1);
+Gc=r8(a+88);
+if(r8(a+112)>Gc)Hc=Gc;
 else{
-Gc=make_ready_9a1(a+80);
-if(!(Gc&1)){
-Bc=0;
-Cc=0;
+Ic=make_ready_9a1(a+80);
+if(!(Ic&1)){
+Dc=0;
+Ec=0;
 goto L24;}
-Fc=r8(a+88);}
-Hc=rp(a+80)+Fc*44;
-*Hc=6;
-Hc[1]=0;
-x2(Hc+2,0);
-memcpy(Hc+4,g,40);
-w8(a+88,Fc+1);
-Bc=3;
-Cc=1;}
-L24:*A=Cc;
-A[1]=Bc;
-A[2]=Cc;
-A[3]=0;
+Hc=r8(a+88);}
+Jc=rp(a+80)+Hc*44;
+*Jc=6;
+Jc[1]=0;
+x2(Jc+2,0);
+memcpy(Jc+4,g,40);
+w8(a+88,Hc+1);
+Dc=3;
+Ec=1;}
+L24:*B=Ec;
+B[1]=Dc;
+B[2]=Ec;
+B[3]=0;
 goto L23;}}
 components_at_af8(f,a,b,c);
-*A=*f;
-A[1]=f[1];
-A[2]=f[2];
-A[3]=f[3];
+*B=*f;
+B[1]=f[1];
+B[2]=f[2];
+B[3]=f[3];
 L23:break;
 case 5:w4(e,0);
-Ic=r8(a+176);
-if(Ic<c){
-if(*(b+Ic)==69){
+Kc=r8(a+176);
+if(Kc<c){
+if(*(b+Kc)==69){
 nest_ended_003(e,a,b,c);
-*A=*e;
-A[1]=e[1];
-A[2]=e[2];
-A[3]=e[3];
+*B=*e;
+B[1]=e[1];
+B[2]=e[2];
+B[3]=e[3];
 goto L25;}}
 if(!(a[136]&1)){
-Jc=r4(a+120);
-Kc=a[139];
-Lc=r8(a+8);
-Mc=r8(a+48);
-if(r8(a+72)>Mc)Nc=Mc;
+Lc=r4(a+120);
+Mc=a[139];
+Nc=r8(a+8);
+Oc=r8(a+48);
+if(r8(a+72)>Oc)Pc=Oc;
 else{
-Oc=make_ready_17a(a+40);
-if(!(Oc&1)){
-w4(A,0);
+Qc=make_ready_17a(a+40);
+if(!(Qc&1)){
+w4(B,0);
 goto L25;}
-Nc=r8(a+48);}
-Pc=rp(a+40)+Nc*12;
-x4(Pc,Jc);
-x4(Pc+4,Lc);
-Pc[8]=0;
-Pc[9]=Kc;
-x2(Pc+10,0);
-w8(a+48,Nc+1);}
+Pc=r8(a+48);}
+Rc=rp(a+40)+Pc*12;
+x4(Rc,Lc);
+x4(Rc+4,Nc);
+Rc[8]=0;
+Rc[9]=Mc;
+x2(Rc+10,0);
+w8(a+48,Pc+1);}
 components_at_af8(e,a,b,c);
-*A=*e;
-A[1]=e[1];
-A[2]=e[2];
-A[3]=e[3];
+*B=*e;
+B[1]=e[1];
+B[2]=e[2];
+B[3]=e[3];
 L25:break;
-case 6:components_at_af8(A,a,b,c);
+case 6:components_at_af8(B,a,b,c);
 break;
 default:NEVER;
 }
-Qc=ga+1;
-if(*A!=1||Qc==fa){
-B=0;
+Sc=ha+1;
+if(*B!=1||Sc==ga){
+C=0;
 goto L1;}
-ga=Qc;
-ha=A[3];
-ia=A[2];
-ja=A[1];
+ha=Sc;
+ia=B[3];
+ja=B[2];
+ka=B[1];
 goto L13;}}}
-B=0;}
-L1:return B;
+C=0;}
+L1:return C;
 }
 
 /* cpp_direct::names::are_few_named */
@@ -48590,13 +48827,14 @@ L2:return;
 /* cpp_direct::direct::Direct::nest_at */
 static void nest_at_dce(u8* a,u8* b,u8* c,u64 d,u8* e)
 {
-A16 u8 f[44],g[24],h[40],i[40],j[40],k[40],l[16],m[24];
-u64 n,s,u,w,A,C,D,E,H,K,M,N,O,P,Q,R,U,aa,ca,da,fa,ga,ha,la,oa,sa,ta,wa,xa,za,Aa,Ba,Ea,Fa,Ia,Ja,La,Ma,Na,Ta,Wa,Xa,Za,ab,bb,eb,gb,ib,jb,kb,rb,sb,tb,xb,yb,Ab,Bb,Cb,Eb,Fb,Gb,Jb,Lb,Nb,Ob,Pb,Qb,Rb,Sb,Vb,Xb,Zb,bc,cc,ec,gc,hc,jc,lc,mc,oc,tc,vc,wc,yc,zc,Ac;
-u8 o,p,r,v,x,y,z,B,I,L,S,V,ba,ea,ma,na,qa,ua,ya,Ca,Ga,Ka,Oa,Qa,Ra,Sa,Va,Ya,hb,lb,pb,vb,wb,zb,Db,Hb,Mb,Tb,Wb,Yb,ac,dc,fc,ic,kc,nc,uc,xc;
+u8 f[34];
+A16 u8 g[24],h[40],i[40],j[40],k[40],l[16],m[24];
+u64 n,s,u,w,A,C,D,E,H,K,M,N,O,P,Q,R,U,aa,ca,da,fa,ga,ha,la,oa,sa,ta,wa,xa,za,Aa,Ba,Ea,Fa,Ia,Ja,La,Ma,Na,Ta,Wa,Xa,Za,ab,bb,eb,gb,ib,jb,kb,rb,sb,tb,vb,wb,xb,Ab,Cb,Eb,Fb,Gb,Hb,Ib,Jb,Mb,Ob,Qb,Sb,Tb,Vb,Xb,Yb,ac,cc,dc,fc,kc,mc,nc,pc,qc,rc;
+u8 o,p,r,v,x,y,z,B,I,L,S,V,ba,ea,ma,na,qa,ua,ya,Ca,Ga,Ka,Oa,Qa,Ra,Sa,Va,Ya,hb,lb,pb,qb,ub,yb,Db,Kb,Nb,Pb,Rb,Ub,Wb,Zb,bc,ec,lc,oc;
 u16 q;
-u32 t,J,ka,pa,ra,nb,ob,Kb;
-u8 *F,*G,*T,*Z,*ia,*ja,*va,*Da,*Ha,*Pa,*Ua,*cb,*db,*fb,*mb,*qb,*ub,*Ib,*Ub,*sc,*Bc,*Cc;
-s_p_64 W,X,Y,pc,qc,rc;
+u32 t,J,ka,pa,ra,nb,ob,Bb;
+u8 *F,*G,*T,*Z,*ia,*ja,*va,*Da,*Ha,*Pa,*Ua,*cb,*db,*fb,*mb,*zb,*Lb,*jc,*sc,*tc;
+s_p_64 W,X,Y,gc,hc,ic;
 n=r8(b+176);
 if(n<d){
 o=*e;
@@ -49029,52 +49267,20 @@ nb=r4(l+4);
 ob=r4(l+8);
 pb=l[13];
 if(pb&1){
+z34(f);
 if(o!=0){
 Qa=0;
 Ra=0;
 Sa=0;
 goto L6;}
-qb=rp(b+80);
-rb=16;
-sb=r8(b+88);
-L8:if(sb!=0){
-tb=sb-1;
-ub=qb+(i64)(tb*44);
-vb=*ub;
-wb=ub[16];
-switch(vb){
-case 0:case 1:case 2:case 3:case 4:case 8:break;
-case 5:if(wb!=0)goto L9;
-break;
-case 6:if(wb!=0)goto L9;
-break;
-case 7:case 9:case 10:case 11:case 12:case 13:case 14:case 15:case 16:case 17:case 18:case 19:case 20:case 21:case 22:case 23:case 24:case 25:memcpy(f+4,ub+4,40);
-switch(vb){
-case 9:case 10:case 15:case 16:xb=4;
-break;
-case 11:case 13:xb=8;
-break;
-case 25:case 24:case 23:case 22:case 21:case 20:case 19:case 7:case 8:case 12:case 14:case 17:case 18:goto L9;
-default:NEVER;
-}
-if(r2(f+4+xb)!=0)goto L10;
+argument_dbb(f,b);
+if(!(*f==1&&r2(f+2)!=0)){
 Qa=0;
 Ra=0;
 Sa=0;
-goto L6;
-default:NEVER;
-}
-yb=rb-1;
-if(yb!=0){
-rb=yb;
-sb=tb;
-goto L8;}}
-L9:Qa=0;
-Ra=0;
-Sa=0;
-goto L6;}
-L10:zb=repeat_28b(b,nb,ob);
-if(zb&1){
+goto L6;}}
+qb=repeat_28b(b,nb,ob);
+if(qb&1){
 x4(b+120,t);
 x4(b+124,t);
 x4(b+128,t);
@@ -49087,45 +49293,45 @@ b[138]=0;
 b[139]=pb&1;
 z20(k+20);
 if(o==0){
-Ab=r8(b+176);
-if(Ab<d){
-if(*(c+Ab)==73){
+rb=r8(b+176);
+if(rb<d){
+if(*(c+rb)==73){
 memcpy(k,b+120,20);
-Bb=r8(b+8);
-if(r8(b+32)>Bb)Cb=Bb;
+sb=r8(b+8);
+if(r8(b+32)>sb)tb=sb;
 else{
-Db=make_ready_8e3(b,1,16);
-if(!(Db&1)){
+ub=make_ready_8e3(b,1,16);
+if(!(ub&1)){
 Qa=0;
 Ra=0;
 Sa=0;
 goto L6;}
-Cb=r8(b+8);}
-*(rp(b)+Cb)=60;
-w8(b+8,Cb+1);
-Eb=r8(b+176);
-if(Eb==18446744073709551615u){
+tb=r8(b+8);}
+*(rp(b)+tb)=60;
+w8(b+8,tb+1);
+vb=r8(b+176);
+if(vb==18446744073709551615u){
 Qa=0;
 Ra=0;
 Sa=0;}
 else{
-w8(b+176,Eb+1);
-Fb=r8(b+88);
-if(r8(b+112)>Fb)Gb=Fb;
+w8(b+176,vb+1);
+wb=r8(b+88);
+if(r8(b+112)>wb)xb=wb;
 else{
-Hb=make_ready_9a1(b+80);
-if(!(Hb&1)){
+yb=make_ready_9a1(b+80);
+if(!(yb&1)){
 Qa=0;
 Ra=0;
 Sa=0;
 goto L6;}
-Gb=r8(b+88);}
-Ib=rp(b+80)+Gb*44;
-*Ib=5;
-Ib[1]=0;
-x2(Ib+2,0);
-memcpy(Ib+4,k,40);
-w8(b+88,Gb+1);
+xb=r8(b+88);}
+zb=rp(b+80)+xb*44;
+*zb=5;
+zb[1]=0;
+x2(zb+2,0);
+memcpy(zb+4,k,40);
+w8(b+88,xb+1);
 Qa=1;
 Ra=3;
 Sa=1;}}
@@ -49153,110 +49359,110 @@ L6:*a=Sa;
 a[1]=Ra;
 a[2]=Qa;
 a[3]=0;
-goto L11;}
-Jb=r8(b+8);
+goto L8;}
+Ab=r8(b+8);
 z24(m);
 if((u8)(r-58)>=247){
-Kb=Jb;
-Lb=n+1;
-if(Lb<d){
-Mb=*(c+Lb)-48;
-if(Mb<10){
-Nb=n+2;
-if(Nb<d){
-if((u8)(*(c+Nb)-48)<10){
+Bb=Ab;
+Cb=n+1;
+if(Cb<d){
+Db=*(c+Cb)-48;
+if(Db<10){
+Eb=n+2;
+if(Eb<d){
+if((u8)(*(c+Eb)-48)<10){
 long_name_at_8ad(m,c,d,n);
-if(*m!=1)goto L12;
-Ob=r8(m+16);
-Pb=r8(m+8);
-goto L13;}}
-Qb=(u64)Mb+(u8)((u8)(r*10)+32);
-if(d-Nb<Qb)goto L14;
-if((u8)(*(c+(i64)Nb)-48)<10)goto L14;
-Rb=Nb;
-Sb=Qb+Nb;
-goto L15;}}
-Tb=r-48;
-if(d-Lb<Tb)goto L14;
-if((u8)(*(c+(i64)Lb)-48)<10)goto L14;
-Rb=Lb;
-Sb=Lb+Tb;
-L15:Ob=Sb;
-Pb=Rb;
-L13:w8(b+176,Ob);
-Ub=c+(i64)Pb;
-Vb=Ob-Pb;
-if(Ob!=Pb){
-if(Vb<10||*Ub!=95)goto L16;
+if(*m!=1)goto L9;
+Fb=r8(m+16);
+Gb=r8(m+8);
+goto L10;}}
+Hb=(u64)Db+(u8)((u8)(r*10)+32);
+if(d-Eb<Hb)goto L11;
+if((u8)(*(c+(i64)Eb)-48)<10)goto L11;
+Ib=Eb;
+Jb=Hb+Eb;
+goto L12;}}
+Kb=r-48;
+if(d-Cb<Kb)goto L11;
+if((u8)(*(c+(i64)Cb)-48)<10)goto L11;
+Ib=Cb;
+Jb=Cb+Kb;
+L12:Fb=Jb;
+Gb=Ib;
+L10:w8(b+176,Fb);
+Lb=c+(i64)Gb;
+Mb=Fb-Gb;
+if(Fb!=Gb){
+if(Mb<10||*Lb!=95)goto L13;
+Nb=0;
+Ob=0;
+L14:Pb=Nb||*((u8*)t_35ad+(i64)Ob)!=*(Lb+(i64)Ob);
+Qb=Ob+1;
+if(Qb!=8){
+Nb=Pb;
+Ob=Qb;
+goto L14;}
+Rb=0;
+Sb=0;
+L15:Tb=Sb+2;
+Ub=Rb||*((u8*)t_35ad+(i64)Tb)!=*(Lb+(i64)Tb);
+Vb=Sb+1;
+if(Vb!=8){
+Rb=Ub;
+Sb=Vb;
+goto L15;}
 Wb=0;
 Xb=0;
-L17:Yb=Wb||*((u8*)t_35ad+(i64)Xb)!=*(Ub+(i64)Xb);
-Zb=Xb+1;
-if(Zb!=8){
-Wb=Yb;
-Xb=Zb;
-goto L17;}
-ac=0;
+L16:Yb=Xb+2;
+Zb=Wb||*((u8*)t_35ad+(i64)Yb)!=*(Lb+(i64)Yb);
+ac=Xb+1;
+if(ac!=8){
+Wb=Zb;
+Xb=ac;
+goto L16;}
 bc=0;
-L18:cc=bc+2;
-dc=ac||*((u8*)t_35ad+(i64)cc)!=*(Ub+(i64)cc);
-ec=bc+1;
-if(ec!=8){
-ac=dc;
+cc=0;
+L17:dc=cc+2;
+ec=bc||*((u8*)t_35ad+(i64)dc)!=*(Lb+(i64)dc);
+fc=cc+1;
+if(fc!=8){
 bc=ec;
-goto L18;}
-fc=0;
-gc=0;
-L19:hc=gc+2;
-ic=fc||*((u8*)t_35ad+(i64)hc)!=*(Ub+(i64)hc);
-jc=gc+1;
-if(jc!=8){
-fc=ic;
-gc=jc;
-goto L19;}
-kc=0;
-lc=0;
-L20:mc=lc+2;
-nc=kc||*((u8*)t_35ad+(i64)mc)!=*(Ub+(i64)mc);
-oc=lc+1;
-if(oc!=8){
-kc=nc;
-lc=oc;
-goto L20;}
-if(!(((Yb|dc)|ic)|nc)){
-pc=(s_p_64){(u8*)t_62ff,21};
-goto L21;}}
-L16:qc=(s_p_64){0};qc.f0=Ub;
-rc=qc;rc.f1=Vb;
-pc=rc;
-L21:sc=pc.f0;
-tc=pc.f1;
-if(r8(b+32)-Jb<tc){
-uc=make_ready_8e3(b,tc,128);
-if(!(uc&1))goto L12;
-vc=r8(b+8);}
-else vc=Jb;
-wc=r8(b+16);
-if(tc>wc-vc){
-xc=grow_amortized_2b6(b,tc);
-if(!xc)goto L12;
-yc=r8(b+16);
-zc=r8(b+8);}
+cc=fc;
+goto L17;}
+if(!(((Pb|Ub)|Zb)|ec)){
+gc=(s_p_64){(u8*)t_62ff,21};
+goto L18;}}
+L13:hc=(s_p_64){0};hc.f0=Lb;
+ic=hc;ic.f1=Mb;
+gc=ic;
+L18:jc=gc.f0;
+kc=gc.f1;
+if(r8(b+32)-Ab<kc){
+lc=make_ready_8e3(b,kc,128);
+if(!(lc&1))goto L9;
+mc=r8(b+8);}
+else mc=Ab;
+nc=r8(b+16);
+if(kc>nc-mc){
+oc=grow_amortized_2b6(b,kc);
+if(!oc)goto L9;
+pc=r8(b+16);
+qc=r8(b+8);}
 else{
-yc=wc;
-zc=vc;}
-Ac=zc+tc;
-Bc=rp(b);
+pc=nc;
+qc=mc;}
+rc=qc+kc;
+sc=rp(b);
 z16(b+8);
-Cc=Bc+(i64)zc;
-if((u64)Cc-(u64)sc<tc)copy_bits_4f4(sc,Cc,tc);
-else memmove(Cc,sc,tc);
-wp(b,Bc);
-w8(b+8,Ac);
-w8(b+16,yc);
-w4(b+120,Kb);
-w4(b+124,Kb);
-w4(b+128,Ac);
+tc=sc+(i64)qc;
+if((u64)tc-(u64)jc<kc)copy_bits_4f4(jc,tc,kc);
+else memmove(tc,jc,kc);
+wp(b,sc);
+w8(b+8,rc);
+w8(b+16,pc);
+w4(b+120,Bb);
+w4(b+124,Bb);
+w4(b+128,rc);
 b[132]=o;
 b[133]=p;
 w2(b+134,q);
@@ -49268,9 +49474,9 @@ b[139]=0;
 a[1]=4;
 a[2]=0;
 a[3]=0;
-goto L11;}}
-L14:L12:x4(a,0);
-L11:return;
+goto L8;}}
+L11:L9:x4(a,0);
+L8:return;
 }
 
 /* cpp_direct::direct::Direct::tag */
@@ -49657,6 +49863,61 @@ memcpy(a+4,e,12);
 goto L5;}}
 L1:z16(a);}
 L5:return;
+}
+
+/* cpp_direct::direct::Direct::argument */
+static void argument_dbb(u8* a,u8* b)
+{
+u8 c[32],d[32];
+A16 u8 e[44];
+u8 *f,*j;
+u64 g,h,i,m,o;
+u8 k,l;
+u16 n;
+f=rp(b+80);
+g=16;
+h=r8(b+88);
+L1:if(h==0)z34(a);
+else{
+i=h-1;
+j=f+(i64)(i*44);
+k=*j;
+l=j[16];
+switch(k){
+case 0:case 1:case 2:case 3:case 4:case 8:goto L2;
+case 5:if(l==0)goto L2;
+break;
+case 6:if(l==0)goto L2;
+break;
+case 7:case 9:case 10:case 11:case 12:case 13:case 14:case 15:case 16:case 17:case 18:case 19:case 20:case 21:case 22:case 23:case 24:case 25:case 26:case 27:case 28:case 29:memcpy(e+4,j+4,40);
+z32(c);
+switch(k){
+case 9:case 10:case 15:case 16:m=4;
+break;
+case 11:case 13:m=8;
+break;
+case 29:case 28:case 27:case 26:case 25:case 24:case 23:case 7:case 8:case 12:case 14:case 17:case 18:case 19:case 20:case 21:case 22:n=0;
+goto L3;
+default:NEVER;
+}
+memcpy(c,e+4+m,32);
+n=1;
+goto L3;
+default:NEVER;
+}
+z32(c);
+n=0;
+L3:memcpy(d,c,32);
+x2(a,n);
+memcpy(a+2,d,32);
+goto L4;
+L2:o=g-1;
+if(o!=0){
+g=o;
+h=i;
+goto L1;}
+z34(a);}
+L4:return;
 }
 
 /* sym_direct::bounded::Bounded+u8::repeat */
@@ -50368,350 +50629,1149 @@ L1:return;
 /* cpp_direct::direct::Direct::end */
 static void end_05d(u8* a,u8* b,u8* c,u64 d,u8 e)
 {
-A16 u8 f[24],g[4],h[4];
-u64 i,k,l,n,o,p,s,u,v,x,y,z,C,E,F,H,I,J,M,O,P,R,S,T,W,Y,Z,ba,ca,da,ha,ia,ja,la,qa,ra,ta,va,wa,xa,ya,za,Aa,Da,Ja,La,Ma,Oa,Pa,Qa,Ta,Ua,Wa,Xa,Ya,Za,ab,bb;
-u8 j,m,t,w,D,G,N,Q,X,aa,ga,ka,ma,na,oa,pa,sa,ua,Ba,Ea,Ka,Na,Va,cb,db,eb,fb;
-u8 *q,*r,*A,*B,*K,*L,*U,*V,*ea,*fa,*Ca,*Ia,*Ra,*Sa;
-s_p_64 Fa,Ga,Ha;
+A16 u8 f[4],g[4];
+u64 h,j,k,m,n,o,r,t,u,w,x,y,B,D,E,G,H,I,L,N,O,Q,R,S,V,X,Y,aa,ba,ca,ga,ha;
+u8 i,l,s,v,C,F,M,P,W,Z,fa,ia,ja,ka,la,ma,na,oa,pa;
+u8 *p,*q,*z,*A,*J,*K,*T,*U,*da,*ea;
 switch(e){
 case 0:goto L1;
-case 1:i=r8(b+8);
-if(r8(b+32)-i<6){
-j=make_ready_8e3(b,6,128);
-if(!(j&1))break;
-k=r8(b+8);}
-else k=i;
-l=r8(b+16);
-if(l-k<6){
-m=grow_amortized_2b6(b,6);
-if(!m)break;
-n=r8(b+16);
-o=r8(b+8);}
+case 1:h=r8(b+8);
+if(r8(b+32)-h<6){
+i=make_ready_8e3(b,6,128);
+if(!(i&1))break;
+j=r8(b+8);}
+else j=h;
+k=r8(b+16);
+if(k-j<6){
+l=grow_amortized_2b6(b,6);
+if(!l)break;
+m=r8(b+16);
+n=r8(b+8);}
 else{
-n=l;
-o=k;}
-p=o+6;
-q=rp(b);
+m=k;
+n=j;}
+o=n+6;
+p=rp(b);
 z16(b+8);
-r=q+(i64)o;
-if((u64)r-(u64)(u8*)t_f603<6)copy_bits_4f4((u8*)t_f603,r,6);
-else memcpy(r,(u8*)t_f603,6);
-wp(b,q);
-w8(b+8,p);
-w8(b+16,n);
+q=p+(i64)n;
+if((u64)q-(u64)(u8*)t_f603<6)copy_bits_4f4((u8*)t_f603,q,6);
+else memcpy(q,(u8*)t_f603,6);
+wp(b,p);
+w8(b+8,o);
+w8(b+16,m);
 goto L1;
-case 2:s=r8(b+8);
-if(r8(b+32)-s<2){
-t=make_ready_8e3(b,2,128);
-if(!(t&1))break;
-u=r8(b+8);}
-else u=s;
-v=r8(b+16);
-if(v-u<2){
-w=grow_amortized_2b6(b,2);
-if(!w)break;
-x=r8(b+16);
-y=r8(b+8);}
+case 2:r=r8(b+8);
+if(r8(b+32)-r<2){
+s=make_ready_8e3(b,2,128);
+if(!(s&1))break;
+t=r8(b+8);}
+else t=r;
+u=r8(b+16);
+if(u-t<2){
+v=grow_amortized_2b6(b,2);
+if(!v)break;
+w=r8(b+16);
+x=r8(b+8);}
 else{
-x=v;
-y=u;}
-z=y+2;
-A=rp(b);
+w=u;
+x=t;}
+y=x+2;
+z=rp(b);
 z16(b+8);
-B=A+(i64)y;
-if((u64)B-(u64)(u8*)t_8519<2)copy_bits_4f4((u8*)t_8519,B,2);
-else x2(B,9760);
-wp(b,A);
-w8(b+8,z);
-w8(b+16,x);
+A=z+(i64)x;
+if((u64)A-(u64)(u8*)t_8519<2)copy_bits_4f4((u8*)t_8519,A,2);
+else x2(A,9760);
+wp(b,z);
+w8(b+8,y);
+w8(b+16,w);
 goto L1;
-case 3:C=r8(b+8);
-if(r8(b+32)-C<8){
-D=make_ready_8e3(b,8,128);
-if(!(D&1))break;
-E=r8(b+8);}
-else E=C;
-F=r8(b+16);
-if(F-E<8){
-G=grow_amortized_2b6(b,8);
-if(!G)break;
-H=r8(b+16);
-I=r8(b+8);}
+case 3:B=r8(b+8);
+if(r8(b+32)-B<8){
+C=make_ready_8e3(b,8,128);
+if(!(C&1))break;
+D=r8(b+8);}
+else D=B;
+E=r8(b+16);
+if(E-D<8){
+F=grow_amortized_2b6(b,8);
+if(!F)break;
+G=r8(b+16);
+H=r8(b+8);}
 else{
-H=F;
-I=E;}
-J=I+8;
-K=rp(b);
+G=E;
+H=D;}
+I=H+8;
+J=rp(b);
 z16(b+8);
-L=K+(i64)I;
-if((u64)L-(u64)(u8*)t_5ca3<8)copy_bits_4f4((u8*)t_5ca3,L,8);
-else x8(L,0x262074736e6f6320u);
-wp(b,K);
-w8(b+8,J);
-w8(b+16,H);
+K=J+(i64)H;
+if((u64)K-(u64)(u8*)t_5ca3<8)copy_bits_4f4((u8*)t_5ca3,K,8);
+else x8(K,0x262074736e6f6320u);
+wp(b,J);
+w8(b+8,I);
+w8(b+16,G);
 goto L1;
-case 4:M=r8(b+8);
-if(r8(b+32)-M<3){
-N=make_ready_8e3(b,3,128);
-if(!(N&1))break;
-O=r8(b+8);}
-else O=M;
-P=r8(b+16);
-if(P-O<3){
-Q=grow_amortized_2b6(b,3);
-if(!Q)break;
-R=r8(b+16);
-S=r8(b+8);}
+case 4:L=r8(b+8);
+if(r8(b+32)-L<3){
+M=make_ready_8e3(b,3,128);
+if(!(M&1))break;
+N=r8(b+8);}
+else N=L;
+O=r8(b+16);
+if(O-N<3){
+P=grow_amortized_2b6(b,3);
+if(!P)break;
+Q=r8(b+16);
+R=r8(b+8);}
 else{
-R=P;
-S=O;}
-T=S+3;
-U=rp(b);
+Q=O;
+R=N;}
+S=R+3;
+T=rp(b);
 z16(b+8);
-V=U+(i64)S;
-if((u64)V-(u64)(u8*)t_617d<3)copy_bits_4f4((u8*)t_617d,V,3);
-else memcpy(V,(u8*)t_617d,3);
-wp(b,U);
-w8(b+8,T);
-w8(b+16,R);
+U=T+(i64)R;
+if((u64)U-(u64)(u8*)t_617d<3)copy_bits_4f4((u8*)t_617d,U,3);
+else memcpy(U,(u8*)t_617d,3);
+wp(b,T);
+w8(b+8,S);
+w8(b+16,Q);
 goto L1;
-case 5:W=r8(b+8);
-if(r8(b+32)-W<9){
-X=make_ready_8e3(b,9,128);
-if(!(X&1))break;
-Y=r8(b+8);}
-else Y=W;
-Z=r8(b+16);
-if(Z-Y<9){
-aa=grow_amortized_2b6(b,9);
-if(!aa)break;
-ba=r8(b+16);
-ca=r8(b+8);}
+case 5:V=r8(b+8);
+if(r8(b+32)-V<9){
+W=make_ready_8e3(b,9,128);
+if(!(W&1))break;
+X=r8(b+8);}
+else X=V;
+Y=r8(b+16);
+if(Y-X<9){
+Z=grow_amortized_2b6(b,9);
+if(!Z)break;
+aa=r8(b+16);
+ba=r8(b+8);}
 else{
-ba=Z;
-ca=Y;}
-da=ca+9;
-ea=rp(b);
+aa=Y;
+ba=X;}
+ca=ba+9;
+da=rp(b);
 z16(b+8);
-fa=ea+(i64)ca;
-if((u64)fa-(u64)(u8*)t_d4b3<9)copy_bits_4f4((u8*)t_d4b3,fa,9);
-else memcpy(fa,(u8*)t_d4b3,9);
-wp(b,ea);
-w8(b+8,da);
-w8(b+16,ba);
+ea=da+(i64)ba;
+if((u64)ea-(u64)(u8*)t_d4b3<9)copy_bits_4f4((u8*)t_d4b3,ea,9);
+else memcpy(ea,(u8*)t_d4b3,9);
+wp(b,da);
+w8(b+8,ca);
+w8(b+16,aa);
 goto L1;
 default:NEVER;
 }
 x4(a,0);
 goto L2;
-L1:w4(h,0);
+L1:w4(g,0);
 if(d>=3){
-ga=c[2];
+fa=c[2];
 if(d<5){
-if(ga!=90)goto L3;}
+if(fa!=90)goto L3;}
 else{
-switch(ga){
+switch(fa){
 case 90:break;
 case 71:if(c[3]!=86)goto L3;
 if(c[4]!=90)goto L3;
 break;
 default:goto L3;
 }}
-ha=r8(b+176);
-if(ha>=d){
-cb=0;
-db=0;
-eb=0;
-fb=0;
-goto L4;}
-if(*(c+ha)!=69){
-cb=0;
-db=0;
-eb=0;
-fb=0;
-goto L4;}
-ia=ha+1;
-w8(b+176,ia);
-if(ia<d){
-if(*(c+ia)==76)w8(b+176,ha+2);}
-w4(g,0);
-ja=r8(b+8);
-if(r8(b+32)-ja<2){
-ka=make_ready_8e3(b,2,128);
-if(!(ka&1)){
-ma=0;
-na=0;
-oa=0;
-pa=0;
-goto L5;}
-la=r8(b+8);}
-else la=ja;
-*(rp(b)+la)=58;
-*(rp(b)+(i64)la+1)=58;
-qa=la+2;
-w8(b+8,qa);
-ra=r8(b+176);
-z24(f);
-if(ra<d){
-sa=*(c+ra);
-if((u8)(sa-58)>=247){
-ta=ra+1;
-if(ta<d){
-ua=*(c+ta)-48;
-if(ua<10){
-va=ra+2;
-if(va<d){
-if((u8)(*(c+va)-48)<10){
-long_name_at_8ad(f,c,d,ra);
-if(*f==1){
-wa=r8(f+16);
-xa=r8(f+8);
-goto L6;}
-ma=0;
-na=0;
-oa=0;
-pa=0;
-goto L5;}}
-ya=(u64)ua+(u8)((u8)(sa*10)+32);
-if(d-va<ya)goto L7;
-if((u8)(*(c+(i64)va)-48)<10)goto L7;
-za=va;
-Aa=ya+va;
-goto L8;}}
-Ba=sa-48;
-if(d-ta<Ba)goto L7;
-if((u8)(*(c+(i64)ta)-48)<10)goto L7;
-za=ta;
-Aa=ta+Ba;
-L8:wa=Aa;
-xa=za;
-L6:w8(b+176,wa);
-Ca=c+(i64)xa;
-Da=wa-xa;
-if(wa!=xa){
-if(!(Da<10||*Ca!=95)){
-Ea=parts_equal_58b((u8*)t_35ad,10,Ca,10);
-if(Ea){
-Fa=(s_p_64){(u8*)t_62ff,21};
-goto L9;}}}
-Ga=(s_p_64){0};Ga.f0=Ca;
-Ha=Ga;Ha.f1=Da;
-Fa=Ha;
-L9:Ia=Fa.f0;
-Ja=Fa.f1;
-if(r8(b+32)-qa<Ja){
-Ka=make_ready_8e3(b,Ja,128);
-if(!(Ka&1)){
-ma=0;
-na=0;
-oa=0;
-pa=0;
-goto L5;}
-La=r8(b+8);}
-else La=qa;
-Ma=r8(b+16);
-if(Ja>Ma-La){
-Na=grow_amortized_2b6(b,Ja);
-if(!Na){
-ma=0;
-na=0;
-oa=0;
-pa=0;
-goto L5;}
-Oa=r8(b+16);
-Pa=r8(b+8);}
+w4(f,0);
+ga=r8(b+176);
+if(ga<d){
+if(*(c+ga)==69){
+ha=ga+1;
+w8(b+176,ha);
+if(ha<d){
+switch(*(c+ha)){
+case 78:begin_member_793(f,b,c,d);
+ia=f[3];
+ja=f[2];
+ka=f[1];
+la=*f;
+goto L4;
+case 76:w8(b+176,ga+2);
+entity_name_076(f,b,c,d);
+ia=f[3];
+ja=f[2];
+ka=f[1];
+la=*f;
+goto L4;
+default:break;}}
+entity_name_076(f,b,c,d);
+ia=f[3];
+ja=f[2];
+ka=f[1];
+la=*f;}
 else{
-Oa=Ma;
-Pa=La;}
-Qa=Pa+Ja;
-Ra=rp(b);
-z16(b+8);
-Sa=Ra+(i64)Pa;
-if((u64)Sa-(u64)Ia<Ja)copy_bits_4f4(Ia,Sa,Ja);
-else memmove(Sa,Ia,Ja);
-wp(b,Ra);
-w8(b+8,Qa);
-w8(b+16,Oa);
-Ta=r8(b+176);
-if(Ta<d){
-if(*(c+Ta)==95){
-Ua=Ta+1;
-w8(b+176,Ua);
-if(Ua>=d){
-ma=0;
-na=0;
-oa=0;
-pa=0;
-goto L5;}
-Va=*(c+Ua);
-if(Va==95){
-Wa=Ta+2;
-w8(b+176,Wa);
-if(d==Wa){
-Xa=d;
-goto L10;}
-Ya=Wa;
-L11:if((u8)(*(c+Ya)-48)<10){
-Za=Ya+1;
-if(Za!=d){
-Ya=Za;
-goto L11;}
-Xa=d;}
-else Xa=Ya;
-L10:if(Wa>=Xa){
-ma=0;
-na=0;
-oa=0;
-pa=0;
-goto L5;}
-ab=Xa&4294967295u;
-if(ab>=d){
-ma=0;
-na=0;
-oa=0;
-pa=0;
-goto L5;}
-if(*(c+ab)!=95){
-ma=0;
-na=0;
-oa=0;
-pa=0;
-goto L5;}
-bb=ab+1;}
+ia=0;
+ja=0;
+ka=0;
+la=0;}}
 else{
-if((u8)(Va-58)<246){
-ma=0;
-na=0;
-oa=0;
-pa=0;
+ia=0;
+ja=0;
+ka=0;
+la=0;}
+L4:ma=ia;
+na=ja;
+oa=ka;
+pa=la;
 goto L5;}
-bb=Ta+2;}
-w8(b+176,bb);}}
-finish_8cd(g,b,c,d);
+L3:finish_8cd(g,b,c,d);
 ma=g[3];
 na=g[2];
 oa=g[1];
 pa=*g;
-goto L5;}}
-L7:ma=0;
-na=0;
-oa=0;
-pa=0;
-L5:cb=ma;
-db=na;
-eb=oa;
-fb=pa;
-goto L4;}
-L3:finish_8cd(h,b,c,d);
-cb=h[3];
-db=h[2];
-eb=h[1];
-fb=*h;
-L4:*a=fb;
-a[1]=eb;
-a[2]=db;
-a[3]=cb;
+L5:*a=pa;
+a[1]=oa;
+a[2]=na;
+a[3]=ma;
 L2:return;
+}
+
+/* cpp_direct::direct::Direct::begin_member */
+static void begin_member_793(u8* a,u8* b,u8* c,u64 d)
+{
+u8 g[6];
+A16 u8 e[24],f[4];
+u64 h,i,j,l,m,n,o,q,r,s,z,B,C,D,H,J,K,L,M,N,O,R,X;
+u8 k,t,u,v,w,x,y,A,E,F,G,I,P,S,Y,Z;
+u8 *p,*Q,*W;
+s_p_64 T,U,V;
+if(c[2]==90){
+if(d>1024)x4(a,0);
+else{
+h=r8(b+176);
+if(h==18446744073709551615u)x4(a,0);
+else{
+i=h+1;
+if(i<d){
+switch(*(c+i)){
+case 75:j=h+2;
+if(j<d){
+switch(*(c+j)){
+case 82:k=3;
+l=h+3;
+break;
+case 79:k=5;
+l=h+3;
+break;
+default:k=1;
+l=j;
+break;}}
+else{
+k=1;
+l=j;}
+break;
+case 82:k=2;
+l=h+2;
+break;
+case 79:k=4;
+l=h+2;
+break;
+default:k=0;
+l=i;
+break;}}
+else{
+k=0;
+l=i;}
+b[172]=0;
+m=r8(b+48);
+if(m==0)goto L1;
+n=m;
+o=0;
+L2:p=rp(b+40)+o*12;
+if(p[9]&1){
+x4(p,1);
+x8(p+4,0);
+q=r8(b+48);}
+else q=n;
+r=o+1;
+if(r<q){
+n=q;
+o=r;
+goto L2;}
+L1:w8(b+176,l);
+w4(f,0);
+x4(g+2,0);
+if(l<0xfffffffffffffffeu){
+s=l+2;
+if(s<d)t=*(c+s)==118;
+else t=0;
+if(l<d){
+if(!(t||*(c+l)!=85)){
+*g=2;
+g[1]=k;
+u=open_lambda_2e5(b,c,d,0,g);
+v=0;
+w=0;
+x=0;
+y=u;
+goto L3;}}
+z=r8(b+8);
+if(r8(b+32)-z<2){
+A=make_ready_8e3(b,2,128);
+if(!(A&1)){
+v=0;
+w=0;
+x=0;
+y=0;
+goto L3;}
+B=r8(b+8);}
+else B=z;
+*(rp(b)+B)=58;
+*(rp(b)+(i64)B+1)=58;
+C=B+2;
+w8(b+8,C);
+D=r8(b+176);
+if(D<d){
+E=*(c+D);
+if(E==85){
+F=lambda_b09(b,c,d);
+G=F;}
+else{
+z24(e);
+if((u8)(E-58)<247)goto L4;
+H=D+1;
+if(H<d){
+I=*(c+H)-48;
+if(I<10){
+J=D+2;
+if(J<d){
+if((u8)(*(c+J)-48)<10){
+long_name_at_8ad(e,c,d,D);
+if(*e==1){
+K=r8(e+16);
+L=r8(e+8);
+goto L5;}
+v=0;
+w=0;
+x=0;
+y=0;
+goto L3;}}
+M=(u64)I+(u8)((u8)(E*10)+32);
+if(d-J<M)goto L4;
+if((u8)(*(c+(i64)J)-48)<10)goto L4;
+N=J;
+O=M+J;
+goto L6;}}
+P=E-48;
+if(d-H<P)goto L4;
+if((u8)(*(c+(i64)H)-48)<10)goto L4;
+N=H;
+O=H+P;
+L6:K=O;
+L=N;
+L5:w8(b+176,K);
+Q=c+(i64)L;
+R=K-L;
+if(K!=L){
+if(!(R<10||*Q!=95)){
+S=parts_equal_58b((u8*)t_35ad,10,Q,10);
+if(S){
+T=(s_p_64){(u8*)t_62ff,21};
+goto L7;}}}
+U=(s_p_64){0};U.f0=Q;
+V=U;V.f1=R;
+T=V;
+L7:W=T.f0;
+X=T.f1;
+if(r8(b+32)-C<X){
+Y=make_ready_8e3(b,X,128);
+if(!(Y&1)){
+v=0;
+w=0;
+x=0;
+y=0;
+goto L3;}}
+Z=extend_from_slice_169(b,W,X);
+G=Z^1;}
+if(!(G&1)){
+v=0;
+w=0;
+x=0;
+y=0;
+goto L3;}
+member_function_aa3(f,b,c,d,k);
+v=f[3];
+w=f[2];
+x=f[1];
+y=*f;
+goto L3;}
+L4:v=0;
+w=0;
+x=0;
+y=0;}
+else{
+v=0;
+w=0;
+x=0;
+y=0;}
+L3:*a=y;
+a[1]=x;
+a[2]=w;
+a[3]=v;}}}
+else x4(a,0);
+return;
+}
+
+/* cpp_direct::direct::Direct::open_lambda */
+static u8 open_lambda_2e5(u8* a,u8* b,u64 c,u32 d,u8* e)
+{
+u64 f,m,o,q,r,t,u,v,y,z;
+u8 g,h,i,j,k,n,p,s,A;
+u16 l;
+u8 *w,*x,*B;
+f=r8(a+176);
+if(f==18446744073709551615u)g=0;
+else{
+h=*e;
+i=e[1];
+j=e[2];
+k=e[3];
+l=q2(e+4);
+m=f+1;
+w8(a+176,m);
+if(m<c){
+if(*(b+m)!=108||c>1024)g=0;
+else{
+n=are_numbers_short_ddb(b,c);
+if(n){
+w8(a+176,f+2);
+o=r8(a+8);
+if(r8(a+32)-o<10){
+p=make_ready_8e3(a,10,128);
+if(!(p&1)){
+g=0;
+goto L1;}
+q=r8(a+8);}
+else q=o;
+r=r8(a+16);
+if(r-q<10){
+s=grow_amortized_2b6(a,10);
+if(!s){
+g=0;
+goto L1;}
+t=r8(a+16);
+u=r8(a+8);}
+else{
+t=r;
+u=q;}
+v=u+10;
+w=rp(a);
+z16(a+8);
+x=w+(i64)u;
+if((u64)x-(u64)(u8*)t_a6a7<10)copy_bits_4f4((u8*)t_a6a7,x,10);
+else memcpy(x,(u8*)t_a6a7,10);
+wp(a,w);
+w8(a+8,v);
+w8(a+16,t);
+y=r8(a+88);
+if(r8(a+112)>y)z=y;
+else{
+A=make_ready_9a1(a+80);
+if(!(A&1)){
+g=0;
+goto L1;}
+z=r8(a+88);}
+B=rp(a+80)+z*44;
+*B=17;
+B[1]=0;
+x2(B+2,0);
+x4(B+4,d);
+B[8]=h;
+B[9]=i;
+B[10]=j;
+B[11]=k;
+x2(B+12,l);
+z30(B+14);
+w8(a+88,z+1);
+g=1;}
+else g=0;}}
+else g=0;}
+L1:return g;
+}
+
+/* cpp_direct::tokens::are_numbers_short */
+static u8 are_numbers_short_ddb(u8* a,u64 b)
+{
+u64 c,d,f,g;
+u8 e;
+c=0;
+d=0;
+L1:if((u8)(*(a+d)-48)<10){
+if(c>18){
+e=0;
+goto L2;}
+f=c+1;}
+else f=0;
+g=d+1;
+if(g!=b){
+c=f;
+d=g;
+goto L1;}
+e=1;
+L2:return e;
+}
+
+/* cpp_direct::direct::Direct::lambda */
+static u8 lambda_b09(u8* a,u8* b,u64 c)
+{
+u64 d,f,h,j,k,m,n,p,q,r;
+u8 e,g,i,l,o,u;
+u8 *s,*t;
+d=r8(a+176);
+if(d==18446744073709551615u)e=0;
+else{
+f=d+1;
+if(f<c)g=*(b+f)==108;
+else{
+if(d==0xfffffffffffffffeu){
+e=0;
+goto L1;}
+g=0;}
+h=d+2;
+if(h<c)i=*(b+h)==118;
+else i=0;
+j=d+3;
+if((d<0xfffffffffffffffdu)&(j<c)){
+if(g&i&&*(b+j)==69){
+w8(a+176,d+4);
+k=r8(a+8);
+if(r8(a+32)-k<10){
+l=make_ready_8e3(a,10,128);
+if(!(l&1)){
+e=0;
+goto L1;}
+m=r8(a+8);}
+else m=k;
+n=r8(a+16);
+if(n-m<10){
+o=grow_amortized_2b6(a,10);
+if(!o){
+e=0;
+goto L1;}
+p=r8(a+16);
+q=r8(a+8);}
+else{
+p=n;
+q=m;}
+r=q+10;
+s=rp(a);
+z16(a+8);
+t=s+(i64)q;
+if((u64)t-(u64)(u8*)t_e97f<10)copy_bits_4f4((u8*)t_e97f,t,10);
+else memcpy(t,(u8*)t_e97f,10);
+wp(a,s);
+w8(a+8,r);
+w8(a+16,p);
+u=lambda_number_bca(a,b,c);
+e=u;}
+else e=0;}
+else e=0;}
+L1:return e;
+}
+
+/* cpp_direct::direct::Direct::lambda_number */
+static u8 lambda_number_bca(u8* a,u8* b,u64 c)
+{
+u64 d,f,g,i,k,m,n,o,s,u;
+u8 e,h,j,l,r,t;
+u8 *p,*q;
+d=r8(a+176);
+if(d<c){
+e=*(b+d);
+f=d+1;
+w8(a+176,f);
+if(e==95){
+g=r8(a+8);
+if(r8(a+32)-g<2){
+h=make_ready_8e3(a,2,128);
+if(!(h&1)){
+j=0;
+goto L1;}
+i=r8(a+8);}
+else i=g;
+k=r8(a+16);
+if(k-i<2){
+l=grow_amortized_2b6(a,2);
+if(!l){
+j=0;
+goto L1;}
+m=r8(a+16);
+n=r8(a+8);}
+else{
+m=k;
+n=i;}
+o=n+2;
+p=rp(a);
+z16(a+8);
+q=p+(i64)n;
+if((u64)q-(u64)(u8*)t_2ac1<2)copy_bits_4f4((u8*)t_2ac1,q,2);
+else x2(q,32049);
+wp(a,p);
+w8(a+8,o);
+w8(a+16,m);
+j=1;}
+else{
+if((f<c)&((e&248)==48)){
+if(*(b+f)==95){
+w8(a+176,d+2);
+r=e+2;
+s=r8(a+8);
+if(r8(a+32)-s<2){
+t=make_ready_8e3(a,2,128);
+if(!(t&1)){
+j=0;
+goto L1;}
+u=r8(a+8);}
+else u=s;
+*(rp(a)+u)=r;
+*(rp(a)+(i64)u+1)=125;
+w8(a+8,u+2);
+j=1;}
+else j=0;}
+else j=0;}}
+else{
+if(d==18446744073709551615u)j=0;
+else{
+w8(a+176,d+1);
+j=0;}}
+L1:return j;
+}
+
+/* cpp_direct::direct::Direct::member_function */
+static void member_function_aa3(u8* a,u8* b,u8* c,u64 d,u8 e)
+{
+A16 u8 f[24],g[4];
+u32 h;
+u64 i,j,m,o,p,q,s,u,v,x,y,z,C,E,F,G,H,I,J,M,O,Q,S,T,V,X,Y,aa,ca,da,fa,ka,ma,na,pa,qa,ra,ua;
+u8 k,n,r,t,w,D,K,N,P,R,U,W,Z,ba,ea,la,oa;
+u8 *l,*A,*B,*L,*ja,*sa,*ta;
+s_p_64 ga,ha,ia;
+w4(g,0);
+h=r8(b+8);
+i=r8(b+48);
+if(r8(b+72)>i)j=i;
+else{
+k=make_ready_17a(b+40);
+if(!(k&1)){
+x4(a,0);
+goto L1;}
+j=r8(b+48);}
+l=rp(b+40)+j*12;
+x4(l,0);
+x4(l+4,h);
+l[8]=0;
+l[9]=0;
+x2(l+10,0);
+w8(b+48,j+1);
+m=r8(b+8);
+if(r8(b+32)-m<2){
+n=make_ready_8e3(b,2,128);
+if(!(n&1)){
+x4(a,0);
+goto L1;}
+o=r8(b+8);}
+else o=m;
+*(rp(b)+o)=58;
+*(rp(b)+(i64)o+1)=58;
+p=o+2;
+w8(b+8,p);
+q=r8(b+176);
+if(q<d){
+r=*(c+q);
+if(r==99){
+s=q+1;
+if(s>=d)goto L2;
+if(*(c+s)!=108)goto L2;
+w8(b+176,q+2);
+if(r8(b+32)-p<10){
+t=make_ready_8e3(b,10,128);
+if(!(t&1))goto L2;
+u=r8(b+8);}
+else u=p;
+v=r8(b+16);
+if(v-u<10){
+w=grow_amortized_2b6(b,10);
+if(!w)goto L2;
+x=r8(b+16);
+y=r8(b+8);}
+else{
+x=v;
+y=u;}
+z=y+10;
+A=rp(b);
+z16(b+8);
+B=A+(i64)y;
+if((u64)B-(u64)(u8*)t_1f0f<10)copy_bits_4f4((u8*)t_1f0f,B,10);
+else memcpy(B,(u8*)t_1f0f,10);
+wp(b,A);
+w8(b+8,z);
+w8(b+16,x);}
+else{
+z24(f);
+if((u8)(r-58)<247)goto L3;
+C=q+1;
+if(C<d){
+D=*(c+C)-48;
+if(D<10){
+E=q+2;
+if(E<d){
+if((u8)(*(c+E)-48)<10){
+long_name_at_8ad(f,c,d,q);
+if(*f!=1)goto L2;
+F=r8(f+16);
+G=r8(f+8);
+goto L4;}}
+H=(u64)D+(u8)((u8)(r*10)+32);
+if(d-E<H)goto L3;
+if((u8)(*(c+(i64)E)-48)<10)goto L3;
+I=E;
+J=H+E;
+goto L5;}}
+K=r-48;
+if(d-C<K)goto L3;
+if((u8)(*(c+(i64)C)-48)<10)goto L3;
+I=C;
+J=C+K;
+L5:F=J;
+G=I;
+L4:w8(b+176,F);
+L=c+(i64)G;
+M=F-G;
+if(F!=G){
+if(M<10||*L!=95)goto L6;
+N=0;
+O=0;
+L7:P=N||*((u8*)t_35ad+(i64)O)!=*(L+(i64)O);
+Q=O+1;
+if(Q!=8){
+N=P;
+O=Q;
+goto L7;}
+R=0;
+S=0;
+L8:T=S+2;
+U=R||*((u8*)t_35ad+(i64)T)!=*(L+(i64)T);
+V=S+1;
+if(V!=8){
+R=U;
+S=V;
+goto L8;}
+W=0;
+X=0;
+L9:Y=X+2;
+Z=W||*((u8*)t_35ad+(i64)Y)!=*(L+(i64)Y);
+aa=X+1;
+if(aa!=8){
+W=Z;
+X=aa;
+goto L9;}
+ba=0;
+ca=0;
+L10:da=ca+2;
+ea=ba||*((u8*)t_35ad+(i64)da)!=*(L+(i64)da);
+fa=ca+1;
+if(fa!=8){
+ba=ea;
+ca=fa;
+goto L10;}
+if(!(((P|U)|Z)|ea)){
+ga=(s_p_64){(u8*)t_62ff,21};
+goto L11;}}
+L6:ha=(s_p_64){0};ha.f0=L;
+ia=ha;ia.f1=M;
+ga=ia;
+L11:ja=ga.f0;
+ka=ga.f1;
+if(r8(b+32)-p<ka){
+la=make_ready_8e3(b,ka,128);
+if(!(la&1))goto L2;
+ma=r8(b+8);}
+else ma=p;
+na=r8(b+16);
+if(ka>na-ma){
+oa=grow_amortized_2b6(b,ka);
+if(!oa)goto L2;
+pa=r8(b+16);
+qa=r8(b+8);}
+else{
+pa=na;
+qa=ma;}
+ra=qa+ka;
+sa=rp(b);
+z16(b+8);
+ta=sa+(i64)qa;
+if((u64)ta-(u64)ja<ka)copy_bits_4f4(ja,ta,ka);
+else memmove(ta,ja,ka);
+wp(b,sa);
+w8(b+8,ra);
+w8(b+16,pa);}
+ua=r8(b+176);
+if(ua<d){
+if(*(c+ua)==69){
+w8(b+176,ua+1);
+member_parameters_1d0(g,b,c,d,e);
+*a=*g;
+a[1]=g[1];
+a[2]=g[2];
+a[3]=g[3];
+goto L1;}}
+x4(a,0);
+goto L1;}
+L3:L2:x4(a,0);
+L1:return;
+}
+
+/* cpp_direct::direct::Direct::member_parameters */
+static void member_parameters_1d0(u8* a,u8* b,u8* c,u64 d,u8 e)
+{
+A16 u8 f[4];
+u64 g,h,j,l,m,o,q,r;
+u8 i,k,p,s;
+u32 n;
+u8 *t;
+w4(f,0);
+g=r8(b+176);
+if(g==18446744073709551615u)x4(a,0);
+else{
+h=g+1;
+if(h<d)i=*(c+h);
+else i=0;
+if(g<d){
+if(*(c+g)==118){
+switch(i){
+case 69:case 46:case 0:w8(b+176,h);
+j=r8(b+8);
+if(r8(b+32)-j<2){
+k=make_ready_8e3(b,2,128);
+if(!(k&1)){
+x4(a,0);
+goto L1;}
+l=r8(b+8);}
+else l=j;
+*(rp(b)+l)=40;
+*(rp(b)+(i64)l+1)=41;
+w8(b+8,l+2);
+member_ended_9dc(f,b,c,d,e);
+*a=*f;
+a[1]=f[1];
+a[2]=f[2];
+a[3]=f[3];
+goto L1;
+default:break;}}}
+m=r8(b+8);
+n=m;
+if(r8(b+32)>m)o=m;
+else{
+p=make_ready_8e3(b,1,16);
+if(!(p&1)){
+x4(a,0);
+goto L1;}
+o=r8(b+8);}
+*(rp(b)+o)=40;
+w8(b+8,o+1);
+q=r8(b+88);
+if(r8(b+112)>q)r=q;
+else{
+s=make_ready_9a1(b+80);
+if(!(s&1)){
+x4(a,0);
+goto L1;}
+r=r8(b+88);}
+t=rp(b+80)+r*44;
+*t=18;
+t[1]=e;
+x2(t+2,0);
+x4(t+4,n);
+z36(t+8);
+w8(b+88,r+1);
+*a=1;
+a[1]=0;
+a[2]=0;
+a[3]=0;}
+L1:return;
+}
+
+/* cpp_direct::direct::Direct::member_ended */
+static void member_ended_9dc(u8* a,u8* b,u8* c,u64 d,u8 e)
+{
+A16 u8 f[4];
+u64 g,i,j,l,m,n,q,s,t,v,w,x,A,C,D,F,G,H,K,M,N,P,Q,R,U,W,X,Z,aa,ba;
+u8 h,k,r,u,B,E,L,O,V,Y;
+u8 *o,*p,*y,*z,*I,*J,*S,*T,*ca,*da;
+w4(f,0);
+switch(e){
+case 0:goto L1;
+case 1:g=r8(b+8);
+if(r8(b+32)-g<6){
+h=make_ready_8e3(b,6,128);
+if(!(h&1))break;
+i=r8(b+8);}
+else i=g;
+j=r8(b+16);
+if(j-i<6){
+k=grow_amortized_2b6(b,6);
+if(!k)break;
+l=r8(b+16);
+m=r8(b+8);}
+else{
+l=j;
+m=i;}
+n=m+6;
+o=rp(b);
+z16(b+8);
+p=o+(i64)m;
+if((u64)p-(u64)(u8*)t_f603<6)copy_bits_4f4((u8*)t_f603,p,6);
+else memcpy(p,(u8*)t_f603,6);
+wp(b,o);
+w8(b+8,n);
+w8(b+16,l);
+goto L1;
+case 2:q=r8(b+8);
+if(r8(b+32)-q<2){
+r=make_ready_8e3(b,2,128);
+if(!(r&1))break;
+s=r8(b+8);}
+else s=q;
+t=r8(b+16);
+if(t-s<2){
+u=grow_amortized_2b6(b,2);
+if(!u)break;
+v=r8(b+16);
+w=r8(b+8);}
+else{
+v=t;
+w=s;}
+x=w+2;
+y=rp(b);
+z16(b+8);
+z=y+(i64)w;
+if((u64)z-(u64)(u8*)t_8519<2)copy_bits_4f4((u8*)t_8519,z,2);
+else x2(z,9760);
+wp(b,y);
+w8(b+8,x);
+w8(b+16,v);
+goto L1;
+case 3:A=r8(b+8);
+if(r8(b+32)-A<8){
+B=make_ready_8e3(b,8,128);
+if(!(B&1))break;
+C=r8(b+8);}
+else C=A;
+D=r8(b+16);
+if(D-C<8){
+E=grow_amortized_2b6(b,8);
+if(!E)break;
+F=r8(b+16);
+G=r8(b+8);}
+else{
+F=D;
+G=C;}
+H=G+8;
+I=rp(b);
+z16(b+8);
+J=I+(i64)G;
+if((u64)J-(u64)(u8*)t_5ca3<8)copy_bits_4f4((u8*)t_5ca3,J,8);
+else x8(J,0x262074736e6f6320u);
+wp(b,I);
+w8(b+8,H);
+w8(b+16,F);
+goto L1;
+case 4:K=r8(b+8);
+if(r8(b+32)-K<3){
+L=make_ready_8e3(b,3,128);
+if(!(L&1))break;
+M=r8(b+8);}
+else M=K;
+N=r8(b+16);
+if(N-M<3){
+O=grow_amortized_2b6(b,3);
+if(!O)break;
+P=r8(b+16);
+Q=r8(b+8);}
+else{
+P=N;
+Q=M;}
+R=Q+3;
+S=rp(b);
+z16(b+8);
+T=S+(i64)Q;
+if((u64)T-(u64)(u8*)t_617d<3)copy_bits_4f4((u8*)t_617d,T,3);
+else memcpy(T,(u8*)t_617d,3);
+wp(b,S);
+w8(b+8,R);
+w8(b+16,P);
+goto L1;
+case 5:U=r8(b+8);
+if(r8(b+32)-U<9){
+V=make_ready_8e3(b,9,128);
+if(!(V&1))break;
+W=r8(b+8);}
+else W=U;
+X=r8(b+16);
+if(X-W<9){
+Y=grow_amortized_2b6(b,9);
+if(!Y)break;
+Z=r8(b+16);
+aa=r8(b+8);}
+else{
+Z=X;
+aa=W;}
+ba=aa+9;
+ca=rp(b);
+z16(b+8);
+da=ca+(i64)aa;
+if((u64)da-(u64)(u8*)t_d4b3<9)copy_bits_4f4((u8*)t_d4b3,da,9);
+else memcpy(da,(u8*)t_d4b3,9);
+wp(b,ca);
+w8(b+8,ba);
+w8(b+16,Z);
+goto L1;
+default:NEVER;
+}
+x4(a,0);
+goto L2;
+L1:finish_8cd(f,b,c,d);
+*a=*f;
+a[1]=f[1];
+a[2]=f[2];
+a[3]=f[3];
+L2:return;
+}
+
+/* cpp_direct::direct::Direct::entity_name */
+static void entity_name_076(u8* a,u8* b,u8* c,u64 d)
+{
+A16 u8 e[24],f[4];
+u64 g,i,j,k,m,o,p,q,r,s,t,w,C,E,F,H,I,J,M,N,P,Q,R,S,T,U;
+u8 h,l,n,u,x,D,G,O;
+u8 *v,*B,*K,*L;
+s_p_64 y,z,A;
+w4(f,0);
+g=r8(b+8);
+if(r8(b+32)-g<2){
+h=make_ready_8e3(b,2,128);
+if(!(h&1)){
+x4(a,0);
+goto L1;}
+i=r8(b+8);}
+else i=g;
+*(rp(b)+i)=58;
+*(rp(b)+(i64)i+1)=58;
+j=i+2;
+w8(b+8,j);
+k=r8(b+176);
+z24(e);
+if(k<d){
+l=*(c+k);
+if((u8)(l-58)>=247){
+m=k+1;
+if(m<d){
+n=*(c+m)-48;
+if(n<10){
+o=k+2;
+if(o<d){
+if((u8)(*(c+o)-48)<10){
+long_name_at_8ad(e,c,d,k);
+if(*e!=1)goto L2;
+p=r8(e+16);
+q=r8(e+8);
+goto L3;}}
+r=(u64)n+(u8)((u8)(l*10)+32);
+if(d-o<r)goto L4;
+if((u8)(*(c+(i64)o)-48)<10)goto L4;
+s=o;
+t=r+o;
+goto L5;}}
+u=l-48;
+if(d-m<u)goto L4;
+if((u8)(*(c+(i64)m)-48)<10)goto L4;
+s=m;
+t=m+u;
+L5:p=t;
+q=s;
+L3:w8(b+176,p);
+v=c+(i64)q;
+w=p-q;
+if(p!=q){
+if(!(w<10||*v!=95)){
+x=parts_equal_58b((u8*)t_35ad,10,v,10);
+if(x){
+y=(s_p_64){(u8*)t_62ff,21};
+goto L6;}}}
+z=(s_p_64){0};z.f0=v;
+A=z;A.f1=w;
+y=A;
+L6:B=y.f0;
+C=y.f1;
+if(r8(b+32)-j<C){
+D=make_ready_8e3(b,C,128);
+if(!(D&1))goto L2;
+E=r8(b+8);}
+else E=j;
+F=r8(b+16);
+if(C>F-E){
+G=grow_amortized_2b6(b,C);
+if(!G)goto L2;
+H=r8(b+16);
+I=r8(b+8);}
+else{
+H=F;
+I=E;}
+J=I+C;
+K=rp(b);
+z16(b+8);
+L=K+(i64)I;
+if((u64)L-(u64)B<C)copy_bits_4f4(B,L,C);
+else memmove(L,B,C);
+wp(b,K);
+w8(b+8,J);
+w8(b+16,H);
+M=r8(b+176);
+if(M<d){
+if(*(c+M)==95){
+N=M+1;
+w8(b+176,N);
+if(N<d){
+O=*(c+N);
+if(O==95){
+P=M+2;
+w8(b+176,P);
+if(d==P){
+Q=d;
+goto L7;}
+R=P;
+L8:if((u8)(*(c+R)-48)<10){
+S=R+1;
+if(S!=d){
+R=S;
+goto L8;}
+Q=d;}
+else Q=R;
+L7:if(P>=Q)goto L9;
+T=Q&4294967295u;
+if(T>=d)goto L9;
+if(*(c+T)!=95)goto L9;
+U=T+1;}
+else{
+if((u8)(O-58)<246)goto L9;
+U=M+2;}
+w8(b+176,U);
+goto L10;}
+L9:x4(a,0);
+goto L1;}}
+L10:finish_8cd(f,b,c,d);
+*a=*f;
+a[1]=f[1];
+a[2]=f[2];
+a[3]=f[3];
+goto L1;}}
+L4:L2:x4(a,0);
+L1:return;
 }
 
 /* cpp_direct::direct::Direct::finish */
@@ -50891,7 +51951,7 @@ static void close_a33(u8* a,u8* b,u8* c,u64 d,u8 e,u32 f)
 {
 A16 u8 g[4];
 u64 h,i,k,l,m,p,q;
-u8 j;
+u8 j,r;
 u8 *n,*o;
 w4(g,0);
 h=r8(b+8);
@@ -50915,20 +51975,51 @@ else{
 n=rp(b);
 o=n+(i64)f;
 p=0;
-L2:*(n+p)=*(o+(i64)p);
+L2:*(n+(i64)p)=*(o+(i64)p);
 q=p+1;
 if(q!=l){
 p=q;
 goto L2;}
 m=r8(b+8);}
 if(m>l)w8(b+8,l);
-if(r8(b+48)!=0)w8(b+48,0);
+if(d>=3){
+r=c[2];
+if(d<5){
+if(r!=90)goto L3;}
+else{
+switch(r){
+case 90:break;
+case 71:if(c[3]!=86)goto L3;
+if(c[4]!=90)goto L3;
+break;
+default:goto L3;
+}}
+hide_all_828(b);
+goto L4;}
+L3:if(r8(b+48)!=0)w8(b+48,0);
 z16(b+64);}
-end_05d(g,b,c,d,e);
+L4:end_05d(g,b,c,d,e);
 *a=*g;
 a[1]=g[1];
 a[2]=g[2];
 a[3]=g[3];
+L1:return;
+}
+
+/* cpp_direct::direct::Direct::hide_all */
+static void hide_all_828(u8* a)
+{
+u64 b,d;
+u8 *c;
+if(r8(a+48)==0)goto L1;
+b=0;
+L2:c=rp(a+40)+b*12;
+x4(c,1);
+d=b+1;
+x8(c+4,0);
+if(d<r8(a+48)){
+b=d;
+goto L2;}
 L1:return;
 }
 
@@ -51605,6 +52696,32 @@ L1:x4(a,0);
 L11:return;
 }
 
+/* cpp_direct::direct::Direct::begin_table */
+static void begin_table_89f(u8* a,u8* b)
+{
+u64 c,d;
+u8 e;
+u8 *f;
+w8(b+176,4);
+c=r8(b+88);
+if(r8(b+112)>c)d=c;
+else{
+e=make_ready_9a1(b+80);
+if(!(e&1)){
+x4(a,0);
+goto L1;}
+d=r8(b+88);}
+f=rp(b+80)+d*44;
+*f=20;
+z43(f+1);
+w8(b+88,d+1);
+*a=1;
+a[1]=0;
+a[2]=0;
+a[3]=0;
+L1:return;
+}
+
 /* cpp_direct::direct::Direct::begin_special */
 static void begin_special_44d(u8* a,u8* b,u8* c,u64 d)
 {
@@ -51665,7 +52782,7 @@ x4(a,0);
 goto L1;}
 r=r8(b+88);}
 t=rp(b+80)+r*44;
-*t=18;
+*t=19;
 z43(t+1);
 w8(b+88,r+1);
 *a=1;
@@ -51847,7 +52964,7 @@ if(d!=0){
 e=rp(b+80);
 f=d*44;
 switch(*(e+(i64)f-44)){
-case 4:case 5:case 6:case 7:case 8:case 23:case 10:case 12:case 13:case 18:g=r8(b+176);
+case 4:case 5:case 6:case 7:case 8:case 27:case 28:case 10:case 12:case 13:case 19:g=r8(b+176);
 h=c?2:1;
 if(g>(h^18446744073709551615u)){
 x4(a,0);
@@ -51867,7 +52984,7 @@ i=m*44;
 j=rp(b+80);
 k=m;}
 n=j+i;
-*n=19;
+*n=22;
 n[1]=c;
 z42(n+2);
 w8(b+88,k+1);
@@ -51876,7 +52993,7 @@ a[1]=0;
 a[2]=0;
 a[3]=0;
 goto L1;
-case 0:case 1:case 2:case 3:case 9:case 11:case 14:case 15:case 16:case 17:case 19:case 20:case 21:case 22:case 24:case 25:break;
+case 0:case 1:case 2:case 3:case 9:case 11:case 14:case 15:case 16:case 17:case 18:case 20:case 21:case 22:case 23:case 24:case 25:case 26:case 29:break;
 default:NEVER;
 }}
 x4(a,0);
@@ -51895,7 +53012,7 @@ if(f!=0){
 g=rp(b+80);
 h=f*44;
 switch(*(g+(i64)h-44)){
-case 4:case 5:case 6:case 7:case 8:case 23:case 10:case 12:case 13:case 18:i=r8(b+176);
+case 4:case 5:case 6:case 7:case 8:case 27:case 28:case 10:case 12:case 13:case 19:i=r8(b+176);
 j=e==0?1:2;
 if(i>(j^18446744073709551615u)){
 x4(a,0);
@@ -51931,7 +53048,7 @@ q=u*44;
 r=rp(b+80);
 s=u;}
 v=r+q;
-*v=21;
+*v=24;
 v[1]=e;
 x2(v+2,0);
 x4(v+4,o);
@@ -51945,7 +53062,7 @@ a[3]=0;
 goto L1;}}
 L2:x4(a,0);
 goto L1;
-case 0:case 1:case 2:case 3:case 9:case 11:case 14:case 15:case 16:case 17:case 19:case 20:case 21:case 22:case 24:case 25:break;
+case 0:case 1:case 2:case 3:case 9:case 11:case 14:case 15:case 16:case 17:case 18:case 20:case 21:case 22:case 23:case 24:case 25:case 26:case 29:break;
 default:NEVER;
 }}
 x4(a,0);
@@ -51955,167 +53072,142 @@ L1:return;
 /* cpp_direct::direct::Direct::rvalue_at */
 static void rvalue_at_e1d(u8* a,u8* b,u8* c,u64 d)
 {
-u8 f[32],g[8];
-A16 u8 e[44];
-u64 h,j,k,l,o,q,r,s,t,x,D,E,H,J,N,R,S,T;
-u32 i,C,I;
-u8 m,n,v,w,B,F,K,O,P,U,V;
-u8 *p,*u,*G,*L,*M,*Q,*W;
-u16 y,z,A;
-h=r8(b+176);
-if(h==18446744073709551615u)x4(a,0);
+u8 e[34];
+u64 f,h,i,j,m,t,u,x,z,C,E,F,I,J;
+u32 g,s,y;
+u8 k,l,r,v,A,D,G,K,L;
+u16 n,o,p,q;
+u8 *w,*B,*H,*M;
+z34(e);
+f=r8(b+176);
+if(f==18446744073709551615u)x4(a,0);
 else{
-i=r8(b+8);
-j=h+1;
-if(j<d){
-if(*(c+j)==84){
-k=h+2;
-if(k<d){
-l=h+3;
-m=*(c+k);
-if(m==95){
-n=0;
-o=l;}
+g=r8(b+8);
+h=f+1;
+if(h<d){
+if(*(c+h)==84){
+i=f+2;
+if(i<d){
+j=f+3;
+k=*(c+i);
+if(k==95){
+l=0;
+m=j;}
 else{
-if(!((l<d)&((u8)(m-48)<10)))goto L1;
-if(*(c+l)!=95)goto L1;
-n=m-47;
-o=h+4;}
-p=rp(b+80);
-q=r8(b+88);
-r=16;
-s=q;
-L2:if(s!=0){
-t=s-1;
-u=p+(i64)(t*44);
-v=*u;
-w=u[16];
-switch(v){
-case 0:case 1:case 2:case 3:case 4:case 8:break;
-case 5:if(w!=0)goto L3;
-break;
-case 6:if(w!=0)goto L3;
-break;
-case 7:case 9:case 10:case 11:case 12:case 13:case 14:case 15:case 16:case 17:case 18:case 19:case 20:case 21:case 22:case 23:case 24:case 25:memcpy(e+4,u+4,40);
-switch(v){
-case 9:case 10:case 15:case 16:x=4;
-break;
-case 11:case 13:x=8;
-break;
-case 25:case 24:case 23:case 22:case 21:case 20:case 19:case 7:case 8:case 12:case 14:case 17:case 18:goto L3;
-default:NEVER;
-}
-memcpy(f,e+4+x,32);
-y=r2(f);
-single_540(g,f,n);
-if(*g!=1){
+if(!((j<d)&((u8)(k-48)<10)))goto L1;
+if(*(c+j)!=95)goto L1;
+l=k-47;
+m=f+4;}
+argument_dbb(e,b);
+if(*e!=1){
 x4(a,0);
-goto L4;}
-if(y==0){
-x4(a,0);
-goto L4;}
-if(!(g[6]&1)){
-w8(b+176,j);
-if(r8(b+112)>q){
-M=p;
-N=q;}
+goto L2;}
+if((!(e[31]&1)||e[32]>l)&&e[30]>l){
+n=r2(e+2);
+if(l==0)o=r2(e+4);
 else{
-O=make_ready_9a1(b+80);
-if(!(O&1)){
-P=0;
-goto L5;}
-M=rp(b+80);
-N=r8(b+88);}
-Q=M+N*44;
-*Q=2;
-Q[1]=0;
-x2(Q+2,0);
-x4(Q+4,i);
-z36(Q+8);
-w8(b+88,N+1);
-P=1;
-L5:*a=P;
+if(l>=9)goto L3;
+p=r2(e+6+(i64)((u64)(u8)(l-1)<<1));
+if((l==8)|(p>65533))goto L3;
+o=p+2;}
+if(n==0){
+x4(a,0);
+goto L2;}
+if(!(*(e+22+(i64)l)&1)){
+C=r8(b+176);
+if(C==18446744073709551615u)D=0;
+else{
+w8(b+176,C+1);
+E=r8(b+88);
+if(r8(b+112)>E)F=E;
+else{
+G=make_ready_9a1(b+80);
+if(!(G&1)){
+D=0;
+goto L4;}
+F=r8(b+88);}
+H=rp(b+80)+F*44;
+*H=2;
+H[1]=0;
+x2(H+2,0);
+x4(H+4,g);
+z36(H+8);
+w8(b+88,F+1);
+D=1;}
+L4:*a=D;
 a[1]=0;
 a[2]=0;
 a[3]=0;
-goto L4;}
-z=r2(g+2);
-A=r2(g+4);
-w8(b+176,o);
-B=repeat_28b(b,z,A);
-if(!(B&1)){
+goto L2;}
+q=r2(e+6+(i64)((u64)l<<1));
+w8(b+176,m);
+r=repeat_28b(b,o,q);
+if(!(r&1)){
 x4(a,0);
-goto L4;}
-C=r8(b+8);
-D=r8(b+48);
-if(r8(b+72)>D)E=D;
+goto L2;}
+s=r8(b+8);
+t=r8(b+48);
+if(r8(b+72)>t)u=t;
 else{
-F=make_ready_17a(b+40);
-if(!(F&1)){
+v=make_ready_17a(b+40);
+if(!(v&1)){
 x4(a,0);
-goto L4;}
-E=r8(b+48);}
-G=rp(b+40)+E*12;
-x4(G,i);
-x4(G+4,C);
-G[8]=1;
-G[9]=1;
-x2(G+10,0);
-H=E+1;
-w8(b+48,H);
-I=r8(b+8);
-if(r8(b+72)>H)J=H;
+goto L2;}
+u=r8(b+48);}
+w=rp(b+40)+u*12;
+x4(w,g);
+x4(w+4,s);
+w[8]=1;
+w[9]=1;
+x2(w+10,0);
+x=u+1;
+w8(b+48,x);
+y=r8(b+8);
+if(r8(b+72)>x)z=x;
 else{
-K=make_ready_17a(b+40);
-if(!(K&1)){
+A=make_ready_17a(b+40);
+if(!(A&1)){
 x4(a,0);
-goto L4;}
-J=r8(b+48);}
-L=rp(b+40)+J*12;
-x4(L,i);
-x4(L+4,I);
-L[8]=1;
-L[9]=1;
-x2(L+10,0);
-w8(b+48,J+1);
+goto L2;}
+z=r8(b+48);}
+B=rp(b+40)+z*12;
+x4(B,g);
+x4(B+4,y);
+B[8]=1;
+B[9]=1;
+x2(B+10,0);
+w8(b+48,z+1);
 *a=1;
 a[1]=2;
 a[2]=1;
 a[3]=1;
-goto L4;
-default:NEVER;
-}
-R=r-1;
-if(R!=0){
-r=R;
-s=t;
-goto L2;}}
+goto L2;}
 L3:x4(a,0);
-goto L4;}
+goto L2;}
 L1:x4(a,0);
-goto L4;}}
-w8(b+176,j);
-S=r8(b+88);
-if(r8(b+112)>S)T=S;
+goto L2;}}
+w8(b+176,h);
+I=r8(b+88);
+if(r8(b+112)>I)J=I;
 else{
-U=make_ready_9a1(b+80);
-if(!(U&1)){
-V=0;
-goto L6;}
-T=r8(b+88);}
-W=rp(b+80)+T*44;
-*W=2;
-W[1]=0;
-x2(W+2,0);
-x4(W+4,i);
-z36(W+8);
-w8(b+88,T+1);
-V=1;
-L6:*a=V;
+K=make_ready_9a1(b+80);
+if(!(K&1)){
+L=0;
+goto L5;}
+J=r8(b+88);}
+M=rp(b+80)+J*44;
+*M=2;
+M[1]=0;
+x2(M+2,0);
+x4(M+4,g);
+z36(M+8);
+w8(b+88,J+1);
+L=1;
+L5:*a=L;
 a[1]=0;
 a[2]=0;
 a[3]=0;}
-L4:return;
+L2:return;
 }
 
 /* cpp_direct::open::Arguments::single */
@@ -52252,12 +53344,12 @@ L4:return;
 /* cpp_direct::direct::Direct::template_parameter */
 static void template_parameter_3b0(u8* a,u8* b,u8* c,u64 d)
 {
-u8 f[32];
-A16 u8 e[44];
-u64 g,h,i,l,n,o,p,t,z,A,D;
-u8 j,k,r,s,w,y,B;
-u8 *m,*q,*C;
-u16 u,v,x;
+u8 e[32],f[34];
+u64 g,h,i,l,r,s;
+u8 j,k,o,q,t;
+u16 m,n,p;
+u8 *u;
+z34(f);
 g=r8(b+176);
 if(g==18446744073709551615u)x4(a,0);
 else{
@@ -52273,80 +53365,52 @@ if(!((i<d)&((u8)(j-48)<10)))goto L1;
 if(*(c+i)!=95)goto L1;
 k=j-47;
 l=g+3;}
-m=rp(b+80);
-n=16;
-o=r8(b+88);
-L2:if(o!=0){
-p=o-1;
-q=m+(i64)(p*44);
-r=*q;
-s=q[16];
-switch(r){
-case 0:case 1:case 2:case 3:case 4:case 8:break;
-case 5:if(s!=0)goto L3;
-break;
-case 6:if(s!=0)goto L3;
-break;
-case 7:case 9:case 10:case 11:case 12:case 13:case 14:case 15:case 16:case 17:case 18:case 19:case 20:case 21:case 22:case 23:case 24:case 25:memcpy(e+4,q+4,40);
-switch(r){
-case 9:case 10:case 15:case 16:t=4;
-break;
-case 11:case 13:t=8;
-break;
-case 25:case 24:case 23:case 22:case 21:case 20:case 19:case 7:case 8:case 12:case 14:case 17:case 18:goto L3;
-default:NEVER;
-}
-memcpy(f,e+4+t,32);
-if((!(f[29]&1)||f[30]>k)&&f[28]>k){
-if(k==0)u=r2(f+2);
-else{
-if(k>=9)goto L4;
-v=r2(f+4+(i64)((u64)(u8)(k-1)<<1));
-if((k==8)|(v>65533))goto L4;
-u=v+2;}
-if(r2(f)==0){
+argument_dbb(f,b);
+if(*f!=1){
 x4(a,0);
-goto L5;}
-w=*(f+20+(i64)k);
-x=r2(f+4+(i64)((u64)k<<1));
+goto L2;}
+memcpy(e,f+2,32);
+if((!(e[29]&1)||e[30]>k)&&e[28]>k){
+if(k==0)m=r2(e+2);
+else{
+if(k>=9)goto L3;
+n=r2(e+4+(i64)((u64)(u8)(k-1)<<1));
+if((k==8)|(n>65533))goto L3;
+m=n+2;}
+if(r2(e)==0){
+x4(a,0);
+goto L2;}
+o=*(e+20+(i64)k);
+p=r2(e+4+(i64)((u64)k<<1));
 w8(b+176,l);
-y=repeat_28b(b,u,x);
-if(!(y&1)){
+q=repeat_28b(b,m,p);
+if(!(q&1)){
 x4(a,0);
-goto L5;}
-z=r8(b+48);
-if(r8(b+72)>z)A=z;
+goto L2;}
+r=r8(b+48);
+if(r8(b+72)>r)s=r;
 else{
-B=make_ready_17a(b+40);
-if(!(B&1)){
+t=make_ready_17a(b+40);
+if(!(t&1)){
 x4(a,0);
-goto L5;}
-A=r8(b+48);}
-C=rp(b+40)+A*12;
-x4(C,u);
-x4(C+4,x);
-C[8]=w;
-C[9]=1;
-x2(C+10,0);
-w8(b+48,A+1);
+goto L2;}
+s=r8(b+48);}
+u=rp(b+40)+s*12;
+x4(u,m);
+x4(u+4,p);
+u[8]=o;
+u[9]=1;
+x2(u+10,0);
+w8(b+48,s+1);
 *a=1;
 a[1]=2;
-a[2]=w;
+a[2]=o;
 a[3]=1;
-goto L5;}
-L4:x4(a,0);
-goto L5;
-default:NEVER;
-}
-D=n-1;
-if(D!=0){
-n=D;
-o=p;
-goto L2;}}
+goto L2;}
 L3:x4(a,0);
-goto L5;}
+goto L2;}
 L1:x4(a,0);}
-L5:return;
+L2:return;
 }
 
 /* cpp_direct::direct::Direct::named_type */
@@ -52844,58 +53908,26 @@ L19:return;
 /* cpp_direct::direct::Direct::dependent_again */
 static void dependent_again_186(u8* a,u8* b,u8* c)
 {
-A16 u8 d[44];
+u8 d[34];
 u32 e,f;
-u8 g,m,n,p;
-u8 *h,*l;
-u64 i,j,k,o,q;
+u8 g,h;
 e=q4(c);
 f=q4(c+4);
 g=c[8];
-h=rp(b+80);
-i=16;
-j=r8(b+88);
-L1:if(j!=0){
-k=j-1;
-l=h+(i64)(k*44);
-m=*l;
-n=l[16];
-switch(m){
-case 0:case 1:case 2:case 3:case 4:case 8:break;
-case 5:if(n!=0)goto L2;
-break;
-case 6:if(n!=0)goto L2;
-break;
-case 7:case 9:case 10:case 11:case 12:case 13:case 14:case 15:case 16:case 17:case 18:case 19:case 20:case 21:case 22:case 23:case 24:case 25:memcpy(d+4,l+4,40);
-switch(m){
-case 9:case 10:case 15:case 16:o=4;
-break;
-case 11:case 13:o=8;
-break;
-case 25:case 24:case 23:case 22:case 21:case 20:case 19:case 7:case 8:case 12:case 14:case 17:case 18:goto L2;
-default:NEVER;
-}
-if(r2(d+4+o)==0){
-x4(a,0);
-goto L3;}
-p=repeat_28b(b,e,f);
-if(!(p&1)){
-x4(a,0);
-goto L3;}
+z34(d);
+argument_dbb(d,b);
+if(*d==1){
+if(r2(d+2)==0)x4(a,0);
+else{
+h=repeat_28b(b,e,f);
+if(h&1){
 *a=1;
 a[1]=2;
 a[2]=g&1;
-a[3]=1;
-goto L3;
-default:NEVER;
-}
-q=i-1;
-if(q!=0){
-i=q;
-j=k;
-goto L1;}}
-L2:x4(a,0);
-L3:return;
+a[3]=1;}
+else x4(a,0);}}
+else x4(a,0);
+return;
 }
 
 /* cpp_direct::direct::Direct::begin_enclosing */
@@ -53231,11 +54263,11 @@ L2:return;
 static void enclosed_named_b0c(u8* a,u8* b,u8* c,u64 d,u32 e)
 {
 A16 u8 f[24];
-u64 g,i,j,k,m,o,q,s,t,v,w,x,B,D,E,F,G,H,I,L,R,T,U,W,X,Y,ba,ca,ea,fa,ga,ha,ia,ja,la,ma;
-u8 h,l,n,p,r,u,A,C,J,M,S,V,da,na;
-u8 *y,*z,*K,*Q,*Z,*aa,*oa;
-s_p_64 N,O,P;
-u32 ka;
+u64 g,i,j,k,n,p,q,r,s,t,u,x,D,F,G,I,J,K,N,O,Q,R,S,T,U,V,X,Y;
+u8 h,l,m,o,v,y,E,H,P,Z;
+u8 *w,*C,*L,*M,*aa;
+s_p_64 z,A,B;
+u32 W;
 g=r8(b+8);
 if(r8(b+32)-g<2){
 h=make_ready_8e3(b,2,128);
@@ -53252,155 +54284,122 @@ k=r8(b+176);
 if(k<d){
 l=*(c+k);
 if(l==85){
-m=k+1;
-if(m<d)n=*(c+m)==108;
-else n=0;
-o=k+2;
-if(o<d)p=*(c+o)==118;
-else p=0;
-q=k+3;
-if(q>=d)goto L2;
-if(!(n&p&&*(c+q)==69))goto L2;
-w8(b+176,k+4);
-if(r8(b+32)-j<10){
-r=make_ready_8e3(b,10,128);
-if(!(r&1))goto L2;
-s=r8(b+8);}
-else s=j;
-t=r8(b+16);
-if(t-s<10){
-u=grow_amortized_2b6(b,10);
-if(!u)goto L2;
-v=r8(b+16);
-w=r8(b+8);}
-else{
-v=t;
-w=s;}
-x=w+10;
-y=rp(b);
-z16(b+8);
-z=y+(i64)w;
-if((u64)z-(u64)(u8*)t_e97f<10)copy_bits_4f4((u8*)t_e97f,z,10);
-else memcpy(z,(u8*)t_e97f,10);
-wp(b,y);
-w8(b+8,x);
-w8(b+16,v);
-A=lambda_number_bca(b,c,d);
-if(!(A&1))goto L2;}
+m=lambda_b09(b,c,d);
+if(!(m&1))goto L2;}
 else{
 z24(f);
 if((u8)(l-58)<247)goto L3;
-B=k+1;
-if(B<d){
-C=*(c+B)-48;
-if(C<10){
-D=k+2;
-if(D<d){
-if((u8)(*(c+D)-48)<10){
+n=k+1;
+if(n<d){
+o=*(c+n)-48;
+if(o<10){
+p=k+2;
+if(p<d){
+if((u8)(*(c+p)-48)<10){
 long_name_at_8ad(f,c,d,k);
 if(*f!=1)goto L2;
-E=r8(f+8);
-F=r8(f+16);
+q=r8(f+8);
+r=r8(f+16);
 goto L4;}}
-G=(u64)C+(u8)((u8)(l*10)+32);
-if(d-D<G)goto L3;
-if((u8)(*(c+(i64)D)-48)<10)goto L3;
-H=G+D;
-I=D;
+s=(u64)o+(u8)((u8)(l*10)+32);
+if(d-p<s)goto L3;
+if((u8)(*(c+(i64)p)-48)<10)goto L3;
+t=s+p;
+u=p;
 goto L5;}}
-J=l-48;
-if(d-B<J)goto L3;
-if((u8)(*(c+(i64)B)-48)<10)goto L3;
-H=B+J;
-I=B;
-L5:E=I;
-F=H;
-L4:w8(b+176,F);
-K=c+(i64)E;
-L=F-E;
-if(F!=E){
-if(!(L<10||*K!=95)){
-M=parts_equal_58b((u8*)t_35ad,10,K,10);
-if(M){
-N=(s_p_64){(u8*)t_62ff,21};
+v=l-48;
+if(d-n<v)goto L3;
+if((u8)(*(c+(i64)n)-48)<10)goto L3;
+t=n+v;
+u=n;
+L5:q=u;
+r=t;
+L4:w8(b+176,r);
+w=c+(i64)q;
+x=r-q;
+if(r!=q){
+if(!(x<10||*w!=95)){
+y=parts_equal_58b((u8*)t_35ad,10,w,10);
+if(y){
+z=(s_p_64){(u8*)t_62ff,21};
 goto L6;}}}
-O=(s_p_64){0};O.f0=K;
-P=O;P.f1=L;
-N=P;
-L6:Q=N.f0;
-R=N.f1;
-if(r8(b+32)-j<R){
-S=make_ready_8e3(b,R,128);
-if(!(S&1))goto L2;
-T=r8(b+8);}
-else T=j;
-U=r8(b+16);
-if(R>U-T){
-V=grow_amortized_2b6(b,R);
-if(!V)goto L2;
-W=r8(b+16);
-X=r8(b+8);}
+A=(s_p_64){0};A.f0=w;
+B=A;B.f1=x;
+z=B;
+L6:C=z.f0;
+D=z.f1;
+if(r8(b+32)-j<D){
+E=make_ready_8e3(b,D,128);
+if(!(E&1))goto L2;
+F=r8(b+8);}
+else F=j;
+G=r8(b+16);
+if(D>G-F){
+H=grow_amortized_2b6(b,D);
+if(!H)goto L2;
+I=r8(b+16);
+J=r8(b+8);}
 else{
-W=U;
-X=T;}
-Y=X+R;
-Z=rp(b);
+I=G;
+J=F;}
+K=J+D;
+L=rp(b);
 z16(b+8);
-aa=Z+(i64)X;
-if((u64)aa-(u64)Q<R)copy_bits_4f4(Q,aa,R);
-else memmove(aa,Q,R);
-wp(b,Z);
-w8(b+8,Y);
-w8(b+16,W);}
-ba=r8(b+176);
-if(ba<d){
-if(*(c+ba)==95){
-ca=ba+1;
-w8(b+176,ca);
-if(ca<d){
-da=*(c+ca);
-if(da==95){
-ea=ba+2;
-w8(b+176,ea);
-if(d==ea){
-fa=d;
+M=L+(i64)J;
+if((u64)M-(u64)C<D)copy_bits_4f4(C,M,D);
+else memmove(M,C,D);
+wp(b,L);
+w8(b+8,K);
+w8(b+16,I);}
+N=r8(b+176);
+if(N<d){
+if(*(c+N)==95){
+O=N+1;
+w8(b+176,O);
+if(O<d){
+P=*(c+O);
+if(P==95){
+Q=N+2;
+w8(b+176,Q);
+if(d==Q){
+R=d;
 goto L7;}
-ga=ea;
-L8:if((u8)(*(c+ga)-48)<10){
-ha=ga+1;
-if(ha!=d){
-ga=ha;
+S=Q;
+L8:if((u8)(*(c+S)-48)<10){
+T=S+1;
+if(T!=d){
+S=T;
 goto L8;}
-fa=d;}
-else fa=ga;
-L7:if(ea>=fa)goto L9;
-ia=fa&4294967295u;
-if(ia>=d)goto L9;
-if(*(c+ia)!=95)goto L9;
-ja=ia+1;}
+R=d;}
+else R=S;
+L7:if(Q>=R)goto L9;
+U=R&4294967295u;
+if(U>=d)goto L9;
+if(*(c+U)!=95)goto L9;
+V=U+1;}
 else{
-if((u8)(da-58)<246)goto L9;
-ja=ba+2;}
-w8(b+176,ja);
+if((u8)(P-58)<246)goto L9;
+V=N+2;}
+w8(b+176,V);
 goto L10;}
 L9:x4(a,0);
 goto L1;}}
-L10:ka=r8(b+8);
-la=r8(b+48);
-if(r8(b+72)>la)ma=la;
+L10:W=r8(b+8);
+X=r8(b+48);
+if(r8(b+72)>X)Y=X;
 else{
-na=make_ready_17a(b+40);
-if(!(na&1)){
+Z=make_ready_17a(b+40);
+if(!(Z&1)){
 x4(a,0);
 goto L1;}
-ma=r8(b+48);}
-oa=rp(b+40)+ma*12;
-x4(oa,e);
-x4(oa+4,ka);
-oa[8]=0;
-oa[9]=0;
-x2(oa+10,0);
-w8(b+48,ma+1);
+Y=r8(b+48);}
+aa=rp(b+40)+Y*12;
+x4(aa,e);
+x4(aa+4,W);
+aa[8]=0;
+aa[9]=0;
+x2(aa+10,0);
+w8(b+48,Y+1);
 *a=1;
 a[1]=2;
 a[2]=0;
@@ -53408,171 +54407,6 @@ a[3]=0;
 goto L1;}
 L3:L2:x4(a,0);
 L1:return;
-}
-
-/* cpp_direct::direct::Direct::lambda_number */
-static u8 lambda_number_bca(u8* a,u8* b,u64 c)
-{
-u64 d,f,g,i,k,m,n,o,s,u;
-u8 e,h,j,l,r,t;
-u8 *p,*q;
-d=r8(a+176);
-if(d<c){
-e=*(b+d);
-f=d+1;
-w8(a+176,f);
-if(e==95){
-g=r8(a+8);
-if(r8(a+32)-g<2){
-h=make_ready_8e3(a,2,128);
-if(!(h&1)){
-j=0;
-goto L1;}
-i=r8(a+8);}
-else i=g;
-k=r8(a+16);
-if(k-i<2){
-l=grow_amortized_2b6(a,2);
-if(!l){
-j=0;
-goto L1;}
-m=r8(a+16);
-n=r8(a+8);}
-else{
-m=k;
-n=i;}
-o=n+2;
-p=rp(a);
-z16(a+8);
-q=p+(i64)n;
-if((u64)q-(u64)(u8*)t_2ac1<2)copy_bits_4f4((u8*)t_2ac1,q,2);
-else x2(q,32049);
-wp(a,p);
-w8(a+8,o);
-w8(a+16,m);
-j=1;}
-else{
-if((f<c)&((e&248)==48)){
-if(*(b+f)==95){
-w8(a+176,d+2);
-r=e+2;
-s=r8(a+8);
-if(r8(a+32)-s<2){
-t=make_ready_8e3(a,2,128);
-if(!(t&1)){
-j=0;
-goto L1;}
-u=r8(a+8);}
-else u=s;
-*(rp(a)+u)=r;
-*(rp(a)+(i64)u+1)=125;
-w8(a+8,u+2);
-j=1;}
-else j=0;}
-else j=0;}}
-else{
-if(d==18446744073709551615u)j=0;
-else{
-w8(a+176,d+1);
-j=0;}}
-L1:return j;
-}
-
-/* cpp_direct::direct::Direct::open_lambda */
-static u8 open_lambda_2e5(u8* a,u8* b,u64 c,u32 d,u8* e)
-{
-u64 f,l,n,p,q,s,t,u,x,y;
-u8 g,h,i,j,m,o,r,z;
-u16 k;
-u8 *v,*w,*A;
-f=r8(a+176);
-if(f==18446744073709551615u)g=0;
-else{
-h=*e;
-i=e[2];
-j=e[3];
-k=q2(e+4);
-l=f+1;
-w8(a+176,l);
-if(l<c){
-if(*(b+l)!=108||c>1024)g=0;
-else{
-m=are_numbers_short_ddb(b,c);
-if(m){
-w8(a+176,f+2);
-n=r8(a+8);
-if(r8(a+32)-n<10){
-o=make_ready_8e3(a,10,128);
-if(!(o&1)){
-g=0;
-goto L1;}
-p=r8(a+8);}
-else p=n;
-q=r8(a+16);
-if(q-p<10){
-r=grow_amortized_2b6(a,10);
-if(!r){
-g=0;
-goto L1;}
-s=r8(a+16);
-t=r8(a+8);}
-else{
-s=q;
-t=p;}
-u=t+10;
-v=rp(a);
-z16(a+8);
-w=v+(i64)t;
-if((u64)w-(u64)(u8*)t_a6a7<10)copy_bits_4f4((u8*)t_a6a7,w,10);
-else memcpy(w,(u8*)t_a6a7,10);
-wp(a,v);
-w8(a+8,u);
-w8(a+16,s);
-x=r8(a+88);
-if(r8(a+112)>x)y=x;
-else{
-z=make_ready_9a1(a+80);
-if(!(z&1)){
-g=0;
-goto L1;}
-y=r8(a+88);}
-A=rp(a+80)+y*44;
-*A=17;
-A[1]=0;
-x2(A+2,0);
-x4(A+4,d);
-x2(A+8,h);
-A[10]=i;
-A[11]=j;
-x2(A+12,k);
-z30(A+14);
-w8(a+88,y+1);
-g=1;}
-else g=0;}}
-else g=0;}
-L1:return g;
-}
-
-/* cpp_direct::tokens::are_numbers_short */
-static u8 are_numbers_short_ddb(u8* a,u64 b)
-{
-u64 c,d,f,g;
-u8 e;
-c=0;
-d=0;
-L1:if((u8)(*(a+d)-48)<10){
-if(c>18){
-e=0;
-goto L2;}
-f=c+1;}
-else f=0;
-g=d+1;
-if(g!=b){
-c=f;
-d=g;
-goto L1;}
-e=1;
-L2:return e;
 }
 
 /* cpp_direct::direct::Direct::enclosing_parameters */
@@ -53649,9 +54483,9 @@ static void parameter_ended_06e(u8* a,u8* b,u8* c,u64 d,u8 e,u32 f,u8* g)
 {
 u8 j[32];
 A16 u8 h[4],i[4];
-u64 k,p,r,w,z,B,D,E,G,M,N,O,R,S;
-u8 l,m,n,o,q,s,t,u,v,y,A,C,F,H,I,J,K,L;
-u8 *x,*P,*Q;
+u64 k,p,r,w,z,B,D,E;
+u8 l,m,n,o,q,s,t,u,v,y,A,C,F,G,H,I,J;
+u8 *x;
 k=r8(b+176);
 if(k<d){
 switch(*(c+k)){
@@ -53689,6 +54523,7 @@ u=m;
 v=l;
 goto L2;
 }}
+w4(h,0);
 w=r8(b+8);
 if(w>=5){
 x=rp(b)+(i64)w;
@@ -53709,56 +54544,20 @@ C=F;
 D=E;
 goto L4;}
 if(!(A|F)){
-s=0;
-t=0;
-u=0;
-v=0;
-goto L2;}}
-w4(h,0);
-if(r8(b+32)>w)G=w;
-else{
-H=make_ready_8e3(b,1,16);
-if(!(H&1)){
+G=0;
+H=0;
 I=0;
 J=0;
-K=0;
-L=0;
-goto L5;}
-G=r8(b+8);}
-*(rp(b)+G)=41;
-M=G+1;
-w8(b+8,M);
-if(f!=0){
-if(f>(u32)M){
-I=0;
-J=0;
-K=0;
-L=0;
-goto L5;}
-N=M-f;
-if(M==f)O=M;
-else{
-P=rp(b);
-Q=P+(i64)f;
-R=0;
-L6:*(P+R)=*(Q+(i64)R);
-S=R+1;
-if(S!=N){
-R=S;
-goto L6;}
-O=r8(b+8);}
-if(O>N)w8(b+8,N);
-if(r8(b+48)!=0)w8(b+48,0);
-z16(b+64);}
-end_05d(h,b,c,d,e);
-I=h[3];
-J=h[2];
-K=h[1];
-L=*h;
-L5:s=L;
-t=K;
-u=J;
-v=I;
+goto L5;}}
+close_a33(h,b,c,d,e,f);
+G=h[3];
+H=h[2];
+I=h[1];
+J=*h;
+L5:s=J;
+t=I;
+u=H;
+v=G;
 L2:*a=s;
 a[1]=t;
 a[2]=u;
@@ -53900,15 +54699,16 @@ L2:return;
 static void front_hidden_955(u8* a,u8* b,u8* c,u64 d,u8 e,u32 f,u8* g)
 {
 A16 u8 h[4],i[4],j[32];
-u64 k,n,p,q,w,x,y,A,G,H,I,J,M,N,O,P;
-u8 l,o,r,s,t,u,v,z,B,C,D,E,F,Q,S,T,U,V,W;
+u64 k,n,p,q,w,x,z,A;
+u8 l,o,r,s,t,u,v,y,B,D,E,F,G,H;
 u32 m;
-u8 *K,*L,*R;
+u8 *C;
 memcpy(j,g,32);
 k=r8(b+8);
 l=repeat_28b(b,0,f);
 if(l&1){
 m=k;
+w4(i,0);
 n=r8(b+176);
 if(n<d)o=*(c+n)==118;
 else o=0;
@@ -53924,105 +54724,63 @@ v=0;
 goto L1;}
 q=r8(b+8);}
 *(rp(b)+q)=40;
-w=q+1;
-w8(b+8,w);
-x=r8(b+176);
-if(x==18446744073709551615u){
+w8(b+8,q+1);
+w=r8(b+176);
+if(w==18446744073709551615u){
 s=0;
 t=0;
 u=0;
 v=0;}
 else{
-y=x+1;
-if(y<d)z=*(c+y);
-else z=0;
+x=w+1;
+if(x<d)y=*(c+x);
+else y=0;
 if(o){
-switch(z){
-case 69:case 46:case 0:w8(b+176,y);
-w4(h,0);
-if(r8(b+32)>w)A=w;
-else{
-B=make_ready_8e3(b,1,16);
-if(!(B&1)){
-C=0;
-D=0;
-E=0;
-F=0;
-goto L2;}
-A=r8(b+8);}
-*(rp(b)+A)=41;
-G=A+1;
-w8(b+8,G);
-if(m!=0){
-if(m>(u32)G){
-C=0;
-D=0;
-E=0;
-F=0;
-goto L2;}
-H=k&4294967295u;
-I=G-H;
-if(G==H)J=G;
-else{
-K=rp(b);
-L=K+(i64)H;
-M=0;
-L3:*(K+M)=*(L+(i64)M);
-N=M+1;
-if(N!=I){
-M=N;
-goto L3;}
-J=r8(b+8);}
-if(J>I)w8(b+8,I);
-if(r8(b+48)!=0)w8(b+48,0);
-z16(b+64);}
-end_05d(h,b,c,d,e);
-C=h[3];
-D=h[2];
-E=h[1];
-F=*h;
-L2:s=C;
-t=D;
-u=E;
-v=F;
+switch(y){
+case 69:case 46:case 0:w8(b+176,x);
+close_a33(i,b,c,d,e,m);
+s=i[3];
+t=i[2];
+u=i[1];
+v=*i;
 goto L1;
 default:break;}}
-O=r8(b+88);
-if(r8(b+112)>O)P=O;
+z=r8(b+88);
+if(r8(b+112)>z)A=z;
 else{
-Q=make_ready_9a1(b+80);
-if(!(Q&1)){
+B=make_ready_9a1(b+80);
+if(!(B&1)){
 s=0;
 t=0;
 u=0;
 v=0;
 goto L1;}
-P=r8(b+88);}
-R=rp(b+80)+P*44;
-*R=10;
-R[1]=e;
-x2(R+2,0);
-x4(R+4,m);
-memcpy(R+8,j,32);
-x4(R+40,0);
-w8(b+88,P+1);
-S=j[29];
-w4(i,0);
-if(S&1){
-expansion_d9b(i,b,c,d,1,e,m,j);
-T=*i;
-U=i[1];
-V=i[2];
-W=i[3];}
+A=r8(b+88);}
+C=rp(b+80)+A*44;
+*C=10;
+C[1]=e;
+x2(C+2,0);
+x4(C+4,m);
+memcpy(C+8,j,32);
+x4(C+40,0);
+w8(b+88,A+1);
+D=j[29];
+w4(h,0);
+if(D&1){
+expansion_d9b(h,b,c,d,1,e,m,j);
+E=*h;
+F=h[1];
+G=h[2];
+H=h[3];}
 else{
-T=1;
-U=0;
-V=0;
-W=0;}
-s=W;
-t=V;
-u=U;
-v=T;}
+E=1;
+F=0;
+G=0;
+H=0;}
+s=H;
+t=G;
+u=F;
+v=E;}
 L1:*a=v;
 a[1]=u;
 a[2]=t;
@@ -54062,7 +54820,7 @@ break;
 case 11:memcpy(g,j-32,32);
 enclosing_front_fa8(e,b,k,l,m,g);
 break;
-case 0:case 1:case 2:case 3:case 4:case 5:case 6:case 7:case 8:case 9:case 10:case 12:case 14:case 17:case 18:case 19:case 20:case 21:case 22:case 23:case 24:case 25:n=h-1;
+case 0:case 1:case 2:case 3:case 4:case 5:case 6:case 7:case 8:case 9:case 10:case 12:case 14:case 17:case 18:case 19:case 20:case 21:case 22:case 23:case 24:case 25:case 26:case 27:case 28:case 29:n=h-1;
 w8(b+88,n);
 o=n*44;
 p=i+o;
@@ -54127,7 +54885,7 @@ I=1;
 J=0;
 K=0;
 break;
-case 0:case 1:case 2:case 3:case 7:case 9:case 10:case 11:case 12:case 13:case 14:case 15:case 16:case 17:case 18:case 19:case 20:case 21:case 22:case 23:case 24:case 25:goto L1;
+case 0:case 1:case 2:case 3:case 7:case 9:case 10:case 11:case 12:case 13:case 14:case 15:case 16:case 17:case 18:case 19:case 20:case 21:case 22:case 23:case 24:case 25:case 26:case 27:case 28:case 29:goto L1;
 default:NEVER;
 }
 if(r8(b+112)>n){
@@ -54338,7 +55096,7 @@ else{
 q=rp(b);
 r=q+(i64)m;
 s=0;
-L1:*(q+s)=*(r+(i64)s);
+L1:*(q+(i64)s)=*(r+(i64)s);
 t=s+1;
 if(t!=o){
 s=t;
@@ -54706,7 +55464,7 @@ else{
 o=rp(b);
 p=o+(i64)k;
 q=0;
-L1:*(o+q)=*(p+(i64)q);
+L1:*(o+(i64)q)=*(p+(i64)q);
 r=q+1;
 if(r!=m){
 q=r;
@@ -54768,6 +55526,120 @@ else x4(a,0);
 return;
 }
 
+/* cpp_direct::types::dependent */
+static void dependent_8e0(u8* a,u8* b)
+{
+u8 c,g,h,j,k,l,o,q,r,s,t,v,w,y;
+u32 d,e,f,m,n,u,x;
+u16 i,p;
+c=*b;
+d=q4(b+4);
+e=q4(b+8);
+f=q4(b+12);
+g=b[16];
+h=b[17];
+i=q2(b+18);
+j=b[20];
+k=b[21];
+l=b[22];
+switch(c){
+case 4:m=0;
+n=0;
+o=0;
+p=0;
+q=0;
+r=0;
+s=0;
+t=0;
+u=1;
+v=c;
+w=0;
+x=d;
+y=1;
+break;
+case 5:if(g!=0){
+z48(a);
+goto L1;}
+m=(e>>8)&16777215;
+n=f;
+o=h;
+p=i;
+q=j&1;
+r=k&1;
+s=l&1;
+t=1;
+u=1;
+v=5;
+w=0;
+x=d;
+y=e;
+break;
+case 6:if(g!=0){
+z48(a);
+goto L1;}
+m=(e>>8)&16777215;
+n=f;
+o=h;
+p=i;
+q=j&1;
+r=k&1;
+s=l&1;
+t=1;
+u=1;
+v=6;
+w=0;
+x=d;
+y=e;
+break;
+case 8:m=0;
+n=0;
+o=0;
+p=0;
+q=0;
+r=0;
+s=0;
+t=0;
+u=1;
+v=c;
+w=1;
+x=0;
+y=0;
+break;
+case 0:case 1:case 2:case 3:case 7:case 9:case 10:case 11:case 12:case 13:case 14:case 15:case 16:case 17:case 18:case 19:case 20:case 21:case 22:case 23:case 24:case 25:case 26:case 27:case 28:case 29:m=0;
+n=0;
+o=0;
+p=0;
+q=0;
+r=0;
+s=0;
+t=0;
+u=0;
+v=0;
+w=0;
+x=0;
+y=0;
+break;
+default:NEVER;
+}
+x4(a,u);
+a[4]=v;
+a[5]=w;
+x2(a+6,0);
+x4(a+8,x);
+a[12]=y;
+x3(a+13,m);
+x4(a+16,n);
+a[20]=0;
+a[21]=o;
+x2(a+22,p);
+a[24]=q;
+a[25]=r;
+a[26]=s;
+a[27]=t;
+z20(a+28);
+L1:return;
+}
+
 /* cpp_direct::direct::Direct::returned */
 static void returned_acd(u8* a,u8* b,u8* c,u64 d,u8 e)
 {
@@ -54812,7 +55684,7 @@ x4(a,0);
 goto L2;}
 u=r8(b+88);}
 w=rp(b+80)+u*44;
-*w=20;
+*w=23;
 w[1]=e;
 z42(w+2);
 w8(b+88,u+1);
@@ -54893,7 +55765,7 @@ x8(r+4,0);
 w8(b+48,p+1);
 s=r8(b+88);
 if(s!=0)w8(b+88,s-1);
-pass_element_c99(f,b,c,d);
+pass_element_c99(f,b,c,d,0);
 *a=*f;
 a[1]=f[1];
 a[2]=f[2];
@@ -54904,46 +55776,54 @@ L1:return;
 }
 
 /* cpp_direct::direct::Direct::pass_element */
-static void pass_element_c99(u8* a,u8* b,u8* c,u64 d)
+static void pass_element_c99(u8* a,u8* b,u8* c,u64 d,u8 e)
 {
-u8 f[32];
-A16 u8 e[4];
-u64 g;
-u8 *h;
-u8 i,k,l,m;
-u32 j;
-w4(e,0);
-g=r8(b+88);
-if(g==0)x4(a,0);
+u8 g[32],h[32];
+A16 u8 f[4];
+u64 i;
+u8 *j;
+u8 k,m,o,p,q;
+u32 l,n;
+w4(f,0);
+i=r8(b+88);
+if(i==0)x4(a,0);
 else{
-h=rp(b+80)+(i64)(g*44);
-switch(h[-44]){
-case 10:i=h[-43];
-j=r4(h-40);
-memcpy(f,h-36,32);
-parameter_ended_06e(e,b,c,d,i,j,f);
+j=rp(b+80)+(i64)(i*44);
+switch(j[-44]){
+case 10:k=j[-43];
+l=r4(j-40);
+memcpy(g,j-36,32);
+parameter_ended_06e(f,b,c,d,k,l,g);
 break;
-case 12:enclosing_parameter_d72(e,b,c,d,h[-43],r4(h-40));
+case 12:enclosing_parameter_d72(f,b,c,d,j[-43],r4(j-40));
 break;
-case 13:instance_parameter_e2a(e,b,c,d,h[-43],r4(h-40),r4(h-36));
+case 13:instance_parameter_e2a(f,b,c,d,j[-43],r4(j-40),r4(j-36));
 break;
-case 18:finish_8cd(e,b,c,d);
+case 19:finish_8cd(f,b,c,d);
 break;
-case 0:case 1:case 2:case 3:case 4:case 5:case 6:case 7:case 8:case 9:case 11:case 14:case 15:case 16:case 17:case 19:case 20:case 21:case 22:case 23:case 24:case 25:*e=1;
-e[1]=3;
-e[2]=0;
-e[3]=0;
+case 28:if(!e){
+x4(a,0);
+goto L1;}
+m=j[-36];
+n=r4(j-40);
+memcpy(h,j-34,32);
+element_ended_d46(f,b,c,d,n,m,h,1);
+break;
+case 0:case 1:case 2:case 3:case 4:case 5:case 6:case 7:case 8:case 9:case 11:case 14:case 15:case 16:case 17:case 18:case 20:case 21:case 22:case 23:case 24:case 25:case 26:case 27:case 29:*f=1;
+f[1]=3;
+f[2]=0;
+f[3]=0;
 break;
 default:NEVER;
 }
-k=e[1];
-l=e[2];
-m=e[3];
-*a=*e;
-a[1]=k;
-a[2]=l;
-a[3]=m;}
-return;
+o=f[1];
+p=f[2];
+q=f[3];
+*a=*f;
+a[1]=o;
+a[2]=p;
+a[3]=q;}
+L1:return;
 }
 
 /* cpp_direct::direct::Direct::parameter_at */
@@ -55164,7 +56044,7 @@ W=rp(b+40)+U*12;
 x4(W,1);
 x8(W+4,0);
 w8(b+48,U+1);
-pass_element_c99(h,b,c,d);
+pass_element_c99(h,b,c,d,e==2);
 *a=*h;
 a[1]=h[1];
 a[2]=h[2];
@@ -55181,148 +56061,176 @@ L4:return;
 /* cpp_direct::direct::Direct::lambda_parameter */
 static void lambda_parameter_f9a(u8* a,u8* b,u8* c,u64 d,u32 e,u8* f)
 {
-u64 g,l,o,q,s,t,w,y,z,A,C,D,E,F,G,H,L,M,P,R;
-u8 h,i,j,n,p,r,u,v,x,B,I,J,N,Q;
-u16 k;
-u8 *m,*O;
-u32 K;
-g=r8(b+176);
-if(g<d){
-if(*(c+g)==69){
-h=*f;
-i=f[2];
-j=f[3];
-k=q2(f+4);
-l=r8(b+8);
-if(l>=5){
-m=rp(b)+(i64)l;
-n=0;
-o=0;
-L1:p=n||*((u8*)t_262b+(i64)o)!=*(m-5+(i64)o);
-q=o+1;
-if(q!=4){
-n=p;
-o=q;
+A16 u8 g[4];
+u64 h,n,q,s,u,v,y,A,B,C,E,F,G,H,I,J,P,Q,T,V;
+u8 i,j,k,l,p,r,t,w,x,z,D,K,L,M,N,R,U;
+u16 m;
+u8 *o,*S;
+u32 O;
+h=r8(b+176);
+if(h<d){
+if(*(c+h)==69){
+i=*f;
+j=f[1];
+k=f[2];
+l=f[3];
+m=q2(f+4);
+n=r8(b+8);
+if(n>=5){
+o=rp(b)+(i64)n;
+p=0;
+q=0;
+L1:r=p||*((u8*)t_262b+(i64)q)!=*(o-5+(i64)q);
+s=q+1;
+if(s!=4){
+p=r;
+q=s;
 goto L1;}
-r=0;
-s=0;
-L2:t=s+1;
-u=r||*((u8*)t_262b+(i64)t)!=*(m-5+(i64)t);
-if(t!=4){
-r=u;
-s=t;
+t=0;
+u=0;
+L2:v=u+1;
+w=t||*((u8*)t_262b+(i64)v)!=*(o-5+(i64)v);
+if(v!=4){
+t=w;
+u=v;
 goto L2;}
-if(!(p|u)){
+if(!(r|w)){
 x4(a,0);
 goto L3;}}
-w8(b+176,g+1);
-if(r8(b+32)-l<2){
-v=make_ready_8e3(b,2,128);
-if(!(v&1)){
-x4(a,0);
-goto L3;}
-w=r8(b+8);}
-else w=l;
-*(rp(b)+w)=41;
-*(rp(b)+(i64)w+1)=35;
-w8(b+8,w+2);
-x=lambda_number_bca(b,c,d);
+w8(b+176,h+1);
+if(r8(b+32)-n<2){
+x=make_ready_8e3(b,2,128);
 if(!(x&1)){
 x4(a,0);
 goto L3;}
-y=r8(b+88);
-if(y!=0)w8(b+88,y-1);
-if(h==0){
-z=r8(b+176);
-if(z<d){
-if(*(c+z)==95){
-A=z+1;
-w8(b+176,A);
-if(A>=d){
-I=0;
-J=0;
-goto L4;}
-B=*(c+A);
-if(B==95){
-C=z+2;
-w8(b+176,C);
-if(d==C){
-D=d;
-goto L5;}
-E=C;
-L6:if((u8)(*(c+E)-48)<10){
-F=E+1;
-if(F!=d){
-E=F;
-goto L6;}
-D=d;}
-else D=E;
-L5:if(C>=D){
-I=0;
-J=0;
-goto L4;}
-G=D&4294967295u;
-if(G>=d){
-I=0;
-J=0;
-goto L4;}
-if(*(c+G)!=95){
-I=0;
-J=0;
-goto L4;}
-H=G+1;}
-else{
-if((u8)(B-58)<246){
-I=0;
-J=0;
-goto L4;}
-H=z+2;}
-w8(b+176,H);}}
-K=r8(b+8);
-L=r8(b+48);
-if(r8(b+72)>L)M=L;
-else{
-N=make_ready_17a(b+40);
-if(!(N&1)){
-I=0;
-J=0;
-goto L4;}
-M=r8(b+48);}
-O=rp(b+40)+M*12;
-x4(O,e);
-x4(O+4,K);
-O[8]=0;
-O[9]=0;
-x2(O+10,0);
-w8(b+48,M+1);
-I=1;
-J=2;}
-else{
-x4(b+120,e);
-x4(b+124,e);
-x4(b+128,e);
-b[132]=i;
-b[133]=j;
-x2(b+134,k);
-x4(b+136,0);
-I=1;
-J=5;}
-L4:*a=I;
-a[1]=J;
-a[2]=0;
-a[3]=0;
-goto L3;}}
-P=r8(b+8);
-if(r8(b+32)-P<2){
-Q=make_ready_8e3(b,2,128);
-if(!(Q&1)){
+y=r8(b+8);}
+else y=n;
+*(rp(b)+y)=41;
+*(rp(b)+(i64)y+1)=35;
+w8(b+8,y+2);
+z=lambda_number_bca(b,c,d);
+if(!(z&1)){
 x4(a,0);
 goto L3;}
-R=r8(b+8);}
-else R=P;
-*(rp(b)+R)=44;
-*(rp(b)+(i64)R+1)=32;
-w8(b+8,R+2);
+A=r8(b+88);
+if(A!=0)w8(b+88,A-1);
+w4(g,0);
+switch(i){
+case 0:B=r8(b+176);
+if(B<d){
+if(*(c+B)==95){
+C=B+1;
+w8(b+176,C);
+if(C>=d){
+K=0;
+L=0;
+M=0;
+N=0;
+break;}
+D=*(c+C);
+if(D==95){
+E=B+2;
+w8(b+176,E);
+if(d==E){
+F=d;
+goto L4;}
+G=E;
+L5:if((u8)(*(c+G)-48)<10){
+H=G+1;
+if(H!=d){
+G=H;
+goto L5;}
+F=d;}
+else F=G;
+L4:if(E>=F){
+K=0;
+L=0;
+M=0;
+N=0;
+break;}
+I=F&4294967295u;
+if(I>=d){
+K=0;
+L=0;
+M=0;
+N=0;
+break;}
+if(*(c+I)!=95){
+K=0;
+L=0;
+M=0;
+N=0;
+break;}
+J=I+1;}
+else{
+if((u8)(D-58)<246){
+K=0;
+L=0;
+M=0;
+N=0;
+break;}
+J=B+2;}
+w8(b+176,J);}}
+O=r8(b+8);
+P=r8(b+48);
+if(r8(b+72)>P)Q=P;
+else{
+R=make_ready_17a(b+40);
+if(!(R&1)){
+K=0;
+L=0;
+M=0;
+N=0;
+break;}
+Q=r8(b+48);}
+S=rp(b+40)+Q*12;
+x4(S,e);
+x4(S+4,O);
+S[8]=0;
+S[9]=0;
+x2(S+10,0);
+w8(b+48,Q+1);
+K=1;
+L=2;
+M=0;
+N=0;
+break;
+case 1:x4(b+120,e);
+x4(b+124,e);
+x4(b+128,e);
+b[132]=k;
+b[133]=l;
+x2(b+134,m);
+x4(b+136,0);
+K=1;
+L=5;
+M=0;
+N=0;
+break;
+case 2:member_function_aa3(g,b,c,d,j);
+K=*g;
+L=g[1];
+M=g[2];
+N=g[3];
+break;
+default:NEVER;
+}
+*a=K;
+a[1]=L;
+a[2]=M;
+a[3]=N;
+goto L3;}}
+T=r8(b+8);
+if(r8(b+32)-T<2){
+U=make_ready_8e3(b,2,128);
+if(!(U&1)){
+x4(a,0);
+goto L3;}
+V=r8(b+8);}
+else V=T;
+*(rp(b)+V)=44;
+*(rp(b)+(i64)V+1)=32;
+w8(b+8,V+2);
 *a=1;
 a[1]=0;
 a[2]=0;
@@ -55330,141 +56238,381 @@ a[3]=0;
 L3:return;
 }
 
+/* cpp_direct::direct::Direct::member_parameter */
+static void member_parameter_678(u8* a,u8* b,u8* c,u64 d,u8 e)
+{
+A16 u8 f[4];
+u64 g,h,j,k,n,p,r,s,u,v;
+u8 i,m,o,q,t,w;
+u8 *l;
+w4(f,0);
+g=r8(b+176);
+if(g<d){
+switch(*(c+g)){
+case 69:case 46:case 0:break;
+default:h=r8(b+8);
+if(r8(b+32)-h<2){
+i=make_ready_8e3(b,2,128);
+if(!(i&1)){
+x4(a,0);
+goto L1;}
+j=r8(b+8);}
+else j=h;
+*(rp(b)+j)=44;
+*(rp(b)+(i64)j+1)=32;
+w8(b+8,j+2);
+*a=1;
+a[1]=0;
+a[2]=0;
+a[3]=0;
+goto L1;
+}}
+k=r8(b+8);
+if(k>=5){
+l=rp(b)+(i64)k;
+m=0;
+n=0;
+L2:o=m||*((u8*)t_262b+(i64)n)!=*(l-5+(i64)n);
+p=n+1;
+if(p!=4){
+m=o;
+n=p;
+goto L2;}
+q=0;
+r=0;
+L3:s=r+1;
+t=q||*((u8*)t_262b+(i64)s)!=*(l-5+(i64)s);
+if(s!=4){
+q=t;
+r=s;
+goto L3;}
+if(!(o|t)){
+x4(a,0);
+goto L1;}}
+u=r8(b+88);
+if(u!=0)w8(b+88,u-1);
+if(r8(b+32)>k)v=k;
+else{
+w=make_ready_8e3(b,1,16);
+if(!(w&1)){
+x4(a,0);
+goto L1;}
+v=r8(b+8);}
+*(rp(b)+v)=41;
+w8(b+8,v+1);
+member_ended_9dc(f,b,c,d,e);
+*a=*f;
+a[1]=f[1];
+a[2]=f[2];
+a[3]=f[3];
+L1:return;
+}
+
+/* cpp_direct::direct::Direct::derived_ended */
+static void derived_ended_aef(u8* a,u8* b,u8* c,u64 d)
+{
+u64 e,f,h,i,j,k,l,n,o,q,r,s,v,w;
+u32 g;
+u8 m,p,x;
+u8 *t,*u,*y;
+e=r8(b+176);
+if(d>=e){
+f=r8(b+8);
+g=f;
+if(d==e){
+h=d;
+goto L1;}
+i=e;
+L2:if((u8)(*(c+i)-48)<10){
+j=i+1;
+if(j!=d){
+i=j;
+goto L2;}
+h=d;}
+else h=i;
+L1:if(e<h){
+k=h&4294967295u;
+if(k<d){
+if(*(c+k)==95){
+w8(b+176,k+1);
+l=r8(b+88);
+if(l!=0)w8(b+88,l-1);
+if(r8(b+32)-f<24){
+m=make_ready_8e3(b,24,128);
+if(!(m&1))goto L3;
+n=r8(b+8);}
+else n=f;
+o=r8(b+16);
+if(o-n<24){
+p=grow_amortized_2b6(b,24);
+if(!p)goto L3;
+q=r8(b+16);
+r=r8(b+8);}
+else{
+q=o;
+r=n;}
+s=r+24;
+t=rp(b);
+z16(b+8);
+u=t+(i64)r;
+if((u64)u-(u64)(u8*)t_1a19<24)copy_bits_4f4((u8*)t_1a19,u,24);
+else memcpy(u,(u8*)t_1a19,24);
+wp(b,t);
+w8(b+8,s);
+w8(b+16,q);
+v=r8(b+88);
+if(r8(b+112)>v)w=v;
+else{
+x=make_ready_9a1(b+80);
+if(!(x&1)){
+x4(a,0);
+goto L4;}
+w=r8(b+88);}
+y=rp(b+80)+w*44;
+*y=21;
+y[1]=0;
+x2(y+2,0);
+x4(y+4,g);
+z36(y+8);
+w8(b+88,w+1);
+*a=1;
+a[1]=0;
+a[2]=0;
+a[3]=0;
+goto L4;
+L3:x4(a,0);
+goto L4;}}}}
+x4(a,0);
+L4:return;
+}
+
+/* cpp_direct::direct::Direct::base_ended */
+static void base_ended_299(u8* a,u8* b,u8* c,u64 d,u32 e)
+{
+A16 u8 f[4];
+u64 g,i,j,l,m,n,r,s,t,w,x;
+u8 h,k,q,y;
+u8 *o,*p,*u,*v;
+w4(f,0);
+g=r8(b+8);
+if(r8(b+32)-g<4){
+h=make_ready_8e3(b,4,128);
+if(!(h&1))goto L1;
+i=r8(b+8);}
+else i=g;
+j=r8(b+16);
+if(j-i<4){
+k=grow_amortized_2b6(b,4);
+if(!k)goto L1;
+l=r8(b+16);
+m=r8(b+8);}
+else{
+l=j;
+m=i;}
+n=m+4;
+o=rp(b);
+z16(b+8);
+p=o+(i64)m;
+if((u64)p-(u64)(u8*)t_7285<4)copy_bits_4f4((u8*)t_7285,p,4);
+else x4(p,762210605);
+wp(b,o);
+w8(b+8,n);
+w8(b+16,l);
+q=repeat_28b(b,0,e);
+if(!(q&1)){
+x4(a,0);
+goto L2;}
+if(e!=0){
+r=r8(b+8);
+if(e>(u32)r){
+x4(a,0);
+goto L2;}
+s=r-e;
+if(r==e)t=e;
+else{
+u=rp(b);
+v=u+(i64)e;
+w=0;
+L3:*(u+(i64)w)=*(v+(i64)w);
+x=w+1;
+if(x!=s){
+w=x;
+goto L3;}
+t=r8(b+8);}
+if(t>s)w8(b+8,s);
+if(d>=3){
+y=c[2];
+if(d<5){
+if(y!=90)goto L4;}
+else{
+switch(y){
+case 90:break;
+case 71:if(c[3]!=86)goto L4;
+if(c[4]!=90)goto L4;
+break;
+default:goto L4;
+}}
+hide_all_828(b);
+goto L5;}
+L4:if(r8(b+48)!=0)w8(b+48,0);
+z16(b+64);}
+L5:finish_8cd(f,b,c,d);
+*a=*f;
+a[1]=f[1];
+a[2]=f[2];
+a[3]=f[3];
+goto L2;
+L1:x4(a,0);
+L2:return;
+}
+
 /* cpp_direct::direct::Direct::enumerator */
 static void enumerator_21c(u8* a,u8* b,u8* c,u64 d)
 {
-u64 e,h,j,l,n,p,r,t,v,x,z,B,C,F,H,J,K,M,O,P,R,S,T,W,Z;
-u8 *f,*U,*V;
-u8 g,i,k,m,o,q,s,u,w,y,A,D,E,G,I,L,N,Q,X,Y;
-e=r8(b+8);
-if(e>=4){
-f=rp(b)+(i64)e;
-g=0;
-h=0;
-L1:i=g||*((u8*)t_bb1b+(i64)h)!=*(f-4+(i64)h);
-j=h+1;
-if(j!=4){
-g=i;
-h=j;
-goto L1;}
-k=0;
-l=0;
-L2:m=k||*((u8*)t_bb1b+(i64)l)!=*(f-4+(i64)l);
-n=l+1;
-if(n!=4){
-k=m;
-l=n;
-goto L2;}
-if(!(i|m)){
-x4(a,0);
-goto L3;}
-o=0;
-p=0;
-L4:q=o||*((u8*)t_91bb+(i64)p)!=*(f-4+(i64)p);
-r=p+1;
-if(r!=4){
-o=q;
-p=r;
-goto L4;}
-s=0;
-t=0;
-L5:u=s||*((u8*)t_91bb+(i64)t)!=*(f-4+(i64)t);
-v=t+1;
-if(v!=4){
-s=u;
-t=v;
-goto L5;}
-if(!(q|u)){
-x4(a,0);
-goto L3;}
-if(e!=4){
-w=0;
-x=0;
-L6:y=w||*((u8*)t_53bd+(i64)x)!=*(f-5+(i64)x);
-z=x+1;
-if(z!=4){
-w=y;
-x=z;
-goto L6;}
-A=0;
-B=0;
-L7:C=B+1;
-D=A||*((u8*)t_53bd+(i64)C)!=*(f-5+(i64)C);
-if(C!=4){
-A=D;
-B=C;
-goto L7;}
-if(!(y|D)){
-x4(a,0);
-goto L3;}
-E=0;
-F=0;
-L8:G=E||*((u8*)t_e9c6+(i64)F)!=*(f-5+(i64)F);
-H=F+1;
-if(H!=4){
-E=G;
-F=H;
-goto L8;}
-I=0;
-J=0;
-L9:K=J+1;
-L=I||*((u8*)t_e9c6+(i64)K)!=*(f-5+(i64)K);
-if(K!=4){
-I=L;
-J=K;
-goto L9;}
-if(!(G|L)){
-x4(a,0);
-goto L3;}}}
-M=r8(b+88);
-if(M!=0)w8(b+88,M-1);
-if(r8(b+32)==e){
-N=make_ready_8e3(b,1,128);
-if(!(N&1))goto L10;
-O=r8(b+8);}
-else O=e;
-P=r8(b+16);
-if(P==O){
-Q=grow_amortized_2b6(b,1);
-if(!Q)goto L10;
-R=r8(b+16);
-S=r8(b+8);}
+u8 e,h,k,r,s;
+u64 f,g,i,j,l,m,n,q,t;
+u8 *o,*p;
+e=ends_as_integer_bdf(b);
+if(e)x4(a,0);
 else{
-R=P;
-S=O;}
-T=S+1;
-U=rp(b);
+f=r8(b+88);
+if(f!=0)w8(b+88,f-1);
+g=r8(b+8);
+if(r8(b+32)==g){
+h=make_ready_8e3(b,1,128);
+if(!(h&1))goto L1;
+i=r8(b+8);}
+else i=g;
+j=r8(b+16);
+if(j==i){
+k=grow_amortized_2b6(b,1);
+if(!k)goto L1;
+l=r8(b+16);
+m=r8(b+8);}
+else{
+l=j;
+m=i;}
+n=m+1;
+o=rp(b);
 z16(b+8);
-V=U+(i64)S;
-if((u64)V==(u64)(u8*)t_ba5e)copy_bits_4f4((u8*)t_ba5e,V,1);
-else *V=41;
-wp(b,U);
-w8(b+8,T);
-w8(b+16,R);
-W=r8(b+176);
-if(W<d){
-if(*(c+W)==110){
-w8(b+176,W+1);
-X=1;}
-else X=0;}
-else X=0;
-Y=digits_418(b,c,d,X);
-if(!(Y&1)){
+p=o+(i64)m;
+if((u64)p==(u64)(u8*)t_ba5e)copy_bits_4f4((u8*)t_ba5e,p,1);
+else *p=41;
+wp(b,o);
+w8(b+8,n);
+w8(b+16,l);
+q=r8(b+176);
+if(q<d){
+if(*(c+q)==110){
+w8(b+176,q+1);
+r=1;}
+else r=0;}
+else r=0;
+s=digits_418(b,c,d,r);
+if(!(s&1)){
 x4(a,0);
-goto L3;}
-Z=r8(b+176);
-if(Z<d){
-if(*(c+Z)==69){
-w8(b+176,Z+1);
+goto L2;}
+t=r8(b+176);
+if(t<d){
+if(*(c+t)==69){
+w8(b+176,t+1);
 *a=1;
 a[1]=3;
 a[2]=0;
 a[3]=0;
-goto L3;}}
+goto L2;}}
 x4(a,0);
-goto L3;
-L10:x4(a,0);
-L3:return;
+goto L2;
+L1:x4(a,0);}
+L2:return;
+}
+
+/* cpp_direct::direct::Direct::ends_as_integer */
+static u8 ends_as_integer_bdf(u8* a)
+{
+u64 b,f,h,j,l,n,p,r,t,v,x,z,A,D,F,H,I;
+u8 c,e,g,i,k,m,o,q,s,u,w,y,B,C,E,G,J;
+u8 *d;
+b=r8(a+8);
+if(b<4)c=0;
+else{
+d=rp(a)+(i64)b;
+e=0;
+f=0;
+L1:g=e||*((u8*)t_bb1b+(i64)f)!=*(d-4+(i64)f);
+h=f+1;
+if(h!=4){
+e=g;
+f=h;
+goto L1;}
+i=0;
+j=0;
+L2:k=i||*((u8*)t_bb1b+(i64)j)!=*(d-4+(i64)j);
+l=j+1;
+if(l!=4){
+i=k;
+j=l;
+goto L2;}
+if(!(g|k)){
+c=1;
+goto L3;}
+m=0;
+n=0;
+L4:o=m||*((u8*)t_91bb+(i64)n)!=*(d-4+(i64)n);
+p=n+1;
+if(p!=4){
+m=o;
+n=p;
+goto L4;}
+q=0;
+r=0;
+L5:s=q||*((u8*)t_91bb+(i64)r)!=*(d-4+(i64)r);
+t=r+1;
+if(t!=4){
+q=s;
+r=t;
+goto L5;}
+if(o|s){
+if(b==4)c=0;
+else{
+u=0;
+v=0;
+L6:w=u||*((u8*)t_53bd+(i64)v)!=*(d-5+(i64)v);
+x=v+1;
+if(x!=4){
+u=w;
+v=x;
+goto L6;}
+y=0;
+z=0;
+L7:A=z+1;
+B=y||*((u8*)t_53bd+(i64)A)!=*(d-5+(i64)A);
+if(A!=4){
+y=B;
+z=A;
+goto L7;}
+if(!(w|B)){
+c=1;
+goto L3;}
+C=0;
+D=0;
+L8:E=C||*((u8*)t_e9c6+(i64)D)!=*(d-5+(i64)D);
+F=D+1;
+if(F!=4){
+C=E;
+D=F;
+goto L8;}
+G=0;
+H=0;
+L9:I=H+1;
+J=G||*((u8*)t_e9c6+(i64)I)!=*(d-5+(i64)I);
+if(I!=4){
+G=J;
+H=I;
+goto L9;}
+c=!(E|J);}}
+else c=1;}
+L3:return c;
 }
 
 /* cpp_direct::direct::Direct::number */
@@ -55643,6 +56791,73 @@ else f=0;}
 L4:return f;
 }
 
+/* cpp_direct::direct::Direct::argument_enumerator */
+static void argument_enumerator_c0e(u8* a,u8* b,u8* c,u64 d,u32 e,u8 f,u8* g)
+{
+u8 i[32];
+A16 u8 h[4];
+u8 j,n,p,q,u;
+u64 k,l,m,o,r,s,t;
+u8 *v;
+memcpy(i,g,32);
+w4(h,0);
+j=ends_as_integer_bdf(b);
+if(j)x4(a,0);
+else{
+k=r8(b+88);
+if(k!=0)w8(b+88,k-1);
+l=r8(b+8);
+if(r8(b+32)>l)m=l;
+else{
+n=make_ready_8e3(b,1,16);
+if(!(n&1)){
+x4(a,0);
+goto L1;}
+m=r8(b+8);}
+*(rp(b)+m)=41;
+w8(b+8,m+1);
+o=r8(b+176);
+if(o<d){
+if(*(c+o)==110){
+w8(b+176,o+1);
+p=1;}
+else p=0;}
+else p=0;
+q=digits_418(b,c,d,p);
+if(q&1){
+r=r8(b+176);
+if(r<d){
+if(*(c+r)==69){
+w8(b+176,r+1);
+s=r8(b+88);
+if(r8(b+112)>s)t=s;
+else{
+u=make_ready_9a1(b+80);
+if(!(u&1)){
+x4(a,0);
+goto L1;}
+t=r8(b+88);}
+v=rp(b+80)+t*44;
+*v=25;
+v[1]=0;
+x2(v+2,0);
+x4(v+4,e);
+v[8]=f;
+v[9]=0;
+memcpy(v+10,i,32);
+x2(v+42,0);
+w8(b+88,t+1);
+argument_ended_2ff(h,b,c,d,e,f,i,0);
+*a=*h;
+a[1]=h[1];
+a[2]=h[2];
+a[3]=h[3];
+goto L1;}}
+x4(a,0);}
+else x4(a,0);}
+L1:return;
+}
+
 /* cpp_direct::direct::Direct::argument_ended */
 static void argument_ended_2ff(u8* a,u8* b,u8* c,u64 d,u32 e,u8 f,u8* g,u8 h)
 {
@@ -55697,10 +56912,11 @@ switch(E){
 case 78:case 83:break;
 default:if((u8)(E-49)>=9)goto L2;
 break;}
-F=0;
-G=0;
-H=3;
-I=1;
+next_enumerator_8be(l,b,c,d,z,o);
+F=l[3];
+G=l[2];
+H=l[1];
+I=*l;
 goto L3;}
 L2:next_literal_1b3(p,b,c,d,z,o);
 if(*p!=1){
@@ -55787,7 +57003,7 @@ I=0;
 goto L3;}
 R=r8(b+88);}
 T=rp(b+80)+R*44;
-*T=22;
+*T=25;
 T[1]=0;
 x2(T+2,0);
 x4(T+4,O);
@@ -55826,6 +57042,72 @@ a[3]=F;
 L4:return;
 }
 
+/* cpp_direct::direct::Direct::next_enumerator */
+static void next_enumerator_8be(u8* a,u8* b,u8* c,u64 d,u8 e,u8* f)
+{
+u8 h[32];
+A16 u8 g[4];
+u64 i,k,l,m,p,r,s;
+u8 j,o,q,t;
+u32 n;
+u8 *u;
+memcpy(h,f,32);
+w4(g,0);
+i=r8(b+8);
+if(r8(b+32)-i<2){
+j=make_ready_8e3(b,2,128);
+if(!(j&1)){
+x4(a,0);
+goto L1;}
+k=r8(b+8);}
+else k=i;
+*(rp(b)+k)=44;
+*(rp(b)+(i64)k+1)=32;
+l=k+2;
+w8(b+8,l);
+if(e==255)x4(a,0);
+else{
+m=r8(b+176);
+if(m==18446744073709551615u)x4(a,0);
+else{
+n=l;
+o=e+1;
+w8(b+176,m+1);
+if(r8(b+32)>l)p=l;
+else{
+q=make_ready_8e3(b,1,16);
+if(!(q&1)){
+x4(a,0);
+goto L1;}
+p=r8(b+8);}
+*(rp(b)+p)=40;
+w8(b+8,p+1);
+r=r8(b+88);
+if(r8(b+112)>r)s=r;
+else{
+t=make_ready_9a1(b+80);
+if(!(t&1)){
+x4(a,0);
+goto L1;}
+s=r8(b+88);}
+u=rp(b+80)+s*44;
+*u=26;
+u[1]=0;
+x2(u+2,0);
+x4(u+4,n);
+u[8]=o;
+u[9]=0;
+memcpy(u+10,h,32);
+x2(u+42,0);
+w8(b+88,s+1);
+named_type_031(g,b,c,d);
+*a=*g;
+a[1]=g[1];
+a[2]=g[2];
+a[3]=g[3];}}
+L1:return;
+}
+
 /* cpp_direct::known::is_element_at */
 static u8 is_element_at_f4e(u8* a,u64 b,u64 c)
 {
@@ -55853,10 +57135,10 @@ static void next_pack_bbb(u8* a,u8* b,u8* c,u64 d,u8 e,u8* f)
 u8 h[16],i[32],j[16];
 A16 u8 g[4];
 u16 k,l;
-u64 m,n,r,t,y,A,B,E,F,I,J;
-u8 o,p,q,u,v,w,x,z,D,G,K;
-u8 *s,*H,*L;
-u32 C;
+u64 m,n,r,t,C,E,F,I,J,M,N;
+u8 o,p,q,s,u,v,w,x,z,A,B,D,H,K,O;
+u8 *y,*L,*P;
+u32 G;
 k=q2(f);
 l=q2(f+2);
 memcpy(j,f+4,16);
@@ -55868,9 +57150,9 @@ o=f[28];
 p=f[29];
 q=f[31];
 r=m+1;
-if(r<d){
-s=c+(i64)r;
-switch(*s){
+s=r>=d;
+if(!s){
+switch(*(c+r)){
 case 69:memcpy(h,f+4,16);
 w4(g,0);
 t=m+2;
@@ -55911,50 +57193,46 @@ a[1]=w;
 a[2]=v;
 a[3]=u;
 goto L1;
-case 76:case 65:case 70:break;
-case 80:case 82:if(usub64(d,r)<2)goto L2;
-switch(s[1]){
-case 70:case 65:break;
-default:goto L2;
-}
+case 76:goto L2;
+default:break;}}
+y=c+(i64)r;
+z=usub64(d,r)<2;
+if(!(d<r||z)){
+if(*y==82){
+A=y[1];
+if(s|(A==65))goto L3;
+B=A;
+goto L4;}}
+if(s)goto L3;
+switch(*y){
+case 65:case 70:goto L2;
+case 80:case 82:if(z)goto L3;
+B=y[1];
 break;
-default:goto L2;
+default:goto L3;
 }
-*a=1;
-a[1]=3;
-a[2]=0;
-a[3]=0;
-goto L1;}
-L2:y=r8(b+8);
-if(r8(b+32)-y<2){
-z=make_ready_8e3(b,2,128);
-if(!(z&1)){
+L4:switch(B){
+case 70:case 65:goto L2;
+default:break;}
+L3:C=r8(b+8);
+if(r8(b+32)-C<2){
+D=make_ready_8e3(b,2,128);
+if(!(D&1)){
 x4(a,0);
 goto L1;}
-A=r8(b+8);}
-else A=y;
-*(rp(b)+A)=44;
-*(rp(b)+(i64)A+1)=32;
-B=A+2;
-w8(b+8,B);
+E=r8(b+8);}
+else E=C;
+*(rp(b)+E)=44;
+*(rp(b)+(i64)E+1)=32;
+F=E+2;
+w8(b+8,F);
 w8(b+176,r);
-if(e==255)x4(a,0);
-else{
-C=B;
-D=e+1;
-E=r8(b+88);
-if(r8(b+112)>E)F=E;
-else{
-G=make_ready_9a1(b+80);
-if(!(G&1)){
+if(e==255){
 x4(a,0);
 goto L1;}
-F=r8(b+88);}
-H=rp(b+80)+F*44;
-*H=23;
-I=F+1;
-z43(H+1);
-w8(b+88,I);
+G=F;
+H=e+1;
+I=r8(b+88);
 if(r8(b+112)>I)J=I;
 else{
 K=make_ready_9a1(b+80);
@@ -55963,26 +57241,43 @@ x4(a,0);
 goto L1;}
 J=r8(b+88);}
 L=rp(b+80)+J*44;
-*L=24;
-L[1]=0;
-x2(L+2,0);
-x4(L+4,C);
-L[8]=D;
-L[9]=0;
-x2(L+10,k);
-x2(L+12,l);
-memcpy(L+14,j,16);
-x8(L+30,n);
-L[38]=o;
-L[39]=p;
-L[40]=D;
-L[41]=q;
-x2(L+42,0);
-w8(b+88,J+1);
+*L=27;
+M=J+1;
+z43(L+1);
+w8(b+88,M);
+if(r8(b+112)>M)N=M;
+else{
+O=make_ready_9a1(b+80);
+if(!(O&1)){
+x4(a,0);
+goto L1;}
+N=r8(b+88);}
+P=rp(b+80)+N*44;
+*P=28;
+P[1]=0;
+x2(P+2,0);
+x4(P+4,G);
+P[8]=H;
+P[9]=0;
+x2(P+10,k);
+x2(P+12,l);
+memcpy(P+14,j,16);
+x8(P+30,n);
+P[38]=o;
+P[39]=p;
+P[40]=H;
+P[41]=q;
+x2(P+42,0);
+w8(b+88,N+1);
 *a=1;
 a[1]=0;
 a[2]=0;
-a[3]=0;}}
+a[3]=0;
+goto L1;
+L2:*a=1;
+a[1]=3;
+a[2]=0;
+a[3]=0;}
 L1:return;
 }
 
@@ -56204,7 +57499,7 @@ case 7:name_ended_fde(g,b,c,d,0,1,f,o);
 break;
 case 8:level_ended_5bf(g,b,c,d,n[1]&1);
 break;
-case 0:case 1:case 2:case 3:case 9:case 10:case 11:case 12:case 13:case 14:case 15:case 16:case 17:case 18:case 19:case 20:case 21:case 22:case 23:case 24:case 25:*g=0;
+case 0:case 1:case 2:case 3:case 9:case 10:case 11:case 12:case 13:case 14:case 15:case 16:case 17:case 18:case 19:case 20:case 21:case 22:case 23:case 24:case 25:case 26:case 27:case 28:case 29:*g=0;
 break;
 default:NEVER;
 }
@@ -56344,7 +57639,7 @@ z34(a);
 goto L1;}
 s=r8(b+88);}
 u=rp(b+80)+s*44;
-*u=22;
+*u=25;
 u[1]=0;
 x2(u+2,0);
 x4(u+4,p);
@@ -56717,168 +58012,186 @@ return y;
 /* cpp_direct::direct::Direct::element_ended */
 static void element_ended_d46(u8* a,u8* b,u8* c,u64 d,u32 e,u8 f,u8* g,u8 h)
 {
-u8 i[32],j[16],k[32],m[16],n[32];
-A16 u8 l[4];
-u64 o,p,q,r,w,D,L,N,Q,S,V,W;
-u16 s,t,u,v,B,C,H,J,K;
-u8 x,y,z,A,E,F,G,I,O,P,R,U,X;
-u8 *M,*Y;
-u32 T;
-w4(l,0);
-z16(m);
-z32(n);
-memcpy(k,g,32);
-o=r8(b+88);
-if(o==0)p=0;
+u8 i[32],j[32],k[16],l[32],n[16],o[32];
+A16 u8 m[4];
+u64 p,q,r,s,x,E,M,U,X,Z,ca,da;
+u16 t,u,v,w,C,D,I,K,L;
+u8 y,z,A,B,F,G,H,J,N,O,P,R,S,T,V,W,Y,ba,ea;
+u8 *Q,*fa;
+u32 aa;
+w4(m,0);
+z16(n);
+z32(o);
+memcpy(l,g,32);
+p=r8(b+88);
+if(p==0)q=0;
 else{
-q=o-1;
-w8(b+88,q);
-p=q;}
-r=r8(b+8);
-if((e|(u32)r)>65535||(f>7||f!=k[28])){
-s=r2(k);
-t=r2(k+2);
-memcpy(j,k+4,16);
-u=s;
+r=p-1;
+w8(b+88,r);
+q=r;}
+s=r8(b+8);
+memcpy(i,l,32);
+if((e|(u32)s)>65535||(f>7||f!=i[28])){
+t=r2(l);
+u=r2(l+2);
+memcpy(k,l+4,16);
 v=t;
-w=q8(k+20);
-x=k[28];
-y=k[29];
-z=k[30];
-A=k[31];}
+w=u;
+x=q8(l+20);
+y=l[28];
+z=l[29];
+A=l[30];
+B=l[31];}
 else{
-B=r2(k);
-C=r2(k+2);
-D=q8(k+20);
-E=k[29];
-F=k[30];
-G=k[31];
-memcpy(i+4,k+4,16);
-x8(i+20,D);
-i[28]=f+1;
-i[29]=E;
-i[30]=F;
-i[31]=G;
-w2(i+4+((u64)f<<1),r);
-*(i+20+f)=h;
+C=r2(i);
+D=r2(i+2);
+E=q8(i+20);
+F=i[29];
+G=i[30];
+H=i[31];
+memcpy(j+4,l+4,16);
+x8(j+20,E);
+j[28]=f+1;
+j[29]=F;
+j[30]=G;
+j[31]=H;
+w2(j+4+((u64)f<<1),s);
+*(j+20+f)=h;
 if(f==0){
-memcpy(j,i+4,16);
-u=B;
-v=e;
-w=q8(i+20);
-x=i[28];
-y=i[29];
-z=i[30];
-A=i[31];}
+memcpy(k,j+4,16);
+v=C;
+w=e;
+x=q8(j+20);
+y=j[28];
+z=j[29];
+A=j[30];
+B=j[31];}
 else{
-H=r2(k+4+(i64)((u64)(u8)(f-1)<<1));
-I=(H<65534)&(e==(u16)(0-usub16(65534,H)));
-J=I?B:r2(k);
-K=I?C:r2(k+2);
-memcpy(j,I?i+4:k+4,16);
-u=J;
+I=r2(i+4+(i64)((u64)(u8)(f-1)<<1));
+J=(I<65534)&(e==(u16)(0-usub16(65534,I)));
+K=J?C:r2(l);
+L=J?D:r2(l+2);
+memcpy(k,J?j+4:l+4,16);
 v=K;
-w=I?q8(i+20):q8(k+20);
-x=I?i[28]:k[28];
-y=I?i[29]:k[29];
-z=I?i[30]:k[30];
-A=I?i[31]:k[31];}}
-memcpy(m,j,16);
-L=r8(b+176);
-if(L<d){
-M=c+(i64)L;
-switch(*M){
-case 76:case 65:case 70:break;
-case 80:case 82:if(usub64(d,L)<2)goto L1;
-switch(M[1]){
-case 70:case 65:break;
-default:goto L1;
-}
+w=L;
+x=J?q8(j+20):q8(l+20);
+y=J?j[28]:l[28];
+z=J?j[29]:l[29];
+A=J?j[30]:l[30];
+B=J?j[31]:l[31];}}
+memcpy(n,k,16);
+M=r8(b+176);
+N=M>=d;
+if(N)O=0;
+else{
+P=*(c+M);
+if(P==76)goto L1;
+O=P;}
+Q=c+(i64)M;
+R=usub64(d,M)<2;
+if(!(d<M||R)){
+if(*Q==82){
+S=Q[1];
+if(N|(S==65))goto L2;
+T=S;
+goto L3;}}
+if(N)goto L2;
+switch(*Q){
+case 65:case 70:goto L1;
+case 80:case 82:if(R)goto L2;
+T=Q[1];
 break;
-case 69:N=L+1;
-if(N<d){
-if(*(c+N)==69){
-if(p!=0)w8(b+88,p-1);
-w8(b+176,L+2);
+default:goto L2;
+}
+L3:switch(T){
+case 70:case 65:goto L1;
+default:break;}
+L2:if(O==69){
+if(M==18446744073709551615u){
+x4(a,0);
+goto L4;}
+U=M+1;
+if(U<d){
+if(*(c+U)==69){
+if(q!=0)w8(b+88,q-1);
+w8(b+176,M+2);
 if(f==255){
 x4(a,0);
-goto L2;}
-O=f+1;
-if(O<z){
+goto L4;}
+V=f+1;
+if(V<A){
 x4(a,0);
-goto L2;}
-w2(n,u);
-w2(n+2,v);
-memcpy(n+4,m,16);
-x8(n+20,w);
-n[28]=x;
-n[29]=1;
-n[30]=z;
-n[31]=O-z;
-close_list_0b3(l,b,c,d,n);
-*a=*l;
-a[1]=l[1];
-a[2]=l[2];
-a[3]=l[3];
-goto L2;}}
+goto L4;}
+w2(o,v);
+w2(o+2,w);
+memcpy(o+4,n,16);
+x8(o+20,x);
+o[28]=y;
+o[29]=1;
+o[30]=A;
+o[31]=V-A;
+close_list_0b3(m,b,c,d,o);
+*a=*m;
+a[1]=m[1];
+a[2]=m[2];
+a[3]=m[3];
+goto L4;}}
 *a=1;
 a[1]=3;
 a[2]=0;
 a[3]=0;
-goto L2;
-default:goto L1;
-}
-*a=1;
-a[1]=3;
-a[2]=0;
-a[3]=0;
-goto L2;}
-L1:if(r8(b+32)-r<2){
-P=make_ready_8e3(b,2,128);
-if(!(P&1)){
-R=0;
-goto L3;}
-Q=r8(b+8);}
-else Q=r;
-*(rp(b)+Q)=44;
-*(rp(b)+(i64)Q+1)=32;
-S=Q+2;
-w8(b+8,S);
-if(f==255)R=0;
+goto L4;}
+if(r8(b+32)-s<2){
+W=make_ready_8e3(b,2,128);
+if(!(W&1)){
+Y=0;
+goto L5;}
+X=r8(b+8);}
+else X=s;
+*(rp(b)+X)=44;
+*(rp(b)+(i64)X+1)=32;
+Z=X+2;
+w8(b+8,Z);
+if(f==255)Y=0;
 else{
-T=S;
-U=f+1;
-V=r8(b+88);
-if(r8(b+112)>V)W=V;
+aa=Z;
+ba=f+1;
+ca=r8(b+88);
+if(r8(b+112)>ca)da=ca;
 else{
-X=make_ready_9a1(b+80);
-if(!(X&1)){
-R=0;
-goto L3;}
-W=r8(b+88);}
-Y=rp(b+80)+W*44;
-*Y=24;
-Y[1]=0;
-x2(Y+2,0);
-x4(Y+4,T);
-Y[8]=U;
-Y[9]=0;
-x2(Y+10,u);
-x2(Y+12,v);
-memcpy(Y+14,m,16);
-x8(Y+30,w);
-Y[38]=x;
-Y[39]=y;
-Y[40]=z;
-Y[41]=A;
-x2(Y+42,0);
-w8(b+88,W+1);
-R=1;}
-L3:*a=R;
+ea=make_ready_9a1(b+80);
+if(!(ea&1)){
+Y=0;
+goto L5;}
+da=r8(b+88);}
+fa=rp(b+80)+da*44;
+*fa=28;
+fa[1]=0;
+x2(fa+2,0);
+x4(fa+4,aa);
+fa[8]=ba;
+fa[9]=0;
+x2(fa+10,v);
+x2(fa+12,w);
+memcpy(fa+14,n,16);
+x8(fa+30,x);
+fa[38]=y;
+fa[39]=z;
+fa[40]=A;
+fa[41]=B;
+x2(fa+42,0);
+w8(b+88,da+1);
+Y=1;}
+L5:*a=Y;
 a[1]=0;
 a[2]=0;
 a[3]=0;
-L2:return;
+goto L4;
+L1:*a=1;
+a[1]=3;
+a[2]=0;
+a[3]=0;
+L4:return;
 }
 
 /* cpp_direct::direct::Direct::empty_pack */
@@ -56900,7 +58213,7 @@ j=r8(b+88);
 if(j==0){
 x4(a,0);
 goto L1;}
-if(*(rp(b+80)+(i64)(j*44)-44)==23){
+if(*(rp(b+80)+(i64)(j*44)-44)==27){
 k=0;
 l=0;
 m=0;
@@ -56929,10 +58242,10 @@ L1:return;
 static void first_pack_117(u8* a,u8* b,u8* c,u64 d)
 {
 A16 u8 e[40];
-u64 f,j,m,n,p,r,t,y,A,C,E,F,I,J,L,N;
-u8 g,h,l,s,u,v,B,G,M;
-u8 *i,*k,*o,*q,*w,*z,*D,*H,*K,*O;
-u32 x;
+u64 f,j,m,n,u,w,y,A,B,E,G,I,M,N,P,R;
+u8 g,h,l,o,q,r,s,x,C,H,J,K,Q;
+u8 *i,*k,*p,*v,*z,*D,*F,*L,*O,*S;
+u32 t;
 f=r8(b+88);
 if(f==0){
 g=0;
@@ -56948,8 +58261,8 @@ z40(e);
 goto L1;}
 break;
 case 7:break;
-case 0:case 1:case 2:case 3:case 4:case 6:case 8:case 9:case 10:case 11:case 12:case 13:case 14:case 15:case 16:case 17:case 18:case 19:case 20:case 21:case 22:case 23:case 24:case 25:z40(e);
-if(l!=23)goto L1;
+case 0:case 1:case 2:case 3:case 4:case 6:case 8:case 9:case 10:case 11:case 12:case 13:case 14:case 15:case 16:case 17:case 18:case 19:case 20:case 21:case 22:case 23:case 24:case 25:case 26:case 27:case 28:case 29:z40(e);
+if(l!=27)goto L1;
 g=0;
 h=0;
 goto L2;
@@ -56960,109 +58273,119 @@ if(m==18446744073709551615u){
 x4(a,0);
 goto L3;}
 n=m+1;
-if(n<d){
-o=c+(i64)n;
-switch(*o){
-case 76:case 65:case 70:break;
-case 80:case 82:if(usub64(d,n)<2)goto L4;
-switch(o[1]){
-case 70:case 65:break;
-default:goto L4;
-}
+o=n>=d;
+if(!o){
+if(*(c+n)==76)goto L4;}
+p=c+(i64)n;
+q=usub64(d,n)<2;
+if(!(d<n||q)){
+if(*p==82){
+r=p[1];
+if(o|(r==65))goto L5;
+s=r;
+goto L6;}}
+if(o)goto L5;
+switch(*p){
+case 65:case 70:goto L4;
+case 80:case 82:if(q)goto L5;
+s=p[1];
 break;
-default:goto L4;
+default:goto L5;
 }
-w8(b+176,n);
+L6:switch(s){
+case 70:case 65:goto L4;
+default:break;}
+L5:w8(b+176,n);
+t=r8(b+8);
 if(r8(b+112)>f){
-p=j;
-q=i;
-r=f;}
+u=j;
+v=i;
+w=f;}
 else{
-s=make_ready_9a1(b+80);
-if(!(s&1)){
-u=0;
-v=0;
-goto L5;}
-t=r8(b+88);
-p=t*44;
-q=rp(b+80);
-r=t;}
-w=q+p;
-*w=23;
-z43(w+1);
-w8(b+88,r+1);
-u=1;
-v=3;
-L5:*a=u;
-a[1]=v;
-a[2]=u;
-a[3]=0;
-goto L3;}
-L4:w8(b+176,n);
-x=r8(b+8);
-if(r8(b+112)>f){
-y=j;
-z=i;
-A=f;}
-else{
-B=make_ready_9a1(b+80);
-if(!(B&1)){
+x=make_ready_9a1(b+80);
+if(!(x&1)){
 x4(a,0);
 goto L3;}
-C=r8(b+88);
-y=C*44;
-z=rp(b+80);
-A=C;}
-D=z+y;
-*D=23;
-E=A+1;
-z43(D+1);
-w8(b+88,E);
-if(r8(b+112)>E)F=E;
+y=r8(b+88);
+u=y*44;
+v=rp(b+80);
+w=y;}
+z=v+u;
+*z=27;
+A=w+1;
+z43(z+1);
+w8(b+88,A);
+if(r8(b+112)>A)B=A;
 else{
-G=make_ready_9a1(b+80);
-if(!(G&1)){
+C=make_ready_9a1(b+80);
+if(!(C&1)){
 x4(a,0);
 goto L3;}
-F=r8(b+88);}
-H=rp(b+80)+F*44;
-*H=24;
-H[1]=0;
-x2(H+2,0);
-x4(H+4,x);
-z36(H+8);
-w8(b+88,F+1);
+B=r8(b+88);}
+D=rp(b+80)+B*44;
+*D=28;
+D[1]=0;
+x2(D+2,0);
+x4(D+4,t);
+z36(D+8);
+w8(b+88,B+1);
 *a=1;
 a[1]=0;
 a[2]=0;
 a[3]=0;
 goto L3;
-L1:I=r8(b+176);
-if(I==18446744073709551615u){
+L4:w8(b+176,n);
+if(r8(b+112)>f){
+E=j;
+F=i;
+G=f;}
+else{
+H=make_ready_9a1(b+80);
+if(!(H&1)){
+J=0;
+K=0;
+goto L7;}
+I=r8(b+88);
+E=I*44;
+F=rp(b+80);
+G=I;}
+L=F+E;
+*L=27;
+z43(L+1);
+w8(b+88,G+1);
+J=1;
+K=3;
+L7:*a=J;
+a[1]=K;
+a[2]=J;
+a[3]=0;
+goto L3;
+L1:M=r8(b+176);
+if(M==18446744073709551615u){
 g=0;
 h=0;}
 else{
-w8(b+176,I+1);
+w8(b+176,M+1);
 if(r8(b+112)>f){
-J=j;
-K=i;
-L=f;}
+N=j;
+O=i;
+P=f;}
 else{
-M=make_ready_9a1(b+80);
-if(!(M&1)){
+Q=make_ready_9a1(b+80);
+if(!(Q&1)){
 g=0;
 h=0;
 goto L2;}
-N=r8(b+88);
-J=N*44;
-K=rp(b+80);
-L=N;}
-O=K+J;
-*O=23;
-O[1]=0;
-x2(O+2,0);
-memcpy(O+4,e,40);
-w8(b+88,L+1);
+R=r8(b+88);
+N=R*44;
+O=rp(b+80);
+P=R;}
+S=O+N;
+*S=27;
+S[1]=0;
+x2(S+2,0);
+memcpy(S+4,e,40);
+w8(b+88,P+1);
 g=1;
 h=3;}}
 L2:*a=g;
@@ -57191,6 +58514,110 @@ x4(a,0);}
 L7:return;
 }
 
+/* cpp_direct::direct::Direct::parameter_argument */
+static void parameter_argument_7c8(u8* a,u8* b,u8* c,u64 d)
+{
+u8 e[34],f[8];
+A16 u8 g[48],h[44];
+u64 i,j,k,l,o,t,u,w,D,F,H;
+u8 m,n,s,y,A,B,G;
+u16 p,q,r,z,C;
+u8 *v,*x,*E,*I;
+z34(e);
+z48(g);
+i=r8(b+176);
+if(i==18446744073709551615u)x4(a,0);
+else{
+j=i+1;
+if(j<d){
+if(*(c+j)==84){
+k=i+2;
+if(k<d){
+l=i+3;
+m=*(c+k);
+if(m==95){
+n=0;
+o=l;}
+else{
+if(!((l<d)&((u8)(m-48)<10)))goto L1;
+if(*(c+l)!=95)goto L1;
+n=m-47;
+o=i+4;}
+if(o<d){
+if(*(c+o)==69){
+argument_dbb(e,b);
+if(*e!=1){
+x4(a,0);
+goto L2;}
+p=r2(e+2);
+single_540(f,e+2,n);
+if(*f!=1){
+x4(a,0);
+goto L2;}
+if(p==0){
+x4(a,0);
+goto L2;}
+q=r2(f+4);
+r=r2(f+2);
+w8(b+176,o+1);
+s=repeat_28b(b,r,q);
+if(!(s&1)){
+x4(a,0);
+goto L2;}
+t=r8(b+88);
+if(t==0){
+x4(a,0);
+goto L2;}
+u=t-1;
+w8(b+88,u);
+v=rp(b+80);
+w=u*44;
+x=v+w;
+y=x[1];
+z=q2(x+2);
+*h=*x;
+h[1]=y;
+w2(h+2,z);
+memcpy(h+4,x+4,40);
+dependent_8e0(g,h);
+if(*g!=1){
+x4(a,0);
+goto L2;}
+A=g[4];
+B=g[5];
+C=r2(g+6);
+if(r8(b+112)>u){
+D=w;
+E=v;
+F=t;}
+else{
+G=make_ready_9a1(b+80);
+if(!(G&1)){
+x4(a,0);
+goto L2;}
+H=r8(b+88);
+D=H*44;
+E=rp(b+80);
+F=H+1;}
+I=E+D;
+*I=A;
+I[1]=B;
+x2(I+2,C);
+memcpy(I+4,g+8,40);
+w8(b+88,F);
+*a=1;
+a[1]=3;
+a[2]=0;
+a[3]=0;
+goto L2;}}
+x4(a,0);
+goto L2;}
+L1:x4(a,0);
+goto L2;}}
+x4(a,0);}
+L2:return;
+}
+
 /* cpp_direct::direct::Direct::first_literal */
 static void first_literal_618(u8* a,u8* b,u8* c,u64 d)
 {
@@ -57210,7 +58637,7 @@ switch(j[-44]){
 case 5:if(j[-28]==0)goto L1;
 break;
 case 7:break;
-case 0:case 1:case 2:case 3:case 4:case 6:case 8:case 9:case 10:case 11:case 12:case 13:case 14:case 15:case 16:case 17:case 18:case 19:case 20:case 21:case 22:case 23:case 24:case 25:goto L1;
+case 0:case 1:case 2:case 3:case 4:case 6:case 8:case 9:case 10:case 11:case 12:case 13:case 14:case 15:case 16:case 17:case 18:case 19:case 20:case 21:case 22:case 23:case 24:case 25:case 26:case 27:case 28:case 29:goto L1;
 default:NEVER;
 }
 k=r8(b+176);
@@ -57220,7 +58647,7 @@ switch(l){
 case 78:case 83:break;
 default:if((u8)(l-49)>=9)goto L2;
 break;}
-literal_9d0(e,b,c,d);
+first_enumerator_9e2(e,b,c,d);
 *a=*e;
 a[1]=e[1];
 a[2]=e[2];
@@ -57242,7 +58669,7 @@ n=r*44;
 o=rp(b+80);
 p=r;}
 s=o+n;
-*s=22;
+*s=25;
 s[1]=0;
 x2(s+2,0);
 x4(s+4,m);
@@ -57283,6 +58710,52 @@ a[1]=e[1];
 a[2]=e[2];
 a[3]=e[3];
 L3:return;
+}
+
+/* cpp_direct::direct::Direct::first_enumerator */
+static void first_enumerator_9e2(u8* a,u8* b,u8* c,u64 d)
+{
+A16 u8 e[4];
+u64 f,g,i,k,l;
+u32 h;
+u8 j,m;
+u8 *n;
+f=r8(b+176);
+if(f==18446744073709551615u)x4(a,0);
+else{
+g=r8(b+8);
+h=g;
+w8(b+176,f+1);
+if(r8(b+32)>g)i=g;
+else{
+j=make_ready_8e3(b,1,16);
+if(!(j&1)){
+x4(a,0);
+goto L1;}
+i=r8(b+8);}
+*(rp(b)+i)=40;
+w8(b+8,i+1);
+k=r8(b+88);
+if(r8(b+112)>k)l=k;
+else{
+m=make_ready_9a1(b+80);
+if(!(m&1)){
+x4(a,0);
+goto L1;}
+l=r8(b+88);}
+n=rp(b+80)+l*44;
+*n=26;
+n[1]=0;
+x2(n+2,0);
+x4(n+4,h);
+z36(n+8);
+w8(b+88,l+1);
+named_type_031(e,b,c,d);
+*a=*e;
+a[1]=e[1];
+a[2]=e[2];
+a[3]=e[3];}
+L1:return;
 }
 
 /* cpp_direct::direct::Direct::literal */
@@ -57334,7 +58807,7 @@ x4(a,0);
 goto L3;}
 s=r8(b+88);}
 u=rp(b+80)+s*44;
-*u=25;
+*u=29;
 z43(u+1);
 w8(b+88,s+1);
 named_type_031(e,b,c,d);
@@ -58710,21 +60183,20 @@ L35:return;
 static void begin_component_d5a(u8* a,u8* b,u8* c,u64 d)
 {
 u8 e[6];
-u32 f;
-u8 g,h,j;
-u16 i;
+u8 f,i;
+u16 g;
+u32 h;
+w2(e,1);
 if(b[139]&1)x4(a,0);
 else{
-f=r4(b+120);
-g=b[132];
-h=b[133];
-i=r2(b+134);
-w2(e,1);
-e[2]=g;
-e[3]=h;
-w2(e+4,i);
-j=open_lambda_2e5(b,c,d,f,e);
-if(j&1){
+f=b[133];
+g=q2(b+134);
+h=r4(b+120);
+e[2]=b[132];
+e[3]=f;
+w2(e+4,g);
+i=open_lambda_2e5(b,c,d,h,e);
+if(i&1){
 *a=1;
 a[1]=0;
 a[2]=0;
@@ -59043,13 +60515,14 @@ L2:return;
 /* cpp_direct::direct::Direct::nest_at */
 static void nest_at_97a(u8* a,u8* b,u8* c,u64 d,u8* e)
 {
-A16 u8 f[44],g[40],h[40],i[24],j[40],k[40],l[16],m[24];
-u64 n,s,u,w,A,C,D,E,H,K,M,N,O,P,Q,R,U,aa,ca,da,fa,ga,ha,la,oa,sa,ta,wa,xa,za,Aa,Ba,Ea,Fa,Ia,Ja,La,Ma,Na,Ta,Wa,Xa,Za,ab,bb,eb,gb,ib,jb,kb,rb,sb,tb,xb,yb,Ab,Bb,Cb,Eb,Fb,Gb,Jb,Lb,Nb,Ob,Pb,Qb,Rb,Sb,Vb,Xb,Zb,bc,cc,ec,gc,hc,jc,lc,mc,oc,tc,vc,wc,yc,zc,Ac;
-u8 o,p,r,v,x,y,z,B,I,L,S,V,ba,ea,ma,na,qa,ua,ya,Ca,Ga,Ka,Oa,Qa,Ra,Sa,Va,Ya,hb,lb,pb,vb,wb,zb,Db,Hb,Mb,Tb,Wb,Yb,ac,dc,fc,ic,kc,nc,uc,xc;
+u8 f[34];
+A16 u8 g[40],h[40],i[24],j[40],k[40],l[16],m[24];
+u64 n,s,u,w,A,C,D,E,H,K,M,N,O,P,Q,R,U,aa,ca,da,fa,ga,ha,la,oa,sa,ta,wa,xa,za,Aa,Ba,Ea,Fa,Ia,Ja,La,Ma,Na,Ta,Wa,Xa,Za,ab,bb,eb,gb,ib,jb,kb,rb,sb,tb,vb,wb,xb,Ab,Cb,Eb,Fb,Gb,Hb,Ib,Jb,Mb,Ob,Qb,Sb,Tb,Vb,Xb,Yb,ac,cc,dc,fc,kc,mc,nc,pc,qc,rc;
+u8 o,p,r,v,x,y,z,B,I,L,S,V,ba,ea,ma,na,qa,ua,ya,Ca,Ga,Ka,Oa,Qa,Ra,Sa,Va,Ya,hb,lb,pb,qb,ub,yb,Db,Kb,Nb,Pb,Rb,Ub,Wb,Zb,bc,ec,lc,oc;
 u16 q;
-u32 t,J,ka,pa,ra,nb,ob,Kb;
-u8 *F,*G,*T,*Z,*ia,*ja,*va,*Da,*Ha,*Pa,*Ua,*cb,*db,*fb,*mb,*qb,*ub,*Ib,*Ub,*sc,*Bc,*Cc;
-s_p_64 W,X,Y,pc,qc,rc;
+u32 t,J,ka,pa,ra,nb,ob,Bb;
+u8 *F,*G,*T,*Z,*ia,*ja,*va,*Da,*Ha,*Pa,*Ua,*cb,*db,*fb,*mb,*zb,*Lb,*jc,*sc,*tc;
+s_p_64 W,X,Y,gc,hc,ic;
 n=r8(b+176);
 if(n<d){
 o=*e;
@@ -59482,52 +60955,20 @@ nb=r4(l+4);
 ob=r4(l+8);
 pb=l[13];
 if(pb&1){
+z34(f);
 if(o!=0){
 Qa=0;
 Ra=0;
 Sa=0;
 goto L6;}
-qb=rp(b+80);
-rb=16;
-sb=r8(b+88);
-L8:if(sb!=0){
-tb=sb-1;
-ub=qb+(i64)(tb*44);
-vb=*ub;
-wb=ub[16];
-switch(vb){
-case 0:case 1:case 2:case 3:case 4:case 8:break;
-case 5:if(wb!=0)goto L9;
-break;
-case 6:if(wb!=0)goto L9;
-break;
-case 7:case 9:case 10:case 11:case 12:case 13:case 14:case 15:case 16:case 17:case 18:case 19:case 20:case 21:case 22:case 23:case 24:case 25:memcpy(f+4,ub+4,40);
-switch(vb){
-case 9:case 10:case 15:case 16:xb=4;
-break;
-case 11:case 13:xb=8;
-break;
-case 25:case 24:case 23:case 22:case 21:case 20:case 19:case 7:case 8:case 12:case 14:case 17:case 18:goto L9;
-default:NEVER;
-}
-if(r2(f+4+xb)!=0)goto L10;
+argument_dbb(f,b);
+if(!(*f==1&&r2(f+2)!=0)){
 Qa=0;
 Ra=0;
 Sa=0;
-goto L6;
-default:NEVER;
-}
-yb=rb-1;
-if(yb!=0){
-rb=yb;
-sb=tb;
-goto L8;}}
-L9:Qa=0;
-Ra=0;
-Sa=0;
-goto L6;}
-L10:zb=repeat_28b(b,nb,ob);
-if(zb&1){
+goto L6;}}
+qb=repeat_28b(b,nb,ob);
+if(qb&1){
 x4(b+120,t);
 x4(b+124,t);
 x4(b+128,t);
@@ -59540,45 +60981,45 @@ b[138]=0;
 b[139]=pb&1;
 z20(k+20);
 if(o==0){
-Ab=r8(b+176);
-if(Ab<d){
-if(*(c+Ab)==73){
+rb=r8(b+176);
+if(rb<d){
+if(*(c+rb)==73){
 memcpy(k,b+120,20);
-Bb=r8(b+8);
-if(r8(b+32)>Bb)Cb=Bb;
+sb=r8(b+8);
+if(r8(b+32)>sb)tb=sb;
 else{
-Db=make_ready_8e3(b,1,16);
-if(!(Db&1)){
+ub=make_ready_8e3(b,1,16);
+if(!(ub&1)){
 Qa=0;
 Ra=0;
 Sa=0;
 goto L6;}
-Cb=r8(b+8);}
-*(rp(b)+Cb)=60;
-w8(b+8,Cb+1);
-Eb=r8(b+176);
-if(Eb==18446744073709551615u){
+tb=r8(b+8);}
+*(rp(b)+tb)=60;
+w8(b+8,tb+1);
+vb=r8(b+176);
+if(vb==18446744073709551615u){
 Qa=0;
 Ra=0;
 Sa=0;}
 else{
-w8(b+176,Eb+1);
-Fb=r8(b+88);
-if(r8(b+112)>Fb)Gb=Fb;
+w8(b+176,vb+1);
+wb=r8(b+88);
+if(r8(b+112)>wb)xb=wb;
 else{
-Hb=make_ready_9a1(b+80);
-if(!(Hb&1)){
+yb=make_ready_9a1(b+80);
+if(!(yb&1)){
 Qa=0;
 Ra=0;
 Sa=0;
 goto L6;}
-Gb=r8(b+88);}
-Ib=rp(b+80)+Gb*44;
-*Ib=5;
-Ib[1]=0;
-x2(Ib+2,0);
-memcpy(Ib+4,k,40);
-w8(b+88,Gb+1);
+xb=r8(b+88);}
+zb=rp(b+80)+xb*44;
+*zb=5;
+zb[1]=0;
+x2(zb+2,0);
+memcpy(zb+4,k,40);
+w8(b+88,xb+1);
 Qa=1;
 Ra=3;
 Sa=1;}}
@@ -59606,110 +61047,110 @@ L6:*a=Sa;
 a[1]=Ra;
 a[2]=Qa;
 a[3]=0;
-goto L11;}
-Jb=r8(b+8);
+goto L8;}
+Ab=r8(b+8);
 z24(m);
 if((u8)(r-58)>=247){
-Kb=Jb;
-Lb=n+1;
-if(Lb<d){
-Mb=*(c+Lb)-48;
-if(Mb<10){
-Nb=n+2;
-if(Nb<d){
-if((u8)(*(c+Nb)-48)<10){
+Bb=Ab;
+Cb=n+1;
+if(Cb<d){
+Db=*(c+Cb)-48;
+if(Db<10){
+Eb=n+2;
+if(Eb<d){
+if((u8)(*(c+Eb)-48)<10){
 long_name_at_8ad(m,c,d,n);
-if(*m!=1)goto L12;
-Ob=r8(m+16);
-Pb=r8(m+8);
-goto L13;}}
-Qb=(u64)Mb+(u8)((u8)(r*10)+32);
-if(d-Nb<Qb)goto L14;
-if((u8)(*(c+(i64)Nb)-48)<10)goto L14;
-Rb=Nb;
-Sb=Qb+Nb;
-goto L15;}}
-Tb=r-48;
-if(d-Lb<Tb)goto L14;
-if((u8)(*(c+(i64)Lb)-48)<10)goto L14;
-Rb=Lb;
-Sb=Lb+Tb;
-L15:Ob=Sb;
-Pb=Rb;
-L13:w8(b+176,Ob);
-Ub=c+(i64)Pb;
-Vb=Ob-Pb;
-if(Ob!=Pb){
-if(Vb<10||*Ub!=95)goto L16;
+if(*m!=1)goto L9;
+Fb=r8(m+16);
+Gb=r8(m+8);
+goto L10;}}
+Hb=(u64)Db+(u8)((u8)(r*10)+32);
+if(d-Eb<Hb)goto L11;
+if((u8)(*(c+(i64)Eb)-48)<10)goto L11;
+Ib=Eb;
+Jb=Hb+Eb;
+goto L12;}}
+Kb=r-48;
+if(d-Cb<Kb)goto L11;
+if((u8)(*(c+(i64)Cb)-48)<10)goto L11;
+Ib=Cb;
+Jb=Cb+Kb;
+L12:Fb=Jb;
+Gb=Ib;
+L10:w8(b+176,Fb);
+Lb=c+(i64)Gb;
+Mb=Fb-Gb;
+if(Fb!=Gb){
+if(Mb<10||*Lb!=95)goto L13;
+Nb=0;
+Ob=0;
+L14:Pb=Nb||*((u8*)t_35ad+(i64)Ob)!=*(Lb+(i64)Ob);
+Qb=Ob+1;
+if(Qb!=8){
+Nb=Pb;
+Ob=Qb;
+goto L14;}
+Rb=0;
+Sb=0;
+L15:Tb=Sb+2;
+Ub=Rb||*((u8*)t_35ad+(i64)Tb)!=*(Lb+(i64)Tb);
+Vb=Sb+1;
+if(Vb!=8){
+Rb=Ub;
+Sb=Vb;
+goto L15;}
 Wb=0;
 Xb=0;
-L17:Yb=Wb||*((u8*)t_35ad+(i64)Xb)!=*(Ub+(i64)Xb);
-Zb=Xb+1;
-if(Zb!=8){
-Wb=Yb;
-Xb=Zb;
-goto L17;}
-ac=0;
+L16:Yb=Xb+2;
+Zb=Wb||*((u8*)t_35ad+(i64)Yb)!=*(Lb+(i64)Yb);
+ac=Xb+1;
+if(ac!=8){
+Wb=Zb;
+Xb=ac;
+goto L16;}
 bc=0;
-L18:cc=bc+2;
-dc=ac||*((u8*)t_35ad+(i64)cc)!=*(Ub+(i64)cc);
-ec=bc+1;
-if(ec!=8){
-ac=dc;
+cc=0;
+L17:dc=cc+2;
+ec=bc||*((u8*)t_35ad+(i64)dc)!=*(Lb+(i64)dc);
+fc=cc+1;
+if(fc!=8){
 bc=ec;
-goto L18;}
-fc=0;
-gc=0;
-L19:hc=gc+2;
-ic=fc||*((u8*)t_35ad+(i64)hc)!=*(Ub+(i64)hc);
-jc=gc+1;
-if(jc!=8){
-fc=ic;
-gc=jc;
-goto L19;}
-kc=0;
-lc=0;
-L20:mc=lc+2;
-nc=kc||*((u8*)t_35ad+(i64)mc)!=*(Ub+(i64)mc);
-oc=lc+1;
-if(oc!=8){
-kc=nc;
-lc=oc;
-goto L20;}
-if(!(((Yb|dc)|ic)|nc)){
-pc=(s_p_64){(u8*)t_62ff,21};
-goto L21;}}
-L16:qc=(s_p_64){0};qc.f0=Ub;
-rc=qc;rc.f1=Vb;
-pc=rc;
-L21:sc=pc.f0;
-tc=pc.f1;
-if(r8(b+32)-Jb<tc){
-uc=make_ready_8e3(b,tc,128);
-if(!(uc&1))goto L12;
-vc=r8(b+8);}
-else vc=Jb;
-wc=r8(b+16);
-if(tc>wc-vc){
-xc=grow_amortized_2b6(b,tc);
-if(!xc)goto L12;
-yc=r8(b+16);
-zc=r8(b+8);}
+cc=fc;
+goto L17;}
+if(!(((Pb|Ub)|Zb)|ec)){
+gc=(s_p_64){(u8*)t_62ff,21};
+goto L18;}}
+L13:hc=(s_p_64){0};hc.f0=Lb;
+ic=hc;ic.f1=Mb;
+gc=ic;
+L18:jc=gc.f0;
+kc=gc.f1;
+if(r8(b+32)-Ab<kc){
+lc=make_ready_8e3(b,kc,128);
+if(!(lc&1))goto L9;
+mc=r8(b+8);}
+else mc=Ab;
+nc=r8(b+16);
+if(kc>nc-mc){
+oc=grow_amortized_2b6(b,kc);
+if(!oc)goto L9;
+pc=r8(b+16);
+qc=r8(b+8);}
 else{
-yc=wc;
-zc=vc;}
-Ac=zc+tc;
-Bc=rp(b);
+pc=nc;
+qc=mc;}
+rc=qc+kc;
+sc=rp(b);
 z16(b+8);
-Cc=Bc+(i64)zc;
-if((u64)Cc-(u64)sc<tc)copy_bits_4f4(sc,Cc,tc);
-else memmove(Cc,sc,tc);
-wp(b,Bc);
-w8(b+8,Ac);
-w8(b+16,yc);
-w4(b+120,Kb);
-w4(b+124,Kb);
-w4(b+128,Ac);
+tc=sc+(i64)qc;
+if((u64)tc-(u64)jc<kc)copy_bits_4f4(jc,tc,kc);
+else memmove(tc,jc,kc);
+wp(b,sc);
+w8(b+8,rc);
+w8(b+16,pc);
+w4(b+120,Bb);
+w4(b+124,Bb);
+w4(b+128,rc);
 b[132]=o;
 b[133]=p;
 w2(b+134,q);
@@ -59721,9 +61162,9 @@ b[139]=0;
 a[1]=4;
 a[2]=0;
 a[3]=0;
-goto L11;}}
-L14:L12:x4(a,0);
-L11:return;
+goto L8;}}
+L11:L9:x4(a,0);
+L8:return;
 }
 
 /* cpp_direct::direct::Direct::begin_clone */
@@ -60497,219 +61938,502 @@ L1:return;
 /* cpp_direct::direct::Direct::encoded */
 static void encoded_306(u8* a,u8* b,u8* c,u64 d)
 {
-A16 u8 e[24],f[4],g[4];
-u8 h,l,n,o,p,q,t,v,C,F,L,O,W,da,ea,fa,ga;
-u64 i,j,k,m,r,s,u,w,x,y,z,A,B,E,K,M,N,P,Q,R,U,V,X,Y,Z,aa,ba,ca;
-u8 *D,*J,*S,*T;
-s_p_64 G,H,I;
-w4(g,0);
+A16 u8 e[4],f[4];
+u8 g,j,k,l,m;
+u64 h,i;
+w4(f,0);
 if(d>=3){
-h=c[2];
+g=c[2];
 if(d<5){
-if(h!=90)goto L1;}
+if(g!=90)goto L1;}
 else{
-switch(h){
+switch(g){
 case 90:break;
 case 71:if(c[3]!=86)goto L1;
 if(c[4]!=90)goto L1;
 break;
 default:goto L1;
 }}
-i=r8(b+176);
+w4(e,0);
+h=r8(b+176);
+if(h<d){
+if(*(c+h)==69){
+i=h+1;
+w8(b+176,i);
 if(i<d){
-if(*(c+i)==69){
-j=i+1;
-w8(b+176,j);
-if(j<d){
-if(*(c+j)==76)w8(b+176,i+2);}
-w4(f,0);
-k=r8(b+8);
-if(r8(b+32)-k<2){
-l=make_ready_8e3(b,2,128);
-if(!(l&1)){
-n=0;
-o=0;
-p=0;
-q=0;
-goto L2;}
-m=r8(b+8);}
-else m=k;
-*(rp(b)+m)=58;
-*(rp(b)+(i64)m+1)=58;
-r=m+2;
-w8(b+8,r);
-s=r8(b+176);
-z24(e);
-if(s<d){
-t=*(c+s);
-if((u8)(t-58)>=247){
-u=s+1;
-if(u<d){
-v=*(c+u)-48;
-if(v<10){
-w=s+2;
-if(w<d){
-if((u8)(*(c+w)-48)<10){
-long_name_at_8ad(e,c,d,s);
-if(*e==1){
-x=r8(e+16);
-y=r8(e+8);
+switch(*(c+i)){
+case 78:begin_member_002(e,b,c,d);
+j=e[3];
+k=e[2];
+l=e[1];
+m=*e;
+goto L2;
+case 76:w8(b+176,h+2);
+entity_name_076(e,b,c,d);
+j=e[3];
+k=e[2];
+l=e[1];
+m=*e;
+goto L2;
+default:break;}}
+entity_name_076(e,b,c,d);
+j=e[3];
+k=e[2];
+l=e[1];
+m=*e;}
+else{
+j=0;
+k=0;
+l=0;
+m=0;}}
+else{
+j=0;
+k=0;
+l=0;
+m=0;}
+L2:*a=m;
+a[1]=l;
+a[2]=k;
+a[3]=j;
 goto L3;}
-n=0;
-o=0;
-p=0;
-q=0;
-goto L2;}}
-z=(u64)v+(u8)((u8)(t*10)+32);
-if(d-w<z)goto L4;
-if((u8)(*(c+(i64)w)-48)<10)goto L4;
-A=w;
-B=z+w;
-goto L5;}}
-C=t-48;
-if(d-u<C)goto L4;
-if((u8)(*(c+(i64)u)-48)<10)goto L4;
-A=u;
-B=u+C;
-L5:x=B;
-y=A;
-L3:w8(b+176,x);
-D=c+(i64)y;
-E=x-y;
-if(x!=y){
-if(!(E<10||*D!=95)){
-F=parts_equal_58b((u8*)t_35ad,10,D,10);
-if(F){
-G=(s_p_64){(u8*)t_62ff,21};
-goto L6;}}}
-H=(s_p_64){0};H.f0=D;
-I=H;I.f1=E;
-G=I;
-L6:J=G.f0;
-K=G.f1;
-if(r8(b+32)-r<K){
-L=make_ready_8e3(b,K,128);
-if(!(L&1)){
-n=0;
-o=0;
-p=0;
-q=0;
-goto L2;}
-M=r8(b+8);}
-else M=r;
-N=r8(b+16);
-if(K>N-M){
-O=grow_amortized_2b6(b,K);
-if(!O){
-n=0;
-o=0;
-p=0;
-q=0;
-goto L2;}
-P=r8(b+16);
-Q=r8(b+8);}
+L1:finish_8cd(f,b,c,d);
+*a=*f;
+a[1]=f[1];
+a[2]=f[2];
+a[3]=f[3];
+L3:return;
+}
+
+/* cpp_direct::direct::Direct::begin_member */
+static void begin_member_002(u8* a,u8* b,u8* c,u64 d)
+{
+u8 g[6];
+A16 u8 e[24],f[4];
+u64 h,i,j,l,m,n,o,q,r,s,z,B,C,D,H,J,K,L,M,N,O,R,X;
+u8 k,t,u,v,w,x,y,A,E,F,G,I,P,S,Y,Z;
+u8 *p,*Q,*W;
+s_p_64 T,U,V;
+if(c[2]==90){
+if(d>1024)x4(a,0);
 else{
-P=N;
-Q=M;}
-R=Q+K;
-S=rp(b);
+h=r8(b+176);
+if(h==18446744073709551615u)x4(a,0);
+else{
+i=h+1;
+if(i<d){
+switch(*(c+i)){
+case 75:j=h+2;
+if(j<d){
+switch(*(c+j)){
+case 82:k=3;
+l=h+3;
+break;
+case 79:k=5;
+l=h+3;
+break;
+default:k=1;
+l=j;
+break;}}
+else{
+k=1;
+l=j;}
+break;
+case 82:k=2;
+l=h+2;
+break;
+case 79:k=4;
+l=h+2;
+break;
+default:k=0;
+l=i;
+break;}}
+else{
+k=0;
+l=i;}
+b[172]=0;
+m=r8(b+48);
+if(m==0)goto L1;
+n=m;
+o=0;
+L2:p=rp(b+40)+o*12;
+if(p[9]&1){
+x4(p,1);
+x8(p+4,0);
+q=r8(b+48);}
+else q=n;
+r=o+1;
+if(r<q){
+n=q;
+o=r;
+goto L2;}
+L1:w8(b+176,l);
+w4(f,0);
+x4(g+2,0);
+if(l<0xfffffffffffffffeu){
+s=l+2;
+if(s<d)t=*(c+s)==118;
+else t=0;
+if(l<d){
+if(!(t||*(c+l)!=85)){
+*g=2;
+g[1]=k;
+u=open_lambda_2e5(b,c,d,0,g);
+v=0;
+w=0;
+x=0;
+y=u;
+goto L3;}}
+z=r8(b+8);
+if(r8(b+32)-z<2){
+A=make_ready_8e3(b,2,128);
+if(!(A&1)){
+v=0;
+w=0;
+x=0;
+y=0;
+goto L3;}
+B=r8(b+8);}
+else B=z;
+*(rp(b)+B)=58;
+*(rp(b)+(i64)B+1)=58;
+C=B+2;
+w8(b+8,C);
+D=r8(b+176);
+if(D<d){
+E=*(c+D);
+if(E==85){
+F=lambda_b09(b,c,d);
+G=F;}
+else{
+z24(e);
+if((u8)(E-58)<247)goto L4;
+H=D+1;
+if(H<d){
+I=*(c+H)-48;
+if(I<10){
+J=D+2;
+if(J<d){
+if((u8)(*(c+J)-48)<10){
+long_name_at_8ad(e,c,d,D);
+if(*e==1){
+K=r8(e+16);
+L=r8(e+8);
+goto L5;}
+v=0;
+w=0;
+x=0;
+y=0;
+goto L3;}}
+M=(u64)I+(u8)((u8)(E*10)+32);
+if(d-J<M)goto L4;
+if((u8)(*(c+(i64)J)-48)<10)goto L4;
+N=J;
+O=M+J;
+goto L6;}}
+P=E-48;
+if(d-H<P)goto L4;
+if((u8)(*(c+(i64)H)-48)<10)goto L4;
+N=H;
+O=H+P;
+L6:K=O;
+L=N;
+L5:w8(b+176,K);
+Q=c+(i64)L;
+R=K-L;
+if(K!=L){
+if(!(R<10||*Q!=95)){
+S=parts_equal_58b((u8*)t_35ad,10,Q,10);
+if(S){
+T=(s_p_64){(u8*)t_62ff,21};
+goto L7;}}}
+U=(s_p_64){0};U.f0=Q;
+V=U;V.f1=R;
+T=V;
+L7:W=T.f0;
+X=T.f1;
+if(r8(b+32)-C<X){
+Y=make_ready_8e3(b,X,128);
+if(!(Y&1)){
+v=0;
+w=0;
+x=0;
+y=0;
+goto L3;}}
+Z=extend_from_slice_169(b,W,X);
+G=Z^1;}
+if(!(G&1)){
+v=0;
+w=0;
+x=0;
+y=0;
+goto L3;}
+member_function_912(f,b,c,d,k);
+v=f[3];
+w=f[2];
+x=f[1];
+y=*f;
+goto L3;}
+L4:v=0;
+w=0;
+x=0;
+y=0;}
+else{
+v=0;
+w=0;
+x=0;
+y=0;}
+L3:*a=y;
+a[1]=x;
+a[2]=w;
+a[3]=v;}}}
+else x4(a,0);
+return;
+}
+
+/* cpp_direct::direct::Direct::member_function */
+static void member_function_912(u8* a,u8* b,u8* c,u64 d,u8 e)
+{
+A16 u8 f[24],g[4];
+u32 h;
+u64 i,j,m,o,p,q,s,u,v,x,y,z,C,E,F,G,H,I,J,M,O,Q,S,T,V,X,Y,aa,ca,da,fa,ka,ma,na,pa,qa,ra,ua;
+u8 k,n,r,t,w,D,K,N,P,R,U,W,Z,ba,ea,la,oa;
+u8 *l,*A,*B,*L,*ja,*sa,*ta;
+s_p_64 ga,ha,ia;
+w4(g,0);
+h=r8(b+8);
+i=r8(b+48);
+if(r8(b+72)>i)j=i;
+else{
+k=make_ready_17a(b+40);
+if(!(k&1)){
+x4(a,0);
+goto L1;}
+j=r8(b+48);}
+l=rp(b+40)+j*12;
+x4(l,0);
+x4(l+4,h);
+l[8]=0;
+l[9]=0;
+x2(l+10,0);
+w8(b+48,j+1);
+m=r8(b+8);
+if(r8(b+32)-m<2){
+n=make_ready_8e3(b,2,128);
+if(!(n&1)){
+x4(a,0);
+goto L1;}
+o=r8(b+8);}
+else o=m;
+*(rp(b)+o)=58;
+*(rp(b)+(i64)o+1)=58;
+p=o+2;
+w8(b+8,p);
+q=r8(b+176);
+if(q<d){
+r=*(c+q);
+if(r==99){
+s=q+1;
+if(s>=d)goto L2;
+if(*(c+s)!=108)goto L2;
+w8(b+176,q+2);
+if(r8(b+32)-p<10){
+t=make_ready_8e3(b,10,128);
+if(!(t&1))goto L2;
+u=r8(b+8);}
+else u=p;
+v=r8(b+16);
+if(v-u<10){
+w=grow_amortized_2b6(b,10);
+if(!w)goto L2;
+x=r8(b+16);
+y=r8(b+8);}
+else{
+x=v;
+y=u;}
+z=y+10;
+A=rp(b);
 z16(b+8);
-T=S+(i64)Q;
-if((u64)T-(u64)J<K)copy_bits_4f4(J,T,K);
-else memmove(T,J,K);
-wp(b,S);
-w8(b+8,R);
-w8(b+16,P);
-U=r8(b+176);
-if(U<d){
-if(*(c+U)==95){
-V=U+1;
-w8(b+176,V);
-if(V>=d){
-n=0;
-o=0;
-p=0;
-q=0;
-goto L2;}
-W=*(c+V);
-if(W==95){
-X=U+2;
-w8(b+176,X);
-if(d==X){
-Y=d;
+B=A+(i64)y;
+if((u64)B-(u64)(u8*)t_1f0f<10)copy_bits_4f4((u8*)t_1f0f,B,10);
+else memcpy(B,(u8*)t_1f0f,10);
+wp(b,A);
+w8(b+8,z);
+w8(b+16,x);}
+else{
+z24(f);
+if((u8)(r-58)<247)goto L3;
+C=q+1;
+if(C<d){
+D=*(c+C)-48;
+if(D<10){
+E=q+2;
+if(E<d){
+if((u8)(*(c+E)-48)<10){
+long_name_at_8ad(f,c,d,q);
+if(*f!=1)goto L2;
+F=r8(f+16);
+G=r8(f+8);
+goto L4;}}
+H=(u64)D+(u8)((u8)(r*10)+32);
+if(d-E<H)goto L3;
+if((u8)(*(c+(i64)E)-48)<10)goto L3;
+I=E;
+J=H+E;
+goto L5;}}
+K=r-48;
+if(d-C<K)goto L3;
+if((u8)(*(c+(i64)C)-48)<10)goto L3;
+I=C;
+J=C+K;
+L5:F=J;
+G=I;
+L4:w8(b+176,F);
+L=c+(i64)G;
+M=F-G;
+if(F!=G){
+if(M<10||*L!=95)goto L6;
+N=0;
+O=0;
+L7:P=N||*((u8*)t_35ad+(i64)O)!=*(L+(i64)O);
+Q=O+1;
+if(Q!=8){
+N=P;
+O=Q;
 goto L7;}
-Z=X;
-L8:if((u8)(*(c+Z)-48)<10){
-aa=Z+1;
-if(aa!=d){
-Z=aa;
+R=0;
+S=0;
+L8:T=S+2;
+U=R||*((u8*)t_35ad+(i64)T)!=*(L+(i64)T);
+V=S+1;
+if(V!=8){
+R=U;
+S=V;
 goto L8;}
-Y=d;}
-else Y=Z;
-L7:if(X>=Y){
-n=0;
-o=0;
-p=0;
-q=0;
-goto L2;}
-ba=Y&4294967295u;
-if(ba>=d){
-n=0;
-o=0;
-p=0;
-q=0;
-goto L2;}
-if(*(c+ba)!=95){
-n=0;
-o=0;
-p=0;
-q=0;
-goto L2;}
-ca=ba+1;}
-else{
-if((u8)(W-58)<246){
-n=0;
-o=0;
-p=0;
-q=0;
-goto L2;}
-ca=U+2;}
-w8(b+176,ca);}}
-finish_8cd(f,b,c,d);
-n=f[3];
-o=f[2];
-p=f[1];
-q=*f;
-goto L2;}}
-L4:n=0;
-o=0;
-p=0;
-q=0;
-L2:da=n;
-ea=o;
-fa=p;
-ga=q;}
-else{
-da=0;
-ea=0;
-fa=0;
-ga=0;}}
-else{
-da=0;
-ea=0;
-fa=0;
-ga=0;}
-*a=ga;
-a[1]=fa;
-a[2]=ea;
-a[3]=da;
+W=0;
+X=0;
+L9:Y=X+2;
+Z=W||*((u8*)t_35ad+(i64)Y)!=*(L+(i64)Y);
+aa=X+1;
+if(aa!=8){
+W=Z;
+X=aa;
 goto L9;}
-L1:finish_8cd(g,b,c,d);
+ba=0;
+ca=0;
+L10:da=ca+2;
+ea=ba||*((u8*)t_35ad+(i64)da)!=*(L+(i64)da);
+fa=ca+1;
+if(fa!=8){
+ba=ea;
+ca=fa;
+goto L10;}
+if(!(((P|U)|Z)|ea)){
+ga=(s_p_64){(u8*)t_62ff,21};
+goto L11;}}
+L6:ha=(s_p_64){0};ha.f0=L;
+ia=ha;ia.f1=M;
+ga=ia;
+L11:ja=ga.f0;
+ka=ga.f1;
+if(r8(b+32)-p<ka){
+la=make_ready_8e3(b,ka,128);
+if(!(la&1))goto L2;
+ma=r8(b+8);}
+else ma=p;
+na=r8(b+16);
+if(ka>na-ma){
+oa=grow_amortized_2b6(b,ka);
+if(!oa)goto L2;
+pa=r8(b+16);
+qa=r8(b+8);}
+else{
+pa=na;
+qa=ma;}
+ra=qa+ka;
+sa=rp(b);
+z16(b+8);
+ta=sa+(i64)qa;
+if((u64)ta-(u64)ja<ka)copy_bits_4f4(ja,ta,ka);
+else memmove(ta,ja,ka);
+wp(b,sa);
+w8(b+8,ra);
+w8(b+16,pa);}
+ua=r8(b+176);
+if(ua<d){
+if(*(c+ua)==69){
+w8(b+176,ua+1);
+member_parameters_ecd(g,b,c,d,e);
 *a=*g;
 a[1]=g[1];
 a[2]=g[2];
 a[3]=g[3];
-L9:return;
+goto L1;}}
+x4(a,0);
+goto L1;}
+L3:L2:x4(a,0);
+L1:return;
+}
+
+/* cpp_direct::direct::Direct::member_parameters */
+static void member_parameters_ecd(u8* a,u8* b,u8* c,u64 d,u8 e)
+{
+A16 u8 f[4];
+u64 g,h,m,o,q,r;
+u8 i,j,k,l,p,s;
+u32 n;
+u8 *t;
+g=r8(b+176);
+if(g==18446744073709551615u)x4(a,0);
+else{
+h=g+1;
+if(h<d)i=*(c+h);
+else i=0;
+if(g<d){
+if(*(c+g)==118){
+switch(i){
+case 69:case 46:case 0:w8(b+176,h);
+w4(f,0);
+finish_8cd(f,b,c,d);
+j=f[1];
+k=f[2];
+l=f[3];
+*a=*f;
+a[1]=j;
+a[2]=k;
+a[3]=l;
+goto L1;
+default:break;}}}
+m=r8(b+8);
+n=m;
+if(r8(b+32)>m)o=m;
+else{
+p=make_ready_8e3(b,1,16);
+if(!(p&1)){
+x4(a,0);
+goto L1;}
+o=r8(b+8);}
+*(rp(b)+o)=40;
+w8(b+8,o+1);
+q=r8(b+88);
+if(r8(b+112)>q)r=q;
+else{
+s=make_ready_9a1(b+80);
+if(!(s&1)){
+x4(a,0);
+goto L1;}
+r=r8(b+88);}
+t=rp(b+80)+r*44;
+*t=18;
+t[1]=e;
+x2(t+2,0);
+x4(t+4,n);
+z36(t+8);
+w8(b+88,r+1);
+*a=1;
+a[1]=0;
+a[2]=0;
+a[3]=0;}
+L1:return;
 }
 
 /* cpp_direct::direct::Direct::close */
@@ -60717,7 +62441,7 @@ static void close_39a(u8* a,u8* b,u8* c,u64 d,u32 e)
 {
 u8 f[4];
 u64 g,j,k,l,m,p,q;
-u8 h;
+u8 h,r;
 u32 i;
 u8 *n,*o;
 g=r8(b+8);
@@ -60736,16 +62460,30 @@ else{
 n=rp(b);
 o=n+(i64)k;
 p=0;
-L2:*(n+p)=*(o+(i64)p);
+L2:*(n+(i64)p)=*(o+(i64)p);
 q=p+1;
 if(q!=l){
 p=q;
 goto L2;}
 m=r8(b+8);}
 if(m>l)w8(b+8,l);
-if(r8(b+48)!=0)w8(b+48,0);
+if(d>=3){
+r=c[2];
+if(d<5){
+if(r!=90)goto L3;}
+else{
+switch(r){
+case 90:break;
+case 71:if(c[3]!=86)goto L3;
+if(c[4]!=90)goto L3;
+break;
+default:goto L3;
+}}
+hide_all_828(b);
+goto L4;}
+L3:if(r8(b+48)!=0)w8(b+48,0);
 z16(b+64);}
-encoded_306(f,b,c,d);
+L4:encoded_306(f,b,c,d);
 *a=*f;
 a[1]=f[1];
 a[2]=f[2];
@@ -62142,12 +63880,11 @@ L1:return;
 /* cpp_direct::direct::Direct::parameter_ended */
 static void parameter_ended_d3f(u8* a,u8* b,u8* c,u64 d,u32 e,u8* f)
 {
-u8 g[4],i[32];
-A16 u8 h[4];
-u64 j,o,q,v,y,A,C,D,H,M,N,O,R,S;
-u8 k,l,m,n,p,r,s,t,u,x,z,B,E,F,I,J,K,L;
-u8 *w,*P,*Q;
-u32 G;
+u8 i[32];
+A16 u8 g[4],h[4];
+u64 j,o,q,v,y,A,C,D;
+u8 k,l,m,n,p,r,s,t,u,x,z,B,E,F,G,H,I;
+u8 *w;
 j=r8(b+176);
 if(j<d){
 switch(*(c+j)){
@@ -62185,6 +63922,7 @@ t=l;
 u=k;
 goto L2;
 }}
+w4(g,0);
 v=r8(b+8);
 if(v>=5){
 w=rp(b)+(i64)v;
@@ -62205,52 +63943,20 @@ B=E;
 C=D;
 goto L4;}
 if(!(z|E)){
-r=0;
-s=0;
-t=0;
-u=0;
-goto L2;}}
-F=repeat_28b(b,0,e);
-if(F&1){
-G=v;
-if(G!=0){
-H=r8(b+8);
-if((u32)H<G){
+F=0;
+G=0;
+H=0;
 I=0;
-J=0;
-K=0;
-L=0;
-goto L5;}
-M=v&4294967295u;
-N=H-M;
-if(H==M)O=H;
-else{
-P=rp(b);
-Q=P+(i64)M;
-R=0;
-L6:*(P+R)=*(Q+(i64)R);
-S=R+1;
-if(S!=N){
-R=S;
-goto L6;}
-O=r8(b+8);}
-if(O>N)w8(b+8,N);
-if(r8(b+48)!=0)w8(b+48,0);
-z16(b+64);}
-encoded_306(g,b,c,d);
-I=g[3];
-J=g[2];
-K=g[1];
-L=*g;}
-else{
-I=0;
-J=0;
-K=0;
-L=0;}
-L5:r=L;
-s=K;
-t=J;
-u=I;
+goto L5;}}
+close_39a(g,b,c,d,e);
+F=g[3];
+G=g[2];
+H=g[1];
+I=*g;
+L5:r=I;
+s=H;
+t=G;
+u=F;
 L2:*a=r;
 a[1]=s;
 a[2]=t;
@@ -62261,12 +63967,10 @@ return;
 /* cpp_direct::direct::Direct::front_ended */
 static void front_ended_665(u8* a,u8* b,u8* c,u64 d,u8 e,u32 f,u8* g)
 {
-u8 h[4];
-A16 u8 i[4],j[32];
-u64 k,n,q,r,x,y,z,D,I,J,K,N,O,P,Q;
-u8 *l,*L,*M,*S;
-u8 m,o,p,s,t,u,v,w,A,B,E,F,G,H,R,T,U,V,W,X;
-u32 C;
+A16 u8 h[4],i[4],j[32];
+u64 k,n,q,r,x,y,A,B;
+u8 *l,*D;
+u8 m,o,p,s,t,u,v,w,z,C,E,F,G,H,I;
 memcpy(j,g,32);
 k=r8(b+176);
 if(k<d){
@@ -62279,6 +63983,7 @@ if(n==0)o=m;
 else{
 w8(b+88,n-1);
 o=*l;}
+w4(i,0);
 p=o==118;
 q=r8(b+8);
 if(r8(b+32)>q)r=q;
@@ -62292,108 +63997,71 @@ w=0;
 goto L1;}
 r=r8(b+8);}
 *(rp(b)+r)=40;
-x=r+1;
-w8(b+8,x);
-y=r8(b+176);
-if(y==18446744073709551615u){
+w8(b+8,r+1);
+x=r8(b+176);
+if(x==18446744073709551615u){
 t=0;
 u=0;
 v=0;
 w=0;}
 else{
-z=y+1;
-if(z<d)A=*(c+z);
-else A=0;
+y=x+1;
+if(y<d)z=*(c+y);
+else z=0;
 if(p){
-switch(A){
-case 69:case 46:case 0:w8(b+176,z);
-B=repeat_28b(b,0,f);
-if(B&1){
-C=x;
-if(C!=0){
-D=r8(b+8);
-if((u32)D<C){
-E=0;
-F=0;
-G=0;
-H=0;
-goto L2;}
-I=x&4294967295u;
-J=D-I;
-if(D==I)K=D;
-else{
-L=rp(b);
-M=L+(i64)I;
-N=0;
-L3:*(L+N)=*(M+(i64)N);
-O=N+1;
-if(O!=J){
-N=O;
-goto L3;}
-K=r8(b+8);}
-if(K>J)w8(b+8,J);
-if(r8(b+48)!=0)w8(b+48,0);
-z16(b+64);}
-encoded_306(h,b,c,d);
-E=h[3];
-F=h[2];
-G=h[1];
-H=*h;}
-else{
-E=0;
-F=0;
-G=0;
-H=0;}
-L2:t=E;
-u=F;
-v=G;
-w=H;
+switch(z){
+case 69:case 46:case 0:w8(b+176,y);
+close_39a(i,b,c,d,f);
+t=i[3];
+u=i[2];
+v=i[1];
+w=*i;
 goto L1;
 default:break;}}
-P=r8(b+88);
-if(r8(b+112)>P)Q=P;
+A=r8(b+88);
+if(r8(b+112)>A)B=A;
 else{
-R=make_ready_9a1(b+80);
-if(!(R&1)){
+C=make_ready_9a1(b+80);
+if(!(C&1)){
 t=0;
 u=0;
 v=0;
 w=0;
 goto L1;}
-Q=r8(b+88);}
-S=rp(b+80)+Q*44;
-*S=10;
-S[1]=e;
-x2(S+2,0);
-x4(S+4,f);
-memcpy(S+8,j,32);
-x4(S+40,0);
-w8(b+88,Q+1);
-T=j[29];
-w4(i,0);
-if(T&1){
-expansion_52e(i,b,c,d,1,f,j);
-U=*i;
-V=i[1];
-W=i[2];
-X=i[3];}
+B=r8(b+88);}
+D=rp(b+80)+B*44;
+*D=10;
+D[1]=e;
+x2(D+2,0);
+x4(D+4,f);
+memcpy(D+8,j,32);
+x4(D+40,0);
+w8(b+88,B+1);
+E=j[29];
+w4(h,0);
+if(E&1){
+expansion_52e(h,b,c,d,1,f,j);
+F=*h;
+G=h[1];
+H=h[2];
+I=h[3];}
 else{
-U=1;
-V=0;
-W=0;
-X=0;}
-t=X;
-u=W;
-v=V;
-w=U;}
+F=1;
+G=0;
+H=0;
+I=0;}
+t=I;
+u=H;
+v=G;
+w=F;}
 L1:*a=w;
 a[1]=v;
 a[2]=u;
 a[3]=t;
-goto L4;
+goto L2;
 }}
 x4(a,0);
-L4:return;
+L2:return;
 }
 
 /* cpp_direct::direct::Direct::pass_dependent */
@@ -62427,7 +64095,7 @@ break;
 case 11:memcpy(g,j-32,32);
 enclosing_front_fa8(e,b,k,l,m,g);
 break;
-case 0:case 1:case 2:case 3:case 4:case 5:case 6:case 7:case 8:case 9:case 10:case 12:case 14:case 17:case 18:case 19:case 20:case 21:case 22:case 23:case 24:case 25:n=h-1;
+case 0:case 1:case 2:case 3:case 4:case 5:case 6:case 7:case 8:case 9:case 10:case 12:case 14:case 17:case 18:case 19:case 20:case 21:case 22:case 23:case 24:case 25:case 26:case 27:case 28:case 29:n=h-1;
 w8(b+88,n);
 o=n*44;
 p=i+o;
@@ -62492,7 +64160,7 @@ I=1;
 J=0;
 K=0;
 break;
-case 0:case 1:case 2:case 3:case 7:case 9:case 10:case 11:case 12:case 13:case 14:case 15:case 16:case 17:case 18:case 19:case 20:case 21:case 22:case 23:case 24:case 25:goto L1;
+case 0:case 1:case 2:case 3:case 7:case 9:case 10:case 11:case 12:case 13:case 14:case 15:case 16:case 17:case 18:case 19:case 20:case 21:case 22:case 23:case 24:case 25:case 26:case 27:case 28:case 29:goto L1;
 default:NEVER;
 }
 if(r8(b+112)>n){
@@ -62663,7 +64331,7 @@ else{
 y=rp(b);
 z=y+(i64)u;
 A=0;
-L4:*(y+A)=*(z+(i64)A);
+L4:*(y+(i64)A)=*(z+(i64)A);
 B=A+1;
 if(B!=w){
 A=B;
@@ -62732,7 +64400,7 @@ else{
 q=rp(b);
 r=q+(i64)m;
 s=0;
-L1:*(q+s)=*(r+(i64)s);
+L1:*(q+(i64)s)=*(r+(i64)s);
 t=s+1;
 if(t!=o){
 s=t;
@@ -62899,7 +64567,7 @@ else{
 w=rp(b);
 x=w+(i64)s;
 y=0;
-L4:*(w+y)=*(x+(i64)y);
+L4:*(w+(i64)y)=*(x+(i64)y);
 z=y+1;
 if(z!=u){
 y=z;
@@ -63026,7 +64694,7 @@ x4(a,0);
 goto L2;}
 u=r8(b+88);}
 w=rp(b+80)+u*44;
-*w=20;
+*w=23;
 w[1]=e;
 z42(w+2);
 w8(b+88,u+1);
@@ -63107,7 +64775,7 @@ x8(r+4,0);
 w8(b+48,p+1);
 s=r8(b+88);
 if(s!=0)w8(b+88,s-1);
-pass_element_695(f,b,c,d);
+pass_element_695(f,b,c,d,0);
 *a=*f;
 a[1]=f[1];
 a[2]=f[2];
@@ -63118,45 +64786,53 @@ L1:return;
 }
 
 /* cpp_direct::direct::Direct::pass_element */
-static void pass_element_695(u8* a,u8* b,u8* c,u64 d)
+static void pass_element_695(u8* a,u8* b,u8* c,u64 d,u8 e)
 {
-u8 f[32];
-A16 u8 e[4];
-u64 g;
-u8 *h;
-u32 i;
-u8 j,k,l;
-w4(e,0);
-g=r8(b+88);
-if(g==0)x4(a,0);
+u8 g[32],h[32];
+A16 u8 f[4];
+u64 i;
+u8 *j;
+u32 k,m;
+u8 l,n,o,p;
+w4(f,0);
+i=r8(b+88);
+if(i==0)x4(a,0);
 else{
-h=rp(b+80)+(i64)(g*44);
-switch(h[-44]){
-case 10:i=r4(h-40);
-memcpy(f,h-36,32);
-parameter_ended_d3f(e,b,c,d,i,f);
+j=rp(b+80)+(i64)(i*44);
+switch(j[-44]){
+case 10:k=r4(j-40);
+memcpy(g,j-36,32);
+parameter_ended_d3f(f,b,c,d,k,g);
 break;
-case 12:enclosing_parameter_fc1(e,b,c,d,r4(h-40),r4(h-36));
+case 12:enclosing_parameter_fc1(f,b,c,d,r4(j-40),r4(j-36));
 break;
-case 13:instance_parameter_240(e,b,c,d,h[-43],r4(h-40),r4(h-36));
+case 13:instance_parameter_240(f,b,c,d,j[-43],r4(j-40),r4(j-36));
 break;
-case 18:finish_8cd(e,b,c,d);
+case 19:finish_8cd(f,b,c,d);
 break;
-case 0:case 1:case 2:case 3:case 4:case 5:case 6:case 7:case 8:case 9:case 11:case 14:case 15:case 16:case 17:case 19:case 20:case 21:case 22:case 23:case 24:case 25:*e=1;
-e[1]=3;
-e[2]=0;
-e[3]=0;
+case 28:if(!e){
+x4(a,0);
+goto L1;}
+l=j[-36];
+m=r4(j-40);
+memcpy(h,j-34,32);
+element_ended_6b8(f,b,c,d,m,l,h,1);
+break;
+case 0:case 1:case 2:case 3:case 4:case 5:case 6:case 7:case 8:case 9:case 11:case 14:case 15:case 16:case 17:case 18:case 20:case 21:case 22:case 23:case 24:case 25:case 26:case 27:case 29:*f=1;
+f[1]=3;
+f[2]=0;
+f[3]=0;
 break;
 default:NEVER;
 }
-j=e[1];
-k=e[2];
-l=e[3];
-*a=*e;
-a[1]=j;
-a[2]=k;
-a[3]=l;}
-return;
+n=f[1];
+o=f[2];
+p=f[3];
+*a=*f;
+a[1]=n;
+a[2]=o;
+a[3]=p;}
+L1:return;
 }
 
 /* cpp_direct::direct::Direct::parameter_at */
@@ -63377,7 +65053,7 @@ W=rp(b+40)+U*12;
 x4(W,1);
 x8(W+4,0);
 w8(b+48,U+1);
-pass_element_695(h,b,c,d);
+pass_element_695(h,b,c,d,e==2);
 *a=*h;
 a[1]=h[1];
 a[2]=h[2];
@@ -63389,6 +65065,352 @@ L3:x4(a,0);
 goto L4;
 L1:x4(a,0);
 L4:return;
+}
+
+/* cpp_direct::direct::Direct::lambda_parameter */
+static void lambda_parameter_383(u8* a,u8* b,u8* c,u64 d,u32 e,u8* f)
+{
+A16 u8 g[4];
+u64 h,n,q,s,u,v,y,A,B,C,E,F,G,H,I,J,P,Q,T,V;
+u8 i,j,k,l,p,r,t,w,x,z,D,K,L,M,N,R,U;
+u16 m;
+u8 *o,*S;
+u32 O;
+h=r8(b+176);
+if(h<d){
+if(*(c+h)==69){
+i=*f;
+j=f[1];
+k=f[2];
+l=f[3];
+m=q2(f+4);
+n=r8(b+8);
+if(n>=5){
+o=rp(b)+(i64)n;
+p=0;
+q=0;
+L1:r=p||*((u8*)t_262b+(i64)q)!=*(o-5+(i64)q);
+s=q+1;
+if(s!=4){
+p=r;
+q=s;
+goto L1;}
+t=0;
+u=0;
+L2:v=u+1;
+w=t||*((u8*)t_262b+(i64)v)!=*(o-5+(i64)v);
+if(v!=4){
+t=w;
+u=v;
+goto L2;}
+if(!(r|w)){
+x4(a,0);
+goto L3;}}
+w8(b+176,h+1);
+if(r8(b+32)-n<2){
+x=make_ready_8e3(b,2,128);
+if(!(x&1)){
+x4(a,0);
+goto L3;}
+y=r8(b+8);}
+else y=n;
+*(rp(b)+y)=41;
+*(rp(b)+(i64)y+1)=35;
+w8(b+8,y+2);
+z=lambda_number_bca(b,c,d);
+if(!(z&1)){
+x4(a,0);
+goto L3;}
+A=r8(b+88);
+if(A!=0)w8(b+88,A-1);
+w4(g,0);
+switch(i){
+case 0:B=r8(b+176);
+if(B<d){
+if(*(c+B)==95){
+C=B+1;
+w8(b+176,C);
+if(C>=d){
+K=0;
+L=0;
+M=0;
+N=0;
+break;}
+D=*(c+C);
+if(D==95){
+E=B+2;
+w8(b+176,E);
+if(d==E){
+F=d;
+goto L4;}
+G=E;
+L5:if((u8)(*(c+G)-48)<10){
+H=G+1;
+if(H!=d){
+G=H;
+goto L5;}
+F=d;}
+else F=G;
+L4:if(E>=F){
+K=0;
+L=0;
+M=0;
+N=0;
+break;}
+I=F&4294967295u;
+if(I>=d){
+K=0;
+L=0;
+M=0;
+N=0;
+break;}
+if(*(c+I)!=95){
+K=0;
+L=0;
+M=0;
+N=0;
+break;}
+J=I+1;}
+else{
+if((u8)(D-58)<246){
+K=0;
+L=0;
+M=0;
+N=0;
+break;}
+J=B+2;}
+w8(b+176,J);}}
+O=r8(b+8);
+P=r8(b+48);
+if(r8(b+72)>P)Q=P;
+else{
+R=make_ready_17a(b+40);
+if(!(R&1)){
+K=0;
+L=0;
+M=0;
+N=0;
+break;}
+Q=r8(b+48);}
+S=rp(b+40)+Q*12;
+x4(S,e);
+x4(S+4,O);
+S[8]=0;
+S[9]=0;
+x2(S+10,0);
+w8(b+48,Q+1);
+K=1;
+L=2;
+M=0;
+N=0;
+break;
+case 1:x4(b+120,e);
+x4(b+124,e);
+x4(b+128,e);
+b[132]=k;
+b[133]=l;
+x2(b+134,m);
+x4(b+136,0);
+K=1;
+L=5;
+M=0;
+N=0;
+break;
+case 2:member_function_912(g,b,c,d,j);
+K=*g;
+L=g[1];
+M=g[2];
+N=g[3];
+break;
+default:NEVER;
+}
+*a=K;
+a[1]=L;
+a[2]=M;
+a[3]=N;
+goto L3;}}
+T=r8(b+8);
+if(r8(b+32)-T<2){
+U=make_ready_8e3(b,2,128);
+if(!(U&1)){
+x4(a,0);
+goto L3;}
+V=r8(b+8);}
+else V=T;
+*(rp(b)+V)=44;
+*(rp(b)+(i64)V+1)=32;
+w8(b+8,V+2);
+*a=1;
+a[1]=0;
+a[2]=0;
+a[3]=0;
+L3:return;
+}
+
+/* cpp_direct::direct::Direct::member_parameter */
+static void member_parameter_7e4(u8* a,u8* b,u8* c,u64 d,u32 e)
+{
+A16 u8 f[4];
+u64 g,h,j,k,n,p,r,s,u,w,x,y,z,C,D,E,F,G,I,J;
+u8 i,m,o,q,t,v,K,L,M;
+u8 *l,*A,*B,*H;
+g=r8(b+176);
+if(g<d){
+switch(*(c+g)){
+case 69:case 46:case 0:break;
+default:h=r8(b+8);
+if(r8(b+32)-h<2){
+i=make_ready_8e3(b,2,128);
+if(!(i&1)){
+x4(a,0);
+goto L1;}
+j=r8(b+8);}
+else j=h;
+*(rp(b)+j)=44;
+*(rp(b)+(i64)j+1)=32;
+w8(b+8,j+2);
+*a=1;
+a[1]=0;
+a[2]=0;
+a[3]=0;
+goto L1;
+}}
+k=r8(b+8);
+if(k>=5){
+l=rp(b)+(i64)k;
+m=0;
+n=0;
+L2:o=m||*((u8*)t_262b+(i64)n)!=*(l-5+(i64)n);
+p=n+1;
+if(p!=4){
+m=o;
+n=p;
+goto L2;}
+q=0;
+r=0;
+L3:s=r+1;
+t=q||*((u8*)t_262b+(i64)s)!=*(l-5+(i64)s);
+if(s!=4){
+q=t;
+r=s;
+goto L3;}
+if(!(o|t)){
+x4(a,0);
+goto L1;}}
+u=r8(b+88);
+if(u!=0)w8(b+88,u-1);
+if(b[172]&1)x4(a,0);
+else{
+v=repeat_28b(b,0,e);
+if(v&1){
+w=k&4294967295u;
+x=r8(b+8);
+y=x-w;
+if(x==w)z=w;
+else{
+A=rp(b);
+B=A+(i64)w;
+C=0;
+L4:*(A+(i64)C)=*(B+(i64)C);
+D=C+1;
+if(D!=y){
+C=D;
+goto L4;}
+z=r8(b+8);}
+if(z>y)w8(b+8,y);
+E=r8(b+48);
+if(E==0)goto L5;
+F=E;
+G=0;
+L6:H=rp(b+40)+G*12;
+if(q4(H+4)>e){
+x4(H,1);
+x8(H+4,0);
+I=r8(b+48);}
+else I=F;
+J=G+1;
+if(J<I){
+F=I;
+G=J;
+goto L6;}
+L5:w4(f,0);
+finish_8cd(f,b,c,d);
+K=f[1];
+L=f[2];
+M=f[3];
+*a=*f;
+a[1]=K;
+a[2]=L;
+a[3]=M;}
+else x4(a,0);}
+L1:return;
+}
+
+/* cpp_direct::direct::Direct::argument_enumerator */
+static void argument_enumerator_83a(u8* a,u8* b,u8* c,u64 d,u32 e,u8 f,u8* g)
+{
+u8 i[32];
+A16 u8 h[4];
+u8 j,n,p,q,u;
+u64 k,l,m,o,r,s,t;
+u8 *v;
+memcpy(i,g,32);
+w4(h,0);
+j=ends_as_integer_bdf(b);
+if(j)x4(a,0);
+else{
+k=r8(b+88);
+if(k!=0)w8(b+88,k-1);
+l=r8(b+8);
+if(r8(b+32)>l)m=l;
+else{
+n=make_ready_8e3(b,1,16);
+if(!(n&1)){
+x4(a,0);
+goto L1;}
+m=r8(b+8);}
+*(rp(b)+m)=41;
+w8(b+8,m+1);
+o=r8(b+176);
+if(o<d){
+if(*(c+o)==110){
+w8(b+176,o+1);
+p=1;}
+else p=0;}
+else p=0;
+q=digits_418(b,c,d,p);
+if(q&1){
+r=r8(b+176);
+if(r<d){
+if(*(c+r)==69){
+w8(b+176,r+1);
+s=r8(b+88);
+if(r8(b+112)>s)t=s;
+else{
+u=make_ready_9a1(b+80);
+if(!(u&1)){
+x4(a,0);
+goto L1;}
+t=r8(b+88);}
+v=rp(b+80)+t*44;
+*v=25;
+v[1]=0;
+x2(v+2,0);
+x4(v+4,e);
+v[8]=f;
+v[9]=0;
+memcpy(v+10,i,32);
+x2(v+42,0);
+w8(b+88,t+1);
+argument_ended_511(h,b,c,d,e,f,i,0);
+*a=*h;
+a[1]=h[1];
+a[2]=h[2];
+a[3]=h[3];
+goto L1;}}
+x4(a,0);}
+else x4(a,0);}
+L1:return;
 }
 
 /* cpp_direct::direct::Direct::argument_ended */
@@ -63445,10 +65467,11 @@ switch(E){
 case 78:case 83:break;
 default:if((u8)(E-49)>=9)goto L2;
 break;}
-F=0;
-G=0;
-H=3;
-I=1;
+next_enumerator_cc1(l,b,c,d,z,o);
+F=l[3];
+G=l[2];
+H=l[1];
+I=*l;
 goto L3;}
 L2:next_literal_1b3(p,b,c,d,z,o);
 if(*p!=1){
@@ -63535,7 +65558,7 @@ I=0;
 goto L3;}
 R=r8(b+88);}
 T=rp(b+80)+R*44;
-*T=22;
+*T=25;
 T[1]=0;
 x2(T+2,0);
 x4(T+4,O);
@@ -63574,16 +65597,82 @@ a[3]=F;
 L4:return;
 }
 
+/* cpp_direct::direct::Direct::next_enumerator */
+static void next_enumerator_cc1(u8* a,u8* b,u8* c,u64 d,u8 e,u8* f)
+{
+u8 h[32];
+A16 u8 g[4];
+u64 i,k,l,m,p,r,s;
+u8 j,o,q,t;
+u32 n;
+u8 *u;
+memcpy(h,f,32);
+w4(g,0);
+i=r8(b+8);
+if(r8(b+32)-i<2){
+j=make_ready_8e3(b,2,128);
+if(!(j&1)){
+x4(a,0);
+goto L1;}
+k=r8(b+8);}
+else k=i;
+*(rp(b)+k)=44;
+*(rp(b)+(i64)k+1)=32;
+l=k+2;
+w8(b+8,l);
+if(e==255)x4(a,0);
+else{
+m=r8(b+176);
+if(m==18446744073709551615u)x4(a,0);
+else{
+n=l;
+o=e+1;
+w8(b+176,m+1);
+if(r8(b+32)>l)p=l;
+else{
+q=make_ready_8e3(b,1,16);
+if(!(q&1)){
+x4(a,0);
+goto L1;}
+p=r8(b+8);}
+*(rp(b)+p)=40;
+w8(b+8,p+1);
+r=r8(b+88);
+if(r8(b+112)>r)s=r;
+else{
+t=make_ready_9a1(b+80);
+if(!(t&1)){
+x4(a,0);
+goto L1;}
+s=r8(b+88);}
+u=rp(b+80)+s*44;
+*u=26;
+u[1]=0;
+x2(u+2,0);
+x4(u+4,n);
+u[8]=o;
+u[9]=0;
+memcpy(u+10,h,32);
+x2(u+42,0);
+w8(b+88,s+1);
+named_type_ed0(g,b,c,d);
+*a=*g;
+a[1]=g[1];
+a[2]=g[2];
+a[3]=g[3];}}
+L1:return;
+}
+
 /* cpp_direct::direct::Direct::next_pack */
 static void next_pack_66f(u8* a,u8* b,u8* c,u64 d,u8 e,u8* f)
 {
 u8 h[16],i[32],j[16];
 A16 u8 g[4];
 u16 k,l;
-u64 m,n,r,t,y,A,B,E,F,I,J;
-u8 o,p,q,u,v,w,x,z,D,G,K;
-u8 *s,*H,*L;
-u32 C;
+u64 m,n,r,t,C,E,F,I,J,M,N;
+u8 o,p,q,s,u,v,w,x,z,A,B,D,H,K,O;
+u8 *y,*L,*P;
+u32 G;
 k=q2(f);
 l=q2(f+2);
 memcpy(j,f+4,16);
@@ -63595,9 +65684,9 @@ o=f[28];
 p=f[29];
 q=f[31];
 r=m+1;
-if(r<d){
-s=c+(i64)r;
-switch(*s){
+s=r>=d;
+if(!s){
+switch(*(c+r)){
 case 69:memcpy(h,f+4,16);
 w4(g,0);
 t=m+2;
@@ -63638,50 +65727,46 @@ a[1]=w;
 a[2]=v;
 a[3]=u;
 goto L1;
-case 76:case 65:case 70:break;
-case 80:case 82:if(usub64(d,r)<2)goto L2;
-switch(s[1]){
-case 70:case 65:break;
-default:goto L2;
-}
+case 76:goto L2;
+default:break;}}
+y=c+(i64)r;
+z=usub64(d,r)<2;
+if(!(d<r||z)){
+if(*y==82){
+A=y[1];
+if(s|(A==65))goto L3;
+B=A;
+goto L4;}}
+if(s)goto L3;
+switch(*y){
+case 65:case 70:goto L2;
+case 80:case 82:if(z)goto L3;
+B=y[1];
 break;
-default:goto L2;
+default:goto L3;
 }
-*a=1;
-a[1]=3;
-a[2]=0;
-a[3]=0;
-goto L1;}
-L2:y=r8(b+8);
-if(r8(b+32)-y<2){
-z=make_ready_8e3(b,2,128);
-if(!(z&1)){
+L4:switch(B){
+case 70:case 65:goto L2;
+default:break;}
+L3:C=r8(b+8);
+if(r8(b+32)-C<2){
+D=make_ready_8e3(b,2,128);
+if(!(D&1)){
 x4(a,0);
 goto L1;}
-A=r8(b+8);}
-else A=y;
-*(rp(b)+A)=44;
-*(rp(b)+(i64)A+1)=32;
-B=A+2;
-w8(b+8,B);
+E=r8(b+8);}
+else E=C;
+*(rp(b)+E)=44;
+*(rp(b)+(i64)E+1)=32;
+F=E+2;
+w8(b+8,F);
 w8(b+176,r);
-if(e==255)x4(a,0);
-else{
-C=B;
-D=e+1;
-E=r8(b+88);
-if(r8(b+112)>E)F=E;
-else{
-G=make_ready_9a1(b+80);
-if(!(G&1)){
+if(e==255){
 x4(a,0);
 goto L1;}
-F=r8(b+88);}
-H=rp(b+80)+F*44;
-*H=23;
-I=F+1;
-z43(H+1);
-w8(b+88,I);
+G=F;
+H=e+1;
+I=r8(b+88);
 if(r8(b+112)>I)J=I;
 else{
 K=make_ready_9a1(b+80);
@@ -63690,26 +65775,43 @@ x4(a,0);
 goto L1;}
 J=r8(b+88);}
 L=rp(b+80)+J*44;
-*L=24;
-L[1]=0;
-x2(L+2,0);
-x4(L+4,C);
-L[8]=D;
-L[9]=0;
-x2(L+10,k);
-x2(L+12,l);
-memcpy(L+14,j,16);
-x8(L+30,n);
-L[38]=o;
-L[39]=p;
-L[40]=D;
-L[41]=q;
-x2(L+42,0);
-w8(b+88,J+1);
+*L=27;
+M=J+1;
+z43(L+1);
+w8(b+88,M);
+if(r8(b+112)>M)N=M;
+else{
+O=make_ready_9a1(b+80);
+if(!(O&1)){
+x4(a,0);
+goto L1;}
+N=r8(b+88);}
+P=rp(b+80)+N*44;
+*P=28;
+P[1]=0;
+x2(P+2,0);
+x4(P+4,G);
+P[8]=H;
+P[9]=0;
+x2(P+10,k);
+x2(P+12,l);
+memcpy(P+14,j,16);
+x8(P+30,n);
+P[38]=o;
+P[39]=p;
+P[40]=H;
+P[41]=q;
+x2(P+42,0);
+w8(b+88,N+1);
 *a=1;
 a[1]=0;
 a[2]=0;
-a[3]=0;}}
+a[3]=0;
+goto L1;
+L2:*a=1;
+a[1]=3;
+a[2]=0;
+a[3]=0;}
 L1:return;
 }
 
@@ -63931,7 +66033,7 @@ case 7:name_ended_a18(g,b,c,d,0,1,f,o);
 break;
 case 8:level_ended_5bf(g,b,c,d,n[1]&1);
 break;
-case 0:case 1:case 2:case 3:case 9:case 10:case 11:case 12:case 13:case 14:case 15:case 16:case 17:case 18:case 19:case 20:case 21:case 22:case 23:case 24:case 25:*g=0;
+case 0:case 1:case 2:case 3:case 9:case 10:case 11:case 12:case 13:case 14:case 15:case 16:case 17:case 18:case 19:case 20:case 21:case 22:case 23:case 24:case 25:case 26:case 27:case 28:case 29:*g=0;
 break;
 default:NEVER;
 }
@@ -63948,168 +66050,186 @@ L1:return;
 /* cpp_direct::direct::Direct::element_ended */
 static void element_ended_6b8(u8* a,u8* b,u8* c,u64 d,u32 e,u8 f,u8* g,u8 h)
 {
-u8 i[32],j[16],k[32],m[16],n[32];
-A16 u8 l[4];
-u64 o,p,q,r,w,D,L,N,Q,S,V,W;
-u16 s,t,u,v,B,C,H,J,K;
-u8 x,y,z,A,E,F,G,I,O,P,R,U,X;
-u8 *M,*Y;
-u32 T;
-w4(l,0);
-z16(m);
-z32(n);
-memcpy(k,g,32);
-o=r8(b+88);
-if(o==0)p=0;
+u8 i[32],j[32],k[16],l[32],n[16],o[32];
+A16 u8 m[4];
+u64 p,q,r,s,x,E,M,U,X,Z,ca,da;
+u16 t,u,v,w,C,D,I,K,L;
+u8 y,z,A,B,F,G,H,J,N,O,P,R,S,T,V,W,Y,ba,ea;
+u8 *Q,*fa;
+u32 aa;
+w4(m,0);
+z16(n);
+z32(o);
+memcpy(l,g,32);
+p=r8(b+88);
+if(p==0)q=0;
 else{
-q=o-1;
-w8(b+88,q);
-p=q;}
-r=r8(b+8);
-if((e|(u32)r)>65535||(f>7||f!=k[28])){
-s=r2(k);
-t=r2(k+2);
-memcpy(j,k+4,16);
-u=s;
+r=p-1;
+w8(b+88,r);
+q=r;}
+s=r8(b+8);
+memcpy(i,l,32);
+if((e|(u32)s)>65535||(f>7||f!=i[28])){
+t=r2(l);
+u=r2(l+2);
+memcpy(k,l+4,16);
 v=t;
-w=q8(k+20);
-x=k[28];
-y=k[29];
-z=k[30];
-A=k[31];}
+w=u;
+x=q8(l+20);
+y=l[28];
+z=l[29];
+A=l[30];
+B=l[31];}
 else{
-B=r2(k);
-C=r2(k+2);
-D=q8(k+20);
-E=k[29];
-F=k[30];
-G=k[31];
-memcpy(i+4,k+4,16);
-x8(i+20,D);
-i[28]=f+1;
-i[29]=E;
-i[30]=F;
-i[31]=G;
-w2(i+4+((u64)f<<1),r);
-*(i+20+f)=h;
+C=r2(i);
+D=r2(i+2);
+E=q8(i+20);
+F=i[29];
+G=i[30];
+H=i[31];
+memcpy(j+4,l+4,16);
+x8(j+20,E);
+j[28]=f+1;
+j[29]=F;
+j[30]=G;
+j[31]=H;
+w2(j+4+((u64)f<<1),s);
+*(j+20+f)=h;
 if(f==0){
-memcpy(j,i+4,16);
-u=B;
-v=e;
-w=q8(i+20);
-x=i[28];
-y=i[29];
-z=i[30];
-A=i[31];}
+memcpy(k,j+4,16);
+v=C;
+w=e;
+x=q8(j+20);
+y=j[28];
+z=j[29];
+A=j[30];
+B=j[31];}
 else{
-H=r2(k+4+(i64)((u64)(u8)(f-1)<<1));
-I=(H<65534)&(e==(u16)(0-usub16(65534,H)));
-J=I?B:r2(k);
-K=I?C:r2(k+2);
-memcpy(j,I?i+4:k+4,16);
-u=J;
+I=r2(i+4+(i64)((u64)(u8)(f-1)<<1));
+J=(I<65534)&(e==(u16)(0-usub16(65534,I)));
+K=J?C:r2(l);
+L=J?D:r2(l+2);
+memcpy(k,J?j+4:l+4,16);
 v=K;
-w=I?q8(i+20):q8(k+20);
-x=I?i[28]:k[28];
-y=I?i[29]:k[29];
-z=I?i[30]:k[30];
-A=I?i[31]:k[31];}}
-memcpy(m,j,16);
-L=r8(b+176);
-if(L<d){
-M=c+(i64)L;
-switch(*M){
-case 76:case 65:case 70:break;
-case 80:case 82:if(usub64(d,L)<2)goto L1;
-switch(M[1]){
-case 70:case 65:break;
-default:goto L1;
-}
+w=L;
+x=J?q8(j+20):q8(l+20);
+y=J?j[28]:l[28];
+z=J?j[29]:l[29];
+A=J?j[30]:l[30];
+B=J?j[31]:l[31];}}
+memcpy(n,k,16);
+M=r8(b+176);
+N=M>=d;
+if(N)O=0;
+else{
+P=*(c+M);
+if(P==76)goto L1;
+O=P;}
+Q=c+(i64)M;
+R=usub64(d,M)<2;
+if(!(d<M||R)){
+if(*Q==82){
+S=Q[1];
+if(N|(S==65))goto L2;
+T=S;
+goto L3;}}
+if(N)goto L2;
+switch(*Q){
+case 65:case 70:goto L1;
+case 80:case 82:if(R)goto L2;
+T=Q[1];
 break;
-case 69:N=L+1;
-if(N<d){
-if(*(c+N)==69){
-if(p!=0)w8(b+88,p-1);
-w8(b+176,L+2);
+default:goto L2;
+}
+L3:switch(T){
+case 70:case 65:goto L1;
+default:break;}
+L2:if(O==69){
+if(M==18446744073709551615u){
+x4(a,0);
+goto L4;}
+U=M+1;
+if(U<d){
+if(*(c+U)==69){
+if(q!=0)w8(b+88,q-1);
+w8(b+176,M+2);
 if(f==255){
 x4(a,0);
-goto L2;}
-O=f+1;
-if(O<z){
+goto L4;}
+V=f+1;
+if(V<A){
 x4(a,0);
-goto L2;}
-w2(n,u);
-w2(n+2,v);
-memcpy(n+4,m,16);
-x8(n+20,w);
-n[28]=x;
-n[29]=1;
-n[30]=z;
-n[31]=O-z;
-close_list_299(l,b,c,d,n);
-*a=*l;
-a[1]=l[1];
-a[2]=l[2];
-a[3]=l[3];
-goto L2;}}
+goto L4;}
+w2(o,v);
+w2(o+2,w);
+memcpy(o+4,n,16);
+x8(o+20,x);
+o[28]=y;
+o[29]=1;
+o[30]=A;
+o[31]=V-A;
+close_list_299(m,b,c,d,o);
+*a=*m;
+a[1]=m[1];
+a[2]=m[2];
+a[3]=m[3];
+goto L4;}}
 *a=1;
 a[1]=3;
 a[2]=0;
 a[3]=0;
-goto L2;
-default:goto L1;
-}
-*a=1;
-a[1]=3;
-a[2]=0;
-a[3]=0;
-goto L2;}
-L1:if(r8(b+32)-r<2){
-P=make_ready_8e3(b,2,128);
-if(!(P&1)){
-R=0;
-goto L3;}
-Q=r8(b+8);}
-else Q=r;
-*(rp(b)+Q)=44;
-*(rp(b)+(i64)Q+1)=32;
-S=Q+2;
-w8(b+8,S);
-if(f==255)R=0;
+goto L4;}
+if(r8(b+32)-s<2){
+W=make_ready_8e3(b,2,128);
+if(!(W&1)){
+Y=0;
+goto L5;}
+X=r8(b+8);}
+else X=s;
+*(rp(b)+X)=44;
+*(rp(b)+(i64)X+1)=32;
+Z=X+2;
+w8(b+8,Z);
+if(f==255)Y=0;
 else{
-T=S;
-U=f+1;
-V=r8(b+88);
-if(r8(b+112)>V)W=V;
+aa=Z;
+ba=f+1;
+ca=r8(b+88);
+if(r8(b+112)>ca)da=ca;
 else{
-X=make_ready_9a1(b+80);
-if(!(X&1)){
-R=0;
-goto L3;}
-W=r8(b+88);}
-Y=rp(b+80)+W*44;
-*Y=24;
-Y[1]=0;
-x2(Y+2,0);
-x4(Y+4,T);
-Y[8]=U;
-Y[9]=0;
-x2(Y+10,u);
-x2(Y+12,v);
-memcpy(Y+14,m,16);
-x8(Y+30,w);
-Y[38]=x;
-Y[39]=y;
-Y[40]=z;
-Y[41]=A;
-x2(Y+42,0);
-w8(b+88,W+1);
-R=1;}
-L3:*a=R;
+ea=make_ready_9a1(b+80);
+if(!(ea&1)){
+Y=0;
+goto L5;}
+da=r8(b+88);}
+fa=rp(b+80)+da*44;
+*fa=28;
+fa[1]=0;
+x2(fa+2,0);
+x4(fa+4,aa);
+fa[8]=ba;
+fa[9]=0;
+x2(fa+10,v);
+x2(fa+12,w);
+memcpy(fa+14,n,16);
+x8(fa+30,x);
+fa[38]=y;
+fa[39]=z;
+fa[40]=A;
+fa[41]=B;
+x2(fa+42,0);
+w8(b+88,da+1);
+Y=1;}
+L5:*a=Y;
 a[1]=0;
 a[2]=0;
 a[3]=0;
-L2:return;
+goto L4;
+L1:*a=1;
+a[1]=3;
+a[2]=0;
+a[3]=0;
+L4:return;
 }
 
 /* cpp_direct::direct::Direct::empty_pack */
@@ -64131,7 +66251,7 @@ j=r8(b+88);
 if(j==0){
 x4(a,0);
 goto L1;}
-if(*(rp(b+80)+(i64)(j*44)-44)==23){
+if(*(rp(b+80)+(i64)(j*44)-44)==27){
 k=0;
 l=0;
 m=0;
@@ -64175,7 +66295,7 @@ switch(j[-44]){
 case 5:if(j[-28]==0)goto L1;
 break;
 case 7:break;
-case 0:case 1:case 2:case 3:case 4:case 6:case 8:case 9:case 10:case 11:case 12:case 13:case 14:case 15:case 16:case 17:case 18:case 19:case 20:case 21:case 22:case 23:case 24:case 25:goto L1;
+case 0:case 1:case 2:case 3:case 4:case 6:case 8:case 9:case 10:case 11:case 12:case 13:case 14:case 15:case 16:case 17:case 18:case 19:case 20:case 21:case 22:case 23:case 24:case 25:case 26:case 27:case 28:case 29:goto L1;
 default:NEVER;
 }
 k=r8(b+176);
@@ -64185,7 +66305,7 @@ switch(l){
 case 78:case 83:break;
 default:if((u8)(l-49)>=9)goto L2;
 break;}
-literal_da7(e,b,c,d);
+first_enumerator_aaf(e,b,c,d);
 *a=*e;
 a[1]=e[1];
 a[2]=e[2];
@@ -64207,7 +66327,7 @@ n=r*44;
 o=rp(b+80);
 p=r;}
 s=o+n;
-*s=22;
+*s=25;
 s[1]=0;
 x2(s+2,0);
 x4(s+4,m);
@@ -64248,6 +66368,52 @@ a[1]=e[1];
 a[2]=e[2];
 a[3]=e[3];
 L3:return;
+}
+
+/* cpp_direct::direct::Direct::first_enumerator */
+static void first_enumerator_aaf(u8* a,u8* b,u8* c,u64 d)
+{
+A16 u8 e[4];
+u64 f,g,i,k,l;
+u32 h;
+u8 j,m;
+u8 *n;
+f=r8(b+176);
+if(f==18446744073709551615u)x4(a,0);
+else{
+g=r8(b+8);
+h=g;
+w8(b+176,f+1);
+if(r8(b+32)>g)i=g;
+else{
+j=make_ready_8e3(b,1,16);
+if(!(j&1)){
+x4(a,0);
+goto L1;}
+i=r8(b+8);}
+*(rp(b)+i)=40;
+w8(b+8,i+1);
+k=r8(b+88);
+if(r8(b+112)>k)l=k;
+else{
+m=make_ready_9a1(b+80);
+if(!(m&1)){
+x4(a,0);
+goto L1;}
+l=r8(b+88);}
+n=rp(b+80)+l*44;
+*n=26;
+n[1]=0;
+x2(n+2,0);
+x4(n+4,h);
+z36(n+8);
+w8(b+88,l+1);
+named_type_ed0(e,b,c,d);
+*a=*e;
+a[1]=e[1];
+a[2]=e[2];
+a[3]=e[3];}
+L1:return;
 }
 
 /* cpp_direct::direct::Direct::literal */
@@ -64299,7 +66465,7 @@ x4(a,0);
 goto L3;}
 s=r8(b+88);}
 u=rp(b+80)+s*44;
-*u=25;
+*u=29;
 z43(u+1);
 w8(b+88,s+1);
 named_type_ed0(e,b,c,d);
@@ -66169,13 +68335,14 @@ L2:return;
 /* cpp_direct::direct::Direct::nest_at */
 static void nest_at_b4c(u8* a,u8* b,u8* c,u64 d,u8* e)
 {
-A16 u8 f[44],g[40],h[40],i[24],j[40],k[40],l[16],m[24];
-u64 n,s,u,w,A,C,D,E,H,K,M,N,O,P,Q,R,U,aa,ca,da,fa,ga,ha,la,oa,sa,ta,wa,xa,za,Aa,Ba,Ea,Fa,Ia,Ja,La,Ma,Na,Ta,Wa,Xa,Za,ab,bb,eb,gb,ib,jb,kb,rb,sb,tb,xb,yb,Ab,Bb,Cb,Eb,Fb,Gb,Jb,Lb,Nb,Ob,Pb,Qb,Rb,Sb,Vb,Xb,Zb,bc,cc,ec,gc,hc,jc,lc,mc,oc,tc,vc,wc,yc,zc,Ac;
-u8 o,p,r,v,x,y,z,B,I,L,S,V,ba,ea,ma,na,qa,ua,ya,Ca,Ga,Ka,Oa,Qa,Ra,Sa,Va,Ya,hb,lb,pb,vb,wb,zb,Db,Hb,Mb,Tb,Wb,Yb,ac,dc,fc,ic,kc,nc,uc,xc;
+u8 f[34];
+A16 u8 g[40],h[40],i[24],j[40],k[40],l[16],m[24];
+u64 n,s,u,w,A,C,D,E,H,K,M,N,O,P,Q,R,U,aa,ca,da,fa,ga,ha,la,oa,sa,ta,wa,xa,za,Aa,Ba,Ea,Fa,Ia,Ja,La,Ma,Na,Ta,Wa,Xa,Za,ab,bb,eb,gb,ib,jb,kb,rb,sb,tb,vb,wb,xb,Ab,Cb,Eb,Fb,Gb,Hb,Ib,Jb,Mb,Ob,Qb,Sb,Tb,Vb,Xb,Yb,ac,cc,dc,fc,kc,mc,nc,pc,qc,rc;
+u8 o,p,r,v,x,y,z,B,I,L,S,V,ba,ea,ma,na,qa,ua,ya,Ca,Ga,Ka,Oa,Qa,Ra,Sa,Va,Ya,hb,lb,pb,qb,ub,yb,Db,Kb,Nb,Pb,Rb,Ub,Wb,Zb,bc,ec,lc,oc;
 u16 q;
-u32 t,J,ka,pa,ra,nb,ob,Kb;
-u8 *F,*G,*T,*Z,*ia,*ja,*va,*Da,*Ha,*Pa,*Ua,*cb,*db,*fb,*mb,*qb,*ub,*Ib,*Ub,*sc,*Bc,*Cc;
-s_p_64 W,X,Y,pc,qc,rc;
+u32 t,J,ka,pa,ra,nb,ob,Bb;
+u8 *F,*G,*T,*Z,*ia,*ja,*va,*Da,*Ha,*Pa,*Ua,*cb,*db,*fb,*mb,*zb,*Lb,*jc,*sc,*tc;
+s_p_64 W,X,Y,gc,hc,ic;
 n=r8(b+176);
 if(n<d){
 o=*e;
@@ -66608,52 +68775,20 @@ nb=r4(l+4);
 ob=r4(l+8);
 pb=l[13];
 if(pb&1){
+z34(f);
 if(o!=0){
 Qa=0;
 Ra=0;
 Sa=0;
 goto L6;}
-qb=rp(b+80);
-rb=16;
-sb=r8(b+88);
-L8:if(sb!=0){
-tb=sb-1;
-ub=qb+(i64)(tb*44);
-vb=*ub;
-wb=ub[16];
-switch(vb){
-case 0:case 1:case 2:case 3:case 4:case 8:break;
-case 5:if(wb!=0)goto L9;
-break;
-case 6:if(wb!=0)goto L9;
-break;
-case 7:case 9:case 10:case 11:case 12:case 13:case 14:case 15:case 16:case 17:case 18:case 19:case 20:case 21:case 22:case 23:case 24:case 25:memcpy(f+4,ub+4,40);
-switch(vb){
-case 9:case 10:case 15:case 16:xb=4;
-break;
-case 11:case 13:xb=8;
-break;
-case 25:case 24:case 23:case 22:case 21:case 20:case 19:case 7:case 8:case 12:case 14:case 17:case 18:goto L9;
-default:NEVER;
-}
-if(r2(f+4+xb)!=0)goto L10;
+argument_dbb(f,b);
+if(!(*f==1&&r2(f+2)!=0)){
 Qa=0;
 Ra=0;
 Sa=0;
-goto L6;
-default:NEVER;
-}
-yb=rb-1;
-if(yb!=0){
-rb=yb;
-sb=tb;
-goto L8;}}
-L9:Qa=0;
-Ra=0;
-Sa=0;
-goto L6;}
-L10:zb=repeat_28b(b,nb,ob);
-if(zb&1){
+goto L6;}}
+qb=repeat_28b(b,nb,ob);
+if(qb&1){
 x4(b+120,t);
 x4(b+124,t);
 x4(b+128,t);
@@ -66666,45 +68801,45 @@ b[138]=0;
 b[139]=pb&1;
 z20(k+20);
 if(o==0){
-Ab=r8(b+176);
-if(Ab<d){
-if(*(c+Ab)==73){
+rb=r8(b+176);
+if(rb<d){
+if(*(c+rb)==73){
 memcpy(k,b+120,20);
-Bb=r8(b+8);
-if(r8(b+32)>Bb)Cb=Bb;
+sb=r8(b+8);
+if(r8(b+32)>sb)tb=sb;
 else{
-Db=make_ready_8e3(b,1,16);
-if(!(Db&1)){
+ub=make_ready_8e3(b,1,16);
+if(!(ub&1)){
 Qa=0;
 Ra=0;
 Sa=0;
 goto L6;}
-Cb=r8(b+8);}
-*(rp(b)+Cb)=1;
-w8(b+8,Cb+1);
-Eb=r8(b+176);
-if(Eb==18446744073709551615u){
+tb=r8(b+8);}
+*(rp(b)+tb)=1;
+w8(b+8,tb+1);
+vb=r8(b+176);
+if(vb==18446744073709551615u){
 Qa=0;
 Ra=0;
 Sa=0;}
 else{
-w8(b+176,Eb+1);
-Fb=r8(b+88);
-if(r8(b+112)>Fb)Gb=Fb;
+w8(b+176,vb+1);
+wb=r8(b+88);
+if(r8(b+112)>wb)xb=wb;
 else{
-Hb=make_ready_9a1(b+80);
-if(!(Hb&1)){
+yb=make_ready_9a1(b+80);
+if(!(yb&1)){
 Qa=0;
 Ra=0;
 Sa=0;
 goto L6;}
-Gb=r8(b+88);}
-Ib=rp(b+80)+Gb*44;
-*Ib=5;
-Ib[1]=0;
-x2(Ib+2,0);
-memcpy(Ib+4,k,40);
-w8(b+88,Gb+1);
+xb=r8(b+88);}
+zb=rp(b+80)+xb*44;
+*zb=5;
+zb[1]=0;
+x2(zb+2,0);
+memcpy(zb+4,k,40);
+w8(b+88,xb+1);
 Qa=1;
 Ra=3;
 Sa=1;}}
@@ -66732,110 +68867,110 @@ L6:*a=Sa;
 a[1]=Ra;
 a[2]=Qa;
 a[3]=0;
-goto L11;}
-Jb=r8(b+8);
+goto L8;}
+Ab=r8(b+8);
 z24(m);
 if((u8)(r-58)>=247){
-Kb=Jb;
-Lb=n+1;
-if(Lb<d){
-Mb=*(c+Lb)-48;
-if(Mb<10){
-Nb=n+2;
-if(Nb<d){
-if((u8)(*(c+Nb)-48)<10){
+Bb=Ab;
+Cb=n+1;
+if(Cb<d){
+Db=*(c+Cb)-48;
+if(Db<10){
+Eb=n+2;
+if(Eb<d){
+if((u8)(*(c+Eb)-48)<10){
 long_name_at_8ad(m,c,d,n);
-if(*m!=1)goto L12;
-Ob=r8(m+16);
-Pb=r8(m+8);
-goto L13;}}
-Qb=(u64)Mb+(u8)((u8)(r*10)+32);
-if(d-Nb<Qb)goto L14;
-if((u8)(*(c+(i64)Nb)-48)<10)goto L14;
-Rb=Nb;
-Sb=Qb+Nb;
-goto L15;}}
-Tb=r-48;
-if(d-Lb<Tb)goto L14;
-if((u8)(*(c+(i64)Lb)-48)<10)goto L14;
-Rb=Lb;
-Sb=Lb+Tb;
-L15:Ob=Sb;
-Pb=Rb;
-L13:w8(b+176,Ob);
-Ub=c+(i64)Pb;
-Vb=Ob-Pb;
-if(Ob!=Pb){
-if(Vb<10||*Ub!=95)goto L16;
+if(*m!=1)goto L9;
+Fb=r8(m+16);
+Gb=r8(m+8);
+goto L10;}}
+Hb=(u64)Db+(u8)((u8)(r*10)+32);
+if(d-Eb<Hb)goto L11;
+if((u8)(*(c+(i64)Eb)-48)<10)goto L11;
+Ib=Eb;
+Jb=Hb+Eb;
+goto L12;}}
+Kb=r-48;
+if(d-Cb<Kb)goto L11;
+if((u8)(*(c+(i64)Cb)-48)<10)goto L11;
+Ib=Cb;
+Jb=Cb+Kb;
+L12:Fb=Jb;
+Gb=Ib;
+L10:w8(b+176,Fb);
+Lb=c+(i64)Gb;
+Mb=Fb-Gb;
+if(Fb!=Gb){
+if(Mb<10||*Lb!=95)goto L13;
+Nb=0;
+Ob=0;
+L14:Pb=Nb||*((u8*)t_35ad+(i64)Ob)!=*(Lb+(i64)Ob);
+Qb=Ob+1;
+if(Qb!=8){
+Nb=Pb;
+Ob=Qb;
+goto L14;}
+Rb=0;
+Sb=0;
+L15:Tb=Sb+2;
+Ub=Rb||*((u8*)t_35ad+(i64)Tb)!=*(Lb+(i64)Tb);
+Vb=Sb+1;
+if(Vb!=8){
+Rb=Ub;
+Sb=Vb;
+goto L15;}
 Wb=0;
 Xb=0;
-L17:Yb=Wb||*((u8*)t_35ad+(i64)Xb)!=*(Ub+(i64)Xb);
-Zb=Xb+1;
-if(Zb!=8){
-Wb=Yb;
-Xb=Zb;
-goto L17;}
-ac=0;
+L16:Yb=Xb+2;
+Zb=Wb||*((u8*)t_35ad+(i64)Yb)!=*(Lb+(i64)Yb);
+ac=Xb+1;
+if(ac!=8){
+Wb=Zb;
+Xb=ac;
+goto L16;}
 bc=0;
-L18:cc=bc+2;
-dc=ac||*((u8*)t_35ad+(i64)cc)!=*(Ub+(i64)cc);
-ec=bc+1;
-if(ec!=8){
-ac=dc;
+cc=0;
+L17:dc=cc+2;
+ec=bc||*((u8*)t_35ad+(i64)dc)!=*(Lb+(i64)dc);
+fc=cc+1;
+if(fc!=8){
 bc=ec;
-goto L18;}
-fc=0;
-gc=0;
-L19:hc=gc+2;
-ic=fc||*((u8*)t_35ad+(i64)hc)!=*(Ub+(i64)hc);
-jc=gc+1;
-if(jc!=8){
-fc=ic;
-gc=jc;
-goto L19;}
-kc=0;
-lc=0;
-L20:mc=lc+2;
-nc=kc||*((u8*)t_35ad+(i64)mc)!=*(Ub+(i64)mc);
-oc=lc+1;
-if(oc!=8){
-kc=nc;
-lc=oc;
-goto L20;}
-if(!(((Yb|dc)|ic)|nc)){
-pc=(s_p_64){(u8*)t_62ff,21};
-goto L21;}}
-L16:qc=(s_p_64){0};qc.f0=Ub;
-rc=qc;rc.f1=Vb;
-pc=rc;
-L21:sc=pc.f0;
-tc=pc.f1;
-if(r8(b+32)-Jb<tc){
-uc=make_ready_8e3(b,tc,128);
-if(!(uc&1))goto L12;
-vc=r8(b+8);}
-else vc=Jb;
-wc=r8(b+16);
-if(tc>wc-vc){
-xc=grow_amortized_2b6(b,tc);
-if(!xc)goto L12;
-yc=r8(b+16);
-zc=r8(b+8);}
+cc=fc;
+goto L17;}
+if(!(((Pb|Ub)|Zb)|ec)){
+gc=(s_p_64){(u8*)t_62ff,21};
+goto L18;}}
+L13:hc=(s_p_64){0};hc.f0=Lb;
+ic=hc;ic.f1=Mb;
+gc=ic;
+L18:jc=gc.f0;
+kc=gc.f1;
+if(r8(b+32)-Ab<kc){
+lc=make_ready_8e3(b,kc,128);
+if(!(lc&1))goto L9;
+mc=r8(b+8);}
+else mc=Ab;
+nc=r8(b+16);
+if(kc>nc-mc){
+oc=grow_amortized_2b6(b,kc);
+if(!oc)goto L9;
+pc=r8(b+16);
+qc=r8(b+8);}
 else{
-yc=wc;
-zc=vc;}
-Ac=zc+tc;
-Bc=rp(b);
+pc=nc;
+qc=mc;}
+rc=qc+kc;
+sc=rp(b);
 z16(b+8);
-Cc=Bc+(i64)zc;
-if((u64)Cc-(u64)sc<tc)copy_bits_4f4(sc,Cc,tc);
-else memmove(Cc,sc,tc);
-wp(b,Bc);
-w8(b+8,Ac);
-w8(b+16,yc);
-w4(b+120,Kb);
-w4(b+124,Kb);
-w4(b+128,Ac);
+tc=sc+(i64)qc;
+if((u64)tc-(u64)jc<kc)copy_bits_4f4(jc,tc,kc);
+else memmove(tc,jc,kc);
+wp(b,sc);
+w8(b+8,rc);
+w8(b+16,pc);
+w4(b+120,Bb);
+w4(b+124,Bb);
+w4(b+128,rc);
 b[132]=o;
 b[133]=p;
 w2(b+134,q);
@@ -66847,9 +68982,9 @@ b[139]=0;
 a[1]=4;
 a[2]=0;
 a[3]=0;
-goto L11;}}
-L14:L12:x4(a,0);
-L11:return;
+goto L8;}}
+L11:L9:x4(a,0);
+L8:return;
 }
 
 /* cpp_direct::direct::Direct::begin_clone */
@@ -68421,6 +70556,491 @@ L4:L2:x4(a,0);}
 L1:return;
 }
 
+/* cpp_direct::direct::Direct::returned */
+static void returned_087(u8* a,u8* b,u8* c,u64 d,u8 e)
+{
+A16 u8 f[4];
+u64 g,h,j,l,m,o,p,q,t,u,x,C;
+u8 *i,*r,*s,*w;
+u8 k,n,v,y,z,A,B,D;
+g=r8(b+88);
+if(g!=0)w8(b+88,g-1);
+h=e?5:2;
+i=e?(u8*)t_cbf6:(u8*)t_4f5a;
+j=r8(b+8);
+if(r8(b+32)-j<h){
+k=make_ready_8e3(b,h,128);
+if(!(k&1))goto L1;
+l=r8(b+8);}
+else l=j;
+m=r8(b+16);
+if(h>m-l){
+n=grow_amortized_2b6(b,h);
+if(!n)goto L1;
+o=r8(b+16);
+p=r8(b+8);}
+else{
+o=m;
+p=l;}
+q=p+h;
+r=rp(b);
+z16(b+8);
+s=r+(i64)p;
+if((u64)s-(u64)i<h)copy_bits_4f4(i,s,h);
+else memcpy(s,i,h);
+wp(b,r);
+w8(b+8,q);
+w8(b+16,o);
+t=r8(b+88);
+if(r8(b+112)>t)u=t;
+else{
+v=make_ready_9a1(b+80);
+if(!(v&1)){
+x4(a,0);
+goto L2;}
+u=r8(b+88);}
+w=rp(b+80)+u*44;
+*w=23;
+w[1]=e;
+z42(w+2);
+w8(b+88,u+1);
+w4(f,0);
+x=r8(b+176);
+if(x==18446744073709551615u){
+y=0;
+z=0;
+A=0;
+B=0;}
+else{
+C=x+1;
+if(C<d)D=*(c+C)==69;
+else D=0;
+if(x<d){
+if(D&&*(c+x)==118){
+w8(b+176,x+2);
+function_ended_faf(f,b,c,d,e);
+y=f[3];
+z=f[2];
+A=f[1];
+B=*f;
+goto L3;}}
+parameter_at_d02(f,b,c,d,e,1);
+y=f[3];
+z=f[2];
+A=f[1];
+B=*f;}
+L3:*a=B;
+a[1]=A;
+a[2]=z;
+a[3]=y;
+goto L2;
+L1:x4(a,0);
+L2:return;
+}
+
+/* cpp_direct::direct::Direct::function_ended */
+static void function_ended_faf(u8* a,u8* b,u8* c,u64 d,u8 e)
+{
+A16 u8 f[4];
+u64 g,h,j,k,n,o,p,s;
+u8 i,l,q;
+u8 *m,*r;
+w4(f,0);
+g=r8(b+8);
+if(r8(b+32)>g)h=g;
+else{
+i=make_ready_8e3(b,1,16);
+if(!(i&1)){
+x4(a,0);
+goto L1;}
+h=r8(b+8);}
+*(rp(b)+h)=41;
+w8(b+8,h+1);
+if(e){
+j=r8(b+48);
+if(r8(b+72)>j)k=j;
+else{
+l=make_ready_17a(b+40);
+if(!(l&1))goto L2;
+k=r8(b+48);}
+m=rp(b+40)+k*12;
+x4(m,1);
+n=k+1;
+x8(m+4,0);
+w8(b+48,n);
+o=n;}
+else o=r8(b+48);
+if(r8(b+72)>o)p=o;
+else{
+q=make_ready_17a(b+40);
+if(!(q&1))goto L2;
+p=r8(b+48);}
+r=rp(b+40)+p*12;
+x4(r,1);
+x8(r+4,0);
+w8(b+48,p+1);
+s=r8(b+88);
+if(s!=0)w8(b+88,s-1);
+pass_element_9db(f,b,c,d,0);
+*a=*f;
+a[1]=f[1];
+a[2]=f[2];
+a[3]=f[3];
+goto L1;
+L2:x4(a,0);
+L1:return;
+}
+
+/* cpp_direct::direct::Direct::pass_element */
+static void pass_element_9db(u8* a,u8* b,u8* c,u64 d,u8 e)
+{
+u8 g[32],h[32];
+A16 u8 f[4];
+u64 i;
+u8 *j;
+u8 k,m,o,p,q;
+u32 l,n;
+w4(f,0);
+i=r8(b+88);
+if(i==0)x4(a,0);
+else{
+j=rp(b+80)+(i64)(i*44);
+switch(j[-44]){
+case 10:k=j[-43];
+l=r4(j-40);
+memcpy(g,j-36,32);
+parameter_ended_06e(f,b,c,d,k,l,g);
+break;
+case 12:enclosing_parameter_d72(f,b,c,d,j[-43],r4(j-40));
+break;
+case 13:instance_parameter_e2a(f,b,c,d,j[-43],r4(j-40),r4(j-36));
+break;
+case 19:finish_8cd(f,b,c,d);
+break;
+case 28:if(!e){
+x4(a,0);
+goto L1;}
+m=j[-36];
+n=r4(j-40);
+memcpy(h,j-34,32);
+element_ended_c50(f,b,c,d,n,m,h,1);
+break;
+case 0:case 1:case 2:case 3:case 4:case 5:case 6:case 7:case 8:case 9:case 11:case 14:case 15:case 16:case 17:case 18:case 20:case 21:case 22:case 23:case 24:case 25:case 26:case 27:case 29:*f=1;
+f[1]=3;
+f[2]=0;
+f[3]=0;
+break;
+default:NEVER;
+}
+o=f[1];
+p=f[2];
+q=f[3];
+*a=*f;
+a[1]=o;
+a[2]=p;
+a[3]=q;}
+L1:return;
+}
+
+/* cpp_direct::direct::Direct::parameter_at */
+static void parameter_at_d02(u8* a,u8* b,u8* c,u64 d,u8 e,u8 f)
+{
+u8 g[4];
+u64 h,i,l,n,p,q,s,t,u,w,x,A,B,F,G;
+u8 *j,*E,*I;
+u8 k,m,o,r,v,z,C,D,H;
+u32 y;
+h=r8(b+176);
+if(h<d){
+if(*(c+h)==69){
+i=r8(b+8);
+if(i>=5){
+j=rp(b)+(i64)i;
+k=0;
+l=0;
+L1:m=k||*((u8*)t_262b+(i64)l)!=*(j-5+(i64)l);
+n=l+1;
+if(n!=4){
+k=m;
+l=n;
+goto L1;}
+o=0;
+p=0;
+L2:q=p+1;
+r=o||*((u8*)t_262b+(i64)q)!=*(j-5+(i64)q);
+if(q!=4){
+o=r;
+p=q;
+goto L2;}
+if(!(m|r)){
+x4(a,0);
+goto L3;}}
+w8(b+176,h+1);
+function_ended_faf(g,b,c,d,e);
+*a=*g;
+a[1]=g[1];
+a[2]=g[2];
+a[3]=g[3];
+goto L3;}}
+if(f){
+s=h;
+t=r8(b+8);}
+else{
+u=r8(b+8);
+if(r8(b+32)-u<2){
+v=make_ready_8e3(b,2,128);
+if(!(v&1)){
+x4(a,0);
+goto L3;}
+w=r8(b+8);}
+else w=u;
+*(rp(b)+w)=44;
+*(rp(b)+(i64)w+1)=32;
+x=w+2;
+w8(b+8,x);
+s=r8(b+176);
+t=x;}
+if(s<d){
+y=t;
+z=*(c+s);
+switch(z){
+case 82:w8(b+176,s+1);
+A=r8(b+88);
+if(r8(b+112)>A)B=A;
+else{
+C=make_ready_9a1(b+80);
+if(!(C&1)){
+D=0;
+break;}
+B=r8(b+88);}
+E=rp(b+80)+B*44;
+*E=1;
+E[1]=0;
+x2(E+2,0);
+x4(E+4,y);
+z36(E+8);
+w8(b+88,B+1);
+D=1;
+break;
+case 79:w8(b+176,s+1);
+F=r8(b+88);
+if(r8(b+112)>F)G=F;
+else{
+H=make_ready_9a1(b+80);
+if(!(H&1)){
+D=0;
+break;}
+G=r8(b+88);}
+I=rp(b+80)+G*44;
+*I=2;
+I[1]=0;
+x2(I+2,0);
+x4(I+4,y);
+z36(I+8);
+w8(b+88,G+1);
+D=1;
+break;
+case 0:D=z;
+break;
+default:D=1;
+break;}}
+else D=0;
+*a=D;
+a[1]=0;
+a[2]=0;
+a[3]=0;
+L3:return;
+}
+
+/* cpp_direct::direct::Direct::array_ended */
+static void array_ended_a11(u8* a,u8* b,u8* c,u64 d,u8 e,u32 f,u32 g)
+{
+A16 u8 h[4];
+u64 i,j,l,n,o,q,r,s,w,x,y,z,B,D,E,G,H,I,M,O,P,Q,T,U;
+u8 *k,*t,*u,*v,*A,*J,*K,*L,*S,*W;
+u8 m,p,C,F,N,R,V;
+w4(h,0);
+i=r8(b+88);
+if(i!=0)w8(b+88,i-1);
+j=r8((u8*)t_5b3b+(u64)e*8);
+k=rp((u8*)t_7cd2+(u64)e*8);
+l=r8(b+8);
+if(r8(b+32)-l<j){
+m=make_ready_8e3(b,j,128);
+if(!(m&1))goto L1;
+n=r8(b+8);}
+else n=l;
+o=r8(b+16);
+if(j>o-n){
+p=grow_amortized_2b6(b,j);
+if(!p)goto L1;
+q=r8(b+16);
+r=r8(b+8);}
+else{
+q=o;
+r=n;}
+s=r+j;
+t=rp(b);
+z16(b+8);
+u=t+(i64)r;
+if((u64)u-(u64)k<j)copy_bits_4f4(k,u,j);
+else memcpy(u,k,j);
+wp(b,t);
+w8(b+8,s);
+w8(b+16,q);
+v=c+(i64)f;
+w=(u64)g-f;
+x=usub64(w,1);
+y=0;
+L2:if(y==x)z=x;
+else{
+if(*(v+y)==48){
+y=y+1;
+goto L2;}
+z=y;}
+A=v+(i64)z;
+B=w-z;
+if(r8(b+32)-s<B){
+C=make_ready_8e3(b,B,128);
+if(!(C&1))goto L3;
+D=r8(b+8);
+E=r8(b+16);}
+else{
+D=s;
+E=q;}
+if(B>E-D){
+F=grow_amortized_2b6(b,B);
+if(!F)goto L3;
+G=r8(b+16);
+H=r8(b+8);}
+else{
+G=E;
+H=D;}
+I=H+B;
+J=rp(b);
+z16(b+8);
+K=J+(i64)H;
+if((u64)K-(u64)A<B)copy_bits_4f4(A,K,B);
+else memmove(K,A,B);
+wp(b,J);
+w8(b+8,I);
+w8(b+16,G);
+if(r8(b+32)>I){
+L=J;
+M=I;}
+else{
+N=make_ready_8e3(b,1,16);
+if(!(N&1)){
+x4(a,0);
+goto L4;}
+L=rp(b);
+M=r8(b+8);}
+*(L+M)=93;
+w8(b+8,M+1);
+if(e==0)O=r8(b+48);
+else{
+P=r8(b+48);
+if(r8(b+72)>P)Q=P;
+else{
+R=make_ready_17a(b+40);
+if(!(R&1))goto L5;
+Q=r8(b+48);}
+S=rp(b+40)+Q*12;
+x4(S,1);
+T=Q+1;
+x8(S+4,0);
+w8(b+48,T);
+O=T;}
+if(r8(b+72)>O)U=O;
+else{
+V=make_ready_17a(b+40);
+if(!(V&1))goto L5;
+U=r8(b+48);}
+W=rp(b+40)+U*12;
+x4(W,1);
+x8(W+4,0);
+w8(b+48,U+1);
+pass_element_9db(h,b,c,d,e==2);
+*a=*h;
+a[1]=h[1];
+a[2]=h[2];
+a[3]=h[3];
+goto L4;
+L5:x4(a,0);
+goto L4;
+L3:x4(a,0);
+goto L4;
+L1:x4(a,0);
+L4:return;
+}
+
+/* cpp_direct::direct::Direct::argument_enumerator */
+static void argument_enumerator_071(u8* a,u8* b,u8* c,u64 d,u32 e,u8 f,u8* g)
+{
+u8 i[32];
+A16 u8 h[4];
+u8 j,n,p,q,u;
+u64 k,l,m,o,r,s,t;
+u8 *v;
+memcpy(i,g,32);
+w4(h,0);
+j=ends_as_integer_bdf(b);
+if(j)x4(a,0);
+else{
+k=r8(b+88);
+if(k!=0)w8(b+88,k-1);
+l=r8(b+8);
+if(r8(b+32)>l)m=l;
+else{
+n=make_ready_8e3(b,1,16);
+if(!(n&1)){
+x4(a,0);
+goto L1;}
+m=r8(b+8);}
+*(rp(b)+m)=41;
+w8(b+8,m+1);
+o=r8(b+176);
+if(o<d){
+if(*(c+o)==110){
+w8(b+176,o+1);
+p=1;}
+else p=0;}
+else p=0;
+q=digits_418(b,c,d,p);
+if(q&1){
+r=r8(b+176);
+if(r<d){
+if(*(c+r)==69){
+w8(b+176,r+1);
+s=r8(b+88);
+if(r8(b+112)>s)t=s;
+else{
+u=make_ready_9a1(b+80);
+if(!(u&1)){
+x4(a,0);
+goto L1;}
+t=r8(b+88);}
+v=rp(b+80)+t*44;
+*v=25;
+v[1]=0;
+x2(v+2,0);
+x4(v+4,e);
+v[8]=f;
+v[9]=0;
+memcpy(v+10,i,32);
+x2(v+42,0);
+w8(b+88,t+1);
+argument_ended_c7c(h,b,c,d,e,f,i,0);
+*a=*h;
+a[1]=h[1];
+a[2]=h[2];
+a[3]=h[3];
+goto L1;}}
+x4(a,0);}
+else x4(a,0);}
+L1:return;
+}
+
 /* cpp_direct::direct::Direct::argument_ended */
 static void argument_ended_c7c(u8* a,u8* b,u8* c,u64 d,u32 e,u8 f,u8* g,u8 h)
 {
@@ -68475,10 +71095,11 @@ switch(E){
 case 78:case 83:break;
 default:if((u8)(E-49)>=9)goto L2;
 break;}
-F=0;
-G=0;
-H=3;
-I=1;
+next_enumerator_412(l,b,c,d,z,o);
+F=l[3];
+G=l[2];
+H=l[1];
+I=*l;
 goto L3;}
 L2:next_literal_1b3(p,b,c,d,z,o);
 if(*p!=1){
@@ -68565,7 +71186,7 @@ I=0;
 goto L3;}
 R=r8(b+88);}
 T=rp(b+80)+R*44;
-*T=22;
+*T=25;
 T[1]=0;
 x2(T+2,0);
 x4(T+4,O);
@@ -68604,16 +71225,82 @@ a[3]=F;
 L4:return;
 }
 
+/* cpp_direct::direct::Direct::next_enumerator */
+static void next_enumerator_412(u8* a,u8* b,u8* c,u64 d,u8 e,u8* f)
+{
+u8 h[32];
+A16 u8 g[4];
+u64 i,k,l,m,p,r,s;
+u8 j,o,q,t;
+u32 n;
+u8 *u;
+memcpy(h,f,32);
+w4(g,0);
+i=r8(b+8);
+if(r8(b+32)-i<2){
+j=make_ready_8e3(b,2,128);
+if(!(j&1)){
+x4(a,0);
+goto L1;}
+k=r8(b+8);}
+else k=i;
+*(rp(b)+k)=44;
+*(rp(b)+(i64)k+1)=32;
+l=k+2;
+w8(b+8,l);
+if(e==255)x4(a,0);
+else{
+m=r8(b+176);
+if(m==18446744073709551615u)x4(a,0);
+else{
+n=l;
+o=e+1;
+w8(b+176,m+1);
+if(r8(b+32)>l)p=l;
+else{
+q=make_ready_8e3(b,1,16);
+if(!(q&1)){
+x4(a,0);
+goto L1;}
+p=r8(b+8);}
+*(rp(b)+p)=40;
+w8(b+8,p+1);
+r=r8(b+88);
+if(r8(b+112)>r)s=r;
+else{
+t=make_ready_9a1(b+80);
+if(!(t&1)){
+x4(a,0);
+goto L1;}
+s=r8(b+88);}
+u=rp(b+80)+s*44;
+*u=26;
+u[1]=0;
+x2(u+2,0);
+x4(u+4,n);
+u[8]=o;
+u[9]=0;
+memcpy(u+10,h,32);
+x2(u+42,0);
+w8(b+88,s+1);
+named_type_de5(g,b,c,d);
+*a=*g;
+a[1]=g[1];
+a[2]=g[2];
+a[3]=g[3];}}
+L1:return;
+}
+
 /* cpp_direct::direct::Direct::next_pack */
 static void next_pack_095(u8* a,u8* b,u8* c,u64 d,u8 e,u8* f)
 {
 u8 h[16],i[32],j[16];
 A16 u8 g[4];
 u16 k,l;
-u64 m,n,r,t,y,A,B,E,F,I,J;
-u8 o,p,q,u,v,w,x,z,D,G,K;
-u8 *s,*H,*L;
-u32 C;
+u64 m,n,r,t,C,E,F,I,J,M,N;
+u8 o,p,q,s,u,v,w,x,z,A,B,D,H,K,O;
+u8 *y,*L,*P;
+u32 G;
 k=q2(f);
 l=q2(f+2);
 memcpy(j,f+4,16);
@@ -68625,9 +71312,9 @@ o=f[28];
 p=f[29];
 q=f[31];
 r=m+1;
-if(r<d){
-s=c+(i64)r;
-switch(*s){
+s=r>=d;
+if(!s){
+switch(*(c+r)){
 case 69:memcpy(h,f+4,16);
 w4(g,0);
 t=m+2;
@@ -68668,50 +71355,46 @@ a[1]=w;
 a[2]=v;
 a[3]=u;
 goto L1;
-case 76:case 65:case 70:break;
-case 80:case 82:if(usub64(d,r)<2)goto L2;
-switch(s[1]){
-case 70:case 65:break;
-default:goto L2;
-}
+case 76:goto L2;
+default:break;}}
+y=c+(i64)r;
+z=usub64(d,r)<2;
+if(!(d<r||z)){
+if(*y==82){
+A=y[1];
+if(s|(A==65))goto L3;
+B=A;
+goto L4;}}
+if(s)goto L3;
+switch(*y){
+case 65:case 70:goto L2;
+case 80:case 82:if(z)goto L3;
+B=y[1];
 break;
-default:goto L2;
+default:goto L3;
 }
-*a=1;
-a[1]=3;
-a[2]=0;
-a[3]=0;
-goto L1;}
-L2:y=r8(b+8);
-if(r8(b+32)-y<2){
-z=make_ready_8e3(b,2,128);
-if(!(z&1)){
+L4:switch(B){
+case 70:case 65:goto L2;
+default:break;}
+L3:C=r8(b+8);
+if(r8(b+32)-C<2){
+D=make_ready_8e3(b,2,128);
+if(!(D&1)){
 x4(a,0);
 goto L1;}
-A=r8(b+8);}
-else A=y;
-*(rp(b)+A)=44;
-*(rp(b)+(i64)A+1)=32;
-B=A+2;
-w8(b+8,B);
+E=r8(b+8);}
+else E=C;
+*(rp(b)+E)=44;
+*(rp(b)+(i64)E+1)=32;
+F=E+2;
+w8(b+8,F);
 w8(b+176,r);
-if(e==255)x4(a,0);
-else{
-C=B;
-D=e+1;
-E=r8(b+88);
-if(r8(b+112)>E)F=E;
-else{
-G=make_ready_9a1(b+80);
-if(!(G&1)){
+if(e==255){
 x4(a,0);
 goto L1;}
-F=r8(b+88);}
-H=rp(b+80)+F*44;
-*H=23;
-I=F+1;
-z43(H+1);
-w8(b+88,I);
+G=F;
+H=e+1;
+I=r8(b+88);
 if(r8(b+112)>I)J=I;
 else{
 K=make_ready_9a1(b+80);
@@ -68720,26 +71403,43 @@ x4(a,0);
 goto L1;}
 J=r8(b+88);}
 L=rp(b+80)+J*44;
-*L=24;
-L[1]=0;
-x2(L+2,0);
-x4(L+4,C);
-L[8]=D;
-L[9]=0;
-x2(L+10,k);
-x2(L+12,l);
-memcpy(L+14,j,16);
-x8(L+30,n);
-L[38]=o;
-L[39]=p;
-L[40]=D;
-L[41]=q;
-x2(L+42,0);
-w8(b+88,J+1);
+*L=27;
+M=J+1;
+z43(L+1);
+w8(b+88,M);
+if(r8(b+112)>M)N=M;
+else{
+O=make_ready_9a1(b+80);
+if(!(O&1)){
+x4(a,0);
+goto L1;}
+N=r8(b+88);}
+P=rp(b+80)+N*44;
+*P=28;
+P[1]=0;
+x2(P+2,0);
+x4(P+4,G);
+P[8]=H;
+P[9]=0;
+x2(P+10,k);
+x2(P+12,l);
+memcpy(P+14,j,16);
+x8(P+30,n);
+P[38]=o;
+P[39]=p;
+P[40]=H;
+P[41]=q;
+x2(P+42,0);
+w8(b+88,N+1);
 *a=1;
 a[1]=0;
 a[2]=0;
-a[3]=0;}}
+a[3]=0;
+goto L1;
+L2:*a=1;
+a[1]=3;
+a[2]=0;
+a[3]=0;}
 L1:return;
 }
 
@@ -68961,7 +71661,7 @@ case 7:name_ended_fde(g,b,c,d,0,1,f,o);
 break;
 case 8:level_ended_5bf(g,b,c,d,n[1]&1);
 break;
-case 0:case 1:case 2:case 3:case 9:case 10:case 11:case 12:case 13:case 14:case 15:case 16:case 17:case 18:case 19:case 20:case 21:case 22:case 23:case 24:case 25:*g=0;
+case 0:case 1:case 2:case 3:case 9:case 10:case 11:case 12:case 13:case 14:case 15:case 16:case 17:case 18:case 19:case 20:case 21:case 22:case 23:case 24:case 25:case 26:case 27:case 28:case 29:*g=0;
 break;
 default:NEVER;
 }
@@ -68978,168 +71678,186 @@ L1:return;
 /* cpp_direct::direct::Direct::element_ended */
 static void element_ended_c50(u8* a,u8* b,u8* c,u64 d,u32 e,u8 f,u8* g,u8 h)
 {
-u8 i[32],j[16],k[32],m[16],n[32];
-A16 u8 l[4];
-u64 o,p,q,r,w,D,L,N,Q,S,V,W;
-u16 s,t,u,v,B,C,H,J,K;
-u8 x,y,z,A,E,F,G,I,O,P,R,U,X;
-u8 *M,*Y;
-u32 T;
-w4(l,0);
-z16(m);
-z32(n);
-memcpy(k,g,32);
-o=r8(b+88);
-if(o==0)p=0;
+u8 i[32],j[32],k[16],l[32],n[16],o[32];
+A16 u8 m[4];
+u64 p,q,r,s,x,E,M,U,X,Z,ca,da;
+u16 t,u,v,w,C,D,I,K,L;
+u8 y,z,A,B,F,G,H,J,N,O,P,R,S,T,V,W,Y,ba,ea;
+u8 *Q,*fa;
+u32 aa;
+w4(m,0);
+z16(n);
+z32(o);
+memcpy(l,g,32);
+p=r8(b+88);
+if(p==0)q=0;
 else{
-q=o-1;
-w8(b+88,q);
-p=q;}
-r=r8(b+8);
-if((e|(u32)r)>65535||(f>7||f!=k[28])){
-s=r2(k);
-t=r2(k+2);
-memcpy(j,k+4,16);
-u=s;
+r=p-1;
+w8(b+88,r);
+q=r;}
+s=r8(b+8);
+memcpy(i,l,32);
+if((e|(u32)s)>65535||(f>7||f!=i[28])){
+t=r2(l);
+u=r2(l+2);
+memcpy(k,l+4,16);
 v=t;
-w=q8(k+20);
-x=k[28];
-y=k[29];
-z=k[30];
-A=k[31];}
+w=u;
+x=q8(l+20);
+y=l[28];
+z=l[29];
+A=l[30];
+B=l[31];}
 else{
-B=r2(k);
-C=r2(k+2);
-D=q8(k+20);
-E=k[29];
-F=k[30];
-G=k[31];
-memcpy(i+4,k+4,16);
-x8(i+20,D);
-i[28]=f+1;
-i[29]=E;
-i[30]=F;
-i[31]=G;
-w2(i+4+((u64)f<<1),r);
-*(i+20+f)=h;
+C=r2(i);
+D=r2(i+2);
+E=q8(i+20);
+F=i[29];
+G=i[30];
+H=i[31];
+memcpy(j+4,l+4,16);
+x8(j+20,E);
+j[28]=f+1;
+j[29]=F;
+j[30]=G;
+j[31]=H;
+w2(j+4+((u64)f<<1),s);
+*(j+20+f)=h;
 if(f==0){
-memcpy(j,i+4,16);
-u=B;
-v=e;
-w=q8(i+20);
-x=i[28];
-y=i[29];
-z=i[30];
-A=i[31];}
+memcpy(k,j+4,16);
+v=C;
+w=e;
+x=q8(j+20);
+y=j[28];
+z=j[29];
+A=j[30];
+B=j[31];}
 else{
-H=r2(k+4+(i64)((u64)(u8)(f-1)<<1));
-I=(H<65534)&(e==(u16)(0-usub16(65534,H)));
-J=I?B:r2(k);
-K=I?C:r2(k+2);
-memcpy(j,I?i+4:k+4,16);
-u=J;
+I=r2(i+4+(i64)((u64)(u8)(f-1)<<1));
+J=(I<65534)&(e==(u16)(0-usub16(65534,I)));
+K=J?C:r2(l);
+L=J?D:r2(l+2);
+memcpy(k,J?j+4:l+4,16);
 v=K;
-w=I?q8(i+20):q8(k+20);
-x=I?i[28]:k[28];
-y=I?i[29]:k[29];
-z=I?i[30]:k[30];
-A=I?i[31]:k[31];}}
-memcpy(m,j,16);
-L=r8(b+176);
-if(L<d){
-M=c+(i64)L;
-switch(*M){
-case 76:case 65:case 70:break;
-case 80:case 82:if(usub64(d,L)<2)goto L1;
-switch(M[1]){
-case 70:case 65:break;
-default:goto L1;
-}
+w=L;
+x=J?q8(j+20):q8(l+20);
+y=J?j[28]:l[28];
+z=J?j[29]:l[29];
+A=J?j[30]:l[30];
+B=J?j[31]:l[31];}}
+memcpy(n,k,16);
+M=r8(b+176);
+N=M>=d;
+if(N)O=0;
+else{
+P=*(c+M);
+if(P==76)goto L1;
+O=P;}
+Q=c+(i64)M;
+R=usub64(d,M)<2;
+if(!(d<M||R)){
+if(*Q==82){
+S=Q[1];
+if(N|(S==65))goto L2;
+T=S;
+goto L3;}}
+if(N)goto L2;
+switch(*Q){
+case 65:case 70:goto L1;
+case 80:case 82:if(R)goto L2;
+T=Q[1];
 break;
-case 69:N=L+1;
-if(N<d){
-if(*(c+N)==69){
-if(p!=0)w8(b+88,p-1);
-w8(b+176,L+2);
+default:goto L2;
+}
+L3:switch(T){
+case 70:case 65:goto L1;
+default:break;}
+L2:if(O==69){
+if(M==18446744073709551615u){
+x4(a,0);
+goto L4;}
+U=M+1;
+if(U<d){
+if(*(c+U)==69){
+if(q!=0)w8(b+88,q-1);
+w8(b+176,M+2);
 if(f==255){
 x4(a,0);
-goto L2;}
-O=f+1;
-if(O<z){
+goto L4;}
+V=f+1;
+if(V<A){
 x4(a,0);
-goto L2;}
-w2(n,u);
-w2(n+2,v);
-memcpy(n+4,m,16);
-x8(n+20,w);
-n[28]=x;
-n[29]=1;
-n[30]=z;
-n[31]=O-z;
-close_list_148(l,b,c,d,n);
-*a=*l;
-a[1]=l[1];
-a[2]=l[2];
-a[3]=l[3];
-goto L2;}}
+goto L4;}
+w2(o,v);
+w2(o+2,w);
+memcpy(o+4,n,16);
+x8(o+20,x);
+o[28]=y;
+o[29]=1;
+o[30]=A;
+o[31]=V-A;
+close_list_148(m,b,c,d,o);
+*a=*m;
+a[1]=m[1];
+a[2]=m[2];
+a[3]=m[3];
+goto L4;}}
 *a=1;
 a[1]=3;
 a[2]=0;
 a[3]=0;
-goto L2;
-default:goto L1;
-}
-*a=1;
-a[1]=3;
-a[2]=0;
-a[3]=0;
-goto L2;}
-L1:if(r8(b+32)-r<2){
-P=make_ready_8e3(b,2,128);
-if(!(P&1)){
-R=0;
-goto L3;}
-Q=r8(b+8);}
-else Q=r;
-*(rp(b)+Q)=44;
-*(rp(b)+(i64)Q+1)=32;
-S=Q+2;
-w8(b+8,S);
-if(f==255)R=0;
+goto L4;}
+if(r8(b+32)-s<2){
+W=make_ready_8e3(b,2,128);
+if(!(W&1)){
+Y=0;
+goto L5;}
+X=r8(b+8);}
+else X=s;
+*(rp(b)+X)=44;
+*(rp(b)+(i64)X+1)=32;
+Z=X+2;
+w8(b+8,Z);
+if(f==255)Y=0;
 else{
-T=S;
-U=f+1;
-V=r8(b+88);
-if(r8(b+112)>V)W=V;
+aa=Z;
+ba=f+1;
+ca=r8(b+88);
+if(r8(b+112)>ca)da=ca;
 else{
-X=make_ready_9a1(b+80);
-if(!(X&1)){
-R=0;
-goto L3;}
-W=r8(b+88);}
-Y=rp(b+80)+W*44;
-*Y=24;
-Y[1]=0;
-x2(Y+2,0);
-x4(Y+4,T);
-Y[8]=U;
-Y[9]=0;
-x2(Y+10,u);
-x2(Y+12,v);
-memcpy(Y+14,m,16);
-x8(Y+30,w);
-Y[38]=x;
-Y[39]=y;
-Y[40]=z;
-Y[41]=A;
-x2(Y+42,0);
-w8(b+88,W+1);
-R=1;}
-L3:*a=R;
+ea=make_ready_9a1(b+80);
+if(!(ea&1)){
+Y=0;
+goto L5;}
+da=r8(b+88);}
+fa=rp(b+80)+da*44;
+*fa=28;
+fa[1]=0;
+x2(fa+2,0);
+x4(fa+4,aa);
+fa[8]=ba;
+fa[9]=0;
+x2(fa+10,v);
+x2(fa+12,w);
+memcpy(fa+14,n,16);
+x8(fa+30,x);
+fa[38]=y;
+fa[39]=z;
+fa[40]=A;
+fa[41]=B;
+x2(fa+42,0);
+w8(b+88,da+1);
+Y=1;}
+L5:*a=Y;
 a[1]=0;
 a[2]=0;
 a[3]=0;
-L2:return;
+goto L4;
+L1:*a=1;
+a[1]=3;
+a[2]=0;
+a[3]=0;
+L4:return;
 }
 
 /* cpp_direct::direct::Direct::empty_pack */
@@ -69161,7 +71879,7 @@ j=r8(b+88);
 if(j==0){
 x4(a,0);
 goto L1;}
-if(*(rp(b+80)+(i64)(j*44)-44)==23){
+if(*(rp(b+80)+(i64)(j*44)-44)==27){
 k=0;
 l=0;
 m=0;
@@ -69324,7 +72042,7 @@ switch(j[-44]){
 case 5:if(j[-28]==0)goto L1;
 break;
 case 7:break;
-case 0:case 1:case 2:case 3:case 4:case 6:case 8:case 9:case 10:case 11:case 12:case 13:case 14:case 15:case 16:case 17:case 18:case 19:case 20:case 21:case 22:case 23:case 24:case 25:goto L1;
+case 0:case 1:case 2:case 3:case 4:case 6:case 8:case 9:case 10:case 11:case 12:case 13:case 14:case 15:case 16:case 17:case 18:case 19:case 20:case 21:case 22:case 23:case 24:case 25:case 26:case 27:case 28:case 29:goto L1;
 default:NEVER;
 }
 k=r8(b+176);
@@ -69334,7 +72052,7 @@ switch(l){
 case 78:case 83:break;
 default:if((u8)(l-49)>=9)goto L2;
 break;}
-literal_47f(e,b,c,d);
+first_enumerator_82e(e,b,c,d);
 *a=*e;
 a[1]=e[1];
 a[2]=e[2];
@@ -69356,7 +72074,7 @@ n=r*44;
 o=rp(b+80);
 p=r;}
 s=o+n;
-*s=22;
+*s=25;
 s[1]=0;
 x2(s+2,0);
 x4(s+4,m);
@@ -69397,6 +72115,52 @@ a[1]=e[1];
 a[2]=e[2];
 a[3]=e[3];
 L3:return;
+}
+
+/* cpp_direct::direct::Direct::first_enumerator */
+static void first_enumerator_82e(u8* a,u8* b,u8* c,u64 d)
+{
+A16 u8 e[4];
+u64 f,g,i,k,l;
+u32 h;
+u8 j,m;
+u8 *n;
+f=r8(b+176);
+if(f==18446744073709551615u)x4(a,0);
+else{
+g=r8(b+8);
+h=g;
+w8(b+176,f+1);
+if(r8(b+32)>g)i=g;
+else{
+j=make_ready_8e3(b,1,16);
+if(!(j&1)){
+x4(a,0);
+goto L1;}
+i=r8(b+8);}
+*(rp(b)+i)=40;
+w8(b+8,i+1);
+k=r8(b+88);
+if(r8(b+112)>k)l=k;
+else{
+m=make_ready_9a1(b+80);
+if(!(m&1)){
+x4(a,0);
+goto L1;}
+l=r8(b+88);}
+n=rp(b+80)+l*44;
+*n=26;
+n[1]=0;
+x2(n+2,0);
+x4(n+4,h);
+z36(n+8);
+w8(b+88,l+1);
+named_type_de5(e,b,c,d);
+*a=*e;
+a[1]=e[1];
+a[2]=e[2];
+a[3]=e[3];}
+L1:return;
 }
 
 /* cpp_direct::direct::Direct::literal */
@@ -69448,7 +72212,7 @@ x4(a,0);
 goto L3;}
 s=r8(b+88);}
 u=rp(b+80)+s*44;
-*u=25;
+*u=29;
 z43(u+1);
 w8(b+88,s+1);
 named_type_de5(e,b,c,d);
@@ -72314,6 +75078,490 @@ L4:L2:x4(a,0);}
 L1:return;
 }
 
+/* cpp_direct::direct::Direct::returned */
+static void returned_07a(u8* a,u8* b,u8* c,u64 d,u8 e)
+{
+A16 u8 f[4];
+u64 g,h,j,l,m,o,p,q,t,u,x,C;
+u8 *i,*r,*s,*w;
+u8 k,n,v,y,z,A,B,D;
+g=r8(b+88);
+if(g!=0)w8(b+88,g-1);
+h=e?5:2;
+i=e?(u8*)t_cbf6:(u8*)t_4f5a;
+j=r8(b+8);
+if(r8(b+32)-j<h){
+k=make_ready_8e3(b,h,128);
+if(!(k&1))goto L1;
+l=r8(b+8);}
+else l=j;
+m=r8(b+16);
+if(h>m-l){
+n=grow_amortized_2b6(b,h);
+if(!n)goto L1;
+o=r8(b+16);
+p=r8(b+8);}
+else{
+o=m;
+p=l;}
+q=p+h;
+r=rp(b);
+z16(b+8);
+s=r+(i64)p;
+if((u64)s-(u64)i<h)copy_bits_4f4(i,s,h);
+else memcpy(s,i,h);
+wp(b,r);
+w8(b+8,q);
+w8(b+16,o);
+t=r8(b+88);
+if(r8(b+112)>t)u=t;
+else{
+v=make_ready_9a1(b+80);
+if(!(v&1)){
+x4(a,0);
+goto L2;}
+u=r8(b+88);}
+w=rp(b+80)+u*44;
+*w=23;
+w[1]=e;
+z42(w+2);
+w8(b+88,u+1);
+w4(f,0);
+x=r8(b+176);
+if(x==18446744073709551615u){
+y=0;
+z=0;
+A=0;
+B=0;}
+else{
+C=x+1;
+if(C<d)D=*(c+C)==69;
+else D=0;
+if(x<d){
+if(D&&*(c+x)==118){
+w8(b+176,x+2);
+function_ended_13c(f,b,c,d,e);
+y=f[3];
+z=f[2];
+A=f[1];
+B=*f;
+goto L3;}}
+parameter_at_257(f,b,c,d,e,1);
+y=f[3];
+z=f[2];
+A=f[1];
+B=*f;}
+L3:*a=B;
+a[1]=A;
+a[2]=z;
+a[3]=y;
+goto L2;
+L1:x4(a,0);
+L2:return;
+}
+
+/* cpp_direct::direct::Direct::function_ended */
+static void function_ended_13c(u8* a,u8* b,u8* c,u64 d,u8 e)
+{
+A16 u8 f[4];
+u64 g,h,j,k,n,o,p,s;
+u8 i,l,q;
+u8 *m,*r;
+w4(f,0);
+g=r8(b+8);
+if(r8(b+32)>g)h=g;
+else{
+i=make_ready_8e3(b,1,16);
+if(!(i&1)){
+x4(a,0);
+goto L1;}
+h=r8(b+8);}
+*(rp(b)+h)=41;
+w8(b+8,h+1);
+if(e){
+j=r8(b+48);
+if(r8(b+72)>j)k=j;
+else{
+l=make_ready_17a(b+40);
+if(!(l&1))goto L2;
+k=r8(b+48);}
+m=rp(b+40)+k*12;
+x4(m,1);
+n=k+1;
+x8(m+4,0);
+w8(b+48,n);
+o=n;}
+else o=r8(b+48);
+if(r8(b+72)>o)p=o;
+else{
+q=make_ready_17a(b+40);
+if(!(q&1))goto L2;
+p=r8(b+48);}
+r=rp(b+40)+p*12;
+x4(r,1);
+x8(r+4,0);
+w8(b+48,p+1);
+s=r8(b+88);
+if(s!=0)w8(b+88,s-1);
+pass_element_fdc(f,b,c,d,0);
+*a=*f;
+a[1]=f[1];
+a[2]=f[2];
+a[3]=f[3];
+goto L1;
+L2:x4(a,0);
+L1:return;
+}
+
+/* cpp_direct::direct::Direct::pass_element */
+static void pass_element_fdc(u8* a,u8* b,u8* c,u64 d,u8 e)
+{
+u8 g[32],h[32];
+A16 u8 f[4];
+u64 i;
+u8 *j;
+u32 k,m;
+u8 l,n,o,p;
+w4(f,0);
+i=r8(b+88);
+if(i==0)x4(a,0);
+else{
+j=rp(b+80)+(i64)(i*44);
+switch(j[-44]){
+case 10:k=r4(j-40);
+memcpy(g,j-36,32);
+parameter_ended_d3f(f,b,c,d,k,g);
+break;
+case 12:enclosing_parameter_fc1(f,b,c,d,r4(j-40),r4(j-36));
+break;
+case 13:instance_parameter_240(f,b,c,d,j[-43],r4(j-40),r4(j-36));
+break;
+case 19:finish_8cd(f,b,c,d);
+break;
+case 28:if(!e){
+x4(a,0);
+goto L1;}
+l=j[-36];
+m=r4(j-40);
+memcpy(h,j-34,32);
+element_ended_20b(f,b,c,d,m,l,h,1);
+break;
+case 0:case 1:case 2:case 3:case 4:case 5:case 6:case 7:case 8:case 9:case 11:case 14:case 15:case 16:case 17:case 18:case 20:case 21:case 22:case 23:case 24:case 25:case 26:case 27:case 29:*f=1;
+f[1]=3;
+f[2]=0;
+f[3]=0;
+break;
+default:NEVER;
+}
+n=f[1];
+o=f[2];
+p=f[3];
+*a=*f;
+a[1]=n;
+a[2]=o;
+a[3]=p;}
+L1:return;
+}
+
+/* cpp_direct::direct::Direct::parameter_at */
+static void parameter_at_257(u8* a,u8* b,u8* c,u64 d,u8 e,u8 f)
+{
+u8 g[4];
+u64 h,i,l,n,p,q,s,t,u,w,x,A,B,F,G;
+u8 *j,*E,*I;
+u8 k,m,o,r,v,z,C,D,H;
+u32 y;
+h=r8(b+176);
+if(h<d){
+if(*(c+h)==69){
+i=r8(b+8);
+if(i>=5){
+j=rp(b)+(i64)i;
+k=0;
+l=0;
+L1:m=k||*((u8*)t_262b+(i64)l)!=*(j-5+(i64)l);
+n=l+1;
+if(n!=4){
+k=m;
+l=n;
+goto L1;}
+o=0;
+p=0;
+L2:q=p+1;
+r=o||*((u8*)t_262b+(i64)q)!=*(j-5+(i64)q);
+if(q!=4){
+o=r;
+p=q;
+goto L2;}
+if(!(m|r)){
+x4(a,0);
+goto L3;}}
+w8(b+176,h+1);
+function_ended_13c(g,b,c,d,e);
+*a=*g;
+a[1]=g[1];
+a[2]=g[2];
+a[3]=g[3];
+goto L3;}}
+if(f){
+s=h;
+t=r8(b+8);}
+else{
+u=r8(b+8);
+if(r8(b+32)-u<2){
+v=make_ready_8e3(b,2,128);
+if(!(v&1)){
+x4(a,0);
+goto L3;}
+w=r8(b+8);}
+else w=u;
+*(rp(b)+w)=44;
+*(rp(b)+(i64)w+1)=32;
+x=w+2;
+w8(b+8,x);
+s=r8(b+176);
+t=x;}
+if(s<d){
+y=t;
+z=*(c+s);
+switch(z){
+case 82:w8(b+176,s+1);
+A=r8(b+88);
+if(r8(b+112)>A)B=A;
+else{
+C=make_ready_9a1(b+80);
+if(!(C&1)){
+D=0;
+break;}
+B=r8(b+88);}
+E=rp(b+80)+B*44;
+*E=1;
+E[1]=0;
+x2(E+2,0);
+x4(E+4,y);
+z36(E+8);
+w8(b+88,B+1);
+D=1;
+break;
+case 79:w8(b+176,s+1);
+F=r8(b+88);
+if(r8(b+112)>F)G=F;
+else{
+H=make_ready_9a1(b+80);
+if(!(H&1)){
+D=0;
+break;}
+G=r8(b+88);}
+I=rp(b+80)+G*44;
+*I=2;
+I[1]=0;
+x2(I+2,0);
+x4(I+4,y);
+z36(I+8);
+w8(b+88,G+1);
+D=1;
+break;
+case 0:D=z;
+break;
+default:D=1;
+break;}}
+else D=0;
+*a=D;
+a[1]=0;
+a[2]=0;
+a[3]=0;
+L3:return;
+}
+
+/* cpp_direct::direct::Direct::array_ended */
+static void array_ended_b9c(u8* a,u8* b,u8* c,u64 d,u8 e,u32 f,u32 g)
+{
+A16 u8 h[4];
+u64 i,j,l,n,o,q,r,s,w,x,y,z,B,D,E,G,H,I,M,O,P,Q,T,U;
+u8 *k,*t,*u,*v,*A,*J,*K,*L,*S,*W;
+u8 m,p,C,F,N,R,V;
+w4(h,0);
+i=r8(b+88);
+if(i!=0)w8(b+88,i-1);
+j=r8((u8*)t_5b3b+(u64)e*8);
+k=rp((u8*)t_7cd2+(u64)e*8);
+l=r8(b+8);
+if(r8(b+32)-l<j){
+m=make_ready_8e3(b,j,128);
+if(!(m&1))goto L1;
+n=r8(b+8);}
+else n=l;
+o=r8(b+16);
+if(j>o-n){
+p=grow_amortized_2b6(b,j);
+if(!p)goto L1;
+q=r8(b+16);
+r=r8(b+8);}
+else{
+q=o;
+r=n;}
+s=r+j;
+t=rp(b);
+z16(b+8);
+u=t+(i64)r;
+if((u64)u-(u64)k<j)copy_bits_4f4(k,u,j);
+else memcpy(u,k,j);
+wp(b,t);
+w8(b+8,s);
+w8(b+16,q);
+v=c+(i64)f;
+w=(u64)g-f;
+x=usub64(w,1);
+y=0;
+L2:if(y==x)z=x;
+else{
+if(*(v+y)==48){
+y=y+1;
+goto L2;}
+z=y;}
+A=v+(i64)z;
+B=w-z;
+if(r8(b+32)-s<B){
+C=make_ready_8e3(b,B,128);
+if(!(C&1))goto L3;
+D=r8(b+8);
+E=r8(b+16);}
+else{
+D=s;
+E=q;}
+if(B>E-D){
+F=grow_amortized_2b6(b,B);
+if(!F)goto L3;
+G=r8(b+16);
+H=r8(b+8);}
+else{
+G=E;
+H=D;}
+I=H+B;
+J=rp(b);
+z16(b+8);
+K=J+(i64)H;
+if((u64)K-(u64)A<B)copy_bits_4f4(A,K,B);
+else memmove(K,A,B);
+wp(b,J);
+w8(b+8,I);
+w8(b+16,G);
+if(r8(b+32)>I){
+L=J;
+M=I;}
+else{
+N=make_ready_8e3(b,1,16);
+if(!(N&1)){
+x4(a,0);
+goto L4;}
+L=rp(b);
+M=r8(b+8);}
+*(L+M)=93;
+w8(b+8,M+1);
+if(e==0)O=r8(b+48);
+else{
+P=r8(b+48);
+if(r8(b+72)>P)Q=P;
+else{
+R=make_ready_17a(b+40);
+if(!(R&1))goto L5;
+Q=r8(b+48);}
+S=rp(b+40)+Q*12;
+x4(S,1);
+T=Q+1;
+x8(S+4,0);
+w8(b+48,T);
+O=T;}
+if(r8(b+72)>O)U=O;
+else{
+V=make_ready_17a(b+40);
+if(!(V&1))goto L5;
+U=r8(b+48);}
+W=rp(b+40)+U*12;
+x4(W,1);
+x8(W+4,0);
+w8(b+48,U+1);
+pass_element_fdc(h,b,c,d,e==2);
+*a=*h;
+a[1]=h[1];
+a[2]=h[2];
+a[3]=h[3];
+goto L4;
+L5:x4(a,0);
+goto L4;
+L3:x4(a,0);
+goto L4;
+L1:x4(a,0);
+L4:return;
+}
+
+/* cpp_direct::direct::Direct::argument_enumerator */
+static void argument_enumerator_87a(u8* a,u8* b,u8* c,u64 d,u32 e,u8 f,u8* g)
+{
+u8 i[32];
+A16 u8 h[4];
+u8 j,n,p,q,u;
+u64 k,l,m,o,r,s,t;
+u8 *v;
+memcpy(i,g,32);
+w4(h,0);
+j=ends_as_integer_bdf(b);
+if(j)x4(a,0);
+else{
+k=r8(b+88);
+if(k!=0)w8(b+88,k-1);
+l=r8(b+8);
+if(r8(b+32)>l)m=l;
+else{
+n=make_ready_8e3(b,1,16);
+if(!(n&1)){
+x4(a,0);
+goto L1;}
+m=r8(b+8);}
+*(rp(b)+m)=41;
+w8(b+8,m+1);
+o=r8(b+176);
+if(o<d){
+if(*(c+o)==110){
+w8(b+176,o+1);
+p=1;}
+else p=0;}
+else p=0;
+q=digits_418(b,c,d,p);
+if(q&1){
+r=r8(b+176);
+if(r<d){
+if(*(c+r)==69){
+w8(b+176,r+1);
+s=r8(b+88);
+if(r8(b+112)>s)t=s;
+else{
+u=make_ready_9a1(b+80);
+if(!(u&1)){
+x4(a,0);
+goto L1;}
+t=r8(b+88);}
+v=rp(b+80)+t*44;
+*v=25;
+v[1]=0;
+x2(v+2,0);
+x4(v+4,e);
+v[8]=f;
+v[9]=0;
+memcpy(v+10,i,32);
+x2(v+42,0);
+w8(b+88,t+1);
+argument_ended_e71(h,b,c,d,e,f,i,0);
+*a=*h;
+a[1]=h[1];
+a[2]=h[2];
+a[3]=h[3];
+goto L1;}}
+x4(a,0);}
+else x4(a,0);}
+L1:return;
+}
+
 /* cpp_direct::direct::Direct::argument_ended */
 static void argument_ended_e71(u8* a,u8* b,u8* c,u64 d,u32 e,u8 f,u8* g,u8 h)
 {
@@ -72368,10 +75616,11 @@ switch(E){
 case 78:case 83:break;
 default:if((u8)(E-49)>=9)goto L2;
 break;}
-F=0;
-G=0;
-H=3;
-I=1;
+next_enumerator_034(l,b,c,d,z,o);
+F=l[3];
+G=l[2];
+H=l[1];
+I=*l;
 goto L3;}
 L2:next_literal_1b3(p,b,c,d,z,o);
 if(*p!=1){
@@ -72458,7 +75707,7 @@ I=0;
 goto L3;}
 R=r8(b+88);}
 T=rp(b+80)+R*44;
-*T=22;
+*T=25;
 T[1]=0;
 x2(T+2,0);
 x4(T+4,O);
@@ -72497,16 +75746,82 @@ a[3]=F;
 L4:return;
 }
 
+/* cpp_direct::direct::Direct::next_enumerator */
+static void next_enumerator_034(u8* a,u8* b,u8* c,u64 d,u8 e,u8* f)
+{
+u8 h[32];
+A16 u8 g[4];
+u64 i,k,l,m,p,r,s;
+u8 j,o,q,t;
+u32 n;
+u8 *u;
+memcpy(h,f,32);
+w4(g,0);
+i=r8(b+8);
+if(r8(b+32)-i<2){
+j=make_ready_8e3(b,2,128);
+if(!(j&1)){
+x4(a,0);
+goto L1;}
+k=r8(b+8);}
+else k=i;
+*(rp(b)+k)=44;
+*(rp(b)+(i64)k+1)=32;
+l=k+2;
+w8(b+8,l);
+if(e==255)x4(a,0);
+else{
+m=r8(b+176);
+if(m==18446744073709551615u)x4(a,0);
+else{
+n=l;
+o=e+1;
+w8(b+176,m+1);
+if(r8(b+32)>l)p=l;
+else{
+q=make_ready_8e3(b,1,16);
+if(!(q&1)){
+x4(a,0);
+goto L1;}
+p=r8(b+8);}
+*(rp(b)+p)=40;
+w8(b+8,p+1);
+r=r8(b+88);
+if(r8(b+112)>r)s=r;
+else{
+t=make_ready_9a1(b+80);
+if(!(t&1)){
+x4(a,0);
+goto L1;}
+s=r8(b+88);}
+u=rp(b+80)+s*44;
+*u=26;
+u[1]=0;
+x2(u+2,0);
+x4(u+4,n);
+u[8]=o;
+u[9]=0;
+memcpy(u+10,h,32);
+x2(u+42,0);
+w8(b+88,s+1);
+named_type_bf1(g,b,c,d);
+*a=*g;
+a[1]=g[1];
+a[2]=g[2];
+a[3]=g[3];}}
+L1:return;
+}
+
 /* cpp_direct::direct::Direct::next_pack */
 static void next_pack_49a(u8* a,u8* b,u8* c,u64 d,u8 e,u8* f)
 {
 u8 h[16],i[32],j[16];
 A16 u8 g[4];
 u16 k,l;
-u64 m,n,r,t,y,A,B,E,F,I,J;
-u8 o,p,q,u,v,w,x,z,D,G,K;
-u8 *s,*H,*L;
-u32 C;
+u64 m,n,r,t,C,E,F,I,J,M,N;
+u8 o,p,q,s,u,v,w,x,z,A,B,D,H,K,O;
+u8 *y,*L,*P;
+u32 G;
 k=q2(f);
 l=q2(f+2);
 memcpy(j,f+4,16);
@@ -72518,9 +75833,9 @@ o=f[28];
 p=f[29];
 q=f[31];
 r=m+1;
-if(r<d){
-s=c+(i64)r;
-switch(*s){
+s=r>=d;
+if(!s){
+switch(*(c+r)){
 case 69:memcpy(h,f+4,16);
 w4(g,0);
 t=m+2;
@@ -72561,50 +75876,46 @@ a[1]=w;
 a[2]=v;
 a[3]=u;
 goto L1;
-case 76:case 65:case 70:break;
-case 80:case 82:if(usub64(d,r)<2)goto L2;
-switch(s[1]){
-case 70:case 65:break;
-default:goto L2;
-}
+case 76:goto L2;
+default:break;}}
+y=c+(i64)r;
+z=usub64(d,r)<2;
+if(!(d<r||z)){
+if(*y==82){
+A=y[1];
+if(s|(A==65))goto L3;
+B=A;
+goto L4;}}
+if(s)goto L3;
+switch(*y){
+case 65:case 70:goto L2;
+case 80:case 82:if(z)goto L3;
+B=y[1];
 break;
-default:goto L2;
+default:goto L3;
 }
-*a=1;
-a[1]=3;
-a[2]=0;
-a[3]=0;
-goto L1;}
-L2:y=r8(b+8);
-if(r8(b+32)-y<2){
-z=make_ready_8e3(b,2,128);
-if(!(z&1)){
+L4:switch(B){
+case 70:case 65:goto L2;
+default:break;}
+L3:C=r8(b+8);
+if(r8(b+32)-C<2){
+D=make_ready_8e3(b,2,128);
+if(!(D&1)){
 x4(a,0);
 goto L1;}
-A=r8(b+8);}
-else A=y;
-*(rp(b)+A)=44;
-*(rp(b)+(i64)A+1)=32;
-B=A+2;
-w8(b+8,B);
+E=r8(b+8);}
+else E=C;
+*(rp(b)+E)=44;
+*(rp(b)+(i64)E+1)=32;
+F=E+2;
+w8(b+8,F);
 w8(b+176,r);
-if(e==255)x4(a,0);
-else{
-C=B;
-D=e+1;
-E=r8(b+88);
-if(r8(b+112)>E)F=E;
-else{
-G=make_ready_9a1(b+80);
-if(!(G&1)){
+if(e==255){
 x4(a,0);
 goto L1;}
-F=r8(b+88);}
-H=rp(b+80)+F*44;
-*H=23;
-I=F+1;
-z43(H+1);
-w8(b+88,I);
+G=F;
+H=e+1;
+I=r8(b+88);
 if(r8(b+112)>I)J=I;
 else{
 K=make_ready_9a1(b+80);
@@ -72613,26 +75924,43 @@ x4(a,0);
 goto L1;}
 J=r8(b+88);}
 L=rp(b+80)+J*44;
-*L=24;
-L[1]=0;
-x2(L+2,0);
-x4(L+4,C);
-L[8]=D;
-L[9]=0;
-x2(L+10,k);
-x2(L+12,l);
-memcpy(L+14,j,16);
-x8(L+30,n);
-L[38]=o;
-L[39]=p;
-L[40]=D;
-L[41]=q;
-x2(L+42,0);
-w8(b+88,J+1);
+*L=27;
+M=J+1;
+z43(L+1);
+w8(b+88,M);
+if(r8(b+112)>M)N=M;
+else{
+O=make_ready_9a1(b+80);
+if(!(O&1)){
+x4(a,0);
+goto L1;}
+N=r8(b+88);}
+P=rp(b+80)+N*44;
+*P=28;
+P[1]=0;
+x2(P+2,0);
+x4(P+4,G);
+P[8]=H;
+P[9]=0;
+x2(P+10,k);
+x2(P+12,l);
+memcpy(P+14,j,16);
+x8(P+30,n);
+P[38]=o;
+P[39]=p;
+P[40]=H;
+P[41]=q;
+x2(P+42,0);
+w8(b+88,N+1);
 *a=1;
 a[1]=0;
 a[2]=0;
-a[3]=0;}}
+a[3]=0;
+goto L1;
+L2:*a=1;
+a[1]=3;
+a[2]=0;
+a[3]=0;}
 L1:return;
 }
 
@@ -72753,7 +76081,7 @@ case 7:name_ended_a18(g,b,c,d,0,1,f,o);
 break;
 case 8:level_ended_5bf(g,b,c,d,n[1]&1);
 break;
-case 0:case 1:case 2:case 3:case 9:case 10:case 11:case 12:case 13:case 14:case 15:case 16:case 17:case 18:case 19:case 20:case 21:case 22:case 23:case 24:case 25:*g=0;
+case 0:case 1:case 2:case 3:case 9:case 10:case 11:case 12:case 13:case 14:case 15:case 16:case 17:case 18:case 19:case 20:case 21:case 22:case 23:case 24:case 25:case 26:case 27:case 28:case 29:*g=0;
 break;
 default:NEVER;
 }
@@ -72770,168 +76098,186 @@ L1:return;
 /* cpp_direct::direct::Direct::element_ended */
 static void element_ended_20b(u8* a,u8* b,u8* c,u64 d,u32 e,u8 f,u8* g,u8 h)
 {
-u8 i[32],j[16],k[32],m[16],n[32];
-A16 u8 l[4];
-u64 o,p,q,r,w,D,L,N,Q,S,V,W;
-u16 s,t,u,v,B,C,H,J,K;
-u8 x,y,z,A,E,F,G,I,O,P,R,U,X;
-u8 *M,*Y;
-u32 T;
-w4(l,0);
-z16(m);
-z32(n);
-memcpy(k,g,32);
-o=r8(b+88);
-if(o==0)p=0;
+u8 i[32],j[32],k[16],l[32],n[16],o[32];
+A16 u8 m[4];
+u64 p,q,r,s,x,E,M,U,X,Z,ca,da;
+u16 t,u,v,w,C,D,I,K,L;
+u8 y,z,A,B,F,G,H,J,N,O,P,R,S,T,V,W,Y,ba,ea;
+u8 *Q,*fa;
+u32 aa;
+w4(m,0);
+z16(n);
+z32(o);
+memcpy(l,g,32);
+p=r8(b+88);
+if(p==0)q=0;
 else{
-q=o-1;
-w8(b+88,q);
-p=q;}
-r=r8(b+8);
-if((e|(u32)r)>65535||(f>7||f!=k[28])){
-s=r2(k);
-t=r2(k+2);
-memcpy(j,k+4,16);
-u=s;
+r=p-1;
+w8(b+88,r);
+q=r;}
+s=r8(b+8);
+memcpy(i,l,32);
+if((e|(u32)s)>65535||(f>7||f!=i[28])){
+t=r2(l);
+u=r2(l+2);
+memcpy(k,l+4,16);
 v=t;
-w=q8(k+20);
-x=k[28];
-y=k[29];
-z=k[30];
-A=k[31];}
+w=u;
+x=q8(l+20);
+y=l[28];
+z=l[29];
+A=l[30];
+B=l[31];}
 else{
-B=r2(k);
-C=r2(k+2);
-D=q8(k+20);
-E=k[29];
-F=k[30];
-G=k[31];
-memcpy(i+4,k+4,16);
-x8(i+20,D);
-i[28]=f+1;
-i[29]=E;
-i[30]=F;
-i[31]=G;
-w2(i+4+((u64)f<<1),r);
-*(i+20+f)=h;
+C=r2(i);
+D=r2(i+2);
+E=q8(i+20);
+F=i[29];
+G=i[30];
+H=i[31];
+memcpy(j+4,l+4,16);
+x8(j+20,E);
+j[28]=f+1;
+j[29]=F;
+j[30]=G;
+j[31]=H;
+w2(j+4+((u64)f<<1),s);
+*(j+20+f)=h;
 if(f==0){
-memcpy(j,i+4,16);
-u=B;
-v=e;
-w=q8(i+20);
-x=i[28];
-y=i[29];
-z=i[30];
-A=i[31];}
+memcpy(k,j+4,16);
+v=C;
+w=e;
+x=q8(j+20);
+y=j[28];
+z=j[29];
+A=j[30];
+B=j[31];}
 else{
-H=r2(k+4+(i64)((u64)(u8)(f-1)<<1));
-I=(H<65534)&(e==(u16)(0-usub16(65534,H)));
-J=I?B:r2(k);
-K=I?C:r2(k+2);
-memcpy(j,I?i+4:k+4,16);
-u=J;
+I=r2(i+4+(i64)((u64)(u8)(f-1)<<1));
+J=(I<65534)&(e==(u16)(0-usub16(65534,I)));
+K=J?C:r2(l);
+L=J?D:r2(l+2);
+memcpy(k,J?j+4:l+4,16);
 v=K;
-w=I?q8(i+20):q8(k+20);
-x=I?i[28]:k[28];
-y=I?i[29]:k[29];
-z=I?i[30]:k[30];
-A=I?i[31]:k[31];}}
-memcpy(m,j,16);
-L=r8(b+176);
-if(L<d){
-M=c+(i64)L;
-switch(*M){
-case 76:case 65:case 70:break;
-case 80:case 82:if(usub64(d,L)<2)goto L1;
-switch(M[1]){
-case 70:case 65:break;
-default:goto L1;
-}
+w=L;
+x=J?q8(j+20):q8(l+20);
+y=J?j[28]:l[28];
+z=J?j[29]:l[29];
+A=J?j[30]:l[30];
+B=J?j[31]:l[31];}}
+memcpy(n,k,16);
+M=r8(b+176);
+N=M>=d;
+if(N)O=0;
+else{
+P=*(c+M);
+if(P==76)goto L1;
+O=P;}
+Q=c+(i64)M;
+R=usub64(d,M)<2;
+if(!(d<M||R)){
+if(*Q==82){
+S=Q[1];
+if(N|(S==65))goto L2;
+T=S;
+goto L3;}}
+if(N)goto L2;
+switch(*Q){
+case 65:case 70:goto L1;
+case 80:case 82:if(R)goto L2;
+T=Q[1];
 break;
-case 69:N=L+1;
-if(N<d){
-if(*(c+N)==69){
-if(p!=0)w8(b+88,p-1);
-w8(b+176,L+2);
+default:goto L2;
+}
+L3:switch(T){
+case 70:case 65:goto L1;
+default:break;}
+L2:if(O==69){
+if(M==18446744073709551615u){
+x4(a,0);
+goto L4;}
+U=M+1;
+if(U<d){
+if(*(c+U)==69){
+if(q!=0)w8(b+88,q-1);
+w8(b+176,M+2);
 if(f==255){
 x4(a,0);
-goto L2;}
-O=f+1;
-if(O<z){
+goto L4;}
+V=f+1;
+if(V<A){
 x4(a,0);
-goto L2;}
-w2(n,u);
-w2(n+2,v);
-memcpy(n+4,m,16);
-x8(n+20,w);
-n[28]=x;
-n[29]=1;
-n[30]=z;
-n[31]=O-z;
-close_list_3c2(l,b,c,d,n);
-*a=*l;
-a[1]=l[1];
-a[2]=l[2];
-a[3]=l[3];
-goto L2;}}
+goto L4;}
+w2(o,v);
+w2(o+2,w);
+memcpy(o+4,n,16);
+x8(o+20,x);
+o[28]=y;
+o[29]=1;
+o[30]=A;
+o[31]=V-A;
+close_list_3c2(m,b,c,d,o);
+*a=*m;
+a[1]=m[1];
+a[2]=m[2];
+a[3]=m[3];
+goto L4;}}
 *a=1;
 a[1]=3;
 a[2]=0;
 a[3]=0;
-goto L2;
-default:goto L1;
-}
-*a=1;
-a[1]=3;
-a[2]=0;
-a[3]=0;
-goto L2;}
-L1:if(r8(b+32)-r<2){
-P=make_ready_8e3(b,2,128);
-if(!(P&1)){
-R=0;
-goto L3;}
-Q=r8(b+8);}
-else Q=r;
-*(rp(b)+Q)=44;
-*(rp(b)+(i64)Q+1)=32;
-S=Q+2;
-w8(b+8,S);
-if(f==255)R=0;
+goto L4;}
+if(r8(b+32)-s<2){
+W=make_ready_8e3(b,2,128);
+if(!(W&1)){
+Y=0;
+goto L5;}
+X=r8(b+8);}
+else X=s;
+*(rp(b)+X)=44;
+*(rp(b)+(i64)X+1)=32;
+Z=X+2;
+w8(b+8,Z);
+if(f==255)Y=0;
 else{
-T=S;
-U=f+1;
-V=r8(b+88);
-if(r8(b+112)>V)W=V;
+aa=Z;
+ba=f+1;
+ca=r8(b+88);
+if(r8(b+112)>ca)da=ca;
 else{
-X=make_ready_9a1(b+80);
-if(!(X&1)){
-R=0;
-goto L3;}
-W=r8(b+88);}
-Y=rp(b+80)+W*44;
-*Y=24;
-Y[1]=0;
-x2(Y+2,0);
-x4(Y+4,T);
-Y[8]=U;
-Y[9]=0;
-x2(Y+10,u);
-x2(Y+12,v);
-memcpy(Y+14,m,16);
-x8(Y+30,w);
-Y[38]=x;
-Y[39]=y;
-Y[40]=z;
-Y[41]=A;
-x2(Y+42,0);
-w8(b+88,W+1);
-R=1;}
-L3:*a=R;
+ea=make_ready_9a1(b+80);
+if(!(ea&1)){
+Y=0;
+goto L5;}
+da=r8(b+88);}
+fa=rp(b+80)+da*44;
+*fa=28;
+fa[1]=0;
+x2(fa+2,0);
+x4(fa+4,aa);
+fa[8]=ba;
+fa[9]=0;
+x2(fa+10,v);
+x2(fa+12,w);
+memcpy(fa+14,n,16);
+x8(fa+30,x);
+fa[38]=y;
+fa[39]=z;
+fa[40]=A;
+fa[41]=B;
+x2(fa+42,0);
+w8(b+88,da+1);
+Y=1;}
+L5:*a=Y;
 a[1]=0;
 a[2]=0;
 a[3]=0;
-L2:return;
+goto L4;
+L1:*a=1;
+a[1]=3;
+a[2]=0;
+a[3]=0;
+L4:return;
 }
 
 /* cpp_direct::direct::Direct::empty_pack */
@@ -72953,7 +76299,7 @@ j=r8(b+88);
 if(j==0){
 x4(a,0);
 goto L1;}
-if(*(rp(b+80)+(i64)(j*44)-44)==23){
+if(*(rp(b+80)+(i64)(j*44)-44)==27){
 k=0;
 l=0;
 m=0;
@@ -72997,7 +76343,7 @@ switch(j[-44]){
 case 5:if(j[-28]==0)goto L1;
 break;
 case 7:break;
-case 0:case 1:case 2:case 3:case 4:case 6:case 8:case 9:case 10:case 11:case 12:case 13:case 14:case 15:case 16:case 17:case 18:case 19:case 20:case 21:case 22:case 23:case 24:case 25:goto L1;
+case 0:case 1:case 2:case 3:case 4:case 6:case 8:case 9:case 10:case 11:case 12:case 13:case 14:case 15:case 16:case 17:case 18:case 19:case 20:case 21:case 22:case 23:case 24:case 25:case 26:case 27:case 28:case 29:goto L1;
 default:NEVER;
 }
 k=r8(b+176);
@@ -73007,7 +76353,7 @@ switch(l){
 case 78:case 83:break;
 default:if((u8)(l-49)>=9)goto L2;
 break;}
-literal_4a5(e,b,c,d);
+first_enumerator_ea5(e,b,c,d);
 *a=*e;
 a[1]=e[1];
 a[2]=e[2];
@@ -73029,7 +76375,7 @@ n=r*44;
 o=rp(b+80);
 p=r;}
 s=o+n;
-*s=22;
+*s=25;
 s[1]=0;
 x2(s+2,0);
 x4(s+4,m);
@@ -73070,6 +76416,52 @@ a[1]=e[1];
 a[2]=e[2];
 a[3]=e[3];
 L3:return;
+}
+
+/* cpp_direct::direct::Direct::first_enumerator */
+static void first_enumerator_ea5(u8* a,u8* b,u8* c,u64 d)
+{
+A16 u8 e[4];
+u64 f,g,i,k,l;
+u32 h;
+u8 j,m;
+u8 *n;
+f=r8(b+176);
+if(f==18446744073709551615u)x4(a,0);
+else{
+g=r8(b+8);
+h=g;
+w8(b+176,f+1);
+if(r8(b+32)>g)i=g;
+else{
+j=make_ready_8e3(b,1,16);
+if(!(j&1)){
+x4(a,0);
+goto L1;}
+i=r8(b+8);}
+*(rp(b)+i)=40;
+w8(b+8,i+1);
+k=r8(b+88);
+if(r8(b+112)>k)l=k;
+else{
+m=make_ready_9a1(b+80);
+if(!(m&1)){
+x4(a,0);
+goto L1;}
+l=r8(b+88);}
+n=rp(b+80)+l*44;
+*n=26;
+n[1]=0;
+x2(n+2,0);
+x4(n+4,h);
+z36(n+8);
+w8(b+88,l+1);
+named_type_bf1(e,b,c,d);
+*a=*e;
+a[1]=e[1];
+a[2]=e[2];
+a[3]=e[3];}
+L1:return;
 }
 
 /* cpp_direct::direct::Direct::literal */
@@ -73121,7 +76513,7 @@ x4(a,0);
 goto L3;}
 s=r8(b+88);}
 u=rp(b+80)+s*44;
-*u=25;
+*u=29;
 z43(u+1);
 w8(b+88,s+1);
 named_type_bf1(e,b,c,d);
@@ -74413,762 +77805,776 @@ L1:return;
 /* itanium::short_way::run */
 static u8 run_197(u8* a,u8* b,u64 c,u32 d)
 {
-u8 i[32],k[4],l[32],m[6],o[32],p[32],v[4],w[4];
-A16 u8 e[4],f[4],g[40],h[4],j[4],n[32],q[4],r[4],s[4],t[32],u[32],x[4],y[4],z[4];
-u8 A,B,H,J,L,M,N,O,Q,W,X,Y,Z,aa,ba,ca,da,ga,ha,ia,ka,ma,na,sa,ta,ua,va,ya,za,Aa,Ba,Ca,Fa,Ja,Ka,La,Na,Oa,Ra,Ua,Wa,Ya,cb,eb,fb,gb,ib,kb,mb,nb,ob,pb,rb,tb,ub,vb,wb,yb,zb,Ab,Cb,Eb,Fb,Gb,Hb,Pb,Tb,dc,hc,lc,qc,rc,sc,wc,Ac,Ec;
-u64 C,D,F,I,K,P,R,S,T,ea,fa,ja,wa,xa,Da,Ga,Ha,Pa,Qa,Sa,Va,Xa,Za,ab,db,jb,qb,sb,xb,Bb,Db,Ib,Kb,Lb,Mb,Ob,Qb,Sb,Vb,Xb,ac,cc,ec,jc,kc,nc,oc,pc,tc,uc,vc,yc,Cc,Dc,Gc;
-v16 E,G;
-u8 *U,*V,*la,*lb,*Jb,*Nb,*Rb,*Ub,*Wb,*Yb,*bc,*fc,*mc,*xc,*Fc;
-u32 oa,pa,ra,Ea,Ia,Ma,Ta,bb,hb,Zb,gc,ic,zc,Bc;
-u16 qa;
-if(c>65536)A=0;
+u8 i[32],k[4],l[32],o[32],p[32],q[32],w[4],x[4];
+A16 u8 e[4],f[4],g[40],h[4],j[4],m[6],n[32],r[4],s[4],t[4],u[32],v[32],y[4],z[4],A[4];
+u8 B,C,I,K,M,N,O,P,R,X,Y,Z,aa,ba,ca,da,ea,ha,ia,ja,la,na,oa,ta,va,wa,xa,Aa,Ba,Ca,Da,Ea,Ha,La,Ma,Na,Pa,Qa,Ta,Wa,Ya,ab,eb,gb,hb,ib,kb,mb,ob,pb,qb,rb,tb,vb,wb,xb,yb,Ab,Bb,Cb,Eb,Gb,Hb,Ib,Jb,Rb,Vb,fc,jc,nc,sc,tc,uc,yc,Cc,Gc;
+u64 D,E,G,J,L,Q,S,T,U,fa,ga,ka,ya,za,Fa,Ia,Ja,Ra,Sa,Ua,Xa,Za,bb,cb,fb,lb,sb,ub,zb,Db,Fb,Kb,Mb,Nb,Ob,Qb,Sb,Ub,Xb,Zb,cc,ec,gc,lc,mc,pc,qc,rc,vc,wc,xc,Ac,Ec,Fc,Ic;
+v16 F,H;
+u8 *V,*W,*ma,*nb,*Lb,*Pb,*Tb,*Wb,*Yb,*ac,*dc,*hc,*oc,*zc,*Hc;
+u32 pa,qa,sa,Ga,Ka,Oa,Va,db,jb,bc,ic,kc,Bc,Dc;
+u16 ra,ua;
+if(c>65536)B=0;
 else{
 if(c<16){
-B=are_few_named_14c(b,c);
-if(!B){
-A=0;
+C=are_few_named_14c(b,c);
+if(!C){
+B=0;
 goto L1;}}
 else{
-C=c-16;
-if(C==0)goto L2;
-D=0;
-L3:E=v16_at(b+D);
-if((v16_ult(E,splat(33))|v16_eq(E,splat(127)))!=0){
-A=0;
+D=c-16;
+if(D==0)goto L2;
+E=0;
+L3:F=v16_at(b+E);
+if((v16_ult(F,splat(33))|v16_eq(F,splat(127)))!=0){
+B=0;
 goto L1;}
-F=D+16;
-if(F<C){
-D=F;
+G=E+16;
+if(G<D){
+E=G;
 goto L3;}
-L2:G=v16_at(b+C);
-if((v16_ult(G,splat(33))|v16_eq(G,splat(127)))!=0){
-A=0;
+L2:H=v16_at(b+D);
+if((v16_ult(H,splat(33))|v16_eq(H,splat(127)))!=0){
+B=0;
 goto L1;}}
-w4(x,0);
 w4(y,0);
+w4(z,0);
 if(c!=0){
 if(c!=1&&*b==95){
 if(b[1]==90){
 if(c>=3){
-H=b[2];
+I=b[2];
 if(c<5){
-if(H==90)goto L4;
-if((c!=3)&(H==71)){
+if(I==90)goto L4;
+if((c!=3)&(I==71)){
 if(b[3]==86)goto L5;
 goto L6;}
-switch(H){
+switch(I){
 case 71:goto L6;
 case 84:if(c==3)goto L7;
 break;
 default:goto L8;
 }}
 else{
-switch(H){
+switch(I){
 case 90:goto L4;
 case 71:if(b[3]!=86)goto L6;
 if(b[4]!=90)goto L5;
-I=r8(a+8);
-if(r8(a+32)-I<19){
-J=make_ready_8e3(a,19,128);
-if(!(J&1)){
-L=0;
+J=r8(a+8);
+if(r8(a+32)-J<19){
+K=make_ready_8e3(a,19,128);
+if(!(K&1)){
 M=0;
 N=0;
 O=0;
+P=0;
 goto L9;}
-K=r8(a+8);}
-else K=I;
-P=r8(a+16);
-if(P-K<19){
-Q=grow_amortized_2b6(a,19);
-if(!Q){
-L=0;
+L=r8(a+8);}
+else L=J;
+Q=r8(a+16);
+if(Q-L<19){
+R=grow_amortized_2b6(a,19);
+if(!R){
 M=0;
 N=0;
 O=0;
+P=0;
 goto L9;}
-R=r8(a+16);
-S=r8(a+8);}
+S=r8(a+16);
+T=r8(a+8);}
 else{
-R=P;
-S=K;}
-T=S+19;
-U=rp(a);
+S=Q;
+T=L;}
+U=T+19;
+V=rp(a);
 z16(a+8);
-V=U+(i64)S;
-if((u64)V-(u64)(u8*)t_c270<19)copy_bits_4f4((u8*)t_c270,V,19);
-else memcpy(V,(u8*)t_c270,19);
-wp(a,U);
-w8(a+8,T);
-w8(a+16,R);
+W=V+(i64)T;
+if((u64)W-(u64)(u8*)t_c270<19)copy_bits_4f4((u8*)t_c270,W,19);
+else memcpy(W,(u8*)t_c270,19);
+wp(a,V);
+w8(a+8,U);
+w8(a+16,S);
 w8(a+176,5);
-begin_encoding_417(v,a,b,c);
-L=v[3];
-M=v[2];
-N=v[1];
-O=*v;
-L9:W=L;
-X=M;
+begin_encoding_417(w,a,b,c);
+M=w[3];
+N=w[2];
+O=w[1];
+P=*w;
+L9:X=M;
 Y=N;
 Z=O;
+aa=P;
 goto L10;
 case 84:break;
 default:goto L8;
 }}
 switch(b[3]){
-case 104:begin_thunk_a85(y,a,b,c);
+case 104:begin_thunk_a85(z,a,b,c);
 goto L11;
-case 118:begin_virtual_thunk_a25(y,a,b,c);
+case 118:begin_virtual_thunk_a25(z,a,b,c);
+goto L11;
+case 67:begin_clone_893(z);
 goto L11;
 default:break;}
-L7:begin_special_44d(y,a,b,c);
-L11:aa=y[3];
-ba=y[2];
-ca=y[1];
-da=*y;
+L7:begin_special_44d(z,a,b,c);
+L11:ba=z[3];
+ca=z[2];
+da=z[1];
+ea=*z;
 goto L12;
-L6:begin_clone_893(x);
-aa=x[3];
-ba=x[2];
-ca=x[1];
-da=*x;
+L6:begin_clone_893(y);
+ba=y[3];
+ca=y[2];
+da=y[1];
+ea=*y;
 goto L12;
-L5:begin_object_103(x,a,b,c);
-aa=x[3];
-ba=x[2];
-ca=x[1];
-da=*x;
+L5:begin_object_103(y,a,b,c);
+ba=y[3];
+ca=y[2];
+da=y[1];
+ea=*y;
 goto L12;
 L4:w8(a+176,3);
-begin_encoding_417(w,a,b,c);
-W=w[3];
-X=w[2];
-Y=w[1];
-Z=*w;
-L10:aa=W;
-ba=X;
+begin_encoding_417(x,a,b,c);
+X=x[3];
+Y=x[2];
+Z=x[1];
+aa=*x;
+L10:ba=X;
 ca=Y;
 da=Z;
+ea=aa;
 goto L12;}
 L8:w8(a+176,2);
-begin_encoding_417(x,a,b,c);
-aa=x[3];
-ba=x[2];
-ca=x[1];
-da=*x;
-L12:if(da!=1){
-A=0;
+begin_encoding_417(y,a,b,c);
+ba=y[3];
+ca=y[2];
+da=y[1];
+ea=*y;
+L12:if(ea!=1){
+B=0;
 goto L1;}
-ea=c<<3;
-fa=0;
-ga=aa;
+fa=c<<3;
+ga=0;
 ha=ba;
 ia=ca;
-L13:if(ia==7){
-A=r8(a+8)<=d;
+ja=da;
+L13:if(ja==7){
+B=r8(a+8)<=d;
 goto L1;}
 w8(a+184,r8(a+184)+1);
-w4(z,0);
-switch(ia){
-case 0:type_at_78f(z,a,b,c,0);
+w4(A,0);
+switch(ja){
+case 0:type_at_78f(A,a,b,c,0);
 break;
-case 1:type_at_78f(z,a,b,c,1);
+case 1:type_at_78f(A,a,b,c,1);
 break;
-case 2:w4(r,0);
-w4(s,0);
-z32(t);
+case 2:w4(s,0);
+w4(t,0);
 z32(u);
-ja=r8(a+88);
-if(ja==0)w4(z,0);
+z32(v);
+ka=r8(a+88);
+if(ka==0)w4(A,0);
 else{
-ka=ha&1;
-la=rp(a+80)+(i64)(ja*44);
-ma=la[-44];
-na=la[-43];
-oa=q4(la-40);
-pa=q4(la-36);
-qa=q2(la-32);
-switch(ma){
-case 25:case 24:case 23:case 22:case 4:case 5:case 6:case 7:case 8:case 11:case 12:case 13:case 14:case 15:case 16:case 17:case 18:case 19:case 20:case 21:if(ga&1){
-pass_dependent_123(r,a,b,c);
-*z=*r;
-z[1]=r[1];
-z[2]=r[2];
-z[3]=r[3];
+la=ia&1;
+ma=rp(a+80)+(i64)(ka*44);
+na=ma[-44];
+oa=ma[-43];
+pa=q4(ma-40);
+qa=q4(ma-36);
+ra=q2(ma-32);
+switch(na){
+case 29:case 28:case 27:case 26:case 4:case 5:case 6:case 7:case 8:case 11:case 12:case 13:case 14:case 15:case 16:case 17:case 18:case 19:case 20:case 21:case 22:case 23:case 24:case 25:if(ha&1){
+pass_dependent_123(s,a,b,c);
+*A=*s;
+A[1]=s[1];
+A[2]=s[2];
+A[3]=s[3];
 goto L14;}
-ra=q4(la-4);
-sa=pa;
-w4(q,0);
-switch(ma){
-case 19:returned_acd(q,a,b,c,na&1);
+sa=q4(ma-4);
+ta=qa;
+ua=qa>>16;
+w4(r,0);
+switch(na){
+case 22:returned_acd(r,a,b,c,oa&1);
 break;
-case 20:parameter_at_c04(q,a,b,c,na&1,0);
+case 23:parameter_at_c04(r,a,b,c,oa&1,0);
 break;
-case 21:array_ended_08d(q,a,b,c,na,oa,pa);
+case 24:array_ended_08d(r,a,b,c,oa,pa,qa);
 break;
-case 12:enclosing_parameter_d72(q,a,b,c,na,oa);
+case 12:enclosing_parameter_d72(r,a,b,c,oa,pa);
 break;
-case 13:instance_parameter_e2a(q,a,b,c,na,oa,pa);
+case 13:instance_parameter_e2a(r,a,b,c,oa,pa,qa);
 break;
-case 11:w2(l,qa);
-memcpy(l+2,la-30,26);
-x4(l+28,ra);
-enclosing_front_fa8(q,a,na,oa,pa,l);
+case 11:w2(l,ra);
+memcpy(l+2,ma-30,26);
+x4(l+28,sa);
+enclosing_front_fa8(r,a,oa,pa,qa,l);
 break;
-case 17:w2(m,(u16)pa&255);
-w2(m+2,pa>>16);
-w2(m+4,qa);
-lambda_parameter_f9a(q,a,b,c,oa,m);
+case 17:w4(m,qa);
+w2(m+4,ra);
+lambda_parameter_f9a(r,a,b,c,pa,m);
 break;
-case 15:w4(n,pa);
-w2(n+4,qa);
-memcpy(n+6,la-30,26);
-addressed_front_4c5(q,a,b,c,na,oa,n);
+case 18:member_parameter_678(r,a,b,c,oa);
 break;
-case 16:addressed_parameter_41c(q,a,b,c,na);
+case 15:w4(n,qa);
+w2(n+4,ra);
+memcpy(n+6,ma-30,26);
+addressed_front_4c5(r,a,b,c,oa,pa,n);
 break;
-case 14:*q=0;
+case 16:addressed_parameter_41c(r,a,b,c,oa);
 break;
-case 18:finish_8cd(q,a,b,c);
+case 14:*r=0;
 break;
-case 25:enumerator_21c(q,a,b,c);
+case 19:finish_8cd(r,a,b,c);
 break;
-case 22:w2(o,pa>>16);
-w2(o+2,qa);
-memcpy(o+4,la-30,26);
-w2(o+30,ra);
-argument_ended_f01(q,a,b,c,oa,sa,o,ka);
+case 20:derived_ended_aef(r,a,b,c);
 break;
-case 24:w2(p,pa>>16);
-w2(p+2,qa);
-memcpy(p+4,la-30,26);
-w2(p+30,ra);
-element_ended_d46(q,a,b,c,oa,sa,p,ka);
+case 21:base_ended_299(r,a,b,c,pa);
 break;
-case 23:case 10:case 9:case 8:case 4:case 5:case 6:case 7:*q=1;
-q[1]=3;
-q[2]=0;
-q[3]=0;
+case 29:enumerator_21c(r,a,b,c);
+break;
+case 26:w2(o,ua);
+w2(o+2,ra);
+memcpy(o+4,ma-30,26);
+w2(o+30,sa);
+argument_enumerator_f1d(r,a,b,c,pa,ta,o);
+break;
+case 25:w2(p,ua);
+w2(p+2,ra);
+memcpy(p+4,ma-30,26);
+w2(p+30,sa);
+argument_ended_f01(r,a,b,c,pa,ta,p,la);
+break;
+case 28:w2(q,ua);
+w2(q+2,ra);
+memcpy(q+4,ma-30,26);
+w2(q+30,sa);
+element_ended_d46(r,a,b,c,pa,ta,q,la);
+break;
+case 27:case 10:case 9:case 8:case 4:case 5:case 6:case 7:*r=1;
+r[1]=3;
+r[2]=0;
+r[3]=0;
 break;
 default:NEVER;
 }
-ta=q[1];
-ua=q[2];
-va=q[3];
-*s=*q;
-s[1]=ta;
-s[2]=ua;
-s[3]=va;
+va=r[1];
+wa=r[2];
+xa=r[3];
+*t=*r;
+t[1]=va;
+t[2]=wa;
+t[3]=xa;
 goto L15;
-case 10:w4(t,pa);
-w2(t+4,qa);
-memcpy(t+6,la-30,26);
-parameter_ended_06e(s,a,b,c,na,oa,t);
+case 10:w4(u,qa);
+w2(u+4,ra);
+memcpy(u+6,ma-30,26);
+parameter_ended_06e(t,a,b,c,oa,pa,u);
 goto L15;
-case 9:w4(u,pa);
-w2(u+4,qa);
-memcpy(u+6,la-30,26);
-front_ended_ee9(s,a,b,c,na,oa,u);
+case 9:w4(v,qa);
+w2(v+4,ra);
+memcpy(v+6,ma-30,26);
+front_ended_ee9(t,a,b,c,oa,pa,v);
 goto L15;
-case 0:w8(a+88,ja-1);
-wa=r8(a+8);
-if(r8(a+32)>wa)xa=wa;
+case 0:w8(a+88,ka-1);
+ya=r8(a+8);
+if(r8(a+32)>ya)za=ya;
 else{
-ya=make_ready_8e3(a,1,16);
-if(!(ya&1)){
-za=0;
-Aa=0;
+Aa=make_ready_8e3(a,1,16);
+if(!(Aa&1)){
 Ba=0;
 Ca=0;
+Da=0;
+Ea=0;
 goto L16;}
-xa=r8(a+8);}
-*(rp(a)+xa)=42;
-Da=xa+1;
-w8(a+8,Da);
-Ea=Da;
-Fa=ga&1;
-Ga=r8(a+48);
-if(r8(a+72)>Ga){
-Ha=Ga;
-Ia=Ea;
-Ja=0;
-Ka=Fa;
+za=r8(a+8);}
+*(rp(a)+za)=42;
+Fa=za+1;
+w8(a+8,Fa);
+Ga=Fa;
+Ha=ha&1;
+Ia=r8(a+48);
+if(r8(a+72)>Ia){
+Ja=Ia;
+Ka=Ga;
+La=0;
+Ma=Ha;
 goto L17;}
-La=make_ready_17a(a+40);
-if(!(La&1)){
-za=0;
-Aa=0;
+Na=make_ready_17a(a+40);
+if(!(Na&1)){
 Ba=0;
 Ca=0;
+Da=0;
+Ea=0;
 goto L16;}
-Ma=Ea;
-Na=0;
-Oa=Fa;
+Oa=Ga;
+Pa=0;
+Qa=Ha;
 break;
-case 1:if(ka)goto L15;
-w8(a+88,ja-1);
-Pa=r8(a+8);
-if(r8(a+32)>Pa)Qa=Pa;
+case 1:if(la)goto L15;
+w8(a+88,ka-1);
+Ra=r8(a+8);
+if(r8(a+32)>Ra)Sa=Ra;
 else{
-Ra=make_ready_8e3(a,1,16);
-if(!(Ra&1)){
-za=0;
-Aa=0;
+Ta=make_ready_8e3(a,1,16);
+if(!(Ta&1)){
 Ba=0;
 Ca=0;
+Da=0;
+Ea=0;
 goto L16;}
-Qa=r8(a+8);}
-*(rp(a)+Qa)=38;
-Sa=Qa+1;
-w8(a+8,Sa);
-Ta=Sa;
-Ua=ga&1;
-Va=r8(a+48);
-if(r8(a+72)>Va){
-Ha=Va;
-Ia=Ta;
-Ja=1;
-Ka=Ua;
+Sa=r8(a+8);}
+*(rp(a)+Sa)=38;
+Ua=Sa+1;
+w8(a+8,Ua);
+Va=Ua;
+Wa=ha&1;
+Xa=r8(a+48);
+if(r8(a+72)>Xa){
+Ja=Xa;
+Ka=Va;
+La=1;
+Ma=Wa;
 goto L17;}
-Wa=make_ready_17a(a+40);
-if(!(Wa&1)){
-za=0;
-Aa=0;
-Ba=0;
-Ca=0;
-goto L16;}
-Ma=Ta;
-Na=1;
-Oa=Ua;
-break;
-case 2:if(ka)goto L15;
-w8(a+88,ja-1);
-Xa=r8(a+8);
-if(r8(a+32)-Xa<2){
-Ya=make_ready_8e3(a,2,128);
+Ya=make_ready_17a(a+40);
 if(!(Ya&1)){
-za=0;
-Aa=0;
 Ba=0;
 Ca=0;
+Da=0;
+Ea=0;
 goto L16;}
-Za=r8(a+8);}
-else Za=Xa;
-*(rp(a)+Za)=38;
-*(rp(a)+(i64)Za+1)=38;
-ab=Za+2;
-w8(a+8,ab);
-bb=ab;
-cb=ga&1;
-db=r8(a+48);
-if(r8(a+72)>db){
-Ha=db;
-Ia=bb;
-Ja=1;
-Ka=cb;
-goto L17;}
-eb=make_ready_17a(a+40);
-if(!(eb&1)){
-za=0;
-Aa=0;
-Ba=0;
-Ca=0;
-goto L16;}
-Ma=bb;
-Na=1;
-Oa=cb;
+Oa=Va;
+Pa=1;
+Qa=Wa;
 break;
-case 3:if(ka)goto L15;
-w8(a+88,ja-1);
-if(r8(a+32)-r8(a+8)<6){
-fb=make_ready_8e3(a,6,128);
-if(!(fb&1)){
-za=0;
-Aa=0;
+case 2:if(la)goto L15;
+w8(a+88,ka-1);
+Za=r8(a+8);
+if(r8(a+32)-Za<2){
+ab=make_ready_8e3(a,2,128);
+if(!(ab&1)){
 Ba=0;
 Ca=0;
-goto L16;}}
-gb=extend_from_slice_169(a,(u8*)t_f603,6);
-if(gb&1){
-za=0;
-Aa=0;
-Ba=0;
-Ca=0;
+Da=0;
+Ea=0;
 goto L16;}
-hb=r8(a+8);
-ib=ga&1;
-jb=r8(a+48);
-if(r8(a+72)>jb){
-Ha=jb;
-Ia=hb;
-Ja=0;
-Ka=ib;
+bb=r8(a+8);}
+else bb=Za;
+*(rp(a)+bb)=38;
+*(rp(a)+(i64)bb+1)=38;
+cb=bb+2;
+w8(a+8,cb);
+db=cb;
+eb=ha&1;
+fb=r8(a+48);
+if(r8(a+72)>fb){
+Ja=fb;
+Ka=db;
+La=1;
+Ma=eb;
 goto L17;}
-kb=make_ready_17a(a+40);
-if(!(kb&1)){
-za=0;
-Aa=0;
+gb=make_ready_17a(a+40);
+if(!(gb&1)){
 Ba=0;
 Ca=0;
+Da=0;
+Ea=0;
 goto L16;}
-Ma=hb;
-Na=0;
-Oa=ib;
+Oa=db;
+Pa=1;
+Qa=eb;
+break;
+case 3:if(la)goto L15;
+w8(a+88,ka-1);
+if(r8(a+32)-r8(a+8)<6){
+hb=make_ready_8e3(a,6,128);
+if(!(hb&1)){
+Ba=0;
+Ca=0;
+Da=0;
+Ea=0;
+goto L16;}}
+ib=extend_from_slice_169(a,(u8*)t_f603,6);
+if(ib&1){
+Ba=0;
+Ca=0;
+Da=0;
+Ea=0;
+goto L16;}
+jb=r8(a+8);
+kb=ha&1;
+lb=r8(a+48);
+if(r8(a+72)>lb){
+Ja=lb;
+Ka=jb;
+La=0;
+Ma=kb;
+goto L17;}
+mb=make_ready_17a(a+40);
+if(!(mb&1)){
+Ba=0;
+Ca=0;
+Da=0;
+Ea=0;
+goto L16;}
+Oa=jb;
+Pa=0;
+Qa=kb;
 break;
 default:NEVER;
 }
-Ha=r8(a+48);
-Ia=Ma;
-Ja=Na;
+Ja=r8(a+48);
 Ka=Oa;
-L17:lb=rp(a+40)+Ha*12;
-x4(lb,oa);
-x4(lb+4,Ia);
-lb[8]=Ja;
-lb[9]=Ka;
-x2(lb+10,0);
-w8(a+48,Ha+1);
-za=Ka;
-Aa=Ja;
-Ba=2;
-Ca=1;
-L16:*s=Ca;
-s[1]=Ba;
-s[2]=Aa;
-s[3]=za;
-L15:mb=s[1];
-nb=s[2];
-ob=s[3];
-*z=*s;
-z[1]=mb;
-z[2]=nb;
-z[3]=ob;}
+La=Pa;
+Ma=Qa;
+L17:nb=rp(a+40)+Ja*12;
+x4(nb,pa);
+x4(nb+4,Ka);
+nb[8]=La;
+nb[9]=Ma;
+x2(nb+10,0);
+w8(a+48,Ja+1);
+Ba=Ma;
+Ca=La;
+Da=2;
+Ea=1;
+L16:*t=Ea;
+t[1]=Da;
+t[2]=Ca;
+t[3]=Ba;
+L15:ob=t[1];
+pb=t[2];
+qb=t[3];
+*A=*t;
+A[1]=ob;
+A[2]=pb;
+A[3]=qb;}
 L14:break;
-case 3:pb=ha&1;
+case 3:rb=ia&1;
 w4(j,0);
-qb=r8(a+176);
-if(qb<c){
-rb=*(b+qb);
-switch(rb){
+sb=r8(a+176);
+if(sb<c){
+tb=*(b+sb);
+switch(tb){
 case 69:w4(h,0);
-w8(a+176,qb+1);
-sb=r8(a+88);
-if(sb==0){
-tb=0;
-ub=0;
+w8(a+176,sb+1);
+ub=r8(a+88);
+if(ub==0){
 vb=0;
-wb=0;}
+wb=0;
+xb=0;
+yb=0;}
 else{
-if(*(rp(a+80)+(i64)(sb*44)-44)==23){
-if(pb){
-tb=0;
-ub=0;
+if(*(rp(a+80)+(i64)(ub*44)-44)==27){
+if(rb){
 vb=0;
-wb=0;}
+wb=0;
+xb=0;
+yb=0;}
 else{
-w8(a+88,sb-1);
-tb=0;
-ub=0;
-vb=3;
-wb=1;}}
+w8(a+88,ub-1);
+vb=0;
+wb=0;
+xb=3;
+yb=1;}}
 else{
 z32(i);
 close_list_0b3(h,a,b,c,i);
-tb=h[3];
-ub=h[2];
-vb=h[1];
-wb=*h;}}
-*z=wb;
-z[1]=vb;
-z[2]=ub;
-z[3]=tb;
+vb=h[3];
+wb=h[2];
+xb=h[1];
+yb=*h;}}
+*A=yb;
+A[1]=xb;
+A[2]=wb;
+A[3]=vb;
 goto L18;
-case 74:xb=qb+1;
-if(xb<c){
-if(*(b+xb)==69){
-empty_pack_06f(j,a,b,c,pb);
-*z=*j;
-z[1]=j[1];
-z[2]=j[2];
-z[3]=j[3];
+case 74:zb=sb+1;
+if(zb<c){
+if(*(b+zb)==69){
+empty_pack_06f(j,a,b,c,rb);
+*A=*j;
+A[1]=j[1];
+A[2]=j[2];
+A[3]=j[3];
 goto L18;}}
-if(!pb){
-yb=74;
+if(!rb){
+Ab=74;
 goto L19;}
 first_pack_117(j,a,b,c);
-*z=*j;
-z[1]=j[1];
-z[2]=j[2];
-z[3]=j[3];
+*A=*j;
+A[1]=j[1];
+A[2]=j[2];
+A[3]=j[3];
 goto L18;
-default:zb=rb;
+default:Bb=tb;
 break;}}
-else zb=0;
-if(pb){
-Ab=zb;
+else Bb=0;
+if(rb){
+Cb=Bb;
 goto L20;}
-yb=zb;
-L19:Bb=r8(a+8);
-if(r8(a+32)-Bb<2){
-Cb=make_ready_8e3(a,2,128);
-if(!(Cb&1)){
-w4(z,0);
+Ab=Bb;
+L19:Db=r8(a+8);
+if(r8(a+32)-Db<2){
+Eb=make_ready_8e3(a,2,128);
+if(!(Eb&1)){
+w4(A,0);
 goto L18;}
-Db=r8(a+8);}
-else Db=Bb;
-*(rp(a)+Db)=44;
-*(rp(a)+(i64)Db+1)=32;
-w8(a+8,Db+2);
-Ab=yb;
-L20:switch(Ab){
-case 76:if(pb){
+Fb=r8(a+8);}
+else Fb=Db;
+*(rp(a)+Fb)=44;
+*(rp(a)+(i64)Fb+1)=32;
+w8(a+8,Fb+2);
+Cb=Ab;
+L20:switch(Cb){
+case 76:if(rb){
 first_literal_8fe(j,a,b,c);
-*z=*j;
-z[1]=j[1];
-z[2]=j[2];
-z[3]=j[3];
+*A=*j;
+A[1]=j[1];
+A[2]=j[2];
+A[3]=j[3];
 goto L18;}
 literal_7da(k,a,b,c);
-Eb=k[3];
-Fb=k[2];
-Gb=k[1];
-Hb=*k;
+Gb=k[3];
+Hb=k[2];
+Ib=k[1];
+Jb=*k;
 break;
-case 74:Ib=r8(a+88);
-if(Ib==0){
-Eb=0;
-Fb=0;
-Gb=0;
-Hb=0;}
-else{
-Jb=rp(a+80);
-Kb=Ib*44;
-if(*(Jb+(i64)Kb-44)==23){
-Eb=0;
-Fb=0;
-Gb=0;
-Hb=0;}
-else{
-Lb=r8(a+176);
-if(Lb==18446744073709551615u){
-Eb=0;
-Fb=0;
-Gb=0;
-Hb=0;}
-else{
-w8(a+176,Lb+1);
-if(r8(a+112)>Ib){
-Mb=Kb;
-Nb=Jb;
-Ob=Ib;}
-else{
-Pb=make_ready_9a1(a+80);
-if(!(Pb&1)){
-Eb=0;
-Fb=0;
+case 74:Kb=r8(a+88);
+if(Kb==0){
 Gb=0;
 Hb=0;
-break;}
-Qb=r8(a+88);
-Mb=Qb*44;
-Nb=rp(a+80);
-Ob=Qb;}
-Rb=Nb+Mb;
-*Rb=23;
-z43(Rb+1);
-w8(a+88,Ob+1);
-Eb=0;
-Fb=1;
-Gb=3;
-Hb=1;}}}
-break;
-default:if(pb){
-Sb=r8(a+88);
-if(Sb==0)Tb=1;
+Ib=0;
+Jb=0;}
 else{
-Ub=rp(a+80);
-Vb=Sb*44;
-Wb=Ub+(i64)Vb;
-switch(Wb[-44]){
-case 5:if(Wb[-28]==0){
-Tb=1;
+Lb=rp(a+80);
+Mb=Kb*44;
+if(*(Lb+(i64)Mb-44)==27){
+Gb=0;
+Hb=0;
+Ib=0;
+Jb=0;}
+else{
+Nb=r8(a+176);
+if(Nb==18446744073709551615u){
+Gb=0;
+Hb=0;
+Ib=0;
+Jb=0;}
+else{
+w8(a+176,Nb+1);
+if(r8(a+112)>Kb){
+Ob=Mb;
+Pb=Lb;
+Qb=Kb;}
+else{
+Rb=make_ready_9a1(a+80);
+if(!(Rb&1)){
+Gb=0;
+Hb=0;
+Ib=0;
+Jb=0;
+break;}
+Sb=r8(a+88);
+Ob=Sb*44;
+Pb=rp(a+80);
+Qb=Sb;}
+Tb=Pb+Ob;
+*Tb=27;
+z43(Tb+1);
+w8(a+88,Qb+1);
+Gb=0;
+Hb=1;
+Ib=3;
+Jb=1;}}}
+break;
+default:if(rb){
+Ub=r8(a+88);
+if(Ub==0)Vb=1;
+else{
+Wb=rp(a+80);
+Xb=Ub*44;
+Yb=Wb+(i64)Xb;
+switch(Yb[-44]){
+case 5:if(Yb[-28]==0){
+Vb=1;
 goto L21;}
 break;
 case 7:break;
-case 0:case 1:case 2:case 3:case 4:case 6:case 8:case 9:case 10:case 11:case 12:case 13:case 14:case 15:case 16:case 17:case 18:case 19:case 20:case 21:case 22:case 23:case 24:case 25:Tb=1;
+case 0:case 1:case 2:case 3:case 4:case 6:case 8:case 9:case 10:case 11:case 12:case 13:case 14:case 15:case 16:case 17:case 18:case 19:case 20:case 21:case 22:case 23:case 24:case 25:case 26:case 27:case 28:case 29:Vb=1;
 goto L21;
 default:NEVER;
 }
-Xb=r8(a+176);
-if(Xb<c){
-Yb=b+(i64)Xb;
-switch(*Yb){
-case 65:case 70:Tb=1;
+Zb=r8(a+176);
+if(Zb<c){
+ac=b+(i64)Zb;
+switch(*ac){
+case 65:case 70:Vb=1;
 goto L21;
-case 80:case 82:if(usub64(c,Xb)>=2){
-switch(Yb[1]){
-case 70:case 65:Tb=1;
+case 80:case 82:if(usub64(c,Zb)>=2){
+switch(ac[1]){
+case 70:case 65:Vb=1;
 goto L21;
 default:break;}}
 break;
 default:break;}}
-Zb=r8(a+8);
-if(r8(a+112)>Sb){
-ac=Vb;
-bc=Ub;
-cc=Sb;}
+bc=r8(a+8);
+if(r8(a+112)>Ub){
+cc=Xb;
+dc=Wb;
+ec=Ub;}
 else{
-dc=make_ready_9a1(a+80);
-if(!(dc&1)){
-Tb=0;
+fc=make_ready_9a1(a+80);
+if(!(fc&1)){
+Vb=0;
 goto L21;}
-ec=r8(a+88);
-ac=ec*44;
-bc=rp(a+80);
-cc=ec;}
-fc=bc+ac;
-*fc=22;
-fc[1]=0;
-x2(fc+2,0);
-x4(fc+4,Zb);
-z36(fc+8);
-w8(a+88,cc+1);
-Tb=1;}
-L21:*z=Tb;
-z[1]=0;
-z[2]=0;
-z[3]=0;
+gc=r8(a+88);
+cc=gc*44;
+dc=rp(a+80);
+ec=gc;}
+hc=dc+cc;
+*hc=25;
+hc[1]=0;
+x2(hc+2,0);
+x4(hc+4,bc);
+z36(hc+8);
+w8(a+88,ec+1);
+Vb=1;}
+L21:*A=Vb;
+A[1]=0;
+A[2]=0;
+A[3]=0;
 goto L18;}
-Eb=0;
-Fb=0;
 Gb=0;
-Hb=1;
+Hb=0;
+Ib=0;
+Jb=1;
 break;}
-*z=Hb;
-z[1]=Gb;
-z[2]=Fb;
-z[3]=Eb;
+*A=Jb;
+A[1]=Ib;
+A[2]=Hb;
+A[3]=Gb;
 L18:break;
 case 4:w4(f,0);
 z20(g+20);
 if(!(a[136]&1)){
-gc=r4(a+120);
-hc=a[139];
-ic=r8(a+8);
-jc=r8(a+48);
-if(r8(a+72)>jc)kc=jc;
+ic=r4(a+120);
+jc=a[139];
+kc=r8(a+8);
+lc=r8(a+48);
+if(r8(a+72)>lc)mc=lc;
 else{
-lc=make_ready_17a(a+40);
-if(!(lc&1)){
-w4(z,0);
+nc=make_ready_17a(a+40);
+if(!(nc&1)){
+w4(A,0);
 goto L22;}
-kc=r8(a+48);}
-mc=rp(a+40)+kc*12;
-x4(mc,gc);
-x4(mc+4,ic);
-mc[8]=0;
-mc[9]=hc;
-x2(mc+10,0);
-w8(a+48,kc+1);}
-nc=r8(a+176);
-if(nc<c){
-if(*(b+nc)==73){
+mc=r8(a+48);}
+oc=rp(a+40)+mc*12;
+x4(oc,ic);
+x4(oc+4,kc);
+oc[8]=0;
+oc[9]=jc;
+x2(oc+10,0);
+w8(a+48,mc+1);}
+pc=r8(a+176);
+if(pc<c){
+if(*(b+pc)==73){
 memcpy(g,a+120,20);
-oc=r8(a+8);
-if(r8(a+32)>oc)pc=oc;
+qc=r8(a+8);
+if(r8(a+32)>qc)rc=qc;
 else{
-qc=make_ready_8e3(a,1,16);
-if(!(qc&1)){
-rc=0;
-sc=0;
+sc=make_ready_8e3(a,1,16);
+if(!(sc&1)){
+tc=0;
+uc=0;
 goto L23;}
-pc=r8(a+8);}
-*(rp(a)+pc)=60;
-w8(a+8,pc+1);
-tc=r8(a+176);
-if(tc==18446744073709551615u){
-rc=0;
-sc=0;}
+rc=r8(a+8);}
+*(rp(a)+rc)=60;
+w8(a+8,rc+1);
+vc=r8(a+176);
+if(vc==18446744073709551615u){
+tc=0;
+uc=0;}
 else{
-w8(a+176,tc+1);
-uc=r8(a+88);
-if(r8(a+112)>uc)vc=uc;
+w8(a+176,vc+1);
+wc=r8(a+88);
+if(r8(a+112)>wc)xc=wc;
 else{
-wc=make_ready_9a1(a+80);
-if(!(wc&1)){
-rc=0;
-sc=0;
+yc=make_ready_9a1(a+80);
+if(!(yc&1)){
+tc=0;
+uc=0;
 goto L23;}
-vc=r8(a+88);}
-xc=rp(a+80)+vc*44;
-*xc=6;
-xc[1]=0;
-x2(xc+2,0);
-memcpy(xc+4,g,40);
-w8(a+88,vc+1);
-rc=3;
-sc=1;}
-L23:*z=sc;
-z[1]=rc;
-z[2]=sc;
-z[3]=0;
+xc=r8(a+88);}
+zc=rp(a+80)+xc*44;
+*zc=6;
+zc[1]=0;
+x2(zc+2,0);
+memcpy(zc+4,g,40);
+w8(a+88,xc+1);
+tc=3;
+uc=1;}
+L23:*A=uc;
+A[1]=tc;
+A[2]=uc;
+A[3]=0;
 goto L22;}}
 components_at_f93(f,a,b,c);
-*z=*f;
-z[1]=f[1];
-z[2]=f[2];
-z[3]=f[3];
+*A=*f;
+A[1]=f[1];
+A[2]=f[2];
+A[3]=f[3];
 L22:break;
 case 5:w4(e,0);
-yc=r8(a+176);
-if(yc<c){
-if(*(b+yc)==69){
+Ac=r8(a+176);
+if(Ac<c){
+if(*(b+Ac)==69){
 nest_ended_003(e,a,b,c);
-*z=*e;
-z[1]=e[1];
-z[2]=e[2];
-z[3]=e[3];
+*A=*e;
+A[1]=e[1];
+A[2]=e[2];
+A[3]=e[3];
 goto L24;}}
 if(!(a[136]&1)){
-zc=r4(a+120);
-Ac=a[139];
-Bc=r8(a+8);
-Cc=r8(a+48);
-if(r8(a+72)>Cc)Dc=Cc;
+Bc=r4(a+120);
+Cc=a[139];
+Dc=r8(a+8);
+Ec=r8(a+48);
+if(r8(a+72)>Ec)Fc=Ec;
 else{
-Ec=make_ready_17a(a+40);
-if(!(Ec&1)){
-w4(z,0);
+Gc=make_ready_17a(a+40);
+if(!(Gc&1)){
+w4(A,0);
 goto L24;}
-Dc=r8(a+48);}
-Fc=rp(a+40)+Dc*12;
-x4(Fc,zc);
-x4(Fc+4,Bc);
-Fc[8]=0;
-Fc[9]=Ac;
-x2(Fc+10,0);
-w8(a+48,Dc+1);}
+Fc=r8(a+48);}
+Hc=rp(a+40)+Fc*12;
+x4(Hc,Bc);
+x4(Hc+4,Dc);
+Hc[8]=0;
+Hc[9]=Cc;
+x2(Hc+10,0);
+w8(a+48,Fc+1);}
 components_at_f93(e,a,b,c);
-*z=*e;
-z[1]=e[1];
-z[2]=e[2];
-z[3]=e[3];
+*A=*e;
+A[1]=e[1];
+A[2]=e[2];
+A[3]=e[3];
 L24:break;
-case 6:components_at_f93(z,a,b,c);
+case 6:components_at_f93(A,a,b,c);
 break;
 default:NEVER;
 }
-Gc=fa+1;
-if(*z!=1||Gc==ea){
-A=0;
+Ic=ga+1;
+if(*A!=1||Ic==fa){
+B=0;
 goto L1;}
-fa=Gc;
-ga=z[3];
-ha=z[2];
-ia=z[1];
+ga=Ic;
+ha=A[3];
+ia=A[2];
+ja=A[1];
 goto L13;}}}
-A=0;}
-L1:return A;
+B=0;}
+L1:return B;
 }
 
 /* cpp_direct::direct::Direct::begin_object */
@@ -75258,13 +78664,14 @@ L2:return;
 /* cpp_direct::direct::Direct::nest_at */
 static void nest_at_979(u8* a,u8* b,u8* c,u64 d,u8* e)
 {
-A16 u8 f[44],g[40],h[24],i[16],j[24];
-u64 k,p,r,t,x,z,A,B,E,H,J,K,L,M,N,O,R,X,Z,aa,ca,da,ea,ia,ja,ka,na,oa,qa,ra,sa,ya,Ba,Ca,Ea,Fa,Ga,Na,Oa,Pa,Ta,Ua,Wa,Ya,ab,bb,cb,db,eb,fb,ib,kb,mb,ob,pb,rb,tb,ub,wb,yb,zb,Bb,Gb,Ib,Jb,Lb,Mb,Nb;
-u8 l,m,o,s,u,v,w,y,F,I,P,S,Y,ba,la,pa,ta,va,wa,xa,Aa,Da,La,Ra,Sa,Va,Za,gb,jb,lb,nb,qb,sb,vb,xb,Ab,Hb,Kb;
+u8 f[34];
+A16 u8 g[40],h[24],i[16],j[24];
+u64 k,p,r,t,x,z,A,B,E,H,J,K,L,M,N,O,R,X,Z,aa,ca,da,ea,ia,ja,ka,na,oa,qa,ra,sa,ya,Ba,Ca,Ea,Fa,Ga,Na,Pa,Ra,Sa,Ta,Ua,Va,Wa,Za,bb,db,fb,gb,ib,kb,lb,nb,pb,qb,sb,xb,zb,Ab,Cb,Db,Eb;
+u8 l,m,o,s,u,v,w,y,F,I,P,S,Y,ba,la,pa,ta,va,wa,xa,Aa,Da,La,Ma,Qa,Xa,ab,cb,eb,hb,jb,mb,ob,rb,yb,Bb;
 u16 n;
-u32 q,G,ha,Ja,Ka,Xa;
-u8 *C,*D,*Q,*W,*fa,*ga,*ma,*ua,*za,*Ha,*Ia,*Ma,*Qa,*hb,*Fb,*Ob,*Pb;
-s_p_64 T,U,V,Cb,Db,Eb;
+u32 q,G,ha,Ja,Ka,Oa;
+u8 *C,*D,*Q,*W,*fa,*ga,*ma,*ua,*za,*Ha,*Ia,*Ya,*wb,*Fb,*Gb;
+s_p_64 T,U,V,tb,ub,vb;
 k=r8(b+176);
 if(k<d){
 l=*e;
@@ -75562,52 +78969,20 @@ Ja=r4(i+4);
 Ka=r4(i+8);
 La=i[13];
 if(La&1){
+z34(f);
 if(l!=0){
 va=0;
 wa=0;
 xa=0;
 goto L6;}
-Ma=rp(b+80);
-Na=16;
-Oa=r8(b+88);
-L8:if(Oa!=0){
-Pa=Oa-1;
-Qa=Ma+(i64)(Pa*44);
-Ra=*Qa;
-Sa=Qa[16];
-switch(Ra){
-case 0:case 1:case 2:case 3:case 4:case 8:break;
-case 5:if(Sa!=0)goto L9;
-break;
-case 6:if(Sa!=0)goto L9;
-break;
-case 7:case 9:case 10:case 11:case 12:case 13:case 14:case 15:case 16:case 17:case 18:case 19:case 20:case 21:case 22:case 23:case 24:case 25:memcpy(f+4,Qa+4,40);
-switch(Ra){
-case 9:case 10:case 15:case 16:Ta=4;
-break;
-case 11:case 13:Ta=8;
-break;
-case 25:case 24:case 23:case 22:case 21:case 20:case 19:case 7:case 8:case 12:case 14:case 17:case 18:goto L9;
-default:NEVER;
-}
-if(r2(f+4+Ta)!=0)goto L10;
+argument_dbb(f,b);
+if(!(*f==1&&r2(f+2)!=0)){
 va=0;
 wa=0;
 xa=0;
-goto L6;
-default:NEVER;
-}
-Ua=Na-1;
-if(Ua!=0){
-Na=Ua;
-Oa=Pa;
-goto L8;}}
-L9:va=0;
-wa=0;
-xa=0;
-goto L6;}
-L10:Va=repeat_28b(b,Ja,Ka);
-if(Va&1){
+goto L6;}}
+Ma=repeat_28b(b,Ja,Ka);
+if(Ma&1){
 x4(b+120,q);
 x4(b+124,q);
 x4(b+128,q);
@@ -75633,110 +79008,110 @@ L6:*a=xa;
 a[1]=wa;
 a[2]=va;
 a[3]=0;
-goto L11;}
-Wa=r8(b+8);
+goto L8;}
+Na=r8(b+8);
 z24(j);
 if((u8)(o-58)>=247){
-Xa=Wa;
-Ya=k+1;
-if(Ya<d){
-Za=*(c+Ya)-48;
-if(Za<10){
-ab=k+2;
-if(ab<d){
-if((u8)(*(c+ab)-48)<10){
+Oa=Na;
+Pa=k+1;
+if(Pa<d){
+Qa=*(c+Pa)-48;
+if(Qa<10){
+Ra=k+2;
+if(Ra<d){
+if((u8)(*(c+Ra)-48)<10){
 long_name_at_8ad(j,c,d,k);
-if(*j!=1)goto L12;
-bb=r8(j+16);
-cb=r8(j+8);
-goto L13;}}
-db=(u64)Za+(u8)((u8)(o*10)+32);
-if(d-ab<db)goto L14;
-if((u8)(*(c+(i64)ab)-48)<10)goto L14;
-eb=ab;
-fb=db+ab;
-goto L15;}}
-gb=o-48;
-if(d-Ya<gb)goto L14;
-if((u8)(*(c+(i64)Ya)-48)<10)goto L14;
-eb=Ya;
-fb=Ya+gb;
-L15:bb=fb;
-cb=eb;
-L13:w8(b+176,bb);
-hb=c+(i64)cb;
-ib=bb-cb;
-if(bb!=cb){
-if(ib<10||*hb!=95)goto L16;
+if(*j!=1)goto L9;
+Sa=r8(j+16);
+Ta=r8(j+8);
+goto L10;}}
+Ua=(u64)Qa+(u8)((u8)(o*10)+32);
+if(d-Ra<Ua)goto L11;
+if((u8)(*(c+(i64)Ra)-48)<10)goto L11;
+Va=Ra;
+Wa=Ua+Ra;
+goto L12;}}
+Xa=o-48;
+if(d-Pa<Xa)goto L11;
+if((u8)(*(c+(i64)Pa)-48)<10)goto L11;
+Va=Pa;
+Wa=Pa+Xa;
+L12:Sa=Wa;
+Ta=Va;
+L10:w8(b+176,Sa);
+Ya=c+(i64)Ta;
+Za=Sa-Ta;
+if(Sa!=Ta){
+if(Za<10||*Ya!=95)goto L13;
+ab=0;
+bb=0;
+L14:cb=ab||*((u8*)t_35ad+(i64)bb)!=*(Ya+(i64)bb);
+db=bb+1;
+if(db!=8){
+ab=cb;
+bb=db;
+goto L14;}
+eb=0;
+fb=0;
+L15:gb=fb+2;
+hb=eb||*((u8*)t_35ad+(i64)gb)!=*(Ya+(i64)gb);
+ib=fb+1;
+if(ib!=8){
+eb=hb;
+fb=ib;
+goto L15;}
 jb=0;
 kb=0;
-L17:lb=jb||*((u8*)t_35ad+(i64)kb)!=*(hb+(i64)kb);
-mb=kb+1;
-if(mb!=8){
-jb=lb;
-kb=mb;
-goto L17;}
-nb=0;
+L16:lb=kb+2;
+mb=jb||*((u8*)t_35ad+(i64)lb)!=*(Ya+(i64)lb);
+nb=kb+1;
+if(nb!=8){
+jb=mb;
+kb=nb;
+goto L16;}
 ob=0;
-L18:pb=ob+2;
-qb=nb||*((u8*)t_35ad+(i64)pb)!=*(hb+(i64)pb);
-rb=ob+1;
-if(rb!=8){
-nb=qb;
+pb=0;
+L17:qb=pb+2;
+rb=ob||*((u8*)t_35ad+(i64)qb)!=*(Ya+(i64)qb);
+sb=pb+1;
+if(sb!=8){
 ob=rb;
-goto L18;}
-sb=0;
-tb=0;
-L19:ub=tb+2;
-vb=sb||*((u8*)t_35ad+(i64)ub)!=*(hb+(i64)ub);
-wb=tb+1;
-if(wb!=8){
-sb=vb;
-tb=wb;
-goto L19;}
-xb=0;
-yb=0;
-L20:zb=yb+2;
-Ab=xb||*((u8*)t_35ad+(i64)zb)!=*(hb+(i64)zb);
-Bb=yb+1;
-if(Bb!=8){
-xb=Ab;
-yb=Bb;
-goto L20;}
-if(!(((lb|qb)|vb)|Ab)){
-Cb=(s_p_64){(u8*)t_62ff,21};
-goto L21;}}
-L16:Db=(s_p_64){0};Db.f0=hb;
-Eb=Db;Eb.f1=ib;
-Cb=Eb;
-L21:Fb=Cb.f0;
-Gb=Cb.f1;
-if(r8(b+32)-Wa<Gb){
-Hb=make_ready_8e3(b,Gb,128);
-if(!(Hb&1))goto L12;
-Ib=r8(b+8);}
-else Ib=Wa;
-Jb=r8(b+16);
-if(Gb>Jb-Ib){
-Kb=grow_amortized_2b6(b,Gb);
-if(!Kb)goto L12;
-Lb=r8(b+16);
-Mb=r8(b+8);}
+pb=sb;
+goto L17;}
+if(!(((cb|hb)|mb)|rb)){
+tb=(s_p_64){(u8*)t_62ff,21};
+goto L18;}}
+L13:ub=(s_p_64){0};ub.f0=Ya;
+vb=ub;vb.f1=Za;
+tb=vb;
+L18:wb=tb.f0;
+xb=tb.f1;
+if(r8(b+32)-Na<xb){
+yb=make_ready_8e3(b,xb,128);
+if(!(yb&1))goto L9;
+zb=r8(b+8);}
+else zb=Na;
+Ab=r8(b+16);
+if(xb>Ab-zb){
+Bb=grow_amortized_2b6(b,xb);
+if(!Bb)goto L9;
+Cb=r8(b+16);
+Db=r8(b+8);}
 else{
-Lb=Jb;
-Mb=Ib;}
-Nb=Mb+Gb;
-Ob=rp(b);
+Cb=Ab;
+Db=zb;}
+Eb=Db+xb;
+Fb=rp(b);
 z16(b+8);
-Pb=Ob+(i64)Mb;
-if((u64)Pb-(u64)Fb<Gb)copy_bits_4f4(Fb,Pb,Gb);
-else memmove(Pb,Fb,Gb);
-wp(b,Ob);
-w8(b+8,Nb);
-w8(b+16,Lb);
-w4(b+120,Xa);
-w4(b+124,Xa);
-w4(b+128,Nb);
+Gb=Fb+(i64)Db;
+if((u64)Gb-(u64)wb<xb)copy_bits_4f4(wb,Gb,xb);
+else memmove(Gb,wb,xb);
+wp(b,Fb);
+w8(b+8,Eb);
+w8(b+16,Cb);
+w4(b+120,Oa);
+w4(b+124,Oa);
+w4(b+128,Eb);
 b[132]=l;
 b[133]=m;
 w2(b+134,n);
@@ -75748,12 +79123,13 @@ b[139]=0;
 a[1]=4;
 a[2]=0;
 a[3]=0;
-goto L11;}}
-L14:L12:x4(a,0);
-L11:return;
+goto L8;}}
+L11:L9:x4(a,0);
+L8:return;
 }
 
 /* cpp_direct::direct::Direct::begin_clone */
+/* cpp_direct::direct::Direct::begin_table */
 static void begin_clone_893(u8* a)
 {
 x4(a,0);
@@ -77182,6 +80558,73 @@ L4:L2:x4(a,0);}
 L1:return;
 }
 
+/* cpp_direct::direct::Direct::argument_enumerator */
+static void argument_enumerator_f1d(u8* a,u8* b,u8* c,u64 d,u32 e,u8 f,u8* g)
+{
+u8 i[32];
+A16 u8 h[4];
+u8 j,n,p,q,u;
+u64 k,l,m,o,r,s,t;
+u8 *v;
+memcpy(i,g,32);
+w4(h,0);
+j=ends_as_integer_bdf(b);
+if(j)x4(a,0);
+else{
+k=r8(b+88);
+if(k!=0)w8(b+88,k-1);
+l=r8(b+8);
+if(r8(b+32)>l)m=l;
+else{
+n=make_ready_8e3(b,1,16);
+if(!(n&1)){
+x4(a,0);
+goto L1;}
+m=r8(b+8);}
+*(rp(b)+m)=41;
+w8(b+8,m+1);
+o=r8(b+176);
+if(o<d){
+if(*(c+o)==110){
+w8(b+176,o+1);
+p=1;}
+else p=0;}
+else p=0;
+q=digits_418(b,c,d,p);
+if(q&1){
+r=r8(b+176);
+if(r<d){
+if(*(c+r)==69){
+w8(b+176,r+1);
+s=r8(b+88);
+if(r8(b+112)>s)t=s;
+else{
+u=make_ready_9a1(b+80);
+if(!(u&1)){
+x4(a,0);
+goto L1;}
+t=r8(b+88);}
+v=rp(b+80)+t*44;
+*v=25;
+v[1]=0;
+x2(v+2,0);
+x4(v+4,e);
+v[8]=f;
+v[9]=0;
+memcpy(v+10,i,32);
+x2(v+42,0);
+w8(b+88,t+1);
+argument_ended_f01(h,b,c,d,e,f,i,0);
+*a=*h;
+a[1]=h[1];
+a[2]=h[2];
+a[3]=h[3];
+goto L1;}}
+x4(a,0);}
+else x4(a,0);}
+L1:return;
+}
+
 /* cpp_direct::direct::Direct::argument_ended */
 static void argument_ended_f01(u8* a,u8* b,u8* c,u64 d,u32 e,u8 f,u8* g,u8 h)
 {
@@ -77236,10 +80679,11 @@ switch(D){
 case 78:case 83:break;
 default:if((u8)(D-49)>=9)goto L2;
 break;}
-E=0;
-F=0;
-G=3;
-H=1;
+next_enumerator_f3d(k,b,c,d,y,n);
+E=k[3];
+F=k[2];
+G=k[1];
+H=*k;
 goto L3;}
 L2:next_literal_1b3(o,b,c,d,y,n);
 if(*o!=1){
@@ -77326,7 +80770,7 @@ H=0;
 goto L3;}
 Q=r8(b+88);}
 S=rp(b+80)+Q*44;
-*S=22;
+*S=25;
 S[1]=0;
 x2(S+2,0);
 x4(S+4,N);
@@ -77344,6 +80788,72 @@ a[1]=G;
 a[2]=F;
 a[3]=E;
 L4:return;
+}
+
+/* cpp_direct::direct::Direct::next_enumerator */
+static void next_enumerator_f3d(u8* a,u8* b,u8* c,u64 d,u8 e,u8* f)
+{
+u8 h[32];
+A16 u8 g[4];
+u64 i,k,l,m,p,r,s;
+u8 j,o,q,t;
+u32 n;
+u8 *u;
+memcpy(h,f,32);
+w4(g,0);
+i=r8(b+8);
+if(r8(b+32)-i<2){
+j=make_ready_8e3(b,2,128);
+if(!(j&1)){
+x4(a,0);
+goto L1;}
+k=r8(b+8);}
+else k=i;
+*(rp(b)+k)=44;
+*(rp(b)+(i64)k+1)=32;
+l=k+2;
+w8(b+8,l);
+if(e==255)x4(a,0);
+else{
+m=r8(b+176);
+if(m==18446744073709551615u)x4(a,0);
+else{
+n=l;
+o=e+1;
+w8(b+176,m+1);
+if(r8(b+32)>l)p=l;
+else{
+q=make_ready_8e3(b,1,16);
+if(!(q&1)){
+x4(a,0);
+goto L1;}
+p=r8(b+8);}
+*(rp(b)+p)=40;
+w8(b+8,p+1);
+r=r8(b+88);
+if(r8(b+112)>r)s=r;
+else{
+t=make_ready_9a1(b+80);
+if(!(t&1)){
+x4(a,0);
+goto L1;}
+s=r8(b+88);}
+u=rp(b+80)+s*44;
+*u=26;
+u[1]=0;
+x2(u+2,0);
+x4(u+4,n);
+u[8]=o;
+u[9]=0;
+memcpy(u+10,h,32);
+x2(u+42,0);
+w8(b+88,s+1);
+named_type_132(g,b,c,d);
+*a=*g;
+a[1]=g[1];
+a[2]=g[2];
+a[3]=g[3];}}
+L1:return;
 }
 
 /* cpp_direct::direct::Direct::first_literal */
@@ -77365,7 +80875,7 @@ switch(j[-44]){
 case 5:if(j[-28]==0)goto L1;
 break;
 case 7:break;
-case 0:case 1:case 2:case 3:case 4:case 6:case 8:case 9:case 10:case 11:case 12:case 13:case 14:case 15:case 16:case 17:case 18:case 19:case 20:case 21:case 22:case 23:case 24:case 25:goto L1;
+case 0:case 1:case 2:case 3:case 4:case 6:case 8:case 9:case 10:case 11:case 12:case 13:case 14:case 15:case 16:case 17:case 18:case 19:case 20:case 21:case 22:case 23:case 24:case 25:case 26:case 27:case 28:case 29:goto L1;
 default:NEVER;
 }
 k=r8(b+176);
@@ -77375,7 +80885,7 @@ switch(l){
 case 78:case 83:break;
 default:if((u8)(l-49)>=9)goto L2;
 break;}
-literal_7da(e,b,c,d);
+first_enumerator_7c6(e,b,c,d);
 *a=*e;
 a[1]=e[1];
 a[2]=e[2];
@@ -77397,7 +80907,7 @@ n=r*44;
 o=rp(b+80);
 p=r;}
 s=o+n;
-*s=22;
+*s=25;
 s[1]=0;
 x2(s+2,0);
 x4(s+4,m);
@@ -77438,6 +80948,52 @@ a[1]=e[1];
 a[2]=e[2];
 a[3]=e[3];
 L3:return;
+}
+
+/* cpp_direct::direct::Direct::first_enumerator */
+static void first_enumerator_7c6(u8* a,u8* b,u8* c,u64 d)
+{
+A16 u8 e[4];
+u64 f,g,i,k,l;
+u32 h;
+u8 j,m;
+u8 *n;
+f=r8(b+176);
+if(f==18446744073709551615u)x4(a,0);
+else{
+g=r8(b+8);
+h=g;
+w8(b+176,f+1);
+if(r8(b+32)>g)i=g;
+else{
+j=make_ready_8e3(b,1,16);
+if(!(j&1)){
+x4(a,0);
+goto L1;}
+i=r8(b+8);}
+*(rp(b)+i)=40;
+w8(b+8,i+1);
+k=r8(b+88);
+if(r8(b+112)>k)l=k;
+else{
+m=make_ready_9a1(b+80);
+if(!(m&1)){
+x4(a,0);
+goto L1;}
+l=r8(b+88);}
+n=rp(b+80)+l*44;
+*n=26;
+n[1]=0;
+x2(n+2,0);
+x4(n+4,h);
+z36(n+8);
+w8(b+88,l+1);
+named_type_132(e,b,c,d);
+*a=*e;
+a[1]=e[1];
+a[2]=e[2];
+a[3]=e[3];}
+L1:return;
 }
 
 /* cpp_direct::direct::Direct::literal */
@@ -77489,7 +81045,7 @@ x4(a,0);
 goto L3;}
 s=r8(b+88);}
 u=rp(b+80)+s*44;
-*u=25;
+*u=29;
 z43(u+1);
 w8(b+88,s+1);
 named_type_132(e,b,c,d);
@@ -79807,6 +83363,73 @@ L4:L2:x4(a,0);}
 L1:return;
 }
 
+/* cpp_direct::direct::Direct::argument_enumerator */
+static void argument_enumerator_5cf(u8* a,u8* b,u8* c,u64 d,u32 e,u8 f,u8* g)
+{
+u8 i[32];
+A16 u8 h[4];
+u8 j,n,p,q,u;
+u64 k,l,m,o,r,s,t;
+u8 *v;
+memcpy(i,g,32);
+w4(h,0);
+j=ends_as_integer_bdf(b);
+if(j)x4(a,0);
+else{
+k=r8(b+88);
+if(k!=0)w8(b+88,k-1);
+l=r8(b+8);
+if(r8(b+32)>l)m=l;
+else{
+n=make_ready_8e3(b,1,16);
+if(!(n&1)){
+x4(a,0);
+goto L1;}
+m=r8(b+8);}
+*(rp(b)+m)=41;
+w8(b+8,m+1);
+o=r8(b+176);
+if(o<d){
+if(*(c+o)==110){
+w8(b+176,o+1);
+p=1;}
+else p=0;}
+else p=0;
+q=digits_418(b,c,d,p);
+if(q&1){
+r=r8(b+176);
+if(r<d){
+if(*(c+r)==69){
+w8(b+176,r+1);
+s=r8(b+88);
+if(r8(b+112)>s)t=s;
+else{
+u=make_ready_9a1(b+80);
+if(!(u&1)){
+x4(a,0);
+goto L1;}
+t=r8(b+88);}
+v=rp(b+80)+t*44;
+*v=25;
+v[1]=0;
+x2(v+2,0);
+x4(v+4,e);
+v[8]=f;
+v[9]=0;
+memcpy(v+10,i,32);
+x2(v+42,0);
+w8(b+88,t+1);
+argument_ended_d25(h,b,c,d,e,f,i,0);
+*a=*h;
+a[1]=h[1];
+a[2]=h[2];
+a[3]=h[3];
+goto L1;}}
+x4(a,0);}
+else x4(a,0);}
+L1:return;
+}
+
 /* cpp_direct::direct::Direct::argument_ended */
 static void argument_ended_d25(u8* a,u8* b,u8* c,u64 d,u32 e,u8 f,u8* g,u8 h)
 {
@@ -79861,10 +83484,11 @@ switch(D){
 case 78:case 83:break;
 default:if((u8)(D-49)>=9)goto L2;
 break;}
-E=0;
-F=0;
-G=3;
-H=1;
+next_enumerator_4d3(k,b,c,d,y,n);
+E=k[3];
+F=k[2];
+G=k[1];
+H=*k;
 goto L3;}
 L2:next_literal_1b3(o,b,c,d,y,n);
 if(*o!=1){
@@ -79951,7 +83575,7 @@ H=0;
 goto L3;}
 Q=r8(b+88);}
 S=rp(b+80)+Q*44;
-*S=22;
+*S=25;
 S[1]=0;
 x2(S+2,0);
 x4(S+4,N);
@@ -79969,6 +83593,72 @@ a[1]=G;
 a[2]=F;
 a[3]=E;
 L4:return;
+}
+
+/* cpp_direct::direct::Direct::next_enumerator */
+static void next_enumerator_4d3(u8* a,u8* b,u8* c,u64 d,u8 e,u8* f)
+{
+u8 h[32];
+A16 u8 g[4];
+u64 i,k,l,m,p,r,s;
+u8 j,o,q,t;
+u32 n;
+u8 *u;
+memcpy(h,f,32);
+w4(g,0);
+i=r8(b+8);
+if(r8(b+32)-i<2){
+j=make_ready_8e3(b,2,128);
+if(!(j&1)){
+x4(a,0);
+goto L1;}
+k=r8(b+8);}
+else k=i;
+*(rp(b)+k)=44;
+*(rp(b)+(i64)k+1)=32;
+l=k+2;
+w8(b+8,l);
+if(e==255)x4(a,0);
+else{
+m=r8(b+176);
+if(m==18446744073709551615u)x4(a,0);
+else{
+n=l;
+o=e+1;
+w8(b+176,m+1);
+if(r8(b+32)>l)p=l;
+else{
+q=make_ready_8e3(b,1,16);
+if(!(q&1)){
+x4(a,0);
+goto L1;}
+p=r8(b+8);}
+*(rp(b)+p)=40;
+w8(b+8,p+1);
+r=r8(b+88);
+if(r8(b+112)>r)s=r;
+else{
+t=make_ready_9a1(b+80);
+if(!(t&1)){
+x4(a,0);
+goto L1;}
+s=r8(b+88);}
+u=rp(b+80)+s*44;
+*u=26;
+u[1]=0;
+x2(u+2,0);
+x4(u+4,n);
+u[8]=o;
+u[9]=0;
+memcpy(u+10,h,32);
+x2(u+42,0);
+w8(b+88,s+1);
+named_type_748(g,b,c,d);
+*a=*g;
+a[1]=g[1];
+a[2]=g[2];
+a[3]=g[3];}}
+L1:return;
 }
 
 /* cpp_direct::direct::Direct::first_literal */
@@ -79990,7 +83680,7 @@ switch(j[-44]){
 case 5:if(j[-28]==0)goto L1;
 break;
 case 7:break;
-case 0:case 1:case 2:case 3:case 4:case 6:case 8:case 9:case 10:case 11:case 12:case 13:case 14:case 15:case 16:case 17:case 18:case 19:case 20:case 21:case 22:case 23:case 24:case 25:goto L1;
+case 0:case 1:case 2:case 3:case 4:case 6:case 8:case 9:case 10:case 11:case 12:case 13:case 14:case 15:case 16:case 17:case 18:case 19:case 20:case 21:case 22:case 23:case 24:case 25:case 26:case 27:case 28:case 29:goto L1;
 default:NEVER;
 }
 k=r8(b+176);
@@ -80000,7 +83690,7 @@ switch(l){
 case 78:case 83:break;
 default:if((u8)(l-49)>=9)goto L2;
 break;}
-literal_9c1(e,b,c,d);
+first_enumerator_b0d(e,b,c,d);
 *a=*e;
 a[1]=e[1];
 a[2]=e[2];
@@ -80022,7 +83712,7 @@ n=r*44;
 o=rp(b+80);
 p=r;}
 s=o+n;
-*s=22;
+*s=25;
 s[1]=0;
 x2(s+2,0);
 x4(s+4,m);
@@ -80063,6 +83753,52 @@ a[1]=e[1];
 a[2]=e[2];
 a[3]=e[3];
 L3:return;
+}
+
+/* cpp_direct::direct::Direct::first_enumerator */
+static void first_enumerator_b0d(u8* a,u8* b,u8* c,u64 d)
+{
+A16 u8 e[4];
+u64 f,g,i,k,l;
+u32 h;
+u8 j,m;
+u8 *n;
+f=r8(b+176);
+if(f==18446744073709551615u)x4(a,0);
+else{
+g=r8(b+8);
+h=g;
+w8(b+176,f+1);
+if(r8(b+32)>g)i=g;
+else{
+j=make_ready_8e3(b,1,16);
+if(!(j&1)){
+x4(a,0);
+goto L1;}
+i=r8(b+8);}
+*(rp(b)+i)=40;
+w8(b+8,i+1);
+k=r8(b+88);
+if(r8(b+112)>k)l=k;
+else{
+m=make_ready_9a1(b+80);
+if(!(m&1)){
+x4(a,0);
+goto L1;}
+l=r8(b+88);}
+n=rp(b+80)+l*44;
+*n=26;
+n[1]=0;
+x2(n+2,0);
+x4(n+4,h);
+z36(n+8);
+w8(b+88,l+1);
+named_type_748(e,b,c,d);
+*a=*e;
+a[1]=e[1];
+a[2]=e[2];
+a[3]=e[3];}
+L1:return;
 }
 
 /* cpp_direct::direct::Direct::literal */
@@ -80114,7 +83850,7 @@ x4(a,0);
 goto L3;}
 s=r8(b+88);}
 u=rp(b+80)+s*44;
-*u=25;
+*u=29;
 z43(u+1);
 w8(b+88,s+1);
 named_type_748(e,b,c,d);
@@ -81091,13 +84827,14 @@ L2:return;
 /* cpp_direct::direct::Direct::nest_at */
 static void nest_at_de1(u8* a,u8* b,u8* c,u64 d,u8* e)
 {
-A16 u8 f[44],g[40],h[24],i[16],j[24];
-u64 k,p,r,t,x,z,A,B,E,H,J,K,L,M,N,O,R,X,Z,aa,ca,da,ea,ia,ja,ka,na,oa,qa,ra,sa,ya,Ba,Ca,Ea,Fa,Ga,Na,Oa,Pa,Ta,Ua,Wa,Ya,ab,bb,cb,db,eb,fb,ib,kb,mb,ob,pb,rb,tb,ub,wb,yb,zb,Bb,Gb,Ib,Jb,Lb,Mb,Nb;
-u8 l,m,o,s,u,v,w,y,F,I,P,S,Y,ba,la,pa,ta,va,wa,xa,Aa,Da,La,Ra,Sa,Va,Za,gb,jb,lb,nb,qb,sb,vb,xb,Ab,Hb,Kb;
+u8 f[34];
+A16 u8 g[40],h[24],i[16],j[24];
+u64 k,p,r,t,x,z,A,B,E,H,J,K,L,M,N,O,R,X,Z,aa,ca,da,ea,ia,ja,ka,na,oa,qa,ra,sa,ya,Ba,Ca,Ea,Fa,Ga,Na,Pa,Ra,Sa,Ta,Ua,Va,Wa,Za,bb,db,fb,gb,ib,kb,lb,nb,pb,qb,sb,xb,zb,Ab,Cb,Db,Eb;
+u8 l,m,o,s,u,v,w,y,F,I,P,S,Y,ba,la,pa,ta,va,wa,xa,Aa,Da,La,Ma,Qa,Xa,ab,cb,eb,hb,jb,mb,ob,rb,yb,Bb;
 u16 n;
-u32 q,G,ha,Ja,Ka,Xa;
-u8 *C,*D,*Q,*W,*fa,*ga,*ma,*ua,*za,*Ha,*Ia,*Ma,*Qa,*hb,*Fb,*Ob,*Pb;
-s_p_64 T,U,V,Cb,Db,Eb;
+u32 q,G,ha,Ja,Ka,Oa;
+u8 *C,*D,*Q,*W,*fa,*ga,*ma,*ua,*za,*Ha,*Ia,*Ya,*wb,*Fb,*Gb;
+s_p_64 T,U,V,tb,ub,vb;
 k=r8(b+176);
 if(k<d){
 l=*e;
@@ -81395,52 +85132,20 @@ Ja=r4(i+4);
 Ka=r4(i+8);
 La=i[13];
 if(La&1){
+z34(f);
 if(l!=0){
 va=0;
 wa=0;
 xa=0;
 goto L6;}
-Ma=rp(b+80);
-Na=16;
-Oa=r8(b+88);
-L8:if(Oa!=0){
-Pa=Oa-1;
-Qa=Ma+(i64)(Pa*44);
-Ra=*Qa;
-Sa=Qa[16];
-switch(Ra){
-case 0:case 1:case 2:case 3:case 4:case 8:break;
-case 5:if(Sa!=0)goto L9;
-break;
-case 6:if(Sa!=0)goto L9;
-break;
-case 7:case 9:case 10:case 11:case 12:case 13:case 14:case 15:case 16:case 17:case 18:case 19:case 20:case 21:case 22:case 23:case 24:case 25:memcpy(f+4,Qa+4,40);
-switch(Ra){
-case 9:case 10:case 15:case 16:Ta=4;
-break;
-case 11:case 13:Ta=8;
-break;
-case 25:case 24:case 23:case 22:case 21:case 20:case 19:case 7:case 8:case 12:case 14:case 17:case 18:goto L9;
-default:NEVER;
-}
-if(r2(f+4+Ta)!=0)goto L10;
+argument_dbb(f,b);
+if(!(*f==1&&r2(f+2)!=0)){
 va=0;
 wa=0;
 xa=0;
-goto L6;
-default:NEVER;
-}
-Ua=Na-1;
-if(Ua!=0){
-Na=Ua;
-Oa=Pa;
-goto L8;}}
-L9:va=0;
-wa=0;
-xa=0;
-goto L6;}
-L10:Va=repeat_28b(b,Ja,Ka);
-if(Va&1){
+goto L6;}}
+Ma=repeat_28b(b,Ja,Ka);
+if(Ma&1){
 x4(b+120,q);
 x4(b+124,q);
 x4(b+128,q);
@@ -81466,110 +85171,110 @@ L6:*a=xa;
 a[1]=wa;
 a[2]=va;
 a[3]=0;
-goto L11;}
-Wa=r8(b+8);
+goto L8;}
+Na=r8(b+8);
 z24(j);
 if((u8)(o-58)>=247){
-Xa=Wa;
-Ya=k+1;
-if(Ya<d){
-Za=*(c+Ya)-48;
-if(Za<10){
-ab=k+2;
-if(ab<d){
-if((u8)(*(c+ab)-48)<10){
+Oa=Na;
+Pa=k+1;
+if(Pa<d){
+Qa=*(c+Pa)-48;
+if(Qa<10){
+Ra=k+2;
+if(Ra<d){
+if((u8)(*(c+Ra)-48)<10){
 long_name_at_8ad(j,c,d,k);
-if(*j!=1)goto L12;
-bb=r8(j+16);
-cb=r8(j+8);
-goto L13;}}
-db=(u64)Za+(u8)((u8)(o*10)+32);
-if(d-ab<db)goto L14;
-if((u8)(*(c+(i64)ab)-48)<10)goto L14;
-eb=ab;
-fb=db+ab;
-goto L15;}}
-gb=o-48;
-if(d-Ya<gb)goto L14;
-if((u8)(*(c+(i64)Ya)-48)<10)goto L14;
-eb=Ya;
-fb=Ya+gb;
-L15:bb=fb;
-cb=eb;
-L13:w8(b+176,bb);
-hb=c+(i64)cb;
-ib=bb-cb;
-if(bb!=cb){
-if(ib<10||*hb!=95)goto L16;
+if(*j!=1)goto L9;
+Sa=r8(j+16);
+Ta=r8(j+8);
+goto L10;}}
+Ua=(u64)Qa+(u8)((u8)(o*10)+32);
+if(d-Ra<Ua)goto L11;
+if((u8)(*(c+(i64)Ra)-48)<10)goto L11;
+Va=Ra;
+Wa=Ua+Ra;
+goto L12;}}
+Xa=o-48;
+if(d-Pa<Xa)goto L11;
+if((u8)(*(c+(i64)Pa)-48)<10)goto L11;
+Va=Pa;
+Wa=Pa+Xa;
+L12:Sa=Wa;
+Ta=Va;
+L10:w8(b+176,Sa);
+Ya=c+(i64)Ta;
+Za=Sa-Ta;
+if(Sa!=Ta){
+if(Za<10||*Ya!=95)goto L13;
+ab=0;
+bb=0;
+L14:cb=ab||*((u8*)t_35ad+(i64)bb)!=*(Ya+(i64)bb);
+db=bb+1;
+if(db!=8){
+ab=cb;
+bb=db;
+goto L14;}
+eb=0;
+fb=0;
+L15:gb=fb+2;
+hb=eb||*((u8*)t_35ad+(i64)gb)!=*(Ya+(i64)gb);
+ib=fb+1;
+if(ib!=8){
+eb=hb;
+fb=ib;
+goto L15;}
 jb=0;
 kb=0;
-L17:lb=jb||*((u8*)t_35ad+(i64)kb)!=*(hb+(i64)kb);
-mb=kb+1;
-if(mb!=8){
-jb=lb;
-kb=mb;
-goto L17;}
-nb=0;
+L16:lb=kb+2;
+mb=jb||*((u8*)t_35ad+(i64)lb)!=*(Ya+(i64)lb);
+nb=kb+1;
+if(nb!=8){
+jb=mb;
+kb=nb;
+goto L16;}
 ob=0;
-L18:pb=ob+2;
-qb=nb||*((u8*)t_35ad+(i64)pb)!=*(hb+(i64)pb);
-rb=ob+1;
-if(rb!=8){
-nb=qb;
+pb=0;
+L17:qb=pb+2;
+rb=ob||*((u8*)t_35ad+(i64)qb)!=*(Ya+(i64)qb);
+sb=pb+1;
+if(sb!=8){
 ob=rb;
-goto L18;}
-sb=0;
-tb=0;
-L19:ub=tb+2;
-vb=sb||*((u8*)t_35ad+(i64)ub)!=*(hb+(i64)ub);
-wb=tb+1;
-if(wb!=8){
-sb=vb;
-tb=wb;
-goto L19;}
-xb=0;
-yb=0;
-L20:zb=yb+2;
-Ab=xb||*((u8*)t_35ad+(i64)zb)!=*(hb+(i64)zb);
-Bb=yb+1;
-if(Bb!=8){
-xb=Ab;
-yb=Bb;
-goto L20;}
-if(!(((lb|qb)|vb)|Ab)){
-Cb=(s_p_64){(u8*)t_62ff,21};
-goto L21;}}
-L16:Db=(s_p_64){0};Db.f0=hb;
-Eb=Db;Eb.f1=ib;
-Cb=Eb;
-L21:Fb=Cb.f0;
-Gb=Cb.f1;
-if(r8(b+32)-Wa<Gb){
-Hb=make_ready_8e3(b,Gb,128);
-if(!(Hb&1))goto L12;
-Ib=r8(b+8);}
-else Ib=Wa;
-Jb=r8(b+16);
-if(Gb>Jb-Ib){
-Kb=grow_amortized_2b6(b,Gb);
-if(!Kb)goto L12;
-Lb=r8(b+16);
-Mb=r8(b+8);}
+pb=sb;
+goto L17;}
+if(!(((cb|hb)|mb)|rb)){
+tb=(s_p_64){(u8*)t_62ff,21};
+goto L18;}}
+L13:ub=(s_p_64){0};ub.f0=Ya;
+vb=ub;vb.f1=Za;
+tb=vb;
+L18:wb=tb.f0;
+xb=tb.f1;
+if(r8(b+32)-Na<xb){
+yb=make_ready_8e3(b,xb,128);
+if(!(yb&1))goto L9;
+zb=r8(b+8);}
+else zb=Na;
+Ab=r8(b+16);
+if(xb>Ab-zb){
+Bb=grow_amortized_2b6(b,xb);
+if(!Bb)goto L9;
+Cb=r8(b+16);
+Db=r8(b+8);}
 else{
-Lb=Jb;
-Mb=Ib;}
-Nb=Mb+Gb;
-Ob=rp(b);
+Cb=Ab;
+Db=zb;}
+Eb=Db+xb;
+Fb=rp(b);
 z16(b+8);
-Pb=Ob+(i64)Mb;
-if((u64)Pb-(u64)Fb<Gb)copy_bits_4f4(Fb,Pb,Gb);
-else memmove(Pb,Fb,Gb);
-wp(b,Ob);
-w8(b+8,Nb);
-w8(b+16,Lb);
-w4(b+120,Xa);
-w4(b+124,Xa);
-w4(b+128,Nb);
+Gb=Fb+(i64)Db;
+if((u64)Gb-(u64)wb<xb)copy_bits_4f4(wb,Gb,xb);
+else memmove(Gb,wb,xb);
+wp(b,Fb);
+w8(b+8,Eb);
+w8(b+16,Cb);
+w4(b+120,Oa);
+w4(b+124,Oa);
+w4(b+128,Eb);
 b[132]=l;
 b[133]=m;
 w2(b+134,n);
@@ -81581,9 +85286,9 @@ b[139]=0;
 a[1]=4;
 a[2]=0;
 a[3]=0;
-goto L11;}}
-L14:L12:x4(a,0);
-L11:return;
+goto L8;}}
+L11:L9:x4(a,0);
+L8:return;
 }
 
 /* cpp_direct::direct::Direct::begin_encoding */
@@ -83008,6 +86713,73 @@ L4:L2:x4(a,0);}
 L1:return;
 }
 
+/* cpp_direct::direct::Direct::argument_enumerator */
+static void argument_enumerator_61d(u8* a,u8* b,u8* c,u64 d,u32 e,u8 f,u8* g)
+{
+u8 i[32];
+A16 u8 h[4];
+u8 j,n,p,q,u;
+u64 k,l,m,o,r,s,t;
+u8 *v;
+memcpy(i,g,32);
+w4(h,0);
+j=ends_as_integer_bdf(b);
+if(j)x4(a,0);
+else{
+k=r8(b+88);
+if(k!=0)w8(b+88,k-1);
+l=r8(b+8);
+if(r8(b+32)>l)m=l;
+else{
+n=make_ready_8e3(b,1,16);
+if(!(n&1)){
+x4(a,0);
+goto L1;}
+m=r8(b+8);}
+*(rp(b)+m)=41;
+w8(b+8,m+1);
+o=r8(b+176);
+if(o<d){
+if(*(c+o)==110){
+w8(b+176,o+1);
+p=1;}
+else p=0;}
+else p=0;
+q=digits_418(b,c,d,p);
+if(q&1){
+r=r8(b+176);
+if(r<d){
+if(*(c+r)==69){
+w8(b+176,r+1);
+s=r8(b+88);
+if(r8(b+112)>s)t=s;
+else{
+u=make_ready_9a1(b+80);
+if(!(u&1)){
+x4(a,0);
+goto L1;}
+t=r8(b+88);}
+v=rp(b+80)+t*44;
+*v=25;
+v[1]=0;
+x2(v+2,0);
+x4(v+4,e);
+v[8]=f;
+v[9]=0;
+memcpy(v+10,i,32);
+x2(v+42,0);
+w8(b+88,t+1);
+argument_ended_605(h,b,c,d,e,f,i,0);
+*a=*h;
+a[1]=h[1];
+a[2]=h[2];
+a[3]=h[3];
+goto L1;}}
+x4(a,0);}
+else x4(a,0);}
+L1:return;
+}
+
 /* cpp_direct::direct::Direct::argument_ended */
 static void argument_ended_605(u8* a,u8* b,u8* c,u64 d,u32 e,u8 f,u8* g,u8 h)
 {
@@ -83062,10 +86834,11 @@ switch(D){
 case 78:case 83:break;
 default:if((u8)(D-49)>=9)goto L2;
 break;}
-E=0;
-F=0;
-G=3;
-H=1;
+next_enumerator_b25(k,b,c,d,y,n);
+E=k[3];
+F=k[2];
+G=k[1];
+H=*k;
 goto L3;}
 L2:next_literal_1b3(o,b,c,d,y,n);
 if(*o!=1){
@@ -83152,7 +86925,7 @@ H=0;
 goto L3;}
 Q=r8(b+88);}
 S=rp(b+80)+Q*44;
-*S=22;
+*S=25;
 S[1]=0;
 x2(S+2,0);
 x4(S+4,N);
@@ -83170,6 +86943,72 @@ a[1]=G;
 a[2]=F;
 a[3]=E;
 L4:return;
+}
+
+/* cpp_direct::direct::Direct::next_enumerator */
+static void next_enumerator_b25(u8* a,u8* b,u8* c,u64 d,u8 e,u8* f)
+{
+u8 h[32];
+A16 u8 g[4];
+u64 i,k,l,m,p,r,s;
+u8 j,o,q,t;
+u32 n;
+u8 *u;
+memcpy(h,f,32);
+w4(g,0);
+i=r8(b+8);
+if(r8(b+32)-i<2){
+j=make_ready_8e3(b,2,128);
+if(!(j&1)){
+x4(a,0);
+goto L1;}
+k=r8(b+8);}
+else k=i;
+*(rp(b)+k)=44;
+*(rp(b)+(i64)k+1)=32;
+l=k+2;
+w8(b+8,l);
+if(e==255)x4(a,0);
+else{
+m=r8(b+176);
+if(m==18446744073709551615u)x4(a,0);
+else{
+n=l;
+o=e+1;
+w8(b+176,m+1);
+if(r8(b+32)>l)p=l;
+else{
+q=make_ready_8e3(b,1,16);
+if(!(q&1)){
+x4(a,0);
+goto L1;}
+p=r8(b+8);}
+*(rp(b)+p)=40;
+w8(b+8,p+1);
+r=r8(b+88);
+if(r8(b+112)>r)s=r;
+else{
+t=make_ready_9a1(b+80);
+if(!(t&1)){
+x4(a,0);
+goto L1;}
+s=r8(b+88);}
+u=rp(b+80)+s*44;
+*u=26;
+u[1]=0;
+x2(u+2,0);
+x4(u+4,n);
+u[8]=o;
+u[9]=0;
+memcpy(u+10,h,32);
+x2(u+42,0);
+w8(b+88,s+1);
+named_type_e9a(g,b,c,d);
+*a=*g;
+a[1]=g[1];
+a[2]=g[2];
+a[3]=g[3];}}
+L1:return;
 }
 
 /* cpp_direct::direct::Direct::first_literal */
@@ -83191,7 +87030,7 @@ switch(j[-44]){
 case 5:if(j[-28]==0)goto L1;
 break;
 case 7:break;
-case 0:case 1:case 2:case 3:case 4:case 6:case 8:case 9:case 10:case 11:case 12:case 13:case 14:case 15:case 16:case 17:case 18:case 19:case 20:case 21:case 22:case 23:case 24:case 25:goto L1;
+case 0:case 1:case 2:case 3:case 4:case 6:case 8:case 9:case 10:case 11:case 12:case 13:case 14:case 15:case 16:case 17:case 18:case 19:case 20:case 21:case 22:case 23:case 24:case 25:case 26:case 27:case 28:case 29:goto L1;
 default:NEVER;
 }
 k=r8(b+176);
@@ -83201,7 +87040,7 @@ switch(l){
 case 78:case 83:break;
 default:if((u8)(l-49)>=9)goto L2;
 break;}
-literal_8fc(e,b,c,d);
+first_enumerator_fc4(e,b,c,d);
 *a=*e;
 a[1]=e[1];
 a[2]=e[2];
@@ -83223,7 +87062,7 @@ n=r*44;
 o=rp(b+80);
 p=r;}
 s=o+n;
-*s=22;
+*s=25;
 s[1]=0;
 x2(s+2,0);
 x4(s+4,m);
@@ -83264,6 +87103,52 @@ a[1]=e[1];
 a[2]=e[2];
 a[3]=e[3];
 L3:return;
+}
+
+/* cpp_direct::direct::Direct::first_enumerator */
+static void first_enumerator_fc4(u8* a,u8* b,u8* c,u64 d)
+{
+A16 u8 e[4];
+u64 f,g,i,k,l;
+u32 h;
+u8 j,m;
+u8 *n;
+f=r8(b+176);
+if(f==18446744073709551615u)x4(a,0);
+else{
+g=r8(b+8);
+h=g;
+w8(b+176,f+1);
+if(r8(b+32)>g)i=g;
+else{
+j=make_ready_8e3(b,1,16);
+if(!(j&1)){
+x4(a,0);
+goto L1;}
+i=r8(b+8);}
+*(rp(b)+i)=40;
+w8(b+8,i+1);
+k=r8(b+88);
+if(r8(b+112)>k)l=k;
+else{
+m=make_ready_9a1(b+80);
+if(!(m&1)){
+x4(a,0);
+goto L1;}
+l=r8(b+88);}
+n=rp(b+80)+l*44;
+*n=26;
+n[1]=0;
+x2(n+2,0);
+x4(n+4,h);
+z36(n+8);
+w8(b+88,l+1);
+named_type_e9a(e,b,c,d);
+*a=*e;
+a[1]=e[1];
+a[2]=e[2];
+a[3]=e[3];}
+L1:return;
 }
 
 /* cpp_direct::direct::Direct::literal */
@@ -83315,7 +87200,7 @@ x4(a,0);
 goto L3;}
 s=r8(b+88);}
 u=rp(b+80)+s*44;
-*u=25;
+*u=29;
 z43(u+1);
 w8(b+88,s+1);
 named_type_e9a(e,b,c,d);
@@ -85633,6 +89518,73 @@ L4:L2:x4(a,0);}
 L1:return;
 }
 
+/* cpp_direct::direct::Direct::argument_enumerator */
+static void argument_enumerator_2d4(u8* a,u8* b,u8* c,u64 d,u32 e,u8 f,u8* g)
+{
+u8 i[32];
+A16 u8 h[4];
+u8 j,n,p,q,u;
+u64 k,l,m,o,r,s,t;
+u8 *v;
+memcpy(i,g,32);
+w4(h,0);
+j=ends_as_integer_bdf(b);
+if(j)x4(a,0);
+else{
+k=r8(b+88);
+if(k!=0)w8(b+88,k-1);
+l=r8(b+8);
+if(r8(b+32)>l)m=l;
+else{
+n=make_ready_8e3(b,1,16);
+if(!(n&1)){
+x4(a,0);
+goto L1;}
+m=r8(b+8);}
+*(rp(b)+m)=41;
+w8(b+8,m+1);
+o=r8(b+176);
+if(o<d){
+if(*(c+o)==110){
+w8(b+176,o+1);
+p=1;}
+else p=0;}
+else p=0;
+q=digits_418(b,c,d,p);
+if(q&1){
+r=r8(b+176);
+if(r<d){
+if(*(c+r)==69){
+w8(b+176,r+1);
+s=r8(b+88);
+if(r8(b+112)>s)t=s;
+else{
+u=make_ready_9a1(b+80);
+if(!(u&1)){
+x4(a,0);
+goto L1;}
+t=r8(b+88);}
+v=rp(b+80)+t*44;
+*v=25;
+v[1]=0;
+x2(v+2,0);
+x4(v+4,e);
+v[8]=f;
+v[9]=0;
+memcpy(v+10,i,32);
+x2(v+42,0);
+w8(b+88,t+1);
+argument_ended_1bb(h,b,c,d,e,f,i,0);
+*a=*h;
+a[1]=h[1];
+a[2]=h[2];
+a[3]=h[3];
+goto L1;}}
+x4(a,0);}
+else x4(a,0);}
+L1:return;
+}
+
 /* cpp_direct::direct::Direct::argument_ended */
 static void argument_ended_1bb(u8* a,u8* b,u8* c,u64 d,u32 e,u8 f,u8* g,u8 h)
 {
@@ -85687,10 +89639,11 @@ switch(D){
 case 78:case 83:break;
 default:if((u8)(D-49)>=9)goto L2;
 break;}
-E=0;
-F=0;
-G=3;
-H=1;
+next_enumerator_59c(k,b,c,d,y,n);
+E=k[3];
+F=k[2];
+G=k[1];
+H=*k;
 goto L3;}
 L2:next_literal_1b3(o,b,c,d,y,n);
 if(*o!=1){
@@ -85777,7 +89730,7 @@ H=0;
 goto L3;}
 Q=r8(b+88);}
 S=rp(b+80)+Q*44;
-*S=22;
+*S=25;
 S[1]=0;
 x2(S+2,0);
 x4(S+4,N);
@@ -85795,6 +89748,72 @@ a[1]=G;
 a[2]=F;
 a[3]=E;
 L4:return;
+}
+
+/* cpp_direct::direct::Direct::next_enumerator */
+static void next_enumerator_59c(u8* a,u8* b,u8* c,u64 d,u8 e,u8* f)
+{
+u8 h[32];
+A16 u8 g[4];
+u64 i,k,l,m,p,r,s;
+u8 j,o,q,t;
+u32 n;
+u8 *u;
+memcpy(h,f,32);
+w4(g,0);
+i=r8(b+8);
+if(r8(b+32)-i<2){
+j=make_ready_8e3(b,2,128);
+if(!(j&1)){
+x4(a,0);
+goto L1;}
+k=r8(b+8);}
+else k=i;
+*(rp(b)+k)=44;
+*(rp(b)+(i64)k+1)=32;
+l=k+2;
+w8(b+8,l);
+if(e==255)x4(a,0);
+else{
+m=r8(b+176);
+if(m==18446744073709551615u)x4(a,0);
+else{
+n=l;
+o=e+1;
+w8(b+176,m+1);
+if(r8(b+32)>l)p=l;
+else{
+q=make_ready_8e3(b,1,16);
+if(!(q&1)){
+x4(a,0);
+goto L1;}
+p=r8(b+8);}
+*(rp(b)+p)=40;
+w8(b+8,p+1);
+r=r8(b+88);
+if(r8(b+112)>r)s=r;
+else{
+t=make_ready_9a1(b+80);
+if(!(t&1)){
+x4(a,0);
+goto L1;}
+s=r8(b+88);}
+u=rp(b+80)+s*44;
+*u=26;
+u[1]=0;
+x2(u+2,0);
+x4(u+4,n);
+u[8]=o;
+u[9]=0;
+memcpy(u+10,h,32);
+x2(u+42,0);
+w8(b+88,s+1);
+named_type_faa(g,b,c,d);
+*a=*g;
+a[1]=g[1];
+a[2]=g[2];
+a[3]=g[3];}}
+L1:return;
 }
 
 /* cpp_direct::direct::Direct::first_literal */
@@ -85816,7 +89835,7 @@ switch(j[-44]){
 case 5:if(j[-28]==0)goto L1;
 break;
 case 7:break;
-case 0:case 1:case 2:case 3:case 4:case 6:case 8:case 9:case 10:case 11:case 12:case 13:case 14:case 15:case 16:case 17:case 18:case 19:case 20:case 21:case 22:case 23:case 24:case 25:goto L1;
+case 0:case 1:case 2:case 3:case 4:case 6:case 8:case 9:case 10:case 11:case 12:case 13:case 14:case 15:case 16:case 17:case 18:case 19:case 20:case 21:case 22:case 23:case 24:case 25:case 26:case 27:case 28:case 29:goto L1;
 default:NEVER;
 }
 k=r8(b+176);
@@ -85826,7 +89845,7 @@ switch(l){
 case 78:case 83:break;
 default:if((u8)(l-49)>=9)goto L2;
 break;}
-literal_43d(e,b,c,d);
+first_enumerator_d2d(e,b,c,d);
 *a=*e;
 a[1]=e[1];
 a[2]=e[2];
@@ -85848,7 +89867,7 @@ n=r*44;
 o=rp(b+80);
 p=r;}
 s=o+n;
-*s=22;
+*s=25;
 s[1]=0;
 x2(s+2,0);
 x4(s+4,m);
@@ -85889,6 +89908,52 @@ a[1]=e[1];
 a[2]=e[2];
 a[3]=e[3];
 L3:return;
+}
+
+/* cpp_direct::direct::Direct::first_enumerator */
+static void first_enumerator_d2d(u8* a,u8* b,u8* c,u64 d)
+{
+A16 u8 e[4];
+u64 f,g,i,k,l;
+u32 h;
+u8 j,m;
+u8 *n;
+f=r8(b+176);
+if(f==18446744073709551615u)x4(a,0);
+else{
+g=r8(b+8);
+h=g;
+w8(b+176,f+1);
+if(r8(b+32)>g)i=g;
+else{
+j=make_ready_8e3(b,1,16);
+if(!(j&1)){
+x4(a,0);
+goto L1;}
+i=r8(b+8);}
+*(rp(b)+i)=40;
+w8(b+8,i+1);
+k=r8(b+88);
+if(r8(b+112)>k)l=k;
+else{
+m=make_ready_9a1(b+80);
+if(!(m&1)){
+x4(a,0);
+goto L1;}
+l=r8(b+88);}
+n=rp(b+80)+l*44;
+*n=26;
+n[1]=0;
+x2(n+2,0);
+x4(n+4,h);
+z36(n+8);
+w8(b+88,l+1);
+named_type_faa(e,b,c,d);
+*a=*e;
+a[1]=e[1];
+a[2]=e[2];
+a[3]=e[3];}
+L1:return;
 }
 
 /* cpp_direct::direct::Direct::literal */
@@ -85940,7 +90005,7 @@ x4(a,0);
 goto L3;}
 s=r8(b+88);}
 u=rp(b+80)+s*44;
-*u=25;
+*u=29;
 z43(u+1);
 w8(b+88,s+1);
 named_type_faa(e,b,c,d);
@@ -86872,11 +90937,11 @@ static u8 run_80f(u8* a,u8* b,u64 c,u32 d)
 {
 u8 h[1];
 A16 u8 e[40],f[40],g[32],i[40],j[32],k[40],l[32],m[12],n[12],o[12],p[24],q[12],r[12],s[12],t[32],u[24],v[12],w[12],x[12],y[32];
-u64 z,A,B,D,E,G,I,J,M,N,P,S,U,V,W,X,Y,Z,ba,ca,da,fa,ha,ia,ka,la,na,oa,qa,ra,ua,ya,Aa,Ba,Da,Fa,Ia,Ja,La,Ma,Na,Pa,Sa,Ua,Va,Wa,Xa,Za,ab,bb,db,eb,fb,hb,kb,ob,pb,qb,rb,sb,vb,wb,xb,Ab,Cb,Db,Eb,Hb,Ib,Jb,Kb,Mb,Nb,Ob,Pb,Tb,Ub,Vb,Wb,Yb,Zb,ac,bc,dc,gc,hc,jc,kc,mc,pc,rc,sc,yc,Ac,Bc,Cc,Dc,Fc,Hc,Ic,Kc,Lc,Mc,Pc,Qc,Tc,Uc,Vc,Wc,Yc,ad,bd,dd,ed,fd,id,jd,md,nd,pd,qd,td,vd,xd,yd,Bd,Cd,Fd,Gd,Id,Jd,Ld,Nd,Od,Pd,Sd,Td,Wd,Xd,Zd,ae,ce,ee,fe,ge,je,ke,ne,oe,qe,re,te,ve,we,xe,Ae,Be,Ee,Fe,Ge,He,Ie,Je,Ke,Me,Oe,Pe,Qe,Re,Te,Ue,Ve,We,Xe,Ze,af,bf,df,ef,ff,hf,mf,nf,pf,sf,tf,vf,xf,yf,Bf,Cf,Ef,Ff,Gf,If,Jf,Kf,Nf,Of,Rf,Tf,Vf,Wf,Yf,Zf,ag,dg,eg,gg,jg,og,sg,ug,vg,xg,yg,Eg,Gg,Ig,Jg,Kg,Lg,Mg,Pg,Qg,Rg,Ug,Wg,Xg,Yg,bh,ch,dh,eh,gh,hh,ih,jh,nh,oh,ph,qh,sh,th,uh,vh,xh,Ah,Bh,Dh,Eh,Gh,Jh,Kh,Lh,Mh,Nh,Oh,Ph,Rh,Th,Uh,Vh,Wh,Yh,Zh,ai,bi,ci,ei,fi,gi,ii,ji,ki,mi,qi,ri,ti,wi,yi,zi,Bi,Ei,Fi,Ki,Pi,Ri,Si,Ti,Wi,Xi,Yi,bj,dj,ej,fj,ij,kj,lj,nj,pj,qj,rj,sj,wj,yj,zj,Aj,Cj,Dj,Ej,Fj,Hj,Jj,Kj,Mj,Oj,Pj,Rj,Sj,Tj,Wj,Zj,bk,ek,fk,gk,ik,kk,pk,uk,wk,yk,Ak,Ck,Dk,Fk,Gk,Hk,Kk,Mk,Pk,Rk,Sk,Tk,Xk,Yk,bl,cl,gl,il,kl,ml,nl,pl,ql,tl,ul,wl,zl,Al,Cl,Dl,Fl,Il,Jl,Ll,Ml,Ol,Rl,Sl,Tl,Ul,Vl,Xl,am,cm,dm,fm,gm,hm,km,lm,om,pm,rm,sm,um,vm,wm,ym,Bm,Cm,Em,Fm,Hm,Km,Lm,Nm,Om,Rm,Sm,Um,Vm,Ym,Zm,bn,cn,fn,hn,in,kn,ln,mn,pn,qn,tn,un,wn,xn,zn,Cn;
-u8 C,F,K,O,Q,R,aa,ea,ga,ma,pa,sa,ta,va,xa,za,Ca,Ea,Ga,Ha,Oa,Qa,Ta,Ya,gb,ib,lb,mb,nb,ub,zb,Bb,Gb,Qb,Sb,ec,fc,ic,lc,nc,qc,tc,uc,vc,wc,xc,zc,Ec,Gc,Jc,Rc,Xc,Zc,cd,kd,od,sd,ud,Dd,Hd,Kd,Md,Ud,Yd,be,de,le,pe,se,ue,Ce,Le,Ne,Ye,cf,kf,lf,of,qf,uf,wf,zf,Df,Hf,Pf,Uf,Xf,fg,hg,ig,kg,ng,pg,qg,rg,tg,wg,zg,Ag,Bg,Cg,Dg,Fg,Og,Tg,Vg,ah,kh,mh,yh,zh,Ch,Fh,Hh,Qh,Sh,di,hi,oi,pi,si,ui,xi,Di,Gi,Hi,Ii,Ji,Li,Mi,Ni,Oi,Qi,Vi,aj,cj,hj,jj,mj,tj,vj,xj,Gj,Ij,Nj,Qj,Yj,ak,ck,jk,mk,nk,ok,qk,rk,sk,tk,vk,xk,Bk,Ek,Lk,Nk,Qk,Uk,Wk,Zk,al,dl,fl,jl,ol,rl,vl,xl,Bl,El,Gl,Kl,Nl,Pl,Wl,Yl,bm,em,mm,qm,xm,zm,Dm,Gm,Im,Mm,Pm,Tm,Wm,an,dn,gn,jn,rn,vn,yn,An;
-u8 *H,*L,*T,*ja,*wa,*Ra,*jb,*tb,*Fb,*Lb,*Rb,*Xb,*cc,*oc,*Nc,*Oc,*Sc,*gd,*hd,*ld,*zd,*Ad,*Ed,*Qd,*Rd,*Vd,*he,*ie,*me,*ye,*ze,*De,*Se,*jf,*rf,*Af,*Lf,*Mf,*Qf,*Sf,*bg,*cg,*lg,*mg,*Hg,*Ng,*Zg,*fh,*lh,*rh,*wh,*Ih,*Xh,*ni,*vi,*Ai,*Ci,*Ui,*gj,*oj,*uj,*Bj,*Lj,*Uj,*Vj,*Xj,*dk,*hk,*lk,*zk,*Ik,*Jk,*Ok,*Vk,*el,*hl,*ll,*sl,*yl,*Hl,*Ql,*Zl,*im,*jm,*nm,*Am,*Jm,*Qm,*Xm,*en,*nn,*on,*sn,*Bn;
-s_8_64 Ka,cb,yb,Sg,Zi,tm;
-u16 gf,li;
+u64 z,A,B,D,E,G,I,J,M,N,P,S,U,V,W,X,Z,aa,ba,ca,da,ga,ha,ia,ja,ka,ma,oa,pa,ra,sa,ua,va,xa,ya,Ba,Fa,Ha,Ia,Ka,Ma,Pa,Qa,Sa,Ta,Ua,Wa,Za,bb,cb,db,eb,gb,hb,ib,kb,lb,mb,ob,rb,vb,wb,xb,yb,zb,Cb,Db,Eb,Hb,Jb,Kb,Lb,Ob,Pb,Qb,Rb,Tb,Ub,Vb,Wb,ac,bc,cc,dc,fc,gc,hc,ic,kc,nc,oc,qc,rc,tc,wc,yc,zc,Fc,Hc,Ic,Jc,Kc,Mc,Oc,Pc,Rc,Sc,Tc,Wc,Xc,ad,bd,cd,dd,fd,hd,id,kd,ld,md,pd,qd,ud,vd,yd,zd,Bd,Dd,Ed,Fd,Id,Jd,Md,Nd,Pd,Qd,Sd,Ud,Vd,Wd,Zd,ae,de,ee,ge,he,je,le,me,ne,qe,re,ue,ve,xe,ye,Ae,Ce,De,Ee,He,Ie,Le,Me,Ne,Oe,Pe,Qe,Re,Te,Ve,We,Xe,Ye,af,bf,cf,df,ef,gf,hf,jf,lf,mf,nf,pf,tf,uf,wf,zf,Af,Cf,Ef,Ff,If,Jf,Lf,Mf,Nf,Pf,Qf,Rf,Uf,Vf,Yf,ag,cg,dg,fg,gg,hg,kg,lg,ng,qg,vg,zg,Bg,Cg,Eg,Fg,Lg,Ng,Pg,Qg,Rg,Sg,Tg,Wg,Xg,Yg,bh,dh,eh,fh,ih,jh,kh,lh,nh,oh,ph,qh,uh,vh,wh,xh,zh,Ah,Bh,Ch,Eh,Hh,Ih,Kh,Lh,Nh,Qh,Rh,Sh,Th,Uh,Vh,Wh,Yh,ai,bi,ci,di,fi,gi,hi,ii,ji,li,mi,ni,pi,qi,ri,ti,xi,yi,Ai,Di,Fi,Gi,Ii,Li,Mi,Ri,Wi,Yi,Zi,aj,dj,ej,fj,ij,kj,lj,mj,pj,rj,sj,uj,wj,xj,yj,zj,Dj,Fj,Gj,Hj,Jj,Kj,Lj,Mj,Oj,Qj,Rj,Tj,Vj,Wj,Yj,Zj,ak,dk,gk,ik,lk,mk,nk,pk,rk,wk,Bk,Dk,Fk,Hk,Jk,Kk,Mk,Nk,Ok,Rk,Tk,Wk,Yk,Zk,al,el,fl,il,jl,nl,pl,rl,tl,ul,wl,xl,Al,Bl,Dl,Gl,Hl,Jl,Kl,Ml,Pl,Ql,Sl,Tl,Vl,Yl,Zl,am,bm,cm,em,hm,jm,km,mm,nm,om,rm,sm,vm,wm,ym,zm,Bm,Cm,Dm,Fm,Im,Jm,Lm,Mm,Om,Rm,Sm,Um,Vm,Ym,Zm,bn,cn,fn,gn,in,jn,mn,on,pn,rn,sn,tn,wn,xn,An,Bn,Dn,En,Gn,Jn;
+u8 C,F,K,O,Q,R,la,na,ta,wa,za,Aa,Ca,Ea,Ga,Ja,La,Na,Oa,Va,Xa,ab,fb,nb,pb,sb,tb,ub,Bb,Gb,Ib,Nb,Xb,Zb,lc,mc,pc,sc,uc,xc,Ac,Bc,Cc,Dc,Ec,Gc,Lc,Nc,Qc,Yc,ed,gd,jd,sd,xd,Ad,Cd,Kd,Od,Rd,Td,be,fe,ie,ke,se,we,ze,Be,Je,Se,Ue,ff,kf,rf,sf,vf,xf,Bf,Df,Gf,Kf,Of,Wf,bg,eg,mg,og,pg,rg,ug,wg,xg,yg,Ag,Dg,Gg,Hg,Ig,Jg,Kg,Mg,Vg,ah,ch,hh,rh,th,Fh,Gh,Jh,Mh,Oh,Xh,Zh,ki,oi,vi,wi,zi,Bi,Ei,Ki,Ni,Oi,Pi,Qi,Si,Ti,Ui,Vi,Xi,cj,hj,jj,oj,qj,tj,Aj,Cj,Ej,Nj,Pj,Uj,Xj,fk,hk,jk,qk,tk,uk,vk,xk,yk,zk,Ak,Ck,Ek,Ik,Lk,Sk,Uk,Xk,bl,dl,gl,hl,kl,ml,ql,vl,yl,Cl,El,Il,Ll,Nl,Rl,Ul,Wl,dm,fm,im,lm,tm,xm,Em,Gm,Km,Nm,Pm,Tm,Wm,an,dn,hn,kn,nn,qn,yn,Cn,Fn,Hn;
+u8 *H,*L,*T,*ea,*fa,*qa,*Da,*Ya,*qb,*Ab,*Mb,*Sb,*Yb,*ec,*jc,*vc,*Uc,*Vc,*Zc,*nd,*od,*td,*Gd,*Hd,*Ld,*Xd,*Yd,*ce,*oe,*pe,*te,*Fe,*Ge,*Ke,*Ze,*qf,*yf,*Hf,*Sf,*Tf,*Xf,*Zf,*ig,*jg,*sg,*tg,*Og,*Ug,*gh,*mh,*sh,*yh,*Dh,*Ph,*ei,*ui,*Ci,*Hi,*Ji,*bj,*nj,*vj,*Bj,*Ij,*Sj,*bk,*ck,*ek,*kk,*ok,*sk,*Gk,*Pk,*Qk,*Vk,*cl,*ll,*ol,*sl,*zl,*Fl,*Ol,*Xl,*gm,*pm,*qm,*um,*Hm,*Qm,*Xm,*en,*ln,*un,*vn,*zn,*In;
+u16 Y,of,si;
+s_8_64 Ra,jb,Fb,Zg,gj,Am;
 if(c-1<65536){
 if(*b==95&&c>1){
 if(b[1]==82){
@@ -86928,1632 +90993,1643 @@ if(S>(d>>2))F=0;
 else{
 T=rp(a);
 if(S==0){
+F=1;
+goto L1;}
 U=0;
-goto L3;}
 V=0;
-L4:if(*(T+V)>2){
-W=V+1;
-if(W==S){
-F=1;
-goto L1;}
-V=W;
+W=0;
+L3:X=U;
+L4:if(S-X>15){
+Y=cttz(v16_ult(v16_at(T+X),splat(3)),16);
+Z=X+Y;
+if(Y>=16){
+X=Z;
 goto L4;}
-U=V;
-L3:if(U>=S){
-F=1;
-goto L1;}
-X=U;
-Y=U;
-Z=0;
-L5:aa=*(T+X);
-if(aa>2){
-if(Z==0){
-*(T+Y)=aa;
-ba=0;
-ca=Y+1;}
+aa=Z;}
 else{
-ba=Z;
-ca=Y;}}
-else{
-switch(aa){
-case 2:ba=usub64(Z,1);
-ca=Y;
+if(X>=S){
+aa=X;
+goto L5;}
+ba=X;
+L6:if(*(T+ba)>2){
+ca=ba+1;
+if(ca!=S){
+ba=ca;
+goto L6;}
+aa=S;}
+else aa=ba;}
+L5:if(W==0){
+if(V<U){
+if(aa!=U){
+da=aa-U;
+ea=T+(i64)U;
+fa=T+(i64)V;
+ga=0;
+L7:*(fa+(i64)ga)=*(ea+(i64)ga);
+ha=ga+1;
+if(ha!=da){
+ga=ha;
+goto L7;}}}
+ia=V-U+aa;}
+else ia=V;
+if(aa!=S){
+switch(*(T+aa)){
+case 1:ja=W+1;
 break;
-case 1:ba=Z+1;
-ca=Y;
+case 2:ja=usub64(W,1);
 break;
 default:F=0;
 goto L1;
-}}
-da=X+1;
-if(da!=S){
-X=da;
-Y=ca;
-Z=ba;
-goto L5;}
-if(r8(a+8)>ca){
-w8(a+8,ca);
+}
+ka=aa+1;
+if(ka<S){
+U=ka;
+V=ia;
+W=ja;
+goto L3;}}
+if(r8(a+8)>ia){
+w8(a+8,ia);
 F=1;}
 else F=1;}}
 else{
 w8(a+200,r8(a+200)+1);
 switch(R){
-case 3:ea=Q&1;
-fa=r8(a+192);
-if(fa<c){
-ga=*(b+fa);
-if(ga==69){
-ha=r8(a+160);
-if(ha==0){
+case 3:la=Q&1;
+ma=r8(a+192);
+if(ma<c){
+na=*(b+ma);
+if(na==69){
+oa=r8(a+160);
+if(oa==0){
 F=0;
 goto L1;}
-ia=ha-1;
-w8(a+160,ia);
-ja=rp(a+152)+(ia<<5);
-if(*ja!=4){
+pa=oa-1;
+w8(a+160,pa);
+qa=rp(a+152)+(pa<<5);
+if(*qa!=4){
 F=0;
 goto L1;}
-ka=q8(ja+8);
-la=q8(ja+16);
-ma=ja[24];
-w8(a+192,fa+1);
-na=r8(a+8);
-if(r8(a+32)>na)oa=na;
+ra=q8(qa+8);
+sa=q8(qa+16);
+ta=qa[24];
+w8(a+192,ma+1);
+ua=r8(a+8);
+if(r8(a+32)>ua)va=ua;
 else{
-pa=make_ready_8e3(a,1,16);
-if(!(pa&1)){
+wa=make_ready_8e3(a,1,16);
+if(!(wa&1)){
 F=0;
 goto L1;}
-oa=r8(a+8);}
-*(rp(a)+oa)=2;
-qa=oa+1;
-w8(a+8,qa);
-if(r8(a+136)<=ka){
+va=r8(a+8);}
+*(rp(a)+va)=2;
+xa=va+1;
+w8(a+8,xa);
+if(r8(a+136)<=ra){
 F=0;
 goto L1;}
-ra=r8(a+96);
-if(ra>65534){
+ya=r8(a+96);
+if(ya>65534){
 F=0;
 goto L1;}
-sa=2-(ma&1);
-ta=a[80];
-if(r8(a+120)>ra)ua=ra;
+za=2-(ta&1);
+Aa=a[80];
+if(r8(a+120)>ya)Ba=ya;
 else{
-va=make_ready_b73(a+88);
-if(!(va&1)){
-F=0;
-goto L1;}
-ua=r8(a+96);}
-wa=rp(a+88)+ua*24;
-x8(wa,la);
-x8(wa+8,qa);
-wa[16]=sa;
-wa[17]=ta;
-z6(wa+18);
-w8(a+96,ua+1);
-w2(rp(a+128)+(i64)(ka<<1),(u16)ra+1);
-xa=sa;
-ya=la;
-goto L6;}
-za=ga;}
-else za=0;
-if(ea){
-switch(za){
-case 76:Aa=fa+1;
-if(!((fa!=18446744073709551615u)&(Aa<c))){
-F=0;
-goto L1;}
-if(*(b+Aa)!=95){
-F=0;
-goto L1;}
-w8(a+192,fa+2);
-Ba=r8(a+8);
-if(r8(a+32)-Ba<2){
-Ca=make_ready_8e3(a,2,128);
+Ca=make_ready_b73(a+88);
 if(!(Ca&1)){
 F=0;
 goto L1;}
-Da=r8(a+8);}
-else Da=Ba;
-*(rp(a)+Da)=39;
-*(rp(a)+(i64)Da+1)=95;
-w8(a+8,Da+2);
-Ea=0;
-Fa=0;
-Ga=0;
-Ha=3;
-goto L7;
-case 75:if(fa==18446744073709551615u){
+Ba=r8(a+96);}
+Da=rp(a+88)+Ba*24;
+x8(Da,sa);
+x8(Da+8,xa);
+Da[16]=za;
+Da[17]=Aa;
+z6(Da+18);
+w8(a+96,Ba+1);
+w2(rp(a+128)+(i64)(ra<<1),(u16)ya+1);
+Ea=za;
+Fa=sa;
+goto L8;}
+Ga=na;}
+else Ga=0;
+if(la){
+switch(Ga){
+case 76:Ha=ma+1;
+if(!((ma!=18446744073709551615u)&(Ha<c))){
 F=0;
 goto L1;}
-Ia=fa+1;
-Ja=r8(a+8);
-Ka=constant_at_b72(a,b,c,Ia);
-if(Ka.f0!=1){
+if(*(b+Ha)!=95){
 F=0;
 goto L1;}
-if(r8(a+136)<=Ia){
+w8(a+192,ma+2);
+Ia=r8(a+8);
+if(r8(a+32)-Ia<2){
+Ja=make_ready_8e3(a,2,128);
+if(!(Ja&1)){
 F=0;
 goto L1;}
-La=r8(a+96);
-if(La>65534){
+Ka=r8(a+8);}
+else Ka=Ia;
+*(rp(a)+Ka)=39;
+*(rp(a)+(i64)Ka+1)=95;
+w8(a+8,Ka+2);
+La=0;
+Ma=0;
+Na=0;
+Oa=3;
+goto L9;
+case 75:if(ma==18446744073709551615u){
 F=0;
 goto L1;}
-Ma=Ka.f1;
-Na=r8(a+8);
-Oa=a[80];
-if(r8(a+120)>La)Pa=La;
+Pa=ma+1;
+Qa=r8(a+8);
+Ra=constant_at_b72(a,b,c,Pa);
+if(Ra.f0!=1){
+F=0;
+goto L1;}
+if(r8(a+136)<=Pa){
+F=0;
+goto L1;}
+Sa=r8(a+96);
+if(Sa>65534){
+F=0;
+goto L1;}
+Ta=Ra.f1;
+Ua=r8(a+8);
+Va=a[80];
+if(r8(a+120)>Sa)Wa=Sa;
 else{
-Qa=make_ready_b73(a+88);
-if(!(Qa&1)){
+Xa=make_ready_b73(a+88);
+if(!(Xa&1)){
 F=0;
 goto L1;}
-Pa=r8(a+96);}
-Ra=rp(a+88)+Pa*24;
-x8(Ra,Ja);
-x8(Ra+8,Na);
-Ra[16]=4;
-Ra[17]=Oa;
-z6(Ra+18);
-w8(a+96,Pa+1);
-w2(rp(a+128)+(i64)(Ia<<1),(u16)La+1);
-w8(a+192,Ma);
-Ea=0;
-Fa=0;
-Ga=0;
-Ha=3;
-goto L7;
+Wa=r8(a+96);}
+Ya=rp(a+88)+Wa*24;
+x8(Ya,Qa);
+x8(Ya+8,Ua);
+Ya[16]=4;
+Ya[17]=Va;
+z6(Ya+18);
+w8(a+96,Wa+1);
+w2(rp(a+128)+(i64)(Pa<<1),(u16)Sa+1);
+w8(a+192,Ta);
+La=0;
+Ma=0;
+Na=0;
+Oa=3;
+goto L9;
 default:break;}}
 else{
-Sa=r8(a+8);
-if(r8(a+32)-Sa<2){
-Ta=make_ready_8e3(a,2,128);
-if(!(Ta&1)){
+Za=r8(a+8);
+if(r8(a+32)-Za<2){
+ab=make_ready_8e3(a,2,128);
+if(!(ab&1)){
 F=0;
 goto L1;}
-Ua=r8(a+8);}
-else Ua=Sa;
-*(rp(a)+Ua)=44;
-*(rp(a)+(i64)Ua+1)=32;
-Va=Ua+2;
-w8(a+8,Va);
-switch(za){
-case 76:Wa=r8(a+192);
-Xa=Wa+1;
-if(!((Wa!=18446744073709551615u)&(Xa<c))){
+bb=r8(a+8);}
+else bb=Za;
+*(rp(a)+bb)=44;
+*(rp(a)+(i64)bb+1)=32;
+cb=bb+2;
+w8(a+8,cb);
+switch(Ga){
+case 76:db=r8(a+192);
+eb=db+1;
+if(!((db!=18446744073709551615u)&(eb<c))){
 F=0;
 goto L1;}
-if(*(b+Xa)!=95){
+if(*(b+eb)!=95){
 F=0;
 goto L1;}
-w8(a+192,Wa+2);
-if(r8(a+32)-Va<2){
-Ya=make_ready_8e3(a,2,128);
-if(!(Ya&1)){
+w8(a+192,db+2);
+if(r8(a+32)-cb<2){
+fb=make_ready_8e3(a,2,128);
+if(!(fb&1)){
 F=0;
 goto L1;}
-Za=r8(a+8);}
-else Za=Va;
-*(rp(a)+Za)=39;
-*(rp(a)+(i64)Za+1)=95;
-w8(a+8,Za+2);
-Ea=0;
-Fa=0;
-Ga=0;
-Ha=3;
-goto L7;
-case 75:ab=r8(a+192);
-if(ab==18446744073709551615u){
+gb=r8(a+8);}
+else gb=cb;
+*(rp(a)+gb)=39;
+*(rp(a)+(i64)gb+1)=95;
+w8(a+8,gb+2);
+La=0;
+Ma=0;
+Na=0;
+Oa=3;
+goto L9;
+case 75:hb=r8(a+192);
+if(hb==18446744073709551615u){
 F=0;
 goto L1;}
-bb=ab+1;
-cb=constant_at_b72(a,b,c,bb);
-if(cb.f0!=1){
+ib=hb+1;
+jb=constant_at_b72(a,b,c,ib);
+if(jb.f0!=1){
 F=0;
 goto L1;}
-if(r8(a+136)<=bb){
+if(r8(a+136)<=ib){
 F=0;
 goto L1;}
-db=r8(a+96);
-if(db>65534){
+kb=r8(a+96);
+if(kb>65534){
 F=0;
 goto L1;}
-eb=cb.f1;
-fb=r8(a+8);
-gb=a[80];
-if(r8(a+120)>db)hb=db;
+lb=jb.f1;
+mb=r8(a+8);
+nb=a[80];
+if(r8(a+120)>kb)ob=kb;
 else{
-ib=make_ready_b73(a+88);
-if(!(ib&1)){
+pb=make_ready_b73(a+88);
+if(!(pb&1)){
 F=0;
 goto L1;}
-hb=r8(a+96);}
-jb=rp(a+88)+hb*24;
-x8(jb,Va);
-x8(jb+8,fb);
-jb[16]=4;
-jb[17]=gb;
-z6(jb+18);
-w8(a+96,hb+1);
-w2(rp(a+128)+(i64)(bb<<1),(u16)db+1);
-w8(a+192,eb);
-Ea=0;
-Fa=0;
-Ga=0;
-Ha=3;
-goto L7;
+ob=r8(a+96);}
+qb=rp(a+88)+ob*24;
+x8(qb,cb);
+x8(qb+8,mb);
+qb[16]=4;
+qb[17]=nb;
+z6(qb+18);
+w8(a+96,ob+1);
+w2(rp(a+128)+(i64)(ib<<1),(u16)kb+1);
+w8(a+192,lb);
+La=0;
+Ma=0;
+Na=0;
+Oa=3;
+goto L9;
 default:break;}}
 break;
 case 1:break;
-default:kb=P;
-lb=R;
-mb=Q;
-nb=O;
-goto L8;
+default:rb=P;
+sb=R;
+tb=Q;
+ub=O;
+goto L10;
 }
 z32(y);
-ob=r8(a+192);
-if(ob<c){
-switch(*(b+ob)){
-case 67:pb=r8(a+8);
-qb=ob+1;
-if(qb<c){
-if(*(b+qb)==115){
-rb=ob+2;
-if(c-rb>=12){
-sb=ob+13;
-tb=b+(i64)rb;
-ub=*tb;
-if(!((ub<58)|((u8)(ub-97)<11)))goto L9;
-vb=0;
-L10:if(*((u8*)t_9eba+*(tb+vb))==0){
-wb=vb+1;
-if(wb!=11){
-vb=wb;
-goto L10;}
-if(sb<c){
-if(*(b+sb)==95){
-xb=ob+14;
-goto L11;}}}}
-L9:yb=any_disambiguator_end_f9c(b,c,qb);
-if(yb.f0!=1)goto L12;
-xb=yb.f1;}
-else xb=qb;}
-else xb=qb;
-L11:if(xb<c){
-zb=*(b+xb);
-if((u8)(zb-58)>=247){
-Ab=xb+1;
-if(Ab<c){
-Bb=*(b+Ab)-48;
-if(Bb<10){
-Cb=xb+2;
-Db=(u64)Bb+(u8)((u8)(zb*10)+32);
-if(c-Cb<Db)goto L13;
-Eb=Db+Cb;
-Fb=b+(i64)Cb;
-Gb=*Fb;
-if((Gb==95)|((u8)(Gb-48)<10)){
+vb=r8(a+192);
+if(vb<c){
+switch(*(b+vb)){
+case 67:wb=r8(a+8);
+xb=vb+1;
+if(xb<c){
+if(*(b+xb)==115){
+yb=vb+2;
+if(c-yb>=12){
+zb=vb+13;
+Ab=b+(i64)yb;
+Bb=*Ab;
+if(!((Bb<58)|((u8)(Bb-97)<11)))goto L11;
+Cb=0;
+L12:if(*((u8*)t_9eba+*(Ab+Cb))==0){
+Db=Cb+1;
+if(Db!=11){
+Cb=Db;
+goto L12;}
+if(zb<c){
+if(*(b+zb)==95){
+Eb=vb+14;
+goto L13;}}}}
+L11:Fb=any_disambiguator_end_f9c(b,c,xb);
+if(Fb.f0!=1)goto L14;
+Eb=Fb.f1;}
+else Eb=xb;}
+else Eb=xb;
+L13:if(Eb<c){
+Gb=*(b+Eb);
+if((u8)(Gb-58)>=247){
+Hb=Eb+1;
+if(Hb<c){
+Ib=*(b+Hb)-48;
+if(Ib<10){
+Jb=Eb+2;
+Kb=(u64)Ib+(u8)((u8)(Gb*10)+32);
+if(c-Jb<Kb)goto L15;
+Lb=Kb+Jb;
+Mb=b+(i64)Jb;
+Nb=*Mb;
+if((Nb==95)|((u8)(Nb-48)<10)){
 z12(w);
-any_name_span_9bc(w,b,c,xb);
-Hb=q8(w+4);
-if(*w!=1)goto L13;
-Ib=Hb>>32;
-Jb=Hb&4294967295u;
-goto L14;}
-Kb=0;
-L15:Lb=Fb+Kb;
-if((u8)((u8)(*((u8*)t_4efc+Lb[1])+*((u8*)t_4efc+*Lb))+*((u8*)t_4efc+Lb[2]))==(u8)(0-*((u8*)t_4efc+Lb[3]))){
-Mb=Kb+4;
-if(Db-Mb>3){
-Kb=Mb;
-goto L15;}
-Nb=Mb;}
-else Nb=Kb;
-if(Nb>=Db){
-Ib=Eb;
-Jb=Cb;
-goto L14;}
-Ob=Nb;
-L16:if(*((u8*)t_4efc+*(Fb+Ob))!=0)goto L13;
-Pb=Ob+1;
-if(Pb<Db){
-Ob=Pb;
+any_name_span_9bc(w,b,c,Eb);
+Ob=q8(w+4);
+if(*w!=1)goto L15;
+Pb=Ob>>32;
+Qb=Ob&4294967295u;
 goto L16;}
-Ib=Eb;
-Jb=Cb;
-goto L14;}}
-Qb=zb-48;
-if(c-Ab<Qb)goto L13;
-Rb=b+(i64)Ab;
-Sb=*Rb;
-if((Sb==95)|((u8)(Sb-48)<10)){
-z12(v);
-any_name_span_9bc(v,b,c,xb);
-Tb=q8(v+4);
-if(*v!=1)goto L13;
-Ib=Tb>>32;
-Jb=Tb&4294967295u;
-goto L14;}
-Ub=Ab+Qb;
-if(zb<=51){
-Wb=0;
+Rb=0;
+L17:Sb=Mb+Rb;
+if((u8)((u8)(*((u8*)t_4efc+Sb[1])+*((u8*)t_4efc+*Sb))+*((u8*)t_4efc+Sb[2]))==(u8)(0-*((u8*)t_4efc+Sb[3]))){
+Tb=Rb+4;
+if(Kb-Tb>3){
+Rb=Tb;
 goto L17;}
-Vb=0;
-L18:Xb=Rb+Vb;
-if((u8)((u8)(*((u8*)t_4efc+Xb[1])+*((u8*)t_4efc+*Xb))+*((u8*)t_4efc+Xb[2]))==(u8)(0-*((u8*)t_4efc+Xb[3]))){
-Yb=Vb+4;
-if(Qb-Yb>3){
-Vb=Yb;
+Ub=Tb;}
+else Ub=Rb;
+if(Ub>=Kb){
+Pb=Lb;
+Qb=Jb;
+goto L16;}
+Vb=Ub;
+L18:if(*((u8*)t_4efc+*(Mb+Vb))!=0)goto L15;
+Wb=Vb+1;
+if(Wb<Kb){
+Vb=Wb;
 goto L18;}
-Wb=Yb;}
-else Wb=Vb;
-L17:if(Wb>=Qb){
-Ib=Ub;
-Jb=Ab;
-goto L14;}
-Zb=Wb;
-L19:if(*((u8*)t_4efc+*(Rb+Zb))!=0)goto L13;
-ac=Zb+1;
-if(ac!=Qb){
-Zb=ac;
+Pb=Lb;
+Qb=Jb;
+goto L16;}}
+Xb=Gb-48;
+if(c-Hb<Xb)goto L15;
+Yb=b+(i64)Hb;
+Zb=*Yb;
+if((Zb==95)|((u8)(Zb-48)<10)){
+z12(v);
+any_name_span_9bc(v,b,c,Eb);
+ac=q8(v+4);
+if(*v!=1)goto L15;
+Pb=ac>>32;
+Qb=ac&4294967295u;
+goto L16;}
+bc=Hb+Xb;
+if(Gb<=51){
+dc=0;
 goto L19;}
-Ib=Ub;
-Jb=Ab;
-goto L14;}}
-z12(x);
-any_name_span_9bc(x,b,c,xb);
-bc=q8(x+4);
-if(*x!=1)goto L13;
-Ib=bc>>32;
-Jb=bc&4294967295u;
-L14:if(Ib<=Jb)goto L13;
-cc=b+(i64)Jb;
-dc=Ib-Jb;
-if(r8(a+32)-pb<dc){
-ec=make_ready_8e3(a,dc,128);
-if(!(ec&1))goto L13;}
-fc=extend_from_slice_169(a,cc,dc);
-if(fc&1)goto L13;
-w8(a+192,Ib);
-if(r8(a+136)>ob){
-gc=r8(a+96);
-if(gc>65534){
-hc=0;
-ic=0;
-jc=0;}
-else{
-kc=r8(a+8);
-lc=a[80];
-if(r8(a+120)>gc)mc=gc;
-else{
-nc=make_ready_b73(a+88);
-if(!(nc&1)){
-hc=0;
-ic=0;
-jc=0;
+cc=0;
+L20:ec=Yb+cc;
+if((u8)((u8)(*((u8*)t_4efc+ec[1])+*((u8*)t_4efc+*ec))+*((u8*)t_4efc+ec[2]))==(u8)(0-*((u8*)t_4efc+ec[3]))){
+fc=cc+4;
+if(Xb-fc>3){
+cc=fc;
 goto L20;}
-mc=r8(a+96);}
-oc=rp(a+88)+mc*24;
-x8(oc,pb);
-x8(oc+8,kc);
-oc[16]=0;
-oc[17]=lc;
-z6(oc+18);
-w8(a+96,mc+1);
-w2(rp(a+128)+(i64)(ob<<1),(u16)gc+1);
-hc=1;
-ic=2;
-jc=pb;}}
+dc=fc;}
+else dc=cc;
+L19:if(dc>=Xb){
+Pb=bc;
+Qb=Hb;
+goto L16;}
+gc=dc;
+L21:if(*((u8*)t_4efc+*(Yb+gc))!=0)goto L15;
+hc=gc+1;
+if(hc!=Xb){
+gc=hc;
+goto L21;}
+Pb=bc;
+Qb=Hb;
+goto L16;}}
+z12(x);
+any_name_span_9bc(x,b,c,Eb);
+ic=q8(x+4);
+if(*x!=1)goto L15;
+Pb=ic>>32;
+Qb=ic&4294967295u;
+L16:if(Pb<=Qb)goto L15;
+jc=b+(i64)Qb;
+kc=Pb-Qb;
+if(r8(a+32)-wb<kc){
+lc=make_ready_8e3(a,kc,128);
+if(!(lc&1))goto L15;}
+mc=extend_from_slice_169(a,jc,kc);
+if(mc&1)goto L15;
+w8(a+192,Pb);
+if(r8(a+136)>vb){
+nc=r8(a+96);
+if(nc>65534){
+oc=0;
+pc=0;
+qc=0;}
 else{
-hc=0;
-ic=0;
-jc=0;}
-L20:w8(y,hc);
-y[8]=ic;
-y[9]=0;
-w8(y+16,jc);
-y[24]=0;
-goto L12;
-case 78:pc=ob+1;
-if(pc>=c)goto L21;
-qc=*(b+pc);
-if(qc<65)goto L21;
-if(!((qc<91)|((u8)(qc-97)<26)))goto L21;
-w8(a+192,ob+2);
-rc=r8(a+160);
-if(r8(a+184)>rc){
-sc=rc;
-tc=2;
-uc=qc;
+rc=r8(a+8);
+sc=a[80];
+if(r8(a+120)>nc)tc=nc;
+else{
+uc=make_ready_b73(a+88);
+if(!(uc&1)){
+oc=0;
+pc=0;
+qc=0;
 goto L22;}
-vc=make_ready_e3c(a+152);
-if(!(vc&1))goto L21;
-wc=2;
-xc=qc;
-goto L23;
-case 73:w8(a+192,ob+1);
+tc=r8(a+96);}
+vc=rp(a+88)+tc*24;
+x8(vc,wb);
+x8(vc+8,rc);
+vc[16]=0;
+vc[17]=sc;
+z6(vc+18);
+w8(a+96,tc+1);
+w2(rp(a+128)+(i64)(vb<<1),(u16)nc+1);
+oc=1;
+pc=2;
+qc=wb;}}
+else{
+oc=0;
+pc=0;
+qc=0;}
+L22:w8(y,oc);
+y[8]=pc;
+y[9]=0;
+w8(y+16,qc);
+y[24]=0;
+goto L14;
+case 78:wc=vb+1;
+if(wc>=c)goto L23;
+xc=*(b+wc);
+if(xc<65)goto L23;
+if(!((xc<91)|((u8)(xc-97)<26)))goto L23;
+w8(a+192,vb+2);
 yc=r8(a+160);
 if(r8(a+184)>yc){
-sc=yc;
-tc=3;
-uc=0;
-goto L22;}
-zc=make_ready_e3c(a+152);
-if(!(zc&1))goto L21;
-wc=3;
-xc=0;
-goto L23;
+zc=yc;
+Ac=2;
+Bc=xc;
+goto L24;}
+Cc=make_ready_e3c(a+152);
+if(!(Cc&1))goto L23;
+Dc=2;
+Ec=xc;
+goto L25;
+case 73:w8(a+192,vb+1);
+Fc=r8(a+160);
+if(r8(a+184)>Fc){
+zc=Fc;
+Ac=3;
+Bc=0;
+goto L24;}
+Gc=make_ready_e3c(a+152);
+if(!(Gc&1))goto L23;
+Dc=3;
+Ec=0;
+goto L25;
 case 77:begin_impl_c72(y,a,b,c);
-goto L12;
+goto L14;
 case 88:begin_trait_impl_220(y,a,b,c);
-goto L12;
+goto L14;
 case 89:begin_trait_f9f(y,a);
-goto L12;
-case 82:Ac=ob+1;
-if(Ac<c){
-if(*(b+Ac)==76){
-Bc=ob+2;
-if(Bc>=c){
-Dc=0;
-Ec=0;
-goto L24;}
-if(*(b+Bc)!=95){
-Dc=0;
-Ec=0;
-goto L24;}
-Cc=ob+3;}
-else Cc=Ac;}
-else Cc=Ac;
-Fc=r8(a+8);
-if(r8(a+32)==Fc){
-Gc=make_ready_8e3(a,1,128);
-if(!(Gc&1)){
-Dc=0;
-Ec=0;
-goto L24;}
-Hc=r8(a+8);}
-else Hc=Fc;
-Ic=r8(a+16);
-if(Ic==Hc){
-Jc=grow_amortized_2b6(a,1);
-if(!Jc){
-Dc=0;
-Ec=0;
-goto L24;}
-Kc=r8(a+16);
-Lc=r8(a+8);}
-else{
-Kc=Ic;
-Lc=Hc;}
-Mc=Lc+1;
-Nc=rp(a);
-z16(a+8);
-Oc=Nc+(i64)Lc;
-if((u64)Oc==(u64)(u8*)t_951d)copy_bits_4f4((u8*)t_951d,Oc,1);
-else *Oc=38;
-wp(a,Nc);
-w8(a+8,Mc);
-w8(a+16,Kc);
-Pc=r8(a+160);
-if(r8(a+184)>Pc)Qc=Pc;
-else{
-Rc=make_ready_e3c(a+152);
-if(!(Rc&1)){
-Dc=0;
-Ec=0;
-goto L24;}
-Qc=r8(a+160);}
-Sc=rp(a+152)+(Qc<<5);
-*Sc=9;
-Sc[1]=0;
-x8(Sc+8,ob);
-x8(Sc+16,Fc);
-Sc[24]=0;
-w8(a+160,Qc+1);
-w8(a+192,Cc);
-Dc=1;
-Ec=1;
-L24:w8(y,Dc);
-y[8]=Ec;
-y[9]=0;
-w8(y+16,0);
-y[24]=0;
-goto L12;
-case 81:Tc=ob+1;
-if(Tc<c){
-if(*(b+Tc)==76){
-Uc=ob+2;
-if(Uc>=c){
-Wc=0;
-Xc=0;
-goto L25;}
-if(*(b+Uc)!=95){
-Wc=0;
-Xc=0;
-goto L25;}
-Vc=ob+3;}
-else Vc=Tc;}
-else Vc=Tc;
-Yc=r8(a+8);
-if(r8(a+32)-Yc<5){
-Zc=make_ready_8e3(a,5,128);
-if(!(Zc&1)){
-Wc=0;
-Xc=0;
-goto L25;}
-ad=r8(a+8);}
-else ad=Yc;
-bd=r8(a+16);
-if(bd-ad<5){
-cd=grow_amortized_2b6(a,5);
-if(!cd){
-Wc=0;
-Xc=0;
-goto L25;}
-dd=r8(a+16);
-ed=r8(a+8);}
-else{
-dd=bd;
-ed=ad;}
-fd=ed+5;
-gd=rp(a);
-z16(a+8);
-hd=gd+(i64)ed;
-if((u64)hd-(u64)(u8*)t_d821<5)copy_bits_4f4((u8*)t_d821,hd,5);
-else memcpy(hd,(u8*)t_d821,5);
-wp(a,gd);
-w8(a+8,fd);
-w8(a+16,dd);
-id=r8(a+160);
-if(r8(a+184)>id)jd=id;
-else{
-kd=make_ready_e3c(a+152);
-if(!(kd&1)){
-Wc=0;
-Xc=0;
-goto L25;}
-jd=r8(a+160);}
-ld=rp(a+152)+(jd<<5);
-*ld=9;
-ld[1]=0;
-x8(ld+8,ob);
-x8(ld+16,Yc);
-ld[24]=0;
-w8(a+160,jd+1);
-w8(a+192,Vc);
-Wc=1;
-Xc=1;
-L25:w8(y,Wc);
-y[8]=Xc;
-y[9]=0;
-w8(y+16,0);
-y[24]=0;
-goto L12;
-case 80:md=ob+1;
-nd=r8(a+8);
-if(r8(a+32)-nd<7){
-od=make_ready_8e3(a,7,128);
-if(!(od&1)){
-qd=0;
-sd=0;
+goto L14;
+case 82:Hc=vb+1;
+if(Hc<c){
+if(*(b+Hc)==76){
+Ic=vb+2;
+if(Ic>=c){
+Kc=0;
+Lc=0;
 goto L26;}
-pd=r8(a+8);}
-else pd=nd;
-td=r8(a+16);
-if(td-pd<7){
-ud=grow_amortized_2b6(a,7);
-if(!ud){
-qd=0;
-sd=0;
+if(*(b+Ic)!=95){
+Kc=0;
+Lc=0;
 goto L26;}
-vd=r8(a+16);
-xd=r8(a+8);}
-else{
-vd=td;
-xd=pd;}
-yd=xd+7;
-zd=rp(a);
-z16(a+8);
-Ad=zd+(i64)xd;
-if((u64)Ad-(u64)(u8*)t_ff67<7)copy_bits_4f4((u8*)t_ff67,Ad,7);
-else memcpy(Ad,(u8*)t_ff67,7);
-wp(a,zd);
-w8(a+8,yd);
-w8(a+16,vd);
-Bd=r8(a+160);
-if(r8(a+184)>Bd)Cd=Bd;
-else{
-Dd=make_ready_e3c(a+152);
-if(!(Dd&1)){
-qd=0;
-sd=0;
+Jc=vb+3;}
+else Jc=Hc;}
+else Jc=Hc;
+Mc=r8(a+8);
+if(r8(a+32)==Mc){
+Nc=make_ready_8e3(a,1,128);
+if(!(Nc&1)){
+Kc=0;
+Lc=0;
 goto L26;}
-Cd=r8(a+160);}
-Ed=rp(a+152)+(Cd<<5);
-*Ed=9;
-Ed[1]=0;
-x8(Ed+8,ob);
-x8(Ed+16,nd);
-Ed[24]=0;
-w8(a+160,Cd+1);
-w8(a+192,md);
-qd=1;
-sd=1;
-L26:w8(y,qd);
-y[8]=sd;
-y[9]=0;
-w8(y+16,0);
-y[24]=0;
-goto L12;
-case 79:Fd=ob+1;
-Gd=r8(a+8);
-if(r8(a+32)-Gd<5){
-Hd=make_ready_8e3(a,5,128);
-if(!(Hd&1)){
-Jd=0;
-Kd=0;
-goto L27;}
-Id=r8(a+8);}
-else Id=Gd;
-Ld=r8(a+16);
-if(Ld-Id<5){
-Md=grow_amortized_2b6(a,5);
-if(!Md){
-Jd=0;
-Kd=0;
-goto L27;}
-Nd=r8(a+16);
-Od=r8(a+8);}
+Oc=r8(a+8);}
+else Oc=Mc;
+Pc=r8(a+16);
+if(Pc==Oc){
+Qc=grow_amortized_2b6(a,1);
+if(!Qc){
+Kc=0;
+Lc=0;
+goto L26;}
+Rc=r8(a+16);
+Sc=r8(a+8);}
 else{
-Nd=Ld;
-Od=Id;}
-Pd=Od+5;
-Qd=rp(a);
+Rc=Pc;
+Sc=Oc;}
+Tc=Sc+1;
+Uc=rp(a);
 z16(a+8);
-Rd=Qd+(i64)Od;
-if((u64)Rd-(u64)(u8*)t_b2e2<5)copy_bits_4f4((u8*)t_b2e2,Rd,5);
-else memcpy(Rd,(u8*)t_b2e2,5);
-wp(a,Qd);
-w8(a+8,Pd);
-w8(a+16,Nd);
-Sd=r8(a+160);
-if(r8(a+184)>Sd)Td=Sd;
+Vc=Uc+(i64)Sc;
+if((u64)Vc==(u64)(u8*)t_951d)copy_bits_4f4((u8*)t_951d,Vc,1);
+else *Vc=38;
+wp(a,Uc);
+w8(a+8,Tc);
+w8(a+16,Rc);
+Wc=r8(a+160);
+if(r8(a+184)>Wc)Xc=Wc;
 else{
-Ud=make_ready_e3c(a+152);
-if(!(Ud&1)){
-Jd=0;
-Kd=0;
+Yc=make_ready_e3c(a+152);
+if(!(Yc&1)){
+Kc=0;
+Lc=0;
+goto L26;}
+Xc=r8(a+160);}
+Zc=rp(a+152)+(Xc<<5);
+*Zc=9;
+Zc[1]=0;
+x8(Zc+8,vb);
+x8(Zc+16,Mc);
+Zc[24]=0;
+w8(a+160,Xc+1);
+w8(a+192,Jc);
+Kc=1;
+Lc=1;
+L26:w8(y,Kc);
+y[8]=Lc;
+y[9]=0;
+w8(y+16,0);
+y[24]=0;
+goto L14;
+case 81:ad=vb+1;
+if(ad<c){
+if(*(b+ad)==76){
+bd=vb+2;
+if(bd>=c){
+dd=0;
+ed=0;
 goto L27;}
-Td=r8(a+160);}
-Vd=rp(a+152)+(Td<<5);
-*Vd=9;
-Vd[1]=0;
-x8(Vd+8,ob);
-x8(Vd+16,Gd);
-Vd[24]=0;
-w8(a+160,Td+1);
-w8(a+192,Fd);
-Jd=1;
-Kd=1;
-L27:w8(y,Jd);
-y[8]=Kd;
-y[9]=0;
-w8(y+16,0);
-y[24]=0;
-goto L12;
-case 83:Wd=ob+1;
-Xd=r8(a+8);
-if(r8(a+32)==Xd){
-Yd=make_ready_8e3(a,1,128);
-if(!(Yd&1)){
-ae=0;
-be=0;
-goto L28;}
-Zd=r8(a+8);}
-else Zd=Xd;
-ce=r8(a+16);
-if(ce==Zd){
-de=grow_amortized_2b6(a,1);
-if(!de){
-ae=0;
-be=0;
-goto L28;}
-ee=r8(a+16);
-fe=r8(a+8);}
+if(*(b+bd)!=95){
+dd=0;
+ed=0;
+goto L27;}
+cd=vb+3;}
+else cd=ad;}
+else cd=ad;
+fd=r8(a+8);
+if(r8(a+32)-fd<5){
+gd=make_ready_8e3(a,5,128);
+if(!(gd&1)){
+dd=0;
+ed=0;
+goto L27;}
+hd=r8(a+8);}
+else hd=fd;
+id=r8(a+16);
+if(id-hd<5){
+jd=grow_amortized_2b6(a,5);
+if(!jd){
+dd=0;
+ed=0;
+goto L27;}
+kd=r8(a+16);
+ld=r8(a+8);}
 else{
-ee=ce;
-fe=Zd;}
-ge=fe+1;
-he=rp(a);
+kd=id;
+ld=hd;}
+md=ld+5;
+nd=rp(a);
 z16(a+8);
-ie=he+(i64)fe;
-if((u64)ie==(u64)(u8*)t_2458)copy_bits_4f4((u8*)t_2458,ie,1);
-else *ie=91;
-wp(a,he);
-w8(a+8,ge);
-w8(a+16,ee);
-je=r8(a+160);
-if(r8(a+184)>je)ke=je;
+od=nd+(i64)ld;
+if((u64)od-(u64)(u8*)t_d821<5)copy_bits_4f4((u8*)t_d821,od,5);
+else memcpy(od,(u8*)t_d821,5);
+wp(a,nd);
+w8(a+8,md);
+w8(a+16,kd);
+pd=r8(a+160);
+if(r8(a+184)>pd)qd=pd;
 else{
-le=make_ready_e3c(a+152);
-if(!(le&1)){
-ae=0;
-be=0;
+sd=make_ready_e3c(a+152);
+if(!(sd&1)){
+dd=0;
+ed=0;
+goto L27;}
+qd=r8(a+160);}
+td=rp(a+152)+(qd<<5);
+*td=9;
+td[1]=0;
+x8(td+8,vb);
+x8(td+16,fd);
+td[24]=0;
+w8(a+160,qd+1);
+w8(a+192,cd);
+dd=1;
+ed=1;
+L27:w8(y,dd);
+y[8]=ed;
+y[9]=0;
+w8(y+16,0);
+y[24]=0;
+goto L14;
+case 80:ud=vb+1;
+vd=r8(a+8);
+if(r8(a+32)-vd<7){
+xd=make_ready_8e3(a,7,128);
+if(!(xd&1)){
+zd=0;
+Ad=0;
 goto L28;}
-ke=r8(a+160);}
-me=rp(a+152)+(ke<<5);
-*me=9;
-me[1]=0;
-x8(me+8,ob);
-x8(me+16,Xd);
-me[24]=1;
-w8(a+160,ke+1);
-w8(a+192,Wd);
-ae=1;
-be=1;
-L28:w8(y,ae);
-y[8]=be;
-y[9]=0;
-w8(y+16,0);
-y[24]=0;
-goto L12;
-case 84:ne=r8(a+8);
-oe=ob+1;
-if(r8(a+32)==ne){
-pe=make_ready_8e3(a,1,128);
-if(!(pe&1)){
-re=0;
-se=0;
-goto L29;}
-qe=r8(a+8);}
-else qe=ne;
-te=r8(a+16);
-if(te==qe){
-ue=grow_amortized_2b6(a,1);
-if(!ue){
-re=0;
-se=0;
-goto L29;}
-ve=r8(a+16);
-we=r8(a+8);}
+yd=r8(a+8);}
+else yd=vd;
+Bd=r8(a+16);
+if(Bd-yd<7){
+Cd=grow_amortized_2b6(a,7);
+if(!Cd){
+zd=0;
+Ad=0;
+goto L28;}
+Dd=r8(a+16);
+Ed=r8(a+8);}
 else{
-ve=te;
-we=qe;}
-xe=we+1;
-ye=rp(a);
+Dd=Bd;
+Ed=yd;}
+Fd=Ed+7;
+Gd=rp(a);
 z16(a+8);
-ze=ye+(i64)we;
-if((u64)ze==(u64)(u8*)t_32eb)copy_bits_4f4((u8*)t_32eb,ze,1);
-else *ze=40;
-wp(a,ye);
-w8(a+8,xe);
-w8(a+16,ve);
-Ae=r8(a+160);
-if(r8(a+184)>Ae)Be=Ae;
+Hd=Gd+(i64)Ed;
+if((u64)Hd-(u64)(u8*)t_ff67<7)copy_bits_4f4((u8*)t_ff67,Hd,7);
+else memcpy(Hd,(u8*)t_ff67,7);
+wp(a,Gd);
+w8(a+8,Fd);
+w8(a+16,Dd);
+Id=r8(a+160);
+if(r8(a+184)>Id)Jd=Id;
 else{
-Ce=make_ready_e3c(a+152);
-if(!(Ce&1)){
-re=0;
-se=0;
-goto L29;}
-Be=r8(a+160);}
-De=rp(a+152)+(Be<<5);
-*De=12;
-De[1]=0;
-x8(De+8,ob);
-x8(De+16,ne);
-De[24]=1;
-w8(a+160,Be+1);
-w8(a+192,oe);
-re=1;
-se=1;
-L29:w8(y,re);
-y[8]=se;
+Kd=make_ready_e3c(a+152);
+if(!(Kd&1)){
+zd=0;
+Ad=0;
+goto L28;}
+Jd=r8(a+160);}
+Ld=rp(a+152)+(Jd<<5);
+*Ld=9;
+Ld[1]=0;
+x8(Ld+8,vb);
+x8(Ld+16,vd);
+Ld[24]=0;
+w8(a+160,Jd+1);
+w8(a+192,ud);
+zd=1;
+Ad=1;
+L28:w8(y,zd);
+y[8]=Ad;
 y[9]=0;
 w8(y+16,0);
 y[24]=0;
-goto L12;
-case 66:Ee=r8(a+8);
-Fe=ob+1;
-Ge=umin64(c-Fe,11)+Fe;
-if(Fe>=Ge){
-Ie=Fe;
+goto L14;
+case 79:Md=vb+1;
+Nd=r8(a+8);
+if(r8(a+32)-Nd<5){
+Od=make_ready_8e3(a,5,128);
+if(!(Od&1)){
+Qd=0;
+Rd=0;
+goto L29;}
+Pd=r8(a+8);}
+else Pd=Nd;
+Sd=r8(a+16);
+if(Sd-Pd<5){
+Td=grow_amortized_2b6(a,5);
+if(!Td){
+Qd=0;
+Rd=0;
+goto L29;}
+Ud=r8(a+16);
+Vd=r8(a+8);}
+else{
+Ud=Sd;
+Vd=Pd;}
+Wd=Vd+5;
+Xd=rp(a);
+z16(a+8);
+Yd=Xd+(i64)Vd;
+if((u64)Yd-(u64)(u8*)t_b2e2<5)copy_bits_4f4((u8*)t_b2e2,Yd,5);
+else memcpy(Yd,(u8*)t_b2e2,5);
+wp(a,Xd);
+w8(a+8,Wd);
+w8(a+16,Ud);
+Zd=r8(a+160);
+if(r8(a+184)>Zd)ae=Zd;
+else{
+be=make_ready_e3c(a+152);
+if(!(be&1)){
+Qd=0;
+Rd=0;
+goto L29;}
+ae=r8(a+160);}
+ce=rp(a+152)+(ae<<5);
+*ce=9;
+ce[1]=0;
+x8(ce+8,vb);
+x8(ce+16,Nd);
+ce[24]=0;
+w8(a+160,ae+1);
+w8(a+192,Md);
+Qd=1;
+Rd=1;
+L29:w8(y,Qd);
+y[8]=Rd;
+y[9]=0;
+w8(y+16,0);
+y[24]=0;
+goto L14;
+case 83:de=vb+1;
+ee=r8(a+8);
+if(r8(a+32)==ee){
+fe=make_ready_8e3(a,1,128);
+if(!(fe&1)){
+he=0;
+ie=0;
 goto L30;}
-He=Fe;
-L31:if(*((u8*)t_84dd+*(b+He))<62){
-Je=He+1;
-if(Je!=Ge){
-He=Je;
+ge=r8(a+8);}
+else ge=ee;
+je=r8(a+16);
+if(je==ge){
+ke=grow_amortized_2b6(a,1);
+if(!ke){
+he=0;
+ie=0;
+goto L30;}
+le=r8(a+16);
+me=r8(a+8);}
+else{
+le=je;
+me=ge;}
+ne=me+1;
+oe=rp(a);
+z16(a+8);
+pe=oe+(i64)me;
+if((u64)pe==(u64)(u8*)t_2458)copy_bits_4f4((u8*)t_2458,pe,1);
+else *pe=91;
+wp(a,oe);
+w8(a+8,ne);
+w8(a+16,le);
+qe=r8(a+160);
+if(r8(a+184)>qe)re=qe;
+else{
+se=make_ready_e3c(a+152);
+if(!(se&1)){
+he=0;
+ie=0;
+goto L30;}
+re=r8(a+160);}
+te=rp(a+152)+(re<<5);
+*te=9;
+te[1]=0;
+x8(te+8,vb);
+x8(te+16,ee);
+te[24]=1;
+w8(a+160,re+1);
+w8(a+192,de);
+he=1;
+ie=1;
+L30:w8(y,he);
+y[8]=ie;
+y[9]=0;
+w8(y+16,0);
+y[24]=0;
+goto L14;
+case 84:ue=r8(a+8);
+ve=vb+1;
+if(r8(a+32)==ue){
+we=make_ready_8e3(a,1,128);
+if(!(we&1)){
+ye=0;
+ze=0;
 goto L31;}
-Ie=Ge;}
-else Ie=He;
-L30:if(Ie==c){
-Ke=0;
-Le=0;
-Me=0;
-Ne=0;}
+xe=r8(a+8);}
+else xe=ue;
+Ae=r8(a+16);
+if(Ae==xe){
+Be=grow_amortized_2b6(a,1);
+if(!Be){
+ye=0;
+ze=0;
+goto L31;}
+Ce=r8(a+16);
+De=r8(a+8);}
 else{
-if(*(b+Ie)==95){
-Oe=Fe&4294967295u;
-Pe=Ie&4294967295u;
-Qe=Pe+1;
-if(Pe==Oe)Re=2;
+Ce=Ae;
+De=xe;}
+Ee=De+1;
+Fe=rp(a);
+z16(a+8);
+Ge=Fe+(i64)De;
+if((u64)Ge==(u64)(u8*)t_32eb)copy_bits_4f4((u8*)t_32eb,Ge,1);
+else *Ge=40;
+wp(a,Fe);
+w8(a+8,Ee);
+w8(a+16,Ce);
+He=r8(a+160);
+if(r8(a+184)>He)Ie=He;
 else{
-Se=b+(i64)Oe;
-Te=Pe-Oe;
-if(Te>10){
+Je=make_ready_e3c(a+152);
+if(!(Je&1)){
+ye=0;
+ze=0;
+goto L31;}
+Ie=r8(a+160);}
+Ke=rp(a+152)+(Ie<<5);
+*Ke=12;
+Ke[1]=0;
+x8(Ke+8,vb);
+x8(Ke+16,ue);
+Ke[24]=1;
+w8(a+160,Ie+1);
+w8(a+192,ve);
+ye=1;
+ze=1;
+L31:w8(y,ye);
+y[8]=ze;
+y[9]=0;
+w8(y+16,0);
+y[24]=0;
+goto L14;
+case 66:Le=r8(a+8);
+Me=vb+1;
+Ne=umin64(c-Me,11)+Me;
+if(Me>=Ne){
+Pe=Me;
+goto L32;}
+Oe=Me;
+L33:if(*((u8*)t_84dd+*(b+Oe))<62){
+Qe=Oe+1;
+if(Qe!=Ne){
+Oe=Qe;
+goto L33;}
+Pe=Ne;}
+else Pe=Oe;
+L32:if(Pe==c){
+Re=0;
+Se=0;
+Te=0;
+Ue=0;}
+else{
+if(*(b+Pe)==95){
+Ve=Me&4294967295u;
+We=Pe&4294967295u;
+Xe=We+1;
+if(We==Ve)Ye=2;
+else{
+Ze=b+(i64)Ve;
+af=We-Ve;
+if(af>10){
+bf=0;
+cf=0;
+goto L34;}
+df=0;
+ef=0;
+L35:ff=*((u8*)t_84dd+*(Ze+(i64)ef));
+if(ff>=62){
+Re=0;
+Se=0;
+Te=0;
 Ue=0;
-Ve=0;
-goto L32;}
-We=0;
-Xe=0;
-L33:Ye=*((u8*)t_84dd+*(Se+(i64)Xe));
-if(Ye>=62){
-Ke=0;
-Le=0;
-Me=0;
-Ne=0;
+goto L36;}
+gf=df*62+ff;
+hf=ef+1;
+if(hf==af){
+jf=gf;
+goto L37;}
+df=gf;
+ef=hf;
+goto L35;
+L34:kf=*((u8*)t_84dd+*(Ze+(i64)cf));
+if(!((bf<0x421084210842109u)&(kf<62))){
+Re=0;
+Se=0;
+Te=0;
+Ue=0;
+goto L36;}
+lf=bf*62;
+if(lf>(kf^18446744073709551615u)){
+Re=0;
+Se=0;
+Te=0;
+Ue=0;
+goto L36;}
+mf=lf+kf;
+nf=cf+1;
+if(nf!=af){
+bf=mf;
+cf=nf;
 goto L34;}
-Ze=We*62+Ye;
-af=Xe+1;
-if(af==Te){
-bf=Ze;
-goto L35;}
-We=Ze;
-Xe=af;
-goto L33;
-L32:cf=*((u8*)t_84dd+*(Se+(i64)Ve));
-if(!((Ue<0x421084210842109u)&(cf<62))){
-Ke=0;
-Le=0;
-Me=0;
-Ne=0;
-goto L34;}
-df=Ue*62;
-if(df>(cf^18446744073709551615u)){
-Ke=0;
-Le=0;
-Me=0;
-Ne=0;
-goto L34;}
-ef=df+cf;
-ff=Ve+1;
-if(ff!=Te){
-Ue=ef;
-Ve=ff;
-goto L32;}
-bf=ef;
-L35:if(bf>0xfffffffffffffffcu){
-Ke=0;
-Le=0;
-Me=0;
-Ne=0;
-goto L34;}
-Re=bf+3;}
-if(Re<r8(a+136)){
-gf=r2(rp(a+128)+(i64)(Re<<1));
-if(gf==0){
-Ke=0;
-Le=0;
-Me=0;
-Ne=0;}
+jf=mf;
+L37:if(jf>0xfffffffffffffffcu){
+Re=0;
+Se=0;
+Te=0;
+Ue=0;
+goto L36;}
+Ye=jf+3;}
+if(Ye<r8(a+136)){
+of=r2(rp(a+128)+(i64)(Ye<<1));
+if(of==0){
+Re=0;
+Se=0;
+Te=0;
+Ue=0;}
 else{
-hf=(u64)gf-1;
-if(hf<r8(a+96)){
-jf=rp(a+88)+(i64)(hf*24);
-kf=jf[16];
-switch(kf){
-case 0:case 2:case 3:memcpy(u,jf,16);
-u[16]=kf;
-memcpy(u+17,jf+17,7);
-lf=repeat_2ff(a,u);
-if(lf&1){
-w8(a+192,Qe);
-if(r8(a+136)>ob){
-mf=r8(a+96);
-if(mf>65534){
-Ke=0;
-Le=0;
-Me=0;
-Ne=0;}
+pf=(u64)of-1;
+if(pf<r8(a+96)){
+qf=rp(a+88)+(i64)(pf*24);
+rf=qf[16];
+switch(rf){
+case 0:case 2:case 3:memcpy(u,qf,16);
+u[16]=rf;
+memcpy(u+17,qf+17,7);
+sf=repeat_2ff(a,u);
+if(sf&1){
+w8(a+192,Xe);
+if(r8(a+136)>vb){
+tf=r8(a+96);
+if(tf>65534){
+Re=0;
+Se=0;
+Te=0;
+Ue=0;}
 else{
-nf=r8(a+8);
-of=a[80];
-if(r8(a+120)>mf)pf=mf;
+uf=r8(a+8);
+vf=a[80];
+if(r8(a+120)>tf)wf=tf;
 else{
-qf=make_ready_b73(a+88);
-if(!(qf&1)){
-Ke=0;
-Le=0;
-Me=0;
-Ne=0;
+xf=make_ready_b73(a+88);
+if(!(xf&1)){
+Re=0;
+Se=0;
+Te=0;
+Ue=0;
 break;}
-pf=r8(a+96);}
-rf=rp(a+88)+pf*24;
-x8(rf,Ee);
-x8(rf+8,nf);
-rf[16]=kf;
-rf[17]=of;
-z6(rf+18);
-w8(a+96,pf+1);
-w2(rp(a+128)+(i64)(ob<<1),(u16)mf+1);
-Ke=1;
-Le=2;
-Me=Ee;
-Ne=3;}}
+wf=r8(a+96);}
+yf=rp(a+88)+wf*24;
+x8(yf,Le);
+x8(yf+8,uf);
+yf[16]=rf;
+yf[17]=vf;
+z6(yf+18);
+w8(a+96,wf+1);
+w2(rp(a+128)+(i64)(vb<<1),(u16)tf+1);
+Re=1;
+Se=2;
+Te=Le;
+Ue=3;}}
 else{
-Ke=0;
-Le=0;
-Me=0;
-Ne=0;}}
+Re=0;
+Se=0;
+Te=0;
+Ue=0;}}
 else{
-Ke=0;
-Le=0;
-Me=0;
-Ne=0;}
+Re=0;
+Se=0;
+Te=0;
+Ue=0;}
 break;
-case 1:case 4:Ke=0;
-Le=0;
-Me=0;
-Ne=0;
+case 1:case 4:Re=0;
+Se=0;
+Te=0;
+Ue=0;
 break;
 default:NEVER;
 }}
 else{
-Ke=0;
-Le=0;
-Me=0;
-Ne=0;}}}
+Re=0;
+Se=0;
+Te=0;
+Ue=0;}}}
 else{
-Ke=0;
-Le=0;
-Me=0;
-Ne=0;}}
+Re=0;
+Se=0;
+Te=0;
+Ue=0;}}
 else{
-Ke=0;
-Le=0;
-Me=0;
-Ne=0;}}
-L34:w8(y,Ke);
-y[8]=Le;
+Re=0;
+Se=0;
+Te=0;
+Ue=0;}}
+L36:w8(y,Re);
+y[8]=Se;
 y[9]=0;
-w8(y+16,Me);
-y[24]=Ne;
-goto L12;
-case 65:sf=r8(a+8);
-w8(a+192,ob+1);
-if(r8(a+32)>sf)tf=sf;
+w8(y+16,Te);
+y[24]=Ue;
+goto L14;
+case 65:zf=r8(a+8);
+w8(a+192,vb+1);
+if(r8(a+32)>zf)Af=zf;
 else{
-uf=make_ready_8e3(a,1,16);
-if(!(uf&1)){
-vf=0;
-wf=0;
-goto L36;}
-tf=r8(a+8);}
-*(rp(a)+tf)=91;
-w8(a+8,tf+1);
-xf=r8(a+160);
-if(r8(a+184)>xf)yf=xf;
+Bf=make_ready_8e3(a,1,16);
+if(!(Bf&1)){
+Cf=0;
+Df=0;
+goto L38;}
+Af=r8(a+8);}
+*(rp(a)+Af)=91;
+w8(a+8,Af+1);
+Ef=r8(a+160);
+if(r8(a+184)>Ef)Ff=Ef;
 else{
-zf=make_ready_e3c(a+152);
-if(!(zf&1)){
-vf=0;
-wf=0;
-goto L36;}
-yf=r8(a+160);}
-Af=rp(a+152)+(yf<<5);
-*Af=14;
-Af[1]=0;
-x8(Af+8,ob);
-x8(Af+16,sf);
-Af[24]=0;
-w8(a+160,yf+1);
-vf=1;
-wf=1;
-L36:w8(y,vf);
-y[8]=wf;
+Gf=make_ready_e3c(a+152);
+if(!(Gf&1)){
+Cf=0;
+Df=0;
+goto L38;}
+Ff=r8(a+160);}
+Hf=rp(a+152)+(Ff<<5);
+*Hf=14;
+Hf[1]=0;
+x8(Hf+8,vb);
+x8(Hf+16,zf);
+Hf[24]=0;
+w8(a+160,Ff+1);
+Cf=1;
+Df=1;
+L38:w8(y,Cf);
+y[8]=Df;
 y[9]=0;
 w8(y+16,0);
 y[24]=0;
-goto L12;
-case 68:Bf=r8(a+8);
-Cf=ob+1;
-if(r8(a+32)-Bf<4){
-Df=make_ready_8e3(a,4,128);
-if(!(Df&1)){
-Ff=0;
-goto L37;}
-Ef=r8(a+8);}
-else Ef=Bf;
-Gf=r8(a+16);
-if(Gf-Ef<4){
-Hf=grow_amortized_2b6(a,4);
-if(!Hf){
-Ff=0;
-goto L37;}
-If=r8(a+16);
-Jf=r8(a+8);}
+goto L14;
+case 68:If=r8(a+8);
+Jf=vb+1;
+if(r8(a+32)-If<4){
+Kf=make_ready_8e3(a,4,128);
+if(!(Kf&1)){
+Mf=0;
+goto L39;}
+Lf=r8(a+8);}
+else Lf=If;
+Nf=r8(a+16);
+if(Nf-Lf<4){
+Of=grow_amortized_2b6(a,4);
+if(!Of){
+Mf=0;
+goto L39;}
+Pf=r8(a+16);
+Qf=r8(a+8);}
 else{
-If=Gf;
-Jf=Ef;}
-Kf=Jf+4;
-Lf=rp(a);
+Pf=Nf;
+Qf=Lf;}
+Rf=Qf+4;
+Sf=rp(a);
 z16(a+8);
-Mf=Lf+(i64)Jf;
-if((u64)Mf-(u64)(u8*)t_f616<4)copy_bits_4f4((u8*)t_f616,Mf,4);
-else x4(Mf,544110948);
-wp(a,Lf);
-w8(a+8,Kf);
-w8(a+16,If);
-Nf=r8(a+160);
-if(r8(a+184)>Nf)Of=Nf;
+Tf=Sf+(i64)Qf;
+if((u64)Tf-(u64)(u8*)t_f616<4)copy_bits_4f4((u8*)t_f616,Tf,4);
+else x4(Tf,544110948);
+wp(a,Sf);
+w8(a+8,Rf);
+w8(a+16,Pf);
+Uf=r8(a+160);
+if(r8(a+184)>Uf)Vf=Uf;
 else{
-Pf=make_ready_e3c(a+152);
-if(!(Pf&1)){
-Ff=0;
-goto L37;}
-Of=r8(a+160);}
-Qf=rp(a+152)+(Of<<5);
-*Qf=13;
-Qf[1]=0;
-x8(Qf+8,ob);
-x8(Qf+16,Bf);
-Qf[24]=0;
-w8(a+160,Of+1);
-w8(a+192,Cf);
-Ff=1;
-L37:w8(y,Ff);
+Wf=make_ready_e3c(a+152);
+if(!(Wf&1)){
+Mf=0;
+goto L39;}
+Vf=r8(a+160);}
+Xf=rp(a+152)+(Vf<<5);
+*Xf=13;
+Xf[1]=0;
+x8(Xf+8,vb);
+x8(Xf+16,If);
+Xf[24]=0;
+w8(a+160,Vf+1);
+w8(a+192,Jf);
+Mf=1;
+L39:w8(y,Mf);
 y[8]=0;
 y[9]=0;
 w8(y+16,0);
 y[24]=0;
-goto L12;
-case 97:Rf=2;
-Sf=(u8*)t_4c1d;
+goto L14;
+case 97:Yf=2;
+Zf=(u8*)t_4c1d;
 break;
-case 98:Rf=4;
-Sf=(u8*)t_b760;
+case 98:Yf=4;
+Zf=(u8*)t_b760;
 break;
-case 99:Rf=4;
-Sf=(u8*)t_411b;
+case 99:Yf=4;
+Zf=(u8*)t_411b;
 break;
-case 100:Rf=3;
-Sf=(u8*)t_6a3e;
+case 100:Yf=3;
+Zf=(u8*)t_6a3e;
 break;
-case 101:Rf=3;
-Sf=(u8*)t_8c25;
+case 101:Yf=3;
+Zf=(u8*)t_8c25;
 break;
-case 102:Rf=3;
-Sf=(u8*)t_16b5;
+case 102:Yf=3;
+Zf=(u8*)t_16b5;
 break;
-case 104:Rf=2;
-Sf=(u8*)t_c899;
+case 104:Yf=2;
+Zf=(u8*)t_c899;
 break;
-case 105:Rf=5;
-Sf=(u8*)t_db3b;
+case 105:Yf=5;
+Zf=(u8*)t_db3b;
 break;
-case 106:Rf=5;
-Sf=(u8*)t_f417;
+case 106:Yf=5;
+Zf=(u8*)t_f417;
 break;
-case 108:Rf=3;
-Sf=(u8*)t_579a;
+case 108:Yf=3;
+Zf=(u8*)t_579a;
 break;
-case 109:Rf=3;
-Sf=(u8*)t_d764;
+case 109:Yf=3;
+Zf=(u8*)t_d764;
 break;
-case 110:Rf=4;
-Sf=(u8*)t_9cf5;
+case 110:Yf=4;
+Zf=(u8*)t_9cf5;
 break;
-case 111:Rf=4;
-Sf=(u8*)t_fcd0;
+case 111:Yf=4;
+Zf=(u8*)t_fcd0;
 break;
-case 112:Rf=1;
-Sf=(u8*)t_d2e2;
+case 112:Yf=1;
+Zf=(u8*)t_d2e2;
 break;
-case 115:Rf=3;
-Sf=(u8*)t_7daa;
+case 115:Yf=3;
+Zf=(u8*)t_7daa;
 break;
-case 116:Rf=3;
-Sf=(u8*)t_2988;
+case 116:Yf=3;
+Zf=(u8*)t_2988;
 break;
-case 117:Rf=2;
-Sf=(u8*)t_2e38;
+case 117:Yf=2;
+Zf=(u8*)t_2e38;
 break;
-case 118:Rf=3;
-Sf=(u8*)t_ab5d;
+case 118:Yf=3;
+Zf=(u8*)t_ab5d;
 break;
-case 120:Rf=3;
-Sf=(u8*)t_1a91;
+case 120:Yf=3;
+Zf=(u8*)t_1a91;
 break;
-case 121:Rf=3;
-Sf=(u8*)t_1506;
+case 121:Yf=3;
+Zf=(u8*)t_1506;
 break;
-case 122:Rf=1;
-Sf=(u8*)t_bb72;
+case 122:Yf=1;
+Zf=(u8*)t_bb72;
 break;
-default:goto L12;
+default:goto L14;
 }
-Tf=r8(a+8);
-w8(a+192,ob+1);
-if(r8(a+32)-Tf<Rf){
-Uf=make_ready_8e3(a,Rf,128);
-if(!(Uf&1))goto L13;
-Vf=r8(a+8);}
-else Vf=Tf;
-Wf=r8(a+16);
-if(Rf>Wf-Vf){
-Xf=grow_amortized_2b6(a,Rf);
-if(!Xf)goto L13;
-Yf=r8(a+16);
-Zf=r8(a+8);}
+ag=r8(a+8);
+w8(a+192,vb+1);
+if(r8(a+32)-ag<Yf){
+bg=make_ready_8e3(a,Yf,128);
+if(!(bg&1))goto L15;
+cg=r8(a+8);}
+else cg=ag;
+dg=r8(a+16);
+if(Yf>dg-cg){
+eg=grow_amortized_2b6(a,Yf);
+if(!eg)goto L15;
+fg=r8(a+16);
+gg=r8(a+8);}
 else{
-Yf=Wf;
-Zf=Vf;}
-ag=Zf+Rf;
-bg=rp(a);
+fg=dg;
+gg=cg;}
+hg=gg+Yf;
+ig=rp(a);
 z16(a+8);
-cg=bg+(i64)Zf;
-if((u64)cg-(u64)Sf<Rf)copy_bits_4f4(Sf,cg,Rf);
-else memmove(cg,Sf,Rf);
-wp(a,bg);
-w8(a+8,ag);
-w8(a+16,Yf);
-if(r8(a+136)>ob){
-dg=r8(a+96);
-if(dg>65534){
-eg=0;
-fg=0;
-gg=0;
-hg=0;}
-else{
-ig=a[80];
-if(r8(a+120)>dg)jg=dg;
-else{
-kg=make_ready_b73(a+88);
-if(!(kg&1)){
-eg=0;
-fg=0;
-gg=0;
-hg=0;
-goto L38;}
-jg=r8(a+96);}
-lg=rp(a+88)+jg*24;
-x8(lg,Tf);
-x8(lg+8,ag);
-lg[16]=3;
-lg[17]=ig;
-z6(lg+18);
-w8(a+96,jg+1);
-w2(rp(a+128)+(i64)(ob<<1),(u16)dg+1);
-eg=1;
-fg=2;
-gg=Tf;
-hg=3;}}
-else{
-eg=0;
-fg=0;
-gg=0;
-hg=0;}
-L38:w8(y,eg);
-y[8]=fg;
-y[9]=0;
-w8(y+16,gg);
-y[24]=hg;
-goto L12;
-L23:sc=r8(a+160);
-tc=wc;
-uc=xc;
-L22:mg=rp(a+152)+(sc<<5);
-*mg=tc;
-mg[1]=uc;
-x8(mg+8,ob);
-x8(mg+16,0);
-mg[24]=0;
-w8(a+160,sc+1);
+jg=ig+(i64)gg;
+if((u64)jg-(u64)Zf<Yf)copy_bits_4f4(Zf,jg,Yf);
+else memmove(jg,Zf,Yf);
+wp(a,ig);
+w8(a+8,hg);
+w8(a+16,fg);
+if(r8(a+136)>vb){
+kg=r8(a+96);
+if(kg>65534){
+lg=0;
+mg=0;
 ng=0;
-goto L39;
-L21:F=0;
+og=0;}
+else{
+pg=a[80];
+if(r8(a+120)>kg)qg=kg;
+else{
+rg=make_ready_b73(a+88);
+if(!(rg&1)){
+lg=0;
+mg=0;
+ng=0;
+og=0;
+goto L40;}
+qg=r8(a+96);}
+sg=rp(a+88)+qg*24;
+x8(sg,ag);
+x8(sg+8,hg);
+sg[16]=3;
+sg[17]=pg;
+z6(sg+18);
+w8(a+96,qg+1);
+w2(rp(a+128)+(i64)(vb<<1),(u16)kg+1);
+lg=1;
+mg=2;
+ng=ag;
+og=3;}}
+else{
+lg=0;
+mg=0;
+ng=0;
+og=0;}
+L40:w8(y,lg);
+y[8]=mg;
+y[9]=0;
+w8(y+16,ng);
+y[24]=og;
+goto L14;
+L25:zc=r8(a+160);
+Ac=Dc;
+Bc=Ec;
+L24:tg=rp(a+152)+(zc<<5);
+*tg=Ac;
+tg[1]=Bc;
+x8(tg+8,vb);
+x8(tg+16,0);
+tg[24]=0;
+w8(a+160,zc+1);
+ug=0;
+goto L41;
+L23:F=0;
 goto L1;
-L12:if(*y!=1){
+L14:if(*y!=1){
 F=0;
 goto L1;}
-kb=r8(y+16);
-lb=y[8];
-mb=y[9];
-nb=y[24];
-goto L8;}
-L13:F=0;
+rb=r8(y+16);
+sb=y[8];
+tb=y[9];
+ub=y[24];
+goto L10;}
+L15:F=0;
 goto L1;
-L8:if(lb!=0){
-og=kb;
-pg=lb;
-qg=mb;
-rg=nb;
-goto L40;}
-ng=mb;
-L39:z32(t);
-sg=r8(a+192);
-if(sg<c){
-tg=ng&1;
-ug=sg;
-L41:switch(*(b+ug)){
-case 78:vg=ug+1;
-if(vg>=c)goto L42;
-wg=*(b+vg);
-if(wg<65)goto L42;
-if(!((wg<91)|((u8)(wg-97)<26)))goto L42;
-w8(a+192,ug+2);
-xg=r8(a+160);
-if(r8(a+184)>xg){
-yg=xg;
-zg=2;
-Ag=wg;
-goto L43;}
-Bg=make_ready_e3c(a+152);
-if(!(Bg&1))goto L42;
-Cg=2;
-Dg=wg;
-break;
-case 73:w8(a+192,ug+1);
+L10:if(sb!=0){
+vg=rb;
+wg=sb;
+xg=tb;
+yg=ub;
+goto L42;}
+ug=tb;
+L41:z32(t);
+zg=r8(a+192);
+if(zg<c){
+Ag=ug&1;
+Bg=zg;
+L43:switch(*(b+Bg)){
+case 78:Cg=Bg+1;
+if(Cg>=c)goto L44;
+Dg=*(b+Cg);
+if(Dg<65)goto L44;
+if(!((Dg<91)|((u8)(Dg-97)<26)))goto L44;
+w8(a+192,Bg+2);
 Eg=r8(a+160);
 if(r8(a+184)>Eg){
-yg=Eg;
-zg=3;
-Ag=tg;
-goto L43;}
-Fg=make_ready_e3c(a+152);
-if(!(Fg&1))goto L42;
-Cg=3;
-Dg=tg;
+Fg=Eg;
+Gg=2;
+Hg=Dg;
+goto L45;}
+Ig=make_ready_e3c(a+152);
+if(!(Ig&1))goto L44;
+Jg=2;
+Kg=Dg;
 break;
-default:Gg=ug;
-goto L44;
+case 73:w8(a+192,Bg+1);
+Lg=r8(a+160);
+if(r8(a+184)>Lg){
+Fg=Lg;
+Gg=3;
+Hg=Ag;
+goto L45;}
+Mg=make_ready_e3c(a+152);
+if(!(Mg&1))goto L44;
+Jg=3;
+Kg=Ag;
+break;
+default:Ng=Bg;
+goto L46;
 }
-yg=r8(a+160);
-zg=Cg;
-Ag=Dg;
-L43:Hg=rp(a+152)+(yg<<5);
-*Hg=zg;
-Hg[1]=Ag;
-x8(Hg+8,ug);
-x8(Hg+16,0);
-Hg[24]=0;
-w8(a+160,yg+1);
-Ig=r8(a+192);
-if(Ig<c){
-ug=Ig;
-goto L41;}
-Gg=Ig;
-goto L44;
-L42:F=0;
+Fg=r8(a+160);
+Gg=Jg;
+Hg=Kg;
+L45:Og=rp(a+152)+(Fg<<5);
+*Og=Gg;
+Og[1]=Hg;
+x8(Og+8,Bg);
+x8(Og+16,0);
+Og[24]=0;
+w8(a+160,Fg+1);
+Pg=r8(a+192);
+if(Pg<c){
+Bg=Pg;
+goto L43;}
+Ng=Pg;
+goto L46;
+L44:F=0;
 goto L1;}
-Gg=sg;
-L44:if(Gg<c){
-switch(*(b+Gg)){
-case 67:Jg=r8(a+8);
-Kg=Gg+1;
-if(Kg<c){
-if(*(b+Kg)==115){
-Lg=Gg+2;
-if(c-Lg>=12){
-Mg=Gg+13;
-Ng=b+(i64)Lg;
-Og=*Ng;
-if(!((Og<58)|((u8)(Og-97)<11)))goto L45;
-Pg=0;
-L46:if(*((u8*)t_9eba+*(Ng+Pg))==0){
-Qg=Pg+1;
-if(Qg!=11){
-Pg=Qg;
-goto L46;}
-if(Mg<c){
-if(*(b+Mg)==95){
-Rg=Gg+14;
-goto L47;}}}}
-L45:Sg=any_disambiguator_end_f9c(b,c,Kg);
-if(Sg.f0!=1)goto L48;
-Rg=Sg.f1;}
-else Rg=Kg;}
-else Rg=Kg;
-L47:if(Rg<c){
-Tg=*(b+Rg);
-if((u8)(Tg-58)>=247){
-Ug=Rg+1;
-if(Ug<c){
-Vg=*(b+Ug)-48;
-if(Vg<10){
-Wg=Rg+2;
-Xg=(u64)Vg+(u8)((u8)(Tg*10)+32);
-if(c-Wg<Xg)goto L48;
-Yg=Xg+Wg;
-Zg=b+(i64)Wg;
-ah=*Zg;
-if((ah==95)|((u8)(ah-48)<10)){
+Ng=zg;
+L46:if(Ng<c){
+switch(*(b+Ng)){
+case 67:Qg=r8(a+8);
+Rg=Ng+1;
+if(Rg<c){
+if(*(b+Rg)==115){
+Sg=Ng+2;
+if(c-Sg>=12){
+Tg=Ng+13;
+Ug=b+(i64)Sg;
+Vg=*Ug;
+if(!((Vg<58)|((u8)(Vg-97)<11)))goto L47;
+Wg=0;
+L48:if(*((u8*)t_9eba+*(Ug+Wg))==0){
+Xg=Wg+1;
+if(Xg!=11){
+Wg=Xg;
+goto L48;}
+if(Tg<c){
+if(*(b+Tg)==95){
+Yg=Ng+14;
+goto L49;}}}}
+L47:Zg=any_disambiguator_end_f9c(b,c,Rg);
+if(Zg.f0!=1)goto L50;
+Yg=Zg.f1;}
+else Yg=Rg;}
+else Yg=Rg;
+L49:if(Yg<c){
+ah=*(b+Yg);
+if((u8)(ah-58)>=247){
+bh=Yg+1;
+if(bh<c){
+ch=*(b+bh)-48;
+if(ch<10){
+dh=Yg+2;
+eh=(u64)ch+(u8)((u8)(ah*10)+32);
+if(c-dh<eh)goto L50;
+fh=eh+dh;
+gh=b+(i64)dh;
+hh=*gh;
+if((hh==95)|((u8)(hh-48)<10)){
 z12(r);
-any_name_span_9bc(r,b,c,Rg);
-bh=q8(r+4);
-if(*r!=1)goto L48;
-ch=bh>>32;
-dh=bh&4294967295u;
-goto L49;}
-eh=0;
-L50:fh=Zg+eh;
-if((u8)((u8)(*((u8*)t_4efc+fh[1])+*((u8*)t_4efc+*fh))+*((u8*)t_4efc+fh[2]))==(u8)(0-*((u8*)t_4efc+fh[3]))){
-gh=eh+4;
-if(Xg-gh>3){
-eh=gh;
-goto L50;}
-hh=gh;}
-else hh=eh;
-if(hh>=Xg){
-ch=Yg;
-dh=Wg;
-goto L49;}
-ih=hh;
-L51:if(*((u8*)t_4efc+*(Zg+ih))!=0)goto L48;
-jh=ih+1;
-if(jh<Xg){
-ih=jh;
+any_name_span_9bc(r,b,c,Yg);
+ih=q8(r+4);
+if(*r!=1)goto L50;
+jh=ih>>32;
+kh=ih&4294967295u;
 goto L51;}
-ch=Yg;
-dh=Wg;
-goto L49;}}
-kh=Tg-48;
-if(c-Ug<kh)goto L48;
-lh=b+(i64)Ug;
-mh=*lh;
-if((mh==95)|((u8)(mh-48)<10)){
-z12(q);
-any_name_span_9bc(q,b,c,Rg);
-nh=q8(q+4);
-if(*q!=1)goto L48;
-ch=nh>>32;
-dh=nh&4294967295u;
-goto L49;}
-oh=Ug+kh;
-if(Tg<=51){
-qh=0;
+lh=0;
+L52:mh=gh+lh;
+if((u8)((u8)(*((u8*)t_4efc+mh[1])+*((u8*)t_4efc+*mh))+*((u8*)t_4efc+mh[2]))==(u8)(0-*((u8*)t_4efc+mh[3]))){
+nh=lh+4;
+if(eh-nh>3){
+lh=nh;
 goto L52;}
-ph=0;
-L53:rh=lh+ph;
-if((u8)((u8)(*((u8*)t_4efc+rh[1])+*((u8*)t_4efc+*rh))+*((u8*)t_4efc+rh[2]))==(u8)(0-*((u8*)t_4efc+rh[3]))){
-sh=ph+4;
-if(kh-sh>3){
-ph=sh;
+oh=nh;}
+else oh=lh;
+if(oh>=eh){
+jh=fh;
+kh=dh;
+goto L51;}
+ph=oh;
+L53:if(*((u8*)t_4efc+*(gh+ph))!=0)goto L50;
+qh=ph+1;
+if(qh<eh){
+ph=qh;
 goto L53;}
-qh=sh;}
-else qh=ph;
-L52:if(qh>=kh){
-ch=oh;
-dh=Ug;
-goto L49;}
-th=qh;
-L54:if(*((u8*)t_4efc+*(lh+th))!=0)goto L48;
-uh=th+1;
-if(uh!=kh){
-th=uh;
+jh=fh;
+kh=dh;
+goto L51;}}
+rh=ah-48;
+if(c-bh<rh)goto L50;
+sh=b+(i64)bh;
+th=*sh;
+if((th==95)|((u8)(th-48)<10)){
+z12(q);
+any_name_span_9bc(q,b,c,Yg);
+uh=q8(q+4);
+if(*q!=1)goto L50;
+jh=uh>>32;
+kh=uh&4294967295u;
+goto L51;}
+vh=bh+rh;
+if(ah<=51){
+xh=0;
 goto L54;}
-ch=oh;
-dh=Ug;
-goto L49;}}
-z12(s);
-any_name_span_9bc(s,b,c,Rg);
-vh=q8(s+4);
-if(*s!=1)goto L48;
-ch=vh>>32;
-dh=vh&4294967295u;
-L49:if(ch<=dh)goto L48;
-wh=b+(i64)dh;
-xh=ch-dh;
-if(r8(a+32)-Jg<xh){
-yh=make_ready_8e3(a,xh,128);
-if(!(yh&1))goto L48;}
-zh=extend_from_slice_169(a,wh,xh);
-if(zh&1)goto L48;
-w8(a+192,ch);
-if(r8(a+136)>Gg){
-Ah=r8(a+96);
-if(Ah>65534){
-Bh=0;
-Ch=0;
-Dh=0;}
-else{
-Eh=r8(a+8);
-Fh=a[80];
-if(r8(a+120)>Ah)Gh=Ah;
-else{
-Hh=make_ready_b73(a+88);
-if(!(Hh&1)){
-Bh=0;
-Ch=0;
-Dh=0;
+wh=0;
+L55:yh=sh+wh;
+if((u8)((u8)(*((u8*)t_4efc+yh[1])+*((u8*)t_4efc+*yh))+*((u8*)t_4efc+yh[2]))==(u8)(0-*((u8*)t_4efc+yh[3]))){
+zh=wh+4;
+if(rh-zh>3){
+wh=zh;
 goto L55;}
-Gh=r8(a+96);}
-Ih=rp(a+88)+Gh*24;
-x8(Ih,Jg);
-x8(Ih+8,Eh);
-Ih[16]=0;
-Ih[17]=Fh;
-z6(Ih+18);
-w8(a+96,Gh+1);
-w2(rp(a+128)+(i64)(Gg<<1),(u16)Ah+1);
-Bh=1;
-Ch=2;
-Dh=Jg;}}
+xh=zh;}
+else xh=wh;
+L54:if(xh>=rh){
+jh=vh;
+kh=bh;
+goto L51;}
+Ah=xh;
+L56:if(*((u8*)t_4efc+*(sh+Ah))!=0)goto L50;
+Bh=Ah+1;
+if(Bh!=rh){
+Ah=Bh;
+goto L56;}
+jh=vh;
+kh=bh;
+goto L51;}}
+z12(s);
+any_name_span_9bc(s,b,c,Yg);
+Ch=q8(s+4);
+if(*s!=1)goto L50;
+jh=Ch>>32;
+kh=Ch&4294967295u;
+L51:if(jh<=kh)goto L50;
+Dh=b+(i64)kh;
+Eh=jh-kh;
+if(r8(a+32)-Qg<Eh){
+Fh=make_ready_8e3(a,Eh,128);
+if(!(Fh&1))goto L50;}
+Gh=extend_from_slice_169(a,Dh,Eh);
+if(Gh&1)goto L50;
+w8(a+192,jh);
+if(r8(a+136)>Ng){
+Hh=r8(a+96);
+if(Hh>65534){
+Ih=0;
+Jh=0;
+Kh=0;}
 else{
-Bh=0;
-Ch=0;
-Dh=0;}
-L55:w8(t,Bh);
-t[8]=Ch;
+Lh=r8(a+8);
+Mh=a[80];
+if(r8(a+120)>Hh)Nh=Hh;
+else{
+Oh=make_ready_b73(a+88);
+if(!(Oh&1)){
+Ih=0;
+Jh=0;
+Kh=0;
+goto L57;}
+Nh=r8(a+96);}
+Ph=rp(a+88)+Nh*24;
+x8(Ph,Qg);
+x8(Ph+8,Lh);
+Ph[16]=0;
+Ph[17]=Mh;
+z6(Ph+18);
+w8(a+96,Nh+1);
+w2(rp(a+128)+(i64)(Ng<<1),(u16)Hh+1);
+Ih=1;
+Jh=2;
+Kh=Qg;}}
+else{
+Ih=0;
+Jh=0;
+Kh=0;}
+L57:w8(t,Ih);
+t[8]=Jh;
 t[9]=0;
-w8(t+16,Dh);
+w8(t+16,Kh);
 t[24]=0;
 break;
-case 66:Jh=r8(a+8);
-Kh=Gg+1;
-Lh=umin64(c-Kh,11)+Kh;
-if(Kh>=Lh){
-Nh=Kh;
-goto L56;}
-Mh=Kh;
-L57:if(*((u8*)t_84dd+*(b+Mh))<62){
-Oh=Mh+1;
-if(Oh!=Lh){
-Mh=Oh;
-goto L57;}
-Nh=Lh;}
-else Nh=Mh;
-L56:if(Nh==c){
-Ph=0;
-Qh=0;
-Rh=0;
-Sh=0;}
+case 66:Qh=r8(a+8);
+Rh=Ng+1;
+Sh=umin64(c-Rh,11)+Rh;
+if(Rh>=Sh){
+Uh=Rh;
+goto L58;}
+Th=Rh;
+L59:if(*((u8*)t_84dd+*(b+Th))<62){
+Vh=Th+1;
+if(Vh!=Sh){
+Th=Vh;
+goto L59;}
+Uh=Sh;}
+else Uh=Th;
+L58:if(Uh==c){
+Wh=0;
+Xh=0;
+Yh=0;
+Zh=0;}
 else{
-if(*(b+Nh)==95){
-Th=Kh&4294967295u;
-Uh=Nh&4294967295u;
-Vh=Uh+1;
-if(Uh==Th)Wh=2;
+if(*(b+Uh)==95){
+ai=Rh&4294967295u;
+bi=Uh&4294967295u;
+ci=bi+1;
+if(bi==ai)di=2;
 else{
-Xh=b+(i64)Th;
-Yh=Uh-Th;
-if(Yh>10){
+ei=b+(i64)ai;
+fi=bi-ai;
+if(fi>10){
+gi=0;
+hi=0;
+goto L60;}
+ii=0;
+ji=0;
+L61:ki=*((u8*)t_84dd+*(ei+(i64)ji));
+if(ki>=62){
+Wh=0;
+Xh=0;
+Yh=0;
 Zh=0;
-ai=0;
-goto L58;}
-bi=0;
-ci=0;
-L59:di=*((u8*)t_84dd+*(Xh+(i64)ci));
-if(di>=62){
-Ph=0;
-Qh=0;
-Rh=0;
-Sh=0;
+goto L62;}
+li=ii*62+ki;
+mi=ji+1;
+if(mi==fi){
+ni=li;
+goto L63;}
+ii=li;
+ji=mi;
+goto L61;
+L60:oi=*((u8*)t_84dd+*(ei+(i64)hi));
+if(!((gi<0x421084210842109u)&(oi<62))){
+Wh=0;
+Xh=0;
+Yh=0;
+Zh=0;
+goto L62;}
+pi=gi*62;
+if(pi>(oi^18446744073709551615u)){
+Wh=0;
+Xh=0;
+Yh=0;
+Zh=0;
+goto L62;}
+qi=pi+oi;
+ri=hi+1;
+if(ri!=fi){
+gi=qi;
+hi=ri;
 goto L60;}
-ei=bi*62+di;
-fi=ci+1;
-if(fi==Yh){
-gi=ei;
-goto L61;}
-bi=ei;
-ci=fi;
-goto L59;
-L58:hi=*((u8*)t_84dd+*(Xh+(i64)ai));
-if(!((Zh<0x421084210842109u)&(hi<62))){
-Ph=0;
-Qh=0;
-Rh=0;
-Sh=0;
-goto L60;}
-ii=Zh*62;
-if(ii>(hi^18446744073709551615u)){
-Ph=0;
-Qh=0;
-Rh=0;
-Sh=0;
-goto L60;}
-ji=ii+hi;
-ki=ai+1;
-if(ki!=Yh){
-Zh=ji;
-ai=ki;
-goto L58;}
-gi=ji;
-L61:if(gi>0xfffffffffffffffcu){
-Ph=0;
-Qh=0;
-Rh=0;
-Sh=0;
-goto L60;}
-Wh=gi+3;}
-if(Wh<r8(a+136)){
-li=r2(rp(a+128)+(i64)(Wh<<1));
-if(li==0){
-Ph=0;
-Qh=0;
-Rh=0;
-Sh=0;}
+ni=qi;
+L63:if(ni>0xfffffffffffffffcu){
+Wh=0;
+Xh=0;
+Yh=0;
+Zh=0;
+goto L62;}
+di=ni+3;}
+if(di<r8(a+136)){
+si=r2(rp(a+128)+(i64)(di<<1));
+if(si==0){
+Wh=0;
+Xh=0;
+Yh=0;
+Zh=0;}
 else{
-mi=(u64)li-1;
-if(mi<r8(a+96)){
-ni=rp(a+88)+(i64)(mi*24);
-oi=ni[16];
-if(oi<3){
-memcpy(p,ni,16);
-p[16]=oi;
-memcpy(p+17,ni+17,7);
-pi=repeat_2ff(a,p);
-if(pi&1){
-w8(a+192,Vh);
-if(r8(a+136)>Gg){
-qi=r8(a+96);
-if(qi>65534){
-Ph=0;
-Qh=0;
-Rh=0;
-Sh=0;}
+ti=(u64)si-1;
+if(ti<r8(a+96)){
+ui=rp(a+88)+(i64)(ti*24);
+vi=ui[16];
+if(vi<3){
+memcpy(p,ui,16);
+p[16]=vi;
+memcpy(p+17,ui+17,7);
+wi=repeat_2ff(a,p);
+if(wi&1){
+w8(a+192,ci);
+if(r8(a+136)>Ng){
+xi=r8(a+96);
+if(xi>65534){
+Wh=0;
+Xh=0;
+Yh=0;
+Zh=0;}
 else{
-ri=r8(a+8);
-si=a[80];
-if(r8(a+120)>qi)ti=qi;
+yi=r8(a+8);
+zi=a[80];
+if(r8(a+120)>xi)Ai=xi;
 else{
-ui=make_ready_b73(a+88);
-if(!(ui&1)){
-Ph=0;
-Qh=0;
-Rh=0;
-Sh=0;
-goto L60;}
-ti=r8(a+96);}
-vi=rp(a+88)+ti*24;
-x8(vi,Jh);
-x8(vi+8,ri);
-vi[16]=oi;
-vi[17]=si;
-z6(vi+18);
-w8(a+96,ti+1);
-w2(rp(a+128)+(i64)(Gg<<1),(u16)qi+1);
-Ph=1;
-Qh=2;
-Rh=Jh;
-Sh=oi;}}
+Bi=make_ready_b73(a+88);
+if(!(Bi&1)){
+Wh=0;
+Xh=0;
+Yh=0;
+Zh=0;
+goto L62;}
+Ai=r8(a+96);}
+Ci=rp(a+88)+Ai*24;
+x8(Ci,Qh);
+x8(Ci+8,yi);
+Ci[16]=vi;
+Ci[17]=zi;
+z6(Ci+18);
+w8(a+96,Ai+1);
+w2(rp(a+128)+(i64)(Ng<<1),(u16)xi+1);
+Wh=1;
+Xh=2;
+Yh=Qh;
+Zh=vi;}}
 else{
-Ph=0;
-Qh=0;
-Rh=0;
-Sh=0;}}
+Wh=0;
+Xh=0;
+Yh=0;
+Zh=0;}}
 else{
-Ph=0;
-Qh=0;
-Rh=0;
-Sh=0;}}
+Wh=0;
+Xh=0;
+Yh=0;
+Zh=0;}}
 else{
-Ph=0;
-Qh=0;
-Rh=0;
-Sh=0;}}
+Wh=0;
+Xh=0;
+Yh=0;
+Zh=0;}}
 else{
-Ph=0;
-Qh=0;
-Rh=0;
-Sh=0;}}}
+Wh=0;
+Xh=0;
+Yh=0;
+Zh=0;}}}
 else{
-Ph=0;
-Qh=0;
-Rh=0;
-Sh=0;}}
+Wh=0;
+Xh=0;
+Yh=0;
+Zh=0;}}
 else{
-Ph=0;
-Qh=0;
-Rh=0;
-Sh=0;}}
-L60:w8(t,Ph);
-t[8]=Qh;
+Wh=0;
+Xh=0;
+Yh=0;
+Zh=0;}}
+L62:w8(t,Wh);
+t[8]=Xh;
 t[9]=0;
-w8(t+16,Rh);
-t[24]=Sh;
+w8(t+16,Yh);
+t[24]=Zh;
 break;
 case 77:begin_impl_c72(t,a,b,c);
 break;
@@ -88561,343 +92637,343 @@ case 88:begin_trait_impl_220(t,a,b,c);
 break;
 case 89:begin_trait_f9f(t,a);
 break;
-default:goto L48;
+default:goto L50;
 }
 if(*t!=1){
 F=0;
 goto L1;}
-og=r8(t+16);
-pg=t[8];
-qg=t[9];
-rg=t[24];
-goto L40;}
-L48:F=0;
+vg=r8(t+16);
+wg=t[8];
+xg=t[9];
+yg=t[24];
+goto L42;}
+L50:F=0;
 goto L1;
-L40:if(pg!=2){
-Ea=rg;
-Fa=og;
-Ga=qg;
-Ha=pg;
-goto L7;}
-xa=rg;
-ya=og;
-L6:wi=r8(a+160);
-if(wi==0){
+L42:if(wg!=2){
+La=yg;
+Ma=vg;
+Na=xg;
+Oa=wg;
+goto L9;}
+Ea=yg;
+Fa=vg;
+L8:Di=r8(a+160);
+if(Di==0){
 F=0;
 goto L1;}
-xi=xa<3;
-yi=wi;
-L62:zi=yi-1;
-w8(a+160,zi);
-Ai=rp(a+152);
-Bi=zi<<5;
-Ci=Ai+Bi;
-Di=Ci[1];
-Ei=q8(Ci+8);
-Fi=q8(Ci+16);
-Gi=Ci[24];
-switch(*Ci){
-case 2:if(Di>=97){
-if(!xi){
+Ei=Ea<3;
+Fi=Di;
+L64:Gi=Fi-1;
+w8(a+160,Gi);
+Hi=rp(a+152);
+Ii=Gi<<5;
+Ji=Hi+Ii;
+Ki=Ji[1];
+Li=q8(Ji+8);
+Mi=q8(Ji+16);
+Ni=Ji[24];
+switch(*Ji){
+case 2:if(Ki>=97){
+if(!Ei){
 F=0;
 goto L1;}
-Ri=r8(a+192);
-if(Ri<c){
-if(*(b+Ri)==115){
-Si=Ri+1;
-if(c-Si>=12){
-Ti=Ri+12;
-Ui=b+(i64)Si;
-Vi=*Ui;
-if(!((Vi<58)|((u8)(Vi-97)<11)))goto L63;
-Wi=0;
-L64:if(*((u8*)t_9eba+*(Ui+Wi))==0){
-Xi=Wi+1;
-if(Xi!=11){
-Wi=Xi;
-goto L64;}
-if(Ti<c){
-if(*(b+Ti)==95){
-Yi=Ri+13;
-goto L65;}}}}
-L63:Zi=any_disambiguator_end_f9c(b,c,Ri);
-if(Zi.f0!=1){
+Yi=r8(a+192);
+if(Yi<c){
+if(*(b+Yi)==115){
+Zi=Yi+1;
+if(c-Zi>=12){
+aj=Yi+12;
+bj=b+(i64)Zi;
+cj=*bj;
+if(!((cj<58)|((u8)(cj-97)<11)))goto L65;
+dj=0;
+L66:if(*((u8*)t_9eba+*(bj+dj))==0){
+ej=dj+1;
+if(ej!=11){
+dj=ej;
+goto L66;}
+if(aj<c){
+if(*(b+aj)==95){
+fj=Yi+13;
+goto L67;}}}}
+L65:gj=any_disambiguator_end_f9c(b,c,Yi);
+if(gj.f0!=1){
 F=0;
 goto L1;}
-Yi=Zi.f1;}
-else Yi=Ri;}
-else Yi=Ri;
-L65:if(Yi<c){
-aj=*(b+Yi);
-if((u8)(aj-58)>=247){
-bj=Yi+1;
-if(bj<c){
-cj=*(b+bj)-48;
-if(cj<10){
-dj=Yi+2;
-ej=(u64)cj+(u8)((u8)(aj*10)+32);
-if(c-dj<ej){
+fj=gj.f1;}
+else fj=Yi;}
+else fj=Yi;
+L67:if(fj<c){
+hj=*(b+fj);
+if((u8)(hj-58)>=247){
+ij=fj+1;
+if(ij<c){
+jj=*(b+ij)-48;
+if(jj<10){
+kj=fj+2;
+lj=(u64)jj+(u8)((u8)(hj*10)+32);
+if(c-kj<lj){
 F=0;
 goto L1;}
-fj=ej+dj;
-gj=b+(i64)dj;
-hj=*gj;
-if((hj==95)|((u8)(hj-48)<10)){
+mj=lj+kj;
+nj=b+(i64)kj;
+oj=*nj;
+if((oj==95)|((u8)(oj-48)<10)){
 z12(n);
-any_name_span_9bc(n,b,c,Yi);
-ij=q8(n+4);
-jj=*n==1;
-kj=jj?ij&4294967295u:0;
-lj=jj?ij>>32:0;
-mj=jj;
-goto L66;}
-nj=0;
-L67:oj=gj+nj;
-if((u8)((u8)(*((u8*)t_4efc+oj[1])+*((u8*)t_4efc+*oj))+*((u8*)t_4efc+oj[2]))==(u8)(0-*((u8*)t_4efc+oj[3]))){
-pj=nj+4;
-if(ej-pj>3){
-nj=pj;
-goto L67;}
-qj=pj;}
-else qj=nj;
-if(qj>=ej){
-kj=dj;
-lj=fj;
-mj=1;
-goto L66;}
-rj=qj;
-L68:if(*((u8*)t_4efc+*(gj+rj))!=0){
-F=0;
-goto L1;}
-sj=rj+1;
-if(sj<ej){
-rj=sj;
+any_name_span_9bc(n,b,c,fj);
+pj=q8(n+4);
+qj=*n==1;
+rj=qj?pj&4294967295u:0;
+sj=qj?pj>>32:0;
+tj=qj;
 goto L68;}
-kj=dj;
-lj=fj;
-mj=1;
-goto L66;}}
-tj=aj-48;
-if(c-bj<tj){
-F=0;
-goto L1;}
-uj=b+(i64)bj;
-vj=*uj;
-if((vj==95)|((u8)(vj-48)<10)){
-z12(m);
-any_name_span_9bc(m,b,c,Yi);
-wj=q8(m+4);
-xj=*m==1;
-kj=xj?wj&4294967295u:0;
-lj=xj?wj>>32:0;
-mj=xj;
-goto L66;}
-yj=bj+tj;
-if(aj<=51){
-Aj=0;
+uj=0;
+L69:vj=nj+uj;
+if((u8)((u8)(*((u8*)t_4efc+vj[1])+*((u8*)t_4efc+*vj))+*((u8*)t_4efc+vj[2]))==(u8)(0-*((u8*)t_4efc+vj[3]))){
+wj=uj+4;
+if(lj-wj>3){
+uj=wj;
 goto L69;}
-zj=0;
-L70:Bj=uj+zj;
-if((u8)((u8)(*((u8*)t_4efc+Bj[1])+*((u8*)t_4efc+*Bj))+*((u8*)t_4efc+Bj[2]))==(u8)(0-*((u8*)t_4efc+Bj[3]))){
-Cj=zj+4;
-if(tj-Cj>3){
-zj=Cj;
+xj=wj;}
+else xj=uj;
+if(xj>=lj){
+rj=kj;
+sj=mj;
+tj=1;
+goto L68;}
+yj=xj;
+L70:if(*((u8*)t_4efc+*(nj+yj))!=0){
+F=0;
+goto L1;}
+zj=yj+1;
+if(zj<lj){
+yj=zj;
 goto L70;}
-Aj=Cj;}
-else Aj=zj;
-L69:if(Aj>=tj){
-kj=bj;
-lj=yj;
-mj=1;
-goto L66;}
-Dj=Aj;
-L71:if(*((u8*)t_4efc+*(uj+Dj))!=0){
+rj=kj;
+sj=mj;
+tj=1;
+goto L68;}}
+Aj=hj-48;
+if(c-ij<Aj){
 F=0;
 goto L1;}
-Ej=Dj+1;
-if(Ej!=tj){
-Dj=Ej;
+Bj=b+(i64)ij;
+Cj=*Bj;
+if((Cj==95)|((u8)(Cj-48)<10)){
+z12(m);
+any_name_span_9bc(m,b,c,fj);
+Dj=q8(m+4);
+Ej=*m==1;
+rj=Ej?Dj&4294967295u:0;
+sj=Ej?Dj>>32:0;
+tj=Ej;
+goto L68;}
+Fj=ij+Aj;
+if(hj<=51){
+Hj=0;
 goto L71;}
-kj=bj;
-lj=yj;
-mj=1;
-goto L66;}}
+Gj=0;
+L72:Ij=Bj+Gj;
+if((u8)((u8)(*((u8*)t_4efc+Ij[1])+*((u8*)t_4efc+*Ij))+*((u8*)t_4efc+Ij[2]))==(u8)(0-*((u8*)t_4efc+Ij[3]))){
+Jj=Gj+4;
+if(Aj-Jj>3){
+Gj=Jj;
+goto L72;}
+Hj=Jj;}
+else Hj=Gj;
+L71:if(Hj>=Aj){
+rj=ij;
+sj=Fj;
+tj=1;
+goto L68;}
+Kj=Hj;
+L73:if(*((u8*)t_4efc+*(Bj+Kj))!=0){
+F=0;
+goto L1;}
+Lj=Kj+1;
+if(Lj!=Aj){
+Kj=Lj;
+goto L73;}
+rj=ij;
+sj=Fj;
+tj=1;
+goto L68;}}
 z12(o);
-any_name_span_9bc(o,b,c,Yi);
-Fj=q8(o+4);
-Gj=*o==1;
-kj=Gj?Fj&4294967295u:0;
-lj=Gj?Fj>>32:0;
-mj=Gj;
-L66:if(!(mj&&lj>kj)){
+any_name_span_9bc(o,b,c,fj);
+Mj=q8(o+4);
+Nj=*o==1;
+rj=Nj?Mj&4294967295u:0;
+sj=Nj?Mj>>32:0;
+tj=Nj;
+L68:if(!(tj&&sj>rj)){
 F=0;
 goto L1;}
-Hj=r8(a+8);
-if(r8(a+32)-Hj<2){
-Ij=make_ready_8e3(a,2,128);
-if(!(Ij&1)){
+Oj=r8(a+8);
+if(r8(a+32)-Oj<2){
+Pj=make_ready_8e3(a,2,128);
+if(!(Pj&1)){
 F=0;
 goto L1;}
-Jj=r8(a+8);}
-else Jj=Hj;
-*(rp(a)+Jj)=58;
-*(rp(a)+(i64)Jj+1)=58;
-Kj=Jj+2;
-w8(a+8,Kj);
-Lj=b+(i64)kj;
-Mj=lj-kj;
-if(r8(a+32)-Kj<Mj){
-Nj=make_ready_8e3(a,Mj,128);
-if(!(Nj&1)){
+Qj=r8(a+8);}
+else Qj=Oj;
+*(rp(a)+Qj)=58;
+*(rp(a)+(i64)Qj+1)=58;
+Rj=Qj+2;
+w8(a+8,Rj);
+Sj=b+(i64)rj;
+Tj=sj-rj;
+if(r8(a+32)-Rj<Tj){
+Uj=make_ready_8e3(a,Tj,128);
+if(!(Uj&1)){
 F=0;
 goto L1;}
-Oj=r8(a+8);}
-else Oj=Kj;
-Pj=r8(a+16);
-if(Mj>Pj-Oj){
-Qj=grow_amortized_2b6(a,Mj);
-if(!Qj){
+Vj=r8(a+8);}
+else Vj=Rj;
+Wj=r8(a+16);
+if(Tj>Wj-Vj){
+Xj=grow_amortized_2b6(a,Tj);
+if(!Xj){
 F=0;
 goto L1;}
-Rj=r8(a+16);
-Sj=r8(a+8);}
+Yj=r8(a+16);
+Zj=r8(a+8);}
 else{
-Rj=Pj;
-Sj=Oj;}
-Tj=Sj+Mj;
-Uj=rp(a);
+Yj=Wj;
+Zj=Vj;}
+ak=Zj+Tj;
+bk=rp(a);
 z16(a+8);
-Vj=Uj+(i64)Sj;
-if((u64)Vj-(u64)Lj<Mj)copy_bits_4f4(Lj,Vj,Mj);
-else memmove(Vj,Lj,Mj);
-wp(a,Uj);
-w8(a+8,Tj);
-w8(a+16,Rj);
-w8(a+192,lj);
-if(lj<c){
-if(*(b+lj)==48){
-Wj=r8(a+160);
-if(Wj!=0){
-Xj=rp(a+152)+(i64)(Wj<<5);
-if(Xj[-32]==2){
-if(Xj[-31]>96){
-Yj=unnamed_ended_c46(a,b,c,Ei,ya,xa);
-if(Yj&1)goto L72;
+ck=bk+(i64)Zj;
+if((u64)ck-(u64)Sj<Tj)copy_bits_4f4(Sj,ck,Tj);
+else memmove(ck,Sj,Tj);
+wp(a,bk);
+w8(a+8,ak);
+w8(a+16,Yj);
+w8(a+192,sj);
+if(sj<c){
+if(*(b+sj)==48){
+dk=r8(a+160);
+if(dk!=0){
+ek=rp(a+152)+(i64)(dk<<5);
+if(ek[-32]==2){
+if(ek[-31]>96){
+fk=unnamed_ended_c46(a,b,c,Li,Fa,Ea);
+if(fk&1)goto L74;
 F=0;
 goto L1;}}}}}
-if(r8(a+136)<=Ei){
+if(r8(a+136)<=Li){
 F=0;
 goto L1;}
-Zj=r8(a+96);
-if(Zj>65534){
+gk=r8(a+96);
+if(gk>65534){
 F=0;
 goto L1;}
-ak=a[80];
-if(r8(a+120)>Zj)bk=Zj;
+hk=a[80];
+if(r8(a+120)>gk)ik=gk;
 else{
-ck=make_ready_b73(a+88);
-if(!(ck&1)){
+jk=make_ready_b73(a+88);
+if(!(jk&1)){
 F=0;
 goto L1;}
-bk=r8(a+96);}
-dk=rp(a+88)+bk*24;
-x8(dk,ya);
-x8(dk+8,Tj);
-dk[16]=xa;
-dk[17]=ak;
-z6(dk+18);
-w8(a+96,bk+1);
-w2(rp(a+128)+(i64)(Ei<<1),(u16)Zj+1);
-L72:ek=r8(a+160);
-if(ek==0){
+ik=r8(a+96);}
+kk=rp(a+88)+ik*24;
+x8(kk,Fa);
+x8(kk+8,ak);
+kk[16]=Ea;
+kk[17]=hk;
+z6(kk+18);
+w8(a+96,ik+1);
+w2(rp(a+128)+(i64)(Li<<1),(u16)gk+1);
+L74:lk=r8(a+160);
+if(lk==0){
 F=0;
 goto L1;}
-yi=ek;
-goto L62;}
+Fi=lk;
+goto L64;}
 z32(g);
-if(xi&(Di>64)){
-switch(Di){
-case 67:special_named_1bc(g,a,b,c,ya,xa,Ei,(u8*)t_6d4c,7);
+if(Ei&(Ki>64)){
+switch(Ki){
+case 67:special_named_1bc(g,a,b,c,Fa,Ea,Li,(u8*)t_6d4c,7);
 break;
-case 83:special_named_1bc(g,a,b,c,ya,xa,Ei,(u8*)t_04e6,4);
+case 83:special_named_1bc(g,a,b,c,Fa,Ea,Li,(u8*)t_04e6,4);
 break;
-default:*h=Di;
-special_named_1bc(g,a,b,c,ya,xa,Ei,h,1);
+default:*h=Ki;
+special_named_1bc(g,a,b,c,Fa,Ea,Li,h,1);
 break;}
-Hi=*g;
-Ii=g[8];
-Ji=g[9];
-Ki=r8(g+16);
-Li=g[24];}
+Oi=*g;
+Pi=g[8];
+Qi=g[9];
+Ri=r8(g+16);
+Si=g[24];}
 else{
-Hi=0;
-Ii=0;
-Ji=0;
-Ki=0;
-Li=0;}
-Mi=Hi;
-Ni=Ii;
-Oi=Ji;
-Pi=Ki;
-Qi=Li;
+Oi=0;
+Pi=0;
+Qi=0;
+Ri=0;
+Si=0;}
+Ti=Oi;
+Ui=Pi;
+Vi=Qi;
+Wi=Ri;
+Xi=Si;
 break;
-case 0:if(xa>=2){
+case 0:if(Ea>=2){
 F=0;
 goto L1;}
 if(a[80]&1){
 F=0;
 goto L1;}
-fk=r8(a+192);
-if(fk<c){
-if((u8)(*(b+fk)-65)<26){
-if(r8(a+184)>zi){
-gk=Bi;
-hk=Ai;
-ik=yi;}
+mk=r8(a+192);
+if(mk<c){
+if((u8)(*(b+mk)-65)<26){
+if(r8(a+184)>Gi){
+nk=Ii;
+ok=Hi;
+pk=Fi;}
 else{
-jk=make_ready_e3c(a+152);
-if(!(jk&1)){
+qk=make_ready_e3c(a+152);
+if(!(qk&1)){
 F=0;
 goto L1;}
-kk=r8(a+160);
-gk=kk<<5;
-hk=rp(a+152);
-ik=kk+1;}
-lk=hk+gk;
-*lk=1;
-lk[1]=0;
-z17(lk+8);
-w8(a+160,ik);
+rk=r8(a+160);
+nk=rk<<5;
+ok=rp(a+152);
+pk=rk+1;}
+sk=ok+nk;
+*sk=1;
+sk[1]=0;
+z17(sk+8);
+w8(a+160,pk);
 memcpy(k,a,40);
 memcpy(a,a+40,40);
 memcpy(a+40,k,40);
 a[80]=a[80]^1;
-Ea=0;
-Fa=0;
-Ga=0;
-Ha=0;
-goto L7;}}
+La=0;
+Ma=0;
+Na=0;
+Oa=0;
+goto L9;}}
 z32(l);
-if(fk==c){
-mk=1;
-nk=4;
-ok=0;
-pk=0;
-qk=0;}
+if(mk==c){
+tk=1;
+uk=4;
+vk=0;
+wk=0;
+xk=0;}
 else{
 push_suffix_49c(l,a,b,c);
-mk=*l;
-nk=l[8];
-ok=l[9];
-pk=r8(l+16);
-qk=l[24];}
-Mi=mk;
-Ni=nk;
-Oi=ok;
-Pi=pk;
-Qi=qk;
+tk=*l;
+uk=l[8];
+vk=l[9];
+wk=r8(l+16);
+xk=l[24];}
+Ti=tk;
+Ui=uk;
+Vi=vk;
+Wi=wk;
+Xi=xk;
 break;
-case 1:if(!xi){
+case 1:if(!Ei){
 F=0;
 goto L1;}
 if(!(a[80]&1)){
@@ -88909,135 +92985,135 @@ memcpy(a+40,i,40);
 a[80]=0;
 z32(j);
 if(r8(a+192)==c){
-rk=1;
-sk=4;
-tk=0;
-uk=0;
-vk=0;}
+yk=1;
+zk=4;
+Ak=0;
+Bk=0;
+Ck=0;}
 else{
 push_suffix_49c(j,a,b,c);
-rk=*j;
-sk=j[8];
-tk=j[9];
-uk=r8(j+16);
-vk=j[24];}
-Mi=rk;
-Ni=sk;
-Oi=tk;
-Pi=uk;
-Qi=vk;
+yk=*j;
+zk=j[8];
+Ak=j[9];
+Bk=r8(j+16);
+Ck=j[24];}
+Ti=yk;
+Ui=zk;
+Vi=Ak;
+Wi=Bk;
+Xi=Ck;
 break;
-case 12:switch(xa){
-case 0:case 2:case 3:wk=r8(a+192);
-if(wk<c){
-if(*(b+wk)==69){
-if(xa==1){
+case 12:switch(Ea){
+case 0:case 2:case 3:Dk=r8(a+192);
+if(Dk<c){
+if(*(b+Dk)==69){
+if(Ea==1){
 F=0;
 goto L1;}
-xk=Gi&1;
-w8(a+192,wk+1);
-yk=xk?2:1;
-zk=xk?(u8*)t_b4da:(u8*)t_ba5e;
-Ak=r8(a+8);
-if(r8(a+32)-Ak<yk){
-Bk=make_ready_8e3(a,yk,128);
-if(!(Bk&1)){
+Ek=Ni&1;
+w8(a+192,Dk+1);
+Fk=Ek?2:1;
+Gk=Ek?(u8*)t_b4da:(u8*)t_ba5e;
+Hk=r8(a+8);
+if(r8(a+32)-Hk<Fk){
+Ik=make_ready_8e3(a,Fk,128);
+if(!(Ik&1)){
 F=0;
 goto L1;}
-Ck=r8(a+8);}
-else Ck=Ak;
-Dk=r8(a+16);
-if(yk>Dk-Ck){
-Ek=grow_amortized_2b6(a,yk);
-if(!Ek){
+Jk=r8(a+8);}
+else Jk=Hk;
+Kk=r8(a+16);
+if(Fk>Kk-Jk){
+Lk=grow_amortized_2b6(a,Fk);
+if(!Lk){
 F=0;
 goto L1;}
-Fk=r8(a+16);
-Gk=r8(a+8);}
+Mk=r8(a+16);
+Nk=r8(a+8);}
 else{
-Fk=Dk;
-Gk=Ck;}
-Hk=Gk+yk;
-Ik=rp(a);
+Mk=Kk;
+Nk=Jk;}
+Ok=Nk+Fk;
+Pk=rp(a);
 z16(a+8);
-Jk=Ik+(i64)Gk;
-if((u64)Jk-(u64)zk<yk)copy_bits_4f4(zk,Jk,yk);
-else memcpy(Jk,zk,yk);
-wp(a,Ik);
-w8(a+8,Hk);
-w8(a+16,Fk);
-if(r8(a+136)<=Ei){
+Qk=Pk+(i64)Nk;
+if((u64)Qk-(u64)Gk<Fk)copy_bits_4f4(Gk,Qk,Fk);
+else memcpy(Qk,Gk,Fk);
+wp(a,Pk);
+w8(a+8,Ok);
+w8(a+16,Mk);
+if(r8(a+136)<=Li){
 F=0;
 goto L1;}
-Kk=r8(a+96);
-if(Kk>65534){
+Rk=r8(a+96);
+if(Rk>65534){
 F=0;
 goto L1;}
-Lk=a[80];
-if(r8(a+120)>Kk)Mk=Kk;
+Sk=a[80];
+if(r8(a+120)>Rk)Tk=Rk;
 else{
-Nk=make_ready_b73(a+88);
-if(!(Nk&1)){
-F=0;
-goto L1;}
-Mk=r8(a+96);}
-Ok=rp(a+88)+Mk*24;
-x8(Ok,Fi);
-x8(Ok+8,Hk);
-Ok[16]=3;
-Ok[17]=Lk;
-z6(Ok+18);
-w8(a+96,Mk+1);
-w2(rp(a+128)+(i64)(Ei<<1),(u16)Kk+1);
-Ea=3;
-Fa=Fi;
-Ga=0;
-Ha=2;
-goto L7;}}
-Pk=r8(a+8);
-if(r8(a+32)-Pk<2){
-Qk=make_ready_8e3(a,2,128);
-if(!(Qk&1)){
-F=0;
-goto L1;}
-Rk=r8(a+8);}
-else Rk=Pk;
-*(rp(a)+Rk)=44;
-*(rp(a)+(i64)Rk+1)=32;
-w8(a+8,Rk+2);
-Sk=r8(a+160);
-if(r8(a+184)>Sk)Tk=Sk;
-else{
-Uk=make_ready_e3c(a+152);
+Uk=make_ready_b73(a+88);
 if(!(Uk&1)){
 F=0;
 goto L1;}
-Tk=r8(a+160);}
-Vk=rp(a+152)+(Tk<<5);
-*Vk=12;
-Vk[1]=0;
-x8(Vk+8,Ei);
-x8(Vk+16,Fi);
-Vk[24]=0;
-w8(a+160,Tk+1);
-Ea=0;
-Fa=0;
-Ga=0;
-Ha=1;
-goto L7;
+Tk=r8(a+96);}
+Vk=rp(a+88)+Tk*24;
+x8(Vk,Mi);
+x8(Vk+8,Ok);
+Vk[16]=3;
+Vk[17]=Sk;
+z6(Vk+18);
+w8(a+96,Tk+1);
+w2(rp(a+128)+(i64)(Li<<1),(u16)Rk+1);
+La=3;
+Ma=Mi;
+Na=0;
+Oa=2;
+goto L9;}}
+Wk=r8(a+8);
+if(r8(a+32)-Wk<2){
+Xk=make_ready_8e3(a,2,128);
+if(!(Xk&1)){
+F=0;
+goto L1;}
+Yk=r8(a+8);}
+else Yk=Wk;
+*(rp(a)+Yk)=44;
+*(rp(a)+(i64)Yk+1)=32;
+w8(a+8,Yk+2);
+Zk=r8(a+160);
+if(r8(a+184)>Zk)al=Zk;
+else{
+bl=make_ready_e3c(a+152);
+if(!(bl&1)){
+F=0;
+goto L1;}
+al=r8(a+160);}
+cl=rp(a+152)+(al<<5);
+*cl=12;
+cl[1]=0;
+x8(cl+8,Li);
+x8(cl+16,Mi);
+cl[24]=0;
+w8(a+160,al+1);
+La=0;
+Ma=0;
+Na=0;
+Oa=1;
+goto L9;
 case 1:case 4:F=0;
 goto L1;
 default:NEVER;
 }
 break;
-case 3:Wk=Di&1;
-switch(xa){
+case 3:dl=Ki&1;
+switch(Ea){
 case 0:break;
-case 1:if(!Wk){
+case 1:if(!dl){
 F=0;
 goto L1;}
 break;
-case 2:if(Wk){
+case 2:if(dl){
 F=0;
 goto L1;}
 break;
@@ -89045,70 +93121,70 @@ case 3:case 4:F=0;
 goto L1;
 default:NEVER;
 }
-Xk=r8(a+8);
-if(r8(a+32)>Xk)Yk=Xk;
+el=r8(a+8);
+if(r8(a+32)>el)fl=el;
 else{
-Zk=make_ready_8e3(a,1,16);
-if(!(Zk&1)){
+gl=make_ready_8e3(a,1,16);
+if(!(gl&1)){
 F=0;
 goto L1;}
-Yk=r8(a+8);}
-*(rp(a)+Yk)=1;
-w8(a+8,Yk+1);
-al=Di&1;
-bl=r8(a+160);
-if(r8(a+184)>bl)cl=bl;
+fl=r8(a+8);}
+*(rp(a)+fl)=1;
+w8(a+8,fl+1);
+hl=Ki&1;
+il=r8(a+160);
+if(r8(a+184)>il)jl=il;
 else{
-dl=make_ready_e3c(a+152);
-if(!(dl&1)){
+kl=make_ready_e3c(a+152);
+if(!(kl&1)){
 F=0;
 goto L1;}
-cl=r8(a+160);}
-el=rp(a+152)+(cl<<5);
-*el=4;
-el[1]=0;
-x8(el+8,Ei);
-x8(el+16,ya);
-el[24]=al;
-w8(a+160,cl+1);
-Ea=0;
-Fa=0;
-Ga=1;
-Ha=3;
-goto L7;
-case 4:switch(xa){
-case 0:case 2:case 3:fl=Gi&1;
-if(r8(a+184)>zi){
-gl=Bi;
-hl=Ai;
-il=yi;}
-else{
-jl=make_ready_e3c(a+152);
-if(!(jl&1)){
-F=0;
-goto L1;}
-kl=r8(a+160);
-gl=kl<<5;
-hl=rp(a+152);
-il=kl+1;}
-ll=hl+gl;
+jl=r8(a+160);}
+ll=rp(a+152)+(jl<<5);
 *ll=4;
 ll[1]=0;
-x8(ll+8,Ei);
-x8(ll+16,Fi);
-ll[24]=fl;
-w8(a+160,il);
-Ea=0;
-Fa=0;
-Ga=0;
-Ha=3;
-goto L7;
+x8(ll+8,Li);
+x8(ll+16,Fa);
+ll[24]=hl;
+w8(a+160,jl+1);
+La=0;
+Ma=0;
+Na=1;
+Oa=3;
+goto L9;
+case 4:switch(Ea){
+case 0:case 2:case 3:ml=Ni&1;
+if(r8(a+184)>Gi){
+nl=Ii;
+ol=Hi;
+pl=Fi;}
+else{
+ql=make_ready_e3c(a+152);
+if(!(ql&1)){
+F=0;
+goto L1;}
+rl=r8(a+160);
+nl=rl<<5;
+ol=rp(a+152);
+pl=rl+1;}
+sl=ol+nl;
+*sl=4;
+sl[1]=0;
+x8(sl+8,Li);
+x8(sl+16,Mi);
+sl[24]=ml;
+w8(a+160,pl);
+La=0;
+Ma=0;
+Na=0;
+Oa=3;
+goto L9;
 case 1:case 4:F=0;
 goto L1;
 default:NEVER;
 }
 break;
-case 5:if(!xi){
+case 5:if(!Ei){
 F=0;
 goto L1;}
 if(!(a[80]&1)){
@@ -89118,157 +93194,157 @@ memcpy(f,a,40);
 memcpy(a,a+40,40);
 memcpy(a+40,f,40);
 a[80]=0;
-ml=r8(a+8);
-if(r8(a+32)>ml)nl=ml;
+tl=r8(a+8);
+if(r8(a+32)>tl)ul=tl;
 else{
-ol=make_ready_8e3(a,1,16);
-if(!(ol&1)){
+vl=make_ready_8e3(a,1,16);
+if(!(vl&1)){
 F=0;
 goto L1;}
-nl=r8(a+8);}
-*(rp(a)+nl)=60;
-w8(a+8,nl+1);
-pl=r8(a+160);
-if(r8(a+184)>pl)ql=pl;
+ul=r8(a+8);}
+*(rp(a)+ul)=60;
+w8(a+8,ul+1);
+wl=r8(a+160);
+if(r8(a+184)>wl)xl=wl;
 else{
-rl=make_ready_e3c(a+152);
-if(!(rl&1)){
+yl=make_ready_e3c(a+152);
+if(!(yl&1)){
 F=0;
 goto L1;}
-ql=r8(a+160);}
-sl=rp(a+152)+(ql<<5);
-*sl=9;
-sl[1]=0;
-x8(sl+8,Ei);
-x8(sl+16,ml);
-sl[24]=2;
-w8(a+160,ql+1);
-Ea=0;
-Fa=0;
-Ga=0;
-Ha=1;
-goto L7;
-case 9:switch(Gi){
-case 0:switch(xa){
-case 0:case 2:case 3:if(r8(a+136)<=Ei){
+xl=r8(a+160);}
+zl=rp(a+152)+(xl<<5);
+*zl=9;
+zl[1]=0;
+x8(zl+8,Li);
+x8(zl+16,tl);
+zl[24]=2;
+w8(a+160,xl+1);
+La=0;
+Ma=0;
+Na=0;
+Oa=1;
+goto L9;
+case 9:switch(Ni){
+case 0:switch(Ea){
+case 0:case 2:case 3:if(r8(a+136)<=Li){
 F=0;
 goto L1;}
-tl=r8(a+96);
-if(tl>65534){
+Al=r8(a+96);
+if(Al>65534){
 F=0;
 goto L1;}
-ul=r8(a+8);
-vl=a[80];
-if(r8(a+120)>tl)wl=tl;
+Bl=r8(a+8);
+Cl=a[80];
+if(r8(a+120)>Al)Dl=Al;
 else{
-xl=make_ready_b73(a+88);
-if(!(xl&1)){
+El=make_ready_b73(a+88);
+if(!(El&1)){
 F=0;
 goto L1;}
-wl=r8(a+96);}
-yl=rp(a+88)+wl*24;
-x8(yl,Fi);
-x8(yl+8,ul);
-yl[16]=3;
-yl[17]=vl;
-z6(yl+18);
-w8(a+96,wl+1);
-w2(rp(a+128)+(i64)(Ei<<1),(u16)tl+1);
-Ea=3;
-Fa=Fi;
-Ga=0;
-Ha=2;
-goto L7;
+Dl=r8(a+96);}
+Fl=rp(a+88)+Dl*24;
+x8(Fl,Mi);
+x8(Fl+8,Bl);
+Fl[16]=3;
+Fl[17]=Cl;
+z6(Fl+18);
+w8(a+96,Dl+1);
+w2(rp(a+128)+(i64)(Li<<1),(u16)Al+1);
+La=3;
+Ma=Mi;
+Na=0;
+Oa=2;
+goto L9;
 case 1:case 4:F=0;
 goto L1;
 default:NEVER;
 }
 break;
-case 1:switch(xa){
-case 0:case 2:case 3:zl=r8(a+8);
-if(r8(a+32)>zl)Al=zl;
+case 1:switch(Ea){
+case 0:case 2:case 3:Gl=r8(a+8);
+if(r8(a+32)>Gl)Hl=Gl;
 else{
-Bl=make_ready_8e3(a,1,16);
-if(!(Bl&1)){
+Il=make_ready_8e3(a,1,16);
+if(!(Il&1)){
 F=0;
 goto L1;}
-Al=r8(a+8);}
-*(rp(a)+Al)=93;
-Cl=Al+1;
-w8(a+8,Cl);
-if(r8(a+136)<=Ei){
+Hl=r8(a+8);}
+*(rp(a)+Hl)=93;
+Jl=Hl+1;
+w8(a+8,Jl);
+if(r8(a+136)<=Li){
 F=0;
 goto L1;}
-Dl=r8(a+96);
-if(Dl>65534){
+Kl=r8(a+96);
+if(Kl>65534){
 F=0;
 goto L1;}
-El=a[80];
-if(r8(a+120)>Dl)Fl=Dl;
+Ll=a[80];
+if(r8(a+120)>Kl)Ml=Kl;
 else{
-Gl=make_ready_b73(a+88);
-if(!(Gl&1)){
+Nl=make_ready_b73(a+88);
+if(!(Nl&1)){
 F=0;
 goto L1;}
-Fl=r8(a+96);}
-Hl=rp(a+88)+Fl*24;
-x8(Hl,Fi);
-x8(Hl+8,Cl);
-Hl[16]=3;
-Hl[17]=El;
-z6(Hl+18);
-w8(a+96,Fl+1);
-w2(rp(a+128)+(i64)(Ei<<1),(u16)Dl+1);
-Ea=3;
-Fa=Fi;
-Ga=0;
-Ha=2;
-goto L7;
+Ml=r8(a+96);}
+Ol=rp(a+88)+Ml*24;
+x8(Ol,Mi);
+x8(Ol+8,Jl);
+Ol[16]=3;
+Ol[17]=Ll;
+z6(Ol+18);
+w8(a+96,Ml+1);
+w2(rp(a+128)+(i64)(Li<<1),(u16)Kl+1);
+La=3;
+Ma=Mi;
+Na=0;
+Oa=2;
+goto L9;
 case 1:case 4:F=0;
 goto L1;
 default:NEVER;
 }
 break;
-case 2:switch(xa){
-case 0:case 2:case 3:Il=r8(a+8);
-if(r8(a+32)>Il)Jl=Il;
+case 2:switch(Ea){
+case 0:case 2:case 3:Pl=r8(a+8);
+if(r8(a+32)>Pl)Ql=Pl;
 else{
-Kl=make_ready_8e3(a,1,16);
-if(!(Kl&1)){
+Rl=make_ready_8e3(a,1,16);
+if(!(Rl&1)){
 F=0;
 goto L1;}
-Jl=r8(a+8);}
-*(rp(a)+Jl)=62;
-Ll=Jl+1;
-w8(a+8,Ll);
-if(r8(a+136)<=Ei){
+Ql=r8(a+8);}
+*(rp(a)+Ql)=62;
+Sl=Ql+1;
+w8(a+8,Sl);
+if(r8(a+136)<=Li){
 F=0;
 goto L1;}
-Ml=r8(a+96);
-if(Ml>65534){
+Tl=r8(a+96);
+if(Tl>65534){
 F=0;
 goto L1;}
-Nl=a[80];
-if(r8(a+120)>Ml)Ol=Ml;
+Ul=a[80];
+if(r8(a+120)>Tl)Vl=Tl;
 else{
-Pl=make_ready_b73(a+88);
-if(!(Pl&1)){
+Wl=make_ready_b73(a+88);
+if(!(Wl&1)){
 F=0;
 goto L1;}
-Ol=r8(a+96);}
-Ql=rp(a+88)+Ol*24;
-x8(Ql,Fi);
-x8(Ql+8,Ll);
-Ql[16]=0;
-Ql[17]=Nl;
-z6(Ql+18);
-w8(a+96,Ol+1);
-w2(rp(a+128)+(i64)(Ei<<1),(u16)Ml+1);
-Ea=0;
-Fa=Fi;
-Ga=0;
-Ha=2;
-goto L7;
+Vl=r8(a+96);}
+Xl=rp(a+88)+Vl*24;
+x8(Xl,Mi);
+x8(Xl+8,Sl);
+Xl[16]=0;
+Xl[17]=Ul;
+z6(Xl+18);
+w8(a+96,Vl+1);
+w2(rp(a+128)+(i64)(Li<<1),(u16)Tl+1);
+La=0;
+Ma=Mi;
+Na=0;
+Oa=2;
+goto L9;
 case 1:case 4:F=0;
 goto L1;
 default:NEVER;
@@ -89277,196 +93353,196 @@ break;
 default:NEVER;
 }
 break;
-case 13:switch(xa){
-case 0:case 2:Rl=r8(a+192);
-if(Rl<c){
-if(*(b+Rl)==69){
-Sl=Rl+1;
-if(Sl>=c){
+case 13:switch(Ea){
+case 0:case 2:Yl=r8(a+192);
+if(Yl<c){
+if(*(b+Yl)==69){
+Zl=Yl+1;
+if(Zl>=c){
 F=0;
 goto L1;}
-if(*(b+Sl)!=76){
+if(*(b+Zl)!=76){
 F=0;
 goto L1;}
-Tl=Rl+2;
-if(Tl>=c){
+am=Yl+2;
+if(am>=c){
 F=0;
 goto L1;}
-if(*(b+Tl)!=95){
+if(*(b+am)!=95){
 F=0;
 goto L1;}
-w8(a+192,Rl+3);
-if(r8(a+136)<=Ei){
+w8(a+192,Yl+3);
+if(r8(a+136)<=Li){
 F=0;
 goto L1;}
-Ul=r8(a+96);
-if(Ul>65534){
+bm=r8(a+96);
+if(bm>65534){
 F=0;
 goto L1;}
-Vl=r8(a+8);
-Wl=a[80];
-if(r8(a+120)>Ul)Xl=Ul;
+cm=r8(a+8);
+dm=a[80];
+if(r8(a+120)>bm)em=bm;
 else{
-Yl=make_ready_b73(a+88);
-if(!(Yl&1)){
+fm=make_ready_b73(a+88);
+if(!(fm&1)){
 F=0;
 goto L1;}
-Xl=r8(a+96);}
-Zl=rp(a+88)+Xl*24;
-x8(Zl,Fi);
-x8(Zl+8,Vl);
-Zl[16]=3;
-Zl[17]=Wl;
-z6(Zl+18);
-w8(a+96,Xl+1);
-w2(rp(a+128)+(i64)(Ei<<1),(u16)Ul+1);
-Ea=3;
-Fa=Fi;
-Ga=0;
-Ha=2;
-goto L7;}}
-am=r8(a+8);
-if(r8(a+32)-am<3){
-bm=make_ready_8e3(a,3,128);
-if(!(bm&1)){
+em=r8(a+96);}
+gm=rp(a+88)+em*24;
+x8(gm,Mi);
+x8(gm+8,cm);
+gm[16]=3;
+gm[17]=dm;
+z6(gm+18);
+w8(a+96,em+1);
+w2(rp(a+128)+(i64)(Li<<1),(u16)bm+1);
+La=3;
+Ma=Mi;
+Na=0;
+Oa=2;
+goto L9;}}
+hm=r8(a+8);
+if(r8(a+32)-hm<3){
+im=make_ready_8e3(a,3,128);
+if(!(im&1)){
 F=0;
 goto L1;}
-cm=r8(a+8);}
-else cm=am;
-dm=r8(a+16);
-if(dm-cm<3){
-em=grow_amortized_2b6(a,3);
-if(!em){
+jm=r8(a+8);}
+else jm=hm;
+km=r8(a+16);
+if(km-jm<3){
+lm=grow_amortized_2b6(a,3);
+if(!lm){
 F=0;
 goto L1;}
-fm=r8(a+16);
-gm=r8(a+8);}
+mm=r8(a+16);
+nm=r8(a+8);}
 else{
-fm=dm;
-gm=cm;}
-hm=gm+3;
-im=rp(a);
+mm=km;
+nm=jm;}
+om=nm+3;
+pm=rp(a);
 z16(a+8);
-jm=im+(i64)gm;
-if((u64)jm-(u64)(u8*)t_4620<3)copy_bits_4f4((u8*)t_4620,jm,3);
-else memcpy(jm,(u8*)t_4620,3);
-wp(a,im);
-w8(a+8,hm);
-w8(a+16,fm);
-km=r8(a+160);
-if(r8(a+184)>km)lm=km;
+qm=pm+(i64)nm;
+if((u64)qm-(u64)(u8*)t_4620<3)copy_bits_4f4((u8*)t_4620,qm,3);
+else memcpy(qm,(u8*)t_4620,3);
+wp(a,pm);
+w8(a+8,om);
+w8(a+16,mm);
+rm=r8(a+160);
+if(r8(a+184)>rm)sm=rm;
 else{
-mm=make_ready_e3c(a+152);
-if(!(mm&1)){
+tm=make_ready_e3c(a+152);
+if(!(tm&1)){
 F=0;
 goto L1;}
-lm=r8(a+160);}
-nm=rp(a+152)+(lm<<5);
-*nm=13;
-nm[1]=0;
-x8(nm+8,Ei);
-x8(nm+16,Fi);
-nm[24]=0;
-w8(a+160,lm+1);
-Ea=0;
-Fa=0;
-Ga=0;
-Ha=0;
-goto L7;
+sm=r8(a+160);}
+um=rp(a+152)+(sm<<5);
+*um=13;
+um[1]=0;
+x8(um+8,Li);
+x8(um+16,Mi);
+um[24]=0;
+w8(a+160,sm+1);
+La=0;
+Ma=0;
+Na=0;
+Oa=0;
+goto L9;
 case 1:case 3:case 4:F=0;
 goto L1;
 default:NEVER;
 }
 break;
-case 14:switch(xa){
-case 0:case 2:case 3:om=r8(a+192);
-pm=r8(a+8);
-if(r8(a+32)-pm<2){
-qm=make_ready_8e3(a,2,128);
-if(!(qm&1)){
-F=0;
-goto L1;}
-rm=r8(a+8);}
-else rm=pm;
-*(rp(a)+rm)=59;
-*(rp(a)+(i64)rm+1)=32;
-sm=rm+2;
-w8(a+8,sm);
-tm=constant_at_b72(a,b,c,om);
-if(tm.f0!=1){
-F=0;
-goto L1;}
-if(r8(a+136)<=om){
-F=0;
-goto L1;}
-um=r8(a+96);
-if(um>65534){
-F=0;
-goto L1;}
-vm=tm.f1;
+case 14:switch(Ea){
+case 0:case 2:case 3:vm=r8(a+192);
 wm=r8(a+8);
-xm=a[80];
-if(r8(a+120)>um)ym=um;
+if(r8(a+32)-wm<2){
+xm=make_ready_8e3(a,2,128);
+if(!(xm&1)){
+F=0;
+goto L1;}
+ym=r8(a+8);}
+else ym=wm;
+*(rp(a)+ym)=59;
+*(rp(a)+(i64)ym+1)=32;
+zm=ym+2;
+w8(a+8,zm);
+Am=constant_at_b72(a,b,c,vm);
+if(Am.f0!=1){
+F=0;
+goto L1;}
+if(r8(a+136)<=vm){
+F=0;
+goto L1;}
+Bm=r8(a+96);
+if(Bm>65534){
+F=0;
+goto L1;}
+Cm=Am.f1;
+Dm=r8(a+8);
+Em=a[80];
+if(r8(a+120)>Bm)Fm=Bm;
 else{
-zm=make_ready_b73(a+88);
-if(!(zm&1)){
+Gm=make_ready_b73(a+88);
+if(!(Gm&1)){
 F=0;
 goto L1;}
-ym=r8(a+96);}
-Am=rp(a+88)+ym*24;
-x8(Am,sm);
-x8(Am+8,wm);
-Am[16]=4;
-Am[17]=xm;
-z6(Am+18);
-w8(a+96,ym+1);
-w2(rp(a+128)+(i64)(om<<1),(u16)um+1);
-w8(a+192,vm);
-Bm=r8(a+8);
-if(r8(a+32)>Bm)Cm=Bm;
+Fm=r8(a+96);}
+Hm=rp(a+88)+Fm*24;
+x8(Hm,zm);
+x8(Hm+8,Dm);
+Hm[16]=4;
+Hm[17]=Em;
+z6(Hm+18);
+w8(a+96,Fm+1);
+w2(rp(a+128)+(i64)(vm<<1),(u16)Bm+1);
+w8(a+192,Cm);
+Im=r8(a+8);
+if(r8(a+32)>Im)Jm=Im;
 else{
-Dm=make_ready_8e3(a,1,16);
-if(!(Dm&1)){
+Km=make_ready_8e3(a,1,16);
+if(!(Km&1)){
 F=0;
 goto L1;}
-Cm=r8(a+8);}
-*(rp(a)+Cm)=93;
-Em=Cm+1;
-w8(a+8,Em);
-if(r8(a+136)<=Ei){
+Jm=r8(a+8);}
+*(rp(a)+Jm)=93;
+Lm=Jm+1;
+w8(a+8,Lm);
+if(r8(a+136)<=Li){
 F=0;
 goto L1;}
-Fm=r8(a+96);
-if(Fm>65534){
+Mm=r8(a+96);
+if(Mm>65534){
 F=0;
 goto L1;}
-Gm=a[80];
-if(r8(a+120)>Fm)Hm=Fm;
+Nm=a[80];
+if(r8(a+120)>Mm)Om=Mm;
 else{
-Im=make_ready_b73(a+88);
-if(!(Im&1)){
+Pm=make_ready_b73(a+88);
+if(!(Pm&1)){
 F=0;
 goto L1;}
-Hm=r8(a+96);}
-Jm=rp(a+88)+Hm*24;
-x8(Jm,Fi);
-x8(Jm+8,Em);
-Jm[16]=3;
-Jm[17]=Gm;
-z6(Jm+18);
-w8(a+96,Hm+1);
-w2(rp(a+128)+(i64)(Ei<<1),(u16)Fm+1);
-Ea=3;
-Fa=Fi;
-Ga=0;
-Ha=2;
-goto L7;
+Om=r8(a+96);}
+Qm=rp(a+88)+Om*24;
+x8(Qm,Mi);
+x8(Qm+8,Lm);
+Qm[16]=3;
+Qm[17]=Nm;
+z6(Qm+18);
+w8(a+96,Om+1);
+w2(rp(a+128)+(i64)(Li<<1),(u16)Mm+1);
+La=3;
+Ma=Mi;
+Na=0;
+Oa=2;
+goto L9;
 case 1:case 4:F=0;
 goto L1;
 default:NEVER;
 }
 break;
-case 6:if(!xi){
+case 6:if(!Ei){
 F=0;
 goto L1;}
 if(!(a[80]&1)){
@@ -89476,39 +93552,6 @@ memcpy(e,a,40);
 memcpy(a,a+40,40);
 memcpy(a+40,e,40);
 a[80]=0;
-Km=r8(a+8);
-if(r8(a+32)>Km)Lm=Km;
-else{
-Mm=make_ready_8e3(a,1,16);
-if(!(Mm&1)){
-F=0;
-goto L1;}
-Lm=r8(a+8);}
-*(rp(a)+Lm)=60;
-w8(a+8,Lm+1);
-Nm=r8(a+160);
-if(r8(a+184)>Nm)Om=Nm;
-else{
-Pm=make_ready_e3c(a+152);
-if(!(Pm&1)){
-F=0;
-goto L1;}
-Om=r8(a+160);}
-Qm=rp(a+152)+(Om<<5);
-*Qm=10;
-Qm[1]=0;
-x8(Qm+8,Ei);
-x8(Qm+16,Km);
-Qm[24]=0;
-w8(a+160,Om+1);
-Ea=0;
-Fa=0;
-Ga=0;
-Ha=1;
-goto L7;
-case 7:if(!xi){
-F=0;
-goto L1;}
 Rm=r8(a+8);
 if(r8(a+32)>Rm)Sm=Rm;
 else{
@@ -89528,18 +93571,18 @@ F=0;
 goto L1;}
 Vm=r8(a+160);}
 Xm=rp(a+152)+(Vm<<5);
-*Xm=9;
+*Xm=10;
 Xm[1]=0;
-x8(Xm+8,Ei);
+x8(Xm+8,Li);
 x8(Xm+16,Rm);
-Xm[24]=2;
+Xm[24]=0;
 w8(a+160,Vm+1);
-Ea=0;
-Fa=0;
-Ga=0;
-Ha=1;
-goto L7;
-case 8:if(!xi){
+La=0;
+Ma=0;
+Na=0;
+Oa=1;
+goto L9;
+case 7:if(!Ei){
 F=0;
 goto L1;}
 Ym=r8(a+8);
@@ -89561,111 +93604,144 @@ F=0;
 goto L1;}
 cn=r8(a+160);}
 en=rp(a+152)+(cn<<5);
-*en=10;
+*en=9;
 en[1]=0;
-x8(en+8,Ei);
+x8(en+8,Li);
 x8(en+16,Ym);
-en[24]=0;
+en[24]=2;
 w8(a+160,cn+1);
-Ea=0;
-Fa=0;
-Ga=0;
-Ha=1;
-goto L7;
-case 10:switch(xa){
-case 0:case 2:case 3:fn=r8(a+8);
-if(r8(a+32)-fn<4){
-gn=make_ready_8e3(a,4,128);
-if(!(gn&1)){
+La=0;
+Ma=0;
+Na=0;
+Oa=1;
+goto L9;
+case 8:if(!Ei){
 F=0;
 goto L1;}
-hn=r8(a+8);}
-else hn=fn;
-in=r8(a+16);
-if(in-hn<4){
-jn=grow_amortized_2b6(a,4);
-if(!jn){
-F=0;
-goto L1;}
-kn=r8(a+16);
-ln=r8(a+8);}
+fn=r8(a+8);
+if(r8(a+32)>fn)gn=fn;
 else{
-kn=in;
-ln=hn;}
-mn=ln+4;
-nn=rp(a);
+hn=make_ready_8e3(a,1,16);
+if(!(hn&1)){
+F=0;
+goto L1;}
+gn=r8(a+8);}
+*(rp(a)+gn)=60;
+w8(a+8,gn+1);
+in=r8(a+160);
+if(r8(a+184)>in)jn=in;
+else{
+kn=make_ready_e3c(a+152);
+if(!(kn&1)){
+F=0;
+goto L1;}
+jn=r8(a+160);}
+ln=rp(a+152)+(jn<<5);
+*ln=10;
+ln[1]=0;
+x8(ln+8,Li);
+x8(ln+16,fn);
+ln[24]=0;
+w8(a+160,jn+1);
+La=0;
+Ma=0;
+Na=0;
+Oa=1;
+goto L9;
+case 10:switch(Ea){
+case 0:case 2:case 3:mn=r8(a+8);
+if(r8(a+32)-mn<4){
+nn=make_ready_8e3(a,4,128);
+if(!(nn&1)){
+F=0;
+goto L1;}
+on=r8(a+8);}
+else on=mn;
+pn=r8(a+16);
+if(pn-on<4){
+qn=grow_amortized_2b6(a,4);
+if(!qn){
+F=0;
+goto L1;}
+rn=r8(a+16);
+sn=r8(a+8);}
+else{
+rn=pn;
+sn=on;}
+tn=sn+4;
+un=rp(a);
 z16(a+8);
-on=nn+(i64)ln;
-if((u64)on-(u64)(u8*)t_fa21<4)copy_bits_4f4((u8*)t_fa21,on,4);
-else x4(on,544432416);
-wp(a,nn);
-w8(a+8,mn);
-w8(a+16,kn);
-pn=r8(a+160);
-if(r8(a+184)>pn)qn=pn;
+vn=un+(i64)sn;
+if((u64)vn-(u64)(u8*)t_fa21<4)copy_bits_4f4((u8*)t_fa21,vn,4);
+else x4(vn,544432416);
+wp(a,un);
+w8(a+8,tn);
+w8(a+16,rn);
+wn=r8(a+160);
+if(r8(a+184)>wn)xn=wn;
 else{
-rn=make_ready_e3c(a+152);
-if(!(rn&1)){
+yn=make_ready_e3c(a+152);
+if(!(yn&1)){
 F=0;
 goto L1;}
-qn=r8(a+160);}
-sn=rp(a+152)+(qn<<5);
-*sn=11;
-sn[1]=0;
-x8(sn+8,Ei);
-x8(sn+16,Fi);
-sn[24]=0;
-w8(a+160,qn+1);
-Ea=0;
-Fa=0;
-Ga=0;
-Ha=0;
-goto L7;
+xn=r8(a+160);}
+zn=rp(a+152)+(xn<<5);
+*zn=11;
+zn[1]=0;
+x8(zn+8,Li);
+x8(zn+16,Mi);
+zn[24]=0;
+w8(a+160,xn+1);
+La=0;
+Ma=0;
+Na=0;
+Oa=0;
+goto L9;
 case 1:case 4:F=0;
 goto L1;
 default:NEVER;
 }
 break;
-case 11:switch(xa){
-case 0:case 2:tn=r8(a+8);
-if(r8(a+32)>tn)un=tn;
+case 11:switch(Ea){
+case 0:case 2:An=r8(a+8);
+if(r8(a+32)>An)Bn=An;
 else{
-vn=make_ready_8e3(a,1,16);
-if(!(vn&1)){
+Cn=make_ready_8e3(a,1,16);
+if(!(Cn&1)){
 F=0;
 goto L1;}
-un=r8(a+8);}
-*(rp(a)+un)=62;
-wn=un+1;
-w8(a+8,wn);
-if(r8(a+136)<=Ei){
+Bn=r8(a+8);}
+*(rp(a)+Bn)=62;
+Dn=Bn+1;
+w8(a+8,Dn);
+if(r8(a+136)<=Li){
 F=0;
 goto L1;}
-xn=r8(a+96);
-if(xn>65534){
+En=r8(a+96);
+if(En>65534){
 F=0;
 goto L1;}
-yn=a[80];
-if(r8(a+120)>xn)zn=xn;
+Fn=a[80];
+if(r8(a+120)>En)Gn=En;
 else{
-An=make_ready_b73(a+88);
-if(!(An&1)){
+Hn=make_ready_b73(a+88);
+if(!(Hn&1)){
 F=0;
 goto L1;}
-zn=r8(a+96);}
-Bn=rp(a+88)+zn*24;
-x8(Bn,Fi);
-x8(Bn+8,wn);
-Bn[16]=0;
-Bn[17]=yn;
-z6(Bn+18);
-w8(a+96,zn+1);
-w2(rp(a+128)+(i64)(Ei<<1),(u16)xn+1);
-Ea=0;
-Fa=Fi;
-Ga=0;
-Ha=2;
-goto L7;
+Gn=r8(a+96);}
+In=rp(a+88)+Gn*24;
+x8(In,Mi);
+x8(In+8,Dn);
+In[16]=0;
+In[17]=Fn;
+z6(In+18);
+w8(a+96,Gn+1);
+w2(rp(a+128)+(i64)(Li<<1),(u16)En+1);
+La=0;
+Ma=Mi;
+Na=0;
+Oa=2;
+goto L9;
 case 1:case 3:case 4:F=0;
 goto L1;
 default:NEVER;
@@ -89673,20 +93749,20 @@ default:NEVER;
 break;
 default:NEVER;
 }
-if(Mi!=1){
+if(Ti!=1){
 F=0;
 goto L1;}
-Ea=Qi;
-Fa=Pi;
-Ga=Oi;
-Ha=Ni;
-L7:Cn=N+1;
-if(Cn!=M){
-N=Cn;
-O=Ea;
-P=Fa;
-Q=Ga;
-R=Ha;
+La=Xi;
+Ma=Wi;
+Na=Vi;
+Oa=Ui;
+L9:Jn=N+1;
+if(Jn!=M){
+N=Jn;
+O=La;
+P=Ma;
+Q=Na;
+R=Oa;
 goto L2;}
 F=0;}}
 else F=0;}
@@ -103490,7 +107566,7 @@ if(d==0){
 o=r4(b);
 p=b[4];
 if(p==0){
-q=umin64(o>>2,(f<<3)+1024);
+q=umin64(o>>2,(f<<5)+1024);
 r=q;
 if(r8(c+472)!=0)w8(c+472,0);
 w8(c+488,q);
@@ -115274,7 +119350,7 @@ wp(i+40,(u8*)65536);
 z16(i+48);
 wp(i+80,(u8*)65536);
 z104(i+88);
-n=umin64(m>>2,(e<<3)+1024);
+n=umin64(m>>2,(e<<5)+1024);
 w8(i+24,n);
 w8(i+32,0);
 w8(i+64,e);
@@ -117034,7 +121110,7 @@ wp(i+40,(u8*)65536);
 z16(i+48);
 wp(i+80,(u8*)65536);
 z104(i+88);
-n=umin64(m>>2,(e<<3)+1024);
+n=umin64(m>>2,(e<<5)+1024);
 w8(i+24,n);
 w8(i+32,0);
 w8(i+64,e);

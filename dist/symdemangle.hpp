@@ -146,17 +146,24 @@ inline std::optional<std::string> filtered(std::string_view log, options asked =
 }
 
 // The spelling of a name in which each part that repeats is a reference, so that different spellings of the same symbol become
-// equal; null where it isn't read.
-inline std::optional<std::string> pressed(std::string_view name, refusal *why = nullptr)
+// equal; null where it has none. Of the flags SYMDEMANGLE_WIDE alone says anything here: newer and rarer C++ forms are spelled, too.
+inline std::optional<std::string> pressed(std::string_view name, options asked, refusal *why = nullptr)
 {
     symdemangle_result result;
+    const std::uint32_t flags = SYMDEMANGLE_UNDERSCORE | (asked.flags & SYMDEMANGLE_WIDE);
     auto made = detail::written(
         [&](char *buffer, std::size_t capacity) {
-            return symdemangle_press(name.data(), name.size(), SYMDEMANGLE_UNDERSCORE, buffer, capacity, &result);
+            return symdemangle_press(name.data(), name.size(), flags, buffer, capacity, &result);
         },
         result);
     detail::tell(result, why);
     return made;
+}
+
+// The same without these forms.
+inline std::optional<std::string> pressed(std::string_view name, refusal *why = nullptr)
+{
+    return pressed(name, options{SYMDEMANGLE_UNDERSCORE}, why);
 }
 
 // The work that reading a name takes; null where it isn't read.

@@ -1,0 +1,125 @@
+-- Tasks that are added before others, and the marks that they lead to.
+use Rattle.std.proofs.Common.{◌≡◌, ℕ, ◌+◌, ◌*◌, ◌≤◌, ◌<◌, List, ◌∷◌, ◌++◌, length, refl, sym, ap, ◌∙◌, arith, append_assoc, append-nil, subst}
+use Rattle.std.specs.List.{All}
+use Rattle.std.proofs.lemmas.List.Elements.{All-cons}
+use Rattle.cpp_layout.specs.declared.context.Context.{Context}
+use Rattle.cpp_layout.specs.Layout.{ReadSymbol, table_of, unshared_of}
+use Rattle.cpp_tree.specs.Views.{plain_tree}
+use Rattle.sym_print.specs.declared.layout.Item.{Item}
+use Rattle.sym_print.specs.Unshared.{steps_of}
+use Rattle.sym_parts.specs.declared.role.Role.{Role}
+use Rattle.sym_parts.specs.Marked.{Marked, text, marked, text_of, ◌before◌}
+use Rattle.sym_parts.specs.Marked as marks
+use Rattle.sym_parts.specs.Marks.{skip, begin, marks_of}
+use Rattle.sym_parts.proofs.Turns.{marks_of-before}
+use Rattle.cpp_parts.specs.Roles.{elements, name, encoding, alone}
+use Rattle.cpp_parts.specs.Tasks.{marks_of_task, marks_of_tasks, IsTask, IsPayable, weight_of_task, weight_of_tasks, Grows}
+use Rattle.cpp_parts.specs.declared.task.Task.{Task}
+use Rattle.cpp_parts.specs.declared.task.Task.TheVariants as task
+
+-- one marked text before another, before a third
+pub before-assoc : (m n o : Marked) → (m before n) before o ≡ m before (n before o)
+unfolding ◌before◌
+before-assoc marks.done n o = refl
+before-assoc (text b rest) n o = ap (text b) (before-assoc rest n o)
+before-assoc (marked r inside rest) n o = ap (marked r inside) (before-assoc rest n o)
+
+-- before nothing
+pub before-done : (m : Marked) → m before marks.done ≡ m
+unfolding ◌before◌
+before-done marks.done = refl
+before-done (text b rest) = ap (text b) (before-done rest)
+before-done (marked r inside rest) = ap (marked r inside) (before-done rest)
+
+module _ (y : ReadSymbol) (most : ℕ) where
+  -- the same marks, in no more steps
+  pub grow-same : (old new : List Task) (m n : Marked) (s t : ℕ) → Grows y most old new m s → m ≡ n → s ≤ t → Grows y most old new n t
+  grow-same old new m n s t grows same few = record {
+    adds = λ others behind taken adds.
+        let one = grows.adds others behind taken adds in
+        record {
+          marks = one.marks ∙ ap (λ p. marks_of (p before behind) ++ marks_of_tasks y others) same;
+          all = one.all;
+          weight = omega (arith, one.weight, few);
+        };
+  }
+
+  -- one after the other: what is added later comes first
+  pub grow-then : (old between new : List Task) (m n : Marked) (s t : ℕ) → Grows y most old between m s → Grows y most between new n t → Grows y most old new (n before m) (s + t)
+  grow-then old between new m n s t first second = record {
+    adds = λ others behind taken adds.
+        let one = second.adds others (m before behind) (taken + s) (first.adds others behind taken adds) in
+        record {
+          marks = one.marks ∙ ap (λ p. marks_of p ++ marks_of_tasks y others) (sym (before-assoc n m behind));
+          all = one.all;
+          weight = omega (arith, one.weight);
+        };
+  }
+
+  -- this many bytes
+  pub grow-skip : (old new : List Task) (n : ℕ) (b : List ℕ) → new ≡ task.Skip n ∷ old → n ≡ length b → Grows y most old new (text b marks.done) 1
+  unfolding marks_of ◌before◌ marks_of_tasks marks_of_task IsTask weight_of_tasks weight_of_task
+  grow-skip old new n b is long = record {
+    adds = λ others behind taken adds. record {
+      marks = ap (marks_of_tasks y) is ∙ ap (λ ms. skip n ∷ ms) adds.marks ∙ ap (λ l. skip l ∷ (marks_of behind ++ marks_of_tasks y others)) long;
+      all = λ h. subst (All (IsTask y most)) (sym is) (All-cons (IsTask y most) (task.Skip n) old tt (adds.all h));
+      weight = omega (arith, ap (weight_of_tasks y) is, adds.weight);
+    };
+  }
+
+  -- the beginning of a part, before what is in it
+  pub grow-begin : (old between new : List Task) (role : Role) (n : ℕ) (inside : Marked) (s : ℕ) → new ≡ task.Begin role n ∷ between → n ≡ length (text_of inside)
+      → Grows y most old between inside s → Grows y most old new (marked role inside marks.done) (s + 1)
+  unfolding marks_of ◌before◌ marks_of_tasks marks_of_task IsTask weight_of_tasks weight_of_task
+  grow-begin old between new role n inside s is long grows = record {
+    adds = λ others behind taken adds.
+        let one = grows.adds others behind taken adds in
+        record {
+          marks =
+              ap (marks_of_tasks y) is
+              ∙ ap (λ ms. begin role n ∷ ms) (one.marks ∙ ap (λ ms. ms ++ marks_of_tasks y others) (marks_of-before inside behind))
+              ∙ ap (λ l. begin role l ∷ ((marks_of inside ++ marks_of behind) ++ marks_of_tasks y others)) long;
+          all = λ h. subst (All (IsTask y most)) (sym is) (All-cons (IsTask y most) (task.Begin role n) between tt (one.all h));
+          weight = omega (arith, ap (weight_of_tasks y) is, one.weight);
+        };
+  }
+
+  -- a task that isn't done at once
+  grow-task : (old new : List Task) (next : Task) (m : Marked) → new ≡ next ∷ old → marks_of_task y next ≡ marks_of m → IsTask y most next → Grows y most old new m (weight_of_task y next)
+  unfolding marks_of_tasks weight_of_tasks
+  grow-task old new next m is leads is_task = record {
+    adds = λ others behind taken adds. record {
+      marks =
+          ap (marks_of_tasks y) is
+          ∙ ap (λ ms. marks_of_task y next ++ ms) adds.marks
+          ∙ ap (λ ms. ms ++ (marks_of behind ++ marks_of_tasks y others)) leads
+          ∙ sym (append_assoc (marks_of m) (marks_of behind) (marks_of_tasks y others))
+          ∙ ap (λ ms. ms ++ marks_of_tasks y others) (sym (marks_of-before m behind));
+      all = λ h. subst (All (IsTask y most)) (sym is) (All-cons (IsTask y most) next old is_task (adds.all h));
+      weight = omega (arith, ap (weight_of_tasks y) is, adds.weight);
+    };
+  }
+
+  pub grow-name : (old new : List Task) (node : ℕ) (i : Item Context) → new ≡ task.Name node i ∷ old → node < length y.table.nodes → IsPayable y most i
+      → Grows y most old new (name (plain_tree (table_of y) node) (unshared_of y i)) (4 * steps_of (unshared_of y i))
+  unfolding marks_of_task IsTask weight_of_task
+  grow-name old new node i is below payable = grow-task old new (task.Name node i) (name (plain_tree (table_of y) node) (unshared_of y i)) is refl (below, payable)
+
+  pub grow-encoding : (old new : List Task) (node : ℕ) (i : Item Context) → new ≡ task.Encoding node i ∷ old → node < length y.table.nodes → IsPayable y most i
+      → Grows y most old new (encoding (plain_tree (table_of y) node) (unshared_of y i)) (4 * steps_of (unshared_of y i))
+  unfolding marks_of_task IsTask weight_of_task
+  grow-encoding old new node i is below payable =
+      grow-task old new (task.Encoding node i) (encoding (plain_tree (table_of y) node) (unshared_of y i)) is refl (below, payable)
+
+  pub grow-elements : (old new : List Task) (role : Role) (node : ℕ) (i : Item Context) → new ≡ task.Elements role node i ∷ old → node < length y.table.nodes → IsPayable y most i
+      → Grows y most old new (elements role (plain_tree (table_of y) node) (unshared_of y i)) (4 * steps_of (unshared_of y i))
+  unfolding marks_of_task IsTask weight_of_task
+  grow-elements old new role node i is below payable =
+      grow-task old new (task.Elements role node i) (elements role (plain_tree (table_of y) node) (unshared_of y i)) is refl (below, payable)
+
+  -- one part of this many bytes
+  pub grow-alone : (old between new : List Task) (role : Role) (n : ℕ) (b : List ℕ) → between ≡ task.Skip n ∷ old → new ≡ task.Begin role n ∷ between → n ≡ length b
+      → Grows y most old new (alone role b marks.done) 2
+  unfolding text_of
+  grow-alone old between new role n b first second long =
+      grow-begin old between new role n (text b marks.done) 1 second (long ∙ ap length (sym (append-nil b))) (grow-skip old between n b first long)

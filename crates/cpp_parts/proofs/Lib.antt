@@ -1,0 +1,7 @@
+mod Growing
+mod Measuring
+mod Standing
+mod Sorting
+mod Splitting
+mod Texts
+mod Walking

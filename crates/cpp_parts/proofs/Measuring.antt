@@ -1,0 +1,54 @@
+-- Lengths of what is marked, by the lengths of what is printed.
+use Rattle.std.proofs.Common.{◌≡◌, ℕ, ◌+◌, ◌≤◌, List, [], ◌++◌, length, refl, ap, ◌∙◌, arith, length-append}
+use Rattle.cpp_grammar.specs.Term.{Term}
+use Rattle.cpp_layout.specs.declared.context.Context.{Context}
+use Rattle.cpp_layout.specs.Layout.{ReadSymbol, unshared_of, bytes_of_part}
+use Rattle.sym_print.specs.declared.layout.Part.{Part}
+use Rattle.sym_print.specs.declared.layout.Part.TheVariants.{Sub}
+use Rattle.sym_print.specs.Joined.{IsText, text_of_part, cost_of_part}
+use Rattle.sym_print.specs.Unshared.{Unshared, text_of}
+use Rattle.sym_parts.specs.Marked.{Marked, text, marked, ◌before◌}
+use Rattle.sym_parts.specs.Marked as marks
+use Rattle.sym_parts.specs.declared.role.Role.{Role}
+use Rattle.sym_parts.proofs.Marks.{text_of-before}
+use Rattle.cpp_parts.specs.Roles.{plain, elements}
+use Rattle.cpp_parts.proofs.Texts.{text-elements}
+
+-- the text of a part that is no item
+pub text-of-text : (y : ReadSymbol) (part : Part Context) → IsText part → text_of_part (unshared_of y) (bytes_of_part y) part ≡ bytes_of_part y part
+text-of-text y (Sub x) is_text = elim is_text [ ]
+text-of-text y _ is_text = refl
+
+pub length-of-text : (y : ReadSymbol) (part : Part Context) (n : ℕ) → IsText part → n ≡ length (text_of_part (unshared_of y) (bytes_of_part y) part) → n ≡ length (bytes_of_part y part)
+length-of-text y part n is_text long = long ∙ ap length (text-of-text y part is_text)
+
+pub cost-of-text : (y : ReadSymbol) (part : Part Context) (most : ℕ) → IsText part → length (bytes_of_part y part) ≤ most → cost_of_part (unshared_of y) (bytes_of_part y) part ≤ most
+cost-of-text y (Sub x) most is_text paid = elim is_text [ ]
+cost-of-text y _ most is_text paid = paid
+
+-- the end of a text after its first bytes, before what is printed
+pub length-base : (b : List ℕ) (u : Unshared) (back n : ℕ) → back ≡ length b → n ≡ length (text_of u) → back + n ≡ length (marks.text_of (text b (plain u)))
+unfolding marks.text_of
+length-base b u back n first rest = omega (arith, first, rest, length-append b (text_of u ++ []), length-append (text_of u) [])
+
+-- two texts
+pub length-two : (b c : List ℕ) (n m : ℕ) → n ≡ length b → m ≡ length c → n + m ≡ length (marks.text_of (text b (text c marks.done)))
+unfolding marks.text_of
+length-two b c n m first second = omega (arith, first, second, length-append b (c ++ []), length-append c [])
+
+-- a list in brackets
+pub length-listed : (r : Role) (t : Term) (opening close : List ℕ) (u : Unshared) (n inside closing : ℕ) → length opening ≡ n → inside ≡ length (text_of u) → closing ≡ length close
+    → (n + inside) + closing ≡ length (marks.text_of (text opening (elements r t u before text close marks.done)))
+unfolding marks.text_of
+length-listed r t opening close u n inside closing first list last =
+    omega (
+      arith,
+      first,
+      list,
+      last,
+      length-append opening (marks.text_of (elements r t u before text close marks.done)),
+      ap length (text_of-before (elements r t u) (text close marks.done)),
+      length-append (marks.text_of (elements r t u)) (close ++ []),
+      ap length (text-elements r t u),
+      length-append close [],
+    )

@@ -1,0 +1,484 @@
+-- What is printed as it is, and parts in which there are no others.
+use Rattle.std.proofs.Common.{◌≡◌, ℕ, ◌-◌, ◌<◌, subst, List, [], ◌∷◌, Option, Some, None, Bool, true, false, length, take, drop, min, refl, sym, ap, ◌∙◌, arith, length-take, length-drop}
+use Rattle.cpp_grammar.specs.Term.{Term, symbol}
+use Rattle.cpp_layout.specs.Layout.{ReadSymbol, table_of}
+use Rattle.cpp_tree.specs.Views.{plain_tree}
+use Rattle.cpp_parts.proofs.Sorting.{by-no-name}
+use Rattle.cpp_parts.specs.declared.sorts.NameSort.{NameSort}
+use Rattle.cpp_parts.specs.declared.sorts.NameSort.TheVariants as names
+use Rattle.sym_print.specs.Unshared.{Unshared, done, bytes, item, text_of}
+use Rattle.sym_parts.specs.Marked.{Marked, text, marked, ◌before◌}
+use Rattle.sym_parts.specs.Marked as marks
+use Rattle.sym_parts.specs.declared.role.Role.{Role}
+use Rattle.sym_parts.specs.declared.role.Role.TheVariants as role
+use Rattle.cpp_parts.specs.Roles.{plain, alone, alone_if_any, words, returned, behind, elements, elements_after, element, element_of, rest_of, within, in_brackets, parameters, arguments, whole, named, are_colons, scoped, in_std, name, abbreviated, called, returning, special_name, encoding, suffixed, symbol_marked}
+use Rattle.cpp_tree.specs.Fields.{fields_of}
+use Rattle.cpp_tree.specs.declared.tree_production.TheConstants.{SYMBOL}
+use Rattle.cpp_parts.specs.Sorts.{elements_here, name_by, encoding_by, AreNamesBelow}
+use Rattle.cpp_parts.specs.declared.sorts.EncodingSort.TheVariants as encodings
+
+-- no part without bytes
+none-alone : (r : Role) (b : List ℕ) (rest : Marked) (n : ℕ) → n ≡ length b → n ≡ 0 → rest ≡ alone_if_any r b rest
+unfolding alone_if_any
+none-alone r [] rest n long none = refl
+none-alone r (b ∷ bs) rest n long none = absurd (omega (arith, long, none))
+
+one-alone : (r : Role) (b : List ℕ) (rest : Marked) (n : ℕ) → n ≡ length b → (n ≡ 0 → ⊥) → alone r b rest ≡ alone_if_any r b rest
+unfolding alone_if_any
+one-alone r [] rest n long some = absurd (some long)
+one-alone r (b ∷ bs) rest n long some = refl
+
+pub returned-none : (u right rest : Unshared) (n : ℕ) → u ≡ item right rest → n ≡ length (text_of right) → n ≡ 0 → plain rest ≡ returned u
+unfolding returned
+returned-none u right rest n is long none = none-alone role.ReturnType (text_of right) (plain rest) n long none ∙ sym (ap returned is)
+
+pub returned-some : (u right rest : Unshared) (n : ℕ) → u ≡ item right rest → n ≡ length (text_of right) → (n ≡ 0 → ⊥) → alone role.ReturnType (text_of right) (plain rest) ≡ returned u
+unfolding returned
+returned-some u right rest n is long some = one-alone role.ReturnType (text_of right) (plain rest) n long some ∙ sym (ap returned is)
+
+pub returned-nothing : (u : Unshared) → u ≡ done → plain u ≡ returned u
+unfolding returned
+returned-nothing u is = ap plain is ∙ sym (ap returned is)
+
+pub returned-text : (u : Unshared) (b : List ℕ) (rest : Unshared) → u ≡ bytes b rest → plain u ≡ returned u
+unfolding returned
+returned-text u b rest is = ap plain is ∙ sym (ap returned is)
+
+pub behind-nothing : (u : Unshared) → u ≡ done → returned u ≡ behind u
+unfolding behind
+behind-nothing u is = ap returned is ∙ sym (ap behind is)
+
+pub behind-item : (u one rest : Unshared) → u ≡ item one rest → returned u ≡ behind u
+unfolding behind
+behind-item u one rest is = ap returned is ∙ sym (ap behind is)
+
+pub behind-text : (u : Unshared) (b : List ℕ) (rest : Unshared) → u ≡ bytes b rest → alone role.Qualifiers b (returned rest) ≡ behind u
+unfolding behind
+behind-text u b rest is = sym (ap behind is)
+
+-- ## Elements after an element
+
+pub after-nothing : (r : Role) (t : Term) (u : Unshared) → u ≡ done → plain u ≡ elements_after r t u
+unfolding elements_after
+after-nothing r t u is = ap plain is ∙ sym (ap (elements_after r t) is)
+
+pub after-text : (r : Role) (t : Term) (u : Unshared) (b : List ℕ) (rest : Unshared) → u ≡ bytes b rest → plain u ≡ elements_after r t u
+unfolding elements_after
+after-text r t u b rest is = ap plain is ∙ sym (ap (elements_after r t) is)
+
+pub after-item : (r : Role) (t : Term) (u one rest : Unshared) → u ≡ item one rest → elements r t one before plain rest ≡ elements_after r t u
+unfolding elements_after
+after-item r t u one rest is = sym (ap (elements_after r t) is)
+
+-- ## Texts that are cut
+
+-- all but the last byte, and that
+pub last-lengths : (b : List ℕ) (count blank : ℕ) → length b ≡ count → blank ≡ min count 1
+    → (blank ≡ length (drop (length b - 1) b)) × (length (take (length b - 1) b) ≡ count - blank)
+last-lengths b count blank long is =
+    (omega (arith, long, is, length-drop (length b - 1) b), omega (arith, long, is, length-take (length b - 1) b))
+
+-- ## Elements
+
+pub here-nothing : (r : Role) (t : Term) (u : Unshared) → u ≡ done → plain u ≡ elements_here r t u
+unfolding elements_here
+here-nothing r t u is = ap plain is ∙ sym (ap (elements_here r t) is)
+
+pub here-text : (r : Role) (t : Term) (u : Unshared) (b : List ℕ) (rest : Unshared) → u ≡ bytes b rest → plain u ≡ elements_here r t u
+unfolding elements_here
+here-text r t u b rest is = ap plain is ∙ sym (ap (elements_here r t) is)
+
+pub from-skipped : (r : Role) (t s : Term) (u one rest : Unshared) → u ≡ item one rest → rest ≡ done → s ≡ rest_of t → elements r s one ≡ elements_here r t u
+unfolding elements_here
+from-skipped r t s u one rest is none same = ap (λ x. elements r x one) same ∙ sym (ap (elements_here r t) (is ∙ ap (item one) none))
+
+pub from-text : (r : Role) (t : Term) (u one rest : Unshared) (b : List ℕ) (others : Unshared) → u ≡ item one rest → rest ≡ bytes b others → plain u ≡ elements_here r t u
+unfolding elements_here
+from-text r t u one rest b others is behind_is =
+    ap plain (is ∙ ap (item one) behind_is) ∙ sym (ap (elements_here r t) (is ∙ ap (item one) behind_is))
+
+pub from-item : (r : Role) (t e s : Term) (u left rest right others : Unshared) → u ≡ item left rest → rest ≡ item right others → e ≡ element_of t → s ≡ rest_of t
+    → element r (within e) left right before elements_after r s others ≡ elements_here r t u
+unfolding elements_here
+from-item r t e s u left rest right others is behind_is one two =
+    ap (λ x. element r (within x) left right before elements_after r s others) one
+    ∙ ap (λ x. element r (within (element_of t)) left right before elements_after r x others) two
+    ∙ sym (ap (elements_here r t) (is ∙ ap (item left) behind_is))
+
+pub elements-nothing : (r : Role) (t : Term) (u : Unshared) → u ≡ done → plain u ≡ elements r t u
+unfolding elements
+elements-nothing r t u is = ap plain is ∙ sym (ap (elements r t) is)
+
+here-item : (r : Role) (t : Term) (one rest : Unshared) → elements_here r t (item one rest) ≡ elements r t (item one rest)
+unfolding elements_here elements
+here-item r t one done = refl
+here-item r t one (bytes b rest) = refl
+here-item r t one (item other rest) = refl
+
+pub elements-item : (r : Role) (t : Term) (u one rest : Unshared) → u ≡ item one rest → elements_here r t u ≡ elements r t u
+elements-item r t u one rest is = ap (elements_here r t) is ∙ here-item r t one rest ∙ sym (ap (elements r t) is)
+
+comma-here : (r : Role) (t : Term) (b : List ℕ) (rest : Unshared) → text b (elements_here r t rest) ≡ elements r t (bytes b rest)
+unfolding elements_here elements
+comma-here r t b done = refl
+comma-here r t b (bytes c rest) = refl
+comma-here r t b (item one done) = refl
+comma-here r t b (item one (bytes c rest)) = refl
+comma-here r t b (item one (item other rest)) = refl
+
+pub elements-text : (r : Role) (t : Term) (u : Unshared) (b : List ℕ) (rest : Unshared) → u ≡ bytes b rest → text b (elements_here r t rest) ≡ elements r t u
+elements-text r t u b rest is = comma-here r t b rest ∙ sym (ap (elements r t) is)
+
+-- ## An element of which the elements are listed
+
+abbrev pub lone : Role → (left right : Unshared) → Marked
+lone r left right = marked r (text (text_of left) (text (text_of right) marks.done)) marks.done
+
+pub within-nothing : (r : Role) (t : Term) (left right : Unshared) → left ≡ done → lone r left right ≡ element r (Some t) left right
+unfolding element
+within-nothing r t left right is = ap (λ x. lone r x right) is ∙ sym (ap (λ x. element r (Some t) x right) is)
+
+pub within-text : (r : Role) (t : Term) (left right : Unshared) (b : List ℕ) (rest : Unshared) → left ≡ bytes b rest → lone r left right ≡ element r (Some t) left right
+unfolding element
+within-text r t left right b rest is = ap (λ x. lone r x right) is ∙ sym (ap (λ x. element r (Some t) x right) is)
+
+pub within-item-text : (r : Role) (t : Term) (left right one rest : Unshared) (b : List ℕ) (others : Unshared) → left ≡ item one rest → rest ≡ bytes b others → lone r left right ≡ element r (Some t) left right
+unfolding element
+within-item-text r t left right one rest b others is behind_is =
+    ap (λ x. lone r x right) (is ∙ ap (item one) behind_is) ∙ sym (ap (λ x. element r (Some t) x right) (is ∙ ap (item one) behind_is))
+
+pub within-item-item : (r : Role) (t : Term) (left right one rest other others : Unshared) → left ≡ item one rest → rest ≡ item other others → lone r left right ≡ element r (Some t) left right
+unfolding element
+within-item-item r t left right one rest other others is behind_is =
+    ap (λ x. lone r x right) (is ∙ ap (item one) behind_is) ∙ sym (ap (λ x. element r (Some t) x right) (is ∙ ap (item one) behind_is))
+
+pub within-text-right : (r : Role) (t : Term) (left right one rest : Unshared) (b : List ℕ) (others : Unshared) → left ≡ item one rest → rest ≡ done → right ≡ bytes b others → lone r left right ≡ element r (Some t) left right
+unfolding element
+within-text-right r t left right one rest b others is none right_is =
+    ap (λ x. lone r x right) (is ∙ ap (item one) none) ∙ ap (lone r (item one done)) right_is
+    ∙ sym (ap (λ x. element r (Some t) x right) (is ∙ ap (item one) none) ∙ ap (element r (Some t) (item one done)) right_is)
+
+pub within-item-right : (r : Role) (t : Term) (left right one rest other others : Unshared) → left ≡ item one rest → rest ≡ done → right ≡ item other others → lone r left right ≡ element r (Some t) left right
+unfolding element
+within-item-right r t left right one rest other others is none right_is =
+    ap (λ x. lone r x right) (is ∙ ap (item one) none) ∙ ap (lone r (item one done)) right_is
+    ∙ sym (ap (λ x. element r (Some t) x right) (is ∙ ap (item one) none) ∙ ap (element r (Some t) (item one done)) right_is)
+
+pub within-elements : (r : Role) (t : Term) (left right one rest : Unshared) → left ≡ item one rest → rest ≡ done → right ≡ done → elements r t one ≡ element r (Some t) left right
+unfolding element
+within-elements r t left right one rest is none right_is =
+    sym (ap (λ x. element r (Some t) x right) (is ∙ ap (item one) none) ∙ ap (element r (Some t) (item one done)) right_is)
+
+pub without-elements : (r : Role) (o : Option Term) (left right : Unshared) → o ≡ None → lone r left right ≡ element r o left right
+unfolding element
+without-elements r o left right is = sym (ap (λ x. element r x left right) is)
+
+-- ## Brackets
+
+pub brackets-nothing : (r e : Role) (t : Term) (b : List ℕ) (u : Unshared) → u ≡ done → text b (plain u) ≡ in_brackets r e t b u
+unfolding in_brackets
+brackets-nothing r e t b u is = ap (λ x. text b (plain x)) is ∙ sym (ap (in_brackets r e t b) is)
+
+pub brackets-text : (r e : Role) (t : Term) (b : List ℕ) (u : Unshared) (close : List ℕ) (rest : Unshared) → u ≡ bytes close rest → in_brackets r e t b (bytes close rest) ≡ in_brackets r e t b u
+brackets-text r e t b u close rest is = sym (ap (in_brackets r e t b) is)
+
+pub brackets-item-text : (r e : Role) (t : Term) (b : List ℕ) (u one rest : Unshared) (close : List ℕ) (others : Unshared) → u ≡ item one rest → rest ≡ bytes close others
+    → in_brackets r e t b (item one (bytes close others)) ≡ in_brackets r e t b u
+brackets-item-text r e t b u one rest close others is behind_is = sym (ap (in_brackets r e t b) (is ∙ ap (item one) behind_is))
+
+pub brackets-item-nothing : (r e : Role) (t : Term) (b : List ℕ) (u one rest : Unshared) → u ≡ item one rest → rest ≡ done → text b (plain u) ≡ in_brackets r e t b u
+unfolding in_brackets
+brackets-item-nothing r e t b u one rest is none = ap (λ x. text b (plain x)) (is ∙ ap (item one) none) ∙ sym (ap (in_brackets r e t b) (is ∙ ap (item one) none))
+
+pub brackets-item-item : (r e : Role) (t : Term) (b : List ℕ) (u one rest other others : Unshared) → u ≡ item one rest → rest ≡ item other others → text b (plain u) ≡ in_brackets r e t b u
+unfolding in_brackets
+brackets-item-item r e t b u one rest other others is behind_is =
+    ap (λ x. text b (plain x)) (is ∙ ap (item one) behind_is) ∙ sym (ap (in_brackets r e t b) (is ∙ ap (item one) behind_is))
+
+pub params-nothing : (t : Term) (u : Unshared) → u ≡ done → plain u ≡ parameters t u
+unfolding parameters
+params-nothing t u is = ap plain is ∙ sym (ap (parameters t) is)
+
+pub params-item : (t : Term) (u one rest : Unshared) → u ≡ item one rest → plain u ≡ parameters t u
+unfolding parameters
+params-item t u one rest is = ap plain is ∙ sym (ap (parameters t) is)
+
+pub params-text : (t : Term) (u : Unshared) (b : List ℕ) (rest : Unshared) → u ≡ bytes b rest → in_brackets role.Parameters role.Parameter t b rest ≡ parameters t u
+unfolding parameters
+params-text t u b rest is = sym (ap (parameters t) is)
+
+pub args-nothing : (t : Term) (u : Unshared) → u ≡ done → plain u ≡ arguments t u
+unfolding arguments
+args-nothing t u is = ap plain is ∙ sym (ap (arguments t) is)
+
+pub args-item : (t : Term) (u one rest : Unshared) → u ≡ item one rest → plain u ≡ arguments t u
+unfolding arguments
+args-item t u one rest is = ap plain is ∙ sym (ap (arguments t) is)
+
+pub args-text : (t : Term) (u : Unshared) (b : List ℕ) (rest : Unshared) → u ≡ bytes b rest
+    → text (take (length b - 1) b) (in_brackets role.GenericArguments role.GenericArgument t (drop (length b - 1) b) rest) ≡ arguments t u
+unfolding arguments
+args-text t u b rest is = sym (ap (arguments t) is)
+
+-- ## Names without arguments
+
+pub named-nothing : (u : Unshared) → u ≡ done → whole role.Base u ≡ named u
+unfolding named
+named-nothing u is = ap (whole role.Base) is ∙ sym (ap named is)
+
+pub named-item-nothing : (u one rest : Unshared) → u ≡ item one rest → rest ≡ done → whole role.Base u ≡ named u
+unfolding named
+named-item-nothing u one rest is none = ap (whole role.Base) (is ∙ ap (item one) none) ∙ sym (ap named (is ∙ ap (item one) none))
+
+pub named-item-item : (u one rest other others : Unshared) → u ≡ item one rest → rest ≡ item other others → whole role.Base u ≡ named u
+unfolding named
+named-item-item u one rest other others is behind_is = ap (whole role.Base) (is ∙ ap (item one) behind_is) ∙ sym (ap named (is ∙ ap (item one) behind_is))
+
+chosen-true : (test : Bool) (m n : Marked) → test ≡ true → m ≡ elim test [ true ↦ m | false ↦ n ]
+chosen-true true m n is = refl
+chosen-true false m n is = absurd (cc is)
+
+chosen-false : (test : Bool) (m n : Marked) → test ≡ false → n ≡ elim test [ true ↦ m | false ↦ n ]
+chosen-false false m n is = refl
+chosen-false true m n is = absurd (cc is)
+
+pub named-item-scoped : (u one rest : Unshared) (b : List ℕ) (others : Unshared) → u ≡ item one rest → rest ≡ bytes b others → are_colons b ≡ true → scoped (text_of one) b others ≡ named u
+unfolding named
+named-item-scoped u one rest b others is behind_is colons =
+    chosen-true (are_colons b) (scoped (text_of one) b others) (whole role.Base (item one (bytes b others))) colons ∙ sym (ap named (is ∙ ap (item one) behind_is))
+
+pub named-item-plain : (u one rest : Unshared) (b : List ℕ) (others : Unshared) → u ≡ item one rest → rest ≡ bytes b others → are_colons b ≡ false → whole role.Base u ≡ named u
+unfolding named
+named-item-plain u one rest b others is behind_is colons =
+    ap (whole role.Base) (is ∙ ap (item one) behind_is)
+    ∙ chosen-false (are_colons b) (scoped (text_of one) b others) (whole role.Base (item one (bytes b others))) colons
+    ∙ sym (ap named (is ∙ ap (item one) behind_is))
+
+pub named-text-nothing : (u : Unshared) (b : List ℕ) (rest : Unshared) → u ≡ bytes b rest → rest ≡ done → whole role.Base u ≡ named u
+unfolding named
+named-text-nothing u b rest is none = ap (whole role.Base) (is ∙ ap (bytes b) none) ∙ sym (ap named (is ∙ ap (bytes b) none))
+
+pub named-text-text : (u : Unshared) (b : List ℕ) (rest : Unshared) (c : List ℕ) (others : Unshared) → u ≡ bytes b rest → rest ≡ bytes c others → whole role.Base u ≡ named u
+unfolding named
+named-text-text u b rest c others is behind_is = ap (whole role.Base) (is ∙ ap (bytes b) behind_is) ∙ sym (ap named (is ∙ ap (bytes b) behind_is))
+
+pub named-text-std : (u : Unshared) (b : List ℕ) (rest one others : Unshared) → u ≡ bytes b rest → rest ≡ item one others → others ≡ done → in_std b rest ≡ named u
+unfolding named
+named-text-std u b rest one others is behind_is none =
+    ap (in_std b) (behind_is ∙ ap (item one) none) ∙ sym (ap named (is ∙ ap (bytes b) (behind_is ∙ ap (item one) none)))
+
+pub named-text-item-text : (u : Unshared) (b : List ℕ) (rest one others : Unshared) (c : List ℕ) (more : Unshared) → u ≡ bytes b rest → rest ≡ item one others → others ≡ bytes c more → whole role.Base u ≡ named u
+unfolding named
+named-text-item-text u b rest one others c more is behind_is last =
+    ap (whole role.Base) (is ∙ ap (bytes b) (behind_is ∙ ap (item one) last)) ∙ sym (ap named (is ∙ ap (bytes b) (behind_is ∙ ap (item one) last)))
+
+pub named-text-item-item : (u : Unshared) (b : List ℕ) (rest one others other more : Unshared) → u ≡ bytes b rest → rest ≡ item one others → others ≡ item other more → whole role.Base u ≡ named u
+unfolding named
+named-text-item-item u b rest one others other more is behind_is last =
+    ap (whole role.Base) (is ∙ ap (bytes b) (behind_is ∙ ap (item one) last)) ∙ sym (ap named (is ∙ ap (bytes b) (behind_is ∙ ap (item one) last)))
+
+-- the first bytes of a text, and the others
+pub front-lengths : (n : ℕ) (b : List ℕ) (count front : ℕ) → count ≡ length b → front ≡ min count n → (front ≡ length (take n b)) × (count - front ≡ length (drop n b))
+front-lengths n b count front long is = (omega (arith, long, is, length-take n b), omega (arith, long, is, length-drop n b))
+
+pub abbreviation-lengths : (b : List ℕ) (count front between : ℕ) → count ≡ length b → front ≡ min count 3 → between ≡ min (count - front) 2
+    → (front ≡ length (take 3 b)) × (between ≡ length (take 2 (drop 3 b))) × ((count - front) - between ≡ length (drop 2 (drop 3 b)))
+abbreviation-lengths b count front between long is next = (
+  omega (arith, long, is, length-take 3 b),
+  omega (arith, long, is, next, length-take 2 (drop 3 b), length-drop 3 b),
+  omega (arith, long, is, next, length-drop 2 (drop 3 b), length-drop 3 b),
+)
+
+-- ## Names by their sorts
+
+pub sort-instance : (y : ReadSymbol) (sort : NameSort) (n m : ℕ) (u one rest : Unshared) → sort ≡ names.Instance n m → u ≡ item one rest
+    → name (plain_tree (table_of y) n) one before arguments (plain_tree (table_of y) m) rest ≡ name_by y sort u
+unfolding name_by
+sort-instance y sort n m u one rest e is = sym (ap (λ s. name_by y s u) e ∙ ap (name_by y (names.Instance n m)) is)
+
+pub sort-tagged : (y : ReadSymbol) (sort : NameSort) (n : ℕ) (u one rest : Unshared) → sort ≡ names.Tagged n → u ≡ item one rest
+    → name (plain_tree (table_of y) n) one before whole role.AbiTag rest ≡ name_by y sort u
+unfolding name_by
+sort-tagged y sort n u one rest e is = sym (ap (λ s. name_by y s u) e ∙ ap (name_by y (names.Tagged n)) is)
+
+pub sort-inner : (y : ReadSymbol) (sort : NameSort) (n : ℕ) (u one rest : Unshared) → sort ≡ names.Inner n → u ≡ item one rest
+    → name (plain_tree (table_of y) n) one before plain rest ≡ name_by y sort u
+unfolding name_by
+sort-inner y sort n u one rest e is = sym (ap (λ s. name_by y s u) e ∙ ap (name_by y (names.Inner n)) is)
+
+pub sort-abbreviation : (y : ReadSymbol) (sort : NameSort) (u one rest : Unshared) → sort ≡ names.Abbreviation → u ≡ item one rest → whole role.Base u ≡ name_by y sort u
+unfolding name_by abbreviated
+sort-abbreviation y sort u one rest e is = ap (whole role.Base) is ∙ sym (ap (λ s. name_by y s u) e ∙ ap (name_by y names.Abbreviation) is)
+
+pub sort-other : (y : ReadSymbol) (sort : NameSort) (u : Unshared) → sort ≡ names.Other → named u ≡ name_by y sort u
+sort-other y sort u e = by-no-name y u ∙ sym (ap (λ s. name_by y s u) e)
+
+pub below-first : (count : ℕ) (sort : NameSort) (n m : ℕ) → sort ≡ names.Instance n m → AreNamesBelow count sort → n < count
+below-first count sort n m e below = (subst (AreNamesBelow count) e below).0
+
+pub below-second : (count : ℕ) (sort : NameSort) (n m : ℕ) → sort ≡ names.Instance n m → AreNamesBelow count sort → m < count
+below-second count sort n m e below = (subst (AreNamesBelow count) e below).1
+
+pub below-tagged : (count : ℕ) (sort : NameSort) (n : ℕ) → sort ≡ names.Tagged n → AreNamesBelow count sort → n < count
+below-tagged count sort n e below = subst (AreNamesBelow count) e below
+
+pub below-inner : (count : ℕ) (sort : NameSort) (n : ℕ) → sort ≡ names.Inner n → AreNamesBelow count sort → n < count
+below-inner count sort n e below = subst (AreNamesBelow count) e below
+
+nothing-by : (y : ReadSymbol) (sort : NameSort) → whole role.Base done ≡ name_by y sort done
+unfolding name_by abbreviated named
+nothing-by y (names.Instance n m) = refl
+nothing-by y (names.Tagged n) = refl
+nothing-by y (names.Inner n) = refl
+nothing-by y names.Abbreviation = refl
+nothing-by y names.Other = refl
+
+pub byname-nothing : (y : ReadSymbol) (sort : NameSort) (u : Unshared) → u ≡ done → whole role.Base u ≡ name_by y sort u
+byname-nothing y sort u is = ap (whole role.Base) is ∙ nothing-by y sort ∙ sym (ap (name_by y sort) is)
+
+pub byname-abbreviation : (y : ReadSymbol) (sort : NameSort) (u : Unshared) (b : List ℕ) (rest : Unshared) → sort ≡ names.Abbreviation → u ≡ bytes b rest → abbreviated (bytes b rest) ≡ name_by y sort u
+unfolding name_by
+byname-abbreviation y sort u b rest e is = sym (ap (λ s. name_by y s u) e ∙ ap (name_by y names.Abbreviation) is)
+
+text-by : (y : ReadSymbol) (sort : NameSort) (b : List ℕ) (rest : Unshared) → (sort ≡ names.Abbreviation → ⊥) → named (bytes b rest) ≡ name_by y sort (bytes b rest)
+unfolding name_by
+text-by y (names.Instance n m) b rest other = refl
+text-by y (names.Tagged n) b rest other = refl
+text-by y (names.Inner n) b rest other = refl
+text-by y names.Abbreviation b rest other = absurd (other refl)
+text-by y names.Other b rest other = refl
+
+pub byname-text : (y : ReadSymbol) (sort : NameSort) (u : Unshared) (b : List ℕ) (rest : Unshared) → (sort ≡ names.Abbreviation → ⊥) → u ≡ bytes b rest → named u ≡ name_by y sort u
+byname-text y sort u b rest other is = ap named is ∙ text-by y sort b rest other ∙ sym (ap (name_by y sort) is)
+
+-- ## Encodings
+
+pub called-nothing : (n p : Term) (u : Unshared) → u ≡ done → plain u ≡ called n p u
+unfolding called
+called-nothing n p u is = ap plain is ∙ sym (ap (called n p) is)
+
+pub called-text : (n p : Term) (u : Unshared) (b : List ℕ) (rest : Unshared) → u ≡ bytes b rest → plain u ≡ called n p u
+unfolding called
+called-text n p u b rest is = ap plain is ∙ sym (ap (called n p) is)
+
+pub called-item : (n p : Term) (u one rest : Unshared) → u ≡ item one rest → name n one before parameters p rest ≡ called n p u
+unfolding called
+called-item n p u one rest is = sym (ap (called n p) is)
+
+pub returning-nothing : (nothing : Bool) (n p : Term) (u : Unshared) → nothing ≡ true → called n p u ≡ returning nothing n p u
+unfolding returning
+returning-nothing nothing n p u e = sym (ap (λ x. returning x n p u) e)
+
+pub returning-some : (nothing : Bool) (n p : Term) (u : Unshared) → nothing ≡ false → returning false n p u ≡ returning nothing n p u
+returning-some nothing n p u e = sym (ap (λ x. returning x n p u) e)
+
+pub returning-done : (nothing : Bool) (n p : Term) (u : Unshared) → nothing ≡ false → u ≡ done → called n p u ≡ returning nothing n p u
+unfolding returning
+returning-done nothing n p u e is = ap (called n p) is ∙ sym (ap (λ x. returning x n p u) e ∙ ap (returning false n p) is)
+
+pub returning-text : (nothing : Bool) (n p : Term) (u : Unshared) (b : List ℕ) (rest : Unshared) → nothing ≡ false → u ≡ bytes b rest → called n p u ≡ returning nothing n p u
+unfolding returning
+returning-text nothing n p u b rest e is = ap (called n p) is ∙ sym (ap (λ x. returning x n p u) e ∙ ap (returning false n p) is)
+
+pub returning-item-done : (n p : Term) (u one rest : Unshared) → u ≡ item one rest → rest ≡ done → called n p u ≡ returning false n p u
+unfolding returning
+returning-item-done n p u one rest is none = ap (called n p) (is ∙ ap (item one) none) ∙ sym (ap (returning false n p) (is ∙ ap (item one) none))
+
+pub returning-item-item : (n p : Term) (u one rest other others : Unshared) → u ≡ item one rest → rest ≡ item other others → called n p u ≡ returning false n p u
+unfolding returning
+returning-item-item n p u one rest other others is next = ap (called n p) (is ∙ ap (item one) next) ∙ sym (ap (returning false n p) (is ∙ ap (item one) next))
+
+pub returning-item-text : (n p : Term) (u one rest : Unshared) (b : List ℕ) (others : Unshared) → u ≡ item one rest → rest ≡ bytes b others
+    → alone role.ReturnType (text_of one) (text b (called n p others)) ≡ returning false n p u
+unfolding returning
+returning-item-text n p u one rest b others is next = sym (ap (returning false n p) (is ∙ ap (item one) next))
+
+pub special-nothing : (u : Unshared) → u ≡ done → plain u ≡ special_name u
+unfolding special_name
+special-nothing u is = ap plain is ∙ sym (ap special_name is)
+
+pub special-item : (u one rest : Unshared) → u ≡ item one rest → plain u ≡ special_name u
+unfolding special_name
+special-item u one rest is = ap plain is ∙ sym (ap special_name is)
+
+pub special-text : (u : Unshared) (b : List ℕ) (rest : Unshared) → u ≡ bytes b rest → words b (whole role.Object rest) ≡ special_name u
+unfolding special_name
+special-text u b rest is = sym (ap special_name is)
+
+pub variable-nothing : (y : ReadSymbol) (n : ℕ) (u : Unshared) → u ≡ done → special_name u ≡ encoding_by y (encodings.Variable n) u
+unfolding encoding_by
+variable-nothing y n u is = ap special_name is ∙ sym (ap (encoding_by y (encodings.Variable n)) is)
+
+variable-other : (y : ReadSymbol) (n : ℕ) (b : List ℕ) (rest : Unshared) → special_name (bytes b rest) ≡ encoding_by y (encodings.Variable n) (bytes b rest)
+unfolding encoding_by
+variable-other y n b done = refl
+variable-other y n b (bytes c rest) = refl
+variable-other y n b (item one rest) = refl
+
+pub variable-text : (y : ReadSymbol) (n : ℕ) (u : Unshared) (b : List ℕ) (rest : Unshared) → u ≡ bytes b rest → special_name u ≡ encoding_by y (encodings.Variable n) u
+variable-text y n u b rest is = ap special_name is ∙ variable-other y n b rest ∙ sym (ap (encoding_by y (encodings.Variable n)) is)
+
+pub variable-item : (y : ReadSymbol) (n : ℕ) (u one rest : Unshared) → u ≡ item one rest → name (plain_tree (table_of y) n) one before behind rest ≡ encoding_by y (encodings.Variable n) u
+unfolding encoding_by
+variable-item y n u one rest is = sym (ap (encoding_by y (encodings.Variable n)) is)
+
+pub target-nothing : (y : ReadSymbol) (n : ℕ) (u : Unshared) → u ≡ done → special_name u ≡ encoding_by y (encodings.Target n) u
+unfolding encoding_by
+target-nothing y n u is = ap special_name is ∙ sym (ap (encoding_by y (encodings.Target n)) is)
+
+pub target-item : (y : ReadSymbol) (n : ℕ) (u one rest : Unshared) → u ≡ item one rest → special_name u ≡ encoding_by y (encodings.Target n) u
+unfolding encoding_by
+target-item y n u one rest is = ap special_name is ∙ sym (ap (encoding_by y (encodings.Target n)) is)
+
+pub target-text-nothing : (y : ReadSymbol) (n : ℕ) (u : Unshared) (b : List ℕ) (rest : Unshared) → u ≡ bytes b rest → rest ≡ done → special_name u ≡ encoding_by y (encodings.Target n) u
+unfolding encoding_by
+target-text-nothing y n u b rest is none = ap special_name (is ∙ ap (bytes b) none) ∙ sym (ap (encoding_by y (encodings.Target n)) (is ∙ ap (bytes b) none))
+
+pub target-text-text : (y : ReadSymbol) (n : ℕ) (u : Unshared) (b : List ℕ) (rest : Unshared) (c : List ℕ) (others : Unshared) → u ≡ bytes b rest → rest ≡ bytes c others → special_name u ≡ encoding_by y (encodings.Target n) u
+unfolding encoding_by
+target-text-text y n u b rest c others is next = ap special_name (is ∙ ap (bytes b) next) ∙ sym (ap (encoding_by y (encodings.Target n)) (is ∙ ap (bytes b) next))
+
+pub target-text-item : (y : ReadSymbol) (n : ℕ) (u : Unshared) (b : List ℕ) (rest one others : Unshared) → u ≡ bytes b rest → rest ≡ item one others
+    → words b (encoding (plain_tree (table_of y) n) one before plain others) ≡ encoding_by y (encodings.Target n) u
+unfolding encoding_by
+target-text-item y n u b rest one others is next = sym (ap (encoding_by y (encodings.Target n)) (is ∙ ap (bytes b) next))
+
+pub symbol-other : (t : Term) (u : Unshared) → ((fields_of t).production ≡ SYMBOL → ⊥) → plain u ≡ symbol_marked t u
+unfolding symbol_marked fields_of
+symbol-other (symbol e suffix) u h = absurd (h refl)
+symbol-other t done h = refl
+symbol-other t (bytes b rest) h = refl
+symbol-other t (item one rest) h = refl
+
+pub symbol-nothing : (t e : Term) (suffix : List ℕ) (u : Unshared) → t ≡ symbol e suffix → u ≡ done → plain u ≡ symbol_marked t u
+unfolding symbol_marked
+symbol-nothing t e suffix u is none = ap plain none ∙ sym (ap (symbol_marked t) none ∙ ap (λ x. symbol_marked x done) is)
+
+pub symbol-text : (t e : Term) (suffix : List ℕ) (u : Unshared) (b : List ℕ) (rest : Unshared) → t ≡ symbol e suffix → u ≡ bytes b rest → plain u ≡ symbol_marked t u
+unfolding symbol_marked
+symbol-text t e suffix u b rest is next = ap plain next ∙ sym (ap (symbol_marked t) next ∙ ap (λ x. symbol_marked x (bytes b rest)) is)
+
+pub symbol-item : (t e n : Term) (suffix : List ℕ) (u one rest : Unshared) → t ≡ symbol e suffix → e ≡ n → u ≡ item one rest → encoding n one before suffixed rest ≡ symbol_marked t u
+unfolding symbol_marked
+symbol-item t e n suffix u one rest is same next =
+    sym (ap (λ x. encoding x one before suffixed rest) same) ∙ sym (ap (symbol_marked t) next ∙ ap (λ x. symbol_marked x (item one rest)) is)
+
+pub suffix-nothing : (u : Unshared) → u ≡ done → plain u ≡ suffixed u
+unfolding suffixed
+suffix-nothing u is = ap plain is ∙ sym (ap suffixed is)
+
+pub suffix-item : (u one rest : Unshared) → u ≡ item one rest → plain u ≡ suffixed u
+unfolding suffixed
+suffix-item u one rest is = ap plain is ∙ sym (ap suffixed is)
+
+pub suffix-text-nothing : (u : Unshared) (b : List ℕ) (rest : Unshared) → u ≡ bytes b rest → rest ≡ done → plain u ≡ suffixed u
+unfolding suffixed
+suffix-text-nothing u b rest is none = ap plain (is ∙ ap (bytes b) none) ∙ sym (ap suffixed (is ∙ ap (bytes b) none))
+
+pub suffix-text-item : (u : Unshared) (b : List ℕ) (rest one others : Unshared) → u ≡ bytes b rest → rest ≡ item one others → plain u ≡ suffixed u
+unfolding suffixed
+suffix-text-item u b rest one others is next = ap plain (is ∙ ap (bytes b) next) ∙ sym (ap suffixed (is ∙ ap (bytes b) next))
+
+pub suffix-text-text : (u : Unshared) (b : List ℕ) (rest : Unshared) (c : List ℕ) (others : Unshared) → u ≡ bytes b rest → rest ≡ bytes c others → text b (alone role.Suffix c (plain others)) ≡ suffixed u
+unfolding suffixed
+suffix-text-text u b rest c others is next = sym (ap suffixed (is ∙ ap (bytes b) next))

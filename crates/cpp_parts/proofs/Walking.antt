@@ -1,0 +1,139 @@
+-- The walk: what was found, and what the tasks that are left lead to.
+use Rattle.std.proofs.Common.{◌≡◌, ℕ, ◌+◌, ◌*◌, ◌<◌, ◌≤◌, List, [], ◌∷◌, ◌++◌, length, refl, sym, ap, ◌∙◌, arith, append_assoc, append-nil}
+use Rattle.std.specs.List.{All}
+use Rattle.std.proofs.lemmas.List.Elements.{All-same, All-nil, All-head, All-tail}
+use Rattle.cpp_layout.specs.declared.context.Context.{Context}
+use Rattle.cpp_layout.specs.Layout.{ReadSymbol, table_of, whole_of, unshared_of, MayBeAsked}
+use Rattle.cpp_tree.specs.Views.{plain_tree}
+use Rattle.sym_print.specs.declared.layout.Item.{Item}
+use Rattle.sym_print.specs.declared.layout.Part.{Part}
+use Rattle.sym_print.specs.Unshared.{Unshared, steps_of, steps_of_parts, cost_of}
+use Rattle.sym_parts.specs.Found.{Found}
+use Rattle.sym_parts.specs.Marked.{Marked, ◌before◌, parts_of}
+use Rattle.sym_parts.specs.Marked as marks
+use Rattle.sym_parts.specs.Marks.{Mark, marks_of, parts_at, skipped}
+use Rattle.sym_parts.specs.declared.role.Role.{Role}
+use Rattle.cpp_parts.specs.Roles.{encoding, name, elements, symbol_marked}
+use Rattle.cpp_parts.proofs.Texts.{text-symbol}
+use Rattle.sym_print.proofs.Noting.{length_of_text}
+use Rattle.sym_parts.proofs.Turns.{parts_at-marks_of, skipped-marks_of, skipped-append}
+use Rattle.sym_parts.specs.declared.part.Part.{Part as SymPart}
+use Rattle.cpp_parts.specs.Tasks.{marks_of_task, marks_of_tasks, IsTask, IsPayable, ArePayable, printed_by, weight_of_task, weight_of_tasks, Adds, Grows, Lists}
+use Rattle.cpp_parts.specs.declared.task.Task.{Task}
+use Rattle.cpp_parts.specs.declared.task.Task.TheVariants as task
+use Rattle.cpp_parts.proofs.Growing.{before-done}
+
+-- what was added to the tasks themselves
+pub grown : (y : ReadSymbol) (most : ℕ) (old new : List Task) (m : Marked) (s : ℕ) → Grows y most old new m s
+    → (marks_of_tasks y new ≡ marks_of m ++ marks_of_tasks y old) × (All (IsTask y most) old → All (IsTask y most) new) × (weight_of_tasks y new ≤ weight_of_tasks y old + s)
+unfolding marks_of
+grown y most old new m s grows =
+    let same : Adds y most old old marks.done 0 = record { marks = refl; all = λ h. h; weight = omega arith } in
+    let one = grows.adds old marks.done 0 same in
+    (one.marks ∙ ap (λ x. marks_of x ++ marks_of_tasks y old) (before-done m), one.all, omega (arith, one.weight))
+
+pub lists-skip : (y : ReadSymbol) (old new : Found) (n : ℕ) (rest : List Mark) → new.parts ≡ old.parts → new.place ≡ old.place + n → Lists old new (marks_of_task y (task.Skip n) ++ rest) rest
+unfolding marks_of_task parts_at skipped
+lists-skip y old new n rest parts place = record {
+  parts = ap (λ p. old.parts ++ parts_at p rest) (sym place) ∙ ap (λ ps. ps ++ parts_at new.place rest) (sym parts);
+  place = omega (arith, place);
+}
+
+pub lists-begin : (y : ReadSymbol) (old new : Found) (role : Role) (n : ℕ) (rest : List Mark) → new.parts ≡ old.parts ++ record { role = role; start = old.place; length = n } ∷ [] → new.place ≡ old.place
+    → Lists old new (marks_of_task y (task.Begin role n) ++ rest) rest
+unfolding marks_of_task parts_at skipped
+lists-begin y old new role n rest parts place = record {
+  parts =
+      sym (append_assoc old.parts (record { role = role; start = old.place; length = n } ∷ []) (parts_at old.place rest))
+      ∙ ap (λ p. (old.parts ++ record { role = role; start = old.place; length = n } ∷ []) ++ parts_at p rest) (sym place)
+      ∙ ap (λ ps. ps ++ parts_at new.place rest) (sym parts);
+  place = omega (arith, place);
+}
+
+pub lists-same : (old new : Found) (these those : List Mark) → new ≡ old → those ≡ these → Lists old new these those
+lists-same old new these those same marks = record {
+  parts = ap (λ ms. old.parts ++ parts_at old.place ms) (sym marks) ∙ ap (λ (f : Found). f.parts ++ parts_at f.place those) (sym same);
+  place = ap (λ ms. old.place + skipped ms) (sym marks) ∙ ap (λ (f : Found). f.place + skipped those) (sym same);
+}
+
+-- the parts of an item cost less than the item
+pub parts-payable : (y : ReadSymbol) (most : ℕ) (i : Item Context) (parts : List (Part Context)) → IsPayable y most i → unshared_of y i ≡ printed_by y parts → All (MayBeAsked y) parts → ArePayable y most parts
+parts-payable y most i parts payable is may = (may, omega (arith, payable.1, ap cost_of is))
+
+module _ (y : ReadSymbol) (most : ℕ) (old new : List Task) (node : ℕ) (i : Item Context) (u : Unshared) (is : unshared_of y i ≡ u) where
+  pub took-encoding : Grows y most old new (encoding (plain_tree (table_of y) node) u) (4 * steps_of_parts u + 3)
+      → (marks_of_tasks y new ≡ marks_of_task y (task.Encoding node i) ++ marks_of_tasks y old) × (All (IsTask y most) old → All (IsTask y most) new)
+      × (weight_of_tasks y new < weight_of_task y (task.Encoding node i) + weight_of_tasks y old)
+  unfolding marks_of_task weight_of_task
+  took-encoding grows =
+      let g = grown y most old new _ _ grows in
+      (g.0 ∙ ap (λ x. marks_of (encoding (plain_tree (table_of y) node) x) ++ marks_of_tasks y old) (sym is), g.1, omega (arith, g.2, ap steps_of is))
+
+  pub took-name : Grows y most old new (name (plain_tree (table_of y) node) u) (4 * steps_of_parts u + 3)
+      → (marks_of_tasks y new ≡ marks_of_task y (task.Name node i) ++ marks_of_tasks y old) × (All (IsTask y most) old → All (IsTask y most) new)
+      × (weight_of_tasks y new < weight_of_task y (task.Name node i) + weight_of_tasks y old)
+  unfolding marks_of_task weight_of_task
+  took-name grows =
+      let g = grown y most old new _ _ grows in
+      (g.0 ∙ ap (λ x. marks_of (name (plain_tree (table_of y) node) x) ++ marks_of_tasks y old) (sym is), g.1, omega (arith, g.2, ap steps_of is))
+
+  pub took-elements : (role : Role) → Grows y most old new (elements role (plain_tree (table_of y) node) u) (4 * steps_of_parts u + 3)
+      → (marks_of_tasks y new ≡ marks_of_task y (task.Elements role node i) ++ marks_of_tasks y old) × (All (IsTask y most) old → All (IsTask y most) new)
+      × (weight_of_tasks y new < weight_of_task y (task.Elements role node i) + weight_of_tasks y old)
+  unfolding marks_of_task weight_of_task
+  took-elements role grows =
+      let g = grown y most old new _ _ grows in
+      (g.0 ∙ ap (λ x. marks_of (elements role (plain_tree (table_of y) node) x) ++ marks_of_tasks y old) (sym is), g.1, omega (arith, g.2, ap steps_of is))
+
+-- ## The loop
+
+pub begins : (y : ReadSymbol) (most : ℕ) (old new : List Task) (found : Found) (node : ℕ) (u whole : Unshared) (s : ℕ) → old ≡ [] → found ≡ record { parts = []; place = 0 }
+    → Grows y most old new (symbol_marked (plain_tree (table_of y) node) u) s → node ≡ y.root → u ≡ whole → cost_of whole ≤ most
+    → All (IsTask y most) new × (found.parts ++ parts_at found.place (marks_of_tasks y new) ≡ parts_of (symbol_marked (whole_of y) whole)) × (found.place + skipped (marks_of_tasks y new) ≤ most)
+unfolding marks_of_tasks
+begins y most old new found node u whole s none start grows root is paid =
+    let g = grown y most old new (symbol_marked (plain_tree (table_of y) node) u) s grows in
+    let all : marks_of_tasks y new ≡ marks_of (symbol_marked (whole_of y) whole) =
+    g.0
+    ∙ ap (λ o. marks_of (symbol_marked (plain_tree (table_of y) node) u) ++ marks_of_tasks y o) none
+    ∙ append-nil (marks_of (symbol_marked (plain_tree (table_of y) node) u))
+    ∙ ap (λ n. marks_of (symbol_marked (plain_tree (table_of y) n) u)) root
+    ∙ ap (λ v. marks_of (symbol_marked (whole_of y) v)) is in (
+      g.1 (All-same (IsTask y most) old [] none (All-nil (IsTask y most))),
+      ap (λ (f : Found). f.parts ++ parts_at f.place (marks_of_tasks y new)) start ∙ ap (parts_at 0) all ∙ parts_at-marks_of 0 (symbol_marked (whole_of y) whole),
+      omega (
+        arith,
+        ap (λ (f : Found). f.place) start,
+        ap skipped all,
+        skipped-marks_of (symbol_marked (whole_of y) whole),
+        ap length (text-symbol (whole_of y) whole),
+        length_of_text whole,
+        paid,
+      ),
+    )
+
+pub first-task : (y : ReadSymbol) (most : ℕ) (tasks rest : List Task) (next : Task) → tasks ≡ next ∷ rest → All (IsTask y most) tasks → IsTask y most next
+first-task y most tasks rest next is all = All-head (IsTask y most) next rest (All-same (IsTask y most) (next ∷ rest) tasks (sym is) all)
+
+pub other-tasks : (y : ReadSymbol) (most : ℕ) (tasks rest : List Task) (next : Task) → tasks ≡ next ∷ rest → All (IsTask y most) tasks → All (IsTask y most) rest
+other-tasks y most tasks rest next is all = All-tail (IsTask y most) next rest (All-same (IsTask y most) (next ∷ rest) tasks (sym is) all)
+
+pub fits-next : (y : ReadSymbol) (tasks rest : List Task) (next : Task) (place most : ℕ) → tasks ≡ next ∷ rest → place + skipped (marks_of_tasks y tasks) ≤ most → place + skipped (marks_of_task y next) ≤ most
+unfolding marks_of_tasks
+fits-next y tasks rest next place most is fits =
+    omega (arith, fits, ap (λ ts. skipped (marks_of_tasks y ts)) is, skipped-append (marks_of_task y next) (marks_of_tasks y rest))
+
+pub smaller : (y : ReadSymbol) (tasks rest new : List Task) (next : Task) → tasks ≡ next ∷ rest → weight_of_tasks y new < weight_of_task y next + weight_of_tasks y rest → weight_of_tasks y new < weight_of_tasks y tasks
+unfolding weight_of_tasks
+smaller y tasks rest new next is less = omega (arith, less, ap (weight_of_tasks y) is)
+
+pub goes-on : (y : ReadSymbol) (tasks rest new : List Task) (next : Task) (old found : Found) (all : List SymPart) (most : ℕ) → tasks ≡ next ∷ rest
+    → Lists old found (marks_of_task y next ++ marks_of_tasks y rest) (marks_of_tasks y new) → old.parts ++ parts_at old.place (marks_of_tasks y tasks) ≡ all → old.place + skipped (marks_of_tasks y tasks) ≤ most
+    → (found.parts ++ parts_at found.place (marks_of_tasks y new) ≡ all) × (found.place + skipped (marks_of_tasks y new) ≤ most)
+unfolding marks_of_tasks
+goes-on y tasks rest new next old found all most is lists parts fits =
+    (sym lists.parts ∙ ap (λ ts. old.parts ++ parts_at old.place (marks_of_tasks y ts)) (sym is) ∙ parts, omega (arith, lists.place, fits, ap (λ ts. skipped (marks_of_tasks y ts)) is))
+
+pub ended : (y : ReadSymbol) (tasks : List Task) (found : Found) (all : List SymPart) → tasks ≡ [] → found.parts ++ parts_at found.place (marks_of_tasks y tasks) ≡ all → found.parts ≡ all
+unfolding marks_of_tasks parts_at
+ended y tasks found all none parts = sym (append-nil found.parts) ∙ ap (λ ts. found.parts ++ parts_at found.place (marks_of_tasks y ts)) (sym none) ∙ parts

@@ -1,0 +1,20 @@
+// What holds of the marks of each symbol's text.
+#![tactic(auto)]
+
+ghost use Rattle.std.specs.Prelude.{◌≡◌, length};
+ghost use Rattle.cpp_grammar.specs.Term.{Term};
+ghost use Rattle.sym_print.specs.Unshared.{Unshared, text_of};
+ghost use Rattle.sym_parts.specs.Marked as marks;
+ghost use Rattle.sym_parts.specs.Marked.{parts_of};
+ghost use Rattle.sym_parts.specs.Placed.{ArePlaced};
+ghost use Rattle.cpp_parts.specs.Roles.{symbol_marked};
+
+/// Without its marks the text is what is printed.
+pub fn marks_change_no_text()
+    ensures { (t : Term) (printed : Unshared) → marks.text_of (symbol_marked t printed) ≡ text_of printed }
+{}
+
+/// The parts are slices of what is printed, in the order of their starts; of two, one is within the other, or they are apart.
+pub fn parts_are_placed()
+    ensures { (t : Term) (printed : Unshared) → ArePlaced (length (text_of printed)) (parts_of (symbol_marked t printed)) }
+{}

@@ -1,0 +1,17 @@
+//! The parts of C++ symbols' texts: which stretches of a text are its scope, its base, its arguments, its parameters and so on.
+#![tactic(auto)]
+
+mod encodings;
+mod laws;
+mod lengths;
+mod lists;
+mod names;
+mod plain;
+mod sorts;
+mod split;
+mod task;
+mod walk;
+
+pub use laws::{marks_change_no_text, parts_are_placed};
+pub use sym_parts::{Part, Role};
+pub use walk::{parts, parts_as};

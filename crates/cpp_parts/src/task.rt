@@ -1,0 +1,80 @@
+// What is still to be done.
+#![tactic(auto)]
+
+ghost use Rattle.std.specs.Prelude.{◌≡◌, ◌∷◌, [], OnOk, IfErr, MatchOption, List, reverse};
+ghost use Rattle.sym_core.specs.declared.refusal.Refusal.{Refusal};
+ghost use Rattle.cpp_parts.specs.declared.task.Task.{Task};
+
+use cpp_layout::Context;
+use std::alloc::Global;
+use std::marker::Model;
+use sym_core::Refusal;
+use sym_parts::Role;
+use sym_print::Item;
+use sym_room::push_within;
+
+/// Something to be done: to go on by bytes, to begin a part, or to list the parts of an item. With the item is the node of its tree.
+#[derive(Clone, Copy)]
+pub(crate) enum Task {
+    /// To go on by this many bytes.
+    Skip(u32),
+    /// To begin a part of this role and length.
+    Begin(Role, u32),
+    /// To list the parts of an encoding.
+    Encoding(u32, Item<Context>),
+    /// To list the parts of a name.
+    Name(u32, Item<Context>),
+    /// To list the elements, each of this role, of a list or of a pattern that is expanded.
+    Elements(Role, u32, Item<Context>),
+}
+
+/// Tasks, the next one first.
+#[derive(Drop)]
+pub(crate) struct Tasks {
+    list: Vec<Task>,
+}
+
+impl Model for Tasks {
+    ghost use Rattle.cpp_parts.specs.declared.task.Task.{Task};
+    ghost use Rattle.std.specs.Prelude.{List, reverse};
+
+    ghost Value = { List Task };
+
+    ghost view = { λ tasks. reverse tasks.list.items };
+}
+
+impl Tasks {
+    /// Nothing to be done.
+    pub(crate) fn new(alloc: Global) -> Tasks
+        ensures { result ≡ [] }
+    {
+        Tasks {
+            list: Vec::new(alloc),
+        }
+    }
+
+    /// The allocator of the list.
+    pub(crate) fn allocator(&self) -> Global {
+        *self.list.allocator()
+    }
+
+    /// Adds a task before the others.
+    ///
+    /// # Errors
+    ///
+    /// `Memory` where the list couldn't grow.
+    pub(crate) fn push(&mut self, task: Task) -> Result<(), Refusal>
+        ensures tasks { OnOk result (self.new ≡ task ∷ self.old) }
+        ensures refusals { IfErr result (λ refusal. refusal ≡ Refusal.Memory) }
+    {
+        push_within(&mut self.list, task)?;
+        Ok(())
+    }
+
+    /// Takes the next task.
+    pub(crate) fn pop(&mut self) -> Option<Task>
+        ensures { MatchOption result (self.old ≡ []) (λ task. self.old ≡ task ∷ self.new) }
+    {
+        self.list.pop()
+    }
+}

@@ -1,0 +1,7 @@
+-- The parts that were found in a text, in order, and the place up to which it was gone through.
+use Rattle.std.specs.Prelude.{ℕ, List}
+use Rattle.sym_parts.specs.declared.part.Part.{Part}
+
+pub record Found : Type 0 where
+  pub parts : List Part
+  pub place : ℕ
