@@ -1,3 +1,4 @@
+mod Counts
 mod Growing
 mod Measuring
 mod Standing

@@ -1,9 +1,9 @@
 // What holds of the marks of each symbol's text.
 #![tactic(auto)]
 
-ghost use Rattle.std.specs.Prelude.{◌≡◌, length};
+ghost use Rattle.std.specs.Prelude.{◌≡◌, ◌≤◌, length};
 ghost use Rattle.cpp_grammar.specs.Term.{Term};
-ghost use Rattle.sym_print.specs.Unshared.{Unshared, text_of};
+ghost use Rattle.sym_print.specs.Unshared.{Unshared, steps_of_parts, text_of};
 ghost use Rattle.sym_parts.specs.Marked as marks;
 ghost use Rattle.sym_parts.specs.Marked.{parts_of};
 ghost use Rattle.sym_parts.specs.Placed.{ArePlaced};
@@ -17,4 +17,9 @@ pub fn marks_change_no_text()
 /// The parts are slices of what is printed, in the order of their starts; of two, one is within the other, or they are apart.
 pub fn parts_are_placed()
     ensures { (t : Term) (printed : Unshared) → ArePlaced (length (text_of printed)) (parts_of (symbol_marked t printed)) }
+{}
+
+/// There are at most as many parts as printing the symbol takes steps.
+pub fn parts_are_few()
+    ensures { (t : Term) (printed : Unshared) → length (parts_of (symbol_marked t printed)) ≤ steps_of_parts printed }
 {}
