@@ -67,7 +67,7 @@ test("texts with names", () => {
 
 test("pressed spellings, counts and the version", () => {
     assert.equal(press("_Z1fI1A1AEvv"), "_Z1fI1AS0_Evv");
-    assert.throws(() => press("_ZN1AC4Ev"), /^Refused: malformed at 6$/);
+    assert.throws(() => press("_ZN1AC4Ev"), /^Refused: malformed symbol at 6$/);
     assert.equal(press("_ZN1AC4Ev", { wide: true }), "_ZN1AC4Ev");
     assert.throws(() => press("_Z1fIiEDTstT_ES0_", { wide: true }), /^Refused: no spelling yet$/);
     const made = counts("_ZN3foo3barEPKc");
