@@ -206,6 +206,16 @@ uint32_t port_statx(uint32_t folder, uint8_t *path, uint32_t flags, uint32_t mas
     return told_of_file(to, (found.st_mode & _S_IFMT) == _S_IFREG, (found.st_mode & _S_IFMT) == _S_IFDIR);
 }
 
+/* Whether a stream is a terminal that shows sequences as colours, which the console of Windows 10 does once it is asked to. */
+uint32_t port_isatty(uint32_t stream)
+{
+    DWORD mode;
+    HANDLE console = (HANDLE)_get_osfhandle((int)stream);
+    if (!_isatty((int)stream) || !GetConsoleMode(console, &mode))
+        return 0;
+    return SetConsoleMode(console, mode | 0x0004 /* ENABLE_VIRTUAL_TERMINAL_PROCESSING */) != 0;
+}
+
 uint64_t port___sysv_signal(uint32_t number, uint64_t handler)
 {
     (void)number; /* there is no SIGPIPE to be left out */
@@ -270,6 +280,11 @@ uint32_t port_statx(uint32_t folder, uint8_t *path, uint32_t flags, uint32_t mas
     if (stat((const char *)path, &found))
         return (uint32_t)-1;
     return told_of_file(to, S_ISREG(found.st_mode), S_ISDIR(found.st_mode));
+}
+
+uint32_t port_isatty(uint32_t stream)
+{
+    return isatty((int)stream) == 1;
 }
 
 uint64_t port___sysv_signal(uint32_t number, uint64_t handler)

@@ -151,6 +151,7 @@ FN v64 v64_splat(int b) { v64 x; for (int k = 0; k < 4; k++) x.p[k] = splat(b); 
 #define z11(p) memset(p,0,11)
 #define z12(p) memset(p,0,12)
 #define z14(p) memset(p,0,14)
+#define z15(p) memset(p,0,15)
 #define z16(p) memset(p,0,16)
 #define z17(p) x16(p,0),*((p)+16)=0
 #define z18(p) x16(p,0),x2((p)+16,0)
@@ -183,6 +184,7 @@ FN v64 v64_splat(int b) { v64 x; for (int k = 0; k < 4; k++) x.p[k] = splat(b); 
 #define z88(p) x16(p,0),x16((p)+16,0),x16((p)+32,0),x16((p)+48,0),x16((p)+64,0),x8((p)+80,0)
 #define z96(p) x16(p,0),x16((p)+16,0),x16((p)+32,0),x16((p)+48,0),x16((p)+64,0),x16((p)+80,0)
 #define z104(p) x16(p,0),x16((p)+16,0),x16((p)+32,0),x16((p)+48,0),x16((p)+64,0),x16((p)+80,0),x8((p)+96,0)
+#define z120(p) x16(p,0),x16((p)+16,0),x16((p)+32,0),x16((p)+48,0),x16((p)+64,0),x16((p)+80,0),x16((p)+96,0),x8((p)+112,0)
 typedef struct{u64 f0;u64 f1;}s_64_64;
 typedef struct{u8 f0;u32 f1;}s_8_32;
 typedef struct{u8 f0;u64 f1;}s_8_64;
@@ -441,6 +443,7 @@ static const u16 t_e080[48]={28279,28257,25708,25697,24951,28787,28263,24932,257
 static const u64 t_38e2[25]={11,4,4,6,11,5,10,13,3,12,0,4,13,8,17,0,0,0,5,14,0,4,7,9,18};
 static const u64 t_455e[26]={2,4,4,3,3,3,0,2,5,5,0,3,3,4,4,1,0,0,3,3,2,3,0,3,3,1};
 static const u64 t_5b3b[3]={2,5,5};
+static const u64 t_69a8[40]={2,1,1,4,3,7,4,1,1,1,3,2,1,2,1,1,1,2,1,5,1,5,7,5,4,2,3,10,8,15,1,5,4,4,3,3,4,5,1,2};
 static const u64 t_81de[66]={4,7,4,4,11,13,5,14,3,12,4,13,9,18,8,17,5,6,11,10,3,8,8,7,4,14,14,9,10,9,4,14,17,11,12,12,13,9,12,6,7,7,8,11,8,13,18,30,23,
 19,40,33,27,1,1,2,2,3,9,9,18,6,15,15,24,8};
 static const u64 t_999c[21]={4,0,14,9,10,9,0,4,8,0,0,0,0,14,0,0,0,0,8,0,7};
@@ -465,6 +468,7 @@ static const u8 t_06b0[9]="extern \"";
 static const u8 t_06e5[9]="operator";
 static const u8 t_0710[5]=" += ";
 static const u8 t_072d[11]={0,0,0,0,0,0,6,7,0,0,0};
+static const u8 t_079e[12]="{{closure}}";
 static const u8 t_08f2[2]="M";
 static const u8 t_0929[10]="allocator";
 static const u8 t_092f[3]="'_";
@@ -482,6 +486,7 @@ static const u8 t_0f44[6]="std::";
 static const u8 t_0f6a[22]=" restrict && noexcept";
 static const u8 t_0f6e[22]=" volatile && noexcept";
 static const u8 t_1150[4]="new";
+static const u8 t_1165[11]={0,0,0,0,1,2,0,0,0,0,0};
 static const u8 t_12ac[3]=".*";
 static const u8 t_14b2[12]="operator->*";
 static const u8 t_1506[4]="u64";
@@ -527,6 +532,7 @@ static const u8 t_2f86[3]="}}";
 static const u8 t_3009[3]="Do";
 static const u8 t_306c[4]=" % ";
 static const u8 t_3070[5]="$LP$";
+static const u8 t_3141[11]={0,1,2,3,0,0,0,0,0,0,0};
 static const u8 t_3276[7]="_Float";
 static const u8 t_32eb[2]="(";
 static const u8 t_3343[2]="#";
@@ -1680,6 +1686,12 @@ static const u8 t_fdfa[4]="fn(";
 static const u8 t_fe90[4]=" < ";
 static const u8 t_ff67[8]="*const ";
 static const u8 t_ffa9[4]=" | ";
+static const u8*const t_1797[25]={t_1bef,t_b760,t_411b,t_2ce0,t_e764,t_76a7,t_b958,t_c8a2,t_6da8,t_c75d,0,t_fc66,t_f7e4,t_e172,t_55ee,0,0,0,t_f9b0,t_bfe7,0,
+t_445b,t_b308,t_61bc,t_4f63};
+static const u8*const t_e7e8[26]={t_1bef,t_b760,t_411b,t_2ce0,t_e764,t_76a7,t_b958,t_c8a2,t_6da8,t_c75d,0,t_fc66,t_f7e4,t_e172,t_55ee,0,0,0,t_f9b0,t_bfe7,0,
+t_445b,t_b308,t_61bc,t_4f63,t_ab5d};
+static const u8*const t_1a0f[21]={t_9292,0,t_a918,t_bcd9,t_1f9f,t_162d,0,t_a11a,t_9b36,0,0,0,0,t_8dac,0,0,0,0,t_289b,0,t_47de};
+static const u8*const t_7cd2[3]={t_c4eb,t_b0d6,t_fa32};
 static const u8*const t_ae2b[66]={t_445b,t_b308,t_b760,t_411b,t_1bef,t_c8a2,t_f9b0,t_bfe7,t_6da8,t_c75d,t_fc66,t_f7e4,t_61bc,t_4f63,t_e172,t_55ee,t_76a7,t_2ce0,
 t_e764,t_b958,t_ab5d,t_9b36,t_289b,t_47de,t_9292,t_a918,t_8dac,t_bcd9,t_1f9f,t_162d,t_a11a,t_5ec9,t_9945,t_71fc,t_e6f6,t_a66e,
 t_0bf1,t_0929,t_a59d,t_4732,t_67dd,t_662c,t_213a,t_727e,t_0b5b,t_77a1,t_71af,t_1e04,t_f3cb,t_c270,t_2b84,t_5acd,t_9508,t_0bfe,
@@ -1692,12 +1704,6 @@ t_7153,t_ab5d,t_1bf4,t_1687,t_7b04,t_c8d2,t_5621,t_c063,t_e7ac,t_2b06,t_9bf6,t_5
 static const u8*const t_392a[48]={t_d1c6,t_6e7d,t_bd50,t_6b56,t_97d0,t_46af,t_8d99,t_6f44,t_5eb9,t_cdb9,t_46af,t_8d99,t_5eb9,t_9819,t_8c3a,t_6f44,t_dddf,t_8b4d,
 t_5925,t_3a9e,t_5dde,t_75c3,t_5f52,t_5f91,t_b7e9,t_c1c5,t_1d06,t_9c07,t_0e39,t_af4d,t_67bd,t_8192,t_a111,t_2d08,t_68c0,t_2e43,
 t_e40a,t_b2ab,t_d2aa,t_a94d,t_c306,t_4999,t_8965,t_14b2,t_e0ef,t_1f0f,t_284e,t_e86a};
-static const u8*const t_1797[25]={t_1bef,t_b760,t_411b,t_2ce0,t_e764,t_76a7,t_b958,t_c8a2,t_6da8,t_c75d,0,t_fc66,t_f7e4,t_e172,t_55ee,0,0,0,t_f9b0,t_bfe7,0,
-t_445b,t_b308,t_61bc,t_4f63};
-static const u8*const t_e7e8[26]={t_1bef,t_b760,t_411b,t_2ce0,t_e764,t_76a7,t_b958,t_c8a2,t_6da8,t_c75d,0,t_fc66,t_f7e4,t_e172,t_55ee,0,0,0,t_f9b0,t_bfe7,0,
-t_445b,t_b308,t_61bc,t_4f63,t_ab5d};
-static const u8*const t_1a0f[21]={t_9292,0,t_a918,t_bcd9,t_1f9f,t_162d,0,t_a11a,t_9b36,0,0,0,0,t_8dac,0,0,0,0,t_289b,0,t_47de};
-static const u8*const t_7cd2[3]={t_c4eb,t_b0d6,t_fa32};
 static void demangle_d37(u8* a,u8* b,u8* c,u8 d,u8* e,u64 f,u8* g);
 static u8 parts_equal_58b(u8* a,u64 b,u8* c,u64 d);
 static void read_on_223(u8* a,u8* b,u8* c,u64 d);
@@ -1719,7 +1725,8 @@ static void number_apart_74b(u8* a,u64 b,u8 c);
 static void push_674(u8* a,u8* b,u8* c);
 static u32 given_for_17e(u8* a,u32 b,u32 c);
 static void before_rare_6ea(u8* a,u8* b,u8* c,u8 d,u8* e,u8* f);
-static void between_by_step_e69(u8* a,u8* b,u8* c,u8* d,u8* e);
+static u8 steps_apart_3af(u8 a,u8* b,u64 c);
+static void before_apart_b65(u8* a,u8* b,u8* c,u8* d,u8* e);
 static void in_encoding_apart_919(u8* a,u8* b,u32 c,u8* d,u8* e,u64 f);
 static s_8_32 named_module_027(u8* a,u8* b,u32 c,u32 d);
 static COLD u8 grow_amortized_934(u8* a);
@@ -1762,6 +1769,7 @@ static void finish_rule_396(u8* a,u8* b,u8* c,u64 d,u8* e,u8* f);
 static void finish_rare_3b4(u8* a,u8* b,u8* c,u64 d,u8 e,u8* f,u8* g);
 static void begin_apart_c9a(u8* a,u8* b,u8* c,u64 d,u8* e,u64 f,u8* g,u8* h);
 static void print_853(u8* a,u8* b,u8* c,u32 d,u8 e,u8* f);
+static void run_610(u8* a,u8* b,u8* c);
 static void print_entries_7a0(u8* a,u8* b,u8* c,u8* d,u8* e,u8* f,u8 g);
 static COLD u8 grow_amortized_670(u8* a,u64 b);
 static COLD u8 grow_amortized_fd5(u8* a);
@@ -1773,12 +1781,14 @@ static void fill_within_6bb(u8* a,u8* b,u32 c,u32 d,u8* e,u8* f);
 static void fill_attached_608(u8* a,u8* b,u32 c,u8* d,u32 e,u32 f,u8* g);
 static void fill_nested_941(u8* a,u8* b,u32 c,u32 d,u8* e);
 static void fill_instance_1f0(u8* a,u8* b,u32 c,u32 d,u8* e);
+static u8 ends_in_angle_e4f(u8* a,u32 b);
 static void own_entity_238(u8* a,u8* b,u32 c,u8* d);
 static void fill_tagged_146(u8* a,u32 b,u32 c,u32 d,u8* e);
 static u16 abbreviation_6bb(u8 a);
 static void fill_parameter_f0e(u8* a,u8* b,u32 c,u32 d,u32 e,u8* f);
+static void argument_of_c35(u8* a,u8* b,u32 c,u32 d,u8* e);
 static void fill_marked_395(u8* a,u8* b,u32 c,u8* d);
-static void class_e43(u8* a,u8* b,u8* c);
+static u8 head_c64(u8* a,u8 b,u32 c,u8* d);
 static u8 element_head_a82(u8* a,u8 b,u32 c,u8* d);
 static void fill_reference_bf6(u8* a,u8* b,u32 c,u32 d,u16 e,u16 f,u8* g);
 static void fill_array_c4d(u8* a,u8* b,u32 c,u8* d);
@@ -1815,6 +1825,7 @@ static void run_48d(u8* a,u8* b,u8* c,u64 d,u8 e);
 static void advance_83f(u8* a,u8* b,u8* c,u64 d,u8 e);
 static void read_token_794(u8* a,u8* b,u8* c,u64 d,u8 e);
 static void link_57d(u8* a,u8* b);
+static void restart_c41(u8* a,u8* b,u64 c);
 static COLD u8 grow_amortized_21b(u8* a);
 static COLD void copy_bits_596(u8* a);
 static u64 arguments_need_287(u8* a,u8* b);
@@ -1822,6 +1833,7 @@ static u64 type_need_e25(u8* a,u8* b);
 static u64 bounds_need_155(u8* a,u8* b);
 static void push_decimal_d10(u8* a,u8* b,u128 c,u8 d);
 static void append_1ac(u8* a,u8* b,u8* c,u64 d,u8* e,u64 f,u8* g,u64 h);
+static void run_005(u8* a,u8* b,u8* c,u8* d,u64 e,u8* f);
 static u64 skip_far_4c7(u8* a,u64 b,u64 c);
 static COLD u8 grow_amortized_8fc(u8* a);
 static u8 add_wide_8ae(u8* a,u32 b);
@@ -1832,6 +1844,7 @@ static void binder_c82(u8* a,u32 b,u8* c,u64 d);
 static void nested_402(u8* a,u8* b,u64 c);
 static void close_any_b3b(u8* a,u8* b,u8* c,u64 d,u8* e,u8* f);
 static void print_0c9(u8* a,u8* b,u8* c,u32 d,u8 e,u8* f);
+static void run_f48(u8* a,u8* b,u8* c);
 static void print_entries_c61(u8* a,u8* b,u8* c,u8* d,u8* e,u8* f,u8 g);
 static void push_as_a95(u8* a,u32 b,u32 c,u64 d,u8 e);
 static void push_special_b8a(u8* a,u8 b,u8* c,u64 d);
@@ -1934,6 +1947,10 @@ static void dependent_8e0(u8* a,u8* b);
 static void returned_acd(u8* a,u8* b,u8* c,u64 d,u8 e);
 static void function_ended_049(u8* a,u8* b,u8* c,u64 d,u8 e);
 static void pass_element_c99(u8* a,u8* b,u8* c,u64 d,u8 e);
+static void element_ended_d46(u8* a,u8* b,u8* c,u64 d,u32 e,u8 f,u8* g,u8 h);
+static u8 is_element_at_f4e(u8* a,u64 b,u64 c);
+static void close_list_0b3(u8* a,u8* b,u8* c,u64 d,u8* e);
+static void level_ended_5bf(u8* a,u8* b,u8* c,u64 d,u8 e);
 static void parameter_at_c04(u8* a,u8* b,u8* c,u64 d,u8 e,u8 f);
 static void array_ended_08d(u8* a,u8* b,u8* c,u64 d,u8 e,u32 f,u32 g);
 static void lambda_parameter_f9a(u8* a,u8* b,u8* c,u64 d,u32 e,u8* f);
@@ -1947,15 +1964,11 @@ static u8 digits_418(u8* a,u8* b,u64 c,u8 d);
 static void argument_enumerator_c0e(u8* a,u8* b,u8* c,u64 d,u32 e,u8 f,u8* g);
 static void argument_ended_2ff(u8* a,u8* b,u8* c,u64 d,u32 e,u8 f,u8* g,u8 h);
 static void next_enumerator_8be(u8* a,u8* b,u8* c,u64 d,u8 e,u8* f);
-static u8 is_element_at_f4e(u8* a,u64 b,u64 c);
 static void next_pack_bbb(u8* a,u8* b,u8* c,u64 d,u8 e,u8* f);
 static void begin_address_4df(u8* a,u8* b,u8* c,u64 d);
-static void close_list_0b3(u8* a,u8* b,u8* c,u64 d,u8* e);
-static void level_ended_5bf(u8* a,u8* b,u8* c,u64 d,u8 e);
 static void next_literal_1b3(u8* a,u8* b,u8* c,u64 d,u8 e,u8* f);
 static u8 boolean_6cc(u8* a,u8* b,u64 c);
 static u8 integer_bfa(u8* a,u8* b,u64 c);
-static void element_ended_d46(u8* a,u8* b,u8* c,u64 d,u32 e,u8 f,u8* g,u8 h);
 static void empty_pack_06f(u8* a,u8* b,u8* c,u64 d,u8 e);
 static void first_pack_117(u8* a,u8* b,u8* c,u64 d);
 static void begin_level_d05(u8* a,u8* b,u8* c,u64 d);
@@ -2001,6 +2014,8 @@ static void addressed_parameter_2cf(u8* a,u8* b,u8* c,u64 d,u32 e);
 static void returned_322(u8* a,u8* b,u8* c,u64 d,u8 e);
 static void function_ended_365(u8* a,u8* b,u8* c,u64 d,u8 e);
 static void pass_element_695(u8* a,u8* b,u8* c,u64 d,u8 e);
+static void element_ended_6b8(u8* a,u8* b,u8* c,u64 d,u32 e,u8 f,u8* g,u8 h);
+static void close_list_299(u8* a,u8* b,u8* c,u64 d,u8* e);
 static void parameter_at_3ac(u8* a,u8* b,u8* c,u64 d,u8 e,u8 f);
 static void array_ended_1b3(u8* a,u8* b,u8* c,u64 d,u8 e,u32 f,u32 g);
 static void lambda_parameter_383(u8* a,u8* b,u8* c,u64 d,u32 e,u8* f);
@@ -2010,8 +2025,6 @@ static void argument_ended_511(u8* a,u8* b,u8* c,u64 d,u32 e,u8 f,u8* g,u8 h);
 static void next_enumerator_cc1(u8* a,u8* b,u8* c,u64 d,u8 e,u8* f);
 static void next_pack_66f(u8* a,u8* b,u8* c,u64 d,u8 e,u8* f);
 static void begin_address_ef5(u8* a,u8* b,u8* c,u64 d);
-static void close_list_299(u8* a,u8* b,u8* c,u64 d,u8* e);
-static void element_ended_6b8(u8* a,u8* b,u8* c,u64 d,u32 e,u8 f,u8* g,u8 h);
 static void empty_pack_079(u8* a,u8* b,u8* c,u64 d,u8 e);
 static void first_literal_c4d(u8* a,u8* b,u8* c,u64 d);
 static void first_enumerator_aaf(u8* a,u8* b,u8* c,u64 d);
@@ -2036,6 +2049,8 @@ static void begin_enclosing_8b6(u8* a,u8* b,u8* c,u64 d);
 static void returned_087(u8* a,u8* b,u8* c,u64 d,u8 e);
 static void function_ended_faf(u8* a,u8* b,u8* c,u64 d,u8 e);
 static void pass_element_9db(u8* a,u8* b,u8* c,u64 d,u8 e);
+static void element_ended_c50(u8* a,u8* b,u8* c,u64 d,u32 e,u8 f,u8* g,u8 h);
+static void close_list_148(u8* a,u8* b,u8* c,u64 d,u8* e);
 static void parameter_at_d02(u8* a,u8* b,u8* c,u64 d,u8 e,u8 f);
 static void array_ended_a11(u8* a,u8* b,u8* c,u64 d,u8 e,u32 f,u32 g);
 static void argument_enumerator_071(u8* a,u8* b,u8* c,u64 d,u32 e,u8 f,u8* g);
@@ -2043,8 +2058,6 @@ static void argument_ended_c7c(u8* a,u8* b,u8* c,u64 d,u32 e,u8 f,u8* g,u8 h);
 static void next_enumerator_412(u8* a,u8* b,u8* c,u64 d,u8 e,u8* f);
 static void next_pack_095(u8* a,u8* b,u8* c,u64 d,u8 e,u8* f);
 static void begin_address_731(u8* a,u8* b,u8* c,u64 d);
-static void close_list_148(u8* a,u8* b,u8* c,u64 d,u8* e);
-static void element_ended_c50(u8* a,u8* b,u8* c,u64 d,u32 e,u8 f,u8* g,u8 h);
 static void empty_pack_c74(u8* a,u8* b,u8* c,u64 d,u8 e);
 static void begin_level_398(u8* a,u8* b,u8* c,u64 d);
 static void first_literal_898(u8* a,u8* b,u8* c,u64 d);
@@ -2066,14 +2079,14 @@ static void begin_enclosing_897(u8* a,u8* b,u8* c,u64 d);
 static void returned_07a(u8* a,u8* b,u8* c,u64 d,u8 e);
 static void function_ended_13c(u8* a,u8* b,u8* c,u64 d,u8 e);
 static void pass_element_fdc(u8* a,u8* b,u8* c,u64 d,u8 e);
+static void element_ended_20b(u8* a,u8* b,u8* c,u64 d,u32 e,u8 f,u8* g,u8 h);
+static void close_list_3c2(u8* a,u8* b,u8* c,u64 d,u8* e);
 static void parameter_at_257(u8* a,u8* b,u8* c,u64 d,u8 e,u8 f);
 static void array_ended_b9c(u8* a,u8* b,u8* c,u64 d,u8 e,u32 f,u32 g);
 static void argument_enumerator_87a(u8* a,u8* b,u8* c,u64 d,u32 e,u8 f,u8* g);
 static void argument_ended_e71(u8* a,u8* b,u8* c,u64 d,u32 e,u8 f,u8* g,u8 h);
 static void next_enumerator_034(u8* a,u8* b,u8* c,u64 d,u8 e,u8* f);
 static void next_pack_49a(u8* a,u8* b,u8* c,u64 d,u8 e,u8* f);
-static void close_list_3c2(u8* a,u8* b,u8* c,u64 d,u8* e);
-static void element_ended_20b(u8* a,u8* b,u8* c,u64 d,u32 e,u8 f,u8* g,u8 h);
 static void empty_pack_ea9(u8* a,u8* b,u8* c,u64 d,u8 e);
 static void first_literal_c8e(u8* a,u8* b,u8* c,u64 d);
 static void first_enumerator_ea5(u8* a,u8* b,u8* c,u64 d);
@@ -2186,6 +2199,7 @@ static u8 run_41f(u8* a,u8* b,u64 c,u32 d);
 static void append_named_df1(u8* a,u8* b,u8* c,u8 d,u8* e,u64 f,u64 g,u64 h,u8* i);
 static void push_text_eb0(u8* a,u8* b,u64 c,u64 d,u64 e,u32 f,u8* g);
 static void write_tokens_311(u8* a,u32 b,u8* c,u64 d,u8* e);
+static void escape_at_298(u8* a,u8* b,u64 c);
 static s_8_8 append_text_e03(u8* a,u8* b,u8* c,u64 d,u8* e);
 static s_8_8 append_parts_093(u8* a,u8* b,u8* c,u64 d,u8* e);
 static s_8_8 push_text_0f0(u8* a,u8* b,u8* c,u64 d,u8 e,u32 f,u8* g);
@@ -2236,9 +2250,91 @@ static void end_within_b20(u8* a,u8* b,u8* c,u8* d,u8* e);
 static void append_a0b_2(u8* a,u8* b,u8* c,u8 d,u8* e,u64 f,u8* g);
 static s_8_8 append_parts_3bf(u8* a,u8* b,u8* c,u64 d,u8* e);
 static u8 end_segment_f08(u8* a,u8* b,u8* c,u8* d,u8* e);
+static void parse_fb3(u8* a,u8* b,u8 c,u8* d,u64 e);
+static COLD void link_eb4(u8* a,u8* b,u8* c);
+static void parts_as_fdd(u8* a,u8* b,u32 c,u8 d);
+static void length_of_part_030(u8* a,u8* b,u8* c,u32 d);
+static void parts_7a7(u8* a,u8* b,u8* c);
+static void fill_rare_piece_d06(u8* a,u8* b,u8* c,u8* d);
+static void fill_lambda_389(u8* a,u8* b,u32 c,u64 d,u8* e);
+static void push_decimal_9ae(u8* a,u64 b);
+static void fill_within_028(u8* a,u8* b,u32 c,u32 d,u8* e,u8* f);
+static void fill_attached_0c0(u8* a,u8* b,u32 c,u8* d,u32 e,u32 f,u8* g);
+static void fill_nested_107(u8* a,u8* b,u32 c,u32 d,u8* e);
+static void fill_instance_705(u8* a,u8* b,u32 c,u32 d,u8* e);
+static void fill_tagged_ac0(u8* a,u32 b,u32 c,u32 d,u8* e);
+static void fill_parameter_f33(u8* a,u8* b,u32 c,u32 d,u32 e,u8* f);
+static void fill_marked_ccd(u8* a,u8* b,u32 c,u8* d);
+static void fill_reference_45e(u8* a,u8* b,u32 c,u32 d,u16 e,u16 f,u8* g);
+static void fill_array_6df(u8* a,u8* b,u32 c,u8* d);
+static void fill_member_9df(u8* a,u8* b,u32 c,u32 d,u8* e);
+static void fill_qualified_left_c64(u8* a,u8* b,u8* c,u32 d,u8* e);
+static void fill_vector_ba4(u8* a,u32 b,u32 c,u32 d,u8* e);
+static void fill_float_13c(u8* a,u32 b,u32 c,u8 d);
+static void fill_expansion_ab7(u8* a,u8* b,u32 c,u8* d);
+static void fill_integer_2c4(u8* a,u8* b,u32 c,u8* d,u8* e);
+static void fill_decltype_76c(u8* a,u32 b,u8* c);
+static void fill_operation_585(u8* a,u8* b,u8 c,u8 d,u32 e,u32 f,u8* g);
+static void fill_operand_808(u8* a,u8* b,u8 c,u8 d,u32 e,u8* f);
+static void fill_function_right_ba5(u8* a,u8* b,u8* c,u8 d,u8 e,u32 f,u32 g,u8* h);
+static void fill_as_left_ae7(u8* a,u8* b,u32 c,u8* d);
+static void fill_own_piece_fc9(u8* a,u8* b,u32 c,u8* d);
+static void fill_full_ff8(u8* a,u8* b,u32 c,u8* d);
+static void push_bare_edb(u8* a,u8* b,u32 c,u8* d,u8 e,u32 f,u32 g,u8 h);
+static void mirror_517(u8* a,u8* b,u64 c);
+static void view_of_own_62c(u8* a,u8* b,u8* c);
+static u32 part_74e(u8* a,u32 b,u32 c);
+static void push_alone_0dc(u8* a,u8* b,u8 c,u32 d);
+static void push_bd8(u8* a,u8* b,u8* c);
+static void push_plain_069(u8* a,u8* b,u8* c,u8* d,u64 e,u32 f);
+static void push_called_f56(u8* a,u8* b,u8* c,u32 d,u32 e,u8* f,u64 g,u32 h);
+static void push_brackets_287(u8* a,u8* b,u8* c,u8 d,u8 e,u32 f,u32 g,u8* h,u64 i,u32 j);
+static void push_behind_d5c(u8* a,u8* b,u8* c,u8* d,u64 e,u32 f);
+static void push_returned_86a(u8* a,u8* b,u8* c,u8* d,u64 e,u32 f);
+static void push_unlisted_200(u8* a,u8* b,u8* c,u32 d,u8* e,u64 f,u32 g);
+static void push_words_147(u8* a,u8* b,u32 c);
+static void push_special_629(u8* a,u8* b,u8* c,u8* d,u64 e,u32 f);
+static void push_whole_733(u8* a,u8* b,u8* c,u8 d,u8* e,u64 f,u32 g);
+static u32 entity_node_809(u8* a,u32 b);
+static void push_named_0bb(u8* a,u8* b,u8* c,u8* d,u64 e,u32 f);
+static void push_elements_here_c77(u8* a,u8* b,u8* c,u8 d,u32 e,u8* f,u64 g,u32 h);
+static u32 rest_node_d20(u8* a,u32 b);
+static void push_lone_16a(u8* a,u8* b,u8* c,u8 d,u8* e,u8* f,u32 g);
+static u8 kind_of_a3d(u8* a);
+static u32 own_node_089(u8* a,u32 b);
+static void parse_as_add(u8* a,u8* b,u64 c,u32 d,u8 e);
+static void length_of_part_5fe(u8* a,u8* b,u8* c,u32 d);
+static void parts_4fe(u8* a,u8* b,u8* c);
+static void push_as_4dd(u8* a,u32 b,u32 c,u64 d,u8 e);
+static void push_special_6d5(u8* a,u8 b,u8* c,u64 d);
+static void push_array_64d(u8* a,u32 b,u32 c,u64 d,u8 e);
+static void push_slice_a77(u8* a,u32 b,u64 c,u8 d);
+static void push_closing_ee2(u8* a,u8* b,u32 c);
+static void push_numbered_e67(u8* a,u64 b);
+static void push_function_633(u8* a,u32 b,u16 c,u64 d,u8 e);
+static void push_dyn_9e1(u8* a,u8* b,u32 c,u16 d,u32 e,u64 f,u64 g,u8 h);
+static void push_escaped_6a1(u8* a,u32 b);
+static void fill_bindings_da9(u8* a,u8* b,u32 c,u8 d,u64 e,u8 f);
+static void mirror_77d(u8* a,u8* b,u64 c);
+static void push_plain_fc3(u8* a,u8* b,u8* c,u8* d,u64 e,u32 f);
+static void push_alone_829(u8* a,u8* b,u8 c,u32 d);
+static void view_at_138(u8* a,u8* b,u32 c);
+static void push_634(u8* a,u8* b,u8* c);
+static s_8_32 path_sort_162(u8* a,u32 b);
+static void push_scope_91a(u8* a,u8* b,u8* c,u8 d,u32 e,u8* f,u64 g,u32 h);
+static void push_implementation_f83(u8* a,u8* b,u8* c,u8* d,u64 e,u32 f);
+static void push_after_b93(u8* a,u8* b,u8* c,u8* d,u8 e,u8* f,u32 g);
+static void push_arguments_35b(u8* a,u8* b,u8* c,u8* d,u64 e,u32 f);
+static void push_listed_6df(u8* a,u8* b,u8* c,u8* d,u64 e,u32 f);
+static void parse_4db(u8* a,u8* b,u64 c,u64 d,u64 e,u32 f);
+static void measured_ab2(u8* a,u8* b,u64 c,u64 d);
+static u64 text_length_c08(u8* a,u64 b);
+static void write_both_976(u8* a,u8* b,u32 c,u8* d,u64 e,u8* f,u64 g,u8* h);
+static COLD void copy_bits_128(u8* a,u8* b,u64 c);
+static void parse_be6(u8* a,u8* b,u8 c,u8* d,u64 e);
+static COLD void link_bb1(u8* a,u8* b,u8* c);
 static void press_cpp_a22(u8* a,u8* b);
 static void firsts_after_8f2(u8* a,u8* b,u8* c,u32 d);
-static void view_of_own_62c(u8* a,u8* b,u8* c);
 static void offsets_of_thunk_7b7(u8* a,u8* b);
 static COLD u8 grow_amortized_741(u8* a);
 static COLD void copy_bits_453(u8* a,u8* b,u64 c);
@@ -2263,7 +2359,6 @@ static void destroy_d9b(u8* a);
 static void mirror_88c(u8* a,u8* b,u64 c);
 static void mirror_256(u8* a,u8* b,u64 c);
 static void press_into_648(u8* a,u8* b,u32 c,u8* d,u64 e,u8* f);
-static void view_at_138(u8* a,u8* b,u32 c);
 static COLD u8 grow_amortized_33a(u8* a);
 static COLD void copy_bits_a00(u8* a,u8* b,u64 c);
 static void destroy_5ed(u8* a);
@@ -2288,6 +2383,7 @@ static void or_type_f0b(u8* a,u8* b,u8* c,u8* d,u64 e,u8* f,u64 g,u8* h);
 static void or_type_504(u8* a,u8* b,u8* c,u8* d,u64 e,u8* f,u64 g,u8* h);
 static void symdemangle_counts_of(u8* a,u64 b,u32 c,u8* d,u8* e);
 static void symdemangle_filter_of(u8* a,u64 b,u32 c,u32 d,u8* e,u64 f,u8* g,u8* h);
+static void symdemangle_parts_of(u8* a,u64 b,u32 c,u32 d,u8* e,u64 f,u8* g,u64 h,u8* i,u8* j);
 static void symdemangle_press_of(u8* a,u64 b,u32 c,u8* d,u64 e,u8* f);
 static void symdemangle_text_of(u8* a,u64 b,u32 c,u32 d,u8* e,u64 f,u8* g);
 static u32 symdemangle_texts_of(u8* a,u64 b,u8* c,u64 d,u32 e,u32 f,u8* g,u64 h,u8* i,u64 j);
@@ -3988,627 +4084,872 @@ L1:return d;
 /* sym_link::driver::Driver::run */
 static void run_f2d(u8* a,u8* b,u8* c,u8* d,u64 e,u8* f,u64 g)
 {
-A16 u8 h[24],i[20],j[16],k[12],l[24],m[24],n[12],o[12],p[12],q[12],r[24],s[16],t[12],u[16],v[12],w[40],x[12],y[12],z[12],A[24],B[16],C[12],D[40],E[12],F[12],G[12],H[24];
-u8 I,S,U,W,Z,ea,fa,ha,ka,pa,xa,Ea,Fa,Ja,Ka,Pa,bb,mb,tb,ub,Fb,Mb,Rb,Tb,Wb,ac,gc,hc;
-u32 J,K,L,M,Q,R,T,da,ga,la,ma,Da,La,Ma,Na,Oa,Qa,Za,ab,kb,lb,nb,ob,pb,qb,rb,vb,yb,zb,Ib,Jb,Kb,Lb,Ob,fc;
-u8 *N,*ba,*ia,*na,*za,*Ha,*db,*xb,*Ab,*Pb,*cc;
-u64 O,V,X,Y,aa,ca,ja,qa,ra,sa,ta,wa,ya,Aa,Ba,Ga,Sa,Ta,Ua,Va,Wa,Ya,cb,eb,fb,hb,ib,jb,wb,Bb,Cb,Db,Eb,Gb,Hb,Nb,Qb,Sb,Ub,Vb,Xb,Yb,Zb,bc,dc,ec;
-u16 P,oa,ua,va,Ca,Ia,Ra,Xa,gb,sb;
+A16 u8 h[20],i[16],j[24],k[24],l[24],m[20],n[24],o[12],p[24],q[20],r[12],s[12],t[12],u[24],v[24],w[16],x[12],y[16],z[12],A[40],B[12],C[12],D[12],E[24],F[24],G[16],H[12],I[40],J[12],K[12],L[12],M[24],N[24],O[20];
+u8 P,Z,ba,fa,ia,ja,ma,sa,ta,va,ya,Da,Ja,Ma,Na,Oa,Ta,Va,db,eb,wb,zb,Ab,Bb,Gb,Ib,Vb,Xb,Yb,Zb,dc,ec,jc,mc,uc,vc,wc,Bc,Cc,Oc,Uc,Xc,Zc,ed,id,jd,md,od,xd,yd;
+u32 Q,R,S,T,X,Y,aa,ka,la,ra,ua,za,Aa,Pa,Qa,Sa,Ua,cb,jb,kb,lb,mb,nb,ob,Cb,Db,Fb,Hb,ac,bc,fc,gc,kc,lc,nc,oc,pc,qc,rc,sc,xc,yc,zc,Dc,Ec,Hc,Ic,Rc,Tc,kd,ld,nd,vd;
+u8 *U,*ea,*oa,*wa,*Ba,*Ka,*Xa,*gb,*xb,*Kb,*Ob,*Pb,*Sb,*Wb,*ic,*Gc,*Jc,*Vc,*dd,*qd;
+u64 V,ca,da,ga,ha,na,pa,qa,xa,Ea,Fa,Ga,Ha,La,Ra,Wa,Ya,Za,fb,qb,rb,sb,tb,ub,yb,Eb,Jb,Lb,Mb,Rb,Tb,Ub,hc,Fc,Kc,Lc,Mc,Nc,Pc,Qc,Sc,Wc,Yc,ad,bd,cd,fd,gd,hd,pd,sd,td,ud;
+u16 W,Ca,Ia,ab,bb,hb,ib,pb,vb,Nb,Qb,cc,tc,Ac;
 if(b[56]!=1){
-L=r4(b+48);
-M=r4(b+52);
-L1:N=rp(b);
-O=r8(b+8);
-if(O==0){
-if(L!=0){
-w4(b+48,L);
-w4(b+52,M);
-I=0;
-J=0;
-K=0;
+S=r4(b+48);
+T=r4(b+52);
+L1:U=rp(b);
+V=r8(b+8);
+if(V==0){
+if(S!=0){
+w4(b+48,S);
+w4(b+52,T);
+P=0;
+Q=0;
+R=0;
 goto L2;}
-P=q2(f);
-Q=q4(f+12);
-R=q4(f+4);
-w8(D,0);
-w4(D+8,R);
-w4(D+12,Q);
-z20(D+16);
-w2(D+36,P);
-w2(D+38,0);
-switch(Q){
+W=q2(f);
+X=q4(f+12);
+Y=q4(f+4);
+w8(I,0);
+w4(I+8,Y);
+w4(I+12,X);
+z20(I+16);
+w2(I+36,W);
+w2(I+38,0);
+switch(X){
 case 2:if(r2(f+16)!=65535)goto L3;
-memcpy(B,f+16,16);
-z12(C);
-token_by_f9d(C,c,d,D,b+24,B);
-if(*C!=0){
-S=C[4];
-T=r4(C+8);
+memcpy(G,f+16,16);
+z12(H);
+token_by_f9d(H,c,d,I,b+24,G);
+if(*H!=0){
+Z=H[4];
+aa=r4(H+8);
 goto L4;}
 break;
 case 1:break;
 default:goto L3;
 }
-if(P<270){
-U=*((u8*)t_4ada+(i64)P);
-V=r8(b+32);
-if(V<U){
-W=*((u8*)t_79dc+(i64)P);
-X=V;
-L5:z24(A);
-if(X<W)Y=X;
+if(W<270){
+ba=*((u8*)t_4ada+(i64)W);
+ca=r8(b+32);
+if(ca<ba){
+da=(u64)W<<1;
+ea=(u8*)t_558a+(i64)da;
+fa=*((u8*)t_79dc+(i64)W);
+ga=ca;
+L5:if(ga<fa)ha=ga;
 else{
-between_by_step_e69(A,c,d,D,b+24);
-if(*A!=0){
-S=r4(A+4);
-T=r4(A+8);
+z24(F);
+ia=steps_apart_3af(*ea,I+16,ga);
+if(ia){
+before_apart_b65(F,c,d,I,b+24);
+ja=*F;
+ka=r4(F+4);
+la=r4(F+8);}
+else{
+z24(E);
+before_by_step_fe5(E,c,d,I,b+24);
+ja=*E;
+ka=r4(E+4);
+la=r4(E+8);}
+if(ja!=0){
+Z=ka;
+aa=la;
 goto L4;}
-Y=r8(b+32);}
-if(r8(b+40)==Y){
-Z=grow_amortized_757(b+24);
-if(!Z){
-S=4;
-T=0;
+ha=r8(b+32);}
+if(r8(b+40)==ha){
+ma=grow_amortized_757(b+24);
+if(!ma){
+Z=4;
+aa=0;
 goto L4;}
-aa=r8(b+32);}
-else aa=Y;
-ba=rp(b+24)+(aa<<5);
-*ba=0;
-ba[1]=0;
-z28(ba+4);
-ca=aa+1;
-w8(b+32,ca);
-if(ca<U){
-X=ca;
-goto L5;}}
-z12(z);
-switch(*((u8*)t_558a+(i64)((u64)P<<1))){
-case 79:finish_substitution_b8a(z,c,d,D,b+24);
+na=r8(b+32);}
+else na=ha;
+oa=rp(b+24)+(na<<5);
+*oa=0;
+oa[1]=0;
+z28(oa+4);
+pa=na+1;
+w8(b+32,pa);
+if(pa<ba){
+ga=pa;
+goto L5;}
+z12(D);
+qa=da;}
+else{
+z12(D);
+qa=(u64)W<<1;}
+switch(*((u8*)t_558a+(i64)qa)){
+case 79:finish_substitution_b8a(D,c,d,I,b+24);
 goto L6;
-case 85:finish_lambda_240(z,c,d,e,D,b+24);
+case 85:finish_lambda_240(D,c,d,e,I,b+24);
 goto L6;
-case 246:finish_inheriting_8c9(z,c,d,e,D,b+24);
+case 246:finish_inheriting_8c9(D,c,d,e,I,b+24);
 goto L6;
-case 47:z12(y);
-finish_rule_396(y,c,d,e,D,b+24);
-da=r4(y+8);
-ea=y[4];
-fa=*y;
+case 47:z12(C);
+finish_rule_396(C,c,d,e,I,b+24);
+ra=r4(C+8);
+sa=C[4];
+ta=*C;
 goto L7;
-case 130:z12(x);
-finish_rule_396(x,c,d,e,D,b+24);
-da=r4(x+8);
-ea=x[4];
-fa=*x;
+case 130:z12(B);
+finish_rule_396(B,c,d,e,I,b+24);
+ra=r4(B+8);
+sa=B[4];
+ta=*B;
 goto L7;
 case 0:case 1:case 2:case 3:case 4:case 5:case 6:case 7:case 8:case 9:case 10:case 11:case 12:case 13:case 14:case 15:case 16:case 17:case 18:case 19:case 20:case 21:case 22:case 23:case 24:case 25:case 26:case 27:case 28:case 29:case 30:case 31:case 32:case 33:case 34:case 35:case 36:case 37:case 38:case 39:case 40:case 41:case 42:case 43:case 44:case 45:case 46:case 48:case 49:case 50:case 51:case 52:case 53:case 54:case 55:case 56:case 57:case 58:case 59:case 60:case 61:case 62:case 63:case 64:case 65:case 66:case 67:case 68:case 69:case 70:case 71:case 72:case 73:case 74:case 75:case 76:case 77:case 78:case 80:case 81:case 82:case 83:case 84:case 86:case 87:case 88:case 89:case 90:case 91:case 92:case 93:case 94:case 95:case 96:case 97:case 98:case 99:case 100:case 101:case 102:case 103:case 104:case 105:case 106:case 107:case 108:case 109:case 110:case 111:case 112:case 113:case 114:case 115:case 116:case 117:case 118:case 119:case 120:case 121:case 122:case 123:case 124:case 125:case 126:case 127:case 128:case 129:case 131:case 132:case 133:case 134:case 135:case 136:case 137:case 138:case 139:case 140:case 141:case 142:case 143:case 144:case 145:case 146:case 147:case 148:case 149:case 150:case 151:case 152:case 153:case 154:case 155:case 156:case 157:case 158:case 159:case 160:case 161:case 162:case 163:case 164:case 165:case 166:case 167:case 168:case 169:case 170:case 171:case 172:case 173:case 174:case 175:case 176:case 177:case 178:case 179:case 180:case 181:case 182:case 183:case 184:case 185:case 186:case 187:case 188:case 189:case 190:case 191:case 192:case 193:case 194:case 195:case 196:case 197:case 198:case 199:case 200:case 201:case 202:case 203:case 204:case 205:case 206:case 207:case 208:case 209:case 210:case 211:case 212:case 213:case 214:case 215:case 216:case 217:case 218:case 219:case 220:case 221:case 222:case 223:case 224:case 225:case 226:case 227:case 228:case 229:case 230:case 231:case 232:case 233:case 234:case 235:case 236:case 237:case 238:case 239:case 240:case 241:case 242:case 243:case 244:case 245:case 247:case 248:case 249:case 250:case 251:case 252:break;
 default:NEVER;
 }}
-else z12(z);
-finish_rule_396(z,c,d,e,D,b+24);
-L6:da=r4(z+8);
-ea=z[4];
-fa=*z;
-L7:if(fa==0){
-ga=Q;
+else z12(D);
+finish_rule_396(D,c,d,e,I,b+24);
+L6:ra=r4(D+8);
+sa=D[4];
+ta=*D;
+L7:if(ta==0){
+ua=X;
 goto L8;}
-S=ea;
-T=da;
+Z=sa;
+aa=ra;
 goto L4;
 L3:if(r8(b+16)==0){
-ha=grow_amortized_934(b);
-if(!ha){
-S=4;
-T=0;
+va=grow_amortized_934(b);
+if(!va){
+Z=4;
+aa=0;
 goto L4;}
-ia=rp(b);
-ja=r8(b+8);}
+wa=rp(b);
+xa=r8(b+8);}
 else{
-ia=N;
-ja=0;}
-memcpy(ia+ja*40,D,40);
-w8(b+8,ja+1);
-ga=1;
+wa=U;
+xa=0;}
+memcpy(wa+xa*40,I,40);
+w8(b+8,xa+1);
+ua=1;
 goto L8;
-L4:ka=S;
-la=T;
+L4:ya=Z;
+za=aa;
 goto L9;
-L8:ma=ga;
+L8:Aa=ua;
 goto L10;}
-na=N+(i64)(O*40);
-if(r4(na-28)!=L){
-Ha=f+((u64)L<<4);
-Ia=q2(Ha);
-Ja=Ha[2];
-Ka=Ha[3];
-La=q4(Ha+4);
-Ma=q4(Ha+8);
-Na=q4(Ha+12);
-if(Ia==65535){
-w2(s,65535);
-s[2]=Ja;
-s[3]=Ka;
-w4(s+4,La);
-w4(s+8,Ma);
-w4(s+12,Na);
-z12(t);
-token_by_f9d(t,c,d,na-40,b+24,s);
-if(*t==0){
-Oa=L+1;
+Ba=U+(i64)(V*40);
+if(r4(Ba-28)!=S){
+gb=f+((u64)S<<4);
+hb=q2(gb);
+ib=q2(gb+2);
+jb=q4(gb+4);
+kb=q4(gb+8);
+lb=q4(gb+12);
+if(hb==65535){
+w2(w,65535);
+w2(w+2,ib);
+w4(w+4,jb);
+w4(w+8,kb);
+w4(w+12,lb);
+z12(x);
+token_by_f9d(x,c,d,Ba-40,b+24,w);
+if(*x==0){
+mb=S+1;
 goto L11;}
-Pa=t[4];
-Qa=r4(t+8);}
+nb=x[4];
+ob=r4(x+8);}
 else{
-Ra=r2(na-4);
-Sa=r8(b+32);
-Ta=Sa-r8(na-40);
-if(Ra<270){
-if(*((u8*)t_607e+(i64)Ra)&1){
-Ua=usub64(*((u8*)t_4ada+(i64)Ra),(u64)Ja+1);
-if(Ta>=Ua)goto L12;
-Va=Sa;
-Wa=Ta;
-L13:z24(m);
-Xa=r2(na-4);
-if(Xa<270){
-if(Wa<*((u8*)t_79dc+(i64)Xa))goto L14;}
-else {
-if(Wa<5)goto L14;}
-between_by_step_e69(m,c,d,na-40,b+24);
-if(*m==0){
-Ya=r8(b+32);
-goto L15;}
-Za=r4(m+4);
-ab=r4(m+8);
-goto L16;
-L14:Ya=Va;
-L15:if(r8(b+40)==Ya){
-bb=grow_amortized_757(b+24);
-if(!bb){
-Za=4;
-ab=0;
-goto L16;}
-cb=r8(b+32);}
-else cb=Ya;
-db=rp(b+24)+(cb<<5);
-*db=0;
-db[1]=0;
-z28(db+4);
-eb=cb+1;
-w8(b+32,eb);
-fb=eb-r8(na-40);
-if(fb<Ua){
-Va=eb;
-Wa=fb;
+pb=r2(Ba-4);
+qb=r8(b+32);
+rb=qb-r8(Ba-40);
+if(pb<270){
+if(*((u8*)t_607e+(i64)pb)&1){
+sb=usub64(*((u8*)t_4ada+(i64)pb),(u16)((ib&255)+1));
+if(rb<sb){
+tb=qb;
+ub=rb;
+L12:vb=r2(Ba-4);
+wb=vb<270;
+xb=(u8*)t_79dc+(i64)vb;
+if(wb){
+if(ub<*xb){
+yb=tb;
 goto L13;}
-gb=r2(na-4);
 z24(l);
-if(gb>=270){
-jb=fb;
+zb=*((u8*)t_558a+(i64)((u64)vb<<1));}
+else{
+if(ub<5){
+yb=tb;
+goto L13;}
+z24(l);
+zb=30;}
+memcpy(m,Ba-24,20);
+Ab=steps_apart_3af(zb,m,ub);
+if(Ab){
+before_apart_b65(l,c,d,Ba-40,b+24);
+Bb=*l;
+Cb=r4(l+4);
+Db=r4(l+8);}
+else{
+z24(k);
+if(wb)Eb=*xb;
+else Eb=5;
+if(ub<Eb){
+Fb=q4(Ba-24);
+Gb=0;
+Hb=q4(Ba-20);}
+else{
+before_by_step_fe5(k,c,d,Ba-40,b+24);
+Fb=r4(k+4);
+Gb=*k;
+Hb=r4(k+8);}
+Bb=Gb;
+Cb=Fb;
+Db=Hb;}
+if(Bb!=0){
+nb=Cb;
+ob=Db;
+goto L14;}
+yb=r8(b+32);
+L13:if(r8(b+40)==yb){
+Ib=grow_amortized_757(b+24);
+if(!Ib){
+nb=4;
+ob=0;
+goto L14;}
+Jb=r8(b+32);}
+else Jb=yb;
+Kb=rp(b+24)+(Jb<<5);
+*Kb=0;
+Kb[1]=0;
+z28(Kb+4);
+Lb=Jb+1;
+w8(b+32,Lb);
+Mb=Lb-r8(Ba-40);
+if(Mb<sb){
+tb=Lb;
+ub=Mb;
+goto L12;}
+Nb=r2(Ba-4);
+Ob=(u8*)t_79dc+(i64)Nb;
+if(Nb>=270){
+Sb=Ob;
+Tb=Mb;
+goto L15;}
+Pb=Ob;
+Qb=Nb;
+Rb=Mb;}
+else{
+Pb=(u8*)t_79dc+(i64)pb;
+Qb=pb;
+Rb=rb;}}
+else{
+Pb=(u8*)t_79dc+(i64)pb;
+Qb=pb;
+Rb=rb;}
+if(Rb<*Pb)goto L16;
+z24(p);
+Ub=Rb;
+Vb=1;
+Wb=Pb;
+Xb=*((u8*)t_558a+(i64)((u64)Qb<<1));
 goto L17;}
-hb=gb;
-ib=fb;
-goto L18;}
-L12:z24(l);
-hb=Ra;
-ib=Ta;
-L18:if(ib<*((u8*)t_79dc+(i64)hb))goto L19;
-goto L20;}
-z24(l);
-jb=Ta;
-L17:if(jb<5)goto L19;
-L20:between_by_step_e69(l,c,d,na-40,b+24);
-kb=r4(l+4);
-lb=r4(l+8);
-mb=*l;
-memcpy(n,l+12,12);
-if(mb==0){
-nb=lb;
-ob=kb;
-goto L21;}
-Za=kb;
-ab=lb;
-goto L16;
-L19:memcpy(l+4,na-24,20);
-pb=r4(l+8);
-qb=r4(l+4);
-memcpy(n,na-16,12);
-nb=pb;
-ob=qb;
-L21:w4(i,ob);
-w4(i+4,nb);
-memcpy(i+8,n,12);
-w2(j,Ia);
-j[2]=Ja;
-j[3]=Ka;
-w4(j+4,La);
-w4(j+8,Ma);
-w4(j+12,Na);
-z24(h);
+Sb=(u8*)t_79dc+(i64)pb;
+Tb=rb;
+L15:if(Tb<5)goto L16;
+z24(p);
+Ub=Tb;
+Vb=0;
+Wb=Sb;
+Xb=30;
+L17:memcpy(q,Ba-24,20);
+Yb=steps_apart_3af(Xb,q,Ub);
+if(Yb){
+before_apart_b65(p,c,d,Ba-40,b+24);
+Zb=*p;
+ac=r4(p+12);
+bc=r4(p+16);
+cc=r2(p+20);
+dc=p[22];
+ec=p[23];
+fc=r4(p+4);
+gc=r4(p+8);}
+else{
+z24(n);
+z12(o);
+if(Vb)hc=*Wb;
+else hc=5;
+if(Ub<hc){
+ic=Ba-16;
+jc=0;
+kc=q4(Ba-20);
+lc=q4(Ba-24);}
+else{
+before_by_step_fe5(n,c,d,Ba-40,b+24);
+mc=*n;
+if(mc==0){
+nc=r4(n+4);
+oc=r4(n+8);
+memcpy(o,n+12,12);
+ic=o;
+jc=0;
+kc=oc;
+lc=nc;}
+else{
+ic=o;
+jc=mc;
+kc=r4(n+8);
+lc=n[4];}}
+memcpy(p+12,ic,12);
+Zb=jc;
+ac=r4(p+12);
+bc=r4(p+16);
+cc=r2(p+20);
+dc=p[22];
+ec=p[23];
+fc=lc;
+gc=kc;}
+if(Zb!=0){
+nb=fc;
+ob=gc;
+goto L14;}
+pc=fc;
+qc=gc;
+rc=ac;
+sc=bc;
+tc=cc;
+uc=dc;
+vc=ec;
+goto L18;
+L16:pc=q4(Ba-24);
+qc=q4(Ba-20);
+rc=q4(Ba-16);
+sc=q4(Ba-12);
+tc=q2(Ba-8);
+uc=Ba[-6];
+vc=Ba[-5];
+L18:z24(j);
 if(c[88]==0){
-rb=r4(i+8);
-sb=r2(i+16);
-tb=i[19];
-ub=c[96];
-vb=ub==1?q4(c+100):r4(i+12);
-if(Ia<270){
-if(!((u8)(*((u8*)t_558a+(i64)((u64)Ia<<1))-87)<254||La==0)){
-wb=usub64(Na,1);
-if(wb<g){
-xb=f+(i64)(wb<<4);
-yb=r4(xb+4);
-zb=r4(xb+8);
-if((zb>=yb)&(e>=zb)){
-Ab=d+(i64)yb;
-Bb=(u64)zb-yb;
-if(zb==yb)goto L22;
-Cb=0;
-Db=0;
-L23:if(Cb<0x199999999999999au){
-Eb=Cb*10;
-Fb=usub8(*(Ab+(i64)Db),48);
-if(Eb<=(Fb^18446744073709551615u)){
-Gb=Eb+Fb;
-Hb=Db+1;
-if(Bb!=Hb){
-Cb=Gb;
-Db=Hb;
+wc=c[96];
+xc=wc==1?q4(c+100):sc;
+if(hb<270){
+if(!((u8)(*((u8*)t_558a+(i64)((u64)hb<<1))-87)<254||jb==0)){
+Fc=usub64(lb,1);
+if(Fc<g){
+Gc=f+(i64)(Fc<<4);
+Hc=r4(Gc+4);
+Ic=r4(Gc+8);
+if((Ic>=Hc)&(e>=Ic)){
+Jc=d+(i64)Hc;
+Kc=(u64)Ic-Hc;
+if(Ic==Hc){
+yc=rc;
+zc=xc;
+Ac=tc;
+Bc=wc;
+Cc=vc;
+Dc=pc;
+Ec=qc;
+goto L19;}
+Lc=0;
+Mc=0;
+L20:if(Lc<0x199999999999999au){
+Nc=Lc*10;
+Oc=usub8(*(Jc+(i64)Mc),48);
+if(Nc<=(Oc^18446744073709551615u)){
+Pc=Nc+Oc;
+Qc=Mc+1;
+if(Kc!=Qc){
+Lc=Pc;
+Mc=Qc;
+goto L20;}
+if(Pc<0xfffffffffffffffeu){
+yc=rc;
+zc=xc;
+Ac=tc;
+Bc=wc;
+Cc=vc;
+Dc=pc;
+Ec=qc;
+goto L19;}}}}}
+nb=2;
+ob=usub32(jb,1);
+goto L14;}
+yc=rc;
+zc=xc;
+Ac=tc;
+Bc=wc;
+Cc=vc;
+Dc=pc;
+Ec=qc;}
+else{
+yc=rc;
+zc=xc;
+Ac=tc;
+Bc=wc;
+Cc=vc;
+Dc=pc;
+Ec=qc;}}
+else{
+w4(h,pc);
+w4(h+4,qc);
+w4(h+8,rc);
+w4(h+12,sc);
+w2(h+16,tc);
+h[18]=uc;
+h[19]=vc;
+w2(i,hb);
+w2(i+2,ib);
+w4(i+4,jb);
+w4(i+8,kb);
+w4(i+12,lb);
+begin_apart_c9a(j,c,d,e,f,g,h,i);
+Rc=r4(j+8);
+if(*j!=0){
+nb=j[4];
+ob=Rc;
+goto L14;}
+yc=r4(j+12);
+zc=r4(j+16);
+Ac=r2(j+20);
+Bc=j[22];
+Cc=j[23];
+Dc=r4(j+4);
+Ec=Rc;}
+L19:Sc=r8(b+32);
+Tc=S+1;
+w8(A,Sc);
+w4(A+8,jb);
+w4(A+12,lb);
+w4(A+16,Dc);
+w4(A+20,Ec);
+w4(A+24,yc);
+w4(A+28,zc);
+w2(A+32,Ac);
+A[34]=Bc;
+A[35]=Cc;
+w2(A+36,hb);
+w2(A+38,0);
+Uc=Ac;
+if(lb==S+2){
+Vc=f+((u64)Tc<<4);
+if(r2(Vc)==65535){
+memcpy(y,Vc,16);
+z12(z);
+token_by_f9d(z,c,d,A,b+24,y);
+if(*z==0)goto L21;
+nb=z[4];
+ob=r4(z+8);
+goto L14;}}
+if(lb!=Tc){
+Wc=r8(b+8);
+if(r8(b+16)==Wc){
+Xc=grow_amortized_934(b);
+if(!Xc){
+nb=4;
+ob=0;
+goto L14;}
+Yc=r8(b+8);}
+else Yc=Wc;
+memcpy(rp(b)+Yc*40,A,40);
+w8(b+8,Yc+1);
+mb=Tc;
+goto L11;}
+L21:if(hb<270){
+Zc=*((u8*)t_4ada+(i64)hb);
+ad=r8(b+32);
+bd=ad-Sc;
+if(bd<Zc){
+cd=(u64)hb<<1;
+dd=(u8*)t_558a+(i64)cd;
+ed=*((u8*)t_79dc+(i64)hb);
+fd=ad;
+gd=bd;
+L22:if(gd<ed)hd=fd;
+else{
+z24(v);
+id=steps_apart_3af(*dd,A+16,gd);
+if(id){
+before_apart_b65(v,c,d,A,b+24);
+jd=*v;
+kd=r4(v+4);
+ld=r4(v+8);}
+else{
+z24(u);
+before_by_step_fe5(u,c,d,A,b+24);
+jd=*u;
+kd=r4(u+4);
+ld=r4(u+8);}
+if(jd!=0){
+md=kd;
+nd=ld;
 goto L23;}
-if(Gb<0xfffffffffffffffeu)goto L22;}}}}
-Za=2;
-ab=usub32(La,1);
-goto L16;}}
-L22:w4(h+12,rb);
-w4(h+16,vb);
-w2(h+20,sb);
-h[22]=ub;
-h[23]=tb;
-memcpy(k,h+12,12);
-memcpy(n,k,12);
-Ib=ob;
-Jb=nb;}
+hd=r8(b+32);}
+if(r8(b+40)==hd){
+od=grow_amortized_757(b+24);
+if(!od){
+md=4;
+nd=0;
+goto L23;}
+pd=r8(b+32);}
+else pd=hd;
+qd=rp(b+24)+(pd<<5);
+*qd=0;
+qd[1]=0;
+z28(qd+4);
+sd=pd+1;
+w8(b+32,sd);
+td=sd-Sc;
+if(td<Zc){
+fd=sd;
+gd=td;
+goto L22;}
+z12(t);
+ud=cd;}
 else{
-begin_apart_c9a(h,c,d,e,f,g,i,j);
-Kb=r4(h+4);
-Lb=r4(h+8);
-Mb=*h==0;
-memcpy(k,h+12,12);
-memcpy(n,k,12);
-if(!Mb){
-Za=Kb;
-ab=Lb;
-goto L16;}
-Ib=Kb;
-Jb=Lb;}
-memcpy(w+24,n,12);
-Nb=r8(b+32);
-Ob=L+1;
-w8(w,Nb);
-w4(w+8,La);
-w4(w+12,Na);
-w4(w+16,Ib);
-w4(w+20,Jb);
-w2(w+36,Ia);
-w2(w+38,0);
-if(Na==L+2){
-Pb=f+((u64)Ob<<4);
-if(r2(Pb)==65535){
-memcpy(u,Pb,16);
-z12(v);
-token_by_f9d(v,c,d,w,b+24,u);
-if(*v==0)goto L24;
-Pa=v[4];
-Qa=r4(v+8);
-goto L25;}}
-if(Na!=Ob){
-Qb=r8(b+8);
-if(r8(b+16)==Qb){
-Rb=grow_amortized_934(b);
-if(!Rb){
-Pa=4;
-Qa=0;
-goto L25;}
-Sb=r8(b+8);}
-else Sb=Qb;
-memcpy(rp(b)+Sb*40,w,40);
-w8(b+8,Sb+1);
-Oa=Ob;
-goto L11;}
-L24:if(Ia<270){
-Tb=*((u8*)t_4ada+(i64)Ia);
-Ub=r8(b+32);
-Vb=Ub-Nb;
-if(Vb<Tb){
-Wb=*((u8*)t_79dc+(i64)Ia);
-Xb=Ub;
-Yb=Vb;
-L26:z24(r);
-if(Yb<Wb)Zb=Xb;
-else{
-between_by_step_e69(r,c,d,w,b+24);
-if(*r!=0){
-Pa=r4(r+4);
-Qa=r4(r+8);
-goto L25;}
-Zb=r8(b+32);}
-if(r8(b+40)==Zb){
-ac=grow_amortized_757(b+24);
-if(!ac){
-Pa=4;
-Qa=0;
-goto L25;}
-bc=r8(b+32);}
-else bc=Zb;
-cc=rp(b+24)+(bc<<5);
-*cc=0;
-cc[1]=0;
-z28(cc+4);
-dc=bc+1;
-w8(b+32,dc);
-ec=dc-Nb;
-if(ec<Tb){
-Xb=dc;
-Yb=ec;
-goto L26;}}
-z12(q);
-switch(*((u8*)t_558a+(i64)((u64)Ia<<1))){
-case 79:finish_substitution_b8a(q,c,d,w,b+24);
-goto L27;
-case 85:finish_lambda_240(q,c,d,e,w,b+24);
-goto L27;
-case 246:finish_inheriting_8c9(q,c,d,e,w,b+24);
-goto L27;
-case 47:z12(p);
-if(w[32]==3)finish_passed_over_5f8(p,c,w,b+24);
-else finish_rule_396(p,c,d,e,w,b+24);
-fc=r4(p+8);
-gc=p[4];
-hc=*p;
-goto L28;
-case 130:z12(o);
-if(w[32]==2)finish_unseen_87d(o,c,d,e,w,b+24);
-else finish_rule_396(o,c,d,e,w,b+24);
-fc=r4(o+8);
-gc=o[4];
-hc=*o;
-goto L28;
-case 0:case 1:case 2:case 3:case 4:case 5:case 6:case 7:case 8:case 9:case 10:case 11:case 12:case 13:case 14:case 15:case 16:case 17:case 18:case 19:case 20:case 21:case 22:case 23:case 24:case 25:case 26:case 27:case 28:case 29:case 30:case 31:case 32:case 33:case 34:case 35:case 36:case 37:case 38:case 39:case 40:case 41:case 42:case 43:case 44:case 45:case 46:case 48:case 49:case 50:case 51:case 52:case 53:case 54:case 55:case 56:case 57:case 58:case 59:case 60:case 61:case 62:case 63:case 64:case 65:case 66:case 67:case 68:case 69:case 70:case 71:case 72:case 73:case 74:case 75:case 76:case 77:case 78:case 80:case 81:case 82:case 83:case 84:case 86:case 87:case 88:case 89:case 90:case 91:case 92:case 93:case 94:case 95:case 96:case 97:case 98:case 99:case 100:case 101:case 102:case 103:case 104:case 105:case 106:case 107:case 108:case 109:case 110:case 111:case 112:case 113:case 114:case 115:case 116:case 117:case 118:case 119:case 120:case 121:case 122:case 123:case 124:case 125:case 126:case 127:case 128:case 129:case 131:case 132:case 133:case 134:case 135:case 136:case 137:case 138:case 139:case 140:case 141:case 142:case 143:case 144:case 145:case 146:case 147:case 148:case 149:case 150:case 151:case 152:case 153:case 154:case 155:case 156:case 157:case 158:case 159:case 160:case 161:case 162:case 163:case 164:case 165:case 166:case 167:case 168:case 169:case 170:case 171:case 172:case 173:case 174:case 175:case 176:case 177:case 178:case 179:case 180:case 181:case 182:case 183:case 184:case 185:case 186:case 187:case 188:case 189:case 190:case 191:case 192:case 193:case 194:case 195:case 196:case 197:case 198:case 199:case 200:case 201:case 202:case 203:case 204:case 205:case 206:case 207:case 208:case 209:case 210:case 211:case 212:case 213:case 214:case 215:case 216:case 217:case 218:case 219:case 220:case 221:case 222:case 223:case 224:case 225:case 226:case 227:case 228:case 229:case 230:case 231:case 232:case 233:case 234:case 235:case 236:case 237:case 238:case 239:case 240:case 241:case 242:case 243:case 244:case 245:case 247:case 248:case 249:case 250:case 251:case 252:break;
-default:NEVER;
-}}
-else z12(q);
-finish_rule_396(q,c,d,e,w,b+24);
-L27:fc=r4(q+8);
-gc=q[4];
-hc=*q;
-L28:if(hc==0){
-Oa=Na;
-goto L11;}
-Pa=gc;
-Qa=fc;
+z12(t);
+ud=(u64)hb<<1;}
+switch(*((u8*)t_558a+(i64)ud)){
+case 79:finish_substitution_b8a(t,c,d,A,b+24);
+goto L24;
+case 85:finish_lambda_240(t,c,d,e,A,b+24);
+goto L24;
+case 246:finish_inheriting_8c9(t,c,d,e,A,b+24);
+goto L24;
+case 47:z12(s);
+if(Uc==3)finish_passed_over_5f8(s,c,A,b+24);
+else finish_rule_396(s,c,d,e,A,b+24);
+vd=r4(s+8);
+xd=s[4];
+yd=*s;
 goto L25;
-L16:Pa=Za;
-Qa=ab;}
-L25:ka=Pa;
-la=Qa;
-goto L9;
-L11:ma=Oa;
-goto L10;}
-oa=r2(na-4);
-if(oa<270){
-pa=*((u8*)t_4ada+(i64)oa);
-qa=r8(b+32);
-ra=qa-r8(na-40);
-if(ra>=pa){
-z12(G);
-ua=oa;
-goto L29;}
-sa=qa;
-ta=ra;
-L30:z24(H);
-va=r2(na-4);
-if(va<270){
-if(ta<*((u8*)t_79dc+(i64)va))goto L31;}
-else {
-if(ta<5)goto L31;}
-between_by_step_e69(H,c,d,na-40,b+24);
-if(*H==0){
-wa=r8(b+32);
-goto L32;}
-ka=r4(H+4);
-la=r4(H+8);
-goto L9;
-L31:wa=sa;
-L32:if(r8(b+40)==wa){
-xa=grow_amortized_757(b+24);
-if(!xa){
-ka=4;
-la=0;
-goto L9;}
-ya=r8(b+32);}
-else ya=wa;
-za=rp(b+24)+(ya<<5);
-*za=0;
-za[1]=0;
-z28(za+4);
-Aa=ya+1;
-w8(b+32,Aa);
-Ba=Aa-r8(na-40);
-if(Ba<pa){
-sa=Aa;
-ta=Ba;
-goto L30;}
-Ca=r2(na-4);
-z12(G);
-if(Ca>=270)goto L33;
-ua=Ca;
-L29:switch(*((u8*)t_558a+(i64)((u64)ua<<1))){
-case 79:finish_substitution_b8a(G,c,d,na-40,b+24);
-goto L34;
-case 85:finish_lambda_240(G,c,d,e,na-40,b+24);
-goto L34;
-case 246:finish_inheriting_8c9(G,c,d,e,na-40,b+24);
-goto L34;
-case 47:z12(F);
-if(na[-8]==3)finish_passed_over_5f8(F,c,na-40,b+24);
-else finish_rule_396(F,c,d,e,na-40,b+24);
-Da=r4(F+8);
-Ea=F[4];
-Fa=*F;
-goto L35;
-case 130:z12(E);
-if(na[-8]==2)finish_unseen_87d(E,c,d,e,na-40,b+24);
-else finish_rule_396(E,c,d,e,na-40,b+24);
-Da=r4(E+8);
-Ea=E[4];
-Fa=*E;
-goto L35;
+case 130:z12(r);
+if(Uc==2)finish_unseen_87d(r,c,d,e,A,b+24);
+else finish_rule_396(r,c,d,e,A,b+24);
+vd=r4(r+8);
+xd=r[4];
+yd=*r;
+goto L25;
 case 0:case 1:case 2:case 3:case 4:case 5:case 6:case 7:case 8:case 9:case 10:case 11:case 12:case 13:case 14:case 15:case 16:case 17:case 18:case 19:case 20:case 21:case 22:case 23:case 24:case 25:case 26:case 27:case 28:case 29:case 30:case 31:case 32:case 33:case 34:case 35:case 36:case 37:case 38:case 39:case 40:case 41:case 42:case 43:case 44:case 45:case 46:case 48:case 49:case 50:case 51:case 52:case 53:case 54:case 55:case 56:case 57:case 58:case 59:case 60:case 61:case 62:case 63:case 64:case 65:case 66:case 67:case 68:case 69:case 70:case 71:case 72:case 73:case 74:case 75:case 76:case 77:case 78:case 80:case 81:case 82:case 83:case 84:case 86:case 87:case 88:case 89:case 90:case 91:case 92:case 93:case 94:case 95:case 96:case 97:case 98:case 99:case 100:case 101:case 102:case 103:case 104:case 105:case 106:case 107:case 108:case 109:case 110:case 111:case 112:case 113:case 114:case 115:case 116:case 117:case 118:case 119:case 120:case 121:case 122:case 123:case 124:case 125:case 126:case 127:case 128:case 129:case 131:case 132:case 133:case 134:case 135:case 136:case 137:case 138:case 139:case 140:case 141:case 142:case 143:case 144:case 145:case 146:case 147:case 148:case 149:case 150:case 151:case 152:case 153:case 154:case 155:case 156:case 157:case 158:case 159:case 160:case 161:case 162:case 163:case 164:case 165:case 166:case 167:case 168:case 169:case 170:case 171:case 172:case 173:case 174:case 175:case 176:case 177:case 178:case 179:case 180:case 181:case 182:case 183:case 184:case 185:case 186:case 187:case 188:case 189:case 190:case 191:case 192:case 193:case 194:case 195:case 196:case 197:case 198:case 199:case 200:case 201:case 202:case 203:case 204:case 205:case 206:case 207:case 208:case 209:case 210:case 211:case 212:case 213:case 214:case 215:case 216:case 217:case 218:case 219:case 220:case 221:case 222:case 223:case 224:case 225:case 226:case 227:case 228:case 229:case 230:case 231:case 232:case 233:case 234:case 235:case 236:case 237:case 238:case 239:case 240:case 241:case 242:case 243:case 244:case 245:case 247:case 248:case 249:case 250:case 251:case 252:break;
 default:NEVER;
 }}
-else z12(G);
-L33:finish_rule_396(G,c,d,e,na-40,b+24);
-L34:Da=r4(G+8);
-Ea=G[4];
-Fa=*G;
-L35:if(Fa==0){
-Ga=r8(b+8);
-if(Ga==0){
-ma=L;
+else z12(t);
+finish_rule_396(t,c,d,e,A,b+24);
+L24:vd=r4(t+8);
+xd=t[4];
+yd=*t;
+L25:if(yd==0){
+mb=lb;
+goto L11;}
+md=xd;
+nd=vd;
+L23:nb=md;
+ob=nd;}
+L14:ya=nb;
+za=ob;
+goto L9;
+L11:Aa=mb;
 goto L10;}
-w8(b+8,Ga-1);
-ma=L;
+Ca=r2(Ba-4);
+if(Ca<270){
+Da=*((u8*)t_4ada+(i64)Ca);
+Ea=r8(b+32);
+Fa=Ea-r8(Ba-40);
+if(Fa<Da){
+Ga=Ea;
+Ha=Fa;
+L26:Ia=r2(Ba-4);
+Ja=Ia<270;
+Ka=(u8*)t_79dc+(i64)Ia;
+if(Ja){
+if(Ha<*Ka){
+La=Ga;
+goto L27;}
+z24(N);
+Ma=*((u8*)t_558a+(i64)((u64)Ia<<1));}
+else{
+if(Ha<5){
+La=Ga;
+goto L27;}
+z24(N);
+Ma=30;}
+memcpy(O,Ba-24,20);
+Na=steps_apart_3af(Ma,O,Ha);
+if(Na){
+before_apart_b65(N,c,d,Ba-40,b+24);
+Oa=*N;
+Pa=r4(N+4);
+Qa=r4(N+8);}
+else{
+z24(M);
+if(Ja)Ra=*Ka;
+else Ra=5;
+if(Ha<Ra){
+Sa=q4(Ba-24);
+Ta=0;
+Ua=q4(Ba-20);}
+else{
+before_by_step_fe5(M,c,d,Ba-40,b+24);
+Sa=r4(M+4);
+Ta=*M;
+Ua=r4(M+8);}
+Oa=Ta;
+Pa=Sa;
+Qa=Ua;}
+if(Oa!=0){
+ya=Pa;
+za=Qa;
+goto L9;}
+La=r8(b+32);
+L27:if(r8(b+40)==La){
+Va=grow_amortized_757(b+24);
+if(!Va){
+ya=4;
+za=0;
+goto L9;}
+Wa=r8(b+32);}
+else Wa=La;
+Xa=rp(b+24)+(Wa<<5);
+*Xa=0;
+Xa[1]=0;
+z28(Xa+4);
+Ya=Wa+1;
+w8(b+32,Ya);
+Za=Ya-r8(Ba-40);
+if(Za<Da){
+Ga=Ya;
+Ha=Za;
+goto L26;}
+ab=r2(Ba-4);
+z12(L);
+if(ab>=270)goto L28;
+bb=ab;}
+else{
+z12(L);
+bb=Ca;}
+switch(*((u8*)t_558a+(i64)((u64)bb<<1))){
+case 79:finish_substitution_b8a(L,c,d,Ba-40,b+24);
+goto L29;
+case 85:finish_lambda_240(L,c,d,e,Ba-40,b+24);
+goto L29;
+case 246:finish_inheriting_8c9(L,c,d,e,Ba-40,b+24);
+goto L29;
+case 47:z12(K);
+if(Ba[-8]==3)finish_passed_over_5f8(K,c,Ba-40,b+24);
+else finish_rule_396(K,c,d,e,Ba-40,b+24);
+cb=r4(K+8);
+db=K[4];
+eb=*K;
+goto L30;
+case 130:z12(J);
+if(Ba[-8]==2)finish_unseen_87d(J,c,d,e,Ba-40,b+24);
+else finish_rule_396(J,c,d,e,Ba-40,b+24);
+cb=r4(J+8);
+db=J[4];
+eb=*J;
+goto L30;
+case 0:case 1:case 2:case 3:case 4:case 5:case 6:case 7:case 8:case 9:case 10:case 11:case 12:case 13:case 14:case 15:case 16:case 17:case 18:case 19:case 20:case 21:case 22:case 23:case 24:case 25:case 26:case 27:case 28:case 29:case 30:case 31:case 32:case 33:case 34:case 35:case 36:case 37:case 38:case 39:case 40:case 41:case 42:case 43:case 44:case 45:case 46:case 48:case 49:case 50:case 51:case 52:case 53:case 54:case 55:case 56:case 57:case 58:case 59:case 60:case 61:case 62:case 63:case 64:case 65:case 66:case 67:case 68:case 69:case 70:case 71:case 72:case 73:case 74:case 75:case 76:case 77:case 78:case 80:case 81:case 82:case 83:case 84:case 86:case 87:case 88:case 89:case 90:case 91:case 92:case 93:case 94:case 95:case 96:case 97:case 98:case 99:case 100:case 101:case 102:case 103:case 104:case 105:case 106:case 107:case 108:case 109:case 110:case 111:case 112:case 113:case 114:case 115:case 116:case 117:case 118:case 119:case 120:case 121:case 122:case 123:case 124:case 125:case 126:case 127:case 128:case 129:case 131:case 132:case 133:case 134:case 135:case 136:case 137:case 138:case 139:case 140:case 141:case 142:case 143:case 144:case 145:case 146:case 147:case 148:case 149:case 150:case 151:case 152:case 153:case 154:case 155:case 156:case 157:case 158:case 159:case 160:case 161:case 162:case 163:case 164:case 165:case 166:case 167:case 168:case 169:case 170:case 171:case 172:case 173:case 174:case 175:case 176:case 177:case 178:case 179:case 180:case 181:case 182:case 183:case 184:case 185:case 186:case 187:case 188:case 189:case 190:case 191:case 192:case 193:case 194:case 195:case 196:case 197:case 198:case 199:case 200:case 201:case 202:case 203:case 204:case 205:case 206:case 207:case 208:case 209:case 210:case 211:case 212:case 213:case 214:case 215:case 216:case 217:case 218:case 219:case 220:case 221:case 222:case 223:case 224:case 225:case 226:case 227:case 228:case 229:case 230:case 231:case 232:case 233:case 234:case 235:case 236:case 237:case 238:case 239:case 240:case 241:case 242:case 243:case 244:case 245:case 247:case 248:case 249:case 250:case 251:case 252:break;
+default:NEVER;
+}}
+else z12(L);
+L28:finish_rule_396(L,c,d,e,Ba-40,b+24);
+L29:cb=r4(L+8);
+db=L[4];
+eb=*L;
+L30:if(eb==0){
+fb=r8(b+8);
+if(fb==0){
+Aa=S;
 goto L10;}
-ka=Ea;
-la=Da;
-L9:w4(b+52,M+1);
+w8(b+8,fb-1);
+Aa=S;
+goto L10;}
+ya=db;
+za=cb;
+L9:w4(b+52,T+1);
 w4(b+56,1);
-w4(b+60,ka);
-w4(b+64,la);
-I=1;
-J=ka;
-K=la;
+w4(b+60,ya);
+w4(b+64,za);
+P=1;
+Q=ya;
+R=za;
 goto L2;
-L10:L=ma;
-M=M+1;
+L10:S=Aa;
+T=T+1;
 goto L1;}
-I=1;
-J=b[60];
-K=q4(b+64);
-L2:*a=I;
-x4(a+4,J);
-x4(a+8,K);
+P=1;
+Q=b[60];
+R=q4(b+64);
+L2:*a=P;
+x4(a+4,Q);
+x4(a+8,R);
 return;
 }
 
 /* sym_link::threads::token_by */
 static void token_by_f9d(u8* a,u8* b,u8* c,u8* d,u8* e,u8* f)
 {
-A16 u8 g[24],h[24];
-u32 i,j,t,u;
-u16 k,q,A;
-u64 l,m,n,o,p,r,w,y,z,B,C,D,E,F,G,H,J;
-u8 s,v,I;
-u8 *x,*K;
-i=q4(f+4);
-j=q4(f+8);
-k=r2(d+36);
-l=r8(e+8);
-m=l-r8(d);
-if(k<270){
-if(*((u8*)t_607e+(i64)k)&1){
-n=usub64(*((u8*)t_4ada+(i64)k),(u64)f[2]+1);
-if(m<n){
-o=l;
-p=m;
-L1:z24(h);
-q=r2(d+36);
-if(q<270){
-if(p<*((u8*)t_79dc+(i64)q))goto L2;}
-else {
-if(p<5)goto L2;}
-between_by_step_e69(h,b,c,d,e);
-if(*h==0){
-r=r8(e+8);
+A16 u8 g[24],h[24],i[20],j[24],k[24],l[20];
+u32 m,n,B,C,E,G,I,K,L,ca,da,ga,ha,ja;
+u16 o,u,R,U;
+u64 p,q,r,s,t,x,D,N,P,Q,V,Y,ea,ka,ma;
+u8 v,y,z,A,F,H,J,M,X,Z,aa,ba,fa,ia,la;
+u8 *w,*O,*S,*T,*W,*na;
+m=q4(f+4);
+n=q4(f+8);
+o=r2(d+36);
+p=r8(e+8);
+q=p-r8(d);
+if(o<270){
+if(*((u8*)t_607e+(i64)o)&1){
+r=usub64(*((u8*)t_4ada+(i64)o),(u64)f[2]+1);
+if(q<r){
+s=p;
+t=q;
+L1:u=r2(d+36);
+v=u<270;
+w=(u8*)t_79dc+(i64)u;
+if(v){
+if(t<*w){
+x=s;
+goto L2;}
+z24(h);
+y=*((u8*)t_558a+(i64)((u64)u<<1));}
+else{
+if(t<5){
+x=s;
+goto L2;}
+z24(h);
+y=30;}
+memcpy(i,d+16,20);
+z=steps_apart_3af(y,i,t);
+if(z){
+before_apart_b65(h,b,c,d,e);
+A=*h;
+B=r4(h+4);
+C=r4(h+8);}
+else{
+z24(g);
+if(v)D=*w;
+else D=5;
+if(t<D){
+E=q4(d+16);
+F=0;
+G=q4(d+20);}
+else{
+before_by_step_fe5(g,b,c,d,e);
+H=*g;
+I=r4(g+4);
+E=H==0?I:I&255;
+F=H;
+G=r4(g+8);}
+A=F;
+B=E;
+C=G;}
+if(A!=0){
+J=1;
+K=B&255;
+L=C;
 goto L3;}
-s=1;
-t=r4(h+4)&255;
-u=r4(h+8);
-goto L4;
-L2:r=o;
-L3:if(r8(e+16)==r){
-v=grow_amortized_757(e);
-if(!v){
-s=1;
-t=4;
-u=0;
-goto L4;}
-w=r8(e+8);}
-else w=r;
-x=rp(e)+(w<<5);
-*x=0;
-x[1]=0;
-z28(x+4);
-y=w+1;
-w8(e+8,y);
-z=y-r8(d);
-if(z<n){
-o=y;
-p=z;
+x=r8(e+8);
+L2:if(r8(e+16)==x){
+M=grow_amortized_757(e);
+if(!M){
+J=1;
+K=4;
+L=0;
+goto L3;}
+N=r8(e+8);}
+else N=x;
+O=rp(e)+(N<<5);
+*O=0;
+O[1]=0;
+z28(O+4);
+P=N+1;
+w8(e+8,P);
+Q=P-r8(d);
+if(Q<r){
+s=P;
+t=Q;
 goto L1;}
-A=r2(d+36);
-z24(g);
-if(A>=270){
-E=y;
-F=z;
+R=r2(d+36);
+S=(u8*)t_79dc+(i64)R;
+if(R>=270){
+if(Q<5)goto L4;
+z24(k);
+W=S;
+X=0;
+Y=Q;
+Z=30;
 goto L5;}
-B=y;
-C=A;
-D=z;
-goto L6;}}
-z24(g);
-B=l;
-C=k;
-D=m;
-L6:if(D>=*((u8*)t_79dc+(i64)C))goto L7;
-G=B;
-goto L8;}
-z24(g);
-E=l;
-F=m;
-L5:if(F<5){
-G=E;
-goto L8;}
-L7:between_by_step_e69(g,b,c,d,e);
-if(*g==0){
-H=r8(e+8);
-goto L9;}
-s=1;
-t=r4(g+4)&255;
-u=r4(g+8);
-goto L4;
-L8:H=G;
-L9:if(r8(e+16)==H){
-I=grow_amortized_757(e);
-if(!I){
-s=1;
-t=4;
-u=0;
-goto L4;}
-J=r8(e+8);}
-else J=H;
-K=rp(e)+(J<<5);
-*K=2;
-K[1]=0;
-x4(K+4,i);
-x4(K+8,j);
-z20(K+12);
-w8(e+8,J+1);
-s=0;
-t=0;
-u=0;
-L4:*a=s;
-x4(a+4,t);
-x4(a+8,u);
+T=S;
+U=R;
+V=Q;}
+else{
+T=(u8*)t_79dc+(i64)o;
+U=o;
+V=q;}}
+else{
+T=(u8*)t_79dc+(i64)o;
+U=o;
+V=q;}
+if(V<*T)goto L4;
+z24(k);
+W=T;
+X=1;
+Y=V;
+Z=*((u8*)t_558a+(i64)((u64)U<<1));}
+else{
+if(q<5)goto L4;
+z24(k);
+W=(u8*)t_79dc+(i64)o;
+X=0;
+Y=q;
+Z=30;}
+L5:memcpy(l,d+16,20);
+aa=steps_apart_3af(Z,l,Y);
+if(aa){
+before_apart_b65(k,b,c,d,e);
+ba=*k;
+ca=r4(k+4);
+da=r4(k+8);}
+else{
+z24(j);
+if(X)ea=*W;
+else ea=5;
+if(Y<ea){
+fa=0;
+ga=q4(d+20);
+ha=q4(d+16);}
+else{
+before_by_step_fe5(j,b,c,d,e);
+ia=*j;
+ja=r4(j+4);
+fa=ia;
+ga=r4(j+8);
+ha=ia==0?ja:ja&255;}
+ba=fa;
+ca=ha;
+da=ga;}
+if(ba!=0){
+J=1;
+K=ca&255;
+L=da;
+goto L3;}
+L4:ka=r8(e+8);
+if(r8(e+16)==ka){
+la=grow_amortized_757(e);
+if(!la){
+J=1;
+K=4;
+L=0;
+goto L3;}
+ma=r8(e+8);}
+else ma=ka;
+na=rp(e)+(ma<<5);
+*na=2;
+na[1]=0;
+x4(na+4,m);
+x4(na+8,n);
+z20(na+12);
+w8(e+8,ma+1);
+J=0;
+K=0;
+L=0;
+L3:*a=J;
+x4(a+4,K);
+x4(a+8,L);
 return;
 }
 
@@ -5469,8 +5810,8 @@ L1:return c;
 /* cpp_link::candidates::Candidates::number_apart */
 static void number_apart_74b(u8* a,u64 b,u8 c)
 {
-u8 *d,*f,*h,*k,*m,*o;
-u8 e,g,j,l,n,p;
+u8 *d,*f,*h,*k,*m,*o,*q;
+u8 e,g,j,l,n,p,r;
 u64 i;
 switch(c){
 case 0:d=rp(a)+(i64)((b-r8(a+24))<<5);
@@ -5484,7 +5825,7 @@ x8(f+16,b);
 f[24]=g;
 z6(f+26);
 break;
-case 1:a[40]=a[40]>1?3:1;
+case 1:a[40]=a[40]>1?4:1;
 if(b==0)w8(a+32,1);
 else{
 h=rp(a);
@@ -5498,7 +5839,7 @@ x8(k+8,b);
 k[24]=l;
 z6(k+26);}
 break;
-case 2:a[40]=(u32)50463490>>((u32)a[40]<<3);
+case 2:a[40]=0x404020402u>>(((u64)a[40]<<3)&0xffffffffffu);
 w8(a+32,r8(a+32)+1);
 m=rp(a)+(i64)((b-r8(a+24))<<5);
 n=m[24]&1;
@@ -5506,13 +5847,21 @@ x8(m+8,b);
 m[24]=n;
 z6(m+26);
 break;
-case 3:a[40]=3;
+case 3:a[40]=0x403040403u>>(((u64)a[40]<<3)&0xffffffffffu);
 w8(a+32,r8(a+32)+1);
 o=rp(a)+(i64)((b-r8(a+24))<<5);
 p=o[24]&1;
 x8(o+8,b);
 o[24]=p;
 z6(o+26);
+break;
+case 4:a[40]=4;
+w8(a+32,r8(a+32)+1);
+q=rp(a)+(i64)((b-r8(a+24))<<5);
+r=q[24]&1;
+x8(q+8,b);
+q[24]=r;
+z6(q+26);
 break;
 default:NEVER;
 }
@@ -9578,461 +9927,403 @@ x2(a+22,A);
 return;
 }
 
-/* cpp_link::rescoping::Rescoping::between_by_step */
-static void between_by_step_e69(u8* a,u8* b,u8* c,u8* d,u8* e)
+/* cpp_link::wide_language::steps_apart */
+static u8 steps_apart_3af(u8 a,u8* b,u64 c)
 {
-A16 u8 f[20],g[20],h[12],i[24],j[24];
-u64 k,l,m,r,s,L,ha,ia,ja,ka,ma,na,za,Ca,Ka,Ua,Xa,Za,ab,gb,ib,lb;
-u16 n,A,I,K,ca,sa,ub;
-u8 o,p,z,J,M,S,aa,ba,la,qa,ra,wa,ya,Aa,Ba,Fa,Ha,Ja,Pa,Ra,Ta,Va,Wa,cb,eb,fb,jb,kb,sb,tb;
-u8 *q,*t,*C,*D,*ga,*Da,*Ea,*Ga,*Ia,*La,*Ya,*bb,*db,*hb,*mb;
-u32 u,v,w,x,y,B,E,F,G,H,N,O,P,Q,R,U,V,W,X,Y,Z,da,ea,fa,oa,pa,ta,ua,va,xa,Ma,Na,Oa,Qa,Sa,nb,ob,pb,qb,rb;
-s_8_32 T;
-k=r8(e+8);
-l=r8(d);
-m=k-l;
-n=r2(d+36);
-if(n<270){
-o=*((u8*)t_558a+(i64)((u64)n<<1));
-p=d[32];
-switch(o){
-case 105:if((m==1)&((u8)(p-1)<3))goto L1;
+u8 d,e;
+d=b[16];
+switch(a){
+case 105:e=(c==1)&((u8)(d-1)<3);
 break;
-case 63:if((m==1)&((u8)(p-1)<3))goto L1;
+case 63:e=(c==1)&((u8)(d-1)<3);
 break;
-case 172:if((m==1)&((u8)(p-1)<3))goto L1;
+case 172:e=(c==1)&((u8)(d-1)<3);
 break;
-case 219:if((m==1)&((u8)(p-1)<3))goto L1;
+case 219:e=(c==1)&((u8)(d-1)<3);
 break;
-case 248:if(m==1)goto L1;
+case 248:e=c==1;
 break;
-case 161:if(k==l)goto L1;
+case 161:e=c==0;
 break;
-case 155:if(m==1)goto L1;
+case 155:e=c==1;
 break;
-case 227:if(k==l)goto L1;
+case 227:e=c==0;
 break;
-case 239:if(k==l)goto L1;
+case 239:e=c==0;
 break;
-case 130:if((m==1)&((u8)(p-1)<3))goto L1;
+case 130:e=(c==1)&((u8)(d-1)<3);
 break;
-case 47:if((m<2)&((u8)(p-1)<3))goto L1;
+case 47:e=(c<2)&((u8)(d-1)<3);
 break;
-case 0:case 1:case 2:case 3:case 4:case 5:case 6:case 7:case 8:case 9:case 10:case 11:case 12:case 13:case 14:case 15:case 16:case 17:case 18:case 19:case 20:case 21:case 22:case 23:case 24:case 25:case 26:case 27:case 28:case 29:case 30:case 31:case 32:case 33:case 34:case 35:case 36:case 37:case 38:case 39:case 40:case 41:case 42:case 43:case 44:case 45:case 46:case 48:case 49:case 50:case 51:case 52:case 53:case 54:case 55:case 56:case 57:case 58:case 59:case 60:case 61:case 62:case 64:case 65:case 66:case 67:case 68:case 69:case 70:case 71:case 72:case 73:case 74:case 75:case 76:case 77:case 78:case 79:case 80:case 81:case 82:case 83:case 84:case 85:case 86:case 87:case 88:case 89:case 90:case 91:case 92:case 93:case 94:case 95:case 96:case 97:case 98:case 99:case 100:case 101:case 102:case 103:case 104:case 106:case 107:case 108:case 109:case 110:case 111:case 112:case 113:case 114:case 115:case 116:case 117:case 118:case 119:case 120:case 121:case 122:case 123:case 124:case 125:case 126:case 127:case 128:case 129:case 131:case 132:case 133:case 134:case 135:case 136:case 137:case 138:case 139:case 140:case 141:case 142:case 143:case 144:case 145:case 146:case 147:case 148:case 149:case 150:case 151:case 152:case 153:case 154:case 156:case 157:case 158:case 159:case 160:case 162:case 163:case 164:case 165:case 166:case 167:case 168:case 169:case 170:case 171:case 173:case 174:case 175:case 176:case 177:case 178:case 179:case 180:case 181:case 182:case 183:case 184:case 185:case 186:case 187:case 188:case 189:case 190:case 191:case 192:case 193:case 194:case 195:case 196:case 197:case 198:case 199:case 200:case 201:case 202:case 203:case 204:case 205:case 206:case 207:case 208:case 209:case 210:case 211:case 212:case 213:case 214:case 215:case 216:case 217:case 218:case 220:case 221:case 222:case 223:case 224:case 225:case 226:case 228:case 229:case 230:case 231:case 232:case 233:case 234:case 235:case 236:case 237:case 238:case 240:case 241:case 242:case 243:case 244:case 245:case 246:case 247:case 249:case 250:case 251:case 252:break;
+case 0:case 1:case 2:case 3:case 4:case 5:case 6:case 7:case 8:case 9:case 10:case 11:case 12:case 13:case 14:case 15:case 16:case 17:case 18:case 19:case 20:case 21:case 22:case 23:case 24:case 25:case 26:case 27:case 28:case 29:case 30:case 31:case 32:case 33:case 34:case 35:case 36:case 37:case 38:case 39:case 40:case 41:case 42:case 43:case 44:case 45:case 46:case 48:case 49:case 50:case 51:case 52:case 53:case 54:case 55:case 56:case 57:case 58:case 59:case 60:case 61:case 62:case 64:case 65:case 66:case 67:case 68:case 69:case 70:case 71:case 72:case 73:case 74:case 75:case 76:case 77:case 78:case 79:case 80:case 81:case 82:case 83:case 84:case 85:case 86:case 87:case 88:case 89:case 90:case 91:case 92:case 93:case 94:case 95:case 96:case 97:case 98:case 99:case 100:case 101:case 102:case 103:case 104:case 106:case 107:case 108:case 109:case 110:case 111:case 112:case 113:case 114:case 115:case 116:case 117:case 118:case 119:case 120:case 121:case 122:case 123:case 124:case 125:case 126:case 127:case 128:case 129:case 131:case 132:case 133:case 134:case 135:case 136:case 137:case 138:case 139:case 140:case 141:case 142:case 143:case 144:case 145:case 146:case 147:case 148:case 149:case 150:case 151:case 152:case 153:case 154:case 156:case 157:case 158:case 159:case 160:case 162:case 163:case 164:case 165:case 166:case 167:case 168:case 169:case 170:case 171:case 173:case 174:case 175:case 176:case 177:case 178:case 179:case 180:case 181:case 182:case 183:case 184:case 185:case 186:case 187:case 188:case 189:case 190:case 191:case 192:case 193:case 194:case 195:case 196:case 197:case 198:case 199:case 200:case 201:case 202:case 203:case 204:case 205:case 206:case 207:case 208:case 209:case 210:case 211:case 212:case 213:case 214:case 215:case 216:case 217:case 218:case 220:case 221:case 222:case 223:case 224:case 225:case 226:case 228:case 229:case 230:case 231:case 232:case 233:case 234:case 235:case 236:case 237:case 238:case 240:case 241:case 242:case 243:case 244:case 245:case 246:case 247:case 249:case 250:case 251:case 252:e=0;
+break;
 default:NEVER;
 }
-z24(j);
-q=d+16;
-r=*((u8*)t_79dc+(i64)n);
-goto L2;
-L1:s=l<<5;
-t=rp(e)+(i64)s;
-u=r4(d+8);
-v=r4(d+16);
-w=r4(d+20);
-x=r4(d+24);
-y=r4(d+28);
-z=d[33];
-A=r2(d+34);
-w4(f,v);
-w4(f+4,w);
-w4(f+8,x);
-w4(f+12,y);
-f[16]=p;
-f[17]=z;
-w2(f+18,A);
+return e;
+}
+
+/* cpp_link::linked::Linked::before_apart */
+static void before_apart_b65(u8* a,u8* b,u8* c,u8* d,u8* e)
+{
+A16 u8 f[20],g[20],h[12],i[24];
+u64 j,k,l,n,I,da,ea,fa,ga,ia,ja,va,ya,Ia,eb,ib,kb,nb;
+u8 *m,*z,*A,*ca,*Ba,*Ca,*Ea,*Ga,*Ja,*ab,*bb,*jb,*ob;
+u16 o,x,F,H,U,oa;
+u8 p,v,w,G,J,P,V,W,ha,ma,na,sa,ua,wa,xa,Da,Fa,Ha,Na,Oa,Qa,Sa,Ua,Va,Wa,cb,db,fb,gb,hb,lb,mb;
+u32 q,r,s,t,u,y,B,C,D,E,K,L,M,N,O,R,S,T,X,Y,Z,aa,ba,ka,la,pa,qa,ra,ta,za,Aa,Ka,La,Ma,Pa,Ra,Ta,Xa,Ya,Za;
+s_8_32 Q;
+j=r8(e+8);
+k=r8(d);
+l=k<<5;
+m=rp(e)+(i64)l;
+n=j-k;
+o=r2(d+36);
+if(o<270)p=*((u8*)t_558a+(i64)((u64)o<<1));
+else p=30;
+q=r4(d+8);
+r=r4(d+16);
+s=r4(d+20);
+t=r4(d+24);
+u=r4(d+28);
+v=d[32];
+w=d[33];
+x=r2(d+34);
+w4(f,r);
+w4(f+4,s);
+w4(f+8,t);
+w4(f+12,u);
+f[16]=v;
+f[17]=w;
+w2(f+18,x);
 z20(g);
-switch(o){
-case 248:B=z==0?0:x;
-C=rp(b);
-D=C+(i64)((u64)B*48);
-if(*(C+(i64)((u64)(*D==47?q4(D+4):B)*48))==12){
-E=u;
-goto L3;}
-F=B;
-G=0;
-H=256;
-I=14;
-goto L4;
-case 161:J=0;
-K=A;
-L=q8(f+8);
-M=p;
-N=v;
-O=w;
+switch(p){
+case 248:y=w==0?0:t;
+z=rp(b);
+A=z+(i64)((u64)y*48);
+if(*(z+(i64)((u64)(*A==47?q4(A+4):y)*48))==12){
+B=q;
+goto L1;}
+C=y;
+D=0;
+E=256;
+F=14;
+goto L2;
+case 161:G=0;
+H=x;
+I=q8(f+8);
+J=v;
+K=r;
+L=s;
 break;
-case 227:J=z;
-K=A;
-L=q8(f+8);
-M=p;
-N=v;
-O=w;
+case 227:G=w;
+H=x;
+I=q8(f+8);
+J=v;
+K=r;
+L=s;
 break;
-case 239:J=0;
-K=A;
-L=q8(f+8);
-M=2;
-N=v;
-O=w;
+case 239:G=0;
+H=x;
+I=q8(f+8);
+J=2;
+K=r;
+L=s;
 break;
-case 130:J=z;
-K=A;
-L=q8(f+8);
-M=p==2?3:p;
-N=v;
-O=w;
+case 130:G=w;
+H=x;
+I=q8(f+8);
+J=v==2?3:v;
+K=r;
+L=s;
 break;
-case 47:in_encoding_apart_919(g,b,u,f,t,m);
-J=g[17];
-K=r2(g+18);
-L=q8(g+8);
-M=g[16];
-N=r4(g);
-O=r4(g+4);
+case 47:in_encoding_apart_919(g,b,q,f,m,n);
+G=g[17];
+H=r2(g+18);
+I=q8(g+8);
+J=g[16];
+K=r4(g);
+L=r4(g+4);
 break;
-case 155:P=usub32(u,1);
-if(k==l){
-Q=0;
-R=0;}
+case 155:M=usub32(q,1);
+if(j==k){
+N=0;
+O=0;}
 else{
-S=*t==2;
-Q=S?q4(t+4):0;
-R=S?q4(t+8):0;}
-T=named_module_027(b,c,Q,R);
-if(T.f0!=1){
-E=P;
-goto L3;}
-U=T.f1;
-*t=5;
-t[1]=0;
-x4(t+4,U);
-t[8]=1;
-z23(t+9);
-V=0;
+P=*m==2;
+N=P?q4(m+4):0;
+O=P?q4(m+8):0;}
+Q=named_module_027(b,c,N,O);
+if(Q.f0!=1){
+B=M;
+goto L1;}
+R=Q.f1;
+*m=5;
+m[1]=0;
+x4(m+4,R);
+m[8]=1;
+z23(m+9);
+S=s;
+T=r;
+U=x;
+V=2;
 W=v;
-X=w;
-Y=U;
-Z=y;
-aa=p;
-ba=2;
-ca=A;
-goto L5;
-case 219:case 172:case 105:case 63:if(k==l)da=0;
+X=u;
+Y=R;
+goto L3;
+case 0:case 1:case 2:case 3:case 4:case 5:case 6:case 7:case 8:case 9:case 10:case 11:case 12:case 13:case 14:case 15:case 16:case 17:case 18:case 19:case 20:case 21:case 22:case 23:case 24:case 25:case 26:case 27:case 28:case 29:case 30:case 31:case 32:case 33:case 34:case 35:case 36:case 37:case 38:case 39:case 40:case 41:case 42:case 43:case 44:case 45:case 46:case 48:case 49:case 50:case 51:case 52:case 53:case 54:case 55:case 56:case 57:case 58:case 59:case 60:case 61:case 62:case 63:case 64:case 65:case 66:case 67:case 68:case 69:case 70:case 71:case 72:case 73:case 74:case 75:case 76:case 77:case 78:case 79:case 80:case 81:case 82:case 83:case 84:case 85:case 86:case 87:case 88:case 89:case 90:case 91:case 92:case 93:case 94:case 95:case 96:case 97:case 98:case 99:case 100:case 101:case 102:case 103:case 104:case 105:case 106:case 107:case 108:case 109:case 110:case 111:case 112:case 113:case 114:case 115:case 116:case 117:case 118:case 119:case 120:case 121:case 122:case 123:case 124:case 125:case 126:case 127:case 128:case 129:case 131:case 132:case 133:case 134:case 135:case 136:case 137:case 138:case 139:case 140:case 141:case 142:case 143:case 144:case 145:case 146:case 147:case 148:case 149:case 150:case 151:case 152:case 153:case 154:case 156:case 157:case 158:case 159:case 160:case 162:case 163:case 164:case 165:case 166:case 167:case 168:case 169:case 170:case 171:case 172:case 173:case 174:case 175:case 176:case 177:case 178:case 179:case 180:case 181:case 182:case 183:case 184:case 185:case 186:case 187:case 188:case 189:case 190:case 191:case 192:case 193:case 194:case 195:case 196:case 197:case 198:case 199:case 200:case 201:case 202:case 203:case 204:case 205:case 206:case 207:case 208:case 209:case 210:case 211:case 212:case 213:case 214:case 215:case 216:case 217:case 218:case 219:case 220:case 221:case 222:case 223:case 224:case 225:case 226:case 228:case 229:case 230:case 231:case 232:case 233:case 234:case 235:case 236:case 237:case 238:case 240:case 241:case 242:case 243:case 244:case 245:case 246:case 247:case 249:case 250:case 251:case 252:if(j==k)Z=0;
 else{
-if(*t==2){
-ea=q4(t+8);
-fa=q4(t+4);
-ga=c+(i64)fa;
-ha=(u64)ea-fa;
-if(ea==fa){
-da=0;
-goto L6;}
-ia=0;
-ja=0;
-L7:if(ia<0x199999999999999au){
-ka=ia*10;
-la=usub8(*(ga+(i64)ja),48);
-if(ka>(la^18446744073709551615u))da=4294967295u;
+if(*m==2){
+aa=q4(m+8);
+ba=q4(m+4);
+ca=c+(i64)ba;
+da=(u64)aa-ba;
+if(aa==ba){
+Z=0;
+goto L4;}
+ea=0;
+fa=0;
+L5:if(ea<0x199999999999999au){
+ga=ea*10;
+ha=usub8(*(ca+(i64)fa),48);
+if(ga>(ha^18446744073709551615u))Z=4294967295u;
 else{
-ma=ka+la;
-na=ja+1;
-if(na!=ha){
-ia=ma;
-ja=na;
-goto L7;}
-da=ma==18446744073709551615u?4294967295u:(u32)umin64(ma+1,4294967295u);}}
-else da=4294967295u;}
-else da=0;}
-L6:F=da;
-G=3;
-H=n==236?0:65792;
-I=18;
-goto L4;
+ia=ga+ha;
+ja=fa+1;
+if(ja!=da){
+ea=ia;
+fa=ja;
+goto L5;}
+Z=ia==18446744073709551615u?4294967295u:(u32)umin64(ia+1,4294967295u);}}
+else Z=4294967295u;}
+else Z=0;}
+L4:C=Z;
+D=3;
+E=p==219?0:65792;
+F=18;
+goto L2;
 default:NEVER;
 }
 x4(b+96,b[96]);
-oa=L;
-pa=L>>32;
-qa=M;
-ra=J;
-sa=K;
-ta=N;
-ua=O;
-goto L8;
-L4:va=q4(b+100);
-wa=b[96];
-w2(i,I);
+ka=I;
+la=I>>32;
+ma=J;
+na=G;
+oa=H;
+pa=K;
+qa=L;
+goto L6;
+L2:ra=q4(b+100);
+sa=b[96];
+w2(i,F);
 w2(i+2,0);
-w4(i+4,F);
-w4(i+8,G);
+w4(i+4,C);
+w4(i+8,D);
 z12(i+12);
 z12(h);
 push_674(h,b,i);
-xa=r4(h+4);
-if(*h!=0){
-V=1;
-W=xa&255;
-X=r4(h+8);
-Y=0;
-Z=0;
-aa=0;
-ba=0;
-ca=0;
-goto L5;}
-ya=(H&256)==0;
-if(H>65535){
-za=r8(b+56);
-Aa=(u8)(p-1)<3;
-if(r8(b+64)==za){
-Ba=grow_amortized_757(b+48);
-if(!Ba){
-V=1;
-W=4;
-X=0;
-Y=0;
-Z=0;
-aa=0;
-ba=0;
-ca=0;
-goto L5;}
-Ca=r8(b+56);}
-else Ca=za;
-Da=rp(b+48)+(Ca<<5);
-x4(Da,xa);
-x4(Da+4,w);
-x8(Da+8,za);
-x8(Da+16,za);
-Da[24]=Aa;
-z7(Da+25);
-w8(b+56,Ca+1);
+ta=r4(h+4);
+if(*h==0){
+ua=(E&256)==0;
+if(E>65535){
+va=r8(b+56);
+wa=(u8)(v-1)<3;
+if(r8(b+64)==va){
+xa=grow_amortized_757(b+48);
+if(!xa){
+za=4;
+Aa=0;
+goto L7;}
+ya=r8(b+56);}
+else ya=va;
+Ba=rp(b+48)+(ya<<5);
+x4(Ba,ta);
+x4(Ba+4,s);
+x8(Ba+8,va);
+x8(Ba+16,va);
+Ba[24]=wa;
+z7(Ba+25);
+w8(b+56,ya+1);
 if(b[88]!=0){
-Ea=rp(b+48)+(i64)((za-r8(b+72))<<5);
+Ca=rp(b+48)+(i64)((va-r8(b+72))<<5);
+Da=Ca[24]&1;
+x8(Ca+8,va);
+Ca[24]=Da;
+z6(Ca+26);
+Ea=rp(b+48)+(i64)((va-r8(b+80))<<5);
 Fa=Ea[24]&1;
-x8(Ea+8,za);
+x8(Ea+16,va);
 Ea[24]=Fa;
-z6(Ea+26);
-Ga=rp(b+48)+(i64)((za-r8(b+80))<<5);
-Ha=Ga[24]&1;
-x8(Ga+16,za);
-Ga[24]=Ha;
-z6(Ga+26);}}
-x4(b+96,wa);
-x4(b+100,va);
-Ia=rp(e)+(i64)s;
-*Ia=5;
-Ia[1]=0;
-x4(Ia+4,xa);
-Ia[8]=1;
-z23(Ia+9);
-oa=ya?x:xa;
-pa=y;
-qa=p;
-ra=ya?z:2;
-sa=A;
-ta=v;
-ua=w;
-L8:Ja=d[33];
-switch(o){
-case 248:Ka=r8(d);
-if(r8(e+8)!=Ka){
-La=rp(e)+(i64)(Ka<<5);
-Ma=q4(La+4);
-switch(*La){
-case 5:case 7:case 8:case 9:Na=Ma;
+z6(Ea+26);}}
+x4(b+96,sa);
+x4(b+100,ra);
+Ga=rp(e)+(i64)l;
+*Ga=5;
+Ga[1]=0;
+x4(Ga+4,ta);
+Ga[8]=1;
+z23(Ga+9);
+ka=ua?t:ta;
+la=u;
+ma=v;
+na=ua?w:2;
+oa=x;
+pa=r;
+qa=s;
+goto L6;}
+za=ta&255;
+Aa=r4(h+8);
+L7:x4(a,1);
+x4(a+4,za);
+x4(a+8,Aa);
+z12(a+12);
+goto L8;
+L6:Ha=d[33];
+switch(p){
+case 248:Ia=r8(d);
+if(r8(e+8)!=Ia){
+Ja=rp(e)+(i64)(Ia<<5);
+Ka=q4(Ja+4);
+switch(*Ja){
+case 5:case 7:case 8:case 9:La=Ka;
 goto L9;
 case 0:case 1:case 2:case 3:case 4:case 6:break;
 default:NEVER;
 }}
-Na=0;
-L9:Oa=q4(d+20);
-Pa=d[32];
-if(Ja!=1){
-Ua=r8(b+56);
-Va=(u8)(Pa-1)<3;
-if(r8(b+64)==Ua){
-Wa=grow_amortized_757(b+48);
-if(!Wa){
-V=1;
-W=4;
-X=0;
-Y=0;
-Z=0;
-aa=0;
-ba=0;
-ca=0;
-goto L5;}
-Xa=r8(b+56);}
-else Xa=Ua;
-Ya=rp(b+48)+(Xa<<5);
-x4(Ya,Na);
-x4(Ya+4,Oa);
-x8(Ya+8,Ua);
-x8(Ya+16,Ua);
-Ya[24]=Va;
-Za=Xa+1;
-z7(Ya+25);
-w8(b+56,Za);
-if(b[88]==0)ab=Za;
-else{
-bb=rp(b+48)+(i64)((Ua-r8(b+72))<<5);
-cb=bb[24]&1;
-x8(bb+8,Ua);
-bb[24]=cb;
-z6(bb+26);
-db=rp(b+48)+(i64)((Ua-r8(b+80))<<5);
-eb=db[24]&1;
-x8(db+16,Ua);
-db[24]=eb;
-z6(db+26);
-ab=r8(b+56);}
-if(r8(b+64)==ab){
-fb=grow_amortized_757(b+48);
-if(!fb){
-V=1;
-W=4;
-X=0;
-Y=0;
-Z=0;
-aa=0;
-ba=0;
-ca=0;
-goto L5;}
-gb=r8(b+56);}
-else gb=ab;
-hb=rp(b+48)+(gb<<5);
-x4(hb,Na);
-x4(hb+4,Oa);
-x8(hb+8,ab);
-x8(hb+16,ab);
-hb[24]=Va;
-hb[25]=1;
-z6(hb+26);
-w8(b+56,gb+1);
-number_apart_74b(b+48,ab,1);
-V=0;
-W=ta;
-X=ua;
-Y=oa;
-Z=pa;
-aa=qa;
-ba=ra;
-ca=sa;
-goto L5;}
-Qa=Na;
-Ra=1;
-Sa=Oa;
-Ta=Pa;
+La=0;
+L9:Ma=q4(d+20);
+Na=d[32];
+if(Ha==1){
+Oa=Na-1;
+Pa=La;
+Qa=1;
+Ra=Ma;
+goto L10;}
+Sa=Na;
+Ta=Ma;
+Ua=0;
+Va=0;
+Wa=1;
+Xa=La;
+Ya=La;
 break;
-case 161:if(Ja!=1){
-V=0;
-W=ta;
-X=ua;
-Y=oa;
-Z=pa;
-aa=qa;
-ba=ra;
-ca=sa;
-goto L5;}
-Qa=q4(d+24);
-Ra=3;
-Sa=q4(d+20);
-Ta=d[32];
+case 161:if(Ha!=1){
+S=qa;
+T=pa;
+U=oa;
+V=na;
+W=ma;
+X=la;
+Y=ka;
+goto L3;}
+Za=q4(d+24);
+ab=rp(b);
+bb=ab+(i64)((u64)Za*48);
+switch(*(ab+(i64)((u64)(*bb==47?q4(bb+4):Za)*48))){
+case 11:case 12:cb=2;
+db=0;
 break;
-case 0:case 1:case 2:case 3:case 4:case 5:case 6:case 7:case 8:case 9:case 10:case 11:case 12:case 13:case 14:case 15:case 16:case 17:case 18:case 19:case 20:case 21:case 22:case 23:case 24:case 25:case 26:case 27:case 28:case 29:case 30:case 31:case 32:case 33:case 34:case 35:case 36:case 37:case 38:case 39:case 40:case 41:case 42:case 43:case 44:case 45:case 46:case 47:case 48:case 49:case 50:case 51:case 52:case 53:case 54:case 55:case 56:case 57:case 58:case 59:case 60:case 61:case 62:case 63:case 64:case 65:case 66:case 67:case 68:case 69:case 70:case 71:case 72:case 73:case 74:case 75:case 76:case 77:case 78:case 79:case 80:case 81:case 82:case 83:case 84:case 85:case 86:case 87:case 88:case 89:case 90:case 91:case 92:case 93:case 94:case 95:case 96:case 97:case 98:case 99:case 100:case 101:case 102:case 103:case 104:case 105:case 106:case 107:case 108:case 109:case 110:case 111:case 112:case 113:case 114:case 115:case 116:case 117:case 118:case 119:case 120:case 121:case 122:case 123:case 124:case 125:case 126:case 127:case 128:case 129:case 130:case 131:case 132:case 133:case 134:case 135:case 136:case 137:case 138:case 139:case 140:case 141:case 142:case 143:case 144:case 145:case 146:case 147:case 148:case 149:case 150:case 151:case 152:case 153:case 154:case 155:case 156:case 157:case 158:case 159:case 160:case 162:case 163:case 164:case 165:case 166:case 167:case 168:case 169:case 170:case 171:case 172:case 173:case 174:case 175:case 176:case 177:case 178:case 179:case 180:case 181:case 182:case 183:case 184:case 185:case 186:case 187:case 188:case 189:case 190:case 191:case 192:case 193:case 194:case 195:case 196:case 197:case 198:case 199:case 200:case 201:case 202:case 203:case 204:case 205:case 206:case 207:case 208:case 209:case 210:case 211:case 212:case 213:case 214:case 215:case 216:case 217:case 218:case 219:case 220:case 221:case 222:case 223:case 224:case 225:case 226:case 227:case 228:case 229:case 230:case 231:case 232:case 233:case 234:case 235:case 236:case 237:case 238:case 239:case 240:case 241:case 242:case 243:case 244:case 245:case 246:case 247:case 249:case 250:case 251:case 252:V=0;
-W=ta;
-X=ua;
-Y=oa;
-Z=pa;
-aa=qa;
-ba=ra;
-ca=sa;
-goto L5;
+case 9:case 10:cb=3;
+db=1;
+break;
+case 0:case 1:case 2:case 3:case 4:case 5:case 6:case 7:case 8:case 13:case 14:case 15:case 16:case 17:case 18:case 19:case 20:case 21:case 22:case 23:case 24:case 25:case 26:case 27:case 28:case 29:case 30:case 31:case 32:case 33:case 34:case 35:case 36:case 37:case 38:case 39:case 40:case 41:case 42:case 43:case 44:case 45:case 46:case 47:cb=4;
+db=1;
+break;
 default:NEVER;
 }
-ib=r8(b+56);
-jb=(u8)(Ta-1)<3;
-if(r8(b+64)==ib){
-kb=grow_amortized_757(b+48);
-if(!kb){
-V=1;
-W=4;
-X=0;
-Y=0;
-Z=0;
-aa=0;
-ba=0;
-ca=0;
-goto L5;}
-lb=r8(b+56);}
-else lb=ib;
-mb=rp(b+48)+(lb<<5);
-x4(mb,Qa);
-x4(mb+4,Sa);
-x8(mb+8,ib);
-x8(mb+16,ib);
-mb[24]=jb;
-mb[25]=Ra;
-z6(mb+26);
-w8(b+56,lb+1);
-number_apart_74b(b+48,ib,Ra);
-V=0;
-W=ta;
-X=ua;
-Y=oa;
-Z=pa;
-aa=qa;
-ba=ra;
-ca=sa;
-goto L5;
-L3:V=1;
-W=1;
-X=E;
-Y=0;
-Z=0;
-aa=0;
-ba=0;
-ca=0;
-goto L5;}
-z24(j);
-q=d+16;
-r=5;
-L2:if(m<r){
-memcpy(j+4,q,20);
-nb=0;
-ob=r4(j+4);
-pb=r4(j+8);
-qb=r4(j+12);
-rb=r4(j+16);
-sb=j[20];
-tb=j[21];
-ub=r2(j+22);}
-else{
-before_by_step_fe5(j,b,c,d,e);
-nb=*j;
-ob=r4(j+4);
-pb=r4(j+8);
-qb=r4(j+12);
-rb=r4(j+16);
-sb=j[20];
-tb=j[21];
-ub=r2(j+22);}
-V=nb;
-W=ob;
-X=pb;
-Y=qb;
-Z=rb;
-aa=sb;
-ba=tb;
-ca=ub;
-L5:x4(a,V);
-x4(a+4,W);
-x4(a+8,X);
+Sa=d[32];
+Ta=q4(d+20);
+Ua=db;
+Va=cb;
+Wa=2;
+Xa=0;
+Ya=Za;
+break;
+case 0:case 1:case 2:case 3:case 4:case 5:case 6:case 7:case 8:case 9:case 10:case 11:case 12:case 13:case 14:case 15:case 16:case 17:case 18:case 19:case 20:case 21:case 22:case 23:case 24:case 25:case 26:case 27:case 28:case 29:case 30:case 31:case 32:case 33:case 34:case 35:case 36:case 37:case 38:case 39:case 40:case 41:case 42:case 43:case 44:case 45:case 46:case 47:case 48:case 49:case 50:case 51:case 52:case 53:case 54:case 55:case 56:case 57:case 58:case 59:case 60:case 61:case 62:case 63:case 64:case 65:case 66:case 67:case 68:case 69:case 70:case 71:case 72:case 73:case 74:case 75:case 76:case 77:case 78:case 79:case 80:case 81:case 82:case 83:case 84:case 85:case 86:case 87:case 88:case 89:case 90:case 91:case 92:case 93:case 94:case 95:case 96:case 97:case 98:case 99:case 100:case 101:case 102:case 103:case 104:case 105:case 106:case 107:case 108:case 109:case 110:case 111:case 112:case 113:case 114:case 115:case 116:case 117:case 118:case 119:case 120:case 121:case 122:case 123:case 124:case 125:case 126:case 127:case 128:case 129:case 130:case 131:case 132:case 133:case 134:case 135:case 136:case 137:case 138:case 139:case 140:case 141:case 142:case 143:case 144:case 145:case 146:case 147:case 148:case 149:case 150:case 151:case 152:case 153:case 154:case 155:case 156:case 157:case 158:case 159:case 160:case 162:case 163:case 164:case 165:case 166:case 167:case 168:case 169:case 170:case 171:case 172:case 173:case 174:case 175:case 176:case 177:case 178:case 179:case 180:case 181:case 182:case 183:case 184:case 185:case 186:case 187:case 188:case 189:case 190:case 191:case 192:case 193:case 194:case 195:case 196:case 197:case 198:case 199:case 200:case 201:case 202:case 203:case 204:case 205:case 206:case 207:case 208:case 209:case 210:case 211:case 212:case 213:case 214:case 215:case 216:case 217:case 218:case 219:case 220:case 221:case 222:case 223:case 224:case 225:case 226:case 227:case 228:case 229:case 230:case 231:case 232:case 233:case 234:case 235:case 236:case 237:case 238:case 239:case 240:case 241:case 242:case 243:case 244:case 245:case 246:case 247:case 249:case 250:case 251:case 252:S=qa;
+T=pa;
+U=oa;
+V=na;
+W=ma;
+X=la;
+Y=ka;
+goto L3;
+default:NEVER;
+}
+eb=r8(b+56);
+fb=Sa-1;
+gb=fb<3;
+if(r8(b+64)==eb){
+hb=grow_amortized_757(b+48);
+if(!hb)goto L11;
+ib=r8(b+56);}
+else ib=eb;
+jb=rp(b+48)+(ib<<5);
+x4(jb,Ya);
+x4(jb+4,Ta);
+x8(jb+8,eb);
+x8(jb+16,eb);
+jb[24]=gb;
+jb[25]=Va;
+z6(jb+26);
+w8(b+56,ib+1);
+if(Va==0){
+if(b[88]==0)goto L12;}
+number_apart_74b(b+48,eb,Va);
+L12:if(Ua){
+S=qa;
+T=pa;
+U=oa;
+V=na;
+W=ma;
+X=la;
+Y=ka;
+goto L3;}
+Oa=fb;
+Pa=Xa;
+Qa=Wa;
+Ra=Ta;
+L10:kb=r8(b+56);
+lb=Oa<3;
+if(r8(b+64)==kb){
+mb=grow_amortized_757(b+48);
+if(!mb)goto L11;
+nb=r8(b+56);}
+else nb=kb;
+ob=rp(b+48)+(nb<<5);
+x4(ob,Pa);
+x4(ob+4,Ra);
+x8(ob+8,kb);
+x8(ob+16,kb);
+ob[24]=lb;
+ob[25]=Qa;
+z6(ob+26);
+w8(b+56,nb+1);
+number_apart_74b(b+48,kb,Qa);
+S=qa;
+T=pa;
+U=oa;
+V=na;
+W=ma;
+X=la;
+Y=ka;
+goto L3;
+L11:x4(a,1);
+x4(a+4,4);
+z16(a+8);
+goto L8;
+L3:x4(a,0);
+x4(a+4,T);
+x4(a+8,S);
 x4(a+12,Y);
-x4(a+16,Z);
-a[20]=aa;
-a[21]=ba;
-x2(a+22,ca);
-return;
+x4(a+16,X);
+a[20]=W;
+a[21]=V;
+x2(a+22,U);
+goto L8;
+L1:x4(a,1);
+x4(a+4,1);
+x4(a+8,B);
+z12(a+12);
+L8:return;
 }
 
 /* cpp_link::linked::Linked::in_encoding_apart */
@@ -10280,7 +10571,7 @@ else{
 z40(k);
 ga=0;
 ha=k+8;}
-if(V==3){
+if(V==4){
 ba=0;
 ca=0;
 da=0;
@@ -10297,19 +10588,19 @@ ja=ia;}
 else ja=0;
 w8(l,ja);
 memcpy(l+8,h,32);
-ka=can_be_named_d49(b,s,l);
-la=b[104];
-switch(la){
-case 0:ma=can_be_named_d49(b,s,k);
-if(ma){
-if(!ka)goto L6;
+ka=can_be_named_d49(b,s,k);
+la=can_be_named_d49(b,s,l);
+ma=b[104];
+switch(ma){
+case 0:if(ka){
+if(!la)goto L6;
 ba=0;
 ca=0;
 da=0;
 ea=0;
 fa=3;
 goto L5;}
-if(!ka){
+if(!la){
 ba=0;
 ca=0;
 da=0;
@@ -10317,13 +10608,26 @@ ea=0;
 fa=3;
 goto L5;}
 break;
-case 1:goto L6;
-case 2:break;
+case 1:if(ka)goto L6;
+ba=0;
+ca=0;
+da=0;
+ea=0;
+fa=3;
+goto L5;
+case 2:if(!la){
+ba=0;
+ca=0;
+da=0;
+ea=0;
+fa=3;
+goto L5;}
+break;
 case 3:ba=0;
 ca=0;
 da=0;
 ea=0;
-fa=la;
+fa=ma;
 goto L5;
 default:NEVER;
 }
@@ -10559,7 +10863,7 @@ return;
 static u8 can_be_named_d49(u8* a,u32 b,u8* c)
 {
 u32 d;
-u8 e,f,g,j,k;
+u8 e,f,g,j;
 u8 *h,*i;
 if(*c==1){
 d=q4(c+8);
@@ -10568,20 +10872,21 @@ f=q4(a+112)==b;
 g=e==2&&f;
 h=rp(a);
 i=h+(i64)((u64)d*48);
-j=e==1&&f;
 switch(*(h+(i64)((u64)(*i==47?q4(i+4):d)*48))){
-case 14:k=j;
+case 0:j=0;
 break;
-case 26:k=!g;
+case 14:j=e==1&&f;
 break;
-case 27:k=!g;
+case 26:j=!g;
 break;
-case 0:case 1:case 2:case 3:case 4:case 5:case 6:case 7:case 8:case 9:case 10:case 11:case 12:case 13:case 15:case 16:case 17:case 18:case 19:case 20:case 21:case 22:case 23:case 24:case 25:case 28:case 29:case 30:case 31:case 32:case 33:case 34:case 35:case 36:case 37:case 38:case 39:case 40:case 41:case 42:case 43:case 44:case 45:case 46:case 47:k=1;
+case 27:j=!g;
+break;
+case 1:case 2:case 3:case 4:case 5:case 6:case 7:case 8:case 9:case 10:case 11:case 12:case 13:case 15:case 16:case 17:case 18:case 19:case 20:case 21:case 22:case 23:case 24:case 25:case 28:case 29:case 30:case 31:case 32:case 33:case 34:case 35:case 36:case 37:case 38:case 39:case 40:case 41:case 42:case 43:case 44:case 45:case 46:case 47:j=1;
 break;
 default:NEVER;
 }}
-else k=0;
-return k;
+else j=0;
+return j;
 }
 
 /* cpp_link::linked::Linked::finish_lambda */
@@ -19270,7 +19575,7 @@ fa[24]=ca;
 fa[25]=2;
 z6(fa+26);
 w8(b+56,ea+1);
-b[88]=(u32)50463490>>((u32)b[88]<<3);
+b[88]=0x404020402u>>(((u64)b[88]<<3)&0xffffffffffu);
 w8(b+80,r8(b+80)+1);
 ga=rp(b+48)+(i64)((ba-r8(b+72))<<5);
 ha=ga[24]&1;
@@ -21947,110 +22252,142 @@ return;
 /* sym_demangle::workspace::Workspace::print */
 static void print_853(u8* a,u8* b,u8* c,u32 d,u8 e,u8* f)
 {
-A16 u8 g[16],h[12],i[12];
-u32 j,m,n,q,r,A;
-s_64_64 k;
-u8 l,w,x,y,z,B,G;
-u8 *o,*p,*t,*u,*v,*C,*K,*L;
-u64 s,D,E,F,H,I,J;
-j=r4(c+72);
+A16 u8 g[12];
+u32 h,k,l;
+s_64_64 i;
+u8 j,r;
+u8 *m,*n,*v,*w;
+u64 o,p,q,s,t,u;
+z12(g);
+h=r4(c+72);
 if(r8(b+304)==0){
 if(r8(b+296)==0){
-k=port_rattle_alloc(288,4);
-if(!(u8)(k.f0&1)){
-l=1;
-m=4;
-n=0;
+i=port_rattle_alloc(288,4);
+if(!(u8)(i.f0&1)){
+j=1;
+k=4;
+l=0;
 goto L1;}
-wp(b+288,(u8*)k.f1);
+wp(b+288,(u8*)i.f1);
 w8(b+304,8);}}
-o=rp(b+288);
-x4(o,0);
-x4(o+4,j);
-x4(o+8,9);
-x4(o+12,0);
-x4(o+16,0);
-x4(o+20,0);
-o[24]=e;
-z11(o+25);
+m=rp(b+288);
+x4(m,0);
+x4(m+4,h);
+x4(m+8,9);
+x4(m+12,0);
+x4(m+16,0);
+x4(m+20,0);
+m[24]=e;
+z11(m+25);
 w8(b+296,1);
 if(r8(b+320)!=0)w8(b+320,0);
 x4(b+432,0);
 x4(b+436,d);
 z20(b+440);
-z12(h);
-z12(i);
-p=rp(b+288);
-if(*p==0){
-q=r4(p+4);
-r=q<67108864?uadd32(q<<6,1024):4294967295u;}
-else r=1024;
-w4(g,0);
-w4(g+4,umin32(r,d));
-w8(g+8,0);
-print_entries_7a0(h,c,b+288,b+312,b+336,g,0);
-s=r8(g+8);
-x4(b+432,r4(g));
-x8(b+440,s);
-if(r4(g+4)==r4(b+436)){
-t=h+4;
-u=h+8;
-v=h;}
-else{
-w=*h;
-x=h[4];
-if(!(w==1&&x==3)){
-y=w;
-z=x;
-A=r4(h+8);
-goto L2;}
-print_dear_73a(i,c,b+288,b+312,b+336,b+432);
-t=i+4;
-u=i+8;
-v=i;}
-y=*v;
-z=*t;
-A=r4(u);
-L2:B=y!=0;
-x4(b+448,B);
-x4(b+452,B?z:0);
-x4(b+456,B?A:0);
-if(y==0){
-C=rp(b+312);
-D=r8(b+320);
-E=r8(f+16);
-F=r8(f+8);
-if(D>E-F){
-G=grow_amortized_2b6(f,D);
-if(!G){
-l=1;
-m=4;
-n=0;
-goto L1;}
-H=r8(f+16);
-I=r8(f+8);}
-else{
-H=E;
-I=F;}
-J=I+D;
-K=rp(f);
-z16(f+8);
-L=K+(i64)I;
-if((u64)L-(u64)C<D)copy_bits_4f4(C,L,D);
-else memmove(L,C,D);
-wp(f,K);
-w8(f+8,J);
-w8(f+16,H);
+w4(g+4,0);
+w4(g+8,0);
+run_610(g,b+288,c);
+if(*g==0){
+n=rp(b+312);
+o=r8(b+320);
+p=r8(f+16);
+q=r8(f+8);
+if(o>p-q){
+r=grow_amortized_2b6(f,o);
+if(!r){
+j=1;
+k=4;
 l=0;
-m=0;
-n=0;}
+goto L1;}
+s=r8(f+16);
+t=r8(f+8);}
 else{
-l=1;
-m=z;
-n=A;}
-L1:*a=l;
-x4(a+4,m);
-x4(a+8,n);
+s=p;
+t=q;}
+u=t+o;
+v=rp(f);
+z16(f+8);
+w=v+(i64)t;
+if((u64)w-(u64)n<o)copy_bits_4f4(n,w,o);
+else memmove(w,n,o);
+wp(f,v);
+w8(f+8,u);
+w8(f+16,s);
+j=0;
+k=0;
+l=0;}
+else{
+j=1;
+k=g[4];
+l=r4(g+8);}
+L1:*a=j;
+x4(a+4,k);
+x4(a+8,l);
+return;
+}
+
+/* sym_print::printer::Printer::run */
+static void run_610(u8* a,u8* b,u8* c)
+{
+A16 u8 d[16],e[12],f[12];
+u8 g,h,t,u,v,x,y;
+u32 i,k,m,n,o,w;
+u64 j,p,q;
+u8 *l,*r,*s;
+if(b[160]==1){
+g=1;
+h=b[164];
+i=q4(b+168);}
+else{
+z12(e);
+z12(f);
+j=r8(b+8);
+if(j==0)k=1024;
+else{
+l=rp(b)+(i64)(j*36);
+if(l[-36]==0){
+m=r4(l-32);
+k=m<67108864?uadd32(m<<6,1024):4294967295u;}
+else k=1024;}
+n=r4(b+144);
+o=umin32(uadd32(k,n),r4(b+148));
+p=r8(b+152);
+w4(d,n);
+w4(d+4,o);
+w8(d+8,p);
+print_entries_7a0(e,c,b,b+24,b+48,d,0);
+q=r8(d+8);
+w4(b+144,r4(d));
+w8(b+152,q);
+if(r4(d+4)==r4(b+148)){
+r=e+8;
+s=e;
+t=e[4];}
+else{
+u=*e;
+v=e[4];
+if(u==1&&v==3){
+print_dear_73a(f,c,b,b+24,b+48,b+144);
+r=f+8;
+s=f;
+t=f[4];}
+else{
+*f=u;
+r=e+8;
+s=f;
+t=v;}}
+w=r4(r);
+x=*s;
+y=x!=0;
+x4(b+160,y);
+x4(b+164,y?t:0);
+x4(b+168,y?w:0);
+g=x;
+h=t;
+i=w;}
+*a=g;
+x4(a+4,h);
+x4(a+8,i);
 return;
 }
 
@@ -24162,105 +24499,116 @@ return;
 /* cpp_layout::symbol::Symbol::fill_instance */
 static void fill_instance_1f0(u8* a,u8* b,u32 c,u32 d,u8* e)
 {
-u8 f[3],g[3],h[3],i[3];
-u64 j,u,w,z,B,E;
-u8 k,l,t;
-u32 m,o,r,s;
-u8 *n,*p,*q,*v,*x,*y,*A,*C,*D,*F;
-j=q8(e);
-k=e[8];
+u8 g[3],h[3],i[3];
+A16 u8 f[20];
+u8 j,l,m,o;
+u32 k,n;
+u64 p,r,u,w,z;
+u8 *q,*s,*t,*v,*x,*y,*A;
+j=*e;
+memcpy(g,e+1,3);
+k=q4(e+4);
+l=e[8];
 memcpy(h,e+9,3);
-l=e[12];
+m=e[12];
 memcpy(i,e+13,3);
-m=q4(e+16);
-switch(k){
-case 0:case 2:n=rp(a+24);
-o=c;
-L1:p=n+(i64)((u64)o*48);
-q=n+(i64)((u64)(*p==47?q4(p+4):o)*48);
-r=q4(q+8);
-switch(*q){
-case 13:s=r;
-goto L2;
-case 16:s=q4(q+12);
-goto L2;
-case 9:if((r&255)==1)t=((r&65280)==27648)&((u8)((u8)(r>>16)-115)<2);
-else t=0;
-break;
-case 10:if((r&255)==1)t=((r&65280)==27648)&((u8)((u8)(r>>16)-115)<2);
-else t=0;
-break;
-case 11:if((r&255)==1)t=((r&65280)==27648)&((u8)((u8)(r>>16)-115)<2);
-else t=0;
-break;
-case 0:case 1:case 2:case 3:case 4:case 5:case 6:case 7:case 8:case 12:case 14:case 15:case 17:case 18:case 19:case 20:case 21:case 22:case 23:case 24:case 25:case 26:case 27:case 28:case 29:case 30:case 31:case 32:case 33:case 34:case 35:case 36:case 37:case 38:case 39:case 40:case 41:case 42:case 43:case 44:case 45:case 46:case 47:t=0;
-break;
-default:NEVER;
-}
-u=r8(b+8);
-v=rp(b)+u*36;
-*v=3;
-v[1]=0;
-x2(v+2,28);
-z32(v+4);
-w=u+1;
-w8(b+8,w);
-x=rp(a+24);
-y=x+(i64)((u64)d*48);
-if(*(x+(i64)((u64)(*y==47?q4(y+4):d)*48))==1)z=w;
+switch(l){
+case 0:case 2:n=q4(e+16);
+o=ends_in_angle_e4f(a,c);
+p=r8(b+8);
+q=rp(b)+p*36;
+*q=3;
+q[1]=0;
+x2(q+2,28);
+z32(q+4);
+r=p+1;
+w8(b+8,r);
+s=rp(a+24);
+t=s+(i64)((u64)d*48);
+if(*(s+(i64)((u64)(*t==47?q4(t+4):d)*48))==1)u=r;
 else{
-A=rp(b)+w*36;
-x4(A,0);
-x4(A+4,d);
-x4(A+8,2);
-x4(A+12,0);
-x8(A+16,j);
-A[24]=k;
-memcpy(A+25,h,3);
-A[28]=l;
-memcpy(A+29,i,3);
-x4(A+32,m);
-z=u+2;}
-B=z*36;
-C=rp(b)+B;
-*C=3;
-C[1]=0;
-x2(C+2,t?27:26);
-z32(C+4);
-D=rp(b)+(i64)B;
-x4(D+36,0);
-x4(D+40,c);
-x4(D+44,0);
-x4(D+48,0);
-x8(D+52,j);
-D[60]=k;
-memcpy(D+61,h,3);
-D[64]=l;
-memcpy(D+65,i,3);
-x4(D+68,m);
-w8(b+8,z+2);
+v=rp(b)+r*36;
+x4(v,0);
+x4(v+4,d);
+x4(v+8,2);
+x4(v+12,0);
+v[16]=j;
+memcpy(v+17,g,3);
+x4(v+20,k);
+v[24]=l;
+memcpy(v+25,h,3);
+v[28]=m;
+memcpy(v+29,i,3);
+x4(v+32,n);
+u=p+2;}
+w=u*36;
+x=rp(b)+w;
+*x=3;
+x[1]=0;
+x2(x+2,o?27:26);
+z32(x+4);
+y=rp(b)+(i64)w;
+x4(y+36,0);
+x4(y+40,c);
+x4(y+44,0);
+x4(y+48,0);
+y[52]=j;
+memcpy(y+53,g,3);
+x4(y+56,k);
+y[60]=l;
+memcpy(y+61,h,3);
+y[64]=m;
+memcpy(y+65,i,3);
+x4(y+68,n);
+w8(b+8,u+2);
 break;
-L2:o=s;
-goto L1;
-case 1:case 3:memcpy(f,e+9,3);
-memcpy(g,e+13,3);
-E=r8(b+8);
-F=rp(b)+E*36;
-x4(F,0);
-x4(F+4,c);
-x4(F+8,0);
-x4(F+12,0);
-x8(F+16,j);
-F[24]=k;
-memcpy(F+25,f,3);
-F[28]=l;
-memcpy(F+29,g,3);
-x4(F+32,m);
-w8(b+8,E+1);
+case 1:case 3:memcpy(f,e,20);
+z=r8(b+8);
+A=rp(b)+z*36;
+x4(A,0);
+x4(A+4,c);
+x4(A+8,0);
+x4(A+12,0);
+memcpy(A+16,f,20);
+w8(b+8,z+1);
 break;
 default:NEVER;
 }
 return;
+}
+
+/* cpp_layout::symbol::Symbol::ends_in_angle */
+static u8 ends_in_angle_e4f(u8* a,u32 b)
+{
+u8 *c,*e,*f;
+u32 d,g,h;
+u8 i;
+c=rp(a+24);
+d=b;
+L1:e=c+(i64)((u64)d*48);
+f=c+(i64)((u64)(*e==47?q4(e+4):d)*48);
+g=q4(f+8);
+switch(*f){
+case 13:h=g;
+goto L2;
+case 16:h=q4(f+12);
+goto L2;
+case 9:if((g&255)==1)i=((g&65280)==27648)&((u8)((u8)(g>>16)-115)<2);
+else i=0;
+break;
+case 10:if((g&255)==1)i=((g&65280)==27648)&((u8)((u8)(g>>16)-115)<2);
+else i=0;
+break;
+case 11:if((g&255)==1)i=((g&65280)==27648)&((u8)((u8)(g>>16)-115)<2);
+else i=0;
+break;
+case 0:case 1:case 2:case 3:case 4:case 5:case 6:case 7:case 8:case 12:case 14:case 15:case 17:case 18:case 19:case 20:case 21:case 22:case 23:case 24:case 25:case 26:case 27:case 28:case 29:case 30:case 31:case 32:case 33:case 34:case 35:case 36:case 37:case 38:case 39:case 40:case 41:case 42:case 43:case 44:case 45:case 46:case 47:i=0;
+break;
+default:NEVER;
+}
+return i;
+L2:d=h;
+goto L1;
 }
 
 /* cpp_layout::symbol::Symbol::own_entity */
@@ -24357,823 +24705,760 @@ return b;
 /* cpp_layout::symbol::Symbol::fill_parameter */
 static void fill_parameter_f0e(u8* a,u8* b,u32 c,u32 d,u32 e,u8* f)
 {
-u8 g,i,n,x,y,E,H,S,U,ya,Ca;
-u32 h,j,k,p,q,s,t,u,v,w,z,A,B,C,G,I,J,L,N,O,P,Q,X,Z,aa,ba,ca,da,ea,fa,ia,ja,la,ma,na,ra,za;
-u8 *l,*m,*o,*r,*D,*F,*K,*M,*R,*T,*V,*W,*Y,*ga,*ha,*ka,*oa,*pa,*qa,*ua,*va,*wa,*xa,*Aa,*Ba,*Fa,*Ha;
-u64 sa,ta,Ea,Ga;
-u16 Da;
-g=*f;
-h=q4(f+4);
-i=f[8];
-if(f[12]==0)j=d;
-else{
-k=given_for_17e(a+24,q4(f+16),c);
-j=k;}
-if(g==1){
-l=rp(a+24);
-m=l+(i64)((u64)j*48);
-n=*m==47;
-o=l+(i64)((u64)(n?q4(m+4):j)*48);
-if(*o==44){
-p=q4(o+4);
-q=n?q4(m+8):0;
-r=l+(i64)((u64)p*48);
-s=(u8)(r[42]-9)<2?q4(r+32):0;
-if(h<=s){
-y=n;
-z=q;
-A=h;
-B=p;
-goto L1;}
-t=s;
-u=p;
-v=h;
-w=q;
-x=n;
-L2:C=u-t;
-D=l+(i64)((u64)C*48);
-E=*D==47;
-F=l+(i64)((u64)(E?q4(D+4):C)*48);
-if(*F!=45){
-M=l;
-N=0;
-O=0;
-P=0;
-goto L3;}
-G=q4(F+8);
-H=x|E;
-I=x?w:(E?q4(D+8):0);
-J=v+(t^4294967295u);
-K=l+(i64)((u64)G*48);
-L=(u8)(K[42]-9)<2?q4(K+32):0;
-if(J>L){
-t=L;
-u=G;
-v=J;
-w=I;
-x=H;
-goto L2;}
-y=H;
-z=I;
-A=J;
-B=G;
-L1:Q=B-A;
-R=l+(i64)((u64)Q*48);
-S=*R==47;
-T=l+(i64)((u64)(S?q4(R+4):Q)*48);
-U=*T==45;
-M=l;
-N=U&&y|S;
-O=U?q4(T+4):0;
-P=U?(y?z:(S?q4(R+8):0)):0;}
-else{
-M=l;
-N=0;
-O=j;
-P=0;}}
-else{
-M=rp(a+24);
-N=0;
-O=j;
-P=0;}
-L3:V=M+(i64)((u64)O*48);
-W=M+(i64)((u64)(*V==47?q4(V+4):O)*48);
-if(*W==19){
+A16 u8 g[20],h[24];
+u32 i,m,o,p,q,r,s,t,u,x,y,A,B,C,G,O;
+u8 *j,*k,*l,*n,*v,*w,*z,*D,*E,*F,*J,*K,*L,*M,*P,*Q,*U,*W;
+u64 H,I,T,V;
+u8 N,R;
+u16 S;
+memcpy(g,f,20);
+z24(h);
+argument_of_c35(h,a,c,d,g);
+i=r4(h);
+j=rp(a+24);
+k=j+(i64)((u64)i*48);
+l=j+(i64)((u64)(*k==47?q4(k+4):i)*48);
+if(*l==19){
 if(e!=1){
-X=q4(W+4);
-Y=M+(i64)((u64)X*48);
-Z=(u8)(Y[42]-9)<2?q4(Y+32):0;
-if(c<=Z){
-da=c;
-ea=X;
-goto L4;}
-aa=Z;
-ba=X;
-ca=c;
-L5:fa=ba-aa;
-ga=M+(i64)((u64)fa*48);
-ha=M+(i64)((u64)(*ga==47?q4(ga+4):fa)*48);
-if(*ha!=45){
-ma=0;
-goto L6;}
-ia=q4(ha+8);
-ja=ca+(aa^4294967295u);
-ka=M+(i64)((u64)ia*48);
-la=(u8)(ka[42]-9)<2?q4(ka+32):0;
-if(ja>la){
-aa=la;
-ba=ia;
-ca=ja;
-goto L5;}
-da=ja;
-ea=ia;
-L4:na=ea-da;
-oa=M+(i64)((u64)na*48);
-pa=M+(i64)((u64)(*oa==47?q4(oa+4):na)*48);
-ma=*pa==45?q4(pa+4):0;
-L6:qa=M+(i64)((u64)ma*48);
-ra=*qa==47?q4(qa+4):ma;
-sa=(u64)ra*48;
-if(*(M+(i64)sa)==0){
-ta=r8(b+8);
-ua=rp(b)+ta*36;
-*ua=3;
-ua[1]=0;
-x2(ua+2,132);
-z32(ua+4);
-w8(b+8,ta+1);}
+m=q4(l+4);
+n=j+(i64)((u64)m*48);
+o=(u8)(n[42]-9)<2?q4(n+32):0;
+if(c<=o){
+s=c;
+t=m;
+goto L1;}
+p=o;
+q=m;
+r=c;
+L2:u=q-p;
+v=j+(i64)((u64)u*48);
+w=j+(i64)((u64)(*v==47?q4(v+4):u)*48);
+if(*w!=45){
+B=0;
+goto L3;}
+x=q4(w+8);
+y=r+(p^4294967295u);
+z=j+(i64)((u64)x*48);
+A=(u8)(z[42]-9)<2?q4(z+32):0;
+if(y>A){
+p=A;
+q=x;
+r=y;
+goto L2;}
+s=y;
+t=x;
+L1:C=t-s;
+D=j+(i64)((u64)C*48);
+E=j+(i64)((u64)(*D==47?q4(D+4):C)*48);
+B=*E==45?q4(E+4):0;
+L3:F=j+(i64)((u64)B*48);
+G=*F==47?q4(F+4):B;
+H=(u64)G*48;
+if(*(j+(i64)H)==0){
+I=r8(b+8);
+J=rp(b)+I*36;
+*J=3;
+J[1]=0;
+x2(J+2,132);
+z32(J+4);
+w8(b+8,I+1);}
 else{
 push_decimal_2c3(b,c);
-va=rp(a+24);
-wa=va+(i64)sa;
-xa=va+(i64)((u64)(*wa==47?q4(wa+4):ra)*48);
-if(*xa==42){
-ya=xa[2];
-if(ya==112){
-za=q4(xa+4);
-Aa=va+(i64)((u64)za*48);
-Ba=va+(i64)((u64)(*Aa==47?q4(Aa+4):za)*48);
-Ca=*Ba==42?Ba[2]:0;
-Da=Ca==110?58:(Ca==116?59:57);}
-else Da=ya==110?58:(ya==116?59:57);}
-else Da=57;
-Ea=r8(b+8);
-Fa=rp(b)+Ea*36;
-*Fa=3;
-Fa[1]=0;
-x2(Fa+2,Da);
-z32(Fa+4);
-w8(b+8,Ea+1);}}}
+K=rp(a+24);
+L=K+(i64)H;
+M=K+(i64)((u64)(*L==47?q4(L+4):G)*48);
+if(*M==42){
+N=M[2];
+if(N==112){
+O=q4(M+4);
+P=K+(i64)((u64)O*48);
+Q=K+(i64)((u64)(*P==47?q4(P+4):O)*48);
+R=*Q==42?Q[2]:0;
+S=R==110?58:(R==116?59:57);}
+else S=N==110?58:(N==116?59:57);}
+else S=57;
+T=r8(b+8);
+U=rp(b)+T*36;
+*U=3;
+U[1]=0;
+x2(U+2,S);
+z32(U+4);
+w8(b+8,T+1);}}}
 else{
-Ga=r8(b+8);
-Ha=rp(b)+Ga*36;
-x4(Ha,0);
-x4(Ha+4,O);
-x4(Ha+8,e);
-x4(Ha+12,0);
-x4(Ha+16,0);
-x4(Ha+20,0);
-Ha[24]=i;
-z3(Ha+25);
-x4(Ha+28,N);
-x4(Ha+32,P);
-w8(b+8,Ga+1);}
+V=r8(b+8);
+W=rp(b)+V*36;
+x4(W,0);
+x4(W+4,i);
+x4(W+8,e);
+x4(W+12,0);
+memcpy(W+16,h+4,20);
+w8(b+8,V+1);}
+return;
+}
+
+/* cpp_layout::symbol::Symbol::argument_of */
+static void argument_of_c35(u8* a,u8* b,u32 c,u32 d,u8* e)
+{
+u8 f,h,m,w,x,D,G,Q,S;
+u32 g,i,j,o,p,r,s,t,u,v,y,z,A,B,F,H,I,K,L,M,N,O;
+u8 *k,*l,*n,*q,*C,*E,*J,*P,*R;
+f=*e;
+g=q4(e+4);
+h=e[8];
+if(e[12]==0)i=d;
+else{
+j=given_for_17e(b+24,q4(e+16),c);
+i=j;}
+if(f==1){
+k=rp(b+24);
+l=k+(i64)((u64)i*48);
+m=*l==47;
+n=k+(i64)((u64)(m?q4(l+4):i)*48);
+if(*n==44){
+o=q4(n+4);
+p=m?q4(l+8):0;
+q=k+(i64)((u64)o*48);
+r=(u8)(q[42]-9)<2?q4(q+32):0;
+if(g<=r){
+x=m;
+y=p;
+z=g;
+A=o;
+goto L1;}
+s=r;
+t=o;
+u=g;
+v=p;
+w=m;
+L2:B=t-s;
+C=k+(i64)((u64)B*48);
+D=*C==47;
+E=k+(i64)((u64)(D?q4(C+4):B)*48);
+if(*E!=45){
+L=0;
+M=0;
+N=0;
+goto L3;}
+F=q4(E+8);
+G=w|D;
+H=w?v:(D?q4(C+8):0);
+I=u+(s^4294967295u);
+J=k+(i64)((u64)F*48);
+K=(u8)(J[42]-9)<2?q4(J+32):0;
+if(I>K){
+s=K;
+t=F;
+u=I;
+v=H;
+w=G;
+goto L2;}
+x=G;
+y=H;
+z=I;
+A=F;
+L1:O=A-z;
+P=k+(i64)((u64)O*48);
+Q=*P==47;
+R=k+(i64)((u64)(Q?q4(P+4):O)*48);
+S=*R==45;
+L=S&&x|Q;
+M=S?q4(R+4):0;
+N=S?(x?y:(Q?q4(P+8):0)):0;}
+else{
+L=0;
+M=i;
+N=0;}}
+else{
+L=0;
+M=i;
+N=0;}
+L3:x4(a,M);
+x4(a+4,0);
+x4(a+8,0);
+a[12]=h;
+z3(a+13);
+x4(a+16,L);
+x4(a+20,N);
 return;
 }
 
 /* cpp_layout::symbol::Symbol::fill_marked */
 static void fill_marked_395(u8* a,u8* b,u32 c,u8* d)
 {
-u8 i[3],j[3];
-A16 u8 e[12],f[12],g[12],h[16];
-u8 k,n,p,q,r;
-u32 l,m,o;
-u64 s,t;
-u8 *u,*v;
-k=*d;
-memcpy(i,d+1,3);
-l=q4(d+4);
-m=q4(d+8);
-n=d[12];
-memcpy(j,d+13,3);
-o=q4(d+16);
+u8 f[3],g[3];
+A16 u8 e[12];
+u8 h,j,m;
+u32 i,k,l;
+u64 n,o;
+u8 *p,*q;
+h=*d;
+memcpy(f,d+1,3);
+i=q4(d+4);
+j=d[12];
+k=q4(d+8);
+memcpy(g,d+13,3);
+l=q4(d+16);
 w4(e,c);
-w4(e+4,n);
-w4(e+8,o);
-z16(h);
-class_e43(h,a+24,e);
-switch(*h){
-case 0:p=h[1];
-break;
-case 1:w4(f,r4(h+4));
-w4(f+4,h[8]);
-w4(f+8,r4(h+12));
-q=element_head_a82(a+24,k,l,f);
-p=q;
-break;
-case 2:w4(g,r4(h+4));
-w4(g+4,h[8]);
-w4(g+8,r4(h+12));
-r=element_head_a82(a+24,k,l,g);
-p=r==2?2:3;
-break;
-default:NEVER;
-}
-s=r8(b+8);
-t=s*36;
-u=rp(b)+t;
-*u=3;
-u[1]=0;
-x2(u+2,p==1?9:8);
-z32(u+4);
-v=rp(b)+(i64)t;
-x4(v+36,0);
-x4(v+40,c);
-x4(v+44,0);
-x4(v+48,0);
-v[52]=k;
-memcpy(v+53,i,3);
-x4(v+56,l);
-x4(v+60,m);
-v[64]=n;
-memcpy(v+65,j,3);
-x4(v+68,o);
-w8(b+8,s+2);
+w4(e+4,j);
+w4(e+8,l);
+m=head_c64(a+24,h,i,e);
+n=r8(b+8);
+o=n*36;
+p=rp(b)+o;
+*p=3;
+p[1]=0;
+x2(p+2,m==1?9:8);
+z32(p+4);
+q=rp(b)+(i64)o;
+x4(q+36,0);
+x4(q+40,c);
+x4(q+44,0);
+x4(q+48,0);
+q[52]=h;
+memcpy(q+53,f,3);
+x4(q+56,i);
+x4(q+60,k);
+q[64]=j;
+memcpy(q+65,g,3);
+x4(q+68,l);
+w8(b+8,n+2);
 return;
 }
 
-/* cpp_tree::nodes::Nodes::class */
-static void class_e43(u8* a,u8* b,u8* c)
+/* cpp_tree::nodes::Nodes::head */
+static u8 head_c64(u8* a,u8 b,u32 c,u8* d)
 {
-u8 d,k,l,o,p,q,s,t,v,x,B,H,J,K,L,M,N;
-u32 e,h,i,j,m,n,r,u,w,y,z,D,E,F,G,I,O;
-u8 *f,*g,*A,*C;
-d=c[4];
-e=q4(c+8);
-f=rp(b);
-g=f+(i64)((u64)q4(c)*48);
-h=q4(g+28);
-i=q4(g+32);
-j=q4(g+36);
-k=g[40];
-l=g[42];
-m=q4(g+43);
-switch(l){
-case 1:case 2:case 3:n=0;
-o=0;
-p=l;
-q=0;
+A16 u8 e[12],f[12];
+u8 g,n,o,r,s,t,v,w,y,A,E,K,M,N,O,P,Q,S,W,X;
+u32 h,k,l,m,p,q,u,x,z,B,C,G,H,I,J,L,R,T,U,V;
+u8 *i,*j,*D,*F;
+g=d[4];
+h=q4(d+8);
+i=rp(a);
+j=i+(i64)((u64)q4(d)*48);
+k=q4(j+28);
+l=q4(j+32);
+m=q4(j+36);
+n=j[40];
+o=j[42];
+p=q4(j+43);
+switch(o){
+case 1:case 2:case 3:q=0;
 r=0;
+s=o;
+t=0;
+u=0;
 break;
-case 4:n=h;
-o=1;
-p=0;
-q=i!=0;
-r=usub32(i,1);
+case 4:q=k;
+r=1;
+s=0;
+t=l!=0;
+u=usub32(l,1);
 break;
-case 5:n=h;
-o=2;
-p=0;
-q=i!=0;
-r=usub32(i,1);
+case 5:q=k;
+r=2;
+s=0;
+t=l!=0;
+u=usub32(l,1);
 break;
-case 6:case 7:case 8:case 0:case 9:case 10:n=0;
-o=0;
-p=0;
-q=0;
+case 6:case 7:case 8:case 0:case 9:case 10:q=0;
 r=0;
+s=0;
+t=0;
+u=0;
 break;
 default:NEVER;
 }
-if(d==0){
-s=o;
-t=p;
-u=n;
-v=q;
-w=r;}
+if(g==0){
+v=r;
+w=s;
+x=q;
+y=t;
+z=u;}
 else{
-x=m>>8;
-if(k==1){
-y=given_for_17e(b,e,j);
-z=y;}
-else z=e;
-A=f+(i64)((u64)z*48);
-B=*A==47;
-C=f+(i64)((u64)(B?q4(A+4):z)*48);
-if(*C==44){
-D=B?q4(A+8)+1:0;
-E=q4(C+4);}
+A=p>>8;
+if(n==1){
+B=given_for_17e(a,h,m);
+C=B;}
+else C=h;
+D=i+(i64)((u64)C*48);
+E=*D==47;
+F=i+(i64)((u64)(E?q4(D+4):C)*48);
+if(*F==44){
+G=E?q4(D+8)+1:0;
+H=q4(F+4);}
 else{
-F=q4(A+28);
-G=q4(A+32);
-H=A[42];
-switch(H){
-case 1:I=0;
-J=1;
-K=0;
-L=3;
-M=H;
+I=q4(D+28);
+J=q4(D+32);
+K=D[42];
+switch(K){
+case 1:L=0;
+M=1;
 N=0;
-O=0;
+O=3;
+P=K;
+Q=0;
+R=0;
 goto L1;
-case 2:case 3:I=0;
-J=1;
-K=0;
+case 2:case 3:L=0;
+M=1;
+N=0;
+O=K;
+P=K;
+Q=0;
+R=0;
+goto L1;
+case 4:G=J;
+H=I;
+break;
+case 5:L=I;
+M=0;
+N=2;
+O=3;
+P=0;
+Q=J!=0;
+R=usub32(J,1);
+goto L1;
+case 0:case 6:case 7:case 8:case 9:case 10:L=0;
+M=1;
+N=0;
+O=3;
+P=0;
+Q=0;
+R=0;
+goto L1;
+default:NEVER;
+}}
 L=H;
-M=H;
-N=0;
-O=0;
-goto L1;
-case 4:D=G;
-E=F;
+M=0;
+N=1;
+O=3;
+P=0;
+Q=G!=0;
+R=usub32(G,1);
+L1:switch(A){
+case 0:v=r;
+w=s;
+x=q;
+y=t;
+z=u;
 break;
-case 5:I=F;
-J=0;
-K=2;
-L=3;
-M=0;
-N=G!=0;
-O=usub32(G,1);
-goto L1;
-case 0:case 6:case 7:case 8:case 9:case 10:I=0;
-J=1;
-K=0;
-L=3;
-M=0;
-N=0;
-O=0;
-goto L1;
+case 1:v=N;
+w=P;
+x=L;
+y=Q;
+z=R;
+break;
+case 2:if(M){
+S=O;
+goto L2;}
+T=Q;
+U=R;
+V=L;
+goto L3;
 default:NEVER;
 }}
-I=E;
-J=0;
-K=1;
-L=3;
-M=0;
-N=D!=0;
-O=usub32(D,1);
-L1:switch(x){
-case 0:s=o;
-t=p;
-u=n;
-v=q;
-w=r;
-break;
-case 1:s=K;
-t=M;
-u=I;
-v=N;
-w=O;
-break;
-case 2:if(J){
-s=0;
-t=L;
-u=0;
-v=0;
-w=0;}
-else{
-s=2;
-t=0;
-u=I;
-v=N;
-w=O;}
+switch(v){
+case 0:S=w;
+goto L2;
+case 1:w4(e,x);
+w4(e+4,y);
+w4(e+8,z);
+W=element_head_a82(a,b,c,e);
+S=W;
+goto L2;
+case 2:T=y;
+U=z;
+V=x;
 break;
 default:NEVER;
-}}
-*a=s;
-a[1]=t;
-x4(a+4,u);
-x4(a+8,v);
-x4(a+12,w);
-return;
+}
+L3:w4(f,V);
+w4(f+4,T);
+w4(f+8,U);
+X=element_head_a82(a,b,c,f);
+S=X==2?2:3;
+L2:return S;
 }
 
 /* cpp_tree::nodes::Nodes::element_head */
 static u8 element_head_a82(u8* a,u8 b,u32 c,u8* d)
 {
-A16 u8 e[12],f[16];
-u32 g,i,l,m,n,o,p,r,v,x,y,A,C,D,E,F,G,H,I;
-u8 h,q,t,w,B,K,L,N,O,P;
-u8 *j,*k,*s,*u,*z,*J,*M;
+u32 e,g,j,k,l,m,n,p,t,v,w,y,A,B,C,G,Q,S,T;
+u8 f,o,r,u,z,D,E,F,I,J,L,N,O,P,R,V,W,X,Y,Z,aa;
+u8 *h,*i,*q,*s,*x,*H,*K,*M,*U;
 if(b==1){
-g=q4(d);
-h=d[4];
-i=q4(d+8);
-j=rp(a);
-k=j+(i64)((u64)g*48);
-l=(u8)(k[42]-9)<2?q4(k+32):0;
-if(c>l){
-m=l;
+e=q4(d);
+f=d[4];
+g=q4(d+8);
+h=rp(a);
+i=h+(i64)((u64)e*48);
+j=(u8)(i[42]-9)<2?q4(i+32):0;
+if(c>j){
+k=j;
+l=e;
+m=c;
 n=g;
-o=c;
-p=i;
-q=h!=0;
-L1:r=n-m;
-s=j+(i64)((u64)r*48);
-t=*s==47;
-u=j+(i64)((u64)(t?q4(s+4):r)*48);
-if(*u!=45){
-F=0;
-G=0;
-H=0;
+o=f!=0;
+L1:p=l-k;
+q=h+(i64)((u64)p*48);
+r=*q==47;
+s=h+(i64)((u64)(r?q4(q+4):p)*48);
+if(*s!=45){
+D=h[42];
+E=*((u8*)t_1165+D);
+F=*((u8*)t_3141+D);
 goto L2;}
-v=q4(u+8);
-w=q|t;
-x=q?p:(t?q4(s+8):0);
-y=o+(m^4294967295u);
-z=j+(i64)((u64)v*48);
-A=(u8)(z[42]-9)<2?q4(z+32):0;
-if(y>A){
-m=A;
+t=q4(s+8);
+u=o|r;
+v=o?n:(r?q4(q+8):0);
+w=m+(k^4294967295u);
+x=h+(i64)((u64)t*48);
+y=(u8)(x[42]-9)<2?q4(x+32):0;
+if(w>y){
+k=y;
+l=t;
+m=w;
 n=v;
-o=y;
-p=x;
-q=w;
+o=u;
 goto L1;}
+z=u;
+A=v;
 B=w;
-C=x;
-D=y;
-E=v;}
+C=t;}
 else{
-B=h;
-C=i;
-D=c;
-E=g;}
-I=E-D;
-J=j+(i64)((u64)I*48);
-K=*J==47;
-L=B!=0;
-M=j+(i64)((u64)(K?q4(J+4):I)*48);
-N=*M==45;
-F=N?q4(M+4):0;
-G=N&&L|K;
-H=N?(L?C:(K?q4(J+8):0)):0;
-L2:w4(e,F);
-w4(e+4,G);
-w4(e+8,H);
-z16(f);
-class_e43(f,a,e);
-switch(*f){
-case 0:O=f[1];
+z=f;
+A=g;
+B=c;
+C=e;}
+G=C-B;
+H=h+(i64)((u64)G*48);
+I=*H==47;
+J=z!=0;
+K=h+(i64)((u64)(I?q4(H+4):G)*48);
+L=*K==45;
+M=h+(i64)(L?(u64)q4(K+4)*48:0);
+N=M[42];
+O=*((u8*)t_1165+N);
+P=*((u8*)t_3141+N);
+if(L&&J|I){
+Q=J?A:(I?q4(H+8):0);
+R=q4(M+43)>>8;
+if(M[40]==1){
+S=given_for_17e(a,Q,q4(M+36));
+T=S;}
+else T=Q;
+U=h+(i64)((u64)T*48);
+if(*(h+(i64)((u64)(*U==47?q4(U+4):T)*48))!=44){
+V=U[42];
+switch(V){
+case 1:W=1;
+X=0;
+Y=3;
+Z=V;
+goto L3;
+case 2:case 3:W=1;
+X=0;
+Y=V;
+Z=V;
+goto L3;
+case 4:break;
+case 5:W=0;
+X=2;
+Y=3;
+Z=0;
+goto L3;
+case 0:case 6:case 7:case 8:case 9:case 10:W=1;
+X=0;
+Y=3;
+Z=0;
+goto L3;
+default:NEVER;
+}}
+W=0;
+X=1;
+Y=3;
+Z=0;
+L3:switch(R){
+case 0:E=O;
+F=P;
 break;
-case 1:O=0;
+case 1:E=X;
+F=Z;
 break;
-case 2:O=3;
-break;
+case 2:if(!W)goto L4;
+aa=Y;
+goto L5;
+default:NEVER;
+}}
+else{
+E=O;
+F=P;}
+L2:switch(E){
+case 0:aa=F;
+goto L5;
+case 1:aa=0;
+goto L5;
+case 2:break;
 default:NEVER;
 }
-P=O;}
-else P=0;
-return P;
+L4:aa=3;}
+else aa=0;
+L5:return aa;
 }
 
 /* cpp_layout::symbol::Symbol::fill_reference */
 static void fill_reference_bf6(u8* a,u8* b,u32 c,u32 d,u16 e,u16 f,u8* g)
 {
-u8 p[3],q[3],r[3],s[3];
-A16 u8 h[12],i[12],j[12],k[16],l[12],m[12],n[12],o[16];
-u8 t,w,y,z,A,D,E,F;
-u32 u,v,x;
-u64 B,G,H;
-u8 *C,*I,*J;
-t=*g;
-u=q4(g+4);
-v=q4(g+8);
-w=g[12];
-x=q4(g+16);
-w4(l,c);
-w4(l+4,w);
-w4(l+8,x);
-z16(o);
-class_e43(o,a+24,l);
-switch(*o){
-case 0:y=o[1];
-break;
-case 1:w4(m,r4(o+4));
-w4(m+4,o[8]);
-w4(m+8,r4(o+12));
-z=element_head_a82(a+24,t,u,m);
-y=z;
-break;
-case 2:w4(n,r4(o+4));
-w4(n+4,o[8]);
-w4(n+8,r4(o+12));
-A=element_head_a82(a+24,t,u,n);
-y=A==2?2:3;
-break;
-default:NEVER;
-}
-if((y&254)==2){
-memcpy(r,g+1,3);
-memcpy(s,g+13,3);
-B=r8(b+8);
-C=rp(b)+B*36;
-x4(C,0);
-x4(C+4,c);
-x4(C+8,d);
-x4(C+12,0);
-C[16]=t;
-memcpy(C+17,r,3);
-x4(C+20,u);
-x4(C+24,v);
-C[28]=w;
-memcpy(C+29,s,3);
-x4(C+32,x);
-w8(b+8,B+1);}
+u8 i[3],j[3],k[3],l[3];
+A16 u8 h[12],m[12];
+u8 n,q,s,v;
+u32 o,p,r;
+u64 t,w,x;
+u8 *u,*y,*z;
+n=*g;
+o=q4(g+4);
+p=q4(g+8);
+q=g[12];
+r=q4(g+16);
+w4(m,c);
+w4(m+4,q);
+w4(m+8,r);
+s=head_c64(a+24,n,o,m);
+if(s>1){
+memcpy(k,g+1,3);
+memcpy(l,g+13,3);
+t=r8(b+8);
+u=rp(b)+t*36;
+x4(u,0);
+x4(u+4,c);
+x4(u+8,d);
+x4(u+12,0);
+u[16]=n;
+memcpy(u+17,k,3);
+x4(u+20,o);
+x4(u+24,p);
+u[28]=q;
+memcpy(u+29,l,3);
+x4(u+32,r);
+w8(b+8,t+1);}
 else{
-memcpy(p,g+1,3);
-memcpy(q,g+13,3);
+memcpy(i,g+1,3);
+memcpy(j,g+13,3);
 w4(h,c);
-w4(h+4,w);
-w4(h+8,x);
-z16(k);
-class_e43(k,a+24,h);
-switch(*k){
-case 0:D=k[1];
-break;
-case 1:w4(i,r4(k+4));
-w4(i+4,k[8]);
-w4(i+8,r4(k+12));
-E=element_head_a82(a+24,t,u,i);
-D=E;
-break;
-case 2:w4(j,r4(k+4));
-w4(j+4,k[8]);
-w4(j+8,r4(k+12));
-F=element_head_a82(a+24,t,u,j);
-D=F==2?2:3;
-break;
-default:NEVER;
-}
-G=r8(b+8);
-H=G*36;
-I=rp(b)+H;
-*I=3;
-I[1]=0;
-x2(I+2,D==1?e:f);
-z32(I+4);
-J=rp(b)+(i64)H;
-x4(J+36,0);
-x4(J+40,c);
-x4(J+44,0);
-x4(J+48,0);
-J[52]=t;
-memcpy(J+53,p,3);
-x4(J+56,u);
-x4(J+60,v);
-J[64]=w;
-memcpy(J+65,q,3);
-x4(J+68,x);
-w8(b+8,G+2);}
+w4(h+4,q);
+w4(h+8,r);
+v=head_c64(a+24,n,o,h);
+w=r8(b+8);
+x=w*36;
+y=rp(b)+x;
+*y=3;
+y[1]=0;
+x2(y+2,v==1?e:f);
+z32(y+4);
+z=rp(b)+(i64)x;
+x4(z+36,0);
+x4(z+40,c);
+x4(z+44,0);
+x4(z+48,0);
+z[52]=n;
+memcpy(z+53,i,3);
+x4(z+56,o);
+x4(z+60,p);
+z[64]=q;
+memcpy(z+65,j,3);
+x4(z+68,r);
+w8(b+8,w+2);}
 return;
 }
 
 /* cpp_layout::symbol::Symbol::fill_array */
 static void fill_array_c4d(u8* a,u8* b,u32 c,u8* d)
 {
-u8 i[3],j[3];
-A16 u8 e[12],f[12],g[12],h[16];
-u8 k,n,p,q;
-u32 l,m,o;
-u64 r,t,v;
-u8 *s,*u,*w,*x;
-k=*d;
-memcpy(i,d+1,3);
-l=q4(d+4);
-m=q4(d+8);
-n=d[12];
-memcpy(j,d+13,3);
-o=q4(d+16);
+u8 f[3],g[3];
+A16 u8 e[12];
+u8 h,k,m;
+u32 i,j,l;
+u64 n,o;
+u8 *p,*q;
+h=*d;
+memcpy(f,d+1,3);
+i=q4(d+4);
+j=q4(d+8);
+k=d[12];
+memcpy(g,d+13,3);
+l=q4(d+16);
 w4(e,c);
-w4(e+4,n);
-w4(e+8,o);
-z16(h);
-class_e43(h,a+24,e);
-switch(*h){
-case 0:p=h[1];
-break;
-case 1:w4(f,r4(h+4));
-w4(f+4,h[8]);
-w4(f+8,r4(h+12));
-q=element_head_a82(a+24,k,l,f);
-p=q;
-break;
-case 2:w4(g,r4(h+4));
-w4(g+4,h[8]);
-w4(g+8,r4(h+12));
-element_head_a82(a+24,k,l,g);
-r=r8(b+8);
-s=b+8;
-goto L1;
-default:NEVER;
-}
-t=r8(b+8);
-if(p==1){
-u=b+8;
-v=t;
-goto L2;}
-r=t;
-s=b+8;
-L1:w=rp(b)+r*36;
-*w=3;
-w[1]=0;
-x2(w+2,4);
-z32(w+4);
-u=s;
-v=r+1;
-L2:x=rp(b)+v*36;
-x4(x,0);
-x4(x+4,c);
-x4(x+8,0);
-x4(x+12,0);
-x[16]=k;
-memcpy(x+17,i,3);
-x4(x+20,l);
-x4(x+24,m);
-x[28]=n;
-memcpy(x+29,j,3);
-x4(x+32,o);
-w8(u,v+1);
+w4(e+4,k);
+w4(e+8,l);
+m=head_c64(a+24,h,i,e);
+n=r8(b+8);
+if(m==1)o=n;
+else{
+p=rp(b)+n*36;
+*p=3;
+p[1]=0;
+x2(p+2,4);
+z32(p+4);
+o=n+1;}
+q=rp(b)+o*36;
+x4(q,0);
+x4(q+4,c);
+x4(q+8,0);
+x4(q+12,0);
+q[16]=h;
+memcpy(q+17,f,3);
+x4(q+20,i);
+x4(q+24,j);
+q[28]=k;
+memcpy(q+29,g,3);
+x4(q+32,l);
+w8(b+8,o+1);
 return;
 }
 
 /* cpp_layout::symbol::Symbol::fill_member */
 static void fill_member_2fa(u8* a,u8* b,u32 c,u32 d,u8* e)
 {
-u8 j[3],k[3];
-A16 u8 f[12],g[12],h[12],i[16];
-u8 l,o,q,r,s;
-u32 m,n,p;
-u64 t,u;
-u8 *v,*w,*x,*y;
-l=*e;
-memcpy(j,e+1,3);
-m=q4(e+4);
-n=q4(e+8);
-o=e[12];
-memcpy(k,e+13,3);
-p=q4(e+16);
+u8 g[3],h[3];
+A16 u8 f[12];
+u8 i,l,n;
+u32 j,k,m;
+u64 o,p;
+u8 *q,*r,*s,*t;
+i=*e;
+memcpy(g,e+1,3);
+j=q4(e+4);
+k=q4(e+8);
+l=e[12];
+memcpy(h,e+13,3);
+m=q4(e+16);
 w4(f,d);
-w4(f+4,o);
-w4(f+8,p);
-z16(i);
-class_e43(i,a+24,f);
-switch(*i){
-case 0:q=i[1];
-break;
-case 1:w4(g,r4(i+4));
-w4(g+4,i[8]);
-w4(g+8,r4(i+12));
-r=element_head_a82(a+24,l,m,g);
-q=r;
-break;
-case 2:w4(h,r4(i+4));
-w4(h+4,i[8]);
-w4(h+8,r4(i+12));
-s=element_head_a82(a+24,l,m,h);
-q=s==2?2:3;
-break;
-default:NEVER;
-}
-t=r8(b+8);
-u=t*36;
-v=rp(b)+u;
-*v=3;
-v[1]=0;
-x2(v+2,14);
-z32(v+4);
-w=rp(b)+(i64)u;
-x4(w+36,0);
-x4(w+40,c);
-x4(w+44,0);
-x4(w+48,0);
-w[52]=l;
-memcpy(w+53,j,3);
-x4(w+56,m);
-x4(w+60,n);
-w[64]=o;
-memcpy(w+65,k,3);
-x4(w+68,p);
-x=rp(b)+(i64)(t*36);
-x[72]=3;
-x[73]=0;
-x2(x+74,q==1?2:4);
-z32(x+76);
-y=rp(b)+(i64)u;
-x4(y+108,0);
-x4(y+112,d);
-x4(y+116,0);
-x4(y+120,0);
-y[124]=l;
-memcpy(y+125,j,3);
-x4(y+128,m);
-x4(y+132,n);
-y[136]=o;
-memcpy(y+137,k,3);
-x4(y+140,p);
-w8(b+8,t+4);
+w4(f+4,l);
+w4(f+8,m);
+n=head_c64(a+24,i,j,f);
+o=r8(b+8);
+p=o*36;
+q=rp(b)+p;
+*q=3;
+q[1]=0;
+x2(q+2,14);
+z32(q+4);
+r=rp(b)+(i64)p;
+x4(r+36,0);
+x4(r+40,c);
+x4(r+44,0);
+x4(r+48,0);
+r[52]=i;
+memcpy(r+53,g,3);
+x4(r+56,j);
+x4(r+60,k);
+r[64]=l;
+memcpy(r+65,h,3);
+x4(r+68,m);
+s=rp(b)+(i64)(o*36);
+s[72]=3;
+s[73]=0;
+x2(s+74,n==1?2:4);
+z32(s+76);
+t=rp(b)+(i64)p;
+x4(t+108,0);
+x4(t+112,d);
+x4(t+116,0);
+x4(t+120,0);
+t[124]=i;
+memcpy(t+125,g,3);
+x4(t+128,j);
+x4(t+132,k);
+t[136]=l;
+memcpy(t+137,h,3);
+x4(t+140,m);
+w8(b+8,o+4);
 return;
 }
 
 /* cpp_layout::symbol::Symbol::fill_qualified_left */
 static void fill_qualified_left_bf3(u8* a,u8* b,u8* c,u32 d,u8* e)
 {
-u8 n[3],o[3],p[3],q[3],r[3],s[3];
-A16 u8 f[12],g[12],h[12],i[16],j[12],k[12],l[12],m[16];
-u8 t,u,v,w,y,z,F,G,H,I,J,K,L,M,N,O;
-u32 x,A;
-u8 *B,*C,*E,*Q,*S;
-u64 D,P,R;
-t=*c;
-u=c[1];
-v=c[2];
-w=*e;
-memcpy(q,e+1,3);
-x=q4(e+4);
-y=e[8];
-memcpy(r,e+9,3);
-z=e[12];
-memcpy(s,e+13,3);
-A=q4(e+16);
-B=rp(a+24);
-C=B+(i64)((u64)d*48);
-if(*(B+(i64)((u64)(*C==47?q4(C+4):d)*48))==31){
-memcpy(n,e+1,3);
-memcpy(o,e+9,3);
-memcpy(p,e+13,3);
-D=r8(b+8);
-E=rp(b)+D*36;
-x4(E,0);
-x4(E+4,d);
-x4(E+8,0);
-x4(E+12,0);
-E[16]=w;
-memcpy(E+17,n,3);
-x4(E+20,x);
-E[24]=y;
-memcpy(E+25,o,3);
-E[28]=z;
-memcpy(E+29,p,3);
-x4(E+32,A);
-w8(b+8,D+1);}
+u8 h[3],i[3],j[3],k[3],l[3],m[3];
+A16 u8 f[12],g[12];
+u8 n,o,p,q,s,t,z,A,B,C,D,E;
+u32 r,u;
+u8 *v,*w,*y,*G,*I;
+u64 x,F,H;
+n=*c;
+o=c[1];
+p=c[2];
+q=*e;
+memcpy(k,e+1,3);
+r=q4(e+4);
+s=e[8];
+memcpy(l,e+9,3);
+t=e[12];
+memcpy(m,e+13,3);
+u=q4(e+16);
+v=rp(a+24);
+w=v+(i64)((u64)d*48);
+if(*(v+(i64)((u64)(*w==47?q4(w+4):d)*48))==31){
+memcpy(h,e+1,3);
+memcpy(i,e+9,3);
+memcpy(j,e+13,3);
+x=r8(b+8);
+y=rp(b)+x*36;
+x4(y,0);
+x4(y+4,d);
+x4(y+8,0);
+x4(y+12,0);
+y[16]=q;
+memcpy(y+17,h,3);
+x4(y+20,r);
+y[24]=s;
+memcpy(y+25,i,3);
+y[28]=t;
+memcpy(y+29,j,3);
+x4(y+32,u);
+w8(b+8,x+1);}
 else{
-w4(j,d);
-w4(j+4,z);
-w4(j+8,A);
-z16(m);
-class_e43(m,a+24,j);
-switch(*m){
-case 0:F=m[1];
-break;
-case 1:w4(k,r4(m+4));
-w4(k+4,m[8]);
-w4(k+8,r4(m+12));
-G=element_head_a82(a+24,w,x,k);
-F=G;
-break;
-case 2:w4(l,r4(m+4));
-w4(l+4,m[8]);
-w4(l+8,r4(m+12));
-H=element_head_a82(a+24,w,x,l);
-F=H==2?2:3;
-break;
-default:NEVER;
-}
-if((F&254)!=2){
+w4(g,d);
+w4(g+4,t);
+w4(g+8,u);
+z=head_c64(a+24,q,r,g);
+if(z<=1){
 w4(f,d);
-w4(f+4,z);
-w4(f+8,A);
-z16(i);
-class_e43(i,a+24,f);
-switch(*i){
-case 0:I=i[1];
-break;
-case 1:w4(g,r4(i+4));
-w4(g+4,i[8]);
-w4(g+8,r4(i+12));
-J=element_head_a82(a+24,w,x,g);
-I=J;
-break;
-case 2:w4(h,r4(i+4));
-w4(h+4,i[8]);
-w4(h+8,r4(i+12));
-element_head_a82(a+24,w,x,h);
-K=(u8)(v<<2)&4;
-goto L1;
-default:NEVER;
-}
-L=(u8)(v<<2)&4;
-if(I==1){
-M=(u8)(L-91)+(((u8)(u<<1)&2)|(t&1));
-if(M<=165)goto L2;
-N=M;
-goto L3;}
-K=L;
-L1:O=(u8)(K+60)|((t&1)|((u8)(u<<1)&2));
-if(O<=60)goto L2;
-N=O;
-L3:P=r8(b+8);
-Q=rp(b)+P*36;
-*Q=3;
-Q[1]=0;
-x2(Q+2,N);
-z32(Q+4);
-w8(b+8,P+1);}
-L2:R=r8(b+8);
-S=rp(b)+R*36;
-x4(S,0);
-x4(S+4,d);
-x4(S+8,0);
-x4(S+12,0);
-S[16]=w;
-memcpy(S+17,q,3);
-x4(S+20,x);
-S[24]=y;
-memcpy(S+25,r,3);
-S[28]=z;
-memcpy(S+29,s,3);
-x4(S+32,A);
-w8(b+8,R+1);}
+w4(f+4,t);
+w4(f+8,u);
+A=head_c64(a+24,q,r,f);
+B=(u8)(p<<2)&4;
+if(A==1){
+C=(u8)(B-91)+(((u8)(o<<1)&2)|(n&1));
+if(C<=165)goto L1;
+D=C;}
+else{
+E=(u8)(B+60)|((n&1)|((u8)(o<<1)&2));
+if(E<=60)goto L1;
+D=E;}
+F=r8(b+8);
+G=rp(b)+F*36;
+*G=3;
+G[1]=0;
+x2(G+2,D);
+z32(G+4);
+w8(b+8,F+1);}
+L1:H=r8(b+8);
+I=rp(b)+H*36;
+x4(I,0);
+x4(I+4,d);
+x4(I+8,0);
+x4(I+12,0);
+I[16]=q;
+memcpy(I+17,k,3);
+x4(I+20,r);
+I[24]=s;
+memcpy(I+25,l,3);
+I[28]=t;
+memcpy(I+29,m,3);
+x4(I+32,u);
+w8(b+8,H+1);}
 return;
 }
 
@@ -26000,357 +26285,298 @@ return;
 /* cpp_layout::symbol::Symbol::fill_right */
 static void fill_right_3bf(u8* a,u8* b,u32 c,u8* d)
 {
-u8 w[3],x[3],y[3],z[3],E[3],F[3],G[3],H[3],I[3],J[3],K[3],L[3],N[3];
-A16 u8 e[12],f[12],g[12],h[16],i[12],j[12],k[12],l[16],m[12],n[12],o[12],p[16],q[12],r[12],s[12],t[16],u[20],v[20],A[20],B[20],C[20],D[20],M[20];
-u8 *O,*P,*ea,*ga,*qa,*sa,*Ca,*Ea,*Oa,*Qa,*Ta,*Ua,*Wa,*Ya,*bb,*cb,*db,*eb,*kb,*mb,*ub,*wb,*yb;
-u8 Q,R,V,Y,aa,ba,ca,ha,ka,ma,na,oa,ta,wa,ya,za,Aa,Fa,Ia,Ka,La,Ma,fb,hb,ib,lb,nb,qb,sb;
-u32 S,T,U,W,X,Z,ia,ja,la,ua,va,xa,Ga,Ha,Ja,gb,jb,ob,pb,rb;
-u64 da,fa,pa,ra,Ba,Da,Na,Pa,Ra,Sa,Va,Xa,Za,ab,tb,vb,xb;
-memcpy(M,d,20);
-z3(N);
-O=rp(a+24);
-P=O+(i64)((u64)c*48);
-Q=P[2];
-R=P[3];
-S=q4(P+4);
-T=q4(P+8);
-U=q4(P+12);
-switch(*P){
-case 25:V=*M;
-memcpy(K,d+1,3);
-W=r4(M+4);
-X=r4(M+8);
-Y=M[12];
-memcpy(L,d+13,3);
-Z=r4(M+16);
-w4(q,S);
-w4(q+4,Y);
-w4(q+8,Z);
-z16(t);
-class_e43(t,a+24,q);
-switch(*t){
-case 0:aa=t[1];
-break;
-case 1:w4(r,r4(t+4));
-w4(r+4,t[8]);
-w4(r+8,r4(t+12));
-ba=element_head_a82(a+24,V,W,r);
-aa=ba;
-break;
-case 2:w4(s,r4(t+4));
-w4(s+4,t[8]);
-w4(s+8,r4(t+12));
-ca=element_head_a82(a+24,V,W,s);
-aa=ca==2?2:3;
-break;
-default:NEVER;
-}
-da=r8(b+8);
-ea=rp(b)+da*36;
-x4(ea,0);
-x4(ea+4,S);
-x4(ea+8,1);
-x4(ea+12,0);
-ea[16]=V;
-memcpy(ea+17,K,3);
-x4(ea+20,W);
-x4(ea+24,X);
-ea[28]=Y;
-memcpy(ea+29,L,3);
-x4(ea+32,Z);
-fa=da+1;
-w8(b+8,fa);
-if(aa==1){
-ga=rp(b)+fa*36;
-*ga=3;
-ga[1]=0;
-x2(ga+2,3);
-z32(ga+4);
-w8(b+8,da+2);}
-break;
-case 26:ha=*M;
-memcpy(I,d+1,3);
-ia=r4(M+4);
-ja=r4(M+8);
-ka=M[12];
-memcpy(J,d+13,3);
-la=r4(M+16);
-w4(m,S);
-w4(m+4,ka);
-w4(m+8,la);
-z16(p);
-class_e43(p,a+24,m);
-switch(*p){
-case 0:ma=p[1];
-break;
-case 1:w4(n,r4(p+4));
-w4(n+4,p[8]);
-w4(n+8,r4(p+12));
-na=element_head_a82(a+24,ha,ia,n);
-ma=na;
-break;
-case 2:w4(o,r4(p+4));
-w4(o+4,p[8]);
-w4(o+8,r4(p+12));
-oa=element_head_a82(a+24,ha,ia,o);
-ma=oa==2?2:3;
-break;
-default:NEVER;
-}
-pa=r8(b+8);
-qa=rp(b)+pa*36;
-x4(qa,0);
-x4(qa+4,S);
-x4(qa+8,1);
-x4(qa+12,0);
-qa[16]=ha;
-memcpy(qa+17,I,3);
-x4(qa+20,ia);
-x4(qa+24,ja);
-qa[28]=ka;
-memcpy(qa+29,J,3);
-x4(qa+32,la);
-ra=pa+1;
-w8(b+8,ra);
-if(ma==1){
-sa=rp(b)+ra*36;
-*sa=3;
-sa[1]=0;
-x2(sa+2,3);
-z32(sa+4);
-w8(b+8,pa+2);}
-break;
-case 27:ta=*M;
-memcpy(G,d+1,3);
-ua=r4(M+4);
-va=r4(M+8);
-wa=M[12];
-memcpy(H,d+13,3);
-xa=r4(M+16);
-w4(i,S);
-w4(i+4,wa);
-w4(i+8,xa);
-z16(l);
-class_e43(l,a+24,i);
-switch(*l){
-case 0:ya=l[1];
-break;
-case 1:w4(j,r4(l+4));
-w4(j+4,l[8]);
-w4(j+8,r4(l+12));
-za=element_head_a82(a+24,ta,ua,j);
-ya=za;
-break;
-case 2:w4(k,r4(l+4));
-w4(k+4,l[8]);
-w4(k+8,r4(l+12));
-Aa=element_head_a82(a+24,ta,ua,k);
-ya=Aa==2?2:3;
-break;
-default:NEVER;
-}
-Ba=r8(b+8);
-Ca=rp(b)+Ba*36;
-x4(Ca,0);
-x4(Ca+4,S);
-x4(Ca+8,1);
-x4(Ca+12,0);
-Ca[16]=ta;
-memcpy(Ca+17,G,3);
-x4(Ca+20,ua);
-x4(Ca+24,va);
-Ca[28]=wa;
-memcpy(Ca+29,H,3);
-x4(Ca+32,xa);
-Da=Ba+1;
-w8(b+8,Da);
-if(ya==1){
-Ea=rp(b)+Da*36;
-*Ea=3;
-Ea[1]=0;
-x2(Ea+2,3);
-z32(Ea+4);
-w8(b+8,Ba+2);}
-break;
-case 30:Fa=*M;
-memcpy(E,d+1,3);
-Ga=r4(M+4);
-Ha=r4(M+8);
-Ia=M[12];
-memcpy(F,d+13,3);
-Ja=r4(M+16);
-w4(e,T);
-w4(e+4,Ia);
-w4(e+8,Ja);
-z16(h);
-class_e43(h,a+24,e);
-switch(*h){
-case 0:Ka=h[1];
-break;
-case 1:w4(f,r4(h+4));
-w4(f+4,h[8]);
-w4(f+8,r4(h+12));
-La=element_head_a82(a+24,Fa,Ga,f);
-Ka=La;
-break;
-case 2:w4(g,r4(h+4));
-w4(g+4,h[8]);
-w4(g+8,r4(h+12));
-Ma=element_head_a82(a+24,Fa,Ga,g);
-Ka=Ma==2?2:3;
-break;
-default:NEVER;
-}
-Na=r8(b+8);
-Oa=rp(b)+Na*36;
-x4(Oa,0);
-x4(Oa+4,T);
-x4(Oa+8,1);
-x4(Oa+12,0);
-Oa[16]=Fa;
-memcpy(Oa+17,E,3);
-x4(Oa+20,Ga);
-x4(Oa+24,Ha);
-Oa[28]=Ia;
-memcpy(Oa+29,F,3);
-x4(Oa+32,Ja);
-Pa=Na+1;
-w8(b+8,Pa);
-if(Ka==1){
-Qa=rp(b)+Pa*36;
-*Qa=3;
-Qa[1]=0;
-x2(Qa+2,3);
-z32(Qa+4);
-w8(b+8,Na+2);}
-break;
-case 28:memcpy(D,d,20);
-Ra=r8(b+8);
-Sa=Ra*36;
-Ta=rp(b)+Sa;
-x4(Ta,0);
-x4(Ta+4,U);
-x4(Ta+8,1);
-x4(Ta+12,0);
-memcpy(Ta+16,D,20);
-Ua=rp(b)+(i64)Sa;
-Ua[36]=3;
-Ua[37]=0;
-x2(Ua+38,16);
-z32(Ua+40);
-Va=Ra+2;
-if(S<T){
-Wa=rp(b)+Va*36;
-*Wa=1;
-z3(Wa+1);
-x4(Wa+4,S);
-x4(Wa+8,T);
-z24(Wa+12);
-Xa=Ra+3;}
-else Xa=Va;
-Ya=rp(b)+Xa*36;
-*Ya=3;
-Ya[1]=0;
-x2(Ya+2,15);
-z32(Ya+4);
-w8(b+8,Xa+1);
-break;
-case 29:memcpy(B,d,20);
+u8 i[3],j[3],k[3],l[3],q[3],r[3],t[3],u[3],w[3],x[3],z[3],A[3],D[3];
+A16 u8 e[20],f[24],g[20],h[20],m[20],n[20],o[20],p[20],s[12],v[12],y[12],B[12],C[20];
+u8 *E,*F,*S,*U,*ca,*ea,*ma,*oa,*wa,*ya,*Ba,*Ca,*Ea,*Ga,*Ja,*Ka,*La,*Ma,*Sa,*Ua,*cb,*eb,*gb,*ib,*kb;
+u8 G,H,L,N,Q,V,X,aa,fa,ha,ka,pa,ra,ua,Na,Pa,Qa,Ta,Va,Ya,ab;
+u32 I,J,K,M,O,P,W,Y,Z,ga,ia,ja,qa,sa,ta,Oa,Ra,Wa,Xa,Za,hb;
+u64 R,T,ba,da,la,na,va,xa,za,Aa,Da,Fa,Ha,Ia,bb,db,fb,jb;
 memcpy(C,d,20);
-Za=r8(b+8);
-ab=Za*36;
-bb=rp(b)+ab;
-x4(bb,0);
-x4(bb+4,T);
-x4(bb+8,1);
-x4(bb+12,0);
-memcpy(bb+16,C,20);
-cb=rp(b)+(i64)ab;
-cb[36]=3;
-cb[37]=0;
-x2(cb+38,16);
-z32(cb+40);
-db=rp(b)+(i64)ab;
-x4(db+72,0);
-x4(db+76,S);
-x4(db+80,0);
-x4(db+84,0);
-memcpy(db+88,B,20);
-eb=rp(b)+(i64)ab;
-eb[108]=3;
-eb[109]=0;
-x2(eb+110,15);
-z32(eb+112);
-w8(b+8,Za+4);
+z3(D);
+E=rp(a+24);
+F=E+(i64)((u64)c*48);
+G=F[2];
+H=F[3];
+I=q4(F+4);
+J=q4(F+8);
+K=q4(F+12);
+switch(*F){
+case 25:L=*C;
+memcpy(z,d+1,3);
+M=r4(C+4);
+N=C[12];
+O=r4(C+8);
+memcpy(A,d+13,3);
+P=r4(C+16);
+w4(B,I);
+w4(B+4,N);
+w4(B+8,P);
+Q=head_c64(a+24,L,M,B);
+R=r8(b+8);
+S=rp(b)+R*36;
+x4(S,0);
+x4(S+4,I);
+x4(S+8,1);
+x4(S+12,0);
+S[16]=L;
+memcpy(S+17,z,3);
+x4(S+20,M);
+x4(S+24,O);
+S[28]=N;
+memcpy(S+29,A,3);
+x4(S+32,P);
+T=R+1;
+w8(b+8,T);
+if(Q==1){
+U=rp(b)+T*36;
+*U=3;
+U[1]=0;
+x2(U+2,3);
+z32(U+4);
+w8(b+8,R+2);}
 break;
-case 32:*z=P[1];
-z[1]=Q;
-z[2]=R;
-fb=*M;
-gb=r4(M+4);
-hb=M[8];
-ib=M[12];
-jb=r4(M+16);
-kb=O+(i64)((u64)S*48);
-lb=*kb==47;
-mb=O+(i64)((u64)(lb?q4(kb+4):S)*48);
-if(*mb==31){
-nb=ib!=0;
-ob=q4(mb+8);
-pb=q4(mb+4);
-qb=mb[3];
-rb=nb?jb:(lb?q4(kb+8):0);
-sb=mb[2]&1;
-w4(A,fb);
-w4(A+4,gb);
-A[8]=hb;
-z3(A+9);
-w4(A+12,nb|lb);
-w4(A+16,rb);
-fill_function_right_5c9(a,b,z,qb,sb,pb,ob,A);}
-else{
+case 26:V=*C;
 memcpy(w,d+1,3);
-memcpy(x,d+9,3);
-memcpy(y,d+13,3);
-tb=r8(b+8);
-ub=rp(b)+tb*36;
-x4(ub,0);
-x4(ub+4,S);
-x4(ub+8,1);
-x4(ub+12,0);
-ub[16]=fb;
-memcpy(ub+17,w,3);
-x4(ub+20,gb);
-ub[24]=hb;
-memcpy(ub+25,x,3);
-ub[28]=ib;
-memcpy(ub+29,y,3);
-x4(ub+32,jb);
-w8(b+8,tb+1);}
+W=r4(C+4);
+X=C[12];
+Y=r4(C+8);
+memcpy(x,d+13,3);
+Z=r4(C+16);
+w4(y,I);
+w4(y+4,X);
+w4(y+8,Z);
+aa=head_c64(a+24,V,W,y);
+ba=r8(b+8);
+ca=rp(b)+ba*36;
+x4(ca,0);
+x4(ca+4,I);
+x4(ca+8,1);
+x4(ca+12,0);
+ca[16]=V;
+memcpy(ca+17,w,3);
+x4(ca+20,W);
+x4(ca+24,Y);
+ca[28]=X;
+memcpy(ca+29,x,3);
+x4(ca+32,Z);
+da=ba+1;
+w8(b+8,da);
+if(aa==1){
+ea=rp(b)+da*36;
+*ea=3;
+ea[1]=0;
+x2(ea+2,3);
+z32(ea+4);
+w8(b+8,ba+2);}
 break;
-case 33:memcpy(v,d,20);
-vb=r8(b+8);
-wb=rp(b)+vb*36;
-x4(wb,0);
-x4(wb+4,U);
-x4(wb+8,1);
-x4(wb+12,0);
-memcpy(wb+16,v,20);
-w8(b+8,vb+1);
+case 27:fa=*C;
+memcpy(t,d+1,3);
+ga=r4(C+4);
+ha=C[12];
+ia=r4(C+8);
+memcpy(u,d+13,3);
+ja=r4(C+16);
+w4(v,I);
+w4(v+4,ha);
+w4(v+8,ja);
+ka=head_c64(a+24,fa,ga,v);
+la=r8(b+8);
+ma=rp(b)+la*36;
+x4(ma,0);
+x4(ma+4,I);
+x4(ma+8,1);
+x4(ma+12,0);
+ma[16]=fa;
+memcpy(ma+17,t,3);
+x4(ma+20,ga);
+x4(ma+24,ia);
+ma[28]=ha;
+memcpy(ma+29,u,3);
+x4(ma+32,ja);
+na=la+1;
+w8(b+8,na);
+if(ka==1){
+oa=rp(b)+na*36;
+*oa=3;
+oa[1]=0;
+x2(oa+2,3);
+z32(oa+4);
+w8(b+8,la+2);}
 break;
-case 34:memcpy(u,d,20);
-xb=r8(b+8);
-yb=rp(b)+xb*36;
-x4(yb,0);
-x4(yb+4,S);
-x4(yb+8,1);
-x4(yb+12,0);
-memcpy(yb+16,u,20);
-w8(b+8,xb+1);
+case 30:pa=*C;
+memcpy(q,d+1,3);
+qa=r4(C+4);
+ra=C[12];
+sa=r4(C+8);
+memcpy(r,d+13,3);
+ta=r4(C+16);
+w4(s,J);
+w4(s+4,ra);
+w4(s+8,ta);
+ua=head_c64(a+24,pa,qa,s);
+va=r8(b+8);
+wa=rp(b)+va*36;
+x4(wa,0);
+x4(wa+4,J);
+x4(wa+8,1);
+x4(wa+12,0);
+wa[16]=pa;
+memcpy(wa+17,q,3);
+x4(wa+20,qa);
+x4(wa+24,sa);
+wa[28]=ra;
+memcpy(wa+29,r,3);
+x4(wa+32,ta);
+xa=va+1;
+w8(b+8,xa);
+if(ua==1){
+ya=rp(b)+xa*36;
+*ya=3;
+ya[1]=0;
+x2(ya+2,3);
+z32(ya+4);
+w8(b+8,va+2);}
 break;
-case 18:fill_parameter_f0e(a,b,S,T,1,M);
+case 28:memcpy(p,d,20);
+za=r8(b+8);
+Aa=za*36;
+Ba=rp(b)+Aa;
+x4(Ba,0);
+x4(Ba+4,K);
+x4(Ba+8,1);
+x4(Ba+12,0);
+memcpy(Ba+16,p,20);
+Ca=rp(b)+(i64)Aa;
+Ca[36]=3;
+Ca[37]=0;
+x2(Ca+38,16);
+z32(Ca+40);
+Da=za+2;
+if(I<J){
+Ea=rp(b)+Da*36;
+*Ea=1;
+z3(Ea+1);
+x4(Ea+4,I);
+x4(Ea+8,J);
+z24(Ea+12);
+Fa=za+3;}
+else Fa=Da;
+Ga=rp(b)+Fa*36;
+*Ga=3;
+Ga[1]=0;
+x2(Ga+2,15);
+z32(Ga+4);
+w8(b+8,Fa+1);
 break;
-case 31:fill_function_right_5c9(a,b,N,R,Q&1,S,T,M);
+case 29:memcpy(n,d,20);
+memcpy(o,d,20);
+Ha=r8(b+8);
+Ia=Ha*36;
+Ja=rp(b)+Ia;
+x4(Ja,0);
+x4(Ja+4,J);
+x4(Ja+8,1);
+x4(Ja+12,0);
+memcpy(Ja+16,o,20);
+Ka=rp(b)+(i64)Ia;
+Ka[36]=3;
+Ka[37]=0;
+x2(Ka+38,16);
+z32(Ka+40);
+La=rp(b)+(i64)Ia;
+x4(La+72,0);
+x4(La+76,I);
+x4(La+80,0);
+x4(La+84,0);
+memcpy(La+88,n,20);
+Ma=rp(b)+(i64)Ia;
+Ma[108]=3;
+Ma[109]=0;
+x2(Ma+110,15);
+z32(Ma+112);
+w8(b+8,Ha+4);
+break;
+case 32:*l=F[1];
+l[1]=G;
+l[2]=H;
+Na=*C;
+Oa=r4(C+4);
+Pa=C[8];
+Qa=C[12];
+Ra=r4(C+16);
+Sa=E+(i64)((u64)I*48);
+Ta=*Sa==47;
+Ua=E+(i64)((u64)(Ta?q4(Sa+4):I)*48);
+if(*Ua==31){
+Va=Qa!=0;
+Wa=q4(Ua+8);
+Xa=q4(Ua+4);
+Ya=Ua[3];
+Za=Va?Ra:(Ta?q4(Sa+8):0);
+ab=Ua[2]&1;
+w4(m,Na);
+w4(m+4,Oa);
+m[8]=Pa;
+z3(m+9);
+w4(m+12,Va|Ta);
+w4(m+16,Za);
+fill_function_right_5c9(a,b,l,Ya,ab,Xa,Wa,m);}
+else{
+memcpy(i,d+1,3);
+memcpy(j,d+9,3);
+memcpy(k,d+13,3);
+bb=r8(b+8);
+cb=rp(b)+bb*36;
+x4(cb,0);
+x4(cb+4,I);
+x4(cb+8,1);
+x4(cb+12,0);
+cb[16]=Na;
+memcpy(cb+17,i,3);
+x4(cb+20,Oa);
+cb[24]=Pa;
+memcpy(cb+25,j,3);
+cb[28]=Qa;
+memcpy(cb+29,k,3);
+x4(cb+32,Ra);
+w8(b+8,bb+1);}
+break;
+case 33:memcpy(h,d,20);
+db=r8(b+8);
+eb=rp(b)+db*36;
+x4(eb,0);
+x4(eb+4,K);
+x4(eb+8,1);
+x4(eb+12,0);
+memcpy(eb+16,h,20);
+w8(b+8,db+1);
+break;
+case 34:memcpy(g,d,20);
+fb=r8(b+8);
+gb=rp(b)+fb*36;
+x4(gb,0);
+x4(gb+4,I);
+x4(gb+8,1);
+x4(gb+12,0);
+memcpy(gb+16,g,20);
+w8(b+8,fb+1);
+break;
+case 18:memcpy(e,d,20);
+z24(f);
+argument_of_c35(f,a,I,J,e);
+hb=r4(f);
+ib=E+(i64)((u64)hb*48);
+if(*(E+(i64)((u64)(*ib==47?q4(ib+4):hb)*48))!=19){
+jb=r8(b+8);
+kb=rp(b)+jb*36;
+x4(kb,0);
+x4(kb+4,hb);
+x4(kb+8,1);
+x4(kb+12,0);
+memcpy(kb+16,f+4,20);
+w8(b+8,jb+1);}
+break;
+case 31:fill_function_right_5c9(a,b,D,H,G&1,I,J,C);
 break;
 case 0:case 1:case 2:case 3:case 4:case 5:case 6:case 7:case 8:case 9:case 10:case 11:case 12:case 13:case 14:case 15:case 16:case 17:case 19:case 20:case 21:case 22:case 23:case 24:case 35:case 36:case 37:case 38:case 39:case 40:case 41:case 42:case 43:case 44:case 45:case 46:case 47:break;
 default:NEVER;
@@ -29484,122 +29710,28 @@ return;
 /* sym_demangle::workspace::Workspace::link */
 static void link_57d(u8* a,u8* b)
 {
-A16 u8 c[68],d[20],e[48],f[12],g[32],h[48],i[40],j[28],k[56],l[12],m[32],n[16],o[12],p[32],q[16],r[12],s[32],t[48],u[40],v[28],w[56],x[12],y[32],z[16],A[12],B[32],C[12],D[12];
-u64 E,F,G,H,I,M,P,R,T,U,W,Y,aa,da,fa,ma,na,pa,ra,ya,za,Ca,Ea,Ja,Na,Pa,Va,Ya,Za,bb,cb,eb,jb,pb,rb,tb,wb,yb,Bb,Fb,Hb,Ib,Kb,Mb,Ob,Rb,Tb,bc,fc,pc,sc,uc,wc,yc,zc,Bc,Dc,Ec,Hc,Ic,Kc,Lc,Mc,Pc,Sc,Tc,Vc,Wc,Yc,cd,dd,fd,hd,jd,md,nd,pd,qd,sd,ud,zd,Ad,Cd,Ed,Hd,Jd,Ld,Nd,Rd,Sd,Ud,Wd,Xd,ae,ce,ge,ie,je,le,oe,pe,se,xe,Ae,Ce,Fe,Ge,Ie,Le,Me,Oe,Se,Ue,Ye,bf,ef,ff,hf,jf,lf,of,qf,rf,tf,zf,Bf,Df,Gf,If,Lf,Pf,Rf,Sf,Uf,Wf,Yf,bg,dg,jg,lg,mg,og,sg;
-u8 J,Q,V,Z,oa,qa,sa,va,xa,Ba,Da,Ha,Ia,Ka,Ra,Sa,Ta,ab,db,ib,nb,qb,Sb,Xb,Yb,ac,dc,hc,xc,Ac,Jc,Nc,Uc,Xc,ed,kd,od,td,Bd,Md,Od,Vd,Zd,be,qe,re,ue,we,ze,Be,Ee,Ke,Ne,Pe,We,Xe,Ze,gf,kf,sf,xf,Af,cg,hg,ig,ng;
-u32 K,L,ga,ha,ka,la,ta,wa,Ga,La,Qa,fb,lb,mb,ob,sb,ub,vb,xb,zb,Ab,Cb,Db,Eb,Gb,Jb,Lb,Nb,Pb,Qb,Ub,Wb,ic,jc,kc,mc,nc,oc,rc,tc,Zc,ld,vd,Id,Pd,Td,ee,fe,me,ve,Qe,Ve,mf,vf,wf,yf,Cf,Ef,Ff,Hf,Jf,Kf,Mf,Nf,Of,Qf,Tf,Vf,Xf,Zf,ag,eg,gg,qg,rg;
-u8 *N,*O,*S,*X,*ba,*ca,*ea,*ia,*ua,*Fa,*Ma,*Oa,*Ua,*Wa,*Xa,*gb,*hb,*kb,*Vb,*Zb,*cc,*ec,*gc,*lc,*qc,*Cc,*Fc,*Gc,*Oc,*Qc,*Rc,*ad,*bd,*gd,*id,*xd,*yd,*Dd,*Fd,*Qd,*de,*ke,*ne,*te,*De,*He,*Je,*Re,*Te,*af,*cf,*df,*nf,*pf,*uf,*fg,*kg,*pg;
-u16 ja,vc,Gd,Kd,he;
-s_8_64 Aa,Yd,ye;
-E=r8(b+8);
-z12(C);
-z12(D);
-if(r8(b+104)!=0)w8(b+104,0);
-if(r8(b+128)!=0)w8(b+128,0);
-if(r8(b+152)!=0)w8(b+152,0);
-F=r8(b+160);
-G=0;
-L1:if(F-G>63){
-H=F;
-I=G;}
-else{
-J=grow_amortized_21b(b+144);
-if(!J){
-K=4;
-L=0;
-goto L2;}
-H=r8(b+160);
-I=r8(b+152);}
-M=I+64;
-N=rp(b+144);
-O=N+(i64)(I<<3);
-if((u64)O-(u64)(u8*)t_z512<512)copy_bits_596(O);
-else zero_all(O,512);
-wp(b+144,N);
-w8(b+152,M);
-w8(b+160,H);
-if(M<=E){
-F=H;
-G=M;
-goto L1;}
-P=r8(b+104);
-w8(C,0);
-w4(C+8,0);
-if(r8(b+112)==P){
-Q=grow_amortized_ab4(b+96);
-if(!Q){
-K=4;
-L=0;
-goto L2;}
-R=r8(b+104);}
-else R=P;
-S=rp(b+96)+R*56;
-x4(S,1);
-x4(S+4,0);
-x8(S+8,0);
-memcpy(S+16,C,12);
-T=R+1;
-z28(S+28);
-w8(b+104,T);
-U=q8(C+4);
-if(r8(b+112)==T){
-V=grow_amortized_ab4(b+96);
-if(!V){
-K=4;
-L=0;
-goto L2;}
-W=r8(b+104);}
-else W=T;
-X=rp(b+96)+W*56;
-x4(X,4);
-z16(X+4);
-x8(X+20,U);
-Y=W+1;
-z28(X+28);
-w8(b+104,Y);
-w4(C,0);
-x8(C+4,0);
-if(r8(b+112)==Y){
-Z=grow_amortized_ab4(b+96);
-if(!Z){
-K=4;
-L=0;
-goto L2;}
-aa=r8(b+104);}
-else aa=Y;
-ba=rp(b+96)+aa*56;
-x4(ba,5);
-x4(ba+4,0);
-x8(ba+8,0);
-memcpy(ba+16,C,12);
-z28(ba+28);
-w8(b+104,aa+1);
-push_decimal_d10(D,b+96,0,0);
-if(*D==0){
+A16 u8 c[68],d[20],e[48],f[12];
+u32 g,i,j,k,l;
+u8 *h;
+u8 m;
+z12(f);
+restart_c41(f,b+96,r8(b+8));
+if(*f==0){
 if(r8(b+176)!=0)w8(b+176,0);
 if(r8(b+200)!=0)w8(b+200,0);
 z20(b+216);
-ca=rp(b);
-da=r8(b+8);
-ea=rp(b+56);
-fa=0;
-ga=0;
-ha=0;
-L3:ia=rp(b+168);
-if(fa==0){
-if(ga!=0){
-w4(b+216,ga);
-w4(b+220,ha);
-kc=r4(b);
+run_005(f,b+168,b+96,rp(b),r8(b+8),rp(b+56));
+if(*f==0){
+g=q4(b);
 memcpy(d,b+4,20);
 xp(b,(u8*)65536);
 z16(b+8);
 if(r8(b+200)==1){
-lc=rp(b+192);
-if(*lc==21){
-mc=r8(b+64);
-nc=r4(b+88)+ha;
-oc=r4(lc+4);
+h=rp(b+192);
+if(*h==21){
+i=r8(b+64);
+j=r4(b+220)+r4(b+88);
+k=r4(h+4);
 memcpy(e,b+96,48);
 xp(b+96,(u8*)65536);
 z16(b+104);
@@ -29609,1184 +29741,131 @@ memcpy(c,d,20);
 memcpy(c+20,e,48);
 x4(a,0);
 x4(a+4,0);
-x4(a+8,kc);
+x4(a+8,g);
 memcpy(a+12,c,68);
-x4(a+80,oc);
-x4(a+84,mc);
-x4(a+88,nc);
+x4(a+80,k);
+x4(a+84,i);
+x4(a+88,j);
 x4(a+92,0);
-goto L4;}}
-NEVER;}
-ja=q2(ea);
-ka=q4(ea+4);
-la=q4(ea+12);
-switch(la){
-case 2:if(r2(ea+16)!=65535)goto L5;
-ma=q8(ea+20);
-na=ma>>32;
-if(ja<48){
-oa=ja;
-switch(oa){
-case 14:pa=r8(b+200);
-if(r8(b+208)==pa){
-qa=grow_amortized_757(b+192);
-if(!qa){
-sa=4;
-ta=0;
-goto L6;}
-ra=r8(b+200);}
-else ra=pa;
-ua=rp(b+192)+(ra<<5);
-*ua=3;
-ua[1]=0;
-x2(ua+2,0);
-x8(ua+4,ma);
-z20(ua+12);
-w8(b+200,ra+1);
-break;
-case 13:case 39:case 40:case 42:va=ea[18];
-wa=q4(ea+28);
-z12(x);
-w8(y+24,0);
-w4(z,65535);
-w8(y,0);
-w4(y+8,ka);
-w4(y+12,2);
-w8(y+16,0);
-w2(y+24,ja);
-z[2]=va;
-x8(z+4,ma);
-w4(z+12,wa);
-take_any_22a(x,b+96,ca,y,b+192,z);
-if(*x!=0){
-sa=x[4];
-ta=r4(x+8);
-goto L6;}
-break;
-case 0:case 1:case 2:case 3:case 4:case 5:case 6:case 7:case 8:case 9:case 10:case 11:case 12:case 15:case 16:case 17:case 18:case 19:case 20:case 21:case 22:case 23:case 24:case 25:case 26:case 27:case 28:case 29:case 30:case 31:case 32:case 33:case 34:case 35:case 36:case 37:case 38:case 41:case 43:case 44:case 45:case 46:case 47:goto L7;
-default:goto L8;
-}
-z56(w);
-xa=oa;
-goto L9;}
-L7:ya=r8(b+200);
-za=ma&4294967295u;
-Aa=counted_number_820(ca+(i64)za,na-za);
-Ba=Aa.f0;
-Ca=Aa.f1;
-if(r8(b+208)==ya){
-Da=grow_amortized_757(b+192);
-if(!Da){
-sa=4;
-ta=0;
-goto L6;}
-Ea=r8(b+200);}
-else Ea=ya;
-Fa=rp(b+192)+(Ea<<5);
-x8(Fa,0);
-x8(Fa+8,Ba);
-x8(Fa+16,Ca);
-x8(Fa+24,0);
-w8(b+200,Ea+1);
-break;
-case 1:break;
-default:goto L5;
-}
-z56(w);
-if(ja>=48)goto L10;
-xa=ja;
-L9:switch(xa){
-case 14:if(r8(b+200)!=1)goto L10;
-if(*rp(b+192)!=3)goto L10;
-Ga=la;
-goto L11;
-case 10:Ha=*(ca+ka);
-if(r8(b+200)!=0)w8(b+200,0);
-if(r8(b+208)==0){
-Ia=grow_amortized_757(b+192);
-if(!Ia){
-Ka=4;
-La=0;
-break;}
-Ja=r8(b+200);}
-else Ja=0;
-Ma=rp(b+192)+(Ja<<5);
-*Ma=2;
-Ma[1]=Ha;
-z30(Ma+2);
-Na=Ja;
-goto L12;
-case 12:Oa=rp(b+192);
-Pa=r8(b+200);
-disambiguated_identifier_f72(u,ka,Oa,Pa);
-Qa=r4(u+8);
-Ra=*u;
-Sa=u[4];
-memcpy(v,u+12,28);
-if(Ra==0){
-if(Pa!=0)w8(b+200,0);
-if(r8(b+208)==0){
-Ta=grow_amortized_757(b+192);
-if(!Ta){
-Ka=4;
-La=0;
-break;}
-Ua=rp(b+192);
-Va=r8(b+200);}
-else{
-Ua=Oa;
-Va=0;}
-Wa=Ua+(Va<<5);
-x4(Wa,Qa);
-memcpy(Wa+4,v,28);
-Na=Va;
-goto L12;}
-Ka=Sa;
-La=Qa;
-break;
-case 2:if(r8(b+200)!=0){
-Xa=rp(b+192);
-switch(*Xa){
-case 4:Ya=r8(Xa+24);
-break;
-case 3:Ya=0;
-break;
-case 0:case 1:case 2:case 5:case 6:case 7:case 8:case 9:case 10:case 11:case 12:case 13:case 14:case 15:case 16:case 17:case 18:case 19:case 20:case 21:Ka=0;
-La=0;
-goto L13;
-default:NEVER;
-}
-Za=q8(Xa+16);
-ab=Xa[12];
-bb=q8(Xa+4);
-cb=r8(b+104);
-if(r8(b+112)==cb){
-db=grow_amortized_ab4(b+96);
-if(!db){
-Ka=4;
-La=0;
-break;}
-eb=r8(b+104);}
-else eb=cb;
-fb=cb;
-gb=rp(b+96)+eb*56;
-x4(gb,0);
-x4(gb+4,0);
-x4(gb+8,0);
-x8(gb+12,bb);
-x4(gb+20,ab);
-x8(gb+24,Za);
-x8(gb+32,Ya);
-z16(gb+40);
-w8(b+104,eb+1);
-if(r8(b+152)>ka){
-hb=rp(b+144)+(i64)((u64)ka<<3);
-x4(hb,1);
-x4(hb+4,fb);}
-if(r8(b+200)!=0)w8(b+200,0);
-if(r8(b+208)==0){
-ib=grow_amortized_757(b+192);
-if(!ib){
-Ka=4;
-La=0;
-break;}
-jb=r8(b+200);}
-else jb=0;
-kb=rp(b+192)+(jb<<5);
-*kb=12;
-kb[1]=0;
-x2(kb+2,0);
-x4(kb+4,fb);
-z24(kb+8);
-Na=jb;
-goto L12;}
-Ka=0;
-La=0;
-break;
-case 6:nested_402(w,rp(b+192),r8(b+200));
-lb=r4(w+8);
-if(*w==0){
-mb=r4(w+12);
-nb=lb;
-ob=lb&255;
-w4(t,ob);
-w4(t+4,mb);
-memcpy(t+8,w+16,40);
-pb=r8(b+104);
-qb=mb;
-switch(nb){
-case 0:switch(t[8]){
-case 0:rb=0;
-break;
-case 1:sb=r4(t+24);
-if(pb>sb)tb=r8(rp(b+96)+(i64)((u64)sb*56)+48);
-else tb=0;
-ub=r4(t+28);
-if(pb>ub)rb=umax64(r8(rp(b+96)+(i64)((u64)ub*56)+48),tb);
-else rb=tb;
-break;
-case 2:vb=r4(t+24);
-if(pb>vb)wb=r8(rp(b+96)+(i64)((u64)vb*56)+48);
-else wb=0;
-xb=r4(t+28);
-if(pb>xb)yb=umax64(r8(rp(b+96)+(i64)((u64)xb*56)+48),wb);
-else yb=wb;
-zb=r4(t+32);
-if(pb>zb)rb=umax64(r8(rp(b+96)+(i64)((u64)zb*56)+48),yb);
-else rb=yb;
-break;
-case 3:Ab=r4(t+12);
-if(pb>Ab)Bb=r8(rp(b+96)+(i64)((u64)Ab*56)+48);
-else Bb=0;
-Cb=r4(t+16);
-if(pb>Cb)rb=umax64(r8(rp(b+96)+(i64)((u64)Cb*56)+48),Bb);
-else rb=Bb;
-break;
-case 4:Db=r4(t+12);
-if(pb>Db)rb=r8(rp(b+96)+(i64)((u64)Db*56)+48);
-else rb=0;
-break;
-case 5:Eb=r4(t+12);
-if(pb>Eb)Fb=r8(rp(b+96)+(i64)((u64)Eb*56)+48);
-else Fb=0;
-Gb=r4(t+16);
-if(pb>Gb)rb=umax64(r8(rp(b+96)+(i64)((u64)Gb*56)+48),Fb);
-else rb=Fb;
-break;
-default:NEVER;
-}
-break;
-case 1:Hb=arguments_need_287(b+96,t+8);
-rb=Hb;
-break;
-case 2:Ib=type_need_e25(b+96,t+8);
-rb=Ib;
-break;
-case 3:if(qb==0)rb=0;
-else{
-Jb=r4(t+8);
-if(pb>Jb)Kb=r8(rp(b+96)+(i64)((u64)Jb*56)+48);
-else Kb=0;
-Lb=r4(t+12);
-if(pb>Lb)rb=umax64(r8(rp(b+96)+(i64)((u64)Lb*56)+48),Kb);
-else rb=Kb;}
-break;
-case 4:Mb=bounds_need_155(b+96,t+4);
-rb=Mb;
-break;
-case 5:if(qb==0)rb=0;
-else{
-Nb=r4(t+28);
-if(pb>Nb)Ob=r8(rp(b+96)+(i64)((u64)Nb*56)+48);
-else Ob=0;
-Pb=r4(t+32);
-if(pb>Pb)rb=umax64(r8(rp(b+96)+(i64)((u64)Pb*56)+48),Ob);
-else rb=Ob;}
-break;
-case 6:rb=0;
-break;
-case 7:if(t[8]==1){
-Qb=r4(t+12);
-if(pb>Qb)Rb=r8(rp(b+96)+(i64)((u64)Qb*56)+48);
-else Rb=0;}
-else Rb=0;
-if(pb>mb)rb=umax64(Rb,r8(rp(b+96)+(i64)((u64)mb*56)+48));
-else rb=Rb;
-break;
-default:NEVER;
-}
-if(r8(b+112)==pb){
-Sb=grow_amortized_ab4(b+96);
-if(!Sb){
-Ka=4;
-La=0;
-break;}
-Tb=r8(b+104);}
-else Tb=pb;
-Ub=pb;
-Vb=rp(b+96)+Tb*56;
-x4(Vb,ob);
-x4(Vb+4,mb);
-memcpy(Vb+8,w+16,40);
-x8(Vb+48,rb);
-w8(b+104,Tb+1);
-switch(nb){
-case 0:Wb=1;
-Xb=12;
-break;
-case 2:Wb=2;
-Xb=13;
-break;
-case 6:Wb=3;
-Xb=14;
-break;
-case 1:Yb=15;
-goto L14;
-case 3:Yb=16;
-goto L14;
-case 4:Yb=17;
-goto L14;
-case 5:Yb=18;
-goto L14;
-case 7:Yb=21;
-goto L14;
-default:NEVER;
-}
-if(r8(b+152)>ka){
-Zb=rp(b+144)+(i64)((u64)ka<<3);
-x4(Zb,Wb);
-x4(Zb+4,Ub);
-Yb=Xb;}
-else Yb=Xb;
-L14:if(r8(b+200)!=0)w8(b+200,0);
-if(r8(b+208)==0){
-ac=grow_amortized_757(b+192);
-if(!ac){
-Ka=4;
-La=0;
-break;}
-bc=r8(b+200);}
-else bc=0;
-cc=rp(b+192)+(bc<<5);
-*cc=Yb;
-cc[1]=0;
-x2(cc+2,0);
-x4(cc+4,Ub);
-z24(cc+8);
-Na=bc;
-goto L12;}
-Ka=w[4];
-La=lb;
-break;
-case 0:case 1:case 3:case 4:case 5:case 7:case 8:case 9:case 11:case 13:case 15:case 16:case 17:case 18:case 19:case 20:case 21:case 22:case 23:case 24:case 25:case 26:case 27:case 28:case 29:case 30:case 31:case 32:case 33:case 34:case 35:case 36:case 37:case 38:case 39:case 40:case 41:case 42:case 43:case 44:case 45:case 46:case 47:goto L10;
-default:goto L8;
-}
-L13:sa=Ka;
-ta=La;
-goto L6;
-L12:w8(b+200,Na+1);
-Ga=la;
-goto L11;
-L10:z12(r);
-z32(s);
-w4(s+8,ka);
-w4(s+12,la);
-w2(s+24,ja);
-close_any_b3b(r,b+96,ca,da,s,b+192);
-if(*r==0){
-Ga=la;
-goto L11;}
-sa=r[4];
-ta=r4(r+8);
-goto L6;
-L5:if(r8(b+184)==0){
-dc=grow_amortized_757(b+168);
-if(!dc){
-sa=4;
-ta=0;
-goto L6;}
-ec=rp(b+168);
-fc=r8(b+176);}
-else{
-ec=ia;
-fc=0;}
-gc=ec+(fc<<5);
-x8(gc,0);
-x4(gc+8,ka);
-x4(gc+12,la);
-x8(gc+16,0);
-x2(gc+24,ja);
-z6(gc+26);
-w8(b+176,fc+1);
-Ga=1;
-goto L11;
-L6:hc=sa;
-ic=ta;
-goto L15;
-L11:jc=Ga;
-goto L16;}
-pc=fa<<5;
-qc=ia+(i64)pc;
-rc=r4(qc-20);
-if(rc==ga){
-sc=q8(qc-32);
-tc=q4(qc-24);
-uc=q8(qc-16);
-vc=q2(qc-8);
-if(vc<48){
-switch((u8)vc){
-case 14:if(r8(b+200)-sc!=1)goto L17;
-if(*(rp(b+192)+(i64)(sc<<5))!=3)goto L17;
-wc=fa;
-goto L18;
-case 10:xc=*(ca+tc);
-yc=r8(b+200);
-if(yc>sc){
-w8(b+200,sc);
-zc=sc;}
-else zc=yc;
-if(r8(b+208)==zc){
-Ac=grow_amortized_757(b+192);
-if(!Ac){
-hc=4;
-ic=0;
-goto L15;}
-Bc=r8(b+200);}
-else Bc=zc;
-Cc=rp(b+192)+(Bc<<5);
-*Cc=2;
-Cc[1]=xc;
-z30(Cc+2);
-Dc=Bc;
-break;
-case 12:Ec=r8(b+200);
-if(Ec==sc){
-hc=0;
-ic=0;
-goto L15;}
-Fc=rp(b+192);
-Gc=Fc+(i64)(sc<<5);
-if(*Gc!=0){
-hc=0;
-ic=0;
-goto L15;}
-if(Ec-sc==1){
-hc=0;
-ic=0;
-goto L15;}
-if(Gc[32]!=3){
-hc=0;
-ic=0;
-goto L15;}
-Hc=q8(Gc+16);
-if(Gc[8]!=1||Hc==18446744073709551615u){
-hc=2;
-ic=tc;
-goto L15;}
-Ic=q8(Gc+36);
-Jc=Gc[44];
-Kc=q8(Gc+48);
-Lc=Hc+1;
-if(Ec>sc){
-w8(b+200,sc);
-Mc=sc;}
-else Mc=Ec;
-if(r8(b+208)==Mc){
-Nc=grow_amortized_757(b+192);
-if(!Nc){
-hc=4;
-ic=0;
-goto L15;}
-Oc=rp(b+192);
-Pc=r8(b+200);}
-else{
-Oc=Fc;
-Pc=Mc;}
-Qc=Oc+(Pc<<5);
-x4(Qc,4);
-x8(Qc+4,Ic);
-x4(Qc+12,Jc);
-x8(Qc+16,Kc);
-x8(Qc+24,Lc);
-Dc=Pc;
-break;
-case 2:if(r8(b+200)==sc){
-hc=0;
-ic=0;
-goto L15;}
-Rc=rp(b+192)+(i64)(sc<<5);
-switch(*Rc){
-case 4:Sc=r8(Rc+24);
-break;
-case 3:Sc=0;
-break;
-case 0:case 1:case 2:case 5:case 6:case 7:case 8:case 9:case 10:case 11:case 12:case 13:case 14:case 15:case 16:case 17:case 18:case 19:case 20:case 21:hc=0;
-ic=0;
-goto L15;
-default:NEVER;
-}
-Tc=q8(Rc+16);
-Uc=Rc[12];
-Vc=q8(Rc+4);
-Wc=r8(b+104);
-if(r8(b+112)==Wc){
-Xc=grow_amortized_ab4(b+96);
-if(!Xc){
-hc=4;
-ic=0;
-goto L15;}
-Yc=r8(b+104);}
-else Yc=Wc;
-Zc=Wc;
-ad=rp(b+96)+Yc*56;
-x4(ad,0);
-x4(ad+4,0);
-x4(ad+8,0);
-x8(ad+12,Vc);
-x4(ad+20,Uc);
-x8(ad+24,Tc);
-x8(ad+32,Sc);
-z16(ad+40);
-w8(b+104,Yc+1);
-if(r8(b+152)>tc){
-bd=rp(b+144)+(i64)((u64)tc<<3);
-x4(bd,1);
-x4(bd+4,Zc);}
-cd=r8(b+200);
-if(cd>sc){
-w8(b+200,sc);
-dd=sc;}
-else dd=cd;
-if(r8(b+208)==dd){
-ed=grow_amortized_757(b+192);
-if(!ed){
-hc=4;
-ic=0;
-goto L15;}
-fd=r8(b+200);}
-else fd=dd;
-gd=rp(b+192)+(fd<<5);
-*gd=12;
-gd[1]=0;
-x2(gd+2,0);
-x4(gd+4,Zc);
-z24(gd+8);
-Dc=fd;
-break;
-case 6:hd=r8(b+200);
-if(hd==sc){
-hc=0;
-ic=0;
-goto L15;}
-id=rp(b+192)+(i64)(sc<<5);
-if(*id!=2){
-hc=0;
-ic=0;
-goto L15;}
-jd=hd-sc;
-if(jd==1){
-hc=0;
-ic=0;
-goto L15;}
-if(id[32]!=12){
-hc=0;
-ic=0;
-goto L15;}
-if(jd==2){
-hc=0;
-ic=0;
-goto L15;}
-kd=id[1];
-ld=r4(id+36);
-switch(id[64]){
-case 4:md=r8(id+88);
-break;
-case 3:md=0;
-break;
-case 0:case 1:case 2:case 5:case 6:case 7:case 8:case 9:case 10:case 11:case 12:case 13:case 14:case 15:case 16:case 17:case 18:case 19:case 20:case 21:hc=0;
-ic=0;
-goto L15;
-default:NEVER;
-}
-nd=q8(id+80);
-od=id[76];
-pd=q8(id+68);
-qd=r8(b+104);
-if(qd>ld)sd=r8(rp(b+96)+(i64)((u64)ld*56)+48);
-else sd=0;
-if(r8(b+112)==qd){
-td=grow_amortized_ab4(b+96);
-if(!td){
-hc=4;
-ic=0;
-goto L15;}
-ud=r8(b+104);}
-else ud=qd;
-vd=qd;
-xd=rp(b+96)+ud*56;
-x4(xd,0);
-x4(xd+4,0);
-xd[8]=4;
-xd[9]=kd;
-x2(xd+10,0);
-x4(xd+12,ld);
-x8(xd+16,pd);
-x4(xd+24,od);
-x8(xd+28,nd);
-x4(xd+36,0);
-x8(xd+40,md);
-x8(xd+48,sd);
-w8(b+104,ud+1);
-if(r8(b+152)>tc){
-yd=rp(b+144)+(i64)((u64)tc<<3);
-x4(yd,1);
-x4(yd+4,vd);}
-zd=r8(b+200);
-if(zd>sc){
-w8(b+200,sc);
-Ad=sc;}
-else Ad=zd;
-if(r8(b+208)==Ad){
-Bd=grow_amortized_757(b+192);
-if(!Bd){
-hc=4;
-ic=0;
-goto L15;}
-Cd=r8(b+200);}
-else Cd=Ad;
-Dd=rp(b+192)+(Cd<<5);
-*Dd=12;
-Dd[1]=0;
-x2(Dd+2,0);
-x4(Dd+4,vd);
-z24(Dd+8);
-Dc=Cd;
-break;
-case 0:case 1:case 3:case 4:case 5:case 7:case 8:case 9:case 11:case 13:case 15:case 16:case 17:case 18:case 19:case 20:case 21:case 22:case 23:case 24:case 25:case 26:case 27:case 28:case 29:case 30:case 31:case 32:case 33:case 34:case 35:case 36:case 37:case 38:case 39:case 40:case 41:case 42:case 43:case 44:case 45:case 46:case 47:goto L17;
-default:goto L8;
-}
-w8(b+200,Dc+1);
-goto L19;}
-L17:z12(A);
-w8(B+24,0);
-w8(B,sc);
-w4(B+8,tc);
-w4(B+12,ga);
-w8(B+16,uc);
-w2(B+24,vc);
-close_any_b3b(A,b+96,ca,da,B,b+192);
-if(*A!=0){
-hc=A[4];
-ic=r4(A+8);
-goto L15;}
-L19:Ed=r8(b+176);
-if(Ed==0){
-jc=ga;
-goto L16;}
-wc=Ed;
-L18:w8(b+176,wc-1);
-jc=ga;
-goto L16;}
-Fd=ea+((u64)ga<<4);
-Gd=q2(Fd);
-Hd=q8(Fd+4);
-Id=q4(Fd+12);
-if(Gd==65535){
-Jd=Hd>>32;
-Kd=q2(qc-8);
-if(Kd<48){
-switch((u8)Kd){
-case 14:Ld=r8(b+200);
-if(r8(b+208)==Ld){
-Md=grow_amortized_757(b+192);
-if(!Md){
-Od=4;
-Pd=0;
-goto L20;}
-Nd=r8(b+200);}
-else Nd=Ld;
-Qd=rp(b+192)+(Nd<<5);
-*Qd=3;
-Qd[1]=0;
-x2(Qd+2,0);
-x8(Qd+4,Hd);
-z20(Qd+12);
-Rd=Nd;
-goto L21;
-case 13:case 39:case 40:case 42:Sd=q8(qc-32);
-Td=q4(qc-24);
-Ud=q8(qc-16);
-Vd=q2(Fd+2);
-z12(l);
-w8(m+24,0);
-w4(n,65535);
-w8(m,Sd);
-w4(m+8,Td);
-w4(m+12,rc);
-w8(m+16,Ud);
-w2(m+24,Kd);
-n[2]=Vd;
-x8(n+4,Hd);
-w4(n+12,Id);
-take_any_22a(l,b+96,ca,m,b+192,n);
-if(*l==0)goto L22;
-Od=l[4];
-Pd=r4(l+8);
-goto L20;
-case 0:case 1:case 2:case 3:case 4:case 5:case 6:case 7:case 8:case 9:case 10:case 11:case 12:case 15:case 16:case 17:case 18:case 19:case 20:case 21:case 22:case 23:case 24:case 25:case 26:case 27:case 28:case 29:case 30:case 31:case 32:case 33:case 34:case 35:case 36:case 37:case 38:case 41:case 43:case 44:case 45:case 46:case 47:break;
-default:goto L8;
-}}
-Wd=r8(b+200);
-Xd=Hd&4294967295u;
-Yd=counted_number_820(ca+(i64)Xd,Jd-Xd);
-Zd=Yd.f0;
-ae=Yd.f1;
-if(r8(b+208)==Wd){
-be=grow_amortized_757(b+192);
-if(!be){
-Od=4;
-Pd=0;
-goto L20;}
-ce=r8(b+200);}
-else ce=Wd;
-de=rp(b+192)+(ce<<5);
-x8(de,0);
-x8(de+8,Zd);
-x8(de+16,ae);
-x8(de+24,0);
-Rd=ce;
-L21:w8(b+200,Rd+1);
-L22:ee=ga+1;
-goto L23;}
-fe=Hd;
-ge=q8(qc-16);
-he=q2(qc-8);
-ie=r8(b+200);
-if((u16)(he-27)<2){
-je=q8(qc-32);
-ke=rp(b+192)+(i64)(je<<5);
-if(he==27){
-if(ie==je){
-le=ge;
-goto L24;}
-if(*ke!=6){
-le=ge;
-goto L24;}}
-else{
-if(!((ie!=je)&(ie-je<2))){
-le=ge;
-goto L24;}
-if(*ke!=6){
-le=ge;
-goto L24;}}
-le=uadd64(r2(ke+2),ge);}
-else le=ge;
-L24:me=ga+1;
-if(Id==ga+2){
-ne=ea+((u64)me<<4);
-if(r2(ne)==65535){
-oe=q8(ne+4);
-pe=oe>>32;
-if(Gd<48){
-qe=Gd;
-switch(qe){
-case 14:if(r8(b+208)==ie){
-re=grow_amortized_757(b+192);
-if(!re){
-Od=4;
-Pd=0;
-goto L20;}
-se=r8(b+200);}
-else se=ie;
-te=rp(b+192)+(se<<5);
-*te=3;
-te[1]=0;
-x2(te+2,0);
-x8(te+4,oe);
-z20(te+12);
-w8(b+200,se+1);
-break;
-case 13:case 39:case 40:case 42:ue=ne[2];
-ve=q4(ne+12);
-z12(o);
-w8(p+24,0);
-w4(q,65535);
-w8(p,ie);
-w4(p+8,fe);
-w4(p+12,Id);
-w8(p+16,le);
-w2(p+24,Gd);
-q[2]=ue;
-x8(q+4,oe);
-w4(q+12,ve);
-take_any_22a(o,b+96,ca,p,b+192,q);
-if(*o!=0){
-Od=o[4];
-Pd=r4(o+8);
-goto L20;}
-break;
-case 0:case 1:case 2:case 3:case 4:case 5:case 6:case 7:case 8:case 9:case 10:case 11:case 12:case 15:case 16:case 17:case 18:case 19:case 20:case 21:case 22:case 23:case 24:case 25:case 26:case 27:case 28:case 29:case 30:case 31:case 32:case 33:case 34:case 35:case 36:case 37:case 38:case 41:case 43:case 44:case 45:case 46:case 47:goto L25;
-default:goto L8;
-}
-z56(k);
-we=qe;
-goto L26;}
-L25:xe=oe&4294967295u;
-ye=counted_number_820(ca+(i64)xe,pe-xe);
-ze=ye.f0;
-Ae=ye.f1;
-if(r8(b+208)==ie){
-Be=grow_amortized_757(b+192);
-if(!Be){
-Od=4;
-Pd=0;
-goto L20;}
-Ce=r8(b+200);}
-else Ce=ie;
-De=rp(b+192)+(Ce<<5);
-x8(De,0);
-x8(De+8,ze);
-x8(De+16,Ae);
-x8(De+24,0);
-w8(b+200,Ce+1);
-goto L27;}}
-if(Id!=me){
-if(r8(b+184)==fa){
-Ee=grow_amortized_757(b+168);
-if(!Ee){
-Od=4;
-Pd=0;
-goto L20;}
-Fe=r8(b+176);
-Ge=Fe<<5;
-He=rp(b+168);
-Ie=Fe;}
-else{
-Ge=pc;
-He=ia;
-Ie=fa;}
-Je=He+Ge;
-x8(Je,ie);
-x4(Je+8,fe);
-x4(Je+12,Id);
-x8(Je+16,le);
-x2(Je+24,Gd);
-z6(Je+26);
-w8(b+176,Ie+1);
-ee=me;
-goto L23;}
-L27:z56(k);
-if(Gd>=48)goto L28;
-we=Gd;
-L26:switch(we){
-case 14:if(r8(b+200)-ie!=1)goto L28;
-if(*(rp(b+192)+(i64)(ie<<5))!=3)goto L28;
-ee=Id;
-goto L23;
-case 10:Ke=*(ca+(Hd&4294967295u));
-Le=r8(b+200);
-if(Le>ie){
-w8(b+200,ie);
-Me=ie;}
-else Me=Le;
-if(r8(b+208)==Me){
-Ne=grow_amortized_757(b+192);
-if(!Ne){
-Pe=4;
-Qe=0;
-break;}
-Oe=r8(b+200);}
-else Oe=Me;
-Re=rp(b+192)+(Oe<<5);
-*Re=2;
-Re[1]=Ke;
-z30(Re+2);
-Se=Oe;
-goto L29;
-case 12:Te=rp(b+192);
-Ue=r8(b+200);
-disambiguated_identifier_f72(i,fe,Te+(i64)(ie<<5),Ue-ie);
-Ve=r4(i+8);
-We=*i;
-Xe=i[4];
-memcpy(j,i+12,28);
-if(We==0){
-if(Ue>ie){
-w8(b+200,ie);
-Ye=ie;}
-else Ye=Ue;
-if(r8(b+208)==Ye){
-Ze=grow_amortized_757(b+192);
-if(!Ze){
-Pe=4;
-Qe=0;
-break;}
-af=rp(b+192);
-bf=r8(b+200);}
-else{
-af=Te;
-bf=Ye;}
-cf=af+(bf<<5);
-x4(cf,Ve);
-memcpy(cf+4,j,28);
-Se=bf;
-goto L29;}
-Pe=Xe;
-Qe=Ve;
-break;
-case 2:if(r8(b+200)!=ie){
-df=rp(b+192)+(i64)(ie<<5);
-switch(*df){
-case 4:ef=r8(df+24);
-break;
-case 3:ef=0;
-break;
-case 0:case 1:case 2:case 5:case 6:case 7:case 8:case 9:case 10:case 11:case 12:case 13:case 14:case 15:case 16:case 17:case 18:case 19:case 20:case 21:Pe=0;
-Qe=0;
-goto L30;
-default:NEVER;
-}
-ff=q8(df+16);
-gf=df[12];
-hf=q8(df+4);
-jf=r8(b+104);
-if(r8(b+112)==jf){
-kf=grow_amortized_ab4(b+96);
-if(!kf){
-Pe=4;
-Qe=0;
-break;}
-lf=r8(b+104);}
-else lf=jf;
-mf=jf;
-nf=rp(b+96)+lf*56;
-x4(nf,0);
-x4(nf+4,0);
-x4(nf+8,0);
-x8(nf+12,hf);
-x4(nf+20,gf);
-x8(nf+24,ff);
-x8(nf+32,ef);
-z16(nf+40);
-w8(b+104,lf+1);
-of=Hd&4294967295u;
-if(r8(b+152)>of){
-pf=rp(b+144)+(i64)(of<<3);
-x4(pf,1);
-x4(pf+4,mf);}
-qf=r8(b+200);
-if(qf>ie){
-w8(b+200,ie);
-rf=ie;}
-else rf=qf;
-if(r8(b+208)==rf){
-sf=grow_amortized_757(b+192);
-if(!sf){
-Pe=4;
-Qe=0;
-break;}
-tf=r8(b+200);}
-else tf=rf;
-uf=rp(b+192)+(tf<<5);
-*uf=12;
-uf[1]=0;
-x2(uf+2,0);
-x4(uf+4,mf);
-z24(uf+8);
-Se=tf;
-goto L29;}
-Pe=0;
-Qe=0;
-break;
-case 6:nested_402(k,rp(b+192)+(i64)(ie<<5),r8(b+200)-ie);
-vf=r4(k+8);
-if(*k==0){
-wf=r4(k+12);
-xf=vf;
-yf=vf&255;
-w4(h,yf);
-w4(h+4,wf);
-memcpy(h+8,k+16,40);
-zf=r8(b+104);
-Af=wf;
-switch(xf){
-case 0:switch(h[8]){
-case 0:Bf=0;
-break;
-case 1:Cf=r4(h+24);
-if(zf>Cf)Df=r8(rp(b+96)+(i64)((u64)Cf*56)+48);
-else Df=0;
-Ef=r4(h+28);
-if(zf>Ef)Bf=umax64(r8(rp(b+96)+(i64)((u64)Ef*56)+48),Df);
-else Bf=Df;
-break;
-case 2:Ff=r4(h+24);
-if(zf>Ff)Gf=r8(rp(b+96)+(i64)((u64)Ff*56)+48);
-else Gf=0;
-Hf=r4(h+28);
-if(zf>Hf)If=umax64(r8(rp(b+96)+(i64)((u64)Hf*56)+48),Gf);
-else If=Gf;
-Jf=r4(h+32);
-if(zf>Jf)Bf=umax64(r8(rp(b+96)+(i64)((u64)Jf*56)+48),If);
-else Bf=If;
-break;
-case 3:Kf=r4(h+12);
-if(zf>Kf)Lf=r8(rp(b+96)+(i64)((u64)Kf*56)+48);
-else Lf=0;
-Mf=r4(h+16);
-if(zf>Mf)Bf=umax64(r8(rp(b+96)+(i64)((u64)Mf*56)+48),Lf);
-else Bf=Lf;
-break;
-case 4:Nf=r4(h+12);
-if(zf>Nf)Bf=r8(rp(b+96)+(i64)((u64)Nf*56)+48);
-else Bf=0;
-break;
-case 5:Of=r4(h+12);
-if(zf>Of)Pf=r8(rp(b+96)+(i64)((u64)Of*56)+48);
-else Pf=0;
-Qf=r4(h+16);
-if(zf>Qf)Bf=umax64(r8(rp(b+96)+(i64)((u64)Qf*56)+48),Pf);
-else Bf=Pf;
-break;
-default:NEVER;
-}
-break;
-case 1:Rf=arguments_need_287(b+96,h+8);
-Bf=Rf;
-break;
-case 2:Sf=type_need_e25(b+96,h+8);
-Bf=Sf;
-break;
-case 3:if(Af==0)Bf=0;
-else{
-Tf=r4(h+8);
-if(zf>Tf)Uf=r8(rp(b+96)+(i64)((u64)Tf*56)+48);
-else Uf=0;
-Vf=r4(h+12);
-if(zf>Vf)Bf=umax64(r8(rp(b+96)+(i64)((u64)Vf*56)+48),Uf);
-else Bf=Uf;}
-break;
-case 4:Wf=bounds_need_155(b+96,h+4);
-Bf=Wf;
-break;
-case 5:if(Af==0)Bf=0;
-else{
-Xf=r4(h+28);
-if(zf>Xf)Yf=r8(rp(b+96)+(i64)((u64)Xf*56)+48);
-else Yf=0;
-Zf=r4(h+32);
-if(zf>Zf)Bf=umax64(r8(rp(b+96)+(i64)((u64)Zf*56)+48),Yf);
-else Bf=Yf;}
-break;
-case 6:Bf=0;
-break;
-case 7:if(h[8]==1){
-ag=r4(h+12);
-if(zf>ag)bg=r8(rp(b+96)+(i64)((u64)ag*56)+48);
-else bg=0;}
-else bg=0;
-if(zf>wf)Bf=umax64(bg,r8(rp(b+96)+(i64)((u64)wf*56)+48));
-else Bf=bg;
-break;
-default:NEVER;
-}
-if(r8(b+112)==zf){
-cg=grow_amortized_ab4(b+96);
-if(!cg){
-Pe=4;
-Qe=0;
-break;}
-dg=r8(b+104);}
-else dg=zf;
-eg=zf;
-fg=rp(b+96)+dg*56;
-x4(fg,yf);
-x4(fg+4,wf);
-memcpy(fg+8,k+16,40);
-x8(fg+48,Bf);
-w8(b+104,dg+1);
-switch(xf){
-case 0:gg=1;
-hg=12;
-break;
-case 2:gg=2;
-hg=13;
-break;
-case 6:gg=3;
-hg=14;
-break;
-case 1:ig=15;
-goto L31;
-case 3:ig=16;
-goto L31;
-case 4:ig=17;
-goto L31;
-case 5:ig=18;
-goto L31;
-case 7:ig=21;
-goto L31;
-default:NEVER;
-}
-jg=Hd&4294967295u;
-if(r8(b+152)>jg){
-kg=rp(b+144)+(i64)(jg<<3);
-x4(kg,gg);
-x4(kg+4,eg);
-ig=hg;}
-else ig=hg;
-L31:lg=r8(b+200);
-if(lg>ie){
-w8(b+200,ie);
-mg=ie;}
-else mg=lg;
-if(r8(b+208)==mg){
-ng=grow_amortized_757(b+192);
-if(!ng){
-Pe=4;
-Qe=0;
-break;}
-og=r8(b+200);}
-else og=mg;
-pg=rp(b+192)+(og<<5);
-*pg=ig;
-pg[1]=0;
-x2(pg+2,0);
-x4(pg+4,eg);
-z24(pg+8);
-Se=og;
-goto L29;}
-Pe=k[4];
-Qe=vf;
-break;
-case 0:case 1:case 3:case 4:case 5:case 7:case 8:case 9:case 11:case 13:case 15:case 16:case 17:case 18:case 19:case 20:case 21:case 22:case 23:case 24:case 25:case 26:case 27:case 28:case 29:case 30:case 31:case 32:case 33:case 34:case 35:case 36:case 37:case 38:case 39:case 40:case 41:case 42:case 43:case 44:case 45:case 46:case 47:goto L28;
-default:goto L8;
-}
-L30:Od=Pe;
-Pd=Qe;
-goto L20;
-L29:w8(b+200,Se+1);
-ee=Id;
-goto L23;
-L28:z12(f);
-w8(g+24,0);
-w8(g,ie);
-w4(g+8,fe);
-w4(g+12,Id);
-w8(g+16,le);
-w2(g+24,Gd);
-close_any_b3b(f,b+96,ca,da,g,b+192);
-if(*f==0){
-ee=Id;
-goto L23;}
-Od=f[4];
-Pd=r4(f+8);
-L20:hc=Od;
-ic=Pd;
-goto L15;
-L23:jc=ee;
-goto L16;
-L8:NEVER;
-L15:w4(b+220,ha+1);
-w4(b+224,1);
-w4(b+228,hc);
-w4(b+232,ic);
-qg=hc;
-rg=ic;
-goto L32;
-L16:fa=r8(b+176);
-ga=jc;
-ha=ha+1;
-goto L3;}
-sg=q8(D+4);
-K=(u32)sg&255;
-L=sg>>32;
-L2:qg=K;
-rg=L;
-L32:x4(a,1);
-x4(a+4,qg);
-x4(a+8,rg);
+goto L1;}}
+NEVER;}}
+l=r4(f+8);
+m=f[4];
+x4(a,1);
+x4(a+4,m);
+x4(a+8,l);
 z84(a+12);
-L4:return;
+L1:return;
+}
+
+/* rust_v0::mangling::V0Mangling::restart */
+static void restart_c41(u8* a,u8* b,u64 c)
+{
+A16 u8 d[12],e[12];
+u64 f,g,h,i,n,q,s,u,v,x,z,B,D;
+u8 j,k,r,w,A;
+u32 l,m;
+u8 *o,*p,*t,*y,*C;
+z12(d);
+z12(e);
+if(r8(b+8)!=0)w8(b+8,0);
+if(r8(b+32)!=0)w8(b+32,0);
+if(r8(b+56)!=0)w8(b+56,0);
+f=r8(b+64);
+g=0;
+L1:if(f-g>63){
+h=f;
+i=g;}
+else{
+j=grow_amortized_21b(b+48);
+if(!j){
+k=1;
+l=4;
+m=0;
+goto L2;}
+h=r8(b+64);
+i=r8(b+56);}
+n=i+64;
+o=rp(b+48);
+p=o+(i64)(i<<3);
+if((u64)p-(u64)(u8*)t_z512<512)copy_bits_596(p);
+else zero_all(p,512);
+wp(b+48,o);
+w8(b+56,n);
+w8(b+64,h);
+if(n<=c){
+f=h;
+g=n;
+goto L1;}
+q=r8(b+8);
+w8(d,0);
+w4(d+8,0);
+if(r8(b+16)==q){
+r=grow_amortized_ab4(b);
+if(!r){
+k=1;
+l=4;
+m=0;
+goto L2;}
+s=r8(b+8);}
+else s=q;
+t=rp(b)+s*56;
+x4(t,1);
+x4(t+4,0);
+x8(t+8,0);
+memcpy(t+16,d,12);
+u=s+1;
+z28(t+28);
+w8(b+8,u);
+v=q8(d+4);
+if(r8(b+16)==u){
+w=grow_amortized_ab4(b);
+if(!w){
+k=1;
+l=4;
+m=0;
+goto L2;}
+x=r8(b+8);}
+else x=u;
+y=rp(b)+x*56;
+x4(y,4);
+z16(y+4);
+x8(y+20,v);
+z=x+1;
+z28(y+28);
+w8(b+8,z);
+w4(d,0);
+x8(d+4,0);
+if(r8(b+16)==z){
+A=grow_amortized_ab4(b);
+if(!A){
+k=1;
+l=4;
+m=0;
+goto L2;}
+B=r8(b+8);}
+else B=z;
+C=rp(b)+B*56;
+x4(C,5);
+x4(C+4,0);
+x8(C+8,0);
+memcpy(C+16,d,12);
+z28(C+28);
+w8(b+8,B+1);
+push_decimal_d10(e,b,0,0);
+if(*e==0){
+k=0;
+l=0;
+m=0;}
+else{
+D=q8(e+4);
+k=1;
+l=(u32)D&255;
+m=D>>32;}
+L2:*a=k;
+x4(a+4,l);
+x4(a+8,m);
+return;
 }
 
 /* std_alloc::vec::Vec::grow_amortized */
@@ -31121,6 +30200,1139 @@ s=0;
 t=(K<<32)|(i&4294967295u);
 L1:x4(a,s);
 x8(a+4,t);
+return;
+}
+
+/* sym_link::driver::Driver::run */
+static void run_005(u8* a,u8* b,u8* c,u8* d,u64 e,u8* f)
+{
+A16 u8 g[12],h[32],i[48],j[40],k[28],l[56],m[12],n[32],o[16],p[12],q[32],r[16],s[12],t[32],u[12],v[32],w[16],x[12],y[32];
+u8 z,L,N,P,U,W,aa,ca,fa,ga,na,ra,ya,Ba,Ga,La,Pa,Ta,Ya,cb,ob,rb,Ab,Eb,Lb,Ob,Vb,bc,fc,jc,qc,Bc,Dc,Kc,Oc,Qc,fd,gd,jd,ld,od,qd,ud,Bd,Ed,Gd,Nd,Od,Qd,Xd,ae,ie,ne,qe,Se,Xe,Ye,df;
+u32 A,B,C,D,H,I,Q,V,Da,Ma,Va,bb,ib,kb,Qb,cc,lc,xc,Ec,Ic,Tc,Uc,bd,kd,Hd,Md,ce,le,me,oe,se,ue,ve,xe,ze,Ae,Ce,De,Ee,Ge,Je,Le,Ne,Pe,Qe,Ue,We;
+u8 *E,*R,*ea,*ia,*la,*sa,*ua,*va,*Ea,*Fa,*Ia,*Ka,*Wa,*Xa,*ab,*db,*fb,*hb,*tb,*wb,*xb,*Fb,*Hb,*Ib,*Rb,*Sb,*Xb,*Zb,*mc,*nc,*sc,*uc,*Fc,*Sc,*Zc,*cd,*id,*td,*yd,*Ad,*Id,*Kd,*Rd,*Td,*Ud,*de,*fe,*ke,*Ve,*af,*ff;
+u64 F,J,K,M,O,S,T,X,Y,ba,da,ha,ja,ka,ma,oa,pa,qa,ta,wa,xa,za,Aa,Ca,Ha,Ja,Na,Oa,Qa,Ra,Sa,Ua,Za,eb,gb,jb,lb,nb,pb,qb,sb,ub,vb,yb,zb,Bb,Cb,Db,Gb,Jb,Kb,Mb,Nb,Pb,Tb,Ub,Wb,Yb,ac,dc,ec,gc,hc,ic,kc,oc,pc,rc,tc,wc,yc,Ac,Cc,Gc,Hc,Jc,Lc,Mc,Pc,Rc,Vc,Xc,Yc,ad,dd,ed,hd,md,pd,sd,vd,xd,zd,Cd,Dd,Fd,Jd,Ld,Pd,Sd,Vd,Wd,Yd,Zd,be,ee,ge,he,je,pe,re,te,we,ye,Be,Fe,He,Ie,Ke,Me,Oe,Re,Te,Ze,bf,cf,ef;
+u16 G,mb,vc,zc,Wc;
+s_8_64 Z,Nc,nd;
+if(b[56]!=1){
+C=r4(b+48);
+D=r4(b+52);
+L1:E=rp(b);
+F=r8(b+8);
+if(F==0){
+if(C!=0){
+w4(b+48,C);
+w4(b+52,D);
+z=0;
+A=0;
+B=0;
+goto L2;}
+G=q2(f);
+H=q4(f+4);
+I=q4(f+12);
+switch(I){
+case 2:if(r2(f+16)!=65535)goto L3;
+J=q8(f+20);
+K=J>>32;
+if(G<48){
+L=G;
+switch(L){
+case 14:M=r8(b+32);
+if(r8(b+40)==M){
+N=grow_amortized_757(b+24);
+if(!N){
+P=4;
+Q=0;
+goto L4;}
+O=r8(b+32);}
+else O=M;
+R=rp(b+24)+(O<<5);
+*R=3;
+R[1]=0;
+x2(R+2,0);
+x8(R+4,J);
+S=O+1;
+z20(R+12);
+w8(b+32,S);
+T=S;
+goto L5;
+case 13:case 39:case 40:case 42:U=f[18];
+V=q4(f+28);
+z12(u);
+w8(v+24,0);
+w4(w,65535);
+w8(v,0);
+w4(v+8,H);
+w4(v+12,2);
+w8(v+16,0);
+w2(v+24,G);
+w[2]=U;
+x8(w+4,J);
+w4(w+12,V);
+take_any_22a(u,c,d,v,b+24,w);
+if(*u==0){
+W=L;
+goto L6;}
+P=u[4];
+Q=r4(u+8);
+goto L4;
+case 0:case 1:case 2:case 3:case 4:case 5:case 6:case 7:case 8:case 9:case 10:case 11:case 12:case 15:case 16:case 17:case 18:case 19:case 20:case 21:case 22:case 23:case 24:case 25:case 26:case 27:case 28:case 29:case 30:case 31:case 32:case 33:case 34:case 35:case 36:case 37:case 38:case 41:case 43:case 44:case 45:case 46:case 47:break;
+default:goto L7;
+}}
+X=r8(b+32);
+Y=J&4294967295u;
+Z=counted_number_820(d+(i64)Y,K-Y);
+aa=Z.f0;
+ba=Z.f1;
+if(r8(b+40)==X){
+ca=grow_amortized_757(b+24);
+if(!ca){
+P=4;
+Q=0;
+goto L4;}
+da=r8(b+32);}
+else da=X;
+ea=rp(b+24)+(da<<5);
+x8(ea,0);
+x8(ea+8,aa);
+x8(ea+16,ba);
+x8(ea+24,0);
+w8(b+32,da+1);
+break;
+case 1:break;
+default:goto L3;
+}
+if(G>=48)goto L8;
+W=G;
+L6:switch(W){
+case 14:T=r8(b+32);
+goto L5;
+case 10:fa=*(d+H);
+if(r8(b+32)!=0)w8(b+32,0);
+if(r8(b+40)==0){
+ga=grow_amortized_757(b+24);
+if(!ga){
+P=4;
+Q=0;
+goto L4;}
+ha=r8(b+32);}
+else ha=0;
+ia=rp(b+24)+(ha<<5);
+*ia=2;
+ia[1]=fa;
+z30(ia+2);
+ja=ha;
+break;
+case 12:ka=r8(b+32);
+if(ka==0){
+P=0;
+Q=0;
+goto L4;}
+la=rp(b+24);
+if(*la!=0){
+P=0;
+Q=0;
+goto L4;}
+if(ka==1){
+P=0;
+Q=0;
+goto L4;}
+if(la[32]!=3){
+P=0;
+Q=0;
+goto L4;}
+ma=q8(la+16);
+if(la[8]!=1||ma==18446744073709551615u){
+P=2;
+Q=H;
+goto L4;}
+na=la[44];
+oa=q8(la+48);
+pa=q8(la+36);
+qa=ma+1;
+w8(b+32,0);
+if(r8(b+40)==0){
+ra=grow_amortized_757(b+24);
+if(!ra){
+P=4;
+Q=0;
+goto L4;}
+sa=rp(b+24);
+ta=r8(b+32);}
+else{
+sa=la;
+ta=0;}
+ua=sa+(ta<<5);
+x4(ua,4);
+x8(ua+4,pa);
+x4(ua+12,na);
+x8(ua+16,oa);
+x8(ua+24,qa);
+ja=ta;
+break;
+case 2:if(r8(b+32)==0){
+P=0;
+Q=0;
+goto L4;}
+va=rp(b+24);
+switch(*va){
+case 4:wa=r8(va+24);
+break;
+case 3:wa=0;
+break;
+case 0:case 1:case 2:case 5:case 6:case 7:case 8:case 9:case 10:case 11:case 12:case 13:case 14:case 15:case 16:case 17:case 18:case 19:case 20:case 21:P=0;
+Q=0;
+goto L4;
+default:NEVER;
+}
+xa=q8(va+16);
+ya=va[12];
+za=q8(va+4);
+Aa=r8(c+8);
+if(r8(c+16)==Aa){
+Ba=grow_amortized_ab4(c);
+if(!Ba){
+P=4;
+Q=0;
+goto L4;}
+Ca=r8(c+8);}
+else Ca=Aa;
+Da=Aa;
+Ea=rp(c)+Ca*56;
+x4(Ea,0);
+x4(Ea+4,0);
+x4(Ea+8,0);
+x8(Ea+12,za);
+x4(Ea+20,ya);
+x8(Ea+24,xa);
+x8(Ea+32,wa);
+z16(Ea+40);
+w8(c+8,Ca+1);
+if(r8(c+56)>H){
+Fa=rp(c+48)+(i64)((u64)H<<3);
+x4(Fa,1);
+x4(Fa+4,Da);}
+if(r8(b+32)!=0)w8(b+32,0);
+if(r8(b+40)==0){
+Ga=grow_amortized_757(b+24);
+if(!Ga){
+P=4;
+Q=0;
+goto L4;}
+Ha=r8(b+32);}
+else Ha=0;
+Ia=rp(b+24)+(Ha<<5);
+*Ia=12;
+Ia[1]=0;
+x2(Ia+2,0);
+x4(Ia+4,Da);
+z24(Ia+8);
+ja=Ha;
+break;
+case 6:Ja=r8(b+32);
+if(Ja==0){
+P=0;
+Q=0;
+goto L4;}
+Ka=rp(b+24);
+if(*Ka!=2){
+P=0;
+Q=0;
+goto L4;}
+if(Ja==1){
+P=0;
+Q=0;
+goto L4;}
+if(Ka[32]!=12){
+P=0;
+Q=0;
+goto L4;}
+if(Ja==2){
+P=0;
+Q=0;
+goto L4;}
+La=Ka[1];
+Ma=r4(Ka+36);
+switch(Ka[64]){
+case 4:Na=r8(Ka+88);
+break;
+case 3:Na=0;
+break;
+case 0:case 1:case 2:case 5:case 6:case 7:case 8:case 9:case 10:case 11:case 12:case 13:case 14:case 15:case 16:case 17:case 18:case 19:case 20:case 21:P=0;
+Q=0;
+goto L4;
+default:NEVER;
+}
+Oa=q8(Ka+80);
+Pa=Ka[76];
+Qa=q8(Ka+68);
+Ra=r8(c+8);
+if(Ra>Ma)Sa=r8(rp(c)+(i64)((u64)Ma*56)+48);
+else Sa=0;
+if(r8(c+16)==Ra){
+Ta=grow_amortized_ab4(c);
+if(!Ta){
+P=4;
+Q=0;
+goto L4;}
+Ua=r8(c+8);}
+else Ua=Ra;
+Va=Ra;
+Wa=rp(c)+Ua*56;
+x4(Wa,0);
+x4(Wa+4,0);
+Wa[8]=4;
+Wa[9]=La;
+x2(Wa+10,0);
+x4(Wa+12,Ma);
+x8(Wa+16,Qa);
+x4(Wa+24,Pa);
+x8(Wa+28,Oa);
+x4(Wa+36,0);
+x8(Wa+40,Na);
+x8(Wa+48,Sa);
+w8(c+8,Ua+1);
+if(r8(c+56)>H){
+Xa=rp(c+48)+(i64)((u64)H<<3);
+x4(Xa,1);
+x4(Xa+4,Va);}
+if(r8(b+32)!=0)w8(b+32,0);
+if(r8(b+40)==0){
+Ya=grow_amortized_757(b+24);
+if(!Ya){
+P=4;
+Q=0;
+goto L4;}
+Za=r8(b+32);}
+else Za=0;
+ab=rp(b+24)+(Za<<5);
+*ab=12;
+ab[1]=0;
+x2(ab+2,0);
+x4(ab+4,Va);
+z24(ab+8);
+ja=Za;
+break;
+case 0:case 1:case 3:case 4:case 5:case 7:case 8:case 9:case 11:case 13:case 15:case 16:case 17:case 18:case 19:case 20:case 21:case 22:case 23:case 24:case 25:case 26:case 27:case 28:case 29:case 30:case 31:case 32:case 33:case 34:case 35:case 36:case 37:case 38:case 39:case 40:case 41:case 42:case 43:case 44:case 45:case 46:case 47:goto L8;
+default:goto L7;
+}
+w8(b+32,ja+1);
+bb=I;
+goto L9;
+L5:if(T==1){
+if(*rp(b+24)==3){
+bb=I;
+goto L9;}}
+L8:z12(s);
+z32(t);
+w4(t+8,H);
+w4(t+12,I);
+w2(t+24,G);
+close_any_b3b(s,c,d,e,t,b+24);
+if(*s==0){
+bb=I;
+goto L9;}
+P=s[4];
+Q=r4(s+8);
+goto L4;
+L3:if(r8(b+16)==0){
+cb=grow_amortized_757(b);
+if(!cb){
+P=4;
+Q=0;
+goto L4;}
+db=rp(b);
+eb=r8(b+8);}
+else{
+db=E;
+eb=0;}
+fb=db+(eb<<5);
+x8(fb,0);
+x4(fb+8,H);
+x4(fb+12,I);
+x8(fb+16,0);
+x2(fb+24,G);
+z6(fb+26);
+w8(b+8,eb+1);
+bb=1;
+goto L9;}
+gb=F<<5;
+hb=E+(i64)gb;
+ib=r4(hb-20);
+if(ib==C){
+jb=q8(hb-32);
+kb=q4(hb-24);
+lb=q8(hb-16);
+mb=q2(hb-8);
+if(mb<48){
+switch((u8)mb){
+case 14:if(r8(b+32)-jb!=1)goto L10;
+if(*(rp(b+24)+(i64)(jb<<5))!=3)goto L10;
+nb=F;
+goto L11;
+case 10:ob=*(d+kb);
+pb=r8(b+32);
+if(pb>jb){
+w8(b+32,jb);
+qb=jb;}
+else qb=pb;
+if(r8(b+40)==qb){
+rb=grow_amortized_757(b+24);
+if(!rb){
+P=4;
+Q=0;
+goto L4;}
+sb=r8(b+32);}
+else sb=qb;
+tb=rp(b+24)+(sb<<5);
+*tb=2;
+tb[1]=ob;
+z30(tb+2);
+ub=sb;
+break;
+case 12:vb=r8(b+32);
+if(vb==jb){
+P=0;
+Q=0;
+goto L4;}
+wb=rp(b+24);
+xb=wb+(i64)(jb<<5);
+if(*xb!=0){
+P=0;
+Q=0;
+goto L4;}
+if(vb-jb==1){
+P=0;
+Q=0;
+goto L4;}
+if(xb[32]!=3){
+P=0;
+Q=0;
+goto L4;}
+yb=q8(xb+16);
+if(xb[8]!=1||yb==18446744073709551615u){
+P=2;
+Q=kb;
+goto L4;}
+zb=q8(xb+36);
+Ab=xb[44];
+Bb=q8(xb+48);
+Cb=yb+1;
+if(vb>jb){
+w8(b+32,jb);
+Db=jb;}
+else Db=vb;
+if(r8(b+40)==Db){
+Eb=grow_amortized_757(b+24);
+if(!Eb){
+P=4;
+Q=0;
+goto L4;}
+Fb=rp(b+24);
+Gb=r8(b+32);}
+else{
+Fb=wb;
+Gb=Db;}
+Hb=Fb+(Gb<<5);
+x4(Hb,4);
+x8(Hb+4,zb);
+x4(Hb+12,Ab);
+x8(Hb+16,Bb);
+x8(Hb+24,Cb);
+ub=Gb;
+break;
+case 2:if(r8(b+32)==jb){
+P=0;
+Q=0;
+goto L4;}
+Ib=rp(b+24)+(i64)(jb<<5);
+switch(*Ib){
+case 4:Jb=r8(Ib+24);
+break;
+case 3:Jb=0;
+break;
+case 0:case 1:case 2:case 5:case 6:case 7:case 8:case 9:case 10:case 11:case 12:case 13:case 14:case 15:case 16:case 17:case 18:case 19:case 20:case 21:P=0;
+Q=0;
+goto L4;
+default:NEVER;
+}
+Kb=q8(Ib+16);
+Lb=Ib[12];
+Mb=q8(Ib+4);
+Nb=r8(c+8);
+if(r8(c+16)==Nb){
+Ob=grow_amortized_ab4(c);
+if(!Ob){
+P=4;
+Q=0;
+goto L4;}
+Pb=r8(c+8);}
+else Pb=Nb;
+Qb=Nb;
+Rb=rp(c)+Pb*56;
+x4(Rb,0);
+x4(Rb+4,0);
+x4(Rb+8,0);
+x8(Rb+12,Mb);
+x4(Rb+20,Lb);
+x8(Rb+24,Kb);
+x8(Rb+32,Jb);
+z16(Rb+40);
+w8(c+8,Pb+1);
+if(r8(c+56)>kb){
+Sb=rp(c+48)+(i64)((u64)kb<<3);
+x4(Sb,1);
+x4(Sb+4,Qb);}
+Tb=r8(b+32);
+if(Tb>jb){
+w8(b+32,jb);
+Ub=jb;}
+else Ub=Tb;
+if(r8(b+40)==Ub){
+Vb=grow_amortized_757(b+24);
+if(!Vb){
+P=4;
+Q=0;
+goto L4;}
+Wb=r8(b+32);}
+else Wb=Ub;
+Xb=rp(b+24)+(Wb<<5);
+*Xb=12;
+Xb[1]=0;
+x2(Xb+2,0);
+x4(Xb+4,Qb);
+z24(Xb+8);
+ub=Wb;
+break;
+case 6:Yb=r8(b+32);
+if(Yb==jb){
+P=0;
+Q=0;
+goto L4;}
+Zb=rp(b+24)+(i64)(jb<<5);
+if(*Zb!=2){
+P=0;
+Q=0;
+goto L4;}
+ac=Yb-jb;
+if(ac==1){
+P=0;
+Q=0;
+goto L4;}
+if(Zb[32]!=12){
+P=0;
+Q=0;
+goto L4;}
+if(ac==2){
+P=0;
+Q=0;
+goto L4;}
+bc=Zb[1];
+cc=r4(Zb+36);
+switch(Zb[64]){
+case 4:dc=r8(Zb+88);
+break;
+case 3:dc=0;
+break;
+case 0:case 1:case 2:case 5:case 6:case 7:case 8:case 9:case 10:case 11:case 12:case 13:case 14:case 15:case 16:case 17:case 18:case 19:case 20:case 21:P=0;
+Q=0;
+goto L4;
+default:NEVER;
+}
+ec=q8(Zb+80);
+fc=Zb[76];
+gc=q8(Zb+68);
+hc=r8(c+8);
+if(hc>cc)ic=r8(rp(c)+(i64)((u64)cc*56)+48);
+else ic=0;
+if(r8(c+16)==hc){
+jc=grow_amortized_ab4(c);
+if(!jc){
+P=4;
+Q=0;
+goto L4;}
+kc=r8(c+8);}
+else kc=hc;
+lc=hc;
+mc=rp(c)+kc*56;
+x4(mc,0);
+x4(mc+4,0);
+mc[8]=4;
+mc[9]=bc;
+x2(mc+10,0);
+x4(mc+12,cc);
+x8(mc+16,gc);
+x4(mc+24,fc);
+x8(mc+28,ec);
+x4(mc+36,0);
+x8(mc+40,dc);
+x8(mc+48,ic);
+w8(c+8,kc+1);
+if(r8(c+56)>kb){
+nc=rp(c+48)+(i64)((u64)kb<<3);
+x4(nc,1);
+x4(nc+4,lc);}
+oc=r8(b+32);
+if(oc>jb){
+w8(b+32,jb);
+pc=jb;}
+else pc=oc;
+if(r8(b+40)==pc){
+qc=grow_amortized_757(b+24);
+if(!qc){
+P=4;
+Q=0;
+goto L4;}
+rc=r8(b+32);}
+else rc=pc;
+sc=rp(b+24)+(rc<<5);
+*sc=12;
+sc[1]=0;
+x2(sc+2,0);
+x4(sc+4,lc);
+z24(sc+8);
+ub=rc;
+break;
+case 0:case 1:case 3:case 4:case 5:case 7:case 8:case 9:case 11:case 13:case 15:case 16:case 17:case 18:case 19:case 20:case 21:case 22:case 23:case 24:case 25:case 26:case 27:case 28:case 29:case 30:case 31:case 32:case 33:case 34:case 35:case 36:case 37:case 38:case 39:case 40:case 41:case 42:case 43:case 44:case 45:case 46:case 47:goto L10;
+default:goto L7;
+}
+w8(b+32,ub+1);
+goto L12;}
+L10:z12(x);
+w8(y+24,0);
+w8(y,jb);
+w4(y+8,kb);
+w4(y+12,C);
+w8(y+16,lb);
+w2(y+24,mb);
+close_any_b3b(x,c,d,e,y,b+24);
+if(*x!=0){
+P=x[4];
+Q=r4(x+8);
+goto L4;}
+L12:tc=r8(b+8);
+if(tc==0){
+bb=C;
+goto L9;}
+nb=tc;
+L11:w8(b+8,nb-1);
+bb=C;
+goto L9;}
+uc=f+((u64)C<<4);
+vc=q2(uc);
+wc=q8(uc+4);
+xc=q4(uc+12);
+if(vc==65535){
+yc=wc>>32;
+zc=q2(hb-8);
+if(zc<48){
+switch((u8)zc){
+case 14:Ac=r8(b+32);
+if(r8(b+40)==Ac){
+Bc=grow_amortized_757(b+24);
+if(!Bc){
+Dc=4;
+Ec=0;
+goto L13;}
+Cc=r8(b+32);}
+else Cc=Ac;
+Fc=rp(b+24)+(Cc<<5);
+*Fc=3;
+Fc[1]=0;
+x2(Fc+2,0);
+x8(Fc+4,wc);
+z20(Fc+12);
+Gc=Cc;
+goto L14;
+case 13:case 39:case 40:case 42:Hc=q8(hb-32);
+Ic=q4(hb-24);
+Jc=q8(hb-16);
+Kc=q2(uc+2);
+z12(m);
+w8(n+24,0);
+w4(o,65535);
+w8(n,Hc);
+w4(n+8,Ic);
+w4(n+12,ib);
+w8(n+16,Jc);
+w2(n+24,zc);
+o[2]=Kc;
+x8(o+4,wc);
+w4(o+12,xc);
+take_any_22a(m,c,d,n,b+24,o);
+if(*m==0)goto L15;
+Dc=m[4];
+Ec=r4(m+8);
+goto L13;
+case 0:case 1:case 2:case 3:case 4:case 5:case 6:case 7:case 8:case 9:case 10:case 11:case 12:case 15:case 16:case 17:case 18:case 19:case 20:case 21:case 22:case 23:case 24:case 25:case 26:case 27:case 28:case 29:case 30:case 31:case 32:case 33:case 34:case 35:case 36:case 37:case 38:case 41:case 43:case 44:case 45:case 46:case 47:break;
+default:goto L7;
+}}
+Lc=r8(b+32);
+Mc=wc&4294967295u;
+Nc=counted_number_820(d+(i64)Mc,yc-Mc);
+Oc=Nc.f0;
+Pc=Nc.f1;
+if(r8(b+40)==Lc){
+Qc=grow_amortized_757(b+24);
+if(!Qc){
+Dc=4;
+Ec=0;
+goto L13;}
+Rc=r8(b+32);}
+else Rc=Lc;
+Sc=rp(b+24)+(Rc<<5);
+x8(Sc,0);
+x8(Sc+8,Oc);
+x8(Sc+16,Pc);
+x8(Sc+24,0);
+Gc=Rc;
+L14:w8(b+32,Gc+1);
+L15:Tc=C+1;
+goto L16;}
+Uc=wc;
+Vc=q8(hb-16);
+Wc=q2(hb-8);
+Xc=r8(b+32);
+if((u16)(Wc-27)<2){
+Yc=q8(hb-32);
+Zc=rp(b+24)+(i64)(Yc<<5);
+if(Wc==27){
+if(Xc==Yc){
+ad=Vc;
+goto L17;}
+if(*Zc!=6){
+ad=Vc;
+goto L17;}}
+else{
+if(!((Xc!=Yc)&(Xc-Yc<2))){
+ad=Vc;
+goto L17;}
+if(*Zc!=6){
+ad=Vc;
+goto L17;}}
+ad=uadd64(r2(Zc+2),Vc);}
+else ad=Vc;
+L17:bd=C+1;
+if(xc==C+2){
+cd=f+((u64)bd<<4);
+if(r2(cd)==65535){
+dd=q8(cd+4);
+ed=dd>>32;
+if(vc<48){
+fd=vc;
+switch(fd){
+case 14:if(r8(b+40)==Xc){
+gd=grow_amortized_757(b+24);
+if(!gd){
+Dc=4;
+Ec=0;
+goto L13;}
+hd=r8(b+32);}
+else hd=Xc;
+id=rp(b+24)+(hd<<5);
+*id=3;
+id[1]=0;
+x2(id+2,0);
+x8(id+4,dd);
+z20(id+12);
+w8(b+32,hd+1);
+break;
+case 13:case 39:case 40:case 42:jd=cd[2];
+kd=q4(cd+12);
+z12(p);
+w8(q+24,0);
+w4(r,65535);
+w8(q,Xc);
+w4(q+8,Uc);
+w4(q+12,xc);
+w8(q+16,ad);
+w2(q+24,vc);
+r[2]=jd;
+x8(r+4,dd);
+w4(r+12,kd);
+take_any_22a(p,c,d,q,b+24,r);
+if(*p!=0){
+Dc=p[4];
+Ec=r4(p+8);
+goto L13;}
+break;
+case 0:case 1:case 2:case 3:case 4:case 5:case 6:case 7:case 8:case 9:case 10:case 11:case 12:case 15:case 16:case 17:case 18:case 19:case 20:case 21:case 22:case 23:case 24:case 25:case 26:case 27:case 28:case 29:case 30:case 31:case 32:case 33:case 34:case 35:case 36:case 37:case 38:case 41:case 43:case 44:case 45:case 46:case 47:goto L18;
+default:goto L7;
+}
+z56(l);
+ld=fd;
+goto L19;}
+L18:md=dd&4294967295u;
+nd=counted_number_820(d+(i64)md,ed-md);
+od=nd.f0;
+pd=nd.f1;
+if(r8(b+40)==Xc){
+qd=grow_amortized_757(b+24);
+if(!qd){
+Dc=4;
+Ec=0;
+goto L13;}
+sd=r8(b+32);}
+else sd=Xc;
+td=rp(b+24)+(sd<<5);
+x8(td,0);
+x8(td+8,od);
+x8(td+16,pd);
+x8(td+24,0);
+w8(b+32,sd+1);
+goto L20;}}
+if(xc!=bd){
+if(r8(b+16)==F){
+ud=grow_amortized_757(b);
+if(!ud){
+Dc=4;
+Ec=0;
+goto L13;}
+vd=r8(b+8);
+xd=vd<<5;
+yd=rp(b);
+zd=vd;}
+else{
+xd=gb;
+yd=E;
+zd=F;}
+Ad=yd+xd;
+x8(Ad,Xc);
+x4(Ad+8,Uc);
+x4(Ad+12,xc);
+x8(Ad+16,ad);
+x2(Ad+24,vc);
+z6(Ad+26);
+w8(b+8,zd+1);
+Tc=bd;
+goto L16;}
+L20:z56(l);
+if(vc>=48)goto L21;
+ld=vc;
+L19:switch(ld){
+case 14:if(r8(b+32)-Xc!=1)goto L21;
+if(*(rp(b+24)+(i64)(Xc<<5))!=3)goto L21;
+Tc=xc;
+goto L16;
+case 10:Bd=*(d+(wc&4294967295u));
+Cd=r8(b+32);
+if(Cd>Xc){
+w8(b+32,Xc);
+Dd=Xc;}
+else Dd=Cd;
+if(r8(b+40)==Dd){
+Ed=grow_amortized_757(b+24);
+if(!Ed){
+Gd=4;
+Hd=0;
+break;}
+Fd=r8(b+32);}
+else Fd=Dd;
+Id=rp(b+24)+(Fd<<5);
+*Id=2;
+Id[1]=Bd;
+z30(Id+2);
+Jd=Fd;
+goto L22;
+case 12:Kd=rp(b+24);
+Ld=r8(b+32);
+disambiguated_identifier_f72(j,Uc,Kd+(i64)(Xc<<5),Ld-Xc);
+Md=r4(j+8);
+Nd=*j;
+Od=j[4];
+memcpy(k,j+12,28);
+if(Nd==0){
+if(Ld>Xc){
+w8(b+32,Xc);
+Pd=Xc;}
+else Pd=Ld;
+if(r8(b+40)==Pd){
+Qd=grow_amortized_757(b+24);
+if(!Qd){
+Gd=4;
+Hd=0;
+break;}
+Rd=rp(b+24);
+Sd=r8(b+32);}
+else{
+Rd=Kd;
+Sd=Pd;}
+Td=Rd+(Sd<<5);
+x4(Td,Md);
+memcpy(Td+4,k,28);
+Jd=Sd;
+goto L22;}
+Gd=Od;
+Hd=Md;
+break;
+case 2:if(r8(b+32)!=Xc){
+Ud=rp(b+24)+(i64)(Xc<<5);
+switch(*Ud){
+case 4:Vd=r8(Ud+24);
+break;
+case 3:Vd=0;
+break;
+case 0:case 1:case 2:case 5:case 6:case 7:case 8:case 9:case 10:case 11:case 12:case 13:case 14:case 15:case 16:case 17:case 18:case 19:case 20:case 21:Gd=0;
+Hd=0;
+goto L23;
+default:NEVER;
+}
+Wd=q8(Ud+16);
+Xd=Ud[12];
+Yd=q8(Ud+4);
+Zd=r8(c+8);
+if(r8(c+16)==Zd){
+ae=grow_amortized_ab4(c);
+if(!ae){
+Gd=4;
+Hd=0;
+break;}
+be=r8(c+8);}
+else be=Zd;
+ce=Zd;
+de=rp(c)+be*56;
+x4(de,0);
+x4(de+4,0);
+x4(de+8,0);
+x8(de+12,Yd);
+x4(de+20,Xd);
+x8(de+24,Wd);
+x8(de+32,Vd);
+z16(de+40);
+w8(c+8,be+1);
+ee=wc&4294967295u;
+if(r8(c+56)>ee){
+fe=rp(c+48)+(i64)(ee<<3);
+x4(fe,1);
+x4(fe+4,ce);}
+ge=r8(b+32);
+if(ge>Xc){
+w8(b+32,Xc);
+he=Xc;}
+else he=ge;
+if(r8(b+40)==he){
+ie=grow_amortized_757(b+24);
+if(!ie){
+Gd=4;
+Hd=0;
+break;}
+je=r8(b+32);}
+else je=he;
+ke=rp(b+24)+(je<<5);
+*ke=12;
+ke[1]=0;
+x2(ke+2,0);
+x4(ke+4,ce);
+z24(ke+8);
+Jd=je;
+goto L22;}
+Gd=0;
+Hd=0;
+break;
+case 6:nested_402(l,rp(b+24)+(i64)(Xc<<5),r8(b+32)-Xc);
+le=r4(l+8);
+if(*l==0){
+me=r4(l+12);
+ne=le;
+oe=le&255;
+w4(i,oe);
+w4(i+4,me);
+memcpy(i+8,l+16,40);
+pe=r8(c+8);
+qe=me;
+switch(ne){
+case 0:switch(i[8]){
+case 0:re=0;
+break;
+case 1:se=r4(i+24);
+if(pe>se)te=r8(rp(c)+(i64)((u64)se*56)+48);
+else te=0;
+ue=r4(i+28);
+if(pe>ue)re=umax64(r8(rp(c)+(i64)((u64)ue*56)+48),te);
+else re=te;
+break;
+case 2:ve=r4(i+24);
+if(pe>ve)we=r8(rp(c)+(i64)((u64)ve*56)+48);
+else we=0;
+xe=r4(i+28);
+if(pe>xe)ye=umax64(r8(rp(c)+(i64)((u64)xe*56)+48),we);
+else ye=we;
+ze=r4(i+32);
+if(pe>ze)re=umax64(r8(rp(c)+(i64)((u64)ze*56)+48),ye);
+else re=ye;
+break;
+case 3:Ae=r4(i+12);
+if(pe>Ae)Be=r8(rp(c)+(i64)((u64)Ae*56)+48);
+else Be=0;
+Ce=r4(i+16);
+if(pe>Ce)re=umax64(r8(rp(c)+(i64)((u64)Ce*56)+48),Be);
+else re=Be;
+break;
+case 4:De=r4(i+12);
+if(pe>De)re=r8(rp(c)+(i64)((u64)De*56)+48);
+else re=0;
+break;
+case 5:Ee=r4(i+12);
+if(pe>Ee)Fe=r8(rp(c)+(i64)((u64)Ee*56)+48);
+else Fe=0;
+Ge=r4(i+16);
+if(pe>Ge)re=umax64(r8(rp(c)+(i64)((u64)Ge*56)+48),Fe);
+else re=Fe;
+break;
+default:NEVER;
+}
+break;
+case 1:He=arguments_need_287(c,i+8);
+re=He;
+break;
+case 2:Ie=type_need_e25(c,i+8);
+re=Ie;
+break;
+case 3:if(qe==0)re=0;
+else{
+Je=r4(i+8);
+if(pe>Je)Ke=r8(rp(c)+(i64)((u64)Je*56)+48);
+else Ke=0;
+Le=r4(i+12);
+if(pe>Le)re=umax64(r8(rp(c)+(i64)((u64)Le*56)+48),Ke);
+else re=Ke;}
+break;
+case 4:Me=bounds_need_155(c,i+4);
+re=Me;
+break;
+case 5:if(qe==0)re=0;
+else{
+Ne=r4(i+28);
+if(pe>Ne)Oe=r8(rp(c)+(i64)((u64)Ne*56)+48);
+else Oe=0;
+Pe=r4(i+32);
+if(pe>Pe)re=umax64(r8(rp(c)+(i64)((u64)Pe*56)+48),Oe);
+else re=Oe;}
+break;
+case 6:re=0;
+break;
+case 7:if(i[8]==1){
+Qe=r4(i+12);
+if(pe>Qe)Re=r8(rp(c)+(i64)((u64)Qe*56)+48);
+else Re=0;}
+else Re=0;
+if(pe>me)re=umax64(Re,r8(rp(c)+(i64)((u64)me*56)+48));
+else re=Re;
+break;
+default:NEVER;
+}
+if(r8(c+16)==pe){
+Se=grow_amortized_ab4(c);
+if(!Se){
+Gd=4;
+Hd=0;
+break;}
+Te=r8(c+8);}
+else Te=pe;
+Ue=pe;
+Ve=rp(c)+Te*56;
+x4(Ve,oe);
+x4(Ve+4,me);
+memcpy(Ve+8,l+16,40);
+x8(Ve+48,re);
+w8(c+8,Te+1);
+switch(ne){
+case 0:We=1;
+Xe=12;
+break;
+case 2:We=2;
+Xe=13;
+break;
+case 6:We=3;
+Xe=14;
+break;
+case 1:Ye=15;
+goto L24;
+case 3:Ye=16;
+goto L24;
+case 4:Ye=17;
+goto L24;
+case 5:Ye=18;
+goto L24;
+case 7:Ye=21;
+goto L24;
+default:NEVER;
+}
+Ze=wc&4294967295u;
+if(r8(c+56)>Ze){
+af=rp(c+48)+(i64)(Ze<<3);
+x4(af,We);
+x4(af+4,Ue);
+Ye=Xe;}
+else Ye=Xe;
+L24:bf=r8(b+32);
+if(bf>Xc){
+w8(b+32,Xc);
+cf=Xc;}
+else cf=bf;
+if(r8(b+40)==cf){
+df=grow_amortized_757(b+24);
+if(!df){
+Gd=4;
+Hd=0;
+break;}
+ef=r8(b+32);}
+else ef=cf;
+ff=rp(b+24)+(ef<<5);
+*ff=Ye;
+ff[1]=0;
+x2(ff+2,0);
+x4(ff+4,Ue);
+z24(ff+8);
+Jd=ef;
+goto L22;}
+Gd=l[4];
+Hd=le;
+break;
+case 0:case 1:case 3:case 4:case 5:case 7:case 8:case 9:case 11:case 13:case 15:case 16:case 17:case 18:case 19:case 20:case 21:case 22:case 23:case 24:case 25:case 26:case 27:case 28:case 29:case 30:case 31:case 32:case 33:case 34:case 35:case 36:case 37:case 38:case 39:case 40:case 41:case 42:case 43:case 44:case 45:case 46:case 47:goto L21;
+default:goto L7;
+}
+L23:Dc=Gd;
+Ec=Hd;
+goto L13;
+L22:w8(b+32,Jd+1);
+Tc=xc;
+goto L16;
+L21:z12(g);
+w8(h+24,0);
+w8(h,Xc);
+w4(h+8,Uc);
+w4(h+12,xc);
+w8(h+16,ad);
+w2(h+24,vc);
+close_any_b3b(g,c,d,e,h,b+24);
+if(*g==0){
+Tc=xc;
+goto L16;}
+Dc=g[4];
+Ec=r4(g+8);
+L13:P=Dc;
+Q=Ec;
+goto L4;
+L16:bb=Tc;
+goto L9;
+L7:NEVER;
+L4:w4(b+52,D+1);
+w4(b+56,1);
+w4(b+60,P);
+w4(b+64,Q);
+z=1;
+A=P;
+B=Q;
+goto L2;
+L9:C=bb;
+D=D+1;
+goto L1;}
+z=1;
+A=b[60];
+B=q4(b+64);
+L2:*a=z;
+x4(a+4,A);
+x4(a+8,B);
 return;
 }
 
@@ -34194,107 +34406,139 @@ return;
 /* sym_demangle::workspace::Workspace::print */
 static void print_0c9(u8* a,u8* b,u8* c,u32 d,u8 e,u8* f)
 {
-A16 u8 g[16],h[12],i[12];
-u32 j,m,n,q,r,A;
-s_64_64 k;
-u8 l,w,x,y,z,B,G;
-u8 *o,*p,*t,*u,*v,*C,*K,*L;
-u64 s,D,E,F,H,I,J;
-j=r4(c+72);
+A16 u8 g[12];
+u32 h,k,l;
+s_64_64 i;
+u8 j,r;
+u8 *m,*n,*v,*w;
+u64 o,p,q,s,t,u;
+w4(g,0);
+h=r4(c+72);
 if(r8(b+256)==0){
 if(r8(b+248)==0){
-k=port_rattle_alloc(320,8);
-if(!(u8)(k.f0&1)){
-l=1;
-m=4;
-n=0;
+i=port_rattle_alloc(320,8);
+if(!(u8)(i.f0&1)){
+j=1;
+k=4;
+l=0;
 goto L1;}
-wp(b+240,(u8*)k.f1);
+wp(b+240,(u8*)i.f1);
 w8(b+256,8);}}
-o=rp(b+240);
-x8(o,0);
-x4(o+8,j);
-z20(o+12);
-o[32]=e;
-z7(o+33);
+m=rp(b+240);
+x8(m,0);
+x4(m+8,h);
+z20(m+12);
+m[32]=e;
+z7(m+33);
 w8(b+248,1);
 if(r8(b+272)!=0)w8(b+272,0);
 x4(b+384,0);
 x4(b+388,d);
 z20(b+392);
-z12(h);
-z12(i);
-p=rp(b+240);
-if(*p==0){
-q=r4(p+8);
-r=q<67108864?uadd32(q<<6,1024):4294967295u;}
-else r=1024;
-w4(g,0);
-w4(g+4,umin32(r,d));
-w8(g+8,0);
-print_entries_c61(h,c,b+240,b+264,b+288,g,0);
-s=r8(g+8);
-x4(b+384,r4(g));
-x8(b+392,s);
-if(r4(g+4)==r4(b+388)){
-t=h+4;
-u=h+8;
-v=h;}
-else{
-w=*h;
-x=h[4];
-if(!(w==1&&x==3)){
-y=w;
-z=x;
-A=r4(h+8);
-goto L2;}
-print_dear_7a5(i,c,b+240,b+264,b+288,b+384);
-t=i+4;
-u=i+8;
-v=i;}
-y=*v;
-z=*t;
-A=r4(u);
-L2:B=y!=0;
-x4(b+400,B);
-x4(b+404,B?z:0);
-x4(b+408,B?A:0);
-if(y==0){
-C=rp(b+264);
-D=r8(b+272);
-E=r8(f+16);
-F=r8(f+8);
-if(D>E-F){
-G=grow_amortized_2b6(f,D);
-if(!G){
-l=1;
-m=4;
-n=0;
-goto L1;}
-H=r8(f+16);
-I=r8(f+8);}
-else{
-H=E;
-I=F;}
-J=I+D;
-K=rp(f);
-z16(f+8);
-L=K+(i64)I;
-if((u64)L-(u64)C<D)copy_bits_4f4(C,L,D);
-else memmove(L,C,D);
-wp(f,K);
-w8(f+8,J);
-w8(f+16,H);
+w4(g+4,0);
+w4(g+8,0);
+run_f48(g,b+240,c);
+if(*g==0){
+n=rp(b+264);
+o=r8(b+272);
+p=r8(f+16);
+q=r8(f+8);
+if(o>p-q){
+r=grow_amortized_2b6(f,o);
+if(!r){
+j=1;
+k=4;
 l=0;
-m=0;
-n=0;}
+goto L1;}
+s=r8(f+16);
+t=r8(f+8);}
 else{
-l=1;
-m=z;
-n=A;}
-L1:*a=l;
-x4(a+4,m);
-x4(a+8,n);
+s=p;
+t=q;}
+u=t+o;
+v=rp(f);
+z16(f+8);
+w=v+(i64)t;
+if((u64)w-(u64)n<o)copy_bits_4f4(n,w,o);
+else memmove(w,n,o);
+wp(f,v);
+w8(f+8,u);
+w8(f+16,s);
+j=0;
+k=0;
+l=0;}
+else{
+j=1;
+k=g[4];
+l=r4(g+8);}
+L1:*a=j;
+x4(a+4,k);
+x4(a+8,l);
+return;
+}
+
+/* sym_print::printer::Printer::run */
+static void run_f48(u8* a,u8* b,u8* c)
+{
+A16 u8 d[16],e[12],f[12];
+u8 g,h,t,u,v,x,y;
+u32 i,k,m,n,o,w;
+u64 j,p,q;
+u8 *l,*r,*s;
+if(b[160]==1){
+g=1;
+h=b[164];
+i=q4(b+168);}
+else{
+z12(e);
+z12(f);
+j=r8(b+8);
+if(j==0)k=1024;
+else{
+l=rp(b)+(i64)(j*40);
+if(l[-40]==0){
+m=r4(l-32);
+k=m<67108864?uadd32(m<<6,1024):4294967295u;}
+else k=1024;}
+n=r4(b+144);
+o=umin32(uadd32(k,n),r4(b+148));
+p=r8(b+152);
+w4(d,n);
+w4(d+4,o);
+w8(d+8,p);
+print_entries_c61(e,c,b,b+24,b+48,d,0);
+q=r8(d+8);
+w4(b+144,r4(d));
+w8(b+152,q);
+if(r4(d+4)==r4(b+148)){
+r=e+8;
+s=e;
+t=e[4];}
+else{
+u=*e;
+v=e[4];
+if(u==1&&v==3){
+print_dear_7a5(f,c,b,b+24,b+48,b+144);
+r=f+8;
+s=f;
+t=f[4];}
+else{
+*f=u;
+r=e+8;
+s=f;
+t=v;}}
+w=r4(r);
+x=*s;
+y=x!=0;
+x4(b+160,y);
+x4(b+164,y?t:0);
+x4(b+168,y?w:0);
+g=x;
+h=t;
+i=w;}
+*a=g;
+x4(a+4,h);
+x4(a+8,i);
 return;
 }
 
@@ -38810,11 +39054,11 @@ L2:return;
 static void run_5b5(u8* a,u8* b,u8* c,u8* d,u64 e,u8* f,u64 g)
 {
 A16 u8 h[24],i[24],j[24],k[12],l[16],m[12],n[16],o[12],p[40],q[24],r[24],s[12],t[16],u[12],v[40],w[12];
-u8 x,H,J,L,O,T,W,ba,ja,ra,va,Ia,Wa,ab,cb,mb,tb,vb,yb,Cb,Eb;
-u32 y,z,A,B,F,G,I,S,X,Y,sa,ta,ua,wa,xa,ya,Sa,Ta,Ua,Xa,Ya,Za,bb,fb,gb,qb,Db;
-u8 *C,*Q,*U,*Z,*la,*pa,*Ka,*eb,*hb,*rb,*Gb;
-u64 D,K,M,N,P,R,V,ca,da,ea,fa,ha,ia,ka,ma,na,oa,Aa,Ba,Ca,Da,Ea,Ga,Ha,Ja,La,Ma,Oa,Pa,Qa,Ra,db,ib,jb,kb,lb,nb,ob,pb,sb,ub,wb,xb,zb,Ab,Bb,Fb,Hb,Ib;
-u16 E,aa,ga,qa,za,Fa,Na,Va;
+u8 x,H,J,L,O,T,W,ba,ja,ra,va,xa,Ia,Ta,Za,bb,lb,sb,ub,xb,Bb;
+u32 y,z,A,B,F,G,I,S,X,Y,sa,ta,ua,wa,ya,Sa,Va,Wa,Xa,Ya,ab,eb,fb,pb;
+u8 *C,*Q,*U,*Z,*la,*pa,*Ka,*db,*gb,*qb,*Db;
+u64 D,K,M,N,P,R,V,ca,da,ea,fa,ha,ia,ka,ma,na,oa,Aa,Ba,Ca,Da,Ea,Ga,Ha,Ja,La,Ma,Oa,Pa,Qa,Ra,cb,hb,ib,jb,kb,mb,nb,ob,rb,tb,vb,wb,yb,zb,Ab,Cb,Eb,Fb;
+u16 E,aa,ga,qa,za,Fa,Na,Ua;
 if(b[56]!=1){
 A=r4(b+48);
 B=r4(b+52);
@@ -38861,7 +39105,7 @@ if(M<L)N=M;
 else{
 before_by_step_fe5(r,c,d,v,b+24);
 if(*r!=0){
-H=r4(r+4);
+H=r[4];
 I=r4(r+8);
 goto L4;}
 N=r8(b+32);}
@@ -38951,7 +39195,7 @@ if(Ea<Ga)Ha=Da;
 else{
 before_by_step_fe5(j,c,d,Z-40,b+24);
 if(*j!=0){
-xa=r4(j+4);
+xa=j[4];
 ya=r4(j+8);
 goto L12;}
 Ha=r8(b+32);}
@@ -38993,148 +39237,145 @@ z24(i);
 Qa=Ba;
 Ra=5;}
 L14:if(Qa<Ra){
-Sa=q4(Z-20);
-Ta=q4(Z-16);
-Ua=q4(Z-12);
-Va=q2(Z-8);
-Wa=Z[-5];
-Xa=q4(Z-24);}
+Sa=q4(Z-24);
+Ta=Z[-5];
+Ua=q2(Z-8);
+Va=q4(Z-12);
+Wa=q4(Z-16);
+Xa=q4(Z-20);}
 else{
 before_by_step_fe5(i,c,d,Z-40,b+24);
-Ya=r4(i+4);
-Za=r4(i+8);
+Ya=r4(i+8);
 if(*i!=0){
-xa=Ya;
-ya=Za;
+xa=i[4];
+ya=Ya;
 goto L12;}
-Sa=Za;
-Ta=r4(i+12);
-Ua=r4(i+16);
-Va=r2(i+20);
-Wa=i[23];
+Sa=r4(i+4);
+Ta=i[23];
+Ua=r2(i+20);
+Va=r4(i+16);
+Wa=r4(i+12);
 Xa=Ya;}
-ab=c[96];
-bb=ab==1?q4(c+100):Ua;
-cb=qa<270;
-if(cb){
+Za=c[96];
+ab=Za==1?q4(c+100):Va;
+bb=qa<270;
+if(bb){
 if(!((u8)(*((u8*)t_558a+(i64)((u64)qa<<1))-87)<254||sa==0)){
-db=usub64(ta,1);
-if(db>=g){
+cb=usub64(ta,1);
+if(cb>=g){
 xa=2;
 ya=sa-1;
 goto L12;}
-eb=f+(i64)(db<<4);
-fb=r4(eb+4);
-gb=r4(eb+8);
-if(!((gb>=fb)&(e>=gb))){
+db=f+(i64)(cb<<4);
+eb=r4(db+4);
+fb=r4(db+8);
+if(!((fb>=eb)&(e>=fb))){
 xa=2;
 ya=sa-1;
 goto L12;}
-hb=d+(i64)fb;
-ib=(u64)gb-fb;
-if(gb==fb)goto L15;
+gb=d+(i64)eb;
+hb=(u64)fb-eb;
+if(fb==eb)goto L15;
+ib=0;
 jb=0;
-kb=0;
-L16:if(jb<0x199999999999999au){
-lb=jb*10;
-mb=usub8(*(hb+(i64)kb),48);
-if(lb<=(mb^18446744073709551615u)){
-nb=lb+mb;
-ob=kb+1;
-if(ib!=ob){
+L16:if(ib<0x199999999999999au){
+kb=ib*10;
+lb=usub8(*(gb+(i64)jb),48);
+if(kb<=(lb^18446744073709551615u)){
+mb=kb+lb;
+nb=jb+1;
+if(hb!=nb){
+ib=mb;
 jb=nb;
-kb=ob;
 goto L16;}
-if(nb<0xfffffffffffffffeu)goto L15;
+if(mb<0xfffffffffffffffeu)goto L15;
 xa=2;
 ya=usub32(sa,1);
 goto L12;}}
 xa=2;
 ya=usub32(sa,1);
 goto L12;}}
-L15:pb=r8(b+32);
-qb=A+1;
-w8(p,pb);
+L15:ob=r8(b+32);
+pb=A+1;
+w8(p,ob);
 w4(p+8,sa);
 w4(p+12,ta);
-w4(p+16,Xa);
-w4(p+20,Sa);
-w4(p+24,Ta);
-w4(p+28,bb);
-w2(p+32,Va);
-p[34]=ab;
-p[35]=Wa;
+w4(p+16,Sa);
+w4(p+20,Xa);
+w4(p+24,Wa);
+w4(p+28,ab);
+w2(p+32,Ua);
+p[34]=Za;
+p[35]=Ta;
 w2(p+36,qa);
 w2(p+38,0);
 if(ta==A+2){
-rb=f+((u64)qb<<4);
-if(r2(rb)==65535){
-memcpy(n,rb,16);
+qb=f+((u64)pb<<4);
+if(r2(qb)==65535){
+memcpy(n,qb,16);
 z12(o);
 token_by_0b9(o,c,d,p,b+24,n);
 if(*o==0)goto L17;
 xa=o[4];
 ya=r4(o+8);
 goto L12;}}
-if(ta!=qb){
-sb=r8(b+8);
-if(r8(b+16)==sb){
-tb=grow_amortized_934(b);
-if(!tb){
+if(ta!=pb){
+rb=r8(b+8);
+if(r8(b+16)==rb){
+sb=grow_amortized_934(b);
+if(!sb){
 xa=4;
 ya=0;
 goto L12;}
-ub=r8(b+8);}
-else ub=sb;
-memcpy(rp(b)+ub*40,p,40);
-w8(b+8,ub+1);
-wa=qb;
+tb=r8(b+8);}
+else tb=rb;
+memcpy(rp(b)+tb*40,p,40);
+w8(b+8,tb+1);
+wa=pb;
 goto L9;}
-L17:if(cb){
-vb=*((u8*)t_4ada+(i64)qa);
-wb=r8(b+32);
-xb=wb-pb;
-if(xb<vb){
-yb=*((u8*)t_79dc+(i64)qa);
+L17:if(bb){
+ub=*((u8*)t_4ada+(i64)qa);
+vb=r8(b+32);
+wb=vb-ob;
+if(wb<ub){
+xb=*((u8*)t_79dc+(i64)qa);
+yb=vb;
 zb=wb;
-Ab=xb;
 L18:z24(h);
-if(Ab<yb)Bb=zb;
+if(zb<xb)Ab=yb;
 else{
 before_by_step_fe5(h,c,d,p,b+24);
 if(*h!=0){
-Cb=r4(h+4);
-Db=r4(h+8);
-goto L19;}
-Bb=r8(b+32);}
-if(r8(b+40)==Bb){
-Eb=grow_amortized_757(b+24);
-if(!Eb){
-Cb=4;
-Db=0;
-goto L19;}
-Fb=r8(b+32);}
-else Fb=Bb;
-Gb=rp(b+24)+(Fb<<5);
-*Gb=0;
-Gb[1]=0;
-z28(Gb+4);
-Hb=Fb+1;
-w8(b+32,Hb);
-Ib=Hb-pb;
-if(Ib<vb){
-zb=Hb;
-Ab=Ib;
+xa=h[4];
+ya=r4(h+8);
+goto L12;}
+Ab=r8(b+32);}
+if(r8(b+40)==Ab){
+Bb=grow_amortized_757(b+24);
+if(!Bb){
+xa=4;
+ya=0;
+goto L12;}
+Cb=r8(b+32);}
+else Cb=Ab;
+Db=rp(b+24)+(Cb<<5);
+*Db=0;
+Db[1]=0;
+z28(Db+4);
+Eb=Cb+1;
+w8(b+32,Eb);
+Fb=Eb-ob;
+if(Fb<ub){
+yb=Eb;
+zb=Fb;
 goto L18;}}}
 z12(k);
 finish_rule_396(k,c,d,e,p,b+24);
 if(*k==0){
 wa=ta;
 goto L9;}
-Cb=k[4];
-Db=r4(k+8);
-L19:xa=Cb;
-ya=Db;}
+xa=k[4];
+ya=r4(k+8);}
 L12:W=xa;
 X=ya;
 goto L7;
@@ -39145,10 +39386,10 @@ if(aa<270){
 ba=*((u8*)t_4ada+(i64)aa);
 ca=r8(b+32);
 da=ca-r8(Z-40);
-if(da>=ba)goto L20;
+if(da>=ba)goto L19;
 ea=ca;
 fa=da;
-L21:z24(q);
+L20:z24(q);
 ga=r2(Z-4);
 if(ga<270)ha=*((u8*)t_79dc+(i64)ga);
 else ha=5;
@@ -39156,7 +39397,7 @@ if(fa<ha)ia=ea;
 else{
 before_by_step_fe5(q,c,d,Z-40,b+24);
 if(*q!=0){
-W=r4(q+4);
+W=q[4];
 X=r4(q+8);
 goto L7;}
 ia=r8(b+32);}
@@ -39178,8 +39419,8 @@ na=ma-r8(Z-40);
 if(na<ba){
 ea=ma;
 fa=na;
-goto L21;}}
-L20:z12(w);
+goto L20;}}
+L19:z12(w);
 finish_rule_396(w,c,d,e,Z-40,b+24);
 if(*w==0){
 oa=r8(b+8);
@@ -39215,10 +39456,10 @@ return;
 static void token_by_0b9(u8* a,u8* b,u8* c,u8* d,u8* e,u8* f)
 {
 A16 u8 g[24],h[24];
-u32 i,j,u,v;
+u32 i,j,v;
 u16 k,q,B;
 u64 l,m,n,o,p,r,s,x,z,A,C,D,E,F,G,H,I,K;
-u8 t,w,J;
+u8 t,u,w,J;
 u8 *y,*L;
 i=q4(f+4);
 j=q4(f+8);
@@ -39240,7 +39481,7 @@ else{
 before_by_step_fe5(h,b,c,d,e);
 if(*h!=0){
 t=1;
-u=r4(h+4)&255;
+u=h[4];
 v=r4(h+8);
 goto L2;}
 s=r8(e+8);}
@@ -39292,7 +39533,7 @@ else{
 before_by_step_fe5(g,b,c,d,e);
 if(*g!=0){
 t=1;
-u=r4(g+4)&255;
+u=g[4];
 v=r4(g+8);
 goto L2;}
 I=r8(e+8);}
@@ -42904,4925 +43145,5009 @@ return;
 /* itanium::short_way::write_less */
 static u8 write_less_2c7(u8* a,u8* b,u64 c,u32 d,u8 e,u8 f)
 {
-u8 k[32],m[4],n[32],q[32],r[32],s[32],y[4],z[4],H[32],J[4],K[32],N[32],O[32],P[32],V[4],W[4],ea[32],ga[4],ha[32],ka[32],la[32],ma[32],sa[4],ta[4],Ca[32],Ea[4],Fa[32],Ia[32],Ja[32],Ka[32],Qa[4],Ra[4],ab[32],cb[4],db[32],gb[32],hb[32],ib[32],ob[4],pb[4],yb[32],Ab[4],Bb[32],Eb[32],Fb[32],Gb[32],Mb[4],Nb[4];
-A16 u8 g[4],h[4],i[40],j[4],l[4],o[6],p[32],t[4],u[4],v[4],w[32],x[32],A[4],B[4],C[4],D[4],E[4],F[40],G[4],I[4],L[6],M[32],Q[4],R[4],S[4],T[32],U[32],X[4],Y[4],Z[4],aa[4],ba[4],ca[40],da[4],fa[4],ia[6],ja[32],na[4],oa[4],pa[4],qa[32],ra[32],ua[4],va[4],wa[4],xa[4],ya[4],za[40],Aa[4],Ba[4],Da[4],Ga[6],Ha[32],La[4],Ma[4],Na[4],Oa[32],Pa[32],Sa[4],Ta[4],Ua[4],Va[4],Wa[4],Xa[40],Ya[4],Za[4],bb[4],eb[6],fb[32],jb[4],kb[4],lb[4],mb[32],nb[32],qb[4],rb[4],sb[4],tb[4],ub[4],vb[40],wb[4],xb[4],zb[4],Cb[6],Db[32],Hb[4],Ib[4],Jb[4],Kb[32],Lb[32],Ob[4],Pb[4],Qb[4];
-u64 Rb,Sb,Tb,Ub,Xb,Yb,ac,ec,fc,lc,mc,nc,yc,zc,Dc,Fc,Gc,Hc,Ic,Kc,Lc,Mc,Nc,Oc,Rc,Sc,Tc,Uc,Vc,Wc,Xc,ld,md,td,xd,yd,Gd,Hd,Jd,Md,Od,Qd,Rd,Ud,ae,he,je,oe,se,ue,ve,we,Be,De,Ee,Fe,He,Je,Le,Re,Ve,Xe,Ze,bf,kf,lf,of,pf,qf,uf,vf,wf,zf,Df,Ef,Hf,Jf,Kf,Mf,Qf,Rf,Xf,Yf,Zf,kg,lg,pg,Dg,Eg,Kg,Ng,Og,Wg,Xg,Zg,ch,eh,gh,hh,kh,qh,xh,zh,Eh,Ih,Kh,Lh,Mh,Rh,Th,Uh,Vh,Xh,Zh,bi,hi,li,ni,pi,ri,zi,Ai,Di,Ei,Fi,Ji,Ki,Li,Oi,Si,Ti,Wi,Yi,Zi,bj,fj,gj,mj,nj,oj,zj,Aj,Ej,Gj,Hj,Ij,Jj,Lj,Mj,Nj,Oj,Pj,Sj,Tj,Uj,Vj,Wj,Xj,lk,mk,sk,vk,wk,Ek,Fk,Hk,Kk,Mk,Ok,Pk,Sk,Yk,fl,hl,ml,ql,sl,tl,ul,zl,Bl,Cl,Dl,Fl,Hl,Jl,Pl,Tl,Vl,Xl,Zl,hm,im,lm,mm,nm,rm,sm,tm,wm,Am,Bm,Em,Gm,Hm,Jm,Nm,Om,Um,Vm,Wm,hn,in,mn,on,pn,qn,rn,tn,un,vn,wn,xn,An,Bn,Cn,Dn,En,Fn,Tn,Un,ao,eo,fo,no,oo,qo,to,vo,xo,yo,Bo,Ho,Oo,Qo,Vo,Zo,bp,gp,ip,jp,kp,np,pp,tp,yp,Ap,Dp,Fp,Hp,Mp,Np,Qp,Rp,Sp,Wp,Xp,Yp,bq,fq,gq,jq,lq,mq,oq,sq,tq,zq,Aq,Bq,Mq,Nq,Rq,fr,gr,mr,pr,qr,yr,zr,Br,Er,Gr,Ir,Jr,Mr,Sr,Zr,bs,gs,ks,ms,rs,ts,us,vs,xs,zs,Bs,Es,Gs,Js,Ls,Ns,Ss,Ts,Ws,Xs,Ys,ct,dt,et,ht,lt,mt,pt,rt,st,ut,yt,zt,Ft,Gt,Ht,St,Tt,Xt,Zt,au,bu,cu,eu,fu,gu,hu,iu,lu,mu,nu,ou,pu,qu,Eu,Fu,Lu,Ou,Pu,Xu,Yu,av,dv,fv,hv,iv,lv,rv,yv,Av,Fv,Jv,Lv,Qv,Sv,Tv,Uv,Wv,Yv,aw,dw,fw,iw,kw,mw,rw,sw,vw,ww,xw,Bw,Cw,Dw,Gw,Kw,Lw,Ow;
-u8 Vb,Wb,cc,dc,gc,hc,ic,jc,kc,qc,rc,sc,tc,uc,vc,wc,xc,Ac,Bc,Cc,Yc,ad,bd,gd,id,jd,kd,nd,od,pd,qd,sd,vd,Ad,Bd,Cd,Ed,Fd,Id,Ld,Nd,Pd,Td,Vd,Wd,Xd,Zd,be,de,ee,fe,ge,ie,ke,le,me,ne,pe,qe,re,te,xe,ye,ze,Ae,Ie,Me,Ne,Oe,Pe,Te,Ye,cf,df,ef,ff,hf,mf,rf,sf,tf,xf,Bf,Ff,If,Of,Pf,Sf,Tf,Uf,Vf,Wf,cg,dg,eg,fg,gg,hg,ig,jg,mg,ng,og,qg,sg,tg,yg,Ag,Bg,Cg,Fg,Gg,Hg,Ig,Jg,Mg,Qg,Rg,Sg,Ug,Vg,Yg,bh,dh,fh,jh,lh,mh,nh,ph,rh,th,uh,vh,wh,yh,Ah,Bh,Ch,Dh,Fh,Gh,Hh,Jh,Nh,Oh,Ph,Qh,Yh,ci,di,ei,fi,ji,oi,si,ti,ui,vi,xi,Bi,Gi,Hi,Ii,Mi,Qi,Ui,Xi,dj,ej,hj,ij,jj,kj,lj,rj,sj,tj,uj,vj,wj,xj,yj,Bj,Cj,Dj,Yj,ak,bk,gk,ik,jk,kk,nk,ok,pk,qk,rk,uk,yk,zk,Ak,Ck,Dk,Gk,Jk,Lk,Nk,Rk,Tk,Uk,Vk,Xk,Zk,bl,cl,dl,el,gl,il,jl,kl,ll,nl,ol,pl,rl,vl,wl,xl,yl,Gl,Kl,Ll,Ml,Nl,Rl,Wl,am,bm,cm,dm,fm,jm,om,pm,qm,um,ym,Cm,Fm,Lm,Mm,Pm,Qm,Rm,Sm,Tm,Zm,an,bn,cn,dn,en,fn,gn,jn,kn,ln,Gn,In,Jn,On,Qn,Rn,Sn,Vn,Wn,Xn,Yn,Zn,co,ho,io,jo,lo,mo,po,so,uo,wo,Ao,Co,Do,Eo,Go,Io,Ko,Lo,Mo,No,Po,Ro,So,To,Uo,Wo,Xo,Yo,ap,cp,dp,ep,fp,op,up,Gp,Kp,Op,Tp,Up,Vp,Zp,dq,hq,kq,qq,rq,uq,vq,wq,xq,yq,Eq,Fq,Gq,Hq,Iq,Jq,Kq,Lq,Oq,Pq,Qq,Sq,Uq,Vq,ar,cr,dr,er,hr,ir,jr,kr,lr,or,sr,tr,ur,wr,xr,Ar,Dr,Fr,Hr,Lr,Nr,Or,Pr,Rr,Tr,Vr,Wr,Xr,Yr,as,cs,ds,es,fs,hs,is,js,ls,ns,os,ps,qs,ys,Cs,Ms,Qs,Us,Zs,at,bt,ft,jt,nt,qt,wt,xt,At,Bt,Ct,Dt,Et,Kt,Lt,Mt,Nt,Ot,Pt,Qt,Rt,Ut,Vt,Wt,ru,tu,uu,zu,Bu,Cu,Du,Gu,Hu,Iu,Ju,Ku,Nu,Ru,Su,Tu,Vu,Wu,Zu,cv,ev,gv,kv,mv,nv,ov,qv,sv,uv,vv,wv,xv,zv,Bv,Cv,Dv,Ev,Gv,Hv,Iv,Kv,Mv,Nv,Ov,Pv,Xv,bw,lw,pw,tw,yw,zw,Aw,Ew,Iw,Mw,Pw;
-v16 Zb,bc,Lf,Nf,aj,cj,Im,Km,nq,pq,tt,vt;
-u8 *oc,*pc,*Ec,*Pc,*Qc,*Zc,*ce,*Ce,*Ge,*Ke,*Qe,*Se,*We,*af,*nf,*yf,*Gf,*ag,*bg,*rg,*sh,*Sh,*Wh,*ai,*gi,*ii,*mi,*qi,*Ci,*Ni,*Vi,*pj,*qj,*Fj,*Qj,*Rj,*Zj,*al,*Al,*El,*Il,*Ol,*Ql,*Ul,*Yl,*km,*vm,*Dm,*Xm,*Ym,*nn,*yn,*zn,*Hn,*Jo,*hp,*lp,*sp,*vp,*zp,*Bp,*Ep,*Ip,*Pp,*aq,*iq,*Cq,*Dq,*Tq,*Ur,*ss,*ws,*As,*Ds,*Fs,*Hs,*Ks,*Os,*Vs,*gt,*ot,*It,*Jt,*Yt,*ju,*ku,*su,*tv,*Rv,*Vv,*Zv,*cw,*ew,*gw,*jw,*nw,*uw,*Fw,*Nw;
-u16 Jc,ed,hd,wg,zg,Kj,ek,hk,sn,Mn,Pn,Yq,br,du,xu,Au;
-u32 cd,dd,fd,ud,zd,Dd,Kd,Sd,Yd,Ue,gf,jf,Af,Cf,ug,vg,xg,Lg,Pg,Tg,ah,ih,oh,ki,wi,yi,Pi,Ri,ck,dk,fk,tk,xk,Bk,Ik,Qk,Wk,Sl,em,gm,xm,zm,Kn,Ln,Nn,bo,go,ko,ro,zo,Fo,Cp,Jp,Lp,cq,eq,Wq,Xq,Zq,nr,rr,vr,Cr,Kr,Qr,Is,Ps,Rs,it,kt,vu,wu,yu,Mu,Qu,Uu,bv,jv,pv,hw,ow,qw,Hw,Jw;
-Rb=umin64(d>>2,(c<<5)+1024);
+u8 k[32],m[4],n[32],o[32],p[32],r[32],z[4],A[4],I[32],K[4],L[32],M[32],N[32],P[32],X[4],Y[4],ga[32],ia[4],ja[32],ka[32],la[32],na[32],va[4],wa[4],Fa[32],Ha[4],Ia[32],Ja[32],Ka[32],Ma[32],Ua[4],Va[4],eb[32],gb[4],hb[32],ib[32],jb[32],lb[32],tb[4],ub[4],Db[32],Fb[4],Gb[32],Hb[32],Ib[32],Kb[32],Sb[4],Tb[4];
+A16 u8 g[4],h[4],i[40],j[4],l[4],q[4],s[6],t[32],u[4],v[4],w[4],x[32],y[32],B[4],C[4],D[4],E[4],F[4],G[40],H[4],J[4],O[4],Q[6],R[32],S[4],T[4],U[4],V[32],W[32],Z[4],aa[4],ba[4],ca[4],da[4],ea[40],fa[4],ha[4],ma[4],oa[6],pa[32],qa[4],ra[4],sa[4],ta[32],ua[32],xa[4],ya[4],za[4],Aa[4],Ba[4],Ca[40],Da[4],Ea[4],Ga[4],La[4],Na[6],Oa[32],Pa[4],Qa[4],Ra[4],Sa[32],Ta[32],Wa[4],Xa[4],Ya[4],Za[4],ab[4],bb[40],cb[4],db[4],fb[4],kb[4],mb[6],nb[32],ob[4],pb[4],qb[4],rb[32],sb[32],vb[4],wb[4],xb[4],yb[4],zb[4],Ab[40],Bb[4],Cb[4],Eb[4],Jb[4],Lb[6],Mb[32],Nb[4],Ob[4],Pb[4],Qb[32],Rb[32],Ub[4],Vb[4],Wb[4];
+u64 Xb,Yb,Zb,ac,dc,ec,gc,kc,lc,rc,sc,tc,Ec,Fc,Jc,Lc,Mc,Nc,Oc,Qc,Rc,Sc,Tc,Uc,Xc,Yc,Zc,ad,bd,cd,dd,vd,xd,Dd,Gd,Hd,Pd,Qd,Sd,Vd,Xd,Zd,ae,de,je,qe,se,xe,Be,De,Ee,Fe,Ke,Me,Ne,Oe,Qe,Se,Ue,af,ef,gf,jf,lf,tf,uf,xf,yf,zf,Df,Ef,Ff,If,Mf,Nf,Qf,Sf,Tf,Vf,Zf,ag,gg,hg,ig,tg,ug,yg,Pg,Qg,Wg,Zg,ah,ih,jh,lh,oh,qh,sh,th,wh,Ch,Jh,Lh,Qh,Uh,Wh,Xh,Yh,di,fi,gi,hi,ji,li,ni,ti,xi,zi,Bi,Di,Li,Mi,Pi,Qi,Ri,Vi,Wi,Xi,aj,ej,fj,ij,kj,lj,nj,rj,sj,yj,zj,Aj,Lj,Mj,Qj,Sj,Tj,Uj,Vj,Xj,Yj,Zj,ak,bk,ek,fk,gk,hk,ik,jk,Ak,Bk,Hk,Kk,Lk,Tk,Uk,Wk,Zk,bl,dl,el,hl,nl,ul,wl,Bl,Fl,Hl,Il,Jl,Ol,Ql,Rl,Sl,Ul,Wl,Yl,em,im,km,mm,om,wm,xm,Am,Bm,Cm,Gm,Hm,Im,Lm,Pm,Qm,Tm,Vm,Wm,Ym,cn,dn,jn,kn,ln,wn,xn,Bn,Dn,En,Fn,Gn,In,Jn,Kn,Ln,Mn,Pn,Qn,Rn,Sn,Tn,Un,mo,no,to,wo,xo,Fo,Go,Io,Lo,No,Po,Qo,To,Zo,gp,ip,op,up,yp,Dp,Fp,Gp,Hp,Jp,Lp,Np,Qp,Sp,Vp,Xp,Zp,eq,fq,iq,jq,kq,oq,pq,qq,tq,xq,yq,Bq,Dq,Eq,Gq,Kq,Lq,Rq,Sq,Tq,er,fr,jr,Ar,Br,Hr,Kr,Lr,Tr,Ur,Wr,Zr,bs,ds,es,hs,ns,us,ws,Bs,Fs,Hs,Ms,Os,Ps,Qs,Ss,Us,Ws,Zs,bt,et,gt,it,nt,ot,rt,st,tt,xt,yt,zt,Ct,Gt,Ht,Kt,Mt,Nt,Pt,Tt,Ut,au,bu,cu,nu,ou,su,uu,vu,wu,xu,zu,Au,Bu,Cu,Du,Gu,Hu,Iu,Ju,Ku,Lu,cv,dv,jv,mv,nv,vv,wv,yv,Bv,Dv,Fv,Gv,Jv,Pv,Wv,Yv,dw,hw,jw,ow,qw,rw,sw,uw,ww,yw,Bw,Dw,Gw,Iw,Kw,Pw,Qw,Tw,Uw,Vw,Zw,ax,bx,ex,ix,jx,mx;
+u8 bc,cc,ic,jc,mc,nc,oc,pc,qc,wc,xc,yc,zc,Ac,Bc,Cc,Dc,Gc,Hc,Ic,ed,gd,hd,md,od,pd,qd,sd,td,ud,yd,zd,Ad,Bd,Cd,Fd,Jd,Kd,Ld,Nd,Od,Rd,Ud,Wd,Yd,ce,ee,fe,ge,ie,ke,me,ne,oe,pe,re,te,ue,ve,we,ye,ze,Ae,Ce,Ge,He,Ie,Je,Re,Ve,We,Xe,Ye,cf,hf,mf,nf,of,pf,rf,vf,Af,Bf,Cf,Gf,Kf,Of,Rf,Xf,Yf,bg,cg,dg,eg,fg,lg,mg,ng,og,pg,qg,rg,sg,vg,wg,xg,zg,Bg,Cg,Hg,Jg,Kg,Lg,Mg,Ng,Og,Rg,Sg,Tg,Ug,Vg,Yg,ch,dh,eh,gh,hh,kh,nh,ph,rh,vh,xh,yh,zh,Bh,Dh,Fh,Gh,Hh,Ih,Kh,Mh,Nh,Oh,Ph,Rh,Sh,Th,Vh,Zh,ai,bi,ci,ki,oi,pi,qi,ri,vi,Ai,Ei,Fi,Gi,Hi,Ji,Ni,Si,Ti,Ui,Yi,cj,gj,jj,pj,qj,tj,uj,vj,wj,xj,Dj,Ej,Fj,Gj,Hj,Ij,Jj,Kj,Nj,Oj,Pj,kk,mk,nk,sk,uk,vk,wk,xk,yk,zk,Ck,Dk,Ek,Fk,Gk,Jk,Nk,Ok,Pk,Rk,Sk,Vk,Yk,al,cl,gl,il,jl,kl,ml,ol,ql,rl,sl,tl,vl,xl,yl,zl,Al,Cl,Dl,El,Gl,Kl,Ll,Ml,Nl,Vl,Zl,am,bm,cm,gm,lm,pm,qm,rm,sm,um,ym,Dm,Em,Fm,Jm,Nm,Rm,Um,an,bn,en,fn,gn,hn,in,on,pn,qn,rn,sn,tn,un,vn,yn,zn,An,Vn,Xn,Yn,eo,go,ho,io,jo,ko,lo,oo,po,qo,ro,so,vo,zo,Ao,Bo,Do,Eo,Ho,Ko,Mo,Oo,So,Uo,Vo,Wo,Yo,ap,cp,dp,ep,fp,hp,jp,kp,lp,np,pp,sp,tp,vp,zp,Ap,Bp,Cp,Kp,Op,Yp,cq,gq,lq,mq,nq,rq,vq,zq,Cq,Iq,Jq,Mq,Nq,Oq,Pq,Qq,Wq,Xq,Yq,Zq,ar,br,cr,dr,gr,hr,ir,kr,mr,nr,sr,ur,vr,wr,xr,yr,zr,Cr,Dr,Er,Fr,Gr,Jr,Nr,Or,Pr,Rr,Sr,Vr,Yr,as,cs,gs,is,js,ks,ms,os,qs,rs,ss,ts,vs,xs,ys,zs,As,Cs,Ds,Es,Gs,Is,Js,Ks,Ls,Ts,Xs,ht,lt,pt,ut,vt,wt,At,Et,It,Lt,Rt,St,Vt,Wt,Xt,Yt,Zt,fu,gu,hu,iu,ju,ku,lu,mu,pu,qu,ru,Mu,Ou,Pu,Uu,Wu,Xu,Yu,Zu,av,bv,ev,fv,gv,hv,iv,lv,pv,qv,rv,tv,uv,xv,Av,Cv,Ev,Iv,Kv,Lv,Mv,Ov,Qv,Sv,Tv,Uv,Vv,Xv,Zv,aw,bw,cw,ew,fw,gw,iw,kw,lw,mw,nw,vw,zw,Jw,Nw,Rw,Ww,Xw,Yw,cx,gx,kx,nx;
+v16 fc,hc,Uf,Wf,mj,oj,Xm,Zm,Fq,Hq,Ot,Qt;
+u8 *uc,*vc,*Kc,*Vc,*Wc,*fd,*le,*Le,*Pe,*Te,*Ze,*bf,*ff,*kf,*wf,*Hf,*Pf,*jg,*kg,*Ag,*Eh,*ei,*ii,*mi,*si,*ui,*yi,*Ci,*Oi,*Zi,*hj,*Bj,*Cj,*Rj,*ck,*dk,*lk,*pl,*Pl,*Tl,*Xl,*dm,*fm,*jm,*nm,*zm,*Km,*Sm,*mn,*nn,*Cn,*Nn,*On,*Wn,*bp,*Ep,*Ip,*Mp,*Pp,*Rp,*Tp,*Wp,*aq,*hq,*sq,*Aq,*Uq,*Vq,*lr,*ps,*Ns,*Rs,*Vs,*Ys,*at,*ct,*ft,*jt,*qt,*Bt,*Jt,*du,*eu,*tu,*Eu,*Fu,*Nu,*Rv,*pw,*tw,*xw,*Aw,*Cw,*Ew,*Hw,*Lw,*Sw,*dx,*lx;
+u16 Pc,kd,nd,Fg,Ig,Wj,qk,tk,Hn,bo,fo,qr,tr,yu,Su,Vu;
+u32 id,jd,ld,Ed,Id,Md,Td,be,he,df,qf,sf,Jf,Lf,Dg,Eg,Gg,Xg,bh,fh,mh,uh,Ah,wi,Ii,Ki,bj,dj,ok,pk,rk,Ik,Mk,Qk,Xk,fl,ll,hm,tm,vm,Mm,Om,Zn,ao,co,uo,yo,Co,Jo,Ro,Xo,Up,bq,dq,uq,wq,or,pr,rr,Ir,Mr,Qr,Xr,fs,ls,dt,kt,mt,Dt,Ft,Qu,Ru,Tu,kv,ov,sv,zv,Hv,Nv,Fw,Mw,Ow,fx,hx;
+Xb=umin64(d>>2,(c<<5)+1024);
 if(r8(a+8)!=0)w8(a+8,0);
-w8(a+24,Rb);
-Sb=r8(a+16);
-Tb=umin64(Sb,Rb);
-w8(a+32,Tb);
+w8(a+24,Xb);
+Yb=r8(a+16);
+Zb=umin64(Yb,Xb);
+w8(a+32,Zb);
 if(r8(a+48)!=0)w8(a+48,0);
-Ub=c&4294967295u;
-w8(a+64,Ub);
-w8(a+72,umin64(r8(a+56),Ub));
+ac=c&4294967295u;
+w8(a+64,ac);
+w8(a+72,umin64(r8(a+56),ac));
 if(r8(a+88)!=0)w8(a+88,0);
-w8(a+104,Ub);
-w8(a+112,umin64(r8(a+96),Ub));
+w8(a+104,ac);
+w8(a+112,umin64(r8(a+96),ac));
 a[172]=0;
-Vb=c>65536;
+bc=c>65536;
 if(e){
 switch(f){
-case 3:if(Vb)goto L1;
+case 3:if(bc)goto L1;
 if(c<16){
-Wb=are_few_named_14c(b,c);
-if(!Wb)goto L1;}
+cc=are_few_named_14c(b,c);
+if(!cc)goto L1;}
 else{
-Xb=c-16;
-if(Xb==0)goto L2;
-Yb=0;
-L3:Zb=v16_at(b+Yb);
-if((v16_ult(Zb,splat(33))|v16_eq(Zb,splat(127)))!=0)goto L1;
-ac=Yb+16;
-if(ac<Xb){
-Yb=ac;
+dc=c-16;
+if(dc==0)goto L2;
+ec=0;
+L3:fc=v16_at(b+ec);
+if((v16_ult(fc,splat(33))|v16_eq(fc,splat(127)))!=0)goto L1;
+gc=ec+16;
+if(gc<dc){
+ec=gc;
 goto L3;}
-L2:bc=v16_at(b+Xb);
-if((v16_ult(bc,splat(33))|v16_eq(bc,splat(127)))!=0)goto L1;}
-w4(Sa,0);
-w4(Ta,0);
+L2:hc=v16_at(b+dc);
+if((v16_ult(hc,splat(33))|v16_eq(hc,splat(127)))!=0)goto L1;}
+w4(Wa,0);
+w4(Xa,0);
 if(c!=0){
 if(c!=1&&*b==95){
 if(b[1]==90){
 if(c>=3){
-cc=b[2];
+ic=b[2];
 if(c<5){
-if(cc==90)goto L4;
-if((c!=3)&(cc==71)){
+if(ic==90)goto L4;
+if((c!=3)&(ic==71)){
 if(b[3]==86)goto L5;
 goto L6;}
-switch(cc){
+switch(ic){
 case 71:goto L6;
 case 84:if(c==3)goto L7;
 break;
 default:goto L8;
 }}
 else{
-switch(cc){
+switch(ic){
 case 90:goto L4;
 case 71:if(b[3]!=86)goto L6;
 if(b[4]!=90)goto L5;
-if(Tb<19){
-dc=make_ready_8e3(a,19,128);
-if(!(dc&1)){
-gc=0;
-hc=0;
-ic=0;
-jc=0;
+if(Zb<19){
+jc=make_ready_8e3(a,19,128);
+if(!(jc&1)){
+mc=0;
+nc=0;
+oc=0;
+pc=0;
 goto L9;}
-ec=r8(a+16);
-fc=r8(a+8);}
+kc=r8(a+16);
+lc=r8(a+8);}
 else{
-ec=Sb;
-fc=0;}
-if(ec-fc<19){
-kc=grow_amortized_2b6(a,19);
-if(!kc){
-gc=0;
-hc=0;
-ic=0;
-jc=0;
+kc=Yb;
+lc=0;}
+if(kc-lc<19){
+qc=grow_amortized_2b6(a,19);
+if(!qc){
+mc=0;
+nc=0;
+oc=0;
+pc=0;
 goto L9;}
-lc=r8(a+16);
-mc=r8(a+8);}
+rc=r8(a+16);
+sc=r8(a+8);}
 else{
-lc=ec;
-mc=fc;}
-nc=mc+19;
-oc=rp(a);
+rc=kc;
+sc=lc;}
+tc=sc+19;
+uc=rp(a);
 z16(a+8);
-pc=oc+(i64)mc;
-if((u64)pc-(u64)(u8*)t_c270<19)copy_bits_4f4((u8*)t_c270,pc,19);
-else memcpy(pc,(u8*)t_c270,19);
-wp(a,oc);
-w8(a+8,nc);
-w8(a+16,lc);
+vc=uc+(i64)sc;
+if((u64)vc-(u64)(u8*)t_c270<19)copy_bits_4f4((u8*)t_c270,vc,19);
+else memcpy(vc,(u8*)t_c270,19);
+wp(a,uc);
+w8(a+8,tc);
+w8(a+16,rc);
 w8(a+176,5);
-begin_encoding_8af(Qa,a,b,c);
-gc=Qa[3];
-hc=Qa[2];
-ic=Qa[1];
-jc=*Qa;
-L9:qc=gc;
-rc=hc;
-sc=ic;
-tc=jc;
+begin_encoding_8af(Ua,a,b,c);
+mc=Ua[3];
+nc=Ua[2];
+oc=Ua[1];
+pc=*Ua;
+L9:wc=mc;
+xc=nc;
+yc=oc;
+zc=pc;
 goto L10;
 case 84:break;
 default:goto L8;
 }}
 switch(b[3]){
-case 104:begin_thunk_cdf(Ta,a,b,c);
+case 104:begin_thunk_cdf(Xa,a,b,c);
 goto L11;
-case 118:begin_virtual_thunk_2ec(Ta,a,b,c);
+case 118:begin_virtual_thunk_2ec(Xa,a,b,c);
 goto L11;
-case 67:begin_table_89f(Ta,a);
+case 67:begin_table_89f(Xa,a);
 goto L11;
 default:break;}
-L7:begin_special_44d(Ta,a,b,c);
-L11:uc=Ta[3];
-vc=Ta[2];
-wc=Ta[1];
-xc=*Ta;
+L7:begin_special_44d(Xa,a,b,c);
+L11:Ac=Xa[3];
+Bc=Xa[2];
+Cc=Xa[1];
+Dc=*Xa;
 goto L12;
-L6:begin_clone_d83(Sa,a,b,c);
-uc=Sa[3];
-vc=Sa[2];
-wc=Sa[1];
-xc=*Sa;
+L6:begin_clone_d83(Wa,a,b,c);
+Ac=Wa[3];
+Bc=Wa[2];
+Cc=Wa[1];
+Dc=*Wa;
 goto L12;
-L5:begin_object_4cd(Sa,a,b,c);
-uc=Sa[3];
-vc=Sa[2];
-wc=Sa[1];
-xc=*Sa;
+L5:begin_object_4cd(Wa,a,b,c);
+Ac=Wa[3];
+Bc=Wa[2];
+Cc=Wa[1];
+Dc=*Wa;
 goto L12;
 L4:w8(a+176,3);
-begin_encoding_8af(Ra,a,b,c);
-qc=Ra[3];
-rc=Ra[2];
-sc=Ra[1];
-tc=*Ra;
-L10:uc=qc;
-vc=rc;
-wc=sc;
-xc=tc;
+begin_encoding_8af(Va,a,b,c);
+wc=Va[3];
+xc=Va[2];
+yc=Va[1];
+zc=*Va;
+L10:Ac=wc;
+Bc=xc;
+Cc=yc;
+Dc=zc;
 goto L12;}
 L8:w8(a+176,2);
-begin_encoding_8af(Sa,a,b,c);
-uc=Sa[3];
-vc=Sa[2];
-wc=Sa[1];
-xc=*Sa;
-L12:if(xc!=1)goto L1;
-yc=c<<3;
-zc=0;
-Ac=uc;
-Bc=vc;
-Cc=wc;
-L13:if(Cc==7){
-Dc=r8(a+8);
-if(Dc>Rb)goto L14;
-Ec=rp(a);
-if(Dc==0)goto L15;
+begin_encoding_8af(Wa,a,b,c);
+Ac=Wa[3];
+Bc=Wa[2];
+Cc=Wa[1];
+Dc=*Wa;
+L12:if(Dc!=1)goto L1;
+Ec=c<<3;
 Fc=0;
-Gc=0;
-Hc=0;
-L16:Ic=Fc;
-L17:if(Dc-Ic>15){
-Jc=cttz(v16_ult(v16_at(Ec+Ic),splat(3)),16);
-Kc=Ic+Jc;
-if(Jc>=16){
-Ic=Kc;
+Gc=Ac;
+Hc=Bc;
+Ic=Cc;
+L13:if(Ic==7){
+Jc=r8(a+8);
+if(Jc>Xb)goto L14;
+Kc=rp(a);
+if(Jc==0)goto L15;
+Lc=0;
+Mc=0;
+Nc=0;
+L16:Oc=Lc;
+L17:if(Jc-Oc>15){
+Pc=cttz(v16_ult(v16_at(Kc+Oc),splat(3)),16);
+Qc=Oc+Pc;
+if(Pc>=16){
+Oc=Qc;
 goto L17;}
-Lc=Kc;}
+Rc=Qc;}
 else{
-if(Ic>=Dc){
-Lc=Ic;
+if(Oc>=Jc){
+Rc=Oc;
 goto L18;}
-Mc=Ic;
-L19:if(*(Ec+Mc)>2){
-Nc=Mc+1;
-if(Nc!=Dc){
-Mc=Nc;
+Sc=Oc;
+L19:if(*(Kc+Sc)>2){
+Tc=Sc+1;
+if(Tc!=Jc){
+Sc=Tc;
 goto L19;}
-Lc=Dc;}
-else Lc=Mc;}
-L18:if(Hc==0){
-if(Gc<Fc){
-if(Lc!=Fc){
-Oc=Lc-Fc;
-Pc=Ec+(i64)Fc;
-Qc=Ec+(i64)Gc;
-Rc=0;
-L20:*(Qc+(i64)Rc)=*(Pc+(i64)Rc);
-Sc=Rc+1;
-if(Sc!=Oc){
-Rc=Sc;
+Rc=Jc;}
+else Rc=Sc;}
+L18:if(Nc==0){
+if(Mc<Lc){
+if(Rc!=Lc){
+Uc=Rc-Lc;
+Vc=Kc+(i64)Lc;
+Wc=Kc+(i64)Mc;
+Xc=0;
+L20:*(Wc+(i64)Xc)=*(Vc+(i64)Xc);
+Yc=Xc+1;
+if(Yc!=Uc){
+Xc=Yc;
 goto L20;}}}
-Tc=Gc-Fc+Lc;}
-else Tc=Gc;
-if(Lc!=Dc){
-switch(*(Ec+Lc)){
-case 1:Uc=Hc+1;
+Zc=Mc-Lc+Rc;}
+else Zc=Mc;
+if(Rc!=Jc){
+switch(*(Kc+Rc)){
+case 1:ad=Nc+1;
 break;
-case 2:Uc=usub64(Hc,1);
+case 2:ad=usub64(Nc,1);
 break;
 default:goto L1;
 }
-Vc=Lc+1;
-if(Vc<Dc){
-Fc=Vc;
-Gc=Tc;
-Hc=Uc;
+bd=Rc+1;
+if(bd<Jc){
+Lc=bd;
+Mc=Zc;
+Nc=ad;
 goto L16;}}
-if(r8(a+8)<=Tc)goto L15;
-Wc=Tc;
+if(r8(a+8)<=Zc)goto L15;
+cd=Zc;
 break;}
 w8(a+184,r8(a+184)+1);
-w4(Ua,0);
-switch(Cc){
-case 0:type_at_11d(Ua,a,b,c,0);
+w4(Ya,0);
+switch(Ic){
+case 0:type_at_11d(Ya,a,b,c,0);
 break;
-case 1:type_at_11d(Ua,a,b,c,1);
+case 1:type_at_11d(Ya,a,b,c,1);
 break;
-case 2:w4(Ma,0);
-w4(Na,0);
-z32(Oa);
-z32(Pa);
-Xc=r8(a+88);
-if(Xc==0)w4(Ua,0);
+case 2:w4(Qa,0);
+w4(Ra,0);
+z32(Sa);
+z32(Ta);
+dd=r8(a+88);
+if(dd==0)w4(Ya,0);
 else{
-Yc=Bc&1;
-Zc=rp(a+80)+(i64)(Xc*44);
-ad=Zc[-44];
-bd=Zc[-43];
-cd=q4(Zc-40);
-dd=q4(Zc-36);
-ed=q2(Zc-32);
-switch(ad){
-case 29:case 28:case 27:case 26:case 4:case 5:case 6:case 7:case 8:case 11:case 12:case 13:case 14:case 15:case 16:case 17:case 18:case 19:case 20:case 21:case 22:case 23:case 24:case 25:if(Ac&1){
-pass_dependent_3d7(Ma,a,b,c);
-*Ua=*Ma;
-Ua[1]=Ma[1];
-Ua[2]=Ma[2];
-Ua[3]=Ma[3];
+ed=Hc&1;
+fd=rp(a+80)+(i64)(dd*44);
+gd=fd[-44];
+hd=fd[-43];
+id=q4(fd-40);
+jd=q4(fd-36);
+kd=q2(fd-32);
+switch(gd){
+case 29:case 28:case 27:case 26:case 4:case 5:case 6:case 7:case 8:case 11:case 12:case 13:case 14:case 15:case 16:case 17:case 18:case 19:case 20:case 21:case 22:case 23:case 24:case 25:if(Gc&1){
+pass_dependent_3d7(Qa,a,b,c);
+*Ya=*Qa;
+Ya[1]=Qa[1];
+Ya[2]=Qa[2];
+Ya[3]=Qa[3];
 goto L21;}
-fd=q4(Zc-4);
-gd=dd;
-hd=dd>>16;
+ld=q4(fd-4);
+w4(Pa,0);
+switch(gd){
+case 22:returned_07a(Pa,a,b,c,hd&1);
+break;
+case 23:parameter_at_257(Pa,a,b,c,hd&1,0);
+break;
+case 24:array_ended_b9c(Pa,a,b,c,hd,id,jd);
+break;
+case 12:enclosing_parameter_fc1(Pa,a,b,c,id,jd);
+break;
+case 13:instance_parameter_240(Pa,a,b,c,hd,id,jd);
+break;
+case 11:w2(Ma,kd);
+memcpy(Ma+2,fd-30,26);
+x4(Ma+28,ld);
+enclosing_front_fa8(Pa,a,hd,id,jd,Ma);
+break;
+case 17:w4(Na,jd);
+w2(Na+4,kd);
+lambda_parameter_383(Pa,a,b,c,id,Na);
+break;
+case 18:member_parameter_7e4(Pa,a,b,c,id);
+break;
+case 15:w4(Oa,jd);
+w2(Oa+4,kd);
+memcpy(Oa+6,fd-30,26);
+addressed_front_54d(Pa,a,b,c,hd,id,Oa);
+break;
+case 16:addressed_parameter_2cf(Pa,a,b,c,id);
+break;
+case 14:*Pa=0;
+break;
+case 19:finish_8cd(Pa,a,b,c);
+break;
+case 20:derived_ended_aef(Pa,a,b,c);
+break;
+case 21:base_ended_299(Pa,a,b,c,id);
+break;
+case 29:enumerator_21c(Pa,a,b,c);
+break;
+case 26:case 25:case 28:md=jd;
+nd=ld;
 w4(La,0);
-switch(ad){
-case 22:returned_07a(La,a,b,c,bd&1);
+switch(gd){
+case 26:w2(Ia,jd>>16);
+w2(Ia+2,kd);
+memcpy(Ia+4,fd-30,26);
+w2(Ia+30,nd);
+argument_enumerator_87a(La,a,b,c,id,md,Ia);
 break;
-case 23:parameter_at_257(La,a,b,c,bd&1,0);
+case 25:w2(Ja,jd>>16);
+w2(Ja+2,kd);
+memcpy(Ja+4,fd-30,26);
+w2(Ja+30,nd);
+argument_ended_e71(La,a,b,c,id,md,Ja,ed);
 break;
-case 24:array_ended_b9c(La,a,b,c,bd,cd,dd);
+case 28:w2(Ka,jd>>16);
+w2(Ka+2,kd);
+memcpy(Ka+4,fd-30,26);
+w2(Ka+30,nd);
+element_ended_20b(La,a,b,c,id,md,Ka,ed);
 break;
-case 12:enclosing_parameter_fc1(La,a,b,c,cd,dd);
-break;
-case 13:instance_parameter_240(La,a,b,c,bd,cd,dd);
-break;
-case 11:w2(Fa,ed);
-memcpy(Fa+2,Zc-30,26);
-x4(Fa+28,fd);
-enclosing_front_fa8(La,a,bd,cd,dd,Fa);
-break;
-case 17:w4(Ga,dd);
-w2(Ga+4,ed);
-lambda_parameter_383(La,a,b,c,cd,Ga);
-break;
-case 18:member_parameter_7e4(La,a,b,c,cd);
-break;
-case 15:w4(Ha,dd);
-w2(Ha+4,ed);
-memcpy(Ha+6,Zc-30,26);
-addressed_front_54d(La,a,b,c,bd,cd,Ha);
-break;
-case 16:addressed_parameter_2cf(La,a,b,c,cd);
-break;
-case 14:*La=0;
-break;
-case 19:finish_8cd(La,a,b,c);
-break;
-case 20:derived_ended_aef(La,a,b,c);
-break;
-case 21:base_ended_299(La,a,b,c,cd);
-break;
-case 29:enumerator_21c(La,a,b,c);
-break;
-case 26:w2(Ia,hd);
-w2(Ia+2,ed);
-memcpy(Ia+4,Zc-30,26);
-w2(Ia+30,fd);
-argument_enumerator_87a(La,a,b,c,cd,gd,Ia);
-break;
-case 25:w2(Ja,hd);
-w2(Ja+2,ed);
-memcpy(Ja+4,Zc-30,26);
-w2(Ja+30,fd);
-argument_ended_e71(La,a,b,c,cd,gd,Ja,Yc);
-break;
-case 28:w2(Ka,hd);
-w2(Ka+2,ed);
-memcpy(Ka+4,Zc-30,26);
-w2(Ka+30,fd);
-element_ended_20b(La,a,b,c,cd,gd,Ka,Yc);
-break;
-case 27:case 10:case 9:case 8:case 4:case 5:case 6:case 7:*La=1;
-La[1]=3;
-La[2]=0;
-La[3]=0;
+case 27:*La=0;
 break;
 default:NEVER;
 }
-id=La[1];
-jd=La[2];
-kd=La[3];
-*Na=*La;
-Na[1]=id;
-Na[2]=jd;
-Na[3]=kd;
+od=La[1];
+pd=La[2];
+qd=La[3];
+*Pa=*La;
+Pa[1]=od;
+Pa[2]=pd;
+Pa[3]=qd;
+break;
+case 27:case 10:case 9:case 8:case 4:case 5:case 6:case 7:*Pa=1;
+Pa[1]=3;
+Pa[2]=0;
+Pa[3]=0;
+break;
+default:NEVER;
+}
+sd=Pa[1];
+td=Pa[2];
+ud=Pa[3];
+*Ra=*Pa;
+Ra[1]=sd;
+Ra[2]=td;
+Ra[3]=ud;
 goto L22;
-case 10:w4(Oa,dd);
-w2(Oa+4,ed);
-memcpy(Oa+6,Zc-30,26);
-parameter_ended_d3f(Na,a,b,c,cd,Oa);
+case 10:w4(Sa,jd);
+w2(Sa+4,kd);
+memcpy(Sa+6,fd-30,26);
+parameter_ended_d3f(Ra,a,b,c,id,Sa);
 goto L22;
-case 9:w4(Pa,dd);
-w2(Pa+4,ed);
-memcpy(Pa+6,Zc-30,26);
-front_ended_665(Na,a,b,c,bd,cd,Pa);
+case 9:w4(Ta,jd);
+w2(Ta+4,kd);
+memcpy(Ta+6,fd-30,26);
+front_ended_665(Ra,a,b,c,hd,id,Ta);
 goto L22;
-case 0:w8(a+88,Xc-1);
-ld=r8(a+8);
-if(r8(a+32)>ld)md=ld;
+case 0:w8(a+88,dd-1);
+vd=r8(a+8);
+if(r8(a+32)>vd)xd=vd;
 else{
-nd=make_ready_8e3(a,1,16);
-if(!(nd&1)){
-od=0;
-pd=0;
-qd=0;
-sd=0;
-goto L23;}
-md=r8(a+8);}
-*(rp(a)+md)=42;
-td=md+1;
-w8(a+8,td);
-ud=td;
-vd=Ac&1;
-xd=r8(a+48);
-if(r8(a+72)>xd){
-yd=xd;
-zd=ud;
+yd=make_ready_8e3(a,1,16);
+if(!(yd&1)){
+zd=0;
 Ad=0;
-Bd=vd;
-goto L24;}
-Cd=make_ready_17a(a+40);
-if(!(Cd&1)){
-od=0;
-pd=0;
-qd=0;
-sd=0;
+Bd=0;
+Cd=0;
 goto L23;}
-Dd=ud;
-Ed=0;
-Fd=vd;
+xd=r8(a+8);}
+*(rp(a)+xd)=42;
+Dd=xd+1;
+w8(a+8,Dd);
+Ed=Dd;
+Fd=Gc&1;
+Gd=r8(a+48);
+if(r8(a+72)>Gd){
+Hd=Gd;
+Id=Ed;
+Jd=0;
+Kd=Fd;
+goto L24;}
+Ld=make_ready_17a(a+40);
+if(!(Ld&1)){
+zd=0;
+Ad=0;
+Bd=0;
+Cd=0;
+goto L23;}
+Md=Ed;
+Nd=0;
+Od=Fd;
 break;
-case 1:if(Yc)goto L22;
-w8(a+88,Xc-1);
-Gd=r8(a+8);
-if(r8(a+32)>Gd)Hd=Gd;
+case 1:if(ed)goto L22;
+w8(a+88,dd-1);
+Pd=r8(a+8);
+if(r8(a+32)>Pd)Qd=Pd;
 else{
-Id=make_ready_8e3(a,1,16);
-if(!(Id&1)){
-od=0;
-pd=0;
-qd=0;
-sd=0;
-goto L23;}
-Hd=r8(a+8);}
-*(rp(a)+Hd)=38;
-Jd=Hd+1;
-w8(a+8,Jd);
-Kd=Jd;
-Ld=Ac&1;
-Md=r8(a+48);
-if(r8(a+72)>Md){
-yd=Md;
-zd=Kd;
-Ad=1;
-Bd=Ld;
-goto L24;}
-Nd=make_ready_17a(a+40);
-if(!(Nd&1)){
-od=0;
-pd=0;
-qd=0;
-sd=0;
-goto L23;}
-Dd=Kd;
-Ed=1;
-Fd=Ld;
-break;
-case 2:if(Yc)goto L22;
-w8(a+88,Xc-1);
-Od=r8(a+8);
-if(r8(a+32)-Od<2){
-Pd=make_ready_8e3(a,2,128);
-if(!(Pd&1)){
-od=0;
-pd=0;
-qd=0;
-sd=0;
+Rd=make_ready_8e3(a,1,16);
+if(!(Rd&1)){
+zd=0;
+Ad=0;
+Bd=0;
+Cd=0;
 goto L23;}
 Qd=r8(a+8);}
-else Qd=Od;
 *(rp(a)+Qd)=38;
-*(rp(a)+(i64)Qd+1)=38;
-Rd=Qd+2;
-w8(a+8,Rd);
-Sd=Rd;
-Td=Ac&1;
-Ud=r8(a+48);
-if(r8(a+72)>Ud){
-yd=Ud;
-zd=Sd;
-Ad=1;
-Bd=Td;
+Sd=Qd+1;
+w8(a+8,Sd);
+Td=Sd;
+Ud=Gc&1;
+Vd=r8(a+48);
+if(r8(a+72)>Vd){
+Hd=Vd;
+Id=Td;
+Jd=1;
+Kd=Ud;
 goto L24;}
-Vd=make_ready_17a(a+40);
-if(!(Vd&1)){
-od=0;
-pd=0;
-qd=0;
-sd=0;
-goto L23;}
-Dd=Sd;
-Ed=1;
-Fd=Td;
-break;
-case 3:if(Yc)goto L22;
-w8(a+88,Xc-1);
-if(r8(a+32)-r8(a+8)<6){
-Wd=make_ready_8e3(a,6,128);
+Wd=make_ready_17a(a+40);
 if(!(Wd&1)){
-od=0;
-pd=0;
-qd=0;
-sd=0;
-goto L23;}}
-Xd=extend_from_slice_169(a,(u8*)t_f603,6);
-if(Xd&1){
-od=0;
-pd=0;
-qd=0;
-sd=0;
-goto L23;}
-Yd=r8(a+8);
-Zd=Ac&1;
-ae=r8(a+48);
-if(r8(a+72)>ae){
-yd=ae;
-zd=Yd;
+zd=0;
 Ad=0;
-Bd=Zd;
-goto L24;}
-be=make_ready_17a(a+40);
-if(!(be&1)){
-od=0;
-pd=0;
-qd=0;
-sd=0;
+Bd=0;
+Cd=0;
 goto L23;}
-Dd=Yd;
-Ed=0;
-Fd=Zd;
+Md=Td;
+Nd=1;
+Od=Ud;
+break;
+case 2:if(ed)goto L22;
+w8(a+88,dd-1);
+Xd=r8(a+8);
+if(r8(a+32)-Xd<2){
+Yd=make_ready_8e3(a,2,128);
+if(!(Yd&1)){
+zd=0;
+Ad=0;
+Bd=0;
+Cd=0;
+goto L23;}
+Zd=r8(a+8);}
+else Zd=Xd;
+*(rp(a)+Zd)=38;
+*(rp(a)+(i64)Zd+1)=38;
+ae=Zd+2;
+w8(a+8,ae);
+be=ae;
+ce=Gc&1;
+de=r8(a+48);
+if(r8(a+72)>de){
+Hd=de;
+Id=be;
+Jd=1;
+Kd=ce;
+goto L24;}
+ee=make_ready_17a(a+40);
+if(!(ee&1)){
+zd=0;
+Ad=0;
+Bd=0;
+Cd=0;
+goto L23;}
+Md=be;
+Nd=1;
+Od=ce;
+break;
+case 3:if(ed)goto L22;
+w8(a+88,dd-1);
+if(r8(a+32)-r8(a+8)<6){
+fe=make_ready_8e3(a,6,128);
+if(!(fe&1)){
+zd=0;
+Ad=0;
+Bd=0;
+Cd=0;
+goto L23;}}
+ge=extend_from_slice_169(a,(u8*)t_f603,6);
+if(ge&1){
+zd=0;
+Ad=0;
+Bd=0;
+Cd=0;
+goto L23;}
+he=r8(a+8);
+ie=Gc&1;
+je=r8(a+48);
+if(r8(a+72)>je){
+Hd=je;
+Id=he;
+Jd=0;
+Kd=ie;
+goto L24;}
+ke=make_ready_17a(a+40);
+if(!(ke&1)){
+zd=0;
+Ad=0;
+Bd=0;
+Cd=0;
+goto L23;}
+Md=he;
+Nd=0;
+Od=ie;
 break;
 default:NEVER;
 }
-yd=r8(a+48);
-zd=Dd;
-Ad=Ed;
-Bd=Fd;
-L24:ce=rp(a+40)+yd*12;
-x4(ce,cd);
-x4(ce+4,zd);
-ce[8]=Ad;
-ce[9]=Bd;
-x2(ce+10,0);
-w8(a+48,yd+1);
-od=Bd;
-pd=Ad;
-qd=2;
-sd=1;
-L23:*Na=sd;
-Na[1]=qd;
-Na[2]=pd;
-Na[3]=od;
-L22:de=Na[1];
-ee=Na[2];
-fe=Na[3];
-*Ua=*Na;
-Ua[1]=de;
-Ua[2]=ee;
-Ua[3]=fe;}
+Hd=r8(a+48);
+Id=Md;
+Jd=Nd;
+Kd=Od;
+L24:le=rp(a+40)+Hd*12;
+x4(le,id);
+x4(le+4,Id);
+le[8]=Jd;
+le[9]=Kd;
+x2(le+10,0);
+w8(a+48,Hd+1);
+zd=Kd;
+Ad=Jd;
+Bd=2;
+Cd=1;
+L23:*Ra=Cd;
+Ra[1]=Bd;
+Ra[2]=Ad;
+Ra[3]=zd;
+L22:me=Ra[1];
+ne=Ra[2];
+oe=Ra[3];
+*Ya=*Ra;
+Ya[1]=me;
+Ya[2]=ne;
+Ya[3]=oe;}
 L21:break;
-case 3:ge=Bc&1;
-w4(Da,0);
-he=r8(a+176);
-if(he<c){
-ie=*(b+he);
-switch(ie){
-case 69:w4(Ba,0);
-w8(a+176,he+1);
-je=r8(a+88);
-if(je==0){
-ke=0;
-le=0;
-me=0;
-ne=0;}
+case 3:pe=Hc&1;
+w4(Ga,0);
+qe=r8(a+176);
+if(qe<c){
+re=*(b+qe);
+switch(re){
+case 69:w4(Ea,0);
+w8(a+176,qe+1);
+se=r8(a+88);
+if(se==0){
+te=0;
+ue=0;
+ve=0;
+we=0;}
 else{
-if(*(rp(a+80)+(i64)(je*44)-44)==27){
-if(ge){
-ke=0;
-le=0;
-me=0;
-ne=0;}
+if(*(rp(a+80)+(i64)(se*44)-44)==27){
+if(pe){
+te=0;
+ue=0;
+ve=0;
+we=0;}
 else{
-w8(a+88,je-1);
-ke=0;
-le=0;
-me=3;
-ne=1;}}
+w8(a+88,se-1);
+te=0;
+ue=0;
+ve=3;
+we=1;}}
 else{
-z32(Ca);
-close_list_3c2(Ba,a,b,c,Ca);
-ke=Ba[3];
-le=Ba[2];
-me=Ba[1];
-ne=*Ba;}}
-*Ua=ne;
-Ua[1]=me;
-Ua[2]=le;
-Ua[3]=ke;
+z32(Fa);
+close_list_3c2(Ea,a,b,c,Fa);
+te=Ea[3];
+ue=Ea[2];
+ve=Ea[1];
+we=*Ea;}}
+*Ya=we;
+Ya[1]=ve;
+Ya[2]=ue;
+Ya[3]=te;
 goto L25;
-case 74:oe=he+1;
-if(oe<c){
-if(*(b+oe)==69){
-empty_pack_ea9(Da,a,b,c,ge);
-*Ua=*Da;
-Ua[1]=Da[1];
-Ua[2]=Da[2];
-Ua[3]=Da[3];
+case 74:xe=qe+1;
+if(xe<c){
+if(*(b+xe)==69){
+empty_pack_ea9(Ga,a,b,c,pe);
+*Ya=*Ga;
+Ya[1]=Ga[1];
+Ya[2]=Ga[2];
+Ya[3]=Ga[3];
 goto L25;}}
-if(!ge){
-pe=74;
+if(!pe){
+ye=74;
 goto L26;}
-first_pack_117(Da,a,b,c);
-*Ua=*Da;
-Ua[1]=Da[1];
-Ua[2]=Da[2];
-Ua[3]=Da[3];
+first_pack_117(Ga,a,b,c);
+*Ya=*Ga;
+Ya[1]=Ga[1];
+Ya[2]=Ga[2];
+Ya[3]=Ga[3];
 goto L25;
-default:qe=ie;
+default:ze=re;
 break;}}
-else qe=0;
-if(ge){
-re=qe;
+else ze=0;
+if(pe){
+Ae=ze;
 goto L27;}
-pe=qe;
-L26:se=r8(a+8);
-if(r8(a+32)-se<2){
-te=make_ready_8e3(a,2,128);
-if(!(te&1)){
-w4(Ua,0);
+ye=ze;
+L26:Be=r8(a+8);
+if(r8(a+32)-Be<2){
+Ce=make_ready_8e3(a,2,128);
+if(!(Ce&1)){
+w4(Ya,0);
 goto L25;}
-ue=r8(a+8);}
-else ue=se;
-*(rp(a)+ue)=44;
-*(rp(a)+(i64)ue+1)=32;
-w8(a+8,ue+2);
-re=pe;
-L27:switch(re){
-case 88:ve=r8(a+176);
-if(ve==18446744073709551615u){
-w4(Ua,0);
+De=r8(a+8);}
+else De=Be;
+*(rp(a)+De)=44;
+*(rp(a)+(i64)De+1)=32;
+w8(a+8,De+2);
+Ae=ye;
+L27:switch(Ae){
+case 88:Ee=r8(a+176);
+if(Ee==18446744073709551615u){
+w4(Ya,0);
 goto L25;}
-we=ve+1;
-if(we<c){
-switch(*(b+we)){
-case 115:begin_level_398(Da,a,b,c);
-*Ua=*Da;
-Ua[1]=Da[1];
-Ua[2]=Da[2];
-Ua[3]=Da[3];
+Fe=Ee+1;
+if(Fe<c){
+switch(*(b+Fe)){
+case 115:begin_level_398(Ga,a,b,c);
+*Ya=*Ga;
+Ya[1]=Ga[1];
+Ya[2]=Ga[2];
+Ya[3]=Ga[3];
 goto L25;
-case 84:parameter_argument_7c8(Da,a,b,c);
-*Ua=*Da;
-Ua[1]=Da[1];
-Ua[2]=Da[2];
-Ua[3]=Da[3];
+case 84:parameter_argument_7c8(Ga,a,b,c);
+*Ya=*Ga;
+Ya[1]=Ga[1];
+Ya[2]=Ga[2];
+Ya[3]=Ga[3];
 goto L25;
 default:break;}}
 break;
-case 76:if(ge){
-first_literal_c8e(Da,a,b,c);
-*Ua=*Da;
-Ua[1]=Da[1];
-Ua[2]=Da[2];
-Ua[3]=Da[3];
+case 76:if(pe){
+first_literal_c8e(Ga,a,b,c);
+*Ya=*Ga;
+Ya[1]=Ga[1];
+Ya[2]=Ga[2];
+Ya[3]=Ga[3];
 goto L25;}
-literal_4a5(Ea,a,b,c);
-xe=Ea[3];
-ye=Ea[2];
-ze=Ea[1];
-Ae=*Ea;
+literal_4a5(Ha,a,b,c);
+Ge=Ha[3];
+He=Ha[2];
+Ie=Ha[1];
+Je=*Ha;
 goto L28;
-case 74:Be=r8(a+88);
-if(Be==0){
-xe=0;
-ye=0;
-ze=0;
-Ae=0;
+case 74:Ke=r8(a+88);
+if(Ke==0){
+Ge=0;
+He=0;
+Ie=0;
+Je=0;
 goto L28;}
-Ce=rp(a+80);
-De=Be*44;
-if(*(Ce+(i64)De-44)==27){
-xe=0;
-ye=0;
-ze=0;
-Ae=0;
+Le=rp(a+80);
+Me=Ke*44;
+if(*(Le+(i64)Me-44)==27){
+Ge=0;
+He=0;
+Ie=0;
+Je=0;
 goto L28;}
-Ee=r8(a+176);
-if(Ee==18446744073709551615u){
-xe=0;
-ye=0;
-ze=0;
-Ae=0;
+Ne=r8(a+176);
+if(Ne==18446744073709551615u){
+Ge=0;
+He=0;
+Ie=0;
+Je=0;
 goto L28;}
-w8(a+176,Ee+1);
-if(r8(a+112)>Be){
-Fe=De;
-Ge=Ce;
-He=Be;}
+w8(a+176,Ne+1);
+if(r8(a+112)>Ke){
+Oe=Me;
+Pe=Le;
+Qe=Ke;}
 else{
-Ie=make_ready_9a1(a+80);
-if(!(Ie&1)){
-xe=0;
-ye=0;
-ze=0;
-Ae=0;
+Re=make_ready_9a1(a+80);
+if(!(Re&1)){
+Ge=0;
+He=0;
+Ie=0;
+Je=0;
 goto L28;}
-Je=r8(a+88);
-Fe=Je*44;
-Ge=rp(a+80);
-He=Je;}
-Ke=Ge+Fe;
-*Ke=27;
-z43(Ke+1);
-w8(a+88,He+1);
-xe=0;
-ye=1;
-ze=3;
-Ae=1;
+Se=r8(a+88);
+Oe=Se*44;
+Pe=rp(a+80);
+Qe=Se;}
+Te=Pe+Oe;
+*Te=27;
+z43(Te+1);
+w8(a+88,Qe+1);
+Ge=0;
+He=1;
+Ie=3;
+Je=1;
 goto L28;
 default:break;}
-if(ge){
-Le=r8(a+88);
-if(Le==0){
-Me=0;
-Ne=0;
-Oe=0;
-Pe=1;}
+if(pe){
+Ue=r8(a+88);
+if(Ue==0){
+Ve=0;
+We=0;
+Xe=0;
+Ye=1;}
 else{
-Qe=rp(a+80);
-Re=Le*44;
-Se=Qe+(i64)Re;
-switch(Se[-44]){
-case 5:if(Se[-28]==0){
-Me=0;
-Ne=0;
-Oe=0;
-Pe=1;
+Ze=rp(a+80);
+af=Ue*44;
+bf=Ze+(i64)af;
+switch(bf[-44]){
+case 5:if(bf[-28]==0){
+Ve=0;
+We=0;
+Xe=0;
+Ye=1;
 goto L29;}
 break;
 case 7:break;
-case 0:case 1:case 2:case 3:case 4:case 6:case 8:case 9:case 10:case 11:case 12:case 13:case 14:case 15:case 16:case 17:case 18:case 19:case 20:case 21:case 22:case 23:case 24:case 25:case 26:case 27:case 28:case 29:Me=0;
-Ne=0;
-Oe=0;
-Pe=1;
+case 0:case 1:case 2:case 3:case 4:case 6:case 8:case 9:case 10:case 11:case 12:case 13:case 14:case 15:case 16:case 17:case 18:case 19:case 20:case 21:case 22:case 23:case 24:case 25:case 26:case 27:case 28:case 29:Ve=0;
+We=0;
+Xe=0;
+Ye=1;
 goto L29;
 default:NEVER;
 }
-Te=is_element_at_f4e(b,c,r8(a+176));
-if(Te){
-Me=0;
-Ne=0;
-Oe=0;
-Pe=1;}
+cf=is_element_at_f4e(b,c,r8(a+176));
+if(cf){
+Ve=0;
+We=0;
+Xe=0;
+Ye=1;}
 else{
-Ue=r8(a+8);
-if(r8(a+112)>Le){
-Ve=Re;
-We=Qe;
-Xe=Le;}
+df=r8(a+8);
+if(r8(a+112)>Ue){
+ef=af;
+ff=Ze;
+gf=Ue;}
 else{
-Ye=make_ready_9a1(a+80);
-if(!(Ye&1)){
-Me=0;
-Ne=0;
-Oe=0;
-Pe=0;
+hf=make_ready_9a1(a+80);
+if(!(hf&1)){
+Ve=0;
+We=0;
+Xe=0;
+Ye=0;
 goto L29;}
-Ze=r8(a+88);
-Ve=Ze*44;
-We=rp(a+80);
-Xe=Ze;}
-af=We+Ve;
-*af=25;
-af[1]=0;
-x2(af+2,0);
-x4(af+4,Ue);
-z36(af+8);
-w8(a+88,Xe+1);
-w4(Aa,0);
-bf=r8(a+176);
-if(bf<c){
-if(*(b+bf)==88){
-begin_address_731(Aa,a,b,c);
-cf=Aa[3];
-df=Aa[2];
-ef=Aa[1];
-ff=*Aa;}
+jf=r8(a+88);
+ef=jf*44;
+ff=rp(a+80);
+gf=jf;}
+kf=ff+ef;
+*kf=25;
+kf[1]=0;
+x2(kf+2,0);
+x4(kf+4,df);
+z36(kf+8);
+w8(a+88,gf+1);
+w4(Da,0);
+lf=r8(a+176);
+if(lf<c){
+if(*(b+lf)==88){
+begin_address_731(Da,a,b,c);
+mf=Da[3];
+nf=Da[2];
+of=Da[1];
+pf=*Da;}
 else{
-cf=0;
-df=0;
-ef=0;
-ff=1;}}
+mf=0;
+nf=0;
+of=0;
+pf=1;}}
 else{
-cf=0;
-df=0;
-ef=0;
-ff=1;}
-Me=cf;
-Ne=df;
-Oe=ef;
-Pe=ff;}}
-L29:*Ua=Pe;
-Ua[1]=Oe;
-Ua[2]=Ne;
-Ua[3]=Me;
+mf=0;
+nf=0;
+of=0;
+pf=1;}
+Ve=mf;
+We=nf;
+Xe=of;
+Ye=pf;}}
+L29:*Ya=Ye;
+Ya[1]=Xe;
+Ya[2]=We;
+Ya[3]=Ve;
 goto L25;}
-xe=0;
-ye=0;
-ze=0;
-Ae=1;
-L28:*Ua=Ae;
-Ua[1]=ze;
-Ua[2]=ye;
-Ua[3]=xe;
+Ge=0;
+He=0;
+Ie=0;
+Je=1;
+L28:*Ya=Je;
+Ya[1]=Ie;
+Ya[2]=He;
+Ya[3]=Ge;
 L25:break;
-case 4:w4(ya,0);
-z20(za+20);
+case 4:w4(Ba,0);
+z20(Ca+20);
 if(!(a[136]&1)){
-gf=r4(a+120);
-hf=a[139];
-jf=r8(a+8);
-kf=r8(a+48);
-if(r8(a+72)>kf)lf=kf;
+qf=r4(a+120);
+rf=a[139];
+sf=r8(a+8);
+tf=r8(a+48);
+if(r8(a+72)>tf)uf=tf;
 else{
-mf=make_ready_17a(a+40);
-if(!(mf&1)){
-w4(Ua,0);
+vf=make_ready_17a(a+40);
+if(!(vf&1)){
+w4(Ya,0);
 goto L30;}
-lf=r8(a+48);}
-nf=rp(a+40)+lf*12;
-x4(nf,gf);
-x4(nf+4,jf);
-nf[8]=0;
-nf[9]=hf;
-x2(nf+10,0);
-w8(a+48,lf+1);}
-of=r8(a+176);
-if(of<c){
-if(*(b+of)==73){
-memcpy(za,a+120,20);
-pf=r8(a+8);
-if(r8(a+32)>pf)qf=pf;
+uf=r8(a+48);}
+wf=rp(a+40)+uf*12;
+x4(wf,qf);
+x4(wf+4,sf);
+wf[8]=0;
+wf[9]=rf;
+x2(wf+10,0);
+w8(a+48,uf+1);}
+xf=r8(a+176);
+if(xf<c){
+if(*(b+xf)==73){
+memcpy(Ca,a+120,20);
+yf=r8(a+8);
+if(r8(a+32)>yf)zf=yf;
 else{
-rf=make_ready_8e3(a,1,16);
-if(!(rf&1)){
-sf=0;
-tf=0;
+Af=make_ready_8e3(a,1,16);
+if(!(Af&1)){
+Bf=0;
+Cf=0;
 goto L31;}
-qf=r8(a+8);}
-*(rp(a)+qf)=1;
-w8(a+8,qf+1);
-uf=r8(a+176);
-if(uf==18446744073709551615u){
-sf=0;
-tf=0;}
+zf=r8(a+8);}
+*(rp(a)+zf)=1;
+w8(a+8,zf+1);
+Df=r8(a+176);
+if(Df==18446744073709551615u){
+Bf=0;
+Cf=0;}
 else{
-w8(a+176,uf+1);
-vf=r8(a+88);
-if(r8(a+112)>vf)wf=vf;
+w8(a+176,Df+1);
+Ef=r8(a+88);
+if(r8(a+112)>Ef)Ff=Ef;
 else{
-xf=make_ready_9a1(a+80);
-if(!(xf&1)){
-sf=0;
-tf=0;
+Gf=make_ready_9a1(a+80);
+if(!(Gf&1)){
+Bf=0;
+Cf=0;
 goto L31;}
-wf=r8(a+88);}
-yf=rp(a+80)+wf*44;
-*yf=6;
-yf[1]=0;
-x2(yf+2,0);
-memcpy(yf+4,za,40);
-w8(a+88,wf+1);
-sf=3;
-tf=1;}
-L31:*Ua=tf;
-Ua[1]=sf;
-Ua[2]=tf;
-Ua[3]=0;
+Ff=r8(a+88);}
+Hf=rp(a+80)+Ff*44;
+*Hf=6;
+Hf[1]=0;
+x2(Hf+2,0);
+memcpy(Hf+4,Ca,40);
+w8(a+88,Ff+1);
+Bf=3;
+Cf=1;}
+L31:*Ya=Cf;
+Ya[1]=Bf;
+Ya[2]=Cf;
+Ya[3]=0;
 goto L30;}}
-components_at_98c(ya,a,b,c);
-*Ua=*ya;
-Ua[1]=ya[1];
-Ua[2]=ya[2];
-Ua[3]=ya[3];
+components_at_98c(Ba,a,b,c);
+*Ya=*Ba;
+Ya[1]=Ba[1];
+Ya[2]=Ba[2];
+Ya[3]=Ba[3];
 L30:break;
-case 5:w4(xa,0);
-zf=r8(a+176);
-if(zf<c){
-if(*(b+zf)==69){
-nest_ended_32a(xa,a,b,c);
-*Ua=*xa;
-Ua[1]=xa[1];
-Ua[2]=xa[2];
-Ua[3]=xa[3];
+case 5:w4(Aa,0);
+If=r8(a+176);
+if(If<c){
+if(*(b+If)==69){
+nest_ended_32a(Aa,a,b,c);
+*Ya=*Aa;
+Ya[1]=Aa[1];
+Ya[2]=Aa[2];
+Ya[3]=Aa[3];
 goto L32;}}
 if(!(a[136]&1)){
-Af=r4(a+120);
-Bf=a[139];
-Cf=r8(a+8);
-Df=r8(a+48);
-if(r8(a+72)>Df)Ef=Df;
+Jf=r4(a+120);
+Kf=a[139];
+Lf=r8(a+8);
+Mf=r8(a+48);
+if(r8(a+72)>Mf)Nf=Mf;
 else{
-Ff=make_ready_17a(a+40);
-if(!(Ff&1)){
-w4(Ua,0);
+Of=make_ready_17a(a+40);
+if(!(Of&1)){
+w4(Ya,0);
 goto L32;}
-Ef=r8(a+48);}
-Gf=rp(a+40)+Ef*12;
-x4(Gf,Af);
-x4(Gf+4,Cf);
-Gf[8]=0;
-Gf[9]=Bf;
-x2(Gf+10,0);
-w8(a+48,Ef+1);}
-components_at_98c(xa,a,b,c);
-*Ua=*xa;
-Ua[1]=xa[1];
-Ua[2]=xa[2];
-Ua[3]=xa[3];
+Nf=r8(a+48);}
+Pf=rp(a+40)+Nf*12;
+x4(Pf,Jf);
+x4(Pf+4,Lf);
+Pf[8]=0;
+Pf[9]=Kf;
+x2(Pf+10,0);
+w8(a+48,Nf+1);}
+components_at_98c(Aa,a,b,c);
+*Ya=*Aa;
+Ya[1]=Aa[1];
+Ya[2]=Aa[2];
+Ya[3]=Aa[3];
 L32:break;
-case 6:components_at_98c(Ua,a,b,c);
+case 6:components_at_98c(Ya,a,b,c);
 break;
 default:NEVER;
 }
-Hf=zc+1;
-if(*Ua!=1||Hf==yc)goto L1;
-zc=Hf;
-Ac=Ua[3];
-Bc=Ua[2];
-Cc=Ua[1];
+Qf=Fc+1;
+if(*Ya!=1||Qf==Ec)goto L1;
+Fc=Qf;
+Gc=Ya[3];
+Hc=Ya[2];
+Ic=Ya[1];
 goto L13;}}}
 goto L1;
-case 2:if(Vb)goto L1;
+case 2:if(bc)goto L1;
 if(c<16){
-If=are_few_named_14c(b,c);
-if(!If)goto L1;}
+Rf=are_few_named_14c(b,c);
+if(!Rf)goto L1;}
 else{
-Jf=c-16;
-if(Jf==0)goto L33;
-Kf=0;
-L34:Lf=v16_at(b+Kf);
-if((v16_ult(Lf,splat(33))|v16_eq(Lf,splat(127)))!=0)goto L1;
-Mf=Kf+16;
-if(Mf<Jf){
-Kf=Mf;
+Sf=c-16;
+if(Sf==0)goto L33;
+Tf=0;
+L34:Uf=v16_at(b+Tf);
+if((v16_ult(Uf,splat(33))|v16_eq(Uf,splat(127)))!=0)goto L1;
+Vf=Tf+16;
+if(Vf<Sf){
+Tf=Vf;
 goto L34;}
-L33:Nf=v16_at(b+Jf);
-if((v16_ult(Nf,splat(33))|v16_eq(Nf,splat(127)))!=0)goto L1;}
-w4(Ob,0);
-w4(Pb,0);
+L33:Wf=v16_at(b+Sf);
+if((v16_ult(Wf,splat(33))|v16_eq(Wf,splat(127)))!=0)goto L1;}
+w4(Ub,0);
+w4(Vb,0);
 if(c!=0){
 if(c!=1&&*b==95){
 if(b[1]==90){
 if(c>=3){
-Of=b[2];
+Xf=b[2];
 if(c<5){
-if(Of==90)goto L35;
-if((c!=3)&(Of==71)){
+if(Xf==90)goto L35;
+if((c!=3)&(Xf==71)){
 if(b[3]==86)goto L36;
 goto L37;}
-switch(Of){
+switch(Xf){
 case 71:goto L37;
 case 84:if(c==3)goto L38;
 break;
 default:goto L39;
 }}
 else{
-switch(Of){
+switch(Xf){
 case 90:goto L35;
 case 71:if(b[3]!=86)goto L37;
 if(b[4]!=90)goto L36;
-if(Tb<19){
-Pf=make_ready_8e3(a,19,128);
-if(!(Pf&1)){
-Sf=0;
-Tf=0;
-Uf=0;
-Vf=0;
+if(Zb<19){
+Yf=make_ready_8e3(a,19,128);
+if(!(Yf&1)){
+bg=0;
+cg=0;
+dg=0;
+eg=0;
 goto L40;}
-Qf=r8(a+16);
-Rf=r8(a+8);}
+Zf=r8(a+16);
+ag=r8(a+8);}
 else{
-Qf=Sb;
-Rf=0;}
-if(Qf-Rf<19){
-Wf=grow_amortized_2b6(a,19);
-if(!Wf){
-Sf=0;
-Tf=0;
-Uf=0;
-Vf=0;
+Zf=Yb;
+ag=0;}
+if(Zf-ag<19){
+fg=grow_amortized_2b6(a,19);
+if(!fg){
+bg=0;
+cg=0;
+dg=0;
+eg=0;
 goto L40;}
-Xf=r8(a+16);
-Yf=r8(a+8);}
+gg=r8(a+16);
+hg=r8(a+8);}
 else{
-Xf=Qf;
-Yf=Rf;}
-Zf=Yf+19;
-ag=rp(a);
+gg=Zf;
+hg=ag;}
+ig=hg+19;
+jg=rp(a);
 z16(a+8);
-bg=ag+(i64)Yf;
-if((u64)bg-(u64)(u8*)t_c270<19)copy_bits_4f4((u8*)t_c270,bg,19);
-else memcpy(bg,(u8*)t_c270,19);
-wp(a,ag);
-w8(a+8,Zf);
-w8(a+16,Xf);
+kg=jg+(i64)hg;
+if((u64)kg-(u64)(u8*)t_c270<19)copy_bits_4f4((u8*)t_c270,kg,19);
+else memcpy(kg,(u8*)t_c270,19);
+wp(a,jg);
+w8(a+8,ig);
+w8(a+16,gg);
 w8(a+176,5);
-begin_encoding_4d0(Mb,a,b,c);
-Sf=Mb[3];
-Tf=Mb[2];
-Uf=Mb[1];
-Vf=*Mb;
-L40:cg=Sf;
-dg=Tf;
-eg=Uf;
-fg=Vf;
+begin_encoding_4d0(Sb,a,b,c);
+bg=Sb[3];
+cg=Sb[2];
+dg=Sb[1];
+eg=*Sb;
+L40:lg=bg;
+mg=cg;
+ng=dg;
+og=eg;
 goto L41;
 case 84:break;
 default:goto L39;
 }}
 switch(b[3]){
-case 104:begin_thunk_892(Pb,a,b,c);
+case 104:begin_thunk_892(Vb,a,b,c);
 goto L42;
-case 118:begin_virtual_thunk_faf(Pb,a,b,c);
+case 118:begin_virtual_thunk_faf(Vb,a,b,c);
 goto L42;
-case 67:begin_table_89f(Pb,a);
+case 67:begin_table_89f(Vb,a);
 goto L42;
 default:break;}
-L38:begin_special_44d(Pb,a,b,c);
-L42:gg=Pb[3];
-hg=Pb[2];
-ig=Pb[1];
-jg=*Pb;
+L38:begin_special_44d(Vb,a,b,c);
+L42:pg=Vb[3];
+qg=Vb[2];
+rg=Vb[1];
+sg=*Vb;
 goto L43;
-L37:begin_clone_5b6(Ob,a,b,c);
-gg=Ob[3];
-hg=Ob[2];
-ig=Ob[1];
-jg=*Ob;
+L37:begin_clone_5b6(Ub,a,b,c);
+pg=Ub[3];
+qg=Ub[2];
+rg=Ub[1];
+sg=*Ub;
 goto L43;
-L36:begin_object_0af(Ob,a,b,c);
-gg=Ob[3];
-hg=Ob[2];
-ig=Ob[1];
-jg=*Ob;
+L36:begin_object_0af(Ub,a,b,c);
+pg=Ub[3];
+qg=Ub[2];
+rg=Ub[1];
+sg=*Ub;
 goto L43;
 L35:w8(a+176,3);
-begin_encoding_4d0(Nb,a,b,c);
-cg=Nb[3];
-dg=Nb[2];
-eg=Nb[1];
-fg=*Nb;
-L41:gg=cg;
-hg=dg;
-ig=eg;
-jg=fg;
+begin_encoding_4d0(Tb,a,b,c);
+lg=Tb[3];
+mg=Tb[2];
+ng=Tb[1];
+og=*Tb;
+L41:pg=lg;
+qg=mg;
+rg=ng;
+sg=og;
 goto L43;}
 L39:w8(a+176,2);
-begin_encoding_4d0(Ob,a,b,c);
-gg=Ob[3];
-hg=Ob[2];
-ig=Ob[1];
-jg=*Ob;
-L43:if(jg!=1)goto L1;
-kg=c<<3;
-lg=0;
-mg=gg;
-ng=hg;
-og=ig;
-L44:if(og==7){
-if(r8(a+8)>Rb)goto L14;
+begin_encoding_4d0(Ub,a,b,c);
+pg=Ub[3];
+qg=Ub[2];
+rg=Ub[1];
+sg=*Ub;
+L43:if(sg!=1)goto L1;
+tg=c<<3;
+ug=0;
+vg=pg;
+wg=qg;
+xg=rg;
+L44:if(xg==7){
+if(r8(a+8)>Xb)goto L14;
 goto L15;}
 w8(a+184,r8(a+184)+1);
-w4(Qb,0);
-switch(og){
-case 0:type_at_a00(Qb,a,b,c,0);
+w4(Wb,0);
+switch(xg){
+case 0:type_at_a00(Wb,a,b,c,0);
 break;
-case 1:type_at_a00(Qb,a,b,c,1);
+case 1:type_at_a00(Wb,a,b,c,1);
 break;
-case 2:w4(Ib,0);
-w4(Jb,0);
-z32(Kb);
-z32(Lb);
-pg=r8(a+88);
-if(pg==0)w4(Qb,0);
+case 2:w4(Ob,0);
+w4(Pb,0);
+z32(Qb);
+z32(Rb);
+yg=r8(a+88);
+if(yg==0)w4(Wb,0);
 else{
-qg=ng&1;
-rg=rp(a+80)+(i64)(pg*44);
-sg=rg[-44];
-tg=rg[-43];
-ug=q4(rg-40);
-vg=q4(rg-36);
-wg=q2(rg-32);
-switch(sg){
-case 29:case 28:case 27:case 26:case 4:case 5:case 6:case 7:case 8:case 11:case 12:case 13:case 14:case 15:case 16:case 17:case 18:case 19:case 20:case 21:case 22:case 23:case 24:case 25:if(mg&1){
-pass_dependent_3d7(Ib,a,b,c);
-*Qb=*Ib;
-Qb[1]=Ib[1];
-Qb[2]=Ib[2];
-Qb[3]=Ib[3];
+zg=wg&1;
+Ag=rp(a+80)+(i64)(yg*44);
+Bg=Ag[-44];
+Cg=Ag[-43];
+Dg=q4(Ag-40);
+Eg=q4(Ag-36);
+Fg=q2(Ag-32);
+switch(Bg){
+case 29:case 28:case 27:case 26:case 4:case 5:case 6:case 7:case 8:case 11:case 12:case 13:case 14:case 15:case 16:case 17:case 18:case 19:case 20:case 21:case 22:case 23:case 24:case 25:if(vg&1){
+pass_dependent_3d7(Ob,a,b,c);
+*Wb=*Ob;
+Wb[1]=Ob[1];
+Wb[2]=Ob[2];
+Wb[3]=Ob[3];
 goto L45;}
-xg=q4(rg-4);
-yg=vg;
-zg=vg>>16;
-w4(Hb,0);
-switch(sg){
-case 22:returned_322(Hb,a,b,c,tg&1);
+Gg=q4(Ag-4);
+w4(Nb,0);
+switch(Bg){
+case 22:returned_322(Nb,a,b,c,Cg&1);
 break;
-case 23:parameter_at_3ac(Hb,a,b,c,tg&1,0);
+case 23:parameter_at_3ac(Nb,a,b,c,Cg&1,0);
 break;
-case 24:array_ended_1b3(Hb,a,b,c,tg,ug,vg);
+case 24:array_ended_1b3(Nb,a,b,c,Cg,Dg,Eg);
 break;
-case 12:enclosing_parameter_fc1(Hb,a,b,c,ug,vg);
+case 12:enclosing_parameter_fc1(Nb,a,b,c,Dg,Eg);
 break;
-case 13:instance_parameter_240(Hb,a,b,c,tg,ug,vg);
+case 13:instance_parameter_240(Nb,a,b,c,Cg,Dg,Eg);
 break;
-case 11:w2(Bb,wg);
-memcpy(Bb+2,rg-30,26);
-x4(Bb+28,xg);
-enclosing_front_fa8(Hb,a,tg,ug,vg,Bb);
+case 11:w2(Kb,Fg);
+memcpy(Kb+2,Ag-30,26);
+x4(Kb+28,Gg);
+enclosing_front_fa8(Nb,a,Cg,Dg,Eg,Kb);
 break;
-case 17:w4(Cb,vg);
-w2(Cb+4,wg);
-lambda_parameter_383(Hb,a,b,c,ug,Cb);
+case 17:w4(Lb,Eg);
+w2(Lb+4,Fg);
+lambda_parameter_383(Nb,a,b,c,Dg,Lb);
 break;
-case 18:member_parameter_7e4(Hb,a,b,c,ug);
+case 18:member_parameter_7e4(Nb,a,b,c,Dg);
 break;
-case 15:w4(Db,vg);
-w2(Db+4,wg);
-memcpy(Db+6,rg-30,26);
-addressed_front_54d(Hb,a,b,c,tg,ug,Db);
+case 15:w4(Mb,Eg);
+w2(Mb+4,Fg);
+memcpy(Mb+6,Ag-30,26);
+addressed_front_54d(Nb,a,b,c,Cg,Dg,Mb);
 break;
-case 16:addressed_parameter_2cf(Hb,a,b,c,ug);
+case 16:addressed_parameter_2cf(Nb,a,b,c,Dg);
 break;
-case 14:*Hb=0;
+case 14:*Nb=0;
 break;
-case 19:finish_8cd(Hb,a,b,c);
+case 19:finish_8cd(Nb,a,b,c);
 break;
-case 20:derived_ended_aef(Hb,a,b,c);
+case 20:derived_ended_aef(Nb,a,b,c);
 break;
-case 21:base_ended_299(Hb,a,b,c,ug);
+case 21:base_ended_299(Nb,a,b,c,Dg);
 break;
-case 29:enumerator_21c(Hb,a,b,c);
+case 29:enumerator_21c(Nb,a,b,c);
 break;
-case 26:w2(Eb,zg);
-w2(Eb+2,wg);
-memcpy(Eb+4,rg-30,26);
-w2(Eb+30,xg);
-argument_enumerator_83a(Hb,a,b,c,ug,yg,Eb);
+case 26:case 25:case 28:Hg=Eg;
+Ig=Gg;
+w4(Jb,0);
+switch(Bg){
+case 26:w2(Gb,Eg>>16);
+w2(Gb+2,Fg);
+memcpy(Gb+4,Ag-30,26);
+w2(Gb+30,Ig);
+argument_enumerator_83a(Jb,a,b,c,Dg,Hg,Gb);
 break;
-case 25:w2(Fb,zg);
-w2(Fb+2,wg);
-memcpy(Fb+4,rg-30,26);
-w2(Fb+30,xg);
-argument_ended_511(Hb,a,b,c,ug,yg,Fb,qg);
+case 25:w2(Hb,Eg>>16);
+w2(Hb+2,Fg);
+memcpy(Hb+4,Ag-30,26);
+w2(Hb+30,Ig);
+argument_ended_511(Jb,a,b,c,Dg,Hg,Hb,zg);
 break;
-case 28:w2(Gb,zg);
-w2(Gb+2,wg);
-memcpy(Gb+4,rg-30,26);
-w2(Gb+30,xg);
-element_ended_6b8(Hb,a,b,c,ug,yg,Gb,qg);
+case 28:w2(Ib,Eg>>16);
+w2(Ib+2,Fg);
+memcpy(Ib+4,Ag-30,26);
+w2(Ib+30,Ig);
+element_ended_6b8(Jb,a,b,c,Dg,Hg,Ib,zg);
 break;
-case 27:case 10:case 9:case 8:case 4:case 5:case 6:case 7:*Hb=1;
-Hb[1]=3;
-Hb[2]=0;
-Hb[3]=0;
+case 27:*Jb=0;
 break;
 default:NEVER;
 }
-Ag=Hb[1];
-Bg=Hb[2];
-Cg=Hb[3];
-*Jb=*Hb;
-Jb[1]=Ag;
-Jb[2]=Bg;
-Jb[3]=Cg;
-goto L46;
-case 10:w4(Kb,vg);
-w2(Kb+4,wg);
-memcpy(Kb+6,rg-30,26);
-parameter_ended_d3f(Jb,a,b,c,ug,Kb);
-goto L46;
-case 9:w4(Lb,vg);
-w2(Lb+4,wg);
-memcpy(Lb+6,rg-30,26);
-front_ended_665(Jb,a,b,c,tg,ug,Lb);
-goto L46;
-case 0:w8(a+88,pg-1);
-Dg=r8(a+8);
-if(r8(a+32)>Dg)Eg=Dg;
-else{
-Fg=make_ready_8e3(a,1,16);
-if(!(Fg&1)){
-Gg=0;
-Hg=0;
-Ig=0;
-Jg=0;
-goto L47;}
-Eg=r8(a+8);}
-*(rp(a)+Eg)=42;
-Kg=Eg+1;
-w8(a+8,Kg);
-Lg=Kg;
-Mg=mg&1;
-Ng=r8(a+48);
-if(r8(a+72)>Ng){
-Og=Ng;
-Pg=Lg;
-Qg=0;
-Rg=Mg;
-goto L48;}
-Sg=make_ready_17a(a+40);
-if(!(Sg&1)){
-Gg=0;
-Hg=0;
-Ig=0;
-Jg=0;
-goto L47;}
-Tg=Lg;
-Ug=0;
-Vg=Mg;
+Jg=Jb[1];
+Kg=Jb[2];
+Lg=Jb[3];
+*Nb=*Jb;
+Nb[1]=Jg;
+Nb[2]=Kg;
+Nb[3]=Lg;
 break;
-case 1:if(qg)goto L46;
-w8(a+88,pg-1);
-Wg=r8(a+8);
-if(r8(a+32)>Wg)Xg=Wg;
+case 27:case 10:case 9:case 8:case 4:case 5:case 6:case 7:*Nb=1;
+Nb[1]=3;
+Nb[2]=0;
+Nb[3]=0;
+break;
+default:NEVER;
+}
+Mg=Nb[1];
+Ng=Nb[2];
+Og=Nb[3];
+*Pb=*Nb;
+Pb[1]=Mg;
+Pb[2]=Ng;
+Pb[3]=Og;
+goto L46;
+case 10:w4(Qb,Eg);
+w2(Qb+4,Fg);
+memcpy(Qb+6,Ag-30,26);
+parameter_ended_d3f(Pb,a,b,c,Dg,Qb);
+goto L46;
+case 9:w4(Rb,Eg);
+w2(Rb+4,Fg);
+memcpy(Rb+6,Ag-30,26);
+front_ended_665(Pb,a,b,c,Cg,Dg,Rb);
+goto L46;
+case 0:w8(a+88,yg-1);
+Pg=r8(a+8);
+if(r8(a+32)>Pg)Qg=Pg;
 else{
-Yg=make_ready_8e3(a,1,16);
-if(!(Yg&1)){
-Gg=0;
-Hg=0;
-Ig=0;
-Jg=0;
+Rg=make_ready_8e3(a,1,16);
+if(!(Rg&1)){
+Sg=0;
+Tg=0;
+Ug=0;
+Vg=0;
 goto L47;}
-Xg=r8(a+8);}
-*(rp(a)+Xg)=38;
-Zg=Xg+1;
-w8(a+8,Zg);
+Qg=r8(a+8);}
+*(rp(a)+Qg)=42;
+Wg=Qg+1;
+w8(a+8,Wg);
+Xg=Wg;
+Yg=vg&1;
+Zg=r8(a+48);
+if(r8(a+72)>Zg){
 ah=Zg;
-bh=mg&1;
-ch=r8(a+48);
-if(r8(a+72)>ch){
-Og=ch;
-Pg=ah;
-Qg=1;
-Rg=bh;
+bh=Xg;
+ch=0;
+dh=Yg;
 goto L48;}
-dh=make_ready_17a(a+40);
-if(!(dh&1)){
-Gg=0;
-Hg=0;
-Ig=0;
-Jg=0;
-goto L47;}
-Tg=ah;
-Ug=1;
-Vg=bh;
-break;
-case 2:if(qg)goto L46;
-w8(a+88,pg-1);
-eh=r8(a+8);
-if(r8(a+32)-eh<2){
-fh=make_ready_8e3(a,2,128);
-if(!(fh&1)){
-Gg=0;
-Hg=0;
-Ig=0;
-Jg=0;
-goto L47;}
-gh=r8(a+8);}
-else gh=eh;
-*(rp(a)+gh)=38;
-*(rp(a)+(i64)gh+1)=38;
-hh=gh+2;
-w8(a+8,hh);
-ih=hh;
-jh=mg&1;
-kh=r8(a+48);
-if(r8(a+72)>kh){
-Og=kh;
-Pg=ih;
-Qg=1;
-Rg=jh;
-goto L48;}
-lh=make_ready_17a(a+40);
-if(!(lh&1)){
-Gg=0;
-Hg=0;
-Ig=0;
-Jg=0;
-goto L47;}
-Tg=ih;
-Ug=1;
-Vg=jh;
-break;
-case 3:if(qg)goto L46;
-w8(a+88,pg-1);
-if(r8(a+32)-r8(a+8)<6){
-mh=make_ready_8e3(a,6,128);
-if(!(mh&1)){
-Gg=0;
-Hg=0;
-Ig=0;
-Jg=0;
-goto L47;}}
-nh=extend_from_slice_169(a,(u8*)t_f603,6);
-if(nh&1){
-Gg=0;
-Hg=0;
-Ig=0;
-Jg=0;
-goto L47;}
-oh=r8(a+8);
-ph=mg&1;
-qh=r8(a+48);
-if(r8(a+72)>qh){
-Og=qh;
-Pg=oh;
-Qg=0;
-Rg=ph;
-goto L48;}
-rh=make_ready_17a(a+40);
-if(!(rh&1)){
-Gg=0;
-Hg=0;
-Ig=0;
-Jg=0;
-goto L47;}
-Tg=oh;
+eh=make_ready_17a(a+40);
+if(!(eh&1)){
+Sg=0;
+Tg=0;
 Ug=0;
-Vg=ph;
+Vg=0;
+goto L47;}
+fh=Xg;
+gh=0;
+hh=Yg;
+break;
+case 1:if(zg)goto L46;
+w8(a+88,yg-1);
+ih=r8(a+8);
+if(r8(a+32)>ih)jh=ih;
+else{
+kh=make_ready_8e3(a,1,16);
+if(!(kh&1)){
+Sg=0;
+Tg=0;
+Ug=0;
+Vg=0;
+goto L47;}
+jh=r8(a+8);}
+*(rp(a)+jh)=38;
+lh=jh+1;
+w8(a+8,lh);
+mh=lh;
+nh=vg&1;
+oh=r8(a+48);
+if(r8(a+72)>oh){
+ah=oh;
+bh=mh;
+ch=1;
+dh=nh;
+goto L48;}
+ph=make_ready_17a(a+40);
+if(!(ph&1)){
+Sg=0;
+Tg=0;
+Ug=0;
+Vg=0;
+goto L47;}
+fh=mh;
+gh=1;
+hh=nh;
+break;
+case 2:if(zg)goto L46;
+w8(a+88,yg-1);
+qh=r8(a+8);
+if(r8(a+32)-qh<2){
+rh=make_ready_8e3(a,2,128);
+if(!(rh&1)){
+Sg=0;
+Tg=0;
+Ug=0;
+Vg=0;
+goto L47;}
+sh=r8(a+8);}
+else sh=qh;
+*(rp(a)+sh)=38;
+*(rp(a)+(i64)sh+1)=38;
+th=sh+2;
+w8(a+8,th);
+uh=th;
+vh=vg&1;
+wh=r8(a+48);
+if(r8(a+72)>wh){
+ah=wh;
+bh=uh;
+ch=1;
+dh=vh;
+goto L48;}
+xh=make_ready_17a(a+40);
+if(!(xh&1)){
+Sg=0;
+Tg=0;
+Ug=0;
+Vg=0;
+goto L47;}
+fh=uh;
+gh=1;
+hh=vh;
+break;
+case 3:if(zg)goto L46;
+w8(a+88,yg-1);
+if(r8(a+32)-r8(a+8)<6){
+yh=make_ready_8e3(a,6,128);
+if(!(yh&1)){
+Sg=0;
+Tg=0;
+Ug=0;
+Vg=0;
+goto L47;}}
+zh=extend_from_slice_169(a,(u8*)t_f603,6);
+if(zh&1){
+Sg=0;
+Tg=0;
+Ug=0;
+Vg=0;
+goto L47;}
+Ah=r8(a+8);
+Bh=vg&1;
+Ch=r8(a+48);
+if(r8(a+72)>Ch){
+ah=Ch;
+bh=Ah;
+ch=0;
+dh=Bh;
+goto L48;}
+Dh=make_ready_17a(a+40);
+if(!(Dh&1)){
+Sg=0;
+Tg=0;
+Ug=0;
+Vg=0;
+goto L47;}
+fh=Ah;
+gh=0;
+hh=Bh;
 break;
 default:NEVER;
 }
-Og=r8(a+48);
-Pg=Tg;
-Qg=Ug;
-Rg=Vg;
-L48:sh=rp(a+40)+Og*12;
-x4(sh,ug);
-x4(sh+4,Pg);
-sh[8]=Qg;
-sh[9]=Rg;
-x2(sh+10,0);
-w8(a+48,Og+1);
-Gg=Rg;
-Hg=Qg;
-Ig=2;
-Jg=1;
-L47:*Jb=Jg;
-Jb[1]=Ig;
-Jb[2]=Hg;
-Jb[3]=Gg;
-L46:th=Jb[1];
-uh=Jb[2];
-vh=Jb[3];
-*Qb=*Jb;
-Qb[1]=th;
-Qb[2]=uh;
-Qb[3]=vh;}
+ah=r8(a+48);
+bh=fh;
+ch=gh;
+dh=hh;
+L48:Eh=rp(a+40)+ah*12;
+x4(Eh,Dg);
+x4(Eh+4,bh);
+Eh[8]=ch;
+Eh[9]=dh;
+x2(Eh+10,0);
+w8(a+48,ah+1);
+Sg=dh;
+Tg=ch;
+Ug=2;
+Vg=1;
+L47:*Pb=Vg;
+Pb[1]=Ug;
+Pb[2]=Tg;
+Pb[3]=Sg;
+L46:Fh=Pb[1];
+Gh=Pb[2];
+Hh=Pb[3];
+*Wb=*Pb;
+Wb[1]=Fh;
+Wb[2]=Gh;
+Wb[3]=Hh;}
 L45:break;
-case 3:wh=ng&1;
-w4(zb,0);
-xh=r8(a+176);
-if(xh<c){
-yh=*(b+xh);
-switch(yh){
-case 69:w4(xb,0);
-w8(a+176,xh+1);
-zh=r8(a+88);
-if(zh==0){
-Ah=0;
-Bh=0;
-Ch=0;
-Dh=0;}
+case 3:Ih=wg&1;
+w4(Eb,0);
+Jh=r8(a+176);
+if(Jh<c){
+Kh=*(b+Jh);
+switch(Kh){
+case 69:w4(Cb,0);
+w8(a+176,Jh+1);
+Lh=r8(a+88);
+if(Lh==0){
+Mh=0;
+Nh=0;
+Oh=0;
+Ph=0;}
 else{
-if(*(rp(a+80)+(i64)(zh*44)-44)==27){
-if(wh){
-Ah=0;
-Bh=0;
-Ch=0;
-Dh=0;}
+if(*(rp(a+80)+(i64)(Lh*44)-44)==27){
+if(Ih){
+Mh=0;
+Nh=0;
+Oh=0;
+Ph=0;}
 else{
-w8(a+88,zh-1);
-Ah=0;
-Bh=0;
-Ch=3;
-Dh=1;}}
+w8(a+88,Lh-1);
+Mh=0;
+Nh=0;
+Oh=3;
+Ph=1;}}
 else{
-z32(yb);
-close_list_299(xb,a,b,c,yb);
-Ah=xb[3];
-Bh=xb[2];
-Ch=xb[1];
-Dh=*xb;}}
-*Qb=Dh;
-Qb[1]=Ch;
-Qb[2]=Bh;
-Qb[3]=Ah;
+z32(Db);
+close_list_299(Cb,a,b,c,Db);
+Mh=Cb[3];
+Nh=Cb[2];
+Oh=Cb[1];
+Ph=*Cb;}}
+*Wb=Ph;
+Wb[1]=Oh;
+Wb[2]=Nh;
+Wb[3]=Mh;
 goto L49;
-case 74:Eh=xh+1;
-if(Eh<c){
-if(*(b+Eh)==69){
-empty_pack_079(zb,a,b,c,wh);
-*Qb=*zb;
-Qb[1]=zb[1];
-Qb[2]=zb[2];
-Qb[3]=zb[3];
+case 74:Qh=Jh+1;
+if(Qh<c){
+if(*(b+Qh)==69){
+empty_pack_079(Eb,a,b,c,Ih);
+*Wb=*Eb;
+Wb[1]=Eb[1];
+Wb[2]=Eb[2];
+Wb[3]=Eb[3];
 goto L49;}}
-if(!wh){
-Fh=74;
+if(!Ih){
+Rh=74;
 goto L50;}
-first_pack_117(zb,a,b,c);
-*Qb=*zb;
-Qb[1]=zb[1];
-Qb[2]=zb[2];
-Qb[3]=zb[3];
+first_pack_117(Eb,a,b,c);
+*Wb=*Eb;
+Wb[1]=Eb[1];
+Wb[2]=Eb[2];
+Wb[3]=Eb[3];
 goto L49;
-default:Gh=yh;
+default:Sh=Kh;
 break;}}
-else Gh=0;
-if(wh){
-Hh=Gh;
+else Sh=0;
+if(Ih){
+Th=Sh;
 goto L51;}
-Fh=Gh;
-L50:Ih=r8(a+8);
-if(r8(a+32)-Ih<2){
-Jh=make_ready_8e3(a,2,128);
-if(!(Jh&1)){
-w4(Qb,0);
+Rh=Sh;
+L50:Uh=r8(a+8);
+if(r8(a+32)-Uh<2){
+Vh=make_ready_8e3(a,2,128);
+if(!(Vh&1)){
+w4(Wb,0);
 goto L49;}
-Kh=r8(a+8);}
-else Kh=Ih;
-*(rp(a)+Kh)=44;
-*(rp(a)+(i64)Kh+1)=32;
-w8(a+8,Kh+2);
-Hh=Fh;
-L51:switch(Hh){
-case 88:Lh=r8(a+176);
-if(Lh==18446744073709551615u){
-w4(Qb,0);
+Wh=r8(a+8);}
+else Wh=Uh;
+*(rp(a)+Wh)=44;
+*(rp(a)+(i64)Wh+1)=32;
+w8(a+8,Wh+2);
+Th=Rh;
+L51:switch(Th){
+case 88:Xh=r8(a+176);
+if(Xh==18446744073709551615u){
+w4(Wb,0);
 goto L49;}
-Mh=Lh+1;
-if(Mh<c){
-switch(*(b+Mh)){
-case 115:begin_level_d05(zb,a,b,c);
-*Qb=*zb;
-Qb[1]=zb[1];
-Qb[2]=zb[2];
-Qb[3]=zb[3];
+Yh=Xh+1;
+if(Yh<c){
+switch(*(b+Yh)){
+case 115:begin_level_d05(Eb,a,b,c);
+*Wb=*Eb;
+Wb[1]=Eb[1];
+Wb[2]=Eb[2];
+Wb[3]=Eb[3];
 goto L49;
-case 84:parameter_argument_7c8(zb,a,b,c);
-*Qb=*zb;
-Qb[1]=zb[1];
-Qb[2]=zb[2];
-Qb[3]=zb[3];
+case 84:parameter_argument_7c8(Eb,a,b,c);
+*Wb=*Eb;
+Wb[1]=Eb[1];
+Wb[2]=Eb[2];
+Wb[3]=Eb[3];
 goto L49;
 default:break;}}
 break;
-case 76:if(wh){
-first_literal_c4d(zb,a,b,c);
-*Qb=*zb;
-Qb[1]=zb[1];
-Qb[2]=zb[2];
-Qb[3]=zb[3];
+case 76:if(Ih){
+first_literal_c4d(Eb,a,b,c);
+*Wb=*Eb;
+Wb[1]=Eb[1];
+Wb[2]=Eb[2];
+Wb[3]=Eb[3];
 goto L49;}
-literal_da7(Ab,a,b,c);
-Nh=Ab[3];
-Oh=Ab[2];
-Ph=Ab[1];
-Qh=*Ab;
+literal_da7(Fb,a,b,c);
+Zh=Fb[3];
+ai=Fb[2];
+bi=Fb[1];
+ci=*Fb;
 goto L52;
-case 74:Rh=r8(a+88);
-if(Rh==0){
-Nh=0;
-Oh=0;
-Ph=0;
-Qh=0;
+case 74:di=r8(a+88);
+if(di==0){
+Zh=0;
+ai=0;
+bi=0;
+ci=0;
 goto L52;}
-Sh=rp(a+80);
-Th=Rh*44;
-if(*(Sh+(i64)Th-44)==27){
-Nh=0;
-Oh=0;
-Ph=0;
-Qh=0;
+ei=rp(a+80);
+fi=di*44;
+if(*(ei+(i64)fi-44)==27){
+Zh=0;
+ai=0;
+bi=0;
+ci=0;
 goto L52;}
-Uh=r8(a+176);
-if(Uh==18446744073709551615u){
-Nh=0;
-Oh=0;
-Ph=0;
-Qh=0;
+gi=r8(a+176);
+if(gi==18446744073709551615u){
+Zh=0;
+ai=0;
+bi=0;
+ci=0;
 goto L52;}
-w8(a+176,Uh+1);
-if(r8(a+112)>Rh){
-Vh=Th;
-Wh=Sh;
-Xh=Rh;}
+w8(a+176,gi+1);
+if(r8(a+112)>di){
+hi=fi;
+ii=ei;
+ji=di;}
 else{
-Yh=make_ready_9a1(a+80);
-if(!(Yh&1)){
-Nh=0;
-Oh=0;
-Ph=0;
-Qh=0;
+ki=make_ready_9a1(a+80);
+if(!(ki&1)){
+Zh=0;
+ai=0;
+bi=0;
+ci=0;
 goto L52;}
-Zh=r8(a+88);
-Vh=Zh*44;
-Wh=rp(a+80);
-Xh=Zh;}
-ai=Wh+Vh;
-*ai=27;
-z43(ai+1);
-w8(a+88,Xh+1);
-Nh=0;
-Oh=1;
-Ph=3;
-Qh=1;
+li=r8(a+88);
+hi=li*44;
+ii=rp(a+80);
+ji=li;}
+mi=ii+hi;
+*mi=27;
+z43(mi+1);
+w8(a+88,ji+1);
+Zh=0;
+ai=1;
+bi=3;
+ci=1;
 goto L52;
 default:break;}
-if(wh){
-bi=r8(a+88);
-if(bi==0){
-ci=0;
-di=0;
-ei=0;
-fi=1;}
+if(Ih){
+ni=r8(a+88);
+if(ni==0){
+oi=0;
+pi=0;
+qi=0;
+ri=1;}
 else{
-gi=rp(a+80);
-hi=bi*44;
-ii=gi+(i64)hi;
-switch(ii[-44]){
-case 5:if(ii[-28]==0){
-ci=0;
-di=0;
-ei=0;
-fi=1;
+si=rp(a+80);
+ti=ni*44;
+ui=si+(i64)ti;
+switch(ui[-44]){
+case 5:if(ui[-28]==0){
+oi=0;
+pi=0;
+qi=0;
+ri=1;
 goto L53;}
 break;
 case 7:break;
-case 0:case 1:case 2:case 3:case 4:case 6:case 8:case 9:case 10:case 11:case 12:case 13:case 14:case 15:case 16:case 17:case 18:case 19:case 20:case 21:case 22:case 23:case 24:case 25:case 26:case 27:case 28:case 29:ci=0;
-di=0;
-ei=0;
-fi=1;
+case 0:case 1:case 2:case 3:case 4:case 6:case 8:case 9:case 10:case 11:case 12:case 13:case 14:case 15:case 16:case 17:case 18:case 19:case 20:case 21:case 22:case 23:case 24:case 25:case 26:case 27:case 28:case 29:oi=0;
+pi=0;
+qi=0;
+ri=1;
 goto L53;
 default:NEVER;
 }
-ji=is_element_at_f4e(b,c,r8(a+176));
-if(ji){
-ci=0;
-di=0;
-ei=0;
-fi=1;}
+vi=is_element_at_f4e(b,c,r8(a+176));
+if(vi){
+oi=0;
+pi=0;
+qi=0;
+ri=1;}
 else{
-ki=r8(a+8);
-if(r8(a+112)>bi){
-li=hi;
-mi=gi;
-ni=bi;}
+wi=r8(a+8);
+if(r8(a+112)>ni){
+xi=ti;
+yi=si;
+zi=ni;}
 else{
-oi=make_ready_9a1(a+80);
-if(!(oi&1)){
-ci=0;
-di=0;
-ei=0;
-fi=0;
+Ai=make_ready_9a1(a+80);
+if(!(Ai&1)){
+oi=0;
+pi=0;
+qi=0;
+ri=0;
 goto L53;}
-pi=r8(a+88);
-li=pi*44;
-mi=rp(a+80);
-ni=pi;}
-qi=mi+li;
-*qi=25;
-qi[1]=0;
-x2(qi+2,0);
-x4(qi+4,ki);
-z36(qi+8);
-w8(a+88,ni+1);
-w4(wb,0);
-ri=r8(a+176);
-if(ri<c){
-if(*(b+ri)==88){
-begin_address_ef5(wb,a,b,c);
-si=wb[3];
-ti=wb[2];
-ui=wb[1];
-vi=*wb;}
-else{
-si=0;
-ti=0;
-ui=0;
-vi=1;}}
-else{
-si=0;
-ti=0;
-ui=0;
-vi=1;}
-ci=si;
-di=ti;
-ei=ui;
-fi=vi;}}
-L53:*Qb=fi;
-Qb[1]=ei;
-Qb[2]=di;
-Qb[3]=ci;
-goto L49;}
-Nh=0;
-Oh=0;
-Ph=0;
-Qh=1;
-L52:*Qb=Qh;
-Qb[1]=Ph;
-Qb[2]=Oh;
-Qb[3]=Nh;
-L49:break;
-case 4:w4(ub,0);
-z20(vb+20);
-if(!(a[136]&1)){
-wi=r4(a+120);
-xi=a[139];
-yi=r8(a+8);
-zi=r8(a+48);
-if(r8(a+72)>zi)Ai=zi;
-else{
-Bi=make_ready_17a(a+40);
-if(!(Bi&1)){
-w4(Qb,0);
-goto L54;}
-Ai=r8(a+48);}
-Ci=rp(a+40)+Ai*12;
-x4(Ci,wi);
-x4(Ci+4,yi);
-Ci[8]=0;
-Ci[9]=xi;
-x2(Ci+10,0);
-w8(a+48,Ai+1);}
+Bi=r8(a+88);
+xi=Bi*44;
+yi=rp(a+80);
+zi=Bi;}
+Ci=yi+xi;
+*Ci=25;
+Ci[1]=0;
+x2(Ci+2,0);
+x4(Ci+4,wi);
+z36(Ci+8);
+w8(a+88,zi+1);
+w4(Bb,0);
 Di=r8(a+176);
 if(Di<c){
-if(*(b+Di)==73){
-memcpy(vb,a+120,20);
-Ei=r8(a+8);
-if(r8(a+32)>Ei)Fi=Ei;
+if(*(b+Di)==88){
+begin_address_ef5(Bb,a,b,c);
+Ei=Bb[3];
+Fi=Bb[2];
+Gi=Bb[1];
+Hi=*Bb;}
 else{
-Gi=make_ready_8e3(a,1,16);
-if(!(Gi&1)){
-Hi=0;
-Ii=0;
+Ei=0;
+Fi=0;
+Gi=0;
+Hi=1;}}
+else{
+Ei=0;
+Fi=0;
+Gi=0;
+Hi=1;}
+oi=Ei;
+pi=Fi;
+qi=Gi;
+ri=Hi;}}
+L53:*Wb=ri;
+Wb[1]=qi;
+Wb[2]=pi;
+Wb[3]=oi;
+goto L49;}
+Zh=0;
+ai=0;
+bi=0;
+ci=1;
+L52:*Wb=ci;
+Wb[1]=bi;
+Wb[2]=ai;
+Wb[3]=Zh;
+L49:break;
+case 4:w4(zb,0);
+z20(Ab+20);
+if(!(a[136]&1)){
+Ii=r4(a+120);
+Ji=a[139];
+Ki=r8(a+8);
+Li=r8(a+48);
+if(r8(a+72)>Li)Mi=Li;
+else{
+Ni=make_ready_17a(a+40);
+if(!(Ni&1)){
+w4(Wb,0);
+goto L54;}
+Mi=r8(a+48);}
+Oi=rp(a+40)+Mi*12;
+x4(Oi,Ii);
+x4(Oi+4,Ki);
+Oi[8]=0;
+Oi[9]=Ji;
+x2(Oi+10,0);
+w8(a+48,Mi+1);}
+Pi=r8(a+176);
+if(Pi<c){
+if(*(b+Pi)==73){
+memcpy(Ab,a+120,20);
+Qi=r8(a+8);
+if(r8(a+32)>Qi)Ri=Qi;
+else{
+Si=make_ready_8e3(a,1,16);
+if(!(Si&1)){
+Ti=0;
+Ui=0;
 goto L55;}
-Fi=r8(a+8);}
-*(rp(a)+Fi)=60;
-w8(a+8,Fi+1);
-Ji=r8(a+176);
-if(Ji==18446744073709551615u){
-Hi=0;
-Ii=0;}
+Ri=r8(a+8);}
+*(rp(a)+Ri)=60;
+w8(a+8,Ri+1);
+Vi=r8(a+176);
+if(Vi==18446744073709551615u){
+Ti=0;
+Ui=0;}
 else{
-w8(a+176,Ji+1);
-Ki=r8(a+88);
-if(r8(a+112)>Ki)Li=Ki;
+w8(a+176,Vi+1);
+Wi=r8(a+88);
+if(r8(a+112)>Wi)Xi=Wi;
 else{
-Mi=make_ready_9a1(a+80);
-if(!(Mi&1)){
-Hi=0;
-Ii=0;
+Yi=make_ready_9a1(a+80);
+if(!(Yi&1)){
+Ti=0;
+Ui=0;
 goto L55;}
-Li=r8(a+88);}
-Ni=rp(a+80)+Li*44;
-*Ni=6;
-Ni[1]=0;
-x2(Ni+2,0);
-memcpy(Ni+4,vb,40);
-w8(a+88,Li+1);
-Hi=3;
-Ii=1;}
-L55:*Qb=Ii;
-Qb[1]=Hi;
-Qb[2]=Ii;
-Qb[3]=0;
+Xi=r8(a+88);}
+Zi=rp(a+80)+Xi*44;
+*Zi=6;
+Zi[1]=0;
+x2(Zi+2,0);
+memcpy(Zi+4,Ab,40);
+w8(a+88,Xi+1);
+Ti=3;
+Ui=1;}
+L55:*Wb=Ui;
+Wb[1]=Ti;
+Wb[2]=Ui;
+Wb[3]=0;
 goto L54;}}
-components_at_8f9(ub,a,b,c);
-*Qb=*ub;
-Qb[1]=ub[1];
-Qb[2]=ub[2];
-Qb[3]=ub[3];
+components_at_8f9(zb,a,b,c);
+*Wb=*zb;
+Wb[1]=zb[1];
+Wb[2]=zb[2];
+Wb[3]=zb[3];
 L54:break;
-case 5:w4(tb,0);
-Oi=r8(a+176);
-if(Oi<c){
-if(*(b+Oi)==69){
-nest_ended_32a(tb,a,b,c);
-*Qb=*tb;
-Qb[1]=tb[1];
-Qb[2]=tb[2];
-Qb[3]=tb[3];
+case 5:w4(yb,0);
+aj=r8(a+176);
+if(aj<c){
+if(*(b+aj)==69){
+nest_ended_32a(yb,a,b,c);
+*Wb=*yb;
+Wb[1]=yb[1];
+Wb[2]=yb[2];
+Wb[3]=yb[3];
 goto L56;}}
 if(!(a[136]&1)){
-Pi=r4(a+120);
-Qi=a[139];
-Ri=r8(a+8);
-Si=r8(a+48);
-if(r8(a+72)>Si)Ti=Si;
+bj=r4(a+120);
+cj=a[139];
+dj=r8(a+8);
+ej=r8(a+48);
+if(r8(a+72)>ej)fj=ej;
 else{
-Ui=make_ready_17a(a+40);
-if(!(Ui&1)){
-w4(Qb,0);
+gj=make_ready_17a(a+40);
+if(!(gj&1)){
+w4(Wb,0);
 goto L56;}
-Ti=r8(a+48);}
-Vi=rp(a+40)+Ti*12;
-x4(Vi,Pi);
-x4(Vi+4,Ri);
-Vi[8]=0;
-Vi[9]=Qi;
-x2(Vi+10,0);
-w8(a+48,Ti+1);}
-components_at_8f9(tb,a,b,c);
-*Qb=*tb;
-Qb[1]=tb[1];
-Qb[2]=tb[2];
-Qb[3]=tb[3];
+fj=r8(a+48);}
+hj=rp(a+40)+fj*12;
+x4(hj,bj);
+x4(hj+4,dj);
+hj[8]=0;
+hj[9]=cj;
+x2(hj+10,0);
+w8(a+48,fj+1);}
+components_at_8f9(yb,a,b,c);
+*Wb=*yb;
+Wb[1]=yb[1];
+Wb[2]=yb[2];
+Wb[3]=yb[3];
 L56:break;
-case 6:components_at_8f9(Qb,a,b,c);
+case 6:components_at_8f9(Wb,a,b,c);
 break;
 default:NEVER;
 }
-Wi=lg+1;
-if(*Qb!=1||Wi==kg)goto L1;
-lg=Wi;
-mg=Qb[3];
-ng=Qb[2];
-og=Qb[1];
+ij=ug+1;
+if(*Wb!=1||ij==tg)goto L1;
+ug=ij;
+vg=Wb[3];
+wg=Wb[2];
+xg=Wb[1];
 goto L44;}}}
 goto L1;
-case 1:if(Vb)goto L1;
+case 1:if(bc)goto L1;
 if(c<16){
-Xi=are_few_named_14c(b,c);
-if(!Xi)goto L1;}
+jj=are_few_named_14c(b,c);
+if(!jj)goto L1;}
 else{
-Yi=c-16;
-if(Yi==0)goto L57;
-Zi=0;
-L58:aj=v16_at(b+Zi);
-if((v16_ult(aj,splat(33))|v16_eq(aj,splat(127)))!=0)goto L1;
-bj=Zi+16;
-if(bj<Yi){
-Zi=bj;
+kj=c-16;
+if(kj==0)goto L57;
+lj=0;
+L58:mj=v16_at(b+lj);
+if((v16_ult(mj,splat(33))|v16_eq(mj,splat(127)))!=0)goto L1;
+nj=lj+16;
+if(nj<kj){
+lj=nj;
 goto L58;}
-L57:cj=v16_at(b+Yi);
-if((v16_ult(cj,splat(33))|v16_eq(cj,splat(127)))!=0)goto L1;}
-w4(qb,0);
-w4(rb,0);
+L57:oj=v16_at(b+kj);
+if((v16_ult(oj,splat(33))|v16_eq(oj,splat(127)))!=0)goto L1;}
+w4(vb,0);
+w4(wb,0);
 if(c!=0){
 if(c!=1&&*b==95){
 if(b[1]==90){
 if(c>=3){
-dj=b[2];
+pj=b[2];
 if(c<5){
-if(dj==90)goto L59;
-if((c!=3)&(dj==71)){
+if(pj==90)goto L59;
+if((c!=3)&(pj==71)){
 if(b[3]==86)goto L60;
 goto L61;}
-switch(dj){
+switch(pj){
 case 71:goto L61;
 case 84:if(c==3)goto L62;
 break;
 default:goto L63;
 }}
 else{
-switch(dj){
+switch(pj){
 case 90:goto L59;
 case 71:if(b[3]!=86)goto L61;
 if(b[4]!=90)goto L60;
-if(Tb<19){
-ej=make_ready_8e3(a,19,128);
-if(!(ej&1)){
-hj=0;
-ij=0;
-jj=0;
-kj=0;
+if(Zb<19){
+qj=make_ready_8e3(a,19,128);
+if(!(qj&1)){
+tj=0;
+uj=0;
+vj=0;
+wj=0;
 goto L64;}
-fj=r8(a+16);
-gj=r8(a+8);}
+rj=r8(a+16);
+sj=r8(a+8);}
 else{
-fj=Sb;
-gj=0;}
-if(fj-gj<19){
-lj=grow_amortized_2b6(a,19);
-if(!lj){
-hj=0;
-ij=0;
-jj=0;
-kj=0;
+rj=Yb;
+sj=0;}
+if(rj-sj<19){
+xj=grow_amortized_2b6(a,19);
+if(!xj){
+tj=0;
+uj=0;
+vj=0;
+wj=0;
 goto L64;}
-mj=r8(a+16);
-nj=r8(a+8);}
+yj=r8(a+16);
+zj=r8(a+8);}
 else{
-mj=fj;
-nj=gj;}
-oj=nj+19;
-pj=rp(a);
+yj=rj;
+zj=sj;}
+Aj=zj+19;
+Bj=rp(a);
 z16(a+8);
-qj=pj+(i64)nj;
-if((u64)qj-(u64)(u8*)t_c270<19)copy_bits_4f4((u8*)t_c270,qj,19);
-else memcpy(qj,(u8*)t_c270,19);
-wp(a,pj);
-w8(a+8,oj);
-w8(a+16,mj);
+Cj=Bj+(i64)zj;
+if((u64)Cj-(u64)(u8*)t_c270<19)copy_bits_4f4((u8*)t_c270,Cj,19);
+else memcpy(Cj,(u8*)t_c270,19);
+wp(a,Bj);
+w8(a+8,Aj);
+w8(a+16,yj);
 w8(a+176,5);
-begin_encoding_a64(ob,a,b,c);
-hj=ob[3];
-ij=ob[2];
-jj=ob[1];
-kj=*ob;
-L64:rj=hj;
-sj=ij;
-tj=jj;
-uj=kj;
+begin_encoding_a64(tb,a,b,c);
+tj=tb[3];
+uj=tb[2];
+vj=tb[1];
+wj=*tb;
+L64:Dj=tj;
+Ej=uj;
+Fj=vj;
+Gj=wj;
 goto L65;
 case 84:break;
 default:goto L63;
 }}
 switch(b[3]){
-case 104:begin_thunk_50d(rb,a,b,c);
+case 104:begin_thunk_50d(wb,a,b,c);
 goto L66;
-case 118:begin_virtual_thunk_1ab(rb,a,b,c);
+case 118:begin_virtual_thunk_1ab(wb,a,b,c);
 goto L66;
-case 67:begin_table_89f(rb,a);
+case 67:begin_table_89f(wb,a);
 goto L66;
 default:break;}
-L62:begin_special_44d(rb,a,b,c);
-L66:vj=rb[3];
-wj=rb[2];
-xj=rb[1];
-yj=*rb;
+L62:begin_special_44d(wb,a,b,c);
+L66:Hj=wb[3];
+Ij=wb[2];
+Jj=wb[1];
+Kj=*wb;
 goto L67;
-L61:begin_clone_906(qb,a,b,c);
-vj=qb[3];
-wj=qb[2];
-xj=qb[1];
-yj=*qb;
+L61:begin_clone_906(vb,a,b,c);
+Hj=vb[3];
+Ij=vb[2];
+Jj=vb[1];
+Kj=*vb;
 goto L67;
-L60:begin_object_4cd(qb,a,b,c);
-vj=qb[3];
-wj=qb[2];
-xj=qb[1];
-yj=*qb;
+L60:begin_object_4cd(vb,a,b,c);
+Hj=vb[3];
+Ij=vb[2];
+Jj=vb[1];
+Kj=*vb;
 goto L67;
 L59:w8(a+176,3);
-begin_encoding_a64(pb,a,b,c);
-rj=pb[3];
-sj=pb[2];
-tj=pb[1];
-uj=*pb;
-L65:vj=rj;
-wj=sj;
-xj=tj;
-yj=uj;
+begin_encoding_a64(ub,a,b,c);
+Dj=ub[3];
+Ej=ub[2];
+Fj=ub[1];
+Gj=*ub;
+L65:Hj=Dj;
+Ij=Ej;
+Jj=Fj;
+Kj=Gj;
 goto L67;}
 L63:w8(a+176,2);
-begin_encoding_a64(qb,a,b,c);
-vj=qb[3];
-wj=qb[2];
-xj=qb[1];
-yj=*qb;
-L67:if(yj!=1)goto L1;
-zj=c<<3;
-Aj=0;
-Bj=vj;
-Cj=wj;
-Dj=xj;
-L68:if(Dj==7){
-Ej=r8(a+8);
-if(Ej>Rb)goto L14;
-Fj=rp(a);
-if(Ej==0)goto L15;
-Gj=0;
-Hj=0;
-Ij=0;
-L69:Jj=Gj;
-L70:if(Ej-Jj>15){
-Kj=cttz(v16_ult(v16_at(Fj+Jj),splat(3)),16);
-Lj=Jj+Kj;
-if(Kj>=16){
-Jj=Lj;
-goto L70;}
-Mj=Lj;}
-else{
-if(Jj>=Ej){
-Mj=Jj;
-goto L71;}
-Nj=Jj;
-L72:if(*(Fj+Nj)>2){
-Oj=Nj+1;
-if(Oj!=Ej){
-Nj=Oj;
-goto L72;}
-Mj=Ej;}
-else Mj=Nj;}
-L71:if(Ij==0){
-if(Hj<Gj){
-if(Mj!=Gj){
-Pj=Mj-Gj;
-Qj=Fj+(i64)Gj;
-Rj=Fj+(i64)Hj;
+begin_encoding_a64(vb,a,b,c);
+Hj=vb[3];
+Ij=vb[2];
+Jj=vb[1];
+Kj=*vb;
+L67:if(Kj!=1)goto L1;
+Lj=c<<3;
+Mj=0;
+Nj=Hj;
+Oj=Ij;
+Pj=Jj;
+L68:if(Pj==7){
+Qj=r8(a+8);
+if(Qj>Xb)goto L14;
+Rj=rp(a);
+if(Qj==0)goto L15;
 Sj=0;
-L73:*(Rj+(i64)Sj)=*(Qj+(i64)Sj);
-Tj=Sj+1;
-if(Tj!=Pj){
-Sj=Tj;
+Tj=0;
+Uj=0;
+L69:Vj=Sj;
+L70:if(Qj-Vj>15){
+Wj=cttz(v16_ult(v16_at(Rj+Vj),splat(3)),16);
+Xj=Vj+Wj;
+if(Wj>=16){
+Vj=Xj;
+goto L70;}
+Yj=Xj;}
+else{
+if(Vj>=Qj){
+Yj=Vj;
+goto L71;}
+Zj=Vj;
+L72:if(*(Rj+Zj)>2){
+ak=Zj+1;
+if(ak!=Qj){
+Zj=ak;
+goto L72;}
+Yj=Qj;}
+else Yj=Zj;}
+L71:if(Uj==0){
+if(Tj<Sj){
+if(Yj!=Sj){
+bk=Yj-Sj;
+ck=Rj+(i64)Sj;
+dk=Rj+(i64)Tj;
+ek=0;
+L73:*(dk+(i64)ek)=*(ck+(i64)ek);
+fk=ek+1;
+if(fk!=bk){
+ek=fk;
 goto L73;}}}
-Uj=Hj-Gj+Mj;}
-else Uj=Hj;
-if(Mj!=Ej){
-switch(*(Fj+Mj)){
-case 1:Vj=Ij+1;
+gk=Tj-Sj+Yj;}
+else gk=Tj;
+if(Yj!=Qj){
+switch(*(Rj+Yj)){
+case 1:hk=Uj+1;
 break;
-case 2:Vj=usub64(Ij,1);
+case 2:hk=usub64(Uj,1);
 break;
 default:goto L1;
 }
-Wj=Mj+1;
-if(Wj<Ej){
-Gj=Wj;
-Hj=Uj;
-Ij=Vj;
+ik=Yj+1;
+if(ik<Qj){
+Sj=ik;
+Tj=gk;
+Uj=hk;
 goto L69;}}
-if(r8(a+8)<=Uj)goto L15;
-Wc=Uj;
+if(r8(a+8)<=gk)goto L15;
+cd=gk;
 break;}
 w8(a+184,r8(a+184)+1);
-w4(sb,0);
-switch(Dj){
-case 0:type_at_d83(sb,a,b,c,0);
+w4(xb,0);
+switch(Pj){
+case 0:type_at_d83(xb,a,b,c,0);
 break;
-case 1:type_at_d83(sb,a,b,c,1);
+case 1:type_at_d83(xb,a,b,c,1);
 break;
-case 2:w4(kb,0);
-w4(lb,0);
-z32(mb);
-z32(nb);
-Xj=r8(a+88);
-if(Xj==0)w4(sb,0);
+case 2:w4(pb,0);
+w4(qb,0);
+z32(rb);
+z32(sb);
+jk=r8(a+88);
+if(jk==0)w4(xb,0);
 else{
-Yj=Cj&1;
-Zj=rp(a+80)+(i64)(Xj*44);
-ak=Zj[-44];
-bk=Zj[-43];
-ck=q4(Zj-40);
-dk=q4(Zj-36);
-ek=q2(Zj-32);
-switch(ak){
-case 29:case 28:case 27:case 26:case 4:case 5:case 6:case 7:case 8:case 11:case 12:case 13:case 14:case 15:case 16:case 17:case 18:case 19:case 20:case 21:case 22:case 23:case 24:case 25:if(Bj&1){
-pass_dependent_123(kb,a,b,c);
-*sb=*kb;
-sb[1]=kb[1];
-sb[2]=kb[2];
-sb[3]=kb[3];
+kk=Oj&1;
+lk=rp(a+80)+(i64)(jk*44);
+mk=lk[-44];
+nk=lk[-43];
+ok=q4(lk-40);
+pk=q4(lk-36);
+qk=q2(lk-32);
+switch(mk){
+case 29:case 28:case 27:case 26:case 4:case 5:case 6:case 7:case 8:case 11:case 12:case 13:case 14:case 15:case 16:case 17:case 18:case 19:case 20:case 21:case 22:case 23:case 24:case 25:if(Nj&1){
+pass_dependent_123(pb,a,b,c);
+*xb=*pb;
+xb[1]=pb[1];
+xb[2]=pb[2];
+xb[3]=pb[3];
 goto L74;}
-fk=q4(Zj-4);
-gk=dk;
-hk=dk>>16;
-w4(jb,0);
-switch(ak){
-case 22:returned_087(jb,a,b,c,bk&1);
+rk=q4(lk-4);
+w4(ob,0);
+switch(mk){
+case 22:returned_087(ob,a,b,c,nk&1);
 break;
-case 23:parameter_at_d02(jb,a,b,c,bk&1,0);
+case 23:parameter_at_d02(ob,a,b,c,nk&1,0);
 break;
-case 24:array_ended_a11(jb,a,b,c,bk,ck,dk);
+case 24:array_ended_a11(ob,a,b,c,nk,ok,pk);
 break;
-case 12:enclosing_parameter_d72(jb,a,b,c,bk,ck);
+case 12:enclosing_parameter_d72(ob,a,b,c,nk,ok);
 break;
-case 13:instance_parameter_e2a(jb,a,b,c,bk,ck,dk);
+case 13:instance_parameter_e2a(ob,a,b,c,nk,ok,pk);
 break;
-case 11:w2(db,ek);
-memcpy(db+2,Zj-30,26);
-x4(db+28,fk);
-enclosing_front_fa8(jb,a,bk,ck,dk,db);
+case 11:w2(lb,qk);
+memcpy(lb+2,lk-30,26);
+x4(lb+28,rk);
+enclosing_front_fa8(ob,a,nk,ok,pk,lb);
 break;
-case 17:w4(eb,dk);
-w2(eb+4,ek);
-lambda_parameter_f9a(jb,a,b,c,ck,eb);
+case 17:w4(mb,pk);
+w2(mb+4,qk);
+lambda_parameter_f9a(ob,a,b,c,ok,mb);
 break;
-case 18:member_parameter_678(jb,a,b,c,bk);
+case 18:member_parameter_678(ob,a,b,c,nk);
 break;
-case 15:w4(fb,dk);
-w2(fb+4,ek);
-memcpy(fb+6,Zj-30,26);
-addressed_front_4c5(jb,a,b,c,bk,ck,fb);
+case 15:w4(nb,pk);
+w2(nb+4,qk);
+memcpy(nb+6,lk-30,26);
+addressed_front_4c5(ob,a,b,c,nk,ok,nb);
 break;
-case 16:addressed_parameter_41c(jb,a,b,c,bk);
+case 16:addressed_parameter_41c(ob,a,b,c,nk);
 break;
-case 14:*jb=0;
+case 14:*ob=0;
 break;
-case 19:finish_8cd(jb,a,b,c);
+case 19:finish_8cd(ob,a,b,c);
 break;
-case 20:derived_ended_aef(jb,a,b,c);
+case 20:derived_ended_aef(ob,a,b,c);
 break;
-case 21:base_ended_299(jb,a,b,c,ck);
+case 21:base_ended_299(ob,a,b,c,ok);
 break;
-case 29:enumerator_21c(jb,a,b,c);
+case 29:enumerator_21c(ob,a,b,c);
 break;
-case 26:w2(gb,hk);
-w2(gb+2,ek);
-memcpy(gb+4,Zj-30,26);
-w2(gb+30,fk);
-argument_enumerator_071(jb,a,b,c,ck,gk,gb);
+case 26:case 25:case 28:sk=pk;
+tk=rk;
+w4(kb,0);
+switch(mk){
+case 26:w2(hb,pk>>16);
+w2(hb+2,qk);
+memcpy(hb+4,lk-30,26);
+w2(hb+30,tk);
+argument_enumerator_071(kb,a,b,c,ok,sk,hb);
 break;
-case 25:w2(hb,hk);
-w2(hb+2,ek);
-memcpy(hb+4,Zj-30,26);
-w2(hb+30,fk);
-argument_ended_c7c(jb,a,b,c,ck,gk,hb,Yj);
+case 25:w2(ib,pk>>16);
+w2(ib+2,qk);
+memcpy(ib+4,lk-30,26);
+w2(ib+30,tk);
+argument_ended_c7c(kb,a,b,c,ok,sk,ib,kk);
 break;
-case 28:w2(ib,hk);
-w2(ib+2,ek);
-memcpy(ib+4,Zj-30,26);
-w2(ib+30,fk);
-element_ended_c50(jb,a,b,c,ck,gk,ib,Yj);
+case 28:w2(jb,pk>>16);
+w2(jb+2,qk);
+memcpy(jb+4,lk-30,26);
+w2(jb+30,tk);
+element_ended_c50(kb,a,b,c,ok,sk,jb,kk);
 break;
-case 27:case 10:case 9:case 8:case 4:case 5:case 6:case 7:*jb=1;
-jb[1]=3;
-jb[2]=0;
-jb[3]=0;
+case 27:*kb=0;
 break;
 default:NEVER;
 }
-ik=jb[1];
-jk=jb[2];
-kk=jb[3];
-*lb=*jb;
-lb[1]=ik;
-lb[2]=jk;
-lb[3]=kk;
-goto L75;
-case 10:w4(mb,dk);
-w2(mb+4,ek);
-memcpy(mb+6,Zj-30,26);
-parameter_ended_06e(lb,a,b,c,bk,ck,mb);
-goto L75;
-case 9:w4(nb,dk);
-w2(nb+4,ek);
-memcpy(nb+6,Zj-30,26);
-front_ended_ee9(lb,a,b,c,bk,ck,nb);
-goto L75;
-case 0:w8(a+88,Xj-1);
-lk=r8(a+8);
-if(r8(a+32)>lk)mk=lk;
-else{
-nk=make_ready_8e3(a,1,16);
-if(!(nk&1)){
-ok=0;
-pk=0;
-qk=0;
-rk=0;
-goto L76;}
-mk=r8(a+8);}
-*(rp(a)+mk)=42;
-sk=mk+1;
-w8(a+8,sk);
-tk=sk;
-uk=Bj&1;
-vk=r8(a+48);
-if(r8(a+72)>vk){
-wk=vk;
-xk=tk;
-yk=0;
-zk=uk;
-goto L77;}
-Ak=make_ready_17a(a+40);
-if(!(Ak&1)){
-ok=0;
-pk=0;
-qk=0;
-rk=0;
-goto L76;}
-Bk=tk;
-Ck=0;
-Dk=uk;
+uk=kb[1];
+vk=kb[2];
+wk=kb[3];
+*ob=*kb;
+ob[1]=uk;
+ob[2]=vk;
+ob[3]=wk;
 break;
-case 1:if(Yj)goto L75;
-w8(a+88,Xj-1);
-Ek=r8(a+8);
-if(r8(a+32)>Ek)Fk=Ek;
+case 27:case 10:case 9:case 8:case 4:case 5:case 6:case 7:*ob=1;
+ob[1]=3;
+ob[2]=0;
+ob[3]=0;
+break;
+default:NEVER;
+}
+xk=ob[1];
+yk=ob[2];
+zk=ob[3];
+*qb=*ob;
+qb[1]=xk;
+qb[2]=yk;
+qb[3]=zk;
+goto L75;
+case 10:w4(rb,pk);
+w2(rb+4,qk);
+memcpy(rb+6,lk-30,26);
+parameter_ended_06e(qb,a,b,c,nk,ok,rb);
+goto L75;
+case 9:w4(sb,pk);
+w2(sb+4,qk);
+memcpy(sb+6,lk-30,26);
+front_ended_ee9(qb,a,b,c,nk,ok,sb);
+goto L75;
+case 0:w8(a+88,jk-1);
+Ak=r8(a+8);
+if(r8(a+32)>Ak)Bk=Ak;
 else{
-Gk=make_ready_8e3(a,1,16);
-if(!(Gk&1)){
-ok=0;
-pk=0;
-qk=0;
-rk=0;
+Ck=make_ready_8e3(a,1,16);
+if(!(Ck&1)){
+Dk=0;
+Ek=0;
+Fk=0;
+Gk=0;
 goto L76;}
-Fk=r8(a+8);}
-*(rp(a)+Fk)=38;
-Hk=Fk+1;
+Bk=r8(a+8);}
+*(rp(a)+Bk)=42;
+Hk=Bk+1;
 w8(a+8,Hk);
 Ik=Hk;
-Jk=Bj&1;
+Jk=Nj&1;
 Kk=r8(a+48);
 if(r8(a+72)>Kk){
-wk=Kk;
-xk=Ik;
-yk=1;
-zk=Jk;
+Lk=Kk;
+Mk=Ik;
+Nk=0;
+Ok=Jk;
 goto L77;}
-Lk=make_ready_17a(a+40);
-if(!(Lk&1)){
-ok=0;
-pk=0;
-qk=0;
-rk=0;
+Pk=make_ready_17a(a+40);
+if(!(Pk&1)){
+Dk=0;
+Ek=0;
+Fk=0;
+Gk=0;
 goto L76;}
-Bk=Ik;
-Ck=1;
-Dk=Jk;
+Qk=Ik;
+Rk=0;
+Sk=Jk;
 break;
-case 2:if(Yj)goto L75;
-w8(a+88,Xj-1);
-Mk=r8(a+8);
-if(r8(a+32)-Mk<2){
-Nk=make_ready_8e3(a,2,128);
-if(!(Nk&1)){
-ok=0;
-pk=0;
-qk=0;
-rk=0;
+case 1:if(kk)goto L75;
+w8(a+88,jk-1);
+Tk=r8(a+8);
+if(r8(a+32)>Tk)Uk=Tk;
+else{
+Vk=make_ready_8e3(a,1,16);
+if(!(Vk&1)){
+Dk=0;
+Ek=0;
+Fk=0;
+Gk=0;
 goto L76;}
-Ok=r8(a+8);}
-else Ok=Mk;
-*(rp(a)+Ok)=38;
-*(rp(a)+(i64)Ok+1)=38;
-Pk=Ok+2;
-w8(a+8,Pk);
-Qk=Pk;
-Rk=Bj&1;
-Sk=r8(a+48);
-if(r8(a+72)>Sk){
-wk=Sk;
-xk=Qk;
-yk=1;
-zk=Rk;
+Uk=r8(a+8);}
+*(rp(a)+Uk)=38;
+Wk=Uk+1;
+w8(a+8,Wk);
+Xk=Wk;
+Yk=Nj&1;
+Zk=r8(a+48);
+if(r8(a+72)>Zk){
+Lk=Zk;
+Mk=Xk;
+Nk=1;
+Ok=Yk;
 goto L77;}
-Tk=make_ready_17a(a+40);
-if(!(Tk&1)){
-ok=0;
-pk=0;
-qk=0;
-rk=0;
+al=make_ready_17a(a+40);
+if(!(al&1)){
+Dk=0;
+Ek=0;
+Fk=0;
+Gk=0;
 goto L76;}
-Bk=Qk;
-Ck=1;
-Dk=Rk;
+Qk=Xk;
+Rk=1;
+Sk=Yk;
 break;
-case 3:if(Yj)goto L75;
-w8(a+88,Xj-1);
+case 2:if(kk)goto L75;
+w8(a+88,jk-1);
+bl=r8(a+8);
+if(r8(a+32)-bl<2){
+cl=make_ready_8e3(a,2,128);
+if(!(cl&1)){
+Dk=0;
+Ek=0;
+Fk=0;
+Gk=0;
+goto L76;}
+dl=r8(a+8);}
+else dl=bl;
+*(rp(a)+dl)=38;
+*(rp(a)+(i64)dl+1)=38;
+el=dl+2;
+w8(a+8,el);
+fl=el;
+gl=Nj&1;
+hl=r8(a+48);
+if(r8(a+72)>hl){
+Lk=hl;
+Mk=fl;
+Nk=1;
+Ok=gl;
+goto L77;}
+il=make_ready_17a(a+40);
+if(!(il&1)){
+Dk=0;
+Ek=0;
+Fk=0;
+Gk=0;
+goto L76;}
+Qk=fl;
+Rk=1;
+Sk=gl;
+break;
+case 3:if(kk)goto L75;
+w8(a+88,jk-1);
 if(r8(a+32)-r8(a+8)<6){
-Uk=make_ready_8e3(a,6,128);
-if(!(Uk&1)){
-ok=0;
-pk=0;
-qk=0;
-rk=0;
+jl=make_ready_8e3(a,6,128);
+if(!(jl&1)){
+Dk=0;
+Ek=0;
+Fk=0;
+Gk=0;
 goto L76;}}
-Vk=extend_from_slice_169(a,(u8*)t_f603,6);
-if(Vk&1){
-ok=0;
-pk=0;
-qk=0;
-rk=0;
+kl=extend_from_slice_169(a,(u8*)t_f603,6);
+if(kl&1){
+Dk=0;
+Ek=0;
+Fk=0;
+Gk=0;
 goto L76;}
-Wk=r8(a+8);
-Xk=Bj&1;
-Yk=r8(a+48);
-if(r8(a+72)>Yk){
-wk=Yk;
-xk=Wk;
-yk=0;
-zk=Xk;
+ll=r8(a+8);
+ml=Nj&1;
+nl=r8(a+48);
+if(r8(a+72)>nl){
+Lk=nl;
+Mk=ll;
+Nk=0;
+Ok=ml;
 goto L77;}
-Zk=make_ready_17a(a+40);
-if(!(Zk&1)){
-ok=0;
-pk=0;
-qk=0;
-rk=0;
+ol=make_ready_17a(a+40);
+if(!(ol&1)){
+Dk=0;
+Ek=0;
+Fk=0;
+Gk=0;
 goto L76;}
-Bk=Wk;
-Ck=0;
-Dk=Xk;
+Qk=ll;
+Rk=0;
+Sk=ml;
 break;
 default:NEVER;
 }
-wk=r8(a+48);
-xk=Bk;
-yk=Ck;
-zk=Dk;
-L77:al=rp(a+40)+wk*12;
-x4(al,ck);
-x4(al+4,xk);
-al[8]=yk;
-al[9]=zk;
-x2(al+10,0);
-w8(a+48,wk+1);
-ok=zk;
-pk=yk;
-qk=2;
-rk=1;
-L76:*lb=rk;
-lb[1]=qk;
-lb[2]=pk;
-lb[3]=ok;
-L75:bl=lb[1];
-cl=lb[2];
-dl=lb[3];
-*sb=*lb;
-sb[1]=bl;
-sb[2]=cl;
-sb[3]=dl;}
+Lk=r8(a+48);
+Mk=Qk;
+Nk=Rk;
+Ok=Sk;
+L77:pl=rp(a+40)+Lk*12;
+x4(pl,ok);
+x4(pl+4,Mk);
+pl[8]=Nk;
+pl[9]=Ok;
+x2(pl+10,0);
+w8(a+48,Lk+1);
+Dk=Ok;
+Ek=Nk;
+Fk=2;
+Gk=1;
+L76:*qb=Gk;
+qb[1]=Fk;
+qb[2]=Ek;
+qb[3]=Dk;
+L75:ql=qb[1];
+rl=qb[2];
+sl=qb[3];
+*xb=*qb;
+xb[1]=ql;
+xb[2]=rl;
+xb[3]=sl;}
 L74:break;
-case 3:el=Cj&1;
-w4(bb,0);
-fl=r8(a+176);
-if(fl<c){
-gl=*(b+fl);
-switch(gl){
-case 69:w4(Za,0);
-w8(a+176,fl+1);
-hl=r8(a+88);
-if(hl==0){
-il=0;
-jl=0;
-kl=0;
-ll=0;}
-else{
-if(*(rp(a+80)+(i64)(hl*44)-44)==27){
-if(el){
-il=0;
-jl=0;
-kl=0;
-ll=0;}
-else{
-w8(a+88,hl-1);
-il=0;
-jl=0;
-kl=3;
-ll=1;}}
-else{
-z32(ab);
-close_list_148(Za,a,b,c,ab);
-il=Za[3];
-jl=Za[2];
-kl=Za[1];
-ll=*Za;}}
-*sb=ll;
-sb[1]=kl;
-sb[2]=jl;
-sb[3]=il;
-goto L78;
-case 74:ml=fl+1;
-if(ml<c){
-if(*(b+ml)==69){
-empty_pack_c74(bb,a,b,c,el);
-*sb=*bb;
-sb[1]=bb[1];
-sb[2]=bb[2];
-sb[3]=bb[3];
-goto L78;}}
-if(!el){
-nl=74;
-goto L79;}
-first_pack_117(bb,a,b,c);
-*sb=*bb;
-sb[1]=bb[1];
-sb[2]=bb[2];
-sb[3]=bb[3];
-goto L78;
-default:ol=gl;
-break;}}
-else ol=0;
-if(el){
-pl=ol;
-goto L80;}
-nl=ol;
-L79:ql=r8(a+8);
-if(r8(a+32)-ql<2){
-rl=make_ready_8e3(a,2,128);
-if(!(rl&1)){
-w4(sb,0);
-goto L78;}
-sl=r8(a+8);}
-else sl=ql;
-*(rp(a)+sl)=44;
-*(rp(a)+(i64)sl+1)=32;
-w8(a+8,sl+2);
-pl=nl;
-L80:switch(pl){
-case 88:tl=r8(a+176);
-if(tl==18446744073709551615u){
-w4(sb,0);
-goto L78;}
-ul=tl+1;
+case 3:tl=Oj&1;
+w4(fb,0);
+ul=r8(a+176);
 if(ul<c){
-switch(*(b+ul)){
-case 115:begin_level_398(bb,a,b,c);
-*sb=*bb;
-sb[1]=bb[1];
-sb[2]=bb[2];
-sb[3]=bb[3];
+vl=*(b+ul);
+switch(vl){
+case 69:w4(db,0);
+w8(a+176,ul+1);
+wl=r8(a+88);
+if(wl==0){
+xl=0;
+yl=0;
+zl=0;
+Al=0;}
+else{
+if(*(rp(a+80)+(i64)(wl*44)-44)==27){
+if(tl){
+xl=0;
+yl=0;
+zl=0;
+Al=0;}
+else{
+w8(a+88,wl-1);
+xl=0;
+yl=0;
+zl=3;
+Al=1;}}
+else{
+z32(eb);
+close_list_148(db,a,b,c,eb);
+xl=db[3];
+yl=db[2];
+zl=db[1];
+Al=*db;}}
+*xb=Al;
+xb[1]=zl;
+xb[2]=yl;
+xb[3]=xl;
 goto L78;
-case 84:parameter_argument_7c8(bb,a,b,c);
-*sb=*bb;
-sb[1]=bb[1];
-sb[2]=bb[2];
-sb[3]=bb[3];
+case 74:Bl=ul+1;
+if(Bl<c){
+if(*(b+Bl)==69){
+empty_pack_c74(fb,a,b,c,tl);
+*xb=*fb;
+xb[1]=fb[1];
+xb[2]=fb[2];
+xb[3]=fb[3];
+goto L78;}}
+if(!tl){
+Cl=74;
+goto L79;}
+first_pack_117(fb,a,b,c);
+*xb=*fb;
+xb[1]=fb[1];
+xb[2]=fb[2];
+xb[3]=fb[3];
+goto L78;
+default:Dl=vl;
+break;}}
+else Dl=0;
+if(tl){
+El=Dl;
+goto L80;}
+Cl=Dl;
+L79:Fl=r8(a+8);
+if(r8(a+32)-Fl<2){
+Gl=make_ready_8e3(a,2,128);
+if(!(Gl&1)){
+w4(xb,0);
+goto L78;}
+Hl=r8(a+8);}
+else Hl=Fl;
+*(rp(a)+Hl)=44;
+*(rp(a)+(i64)Hl+1)=32;
+w8(a+8,Hl+2);
+El=Cl;
+L80:switch(El){
+case 88:Il=r8(a+176);
+if(Il==18446744073709551615u){
+w4(xb,0);
+goto L78;}
+Jl=Il+1;
+if(Jl<c){
+switch(*(b+Jl)){
+case 115:begin_level_398(fb,a,b,c);
+*xb=*fb;
+xb[1]=fb[1];
+xb[2]=fb[2];
+xb[3]=fb[3];
+goto L78;
+case 84:parameter_argument_7c8(fb,a,b,c);
+*xb=*fb;
+xb[1]=fb[1];
+xb[2]=fb[2];
+xb[3]=fb[3];
 goto L78;
 default:break;}}
 break;
-case 76:if(el){
-first_literal_898(bb,a,b,c);
-*sb=*bb;
-sb[1]=bb[1];
-sb[2]=bb[2];
-sb[3]=bb[3];
+case 76:if(tl){
+first_literal_898(fb,a,b,c);
+*xb=*fb;
+xb[1]=fb[1];
+xb[2]=fb[2];
+xb[3]=fb[3];
 goto L78;}
-literal_47f(cb,a,b,c);
-vl=cb[3];
-wl=cb[2];
-xl=cb[1];
-yl=*cb;
+literal_47f(gb,a,b,c);
+Kl=gb[3];
+Ll=gb[2];
+Ml=gb[1];
+Nl=*gb;
 goto L81;
-case 74:zl=r8(a+88);
-if(zl==0){
-vl=0;
-wl=0;
-xl=0;
-yl=0;
-goto L81;}
-Al=rp(a+80);
-Bl=zl*44;
-if(*(Al+(i64)Bl-44)==27){
-vl=0;
-wl=0;
-xl=0;
-yl=0;
-goto L81;}
-Cl=r8(a+176);
-if(Cl==18446744073709551615u){
-vl=0;
-wl=0;
-xl=0;
-yl=0;
-goto L81;}
-w8(a+176,Cl+1);
-if(r8(a+112)>zl){
-Dl=Bl;
-El=Al;
-Fl=zl;}
-else{
-Gl=make_ready_9a1(a+80);
-if(!(Gl&1)){
-vl=0;
-wl=0;
-xl=0;
-yl=0;
-goto L81;}
-Hl=r8(a+88);
-Dl=Hl*44;
-El=rp(a+80);
-Fl=Hl;}
-Il=El+Dl;
-*Il=27;
-z43(Il+1);
-w8(a+88,Fl+1);
-vl=0;
-wl=1;
-xl=3;
-yl=1;
-goto L81;
-default:break;}
-if(el){
-Jl=r8(a+88);
-if(Jl==0){
-Kl=0;
-Ll=0;
-Ml=0;
-Nl=1;}
-else{
-Ol=rp(a+80);
-Pl=Jl*44;
-Ql=Ol+(i64)Pl;
-switch(Ql[-44]){
-case 5:if(Ql[-28]==0){
-Kl=0;
-Ll=0;
-Ml=0;
-Nl=1;
-goto L82;}
-break;
-case 7:break;
-case 0:case 1:case 2:case 3:case 4:case 6:case 8:case 9:case 10:case 11:case 12:case 13:case 14:case 15:case 16:case 17:case 18:case 19:case 20:case 21:case 22:case 23:case 24:case 25:case 26:case 27:case 28:case 29:Kl=0;
-Ll=0;
-Ml=0;
-Nl=1;
-goto L82;
-default:NEVER;
-}
-Rl=is_element_at_f4e(b,c,r8(a+176));
-if(Rl){
-Kl=0;
-Ll=0;
-Ml=0;
-Nl=1;}
-else{
-Sl=r8(a+8);
-if(r8(a+112)>Jl){
-Tl=Pl;
-Ul=Ol;
-Vl=Jl;}
-else{
-Wl=make_ready_9a1(a+80);
-if(!(Wl&1)){
+case 74:Ol=r8(a+88);
+if(Ol==0){
 Kl=0;
 Ll=0;
 Ml=0;
 Nl=0;
+goto L81;}
+Pl=rp(a+80);
+Ql=Ol*44;
+if(*(Pl+(i64)Ql-44)==27){
+Kl=0;
+Ll=0;
+Ml=0;
+Nl=0;
+goto L81;}
+Rl=r8(a+176);
+if(Rl==18446744073709551615u){
+Kl=0;
+Ll=0;
+Ml=0;
+Nl=0;
+goto L81;}
+w8(a+176,Rl+1);
+if(r8(a+112)>Ol){
+Sl=Ql;
+Tl=Pl;
+Ul=Ol;}
+else{
+Vl=make_ready_9a1(a+80);
+if(!(Vl&1)){
+Kl=0;
+Ll=0;
+Ml=0;
+Nl=0;
+goto L81;}
+Wl=r8(a+88);
+Sl=Wl*44;
+Tl=rp(a+80);
+Ul=Wl;}
+Xl=Tl+Sl;
+*Xl=27;
+z43(Xl+1);
+w8(a+88,Ul+1);
+Kl=0;
+Ll=1;
+Ml=3;
+Nl=1;
+goto L81;
+default:break;}
+if(tl){
+Yl=r8(a+88);
+if(Yl==0){
+Zl=0;
+am=0;
+bm=0;
+cm=1;}
+else{
+dm=rp(a+80);
+em=Yl*44;
+fm=dm+(i64)em;
+switch(fm[-44]){
+case 5:if(fm[-28]==0){
+Zl=0;
+am=0;
+bm=0;
+cm=1;
 goto L82;}
-Xl=r8(a+88);
-Tl=Xl*44;
-Ul=rp(a+80);
-Vl=Xl;}
-Yl=Ul+Tl;
-*Yl=25;
-Yl[1]=0;
-x2(Yl+2,0);
-x4(Yl+4,Sl);
-z36(Yl+8);
-w8(a+88,Vl+1);
-w4(Ya,0);
-Zl=r8(a+176);
-if(Zl<c){
-if(*(b+Zl)==88){
-begin_address_731(Ya,a,b,c);
-am=Ya[3];
-bm=Ya[2];
-cm=Ya[1];
-dm=*Ya;}
+break;
+case 7:break;
+case 0:case 1:case 2:case 3:case 4:case 6:case 8:case 9:case 10:case 11:case 12:case 13:case 14:case 15:case 16:case 17:case 18:case 19:case 20:case 21:case 22:case 23:case 24:case 25:case 26:case 27:case 28:case 29:Zl=0;
+am=0;
+bm=0;
+cm=1;
+goto L82;
+default:NEVER;
+}
+gm=is_element_at_f4e(b,c,r8(a+176));
+if(gm){
+Zl=0;
+am=0;
+bm=0;
+cm=1;}
 else{
+hm=r8(a+8);
+if(r8(a+112)>Yl){
+im=em;
+jm=dm;
+km=Yl;}
+else{
+lm=make_ready_9a1(a+80);
+if(!(lm&1)){
+Zl=0;
 am=0;
 bm=0;
 cm=0;
-dm=1;}}
+goto L82;}
+mm=r8(a+88);
+im=mm*44;
+jm=rp(a+80);
+km=mm;}
+nm=jm+im;
+*nm=25;
+nm[1]=0;
+x2(nm+2,0);
+x4(nm+4,hm);
+z36(nm+8);
+w8(a+88,km+1);
+w4(cb,0);
+om=r8(a+176);
+if(om<c){
+if(*(b+om)==88){
+begin_address_731(cb,a,b,c);
+pm=cb[3];
+qm=cb[2];
+rm=cb[1];
+sm=*cb;}
 else{
-am=0;
-bm=0;
-cm=0;
-dm=1;}
-Kl=am;
-Ll=bm;
-Ml=cm;
-Nl=dm;}}
-L82:*sb=Nl;
-sb[1]=Ml;
-sb[2]=Ll;
-sb[3]=Kl;
+pm=0;
+qm=0;
+rm=0;
+sm=1;}}
+else{
+pm=0;
+qm=0;
+rm=0;
+sm=1;}
+Zl=pm;
+am=qm;
+bm=rm;
+cm=sm;}}
+L82:*xb=cm;
+xb[1]=bm;
+xb[2]=am;
+xb[3]=Zl;
 goto L78;}
-vl=0;
-wl=0;
-xl=0;
-yl=1;
-L81:*sb=yl;
-sb[1]=xl;
-sb[2]=wl;
-sb[3]=vl;
+Kl=0;
+Ll=0;
+Ml=0;
+Nl=1;
+L81:*xb=Nl;
+xb[1]=Ml;
+xb[2]=Ll;
+xb[3]=Kl;
 L78:break;
-case 4:w4(Wa,0);
-z20(Xa+20);
+case 4:w4(ab,0);
+z20(bb+20);
 if(!(a[136]&1)){
-em=r4(a+120);
-fm=a[139];
-gm=r8(a+8);
-hm=r8(a+48);
-if(r8(a+72)>hm)im=hm;
+tm=r4(a+120);
+um=a[139];
+vm=r8(a+8);
+wm=r8(a+48);
+if(r8(a+72)>wm)xm=wm;
 else{
-jm=make_ready_17a(a+40);
-if(!(jm&1)){
-w4(sb,0);
+ym=make_ready_17a(a+40);
+if(!(ym&1)){
+w4(xb,0);
 goto L83;}
-im=r8(a+48);}
-km=rp(a+40)+im*12;
-x4(km,em);
-x4(km+4,gm);
-km[8]=0;
-km[9]=fm;
-x2(km+10,0);
-w8(a+48,im+1);}
-lm=r8(a+176);
-if(lm<c){
-if(*(b+lm)==73){
-memcpy(Xa,a+120,20);
-mm=r8(a+8);
-if(r8(a+32)>mm)nm=mm;
+xm=r8(a+48);}
+zm=rp(a+40)+xm*12;
+x4(zm,tm);
+x4(zm+4,vm);
+zm[8]=0;
+zm[9]=um;
+x2(zm+10,0);
+w8(a+48,xm+1);}
+Am=r8(a+176);
+if(Am<c){
+if(*(b+Am)==73){
+memcpy(bb,a+120,20);
+Bm=r8(a+8);
+if(r8(a+32)>Bm)Cm=Bm;
 else{
-om=make_ready_8e3(a,1,16);
-if(!(om&1)){
-pm=0;
-qm=0;
+Dm=make_ready_8e3(a,1,16);
+if(!(Dm&1)){
+Em=0;
+Fm=0;
 goto L84;}
-nm=r8(a+8);}
-*(rp(a)+nm)=1;
-w8(a+8,nm+1);
-rm=r8(a+176);
-if(rm==18446744073709551615u){
-pm=0;
-qm=0;}
+Cm=r8(a+8);}
+*(rp(a)+Cm)=1;
+w8(a+8,Cm+1);
+Gm=r8(a+176);
+if(Gm==18446744073709551615u){
+Em=0;
+Fm=0;}
 else{
-w8(a+176,rm+1);
-sm=r8(a+88);
-if(r8(a+112)>sm)tm=sm;
+w8(a+176,Gm+1);
+Hm=r8(a+88);
+if(r8(a+112)>Hm)Im=Hm;
 else{
-um=make_ready_9a1(a+80);
-if(!(um&1)){
-pm=0;
-qm=0;
+Jm=make_ready_9a1(a+80);
+if(!(Jm&1)){
+Em=0;
+Fm=0;
 goto L84;}
-tm=r8(a+88);}
-vm=rp(a+80)+tm*44;
-*vm=6;
-vm[1]=0;
-x2(vm+2,0);
-memcpy(vm+4,Xa,40);
-w8(a+88,tm+1);
-pm=3;
-qm=1;}
-L84:*sb=qm;
-sb[1]=pm;
-sb[2]=qm;
-sb[3]=0;
+Im=r8(a+88);}
+Km=rp(a+80)+Im*44;
+*Km=6;
+Km[1]=0;
+x2(Km+2,0);
+memcpy(Km+4,bb,40);
+w8(a+88,Im+1);
+Em=3;
+Fm=1;}
+L84:*xb=Fm;
+xb[1]=Em;
+xb[2]=Fm;
+xb[3]=0;
 goto L83;}}
-components_at_b1b(Wa,a,b,c);
-*sb=*Wa;
-sb[1]=Wa[1];
-sb[2]=Wa[2];
-sb[3]=Wa[3];
+components_at_b1b(ab,a,b,c);
+*xb=*ab;
+xb[1]=ab[1];
+xb[2]=ab[2];
+xb[3]=ab[3];
 L83:break;
-case 5:w4(Va,0);
-wm=r8(a+176);
-if(wm<c){
-if(*(b+wm)==69){
-nest_ended_003(Va,a,b,c);
-*sb=*Va;
-sb[1]=Va[1];
-sb[2]=Va[2];
-sb[3]=Va[3];
+case 5:w4(Za,0);
+Lm=r8(a+176);
+if(Lm<c){
+if(*(b+Lm)==69){
+nest_ended_003(Za,a,b,c);
+*xb=*Za;
+xb[1]=Za[1];
+xb[2]=Za[2];
+xb[3]=Za[3];
 goto L85;}}
 if(!(a[136]&1)){
-xm=r4(a+120);
-ym=a[139];
-zm=r8(a+8);
-Am=r8(a+48);
-if(r8(a+72)>Am)Bm=Am;
+Mm=r4(a+120);
+Nm=a[139];
+Om=r8(a+8);
+Pm=r8(a+48);
+if(r8(a+72)>Pm)Qm=Pm;
 else{
-Cm=make_ready_17a(a+40);
-if(!(Cm&1)){
-w4(sb,0);
+Rm=make_ready_17a(a+40);
+if(!(Rm&1)){
+w4(xb,0);
 goto L85;}
-Bm=r8(a+48);}
-Dm=rp(a+40)+Bm*12;
-x4(Dm,xm);
-x4(Dm+4,zm);
-Dm[8]=0;
-Dm[9]=ym;
-x2(Dm+10,0);
-w8(a+48,Bm+1);}
-components_at_b1b(Va,a,b,c);
-*sb=*Va;
-sb[1]=Va[1];
-sb[2]=Va[2];
-sb[3]=Va[3];
+Qm=r8(a+48);}
+Sm=rp(a+40)+Qm*12;
+x4(Sm,Mm);
+x4(Sm+4,Om);
+Sm[8]=0;
+Sm[9]=Nm;
+x2(Sm+10,0);
+w8(a+48,Qm+1);}
+components_at_b1b(Za,a,b,c);
+*xb=*Za;
+xb[1]=Za[1];
+xb[2]=Za[2];
+xb[3]=Za[3];
 L85:break;
-case 6:components_at_b1b(sb,a,b,c);
+case 6:components_at_b1b(xb,a,b,c);
 break;
 default:NEVER;
 }
-Em=Aj+1;
-if(*sb!=1||Em==zj)goto L1;
-Aj=Em;
-Bj=sb[3];
-Cj=sb[2];
-Dj=sb[1];
+Tm=Mj+1;
+if(*xb!=1||Tm==Lj)goto L1;
+Mj=Tm;
+Nj=xb[3];
+Oj=xb[2];
+Pj=xb[1];
 goto L68;}}}
 goto L1;
 default:NEVER;
 }}
 else{
 switch(f){
-case 3:if(Vb)goto L1;
+case 3:if(bc)goto L1;
 if(c<16){
-Fm=are_few_named_14c(b,c);
-if(!Fm)goto L1;}
+Um=are_few_named_14c(b,c);
+if(!Um)goto L1;}
 else{
-Gm=c-16;
-if(Gm==0)goto L86;
-Hm=0;
-L87:Im=v16_at(b+Hm);
-if((v16_ult(Im,splat(33))|v16_eq(Im,splat(127)))!=0)goto L1;
-Jm=Hm+16;
-if(Jm<Gm){
-Hm=Jm;
+Vm=c-16;
+if(Vm==0)goto L86;
+Wm=0;
+L87:Xm=v16_at(b+Wm);
+if((v16_ult(Xm,splat(33))|v16_eq(Xm,splat(127)))!=0)goto L1;
+Ym=Wm+16;
+if(Ym<Vm){
+Wm=Ym;
 goto L87;}
-L86:Km=v16_at(b+Gm);
-if((v16_ult(Km,splat(33))|v16_eq(Km,splat(127)))!=0)goto L1;}
-w4(A,0);
+L86:Zm=v16_at(b+Vm);
+if((v16_ult(Zm,splat(33))|v16_eq(Zm,splat(127)))!=0)goto L1;}
 w4(B,0);
+w4(C,0);
 if(c!=0){
 if(c!=1&&*b==95){
 if(b[1]==90){
 if(c>=3){
-Lm=b[2];
+an=b[2];
 if(c<5){
-if(Lm==90)goto L88;
-if((c!=3)&(Lm==71)){
+if(an==90)goto L88;
+if((c!=3)&(an==71)){
 if(b[3]==86)goto L89;
 goto L90;}
-switch(Lm){
+switch(an){
 case 71:goto L90;
 case 84:if(c==3)goto L91;
 break;
 default:goto L92;
 }}
 else{
-switch(Lm){
+switch(an){
 case 90:goto L88;
 case 71:if(b[3]!=86)goto L90;
 if(b[4]!=90)goto L89;
-if(Tb<19){
-Mm=make_ready_8e3(a,19,128);
-if(!(Mm&1)){
-Pm=0;
-Qm=0;
-Rm=0;
-Sm=0;
+if(Zb<19){
+bn=make_ready_8e3(a,19,128);
+if(!(bn&1)){
+en=0;
+fn=0;
+gn=0;
+hn=0;
 goto L93;}
-Nm=r8(a+16);
-Om=r8(a+8);}
+cn=r8(a+16);
+dn=r8(a+8);}
 else{
-Nm=Sb;
-Om=0;}
-if(Nm-Om<19){
-Tm=grow_amortized_2b6(a,19);
-if(!Tm){
-Pm=0;
-Qm=0;
-Rm=0;
-Sm=0;
+cn=Yb;
+dn=0;}
+if(cn-dn<19){
+in=grow_amortized_2b6(a,19);
+if(!in){
+en=0;
+fn=0;
+gn=0;
+hn=0;
 goto L93;}
-Um=r8(a+16);
-Vm=r8(a+8);}
+jn=r8(a+16);
+kn=r8(a+8);}
 else{
-Um=Nm;
-Vm=Om;}
-Wm=Vm+19;
-Xm=rp(a);
+jn=cn;
+kn=dn;}
+ln=kn+19;
+mn=rp(a);
 z16(a+8);
-Ym=Xm+(i64)Vm;
-if((u64)Ym-(u64)(u8*)t_c270<19)copy_bits_4f4((u8*)t_c270,Ym,19);
-else memcpy(Ym,(u8*)t_c270,19);
-wp(a,Xm);
-w8(a+8,Wm);
-w8(a+16,Um);
+nn=mn+(i64)kn;
+if((u64)nn-(u64)(u8*)t_c270<19)copy_bits_4f4((u8*)t_c270,nn,19);
+else memcpy(nn,(u8*)t_c270,19);
+wp(a,mn);
+w8(a+8,ln);
+w8(a+16,jn);
 w8(a+176,5);
-begin_encoding_33e(y,a,b,c);
-Pm=y[3];
-Qm=y[2];
-Rm=y[1];
-Sm=*y;
-L93:Zm=Pm;
-an=Qm;
-bn=Rm;
-cn=Sm;
+begin_encoding_33e(z,a,b,c);
+en=z[3];
+fn=z[2];
+gn=z[1];
+hn=*z;
+L93:on=en;
+pn=fn;
+qn=gn;
+rn=hn;
 goto L94;
 case 84:break;
 default:goto L92;
 }}
 switch(b[3]){
-case 104:begin_thunk_481(B,a,b,c);
+case 104:begin_thunk_481(C,a,b,c);
 goto L95;
-case 118:begin_virtual_thunk_f37(B,a,b,c);
+case 118:begin_virtual_thunk_f37(C,a,b,c);
 goto L95;
-case 67:begin_clone_893(B);
+case 67:begin_clone_893(C);
 goto L95;
 default:break;}
-L91:begin_special_44d(B,a,b,c);
-L95:dn=B[3];
-en=B[2];
-fn=B[1];
-gn=*B;
+L91:begin_special_44d(C,a,b,c);
+L95:sn=C[3];
+tn=C[2];
+un=C[1];
+vn=*C;
 goto L96;
-L90:begin_clone_893(A);
-dn=A[3];
-en=A[2];
-fn=A[1];
-gn=*A;
+L90:begin_clone_893(B);
+sn=B[3];
+tn=B[2];
+un=B[1];
+vn=*B;
 goto L96;
-L89:begin_object_056(A,a,b,c);
-dn=A[3];
-en=A[2];
-fn=A[1];
-gn=*A;
+L89:begin_object_056(B,a,b,c);
+sn=B[3];
+tn=B[2];
+un=B[1];
+vn=*B;
 goto L96;
 L88:w8(a+176,3);
-begin_encoding_33e(z,a,b,c);
-Zm=z[3];
-an=z[2];
-bn=z[1];
-cn=*z;
-L94:dn=Zm;
-en=an;
-fn=bn;
-gn=cn;
+begin_encoding_33e(A,a,b,c);
+on=A[3];
+pn=A[2];
+qn=A[1];
+rn=*A;
+L94:sn=on;
+tn=pn;
+un=qn;
+vn=rn;
 goto L96;}
 L92:w8(a+176,2);
-begin_encoding_33e(A,a,b,c);
-dn=A[3];
-en=A[2];
-fn=A[1];
-gn=*A;
-L96:if(gn!=1)goto L1;
-hn=c<<3;
-in=0;
-jn=dn;
-kn=en;
-ln=fn;
-L97:if(ln==7){
-mn=r8(a+8);
-if(mn>Rb)goto L14;
-nn=rp(a);
-if(mn==0)goto L15;
-on=0;
-pn=0;
-qn=0;
-L98:rn=on;
-L99:if(mn-rn>15){
-sn=cttz(v16_ult(v16_at(nn+rn),splat(3)),16);
-tn=rn+sn;
-if(sn>=16){
-rn=tn;
+begin_encoding_33e(B,a,b,c);
+sn=B[3];
+tn=B[2];
+un=B[1];
+vn=*B;
+L96:if(vn!=1)goto L1;
+wn=c<<3;
+xn=0;
+yn=sn;
+zn=tn;
+An=un;
+L97:if(An==7){
+Bn=r8(a+8);
+if(Bn>Xb)goto L14;
+Cn=rp(a);
+if(Bn==0)goto L15;
+Dn=0;
+En=0;
+Fn=0;
+L98:Gn=Dn;
+L99:if(Bn-Gn>15){
+Hn=cttz(v16_ult(v16_at(Cn+Gn),splat(3)),16);
+In=Gn+Hn;
+if(Hn>=16){
+Gn=In;
 goto L99;}
-un=tn;}
+Jn=In;}
 else{
-if(rn>=mn){
-un=rn;
+if(Gn>=Bn){
+Jn=Gn;
 goto L100;}
-vn=rn;
-L101:if(*(nn+vn)>2){
-wn=vn+1;
-if(wn!=mn){
-vn=wn;
+Kn=Gn;
+L101:if(*(Cn+Kn)>2){
+Ln=Kn+1;
+if(Ln!=Bn){
+Kn=Ln;
 goto L101;}
-un=mn;}
-else un=vn;}
-L100:if(qn==0){
-if(pn<on){
-if(un!=on){
-xn=un-on;
-yn=nn+(i64)on;
-zn=nn+(i64)pn;
-An=0;
-L102:*(zn+(i64)An)=*(yn+(i64)An);
-Bn=An+1;
-if(Bn!=xn){
-An=Bn;
+Jn=Bn;}
+else Jn=Kn;}
+L100:if(Fn==0){
+if(En<Dn){
+if(Jn!=Dn){
+Mn=Jn-Dn;
+Nn=Cn+(i64)Dn;
+On=Cn+(i64)En;
+Pn=0;
+L102:*(On+(i64)Pn)=*(Nn+(i64)Pn);
+Qn=Pn+1;
+if(Qn!=Mn){
+Pn=Qn;
 goto L102;}}}
-Cn=pn-on+un;}
-else Cn=pn;
-if(un!=mn){
-switch(*(nn+un)){
-case 1:Dn=qn+1;
+Rn=En-Dn+Jn;}
+else Rn=En;
+if(Jn!=Bn){
+switch(*(Cn+Jn)){
+case 1:Sn=Fn+1;
 break;
-case 2:Dn=usub64(qn,1);
+case 2:Sn=usub64(Fn,1);
 break;
 default:goto L1;
 }
-En=un+1;
-if(En<mn){
-on=En;
-pn=Cn;
-qn=Dn;
+Tn=Jn+1;
+if(Tn<Bn){
+Dn=Tn;
+En=Rn;
+Fn=Sn;
 goto L98;}}
-if(r8(a+8)<=Cn)goto L15;
-Wc=Cn;
+if(r8(a+8)<=Rn)goto L15;
+cd=Rn;
 break;}
 w8(a+184,r8(a+184)+1);
-w4(C,0);
-switch(ln){
-case 0:type_at_77f(C,a,b,c,0);
+w4(D,0);
+switch(An){
+case 0:type_at_77f(D,a,b,c,0);
 break;
-case 1:type_at_77f(C,a,b,c,1);
+case 1:type_at_77f(D,a,b,c,1);
 break;
-case 2:w4(u,0);
-w4(v,0);
-z32(w);
+case 2:w4(v,0);
+w4(w,0);
 z32(x);
-Fn=r8(a+88);
-if(Fn==0)w4(C,0);
+z32(y);
+Un=r8(a+88);
+if(Un==0)w4(D,0);
 else{
-Gn=kn&1;
-Hn=rp(a+80)+(i64)(Fn*44);
-In=Hn[-44];
-Jn=Hn[-43];
-Kn=q4(Hn-40);
-Ln=q4(Hn-36);
-Mn=q2(Hn-32);
-switch(In){
-case 29:case 28:case 27:case 26:case 4:case 5:case 6:case 7:case 8:case 11:case 12:case 13:case 14:case 15:case 16:case 17:case 18:case 19:case 20:case 21:case 22:case 23:case 24:case 25:if(jn&1){
-pass_dependent_3d7(u,a,b,c);
-*C=*u;
-C[1]=u[1];
-C[2]=u[2];
-C[3]=u[3];
+Vn=zn&1;
+Wn=rp(a+80)+(i64)(Un*44);
+Xn=Wn[-44];
+Yn=Wn[-43];
+Zn=q4(Wn-40);
+ao=q4(Wn-36);
+bo=q2(Wn-32);
+switch(Xn){
+case 29:case 28:case 27:case 26:case 4:case 5:case 6:case 7:case 8:case 11:case 12:case 13:case 14:case 15:case 16:case 17:case 18:case 19:case 20:case 21:case 22:case 23:case 24:case 25:if(yn&1){
+pass_dependent_3d7(v,a,b,c);
+*D=*v;
+D[1]=v[1];
+D[2]=v[2];
+D[3]=v[3];
 goto L103;}
-Nn=q4(Hn-4);
-On=Ln;
-Pn=Ln>>16;
-w4(t,0);
-switch(In){
-case 22:returned_07a(t,a,b,c,Jn&1);
+co=q4(Wn-4);
+w4(u,0);
+switch(Xn){
+case 22:returned_07a(u,a,b,c,Yn&1);
 break;
-case 23:parameter_at_257(t,a,b,c,Jn&1,0);
+case 23:parameter_at_257(u,a,b,c,Yn&1,0);
 break;
-case 24:array_ended_b9c(t,a,b,c,Jn,Kn,Ln);
+case 24:array_ended_b9c(u,a,b,c,Yn,Zn,ao);
 break;
-case 12:enclosing_parameter_fc1(t,a,b,c,Kn,Ln);
+case 12:enclosing_parameter_fc1(u,a,b,c,Zn,ao);
 break;
-case 13:instance_parameter_240(t,a,b,c,Jn,Kn,Ln);
+case 13:instance_parameter_240(u,a,b,c,Yn,Zn,ao);
 break;
-case 11:w2(n,Mn);
-memcpy(n+2,Hn-30,26);
-x4(n+28,Nn);
-enclosing_front_fa8(t,a,Jn,Kn,Ln,n);
+case 11:w2(r,bo);
+memcpy(r+2,Wn-30,26);
+x4(r+28,co);
+enclosing_front_fa8(u,a,Yn,Zn,ao,r);
 break;
-case 17:w4(o,Ln);
-w2(o+4,Mn);
-lambda_parameter_383(t,a,b,c,Kn,o);
+case 17:w4(s,ao);
+w2(s+4,bo);
+lambda_parameter_383(u,a,b,c,Zn,s);
 break;
-case 18:member_parameter_7e4(t,a,b,c,Kn);
+case 18:member_parameter_7e4(u,a,b,c,Zn);
 break;
-case 15:w4(p,Ln);
-w2(p+4,Mn);
-memcpy(p+6,Hn-30,26);
-addressed_front_54d(t,a,b,c,Jn,Kn,p);
+case 15:w4(t,ao);
+w2(t+4,bo);
+memcpy(t+6,Wn-30,26);
+addressed_front_54d(u,a,b,c,Yn,Zn,t);
 break;
-case 16:addressed_parameter_2cf(t,a,b,c,Kn);
+case 16:addressed_parameter_2cf(u,a,b,c,Zn);
 break;
-case 14:*t=0;
+case 14:*u=0;
 break;
-case 19:finish_8cd(t,a,b,c);
+case 19:finish_8cd(u,a,b,c);
 break;
-case 20:derived_ended_aef(t,a,b,c);
+case 20:derived_ended_aef(u,a,b,c);
 break;
-case 21:base_ended_299(t,a,b,c,Kn);
+case 21:base_ended_299(u,a,b,c,Zn);
 break;
-case 29:enumerator_21c(t,a,b,c);
+case 29:enumerator_21c(u,a,b,c);
 break;
-case 26:w2(q,Pn);
-w2(q+2,Mn);
-memcpy(q+4,Hn-30,26);
-w2(q+30,Nn);
-argument_enumerator_2d4(t,a,b,c,Kn,On,q);
+case 26:case 25:case 28:eo=ao;
+fo=co;
+w4(q,0);
+switch(Xn){
+case 26:w2(n,ao>>16);
+w2(n+2,bo);
+memcpy(n+4,Wn-30,26);
+w2(n+30,fo);
+argument_enumerator_2d4(q,a,b,c,Zn,eo,n);
 break;
-case 25:w2(r,Pn);
-w2(r+2,Mn);
-memcpy(r+4,Hn-30,26);
-w2(r+30,Nn);
-argument_ended_1bb(t,a,b,c,Kn,On,r,Gn);
+case 25:w2(o,ao>>16);
+w2(o+2,bo);
+memcpy(o+4,Wn-30,26);
+w2(o+30,fo);
+argument_ended_1bb(q,a,b,c,Zn,eo,o,Vn);
 break;
-case 28:w2(s,Pn);
-w2(s+2,Mn);
-memcpy(s+4,Hn-30,26);
-w2(s+30,Nn);
-element_ended_20b(t,a,b,c,Kn,On,s,Gn);
+case 28:w2(p,ao>>16);
+w2(p+2,bo);
+memcpy(p+4,Wn-30,26);
+w2(p+30,fo);
+element_ended_20b(q,a,b,c,Zn,eo,p,Vn);
 break;
-case 27:case 10:case 9:case 8:case 4:case 5:case 6:case 7:*t=1;
-t[1]=3;
-t[2]=0;
-t[3]=0;
+case 27:*q=0;
 break;
 default:NEVER;
 }
-Qn=t[1];
-Rn=t[2];
-Sn=t[3];
-*v=*t;
-v[1]=Qn;
-v[2]=Rn;
-v[3]=Sn;
+go=q[1];
+ho=q[2];
+io=q[3];
+*u=*q;
+u[1]=go;
+u[2]=ho;
+u[3]=io;
+break;
+case 27:case 10:case 9:case 8:case 4:case 5:case 6:case 7:*u=1;
+u[1]=3;
+u[2]=0;
+u[3]=0;
+break;
+default:NEVER;
+}
+jo=u[1];
+ko=u[2];
+lo=u[3];
+*w=*u;
+w[1]=jo;
+w[2]=ko;
+w[3]=lo;
 goto L104;
-case 10:w4(w,Ln);
-w2(w+4,Mn);
-memcpy(w+6,Hn-30,26);
-parameter_ended_d3f(v,a,b,c,Kn,w);
+case 10:w4(x,ao);
+w2(x+4,bo);
+memcpy(x+6,Wn-30,26);
+parameter_ended_d3f(w,a,b,c,Zn,x);
 goto L104;
-case 9:w4(x,Ln);
-w2(x+4,Mn);
-memcpy(x+6,Hn-30,26);
-front_ended_665(v,a,b,c,Jn,Kn,x);
+case 9:w4(y,ao);
+w2(y+4,bo);
+memcpy(y+6,Wn-30,26);
+front_ended_665(w,a,b,c,Yn,Zn,y);
 goto L104;
-case 0:w8(a+88,Fn-1);
-Tn=r8(a+8);
-if(r8(a+32)>Tn)Un=Tn;
+case 0:w8(a+88,Un-1);
+mo=r8(a+8);
+if(r8(a+32)>mo)no=mo;
 else{
-Vn=make_ready_8e3(a,1,16);
-if(!(Vn&1)){
-Wn=0;
-Xn=0;
-Yn=0;
-Zn=0;
+oo=make_ready_8e3(a,1,16);
+if(!(oo&1)){
+po=0;
+qo=0;
+ro=0;
+so=0;
 goto L105;}
-Un=r8(a+8);}
-*(rp(a)+Un)=42;
-ao=Un+1;
-w8(a+8,ao);
-bo=ao;
-co=jn&1;
-eo=r8(a+48);
-if(r8(a+72)>eo){
-fo=eo;
-go=bo;
-ho=0;
-io=co;
+no=r8(a+8);}
+*(rp(a)+no)=42;
+to=no+1;
+w8(a+8,to);
+uo=to;
+vo=yn&1;
+wo=r8(a+48);
+if(r8(a+72)>wo){
+xo=wo;
+yo=uo;
+zo=0;
+Ao=vo;
 goto L106;}
-jo=make_ready_17a(a+40);
-if(!(jo&1)){
-Wn=0;
-Xn=0;
-Yn=0;
-Zn=0;
+Bo=make_ready_17a(a+40);
+if(!(Bo&1)){
+po=0;
+qo=0;
+ro=0;
+so=0;
 goto L105;}
-ko=bo;
-lo=0;
-mo=co;
+Co=uo;
+Do=0;
+Eo=vo;
 break;
-case 1:if(Gn)goto L104;
-w8(a+88,Fn-1);
-no=r8(a+8);
-if(r8(a+32)>no)oo=no;
-else{
-po=make_ready_8e3(a,1,16);
-if(!(po&1)){
-Wn=0;
-Xn=0;
-Yn=0;
-Zn=0;
-goto L105;}
-oo=r8(a+8);}
-*(rp(a)+oo)=38;
-qo=oo+1;
-w8(a+8,qo);
-ro=qo;
-so=jn&1;
-to=r8(a+48);
-if(r8(a+72)>to){
-fo=to;
-go=ro;
-ho=1;
-io=so;
-goto L106;}
-uo=make_ready_17a(a+40);
-if(!(uo&1)){
-Wn=0;
-Xn=0;
-Yn=0;
-Zn=0;
-goto L105;}
-ko=ro;
-lo=1;
-mo=so;
-break;
-case 2:if(Gn)goto L104;
-w8(a+88,Fn-1);
-vo=r8(a+8);
-if(r8(a+32)-vo<2){
-wo=make_ready_8e3(a,2,128);
-if(!(wo&1)){
-Wn=0;
-Xn=0;
-Yn=0;
-Zn=0;
-goto L105;}
-xo=r8(a+8);}
-else xo=vo;
-*(rp(a)+xo)=38;
-*(rp(a)+(i64)xo+1)=38;
-yo=xo+2;
-w8(a+8,yo);
-zo=yo;
-Ao=jn&1;
-Bo=r8(a+48);
-if(r8(a+72)>Bo){
-fo=Bo;
-go=zo;
-ho=1;
-io=Ao;
-goto L106;}
-Co=make_ready_17a(a+40);
-if(!(Co&1)){
-Wn=0;
-Xn=0;
-Yn=0;
-Zn=0;
-goto L105;}
-ko=zo;
-lo=1;
-mo=Ao;
-break;
-case 3:if(Gn)goto L104;
-w8(a+88,Fn-1);
-if(r8(a+32)-r8(a+8)<6){
-Do=make_ready_8e3(a,6,128);
-if(!(Do&1)){
-Wn=0;
-Xn=0;
-Yn=0;
-Zn=0;
-goto L105;}}
-Eo=extend_from_slice_169(a,(u8*)t_f603,6);
-if(Eo&1){
-Wn=0;
-Xn=0;
-Yn=0;
-Zn=0;
-goto L105;}
+case 1:if(Vn)goto L104;
+w8(a+88,Un-1);
 Fo=r8(a+8);
-Go=jn&1;
-Ho=r8(a+48);
-if(r8(a+72)>Ho){
-fo=Ho;
-go=Fo;
-ho=0;
-io=Go;
-goto L106;}
-Io=make_ready_17a(a+40);
-if(!(Io&1)){
-Wn=0;
-Xn=0;
-Yn=0;
-Zn=0;
+if(r8(a+32)>Fo)Go=Fo;
+else{
+Ho=make_ready_8e3(a,1,16);
+if(!(Ho&1)){
+po=0;
+qo=0;
+ro=0;
+so=0;
 goto L105;}
-ko=Fo;
-lo=0;
-mo=Go;
+Go=r8(a+8);}
+*(rp(a)+Go)=38;
+Io=Go+1;
+w8(a+8,Io);
+Jo=Io;
+Ko=yn&1;
+Lo=r8(a+48);
+if(r8(a+72)>Lo){
+xo=Lo;
+yo=Jo;
+zo=1;
+Ao=Ko;
+goto L106;}
+Mo=make_ready_17a(a+40);
+if(!(Mo&1)){
+po=0;
+qo=0;
+ro=0;
+so=0;
+goto L105;}
+Co=Jo;
+Do=1;
+Eo=Ko;
+break;
+case 2:if(Vn)goto L104;
+w8(a+88,Un-1);
+No=r8(a+8);
+if(r8(a+32)-No<2){
+Oo=make_ready_8e3(a,2,128);
+if(!(Oo&1)){
+po=0;
+qo=0;
+ro=0;
+so=0;
+goto L105;}
+Po=r8(a+8);}
+else Po=No;
+*(rp(a)+Po)=38;
+*(rp(a)+(i64)Po+1)=38;
+Qo=Po+2;
+w8(a+8,Qo);
+Ro=Qo;
+So=yn&1;
+To=r8(a+48);
+if(r8(a+72)>To){
+xo=To;
+yo=Ro;
+zo=1;
+Ao=So;
+goto L106;}
+Uo=make_ready_17a(a+40);
+if(!(Uo&1)){
+po=0;
+qo=0;
+ro=0;
+so=0;
+goto L105;}
+Co=Ro;
+Do=1;
+Eo=So;
+break;
+case 3:if(Vn)goto L104;
+w8(a+88,Un-1);
+if(r8(a+32)-r8(a+8)<6){
+Vo=make_ready_8e3(a,6,128);
+if(!(Vo&1)){
+po=0;
+qo=0;
+ro=0;
+so=0;
+goto L105;}}
+Wo=extend_from_slice_169(a,(u8*)t_f603,6);
+if(Wo&1){
+po=0;
+qo=0;
+ro=0;
+so=0;
+goto L105;}
+Xo=r8(a+8);
+Yo=yn&1;
+Zo=r8(a+48);
+if(r8(a+72)>Zo){
+xo=Zo;
+yo=Xo;
+zo=0;
+Ao=Yo;
+goto L106;}
+ap=make_ready_17a(a+40);
+if(!(ap&1)){
+po=0;
+qo=0;
+ro=0;
+so=0;
+goto L105;}
+Co=Xo;
+Do=0;
+Eo=Yo;
 break;
 default:NEVER;
 }
-fo=r8(a+48);
-go=ko;
-ho=lo;
-io=mo;
-L106:Jo=rp(a+40)+fo*12;
-x4(Jo,Kn);
-x4(Jo+4,go);
-Jo[8]=ho;
-Jo[9]=io;
-x2(Jo+10,0);
-w8(a+48,fo+1);
-Wn=io;
-Xn=ho;
-Yn=2;
-Zn=1;
-L105:*v=Zn;
-v[1]=Yn;
-v[2]=Xn;
-v[3]=Wn;
-L104:Ko=v[1];
-Lo=v[2];
-Mo=v[3];
-*C=*v;
-C[1]=Ko;
-C[2]=Lo;
-C[3]=Mo;}
+xo=r8(a+48);
+yo=Co;
+zo=Do;
+Ao=Eo;
+L106:bp=rp(a+40)+xo*12;
+x4(bp,Zn);
+x4(bp+4,yo);
+bp[8]=zo;
+bp[9]=Ao;
+x2(bp+10,0);
+w8(a+48,xo+1);
+po=Ao;
+qo=zo;
+ro=2;
+so=1;
+L105:*w=so;
+w[1]=ro;
+w[2]=qo;
+w[3]=po;
+L104:cp=w[1];
+dp=w[2];
+ep=w[3];
+*D=*w;
+D[1]=cp;
+D[2]=dp;
+D[3]=ep;}
 L103:break;
-case 3:No=kn&1;
+case 3:fp=zn&1;
 w4(l,0);
-Oo=r8(a+176);
-if(Oo<c){
-Po=*(b+Oo);
-switch(Po){
+gp=r8(a+176);
+if(gp<c){
+hp=*(b+gp);
+switch(hp){
 case 69:w4(j,0);
-w8(a+176,Oo+1);
-Qo=r8(a+88);
-if(Qo==0){
-Ro=0;
-So=0;
-To=0;
-Uo=0;}
+w8(a+176,gp+1);
+ip=r8(a+88);
+if(ip==0){
+jp=0;
+kp=0;
+lp=0;
+np=0;}
 else{
-if(*(rp(a+80)+(i64)(Qo*44)-44)==27){
-if(No){
-Ro=0;
-So=0;
-To=0;
-Uo=0;}
+if(*(rp(a+80)+(i64)(ip*44)-44)==27){
+if(fp){
+jp=0;
+kp=0;
+lp=0;
+np=0;}
 else{
-w8(a+88,Qo-1);
-Ro=0;
-So=0;
-To=3;
-Uo=1;}}
+w8(a+88,ip-1);
+jp=0;
+kp=0;
+lp=3;
+np=1;}}
 else{
 z32(k);
 close_list_3c2(j,a,b,c,k);
-Ro=j[3];
-So=j[2];
-To=j[1];
-Uo=*j;}}
-*C=Uo;
-C[1]=To;
-C[2]=So;
-C[3]=Ro;
+jp=j[3];
+kp=j[2];
+lp=j[1];
+np=*j;}}
+*D=np;
+D[1]=lp;
+D[2]=kp;
+D[3]=jp;
 goto L107;
-case 74:Vo=Oo+1;
-if(Vo<c){
-if(*(b+Vo)==69){
-empty_pack_ea9(l,a,b,c,No);
-*C=*l;
-C[1]=l[1];
-C[2]=l[2];
-C[3]=l[3];
+case 74:op=gp+1;
+if(op<c){
+if(*(b+op)==69){
+empty_pack_ea9(l,a,b,c,fp);
+*D=*l;
+D[1]=l[1];
+D[2]=l[2];
+D[3]=l[3];
 goto L107;}}
-if(!No){
-Wo=74;
+if(!fp){
+pp=74;
 goto L108;}
 first_pack_117(l,a,b,c);
-*C=*l;
-C[1]=l[1];
-C[2]=l[2];
-C[3]=l[3];
+*D=*l;
+D[1]=l[1];
+D[2]=l[2];
+D[3]=l[3];
 goto L107;
-default:Xo=Po;
+default:sp=hp;
 break;}}
-else Xo=0;
-if(No){
-Yo=Xo;
+else sp=0;
+if(fp){
+tp=sp;
 goto L109;}
-Wo=Xo;
-L108:Zo=r8(a+8);
-if(r8(a+32)-Zo<2){
-ap=make_ready_8e3(a,2,128);
-if(!(ap&1)){
-w4(C,0);
+pp=sp;
+L108:up=r8(a+8);
+if(r8(a+32)-up<2){
+vp=make_ready_8e3(a,2,128);
+if(!(vp&1)){
+w4(D,0);
 goto L107;}
-bp=r8(a+8);}
-else bp=Zo;
-*(rp(a)+bp)=44;
-*(rp(a)+(i64)bp+1)=32;
-w8(a+8,bp+2);
-Yo=Wo;
-L109:switch(Yo){
-case 76:if(No){
+yp=r8(a+8);}
+else yp=up;
+*(rp(a)+yp)=44;
+*(rp(a)+(i64)yp+1)=32;
+w8(a+8,yp+2);
+tp=pp;
+L109:switch(tp){
+case 76:if(fp){
 first_literal_f44(l,a,b,c);
-*C=*l;
-C[1]=l[1];
-C[2]=l[2];
-C[3]=l[3];
+*D=*l;
+D[1]=l[1];
+D[2]=l[2];
+D[3]=l[3];
 goto L107;}
 literal_43d(m,a,b,c);
-cp=m[3];
-dp=m[2];
-ep=m[1];
-fp=*m;
+zp=m[3];
+Ap=m[2];
+Bp=m[1];
+Cp=*m;
 break;
-case 74:gp=r8(a+88);
-if(gp==0){
-cp=0;
-dp=0;
-ep=0;
-fp=0;}
+case 74:Dp=r8(a+88);
+if(Dp==0){
+zp=0;
+Ap=0;
+Bp=0;
+Cp=0;}
 else{
-hp=rp(a+80);
-ip=gp*44;
-if(*(hp+(i64)ip-44)==27){
-cp=0;
-dp=0;
-ep=0;
-fp=0;}
+Ep=rp(a+80);
+Fp=Dp*44;
+if(*(Ep+(i64)Fp-44)==27){
+zp=0;
+Ap=0;
+Bp=0;
+Cp=0;}
 else{
-jp=r8(a+176);
-if(jp==18446744073709551615u){
-cp=0;
-dp=0;
-ep=0;
-fp=0;}
+Gp=r8(a+176);
+if(Gp==18446744073709551615u){
+zp=0;
+Ap=0;
+Bp=0;
+Cp=0;}
 else{
-w8(a+176,jp+1);
-if(r8(a+112)>gp){
-kp=ip;
-lp=hp;
-np=gp;}
+w8(a+176,Gp+1);
+if(r8(a+112)>Dp){
+Hp=Fp;
+Ip=Ep;
+Jp=Dp;}
 else{
-op=make_ready_9a1(a+80);
-if(!(op&1)){
-cp=0;
-dp=0;
-ep=0;
-fp=0;
+Kp=make_ready_9a1(a+80);
+if(!(Kp&1)){
+zp=0;
+Ap=0;
+Bp=0;
+Cp=0;
 break;}
-pp=r8(a+88);
-kp=pp*44;
-lp=rp(a+80);
-np=pp;}
-sp=lp+kp;
-*sp=27;
-z43(sp+1);
-w8(a+88,np+1);
-cp=0;
-dp=1;
-ep=3;
-fp=1;}}}
+Lp=r8(a+88);
+Hp=Lp*44;
+Ip=rp(a+80);
+Jp=Lp;}
+Mp=Ip+Hp;
+*Mp=27;
+z43(Mp+1);
+w8(a+88,Jp+1);
+zp=0;
+Ap=1;
+Bp=3;
+Cp=1;}}}
 break;
-default:if(No){
-tp=r8(a+88);
-if(tp==0)up=1;
+default:if(fp){
+Np=r8(a+88);
+if(Np==0)Op=1;
 else{
-vp=rp(a+80);
-yp=tp*44;
-zp=vp+(i64)yp;
-switch(zp[-44]){
-case 5:if(zp[-28]==0){
-up=1;
+Pp=rp(a+80);
+Qp=Np*44;
+Rp=Pp+(i64)Qp;
+switch(Rp[-44]){
+case 5:if(Rp[-28]==0){
+Op=1;
 goto L110;}
 break;
 case 7:break;
-case 0:case 1:case 2:case 3:case 4:case 6:case 8:case 9:case 10:case 11:case 12:case 13:case 14:case 15:case 16:case 17:case 18:case 19:case 20:case 21:case 22:case 23:case 24:case 25:case 26:case 27:case 28:case 29:up=1;
+case 0:case 1:case 2:case 3:case 4:case 6:case 8:case 9:case 10:case 11:case 12:case 13:case 14:case 15:case 16:case 17:case 18:case 19:case 20:case 21:case 22:case 23:case 24:case 25:case 26:case 27:case 28:case 29:Op=1;
 goto L110;
 default:NEVER;
 }
-Ap=r8(a+176);
-if(Ap<c){
-Bp=b+(i64)Ap;
-switch(*Bp){
-case 65:case 70:up=1;
+Sp=r8(a+176);
+if(Sp<c){
+Tp=b+(i64)Sp;
+switch(*Tp){
+case 65:case 70:Op=1;
 goto L110;
-case 80:case 82:if(usub64(c,Ap)>=2){
-switch(Bp[1]){
-case 70:case 65:up=1;
+case 80:case 82:if(usub64(c,Sp)>=2){
+switch(Tp[1]){
+case 70:case 65:Op=1;
 goto L110;
 default:break;}}
 break;
 default:break;}}
-Cp=r8(a+8);
-if(r8(a+112)>tp){
-Dp=yp;
-Ep=vp;
-Fp=tp;}
+Up=r8(a+8);
+if(r8(a+112)>Np){
+Vp=Qp;
+Wp=Pp;
+Xp=Np;}
 else{
-Gp=make_ready_9a1(a+80);
-if(!(Gp&1)){
-up=0;
+Yp=make_ready_9a1(a+80);
+if(!(Yp&1)){
+Op=0;
 goto L110;}
-Hp=r8(a+88);
-Dp=Hp*44;
-Ep=rp(a+80);
-Fp=Hp;}
-Ip=Ep+Dp;
-*Ip=25;
-Ip[1]=0;
-x2(Ip+2,0);
-x4(Ip+4,Cp);
-z36(Ip+8);
-w8(a+88,Fp+1);
-up=1;}
-L110:*C=up;
-C[1]=0;
-C[2]=0;
-C[3]=0;
+Zp=r8(a+88);
+Vp=Zp*44;
+Wp=rp(a+80);
+Xp=Zp;}
+aq=Wp+Vp;
+*aq=25;
+aq[1]=0;
+x2(aq+2,0);
+x4(aq+4,Up);
+z36(aq+8);
+w8(a+88,Xp+1);
+Op=1;}
+L110:*D=Op;
+D[1]=0;
+D[2]=0;
+D[3]=0;
 goto L107;}
-cp=0;
-dp=0;
-ep=0;
-fp=1;
+zp=0;
+Ap=0;
+Bp=0;
+Cp=1;
 break;}
-*C=fp;
-C[1]=ep;
-C[2]=dp;
-C[3]=cp;
+*D=Cp;
+D[1]=Bp;
+D[2]=Ap;
+D[3]=zp;
 L107:break;
 case 4:w4(h,0);
 z20(i+20);
 if(!(a[136]&1)){
-Jp=r4(a+120);
-Kp=a[139];
-Lp=r8(a+8);
-Mp=r8(a+48);
-if(r8(a+72)>Mp)Np=Mp;
+bq=r4(a+120);
+cq=a[139];
+dq=r8(a+8);
+eq=r8(a+48);
+if(r8(a+72)>eq)fq=eq;
 else{
-Op=make_ready_17a(a+40);
-if(!(Op&1)){
-w4(C,0);
+gq=make_ready_17a(a+40);
+if(!(gq&1)){
+w4(D,0);
 goto L111;}
-Np=r8(a+48);}
-Pp=rp(a+40)+Np*12;
-x4(Pp,Jp);
-x4(Pp+4,Lp);
-Pp[8]=0;
-Pp[9]=Kp;
-x2(Pp+10,0);
-w8(a+48,Np+1);}
-Qp=r8(a+176);
-if(Qp<c){
-if(*(b+Qp)==73){
+fq=r8(a+48);}
+hq=rp(a+40)+fq*12;
+x4(hq,bq);
+x4(hq+4,dq);
+hq[8]=0;
+hq[9]=cq;
+x2(hq+10,0);
+w8(a+48,fq+1);}
+iq=r8(a+176);
+if(iq<c){
+if(*(b+iq)==73){
 memcpy(i,a+120,20);
-Rp=r8(a+8);
-if(r8(a+32)>Rp)Sp=Rp;
+jq=r8(a+8);
+if(r8(a+32)>jq)kq=jq;
 else{
-Tp=make_ready_8e3(a,1,16);
-if(!(Tp&1)){
-Up=0;
-Vp=0;
+lq=make_ready_8e3(a,1,16);
+if(!(lq&1)){
+mq=0;
+nq=0;
 goto L112;}
-Sp=r8(a+8);}
-*(rp(a)+Sp)=1;
-w8(a+8,Sp+1);
-Wp=r8(a+176);
-if(Wp==18446744073709551615u){
-Up=0;
-Vp=0;}
+kq=r8(a+8);}
+*(rp(a)+kq)=1;
+w8(a+8,kq+1);
+oq=r8(a+176);
+if(oq==18446744073709551615u){
+mq=0;
+nq=0;}
 else{
-w8(a+176,Wp+1);
-Xp=r8(a+88);
-if(r8(a+112)>Xp)Yp=Xp;
+w8(a+176,oq+1);
+pq=r8(a+88);
+if(r8(a+112)>pq)qq=pq;
 else{
-Zp=make_ready_9a1(a+80);
-if(!(Zp&1)){
-Up=0;
-Vp=0;
+rq=make_ready_9a1(a+80);
+if(!(rq&1)){
+mq=0;
+nq=0;
 goto L112;}
-Yp=r8(a+88);}
-aq=rp(a+80)+Yp*44;
-*aq=6;
-aq[1]=0;
-x2(aq+2,0);
-memcpy(aq+4,i,40);
-w8(a+88,Yp+1);
-Up=3;
-Vp=1;}
-L112:*C=Vp;
-C[1]=Up;
-C[2]=Vp;
-C[3]=0;
+qq=r8(a+88);}
+sq=rp(a+80)+qq*44;
+*sq=6;
+sq[1]=0;
+x2(sq+2,0);
+memcpy(sq+4,i,40);
+w8(a+88,qq+1);
+mq=3;
+nq=1;}
+L112:*D=nq;
+D[1]=mq;
+D[2]=nq;
+D[3]=0;
 goto L111;}}
 components_at_7bd(h,a,b,c);
-*C=*h;
-C[1]=h[1];
-C[2]=h[2];
-C[3]=h[3];
+*D=*h;
+D[1]=h[1];
+D[2]=h[2];
+D[3]=h[3];
 L111:break;
 case 5:w4(g,0);
-bq=r8(a+176);
-if(bq<c){
-if(*(b+bq)==69){
+tq=r8(a+176);
+if(tq<c){
+if(*(b+tq)==69){
 nest_ended_32a(g,a,b,c);
-*C=*g;
-C[1]=g[1];
-C[2]=g[2];
-C[3]=g[3];
+*D=*g;
+D[1]=g[1];
+D[2]=g[2];
+D[3]=g[3];
 goto L113;}}
 if(!(a[136]&1)){
-cq=r4(a+120);
-dq=a[139];
-eq=r8(a+8);
-fq=r8(a+48);
-if(r8(a+72)>fq)gq=fq;
+uq=r4(a+120);
+vq=a[139];
+wq=r8(a+8);
+xq=r8(a+48);
+if(r8(a+72)>xq)yq=xq;
 else{
-hq=make_ready_17a(a+40);
-if(!(hq&1)){
-w4(C,0);
+zq=make_ready_17a(a+40);
+if(!(zq&1)){
+w4(D,0);
 goto L113;}
-gq=r8(a+48);}
-iq=rp(a+40)+gq*12;
-x4(iq,cq);
-x4(iq+4,eq);
-iq[8]=0;
-iq[9]=dq;
-x2(iq+10,0);
-w8(a+48,gq+1);}
+yq=r8(a+48);}
+Aq=rp(a+40)+yq*12;
+x4(Aq,uq);
+x4(Aq+4,wq);
+Aq[8]=0;
+Aq[9]=vq;
+x2(Aq+10,0);
+w8(a+48,yq+1);}
 components_at_7bd(g,a,b,c);
-*C=*g;
-C[1]=g[1];
-C[2]=g[2];
-C[3]=g[3];
+*D=*g;
+D[1]=g[1];
+D[2]=g[2];
+D[3]=g[3];
 L113:break;
-case 6:components_at_7bd(C,a,b,c);
+case 6:components_at_7bd(D,a,b,c);
 break;
 default:NEVER;
 }
-jq=in+1;
-if(*C!=1||jq==hn)goto L1;
-in=jq;
-jn=C[3];
-kn=C[2];
-ln=C[1];
+Bq=xn+1;
+if(*D!=1||Bq==wn)goto L1;
+xn=Bq;
+yn=D[3];
+zn=D[2];
+An=D[1];
 goto L97;}}}
 goto L1;
-case 2:if(Vb)goto L1;
+case 2:if(bc)goto L1;
 if(c<16){
-kq=are_few_named_14c(b,c);
-if(!kq)goto L1;}
+Cq=are_few_named_14c(b,c);
+if(!Cq)goto L1;}
 else{
-lq=c-16;
-if(lq==0)goto L114;
-mq=0;
-L115:nq=v16_at(b+mq);
-if((v16_ult(nq,splat(33))|v16_eq(nq,splat(127)))!=0)goto L1;
-oq=mq+16;
-if(oq<lq){
-mq=oq;
+Dq=c-16;
+if(Dq==0)goto L114;
+Eq=0;
+L115:Fq=v16_at(b+Eq);
+if((v16_ult(Fq,splat(33))|v16_eq(Fq,splat(127)))!=0)goto L1;
+Gq=Eq+16;
+if(Gq<Dq){
+Eq=Gq;
 goto L115;}
-L114:pq=v16_at(b+lq);
-if((v16_ult(pq,splat(33))|v16_eq(pq,splat(127)))!=0)goto L1;}
-w4(ua,0);
-w4(va,0);
+L114:Hq=v16_at(b+Dq);
+if((v16_ult(Hq,splat(33))|v16_eq(Hq,splat(127)))!=0)goto L1;}
+w4(xa,0);
+w4(ya,0);
 if(c!=0){
 if(c!=1&&*b==95){
 if(b[1]==90){
 if(c>=3){
-qq=b[2];
+Iq=b[2];
 if(c<5){
-if(qq==90)goto L116;
-if((c!=3)&(qq==71)){
+if(Iq==90)goto L116;
+if((c!=3)&(Iq==71)){
 if(b[3]==86)goto L117;
 goto L118;}
-switch(qq){
+switch(Iq){
 case 71:goto L118;
 case 84:if(c==3)goto L119;
 break;
 default:goto L120;
 }}
 else{
-switch(qq){
+switch(Iq){
 case 90:goto L116;
 case 71:if(b[3]!=86)goto L118;
 if(b[4]!=90)goto L117;
-if(Tb<19){
-rq=make_ready_8e3(a,19,128);
-if(!(rq&1)){
-uq=0;
-vq=0;
-wq=0;
-xq=0;
+if(Zb<19){
+Jq=make_ready_8e3(a,19,128);
+if(!(Jq&1)){
+Mq=0;
+Nq=0;
+Oq=0;
+Pq=0;
 goto L121;}
-sq=r8(a+16);
-tq=r8(a+8);}
+Kq=r8(a+16);
+Lq=r8(a+8);}
 else{
-sq=Sb;
-tq=0;}
-if(sq-tq<19){
-yq=grow_amortized_2b6(a,19);
-if(!yq){
-uq=0;
-vq=0;
-wq=0;
-xq=0;
+Kq=Yb;
+Lq=0;}
+if(Kq-Lq<19){
+Qq=grow_amortized_2b6(a,19);
+if(!Qq){
+Mq=0;
+Nq=0;
+Oq=0;
+Pq=0;
 goto L121;}
-zq=r8(a+16);
-Aq=r8(a+8);}
+Rq=r8(a+16);
+Sq=r8(a+8);}
 else{
-zq=sq;
-Aq=tq;}
-Bq=Aq+19;
-Cq=rp(a);
+Rq=Kq;
+Sq=Lq;}
+Tq=Sq+19;
+Uq=rp(a);
 z16(a+8);
-Dq=Cq+(i64)Aq;
-if((u64)Dq-(u64)(u8*)t_c270<19)copy_bits_4f4((u8*)t_c270,Dq,19);
-else memcpy(Dq,(u8*)t_c270,19);
-wp(a,Cq);
-w8(a+8,Bq);
-w8(a+16,zq);
+Vq=Uq+(i64)Sq;
+if((u64)Vq-(u64)(u8*)t_c270<19)copy_bits_4f4((u8*)t_c270,Vq,19);
+else memcpy(Vq,(u8*)t_c270,19);
+wp(a,Uq);
+w8(a+8,Tq);
+w8(a+16,Rq);
 w8(a+176,5);
-begin_encoding_e5c(sa,a,b,c);
-uq=sa[3];
-vq=sa[2];
-wq=sa[1];
-xq=*sa;
-L121:Eq=uq;
-Fq=vq;
-Gq=wq;
-Hq=xq;
+begin_encoding_e5c(va,a,b,c);
+Mq=va[3];
+Nq=va[2];
+Oq=va[1];
+Pq=*va;
+L121:Wq=Mq;
+Xq=Nq;
+Yq=Oq;
+Zq=Pq;
 goto L122;
 case 84:break;
 default:goto L120;
 }}
 switch(b[3]){
-case 104:begin_thunk_a5d(va,a,b,c);
+case 104:begin_thunk_a5d(ya,a,b,c);
 goto L123;
-case 118:begin_virtual_thunk_603(va,a,b,c);
+case 118:begin_virtual_thunk_603(ya,a,b,c);
 goto L123;
-case 67:begin_clone_893(va);
+case 67:begin_clone_893(ya);
 goto L123;
 default:break;}
-L119:begin_special_44d(va,a,b,c);
-L123:Iq=va[3];
-Jq=va[2];
-Kq=va[1];
-Lq=*va;
+L119:begin_special_44d(ya,a,b,c);
+L123:ar=ya[3];
+br=ya[2];
+cr=ya[1];
+dr=*ya;
 goto L124;
-L118:begin_clone_893(ua);
-Iq=ua[3];
-Jq=ua[2];
-Kq=ua[1];
-Lq=*ua;
+L118:begin_clone_893(xa);
+ar=xa[3];
+br=xa[2];
+cr=xa[1];
+dr=*xa;
 goto L124;
-L117:begin_object_103(ua,a,b,c);
-Iq=ua[3];
-Jq=ua[2];
-Kq=ua[1];
-Lq=*ua;
+L117:begin_object_103(xa,a,b,c);
+ar=xa[3];
+br=xa[2];
+cr=xa[1];
+dr=*xa;
 goto L124;
 L116:w8(a+176,3);
-begin_encoding_e5c(ta,a,b,c);
-Eq=ta[3];
-Fq=ta[2];
-Gq=ta[1];
-Hq=*ta;
-L122:Iq=Eq;
-Jq=Fq;
-Kq=Gq;
-Lq=Hq;
+begin_encoding_e5c(wa,a,b,c);
+Wq=wa[3];
+Xq=wa[2];
+Yq=wa[1];
+Zq=*wa;
+L122:ar=Wq;
+br=Xq;
+cr=Yq;
+dr=Zq;
 goto L124;}
 L120:w8(a+176,2);
-begin_encoding_e5c(ua,a,b,c);
-Iq=ua[3];
-Jq=ua[2];
-Kq=ua[1];
-Lq=*ua;
-L124:if(Lq!=1)goto L1;
-Mq=c<<3;
-Nq=0;
-Oq=Iq;
-Pq=Jq;
-Qq=Kq;
-L125:if(Qq==7){
-if(r8(a+8)>Rb)goto L14;
+begin_encoding_e5c(xa,a,b,c);
+ar=xa[3];
+br=xa[2];
+cr=xa[1];
+dr=*xa;
+L124:if(dr!=1)goto L1;
+er=c<<3;
+fr=0;
+gr=ar;
+hr=br;
+ir=cr;
+L125:if(ir==7){
+if(r8(a+8)>Xb)goto L14;
 goto L15;}
 w8(a+184,r8(a+184)+1);
-w4(wa,0);
-switch(Qq){
-case 0:type_at_925(wa,a,b,c,0);
+w4(za,0);
+switch(ir){
+case 0:type_at_925(za,a,b,c,0);
 break;
-case 1:type_at_925(wa,a,b,c,1);
+case 1:type_at_925(za,a,b,c,1);
 break;
-case 2:w4(oa,0);
-w4(pa,0);
-z32(qa);
-z32(ra);
-Rq=r8(a+88);
-if(Rq==0)w4(wa,0);
+case 2:w4(ra,0);
+w4(sa,0);
+z32(ta);
+z32(ua);
+jr=r8(a+88);
+if(jr==0)w4(za,0);
 else{
-Sq=Pq&1;
-Tq=rp(a+80)+(i64)(Rq*44);
-Uq=Tq[-44];
-Vq=Tq[-43];
-Wq=q4(Tq-40);
-Xq=q4(Tq-36);
-Yq=q2(Tq-32);
-switch(Uq){
-case 29:case 28:case 27:case 26:case 4:case 5:case 6:case 7:case 8:case 11:case 12:case 13:case 14:case 15:case 16:case 17:case 18:case 19:case 20:case 21:case 22:case 23:case 24:case 25:if(Oq&1){
-pass_dependent_3d7(oa,a,b,c);
-*wa=*oa;
-wa[1]=oa[1];
-wa[2]=oa[2];
-wa[3]=oa[3];
+kr=hr&1;
+lr=rp(a+80)+(i64)(jr*44);
+mr=lr[-44];
+nr=lr[-43];
+or=q4(lr-40);
+pr=q4(lr-36);
+qr=q2(lr-32);
+switch(mr){
+case 29:case 28:case 27:case 26:case 4:case 5:case 6:case 7:case 8:case 11:case 12:case 13:case 14:case 15:case 16:case 17:case 18:case 19:case 20:case 21:case 22:case 23:case 24:case 25:if(gr&1){
+pass_dependent_3d7(ra,a,b,c);
+*za=*ra;
+za[1]=ra[1];
+za[2]=ra[2];
+za[3]=ra[3];
 goto L126;}
-Zq=q4(Tq-4);
-ar=Xq;
-br=Xq>>16;
-w4(na,0);
-switch(Uq){
-case 22:returned_322(na,a,b,c,Vq&1);
+rr=q4(lr-4);
+w4(qa,0);
+switch(mr){
+case 22:returned_322(qa,a,b,c,nr&1);
 break;
-case 23:parameter_at_3ac(na,a,b,c,Vq&1,0);
+case 23:parameter_at_3ac(qa,a,b,c,nr&1,0);
 break;
-case 24:array_ended_1b3(na,a,b,c,Vq,Wq,Xq);
+case 24:array_ended_1b3(qa,a,b,c,nr,or,pr);
 break;
-case 12:enclosing_parameter_fc1(na,a,b,c,Wq,Xq);
+case 12:enclosing_parameter_fc1(qa,a,b,c,or,pr);
 break;
-case 13:instance_parameter_240(na,a,b,c,Vq,Wq,Xq);
+case 13:instance_parameter_240(qa,a,b,c,nr,or,pr);
 break;
-case 11:w2(ha,Yq);
-memcpy(ha+2,Tq-30,26);
-x4(ha+28,Zq);
-enclosing_front_fa8(na,a,Vq,Wq,Xq,ha);
+case 11:w2(na,qr);
+memcpy(na+2,lr-30,26);
+x4(na+28,rr);
+enclosing_front_fa8(qa,a,nr,or,pr,na);
 break;
-case 17:w4(ia,Xq);
-w2(ia+4,Yq);
-lambda_parameter_383(na,a,b,c,Wq,ia);
+case 17:w4(oa,pr);
+w2(oa+4,qr);
+lambda_parameter_383(qa,a,b,c,or,oa);
 break;
-case 18:member_parameter_7e4(na,a,b,c,Wq);
+case 18:member_parameter_7e4(qa,a,b,c,or);
 break;
-case 15:w4(ja,Xq);
-w2(ja+4,Yq);
-memcpy(ja+6,Tq-30,26);
-addressed_front_54d(na,a,b,c,Vq,Wq,ja);
+case 15:w4(pa,pr);
+w2(pa+4,qr);
+memcpy(pa+6,lr-30,26);
+addressed_front_54d(qa,a,b,c,nr,or,pa);
 break;
-case 16:addressed_parameter_2cf(na,a,b,c,Wq);
+case 16:addressed_parameter_2cf(qa,a,b,c,or);
 break;
-case 14:*na=0;
+case 14:*qa=0;
 break;
-case 19:finish_8cd(na,a,b,c);
+case 19:finish_8cd(qa,a,b,c);
 break;
-case 20:derived_ended_aef(na,a,b,c);
+case 20:derived_ended_aef(qa,a,b,c);
 break;
-case 21:base_ended_299(na,a,b,c,Wq);
+case 21:base_ended_299(qa,a,b,c,or);
 break;
-case 29:enumerator_21c(na,a,b,c);
+case 29:enumerator_21c(qa,a,b,c);
 break;
-case 26:w2(ka,br);
-w2(ka+2,Yq);
-memcpy(ka+4,Tq-30,26);
-w2(ka+30,Zq);
-argument_enumerator_5cf(na,a,b,c,Wq,ar,ka);
+case 26:case 25:case 28:sr=pr;
+tr=rr;
+w4(ma,0);
+switch(mr){
+case 26:w2(ja,pr>>16);
+w2(ja+2,qr);
+memcpy(ja+4,lr-30,26);
+w2(ja+30,tr);
+argument_enumerator_5cf(ma,a,b,c,or,sr,ja);
 break;
-case 25:w2(la,br);
-w2(la+2,Yq);
-memcpy(la+4,Tq-30,26);
-w2(la+30,Zq);
-argument_ended_d25(na,a,b,c,Wq,ar,la,Sq);
+case 25:w2(ka,pr>>16);
+w2(ka+2,qr);
+memcpy(ka+4,lr-30,26);
+w2(ka+30,tr);
+argument_ended_d25(ma,a,b,c,or,sr,ka,kr);
 break;
-case 28:w2(ma,br);
-w2(ma+2,Yq);
-memcpy(ma+4,Tq-30,26);
-w2(ma+30,Zq);
-element_ended_6b8(na,a,b,c,Wq,ar,ma,Sq);
+case 28:w2(la,pr>>16);
+w2(la+2,qr);
+memcpy(la+4,lr-30,26);
+w2(la+30,tr);
+element_ended_6b8(ma,a,b,c,or,sr,la,kr);
 break;
-case 27:case 10:case 9:case 8:case 4:case 5:case 6:case 7:*na=1;
-na[1]=3;
-na[2]=0;
-na[3]=0;
+case 27:*ma=0;
 break;
 default:NEVER;
 }
-cr=na[1];
-dr=na[2];
-er=na[3];
-*pa=*na;
-pa[1]=cr;
-pa[2]=dr;
-pa[3]=er;
+ur=ma[1];
+vr=ma[2];
+wr=ma[3];
+*qa=*ma;
+qa[1]=ur;
+qa[2]=vr;
+qa[3]=wr;
+break;
+case 27:case 10:case 9:case 8:case 4:case 5:case 6:case 7:*qa=1;
+qa[1]=3;
+qa[2]=0;
+qa[3]=0;
+break;
+default:NEVER;
+}
+xr=qa[1];
+yr=qa[2];
+zr=qa[3];
+*sa=*qa;
+sa[1]=xr;
+sa[2]=yr;
+sa[3]=zr;
 goto L127;
-case 10:w4(qa,Xq);
-w2(qa+4,Yq);
-memcpy(qa+6,Tq-30,26);
-parameter_ended_d3f(pa,a,b,c,Wq,qa);
+case 10:w4(ta,pr);
+w2(ta+4,qr);
+memcpy(ta+6,lr-30,26);
+parameter_ended_d3f(sa,a,b,c,or,ta);
 goto L127;
-case 9:w4(ra,Xq);
-w2(ra+4,Yq);
-memcpy(ra+6,Tq-30,26);
-front_ended_665(pa,a,b,c,Vq,Wq,ra);
+case 9:w4(ua,pr);
+w2(ua+4,qr);
+memcpy(ua+6,lr-30,26);
+front_ended_665(sa,a,b,c,nr,or,ua);
 goto L127;
-case 0:w8(a+88,Rq-1);
-fr=r8(a+8);
-if(r8(a+32)>fr)gr=fr;
+case 0:w8(a+88,jr-1);
+Ar=r8(a+8);
+if(r8(a+32)>Ar)Br=Ar;
 else{
-hr=make_ready_8e3(a,1,16);
-if(!(hr&1)){
-ir=0;
-jr=0;
-kr=0;
-lr=0;
+Cr=make_ready_8e3(a,1,16);
+if(!(Cr&1)){
+Dr=0;
+Er=0;
+Fr=0;
+Gr=0;
 goto L128;}
-gr=r8(a+8);}
-*(rp(a)+gr)=42;
-mr=gr+1;
-w8(a+8,mr);
-nr=mr;
-or=Oq&1;
-pr=r8(a+48);
-if(r8(a+72)>pr){
-qr=pr;
-rr=nr;
-sr=0;
-tr=or;
+Br=r8(a+8);}
+*(rp(a)+Br)=42;
+Hr=Br+1;
+w8(a+8,Hr);
+Ir=Hr;
+Jr=gr&1;
+Kr=r8(a+48);
+if(r8(a+72)>Kr){
+Lr=Kr;
+Mr=Ir;
+Nr=0;
+Or=Jr;
 goto L129;}
-ur=make_ready_17a(a+40);
-if(!(ur&1)){
-ir=0;
-jr=0;
-kr=0;
-lr=0;
+Pr=make_ready_17a(a+40);
+if(!(Pr&1)){
+Dr=0;
+Er=0;
+Fr=0;
+Gr=0;
 goto L128;}
-vr=nr;
-wr=0;
-xr=or;
+Qr=Ir;
+Rr=0;
+Sr=Jr;
 break;
-case 1:if(Sq)goto L127;
-w8(a+88,Rq-1);
-yr=r8(a+8);
-if(r8(a+32)>yr)zr=yr;
+case 1:if(kr)goto L127;
+w8(a+88,jr-1);
+Tr=r8(a+8);
+if(r8(a+32)>Tr)Ur=Tr;
 else{
-Ar=make_ready_8e3(a,1,16);
-if(!(Ar&1)){
-ir=0;
-jr=0;
-kr=0;
-lr=0;
+Vr=make_ready_8e3(a,1,16);
+if(!(Vr&1)){
+Dr=0;
+Er=0;
+Fr=0;
+Gr=0;
 goto L128;}
-zr=r8(a+8);}
-*(rp(a)+zr)=38;
-Br=zr+1;
-w8(a+8,Br);
-Cr=Br;
-Dr=Oq&1;
-Er=r8(a+48);
-if(r8(a+72)>Er){
-qr=Er;
-rr=Cr;
-sr=1;
-tr=Dr;
+Ur=r8(a+8);}
+*(rp(a)+Ur)=38;
+Wr=Ur+1;
+w8(a+8,Wr);
+Xr=Wr;
+Yr=gr&1;
+Zr=r8(a+48);
+if(r8(a+72)>Zr){
+Lr=Zr;
+Mr=Xr;
+Nr=1;
+Or=Yr;
 goto L129;}
-Fr=make_ready_17a(a+40);
-if(!(Fr&1)){
-ir=0;
-jr=0;
-kr=0;
-lr=0;
+as=make_ready_17a(a+40);
+if(!(as&1)){
+Dr=0;
+Er=0;
+Fr=0;
+Gr=0;
 goto L128;}
-vr=Cr;
-wr=1;
-xr=Dr;
+Qr=Xr;
+Rr=1;
+Sr=Yr;
 break;
-case 2:if(Sq)goto L127;
-w8(a+88,Rq-1);
-Gr=r8(a+8);
-if(r8(a+32)-Gr<2){
-Hr=make_ready_8e3(a,2,128);
-if(!(Hr&1)){
-ir=0;
-jr=0;
-kr=0;
-lr=0;
+case 2:if(kr)goto L127;
+w8(a+88,jr-1);
+bs=r8(a+8);
+if(r8(a+32)-bs<2){
+cs=make_ready_8e3(a,2,128);
+if(!(cs&1)){
+Dr=0;
+Er=0;
+Fr=0;
+Gr=0;
 goto L128;}
-Ir=r8(a+8);}
-else Ir=Gr;
-*(rp(a)+Ir)=38;
-*(rp(a)+(i64)Ir+1)=38;
-Jr=Ir+2;
-w8(a+8,Jr);
-Kr=Jr;
-Lr=Oq&1;
-Mr=r8(a+48);
-if(r8(a+72)>Mr){
-qr=Mr;
-rr=Kr;
-sr=1;
-tr=Lr;
+ds=r8(a+8);}
+else ds=bs;
+*(rp(a)+ds)=38;
+*(rp(a)+(i64)ds+1)=38;
+es=ds+2;
+w8(a+8,es);
+fs=es;
+gs=gr&1;
+hs=r8(a+48);
+if(r8(a+72)>hs){
+Lr=hs;
+Mr=fs;
+Nr=1;
+Or=gs;
 goto L129;}
-Nr=make_ready_17a(a+40);
-if(!(Nr&1)){
-ir=0;
-jr=0;
-kr=0;
-lr=0;
+is=make_ready_17a(a+40);
+if(!(is&1)){
+Dr=0;
+Er=0;
+Fr=0;
+Gr=0;
 goto L128;}
-vr=Kr;
-wr=1;
-xr=Lr;
+Qr=fs;
+Rr=1;
+Sr=gs;
 break;
-case 3:if(Sq)goto L127;
-w8(a+88,Rq-1);
+case 3:if(kr)goto L127;
+w8(a+88,jr-1);
 if(r8(a+32)-r8(a+8)<6){
-Or=make_ready_8e3(a,6,128);
-if(!(Or&1)){
-ir=0;
-jr=0;
-kr=0;
-lr=0;
+js=make_ready_8e3(a,6,128);
+if(!(js&1)){
+Dr=0;
+Er=0;
+Fr=0;
+Gr=0;
 goto L128;}}
-Pr=extend_from_slice_169(a,(u8*)t_f603,6);
-if(Pr&1){
-ir=0;
-jr=0;
-kr=0;
-lr=0;
+ks=extend_from_slice_169(a,(u8*)t_f603,6);
+if(ks&1){
+Dr=0;
+Er=0;
+Fr=0;
+Gr=0;
 goto L128;}
-Qr=r8(a+8);
-Rr=Oq&1;
-Sr=r8(a+48);
-if(r8(a+72)>Sr){
-qr=Sr;
-rr=Qr;
-sr=0;
-tr=Rr;
+ls=r8(a+8);
+ms=gr&1;
+ns=r8(a+48);
+if(r8(a+72)>ns){
+Lr=ns;
+Mr=ls;
+Nr=0;
+Or=ms;
 goto L129;}
-Tr=make_ready_17a(a+40);
-if(!(Tr&1)){
-ir=0;
-jr=0;
-kr=0;
-lr=0;
+os=make_ready_17a(a+40);
+if(!(os&1)){
+Dr=0;
+Er=0;
+Fr=0;
+Gr=0;
 goto L128;}
-vr=Qr;
-wr=0;
-xr=Rr;
+Qr=ls;
+Rr=0;
+Sr=ms;
 break;
 default:NEVER;
 }
-qr=r8(a+48);
-rr=vr;
-sr=wr;
-tr=xr;
-L129:Ur=rp(a+40)+qr*12;
-x4(Ur,Wq);
-x4(Ur+4,rr);
-Ur[8]=sr;
-Ur[9]=tr;
-x2(Ur+10,0);
-w8(a+48,qr+1);
-ir=tr;
-jr=sr;
-kr=2;
-lr=1;
-L128:*pa=lr;
-pa[1]=kr;
-pa[2]=jr;
-pa[3]=ir;
-L127:Vr=pa[1];
-Wr=pa[2];
-Xr=pa[3];
-*wa=*pa;
-wa[1]=Vr;
-wa[2]=Wr;
-wa[3]=Xr;}
+Lr=r8(a+48);
+Mr=Qr;
+Nr=Rr;
+Or=Sr;
+L129:ps=rp(a+40)+Lr*12;
+x4(ps,or);
+x4(ps+4,Mr);
+ps[8]=Nr;
+ps[9]=Or;
+x2(ps+10,0);
+w8(a+48,Lr+1);
+Dr=Or;
+Er=Nr;
+Fr=2;
+Gr=1;
+L128:*sa=Gr;
+sa[1]=Fr;
+sa[2]=Er;
+sa[3]=Dr;
+L127:qs=sa[1];
+rs=sa[2];
+ss=sa[3];
+*za=*sa;
+za[1]=qs;
+za[2]=rs;
+za[3]=ss;}
 L126:break;
-case 3:Yr=Pq&1;
-w4(fa,0);
-Zr=r8(a+176);
-if(Zr<c){
-as=*(b+Zr);
-switch(as){
-case 69:w4(da,0);
-w8(a+176,Zr+1);
-bs=r8(a+88);
-if(bs==0){
-cs=0;
-ds=0;
-es=0;
-fs=0;}
-else{
-if(*(rp(a+80)+(i64)(bs*44)-44)==27){
-if(Yr){
-cs=0;
-ds=0;
-es=0;
-fs=0;}
-else{
-w8(a+88,bs-1);
-cs=0;
-ds=0;
-es=3;
-fs=1;}}
-else{
-z32(ea);
-close_list_299(da,a,b,c,ea);
-cs=da[3];
-ds=da[2];
-es=da[1];
-fs=*da;}}
-*wa=fs;
-wa[1]=es;
-wa[2]=ds;
-wa[3]=cs;
-goto L130;
-case 74:gs=Zr+1;
-if(gs<c){
-if(*(b+gs)==69){
-empty_pack_079(fa,a,b,c,Yr);
-*wa=*fa;
-wa[1]=fa[1];
-wa[2]=fa[2];
-wa[3]=fa[3];
-goto L130;}}
-if(!Yr){
-hs=74;
-goto L131;}
-first_pack_117(fa,a,b,c);
-*wa=*fa;
-wa[1]=fa[1];
-wa[2]=fa[2];
-wa[3]=fa[3];
-goto L130;
-default:is=as;
-break;}}
-else is=0;
-if(Yr){
-js=is;
-goto L132;}
-hs=is;
-L131:ks=r8(a+8);
-if(r8(a+32)-ks<2){
-ls=make_ready_8e3(a,2,128);
-if(!(ls&1)){
-w4(wa,0);
-goto L130;}
-ms=r8(a+8);}
-else ms=ks;
-*(rp(a)+ms)=44;
-*(rp(a)+(i64)ms+1)=32;
-w8(a+8,ms+2);
-js=hs;
-L132:switch(js){
-case 76:if(Yr){
-first_literal_8ab(fa,a,b,c);
-*wa=*fa;
-wa[1]=fa[1];
-wa[2]=fa[2];
-wa[3]=fa[3];
-goto L130;}
-literal_9c1(ga,a,b,c);
-ns=ga[3];
-os=ga[2];
-ps=ga[1];
-qs=*ga;
-break;
-case 74:rs=r8(a+88);
-if(rs==0){
-ns=0;
-os=0;
-ps=0;
-qs=0;}
-else{
-ss=rp(a+80);
-ts=rs*44;
-if(*(ss+(i64)ts-44)==27){
-ns=0;
-os=0;
-ps=0;
-qs=0;}
-else{
+case 3:ts=hr&1;
+w4(ha,0);
 us=r8(a+176);
-if(us==18446744073709551615u){
-ns=0;
-os=0;
-ps=0;
-qs=0;}
-else{
+if(us<c){
+vs=*(b+us);
+switch(vs){
+case 69:w4(fa,0);
 w8(a+176,us+1);
-if(r8(a+112)>rs){
-vs=ts;
-ws=ss;
-xs=rs;}
+ws=r8(a+88);
+if(ws==0){
+xs=0;
+ys=0;
+zs=0;
+As=0;}
 else{
-ys=make_ready_9a1(a+80);
-if(!(ys&1)){
-ns=0;
-os=0;
-ps=0;
-qs=0;
-break;}
-zs=r8(a+88);
-vs=zs*44;
-ws=rp(a+80);
-xs=zs;}
-As=ws+vs;
-*As=27;
-z43(As+1);
-w8(a+88,xs+1);
-ns=0;
-os=1;
-ps=3;
-qs=1;}}}
+if(*(rp(a+80)+(i64)(ws*44)-44)==27){
+if(ts){
+xs=0;
+ys=0;
+zs=0;
+As=0;}
+else{
+w8(a+88,ws-1);
+xs=0;
+ys=0;
+zs=3;
+As=1;}}
+else{
+z32(ga);
+close_list_299(fa,a,b,c,ga);
+xs=fa[3];
+ys=fa[2];
+zs=fa[1];
+As=*fa;}}
+*za=As;
+za[1]=zs;
+za[2]=ys;
+za[3]=xs;
+goto L130;
+case 74:Bs=us+1;
+if(Bs<c){
+if(*(b+Bs)==69){
+empty_pack_079(ha,a,b,c,ts);
+*za=*ha;
+za[1]=ha[1];
+za[2]=ha[2];
+za[3]=ha[3];
+goto L130;}}
+if(!ts){
+Cs=74;
+goto L131;}
+first_pack_117(ha,a,b,c);
+*za=*ha;
+za[1]=ha[1];
+za[2]=ha[2];
+za[3]=ha[3];
+goto L130;
+default:Ds=vs;
+break;}}
+else Ds=0;
+if(ts){
+Es=Ds;
+goto L132;}
+Cs=Ds;
+L131:Fs=r8(a+8);
+if(r8(a+32)-Fs<2){
+Gs=make_ready_8e3(a,2,128);
+if(!(Gs&1)){
+w4(za,0);
+goto L130;}
+Hs=r8(a+8);}
+else Hs=Fs;
+*(rp(a)+Hs)=44;
+*(rp(a)+(i64)Hs+1)=32;
+w8(a+8,Hs+2);
+Es=Cs;
+L132:switch(Es){
+case 76:if(ts){
+first_literal_8ab(ha,a,b,c);
+*za=*ha;
+za[1]=ha[1];
+za[2]=ha[2];
+za[3]=ha[3];
+goto L130;}
+literal_9c1(ia,a,b,c);
+Is=ia[3];
+Js=ia[2];
+Ks=ia[1];
+Ls=*ia;
 break;
-default:if(Yr){
-Bs=r8(a+88);
-if(Bs==0)Cs=1;
+case 74:Ms=r8(a+88);
+if(Ms==0){
+Is=0;
+Js=0;
+Ks=0;
+Ls=0;}
 else{
-Ds=rp(a+80);
-Es=Bs*44;
-Fs=Ds+(i64)Es;
-switch(Fs[-44]){
-case 5:if(Fs[-28]==0){
-Cs=1;
+Ns=rp(a+80);
+Os=Ms*44;
+if(*(Ns+(i64)Os-44)==27){
+Is=0;
+Js=0;
+Ks=0;
+Ls=0;}
+else{
+Ps=r8(a+176);
+if(Ps==18446744073709551615u){
+Is=0;
+Js=0;
+Ks=0;
+Ls=0;}
+else{
+w8(a+176,Ps+1);
+if(r8(a+112)>Ms){
+Qs=Os;
+Rs=Ns;
+Ss=Ms;}
+else{
+Ts=make_ready_9a1(a+80);
+if(!(Ts&1)){
+Is=0;
+Js=0;
+Ks=0;
+Ls=0;
+break;}
+Us=r8(a+88);
+Qs=Us*44;
+Rs=rp(a+80);
+Ss=Us;}
+Vs=Rs+Qs;
+*Vs=27;
+z43(Vs+1);
+w8(a+88,Ss+1);
+Is=0;
+Js=1;
+Ks=3;
+Ls=1;}}}
+break;
+default:if(ts){
+Ws=r8(a+88);
+if(Ws==0)Xs=1;
+else{
+Ys=rp(a+80);
+Zs=Ws*44;
+at=Ys+(i64)Zs;
+switch(at[-44]){
+case 5:if(at[-28]==0){
+Xs=1;
 goto L133;}
 break;
 case 7:break;
-case 0:case 1:case 2:case 3:case 4:case 6:case 8:case 9:case 10:case 11:case 12:case 13:case 14:case 15:case 16:case 17:case 18:case 19:case 20:case 21:case 22:case 23:case 24:case 25:case 26:case 27:case 28:case 29:Cs=1;
+case 0:case 1:case 2:case 3:case 4:case 6:case 8:case 9:case 10:case 11:case 12:case 13:case 14:case 15:case 16:case 17:case 18:case 19:case 20:case 21:case 22:case 23:case 24:case 25:case 26:case 27:case 28:case 29:Xs=1;
 goto L133;
 default:NEVER;
 }
-Gs=r8(a+176);
-if(Gs<c){
-Hs=b+(i64)Gs;
-switch(*Hs){
-case 65:case 70:Cs=1;
+bt=r8(a+176);
+if(bt<c){
+ct=b+(i64)bt;
+switch(*ct){
+case 65:case 70:Xs=1;
 goto L133;
-case 80:case 82:if(usub64(c,Gs)>=2){
-switch(Hs[1]){
-case 70:case 65:Cs=1;
+case 80:case 82:if(usub64(c,bt)>=2){
+switch(ct[1]){
+case 70:case 65:Xs=1;
 goto L133;
 default:break;}}
 break;
 default:break;}}
-Is=r8(a+8);
-if(r8(a+112)>Bs){
-Js=Es;
-Ks=Ds;
-Ls=Bs;}
+dt=r8(a+8);
+if(r8(a+112)>Ws){
+et=Zs;
+ft=Ys;
+gt=Ws;}
 else{
-Ms=make_ready_9a1(a+80);
-if(!(Ms&1)){
-Cs=0;
+ht=make_ready_9a1(a+80);
+if(!(ht&1)){
+Xs=0;
 goto L133;}
-Ns=r8(a+88);
-Js=Ns*44;
-Ks=rp(a+80);
-Ls=Ns;}
-Os=Ks+Js;
-*Os=25;
-Os[1]=0;
-x2(Os+2,0);
-x4(Os+4,Is);
-z36(Os+8);
-w8(a+88,Ls+1);
-Cs=1;}
-L133:*wa=Cs;
-wa[1]=0;
-wa[2]=0;
-wa[3]=0;
+it=r8(a+88);
+et=it*44;
+ft=rp(a+80);
+gt=it;}
+jt=ft+et;
+*jt=25;
+jt[1]=0;
+x2(jt+2,0);
+x4(jt+4,dt);
+z36(jt+8);
+w8(a+88,gt+1);
+Xs=1;}
+L133:*za=Xs;
+za[1]=0;
+za[2]=0;
+za[3]=0;
 goto L130;}
-ns=0;
-os=0;
-ps=0;
-qs=1;
+Is=0;
+Js=0;
+Ks=0;
+Ls=1;
 break;}
-*wa=qs;
-wa[1]=ps;
-wa[2]=os;
-wa[3]=ns;
+*za=Ls;
+za[1]=Ks;
+za[2]=Js;
+za[3]=Is;
 L130:break;
-case 4:w4(ba,0);
-z20(ca+20);
+case 4:w4(da,0);
+z20(ea+20);
 if(!(a[136]&1)){
-Ps=r4(a+120);
-Qs=a[139];
-Rs=r8(a+8);
-Ss=r8(a+48);
-if(r8(a+72)>Ss)Ts=Ss;
+kt=r4(a+120);
+lt=a[139];
+mt=r8(a+8);
+nt=r8(a+48);
+if(r8(a+72)>nt)ot=nt;
 else{
-Us=make_ready_17a(a+40);
-if(!(Us&1)){
-w4(wa,0);
+pt=make_ready_17a(a+40);
+if(!(pt&1)){
+w4(za,0);
 goto L134;}
-Ts=r8(a+48);}
-Vs=rp(a+40)+Ts*12;
-x4(Vs,Ps);
-x4(Vs+4,Rs);
-Vs[8]=0;
-Vs[9]=Qs;
-x2(Vs+10,0);
-w8(a+48,Ts+1);}
-Ws=r8(a+176);
-if(Ws<c){
-if(*(b+Ws)==73){
-memcpy(ca,a+120,20);
-Xs=r8(a+8);
-if(r8(a+32)>Xs)Ys=Xs;
+ot=r8(a+48);}
+qt=rp(a+40)+ot*12;
+x4(qt,kt);
+x4(qt+4,mt);
+qt[8]=0;
+qt[9]=lt;
+x2(qt+10,0);
+w8(a+48,ot+1);}
+rt=r8(a+176);
+if(rt<c){
+if(*(b+rt)==73){
+memcpy(ea,a+120,20);
+st=r8(a+8);
+if(r8(a+32)>st)tt=st;
 else{
-Zs=make_ready_8e3(a,1,16);
-if(!(Zs&1)){
-at=0;
-bt=0;
+ut=make_ready_8e3(a,1,16);
+if(!(ut&1)){
+vt=0;
+wt=0;
 goto L135;}
-Ys=r8(a+8);}
-*(rp(a)+Ys)=60;
-w8(a+8,Ys+1);
-ct=r8(a+176);
-if(ct==18446744073709551615u){
-at=0;
-bt=0;}
+tt=r8(a+8);}
+*(rp(a)+tt)=60;
+w8(a+8,tt+1);
+xt=r8(a+176);
+if(xt==18446744073709551615u){
+vt=0;
+wt=0;}
 else{
-w8(a+176,ct+1);
-dt=r8(a+88);
-if(r8(a+112)>dt)et=dt;
+w8(a+176,xt+1);
+yt=r8(a+88);
+if(r8(a+112)>yt)zt=yt;
 else{
-ft=make_ready_9a1(a+80);
-if(!(ft&1)){
-at=0;
-bt=0;
+At=make_ready_9a1(a+80);
+if(!(At&1)){
+vt=0;
+wt=0;
 goto L135;}
-et=r8(a+88);}
-gt=rp(a+80)+et*44;
-*gt=6;
-gt[1]=0;
-x2(gt+2,0);
-memcpy(gt+4,ca,40);
-w8(a+88,et+1);
-at=3;
-bt=1;}
-L135:*wa=bt;
-wa[1]=at;
-wa[2]=bt;
-wa[3]=0;
+zt=r8(a+88);}
+Bt=rp(a+80)+zt*44;
+*Bt=6;
+Bt[1]=0;
+x2(Bt+2,0);
+memcpy(Bt+4,ea,40);
+w8(a+88,zt+1);
+vt=3;
+wt=1;}
+L135:*za=wt;
+za[1]=vt;
+za[2]=wt;
+za[3]=0;
 goto L134;}}
-components_at_ca9(ba,a,b,c);
-*wa=*ba;
-wa[1]=ba[1];
-wa[2]=ba[2];
-wa[3]=ba[3];
+components_at_ca9(da,a,b,c);
+*za=*da;
+za[1]=da[1];
+za[2]=da[2];
+za[3]=da[3];
 L134:break;
-case 5:w4(aa,0);
-ht=r8(a+176);
-if(ht<c){
-if(*(b+ht)==69){
-nest_ended_32a(aa,a,b,c);
-*wa=*aa;
-wa[1]=aa[1];
-wa[2]=aa[2];
-wa[3]=aa[3];
+case 5:w4(ca,0);
+Ct=r8(a+176);
+if(Ct<c){
+if(*(b+Ct)==69){
+nest_ended_32a(ca,a,b,c);
+*za=*ca;
+za[1]=ca[1];
+za[2]=ca[2];
+za[3]=ca[3];
 goto L136;}}
 if(!(a[136]&1)){
-it=r4(a+120);
-jt=a[139];
-kt=r8(a+8);
-lt=r8(a+48);
-if(r8(a+72)>lt)mt=lt;
+Dt=r4(a+120);
+Et=a[139];
+Ft=r8(a+8);
+Gt=r8(a+48);
+if(r8(a+72)>Gt)Ht=Gt;
 else{
-nt=make_ready_17a(a+40);
-if(!(nt&1)){
-w4(wa,0);
+It=make_ready_17a(a+40);
+if(!(It&1)){
+w4(za,0);
 goto L136;}
-mt=r8(a+48);}
-ot=rp(a+40)+mt*12;
-x4(ot,it);
-x4(ot+4,kt);
-ot[8]=0;
-ot[9]=jt;
-x2(ot+10,0);
-w8(a+48,mt+1);}
-components_at_ca9(aa,a,b,c);
-*wa=*aa;
-wa[1]=aa[1];
-wa[2]=aa[2];
-wa[3]=aa[3];
+Ht=r8(a+48);}
+Jt=rp(a+40)+Ht*12;
+x4(Jt,Dt);
+x4(Jt+4,Ft);
+Jt[8]=0;
+Jt[9]=Et;
+x2(Jt+10,0);
+w8(a+48,Ht+1);}
+components_at_ca9(ca,a,b,c);
+*za=*ca;
+za[1]=ca[1];
+za[2]=ca[2];
+za[3]=ca[3];
 L136:break;
-case 6:components_at_ca9(wa,a,b,c);
+case 6:components_at_ca9(za,a,b,c);
 break;
 default:NEVER;
 }
-pt=Nq+1;
-if(*wa!=1||pt==Mq)goto L1;
-Nq=pt;
-Oq=wa[3];
-Pq=wa[2];
-Qq=wa[1];
+Kt=fr+1;
+if(*za!=1||Kt==er)goto L1;
+fr=Kt;
+gr=za[3];
+hr=za[2];
+ir=za[1];
 goto L125;}}}
 goto L1;
-case 1:if(Vb)goto L1;
+case 1:if(bc)goto L1;
 if(c<16){
-qt=are_few_named_14c(b,c);
-if(!qt)goto L1;}
+Lt=are_few_named_14c(b,c);
+if(!Lt)goto L1;}
 else{
-rt=c-16;
-if(rt==0)goto L137;
-st=0;
-L138:tt=v16_at(b+st);
-if((v16_ult(tt,splat(33))|v16_eq(tt,splat(127)))!=0)goto L1;
-ut=st+16;
-if(ut<rt){
-st=ut;
+Mt=c-16;
+if(Mt==0)goto L137;
+Nt=0;
+L138:Ot=v16_at(b+Nt);
+if((v16_ult(Ot,splat(33))|v16_eq(Ot,splat(127)))!=0)goto L1;
+Pt=Nt+16;
+if(Pt<Mt){
+Nt=Pt;
 goto L138;}
-L137:vt=v16_at(b+rt);
-if((v16_ult(vt,splat(33))|v16_eq(vt,splat(127)))!=0)goto L1;}
-w4(X,0);
-w4(Y,0);
+L137:Qt=v16_at(b+Mt);
+if((v16_ult(Qt,splat(33))|v16_eq(Qt,splat(127)))!=0)goto L1;}
+w4(Z,0);
+w4(aa,0);
 if(c!=0){
 if(c!=1&&*b==95){
 if(b[1]==90){
 if(c>=3){
-wt=b[2];
+Rt=b[2];
 if(c<5){
-if(wt==90)goto L139;
-if((c!=3)&(wt==71)){
+if(Rt==90)goto L139;
+if((c!=3)&(Rt==71)){
 if(b[3]==86)goto L140;
 goto L141;}
-switch(wt){
+switch(Rt){
 case 71:goto L141;
 case 84:if(c==3)goto L142;
 break;
 default:goto L143;
 }}
 else{
-switch(wt){
+switch(Rt){
 case 90:goto L139;
 case 71:if(b[3]!=86)goto L141;
 if(b[4]!=90)goto L140;
-if(Tb<19){
-xt=make_ready_8e3(a,19,128);
-if(!(xt&1)){
-At=0;
-Bt=0;
-Ct=0;
-Dt=0;
+if(Zb<19){
+St=make_ready_8e3(a,19,128);
+if(!(St&1)){
+Vt=0;
+Wt=0;
+Xt=0;
+Yt=0;
 goto L144;}
-yt=r8(a+16);
-zt=r8(a+8);}
+Tt=r8(a+16);
+Ut=r8(a+8);}
 else{
-yt=Sb;
-zt=0;}
-if(yt-zt<19){
-Et=grow_amortized_2b6(a,19);
-if(!Et){
-At=0;
-Bt=0;
-Ct=0;
-Dt=0;
+Tt=Yb;
+Ut=0;}
+if(Tt-Ut<19){
+Zt=grow_amortized_2b6(a,19);
+if(!Zt){
+Vt=0;
+Wt=0;
+Xt=0;
+Yt=0;
 goto L144;}
-Ft=r8(a+16);
-Gt=r8(a+8);}
+au=r8(a+16);
+bu=r8(a+8);}
 else{
-Ft=yt;
-Gt=zt;}
-Ht=Gt+19;
-It=rp(a);
+au=Tt;
+bu=Ut;}
+cu=bu+19;
+du=rp(a);
 z16(a+8);
-Jt=It+(i64)Gt;
-if((u64)Jt-(u64)(u8*)t_c270<19)copy_bits_4f4((u8*)t_c270,Jt,19);
-else memcpy(Jt,(u8*)t_c270,19);
-wp(a,It);
-w8(a+8,Ht);
-w8(a+16,Ft);
+eu=du+(i64)bu;
+if((u64)eu-(u64)(u8*)t_c270<19)copy_bits_4f4((u8*)t_c270,eu,19);
+else memcpy(eu,(u8*)t_c270,19);
+wp(a,du);
+w8(a+8,cu);
+w8(a+16,au);
 w8(a+176,5);
-begin_encoding_a26(V,a,b,c);
-At=V[3];
-Bt=V[2];
-Ct=V[1];
-Dt=*V;
-L144:Kt=At;
-Lt=Bt;
-Mt=Ct;
-Nt=Dt;
+begin_encoding_a26(X,a,b,c);
+Vt=X[3];
+Wt=X[2];
+Xt=X[1];
+Yt=*X;
+L144:fu=Vt;
+gu=Wt;
+hu=Xt;
+iu=Yt;
 goto L145;
 case 84:break;
 default:goto L143;
 }}
 switch(b[3]){
-case 104:begin_thunk_acc(Y,a,b,c);
+case 104:begin_thunk_acc(aa,a,b,c);
 goto L146;
-case 118:begin_virtual_thunk_3f7(Y,a,b,c);
+case 118:begin_virtual_thunk_3f7(aa,a,b,c);
 goto L146;
-case 67:begin_clone_893(Y);
+case 67:begin_clone_893(aa);
 goto L146;
 default:break;}
-L142:begin_special_44d(Y,a,b,c);
-L146:Ot=Y[3];
-Pt=Y[2];
-Qt=Y[1];
-Rt=*Y;
+L142:begin_special_44d(aa,a,b,c);
+L146:ju=aa[3];
+ku=aa[2];
+lu=aa[1];
+mu=*aa;
 goto L147;
-L141:begin_clone_893(X);
-Ot=X[3];
-Pt=X[2];
-Qt=X[1];
-Rt=*X;
+L141:begin_clone_893(Z);
+ju=Z[3];
+ku=Z[2];
+lu=Z[1];
+mu=*Z;
 goto L147;
-L140:begin_object_056(X,a,b,c);
-Ot=X[3];
-Pt=X[2];
-Qt=X[1];
-Rt=*X;
+L140:begin_object_056(Z,a,b,c);
+ju=Z[3];
+ku=Z[2];
+lu=Z[1];
+mu=*Z;
 goto L147;
 L139:w8(a+176,3);
-begin_encoding_a26(W,a,b,c);
-Kt=W[3];
-Lt=W[2];
-Mt=W[1];
-Nt=*W;
-L145:Ot=Kt;
-Pt=Lt;
-Qt=Mt;
-Rt=Nt;
+begin_encoding_a26(Y,a,b,c);
+fu=Y[3];
+gu=Y[2];
+hu=Y[1];
+iu=*Y;
+L145:ju=fu;
+ku=gu;
+lu=hu;
+mu=iu;
 goto L147;}
 L143:w8(a+176,2);
-begin_encoding_a26(X,a,b,c);
-Ot=X[3];
-Pt=X[2];
-Qt=X[1];
-Rt=*X;
-L147:if(Rt!=1)goto L1;
-St=c<<3;
-Tt=0;
-Ut=Ot;
-Vt=Pt;
-Wt=Qt;
-L148:if(Wt==7){
-Xt=r8(a+8);
-if(Xt>Rb)goto L14;
-Yt=rp(a);
-if(Xt==0)goto L15;
-Zt=0;
-au=0;
-bu=0;
-L149:cu=Zt;
-L150:if(Xt-cu>15){
-du=cttz(v16_ult(v16_at(Yt+cu),splat(3)),16);
-eu=cu+du;
-if(du>=16){
-cu=eu;
+begin_encoding_a26(Z,a,b,c);
+ju=Z[3];
+ku=Z[2];
+lu=Z[1];
+mu=*Z;
+L147:if(mu!=1)goto L1;
+nu=c<<3;
+ou=0;
+pu=ju;
+qu=ku;
+ru=lu;
+L148:if(ru==7){
+su=r8(a+8);
+if(su>Xb)goto L14;
+tu=rp(a);
+if(su==0)goto L15;
+uu=0;
+vu=0;
+wu=0;
+L149:xu=uu;
+L150:if(su-xu>15){
+yu=cttz(v16_ult(v16_at(tu+xu),splat(3)),16);
+zu=xu+yu;
+if(yu>=16){
+xu=zu;
 goto L150;}
-fu=eu;}
+Au=zu;}
 else{
-if(cu>=Xt){
-fu=cu;
+if(xu>=su){
+Au=xu;
 goto L151;}
-gu=cu;
-L152:if(*(Yt+gu)>2){
-hu=gu+1;
-if(hu!=Xt){
-gu=hu;
+Bu=xu;
+L152:if(*(tu+Bu)>2){
+Cu=Bu+1;
+if(Cu!=su){
+Bu=Cu;
 goto L152;}
-fu=Xt;}
-else fu=gu;}
-L151:if(bu==0){
-if(au<Zt){
-if(fu!=Zt){
-iu=fu-Zt;
-ju=Yt+(i64)Zt;
-ku=Yt+(i64)au;
-lu=0;
-L153:*(ku+(i64)lu)=*(ju+(i64)lu);
-mu=lu+1;
-if(mu!=iu){
-lu=mu;
+Au=su;}
+else Au=Bu;}
+L151:if(wu==0){
+if(vu<uu){
+if(Au!=uu){
+Du=Au-uu;
+Eu=tu+(i64)uu;
+Fu=tu+(i64)vu;
+Gu=0;
+L153:*(Fu+(i64)Gu)=*(Eu+(i64)Gu);
+Hu=Gu+1;
+if(Hu!=Du){
+Gu=Hu;
 goto L153;}}}
-nu=au-Zt+fu;}
-else nu=au;
-if(fu!=Xt){
-switch(*(Yt+fu)){
-case 1:ou=bu+1;
+Iu=vu-uu+Au;}
+else Iu=vu;
+if(Au!=su){
+switch(*(tu+Au)){
+case 1:Ju=wu+1;
 break;
-case 2:ou=usub64(bu,1);
+case 2:Ju=usub64(wu,1);
 break;
 default:goto L1;
 }
-pu=fu+1;
-if(pu<Xt){
-Zt=pu;
-au=nu;
-bu=ou;
+Ku=Au+1;
+if(Ku<su){
+uu=Ku;
+vu=Iu;
+wu=Ju;
 goto L149;}}
-if(r8(a+8)<=nu)goto L15;
-Wc=nu;
+if(r8(a+8)<=Iu)goto L15;
+cd=Iu;
 break;}
 w8(a+184,r8(a+184)+1);
-w4(Z,0);
-switch(Wt){
-case 0:type_at_225(Z,a,b,c,0);
+w4(ba,0);
+switch(ru){
+case 0:type_at_225(ba,a,b,c,0);
 break;
-case 1:type_at_225(Z,a,b,c,1);
+case 1:type_at_225(ba,a,b,c,1);
 break;
-case 2:w4(R,0);
-w4(S,0);
-z32(T);
-z32(U);
-qu=r8(a+88);
-if(qu==0)w4(Z,0);
+case 2:w4(T,0);
+w4(U,0);
+z32(V);
+z32(W);
+Lu=r8(a+88);
+if(Lu==0)w4(ba,0);
 else{
-ru=Vt&1;
-su=rp(a+80)+(i64)(qu*44);
-tu=su[-44];
-uu=su[-43];
-vu=q4(su-40);
-wu=q4(su-36);
-xu=q2(su-32);
-switch(tu){
-case 29:case 28:case 27:case 26:case 4:case 5:case 6:case 7:case 8:case 11:case 12:case 13:case 14:case 15:case 16:case 17:case 18:case 19:case 20:case 21:case 22:case 23:case 24:case 25:if(Ut&1){
-pass_dependent_123(R,a,b,c);
-*Z=*R;
-Z[1]=R[1];
-Z[2]=R[2];
-Z[3]=R[3];
+Mu=qu&1;
+Nu=rp(a+80)+(i64)(Lu*44);
+Ou=Nu[-44];
+Pu=Nu[-43];
+Qu=q4(Nu-40);
+Ru=q4(Nu-36);
+Su=q2(Nu-32);
+switch(Ou){
+case 29:case 28:case 27:case 26:case 4:case 5:case 6:case 7:case 8:case 11:case 12:case 13:case 14:case 15:case 16:case 17:case 18:case 19:case 20:case 21:case 22:case 23:case 24:case 25:if(pu&1){
+pass_dependent_123(T,a,b,c);
+*ba=*T;
+ba[1]=T[1];
+ba[2]=T[2];
+ba[3]=T[3];
 goto L154;}
-yu=q4(su-4);
-zu=wu;
-Au=wu>>16;
-w4(Q,0);
-switch(tu){
-case 22:returned_087(Q,a,b,c,uu&1);
+Tu=q4(Nu-4);
+w4(S,0);
+switch(Ou){
+case 22:returned_087(S,a,b,c,Pu&1);
 break;
-case 23:parameter_at_d02(Q,a,b,c,uu&1,0);
+case 23:parameter_at_d02(S,a,b,c,Pu&1,0);
 break;
-case 24:array_ended_a11(Q,a,b,c,uu,vu,wu);
+case 24:array_ended_a11(S,a,b,c,Pu,Qu,Ru);
 break;
-case 12:enclosing_parameter_d72(Q,a,b,c,uu,vu);
+case 12:enclosing_parameter_d72(S,a,b,c,Pu,Qu);
 break;
-case 13:instance_parameter_e2a(Q,a,b,c,uu,vu,wu);
+case 13:instance_parameter_e2a(S,a,b,c,Pu,Qu,Ru);
 break;
-case 11:w2(K,xu);
-memcpy(K+2,su-30,26);
-x4(K+28,yu);
-enclosing_front_fa8(Q,a,uu,vu,wu,K);
+case 11:w2(P,Su);
+memcpy(P+2,Nu-30,26);
+x4(P+28,Tu);
+enclosing_front_fa8(S,a,Pu,Qu,Ru,P);
 break;
-case 17:w4(L,wu);
-w2(L+4,xu);
-lambda_parameter_f9a(Q,a,b,c,vu,L);
+case 17:w4(Q,Ru);
+w2(Q+4,Su);
+lambda_parameter_f9a(S,a,b,c,Qu,Q);
 break;
-case 18:member_parameter_678(Q,a,b,c,uu);
+case 18:member_parameter_678(S,a,b,c,Pu);
 break;
-case 15:w4(M,wu);
-w2(M+4,xu);
-memcpy(M+6,su-30,26);
-addressed_front_4c5(Q,a,b,c,uu,vu,M);
+case 15:w4(R,Ru);
+w2(R+4,Su);
+memcpy(R+6,Nu-30,26);
+addressed_front_4c5(S,a,b,c,Pu,Qu,R);
 break;
-case 16:addressed_parameter_41c(Q,a,b,c,uu);
+case 16:addressed_parameter_41c(S,a,b,c,Pu);
 break;
-case 14:*Q=0;
+case 14:*S=0;
 break;
-case 19:finish_8cd(Q,a,b,c);
+case 19:finish_8cd(S,a,b,c);
 break;
-case 20:derived_ended_aef(Q,a,b,c);
+case 20:derived_ended_aef(S,a,b,c);
 break;
-case 21:base_ended_299(Q,a,b,c,vu);
+case 21:base_ended_299(S,a,b,c,Qu);
 break;
-case 29:enumerator_21c(Q,a,b,c);
+case 29:enumerator_21c(S,a,b,c);
 break;
-case 26:w2(N,Au);
-w2(N+2,xu);
-memcpy(N+4,su-30,26);
-w2(N+30,yu);
-argument_enumerator_61d(Q,a,b,c,vu,zu,N);
+case 26:case 25:case 28:Uu=Ru;
+Vu=Tu;
+w4(O,0);
+switch(Ou){
+case 26:w2(L,Ru>>16);
+w2(L+2,Su);
+memcpy(L+4,Nu-30,26);
+w2(L+30,Vu);
+argument_enumerator_61d(O,a,b,c,Qu,Uu,L);
 break;
-case 25:w2(O,Au);
-w2(O+2,xu);
-memcpy(O+4,su-30,26);
-w2(O+30,yu);
-argument_ended_605(Q,a,b,c,vu,zu,O,ru);
+case 25:w2(M,Ru>>16);
+w2(M+2,Su);
+memcpy(M+4,Nu-30,26);
+w2(M+30,Vu);
+argument_ended_605(O,a,b,c,Qu,Uu,M,Mu);
 break;
-case 28:w2(P,Au);
-w2(P+2,xu);
-memcpy(P+4,su-30,26);
-w2(P+30,yu);
-element_ended_c50(Q,a,b,c,vu,zu,P,ru);
+case 28:w2(N,Ru>>16);
+w2(N+2,Su);
+memcpy(N+4,Nu-30,26);
+w2(N+30,Vu);
+element_ended_c50(O,a,b,c,Qu,Uu,N,Mu);
 break;
-case 27:case 10:case 9:case 8:case 4:case 5:case 6:case 7:*Q=1;
-Q[1]=3;
-Q[2]=0;
-Q[3]=0;
+case 27:*O=0;
 break;
 default:NEVER;
 }
-Bu=Q[1];
-Cu=Q[2];
-Du=Q[3];
-*S=*Q;
-S[1]=Bu;
-S[2]=Cu;
-S[3]=Du;
-goto L155;
-case 10:w4(T,wu);
-w2(T+4,xu);
-memcpy(T+6,su-30,26);
-parameter_ended_06e(S,a,b,c,uu,vu,T);
-goto L155;
-case 9:w4(U,wu);
-w2(U+4,xu);
-memcpy(U+6,su-30,26);
-front_ended_ee9(S,a,b,c,uu,vu,U);
-goto L155;
-case 0:w8(a+88,qu-1);
-Eu=r8(a+8);
-if(r8(a+32)>Eu)Fu=Eu;
-else{
-Gu=make_ready_8e3(a,1,16);
-if(!(Gu&1)){
-Hu=0;
-Iu=0;
-Ju=0;
-Ku=0;
-goto L156;}
-Fu=r8(a+8);}
-*(rp(a)+Fu)=42;
-Lu=Fu+1;
-w8(a+8,Lu);
-Mu=Lu;
-Nu=Ut&1;
-Ou=r8(a+48);
-if(r8(a+72)>Ou){
-Pu=Ou;
-Qu=Mu;
-Ru=0;
-Su=Nu;
-goto L157;}
-Tu=make_ready_17a(a+40);
-if(!(Tu&1)){
-Hu=0;
-Iu=0;
-Ju=0;
-Ku=0;
-goto L156;}
-Uu=Mu;
-Vu=0;
-Wu=Nu;
+Wu=O[1];
+Xu=O[2];
+Yu=O[3];
+*S=*O;
+S[1]=Wu;
+S[2]=Xu;
+S[3]=Yu;
 break;
-case 1:if(ru)goto L155;
-w8(a+88,qu-1);
-Xu=r8(a+8);
-if(r8(a+32)>Xu)Yu=Xu;
+case 27:case 10:case 9:case 8:case 4:case 5:case 6:case 7:*S=1;
+S[1]=3;
+S[2]=0;
+S[3]=0;
+break;
+default:NEVER;
+}
+Zu=S[1];
+av=S[2];
+bv=S[3];
+*U=*S;
+U[1]=Zu;
+U[2]=av;
+U[3]=bv;
+goto L155;
+case 10:w4(V,Ru);
+w2(V+4,Su);
+memcpy(V+6,Nu-30,26);
+parameter_ended_06e(U,a,b,c,Pu,Qu,V);
+goto L155;
+case 9:w4(W,Ru);
+w2(W+4,Su);
+memcpy(W+6,Nu-30,26);
+front_ended_ee9(U,a,b,c,Pu,Qu,W);
+goto L155;
+case 0:w8(a+88,Lu-1);
+cv=r8(a+8);
+if(r8(a+32)>cv)dv=cv;
 else{
-Zu=make_ready_8e3(a,1,16);
-if(!(Zu&1)){
-Hu=0;
-Iu=0;
-Ju=0;
-Ku=0;
-goto L156;}
-Yu=r8(a+8);}
-*(rp(a)+Yu)=38;
-av=Yu+1;
-w8(a+8,av);
-bv=av;
-cv=Ut&1;
-dv=r8(a+48);
-if(r8(a+72)>dv){
-Pu=dv;
-Qu=bv;
-Ru=1;
-Su=cv;
-goto L157;}
-ev=make_ready_17a(a+40);
+ev=make_ready_8e3(a,1,16);
 if(!(ev&1)){
-Hu=0;
-Iu=0;
-Ju=0;
-Ku=0;
+fv=0;
+gv=0;
+hv=0;
+iv=0;
 goto L156;}
-Uu=bv;
-Vu=1;
-Wu=cv;
-break;
-case 2:if(ru)goto L155;
-w8(a+88,qu-1);
-fv=r8(a+8);
-if(r8(a+32)-fv<2){
-gv=make_ready_8e3(a,2,128);
-if(!(gv&1)){
-Hu=0;
-Iu=0;
-Ju=0;
-Ku=0;
-goto L156;}
-hv=r8(a+8);}
-else hv=fv;
-*(rp(a)+hv)=38;
-*(rp(a)+(i64)hv+1)=38;
-iv=hv+2;
-w8(a+8,iv);
-jv=iv;
-kv=Ut&1;
-lv=r8(a+48);
-if(r8(a+72)>lv){
-Pu=lv;
-Qu=jv;
-Ru=1;
-Su=kv;
+dv=r8(a+8);}
+*(rp(a)+dv)=42;
+jv=dv+1;
+w8(a+8,jv);
+kv=jv;
+lv=pu&1;
+mv=r8(a+48);
+if(r8(a+72)>mv){
+nv=mv;
+ov=kv;
+pv=0;
+qv=lv;
 goto L157;}
-mv=make_ready_17a(a+40);
-if(!(mv&1)){
-Hu=0;
-Iu=0;
-Ju=0;
-Ku=0;
+rv=make_ready_17a(a+40);
+if(!(rv&1)){
+fv=0;
+gv=0;
+hv=0;
+iv=0;
 goto L156;}
-Uu=jv;
-Vu=1;
-Wu=kv;
+sv=kv;
+tv=0;
+uv=lv;
 break;
-case 3:if(ru)goto L155;
-w8(a+88,qu-1);
+case 1:if(Mu)goto L155;
+w8(a+88,Lu-1);
+vv=r8(a+8);
+if(r8(a+32)>vv)wv=vv;
+else{
+xv=make_ready_8e3(a,1,16);
+if(!(xv&1)){
+fv=0;
+gv=0;
+hv=0;
+iv=0;
+goto L156;}
+wv=r8(a+8);}
+*(rp(a)+wv)=38;
+yv=wv+1;
+w8(a+8,yv);
+zv=yv;
+Av=pu&1;
+Bv=r8(a+48);
+if(r8(a+72)>Bv){
+nv=Bv;
+ov=zv;
+pv=1;
+qv=Av;
+goto L157;}
+Cv=make_ready_17a(a+40);
+if(!(Cv&1)){
+fv=0;
+gv=0;
+hv=0;
+iv=0;
+goto L156;}
+sv=zv;
+tv=1;
+uv=Av;
+break;
+case 2:if(Mu)goto L155;
+w8(a+88,Lu-1);
+Dv=r8(a+8);
+if(r8(a+32)-Dv<2){
+Ev=make_ready_8e3(a,2,128);
+if(!(Ev&1)){
+fv=0;
+gv=0;
+hv=0;
+iv=0;
+goto L156;}
+Fv=r8(a+8);}
+else Fv=Dv;
+*(rp(a)+Fv)=38;
+*(rp(a)+(i64)Fv+1)=38;
+Gv=Fv+2;
+w8(a+8,Gv);
+Hv=Gv;
+Iv=pu&1;
+Jv=r8(a+48);
+if(r8(a+72)>Jv){
+nv=Jv;
+ov=Hv;
+pv=1;
+qv=Iv;
+goto L157;}
+Kv=make_ready_17a(a+40);
+if(!(Kv&1)){
+fv=0;
+gv=0;
+hv=0;
+iv=0;
+goto L156;}
+sv=Hv;
+tv=1;
+uv=Iv;
+break;
+case 3:if(Mu)goto L155;
+w8(a+88,Lu-1);
 if(r8(a+32)-r8(a+8)<6){
-nv=make_ready_8e3(a,6,128);
-if(!(nv&1)){
-Hu=0;
-Iu=0;
-Ju=0;
-Ku=0;
+Lv=make_ready_8e3(a,6,128);
+if(!(Lv&1)){
+fv=0;
+gv=0;
+hv=0;
+iv=0;
 goto L156;}}
-ov=extend_from_slice_169(a,(u8*)t_f603,6);
-if(ov&1){
-Hu=0;
-Iu=0;
-Ju=0;
-Ku=0;
+Mv=extend_from_slice_169(a,(u8*)t_f603,6);
+if(Mv&1){
+fv=0;
+gv=0;
+hv=0;
+iv=0;
 goto L156;}
-pv=r8(a+8);
-qv=Ut&1;
-rv=r8(a+48);
-if(r8(a+72)>rv){
-Pu=rv;
-Qu=pv;
-Ru=0;
-Su=qv;
+Nv=r8(a+8);
+Ov=pu&1;
+Pv=r8(a+48);
+if(r8(a+72)>Pv){
+nv=Pv;
+ov=Nv;
+pv=0;
+qv=Ov;
 goto L157;}
-sv=make_ready_17a(a+40);
-if(!(sv&1)){
-Hu=0;
-Iu=0;
-Ju=0;
-Ku=0;
+Qv=make_ready_17a(a+40);
+if(!(Qv&1)){
+fv=0;
+gv=0;
+hv=0;
+iv=0;
 goto L156;}
-Uu=pv;
-Vu=0;
-Wu=qv;
+sv=Nv;
+tv=0;
+uv=Ov;
 break;
 default:NEVER;
 }
-Pu=r8(a+48);
-Qu=Uu;
-Ru=Vu;
-Su=Wu;
-L157:tv=rp(a+40)+Pu*12;
-x4(tv,vu);
-x4(tv+4,Qu);
-tv[8]=Ru;
-tv[9]=Su;
-x2(tv+10,0);
-w8(a+48,Pu+1);
-Hu=Su;
-Iu=Ru;
-Ju=2;
-Ku=1;
-L156:*S=Ku;
-S[1]=Ju;
-S[2]=Iu;
-S[3]=Hu;
-L155:uv=S[1];
-vv=S[2];
-wv=S[3];
-*Z=*S;
-Z[1]=uv;
-Z[2]=vv;
-Z[3]=wv;}
+nv=r8(a+48);
+ov=sv;
+pv=tv;
+qv=uv;
+L157:Rv=rp(a+40)+nv*12;
+x4(Rv,Qu);
+x4(Rv+4,ov);
+Rv[8]=pv;
+Rv[9]=qv;
+x2(Rv+10,0);
+w8(a+48,nv+1);
+fv=qv;
+gv=pv;
+hv=2;
+iv=1;
+L156:*U=iv;
+U[1]=hv;
+U[2]=gv;
+U[3]=fv;
+L155:Sv=U[1];
+Tv=U[2];
+Uv=U[3];
+*ba=*U;
+ba[1]=Sv;
+ba[2]=Tv;
+ba[3]=Uv;}
 L154:break;
-case 3:xv=Vt&1;
-w4(I,0);
-yv=r8(a+176);
-if(yv<c){
-zv=*(b+yv);
-switch(zv){
-case 69:w4(G,0);
-w8(a+176,yv+1);
-Av=r8(a+88);
-if(Av==0){
-Bv=0;
-Cv=0;
-Dv=0;
-Ev=0;}
-else{
-if(*(rp(a+80)+(i64)(Av*44)-44)==27){
-if(xv){
-Bv=0;
-Cv=0;
-Dv=0;
-Ev=0;}
-else{
-w8(a+88,Av-1);
-Bv=0;
-Cv=0;
-Dv=3;
-Ev=1;}}
-else{
-z32(H);
-close_list_148(G,a,b,c,H);
-Bv=G[3];
-Cv=G[2];
-Dv=G[1];
-Ev=*G;}}
-*Z=Ev;
-Z[1]=Dv;
-Z[2]=Cv;
-Z[3]=Bv;
-goto L158;
-case 74:Fv=yv+1;
-if(Fv<c){
-if(*(b+Fv)==69){
-empty_pack_c74(I,a,b,c,xv);
-*Z=*I;
-Z[1]=I[1];
-Z[2]=I[2];
-Z[3]=I[3];
-goto L158;}}
-if(!xv){
-Gv=74;
-goto L159;}
-first_pack_117(I,a,b,c);
-*Z=*I;
-Z[1]=I[1];
-Z[2]=I[2];
-Z[3]=I[3];
-goto L158;
-default:Hv=zv;
-break;}}
-else Hv=0;
-if(xv){
-Iv=Hv;
-goto L160;}
-Gv=Hv;
-L159:Jv=r8(a+8);
-if(r8(a+32)-Jv<2){
-Kv=make_ready_8e3(a,2,128);
-if(!(Kv&1)){
-w4(Z,0);
-goto L158;}
-Lv=r8(a+8);}
-else Lv=Jv;
-*(rp(a)+Lv)=44;
-*(rp(a)+(i64)Lv+1)=32;
-w8(a+8,Lv+2);
-Iv=Gv;
-L160:switch(Iv){
-case 76:if(xv){
-first_literal_d00(I,a,b,c);
-*Z=*I;
-Z[1]=I[1];
-Z[2]=I[2];
-Z[3]=I[3];
-goto L158;}
-literal_8fc(J,a,b,c);
-Mv=J[3];
-Nv=J[2];
-Ov=J[1];
-Pv=*J;
-break;
-case 74:Qv=r8(a+88);
-if(Qv==0){
-Mv=0;
-Nv=0;
-Ov=0;
-Pv=0;}
-else{
-Rv=rp(a+80);
-Sv=Qv*44;
-if(*(Rv+(i64)Sv-44)==27){
-Mv=0;
-Nv=0;
-Ov=0;
-Pv=0;}
-else{
-Tv=r8(a+176);
-if(Tv==18446744073709551615u){
-Mv=0;
-Nv=0;
-Ov=0;
-Pv=0;}
-else{
-w8(a+176,Tv+1);
-if(r8(a+112)>Qv){
-Uv=Sv;
-Vv=Rv;
-Wv=Qv;}
-else{
-Xv=make_ready_9a1(a+80);
-if(!(Xv&1)){
-Mv=0;
-Nv=0;
-Ov=0;
-Pv=0;
-break;}
+case 3:Vv=qu&1;
+w4(J,0);
+Wv=r8(a+176);
+if(Wv<c){
+Xv=*(b+Wv);
+switch(Xv){
+case 69:w4(H,0);
+w8(a+176,Wv+1);
 Yv=r8(a+88);
-Uv=Yv*44;
-Vv=rp(a+80);
-Wv=Yv;}
-Zv=Vv+Uv;
-*Zv=27;
-z43(Zv+1);
-w8(a+88,Wv+1);
-Mv=0;
-Nv=1;
-Ov=3;
-Pv=1;}}}
-break;
-default:if(xv){
-aw=r8(a+88);
-if(aw==0)bw=1;
+if(Yv==0){
+Zv=0;
+aw=0;
+bw=0;
+cw=0;}
 else{
-cw=rp(a+80);
-dw=aw*44;
-ew=cw+(i64)dw;
-switch(ew[-44]){
-case 5:if(ew[-28]==0){
-bw=1;
+if(*(rp(a+80)+(i64)(Yv*44)-44)==27){
+if(Vv){
+Zv=0;
+aw=0;
+bw=0;
+cw=0;}
+else{
+w8(a+88,Yv-1);
+Zv=0;
+aw=0;
+bw=3;
+cw=1;}}
+else{
+z32(I);
+close_list_148(H,a,b,c,I);
+Zv=H[3];
+aw=H[2];
+bw=H[1];
+cw=*H;}}
+*ba=cw;
+ba[1]=bw;
+ba[2]=aw;
+ba[3]=Zv;
+goto L158;
+case 74:dw=Wv+1;
+if(dw<c){
+if(*(b+dw)==69){
+empty_pack_c74(J,a,b,c,Vv);
+*ba=*J;
+ba[1]=J[1];
+ba[2]=J[2];
+ba[3]=J[3];
+goto L158;}}
+if(!Vv){
+ew=74;
+goto L159;}
+first_pack_117(J,a,b,c);
+*ba=*J;
+ba[1]=J[1];
+ba[2]=J[2];
+ba[3]=J[3];
+goto L158;
+default:fw=Xv;
+break;}}
+else fw=0;
+if(Vv){
+gw=fw;
+goto L160;}
+ew=fw;
+L159:hw=r8(a+8);
+if(r8(a+32)-hw<2){
+iw=make_ready_8e3(a,2,128);
+if(!(iw&1)){
+w4(ba,0);
+goto L158;}
+jw=r8(a+8);}
+else jw=hw;
+*(rp(a)+jw)=44;
+*(rp(a)+(i64)jw+1)=32;
+w8(a+8,jw+2);
+gw=ew;
+L160:switch(gw){
+case 76:if(Vv){
+first_literal_d00(J,a,b,c);
+*ba=*J;
+ba[1]=J[1];
+ba[2]=J[2];
+ba[3]=J[3];
+goto L158;}
+literal_8fc(K,a,b,c);
+kw=K[3];
+lw=K[2];
+mw=K[1];
+nw=*K;
+break;
+case 74:ow=r8(a+88);
+if(ow==0){
+kw=0;
+lw=0;
+mw=0;
+nw=0;}
+else{
+pw=rp(a+80);
+qw=ow*44;
+if(*(pw+(i64)qw-44)==27){
+kw=0;
+lw=0;
+mw=0;
+nw=0;}
+else{
+rw=r8(a+176);
+if(rw==18446744073709551615u){
+kw=0;
+lw=0;
+mw=0;
+nw=0;}
+else{
+w8(a+176,rw+1);
+if(r8(a+112)>ow){
+sw=qw;
+tw=pw;
+uw=ow;}
+else{
+vw=make_ready_9a1(a+80);
+if(!(vw&1)){
+kw=0;
+lw=0;
+mw=0;
+nw=0;
+break;}
+ww=r8(a+88);
+sw=ww*44;
+tw=rp(a+80);
+uw=ww;}
+xw=tw+sw;
+*xw=27;
+z43(xw+1);
+w8(a+88,uw+1);
+kw=0;
+lw=1;
+mw=3;
+nw=1;}}}
+break;
+default:if(Vv){
+yw=r8(a+88);
+if(yw==0)zw=1;
+else{
+Aw=rp(a+80);
+Bw=yw*44;
+Cw=Aw+(i64)Bw;
+switch(Cw[-44]){
+case 5:if(Cw[-28]==0){
+zw=1;
 goto L161;}
 break;
 case 7:break;
-case 0:case 1:case 2:case 3:case 4:case 6:case 8:case 9:case 10:case 11:case 12:case 13:case 14:case 15:case 16:case 17:case 18:case 19:case 20:case 21:case 22:case 23:case 24:case 25:case 26:case 27:case 28:case 29:bw=1;
+case 0:case 1:case 2:case 3:case 4:case 6:case 8:case 9:case 10:case 11:case 12:case 13:case 14:case 15:case 16:case 17:case 18:case 19:case 20:case 21:case 22:case 23:case 24:case 25:case 26:case 27:case 28:case 29:zw=1;
 goto L161;
 default:NEVER;
 }
-fw=r8(a+176);
-if(fw<c){
-gw=b+(i64)fw;
-switch(*gw){
-case 65:case 70:bw=1;
+Dw=r8(a+176);
+if(Dw<c){
+Ew=b+(i64)Dw;
+switch(*Ew){
+case 65:case 70:zw=1;
 goto L161;
-case 80:case 82:if(usub64(c,fw)>=2){
-switch(gw[1]){
-case 70:case 65:bw=1;
+case 80:case 82:if(usub64(c,Dw)>=2){
+switch(Ew[1]){
+case 70:case 65:zw=1;
 goto L161;
 default:break;}}
 break;
 default:break;}}
-hw=r8(a+8);
-if(r8(a+112)>aw){
-iw=dw;
-jw=cw;
-kw=aw;}
+Fw=r8(a+8);
+if(r8(a+112)>yw){
+Gw=Bw;
+Hw=Aw;
+Iw=yw;}
 else{
-lw=make_ready_9a1(a+80);
-if(!(lw&1)){
-bw=0;
+Jw=make_ready_9a1(a+80);
+if(!(Jw&1)){
+zw=0;
 goto L161;}
-mw=r8(a+88);
-iw=mw*44;
-jw=rp(a+80);
-kw=mw;}
-nw=jw+iw;
-*nw=25;
-nw[1]=0;
-x2(nw+2,0);
-x4(nw+4,hw);
-z36(nw+8);
-w8(a+88,kw+1);
-bw=1;}
-L161:*Z=bw;
-Z[1]=0;
-Z[2]=0;
-Z[3]=0;
+Kw=r8(a+88);
+Gw=Kw*44;
+Hw=rp(a+80);
+Iw=Kw;}
+Lw=Hw+Gw;
+*Lw=25;
+Lw[1]=0;
+x2(Lw+2,0);
+x4(Lw+4,Fw);
+z36(Lw+8);
+w8(a+88,Iw+1);
+zw=1;}
+L161:*ba=zw;
+ba[1]=0;
+ba[2]=0;
+ba[3]=0;
 goto L158;}
-Mv=0;
-Nv=0;
-Ov=0;
-Pv=1;
+kw=0;
+lw=0;
+mw=0;
+nw=1;
 break;}
-*Z=Pv;
-Z[1]=Ov;
-Z[2]=Nv;
-Z[3]=Mv;
+*ba=nw;
+ba[1]=mw;
+ba[2]=lw;
+ba[3]=kw;
 L158:break;
-case 4:w4(E,0);
-z20(F+20);
+case 4:w4(F,0);
+z20(G+20);
 if(!(a[136]&1)){
-ow=r4(a+120);
-pw=a[139];
-qw=r8(a+8);
-rw=r8(a+48);
-if(r8(a+72)>rw)sw=rw;
+Mw=r4(a+120);
+Nw=a[139];
+Ow=r8(a+8);
+Pw=r8(a+48);
+if(r8(a+72)>Pw)Qw=Pw;
 else{
-tw=make_ready_17a(a+40);
-if(!(tw&1)){
-w4(Z,0);
+Rw=make_ready_17a(a+40);
+if(!(Rw&1)){
+w4(ba,0);
 goto L162;}
-sw=r8(a+48);}
-uw=rp(a+40)+sw*12;
-x4(uw,ow);
-x4(uw+4,qw);
-uw[8]=0;
-uw[9]=pw;
-x2(uw+10,0);
-w8(a+48,sw+1);}
-vw=r8(a+176);
-if(vw<c){
-if(*(b+vw)==73){
-memcpy(F,a+120,20);
-ww=r8(a+8);
-if(r8(a+32)>ww)xw=ww;
+Qw=r8(a+48);}
+Sw=rp(a+40)+Qw*12;
+x4(Sw,Mw);
+x4(Sw+4,Ow);
+Sw[8]=0;
+Sw[9]=Nw;
+x2(Sw+10,0);
+w8(a+48,Qw+1);}
+Tw=r8(a+176);
+if(Tw<c){
+if(*(b+Tw)==73){
+memcpy(G,a+120,20);
+Uw=r8(a+8);
+if(r8(a+32)>Uw)Vw=Uw;
 else{
-yw=make_ready_8e3(a,1,16);
-if(!(yw&1)){
-zw=0;
-Aw=0;
+Ww=make_ready_8e3(a,1,16);
+if(!(Ww&1)){
+Xw=0;
+Yw=0;
 goto L163;}
-xw=r8(a+8);}
-*(rp(a)+xw)=1;
-w8(a+8,xw+1);
-Bw=r8(a+176);
-if(Bw==18446744073709551615u){
-zw=0;
-Aw=0;}
+Vw=r8(a+8);}
+*(rp(a)+Vw)=1;
+w8(a+8,Vw+1);
+Zw=r8(a+176);
+if(Zw==18446744073709551615u){
+Xw=0;
+Yw=0;}
 else{
-w8(a+176,Bw+1);
-Cw=r8(a+88);
-if(r8(a+112)>Cw)Dw=Cw;
+w8(a+176,Zw+1);
+ax=r8(a+88);
+if(r8(a+112)>ax)bx=ax;
 else{
-Ew=make_ready_9a1(a+80);
-if(!(Ew&1)){
-zw=0;
-Aw=0;
+cx=make_ready_9a1(a+80);
+if(!(cx&1)){
+Xw=0;
+Yw=0;
 goto L163;}
-Dw=r8(a+88);}
-Fw=rp(a+80)+Dw*44;
-*Fw=6;
-Fw[1]=0;
-x2(Fw+2,0);
-memcpy(Fw+4,F,40);
-w8(a+88,Dw+1);
-zw=3;
-Aw=1;}
-L163:*Z=Aw;
-Z[1]=zw;
-Z[2]=Aw;
-Z[3]=0;
+bx=r8(a+88);}
+dx=rp(a+80)+bx*44;
+*dx=6;
+dx[1]=0;
+x2(dx+2,0);
+memcpy(dx+4,G,40);
+w8(a+88,bx+1);
+Xw=3;
+Yw=1;}
+L163:*ba=Yw;
+ba[1]=Xw;
+ba[2]=Yw;
+ba[3]=0;
 goto L162;}}
-components_at_91b(E,a,b,c);
-*Z=*E;
-Z[1]=E[1];
-Z[2]=E[2];
-Z[3]=E[3];
+components_at_91b(F,a,b,c);
+*ba=*F;
+ba[1]=F[1];
+ba[2]=F[2];
+ba[3]=F[3];
 L162:break;
-case 5:w4(D,0);
-Gw=r8(a+176);
-if(Gw<c){
-if(*(b+Gw)==69){
-nest_ended_003(D,a,b,c);
-*Z=*D;
-Z[1]=D[1];
-Z[2]=D[2];
-Z[3]=D[3];
+case 5:w4(E,0);
+ex=r8(a+176);
+if(ex<c){
+if(*(b+ex)==69){
+nest_ended_003(E,a,b,c);
+*ba=*E;
+ba[1]=E[1];
+ba[2]=E[2];
+ba[3]=E[3];
 goto L164;}}
 if(!(a[136]&1)){
-Hw=r4(a+120);
-Iw=a[139];
-Jw=r8(a+8);
-Kw=r8(a+48);
-if(r8(a+72)>Kw)Lw=Kw;
+fx=r4(a+120);
+gx=a[139];
+hx=r8(a+8);
+ix=r8(a+48);
+if(r8(a+72)>ix)jx=ix;
 else{
-Mw=make_ready_17a(a+40);
-if(!(Mw&1)){
-w4(Z,0);
+kx=make_ready_17a(a+40);
+if(!(kx&1)){
+w4(ba,0);
 goto L164;}
-Lw=r8(a+48);}
-Nw=rp(a+40)+Lw*12;
-x4(Nw,Hw);
-x4(Nw+4,Jw);
-Nw[8]=0;
-Nw[9]=Iw;
-x2(Nw+10,0);
-w8(a+48,Lw+1);}
-components_at_91b(D,a,b,c);
-*Z=*D;
-Z[1]=D[1];
-Z[2]=D[2];
-Z[3]=D[3];
+jx=r8(a+48);}
+lx=rp(a+40)+jx*12;
+x4(lx,fx);
+x4(lx+4,hx);
+lx[8]=0;
+lx[9]=gx;
+x2(lx+10,0);
+w8(a+48,jx+1);}
+components_at_91b(E,a,b,c);
+*ba=*E;
+ba[1]=E[1];
+ba[2]=E[2];
+ba[3]=E[3];
 L164:break;
-case 6:components_at_91b(Z,a,b,c);
+case 6:components_at_91b(ba,a,b,c);
 break;
 default:NEVER;
 }
-Ow=Tt+1;
-if(*Z!=1||Ow==St)goto L1;
-Tt=Ow;
-Ut=Z[3];
-Vt=Z[2];
-Wt=Z[1];
+mx=ou+1;
+if(*ba!=1||mx==nu)goto L1;
+ou=mx;
+pu=ba[3];
+qu=ba[2];
+ru=ba[1];
 goto L148;}}}
 goto L1;
 default:NEVER;
 }}
-w8(a+8,Wc);
+w8(a+8,cd);
 L15:if(r8(a+48)!=0)w8(a+48,0);
 z16(a+64);
 if(r8(a+88)==0){
-Pw=1;
+nx=1;
 goto L165;}
 w8(a+88,0);
-Pw=1;
+nx=1;
 goto L165;
 L1:if(r8(a+8)==0)goto L166;
 L14:w8(a+8,0);
@@ -47831,834 +48156,848 @@ if(r8(a+48)!=0)w8(a+48,0);
 if(r8(a+88)!=0)w8(a+88,0);
 a[172]=0;
 z16(a+64);
-Pw=0;
+nx=0;
 L165:z16(a+104);
-return Pw;
+return nx;
 }
 
 /* itanium::short_way::run */
 static u8 run_48b(u8* a,u8* b,u64 c,u32 d)
 {
-u8 j[32],l[4],m[32],p[32],q[32],r[32],x[4],y[4];
-A16 u8 e[4],f[4],g[40],h[4],i[4],k[4],n[6],o[32],s[4],t[4],u[4],v[32],w[32],z[4],A[4],B[4];
-u8 C,D,J,L,N,O,P,Q,S,Y,Z,aa,ba,ca,da,ea,fa,ia,ja,ka,ma,oa,pa,ua,wa,xa,ya,Ba,Ca,Da,Ea,Fa,Ia,Ma,Na,Oa,Qa,Ra,Ua,Xa,Za,bb,fb,hb,ib,jb,lb,nb,pb,qb,rb,sb,ub,wb,xb,yb,zb,Bb,Cb,Db,Fb,Jb,Kb,Lb,Mb,Ub,Yb,Zb,ac,bc,fc,kc,oc,pc,qc,rc,tc,xc,Cc,Dc,Ec,Ic,Mc,Qc;
-u64 E,F,H,K,M,R,T,U,V,ga,ha,la,za,Aa,Ga,Ja,Ka,Sa,Ta,Va,Ya,ab,cb,db,gb,mb,tb,vb,Ab,Eb,Gb,Hb,Ib,Nb,Pb,Qb,Rb,Tb,Vb,Xb,dc,hc,jc,lc,nc,vc,wc,zc,Ac,Bc,Fc,Gc,Hc,Kc,Oc,Pc,Sc;
-v16 G,I;
-u8 *W,*X,*na,*ob,*Ob,*Sb,*Wb,*cc,*ec,*ic,*mc,*yc,*Jc,*Rc;
-u32 qa,ra,ta,Ha,La,Pa,Wa,eb,kb,gc,sc,uc,Lc,Nc;
-u16 sa,va;
-if(c>65536)C=0;
+u8 j[32],l[4],m[32],n[32],o[32],q[32],y[4],z[4];
+A16 u8 e[4],f[4],g[40],h[4],i[4],k[4],p[4],r[6],s[32],t[4],u[4],v[4],w[32],x[32],A[4],B[4],C[4];
+u8 D,E,K,M,O,P,Q,R,T,Z,aa,ba,ca,da,ea,fa,ga,ja,ka,la,na,pa,qa,va,xa,ya,za,Aa,Ba,Ca,Fa,Ga,Ha,Ia,Ja,Ma,Qa,Ra,Sa,Ua,Va,Ya,bb,db,fb,jb,lb,mb,nb,pb,rb,tb,ub,vb,wb,yb,Ab,Bb,Cb,Db,Fb,Gb,Hb,Jb,Nb,Ob,Pb,Qb,Yb,cc,dc,ec,fc,jc,oc,sc,tc,uc,vc,xc,Bc,Gc,Hc,Ic,Mc,Qc,Uc;
+u64 F,G,I,L,N,S,U,V,W,ha,ia,ma,Da,Ea,Ka,Na,Oa,Wa,Xa,Za,cb,eb,gb,hb,kb,qb,xb,zb,Eb,Ib,Kb,Lb,Mb,Rb,Tb,Ub,Vb,Xb,Zb,bc,hc,lc,nc,pc,rc,zc,Ac,Dc,Ec,Fc,Jc,Kc,Lc,Oc,Sc,Tc,Wc;
+v16 H,J;
+u8 *X,*Y,*oa,*sb,*Sb,*Wb,*ac,*gc,*ic,*mc,*qc,*Cc,*Nc,*Vc;
+u32 ra,sa,ua,La,Pa,Ta,ab,ib,ob,kc,wc,yc,Pc,Rc;
+u16 ta,wa;
+if(c>65536)D=0;
 else{
 if(c<16){
-D=are_few_named_14c(b,c);
-if(!D){
-C=0;
+E=are_few_named_14c(b,c);
+if(!E){
+D=0;
 goto L1;}}
 else{
-E=c-16;
-if(E==0)goto L2;
-F=0;
-L3:G=v16_at(b+F);
-if((v16_ult(G,splat(33))|v16_eq(G,splat(127)))!=0){
-C=0;
+F=c-16;
+if(F==0)goto L2;
+G=0;
+L3:H=v16_at(b+G);
+if((v16_ult(H,splat(33))|v16_eq(H,splat(127)))!=0){
+D=0;
 goto L1;}
-H=F+16;
-if(H<E){
-F=H;
+I=G+16;
+if(I<F){
+G=I;
 goto L3;}
-L2:I=v16_at(b+E);
-if((v16_ult(I,splat(33))|v16_eq(I,splat(127)))!=0){
-C=0;
+L2:J=v16_at(b+F);
+if((v16_ult(J,splat(33))|v16_eq(J,splat(127)))!=0){
+D=0;
 goto L1;}}
-w4(z,0);
 w4(A,0);
+w4(B,0);
 if(c!=0){
 if(c!=1&&*b==95){
 if(b[1]==90){
 if(c>=3){
-J=b[2];
+K=b[2];
 if(c<5){
-if(J==90)goto L4;
-if((c!=3)&(J==71)){
+if(K==90)goto L4;
+if((c!=3)&(K==71)){
 if(b[3]==86)goto L5;
 goto L6;}
-switch(J){
+switch(K){
 case 71:goto L6;
 case 84:if(c==3)goto L7;
 break;
 default:goto L8;
 }}
 else{
-switch(J){
+switch(K){
 case 90:goto L4;
 case 71:if(b[3]!=86)goto L6;
 if(b[4]!=90)goto L5;
-K=r8(a+8);
-if(r8(a+32)-K<19){
-L=make_ready_8e3(a,19,128);
-if(!(L&1)){
-N=0;
+L=r8(a+8);
+if(r8(a+32)-L<19){
+M=make_ready_8e3(a,19,128);
+if(!(M&1)){
 O=0;
 P=0;
 Q=0;
+R=0;
 goto L9;}
-M=r8(a+8);}
-else M=K;
-R=r8(a+16);
-if(R-M<19){
-S=grow_amortized_2b6(a,19);
-if(!S){
-N=0;
+N=r8(a+8);}
+else N=L;
+S=r8(a+16);
+if(S-N<19){
+T=grow_amortized_2b6(a,19);
+if(!T){
 O=0;
 P=0;
 Q=0;
+R=0;
 goto L9;}
-T=r8(a+16);
-U=r8(a+8);}
+U=r8(a+16);
+V=r8(a+8);}
 else{
-T=R;
-U=M;}
-V=U+19;
-W=rp(a);
+U=S;
+V=N;}
+W=V+19;
+X=rp(a);
 z16(a+8);
-X=W+(i64)U;
-if((u64)X-(u64)(u8*)t_c270<19)copy_bits_4f4((u8*)t_c270,X,19);
-else memcpy(X,(u8*)t_c270,19);
-wp(a,W);
-w8(a+8,V);
-w8(a+16,T);
+Y=X+(i64)V;
+if((u64)Y-(u64)(u8*)t_c270<19)copy_bits_4f4((u8*)t_c270,Y,19);
+else memcpy(Y,(u8*)t_c270,19);
+wp(a,X);
+w8(a+8,W);
+w8(a+16,U);
 w8(a+176,5);
-begin_encoding_254(x,a,b,c);
-N=x[3];
-O=x[2];
-P=x[1];
-Q=*x;
-L9:Y=N;
-Z=O;
+begin_encoding_254(y,a,b,c);
+O=y[3];
+P=y[2];
+Q=y[1];
+R=*y;
+L9:Z=O;
 aa=P;
 ba=Q;
+ca=R;
 goto L10;
 case 84:break;
 default:goto L8;
 }}
 switch(b[3]){
-case 104:begin_thunk_2c0(A,a,b,c);
+case 104:begin_thunk_2c0(B,a,b,c);
 goto L11;
-case 118:begin_virtual_thunk_979(A,a,b,c);
+case 118:begin_virtual_thunk_979(B,a,b,c);
 goto L11;
-case 67:begin_table_89f(A,a);
+case 67:begin_table_89f(B,a);
 goto L11;
 default:break;}
-L7:begin_special_44d(A,a,b,c);
-L11:ca=A[3];
-da=A[2];
-ea=A[1];
-fa=*A;
+L7:begin_special_44d(B,a,b,c);
+L11:da=B[3];
+ea=B[2];
+fa=B[1];
+ga=*B;
 goto L12;
-L6:begin_clone_783(z,a,b,c);
-ca=z[3];
-da=z[2];
-ea=z[1];
-fa=*z;
+L6:begin_clone_783(A,a,b,c);
+da=A[3];
+ea=A[2];
+fa=A[1];
+ga=*A;
 goto L12;
-L5:begin_object_8f6(z,a,b,c);
-ca=z[3];
-da=z[2];
-ea=z[1];
-fa=*z;
+L5:begin_object_8f6(A,a,b,c);
+da=A[3];
+ea=A[2];
+fa=A[1];
+ga=*A;
 goto L12;
 L4:w8(a+176,3);
-begin_encoding_254(y,a,b,c);
-Y=y[3];
-Z=y[2];
-aa=y[1];
-ba=*y;
-L10:ca=Y;
-da=Z;
+begin_encoding_254(z,a,b,c);
+Z=z[3];
+aa=z[2];
+ba=z[1];
+ca=*z;
+L10:da=Z;
 ea=aa;
 fa=ba;
+ga=ca;
 goto L12;}
 L8:w8(a+176,2);
-begin_encoding_254(z,a,b,c);
-ca=z[3];
-da=z[2];
-ea=z[1];
-fa=*z;
-L12:if(fa!=1){
-C=0;
+begin_encoding_254(A,a,b,c);
+da=A[3];
+ea=A[2];
+fa=A[1];
+ga=*A;
+L12:if(ga!=1){
+D=0;
 goto L1;}
-ga=c<<3;
-ha=0;
-ia=ca;
+ha=c<<3;
+ia=0;
 ja=da;
 ka=ea;
-L13:if(ka==7){
-C=r8(a+8)<=d;
+la=fa;
+L13:if(la==7){
+D=r8(a+8)<=d;
 goto L1;}
 w8(a+184,r8(a+184)+1);
-w4(B,0);
-switch(ka){
-case 0:type_at_188(B,a,b,c,0);
+w4(C,0);
+switch(la){
+case 0:type_at_188(C,a,b,c,0);
 break;
-case 1:type_at_188(B,a,b,c,1);
+case 1:type_at_188(C,a,b,c,1);
 break;
-case 2:w4(t,0);
-w4(u,0);
-z32(v);
+case 2:w4(u,0);
+w4(v,0);
 z32(w);
-la=r8(a+88);
-if(la==0)w4(B,0);
+z32(x);
+ma=r8(a+88);
+if(ma==0)w4(C,0);
 else{
-ma=ja&1;
-na=rp(a+80)+(i64)(la*44);
-oa=na[-44];
-pa=na[-43];
-qa=q4(na-40);
-ra=q4(na-36);
-sa=q2(na-32);
-switch(oa){
-case 29:case 28:case 27:case 26:case 4:case 5:case 6:case 7:case 8:case 11:case 12:case 13:case 14:case 15:case 16:case 17:case 18:case 19:case 20:case 21:case 22:case 23:case 24:case 25:if(ia&1){
-pass_dependent_123(t,a,b,c);
-*B=*t;
-B[1]=t[1];
-B[2]=t[2];
-B[3]=t[3];
+na=ka&1;
+oa=rp(a+80)+(i64)(ma*44);
+pa=oa[-44];
+qa=oa[-43];
+ra=q4(oa-40);
+sa=q4(oa-36);
+ta=q2(oa-32);
+switch(pa){
+case 29:case 28:case 27:case 26:case 4:case 5:case 6:case 7:case 8:case 11:case 12:case 13:case 14:case 15:case 16:case 17:case 18:case 19:case 20:case 21:case 22:case 23:case 24:case 25:if(ja&1){
+pass_dependent_123(u,a,b,c);
+*C=*u;
+C[1]=u[1];
+C[2]=u[2];
+C[3]=u[3];
 goto L14;}
-ta=q4(na-4);
-ua=ra;
-va=ra>>16;
-w4(s,0);
-switch(oa){
-case 22:returned_acd(s,a,b,c,pa&1);
+ua=q4(oa-4);
+w4(t,0);
+switch(pa){
+case 22:returned_acd(t,a,b,c,qa&1);
 break;
-case 23:parameter_at_c04(s,a,b,c,pa&1,0);
+case 23:parameter_at_c04(t,a,b,c,qa&1,0);
 break;
-case 24:array_ended_08d(s,a,b,c,pa,qa,ra);
+case 24:array_ended_08d(t,a,b,c,qa,ra,sa);
 break;
-case 12:enclosing_parameter_d72(s,a,b,c,pa,qa);
+case 12:enclosing_parameter_d72(t,a,b,c,qa,ra);
 break;
-case 13:instance_parameter_e2a(s,a,b,c,pa,qa,ra);
+case 13:instance_parameter_e2a(t,a,b,c,qa,ra,sa);
 break;
-case 11:w2(m,sa);
-memcpy(m+2,na-30,26);
-x4(m+28,ta);
-enclosing_front_fa8(s,a,pa,qa,ra,m);
+case 11:w2(q,ta);
+memcpy(q+2,oa-30,26);
+x4(q+28,ua);
+enclosing_front_fa8(t,a,qa,ra,sa,q);
 break;
-case 17:w4(n,ra);
-w2(n+4,sa);
-lambda_parameter_f9a(s,a,b,c,qa,n);
+case 17:w4(r,sa);
+w2(r+4,ta);
+lambda_parameter_f9a(t,a,b,c,ra,r);
 break;
-case 18:member_parameter_678(s,a,b,c,pa);
+case 18:member_parameter_678(t,a,b,c,qa);
 break;
-case 15:w4(o,ra);
-w2(o+4,sa);
-memcpy(o+6,na-30,26);
-addressed_front_4c5(s,a,b,c,pa,qa,o);
+case 15:w4(s,sa);
+w2(s+4,ta);
+memcpy(s+6,oa-30,26);
+addressed_front_4c5(t,a,b,c,qa,ra,s);
 break;
-case 16:addressed_parameter_41c(s,a,b,c,pa);
+case 16:addressed_parameter_41c(t,a,b,c,qa);
 break;
-case 14:*s=0;
+case 14:*t=0;
 break;
-case 19:finish_8cd(s,a,b,c);
+case 19:finish_8cd(t,a,b,c);
 break;
-case 20:derived_ended_aef(s,a,b,c);
+case 20:derived_ended_aef(t,a,b,c);
 break;
-case 21:base_ended_299(s,a,b,c,qa);
+case 21:base_ended_299(t,a,b,c,ra);
 break;
-case 29:enumerator_21c(s,a,b,c);
+case 29:enumerator_21c(t,a,b,c);
 break;
-case 26:w2(p,va);
-w2(p+2,sa);
-memcpy(p+4,na-30,26);
-w2(p+30,ta);
-argument_enumerator_c0e(s,a,b,c,qa,ua,p);
+case 26:case 25:case 28:va=sa;
+wa=ua;
+w4(p,0);
+switch(pa){
+case 26:w2(m,sa>>16);
+w2(m+2,ta);
+memcpy(m+4,oa-30,26);
+w2(m+30,wa);
+argument_enumerator_c0e(p,a,b,c,ra,va,m);
 break;
-case 25:w2(q,va);
-w2(q+2,sa);
-memcpy(q+4,na-30,26);
-w2(q+30,ta);
-argument_ended_2ff(s,a,b,c,qa,ua,q,ma);
+case 25:w2(n,sa>>16);
+w2(n+2,ta);
+memcpy(n+4,oa-30,26);
+w2(n+30,wa);
+argument_ended_2ff(p,a,b,c,ra,va,n,na);
 break;
-case 28:w2(r,va);
-w2(r+2,sa);
-memcpy(r+4,na-30,26);
-w2(r+30,ta);
-element_ended_d46(s,a,b,c,qa,ua,r,ma);
+case 28:w2(o,sa>>16);
+w2(o+2,ta);
+memcpy(o+4,oa-30,26);
+w2(o+30,wa);
+element_ended_d46(p,a,b,c,ra,va,o,na);
 break;
-case 27:case 10:case 9:case 8:case 4:case 5:case 6:case 7:*s=1;
-s[1]=3;
-s[2]=0;
-s[3]=0;
+case 27:*p=0;
 break;
 default:NEVER;
 }
-wa=s[1];
-xa=s[2];
-ya=s[3];
-*u=*s;
-u[1]=wa;
-u[2]=xa;
-u[3]=ya;
+xa=p[1];
+ya=p[2];
+za=p[3];
+*t=*p;
+t[1]=xa;
+t[2]=ya;
+t[3]=za;
+break;
+case 27:case 10:case 9:case 8:case 4:case 5:case 6:case 7:*t=1;
+t[1]=3;
+t[2]=0;
+t[3]=0;
+break;
+default:NEVER;
+}
+Aa=t[1];
+Ba=t[2];
+Ca=t[3];
+*v=*t;
+v[1]=Aa;
+v[2]=Ba;
+v[3]=Ca;
 goto L15;
-case 10:w4(v,ra);
-w2(v+4,sa);
-memcpy(v+6,na-30,26);
-parameter_ended_06e(u,a,b,c,pa,qa,v);
+case 10:w4(w,sa);
+w2(w+4,ta);
+memcpy(w+6,oa-30,26);
+parameter_ended_06e(v,a,b,c,qa,ra,w);
 goto L15;
-case 9:w4(w,ra);
-w2(w+4,sa);
-memcpy(w+6,na-30,26);
-front_ended_ee9(u,a,b,c,pa,qa,w);
+case 9:w4(x,sa);
+w2(x+4,ta);
+memcpy(x+6,oa-30,26);
+front_ended_ee9(v,a,b,c,qa,ra,x);
 goto L15;
-case 0:w8(a+88,la-1);
-za=r8(a+8);
-if(r8(a+32)>za)Aa=za;
+case 0:w8(a+88,ma-1);
+Da=r8(a+8);
+if(r8(a+32)>Da)Ea=Da;
 else{
-Ba=make_ready_8e3(a,1,16);
-if(!(Ba&1)){
-Ca=0;
-Da=0;
-Ea=0;
-Fa=0;
+Fa=make_ready_8e3(a,1,16);
+if(!(Fa&1)){
+Ga=0;
+Ha=0;
+Ia=0;
+Ja=0;
 goto L16;}
-Aa=r8(a+8);}
-*(rp(a)+Aa)=42;
-Ga=Aa+1;
-w8(a+8,Ga);
-Ha=Ga;
-Ia=ia&1;
-Ja=r8(a+48);
-if(r8(a+72)>Ja){
-Ka=Ja;
-La=Ha;
-Ma=0;
-Na=Ia;
-goto L17;}
-Oa=make_ready_17a(a+40);
-if(!(Oa&1)){
-Ca=0;
-Da=0;
-Ea=0;
-Fa=0;
-goto L16;}
-Pa=Ha;
+Ea=r8(a+8);}
+*(rp(a)+Ea)=42;
+Ka=Ea+1;
+w8(a+8,Ka);
+La=Ka;
+Ma=ja&1;
+Na=r8(a+48);
+if(r8(a+72)>Na){
+Oa=Na;
+Pa=La;
 Qa=0;
-Ra=Ia;
+Ra=Ma;
+goto L17;}
+Sa=make_ready_17a(a+40);
+if(!(Sa&1)){
+Ga=0;
+Ha=0;
+Ia=0;
+Ja=0;
+goto L16;}
+Ta=La;
+Ua=0;
+Va=Ma;
 break;
-case 1:if(ma)goto L15;
-w8(a+88,la-1);
-Sa=r8(a+8);
-if(r8(a+32)>Sa)Ta=Sa;
+case 1:if(na)goto L15;
+w8(a+88,ma-1);
+Wa=r8(a+8);
+if(r8(a+32)>Wa)Xa=Wa;
 else{
-Ua=make_ready_8e3(a,1,16);
-if(!(Ua&1)){
-Ca=0;
-Da=0;
-Ea=0;
-Fa=0;
+Ya=make_ready_8e3(a,1,16);
+if(!(Ya&1)){
+Ga=0;
+Ha=0;
+Ia=0;
+Ja=0;
 goto L16;}
-Ta=r8(a+8);}
-*(rp(a)+Ta)=38;
-Va=Ta+1;
-w8(a+8,Va);
-Wa=Va;
-Xa=ia&1;
-Ya=r8(a+48);
-if(r8(a+72)>Ya){
-Ka=Ya;
-La=Wa;
-Ma=1;
-Na=Xa;
-goto L17;}
-Za=make_ready_17a(a+40);
-if(!(Za&1)){
-Ca=0;
-Da=0;
-Ea=0;
-Fa=0;
-goto L16;}
-Pa=Wa;
+Xa=r8(a+8);}
+*(rp(a)+Xa)=38;
+Za=Xa+1;
+w8(a+8,Za);
+ab=Za;
+bb=ja&1;
+cb=r8(a+48);
+if(r8(a+72)>cb){
+Oa=cb;
+Pa=ab;
 Qa=1;
-Ra=Xa;
-break;
-case 2:if(ma)goto L15;
-w8(a+88,la-1);
-ab=r8(a+8);
-if(r8(a+32)-ab<2){
-bb=make_ready_8e3(a,2,128);
-if(!(bb&1)){
-Ca=0;
-Da=0;
-Ea=0;
-Fa=0;
-goto L16;}
-cb=r8(a+8);}
-else cb=ab;
-*(rp(a)+cb)=38;
-*(rp(a)+(i64)cb+1)=38;
-db=cb+2;
-w8(a+8,db);
-eb=db;
-fb=ia&1;
-gb=r8(a+48);
-if(r8(a+72)>gb){
-Ka=gb;
-La=eb;
-Ma=1;
-Na=fb;
+Ra=bb;
 goto L17;}
-hb=make_ready_17a(a+40);
-if(!(hb&1)){
-Ca=0;
-Da=0;
-Ea=0;
-Fa=0;
+db=make_ready_17a(a+40);
+if(!(db&1)){
+Ga=0;
+Ha=0;
+Ia=0;
+Ja=0;
 goto L16;}
-Pa=eb;
-Qa=1;
-Ra=fb;
+Ta=ab;
+Ua=1;
+Va=bb;
 break;
-case 3:if(ma)goto L15;
-w8(a+88,la-1);
+case 2:if(na)goto L15;
+w8(a+88,ma-1);
+eb=r8(a+8);
+if(r8(a+32)-eb<2){
+fb=make_ready_8e3(a,2,128);
+if(!(fb&1)){
+Ga=0;
+Ha=0;
+Ia=0;
+Ja=0;
+goto L16;}
+gb=r8(a+8);}
+else gb=eb;
+*(rp(a)+gb)=38;
+*(rp(a)+(i64)gb+1)=38;
+hb=gb+2;
+w8(a+8,hb);
+ib=hb;
+jb=ja&1;
+kb=r8(a+48);
+if(r8(a+72)>kb){
+Oa=kb;
+Pa=ib;
+Qa=1;
+Ra=jb;
+goto L17;}
+lb=make_ready_17a(a+40);
+if(!(lb&1)){
+Ga=0;
+Ha=0;
+Ia=0;
+Ja=0;
+goto L16;}
+Ta=ib;
+Ua=1;
+Va=jb;
+break;
+case 3:if(na)goto L15;
+w8(a+88,ma-1);
 if(r8(a+32)-r8(a+8)<6){
-ib=make_ready_8e3(a,6,128);
-if(!(ib&1)){
-Ca=0;
-Da=0;
-Ea=0;
-Fa=0;
+mb=make_ready_8e3(a,6,128);
+if(!(mb&1)){
+Ga=0;
+Ha=0;
+Ia=0;
+Ja=0;
 goto L16;}}
-jb=extend_from_slice_169(a,(u8*)t_f603,6);
-if(jb&1){
-Ca=0;
-Da=0;
-Ea=0;
-Fa=0;
+nb=extend_from_slice_169(a,(u8*)t_f603,6);
+if(nb&1){
+Ga=0;
+Ha=0;
+Ia=0;
+Ja=0;
 goto L16;}
-kb=r8(a+8);
-lb=ia&1;
-mb=r8(a+48);
-if(r8(a+72)>mb){
-Ka=mb;
-La=kb;
-Ma=0;
-Na=lb;
-goto L17;}
-nb=make_ready_17a(a+40);
-if(!(nb&1)){
-Ca=0;
-Da=0;
-Ea=0;
-Fa=0;
-goto L16;}
-Pa=kb;
+ob=r8(a+8);
+pb=ja&1;
+qb=r8(a+48);
+if(r8(a+72)>qb){
+Oa=qb;
+Pa=ob;
 Qa=0;
-Ra=lb;
+Ra=pb;
+goto L17;}
+rb=make_ready_17a(a+40);
+if(!(rb&1)){
+Ga=0;
+Ha=0;
+Ia=0;
+Ja=0;
+goto L16;}
+Ta=ob;
+Ua=0;
+Va=pb;
 break;
 default:NEVER;
 }
-Ka=r8(a+48);
-La=Pa;
-Ma=Qa;
-Na=Ra;
-L17:ob=rp(a+40)+Ka*12;
-x4(ob,qa);
-x4(ob+4,La);
-ob[8]=Ma;
-ob[9]=Na;
-x2(ob+10,0);
-w8(a+48,Ka+1);
-Ca=Na;
-Da=Ma;
-Ea=2;
-Fa=1;
-L16:*u=Fa;
-u[1]=Ea;
-u[2]=Da;
-u[3]=Ca;
-L15:pb=u[1];
-qb=u[2];
-rb=u[3];
-*B=*u;
-B[1]=pb;
-B[2]=qb;
-B[3]=rb;}
+Oa=r8(a+48);
+Pa=Ta;
+Qa=Ua;
+Ra=Va;
+L17:sb=rp(a+40)+Oa*12;
+x4(sb,ra);
+x4(sb+4,Pa);
+sb[8]=Qa;
+sb[9]=Ra;
+x2(sb+10,0);
+w8(a+48,Oa+1);
+Ga=Ra;
+Ha=Qa;
+Ia=2;
+Ja=1;
+L16:*v=Ja;
+v[1]=Ia;
+v[2]=Ha;
+v[3]=Ga;
+L15:tb=v[1];
+ub=v[2];
+vb=v[3];
+*C=*v;
+C[1]=tb;
+C[2]=ub;
+C[3]=vb;}
 L14:break;
-case 3:sb=ja&1;
+case 3:wb=ka&1;
 w4(k,0);
-tb=r8(a+176);
-if(tb<c){
-ub=*(b+tb);
-switch(ub){
+xb=r8(a+176);
+if(xb<c){
+yb=*(b+xb);
+switch(yb){
 case 69:w4(i,0);
-w8(a+176,tb+1);
-vb=r8(a+88);
-if(vb==0){
-wb=0;
-xb=0;
-yb=0;
-zb=0;}
+w8(a+176,xb+1);
+zb=r8(a+88);
+if(zb==0){
+Ab=0;
+Bb=0;
+Cb=0;
+Db=0;}
 else{
-if(*(rp(a+80)+(i64)(vb*44)-44)==27){
-if(sb){
-wb=0;
-xb=0;
-yb=0;
-zb=0;}
+if(*(rp(a+80)+(i64)(zb*44)-44)==27){
+if(wb){
+Ab=0;
+Bb=0;
+Cb=0;
+Db=0;}
 else{
-w8(a+88,vb-1);
-wb=0;
-xb=0;
-yb=3;
-zb=1;}}
+w8(a+88,zb-1);
+Ab=0;
+Bb=0;
+Cb=3;
+Db=1;}}
 else{
 z32(j);
 close_list_0b3(i,a,b,c,j);
-wb=i[3];
-xb=i[2];
-yb=i[1];
-zb=*i;}}
-*B=zb;
-B[1]=yb;
-B[2]=xb;
-B[3]=wb;
+Ab=i[3];
+Bb=i[2];
+Cb=i[1];
+Db=*i;}}
+*C=Db;
+C[1]=Cb;
+C[2]=Bb;
+C[3]=Ab;
 goto L18;
-case 74:Ab=tb+1;
-if(Ab<c){
-if(*(b+Ab)==69){
-empty_pack_06f(k,a,b,c,sb);
-*B=*k;
-B[1]=k[1];
-B[2]=k[2];
-B[3]=k[3];
+case 74:Eb=xb+1;
+if(Eb<c){
+if(*(b+Eb)==69){
+empty_pack_06f(k,a,b,c,wb);
+*C=*k;
+C[1]=k[1];
+C[2]=k[2];
+C[3]=k[3];
 goto L18;}}
-if(!sb){
-Bb=74;
+if(!wb){
+Fb=74;
 goto L19;}
 first_pack_117(k,a,b,c);
-*B=*k;
-B[1]=k[1];
-B[2]=k[2];
-B[3]=k[3];
+*C=*k;
+C[1]=k[1];
+C[2]=k[2];
+C[3]=k[3];
 goto L18;
-default:Cb=ub;
+default:Gb=yb;
 break;}}
-else Cb=0;
-if(sb){
-Db=Cb;
+else Gb=0;
+if(wb){
+Hb=Gb;
 goto L20;}
-Bb=Cb;
-L19:Eb=r8(a+8);
-if(r8(a+32)-Eb<2){
-Fb=make_ready_8e3(a,2,128);
-if(!(Fb&1)){
-w4(B,0);
+Fb=Gb;
+L19:Ib=r8(a+8);
+if(r8(a+32)-Ib<2){
+Jb=make_ready_8e3(a,2,128);
+if(!(Jb&1)){
+w4(C,0);
 goto L18;}
-Gb=r8(a+8);}
-else Gb=Eb;
-*(rp(a)+Gb)=44;
-*(rp(a)+(i64)Gb+1)=32;
-w8(a+8,Gb+2);
-Db=Bb;
-L20:switch(Db){
-case 88:Hb=r8(a+176);
-if(Hb==18446744073709551615u){
-w4(B,0);
+Kb=r8(a+8);}
+else Kb=Ib;
+*(rp(a)+Kb)=44;
+*(rp(a)+(i64)Kb+1)=32;
+w8(a+8,Kb+2);
+Hb=Fb;
+L20:switch(Hb){
+case 88:Lb=r8(a+176);
+if(Lb==18446744073709551615u){
+w4(C,0);
 goto L18;}
-Ib=Hb+1;
-if(Ib<c){
-switch(*(b+Ib)){
+Mb=Lb+1;
+if(Mb<c){
+switch(*(b+Mb)){
 case 115:begin_level_d05(k,a,b,c);
-*B=*k;
-B[1]=k[1];
-B[2]=k[2];
-B[3]=k[3];
+*C=*k;
+C[1]=k[1];
+C[2]=k[2];
+C[3]=k[3];
 goto L18;
 case 84:parameter_argument_7c8(k,a,b,c);
-*B=*k;
-B[1]=k[1];
-B[2]=k[2];
-B[3]=k[3];
+*C=*k;
+C[1]=k[1];
+C[2]=k[2];
+C[3]=k[3];
 goto L18;
 default:break;}}
 break;
-case 76:if(sb){
+case 76:if(wb){
 first_literal_618(k,a,b,c);
-*B=*k;
-B[1]=k[1];
-B[2]=k[2];
-B[3]=k[3];
+*C=*k;
+C[1]=k[1];
+C[2]=k[2];
+C[3]=k[3];
 goto L18;}
 literal_9d0(l,a,b,c);
-Jb=l[3];
-Kb=l[2];
-Lb=l[1];
-Mb=*l;
+Nb=l[3];
+Ob=l[2];
+Pb=l[1];
+Qb=*l;
 goto L21;
-case 74:Nb=r8(a+88);
-if(Nb==0){
-Jb=0;
-Kb=0;
-Lb=0;
-Mb=0;
+case 74:Rb=r8(a+88);
+if(Rb==0){
+Nb=0;
+Ob=0;
+Pb=0;
+Qb=0;
 goto L21;}
-Ob=rp(a+80);
-Pb=Nb*44;
-if(*(Ob+(i64)Pb-44)==27){
-Jb=0;
-Kb=0;
-Lb=0;
-Mb=0;
-goto L21;}
-Qb=r8(a+176);
-if(Qb==18446744073709551615u){
-Jb=0;
-Kb=0;
-Lb=0;
-Mb=0;
-goto L21;}
-w8(a+176,Qb+1);
-if(r8(a+112)>Nb){
-Rb=Pb;
-Sb=Ob;
-Tb=Nb;}
-else{
-Ub=make_ready_9a1(a+80);
-if(!(Ub&1)){
-Jb=0;
-Kb=0;
-Lb=0;
-Mb=0;
-goto L21;}
-Vb=r8(a+88);
-Rb=Vb*44;
 Sb=rp(a+80);
-Tb=Vb;}
-Wb=Sb+Rb;
-*Wb=27;
-z43(Wb+1);
-w8(a+88,Tb+1);
-Jb=0;
-Kb=1;
-Lb=3;
-Mb=1;
+Tb=Rb*44;
+if(*(Sb+(i64)Tb-44)==27){
+Nb=0;
+Ob=0;
+Pb=0;
+Qb=0;
+goto L21;}
+Ub=r8(a+176);
+if(Ub==18446744073709551615u){
+Nb=0;
+Ob=0;
+Pb=0;
+Qb=0;
+goto L21;}
+w8(a+176,Ub+1);
+if(r8(a+112)>Rb){
+Vb=Tb;
+Wb=Sb;
+Xb=Rb;}
+else{
+Yb=make_ready_9a1(a+80);
+if(!(Yb&1)){
+Nb=0;
+Ob=0;
+Pb=0;
+Qb=0;
+goto L21;}
+Zb=r8(a+88);
+Vb=Zb*44;
+Wb=rp(a+80);
+Xb=Zb;}
+ac=Wb+Vb;
+*ac=27;
+z43(ac+1);
+w8(a+88,Xb+1);
+Nb=0;
+Ob=1;
+Pb=3;
+Qb=1;
 goto L21;
 default:break;}
-if(sb){
-Xb=r8(a+88);
-if(Xb==0){
-Yb=0;
-Zb=0;
-ac=0;
-bc=1;}
+if(wb){
+bc=r8(a+88);
+if(bc==0){
+cc=0;
+dc=0;
+ec=0;
+fc=1;}
 else{
-cc=rp(a+80);
-dc=Xb*44;
-ec=cc+(i64)dc;
-switch(ec[-44]){
-case 5:if(ec[-28]==0){
-Yb=0;
-Zb=0;
-ac=0;
-bc=1;
+gc=rp(a+80);
+hc=bc*44;
+ic=gc+(i64)hc;
+switch(ic[-44]){
+case 5:if(ic[-28]==0){
+cc=0;
+dc=0;
+ec=0;
+fc=1;
 goto L22;}
 break;
 case 7:break;
-case 0:case 1:case 2:case 3:case 4:case 6:case 8:case 9:case 10:case 11:case 12:case 13:case 14:case 15:case 16:case 17:case 18:case 19:case 20:case 21:case 22:case 23:case 24:case 25:case 26:case 27:case 28:case 29:Yb=0;
-Zb=0;
-ac=0;
-bc=1;
+case 0:case 1:case 2:case 3:case 4:case 6:case 8:case 9:case 10:case 11:case 12:case 13:case 14:case 15:case 16:case 17:case 18:case 19:case 20:case 21:case 22:case 23:case 24:case 25:case 26:case 27:case 28:case 29:cc=0;
+dc=0;
+ec=0;
+fc=1;
 goto L22;
 default:NEVER;
 }
-fc=is_element_at_f4e(b,c,r8(a+176));
-if(fc){
-Yb=0;
-Zb=0;
-ac=0;
-bc=1;}
+jc=is_element_at_f4e(b,c,r8(a+176));
+if(jc){
+cc=0;
+dc=0;
+ec=0;
+fc=1;}
 else{
-gc=r8(a+8);
-if(r8(a+112)>Xb){
-hc=dc;
-ic=cc;
-jc=Xb;}
+kc=r8(a+8);
+if(r8(a+112)>bc){
+lc=hc;
+mc=gc;
+nc=bc;}
 else{
-kc=make_ready_9a1(a+80);
-if(!(kc&1)){
-Yb=0;
-Zb=0;
-ac=0;
-bc=0;
+oc=make_ready_9a1(a+80);
+if(!(oc&1)){
+cc=0;
+dc=0;
+ec=0;
+fc=0;
 goto L22;}
-lc=r8(a+88);
-hc=lc*44;
-ic=rp(a+80);
-jc=lc;}
-mc=ic+hc;
-*mc=25;
-mc[1]=0;
-x2(mc+2,0);
-x4(mc+4,gc);
-z36(mc+8);
-w8(a+88,jc+1);
+pc=r8(a+88);
+lc=pc*44;
+mc=rp(a+80);
+nc=pc;}
+qc=mc+lc;
+*qc=25;
+qc[1]=0;
+x2(qc+2,0);
+x4(qc+4,kc);
+z36(qc+8);
+w8(a+88,nc+1);
 w4(h,0);
-nc=r8(a+176);
-if(nc<c){
-if(*(b+nc)==88){
+rc=r8(a+176);
+if(rc<c){
+if(*(b+rc)==88){
 begin_address_4df(h,a,b,c);
-oc=h[3];
-pc=h[2];
-qc=h[1];
-rc=*h;}
+sc=h[3];
+tc=h[2];
+uc=h[1];
+vc=*h;}
 else{
-oc=0;
-pc=0;
-qc=0;
-rc=1;}}
+sc=0;
+tc=0;
+uc=0;
+vc=1;}}
 else{
-oc=0;
-pc=0;
-qc=0;
-rc=1;}
-Yb=oc;
-Zb=pc;
-ac=qc;
-bc=rc;}}
-L22:*B=bc;
-B[1]=ac;
-B[2]=Zb;
-B[3]=Yb;
+sc=0;
+tc=0;
+uc=0;
+vc=1;}
+cc=sc;
+dc=tc;
+ec=uc;
+fc=vc;}}
+L22:*C=fc;
+C[1]=ec;
+C[2]=dc;
+C[3]=cc;
 goto L18;}
-Jb=0;
-Kb=0;
-Lb=0;
-Mb=1;
-L21:*B=Mb;
-B[1]=Lb;
-B[2]=Kb;
-B[3]=Jb;
+Nb=0;
+Ob=0;
+Pb=0;
+Qb=1;
+L21:*C=Qb;
+C[1]=Pb;
+C[2]=Ob;
+C[3]=Nb;
 L18:break;
 case 4:w4(f,0);
 z20(g+20);
 if(!(a[136]&1)){
-sc=r4(a+120);
-tc=a[139];
-uc=r8(a+8);
-vc=r8(a+48);
-if(r8(a+72)>vc)wc=vc;
+wc=r4(a+120);
+xc=a[139];
+yc=r8(a+8);
+zc=r8(a+48);
+if(r8(a+72)>zc)Ac=zc;
 else{
-xc=make_ready_17a(a+40);
-if(!(xc&1)){
-w4(B,0);
+Bc=make_ready_17a(a+40);
+if(!(Bc&1)){
+w4(C,0);
 goto L23;}
-wc=r8(a+48);}
-yc=rp(a+40)+wc*12;
-x4(yc,sc);
-x4(yc+4,uc);
-yc[8]=0;
-yc[9]=tc;
-x2(yc+10,0);
-w8(a+48,wc+1);}
-zc=r8(a+176);
-if(zc<c){
-if(*(b+zc)==73){
+Ac=r8(a+48);}
+Cc=rp(a+40)+Ac*12;
+x4(Cc,wc);
+x4(Cc+4,yc);
+Cc[8]=0;
+Cc[9]=xc;
+x2(Cc+10,0);
+w8(a+48,Ac+1);}
+Dc=r8(a+176);
+if(Dc<c){
+if(*(b+Dc)==73){
 memcpy(g,a+120,20);
-Ac=r8(a+8);
-if(r8(a+32)>Ac)Bc=Ac;
+Ec=r8(a+8);
+if(r8(a+32)>Ec)Fc=Ec;
 else{
-Cc=make_ready_8e3(a,1,16);
-if(!(Cc&1)){
-Dc=0;
-Ec=0;
+Gc=make_ready_8e3(a,1,16);
+if(!(Gc&1)){
+Hc=0;
+Ic=0;
 goto L24;}
-Bc=r8(a+8);}
-*(rp(a)+Bc)=60;
-w8(a+8,Bc+1);
-Fc=r8(a+176);
-if(Fc==18446744073709551615u){
-Dc=0;
-Ec=0;}
+Fc=r8(a+8);}
+*(rp(a)+Fc)=60;
+w8(a+8,Fc+1);
+Jc=r8(a+176);
+if(Jc==18446744073709551615u){
+Hc=0;
+Ic=0;}
 else{
-w8(a+176,Fc+1);
-Gc=r8(a+88);
-if(r8(a+112)>Gc)Hc=Gc;
+w8(a+176,Jc+1);
+Kc=r8(a+88);
+if(r8(a+112)>Kc)Lc=Kc;
 else{
-Ic=make_ready_9a1(a+80);
-if(!(Ic&1)){
-Dc=0;
-Ec=0;
+Mc=make_ready_9a1(a+80);
+if(!(Mc&1)){
+Hc=0;
+Ic=0;
 goto L24;}
-Hc=r8(a+88);}
-Jc=rp(a+80)+Hc*44;
-*Jc=6;
-Jc[1]=0;
-x2(Jc+2,0);
-memcpy(Jc+4,g,40);
-w8(a+88,Hc+1);
-Dc=3;
-Ec=1;}
-L24:*B=Ec;
-B[1]=Dc;
-B[2]=Ec;
-B[3]=0;
+Lc=r8(a+88);}
+Nc=rp(a+80)+Lc*44;
+*Nc=6;
+Nc[1]=0;
+x2(Nc+2,0);
+memcpy(Nc+4,g,40);
+w8(a+88,Lc+1);
+Hc=3;
+Ic=1;}
+L24:*C=Ic;
+C[1]=Hc;
+C[2]=Ic;
+C[3]=0;
 goto L23;}}
 components_at_af8(f,a,b,c);
-*B=*f;
-B[1]=f[1];
-B[2]=f[2];
-B[3]=f[3];
+*C=*f;
+C[1]=f[1];
+C[2]=f[2];
+C[3]=f[3];
 L23:break;
 case 5:w4(e,0);
-Kc=r8(a+176);
-if(Kc<c){
-if(*(b+Kc)==69){
+Oc=r8(a+176);
+if(Oc<c){
+if(*(b+Oc)==69){
 nest_ended_003(e,a,b,c);
-*B=*e;
-B[1]=e[1];
-B[2]=e[2];
-B[3]=e[3];
+*C=*e;
+C[1]=e[1];
+C[2]=e[2];
+C[3]=e[3];
 goto L25;}}
 if(!(a[136]&1)){
-Lc=r4(a+120);
-Mc=a[139];
-Nc=r8(a+8);
-Oc=r8(a+48);
-if(r8(a+72)>Oc)Pc=Oc;
+Pc=r4(a+120);
+Qc=a[139];
+Rc=r8(a+8);
+Sc=r8(a+48);
+if(r8(a+72)>Sc)Tc=Sc;
 else{
-Qc=make_ready_17a(a+40);
-if(!(Qc&1)){
-w4(B,0);
+Uc=make_ready_17a(a+40);
+if(!(Uc&1)){
+w4(C,0);
 goto L25;}
-Pc=r8(a+48);}
-Rc=rp(a+40)+Pc*12;
-x4(Rc,Lc);
-x4(Rc+4,Nc);
-Rc[8]=0;
-Rc[9]=Mc;
-x2(Rc+10,0);
-w8(a+48,Pc+1);}
+Tc=r8(a+48);}
+Vc=rp(a+40)+Tc*12;
+x4(Vc,Pc);
+x4(Vc+4,Rc);
+Vc[8]=0;
+Vc[9]=Qc;
+x2(Vc+10,0);
+w8(a+48,Tc+1);}
 components_at_af8(e,a,b,c);
-*B=*e;
-B[1]=e[1];
-B[2]=e[2];
-B[3]=e[3];
+*C=*e;
+C[1]=e[1];
+C[2]=e[2];
+C[3]=e[3];
 L25:break;
-case 6:components_at_af8(B,a,b,c);
+case 6:components_at_af8(C,a,b,c);
 break;
 default:NEVER;
 }
-Sc=ha+1;
-if(*B!=1||Sc==ga){
-C=0;
+Wc=ia+1;
+if(*C!=1||Wc==ha){
+D=0;
 goto L1;}
-ha=Sc;
-ia=B[3];
-ja=B[2];
-ka=B[1];
+ia=Wc;
+ja=C[3];
+ka=C[2];
+la=C[1];
 goto L13;}}}
-C=0;}
-L1:return C;
+D=0;}
+L1:return D;
 }
 
 /* cpp_direct::names::are_few_named */
@@ -55826,6 +56165,433 @@ a[3]=q;}
 L1:return;
 }
 
+/* cpp_direct::direct::Direct::element_ended */
+static void element_ended_d46(u8* a,u8* b,u8* c,u64 d,u32 e,u8 f,u8* g,u8 h)
+{
+u8 i[32],j[32],k[16],l[32],n[16],o[32];
+A16 u8 m[4];
+u64 p,q,r,s,x,E,M,U,X,Z,ca,da;
+u16 t,u,v,w,C,D,I,K,L;
+u8 y,z,A,B,F,G,H,J,N,O,P,R,S,T,V,W,Y,ba,ea;
+u8 *Q,*fa;
+u32 aa;
+w4(m,0);
+z16(n);
+z32(o);
+memcpy(l,g,32);
+p=r8(b+88);
+if(p==0)q=0;
+else{
+r=p-1;
+w8(b+88,r);
+q=r;}
+s=r8(b+8);
+memcpy(i,l,32);
+if((e|(u32)s)>65535||(f>7||f!=i[28])){
+t=r2(l);
+u=r2(l+2);
+memcpy(k,l+4,16);
+v=t;
+w=u;
+x=q8(l+20);
+y=l[28];
+z=l[29];
+A=l[30];
+B=l[31];}
+else{
+C=r2(i);
+D=r2(i+2);
+E=q8(i+20);
+F=i[29];
+G=i[30];
+H=i[31];
+memcpy(j+4,l+4,16);
+x8(j+20,E);
+j[28]=f+1;
+j[29]=F;
+j[30]=G;
+j[31]=H;
+w2(j+4+((u64)f<<1),s);
+*(j+20+f)=h;
+if(f==0){
+memcpy(k,j+4,16);
+v=C;
+w=e;
+x=q8(j+20);
+y=j[28];
+z=j[29];
+A=j[30];
+B=j[31];}
+else{
+I=r2(i+4+(i64)((u64)(u8)(f-1)<<1));
+J=(I<65534)&(e==(u16)(0-usub16(65534,I)));
+K=J?C:r2(l);
+L=J?D:r2(l+2);
+memcpy(k,J?j+4:l+4,16);
+v=K;
+w=L;
+x=J?q8(j+20):q8(l+20);
+y=J?j[28]:l[28];
+z=J?j[29]:l[29];
+A=J?j[30]:l[30];
+B=J?j[31]:l[31];}}
+memcpy(n,k,16);
+M=r8(b+176);
+N=M>=d;
+if(N)O=0;
+else{
+P=*(c+M);
+if(P==76)goto L1;
+O=P;}
+Q=c+(i64)M;
+R=usub64(d,M)<2;
+if(!(d<M||R)){
+if(*Q==82){
+S=Q[1];
+if(N|(S==65))goto L2;
+T=S;
+goto L3;}}
+if(N)goto L2;
+switch(*Q){
+case 65:case 70:goto L1;
+case 80:case 82:if(R)goto L2;
+T=Q[1];
+break;
+default:goto L2;
+}
+L3:switch(T){
+case 70:case 65:goto L1;
+default:break;}
+L2:if(O==69){
+if(M==18446744073709551615u){
+x4(a,0);
+goto L4;}
+U=M+1;
+if(U<d){
+if(*(c+U)==69){
+if(q!=0)w8(b+88,q-1);
+w8(b+176,M+2);
+if(f==255){
+x4(a,0);
+goto L4;}
+V=f+1;
+if(V<A){
+x4(a,0);
+goto L4;}
+w2(o,v);
+w2(o+2,w);
+memcpy(o+4,n,16);
+x8(o+20,x);
+o[28]=y;
+o[29]=1;
+o[30]=A;
+o[31]=V-A;
+close_list_0b3(m,b,c,d,o);
+*a=*m;
+a[1]=m[1];
+a[2]=m[2];
+a[3]=m[3];
+goto L4;}}
+*a=1;
+a[1]=3;
+a[2]=0;
+a[3]=0;
+goto L4;}
+if(r8(b+32)-s<2){
+W=make_ready_8e3(b,2,128);
+if(!(W&1)){
+Y=0;
+goto L5;}
+X=r8(b+8);}
+else X=s;
+*(rp(b)+X)=44;
+*(rp(b)+(i64)X+1)=32;
+Z=X+2;
+w8(b+8,Z);
+if(f==255)Y=0;
+else{
+aa=Z;
+ba=f+1;
+ca=r8(b+88);
+if(r8(b+112)>ca)da=ca;
+else{
+ea=make_ready_9a1(b+80);
+if(!(ea&1)){
+Y=0;
+goto L5;}
+da=r8(b+88);}
+fa=rp(b+80)+da*44;
+*fa=28;
+fa[1]=0;
+x2(fa+2,0);
+x4(fa+4,aa);
+fa[8]=ba;
+fa[9]=0;
+x2(fa+10,v);
+x2(fa+12,w);
+memcpy(fa+14,n,16);
+x8(fa+30,x);
+fa[38]=y;
+fa[39]=z;
+fa[40]=A;
+fa[41]=B;
+x2(fa+42,0);
+w8(b+88,da+1);
+Y=1;}
+L5:*a=Y;
+a[1]=0;
+a[2]=0;
+a[3]=0;
+goto L4;
+L1:*a=1;
+a[1]=3;
+a[2]=0;
+a[3]=0;
+L4:return;
+}
+
+/* cpp_direct::known::is_element_at */
+static u8 is_element_at_f4e(u8* a,u64 b,u64 c)
+{
+u8 *d;
+u8 e,f;
+if(c<b){
+d=a+(i64)c;
+switch(*d){
+case 65:case 70:e=1;
+goto L1;
+case 80:case 82:if(usub64(b,c)<2){
+e=0;
+goto L1;}
+f=d[1];
+e=(f==70)|(f==65);
+goto L1;
+default:break;}}
+e=0;
+L1:return e;
+}
+
+/* cpp_direct::direct::Direct::close_list */
+static void close_list_0b3(u8* a,u8* b,u8* c,u64 d,u8* e)
+{
+u8 f[32];
+A16 u8 g[4];
+u64 h,i,k,l,m,y,z,I,J;
+u8 j,p,r,s,u,v,x,A,E,F,H,K,M,N,O;
+u8 *n,*B,*L;
+u32 o,q,w,C,D,G;
+u16 t;
+memcpy(f,e,32);
+w4(g,0);
+h=r8(b+8);
+if(r8(b+32)>h)i=h;
+else{
+j=make_ready_8e3(b,1,16);
+if(!(j&1)){
+x4(a,0);
+goto L1;}
+i=r8(b+8);}
+*(rp(b)+i)=62;
+k=i+1;
+w8(b+8,k);
+memcpy(b+140,f,32);
+l=r8(b+88);
+if(l==0)x4(a,0);
+else{
+m=l-1;
+w8(b+88,m);
+n=rp(b+80)+m*44;
+o=q4(n+4);
+p=n[8];
+q=q4(n+12);
+r=n[16];
+s=n[17];
+t=q2(n+18);
+u=n[21];
+v=n[23];
+switch(*n){
+case 4:w=k;
+x=p&1;
+y=r8(b+48);
+if(r8(b+72)>y)z=y;
+else{
+A=make_ready_17a(b+40);
+if(!(A&1)){
+x4(a,0);
+goto L1;}
+z=r8(b+48);}
+B=rp(b+40)+z*12;
+x4(B,o);
+x4(B+4,w);
+B[8]=0;
+B[9]=x;
+x2(B+10,0);
+w8(b+48,z+1);
+*g=1;
+g[1]=2;
+g[2]=0;
+g[3]=x;
+break;
+case 5:C=q4(n+8);
+x4(b+120,o);
+x4(b+124,C);
+x4(b+128,q);
+b[132]=r;
+b[133]=s;
+x2(b+134,t);
+b[136]=0;
+b[137]=u&1;
+b[138]=1;
+b[139]=v&1;
+*g=1;
+g[1]=5;
+g[2]=0;
+g[3]=0;
+break;
+case 6:D=q3(n+9);
+E=n[20];
+F=n[22];
+G=k;
+H=v&1;
+I=r8(b+48);
+if(r8(b+72)>I)J=I;
+else{
+K=make_ready_17a(b+40);
+if(!(K&1)){
+x4(a,0);
+goto L1;}
+J=r8(b+48);}
+L=rp(b+40)+J*12;
+x4(L,o);
+x4(L+4,G);
+L[8]=0;
+L[9]=H;
+x2(L+10,0);
+w8(b+48,J+1);
+w4(b+120,o);
+b[124]=p;
+x3(b+125,D);
+w4(b+128,q);
+b[132]=r;
+b[133]=s;
+w2(b+134,t);
+b[136]=E;
+b[137]=u;
+b[138]=F;
+b[139]=v;
+*g=1;
+g[1]=6;
+g[2]=0;
+g[3]=0;
+break;
+case 7:name_ended_fde(g,b,c,d,0,1,f,o);
+break;
+case 8:level_ended_5bf(g,b,c,d,n[1]&1);
+break;
+case 0:case 1:case 2:case 3:case 9:case 10:case 11:case 12:case 13:case 14:case 15:case 16:case 17:case 18:case 19:case 20:case 21:case 22:case 23:case 24:case 25:case 26:case 27:case 28:case 29:*g=0;
+break;
+default:NEVER;
+}
+M=g[1];
+N=g[2];
+O=g[3];
+*a=*g;
+a[1]=M;
+a[2]=N;
+a[3]=O;}
+L1:return;
+}
+
+/* cpp_direct::direct::Direct::level_ended */
+static void level_ended_5bf(u8* a,u8* b,u8* c,u64 d,u8 e)
+{
+A16 u8 f[24];
+u64 g,h,j,k,l,n,p,q,r,s,t,u,x,D,G;
+u8 i,m,o,v,y,E,F;
+u8 *w,*C;
+s_p_64 z,A,B;
+g=r8(b+176);
+if(g<d){
+if(*(c+g)==69){
+w8(b+176,g+1);
+h=r8(b+8);
+if(r8(b+32)-h<2){
+i=make_ready_8e3(b,2,128);
+if(!(i&1)){
+x4(a,0);
+goto L1;}
+j=r8(b+8);}
+else j=h;
+*(rp(b)+j)=58;
+*(rp(b)+(i64)j+1)=58;
+k=j+2;
+w8(b+8,k);
+l=r8(b+176);
+z24(f);
+if(l<d){
+m=*(c+l);
+if((u8)(m-58)>=247){
+n=l+1;
+if(n<d){
+o=*(c+n)-48;
+if(o<10){
+p=l+2;
+if(p<d){
+if((u8)(*(c+p)-48)<10){
+long_name_at_8ad(f,c,d,l);
+if(*f!=1)goto L2;
+q=r8(f+16);
+r=r8(f+8);
+goto L3;}}
+s=(u64)o+(u8)((u8)(m*10)+32);
+if(d-p<s)goto L4;
+if((u8)(*(c+(i64)p)-48)<10)goto L4;
+t=p;
+u=s+p;
+goto L5;}}
+v=m-48;
+if(d-n<v)goto L4;
+if((u8)(*(c+(i64)n)-48)<10)goto L4;
+t=n;
+u=n+v;
+L5:q=u;
+r=t;
+L3:w8(b+176,q);
+w=c+(i64)r;
+x=q-r;
+if(q!=r){
+if(!(x<10||*w!=95)){
+y=parts_equal_58b((u8*)t_35ad,10,w,10);
+if(y){
+z=(s_p_64){(u8*)t_62ff,21};
+goto L6;}}}
+A=(s_p_64){0};A.f0=w;
+B=A;B.f1=x;
+z=B;
+L6:C=z.f0;
+D=z.f1;
+if(r8(b+32)-k<D){
+E=make_ready_8e3(b,D,128);
+if(!(E&1))goto L2;}
+F=extend_from_slice_169(b,C,D);
+if(F&1)goto L2;
+G=r8(b+176);
+if(G<d){
+if(*(c+G)==69){
+w8(b+176,G+1);
+*a=1;
+a[1]=2;
+a[2]=0;
+a[3]=e;
+goto L1;}}
+x4(a,0);
+goto L1;}}
+L4:L2:x4(a,0);
+goto L1;}}
+x4(a,0);
+L1:return;
+}
+
 /* cpp_direct::direct::Direct::parameter_at */
 static void parameter_at_c04(u8* a,u8* b,u8* c,u64 d,u8 e,u8 f)
 {
@@ -57108,27 +57874,6 @@ a[3]=g[3];}}
 L1:return;
 }
 
-/* cpp_direct::known::is_element_at */
-static u8 is_element_at_f4e(u8* a,u64 b,u64 c)
-{
-u8 *d;
-u8 e,f;
-if(c<b){
-d=a+(i64)c;
-switch(*d){
-case 65:case 70:e=1;
-goto L1;
-case 80:case 82:if(usub64(b,c)<2){
-e=0;
-goto L1;}
-f=d[1];
-e=(f==70)|(f==65);
-goto L1;
-default:break;}}
-e=0;
-L1:return e;
-}
-
 /* cpp_direct::direct::Direct::next_pack */
 static void next_pack_bbb(u8* a,u8* b,u8* c,u64 d,u8 e,u8* f)
 {
@@ -57380,227 +58125,6 @@ a[3]=e[3];
 goto L4;}
 L1:x4(a,0);}
 L4:return;
-}
-
-/* cpp_direct::direct::Direct::close_list */
-static void close_list_0b3(u8* a,u8* b,u8* c,u64 d,u8* e)
-{
-u8 f[32];
-A16 u8 g[4];
-u64 h,i,k,l,m,y,z,I,J;
-u8 j,p,r,s,u,v,x,A,E,F,H,K,M,N,O;
-u8 *n,*B,*L;
-u32 o,q,w,C,D,G;
-u16 t;
-memcpy(f,e,32);
-w4(g,0);
-h=r8(b+8);
-if(r8(b+32)>h)i=h;
-else{
-j=make_ready_8e3(b,1,16);
-if(!(j&1)){
-x4(a,0);
-goto L1;}
-i=r8(b+8);}
-*(rp(b)+i)=62;
-k=i+1;
-w8(b+8,k);
-memcpy(b+140,f,32);
-l=r8(b+88);
-if(l==0)x4(a,0);
-else{
-m=l-1;
-w8(b+88,m);
-n=rp(b+80)+m*44;
-o=q4(n+4);
-p=n[8];
-q=q4(n+12);
-r=n[16];
-s=n[17];
-t=q2(n+18);
-u=n[21];
-v=n[23];
-switch(*n){
-case 4:w=k;
-x=p&1;
-y=r8(b+48);
-if(r8(b+72)>y)z=y;
-else{
-A=make_ready_17a(b+40);
-if(!(A&1)){
-x4(a,0);
-goto L1;}
-z=r8(b+48);}
-B=rp(b+40)+z*12;
-x4(B,o);
-x4(B+4,w);
-B[8]=0;
-B[9]=x;
-x2(B+10,0);
-w8(b+48,z+1);
-*g=1;
-g[1]=2;
-g[2]=0;
-g[3]=x;
-break;
-case 5:C=q4(n+8);
-x4(b+120,o);
-x4(b+124,C);
-x4(b+128,q);
-b[132]=r;
-b[133]=s;
-x2(b+134,t);
-b[136]=0;
-b[137]=u&1;
-b[138]=1;
-b[139]=v&1;
-*g=1;
-g[1]=5;
-g[2]=0;
-g[3]=0;
-break;
-case 6:D=q3(n+9);
-E=n[20];
-F=n[22];
-G=k;
-H=v&1;
-I=r8(b+48);
-if(r8(b+72)>I)J=I;
-else{
-K=make_ready_17a(b+40);
-if(!(K&1)){
-x4(a,0);
-goto L1;}
-J=r8(b+48);}
-L=rp(b+40)+J*12;
-x4(L,o);
-x4(L+4,G);
-L[8]=0;
-L[9]=H;
-x2(L+10,0);
-w8(b+48,J+1);
-w4(b+120,o);
-b[124]=p;
-x3(b+125,D);
-w4(b+128,q);
-b[132]=r;
-b[133]=s;
-w2(b+134,t);
-b[136]=E;
-b[137]=u;
-b[138]=F;
-b[139]=v;
-*g=1;
-g[1]=6;
-g[2]=0;
-g[3]=0;
-break;
-case 7:name_ended_fde(g,b,c,d,0,1,f,o);
-break;
-case 8:level_ended_5bf(g,b,c,d,n[1]&1);
-break;
-case 0:case 1:case 2:case 3:case 9:case 10:case 11:case 12:case 13:case 14:case 15:case 16:case 17:case 18:case 19:case 20:case 21:case 22:case 23:case 24:case 25:case 26:case 27:case 28:case 29:*g=0;
-break;
-default:NEVER;
-}
-M=g[1];
-N=g[2];
-O=g[3];
-*a=*g;
-a[1]=M;
-a[2]=N;
-a[3]=O;}
-L1:return;
-}
-
-/* cpp_direct::direct::Direct::level_ended */
-static void level_ended_5bf(u8* a,u8* b,u8* c,u64 d,u8 e)
-{
-A16 u8 f[24];
-u64 g,h,j,k,l,n,p,q,r,s,t,u,x,D,G;
-u8 i,m,o,v,y,E,F;
-u8 *w,*C;
-s_p_64 z,A,B;
-g=r8(b+176);
-if(g<d){
-if(*(c+g)==69){
-w8(b+176,g+1);
-h=r8(b+8);
-if(r8(b+32)-h<2){
-i=make_ready_8e3(b,2,128);
-if(!(i&1)){
-x4(a,0);
-goto L1;}
-j=r8(b+8);}
-else j=h;
-*(rp(b)+j)=58;
-*(rp(b)+(i64)j+1)=58;
-k=j+2;
-w8(b+8,k);
-l=r8(b+176);
-z24(f);
-if(l<d){
-m=*(c+l);
-if((u8)(m-58)>=247){
-n=l+1;
-if(n<d){
-o=*(c+n)-48;
-if(o<10){
-p=l+2;
-if(p<d){
-if((u8)(*(c+p)-48)<10){
-long_name_at_8ad(f,c,d,l);
-if(*f!=1)goto L2;
-q=r8(f+16);
-r=r8(f+8);
-goto L3;}}
-s=(u64)o+(u8)((u8)(m*10)+32);
-if(d-p<s)goto L4;
-if((u8)(*(c+(i64)p)-48)<10)goto L4;
-t=p;
-u=s+p;
-goto L5;}}
-v=m-48;
-if(d-n<v)goto L4;
-if((u8)(*(c+(i64)n)-48)<10)goto L4;
-t=n;
-u=n+v;
-L5:q=u;
-r=t;
-L3:w8(b+176,q);
-w=c+(i64)r;
-x=q-r;
-if(q!=r){
-if(!(x<10||*w!=95)){
-y=parts_equal_58b((u8*)t_35ad,10,w,10);
-if(y){
-z=(s_p_64){(u8*)t_62ff,21};
-goto L6;}}}
-A=(s_p_64){0};A.f0=w;
-B=A;B.f1=x;
-z=B;
-L6:C=z.f0;
-D=z.f1;
-if(r8(b+32)-k<D){
-E=make_ready_8e3(b,D,128);
-if(!(E&1))goto L2;}
-F=extend_from_slice_169(b,C,D);
-if(F&1)goto L2;
-G=r8(b+176);
-if(G<d){
-if(*(c+G)==69){
-w8(b+176,G+1);
-*a=1;
-a[1]=2;
-a[2]=0;
-a[3]=e;
-goto L1;}}
-x4(a,0);
-goto L1;}}
-L4:L2:x4(a,0);
-goto L1;}}
-x4(a,0);
-L1:return;
 }
 
 /* cpp_direct::direct::Direct::next_literal */
@@ -58007,191 +58531,6 @@ default:y=0;
 break;}}
 else y=0;
 return y;
-}
-
-/* cpp_direct::direct::Direct::element_ended */
-static void element_ended_d46(u8* a,u8* b,u8* c,u64 d,u32 e,u8 f,u8* g,u8 h)
-{
-u8 i[32],j[32],k[16],l[32],n[16],o[32];
-A16 u8 m[4];
-u64 p,q,r,s,x,E,M,U,X,Z,ca,da;
-u16 t,u,v,w,C,D,I,K,L;
-u8 y,z,A,B,F,G,H,J,N,O,P,R,S,T,V,W,Y,ba,ea;
-u8 *Q,*fa;
-u32 aa;
-w4(m,0);
-z16(n);
-z32(o);
-memcpy(l,g,32);
-p=r8(b+88);
-if(p==0)q=0;
-else{
-r=p-1;
-w8(b+88,r);
-q=r;}
-s=r8(b+8);
-memcpy(i,l,32);
-if((e|(u32)s)>65535||(f>7||f!=i[28])){
-t=r2(l);
-u=r2(l+2);
-memcpy(k,l+4,16);
-v=t;
-w=u;
-x=q8(l+20);
-y=l[28];
-z=l[29];
-A=l[30];
-B=l[31];}
-else{
-C=r2(i);
-D=r2(i+2);
-E=q8(i+20);
-F=i[29];
-G=i[30];
-H=i[31];
-memcpy(j+4,l+4,16);
-x8(j+20,E);
-j[28]=f+1;
-j[29]=F;
-j[30]=G;
-j[31]=H;
-w2(j+4+((u64)f<<1),s);
-*(j+20+f)=h;
-if(f==0){
-memcpy(k,j+4,16);
-v=C;
-w=e;
-x=q8(j+20);
-y=j[28];
-z=j[29];
-A=j[30];
-B=j[31];}
-else{
-I=r2(i+4+(i64)((u64)(u8)(f-1)<<1));
-J=(I<65534)&(e==(u16)(0-usub16(65534,I)));
-K=J?C:r2(l);
-L=J?D:r2(l+2);
-memcpy(k,J?j+4:l+4,16);
-v=K;
-w=L;
-x=J?q8(j+20):q8(l+20);
-y=J?j[28]:l[28];
-z=J?j[29]:l[29];
-A=J?j[30]:l[30];
-B=J?j[31]:l[31];}}
-memcpy(n,k,16);
-M=r8(b+176);
-N=M>=d;
-if(N)O=0;
-else{
-P=*(c+M);
-if(P==76)goto L1;
-O=P;}
-Q=c+(i64)M;
-R=usub64(d,M)<2;
-if(!(d<M||R)){
-if(*Q==82){
-S=Q[1];
-if(N|(S==65))goto L2;
-T=S;
-goto L3;}}
-if(N)goto L2;
-switch(*Q){
-case 65:case 70:goto L1;
-case 80:case 82:if(R)goto L2;
-T=Q[1];
-break;
-default:goto L2;
-}
-L3:switch(T){
-case 70:case 65:goto L1;
-default:break;}
-L2:if(O==69){
-if(M==18446744073709551615u){
-x4(a,0);
-goto L4;}
-U=M+1;
-if(U<d){
-if(*(c+U)==69){
-if(q!=0)w8(b+88,q-1);
-w8(b+176,M+2);
-if(f==255){
-x4(a,0);
-goto L4;}
-V=f+1;
-if(V<A){
-x4(a,0);
-goto L4;}
-w2(o,v);
-w2(o+2,w);
-memcpy(o+4,n,16);
-x8(o+20,x);
-o[28]=y;
-o[29]=1;
-o[30]=A;
-o[31]=V-A;
-close_list_0b3(m,b,c,d,o);
-*a=*m;
-a[1]=m[1];
-a[2]=m[2];
-a[3]=m[3];
-goto L4;}}
-*a=1;
-a[1]=3;
-a[2]=0;
-a[3]=0;
-goto L4;}
-if(r8(b+32)-s<2){
-W=make_ready_8e3(b,2,128);
-if(!(W&1)){
-Y=0;
-goto L5;}
-X=r8(b+8);}
-else X=s;
-*(rp(b)+X)=44;
-*(rp(b)+(i64)X+1)=32;
-Z=X+2;
-w8(b+8,Z);
-if(f==255)Y=0;
-else{
-aa=Z;
-ba=f+1;
-ca=r8(b+88);
-if(r8(b+112)>ca)da=ca;
-else{
-ea=make_ready_9a1(b+80);
-if(!(ea&1)){
-Y=0;
-goto L5;}
-da=r8(b+88);}
-fa=rp(b+80)+da*44;
-*fa=28;
-fa[1]=0;
-x2(fa+2,0);
-x4(fa+4,aa);
-fa[8]=ba;
-fa[9]=0;
-x2(fa+10,v);
-x2(fa+12,w);
-memcpy(fa+14,n,16);
-x8(fa+30,x);
-fa[38]=y;
-fa[39]=z;
-fa[40]=A;
-fa[41]=B;
-x2(fa+42,0);
-w8(b+88,da+1);
-Y=1;}
-L5:*a=Y;
-a[1]=0;
-a[2]=0;
-a[3]=0;
-goto L4;
-L1:*a=1;
-a[1]=3;
-a[2]=0;
-a[3]=0;
-L4:return;
 }
 
 /* cpp_direct::direct::Direct::empty_pack */
@@ -64835,6 +65174,322 @@ a[3]=p;}
 L1:return;
 }
 
+/* cpp_direct::direct::Direct::element_ended */
+static void element_ended_6b8(u8* a,u8* b,u8* c,u64 d,u32 e,u8 f,u8* g,u8 h)
+{
+u8 i[32],j[32],k[16],l[32],n[16],o[32];
+A16 u8 m[4];
+u64 p,q,r,s,x,E,M,U,X,Z,ca,da;
+u16 t,u,v,w,C,D,I,K,L;
+u8 y,z,A,B,F,G,H,J,N,O,P,R,S,T,V,W,Y,ba,ea;
+u8 *Q,*fa;
+u32 aa;
+w4(m,0);
+z16(n);
+z32(o);
+memcpy(l,g,32);
+p=r8(b+88);
+if(p==0)q=0;
+else{
+r=p-1;
+w8(b+88,r);
+q=r;}
+s=r8(b+8);
+memcpy(i,l,32);
+if((e|(u32)s)>65535||(f>7||f!=i[28])){
+t=r2(l);
+u=r2(l+2);
+memcpy(k,l+4,16);
+v=t;
+w=u;
+x=q8(l+20);
+y=l[28];
+z=l[29];
+A=l[30];
+B=l[31];}
+else{
+C=r2(i);
+D=r2(i+2);
+E=q8(i+20);
+F=i[29];
+G=i[30];
+H=i[31];
+memcpy(j+4,l+4,16);
+x8(j+20,E);
+j[28]=f+1;
+j[29]=F;
+j[30]=G;
+j[31]=H;
+w2(j+4+((u64)f<<1),s);
+*(j+20+f)=h;
+if(f==0){
+memcpy(k,j+4,16);
+v=C;
+w=e;
+x=q8(j+20);
+y=j[28];
+z=j[29];
+A=j[30];
+B=j[31];}
+else{
+I=r2(i+4+(i64)((u64)(u8)(f-1)<<1));
+J=(I<65534)&(e==(u16)(0-usub16(65534,I)));
+K=J?C:r2(l);
+L=J?D:r2(l+2);
+memcpy(k,J?j+4:l+4,16);
+v=K;
+w=L;
+x=J?q8(j+20):q8(l+20);
+y=J?j[28]:l[28];
+z=J?j[29]:l[29];
+A=J?j[30]:l[30];
+B=J?j[31]:l[31];}}
+memcpy(n,k,16);
+M=r8(b+176);
+N=M>=d;
+if(N)O=0;
+else{
+P=*(c+M);
+if(P==76)goto L1;
+O=P;}
+Q=c+(i64)M;
+R=usub64(d,M)<2;
+if(!(d<M||R)){
+if(*Q==82){
+S=Q[1];
+if(N|(S==65))goto L2;
+T=S;
+goto L3;}}
+if(N)goto L2;
+switch(*Q){
+case 65:case 70:goto L1;
+case 80:case 82:if(R)goto L2;
+T=Q[1];
+break;
+default:goto L2;
+}
+L3:switch(T){
+case 70:case 65:goto L1;
+default:break;}
+L2:if(O==69){
+if(M==18446744073709551615u){
+x4(a,0);
+goto L4;}
+U=M+1;
+if(U<d){
+if(*(c+U)==69){
+if(q!=0)w8(b+88,q-1);
+w8(b+176,M+2);
+if(f==255){
+x4(a,0);
+goto L4;}
+V=f+1;
+if(V<A){
+x4(a,0);
+goto L4;}
+w2(o,v);
+w2(o+2,w);
+memcpy(o+4,n,16);
+x8(o+20,x);
+o[28]=y;
+o[29]=1;
+o[30]=A;
+o[31]=V-A;
+close_list_299(m,b,c,d,o);
+*a=*m;
+a[1]=m[1];
+a[2]=m[2];
+a[3]=m[3];
+goto L4;}}
+*a=1;
+a[1]=3;
+a[2]=0;
+a[3]=0;
+goto L4;}
+if(r8(b+32)-s<2){
+W=make_ready_8e3(b,2,128);
+if(!(W&1)){
+Y=0;
+goto L5;}
+X=r8(b+8);}
+else X=s;
+*(rp(b)+X)=44;
+*(rp(b)+(i64)X+1)=32;
+Z=X+2;
+w8(b+8,Z);
+if(f==255)Y=0;
+else{
+aa=Z;
+ba=f+1;
+ca=r8(b+88);
+if(r8(b+112)>ca)da=ca;
+else{
+ea=make_ready_9a1(b+80);
+if(!(ea&1)){
+Y=0;
+goto L5;}
+da=r8(b+88);}
+fa=rp(b+80)+da*44;
+*fa=28;
+fa[1]=0;
+x2(fa+2,0);
+x4(fa+4,aa);
+fa[8]=ba;
+fa[9]=0;
+x2(fa+10,v);
+x2(fa+12,w);
+memcpy(fa+14,n,16);
+x8(fa+30,x);
+fa[38]=y;
+fa[39]=z;
+fa[40]=A;
+fa[41]=B;
+x2(fa+42,0);
+w8(b+88,da+1);
+Y=1;}
+L5:*a=Y;
+a[1]=0;
+a[2]=0;
+a[3]=0;
+goto L4;
+L1:*a=1;
+a[1]=3;
+a[2]=0;
+a[3]=0;
+L4:return;
+}
+
+/* cpp_direct::direct::Direct::close_list */
+static void close_list_299(u8* a,u8* b,u8* c,u64 d,u8* e)
+{
+u8 f[32];
+A16 u8 g[4];
+u64 h,i,k,l,m,y,z,I,J;
+u8 j,p,r,s,u,v,x,A,E,F,H,K,M,N,O;
+u8 *n,*B,*L;
+u32 o,q,w,C,D,G;
+u16 t;
+memcpy(f,e,32);
+w4(g,0);
+h=r8(b+8);
+if(r8(b+32)>h)i=h;
+else{
+j=make_ready_8e3(b,1,16);
+if(!(j&1)){
+x4(a,0);
+goto L1;}
+i=r8(b+8);}
+*(rp(b)+i)=62;
+k=i+1;
+w8(b+8,k);
+memcpy(b+140,f,32);
+l=r8(b+88);
+if(l==0)x4(a,0);
+else{
+m=l-1;
+w8(b+88,m);
+n=rp(b+80)+m*44;
+o=q4(n+4);
+p=n[8];
+q=q4(n+12);
+r=n[16];
+s=n[17];
+t=q2(n+18);
+u=n[21];
+v=n[23];
+switch(*n){
+case 4:w=k;
+x=p&1;
+y=r8(b+48);
+if(r8(b+72)>y)z=y;
+else{
+A=make_ready_17a(b+40);
+if(!(A&1)){
+x4(a,0);
+goto L1;}
+z=r8(b+48);}
+B=rp(b+40)+z*12;
+x4(B,o);
+x4(B+4,w);
+B[8]=0;
+B[9]=x;
+x2(B+10,0);
+w8(b+48,z+1);
+*g=1;
+g[1]=2;
+g[2]=0;
+g[3]=x;
+break;
+case 5:C=q4(n+8);
+x4(b+120,o);
+x4(b+124,C);
+x4(b+128,q);
+b[132]=r;
+b[133]=s;
+x2(b+134,t);
+b[136]=0;
+b[137]=u&1;
+b[138]=1;
+b[139]=v&1;
+*g=1;
+g[1]=5;
+g[2]=0;
+g[3]=0;
+break;
+case 6:D=q3(n+9);
+E=n[20];
+F=n[22];
+G=k;
+H=v&1;
+I=r8(b+48);
+if(r8(b+72)>I)J=I;
+else{
+K=make_ready_17a(b+40);
+if(!(K&1)){
+x4(a,0);
+goto L1;}
+J=r8(b+48);}
+L=rp(b+40)+J*12;
+x4(L,o);
+x4(L+4,G);
+L[8]=0;
+L[9]=H;
+x2(L+10,0);
+w8(b+48,J+1);
+w4(b+120,o);
+b[124]=p;
+x3(b+125,D);
+w4(b+128,q);
+b[132]=r;
+b[133]=s;
+w2(b+134,t);
+b[136]=E;
+b[137]=u;
+b[138]=F;
+b[139]=v;
+*g=1;
+g[1]=6;
+g[2]=0;
+g[3]=0;
+break;
+case 7:name_ended_a18(g,b,c,d,0,1,f,o);
+break;
+case 8:level_ended_5bf(g,b,c,d,n[1]&1);
+break;
+case 0:case 1:case 2:case 3:case 9:case 10:case 11:case 12:case 13:case 14:case 15:case 16:case 17:case 18:case 19:case 20:case 21:case 22:case 23:case 24:case 25:case 26:case 27:case 28:case 29:*g=0;
+break;
+default:NEVER;
+}
+M=g[1];
+N=g[2];
+O=g[3];
+*a=*g;
+a[1]=M;
+a[2]=N;
+a[3]=O;}
+L1:return;
+}
+
 /* cpp_direct::direct::Direct::parameter_at */
 static void parameter_at_3ac(u8* a,u8* b,u8* c,u64 d,u8 e,u8 f)
 {
@@ -65913,322 +66568,6 @@ a[2]=e[2];
 a[3]=e[3];
 goto L4;}
 L1:x4(a,0);}
-L4:return;
-}
-
-/* cpp_direct::direct::Direct::close_list */
-static void close_list_299(u8* a,u8* b,u8* c,u64 d,u8* e)
-{
-u8 f[32];
-A16 u8 g[4];
-u64 h,i,k,l,m,y,z,I,J;
-u8 j,p,r,s,u,v,x,A,E,F,H,K,M,N,O;
-u8 *n,*B,*L;
-u32 o,q,w,C,D,G;
-u16 t;
-memcpy(f,e,32);
-w4(g,0);
-h=r8(b+8);
-if(r8(b+32)>h)i=h;
-else{
-j=make_ready_8e3(b,1,16);
-if(!(j&1)){
-x4(a,0);
-goto L1;}
-i=r8(b+8);}
-*(rp(b)+i)=62;
-k=i+1;
-w8(b+8,k);
-memcpy(b+140,f,32);
-l=r8(b+88);
-if(l==0)x4(a,0);
-else{
-m=l-1;
-w8(b+88,m);
-n=rp(b+80)+m*44;
-o=q4(n+4);
-p=n[8];
-q=q4(n+12);
-r=n[16];
-s=n[17];
-t=q2(n+18);
-u=n[21];
-v=n[23];
-switch(*n){
-case 4:w=k;
-x=p&1;
-y=r8(b+48);
-if(r8(b+72)>y)z=y;
-else{
-A=make_ready_17a(b+40);
-if(!(A&1)){
-x4(a,0);
-goto L1;}
-z=r8(b+48);}
-B=rp(b+40)+z*12;
-x4(B,o);
-x4(B+4,w);
-B[8]=0;
-B[9]=x;
-x2(B+10,0);
-w8(b+48,z+1);
-*g=1;
-g[1]=2;
-g[2]=0;
-g[3]=x;
-break;
-case 5:C=q4(n+8);
-x4(b+120,o);
-x4(b+124,C);
-x4(b+128,q);
-b[132]=r;
-b[133]=s;
-x2(b+134,t);
-b[136]=0;
-b[137]=u&1;
-b[138]=1;
-b[139]=v&1;
-*g=1;
-g[1]=5;
-g[2]=0;
-g[3]=0;
-break;
-case 6:D=q3(n+9);
-E=n[20];
-F=n[22];
-G=k;
-H=v&1;
-I=r8(b+48);
-if(r8(b+72)>I)J=I;
-else{
-K=make_ready_17a(b+40);
-if(!(K&1)){
-x4(a,0);
-goto L1;}
-J=r8(b+48);}
-L=rp(b+40)+J*12;
-x4(L,o);
-x4(L+4,G);
-L[8]=0;
-L[9]=H;
-x2(L+10,0);
-w8(b+48,J+1);
-w4(b+120,o);
-b[124]=p;
-x3(b+125,D);
-w4(b+128,q);
-b[132]=r;
-b[133]=s;
-w2(b+134,t);
-b[136]=E;
-b[137]=u;
-b[138]=F;
-b[139]=v;
-*g=1;
-g[1]=6;
-g[2]=0;
-g[3]=0;
-break;
-case 7:name_ended_a18(g,b,c,d,0,1,f,o);
-break;
-case 8:level_ended_5bf(g,b,c,d,n[1]&1);
-break;
-case 0:case 1:case 2:case 3:case 9:case 10:case 11:case 12:case 13:case 14:case 15:case 16:case 17:case 18:case 19:case 20:case 21:case 22:case 23:case 24:case 25:case 26:case 27:case 28:case 29:*g=0;
-break;
-default:NEVER;
-}
-M=g[1];
-N=g[2];
-O=g[3];
-*a=*g;
-a[1]=M;
-a[2]=N;
-a[3]=O;}
-L1:return;
-}
-
-/* cpp_direct::direct::Direct::element_ended */
-static void element_ended_6b8(u8* a,u8* b,u8* c,u64 d,u32 e,u8 f,u8* g,u8 h)
-{
-u8 i[32],j[32],k[16],l[32],n[16],o[32];
-A16 u8 m[4];
-u64 p,q,r,s,x,E,M,U,X,Z,ca,da;
-u16 t,u,v,w,C,D,I,K,L;
-u8 y,z,A,B,F,G,H,J,N,O,P,R,S,T,V,W,Y,ba,ea;
-u8 *Q,*fa;
-u32 aa;
-w4(m,0);
-z16(n);
-z32(o);
-memcpy(l,g,32);
-p=r8(b+88);
-if(p==0)q=0;
-else{
-r=p-1;
-w8(b+88,r);
-q=r;}
-s=r8(b+8);
-memcpy(i,l,32);
-if((e|(u32)s)>65535||(f>7||f!=i[28])){
-t=r2(l);
-u=r2(l+2);
-memcpy(k,l+4,16);
-v=t;
-w=u;
-x=q8(l+20);
-y=l[28];
-z=l[29];
-A=l[30];
-B=l[31];}
-else{
-C=r2(i);
-D=r2(i+2);
-E=q8(i+20);
-F=i[29];
-G=i[30];
-H=i[31];
-memcpy(j+4,l+4,16);
-x8(j+20,E);
-j[28]=f+1;
-j[29]=F;
-j[30]=G;
-j[31]=H;
-w2(j+4+((u64)f<<1),s);
-*(j+20+f)=h;
-if(f==0){
-memcpy(k,j+4,16);
-v=C;
-w=e;
-x=q8(j+20);
-y=j[28];
-z=j[29];
-A=j[30];
-B=j[31];}
-else{
-I=r2(i+4+(i64)((u64)(u8)(f-1)<<1));
-J=(I<65534)&(e==(u16)(0-usub16(65534,I)));
-K=J?C:r2(l);
-L=J?D:r2(l+2);
-memcpy(k,J?j+4:l+4,16);
-v=K;
-w=L;
-x=J?q8(j+20):q8(l+20);
-y=J?j[28]:l[28];
-z=J?j[29]:l[29];
-A=J?j[30]:l[30];
-B=J?j[31]:l[31];}}
-memcpy(n,k,16);
-M=r8(b+176);
-N=M>=d;
-if(N)O=0;
-else{
-P=*(c+M);
-if(P==76)goto L1;
-O=P;}
-Q=c+(i64)M;
-R=usub64(d,M)<2;
-if(!(d<M||R)){
-if(*Q==82){
-S=Q[1];
-if(N|(S==65))goto L2;
-T=S;
-goto L3;}}
-if(N)goto L2;
-switch(*Q){
-case 65:case 70:goto L1;
-case 80:case 82:if(R)goto L2;
-T=Q[1];
-break;
-default:goto L2;
-}
-L3:switch(T){
-case 70:case 65:goto L1;
-default:break;}
-L2:if(O==69){
-if(M==18446744073709551615u){
-x4(a,0);
-goto L4;}
-U=M+1;
-if(U<d){
-if(*(c+U)==69){
-if(q!=0)w8(b+88,q-1);
-w8(b+176,M+2);
-if(f==255){
-x4(a,0);
-goto L4;}
-V=f+1;
-if(V<A){
-x4(a,0);
-goto L4;}
-w2(o,v);
-w2(o+2,w);
-memcpy(o+4,n,16);
-x8(o+20,x);
-o[28]=y;
-o[29]=1;
-o[30]=A;
-o[31]=V-A;
-close_list_299(m,b,c,d,o);
-*a=*m;
-a[1]=m[1];
-a[2]=m[2];
-a[3]=m[3];
-goto L4;}}
-*a=1;
-a[1]=3;
-a[2]=0;
-a[3]=0;
-goto L4;}
-if(r8(b+32)-s<2){
-W=make_ready_8e3(b,2,128);
-if(!(W&1)){
-Y=0;
-goto L5;}
-X=r8(b+8);}
-else X=s;
-*(rp(b)+X)=44;
-*(rp(b)+(i64)X+1)=32;
-Z=X+2;
-w8(b+8,Z);
-if(f==255)Y=0;
-else{
-aa=Z;
-ba=f+1;
-ca=r8(b+88);
-if(r8(b+112)>ca)da=ca;
-else{
-ea=make_ready_9a1(b+80);
-if(!(ea&1)){
-Y=0;
-goto L5;}
-da=r8(b+88);}
-fa=rp(b+80)+da*44;
-*fa=28;
-fa[1]=0;
-x2(fa+2,0);
-x4(fa+4,aa);
-fa[8]=ba;
-fa[9]=0;
-x2(fa+10,v);
-x2(fa+12,w);
-memcpy(fa+14,n,16);
-x8(fa+30,x);
-fa[38]=y;
-fa[39]=z;
-fa[40]=A;
-fa[41]=B;
-x2(fa+42,0);
-w8(b+88,da+1);
-Y=1;}
-L5:*a=Y;
-a[1]=0;
-a[2]=0;
-a[3]=0;
-goto L4;
-L1:*a=1;
-a[1]=3;
-a[2]=0;
-a[3]=0;
 L4:return;
 }
 
@@ -70742,6 +71081,322 @@ a[3]=q;}
 L1:return;
 }
 
+/* cpp_direct::direct::Direct::element_ended */
+static void element_ended_c50(u8* a,u8* b,u8* c,u64 d,u32 e,u8 f,u8* g,u8 h)
+{
+u8 i[32],j[32],k[16],l[32],n[16],o[32];
+A16 u8 m[4];
+u64 p,q,r,s,x,E,M,U,X,Z,ca,da;
+u16 t,u,v,w,C,D,I,K,L;
+u8 y,z,A,B,F,G,H,J,N,O,P,R,S,T,V,W,Y,ba,ea;
+u8 *Q,*fa;
+u32 aa;
+w4(m,0);
+z16(n);
+z32(o);
+memcpy(l,g,32);
+p=r8(b+88);
+if(p==0)q=0;
+else{
+r=p-1;
+w8(b+88,r);
+q=r;}
+s=r8(b+8);
+memcpy(i,l,32);
+if((e|(u32)s)>65535||(f>7||f!=i[28])){
+t=r2(l);
+u=r2(l+2);
+memcpy(k,l+4,16);
+v=t;
+w=u;
+x=q8(l+20);
+y=l[28];
+z=l[29];
+A=l[30];
+B=l[31];}
+else{
+C=r2(i);
+D=r2(i+2);
+E=q8(i+20);
+F=i[29];
+G=i[30];
+H=i[31];
+memcpy(j+4,l+4,16);
+x8(j+20,E);
+j[28]=f+1;
+j[29]=F;
+j[30]=G;
+j[31]=H;
+w2(j+4+((u64)f<<1),s);
+*(j+20+f)=h;
+if(f==0){
+memcpy(k,j+4,16);
+v=C;
+w=e;
+x=q8(j+20);
+y=j[28];
+z=j[29];
+A=j[30];
+B=j[31];}
+else{
+I=r2(i+4+(i64)((u64)(u8)(f-1)<<1));
+J=(I<65534)&(e==(u16)(0-usub16(65534,I)));
+K=J?C:r2(l);
+L=J?D:r2(l+2);
+memcpy(k,J?j+4:l+4,16);
+v=K;
+w=L;
+x=J?q8(j+20):q8(l+20);
+y=J?j[28]:l[28];
+z=J?j[29]:l[29];
+A=J?j[30]:l[30];
+B=J?j[31]:l[31];}}
+memcpy(n,k,16);
+M=r8(b+176);
+N=M>=d;
+if(N)O=0;
+else{
+P=*(c+M);
+if(P==76)goto L1;
+O=P;}
+Q=c+(i64)M;
+R=usub64(d,M)<2;
+if(!(d<M||R)){
+if(*Q==82){
+S=Q[1];
+if(N|(S==65))goto L2;
+T=S;
+goto L3;}}
+if(N)goto L2;
+switch(*Q){
+case 65:case 70:goto L1;
+case 80:case 82:if(R)goto L2;
+T=Q[1];
+break;
+default:goto L2;
+}
+L3:switch(T){
+case 70:case 65:goto L1;
+default:break;}
+L2:if(O==69){
+if(M==18446744073709551615u){
+x4(a,0);
+goto L4;}
+U=M+1;
+if(U<d){
+if(*(c+U)==69){
+if(q!=0)w8(b+88,q-1);
+w8(b+176,M+2);
+if(f==255){
+x4(a,0);
+goto L4;}
+V=f+1;
+if(V<A){
+x4(a,0);
+goto L4;}
+w2(o,v);
+w2(o+2,w);
+memcpy(o+4,n,16);
+x8(o+20,x);
+o[28]=y;
+o[29]=1;
+o[30]=A;
+o[31]=V-A;
+close_list_148(m,b,c,d,o);
+*a=*m;
+a[1]=m[1];
+a[2]=m[2];
+a[3]=m[3];
+goto L4;}}
+*a=1;
+a[1]=3;
+a[2]=0;
+a[3]=0;
+goto L4;}
+if(r8(b+32)-s<2){
+W=make_ready_8e3(b,2,128);
+if(!(W&1)){
+Y=0;
+goto L5;}
+X=r8(b+8);}
+else X=s;
+*(rp(b)+X)=44;
+*(rp(b)+(i64)X+1)=32;
+Z=X+2;
+w8(b+8,Z);
+if(f==255)Y=0;
+else{
+aa=Z;
+ba=f+1;
+ca=r8(b+88);
+if(r8(b+112)>ca)da=ca;
+else{
+ea=make_ready_9a1(b+80);
+if(!(ea&1)){
+Y=0;
+goto L5;}
+da=r8(b+88);}
+fa=rp(b+80)+da*44;
+*fa=28;
+fa[1]=0;
+x2(fa+2,0);
+x4(fa+4,aa);
+fa[8]=ba;
+fa[9]=0;
+x2(fa+10,v);
+x2(fa+12,w);
+memcpy(fa+14,n,16);
+x8(fa+30,x);
+fa[38]=y;
+fa[39]=z;
+fa[40]=A;
+fa[41]=B;
+x2(fa+42,0);
+w8(b+88,da+1);
+Y=1;}
+L5:*a=Y;
+a[1]=0;
+a[2]=0;
+a[3]=0;
+goto L4;
+L1:*a=1;
+a[1]=3;
+a[2]=0;
+a[3]=0;
+L4:return;
+}
+
+/* cpp_direct::direct::Direct::close_list */
+static void close_list_148(u8* a,u8* b,u8* c,u64 d,u8* e)
+{
+u8 f[32];
+A16 u8 g[4];
+u64 h,i,k,l,m,y,z,I,J;
+u8 j,p,r,s,u,v,x,A,E,F,H,K,M,N,O;
+u8 *n,*B,*L;
+u32 o,q,w,C,D,G;
+u16 t;
+memcpy(f,e,32);
+w4(g,0);
+h=r8(b+8);
+if(r8(b+32)>h)i=h;
+else{
+j=make_ready_8e3(b,1,16);
+if(!(j&1)){
+x4(a,0);
+goto L1;}
+i=r8(b+8);}
+*(rp(b)+i)=2;
+k=i+1;
+w8(b+8,k);
+memcpy(b+140,f,32);
+l=r8(b+88);
+if(l==0)x4(a,0);
+else{
+m=l-1;
+w8(b+88,m);
+n=rp(b+80)+m*44;
+o=q4(n+4);
+p=n[8];
+q=q4(n+12);
+r=n[16];
+s=n[17];
+t=q2(n+18);
+u=n[21];
+v=n[23];
+switch(*n){
+case 4:w=k;
+x=p&1;
+y=r8(b+48);
+if(r8(b+72)>y)z=y;
+else{
+A=make_ready_17a(b+40);
+if(!(A&1)){
+x4(a,0);
+goto L1;}
+z=r8(b+48);}
+B=rp(b+40)+z*12;
+x4(B,o);
+x4(B+4,w);
+B[8]=0;
+B[9]=x;
+x2(B+10,0);
+w8(b+48,z+1);
+*g=1;
+g[1]=2;
+g[2]=0;
+g[3]=x;
+break;
+case 5:C=q4(n+8);
+x4(b+120,o);
+x4(b+124,C);
+x4(b+128,q);
+b[132]=r;
+b[133]=s;
+x2(b+134,t);
+b[136]=0;
+b[137]=u&1;
+b[138]=1;
+b[139]=v&1;
+*g=1;
+g[1]=5;
+g[2]=0;
+g[3]=0;
+break;
+case 6:D=q3(n+9);
+E=n[20];
+F=n[22];
+G=k;
+H=v&1;
+I=r8(b+48);
+if(r8(b+72)>I)J=I;
+else{
+K=make_ready_17a(b+40);
+if(!(K&1)){
+x4(a,0);
+goto L1;}
+J=r8(b+48);}
+L=rp(b+40)+J*12;
+x4(L,o);
+x4(L+4,G);
+L[8]=0;
+L[9]=H;
+x2(L+10,0);
+w8(b+48,J+1);
+w4(b+120,o);
+b[124]=p;
+x3(b+125,D);
+w4(b+128,q);
+b[132]=r;
+b[133]=s;
+w2(b+134,t);
+b[136]=E;
+b[137]=u;
+b[138]=F;
+b[139]=v;
+*g=1;
+g[1]=6;
+g[2]=0;
+g[3]=0;
+break;
+case 7:name_ended_fde(g,b,c,d,0,1,f,o);
+break;
+case 8:level_ended_5bf(g,b,c,d,n[1]&1);
+break;
+case 0:case 1:case 2:case 3:case 9:case 10:case 11:case 12:case 13:case 14:case 15:case 16:case 17:case 18:case 19:case 20:case 21:case 22:case 23:case 24:case 25:case 26:case 27:case 28:case 29:*g=0;
+break;
+default:NEVER;
+}
+M=g[1];
+N=g[2];
+O=g[3];
+*a=*g;
+a[1]=M;
+a[2]=N;
+a[3]=O;}
+L1:return;
+}
+
 /* cpp_direct::direct::Direct::parameter_at */
 static void parameter_at_d02(u8* a,u8* b,u8* c,u64 d,u8 e,u8 f)
 {
@@ -71541,322 +72196,6 @@ a[2]=e[2];
 a[3]=e[3];
 goto L4;}
 L1:x4(a,0);}
-L4:return;
-}
-
-/* cpp_direct::direct::Direct::close_list */
-static void close_list_148(u8* a,u8* b,u8* c,u64 d,u8* e)
-{
-u8 f[32];
-A16 u8 g[4];
-u64 h,i,k,l,m,y,z,I,J;
-u8 j,p,r,s,u,v,x,A,E,F,H,K,M,N,O;
-u8 *n,*B,*L;
-u32 o,q,w,C,D,G;
-u16 t;
-memcpy(f,e,32);
-w4(g,0);
-h=r8(b+8);
-if(r8(b+32)>h)i=h;
-else{
-j=make_ready_8e3(b,1,16);
-if(!(j&1)){
-x4(a,0);
-goto L1;}
-i=r8(b+8);}
-*(rp(b)+i)=2;
-k=i+1;
-w8(b+8,k);
-memcpy(b+140,f,32);
-l=r8(b+88);
-if(l==0)x4(a,0);
-else{
-m=l-1;
-w8(b+88,m);
-n=rp(b+80)+m*44;
-o=q4(n+4);
-p=n[8];
-q=q4(n+12);
-r=n[16];
-s=n[17];
-t=q2(n+18);
-u=n[21];
-v=n[23];
-switch(*n){
-case 4:w=k;
-x=p&1;
-y=r8(b+48);
-if(r8(b+72)>y)z=y;
-else{
-A=make_ready_17a(b+40);
-if(!(A&1)){
-x4(a,0);
-goto L1;}
-z=r8(b+48);}
-B=rp(b+40)+z*12;
-x4(B,o);
-x4(B+4,w);
-B[8]=0;
-B[9]=x;
-x2(B+10,0);
-w8(b+48,z+1);
-*g=1;
-g[1]=2;
-g[2]=0;
-g[3]=x;
-break;
-case 5:C=q4(n+8);
-x4(b+120,o);
-x4(b+124,C);
-x4(b+128,q);
-b[132]=r;
-b[133]=s;
-x2(b+134,t);
-b[136]=0;
-b[137]=u&1;
-b[138]=1;
-b[139]=v&1;
-*g=1;
-g[1]=5;
-g[2]=0;
-g[3]=0;
-break;
-case 6:D=q3(n+9);
-E=n[20];
-F=n[22];
-G=k;
-H=v&1;
-I=r8(b+48);
-if(r8(b+72)>I)J=I;
-else{
-K=make_ready_17a(b+40);
-if(!(K&1)){
-x4(a,0);
-goto L1;}
-J=r8(b+48);}
-L=rp(b+40)+J*12;
-x4(L,o);
-x4(L+4,G);
-L[8]=0;
-L[9]=H;
-x2(L+10,0);
-w8(b+48,J+1);
-w4(b+120,o);
-b[124]=p;
-x3(b+125,D);
-w4(b+128,q);
-b[132]=r;
-b[133]=s;
-w2(b+134,t);
-b[136]=E;
-b[137]=u;
-b[138]=F;
-b[139]=v;
-*g=1;
-g[1]=6;
-g[2]=0;
-g[3]=0;
-break;
-case 7:name_ended_fde(g,b,c,d,0,1,f,o);
-break;
-case 8:level_ended_5bf(g,b,c,d,n[1]&1);
-break;
-case 0:case 1:case 2:case 3:case 9:case 10:case 11:case 12:case 13:case 14:case 15:case 16:case 17:case 18:case 19:case 20:case 21:case 22:case 23:case 24:case 25:case 26:case 27:case 28:case 29:*g=0;
-break;
-default:NEVER;
-}
-M=g[1];
-N=g[2];
-O=g[3];
-*a=*g;
-a[1]=M;
-a[2]=N;
-a[3]=O;}
-L1:return;
-}
-
-/* cpp_direct::direct::Direct::element_ended */
-static void element_ended_c50(u8* a,u8* b,u8* c,u64 d,u32 e,u8 f,u8* g,u8 h)
-{
-u8 i[32],j[32],k[16],l[32],n[16],o[32];
-A16 u8 m[4];
-u64 p,q,r,s,x,E,M,U,X,Z,ca,da;
-u16 t,u,v,w,C,D,I,K,L;
-u8 y,z,A,B,F,G,H,J,N,O,P,R,S,T,V,W,Y,ba,ea;
-u8 *Q,*fa;
-u32 aa;
-w4(m,0);
-z16(n);
-z32(o);
-memcpy(l,g,32);
-p=r8(b+88);
-if(p==0)q=0;
-else{
-r=p-1;
-w8(b+88,r);
-q=r;}
-s=r8(b+8);
-memcpy(i,l,32);
-if((e|(u32)s)>65535||(f>7||f!=i[28])){
-t=r2(l);
-u=r2(l+2);
-memcpy(k,l+4,16);
-v=t;
-w=u;
-x=q8(l+20);
-y=l[28];
-z=l[29];
-A=l[30];
-B=l[31];}
-else{
-C=r2(i);
-D=r2(i+2);
-E=q8(i+20);
-F=i[29];
-G=i[30];
-H=i[31];
-memcpy(j+4,l+4,16);
-x8(j+20,E);
-j[28]=f+1;
-j[29]=F;
-j[30]=G;
-j[31]=H;
-w2(j+4+((u64)f<<1),s);
-*(j+20+f)=h;
-if(f==0){
-memcpy(k,j+4,16);
-v=C;
-w=e;
-x=q8(j+20);
-y=j[28];
-z=j[29];
-A=j[30];
-B=j[31];}
-else{
-I=r2(i+4+(i64)((u64)(u8)(f-1)<<1));
-J=(I<65534)&(e==(u16)(0-usub16(65534,I)));
-K=J?C:r2(l);
-L=J?D:r2(l+2);
-memcpy(k,J?j+4:l+4,16);
-v=K;
-w=L;
-x=J?q8(j+20):q8(l+20);
-y=J?j[28]:l[28];
-z=J?j[29]:l[29];
-A=J?j[30]:l[30];
-B=J?j[31]:l[31];}}
-memcpy(n,k,16);
-M=r8(b+176);
-N=M>=d;
-if(N)O=0;
-else{
-P=*(c+M);
-if(P==76)goto L1;
-O=P;}
-Q=c+(i64)M;
-R=usub64(d,M)<2;
-if(!(d<M||R)){
-if(*Q==82){
-S=Q[1];
-if(N|(S==65))goto L2;
-T=S;
-goto L3;}}
-if(N)goto L2;
-switch(*Q){
-case 65:case 70:goto L1;
-case 80:case 82:if(R)goto L2;
-T=Q[1];
-break;
-default:goto L2;
-}
-L3:switch(T){
-case 70:case 65:goto L1;
-default:break;}
-L2:if(O==69){
-if(M==18446744073709551615u){
-x4(a,0);
-goto L4;}
-U=M+1;
-if(U<d){
-if(*(c+U)==69){
-if(q!=0)w8(b+88,q-1);
-w8(b+176,M+2);
-if(f==255){
-x4(a,0);
-goto L4;}
-V=f+1;
-if(V<A){
-x4(a,0);
-goto L4;}
-w2(o,v);
-w2(o+2,w);
-memcpy(o+4,n,16);
-x8(o+20,x);
-o[28]=y;
-o[29]=1;
-o[30]=A;
-o[31]=V-A;
-close_list_148(m,b,c,d,o);
-*a=*m;
-a[1]=m[1];
-a[2]=m[2];
-a[3]=m[3];
-goto L4;}}
-*a=1;
-a[1]=3;
-a[2]=0;
-a[3]=0;
-goto L4;}
-if(r8(b+32)-s<2){
-W=make_ready_8e3(b,2,128);
-if(!(W&1)){
-Y=0;
-goto L5;}
-X=r8(b+8);}
-else X=s;
-*(rp(b)+X)=44;
-*(rp(b)+(i64)X+1)=32;
-Z=X+2;
-w8(b+8,Z);
-if(f==255)Y=0;
-else{
-aa=Z;
-ba=f+1;
-ca=r8(b+88);
-if(r8(b+112)>ca)da=ca;
-else{
-ea=make_ready_9a1(b+80);
-if(!(ea&1)){
-Y=0;
-goto L5;}
-da=r8(b+88);}
-fa=rp(b+80)+da*44;
-*fa=28;
-fa[1]=0;
-x2(fa+2,0);
-x4(fa+4,aa);
-fa[8]=ba;
-fa[9]=0;
-x2(fa+10,v);
-x2(fa+12,w);
-memcpy(fa+14,n,16);
-x8(fa+30,x);
-fa[38]=y;
-fa[39]=z;
-fa[40]=A;
-fa[41]=B;
-x2(fa+42,0);
-w8(b+88,da+1);
-Y=1;}
-L5:*a=Y;
-a[1]=0;
-a[2]=0;
-a[3]=0;
-goto L4;
-L1:*a=1;
-a[1]=3;
-a[2]=0;
-a[3]=0;
 L4:return;
 }
 
@@ -75263,6 +75602,322 @@ a[3]=p;}
 L1:return;
 }
 
+/* cpp_direct::direct::Direct::element_ended */
+static void element_ended_20b(u8* a,u8* b,u8* c,u64 d,u32 e,u8 f,u8* g,u8 h)
+{
+u8 i[32],j[32],k[16],l[32],n[16],o[32];
+A16 u8 m[4];
+u64 p,q,r,s,x,E,M,U,X,Z,ca,da;
+u16 t,u,v,w,C,D,I,K,L;
+u8 y,z,A,B,F,G,H,J,N,O,P,R,S,T,V,W,Y,ba,ea;
+u8 *Q,*fa;
+u32 aa;
+w4(m,0);
+z16(n);
+z32(o);
+memcpy(l,g,32);
+p=r8(b+88);
+if(p==0)q=0;
+else{
+r=p-1;
+w8(b+88,r);
+q=r;}
+s=r8(b+8);
+memcpy(i,l,32);
+if((e|(u32)s)>65535||(f>7||f!=i[28])){
+t=r2(l);
+u=r2(l+2);
+memcpy(k,l+4,16);
+v=t;
+w=u;
+x=q8(l+20);
+y=l[28];
+z=l[29];
+A=l[30];
+B=l[31];}
+else{
+C=r2(i);
+D=r2(i+2);
+E=q8(i+20);
+F=i[29];
+G=i[30];
+H=i[31];
+memcpy(j+4,l+4,16);
+x8(j+20,E);
+j[28]=f+1;
+j[29]=F;
+j[30]=G;
+j[31]=H;
+w2(j+4+((u64)f<<1),s);
+*(j+20+f)=h;
+if(f==0){
+memcpy(k,j+4,16);
+v=C;
+w=e;
+x=q8(j+20);
+y=j[28];
+z=j[29];
+A=j[30];
+B=j[31];}
+else{
+I=r2(i+4+(i64)((u64)(u8)(f-1)<<1));
+J=(I<65534)&(e==(u16)(0-usub16(65534,I)));
+K=J?C:r2(l);
+L=J?D:r2(l+2);
+memcpy(k,J?j+4:l+4,16);
+v=K;
+w=L;
+x=J?q8(j+20):q8(l+20);
+y=J?j[28]:l[28];
+z=J?j[29]:l[29];
+A=J?j[30]:l[30];
+B=J?j[31]:l[31];}}
+memcpy(n,k,16);
+M=r8(b+176);
+N=M>=d;
+if(N)O=0;
+else{
+P=*(c+M);
+if(P==76)goto L1;
+O=P;}
+Q=c+(i64)M;
+R=usub64(d,M)<2;
+if(!(d<M||R)){
+if(*Q==82){
+S=Q[1];
+if(N|(S==65))goto L2;
+T=S;
+goto L3;}}
+if(N)goto L2;
+switch(*Q){
+case 65:case 70:goto L1;
+case 80:case 82:if(R)goto L2;
+T=Q[1];
+break;
+default:goto L2;
+}
+L3:switch(T){
+case 70:case 65:goto L1;
+default:break;}
+L2:if(O==69){
+if(M==18446744073709551615u){
+x4(a,0);
+goto L4;}
+U=M+1;
+if(U<d){
+if(*(c+U)==69){
+if(q!=0)w8(b+88,q-1);
+w8(b+176,M+2);
+if(f==255){
+x4(a,0);
+goto L4;}
+V=f+1;
+if(V<A){
+x4(a,0);
+goto L4;}
+w2(o,v);
+w2(o+2,w);
+memcpy(o+4,n,16);
+x8(o+20,x);
+o[28]=y;
+o[29]=1;
+o[30]=A;
+o[31]=V-A;
+close_list_3c2(m,b,c,d,o);
+*a=*m;
+a[1]=m[1];
+a[2]=m[2];
+a[3]=m[3];
+goto L4;}}
+*a=1;
+a[1]=3;
+a[2]=0;
+a[3]=0;
+goto L4;}
+if(r8(b+32)-s<2){
+W=make_ready_8e3(b,2,128);
+if(!(W&1)){
+Y=0;
+goto L5;}
+X=r8(b+8);}
+else X=s;
+*(rp(b)+X)=44;
+*(rp(b)+(i64)X+1)=32;
+Z=X+2;
+w8(b+8,Z);
+if(f==255)Y=0;
+else{
+aa=Z;
+ba=f+1;
+ca=r8(b+88);
+if(r8(b+112)>ca)da=ca;
+else{
+ea=make_ready_9a1(b+80);
+if(!(ea&1)){
+Y=0;
+goto L5;}
+da=r8(b+88);}
+fa=rp(b+80)+da*44;
+*fa=28;
+fa[1]=0;
+x2(fa+2,0);
+x4(fa+4,aa);
+fa[8]=ba;
+fa[9]=0;
+x2(fa+10,v);
+x2(fa+12,w);
+memcpy(fa+14,n,16);
+x8(fa+30,x);
+fa[38]=y;
+fa[39]=z;
+fa[40]=A;
+fa[41]=B;
+x2(fa+42,0);
+w8(b+88,da+1);
+Y=1;}
+L5:*a=Y;
+a[1]=0;
+a[2]=0;
+a[3]=0;
+goto L4;
+L1:*a=1;
+a[1]=3;
+a[2]=0;
+a[3]=0;
+L4:return;
+}
+
+/* cpp_direct::direct::Direct::close_list */
+static void close_list_3c2(u8* a,u8* b,u8* c,u64 d,u8* e)
+{
+u8 f[32];
+A16 u8 g[4];
+u64 h,i,k,l,m,y,z,I,J;
+u8 j,p,r,s,u,v,x,A,E,F,H,K,M,N,O;
+u8 *n,*B,*L;
+u32 o,q,w,C,D,G;
+u16 t;
+memcpy(f,e,32);
+w4(g,0);
+h=r8(b+8);
+if(r8(b+32)>h)i=h;
+else{
+j=make_ready_8e3(b,1,16);
+if(!(j&1)){
+x4(a,0);
+goto L1;}
+i=r8(b+8);}
+*(rp(b)+i)=2;
+k=i+1;
+w8(b+8,k);
+memcpy(b+140,f,32);
+l=r8(b+88);
+if(l==0)x4(a,0);
+else{
+m=l-1;
+w8(b+88,m);
+n=rp(b+80)+m*44;
+o=q4(n+4);
+p=n[8];
+q=q4(n+12);
+r=n[16];
+s=n[17];
+t=q2(n+18);
+u=n[21];
+v=n[23];
+switch(*n){
+case 4:w=k;
+x=p&1;
+y=r8(b+48);
+if(r8(b+72)>y)z=y;
+else{
+A=make_ready_17a(b+40);
+if(!(A&1)){
+x4(a,0);
+goto L1;}
+z=r8(b+48);}
+B=rp(b+40)+z*12;
+x4(B,o);
+x4(B+4,w);
+B[8]=0;
+B[9]=x;
+x2(B+10,0);
+w8(b+48,z+1);
+*g=1;
+g[1]=2;
+g[2]=0;
+g[3]=x;
+break;
+case 5:C=q4(n+8);
+x4(b+120,o);
+x4(b+124,C);
+x4(b+128,q);
+b[132]=r;
+b[133]=s;
+x2(b+134,t);
+b[136]=0;
+b[137]=u&1;
+b[138]=1;
+b[139]=v&1;
+*g=1;
+g[1]=5;
+g[2]=0;
+g[3]=0;
+break;
+case 6:D=q3(n+9);
+E=n[20];
+F=n[22];
+G=k;
+H=v&1;
+I=r8(b+48);
+if(r8(b+72)>I)J=I;
+else{
+K=make_ready_17a(b+40);
+if(!(K&1)){
+x4(a,0);
+goto L1;}
+J=r8(b+48);}
+L=rp(b+40)+J*12;
+x4(L,o);
+x4(L+4,G);
+L[8]=0;
+L[9]=H;
+x2(L+10,0);
+w8(b+48,J+1);
+w4(b+120,o);
+b[124]=p;
+x3(b+125,D);
+w4(b+128,q);
+b[132]=r;
+b[133]=s;
+w2(b+134,t);
+b[136]=E;
+b[137]=u;
+b[138]=F;
+b[139]=v;
+*g=1;
+g[1]=6;
+g[2]=0;
+g[3]=0;
+break;
+case 7:name_ended_a18(g,b,c,d,0,1,f,o);
+break;
+case 8:level_ended_5bf(g,b,c,d,n[1]&1);
+break;
+case 0:case 1:case 2:case 3:case 9:case 10:case 11:case 12:case 13:case 14:case 15:case 16:case 17:case 18:case 19:case 20:case 21:case 22:case 23:case 24:case 25:case 26:case 27:case 28:case 29:*g=0;
+break;
+default:NEVER;
+}
+M=g[1];
+N=g[2];
+O=g[3];
+*a=*g;
+a[1]=M;
+a[2]=N;
+a[3]=O;}
+L1:return;
+}
+
 /* cpp_direct::direct::Direct::parameter_at */
 static void parameter_at_257(u8* a,u8* b,u8* c,u64 d,u8 e,u8 f)
 {
@@ -75962,322 +76617,6 @@ a[1]=3;
 a[2]=0;
 a[3]=0;}
 L1:return;
-}
-
-/* cpp_direct::direct::Direct::close_list */
-static void close_list_3c2(u8* a,u8* b,u8* c,u64 d,u8* e)
-{
-u8 f[32];
-A16 u8 g[4];
-u64 h,i,k,l,m,y,z,I,J;
-u8 j,p,r,s,u,v,x,A,E,F,H,K,M,N,O;
-u8 *n,*B,*L;
-u32 o,q,w,C,D,G;
-u16 t;
-memcpy(f,e,32);
-w4(g,0);
-h=r8(b+8);
-if(r8(b+32)>h)i=h;
-else{
-j=make_ready_8e3(b,1,16);
-if(!(j&1)){
-x4(a,0);
-goto L1;}
-i=r8(b+8);}
-*(rp(b)+i)=2;
-k=i+1;
-w8(b+8,k);
-memcpy(b+140,f,32);
-l=r8(b+88);
-if(l==0)x4(a,0);
-else{
-m=l-1;
-w8(b+88,m);
-n=rp(b+80)+m*44;
-o=q4(n+4);
-p=n[8];
-q=q4(n+12);
-r=n[16];
-s=n[17];
-t=q2(n+18);
-u=n[21];
-v=n[23];
-switch(*n){
-case 4:w=k;
-x=p&1;
-y=r8(b+48);
-if(r8(b+72)>y)z=y;
-else{
-A=make_ready_17a(b+40);
-if(!(A&1)){
-x4(a,0);
-goto L1;}
-z=r8(b+48);}
-B=rp(b+40)+z*12;
-x4(B,o);
-x4(B+4,w);
-B[8]=0;
-B[9]=x;
-x2(B+10,0);
-w8(b+48,z+1);
-*g=1;
-g[1]=2;
-g[2]=0;
-g[3]=x;
-break;
-case 5:C=q4(n+8);
-x4(b+120,o);
-x4(b+124,C);
-x4(b+128,q);
-b[132]=r;
-b[133]=s;
-x2(b+134,t);
-b[136]=0;
-b[137]=u&1;
-b[138]=1;
-b[139]=v&1;
-*g=1;
-g[1]=5;
-g[2]=0;
-g[3]=0;
-break;
-case 6:D=q3(n+9);
-E=n[20];
-F=n[22];
-G=k;
-H=v&1;
-I=r8(b+48);
-if(r8(b+72)>I)J=I;
-else{
-K=make_ready_17a(b+40);
-if(!(K&1)){
-x4(a,0);
-goto L1;}
-J=r8(b+48);}
-L=rp(b+40)+J*12;
-x4(L,o);
-x4(L+4,G);
-L[8]=0;
-L[9]=H;
-x2(L+10,0);
-w8(b+48,J+1);
-w4(b+120,o);
-b[124]=p;
-x3(b+125,D);
-w4(b+128,q);
-b[132]=r;
-b[133]=s;
-w2(b+134,t);
-b[136]=E;
-b[137]=u;
-b[138]=F;
-b[139]=v;
-*g=1;
-g[1]=6;
-g[2]=0;
-g[3]=0;
-break;
-case 7:name_ended_a18(g,b,c,d,0,1,f,o);
-break;
-case 8:level_ended_5bf(g,b,c,d,n[1]&1);
-break;
-case 0:case 1:case 2:case 3:case 9:case 10:case 11:case 12:case 13:case 14:case 15:case 16:case 17:case 18:case 19:case 20:case 21:case 22:case 23:case 24:case 25:case 26:case 27:case 28:case 29:*g=0;
-break;
-default:NEVER;
-}
-M=g[1];
-N=g[2];
-O=g[3];
-*a=*g;
-a[1]=M;
-a[2]=N;
-a[3]=O;}
-L1:return;
-}
-
-/* cpp_direct::direct::Direct::element_ended */
-static void element_ended_20b(u8* a,u8* b,u8* c,u64 d,u32 e,u8 f,u8* g,u8 h)
-{
-u8 i[32],j[32],k[16],l[32],n[16],o[32];
-A16 u8 m[4];
-u64 p,q,r,s,x,E,M,U,X,Z,ca,da;
-u16 t,u,v,w,C,D,I,K,L;
-u8 y,z,A,B,F,G,H,J,N,O,P,R,S,T,V,W,Y,ba,ea;
-u8 *Q,*fa;
-u32 aa;
-w4(m,0);
-z16(n);
-z32(o);
-memcpy(l,g,32);
-p=r8(b+88);
-if(p==0)q=0;
-else{
-r=p-1;
-w8(b+88,r);
-q=r;}
-s=r8(b+8);
-memcpy(i,l,32);
-if((e|(u32)s)>65535||(f>7||f!=i[28])){
-t=r2(l);
-u=r2(l+2);
-memcpy(k,l+4,16);
-v=t;
-w=u;
-x=q8(l+20);
-y=l[28];
-z=l[29];
-A=l[30];
-B=l[31];}
-else{
-C=r2(i);
-D=r2(i+2);
-E=q8(i+20);
-F=i[29];
-G=i[30];
-H=i[31];
-memcpy(j+4,l+4,16);
-x8(j+20,E);
-j[28]=f+1;
-j[29]=F;
-j[30]=G;
-j[31]=H;
-w2(j+4+((u64)f<<1),s);
-*(j+20+f)=h;
-if(f==0){
-memcpy(k,j+4,16);
-v=C;
-w=e;
-x=q8(j+20);
-y=j[28];
-z=j[29];
-A=j[30];
-B=j[31];}
-else{
-I=r2(i+4+(i64)((u64)(u8)(f-1)<<1));
-J=(I<65534)&(e==(u16)(0-usub16(65534,I)));
-K=J?C:r2(l);
-L=J?D:r2(l+2);
-memcpy(k,J?j+4:l+4,16);
-v=K;
-w=L;
-x=J?q8(j+20):q8(l+20);
-y=J?j[28]:l[28];
-z=J?j[29]:l[29];
-A=J?j[30]:l[30];
-B=J?j[31]:l[31];}}
-memcpy(n,k,16);
-M=r8(b+176);
-N=M>=d;
-if(N)O=0;
-else{
-P=*(c+M);
-if(P==76)goto L1;
-O=P;}
-Q=c+(i64)M;
-R=usub64(d,M)<2;
-if(!(d<M||R)){
-if(*Q==82){
-S=Q[1];
-if(N|(S==65))goto L2;
-T=S;
-goto L3;}}
-if(N)goto L2;
-switch(*Q){
-case 65:case 70:goto L1;
-case 80:case 82:if(R)goto L2;
-T=Q[1];
-break;
-default:goto L2;
-}
-L3:switch(T){
-case 70:case 65:goto L1;
-default:break;}
-L2:if(O==69){
-if(M==18446744073709551615u){
-x4(a,0);
-goto L4;}
-U=M+1;
-if(U<d){
-if(*(c+U)==69){
-if(q!=0)w8(b+88,q-1);
-w8(b+176,M+2);
-if(f==255){
-x4(a,0);
-goto L4;}
-V=f+1;
-if(V<A){
-x4(a,0);
-goto L4;}
-w2(o,v);
-w2(o+2,w);
-memcpy(o+4,n,16);
-x8(o+20,x);
-o[28]=y;
-o[29]=1;
-o[30]=A;
-o[31]=V-A;
-close_list_3c2(m,b,c,d,o);
-*a=*m;
-a[1]=m[1];
-a[2]=m[2];
-a[3]=m[3];
-goto L4;}}
-*a=1;
-a[1]=3;
-a[2]=0;
-a[3]=0;
-goto L4;}
-if(r8(b+32)-s<2){
-W=make_ready_8e3(b,2,128);
-if(!(W&1)){
-Y=0;
-goto L5;}
-X=r8(b+8);}
-else X=s;
-*(rp(b)+X)=44;
-*(rp(b)+(i64)X+1)=32;
-Z=X+2;
-w8(b+8,Z);
-if(f==255)Y=0;
-else{
-aa=Z;
-ba=f+1;
-ca=r8(b+88);
-if(r8(b+112)>ca)da=ca;
-else{
-ea=make_ready_9a1(b+80);
-if(!(ea&1)){
-Y=0;
-goto L5;}
-da=r8(b+88);}
-fa=rp(b+80)+da*44;
-*fa=28;
-fa[1]=0;
-x2(fa+2,0);
-x4(fa+4,aa);
-fa[8]=ba;
-fa[9]=0;
-x2(fa+10,v);
-x2(fa+12,w);
-memcpy(fa+14,n,16);
-x8(fa+30,x);
-fa[38]=y;
-fa[39]=z;
-fa[40]=A;
-fa[41]=B;
-x2(fa+42,0);
-w8(b+88,da+1);
-Y=1;}
-L5:*a=Y;
-a[1]=0;
-a[2]=0;
-a[3]=0;
-goto L4;
-L1:*a=1;
-a[1]=3;
-a[2]=0;
-a[3]=0;
-L4:return;
 }
 
 /* cpp_direct::direct::Direct::empty_pack */
@@ -77805,776 +78144,790 @@ L1:return;
 /* itanium::short_way::run */
 static u8 run_197(u8* a,u8* b,u64 c,u32 d)
 {
-u8 i[32],k[4],l[32],o[32],p[32],q[32],w[4],x[4];
-A16 u8 e[4],f[4],g[40],h[4],j[4],m[6],n[32],r[4],s[4],t[4],u[32],v[32],y[4],z[4],A[4];
-u8 B,C,I,K,M,N,O,P,R,X,Y,Z,aa,ba,ca,da,ea,ha,ia,ja,la,na,oa,ta,va,wa,xa,Aa,Ba,Ca,Da,Ea,Ha,La,Ma,Na,Pa,Qa,Ta,Wa,Ya,ab,eb,gb,hb,ib,kb,mb,ob,pb,qb,rb,tb,vb,wb,xb,yb,Ab,Bb,Cb,Eb,Gb,Hb,Ib,Jb,Rb,Vb,fc,jc,nc,sc,tc,uc,yc,Cc,Gc;
-u64 D,E,G,J,L,Q,S,T,U,fa,ga,ka,ya,za,Fa,Ia,Ja,Ra,Sa,Ua,Xa,Za,bb,cb,fb,lb,sb,ub,zb,Db,Fb,Kb,Mb,Nb,Ob,Qb,Sb,Ub,Xb,Zb,cc,ec,gc,lc,mc,pc,qc,rc,vc,wc,xc,Ac,Ec,Fc,Ic;
-v16 F,H;
-u8 *V,*W,*ma,*nb,*Lb,*Pb,*Tb,*Wb,*Yb,*ac,*dc,*hc,*oc,*zc,*Hc;
-u32 pa,qa,sa,Ga,Ka,Oa,Va,db,jb,bc,ic,kc,Bc,Dc;
-u16 ra,ua;
-if(c>65536)B=0;
+u8 i[32],k[4],l[32],m[32],n[32],p[32],x[4],y[4];
+A16 u8 e[4],f[4],g[40],h[4],j[4],o[4],q[6],r[32],s[4],t[4],u[4],v[32],w[32],z[4],A[4],B[4];
+u8 C,D,J,L,N,O,P,Q,S,Y,Z,aa,ba,ca,da,ea,fa,ia,ja,ka,ma,oa,pa,ua,wa,xa,ya,za,Aa,Ba,Ea,Fa,Ga,Ha,Ia,La,Pa,Qa,Ra,Ta,Ua,Xa,ab,cb,eb,ib,kb,lb,mb,ob,qb,sb,tb,ub,vb,xb,zb,Ab,Bb,Cb,Eb,Fb,Gb,Ib,Kb,Lb,Mb,Nb,Vb,Zb,jc,nc,rc,wc,xc,yc,Cc,Gc,Kc;
+u64 E,F,H,K,M,R,T,U,V,ga,ha,la,Ca,Da,Ja,Ma,Na,Va,Wa,Ya,bb,db,fb,gb,jb,pb,wb,yb,Db,Hb,Jb,Ob,Qb,Rb,Sb,Ub,Wb,Yb,bc,dc,gc,ic,kc,pc,qc,tc,uc,vc,zc,Ac,Bc,Ec,Ic,Jc,Mc;
+v16 G,I;
+u8 *W,*X,*na,*rb,*Pb,*Tb,*Xb,*ac,*cc,*ec,*hc,*lc,*sc,*Dc,*Lc;
+u32 qa,ra,ta,Ka,Oa,Sa,Za,hb,nb,fc,mc,oc,Fc,Hc;
+u16 sa,va;
+if(c>65536)C=0;
 else{
 if(c<16){
-C=are_few_named_14c(b,c);
-if(!C){
-B=0;
+D=are_few_named_14c(b,c);
+if(!D){
+C=0;
 goto L1;}}
 else{
-D=c-16;
-if(D==0)goto L2;
-E=0;
-L3:F=v16_at(b+E);
-if((v16_ult(F,splat(33))|v16_eq(F,splat(127)))!=0){
-B=0;
+E=c-16;
+if(E==0)goto L2;
+F=0;
+L3:G=v16_at(b+F);
+if((v16_ult(G,splat(33))|v16_eq(G,splat(127)))!=0){
+C=0;
 goto L1;}
-G=E+16;
-if(G<D){
-E=G;
+H=F+16;
+if(H<E){
+F=H;
 goto L3;}
-L2:H=v16_at(b+D);
-if((v16_ult(H,splat(33))|v16_eq(H,splat(127)))!=0){
-B=0;
+L2:I=v16_at(b+E);
+if((v16_ult(I,splat(33))|v16_eq(I,splat(127)))!=0){
+C=0;
 goto L1;}}
-w4(y,0);
 w4(z,0);
+w4(A,0);
 if(c!=0){
 if(c!=1&&*b==95){
 if(b[1]==90){
 if(c>=3){
-I=b[2];
+J=b[2];
 if(c<5){
-if(I==90)goto L4;
-if((c!=3)&(I==71)){
+if(J==90)goto L4;
+if((c!=3)&(J==71)){
 if(b[3]==86)goto L5;
 goto L6;}
-switch(I){
+switch(J){
 case 71:goto L6;
 case 84:if(c==3)goto L7;
 break;
 default:goto L8;
 }}
 else{
-switch(I){
+switch(J){
 case 90:goto L4;
 case 71:if(b[3]!=86)goto L6;
 if(b[4]!=90)goto L5;
-J=r8(a+8);
-if(r8(a+32)-J<19){
-K=make_ready_8e3(a,19,128);
-if(!(K&1)){
-M=0;
+K=r8(a+8);
+if(r8(a+32)-K<19){
+L=make_ready_8e3(a,19,128);
+if(!(L&1)){
 N=0;
 O=0;
 P=0;
+Q=0;
 goto L9;}
-L=r8(a+8);}
-else L=J;
-Q=r8(a+16);
-if(Q-L<19){
-R=grow_amortized_2b6(a,19);
-if(!R){
-M=0;
+M=r8(a+8);}
+else M=K;
+R=r8(a+16);
+if(R-M<19){
+S=grow_amortized_2b6(a,19);
+if(!S){
 N=0;
 O=0;
 P=0;
+Q=0;
 goto L9;}
-S=r8(a+16);
-T=r8(a+8);}
+T=r8(a+16);
+U=r8(a+8);}
 else{
-S=Q;
-T=L;}
-U=T+19;
-V=rp(a);
+T=R;
+U=M;}
+V=U+19;
+W=rp(a);
 z16(a+8);
-W=V+(i64)T;
-if((u64)W-(u64)(u8*)t_c270<19)copy_bits_4f4((u8*)t_c270,W,19);
-else memcpy(W,(u8*)t_c270,19);
-wp(a,V);
-w8(a+8,U);
-w8(a+16,S);
+X=W+(i64)U;
+if((u64)X-(u64)(u8*)t_c270<19)copy_bits_4f4((u8*)t_c270,X,19);
+else memcpy(X,(u8*)t_c270,19);
+wp(a,W);
+w8(a+8,V);
+w8(a+16,T);
 w8(a+176,5);
-begin_encoding_417(w,a,b,c);
-M=w[3];
-N=w[2];
-O=w[1];
-P=*w;
-L9:X=M;
-Y=N;
+begin_encoding_417(x,a,b,c);
+N=x[3];
+O=x[2];
+P=x[1];
+Q=*x;
+L9:Y=N;
 Z=O;
 aa=P;
+ba=Q;
 goto L10;
 case 84:break;
 default:goto L8;
 }}
 switch(b[3]){
-case 104:begin_thunk_a85(z,a,b,c);
+case 104:begin_thunk_a85(A,a,b,c);
 goto L11;
-case 118:begin_virtual_thunk_a25(z,a,b,c);
+case 118:begin_virtual_thunk_a25(A,a,b,c);
 goto L11;
-case 67:begin_clone_893(z);
+case 67:begin_clone_893(A);
 goto L11;
 default:break;}
-L7:begin_special_44d(z,a,b,c);
-L11:ba=z[3];
-ca=z[2];
-da=z[1];
-ea=*z;
+L7:begin_special_44d(A,a,b,c);
+L11:ca=A[3];
+da=A[2];
+ea=A[1];
+fa=*A;
 goto L12;
-L6:begin_clone_893(y);
-ba=y[3];
-ca=y[2];
-da=y[1];
-ea=*y;
+L6:begin_clone_893(z);
+ca=z[3];
+da=z[2];
+ea=z[1];
+fa=*z;
 goto L12;
-L5:begin_object_103(y,a,b,c);
-ba=y[3];
-ca=y[2];
-da=y[1];
-ea=*y;
+L5:begin_object_103(z,a,b,c);
+ca=z[3];
+da=z[2];
+ea=z[1];
+fa=*z;
 goto L12;
 L4:w8(a+176,3);
-begin_encoding_417(x,a,b,c);
-X=x[3];
-Y=x[2];
-Z=x[1];
-aa=*x;
-L10:ba=X;
-ca=Y;
+begin_encoding_417(y,a,b,c);
+Y=y[3];
+Z=y[2];
+aa=y[1];
+ba=*y;
+L10:ca=Y;
 da=Z;
 ea=aa;
+fa=ba;
 goto L12;}
 L8:w8(a+176,2);
-begin_encoding_417(y,a,b,c);
-ba=y[3];
-ca=y[2];
-da=y[1];
-ea=*y;
-L12:if(ea!=1){
-B=0;
+begin_encoding_417(z,a,b,c);
+ca=z[3];
+da=z[2];
+ea=z[1];
+fa=*z;
+L12:if(fa!=1){
+C=0;
 goto L1;}
-fa=c<<3;
-ga=0;
-ha=ba;
+ga=c<<3;
+ha=0;
 ia=ca;
 ja=da;
-L13:if(ja==7){
-B=r8(a+8)<=d;
+ka=ea;
+L13:if(ka==7){
+C=r8(a+8)<=d;
 goto L1;}
 w8(a+184,r8(a+184)+1);
-w4(A,0);
-switch(ja){
-case 0:type_at_78f(A,a,b,c,0);
+w4(B,0);
+switch(ka){
+case 0:type_at_78f(B,a,b,c,0);
 break;
-case 1:type_at_78f(A,a,b,c,1);
+case 1:type_at_78f(B,a,b,c,1);
 break;
-case 2:w4(s,0);
-w4(t,0);
-z32(u);
+case 2:w4(t,0);
+w4(u,0);
 z32(v);
-ka=r8(a+88);
-if(ka==0)w4(A,0);
+z32(w);
+la=r8(a+88);
+if(la==0)w4(B,0);
 else{
-la=ia&1;
-ma=rp(a+80)+(i64)(ka*44);
-na=ma[-44];
-oa=ma[-43];
-pa=q4(ma-40);
-qa=q4(ma-36);
-ra=q2(ma-32);
-switch(na){
-case 29:case 28:case 27:case 26:case 4:case 5:case 6:case 7:case 8:case 11:case 12:case 13:case 14:case 15:case 16:case 17:case 18:case 19:case 20:case 21:case 22:case 23:case 24:case 25:if(ha&1){
-pass_dependent_123(s,a,b,c);
-*A=*s;
-A[1]=s[1];
-A[2]=s[2];
-A[3]=s[3];
+ma=ja&1;
+na=rp(a+80)+(i64)(la*44);
+oa=na[-44];
+pa=na[-43];
+qa=q4(na-40);
+ra=q4(na-36);
+sa=q2(na-32);
+switch(oa){
+case 29:case 28:case 27:case 26:case 4:case 5:case 6:case 7:case 8:case 11:case 12:case 13:case 14:case 15:case 16:case 17:case 18:case 19:case 20:case 21:case 22:case 23:case 24:case 25:if(ia&1){
+pass_dependent_123(t,a,b,c);
+*B=*t;
+B[1]=t[1];
+B[2]=t[2];
+B[3]=t[3];
 goto L14;}
-sa=q4(ma-4);
-ta=qa;
-ua=qa>>16;
-w4(r,0);
-switch(na){
-case 22:returned_acd(r,a,b,c,oa&1);
+ta=q4(na-4);
+w4(s,0);
+switch(oa){
+case 22:returned_acd(s,a,b,c,pa&1);
 break;
-case 23:parameter_at_c04(r,a,b,c,oa&1,0);
+case 23:parameter_at_c04(s,a,b,c,pa&1,0);
 break;
-case 24:array_ended_08d(r,a,b,c,oa,pa,qa);
+case 24:array_ended_08d(s,a,b,c,pa,qa,ra);
 break;
-case 12:enclosing_parameter_d72(r,a,b,c,oa,pa);
+case 12:enclosing_parameter_d72(s,a,b,c,pa,qa);
 break;
-case 13:instance_parameter_e2a(r,a,b,c,oa,pa,qa);
+case 13:instance_parameter_e2a(s,a,b,c,pa,qa,ra);
 break;
-case 11:w2(l,ra);
-memcpy(l+2,ma-30,26);
-x4(l+28,sa);
-enclosing_front_fa8(r,a,oa,pa,qa,l);
+case 11:w2(p,sa);
+memcpy(p+2,na-30,26);
+x4(p+28,ta);
+enclosing_front_fa8(s,a,pa,qa,ra,p);
 break;
-case 17:w4(m,qa);
-w2(m+4,ra);
-lambda_parameter_f9a(r,a,b,c,pa,m);
+case 17:w4(q,ra);
+w2(q+4,sa);
+lambda_parameter_f9a(s,a,b,c,qa,q);
 break;
-case 18:member_parameter_678(r,a,b,c,oa);
+case 18:member_parameter_678(s,a,b,c,pa);
 break;
-case 15:w4(n,qa);
-w2(n+4,ra);
-memcpy(n+6,ma-30,26);
-addressed_front_4c5(r,a,b,c,oa,pa,n);
+case 15:w4(r,ra);
+w2(r+4,sa);
+memcpy(r+6,na-30,26);
+addressed_front_4c5(s,a,b,c,pa,qa,r);
 break;
-case 16:addressed_parameter_41c(r,a,b,c,oa);
+case 16:addressed_parameter_41c(s,a,b,c,pa);
 break;
-case 14:*r=0;
+case 14:*s=0;
 break;
-case 19:finish_8cd(r,a,b,c);
+case 19:finish_8cd(s,a,b,c);
 break;
-case 20:derived_ended_aef(r,a,b,c);
+case 20:derived_ended_aef(s,a,b,c);
 break;
-case 21:base_ended_299(r,a,b,c,pa);
+case 21:base_ended_299(s,a,b,c,qa);
 break;
-case 29:enumerator_21c(r,a,b,c);
+case 29:enumerator_21c(s,a,b,c);
 break;
-case 26:w2(o,ua);
-w2(o+2,ra);
-memcpy(o+4,ma-30,26);
-w2(o+30,sa);
-argument_enumerator_f1d(r,a,b,c,pa,ta,o);
+case 26:case 25:case 28:ua=ra;
+va=ta;
+w4(o,0);
+switch(oa){
+case 26:w2(l,ra>>16);
+w2(l+2,sa);
+memcpy(l+4,na-30,26);
+w2(l+30,va);
+argument_enumerator_f1d(o,a,b,c,qa,ua,l);
 break;
-case 25:w2(p,ua);
-w2(p+2,ra);
-memcpy(p+4,ma-30,26);
-w2(p+30,sa);
-argument_ended_f01(r,a,b,c,pa,ta,p,la);
+case 25:w2(m,ra>>16);
+w2(m+2,sa);
+memcpy(m+4,na-30,26);
+w2(m+30,va);
+argument_ended_f01(o,a,b,c,qa,ua,m,ma);
 break;
-case 28:w2(q,ua);
-w2(q+2,ra);
-memcpy(q+4,ma-30,26);
-w2(q+30,sa);
-element_ended_d46(r,a,b,c,pa,ta,q,la);
+case 28:w2(n,ra>>16);
+w2(n+2,sa);
+memcpy(n+4,na-30,26);
+w2(n+30,va);
+element_ended_d46(o,a,b,c,qa,ua,n,ma);
 break;
-case 27:case 10:case 9:case 8:case 4:case 5:case 6:case 7:*r=1;
-r[1]=3;
-r[2]=0;
-r[3]=0;
+case 27:*o=0;
 break;
 default:NEVER;
 }
-va=r[1];
-wa=r[2];
-xa=r[3];
-*t=*r;
-t[1]=va;
-t[2]=wa;
-t[3]=xa;
+wa=o[1];
+xa=o[2];
+ya=o[3];
+*s=*o;
+s[1]=wa;
+s[2]=xa;
+s[3]=ya;
+break;
+case 27:case 10:case 9:case 8:case 4:case 5:case 6:case 7:*s=1;
+s[1]=3;
+s[2]=0;
+s[3]=0;
+break;
+default:NEVER;
+}
+za=s[1];
+Aa=s[2];
+Ba=s[3];
+*u=*s;
+u[1]=za;
+u[2]=Aa;
+u[3]=Ba;
 goto L15;
-case 10:w4(u,qa);
-w2(u+4,ra);
-memcpy(u+6,ma-30,26);
-parameter_ended_06e(t,a,b,c,oa,pa,u);
+case 10:w4(v,ra);
+w2(v+4,sa);
+memcpy(v+6,na-30,26);
+parameter_ended_06e(u,a,b,c,pa,qa,v);
 goto L15;
-case 9:w4(v,qa);
-w2(v+4,ra);
-memcpy(v+6,ma-30,26);
-front_ended_ee9(t,a,b,c,oa,pa,v);
+case 9:w4(w,ra);
+w2(w+4,sa);
+memcpy(w+6,na-30,26);
+front_ended_ee9(u,a,b,c,pa,qa,w);
 goto L15;
-case 0:w8(a+88,ka-1);
-ya=r8(a+8);
-if(r8(a+32)>ya)za=ya;
+case 0:w8(a+88,la-1);
+Ca=r8(a+8);
+if(r8(a+32)>Ca)Da=Ca;
 else{
-Aa=make_ready_8e3(a,1,16);
-if(!(Aa&1)){
-Ba=0;
-Ca=0;
-Da=0;
-Ea=0;
+Ea=make_ready_8e3(a,1,16);
+if(!(Ea&1)){
+Fa=0;
+Ga=0;
+Ha=0;
+Ia=0;
 goto L16;}
-za=r8(a+8);}
-*(rp(a)+za)=42;
-Fa=za+1;
-w8(a+8,Fa);
-Ga=Fa;
-Ha=ha&1;
-Ia=r8(a+48);
-if(r8(a+72)>Ia){
-Ja=Ia;
-Ka=Ga;
-La=0;
-Ma=Ha;
-goto L17;}
-Na=make_ready_17a(a+40);
-if(!(Na&1)){
-Ba=0;
-Ca=0;
-Da=0;
-Ea=0;
-goto L16;}
-Oa=Ga;
+Da=r8(a+8);}
+*(rp(a)+Da)=42;
+Ja=Da+1;
+w8(a+8,Ja);
+Ka=Ja;
+La=ia&1;
+Ma=r8(a+48);
+if(r8(a+72)>Ma){
+Na=Ma;
+Oa=Ka;
 Pa=0;
-Qa=Ha;
+Qa=La;
+goto L17;}
+Ra=make_ready_17a(a+40);
+if(!(Ra&1)){
+Fa=0;
+Ga=0;
+Ha=0;
+Ia=0;
+goto L16;}
+Sa=Ka;
+Ta=0;
+Ua=La;
 break;
-case 1:if(la)goto L15;
-w8(a+88,ka-1);
-Ra=r8(a+8);
-if(r8(a+32)>Ra)Sa=Ra;
+case 1:if(ma)goto L15;
+w8(a+88,la-1);
+Va=r8(a+8);
+if(r8(a+32)>Va)Wa=Va;
 else{
-Ta=make_ready_8e3(a,1,16);
-if(!(Ta&1)){
-Ba=0;
-Ca=0;
-Da=0;
-Ea=0;
+Xa=make_ready_8e3(a,1,16);
+if(!(Xa&1)){
+Fa=0;
+Ga=0;
+Ha=0;
+Ia=0;
 goto L16;}
-Sa=r8(a+8);}
-*(rp(a)+Sa)=38;
-Ua=Sa+1;
-w8(a+8,Ua);
-Va=Ua;
-Wa=ha&1;
-Xa=r8(a+48);
-if(r8(a+72)>Xa){
-Ja=Xa;
-Ka=Va;
-La=1;
-Ma=Wa;
-goto L17;}
-Ya=make_ready_17a(a+40);
-if(!(Ya&1)){
-Ba=0;
-Ca=0;
-Da=0;
-Ea=0;
-goto L16;}
-Oa=Va;
+Wa=r8(a+8);}
+*(rp(a)+Wa)=38;
+Ya=Wa+1;
+w8(a+8,Ya);
+Za=Ya;
+ab=ia&1;
+bb=r8(a+48);
+if(r8(a+72)>bb){
+Na=bb;
+Oa=Za;
 Pa=1;
-Qa=Wa;
-break;
-case 2:if(la)goto L15;
-w8(a+88,ka-1);
-Za=r8(a+8);
-if(r8(a+32)-Za<2){
-ab=make_ready_8e3(a,2,128);
-if(!(ab&1)){
-Ba=0;
-Ca=0;
-Da=0;
-Ea=0;
-goto L16;}
-bb=r8(a+8);}
-else bb=Za;
-*(rp(a)+bb)=38;
-*(rp(a)+(i64)bb+1)=38;
-cb=bb+2;
-w8(a+8,cb);
-db=cb;
-eb=ha&1;
-fb=r8(a+48);
-if(r8(a+72)>fb){
-Ja=fb;
-Ka=db;
-La=1;
-Ma=eb;
+Qa=ab;
 goto L17;}
-gb=make_ready_17a(a+40);
-if(!(gb&1)){
-Ba=0;
-Ca=0;
-Da=0;
-Ea=0;
+cb=make_ready_17a(a+40);
+if(!(cb&1)){
+Fa=0;
+Ga=0;
+Ha=0;
+Ia=0;
 goto L16;}
-Oa=db;
-Pa=1;
-Qa=eb;
+Sa=Za;
+Ta=1;
+Ua=ab;
 break;
-case 3:if(la)goto L15;
-w8(a+88,ka-1);
+case 2:if(ma)goto L15;
+w8(a+88,la-1);
+db=r8(a+8);
+if(r8(a+32)-db<2){
+eb=make_ready_8e3(a,2,128);
+if(!(eb&1)){
+Fa=0;
+Ga=0;
+Ha=0;
+Ia=0;
+goto L16;}
+fb=r8(a+8);}
+else fb=db;
+*(rp(a)+fb)=38;
+*(rp(a)+(i64)fb+1)=38;
+gb=fb+2;
+w8(a+8,gb);
+hb=gb;
+ib=ia&1;
+jb=r8(a+48);
+if(r8(a+72)>jb){
+Na=jb;
+Oa=hb;
+Pa=1;
+Qa=ib;
+goto L17;}
+kb=make_ready_17a(a+40);
+if(!(kb&1)){
+Fa=0;
+Ga=0;
+Ha=0;
+Ia=0;
+goto L16;}
+Sa=hb;
+Ta=1;
+Ua=ib;
+break;
+case 3:if(ma)goto L15;
+w8(a+88,la-1);
 if(r8(a+32)-r8(a+8)<6){
-hb=make_ready_8e3(a,6,128);
-if(!(hb&1)){
-Ba=0;
-Ca=0;
-Da=0;
-Ea=0;
+lb=make_ready_8e3(a,6,128);
+if(!(lb&1)){
+Fa=0;
+Ga=0;
+Ha=0;
+Ia=0;
 goto L16;}}
-ib=extend_from_slice_169(a,(u8*)t_f603,6);
-if(ib&1){
-Ba=0;
-Ca=0;
-Da=0;
-Ea=0;
+mb=extend_from_slice_169(a,(u8*)t_f603,6);
+if(mb&1){
+Fa=0;
+Ga=0;
+Ha=0;
+Ia=0;
 goto L16;}
-jb=r8(a+8);
-kb=ha&1;
-lb=r8(a+48);
-if(r8(a+72)>lb){
-Ja=lb;
-Ka=jb;
-La=0;
-Ma=kb;
-goto L17;}
-mb=make_ready_17a(a+40);
-if(!(mb&1)){
-Ba=0;
-Ca=0;
-Da=0;
-Ea=0;
-goto L16;}
-Oa=jb;
+nb=r8(a+8);
+ob=ia&1;
+pb=r8(a+48);
+if(r8(a+72)>pb){
+Na=pb;
+Oa=nb;
 Pa=0;
-Qa=kb;
+Qa=ob;
+goto L17;}
+qb=make_ready_17a(a+40);
+if(!(qb&1)){
+Fa=0;
+Ga=0;
+Ha=0;
+Ia=0;
+goto L16;}
+Sa=nb;
+Ta=0;
+Ua=ob;
 break;
 default:NEVER;
 }
-Ja=r8(a+48);
-Ka=Oa;
-La=Pa;
-Ma=Qa;
-L17:nb=rp(a+40)+Ja*12;
-x4(nb,pa);
-x4(nb+4,Ka);
-nb[8]=La;
-nb[9]=Ma;
-x2(nb+10,0);
-w8(a+48,Ja+1);
-Ba=Ma;
-Ca=La;
-Da=2;
-Ea=1;
-L16:*t=Ea;
-t[1]=Da;
-t[2]=Ca;
-t[3]=Ba;
-L15:ob=t[1];
-pb=t[2];
-qb=t[3];
-*A=*t;
-A[1]=ob;
-A[2]=pb;
-A[3]=qb;}
+Na=r8(a+48);
+Oa=Sa;
+Pa=Ta;
+Qa=Ua;
+L17:rb=rp(a+40)+Na*12;
+x4(rb,qa);
+x4(rb+4,Oa);
+rb[8]=Pa;
+rb[9]=Qa;
+x2(rb+10,0);
+w8(a+48,Na+1);
+Fa=Qa;
+Ga=Pa;
+Ha=2;
+Ia=1;
+L16:*u=Ia;
+u[1]=Ha;
+u[2]=Ga;
+u[3]=Fa;
+L15:sb=u[1];
+tb=u[2];
+ub=u[3];
+*B=*u;
+B[1]=sb;
+B[2]=tb;
+B[3]=ub;}
 L14:break;
-case 3:rb=ia&1;
+case 3:vb=ja&1;
 w4(j,0);
-sb=r8(a+176);
-if(sb<c){
-tb=*(b+sb);
-switch(tb){
+wb=r8(a+176);
+if(wb<c){
+xb=*(b+wb);
+switch(xb){
 case 69:w4(h,0);
-w8(a+176,sb+1);
-ub=r8(a+88);
-if(ub==0){
-vb=0;
-wb=0;
-xb=0;
-yb=0;}
+w8(a+176,wb+1);
+yb=r8(a+88);
+if(yb==0){
+zb=0;
+Ab=0;
+Bb=0;
+Cb=0;}
 else{
-if(*(rp(a+80)+(i64)(ub*44)-44)==27){
-if(rb){
-vb=0;
-wb=0;
-xb=0;
-yb=0;}
+if(*(rp(a+80)+(i64)(yb*44)-44)==27){
+if(vb){
+zb=0;
+Ab=0;
+Bb=0;
+Cb=0;}
 else{
-w8(a+88,ub-1);
-vb=0;
-wb=0;
-xb=3;
-yb=1;}}
+w8(a+88,yb-1);
+zb=0;
+Ab=0;
+Bb=3;
+Cb=1;}}
 else{
 z32(i);
 close_list_0b3(h,a,b,c,i);
-vb=h[3];
-wb=h[2];
-xb=h[1];
-yb=*h;}}
-*A=yb;
-A[1]=xb;
-A[2]=wb;
-A[3]=vb;
+zb=h[3];
+Ab=h[2];
+Bb=h[1];
+Cb=*h;}}
+*B=Cb;
+B[1]=Bb;
+B[2]=Ab;
+B[3]=zb;
 goto L18;
-case 74:zb=sb+1;
-if(zb<c){
-if(*(b+zb)==69){
-empty_pack_06f(j,a,b,c,rb);
-*A=*j;
-A[1]=j[1];
-A[2]=j[2];
-A[3]=j[3];
+case 74:Db=wb+1;
+if(Db<c){
+if(*(b+Db)==69){
+empty_pack_06f(j,a,b,c,vb);
+*B=*j;
+B[1]=j[1];
+B[2]=j[2];
+B[3]=j[3];
 goto L18;}}
-if(!rb){
-Ab=74;
+if(!vb){
+Eb=74;
 goto L19;}
 first_pack_117(j,a,b,c);
-*A=*j;
-A[1]=j[1];
-A[2]=j[2];
-A[3]=j[3];
+*B=*j;
+B[1]=j[1];
+B[2]=j[2];
+B[3]=j[3];
 goto L18;
-default:Bb=tb;
+default:Fb=xb;
 break;}}
-else Bb=0;
-if(rb){
-Cb=Bb;
+else Fb=0;
+if(vb){
+Gb=Fb;
 goto L20;}
-Ab=Bb;
-L19:Db=r8(a+8);
-if(r8(a+32)-Db<2){
-Eb=make_ready_8e3(a,2,128);
-if(!(Eb&1)){
-w4(A,0);
+Eb=Fb;
+L19:Hb=r8(a+8);
+if(r8(a+32)-Hb<2){
+Ib=make_ready_8e3(a,2,128);
+if(!(Ib&1)){
+w4(B,0);
 goto L18;}
-Fb=r8(a+8);}
-else Fb=Db;
-*(rp(a)+Fb)=44;
-*(rp(a)+(i64)Fb+1)=32;
-w8(a+8,Fb+2);
-Cb=Ab;
-L20:switch(Cb){
-case 76:if(rb){
+Jb=r8(a+8);}
+else Jb=Hb;
+*(rp(a)+Jb)=44;
+*(rp(a)+(i64)Jb+1)=32;
+w8(a+8,Jb+2);
+Gb=Eb;
+L20:switch(Gb){
+case 76:if(vb){
 first_literal_8fe(j,a,b,c);
-*A=*j;
-A[1]=j[1];
-A[2]=j[2];
-A[3]=j[3];
+*B=*j;
+B[1]=j[1];
+B[2]=j[2];
+B[3]=j[3];
 goto L18;}
 literal_7da(k,a,b,c);
-Gb=k[3];
-Hb=k[2];
-Ib=k[1];
-Jb=*k;
+Kb=k[3];
+Lb=k[2];
+Mb=k[1];
+Nb=*k;
 break;
-case 74:Kb=r8(a+88);
-if(Kb==0){
-Gb=0;
-Hb=0;
-Ib=0;
-Jb=0;}
+case 74:Ob=r8(a+88);
+if(Ob==0){
+Kb=0;
+Lb=0;
+Mb=0;
+Nb=0;}
 else{
-Lb=rp(a+80);
-Mb=Kb*44;
-if(*(Lb+(i64)Mb-44)==27){
-Gb=0;
-Hb=0;
-Ib=0;
-Jb=0;}
-else{
-Nb=r8(a+176);
-if(Nb==18446744073709551615u){
-Gb=0;
-Hb=0;
-Ib=0;
-Jb=0;}
-else{
-w8(a+176,Nb+1);
-if(r8(a+112)>Kb){
-Ob=Mb;
-Pb=Lb;
-Qb=Kb;}
-else{
-Rb=make_ready_9a1(a+80);
-if(!(Rb&1)){
-Gb=0;
-Hb=0;
-Ib=0;
-Jb=0;
-break;}
-Sb=r8(a+88);
-Ob=Sb*44;
 Pb=rp(a+80);
-Qb=Sb;}
-Tb=Pb+Ob;
-*Tb=27;
-z43(Tb+1);
-w8(a+88,Qb+1);
-Gb=0;
-Hb=1;
-Ib=3;
-Jb=1;}}}
-break;
-default:if(rb){
-Ub=r8(a+88);
-if(Ub==0)Vb=1;
+Qb=Ob*44;
+if(*(Pb+(i64)Qb-44)==27){
+Kb=0;
+Lb=0;
+Mb=0;
+Nb=0;}
 else{
-Wb=rp(a+80);
-Xb=Ub*44;
-Yb=Wb+(i64)Xb;
-switch(Yb[-44]){
-case 5:if(Yb[-28]==0){
-Vb=1;
+Rb=r8(a+176);
+if(Rb==18446744073709551615u){
+Kb=0;
+Lb=0;
+Mb=0;
+Nb=0;}
+else{
+w8(a+176,Rb+1);
+if(r8(a+112)>Ob){
+Sb=Qb;
+Tb=Pb;
+Ub=Ob;}
+else{
+Vb=make_ready_9a1(a+80);
+if(!(Vb&1)){
+Kb=0;
+Lb=0;
+Mb=0;
+Nb=0;
+break;}
+Wb=r8(a+88);
+Sb=Wb*44;
+Tb=rp(a+80);
+Ub=Wb;}
+Xb=Tb+Sb;
+*Xb=27;
+z43(Xb+1);
+w8(a+88,Ub+1);
+Kb=0;
+Lb=1;
+Mb=3;
+Nb=1;}}}
+break;
+default:if(vb){
+Yb=r8(a+88);
+if(Yb==0)Zb=1;
+else{
+ac=rp(a+80);
+bc=Yb*44;
+cc=ac+(i64)bc;
+switch(cc[-44]){
+case 5:if(cc[-28]==0){
+Zb=1;
 goto L21;}
 break;
 case 7:break;
-case 0:case 1:case 2:case 3:case 4:case 6:case 8:case 9:case 10:case 11:case 12:case 13:case 14:case 15:case 16:case 17:case 18:case 19:case 20:case 21:case 22:case 23:case 24:case 25:case 26:case 27:case 28:case 29:Vb=1;
+case 0:case 1:case 2:case 3:case 4:case 6:case 8:case 9:case 10:case 11:case 12:case 13:case 14:case 15:case 16:case 17:case 18:case 19:case 20:case 21:case 22:case 23:case 24:case 25:case 26:case 27:case 28:case 29:Zb=1;
 goto L21;
 default:NEVER;
 }
-Zb=r8(a+176);
-if(Zb<c){
-ac=b+(i64)Zb;
-switch(*ac){
-case 65:case 70:Vb=1;
+dc=r8(a+176);
+if(dc<c){
+ec=b+(i64)dc;
+switch(*ec){
+case 65:case 70:Zb=1;
 goto L21;
-case 80:case 82:if(usub64(c,Zb)>=2){
-switch(ac[1]){
-case 70:case 65:Vb=1;
+case 80:case 82:if(usub64(c,dc)>=2){
+switch(ec[1]){
+case 70:case 65:Zb=1;
 goto L21;
 default:break;}}
 break;
 default:break;}}
-bc=r8(a+8);
-if(r8(a+112)>Ub){
-cc=Xb;
-dc=Wb;
-ec=Ub;}
+fc=r8(a+8);
+if(r8(a+112)>Yb){
+gc=bc;
+hc=ac;
+ic=Yb;}
 else{
-fc=make_ready_9a1(a+80);
-if(!(fc&1)){
-Vb=0;
+jc=make_ready_9a1(a+80);
+if(!(jc&1)){
+Zb=0;
 goto L21;}
-gc=r8(a+88);
-cc=gc*44;
-dc=rp(a+80);
-ec=gc;}
-hc=dc+cc;
-*hc=25;
-hc[1]=0;
-x2(hc+2,0);
-x4(hc+4,bc);
-z36(hc+8);
-w8(a+88,ec+1);
-Vb=1;}
-L21:*A=Vb;
-A[1]=0;
-A[2]=0;
-A[3]=0;
+kc=r8(a+88);
+gc=kc*44;
+hc=rp(a+80);
+ic=kc;}
+lc=hc+gc;
+*lc=25;
+lc[1]=0;
+x2(lc+2,0);
+x4(lc+4,fc);
+z36(lc+8);
+w8(a+88,ic+1);
+Zb=1;}
+L21:*B=Zb;
+B[1]=0;
+B[2]=0;
+B[3]=0;
 goto L18;}
-Gb=0;
-Hb=0;
-Ib=0;
-Jb=1;
+Kb=0;
+Lb=0;
+Mb=0;
+Nb=1;
 break;}
-*A=Jb;
-A[1]=Ib;
-A[2]=Hb;
-A[3]=Gb;
+*B=Nb;
+B[1]=Mb;
+B[2]=Lb;
+B[3]=Kb;
 L18:break;
 case 4:w4(f,0);
 z20(g+20);
 if(!(a[136]&1)){
-ic=r4(a+120);
-jc=a[139];
-kc=r8(a+8);
-lc=r8(a+48);
-if(r8(a+72)>lc)mc=lc;
+mc=r4(a+120);
+nc=a[139];
+oc=r8(a+8);
+pc=r8(a+48);
+if(r8(a+72)>pc)qc=pc;
 else{
-nc=make_ready_17a(a+40);
-if(!(nc&1)){
-w4(A,0);
+rc=make_ready_17a(a+40);
+if(!(rc&1)){
+w4(B,0);
 goto L22;}
-mc=r8(a+48);}
-oc=rp(a+40)+mc*12;
-x4(oc,ic);
-x4(oc+4,kc);
-oc[8]=0;
-oc[9]=jc;
-x2(oc+10,0);
-w8(a+48,mc+1);}
-pc=r8(a+176);
-if(pc<c){
-if(*(b+pc)==73){
+qc=r8(a+48);}
+sc=rp(a+40)+qc*12;
+x4(sc,mc);
+x4(sc+4,oc);
+sc[8]=0;
+sc[9]=nc;
+x2(sc+10,0);
+w8(a+48,qc+1);}
+tc=r8(a+176);
+if(tc<c){
+if(*(b+tc)==73){
 memcpy(g,a+120,20);
-qc=r8(a+8);
-if(r8(a+32)>qc)rc=qc;
+uc=r8(a+8);
+if(r8(a+32)>uc)vc=uc;
 else{
-sc=make_ready_8e3(a,1,16);
-if(!(sc&1)){
-tc=0;
-uc=0;
+wc=make_ready_8e3(a,1,16);
+if(!(wc&1)){
+xc=0;
+yc=0;
 goto L23;}
-rc=r8(a+8);}
-*(rp(a)+rc)=60;
-w8(a+8,rc+1);
-vc=r8(a+176);
-if(vc==18446744073709551615u){
-tc=0;
-uc=0;}
+vc=r8(a+8);}
+*(rp(a)+vc)=60;
+w8(a+8,vc+1);
+zc=r8(a+176);
+if(zc==18446744073709551615u){
+xc=0;
+yc=0;}
 else{
-w8(a+176,vc+1);
-wc=r8(a+88);
-if(r8(a+112)>wc)xc=wc;
+w8(a+176,zc+1);
+Ac=r8(a+88);
+if(r8(a+112)>Ac)Bc=Ac;
 else{
-yc=make_ready_9a1(a+80);
-if(!(yc&1)){
-tc=0;
-uc=0;
+Cc=make_ready_9a1(a+80);
+if(!(Cc&1)){
+xc=0;
+yc=0;
 goto L23;}
-xc=r8(a+88);}
-zc=rp(a+80)+xc*44;
-*zc=6;
-zc[1]=0;
-x2(zc+2,0);
-memcpy(zc+4,g,40);
-w8(a+88,xc+1);
-tc=3;
-uc=1;}
-L23:*A=uc;
-A[1]=tc;
-A[2]=uc;
-A[3]=0;
+Bc=r8(a+88);}
+Dc=rp(a+80)+Bc*44;
+*Dc=6;
+Dc[1]=0;
+x2(Dc+2,0);
+memcpy(Dc+4,g,40);
+w8(a+88,Bc+1);
+xc=3;
+yc=1;}
+L23:*B=yc;
+B[1]=xc;
+B[2]=yc;
+B[3]=0;
 goto L22;}}
 components_at_f93(f,a,b,c);
-*A=*f;
-A[1]=f[1];
-A[2]=f[2];
-A[3]=f[3];
+*B=*f;
+B[1]=f[1];
+B[2]=f[2];
+B[3]=f[3];
 L22:break;
 case 5:w4(e,0);
-Ac=r8(a+176);
-if(Ac<c){
-if(*(b+Ac)==69){
+Ec=r8(a+176);
+if(Ec<c){
+if(*(b+Ec)==69){
 nest_ended_003(e,a,b,c);
-*A=*e;
-A[1]=e[1];
-A[2]=e[2];
-A[3]=e[3];
+*B=*e;
+B[1]=e[1];
+B[2]=e[2];
+B[3]=e[3];
 goto L24;}}
 if(!(a[136]&1)){
-Bc=r4(a+120);
-Cc=a[139];
-Dc=r8(a+8);
-Ec=r8(a+48);
-if(r8(a+72)>Ec)Fc=Ec;
+Fc=r4(a+120);
+Gc=a[139];
+Hc=r8(a+8);
+Ic=r8(a+48);
+if(r8(a+72)>Ic)Jc=Ic;
 else{
-Gc=make_ready_17a(a+40);
-if(!(Gc&1)){
-w4(A,0);
+Kc=make_ready_17a(a+40);
+if(!(Kc&1)){
+w4(B,0);
 goto L24;}
-Fc=r8(a+48);}
-Hc=rp(a+40)+Fc*12;
-x4(Hc,Bc);
-x4(Hc+4,Dc);
-Hc[8]=0;
-Hc[9]=Cc;
-x2(Hc+10,0);
-w8(a+48,Fc+1);}
+Jc=r8(a+48);}
+Lc=rp(a+40)+Jc*12;
+x4(Lc,Fc);
+x4(Lc+4,Hc);
+Lc[8]=0;
+Lc[9]=Gc;
+x2(Lc+10,0);
+w8(a+48,Jc+1);}
 components_at_f93(e,a,b,c);
-*A=*e;
-A[1]=e[1];
-A[2]=e[2];
-A[3]=e[3];
+*B=*e;
+B[1]=e[1];
+B[2]=e[2];
+B[3]=e[3];
 L24:break;
-case 6:components_at_f93(A,a,b,c);
+case 6:components_at_f93(B,a,b,c);
 break;
 default:NEVER;
 }
-Ic=ga+1;
-if(*A!=1||Ic==fa){
-B=0;
+Mc=ha+1;
+if(*B!=1||Mc==ga){
+C=0;
 goto L1;}
-ga=Ic;
-ha=A[3];
-ia=A[2];
-ja=A[1];
+ha=Mc;
+ia=B[3];
+ja=B[2];
+ka=B[1];
 goto L13;}}}
-B=0;}
-L1:return B;
+C=0;}
+L1:return C;
 }
 
 /* cpp_direct::direct::Direct::begin_object */
@@ -98761,29 +99114,28 @@ return;
 /* rust_legacy::text::write_tokens */
 static void write_tokens_311(u8* a,u32 b,u8* c,u64 d,u8* e)
 {
-A16 u8 f[4];
-u32 g,h,j,l,x,A,B,N,P,ja,tb,vb,zb,Ib,Ub;
-u64 i,k,n,p,r,u,v,w,C,D,F,G,H,L,M,O,Q,R,T,U,V,aa,ca,ea,ga,ia,ka,ma,oa,qa,sa,ua,wa,ya,Aa,Ca,Ea,Ga,Ia,Ka,Ma,Oa,Qa,Sa,Ua,Wa,Ya,ab,cb,eb,gb,hb,jb,kb,lb,nb,sb,ub,wb,xb,yb,Ab,Bb,Db,Eb,Fb,Jb,Kb,Mb,Nb,Ob,Rb,Sb,Tb,Vb,Wb,Yb,Zb,ac,dc;
-u8 *m,*q,*s,*t,*I,*J,*K,*W,*X,*Gb,*Hb,*Pb,*Qb,*bc,*cc;
-u8 o,y,z,E,S,Y,Z,ba,da,fa,ha,la,na,pa,ra,ta,va,xa,za,Ba,Da,Fa,Ha,Ja,La,Na,Pa,Ra,Ta,Va,Xa,Za,bb,db,fb,ib,pb,qb,Cb,Lb,Xb;
-u128 mb,ob,rb;
+A16 u8 f[4],g[24];
+u32 h,i,k,m,x,A,B,N,P,Y,ba,ka,wa;
+u64 j,l,o,p,r,u,v,w,C,D,F,G,H,L,M,O,Q,R,T,U,V,Z,aa,ca,da,fa,ga,ha,la,ma,oa,pa,qa,ta,ua,va,xa,ya,Aa,Ba,Ca,Fa;
+u8 *n,*q,*s,*t,*I,*J,*K,*W,*X,*ia,*ja,*ra,*sa,*Da,*Ea;
+u8 y,z,E,S,ea,na,za;
 if(d==0){
-g=0;
-h=b;}
+h=0;
+i=b;}
 else{
-i=(u64)f;
-j=b;
-k=0;
-L1:if(j==0){
-g=1;
-h=3;}
+j=(u64)f;
+k=b;
+l=0;
+L1:if(k==0){
+h=1;
+i=3;}
 else{
-l=j-1;
-m=c+(i64)k;
-n=d-k;
-o=n<2;
-if(o){
-if(n==0){
+m=k-1;
+n=c+(i64)l;
+o=d-l;
+z24(g);
+if(o<2){
+if(o==0){
 p=r8(e+8);
 q=rp(e);
 r=r8(e+16);
@@ -98793,16 +99145,16 @@ t=q;
 u=p;
 v=r;
 w=0;
-x=l;
+x=m;
 goto L2;}
-y=*m;}
+y=*n;}
 else{
-z=*m;
-if(z==46&&m[1]==46){
-if(j<3){
+z=*n;
+if(z==46&&n[1]==46){
+if(k<3){
 A=3;
 goto L3;}
-B=j-3;
+B=k-3;
 C=r8(e+16);
 D=r8(e+8);
 if(C-D<2){
@@ -98836,10 +99188,10 @@ O=2;
 goto L4;}
 y=z;}
 switch(y){
-case 46:if(l==0){
+case 46:if(m==0){
 A=3;
 goto L3;}
-P=j-2;
+P=k-2;
 Q=r8(e+16);
 R=r8(e+8);
 if(Q==R){
@@ -98871,341 +99223,150 @@ M=T;
 N=P;
 O=1;
 goto L4;
-case 36:if(n<4){
-if(n==3)goto L5;
-if(o)goto L6;
-Y=m[1];
-goto L7;}
-Z=0;
-aa=0;
-L8:ba=Z||*((u8*)t_0587+(i64)aa)!=*(m+(i64)aa);
-ca=aa+1;
-if(ca!=4){
-Z=ba;
-aa=ca;
-goto L8;}
-da=0;
-ea=0;
-L9:fa=da||*((u8*)t_0587+(i64)ea)!=*(m+(i64)ea);
-ga=ea+1;
-if(ga!=4){
-da=fa;
-ea=ga;
-goto L9;}
-if(!(ba|fa)){
-ja=64;
-ka=4;
-goto L10;}
-ha=0;
-ia=0;
-L11:la=ha||*((u8*)t_9683+(i64)ia)!=*(m+(i64)ia);
-ma=ia+1;
-if(ma!=4){
-ha=la;
-ia=ma;
-goto L11;}
-na=0;
-oa=0;
-L12:pa=na||*((u8*)t_9683+(i64)oa)!=*(m+(i64)oa);
-qa=oa+1;
-if(qa!=4){
-na=pa;
-oa=qa;
-goto L12;}
-if(!(la|pa)){
-ja=42;
-ka=4;
-goto L10;}
-ra=0;
-sa=0;
-L13:ta=ra||*((u8*)t_5ba2+(i64)sa)!=*(m+(i64)sa);
-ua=sa+1;
-if(ua!=4){
-ra=ta;
-sa=ua;
-goto L13;}
-va=0;
-wa=0;
-L14:xa=va||*((u8*)t_5ba2+(i64)wa)!=*(m+(i64)wa);
-ya=wa+1;
-if(ya!=4){
-va=xa;
-wa=ya;
-goto L14;}
-if(!(ta|xa)){
-ja=38;
-ka=4;
-goto L10;}
-za=0;
-Aa=0;
-L15:Ba=za||*((u8*)t_5989+(i64)Aa)!=*(m+(i64)Aa);
-Ca=Aa+1;
-if(Ca!=4){
-za=Ba;
-Aa=Ca;
-goto L15;}
-Da=0;
-Ea=0;
-L16:Fa=Da||*((u8*)t_5989+(i64)Ea)!=*(m+(i64)Ea);
-Ga=Ea+1;
-if(Ga!=4){
-Da=Fa;
-Ea=Ga;
-goto L16;}
-if(!(Ba|Fa)){
-ja=60;
-ka=4;
-goto L10;}
-Ha=0;
-Ia=0;
-L17:Ja=Ha||*((u8*)t_8a37+(i64)Ia)!=*(m+(i64)Ia);
-Ka=Ia+1;
-if(Ka!=4){
-Ha=Ja;
-Ia=Ka;
-goto L17;}
-La=0;
-Ma=0;
-L18:Na=La||*((u8*)t_8a37+(i64)Ma)!=*(m+(i64)Ma);
-Oa=Ma+1;
-if(Oa!=4){
-La=Na;
-Ma=Oa;
-goto L18;}
-if(!(Ja|Na)){
-ja=62;
-ka=4;
-goto L10;}
-Pa=0;
-Qa=0;
-L19:Ra=Pa||*((u8*)t_3070+(i64)Qa)!=*(m+(i64)Qa);
-Sa=Qa+1;
-if(Sa!=4){
-Pa=Ra;
-Qa=Sa;
-goto L19;}
-Ta=0;
-Ua=0;
-L20:Va=Ta||*((u8*)t_3070+(i64)Ua)!=*(m+(i64)Ua);
-Wa=Ua+1;
-if(Wa!=4){
-Ta=Va;
-Ua=Wa;
-goto L20;}
-if(!(Ra|Va)){
-ja=40;
-ka=4;
-goto L10;}
-Xa=0;
-Ya=0;
-L21:Za=Xa||*((u8*)t_b7db+(i64)Ya)!=*(m+(i64)Ya);
-ab=Ya+1;
-if(ab!=4){
-Xa=Za;
-Ya=ab;
-goto L21;}
-bb=0;
-cb=0;
-L22:db=bb||*((u8*)t_b7db+(i64)cb)!=*(m+(i64)cb);
-eb=cb+1;
-if(eb!=4){
-bb=db;
-cb=eb;
-goto L22;}
-if(!(Za|db)){
-ja=41;
-ka=4;
-goto L10;}
-L5:fb=m[1];
-if(fb==67&&m[2]==36){
-ja=44;
-ka=3;
-goto L10;}
-Y=fb;
-L7:if(Y==117){
-gb=n-2;
-if(gb==0)goto L6;
-hb=0;
-L23:ib=*(m+2+hb);
-if(((u8)(ib-48)<10)|((u8)(ib-97)<6)){
-jb=hb+1;
-if(jb!=gb){
-hb=jb;
-goto L23;}
-kb=gb;}
-else kb=hb;
-if(kb-7>=0xfffffffffffffffau){
-lb=kb+2;
-if(n!=lb){
-if(*(m+(i64)lb)!=36)goto L6;
-mb=0;
-nb=0;
-L24:if(mb<((u128)0x1000000000000000u<<64|0x0u)){
-ob=mb<<4;
-pb=*(m+2+(i64)nb);
-qb=(pb<58?208:169)+pb;
-if(ob<=(qb^((u128)0xffffffffffffffffu<<64|0xffffffffffffffffu))){
-rb=ob+qb;
-sb=nb+1;
-if(sb!=kb){
-mb=rb;
-nb=sb;
-goto L24;}
-if(rb<=1114111){
-tb=rb;
-if((tb-32<95||tb-160<55136)||tb>57343){
-if(tb-57344>=0xfffff800u)NEVER;
-ub=kb+3;
+case 36:escape_at_298(g,n,o);
+if(*g!=1){
+if(o>m){
+A=3;
+goto L3;}
+ka=m-(u32)o;
+la=r8(e+16);
+ma=r8(e+8);
+if(o>la-ma){
+na=grow_amortized_2b6(e,o);
+if(!na){
+A=4;
+goto L3;}
+oa=r8(e+16);
+pa=r8(e+8);}
+else{
+oa=la;
+pa=ma;}
+qa=pa+o;
+ra=rp(e);
+z16(e+8);
+sa=ra+(i64)pa;
+if((u64)sa-(u64)n<o){
+copy_bits_4f4(n,sa,o);
+K=ra;
+L=qa;
+M=oa;
+N=ka;
+O=o;
+goto L4;}
+memmove(sa,n,o);
+K=ra;
+L=qa;
+M=oa;
+N=ka;
+O=o;
+goto L4;}
+Y=r4(g+8);
+Z=r8(g+16);
 w4(f,0);
-if(tb<128){
-vb=tb;
-wb=ub;
-goto L25;}
-if(tb<2048){
-*f=(u8)(rb>>6)|192;
-f[1]=((u8)rb&63)|128;
-xb=ub;
-yb=2;
-goto L26;}
-if(tb<65536){
-*f=(u8)(rb>>12)|224;
-f[1]=((u8)(rb>>6)&63)|128;
-f[2]=((u8)rb&63)|128;
-xb=ub;
-yb=3;
-goto L26;}
-*f=(u8)(rb>>18)|240;
-f[1]=((u8)(rb>>12)&63)|128;
-f[2]=((u8)(rb>>6)&63)|128;
-f[3]=((u8)rb&63)|128;
-xb=ub;
-yb=4;
-goto L26;}}}}}}}
-L6:if(n>l){
+if(Y<128){
+*f=Y;
+aa=1;}
+else{
+if(Y<2048){
+*f=(u8)(Y>>6)|192;
+f[1]=((u8)Y&63)|128;
+aa=2;}
+else{
+if(Y<65536){
+*f=(u8)(Y>>12)|224;
+f[1]=((u8)(Y>>6)&63)|128;
+f[2]=((u8)Y&63)|128;
+aa=3;}
+else{
+*f=(u8)(Y>>18)-16;
+f[1]=((u8)(Y>>12)&63)|128;
+f[2]=((u8)(Y>>6)&63)|128;
+f[3]=((u8)Y&63)|128;
+aa=4;}}}
+if(aa>m){
 A=3;
 goto L3;}
-zb=l-(u32)n;
-Ab=r8(e+16);
-Bb=r8(e+8);
-if(n>Ab-Bb){
-Cb=grow_amortized_2b6(e,n);
-if(!Cb){
+ba=m-(u32)aa;
+ca=r8(e+16);
+da=r8(e+8);
+if(aa>ca-da){
+ea=grow_amortized_2b6(e,aa);
+if(!ea){
 A=4;
 goto L3;}
-Db=r8(e+16);
-Eb=r8(e+8);}
+fa=r8(e+16);
+ga=r8(e+8);}
 else{
-Db=Ab;
-Eb=Bb;}
-Fb=Eb+n;
-Gb=rp(e);
+fa=ca;
+ga=da;}
+ha=ga+aa;
+ia=rp(e);
 z16(e+8);
-Hb=Gb+(i64)Eb;
-if((u64)Hb-(u64)m<n){
-copy_bits_4f4(m,Hb,n);
-K=Gb;
-L=Fb;
-M=Db;
-N=zb;
-O=n;
+ja=ia+(i64)ga;
+if((u64)ja-j<aa){
+copy_bits_4f4(f,ja,aa);
+K=ia;
+L=ha;
+M=fa;
+N=ba;
+O=Z;
 goto L4;}
-memmove(Hb,m,n);
-K=Gb;
-L=Fb;
-M=Db;
-N=zb;
-O=n;
+memcpy(ja,f,aa);
+K=ia;
+L=ha;
+M=fa;
+N=ba;
+O=Z;
 goto L4;
-L10:w4(f,0);
-vb=ja;
-wb=ka;
-L25:*f=vb;
-xb=wb;
-yb=1;
-L26:if(yb>l){
-A=3;
-goto L3;}
-Ib=l-(u32)yb;
-Jb=r8(e+16);
-Kb=r8(e+8);
-if(yb>Jb-Kb){
-Lb=grow_amortized_2b6(e,yb);
-if(!Lb){
-A=4;
-goto L3;}
-Mb=r8(e+16);
-Nb=r8(e+8);}
-else{
-Mb=Jb;
-Nb=Kb;}
-Ob=Nb+yb;
-Pb=rp(e);
-z16(e+8);
-Qb=Pb+(i64)Nb;
-if((u64)Qb-i<yb){
-copy_bits_4f4(f,Qb,yb);
-K=Pb;
-L=Ob;
-M=Mb;
-N=Ib;
-O=xb;
-goto L4;}
-memcpy(Qb,f,yb);
-K=Pb;
-L=Ob;
-M=Mb;
-N=Ib;
-O=xb;
-goto L4;
-default:Rb=0;
+default:ta=0;
 break;}
-L27:switch(*(m+Rb)){
-case 46:case 36:Sb=Rb;
+L5:switch(*(n+ta)){
+case 46:case 36:ua=ta;
 break;
-default:Tb=Rb+1;
-if(Tb!=n){
-Rb=Tb;
-goto L27;}
-Sb=n;
+default:va=ta+1;
+if(va!=o){
+ta=va;
+goto L5;}
+ua=o;
 break;}
-if(Sb<=l){
-Ub=l-(u32)Sb;
-Vb=r8(e+16);
-Wb=r8(e+8);
-if(Sb>Vb-Wb){
-Xb=grow_amortized_2b6(e,Sb);
-if(!Xb){
+if(ua<=m){
+wa=m-(u32)ua;
+xa=r8(e+16);
+ya=r8(e+8);
+if(ua>xa-ya){
+za=grow_amortized_2b6(e,ua);
+if(!za){
 A=4;
 goto L3;}
-Yb=r8(e+16);
-Zb=r8(e+8);}
+Aa=r8(e+16);
+Ba=r8(e+8);}
 else{
-Yb=Vb;
-Zb=Wb;}
-ac=Zb+Sb;
-bc=rp(e);
+Aa=xa;
+Ba=ya;}
+Ca=Ba+ua;
+Da=rp(e);
 z16(e+8);
-cc=bc+(i64)Zb;
-if((u64)cc-(u64)m<Sb){
-copy_bits_4f4(m,cc,Sb);
-K=bc;
-L=ac;
-M=Yb;
-N=Ub;
-O=Sb;
+Ea=Da+(i64)Ba;
+if((u64)Ea-(u64)n<ua){
+copy_bits_4f4(n,Ea,ua);
+K=Da;
+L=Ca;
+M=Aa;
+N=wa;
+O=ua;
 goto L4;}
-s=cc;
-t=bc;
-u=ac;
-v=Yb;
-w=Sb;
-x=Ub;
+s=Ea;
+t=Da;
+u=Ca;
+v=Aa;
+w=ua;
+x=wa;
 goto L2;}
 A=3;
-L3:g=1;
-h=A;
-goto L28;
-L2:memmove(s,m,w);
+L3:h=1;
+i=A;
+goto L6;
+L2:memmove(s,n,w);
 K=t;
 L=u;
 M=v;
@@ -99214,17 +99375,271 @@ O=w;
 L4:wp(e,K);
 w8(e+8,L);
 w8(e+16,M);
-dc=O+k;
-if(dc<d){
-j=N;
-k=dc;
+Fa=O+l;
+if(Fa<d){
+k=N;
+l=Fa;
 goto L1;}
-g=0;
-h=N;}}
-L28:x4(a,g);
-x4(a+4,h);
+h=0;
+i=N;}}
+L6:x4(a,h);
+x4(a+4,i);
 x4(a+8,0);
 return;
+}
+
+/* rust_legacy::escapes::escape_at */
+static void escape_at_298(u8* a,u8* b,u64 c)
+{
+u8 d,e,f,h,j,l,n,p,r,t,v,x,z,B,D,F,H,J,L,N,P,R,T,V,X,Z,ba,da,fa,ha,ja,ka,qa,xa,ya;
+u64 g,i,k,m,o,q,s,u,w,y,A,C,E,G,I,K,M,O,Q,S,U,W,Y,aa,ca,ea,ga,ia,la,ma,oa,pa,ra,sa,ta,va,Aa;
+u32 na,Ba;
+u128 ua,wa,za;
+if(c<4){
+if(c==3)goto L1;
+if(c<2)goto L2;
+d=b[1];
+e=*b;
+goto L3;}
+f=0;
+g=0;
+L4:h=f||*((u8*)t_0587+(i64)g)!=*(b+(i64)g);
+i=g+1;
+if(i!=4){
+f=h;
+g=i;
+goto L4;}
+j=0;
+k=0;
+L5:l=j||*((u8*)t_0587+(i64)k)!=*(b+(i64)k);
+m=k+1;
+if(m!=4){
+j=l;
+k=m;
+goto L5;}
+if(!(h|l)){
+x8(a,1);
+x4(a+8,64);
+x4(a+12,0);
+x8(a+16,4);
+goto L6;}
+n=0;
+o=0;
+L7:p=n||*((u8*)t_9683+(i64)o)!=*(b+(i64)o);
+q=o+1;
+if(q!=4){
+n=p;
+o=q;
+goto L7;}
+r=0;
+s=0;
+L8:t=r||*((u8*)t_9683+(i64)s)!=*(b+(i64)s);
+u=s+1;
+if(u!=4){
+r=t;
+s=u;
+goto L8;}
+if(!(p|t)){
+x8(a,1);
+x4(a+8,42);
+x4(a+12,0);
+x8(a+16,4);
+goto L6;}
+v=0;
+w=0;
+L9:x=v||*((u8*)t_5ba2+(i64)w)!=*(b+(i64)w);
+y=w+1;
+if(y!=4){
+v=x;
+w=y;
+goto L9;}
+z=0;
+A=0;
+L10:B=z||*((u8*)t_5ba2+(i64)A)!=*(b+(i64)A);
+C=A+1;
+if(C!=4){
+z=B;
+A=C;
+goto L10;}
+if(!(x|B)){
+x8(a,1);
+x4(a+8,38);
+x4(a+12,0);
+x8(a+16,4);
+goto L6;}
+D=0;
+E=0;
+L11:F=D||*((u8*)t_5989+(i64)E)!=*(b+(i64)E);
+G=E+1;
+if(G!=4){
+D=F;
+E=G;
+goto L11;}
+H=0;
+I=0;
+L12:J=H||*((u8*)t_5989+(i64)I)!=*(b+(i64)I);
+K=I+1;
+if(K!=4){
+H=J;
+I=K;
+goto L12;}
+if(!(F|J)){
+x8(a,1);
+x4(a+8,60);
+x4(a+12,0);
+x8(a+16,4);
+goto L6;}
+L=0;
+M=0;
+L13:N=L||*((u8*)t_8a37+(i64)M)!=*(b+(i64)M);
+O=M+1;
+if(O!=4){
+L=N;
+M=O;
+goto L13;}
+P=0;
+Q=0;
+L14:R=P||*((u8*)t_8a37+(i64)Q)!=*(b+(i64)Q);
+S=Q+1;
+if(S!=4){
+P=R;
+Q=S;
+goto L14;}
+if(!(N|R)){
+x8(a,1);
+x4(a+8,62);
+x4(a+12,0);
+x8(a+16,4);
+goto L6;}
+T=0;
+U=0;
+L15:V=T||*((u8*)t_3070+(i64)U)!=*(b+(i64)U);
+W=U+1;
+if(W!=4){
+T=V;
+U=W;
+goto L15;}
+X=0;
+Y=0;
+L16:Z=X||*((u8*)t_3070+(i64)Y)!=*(b+(i64)Y);
+aa=Y+1;
+if(aa!=4){
+X=Z;
+Y=aa;
+goto L16;}
+if(!(V|Z)){
+x8(a,1);
+x4(a+8,40);
+x4(a+12,0);
+x8(a+16,4);
+goto L6;}
+ba=0;
+ca=0;
+L17:da=ba||*((u8*)t_b7db+(i64)ca)!=*(b+(i64)ca);
+ea=ca+1;
+if(ea!=4){
+ba=da;
+ca=ea;
+goto L17;}
+fa=0;
+ga=0;
+L18:ha=fa||*((u8*)t_b7db+(i64)ga)!=*(b+(i64)ga);
+ia=ga+1;
+if(ia!=4){
+fa=ha;
+ga=ia;
+goto L18;}
+if(!(da|ha)){
+x8(a,1);
+x4(a+8,41);
+x4(a+12,0);
+x8(a+16,4);
+goto L6;}
+L1:ja=*b;
+ka=b[1];
+if((ja==36)&(ka==67)&&b[2]==36){
+x8(a,1);
+x4(a+8,44);
+x4(a+12,0);
+x8(a+16,3);
+goto L6;}
+d=ka;
+e=ja;
+L3:if((d==117)&(e==36)){
+la=c-2;
+if(la==0){
+ma=0;
+na=0;
+oa=0;
+goto L19;}
+pa=0;
+L20:qa=*(b+2+pa);
+if(((u8)(qa-48)<10)|((u8)(qa-97)<6)){
+ra=pa+1;
+if(ra!=la){
+pa=ra;
+goto L20;}
+sa=la;}
+else sa=pa;
+if(sa-7<0xfffffffffffffffau){
+ma=0;
+na=0;
+oa=0;}
+else{
+ta=sa+2;
+if(c==ta){
+ma=0;
+na=0;
+oa=0;}
+else{
+if(*(b+(i64)ta)!=36){
+ma=0;
+na=0;
+oa=0;
+goto L19;}
+ua=0;
+va=0;
+L21:if(ua<((u128)0x1000000000000000u<<64|0x0u)){
+wa=ua<<4;
+xa=*(b+2+(i64)va);
+ya=(xa<58?208:169)+xa;
+if(wa>(ya^((u128)0xffffffffffffffffu<<64|0xffffffffffffffffu))){
+ma=0;
+na=0;
+oa=0;}
+else{
+za=wa+ya;
+Aa=va+1;
+if(Aa!=sa){
+ua=za;
+va=Aa;
+goto L21;}
+if(za>1114111){
+ma=0;
+na=0;
+oa=0;}
+else{
+Ba=za;
+if((Ba-32<95||Ba-160<55136)||Ba>57343){
+if(Ba-57344>=0xfffff800u)NEVER;
+ma=1;
+na=Ba;
+oa=sa+3;}
+else{
+ma=0;
+na=0;
+oa=0;}}}}
+else{
+ma=0;
+na=0;
+oa=0;}}}
+L19:x8(a,ma);
+x4(a+8,na);
+x4(a+12,0);
+x8(a+16,oa);
+goto L6;}
+L2:z24(a);
+L6:return;
 }
 
 /* sym_filter::tries::append_text */
@@ -110658,6 +111073,16151 @@ G=0;}}}
 L8:return G;
 }
 
+/* symbol_parts::languages::LanguagesParser::parse */
+static void parse_fb3(u8* a,u8* b,u8 c,u8* d,u64 e)
+{
+u8 r[7];
+A16 u8 f[32],g[176],h[12],i[12],j[72],k[96],l[16],m[24],n[72],o[88],p[84],q[20],s[64];
+u32 t,G,J,aa,oa,xa,Da,Ga,Ia;
+u8 u,C,H,I,Z,ba,ca,ha,ia,pa,wa,Ea,Fa,Ha,La,Ma;
+u64 v,x,y,A,B,D,E,L,N,P,R,T,V,W,X,ea,ga,la,na,ra,ta,va,Aa,Ca,Ka;
+u8 *w,*z,*F,*M,*O,*Q,*S,*U,*Y,*da,*fa,*ja,*ka,*ma,*qa,*sa,*ua,*ya,*za,*Ba,*Ja;
+s_64_64 K;
+z64(s);
+t=r4(b);
+u=b[4];
+if(c==0){
+z88(o);
+z84(p);
+z20(q);
+z7(r);
+z96(k);
+z72(n);
+wp(j+8,(u8*)65536);
+w8(j+24,0);
+wp(j+32,(u8*)65536);
+z24(j+48);
+z12(i);
+w4(j,0);
+w4(j+4,0);
+w8(j+16,0);
+w8(j+40,0);
+w8(j+56,0);
+w4(j+64,0);
+run_888(i,j,d,e,1);
+if(*i==0){
+v=r8(j);
+w=rp(j+8);
+x=r8(j+16);
+y=r8(j+24);
+z=rp(j+32);
+A=r8(j+40);
+B=r8(j+48);
+memcpy(l,j+56,16);
+wp(m,(u8*)65536);
+z16(m+8);
+C=grow_amortized_2b6(m,e);
+if(C){
+D=r8(m+8);
+E=D+e;
+F=rp(m)+(i64)D;
+if((u64)F-(u64)d<e)copy_bits_4f4(d,F,e);
+else memmove(F,d,e);
+w8(m+8,E);
+w8(n,v);
+wp(n+8,w);
+w8(n+16,x);
+w8(n+24,y);
+wp(n+32,z);
+w8(n+40,A);
+w8(n+48,B);
+memcpy(n+56,l,16);
+link_eb4(k,m,n);
+G=r4(k+8);
+H=*k;
+I=k[4];
+memcpy(p,k+12,84);
+if(H!=0){
+Da=G;
+Ea=I;
+goto L1;}
+w4(o,G);
+memcpy(o+4,p,84);
+J=r4(o+72);
+z12(h);
+K=port_rattle_alloc(288,4);
+if((u8)(K.f0&1)){
+L=K.f1;
+M=(u8*)L;
+x4(M,0);
+x4(M+4,J);
+x4(M+8,9);
+x4(M+12,0);
+x4(M+16,0);
+x4(M+20,0);
+M[24]=u;
+z11(M+25);
+w8(g,L);
+w8(g+8,1);
+w8(g+16,8);
+wp(g+24,(u8*)65536);
+z16(g+32);
+wp(g+48,(u8*)65536);
+z16(g+56);
+wp(g+72,(u8*)65536);
+z16(g+80);
+wp(g+96,(u8*)65536);
+z16(g+104);
+wp(g+120,(u8*)65536);
+z20(g+128);
+w4(g+148,t);
+z24(g+152);
+run_610(h,g,o);
+if(*h==0){
+N=r8(g+24);
+O=rp(g+48);
+P=r8(g+64);
+Q=rp(g+72);
+R=r8(g+88);
+S=rp(g+96);
+T=r8(g+112);
+U=rp(g+120);
+V=r8(g+136);
+W=r8(g+32);
+X=r8(g+40);
+if(r8(g+16)!=0)port_rattle_dealloc(rp(g));
+if(P!=0)port_rattle_dealloc(O);
+if(R!=0)port_rattle_dealloc(Q);
+if(T!=0)port_rattle_dealloc(S);
+if(V!=0)port_rattle_dealloc(U);
+Y=(u8*)N;
+z32(f);
+parts_as_fdd(f,o,t,u);
+Z=f[4];
+aa=r4(f+8);
+ba=*f;
+memcpy(q,f+12,20);
+if(ba!=0){
+ja=(u8*)(u64)aa;
+if(X!=0)port_rattle_dealloc(Y);
+ka=rp(o+24);
+la=r8(o+40);
+ma=rp(o+48);
+na=r8(o+64);
+if(r8(o+16)!=0)port_rattle_dealloc(rp(o));
+if(la!=0)port_rattle_dealloc(ka);
+if(na!=0)port_rattle_dealloc(ma);
+wp(s+8,ja);
+z48(s+16);
+ha=Z;
+ia=1;
+goto L2;}
+ca=kind_of_a3d(o);
+da=rp(o+24);
+ea=r8(o+40);
+fa=rp(o+48);
+ga=r8(o+64);
+if(r8(o+16)!=0)port_rattle_dealloc(rp(o));
+if(ea!=0)port_rattle_dealloc(da);
+if(ga!=0)port_rattle_dealloc(fa);
+wp(s+8,Y);
+w8(s+16,W);
+w8(s+24,X);
+s[32]=ca;
+memcpy(s+33,r,7);
+w4(s+40,aa);
+memcpy(s+44,q,20);
+ha=0;
+ia=0;
+goto L2;}
+oa=r4(h+8);
+pa=h[4];
+if(r8(g+16)!=0)port_rattle_dealloc(rp(g));
+if(r8(g+40)!=0)port_rattle_dealloc(rp(g+24));
+qa=rp(g+72);
+ra=r8(g+88);
+sa=rp(g+96);
+ta=r8(g+112);
+ua=rp(g+120);
+va=r8(g+136);
+if(r8(g+64)!=0)port_rattle_dealloc(rp(g+48));
+if(ra!=0)port_rattle_dealloc(qa);
+if(ta!=0)port_rattle_dealloc(sa);
+if(va==0){
+wa=pa;
+xa=oa;}
+else{
+port_rattle_dealloc(ua);
+wa=pa;
+xa=oa;}}
+else{
+wa=4;
+xa=0;}
+ya=(u8*)(u64)xa;
+za=rp(o+24);
+Aa=r8(o+40);
+Ba=rp(o+48);
+Ca=r8(o+64);
+if(r8(o+16)!=0)port_rattle_dealloc(rp(o));
+if(Aa!=0)port_rattle_dealloc(za);
+if(Ca!=0)port_rattle_dealloc(Ba);
+wp(s+8,ya);
+z48(s+16);
+ha=wa;
+ia=1;
+goto L2;}
+if(r8(m+16)!=0)port_rattle_dealloc(rp(m));
+if(y!=0)port_rattle_dealloc(w);
+if(B==0){
+Fa=4;
+Ga=0;}
+else{
+port_rattle_dealloc(z);
+Fa=4;
+Ga=0;}}
+else{
+Ha=i[4];
+Ia=r4(i+8);
+Ja=rp(j+32);
+Ka=r8(j+48);
+if(r8(j+24)!=0)port_rattle_dealloc(rp(j+8));
+if(Ka!=0)port_rattle_dealloc(Ja);
+Fa=Ha;
+Ga=Ia;}
+Da=Ga;
+Ea=Fa;
+L1:wp(s+8,(u8*)(u64)Da);
+z48(s+16);
+ha=Ea;
+ia=1;
+L2:La=ha;
+Ma=ia;}
+else{
+parse_as_add(s,d,e,t,u);
+La=s[4];
+Ma=*s;}
+x4(a,Ma);
+x4(a+4,La);
+memcpy(a+8,s+8,56);
+return;
+}
+
+/* sym_demangle::demangling::link */
+static COLD void link_eb4(u8* a,u8* b,u8* c)
+{
+A16 u8 d[20],e[12],f[16],g[120],h[16],i[48],j[16],k[120],l[296],m[16],n[120],o[16],p[48],q[16],r[120],s[16],t[48],u[20];
+u8 *v,*z,*C,*H,*N,*Q,*T,*U,*W,*da,*ga,*ja,*oa,*pa,*sa,*ua,*xa,*Aa,*Da,*Ja,*La,*Na,*Pa;
+u64 w,x,y,A,B,D,E,G,J,K,L,M,O,P,R,S,V,X,aa,ba,ca,ea,fa,ha,ia,la,qa,ra,ta,ya,za,Ba,Ca,Ea,Fa,Ia,Ka,Ma,Oa,Qa;
+u8 F,ma;
+u32 I,Y,Z,ka,na,va,wa,Ga,Ha;
+v=qp(b);
+w=q8(b+8);
+x=q8(b+16);
+y=q8(c);
+z=qp(c+8);
+A=q8(c+16);
+B=q8(c+24);
+C=qp(c+32);
+D=q8(c+40);
+E=q8(c+48);
+zero_all(l,296);
+z16(m);
+z120(n);
+z16(o);
+z48(p);
+z16(q);
+z120(r);
+z16(s);
+z48(t);
+z20(u);
+memcpy(j,c+56,16);
+wp(k,(u8*)65536);
+w8(k+16,0);
+wp(k+24,(u8*)65536);
+w8(k+40,0);
+wp(k+48,(u8*)65536);
+w8(k+8,0);
+w8(k+32,0);
+z64(k+56);
+F=grow_amortized_fc3(k,4);
+if(F){
+G=r8(k+8);
+H=rp(k)+G*48;
+z48(H);
+H[48]=1;
+z40(H+49);
+H[89]=1;
+H[90]=0;
+x4(H+91,16842752);
+H[95]=0;
+H[96]=44;
+H[97]=0;
+x2(H+98,0);
+x4(H+100,1);
+z33(H+104);
+H[137]=1;
+H[138]=0;
+x4(H+139,16842752);
+H[143]=0;
+H[144]=21;
+H[145]=97;
+x2(H+146,0);
+x4(H+148,1);
+z40(H+152);
+w8(k+8,G+4);
+memcpy(q,j,16);
+memcpy(r,k,120);
+z16(s);
+z48(t);
+I=0;
+J=(u64)v;
+K=w;
+L=x;
+M=y;
+N=z;
+O=A;
+P=B;
+Q=C;
+R=D;
+S=E;
+T=(u8*)65536;}
+else{
+U=rp(k+24);
+V=r8(k+40);
+W=rp(k+48);
+X=r8(k+64);
+if(r8(k+16)!=0)port_rattle_dealloc(rp(k));
+if(V!=0)port_rattle_dealloc(U);
+if(X!=0)port_rattle_dealloc(W);
+if(B!=0)port_rattle_dealloc(z);
+if(E!=0)port_rattle_dealloc(C);
+if(x!=0)port_rattle_dealloc(v);
+z16(q);
+z120(r);
+z16(s);
+z48(t);
+I=4;
+J=0;
+K=0;
+L=0;
+M=0;
+N=0;
+O=0;
+P=0;
+Q=0;
+R=0;
+S=0;
+T=0;}
+Y=J;
+z16(f);
+z120(g);
+z16(h);
+z48(i);
+if(F){
+memcpy(f,q,16);
+memcpy(g,r,120);
+memcpy(h,s,16);
+memcpy(i,t,48);
+Z=J>>32;
+aa=K;
+ba=L;
+ca=M;
+da=N;
+ea=O;
+fa=P;
+ga=Q;
+ha=R;
+ia=S;
+ja=T;
+ka=0;}
+else{
+Z=0;
+aa=0;
+ba=0;
+ca=0;
+da=0;
+ea=0;
+fa=0;
+ga=0;
+ha=0;
+ia=0;
+ja=0;
+ka=I;}
+memcpy(m,f,16);
+memcpy(n,g,120);
+memcpy(o,h,16);
+memcpy(p,i,48);
+if(F){
+w4(l,Y);
+w4(l+4,Z);
+w8(l+8,aa);
+w8(l+16,ba);
+w8(l+24,ca);
+wp(l+32,da);
+w8(l+40,ea);
+w8(l+48,fa);
+wp(l+56,ga);
+w8(l+64,ha);
+w8(l+72,ia);
+memcpy(l+80,m,16);
+memcpy(l+96,n,120);
+wp(l+216,ja);
+memcpy(l+224,o,16);
+wp(l+240,ja);
+memcpy(l+248,p,48);
+z12(e);
+if(l[272]!=1){
+if(l[288]&1){
+oa=ja;
+pa=ja;
+qa=ia;
+ra=ha;
+sa=ga;
+ta=fa;
+ua=da;
+va=Y;}
+else{
+run_f2d(e,l+216,l+96,rp(l),aa,ga,ha);
+if(*e!=0){
+la=r8(l+16);
+ma=e[4];
+na=r4(e+8);
+goto L1;}
+l[288]=1;
+oa=rp(l+240);
+pa=rp(l+216);
+qa=r8(l+72);
+ra=r8(l+64);
+sa=rp(l+56);
+ta=r8(l+48);
+ua=rp(l+32);
+va=r4(l);}
+if(r8(l+248)==1){
+if(*oa==5){
+wa=r4(l+88);
+xa=rp(l+96);
+ya=r8(l+104);
+za=r8(l+112);
+Aa=rp(l+120);
+Ba=r8(l+128);
+Ca=r8(l+136);
+Da=rp(l+144);
+Ea=r8(l+160);
+Fa=r8(l+256);
+Ga=r4(l+268);
+Ha=r4(oa+4);
+Ia=r8(l+232);
+memcpy(d,l+4,20);
+if(Ia!=0)port_rattle_dealloc(pa);
+if(Fa!=0)port_rattle_dealloc(oa);
+if(Ea!=0)port_rattle_dealloc(Da);
+if(ta!=0)port_rattle_dealloc(ua);
+if(qa!=0)port_rattle_dealloc(sa);
+memcpy(u,d,20);
+x4(a,0);
+x4(a+4,0);
+x4(a+8,va);
+memcpy(a+12,u,20);
+xp(a+32,xa);
+x8(a+40,ya);
+x8(a+48,za);
+xp(a+56,Aa);
+x8(a+64,Ba);
+x8(a+72,Ca);
+x4(a+80,Ha);
+x4(a+84,ra);
+x4(a+88,Ga+wa);
+x4(a+92,0);
+goto L2;}}
+NEVER;}
+la=ba;
+ma=l[276];
+na=r4(l+280);
+L1:if(la!=0)port_rattle_dealloc(rp(l));
+Ja=rp(l+56);
+Ka=r8(l+72);
+if(r8(l+48)!=0)port_rattle_dealloc(rp(l+32));
+if(Ka!=0)port_rattle_dealloc(Ja);
+La=rp(l+120);
+Ma=r8(l+136);
+Na=rp(l+144);
+Oa=r8(l+160);
+if(r8(l+112)!=0)port_rattle_dealloc(rp(l+96));
+if(Ma!=0)port_rattle_dealloc(La);
+if(Oa!=0)port_rattle_dealloc(Na);
+Pa=rp(l+240);
+Qa=r8(l+256);
+if(r8(l+232)!=0)port_rattle_dealloc(rp(l+216));
+if(Qa!=0)port_rattle_dealloc(Pa);
+x4(a,1);
+x4(a+4,ma);
+x4(a+8,na);
+z84(a+12);}
+else{
+x4(a,1);
+x4(a+4,ka);
+x4(a+8,Y);
+z84(a+12);}
+L2:return;
+}
+
+/* cpp_parts::walk::parts_as */
+static void parts_as_fdd(u8* a,u8* b,u32 c,u8 d)
+{
+u8 ta[31],rb[31],Bb[35];
+A16 u8 e[64],f[24],g[24],h[64],i[64],j[24],k[24],l[64],m[64],n[24],o[24],p[64],q[64],r[24],s[24],t[64],u[64],v[24],w[24],x[64],y[64],z[24],A[24],B[64],C[64],D[24],E[24],F[64],G[64],H[24],I[24],J[64],K[64],L[24],M[24],N[64],O[64],P[24],Q[24],R[64],S[64],T[24],U[24],V[64],W[64],X[24],Y[24],Z[64],aa[12],ba[36],ca[12],da[12],ea[32],fa[296],ga[12],ha[12],ia[36],ja[36],ka[12],la[12],ma[36],na[12],oa[40],pa[12],qa[36],ra[12],sa[12],ua[12],va[12],wa[12],xa[64],ya[24],za[24],Aa[64],Ba[12],Ca[12],Da[32],Ea[296],Fa[296],Ga[12],Ha[36],Ia[12],Ja[12],Ka[12],La[40],Ma[12],Na[12],Oa[12],Pa[12],Qa[36],Ra[12],Sa[36],Ta[12],Ua[40],Va[12],Wa[12],Xa[64],Ya[24],Za[24],ab[64],bb[64],cb[24],db[24],eb[64],fb[12],gb[32],hb[296],ib[296],jb[12],kb[12],lb[36],mb[36],nb[12],ob[12],pb[12],qb[40],sb[12],tb[64],ub[24],vb[24],wb[64],xb[12],yb[32],zb[24],Ab[12],Cb[36],Db[296],Eb[296];
+u32 Fb,Lb,Pb,Tb,Yb,zc,Bc,Cc,Dc,Ec,Fc,Rc,Xc,ed,fd,ld,qd,ud,Ed,Id,Od,Td,Xd,Yd,ce,de,se,te,ue,we,xe,ye,Be,Fe,Ke,ef,jf,of,yf,Af,Df,Jf,Nf,Rf,Sf,Yf,Zf,ag,eg,ig,jg,ng,og,tg,Ng,Og,Pg,Rg,dh,hh,th,Fh,Oh,Ph,Qh,Rh,Xh,Yh,Zh,ai,bi,ci,di,gi,hi,ii,ji,ki,Ki,Ui,Vi,jj;
+u64 Gb,Ub,Vb,Zb,fc,hc,jc,kc,lc,rc,tc,uc,Gc,Hc,Nc,Sc,Uc,Vc,Wc,Yc,Zc,bd,gd,hd,jd,md,xd,zd,ge,he,ie,oe,Ge,He,Le,Re,Ue,Ve,We,cf,kf,lf,pf,vf,Ef,vg,yg,zg,Ag,Gg,Ig,Kg,Sg,Tg,Ug,ah,eh,fh,ih,oh,qh,rh,uh,Ah,Ch,Dh,Gh,Mh,Th,Uh,li,mi,ni,ti,vi,wi,xi,Di,Fi,Gi,Hi,Li,Ri,Wi,Xi,Yi,ej,hj;
+u8 *Hb,*Ib,*Mb,*Nb,*Qb,*Rb,*dc,*ec,*gc,*pc,*qc,*sc,*wc,*xc,*yc,*Lc,*Mc,*Oc,*Tc,*ad,*cd,*id,*pd,*td,*vd,*yd,*Ad,*Bd,*Fd,*Gd,*Jd,*Kd,*Md,*Pd,*Qd,*Ud,*Vd,*Zd,*ae,*me,*ne,*pe,*Ce,*De,*Pe,*Qe,*Se,*af,*bf,*df,*ff,*gf,*tf,*uf,*wf,*Ff,*Gf,*Kf,*Lf,*Of,*Pf,*Tf,*Uf,*bg,*cg,*fg,*gg,*kg,*lg,*pg,*qg,*Eg,*Fg,*Hg,*Yg,*Zg,*bh,*mh,*nh,*ph,*yh,*zh,*Bh,*Kh,*Lh,*Nh,*Sh,*ri,*si,*ui,*Bi,*Ci,*Ei,*Pi,*Qi,*Si,*cj,*dj,*fj,*gj,*ij,*kj;
+u8 Jb,Kb,Ob,Sb,Wb,Xb,ic,vc,Ac,Pc,Qc,dd,kd,Cd,Dd,Hd,Ld,Nd,Rd,Sd,Wd,be,ee,fe,qe,re,ve,ze,Ae,Ee,Ie,Je,Te,hf,mf,nf,xf,zf,Bf,Cf,Hf,If,Mf,Qf,Vf,Wf,Xf,dg,hg,mg,rg,sg,ug,wg,xg,Jg,Lg,Mg,Qg,ch,gh,sh,Eh,Vh,Wh,ei,fi,Ii,Ji,Ti;
+s_64_64 ac,bc,cc,mc,nc,oc,Ic,Jc,Kc,nd,od,sd,je,ke,le,Me,Ne,Oe,Xe,Ye,Ze,qf,rf,sf,Bg,Cg,Dg,Vg,Wg,Xg,jh,kh,lh,vh,wh,xh,Hh,Ih,Jh,oi,pi,qi,yi,zi,Ai,Mi,Ni,Oi,Zi,aj,bj;
+z24(zb);
+z12(Ab);
+z3(Bb);
+zero_all(Db,296);
+w4(yb,r4(b+72));
+w4(yb+4,9);
+w4(yb+8,0);
+w4(yb+12,0);
+w4(yb+16,0);
+yb[20]=d;
+z11(yb+21);
+memcpy(Bb+3,yb,32);
+*Cb=0;
+memcpy(Cb+1,Bb,35);
+length_of_part_030(Ab,b,Cb,c);
+if(*Ab==0){
+wp(zb,(u8*)65536);
+z16(zb+8);
+Fb=r4(b+72);
+parts_7a7(Db,b,yb);
+memcpy(Eb,Db,296);
+Gb=r8(Eb+288);
+z12(xb);
+Hb=rp(b+24);
+Ib=Hb+(i64)((u64)Fb*48);
+Jb=*Ib;
+memcpy(vb+1,Ib+1,3);
+memcpy(vb+4,Ib+4,20);
+*vb=Jb;
+z64(wb);
+Kb=Jb==47;
+if(Kb){
+Lb=r4(vb+4);
+z64(tb);
+Mb=Hb+(i64)((u64)Lb*48);
+Nb=Hb+(i64)((u64)(*Mb==47?q4(Mb+4):Lb)*48);
+Ob=*Nb;
+memcpy(ub+1,Nb+1,3);
+memcpy(ub+4,Nb+4,20);
+*ub=Ob;
+view_of_own_62c(tb,b+24,ub);
+memcpy(wb,tb,64);}
+else view_of_own_62c(wb,b+24,vb);
+if(r2(wb)==3){
+memcpy(Y+1,Ib+1,3);
+memcpy(Y+4,Ib+4,20);
+*Y=Jb;
+z64(Z);
+if(Kb){
+Pb=r4(Y+4);
+z64(W);
+Qb=Hb+(i64)((u64)Pb*48);
+Rb=Hb+(i64)((u64)(*Qb==47?q4(Qb+4):Pb)*48);
+Sb=*Rb;
+memcpy(X+1,Rb+1,3);
+memcpy(X+4,Rb+4,20);
+*X=Sb;
+view_of_own_62c(W,b+24,X);
+memcpy(Z,W,64);}
+else view_of_own_62c(Z,b+24,Y);
+Tb=r4(Z+48);
+z12(sb);
+if(Gb==0){
+Ub=r8(zb+8);
+if(r8(zb+16)==Ub){
+Vb=umax64(Ub,8);
+if(Vb>(Ub^18446744073709551615u)){
+Wb=1;
+Xb=4;
+Yb=0;
+goto L1;}
+Zb=Vb+Ub;
+if(Zb>=0x333333333333334u){
+Wb=1;
+Xb=4;
+Yb=0;
+goto L1;}
+if(Ub==0){
+ac=port_rattle_alloc(Zb*40,4);
+if(!(u8)(ac.f0&1)){
+Wb=1;
+Xb=4;
+Yb=0;
+goto L1;}
+bc=ac;}
+else{
+cc=port_rattle_realloc(rp(zb),Ub*40,Zb*40,4);
+if(!(u8)(cc.f0&1)){
+Wb=1;
+Xb=4;
+Yb=0;
+goto L1;}
+bc=cc;}
+dc=(u8*)bc.f1;
+wp(zb,dc);
+w8(zb+16,Zb);
+ec=dc;
+fc=r8(zb+8);}
+else{
+ec=rp(zb);
+fc=Ub;}
+gc=ec+fc*40;
+*gc=0;
+gc[1]=0;
+z36(gc+4);
+w8(zb+8,fc+1);
+Wb=0;
+Xb=0;
+Yb=0;}
+else{
+if(*Eb==0){
+hc=Gb-1;
+ic=Eb[4];
+memcpy(rb,Db+5,31);
+z12(nb);
+z12(ob);
+z12(pb);
+z40(qb);
+if(hc==0){
+jc=r8(zb+8);
+if(r8(zb+16)==jc){
+kc=umax64(jc,8);
+if(kc<=(jc^18446744073709551615u)){
+lc=kc+jc;
+if(lc<0x333333333333334u){
+if(jc==0){
+mc=port_rattle_alloc(lc*40,4);
+if(!(u8)(mc.f0&1))goto L2;
+nc=mc;}
+else{
+oc=port_rattle_realloc(rp(zb),jc*40,lc*40,4);
+if(!(u8)(oc.f0&1))goto L2;
+nc=oc;}
+pc=(u8*)nc.f1;
+wp(zb,pc);
+w8(zb+16,lc);
+qc=pc;
+rc=r8(zb+8);
+goto L3;}}
+L2:Wb=1;
+Xb=4;
+Yb=0;
+goto L1;}
+qc=rp(zb);
+rc=jc;
+L3:sc=qc+rc*40;
+*sc=0;
+sc[1]=0;
+tc=rc+1;
+z36(sc+4);
+w8(zb+8,tc);
+uc=tc;}
+else{
+vc=Eb[36];
+if(vc==0){
+push_plain_069(nb,b,zb,Eb+36,hc,c);
+wc=nb+4;
+xc=nb+8;
+yc=nb;}
+else{
+zc=r4(Eb+68);
+*lb=vc;
+memcpy(lb+1,Db+37,31);
+w4(lb+32,zc);
+if(hc==1){
+push_plain_069(ob,b,zb,Eb+36,1,c);
+wc=ob+4;
+xc=ob+8;
+yc=ob;}
+else{
+Ac=Eb[72];
+if(Ac!=0){
+Bc=r4(Eb+104);
+*mb=Ac;
+memcpy(mb+1,Db+73,31);
+w4(mb+32,Bc);
+z12(kb);
+length_of_part_030(kb,b,lb,c);
+Cc=r4(kb+4);
+if(*kb==0){
+z12(jb);
+length_of_part_030(jb,b,mb,c);
+Dc=r4(jb+4);
+if(*jb==0){
+push_plain_069(pb,b,zb,Eb+108,Gb-3,c);
+if(*pb==0){
+push_alone_0dc(pb,zb,11,Dc);
+if(*pb==0){
+*qb=0;
+w4(qb+4,Cc);
+push_bd8(ob,zb,qb);
+wc=ob+4;
+xc=ob+8;
+yc=ob;
+goto L4;}
+Ec=pb[4];
+Fc=r4(pb+8);}
+else{
+Ec=pb[4];
+Fc=r4(pb+8);}}
+else{
+Ec=Dc;
+Fc=r4(jb+8);}}
+else{
+Ec=Cc;
+Fc=r4(kb+8);}
+Wb=1;
+Xb=Ec;
+Yb=Fc;
+goto L1;}
+push_plain_069(ob,b,zb,Eb+36,hc,c);
+wc=ob+4;
+xc=ob+8;
+yc=ob;}}
+L4:if(*yc!=0){
+Wb=1;
+Xb=*wc;
+Yb=r4(xc);
+goto L1;}
+uc=r8(zb+8);}
+if(r8(zb+16)==uc){
+Gc=umax64(uc,8);
+if(Gc>(uc^18446744073709551615u)){
+Wb=1;
+Xb=4;
+Yb=0;
+goto L1;}
+Hc=Gc+uc;
+if(Hc>=0x333333333333334u){
+Wb=1;
+Xb=4;
+Yb=0;
+goto L1;}
+if(uc==0){
+Ic=port_rattle_alloc(Hc*40,4);
+if(!(u8)(Ic.f0&1)){
+Wb=1;
+Xb=4;
+Yb=0;
+goto L1;}
+Jc=Ic;}
+else{
+Kc=port_rattle_realloc(rp(zb),uc*40,Hc*40,4);
+if(!(u8)(Kc.f0&1)){
+Wb=1;
+Xb=4;
+Yb=0;
+goto L1;}
+Jc=Kc;}
+Lc=(u8*)Jc.f1;
+wp(zb,Lc);
+w8(zb+16,Hc);
+Mc=Lc;
+Nc=r8(zb+8);}
+else{
+Mc=rp(zb);
+Nc=uc;}
+Oc=Mc+Nc*40;
+*Oc=2;
+Oc[1]=0;
+x4(Oc+4,Tb);
+Oc[8]=ic;
+memcpy(Oc+9,rb,31);
+w8(zb+8,Nc+1);
+Wb=0;
+Xb=0;
+Yb=0;}
+else{
+push_plain_069(sb,b,zb,Db,Gb,c);
+Wb=*sb;
+Xb=sb[4];
+Yb=r4(sb+8);}}
+L1:Pc=Wb;
+Qc=Xb;
+Rc=Yb;}
+else{
+push_plain_069(xb,b,zb,Db,Gb,c);
+Pc=*xb;
+Qc=xb[4];
+Rc=r4(xb+8);}
+if(Pc==0){
+Sc=r8(zb+8);
+if(Sc==0){
+Tc=(u8*)65536;
+Uc=0;
+Vc=0;}
+else{
+Wc=Sc;
+Xc=0;
+Yc=0;
+Zc=0;
+ad=(u8*)65536;
+L5:bd=Wc-1;
+w8(zb+8,bd);
+cd=rp(zb)+bd*40;
+dd=cd[1];
+ed=q4(cd+4);
+switch(*cd){
+case 0:fd=ed+Xc;
+gd=Yc;
+hd=Zc;
+id=ad;
+goto L6;
+case 1:if(Yc==Zc){
+jd=umax64(Yc,8);
+if(jd>(Yc^18446744073709551615u)){
+kd=4;
+ld=0;
+goto L7;}
+md=jd+Yc;
+if(md>=0xaaaaaaaaaaaaaabu){
+kd=4;
+ld=0;
+goto L7;}
+if(Yc==0){
+nd=port_rattle_alloc(md*12,4);
+if(!(u8)(nd.f0&1)){
+pd=0;
+qd=4;
+goto L8;}
+od=nd;}
+else{
+sd=port_rattle_realloc(ad,Yc*12,md*12,4);
+if(!(u8)(sd.f0&1)){
+td=0;
+ud=4;
+goto L9;}
+od=sd;}
+vd=(u8*)od.f1;
+xd=md;}
+else{
+vd=ad;
+xd=Yc;}
+yd=vd+Zc*12;
+*yd=dd;
+z3(yd+1);
+x4(yd+4,Xc);
+x4(yd+8,ed);
+fd=Xc;
+gd=xd;
+hd=Zc+1;
+id=vd;
+goto L6;
+case 2:memcpy(gb,cd+8,32);
+zero_all(ib,296);
+parts_7a7(ib,b,gb);
+memcpy(hb,ib,296);
+zd=r8(hb+288);
+z12(fb);
+Ad=rp(b+24);
+Bd=Ad+(i64)((u64)ed*48);
+Cd=*Bd;
+memcpy(db+1,Bd+1,3);
+memcpy(db+4,Bd+4,20);
+*db=Cd;
+z64(eb);
+Dd=Cd==47;
+if(Dd){
+Ed=r4(db+4);
+z64(bb);
+Fd=Ad+(i64)((u64)Ed*48);
+Gd=Ad+(i64)((u64)(*Fd==47?q4(Fd+4):Ed)*48);
+Hd=*Gd;
+memcpy(cb+1,Gd+1,3);
+memcpy(cb+4,Gd+4,20);
+*cb=Hd;
+view_of_own_62c(bb,b+24,cb);
+memcpy(eb,bb,64);}
+else view_of_own_62c(eb,b+24,db);
+switch(r2(eb)){
+case 4:memcpy(U+1,Bd+1,3);
+memcpy(U+4,Bd+4,20);
+*U=Cd;
+z64(V);
+if(Dd){
+Id=r4(U+4);
+z64(S);
+Jd=Ad+(i64)((u64)Id*48);
+Kd=Ad+(i64)((u64)(*Jd==47?q4(Jd+4):Id)*48);
+Ld=*Kd;
+memcpy(T+1,Kd+1,3);
+memcpy(T+4,Kd+4,20);
+*T=Ld;
+view_of_own_62c(S,b+24,T);
+memcpy(V,S,64);}
+else view_of_own_62c(V,b+24,U);
+Md=Ad+(i64)((u64)r4(V+52)*48);
+Nd=*Md;
+memcpy(Za+1,Md+1,3);
+memcpy(Za+4,Md+4,20);
+*Za=Nd;
+z64(ab);
+if(Nd==47){
+Od=r4(Za+4);
+z64(Xa);
+Pd=Ad+(i64)((u64)Od*48);
+Qd=Ad+(i64)((u64)(*Pd==47?q4(Pd+4):Od)*48);
+Rd=*Qd;
+memcpy(Ya+1,Qd+1,3);
+memcpy(Ya+4,Qd+4,20);
+*Ya=Rd;
+view_of_own_62c(Xa,b+24,Ya);
+memcpy(ab,Xa,64);}
+else view_of_own_62c(ab,b+24,Za);
+Sd=r2(ab)==0;
+memcpy(Q+1,Bd+1,3);
+memcpy(Q+4,Bd+4,20);
+*Q=Cd;
+z64(R);
+if(Dd){
+Td=r4(Q+4);
+z64(O);
+Ud=Ad+(i64)((u64)Td*48);
+Vd=Ad+(i64)((u64)(*Ud==47?q4(Ud+4):Td)*48);
+Wd=*Vd;
+memcpy(P+1,Vd+1,3);
+memcpy(P+4,Vd+4,20);
+*P=Wd;
+view_of_own_62c(O,b+24,P);
+memcpy(R,O,64);}
+else view_of_own_62c(R,b+24,Q);
+Xd=r4(R+48);
+memcpy(M+1,Bd+1,3);
+memcpy(M+4,Bd+4,20);
+*M=Cd;
+z64(N);
+if(Dd){
+Yd=r4(M+4);
+z64(K);
+Zd=Ad+(i64)((u64)Yd*48);
+ae=Ad+(i64)((u64)(*Zd==47?q4(Zd+4):Yd)*48);
+be=*ae;
+memcpy(L+1,ae+1,3);
+memcpy(L+4,ae+4,20);
+*L=be;
+view_of_own_62c(K,b+24,L);
+memcpy(N,K,64);}
+else view_of_own_62c(N,b+24,M);
+ce=r4(N+56);
+z12(Va);
+z12(Wa);
+if(Sd){
+push_called_f56(Va,b,zb,Xd,ce,ib,zd,c);
+de=r4(Va+8);
+ee=Va[4];
+fe=*Va;}
+else{
+if(zd==0){
+ge=r8(zb+8);
+if(r8(zb+16)==ge){
+he=umax64(ge,8);
+if(he>(ge^18446744073709551615u)){
+de=0;
+ee=4;
+fe=1;
+goto L10;}
+ie=he+ge;
+if(ie>=0x333333333333334u){
+de=0;
+ee=4;
+fe=1;
+goto L10;}
+if(ge==0){
+je=port_rattle_alloc(ie*40,4);
+if(!(u8)(je.f0&1)){
+de=0;
+ee=4;
+fe=1;
+goto L10;}
+ke=je;}
+else{
+le=port_rattle_realloc(rp(zb),ge*40,ie*40,4);
+if(!(u8)(le.f0&1)){
+de=0;
+ee=4;
+fe=1;
+goto L10;}
+ke=le;}
+me=(u8*)ke.f1;
+wp(zb,me);
+w8(zb+16,ie);
+ne=me;
+oe=r8(zb+8);}
+else{
+ne=rp(zb);
+oe=ge;}
+pe=ne+oe*40;
+*pe=0;
+pe[1]=0;
+z36(pe+4);
+w8(zb+8,oe+1);
+de=0;
+ee=0;
+fe=0;}
+else{
+if(*hb==0){
+qe=hb[4];
+z12(Ra);
+z12(Ta);
+z40(Ua);
+if(zd==1)push_called_f56(Ra,b,zb,Xd,ce,ib,1,c);
+else{
+re=hb[36];
+if(re==0)push_called_f56(Ra,b,zb,Xd,ce,ib,zd,c);
+else{
+se=r4(hb+68);
+*Qa=re;
+memcpy(Qa+1,ib+37,31);
+w4(Qa+32,se);
+memcpy(Sa+5,ib+5,31);
+w4(Sa,0);
+Sa[4]=qe;
+z12(Pa);
+length_of_part_030(Pa,b,Sa,c);
+te=r4(Pa+4);
+if(*Pa!=0){
+ve=1;
+we=te;
+xe=r4(Pa+8);
+goto L11;}
+z12(Oa);
+length_of_part_030(Oa,b,Qa,c);
+ue=r4(Oa+4);
+if(*Oa!=0){
+ve=1;
+we=ue;
+xe=r4(Oa+8);
+goto L11;}
+push_called_f56(Ta,b,zb,Xd,ce,hb+72,zd-2,c);
+if(*Ta!=0){
+ve=1;
+we=Ta[4];
+xe=r4(Ta+8);
+goto L11;}
+*Ua=0;
+w4(Ua+4,ue);
+push_bd8(Ta,zb,Ua);
+if(*Ta!=0){
+ve=1;
+we=Ta[4];
+xe=r4(Ta+8);
+goto L11;}
+push_alone_0dc(Ra,zb,1,te);}}
+ve=*Ra;
+we=Ra[4];
+xe=r4(Ra+8);
+L11:de=xe;
+ee=we;
+fe=ve;}
+else{
+push_called_f56(Wa,b,zb,Xd,ce,ib,zd,c);
+de=r4(Wa+8);
+ee=Wa[4];
+fe=*Wa;}}}
+L10:ye=de;
+ze=ee;
+Ae=fe;
+break;
+case 5:memcpy(I+1,Bd+1,3);
+memcpy(I+4,Bd+4,20);
+*I=Cd;
+z64(J);
+if(Dd){
+Be=r4(I+4);
+z64(G);
+Ce=Ad+(i64)((u64)Be*48);
+De=Ad+(i64)((u64)(*Ce==47?q4(Ce+4):Be)*48);
+Ee=*De;
+memcpy(H+1,De+1,3);
+memcpy(H+4,De+4,20);
+*H=Ee;
+view_of_own_62c(G,b+24,H);
+memcpy(J,G,64);}
+else view_of_own_62c(J,b+24,I);
+Fe=r4(J+48);
+z12(Ma);
+z12(Na);
+if(zd==0){
+Ge=r8(zb+8);
+if(r8(zb+16)==Ge){
+He=umax64(Ge,8);
+if(He>(Ge^18446744073709551615u)){
+Ie=1;
+Je=4;
+Ke=0;
+goto L12;}
+Le=He+Ge;
+if(Le>=0x333333333333334u){
+Ie=1;
+Je=4;
+Ke=0;
+goto L12;}
+if(Ge==0){
+Me=port_rattle_alloc(Le*40,4);
+if(!(u8)(Me.f0&1)){
+Ie=1;
+Je=4;
+Ke=0;
+goto L12;}
+Ne=Me;}
+else{
+Oe=port_rattle_realloc(rp(zb),Ge*40,Le*40,4);
+if(!(u8)(Oe.f0&1)){
+Ie=1;
+Je=4;
+Ke=0;
+goto L12;}
+Ne=Oe;}
+Pe=(u8*)Ne.f1;
+wp(zb,Pe);
+w8(zb+16,Le);
+Qe=Pe;
+Re=r8(zb+8);}
+else{
+Qe=rp(zb);
+Re=Ge;}
+Se=Qe+Re*40;
+*Se=0;
+Se[1]=0;
+z36(Se+4);
+w8(zb+8,Re+1);
+Ie=0;
+Je=0;
+Ke=0;}
+else{
+if(*hb==0){
+Te=hb[4];
+push_behind_d5c(Na,b,zb,hb+36,zd-1,c);
+if(*Na==0){
+Ue=r8(zb+8);
+if(r8(zb+16)==Ue){
+Ve=umax64(Ue,8);
+if(Ve>(Ue^18446744073709551615u)){
+Ie=1;
+Je=4;
+Ke=0;
+goto L12;}
+We=Ve+Ue;
+if(We>=0x333333333333334u){
+Ie=1;
+Je=4;
+Ke=0;
+goto L12;}
+if(Ue==0){
+Xe=port_rattle_alloc(We*40,4);
+if(!(u8)(Xe.f0&1)){
+Ie=1;
+Je=4;
+Ke=0;
+goto L12;}
+Ye=Xe;}
+else{
+Ze=port_rattle_realloc(rp(zb),Ue*40,We*40,4);
+if(!(u8)(Ze.f0&1)){
+Ie=1;
+Je=4;
+Ke=0;
+goto L12;}
+Ye=Ze;}
+af=(u8*)Ye.f1;
+wp(zb,af);
+w8(zb+16,We);
+bf=af;
+cf=r8(zb+8);}
+else{
+bf=rp(zb);
+cf=Ue;}
+df=bf+cf*40;
+*df=3;
+df[1]=0;
+x4(df+4,Fe);
+df[8]=Te;
+memcpy(df+9,ib+5,31);
+w8(zb+8,cf+1);
+Ie=0;
+Je=0;
+Ke=0;}
+else{
+Ie=1;
+Je=Na[4];
+Ke=r4(Na+8);}}
+else{
+push_special_629(Ma,b,zb,ib,zd,c);
+Ie=*Ma;
+Je=Ma[4];
+Ke=r4(Ma+8);}}
+L12:ye=Ke;
+ze=Je;
+Ae=Ie;
+break;
+case 8:case 9:case 10:case 11:case 72:memcpy(E+1,Bd+1,3);
+memcpy(E+4,Bd+4,20);
+*E=Cd;
+z64(F);
+if(Dd){
+ef=r4(E+4);
+z64(C);
+ff=Ad+(i64)((u64)ef*48);
+gf=Ad+(i64)((u64)(*ff==47?q4(ff+4):ef)*48);
+hf=*gf;
+memcpy(D+1,gf+1,3);
+memcpy(D+4,gf+4,20);
+*D=hf;
+view_of_own_62c(C,b+24,D);
+memcpy(F,C,64);}
+else view_of_own_62c(F,b+24,E);
+jf=r4(F+48);
+z12(Ia);
+z12(Ja);
+z12(Ka);
+w4(La,2);
+if(zd==0){
+kf=r8(zb+8);
+if(r8(zb+16)==kf){
+lf=umax64(kf,8);
+if(lf>(kf^18446744073709551615u)){
+mf=1;
+nf=4;
+of=0;
+goto L13;}
+pf=lf+kf;
+if(pf>=0x333333333333334u){
+mf=1;
+nf=4;
+of=0;
+goto L13;}
+if(kf==0){
+qf=port_rattle_alloc(pf*40,4);
+if(!(u8)(qf.f0&1)){
+mf=1;
+nf=4;
+of=0;
+goto L13;}
+rf=qf;}
+else{
+sf=port_rattle_realloc(rp(zb),kf*40,pf*40,4);
+if(!(u8)(sf.f0&1)){
+mf=1;
+nf=4;
+of=0;
+goto L13;}
+rf=sf;}
+tf=(u8*)rf.f1;
+wp(zb,tf);
+w8(zb+16,pf);
+uf=tf;
+vf=r8(zb+8);}
+else{
+uf=rp(zb);
+vf=kf;}
+wf=uf+vf*40;
+*wf=0;
+wf[1]=0;
+z36(wf+4);
+w8(zb+8,vf+1);
+mf=0;
+nf=0;
+of=0;}
+else{
+xf=*hb;
+if(xf==0){
+push_special_629(Ia,b,zb,ib,zd,c);
+mf=*Ia;
+nf=Ia[4];
+of=r4(Ia+8);}
+else{
+yf=r4(hb+32);
+*Ha=xf;
+memcpy(Ha+1,ib+1,31);
+w4(Ha+32,yf);
+if(zd==1)push_special_629(Ja,b,zb,ib,1,c);
+else{
+if(hb[36]==0){
+zf=hb[40];
+z12(Ga);
+length_of_part_030(Ga,b,Ha,c);
+Af=r4(Ga+4);
+if(*Ga!=0){
+mf=1;
+nf=Af;
+of=r4(Ga+8);
+goto L13;}
+push_plain_069(Ka,b,zb,hb+72,zd-2,c);
+if(*Ka!=0){
+mf=1;
+nf=Ka[4];
+of=r4(Ka+8);
+goto L13;}
+w4(La+4,jf);
+La[8]=zf;
+memcpy(La+9,ib+41,31);
+push_bd8(Ka,zb,La);
+if(*Ka!=0){
+mf=1;
+nf=Ka[4];
+of=r4(Ka+8);
+goto L13;}
+push_words_147(Ja,zb,Af);}
+else push_special_629(Ja,b,zb,ib,zd,c);}
+mf=*Ja;
+nf=Ja[4];
+of=r4(Ja+8);}}
+L13:ye=of;
+ze=nf;
+Ae=mf;
+break;
+default:push_special_629(fb,b,zb,ib,zd,c);
+ye=r4(fb+8);
+ze=fb[4];
+Ae=*fb;
+break;}
+Bf=Ae;
+Cf=ze;
+Df=ye;
+break;
+case 3:memcpy(Da,cd+8,32);
+zero_all(Fa,296);
+parts_7a7(Fa,b,Da);
+memcpy(Ea,Fa,296);
+Ef=r8(Ea+288);
+z12(Ba);
+z12(Ca);
+Ff=rp(b+24);
+Gf=Ff+(i64)((u64)ed*48);
+Hf=*Gf;
+memcpy(za+1,Gf+1,3);
+memcpy(za+4,Gf+4,20);
+*za=Hf;
+z64(Aa);
+If=Hf==47;
+if(If){
+Jf=r4(za+4);
+z64(xa);
+Kf=Ff+(i64)((u64)Jf*48);
+Lf=Ff+(i64)((u64)(*Kf==47?q4(Kf+4):Jf)*48);
+Mf=*Lf;
+memcpy(ya+1,Lf+1,3);
+memcpy(ya+4,Lf+4,20);
+*ya=Mf;
+view_of_own_62c(xa,b+24,ya);
+memcpy(Aa,xa,64);}
+else view_of_own_62c(Aa,b+24,za);
+switch(r2(Aa)){
+case 12:memcpy(A+1,Gf+1,3);
+memcpy(A+4,Gf+4,20);
+*A=Hf;
+z64(B);
+if(If){
+Nf=r4(A+4);
+z64(y);
+Of=Ff+(i64)((u64)Nf*48);
+Pf=Ff+(i64)((u64)(*Of==47?q4(Of+4):Nf)*48);
+Qf=*Pf;
+memcpy(z+1,Pf+1,3);
+memcpy(z+4,Pf+4,20);
+*z=Qf;
+view_of_own_62c(y,b+24,z);
+memcpy(B,y,64);}
+else view_of_own_62c(B,b+24,A);
+Rf=r4(B+48);
+memcpy(w+1,Gf+1,3);
+memcpy(w+4,Gf+4,20);
+*w=Hf;
+z64(x);
+if(If){
+Sf=r4(w+4);
+z64(u);
+Tf=Ff+(i64)((u64)Sf*48);
+Uf=Ff+(i64)((u64)(*Tf==47?q4(Tf+4):Sf)*48);
+Vf=*Uf;
+memcpy(v+1,Uf+1,3);
+memcpy(v+4,Uf+4,20);
+*v=Vf;
+view_of_own_62c(u,b+24,v);
+memcpy(x,u,64);}
+else view_of_own_62c(x,b+24,w);
+Wf=0;
+Xf=0;
+Yf=Rf;
+Zf=r4(x+52);
+break;
+case 68:memcpy(s+1,Gf+1,3);
+memcpy(s+4,Gf+4,20);
+*s=Hf;
+z64(t);
+if(If){
+ag=r4(s+4);
+z64(q);
+bg=Ff+(i64)((u64)ag*48);
+cg=Ff+(i64)((u64)(*bg==47?q4(bg+4):ag)*48);
+dg=*cg;
+memcpy(r+1,cg+1,3);
+memcpy(r+4,cg+4,20);
+*r=dg;
+view_of_own_62c(q,b+24,r);
+memcpy(t,q,64);}
+else view_of_own_62c(t,b+24,s);
+Wf=0;
+Xf=1;
+Yf=r4(t+48);
+Zf=0;
+break;
+case 13:memcpy(o+1,Gf+1,3);
+memcpy(o+4,Gf+4,20);
+*o=Hf;
+z64(p);
+if(If){
+eg=r4(o+4);
+z64(m);
+fg=Ff+(i64)((u64)eg*48);
+gg=Ff+(i64)((u64)(*fg==47?q4(fg+4):eg)*48);
+hg=*gg;
+memcpy(n+1,gg+1,3);
+memcpy(n+4,gg+4,20);
+*n=hg;
+view_of_own_62c(m,b+24,n);
+memcpy(p,m,64);}
+else view_of_own_62c(p,b+24,o);
+ig=entity_node_809(b,r4(p+52));
+Wf=0;
+Xf=2;
+Yf=ig;
+Zf=0;
+break;
+case 14:memcpy(k+1,Gf+1,3);
+memcpy(k+4,Gf+4,20);
+*k=Hf;
+z64(l);
+if(If){
+jg=r4(k+4);
+z64(i);
+kg=Ff+(i64)((u64)jg*48);
+lg=Ff+(i64)((u64)(*kg==47?q4(kg+4):jg)*48);
+mg=*lg;
+memcpy(j+1,lg+1,3);
+memcpy(j+4,lg+4,20);
+*j=mg;
+view_of_own_62c(i,b+24,j);
+memcpy(l,i,64);}
+else view_of_own_62c(l,b+24,k);
+ng=entity_node_809(b,r4(l+52));
+Wf=0;
+Xf=2;
+Yf=ng;
+Zf=0;
+break;
+case 66:memcpy(g+1,Gf+1,3);
+memcpy(g+4,Gf+4,20);
+*g=Hf;
+z64(h);
+if(If){
+og=r4(g+4);
+z64(e);
+pg=Ff+(i64)((u64)og*48);
+qg=Ff+(i64)((u64)(*pg==47?q4(pg+4):og)*48);
+rg=*qg;
+memcpy(f+1,qg+1,3);
+memcpy(f+4,qg+4,20);
+*f=rg;
+view_of_own_62c(e,b+24,f);
+memcpy(h,e,64);}
+else view_of_own_62c(h,b+24,g);
+Wf=0;
+Xf=2;
+Yf=r4(h+48);
+Zf=0;
+break;
+case 15:Wf=1;
+Xf=3;
+Yf=0;
+Zf=0;
+break;
+default:Wf=0;
+Xf=4;
+Yf=0;
+Zf=0;
+break;}
+if(Ef==0){
+push_whole_733(Ba,b,zb,3,Fa,0,c);
+sg=Ba[4];
+tg=r4(Ba+8);
+ug=*Ba;}
+else{
+vg=Ef-1;
+wg=*Ea;
+if(wg==0){
+xg=Ea[4];
+memcpy(ta,Fa+5,31);
+z12(ua);
+z12(va);
+z12(wa);
+switch(Xf){
+case 0:z12(ra);
+z12(sa);
+if(vg!=0){
+Jg=Ea[36];
+if(Jg==0){
+push_plain_069(ra,b,zb,Ea+36,vg,c);
+if(*ra==0){
+Kg=r8(zb+8);
+goto L14;}
+Lg=1;
+Mg=ra[4];
+Ng=r4(ra+8);
+goto L15;}
+Og=r4(Ea+68);
+*qa=Jg;
+memcpy(qa+1,Fa+37,31);
+w4(qa+32,Og);
+z12(pa);
+length_of_part_030(pa,b,qa,c);
+Pg=r4(pa+4);
+if(*pa==0){
+Qg=Pg!=0;
+push_brackets_287(sa,b,zb,5,6,Zf,Qg,Ea+72,Ef-2,c);
+if(*sa==0){
+Rg=Pg-Qg;
+Sg=r8(zb+8);
+if(r8(zb+16)==Sg){
+Tg=umax64(Sg,8);
+if(Tg>(Sg^18446744073709551615u))goto L16;
+Ug=Tg+Sg;
+if(Ug>=0x333333333333334u)goto L16;
+if(Sg==0){
+Vg=port_rattle_alloc(Ug*40,4);
+if(!(u8)(Vg.f0&1))goto L16;
+Wg=Vg;}
+else{
+Xg=port_rattle_realloc(rp(zb),Sg*40,Ug*40,4);
+if(!(u8)(Xg.f0&1))goto L16;
+Wg=Xg;}
+Yg=(u8*)Wg.f1;
+wp(zb,Yg);
+w8(zb+16,Ug);
+Zg=Yg;
+ah=r8(zb+8);}
+else{
+Zg=rp(zb);
+ah=Sg;}
+bh=Zg+ah*40;
+*bh=0;
+bh[1]=0;
+x4(bh+4,Rg);
+z32(bh+8);
+Ig=ah;
+goto L17;}
+ch=sa[4];
+dh=r4(sa+8);}
+else{
+ch=Pg;
+dh=r4(pa+8);}
+Lg=1;
+Mg=ch;
+Ng=dh;
+goto L15;}
+yg=r8(zb+8);
+if(r8(zb+16)==yg){
+zg=umax64(yg,8);
+if(zg>(yg^18446744073709551615u))goto L16;
+Ag=zg+yg;
+if(Ag>=0x333333333333334u)goto L16;
+if(yg==0){
+Bg=port_rattle_alloc(Ag*40,4);
+if(!(u8)(Bg.f0&1))goto L16;
+Cg=Bg;}
+else{
+Dg=port_rattle_realloc(rp(zb),yg*40,Ag*40,4);
+if(!(u8)(Dg.f0&1))goto L16;
+Cg=Dg;}
+Eg=(u8*)Cg.f1;
+wp(zb,Eg);
+w8(zb+16,Ag);
+Fg=Eg;
+Gg=r8(zb+8);}
+else{
+Fg=rp(zb);
+Gg=yg;}
+Hg=Fg+Gg*40;
+*Hg=0;
+Hg[1]=0;
+z36(Hg+4);
+Ig=Gg;
+L17:eh=Ig+1;
+w8(zb+8,eh);
+Kg=eh;
+L14:if(r8(zb+16)==Kg){
+fh=umax64(Kg,8);
+if(fh>(Kg^18446744073709551615u)){
+gh=1;
+hh=4;
+goto L18;}
+ih=fh+Kg;
+if(ih>=0x333333333333334u){
+gh=1;
+hh=4;
+goto L18;}
+if(Kg==0){
+jh=port_rattle_alloc(ih*40,4);
+if(!(u8)(jh.f0&1)){
+gh=1;
+hh=4;
+goto L18;}
+kh=jh;}
+else{
+lh=port_rattle_realloc(rp(zb),Kg*40,ih*40,4);
+if(!(u8)(lh.f0&1)){
+gh=1;
+hh=4;
+goto L18;}
+kh=lh;}
+mh=(u8*)kh.f1;
+wp(zb,mh);
+w8(zb+16,ih);
+nh=mh;
+oh=r8(zb+8);}
+else{
+nh=rp(zb);
+oh=Kg;}
+ph=nh+oh*40;
+*ph=3;
+ph[1]=0;
+x4(ph+4,Yf);
+ph[8]=xg;
+memcpy(ph+9,ta,31);
+w8(zb+8,oh+1);
+gh=0;
+hh=0;
+L18:*ua=gh;
+w4(ua+4,hh);
+w4(ua+8,0);
+break;
+L16:Lg=1;
+Mg=4;
+Ng=0;
+goto L15;
+case 1:push_whole_733(va,b,zb,4,Ea+36,vg,c);
+if(*va!=0){
+Lg=1;
+Mg=va[4];
+Ng=r4(va+8);
+goto L15;}
+qh=r8(zb+8);
+if(r8(zb+16)==qh){
+rh=umax64(qh,8);
+if(rh>(qh^18446744073709551615u)){
+sh=1;
+th=4;
+goto L19;}
+uh=rh+qh;
+if(uh>=0x333333333333334u){
+sh=1;
+th=4;
+goto L19;}
+if(qh==0){
+vh=port_rattle_alloc(uh*40,4);
+if(!(u8)(vh.f0&1)){
+sh=1;
+th=4;
+goto L19;}
+wh=vh;}
+else{
+xh=port_rattle_realloc(rp(zb),qh*40,uh*40,4);
+if(!(u8)(xh.f0&1)){
+sh=1;
+th=4;
+goto L19;}
+wh=xh;}
+yh=(u8*)wh.f1;
+wp(zb,yh);
+w8(zb+16,uh);
+zh=yh;
+Ah=r8(zb+8);}
+else{
+zh=rp(zb);
+Ah=qh;}
+Bh=zh+Ah*40;
+*Bh=3;
+Bh[1]=0;
+x4(Bh+4,Yf);
+Bh[8]=xg;
+memcpy(Bh+9,Fa+5,31);
+w8(zb+8,Ah+1);
+sh=0;
+th=0;
+L19:*ua=sh;
+w4(ua+4,th);
+w4(ua+8,0);
+break;
+case 2:push_plain_069(wa,b,zb,Ea+36,vg,c);
+if(*wa!=0){
+Lg=1;
+Mg=wa[4];
+Ng=r4(wa+8);
+goto L15;}
+Ch=r8(zb+8);
+if(r8(zb+16)==Ch){
+Dh=umax64(Ch,8);
+if(Dh>(Ch^18446744073709551615u)){
+Eh=1;
+Fh=4;
+goto L20;}
+Gh=Dh+Ch;
+if(Gh>=0x333333333333334u){
+Eh=1;
+Fh=4;
+goto L20;}
+if(Ch==0){
+Hh=port_rattle_alloc(Gh*40,4);
+if(!(u8)(Hh.f0&1)){
+Eh=1;
+Fh=4;
+goto L20;}
+Ih=Hh;}
+else{
+Jh=port_rattle_realloc(rp(zb),Ch*40,Gh*40,4);
+if(!(u8)(Jh.f0&1)){
+Eh=1;
+Fh=4;
+goto L20;}
+Ih=Jh;}
+Kh=(u8*)Ih.f1;
+wp(zb,Kh);
+w8(zb+16,Gh);
+Lh=Kh;
+Mh=r8(zb+8);}
+else{
+Lh=rp(zb);
+Mh=Ch;}
+Nh=Lh+Mh*40;
+*Nh=3;
+Nh[1]=0;
+x4(Nh+4,Yf);
+Nh[8]=xg;
+memcpy(Nh+9,Fa+5,31);
+w8(zb+8,Mh+1);
+Eh=0;
+Fh=0;
+L20:*ua=Eh;
+w4(ua+4,Fh);
+w4(ua+8,0);
+break;
+case 3:push_whole_733(ua,b,zb,3,Fa,Ef,c);
+break;
+case 4:push_named_0bb(ua,b,zb,Fa,Ef,c);
+break;
+default:NEVER;
+}
+Lg=*ua;
+Mg=ua[4];
+Ng=r4(ua+8);
+L15:sg=Mg;
+tg=Ng;
+ug=Lg;}
+else{
+if(Wf){
+Oh=r4(Ea+32);
+z12(la);
+z12(na);
+z40(oa);
+*ma=wg;
+memcpy(ma+1,Fa+1,31);
+w4(ma+32,Oh);
+z12(ka);
+length_of_part_030(ka,b,ma,c);
+Ph=r4(ka+4);
+if(*ka==0){
+if(vg==0){
+Qh=0;
+goto L21;}
+Rh=0;
+Sh=Ea+36;
+Th=vg;
+L22:Uh=Th-1;
+Vh=*Sh;
+if(Vh==0){
+Wh=Sh[4];
+w4(ja,0);
+ja[4]=Wh;
+memcpy(ja+5,Sh+5,31);
+z12(ga);
+length_of_part_030(ga,b,ja,c);
+Xh=r4(ga+4);
+if(*ga==0){
+Yh=Xh;
+goto L23;}
+Zh=Xh;
+ai=r4(ga+8);}
+else{
+bi=q4(Sh+32);
+*ia=Vh;
+memcpy(ia+1,Sh+1,31);
+w4(ia+32,bi);
+z12(ha);
+length_of_part_030(ha,b,ia,c);
+ci=r4(ha+4);
+if(*ha==0){
+Yh=ci;
+goto L23;}
+Zh=ci;
+ai=r4(ha+8);}
+di=ai;
+ei=Zh;
+fi=1;
+goto L24;
+L23:gi=Yh+Rh;
+if(Uh!=0){
+Rh=gi;
+Sh=Sh+36;
+Th=Uh;
+goto L22;}
+Qh=gi;
+L21:hi=umin32(Ph,3);
+ii=Ph-hi;
+ji=umin32(ii,2);
+ki=ii-ji;
+li=r8(zb+8);
+if(r8(zb+16)==li){
+mi=umax64(li,8);
+if(mi>(li^18446744073709551615u)){
+di=0;
+ei=4;
+fi=1;
+goto L24;}
+ni=mi+li;
+if(ni>=0x333333333333334u){
+di=0;
+ei=4;
+fi=1;
+goto L24;}
+if(li==0){
+oi=port_rattle_alloc(ni*40,4);
+if(!(u8)(oi.f0&1)){
+di=0;
+ei=4;
+fi=1;
+goto L24;}
+pi=oi;}
+else{
+qi=port_rattle_realloc(rp(zb),li*40,ni*40,4);
+if(!(u8)(qi.f0&1)){
+di=0;
+ei=4;
+fi=1;
+goto L24;}
+pi=qi;}
+ri=(u8*)pi.f1;
+wp(zb,ri);
+w8(zb+16,ni);
+si=ri;
+ti=r8(zb+8);}
+else{
+si=rp(zb);
+ti=li;}
+ui=si+ti*40;
+*ui=0;
+ui[1]=0;
+x4(ui+4,Qh);
+z32(ui+8);
+vi=ti+1;
+w8(zb+8,vi);
+if(r8(zb+16)==vi){
+wi=umax64(vi,8);
+if(wi>0xfffffffffffffffeu-ti){
+di=0;
+ei=4;
+fi=1;
+goto L24;}
+xi=wi+vi;
+if(xi>=0x333333333333334u){
+di=0;
+ei=4;
+fi=1;
+goto L24;}
+if(vi==0){
+yi=port_rattle_alloc(xi*40,4);
+if(!(u8)(yi.f0&1)){
+di=0;
+ei=4;
+fi=1;
+goto L24;}
+zi=yi;}
+else{
+Ai=port_rattle_realloc(rp(zb),vi*40,xi*40,4);
+if(!(u8)(Ai.f0&1)){
+di=0;
+ei=4;
+fi=1;
+goto L24;}
+zi=Ai;}
+Bi=(u8*)zi.f1;
+wp(zb,Bi);
+w8(zb+16,xi);
+Ci=Bi;
+Di=r8(zb+8);}
+else{
+Ci=rp(zb);
+Di=vi;}
+Ei=Ci+Di*40;
+*Ei=0;
+Ei[1]=0;
+x4(Ei+4,ki);
+z32(Ei+8);
+w8(zb+8,Di+1);
+w4(na+4,0);
+w4(na+8,0);
+*oa=1;
+oa[1]=3;
+w4(oa+4,Qh+ki);
+push_bd8(na,zb,oa);
+if(*na==0){
+*oa=0;
+w4(oa+4,ji);
+push_bd8(na,zb,oa);
+if(*na==0){
+push_alone_0dc(la,zb,2,hi);
+di=r4(la+8);
+ei=la[4];
+fi=*la;}
+else{
+di=r4(na+8);
+ei=na[4];
+fi=1;}}
+else{
+di=r4(na+8);
+ei=na[4];
+fi=1;}}
+else{
+di=r4(ka+8);
+ei=Ph;
+fi=1;}
+L24:sg=ei;
+tg=di;
+ug=fi;}
+else{
+push_named_0bb(Ca,b,zb,Fa,Ef,c);
+sg=Ca[4];
+tg=r4(Ca+8);
+ug=*Ca;}}}
+Bf=ug;
+Cf=sg;
+Df=tg;
+break;
+case 4:memcpy(ea,cd+8,32);
+zero_all(fa,296);
+parts_7a7(fa,b,ea);
+Fi=r8(fa+288);
+z12(ca);
+z12(da);
+if(Fi==0){
+Gi=r8(zb+8);
+if(r8(zb+16)==Gi){
+Hi=umax64(Gi,8);
+if(Hi>(Gi^18446744073709551615u)){
+Ii=1;
+Ji=4;
+Ki=0;
+goto L25;}
+Li=Hi+Gi;
+if(Li>=0x333333333333334u){
+Ii=1;
+Ji=4;
+Ki=0;
+goto L25;}
+if(Gi==0){
+Mi=port_rattle_alloc(Li*40,4);
+if(!(u8)(Mi.f0&1)){
+Ii=1;
+Ji=4;
+Ki=0;
+goto L25;}
+Ni=Mi;}
+else{
+Oi=port_rattle_realloc(rp(zb),Gi*40,Li*40,4);
+if(!(u8)(Oi.f0&1)){
+Ii=1;
+Ji=4;
+Ki=0;
+goto L25;}
+Ni=Oi;}
+Pi=(u8*)Ni.f1;
+wp(zb,Pi);
+w8(zb+16,Li);
+Qi=Pi;
+Ri=r8(zb+8);}
+else{
+Qi=rp(zb);
+Ri=Gi;}
+Si=Qi+Ri*40;
+*Si=0;
+Si[1]=0;
+z36(Si+4);
+w8(zb+8,Ri+1);
+Ii=0;
+Ji=0;
+Ki=0;}
+else{
+Ti=*fa;
+if(Ti==0){
+push_elements_here_c77(ca,b,zb,dd,ed,fa,Fi,c);
+Ii=*ca;
+Ji=ca[4];
+Ki=r4(ca+8);}
+else{
+Ui=r4(fa+32);
+*ba=Ti;
+memcpy(ba+1,fa+1,31);
+w4(ba+32,Ui);
+push_elements_here_c77(da,b,zb,dd,ed,fa+36,Fi-1,c);
+if(*da==0){
+z12(aa);
+length_of_part_030(aa,b,ba,c);
+Vi=r4(aa+4);
+if(*aa==0){
+Wi=r8(zb+8);
+if(r8(zb+16)==Wi){
+Xi=umax64(Wi,8);
+if(Xi>(Wi^18446744073709551615u)){
+Ii=1;
+Ji=4;
+Ki=0;
+goto L25;}
+Yi=Xi+Wi;
+if(Yi>=0x333333333333334u){
+Ii=1;
+Ji=4;
+Ki=0;
+goto L25;}
+if(Wi==0){
+Zi=port_rattle_alloc(Yi*40,4);
+if(!(u8)(Zi.f0&1)){
+Ii=1;
+Ji=4;
+Ki=0;
+goto L25;}
+aj=Zi;}
+else{
+bj=port_rattle_realloc(rp(zb),Wi*40,Yi*40,4);
+if(!(u8)(bj.f0&1)){
+Ii=1;
+Ji=4;
+Ki=0;
+goto L25;}
+aj=bj;}
+cj=(u8*)aj.f1;
+wp(zb,cj);
+w8(zb+16,Yi);
+dj=cj;
+ej=r8(zb+8);}
+else{
+dj=rp(zb);
+ej=Wi;}
+fj=dj+ej*40;
+*fj=0;
+fj[1]=0;
+x4(fj+4,Vi);
+z32(fj+8);
+w8(zb+8,ej+1);
+Ii=0;
+Ji=0;
+Ki=0;}
+else{
+Ii=1;
+Ji=Vi;
+Ki=r4(aa+8);}}
+else{
+Ii=1;
+Ji=da[4];
+Ki=r4(da+8);}}}
+L25:Bf=Ii;
+Cf=Ji;
+Df=Ki;
+break;
+default:NEVER;
+}
+if(Bf==0){
+fd=Xc;
+gd=Yc;
+hd=Zc;
+id=ad;
+goto L6;}
+kd=Cf;
+ld=Df;
+L7:gj=(u8*)(u64)ld;
+if(Yc==0){
+pd=gj;
+qd=kd;
+goto L8;}
+td=gj;
+ud=kd;
+L9:port_rattle_dealloc(ad);
+pd=td;
+qd=ud;
+L8:if(r8(zb+16)!=0)port_rattle_dealloc(rp(zb));
+x4(a,1);
+x4(a+4,qd);
+xp(a+8,pd);
+z16(a+16);
+goto L26;
+L6:hj=r8(zb+8);
+if(hj!=0){
+Wc=hj;
+Xc=fd;
+Yc=gd;
+Zc=hd;
+ad=id;
+goto L5;}
+Tc=id;
+Uc=hd;
+Vc=gd;}
+if(r8(zb+16)!=0)port_rattle_dealloc(rp(zb));
+x4(a,0);
+x4(a+4,0);
+xp(a+8,Tc);
+x8(a+16,Uc);
+x8(a+24,Vc);}
+else{
+ij=(u8*)(u64)Rc;
+if(r8(zb+16)!=0)port_rattle_dealloc(rp(zb));
+x4(a,1);
+x4(a+4,Qc);
+xp(a+8,ij);
+z16(a+16);}}
+else{
+jj=r4(Ab+4)&255;
+kj=(u8*)(u64)r4(Ab+8);
+x4(a,1);
+x4(a+4,jj);
+xp(a+8,kj);
+z16(a+16);}
+L26:return;
+}
+
+/* sym_parts::lengths::length_of_part */
+static void length_of_part_030(u8* a,u8* b,u8* c,u32 d)
+{
+u8 j[35];
+A16 u8 e[16],f[16],g[16],h[16],i[32],k[176],l[16],m[16],n[16],o[16],p[12];
+s_64_64 q;
+u8 r,Q;
+u64 s,v,w,x,C,D,H,J,L,N,O,S,U,W,aa,ca,da;
+u8 *t,*y,*E,*I,*K,*M,*R,*T,*V;
+u32 u,z,A,B,F,G,P,X,Y,Z;
+u16 ba,ea,fa;
+zero_all(k,176);
+z16(l);
+z16(m);
+z16(n);
+z16(o);
+z12(p);
+switch(*c){
+case 0:memcpy(i,c+4,32);
+z3(j);
+q=port_rattle_alloc(288,4);
+r=q.f0&1;
+if(r){
+s=q.f1;
+t=(u8*)s;
+memcpy(j+3,i,32);
+*t=0;
+memcpy(t+1,j,35);
+u=0;
+v=s;
+w=1;
+x=8;
+y=(u8*)65536;
+z=d;}
+else{
+u=4;
+v=0;
+w=0;
+x=0;
+y=0;
+z=0;}
+A=v;
+z16(e);
+z16(f);
+z16(g);
+z16(h);
+if(r){
+z16(f);
+z16(h);
+B=v>>32;
+C=w;
+D=x;
+E=y;
+F=z;
+G=0;}
+else{
+B=0;
+C=0;
+D=0;
+E=0;
+F=0;
+G=u;}
+memcpy(l,e,16);
+memcpy(m,f,16);
+memcpy(n,g,16);
+memcpy(o,h,16);
+if(!r){
+X=1;
+Y=G;
+Z=A;
+goto L1;}
+w4(k,A);
+w4(k+4,B);
+w8(k+8,C);
+w8(k+16,D);
+wp(k+24,E);
+memcpy(k+32,l,16);
+wp(k+48,E);
+memcpy(k+56,m,16);
+wp(k+72,E);
+memcpy(k+80,n,16);
+wp(k+96,E);
+memcpy(k+104,o,16);
+wp(k+120,E);
+z20(k+128);
+w4(k+148,F);
+z24(k+152);
+run_610(p,k,b);
+if(*p==0){
+H=r8(k+32);
+if(r8(k+16)!=0)port_rattle_dealloc(rp(k));
+if(r8(k+40)!=0)port_rattle_dealloc(rp(k+24));
+I=rp(k+72);
+J=r8(k+88);
+K=rp(k+96);
+L=r8(k+112);
+M=rp(k+120);
+N=r8(k+136);
+if(r8(k+64)!=0)port_rattle_dealloc(rp(k+48));
+if(J!=0)port_rattle_dealloc(I);
+if(L!=0)port_rattle_dealloc(K);
+if(N==0){
+O=H;
+goto L2;}
+port_rattle_dealloc(M);
+O=H;
+goto L2;}
+P=r4(p+8);
+Q=p[4];
+if(r8(k+16)!=0)port_rattle_dealloc(rp(k));
+if(r8(k+40)!=0)port_rattle_dealloc(rp(k+24));
+R=rp(k+72);
+S=r8(k+88);
+T=rp(k+96);
+U=r8(k+112);
+V=rp(k+120);
+W=r8(k+136);
+if(r8(k+64)!=0)port_rattle_dealloc(rp(k+48));
+if(S!=0)port_rattle_dealloc(R);
+if(U!=0)port_rattle_dealloc(T);
+if(W==0){
+X=1;
+Y=Q;
+Z=P;
+goto L1;}
+port_rattle_dealloc(V);
+X=1;
+Y=Q;
+Z=P;
+goto L1;
+case 1:aa=(u64)q4(c+8)-q4(c+4);
+break;
+case 3:ba=r2(c+2);
+switch(ba){
+case 0:case 5:case 9:case 11:case 12:case 22:case 27:case 31:case 49:case 54:case 56:case 57:case 58:aa=2;
+goto L3;
+case 1:case 6:case 13:case 14:case 59:aa=3;
+goto L3;
+case 2:case 3:case 4:case 8:case 10:case 15:case 16:case 26:case 28:case 32:case 36:case 41:case 51:case 53:aa=1;
+goto L3;
+case 7:case 20:case 43:case 46:aa=5;
+goto L3;
+case 17:aa=10;
+goto L3;
+case 18:case 39:case 48:aa=9;
+goto L3;
+case 19:case 38:aa=4;
+goto L3;
+case 21:aa=7;
+goto L3;
+case 23:case 35:aa=21;
+goto L3;
+case 24:aa=17;
+goto L3;
+case 25:case 45:aa=26;
+goto L3;
+case 29:aa=11;
+goto L3;
+case 30:case 55:aa=8;
+goto L3;
+case 33:case 34:aa=14;
+goto L3;
+case 37:aa=24;
+goto L3;
+case 40:case 50:case 52:aa=6;
+goto L3;
+case 42:case 47:aa=15;
+goto L3;
+case 44:aa=22;
+goto L3;
+case 60:ca=0;
+break;
+case 61:case 62:case 80:case 84:ca=9;
+break;
+case 63:case 81:case 82:case 85:case 86:case 104:ca=18;
+break;
+case 64:ca=6;
+break;
+case 65:case 66:case 88:ca=15;
+break;
+case 67:case 89:case 90:ca=24;
+break;
+case 68:ca=2;
+break;
+case 69:case 70:case 92:ca=11;
+break;
+case 71:case 93:case 94:ca=20;
+break;
+case 72:ca=8;
+break;
+case 73:case 74:case 96:ca=17;
+break;
+case 75:case 97:case 98:ca=26;
+break;
+case 76:ca=3;
+break;
+case 77:case 78:case 100:ca=12;
+break;
+case 79:case 101:case 102:ca=21;
+break;
+case 83:case 87:case 105:case 106:ca=27;
+break;
+case 91:ca=33;
+break;
+case 95:ca=29;
+break;
+case 99:ca=35;
+break;
+case 103:ca=30;
+break;
+case 107:ca=36;
+break;
+default:switch(ba){
+case 108:case 110:case 111:case 118:case 132:case 138:ca=4;
+goto L4;
+case 109:case 131:ca=7;
+goto L4;
+case 112:case 126:ca=11;
+goto L4;
+case 113:case 119:ca=13;
+goto L4;
+case 114:case 124:ca=5;
+goto L4;
+case 115:case 133:case 134:ca=14;
+goto L4;
+case 116:case 128:ca=3;
+goto L4;
+case 117:ca=12;
+goto L4;
+case 120:case 135:case 137:ca=9;
+goto L4;
+case 121:ca=18;
+goto L4;
+case 122:case 129:case 130:ca=8;
+goto L4;
+case 123:ca=17;
+goto L4;
+case 125:ca=6;
+goto L4;
+case 127:case 136:ca=10;
+goto L4;
+case 139:da=14;
+break;
+case 140:da=17;
+break;
+case 141:case 151:da=11;
+break;
+case 142:case 143:case 146:da=12;
+break;
+case 144:case 153:da=13;
+break;
+case 145:case 166:case 167:da=9;
+break;
+case 147:case 169:da=6;
+break;
+case 148:case 149:da=7;
+break;
+case 150:case 152:case 173:da=8;
+break;
+case 154:case 168:da=18;
+break;
+case 155:da=30;
+break;
+case 156:da=23;
+break;
+case 157:da=19;
+break;
+case 158:da=40;
+break;
+case 159:da=33;
+break;
+case 160:da=27;
+break;
+case 161:case 162:da=1;
+break;
+case 163:case 164:da=2;
+break;
+case 165:da=3;
+break;
+case 170:case 171:da=15;
+break;
+case 172:da=24;
+break;
+default:ea=ba-174;
+if(ea<84)da=r8((u8*)t_c78b+(u64)ea*8);
+else{
+fa=ba-258;
+if(fa<48)da=r8((u8*)t_a27e+(u64)fa*8);
+else da=0;}
+break;}
+ca=da;
+break;}
+L4:aa=ca;
+break;
+case 4:aa=c[25];
+break;
+case 2:O=0;
+goto L2;
+default:NEVER;
+}
+L3:if(aa>d){
+X=1;
+Y=3;
+Z=0;
+goto L1;}
+O=aa;
+L2:X=0;
+Y=O;
+Z=0;
+L1:x4(a,X);
+x4(a+4,Y);
+x4(a+8,Z);
+return;
+}
+
+/* sym_print::layout::Layout::parts */
+static void parts_7a7(u8* a,u8* b,u8* c)
+{
+u8 d[35],e[35],f[35],g[35],h[3],o[3],u[3],x[3];
+A16 u8 i[20],j[16],k[16],l[16],m[24],n[24],p[20],q[12],r[12],s[12],t[12],v[12],w[12],y[16],z[16],A[24],B[20],C[288],D[296];
+u32 E,F,G,I,L,S,V,aa,ba,ca,ha,ka,wa,Aa,Ba,Ca,Na,Oa,Qa,Sa,Va,Wa,Ya,cb,jb,kb,mb,qb,wb,Ab,Bb,Fb,Gb,Jb,Kb,Nb,Ob,jc,mc,nc,qc,rc,uc,vc,yc,Ac,Bc,Dc,Ec,Fc,Jc,Kc,Pc,cd,dd,hd,kd,ld;
+u8 H,J,K,R,T,U,Y,Z,ea,fa,ga,ja,na,pa,sa,ya,za,Da,Ea,Fa,Ga,Ja,La,Pa,Ra,zb,Cb,Db,Eb,Ib,Mb,Qb,Sb,Ub,Xb,Zb,cc,ec,hc,pc,tc,zc,Oc,Sc,id,jd,Bd,Cd,Fd,Gd;
+u64 M,O,da,ua,Ha,eb,gb,sb,Rb,Tb,Vb,Wb,Yb,ac,bc,dc,fc,gc,ic,kc,oc,Gc,Uc,Wc,Xc,Zc,ad,md,od,pd,sd,td,ud,vd,xd,yd;
+u8 *N,*P,*Q,*W,*X,*ia,*ra,*ta,*va,*xa,*Ia,*Ka,*Ma,*Ta,*Ua,*Xa,*Za,*ab,*bb,*db,*fb,*hb,*ib,*lb,*nb,*ob,*pb,*rb,*tb,*ub,*vb,*xb,*yb,*Hb,*Lb,*Pb,*lc,*sc,*xc,*Cc,*Hc,*Ic,*Lc,*Mc,*Nc,*Qc,*Rc,*Vc,*Yc,*bd,*ed,*fd,*gd,*nd,*qd,*zd,*Ad,*Dd,*Ed;
+u16 la,ma,oa,qa,wc,Tc;
+E=q4(c);
+F=q4(c+4);
+G=q4(c+8);
+H=c[12];
+I=q4(c+16);
+J=c[20];
+K=c[24];
+L=q4(c+28);
+zero_all(C,288);
+M=0;
+L1:N=C+M*36;
+*N=3;
+z35(N+1);
+O=M+1;
+if(O!=8){
+M=O;
+goto L1;}
+memcpy(D,C,288);
+w8(D+288,0);
+P=rp(b+24);
+Q=P+(i64)((u64)E*48);
+R=*Q==47;
+S=R?q4(Q+4):E;
+T=K!=0;
+U=T||R;
+V=T?L:(R?q4(Q+8):0);
+w4(B,H);
+w4(B+4,I);
+B[8]=J;
+z3(B+9);
+w4(B+12,U);
+w4(B+16,V);
+switch(F){
+case 0:z16(z);
+z24(A);
+W=rp(b);
+X=P+(i64)((u64)S*48);
+Y=*X;
+Z=X[1];
+aa=q4(X+4);
+ba=q4(X+8);
+ca=q4(X+12);
+da=q8(X+16);
+ea=ba;
+fa=ba>>8;
+ga=ba>>16;
+switch(Y){
+case 9:w8(y,0);
+*y=ea;
+y[1]=fa;
+y[2]=ga;
+w4(y+4,ca);
+w8(y+8,da);
+if(ea==0){
+ha=da;
+if(ca!=ha){
+ia=W+(i64)ca;
+if(!((da&4294967295u)-ca<10||*ia!=95)){
+ja=parts_equal_58b((u8*)t_35ad,10,ia,10);
+if(ja){
+*D=3;
+D[1]=0;
+w2(D+2,35);
+z32(D+4);
+w8(D+288,1);
+goto L2;}}}
+if(ca<ha){
+*D=1;
+z3(D+1);
+w4(D+4,ca);
+w4(D+8,ha);
+z24(D+12);
+w8(D+288,1);}}
+else fill_rare_piece_d06(b,D,y,B);
+L2:break;
+case 10:w4(D,0);
+w4(D+4,S);
+w4(D+8,6);
+w4(D+12,0);
+memcpy(D+16,B,20);
+D[36]=3;
+D[37]=0;
+w2(D+38,7);
+z32(D+40);
+w8(D+288,2);
+break;
+case 11:*z=ea;
+z[1]=fa;
+z[2]=ga;
+w4(z+4,ca);
+w8(z+8,da);
+fill_within_028(b,D,S,aa,z,B);
+break;
+case 12:fill_instance_705(b,D,aa,ba,B);
+break;
+case 13:own_entity_238(A,b,ba,B);
+ka=r4(A);
+w4(D,0);
+w4(D+4,ka);
+w4(D+8,0);
+w4(D+12,0);
+memcpy(D+16,A+4,20);
+w8(D+288,1);
+break;
+case 14:w4(D,0);
+w4(D+4,aa);
+w4(D+8,0);
+w4(D+12,0);
+memcpy(D+16,B,20);
+w8(D+288,1);
+break;
+case 15:fill_tagged_ac0(D,aa,ba,ca,B);
+break;
+case 17:la=abbreviation_6bb(Z);
+if(la!=60){
+*D=3;
+D[1]=0;
+w2(D+2,la);
+z32(D+4);
+w8(D+288,1);}
+break;
+case 18:fill_parameter_f33(b,D,aa,ba,0,B);
+break;
+case 0:case 1:case 2:case 3:case 4:case 5:case 6:case 7:case 8:case 16:case 19:case 20:case 21:case 22:case 23:case 24:case 25:case 26:case 27:case 28:case 29:case 30:case 31:case 32:case 33:case 34:case 35:case 36:case 37:case 38:case 39:case 40:case 41:case 42:case 43:case 44:case 45:case 46:case 47:ma=q2(X+2);
+switch(Y){
+case 20:na=Z-97;
+if(na<26){
+if((((u64)1<<na)&1278976)==0){
+oa=r2((u8*)t_91f6+(u64)na*2);
+*D=3;
+D[1]=0;
+w2(D+2,oa);
+z32(D+4);
+w8(D+288,1);}}
+break;
+case 21:pa=Z-97;
+if(pa<21){
+if((((u64)1<<pa)&777794)==0){
+qa=r2((u8*)t_1a3f+(u64)pa*2);
+*D=3;
+D[1]=0;
+w2(D+2,qa);
+z32(D+4);
+w8(D+288,1);}}
+break;
+case 24:if(ba!=aa){
+ra=W+(i64)aa;
+if(!((u64)ba-aa<10||*ra!=95)){
+sa=parts_equal_58b((u8*)t_35ad,10,ra,10);
+if(sa){
+*D=3;
+D[1]=0;
+w2(D+2,35);
+z32(D+4);
+w8(D+288,1);
+break;}}}
+if(aa<ba){
+*D=1;
+z3(D+1);
+w4(D+4,aa);
+w4(D+8,ba);
+z24(D+12);
+w8(D+288,1);}
+break;
+case 25:fill_marked_ccd(b,D,aa,B);
+break;
+case 26:fill_reference_45e(b,D,aa,4,11,10,B);
+break;
+case 27:fill_reference_45e(b,D,aa,0,13,12,B);
+break;
+case 28:fill_array_6df(b,D,ca,B);
+break;
+case 29:fill_array_6df(b,D,ba,B);
+break;
+case 31:*D=3;
+D[1]=0;
+w2(D+2,4);
+z36(D+4);
+w4(D+40,aa);
+w4(D+44,0);
+w4(D+48,0);
+memcpy(D+52,B,20);
+w8(D+288,2);
+break;
+case 30:fill_member_9df(b,D,aa,ba,B);
+break;
+case 32:*x=Z;
+x2(x+1,ma);
+fill_qualified_left_c64(b,D,x,aa,B);
+break;
+case 33:fill_vector_ba4(D,aa,ba,ca,B);
+break;
+case 34:*D=3;
+D[1]=0;
+w2(D+2,18);
+z36(D+4);
+w4(D+40,aa);
+w4(D+44,0);
+w4(D+48,0);
+memcpy(D+52,B,20);
+w8(D+288,2);
+break;
+case 22:fill_float_13c(D,aa,ba,ca);
+break;
+case 23:*D=3;
+D[1]=0;
+w2(D+2,Z==107?46:47);
+z36(D+4);
+w4(D+40,aa);
+w4(D+44,0);
+w4(D+48,0);
+memcpy(D+52,B,20);
+w8(D+288,2);
+break;
+case 0:case 1:case 2:case 3:case 4:case 5:case 6:case 7:case 8:case 9:case 10:case 11:case 12:case 13:case 14:case 15:case 16:case 17:case 18:case 19:case 35:case 36:case 37:case 38:case 39:case 40:case 41:case 42:case 43:case 44:case 45:case 46:case 47:w4(v,ca);
+x8(v+4,da);
+switch(Y){
+case 36:fill_expansion_ab7(b,D,aa,B);
+break;
+case 44:ta=P+(i64)((u64)aa*48);
+if(*(P+(i64)((u64)(*ta==47?q4(ta+4):aa)*48))!=1){
+w4(D,0);
+w4(D+4,aa);
+w4(D+8,2);
+w4(D+12,0);
+D[16]=H;
+memcpy(D+17,B+1,3);
+w4(D+20,I);
+D[24]=J;
+z3(D+25);
+D[28]=U;
+memcpy(D+29,B+13,3);
+w4(D+32,V);
+w8(D+288,1);}
+break;
+case 37:w4(w,ba);
+x8(w+4,r8(v));
+fill_integer_2c4(b,D,aa,w,B);
+break;
+case 38:*D=3;
+D[1]=0;
+if(Z&1){
+w2(D+2,19);
+z32(D+4);
+w8(D+288,1);}
+else{
+w2(D+2,20);
+z32(D+4);
+w8(D+288,1);}
+break;
+case 39:*D=3;
+D[1]=0;
+w2(D+2,21);
+z32(D+4);
+w8(D+288,1);
+break;
+case 40:w4(D,0);
+w4(D+4,aa);
+w4(D+8,8);
+w4(D+12,0);
+w4(D+16,0);
+w4(D+20,0);
+D[24]=J;
+z11(D+25);
+w8(D+288,1);
+break;
+case 41:w4(D,0);
+w4(D+4,aa);
+w4(D+8,8);
+w4(D+12,0);
+w4(D+16,0);
+w4(D+20,0);
+D[24]=J;
+z11(D+25);
+D[36]=3;
+D[37]=0;
+w2(D+38,10);
+z32(D+40);
+w8(D+288,2);
+break;
+case 35:fill_decltype_76c(D,aa,B);
+break;
+case 42:fill_operation_585(b,D,Z,ma,aa,ba,B);
+break;
+case 43:if(aa<ba){
+*D=1;
+z3(D+1);
+w4(D+4,aa);
+w4(D+8,ba);
+z24(D+12);
+ua=1;}
+else ua=0;
+va=D+ua*36;
+*va=3;
+va[1]=0;
+w2(va+2,49);
+z32(va+4);
+w8(D+288,ua+1);
+break;
+case 0:case 1:case 2:case 3:case 4:case 5:case 6:case 7:case 8:case 9:case 10:case 11:case 12:case 13:case 14:case 15:case 16:case 17:case 18:case 19:case 20:case 21:case 22:case 23:case 24:case 25:case 26:case 27:case 28:case 29:case 30:case 31:case 32:case 33:case 34:case 45:case 46:case 47:break;
+default:NEVER;
+}
+break;
+default:NEVER;
+}
+break;
+default:NEVER;
+}
+break;
+case 1:wa=r4(B+8);
+z3(u);
+xa=P+(i64)((u64)S*48);
+ya=xa[2];
+za=xa[3];
+Aa=q4(xa+4);
+Ba=q4(xa+8);
+Ca=q4(xa+12);
+switch(*xa){
+case 25:w4(t,Aa);
+w4(t+4,U);
+w4(t+8,V);
+Da=head_c64(b+24,H,I,t);
+w4(D,0);
+w4(D+4,Aa);
+w4(D+8,1);
+w4(D+12,0);
+D[16]=H;
+memcpy(D+17,B+1,3);
+w4(D+20,I);
+w4(D+24,wa);
+D[28]=U;
+memcpy(D+29,B+13,3);
+w4(D+32,V);
+w8(D+288,1);
+if(Da==1){
+D[36]=3;
+D[37]=0;
+w2(D+38,3);
+z32(D+40);
+w8(D+288,2);}
+break;
+case 26:w4(s,Aa);
+w4(s+4,U);
+w4(s+8,V);
+Ea=head_c64(b+24,H,I,s);
+w4(D,0);
+w4(D+4,Aa);
+w4(D+8,1);
+w4(D+12,0);
+D[16]=H;
+memcpy(D+17,B+1,3);
+w4(D+20,I);
+w4(D+24,wa);
+D[28]=U;
+memcpy(D+29,B+13,3);
+w4(D+32,V);
+w8(D+288,1);
+if(Ea==1){
+D[36]=3;
+D[37]=0;
+w2(D+38,3);
+z32(D+40);
+w8(D+288,2);}
+break;
+case 27:w4(r,Aa);
+w4(r+4,U);
+w4(r+8,V);
+Fa=head_c64(b+24,H,I,r);
+w4(D,0);
+w4(D+4,Aa);
+w4(D+8,1);
+w4(D+12,0);
+D[16]=H;
+memcpy(D+17,B+1,3);
+w4(D+20,I);
+w4(D+24,wa);
+D[28]=U;
+memcpy(D+29,B+13,3);
+w4(D+32,V);
+w8(D+288,1);
+if(Fa==1){
+D[36]=3;
+D[37]=0;
+w2(D+38,3);
+z32(D+40);
+w8(D+288,2);}
+break;
+case 30:w4(q,Ba);
+w4(q+4,U);
+w4(q+8,V);
+Ga=head_c64(b+24,H,I,q);
+w4(D,0);
+w4(D+4,Ba);
+w4(D+8,1);
+w4(D+12,0);
+D[16]=H;
+memcpy(D+17,B+1,3);
+w4(D+20,I);
+w4(D+24,wa);
+D[28]=U;
+memcpy(D+29,B+13,3);
+w4(D+32,V);
+w8(D+288,1);
+if(Ga==1){
+D[36]=3;
+D[37]=0;
+w2(D+38,3);
+z32(D+40);
+w8(D+288,2);}
+break;
+case 28:w4(D,0);
+w4(D+4,Ca);
+w4(D+8,1);
+w4(D+12,0);
+memcpy(D+16,B,20);
+D[36]=3;
+D[37]=0;
+w2(D+38,16);
+z32(D+40);
+if(Aa<Ba){
+D[72]=1;
+z3(D+73);
+w4(D+76,Aa);
+w4(D+80,Ba);
+z24(D+84);
+Ha=3;}
+else Ha=2;
+Ia=D+Ha*36;
+*Ia=3;
+Ia[1]=0;
+w2(Ia+2,15);
+z32(Ia+4);
+w8(D+288,Ha+1);
+break;
+case 29:w4(D,0);
+w4(D+4,Ba);
+w4(D+8,1);
+w4(D+12,0);
+memcpy(D+16,B,20);
+D[36]=3;
+D[37]=0;
+w2(D+38,16);
+z36(D+40);
+w4(D+76,Aa);
+w4(D+80,0);
+w4(D+84,0);
+memcpy(D+88,B,20);
+D[108]=3;
+D[109]=0;
+w2(D+110,15);
+z32(D+112);
+w8(D+288,4);
+break;
+case 32:Ja=wa;
+*o=xa[1];
+o[1]=ya;
+o[2]=za;
+Ka=P+(i64)((u64)Aa*48);
+La=*Ka==47;
+Ma=P+(i64)((u64)(La?q4(Ka+4):Aa)*48);
+if(*Ma==31){
+Na=q4(Ma+8);
+Oa=q4(Ma+4);
+Pa=Ma[3];
+Qa=U?V:(La?q4(Ka+8):0);
+Ra=Ma[2]&1;
+w4(p,H);
+w4(p+4,I);
+p[8]=Ja;
+z3(p+9);
+w4(p+12,U|La);
+w4(p+16,Qa);
+fill_function_right_ba5(b,D,o,Pa,Ra,Oa,Na,p);}
+else{
+w4(D,0);
+w4(D+4,Aa);
+w4(D+8,1);
+w4(D+12,0);
+D[16]=H;
+memcpy(D+17,B+1,3);
+w4(D+20,I);
+D[24]=Ja;
+z3(D+25);
+D[28]=U;
+memcpy(D+29,B+13,3);
+w4(D+32,V);
+w8(D+288,1);}
+break;
+case 33:w4(D,0);
+w4(D+4,Ca);
+w4(D+8,1);
+w4(D+12,0);
+memcpy(D+16,B,20);
+w8(D+288,1);
+break;
+case 34:w4(D,0);
+w4(D+4,Aa);
+w4(D+8,1);
+w4(D+12,0);
+memcpy(D+16,B,20);
+w8(D+288,1);
+break;
+case 18:z24(n);
+argument_of_c35(n,b,Aa,Ba,B);
+Sa=r4(n);
+Ta=P+(i64)((u64)Sa*48);
+if(*(P+(i64)((u64)(*Ta==47?q4(Ta+4):Sa)*48))!=19){
+w4(D,0);
+w4(D+4,Sa);
+w4(D+8,1);
+w4(D+12,0);
+memcpy(D+16,n+4,20);
+w8(D+288,1);}
+break;
+case 31:fill_function_right_ba5(b,D,u,za,ya&1,Aa,Ba,B);
+break;
+case 0:case 1:case 2:case 3:case 4:case 5:case 6:case 7:case 8:case 9:case 10:case 11:case 12:case 13:case 14:case 15:case 16:case 17:case 19:case 20:case 21:case 22:case 23:case 24:case 35:case 36:case 37:case 38:case 39:case 40:case 41:case 42:case 43:case 44:case 45:case 46:case 47:break;
+default:NEVER;
+}
+break;
+case 2:Ua=P+(i64)((u64)S*48);
+if(*Ua==45){
+Va=q4(Ua+4);
+Wa=q4(Ua+8);
+Xa=P+(i64)((u64)Va*48);
+if(U){
+Ya=q4(Xa+43);
+Za=P+(i64)((u64)V*48);
+ab=P+(i64)((u64)(*Za==47?q4(Za+4):V)*48);
+if(*ab==44){
+bb=P+(i64)((u64)q4(ab+4)*48);
+cb=((u8)(bb[42]-11)<254||q4(bb+28)==0)?16:24;}
+else cb=24;
+if((u8)((Ya>>cb)&1))goto L3;}
+else {
+if(Xa[41]&1)goto L3;}
+db=P+(i64)((u64)Wa*48);
+if(*(P+(i64)((u64)(*db==47?q4(db+4):Wa)*48))==1)eb=0;
+else{
+w4(D,0);
+w4(D+4,Wa);
+w4(D+8,3);
+w4(D+12,0);
+D[16]=H;
+memcpy(D+17,B+1,3);
+w4(D+20,I);
+D[24]=J;
+z3(D+25);
+D[28]=U;
+memcpy(D+29,B+13,3);
+w4(D+32,V);
+eb=1;}
+fb=D+eb*36;
+w4(fb,0);
+w4(fb+4,Va);
+w4(fb+8,1);
+w4(fb+12,0);
+fb[16]=H;
+memcpy(fb+17,B+1,3);
+w4(fb+20,I);
+fb[24]=J;
+z3(fb+25);
+fb[28]=U;
+memcpy(fb+29,B+13,3);
+w4(fb+32,V);
+w4(fb+36,0);
+w4(fb+40,Va);
+w4(fb+44,0);
+w4(fb+48,0);
+fb[52]=H;
+memcpy(fb+53,B+1,3);
+w4(fb+56,I);
+fb[60]=J;
+z3(fb+61);
+fb[64]=U;
+memcpy(fb+65,B+13,3);
+w4(fb+68,V);
+gb=eb|2;
+goto L4;
+L3:hb=P+(i64)((u64)Wa*48);
+if(*(P+(i64)((u64)(*hb==47?q4(hb+4):Wa)*48))!=1){
+w4(D,0);
+w4(D+4,Wa);
+w4(D+8,2);
+w4(D+12,0);
+D[16]=H;
+memcpy(D+17,B+1,3);
+w4(D+20,I);
+D[24]=J;
+z3(D+25);
+D[28]=U;
+memcpy(D+29,B+13,3);
+w4(D+32,V);
+gb=1;
+goto L4;}}
+break;
+case 3:ib=P+(i64)((u64)S*48);
+if(*ib==45){
+jb=q4(ib+4);
+kb=q4(ib+8);
+lb=P+(i64)((u64)jb*48);
+if(U){
+mb=q4(lb+43);
+nb=P+(i64)((u64)V*48);
+ob=P+(i64)((u64)(*nb==47?q4(nb+4):V)*48);
+if(*ob==44){
+pb=P+(i64)((u64)q4(ob+4)*48);
+qb=((u8)(pb[42]-11)<254||q4(pb+28)==0)?16:24;}
+else qb=24;
+if((u8)((mb>>qb)&1))goto L5;}
+else {
+if(lb[41]&1)goto L5;}
+rb=P+(i64)((u64)kb*48);
+if(*(P+(i64)((u64)(*rb==47?q4(rb+4):kb)*48))==1)sb=0;
+else{
+w4(D,0);
+w4(D+4,kb);
+w4(D+8,3);
+w4(D+12,0);
+D[16]=H;
+memcpy(D+17,B+1,3);
+w4(D+20,I);
+D[24]=J;
+z3(D+25);
+D[28]=U;
+memcpy(D+29,B+13,3);
+w4(D+32,V);
+sb=1;}
+tb=D+sb*36;
+w4(tb,0);
+w4(tb+4,jb);
+w4(tb+8,1);
+w4(tb+12,0);
+tb[16]=H;
+memcpy(tb+17,B+1,3);
+w4(tb+20,I);
+tb[24]=J;
+z3(tb+25);
+tb[28]=U;
+memcpy(tb+29,B+13,3);
+w4(tb+32,V);
+w4(tb+36,0);
+w4(tb+40,jb);
+w4(tb+44,0);
+w4(tb+48,0);
+tb[52]=H;
+memcpy(tb+53,B+1,3);
+w4(tb+56,I);
+tb[60]=J;
+z3(tb+61);
+tb[64]=U;
+memcpy(tb+65,B+13,3);
+w4(tb+68,V);
+tb[72]=3;
+z35(tb+73);
+gb=sb+3;
+goto L4;
+L5:ub=P+(i64)((u64)kb*48);
+if(*(P+(i64)((u64)(*ub==47?q4(ub+4):kb)*48))!=1){
+w4(D,0);
+w4(D+4,kb);
+w4(D+8,3);
+w4(D+12,0);
+D[16]=H;
+memcpy(D+17,B+1,3);
+w4(D+20,I);
+D[24]=J;
+z3(D+25);
+D[28]=U;
+memcpy(D+29,B+13,3);
+w4(D+32,V);
+gb=1;
+goto L4;}}
+break;
+case 4:vb=P+(i64)((u64)S*48);
+wb=q4(vb+4);
+switch(*vb){
+case 26:fill_reference_45e(b,D,wb,4,11,10,B);
+break;
+case 27:fill_reference_45e(b,D,wb,4,11,10,B);
+break;
+case 32:w4(D,0);
+w4(D+4,wb);
+w4(D+8,4);
+w4(D+12,0);
+memcpy(D+16,B,20);
+gb=1;
+goto L4;
+case 18:fill_parameter_f33(b,D,wb,q4(vb+8),4,B);
+break;
+case 0:case 1:case 2:case 3:case 4:case 5:case 6:case 7:case 8:case 9:case 10:case 11:case 12:case 13:case 14:case 15:case 16:case 17:case 19:case 20:case 21:case 22:case 23:case 24:case 25:case 28:case 29:case 30:case 31:case 33:case 34:case 35:case 36:case 37:case 38:case 39:case 40:case 41:case 42:case 43:case 44:case 45:case 46:case 47:fill_as_left_ae7(b,D,S,B);
+break;
+default:NEVER;
+}
+break;
+case 5:xb=rp(b);
+yb=P+(i64)((u64)S*48);
+zb=yb[1];
+Ab=q4(yb+4);
+Bb=q4(yb+8);
+Cb=Bb;
+Db=Bb>>8;
+Eb=Bb>>16;
+switch(*yb){
+case 9:w8(k,0);
+*k=Cb;
+k[1]=Db;
+k[2]=Eb;
+memcpy(k+4,yb+12,12);
+if(Cb==0){
+Fb=r4(k+4);
+Gb=r4(k+8);
+if(Gb!=Fb){
+Hb=xb+(i64)Fb;
+if(!((u64)Gb-Fb<10||*Hb!=95)){
+Ib=parts_equal_58b((u8*)t_35ad,10,Hb,10);
+if(Ib){
+*D=3;
+D[1]=0;
+w2(D+2,35);
+z32(D+4);
+w8(D+288,1);
+goto L6;}}}
+if(Fb<Gb){
+*D=1;
+z3(D+1);
+w4(D+4,Fb);
+w4(D+8,Gb);
+z24(D+12);
+w8(D+288,1);}}
+else fill_rare_piece_d06(b,D,k,B);
+L6:break;
+case 10:w8(l,0);
+*l=Cb;
+l[1]=Db;
+l[2]=Eb;
+memcpy(l+4,yb+12,12);
+if(Cb==0){
+Jb=r4(l+4);
+Kb=r4(l+8);
+if(Kb!=Jb){
+Lb=xb+(i64)Jb;
+if(!((u64)Kb-Jb<10||*Lb!=95)){
+Mb=parts_equal_58b((u8*)t_35ad,10,Lb,10);
+if(Mb){
+*D=3;
+D[1]=0;
+w2(D+2,35);
+z32(D+4);
+w8(D+288,1);
+goto L7;}}}
+if(Jb<Kb){
+*D=1;
+z3(D+1);
+w4(D+4,Jb);
+w4(D+8,Kb);
+z24(D+12);
+w8(D+288,1);}}
+else fill_rare_piece_d06(b,D,l,B);
+L7:break;
+case 11:switch(Cb){
+case 3:w4(D,0);
+w4(D+4,Ab);
+w4(D+8,5);
+w4(D+12,0);
+memcpy(D+16,B,20);
+w8(D+288,1);
+break;
+case 5:w4(D,0);
+w4(D+4,Ab);
+w4(D+8,5);
+w4(D+12,0);
+memcpy(D+16,B,20);
+w8(D+288,1);
+break;
+case 4:w4(D,0);
+w4(D+4,Ab);
+w4(D+8,5);
+w4(D+12,0);
+memcpy(D+16,B,20);
+w8(D+288,1);
+break;
+case 0:case 1:case 2:case 6:case 7:case 8:case 9:case 10:case 11:case 12:case 13:w8(j,0);
+*j=Cb;
+j[1]=Db;
+j[2]=Eb;
+memcpy(j+4,yb+12,12);
+if(Cb==0){
+Nb=r4(j+4);
+Ob=r4(j+8);
+if(Ob!=Nb){
+Pb=xb+(i64)Nb;
+if((u64)Ob-Nb<10||*Pb!=95)goto L8;
+Qb=0;
+Rb=0;
+L9:Sb=Qb||*((u8*)t_35ad+(i64)Rb)!=*(Pb+(i64)Rb);
+Tb=Rb+1;
+if(Tb!=8){
+Qb=Sb;
+Rb=Tb;
+goto L9;}
+Ub=0;
+Vb=0;
+L10:Wb=Vb+2;
+Xb=Ub||*((u8*)t_35ad+(i64)Wb)!=*(Pb+(i64)Wb);
+Yb=Vb+1;
+if(Yb!=8){
+Ub=Xb;
+Vb=Yb;
+goto L10;}
+Zb=0;
+ac=0;
+L11:bc=ac+2;
+cc=Zb||*((u8*)t_35ad+(i64)bc)!=*(Pb+(i64)bc);
+dc=ac+1;
+if(dc!=8){
+Zb=cc;
+ac=dc;
+goto L11;}
+ec=0;
+fc=0;
+L12:gc=fc+2;
+hc=ec||*((u8*)t_35ad+(i64)gc)!=*(Pb+(i64)gc);
+ic=fc+1;
+if(ic!=8){
+ec=hc;
+fc=ic;
+goto L12;}
+if(!(((Sb|Xb)|cc)|hc)){
+*D=3;
+D[1]=0;
+w2(D+2,35);
+z32(D+4);
+w8(D+288,1);
+goto L13;}}
+L8:if(Nb<Ob){
+*D=1;
+z3(D+1);
+w4(D+4,Nb);
+w4(D+8,Ob);
+z24(D+12);
+w8(D+288,1);}}
+else fill_rare_piece_d06(b,D,j,B);
+L13:break;
+default:NEVER;
+}
+break;
+case 12:w4(D,0);
+w4(D+4,Ab);
+w4(D+8,5);
+w4(D+12,0);
+memcpy(D+16,B,20);
+w8(D+288,1);
+break;
+case 13:own_entity_238(m,b,Bb,B);
+jc=r4(m);
+w4(D,0);
+w4(D+4,jc);
+w4(D+8,5);
+w4(D+12,0);
+memcpy(D+16,m+4,20);
+w8(D+288,1);
+break;
+case 14:w4(D,0);
+w4(D+4,Ab);
+w4(D+8,5);
+w4(D+12,0);
+memcpy(D+16,B,20);
+w8(D+288,1);
+break;
+case 15:if(zb&1){
+w4(D,0);
+w4(D+4,Ab);
+w4(D+8,5);
+w4(D+12,0);
+D[16]=H;
+memcpy(D+17,B+1,3);
+w4(D+20,I);
+D[24]=J;
+z3(D+25);
+D[28]=U;
+memcpy(D+29,B+13,3);
+w4(D+32,V);
+w8(D+288,1);}
+else{
+kc=(u64)Ab*48;
+lc=P+(i64)kc;
+if(lc[42]==8){
+mc=q4(lc+32);
+nc=q4(lc+28);
+oc=(u64)nc*48;
+pc=mc==0;
+qc=nc;
+rc=usub32(mc,1);}
+else{
+oc=kc;
+pc=1;
+qc=Ab;
+rc=0;}
+sc=P+(i64)oc;
+tc=*sc==47;
+uc=tc?q4(sc+4):qc;
+vc=U?V:(pc?(tc?q4(sc+8):0):rc);
+w4(i,H);
+w4(i+4,I);
+i[8]=J;
+z3(i+9);
+w4(i+12,(U|(!pc))|tc);
+w4(i+16,vc);
+fill_own_piece_fc9(b,D,uc,i);}
+break;
+case 17:switch(zb){
+case 97:wc=145;
+break;
+case 98:wc=146;
+break;
+case 115:wc=147;
+break;
+case 105:wc=148;
+break;
+case 111:wc=149;
+break;
+case 100:wc=150;
+break;
+default:goto L14;
+}
+*D=3;
+D[1]=0;
+w2(D+2,wc);
+z32(D+4);
+w8(D+288,1);
+break;
+case 18:fill_parameter_f33(b,D,Ab,Bb,5,B);
+break;
+case 0:case 1:case 2:case 3:case 4:case 5:case 6:case 7:case 8:case 16:case 19:case 20:case 21:case 22:case 23:case 24:case 25:case 26:case 27:case 28:case 29:case 30:case 31:case 32:case 33:case 34:case 35:case 36:case 37:case 38:case 39:case 40:case 41:case 42:case 43:case 44:case 45:case 46:case 47:fill_as_left_ae7(b,D,S,B);
+break;
+default:NEVER;
+}
+L14:break;
+case 6:fill_own_piece_fc9(b,D,S,B);
+break;
+case 7:fill_full_ff8(b,D,S,B);
+break;
+case 8:xc=P+(i64)((u64)S*48);
+if(*xc==2){
+yc=q4(xc+4);
+zc=xc[11];
+Ac=q4(xc+16);
+Bc=q4(xc+20);
+memcpy(h,xc+8,3);
+if(J<2)push_bare_edb(b,D,yc,h,zc,Ac,Bc,J);
+else{
+w4(D,0);
+w4(D+4,yc);
+z16(D+8);
+D[24]=J;
+z11(D+25);
+w8(D+288,1);}
+;}
+else fill_full_ff8(b,D,S,B);
+break;
+case 9:Cc=P+(i64)((u64)S*48);
+if(*Cc==46){
+Dc=q4(Cc+4);
+Ec=q4(Cc+8);
+Fc=q4(Cc+12);
+if(Ec<Fc){
+*D=3;
+D[1]=0;
+w2(D+2,3);
+z32(D+4);
+D[36]=1;
+z3(D+37);
+w4(D+40,Ec);
+w4(D+44,Fc);
+z24(D+48);
+D[72]=3;
+D[73]=0;
+w2(D+74,22);
+z32(D+76);
+Gc=3;}
+else Gc=0;
+Hc=D+Gc*36;
+w4(Hc,0);
+w4(Hc+4,Dc);
+w4(Hc+8,7);
+w4(Hc+12,0);
+w4(Hc+16,0);
+w4(Hc+20,0);
+Hc[24]=J;
+z11(Hc+25);
+gb=Gc+1;
+goto L4;}
+break;
+case 11:Ic=P+(i64)((u64)S*48);
+if(*Ic==45){
+Jc=q4(Ic+4);
+if(G!=4294967295u){
+Kc=q4(Ic+8);
+Lc=P+(i64)((u64)Kc*48);
+if(*(P+(i64)((u64)(*Lc==47?q4(Lc+4):Kc)*48))!=1){
+w4(D,0);
+w4(D+4,Kc);
+w4(D+8,11);
+w4(D+12,G+1);
+D[16]=H;
+memcpy(D+17,B+1,3);
+w4(D+20,I);
+D[24]=J;
+z3(D+25);
+D[28]=U;
+memcpy(D+29,B+13,3);
+w4(D+32,V);
+w8(D+288,1);}}
+push_decimal_9ae(D,G);
+Mc=P+(i64)((u64)Jc*48);
+Nc=P+(i64)((u64)(*Mc==47?q4(Mc+4):Jc)*48);
+if(*Nc==42){
+Oc=Nc[2];
+if(Oc==112){
+Pc=q4(Nc+4);
+Qc=P+(i64)((u64)Pc*48);
+Rc=P+(i64)((u64)(*Qc==47?q4(Qc+4):Pc)*48);
+Sc=*Rc==42?Rc[2]:0;
+Tc=Sc==110?58:(Sc==116?59:57);}
+else Tc=Oc==110?58:(Oc==116?59:57);}
+else Tc=57;
+Uc=r8(D+288);
+Vc=D+Uc*36;
+*Vc=3;
+Vc[1]=0;
+w2(Vc+2,Tc);
+z32(Vc+4);
+Vc[36]=3;
+Vc[37]=0;
+w2(Vc+38,4);
+z36(Vc+40);
+w4(Vc+76,Jc);
+w4(Vc+80,0);
+w4(Vc+84,0);
+Vc[88]=H;
+memcpy(Vc+89,B+1,3);
+w4(Vc+92,I);
+Vc[96]=J;
+z3(Vc+97);
+Vc[100]=U;
+memcpy(Vc+101,B+13,3);
+w4(Vc+104,V);
+Wc=Uc+3;
+w8(D+288,Wc);
+if(G==0){
+Xc=Wc;
+goto L15;}
+Yc=D+Wc*36;
+*Yc=3;
+Zc=Uc+4;
+z35(Yc+1);
+w8(D+288,Zc);
+Xc=Zc;
+goto L15;}
+break;
+default:ad=r8(B);
+bd=P+(i64)((u64)S*48);
+cd=q4(bd+24);
+if(U){
+dd=q4(bd+43);
+ed=P+(i64)((u64)V*48);
+fd=P+(i64)((u64)(*ed==47?q4(ed+4):V)*48);
+if(*fd==44){
+gd=P+(i64)((u64)q4(fd+4)*48);
+hd=(u8)(gd[42]-9)<2?q4(gd+28)+1:1;}
+else hd=0;
+id=dd&1;
+jd=id&&hd!=0;
+kd=id?usub32(hd,1):0;}
+else{
+jd=cd!=0;
+kd=usub32(cd,1);}
+ld=G+1;
+if(jd&&(G<kd)&(ld<kd)){
+w4(D,0);
+w4(D+4,S);
+w4(D+8,10);
+w4(D+12,ld);
+w8(D+16,ad);
+D[24]=J;
+z3(D+25);
+D[28]=U;
+memcpy(D+29,B+13,3);
+w4(D+32,V);
+md=1;}
+else md=0;
+nd=D+md*36;
+w4(nd,0);
+w4(nd+4,S);
+w4(nd+8,1);
+w4(nd+12,0);
+w4(nd+16,1);
+w4(nd+20,G);
+nd[24]=J;
+z3(nd+25);
+w4(nd+28,U);
+w4(nd+32,V);
+w4(nd+36,0);
+w4(nd+40,S);
+w4(nd+44,0);
+w4(nd+48,0);
+w4(nd+52,1);
+w4(nd+56,G);
+nd[60]=J;
+z3(nd+61);
+w4(nd+64,U);
+w4(nd+68,V);
+od=md|2;
+w8(D+288,od);
+if(G==0){
+pd=od;
+goto L16;}
+qd=D+od*36;
+*qd=3;
+z35(qd+1);
+gb=md+3;
+goto L4;
+}
+Xc=r8(D+288);
+L15:if(Xc<=15){
+td=Xc;
+goto L17;}
+sd=Xc>>1;
+mirror_517(D,D+(i64)((Xc-sd)*36),sd);
+goto L18;
+L4:w8(D+288,gb);
+pd=gb;
+L16:td=pd;
+L17:if(td>1){
+ud=(td-2)>>1;
+vd=0;
+xd=td;
+L19:yd=xd-1;
+if(vd<yd){
+zd=D+vd*36;
+Ad=D+yd*36;
+Bd=*zd;
+memcpy(g,zd+1,35);
+Cd=*Ad;
+memcpy(f,Ad+1,35);
+*zd=Cd;
+memcpy(zd+1,f,35);
+*Ad=Bd;
+memcpy(Ad+1,g,35);}
+else{
+if(yd<vd){
+Dd=D+yd*36;
+Ed=D+vd*36;
+Fd=*Dd;
+memcpy(e,Dd+1,35);
+Gd=*Ed;
+memcpy(d,Ed+1,35);
+*Dd=Gd;
+memcpy(Dd+1,d,35);
+*Ed=Fd;
+memcpy(Ed+1,e,35);}}
+if(vd!=ud){
+vd=vd+1;
+xd=yd;
+goto L19;}}
+L18:memcpy(a,D,296);
+return;
+}
+
+/* cpp_layout::symbol::Symbol::fill_rare_piece */
+static void fill_rare_piece_d06(u8* a,u8* b,u8* c,u8* d)
+{
+u8 e[3],f[3],g[3];
+A16 u8 h[20],i[20],j[20],k[20],l[20];
+u8 m,n,q,C,E,ia,ka,la;
+u32 o,x,D,I,J,ja,ma;
+u64 p,s,u,v,y,A,K,M,O,R,U,W,Y,aa,ca,ea,ga,na,pa,sa;
+u16 r,t;
+u8 *w,*z,*B,*F,*G,*H,*L,*N,*P,*Q,*S,*T,*V,*X,*Z,*ba,*da,*fa,*ha,*oa,*qa,*ra,*ta,*ua;
+m=c[1];
+n=c[2];
+o=q4(c+4);
+p=q8(c+8);
+q=*c;
+memcpy(l,d,20);
+switch(q){
+case 1:r=(u16)((u32)m<<8)|n;
+s=0;
+L1:if(r2((u8*)t_e080+s*2)==r)t=(u16)s+258;
+else{
+u=s+1;
+if(u!=48){
+s=u;
+goto L1;}
+t=173;}
+v=r8(b+288);
+w=b+v*36;
+*w=3;
+w[1]=0;
+x2(w+2,t);
+z32(w+4);
+w8(b+288,v+1);
+break;
+case 2:x=p;
+y=r8(b+288);
+if(o<x){
+z=b+y*36;
+*z=1;
+z3(z+1);
+x4(z+4,o);
+x4(z+8,x);
+z24(z+12);
+A=y+1;}
+else A=y;
+B=b+A*36;
+*B=3;
+B[1]=0;
+x2(B+2,29);
+z32(B+4);
+w8(b+288,A+1);
+break;
+case 6:fill_lambda_389(a,b,o,p,l);
+break;
+case 7:C=*l;
+D=r4(l+4);
+E=l[8];
+F=rp(a+24);
+G=F+(i64)((u64)o*48);
+H=F+(i64)((u64)(*G==47?q4(G+4):o)*48);
+if(*H==19){
+I=q4(H+4);
+J=q4(H+8);
+K=r8(b+288);
+L=b+K*36;
+*L=3;
+L[1]=0;
+x2(L+2,32);
+z32(L+4);
+w8(b+288,K+1);
+push_decimal_9ae(b,p);
+M=r8(b+288);
+N=b+M*36;
+*N=3;
+N[1]=0;
+x2(N+2,31);
+z32(N+4);
+O=M+1;
+w8(b+288,O);
+P=rp(a+24);
+Q=P+(i64)((u64)J*48);
+if(*(P+(i64)((u64)(*Q==47?q4(Q+4):J)*48))==1)R=O;
+else{
+S=b+O*36;
+x4(S,0);
+x4(S+4,J);
+x4(S+8,2);
+x4(S+12,0);
+S[16]=C;
+x3(S+17,0);
+x4(S+20,D);
+S[24]=E;
+z3(S+25);
+S[28]=1;
+x3(S+29,0);
+x4(S+32,o);
+R=M+2;}
+T=b+R*36;
+*T=3;
+T[1]=0;
+x2(T+2,56);
+z36(T+4);
+x4(T+40,I);
+x4(T+44,11);
+x4(T+48,0);
+T[52]=C;
+x3(T+53,0);
+x4(T+56,D);
+T[60]=E;
+z3(T+61);
+T[64]=1;
+x3(T+65,0);
+x4(T+68,o);
+T[72]=3;
+T[73]=0;
+x2(T+74,55);
+z32(T+76);
+w8(b+288,R+3);}
+else{
+w4(k,C);
+w4(k+4,D);
+k[8]=E;
+z11(k+9);
+fill_lambda_389(a,b,o,p,k);}
+break;
+case 8:U=r8(b+288);
+V=b+U*36;
+*V=3;
+V[1]=0;
+x2(V+2,32);
+z32(V+4);
+w8(b+288,U+1);
+push_decimal_9ae(b,p);
+W=r8(b+288);
+X=b+W*36;
+*X=3;
+X[1]=0;
+x2(X+2,33);
+z32(X+4);
+w8(b+288,W+1);
+break;
+case 9:Y=r8(b+288);
+Z=b+Y*36;
+*Z=3;
+Z[1]=0;
+x2(Z+2,34);
+z32(Z+4);
+w8(b+288,Y+1);
+break;
+case 10:memcpy(i,d,20);
+memcpy(j,d,20);
+aa=r8(b+288);
+ba=b+aa*36;
+x4(ba,0);
+x4(ba+4,o);
+x4(ba+8,1);
+x4(ba+12,0);
+memcpy(ba+16,j,20);
+x4(ba+36,0);
+x4(ba+40,o);
+x4(ba+44,0);
+x4(ba+48,0);
+memcpy(ba+52,i,20);
+ba[72]=3;
+ba[73]=0;
+x2(ba+74,39);
+z32(ba+76);
+w8(b+288,aa+3);
+break;
+case 11:memcpy(h,d,20);
+ca=r8(b+288);
+da=b+ca*36;
+*da=3;
+da[1]=0;
+x2(da+2,54);
+z32(da+4);
+ea=ca+1;
+if((u32)p<(u32)(p>>32)){
+fa=b+ea*36;
+*fa=1;
+z3(fa+1);
+x8(fa+4,p);
+z24(fa+12);
+ga=ca+2;}
+else ga=ea;
+ha=b+ga*36;
+*ha=3;
+ha[1]=0;
+x2(ha+2,53);
+z36(ha+4);
+x4(ha+40,o);
+x4(ha+44,1);
+x4(ha+48,0);
+memcpy(ha+52,h,20);
+x4(ha+72,0);
+x4(ha+76,o);
+x4(ha+80,0);
+x4(ha+84,0);
+memcpy(ha+88,h,20);
+ha[108]=3;
+ha[109]=0;
+x2(ha+110,52);
+z32(ha+112);
+w8(b+288,ga+4);
+break;
+case 12:ia=*l;
+memcpy(e,d+1,3);
+ja=r4(l+4);
+ka=l[8];
+memcpy(f,d+9,3);
+la=l[12];
+memcpy(g,d+13,3);
+ma=r4(l+16);
+na=r8(b+288);
+oa=b+na*36;
+*oa=3;
+oa[1]=0;
+x2(oa+2,16);
+z32(oa+4);
+pa=na+1;
+w8(b+288,pa);
+qa=rp(a+24);
+ra=qa+(i64)((u64)o*48);
+if(*(qa+(i64)((u64)(*ra==47?q4(ra+4):o)*48))==1)sa=pa;
+else{
+ta=b+pa*36;
+x4(ta,0);
+x4(ta+4,o);
+x4(ta+8,2);
+x4(ta+12,0);
+ta[16]=ia;
+memcpy(ta+17,e,3);
+x4(ta+20,ja);
+ta[24]=ka;
+memcpy(ta+25,f,3);
+ta[28]=la;
+memcpy(ta+29,g,3);
+x4(ta+32,ma);
+sa=na+2;}
+ua=b+sa*36;
+*ua=3;
+ua[1]=0;
+x2(ua+2,15);
+z32(ua+4);
+w8(b+288,sa+1);
+break;
+case 0:case 3:case 4:case 5:case 13:break;
+default:NEVER;
+}
+return;
+}
+
+/* cpp_layout::symbol::Symbol::fill_lambda */
+static void fill_lambda_389(u8* a,u8* b,u32 c,u64 d,u8* e)
+{
+u8 f[3],g[3],h[3];
+u8 i,k,l;
+u32 j,m;
+u64 n,p,r,u;
+u8 *o,*q,*s,*t,*v,*w;
+i=*e;
+memcpy(f,e+1,3);
+j=q4(e+4);
+k=e[8];
+memcpy(g,e+9,3);
+l=e[12];
+memcpy(h,e+13,3);
+m=q4(e+16);
+n=r8(b+288);
+o=b+n*36;
+*o=3;
+o[1]=0;
+x2(o+2,32);
+z32(o+4);
+w8(b+288,n+1);
+push_decimal_9ae(b,d);
+p=r8(b+288);
+q=b+p*36;
+*q=3;
+q[1]=0;
+x2(q+2,31);
+z32(q+4);
+r=p+1;
+w8(b+288,r);
+s=rp(a+24);
+t=s+(i64)((u64)c*48);
+if(*(s+(i64)((u64)(*t==47?q4(t+4):c)*48))==1)u=r;
+else{
+v=b+r*36;
+x4(v,0);
+x4(v+4,c);
+x4(v+8,2);
+x4(v+12,0);
+v[16]=i;
+memcpy(v+17,f,3);
+x4(v+20,j);
+v[24]=k;
+memcpy(v+25,g,3);
+v[28]=l;
+memcpy(v+29,h,3);
+x4(v+32,m);
+u=p+2;}
+w=b+u*36;
+*w=3;
+w[1]=0;
+x2(w+2,30);
+z32(w+4);
+w8(b+288,u+1);
+return;
+}
+
+/* cpp_layout::symbol::Symbol::push_decimal */
+static void push_decimal_9ae(u8* a,u64 b)
+{
+u8 c[24],d[40],e[24];
+u64 f,g,h,i,j,o,s,t,u,D,E,J,K;
+u16 k,y,C;
+u8 *l,*m,*p,*q,*v,*w,*z,*A,*F,*G,*I,*L;
+u8 n,r,x,B,H;
+z24(e);
+z40(d);
+if(b<=9999){
+h=40;
+i=b;
+goto L1;}
+f=b;
+g=40;
+L2:j=f/10000;
+k=f%10000;
+l=(u8*)t_bedf+((u64)(k%100)<<1);
+m=d+(i64)g;
+n=l[1];
+m[-2]=*l;
+m[-1]=n;
+o=g-4;
+p=(u8*)t_bedf+((u64)(k/100)<<1);
+q=d+o;
+r=p[1];
+*q=*p;
+q[1]=r;
+if(f>99999999){
+f=j;
+g=o;
+goto L2;}
+h=o;
+i=j;
+L1:if(i<100){
+if(i<10){
+s=h-1;
+*(d+s)=(u8)i|48;
+t=s;}
+else{
+u=h-2;
+v=(u8*)t_bedf+(i<<1);
+w=d+u;
+x=v[1];
+*w=*v;
+w[1]=x;
+t=u;}}
+else{
+y=i;
+z=(u8*)t_bedf+((u64)(y%100)<<1);
+A=d+(i64)h;
+B=z[1];
+A[-2]=*z;
+A[-1]=B;
+C=y/100;
+if(i<1000){
+D=h-3;
+*(d+D)=(u8)C|48;
+t=D;}
+else{
+E=h-4;
+F=(u8*)t_bedf+((u64)C<<1);
+G=d+E;
+H=F[1];
+*G=*F;
+G[1]=H;
+t=E;}}
+I=d+(i64)t;
+J=40-t;
+z24(c);
+if((u64)c-(u64)I<J)copy_bits_4f4(I,c,J);
+else memcpy(c,I,J);
+memcpy(e,c,24);
+K=r8(a+288);
+L=a+K*36;
+*L=4;
+memcpy(L+1,e,24);
+L[25]=J;
+z10(L+26);
+w8(a+288,K+1);
+return;
+}
+
+/* cpp_layout::symbol::Symbol::fill_within */
+static void fill_within_028(u8* a,u8* b,u32 c,u32 d,u8* e,u8* f)
+{
+A16 u8 g[20],h[20],i[20],j[20],k[20],l[20],m[20],n[20];
+u64 o,q,s;
+u8 *p,*r,*t,*u,*v,*x;
+u8 w,y,A;
+u32 z,B,C,D;
+switch(*e){
+case 3:memcpy(m,f,20);
+memcpy(n,f,20);
+o=r8(b+288);
+p=b+o*36;
+x4(p,0);
+x4(p+4,d);
+x4(p+8,5);
+x4(p+12,0);
+memcpy(p+16,n,20);
+p[36]=3;
+p[37]=0;
+x2(p+38,5);
+z36(p+40);
+x4(p+76,d);
+x4(p+80,0);
+x4(p+84,0);
+memcpy(p+88,m,20);
+w8(b+288,o+3);
+break;
+case 5:memcpy(k,f,20);
+memcpy(l,f,20);
+q=r8(b+288);
+r=b+q*36;
+x4(r,0);
+x4(r+4,d);
+x4(r+8,5);
+x4(r+12,0);
+memcpy(r+16,l,20);
+r[36]=3;
+r[37]=0;
+x2(r+38,5);
+z36(r+40);
+x4(r+76,d);
+x4(r+80,0);
+x4(r+84,0);
+memcpy(r+88,k,20);
+w8(b+288,q+3);
+break;
+case 4:memcpy(i,f,20);
+memcpy(j,f,20);
+s=r8(b+288);
+t=b+s*36;
+x4(t,0);
+x4(t+4,d);
+x4(t+8,5);
+x4(t+12,0);
+memcpy(t+16,j,20);
+t[36]=3;
+t[37]=0;
+x2(t+38,6);
+z36(t+40);
+x4(t+76,d);
+x4(t+80,0);
+x4(t+84,0);
+memcpy(t+88,i,20);
+w8(b+288,s+3);
+break;
+case 0:case 1:case 2:case 6:case 7:case 8:case 9:case 10:case 11:case 12:case 13:memcpy(g,f,20);
+u=rp(a+24);
+v=u+(i64)((u64)d*48);
+w=*v==47;
+x=u+(i64)((u64)(w?q4(v+4):d)*48);
+if(*x==42){
+if(x[1]==87){
+if(x[2]==64){
+y=g[12]!=0;
+z=r4(g+4);
+A=g[8];
+B=y?r4(g+16):(w?q4(v+8):0);
+C=q4(x+4);
+D=q4(x+8);
+w4(h,*g);
+w4(h+4,z);
+h[8]=A;
+z3(h+9);
+w4(h+12,y|w);
+w4(h+16,B);
+fill_attached_0c0(a,b,c,g,C,D,h);}
+else fill_attached_0c0(a,b,c,g,0,d,g);}
+else fill_nested_107(a,b,c,d,g);}
+else fill_nested_107(a,b,c,d,g);
+break;
+default:NEVER;
+}
+return;
+}
+
+/* cpp_layout::symbol::Symbol::fill_attached */
+static void fill_attached_0c0(u8* a,u8* b,u32 c,u8* d,u32 e,u32 f,u8* g)
+{
+u8 h[3],j[3],k[3],l[3],m[3],n[3];
+A16 u8 i[20];
+u8 o,q,r,D,G,L;
+u32 p,s,E,I,J;
+u64 t,v,x,A;
+u8 *u,*w,*y,*z,*B,*C,*F,*H,*K;
+memcpy(i,d,20);
+o=*g;
+memcpy(m,g+1,3);
+p=q4(g+4);
+q=g[8];
+memcpy(n,g+9,3);
+r=g[12];
+memcpy(h,g+13,3);
+s=q4(g+16);
+memcpy(j,g+1,3);
+memcpy(k,g+9,3);
+memcpy(l,g+13,3);
+t=r8(b+288);
+u=b+t*36;
+x4(u,0);
+x4(u+4,f);
+x4(u+8,0);
+x4(u+12,0);
+u[16]=o;
+memcpy(u+17,j,3);
+x4(u+20,p);
+u[24]=q;
+memcpy(u+25,k,3);
+u[28]=r;
+memcpy(u+29,l,3);
+x4(u+32,s);
+u[36]=3;
+u[37]=0;
+x2(u+38,51);
+z36(u+40);
+x4(u+76,c);
+x4(u+80,6);
+x4(u+84,0);
+memcpy(u+88,i,20);
+v=t+3;
+w8(b+288,v);
+w=rp(a+24);
+x=(u64)e*48;
+y=w+(i64)x;
+if(*(w+(i64)((u64)(*y==47?q4(y+4):e)*48))!=0){
+z=b+v*36;
+*z=3;
+z[1]=0;
+x2(z+2,5);
+z32(z+4);
+A=t+4;
+w8(b+288,A);
+B=rp(a+24);
+C=B+(i64)x;
+D=*C==47;
+E=D?q4(C+4):e;
+F=B+(i64)((u64)E*48);
+G=*F;
+if((u8)(G-2)<7){
+H=b+A*36;
+x4(H,0);
+x4(H+4,E);
+x4(H+8,8);
+x4(H+12,0);
+x4(H+16,0);
+x4(H+20,0);
+H[24]=q;
+z11(H+25);}
+else{
+I=q4(C+8);
+J=q4(F+4);
+K=b+A*36;
+x4(K,0);
+if(G==14){
+L=r!=0;
+x4(K+4,J);
+x4(K+8,0);
+x4(K+12,0);
+x4(K+16,o);
+x4(K+20,p);
+K[24]=q;
+z3(K+25);
+x4(K+28,L|D);
+x4(K+32,L?s:(D?I:0));}
+else{
+x4(K+4,e);
+x4(K+8,0);
+x4(K+12,0);
+K[16]=o;
+memcpy(K+17,m,3);
+x4(K+20,p);
+K[24]=q;
+memcpy(K+25,n,3);
+K[28]=r;
+memcpy(K+29,h,3);
+x4(K+32,s);}}
+w8(b+288,t+5);}
+return;
+}
+
+/* cpp_layout::symbol::Symbol::fill_nested */
+static void fill_nested_107(u8* a,u8* b,u32 c,u32 d,u8* e)
+{
+u8 f[3],g[3],h[3],i[3],j[3],k[3];
+u8 l,n,o,v,y,D;
+u32 m,p,w,A,B;
+u64 q,s;
+u8 *r,*t,*u,*x,*z,*C;
+l=*e;
+memcpy(i,e+1,3);
+m=q4(e+4);
+n=e[8];
+memcpy(j,e+9,3);
+o=e[12];
+memcpy(k,e+13,3);
+p=q4(e+16);
+memcpy(f,e+1,3);
+memcpy(g,e+9,3);
+memcpy(h,e+13,3);
+q=r8(b+288);
+r=b+q*36;
+x4(r,0);
+x4(r+4,c);
+x4(r+8,6);
+x4(r+12,0);
+r[16]=l;
+memcpy(r+17,f,3);
+x4(r+20,m);
+r[24]=n;
+memcpy(r+25,g,3);
+r[28]=o;
+memcpy(r+29,h,3);
+x4(r+32,p);
+r[36]=3;
+r[37]=0;
+x2(r+38,5);
+z32(r+40);
+s=q+2;
+w8(b+288,s);
+t=rp(a+24);
+u=t+(i64)((u64)d*48);
+v=*u==47;
+w=v?q4(u+4):d;
+x=t+(i64)((u64)w*48);
+y=*x;
+if((u8)(y-2)<7){
+z=b+s*36;
+x4(z,0);
+x4(z+4,w);
+x4(z+8,8);
+x4(z+12,0);
+x4(z+16,0);
+x4(z+20,0);
+z[24]=n;
+z11(z+25);}
+else{
+A=q4(u+8);
+B=q4(x+4);
+C=b+s*36;
+x4(C,0);
+if(y==14){
+D=o!=0;
+x4(C+4,B);
+x4(C+8,0);
+x4(C+12,0);
+x4(C+16,l);
+x4(C+20,m);
+C[24]=n;
+z3(C+25);
+x4(C+28,D|v);
+x4(C+32,D?p:(v?A:0));}
+else{
+x4(C+4,d);
+x4(C+8,0);
+x4(C+12,0);
+C[16]=l;
+memcpy(C+17,i,3);
+x4(C+20,m);
+C[24]=n;
+memcpy(C+25,j,3);
+C[28]=o;
+memcpy(C+29,k,3);
+x4(C+32,p);}}
+w8(b+288,q+3);
+return;
+}
+
+/* cpp_layout::symbol::Symbol::fill_instance */
+static void fill_instance_705(u8* a,u8* b,u32 c,u32 d,u8* e)
+{
+u8 g[3],h[3],i[3];
+A16 u8 f[20];
+u8 j,l,m,o;
+u32 k,n;
+u64 p,r,u,x;
+u8 *q,*s,*t,*v,*w,*y;
+j=*e;
+memcpy(g,e+1,3);
+k=q4(e+4);
+l=e[8];
+memcpy(h,e+9,3);
+m=e[12];
+memcpy(i,e+13,3);
+switch(l){
+case 0:case 2:n=q4(e+16);
+o=ends_in_angle_e4f(a,c);
+p=r8(b+288);
+q=b+p*36;
+*q=3;
+q[1]=0;
+x2(q+2,28);
+z32(q+4);
+r=p+1;
+w8(b+288,r);
+s=rp(a+24);
+t=s+(i64)((u64)d*48);
+if(*(s+(i64)((u64)(*t==47?q4(t+4):d)*48))==1)u=r;
+else{
+v=b+r*36;
+x4(v,0);
+x4(v+4,d);
+x4(v+8,2);
+x4(v+12,0);
+v[16]=j;
+memcpy(v+17,g,3);
+x4(v+20,k);
+v[24]=l;
+memcpy(v+25,h,3);
+v[28]=m;
+memcpy(v+29,i,3);
+x4(v+32,n);
+u=p+2;}
+w=b+u*36;
+*w=3;
+w[1]=0;
+x2(w+2,o?27:26);
+z36(w+4);
+x4(w+40,c);
+x4(w+44,0);
+x4(w+48,0);
+w[52]=j;
+memcpy(w+53,g,3);
+x4(w+56,k);
+w[60]=l;
+memcpy(w+61,h,3);
+w[64]=m;
+memcpy(w+65,i,3);
+x4(w+68,n);
+w8(b+288,u+2);
+break;
+case 1:case 3:memcpy(f,e,20);
+x=r8(b+288);
+y=b+x*36;
+x4(y,0);
+x4(y+4,c);
+x4(y+8,0);
+x4(y+12,0);
+memcpy(y+16,f,20);
+w8(b+288,x+1);
+break;
+default:NEVER;
+}
+return;
+}
+
+/* cpp_layout::symbol::Symbol::fill_tagged */
+static void fill_tagged_ac0(u8* a,u32 b,u32 c,u32 d,u8* e)
+{
+A16 u8 f[20];
+u64 g,i,k;
+u8 *h,*j,*l;
+memcpy(f,e,20);
+g=r8(a+288);
+h=a+g*36;
+*h=3;
+h[1]=0;
+x2(h+2,16);
+z32(h+4);
+i=g+1;
+if(c<d){
+j=a+i*36;
+*j=1;
+z3(j+1);
+x4(j+4,c);
+x4(j+8,d);
+z24(j+12);
+k=g+2;}
+else k=i;
+l=a+k*36;
+*l=3;
+l[1]=0;
+x2(l+2,43);
+z36(l+4);
+x4(l+40,b);
+x4(l+44,0);
+x4(l+48,0);
+memcpy(l+52,f,20);
+w8(a+288,k+2);
+return;
+}
+
+/* cpp_layout::symbol::Symbol::fill_parameter */
+static void fill_parameter_f33(u8* a,u8* b,u32 c,u32 d,u32 e,u8* f)
+{
+A16 u8 g[20],h[24];
+u32 i,m,o,p,q,r,s,t,u,x,y,A,B,C,G,O;
+u8 *j,*k,*l,*n,*v,*w,*z,*D,*E,*F,*J,*K,*L,*M,*P,*Q,*U,*W;
+u64 H,I,T,V;
+u8 N,R;
+u16 S;
+memcpy(g,f,20);
+z24(h);
+argument_of_c35(h,a,c,d,g);
+i=r4(h);
+j=rp(a+24);
+k=j+(i64)((u64)i*48);
+l=j+(i64)((u64)(*k==47?q4(k+4):i)*48);
+if(*l==19){
+if(e!=1){
+m=q4(l+4);
+n=j+(i64)((u64)m*48);
+o=(u8)(n[42]-9)<2?q4(n+32):0;
+if(c<=o){
+s=c;
+t=m;
+goto L1;}
+p=o;
+q=m;
+r=c;
+L2:u=q-p;
+v=j+(i64)((u64)u*48);
+w=j+(i64)((u64)(*v==47?q4(v+4):u)*48);
+if(*w!=45){
+B=0;
+goto L3;}
+x=q4(w+8);
+y=r+(p^4294967295u);
+z=j+(i64)((u64)x*48);
+A=(u8)(z[42]-9)<2?q4(z+32):0;
+if(y>A){
+p=A;
+q=x;
+r=y;
+goto L2;}
+s=y;
+t=x;
+L1:C=t-s;
+D=j+(i64)((u64)C*48);
+E=j+(i64)((u64)(*D==47?q4(D+4):C)*48);
+B=*E==45?q4(E+4):0;
+L3:F=j+(i64)((u64)B*48);
+G=*F==47?q4(F+4):B;
+H=(u64)G*48;
+if(*(j+(i64)H)==0){
+I=r8(b+288);
+J=b+I*36;
+*J=3;
+J[1]=0;
+x2(J+2,132);
+z32(J+4);
+w8(b+288,I+1);}
+else{
+push_decimal_9ae(b,c);
+K=rp(a+24);
+L=K+(i64)H;
+M=K+(i64)((u64)(*L==47?q4(L+4):G)*48);
+if(*M==42){
+N=M[2];
+if(N==112){
+O=q4(M+4);
+P=K+(i64)((u64)O*48);
+Q=K+(i64)((u64)(*P==47?q4(P+4):O)*48);
+R=*Q==42?Q[2]:0;
+S=R==110?58:(R==116?59:57);}
+else S=N==110?58:(N==116?59:57);}
+else S=57;
+T=r8(b+288);
+U=b+T*36;
+*U=3;
+U[1]=0;
+x2(U+2,S);
+z32(U+4);
+w8(b+288,T+1);}}}
+else{
+V=r8(b+288);
+W=b+V*36;
+x4(W,0);
+x4(W+4,i);
+x4(W+8,e);
+x4(W+12,0);
+memcpy(W+16,h+4,20);
+w8(b+288,V+1);}
+return;
+}
+
+/* cpp_layout::symbol::Symbol::fill_marked */
+static void fill_marked_ccd(u8* a,u8* b,u32 c,u8* d)
+{
+u8 f[3],g[3];
+A16 u8 e[12];
+u8 h,j,m;
+u32 i,k,l;
+u64 n;
+u8 *o;
+h=*d;
+memcpy(f,d+1,3);
+i=q4(d+4);
+j=d[12];
+k=q4(d+8);
+memcpy(g,d+13,3);
+l=q4(d+16);
+w4(e,c);
+w4(e+4,j);
+w4(e+8,l);
+m=head_c64(a+24,h,i,e);
+n=r8(b+288);
+o=b+n*36;
+*o=3;
+o[1]=0;
+x2(o+2,m==1?9:8);
+z36(o+4);
+x4(o+40,c);
+x4(o+44,0);
+x4(o+48,0);
+o[52]=h;
+memcpy(o+53,f,3);
+x4(o+56,i);
+x4(o+60,k);
+o[64]=j;
+memcpy(o+65,g,3);
+x4(o+68,l);
+w8(b+288,n+2);
+return;
+}
+
+/* cpp_layout::symbol::Symbol::fill_reference */
+static void fill_reference_45e(u8* a,u8* b,u32 c,u32 d,u16 e,u16 f,u8* g)
+{
+u8 i[3],j[3],k[3],l[3];
+A16 u8 h[12],m[12];
+u8 n,q,s,v;
+u32 o,p,r;
+u64 t,w;
+u8 *u,*x;
+n=*g;
+o=q4(g+4);
+p=q4(g+8);
+q=g[12];
+r=q4(g+16);
+w4(m,c);
+w4(m+4,q);
+w4(m+8,r);
+s=head_c64(a+24,n,o,m);
+if(s>1){
+memcpy(k,g+1,3);
+memcpy(l,g+13,3);
+t=r8(b+288);
+u=b+t*36;
+x4(u,0);
+x4(u+4,c);
+x4(u+8,d);
+x4(u+12,0);
+u[16]=n;
+memcpy(u+17,k,3);
+x4(u+20,o);
+x4(u+24,p);
+u[28]=q;
+memcpy(u+29,l,3);
+x4(u+32,r);
+w8(b+288,t+1);}
+else{
+memcpy(i,g+1,3);
+memcpy(j,g+13,3);
+w4(h,c);
+w4(h+4,q);
+w4(h+8,r);
+v=head_c64(a+24,n,o,h);
+w=r8(b+288);
+x=b+w*36;
+*x=3;
+x[1]=0;
+x2(x+2,v==1?e:f);
+z36(x+4);
+x4(x+40,c);
+x4(x+44,0);
+x4(x+48,0);
+x[52]=n;
+memcpy(x+53,i,3);
+x4(x+56,o);
+x4(x+60,p);
+x[64]=q;
+memcpy(x+65,j,3);
+x4(x+68,r);
+w8(b+288,w+2);}
+return;
+}
+
+/* cpp_layout::symbol::Symbol::fill_array */
+static void fill_array_6df(u8* a,u8* b,u32 c,u8* d)
+{
+u8 f[3],g[3];
+A16 u8 e[12];
+u8 h,k,m;
+u32 i,j,l;
+u64 n,o;
+u8 *p,*q;
+h=*d;
+memcpy(f,d+1,3);
+i=q4(d+4);
+j=q4(d+8);
+k=d[12];
+memcpy(g,d+13,3);
+l=q4(d+16);
+w4(e,c);
+w4(e+4,k);
+w4(e+8,l);
+m=head_c64(a+24,h,i,e);
+n=r8(b+288);
+if(m==1)o=n;
+else{
+p=b+n*36;
+*p=3;
+p[1]=0;
+x2(p+2,4);
+z32(p+4);
+o=n+1;}
+q=b+o*36;
+x4(q,0);
+x4(q+4,c);
+x4(q+8,0);
+x4(q+12,0);
+q[16]=h;
+memcpy(q+17,f,3);
+x4(q+20,i);
+x4(q+24,j);
+q[28]=k;
+memcpy(q+29,g,3);
+x4(q+32,l);
+w8(b+288,o+1);
+return;
+}
+
+/* cpp_layout::symbol::Symbol::fill_member */
+static void fill_member_9df(u8* a,u8* b,u32 c,u32 d,u8* e)
+{
+u8 g[3],h[3];
+A16 u8 f[12];
+u8 i,l,n;
+u32 j,k,m;
+u64 o;
+u8 *p,*q;
+i=*e;
+memcpy(g,e+1,3);
+j=q4(e+4);
+k=q4(e+8);
+l=e[12];
+memcpy(h,e+13,3);
+m=q4(e+16);
+w4(f,d);
+w4(f+4,l);
+w4(f+8,m);
+n=head_c64(a+24,i,j,f);
+o=r8(b+288);
+p=b+o*36;
+*p=3;
+p[1]=0;
+x2(p+2,14);
+z36(p+4);
+x4(p+40,c);
+x4(p+44,0);
+x4(p+48,0);
+p[52]=i;
+memcpy(p+53,g,3);
+x4(p+56,j);
+x4(p+60,k);
+p[64]=l;
+memcpy(p+65,h,3);
+x4(p+68,m);
+q=b+(i64)(o*36);
+q[72]=3;
+q[73]=0;
+x2(q+74,n==1?2:4);
+z32(q+76);
+x4(p+108,0);
+x4(p+112,d);
+x4(p+116,0);
+x4(p+120,0);
+p[124]=i;
+memcpy(p+125,g,3);
+x4(p+128,j);
+x4(p+132,k);
+p[136]=l;
+memcpy(p+137,h,3);
+x4(p+140,m);
+w8(b+288,o+4);
+return;
+}
+
+/* cpp_layout::symbol::Symbol::fill_qualified_left */
+static void fill_qualified_left_c64(u8* a,u8* b,u8* c,u32 d,u8* e)
+{
+u8 h[3],i[3],j[3],k[3],l[3],m[3];
+A16 u8 f[12],g[12];
+u8 n,o,p,q,s,t,z,A,B,C,D,E;
+u32 r,u;
+u8 *v,*w,*y,*G,*I;
+u64 x,F,H;
+n=*c;
+o=c[1];
+p=c[2];
+q=*e;
+memcpy(k,e+1,3);
+r=q4(e+4);
+s=e[8];
+memcpy(l,e+9,3);
+t=e[12];
+memcpy(m,e+13,3);
+u=q4(e+16);
+v=rp(a+24);
+w=v+(i64)((u64)d*48);
+if(*(v+(i64)((u64)(*w==47?q4(w+4):d)*48))==31){
+memcpy(h,e+1,3);
+memcpy(i,e+9,3);
+memcpy(j,e+13,3);
+x=r8(b+288);
+y=b+x*36;
+x4(y,0);
+x4(y+4,d);
+x4(y+8,0);
+x4(y+12,0);
+y[16]=q;
+memcpy(y+17,h,3);
+x4(y+20,r);
+y[24]=s;
+memcpy(y+25,i,3);
+y[28]=t;
+memcpy(y+29,j,3);
+x4(y+32,u);
+w8(b+288,x+1);}
+else{
+w4(g,d);
+w4(g+4,t);
+w4(g+8,u);
+z=head_c64(a+24,q,r,g);
+if(z<=1){
+w4(f,d);
+w4(f+4,t);
+w4(f+8,u);
+A=head_c64(a+24,q,r,f);
+B=(u8)(p<<2)&4;
+if(A==1){
+C=(u8)(B-91)+(((u8)(o<<1)&2)|(n&1));
+if(C<=165)goto L1;
+D=C;}
+else{
+E=(u8)(B+60)|((n&1)|((u8)(o<<1)&2));
+if(E<=60)goto L1;
+D=E;}
+F=r8(b+288);
+G=b+F*36;
+*G=3;
+G[1]=0;
+x2(G+2,D);
+z32(G+4);
+w8(b+288,F+1);}
+L1:H=r8(b+288);
+I=b+H*36;
+x4(I,0);
+x4(I+4,d);
+x4(I+8,0);
+x4(I+12,0);
+I[16]=q;
+memcpy(I+17,k,3);
+x4(I+20,r);
+I[24]=s;
+memcpy(I+25,l,3);
+I[28]=t;
+memcpy(I+29,m,3);
+x4(I+32,u);
+w8(b+288,H+1);}
+return;
+}
+
+/* cpp_layout::symbol::Symbol::fill_vector */
+static void fill_vector_ba4(u8* a,u32 b,u32 c,u32 d,u8* e)
+{
+A16 u8 f[20];
+u64 g,i,k;
+u8 *h,*j,*l;
+memcpy(f,e,20);
+g=r8(a+288);
+h=a+g*36;
+*h=3;
+h[1]=0;
+x2(h+2,3);
+z32(h+4);
+i=g+1;
+if(b<c){
+j=a+i*36;
+*j=1;
+z3(j+1);
+x4(j+4,b);
+x4(j+8,c);
+z24(j+12);
+k=g+2;}
+else k=i;
+l=a+k*36;
+*l=3;
+l[1]=0;
+x2(l+2,17);
+z36(l+4);
+x4(l+40,d);
+x4(l+44,0);
+x4(l+48,0);
+memcpy(l+52,f,20);
+w8(a+288,k+2);
+return;
+}
+
+/* cpp_layout::symbol::Symbol::fill_float */
+static void fill_float_13c(u8* a,u32 b,u32 c,u8 d)
+{
+u64 e,h,j;
+u8 *f,*g,*i,*k;
+e=r8(a+288);
+switch(d){
+case 98:f=a+e*36;
+*f=3;
+f[1]=0;
+x2(f+2,42);
+z32(f+4);
+w8(a+288,e+1);
+goto L1;
+case 120:g=a+e*36;
+*g=3;
+g[1]=0;
+x2(g+2,41);
+z32(g+4);
+h=e+1;
+break;
+default:h=e;
+break;}
+if(b<c){
+i=a+h*36;
+*i=1;
+z3(i+1);
+x4(i+4,b);
+x4(i+8,c);
+z24(i+12);
+j=h+1;}
+else j=h;
+k=a+j*36;
+*k=3;
+k[1]=0;
+x2(k+2,40);
+z32(k+4);
+w8(a+288,j+1);
+L1:return;
+}
+
+/* cpp_layout::symbol::Symbol::fill_expansion */
+static void fill_expansion_ab7(u8* a,u8* b,u32 c,u8* d)
+{
+u8 f[3],h[3];
+A16 u8 e[12],g[12];
+u8 i,s;
+u32 j,m,n,r;
+u8 *k,*l,*o,*p,*q,*u,*w;
+u64 t,v;
+memcpy(g,d,12);
+i=d[12];
+memcpy(h,d+13,3);
+j=q4(d+16);
+k=rp(a+24);
+l=k+(i64)((u64)c*48);
+if(i==0){
+m=q4(l+24);
+if(m==0)goto L1;
+n=m-1;}
+else{
+o=k+(i64)((u64)j*48);
+p=k+(i64)((u64)(*o==47?q4(o+4):j)*48);
+if(*p!=44)goto L1;
+q=k+(i64)((u64)q4(p+4)*48);
+r=(u8)(q[42]-9)<2?q4(q+28)+1:1;
+s=q4(l+43)&1;
+if(!(s&&r!=0))goto L1;
+n=s?usub32(r,1):0;}
+if(n==0)goto L2;
+memcpy(e,d,12);
+memcpy(f,d+13,3);
+t=r8(b+288);
+u=b+t*36;
+x4(u,0);
+x4(u+4,c);
+x4(u+8,10);
+x4(u+12,0);
+memcpy(u+16,e,12);
+u[28]=i;
+memcpy(u+29,f,3);
+x4(u+32,j);
+w8(b+288,t+1);
+goto L2;
+L1:v=r8(b+288);
+w=b+v*36;
+*w=3;
+w[1]=0;
+x2(w+2,1);
+z36(w+4);
+x4(w+40,c);
+x4(w+44,1);
+x4(w+48,0);
+memcpy(w+52,g,12);
+w[64]=i;
+memcpy(w+65,h,3);
+x4(w+68,j);
+x4(w+72,0);
+x4(w+76,c);
+x4(w+80,0);
+x4(w+84,0);
+memcpy(w+88,g,12);
+w[100]=i;
+memcpy(w+101,h,3);
+x4(w+104,j);
+w8(b+288,v+3);
+L2:return;
+}
+
+/* cpp_layout::symbol::Symbol::fill_integer */
+static void fill_integer_2c4(u8* a,u8* b,u32 c,u8* d,u8* e)
+{
+u8 f[3],g[3],h[3],i[3],j[3],k[3];
+u8 l,o,q,r;
+u32 m,n,p,s;
+u8 *t,*u,*v,*y,*A,*C,*E,*G,*I,*K,*M,*O;
+u16 w;
+u64 x,z,B,D,F,H,J,L,N;
+l=*d;
+m=q4(d+4);
+n=q4(d+8);
+o=*e;
+p=q4(e+4);
+q=e[8];
+r=e[12];
+s=q4(e+16);
+t=rp(a+24);
+u=t+(i64)((u64)c*48);
+v=t+(i64)((u64)(*u==47?q4(u+4):c)*48);
+if(*v==20){
+switch(v[1]){
+case 106:w=161;
+break;
+case 108:w=162;
+break;
+case 109:w=163;
+break;
+case 120:w=164;
+break;
+case 121:w=165;
+break;
+case 105:goto L1;
+default:memcpy(i,e+1,3);
+memcpy(j,e+9,3);
+memcpy(k,e+13,3);
+x=r8(b+288);
+if(m<n){
+y=b+x*36;
+*y=1;
+z3(y+1);
+x4(y+4,m);
+x4(y+8,n);
+z24(y+12);
+z=x+1;}
+else z=x;
+if(l&1){
+A=b+z*36;
+*A=3;
+A[1]=0;
+x2(A+2,36);
+z32(A+4);
+B=z+1;}
+else B=z;
+C=b+B*36;
+*C=3;
+C[1]=0;
+x2(C+2,3);
+z36(C+4);
+x4(C+40,c);
+x4(C+44,1);
+x4(C+48,0);
+C[52]=o;
+memcpy(C+53,i,3);
+x4(C+56,p);
+C[60]=q;
+memcpy(C+61,j,3);
+C[64]=r;
+memcpy(C+65,k,3);
+x4(C+68,s);
+x4(C+72,0);
+x4(C+76,c);
+x4(C+80,0);
+x4(C+84,0);
+C[88]=o;
+memcpy(C+89,i,3);
+x4(C+92,p);
+C[96]=q;
+memcpy(C+97,j,3);
+C[100]=r;
+memcpy(C+101,k,3);
+x4(C+104,s);
+C[108]=3;
+C[109]=0;
+x2(C+110,2);
+z32(C+112);
+w8(b+288,B+4);
+goto L2;
+}
+D=r8(b+288);
+E=b+D*36;
+*E=3;
+E[1]=0;
+x2(E+2,w);
+z32(E+4);
+w8(b+288,D+1);
+L1:if(m<n){
+F=r8(b+288);
+G=b+F*36;
+*G=1;
+z3(G+1);
+x4(G+4,m);
+x4(G+8,n);
+z24(G+12);
+w8(b+288,F+1);}
+if(l&1){
+H=r8(b+288);
+I=b+H*36;
+*I=3;
+I[1]=0;
+x2(I+2,36);
+z32(I+4);
+w8(b+288,H+1);}}
+else{
+memcpy(f,e+1,3);
+memcpy(g,e+9,3);
+memcpy(h,e+13,3);
+J=r8(b+288);
+if(m<n){
+K=b+J*36;
+*K=1;
+z3(K+1);
+x4(K+4,m);
+x4(K+8,n);
+z24(K+12);
+L=J+1;}
+else L=J;
+if(l&1){
+M=b+L*36;
+*M=3;
+M[1]=0;
+x2(M+2,36);
+z32(M+4);
+N=L+1;}
+else N=L;
+O=b+N*36;
+*O=3;
+O[1]=0;
+x2(O+2,3);
+z36(O+4);
+x4(O+40,c);
+x4(O+44,1);
+x4(O+48,0);
+O[52]=o;
+memcpy(O+53,f,3);
+x4(O+56,p);
+O[60]=q;
+memcpy(O+61,g,3);
+O[64]=r;
+memcpy(O+65,h,3);
+x4(O+68,s);
+x4(O+72,0);
+x4(O+76,c);
+x4(O+80,0);
+x4(O+84,0);
+O[88]=o;
+memcpy(O+89,f,3);
+x4(O+92,p);
+O[96]=q;
+memcpy(O+97,g,3);
+O[100]=r;
+memcpy(O+101,h,3);
+x4(O+104,s);
+O[108]=3;
+O[109]=0;
+x2(O+110,2);
+z32(O+112);
+w8(b+288,N+4);}
+L2:return;
+}
+
+/* cpp_layout::symbol::Symbol::fill_decltype */
+static void fill_decltype_76c(u8* a,u32 b,u8* c)
+{
+A16 u8 d[20];
+u64 e;
+u8 *f;
+memcpy(d,c,20);
+e=r8(a+288);
+f=a+e*36;
+*f=3;
+f[1]=0;
+x2(f+2,3);
+z36(f+4);
+x4(f+40,b);
+x4(f+44,0);
+x4(f+48,0);
+memcpy(f+52,d,20);
+f[72]=3;
+f[73]=0;
+x2(f+74,48);
+z32(f+76);
+w8(a+288,e+3);
+return;
+}
+
+/* cpp_layout::symbol::Symbol::fill_operation */
+static void fill_operation_585(u8* a,u8* b,u8 c,u8 d,u32 e,u32 f,u8* g)
+{
+u8 i[12];
+A16 u8 h[20];
+u16 j,m,p;
+u64 k,n,q;
+u8 *l,*o,*r;
+memcpy(h,g,20);
+operation_of_ce4(i,c,d);
+j=r2(i+10);
+if(j!=60){
+k=r8(b+288);
+l=b+k*36;
+*l=3;
+l[1]=0;
+x2(l+2,j);
+z32(l+4);
+w8(b+288,k+1);}
+fill_operand_808(a,b,i[8],i[9],f,h);
+m=r2(i+6);
+if(m!=60){
+n=r8(b+288);
+o=b+n*36;
+*o=3;
+o[1]=0;
+x2(o+2,m);
+z32(o+4);
+w8(b+288,n+1);}
+fill_operand_808(a,b,i[4],i[5],e,h);
+p=r2(i+2);
+if(p!=60){
+q=r8(b+288);
+r=b+q*36;
+*r=3;
+r[1]=0;
+x2(r+2,p);
+z32(r+4);
+w8(b+288,q+1);}
+return;
+}
+
+/* cpp_layout::symbol::Symbol::fill_operand */
+static void fill_operand_808(u8* a,u8* b,u8 c,u8 d,u32 e,u8* f)
+{
+u8 g[12],h[3],i[3],j[3],k[3],l[3],m[3],n[3],o[3],p[3],q[3],r[3],s[3];
+u8 t,v,w,J,K;
+u32 u,x;
+u64 y,A,E,L,M,P;
+u8 *z,*B,*C,*D,*F,*G,*H,*I,*N,*O,*Q;
+t=*f;
+memcpy(q,f+1,3);
+u=q4(f+4);
+v=f[8];
+memcpy(r,f+9,3);
+w=f[12];
+memcpy(s,f+13,3);
+x=q4(f+16);
+switch(c){
+case 0:break;
+case 1:memcpy(n,f+1,3);
+memcpy(o,f+9,3);
+memcpy(p,f+13,3);
+y=r8(b+288);
+z=b+y*36;
+x4(z,0);
+x4(z+4,e);
+x4(z+8,0);
+x4(z+12,0);
+z[16]=t;
+memcpy(z+17,n,3);
+x4(z+20,u);
+z[24]=v;
+memcpy(z+25,o,3);
+z[28]=w;
+memcpy(z+29,p,3);
+x4(z+32,x);
+w8(b+288,y+1);
+break;
+case 2:memcpy(k,f+1,3);
+memcpy(l,f+9,3);
+memcpy(m,f+13,3);
+A=r8(b+288);
+B=b+A*36;
+x4(B,0);
+x4(B+4,e);
+x4(B+8,1);
+x4(B+12,0);
+B[16]=t;
+memcpy(B+17,k,3);
+x4(B+20,u);
+B[24]=v;
+memcpy(B+25,l,3);
+B[28]=w;
+memcpy(B+29,m,3);
+x4(B+32,x);
+x4(B+36,0);
+x4(B+40,e);
+x4(B+44,0);
+x4(B+48,0);
+B[52]=t;
+memcpy(B+53,q,3);
+x4(B+56,u);
+B[60]=v;
+memcpy(B+61,r,3);
+B[64]=w;
+memcpy(B+65,s,3);
+x4(B+68,x);
+w8(b+288,A+2);
+break;
+case 3:C=rp(a+24);
+D=C+(i64)((u64)e*48);
+if(*(C+(i64)((u64)(*D==47?q4(D+4):e)*48))!=1){
+memcpy(h,f+1,3);
+memcpy(i,f+9,3);
+memcpy(j,f+13,3);
+E=r8(b+288);
+F=b+E*36;
+x4(F,0);
+x4(F+4,e);
+x4(F+8,2);
+x4(F+12,0);
+F[16]=t;
+memcpy(F+17,h,3);
+x4(F+20,u);
+F[24]=v;
+memcpy(F+25,i,3);
+F[28]=w;
+memcpy(F+29,j,3);
+x4(F+32,x);
+w8(b+288,E+1);}
+break;
+case 4:G=rp(a+24);
+H=G+(i64)((u64)e*48);
+I=G+(i64)((u64)(*H==47?q4(H+4):e)*48);
+switch(*I){
+case 42:operation_of_ce4(g,I[1],I[2]);
+J=*g;
+break;
+case 41:J=2;
+break;
+case 0:case 1:case 2:case 3:case 4:case 5:case 6:case 7:case 8:case 9:case 10:case 11:case 12:case 13:case 14:case 15:case 16:case 17:case 18:case 19:case 20:case 21:case 22:case 23:case 24:case 25:case 26:case 27:case 28:case 29:case 30:case 31:case 32:case 33:case 34:case 35:case 36:case 37:case 38:case 39:case 40:case 43:case 44:case 45:case 46:case 47:J=0;
+break;
+default:NEVER;
+}
+K=d>J;
+L=r8(b+288);
+if(K)M=L;
+else{
+N=b+L*36;
+*N=3;
+N[1]=0;
+x2(N+2,3);
+z32(N+4);
+M=L+1;}
+O=b+M*36;
+x4(O,0);
+x4(O+4,e);
+x4(O+8,0);
+x4(O+12,0);
+O[16]=t;
+memcpy(O+17,q,3);
+x4(O+20,u);
+O[24]=v;
+memcpy(O+25,r,3);
+O[28]=w;
+memcpy(O+29,s,3);
+x4(O+32,x);
+P=M+1;
+w8(b+288,P);
+if(!K){
+Q=b+P*36;
+*Q=3;
+Q[1]=0;
+x2(Q+2,2);
+z32(Q+4);
+w8(b+288,M+2);}
+break;
+default:NEVER;
+}
+return;
+}
+
+/* cpp_layout::symbol::Symbol::fill_function_right */
+static void fill_function_right_ba5(u8* a,u8* b,u8* c,u8 d,u8 e,u32 f,u32 g,u8* h)
+{
+u8 i[3],j[3],k[3],l[3],m[3],n[3];
+u8 o,p,q,r,t,u;
+u32 s,v;
+u64 w,y,B,D,G;
+u8 *x,*A,*C,*E,*F,*H,*I;
+u16 z;
+o=*h;
+p=*c;
+q=c[1];
+r=c[2];
+memcpy(l,h+1,3);
+s=q4(h+4);
+t=h[8];
+memcpy(m,h+9,3);
+u=h[12];
+memcpy(n,h+13,3);
+v=q4(h+16);
+memcpy(i,h+1,3);
+memcpy(j,h+9,3);
+memcpy(k,h+13,3);
+w=r8(b+288);
+x=b+w*36;
+x4(x,0);
+x4(x+4,f);
+x4(x+8,1);
+x4(x+12,0);
+x[16]=o;
+memcpy(x+17,i,3);
+x4(x+20,s);
+x[24]=t;
+memcpy(x+25,j,3);
+x[28]=u;
+memcpy(x+29,k,3);
+x4(x+32,v);
+y=w+1;
+z=(e?24:0)+((u8)((u8)((u8)((u32)1050624>>((u32)d<<3))+60)+((u8)(r<<2)&4))|((p&1)|((u8)(q<<1)&2)));
+if(z>60){
+A=b+y*36;
+*A=3;
+A[1]=0;
+x2(A+2,z);
+z32(A+4);
+B=w+2;}
+else B=y;
+C=b+B*36;
+*C=3;
+C[1]=0;
+x2(C+2,3);
+z32(C+4);
+D=B+1;
+w8(b+288,D);
+E=rp(a+24);
+F=E+(i64)((u64)g*48);
+if(*(E+(i64)((u64)(*F==47?q4(F+4):g)*48))==1)G=D;
+else{
+H=b+D*36;
+x4(H,0);
+x4(H+4,g);
+x4(H+8,2);
+x4(H+12,0);
+H[16]=o;
+memcpy(H+17,l,3);
+x4(H+20,s);
+H[24]=t;
+memcpy(H+25,m,3);
+H[28]=u;
+memcpy(H+29,n,3);
+x4(H+32,v);
+G=B+2;}
+I=b+G*36;
+*I=3;
+I[1]=0;
+x2(I+2,2);
+z32(I+4);
+w8(b+288,G+1);
+return;
+}
+
+/* cpp_layout::symbol::Symbol::fill_as_left */
+static void fill_as_left_ae7(u8* a,u8* b,u32 c,u8* d)
+{
+u8 e[3],f[3],g[3],t[3];
+A16 u8 h[20],i[20],j[20],k[20],l[20],m[20],n[20],o[20],p[12],q[20],r[12],s[20],u[16],v[20],w[20],x[16],y[24];
+u8 *z,*A,*B,*M,*P,*R,*T,*V,*Y,*aa,*ca,*ea,*ha,*la,*pa,*ra,*ua,*wa,*ya,*Aa,*Ca,*Da,*Ka,*Ma,*Pa,*Ra,*Ua,*Xa,*Za;
+u8 C,D,I,J,K,N,ja,na,sa,Ea,Fa,Ha,Sa,Va;
+u32 E,F,G,L,W,Ga,Ia;
+u64 H,O,Q,S,U,X,Z,ba,da,ga,ka,oa,ta,va,xa,za,Ba,Ja,La,Na,Oa,Qa,Ta,Wa,Ya;
+u16 fa,ia,ma,qa;
+memcpy(w,d,20);
+z16(x);
+z24(y);
+z=rp(a);
+A=rp(a+24);
+B=A+(i64)((u64)c*48);
+C=*B;
+D=B[1];
+E=q4(B+4);
+F=q4(B+8);
+G=q4(B+12);
+H=q8(B+16);
+I=F;
+J=F>>8;
+K=F>>16;
+switch(C){
+case 9:w8(u,0);
+*u=I;
+u[1]=J;
+u[2]=K;
+w4(u+4,G);
+w8(u+8,H);
+memcpy(v,d,20);
+if(I==0){
+L=H;
+if(G!=L){
+M=z+(i64)G;
+if(!((H&4294967295u)-G<10||*M!=95)){
+N=parts_equal_58b((u8*)t_35ad,10,M,10);
+if(N){
+O=r8(b+288);
+P=b+O*36;
+*P=3;
+P[1]=0;
+x2(P+2,35);
+z32(P+4);
+w8(b+288,O+1);
+goto L1;}}}
+if(G<L){
+Q=r8(b+288);
+R=b+Q*36;
+*R=1;
+z3(R+1);
+x4(R+4,G);
+x4(R+8,L);
+z24(R+12);
+w8(b+288,Q+1);}}
+else fill_rare_piece_d06(a,b,u,v);
+L1:break;
+case 10:memcpy(o,d,20);
+S=r8(b+288);
+T=b+S*36;
+x4(T,0);
+x4(T+4,c);
+x4(T+8,6);
+x4(T+12,0);
+memcpy(T+16,o,20);
+T[36]=3;
+T[37]=0;
+x2(T+38,7);
+z32(T+40);
+w8(b+288,S+2);
+break;
+case 11:*x=I;
+x[1]=J;
+x[2]=K;
+w4(x+4,G);
+w8(x+8,H);
+fill_within_028(a,b,c,E,x,w);
+break;
+case 12:fill_instance_705(a,b,E,F,w);
+break;
+case 13:own_entity_238(y,a,F,w);
+U=r8(b+288);
+V=b+U*36;
+W=r4(y);
+x4(V,0);
+x4(V+4,W);
+x4(V+8,0);
+x4(V+12,0);
+memcpy(V+16,y+4,20);
+w8(b+288,U+1);
+break;
+case 14:memcpy(n,d,20);
+X=r8(b+288);
+Y=b+X*36;
+x4(Y,0);
+x4(Y+4,E);
+x4(Y+8,0);
+x4(Y+12,0);
+memcpy(Y+16,n,20);
+w8(b+288,X+1);
+break;
+case 15:memcpy(m,d,20);
+Z=r8(b+288);
+aa=b+Z*36;
+*aa=3;
+aa[1]=0;
+x2(aa+2,16);
+z32(aa+4);
+ba=Z+1;
+if(F<G){
+ca=b+ba*36;
+*ca=1;
+z3(ca+1);
+x4(ca+4,F);
+x4(ca+8,G);
+z24(ca+12);
+da=Z+2;}
+else da=ba;
+ea=b+da*36;
+*ea=3;
+ea[1]=0;
+x2(ea+2,43);
+z36(ea+4);
+x4(ea+40,E);
+x4(ea+44,0);
+x4(ea+48,0);
+memcpy(ea+52,m,20);
+w8(b+288,da+2);
+break;
+case 17:switch(D){
+case 97:fa=139;
+break;
+case 98:fa=140;
+break;
+case 115:fa=141;
+break;
+case 105:fa=142;
+break;
+case 111:fa=143;
+break;
+case 100:fa=144;
+break;
+default:goto L2;
+}
+ga=r8(b+288);
+ha=b+ga*36;
+*ha=3;
+ha[1]=0;
+x2(ha+2,fa);
+z32(ha+4);
+w8(b+288,ga+1);
+break;
+case 18:fill_parameter_f33(a,b,E,F,0,w);
+break;
+case 0:case 1:case 2:case 3:case 4:case 5:case 6:case 7:case 8:case 16:case 19:case 20:case 21:case 22:case 23:case 24:case 25:case 26:case 27:case 28:case 29:case 30:case 31:case 32:case 33:case 34:case 35:case 36:case 37:case 38:case 39:case 40:case 41:case 42:case 43:case 44:case 45:case 46:case 47:ia=q2(B+2);
+memcpy(s,d,20);
+z3(t);
+switch(C){
+case 20:ja=D-97;
+if(ja<26){
+if((((u64)1<<ja)&1278976)==0){
+ka=r8(b+288);
+la=b+ka*36;
+ma=r2((u8*)t_91f6+(u64)ja*2);
+*la=3;
+la[1]=0;
+x2(la+2,ma);
+z32(la+4);
+w8(b+288,ka+1);}}
+break;
+case 21:na=D-97;
+if(na<21){
+if((((u64)1<<na)&777794)==0){
+oa=r8(b+288);
+pa=b+oa*36;
+qa=r2((u8*)t_1a3f+(u64)na*2);
+*pa=3;
+pa[1]=0;
+x2(pa+2,qa);
+z32(pa+4);
+w8(b+288,oa+1);}}
+break;
+case 24:if(F!=E){
+ra=z+(i64)E;
+if(!((u64)F-E<10||*ra!=95)){
+sa=parts_equal_58b((u8*)t_35ad,10,ra,10);
+if(sa){
+ta=r8(b+288);
+ua=b+ta*36;
+*ua=3;
+ua[1]=0;
+x2(ua+2,35);
+z32(ua+4);
+w8(b+288,ta+1);
+break;}}}
+if(E<F){
+va=r8(b+288);
+wa=b+va*36;
+*wa=1;
+z3(wa+1);
+x4(wa+4,E);
+x4(wa+8,F);
+z24(wa+12);
+w8(b+288,va+1);}
+break;
+case 25:fill_marked_ccd(a,b,E,s);
+break;
+case 26:memcpy(l,d,20);
+fill_reference_45e(a,b,E,4,11,10,l);
+break;
+case 27:memcpy(k,d,20);
+fill_reference_45e(a,b,E,0,13,12,k);
+break;
+case 28:fill_array_6df(a,b,G,s);
+break;
+case 29:fill_array_6df(a,b,F,s);
+break;
+case 31:memcpy(j,d,20);
+xa=r8(b+288);
+ya=b+xa*36;
+*ya=3;
+ya[1]=0;
+x2(ya+2,4);
+z36(ya+4);
+x4(ya+40,E);
+x4(ya+44,0);
+x4(ya+48,0);
+memcpy(ya+52,j,20);
+w8(b+288,xa+2);
+break;
+case 30:fill_member_9df(a,b,E,F,s);
+break;
+case 32:*t=D;
+x2(t+1,ia);
+fill_qualified_left_c64(a,b,t,E,s);
+break;
+case 33:fill_vector_ba4(b,E,F,G,s);
+break;
+case 34:memcpy(i,d,20);
+za=r8(b+288);
+Aa=b+za*36;
+*Aa=3;
+Aa[1]=0;
+x2(Aa+2,18);
+z36(Aa+4);
+x4(Aa+40,E);
+x4(Aa+44,0);
+x4(Aa+48,0);
+memcpy(Aa+52,i,20);
+w8(b+288,za+2);
+break;
+case 22:fill_float_13c(b,E,F,G);
+break;
+case 23:memcpy(h,d,20);
+Ba=r8(b+288);
+Ca=b+Ba*36;
+*Ca=3;
+Ca[1]=0;
+x2(Ca+2,D==107?46:47);
+z36(Ca+4);
+x4(Ca+40,E);
+x4(Ca+44,0);
+x4(Ca+48,0);
+memcpy(Ca+52,h,20);
+w8(b+288,Ba+2);
+break;
+case 0:case 1:case 2:case 3:case 4:case 5:case 6:case 7:case 8:case 9:case 10:case 11:case 12:case 13:case 14:case 15:case 16:case 17:case 18:case 19:case 35:case 36:case 37:case 38:case 39:case 40:case 41:case 42:case 43:case 44:case 45:case 46:case 47:w4(p,G);
+x8(p+4,H);
+memcpy(q,d,20);
+switch(C){
+case 36:fill_expansion_ab7(a,b,E,q);
+break;
+case 44:Da=A+(i64)((u64)E*48);
+if(*(A+(i64)((u64)(*Da==47?q4(Da+4):E)*48))!=1){
+Ea=q[12];
+Fa=q[8];
+Ga=r4(q+4);
+Ha=*q;
+Ia=r4(q+16);
+memcpy(e,d+1,3);
+memcpy(f,d+9,3);
+memcpy(g,d+13,3);
+Ja=r8(b+288);
+Ka=b+Ja*36;
+x4(Ka,0);
+x4(Ka+4,E);
+x4(Ka+8,2);
+x4(Ka+12,0);
+Ka[16]=Ha;
+memcpy(Ka+17,e,3);
+x4(Ka+20,Ga);
+Ka[24]=Fa;
+memcpy(Ka+25,f,3);
+Ka[28]=Ea;
+memcpy(Ka+29,g,3);
+x4(Ka+32,Ia);
+w8(b+288,Ja+1);}
+break;
+case 37:w4(r,F);
+x8(r+4,r8(p));
+fill_integer_2c4(a,b,E,r,q);
+break;
+case 38:La=r8(b+288);
+Ma=b+La*36;
+*Ma=3;
+Ma[1]=0;
+Na=La+1;
+if(D&1){
+x2(Ma+2,19);
+z32(Ma+4);
+w8(b+288,Na);}
+else{
+x2(Ma+2,20);
+z32(Ma+4);
+w8(b+288,Na);}
+break;
+case 39:Oa=r8(b+288);
+Pa=b+Oa*36;
+*Pa=3;
+Pa[1]=0;
+x2(Pa+2,21);
+z32(Pa+4);
+w8(b+288,Oa+1);
+break;
+case 40:Qa=r8(b+288);
+Ra=b+Qa*36;
+Sa=q[8];
+x4(Ra,0);
+x4(Ra+4,E);
+x4(Ra+8,8);
+x4(Ra+12,0);
+x4(Ra+16,0);
+x4(Ra+20,0);
+Ra[24]=Sa;
+z11(Ra+25);
+w8(b+288,Qa+1);
+break;
+case 41:Ta=r8(b+288);
+Ua=b+Ta*36;
+Va=q[8];
+x4(Ua,0);
+x4(Ua+4,E);
+x4(Ua+8,8);
+x4(Ua+12,0);
+x4(Ua+16,0);
+x4(Ua+20,0);
+Ua[24]=Va;
+z11(Ua+25);
+Ua[36]=3;
+Ua[37]=0;
+x2(Ua+38,10);
+z32(Ua+40);
+w8(b+288,Ta+2);
+break;
+case 35:fill_decltype_76c(b,E,q);
+break;
+case 42:fill_operation_585(a,b,D,ia,E,F,q);
+break;
+case 43:Wa=r8(b+288);
+if(E<F){
+Xa=b+Wa*36;
+*Xa=1;
+z3(Xa+1);
+x4(Xa+4,E);
+x4(Xa+8,F);
+z24(Xa+12);
+Ya=Wa+1;}
+else Ya=Wa;
+Za=b+Ya*36;
+*Za=3;
+Za[1]=0;
+x2(Za+2,49);
+z32(Za+4);
+w8(b+288,Ya+1);
+break;
+case 0:case 1:case 2:case 3:case 4:case 5:case 6:case 7:case 8:case 9:case 10:case 11:case 12:case 13:case 14:case 15:case 16:case 17:case 18:case 19:case 20:case 21:case 22:case 23:case 24:case 25:case 26:case 27:case 28:case 29:case 30:case 31:case 32:case 33:case 34:case 45:case 46:case 47:break;
+default:NEVER;
+}
+break;
+default:NEVER;
+}
+break;
+default:NEVER;
+}
+L2:return;
+}
+
+/* cpp_layout::symbol::Symbol::fill_own_piece */
+static void fill_own_piece_fc9(u8* a,u8* b,u32 c,u8* d)
+{
+A16 u8 e[16],f[20],g[16],h[20],i[16],j[20];
+u8 *k,*q,*t,*v,*y,*B,*D,*G,*J,*L;
+u8 l,m,n,r,z,H;
+u32 o,p,w,x,E,F;
+u64 s,u,A,C,I,K;
+k=rp(a+24)+(i64)((u64)c*48);
+l=k[8];
+m=k[9];
+n=k[10];
+switch(*k){
+case 9:w8(e,0);
+*e=l;
+e[1]=m;
+e[2]=n;
+memcpy(e+4,k+12,12);
+memcpy(f,d,20);
+if(l==0){
+o=r4(e+4);
+p=r4(e+8);
+if(p!=o){
+q=rp(a)+(i64)o;
+if(!((u64)p-o<10||*q!=95)){
+r=parts_equal_58b((u8*)t_35ad,10,q,10);
+if(r){
+s=r8(b+288);
+t=b+s*36;
+*t=3;
+t[1]=0;
+x2(t+2,35);
+z32(t+4);
+w8(b+288,s+1);
+goto L1;}}}
+if(o<p){
+u=r8(b+288);
+v=b+u*36;
+*v=1;
+z3(v+1);
+x4(v+4,o);
+x4(v+8,p);
+z24(v+12);
+w8(b+288,u+1);}}
+else fill_rare_piece_d06(a,b,e,f);
+L1:break;
+case 10:w8(g,0);
+*g=l;
+g[1]=m;
+g[2]=n;
+memcpy(g+4,k+12,12);
+memcpy(h,d,20);
+if(l==0){
+w=r4(g+4);
+x=r4(g+8);
+if(x!=w){
+y=rp(a)+(i64)w;
+if(!((u64)x-w<10||*y!=95)){
+z=parts_equal_58b((u8*)t_35ad,10,y,10);
+if(z){
+A=r8(b+288);
+B=b+A*36;
+*B=3;
+B[1]=0;
+x2(B+2,35);
+z32(B+4);
+w8(b+288,A+1);
+goto L2;}}}
+if(w<x){
+C=r8(b+288);
+D=b+C*36;
+*D=1;
+z3(D+1);
+x4(D+4,w);
+x4(D+8,x);
+z24(D+12);
+w8(b+288,C+1);}}
+else fill_rare_piece_d06(a,b,g,h);
+L2:break;
+case 11:w8(i,0);
+*i=l;
+i[1]=m;
+i[2]=n;
+memcpy(i+4,k+12,12);
+memcpy(j,d,20);
+if(l==0){
+E=r4(i+4);
+F=r4(i+8);
+if(F!=E){
+G=rp(a)+(i64)E;
+if(!((u64)F-E<10||*G!=95)){
+H=parts_equal_58b((u8*)t_35ad,10,G,10);
+if(H){
+I=r8(b+288);
+J=b+I*36;
+*J=3;
+J[1]=0;
+x2(J+2,35);
+z32(J+4);
+w8(b+288,I+1);
+goto L3;}}}
+if(E<F){
+K=r8(b+288);
+L=b+K*36;
+*L=1;
+z3(L+1);
+x4(L+4,E);
+x4(L+8,F);
+z24(L+12);
+w8(b+288,K+1);}}
+else fill_rare_piece_d06(a,b,i,j);
+L3:break;
+case 0:case 1:case 2:case 3:case 4:case 5:case 6:case 7:case 8:case 12:case 13:case 14:case 15:case 16:case 17:case 18:case 19:case 20:case 21:case 22:case 23:case 24:case 25:case 26:case 27:case 28:case 29:case 30:case 31:case 32:case 33:case 34:case 35:case 36:case 37:case 38:case 39:case 40:case 41:case 42:case 43:case 44:case 45:case 46:case 47:break;
+default:NEVER;
+}
+return;
+}
+
+/* cpp_layout::symbol::Symbol::fill_full */
+static void fill_full_ff8(u8* a,u8* b,u32 c,u8* d)
+{
+A16 u8 e[3],f[3];
+u8 g,j,r,t,B,R;
+u8 *h,*i,*s,*w,*y,*A,*D,*F,*H,*K,*M,*O,*Q,*T,*V,*Y,*aa,*ca;
+u32 k,l,m,n,o,p,q,u;
+u64 v,x,z,C,E,G,I,L,N,S,U,W,Z,ba;
+u16 J,P,X;
+g=d[8];
+h=rp(a+24);
+i=h+(i64)((u64)c*48);
+j=i[1];
+k=q4(i+4);
+l=q4(i+8);
+m=q4(i+16);
+n=l>>24;
+switch(*i){
+case 2:if(g<2){
+o=q4(i+12);
+p=q4(i+20);
+q=l&16777215;
+r=n;
+x3(f,q);
+s=h+(i64)((u64)o*48);
+if(*(h+(i64)((u64)(*s==47?q4(s+4):o)*48))==0)push_bare_edb(a,b,k,f,r,m,p,g);
+else{
+t=p!=0;
+u=usub32(p,1);
+x3(e,q);
+v=r8(b+288);
+w=b+v*36;
+x4(w,0);
+x4(w+4,o);
+x4(w+8,1);
+x4(w+12,0);
+x4(w+16,0);
+x4(w+20,0);
+w[24]=g;
+z3(w+25);
+x4(w+28,t);
+x4(w+32,u);
+w8(b+288,v+1);
+push_bare_edb(a,b,k,e,r,m,p,g);
+x=r8(b+288);
+y=b+x*36;
+*y=3;
+y[1]=0;
+x2(y+2,4);
+z36(y+4);
+x4(y+40,o);
+z16(y+44);
+y[60]=g;
+z3(y+61);
+x4(y+64,t);
+x4(y+68,u);
+w8(b+288,x+2);}
+;}
+else{
+z=r8(b+288);
+A=b+z*36;
+x4(A,0);
+x4(A+4,k);
+z16(A+8);
+A[24]=g;
+z11(A+25);
+w8(b+288,z+1);}
+break;
+case 3:B=((u8)(((u8)(l>>14)&4)+60)|(((u8)l&1)|((u8)(l>>7)&2)))+(u8)((u32)1050624>>(n<<3));
+if(B>60){
+C=r8(b+288);
+D=b+C*36;
+*D=3;
+D[1]=0;
+x2(D+2,B);
+z32(D+4);
+E=C+1;}
+else E=r8(b+288);
+F=b+E*36;
+x4(F,0);
+x4(F+4,k);
+z16(F+8);
+F[24]=g;
+z11(F+25);
+w8(b+288,E+1);
+break;
+case 4:G=r8(b+288);
+H=b+G*36;
+x4(H,0);
+x4(H+4,k);
+x4(H+8,1);
+x4(H+12,0);
+x4(H+16,0);
+x4(H+20,0);
+H[24]=g;
+z15(H+25);
+x4(H+40,k);
+z16(H+44);
+H[60]=g;
+z11(H+61);
+I=G+2;
+w8(b+288,I);
+switch(j){
+case 86:J=151;
+break;
+case 84:J=152;
+break;
+case 73:J=153;
+break;
+case 83:J=154;
+break;
+case 65:J=155;
+break;
+case 77:J=156;
+break;
+default:goto L1;
+}
+K=b+I*36;
+*K=3;
+K[1]=0;
+x2(K+2,J);
+z32(K+4);
+w8(b+288,G+3);
+break;
+case 5:L=r8(b+288);
+M=b+L*36;
+x4(M,0);
+x4(M+4,l);
+x4(M+8,7);
+x4(M+12,0);
+x4(M+16,0);
+x4(M+20,0);
+M[24]=g;
+z11(M+25);
+N=L+1;
+w8(b+288,N);
+if(r8(a+56)>k){
+O=rp(a+48)+(i64)((u64)k*60);
+P=*O==1?25:(O[4]==0?23:24);}
+else P=23;
+Q=b+N*36;
+*Q=3;
+Q[1]=0;
+x2(Q+2,P);
+z32(Q+4);
+w8(b+288,L+2);
+break;
+case 6:R=((u8)(((u8)(l>>14)&4)+60)|(((u8)l&1)|((u8)(l>>7)&2)))+(u8)((u32)1050624>>(n<<3));
+if(R>60){
+S=r8(b+288);
+T=b+S*36;
+*T=3;
+T[1]=0;
+x2(T+2,R);
+z32(T+4);
+U=S+1;}
+else U=r8(b+288);
+V=b+U*36;
+x4(V,0);
+x4(V+4,k);
+z16(V+8);
+V[24]=g;
+z11(V+25);
+W=U+1;
+w8(b+288,W);
+switch(j){
+case 86:X=157;
+break;
+case 72:X=158;
+break;
+case 87:X=159;
+break;
+case 82:X=160;
+break;
+default:goto L1;
+}
+Y=b+W*36;
+*Y=3;
+Y[1]=0;
+x2(Y+2,X);
+z32(Y+4);
+w8(b+288,U+2);
+break;
+case 7:Z=r8(b+288);
+aa=b+Z*36;
+x4(aa,0);
+x4(aa+4,k);
+x4(aa+8,1);
+x4(aa+12,0);
+x4(aa+16,0);
+x4(aa+20,0);
+aa[24]=g;
+z15(aa+25);
+x4(aa+40,k);
+z16(aa+44);
+aa[60]=g;
+z11(aa+61);
+aa[72]=3;
+aa[73]=0;
+x2(aa+74,38);
+z36(aa+76);
+x4(aa+112,m);
+x4(aa+116,1);
+x4(aa+120,0);
+x4(aa+124,0);
+x4(aa+128,0);
+aa[132]=g;
+z15(aa+133);
+x4(aa+148,m);
+z16(aa+152);
+aa[168]=g;
+z11(aa+169);
+aa[180]=3;
+aa[181]=0;
+x2(aa+182,37);
+z32(aa+184);
+w8(b+288,Z+6);
+break;
+case 8:ba=r8(b+288);
+ca=b+ba*36;
+x4(ca,0);
+x4(ca+4,k);
+x4(ca+8,7);
+x4(ca+12,0);
+x4(ca+16,0);
+x4(ca+20,0);
+ca[24]=g;
+z11(ca+25);
+z32(ca+40);
+ca[36]=3;
+ca[37]=0;
+x2(ca+38,j==116?44:45);
+w8(b+288,ba+2);
+break;
+case 0:case 1:case 9:case 10:case 11:case 12:case 13:case 14:case 15:case 16:case 17:case 18:case 19:case 20:case 21:case 22:case 23:case 24:case 25:case 26:case 27:case 28:case 29:case 30:case 31:case 32:case 33:case 34:case 35:case 36:case 37:case 38:case 39:case 40:case 41:case 42:case 43:case 44:case 45:case 46:case 47:break;
+default:NEVER;
+}
+L1:return;
+}
+
+/* cpp_layout::symbol::Symbol::push_bare */
+static void push_bare_edb(u8* a,u8* b,u32 c,u8* d,u8 e,u32 f,u32 g,u8 h)
+{
+u8 i;
+u64 j,l,n,p,r,t;
+u8 *k,*m,*o,*q,*s,*u,*v,*x;
+u16 w;
+i=(u8)((u8)((u8)((u32)1050624>>((u32)e<<3))+60)+((u8)(d[2]<<2)&4))|((*d&1)|((u8)(d[1]<<1)&2));
+if(i>60){
+j=r8(b+288);
+k=b+j*36;
+*k=3;
+k[1]=0;
+x2(k+2,i);
+z32(k+4);
+l=j+1;}
+else l=r8(b+288);
+m=b+l*36;
+*m=3;
+m[1]=0;
+x2(m+2,3);
+z32(m+4);
+n=l+1;
+w8(b+288,n);
+o=rp(a+24);
+p=(u64)f*48;
+q=o+(i64)p;
+if(*(o+(i64)((u64)(*q==47?q4(q+4):f)*48))==1)r=n;
+else{
+s=b+n*36;
+x4(s,0);
+x4(s+4,f);
+x4(s+8,2);
+x4(s+12,0);
+x4(s+16,0);
+x4(s+20,0);
+s[24]=h;
+z3(s+25);
+x4(s+28,g!=0);
+x4(s+32,usub32(g,1));
+t=l+2;
+w8(b+288,t);
+r=t;}
+if(e==3){
+u=rp(a+24);
+v=u+(i64)p;
+w=*(u+(i64)((u64)(*v==47?q4(v+4):f)*48))==1?2:50;}
+else w=2;
+x=b+r*36;
+*x=3;
+x[1]=0;
+x2(x+2,w);
+z36(x+4);
+x4(x+40,c);
+z16(x+44);
+x[60]=h;
+z11(x+61);
+w8(b+288,r+2);
+return;
+}
+
+/* core::slice::edits::mirror */
+static void mirror_517(u8* a,u8* b,u64 c)
+{
+u8 d[35],e[35];
+u64 f,k;
+u8 *g,*h;
+u8 i,j;
+f=0;
+L1:g=a+(i64)(f*36);
+h=b+(i64)((c+(f^18446744073709551615u))*36);
+i=*g;
+memcpy(e,g+1,35);
+j=*h;
+memcpy(d,h+1,35);
+*g=j;
+memcpy(g+1,d,35);
+*h=i;
+memcpy(h+1,e,35);
+k=f+1;
+if(k==c)return;
+f=k;
+goto L1;
+}
+
+/* cpp_tree::view::view_of_own */
+static void view_of_own_62c(u8* a,u8* b,u8* c)
+{
+u8 d[6],e[6],f[6],g[6],h[6];
+u8 i,j,k,p,s,I,K,M,O,P,Q,Z,ga,Fa;
+u64 l,r,t,u,w,x,A,G,J,L,N,R,T,U,V,W,X,Y,ba,ca,da,ea,fa,ha,ia,ja,pa,qa,ra,xa,ya,za;
+u32 m,n,o,q,y,z,B,C,D,E,F,la,ma,na,oa,ta,ua,va,wa,Ba,Ca,Da,Ea;
+u16 v,S,aa,ka,sa,Aa;
+u8 *H;
+i=c[1];
+j=c[2];
+k=c[3];
+l=q8(c+4);
+m=q4(c+12);
+n=q4(c+16);
+o=q4(c+20);
+p=*c;
+z6(h);
+q=l;
+r=l>>32;
+s=r;
+t=l>>40;
+u=l>>56;
+switch(p){
+case 0:case 47:v=0;
+w=0;
+x=0;
+y=0;
+z=0;
+A=0;
+B=0;
+C=0;
+D=0;
+E=0;
+break;
+case 1:v=1;
+w=0;
+x=0;
+y=0;
+z=0;
+A=0;
+B=0;
+C=0;
+D=0;
+E=0;
+break;
+case 2:v=4;
+w=(((l>>46)&4)|(r&1))|((t<<1)&2);
+x=u;
+y=0;
+z=0;
+A=0;
+B=3;
+C=q;
+D=m;
+E=n;
+break;
+case 3:v=5;
+w=(((l>>46)&4)|(r&1))|((t<<1)&2);
+x=u;
+y=0;
+z=0;
+A=0;
+B=1;
+C=q;
+D=0;
+E=0;
+break;
+case 4:v=6;
+w=i;
+x=0;
+y=0;
+z=0;
+A=0;
+B=1;
+C=q;
+D=0;
+E=0;
+break;
+case 5:F=((((u32)t<<8)&16776960)|((u32)u<<24))|((u32)r&255);
+G=l&4294967295u;
+if(r8(b+32)>G){
+H=rp(b+24)+(i64)(G*60);
+I=H[32];
+J=q8(H+12);
+K=H[20];
+L=q8(H+24);
+M=H[36];
+N=q8(H+40);
+O=H[4]==0;
+P=H[8]&1;
+Q=*H==0;
+z6(g);
+if(Q){
+R=O?0:L;
+S=O?8:9;
+T=P;
+U=O?0:K&1;
+V=J;
+W=J&0xffffffff00000000u;
+X=R;
+Y=R&0xffffffff00000000u;}
+else{
+if(O){
+Z=I==0;
+aa=Z?10:11;
+ba=Z?P:0;
+ca=Z?M&1:0;
+da=Z?J:0;
+ea=Z?N:0;}
+else{
+aa=11;
+ba=0;
+ca=0;
+da=0;
+ea=0;}
+S=aa;
+T=ba;
+U=ca;
+V=da;
+W=da&0xffffffff00000000u;
+X=ea;
+Y=ea&0xffffffff00000000u;}}
+else{
+z6(g);
+S=8;
+T=0;
+U=0;
+V=0;
+W=0;
+X=0;
+Y=0;}
+memcpy(h,g,6);
+v=S;
+w=T;
+x=U;
+y=V;
+z=W>>32;
+A=Y|(X&4294967295u);
+B=1;
+C=F;
+D=0;
+E=0;
+break;
+case 6:fa=(((l>>46)&4)|(r&1))|((t<<1)&2);
+ga=i==86;
+z6(h);
+v=ga?7:64;
+w=ga?fa:i;
+x=ga?u:fa|(u<<3);
+y=0;
+z=0;
+A=0;
+B=1;
+C=q;
+D=0;
+E=0;
+break;
+case 7:v=65;
+w=0;
+x=0;
+y=((((u32)t<<8)&16776960)|((u32)u<<24))|((u32)r&255);
+z=m;
+A=0;
+B=2;
+C=q;
+D=n;
+E=0;
+break;
+case 8:v=72;
+w=i;
+x=0;
+y=0;
+z=0;
+A=0;
+B=1;
+C=q;
+D=0;
+E=0;
+break;
+case 9:ha=((u64)o<<32)|n;
+switch(s){
+case 0:z6(f);
+ia=t&1;
+ja=0;
+ka=36;
+la=m;
+ma=n;
+na=0;
+oa=0;
+break;
+case 1:z6(f);
+ia=t&255;
+ja=(l>>48)&255;
+ka=37;
+la=0;
+ma=0;
+na=0;
+oa=0;
+break;
+case 2:z6(f);
+ia=0;
+ja=0;
+ka=38;
+la=m;
+ma=n;
+na=0;
+oa=0;
+break;
+case 3:z6(f);
+ia=t&255;
+ja=0;
+ka=39;
+la=0;
+ma=0;
+na=0;
+oa=0;
+break;
+case 4:z6(f);
+ia=t&255;
+ja=0;
+ka=40;
+la=0;
+ma=0;
+na=0;
+oa=0;
+break;
+case 5:z6(f);
+ia=t&255;
+ja=0;
+ka=79;
+la=0;
+ma=0;
+na=1;
+oa=m;
+break;
+case 6:z6(f);
+ia=ha;
+ja=0;
+ka=41;
+la=0;
+ma=0;
+na=1;
+oa=m;
+break;
+case 7:z6(f);
+ia=ha;
+ja=0;
+ka=74;
+la=0;
+ma=0;
+na=1;
+oa=m;
+break;
+case 10:z6(f);
+ia=0;
+ja=0;
+ka=69;
+la=0;
+ma=0;
+na=1;
+oa=m;
+break;
+case 11:z6(f);
+ia=0;
+ja=0;
+ka=85;
+la=n;
+ma=o;
+na=1;
+oa=m;
+break;
+case 12:z6(f);
+ia=0;
+ja=0;
+ka=88;
+la=0;
+ma=0;
+na=1;
+oa=m;
+break;
+case 8:z6(f);
+ia=ha;
+ja=0;
+ka=42;
+la=0;
+ma=0;
+na=0;
+oa=0;
+break;
+case 9:z6(f);
+ia=0;
+ja=0;
+ka=43;
+la=0;
+ma=0;
+na=0;
+oa=0;
+break;
+case 13:z6(f);
+ia=0;
+ja=0;
+ka=44;
+la=0;
+ma=0;
+na=0;
+oa=0;
+break;
+default:NEVER;
+}
+memcpy(h,f,6);
+v=ka;
+w=ia;
+x=ja;
+y=la;
+z=ma;
+A=0;
+B=na;
+C=oa;
+D=0;
+E=0;
+break;
+case 10:pa=((u64)o<<32)|n;
+switch(s){
+case 0:z6(e);
+qa=t&1;
+ra=0;
+sa=45;
+ta=m;
+ua=n;
+va=0;
+wa=0;
+break;
+case 1:z6(e);
+qa=t&255;
+ra=(l>>48)&255;
+sa=46;
+ta=0;
+ua=0;
+va=0;
+wa=0;
+break;
+case 2:z6(e);
+qa=0;
+ra=0;
+sa=47;
+ta=m;
+ua=n;
+va=0;
+wa=0;
+break;
+case 3:z6(e);
+qa=t&255;
+ra=0;
+sa=48;
+ta=0;
+ua=0;
+va=0;
+wa=0;
+break;
+case 4:z6(e);
+qa=t&255;
+ra=0;
+sa=49;
+ta=0;
+ua=0;
+va=0;
+wa=0;
+break;
+case 5:z6(e);
+qa=t&255;
+ra=0;
+sa=80;
+ta=0;
+ua=0;
+va=1;
+wa=m;
+break;
+case 6:z6(e);
+qa=pa;
+ra=0;
+sa=50;
+ta=0;
+ua=0;
+va=1;
+wa=m;
+break;
+case 7:z6(e);
+qa=pa;
+ra=0;
+sa=75;
+ta=0;
+ua=0;
+va=1;
+wa=m;
+break;
+case 10:z6(e);
+qa=0;
+ra=0;
+sa=70;
+ta=0;
+ua=0;
+va=1;
+wa=m;
+break;
+case 11:z6(e);
+qa=0;
+ra=0;
+sa=86;
+ta=n;
+ua=o;
+va=1;
+wa=m;
+break;
+case 12:z6(e);
+qa=0;
+ra=0;
+sa=89;
+ta=0;
+ua=0;
+va=1;
+wa=m;
+break;
+case 8:z6(e);
+qa=pa;
+ra=0;
+sa=51;
+ta=0;
+ua=0;
+va=0;
+wa=0;
+break;
+case 9:z6(e);
+qa=0;
+ra=0;
+sa=52;
+ta=0;
+ua=0;
+va=0;
+wa=0;
+break;
+case 13:z6(e);
+qa=0;
+ra=0;
+sa=53;
+ta=0;
+ua=0;
+va=0;
+wa=0;
+break;
+default:NEVER;
+}
+memcpy(h,e,6);
+v=sa;
+w=qa;
+x=ra;
+y=ta;
+z=ua;
+A=0;
+B=va;
+C=wa;
+D=0;
+E=0;
+break;
+case 11:xa=((u64)o<<32)|n;
+switch(s){
+case 0:z6(d);
+ya=t&1;
+za=0;
+Aa=54;
+Ba=m;
+Ca=n;
+Da=1;
+Ea=0;
+break;
+case 1:z6(d);
+ya=t&255;
+za=(l>>48)&255;
+Aa=55;
+Ba=0;
+Ca=0;
+Da=1;
+Ea=0;
+break;
+case 2:z6(d);
+ya=0;
+za=0;
+Aa=56;
+Ba=m;
+Ca=n;
+Da=1;
+Ea=0;
+break;
+case 3:z6(d);
+ya=t&255;
+za=0;
+Aa=57;
+Ba=0;
+Ca=0;
+Da=1;
+Ea=0;
+break;
+case 4:z6(d);
+ya=t&255;
+za=0;
+Aa=58;
+Ba=0;
+Ca=0;
+Da=1;
+Ea=0;
+break;
+case 5:z6(d);
+ya=t&255;
+za=0;
+Aa=81;
+Ba=0;
+Ca=0;
+Da=2;
+Ea=m;
+break;
+case 6:z6(d);
+ya=xa;
+za=0;
+Aa=59;
+Ba=0;
+Ca=0;
+Da=2;
+Ea=m;
+break;
+case 7:z6(d);
+ya=xa;
+za=0;
+Aa=76;
+Ba=0;
+Ca=0;
+Da=2;
+Ea=m;
+break;
+case 10:z6(d);
+ya=0;
+za=0;
+Aa=71;
+Ba=0;
+Ca=0;
+Da=2;
+Ea=m;
+break;
+case 11:z6(d);
+ya=0;
+za=0;
+Aa=87;
+Ba=n;
+Ca=o;
+Da=2;
+Ea=m;
+break;
+case 12:z6(d);
+ya=0;
+za=0;
+Aa=90;
+Ba=0;
+Ca=0;
+Da=2;
+Ea=m;
+break;
+case 8:z6(d);
+ya=xa;
+za=0;
+Aa=60;
+Ba=0;
+Ca=0;
+Da=1;
+Ea=0;
+break;
+case 9:z6(d);
+ya=0;
+za=0;
+Aa=61;
+Ba=0;
+Ca=0;
+Da=1;
+Ea=0;
+break;
+case 13:z6(d);
+ya=0;
+za=0;
+Aa=62;
+Ba=0;
+Ca=0;
+Da=1;
+Ea=0;
+break;
+default:NEVER;
+}
+memcpy(h,d,6);
+v=Aa;
+w=ya;
+x=za;
+y=Ba;
+z=Ca;
+A=0;
+B=Da;
+C=q;
+D=Ea;
+E=0;
+break;
+case 12:v=12;
+w=0;
+x=0;
+y=0;
+z=0;
+A=0;
+B=2;
+C=q;
+D=((((u32)t<<8)&16776960)|((u32)u<<24))|((u32)r&255);
+E=0;
+break;
+case 13:Fa=(m&255)==0;
+v=Fa?13:14;
+w=0;
+x=0;
+y=Fa?0:n;
+z=Fa?0:o;
+A=0;
+B=2;
+C=q;
+D=((((u32)t<<8)&16776960)|((u32)u<<24))|((u32)r&255);
+E=0;
+break;
+case 14:v=66;
+w=0;
+x=0;
+y=0;
+z=0;
+A=0;
+B=1;
+C=q;
+D=0;
+E=0;
+break;
+case 15:v=68;
+w=i&1;
+x=0;
+y=((((u32)t<<8)&16776960)|((u32)u<<24))|((u32)r&255);
+z=m;
+A=0;
+B=1;
+C=q;
+D=0;
+E=0;
+break;
+case 16:v=73;
+w=0;
+x=0;
+y=q;
+z=((((u32)t<<8)&16776960)|((u32)u<<24))|((u32)r&255);
+A=0;
+B=1;
+C=m;
+D=0;
+E=0;
+break;
+case 17:v=15;
+w=i;
+x=0;
+y=0;
+z=0;
+A=0;
+B=0;
+C=0;
+D=0;
+E=0;
+break;
+case 18:v=16;
+w=l&4294967295u;
+x=0;
+y=0;
+z=0;
+A=0;
+B=0;
+C=0;
+D=0;
+E=0;
+break;
+case 19:v=91;
+w=0;
+x=0;
+y=0;
+z=0;
+A=0;
+B=2;
+C=q;
+D=((((u32)t<<8)&16776960)|((u32)u<<24))|((u32)r&255);
+E=0;
+break;
+case 20:v=17;
+w=i;
+x=0;
+y=0;
+z=0;
+A=0;
+B=0;
+C=0;
+D=0;
+E=0;
+break;
+case 21:v=18;
+w=i;
+x=0;
+y=0;
+z=0;
+A=0;
+B=0;
+C=0;
+D=0;
+E=0;
+break;
+case 22:v=67;
+w=m&255;
+x=0;
+y=q;
+z=(((t<<8)&16776960)|(u<<24))|(r&255);
+A=0;
+B=0;
+C=0;
+D=0;
+E=0;
+break;
+case 23:v=78;
+w=i;
+x=0;
+y=0;
+z=0;
+A=0;
+B=1;
+C=q;
+D=0;
+E=0;
+break;
+case 24:v=19;
+w=0;
+x=0;
+y=q;
+z=(((t<<8)&16776960)|(u<<24))|(r&255);
+A=0;
+B=0;
+C=0;
+D=0;
+E=0;
+break;
+case 25:v=20;
+w=0;
+x=0;
+y=0;
+z=0;
+A=0;
+B=1;
+C=q;
+D=0;
+E=0;
+break;
+case 26:v=21;
+w=0;
+x=0;
+y=0;
+z=0;
+A=0;
+B=1;
+C=q;
+D=0;
+E=0;
+break;
+case 27:v=22;
+w=0;
+x=0;
+y=0;
+z=0;
+A=0;
+B=1;
+C=q;
+D=0;
+E=0;
+break;
+case 28:v=23;
+w=0;
+x=0;
+y=q;
+z=((((u32)t<<8)&16776960)|((u32)u<<24))|((u32)r&255);
+A=0;
+B=1;
+C=m;
+D=0;
+E=0;
+break;
+case 29:v=77;
+w=0;
+x=0;
+y=0;
+z=0;
+A=0;
+B=2;
+C=q;
+D=((((u32)t<<8)&16776960)|((u32)u<<24))|((u32)r&255);
+E=0;
+break;
+case 30:v=24;
+w=0;
+x=0;
+y=0;
+z=0;
+A=0;
+B=2;
+C=q;
+D=((((u32)t<<8)&16776960)|((u32)u<<24))|((u32)r&255);
+E=0;
+break;
+case 31:v=25;
+w=((j&1)?2:0)|(i&1);
+x=k;
+y=0;
+z=0;
+A=0;
+B=2;
+C=q;
+D=((((u32)t<<8)&16776960)|((u32)u<<24))|((u32)r&255);
+E=0;
+break;
+case 32:v=26;
+w=(((u8)(j<<1)&2)|(i&1))|((u8)(k<<2)&4);
+x=0;
+y=0;
+z=0;
+A=0;
+B=1;
+C=q;
+D=0;
+E=0;
+break;
+case 33:v=27;
+w=0;
+x=0;
+y=q;
+z=((((u32)t<<8)&16776960)|((u32)u<<24))|((u32)r&255);
+A=0;
+B=1;
+C=m;
+D=0;
+E=0;
+break;
+case 34:v=28;
+w=0;
+x=0;
+y=0;
+z=0;
+A=0;
+B=1;
+C=q;
+D=0;
+E=0;
+break;
+case 35:v=82;
+w=0;
+x=0;
+y=0;
+z=0;
+A=0;
+B=1;
+C=q;
+D=0;
+E=0;
+break;
+case 36:v=29;
+w=0;
+x=0;
+y=0;
+z=0;
+A=0;
+B=1;
+C=q;
+D=0;
+E=0;
+break;
+case 37:v=30;
+w=r&1;
+x=0;
+y=m;
+z=n;
+A=0;
+B=1;
+C=q;
+D=0;
+E=0;
+break;
+case 38:v=31;
+w=i&1;
+x=0;
+y=0;
+z=0;
+A=0;
+B=0;
+C=0;
+D=0;
+E=0;
+break;
+case 39:v=32;
+w=0;
+x=0;
+y=0;
+z=0;
+A=0;
+B=0;
+C=0;
+D=0;
+E=0;
+break;
+case 40:v=33;
+w=0;
+x=0;
+y=0;
+z=0;
+A=0;
+B=1;
+C=q;
+D=0;
+E=0;
+break;
+case 41:v=34;
+w=0;
+x=0;
+y=0;
+z=0;
+A=0;
+B=1;
+C=q;
+D=0;
+E=0;
+break;
+case 42:v=83;
+w=i;
+x=j;
+y=0;
+z=0;
+A=0;
+B=2;
+C=q;
+D=((((u32)t<<8)&16776960)|((u32)u<<24))|((u32)r&255);
+E=0;
+break;
+case 43:v=84;
+w=0;
+x=0;
+y=q;
+z=(((t<<8)&16776960)|(u<<24))|(r&255);
+A=0;
+B=0;
+C=0;
+D=0;
+E=0;
+break;
+case 44:v=35;
+w=0;
+x=0;
+y=0;
+z=0;
+A=0;
+B=1;
+C=q;
+D=0;
+E=0;
+break;
+case 45:v=2;
+w=0;
+x=0;
+y=0;
+z=0;
+A=0;
+B=2;
+C=q;
+D=((((u32)t<<8)&16776960)|((u32)u<<24))|((u32)r&255);
+E=0;
+break;
+case 46:v=3;
+w=0;
+x=0;
+y=((((u32)t<<8)&16776960)|((u32)u<<24))|((u32)r&255);
+z=m;
+A=0;
+B=1;
+C=q;
+D=0;
+E=0;
+break;
+default:NEVER;
+}
+x2(a,v);
+memcpy(a+2,h,6);
+x8(a+8,w);
+x8(a+16,x);
+x8(a+24,((u64)z<<32)|y);
+x8(a+32,A);
+x4(a+40,B);
+x4(a+44,0);
+x4(a+48,C);
+x4(a+52,D);
+x4(a+56,E);
+x4(a+60,0);
+return;
+}
+
+/* cpp_layout::symbol::Symbol::part */
+static u32 part_74e(u8* a,u32 b,u32 c)
+{
+A16 u8 d[64],e[24],f[24],g[64],h[64];
+u8 *i,*j,*m,*n;
+u8 k,o;
+u32 l;
+i=rp(a+24);
+j=i+(i64)((u64)b*48);
+k=*j;
+memcpy(f+1,j+1,3);
+memcpy(f+4,j+4,20);
+*f=k;
+z64(g);
+if(k==47){
+l=r4(f+4);
+z64(d);
+m=i+(i64)((u64)l*48);
+n=i+(i64)((u64)(*m==47?q4(m+4):l)*48);
+o=*n;
+memcpy(e+1,n+1,3);
+memcpy(e+4,n+4,20);
+*e=o;
+view_of_own_62c(d,a+24,e);
+memcpy(g,d,64);}
+else view_of_own_62c(g,a+24,f);
+memcpy(h,g,64);
+return r4(h+48+((u64)c<<2));
+}
+
+/* cpp_parts::plain::push_alone */
+static void push_alone_0dc(u8* a,u8* b,u8 c,u32 d)
+{
+u64 e,f,i,o,q,r,s,y;
+u8 g;
+u32 h;
+s_64_64 j,k,l,t,u,v;
+u8 *m,*n,*p,*w,*x,*z;
+e=r8(b+8);
+if(r8(b+16)==e){
+f=umax64(e,8);
+if(f>(e^18446744073709551615u)){
+g=1;
+h=4;
+goto L1;}
+i=f+e;
+if(i>=0x333333333333334u){
+g=1;
+h=4;
+goto L1;}
+if(e==0){
+j=port_rattle_alloc(i*40,4);
+if(!(u8)(j.f0&1)){
+g=1;
+h=4;
+goto L1;}
+k=j;}
+else{
+l=port_rattle_realloc(rp(b),e*40,i*40,4);
+if(!(u8)(l.f0&1)){
+g=1;
+h=4;
+goto L1;}
+k=l;}
+m=(u8*)k.f1;
+wp(b,m);
+w8(b+16,i);
+n=m;
+o=r8(b+8);}
+else{
+n=rp(b);
+o=e;}
+p=n+o*40;
+*p=0;
+p[1]=0;
+x4(p+4,d);
+z32(p+8);
+q=o+1;
+w8(b+8,q);
+if(r8(b+16)==q){
+r=umax64(q,8);
+if(r>0xfffffffffffffffeu-o){
+g=1;
+h=4;
+goto L1;}
+s=r+q;
+if(s>=0x333333333333334u){
+g=1;
+h=4;
+goto L1;}
+if(q==0){
+t=port_rattle_alloc(s*40,4);
+if(!(u8)(t.f0&1)){
+g=1;
+h=4;
+goto L1;}
+u=t;}
+else{
+v=port_rattle_realloc(rp(b),q*40,s*40,4);
+if(!(u8)(v.f0&1)){
+g=1;
+h=4;
+goto L1;}
+u=v;}
+w=(u8*)u.f1;
+wp(b,w);
+w8(b+16,s);
+x=w;
+y=r8(b+8);}
+else{
+x=rp(b);
+y=q;}
+z=x+y*40;
+*z=1;
+z[1]=c;
+x4(z+4,d);
+z32(z+8);
+w8(b+8,y+1);
+g=0;
+h=0;
+L1:*a=g;
+x4(a+4,h);
+x4(a+8,0);
+return;
+}
+
+/* cpp_parts::task::Tasks::push */
+static void push_bd8(u8* a,u8* b,u8* c)
+{
+A16 u8 d[32];
+u8 e,f,j;
+u32 g,k;
+u64 h,i,l,r;
+s_64_64 m,n,o;
+u8 *p,*q,*s;
+e=*c;
+f=c[1];
+g=q4(c+4);
+memcpy(d,c+8,32);
+h=r8(b+8);
+if(r8(b+16)==h){
+i=umax64(h,8);
+if(i>(h^18446744073709551615u)){
+j=1;
+k=4;
+goto L1;}
+l=i+h;
+if(l>=0x333333333333334u){
+j=1;
+k=4;
+goto L1;}
+if(h==0){
+m=port_rattle_alloc(l*40,4);
+if(!(u8)(m.f0&1)){
+j=1;
+k=4;
+goto L1;}
+n=m;}
+else{
+o=port_rattle_realloc(rp(b),h*40,l*40,4);
+if(!(u8)(o.f0&1)){
+j=1;
+k=4;
+goto L1;}
+n=o;}
+p=(u8*)n.f1;
+wp(b,p);
+w8(b+16,l);
+q=p;
+r=r8(b+8);}
+else{
+q=rp(b);
+r=h;}
+s=q+r*40;
+*s=e;
+s[1]=f;
+x4(s+4,g);
+memcpy(s+8,d,32);
+w8(b+8,r+1);
+j=0;
+k=0;
+L1:*a=j;
+x4(a+4,k);
+x4(a+8,0);
+return;
+}
+
+/* cpp_parts::plain::push_plain */
+static void push_plain_069(u8* a,u8* b,u8* c,u8* d,u64 e,u32 f)
+{
+A16 u8 g[12],h[12],i[36],j[36];
+u32 k,l,r,s,t,u,v,w,y,z,A;
+u8 *m,*H,*I,*K;
+u64 n,o,B,C,D,J;
+u8 p,q,x;
+s_64_64 E,F,G;
+if(e==0)k=0;
+else{
+l=0;
+m=d;
+n=e;
+L1:o=n-1;
+p=*m;
+if(p==0){
+q=m[4];
+w4(j,0);
+j[4]=q;
+memcpy(j+5,m+5,31);
+z12(g);
+length_of_part_030(g,b,j,f);
+r=r4(g+4);
+if(*g==0){
+s=r;
+goto L2;}
+t=r;
+u=r4(g+8);}
+else{
+v=q4(m+32);
+*i=p;
+memcpy(i+1,m+1,31);
+w4(i+32,v);
+z12(h);
+length_of_part_030(h,b,i,f);
+w=r4(h+4);
+if(*h==0){
+s=w;
+goto L2;}
+t=w;
+u=r4(h+8);}
+x=1;
+y=t&255;
+z=u;
+goto L3;
+L2:A=s+l;
+if(o!=0){
+l=A;
+m=m+36;
+n=o;
+goto L1;}
+k=A;}
+B=r8(c+8);
+if(r8(c+16)==B){
+C=umax64(B,8);
+if(C>(B^18446744073709551615u)){
+x=1;
+y=4;
+z=0;
+goto L3;}
+D=C+B;
+if(D>=0x333333333333334u){
+x=1;
+y=4;
+z=0;
+goto L3;}
+if(B==0){
+E=port_rattle_alloc(D*40,4);
+if(!(u8)(E.f0&1)){
+x=1;
+y=4;
+z=0;
+goto L3;}
+F=E;}
+else{
+G=port_rattle_realloc(rp(c),B*40,D*40,4);
+if(!(u8)(G.f0&1)){
+x=1;
+y=4;
+z=0;
+goto L3;}
+F=G;}
+H=(u8*)F.f1;
+wp(c,H);
+w8(c+16,D);
+I=H;
+J=r8(c+8);}
+else{
+I=rp(c);
+J=B;}
+K=I+J*40;
+*K=0;
+K[1]=0;
+x4(K+4,k);
+z32(K+8);
+w8(c+8,J+1);
+x=0;
+y=0;
+z=0;
+L3:*a=x;
+x4(a+4,y);
+x4(a+8,z);
+return;
+}
+
+/* cpp_parts::encodings::push_called */
+static void push_called_f56(u8* a,u8* b,u8* c,u32 d,u32 e,u8* f,u64 g,u32 h)
+{
+u8 l[31];
+A16 u8 i[12],j[36],k[12],m[12];
+u64 n,o,s,y,A,C,D,E,K,M,N,R,S,Y;
+u8 p,q,B,O;
+u32 r,P,Q;
+s_64_64 t,u,v,F,G,H,T,U,V;
+u8 *w,*x,*z,*I,*J,*L,*W,*X,*Z;
+z12(m);
+if(g==0){
+n=r8(c+8);
+if(r8(c+16)==n){
+o=umax64(n,8);
+if(o>(n^18446744073709551615u)){
+p=1;
+q=4;
+r=0;
+goto L1;}
+s=o+n;
+if(s>=0x333333333333334u){
+p=1;
+q=4;
+r=0;
+goto L1;}
+if(n==0){
+t=port_rattle_alloc(s*40,4);
+if(!(u8)(t.f0&1)){
+p=1;
+q=4;
+r=0;
+goto L1;}
+u=t;}
+else{
+v=port_rattle_realloc(rp(c),n*40,s*40,4);
+if(!(u8)(v.f0&1)){
+p=1;
+q=4;
+r=0;
+goto L1;}
+u=v;}
+w=(u8*)u.f1;
+wp(c,w);
+w8(c+16,s);
+x=w;
+y=r8(c+8);}
+else{
+x=rp(c);
+y=n;}
+z=x+y*40;
+*z=0;
+z[1]=0;
+z36(z+4);
+w8(c+8,y+1);
+p=0;
+q=0;
+r=0;}
+else{
+if(*f==0){
+A=g-1;
+B=f[4];
+memcpy(l,f+5,31);
+z12(k);
+if(A==0){
+C=r8(c+8);
+if(r8(c+16)==C){
+D=umax64(C,8);
+if(D<=(C^18446744073709551615u)){
+E=D+C;
+if(E<0x333333333333334u){
+if(C==0){
+F=port_rattle_alloc(E*40,4);
+if(!(u8)(F.f0&1))goto L2;
+G=F;}
+else{
+H=port_rattle_realloc(rp(c),C*40,E*40,4);
+if(!(u8)(H.f0&1))goto L2;
+G=H;}
+I=(u8*)G.f1;
+wp(c,I);
+w8(c+16,E);
+J=I;
+K=r8(c+8);
+goto L3;}}
+L2:p=1;
+q=4;
+r=0;
+goto L1;}
+J=rp(c);
+K=C;
+L3:L=J+K*40;
+*L=0;
+L[1]=0;
+M=K+1;
+z36(L+4);
+w8(c+8,M);
+N=M;}
+else{
+O=f[36];
+if(O==0)push_plain_069(k,b,c,f+36,A,h);
+else{
+P=q4(f+68);
+*j=O;
+memcpy(j+1,f+37,31);
+w4(j+32,P);
+z12(i);
+length_of_part_030(i,b,j,h);
+Q=r4(i+4);
+if(*i!=0){
+p=1;
+q=Q;
+r=r4(i+8);
+goto L1;}
+push_brackets_287(k,b,c,7,8,e,Q,f+72,g-2,h);}
+if(*k!=0){
+p=1;
+q=k[4];
+r=r4(k+8);
+goto L1;}
+N=r8(c+8);}
+if(r8(c+16)==N){
+R=umax64(N,8);
+if(R>(N^18446744073709551615u)){
+p=1;
+q=4;
+r=0;
+goto L1;}
+S=R+N;
+if(S>=0x333333333333334u){
+p=1;
+q=4;
+r=0;
+goto L1;}
+if(N==0){
+T=port_rattle_alloc(S*40,4);
+if(!(u8)(T.f0&1)){
+p=1;
+q=4;
+r=0;
+goto L1;}
+U=T;}
+else{
+V=port_rattle_realloc(rp(c),N*40,S*40,4);
+if(!(u8)(V.f0&1)){
+p=1;
+q=4;
+r=0;
+goto L1;}
+U=V;}
+W=(u8*)U.f1;
+wp(c,W);
+w8(c+16,S);
+X=W;
+Y=r8(c+8);}
+else{
+X=rp(c);
+Y=N;}
+Z=X+Y*40;
+*Z=3;
+Z[1]=0;
+x4(Z+4,d);
+Z[8]=B;
+memcpy(Z+9,l,31);
+w8(c+8,Y+1);
+p=0;
+q=0;
+r=0;}
+else{
+push_plain_069(m,b,c,f,g,h);
+p=*m;
+q=m[4];
+r=r4(m+8);}}
+L1:*a=p;
+x4(a+4,q);
+x4(a+8,r);
+return;
+}
+
+/* cpp_parts::lists::push_brackets */
+static void push_brackets_287(u8* a,u8* b,u8* c,u8 d,u8 e,u32 f,u32 g,u8* h,u64 i,u32 j)
+{
+u8 n[31];
+A16 u8 k[12],l[12],m[12],o[36],p[36],q[12],r[40],s[12],t[12],u[36],v[12],w[40],x[12],y[12];
+u32 z,G,H,I,T,V,X,Z,aa,ba,ca,fa;
+u8 A,B,D,E,F,U,W,Y,ga,ha;
+u64 C,J,K,L,R,da,ea,ia,oa,qa,ra,sa,ya;
+s_64_64 M,N,O,ja,ka,la,ta,ua,va;
+u8 *P,*Q,*S,*ma,*na,*pa,*wa,*xa,*za;
+z12(x);
+z12(y);
+if(i==0){
+push_unlisted_200(x,b,c,g,h,0,j);
+z=r4(x+8);
+A=x[4];
+B=*x;}
+else{
+C=i-1;
+D=*h;
+if(D==0){
+if(C==0)push_unlisted_200(y,b,c,g,h,i,j);
+else{
+E=h[36];
+if(E==0)push_unlisted_200(y,b,c,g,h,i,j);
+else{
+F=h[4];
+G=q4(h+68);
+memcpy(n,h+5,31);
+z12(m);
+z3(p+1);
+z12(q);
+z40(r);
+*o=E;
+memcpy(o+1,h+37,31);
+w4(o+32,G);
+memcpy(p+5,h+5,31);
+*p=0;
+p[4]=F;
+z12(l);
+length_of_part_030(l,b,p,j);
+H=r4(l+4);
+if(*l==0){
+z12(k);
+length_of_part_030(k,b,o,j);
+I=r4(k+4);
+if(*k==0){
+push_behind_d5c(q,b,c,h+72,i-2,j);
+if(*q==0){
+J=r8(c+8);
+if(r8(c+16)==J){
+K=umax64(J,8);
+if(K<=(J^18446744073709551615u)){
+L=K+J;
+if(L<0x333333333333334u){
+if(J==0){
+M=port_rattle_alloc(L*40,4);
+if(!(u8)(M.f0&1))goto L1;
+N=M;}
+else{
+O=port_rattle_realloc(rp(c),J*40,L*40,4);
+if(!(u8)(O.f0&1))goto L1;
+N=O;}
+P=(u8*)N.f1;
+wp(c,P);
+w8(c+16,L);
+Q=P;
+R=r8(c+8);
+goto L2;}}
+L1:*y=1;
+w4(y+4,4);
+w4(y+8,0);
+goto L3;}
+Q=rp(c);
+R=J;
+L2:S=Q+R*40;
+*S=0;
+S[1]=0;
+x4(S+4,I);
+z32(S+8);
+w8(c+8,R+1);
+w4(q+4,0);
+w4(q+8,0);
+*r=4;
+r[1]=e;
+w4(r+4,f);
+r[8]=F;
+memcpy(r+9,n,31);
+push_bd8(q,c,r);
+if(*q==0){
+*r=0;
+w4(r+4,g);
+push_bd8(q,c,r);
+if(*q==0){
+*r=1;
+r[1]=d;
+w4(r+4,H+g+I);
+push_bd8(m,c,r);
+*y=*m;
+w4(y+4,m[4]);
+w4(y+8,r4(m+8));}
+else{
+T=r4(q+8);
+U=q[4];
+*y=1;
+w4(y+4,U);
+w4(y+8,T);}}
+else{
+V=r4(q+8);
+W=q[4];
+*y=1;
+w4(y+4,W);
+w4(y+8,V);}}
+else{
+X=r4(q+8);
+Y=q[4];
+*y=1;
+w4(y+4,Y);
+w4(y+8,X);}}
+else{
+Z=r4(k+8);
+*y=1;
+w4(y+4,I&255);
+w4(y+8,Z);}}
+else{
+aa=r4(l+8);
+*y=1;
+w4(y+4,H&255);
+w4(y+8,aa);}
+L3:;}}
+z=r4(y+8);
+A=y[4];
+B=*y;}
+else{
+ba=q4(h+32);
+z12(t);
+z12(v);
+z40(w);
+*u=D;
+memcpy(u+1,h+1,31);
+w4(u+32,ba);
+z12(s);
+length_of_part_030(s,b,u,j);
+ca=r4(s+4);
+if(*s==0){
+push_behind_d5c(v,b,c,h+36,C,j);
+if(*v==0){
+da=r8(c+8);
+if(r8(c+16)==da){
+ea=umax64(da,8);
+if(ea>(da^18446744073709551615u)){
+fa=0;
+ga=4;
+ha=1;
+goto L4;}
+ia=ea+da;
+if(ia>=0x333333333333334u){
+fa=0;
+ga=4;
+ha=1;
+goto L4;}
+if(da==0){
+ja=port_rattle_alloc(ia*40,4);
+if(!(u8)(ja.f0&1)){
+fa=0;
+ga=4;
+ha=1;
+goto L4;}
+ka=ja;}
+else{
+la=port_rattle_realloc(rp(c),da*40,ia*40,4);
+if(!(u8)(la.f0&1)){
+fa=0;
+ga=4;
+ha=1;
+goto L4;}
+ka=la;}
+ma=(u8*)ka.f1;
+wp(c,ma);
+w8(c+16,ia);
+na=ma;
+oa=r8(c+8);}
+else{
+na=rp(c);
+oa=da;}
+pa=na+oa*40;
+*pa=0;
+pa[1]=0;
+x4(pa+4,ca);
+z32(pa+8);
+qa=oa+1;
+w8(c+8,qa);
+if(r8(c+16)==qa){
+ra=umax64(qa,8);
+if(ra>0xfffffffffffffffeu-oa){
+fa=0;
+ga=4;
+ha=1;
+goto L4;}
+sa=ra+qa;
+if(sa>=0x333333333333334u){
+fa=0;
+ga=4;
+ha=1;
+goto L4;}
+if(qa==0){
+ta=port_rattle_alloc(sa*40,4);
+if(!(u8)(ta.f0&1)){
+fa=0;
+ga=4;
+ha=1;
+goto L4;}
+ua=ta;}
+else{
+va=port_rattle_realloc(rp(c),qa*40,sa*40,4);
+if(!(u8)(va.f0&1)){
+fa=0;
+ga=4;
+ha=1;
+goto L4;}
+ua=va;}
+wa=(u8*)ua.f1;
+wp(c,wa);
+w8(c+16,sa);
+xa=wa;
+ya=r8(c+8);}
+else{
+xa=rp(c);
+ya=qa;}
+za=xa+ya*40;
+*za=0;
+za[1]=0;
+x4(za+4,g);
+z32(za+8);
+w8(c+8,ya+1);
+*w=1;
+w[1]=d;
+w4(w+4,ca+g);
+push_bd8(t,c,w);
+fa=r4(t+8);
+ga=t[4];
+ha=*t;}
+else{
+fa=r4(v+8);
+ga=v[4];
+ha=1;}}
+else{
+fa=r4(s+8);
+ga=ca;
+ha=1;}
+L4:z=fa;
+A=ga;
+B=ha;}}
+*a=B;
+x4(a+4,A);
+x4(a+8,z);
+return;
+}
+
+/* cpp_parts::plain::push_behind */
+static void push_behind_d5c(u8* a,u8* b,u8* c,u8* d,u64 e,u32 f)
+{
+A16 u8 g[12],h[36],i[12],j[12];
+u64 k,l,o,u;
+u8 m,w,z;
+u32 n,x,y,A,B;
+s_64_64 p,q,r;
+u8 *s,*t,*v;
+z12(i);
+z12(j);
+if(e==0){
+k=r8(c+8);
+if(r8(c+16)==k){
+l=umax64(k,8);
+if(l>(k^18446744073709551615u)){
+m=1;
+n=4;
+goto L1;}
+o=l+k;
+if(o>=0x333333333333334u){
+m=1;
+n=4;
+goto L1;}
+if(k==0){
+p=port_rattle_alloc(o*40,4);
+if(!(u8)(p.f0&1)){
+m=1;
+n=4;
+goto L1;}
+q=p;}
+else{
+r=port_rattle_realloc(rp(c),k*40,o*40,4);
+if(!(u8)(r.f0&1)){
+m=1;
+n=4;
+goto L1;}
+q=r;}
+s=(u8*)q.f1;
+wp(c,s);
+w8(c+16,o);
+t=s;
+u=r8(c+8);}
+else{
+t=rp(c);
+u=k;}
+v=t+u*40;
+*v=0;
+v[1]=0;
+z36(v+4);
+w8(c+8,u+1);
+m=0;
+n=0;
+L1:*i=m;
+w4(i+4,n);
+w4(i+8,0);}
+else{
+w=*d;
+if(w==0)push_returned_86a(i,b,c,d,e,f);
+else{
+x=q4(d+32);
+*h=w;
+memcpy(h+1,d+1,31);
+w4(h+32,x);
+push_returned_86a(j,b,c,d+36,e-1,f);
+if(*j!=0){
+z=1;
+A=j[4];
+B=r4(j+8);
+goto L2;}
+z12(g);
+length_of_part_030(g,b,h,f);
+y=r4(g+4);
+if(*g!=0){
+z=1;
+A=y&255;
+B=r4(g+8);
+goto L2;}
+push_alone_0dc(i,c,9,y);}}
+z=*i;
+A=i[4];
+B=r4(i+8);
+L2:*a=z;
+x4(a+4,A);
+x4(a+8,B);
+return;
+}
+
+/* cpp_parts::plain::push_returned */
+static void push_returned_86a(u8* a,u8* b,u8* c,u8* d,u64 e,u32 f)
+{
+A16 u8 g[12],h[12],i[36],j[12];
+u64 k,l,o,u;
+u8 m,w,y;
+u32 n,x,z,A;
+s_64_64 p,q,r;
+u8 *s,*t,*v;
+z12(h);
+z12(j);
+if(e==0){
+k=r8(c+8);
+if(r8(c+16)==k){
+l=umax64(k,8);
+if(l>(k^18446744073709551615u)){
+m=1;
+n=4;
+goto L1;}
+o=l+k;
+if(o>=0x333333333333334u){
+m=1;
+n=4;
+goto L1;}
+if(k==0){
+p=port_rattle_alloc(o*40,4);
+if(!(u8)(p.f0&1)){
+m=1;
+n=4;
+goto L1;}
+q=p;}
+else{
+r=port_rattle_realloc(rp(c),k*40,o*40,4);
+if(!(u8)(r.f0&1)){
+m=1;
+n=4;
+goto L1;}
+q=r;}
+s=(u8*)q.f1;
+wp(c,s);
+w8(c+16,o);
+t=s;
+u=r8(c+8);}
+else{
+t=rp(c);
+u=k;}
+v=t+u*40;
+*v=0;
+v[1]=0;
+z36(v+4);
+w8(c+8,u+1);
+m=0;
+n=0;
+L1:*h=m;
+w4(h+4,n);
+w4(h+8,0);}
+else{
+if(*d==0){
+w=d[4];
+w4(i,0);
+i[4]=w;
+memcpy(i+5,d+5,31);
+z12(g);
+length_of_part_030(g,b,i,f);
+x=r4(g+4);
+if(*g!=0){
+y=1;
+z=x&255;
+A=r4(g+8);
+goto L2;}
+push_plain_069(j,b,c,d+36,e-1,f);
+if(*j!=0){
+y=1;
+z=j[4];
+A=r4(j+8);
+goto L2;}
+if(x==0){
+y=0;
+z=0;
+A=0;
+goto L2;}
+push_alone_0dc(h,c,1,x);}
+else push_plain_069(h,b,c,d,e,f);}
+y=*h;
+z=h[4];
+A=r4(h+8);
+L2:*a=y;
+x4(a+4,z);
+x4(a+8,A);
+return;
+}
+
+/* cpp_parts::lists::push_unlisted */
+static void push_unlisted_200(u8* a,u8* b,u8* c,u32 d,u8* e,u64 f,u32 g)
+{
+A16 u8 h[12];
+u64 i,j,n,t;
+u8 k;
+u32 l,m;
+s_64_64 o,p,q;
+u8 *r,*s,*u;
+z12(h);
+push_plain_069(h,b,c,e,f,g);
+if(*h==0){
+i=r8(c+8);
+if(r8(c+16)==i){
+j=umax64(i,8);
+if(j>(i^18446744073709551615u)){
+k=1;
+l=4;
+m=0;
+goto L1;}
+n=j+i;
+if(n>=0x333333333333334u){
+k=1;
+l=4;
+m=0;
+goto L1;}
+if(i==0){
+o=port_rattle_alloc(n*40,4);
+if(!(u8)(o.f0&1)){
+k=1;
+l=4;
+m=0;
+goto L1;}
+p=o;}
+else{
+q=port_rattle_realloc(rp(c),i*40,n*40,4);
+if(!(u8)(q.f0&1)){
+k=1;
+l=4;
+m=0;
+goto L1;}
+p=q;}
+r=(u8*)p.f1;
+wp(c,r);
+w8(c+16,n);
+s=r;
+t=r8(c+8);}
+else{
+s=rp(c);
+t=i;}
+u=s+t*40;
+*u=0;
+u[1]=0;
+x4(u+4,d);
+z32(u+8);
+w8(c+8,t+1);
+k=0;
+l=0;
+m=0;}
+else{
+k=1;
+l=h[4];
+m=r4(h+8);}
+L1:*a=k;
+x4(a+4,l);
+x4(a+8,m);
+return;
+}
+
+/* cpp_parts::plain::push_words */
+static void push_words_147(u8* a,u8* b,u32 c)
+{
+A16 u8 d[12];
+u8 e;
+u64 f,g,h,n;
+s_64_64 i,j,k;
+u8 *l,*m,*o;
+z12(d);
+e=c!=0;
+f=r8(b+8);
+if(r8(b+16)==f){
+g=umax64(f,8);
+if(g<=(f^18446744073709551615u)){
+h=g+f;
+if(h<0x333333333333334u){
+if(f==0){
+i=port_rattle_alloc(h*40,4);
+if(!(u8)(i.f0&1))goto L1;
+j=i;}
+else{
+k=port_rattle_realloc(rp(b),f*40,h*40,4);
+if(!(u8)(k.f0&1))goto L1;
+j=k;}
+l=(u8*)j.f1;
+wp(b,l);
+w8(b+16,h);
+m=l;
+n=r8(b+8);
+goto L2;}}
+L1:*a=1;
+x4(a+4,4);
+x4(a+8,0);
+goto L3;}
+m=rp(b);
+n=f;
+L2:o=m+n*40;
+*o=0;
+o[1]=0;
+x4(o+4,e);
+z32(o+8);
+w8(b+8,n+1);
+push_alone_0dc(d,b,0,c-e);
+*a=*d;
+x4(a+4,d[4]);
+x4(a+8,r4(d+8));
+L3:return;
+}
+
+/* cpp_parts::encodings::push_special */
+static void push_special_629(u8* a,u8* b,u8* c,u8* d,u64 e,u32 f)
+{
+A16 u8 g[12],h[36],i[12],j[12];
+u64 k,l,o,u;
+u8 m,w,z;
+u32 n,x,y,A,B;
+s_64_64 p,q,r;
+u8 *s,*t,*v;
+z12(i);
+z12(j);
+if(e==0){
+k=r8(c+8);
+if(r8(c+16)==k){
+l=umax64(k,8);
+if(l>(k^18446744073709551615u)){
+m=1;
+n=4;
+goto L1;}
+o=l+k;
+if(o>=0x333333333333334u){
+m=1;
+n=4;
+goto L1;}
+if(k==0){
+p=port_rattle_alloc(o*40,4);
+if(!(u8)(p.f0&1)){
+m=1;
+n=4;
+goto L1;}
+q=p;}
+else{
+r=port_rattle_realloc(rp(c),k*40,o*40,4);
+if(!(u8)(r.f0&1)){
+m=1;
+n=4;
+goto L1;}
+q=r;}
+s=(u8*)q.f1;
+wp(c,s);
+w8(c+16,o);
+t=s;
+u=r8(c+8);}
+else{
+t=rp(c);
+u=k;}
+v=t+u*40;
+*v=0;
+v[1]=0;
+z36(v+4);
+w8(c+8,u+1);
+m=0;
+n=0;
+L1:*i=m;
+w4(i+4,n);
+w4(i+8,0);}
+else{
+w=*d;
+if(w==0)push_plain_069(i,b,c,d,e,f);
+else{
+x=q4(d+32);
+*h=w;
+memcpy(h+1,d+1,31);
+w4(h+32,x);
+z12(g);
+length_of_part_030(g,b,h,f);
+y=r4(g+4);
+if(*g!=0){
+z=1;
+A=y&255;
+B=r4(g+8);
+goto L2;}
+push_whole_733(j,b,c,10,d+36,e-1,f);
+if(*j!=0){
+z=1;
+A=j[4];
+B=r4(j+8);
+goto L2;}
+push_words_147(i,c,y);}}
+z=*i;
+A=i[4];
+B=r4(i+8);
+L2:*a=z;
+x4(a+4,A);
+x4(a+8,B);
+return;
+}
+
+/* cpp_parts::plain::push_whole */
+static void push_whole_733(u8* a,u8* b,u8* c,u8 d,u8* e,u64 f,u32 g)
+{
+A16 u8 h[12],i[12],j[36],k[36];
+u32 l,m,s,t,u,v,w,x,z,A,B;
+u8 *n,*I,*J,*L,*S,*T,*V;
+u64 o,p,C,D,E,K,M,N,O,U;
+u8 q,r,y;
+s_64_64 F,G,H,P,Q,R;
+if(f==0)l=0;
+else{
+m=0;
+n=e;
+o=f;
+L1:p=o-1;
+q=*n;
+if(q==0){
+r=n[4];
+w4(k,0);
+k[4]=r;
+memcpy(k+5,n+5,31);
+z12(h);
+length_of_part_030(h,b,k,g);
+s=r4(h+4);
+if(*h==0){
+t=s;
+goto L2;}
+u=s;
+v=r4(h+8);}
+else{
+w=q4(n+32);
+*j=q;
+memcpy(j+1,n+1,31);
+w4(j+32,w);
+z12(i);
+length_of_part_030(i,b,j,g);
+x=r4(i+4);
+if(*i==0){
+t=x;
+goto L2;}
+u=x;
+v=r4(i+8);}
+y=1;
+z=u&255;
+A=v;
+goto L3;
+L2:B=t+m;
+if(p!=0){
+m=B;
+n=n+36;
+o=p;
+goto L1;}
+l=B;}
+C=r8(c+8);
+if(r8(c+16)==C){
+D=umax64(C,8);
+if(D>(C^18446744073709551615u)){
+y=1;
+z=4;
+A=0;
+goto L3;}
+E=D+C;
+if(E>=0x333333333333334u){
+y=1;
+z=4;
+A=0;
+goto L3;}
+if(C==0){
+F=port_rattle_alloc(E*40,4);
+if(!(u8)(F.f0&1)){
+y=1;
+z=4;
+A=0;
+goto L3;}
+G=F;}
+else{
+H=port_rattle_realloc(rp(c),C*40,E*40,4);
+if(!(u8)(H.f0&1)){
+y=1;
+z=4;
+A=0;
+goto L3;}
+G=H;}
+I=(u8*)G.f1;
+wp(c,I);
+w8(c+16,E);
+J=I;
+K=r8(c+8);}
+else{
+J=rp(c);
+K=C;}
+L=J+K*40;
+*L=0;
+L[1]=0;
+x4(L+4,l);
+z32(L+8);
+M=K+1;
+w8(c+8,M);
+if(r8(c+16)==M){
+N=umax64(M,8);
+if(N>0xfffffffffffffffeu-K){
+y=1;
+z=4;
+A=0;
+goto L3;}
+O=N+M;
+if(O>=0x333333333333334u){
+y=1;
+z=4;
+A=0;
+goto L3;}
+if(M==0){
+P=port_rattle_alloc(O*40,4);
+if(!(u8)(P.f0&1)){
+y=1;
+z=4;
+A=0;
+goto L3;}
+Q=P;}
+else{
+R=port_rattle_realloc(rp(c),M*40,O*40,4);
+if(!(u8)(R.f0&1)){
+y=1;
+z=4;
+A=0;
+goto L3;}
+Q=R;}
+S=(u8*)Q.f1;
+wp(c,S);
+w8(c+16,O);
+T=S;
+U=r8(c+8);}
+else{
+T=rp(c);
+U=M;}
+V=T+U*40;
+*V=1;
+V[1]=d;
+x4(V+4,l);
+z32(V+8);
+w8(c+8,U+1);
+y=0;
+z=0;
+A=0;
+L3:*a=y;
+x4(a+4,z);
+x4(a+8,A);
+return;
+}
+
+/* cpp_parts::sorts::entity_node */
+static u32 entity_node_809(u8* a,u32 b)
+{
+A16 u8 c[64],d[24],e[24],f[64],g[64],h[24],i[24],j[64];
+u8 *k,*l,*p,*q,*t,*u;
+u8 m,n,r,v;
+u32 o,s,w;
+k=rp(a+24);
+l=k+(i64)((u64)b*48);
+m=*l;
+memcpy(i+1,l+1,3);
+memcpy(i+4,l+4,20);
+*i=m;
+z64(j);
+n=m==47;
+if(n){
+o=r4(i+4);
+z64(g);
+p=k+(i64)((u64)o*48);
+q=k+(i64)((u64)(*p==47?q4(p+4):o)*48);
+r=*q;
+memcpy(h+1,q+1,3);
+memcpy(h+4,q+4,20);
+*h=r;
+view_of_own_62c(g,a+24,h);
+memcpy(j,g,64);}
+else view_of_own_62c(j,a+24,i);
+if(r2(j)==73){
+memcpy(e+1,l+1,3);
+memcpy(e+4,l+4,20);
+*e=m;
+z64(f);
+if(n){
+s=r4(e+4);
+z64(c);
+t=k+(i64)((u64)s*48);
+u=k+(i64)((u64)(*t==47?q4(t+4):s)*48);
+v=*u;
+memcpy(d+1,u+1,3);
+memcpy(d+4,u+4,20);
+*d=v;
+view_of_own_62c(c,a+24,d);
+memcpy(f,c,64);}
+else view_of_own_62c(f,a+24,e);
+w=r4(f+48);}
+else w=b;
+return w;
+}
+
+/* cpp_parts::names::push_named */
+static void push_named_0bb(u8* a,u8* b,u8* c,u8* d,u64 e,u32 f)
+{
+u8 x[1];
+A16 u8 g[12],h[12],i[36],j[12],k[12],l[12],m[12],n[12],o[36],p[36],q[12],r[12],s[12],t[36],u[36],v[12],w[40],y[12];
+u64 z,D,K,V,W,ka,la,ma,sa,Fa,Ga,Ka,Qa;
+u8 A,B,C,E,I,X,Y,fa,ga,va,wa,za,Aa,Ia,Ja,Ta,Ua;
+u16 F,N,O,P;
+u32 G,H,J,Q,R,S,T,Z,aa,ba,ca,da,ea,ha,ia,ja,ua,xa,ya,Ba,Ca,Da,Ea,Ha,Sa;
+u8 *L,*M,*U,*qa,*ra,*ta,*Oa,*Pa,*Ra;
+s_64_64 na,oa,pa,La,Ma,Na;
+z=e-1;
+A=*d;
+if(A==0){
+B=d[4];
+z12(y);
+if(z!=0){
+C=d[36];
+if(C!=0){
+D=e-2;
+E=d[37];
+F=q2(d+38);
+G=q4(d+40);
+H=q4(d+44);
+I=d[61];
+J=q4(d+68);
+*x=E;
+switch(C){
+case 1:K=(u64)H-G;
+L=rp(b)+(i64)G;
+break;
+case 3:switch(F){
+case 0:M=(u8*)t_0a07;
+goto L1;
+case 1:M=(u8*)t_ab5d;
+goto L1;
+case 2:M=(u8*)t_32eb;
+goto L1;
+case 3:M=(u8*)t_ba5e;
+goto L1;
+case 4:M=(u8*)t_36a9;
+goto L1;
+case 5:M=(u8*)t_7154;
+goto L1;
+case 6:M=(u8*)t_3ca9;
+goto L1;
+case 7:M=(u8*)t_0f44;
+goto L1;
+case 8:M=(u8*)t_6848;
+goto L1;
+case 9:M=(u8*)t_cfa2;
+goto L1;
+case 10:M=(u8*)t_951d;
+goto L1;
+case 11:M=(u8*)t_f2c5;
+goto L1;
+case 12:M=(u8*)t_73e7;
+goto L1;
+case 13:M=(u8*)t_ab75;
+goto L1;
+case 14:M=(u8*)t_f6ce;
+goto L1;
+case 15:M=(u8*)t_2458;
+goto L1;
+case 16:M=(u8*)t_cfae;
+goto L1;
+case 17:M=(u8*)t_6d6a;
+goto L1;
+case 18:M=(u8*)t_8cb3;
+goto L1;
+case 19:M=(u8*)t_b5be;
+goto L1;
+case 20:M=(u8*)t_fcbc;
+goto L1;
+case 21:M=(u8*)t_c11d;
+goto L1;
+case 22:M=(u8*)t_4f5a;
+goto L1;
+case 23:M=(u8*)t_5f0f;
+goto L1;
+case 24:M=(u8*)t_81b5;
+goto L1;
+case 25:M=(u8*)t_7031;
+goto L1;
+case 26:M=(u8*)t_dabd;
+goto L1;
+case 27:M=(u8*)t_b902;
+goto L1;
+case 28:M=(u8*)t_62b6;
+goto L1;
+case 29:M=(u8*)t_e1a0;
+goto L1;
+case 30:M=(u8*)t_d949;
+goto L1;
+case 31:M=(u8*)t_3d70;
+goto L1;
+case 32:M=(u8*)t_d10b;
+goto L1;
+case 33:M=(u8*)t_e088;
+goto L1;
+case 34:M=(u8*)t_750b;
+goto L1;
+case 35:M=(u8*)t_62ff;
+goto L1;
+case 36:M=(u8*)t_3973;
+goto L1;
+case 37:M=(u8*)t_1a19;
+goto L1;
+case 38:M=(u8*)t_7285;
+goto L1;
+case 39:M=(u8*)t_787b;
+goto L1;
+case 40:M=(u8*)t_3276;
+goto L1;
+case 41:M=(u8*)t_2d71;
+goto L1;
+case 42:M=(u8*)t_e78f;
+goto L1;
+case 43:M=(u8*)t_59d1;
+goto L1;
+case 44:M=(u8*)t_58bf;
+goto L1;
+case 45:M=(u8*)t_3b26;
+goto L1;
+case 46:M=(u8*)t_e6be;
+goto L1;
+case 47:M=(u8*)t_7cce;
+goto L1;
+case 48:M=(u8*)t_d453;
+goto L1;
+case 49:M=(u8*)t_5aef;
+goto L1;
+case 50:M=(u8*)t_6310;
+goto L1;
+case 51:M=(u8*)t_c364;
+goto L1;
+case 52:M=(u8*)t_56c9;
+goto L1;
+case 53:M=(u8*)t_021f;
+goto L1;
+case 54:M=(u8*)t_2f86;
+goto L1;
+case 55:M=(u8*)t_50b1;
+goto L1;
+case 56:M=(u8*)t_daa9;
+goto L1;
+case 57:M=(u8*)t_3755;
+goto L1;
+case 58:M=(u8*)t_bfc2;
+goto L1;
+case 59:M=(u8*)t_9650;
+goto L1;
+case 60:goto L2;
+case 61:M=(u8*)t_75e8;
+goto L1;
+case 62:M=(u8*)t_4982;
+goto L1;
+case 63:M=(u8*)t_3a95;
+goto L1;
+case 64:M=(u8*)t_f603;
+goto L1;
+case 65:M=(u8*)t_ae87;
+goto L1;
+case 66:M=(u8*)t_d091;
+goto L1;
+case 67:M=(u8*)t_cd44;
+goto L1;
+case 68:M=(u8*)t_8519;
+goto L1;
+case 69:M=(u8*)t_ed57;
+goto L1;
+case 70:M=(u8*)t_5513;
+goto L1;
+case 71:M=(u8*)t_04a7;
+goto L1;
+case 72:M=(u8*)t_5ca3;
+goto L1;
+case 73:M=(u8*)t_b525;
+goto L1;
+case 74:M=(u8*)t_29c6;
+goto L1;
+case 75:M=(u8*)t_4d8e;
+goto L1;
+case 76:M=(u8*)t_617d;
+goto L1;
+case 77:M=(u8*)t_43e8;
+goto L1;
+case 78:M=(u8*)t_cff1;
+goto L1;
+case 79:M=(u8*)t_1ed6;
+goto L1;
+case 80:M=(u8*)t_d4b3;
+goto L1;
+case 81:M=(u8*)t_1f49;
+goto L1;
+case 82:M=(u8*)t_3bc4;
+goto L1;
+case 83:M=(u8*)t_7f8c;
+goto L1;
+case 84:M=(u8*)t_58e1;
+goto L1;
+case 85:M=(u8*)t_4be3;
+goto L1;
+case 86:M=(u8*)t_ccd0;
+goto L1;
+case 87:M=(u8*)t_5910;
+goto L1;
+case 88:M=(u8*)t_24b4;
+goto L1;
+case 89:M=(u8*)t_b69a;
+goto L1;
+case 90:M=(u8*)t_b63f;
+goto L1;
+case 91:M=(u8*)t_9df6;
+goto L1;
+case 92:M=(u8*)t_01d6;
+goto L1;
+case 93:M=(u8*)t_0afd;
+goto L1;
+case 94:M=(u8*)t_bbf4;
+goto L1;
+case 95:M=(u8*)t_1a08;
+goto L1;
+case 96:M=(u8*)t_85a1;
+goto L1;
+case 97:M=(u8*)t_6bf8;
+goto L1;
+case 98:M=(u8*)t_0560;
+goto L1;
+case 99:M=(u8*)t_f4cb;
+goto L1;
+case 100:M=(u8*)t_c1f5;
+goto L1;
+case 101:M=(u8*)t_0f6a;
+goto L1;
+case 102:M=(u8*)t_0f6e;
+goto L1;
+case 103:M=(u8*)t_ef64;
+goto L1;
+case 104:M=(u8*)t_afcb;
+goto L1;
+case 105:M=(u8*)t_ee9e;
+goto L1;
+case 106:M=(u8*)t_93da;
+goto L1;
+case 107:M=(u8*)t_1a97;
+goto L1;
+default:N=F-108;
+if(N<66){
+M=rp((u8*)t_ae2b+(u64)N*8);
+goto L1;}
+O=F-174;
+if(O<84){
+M=rp((u8*)t_7cb3+(u64)O*8);
+goto L1;}
+P=F-258;
+if(P>=48)goto L2;
+M=rp((u8*)t_392a+(u64)P*8);
+goto L1;
+}
+break;
+case 4:K=I;
+L=x;
+break;
+case 2:goto L2;
+default:NEVER;
+}
+if(K==0)goto L2;
+M=L;
+L1:if(*M==58){
+z12(s);
+z3(u+1);
+z12(v);
+z40(w);
+*t=C;
+t[1]=E;
+w2(t+2,F);
+w4(t+4,G);
+w4(t+8,H);
+memcpy(t+12,d+48,13);
+t[25]=I;
+memcpy(t+26,d+62,6);
+w4(t+32,J);
+memcpy(u+5,d+5,31);
+*u=0;
+u[4]=B;
+z12(r);
+length_of_part_030(r,b,u,f);
+Q=r4(r+4);
+if(*r==0){
+z12(q);
+length_of_part_030(q,b,t,f);
+R=r4(q+4);
+if(*q==0){
+if(D==0)S=0;
+else{
+T=0;
+U=d+36;
+V=D;
+L3:W=V-1;
+X=U[36];
+if(X==0){
+Y=U[40];
+w4(p,0);
+p[4]=Y;
+memcpy(p+5,U+41,31);
+z12(m);
+length_of_part_030(m,b,p,f);
+Z=r4(m+4);
+if(*m==0){
+aa=Z;
+goto L4;}
+ba=Z;
+ca=r4(m+8);}
+else{
+da=q4(U+68);
+*o=X;
+memcpy(o+1,U+37,31);
+w4(o+32,da);
+z12(n);
+length_of_part_030(n,b,o,f);
+ea=r4(n+4);
+if(*n==0){
+aa=ea;
+goto L4;}
+ba=ea;
+ca=r4(n+8);}
+fa=1;
+ga=ba;
+ha=ca;
+goto L5;
+L4:ia=aa+T;
+if(W!=0){
+T=ia;
+U=U+36;
+V=W;
+goto L3;}
+S=ia;}
+ja=umin32(R,2);
+ka=r8(c+8);
+if(r8(c+16)==ka){
+la=umax64(ka,8);
+if(la>(ka^18446744073709551615u)){
+fa=1;
+ga=4;
+ha=0;
+goto L5;}
+ma=la+ka;
+if(ma>=0x333333333333334u){
+fa=1;
+ga=4;
+ha=0;
+goto L5;}
+if(ka==0){
+na=port_rattle_alloc(ma*40,4);
+if(!(u8)(na.f0&1)){
+fa=1;
+ga=4;
+ha=0;
+goto L5;}
+oa=na;}
+else{
+pa=port_rattle_realloc(rp(c),ka*40,ma*40,4);
+if(!(u8)(pa.f0&1)){
+fa=1;
+ga=4;
+ha=0;
+goto L5;}
+oa=pa;}
+qa=(u8*)oa.f1;
+wp(c,qa);
+w8(c+16,ma);
+ra=qa;
+sa=r8(c+8);}
+else{
+ra=rp(c);
+sa=ka;}
+ta=ra+sa*40;
+*ta=0;
+ta[1]=0;
+x4(ta+4,S);
+z32(ta+8);
+w8(c+8,sa+1);
+w4(v+4,0);
+w4(v+8,0);
+ua=R-ja;
+*w=0;
+w4(w+4,ua);
+push_bd8(v,c,w);
+if(*v==0){
+*w=1;
+w[1]=3;
+w4(w+4,S+ua);
+push_bd8(v,c,w);
+if(*v==0){
+*w=0;
+w4(w+4,ja);
+push_bd8(v,c,w);
+if(*v==0){
+push_alone_0dc(s,c,2,Q);
+fa=*s;
+ga=s[4];
+ha=r4(s+8);}
+else{
+fa=1;
+ga=v[4];
+ha=r4(v+8);}}
+else{
+fa=1;
+ga=v[4];
+ha=r4(v+8);}}
+else{
+fa=1;
+ga=v[4];
+ha=r4(v+8);}}
+else{
+fa=1;
+ga=R;
+ha=r4(q+8);}}
+else{
+fa=1;
+ga=Q;
+ha=r4(r+8);}
+L5:va=ga;
+wa=fa;
+xa=ha;
+goto L6;}}}
+L2:push_whole_733(y,b,c,3,d,e,f);
+va=y[4];
+wa=*y;
+xa=r4(y+8);
+L6:ya=xa;
+za=va;
+Aa=wa;}
+else{
+Ba=q4(d+32);
+z12(k);
+z12(l);
+if(z==0)push_whole_733(k,b,c,3,d,e,f);
+else{
+if(d[36]==0){
+if(z==1){
+z12(h);
+z12(j);
+*i=A;
+memcpy(i+1,d+1,31);
+w4(i+32,Ba);
+z12(g);
+length_of_part_030(g,b,i,f);
+Ca=r4(g+4);
+if(*g==0){
+push_whole_733(j,b,c,3,d+36,1,f);
+if(*j==0){
+Da=umin32(Ca,3);
+Ea=Ca-Da;
+Fa=r8(c+8);
+if(r8(c+16)==Fa){
+Ga=umax64(Fa,8);
+if(Ga>(Fa^18446744073709551615u)){
+Ha=0;
+Ia=4;
+Ja=1;
+goto L7;}
+Ka=Ga+Fa;
+if(Ka>=0x333333333333334u){
+Ha=0;
+Ia=4;
+Ja=1;
+goto L7;}
+if(Fa==0){
+La=port_rattle_alloc(Ka*40,4);
+if(!(u8)(La.f0&1)){
+Ha=0;
+Ia=4;
+Ja=1;
+goto L7;}
+Ma=La;}
+else{
+Na=port_rattle_realloc(rp(c),Fa*40,Ka*40,4);
+if(!(u8)(Na.f0&1)){
+Ha=0;
+Ia=4;
+Ja=1;
+goto L7;}
+Ma=Na;}
+Oa=(u8*)Ma.f1;
+wp(c,Oa);
+w8(c+16,Ka);
+Pa=Oa;
+Qa=r8(c+8);}
+else{
+Pa=rp(c);
+Qa=Fa;}
+Ra=Pa+Qa*40;
+*Ra=0;
+Ra[1]=0;
+x4(Ra+4,Ea);
+z32(Ra+8);
+w8(c+8,Qa+1);
+push_alone_0dc(h,c,2,Da);
+Ha=r4(h+8);
+Ia=h[4];
+Ja=*h;}
+else{
+Ha=r4(j+8);
+Ia=j[4];
+Ja=1;}}
+else{
+Ha=r4(g+8);
+Ia=Ca;
+Ja=1;}
+L7:Sa=Ha;
+Ta=Ia;
+Ua=Ja;}
+else{
+push_whole_733(l,b,c,3,d,e,f);
+Sa=r4(l+8);
+Ta=l[4];
+Ua=*l;}
+*k=Ua;
+w4(k+4,Ta);
+w4(k+8,Sa);}
+else push_whole_733(k,b,c,3,d,e,f);}
+ya=r4(k+8);
+za=k[4];
+Aa=*k;}
+*a=Aa;
+x4(a+4,za);
+x4(a+8,ya);
+return;
+}
+
+/* cpp_parts::lists::push_elements_here */
+static void push_elements_here_c77(u8* a,u8* b,u8* c,u8 d,u32 e,u8* f,u64 g,u32 h)
+{
+u8 i[3],j[3],k[3],l[3],m[3],n[3],o[3],p[3],E[31],I[31];
+A16 u8 q[296],r[12],s[12],t[12],u[64],v[24],w[24],x[64],y[32],z[12],A[64],B[24],C[24],D[64],F[12],G[12],H[32],J[12],K[12];
+u64 L,M,Q,W,Z,aa,ea,ka,ma,pa,qa,ra,xa,Aa,Ba,Ca,Ia,La,Ua,Wa,ob,pb,qb,ub,Ab;
+u32 N,Y,da,oa,Oa,Sa,Ya,ab,eb,sb,Db;
+u8 O,P,ba,ca,na,za,Na,Ra,Va,db,fb,gb,hb,ib,jb,kb,lb,mb,nb,rb,tb,Cb,Eb;
+s_64_64 R,S,T,fa,ga,ha,sa,ta,ua,Da,Ea,Fa,vb,wb,xb;
+u8 *U,*V,*X,*ia,*ja,*la,*va,*wa,*ya,*Ga,*Ha,*Ja,*Ka,*Ma,*Pa,*Qa,*Ta,*Xa,*Za,*bb,*cb,*yb,*zb,*Bb;
+z12(K);
+if(g==0){
+L=r8(c+8);
+if(r8(c+16)==L){
+M=umax64(L,8);
+if(M>(L^18446744073709551615u)){
+N=0;
+O=4;
+P=1;
+goto L1;}
+Q=M+L;
+if(Q>=0x333333333333334u){
+N=0;
+O=4;
+P=1;
+goto L1;}
+if(L==0){
+R=port_rattle_alloc(Q*40,4);
+if(!(u8)(R.f0&1)){
+N=0;
+O=4;
+P=1;
+goto L1;}
+S=R;}
+else{
+T=port_rattle_realloc(rp(c),L*40,Q*40,4);
+if(!(u8)(T.f0&1)){
+N=0;
+O=4;
+P=1;
+goto L1;}
+S=T;}
+U=(u8*)S.f1;
+wp(c,U);
+w8(c+16,Q);
+V=U;
+W=r8(c+8);}
+else{
+V=rp(c);
+W=L;}
+X=V+W*40;
+*X=0;
+X[1]=0;
+z36(X+4);
+w8(c+8,W+1);
+N=0;
+O=0;
+P=0;}
+else{
+if(*f==0){
+*H=f[4];
+memcpy(H+1,f+5,31);
+z12(J);
+if(g==1){
+Y=rest_node_d20(b,e);
+Z=r8(c+8);
+if(r8(c+16)==Z){
+aa=umax64(Z,8);
+if(aa>(Z^18446744073709551615u)){
+ba=4;
+ca=1;
+da=0;
+goto L2;}
+ea=aa+Z;
+if(ea>=0x333333333333334u){
+ba=4;
+ca=1;
+da=0;
+goto L2;}
+if(Z==0){
+fa=port_rattle_alloc(ea*40,4);
+if(!(u8)(fa.f0&1)){
+ba=4;
+ca=1;
+da=0;
+goto L2;}
+ga=fa;}
+else{
+ha=port_rattle_realloc(rp(c),Z*40,ea*40,4);
+if(!(u8)(ha.f0&1)){
+ba=4;
+ca=1;
+da=0;
+goto L2;}
+ga=ha;}
+ia=(u8*)ga.f1;
+wp(c,ia);
+w8(c+16,ea);
+ja=ia;
+ka=r8(c+8);}
+else{
+ja=rp(c);
+ka=Z;}
+la=ja+ka*40;
+*la=4;
+la[1]=d;
+x4(la+4,Y);
+memcpy(la+8,H,32);
+w8(c+8,ka+1);
+ba=0;
+ca=0;
+da=0;}
+else{
+if(f[36]==0){
+ma=g-2;
+na=f[40];
+memcpy(I,f+41,31);
+oa=rest_node_d20(b,e);
+z12(F);
+z12(G);
+if(ma==0){
+pa=r8(c+8);
+if(r8(c+16)==pa){
+qa=umax64(pa,8);
+if(qa>(pa^18446744073709551615u))goto L3;
+ra=qa+pa;
+if(ra>=0x333333333333334u)goto L3;
+if(pa==0){
+sa=port_rattle_alloc(ra*40,4);
+if(!(u8)(sa.f0&1))goto L3;
+ta=sa;}
+else{
+ua=port_rattle_realloc(rp(c),pa*40,ra*40,4);
+if(!(u8)(ua.f0&1))goto L3;
+ta=ua;}
+va=(u8*)ta.f1;
+wp(c,va);
+w8(c+16,ra);
+wa=va;
+xa=r8(c+8);}
+else{
+wa=rp(c);
+xa=pa;}
+ya=wa+xa*40;
+*ya=0;
+ya[1]=0;
+z36(ya+4);
+w8(c+8,xa+1);}
+else{
+if(f[72]!=0){
+push_plain_069(F,b,c,f+72,ma,h);
+if(*F==0)goto L4;
+ba=F[4];
+ca=1;
+da=r4(F+8);
+goto L2;}
+za=f[76];
+memcpy(E,f+77,31);
+push_plain_069(G,b,c,f+108,g-3,h);
+if(*G!=0){
+ba=G[4];
+ca=1;
+da=r4(G+8);
+goto L2;}
+Aa=r8(c+8);
+if(r8(c+16)==Aa){
+Ba=umax64(Aa,8);
+if(Ba>(Aa^18446744073709551615u))goto L3;
+Ca=Ba+Aa;
+if(Ca>=0x333333333333334u)goto L3;
+if(Aa==0){
+Da=port_rattle_alloc(Ca*40,4);
+if(!(u8)(Da.f0&1))goto L3;
+Ea=Da;}
+else{
+Fa=port_rattle_realloc(rp(c),Aa*40,Ca*40,4);
+if(!(u8)(Fa.f0&1))goto L3;
+Ea=Fa;}
+Ga=(u8*)Ea.f1;
+wp(c,Ga);
+w8(c+16,Ca);
+Ha=Ga;
+Ia=r8(c+8);}
+else{
+Ha=rp(c);
+Ia=Aa;}
+Ja=Ha+Ia*40;
+*Ja=4;
+Ja[1]=d;
+x4(Ja+4,oa);
+Ja[8]=za;
+memcpy(Ja+9,E,31);
+w8(c+8,Ia+1);}
+L4:Ka=rp(b+24);
+La=(u64)e*48;
+Ma=Ka+(i64)La;
+Na=*Ma;
+memcpy(C+1,Ma+1,3);
+memcpy(C+4,Ma+4,20);
+*C=Na;
+z64(D);
+if(Na==47){
+Oa=r4(C+4);
+z64(A);
+Pa=Ka+(i64)((u64)Oa*48);
+Qa=Ka+(i64)((u64)(*Pa==47?q4(Pa+4):Oa)*48);
+Ra=*Qa;
+memcpy(B+1,Qa+1,3);
+memcpy(B+4,Qa+4,20);
+*B=Ra;
+view_of_own_62c(A,b+24,B);
+memcpy(D,A,64);}
+else view_of_own_62c(D,b+24,C);
+if(r2(D)==2){
+Sa=part_74e(b,e,0);
+Ta=rp(b+24);
+Ua=(u64)Sa*48;
+Va=*(Ta+(i64)Ua);
+Wa=Ua;
+Xa=Ta;
+Ya=Sa;}
+else{
+Va=Na;
+Wa=La;
+Xa=Ka;
+Ya=e;}
+*y=na;
+memcpy(y+1,I,31);
+z12(z);
+Za=Xa+(i64)Wa;
+memcpy(w+1,Za+1,3);
+memcpy(w+4,Za+4,20);
+*w=Va;
+z64(x);
+if(Va==47){
+ab=r4(w+4);
+z64(u);
+bb=Xa+(i64)((u64)ab*48);
+cb=Xa+(i64)((u64)(*bb==47?q4(bb+4):ab)*48);
+db=*cb;
+memcpy(v+1,cb+1,3);
+memcpy(v+4,cb+4,20);
+*v=db;
+view_of_own_62c(u,b+24,v);
+memcpy(x,u,64);}
+else view_of_own_62c(x,b+24,w);
+switch(r2(x)){
+case 35:case 29:eb=part_74e(b,Ya,0);
+zero_all(q,296);
+z12(r);
+z12(s);
+z12(t);
+parts_7a7(q,b,H);
+fb=*q;
+gb=q[4];
+memcpy(i,q+5,3);
+hb=q[8];
+memcpy(j,q+9,3);
+ib=q[12];
+memcpy(k,q+13,3);
+jb=q[16];
+memcpy(l,q+17,3);
+kb=q[20];
+memcpy(m,q+21,3);
+lb=q[24];
+memcpy(n,q+25,3);
+mb=q[28];
+memcpy(o,q+29,3);
+nb=q[32];
+memcpy(p,q+33,3);
+ob=r8(q+288);
+parts_7a7(q,b,y);
+if(ob==0)push_lone_16a(r,b,c,d,H,y,h);
+else{
+if(fb==0){
+if(ob==1){
+if(r8(q+288)==0){
+pb=r8(c+8);
+if(r8(c+16)==pb){
+qb=umax64(pb,8);
+if(qb>(pb^18446744073709551615u)){
+rb=4;
+sb=0;
+tb=1;
+goto L5;}
+ub=qb+pb;
+if(ub>=0x333333333333334u){
+rb=4;
+sb=0;
+tb=1;
+goto L5;}
+if(pb==0){
+vb=port_rattle_alloc(ub*40,4);
+if(!(u8)(vb.f0&1)){
+rb=4;
+sb=0;
+tb=1;
+goto L5;}
+wb=vb;}
+else{
+xb=port_rattle_realloc(rp(c),pb*40,ub*40,4);
+if(!(u8)(xb.f0&1)){
+rb=4;
+sb=0;
+tb=1;
+goto L5;}
+wb=xb;}
+yb=(u8*)wb.f1;
+wp(c,yb);
+w8(c+16,ub);
+zb=yb;
+Ab=r8(c+8);}
+else{
+zb=rp(c);
+Ab=pb;}
+Bb=zb+Ab*40;
+*Bb=4;
+Bb[1]=d;
+x4(Bb+4,eb);
+Bb[8]=gb;
+memcpy(Bb+9,i,3);
+Bb[12]=hb;
+memcpy(Bb+13,j,3);
+Bb[16]=ib;
+memcpy(Bb+17,k,3);
+Bb[20]=jb;
+memcpy(Bb+21,l,3);
+Bb[24]=kb;
+memcpy(Bb+25,m,3);
+Bb[28]=lb;
+memcpy(Bb+29,n,3);
+Bb[32]=mb;
+memcpy(Bb+33,o,3);
+Bb[36]=nb;
+memcpy(Bb+37,p,3);
+w8(c+8,Ab+1);
+rb=0;
+sb=0;
+tb=0;}
+else{
+push_lone_16a(t,b,c,d,H,y,h);
+rb=t[4];
+sb=r4(t+8);
+tb=*t;}}
+else{
+push_lone_16a(s,b,c,d,H,y,h);
+rb=s[4];
+sb=r4(s+8);
+tb=*s;}
+L5:*r=tb;
+w4(r+4,rb);
+w4(r+8,sb);}
+else push_lone_16a(r,b,c,d,H,y,h);}
+Cb=r[4];
+Db=r4(r+8);
+Eb=*r;
+break;
+default:push_lone_16a(z,b,c,d,H,y,h);
+Cb=z[4];
+Db=r4(z+8);
+Eb=*z;
+break;}
+ba=Cb;
+ca=Eb;
+da=Db;
+goto L2;
+L3:ba=4;
+ca=1;
+da=0;}
+else{
+push_plain_069(J,b,c,f,g,h);
+ba=J[4];
+ca=*J;
+da=r4(J+8);}}
+L2:N=da;
+O=ba;
+P=ca;}
+else{
+push_plain_069(K,b,c,f,g,h);
+N=r4(K+8);
+O=K[4];
+P=*K;}}
+L1:*a=P;
+x4(a+4,O);
+x4(a+8,N);
+return;
+}
+
+/* cpp_parts::sorts::rest_node */
+static u32 rest_node_d20(u8* a,u32 b)
+{
+A16 u8 c[64],d[24],e[24],f[64],g[64],h[24],i[24],j[64];
+u8 *k,*l,*p,*q,*t,*u;
+u8 m,n,r,v;
+u32 o,s,w;
+k=rp(a+24);
+l=k+(i64)((u64)b*48);
+m=*l;
+memcpy(i+1,l+1,3);
+memcpy(i+4,l+4,20);
+*i=m;
+z64(j);
+n=m==47;
+if(n){
+o=r4(i+4);
+z64(g);
+p=k+(i64)((u64)o*48);
+q=k+(i64)((u64)(*p==47?q4(p+4):o)*48);
+r=*q;
+memcpy(h+1,q+1,3);
+memcpy(h+4,q+4,20);
+*h=r;
+view_of_own_62c(g,a+24,h);
+memcpy(j,g,64);}
+else view_of_own_62c(j,a+24,i);
+if(r2(j)==2){
+memcpy(e+1,l+1,3);
+memcpy(e+4,l+4,20);
+*e=m;
+z64(f);
+if(n){
+s=r4(e+4);
+z64(c);
+t=k+(i64)((u64)s*48);
+u=k+(i64)((u64)(*t==47?q4(t+4):s)*48);
+v=*u;
+memcpy(d+1,u+1,3);
+memcpy(d+4,u+4,20);
+*d=v;
+view_of_own_62c(c,a+24,d);
+memcpy(f,c,64);}
+else view_of_own_62c(f,a+24,e);
+w=r4(f+52);}
+else w=b;
+return w;
+}
+
+/* cpp_parts::lists::push_lone */
+static void push_lone_16a(u8* a,u8* b,u8* c,u8 d,u8* e,u8* f,u32 g)
+{
+u8 k[35];
+A16 u8 h[12],i[12],j[32],l[36],m[36];
+u32 n,o,y,L,O,X,Y;
+u64 p,q,r,x,A,B,C,I,K,M,P,V;
+s_64_64 s,t,u,D,E,F,Q,R,S;
+u8 *v,*w,*z,*G,*H,*J,*T,*U,*W;
+u8 N;
+memcpy(j,f,32);
+z3(k);
+memcpy(k+3,e,32);
+*l=0;
+memcpy(l+1,k,35);
+z12(i);
+length_of_part_030(i,b,l,g);
+n=r4(i+4);
+if(*i==0){
+memcpy(k+3,j,32);
+*m=0;
+memcpy(m+1,k,35);
+z12(h);
+length_of_part_030(h,b,m,g);
+o=r4(h+4);
+if(*h==0){
+p=r8(c+8);
+if(r8(c+16)==p){
+q=umax64(p,8);
+if(q<=(p^18446744073709551615u)){
+r=q+p;
+if(r<0x333333333333334u){
+if(p==0){
+s=port_rattle_alloc(r*40,4);
+if(!(u8)(s.f0&1))goto L1;
+t=s;}
+else{
+u=port_rattle_realloc(rp(c),p*40,r*40,4);
+if(!(u8)(u.f0&1))goto L1;
+t=u;}
+v=(u8*)t.f1;
+wp(c,v);
+w8(c+16,r);
+w=v;
+x=r8(c+8);
+goto L2;}}
+L1:*a=1;
+x4(a+4,4);
+y=0;
+goto L3;}
+w=rp(c);
+x=p;
+L2:z=w+x*40;
+*z=0;
+z[1]=0;
+x4(z+4,o);
+z32(z+8);
+A=x+1;
+w8(c+8,A);
+if(r8(c+16)==A){
+B=umax64(A,8);
+if(B<=0xfffffffffffffffeu-x){
+C=B+A;
+if(C<0x333333333333334u){
+if(A==0){
+D=port_rattle_alloc(C*40,4);
+if(!(u8)(D.f0&1))goto L4;
+E=D;}
+else{
+F=port_rattle_realloc(rp(c),A*40,C*40,4);
+if(!(u8)(F.f0&1))goto L4;
+E=F;}
+G=(u8*)E.f1;
+wp(c,G);
+w8(c+16,C);
+H=G;
+I=r8(c+8);
+goto L5;}}
+L4:*a=1;
+x4(a+4,4);
+y=0;
+goto L3;}
+H=rp(c);
+I=A;
+L5:J=H+I*40;
+*J=0;
+J[1]=0;
+x4(J+4,n);
+z32(J+8);
+K=I+1;
+w8(c+8,K);
+L=o+n;
+if(r8(c+16)==K){
+M=umax64(K,8);
+if(M>0xfffffffffffffffeu-I){
+N=1;
+O=4;
+goto L6;}
+P=M+K;
+if(P>=0x333333333333334u){
+N=1;
+O=4;
+goto L6;}
+if(K==0){
+Q=port_rattle_alloc(P*40,4);
+if(!(u8)(Q.f0&1)){
+N=1;
+O=4;
+goto L6;}
+R=Q;}
+else{
+S=port_rattle_realloc(rp(c),K*40,P*40,4);
+if(!(u8)(S.f0&1)){
+N=1;
+O=4;
+goto L6;}
+R=S;}
+T=(u8*)R.f1;
+wp(c,T);
+w8(c+16,P);
+U=T;
+V=r8(c+8);}
+else{
+U=rp(c);
+V=K;}
+W=U+V*40;
+*W=1;
+W[1]=d;
+x4(W+4,L);
+z32(W+8);
+w8(c+8,V+1);
+N=0;
+O=0;
+L6:*a=N;
+x4(a+4,O);
+y=0;}
+else{
+X=r4(h+8);
+*a=1;
+x4(a+4,o&255);
+y=X;}}
+else{
+Y=r4(i+8);
+*a=1;
+x4(a+4,n&255);
+y=Y;}
+L3:x4(a+8,y);
+return;
+}
+
+/* cpp_parts::kinds::kind_of */
+static u8 kind_of_a3d(u8* a)
+{
+A16 u8 b[64],c[24],d[24],e[64],f[64],g[24],h[24],i[64],j[64],k[24],l[24],m[64],n[64],o[24],p[24],q[64],r[64],s[24],t[24],u[64],v[64],w[24],x[24],y[64],z[64],A[24],B[24],C[64],D[64],E[24],F[24],G[64],H[64],I[24],J[24],K[64],L[64],M[24],N[24],O[64];
+u8 *P,*Q,*U,*V,*Y,*Z,*ba,*fa,*ga,*ka,*la,*oa,*pa,*sa,*ta,*Aa,*Ba,*Ea,*Fa,*La,*Ma,*Oa,*Sa,*Ta,*Wa,*Xa,*ab,*bb,*eb,*fb;
+u8 R,S,W,aa,ca,da,ha,ma,qa,ua,Ca,Ga,Ia,Ja,Na,Pa,Qa,Ua,Ya,cb,gb;
+u32 T,X,ea,ja,na,ra,ya,za,Da,Ka,Ra,Va,Za,db;
+u64 ia,wa,xa;
+u16 va,Ha,hb;
+P=rp(a+24);
+Q=P+(i64)((u64)r4(a+72)*48);
+R=*Q;
+memcpy(N+1,Q+1,3);
+memcpy(N+4,Q+4,20);
+*N=R;
+z64(O);
+S=R==47;
+if(S){
+T=r4(N+4);
+z64(L);
+U=P+(i64)((u64)T*48);
+V=P+(i64)((u64)(*U==47?q4(U+4):T)*48);
+W=*V;
+memcpy(M+1,V+1,3);
+memcpy(M+4,V+4,20);
+*M=W;
+view_of_own_62c(L,a+24,M);
+memcpy(O,L,64);}
+else view_of_own_62c(O,a+24,N);
+if(r2(O)==3){
+memcpy(p+1,Q+1,3);
+memcpy(p+4,Q+4,20);
+*p=R;
+z64(q);
+if(S){
+X=r4(p+4);
+z64(n);
+Y=P+(i64)((u64)X*48);
+Z=P+(i64)((u64)(*Y==47?q4(Y+4):X)*48);
+aa=*Z;
+memcpy(o+1,Z+1,3);
+memcpy(o+4,Z+4,20);
+*o=aa;
+view_of_own_62c(n,a+24,o);
+memcpy(q,n,64);}
+else view_of_own_62c(q,a+24,p);
+ba=P+(i64)((u64)r4(q+48)*48);
+ca=*ba;
+memcpy(J+1,ba+1,3);
+memcpy(J+4,ba+4,20);
+*J=ca;
+z64(K);
+da=ca==47;
+if(da){
+ea=r4(J+4);
+z64(H);
+fa=P+(i64)((u64)ea*48);
+ga=P+(i64)((u64)(*fa==47?q4(fa+4):ea)*48);
+ha=*ga;
+memcpy(I+1,ga+1,3);
+memcpy(I+4,ga+4,20);
+*I=ha;
+view_of_own_62c(H,a+24,I);
+memcpy(K,H,64);}
+else view_of_own_62c(K,a+24,J);
+ia=r8(K+8);
+switch(r2(K)){
+case 4:memcpy(l+1,ba+1,3);
+memcpy(l+4,ba+4,20);
+*l=ca;
+z64(m);
+if(da){
+ja=r4(l+4);
+z64(j);
+ka=P+(i64)((u64)ja*48);
+la=P+(i64)((u64)(*ka==47?q4(ka+4):ja)*48);
+ma=*la;
+memcpy(k+1,la+1,3);
+memcpy(k+4,la+4,20);
+*k=ma;
+view_of_own_62c(j,a+24,k);
+memcpy(m,j,64);}
+else view_of_own_62c(m,a+24,l);
+na=own_node_089(a,r4(m+48));
+oa=rp(a+24);
+pa=oa+(i64)((u64)na*48);
+qa=*pa;
+memcpy(F+1,pa+1,3);
+memcpy(F+4,pa+4,20);
+*F=qa;
+z64(G);
+if(qa==47){
+ra=r4(F+4);
+z64(D);
+sa=oa+(i64)((u64)ra*48);
+ta=oa+(i64)((u64)(*sa==47?q4(sa+4):ra)*48);
+ua=*ta;
+memcpy(E+1,ta+1,3);
+memcpy(E+4,ta+4,20);
+*E=ua;
+view_of_own_62c(D,a+24,E);
+memcpy(G,D,64);}
+else view_of_own_62c(G,a+24,F);
+va=r2(G);
+switch(va){
+case 55:wa=r8(G+8);
+xa=r8(G+16);
+ya=part_74e(a,na,0);
+za=own_node_089(a,ya);
+Aa=rp(a+24);
+Ba=Aa+(i64)((u64)za*48);
+Ca=*Ba;
+memcpy(B+1,Ba+1,3);
+memcpy(B+4,Ba+4,20);
+*B=Ca;
+z64(C);
+if(Ca==47){
+Da=r4(B+4);
+z64(z);
+Ea=Aa+(i64)((u64)Da*48);
+Fa=Aa+(i64)((u64)(*Ea==47?q4(Ea+4):Da)*48);
+Ga=*Fa;
+memcpy(A+1,Fa+1,3);
+memcpy(A+4,Fa+4,20);
+*A=Ga;
+view_of_own_62c(z,a+24,A);
+memcpy(C,z,64);}
+else view_of_own_62c(C,a+24,B);
+Ha=r2(C);
+switch(Ha){
+case 59:case 50:case 41:Ia=1;
+break;
+default:Ia=(u16)(Ha-74)<3;
+break;}
+Ja=(((wa==99)&(xa==108))&Ia)?6:3;
+break;
+case 57:case 48:case 39:Ja=1;
+break;
+default:if((u16)(va-79)<3)Ja=1;
+else{
+switch(va){
+case 58:case 49:case 40:Ja=2;
+break;
+case 46:case 37:Ja=3;
+break;
+case 56:case 47:case 38:Ja=5;
+break;
+default:Ja=(u16)(va-69)<3?4:0;
+break;}}
+break;}
+break;
+case 5:memcpy(h+1,ba+1,3);
+memcpy(h+4,ba+4,20);
+*h=ca;
+z64(i);
+if(da){
+Ka=r4(h+4);
+z64(f);
+La=P+(i64)((u64)Ka*48);
+Ma=P+(i64)((u64)(*La==47?q4(La+4):Ka)*48);
+Na=*Ma;
+memcpy(g+1,Ma+1,3);
+memcpy(g+4,Ma+4,20);
+*g=Na;
+view_of_own_62c(f,a+24,g);
+memcpy(i,f,64);}
+else view_of_own_62c(i,a+24,h);
+Oa=P+(i64)((u64)r4(i+48)*48);
+Pa=*Oa;
+memcpy(x+1,Oa+1,3);
+memcpy(x+4,Oa+4,20);
+*x=Pa;
+z64(y);
+Qa=Pa==47;
+if(Qa){
+Ra=r4(x+4);
+z64(v);
+Sa=P+(i64)((u64)Ra*48);
+Ta=P+(i64)((u64)(*Sa==47?q4(Sa+4):Ra)*48);
+Ua=*Ta;
+memcpy(w+1,Ta+1,3);
+memcpy(w+4,Ta+4,20);
+*w=Ua;
+view_of_own_62c(v,a+24,w);
+memcpy(y,v,64);}
+else view_of_own_62c(y,a+24,x);
+if((u16)(r2(y)-13)<2){
+memcpy(d+1,Oa+1,3);
+memcpy(d+4,Oa+4,20);
+*d=Pa;
+z64(e);
+if(Qa){
+Va=r4(d+4);
+z64(b);
+Wa=P+(i64)((u64)Va*48);
+Xa=P+(i64)((u64)(*Wa==47?q4(Wa+4):Va)*48);
+Ya=*Xa;
+memcpy(c+1,Xa+1,3);
+memcpy(c+4,Xa+4,20);
+*c=Ya;
+view_of_own_62c(b,a+24,c);
+memcpy(e,b,64);}
+else view_of_own_62c(e,a+24,d);
+Za=own_node_089(a,r4(e+52));
+ab=rp(a+24);
+bb=ab+(i64)((u64)Za*48);
+cb=*bb;
+memcpy(t+1,bb+1,3);
+memcpy(t+4,bb+4,20);
+*t=cb;
+z64(u);
+if(cb==47){
+db=r4(t+4);
+z64(r);
+eb=ab+(i64)((u64)db*48);
+fb=ab+(i64)((u64)(*eb==47?q4(eb+4):db)*48);
+gb=*fb;
+memcpy(s+1,fb+1,3);
+memcpy(s+4,fb+4,20);
+*s=gb;
+view_of_own_62c(r,a+24,s);
+memcpy(u,r,64);}
+else view_of_own_62c(u,a+24,t);
+hb=r2(u);
+Ja=((hb==61)|((hb==43)|(hb==52)))?9:8;}
+else Ja=7;
+break;
+case 6:switch(ia){
+case 86:Ja=10;
+break;
+case 84:Ja=11;
+break;
+case 73:Ja=12;
+break;
+case 83:Ja=13;
+break;
+case 65:Ja=21;
+break;
+default:Ja=0;
+break;}
+break;
+case 7:Ja=15;
+break;
+case 64:switch(ia){
+case 86:Ja=15;
+break;
+case 72:Ja=19;
+break;
+case 87:Ja=20;
+break;
+default:Ja=22;
+break;}
+break;
+case 8:Ja=16;
+break;
+case 9:Ja=17;
+break;
+case 10:case 11:Ja=18;
+break;
+case 65:Ja=14;
+break;
+case 72:Ja=23;
+break;
+default:Ja=7;
+break;}}
+else Ja=7;
+return Ja;
+}
+
+/* cpp_parts::kinds::own_node */
+static u32 own_node_089(u8* a,u32 b)
+{
+A16 u8 c[64],d[24],e[24],f[64],g[64],h[64],i[24],j[24],k[64];
+u8 *l,*n,*r,*s,*w,*x;
+u32 m,q,v;
+u8 o,p,t,y;
+u64 u;
+l=rp(a+24);
+m=b;
+L1:n=l+(i64)((u64)m*48);
+o=*n;
+memcpy(j+1,n+1,3);
+memcpy(j+4,n+4,20);
+*j=o;
+z64(k);
+p=o==47;
+if(p){
+q=r4(j+4);
+z64(h);
+r=l+(i64)((u64)q*48);
+s=l+(i64)((u64)(*r==47?q4(r+4):q)*48);
+t=*s;
+memcpy(i+1,s+1,3);
+memcpy(i+4,s+4,20);
+*i=t;
+view_of_own_62c(h,a+24,i);
+memcpy(k,h,64);}
+else view_of_own_62c(k,a+24,j);
+switch(r2(k)){
+case 13:case 14:u=4;
+break;
+case 12:case 68:case 73:case 66:u=0;
+break;
+default:return m;
+}
+memcpy(e+1,n+1,3);
+memcpy(e+4,n+4,20);
+*e=o;
+z64(f);
+if(p){
+v=r4(e+4);
+z64(c);
+w=l+(i64)((u64)v*48);
+x=l+(i64)((u64)(*w==47?q4(w+4):v)*48);
+y=*x;
+memcpy(d+1,x+1,3);
+memcpy(d+4,x+4,20);
+*d=y;
+view_of_own_62c(c,a+24,d);
+memcpy(f,c,64);}
+else view_of_own_62c(f,a+24,e);
+memcpy(g,f,64);
+m=r4(g+48+u);
+goto L1;
+}
+
+/* symbol_parts::reading::parse_as */
+static void parse_as_add(u8* a,u8* b,u64 c,u32 d,u8 e)
+{
+u8 k[39],y[39],D[39],ba[39],Ka[7];
+A16 u8 f[64],g[64],h[64],i[12],j[12],l[40],m[12],n[12],o[12],p[32],q[328],r[12],s[32],t[328],u[12],v[12],w[12],x[12],z[40],A[12],B[12],C[12],E[40],F[12],G[48],H[12],I[12],J[12],K[12],L[12],M[12],N[32],O[328],P[328],Q[64],R[12],S[12],T[12],U[12],V[12],W[48],X[12],Y[32],Z[24],aa[12],ca[40],da[328],ea[328],fa[16],ga[16],ha[176],ia[16],ja[16],ka[12],la[20],ma[12],na[16],oa[72],pa[16],qa[48],ra[72],sa[12],ta[248],ua[16],va[72],wa[16],xa[48],ya[16],za[72],Aa[16],Ba[48],Ca[20],Da[12],Ea[72],Fa[20],Ga[16],Ha[24],Ia[88],Ja[20];
+u64 La,Na,Oa,Qa,Ra,Ta,Va,Wa,ab,bb,cb,db,fb,gb,ib,jb,ob,qb,tb,ub,vb,xb,yb,Ab,Bb,Eb,Jb,Kb,Mb,Rb,Sb,Ub,Vb,Xb,Yb,bc,ec,hc,ic,jc,oc,pc,tc,vc,xc,zc,Bc,Cc,Dc,Fc,Hc,Kc,Nc,Pc,Sc,Tc,ed,fd,ld,nd,ud,xd,yd,zd,Bd,Cd,Ed,Gd,Kd,Ld,Od,Rd,ae,fe,je,ke,oe,pe,ue,ve,xe,ze,Ae,Be,He,Je,Ke,Le,Re,Ve,Ze,af,mf,nf,of,uf,xf,yf,zf,Ff,Lf,Mf,Qf,Rf,Wf,Xf,Zf,bg,eg,fg,mg,og,rg,tg,xg,zg,Bg,Gg,Ig,Kg,Mg,Ug;
+u8 *Ma,*Pa,*Ua,*Xa,*eb,*hb,*kb,*nb,*pb,*wb,*zb,*Cb,*Hb,*Ib,*Lb,*Nb,*Qb,*Tb,*Wb,*fc,*kc,*qc,*uc,*wc,*yc,*Ac,*Ec,*Ic,*Jc,*Qc,*Rc,*Wc,*Xc,*Yc,*jd,*kd,*md,*qd,*td,*vd,*Dd,*Fd,*Hd,*Md,*Ud,*Xd,*Zd,*be,*te,*we,*ye,*Fe,*Ge,*Ie,*Pe,*Qe,*Se,*Ye,*sf,*tf,*vf,*Df,*Ef,*Gf,*Vf,*Yf,*ag,*dg,*lg,*ng,*pg,*qg,*sg,*wg,*yg,*Ag,*Eg,*Fg,*Hg,*Jg,*Lg,*Tg;
+u8 Sa,Ya,Za,mb,Db,Fb,dc,gc,sc,Lc,Uc,od,sd,Nd,Pd,Vd,Yd,ge,he,le,me,gf,hf,Hf,If,Nf,Of,kg,vg,Cg,Ng,Qg,Rg;
+u32 lb,rb,sb,Gb,Ob,Pb,Zb,ac,lc,mc,nc,rc,Mc,Vc,Zc,ad,bd,cd,dd,pd,Ad,Id,Jd,Qd,ce,ee,ie,ne,Te,Ue,We,Xe,bf,cf,df,ef,ff,jf,kf,lf,wf,Jf,Pf,cg,gg,hg,jg,ug,Dg,Og,Pg,Sg;
+s_64_64 cc,Gc,Oc,gd,hd,id,Sd,Td,Wd,qe,re,se,Ce,De,Ee,Me,Ne,Oe,pf,qf,rf,Af,Bf,Cf,Sf,Tf,Uf;
+s_8_32 de,Kf,ig;
+z88(Ia);
+z20(Ja);
+z7(Ka);
+z20(Fa);
+wp(Ea+8,(u8*)65536);
+w8(Ea+24,0);
+wp(Ea+32,(u8*)65536);
+z24(Ea+48);
+z12(Da);
+w4(Ea,0);
+w4(Ea+4,0);
+w8(Ea+16,0);
+w8(Ea+40,0);
+w8(Ea+56,0);
+w4(Ea+64,0);
+run_48d(Da,Ea,b,c,1);
+if(*Da==0){
+La=r8(Ea);
+Ma=rp(Ea+8);
+Na=r8(Ea+16);
+Oa=r8(Ea+24);
+Pa=rp(Ea+32);
+Qa=r8(Ea+40);
+Ra=r8(Ea+48);
+memcpy(Ga,Ea+56,16);
+wp(Ha,(u8*)65536);
+z16(Ha+8);
+Sa=grow_amortized_2b6(Ha,c);
+Ta=r8(Ha+16);
+if(Sa){
+Ua=rp(Ha);
+Va=r8(Ha+8);
+Wa=Va+c;
+Xa=Ua+(i64)Va;
+if((u64)Xa-(u64)b<c)copy_bits_4f4(b,Xa,c);
+else memmove(Xa,b,c);
+w8(Ha+8,Wa);
+zero_all(ta,248);
+z16(ua);
+z72(va);
+z16(wa);
+z48(xa);
+z20(Ca);
+z12(sa);
+wp(ra,(u8*)65536);
+z16(ra+8);
+wp(ra+24,(u8*)65536);
+z16(ra+32);
+wp(ra+48,(u8*)65536);
+z16(ra+56);
+restart_c41(sa,ra,Wa);
+Ya=*sa==0;
+if(Ya){
+memcpy(ya,Ga,16);
+memcpy(za,ra,72);
+z16(Aa);
+z48(Ba);
+Za=0;
+ab=(u64)Ua;
+bb=Wa;
+cb=Ta;
+db=La;
+eb=Ma;
+fb=Na;
+gb=Oa;
+hb=Pa;
+ib=Qa;
+jb=Ra;
+kb=(u8*)65536;}
+else{
+lb=r4(sa+8);
+mb=sa[4];
+nb=rp(ra+24);
+ob=r8(ra+40);
+pb=rp(ra+48);
+qb=r8(ra+64);
+if(r8(ra+16)!=0)port_rattle_dealloc(rp(ra));
+if(ob!=0)port_rattle_dealloc(nb);
+if(qb!=0)port_rattle_dealloc(pb);
+if(Oa!=0)port_rattle_dealloc(Ma);
+if(Ra!=0)port_rattle_dealloc(Pa);
+if(Ta!=0)port_rattle_dealloc(Ua);
+z16(ya);
+z72(za);
+z16(Aa);
+z48(Ba);
+Za=mb;
+ab=lb;
+bb=0;
+cb=0;
+db=0;
+eb=0;
+fb=0;
+gb=0;
+hb=0;
+ib=0;
+jb=0;
+kb=0;}
+rb=ab;
+z16(na);
+z72(oa);
+z16(pa);
+z48(qa);
+if(Ya){
+memcpy(na,ya,16);
+memcpy(oa,za,72);
+memcpy(pa,Aa,16);
+memcpy(qa,Ba,48);
+sb=ab>>32;
+tb=bb;
+ub=cb;
+vb=db;
+wb=eb;
+xb=fb;
+yb=gb;
+zb=hb;
+Ab=ib;
+Bb=jb;
+Cb=kb;
+Db=0;}
+else{
+sb=0;
+tb=0;
+ub=0;
+vb=0;
+wb=0;
+xb=0;
+yb=0;
+zb=0;
+Ab=0;
+Bb=0;
+Cb=0;
+Db=Za;}
+memcpy(ua,na,16);
+memcpy(va,oa,72);
+memcpy(wa,pa,16);
+memcpy(xa,qa,48);
+if(Ya){
+w4(ta,rb);
+w4(ta+4,sb);
+w8(ta+8,tb);
+w8(ta+16,ub);
+w8(ta+24,vb);
+wp(ta+32,wb);
+w8(ta+40,xb);
+w8(ta+48,yb);
+wp(ta+56,zb);
+w8(ta+64,Ab);
+w8(ta+72,Bb);
+memcpy(ta+80,ua,16);
+memcpy(ta+96,va,72);
+wp(ta+168,Cb);
+memcpy(ta+176,wa,16);
+wp(ta+192,Cb);
+memcpy(ta+200,xa,48);
+z12(ma);
+if(ta[224]!=1){
+if(ta[240]&1){
+Hb=Cb;
+Ib=Cb;
+Jb=Bb;
+Kb=Ab;
+Lb=zb;
+Mb=yb;
+Nb=wb;
+Ob=rb;}
+else{
+run_005(ma,ta+168,ta+96,rp(ta),tb,zb);
+if(*ma!=0){
+Eb=r8(ta+16);
+Fb=ma[4];
+Gb=r4(ma+8);
+goto L1;}
+ta[240]=1;
+Hb=rp(ta+192);
+Ib=rp(ta+168);
+Jb=r8(ta+72);
+Kb=r8(ta+64);
+Lb=rp(ta+56);
+Mb=r8(ta+48);
+Nb=rp(ta+32);
+Ob=r4(ta);}
+if(r8(ta+200)==1){
+if(*Hb==21){
+Pb=r4(ta+88);
+Qb=rp(ta+96);
+Rb=r8(ta+104);
+Sb=r8(ta+112);
+Tb=rp(ta+120);
+Ub=r8(ta+128);
+Vb=r8(ta+136);
+Wb=rp(ta+144);
+Xb=r8(ta+160);
+Yb=r8(ta+208);
+Zb=r4(ta+220);
+ac=r4(Hb+4);
+bc=r8(ta+184);
+memcpy(la,ta+4,20);
+if(bc!=0)port_rattle_dealloc(Ib);
+if(Yb!=0)port_rattle_dealloc(Hb);
+if(Xb!=0)port_rattle_dealloc(Wb);
+if(Mb!=0)port_rattle_dealloc(Nb);
+if(Jb!=0)port_rattle_dealloc(Lb);
+memcpy(Ca,la,20);
+memcpy(Fa,Ca,20);
+memcpy(Ja,Fa,20);
+w4(Ia,Ob);
+memcpy(Ia+4,Ja,20);
+wp(Ia+24,Qb);
+w8(Ia+32,Rb);
+w8(Ia+40,Sb);
+wp(Ia+48,Tb);
+w8(Ia+56,Ub);
+w8(Ia+64,Vb);
+w4(Ia+72,ac);
+w4(Ia+76,Kb);
+w4(Ia+80,Zb+Pb);
+w4(Ia+84,0);
+zero_all(ha,176);
+z16(ia);
+z16(ja);
+z12(ka);
+cc=port_rattle_alloc(320,8);
+dc=cc.f0&1;
+if(dc){
+ec=cc.f1;
+fc=(u8*)ec;
+x8(fc,0);
+x4(fc+8,ac);
+z20(fc+12);
+fc[32]=e;
+z7(fc+33);
+gc=0;
+hc=ec;
+ic=1;
+jc=8;
+kc=(u8*)65536;
+lc=d;}
+else{
+gc=4;
+hc=0;
+ic=0;
+jc=0;
+kc=0;
+lc=0;}
+mc=hc;
+z16(fa);
+z16(ga);
+if(dc){
+nc=hc>>32;
+oc=ic;
+pc=jc;
+qc=kc;
+rc=lc;
+sc=0;}
+else{
+nc=0;
+oc=0;
+pc=0;
+qc=0;
+rc=0;
+sc=gc;}
+memcpy(ia,fa,16);
+memcpy(ja,ga,16);
+if(dc){
+w4(ha,mc);
+w4(ha+4,nc);
+w8(ha+8,oc);
+w8(ha+16,pc);
+wp(ha+24,qc);
+z16(ha+32);
+wp(ha+48,qc);
+memcpy(ha+56,ia,16);
+wp(ha+72,qc);
+z16(ha+80);
+wp(ha+96,qc);
+memcpy(ha+104,ja,16);
+wp(ha+120,qc);
+z20(ha+128);
+w4(ha+148,rc);
+z24(ha+152);
+run_f48(ka,ha,Ia);
+if(*ka==0){
+tc=r8(ha+24);
+uc=rp(ha+48);
+vc=r8(ha+64);
+wc=rp(ha+72);
+xc=r8(ha+88);
+yc=rp(ha+96);
+zc=r8(ha+112);
+Ac=rp(ha+120);
+Bc=r8(ha+136);
+Cc=r8(ha+32);
+Dc=r8(ha+40);
+if(r8(ha+16)!=0)port_rattle_dealloc(rp(ha));
+if(vc!=0)port_rattle_dealloc(uc);
+if(xc!=0)port_rattle_dealloc(wc);
+if(zc!=0)port_rattle_dealloc(yc);
+if(Bc!=0)port_rattle_dealloc(Ac);
+Ec=(u8*)tc;
+z24(Z);
+z12(aa);
+z7(ba);
+zero_all(da,328);
+w4(Y,ac);
+z20(Y+4);
+Y[24]=e;
+z7(Y+25);
+memcpy(ba+7,Y,32);
+*ca=0;
+memcpy(ca+1,ba,39);
+length_of_part_5fe(aa,Ia,ca,d);
+if(*aa==0){
+wp(Z,(u8*)65536);
+z16(Z+8);
+parts_4fe(da,Ia,Y);
+memcpy(ea,da,328);
+Fc=r8(ea+320);
+z12(X);
+if(Fc!=0){
+if(*ea!=0){
+push_plain_fc3(X,Ia,Z,da,Fc,d);
+if(*X==0){
+nd=r8(Z+8);
+goto L2;}
+od=X[4];
+pd=r4(X+8);
+goto L3;}
+Nc=Fc-1;
+z12(T);
+z12(U);
+z12(V);
+z48(W);
+if(Nc!=0){
+if(ea[40]==0){
+push_plain_fc3(T,Ia,Z,ea+40,Nc,d);
+Wc=T+4;
+Xc=T+8;
+Yc=T;}
+else{
+if(Nc==1){
+push_plain_fc3(U,Ia,Z,ea+40,1,d);
+Wc=U+4;
+Xc=U+8;
+Yc=U;}
+else{
+if(ea[80]!=0){
+z12(S);
+length_of_part_5fe(S,Ia,ea+40,d);
+Zc=r4(S+4);
+if(*S==0){
+z12(R);
+length_of_part_5fe(R,Ia,ea+80,d);
+ad=r4(R+4);
+if(*R==0){
+push_plain_fc3(V,Ia,Z,ea+120,Fc-3,d);
+if(*V==0){
+push_alone_829(V,Z,11,ad);
+if(*V==0){
+*W=0;
+w4(W+4,Zc);
+push_634(U,Z,W);
+Wc=U+4;
+Xc=U+8;
+Yc=U;
+goto L4;}
+bd=V[4];
+cd=r4(V+8);}
+else{
+bd=V[4];
+cd=r4(V+8);}}
+else{
+bd=ad;
+cd=r4(R+8);}}
+else{
+bd=Zc;
+cd=r4(S+8);}
+Uc=bd;
+Vc=cd;
+goto L5;}
+push_plain_fc3(U,Ia,Z,ea+40,Nc,d);
+Wc=U+4;
+Xc=U+8;
+Yc=U;}}
+L4:if(*Yc==0){
+Tc=r8(Z+8);
+goto L6;}
+Lc=*Wc;
+Mc=r4(Xc);
+goto L7;}
+Oc=port_rattle_alloc(384,8);
+if((u8)(Oc.f0&1)){
+Pc=r8(Z+8);
+Qc=(u8*)Oc.f1;
+wp(Z,Qc);
+w8(Z+16,8);
+Rc=Qc+Pc*48;
+*Rc=0;
+Rc[1]=0;
+Sc=Pc+1;
+z44(Rc+4);
+w8(Z+8,Sc);
+Tc=Sc;
+goto L6;}
+Uc=4;
+Vc=0;
+L5:Lc=Uc;
+Mc=Vc;
+goto L7;
+L6:z64(Q);
+view_at_138(Q,Ia,ac);
+dd=r4(Q+48);
+if(r8(Z+16)==Tc){
+ed=umax64(Tc,8);
+if(ed>(Tc^18446744073709551615u)){
+Lc=4;
+Mc=0;
+goto L7;}
+fd=ed+Tc;
+if(fd>=0x2aaaaaaaaaaaaabu){
+Lc=4;
+Mc=0;
+goto L7;}
+if(Tc==0){
+gd=port_rattle_alloc(fd*48,8);
+if(!(u8)(gd.f0&1)){
+Lc=4;
+Mc=0;
+goto L7;}
+hd=gd;}
+else{
+id=port_rattle_realloc(rp(Z),Tc*48,fd*48,8);
+if(!(u8)(id.f0&1)){
+Lc=4;
+Mc=0;
+goto L7;}
+hd=id;}
+jd=(u8*)hd.f1;
+wp(Z,jd);
+w8(Z+16,fd);
+kd=jd;
+ld=r8(Z+8);}
+else{
+kd=rp(Z);
+ld=Tc;}
+md=kd+ld*48;
+*md=2;
+md[1]=0;
+x4(md+4,0);
+x4(md+8,0);
+x4(md+12,dd);
+memcpy(md+16,ea+8,32);
+Kc=ld;
+goto L8;}
+Gc=port_rattle_alloc(384,8);
+if((u8)(Gc.f0&1)){
+Hc=r8(Z+8);
+Ic=(u8*)Gc.f1;
+wp(Z,Ic);
+w8(Z+16,8);
+Jc=Ic+Hc*48;
+*Jc=0;
+Jc[1]=0;
+z44(Jc+4);
+Kc=Hc;
+goto L8;}
+Lc=4;
+Mc=0;
+L7:od=Lc;
+pd=Mc;
+L3:qd=(u8*)(u64)pd;
+if(r8(Z+16)==0){
+sd=od;
+td=qd;
+goto L9;}
+port_rattle_dealloc(rp(Z));
+sd=od;
+td=qd;
+goto L9;
+L8:ud=Kc+1;
+w8(Z+8,ud);
+nd=ud;
+L2:if(nd==0){
+vd=(u8*)65536;
+xd=0;
+yd=0;}
+else{
+zd=nd;
+Ad=0;
+Bd=0;
+Cd=0;
+Dd=(u8*)65536;
+L10:Ed=zd-1;
+w8(Z+8,Ed);
+Fd=rp(Z);
+Gd=Ed*48;
+Hd=Fd+Gd;
+Id=q4(Hd+4);
+switch(*Hd){
+case 0:Jd=Id+Ad;
+Kd=Bd;
+Ld=Cd;
+Md=Dd;
+goto L11;
+case 1:Nd=Hd[1];
+if(Bd==Cd){
+Od=umax64(Bd,8);
+if(Od>(Bd^18446744073709551615u)){
+Pd=4;
+Qd=0;
+break;}
+Rd=Od+Bd;
+if(Rd>=0xaaaaaaaaaaaaaabu){
+Pd=4;
+Qd=0;
+break;}
+if(Bd==0){
+Sd=port_rattle_alloc(Rd*12,4);
+if(!(u8)(Sd.f0&1)){
+Ud=0;
+Vd=4;
+goto L12;}
+Td=Sd;}
+else{
+Wd=port_rattle_realloc(Dd,Bd*12,Rd*12,4);
+if(!(u8)(Wd.f0&1)){
+Xd=0;
+Yd=4;
+goto L13;}
+Td=Wd;}
+Zd=(u8*)Td.f1;
+ae=Rd;}
+else{
+Zd=Dd;
+ae=Bd;}
+be=Zd+Cd*12;
+*be=Nd;
+z3(be+1);
+x4(be+4,Ad);
+x4(be+8,Id);
+Jd=Ad;
+Kd=ae;
+Ld=Cd+1;
+Md=Zd;
+goto L11;
+case 2:ce=q4(Hd+12);
+switch(Hd[8]){
+case 0:memcpy(N,Hd+16,32);
+zero_all(P,328);
+parts_4fe(P,Ia,N);
+memcpy(O,P,328);
+de=path_sort_162(Ia,ce);
+ee=de.f1;
+fe=r8(O+320);
+z12(J);
+z12(K);
+z12(L);
+z12(M);
+switch(de.f0){
+case 0:push_scope_91a(J,Ia,Z,0,ee,P,fe,d);
+ge=*J;
+he=J[4];
+ie=r4(J+8);
+break;
+case 3:z12(I);
+push_implementation_f83(I,Ia,Z,P,fe,d);
+ge=*I;
+he=I[4];
+ie=r4(I+8);
+break;
+case 1:if(fe==0){
+z12(u);
+push_implementation_f83(u,Ia,Z,P,0,d);
+ge=*u;
+he=u[4];
+ie=r4(u+8);}
+else{
+if(*O==0){
+je=fe-1;
+z12(H);
+if(je==0){
+if(r8(Z+16)==Ed){
+ke=umax64(Ed,8);
+if(ke>0-zd){
+le=4;
+me=1;
+ne=0;
+goto L14;}
+oe=ke+Ed;
+if(oe>=0x2aaaaaaaaaaaaabu){
+le=4;
+me=1;
+ne=0;
+goto L14;}
+pe=oe*48;
+if(Ed==0){
+qe=port_rattle_alloc(pe,8);
+if(!(u8)(qe.f0&1)){
+le=4;
+me=1;
+ne=0;
+goto L14;}
+re=qe;}
+else{
+se=port_rattle_realloc(Fd,Gd,pe,8);
+if(!(u8)(se.f0&1)){
+le=4;
+me=1;
+ne=0;
+goto L14;}
+re=se;}
+te=(u8*)re.f1;
+wp(Z,te);
+w8(Z+16,oe);
+ue=r8(Z+8);
+ve=ue*48;
+we=te;
+xe=ue;}
+else{
+ve=Gd;
+we=Fd;
+xe=Ed;}
+ye=we+ve;
+*ye=0;
+ye[1]=0;
+ze=xe+1;
+z44(ye+4);
+w8(Z+8,ze);
+if(r8(Z+16)==ze){
+Ae=umax64(ze,8);
+if(Ae>0xfffffffffffffffeu-xe){
+le=4;
+me=1;
+ne=0;
+goto L14;}
+Be=Ae+ze;
+if(Be>=0x2aaaaaaaaaaaaabu){
+le=4;
+me=1;
+ne=0;
+goto L14;}
+if(ze==0){
+Ce=port_rattle_alloc(Be*48,8);
+if(!(u8)(Ce.f0&1)){
+le=4;
+me=1;
+ne=0;
+goto L14;}
+De=Ce;}
+else{
+Ee=port_rattle_realloc(rp(Z),ze*48,Be*48,8);
+if(!(u8)(Ee.f0&1)){
+le=4;
+me=1;
+ne=0;
+goto L14;}
+De=Ee;}
+Fe=(u8*)De.f1;
+wp(Z,Fe);
+w8(Z+16,Be);
+Ge=Fe;
+He=r8(Z+8);}
+else{
+Ge=rp(Z);
+He=ze;}
+Ie=Ge+He*48;
+*Ie=2;
+Ie[1]=0;
+x4(Ie+4,0);
+x4(Ie+8,0);
+x4(Ie+12,ee);
+memcpy(Ie+16,P+8,32);
+w8(Z+8,He+1);
+le=0;
+me=0;
+ne=0;}
+else{
+if(O[40]==0){
+push_plain_fc3(H,Ia,Z,O+40,je,d);
+if(*H==0){
+Je=r8(Z+8);
+if(r8(Z+16)==Je){
+Ke=umax64(Je,8);
+if(Ke>(Je^18446744073709551615u)){
+le=4;
+me=1;
+ne=0;
+goto L14;}
+Le=Ke+Je;
+if(Le>=0x2aaaaaaaaaaaaabu){
+le=4;
+me=1;
+ne=0;
+goto L14;}
+if(Je==0){
+Me=port_rattle_alloc(Le*48,8);
+if(!(u8)(Me.f0&1)){
+le=4;
+me=1;
+ne=0;
+goto L14;}
+Ne=Me;}
+else{
+Oe=port_rattle_realloc(rp(Z),Je*48,Le*48,8);
+if(!(u8)(Oe.f0&1)){
+le=4;
+me=1;
+ne=0;
+goto L14;}
+Ne=Oe;}
+Pe=(u8*)Ne.f1;
+wp(Z,Pe);
+w8(Z+16,Le);
+Qe=Pe;
+Re=r8(Z+8);}
+else{
+Qe=rp(Z);
+Re=Je;}
+Se=Qe+Re*48;
+*Se=2;
+Se[1]=0;
+x4(Se+4,0);
+x4(Se+8,0);
+x4(Se+12,ee);
+memcpy(Se+16,P+8,32);
+w8(Z+8,Re+1);
+le=0;
+me=0;
+ne=0;}
+else{
+le=H[4];
+me=1;
+ne=r4(H+8);}}
+else{
+z12(C);
+z7(D);
+z12(F);
+z48(G);
+memcpy(D+7,P+8,32);
+*E=0;
+memcpy(E+1,D,39);
+z12(B);
+length_of_part_5fe(B,Ia,E,d);
+Te=r4(B+4);
+if(*B==0){
+z12(A);
+length_of_part_5fe(A,Ia,O+40,d);
+Ue=r4(A+4);
+if(*A==0){
+Ve=fe-2;
+z39(y);
+z40(z);
+if(Ve==0){
+We=0;
+goto L15;}
+Xe=0;
+Ye=O+40;
+Ze=Ve;
+L16:af=Ze-1;
+if(Ye[40]==0){
+memcpy(y+7,Ye+48,32);
+*z=0;
+memcpy(z+1,y,39);
+z12(w);
+length_of_part_5fe(w,Ia,z,d);
+bf=r4(w+4);
+if(*w==0){
+cf=bf;
+goto L17;}
+df=bf;
+ef=r4(w+8);}
+else{
+z12(x);
+length_of_part_5fe(x,Ia,Ye+40,d);
+ff=r4(x+4);
+if(*x==0){
+cf=ff;
+goto L17;}
+df=ff;
+ef=r4(x+8);}
+gf=1;
+hf=df;
+jf=ef;
+goto L18;
+L17:kf=cf+Xe;
+if(af!=0){
+Xe=kf;
+Ye=Ye+40;
+Ze=af;
+goto L16;}
+We=kf;
+L15:lf=umin32(Ue,2);
+mf=r8(Z+8);
+if(r8(Z+16)==mf){
+nf=umax64(mf,8);
+if(nf>(mf^18446744073709551615u)){
+gf=1;
+hf=4;
+jf=0;
+goto L18;}
+of=nf+mf;
+if(of>=0x2aaaaaaaaaaaaabu){
+gf=1;
+hf=4;
+jf=0;
+goto L18;}
+if(mf==0){
+pf=port_rattle_alloc(of*48,8);
+if(!(u8)(pf.f0&1)){
+gf=1;
+hf=4;
+jf=0;
+goto L18;}
+qf=pf;}
+else{
+rf=port_rattle_realloc(rp(Z),mf*48,of*48,8);
+if(!(u8)(rf.f0&1)){
+gf=1;
+hf=4;
+jf=0;
+goto L18;}
+qf=rf;}
+sf=(u8*)qf.f1;
+wp(Z,sf);
+w8(Z+16,of);
+tf=sf;
+uf=r8(Z+8);}
+else{
+tf=rp(Z);
+uf=mf;}
+vf=tf+uf*48;
+*vf=0;
+vf[1]=0;
+x4(vf+4,We);
+z40(vf+8);
+w8(Z+8,uf+1);
+w4(F+4,0);
+w4(F+8,0);
+wf=Ue-lf;
+*G=0;
+w4(G+4,wf);
+push_634(F,Z,G);
+if(*F==0){
+*G=1;
+G[1]=3;
+w4(G+4,We+wf);
+push_634(F,Z,G);
+if(*F==0){
+*G=0;
+w4(G+4,lf);
+push_634(F,Z,G);
+if(*F==0){
+*G=2;
+w4(G+8,1);
+w4(G+12,ee);
+memcpy(G+16,P+8,32);
+push_634(F,Z,G);
+if(*F==0){
+*G=1;
+G[1]=2;
+w4(G+4,Te);
+push_634(C,Z,G);
+gf=*C;
+hf=C[4];
+jf=r4(C+8);}
+else{
+gf=1;
+hf=F[4];
+jf=r4(F+8);}}
+else{
+gf=1;
+hf=F[4];
+jf=r4(F+8);}}
+else{
+gf=1;
+hf=F[4];
+jf=r4(F+8);}}
+else{
+gf=1;
+hf=F[4];
+jf=r4(F+8);}}
+else{
+gf=1;
+hf=Ue;
+jf=r4(A+8);}}
+else{
+gf=1;
+hf=Te;
+jf=r4(B+8);}
+L18:le=hf;
+me=gf;
+ne=jf;}}
+L14:ge=me;
+he=le;
+ie=ne;}
+else{
+push_scope_91a(K,Ia,Z,1,ee,P,fe,d);
+ge=*K;
+he=K[4];
+ie=r4(K+8);}}
+break;
+case 2:if(fe==0){
+z12(v);
+push_implementation_f83(v,Ia,Z,P,0,d);
+ge=*v;
+he=v[4];
+ie=r4(v+8);}
+else{
+if(*O==0){
+push_arguments_35b(M,Ia,Z,O+40,fe-1,d);
+if(*M==0){
+xf=r8(Z+8);
+if(r8(Z+16)==xf){
+yf=umax64(xf,8);
+if(yf>(xf^18446744073709551615u)){
+ge=1;
+he=4;
+ie=0;
+break;}
+zf=yf+xf;
+if(zf>=0x2aaaaaaaaaaaaabu){
+ge=1;
+he=4;
+ie=0;
+break;}
+if(xf==0){
+Af=port_rattle_alloc(zf*48,8);
+if(!(u8)(Af.f0&1)){
+ge=1;
+he=4;
+ie=0;
+break;}
+Bf=Af;}
+else{
+Cf=port_rattle_realloc(rp(Z),xf*48,zf*48,8);
+if(!(u8)(Cf.f0&1)){
+ge=1;
+he=4;
+ie=0;
+break;}
+Bf=Cf;}
+Df=(u8*)Bf.f1;
+wp(Z,Df);
+w8(Z+16,zf);
+Ef=Df;
+Ff=r8(Z+8);}
+else{
+Ef=rp(Z);
+Ff=xf;}
+Gf=Ef+Ff*48;
+*Gf=2;
+Gf[1]=0;
+x4(Gf+4,0);
+x4(Gf+8,0);
+x4(Gf+12,ee);
+memcpy(Gf+16,P+8,32);
+w8(Z+8,Ff+1);
+ge=0;
+he=0;
+ie=0;}
+else{
+ge=1;
+he=M[4];
+ie=r4(M+8);}}
+else{
+push_scope_91a(L,Ia,Z,2,ee,P,fe,d);
+ge=*L;
+he=L[4];
+ie=r4(L+8);}}
+break;
+default:goto L19;
+}
+Hf=ge;
+If=he;
+Jf=ie;
+break;
+case 1:memcpy(s,Hd+16,32);
+z12(r);
+zero_all(t,328);
+parts_4fe(t,Ia,s);
+Kf=path_sort_162(Ia,ce);
+push_scope_91a(r,Ia,Z,Kf.f0,Kf.f1,t,r8(t+320),d);
+Hf=*r;
+If=r[4];
+Jf=r4(r+8);
+break;
+case 2:memcpy(p,Hd+16,32);
+zero_all(q,328);
+parts_4fe(q,Ia,p);
+Lf=r8(q+320);
+z12(j);
+z7(k);
+z12(m);
+z12(n);
+z12(o);
+if(Lf==0){
+if(r8(Z+16)==Ed){
+Mf=umax64(Ed,8);
+if(Mf>0-zd){
+Nf=1;
+Of=4;
+Pf=0;
+goto L20;}
+Qf=Mf+Ed;
+if(Qf>=0x2aaaaaaaaaaaaabu){
+Nf=1;
+Of=4;
+Pf=0;
+goto L20;}
+Rf=Qf*48;
+if(Ed==0){
+Sf=port_rattle_alloc(Rf,8);
+if(!(u8)(Sf.f0&1)){
+Nf=1;
+Of=4;
+Pf=0;
+goto L20;}
+Tf=Sf;}
+else{
+Uf=port_rattle_realloc(Fd,Gd,Rf,8);
+if(!(u8)(Uf.f0&1)){
+Nf=1;
+Of=4;
+Pf=0;
+goto L20;}
+Tf=Uf;}
+Vf=(u8*)Tf.f1;
+wp(Z,Vf);
+w8(Z+16,Qf);
+Wf=r8(Z+8);
+Xf=Wf*48;
+Yf=Vf;
+Zf=Wf+1;}
+else{
+Xf=Gd;
+Yf=Fd;
+Zf=zd;}
+ag=Yf+Xf;
+*ag=0;
+ag[1]=0;
+z44(ag+4);
+w8(Z+8,Zf);
+Nf=0;
+Of=0;
+Pf=0;}
+else{
+bg=Lf-1;
+if(*q==0){
+memcpy(k+7,q+8,32);
+*l=0;
+memcpy(l+1,k,39);
+z12(i);
+length_of_part_5fe(i,Ia,l,d);
+cg=r4(i+4);
+if(*i==0){
+push_listed_6df(m,Ia,Z,q+40,bg,d);
+if(*m==0){
+push_alone_829(j,Z,6,cg);
+Nf=*j;
+Of=j[4];
+Pf=r4(j+8);}
+else{
+Nf=1;
+Of=m[4];
+Pf=r4(m+8);}}
+else{
+Nf=1;
+Of=cg;
+Pf=r4(i+8);}}
+else{
+if(bg==0)push_plain_fc3(n,Ia,Z,q,Lf,d);
+else{
+if(q[40]==0){
+push_listed_6df(o,Ia,Z,q+80,Lf-2,d);
+if(*o!=0){
+Nf=1;
+Of=o[4];
+Pf=r4(o+8);
+goto L20;}
+push_after_b93(n,Ia,Z,q,6,q+48,d);}
+else push_plain_fc3(n,Ia,Z,q,Lf,d);}
+Nf=*n;
+Of=n[4];
+Pf=r4(n+8);}}
+L20:Hf=Nf;
+If=Of;
+Jf=Pf;
+break;
+default:NEVER;
+}
+if(Hf==0){
+Jd=Ad;
+Kd=Bd;
+Ld=Cd;
+Md=Dd;
+goto L11;}
+Pd=If;
+Qd=Jf;
+break;
+default:NEVER;
+}
+dg=(u8*)(u64)Qd;
+if(Bd==0){
+Ud=dg;
+Vd=Pd;
+goto L12;}
+Xd=dg;
+Yd=Pd;
+L13:port_rattle_dealloc(Dd);
+Ud=Xd;
+Vd=Yd;
+L12:if(r8(Z+16)==0){
+sd=Vd;
+td=Ud;
+goto L9;}
+port_rattle_dealloc(rp(Z));
+sd=Vd;
+td=Ud;
+goto L9;
+L11:eg=r8(Z+8);
+if(eg!=0){
+zd=eg;
+Ad=Jd;
+Bd=Kd;
+Cd=Ld;
+Dd=Md;
+goto L10;}
+vd=Md;
+xd=Ld;
+yd=Kd;}
+if(r8(Z+16)!=0)port_rattle_dealloc(rp(Z));
+fg=(u64)vd;
+gg=r4(Ia+72);
+z64(h);
+view_at_138(h,Ia,gg);
+hg=r4(h+48);
+L21:ig=path_sort_162(Ia,hg);
+jg=ig.f1;
+switch(ig.f0){
+case 0:kg=30;
+goto L22;
+case 3:kg=29;
+goto L22;
+case 2:break;
+case 1:z64(g);
+view_at_138(g,Ia,hg);
+if(!(r8(g+8)>96&&r4(g+28)==r4(g+24))){
+z64(f);
+view_at_138(f,Ia,hg);
+switch(r8(f+8)){
+case 67:kg=26;
+goto L22;
+case 83:kg=27;
+goto L22;
+case 118:kg=24;
+goto L22;
+case 116:kg=25;
+goto L22;
+default:kg=28;
+goto L22;
+}}
+break;
+default:goto L19;
+}
+hg=jg;
+goto L21;
+L22:lg=rp(Ia+24);
+mg=r8(Ia+40);
+ng=rp(Ia+48);
+og=r8(Ia+64);
+if(r8(Ia+16)!=0)port_rattle_dealloc(rp(Ia));
+if(mg!=0)port_rattle_dealloc(lg);
+if(og!=0)port_rattle_dealloc(ng);
+x4(a,0);
+x4(a+4,0);
+xp(a+8,Ec);
+x8(a+16,Cc);
+x8(a+24,Dc);
+a[32]=kg;
+memcpy(a+33,Ka,7);
+x8(a+40,fg);
+x8(a+48,xd);
+x8(a+56,yd);
+goto L23;
+L19:NEVER;}
+sd=r4(aa+4);
+td=(u8*)(u64)r4(aa+8);
+L9:pg=(u8*)((u64)td&4294967295u);
+if(Dc!=0)port_rattle_dealloc(Ec);
+qg=rp(Ia+24);
+rg=r8(Ia+40);
+sg=rp(Ia+48);
+tg=r8(Ia+64);
+if(r8(Ia+16)!=0)port_rattle_dealloc(rp(Ia));
+if(rg!=0)port_rattle_dealloc(qg);
+if(tg!=0)port_rattle_dealloc(sg);
+x4(a,1);
+x4(a+4,sd);
+xp(a+8,pg);
+z48(a+16);
+goto L23;}
+ug=r4(ka+8);
+vg=ka[4];
+if(r8(ha+16)!=0)port_rattle_dealloc(rp(ha));
+if(r8(ha+40)!=0)port_rattle_dealloc(rp(ha+24));
+wg=rp(ha+72);
+xg=r8(ha+88);
+yg=rp(ha+96);
+zg=r8(ha+112);
+Ag=rp(ha+120);
+Bg=r8(ha+136);
+if(r8(ha+64)!=0)port_rattle_dealloc(rp(ha+48));
+if(xg!=0)port_rattle_dealloc(wg);
+if(zg!=0)port_rattle_dealloc(yg);
+if(Bg==0){
+Cg=vg;
+Dg=ug;}
+else{
+port_rattle_dealloc(Ag);
+Cg=vg;
+Dg=ug;}}
+else{
+Cg=sc;
+Dg=mc;}
+Eg=(u8*)(u64)Dg;
+if(r8(Ia+16)!=0)port_rattle_dealloc(rp(Ia));
+if(Sb!=0)port_rattle_dealloc(Qb);
+if(Vb!=0)port_rattle_dealloc(Tb);
+x4(a,1);
+x4(a+4,Cg);
+xp(a+8,Eg);
+z48(a+16);
+goto L23;}}
+NEVER;}
+Eb=ub;
+Fb=ta[228];
+Gb=r4(ta+232);
+L1:if(Eb!=0)port_rattle_dealloc(rp(ta));
+Fg=rp(ta+56);
+Gg=r8(ta+72);
+if(r8(ta+48)!=0)port_rattle_dealloc(rp(ta+32));
+if(Gg!=0)port_rattle_dealloc(Fg);
+Hg=rp(ta+120);
+Ig=r8(ta+136);
+Jg=rp(ta+144);
+Kg=r8(ta+160);
+if(r8(ta+112)!=0)port_rattle_dealloc(rp(ta+96));
+if(Ig!=0)port_rattle_dealloc(Hg);
+if(Kg!=0)port_rattle_dealloc(Jg);
+Lg=rp(ta+192);
+Mg=r8(ta+208);
+if(r8(ta+184)!=0)port_rattle_dealloc(rp(ta+168));
+if(Mg==0){
+Ng=Fb;
+Og=Gb;}
+else{
+port_rattle_dealloc(Lg);
+Ng=Fb;
+Og=Gb;}}
+else{
+Ng=Db;
+Og=rb;}
+Pg=Og;
+Qg=Ng;}
+else{
+if(Ta!=0)port_rattle_dealloc(rp(Ha));
+if(Oa!=0)port_rattle_dealloc(Ma);
+if(Ra==0){
+Pg=0;
+Qg=4;}
+else{
+port_rattle_dealloc(Pa);
+Pg=0;
+Qg=4;}}}
+else{
+Rg=Da[4];
+Sg=r4(Da+8);
+Tg=rp(Ea+32);
+Ug=r8(Ea+48);
+if(r8(Ea+24)!=0)port_rattle_dealloc(rp(Ea+8));
+if(Ug!=0)port_rattle_dealloc(Tg);
+Pg=Sg;
+Qg=Rg;}
+x4(a,1);
+x4(a+4,Qg);
+xp(a+8,(u8*)(u64)Pg);
+z48(a+16);
+L23:return;
+}
+
+/* sym_parts::lengths::length_of_part */
+static void length_of_part_5fe(u8* a,u8* b,u8* c,u32 d)
+{
+u8 j[39];
+A16 u8 e[16],f[16],g[16],h[16],i[32],k[176],l[16],m[16],n[16],o[16],p[12];
+s_64_64 q;
+u8 r,Q;
+u64 s,v,w,x,C,D,H,J,L,N,O,S,U,W,aa;
+u8 *t,*y,*E,*I,*K,*M,*R,*T,*V;
+u32 u,z,A,B,F,G,P,X,Y,Z;
+u16 ba,ca;
+zero_all(k,176);
+z16(l);
+z16(m);
+z16(n);
+z16(o);
+z12(p);
+switch(*c){
+case 0:memcpy(i,c+8,32);
+z7(j);
+q=port_rattle_alloc(320,8);
+r=q.f0&1;
+if(r){
+s=q.f1;
+t=(u8*)s;
+memcpy(j+7,i,32);
+*t=0;
+memcpy(t+1,j,39);
+u=0;
+v=s;
+w=1;
+x=8;
+y=(u8*)65536;
+z=d;}
+else{
+u=4;
+v=0;
+w=0;
+x=0;
+y=0;
+z=0;}
+A=v;
+z16(e);
+z16(f);
+z16(g);
+z16(h);
+if(r){
+z16(f);
+z16(h);
+B=v>>32;
+C=w;
+D=x;
+E=y;
+F=z;
+G=0;}
+else{
+B=0;
+C=0;
+D=0;
+E=0;
+F=0;
+G=u;}
+memcpy(l,e,16);
+memcpy(m,f,16);
+memcpy(n,g,16);
+memcpy(o,h,16);
+if(!r){
+X=1;
+Y=G;
+Z=A;
+goto L1;}
+w4(k,A);
+w4(k+4,B);
+w8(k+8,C);
+w8(k+16,D);
+wp(k+24,E);
+memcpy(k+32,l,16);
+wp(k+48,E);
+memcpy(k+56,m,16);
+wp(k+72,E);
+memcpy(k+80,n,16);
+wp(k+96,E);
+memcpy(k+104,o,16);
+wp(k+120,E);
+z20(k+128);
+w4(k+148,F);
+z24(k+152);
+run_f48(p,k,b);
+if(*p==0){
+H=r8(k+32);
+if(r8(k+16)!=0)port_rattle_dealloc(rp(k));
+if(r8(k+40)!=0)port_rattle_dealloc(rp(k+24));
+I=rp(k+72);
+J=r8(k+88);
+K=rp(k+96);
+L=r8(k+112);
+M=rp(k+120);
+N=r8(k+136);
+if(r8(k+64)!=0)port_rattle_dealloc(rp(k+48));
+if(J!=0)port_rattle_dealloc(I);
+if(L!=0)port_rattle_dealloc(K);
+if(N==0){
+O=H;
+goto L2;}
+port_rattle_dealloc(M);
+O=H;
+goto L2;}
+P=r4(p+8);
+Q=p[4];
+if(r8(k+16)!=0)port_rattle_dealloc(rp(k));
+if(r8(k+40)!=0)port_rattle_dealloc(rp(k+24));
+R=rp(k+72);
+S=r8(k+88);
+T=rp(k+96);
+U=r8(k+112);
+V=rp(k+120);
+W=r8(k+136);
+if(r8(k+64)!=0)port_rattle_dealloc(rp(k+48));
+if(S!=0)port_rattle_dealloc(R);
+if(U!=0)port_rattle_dealloc(T);
+if(W==0){
+X=1;
+Y=Q;
+Z=P;
+goto L1;}
+port_rattle_dealloc(V);
+X=1;
+Y=Q;
+Z=P;
+goto L1;
+case 1:aa=(u64)q4(c+8)-q4(c+4);
+break;
+case 2:aa=(u64)q4(c+8)-q4(c+4);
+break;
+case 3:ba=r2(c+2);
+if(ba<40)aa=r8((u8*)t_69a8+(u64)ba*8);
+else{
+ca=ba-97;
+if(ca>=26){
+O=0;
+goto L2;}
+aa=r8((u8*)t_455e+(u64)ca*8);}
+break;
+case 4:aa=c[25];
+break;
+default:NEVER;
+}
+if(aa>d){
+X=1;
+Y=3;
+Z=0;
+goto L1;}
+O=aa;
+L2:X=0;
+Y=O;
+Z=0;
+L1:x4(a,X);
+x4(a+4,Y);
+x4(a+8,Z);
+return;
+}
+
+/* sym_print::layout::Layout::parts */
+static void parts_4fe(u8* a,u8* b,u8* c)
+{
+u8 d[39],e[39],f[39],g[39],h[24],i[24],j[24],k[24],l[24];
+A16 u8 m[24],n[24],o[20],p[20],q[20],r[320],s[328];
+u32 t,u,v,D,M,P,Y,Z,ja,la,ta,ua,Ea,Ga,Ha,Ka,La,kb,nb,sb,tb,ub,Hb,Ib,Jb,Xb,Zb,ec,gc,pc,qc,Mc,Nc,Wc,cd,id,jd,md,nd;
+u64 w,y,A,C,E,H,K,L,N,Q,S,T,U,W,X,ba,da,ha,ia,ma,oa,pa,qa,sa,wa,ya,Fa,Ia,Ja,Ma,Na,Oa,Qa,Sa,Ua,Ya,ab,cb,db,fb,gb,ib,lb,mb,rb,wb,zb,Cb,Gb,Lb,Ob,Rb,Ub,ac,hc,mc,oc,tc,vc,yc,Ac,Cc,Dc,Ec,Gc,Hc,Kc,Oc,Qc,Rc,Tc,Yc,ed,od,qd,td,xd,zd,Bd,Dd,Fd,Hd,Id,Jd,Kd,Ld,Md,Nd,Od;
+u8 x,O,R,ka,na,Ca,Da,ob,lc,nc,rc,Fc,Rd,Sd,Vd,Wd;
+u8 *z,*B,*F,*G,*I,*J,*V,*aa,*ca,*ea,*fa,*ga,*ra,*va,*xa,*za,*Aa,*Ba,*Pa,*Ra,*Ta,*Va,*Xa,*Za,*bb,*eb,*hb,*jb,*pb,*qb,*vb,*xb,*yb,*Ab,*Bb,*Db,*Eb,*Fb,*Kb,*Mb,*Nb,*Pb,*Qb,*Sb,*Tb,*Vb,*Wb,*Yb,*bc,*cc,*dc,*fc,*ic,*jc,*kc,*sc,*uc,*wc,*xc,*zc,*Bc,*Ic,*Jc,*Lc,*Pc,*Sc,*Uc,*Vc,*Xc,*Zc,*ad,*bd,*dd,*fd,*gd,*hd,*kd,*ld,*pd,*sd,*ud,*vd,*yd,*Ad,*Cd,*Ed,*Gd,*Pd,*Qd,*Td,*Ud;
+u16 Wa;
+t=q4(c);
+u=q4(c+4);
+v=q4(c+8);
+w=q8(c+16);
+x=c[24];
+zero_all(r,320);
+y=0;
+L1:z=r+y*40;
+*z=3;
+z39(z+1);
+A=y+1;
+if(A!=8){
+y=A;
+goto L1;}
+memcpy(s,r,320);
+w8(s+320,0);
+switch((u8)umin32(u,16)){
+case 0:B=rp(b+24)+(i64)((u64)t*56);
+if(*B!=7)NEVER;
+C=q8(B+16);
+D=q4(B+4);
+if((u32)C<(u32)(C>>32)){
+*s=3;
+s[1]=0;
+w2(s+2,16);
+z36(s+4);
+s[40]=1;
+z3(s+41);
+x8(s+44,C);
+z28(s+52);
+s[80]=3;
+s[81]=0;
+w2(s+82,39);
+z36(s+84);
+E=3;}
+else E=0;
+F=s+E*40;
+w8(F,0);
+w4(F+8,D);
+w4(F+12,1);
+z16(F+16);
+F[32]=x;
+G=F;
+H=E;
+goto L2;
+case 1:I=rp(b+24);
+J=I+(i64)((u64)t*56);
+if(*J!=0)NEVER;
+switch(J[8]){
+case 0:if(J[20]==0){
+K=q8(J+12);
+if((u32)K>=(u32)(K>>32))goto L3;
+*s=1;
+z3(s+1);
+x8(s+4,K);
+z28(s+12);
+w8(s+320,1);
+goto L4;}
+L=q8(J+24);
+if((u32)L>=(u32)(L>>32))goto L3;
+*s=2;
+z3(s+1);
+x8(s+4,L);
+z28(s+12);
+w8(s+320,1);
+goto L4;
+case 1:M=r4(J+28);
+*s=3;
+s[1]=0;
+w2(s+2,2);
+z44(s+4);
+w4(s+48,M);
+w4(s+52,3);
+w4(s+56,0);
+w4(s+60,0);
+w8(s+64,w);
+s[72]=x;
+z7(s+73);
+s[80]=3;
+s[81]=0;
+w2(s+82,1);
+z36(s+84);
+N=3;
+break;
+case 2:push_as_4dd(s,r4(J+28),r4(J+32),w,x);
+goto L3;
+case 3:push_as_4dd(s,r4(J+12),r4(J+16),w,x);
+goto L3;
+case 4:O=J[9];
+P=r4(J+12);
+Q=q8(J+16);
+R=J[24];
+S=q8(J+28);
+T=r8(J+40);
+w8(p,Q);
+w4(p+8,R);
+x8(p+12,S);
+if(O>96){
+if(R==0){
+if((u32)(Q>>32)>(u32)Q){
+*s=1;
+z3(s+1);
+x8(s+4,Q);
+z28(s+12);
+s[40]=3;
+z39(s+41);
+U=2;}
+else U=0;}
+else{
+if((u32)(S>>32)>(u32)S){
+*s=2;
+z3(s+1);
+x8(s+4,S);
+z28(s+12);
+s[40]=3;
+z39(s+41);
+U=2;}
+else U=0;}}
+else{
+push_special_6d5(s,O,p,T);
+U=r8(s+320);}
+V=s+U*40;
+w8(V,0);
+w4(V+8,P);
+w4(V+12,1);
+w4(V+16,0);
+w4(V+20,0);
+w8(V+24,w);
+V[32]=x;
+z7(V+33);
+W=U+1;
+w8(s+320,W);
+X=W;
+goto L5;
+case 5:Y=r4(J+12);
+switch(x){
+case 0:case 2:Z=r4(J+16);
+*s=3;
+s[1]=0;
+w2(s+2,2);
+z36(s+4);
+w8(s+320,1);
+aa=I+(i64)((u64)Z*56);
+if(*aa!=1)NEVER;
+if(aa[8]==0)ba=1;
+else{
+w8(s+40,0);
+w4(s+48,Z);
+w4(s+52,5);
+w4(s+56,0);
+w4(s+60,0);
+w8(s+64,w);
+s[72]=x;
+z7(s+73);
+ba=2;}
+ca=s+ba*40;
+*ca=3;
+ca[1]=0;
+w2(ca+2,10);
+z36(ca+4);
+da=ba+1;
+break;
+case 1:case 3:da=0;
+break;
+default:NEVER;
+}
+ea=s+da*40;
+w8(ea,0);
+w4(ea+8,Y);
+w4(ea+12,1);
+w4(ea+16,0);
+w4(ea+20,0);
+w8(ea+24,w);
+ea[32]=x;
+G=ea;
+H=da;
+goto L2;
+default:NEVER;
+}
+break;
+case 2:fa=rp(b+24);
+ga=fa+(i64)((u64)t*56);
+if(*ga!=0)NEVER;
+switch(ga[8]){
+case 0:if(ga[20]==0){
+ha=q8(ga+12);
+if((u32)ha>=(u32)(ha>>32))goto L3;
+*s=1;
+z3(s+1);
+x8(s+4,ha);
+z28(s+12);
+w8(s+320,1);
+goto L4;}
+ia=q8(ga+24);
+if((u32)ia>=(u32)(ia>>32))goto L3;
+*s=2;
+z3(s+1);
+x8(s+4,ia);
+z28(s+12);
+w8(s+320,1);
+goto L4;
+case 1:ja=r4(ga+28);
+*s=3;
+s[1]=0;
+w2(s+2,2);
+z44(s+4);
+w4(s+48,ja);
+w4(s+52,3);
+w4(s+56,0);
+w4(s+60,0);
+w8(s+64,w);
+s[72]=x;
+z7(s+73);
+s[80]=3;
+s[81]=0;
+w2(s+82,1);
+z36(s+84);
+N=3;
+break;
+case 2:push_as_4dd(s,r4(ga+28),r4(ga+32),w,x);
+goto L3;
+case 3:push_as_4dd(s,r4(ga+12),r4(ga+16),w,x);
+goto L3;
+case 4:ka=ga[9];
+la=r4(ga+12);
+ma=q8(ga+16);
+na=ga[24];
+oa=q8(ga+28);
+pa=r8(ga+40);
+w8(q,ma);
+w4(q+8,na);
+x8(q+12,oa);
+if(ka>96){
+if(na==0){
+if((u32)(ma>>32)>(u32)ma){
+*s=1;
+z3(s+1);
+x8(s+4,ma);
+z28(s+12);
+s[40]=3;
+z39(s+41);
+qa=2;}
+else qa=0;}
+else{
+if((u32)(oa>>32)>(u32)oa){
+*s=2;
+z3(s+1);
+x8(s+4,oa);
+z28(s+12);
+s[40]=3;
+z39(s+41);
+qa=2;}
+else qa=0;}}
+else{
+push_special_6d5(s,ka,q,pa);
+qa=r8(s+320);}
+ra=s+qa*40;
+w8(ra,0);
+w4(ra+8,la);
+w4(ra+12,2);
+w4(ra+16,0);
+w4(ra+20,0);
+w8(ra+24,w);
+ra[32]=x;
+z7(ra+33);
+sa=qa+1;
+w8(s+320,sa);
+X=sa;
+goto L5;
+case 5:ta=r4(ga+12);
+switch(x){
+case 0:case 2:ua=r4(ga+16);
+*s=3;
+s[1]=0;
+w2(s+2,2);
+z36(s+4);
+w8(s+320,1);
+va=fa+(i64)((u64)ua*56);
+if(*va!=1)NEVER;
+if(va[8]==0)wa=1;
+else{
+w8(s+40,0);
+w4(s+48,ua);
+w4(s+52,5);
+w4(s+56,0);
+w4(s+60,0);
+w8(s+64,w);
+s[72]=x;
+z7(s+73);
+wa=2;}
+xa=s+wa*40;
+*xa=3;
+xa[1]=0;
+w2(xa+2,1);
+z36(xa+4);
+ya=wa+1;
+break;
+case 1:case 3:ya=0;
+break;
+default:NEVER;
+}
+za=s+ya*40;
+w8(za,0);
+w4(za+8,ta);
+w4(za+12,2);
+w4(za+16,0);
+w4(za+20,0);
+w8(za+24,w);
+za[32]=x;
+G=za;
+H=ya;
+goto L2;
+default:NEVER;
+}
+break;
+case 3:Aa=rp(b+24);
+Ba=Aa+(i64)((u64)t*56);
+Ca=Ba[8];
+Da=Ba[9];
+Ea=q4(Ba+12);
+Fa=q8(Ba+16);
+Ga=q4(Ba+24);
+Ha=Fa;
+switch(*Ba){
+case 0:switch(Ca){
+case 0:if((Fa&0xff00000000u)==0){
+Ia=q8(Ba+12);
+if((u32)Ia>=(u32)(Ia>>32))goto L3;
+*s=1;
+z3(s+1);
+x8(s+4,Ia);
+z28(s+12);
+w8(s+320,1);
+goto L4;}
+Ja=q8(Ba+24);
+if((u32)Ja>=(u32)(Ja>>32))goto L3;
+*s=2;
+z3(s+1);
+x8(s+4,Ja);
+z28(s+12);
+w8(s+320,1);
+goto L4;
+case 1:Ka=r4(Ba+28);
+*s=3;
+s[1]=0;
+w2(s+2,2);
+z44(s+4);
+w4(s+48,Ka);
+w4(s+52,3);
+w4(s+56,0);
+w4(s+60,0);
+w8(s+64,w);
+s[72]=x;
+z7(s+73);
+s[80]=3;
+s[81]=0;
+w2(s+82,1);
+z36(s+84);
+N=3;
+break;
+case 2:push_as_4dd(s,r4(Ba+28),r4(Ba+32),w,x);
+goto L3;
+case 3:push_as_4dd(s,Ea,Ha,w,x);
+goto L3;
+case 4:La=Ga&255;
+Ma=q8(Ba+28);
+Na=r8(Ba+40);
+w8(o,Fa);
+w4(o+8,La);
+x8(o+12,Ma);
+if(Da>96){
+if(La==0){
+if((u32)(Fa>>32)>Ha){
+*s=1;
+z3(s+1);
+x8(s+4,Fa);
+z28(s+12);
+s[40]=3;
+z39(s+41);
+Oa=2;}
+else Oa=0;}
+else{
+if((u32)(Ma>>32)>(u32)Ma){
+*s=2;
+z3(s+1);
+x8(s+4,Ma);
+z28(s+12);
+s[40]=3;
+z39(s+41);
+Oa=2;}
+else Oa=0;}}
+else{
+push_special_6d5(s,Da,o,Na);
+Oa=r8(s+320);}
+Pa=s+Oa*40;
+w8(Pa,0);
+w4(Pa+8,Ea);
+w4(Pa+12,2);
+w4(Pa+16,0);
+w4(Pa+20,0);
+w8(Pa+24,w);
+Pa[32]=x;
+z7(Pa+33);
+Qa=Oa+1;
+w8(s+320,Qa);
+X=Qa;
+goto L5;
+case 5:switch(x){
+case 0:case 2:*s=3;
+s[1]=0;
+w2(s+2,2);
+z36(s+4);
+w8(s+320,1);
+Ra=Aa+(i64)((Fa&4294967295u)*56);
+if(*Ra!=1)NEVER;
+if(Ra[8]==0)Sa=1;
+else{
+w8(s+40,0);
+w4(s+48,Ha);
+w4(s+52,5);
+w4(s+56,0);
+w4(s+60,0);
+w8(s+64,w);
+s[72]=x;
+z7(s+73);
+Sa=2;}
+Ta=s+Sa*40;
+*Ta=3;
+Ta[1]=0;
+w2(Ta+2,1);
+z36(Ta+4);
+Ua=Sa+1;
+break;
+case 1:case 3:Ua=0;
+break;
+default:NEVER;
+}
+Va=s+Ua*40;
+w8(Va,0);
+w4(Va+8,Ea);
+w4(Va+12,2);
+w4(Va+16,0);
+w4(Va+20,0);
+w8(Va+24,w);
+Va[32]=x;
+G=Va;
+H=Ua;
+goto L2;
+default:NEVER;
+}
+break;
+case 2:Wa=q2(Ba+10);
+switch(Ca){
+case 0:if(Da<97)goto L3;
+if(Da>=123)goto L3;
+if(r8((u8*)t_455e+(i64)Da*8-776)==0)goto L3;
+*s=3;
+s[1]=0;
+w2(s+2,Da);
+z36(s+4);
+w8(s+320,1);
+goto L4;
+case 1:push_array_64d(s,Ea,Ha,w,x);
+goto L3;
+case 2:push_slice_a77(s,Ea,w,x);
+goto L3;
+case 3:push_closing_ee2(b,s,Ea);
+Xa=Aa+(i64)((u64)Ea*56);
+if(*Xa!=3)NEVER;
+Ya=r8(s+320);
+if((u8)(q4(Xa+4)&1)){
+Za=s+Ya*40;
+w8(Za,0);
+w4(Za+8,Ea);
+w4(Za+12,8);
+w4(Za+16,0);
+w4(Za+20,0);
+w8(Za+24,w);
+Za[32]=x;
+z7(Za+33);
+ab=Ya+1;}
+else ab=Ya;
+bb=s+ab*40;
+*bb=3;
+bb[1]=0;
+w2(bb+2,15);
+z36(bb+4);
+cb=ab+1;
+w8(s+320,cb);
+X=cb;
+goto L5;
+case 4:w8(s,0);
+w4(s+8,Ga);
+w4(s+12,3);
+w4(s+16,0);
+w4(s+20,0);
+w8(s+24,w);
+s[32]=x;
+z7(s+33);
+s[40]=3;
+s[41]=0;
+if(Fa!=0){
+w2(s+42,20);
+z36(s+44);
+w8(s+320,2);
+push_numbered_e67(s,usub64(w,Fa));
+db=r8(s+320);
+eb=s+db*40;
+*eb=3;
+eb[1]=0;
+w2(eb+2,18);
+z36(eb+4);
+fb=db+1;
+w8(s+320,fb);
+X=fb;
+goto L5;}
+w2(s+42,18);
+z36(s+44);
+N=2;
+break;
+case 5:w8(s,0);
+w4(s+8,Ga);
+w4(s+12,3);
+w4(s+16,0);
+w4(s+20,0);
+w8(s+24,w);
+s[32]=x;
+z7(s+33);
+s[40]=3;
+s[41]=0;
+if(Fa!=0){
+w2(s+42,21);
+z36(s+44);
+w8(s+320,2);
+push_numbered_e67(s,usub64(w,Fa));
+gb=r8(s+320);
+hb=s+gb*40;
+*hb=3;
+hb[1]=0;
+w2(hb+2,18);
+z36(hb+4);
+ib=gb+1;
+w8(s+320,ib);
+X=ib;
+goto L5;}
+w2(s+42,19);
+z36(s+44);
+N=2;
+break;
+case 6:w8(s,0);
+w4(s+8,Ea);
+w4(s+12,3);
+w4(s+16,0);
+w4(s+20,0);
+w8(s+24,w);
+s[32]=x;
+z7(s+33);
+s[40]=3;
+s[41]=0;
+w2(s+42,22);
+z36(s+44);
+N=2;
+break;
+case 7:w8(s,0);
+w4(s+8,Ea);
+w4(s+12,3);
+w4(s+16,0);
+w4(s+20,0);
+w8(s+24,w);
+s[32]=x;
+z7(s+33);
+s[40]=3;
+s[41]=0;
+w2(s+42,23);
+z36(s+44);
+N=2;
+break;
+case 8:push_function_633(s,t,Wa,w,x);
+goto L3;
+case 9:push_dyn_9e1(b,s,t,Wa,Ea,Fa,w,x);
+goto L3;
+default:NEVER;
+}
+break;
+case 1:case 3:case 4:case 5:case 6:case 7:NEVER;
+default:NEVER;
+}
+break;
+case 4:jb=rp(b+24)+(i64)((u64)t*56);
+if(*jb!=6)NEVER;
+kb=q4(jb+4);
+switch((u8)kb){
+case 0:lb=q8(jb+16);
+if((u32)lb>=(u32)(lb>>32))goto L3;
+*s=2;
+z3(s+1);
+x8(s+4,lb);
+z28(s+12);
+w8(s+320,1);
+goto L4;
+case 1:*s=3;
+s[1]=0;
+if((kb&256)==0){
+w2(s+2,37);
+z36(s+4);
+w8(s+320,1);
+goto L4;}
+w2(s+2,36);
+z36(s+4);
+w8(s+320,1);
+goto L4;
+case 2:mb=q8(jb+8);
+nb=mb;
+switch(nb){
+case 39:z24(n);
+if((u64)n-(u64)(u8*)t_eb70<4)copy_bits_4f4((u8*)t_eb70,n,4);
+else w4(n,656890919);
+*s=4;
+memcpy(s+1,n,24);
+s[25]=4;
+z14(s+26);
+w8(s+320,1);
+break;
+case 92:z24(m);
+if((u64)m-(u64)(u8*)t_6672<4)copy_bits_4f4((u8*)t_6672,m,4);
+else w4(m,660364327);
+*s=4;
+memcpy(s+1,m,24);
+s[25]=4;
+z14(s+26);
+w8(s+320,1);
+break;
+default:if(nb<32)push_escaped_6a1(s,nb);
+else{
+if(nb<127){
+ob=mb;
+z24(l);
+if((u64)l==(u64)(u8*)t_265f)copy_bits_4f4((u8*)t_265f,l,1);
+else *l=39;
+l[1]=ob;
+if((u64)(l+2)==(u64)(u8*)t_265f)copy_bits_4f4((u8*)t_265f,l+2,1);
+else l[2]=39;
+*s=4;
+memcpy(s+1,l,24);
+s[25]=3;
+z14(s+26);
+w8(s+320,1);}
+else push_escaped_6a1(s,nb);}
+break;}
+goto L3;
+case 3:*s=3;
+s[1]=0;
+w2(s+2,38);
+z36(s+4);
+w8(s+320,1);
+goto L4;
+default:NEVER;
+}
+break;
+case 5:pb=rp(b+24);
+qb=pb+(i64)((u64)t*56);
+if(*qb!=1)NEVER;
+rb=q8(qb+16);
+sb=q4(qb+12);
+tb=rb;
+switch(qb[8]){
+case 0:goto L3;
+case 1:ub=q4(qb+24);
+vb=pb+(i64)((u64)ub*56);
+if(*vb!=1)NEVER;
+if(vb[8]==0)wb=0;
+else{
+w8(s,0);
+w4(s+8,ub);
+w4(s+12,6);
+w4(s+16,0);
+w4(s+20,0);
+w8(s+24,w);
+s[32]=x;
+z7(s+33);
+wb=1;}
+xb=s+wb*40;
+w8(xb,0);
+w4(xb+8,t);
+w4(xb+12,7);
+w4(xb+16,0);
+w4(xb+20,0);
+w8(xb+24,w);
+xb[32]=x;
+G=xb;
+H=wb;
+goto L2;
+case 2:yb=pb+(i64)((rb&4294967295u)*56);
+if(*yb!=1)NEVER;
+if(yb[8]==0)zb=0;
+else{
+w8(s,0);
+w4(s+8,tb);
+w4(s+12,6);
+w4(s+16,0);
+w4(s+20,0);
+w8(s+24,w);
+s[32]=x;
+z7(s+33);
+zb=1;}
+Ab=s+zb*40;
+w8(Ab,0);
+w4(Ab+8,sb);
+w4(Ab+12,4);
+w4(Ab+16,0);
+w4(Ab+20,0);
+w8(Ab+24,w);
+Ab[32]=x;
+G=Ab;
+H=zb;
+goto L2;
+case 3:Bb=pb+(i64)((rb&4294967295u)*56);
+if(*Bb!=1)NEVER;
+if(Bb[8]==0)Cb=0;
+else{
+w8(s,0);
+w4(s+8,tb);
+w4(s+12,6);
+w4(s+16,0);
+w4(s+20,0);
+w8(s+24,w);
+s[32]=x;
+z7(s+33);
+Cb=1;}
+Db=s+Cb*40;
+w8(Db,0);
+w4(Db+8,sb);
+w4(Db+12,3);
+w4(Db+16,0);
+w4(Db+20,0);
+w8(Db+24,w);
+Db[32]=x;
+G=Db;
+H=Cb;
+goto L2;
+default:NEVER;
+}
+break;
+case 6:Eb=rp(b+24);
+Fb=Eb+(i64)((u64)t*56);
+if(*Fb!=1)NEVER;
+Gb=q8(Fb+16);
+Hb=q4(Fb+12);
+Ib=Gb;
+switch(Fb[8]){
+case 0:goto L3;
+case 1:Jb=q4(Fb+24);
+Kb=Eb+(i64)((u64)Jb*56);
+if(*Kb!=1)NEVER;
+if(Kb[8]==0)Lb=0;
+else{
+w8(s,0);
+w4(s+8,Jb);
+w4(s+12,6);
+w4(s+16,0);
+w4(s+20,0);
+w8(s+24,w);
+s[32]=x;
+z7(s+33);
+Lb=1;}
+Mb=s+Lb*40;
+w8(Mb,0);
+w4(Mb+8,t);
+w4(Mb+12,7);
+w4(Mb+16,0);
+w4(Mb+20,0);
+w8(Mb+24,w);
+Mb[32]=x;
+z7(Mb+33);
+Mb[40]=3;
+Mb[41]=0;
+w2(Mb+42,11);
+z36(Mb+44);
+N=Lb|2;
+break;
+case 2:Nb=Eb+(i64)((Gb&4294967295u)*56);
+if(*Nb!=1)NEVER;
+if(Nb[8]==0)Ob=0;
+else{
+w8(s,0);
+w4(s+8,Ib);
+w4(s+12,6);
+w4(s+16,0);
+w4(s+20,0);
+w8(s+24,w);
+s[32]=x;
+z7(s+33);
+Ob=1;}
+Pb=s+Ob*40;
+w8(Pb,0);
+w4(Pb+8,Hb);
+w4(Pb+12,4);
+w4(Pb+16,0);
+w4(Pb+20,0);
+w8(Pb+24,w);
+Pb[32]=x;
+z7(Pb+33);
+Pb[40]=3;
+Pb[41]=0;
+w2(Pb+42,11);
+z36(Pb+44);
+N=Ob|2;
+break;
+case 3:Qb=Eb+(i64)((Gb&4294967295u)*56);
+if(*Qb!=1)NEVER;
+if(Qb[8]==0)Rb=0;
+else{
+w8(s,0);
+w4(s+8,Ib);
+w4(s+12,6);
+w4(s+16,0);
+w4(s+20,0);
+w8(s+24,w);
+s[32]=x;
+z7(s+33);
+Rb=1;}
+Sb=s+Rb*40;
+w8(Sb,0);
+w4(Sb+8,Hb);
+w4(Sb+12,3);
+w4(Sb+16,0);
+w4(Sb+20,0);
+w8(Sb+24,w);
+Sb[32]=x;
+z7(Sb+33);
+Sb[40]=3;
+Sb[41]=0;
+w2(Sb+42,11);
+z36(Sb+44);
+N=Rb|2;
+break;
+default:NEVER;
+}
+break;
+case 7:Tb=rp(b+24)+(i64)((u64)t*56);
+if(*Tb!=1)NEVER;
+switch(Tb[8]){
+case 1:Ub=q8(Tb+16);
+if(Ub==0){
+z24(k);
+if((u64)k-(u64)(u8*)t_092f<2)copy_bits_4f4((u8*)t_092f,k,2);
+else w2(k,24359);
+*s=4;
+memcpy(s+1,k,24);
+s[25]=2;
+z14(s+26);
+w8(s+320,1);}
+else push_numbered_e67(s,usub64(w,Ub));
+goto L3;
+case 0:z24(j);
+if((u64)j-(u64)(u8*)t_092f<2)copy_bits_4f4((u8*)t_092f,j,2);
+else w2(j,24359);
+*s=4;
+memcpy(s+1,j,24);
+s[25]=2;
+z14(s+26);
+w8(s+320,1);
+goto L4;
+case 2:z24(i);
+if((u64)i-(u64)(u8*)t_092f<2)copy_bits_4f4((u8*)t_092f,i,2);
+else w2(i,24359);
+*s=4;
+memcpy(s+1,i,24);
+s[25]=2;
+z14(s+26);
+w8(s+320,1);
+goto L4;
+case 3:z24(h);
+if((u64)h-(u64)(u8*)t_092f<2)copy_bits_4f4((u8*)t_092f,h,2);
+else w2(h,24359);
+*s=4;
+memcpy(s+1,h,24);
+s[25]=2;
+z14(s+26);
+w8(s+320,1);
+goto L4;
+default:NEVER;
+}
+break;
+case 8:Vb=rp(b+24);
+Wb=Vb+(i64)((u64)t*56);
+if(*Wb!=3)NEVER;
+if((q4(Wb+4)&255)==0)goto L3;
+Xb=q4(Wb+12);
+Yb=Vb+(i64)((u64)Xb*56);
+if(*Yb!=3)NEVER;
+Zb=q4(Wb+8);
+if((u8)(q4(Yb+4)&1)){
+w8(s,0);
+w4(s+8,Xb);
+w4(s+12,9);
+w4(s+16,0);
+w4(s+20,0);
+w8(s+24,w);
+s[32]=x;
+z7(s+33);
+ac=1;}
+else ac=0;
+bc=s+ac*40;
+w8(bc,0);
+w4(bc+8,Zb);
+w4(bc+12,3);
+w4(bc+16,0);
+w4(bc+20,0);
+w8(bc+24,w);
+bc[32]=x;
+G=bc;
+H=ac;
+goto L2;
+case 9:cc=rp(b+24);
+dc=cc+(i64)((u64)t*56);
+if(*dc!=3)NEVER;
+if((q4(dc+4)&255)==0)goto L3;
+ec=q4(dc+12);
+fc=cc+(i64)((u64)ec*56);
+if(*fc!=3)NEVER;
+gc=q4(dc+8);
+if((u8)(q4(fc+4)&1)){
+w8(s,0);
+w4(s+8,ec);
+w4(s+12,9);
+w4(s+16,0);
+w4(s+20,0);
+w8(s+24,w);
+s[32]=x;
+z7(s+33);
+hc=1;}
+else hc=0;
+ic=s+hc*40;
+w8(ic,0);
+w4(ic+8,gc);
+w4(ic+12,3);
+w4(ic+16,0);
+w4(ic+20,0);
+w8(ic+24,w);
+ic[32]=x;
+z7(ic+33);
+ic[40]=3;
+ic[41]=0;
+w2(ic+42,11);
+z36(ic+44);
+N=hc|2;
+break;
+case 10:jc=rp(b+24);
+kc=jc+(i64)((u64)t*56);
+switch(*kc){
+case 0:goto L3;
+case 2:if(kc[8]!=8)goto L3;
+lc=kc[16];
+mc=q8(kc+20);
+nc=kc[28];
+oc=q8(kc+32);
+pc=q4(kc+40);
+qc=q4(kc+44);
+rc=kc[12]&1;
+sc=jc+(i64)((u64)qc*56);
+switch(*sc){
+case 0:break;
+case 2:if(sc[8]==0&&sc[9]==117){
+tc=0;
+goto L6;}
+break;
+case 1:case 3:case 4:case 5:case 6:case 7:NEVER;
+default:NEVER;
+}
+w8(s,0);
+w4(s+8,qc);
+w4(s+12,3);
+w4(s+16,0);
+w4(s+20,0);
+w8(s+24,w);
+s[32]=x;
+z7(s+33);
+s[40]=3;
+s[41]=0;
+w2(s+42,32);
+z36(s+44);
+tc=2;
+L6:uc=s+tc*40;
+*uc=3;
+uc[1]=0;
+w2(uc+2,16);
+z36(uc+4);
+vc=tc|1;
+w8(s+320,vc);
+wc=jc+(i64)((u64)pc*56);
+if(*wc!=3)NEVER;
+if((u8)(q4(wc+4)&1)){
+xc=s+vc*40;
+w8(xc,0);
+w4(xc+8,pc);
+w4(xc+12,8);
+w4(xc+16,0);
+w4(xc+20,0);
+w8(xc+24,w);
+xc[32]=x;
+z7(xc+33);
+yc=tc+2;}
+else yc=vc;
+zc=s+yc*40;
+*zc=3;
+zc[1]=0;
+switch(lc){
+case 0:Ac=yc+1;
+if(rc){
+w2(zc+2,27);
+Bc=zc+4;
+Cc=Ac;}
+else{
+w2(zc+2,26);
+Bc=zc+4;
+Cc=Ac;}
+break;
+case 1:w2(zc+2,31);
+z36(zc+4);
+zc[40]=3;
+zc[41]=0;
+w2(zc+42,30);
+z36(zc+44);
+Dc=yc+3;
+zc[80]=3;
+zc[81]=0;
+if(rc){
+w2(zc+82,29);
+Bc=zc+84;
+Cc=Dc;}
+else{
+w2(zc+82,28);
+Bc=zc+84;
+Cc=Dc;}
+break;
+case 2:w2(zc+2,31);
+z36(zc+4);
+Ec=yc+1;
+if(nc==0){
+if((u32)mc>=(u32)(mc>>32)){
+Hc=Ec;
+goto L7;}
+Fc=1;
+Gc=mc;}
+else{
+if((u32)oc>=(u32)(oc>>32)){
+Hc=Ec;
+goto L7;}
+Fc=2;
+Gc=oc;}
+Ic=s+Ec*40;
+*Ic=Fc;
+z3(Ic+1);
+x8(Ic+4,Gc);
+z28(Ic+12);
+Hc=yc+2;
+L7:Jc=s+Hc*40;
+Kc=Hc+1;
+*Jc=3;
+Jc[1]=0;
+if(rc){
+w2(Jc+2,29);
+Bc=Jc+4;
+Cc=Kc;}
+else{
+w2(Jc+2,28);
+Bc=Jc+4;
+Cc=Kc;}
+break;
+default:NEVER;
+}
+z36(Bc);
+N=Cc;
+break;
+case 1:case 3:case 4:case 5:case 6:case 7:NEVER;
+default:NEVER;
+}
+break;
+case 11:Lc=rp(b+24)+(i64)((u64)t*56);
+switch(*Lc){
+case 0:goto L3;
+case 2:Mc=(Lc[8]&254)==8?q2(Lc+10):0;
+if(v>=Mc)goto L3;
+Nc=v+1;
+if(Nc>=Mc){
+push_numbered_e67(s,w+v);
+if(v==0)goto L3;
+Rc=r8(s+320);
+Sc=s+Rc*40;
+*Sc=3;
+Sc[1]=0;
+w2(Sc+2,11);
+z36(Sc+4);
+Tc=Rc+1;
+w8(s+320,Tc);
+X=Tc;
+goto L5;}
+w8(s,0);
+w4(s+8,t);
+w4(s+12,11);
+w4(s+16,Nc);
+w4(s+20,0);
+w8(s+24,w);
+s[32]=x;
+z7(s+33);
+w8(s+320,1);
+push_numbered_e67(s,w+v);
+if(v==0)goto L3;
+Oc=r8(s+320);
+Pc=s+Oc*40;
+*Pc=3;
+Pc[1]=0;
+w2(Pc+2,11);
+z36(Pc+4);
+Qc=Oc+1;
+w8(s+320,Qc);
+X=Qc;
+goto L5;
+case 1:case 3:case 4:case 5:case 6:case 7:NEVER;
+default:NEVER;
+}
+break;
+case 12:Uc=rp(b+24);
+Vc=Uc+(i64)((u64)t*56);
+if(*Vc!=4)NEVER;
+if((q4(Vc+4)&255)==0)goto L3;
+Wc=q4(Vc+16);
+Xc=Uc+(i64)((u64)Wc*56);
+if(*Xc!=4)NEVER;
+if((u8)(q4(Xc+4)&1)){
+w8(s,0);
+w4(s+8,Wc);
+w4(s+12,13);
+w4(s+16,0);
+w4(s+20,0);
+w8(s+24,w);
+s[32]=x;
+z7(s+33);
+Yc=1;}
+else Yc=0;
+Zc=s+Yc*40;
+w8(Zc,0);
+w4(Zc+8,t);
+w4(Zc+12,14);
+w4(Zc+16,0);
+w4(Zc+20,0);
+w8(Zc+24,w);
+Zc[32]=x;
+G=Zc;
+H=Yc;
+goto L2;
+case 13:ad=rp(b+24);
+bd=ad+(i64)((u64)t*56);
+if(*bd!=4)NEVER;
+if((q4(bd+4)&255)==0)goto L3;
+cd=q4(bd+16);
+dd=ad+(i64)((u64)cd*56);
+if(*dd!=4)NEVER;
+if((u8)(q4(dd+4)&1)){
+w8(s,0);
+w4(s+8,cd);
+w4(s+12,13);
+w4(s+16,0);
+w4(s+20,0);
+w8(s+24,w);
+s[32]=x;
+z7(s+33);
+ed=1;}
+else ed=0;
+fd=s+ed*40;
+w8(fd,0);
+w4(fd+8,t);
+w4(fd+12,14);
+w4(fd+16,0);
+w4(fd+20,0);
+w8(fd+24,w);
+fd[32]=x;
+z7(fd+33);
+fd[40]=3;
+fd[41]=0;
+w2(fd+42,34);
+z36(fd+44);
+N=ed|2;
+break;
+case 14:gd=rp(b+24);
+hd=gd+(i64)((u64)t*56);
+if(*hd!=4)NEVER;
+if((q4(hd+4)&255)==0)goto L3;
+id=q4(hd+8);
+switch(x){
+case 0:case 2:jd=q4(hd+12);
+kd=gd+(i64)((u64)jd*56);
+if(*kd!=5)NEVER;
+if(!(u8)(q4(kd+4)&1)){
+w8(s,0);
+w4(s+8,id);
+w4(s+12,2);
+w4(s+16,0);
+w4(s+20,0);
+w8(s+24,w);
+s[32]=x;
+z7(s+33);
+w8(s+320,1);
+goto L4;}
+ld=gd+(i64)((u64)id*56);
+if(*ld!=0)NEVER;
+switch(ld[8]){
+case 5:md=r4(ld+12);
+nd=r4(ld+16);
+*s=3;
+s[1]=0;
+w2(s+2,2);
+z36(s+4);
+w8(s+320,1);
+if(*kd!=5)NEVER;
+if((u8)(q4(kd+4)&1)){
+w8(s+40,0);
+w4(s+48,jd);
+w4(s+52,15);
+w4(s+56,0);
+w4(s+60,0);
+w8(s+64,w);
+s[72]=x;
+z7(s+73);
+w8(s+320,2);
+od=2;}
+else od=1;
+pd=gd+(i64)((u64)nd*56);
+if(*pd!=1)NEVER;
+if(pd[8]==0)qd=od;
+else{
+sd=s+od*40;
+*sd=3;
+sd[1]=0;
+w2(sd+2,11);
+z36(sd+4);
+td=od+1;
+w8(s+320,td);
+if(*pd!=1)NEVER;
+if(pd[8]==0)qd=td;
+else{
+ud=s+td*40;
+w8(ud,0);
+w4(ud+8,nd);
+w4(ud+12,5);
+w4(ud+16,0);
+w4(ud+20,0);
+w8(ud+24,w);
+ud[32]=x;
+z7(ud+33);
+qd=od+2;}}
+vd=s+qd*40;
+*vd=3;
+vd[1]=0;
+w2(vd+2,1);
+z44(vd+4);
+w4(vd+48,md);
+w4(vd+52,2);
+w4(vd+56,0);
+w4(vd+60,0);
+w8(vd+64,w);
+vd[72]=x;
+z7(vd+73);
+N=qd+2;
+break;
+case 0:*s=3;
+s[1]=0;
+w2(s+2,2);
+z36(s+4);
+w8(s+320,1);
+if(*kd!=5)NEVER;
+if((u8)(q4(kd+4)&1)){
+w8(s+40,0);
+w4(s+48,jd);
+w4(s+52,15);
+w4(s+56,0);
+w4(s+60,0);
+w8(s+64,w);
+s[72]=x;
+z7(s+73);
+xd=2;}
+else xd=1;
+yd=s+xd*40;
+*yd=3;
+yd[1]=0;
+w2(yd+2,1);
+z44(yd+4);
+w4(yd+48,id);
+w4(yd+52,2);
+w4(yd+56,0);
+w4(yd+60,0);
+w8(yd+64,w);
+yd[72]=x;
+z7(yd+73);
+N=xd+2;
+break;
+case 1:*s=3;
+s[1]=0;
+w2(s+2,2);
+z36(s+4);
+w8(s+320,1);
+if(*kd!=5)NEVER;
+if((u8)(q4(kd+4)&1)){
+w8(s+40,0);
+w4(s+48,jd);
+w4(s+52,15);
+w4(s+56,0);
+w4(s+60,0);
+w8(s+64,w);
+s[72]=x;
+z7(s+73);
+zd=2;}
+else zd=1;
+Ad=s+zd*40;
+*Ad=3;
+Ad[1]=0;
+w2(Ad+2,1);
+z44(Ad+4);
+w4(Ad+48,id);
+w4(Ad+52,2);
+w4(Ad+56,0);
+w4(Ad+60,0);
+w8(Ad+64,w);
+Ad[72]=x;
+z7(Ad+73);
+N=zd+2;
+break;
+case 2:*s=3;
+s[1]=0;
+w2(s+2,2);
+z36(s+4);
+w8(s+320,1);
+if(*kd!=5)NEVER;
+if((u8)(q4(kd+4)&1)){
+w8(s+40,0);
+w4(s+48,jd);
+w4(s+52,15);
+w4(s+56,0);
+w4(s+60,0);
+w8(s+64,w);
+s[72]=x;
+z7(s+73);
+Bd=2;}
+else Bd=1;
+Cd=s+Bd*40;
+*Cd=3;
+Cd[1]=0;
+w2(Cd+2,1);
+z44(Cd+4);
+w4(Cd+48,id);
+w4(Cd+52,2);
+w4(Cd+56,0);
+w4(Cd+60,0);
+w8(Cd+64,w);
+Cd[72]=x;
+z7(Cd+73);
+N=Bd+2;
+break;
+case 3:*s=3;
+s[1]=0;
+w2(s+2,2);
+z36(s+4);
+w8(s+320,1);
+if(*kd!=5)NEVER;
+if((u8)(q4(kd+4)&1)){
+w8(s+40,0);
+w4(s+48,jd);
+w4(s+52,15);
+w4(s+56,0);
+w4(s+60,0);
+w8(s+64,w);
+s[72]=x;
+z7(s+73);
+Dd=2;}
+else Dd=1;
+Ed=s+Dd*40;
+*Ed=3;
+Ed[1]=0;
+w2(Ed+2,1);
+z44(Ed+4);
+w4(Ed+48,id);
+w4(Ed+52,2);
+w4(Ed+56,0);
+w4(Ed+60,0);
+w8(Ed+64,w);
+Ed[72]=x;
+z7(Ed+73);
+N=Dd+2;
+break;
+case 4:*s=3;
+s[1]=0;
+w2(s+2,2);
+z36(s+4);
+w8(s+320,1);
+if(*kd!=5)NEVER;
+if((u8)(q4(kd+4)&1)){
+w8(s+40,0);
+w4(s+48,jd);
+w4(s+52,15);
+w4(s+56,0);
+w4(s+60,0);
+w8(s+64,w);
+s[72]=x;
+z7(s+73);
+Fd=2;}
+else Fd=1;
+Gd=s+Fd*40;
+*Gd=3;
+Gd[1]=0;
+w2(Gd+2,1);
+z44(Gd+4);
+w4(Gd+48,id);
+w4(Gd+52,2);
+w4(Gd+56,0);
+w4(Gd+60,0);
+w8(Gd+64,w);
+Gd[72]=x;
+z7(Gd+73);
+N=Fd+2;
+break;
+default:NEVER;
+}
+break;
+case 1:case 3:w8(s,0);
+w4(s+8,id);
+w4(s+12,2);
+w4(s+16,0);
+w4(s+20,0);
+w8(s+24,w);
+s[32]=x;
+z7(s+33);
+w8(s+320,1);
+goto L4;
+default:NEVER;
+}
+break;
+case 15:fill_bindings_da9(b,s,t,1,w,x);
+goto L3;
+case 16:fill_bindings_da9(b,s,t,0,w,x);
+goto L3;
+default:NEVER;
+}
+w8(s+320,N);
+Hd=N;
+goto L8;
+L3:X=r8(s+320);
+L5:if(X<=15){
+Jd=X;
+goto L9;}
+Id=X>>1;
+mirror_77d(s,s+(i64)((X-Id)*40),Id);
+goto L4;
+L2:z7(G+33);
+Kd=H+1;
+w8(s+320,Kd);
+Jd=Kd;
+L9:if(Jd<=1)goto L4;
+Hd=Jd;
+L8:Ld=(Hd-2)>>1;
+Md=0;
+Nd=Hd;
+L10:Od=Nd-1;
+if(Md<Od){
+Pd=s+Md*40;
+Qd=s+Od*40;
+Rd=*Pd;
+memcpy(g,Pd+1,39);
+Sd=*Qd;
+memcpy(f,Qd+1,39);
+*Pd=Sd;
+memcpy(Pd+1,f,39);
+*Qd=Rd;
+memcpy(Qd+1,g,39);}
+else{
+if(Od<Md){
+Td=s+Od*40;
+Ud=s+Md*40;
+Vd=*Td;
+memcpy(e,Td+1,39);
+Wd=*Ud;
+memcpy(d,Ud+1,39);
+*Td=Wd;
+memcpy(Td+1,d,39);
+*Ud=Vd;
+memcpy(Ud+1,e,39);}}
+if(Md!=Ld){
+Md=Md+1;
+Nd=Od;
+goto L10;}
+L4:memcpy(a,s,328);
+return;
+}
+
+/* rust_tree::symbol::Symbol::push_as */
+static void push_as_4dd(u8* a,u32 b,u32 c,u64 d,u8 e)
+{
+u64 f;
+u8 *g;
+f=r8(a+320);
+g=a+f*40;
+*g=3;
+g[1]=0;
+x2(g+2,2);
+z44(g+4);
+x4(g+48,c);
+x4(g+52,2);
+x4(g+56,0);
+x4(g+60,0);
+x8(g+64,d);
+g[72]=e;
+z7(g+73);
+g[80]=3;
+g[81]=0;
+x2(g+82,3);
+z44(g+84);
+x4(g+128,b);
+x4(g+132,3);
+x4(g+136,0);
+x4(g+140,0);
+x8(g+144,d);
+g[152]=e;
+z7(g+153);
+g[160]=3;
+g[161]=0;
+x2(g+162,1);
+z36(g+164);
+w8(a+320,f+5);
+return;
+}
+
+/* rust_tree::symbol::Symbol::push_special */
+static void push_special_6d5(u8* a,u8 b,u8* c,u64 d)
+{
+u8 e[24],f[40];
+u64 g,k,l,n,o,p,q,r,s,x,B,C,D,M,N,S,V,X,Y,aa;
+u32 h,i;
+u8 j,w,A,G,K,Q,W;
+u8 *m,*u,*v,*y,*z,*E,*F,*I,*J,*O,*P,*R,*T,*U,*Z,*ba;
+u16 t,H,L;
+g=q8(c);
+h=g;
+i=g>>32;
+j=c[8];
+k=q8(c+12);
+l=r8(a+320);
+m=a+l*40;
+*m=3;
+m[1]=0;
+x2(m+2,9);
+z36(m+4);
+n=l+1;
+w8(a+320,n);
+z40(f);
+if(d<=9999){
+q=40;
+r=d;
+goto L1;}
+o=d;
+p=40;
+L2:s=o/10000;
+t=o%10000;
+u=(u8*)t_bedf+((u64)(t%100)<<1);
+v=f+(i64)p;
+w=u[1];
+v[-2]=*u;
+v[-1]=w;
+x=p-4;
+y=(u8*)t_bedf+((u64)(t/100)<<1);
+z=f+x;
+A=y[1];
+*z=*y;
+z[1]=A;
+if(o>99999999){
+o=s;
+p=x;
+goto L2;}
+q=x;
+r=s;
+L1:if(r<100){
+if(r<10){
+B=q-1;
+*(f+B)=(u8)r|48;
+C=B;}
+else{
+D=q-2;
+E=(u8*)t_bedf+(r<<1);
+F=f+D;
+G=E[1];
+*F=*E;
+F[1]=G;
+C=D;}}
+else{
+H=r;
+I=(u8*)t_bedf+((u64)(H%100)<<1);
+J=f+(i64)q;
+K=I[1];
+J[-2]=*I;
+J[-1]=K;
+L=H/100;
+if(r<1000){
+M=q-3;
+*(f+M)=(u8)L|48;
+C=M;}
+else{
+N=q-4;
+O=(u8*)t_bedf+((u64)L<<1);
+P=f+N;
+Q=O[1];
+*P=*O;
+P[1]=Q;
+C=N;}}
+R=f+(i64)C;
+S=40-C;
+z24(e);
+if((u64)e-(u64)R<S)copy_bits_4f4(R,e,S);
+else memcpy(e,R,S);
+T=a+n*40;
+*T=4;
+memcpy(T+1,e,24);
+T[25]=S;
+z14(T+26);
+U=a+(i64)(l*40);
+U[80]=3;
+U[81]=0;
+x2(U+82,8);
+z36(U+84);
+V=l+3;
+if(j==0){
+if(i<=h){
+Y=V;
+goto L3;}
+W=1;
+X=g;}
+else{
+if((u32)(k>>32)<=(u32)k){
+Y=V;
+goto L3;}
+W=2;
+X=k;}
+Z=a+V*40;
+*Z=W;
+z3(Z+1);
+x8(Z+4,X);
+z28(Z+12);
+m[160]=3;
+m[161]=0;
+x2(m+162,7);
+z36(m+164);
+aa=l+5;
+w8(a+320,aa);
+Y=aa;
+L3:ba=a+(i64)(Y*40);
+switch(b){
+case 67:*ba=3;
+ba[1]=0;
+x2(ba+2,5);
+z36(ba+4);
+break;
+case 83:*ba=3;
+ba[1]=0;
+x2(ba+2,6);
+z36(ba+4);
+break;
+default:*ba=4;
+ba[1]=b;
+z23(ba+2);
+ba[25]=1;
+z14(ba+26);
+break;}
+ba[40]=3;
+ba[41]=0;
+x2(ba+42,4);
+z36(ba+44);
+w8(a+320,Y+2);
+return;
+}
+
+/* rust_tree::symbol::Symbol::push_array */
+static void push_array_64d(u8* a,u32 b,u32 c,u64 d,u8 e)
+{
+u64 f;
+u8 *g;
+f=r8(a+320);
+g=a+f*40;
+*g=3;
+g[1]=0;
+x2(g+2,14);
+z44(g+4);
+x4(g+48,c);
+x4(g+52,4);
+x4(g+56,0);
+x4(g+60,0);
+x8(g+64,d);
+g[72]=e;
+z7(g+73);
+g[80]=3;
+g[81]=0;
+x2(g+82,13);
+z44(g+84);
+x4(g+128,b);
+x4(g+132,3);
+x4(g+136,0);
+x4(g+140,0);
+x8(g+144,d);
+g[152]=e;
+z7(g+153);
+g[160]=3;
+g[161]=0;
+x2(g+162,12);
+z36(g+164);
+w8(a+320,f+5);
+return;
+}
+
+/* rust_tree::symbol::Symbol::push_slice */
+static void push_slice_a77(u8* a,u32 b,u64 c,u8 d)
+{
+u64 e;
+u8 *f;
+e=r8(a+320);
+f=a+e*40;
+*f=3;
+f[1]=0;
+x2(f+2,14);
+z44(f+4);
+x4(f+48,b);
+x4(f+52,3);
+x4(f+56,0);
+x4(f+60,0);
+x8(f+64,c);
+f[72]=d;
+z7(f+73);
+f[80]=3;
+f[81]=0;
+x2(f+82,12);
+z36(f+84);
+w8(a+320,e+3);
+return;
+}
+
+/* rust_tree::symbol::Symbol::push_closing */
+static void push_closing_ee2(u8* a,u8* b,u32 c)
+{
+u8 *d,*e,*g,*h,*j;
+u64 f,i,l;
+u8 k;
+d=rp(a+24);
+e=d+(i64)((u64)c*56);
+if(*e!=3)NEVER;
+if((q4(e+4)&255)==0){
+f=r8(b+320);
+g=b+f*40;
+*g=3;
+g[1]=0;
+x2(g+2,16);
+z36(g+4);
+w8(b+320,f+1);}
+else{
+h=d+(i64)((u64)q4(e+12)*56);
+if(*h!=3)NEVER;
+i=r8(b+320);
+j=b+i*40;
+k=q4(h+4)&1;
+*j=3;
+j[1]=0;
+l=i+1;
+if(k){
+x2(j+2,16);
+z36(j+4);
+w8(b+320,l);}
+else{
+x2(j+2,17);
+z36(j+4);
+w8(b+320,l);}}
+return;
+}
+
+/* rust_tree::symbol::Symbol::push_numbered */
+static void push_numbered_e67(u8* a,u64 b)
+{
+u8 c[24],d[24],e[40];
+u8 f,h,q,u,A,E,K;
+u8 *g,*o,*p,*s,*t,*y,*z,*C,*D,*I,*J,*L,*O;
+u64 i,j,k,l,m,r,v,w,x,G,H,M,N;
+u16 n,B,F;
+if(b<26){
+f=(u8)b+97;
+z24(d);
+if((u64)d==(u64)(u8*)t_265f)copy_bits_4f4((u8*)t_265f,d,1);
+else *d=39;
+d[1]=f;
+g=d;
+h=2;}
+else{
+z40(e);
+if(b<=9999){
+k=40;
+l=b;
+goto L1;}
+i=b;
+j=40;
+L2:m=i/10000;
+n=i%10000;
+o=(u8*)t_bedf+((u64)(n%100)<<1);
+p=e+(i64)j;
+q=o[1];
+p[-2]=*o;
+p[-1]=q;
+r=j-4;
+s=(u8*)t_bedf+((u64)(n/100)<<1);
+t=e+r;
+u=s[1];
+*t=*s;
+t[1]=u;
+if(i>99999999){
+i=m;
+j=r;
+goto L2;}
+k=r;
+l=m;
+L1:if(l<100){
+if(l<10){
+v=k-1;
+*(e+v)=(u8)l|48;
+w=v;}
+else{
+x=k-2;
+y=(u8*)t_bedf+(l<<1);
+z=e+x;
+A=y[1];
+*z=*y;
+z[1]=A;
+w=x;}}
+else{
+B=l;
+C=(u8*)t_bedf+((u64)(B%100)<<1);
+D=e+(i64)k;
+E=C[1];
+D[-2]=*C;
+D[-1]=E;
+F=B/100;
+if(l<1000){
+G=k-3;
+*(e+G)=(u8)F|48;
+w=G;}
+else{
+H=k-4;
+I=(u8*)t_bedf+((u64)F<<1);
+J=e+H;
+K=I[1];
+*J=*I;
+J[1]=K;
+w=H;}}
+L=e+(i64)w;
+M=40-w;
+z24(c);
+if((u64)c-(u64)(u8*)t_092f<2)copy_bits_4f4((u8*)t_092f,c,2);
+else w2(c,24359);
+if((u64)(c+2)-(u64)L<M)copy_bits_4f4(L,c+2,M);
+else memcpy(c+2,L,M);
+g=c;
+h=42-(u8)w;}
+N=r8(a+320);
+O=a+N*40;
+*O=4;
+memcpy(O+1,g,24);
+O[25]=h;
+z14(O+26);
+w8(a+320,N+1);
+return;
+}
+
+/* rust_tree::symbol::Symbol::push_function */
+static void push_function_633(u8* a,u32 b,u16 c,u64 d,u8 e)
+{
+u64 f,h;
+u8 *g,*i;
+f=r8(a+320);
+g=a+f*40;
+x8(g,0);
+x4(g+8,b);
+x4(g+12,10);
+x4(g+16,0);
+x4(g+20,0);
+x8(g+24,d+c);
+g[32]=e;
+z7(g+33);
+h=f+1;
+w8(a+320,h);
+if(c!=0){
+i=a+h*40;
+*i=3;
+i[1]=0;
+x2(i+2,25);
+z44(i+4);
+x4(i+48,b);
+x4(i+52,11);
+x4(i+56,0);
+x4(i+60,0);
+x8(i+64,d);
+i[72]=e;
+z7(i+73);
+i[80]=3;
+i[81]=0;
+x2(i+82,24);
+z36(i+84);
+w8(a+320,f+4);}
+return;
+}
+
+/* rust_tree::symbol::Symbol::push_dyn */
+static void push_dyn_9e1(u8* a,u8* b,u32 c,u16 d,u32 e,u64 f,u64 g,u8 h)
+{
+u64 i,j,m,o,p,q;
+u8 *k,*l,*n,*r,*s;
+i=g+d;
+if(f!=0){
+push_numbered_e67(b,usub64(g,f));
+j=r8(b+320);
+k=b+j*40;
+*k=3;
+k[1]=0;
+x2(k+2,34);
+z36(k+4);
+w8(b+320,j+1);}
+l=rp(a+24)+(i64)((u64)e*56);
+if(*l!=4)NEVER;
+m=r8(b+320);
+if((u8)(q4(l+4)&1)){
+n=b+m*40;
+x8(n,0);
+x4(n+8,e);
+x4(n+12,12);
+x4(n+16,0);
+x4(n+20,0);
+x8(n+24,i);
+n[32]=h;
+z7(n+33);
+o=m+1;
+w8(b+320,o);
+p=o;}
+else p=m;
+if(d==0)q=p;
+else{
+r=b+p*40;
+*r=3;
+r[1]=0;
+x2(r+2,25);
+z44(r+4);
+x4(r+48,c);
+x4(r+52,11);
+x4(r+56,0);
+x4(r+60,0);
+x8(r+64,g);
+r[72]=h;
+z7(r+73);
+r[80]=3;
+r[81]=0;
+x2(r+82,24);
+z36(r+84);
+q=p+3;}
+s=b+q*40;
+*s=3;
+s[1]=0;
+x2(s+2,33);
+z36(s+4);
+w8(b+320,q+1);
+return;
+}
+
+/* rust_tree::symbol::Symbol::push_escaped */
+static void push_escaped_6a1(u8* a,u32 b)
+{
+A16 u8 c[24],d[8];
+u64 e,h,i,o,q;
+u32 f,g,j,l;
+u8 k,m;
+u8 *n,*p,*r;
+w8(d,0);
+if(b<=15){
+g=b;
+h=7;
+goto L1;}
+e=8;
+f=b;
+L2:i=e-1;
+j=f&15;
+k=j;
+*(d+i)=j<10?k|48:(u8)(k+87);
+l=f>>4;
+if(f>255){
+e=i;
+f=l;
+goto L2;}
+g=l;
+h=e-2;
+L1:m=g;
+n=d+h;
+*n=g<10?m|48:(u8)(m+87);
+o=8-h;
+z24(c);
+if((u64)c-(u64)(u8*)t_6f51<4)copy_bits_4f4((u8*)t_6f51,c,4);
+else w4(c,2071288871);
+if((u64)(c+4)-(u64)n<o)copy_bits_4f4(n,c+4,o);
+else memcpy(c+4,n,o);
+p=c+(i64)(12-h);
+if((u64)p-(u64)(u8*)t_fc07<2)copy_bits_4f4((u8*)t_fc07,p,2);
+else x2(p,10109);
+q=r8(a+320);
+r=a+q*40;
+*r=4;
+memcpy(r+1,c,24);
+r[25]=14-(u8)h;
+z14(r+26);
+w8(a+320,q+1);
+return;
+}
+
+/* rust_tree::symbol::Symbol::fill_bindings */
+static void fill_bindings_da9(u8* a,u8* b,u32 c,u8 d,u64 e,u8 f)
+{
+u8 *g,*h,*j,*r,*t,*y,*A;
+u32 i,k,o,p;
+u64 l,n,q,s,u,w,x,z;
+u8 m,v;
+g=rp(a+24);
+h=g+(i64)((u64)c*56);
+if(*h!=5)NEVER;
+if((q4(h+4)&255)!=0){
+i=q4(h+32);
+j=g+(i64)((u64)i*56);
+if(*j!=5)NEVER;
+k=q4(h+28);
+l=q8(h+20);
+m=h[16];
+n=q8(h+8);
+o=n;
+p=n>>32;
+q=r8(b+320);
+if((u8)(q4(j+4)&1)){
+r=b+q*40;
+x8(r,0);
+x4(r+8,i);
+x4(r+12,16);
+x4(r+16,0);
+x4(r+20,0);
+x8(r+24,e);
+r[32]=f;
+z7(r+33);
+s=q+1;}
+else s=q;
+t=b+s*40;
+x8(t,0);
+x4(t+8,k);
+x4(t+12,3);
+x4(t+16,0);
+x4(t+20,0);
+x8(t+24,e);
+t[32]=f;
+z7(t+33);
+t[40]=3;
+t[41]=0;
+x2(t+42,35);
+z36(t+44);
+u=s+2;
+w8(b+320,u);
+if(m==0){
+if(o>=p){
+x=u;
+goto L1;}
+v=1;
+w=n;}
+else{
+if((u32)l>=(u32)(l>>32)){
+x=u;
+goto L1;}
+v=2;
+w=l;}
+y=b+u*40;
+*y=v;
+z3(y+1);
+x8(y+4,w);
+z28(y+12);
+z=s+3;
+w8(b+320,z);
+x=z;
+L1:if(!d){
+A=b+x*40;
+*A=3;
+A[1]=0;
+x2(A+2,11);
+z36(A+4);
+w8(b+320,x+1);}}
+return;
+}
+
+/* core::slice::edits::mirror */
+static void mirror_77d(u8* a,u8* b,u64 c)
+{
+u8 d[39],e[39];
+u64 f,k;
+u8 *g,*h;
+u8 i,j;
+f=0;
+L1:g=a+(i64)(f*40);
+h=b+(i64)((c+(f^18446744073709551615u))*40);
+i=*g;
+memcpy(e,g+1,39);
+j=*h;
+memcpy(d,h+1,39);
+*g=j;
+memcpy(g+1,d,39);
+*h=i;
+memcpy(h+1,e,39);
+k=f+1;
+if(k==c)return;
+f=k;
+goto L1;
+}
+
+/* sym_parts::plain::push_plain */
+static void push_plain_fc3(u8* a,u8* b,u8* c,u8* d,u64 e,u32 f)
+{
+u8 i[39];
+A16 u8 g[12],h[12],j[40];
+u32 k,l,r,s,t,u,v,x,y,z;
+u8 *m,*q,*G,*H,*J;
+u64 n,o,A,B,C,I;
+u8 p,w;
+s_64_64 D,E,F;
+z39(i);
+z40(j);
+if(e==0)k=0;
+else{
+l=0;
+m=d;
+n=e;
+L1:o=n-1;
+p=*m==0;
+q=m+(i64)(u64)(p?8:0);
+if(p){
+memcpy(i+7,q,32);
+*j=0;
+memcpy(j+1,i,39);
+z12(g);
+length_of_part_5fe(g,b,j,f);
+r=r4(g+4);
+if(*g==0){
+s=r;
+goto L2;}
+t=r;
+u=r4(g+8);}
+else{
+z12(h);
+length_of_part_5fe(h,b,q,f);
+v=r4(h+4);
+if(*h==0){
+s=v;
+goto L2;}
+t=v;
+u=r4(h+8);}
+w=1;
+x=t&255;
+y=u;
+goto L3;
+L2:z=s+l;
+if(o!=0){
+l=z;
+m=m+40;
+n=o;
+goto L1;}
+k=z;}
+A=r8(c+8);
+if(r8(c+16)==A){
+B=umax64(A,8);
+if(B>(A^18446744073709551615u)){
+w=1;
+x=4;
+y=0;
+goto L3;}
+C=B+A;
+if(C>=0x2aaaaaaaaaaaaabu){
+w=1;
+x=4;
+y=0;
+goto L3;}
+if(A==0){
+D=port_rattle_alloc(C*48,8);
+if(!(u8)(D.f0&1)){
+w=1;
+x=4;
+y=0;
+goto L3;}
+E=D;}
+else{
+F=port_rattle_realloc(rp(c),A*48,C*48,8);
+if(!(u8)(F.f0&1)){
+w=1;
+x=4;
+y=0;
+goto L3;}
+E=F;}
+G=(u8*)E.f1;
+wp(c,G);
+w8(c+16,C);
+H=G;
+I=r8(c+8);}
+else{
+H=rp(c);
+I=A;}
+J=H+I*48;
+*J=0;
+J[1]=0;
+x4(J+4,k);
+z40(J+8);
+w8(c+8,I+1);
+w=0;
+x=0;
+y=0;
+L3:*a=w;
+x4(a+4,x);
+x4(a+8,y);
+return;
+}
+
+/* sym_parts::plain::push_alone */
+static void push_alone_829(u8* a,u8* b,u8 c,u32 d)
+{
+u64 e,f,i,o,q,r,s,y;
+u8 g;
+u32 h;
+s_64_64 j,k,l,t,u,v;
+u8 *m,*n,*p,*w,*x,*z;
+e=r8(b+8);
+if(r8(b+16)==e){
+f=umax64(e,8);
+if(f>(e^18446744073709551615u)){
+g=1;
+h=4;
+goto L1;}
+i=f+e;
+if(i>=0x2aaaaaaaaaaaaabu){
+g=1;
+h=4;
+goto L1;}
+if(e==0){
+j=port_rattle_alloc(i*48,8);
+if(!(u8)(j.f0&1)){
+g=1;
+h=4;
+goto L1;}
+k=j;}
+else{
+l=port_rattle_realloc(rp(b),e*48,i*48,8);
+if(!(u8)(l.f0&1)){
+g=1;
+h=4;
+goto L1;}
+k=l;}
+m=(u8*)k.f1;
+wp(b,m);
+w8(b+16,i);
+n=m;
+o=r8(b+8);}
+else{
+n=rp(b);
+o=e;}
+p=n+o*48;
+*p=0;
+p[1]=0;
+x4(p+4,d);
+q=o+1;
+z40(p+8);
+w8(b+8,q);
+if(r8(b+16)==q){
+r=umax64(q,8);
+if(r>0xfffffffffffffffeu-o){
+g=1;
+h=4;
+goto L1;}
+s=r+q;
+if(s>=0x2aaaaaaaaaaaaabu){
+g=1;
+h=4;
+goto L1;}
+if(q==0){
+t=port_rattle_alloc(s*48,8);
+if(!(u8)(t.f0&1)){
+g=1;
+h=4;
+goto L1;}
+u=t;}
+else{
+v=port_rattle_realloc(rp(b),q*48,s*48,8);
+if(!(u8)(v.f0&1)){
+g=1;
+h=4;
+goto L1;}
+u=v;}
+w=(u8*)u.f1;
+wp(b,w);
+w8(b+16,s);
+x=w;
+y=r8(b+8);}
+else{
+x=rp(b);
+y=q;}
+z=x+y*48;
+*z=1;
+z[1]=c;
+x4(z+4,d);
+z40(z+8);
+w8(b+8,y+1);
+g=0;
+h=0;
+L1:*a=g;
+x4(a+4,h);
+x4(a+8,0);
+return;
+}
+
+/* rust_tree::symbol::Symbol::view_at */
+static void view_at_138(u8* a,u8* b,u32 c)
+{
+u8 d[6];
+u8 *e;
+u32 f,g,h,k,l,q,s,w,x,y,z,A,B,F,G,H,I,J,K,M,P,Q,R,S,V,W,Y,Z,da,ea,ga,ha,ia,ja,la,na,oa;
+u8 i,o,p,ba,ca,pa;
+u64 j,m,n,r,u,v,D,E,L,O,T,U,aa,ma;
+u16 t,C,N,X,fa,ka;
+e=rp(b+24)+(i64)((u64)c*56);
+f=q4(e+4);
+g=q4(e+8);
+h=q4(e+12);
+i=e[16];
+j=q7(e+17);
+k=q4(e+24);
+l=q4(e+28);
+m=q8(e+32);
+n=q8(e+40);
+o=f;
+p=g;
+q=g>>8;
+switch(*e){
+case 0:r=(j<<8)|i;
+s=r;
+switch(p){
+case 0:t=(u16)(j>>24)&1;
+u=m;
+v=0;
+w=h;
+x=s;
+y=0;
+z=0;
+A=0;
+B=0;
+break;
+case 1:t=2;
+u=r;
+v=0;
+w=0;
+x=0;
+y=2;
+z=k;
+A=l;
+B=0;
+break;
+case 2:t=3;
+u=r;
+v=0;
+w=0;
+x=0;
+y=3;
+z=k;
+A=l;
+B=m;
+break;
+case 3:t=4;
+u=0;
+v=0;
+w=0;
+x=0;
+y=2;
+z=h;
+A=s;
+B=0;
+break;
+case 4:t=(u8)(k&1)?6:5;
+u=q&255;
+v=n;
+w=s;
+x=j>>24;
+y=1;
+z=h;
+A=0;
+B=0;
+break;
+case 5:t=7;
+u=0;
+v=0;
+w=0;
+x=0;
+y=2;
+z=h;
+A=s;
+B=0;
+break;
+default:NEVER;
+}
+z6(d);
+C=t;
+D=u;
+E=v;
+F=w;
+G=x;
+H=y;
+I=z;
+J=A;
+K=B;
+break;
+case 1:L=(j<<8)|i;
+M=L;
+switch(p){
+case 0:N=8;
+O=0;
+P=0;
+Q=0;
+R=0;
+break;
+case 1:N=9;
+O=L;
+P=1;
+Q=k;
+R=0;
+break;
+case 2:N=10;
+O=0;
+P=2;
+Q=h;
+R=M;
+break;
+case 3:N=11;
+O=0;
+P=2;
+Q=h;
+R=M;
+break;
+default:NEVER;
+}
+z6(d);
+C=N;
+D=O;
+E=0;
+F=0;
+G=0;
+H=P;
+I=Q;
+J=R;
+K=0;
+break;
+case 2:S=g>>16;
+T=j<<8;
+U=T|i;
+switch(p){
+case 0:z6(d);
+C=12;
+D=q&255;
+E=0;
+F=0;
+G=0;
+H=0;
+I=0;
+J=0;
+K=0;
+break;
+case 1:z6(d);
+C=14;
+D=0;
+E=0;
+F=0;
+G=0;
+H=2;
+I=h;
+J=U;
+K=0;
+break;
+case 2:z6(d);
+C=15;
+D=0;
+E=0;
+F=0;
+G=0;
+H=1;
+I=h;
+J=0;
+K=0;
+break;
+case 3:z6(d);
+C=16;
+D=0;
+E=0;
+F=0;
+G=0;
+H=1;
+I=h;
+J=0;
+K=0;
+break;
+case 4:z6(d);
+C=17;
+D=U;
+E=0;
+F=0;
+G=0;
+H=1;
+I=k;
+J=0;
+K=0;
+break;
+case 5:z6(d);
+C=18;
+D=U;
+E=0;
+F=0;
+G=0;
+H=1;
+I=k;
+J=0;
+K=0;
+break;
+case 6:z6(d);
+C=19;
+D=0;
+E=0;
+F=0;
+G=0;
+H=1;
+I=h;
+J=0;
+K=0;
+break;
+case 7:z6(d);
+C=20;
+D=0;
+E=0;
+F=0;
+G=0;
+H=1;
+I=h;
+J=0;
+K=0;
+break;
+case 8:V=n;
+W=n>>32;
+switch(i){
+case 0:X=21;
+Y=0;
+Z=0;
+break;
+case 1:X=22;
+Y=0;
+Z=0;
+break;
+case 2:aa=fshl64(k,T,32);
+X=(u8)(l&1)?24:23;
+Y=aa;
+Z=aa>>32;
+break;
+default:NEVER;
+}
+z6(d);
+C=X;
+D=S;
+E=h&1;
+F=Y;
+G=Z;
+H=2;
+I=V;
+J=W;
+K=0;
+break;
+case 9:z6(d);
+C=25;
+D=S;
+E=U;
+F=0;
+G=0;
+H=1;
+I=h;
+J=0;
+K=0;
+break;
+default:NEVER;
+}
+break;
+case 3:ba=o==0;
+z6(d);
+C=ba?26:27;
+D=0;
+E=0;
+F=0;
+G=0;
+H=ba?0:2;
+I=ba?0:g;
+J=ba?0:h;
+K=0;
+break;
+case 4:ca=o==0;
+z6(d);
+C=ca?28:29;
+D=0;
+E=0;
+F=0;
+G=0;
+H=ca?0:3;
+I=ca?0:g;
+J=ca?0:h;
+K=ca?0:((u32)j<<8)|i;
+break;
+case 5:if(o==0){
+da=0;
+ea=0;
+fa=30;
+ga=0;
+ha=0;
+ia=0;}
+else{
+da=m;
+ea=l;
+fa=(i&1)?32:31;
+ga=g;
+ha=h;
+ia=2;}
+z6(d);
+C=fa;
+D=0;
+E=0;
+F=ga;
+G=ha;
+H=ia;
+I=ea;
+J=da;
+K=0;
+break;
+case 6:ja=f>>8;
+switch(o){
+case 0:ka=33;
+la=ja&255;
+ma=(f>>16)&1;
+na=g;
+oa=h;
+break;
+case 1:ka=34;
+la=ja&1;
+ma=0;
+na=0;
+oa=0;
+break;
+case 2:ka=35;
+la=g;
+ma=0;
+na=0;
+oa=0;
+break;
+case 3:ka=36;
+la=0;
+ma=0;
+na=0;
+oa=0;
+break;
+default:NEVER;
+}
+z6(d);
+C=ka;
+D=la;
+E=ma;
+F=na;
+G=oa;
+H=0;
+I=0;
+J=0;
+K=0;
+break;
+case 7:pa=p==1;
+z6(d);
+C=37;
+D=0;
+E=0;
+F=((u32)j<<8)|i;
+G=j>>24;
+H=pa?2:1;
+I=f;
+J=pa?h:0;
+K=0;
+break;
+default:NEVER;
+}
+x2(a,C);
+memcpy(a+2,d,6);
+x8(a+8,D);
+x8(a+16,E);
+x4(a+24,F);
+x4(a+28,G);
+x4(a+32,0);
+x4(a+36,0);
+x4(a+40,H);
+x4(a+44,0);
+x4(a+48,I);
+x4(a+52,J);
+x4(a+56,K);
+x4(a+60,0);
+return;
+}
+
+/* sym_parts::task::Tasks::push */
+static void push_634(u8* a,u8* b,u8* c)
+{
+A16 u8 d[32];
+u8 e,f,h,l;
+u32 g,i,m;
+u64 j,k,n,t;
+s_64_64 o,p,q;
+u8 *r,*s,*u;
+e=*c;
+f=c[1];
+g=q4(c+4);
+h=c[8];
+i=q4(c+12);
+memcpy(d,c+16,32);
+j=r8(b+8);
+if(r8(b+16)==j){
+k=umax64(j,8);
+if(k>(j^18446744073709551615u)){
+l=1;
+m=4;
+goto L1;}
+n=k+j;
+if(n>=0x2aaaaaaaaaaaaabu){
+l=1;
+m=4;
+goto L1;}
+if(j==0){
+o=port_rattle_alloc(n*48,8);
+if(!(u8)(o.f0&1)){
+l=1;
+m=4;
+goto L1;}
+p=o;}
+else{
+q=port_rattle_realloc(rp(b),j*48,n*48,8);
+if(!(u8)(q.f0&1)){
+l=1;
+m=4;
+goto L1;}
+p=q;}
+r=(u8*)p.f1;
+wp(b,r);
+w8(b+16,n);
+s=r;
+t=r8(b+8);}
+else{
+s=rp(b);
+t=j;}
+u=s+t*48;
+*u=e;
+u[1]=f;
+x4(u+4,g);
+x4(u+8,h);
+x4(u+12,i);
+memcpy(u+16,d,32);
+w8(b+8,t+1);
+l=0;
+m=0;
+L1:*a=l;
+x4(a+4,m);
+x4(a+8,0);
+return;
+}
+
+/* rust_parts::sorts::path_sort */
+static s_8_32 path_sort_162(u8* a,u32 b)
+{
+A16 u8 c[64],d[64],e[64],f[64];
+u32 g;
+u8 h;
+s_8_32 i,j;
+z64(f);
+view_at_138(f,a,b);
+switch(r2(f)){
+case 5:z64(e);
+view_at_138(e,a,b);
+g=r4(e+48);
+h=1;
+break;
+case 6:z64(d);
+view_at_138(d,a,b);
+g=r4(d+48);
+h=1;
+break;
+case 7:z64(c);
+view_at_138(c,a,b);
+g=r4(c+48);
+h=2;
+break;
+case 2:case 3:case 4:g=0;
+h=3;
+break;
+default:g=0;
+h=0;
+break;}
+i=(s_8_32){0};i.f0=h;
+j=i;j.f1=g;
+return j;
+}
+
+/* rust_parts::paths::push_scope */
+static void push_scope_91a(u8* a,u8* b,u8* c,u8 d,u32 e,u8* f,u64 g,u32 h)
+{
+u8 m[39];
+A16 u8 i[32],j[32],k[12],l[12],n[40],o[12],p[12],q[12],r[12],s[12],t[12];
+u32 u,v,B,C,D,E,F,G,J,M,R,ea;
+u8 *w,*A,*W,*X,*Z,*ja,*ka,*ma;
+u64 x,y,O,P,S,Y,ba,ca,fa,la;
+u8 z,H,I,K,L,N,Q,aa,da;
+s_64_64 T,U,V,ga,ha,ia;
+z12(p);
+z12(q);
+z12(r);
+z12(s);
+z12(t);
+switch(d){
+case 0:z12(o);
+z39(m);
+z40(n);
+if(g==0)u=0;
+else{
+v=0;
+w=f;
+x=g;
+L1:y=x-1;
+z=*w==0;
+A=w+(i64)(u64)(z?8:0);
+if(z){
+memcpy(m+7,A,32);
+*n=0;
+memcpy(n+1,m,39);
+z12(k);
+length_of_part_5fe(k,b,n,h);
+B=r4(k+4);
+if(*k==0){
+C=B;
+goto L2;}
+D=B;
+E=r4(k+8);}
+else{
+z12(l);
+length_of_part_5fe(l,b,A,h);
+F=r4(l+4);
+if(*l==0){
+C=F;
+goto L2;}
+D=F;
+E=r4(l+8);}
+G=E;
+H=D;
+I=1;
+goto L3;
+L2:J=C+v;
+if(y!=0){
+v=J;
+w=w+40;
+x=y;
+goto L1;}
+u=J;}
+push_alone_829(o,c,12,u);
+G=r4(o+8);
+H=o[4];
+I=*o;
+L3:K=H;
+L=I;
+M=G;
+break;
+case 3:push_implementation_f83(p,b,c,f,g,h);
+K=p[4];
+L=*p;
+M=r4(p+8);
+break;
+case 1:if(g==0)push_implementation_f83(q,b,c,f,0,h);
+else{
+N=*f==0;
+if(N){
+push_plain_fc3(r,b,c,f+40,g-1,h);
+if(*r!=0){
+K=r[4];
+L=1;
+M=r4(r+8);
+break;}
+memcpy(j,f+(i64)(u64)(N?8:0),32);
+O=r8(c+8);
+if(r8(c+16)==O){
+P=umax64(O,8);
+if(P>(O^18446744073709551615u)){
+Q=1;
+R=4;
+goto L4;}
+S=P+O;
+if(S>=0x2aaaaaaaaaaaaabu){
+Q=1;
+R=4;
+goto L4;}
+if(O==0){
+T=port_rattle_alloc(S*48,8);
+if(!(u8)(T.f0&1)){
+Q=1;
+R=4;
+goto L4;}
+U=T;}
+else{
+V=port_rattle_realloc(rp(c),O*48,S*48,8);
+if(!(u8)(V.f0&1)){
+Q=1;
+R=4;
+goto L4;}
+U=V;}
+W=(u8*)U.f1;
+wp(c,W);
+w8(c+16,S);
+X=W;
+Y=r8(c+8);}
+else{
+X=rp(c);
+Y=O;}
+Z=X+Y*48;
+*Z=2;
+Z[1]=0;
+x4(Z+4,0);
+x4(Z+8,1);
+x4(Z+12,e);
+memcpy(Z+16,j,32);
+w8(c+8,Y+1);
+Q=0;
+R=0;
+L4:*q=Q;
+w4(q+4,R);
+w4(q+8,0);}
+else push_implementation_f83(q,b,c,f,g,h);}
+K=q[4];
+L=*q;
+M=r4(q+8);
+break;
+case 2:if(g==0)push_implementation_f83(s,b,c,f,0,h);
+else{
+aa=*f==0;
+if(aa){
+push_arguments_35b(t,b,c,f+40,g-1,h);
+if(*t!=0){
+K=t[4];
+L=1;
+M=r4(t+8);
+break;}
+memcpy(i,f+(i64)(u64)(aa?8:0),32);
+ba=r8(c+8);
+if(r8(c+16)==ba){
+ca=umax64(ba,8);
+if(ca>(ba^18446744073709551615u)){
+da=1;
+ea=4;
+goto L5;}
+fa=ca+ba;
+if(fa>=0x2aaaaaaaaaaaaabu){
+da=1;
+ea=4;
+goto L5;}
+if(ba==0){
+ga=port_rattle_alloc(fa*48,8);
+if(!(u8)(ga.f0&1)){
+da=1;
+ea=4;
+goto L5;}
+ha=ga;}
+else{
+ia=port_rattle_realloc(rp(c),ba*48,fa*48,8);
+if(!(u8)(ia.f0&1)){
+da=1;
+ea=4;
+goto L5;}
+ha=ia;}
+ja=(u8*)ha.f1;
+wp(c,ja);
+w8(c+16,fa);
+ka=ja;
+la=r8(c+8);}
+else{
+ka=rp(c);
+la=ba;}
+ma=ka+la*48;
+*ma=2;
+ma[1]=0;
+x4(ma+4,0);
+x4(ma+8,1);
+x4(ma+12,e);
+memcpy(ma+16,i,32);
+w8(c+8,la+1);
+da=0;
+ea=0;
+L5:*s=da;
+w4(s+4,ea);
+w4(s+8,0);}
+else push_implementation_f83(s,b,c,f,g,h);}
+K=s[4];
+L=*s;
+M=r4(s+8);
+break;
+default:NEVER;
+}
+*a=L;
+x4(a+4,K);
+x4(a+8,M);
+return;
+}
+
+/* rust_parts::paths::push_implementation */
+static void push_implementation_f83(u8* a,u8* b,u8* c,u8* d,u64 e,u32 f)
+{
+u8 n[39];
+A16 u8 g[12],h[12],i[12],j[12],k[12],l[12],m[12],o[40],p[32];
+u64 q,r,u,A,C,D,H,I,aa,ca,da,ga,ma,va,wa,Ca;
+u8 s,J,Q,U,Y,ea,oa,sa,ta;
+u32 t,E,F,L,M,N,O,P,R,S,T,fa,ua;
+s_64_64 v,w,x,ha,ia,ja,xa,ya,za;
+u8 *y,*z,*B,*G,*K,*V,*W,*X,*Z,*ba,*ka,*la,*na,*pa,*qa,*ra,*Aa,*Ba,*Da;
+z32(p);
+z39(n);
+z40(o);
+if(e==0){
+q=r8(c+8);
+if(r8(c+16)==q){
+r=umax64(q,8);
+if(r>(q^18446744073709551615u)){
+s=4;
+t=0;
+goto L1;}
+u=r+q;
+if(u>=0x2aaaaaaaaaaaaabu){
+s=4;
+t=0;
+goto L1;}
+if(q==0){
+v=port_rattle_alloc(u*48,8);
+if(!(u8)(v.f0&1)){
+s=4;
+t=0;
+goto L1;}
+w=v;}
+else{
+x=port_rattle_realloc(rp(c),q*48,u*48,8);
+if(!(u8)(x.f0&1)){
+s=4;
+t=0;
+goto L1;}
+w=x;}
+y=(u8*)w.f1;
+wp(c,y);
+w8(c+16,u);
+z=y;
+A=r8(c+8);}
+else{
+z=rp(c);
+A=q;}
+B=z+A*48;
+*B=0;
+B[1]=0;
+C=A+1;
+z44(B+4);
+w8(c+8,C);
+D=C;
+E=0;}
+else{
+F=0;
+G=d;
+H=e;
+L2:I=H-1;
+J=*G==0;
+K=G+(i64)(u64)(J?8:0);
+if(J){
+memcpy(n+7,K,32);
+*o=0;
+memcpy(o+1,n,39);
+z12(l);
+length_of_part_5fe(l,b,o,f);
+L=r4(l+4);
+if(*l==0){
+M=L;
+goto L3;}
+N=L;
+O=r4(l+8);}
+else{
+z12(m);
+length_of_part_5fe(m,b,K,f);
+P=r4(m+4);
+if(*m==0){
+M=P;
+goto L3;}
+N=P;
+O=r4(m+8);}
+Q=1;
+R=N&255;
+S=O;
+goto L4;
+L3:T=M+F;
+if(I!=0){
+F=T;
+G=G+40;
+H=I;
+goto L2;}
+z12(j);
+z12(k);
+U=*d==0;
+if(U){
+push_plain_fc3(j,b,c,d,e,f);
+V=j+4;
+W=j+8;
+X=j;}
+else{
+if(e==1){
+push_plain_fc3(k,b,c,d,1,f);
+V=k+4;
+W=k+8;
+X=k;}
+else{
+Y=d[40]==0;
+if(Y){
+Z=d+(i64)(u64)(U?8:0);
+aa=e-2;
+ba=d+40+(i64)(u64)(Y?8:0);
+z12(g);
+z12(h);
+z12(i);
+if(aa==0){
+ca=r8(c+8);
+if(r8(c+16)==ca){
+da=umax64(ca,8);
+if(da>(ca^18446744073709551615u)){
+ea=4;
+fa=0;
+goto L5;}
+ga=da+ca;
+if(ga>=0x2aaaaaaaaaaaaabu){
+ea=4;
+fa=0;
+goto L5;}
+if(ca==0){
+ha=port_rattle_alloc(ga*48,8);
+if(!(u8)(ha.f0&1)){
+ea=4;
+fa=0;
+goto L5;}
+ia=ha;}
+else{
+ja=port_rattle_realloc(rp(c),ca*48,ga*48,8);
+if(!(u8)(ja.f0&1)){
+ea=4;
+fa=0;
+goto L5;}
+ia=ja;}
+ka=(u8*)ia.f1;
+wp(c,ka);
+w8(c+16,ga);
+la=ka;
+ma=r8(c+8);}
+else{
+la=rp(c);
+ma=ca;}
+na=la+ma*48;
+*na=0;
+na[1]=0;
+z44(na+4);
+w8(c+8,ma+1);}
+else{
+oa=d[80]==0;
+if(oa){
+push_plain_fc3(g,b,c,d+80,aa,f);
+pa=g+4;
+qa=g+8;
+ra=g;}
+else{
+if(aa==1){
+push_plain_fc3(h,b,c,d+80,1,f);
+pa=h+4;
+qa=h+8;
+ra=h;}
+else{
+sa=d[120]==0;
+if(sa){
+push_plain_fc3(i,b,c,d+160,e-4,f);
+if(*i!=0){
+ea=i[4];
+fa=r4(i+8);
+goto L5;}
+push_after_b93(h,b,c,d+80+(i64)(u64)(oa?8:0),15,d+120+(i64)(u64)(sa?8:0),f);
+pa=h+4;
+qa=h+8;
+ra=h;}
+else{
+push_plain_fc3(h,b,c,d+80,aa,f);
+pa=h+4;
+qa=h+8;
+ra=h;}}}
+if(*ra!=0){
+s=*pa;
+t=r4(qa);
+goto L1;}}
+push_after_b93(k,b,c,Z,14,ba,f);
+V=k+4;
+W=k+8;
+X=k;
+goto L6;
+L5:s=ea;
+t=fa;
+goto L1;}
+push_plain_fc3(k,b,c,d,e,f);
+V=k+4;
+W=k+8;
+X=k;}}
+L6:if(*X!=0){
+ta=*V;
+ua=r4(W);
+goto L7;}
+D=r8(c+8);
+E=T;}
+if(r8(c+16)==D){
+va=umax64(D,8);
+if(va>(D^18446744073709551615u)){
+Q=1;
+R=4;
+S=0;
+goto L4;}
+wa=va+D;
+if(wa>=0x2aaaaaaaaaaaaabu){
+Q=1;
+R=4;
+S=0;
+goto L4;}
+if(D==0){
+xa=port_rattle_alloc(wa*48,8);
+if(!(u8)(xa.f0&1)){
+Q=1;
+R=4;
+S=0;
+goto L4;}
+ya=xa;}
+else{
+za=port_rattle_realloc(rp(c),D*48,wa*48,8);
+if(!(u8)(za.f0&1)){
+Q=1;
+R=4;
+S=0;
+goto L4;}
+ya=za;}
+Aa=(u8*)ya.f1;
+wp(c,Aa);
+w8(c+16,wa);
+Ba=Aa;
+Ca=r8(c+8);}
+else{
+Ba=rp(c);
+Ca=D;}
+Da=Ba+Ca*48;
+*Da=1;
+Da[1]=13;
+x4(Da+4,E);
+x4(Da+8,0);
+x4(Da+12,0);
+memcpy(Da+16,p,32);
+w8(c+8,Ca+1);
+Q=0;
+R=0;
+S=0;
+goto L4;
+L1:ta=s;
+ua=t;
+L7:Q=1;
+R=ta;
+S=ua;
+L4:*a=Q;
+x4(a+4,R);
+x4(a+8,S);
+return;
+}
+
+/* rust_parts::arguments::push_after */
+static void push_after_b93(u8* a,u8* b,u8* c,u8* d,u8 e,u8* f,u32 g)
+{
+u8 j[39];
+A16 u8 h[12],i[12],k[40],l[12];
+u32 m,n,r,s;
+u64 o,p,t,z;
+u8 q;
+s_64_64 u,v,w;
+u8 *x,*y,*A;
+z7(j);
+z12(l);
+z12(i);
+length_of_part_5fe(i,b,d,g);
+m=r4(i+4);
+if(*i==0){
+memcpy(j+7,f,32);
+*k=0;
+memcpy(k+1,j,39);
+z12(h);
+length_of_part_5fe(h,b,k,g);
+n=r4(h+4);
+if(*h==0){
+push_alone_829(l,c,e,n);
+if(*l==0){
+o=r8(c+8);
+if(r8(c+16)==o){
+p=umax64(o,8);
+if(p>(o^18446744073709551615u)){
+q=1;
+r=4;
+s=0;
+goto L1;}
+t=p+o;
+if(t>=0x2aaaaaaaaaaaaabu){
+q=1;
+r=4;
+s=0;
+goto L1;}
+if(o==0){
+u=port_rattle_alloc(t*48,8);
+if(!(u8)(u.f0&1)){
+q=1;
+r=4;
+s=0;
+goto L1;}
+v=u;}
+else{
+w=port_rattle_realloc(rp(c),o*48,t*48,8);
+if(!(u8)(w.f0&1)){
+q=1;
+r=4;
+s=0;
+goto L1;}
+v=w;}
+x=(u8*)v.f1;
+wp(c,x);
+w8(c+16,t);
+y=x;
+z=r8(c+8);}
+else{
+y=rp(c);
+z=o;}
+A=y+z*48;
+*A=0;
+A[1]=0;
+x4(A+4,m);
+z40(A+8);
+w8(c+8,z+1);
+q=0;
+r=0;
+s=0;}
+else{
+q=1;
+r=l[4];
+s=r4(l+8);}}
+else{
+q=1;
+r=n&255;
+s=r4(h+8);}}
+else{
+q=1;
+r=m&255;
+s=r4(i+8);}
+L1:*a=q;
+x4(a+4,r);
+x4(a+8,s);
+return;
+}
+
+/* rust_parts::arguments::push_arguments */
+static void push_arguments_35b(u8* a,u8* b,u8* c,u8* d,u64 e,u32 f)
+{
+u8 i[39];
+A16 u8 g[12],h[12],j[40],k[12],l[12],m[12],n[48];
+u64 o,p,s,y,B,F,G,U,V,W,ca;
+u8 q,H,O;
+u32 r,A,C,D,J,K,L,M,N,P,Q,R,S,T;
+s_64_64 t,u,v,X,Y,Z;
+u8 *w,*x,*z,*E,*I,*aa,*ba,*da;
+z12(l);
+z12(m);
+z48(n);
+if(e==0){
+o=r8(c+8);
+if(r8(c+16)==o){
+p=umax64(o,8);
+if(p>(o^18446744073709551615u)){
+q=1;
+r=4;
+goto L1;}
+s=p+o;
+if(s>=0x2aaaaaaaaaaaaabu){
+q=1;
+r=4;
+goto L1;}
+if(o==0){
+t=port_rattle_alloc(s*48,8);
+if(!(u8)(t.f0&1)){
+q=1;
+r=4;
+goto L1;}
+u=t;}
+else{
+v=port_rattle_realloc(rp(c),o*48,s*48,8);
+if(!(u8)(v.f0&1)){
+q=1;
+r=4;
+goto L1;}
+u=v;}
+w=(u8*)u.f1;
+wp(c,w);
+w8(c+16,s);
+x=w;
+y=r8(c+8);}
+else{
+x=rp(c);
+y=o;}
+z=x+y*48;
+*z=0;
+z[1]=0;
+z44(z+4);
+w8(c+8,y+1);
+q=0;
+r=0;
+L1:*l=q;
+w4(l+4,r);
+w4(l+8,0);}
+else{
+if(*d==0)push_plain_fc3(l,b,c,d,e,f);
+else{
+z12(k);
+length_of_part_5fe(k,b,d,f);
+A=r4(k+4);
+if(*k!=0){
+O=1;
+P=A&255;
+Q=r4(k+8);
+goto L2;}
+B=e-1;
+z39(i);
+z40(j);
+if(B==0)C=0;
+else{
+D=0;
+E=d+40;
+F=B;
+L3:G=F-1;
+H=*E==0;
+I=E+(i64)(u64)(H?8:0);
+if(H){
+memcpy(i+7,I,32);
+*j=0;
+memcpy(j+1,i,39);
+z12(g);
+length_of_part_5fe(g,b,j,f);
+J=r4(g+4);
+if(*g==0){
+K=J;
+goto L4;}
+L=J;
+M=r4(g+8);}
+else{
+z12(h);
+length_of_part_5fe(h,b,I,f);
+N=r4(h+4);
+if(*h==0){
+K=N;
+goto L4;}
+L=N;
+M=r4(h+8);}
+O=1;
+P=L&255;
+Q=M;
+goto L2;
+L4:R=K+D;
+if(G!=0){
+D=R;
+E=E+40;
+F=G;
+goto L3;}
+C=R;}
+push_listed_6df(m,b,c,d+40,B,f);
+if(*m!=0){
+O=1;
+P=m[4];
+Q=r4(m+8);
+goto L2;}
+S=umin32(A,2);
+T=A-S;
+U=r8(c+8);
+if(r8(c+16)==U){
+V=umax64(U,8);
+if(V>(U^18446744073709551615u)){
+O=1;
+P=4;
+Q=0;
+goto L2;}
+W=V+U;
+if(W>=0x2aaaaaaaaaaaaabu){
+O=1;
+P=4;
+Q=0;
+goto L2;}
+if(U==0){
+X=port_rattle_alloc(W*48,8);
+if(!(u8)(X.f0&1)){
+O=1;
+P=4;
+Q=0;
+goto L2;}
+Y=X;}
+else{
+Z=port_rattle_realloc(rp(c),U*48,W*48,8);
+if(!(u8)(Z.f0&1)){
+O=1;
+P=4;
+Q=0;
+goto L2;}
+Y=Z;}
+aa=(u8*)Y.f1;
+wp(c,aa);
+w8(c+16,W);
+ba=aa;
+ca=r8(c+8);}
+else{
+ba=rp(c);
+ca=U;}
+da=ba+ca*48;
+*da=0;
+da[1]=0;
+x4(da+4,T);
+z40(da+8);
+w8(c+8,ca+1);
+w4(m+4,0);
+w4(m+8,0);
+*n=1;
+n[1]=5;
+w4(n+4,C+T);
+push_634(m,c,n);
+if(*m!=0){
+O=1;
+P=m[4];
+Q=r4(m+8);
+goto L2;}
+*n=0;
+w4(n+4,S);
+push_634(l,c,n);}}
+O=*l;
+P=l[4];
+Q=r4(l+8);
+L2:*a=O;
+x4(a+4,P);
+x4(a+8,Q);
+return;
+}
+
+/* rust_parts::arguments::push_listed */
+static void push_listed_6df(u8* a,u8* b,u8* c,u8* d,u64 e,u32 f)
+{
+A16 u8 g[32],h[12],i[12];
+u64 j,k,o,u,x,y,B,H;
+u8 l,m,w,z,A;
+u32 n;
+s_64_64 p,q,r,C,D,E;
+u8 *s,*t,*v,*F,*G,*I;
+z12(h);
+z12(i);
+if(e==0){
+j=r8(c+8);
+if(r8(c+16)==j){
+k=umax64(j,8);
+if(k>(j^18446744073709551615u)){
+l=1;
+m=4;
+n=0;
+goto L1;}
+o=k+j;
+if(o>=0x2aaaaaaaaaaaaabu){
+l=1;
+m=4;
+n=0;
+goto L1;}
+if(j==0){
+p=port_rattle_alloc(o*48,8);
+if(!(u8)(p.f0&1)){
+l=1;
+m=4;
+n=0;
+goto L1;}
+q=p;}
+else{
+r=port_rattle_realloc(rp(c),j*48,o*48,8);
+if(!(u8)(r.f0&1)){
+l=1;
+m=4;
+n=0;
+goto L1;}
+q=r;}
+s=(u8*)q.f1;
+wp(c,s);
+w8(c+16,o);
+t=s;
+u=r8(c+8);}
+else{
+t=rp(c);
+u=j;}
+v=t+u*48;
+*v=0;
+v[1]=0;
+z44(v+4);
+w8(c+8,u+1);
+l=0;
+m=0;
+n=0;}
+else{
+w=*d==0;
+if(w){
+push_plain_fc3(i,b,c,d+40,e-1,f);
+if(*i==0){
+memcpy(g,d+(i64)(u64)(w?8:0),32);
+x=r8(c+8);
+if(r8(c+16)==x){
+y=umax64(x,8);
+if(y>(x^18446744073709551615u)){
+z=1;
+A=4;
+goto L2;}
+B=y+x;
+if(B>=0x2aaaaaaaaaaaaabu){
+z=1;
+A=4;
+goto L2;}
+if(x==0){
+C=port_rattle_alloc(B*48,8);
+if(!(u8)(C.f0&1)){
+z=1;
+A=4;
+goto L2;}
+D=C;}
+else{
+E=port_rattle_realloc(rp(c),x*48,B*48,8);
+if(!(u8)(E.f0&1)){
+z=1;
+A=4;
+goto L2;}
+D=E;}
+F=(u8*)D.f1;
+wp(c,F);
+w8(c+16,B);
+G=F;
+H=r8(c+8);}
+else{
+G=rp(c);
+H=x;}
+I=G+H*48;
+*I=2;
+I[1]=0;
+x4(I+4,0);
+x4(I+8,2);
+x4(I+12,0);
+memcpy(I+16,g,32);
+w8(c+8,H+1);
+z=0;
+A=0;
+L2:l=z;
+m=A;
+n=0;}
+else{
+l=1;
+m=i[4];
+n=r4(i+8);}}
+else{
+push_plain_fc3(h,b,c,d,e,f);
+l=*h;
+m=h[4];
+n=r4(h+8);}}
+L1:*a=l;
+x4(a+4,m);
+x4(a+8,n);
+return;
+}
+
+/* legacy_parts::parsing::parse */
+static void parse_4db(u8* a,u8* b,u64 c,u64 d,u64 e,u32 f)
+{
+A16 u8 g[12],h[12],i[24],j[12];
+u8 *k,*t,*u,*x,*A,*C;
+u64 l,v,z,B,E,H,J,K,M,O,P,R,T,U,W;
+u32 m,o,p,q,w,y,X;
+u8 n,s,D,F,G,I,L,N,Q,S,V,Y;
+s_64_64 r;
+z12(j);
+wp(i,(u8*)65536);
+z16(i+8);
+push_text_eb0(j,b,c,d,e,f,i);
+if(*j==0){
+k=rp(i);
+l=r8(i+8);
+z12(h);
+m=(u64)k;
+if(l==0)n=12;
+else n=*k==60?13:12;
+measured_ab2(h,b,c,d);
+o=r4(h);
+p=r4(h+4);
+q=r4(h+8);
+r=port_rattle_alloc(96,4);
+s=r.f0&1;
+if(q==0){
+if(s){
+t=(u8*)r.f1;
+*t=3;
+z7(t+1);
+x4(t+8,p);
+u=t;
+v=1;
+w=p;
+goto L1;}}
+else{
+if(s){
+x=(u8*)r.f1;
+*x=2;
+z7(x+1);
+x4(x+8,q-2);
+x[12]=n;
+z7(x+13);
+x4(x+20,o);
+x[24]=3;
+z3(x+25);
+x4(x+28,q);
+x4(x+32,p);
+u=x;
+v=3;
+w=q+p;
+goto L1;}}
+if(r8(i+16)!=0)port_rattle_dealloc(k);
+x4(a,1);
+x4(a+4,4);
+z56(a+8);
+goto L2;
+L1:y=c-e;
+if(y==0)z=v;
+else{
+A=u+v*12;
+*A=11;
+z3(A+1);
+x4(A+4,w+2);
+x4(A+8,y);
+z=v+1;}
+B=(u64)u;
+z12(g);
+measured_ab2(g,b,c,d);
+C=k+(i64)r4(g+8);
+if(r4(g+4)!=11){
+F=24;
+goto L3;}
+D=0;
+E=0;
+L4:G=D||*((u8*)t_079e+(i64)E)!=*(C+(i64)E);
+H=E+1;
+if(H!=8){
+D=G;
+E=H;
+goto L4;}
+I=0;
+J=0;
+L5:K=J+3;
+L=I||*((u8*)t_079e+(i64)K)!=*(C+(i64)K);
+M=J+1;
+if(M!=8){
+I=L;
+J=M;
+goto L5;}
+N=0;
+O=0;
+L6:P=O+3;
+Q=N||*((u8*)t_079e+(i64)P)!=*(C+(i64)P);
+R=O+1;
+if(R!=8){
+N=Q;
+O=R;
+goto L6;}
+S=0;
+T=0;
+L7:U=T+3;
+V=S||*((u8*)t_079e+(i64)U)!=*(C+(i64)U);
+W=T+1;
+if(W!=8){
+S=V;
+T=W;
+goto L7;}
+F=(((G|L)|Q)|V)?24:26;
+L3:x4(a,0);
+x4(a+4,0);
+x4(a+8,m);
+memcpy(a+12,i+4,20);
+a[32]=F;
+z7(a+33);
+x8(a+40,B);
+x8(a+48,z);
+x8(a+56,8);}
+else{
+X=r4(j+8);
+Y=j[4];
+if(r8(i+16)!=0)port_rattle_dealloc(rp(i));
+x4(a,1);
+x4(a+4,Y);
+x4(a+8,X);
+z52(a+12);}
+L2:return;
+}
+
+/* legacy_parts::names::measured */
+static void measured_ab2(u8* a,u8* b,u64 c,u64 d)
+{
+u64 e,g,h,j,k,l,m,n,o,q,r,v,z,A,C,D,E,F,G,I,J,K,M;
+u8 f,i,p,y,B,H;
+u32 s,t,u,w,x,L,N;
+e=c-3;
+if(e!=0){
+f=b[3];
+if((u8)(f-49)<9){
+g=umin64(e,9);
+h=g+3;
+i=f-48;
+j=0;
+k=3;
+L1:l=j*10+i;
+m=k+1;
+if(m==h){
+n=h;
+o=g;}
+else{
+p=*(b+m)-48;
+if(p<10){
+i=p;
+j=l;
+k=m;
+goto L1;}
+n=m;
+o=k-2;}
+if((n<c)&(o==9)){
+if((u8)(*(b+n)-48)<10||c-n<l)goto L2;}
+else {
+if(c-n<l)goto L2;}
+q=n+l;
+r=text_length_c08(b+(i64)n,l);
+s=r;
+if(q>=d){
+w=0;
+x=s;
+goto L3;}
+t=s;
+u=0;
+v=q;
+L4:if(c!=v){
+y=*(b+v);
+if((u8)(y-49)<9){
+z=umin64(c-v,9);
+A=z+v;
+B=y-48;
+C=0;
+D=v;
+L5:E=C*10+B;
+F=D+1;
+G=F-v;
+if(G<z){
+H=*(b+F)-48;
+if(H<10){
+B=H;
+C=E;
+D=F;
+goto L5;}
+I=F;
+J=G;}
+else{
+I=A;
+J=z;}
+if((I<c)&(J==9)){
+if((u8)(*(b+I)-48)<10||c-I<E)goto L6;}
+else {
+if(c-I<E)goto L6;}
+K=I+E;
+L=t+2+u;
+M=text_length_c08(b+(i64)I,E);
+N=M;
+if(K>=d){
+w=L;
+x=N;
+goto L3;}
+t=N;
+u=L;
+v=K;
+goto L4;}}
+L6:NEVER;
+L3:x4(a,s);
+x4(a+4,x);
+x4(a+8,w);
+return;}}
+L2:NEVER;
+}
+
+/* rust_legacy::measure::text_length */
+static u64 text_length_c08(u8* a,u64 b)
+{
+A16 u8 c[24],d[24];
+u64 e,f,g,h,j,l,m,o,p,q,r,s,t,u,w,y,z,B,C,D,E,F;
+u8 *i,*v;
+u8 k,x;
+u32 n,A;
+if(b<2){
+if(b==0){
+e=0;
+goto L1;}}
+else{
+if(*a==95&&a[1]==36){
+f=b-1;
+g=0;
+h=0;
+L2:i=a+1+(i64)h;
+j=f-h;
+z24(d);
+k=*i;
+if(j>=2){
+if(k==46&&i[1]==46){
+l=2;
+m=2;
+goto L3;}}
+switch(k){
+case 46:l=1;
+m=1;
+goto L3;
+case 36:escape_at_298(d,i,j);
+if(*d!=1){
+l=j;
+m=j;
+goto L3;}
+n=r4(d+8);
+o=r8(d+16);
+if(n<128){
+l=o;
+m=1;
+goto L3;}
+if(n<2048){
+l=o;
+m=2;
+goto L3;}
+l=o;
+m=n<65536?3:4;
+goto L3;
+default:p=0;
+break;}
+L4:switch(*(i+p)){
+case 46:case 36:l=p;
+m=p;
+break;
+default:q=p+1;
+if(q!=j){
+p=q;
+goto L4;}
+l=j;
+m=j;
+break;}
+L3:r=m+g;
+s=l+h;
+if(s>=f){
+e=r;
+goto L1;}
+g=r;
+h=s;
+goto L2;}}
+t=0;
+u=0;
+L5:v=a+(i64)u;
+w=b-u;
+z24(c);
+x=*v;
+if(w>=2){
+if(x==46&&v[1]==46){
+y=2;
+z=2;
+goto L6;}}
+switch(x){
+case 46:y=1;
+z=1;
+goto L6;
+case 36:escape_at_298(c,v,w);
+if(*c!=1){
+y=w;
+z=w;
+goto L6;}
+A=r4(c+8);
+B=r8(c+16);
+if(A<128){
+y=B;
+z=1;
+goto L6;}
+if(A<2048){
+y=B;
+z=2;
+goto L6;}
+y=B;
+z=A<65536?3:4;
+goto L6;
+default:C=0;
+break;}
+L7:switch(*(v+C)){
+case 46:case 36:y=C;
+z=C;
+break;
+default:D=C+1;
+if(D!=w){
+C=D;
+goto L7;}
+y=w;
+z=w;
+break;}
+L6:E=z+t;
+F=y+u;
+if(F<b){
+t=E;
+u=F;
+goto L5;}
+e=E;
+L1:return e;
+}
+
+/* sym_calls::parts::write_both */
+static void write_both_976(u8* a,u8* b,u32 c,u8* d,u64 e,u8* f,u64 g,u8* h)
+{
+A16 u8 i[24];
+u64 j,k,n,p,r,s,t,u,w,x,z,E,F,G,H,J,N,P,R,S;
+u32 l,A,B,C,K;
+u8 *m,*o,*q,*v,*y,*L,*M,*O,*Q;
+u8 D,I;
+j=r8(b+8);
+k=r8(b+40);
+l=(u32)b[24]+1;
+if((j<=e)&(k<=g)){
+m=rp(b+32);
+wp(i,(u8*)65536);
+z16(i+8);
+if(k==0){
+n=0;
+o=(u8*)65536;
+p=0;
+goto L1;}
+q=(u8*)65536;
+r=0;
+s=0;
+t=0;
+u=k;
+v=m;
+L2:w=t;
+x=u;
+y=v;
+L3:z=x-1;
+A=(u32)*y+1;
+B=r4(y+4);
+C=r4(y+8);
+if(w==r){
+wp(i,q);
+w8(i+8,r);
+w8(i+16,s);
+if(x>s-r){
+D=grow_amortized_53f(i,x);
+E=r8(i+8);
+F=r8(i+16);
+if(D||F!=E){
+G=F;
+H=E;}
+else{
+I=grow_amortized_53f(i,1);
+if(!I){
+if(r8(i+16)!=0)port_rattle_dealloc(rp(i));
+J=0;
+K=5;
+goto L4;}
+G=r8(i+16);
+H=r8(i+8);}}
+else{
+G=s;
+H=r;}
+L=rp(i);
+M=L+H*12;
+x4(M,A);
+x4(M+4,B);
+x4(M+8,C);
+N=H+1;
+z16(i+8);
+if(z!=0){
+q=L;
+r=N==0?0:G;
+s=G;
+t=N;
+u=z;
+v=y+12;
+goto L2;}
+n=G;
+o=L;
+p=N;}
+else{
+O=q+w*12;
+x4(O,A);
+x4(O+4,B);
+x4(O+8,C);
+P=w+1;
+if(z!=0){
+w=P;
+x=z;
+y=y+12;
+goto L3;}
+n=s;
+o=q;
+p=P;}
+L1:Q=rp(b);
+R=r8(b+8);
+if((u64)d-(u64)Q<R)copy_bits_4f4(Q,d,R);
+else memmove(d,Q,R);
+S=p*12;
+if((u64)f-(u64)o<S)copy_bits_128(o,f,p);
+else memmove(f,o,S);
+x8(h,k);
+x4(h+8,l);
+x4(h+12,c);
+if(n==0){
+J=j;
+K=0;}
+else{
+port_rattle_dealloc(o);
+J=j;
+K=0;}}
+else{
+x8(h,k);
+x4(h+8,l);
+x4(h+12,c);
+J=j;
+K=6;}
+L4:x8(a,J);
+x4(a+8,0);
+x4(a+12,K);
+return;
+}
+
+/* core::ptr::copy_drop::copy_bits::<26'sym_calls::parts::NamePart>::within */
+static COLD void copy_bits_128(u8* a,u8* b,u64 c)
+{
+u64 d,e,f,g;
+d=c*12;
+if((u64)b-(u64)a<d){
+if(c==0)goto L1;
+e=0;
+L2:f=e*12;
+memmove(b+f,a+f,12);
+g=e+1;
+if(g!=c){
+e=g;
+goto L2;}}
+else memmove(b,a,d);
+L1:return;
+}
+
+/* symbol_parts::languages::LanguagesParser::parse */
+static void parse_be6(u8* a,u8* b,u8 c,u8* d,u64 e)
+{
+u8 r[7];
+A16 u8 f[32],g[176],h[12],i[12],j[72],k[96],l[16],m[24],n[72],o[88],p[84],q[20],s[64];
+u32 t,G,J,aa,oa,xa,Da,Ga,Ia;
+u8 u,C,H,I,Z,ba,ca,ha,ia,pa,wa,Ea,Fa,Ha,La,Ma;
+u64 v,x,y,A,B,D,E,L,N,P,R,T,V,W,X,ea,ga,la,na,ra,ta,va,Aa,Ca,Ka;
+u8 *w,*z,*F,*M,*O,*Q,*S,*U,*Y,*da,*fa,*ja,*ka,*ma,*qa,*sa,*ua,*ya,*za,*Ba,*Ja;
+s_64_64 K;
+z64(s);
+t=r4(b);
+u=b[4];
+if(c==0){
+z88(o);
+z84(p);
+z20(q);
+z7(r);
+z96(k);
+z72(n);
+wp(j+8,(u8*)65536);
+w8(j+24,0);
+wp(j+32,(u8*)65536);
+z24(j+48);
+z12(i);
+w4(j,0);
+w4(j+4,0);
+w8(j+16,0);
+w8(j+40,0);
+w8(j+56,0);
+w4(j+64,0);
+run_f89(i,j,d,e,1);
+if(*i==0){
+v=r8(j);
+w=rp(j+8);
+x=r8(j+16);
+y=r8(j+24);
+z=rp(j+32);
+A=r8(j+40);
+B=r8(j+48);
+memcpy(l,j+56,16);
+wp(m,(u8*)65536);
+z16(m+8);
+C=grow_amortized_2b6(m,e);
+if(C){
+D=r8(m+8);
+E=D+e;
+F=rp(m)+(i64)D;
+if((u64)F-(u64)d<e)copy_bits_4f4(d,F,e);
+else memmove(F,d,e);
+w8(m+8,E);
+w8(n,v);
+wp(n+8,w);
+w8(n+16,x);
+w8(n+24,y);
+wp(n+32,z);
+w8(n+40,A);
+w8(n+48,B);
+memcpy(n+56,l,16);
+link_bb1(k,m,n);
+G=r4(k+8);
+H=*k;
+I=k[4];
+memcpy(p,k+12,84);
+if(H!=0){
+Da=G;
+Ea=I;
+goto L1;}
+w4(o,G);
+memcpy(o+4,p,84);
+J=r4(o+72);
+z12(h);
+K=port_rattle_alloc(288,4);
+if((u8)(K.f0&1)){
+L=K.f1;
+M=(u8*)L;
+x4(M,0);
+x4(M+4,J);
+x4(M+8,9);
+x4(M+12,0);
+x4(M+16,0);
+x4(M+20,0);
+M[24]=u;
+z11(M+25);
+w8(g,L);
+w8(g+8,1);
+w8(g+16,8);
+wp(g+24,(u8*)65536);
+z16(g+32);
+wp(g+48,(u8*)65536);
+z16(g+56);
+wp(g+72,(u8*)65536);
+z16(g+80);
+wp(g+96,(u8*)65536);
+z16(g+104);
+wp(g+120,(u8*)65536);
+z20(g+128);
+w4(g+148,t);
+z24(g+152);
+run_610(h,g,o);
+if(*h==0){
+N=r8(g+24);
+O=rp(g+48);
+P=r8(g+64);
+Q=rp(g+72);
+R=r8(g+88);
+S=rp(g+96);
+T=r8(g+112);
+U=rp(g+120);
+V=r8(g+136);
+W=r8(g+32);
+X=r8(g+40);
+if(r8(g+16)!=0)port_rattle_dealloc(rp(g));
+if(P!=0)port_rattle_dealloc(O);
+if(R!=0)port_rattle_dealloc(Q);
+if(T!=0)port_rattle_dealloc(S);
+if(V!=0)port_rattle_dealloc(U);
+Y=(u8*)N;
+z32(f);
+parts_as_fdd(f,o,t,u);
+Z=f[4];
+aa=r4(f+8);
+ba=*f;
+memcpy(q,f+12,20);
+if(ba!=0){
+ja=(u8*)(u64)aa;
+if(X!=0)port_rattle_dealloc(Y);
+ka=rp(o+24);
+la=r8(o+40);
+ma=rp(o+48);
+na=r8(o+64);
+if(r8(o+16)!=0)port_rattle_dealloc(rp(o));
+if(la!=0)port_rattle_dealloc(ka);
+if(na!=0)port_rattle_dealloc(ma);
+wp(s+8,ja);
+z48(s+16);
+ha=Z;
+ia=1;
+goto L2;}
+ca=kind_of_a3d(o);
+da=rp(o+24);
+ea=r8(o+40);
+fa=rp(o+48);
+ga=r8(o+64);
+if(r8(o+16)!=0)port_rattle_dealloc(rp(o));
+if(ea!=0)port_rattle_dealloc(da);
+if(ga!=0)port_rattle_dealloc(fa);
+wp(s+8,Y);
+w8(s+16,W);
+w8(s+24,X);
+s[32]=ca;
+memcpy(s+33,r,7);
+w4(s+40,aa);
+memcpy(s+44,q,20);
+ha=0;
+ia=0;
+goto L2;}
+oa=r4(h+8);
+pa=h[4];
+if(r8(g+16)!=0)port_rattle_dealloc(rp(g));
+if(r8(g+40)!=0)port_rattle_dealloc(rp(g+24));
+qa=rp(g+72);
+ra=r8(g+88);
+sa=rp(g+96);
+ta=r8(g+112);
+ua=rp(g+120);
+va=r8(g+136);
+if(r8(g+64)!=0)port_rattle_dealloc(rp(g+48));
+if(ra!=0)port_rattle_dealloc(qa);
+if(ta!=0)port_rattle_dealloc(sa);
+if(va==0){
+wa=pa;
+xa=oa;}
+else{
+port_rattle_dealloc(ua);
+wa=pa;
+xa=oa;}}
+else{
+wa=4;
+xa=0;}
+ya=(u8*)(u64)xa;
+za=rp(o+24);
+Aa=r8(o+40);
+Ba=rp(o+48);
+Ca=r8(o+64);
+if(r8(o+16)!=0)port_rattle_dealloc(rp(o));
+if(Aa!=0)port_rattle_dealloc(za);
+if(Ca!=0)port_rattle_dealloc(Ba);
+wp(s+8,ya);
+z48(s+16);
+ha=wa;
+ia=1;
+goto L2;}
+if(r8(m+16)!=0)port_rattle_dealloc(rp(m));
+if(y!=0)port_rattle_dealloc(w);
+if(B==0){
+Fa=4;
+Ga=0;}
+else{
+port_rattle_dealloc(z);
+Fa=4;
+Ga=0;}}
+else{
+Ha=i[4];
+Ia=r4(i+8);
+Ja=rp(j+32);
+Ka=r8(j+48);
+if(r8(j+24)!=0)port_rattle_dealloc(rp(j+8));
+if(Ka!=0)port_rattle_dealloc(Ja);
+Fa=Ha;
+Ga=Ia;}
+Da=Ga;
+Ea=Fa;
+L1:wp(s+8,(u8*)(u64)Da);
+z48(s+16);
+ha=Ea;
+ia=1;
+L2:La=ha;
+Ma=ia;}
+else{
+parse_as_add(s,d,e,t,u);
+La=s[4];
+Ma=*s;}
+x4(a,Ma);
+x4(a+4,La);
+memcpy(a+8,s+8,56);
+return;
+}
+
+/* sym_demangle::demangling::link */
+static COLD void link_bb1(u8* a,u8* b,u8* c)
+{
+A16 u8 d[20],e[12],f[16],g[120],h[16],i[48],j[16],k[120],l[296],m[16],n[120],o[16],p[48],q[16],r[120],s[16],t[48],u[20];
+u8 *v,*z,*C,*H,*N,*Q,*T,*U,*W,*da,*ga,*ja,*oa,*pa,*sa,*ua,*xa,*Aa,*Da,*Ja,*La,*Na,*Pa;
+u64 w,x,y,A,B,D,E,G,J,K,L,M,O,P,R,S,V,X,aa,ba,ca,ea,fa,ha,ia,la,qa,ra,ta,ya,za,Ba,Ca,Ea,Fa,Ia,Ka,Ma,Oa,Qa;
+u8 F,ma;
+u32 I,Y,Z,ka,na,va,wa,Ga,Ha;
+v=qp(b);
+w=q8(b+8);
+x=q8(b+16);
+y=q8(c);
+z=qp(c+8);
+A=q8(c+16);
+B=q8(c+24);
+C=qp(c+32);
+D=q8(c+40);
+E=q8(c+48);
+zero_all(l,296);
+z16(m);
+z120(n);
+z16(o);
+z48(p);
+z16(q);
+z120(r);
+z16(s);
+z48(t);
+z20(u);
+memcpy(j,c+56,16);
+wp(k,(u8*)65536);
+w8(k+16,0);
+wp(k+24,(u8*)65536);
+w8(k+40,0);
+wp(k+48,(u8*)65536);
+w8(k+8,0);
+w8(k+32,0);
+z64(k+56);
+F=grow_amortized_fc3(k,4);
+if(F){
+G=r8(k+8);
+H=rp(k)+G*48;
+z48(H);
+H[48]=1;
+z40(H+49);
+H[89]=1;
+H[90]=0;
+x4(H+91,16842752);
+H[95]=0;
+H[96]=44;
+H[97]=0;
+x2(H+98,0);
+x4(H+100,1);
+z33(H+104);
+H[137]=1;
+H[138]=0;
+x4(H+139,16842752);
+H[143]=0;
+H[144]=21;
+H[145]=97;
+x2(H+146,0);
+x4(H+148,1);
+z40(H+152);
+w8(k+8,G+4);
+memcpy(q,j,16);
+memcpy(r,k,120);
+z16(s);
+z48(t);
+I=0;
+J=(u64)v;
+K=w;
+L=x;
+M=y;
+N=z;
+O=A;
+P=B;
+Q=C;
+R=D;
+S=E;
+T=(u8*)65536;}
+else{
+U=rp(k+24);
+V=r8(k+40);
+W=rp(k+48);
+X=r8(k+64);
+if(r8(k+16)!=0)port_rattle_dealloc(rp(k));
+if(V!=0)port_rattle_dealloc(U);
+if(X!=0)port_rattle_dealloc(W);
+if(B!=0)port_rattle_dealloc(z);
+if(E!=0)port_rattle_dealloc(C);
+if(x!=0)port_rattle_dealloc(v);
+z16(q);
+z120(r);
+z16(s);
+z48(t);
+I=4;
+J=0;
+K=0;
+L=0;
+M=0;
+N=0;
+O=0;
+P=0;
+Q=0;
+R=0;
+S=0;
+T=0;}
+Y=J;
+z16(f);
+z120(g);
+z16(h);
+z48(i);
+if(F){
+memcpy(f,q,16);
+memcpy(g,r,120);
+memcpy(h,s,16);
+memcpy(i,t,48);
+Z=J>>32;
+aa=K;
+ba=L;
+ca=M;
+da=N;
+ea=O;
+fa=P;
+ga=Q;
+ha=R;
+ia=S;
+ja=T;
+ka=0;}
+else{
+Z=0;
+aa=0;
+ba=0;
+ca=0;
+da=0;
+ea=0;
+fa=0;
+ga=0;
+ha=0;
+ia=0;
+ja=0;
+ka=I;}
+memcpy(m,f,16);
+memcpy(n,g,120);
+memcpy(o,h,16);
+memcpy(p,i,48);
+if(F){
+w4(l,Y);
+w4(l+4,Z);
+w8(l+8,aa);
+w8(l+16,ba);
+w8(l+24,ca);
+wp(l+32,da);
+w8(l+40,ea);
+w8(l+48,fa);
+wp(l+56,ga);
+w8(l+64,ha);
+w8(l+72,ia);
+memcpy(l+80,m,16);
+memcpy(l+96,n,120);
+wp(l+216,ja);
+memcpy(l+224,o,16);
+wp(l+240,ja);
+memcpy(l+248,p,48);
+z12(e);
+if(l[272]!=1){
+if(l[288]&1){
+oa=ja;
+pa=ja;
+qa=ia;
+ra=ha;
+sa=ga;
+ta=fa;
+ua=da;
+va=Y;}
+else{
+run_5b5(e,l+216,l+96,rp(l),aa,ga,ha);
+if(*e!=0){
+la=r8(l+16);
+ma=e[4];
+na=r4(e+8);
+goto L1;}
+l[288]=1;
+oa=rp(l+240);
+pa=rp(l+216);
+qa=r8(l+72);
+ra=r8(l+64);
+sa=rp(l+56);
+ta=r8(l+48);
+ua=rp(l+32);
+va=r4(l);}
+if(r8(l+248)==1){
+if(*oa==5){
+wa=r4(l+88);
+xa=rp(l+96);
+ya=r8(l+104);
+za=r8(l+112);
+Aa=rp(l+120);
+Ba=r8(l+128);
+Ca=r8(l+136);
+Da=rp(l+144);
+Ea=r8(l+160);
+Fa=r8(l+256);
+Ga=r4(l+268);
+Ha=r4(oa+4);
+Ia=r8(l+232);
+memcpy(d,l+4,20);
+if(Ia!=0)port_rattle_dealloc(pa);
+if(Fa!=0)port_rattle_dealloc(oa);
+if(Ea!=0)port_rattle_dealloc(Da);
+if(ta!=0)port_rattle_dealloc(ua);
+if(qa!=0)port_rattle_dealloc(sa);
+memcpy(u,d,20);
+x4(a,0);
+x4(a+4,0);
+x4(a+8,va);
+memcpy(a+12,u,20);
+xp(a+32,xa);
+x8(a+40,ya);
+x8(a+48,za);
+xp(a+56,Aa);
+x8(a+64,Ba);
+x8(a+72,Ca);
+x4(a+80,Ha);
+x4(a+84,ra);
+x4(a+88,Ga+wa);
+x4(a+92,0);
+goto L2;}}
+NEVER;}
+la=ba;
+ma=l[276];
+na=r4(l+280);
+L1:if(la!=0)port_rattle_dealloc(rp(l));
+Ja=rp(l+56);
+Ka=r8(l+72);
+if(r8(l+48)!=0)port_rattle_dealloc(rp(l+32));
+if(Ka!=0)port_rattle_dealloc(Ja);
+La=rp(l+120);
+Ma=r8(l+136);
+Na=rp(l+144);
+Oa=r8(l+160);
+if(r8(l+112)!=0)port_rattle_dealloc(rp(l+96));
+if(Ma!=0)port_rattle_dealloc(La);
+if(Oa!=0)port_rattle_dealloc(Na);
+Pa=rp(l+240);
+Qa=r8(l+256);
+if(r8(l+232)!=0)port_rattle_dealloc(rp(l+216));
+if(Qa!=0)port_rattle_dealloc(Pa);
+x4(a,1);
+x4(a+4,ma);
+x4(a+8,na);
+z84(a+12);}
+else{
+x4(a,1);
+x4(a+4,ka);
+x4(a+8,Y);
+z84(a+12);}
+L2:return;
+}
+
 /* cpp_press::pressing::press_cpp */
 static void press_cpp_a22(u8* a,u8* b)
 {
@@ -113309,1015 +129869,6 @@ x4(a+4,0);
 x4(a+8,(u64)I);
 memcpy(a+12,F+4,20);
 L1:return;
-}
-
-/* cpp_tree::view::view_of_own */
-static void view_of_own_62c(u8* a,u8* b,u8* c)
-{
-u8 d[6],e[6],f[6],g[6],h[6];
-u8 i,j,k,p,s,I,K,M,O,P,Q,Z,ga,Fa;
-u64 l,r,t,u,w,x,A,G,J,L,N,R,T,U,V,W,X,Y,ba,ca,da,ea,fa,ha,ia,ja,pa,qa,ra,xa,ya,za;
-u32 m,n,o,q,y,z,B,C,D,E,F,la,ma,na,oa,ta,ua,va,wa,Ba,Ca,Da,Ea;
-u16 v,S,aa,ka,sa,Aa;
-u8 *H;
-i=c[1];
-j=c[2];
-k=c[3];
-l=q8(c+4);
-m=q4(c+12);
-n=q4(c+16);
-o=q4(c+20);
-p=*c;
-z6(h);
-q=l;
-r=l>>32;
-s=r;
-t=l>>40;
-u=l>>56;
-switch(p){
-case 0:case 47:v=0;
-w=0;
-x=0;
-y=0;
-z=0;
-A=0;
-B=0;
-C=0;
-D=0;
-E=0;
-break;
-case 1:v=1;
-w=0;
-x=0;
-y=0;
-z=0;
-A=0;
-B=0;
-C=0;
-D=0;
-E=0;
-break;
-case 2:v=4;
-w=(((l>>46)&4)|(r&1))|((t<<1)&2);
-x=u;
-y=0;
-z=0;
-A=0;
-B=3;
-C=q;
-D=m;
-E=n;
-break;
-case 3:v=5;
-w=(((l>>46)&4)|(r&1))|((t<<1)&2);
-x=u;
-y=0;
-z=0;
-A=0;
-B=1;
-C=q;
-D=0;
-E=0;
-break;
-case 4:v=6;
-w=i;
-x=0;
-y=0;
-z=0;
-A=0;
-B=1;
-C=q;
-D=0;
-E=0;
-break;
-case 5:F=((((u32)t<<8)&16776960)|((u32)u<<24))|((u32)r&255);
-G=l&4294967295u;
-if(r8(b+32)>G){
-H=rp(b+24)+(i64)(G*60);
-I=H[32];
-J=q8(H+12);
-K=H[20];
-L=q8(H+24);
-M=H[36];
-N=q8(H+40);
-O=H[4]==0;
-P=H[8]&1;
-Q=*H==0;
-z6(g);
-if(Q){
-R=O?0:L;
-S=O?8:9;
-T=P;
-U=O?0:K&1;
-V=J;
-W=J&0xffffffff00000000u;
-X=R;
-Y=R&0xffffffff00000000u;}
-else{
-if(O){
-Z=I==0;
-aa=Z?10:11;
-ba=Z?P:0;
-ca=Z?M&1:0;
-da=Z?J:0;
-ea=Z?N:0;}
-else{
-aa=11;
-ba=0;
-ca=0;
-da=0;
-ea=0;}
-S=aa;
-T=ba;
-U=ca;
-V=da;
-W=da&0xffffffff00000000u;
-X=ea;
-Y=ea&0xffffffff00000000u;}}
-else{
-z6(g);
-S=8;
-T=0;
-U=0;
-V=0;
-W=0;
-X=0;
-Y=0;}
-memcpy(h,g,6);
-v=S;
-w=T;
-x=U;
-y=V;
-z=W>>32;
-A=Y|(X&4294967295u);
-B=1;
-C=F;
-D=0;
-E=0;
-break;
-case 6:fa=(((l>>46)&4)|(r&1))|((t<<1)&2);
-ga=i==86;
-z6(h);
-v=ga?7:64;
-w=ga?fa:i;
-x=ga?u:fa|(u<<3);
-y=0;
-z=0;
-A=0;
-B=1;
-C=q;
-D=0;
-E=0;
-break;
-case 7:v=65;
-w=0;
-x=0;
-y=((((u32)t<<8)&16776960)|((u32)u<<24))|((u32)r&255);
-z=m;
-A=0;
-B=2;
-C=q;
-D=n;
-E=0;
-break;
-case 8:v=72;
-w=i;
-x=0;
-y=0;
-z=0;
-A=0;
-B=1;
-C=q;
-D=0;
-E=0;
-break;
-case 9:ha=((u64)o<<32)|n;
-switch(s){
-case 0:z6(f);
-ia=t&1;
-ja=0;
-ka=36;
-la=m;
-ma=n;
-na=0;
-oa=0;
-break;
-case 1:z6(f);
-ia=t&255;
-ja=(l>>48)&255;
-ka=37;
-la=0;
-ma=0;
-na=0;
-oa=0;
-break;
-case 2:z6(f);
-ia=0;
-ja=0;
-ka=38;
-la=m;
-ma=n;
-na=0;
-oa=0;
-break;
-case 3:z6(f);
-ia=t&255;
-ja=0;
-ka=39;
-la=0;
-ma=0;
-na=0;
-oa=0;
-break;
-case 4:z6(f);
-ia=t&255;
-ja=0;
-ka=40;
-la=0;
-ma=0;
-na=0;
-oa=0;
-break;
-case 5:z6(f);
-ia=t&255;
-ja=0;
-ka=79;
-la=0;
-ma=0;
-na=1;
-oa=m;
-break;
-case 6:z6(f);
-ia=ha;
-ja=0;
-ka=41;
-la=0;
-ma=0;
-na=1;
-oa=m;
-break;
-case 7:z6(f);
-ia=ha;
-ja=0;
-ka=74;
-la=0;
-ma=0;
-na=1;
-oa=m;
-break;
-case 10:z6(f);
-ia=0;
-ja=0;
-ka=69;
-la=0;
-ma=0;
-na=1;
-oa=m;
-break;
-case 11:z6(f);
-ia=0;
-ja=0;
-ka=85;
-la=n;
-ma=o;
-na=1;
-oa=m;
-break;
-case 12:z6(f);
-ia=0;
-ja=0;
-ka=88;
-la=0;
-ma=0;
-na=1;
-oa=m;
-break;
-case 8:z6(f);
-ia=ha;
-ja=0;
-ka=42;
-la=0;
-ma=0;
-na=0;
-oa=0;
-break;
-case 9:z6(f);
-ia=0;
-ja=0;
-ka=43;
-la=0;
-ma=0;
-na=0;
-oa=0;
-break;
-case 13:z6(f);
-ia=0;
-ja=0;
-ka=44;
-la=0;
-ma=0;
-na=0;
-oa=0;
-break;
-default:NEVER;
-}
-memcpy(h,f,6);
-v=ka;
-w=ia;
-x=ja;
-y=la;
-z=ma;
-A=0;
-B=na;
-C=oa;
-D=0;
-E=0;
-break;
-case 10:pa=((u64)o<<32)|n;
-switch(s){
-case 0:z6(e);
-qa=t&1;
-ra=0;
-sa=45;
-ta=m;
-ua=n;
-va=0;
-wa=0;
-break;
-case 1:z6(e);
-qa=t&255;
-ra=(l>>48)&255;
-sa=46;
-ta=0;
-ua=0;
-va=0;
-wa=0;
-break;
-case 2:z6(e);
-qa=0;
-ra=0;
-sa=47;
-ta=m;
-ua=n;
-va=0;
-wa=0;
-break;
-case 3:z6(e);
-qa=t&255;
-ra=0;
-sa=48;
-ta=0;
-ua=0;
-va=0;
-wa=0;
-break;
-case 4:z6(e);
-qa=t&255;
-ra=0;
-sa=49;
-ta=0;
-ua=0;
-va=0;
-wa=0;
-break;
-case 5:z6(e);
-qa=t&255;
-ra=0;
-sa=80;
-ta=0;
-ua=0;
-va=1;
-wa=m;
-break;
-case 6:z6(e);
-qa=pa;
-ra=0;
-sa=50;
-ta=0;
-ua=0;
-va=1;
-wa=m;
-break;
-case 7:z6(e);
-qa=pa;
-ra=0;
-sa=75;
-ta=0;
-ua=0;
-va=1;
-wa=m;
-break;
-case 10:z6(e);
-qa=0;
-ra=0;
-sa=70;
-ta=0;
-ua=0;
-va=1;
-wa=m;
-break;
-case 11:z6(e);
-qa=0;
-ra=0;
-sa=86;
-ta=n;
-ua=o;
-va=1;
-wa=m;
-break;
-case 12:z6(e);
-qa=0;
-ra=0;
-sa=89;
-ta=0;
-ua=0;
-va=1;
-wa=m;
-break;
-case 8:z6(e);
-qa=pa;
-ra=0;
-sa=51;
-ta=0;
-ua=0;
-va=0;
-wa=0;
-break;
-case 9:z6(e);
-qa=0;
-ra=0;
-sa=52;
-ta=0;
-ua=0;
-va=0;
-wa=0;
-break;
-case 13:z6(e);
-qa=0;
-ra=0;
-sa=53;
-ta=0;
-ua=0;
-va=0;
-wa=0;
-break;
-default:NEVER;
-}
-memcpy(h,e,6);
-v=sa;
-w=qa;
-x=ra;
-y=ta;
-z=ua;
-A=0;
-B=va;
-C=wa;
-D=0;
-E=0;
-break;
-case 11:xa=((u64)o<<32)|n;
-switch(s){
-case 0:z6(d);
-ya=t&1;
-za=0;
-Aa=54;
-Ba=m;
-Ca=n;
-Da=1;
-Ea=0;
-break;
-case 1:z6(d);
-ya=t&255;
-za=(l>>48)&255;
-Aa=55;
-Ba=0;
-Ca=0;
-Da=1;
-Ea=0;
-break;
-case 2:z6(d);
-ya=0;
-za=0;
-Aa=56;
-Ba=m;
-Ca=n;
-Da=1;
-Ea=0;
-break;
-case 3:z6(d);
-ya=t&255;
-za=0;
-Aa=57;
-Ba=0;
-Ca=0;
-Da=1;
-Ea=0;
-break;
-case 4:z6(d);
-ya=t&255;
-za=0;
-Aa=58;
-Ba=0;
-Ca=0;
-Da=1;
-Ea=0;
-break;
-case 5:z6(d);
-ya=t&255;
-za=0;
-Aa=81;
-Ba=0;
-Ca=0;
-Da=2;
-Ea=m;
-break;
-case 6:z6(d);
-ya=xa;
-za=0;
-Aa=59;
-Ba=0;
-Ca=0;
-Da=2;
-Ea=m;
-break;
-case 7:z6(d);
-ya=xa;
-za=0;
-Aa=76;
-Ba=0;
-Ca=0;
-Da=2;
-Ea=m;
-break;
-case 10:z6(d);
-ya=0;
-za=0;
-Aa=71;
-Ba=0;
-Ca=0;
-Da=2;
-Ea=m;
-break;
-case 11:z6(d);
-ya=0;
-za=0;
-Aa=87;
-Ba=n;
-Ca=o;
-Da=2;
-Ea=m;
-break;
-case 12:z6(d);
-ya=0;
-za=0;
-Aa=90;
-Ba=0;
-Ca=0;
-Da=2;
-Ea=m;
-break;
-case 8:z6(d);
-ya=xa;
-za=0;
-Aa=60;
-Ba=0;
-Ca=0;
-Da=1;
-Ea=0;
-break;
-case 9:z6(d);
-ya=0;
-za=0;
-Aa=61;
-Ba=0;
-Ca=0;
-Da=1;
-Ea=0;
-break;
-case 13:z6(d);
-ya=0;
-za=0;
-Aa=62;
-Ba=0;
-Ca=0;
-Da=1;
-Ea=0;
-break;
-default:NEVER;
-}
-memcpy(h,d,6);
-v=Aa;
-w=ya;
-x=za;
-y=Ba;
-z=Ca;
-A=0;
-B=Da;
-C=q;
-D=Ea;
-E=0;
-break;
-case 12:v=12;
-w=0;
-x=0;
-y=0;
-z=0;
-A=0;
-B=2;
-C=q;
-D=((((u32)t<<8)&16776960)|((u32)u<<24))|((u32)r&255);
-E=0;
-break;
-case 13:Fa=(m&255)==0;
-v=Fa?13:14;
-w=0;
-x=0;
-y=Fa?0:n;
-z=Fa?0:o;
-A=0;
-B=2;
-C=q;
-D=((((u32)t<<8)&16776960)|((u32)u<<24))|((u32)r&255);
-E=0;
-break;
-case 14:v=66;
-w=0;
-x=0;
-y=0;
-z=0;
-A=0;
-B=1;
-C=q;
-D=0;
-E=0;
-break;
-case 15:v=68;
-w=i&1;
-x=0;
-y=((((u32)t<<8)&16776960)|((u32)u<<24))|((u32)r&255);
-z=m;
-A=0;
-B=1;
-C=q;
-D=0;
-E=0;
-break;
-case 16:v=73;
-w=0;
-x=0;
-y=q;
-z=((((u32)t<<8)&16776960)|((u32)u<<24))|((u32)r&255);
-A=0;
-B=1;
-C=m;
-D=0;
-E=0;
-break;
-case 17:v=15;
-w=i;
-x=0;
-y=0;
-z=0;
-A=0;
-B=0;
-C=0;
-D=0;
-E=0;
-break;
-case 18:v=16;
-w=l&4294967295u;
-x=0;
-y=0;
-z=0;
-A=0;
-B=0;
-C=0;
-D=0;
-E=0;
-break;
-case 19:v=91;
-w=0;
-x=0;
-y=0;
-z=0;
-A=0;
-B=2;
-C=q;
-D=((((u32)t<<8)&16776960)|((u32)u<<24))|((u32)r&255);
-E=0;
-break;
-case 20:v=17;
-w=i;
-x=0;
-y=0;
-z=0;
-A=0;
-B=0;
-C=0;
-D=0;
-E=0;
-break;
-case 21:v=18;
-w=i;
-x=0;
-y=0;
-z=0;
-A=0;
-B=0;
-C=0;
-D=0;
-E=0;
-break;
-case 22:v=67;
-w=m&255;
-x=0;
-y=q;
-z=(((t<<8)&16776960)|(u<<24))|(r&255);
-A=0;
-B=0;
-C=0;
-D=0;
-E=0;
-break;
-case 23:v=78;
-w=i;
-x=0;
-y=0;
-z=0;
-A=0;
-B=1;
-C=q;
-D=0;
-E=0;
-break;
-case 24:v=19;
-w=0;
-x=0;
-y=q;
-z=(((t<<8)&16776960)|(u<<24))|(r&255);
-A=0;
-B=0;
-C=0;
-D=0;
-E=0;
-break;
-case 25:v=20;
-w=0;
-x=0;
-y=0;
-z=0;
-A=0;
-B=1;
-C=q;
-D=0;
-E=0;
-break;
-case 26:v=21;
-w=0;
-x=0;
-y=0;
-z=0;
-A=0;
-B=1;
-C=q;
-D=0;
-E=0;
-break;
-case 27:v=22;
-w=0;
-x=0;
-y=0;
-z=0;
-A=0;
-B=1;
-C=q;
-D=0;
-E=0;
-break;
-case 28:v=23;
-w=0;
-x=0;
-y=q;
-z=((((u32)t<<8)&16776960)|((u32)u<<24))|((u32)r&255);
-A=0;
-B=1;
-C=m;
-D=0;
-E=0;
-break;
-case 29:v=77;
-w=0;
-x=0;
-y=0;
-z=0;
-A=0;
-B=2;
-C=q;
-D=((((u32)t<<8)&16776960)|((u32)u<<24))|((u32)r&255);
-E=0;
-break;
-case 30:v=24;
-w=0;
-x=0;
-y=0;
-z=0;
-A=0;
-B=2;
-C=q;
-D=((((u32)t<<8)&16776960)|((u32)u<<24))|((u32)r&255);
-E=0;
-break;
-case 31:v=25;
-w=((j&1)?2:0)|(i&1);
-x=k;
-y=0;
-z=0;
-A=0;
-B=2;
-C=q;
-D=((((u32)t<<8)&16776960)|((u32)u<<24))|((u32)r&255);
-E=0;
-break;
-case 32:v=26;
-w=(((u8)(j<<1)&2)|(i&1))|((u8)(k<<2)&4);
-x=0;
-y=0;
-z=0;
-A=0;
-B=1;
-C=q;
-D=0;
-E=0;
-break;
-case 33:v=27;
-w=0;
-x=0;
-y=q;
-z=((((u32)t<<8)&16776960)|((u32)u<<24))|((u32)r&255);
-A=0;
-B=1;
-C=m;
-D=0;
-E=0;
-break;
-case 34:v=28;
-w=0;
-x=0;
-y=0;
-z=0;
-A=0;
-B=1;
-C=q;
-D=0;
-E=0;
-break;
-case 35:v=82;
-w=0;
-x=0;
-y=0;
-z=0;
-A=0;
-B=1;
-C=q;
-D=0;
-E=0;
-break;
-case 36:v=29;
-w=0;
-x=0;
-y=0;
-z=0;
-A=0;
-B=1;
-C=q;
-D=0;
-E=0;
-break;
-case 37:v=30;
-w=r&1;
-x=0;
-y=m;
-z=n;
-A=0;
-B=1;
-C=q;
-D=0;
-E=0;
-break;
-case 38:v=31;
-w=i&1;
-x=0;
-y=0;
-z=0;
-A=0;
-B=0;
-C=0;
-D=0;
-E=0;
-break;
-case 39:v=32;
-w=0;
-x=0;
-y=0;
-z=0;
-A=0;
-B=0;
-C=0;
-D=0;
-E=0;
-break;
-case 40:v=33;
-w=0;
-x=0;
-y=0;
-z=0;
-A=0;
-B=1;
-C=q;
-D=0;
-E=0;
-break;
-case 41:v=34;
-w=0;
-x=0;
-y=0;
-z=0;
-A=0;
-B=1;
-C=q;
-D=0;
-E=0;
-break;
-case 42:v=83;
-w=i;
-x=j;
-y=0;
-z=0;
-A=0;
-B=2;
-C=q;
-D=((((u32)t<<8)&16776960)|((u32)u<<24))|((u32)r&255);
-E=0;
-break;
-case 43:v=84;
-w=0;
-x=0;
-y=q;
-z=(((t<<8)&16776960)|(u<<24))|(r&255);
-A=0;
-B=0;
-C=0;
-D=0;
-E=0;
-break;
-case 44:v=35;
-w=0;
-x=0;
-y=0;
-z=0;
-A=0;
-B=1;
-C=q;
-D=0;
-E=0;
-break;
-case 45:v=2;
-w=0;
-x=0;
-y=0;
-z=0;
-A=0;
-B=2;
-C=q;
-D=((((u32)t<<8)&16776960)|((u32)u<<24))|((u32)r&255);
-E=0;
-break;
-case 46:v=3;
-w=0;
-x=0;
-y=((((u32)t<<8)&16776960)|((u32)u<<24))|((u32)r&255);
-z=m;
-A=0;
-B=1;
-C=q;
-D=0;
-E=0;
-break;
-default:NEVER;
-}
-x2(a,v);
-memcpy(a+2,h,6);
-x8(a+8,w);
-x8(a+16,x);
-x8(a+24,((u64)z<<32)|y);
-x8(a+32,A);
-x4(a+40,B);
-x4(a+44,0);
-x4(a+48,C);
-x4(a+52,D);
-x4(a+56,E);
-x4(a+60,0);
-return;
 }
 
 /* cpp_press::details::offsets_of_thunk */
@@ -118290,399 +133841,6 @@ L87:x4(a,Sj);
 x4(a+4,Tj);
 x4(a+8,Uj);
 x4(a+12,Vj);
-return;
-}
-
-/* rust_tree::symbol::Symbol::view_at */
-static void view_at_138(u8* a,u8* b,u32 c)
-{
-u8 d[6];
-u8 *e;
-u32 f,g,h,k,l,q,s,w,x,y,z,A,B,F,G,H,I,J,K,M,P,Q,R,S,V,W,Y,Z,da,ea,ga,ha,ia,ja,la,na,oa;
-u8 i,o,p,ba,ca,pa;
-u64 j,m,n,r,u,v,D,E,L,O,T,U,aa,ma;
-u16 t,C,N,X,fa,ka;
-e=rp(b+24)+(i64)((u64)c*56);
-f=q4(e+4);
-g=q4(e+8);
-h=q4(e+12);
-i=e[16];
-j=q7(e+17);
-k=q4(e+24);
-l=q4(e+28);
-m=q8(e+32);
-n=q8(e+40);
-o=f;
-p=g;
-q=g>>8;
-switch(*e){
-case 0:r=(j<<8)|i;
-s=r;
-switch(p){
-case 0:t=(u16)(j>>24)&1;
-u=m;
-v=0;
-w=h;
-x=s;
-y=0;
-z=0;
-A=0;
-B=0;
-break;
-case 1:t=2;
-u=r;
-v=0;
-w=0;
-x=0;
-y=2;
-z=k;
-A=l;
-B=0;
-break;
-case 2:t=3;
-u=r;
-v=0;
-w=0;
-x=0;
-y=3;
-z=k;
-A=l;
-B=m;
-break;
-case 3:t=4;
-u=0;
-v=0;
-w=0;
-x=0;
-y=2;
-z=h;
-A=s;
-B=0;
-break;
-case 4:t=(u8)(k&1)?6:5;
-u=q&255;
-v=n;
-w=s;
-x=j>>24;
-y=1;
-z=h;
-A=0;
-B=0;
-break;
-case 5:t=7;
-u=0;
-v=0;
-w=0;
-x=0;
-y=2;
-z=h;
-A=s;
-B=0;
-break;
-default:NEVER;
-}
-z6(d);
-C=t;
-D=u;
-E=v;
-F=w;
-G=x;
-H=y;
-I=z;
-J=A;
-K=B;
-break;
-case 1:L=(j<<8)|i;
-M=L;
-switch(p){
-case 0:N=8;
-O=0;
-P=0;
-Q=0;
-R=0;
-break;
-case 1:N=9;
-O=L;
-P=1;
-Q=k;
-R=0;
-break;
-case 2:N=10;
-O=0;
-P=2;
-Q=h;
-R=M;
-break;
-case 3:N=11;
-O=0;
-P=2;
-Q=h;
-R=M;
-break;
-default:NEVER;
-}
-z6(d);
-C=N;
-D=O;
-E=0;
-F=0;
-G=0;
-H=P;
-I=Q;
-J=R;
-K=0;
-break;
-case 2:S=g>>16;
-T=j<<8;
-U=T|i;
-switch(p){
-case 0:z6(d);
-C=12;
-D=q&255;
-E=0;
-F=0;
-G=0;
-H=0;
-I=0;
-J=0;
-K=0;
-break;
-case 1:z6(d);
-C=14;
-D=0;
-E=0;
-F=0;
-G=0;
-H=2;
-I=h;
-J=U;
-K=0;
-break;
-case 2:z6(d);
-C=15;
-D=0;
-E=0;
-F=0;
-G=0;
-H=1;
-I=h;
-J=0;
-K=0;
-break;
-case 3:z6(d);
-C=16;
-D=0;
-E=0;
-F=0;
-G=0;
-H=1;
-I=h;
-J=0;
-K=0;
-break;
-case 4:z6(d);
-C=17;
-D=U;
-E=0;
-F=0;
-G=0;
-H=1;
-I=k;
-J=0;
-K=0;
-break;
-case 5:z6(d);
-C=18;
-D=U;
-E=0;
-F=0;
-G=0;
-H=1;
-I=k;
-J=0;
-K=0;
-break;
-case 6:z6(d);
-C=19;
-D=0;
-E=0;
-F=0;
-G=0;
-H=1;
-I=h;
-J=0;
-K=0;
-break;
-case 7:z6(d);
-C=20;
-D=0;
-E=0;
-F=0;
-G=0;
-H=1;
-I=h;
-J=0;
-K=0;
-break;
-case 8:V=n;
-W=n>>32;
-switch(i){
-case 0:X=21;
-Y=0;
-Z=0;
-break;
-case 1:X=22;
-Y=0;
-Z=0;
-break;
-case 2:aa=fshl64(k,T,32);
-X=(u8)(l&1)?24:23;
-Y=aa;
-Z=aa>>32;
-break;
-default:NEVER;
-}
-z6(d);
-C=X;
-D=S;
-E=h&1;
-F=Y;
-G=Z;
-H=2;
-I=V;
-J=W;
-K=0;
-break;
-case 9:z6(d);
-C=25;
-D=S;
-E=U;
-F=0;
-G=0;
-H=1;
-I=h;
-J=0;
-K=0;
-break;
-default:NEVER;
-}
-break;
-case 3:ba=o==0;
-z6(d);
-C=ba?26:27;
-D=0;
-E=0;
-F=0;
-G=0;
-H=ba?0:2;
-I=ba?0:g;
-J=ba?0:h;
-K=0;
-break;
-case 4:ca=o==0;
-z6(d);
-C=ca?28:29;
-D=0;
-E=0;
-F=0;
-G=0;
-H=ca?0:3;
-I=ca?0:g;
-J=ca?0:h;
-K=ca?0:((u32)j<<8)|i;
-break;
-case 5:if(o==0){
-da=0;
-ea=0;
-fa=30;
-ga=0;
-ha=0;
-ia=0;}
-else{
-da=m;
-ea=l;
-fa=(i&1)?32:31;
-ga=g;
-ha=h;
-ia=2;}
-z6(d);
-C=fa;
-D=0;
-E=0;
-F=ga;
-G=ha;
-H=ia;
-I=ea;
-J=da;
-K=0;
-break;
-case 6:ja=f>>8;
-switch(o){
-case 0:ka=33;
-la=ja&255;
-ma=(f>>16)&1;
-na=g;
-oa=h;
-break;
-case 1:ka=34;
-la=ja&1;
-ma=0;
-na=0;
-oa=0;
-break;
-case 2:ka=35;
-la=g;
-ma=0;
-na=0;
-oa=0;
-break;
-case 3:ka=36;
-la=0;
-ma=0;
-na=0;
-oa=0;
-break;
-default:NEVER;
-}
-z6(d);
-C=ka;
-D=la;
-E=ma;
-F=na;
-G=oa;
-H=0;
-I=0;
-J=0;
-K=0;
-break;
-case 7:pa=p==1;
-z6(d);
-C=37;
-D=0;
-E=0;
-F=((u32)j<<8)|i;
-G=j>>24;
-H=pa?2:1;
-I=f;
-J=pa?h:0;
-K=0;
-break;
-default:NEVER;
-}
-x2(a,C);
-memcpy(a+2,d,6);
-x8(a+8,D);
-x8(a+16,E);
-x4(a+24,F);
-x4(a+28,G);
-x4(a+32,0);
-x4(a+36,0);
-x4(a+40,H);
-x4(a+44,0);
-x4(a+48,I);
-x4(a+52,J);
-x4(a+56,K);
-x4(a+60,0);
 return;
 }
 
@@ -122960,6 +138118,529 @@ if(p&1)filter_in_b71(i,j,c,k,b,l,f,g);
 else filter_in_729(i,j,c,k,b,l,f,g);}
 else w4(i+12,8);
 memcpy(h,i,16);
+return;
+}
+
+/* symdemangle_parts_of */
+static void symdemangle_parts_of(u8* a,u64 b,u32 c,u32 d,u8* e,u64 f,u8* g,u64 h,u8* i,u8* j)
+{
+u8 q[31],C[31];
+A16 u8 k[64],l[16],m[24],n[64],o[24],p[64],r[56],s[52],t[16],u[8],v[8],w[64],x[16],y[24],z[64],A[24],B[64],D[56],E[52],F[16],G[8],H[8];
+u8 *I,*J,*K,*Z,*aa,*la,*Ia,*Ja,*Ua;
+u8 L,M,O,P,Q,U,W,X,ga,ia,ja,na,qa,sa,ta,Da,Fa,Ga,Pa,Ra,Sa,Wa,Za,bb,cb;
+u32 N,S,T,V,da,ea,fa,ha,ma,oa,pa,ra,ua,va,wa,ya,za,Ba,Ca,Ea,Ma,Na,Oa,Qa,Va,Xa,Ya,ab,db,eb,fb;
+u64 R,Y,ba,ca,ka,xa,Aa,Ha,Ka,La,Ta;
+z16(i);
+if(d<1024){
+if((((d>>7)&1)|(d&256))==0){
+I=a+(i64)(u64)(a==0?4096:0);
+J=e+(i64)(u64)(e==0?4096:0);
+K=g+(i64)(u64)(g==0?4096:0);
+L=d;
+M=L>>4;
+N=d&2;
+O=(d&1)==0?(u8)N:(N==0?1:3);
+P=(L&8)==0;
+Q=b<2;
+if((L&4)==0){
+if(P){
+w4(v,c);
+v[4]=O;
+z3(v+5);
+if(Q){
+R=0;
+S=0;
+T=11;}
+else{
+U=*I==95;
+if(b==2){
+if(!U){
+R=0;
+S=0;
+T=11;
+goto L1;}
+switch(I[1]){
+case 90:V=0;
+W=0;
+goto L2;
+case 82:break;
+default:R=0;
+S=0;
+T=11;
+goto L1;
+}}
+else{
+if(!U){
+R=0;
+S=0;
+T=11;
+goto L1;}
+switch(I[1]){
+case 90:V=0;
+W=0;
+goto L2;
+case 82:break;
+case 95:switch(I[2]){
+case 90:X=0;
+break;
+case 82:X=1;
+break;
+default:R=0;
+S=0;
+T=11;
+goto L1;
+}
+if((M&1)!=0){
+V=1;
+W=X;
+goto L2;}
+R=0;
+S=0;
+T=11;
+goto L1;
+default:R=0;
+S=0;
+T=11;
+goto L1;
+}}
+V=0;
+W=1;
+L2:Y=b-V;
+if(Y<16777217){
+z16(l);
+parse_be6(k,v,W,I+(i64)V,Y);
+if(*k==0){
+Z=rp(k+8);
+aa=rp(k+40);
+ba=r8(k+56);
+ca=r8(k+24);
+write_both_976(l,k+8,W==0?1:2,J,f,K,h,i);
+if(ca!=0)port_rattle_dealloc(Z);
+if(ba!=0)port_rattle_dealloc(aa);}
+else{
+da=r4(k+8);
+switch(k[4]){
+case 0:ea=uadd32(V,da);
+fa=1;
+break;
+case 1:ea=uadd32(V,da);
+fa=2;
+break;
+case 2:ea=uadd32(V,da);
+fa=3;
+break;
+case 3:ea=0;
+fa=4;
+break;
+case 4:ea=0;
+fa=5;
+break;
+default:NEVER;
+}
+w8(l,0);
+w4(l+8,ea);
+w4(l+12,fa);}
+R=r8(l);
+S=r4(l+8);
+T=r4(l+12);}
+else{
+R=0;
+S=0;
+T=7;}}}
+else{
+w4(u,c);
+u[4]=O;
+z3(u+5);
+if(Q){
+R=0;
+S=0;
+T=11;}
+else{
+ga=*I==95;
+if(b==2){
+if(!ga){
+R=0;
+S=0;
+T=11;
+goto L1;}
+switch(I[1]){
+case 90:ha=0;
+ia=0;
+goto L3;
+case 82:break;
+default:R=0;
+S=0;
+T=11;
+goto L1;
+}}
+else{
+if(!ga){
+R=0;
+S=0;
+T=11;
+goto L1;}
+switch(I[1]){
+case 90:ha=0;
+ia=0;
+goto L3;
+case 82:break;
+case 95:switch(I[2]){
+case 90:ja=0;
+break;
+case 82:ja=1;
+break;
+default:R=0;
+S=0;
+T=11;
+goto L1;
+}
+if((M&1)!=0){
+ha=1;
+ia=ja;
+goto L3;}
+R=0;
+S=0;
+T=11;
+goto L1;
+default:R=0;
+S=0;
+T=11;
+goto L1;
+}}
+ha=0;
+ia=1;
+L3:ka=b-ha;
+if(ka<16777217){
+la=I+(i64)ha;
+z56(r);
+z16(t);
+z64(n);
+z24(o);
+z64(p);
+z7(q);
+path_of_ea7(o,la,ka);
+if(*o==1){
+parse_4db(p,la,ka,r8(o+8),r8(o+16),c);
+ma=r4(p+8);
+if(*p==0){
+na=p[32];
+memcpy(q+7,p+40,24);
+memcpy(n+12,p+12,20);
+n[32]=na;
+memcpy(n+33,q,31);
+memcpy(s,n+12,52);
+oa=ma;
+goto L4;}
+pa=ma;
+qa=p[4];}
+else{
+parse_be6(n,u,ia,la,ka);
+ra=r4(n+8);
+sa=*n;
+ta=n[4];
+memcpy(s,n+12,52);
+if(sa==0){
+oa=ra;
+goto L4;}
+pa=ra;
+qa=ta;}
+switch(qa){
+case 0:ua=uadd32(ha,pa);
+va=1;
+break;
+case 1:ua=uadd32(ha,pa);
+va=2;
+break;
+case 2:ua=uadd32(ha,pa);
+va=3;
+break;
+case 3:ua=0;
+va=4;
+break;
+case 4:ua=0;
+va=5;
+break;
+default:NEVER;
+}
+w8(t,0);
+w4(t+8,ua);
+w4(t+12,va);
+goto L5;
+L4:w4(r,oa);
+memcpy(r+4,s,52);
+if(ia==0){
+z24(m);
+path_of_ea7(m,la,ka);
+wa=(*m&1)?3:1;}
+else wa=2;
+write_both_976(t,r,wa,J,f,K,h,i);
+if(r8(r+16)!=0)port_rattle_dealloc(rp(r));
+if(r8(r+48)!=0)port_rattle_dealloc(rp(r+32));
+L5:R=r8(t);
+S=r4(t+8);
+T=r4(t+12);}
+else{
+R=0;
+S=0;
+T=7;}}}
+L1:xa=R;
+ya=S;
+za=T;}
+else{
+if(P){
+w4(H,c);
+H[4]=O;
+z3(H+5);
+if(Q){
+Aa=0;
+Ba=0;
+Ca=11;}
+else{
+Da=*I==95;
+if(b==2){
+if(!Da){
+Aa=0;
+Ba=0;
+Ca=11;
+goto L6;}
+switch(I[1]){
+case 90:Ea=0;
+Fa=0;
+goto L7;
+case 82:break;
+default:Aa=0;
+Ba=0;
+Ca=11;
+goto L6;
+}}
+else{
+if(!Da){
+Aa=0;
+Ba=0;
+Ca=11;
+goto L6;}
+switch(I[1]){
+case 90:Ea=0;
+Fa=0;
+goto L7;
+case 82:break;
+case 95:switch(I[2]){
+case 90:Ga=0;
+break;
+case 82:Ga=1;
+break;
+default:Aa=0;
+Ba=0;
+Ca=11;
+goto L6;
+}
+if((M&1)!=0){
+Ea=1;
+Fa=Ga;
+goto L7;}
+Aa=0;
+Ba=0;
+Ca=11;
+goto L6;
+default:Aa=0;
+Ba=0;
+Ca=11;
+goto L6;
+}}
+Ea=0;
+Fa=1;
+L7:Ha=b-Ea;
+if(Ha<16777217){
+z16(x);
+parse_fb3(w,H,Fa,I+(i64)Ea,Ha);
+if(*w==0){
+Ia=rp(w+8);
+Ja=rp(w+40);
+Ka=r8(w+56);
+La=r8(w+24);
+write_both_976(x,w+8,Fa==0?1:2,J,f,K,h,i);
+if(La!=0)port_rattle_dealloc(Ia);
+if(Ka!=0)port_rattle_dealloc(Ja);}
+else{
+Ma=r4(w+8);
+switch(w[4]){
+case 0:Na=uadd32(Ea,Ma);
+Oa=1;
+break;
+case 1:Na=uadd32(Ea,Ma);
+Oa=2;
+break;
+case 2:Na=uadd32(Ea,Ma);
+Oa=3;
+break;
+case 3:Na=0;
+Oa=4;
+break;
+case 4:Na=0;
+Oa=5;
+break;
+default:NEVER;
+}
+w8(x,0);
+w4(x+8,Na);
+w4(x+12,Oa);}
+Aa=r8(x);
+Ba=r4(x+8);
+Ca=r4(x+12);}
+else{
+Aa=0;
+Ba=0;
+Ca=7;}}}
+else{
+w4(G,c);
+G[4]=O;
+z3(G+5);
+if(Q){
+Aa=0;
+Ba=0;
+Ca=11;}
+else{
+Pa=*I==95;
+if(b==2){
+if(!Pa){
+Aa=0;
+Ba=0;
+Ca=11;
+goto L6;}
+switch(I[1]){
+case 90:Qa=0;
+Ra=0;
+goto L8;
+case 82:break;
+default:Aa=0;
+Ba=0;
+Ca=11;
+goto L6;
+}}
+else{
+if(!Pa){
+Aa=0;
+Ba=0;
+Ca=11;
+goto L6;}
+switch(I[1]){
+case 90:Qa=0;
+Ra=0;
+goto L8;
+case 82:break;
+case 95:switch(I[2]){
+case 90:Sa=0;
+break;
+case 82:Sa=1;
+break;
+default:Aa=0;
+Ba=0;
+Ca=11;
+goto L6;
+}
+if((M&1)!=0){
+Qa=1;
+Ra=Sa;
+goto L8;}
+Aa=0;
+Ba=0;
+Ca=11;
+goto L6;
+default:Aa=0;
+Ba=0;
+Ca=11;
+goto L6;
+}}
+Qa=0;
+Ra=1;
+L8:Ta=b-Qa;
+if(Ta<16777217){
+Ua=I+(i64)Qa;
+z56(D);
+z16(F);
+z64(z);
+z24(A);
+z64(B);
+z7(C);
+path_of_ea7(A,Ua,Ta);
+if(*A==1){
+parse_4db(B,Ua,Ta,r8(A+8),r8(A+16),c);
+Va=r4(B+8);
+if(*B==0){
+Wa=B[32];
+memcpy(C+7,B+40,24);
+memcpy(z+12,B+12,20);
+z[32]=Wa;
+memcpy(z+33,C,31);
+memcpy(E,z+12,52);
+Xa=Va;
+goto L9;}
+Ya=Va;
+Za=B[4];}
+else{
+parse_fb3(z,G,Ra,Ua,Ta);
+ab=r4(z+8);
+bb=*z;
+cb=z[4];
+memcpy(E,z+12,52);
+if(bb==0){
+Xa=ab;
+goto L9;}
+Ya=ab;
+Za=cb;}
+switch(Za){
+case 0:db=uadd32(Qa,Ya);
+eb=1;
+break;
+case 1:db=uadd32(Qa,Ya);
+eb=2;
+break;
+case 2:db=uadd32(Qa,Ya);
+eb=3;
+break;
+case 3:db=0;
+eb=4;
+break;
+case 4:db=0;
+eb=5;
+break;
+default:NEVER;
+}
+w8(F,0);
+w4(F+8,db);
+w4(F+12,eb);
+goto L10;
+L9:w4(D,Xa);
+memcpy(D+4,E,52);
+if(Ra==0){
+z24(y);
+path_of_ea7(y,Ua,Ta);
+fb=(*y&1)?3:1;}
+else fb=2;
+write_both_976(F,D,fb,J,f,K,h,i);
+if(r8(D+16)!=0)port_rattle_dealloc(rp(D));
+if(r8(D+48)!=0)port_rattle_dealloc(rp(D+32));
+L10:Aa=r8(F);
+Ba=r4(F+8);
+Ca=r4(F+12);}
+else{
+Aa=0;
+Ba=0;
+Ca=7;}}}
+L6:xa=Aa;
+ya=Ba;
+za=Ca;}}
+else{
+xa=0;
+ya=0;
+za=8;}}
+else{
+xa=0;
+ya=0;
+za=8;}
+x8(j,xa);
+x4(j+8,ya);
+x4(j+12,za);
 return;
 }
 
@@ -128840,6 +144521,12 @@ static void port_rattle_dealloc(u8 *at) { if ((uintptr_t)at != 65536) rattle_dea
 
 
 #define symdemangle_text_of(a0, a1, a2, a3, a4, a5, a6) symdemangle_text_of((u8 *)(uintptr_t)(a0), a1, a2, a3, (u8 *)(uintptr_t)(a4), a5, (u8 *)(uintptr_t)(a6))
+/* What a name has beside its text: how many parts that has, and the numbers of its kind and its mangling. */
+struct symdemangle_found {
+    size_t count;
+    uint32_t kind, mangling;
+};
+#define symdemangle_parts_of(a0, a1, a2, a3, a4, a5, a6, a7, a8, a9) symdemangle_parts_of((u8 *)(uintptr_t)(a0), a1, a2, a3, (u8 *)(uintptr_t)(a4), a5, (u8 *)(uintptr_t)(a6), a7, (u8 *)(uintptr_t)(a8), (u8 *)(uintptr_t)(a9))
 #define symdemangle_texts_of(a0, a1, a2, a3, a4, a5, a6, a7, a8, a9) symdemangle_texts_of((u8 *)(uintptr_t)(a0), a1, (u8 *)(uintptr_t)(a2), a3, a4, a5, (u8 *)(uintptr_t)(a6), a7, (u8 *)(uintptr_t)(a8), a9)
 #define symdemangle_filter_of(a0, a1, a2, a3, a4, a5, a6, a7) symdemangle_filter_of((u8 *)(uintptr_t)(a0), a1, a2, a3, (u8 *)(uintptr_t)(a4), a5, (u8 *)(uintptr_t)(a6), (u8 *)(uintptr_t)(a7))
 #define symdemangle_press_of(a0, a1, a2, a3, a4, a5) symdemangle_press_of((u8 *)(uintptr_t)(a0), a1, a2, (u8 *)(uintptr_t)(a3), a4, (u8 *)(uintptr_t)(a5))
@@ -128883,6 +144570,77 @@ const char *symdemangle_message(uint32_t status)
     return status < sizeof messages / sizeof *messages ? messages[status] : "an unknown status";
 }
 
+/* The word of a number from 1 on, or null. */
+static const char *word(const char *const *words, size_t count, uint32_t number)
+{
+    return number - 1u < count ? words[number - 1u] : 0;
+}
+
+const char *symdemangle_role(uint32_t role)
+{
+    static const char *const roles[] = {
+        /* Generated by tools/part_words.py. */
+        "special",
+        "return_type",
+        "scope",
+        "base",
+        "abi_tag",
+        "generic_arguments",
+        "generic_argument",
+        "parameters",
+        "parameter",
+        "qualifiers",
+        "object",
+        "suffix",
+        "crate",
+        "impl",
+        "self_type",
+        "trait",
+        "hash",
+        "instantiating_crate",
+    };
+    return word(roles, sizeof roles / sizeof *roles, role);
+}
+
+const char *symdemangle_kind(uint32_t kind)
+{
+    static const char *const kinds[] = {
+        /* Generated by tools/part_words.py. */
+        "function",
+        "constructor",
+        "destructor",
+        "operator",
+        "conversion",
+        "literal_operator",
+        "lambda",
+        "variable",
+        "local_variable",
+        "string_literal",
+        "vtable",
+        "vtt",
+        "typeinfo",
+        "typeinfo_name",
+        "construction_vtable",
+        "guard",
+        "thunk",
+        "virtual_thunk",
+        "covariant_thunk",
+        "tls_init",
+        "tls_wrapper",
+        "template_object",
+        "reference_temporary",
+        "transaction_clone",
+        "value",
+        "type",
+        "closure",
+        "shim",
+        "item",
+        "impl",
+        "crate",
+    };
+    return word(kinds, sizeof kinds / sizeof *kinds, kind);
+}
+
 /* Puts a status without length and offset into a result, if there is one. */
 static uint32_t tell(uint32_t status, symdemangle_result *result)
 {
@@ -128923,6 +144681,28 @@ uint32_t symdemangle_text(const char *name, size_t name_length, uint32_t limit, 
     MAKE(symdemangle_text_of(SOME(name, none), name_length, limit, flags, SOME(buffer, nowhere), capacity, result),
          result->status);
     return result->status;
+}
+
+uint32_t symdemangle_parts(const char *name, size_t name_length, uint32_t limit, uint32_t flags, char *buffer, size_t capacity,
+                           symdemangle_part *parts, size_t part_capacity, symdemangle_name *result)
+{
+    char none = 0, nowhere = 0;
+    symdemangle_part no_part = {0, 0, 0};
+    symdemangle_result told = {0, 0, SYMDEMANGLE_NULL};
+    struct symdemangle_found found = {0, 0, 0};
+    if (!result)
+        return SYMDEMANGLE_NULL;
+    if (lends(name, name_length) && lends(buffer, capacity) && lends(parts, part_capacity))
+        MAKE(symdemangle_parts_of(SOME(name, none), name_length, limit, flags, SOME(buffer, nowhere), capacity,
+                                  SOME(parts, no_part), part_capacity, &found, &told),
+             told.status);
+    result->length = told.length;
+    result->count = found.count;
+    result->offset = told.offset;
+    result->status = told.status;
+    result->kind = found.kind;
+    result->mangling = found.mangling;
+    return told.status;
 }
 
 uint32_t symdemangle_texts(const char *names, size_t names_length, const size_t *ends, size_t count, uint32_t limit,

@@ -36,6 +36,32 @@ struct refusal {
     const char *what() const noexcept { return symdemangle_message(status); }
 };
 
+// A part of a text: its role (symdemangle_roles), how many bytes of the text are before it, and how many it has.
+using part = symdemangle_part;
+
+// The text of a name, what the name is (symdemangle_kinds, symdemangle_manglings), and the parts of the text, in the order of their starts.
+struct parsed {
+    std::string text;
+    std::uint32_t kind = 0;
+    std::uint32_t mangling = 0;
+    std::vector<part> parts;
+
+    // The bytes of a part.
+    std::string_view of(const part &which) const { return std::string_view(text).substr(which.start, which.length); }
+
+    // The bytes of the first part of a role; none where there is no such part.
+    std::string_view first(std::uint32_t role) const
+    {
+        for (const part &which : parts)
+            if (which.role == role)
+                return of(which);
+        return {};
+    }
+
+    std::string_view base() const { return first(SYMDEMANGLE_ROLE_BASE); }
+    std::string_view scope() const { return first(SYMDEMANGLE_ROLE_SCOPE); }
+};
+
 // The work that a symbol made.
 using counts = symdemangle_counts;
 
@@ -86,6 +112,34 @@ inline std::optional<std::string> text(std::string_view name, options asked = {}
         },
         result);
     detail::tell(result, why);
+    return made;
+}
+
+// The text of a name with its parts, if it has one; else `why`, where that is given, says why not. Short texts and types have no parts:
+// with their flags there is none.
+inline std::optional<parsed> parts(std::string_view name, options asked = {}, refusal *why = nullptr)
+{
+    char few[4096];
+    symdemangle_part some[32];
+    symdemangle_name told;
+    parsed made;
+    const std::uint32_t flags = detail::of_names(asked.flags);
+    if (symdemangle_parts(name.data(), name.size(), asked.limit, flags, few, sizeof few, some, 32, &told) == SYMDEMANGLE_OK) {
+        made.text.assign(few, told.length);
+        made.parts.assign(some, some + told.count);
+    } else if (told.status == SYMDEMANGLE_BUFFER) {
+        made.text.resize(told.length);
+        made.parts.resize(told.count);
+        symdemangle_parts(name.data(), name.size(), asked.limit, flags, &made.text[0], made.text.size(), made.parts.data(),
+                          made.parts.size(), &told);
+    }
+    if (told.status == SYMDEMANGLE_MEMORY)
+        throw std::bad_alloc();
+    detail::tell({told.length, told.offset, told.status}, why);
+    if (told.status != SYMDEMANGLE_OK)
+        return std::nullopt;
+    made.kind = told.kind;
+    made.mangling = told.mangling;
     return made;
 }
 

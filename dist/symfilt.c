@@ -821,6 +821,7 @@ static const u8 t_0f6a[22]=" restrict && noexcept";
 static const u8 t_0f6e[22]=" volatile && noexcept";
 static const u8 t_106a[5]="help";
 static const u8 t_1150[4]="new";
+static const u8 t_1165[11]={0,0,0,0,1,2,0,0,0,0,0};
 static const u8 t_12ac[3]=".*";
 static const u8 t_1385[26]="unrecognized subcommand '";
 static const u8 t_14b2[12]="operator->*";
@@ -884,6 +885,7 @@ static const u8 t_2f86[3]="}}";
 static const u8 t_3009[3]="Do";
 static const u8 t_306c[4]=" % ";
 static const u8 t_3070[5]="$LP$";
+static const u8 t_3141[11]={0,1,2,3,0,0,0,0,0,0,0};
 static const u8 t_3276[7]="_Float";
 static const u8 t_32d7[31]=" a similar subcommand exists: ";
 static const u8 t_32eb[2]="(";
@@ -2429,7 +2431,7 @@ static void fill_tagged_146(u8* a,u32 b,u32 c,u32 d,u8* e);
 static u16 abbreviation_6bb(u8 a);
 static void fill_parameter_f0e(u8* a,u8* b,u32 c,u32 d,u32 e,u8* f);
 static void fill_marked_395(u8* a,u8* b,u32 c,u8* d);
-static void class_e43(u8* a,u8* b,u8* c);
+static u8 head_c64(u8* a,u8 b,u32 c,u8* d);
 static u8 element_head_a82(u8* a,u8 b,u32 c,u8* d);
 static void fill_reference_bf6(u8* a,u8* b,u32 c,u32 d,u16 e,u16 f,u8* g);
 static void fill_array_c4d(u8* a,u8* b,u32 c,u8* d);
@@ -2572,6 +2574,10 @@ static void dependent_8e0(u8* a,u8* b);
 static void returned_acd(u8* a,u8* b,u8* c,u64 d,u8 e);
 static void function_ended_049(u8* a,u8* b,u8* c,u64 d,u8 e);
 static void pass_element_c99(u8* a,u8* b,u8* c,u64 d,u8 e);
+static void element_ended_d46(u8* a,u8* b,u8* c,u64 d,u32 e,u8 f,u8* g,u8 h);
+static u8 is_element_at_f4e(u8* a,u64 b,u64 c);
+static void close_list_0b3(u8* a,u8* b,u8* c,u64 d,u8* e);
+static void level_ended_5bf(u8* a,u8* b,u8* c,u64 d,u8 e);
 static void parameter_at_c04(u8* a,u8* b,u8* c,u64 d,u8 e,u8 f);
 static void array_ended_08d(u8* a,u8* b,u8* c,u64 d,u8 e,u32 f,u32 g);
 static void lambda_parameter_f9a(u8* a,u8* b,u8* c,u64 d,u32 e,u8* f);
@@ -2585,15 +2591,11 @@ static u8 digits_418(u8* a,u8* b,u64 c,u8 d);
 static void argument_enumerator_c0e(u8* a,u8* b,u8* c,u64 d,u32 e,u8 f,u8* g);
 static void argument_ended_2ff(u8* a,u8* b,u8* c,u64 d,u32 e,u8 f,u8* g,u8 h);
 static void next_enumerator_8be(u8* a,u8* b,u8* c,u64 d,u8 e,u8* f);
-static u8 is_element_at_f4e(u8* a,u64 b,u64 c);
 static void next_pack_bbb(u8* a,u8* b,u8* c,u64 d,u8 e,u8* f);
 static void begin_address_4df(u8* a,u8* b,u8* c,u64 d);
-static void close_list_0b3(u8* a,u8* b,u8* c,u64 d,u8* e);
-static void level_ended_5bf(u8* a,u8* b,u8* c,u64 d,u8 e);
 static void next_literal_1b3(u8* a,u8* b,u8* c,u64 d,u8 e,u8* f);
 static u8 boolean_6cc(u8* a,u8* b,u64 c);
 static u8 integer_bfa(u8* a,u8* b,u64 c);
-static void element_ended_d46(u8* a,u8* b,u8* c,u64 d,u32 e,u8 f,u8* g,u8 h);
 static void empty_pack_06f(u8* a,u8* b,u8* c,u64 d,u8 e);
 static void first_pack_117(u8* a,u8* b,u8* c,u64 d);
 static void begin_level_d05(u8* a,u8* b,u8* c,u64 d);
@@ -2639,6 +2641,8 @@ static void addressed_parameter_2cf(u8* a,u8* b,u8* c,u64 d,u32 e);
 static void returned_322(u8* a,u8* b,u8* c,u64 d,u8 e);
 static void function_ended_365(u8* a,u8* b,u8* c,u64 d,u8 e);
 static void pass_element_695(u8* a,u8* b,u8* c,u64 d,u8 e);
+static void element_ended_6b8(u8* a,u8* b,u8* c,u64 d,u32 e,u8 f,u8* g,u8 h);
+static void close_list_299(u8* a,u8* b,u8* c,u64 d,u8* e);
 static void parameter_at_3ac(u8* a,u8* b,u8* c,u64 d,u8 e,u8 f);
 static void array_ended_1b3(u8* a,u8* b,u8* c,u64 d,u8 e,u32 f,u32 g);
 static void lambda_parameter_383(u8* a,u8* b,u8* c,u64 d,u32 e,u8* f);
@@ -2648,8 +2652,6 @@ static void argument_ended_511(u8* a,u8* b,u8* c,u64 d,u32 e,u8 f,u8* g,u8 h);
 static void next_enumerator_cc1(u8* a,u8* b,u8* c,u64 d,u8 e,u8* f);
 static void next_pack_66f(u8* a,u8* b,u8* c,u64 d,u8 e,u8* f);
 static void begin_address_ef5(u8* a,u8* b,u8* c,u64 d);
-static void close_list_299(u8* a,u8* b,u8* c,u64 d,u8* e);
-static void element_ended_6b8(u8* a,u8* b,u8* c,u64 d,u32 e,u8 f,u8* g,u8 h);
 static void empty_pack_079(u8* a,u8* b,u8* c,u64 d,u8 e);
 static void first_literal_c4d(u8* a,u8* b,u8* c,u64 d);
 static void first_enumerator_aaf(u8* a,u8* b,u8* c,u64 d);
@@ -2674,6 +2676,8 @@ static void begin_enclosing_8b6(u8* a,u8* b,u8* c,u64 d);
 static void returned_087(u8* a,u8* b,u8* c,u64 d,u8 e);
 static void function_ended_faf(u8* a,u8* b,u8* c,u64 d,u8 e);
 static void pass_element_9db(u8* a,u8* b,u8* c,u64 d,u8 e);
+static void element_ended_c50(u8* a,u8* b,u8* c,u64 d,u32 e,u8 f,u8* g,u8 h);
+static void close_list_148(u8* a,u8* b,u8* c,u64 d,u8* e);
 static void parameter_at_d02(u8* a,u8* b,u8* c,u64 d,u8 e,u8 f);
 static void array_ended_a11(u8* a,u8* b,u8* c,u64 d,u8 e,u32 f,u32 g);
 static void argument_enumerator_071(u8* a,u8* b,u8* c,u64 d,u32 e,u8 f,u8* g);
@@ -2681,8 +2685,6 @@ static void argument_ended_c7c(u8* a,u8* b,u8* c,u64 d,u32 e,u8 f,u8* g,u8 h);
 static void next_enumerator_412(u8* a,u8* b,u8* c,u64 d,u8 e,u8* f);
 static void next_pack_095(u8* a,u8* b,u8* c,u64 d,u8 e,u8* f);
 static void begin_address_731(u8* a,u8* b,u8* c,u64 d);
-static void close_list_148(u8* a,u8* b,u8* c,u64 d,u8* e);
-static void element_ended_c50(u8* a,u8* b,u8* c,u64 d,u32 e,u8 f,u8* g,u8 h);
 static void empty_pack_c74(u8* a,u8* b,u8* c,u64 d,u8 e);
 static void begin_level_398(u8* a,u8* b,u8* c,u64 d);
 static void first_literal_898(u8* a,u8* b,u8* c,u64 d);
@@ -2704,14 +2706,14 @@ static void begin_enclosing_897(u8* a,u8* b,u8* c,u64 d);
 static void returned_07a(u8* a,u8* b,u8* c,u64 d,u8 e);
 static void function_ended_13c(u8* a,u8* b,u8* c,u64 d,u8 e);
 static void pass_element_fdc(u8* a,u8* b,u8* c,u64 d,u8 e);
+static void element_ended_20b(u8* a,u8* b,u8* c,u64 d,u32 e,u8 f,u8* g,u8 h);
+static void close_list_3c2(u8* a,u8* b,u8* c,u64 d,u8* e);
 static void parameter_at_257(u8* a,u8* b,u8* c,u64 d,u8 e,u8 f);
 static void array_ended_b9c(u8* a,u8* b,u8* c,u64 d,u8 e,u32 f,u32 g);
 static void argument_enumerator_87a(u8* a,u8* b,u8* c,u64 d,u32 e,u8 f,u8* g);
 static void argument_ended_e71(u8* a,u8* b,u8* c,u64 d,u32 e,u8 f,u8* g,u8 h);
 static void next_enumerator_034(u8* a,u8* b,u8* c,u64 d,u8 e,u8* f);
 static void next_pack_49a(u8* a,u8* b,u8* c,u64 d,u8 e,u8* f);
-static void close_list_3c2(u8* a,u8* b,u8* c,u64 d,u8* e);
-static void element_ended_20b(u8* a,u8* b,u8* c,u64 d,u32 e,u8 f,u8* g,u8 h);
 static void empty_pack_ea9(u8* a,u8* b,u8* c,u64 d,u8 e);
 static void first_literal_c8e(u8* a,u8* b,u8* c,u64 d);
 static void first_enumerator_ea5(u8* a,u8* b,u8* c,u64 d);
@@ -2843,7 +2845,8 @@ static void advance_c66(u8* a,u8* b,u8* c,u64 d,u8 e);
 static void link_ba9(u8* a,u8* b);
 static void run_f2d(u8* a,u8* b,u8* c,u8* d,u64 e,u8* f,u64 g);
 static void token_by_f9d(u8* a,u8* b,u8* c,u8* d,u8* e,u8* f);
-static void between_by_step_e69(u8* a,u8* b,u8* c,u8* d,u8* e);
+static u8 steps_apart_3af(u8 a,u8* b,u64 c);
+static void before_apart_b65(u8* a,u8* b,u8* c,u8* d,u8* e);
 static void in_encoding_apart_919(u8* a,u8* b,u32 c,u8* d,u8* e,u64 f);
 static s_8_32 named_module_027(u8* a,u8* b,u32 c,u32 d);
 static void finish_substitution_b8a(u8* a,u8* b,u8* c,u8* d,u8* e);
@@ -41960,11 +41963,11 @@ L1:return d;
 static void run_5b5(u8* a,u8* b,u8* c,u8* d,u64 e,u8* f,u64 g)
 {
 A16 u8 h[24],i[24],j[24],k[12],l[16],m[12],n[16],o[12],p[40],q[24],r[24],s[12],t[16],u[12],v[40],w[12];
-u8 x,H,J,L,O,T,W,ba,ja,ra,va,Ia,Wa,ab,cb,mb,tb,vb,yb,Cb,Eb;
-u32 y,z,A,B,F,G,I,S,X,Y,sa,ta,ua,wa,xa,ya,Sa,Ta,Ua,Xa,Ya,Za,bb,fb,gb,qb,Db;
-u8 *C,*Q,*U,*Z,*la,*pa,*Ka,*eb,*hb,*rb,*Gb;
-u64 D,K,M,N,P,R,V,ca,da,ea,fa,ha,ia,ka,ma,na,oa,Aa,Ba,Ca,Da,Ea,Ga,Ha,Ja,La,Ma,Oa,Pa,Qa,Ra,db,ib,jb,kb,lb,nb,ob,pb,sb,ub,wb,xb,zb,Ab,Bb,Fb,Hb,Ib;
-u16 E,aa,ga,qa,za,Fa,Na,Va;
+u8 x,H,J,L,O,T,W,ba,ja,ra,va,xa,Ia,Ta,Za,bb,lb,sb,ub,xb,Bb;
+u32 y,z,A,B,F,G,I,S,X,Y,sa,ta,ua,wa,ya,Sa,Va,Wa,Xa,Ya,ab,eb,fb,pb;
+u8 *C,*Q,*U,*Z,*la,*pa,*Ka,*db,*gb,*qb,*Db;
+u64 D,K,M,N,P,R,V,ca,da,ea,fa,ha,ia,ka,ma,na,oa,Aa,Ba,Ca,Da,Ea,Ga,Ha,Ja,La,Ma,Oa,Pa,Qa,Ra,cb,hb,ib,jb,kb,mb,nb,ob,rb,tb,vb,wb,yb,zb,Ab,Cb,Eb,Fb;
+u16 E,aa,ga,qa,za,Fa,Na,Ua;
 if(b[56]!=1){
 A=r4(b+48);
 B=r4(b+52);
@@ -42011,7 +42014,7 @@ if(M<L)N=M;
 else{
 before_by_step_fe5(r,c,d,v,b+24);
 if(*r!=0){
-H=r4(r+4);
+H=r[4];
 I=r4(r+8);
 goto L4;}
 N=r8(b+32);}
@@ -42101,7 +42104,7 @@ if(Ea<Ga)Ha=Da;
 else{
 before_by_step_fe5(j,c,d,Z-40,b+24);
 if(*j!=0){
-xa=r4(j+4);
+xa=j[4];
 ya=r4(j+8);
 goto L12;}
 Ha=r8(b+32);}
@@ -42143,148 +42146,145 @@ z24(i);
 Qa=Ba;
 Ra=5;}
 L14:if(Qa<Ra){
-Sa=q4(Z-20);
-Ta=q4(Z-16);
-Ua=q4(Z-12);
-Va=q2(Z-8);
-Wa=Z[-5];
-Xa=q4(Z-24);}
+Sa=q4(Z-24);
+Ta=Z[-5];
+Ua=q2(Z-8);
+Va=q4(Z-12);
+Wa=q4(Z-16);
+Xa=q4(Z-20);}
 else{
 before_by_step_fe5(i,c,d,Z-40,b+24);
-Ya=r4(i+4);
-Za=r4(i+8);
+Ya=r4(i+8);
 if(*i!=0){
-xa=Ya;
-ya=Za;
+xa=i[4];
+ya=Ya;
 goto L12;}
-Sa=Za;
-Ta=r4(i+12);
-Ua=r4(i+16);
-Va=r2(i+20);
-Wa=i[23];
+Sa=r4(i+4);
+Ta=i[23];
+Ua=r2(i+20);
+Va=r4(i+16);
+Wa=r4(i+12);
 Xa=Ya;}
-ab=c[96];
-bb=ab==1?q4(c+100):Ua;
-cb=qa<270;
-if(cb){
+Za=c[96];
+ab=Za==1?q4(c+100):Va;
+bb=qa<270;
+if(bb){
 if(!((u8)(*((u8*)t_558a+(i64)((u64)qa<<1))-87)<254||sa==0)){
-db=usub64(ta,1);
-if(db>=g){
+cb=usub64(ta,1);
+if(cb>=g){
 xa=2;
 ya=sa-1;
 goto L12;}
-eb=f+(i64)(db<<4);
-fb=r4(eb+4);
-gb=r4(eb+8);
-if(!((gb>=fb)&(e>=gb))){
+db=f+(i64)(cb<<4);
+eb=r4(db+4);
+fb=r4(db+8);
+if(!((fb>=eb)&(e>=fb))){
 xa=2;
 ya=sa-1;
 goto L12;}
-hb=d+(i64)fb;
-ib=(u64)gb-fb;
-if(gb==fb)goto L15;
+gb=d+(i64)eb;
+hb=(u64)fb-eb;
+if(fb==eb)goto L15;
+ib=0;
 jb=0;
-kb=0;
-L16:if(jb<0x199999999999999au){
-lb=jb*10;
-mb=usub8(*(hb+(i64)kb),48);
-if(lb<=(mb^18446744073709551615u)){
-nb=lb+mb;
-ob=kb+1;
-if(ib!=ob){
+L16:if(ib<0x199999999999999au){
+kb=ib*10;
+lb=usub8(*(gb+(i64)jb),48);
+if(kb<=(lb^18446744073709551615u)){
+mb=kb+lb;
+nb=jb+1;
+if(hb!=nb){
+ib=mb;
 jb=nb;
-kb=ob;
 goto L16;}
-if(nb<0xfffffffffffffffeu)goto L15;
+if(mb<0xfffffffffffffffeu)goto L15;
 xa=2;
 ya=usub32(sa,1);
 goto L12;}}
 xa=2;
 ya=usub32(sa,1);
 goto L12;}}
-L15:pb=r8(b+32);
-qb=A+1;
-w8(p,pb);
+L15:ob=r8(b+32);
+pb=A+1;
+w8(p,ob);
 w4(p+8,sa);
 w4(p+12,ta);
-w4(p+16,Xa);
-w4(p+20,Sa);
-w4(p+24,Ta);
-w4(p+28,bb);
-w2(p+32,Va);
-p[34]=ab;
-p[35]=Wa;
+w4(p+16,Sa);
+w4(p+20,Xa);
+w4(p+24,Wa);
+w4(p+28,ab);
+w2(p+32,Ua);
+p[34]=Za;
+p[35]=Ta;
 w2(p+36,qa);
 w2(p+38,0);
 if(ta==A+2){
-rb=f+((u64)qb<<4);
-if(r2(rb)==65535){
-memcpy(n,rb,16);
+qb=f+((u64)pb<<4);
+if(r2(qb)==65535){
+memcpy(n,qb,16);
 z12(o);
 token_by_0b9(o,c,d,p,b+24,n);
 if(*o==0)goto L17;
 xa=o[4];
 ya=r4(o+8);
 goto L12;}}
-if(ta!=qb){
-sb=r8(b+8);
-if(r8(b+16)==sb){
-tb=grow_amortized_934(b);
-if(!tb){
+if(ta!=pb){
+rb=r8(b+8);
+if(r8(b+16)==rb){
+sb=grow_amortized_934(b);
+if(!sb){
 xa=4;
 ya=0;
 goto L12;}
-ub=r8(b+8);}
-else ub=sb;
-memcpy(rp(b)+ub*40,p,40);
-w8(b+8,ub+1);
-wa=qb;
+tb=r8(b+8);}
+else tb=rb;
+memcpy(rp(b)+tb*40,p,40);
+w8(b+8,tb+1);
+wa=pb;
 goto L9;}
-L17:if(cb){
-vb=*((u8*)t_4ada+(i64)qa);
-wb=r8(b+32);
-xb=wb-pb;
-if(xb<vb){
-yb=*((u8*)t_79dc+(i64)qa);
+L17:if(bb){
+ub=*((u8*)t_4ada+(i64)qa);
+vb=r8(b+32);
+wb=vb-ob;
+if(wb<ub){
+xb=*((u8*)t_79dc+(i64)qa);
+yb=vb;
 zb=wb;
-Ab=xb;
 L18:z24(h);
-if(Ab<yb)Bb=zb;
+if(zb<xb)Ab=yb;
 else{
 before_by_step_fe5(h,c,d,p,b+24);
 if(*h!=0){
-Cb=r4(h+4);
-Db=r4(h+8);
-goto L19;}
-Bb=r8(b+32);}
-if(r8(b+40)==Bb){
-Eb=grow_amortized_a22(b+24);
-if(!Eb){
-Cb=4;
-Db=0;
-goto L19;}
-Fb=r8(b+32);}
-else Fb=Bb;
-Gb=rp(b+24)+(Fb<<5);
-*Gb=0;
-Gb[1]=0;
-z28(Gb+4);
-Hb=Fb+1;
-w8(b+32,Hb);
-Ib=Hb-pb;
-if(Ib<vb){
-zb=Hb;
-Ab=Ib;
+xa=h[4];
+ya=r4(h+8);
+goto L12;}
+Ab=r8(b+32);}
+if(r8(b+40)==Ab){
+Bb=grow_amortized_a22(b+24);
+if(!Bb){
+xa=4;
+ya=0;
+goto L12;}
+Cb=r8(b+32);}
+else Cb=Ab;
+Db=rp(b+24)+(Cb<<5);
+*Db=0;
+Db[1]=0;
+z28(Db+4);
+Eb=Cb+1;
+w8(b+32,Eb);
+Fb=Eb-ob;
+if(Fb<ub){
+yb=Eb;
+zb=Fb;
 goto L18;}}}
 z12(k);
 finish_rule_396(k,c,d,e,p,b+24);
 if(*k==0){
 wa=ta;
 goto L9;}
-Cb=k[4];
-Db=r4(k+8);
-L19:xa=Cb;
-ya=Db;}
+xa=k[4];
+ya=r4(k+8);}
 L12:W=xa;
 X=ya;
 goto L7;
@@ -42295,10 +42295,10 @@ if(aa<270){
 ba=*((u8*)t_4ada+(i64)aa);
 ca=r8(b+32);
 da=ca-r8(Z-40);
-if(da>=ba)goto L20;
+if(da>=ba)goto L19;
 ea=ca;
 fa=da;
-L21:z24(q);
+L20:z24(q);
 ga=r2(Z-4);
 if(ga<270)ha=*((u8*)t_79dc+(i64)ga);
 else ha=5;
@@ -42306,7 +42306,7 @@ if(fa<ha)ia=ea;
 else{
 before_by_step_fe5(q,c,d,Z-40,b+24);
 if(*q!=0){
-W=r4(q+4);
+W=q[4];
 X=r4(q+8);
 goto L7;}
 ia=r8(b+32);}
@@ -42328,8 +42328,8 @@ na=ma-r8(Z-40);
 if(na<ba){
 ea=ma;
 fa=na;
-goto L21;}}
-L20:z12(w);
+goto L20;}}
+L19:z12(w);
 finish_rule_396(w,c,d,e,Z-40,b+24);
 if(*w==0){
 oa=r8(b+8);
@@ -42365,10 +42365,10 @@ return;
 static void token_by_0b9(u8* a,u8* b,u8* c,u8* d,u8* e,u8* f)
 {
 A16 u8 g[24],h[24];
-u32 i,j,u,v;
+u32 i,j,v;
 u16 k,q,B;
 u64 l,m,n,o,p,r,s,x,z,A,C,D,E,F,G,H,I,K;
-u8 t,w,J;
+u8 t,u,w,J;
 u8 *y,*L;
 i=q4(f+4);
 j=q4(f+8);
@@ -42390,7 +42390,7 @@ else{
 before_by_step_fe5(h,b,c,d,e);
 if(*h!=0){
 t=1;
-u=r4(h+4)&255;
+u=h[4];
 v=r4(h+8);
 goto L2;}
 s=r8(e+8);}
@@ -42442,7 +42442,7 @@ else{
 before_by_step_fe5(g,b,c,d,e);
 if(*g!=0){
 t=1;
-u=r4(g+4)&255;
+u=g[4];
 v=r4(g+8);
 goto L2;}
 I=r8(e+8);}
@@ -43295,8 +43295,8 @@ return;
 /* cpp_link::candidates::Candidates::number_apart */
 static void number_apart_74b(u8* a,u64 b,u8 c)
 {
-u8 *d,*f,*h,*k,*m,*o;
-u8 e,g,j,l,n,p;
+u8 *d,*f,*h,*k,*m,*o,*q;
+u8 e,g,j,l,n,p,r;
 u64 i;
 switch(c){
 case 0:d=rp(a)+(i64)((b-r8(a+24))<<5);
@@ -43310,7 +43310,7 @@ x8(f+16,b);
 f[24]=g;
 z6(f+26);
 break;
-case 1:a[40]=a[40]>1?3:1;
+case 1:a[40]=a[40]>1?4:1;
 if(b==0)w8(a+32,1);
 else{
 h=rp(a);
@@ -43324,7 +43324,7 @@ x8(k+8,b);
 k[24]=l;
 z6(k+26);}
 break;
-case 2:a[40]=(u32)50463490>>((u32)a[40]<<3);
+case 2:a[40]=0x404020402u>>(((u64)a[40]<<3)&0xffffffffffu);
 w8(a+32,r8(a+32)+1);
 m=rp(a)+(i64)((b-r8(a+24))<<5);
 n=m[24]&1;
@@ -43332,13 +43332,21 @@ x8(m+8,b);
 m[24]=n;
 z6(m+26);
 break;
-case 3:a[40]=3;
+case 3:a[40]=0x403040403u>>(((u64)a[40]<<3)&0xffffffffffu);
 w8(a+32,r8(a+32)+1);
 o=rp(a)+(i64)((b-r8(a+24))<<5);
 p=o[24]&1;
 x8(o+8,b);
 o[24]=p;
 z6(o+26);
+break;
+case 4:a[40]=4;
+w8(a+32,r8(a+32)+1);
+q=rp(a)+(i64)((b-r8(a+24))<<5);
+r=q[24]&1;
+x8(q+8,b);
+q[24]=r;
+z6(q+26);
 break;
 default:NEVER;
 }
@@ -60432,656 +60440,580 @@ return;
 /* cpp_layout::symbol::Symbol::fill_marked */
 static void fill_marked_395(u8* a,u8* b,u32 c,u8* d)
 {
-u8 i[3],j[3];
-A16 u8 e[12],f[12],g[12],h[16];
-u8 k,n,p,q,r;
-u32 l,m,o;
-u64 s,t;
-u8 *u,*v;
-k=*d;
-memcpy(i,d+1,3);
-l=q4(d+4);
-m=q4(d+8);
-n=d[12];
-memcpy(j,d+13,3);
-o=q4(d+16);
+u8 f[3],g[3];
+A16 u8 e[12];
+u8 h,j,m;
+u32 i,k,l;
+u64 n,o;
+u8 *p,*q;
+h=*d;
+memcpy(f,d+1,3);
+i=q4(d+4);
+j=d[12];
+k=q4(d+8);
+memcpy(g,d+13,3);
+l=q4(d+16);
 w4(e,c);
-w4(e+4,n);
-w4(e+8,o);
-z16(h);
-class_e43(h,a+24,e);
-switch(*h){
-case 0:p=h[1];
-break;
-case 1:w4(f,r4(h+4));
-w4(f+4,h[8]);
-w4(f+8,r4(h+12));
-q=element_head_a82(a+24,k,l,f);
-p=q;
-break;
-case 2:w4(g,r4(h+4));
-w4(g+4,h[8]);
-w4(g+8,r4(h+12));
-r=element_head_a82(a+24,k,l,g);
-p=r==2?2:3;
-break;
-default:NEVER;
-}
-s=r8(b+8);
-t=s*36;
-u=rp(b)+t;
-*u=3;
-u[1]=0;
-x2(u+2,p==1?9:8);
-z32(u+4);
-v=rp(b)+(i64)t;
-x4(v+36,0);
-x4(v+40,c);
-x4(v+44,0);
-x4(v+48,0);
-v[52]=k;
-memcpy(v+53,i,3);
-x4(v+56,l);
-x4(v+60,m);
-v[64]=n;
-memcpy(v+65,j,3);
-x4(v+68,o);
-w8(b+8,s+2);
+w4(e+4,j);
+w4(e+8,l);
+m=head_c64(a+24,h,i,e);
+n=r8(b+8);
+o=n*36;
+p=rp(b)+o;
+*p=3;
+p[1]=0;
+x2(p+2,m==1?9:8);
+z32(p+4);
+q=rp(b)+(i64)o;
+x4(q+36,0);
+x4(q+40,c);
+x4(q+44,0);
+x4(q+48,0);
+q[52]=h;
+memcpy(q+53,f,3);
+x4(q+56,i);
+x4(q+60,k);
+q[64]=j;
+memcpy(q+65,g,3);
+x4(q+68,l);
+w8(b+8,n+2);
 return;
 }
 
-/* cpp_tree::nodes::Nodes::class */
-static void class_e43(u8* a,u8* b,u8* c)
+/* cpp_tree::nodes::Nodes::head */
+static u8 head_c64(u8* a,u8 b,u32 c,u8* d)
 {
-u8 d,k,l,o,p,q,s,t,v,x,B,H,J,K,L,M,N;
-u32 e,h,i,j,m,n,r,u,w,y,z,D,E,F,G,I,O;
-u8 *f,*g,*A,*C;
-d=c[4];
-e=q4(c+8);
-f=rp(b);
-g=f+(i64)((u64)q4(c)*48);
-h=q4(g+28);
-i=q4(g+32);
-j=q4(g+36);
-k=g[40];
-l=g[42];
-m=q4(g+43);
-switch(l){
-case 1:case 2:case 3:n=0;
-o=0;
-p=l;
-q=0;
+A16 u8 e[12],f[12];
+u8 g,n,o,r,s,t,v,w,y,A,E,K,M,N,O,P,Q,S,W,X;
+u32 h,k,l,m,p,q,u,x,z,B,C,G,H,I,J,L,R,T,U,V;
+u8 *i,*j,*D,*F;
+g=d[4];
+h=q4(d+8);
+i=rp(a);
+j=i+(i64)((u64)q4(d)*48);
+k=q4(j+28);
+l=q4(j+32);
+m=q4(j+36);
+n=j[40];
+o=j[42];
+p=q4(j+43);
+switch(o){
+case 1:case 2:case 3:q=0;
 r=0;
+s=o;
+t=0;
+u=0;
 break;
-case 4:n=h;
-o=1;
-p=0;
-q=i!=0;
-r=usub32(i,1);
+case 4:q=k;
+r=1;
+s=0;
+t=l!=0;
+u=usub32(l,1);
 break;
-case 5:n=h;
-o=2;
-p=0;
-q=i!=0;
-r=usub32(i,1);
+case 5:q=k;
+r=2;
+s=0;
+t=l!=0;
+u=usub32(l,1);
 break;
-case 6:case 7:case 8:case 0:case 9:case 10:n=0;
-o=0;
-p=0;
-q=0;
+case 6:case 7:case 8:case 0:case 9:case 10:q=0;
 r=0;
+s=0;
+t=0;
+u=0;
 break;
 default:NEVER;
 }
-if(d==0){
-s=o;
-t=p;
-u=n;
-v=q;
-w=r;}
+if(g==0){
+v=r;
+w=s;
+x=q;
+y=t;
+z=u;}
 else{
-x=m>>8;
-if(k==1){
-y=given_for_17e(b,e,j);
-z=y;}
-else z=e;
-A=f+(i64)((u64)z*48);
-B=*A==47;
-C=f+(i64)((u64)(B?q4(A+4):z)*48);
-if(*C==44){
-D=B?q4(A+8)+1:0;
-E=q4(C+4);}
+A=p>>8;
+if(n==1){
+B=given_for_17e(a,h,m);
+C=B;}
+else C=h;
+D=i+(i64)((u64)C*48);
+E=*D==47;
+F=i+(i64)((u64)(E?q4(D+4):C)*48);
+if(*F==44){
+G=E?q4(D+8)+1:0;
+H=q4(F+4);}
 else{
-F=q4(A+28);
-G=q4(A+32);
-H=A[42];
-switch(H){
-case 1:I=0;
-J=1;
-K=0;
-L=3;
-M=H;
+I=q4(D+28);
+J=q4(D+32);
+K=D[42];
+switch(K){
+case 1:L=0;
+M=1;
 N=0;
-O=0;
+O=3;
+P=K;
+Q=0;
+R=0;
 goto L1;
-case 2:case 3:I=0;
-J=1;
-K=0;
+case 2:case 3:L=0;
+M=1;
+N=0;
+O=K;
+P=K;
+Q=0;
+R=0;
+goto L1;
+case 4:G=J;
+H=I;
+break;
+case 5:L=I;
+M=0;
+N=2;
+O=3;
+P=0;
+Q=J!=0;
+R=usub32(J,1);
+goto L1;
+case 0:case 6:case 7:case 8:case 9:case 10:L=0;
+M=1;
+N=0;
+O=3;
+P=0;
+Q=0;
+R=0;
+goto L1;
+default:NEVER;
+}}
 L=H;
-M=H;
-N=0;
-O=0;
-goto L1;
-case 4:D=G;
-E=F;
+M=0;
+N=1;
+O=3;
+P=0;
+Q=G!=0;
+R=usub32(G,1);
+L1:switch(A){
+case 0:v=r;
+w=s;
+x=q;
+y=t;
+z=u;
 break;
-case 5:I=F;
-J=0;
-K=2;
-L=3;
-M=0;
-N=G!=0;
-O=usub32(G,1);
-goto L1;
-case 0:case 6:case 7:case 8:case 9:case 10:I=0;
-J=1;
-K=0;
-L=3;
-M=0;
-N=0;
-O=0;
-goto L1;
+case 1:v=N;
+w=P;
+x=L;
+y=Q;
+z=R;
+break;
+case 2:if(M){
+S=O;
+goto L2;}
+T=Q;
+U=R;
+V=L;
+goto L3;
 default:NEVER;
 }}
-I=E;
-J=0;
-K=1;
-L=3;
-M=0;
-N=D!=0;
-O=usub32(D,1);
-L1:switch(x){
-case 0:s=o;
-t=p;
-u=n;
-v=q;
-w=r;
-break;
-case 1:s=K;
-t=M;
-u=I;
-v=N;
-w=O;
-break;
-case 2:if(J){
-s=0;
-t=L;
-u=0;
-v=0;
-w=0;}
-else{
-s=2;
-t=0;
-u=I;
-v=N;
-w=O;}
+switch(v){
+case 0:S=w;
+goto L2;
+case 1:w4(e,x);
+w4(e+4,y);
+w4(e+8,z);
+W=element_head_a82(a,b,c,e);
+S=W;
+goto L2;
+case 2:T=y;
+U=z;
+V=x;
 break;
 default:NEVER;
-}}
-*a=s;
-a[1]=t;
-x4(a+4,u);
-x4(a+8,v);
-x4(a+12,w);
-return;
+}
+L3:w4(f,V);
+w4(f+4,T);
+w4(f+8,U);
+X=element_head_a82(a,b,c,f);
+S=X==2?2:3;
+L2:return S;
 }
 
 /* cpp_tree::nodes::Nodes::element_head */
 static u8 element_head_a82(u8* a,u8 b,u32 c,u8* d)
 {
-A16 u8 e[12],f[16];
-u32 g,i,l,m,n,o,p,r,v,x,y,A,C,D,E,F,G,H,I;
-u8 h,q,t,w,B,K,L,N,O,P;
-u8 *j,*k,*s,*u,*z,*J,*M;
+u32 e,g,j,k,l,m,n,p,t,v,w,y,A,B,C,G,Q,S,T;
+u8 f,o,r,u,z,D,E,F,I,J,L,N,O,P,R,V,W,X,Y,Z,aa;
+u8 *h,*i,*q,*s,*x,*H,*K,*M,*U;
 if(b==1){
-g=q4(d);
-h=d[4];
-i=q4(d+8);
-j=rp(a);
-k=j+(i64)((u64)g*48);
-l=(u8)(k[42]-9)<2?q4(k+32):0;
-if(c>l){
-m=l;
+e=q4(d);
+f=d[4];
+g=q4(d+8);
+h=rp(a);
+i=h+(i64)((u64)e*48);
+j=(u8)(i[42]-9)<2?q4(i+32):0;
+if(c>j){
+k=j;
+l=e;
+m=c;
 n=g;
-o=c;
-p=i;
-q=h!=0;
-L1:r=n-m;
-s=j+(i64)((u64)r*48);
-t=*s==47;
-u=j+(i64)((u64)(t?q4(s+4):r)*48);
-if(*u!=45){
-F=0;
-G=0;
-H=0;
+o=f!=0;
+L1:p=l-k;
+q=h+(i64)((u64)p*48);
+r=*q==47;
+s=h+(i64)((u64)(r?q4(q+4):p)*48);
+if(*s!=45){
+D=h[42];
+E=*((u8*)t_1165+D);
+F=*((u8*)t_3141+D);
 goto L2;}
-v=q4(u+8);
-w=q|t;
-x=q?p:(t?q4(s+8):0);
-y=o+(m^4294967295u);
-z=j+(i64)((u64)v*48);
-A=(u8)(z[42]-9)<2?q4(z+32):0;
-if(y>A){
-m=A;
+t=q4(s+8);
+u=o|r;
+v=o?n:(r?q4(q+8):0);
+w=m+(k^4294967295u);
+x=h+(i64)((u64)t*48);
+y=(u8)(x[42]-9)<2?q4(x+32):0;
+if(w>y){
+k=y;
+l=t;
+m=w;
 n=v;
-o=y;
-p=x;
-q=w;
+o=u;
 goto L1;}
+z=u;
+A=v;
 B=w;
-C=x;
-D=y;
-E=v;}
+C=t;}
 else{
-B=h;
-C=i;
-D=c;
-E=g;}
-I=E-D;
-J=j+(i64)((u64)I*48);
-K=*J==47;
-L=B!=0;
-M=j+(i64)((u64)(K?q4(J+4):I)*48);
-N=*M==45;
-F=N?q4(M+4):0;
-G=N&&L|K;
-H=N?(L?C:(K?q4(J+8):0)):0;
-L2:w4(e,F);
-w4(e+4,G);
-w4(e+8,H);
-z16(f);
-class_e43(f,a,e);
-switch(*f){
-case 0:O=f[1];
+z=f;
+A=g;
+B=c;
+C=e;}
+G=C-B;
+H=h+(i64)((u64)G*48);
+I=*H==47;
+J=z!=0;
+K=h+(i64)((u64)(I?q4(H+4):G)*48);
+L=*K==45;
+M=h+(i64)(L?(u64)q4(K+4)*48:0);
+N=M[42];
+O=*((u8*)t_1165+N);
+P=*((u8*)t_3141+N);
+if(L&&J|I){
+Q=J?A:(I?q4(H+8):0);
+R=q4(M+43)>>8;
+if(M[40]==1){
+S=given_for_17e(a,Q,q4(M+36));
+T=S;}
+else T=Q;
+U=h+(i64)((u64)T*48);
+if(*(h+(i64)((u64)(*U==47?q4(U+4):T)*48))!=44){
+V=U[42];
+switch(V){
+case 1:W=1;
+X=0;
+Y=3;
+Z=V;
+goto L3;
+case 2:case 3:W=1;
+X=0;
+Y=V;
+Z=V;
+goto L3;
+case 4:break;
+case 5:W=0;
+X=2;
+Y=3;
+Z=0;
+goto L3;
+case 0:case 6:case 7:case 8:case 9:case 10:W=1;
+X=0;
+Y=3;
+Z=0;
+goto L3;
+default:NEVER;
+}}
+W=0;
+X=1;
+Y=3;
+Z=0;
+L3:switch(R){
+case 0:E=O;
+F=P;
 break;
-case 1:O=0;
+case 1:E=X;
+F=Z;
 break;
-case 2:O=3;
-break;
+case 2:if(!W)goto L4;
+aa=Y;
+goto L5;
+default:NEVER;
+}}
+else{
+E=O;
+F=P;}
+L2:switch(E){
+case 0:aa=F;
+goto L5;
+case 1:aa=0;
+goto L5;
+case 2:break;
 default:NEVER;
 }
-P=O;}
-else P=0;
-return P;
+L4:aa=3;}
+else aa=0;
+L5:return aa;
 }
 
 /* cpp_layout::symbol::Symbol::fill_reference */
 static void fill_reference_bf6(u8* a,u8* b,u32 c,u32 d,u16 e,u16 f,u8* g)
 {
-u8 p[3],q[3],r[3],s[3];
-A16 u8 h[12],i[12],j[12],k[16],l[12],m[12],n[12],o[16];
-u8 t,w,y,z,A,D,E,F;
-u32 u,v,x;
-u64 B,G,H;
-u8 *C,*I,*J;
-t=*g;
-u=q4(g+4);
-v=q4(g+8);
-w=g[12];
-x=q4(g+16);
-w4(l,c);
-w4(l+4,w);
-w4(l+8,x);
-z16(o);
-class_e43(o,a+24,l);
-switch(*o){
-case 0:y=o[1];
-break;
-case 1:w4(m,r4(o+4));
-w4(m+4,o[8]);
-w4(m+8,r4(o+12));
-z=element_head_a82(a+24,t,u,m);
-y=z;
-break;
-case 2:w4(n,r4(o+4));
-w4(n+4,o[8]);
-w4(n+8,r4(o+12));
-A=element_head_a82(a+24,t,u,n);
-y=A==2?2:3;
-break;
-default:NEVER;
-}
-if((y&254)==2){
-memcpy(r,g+1,3);
-memcpy(s,g+13,3);
-B=r8(b+8);
-C=rp(b)+B*36;
-x4(C,0);
-x4(C+4,c);
-x4(C+8,d);
-x4(C+12,0);
-C[16]=t;
-memcpy(C+17,r,3);
-x4(C+20,u);
-x4(C+24,v);
-C[28]=w;
-memcpy(C+29,s,3);
-x4(C+32,x);
-w8(b+8,B+1);}
+u8 i[3],j[3],k[3],l[3];
+A16 u8 h[12],m[12];
+u8 n,q,s,v;
+u32 o,p,r;
+u64 t,w,x;
+u8 *u,*y,*z;
+n=*g;
+o=q4(g+4);
+p=q4(g+8);
+q=g[12];
+r=q4(g+16);
+w4(m,c);
+w4(m+4,q);
+w4(m+8,r);
+s=head_c64(a+24,n,o,m);
+if(s>1){
+memcpy(k,g+1,3);
+memcpy(l,g+13,3);
+t=r8(b+8);
+u=rp(b)+t*36;
+x4(u,0);
+x4(u+4,c);
+x4(u+8,d);
+x4(u+12,0);
+u[16]=n;
+memcpy(u+17,k,3);
+x4(u+20,o);
+x4(u+24,p);
+u[28]=q;
+memcpy(u+29,l,3);
+x4(u+32,r);
+w8(b+8,t+1);}
 else{
-memcpy(p,g+1,3);
-memcpy(q,g+13,3);
+memcpy(i,g+1,3);
+memcpy(j,g+13,3);
 w4(h,c);
-w4(h+4,w);
-w4(h+8,x);
-z16(k);
-class_e43(k,a+24,h);
-switch(*k){
-case 0:D=k[1];
-break;
-case 1:w4(i,r4(k+4));
-w4(i+4,k[8]);
-w4(i+8,r4(k+12));
-E=element_head_a82(a+24,t,u,i);
-D=E;
-break;
-case 2:w4(j,r4(k+4));
-w4(j+4,k[8]);
-w4(j+8,r4(k+12));
-F=element_head_a82(a+24,t,u,j);
-D=F==2?2:3;
-break;
-default:NEVER;
-}
-G=r8(b+8);
-H=G*36;
-I=rp(b)+H;
-*I=3;
-I[1]=0;
-x2(I+2,D==1?e:f);
-z32(I+4);
-J=rp(b)+(i64)H;
-x4(J+36,0);
-x4(J+40,c);
-x4(J+44,0);
-x4(J+48,0);
-J[52]=t;
-memcpy(J+53,p,3);
-x4(J+56,u);
-x4(J+60,v);
-J[64]=w;
-memcpy(J+65,q,3);
-x4(J+68,x);
-w8(b+8,G+2);}
+w4(h+4,q);
+w4(h+8,r);
+v=head_c64(a+24,n,o,h);
+w=r8(b+8);
+x=w*36;
+y=rp(b)+x;
+*y=3;
+y[1]=0;
+x2(y+2,v==1?e:f);
+z32(y+4);
+z=rp(b)+(i64)x;
+x4(z+36,0);
+x4(z+40,c);
+x4(z+44,0);
+x4(z+48,0);
+z[52]=n;
+memcpy(z+53,i,3);
+x4(z+56,o);
+x4(z+60,p);
+z[64]=q;
+memcpy(z+65,j,3);
+x4(z+68,r);
+w8(b+8,w+2);}
 return;
 }
 
 /* cpp_layout::symbol::Symbol::fill_array */
 static void fill_array_c4d(u8* a,u8* b,u32 c,u8* d)
 {
-u8 i[3],j[3];
-A16 u8 e[12],f[12],g[12],h[16];
-u8 k,n,p,q;
-u32 l,m,o;
-u64 r,t,v;
-u8 *s,*u,*w,*x;
-k=*d;
-memcpy(i,d+1,3);
-l=q4(d+4);
-m=q4(d+8);
-n=d[12];
-memcpy(j,d+13,3);
-o=q4(d+16);
+u8 f[3],g[3];
+A16 u8 e[12];
+u8 h,k,m;
+u32 i,j,l;
+u64 n,o;
+u8 *p,*q;
+h=*d;
+memcpy(f,d+1,3);
+i=q4(d+4);
+j=q4(d+8);
+k=d[12];
+memcpy(g,d+13,3);
+l=q4(d+16);
 w4(e,c);
-w4(e+4,n);
-w4(e+8,o);
-z16(h);
-class_e43(h,a+24,e);
-switch(*h){
-case 0:p=h[1];
-break;
-case 1:w4(f,r4(h+4));
-w4(f+4,h[8]);
-w4(f+8,r4(h+12));
-q=element_head_a82(a+24,k,l,f);
-p=q;
-break;
-case 2:w4(g,r4(h+4));
-w4(g+4,h[8]);
-w4(g+8,r4(h+12));
-element_head_a82(a+24,k,l,g);
-r=r8(b+8);
-s=b+8;
-goto L1;
-default:NEVER;
-}
-t=r8(b+8);
-if(p==1){
-u=b+8;
-v=t;
-goto L2;}
-r=t;
-s=b+8;
-L1:w=rp(b)+r*36;
-*w=3;
-w[1]=0;
-x2(w+2,4);
-z32(w+4);
-u=s;
-v=r+1;
-L2:x=rp(b)+v*36;
-x4(x,0);
-x4(x+4,c);
-x4(x+8,0);
-x4(x+12,0);
-x[16]=k;
-memcpy(x+17,i,3);
-x4(x+20,l);
-x4(x+24,m);
-x[28]=n;
-memcpy(x+29,j,3);
-x4(x+32,o);
-w8(u,v+1);
+w4(e+4,k);
+w4(e+8,l);
+m=head_c64(a+24,h,i,e);
+n=r8(b+8);
+if(m==1)o=n;
+else{
+p=rp(b)+n*36;
+*p=3;
+p[1]=0;
+x2(p+2,4);
+z32(p+4);
+o=n+1;}
+q=rp(b)+o*36;
+x4(q,0);
+x4(q+4,c);
+x4(q+8,0);
+x4(q+12,0);
+q[16]=h;
+memcpy(q+17,f,3);
+x4(q+20,i);
+x4(q+24,j);
+q[28]=k;
+memcpy(q+29,g,3);
+x4(q+32,l);
+w8(b+8,o+1);
 return;
 }
 
 /* cpp_layout::symbol::Symbol::fill_member */
 static void fill_member_2fa(u8* a,u8* b,u32 c,u32 d,u8* e)
 {
-u8 j[3],k[3];
-A16 u8 f[12],g[12],h[12],i[16];
-u8 l,o,q,r,s;
-u32 m,n,p;
-u64 t,u;
-u8 *v,*w,*x,*y;
-l=*e;
-memcpy(j,e+1,3);
-m=q4(e+4);
-n=q4(e+8);
-o=e[12];
-memcpy(k,e+13,3);
-p=q4(e+16);
+u8 g[3],h[3];
+A16 u8 f[12];
+u8 i,l,n;
+u32 j,k,m;
+u64 o,p;
+u8 *q,*r,*s,*t;
+i=*e;
+memcpy(g,e+1,3);
+j=q4(e+4);
+k=q4(e+8);
+l=e[12];
+memcpy(h,e+13,3);
+m=q4(e+16);
 w4(f,d);
-w4(f+4,o);
-w4(f+8,p);
-z16(i);
-class_e43(i,a+24,f);
-switch(*i){
-case 0:q=i[1];
-break;
-case 1:w4(g,r4(i+4));
-w4(g+4,i[8]);
-w4(g+8,r4(i+12));
-r=element_head_a82(a+24,l,m,g);
-q=r;
-break;
-case 2:w4(h,r4(i+4));
-w4(h+4,i[8]);
-w4(h+8,r4(i+12));
-s=element_head_a82(a+24,l,m,h);
-q=s==2?2:3;
-break;
-default:NEVER;
-}
-t=r8(b+8);
-u=t*36;
-v=rp(b)+u;
-*v=3;
-v[1]=0;
-x2(v+2,14);
-z32(v+4);
-w=rp(b)+(i64)u;
-x4(w+36,0);
-x4(w+40,c);
-x4(w+44,0);
-x4(w+48,0);
-w[52]=l;
-memcpy(w+53,j,3);
-x4(w+56,m);
-x4(w+60,n);
-w[64]=o;
-memcpy(w+65,k,3);
-x4(w+68,p);
-x=rp(b)+(i64)(t*36);
-x[72]=3;
-x[73]=0;
-x2(x+74,q==1?2:4);
-z32(x+76);
-y=rp(b)+(i64)u;
-x4(y+108,0);
-x4(y+112,d);
-x4(y+116,0);
-x4(y+120,0);
-y[124]=l;
-memcpy(y+125,j,3);
-x4(y+128,m);
-x4(y+132,n);
-y[136]=o;
-memcpy(y+137,k,3);
-x4(y+140,p);
-w8(b+8,t+4);
+w4(f+4,l);
+w4(f+8,m);
+n=head_c64(a+24,i,j,f);
+o=r8(b+8);
+p=o*36;
+q=rp(b)+p;
+*q=3;
+q[1]=0;
+x2(q+2,14);
+z32(q+4);
+r=rp(b)+(i64)p;
+x4(r+36,0);
+x4(r+40,c);
+x4(r+44,0);
+x4(r+48,0);
+r[52]=i;
+memcpy(r+53,g,3);
+x4(r+56,j);
+x4(r+60,k);
+r[64]=l;
+memcpy(r+65,h,3);
+x4(r+68,m);
+s=rp(b)+(i64)(o*36);
+s[72]=3;
+s[73]=0;
+x2(s+74,n==1?2:4);
+z32(s+76);
+t=rp(b)+(i64)p;
+x4(t+108,0);
+x4(t+112,d);
+x4(t+116,0);
+x4(t+120,0);
+t[124]=i;
+memcpy(t+125,g,3);
+x4(t+128,j);
+x4(t+132,k);
+t[136]=l;
+memcpy(t+137,h,3);
+x4(t+140,m);
+w8(b+8,o+4);
 return;
 }
 
 /* cpp_layout::symbol::Symbol::fill_qualified_left */
 static void fill_qualified_left_bf3(u8* a,u8* b,u8* c,u32 d,u8* e)
 {
-u8 n[3],o[3],p[3],q[3],r[3],s[3];
-A16 u8 f[12],g[12],h[12],i[16],j[12],k[12],l[12],m[16];
-u8 t,u,v,w,y,z,F,G,H,I,J,K,L,M,N,O;
-u32 x,A;
-u8 *B,*C,*E,*Q,*S;
-u64 D,P,R;
-t=*c;
-u=c[1];
-v=c[2];
-w=*e;
-memcpy(q,e+1,3);
-x=q4(e+4);
-y=e[8];
-memcpy(r,e+9,3);
-z=e[12];
-memcpy(s,e+13,3);
-A=q4(e+16);
-B=rp(a+24);
-C=B+(i64)((u64)d*48);
-if(*(B+(i64)((u64)(*C==47?q4(C+4):d)*48))==31){
-memcpy(n,e+1,3);
-memcpy(o,e+9,3);
-memcpy(p,e+13,3);
-D=r8(b+8);
-E=rp(b)+D*36;
-x4(E,0);
-x4(E+4,d);
-x4(E+8,0);
-x4(E+12,0);
-E[16]=w;
-memcpy(E+17,n,3);
-x4(E+20,x);
-E[24]=y;
-memcpy(E+25,o,3);
-E[28]=z;
-memcpy(E+29,p,3);
-x4(E+32,A);
-w8(b+8,D+1);}
+u8 h[3],i[3],j[3],k[3],l[3],m[3];
+A16 u8 f[12],g[12];
+u8 n,o,p,q,s,t,z,A,B,C,D,E;
+u32 r,u;
+u8 *v,*w,*y,*G,*I;
+u64 x,F,H;
+n=*c;
+o=c[1];
+p=c[2];
+q=*e;
+memcpy(k,e+1,3);
+r=q4(e+4);
+s=e[8];
+memcpy(l,e+9,3);
+t=e[12];
+memcpy(m,e+13,3);
+u=q4(e+16);
+v=rp(a+24);
+w=v+(i64)((u64)d*48);
+if(*(v+(i64)((u64)(*w==47?q4(w+4):d)*48))==31){
+memcpy(h,e+1,3);
+memcpy(i,e+9,3);
+memcpy(j,e+13,3);
+x=r8(b+8);
+y=rp(b)+x*36;
+x4(y,0);
+x4(y+4,d);
+x4(y+8,0);
+x4(y+12,0);
+y[16]=q;
+memcpy(y+17,h,3);
+x4(y+20,r);
+y[24]=s;
+memcpy(y+25,i,3);
+y[28]=t;
+memcpy(y+29,j,3);
+x4(y+32,u);
+w8(b+8,x+1);}
 else{
-w4(j,d);
-w4(j+4,z);
-w4(j+8,A);
-z16(m);
-class_e43(m,a+24,j);
-switch(*m){
-case 0:F=m[1];
-break;
-case 1:w4(k,r4(m+4));
-w4(k+4,m[8]);
-w4(k+8,r4(m+12));
-G=element_head_a82(a+24,w,x,k);
-F=G;
-break;
-case 2:w4(l,r4(m+4));
-w4(l+4,m[8]);
-w4(l+8,r4(m+12));
-H=element_head_a82(a+24,w,x,l);
-F=H==2?2:3;
-break;
-default:NEVER;
-}
-if((F&254)!=2){
+w4(g,d);
+w4(g+4,t);
+w4(g+8,u);
+z=head_c64(a+24,q,r,g);
+if(z<=1){
 w4(f,d);
-w4(f+4,z);
-w4(f+8,A);
-z16(i);
-class_e43(i,a+24,f);
-switch(*i){
-case 0:I=i[1];
-break;
-case 1:w4(g,r4(i+4));
-w4(g+4,i[8]);
-w4(g+8,r4(i+12));
-J=element_head_a82(a+24,w,x,g);
-I=J;
-break;
-case 2:w4(h,r4(i+4));
-w4(h+4,i[8]);
-w4(h+8,r4(i+12));
-element_head_a82(a+24,w,x,h);
-K=(u8)(v<<2)&4;
-goto L1;
-default:NEVER;
-}
-L=(u8)(v<<2)&4;
-if(I==1){
-M=(u8)(L-91)+(((u8)(u<<1)&2)|(t&1));
-if(M<=165)goto L2;
-N=M;
-goto L3;}
-K=L;
-L1:O=(u8)(K+60)|((t&1)|((u8)(u<<1)&2));
-if(O<=60)goto L2;
-N=O;
-L3:P=r8(b+8);
-Q=rp(b)+P*36;
-*Q=3;
-Q[1]=0;
-x2(Q+2,N);
-z32(Q+4);
-w8(b+8,P+1);}
-L2:R=r8(b+8);
-S=rp(b)+R*36;
-x4(S,0);
-x4(S+4,d);
-x4(S+8,0);
-x4(S+12,0);
-S[16]=w;
-memcpy(S+17,q,3);
-x4(S+20,x);
-S[24]=y;
-memcpy(S+25,r,3);
-S[28]=z;
-memcpy(S+29,s,3);
-x4(S+32,A);
-w8(b+8,R+1);}
+w4(f+4,t);
+w4(f+8,u);
+A=head_c64(a+24,q,r,f);
+B=(u8)(p<<2)&4;
+if(A==1){
+C=(u8)(B-91)+(((u8)(o<<1)&2)|(n&1));
+if(C<=165)goto L1;
+D=C;}
+else{
+E=(u8)(B+60)|((n&1)|((u8)(o<<1)&2));
+if(E<=60)goto L1;
+D=E;}
+F=r8(b+8);
+G=rp(b)+F*36;
+*G=3;
+G[1]=0;
+x2(G+2,D);
+z32(G+4);
+w8(b+8,F+1);}
+L1:H=r8(b+8);
+I=rp(b)+H*36;
+x4(I,0);
+x4(I+4,d);
+x4(I+8,0);
+x4(I+12,0);
+I[16]=q;
+memcpy(I+17,k,3);
+x4(I+20,r);
+I[24]=s;
+memcpy(I+25,l,3);
+I[28]=t;
+memcpy(I+29,m,3);
+x4(I+32,u);
+w8(b+8,H+1);}
 return;
 }
 
@@ -61908,357 +61840,285 @@ return;
 /* cpp_layout::symbol::Symbol::fill_right */
 static void fill_right_3bf(u8* a,u8* b,u32 c,u8* d)
 {
-u8 w[3],x[3],y[3],z[3],E[3],F[3],G[3],H[3],I[3],J[3],K[3],L[3],N[3];
-A16 u8 e[12],f[12],g[12],h[16],i[12],j[12],k[12],l[16],m[12],n[12],o[12],p[16],q[12],r[12],s[12],t[16],u[20],v[20],A[20],B[20],C[20],D[20],M[20];
-u8 *O,*P,*ea,*ga,*qa,*sa,*Ca,*Ea,*Oa,*Qa,*Ta,*Ua,*Wa,*Ya,*bb,*cb,*db,*eb,*kb,*mb,*ub,*wb,*yb;
-u8 Q,R,V,Y,aa,ba,ca,ha,ka,ma,na,oa,ta,wa,ya,za,Aa,Fa,Ia,Ka,La,Ma,fb,hb,ib,lb,nb,qb,sb;
-u32 S,T,U,W,X,Z,ia,ja,la,ua,va,xa,Ga,Ha,Ja,gb,jb,ob,pb,rb;
-u64 da,fa,pa,ra,Ba,Da,Na,Pa,Ra,Sa,Va,Xa,Za,ab,tb,vb,xb;
-memcpy(M,d,20);
-z3(N);
-O=rp(a+24);
-P=O+(i64)((u64)c*48);
-Q=P[2];
-R=P[3];
-S=q4(P+4);
-T=q4(P+8);
-U=q4(P+12);
-switch(*P){
-case 25:V=*M;
-memcpy(K,d+1,3);
-W=r4(M+4);
-X=r4(M+8);
-Y=M[12];
-memcpy(L,d+13,3);
-Z=r4(M+16);
-w4(q,S);
-w4(q+4,Y);
-w4(q+8,Z);
-z16(t);
-class_e43(t,a+24,q);
-switch(*t){
-case 0:aa=t[1];
+u8 g[3],h[3],i[3],j[3],o[3],p[3],r[3],s[3],u[3],v[3],x[3],y[3],B[3];
+A16 u8 e[20],f[20],k[20],l[20],m[20],n[20],q[12],t[12],w[12],z[12],A[20];
+u8 *C,*D,*Q,*S,*aa,*ca,*ka,*ma,*ua,*wa,*za,*Aa,*Ca,*Ea,*Ha,*Ia,*Ja,*Ka,*Qa,*Sa,*ab,*cb,*eb;
+u8 E,F,J,L,O,T,V,Y,da,fa,ia,na,pa,sa,La,Na,Oa,Ra,Ta,Wa,Ya;
+u32 G,H,I,K,M,N,U,W,X,ea,ga,ha,oa,qa,ra,Ma,Pa,Ua,Va,Xa;
+u64 P,R,Z,ba,ja,la,ta,va,xa,ya,Ba,Da,Fa,Ga,Za,bb,db;
+memcpy(A,d,20);
+z3(B);
+C=rp(a+24);
+D=C+(i64)((u64)c*48);
+E=D[2];
+F=D[3];
+G=q4(D+4);
+H=q4(D+8);
+I=q4(D+12);
+switch(*D){
+case 25:J=*A;
+memcpy(x,d+1,3);
+K=r4(A+4);
+L=A[12];
+M=r4(A+8);
+memcpy(y,d+13,3);
+N=r4(A+16);
+w4(z,G);
+w4(z+4,L);
+w4(z+8,N);
+O=head_c64(a+24,J,K,z);
+P=r8(b+8);
+Q=rp(b)+P*36;
+x4(Q,0);
+x4(Q+4,G);
+x4(Q+8,1);
+x4(Q+12,0);
+Q[16]=J;
+memcpy(Q+17,x,3);
+x4(Q+20,K);
+x4(Q+24,M);
+Q[28]=L;
+memcpy(Q+29,y,3);
+x4(Q+32,N);
+R=P+1;
+w8(b+8,R);
+if(O==1){
+S=rp(b)+R*36;
+*S=3;
+S[1]=0;
+x2(S+2,3);
+z32(S+4);
+w8(b+8,P+2);}
 break;
-case 1:w4(r,r4(t+4));
-w4(r+4,t[8]);
-w4(r+8,r4(t+12));
-ba=element_head_a82(a+24,V,W,r);
-aa=ba;
+case 26:T=*A;
+memcpy(u,d+1,3);
+U=r4(A+4);
+V=A[12];
+W=r4(A+8);
+memcpy(v,d+13,3);
+X=r4(A+16);
+w4(w,G);
+w4(w+4,V);
+w4(w+8,X);
+Y=head_c64(a+24,T,U,w);
+Z=r8(b+8);
+aa=rp(b)+Z*36;
+x4(aa,0);
+x4(aa+4,G);
+x4(aa+8,1);
+x4(aa+12,0);
+aa[16]=T;
+memcpy(aa+17,u,3);
+x4(aa+20,U);
+x4(aa+24,W);
+aa[28]=V;
+memcpy(aa+29,v,3);
+x4(aa+32,X);
+ba=Z+1;
+w8(b+8,ba);
+if(Y==1){
+ca=rp(b)+ba*36;
+*ca=3;
+ca[1]=0;
+x2(ca+2,3);
+z32(ca+4);
+w8(b+8,Z+2);}
 break;
-case 2:w4(s,r4(t+4));
-w4(s+4,t[8]);
-w4(s+8,r4(t+12));
-ca=element_head_a82(a+24,V,W,s);
-aa=ca==2?2:3;
+case 27:da=*A;
+memcpy(r,d+1,3);
+ea=r4(A+4);
+fa=A[12];
+ga=r4(A+8);
+memcpy(s,d+13,3);
+ha=r4(A+16);
+w4(t,G);
+w4(t+4,fa);
+w4(t+8,ha);
+ia=head_c64(a+24,da,ea,t);
+ja=r8(b+8);
+ka=rp(b)+ja*36;
+x4(ka,0);
+x4(ka+4,G);
+x4(ka+8,1);
+x4(ka+12,0);
+ka[16]=da;
+memcpy(ka+17,r,3);
+x4(ka+20,ea);
+x4(ka+24,ga);
+ka[28]=fa;
+memcpy(ka+29,s,3);
+x4(ka+32,ha);
+la=ja+1;
+w8(b+8,la);
+if(ia==1){
+ma=rp(b)+la*36;
+*ma=3;
+ma[1]=0;
+x2(ma+2,3);
+z32(ma+4);
+w8(b+8,ja+2);}
 break;
-default:NEVER;
-}
-da=r8(b+8);
-ea=rp(b)+da*36;
-x4(ea,0);
-x4(ea+4,S);
-x4(ea+8,1);
-x4(ea+12,0);
-ea[16]=V;
-memcpy(ea+17,K,3);
-x4(ea+20,W);
-x4(ea+24,X);
-ea[28]=Y;
-memcpy(ea+29,L,3);
-x4(ea+32,Z);
-fa=da+1;
-w8(b+8,fa);
-if(aa==1){
-ga=rp(b)+fa*36;
-*ga=3;
-ga[1]=0;
-x2(ga+2,3);
-z32(ga+4);
-w8(b+8,da+2);}
+case 30:na=*A;
+memcpy(o,d+1,3);
+oa=r4(A+4);
+pa=A[12];
+qa=r4(A+8);
+memcpy(p,d+13,3);
+ra=r4(A+16);
+w4(q,H);
+w4(q+4,pa);
+w4(q+8,ra);
+sa=head_c64(a+24,na,oa,q);
+ta=r8(b+8);
+ua=rp(b)+ta*36;
+x4(ua,0);
+x4(ua+4,H);
+x4(ua+8,1);
+x4(ua+12,0);
+ua[16]=na;
+memcpy(ua+17,o,3);
+x4(ua+20,oa);
+x4(ua+24,qa);
+ua[28]=pa;
+memcpy(ua+29,p,3);
+x4(ua+32,ra);
+va=ta+1;
+w8(b+8,va);
+if(sa==1){
+wa=rp(b)+va*36;
+*wa=3;
+wa[1]=0;
+x2(wa+2,3);
+z32(wa+4);
+w8(b+8,ta+2);}
 break;
-case 26:ha=*M;
-memcpy(I,d+1,3);
-ia=r4(M+4);
-ja=r4(M+8);
-ka=M[12];
-memcpy(J,d+13,3);
-la=r4(M+16);
-w4(m,S);
-w4(m+4,ka);
-w4(m+8,la);
-z16(p);
-class_e43(p,a+24,m);
-switch(*p){
-case 0:ma=p[1];
-break;
-case 1:w4(n,r4(p+4));
-w4(n+4,p[8]);
-w4(n+8,r4(p+12));
-na=element_head_a82(a+24,ha,ia,n);
-ma=na;
-break;
-case 2:w4(o,r4(p+4));
-w4(o+4,p[8]);
-w4(o+8,r4(p+12));
-oa=element_head_a82(a+24,ha,ia,o);
-ma=oa==2?2:3;
-break;
-default:NEVER;
-}
-pa=r8(b+8);
-qa=rp(b)+pa*36;
-x4(qa,0);
-x4(qa+4,S);
-x4(qa+8,1);
-x4(qa+12,0);
-qa[16]=ha;
-memcpy(qa+17,I,3);
-x4(qa+20,ia);
-x4(qa+24,ja);
-qa[28]=ka;
-memcpy(qa+29,J,3);
-x4(qa+32,la);
-ra=pa+1;
-w8(b+8,ra);
-if(ma==1){
-sa=rp(b)+ra*36;
-*sa=3;
-sa[1]=0;
-x2(sa+2,3);
-z32(sa+4);
-w8(b+8,pa+2);}
-break;
-case 27:ta=*M;
-memcpy(G,d+1,3);
-ua=r4(M+4);
-va=r4(M+8);
-wa=M[12];
-memcpy(H,d+13,3);
-xa=r4(M+16);
-w4(i,S);
-w4(i+4,wa);
-w4(i+8,xa);
-z16(l);
-class_e43(l,a+24,i);
-switch(*l){
-case 0:ya=l[1];
-break;
-case 1:w4(j,r4(l+4));
-w4(j+4,l[8]);
-w4(j+8,r4(l+12));
-za=element_head_a82(a+24,ta,ua,j);
-ya=za;
-break;
-case 2:w4(k,r4(l+4));
-w4(k+4,l[8]);
-w4(k+8,r4(l+12));
-Aa=element_head_a82(a+24,ta,ua,k);
-ya=Aa==2?2:3;
-break;
-default:NEVER;
-}
-Ba=r8(b+8);
+case 28:memcpy(n,d,20);
+xa=r8(b+8);
+ya=xa*36;
+za=rp(b)+ya;
+x4(za,0);
+x4(za+4,I);
+x4(za+8,1);
+x4(za+12,0);
+memcpy(za+16,n,20);
+Aa=rp(b)+(i64)ya;
+Aa[36]=3;
+Aa[37]=0;
+x2(Aa+38,16);
+z32(Aa+40);
+Ba=xa+2;
+if(G<H){
 Ca=rp(b)+Ba*36;
-x4(Ca,0);
-x4(Ca+4,S);
-x4(Ca+8,1);
-x4(Ca+12,0);
-Ca[16]=ta;
-memcpy(Ca+17,G,3);
-x4(Ca+20,ua);
-x4(Ca+24,va);
-Ca[28]=wa;
-memcpy(Ca+29,H,3);
-x4(Ca+32,xa);
-Da=Ba+1;
-w8(b+8,Da);
-if(ya==1){
+*Ca=1;
+z3(Ca+1);
+x4(Ca+4,G);
+x4(Ca+8,H);
+z24(Ca+12);
+Da=xa+3;}
+else Da=Ba;
 Ea=rp(b)+Da*36;
 *Ea=3;
 Ea[1]=0;
-x2(Ea+2,3);
+x2(Ea+2,15);
 z32(Ea+4);
-w8(b+8,Ba+2);}
+w8(b+8,Da+1);
 break;
-case 30:Fa=*M;
-memcpy(E,d+1,3);
-Ga=r4(M+4);
-Ha=r4(M+8);
-Ia=M[12];
-memcpy(F,d+13,3);
-Ja=r4(M+16);
-w4(e,T);
-w4(e+4,Ia);
-w4(e+8,Ja);
-z16(h);
-class_e43(h,a+24,e);
-switch(*h){
-case 0:Ka=h[1];
+case 29:memcpy(l,d,20);
+memcpy(m,d,20);
+Fa=r8(b+8);
+Ga=Fa*36;
+Ha=rp(b)+Ga;
+x4(Ha,0);
+x4(Ha+4,H);
+x4(Ha+8,1);
+x4(Ha+12,0);
+memcpy(Ha+16,m,20);
+Ia=rp(b)+(i64)Ga;
+Ia[36]=3;
+Ia[37]=0;
+x2(Ia+38,16);
+z32(Ia+40);
+Ja=rp(b)+(i64)Ga;
+x4(Ja+72,0);
+x4(Ja+76,G);
+x4(Ja+80,0);
+x4(Ja+84,0);
+memcpy(Ja+88,l,20);
+Ka=rp(b)+(i64)Ga;
+Ka[108]=3;
+Ka[109]=0;
+x2(Ka+110,15);
+z32(Ka+112);
+w8(b+8,Fa+4);
 break;
-case 1:w4(f,r4(h+4));
-w4(f+4,h[8]);
-w4(f+8,r4(h+12));
-La=element_head_a82(a+24,Fa,Ga,f);
-Ka=La;
-break;
-case 2:w4(g,r4(h+4));
-w4(g+4,h[8]);
-w4(g+8,r4(h+12));
-Ma=element_head_a82(a+24,Fa,Ga,g);
-Ka=Ma==2?2:3;
-break;
-default:NEVER;
-}
-Na=r8(b+8);
-Oa=rp(b)+Na*36;
-x4(Oa,0);
-x4(Oa+4,T);
-x4(Oa+8,1);
-x4(Oa+12,0);
-Oa[16]=Fa;
-memcpy(Oa+17,E,3);
-x4(Oa+20,Ga);
-x4(Oa+24,Ha);
-Oa[28]=Ia;
-memcpy(Oa+29,F,3);
-x4(Oa+32,Ja);
-Pa=Na+1;
-w8(b+8,Pa);
-if(Ka==1){
-Qa=rp(b)+Pa*36;
-*Qa=3;
-Qa[1]=0;
-x2(Qa+2,3);
-z32(Qa+4);
-w8(b+8,Na+2);}
-break;
-case 28:memcpy(D,d,20);
-Ra=r8(b+8);
-Sa=Ra*36;
-Ta=rp(b)+Sa;
-x4(Ta,0);
-x4(Ta+4,U);
-x4(Ta+8,1);
-x4(Ta+12,0);
-memcpy(Ta+16,D,20);
-Ua=rp(b)+(i64)Sa;
-Ua[36]=3;
-Ua[37]=0;
-x2(Ua+38,16);
-z32(Ua+40);
-Va=Ra+2;
-if(S<T){
-Wa=rp(b)+Va*36;
-*Wa=1;
-z3(Wa+1);
-x4(Wa+4,S);
-x4(Wa+8,T);
-z24(Wa+12);
-Xa=Ra+3;}
-else Xa=Va;
-Ya=rp(b)+Xa*36;
-*Ya=3;
-Ya[1]=0;
-x2(Ya+2,15);
-z32(Ya+4);
-w8(b+8,Xa+1);
-break;
-case 29:memcpy(B,d,20);
-memcpy(C,d,20);
-Za=r8(b+8);
-ab=Za*36;
-bb=rp(b)+ab;
-x4(bb,0);
-x4(bb+4,T);
-x4(bb+8,1);
-x4(bb+12,0);
-memcpy(bb+16,C,20);
-cb=rp(b)+(i64)ab;
-cb[36]=3;
-cb[37]=0;
-x2(cb+38,16);
-z32(cb+40);
-db=rp(b)+(i64)ab;
-x4(db+72,0);
-x4(db+76,S);
-x4(db+80,0);
-x4(db+84,0);
-memcpy(db+88,B,20);
-eb=rp(b)+(i64)ab;
-eb[108]=3;
-eb[109]=0;
-x2(eb+110,15);
-z32(eb+112);
-w8(b+8,Za+4);
-break;
-case 32:*z=P[1];
-z[1]=Q;
-z[2]=R;
-fb=*M;
-gb=r4(M+4);
-hb=M[8];
-ib=M[12];
-jb=r4(M+16);
-kb=O+(i64)((u64)S*48);
-lb=*kb==47;
-mb=O+(i64)((u64)(lb?q4(kb+4):S)*48);
-if(*mb==31){
-nb=ib!=0;
-ob=q4(mb+8);
-pb=q4(mb+4);
-qb=mb[3];
-rb=nb?jb:(lb?q4(kb+8):0);
-sb=mb[2]&1;
-w4(A,fb);
-w4(A+4,gb);
-A[8]=hb;
-z3(A+9);
-w4(A+12,nb|lb);
-w4(A+16,rb);
-fill_function_right_5c9(a,b,z,qb,sb,pb,ob,A);}
+case 32:*j=D[1];
+j[1]=E;
+j[2]=F;
+La=*A;
+Ma=r4(A+4);
+Na=A[8];
+Oa=A[12];
+Pa=r4(A+16);
+Qa=C+(i64)((u64)G*48);
+Ra=*Qa==47;
+Sa=C+(i64)((u64)(Ra?q4(Qa+4):G)*48);
+if(*Sa==31){
+Ta=Oa!=0;
+Ua=q4(Sa+8);
+Va=q4(Sa+4);
+Wa=Sa[3];
+Xa=Ta?Pa:(Ra?q4(Qa+8):0);
+Ya=Sa[2]&1;
+w4(k,La);
+w4(k+4,Ma);
+k[8]=Na;
+z3(k+9);
+w4(k+12,Ta|Ra);
+w4(k+16,Xa);
+fill_function_right_5c9(a,b,j,Wa,Ya,Va,Ua,k);}
 else{
-memcpy(w,d+1,3);
-memcpy(x,d+9,3);
-memcpy(y,d+13,3);
-tb=r8(b+8);
-ub=rp(b)+tb*36;
-x4(ub,0);
-x4(ub+4,S);
-x4(ub+8,1);
-x4(ub+12,0);
-ub[16]=fb;
-memcpy(ub+17,w,3);
-x4(ub+20,gb);
-ub[24]=hb;
-memcpy(ub+25,x,3);
-ub[28]=ib;
-memcpy(ub+29,y,3);
-x4(ub+32,jb);
-w8(b+8,tb+1);}
+memcpy(g,d+1,3);
+memcpy(h,d+9,3);
+memcpy(i,d+13,3);
+Za=r8(b+8);
+ab=rp(b)+Za*36;
+x4(ab,0);
+x4(ab+4,G);
+x4(ab+8,1);
+x4(ab+12,0);
+ab[16]=La;
+memcpy(ab+17,g,3);
+x4(ab+20,Ma);
+ab[24]=Na;
+memcpy(ab+25,h,3);
+ab[28]=Oa;
+memcpy(ab+29,i,3);
+x4(ab+32,Pa);
+w8(b+8,Za+1);}
 break;
-case 33:memcpy(v,d,20);
-vb=r8(b+8);
-wb=rp(b)+vb*36;
-x4(wb,0);
-x4(wb+4,U);
-x4(wb+8,1);
-x4(wb+12,0);
-memcpy(wb+16,v,20);
-w8(b+8,vb+1);
+case 33:memcpy(f,d,20);
+bb=r8(b+8);
+cb=rp(b)+bb*36;
+x4(cb,0);
+x4(cb+4,I);
+x4(cb+8,1);
+x4(cb+12,0);
+memcpy(cb+16,f,20);
+w8(b+8,bb+1);
 break;
-case 34:memcpy(u,d,20);
-xb=r8(b+8);
-yb=rp(b)+xb*36;
-x4(yb,0);
-x4(yb+4,S);
-x4(yb+8,1);
-x4(yb+12,0);
-memcpy(yb+16,u,20);
-w8(b+8,xb+1);
+case 34:memcpy(e,d,20);
+db=r8(b+8);
+eb=rp(b)+db*36;
+x4(eb,0);
+x4(eb+4,G);
+x4(eb+8,1);
+x4(eb+12,0);
+memcpy(eb+16,e,20);
+w8(b+8,db+1);
 break;
-case 18:fill_parameter_f0e(a,b,S,T,1,M);
+case 18:fill_parameter_f0e(a,b,G,H,1,A);
 break;
-case 31:fill_function_right_5c9(a,b,N,R,Q&1,S,T,M);
+case 31:fill_function_right_5c9(a,b,B,F,E&1,G,H,A);
 break;
 case 0:case 1:case 2:case 3:case 4:case 5:case 6:case 7:case 8:case 9:case 10:case 11:case 12:case 13:case 14:case 15:case 16:case 17:case 19:case 20:case 21:case 22:case 23:case 24:case 35:case 36:case 37:case 38:case 39:case 40:case 41:case 42:case 43:case 44:case 45:case 46:case 47:break;
 default:NEVER;
@@ -74268,813 +74128,827 @@ return;
 /* sym_languages::languages::LanguagesDemangler::append */
 static void append_e62(u8* a,u8* b,u8* c,u8 d,u8* e,u64 f,u8* g)
 {
-u8 l[32],n[4],o[32],r[32],s[32],t[32],z[4],A[4];
-A16 u8 h[4],i[4],j[40],k[4],m[4],p[6],q[32],u[4],v[4],w[4],x[32],y[32],B[4],C[4],D[4],E[12],F[12],G[12],H[96],I[88],J[12],K[84];
-u32 L,Ha,Qa,Ra,Ta,hb,lb,pb,wb,Eb,Kb,Cc,Jc,Lc,cd,ed,Ed,Jd,Md,Nd,Wd,Xd,ie;
-u8 M,R,X,Y,ba,ca,da,ea,fa,la,ma,na,oa,pa,qa,ra,sa,va,wa,xa,Ca,Fa,Ga,Ma,Oa,Pa,Ua,Wa,Xa,Ya,bb,cb,db,eb,fb,ib,mb,nb,ob,qb,rb,ub,xb,zb,Bb,Fb,Hb,Ib,Jb,Lb,Nb,Pb,Qb,Rb,Sb,Ub,Wb,Xb,Yb,Zb,bc,cc,dc,fc,hc,ic,jc,kc,sc,wc,Gc,Kc,Oc,Tc,Uc,Vc,Zc,dd,hd,kd,pd,yd,Ad,Dd,Id,Kd,Ld,Od,Pd,Yd,Zd,ae,fe,je,ke;
-u64 N,O,P,Q,S,T,V,Z,aa,ga,ha,ia,ta,ua,ya,Aa,Ba,Da,Ea,Ia,La,Za,ab,gb,jb,kb,sb,tb,vb,yb,Ab,Cb,Db,Gb,Mb,Tb,Vb,ac,ec,gc,lc,nc,oc,pc,rc,tc,vc,yc,Ac,Dc,Fc,Hc,Mc,Nc,Qc,Rc,Sc,Wc,Xc,Yc,bd,fd,gd,jd,md,nd,od,qd,sd,td,xd,zd,Bd,Cd,Fd,Sd,Td,Vd,ce,de,ee,ge,he,le;
-v16 U,W;
-u8 *ja,*ka,*za,*Ja,*Ka,*Na,*Ob,*mc,*qc,*uc,*xc,*zc,*Bc,*Ec,*Ic,*Pc,*ad,*id,*ld,*ud,*vd,*Gd,*Hd,*Qd,*Rd,*Ud,*be,*me,*ne;
-u16 Sa,Va;
+u8 l[32],n[4],o[32],p[32],q[32],s[32],A[4],B[4];
+A16 u8 h[4],i[4],j[40],k[4],m[4],r[4],t[6],u[32],v[4],w[4],x[4],y[32],z[32],C[4],D[4],E[4],F[12],G[12],H[12],I[96],J[88],K[12],L[84];
+u32 M,Ia,Ra,Sa,Ua,lb,pb,tb,Ab,Ib,Ob,Gc,Nc,Pc,gd,id,Id,Nd,Qd,Rd,ae,be,me;
+u8 N,S,Y,Z,ca,da,ea,fa,ga,ma,na,oa,pa,qa,ra,sa,ta,wa,xa,ya,Da,Ga,Ha,Na,Pa,Qa,Va,Xa,Ya,Za,ab,bb,cb,fb,gb,hb,ib,jb,mb,qb,rb,sb,ub,vb,yb,Bb,Db,Fb,Jb,Lb,Mb,Nb,Pb,Rb,Tb,Ub,Vb,Wb,Yb,ac,bc,cc,dc,fc,gc,hc,jc,lc,mc,nc,oc,wc,Ac,Kc,Oc,Sc,Xc,Yc,Zc,dd,hd,ld,od,ud,Cd,Ed,Hd,Md,Od,Pd,Sd,Td,ce,de,ee,je,ne,oe;
+u64 O,P,Q,R,T,U,W,aa,ba,ha,ia,ja,ua,va,za,Ba,Ca,Ea,Fa,Ja,Ma,db,eb,kb,nb,ob,wb,xb,zb,Cb,Eb,Gb,Hb,Kb,Qb,Xb,Zb,ec,ic,kc,pc,rc,sc,tc,vc,xc,zc,Cc,Ec,Hc,Jc,Lc,Qc,Rc,Uc,Vc,Wc,ad,bd,cd,fd,jd,kd,nd,qd,sd,td,vd,xd,yd,Bd,Dd,Fd,Gd,Jd,Wd,Xd,Zd,ge,he,ie,ke,le,pe;
+v16 V,X;
+u8 *ka,*la,*Aa,*Ka,*La,*Oa,*Sb,*qc,*uc,*yc,*Bc,*Dc,*Fc,*Ic,*Mc,*Tc,*ed,*md,*pd,*zd,*Ad,*Kd,*Ld,*Ud,*Vd,*Yd,*fe,*qe,*re;
+u16 Ta,Wa;
 if(d==0){
-L=r4(b);
-M=b[4];
-if(M==0){
-N=umin64(L>>2,(f<<5)+1024);
+M=r4(b);
+N=b[4];
+if(N==0){
+O=umin64(M>>2,(f<<5)+1024);
 if(r8(c+472)!=0)w8(c+472,0);
-w8(c+488,N);
-O=r8(c+480);
-P=umin64(O,N);
-w8(c+496,P);
+w8(c+488,O);
+P=r8(c+480);
+Q=umin64(P,O);
+w8(c+496,Q);
 if(r8(c+512)!=0)w8(c+512,0);
-Q=f&4294967295u;
-w8(c+528,Q);
-w8(c+536,umin64(r8(c+520),Q));
+R=f&4294967295u;
+w8(c+528,R);
+w8(c+536,umin64(r8(c+520),R));
 if(r8(c+552)!=0)w8(c+552,0);
-w8(c+568,Q);
-w8(c+576,umin64(r8(c+560),Q));
+w8(c+568,R);
+w8(c+576,umin64(r8(c+560),R));
 c[636]=0;
 if(f<=65536){
 if(f<16){
-R=are_few_named_14c(e,f);
-if(!R)goto L1;}
+S=are_few_named_14c(e,f);
+if(!S)goto L1;}
 else{
-S=f-16;
-if(S==0)goto L2;
-T=0;
-L3:U=v16_at(e+T);
-if((v16_ult(U,splat(33))|v16_eq(U,splat(127)))!=0)goto L1;
-V=T+16;
-if(V<S){
-T=V;
+T=f-16;
+if(T==0)goto L2;
+U=0;
+L3:V=v16_at(e+U);
+if((v16_ult(V,splat(33))|v16_eq(V,splat(127)))!=0)goto L1;
+W=U+16;
+if(W<T){
+U=W;
 goto L3;}
-L2:W=v16_at(e+S);
-if((v16_ult(W,splat(33))|v16_eq(W,splat(127)))!=0)goto L1;}
-w4(B,0);
+L2:X=v16_at(e+T);
+if((v16_ult(X,splat(33))|v16_eq(X,splat(127)))!=0)goto L1;}
 w4(C,0);
+w4(D,0);
 if(f!=0){
 if(f!=1&&*e==95){
 if(e[1]==90){
 if(f>=3){
-X=e[2];
+Y=e[2];
 if(f<5){
-if(X==90)goto L4;
-if((f!=3)&(X==71)){
+if(Y==90)goto L4;
+if((f!=3)&(Y==71)){
 if(e[3]==86)goto L5;
 goto L6;}
-switch(X){
+switch(Y){
 case 71:goto L6;
 case 84:if(f==3)goto L7;
 break;
 default:goto L8;
 }}
 else{
-switch(X){
+switch(Y){
 case 90:goto L4;
 case 71:if(e[3]!=86)goto L6;
 if(e[4]!=90)goto L5;
-if(P<19){
-Y=make_ready_8e3(c+464,19,128);
-if(!(Y&1)){
-ba=0;
+if(Q<19){
+Z=make_ready_8e3(c+464,19,128);
+if(!(Z&1)){
 ca=0;
 da=0;
 ea=0;
+fa=0;
 goto L9;}
-Z=r8(c+480);
-aa=r8(c+472);}
+aa=r8(c+480);
+ba=r8(c+472);}
 else{
-Z=O;
-aa=0;}
-if(Z-aa<19){
-fa=grow_amortized_68b(c+464,19);
-if(!fa){
-ba=0;
+aa=P;
+ba=0;}
+if(aa-ba<19){
+ga=grow_amortized_68b(c+464,19);
+if(!ga){
 ca=0;
 da=0;
 ea=0;
+fa=0;
 goto L9;}
-ga=r8(c+480);
-ha=r8(c+472);}
+ha=r8(c+480);
+ia=r8(c+472);}
 else{
-ga=Z;
-ha=aa;}
-ia=ha+19;
-ja=rp(c+464);
+ha=aa;
+ia=ba;}
+ja=ia+19;
+ka=rp(c+464);
 z16(c+472);
-ka=ja+(i64)ha;
-if((u64)ka-(u64)(u8*)t_c270<19)copy_bits_4f4((u8*)t_c270,ka,19);
-else memcpy(ka,(u8*)t_c270,19);
-wp(c+464,ja);
-w8(c+472,ia);
-w8(c+480,ga);
+la=ka+(i64)ia;
+if((u64)la-(u64)(u8*)t_c270<19)copy_bits_4f4((u8*)t_c270,la,19);
+else memcpy(la,(u8*)t_c270,19);
+wp(c+464,ka);
+w8(c+472,ja);
+w8(c+480,ha);
 w8(c+640,5);
-begin_encoding_417(z,c+464,e,f);
-ba=z[3];
-ca=z[2];
-da=z[1];
-ea=*z;
-L9:la=ba;
-ma=ca;
+begin_encoding_417(A,c+464,e,f);
+ca=A[3];
+da=A[2];
+ea=A[1];
+fa=*A;
+L9:ma=ca;
 na=da;
 oa=ea;
+pa=fa;
 goto L10;
 case 84:break;
 default:goto L8;
 }}
 switch(e[3]){
-case 104:begin_thunk_a85(C,c+464,e,f);
+case 104:begin_thunk_a85(D,c+464,e,f);
 goto L11;
-case 118:begin_virtual_thunk_a25(C,c+464,e,f);
+case 118:begin_virtual_thunk_a25(D,c+464,e,f);
 goto L11;
-case 67:begin_clone_893(C);
+case 67:begin_clone_893(D);
 goto L11;
 default:break;}
-L7:begin_special_44d(C,c+464,e,f);
-L11:pa=C[3];
-qa=C[2];
-ra=C[1];
-sa=*C;
+L7:begin_special_44d(D,c+464,e,f);
+L11:qa=D[3];
+ra=D[2];
+sa=D[1];
+ta=*D;
 goto L12;
-L6:begin_clone_893(B);
-pa=B[3];
-qa=B[2];
-ra=B[1];
-sa=*B;
+L6:begin_clone_893(C);
+qa=C[3];
+ra=C[2];
+sa=C[1];
+ta=*C;
 goto L12;
-L5:begin_object_103(B,c+464,e,f);
-pa=B[3];
-qa=B[2];
-ra=B[1];
-sa=*B;
+L5:begin_object_103(C,c+464,e,f);
+qa=C[3];
+ra=C[2];
+sa=C[1];
+ta=*C;
 goto L12;
 L4:w8(c+640,3);
-begin_encoding_417(A,c+464,e,f);
-la=A[3];
-ma=A[2];
-na=A[1];
-oa=*A;
-L10:pa=la;
-qa=ma;
+begin_encoding_417(B,c+464,e,f);
+ma=B[3];
+na=B[2];
+oa=B[1];
+pa=*B;
+L10:qa=ma;
 ra=na;
 sa=oa;
+ta=pa;
 goto L12;}
 L8:w8(c+640,2);
-begin_encoding_417(B,c+464,e,f);
-pa=B[3];
-qa=B[2];
-ra=B[1];
-sa=*B;
-L12:if(sa!=1)goto L1;
-ta=f<<3;
-ua=0;
-va=pa;
+begin_encoding_417(C,c+464,e,f);
+qa=C[3];
+ra=C[2];
+sa=C[1];
+ta=*C;
+L12:if(ta!=1)goto L1;
+ua=f<<3;
+va=0;
 wa=qa;
 xa=ra;
-L13:if(xa==7){
-ya=r8(c+472);
-if(ya>N)goto L14;
+ya=sa;
+L13:if(ya==7){
+za=r8(c+472);
+if(za>O)goto L14;
 if(r8(c+512)!=0)w8(c+512,0);
 z16(c+528);
 if(r8(c+552)!=0)w8(c+552,0);
 z16(c+568);
-za=rp(c+464);
-Aa=r8(g+16);
-Ba=r8(g+8);
-if(ya>Aa-Ba){
-Ca=grow_amortized_68b(g,ya);
-if(!Ca){
-Fa=1;
-Ga=4;
-Ha=0;
+Aa=rp(c+464);
+Ba=r8(g+16);
+Ca=r8(g+8);
+if(za>Ba-Ca){
+Da=grow_amortized_68b(g,za);
+if(!Da){
+Ga=1;
+Ha=4;
+Ia=0;
 goto L15;}
-Da=r8(g+16);
-Ea=r8(g+8);}
+Ea=r8(g+16);
+Fa=r8(g+8);}
 else{
-Da=Aa;
-Ea=Ba;}
-Ia=Ea+ya;
-Ja=rp(g);
+Ea=Ba;
+Fa=Ca;}
+Ja=Fa+za;
+Ka=rp(g);
 z16(g+8);
-Ka=Ja+(i64)Ea;
-if((u64)Ka-(u64)za<ya)copy_bits_4f4(za,Ka,ya);
-else memmove(Ka,za,ya);
-wp(g,Ja);
-w8(g+8,Ia);
-w8(g+16,Da);
-Fa=0;
+La=Ka+(i64)Fa;
+if((u64)La-(u64)Aa<za)copy_bits_4f4(Aa,La,za);
+else memmove(La,Aa,za);
+wp(g,Ka);
+w8(g+8,Ja);
+w8(g+16,Ea);
 Ga=0;
 Ha=0;
+Ia=0;
 goto L15;}
 w8(c+648,r8(c+648)+1);
-w4(D,0);
-switch(xa){
-case 0:type_at_78f(D,c+464,e,f,0);
+w4(E,0);
+switch(ya){
+case 0:type_at_78f(E,c+464,e,f,0);
 break;
-case 1:type_at_78f(D,c+464,e,f,1);
+case 1:type_at_78f(E,c+464,e,f,1);
 break;
-case 2:w4(v,0);
-w4(w,0);
-z32(x);
+case 2:w4(w,0);
+w4(x,0);
 z32(y);
-La=r8(c+552);
-if(La==0)w4(D,0);
+z32(z);
+Ma=r8(c+552);
+if(Ma==0)w4(E,0);
 else{
-Ma=wa&1;
-Na=rp(c+544)+(i64)(La*44);
-Oa=Na[-44];
-Pa=Na[-43];
-Qa=q4(Na-40);
-Ra=q4(Na-36);
-Sa=q2(Na-32);
-switch(Oa){
-case 29:case 28:case 27:case 26:case 4:case 5:case 6:case 7:case 8:case 11:case 12:case 13:case 14:case 15:case 16:case 17:case 18:case 19:case 20:case 21:case 22:case 23:case 24:case 25:if(va&1){
-pass_dependent_123(v,c+464,e,f);
-*D=*v;
-D[1]=v[1];
-D[2]=v[2];
-D[3]=v[3];
+Na=xa&1;
+Oa=rp(c+544)+(i64)(Ma*44);
+Pa=Oa[-44];
+Qa=Oa[-43];
+Ra=q4(Oa-40);
+Sa=q4(Oa-36);
+Ta=q2(Oa-32);
+switch(Pa){
+case 29:case 28:case 27:case 26:case 4:case 5:case 6:case 7:case 8:case 11:case 12:case 13:case 14:case 15:case 16:case 17:case 18:case 19:case 20:case 21:case 22:case 23:case 24:case 25:if(wa&1){
+pass_dependent_123(w,c+464,e,f);
+*E=*w;
+E[1]=w[1];
+E[2]=w[2];
+E[3]=w[3];
 goto L16;}
-Ta=q4(Na-4);
-Ua=Ra;
-Va=Ra>>16;
-w4(u,0);
-switch(Oa){
-case 22:returned_acd(u,c+464,e,f,Pa&1);
+Ua=q4(Oa-4);
+w4(v,0);
+switch(Pa){
+case 22:returned_acd(v,c+464,e,f,Qa&1);
 break;
-case 23:parameter_at_c04(u,c+464,e,f,Pa&1,0);
+case 23:parameter_at_c04(v,c+464,e,f,Qa&1,0);
 break;
-case 24:array_ended_08d(u,c+464,e,f,Pa,Qa,Ra);
+case 24:array_ended_08d(v,c+464,e,f,Qa,Ra,Sa);
 break;
-case 12:enclosing_parameter_d72(u,c+464,e,f,Pa,Qa);
+case 12:enclosing_parameter_d72(v,c+464,e,f,Qa,Ra);
 break;
-case 13:instance_parameter_e2a(u,c+464,e,f,Pa,Qa,Ra);
+case 13:instance_parameter_e2a(v,c+464,e,f,Qa,Ra,Sa);
 break;
-case 11:w2(o,Sa);
-memcpy(o+2,Na-30,26);
-x4(o+28,Ta);
-enclosing_front_fa8(u,c+464,Pa,Qa,Ra,o);
+case 11:w2(s,Ta);
+memcpy(s+2,Oa-30,26);
+x4(s+28,Ua);
+enclosing_front_fa8(v,c+464,Qa,Ra,Sa,s);
 break;
-case 17:w4(p,Ra);
-w2(p+4,Sa);
-lambda_parameter_f9a(u,c+464,e,f,Qa,p);
+case 17:w4(t,Sa);
+w2(t+4,Ta);
+lambda_parameter_f9a(v,c+464,e,f,Ra,t);
 break;
-case 18:member_parameter_678(u,c+464,e,f,Pa);
+case 18:member_parameter_678(v,c+464,e,f,Qa);
 break;
-case 15:w4(q,Ra);
-w2(q+4,Sa);
-memcpy(q+6,Na-30,26);
-addressed_front_4c5(u,c+464,e,f,Pa,Qa,q);
+case 15:w4(u,Sa);
+w2(u+4,Ta);
+memcpy(u+6,Oa-30,26);
+addressed_front_4c5(v,c+464,e,f,Qa,Ra,u);
 break;
-case 16:addressed_parameter_41c(u,c+464,e,f,Pa);
+case 16:addressed_parameter_41c(v,c+464,e,f,Qa);
 break;
-case 14:*u=0;
+case 14:*v=0;
 break;
-case 19:finish_8cd(u,c+464,e,f);
+case 19:finish_8cd(v,c+464,e,f);
 break;
-case 20:derived_ended_aef(u,c+464,e,f);
+case 20:derived_ended_aef(v,c+464,e,f);
 break;
-case 21:base_ended_299(u,c+464,e,f,Qa);
+case 21:base_ended_299(v,c+464,e,f,Ra);
 break;
-case 29:enumerator_21c(u,c+464,e,f);
+case 29:enumerator_21c(v,c+464,e,f);
 break;
-case 26:w2(r,Va);
-w2(r+2,Sa);
-memcpy(r+4,Na-30,26);
-w2(r+30,Ta);
-argument_enumerator_f1d(u,c+464,e,f,Qa,Ua,r);
+case 26:case 25:case 28:Va=Sa;
+Wa=Ua;
+w4(r,0);
+switch(Pa){
+case 26:w2(o,Sa>>16);
+w2(o+2,Ta);
+memcpy(o+4,Oa-30,26);
+w2(o+30,Wa);
+argument_enumerator_f1d(r,c+464,e,f,Ra,Va,o);
 break;
-case 25:w2(s,Va);
-w2(s+2,Sa);
-memcpy(s+4,Na-30,26);
-w2(s+30,Ta);
-argument_ended_f01(u,c+464,e,f,Qa,Ua,s,Ma);
+case 25:w2(p,Sa>>16);
+w2(p+2,Ta);
+memcpy(p+4,Oa-30,26);
+w2(p+30,Wa);
+argument_ended_f01(r,c+464,e,f,Ra,Va,p,Na);
 break;
-case 28:w2(t,Va);
-w2(t+2,Sa);
-memcpy(t+4,Na-30,26);
-w2(t+30,Ta);
-element_ended_d46(u,c+464,e,f,Qa,Ua,t,Ma);
+case 28:w2(q,Sa>>16);
+w2(q+2,Ta);
+memcpy(q+4,Oa-30,26);
+w2(q+30,Wa);
+element_ended_d46(r,c+464,e,f,Ra,Va,q,Na);
 break;
-case 27:case 10:case 9:case 8:case 4:case 5:case 6:case 7:*u=1;
-u[1]=3;
-u[2]=0;
-u[3]=0;
+case 27:*r=0;
 break;
 default:NEVER;
 }
-Wa=u[1];
-Xa=u[2];
-Ya=u[3];
-*w=*u;
-w[1]=Wa;
-w[2]=Xa;
-w[3]=Ya;
+Xa=r[1];
+Ya=r[2];
+Za=r[3];
+*v=*r;
+v[1]=Xa;
+v[2]=Ya;
+v[3]=Za;
+break;
+case 27:case 10:case 9:case 8:case 4:case 5:case 6:case 7:*v=1;
+v[1]=3;
+v[2]=0;
+v[3]=0;
+break;
+default:NEVER;
+}
+ab=v[1];
+bb=v[2];
+cb=v[3];
+*x=*v;
+x[1]=ab;
+x[2]=bb;
+x[3]=cb;
 goto L17;
-case 10:w4(x,Ra);
-w2(x+4,Sa);
-memcpy(x+6,Na-30,26);
-parameter_ended_06e(w,c+464,e,f,Pa,Qa,x);
+case 10:w4(y,Sa);
+w2(y+4,Ta);
+memcpy(y+6,Oa-30,26);
+parameter_ended_06e(x,c+464,e,f,Qa,Ra,y);
 goto L17;
-case 9:w4(y,Ra);
-w2(y+4,Sa);
-memcpy(y+6,Na-30,26);
-front_ended_ee9(w,c+464,e,f,Pa,Qa,y);
+case 9:w4(z,Sa);
+w2(z+4,Ta);
+memcpy(z+6,Oa-30,26);
+front_ended_ee9(x,c+464,e,f,Qa,Ra,z);
 goto L17;
-case 0:w8(c+552,La-1);
-Za=r8(c+472);
-if(r8(c+496)>Za)ab=Za;
+case 0:w8(c+552,Ma-1);
+db=r8(c+472);
+if(r8(c+496)>db)eb=db;
 else{
-bb=make_ready_8e3(c+464,1,16);
-if(!(bb&1)){
-cb=0;
-db=0;
-eb=0;
-fb=0;
+fb=make_ready_8e3(c+464,1,16);
+if(!(fb&1)){
+gb=0;
+hb=0;
+ib=0;
+jb=0;
 goto L18;}
-ab=r8(c+472);}
-*(rp(c+464)+ab)=42;
-gb=ab+1;
-w8(c+472,gb);
-hb=gb;
-ib=va&1;
-jb=r8(c+512);
-if(r8(c+536)>jb){
-kb=jb;
-lb=hb;
-mb=0;
-nb=ib;
-goto L19;}
-ob=make_ready_17a(c+504);
-if(!(ob&1)){
-cb=0;
-db=0;
-eb=0;
-fb=0;
-goto L18;}
-pb=hb;
+eb=r8(c+472);}
+*(rp(c+464)+eb)=42;
+kb=eb+1;
+w8(c+472,kb);
+lb=kb;
+mb=wa&1;
+nb=r8(c+512);
+if(r8(c+536)>nb){
+ob=nb;
+pb=lb;
 qb=0;
-rb=ib;
+rb=mb;
+goto L19;}
+sb=make_ready_17a(c+504);
+if(!(sb&1)){
+gb=0;
+hb=0;
+ib=0;
+jb=0;
+goto L18;}
+tb=lb;
+ub=0;
+vb=mb;
 break;
-case 1:if(Ma)goto L17;
-w8(c+552,La-1);
-sb=r8(c+472);
-if(r8(c+496)>sb)tb=sb;
+case 1:if(Na)goto L17;
+w8(c+552,Ma-1);
+wb=r8(c+472);
+if(r8(c+496)>wb)xb=wb;
 else{
-ub=make_ready_8e3(c+464,1,16);
-if(!(ub&1)){
-cb=0;
-db=0;
-eb=0;
-fb=0;
+yb=make_ready_8e3(c+464,1,16);
+if(!(yb&1)){
+gb=0;
+hb=0;
+ib=0;
+jb=0;
 goto L18;}
-tb=r8(c+472);}
-*(rp(c+464)+tb)=38;
-vb=tb+1;
-w8(c+472,vb);
-wb=vb;
-xb=va&1;
-yb=r8(c+512);
-if(r8(c+536)>yb){
-kb=yb;
-lb=wb;
-mb=1;
-nb=xb;
-goto L19;}
-zb=make_ready_17a(c+504);
-if(!(zb&1)){
-cb=0;
-db=0;
-eb=0;
-fb=0;
-goto L18;}
-pb=wb;
+xb=r8(c+472);}
+*(rp(c+464)+xb)=38;
+zb=xb+1;
+w8(c+472,zb);
+Ab=zb;
+Bb=wa&1;
+Cb=r8(c+512);
+if(r8(c+536)>Cb){
+ob=Cb;
+pb=Ab;
 qb=1;
-rb=xb;
-break;
-case 2:if(Ma)goto L17;
-w8(c+552,La-1);
-Ab=r8(c+472);
-if(r8(c+496)-Ab<2){
-Bb=make_ready_8e3(c+464,2,128);
-if(!(Bb&1)){
-cb=0;
-db=0;
-eb=0;
-fb=0;
-goto L18;}
-Cb=r8(c+472);}
-else Cb=Ab;
-*(rp(c+464)+Cb)=38;
-*(rp(c+464)+(i64)Cb+1)=38;
-Db=Cb+2;
-w8(c+472,Db);
-Eb=Db;
-Fb=va&1;
-Gb=r8(c+512);
-if(r8(c+536)>Gb){
-kb=Gb;
-lb=Eb;
-mb=1;
-nb=Fb;
+rb=Bb;
 goto L19;}
-Hb=make_ready_17a(c+504);
-if(!(Hb&1)){
-cb=0;
-db=0;
-eb=0;
-fb=0;
+Db=make_ready_17a(c+504);
+if(!(Db&1)){
+gb=0;
+hb=0;
+ib=0;
+jb=0;
 goto L18;}
-pb=Eb;
-qb=1;
-rb=Fb;
+tb=Ab;
+ub=1;
+vb=Bb;
 break;
-case 3:if(Ma)goto L17;
-w8(c+552,La-1);
+case 2:if(Na)goto L17;
+w8(c+552,Ma-1);
+Eb=r8(c+472);
+if(r8(c+496)-Eb<2){
+Fb=make_ready_8e3(c+464,2,128);
+if(!(Fb&1)){
+gb=0;
+hb=0;
+ib=0;
+jb=0;
+goto L18;}
+Gb=r8(c+472);}
+else Gb=Eb;
+*(rp(c+464)+Gb)=38;
+*(rp(c+464)+(i64)Gb+1)=38;
+Hb=Gb+2;
+w8(c+472,Hb);
+Ib=Hb;
+Jb=wa&1;
+Kb=r8(c+512);
+if(r8(c+536)>Kb){
+ob=Kb;
+pb=Ib;
+qb=1;
+rb=Jb;
+goto L19;}
+Lb=make_ready_17a(c+504);
+if(!(Lb&1)){
+gb=0;
+hb=0;
+ib=0;
+jb=0;
+goto L18;}
+tb=Ib;
+ub=1;
+vb=Jb;
+break;
+case 3:if(Na)goto L17;
+w8(c+552,Ma-1);
 if(r8(c+496)-r8(c+472)<6){
-Ib=make_ready_8e3(c+464,6,128);
-if(!(Ib&1)){
-cb=0;
-db=0;
-eb=0;
-fb=0;
+Mb=make_ready_8e3(c+464,6,128);
+if(!(Mb&1)){
+gb=0;
+hb=0;
+ib=0;
+jb=0;
 goto L18;}}
-Jb=extend_from_slice_674(c+464,(u8*)t_f603,6);
-if(Jb&1){
-cb=0;
-db=0;
-eb=0;
-fb=0;
+Nb=extend_from_slice_674(c+464,(u8*)t_f603,6);
+if(Nb&1){
+gb=0;
+hb=0;
+ib=0;
+jb=0;
 goto L18;}
-Kb=r8(c+472);
-Lb=va&1;
-Mb=r8(c+512);
-if(r8(c+536)>Mb){
-kb=Mb;
-lb=Kb;
-mb=0;
-nb=Lb;
-goto L19;}
-Nb=make_ready_17a(c+504);
-if(!(Nb&1)){
-cb=0;
-db=0;
-eb=0;
-fb=0;
-goto L18;}
-pb=Kb;
+Ob=r8(c+472);
+Pb=wa&1;
+Qb=r8(c+512);
+if(r8(c+536)>Qb){
+ob=Qb;
+pb=Ob;
 qb=0;
-rb=Lb;
+rb=Pb;
+goto L19;}
+Rb=make_ready_17a(c+504);
+if(!(Rb&1)){
+gb=0;
+hb=0;
+ib=0;
+jb=0;
+goto L18;}
+tb=Ob;
+ub=0;
+vb=Pb;
 break;
 default:NEVER;
 }
-kb=r8(c+512);
-lb=pb;
-mb=qb;
-nb=rb;
-L19:Ob=rp(c+504)+kb*12;
-x4(Ob,Qa);
-x4(Ob+4,lb);
-Ob[8]=mb;
-Ob[9]=nb;
-x2(Ob+10,0);
-w8(c+512,kb+1);
-cb=nb;
-db=mb;
-eb=2;
-fb=1;
-L18:*w=fb;
-w[1]=eb;
-w[2]=db;
-w[3]=cb;
-L17:Pb=w[1];
-Qb=w[2];
-Rb=w[3];
-*D=*w;
-D[1]=Pb;
-D[2]=Qb;
-D[3]=Rb;}
+ob=r8(c+512);
+pb=tb;
+qb=ub;
+rb=vb;
+L19:Sb=rp(c+504)+ob*12;
+x4(Sb,Ra);
+x4(Sb+4,pb);
+Sb[8]=qb;
+Sb[9]=rb;
+x2(Sb+10,0);
+w8(c+512,ob+1);
+gb=rb;
+hb=qb;
+ib=2;
+jb=1;
+L18:*x=jb;
+x[1]=ib;
+x[2]=hb;
+x[3]=gb;
+L17:Tb=x[1];
+Ub=x[2];
+Vb=x[3];
+*E=*x;
+E[1]=Tb;
+E[2]=Ub;
+E[3]=Vb;}
 L16:break;
-case 3:Sb=wa&1;
+case 3:Wb=xa&1;
 w4(m,0);
-Tb=r8(c+640);
-if(Tb<f){
-Ub=*(e+Tb);
-switch(Ub){
+Xb=r8(c+640);
+if(Xb<f){
+Yb=*(e+Xb);
+switch(Yb){
 case 69:w4(k,0);
-w8(c+640,Tb+1);
-Vb=r8(c+552);
-if(Vb==0){
-Wb=0;
-Xb=0;
-Yb=0;
-Zb=0;}
+w8(c+640,Xb+1);
+Zb=r8(c+552);
+if(Zb==0){
+ac=0;
+bc=0;
+cc=0;
+dc=0;}
 else{
-if(*(rp(c+544)+(i64)(Vb*44)-44)==27){
-if(Sb){
-Wb=0;
-Xb=0;
-Yb=0;
-Zb=0;}
+if(*(rp(c+544)+(i64)(Zb*44)-44)==27){
+if(Wb){
+ac=0;
+bc=0;
+cc=0;
+dc=0;}
 else{
-w8(c+552,Vb-1);
-Wb=0;
-Xb=0;
-Yb=3;
-Zb=1;}}
+w8(c+552,Zb-1);
+ac=0;
+bc=0;
+cc=3;
+dc=1;}}
 else{
 z32(l);
 close_list_0b3(k,c+464,e,f,l);
-Wb=k[3];
-Xb=k[2];
-Yb=k[1];
-Zb=*k;}}
-*D=Zb;
-D[1]=Yb;
-D[2]=Xb;
-D[3]=Wb;
+ac=k[3];
+bc=k[2];
+cc=k[1];
+dc=*k;}}
+*E=dc;
+E[1]=cc;
+E[2]=bc;
+E[3]=ac;
 goto L20;
-case 74:ac=Tb+1;
-if(ac<f){
-if(*(e+ac)==69){
-empty_pack_06f(m,c+464,e,f,Sb);
-*D=*m;
-D[1]=m[1];
-D[2]=m[2];
-D[3]=m[3];
+case 74:ec=Xb+1;
+if(ec<f){
+if(*(e+ec)==69){
+empty_pack_06f(m,c+464,e,f,Wb);
+*E=*m;
+E[1]=m[1];
+E[2]=m[2];
+E[3]=m[3];
 goto L20;}}
-if(!Sb){
-bc=74;
+if(!Wb){
+fc=74;
 goto L21;}
 first_pack_117(m,c+464,e,f);
-*D=*m;
-D[1]=m[1];
-D[2]=m[2];
-D[3]=m[3];
+*E=*m;
+E[1]=m[1];
+E[2]=m[2];
+E[3]=m[3];
 goto L20;
-default:cc=Ub;
+default:gc=Yb;
 break;}}
-else cc=0;
-if(Sb){
-dc=cc;
+else gc=0;
+if(Wb){
+hc=gc;
 goto L22;}
-bc=cc;
-L21:ec=r8(c+472);
-if(r8(c+496)-ec<2){
-fc=make_ready_8e3(c+464,2,128);
-if(!(fc&1)){
-w4(D,0);
+fc=gc;
+L21:ic=r8(c+472);
+if(r8(c+496)-ic<2){
+jc=make_ready_8e3(c+464,2,128);
+if(!(jc&1)){
+w4(E,0);
 goto L20;}
-gc=r8(c+472);}
-else gc=ec;
-*(rp(c+464)+gc)=44;
-*(rp(c+464)+(i64)gc+1)=32;
-w8(c+472,gc+2);
-dc=bc;
-L22:switch(dc){
-case 76:if(Sb){
+kc=r8(c+472);}
+else kc=ic;
+*(rp(c+464)+kc)=44;
+*(rp(c+464)+(i64)kc+1)=32;
+w8(c+472,kc+2);
+hc=fc;
+L22:switch(hc){
+case 76:if(Wb){
 first_literal_8fe(m,c+464,e,f);
-*D=*m;
-D[1]=m[1];
-D[2]=m[2];
-D[3]=m[3];
+*E=*m;
+E[1]=m[1];
+E[2]=m[2];
+E[3]=m[3];
 goto L20;}
 literal_7da(n,c+464,e,f);
-hc=n[3];
-ic=n[2];
-jc=n[1];
-kc=*n;
+lc=n[3];
+mc=n[2];
+nc=n[1];
+oc=*n;
 break;
-case 74:lc=r8(c+552);
-if(lc==0){
-hc=0;
-ic=0;
-jc=0;
-kc=0;}
+case 74:pc=r8(c+552);
+if(pc==0){
+lc=0;
+mc=0;
+nc=0;
+oc=0;}
 else{
-mc=rp(c+544);
-nc=lc*44;
-if(*(mc+(i64)nc-44)==27){
-hc=0;
-ic=0;
-jc=0;
-kc=0;}
-else{
-oc=r8(c+640);
-if(oc==18446744073709551615u){
-hc=0;
-ic=0;
-jc=0;
-kc=0;}
-else{
-w8(c+640,oc+1);
-if(r8(c+576)>lc){
-pc=nc;
-qc=mc;
-rc=lc;}
-else{
-sc=make_ready_9a1(c+544);
-if(!(sc&1)){
-hc=0;
-ic=0;
-jc=0;
-kc=0;
-break;}
-tc=r8(c+552);
-pc=tc*44;
 qc=rp(c+544);
-rc=tc;}
-uc=qc+pc;
-*uc=27;
-z43(uc+1);
-w8(c+552,rc+1);
-hc=0;
-ic=1;
-jc=3;
-kc=1;}}}
-break;
-default:if(Sb){
-vc=r8(c+552);
-if(vc==0)wc=1;
+rc=pc*44;
+if(*(qc+(i64)rc-44)==27){
+lc=0;
+mc=0;
+nc=0;
+oc=0;}
 else{
-xc=rp(c+544);
-yc=vc*44;
-zc=xc+(i64)yc;
-switch(zc[-44]){
-case 5:if(zc[-28]==0){
-wc=1;
+sc=r8(c+640);
+if(sc==18446744073709551615u){
+lc=0;
+mc=0;
+nc=0;
+oc=0;}
+else{
+w8(c+640,sc+1);
+if(r8(c+576)>pc){
+tc=rc;
+uc=qc;
+vc=pc;}
+else{
+wc=make_ready_9a1(c+544);
+if(!(wc&1)){
+lc=0;
+mc=0;
+nc=0;
+oc=0;
+break;}
+xc=r8(c+552);
+tc=xc*44;
+uc=rp(c+544);
+vc=xc;}
+yc=uc+tc;
+*yc=27;
+z43(yc+1);
+w8(c+552,vc+1);
+lc=0;
+mc=1;
+nc=3;
+oc=1;}}}
+break;
+default:if(Wb){
+zc=r8(c+552);
+if(zc==0)Ac=1;
+else{
+Bc=rp(c+544);
+Cc=zc*44;
+Dc=Bc+(i64)Cc;
+switch(Dc[-44]){
+case 5:if(Dc[-28]==0){
+Ac=1;
 goto L23;}
 break;
 case 7:break;
-case 0:case 1:case 2:case 3:case 4:case 6:case 8:case 9:case 10:case 11:case 12:case 13:case 14:case 15:case 16:case 17:case 18:case 19:case 20:case 21:case 22:case 23:case 24:case 25:case 26:case 27:case 28:case 29:wc=1;
+case 0:case 1:case 2:case 3:case 4:case 6:case 8:case 9:case 10:case 11:case 12:case 13:case 14:case 15:case 16:case 17:case 18:case 19:case 20:case 21:case 22:case 23:case 24:case 25:case 26:case 27:case 28:case 29:Ac=1;
 goto L23;
 default:NEVER;
 }
-Ac=r8(c+640);
-if(Ac<f){
-Bc=e+(i64)Ac;
-switch(*Bc){
-case 65:case 70:wc=1;
+Ec=r8(c+640);
+if(Ec<f){
+Fc=e+(i64)Ec;
+switch(*Fc){
+case 65:case 70:Ac=1;
 goto L23;
-case 80:case 82:if(usub64(f,Ac)>=2){
-switch(Bc[1]){
-case 70:case 65:wc=1;
+case 80:case 82:if(usub64(f,Ec)>=2){
+switch(Fc[1]){
+case 70:case 65:Ac=1;
 goto L23;
 default:break;}}
 break;
 default:break;}}
-Cc=r8(c+472);
-if(r8(c+576)>vc){
-Dc=yc;
-Ec=xc;
-Fc=vc;}
+Gc=r8(c+472);
+if(r8(c+576)>zc){
+Hc=Cc;
+Ic=Bc;
+Jc=zc;}
 else{
-Gc=make_ready_9a1(c+544);
-if(!(Gc&1)){
-wc=0;
+Kc=make_ready_9a1(c+544);
+if(!(Kc&1)){
+Ac=0;
 goto L23;}
-Hc=r8(c+552);
-Dc=Hc*44;
-Ec=rp(c+544);
-Fc=Hc;}
-Ic=Ec+Dc;
-*Ic=25;
-Ic[1]=0;
-x2(Ic+2,0);
-x4(Ic+4,Cc);
-z36(Ic+8);
-w8(c+552,Fc+1);
-wc=1;}
-L23:*D=wc;
-D[1]=0;
-D[2]=0;
-D[3]=0;
+Lc=r8(c+552);
+Hc=Lc*44;
+Ic=rp(c+544);
+Jc=Lc;}
+Mc=Ic+Hc;
+*Mc=25;
+Mc[1]=0;
+x2(Mc+2,0);
+x4(Mc+4,Gc);
+z36(Mc+8);
+w8(c+552,Jc+1);
+Ac=1;}
+L23:*E=Ac;
+E[1]=0;
+E[2]=0;
+E[3]=0;
 goto L20;}
-hc=0;
-ic=0;
-jc=0;
-kc=1;
+lc=0;
+mc=0;
+nc=0;
+oc=1;
 break;}
-*D=kc;
-D[1]=jc;
-D[2]=ic;
-D[3]=hc;
+*E=oc;
+E[1]=nc;
+E[2]=mc;
+E[3]=lc;
 L20:break;
 case 4:w4(i,0);
 z20(j+20);
 if(!(c[600]&1)){
-Jc=r4(c+584);
-Kc=c[603];
-Lc=r8(c+472);
-Mc=r8(c+512);
-if(r8(c+536)>Mc)Nc=Mc;
+Nc=r4(c+584);
+Oc=c[603];
+Pc=r8(c+472);
+Qc=r8(c+512);
+if(r8(c+536)>Qc)Rc=Qc;
 else{
-Oc=make_ready_17a(c+504);
-if(!(Oc&1)){
-w4(D,0);
+Sc=make_ready_17a(c+504);
+if(!(Sc&1)){
+w4(E,0);
 goto L24;}
-Nc=r8(c+512);}
-Pc=rp(c+504)+Nc*12;
-x4(Pc,Jc);
-x4(Pc+4,Lc);
-Pc[8]=0;
-Pc[9]=Kc;
-x2(Pc+10,0);
-w8(c+512,Nc+1);}
-Qc=r8(c+640);
-if(Qc<f){
-if(*(e+Qc)==73){
+Rc=r8(c+512);}
+Tc=rp(c+504)+Rc*12;
+x4(Tc,Nc);
+x4(Tc+4,Pc);
+Tc[8]=0;
+Tc[9]=Oc;
+x2(Tc+10,0);
+w8(c+512,Rc+1);}
+Uc=r8(c+640);
+if(Uc<f){
+if(*(e+Uc)==73){
 memcpy(j,c+584,20);
-Rc=r8(c+472);
-if(r8(c+496)>Rc)Sc=Rc;
+Vc=r8(c+472);
+if(r8(c+496)>Vc)Wc=Vc;
 else{
-Tc=make_ready_8e3(c+464,1,16);
-if(!(Tc&1)){
-Uc=0;
-Vc=0;
+Xc=make_ready_8e3(c+464,1,16);
+if(!(Xc&1)){
+Yc=0;
+Zc=0;
 goto L25;}
-Sc=r8(c+472);}
-*(rp(c+464)+Sc)=60;
-w8(c+472,Sc+1);
-Wc=r8(c+640);
-if(Wc==18446744073709551615u){
-Uc=0;
-Vc=0;}
+Wc=r8(c+472);}
+*(rp(c+464)+Wc)=60;
+w8(c+472,Wc+1);
+ad=r8(c+640);
+if(ad==18446744073709551615u){
+Yc=0;
+Zc=0;}
 else{
-w8(c+640,Wc+1);
-Xc=r8(c+552);
-if(r8(c+576)>Xc)Yc=Xc;
+w8(c+640,ad+1);
+bd=r8(c+552);
+if(r8(c+576)>bd)cd=bd;
 else{
-Zc=make_ready_9a1(c+544);
-if(!(Zc&1)){
-Uc=0;
-Vc=0;
+dd=make_ready_9a1(c+544);
+if(!(dd&1)){
+Yc=0;
+Zc=0;
 goto L25;}
-Yc=r8(c+552);}
-ad=rp(c+544)+Yc*44;
-*ad=6;
-ad[1]=0;
-x2(ad+2,0);
-memcpy(ad+4,j,40);
-w8(c+552,Yc+1);
-Uc=3;
-Vc=1;}
-L25:*D=Vc;
-D[1]=Uc;
-D[2]=Vc;
-D[3]=0;
+cd=r8(c+552);}
+ed=rp(c+544)+cd*44;
+*ed=6;
+ed[1]=0;
+x2(ed+2,0);
+memcpy(ed+4,j,40);
+w8(c+552,cd+1);
+Yc=3;
+Zc=1;}
+L25:*E=Zc;
+E[1]=Yc;
+E[2]=Zc;
+E[3]=0;
 goto L24;}}
 components_at_f93(i,c+464,e,f);
-*D=*i;
-D[1]=i[1];
-D[2]=i[2];
-D[3]=i[3];
+*E=*i;
+E[1]=i[1];
+E[2]=i[2];
+E[3]=i[3];
 L24:break;
 case 5:w4(h,0);
-bd=r8(c+640);
-if(bd<f){
-if(*(e+bd)==69){
+fd=r8(c+640);
+if(fd<f){
+if(*(e+fd)==69){
 nest_ended_003(h,c+464,e,f);
-*D=*h;
-D[1]=h[1];
-D[2]=h[2];
-D[3]=h[3];
+*E=*h;
+E[1]=h[1];
+E[2]=h[2];
+E[3]=h[3];
 goto L26;}}
 if(!(c[600]&1)){
-cd=r4(c+584);
-dd=c[603];
-ed=r8(c+472);
-fd=r8(c+512);
-if(r8(c+536)>fd)gd=fd;
+gd=r4(c+584);
+hd=c[603];
+id=r8(c+472);
+jd=r8(c+512);
+if(r8(c+536)>jd)kd=jd;
 else{
-hd=make_ready_17a(c+504);
-if(!(hd&1)){
-w4(D,0);
+ld=make_ready_17a(c+504);
+if(!(ld&1)){
+w4(E,0);
 goto L26;}
-gd=r8(c+512);}
-id=rp(c+504)+gd*12;
-x4(id,cd);
-x4(id+4,ed);
-id[8]=0;
-id[9]=dd;
-x2(id+10,0);
-w8(c+512,gd+1);}
+kd=r8(c+512);}
+md=rp(c+504)+kd*12;
+x4(md,gd);
+x4(md+4,id);
+md[8]=0;
+md[9]=hd;
+x2(md+10,0);
+w8(c+512,kd+1);}
 components_at_f93(h,c+464,e,f);
-*D=*h;
-D[1]=h[1];
-D[2]=h[2];
-D[3]=h[3];
+*E=*h;
+E[1]=h[1];
+E[2]=h[2];
+E[3]=h[3];
 L26:break;
-case 6:components_at_f93(D,c+464,e,f);
+case 6:components_at_f93(E,c+464,e,f);
 break;
 default:NEVER;
 }
-jd=ua+1;
-if(*D!=1||jd==ta)goto L1;
-ua=jd;
-va=D[3];
-wa=D[2];
-xa=D[1];
+nd=va+1;
+if(*E!=1||nd==ua)goto L1;
+va=nd;
+wa=E[3];
+xa=E[2];
+ya=E[1];
 goto L13;}}}
 ;}
 L1:if(r8(c+472)==0)goto L27;
@@ -75086,5103 +74960,5187 @@ c[636]=0;
 z16(c+528);
 z16(c+568);}
 else{
-kd=write_less_2c7(c+1504,e,f,L,0,M);
-if(kd){
-ld=rp(c+1504);
-md=r8(c+1512);
-nd=r8(g+16);
-od=r8(g+8);
-if(md>nd-od){
-pd=grow_amortized_68b(g,md);
-if(!pd){
-Fa=1;
-Ga=4;
-Ha=0;
+od=write_less_2c7(c+1504,e,f,M,0,N);
+if(od){
+pd=rp(c+1504);
+qd=r8(c+1512);
+sd=r8(g+16);
+td=r8(g+8);
+if(qd>sd-td){
+ud=grow_amortized_68b(g,qd);
+if(!ud){
+Ga=1;
+Ha=4;
+Ia=0;
 goto L15;}
-qd=r8(g+16);
-sd=r8(g+8);}
+vd=r8(g+16);
+xd=r8(g+8);}
 else{
-qd=nd;
-sd=od;}
-td=sd+md;
-ud=rp(g);
+vd=sd;
+xd=td;}
+yd=xd+qd;
+zd=rp(g);
 z16(g+8);
-vd=ud+(i64)sd;
-if((u64)vd-(u64)ld<md)copy_bits_4f4(ld,vd,md);
-else memmove(vd,ld,md);
-wp(g,ud);
-w8(g+8,td);
-w8(g+16,qd);
-Fa=0;
+Ad=zd+(i64)xd;
+if((u64)Ad-(u64)pd<qd)copy_bits_4f4(pd,Ad,qd);
+else memmove(Ad,pd,qd);
+wp(g,zd);
+w8(g+8,yd);
+w8(g+16,vd);
 Ga=0;
 Ha=0;
+Ia=0;
 goto L15;}}
-z12(J);
-z96(H);
-xd=r8(c+664);
-if(!((f<xd)|((xd&4294967295u)==0))){
-yd=parts_equal_58b(e,xd,rp(c+656),xd);
-if(yd){
-read_on_907(H,c,e+(i64)xd,f-xd);
+z12(K);
+z96(I);
+Bd=r8(c+664);
+if(!((f<Bd)|((Bd&4294967295u)==0))){
+Cd=parts_equal_58b(e,Bd,rp(c+656),Bd);
+if(Cd){
+read_on_907(I,c,e+(i64)Bd,f-Bd);
 goto L28;}}
-z12(G);
+z12(H);
 x4(c+24,0);
 x4(c+28,0);
 if(r8(c+40)!=0)w8(c+40,0);
 if(r8(c+64)!=0)w8(c+64,0);
 w8(c+80,0);
 w4(c+88,0);
-run_f89(G,c+24,e,f,1);
-if(*G==0){
+run_f89(H,c+24,e,f,1);
+if(*H==0){
 if(r8(c+8)!=0)w8(c+8,0);
-zd=r8(c+16);
-if(f>zd){
-Ad=grow_amortized_68b(c,f);
-if(!Ad){
-Dd=4;
-Ed=0;
+Dd=r8(c+16);
+if(f>Dd){
+Ed=grow_amortized_68b(c,f);
+if(!Ed){
+Hd=4;
+Id=0;
 goto L29;}
-Bd=r8(c+16);
-Cd=r8(c+8);}
+Fd=r8(c+16);
+Gd=r8(c+8);}
 else{
-Bd=zd;
-Cd=0;}
-Fd=Cd+f;
-Gd=rp(c);
+Fd=Dd;
+Gd=0;}
+Jd=Gd+f;
+Kd=rp(c);
 z16(c+8);
-Hd=Gd+(i64)Cd;
-if((u64)Hd-(u64)e<f)copy_bits_4f4(e,Hd,f);
-else memmove(Hd,e,f);
-wp(c,Gd);
-w8(c+8,Fd);
-w8(c+16,Bd);
-link_2bc(H,c);
+Ld=Kd+(i64)Gd;
+if((u64)Ld-(u64)e<f)copy_bits_4f4(e,Ld,f);
+else memmove(Ld,e,f);
+wp(c,Kd);
+w8(c+8,Jd);
+w8(c+16,Fd);
+link_2bc(I,c);
 goto L28;}
-Id=G[4];
-Jd=r4(G+8);
+Md=H[4];
+Nd=r4(H+8);
 x4(c+24,0);
 x4(c+28,0);
 if(r8(c+40)!=0)w8(c+40,0);
 if(r8(c+64)!=0)w8(c+64,0);
 w8(c+80,0);
 w4(c+88,0);
-Dd=Id;
-Ed=Jd;
-L29:Kd=1;
-Ld=Dd;
-Md=Ed;
+Hd=Md;
+Id=Nd;
+L29:Od=1;
+Pd=Hd;
+Qd=Id;
 goto L30;
-L28:Nd=r4(H+8);
-Od=*H;
-Pd=H[4];
-memcpy(K,H+12,84);
-if(Od==0){
-w4(I,Nd);
-memcpy(I+4,K,84);
-print_07f(J,c,I,L,M,g);
-Qd=qp(c+96);
-Rd=qp(c+120);
-Sd=q8(c+136);
-Td=q8(c+112);
-memcpy(c+96,K+20,48);
-if(Td!=0)port_rattle_dealloc(Qd);
-if(Sd!=0)port_rattle_dealloc(Rd);
-Ud=qp(c);
-Vd=q8(c+16);
-memcpy(c,I,24);
-if(Vd!=0)port_rattle_dealloc(Ud);
-Kd=*J;
-Ld=J[4];
-Md=r4(J+8);}
+L28:Rd=r4(I+8);
+Sd=*I;
+Td=I[4];
+memcpy(L,I+12,84);
+if(Sd==0){
+w4(J,Rd);
+memcpy(J+4,L,84);
+print_07f(K,c,J,M,N,g);
+Ud=qp(c+96);
+Vd=qp(c+120);
+Wd=q8(c+136);
+Xd=q8(c+112);
+memcpy(c+96,L+20,48);
+if(Xd!=0)port_rattle_dealloc(Ud);
+if(Wd!=0)port_rattle_dealloc(Vd);
+Yd=qp(c);
+Zd=q8(c+16);
+memcpy(c,J,24);
+if(Zd!=0)port_rattle_dealloc(Yd);
+Od=*K;
+Pd=K[4];
+Qd=r4(K+8);}
 else{
-Kd=1;
-Ld=Pd;
-Md=Nd;}
-L30:Fa=Kd;
-Ga=Ld;
-Ha=Md;}
+Od=1;
+Pd=Td;
+Qd=Rd;}
+L30:Ga=Od;
+Ha=Pd;
+Ia=Qd;}
 else{
-Wd=r4(b);
+ae=r4(b);
 switch(b[4]){
-case 0:case 2:z12(F);
-append_in_c46(F,c+768,e,f,Wd,0,g);
-Xd=r4(F+8);
-Yd=F[4];
-Zd=*F;
+case 0:case 2:z12(G);
+append_in_c46(G,c+768,e,f,ae,0,g);
+be=r4(G+8);
+ce=G[4];
+de=*G;
 break;
-case 1:case 3:z12(E);
-ae=write_brief_939(c+1696,e,f,Wd);
-if(ae){
-be=rp(c+1696);
-ce=r8(c+1704);
-de=r8(g+16);
-ee=r8(g+8);
-if(ce>de-ee){
-fe=grow_amortized_68b(g,ce);
-if(!fe){
-ie=0;
-je=4;
-ke=1;
+case 1:case 3:z12(F);
+ee=write_brief_939(c+1696,e,f,ae);
+if(ee){
+fe=rp(c+1696);
+ge=r8(c+1704);
+he=r8(g+16);
+ie=r8(g+8);
+if(ge>he-ie){
+je=grow_amortized_68b(g,ge);
+if(!je){
+me=0;
+ne=4;
+oe=1;
 goto L31;}
-ge=r8(g+16);
-he=r8(g+8);}
+ke=r8(g+16);
+le=r8(g+8);}
 else{
-ge=de;
-he=ee;}
-le=he+ce;
-me=rp(g);
+ke=he;
+le=ie;}
+pe=le+ge;
+qe=rp(g);
 z16(g+8);
-ne=me+(i64)he;
-if((u64)ne-(u64)be<ce)copy_bits_4f4(be,ne,ce);
-else memmove(ne,be,ce);
-wp(g,me);
-w8(g+8,le);
-w8(g+16,ge);
-ie=0;
-je=0;
-ke=0;}
+re=qe+(i64)le;
+if((u64)re-(u64)fe<ge)copy_bits_4f4(fe,re,ge);
+else memmove(re,fe,ge);
+wp(g,qe);
+w8(g+8,pe);
+w8(g+16,ke);
+me=0;
+ne=0;
+oe=0;}
 else{
-append_in_c46(E,c+768,e,f,Wd,1,g);
-ie=r4(E+8);
-je=E[4];
-ke=*E;}
-L31:Xd=ie;
-Yd=je;
-Zd=ke;
+append_in_c46(F,c+768,e,f,ae,1,g);
+me=r4(F+8);
+ne=F[4];
+oe=*F;}
+L31:be=me;
+ce=ne;
+de=oe;
 break;
 default:NEVER;
 }
-Fa=Zd;
-Ga=Yd;
-Ha=Xd;}
-L15:*a=Fa;
-x4(a+4,Ga);
-x4(a+8,Ha);
+Ga=de;
+Ha=ce;
+Ia=be;}
+L15:*a=Ga;
+x4(a+4,Ha);
+x4(a+8,Ia);
 return;
 }
 
 /* itanium::short_way::write_less */
 static u8 write_less_2c7(u8* a,u8* b,u64 c,u32 d,u8 e,u8 f)
 {
-u8 k[32],m[4],n[32],q[32],r[32],s[32],y[4],z[4],H[32],J[4],K[32],N[32],O[32],P[32],V[4],W[4],ea[32],ga[4],ha[32],ka[32],la[32],ma[32],sa[4],ta[4],Ca[32],Ea[4],Fa[32],Ia[32],Ja[32],Ka[32],Qa[4],Ra[4],ab[32],cb[4],db[32],gb[32],hb[32],ib[32],ob[4],pb[4],yb[32],Ab[4],Bb[32],Eb[32],Fb[32],Gb[32],Mb[4],Nb[4];
-A16 u8 g[4],h[4],i[40],j[4],l[4],o[6],p[32],t[4],u[4],v[4],w[32],x[32],A[4],B[4],C[4],D[4],E[4],F[40],G[4],I[4],L[6],M[32],Q[4],R[4],S[4],T[32],U[32],X[4],Y[4],Z[4],aa[4],ba[4],ca[40],da[4],fa[4],ia[6],ja[32],na[4],oa[4],pa[4],qa[32],ra[32],ua[4],va[4],wa[4],xa[4],ya[4],za[40],Aa[4],Ba[4],Da[4],Ga[6],Ha[32],La[4],Ma[4],Na[4],Oa[32],Pa[32],Sa[4],Ta[4],Ua[4],Va[4],Wa[4],Xa[40],Ya[4],Za[4],bb[4],eb[6],fb[32],jb[4],kb[4],lb[4],mb[32],nb[32],qb[4],rb[4],sb[4],tb[4],ub[4],vb[40],wb[4],xb[4],zb[4],Cb[6],Db[32],Hb[4],Ib[4],Jb[4],Kb[32],Lb[32],Ob[4],Pb[4],Qb[4];
-u64 Rb,Sb,Tb,Ub,Xb,Yb,ac,ec,fc,lc,mc,nc,yc,zc,Dc,Fc,Gc,Hc,Ic,Kc,Lc,Mc,Nc,Oc,Rc,Sc,Tc,Uc,Vc,Wc,Xc,ld,md,td,xd,yd,Gd,Hd,Jd,Md,Od,Qd,Rd,Ud,ae,he,je,oe,se,ue,ve,we,Be,De,Ee,Fe,He,Je,Le,Re,Ve,Xe,Ze,bf,kf,lf,of,pf,qf,uf,vf,wf,zf,Df,Ef,Hf,Jf,Kf,Mf,Qf,Rf,Xf,Yf,Zf,kg,lg,pg,Dg,Eg,Kg,Ng,Og,Wg,Xg,Zg,ch,eh,gh,hh,kh,qh,xh,zh,Eh,Ih,Kh,Lh,Mh,Rh,Th,Uh,Vh,Xh,Zh,bi,hi,li,ni,pi,ri,zi,Ai,Di,Ei,Fi,Ji,Ki,Li,Oi,Si,Ti,Wi,Yi,Zi,bj,fj,gj,mj,nj,oj,zj,Aj,Ej,Gj,Hj,Ij,Jj,Lj,Mj,Nj,Oj,Pj,Sj,Tj,Uj,Vj,Wj,Xj,lk,mk,sk,vk,wk,Ek,Fk,Hk,Kk,Mk,Ok,Pk,Sk,Yk,fl,hl,ml,ql,sl,tl,ul,zl,Bl,Cl,Dl,Fl,Hl,Jl,Pl,Tl,Vl,Xl,Zl,hm,im,lm,mm,nm,rm,sm,tm,wm,Am,Bm,Em,Gm,Hm,Jm,Nm,Om,Um,Vm,Wm,hn,in,mn,on,pn,qn,rn,tn,un,vn,wn,xn,An,Bn,Cn,Dn,En,Fn,Tn,Un,ao,eo,fo,no,oo,qo,to,vo,xo,yo,Bo,Ho,Oo,Qo,Vo,Zo,bp,gp,ip,jp,kp,np,pp,tp,yp,Ap,Dp,Fp,Hp,Mp,Np,Qp,Rp,Sp,Wp,Xp,Yp,bq,fq,gq,jq,lq,mq,oq,sq,tq,zq,Aq,Bq,Mq,Nq,Rq,fr,gr,mr,pr,qr,yr,zr,Br,Er,Gr,Ir,Jr,Mr,Sr,Zr,bs,gs,ks,ms,rs,ts,us,vs,xs,zs,Bs,Es,Gs,Js,Ls,Ns,Ss,Ts,Ws,Xs,Ys,ct,dt,et,ht,lt,mt,pt,rt,st,ut,yt,zt,Ft,Gt,Ht,St,Tt,Xt,Zt,au,bu,cu,eu,fu,gu,hu,iu,lu,mu,nu,ou,pu,qu,Eu,Fu,Lu,Ou,Pu,Xu,Yu,av,dv,fv,hv,iv,lv,rv,yv,Av,Fv,Jv,Lv,Qv,Sv,Tv,Uv,Wv,Yv,aw,dw,fw,iw,kw,mw,rw,sw,vw,ww,xw,Bw,Cw,Dw,Gw,Kw,Lw,Ow;
-u8 Vb,Wb,cc,dc,gc,hc,ic,jc,kc,qc,rc,sc,tc,uc,vc,wc,xc,Ac,Bc,Cc,Yc,ad,bd,gd,id,jd,kd,nd,od,pd,qd,sd,vd,Ad,Bd,Cd,Ed,Fd,Id,Ld,Nd,Pd,Td,Vd,Wd,Xd,Zd,be,de,ee,fe,ge,ie,ke,le,me,ne,pe,qe,re,te,xe,ye,ze,Ae,Ie,Me,Ne,Oe,Pe,Te,Ye,cf,df,ef,ff,hf,mf,rf,sf,tf,xf,Bf,Ff,If,Of,Pf,Sf,Tf,Uf,Vf,Wf,cg,dg,eg,fg,gg,hg,ig,jg,mg,ng,og,qg,sg,tg,yg,Ag,Bg,Cg,Fg,Gg,Hg,Ig,Jg,Mg,Qg,Rg,Sg,Ug,Vg,Yg,bh,dh,fh,jh,lh,mh,nh,ph,rh,th,uh,vh,wh,yh,Ah,Bh,Ch,Dh,Fh,Gh,Hh,Jh,Nh,Oh,Ph,Qh,Yh,ci,di,ei,fi,ji,oi,si,ti,ui,vi,xi,Bi,Gi,Hi,Ii,Mi,Qi,Ui,Xi,dj,ej,hj,ij,jj,kj,lj,rj,sj,tj,uj,vj,wj,xj,yj,Bj,Cj,Dj,Yj,ak,bk,gk,ik,jk,kk,nk,ok,pk,qk,rk,uk,yk,zk,Ak,Ck,Dk,Gk,Jk,Lk,Nk,Rk,Tk,Uk,Vk,Xk,Zk,bl,cl,dl,el,gl,il,jl,kl,ll,nl,ol,pl,rl,vl,wl,xl,yl,Gl,Kl,Ll,Ml,Nl,Rl,Wl,am,bm,cm,dm,fm,jm,om,pm,qm,um,ym,Cm,Fm,Lm,Mm,Pm,Qm,Rm,Sm,Tm,Zm,an,bn,cn,dn,en,fn,gn,jn,kn,ln,Gn,In,Jn,On,Qn,Rn,Sn,Vn,Wn,Xn,Yn,Zn,co,ho,io,jo,lo,mo,po,so,uo,wo,Ao,Co,Do,Eo,Go,Io,Ko,Lo,Mo,No,Po,Ro,So,To,Uo,Wo,Xo,Yo,ap,cp,dp,ep,fp,op,up,Gp,Kp,Op,Tp,Up,Vp,Zp,dq,hq,kq,qq,rq,uq,vq,wq,xq,yq,Eq,Fq,Gq,Hq,Iq,Jq,Kq,Lq,Oq,Pq,Qq,Sq,Uq,Vq,ar,cr,dr,er,hr,ir,jr,kr,lr,or,sr,tr,ur,wr,xr,Ar,Dr,Fr,Hr,Lr,Nr,Or,Pr,Rr,Tr,Vr,Wr,Xr,Yr,as,cs,ds,es,fs,hs,is,js,ls,ns,os,ps,qs,ys,Cs,Ms,Qs,Us,Zs,at,bt,ft,jt,nt,qt,wt,xt,At,Bt,Ct,Dt,Et,Kt,Lt,Mt,Nt,Ot,Pt,Qt,Rt,Ut,Vt,Wt,ru,tu,uu,zu,Bu,Cu,Du,Gu,Hu,Iu,Ju,Ku,Nu,Ru,Su,Tu,Vu,Wu,Zu,cv,ev,gv,kv,mv,nv,ov,qv,sv,uv,vv,wv,xv,zv,Bv,Cv,Dv,Ev,Gv,Hv,Iv,Kv,Mv,Nv,Ov,Pv,Xv,bw,lw,pw,tw,yw,zw,Aw,Ew,Iw,Mw,Pw;
-v16 Zb,bc,Lf,Nf,aj,cj,Im,Km,nq,pq,tt,vt;
-u8 *oc,*pc,*Ec,*Pc,*Qc,*Zc,*ce,*Ce,*Ge,*Ke,*Qe,*Se,*We,*af,*nf,*yf,*Gf,*ag,*bg,*rg,*sh,*Sh,*Wh,*ai,*gi,*ii,*mi,*qi,*Ci,*Ni,*Vi,*pj,*qj,*Fj,*Qj,*Rj,*Zj,*al,*Al,*El,*Il,*Ol,*Ql,*Ul,*Yl,*km,*vm,*Dm,*Xm,*Ym,*nn,*yn,*zn,*Hn,*Jo,*hp,*lp,*sp,*vp,*zp,*Bp,*Ep,*Ip,*Pp,*aq,*iq,*Cq,*Dq,*Tq,*Ur,*ss,*ws,*As,*Ds,*Fs,*Hs,*Ks,*Os,*Vs,*gt,*ot,*It,*Jt,*Yt,*ju,*ku,*su,*tv,*Rv,*Vv,*Zv,*cw,*ew,*gw,*jw,*nw,*uw,*Fw,*Nw;
-u16 Jc,ed,hd,wg,zg,Kj,ek,hk,sn,Mn,Pn,Yq,br,du,xu,Au;
-u32 cd,dd,fd,ud,zd,Dd,Kd,Sd,Yd,Ue,gf,jf,Af,Cf,ug,vg,xg,Lg,Pg,Tg,ah,ih,oh,ki,wi,yi,Pi,Ri,ck,dk,fk,tk,xk,Bk,Ik,Qk,Wk,Sl,em,gm,xm,zm,Kn,Ln,Nn,bo,go,ko,ro,zo,Fo,Cp,Jp,Lp,cq,eq,Wq,Xq,Zq,nr,rr,vr,Cr,Kr,Qr,Is,Ps,Rs,it,kt,vu,wu,yu,Mu,Qu,Uu,bv,jv,pv,hw,ow,qw,Hw,Jw;
-Rb=umin64(d>>2,(c<<5)+1024);
+u8 k[32],m[4],n[32],o[32],p[32],r[32],z[4],A[4],I[32],K[4],L[32],M[32],N[32],P[32],X[4],Y[4],ga[32],ia[4],ja[32],ka[32],la[32],na[32],va[4],wa[4],Fa[32],Ha[4],Ia[32],Ja[32],Ka[32],Ma[32],Ua[4],Va[4],eb[32],gb[4],hb[32],ib[32],jb[32],lb[32],tb[4],ub[4],Db[32],Fb[4],Gb[32],Hb[32],Ib[32],Kb[32],Sb[4],Tb[4];
+A16 u8 g[4],h[4],i[40],j[4],l[4],q[4],s[6],t[32],u[4],v[4],w[4],x[32],y[32],B[4],C[4],D[4],E[4],F[4],G[40],H[4],J[4],O[4],Q[6],R[32],S[4],T[4],U[4],V[32],W[32],Z[4],aa[4],ba[4],ca[4],da[4],ea[40],fa[4],ha[4],ma[4],oa[6],pa[32],qa[4],ra[4],sa[4],ta[32],ua[32],xa[4],ya[4],za[4],Aa[4],Ba[4],Ca[40],Da[4],Ea[4],Ga[4],La[4],Na[6],Oa[32],Pa[4],Qa[4],Ra[4],Sa[32],Ta[32],Wa[4],Xa[4],Ya[4],Za[4],ab[4],bb[40],cb[4],db[4],fb[4],kb[4],mb[6],nb[32],ob[4],pb[4],qb[4],rb[32],sb[32],vb[4],wb[4],xb[4],yb[4],zb[4],Ab[40],Bb[4],Cb[4],Eb[4],Jb[4],Lb[6],Mb[32],Nb[4],Ob[4],Pb[4],Qb[32],Rb[32],Ub[4],Vb[4],Wb[4];
+u64 Xb,Yb,Zb,ac,dc,ec,gc,kc,lc,rc,sc,tc,Ec,Fc,Jc,Lc,Mc,Nc,Oc,Qc,Rc,Sc,Tc,Uc,Xc,Yc,Zc,ad,bd,cd,dd,vd,xd,Dd,Gd,Hd,Pd,Qd,Sd,Vd,Xd,Zd,ae,de,je,qe,se,xe,Be,De,Ee,Fe,Ke,Me,Ne,Oe,Qe,Se,Ue,af,ef,gf,jf,lf,tf,uf,xf,yf,zf,Df,Ef,Ff,If,Mf,Nf,Qf,Sf,Tf,Vf,Zf,ag,gg,hg,ig,tg,ug,yg,Pg,Qg,Wg,Zg,ah,ih,jh,lh,oh,qh,sh,th,wh,Ch,Jh,Lh,Qh,Uh,Wh,Xh,Yh,di,fi,gi,hi,ji,li,ni,ti,xi,zi,Bi,Di,Li,Mi,Pi,Qi,Ri,Vi,Wi,Xi,aj,ej,fj,ij,kj,lj,nj,rj,sj,yj,zj,Aj,Lj,Mj,Qj,Sj,Tj,Uj,Vj,Xj,Yj,Zj,ak,bk,ek,fk,gk,hk,ik,jk,Ak,Bk,Hk,Kk,Lk,Tk,Uk,Wk,Zk,bl,dl,el,hl,nl,ul,wl,Bl,Fl,Hl,Il,Jl,Ol,Ql,Rl,Sl,Ul,Wl,Yl,em,im,km,mm,om,wm,xm,Am,Bm,Cm,Gm,Hm,Im,Lm,Pm,Qm,Tm,Vm,Wm,Ym,cn,dn,jn,kn,ln,wn,xn,Bn,Dn,En,Fn,Gn,In,Jn,Kn,Ln,Mn,Pn,Qn,Rn,Sn,Tn,Un,mo,no,to,wo,xo,Fo,Go,Io,Lo,No,Po,Qo,To,Zo,gp,ip,op,up,yp,Dp,Fp,Gp,Hp,Jp,Lp,Np,Qp,Sp,Vp,Xp,Zp,eq,fq,iq,jq,kq,oq,pq,qq,tq,xq,yq,Bq,Dq,Eq,Gq,Kq,Lq,Rq,Sq,Tq,er,fr,jr,Ar,Br,Hr,Kr,Lr,Tr,Ur,Wr,Zr,bs,ds,es,hs,ns,us,ws,Bs,Fs,Hs,Ms,Os,Ps,Qs,Ss,Us,Ws,Zs,bt,et,gt,it,nt,ot,rt,st,tt,xt,yt,zt,Ct,Gt,Ht,Kt,Mt,Nt,Pt,Tt,Ut,au,bu,cu,nu,ou,su,uu,vu,wu,xu,zu,Au,Bu,Cu,Du,Gu,Hu,Iu,Ju,Ku,Lu,cv,dv,jv,mv,nv,vv,wv,yv,Bv,Dv,Fv,Gv,Jv,Pv,Wv,Yv,dw,hw,jw,ow,qw,rw,sw,uw,ww,yw,Bw,Dw,Gw,Iw,Kw,Pw,Qw,Tw,Uw,Vw,Zw,ax,bx,ex,ix,jx,mx;
+u8 bc,cc,ic,jc,mc,nc,oc,pc,qc,wc,xc,yc,zc,Ac,Bc,Cc,Dc,Gc,Hc,Ic,ed,gd,hd,md,od,pd,qd,sd,td,ud,yd,zd,Ad,Bd,Cd,Fd,Jd,Kd,Ld,Nd,Od,Rd,Ud,Wd,Yd,ce,ee,fe,ge,ie,ke,me,ne,oe,pe,re,te,ue,ve,we,ye,ze,Ae,Ce,Ge,He,Ie,Je,Re,Ve,We,Xe,Ye,cf,hf,mf,nf,of,pf,rf,vf,Af,Bf,Cf,Gf,Kf,Of,Rf,Xf,Yf,bg,cg,dg,eg,fg,lg,mg,ng,og,pg,qg,rg,sg,vg,wg,xg,zg,Bg,Cg,Hg,Jg,Kg,Lg,Mg,Ng,Og,Rg,Sg,Tg,Ug,Vg,Yg,ch,dh,eh,gh,hh,kh,nh,ph,rh,vh,xh,yh,zh,Bh,Dh,Fh,Gh,Hh,Ih,Kh,Mh,Nh,Oh,Ph,Rh,Sh,Th,Vh,Zh,ai,bi,ci,ki,oi,pi,qi,ri,vi,Ai,Ei,Fi,Gi,Hi,Ji,Ni,Si,Ti,Ui,Yi,cj,gj,jj,pj,qj,tj,uj,vj,wj,xj,Dj,Ej,Fj,Gj,Hj,Ij,Jj,Kj,Nj,Oj,Pj,kk,mk,nk,sk,uk,vk,wk,xk,yk,zk,Ck,Dk,Ek,Fk,Gk,Jk,Nk,Ok,Pk,Rk,Sk,Vk,Yk,al,cl,gl,il,jl,kl,ml,ol,ql,rl,sl,tl,vl,xl,yl,zl,Al,Cl,Dl,El,Gl,Kl,Ll,Ml,Nl,Vl,Zl,am,bm,cm,gm,lm,pm,qm,rm,sm,um,ym,Dm,Em,Fm,Jm,Nm,Rm,Um,an,bn,en,fn,gn,hn,in,on,pn,qn,rn,sn,tn,un,vn,yn,zn,An,Vn,Xn,Yn,eo,go,ho,io,jo,ko,lo,oo,po,qo,ro,so,vo,zo,Ao,Bo,Do,Eo,Ho,Ko,Mo,Oo,So,Uo,Vo,Wo,Yo,ap,cp,dp,ep,fp,hp,jp,kp,lp,np,pp,sp,tp,vp,zp,Ap,Bp,Cp,Kp,Op,Yp,cq,gq,lq,mq,nq,rq,vq,zq,Cq,Iq,Jq,Mq,Nq,Oq,Pq,Qq,Wq,Xq,Yq,Zq,ar,br,cr,dr,gr,hr,ir,kr,mr,nr,sr,ur,vr,wr,xr,yr,zr,Cr,Dr,Er,Fr,Gr,Jr,Nr,Or,Pr,Rr,Sr,Vr,Yr,as,cs,gs,is,js,ks,ms,os,qs,rs,ss,ts,vs,xs,ys,zs,As,Cs,Ds,Es,Gs,Is,Js,Ks,Ls,Ts,Xs,ht,lt,pt,ut,vt,wt,At,Et,It,Lt,Rt,St,Vt,Wt,Xt,Yt,Zt,fu,gu,hu,iu,ju,ku,lu,mu,pu,qu,ru,Mu,Ou,Pu,Uu,Wu,Xu,Yu,Zu,av,bv,ev,fv,gv,hv,iv,lv,pv,qv,rv,tv,uv,xv,Av,Cv,Ev,Iv,Kv,Lv,Mv,Ov,Qv,Sv,Tv,Uv,Vv,Xv,Zv,aw,bw,cw,ew,fw,gw,iw,kw,lw,mw,nw,vw,zw,Jw,Nw,Rw,Ww,Xw,Yw,cx,gx,kx,nx;
+v16 fc,hc,Uf,Wf,mj,oj,Xm,Zm,Fq,Hq,Ot,Qt;
+u8 *uc,*vc,*Kc,*Vc,*Wc,*fd,*le,*Le,*Pe,*Te,*Ze,*bf,*ff,*kf,*wf,*Hf,*Pf,*jg,*kg,*Ag,*Eh,*ei,*ii,*mi,*si,*ui,*yi,*Ci,*Oi,*Zi,*hj,*Bj,*Cj,*Rj,*ck,*dk,*lk,*pl,*Pl,*Tl,*Xl,*dm,*fm,*jm,*nm,*zm,*Km,*Sm,*mn,*nn,*Cn,*Nn,*On,*Wn,*bp,*Ep,*Ip,*Mp,*Pp,*Rp,*Tp,*Wp,*aq,*hq,*sq,*Aq,*Uq,*Vq,*lr,*ps,*Ns,*Rs,*Vs,*Ys,*at,*ct,*ft,*jt,*qt,*Bt,*Jt,*du,*eu,*tu,*Eu,*Fu,*Nu,*Rv,*pw,*tw,*xw,*Aw,*Cw,*Ew,*Hw,*Lw,*Sw,*dx,*lx;
+u16 Pc,kd,nd,Fg,Ig,Wj,qk,tk,Hn,bo,fo,qr,tr,yu,Su,Vu;
+u32 id,jd,ld,Ed,Id,Md,Td,be,he,df,qf,sf,Jf,Lf,Dg,Eg,Gg,Xg,bh,fh,mh,uh,Ah,wi,Ii,Ki,bj,dj,ok,pk,rk,Ik,Mk,Qk,Xk,fl,ll,hm,tm,vm,Mm,Om,Zn,ao,co,uo,yo,Co,Jo,Ro,Xo,Up,bq,dq,uq,wq,or,pr,rr,Ir,Mr,Qr,Xr,fs,ls,dt,kt,mt,Dt,Ft,Qu,Ru,Tu,kv,ov,sv,zv,Hv,Nv,Fw,Mw,Ow,fx,hx;
+Xb=umin64(d>>2,(c<<5)+1024);
 if(r8(a+8)!=0)w8(a+8,0);
-w8(a+24,Rb);
-Sb=r8(a+16);
-Tb=umin64(Sb,Rb);
-w8(a+32,Tb);
+w8(a+24,Xb);
+Yb=r8(a+16);
+Zb=umin64(Yb,Xb);
+w8(a+32,Zb);
 if(r8(a+48)!=0)w8(a+48,0);
-Ub=c&4294967295u;
-w8(a+64,Ub);
-w8(a+72,umin64(r8(a+56),Ub));
+ac=c&4294967295u;
+w8(a+64,ac);
+w8(a+72,umin64(r8(a+56),ac));
 if(r8(a+88)!=0)w8(a+88,0);
-w8(a+104,Ub);
-w8(a+112,umin64(r8(a+96),Ub));
+w8(a+104,ac);
+w8(a+112,umin64(r8(a+96),ac));
 a[172]=0;
-Vb=c>65536;
+bc=c>65536;
 if(e){
 switch(f){
-case 3:if(Vb)goto L1;
+case 3:if(bc)goto L1;
 if(c<16){
-Wb=are_few_named_14c(b,c);
-if(!Wb)goto L1;}
+cc=are_few_named_14c(b,c);
+if(!cc)goto L1;}
 else{
-Xb=c-16;
-if(Xb==0)goto L2;
-Yb=0;
-L3:Zb=v16_at(b+Yb);
-if((v16_ult(Zb,splat(33))|v16_eq(Zb,splat(127)))!=0)goto L1;
-ac=Yb+16;
-if(ac<Xb){
-Yb=ac;
+dc=c-16;
+if(dc==0)goto L2;
+ec=0;
+L3:fc=v16_at(b+ec);
+if((v16_ult(fc,splat(33))|v16_eq(fc,splat(127)))!=0)goto L1;
+gc=ec+16;
+if(gc<dc){
+ec=gc;
 goto L3;}
-L2:bc=v16_at(b+Xb);
-if((v16_ult(bc,splat(33))|v16_eq(bc,splat(127)))!=0)goto L1;}
-w4(Sa,0);
-w4(Ta,0);
+L2:hc=v16_at(b+dc);
+if((v16_ult(hc,splat(33))|v16_eq(hc,splat(127)))!=0)goto L1;}
+w4(Wa,0);
+w4(Xa,0);
 if(c!=0){
 if(c!=1&&*b==95){
 if(b[1]==90){
 if(c>=3){
-cc=b[2];
+ic=b[2];
 if(c<5){
-if(cc==90)goto L4;
-if((c!=3)&(cc==71)){
+if(ic==90)goto L4;
+if((c!=3)&(ic==71)){
 if(b[3]==86)goto L5;
 goto L6;}
-switch(cc){
+switch(ic){
 case 71:goto L6;
 case 84:if(c==3)goto L7;
 break;
 default:goto L8;
 }}
 else{
-switch(cc){
+switch(ic){
 case 90:goto L4;
 case 71:if(b[3]!=86)goto L6;
 if(b[4]!=90)goto L5;
-if(Tb<19){
-dc=make_ready_8e3(a,19,128);
-if(!(dc&1)){
-gc=0;
-hc=0;
-ic=0;
-jc=0;
+if(Zb<19){
+jc=make_ready_8e3(a,19,128);
+if(!(jc&1)){
+mc=0;
+nc=0;
+oc=0;
+pc=0;
 goto L9;}
-ec=r8(a+16);
-fc=r8(a+8);}
+kc=r8(a+16);
+lc=r8(a+8);}
 else{
-ec=Sb;
-fc=0;}
-if(ec-fc<19){
-kc=grow_amortized_68b(a,19);
-if(!kc){
-gc=0;
-hc=0;
-ic=0;
-jc=0;
+kc=Yb;
+lc=0;}
+if(kc-lc<19){
+qc=grow_amortized_68b(a,19);
+if(!qc){
+mc=0;
+nc=0;
+oc=0;
+pc=0;
 goto L9;}
-lc=r8(a+16);
-mc=r8(a+8);}
+rc=r8(a+16);
+sc=r8(a+8);}
 else{
-lc=ec;
-mc=fc;}
-nc=mc+19;
-oc=rp(a);
+rc=kc;
+sc=lc;}
+tc=sc+19;
+uc=rp(a);
 z16(a+8);
-pc=oc+(i64)mc;
-if((u64)pc-(u64)(u8*)t_c270<19)copy_bits_4f4((u8*)t_c270,pc,19);
-else memcpy(pc,(u8*)t_c270,19);
-wp(a,oc);
-w8(a+8,nc);
-w8(a+16,lc);
+vc=uc+(i64)sc;
+if((u64)vc-(u64)(u8*)t_c270<19)copy_bits_4f4((u8*)t_c270,vc,19);
+else memcpy(vc,(u8*)t_c270,19);
+wp(a,uc);
+w8(a+8,tc);
+w8(a+16,rc);
 w8(a+176,5);
-begin_encoding_8af(Qa,a,b,c);
-gc=Qa[3];
-hc=Qa[2];
-ic=Qa[1];
-jc=*Qa;
-L9:qc=gc;
-rc=hc;
-sc=ic;
-tc=jc;
+begin_encoding_8af(Ua,a,b,c);
+mc=Ua[3];
+nc=Ua[2];
+oc=Ua[1];
+pc=*Ua;
+L9:wc=mc;
+xc=nc;
+yc=oc;
+zc=pc;
 goto L10;
 case 84:break;
 default:goto L8;
 }}
 switch(b[3]){
-case 104:begin_thunk_cdf(Ta,a,b,c);
+case 104:begin_thunk_cdf(Xa,a,b,c);
 goto L11;
-case 118:begin_virtual_thunk_2ec(Ta,a,b,c);
+case 118:begin_virtual_thunk_2ec(Xa,a,b,c);
 goto L11;
-case 67:begin_table_89f(Ta,a);
+case 67:begin_table_89f(Xa,a);
 goto L11;
 default:break;}
-L7:begin_special_44d(Ta,a,b,c);
-L11:uc=Ta[3];
-vc=Ta[2];
-wc=Ta[1];
-xc=*Ta;
+L7:begin_special_44d(Xa,a,b,c);
+L11:Ac=Xa[3];
+Bc=Xa[2];
+Cc=Xa[1];
+Dc=*Xa;
 goto L12;
-L6:begin_clone_d83(Sa,a,b,c);
-uc=Sa[3];
-vc=Sa[2];
-wc=Sa[1];
-xc=*Sa;
+L6:begin_clone_d83(Wa,a,b,c);
+Ac=Wa[3];
+Bc=Wa[2];
+Cc=Wa[1];
+Dc=*Wa;
 goto L12;
-L5:begin_object_4cd(Sa,a,b,c);
-uc=Sa[3];
-vc=Sa[2];
-wc=Sa[1];
-xc=*Sa;
+L5:begin_object_4cd(Wa,a,b,c);
+Ac=Wa[3];
+Bc=Wa[2];
+Cc=Wa[1];
+Dc=*Wa;
 goto L12;
 L4:w8(a+176,3);
-begin_encoding_8af(Ra,a,b,c);
-qc=Ra[3];
-rc=Ra[2];
-sc=Ra[1];
-tc=*Ra;
-L10:uc=qc;
-vc=rc;
-wc=sc;
-xc=tc;
+begin_encoding_8af(Va,a,b,c);
+wc=Va[3];
+xc=Va[2];
+yc=Va[1];
+zc=*Va;
+L10:Ac=wc;
+Bc=xc;
+Cc=yc;
+Dc=zc;
 goto L12;}
 L8:w8(a+176,2);
-begin_encoding_8af(Sa,a,b,c);
-uc=Sa[3];
-vc=Sa[2];
-wc=Sa[1];
-xc=*Sa;
-L12:if(xc!=1)goto L1;
-yc=c<<3;
-zc=0;
-Ac=uc;
-Bc=vc;
-Cc=wc;
-L13:if(Cc==7){
-Dc=r8(a+8);
-if(Dc>Rb)goto L14;
-Ec=rp(a);
-if(Dc==0)goto L15;
+begin_encoding_8af(Wa,a,b,c);
+Ac=Wa[3];
+Bc=Wa[2];
+Cc=Wa[1];
+Dc=*Wa;
+L12:if(Dc!=1)goto L1;
+Ec=c<<3;
 Fc=0;
-Gc=0;
-Hc=0;
-L16:Ic=Fc;
-L17:if(Dc-Ic>15){
-Jc=cttz(v16_ult(v16_at(Ec+Ic),splat(3)),16);
-Kc=Ic+Jc;
-if(Jc>=16){
-Ic=Kc;
+Gc=Ac;
+Hc=Bc;
+Ic=Cc;
+L13:if(Ic==7){
+Jc=r8(a+8);
+if(Jc>Xb)goto L14;
+Kc=rp(a);
+if(Jc==0)goto L15;
+Lc=0;
+Mc=0;
+Nc=0;
+L16:Oc=Lc;
+L17:if(Jc-Oc>15){
+Pc=cttz(v16_ult(v16_at(Kc+Oc),splat(3)),16);
+Qc=Oc+Pc;
+if(Pc>=16){
+Oc=Qc;
 goto L17;}
-Lc=Kc;}
+Rc=Qc;}
 else{
-if(Ic>=Dc){
-Lc=Ic;
+if(Oc>=Jc){
+Rc=Oc;
 goto L18;}
-Mc=Ic;
-L19:if(*(Ec+Mc)>2){
-Nc=Mc+1;
-if(Nc!=Dc){
-Mc=Nc;
+Sc=Oc;
+L19:if(*(Kc+Sc)>2){
+Tc=Sc+1;
+if(Tc!=Jc){
+Sc=Tc;
 goto L19;}
-Lc=Dc;}
-else Lc=Mc;}
-L18:if(Hc==0){
-if(Gc<Fc){
-if(Lc!=Fc){
-Oc=Lc-Fc;
-Pc=Ec+(i64)Fc;
-Qc=Ec+(i64)Gc;
-Rc=0;
-L20:*(Qc+(i64)Rc)=*(Pc+(i64)Rc);
-Sc=Rc+1;
-if(Sc!=Oc){
-Rc=Sc;
+Rc=Jc;}
+else Rc=Sc;}
+L18:if(Nc==0){
+if(Mc<Lc){
+if(Rc!=Lc){
+Uc=Rc-Lc;
+Vc=Kc+(i64)Lc;
+Wc=Kc+(i64)Mc;
+Xc=0;
+L20:*(Wc+(i64)Xc)=*(Vc+(i64)Xc);
+Yc=Xc+1;
+if(Yc!=Uc){
+Xc=Yc;
 goto L20;}}}
-Tc=Gc-Fc+Lc;}
-else Tc=Gc;
-if(Lc!=Dc){
-switch(*(Ec+Lc)){
-case 1:Uc=Hc+1;
+Zc=Mc-Lc+Rc;}
+else Zc=Mc;
+if(Rc!=Jc){
+switch(*(Kc+Rc)){
+case 1:ad=Nc+1;
 break;
-case 2:Uc=usub64(Hc,1);
+case 2:ad=usub64(Nc,1);
 break;
 default:goto L1;
 }
-Vc=Lc+1;
-if(Vc<Dc){
-Fc=Vc;
-Gc=Tc;
-Hc=Uc;
+bd=Rc+1;
+if(bd<Jc){
+Lc=bd;
+Mc=Zc;
+Nc=ad;
 goto L16;}}
-if(r8(a+8)<=Tc)goto L15;
-Wc=Tc;
+if(r8(a+8)<=Zc)goto L15;
+cd=Zc;
 break;}
 w8(a+184,r8(a+184)+1);
-w4(Ua,0);
-switch(Cc){
-case 0:type_at_11d(Ua,a,b,c,0);
+w4(Ya,0);
+switch(Ic){
+case 0:type_at_11d(Ya,a,b,c,0);
 break;
-case 1:type_at_11d(Ua,a,b,c,1);
+case 1:type_at_11d(Ya,a,b,c,1);
 break;
-case 2:w4(Ma,0);
-w4(Na,0);
-z32(Oa);
-z32(Pa);
-Xc=r8(a+88);
-if(Xc==0)w4(Ua,0);
+case 2:w4(Qa,0);
+w4(Ra,0);
+z32(Sa);
+z32(Ta);
+dd=r8(a+88);
+if(dd==0)w4(Ya,0);
 else{
-Yc=Bc&1;
-Zc=rp(a+80)+(i64)(Xc*44);
-ad=Zc[-44];
-bd=Zc[-43];
-cd=q4(Zc-40);
-dd=q4(Zc-36);
-ed=q2(Zc-32);
-switch(ad){
-case 29:case 28:case 27:case 26:case 4:case 5:case 6:case 7:case 8:case 11:case 12:case 13:case 14:case 15:case 16:case 17:case 18:case 19:case 20:case 21:case 22:case 23:case 24:case 25:if(Ac&1){
-pass_dependent_3d7(Ma,a,b,c);
-*Ua=*Ma;
-Ua[1]=Ma[1];
-Ua[2]=Ma[2];
-Ua[3]=Ma[3];
+ed=Hc&1;
+fd=rp(a+80)+(i64)(dd*44);
+gd=fd[-44];
+hd=fd[-43];
+id=q4(fd-40);
+jd=q4(fd-36);
+kd=q2(fd-32);
+switch(gd){
+case 29:case 28:case 27:case 26:case 4:case 5:case 6:case 7:case 8:case 11:case 12:case 13:case 14:case 15:case 16:case 17:case 18:case 19:case 20:case 21:case 22:case 23:case 24:case 25:if(Gc&1){
+pass_dependent_3d7(Qa,a,b,c);
+*Ya=*Qa;
+Ya[1]=Qa[1];
+Ya[2]=Qa[2];
+Ya[3]=Qa[3];
 goto L21;}
-fd=q4(Zc-4);
-gd=dd;
-hd=dd>>16;
+ld=q4(fd-4);
+w4(Pa,0);
+switch(gd){
+case 22:returned_07a(Pa,a,b,c,hd&1);
+break;
+case 23:parameter_at_257(Pa,a,b,c,hd&1,0);
+break;
+case 24:array_ended_b9c(Pa,a,b,c,hd,id,jd);
+break;
+case 12:enclosing_parameter_fc1(Pa,a,b,c,id,jd);
+break;
+case 13:instance_parameter_240(Pa,a,b,c,hd,id,jd);
+break;
+case 11:w2(Ma,kd);
+memcpy(Ma+2,fd-30,26);
+x4(Ma+28,ld);
+enclosing_front_fa8(Pa,a,hd,id,jd,Ma);
+break;
+case 17:w4(Na,jd);
+w2(Na+4,kd);
+lambda_parameter_383(Pa,a,b,c,id,Na);
+break;
+case 18:member_parameter_7e4(Pa,a,b,c,id);
+break;
+case 15:w4(Oa,jd);
+w2(Oa+4,kd);
+memcpy(Oa+6,fd-30,26);
+addressed_front_54d(Pa,a,b,c,hd,id,Oa);
+break;
+case 16:addressed_parameter_2cf(Pa,a,b,c,id);
+break;
+case 14:*Pa=0;
+break;
+case 19:finish_8cd(Pa,a,b,c);
+break;
+case 20:derived_ended_aef(Pa,a,b,c);
+break;
+case 21:base_ended_299(Pa,a,b,c,id);
+break;
+case 29:enumerator_21c(Pa,a,b,c);
+break;
+case 26:case 25:case 28:md=jd;
+nd=ld;
 w4(La,0);
-switch(ad){
-case 22:returned_07a(La,a,b,c,bd&1);
+switch(gd){
+case 26:w2(Ia,jd>>16);
+w2(Ia+2,kd);
+memcpy(Ia+4,fd-30,26);
+w2(Ia+30,nd);
+argument_enumerator_87a(La,a,b,c,id,md,Ia);
 break;
-case 23:parameter_at_257(La,a,b,c,bd&1,0);
+case 25:w2(Ja,jd>>16);
+w2(Ja+2,kd);
+memcpy(Ja+4,fd-30,26);
+w2(Ja+30,nd);
+argument_ended_e71(La,a,b,c,id,md,Ja,ed);
 break;
-case 24:array_ended_b9c(La,a,b,c,bd,cd,dd);
+case 28:w2(Ka,jd>>16);
+w2(Ka+2,kd);
+memcpy(Ka+4,fd-30,26);
+w2(Ka+30,nd);
+element_ended_20b(La,a,b,c,id,md,Ka,ed);
 break;
-case 12:enclosing_parameter_fc1(La,a,b,c,cd,dd);
-break;
-case 13:instance_parameter_240(La,a,b,c,bd,cd,dd);
-break;
-case 11:w2(Fa,ed);
-memcpy(Fa+2,Zc-30,26);
-x4(Fa+28,fd);
-enclosing_front_fa8(La,a,bd,cd,dd,Fa);
-break;
-case 17:w4(Ga,dd);
-w2(Ga+4,ed);
-lambda_parameter_383(La,a,b,c,cd,Ga);
-break;
-case 18:member_parameter_7e4(La,a,b,c,cd);
-break;
-case 15:w4(Ha,dd);
-w2(Ha+4,ed);
-memcpy(Ha+6,Zc-30,26);
-addressed_front_54d(La,a,b,c,bd,cd,Ha);
-break;
-case 16:addressed_parameter_2cf(La,a,b,c,cd);
-break;
-case 14:*La=0;
-break;
-case 19:finish_8cd(La,a,b,c);
-break;
-case 20:derived_ended_aef(La,a,b,c);
-break;
-case 21:base_ended_299(La,a,b,c,cd);
-break;
-case 29:enumerator_21c(La,a,b,c);
-break;
-case 26:w2(Ia,hd);
-w2(Ia+2,ed);
-memcpy(Ia+4,Zc-30,26);
-w2(Ia+30,fd);
-argument_enumerator_87a(La,a,b,c,cd,gd,Ia);
-break;
-case 25:w2(Ja,hd);
-w2(Ja+2,ed);
-memcpy(Ja+4,Zc-30,26);
-w2(Ja+30,fd);
-argument_ended_e71(La,a,b,c,cd,gd,Ja,Yc);
-break;
-case 28:w2(Ka,hd);
-w2(Ka+2,ed);
-memcpy(Ka+4,Zc-30,26);
-w2(Ka+30,fd);
-element_ended_20b(La,a,b,c,cd,gd,Ka,Yc);
-break;
-case 27:case 10:case 9:case 8:case 4:case 5:case 6:case 7:*La=1;
-La[1]=3;
-La[2]=0;
-La[3]=0;
+case 27:*La=0;
 break;
 default:NEVER;
 }
-id=La[1];
-jd=La[2];
-kd=La[3];
-*Na=*La;
-Na[1]=id;
-Na[2]=jd;
-Na[3]=kd;
+od=La[1];
+pd=La[2];
+qd=La[3];
+*Pa=*La;
+Pa[1]=od;
+Pa[2]=pd;
+Pa[3]=qd;
+break;
+case 27:case 10:case 9:case 8:case 4:case 5:case 6:case 7:*Pa=1;
+Pa[1]=3;
+Pa[2]=0;
+Pa[3]=0;
+break;
+default:NEVER;
+}
+sd=Pa[1];
+td=Pa[2];
+ud=Pa[3];
+*Ra=*Pa;
+Ra[1]=sd;
+Ra[2]=td;
+Ra[3]=ud;
 goto L22;
-case 10:w4(Oa,dd);
-w2(Oa+4,ed);
-memcpy(Oa+6,Zc-30,26);
-parameter_ended_d3f(Na,a,b,c,cd,Oa);
+case 10:w4(Sa,jd);
+w2(Sa+4,kd);
+memcpy(Sa+6,fd-30,26);
+parameter_ended_d3f(Ra,a,b,c,id,Sa);
 goto L22;
-case 9:w4(Pa,dd);
-w2(Pa+4,ed);
-memcpy(Pa+6,Zc-30,26);
-front_ended_665(Na,a,b,c,bd,cd,Pa);
+case 9:w4(Ta,jd);
+w2(Ta+4,kd);
+memcpy(Ta+6,fd-30,26);
+front_ended_665(Ra,a,b,c,hd,id,Ta);
 goto L22;
-case 0:w8(a+88,Xc-1);
-ld=r8(a+8);
-if(r8(a+32)>ld)md=ld;
+case 0:w8(a+88,dd-1);
+vd=r8(a+8);
+if(r8(a+32)>vd)xd=vd;
 else{
-nd=make_ready_8e3(a,1,16);
-if(!(nd&1)){
-od=0;
-pd=0;
-qd=0;
-sd=0;
-goto L23;}
-md=r8(a+8);}
-*(rp(a)+md)=42;
-td=md+1;
-w8(a+8,td);
-ud=td;
-vd=Ac&1;
-xd=r8(a+48);
-if(r8(a+72)>xd){
-yd=xd;
-zd=ud;
+yd=make_ready_8e3(a,1,16);
+if(!(yd&1)){
+zd=0;
 Ad=0;
-Bd=vd;
-goto L24;}
-Cd=make_ready_17a(a+40);
-if(!(Cd&1)){
-od=0;
-pd=0;
-qd=0;
-sd=0;
+Bd=0;
+Cd=0;
 goto L23;}
-Dd=ud;
-Ed=0;
-Fd=vd;
+xd=r8(a+8);}
+*(rp(a)+xd)=42;
+Dd=xd+1;
+w8(a+8,Dd);
+Ed=Dd;
+Fd=Gc&1;
+Gd=r8(a+48);
+if(r8(a+72)>Gd){
+Hd=Gd;
+Id=Ed;
+Jd=0;
+Kd=Fd;
+goto L24;}
+Ld=make_ready_17a(a+40);
+if(!(Ld&1)){
+zd=0;
+Ad=0;
+Bd=0;
+Cd=0;
+goto L23;}
+Md=Ed;
+Nd=0;
+Od=Fd;
 break;
-case 1:if(Yc)goto L22;
-w8(a+88,Xc-1);
-Gd=r8(a+8);
-if(r8(a+32)>Gd)Hd=Gd;
+case 1:if(ed)goto L22;
+w8(a+88,dd-1);
+Pd=r8(a+8);
+if(r8(a+32)>Pd)Qd=Pd;
 else{
-Id=make_ready_8e3(a,1,16);
-if(!(Id&1)){
-od=0;
-pd=0;
-qd=0;
-sd=0;
-goto L23;}
-Hd=r8(a+8);}
-*(rp(a)+Hd)=38;
-Jd=Hd+1;
-w8(a+8,Jd);
-Kd=Jd;
-Ld=Ac&1;
-Md=r8(a+48);
-if(r8(a+72)>Md){
-yd=Md;
-zd=Kd;
-Ad=1;
-Bd=Ld;
-goto L24;}
-Nd=make_ready_17a(a+40);
-if(!(Nd&1)){
-od=0;
-pd=0;
-qd=0;
-sd=0;
-goto L23;}
-Dd=Kd;
-Ed=1;
-Fd=Ld;
-break;
-case 2:if(Yc)goto L22;
-w8(a+88,Xc-1);
-Od=r8(a+8);
-if(r8(a+32)-Od<2){
-Pd=make_ready_8e3(a,2,128);
-if(!(Pd&1)){
-od=0;
-pd=0;
-qd=0;
-sd=0;
+Rd=make_ready_8e3(a,1,16);
+if(!(Rd&1)){
+zd=0;
+Ad=0;
+Bd=0;
+Cd=0;
 goto L23;}
 Qd=r8(a+8);}
-else Qd=Od;
 *(rp(a)+Qd)=38;
-*(rp(a)+(i64)Qd+1)=38;
-Rd=Qd+2;
-w8(a+8,Rd);
-Sd=Rd;
-Td=Ac&1;
-Ud=r8(a+48);
-if(r8(a+72)>Ud){
-yd=Ud;
-zd=Sd;
-Ad=1;
-Bd=Td;
+Sd=Qd+1;
+w8(a+8,Sd);
+Td=Sd;
+Ud=Gc&1;
+Vd=r8(a+48);
+if(r8(a+72)>Vd){
+Hd=Vd;
+Id=Td;
+Jd=1;
+Kd=Ud;
 goto L24;}
-Vd=make_ready_17a(a+40);
-if(!(Vd&1)){
-od=0;
-pd=0;
-qd=0;
-sd=0;
-goto L23;}
-Dd=Sd;
-Ed=1;
-Fd=Td;
-break;
-case 3:if(Yc)goto L22;
-w8(a+88,Xc-1);
-if(r8(a+32)-r8(a+8)<6){
-Wd=make_ready_8e3(a,6,128);
+Wd=make_ready_17a(a+40);
 if(!(Wd&1)){
-od=0;
-pd=0;
-qd=0;
-sd=0;
-goto L23;}}
-Xd=extend_from_slice_674(a,(u8*)t_f603,6);
-if(Xd&1){
-od=0;
-pd=0;
-qd=0;
-sd=0;
-goto L23;}
-Yd=r8(a+8);
-Zd=Ac&1;
-ae=r8(a+48);
-if(r8(a+72)>ae){
-yd=ae;
-zd=Yd;
+zd=0;
 Ad=0;
-Bd=Zd;
-goto L24;}
-be=make_ready_17a(a+40);
-if(!(be&1)){
-od=0;
-pd=0;
-qd=0;
-sd=0;
+Bd=0;
+Cd=0;
 goto L23;}
-Dd=Yd;
-Ed=0;
-Fd=Zd;
+Md=Td;
+Nd=1;
+Od=Ud;
+break;
+case 2:if(ed)goto L22;
+w8(a+88,dd-1);
+Xd=r8(a+8);
+if(r8(a+32)-Xd<2){
+Yd=make_ready_8e3(a,2,128);
+if(!(Yd&1)){
+zd=0;
+Ad=0;
+Bd=0;
+Cd=0;
+goto L23;}
+Zd=r8(a+8);}
+else Zd=Xd;
+*(rp(a)+Zd)=38;
+*(rp(a)+(i64)Zd+1)=38;
+ae=Zd+2;
+w8(a+8,ae);
+be=ae;
+ce=Gc&1;
+de=r8(a+48);
+if(r8(a+72)>de){
+Hd=de;
+Id=be;
+Jd=1;
+Kd=ce;
+goto L24;}
+ee=make_ready_17a(a+40);
+if(!(ee&1)){
+zd=0;
+Ad=0;
+Bd=0;
+Cd=0;
+goto L23;}
+Md=be;
+Nd=1;
+Od=ce;
+break;
+case 3:if(ed)goto L22;
+w8(a+88,dd-1);
+if(r8(a+32)-r8(a+8)<6){
+fe=make_ready_8e3(a,6,128);
+if(!(fe&1)){
+zd=0;
+Ad=0;
+Bd=0;
+Cd=0;
+goto L23;}}
+ge=extend_from_slice_674(a,(u8*)t_f603,6);
+if(ge&1){
+zd=0;
+Ad=0;
+Bd=0;
+Cd=0;
+goto L23;}
+he=r8(a+8);
+ie=Gc&1;
+je=r8(a+48);
+if(r8(a+72)>je){
+Hd=je;
+Id=he;
+Jd=0;
+Kd=ie;
+goto L24;}
+ke=make_ready_17a(a+40);
+if(!(ke&1)){
+zd=0;
+Ad=0;
+Bd=0;
+Cd=0;
+goto L23;}
+Md=he;
+Nd=0;
+Od=ie;
 break;
 default:NEVER;
 }
-yd=r8(a+48);
-zd=Dd;
-Ad=Ed;
-Bd=Fd;
-L24:ce=rp(a+40)+yd*12;
-x4(ce,cd);
-x4(ce+4,zd);
-ce[8]=Ad;
-ce[9]=Bd;
-x2(ce+10,0);
-w8(a+48,yd+1);
-od=Bd;
-pd=Ad;
-qd=2;
-sd=1;
-L23:*Na=sd;
-Na[1]=qd;
-Na[2]=pd;
-Na[3]=od;
-L22:de=Na[1];
-ee=Na[2];
-fe=Na[3];
-*Ua=*Na;
-Ua[1]=de;
-Ua[2]=ee;
-Ua[3]=fe;}
+Hd=r8(a+48);
+Id=Md;
+Jd=Nd;
+Kd=Od;
+L24:le=rp(a+40)+Hd*12;
+x4(le,id);
+x4(le+4,Id);
+le[8]=Jd;
+le[9]=Kd;
+x2(le+10,0);
+w8(a+48,Hd+1);
+zd=Kd;
+Ad=Jd;
+Bd=2;
+Cd=1;
+L23:*Ra=Cd;
+Ra[1]=Bd;
+Ra[2]=Ad;
+Ra[3]=zd;
+L22:me=Ra[1];
+ne=Ra[2];
+oe=Ra[3];
+*Ya=*Ra;
+Ya[1]=me;
+Ya[2]=ne;
+Ya[3]=oe;}
 L21:break;
-case 3:ge=Bc&1;
-w4(Da,0);
-he=r8(a+176);
-if(he<c){
-ie=*(b+he);
-switch(ie){
-case 69:w4(Ba,0);
-w8(a+176,he+1);
-je=r8(a+88);
-if(je==0){
-ke=0;
-le=0;
-me=0;
-ne=0;}
+case 3:pe=Hc&1;
+w4(Ga,0);
+qe=r8(a+176);
+if(qe<c){
+re=*(b+qe);
+switch(re){
+case 69:w4(Ea,0);
+w8(a+176,qe+1);
+se=r8(a+88);
+if(se==0){
+te=0;
+ue=0;
+ve=0;
+we=0;}
 else{
-if(*(rp(a+80)+(i64)(je*44)-44)==27){
-if(ge){
-ke=0;
-le=0;
-me=0;
-ne=0;}
+if(*(rp(a+80)+(i64)(se*44)-44)==27){
+if(pe){
+te=0;
+ue=0;
+ve=0;
+we=0;}
 else{
-w8(a+88,je-1);
-ke=0;
-le=0;
-me=3;
-ne=1;}}
+w8(a+88,se-1);
+te=0;
+ue=0;
+ve=3;
+we=1;}}
 else{
-z32(Ca);
-close_list_3c2(Ba,a,b,c,Ca);
-ke=Ba[3];
-le=Ba[2];
-me=Ba[1];
-ne=*Ba;}}
-*Ua=ne;
-Ua[1]=me;
-Ua[2]=le;
-Ua[3]=ke;
+z32(Fa);
+close_list_3c2(Ea,a,b,c,Fa);
+te=Ea[3];
+ue=Ea[2];
+ve=Ea[1];
+we=*Ea;}}
+*Ya=we;
+Ya[1]=ve;
+Ya[2]=ue;
+Ya[3]=te;
 goto L25;
-case 74:oe=he+1;
-if(oe<c){
-if(*(b+oe)==69){
-empty_pack_ea9(Da,a,b,c,ge);
-*Ua=*Da;
-Ua[1]=Da[1];
-Ua[2]=Da[2];
-Ua[3]=Da[3];
+case 74:xe=qe+1;
+if(xe<c){
+if(*(b+xe)==69){
+empty_pack_ea9(Ga,a,b,c,pe);
+*Ya=*Ga;
+Ya[1]=Ga[1];
+Ya[2]=Ga[2];
+Ya[3]=Ga[3];
 goto L25;}}
-if(!ge){
-pe=74;
+if(!pe){
+ye=74;
 goto L26;}
-first_pack_117(Da,a,b,c);
-*Ua=*Da;
-Ua[1]=Da[1];
-Ua[2]=Da[2];
-Ua[3]=Da[3];
+first_pack_117(Ga,a,b,c);
+*Ya=*Ga;
+Ya[1]=Ga[1];
+Ya[2]=Ga[2];
+Ya[3]=Ga[3];
 goto L25;
-default:qe=ie;
+default:ze=re;
 break;}}
-else qe=0;
-if(ge){
-re=qe;
+else ze=0;
+if(pe){
+Ae=ze;
 goto L27;}
-pe=qe;
-L26:se=r8(a+8);
-if(r8(a+32)-se<2){
-te=make_ready_8e3(a,2,128);
-if(!(te&1)){
-w4(Ua,0);
+ye=ze;
+L26:Be=r8(a+8);
+if(r8(a+32)-Be<2){
+Ce=make_ready_8e3(a,2,128);
+if(!(Ce&1)){
+w4(Ya,0);
 goto L25;}
-ue=r8(a+8);}
-else ue=se;
-*(rp(a)+ue)=44;
-*(rp(a)+(i64)ue+1)=32;
-w8(a+8,ue+2);
-re=pe;
-L27:switch(re){
-case 88:ve=r8(a+176);
-if(ve==18446744073709551615u){
-w4(Ua,0);
+De=r8(a+8);}
+else De=Be;
+*(rp(a)+De)=44;
+*(rp(a)+(i64)De+1)=32;
+w8(a+8,De+2);
+Ae=ye;
+L27:switch(Ae){
+case 88:Ee=r8(a+176);
+if(Ee==18446744073709551615u){
+w4(Ya,0);
 goto L25;}
-we=ve+1;
-if(we<c){
-switch(*(b+we)){
-case 115:begin_level_398(Da,a,b,c);
-*Ua=*Da;
-Ua[1]=Da[1];
-Ua[2]=Da[2];
-Ua[3]=Da[3];
+Fe=Ee+1;
+if(Fe<c){
+switch(*(b+Fe)){
+case 115:begin_level_398(Ga,a,b,c);
+*Ya=*Ga;
+Ya[1]=Ga[1];
+Ya[2]=Ga[2];
+Ya[3]=Ga[3];
 goto L25;
-case 84:parameter_argument_7c8(Da,a,b,c);
-*Ua=*Da;
-Ua[1]=Da[1];
-Ua[2]=Da[2];
-Ua[3]=Da[3];
+case 84:parameter_argument_7c8(Ga,a,b,c);
+*Ya=*Ga;
+Ya[1]=Ga[1];
+Ya[2]=Ga[2];
+Ya[3]=Ga[3];
 goto L25;
 default:break;}}
 break;
-case 76:if(ge){
-first_literal_c8e(Da,a,b,c);
-*Ua=*Da;
-Ua[1]=Da[1];
-Ua[2]=Da[2];
-Ua[3]=Da[3];
+case 76:if(pe){
+first_literal_c8e(Ga,a,b,c);
+*Ya=*Ga;
+Ya[1]=Ga[1];
+Ya[2]=Ga[2];
+Ya[3]=Ga[3];
 goto L25;}
-literal_4a5(Ea,a,b,c);
-xe=Ea[3];
-ye=Ea[2];
-ze=Ea[1];
-Ae=*Ea;
+literal_4a5(Ha,a,b,c);
+Ge=Ha[3];
+He=Ha[2];
+Ie=Ha[1];
+Je=*Ha;
 goto L28;
-case 74:Be=r8(a+88);
-if(Be==0){
-xe=0;
-ye=0;
-ze=0;
-Ae=0;
+case 74:Ke=r8(a+88);
+if(Ke==0){
+Ge=0;
+He=0;
+Ie=0;
+Je=0;
 goto L28;}
-Ce=rp(a+80);
-De=Be*44;
-if(*(Ce+(i64)De-44)==27){
-xe=0;
-ye=0;
-ze=0;
-Ae=0;
+Le=rp(a+80);
+Me=Ke*44;
+if(*(Le+(i64)Me-44)==27){
+Ge=0;
+He=0;
+Ie=0;
+Je=0;
 goto L28;}
-Ee=r8(a+176);
-if(Ee==18446744073709551615u){
-xe=0;
-ye=0;
-ze=0;
-Ae=0;
+Ne=r8(a+176);
+if(Ne==18446744073709551615u){
+Ge=0;
+He=0;
+Ie=0;
+Je=0;
 goto L28;}
-w8(a+176,Ee+1);
-if(r8(a+112)>Be){
-Fe=De;
-Ge=Ce;
-He=Be;}
+w8(a+176,Ne+1);
+if(r8(a+112)>Ke){
+Oe=Me;
+Pe=Le;
+Qe=Ke;}
 else{
-Ie=make_ready_9a1(a+80);
-if(!(Ie&1)){
-xe=0;
-ye=0;
-ze=0;
-Ae=0;
+Re=make_ready_9a1(a+80);
+if(!(Re&1)){
+Ge=0;
+He=0;
+Ie=0;
+Je=0;
 goto L28;}
-Je=r8(a+88);
-Fe=Je*44;
-Ge=rp(a+80);
-He=Je;}
-Ke=Ge+Fe;
-*Ke=27;
-z43(Ke+1);
-w8(a+88,He+1);
-xe=0;
-ye=1;
-ze=3;
-Ae=1;
+Se=r8(a+88);
+Oe=Se*44;
+Pe=rp(a+80);
+Qe=Se;}
+Te=Pe+Oe;
+*Te=27;
+z43(Te+1);
+w8(a+88,Qe+1);
+Ge=0;
+He=1;
+Ie=3;
+Je=1;
 goto L28;
 default:break;}
-if(ge){
-Le=r8(a+88);
-if(Le==0){
-Me=0;
-Ne=0;
-Oe=0;
-Pe=1;}
+if(pe){
+Ue=r8(a+88);
+if(Ue==0){
+Ve=0;
+We=0;
+Xe=0;
+Ye=1;}
 else{
-Qe=rp(a+80);
-Re=Le*44;
-Se=Qe+(i64)Re;
-switch(Se[-44]){
-case 5:if(Se[-28]==0){
-Me=0;
-Ne=0;
-Oe=0;
-Pe=1;
+Ze=rp(a+80);
+af=Ue*44;
+bf=Ze+(i64)af;
+switch(bf[-44]){
+case 5:if(bf[-28]==0){
+Ve=0;
+We=0;
+Xe=0;
+Ye=1;
 goto L29;}
 break;
 case 7:break;
-case 0:case 1:case 2:case 3:case 4:case 6:case 8:case 9:case 10:case 11:case 12:case 13:case 14:case 15:case 16:case 17:case 18:case 19:case 20:case 21:case 22:case 23:case 24:case 25:case 26:case 27:case 28:case 29:Me=0;
-Ne=0;
-Oe=0;
-Pe=1;
+case 0:case 1:case 2:case 3:case 4:case 6:case 8:case 9:case 10:case 11:case 12:case 13:case 14:case 15:case 16:case 17:case 18:case 19:case 20:case 21:case 22:case 23:case 24:case 25:case 26:case 27:case 28:case 29:Ve=0;
+We=0;
+Xe=0;
+Ye=1;
 goto L29;
 default:NEVER;
 }
-Te=is_element_at_f4e(b,c,r8(a+176));
-if(Te){
-Me=0;
-Ne=0;
-Oe=0;
-Pe=1;}
+cf=is_element_at_f4e(b,c,r8(a+176));
+if(cf){
+Ve=0;
+We=0;
+Xe=0;
+Ye=1;}
 else{
-Ue=r8(a+8);
-if(r8(a+112)>Le){
-Ve=Re;
-We=Qe;
-Xe=Le;}
+df=r8(a+8);
+if(r8(a+112)>Ue){
+ef=af;
+ff=Ze;
+gf=Ue;}
 else{
-Ye=make_ready_9a1(a+80);
-if(!(Ye&1)){
-Me=0;
-Ne=0;
-Oe=0;
-Pe=0;
+hf=make_ready_9a1(a+80);
+if(!(hf&1)){
+Ve=0;
+We=0;
+Xe=0;
+Ye=0;
 goto L29;}
-Ze=r8(a+88);
-Ve=Ze*44;
-We=rp(a+80);
-Xe=Ze;}
-af=We+Ve;
-*af=25;
-af[1]=0;
-x2(af+2,0);
-x4(af+4,Ue);
-z36(af+8);
-w8(a+88,Xe+1);
-w4(Aa,0);
-bf=r8(a+176);
-if(bf<c){
-if(*(b+bf)==88){
-begin_address_731(Aa,a,b,c);
-cf=Aa[3];
-df=Aa[2];
-ef=Aa[1];
-ff=*Aa;}
+jf=r8(a+88);
+ef=jf*44;
+ff=rp(a+80);
+gf=jf;}
+kf=ff+ef;
+*kf=25;
+kf[1]=0;
+x2(kf+2,0);
+x4(kf+4,df);
+z36(kf+8);
+w8(a+88,gf+1);
+w4(Da,0);
+lf=r8(a+176);
+if(lf<c){
+if(*(b+lf)==88){
+begin_address_731(Da,a,b,c);
+mf=Da[3];
+nf=Da[2];
+of=Da[1];
+pf=*Da;}
 else{
-cf=0;
-df=0;
-ef=0;
-ff=1;}}
+mf=0;
+nf=0;
+of=0;
+pf=1;}}
 else{
-cf=0;
-df=0;
-ef=0;
-ff=1;}
-Me=cf;
-Ne=df;
-Oe=ef;
-Pe=ff;}}
-L29:*Ua=Pe;
-Ua[1]=Oe;
-Ua[2]=Ne;
-Ua[3]=Me;
+mf=0;
+nf=0;
+of=0;
+pf=1;}
+Ve=mf;
+We=nf;
+Xe=of;
+Ye=pf;}}
+L29:*Ya=Ye;
+Ya[1]=Xe;
+Ya[2]=We;
+Ya[3]=Ve;
 goto L25;}
-xe=0;
-ye=0;
-ze=0;
-Ae=1;
-L28:*Ua=Ae;
-Ua[1]=ze;
-Ua[2]=ye;
-Ua[3]=xe;
+Ge=0;
+He=0;
+Ie=0;
+Je=1;
+L28:*Ya=Je;
+Ya[1]=Ie;
+Ya[2]=He;
+Ya[3]=Ge;
 L25:break;
-case 4:w4(ya,0);
-z20(za+20);
+case 4:w4(Ba,0);
+z20(Ca+20);
 if(!(a[136]&1)){
-gf=r4(a+120);
-hf=a[139];
-jf=r8(a+8);
-kf=r8(a+48);
-if(r8(a+72)>kf)lf=kf;
+qf=r4(a+120);
+rf=a[139];
+sf=r8(a+8);
+tf=r8(a+48);
+if(r8(a+72)>tf)uf=tf;
 else{
-mf=make_ready_17a(a+40);
-if(!(mf&1)){
-w4(Ua,0);
+vf=make_ready_17a(a+40);
+if(!(vf&1)){
+w4(Ya,0);
 goto L30;}
-lf=r8(a+48);}
-nf=rp(a+40)+lf*12;
-x4(nf,gf);
-x4(nf+4,jf);
-nf[8]=0;
-nf[9]=hf;
-x2(nf+10,0);
-w8(a+48,lf+1);}
-of=r8(a+176);
-if(of<c){
-if(*(b+of)==73){
-memcpy(za,a+120,20);
-pf=r8(a+8);
-if(r8(a+32)>pf)qf=pf;
+uf=r8(a+48);}
+wf=rp(a+40)+uf*12;
+x4(wf,qf);
+x4(wf+4,sf);
+wf[8]=0;
+wf[9]=rf;
+x2(wf+10,0);
+w8(a+48,uf+1);}
+xf=r8(a+176);
+if(xf<c){
+if(*(b+xf)==73){
+memcpy(Ca,a+120,20);
+yf=r8(a+8);
+if(r8(a+32)>yf)zf=yf;
 else{
-rf=make_ready_8e3(a,1,16);
-if(!(rf&1)){
-sf=0;
-tf=0;
+Af=make_ready_8e3(a,1,16);
+if(!(Af&1)){
+Bf=0;
+Cf=0;
 goto L31;}
-qf=r8(a+8);}
-*(rp(a)+qf)=1;
-w8(a+8,qf+1);
-uf=r8(a+176);
-if(uf==18446744073709551615u){
-sf=0;
-tf=0;}
+zf=r8(a+8);}
+*(rp(a)+zf)=1;
+w8(a+8,zf+1);
+Df=r8(a+176);
+if(Df==18446744073709551615u){
+Bf=0;
+Cf=0;}
 else{
-w8(a+176,uf+1);
-vf=r8(a+88);
-if(r8(a+112)>vf)wf=vf;
+w8(a+176,Df+1);
+Ef=r8(a+88);
+if(r8(a+112)>Ef)Ff=Ef;
 else{
-xf=make_ready_9a1(a+80);
-if(!(xf&1)){
-sf=0;
-tf=0;
+Gf=make_ready_9a1(a+80);
+if(!(Gf&1)){
+Bf=0;
+Cf=0;
 goto L31;}
-wf=r8(a+88);}
-yf=rp(a+80)+wf*44;
-*yf=6;
-yf[1]=0;
-x2(yf+2,0);
-memcpy(yf+4,za,40);
-w8(a+88,wf+1);
-sf=3;
-tf=1;}
-L31:*Ua=tf;
-Ua[1]=sf;
-Ua[2]=tf;
-Ua[3]=0;
+Ff=r8(a+88);}
+Hf=rp(a+80)+Ff*44;
+*Hf=6;
+Hf[1]=0;
+x2(Hf+2,0);
+memcpy(Hf+4,Ca,40);
+w8(a+88,Ff+1);
+Bf=3;
+Cf=1;}
+L31:*Ya=Cf;
+Ya[1]=Bf;
+Ya[2]=Cf;
+Ya[3]=0;
 goto L30;}}
-components_at_98c(ya,a,b,c);
-*Ua=*ya;
-Ua[1]=ya[1];
-Ua[2]=ya[2];
-Ua[3]=ya[3];
+components_at_98c(Ba,a,b,c);
+*Ya=*Ba;
+Ya[1]=Ba[1];
+Ya[2]=Ba[2];
+Ya[3]=Ba[3];
 L30:break;
-case 5:w4(xa,0);
-zf=r8(a+176);
-if(zf<c){
-if(*(b+zf)==69){
-nest_ended_32a(xa,a,b,c);
-*Ua=*xa;
-Ua[1]=xa[1];
-Ua[2]=xa[2];
-Ua[3]=xa[3];
+case 5:w4(Aa,0);
+If=r8(a+176);
+if(If<c){
+if(*(b+If)==69){
+nest_ended_32a(Aa,a,b,c);
+*Ya=*Aa;
+Ya[1]=Aa[1];
+Ya[2]=Aa[2];
+Ya[3]=Aa[3];
 goto L32;}}
 if(!(a[136]&1)){
-Af=r4(a+120);
-Bf=a[139];
-Cf=r8(a+8);
-Df=r8(a+48);
-if(r8(a+72)>Df)Ef=Df;
+Jf=r4(a+120);
+Kf=a[139];
+Lf=r8(a+8);
+Mf=r8(a+48);
+if(r8(a+72)>Mf)Nf=Mf;
 else{
-Ff=make_ready_17a(a+40);
-if(!(Ff&1)){
-w4(Ua,0);
+Of=make_ready_17a(a+40);
+if(!(Of&1)){
+w4(Ya,0);
 goto L32;}
-Ef=r8(a+48);}
-Gf=rp(a+40)+Ef*12;
-x4(Gf,Af);
-x4(Gf+4,Cf);
-Gf[8]=0;
-Gf[9]=Bf;
-x2(Gf+10,0);
-w8(a+48,Ef+1);}
-components_at_98c(xa,a,b,c);
-*Ua=*xa;
-Ua[1]=xa[1];
-Ua[2]=xa[2];
-Ua[3]=xa[3];
+Nf=r8(a+48);}
+Pf=rp(a+40)+Nf*12;
+x4(Pf,Jf);
+x4(Pf+4,Lf);
+Pf[8]=0;
+Pf[9]=Kf;
+x2(Pf+10,0);
+w8(a+48,Nf+1);}
+components_at_98c(Aa,a,b,c);
+*Ya=*Aa;
+Ya[1]=Aa[1];
+Ya[2]=Aa[2];
+Ya[3]=Aa[3];
 L32:break;
-case 6:components_at_98c(Ua,a,b,c);
+case 6:components_at_98c(Ya,a,b,c);
 break;
 default:NEVER;
 }
-Hf=zc+1;
-if(*Ua!=1||Hf==yc)goto L1;
-zc=Hf;
-Ac=Ua[3];
-Bc=Ua[2];
-Cc=Ua[1];
+Qf=Fc+1;
+if(*Ya!=1||Qf==Ec)goto L1;
+Fc=Qf;
+Gc=Ya[3];
+Hc=Ya[2];
+Ic=Ya[1];
 goto L13;}}}
 goto L1;
-case 2:if(Vb)goto L1;
+case 2:if(bc)goto L1;
 if(c<16){
-If=are_few_named_14c(b,c);
-if(!If)goto L1;}
+Rf=are_few_named_14c(b,c);
+if(!Rf)goto L1;}
 else{
-Jf=c-16;
-if(Jf==0)goto L33;
-Kf=0;
-L34:Lf=v16_at(b+Kf);
-if((v16_ult(Lf,splat(33))|v16_eq(Lf,splat(127)))!=0)goto L1;
-Mf=Kf+16;
-if(Mf<Jf){
-Kf=Mf;
+Sf=c-16;
+if(Sf==0)goto L33;
+Tf=0;
+L34:Uf=v16_at(b+Tf);
+if((v16_ult(Uf,splat(33))|v16_eq(Uf,splat(127)))!=0)goto L1;
+Vf=Tf+16;
+if(Vf<Sf){
+Tf=Vf;
 goto L34;}
-L33:Nf=v16_at(b+Jf);
-if((v16_ult(Nf,splat(33))|v16_eq(Nf,splat(127)))!=0)goto L1;}
-w4(Ob,0);
-w4(Pb,0);
+L33:Wf=v16_at(b+Sf);
+if((v16_ult(Wf,splat(33))|v16_eq(Wf,splat(127)))!=0)goto L1;}
+w4(Ub,0);
+w4(Vb,0);
 if(c!=0){
 if(c!=1&&*b==95){
 if(b[1]==90){
 if(c>=3){
-Of=b[2];
+Xf=b[2];
 if(c<5){
-if(Of==90)goto L35;
-if((c!=3)&(Of==71)){
+if(Xf==90)goto L35;
+if((c!=3)&(Xf==71)){
 if(b[3]==86)goto L36;
 goto L37;}
-switch(Of){
+switch(Xf){
 case 71:goto L37;
 case 84:if(c==3)goto L38;
 break;
 default:goto L39;
 }}
 else{
-switch(Of){
+switch(Xf){
 case 90:goto L35;
 case 71:if(b[3]!=86)goto L37;
 if(b[4]!=90)goto L36;
-if(Tb<19){
-Pf=make_ready_8e3(a,19,128);
-if(!(Pf&1)){
-Sf=0;
-Tf=0;
-Uf=0;
-Vf=0;
+if(Zb<19){
+Yf=make_ready_8e3(a,19,128);
+if(!(Yf&1)){
+bg=0;
+cg=0;
+dg=0;
+eg=0;
 goto L40;}
-Qf=r8(a+16);
-Rf=r8(a+8);}
+Zf=r8(a+16);
+ag=r8(a+8);}
 else{
-Qf=Sb;
-Rf=0;}
-if(Qf-Rf<19){
-Wf=grow_amortized_68b(a,19);
-if(!Wf){
-Sf=0;
-Tf=0;
-Uf=0;
-Vf=0;
+Zf=Yb;
+ag=0;}
+if(Zf-ag<19){
+fg=grow_amortized_68b(a,19);
+if(!fg){
+bg=0;
+cg=0;
+dg=0;
+eg=0;
 goto L40;}
-Xf=r8(a+16);
-Yf=r8(a+8);}
+gg=r8(a+16);
+hg=r8(a+8);}
 else{
-Xf=Qf;
-Yf=Rf;}
-Zf=Yf+19;
-ag=rp(a);
+gg=Zf;
+hg=ag;}
+ig=hg+19;
+jg=rp(a);
 z16(a+8);
-bg=ag+(i64)Yf;
-if((u64)bg-(u64)(u8*)t_c270<19)copy_bits_4f4((u8*)t_c270,bg,19);
-else memcpy(bg,(u8*)t_c270,19);
-wp(a,ag);
-w8(a+8,Zf);
-w8(a+16,Xf);
+kg=jg+(i64)hg;
+if((u64)kg-(u64)(u8*)t_c270<19)copy_bits_4f4((u8*)t_c270,kg,19);
+else memcpy(kg,(u8*)t_c270,19);
+wp(a,jg);
+w8(a+8,ig);
+w8(a+16,gg);
 w8(a+176,5);
-begin_encoding_4d0(Mb,a,b,c);
-Sf=Mb[3];
-Tf=Mb[2];
-Uf=Mb[1];
-Vf=*Mb;
-L40:cg=Sf;
-dg=Tf;
-eg=Uf;
-fg=Vf;
+begin_encoding_4d0(Sb,a,b,c);
+bg=Sb[3];
+cg=Sb[2];
+dg=Sb[1];
+eg=*Sb;
+L40:lg=bg;
+mg=cg;
+ng=dg;
+og=eg;
 goto L41;
 case 84:break;
 default:goto L39;
 }}
 switch(b[3]){
-case 104:begin_thunk_892(Pb,a,b,c);
+case 104:begin_thunk_892(Vb,a,b,c);
 goto L42;
-case 118:begin_virtual_thunk_faf(Pb,a,b,c);
+case 118:begin_virtual_thunk_faf(Vb,a,b,c);
 goto L42;
-case 67:begin_table_89f(Pb,a);
+case 67:begin_table_89f(Vb,a);
 goto L42;
 default:break;}
-L38:begin_special_44d(Pb,a,b,c);
-L42:gg=Pb[3];
-hg=Pb[2];
-ig=Pb[1];
-jg=*Pb;
+L38:begin_special_44d(Vb,a,b,c);
+L42:pg=Vb[3];
+qg=Vb[2];
+rg=Vb[1];
+sg=*Vb;
 goto L43;
-L37:begin_clone_5b6(Ob,a,b,c);
-gg=Ob[3];
-hg=Ob[2];
-ig=Ob[1];
-jg=*Ob;
+L37:begin_clone_5b6(Ub,a,b,c);
+pg=Ub[3];
+qg=Ub[2];
+rg=Ub[1];
+sg=*Ub;
 goto L43;
-L36:begin_object_0af(Ob,a,b,c);
-gg=Ob[3];
-hg=Ob[2];
-ig=Ob[1];
-jg=*Ob;
+L36:begin_object_0af(Ub,a,b,c);
+pg=Ub[3];
+qg=Ub[2];
+rg=Ub[1];
+sg=*Ub;
 goto L43;
 L35:w8(a+176,3);
-begin_encoding_4d0(Nb,a,b,c);
-cg=Nb[3];
-dg=Nb[2];
-eg=Nb[1];
-fg=*Nb;
-L41:gg=cg;
-hg=dg;
-ig=eg;
-jg=fg;
+begin_encoding_4d0(Tb,a,b,c);
+lg=Tb[3];
+mg=Tb[2];
+ng=Tb[1];
+og=*Tb;
+L41:pg=lg;
+qg=mg;
+rg=ng;
+sg=og;
 goto L43;}
 L39:w8(a+176,2);
-begin_encoding_4d0(Ob,a,b,c);
-gg=Ob[3];
-hg=Ob[2];
-ig=Ob[1];
-jg=*Ob;
-L43:if(jg!=1)goto L1;
-kg=c<<3;
-lg=0;
-mg=gg;
-ng=hg;
-og=ig;
-L44:if(og==7){
-if(r8(a+8)>Rb)goto L14;
+begin_encoding_4d0(Ub,a,b,c);
+pg=Ub[3];
+qg=Ub[2];
+rg=Ub[1];
+sg=*Ub;
+L43:if(sg!=1)goto L1;
+tg=c<<3;
+ug=0;
+vg=pg;
+wg=qg;
+xg=rg;
+L44:if(xg==7){
+if(r8(a+8)>Xb)goto L14;
 goto L15;}
 w8(a+184,r8(a+184)+1);
-w4(Qb,0);
-switch(og){
-case 0:type_at_a00(Qb,a,b,c,0);
+w4(Wb,0);
+switch(xg){
+case 0:type_at_a00(Wb,a,b,c,0);
 break;
-case 1:type_at_a00(Qb,a,b,c,1);
+case 1:type_at_a00(Wb,a,b,c,1);
 break;
-case 2:w4(Ib,0);
-w4(Jb,0);
-z32(Kb);
-z32(Lb);
-pg=r8(a+88);
-if(pg==0)w4(Qb,0);
+case 2:w4(Ob,0);
+w4(Pb,0);
+z32(Qb);
+z32(Rb);
+yg=r8(a+88);
+if(yg==0)w4(Wb,0);
 else{
-qg=ng&1;
-rg=rp(a+80)+(i64)(pg*44);
-sg=rg[-44];
-tg=rg[-43];
-ug=q4(rg-40);
-vg=q4(rg-36);
-wg=q2(rg-32);
-switch(sg){
-case 29:case 28:case 27:case 26:case 4:case 5:case 6:case 7:case 8:case 11:case 12:case 13:case 14:case 15:case 16:case 17:case 18:case 19:case 20:case 21:case 22:case 23:case 24:case 25:if(mg&1){
-pass_dependent_3d7(Ib,a,b,c);
-*Qb=*Ib;
-Qb[1]=Ib[1];
-Qb[2]=Ib[2];
-Qb[3]=Ib[3];
+zg=wg&1;
+Ag=rp(a+80)+(i64)(yg*44);
+Bg=Ag[-44];
+Cg=Ag[-43];
+Dg=q4(Ag-40);
+Eg=q4(Ag-36);
+Fg=q2(Ag-32);
+switch(Bg){
+case 29:case 28:case 27:case 26:case 4:case 5:case 6:case 7:case 8:case 11:case 12:case 13:case 14:case 15:case 16:case 17:case 18:case 19:case 20:case 21:case 22:case 23:case 24:case 25:if(vg&1){
+pass_dependent_3d7(Ob,a,b,c);
+*Wb=*Ob;
+Wb[1]=Ob[1];
+Wb[2]=Ob[2];
+Wb[3]=Ob[3];
 goto L45;}
-xg=q4(rg-4);
-yg=vg;
-zg=vg>>16;
-w4(Hb,0);
-switch(sg){
-case 22:returned_322(Hb,a,b,c,tg&1);
+Gg=q4(Ag-4);
+w4(Nb,0);
+switch(Bg){
+case 22:returned_322(Nb,a,b,c,Cg&1);
 break;
-case 23:parameter_at_3ac(Hb,a,b,c,tg&1,0);
+case 23:parameter_at_3ac(Nb,a,b,c,Cg&1,0);
 break;
-case 24:array_ended_1b3(Hb,a,b,c,tg,ug,vg);
+case 24:array_ended_1b3(Nb,a,b,c,Cg,Dg,Eg);
 break;
-case 12:enclosing_parameter_fc1(Hb,a,b,c,ug,vg);
+case 12:enclosing_parameter_fc1(Nb,a,b,c,Dg,Eg);
 break;
-case 13:instance_parameter_240(Hb,a,b,c,tg,ug,vg);
+case 13:instance_parameter_240(Nb,a,b,c,Cg,Dg,Eg);
 break;
-case 11:w2(Bb,wg);
-memcpy(Bb+2,rg-30,26);
-x4(Bb+28,xg);
-enclosing_front_fa8(Hb,a,tg,ug,vg,Bb);
+case 11:w2(Kb,Fg);
+memcpy(Kb+2,Ag-30,26);
+x4(Kb+28,Gg);
+enclosing_front_fa8(Nb,a,Cg,Dg,Eg,Kb);
 break;
-case 17:w4(Cb,vg);
-w2(Cb+4,wg);
-lambda_parameter_383(Hb,a,b,c,ug,Cb);
+case 17:w4(Lb,Eg);
+w2(Lb+4,Fg);
+lambda_parameter_383(Nb,a,b,c,Dg,Lb);
 break;
-case 18:member_parameter_7e4(Hb,a,b,c,ug);
+case 18:member_parameter_7e4(Nb,a,b,c,Dg);
 break;
-case 15:w4(Db,vg);
-w2(Db+4,wg);
-memcpy(Db+6,rg-30,26);
-addressed_front_54d(Hb,a,b,c,tg,ug,Db);
+case 15:w4(Mb,Eg);
+w2(Mb+4,Fg);
+memcpy(Mb+6,Ag-30,26);
+addressed_front_54d(Nb,a,b,c,Cg,Dg,Mb);
 break;
-case 16:addressed_parameter_2cf(Hb,a,b,c,ug);
+case 16:addressed_parameter_2cf(Nb,a,b,c,Dg);
 break;
-case 14:*Hb=0;
+case 14:*Nb=0;
 break;
-case 19:finish_8cd(Hb,a,b,c);
+case 19:finish_8cd(Nb,a,b,c);
 break;
-case 20:derived_ended_aef(Hb,a,b,c);
+case 20:derived_ended_aef(Nb,a,b,c);
 break;
-case 21:base_ended_299(Hb,a,b,c,ug);
+case 21:base_ended_299(Nb,a,b,c,Dg);
 break;
-case 29:enumerator_21c(Hb,a,b,c);
+case 29:enumerator_21c(Nb,a,b,c);
 break;
-case 26:w2(Eb,zg);
-w2(Eb+2,wg);
-memcpy(Eb+4,rg-30,26);
-w2(Eb+30,xg);
-argument_enumerator_83a(Hb,a,b,c,ug,yg,Eb);
+case 26:case 25:case 28:Hg=Eg;
+Ig=Gg;
+w4(Jb,0);
+switch(Bg){
+case 26:w2(Gb,Eg>>16);
+w2(Gb+2,Fg);
+memcpy(Gb+4,Ag-30,26);
+w2(Gb+30,Ig);
+argument_enumerator_83a(Jb,a,b,c,Dg,Hg,Gb);
 break;
-case 25:w2(Fb,zg);
-w2(Fb+2,wg);
-memcpy(Fb+4,rg-30,26);
-w2(Fb+30,xg);
-argument_ended_511(Hb,a,b,c,ug,yg,Fb,qg);
+case 25:w2(Hb,Eg>>16);
+w2(Hb+2,Fg);
+memcpy(Hb+4,Ag-30,26);
+w2(Hb+30,Ig);
+argument_ended_511(Jb,a,b,c,Dg,Hg,Hb,zg);
 break;
-case 28:w2(Gb,zg);
-w2(Gb+2,wg);
-memcpy(Gb+4,rg-30,26);
-w2(Gb+30,xg);
-element_ended_6b8(Hb,a,b,c,ug,yg,Gb,qg);
+case 28:w2(Ib,Eg>>16);
+w2(Ib+2,Fg);
+memcpy(Ib+4,Ag-30,26);
+w2(Ib+30,Ig);
+element_ended_6b8(Jb,a,b,c,Dg,Hg,Ib,zg);
 break;
-case 27:case 10:case 9:case 8:case 4:case 5:case 6:case 7:*Hb=1;
-Hb[1]=3;
-Hb[2]=0;
-Hb[3]=0;
+case 27:*Jb=0;
 break;
 default:NEVER;
 }
-Ag=Hb[1];
-Bg=Hb[2];
-Cg=Hb[3];
-*Jb=*Hb;
-Jb[1]=Ag;
-Jb[2]=Bg;
-Jb[3]=Cg;
-goto L46;
-case 10:w4(Kb,vg);
-w2(Kb+4,wg);
-memcpy(Kb+6,rg-30,26);
-parameter_ended_d3f(Jb,a,b,c,ug,Kb);
-goto L46;
-case 9:w4(Lb,vg);
-w2(Lb+4,wg);
-memcpy(Lb+6,rg-30,26);
-front_ended_665(Jb,a,b,c,tg,ug,Lb);
-goto L46;
-case 0:w8(a+88,pg-1);
-Dg=r8(a+8);
-if(r8(a+32)>Dg)Eg=Dg;
-else{
-Fg=make_ready_8e3(a,1,16);
-if(!(Fg&1)){
-Gg=0;
-Hg=0;
-Ig=0;
-Jg=0;
-goto L47;}
-Eg=r8(a+8);}
-*(rp(a)+Eg)=42;
-Kg=Eg+1;
-w8(a+8,Kg);
-Lg=Kg;
-Mg=mg&1;
-Ng=r8(a+48);
-if(r8(a+72)>Ng){
-Og=Ng;
-Pg=Lg;
-Qg=0;
-Rg=Mg;
-goto L48;}
-Sg=make_ready_17a(a+40);
-if(!(Sg&1)){
-Gg=0;
-Hg=0;
-Ig=0;
-Jg=0;
-goto L47;}
-Tg=Lg;
-Ug=0;
-Vg=Mg;
+Jg=Jb[1];
+Kg=Jb[2];
+Lg=Jb[3];
+*Nb=*Jb;
+Nb[1]=Jg;
+Nb[2]=Kg;
+Nb[3]=Lg;
 break;
-case 1:if(qg)goto L46;
-w8(a+88,pg-1);
-Wg=r8(a+8);
-if(r8(a+32)>Wg)Xg=Wg;
+case 27:case 10:case 9:case 8:case 4:case 5:case 6:case 7:*Nb=1;
+Nb[1]=3;
+Nb[2]=0;
+Nb[3]=0;
+break;
+default:NEVER;
+}
+Mg=Nb[1];
+Ng=Nb[2];
+Og=Nb[3];
+*Pb=*Nb;
+Pb[1]=Mg;
+Pb[2]=Ng;
+Pb[3]=Og;
+goto L46;
+case 10:w4(Qb,Eg);
+w2(Qb+4,Fg);
+memcpy(Qb+6,Ag-30,26);
+parameter_ended_d3f(Pb,a,b,c,Dg,Qb);
+goto L46;
+case 9:w4(Rb,Eg);
+w2(Rb+4,Fg);
+memcpy(Rb+6,Ag-30,26);
+front_ended_665(Pb,a,b,c,Cg,Dg,Rb);
+goto L46;
+case 0:w8(a+88,yg-1);
+Pg=r8(a+8);
+if(r8(a+32)>Pg)Qg=Pg;
 else{
-Yg=make_ready_8e3(a,1,16);
-if(!(Yg&1)){
-Gg=0;
-Hg=0;
-Ig=0;
-Jg=0;
+Rg=make_ready_8e3(a,1,16);
+if(!(Rg&1)){
+Sg=0;
+Tg=0;
+Ug=0;
+Vg=0;
 goto L47;}
-Xg=r8(a+8);}
-*(rp(a)+Xg)=38;
-Zg=Xg+1;
-w8(a+8,Zg);
+Qg=r8(a+8);}
+*(rp(a)+Qg)=42;
+Wg=Qg+1;
+w8(a+8,Wg);
+Xg=Wg;
+Yg=vg&1;
+Zg=r8(a+48);
+if(r8(a+72)>Zg){
 ah=Zg;
-bh=mg&1;
-ch=r8(a+48);
-if(r8(a+72)>ch){
-Og=ch;
-Pg=ah;
-Qg=1;
-Rg=bh;
+bh=Xg;
+ch=0;
+dh=Yg;
 goto L48;}
-dh=make_ready_17a(a+40);
-if(!(dh&1)){
-Gg=0;
-Hg=0;
-Ig=0;
-Jg=0;
-goto L47;}
-Tg=ah;
-Ug=1;
-Vg=bh;
-break;
-case 2:if(qg)goto L46;
-w8(a+88,pg-1);
-eh=r8(a+8);
-if(r8(a+32)-eh<2){
-fh=make_ready_8e3(a,2,128);
-if(!(fh&1)){
-Gg=0;
-Hg=0;
-Ig=0;
-Jg=0;
-goto L47;}
-gh=r8(a+8);}
-else gh=eh;
-*(rp(a)+gh)=38;
-*(rp(a)+(i64)gh+1)=38;
-hh=gh+2;
-w8(a+8,hh);
-ih=hh;
-jh=mg&1;
-kh=r8(a+48);
-if(r8(a+72)>kh){
-Og=kh;
-Pg=ih;
-Qg=1;
-Rg=jh;
-goto L48;}
-lh=make_ready_17a(a+40);
-if(!(lh&1)){
-Gg=0;
-Hg=0;
-Ig=0;
-Jg=0;
-goto L47;}
-Tg=ih;
-Ug=1;
-Vg=jh;
-break;
-case 3:if(qg)goto L46;
-w8(a+88,pg-1);
-if(r8(a+32)-r8(a+8)<6){
-mh=make_ready_8e3(a,6,128);
-if(!(mh&1)){
-Gg=0;
-Hg=0;
-Ig=0;
-Jg=0;
-goto L47;}}
-nh=extend_from_slice_674(a,(u8*)t_f603,6);
-if(nh&1){
-Gg=0;
-Hg=0;
-Ig=0;
-Jg=0;
-goto L47;}
-oh=r8(a+8);
-ph=mg&1;
-qh=r8(a+48);
-if(r8(a+72)>qh){
-Og=qh;
-Pg=oh;
-Qg=0;
-Rg=ph;
-goto L48;}
-rh=make_ready_17a(a+40);
-if(!(rh&1)){
-Gg=0;
-Hg=0;
-Ig=0;
-Jg=0;
-goto L47;}
-Tg=oh;
+eh=make_ready_17a(a+40);
+if(!(eh&1)){
+Sg=0;
+Tg=0;
 Ug=0;
-Vg=ph;
+Vg=0;
+goto L47;}
+fh=Xg;
+gh=0;
+hh=Yg;
+break;
+case 1:if(zg)goto L46;
+w8(a+88,yg-1);
+ih=r8(a+8);
+if(r8(a+32)>ih)jh=ih;
+else{
+kh=make_ready_8e3(a,1,16);
+if(!(kh&1)){
+Sg=0;
+Tg=0;
+Ug=0;
+Vg=0;
+goto L47;}
+jh=r8(a+8);}
+*(rp(a)+jh)=38;
+lh=jh+1;
+w8(a+8,lh);
+mh=lh;
+nh=vg&1;
+oh=r8(a+48);
+if(r8(a+72)>oh){
+ah=oh;
+bh=mh;
+ch=1;
+dh=nh;
+goto L48;}
+ph=make_ready_17a(a+40);
+if(!(ph&1)){
+Sg=0;
+Tg=0;
+Ug=0;
+Vg=0;
+goto L47;}
+fh=mh;
+gh=1;
+hh=nh;
+break;
+case 2:if(zg)goto L46;
+w8(a+88,yg-1);
+qh=r8(a+8);
+if(r8(a+32)-qh<2){
+rh=make_ready_8e3(a,2,128);
+if(!(rh&1)){
+Sg=0;
+Tg=0;
+Ug=0;
+Vg=0;
+goto L47;}
+sh=r8(a+8);}
+else sh=qh;
+*(rp(a)+sh)=38;
+*(rp(a)+(i64)sh+1)=38;
+th=sh+2;
+w8(a+8,th);
+uh=th;
+vh=vg&1;
+wh=r8(a+48);
+if(r8(a+72)>wh){
+ah=wh;
+bh=uh;
+ch=1;
+dh=vh;
+goto L48;}
+xh=make_ready_17a(a+40);
+if(!(xh&1)){
+Sg=0;
+Tg=0;
+Ug=0;
+Vg=0;
+goto L47;}
+fh=uh;
+gh=1;
+hh=vh;
+break;
+case 3:if(zg)goto L46;
+w8(a+88,yg-1);
+if(r8(a+32)-r8(a+8)<6){
+yh=make_ready_8e3(a,6,128);
+if(!(yh&1)){
+Sg=0;
+Tg=0;
+Ug=0;
+Vg=0;
+goto L47;}}
+zh=extend_from_slice_674(a,(u8*)t_f603,6);
+if(zh&1){
+Sg=0;
+Tg=0;
+Ug=0;
+Vg=0;
+goto L47;}
+Ah=r8(a+8);
+Bh=vg&1;
+Ch=r8(a+48);
+if(r8(a+72)>Ch){
+ah=Ch;
+bh=Ah;
+ch=0;
+dh=Bh;
+goto L48;}
+Dh=make_ready_17a(a+40);
+if(!(Dh&1)){
+Sg=0;
+Tg=0;
+Ug=0;
+Vg=0;
+goto L47;}
+fh=Ah;
+gh=0;
+hh=Bh;
 break;
 default:NEVER;
 }
-Og=r8(a+48);
-Pg=Tg;
-Qg=Ug;
-Rg=Vg;
-L48:sh=rp(a+40)+Og*12;
-x4(sh,ug);
-x4(sh+4,Pg);
-sh[8]=Qg;
-sh[9]=Rg;
-x2(sh+10,0);
-w8(a+48,Og+1);
-Gg=Rg;
-Hg=Qg;
-Ig=2;
-Jg=1;
-L47:*Jb=Jg;
-Jb[1]=Ig;
-Jb[2]=Hg;
-Jb[3]=Gg;
-L46:th=Jb[1];
-uh=Jb[2];
-vh=Jb[3];
-*Qb=*Jb;
-Qb[1]=th;
-Qb[2]=uh;
-Qb[3]=vh;}
+ah=r8(a+48);
+bh=fh;
+ch=gh;
+dh=hh;
+L48:Eh=rp(a+40)+ah*12;
+x4(Eh,Dg);
+x4(Eh+4,bh);
+Eh[8]=ch;
+Eh[9]=dh;
+x2(Eh+10,0);
+w8(a+48,ah+1);
+Sg=dh;
+Tg=ch;
+Ug=2;
+Vg=1;
+L47:*Pb=Vg;
+Pb[1]=Ug;
+Pb[2]=Tg;
+Pb[3]=Sg;
+L46:Fh=Pb[1];
+Gh=Pb[2];
+Hh=Pb[3];
+*Wb=*Pb;
+Wb[1]=Fh;
+Wb[2]=Gh;
+Wb[3]=Hh;}
 L45:break;
-case 3:wh=ng&1;
-w4(zb,0);
-xh=r8(a+176);
-if(xh<c){
-yh=*(b+xh);
-switch(yh){
-case 69:w4(xb,0);
-w8(a+176,xh+1);
-zh=r8(a+88);
-if(zh==0){
-Ah=0;
-Bh=0;
-Ch=0;
-Dh=0;}
+case 3:Ih=wg&1;
+w4(Eb,0);
+Jh=r8(a+176);
+if(Jh<c){
+Kh=*(b+Jh);
+switch(Kh){
+case 69:w4(Cb,0);
+w8(a+176,Jh+1);
+Lh=r8(a+88);
+if(Lh==0){
+Mh=0;
+Nh=0;
+Oh=0;
+Ph=0;}
 else{
-if(*(rp(a+80)+(i64)(zh*44)-44)==27){
-if(wh){
-Ah=0;
-Bh=0;
-Ch=0;
-Dh=0;}
+if(*(rp(a+80)+(i64)(Lh*44)-44)==27){
+if(Ih){
+Mh=0;
+Nh=0;
+Oh=0;
+Ph=0;}
 else{
-w8(a+88,zh-1);
-Ah=0;
-Bh=0;
-Ch=3;
-Dh=1;}}
+w8(a+88,Lh-1);
+Mh=0;
+Nh=0;
+Oh=3;
+Ph=1;}}
 else{
-z32(yb);
-close_list_299(xb,a,b,c,yb);
-Ah=xb[3];
-Bh=xb[2];
-Ch=xb[1];
-Dh=*xb;}}
-*Qb=Dh;
-Qb[1]=Ch;
-Qb[2]=Bh;
-Qb[3]=Ah;
+z32(Db);
+close_list_299(Cb,a,b,c,Db);
+Mh=Cb[3];
+Nh=Cb[2];
+Oh=Cb[1];
+Ph=*Cb;}}
+*Wb=Ph;
+Wb[1]=Oh;
+Wb[2]=Nh;
+Wb[3]=Mh;
 goto L49;
-case 74:Eh=xh+1;
-if(Eh<c){
-if(*(b+Eh)==69){
-empty_pack_079(zb,a,b,c,wh);
-*Qb=*zb;
-Qb[1]=zb[1];
-Qb[2]=zb[2];
-Qb[3]=zb[3];
+case 74:Qh=Jh+1;
+if(Qh<c){
+if(*(b+Qh)==69){
+empty_pack_079(Eb,a,b,c,Ih);
+*Wb=*Eb;
+Wb[1]=Eb[1];
+Wb[2]=Eb[2];
+Wb[3]=Eb[3];
 goto L49;}}
-if(!wh){
-Fh=74;
+if(!Ih){
+Rh=74;
 goto L50;}
-first_pack_117(zb,a,b,c);
-*Qb=*zb;
-Qb[1]=zb[1];
-Qb[2]=zb[2];
-Qb[3]=zb[3];
+first_pack_117(Eb,a,b,c);
+*Wb=*Eb;
+Wb[1]=Eb[1];
+Wb[2]=Eb[2];
+Wb[3]=Eb[3];
 goto L49;
-default:Gh=yh;
+default:Sh=Kh;
 break;}}
-else Gh=0;
-if(wh){
-Hh=Gh;
+else Sh=0;
+if(Ih){
+Th=Sh;
 goto L51;}
-Fh=Gh;
-L50:Ih=r8(a+8);
-if(r8(a+32)-Ih<2){
-Jh=make_ready_8e3(a,2,128);
-if(!(Jh&1)){
-w4(Qb,0);
+Rh=Sh;
+L50:Uh=r8(a+8);
+if(r8(a+32)-Uh<2){
+Vh=make_ready_8e3(a,2,128);
+if(!(Vh&1)){
+w4(Wb,0);
 goto L49;}
-Kh=r8(a+8);}
-else Kh=Ih;
-*(rp(a)+Kh)=44;
-*(rp(a)+(i64)Kh+1)=32;
-w8(a+8,Kh+2);
-Hh=Fh;
-L51:switch(Hh){
-case 88:Lh=r8(a+176);
-if(Lh==18446744073709551615u){
-w4(Qb,0);
+Wh=r8(a+8);}
+else Wh=Uh;
+*(rp(a)+Wh)=44;
+*(rp(a)+(i64)Wh+1)=32;
+w8(a+8,Wh+2);
+Th=Rh;
+L51:switch(Th){
+case 88:Xh=r8(a+176);
+if(Xh==18446744073709551615u){
+w4(Wb,0);
 goto L49;}
-Mh=Lh+1;
-if(Mh<c){
-switch(*(b+Mh)){
-case 115:begin_level_d05(zb,a,b,c);
-*Qb=*zb;
-Qb[1]=zb[1];
-Qb[2]=zb[2];
-Qb[3]=zb[3];
+Yh=Xh+1;
+if(Yh<c){
+switch(*(b+Yh)){
+case 115:begin_level_d05(Eb,a,b,c);
+*Wb=*Eb;
+Wb[1]=Eb[1];
+Wb[2]=Eb[2];
+Wb[3]=Eb[3];
 goto L49;
-case 84:parameter_argument_7c8(zb,a,b,c);
-*Qb=*zb;
-Qb[1]=zb[1];
-Qb[2]=zb[2];
-Qb[3]=zb[3];
+case 84:parameter_argument_7c8(Eb,a,b,c);
+*Wb=*Eb;
+Wb[1]=Eb[1];
+Wb[2]=Eb[2];
+Wb[3]=Eb[3];
 goto L49;
 default:break;}}
 break;
-case 76:if(wh){
-first_literal_c4d(zb,a,b,c);
-*Qb=*zb;
-Qb[1]=zb[1];
-Qb[2]=zb[2];
-Qb[3]=zb[3];
+case 76:if(Ih){
+first_literal_c4d(Eb,a,b,c);
+*Wb=*Eb;
+Wb[1]=Eb[1];
+Wb[2]=Eb[2];
+Wb[3]=Eb[3];
 goto L49;}
-literal_da7(Ab,a,b,c);
-Nh=Ab[3];
-Oh=Ab[2];
-Ph=Ab[1];
-Qh=*Ab;
+literal_da7(Fb,a,b,c);
+Zh=Fb[3];
+ai=Fb[2];
+bi=Fb[1];
+ci=*Fb;
 goto L52;
-case 74:Rh=r8(a+88);
-if(Rh==0){
-Nh=0;
-Oh=0;
-Ph=0;
-Qh=0;
+case 74:di=r8(a+88);
+if(di==0){
+Zh=0;
+ai=0;
+bi=0;
+ci=0;
 goto L52;}
-Sh=rp(a+80);
-Th=Rh*44;
-if(*(Sh+(i64)Th-44)==27){
-Nh=0;
-Oh=0;
-Ph=0;
-Qh=0;
+ei=rp(a+80);
+fi=di*44;
+if(*(ei+(i64)fi-44)==27){
+Zh=0;
+ai=0;
+bi=0;
+ci=0;
 goto L52;}
-Uh=r8(a+176);
-if(Uh==18446744073709551615u){
-Nh=0;
-Oh=0;
-Ph=0;
-Qh=0;
+gi=r8(a+176);
+if(gi==18446744073709551615u){
+Zh=0;
+ai=0;
+bi=0;
+ci=0;
 goto L52;}
-w8(a+176,Uh+1);
-if(r8(a+112)>Rh){
-Vh=Th;
-Wh=Sh;
-Xh=Rh;}
+w8(a+176,gi+1);
+if(r8(a+112)>di){
+hi=fi;
+ii=ei;
+ji=di;}
 else{
-Yh=make_ready_9a1(a+80);
-if(!(Yh&1)){
-Nh=0;
-Oh=0;
-Ph=0;
-Qh=0;
+ki=make_ready_9a1(a+80);
+if(!(ki&1)){
+Zh=0;
+ai=0;
+bi=0;
+ci=0;
 goto L52;}
-Zh=r8(a+88);
-Vh=Zh*44;
-Wh=rp(a+80);
-Xh=Zh;}
-ai=Wh+Vh;
-*ai=27;
-z43(ai+1);
-w8(a+88,Xh+1);
-Nh=0;
-Oh=1;
-Ph=3;
-Qh=1;
+li=r8(a+88);
+hi=li*44;
+ii=rp(a+80);
+ji=li;}
+mi=ii+hi;
+*mi=27;
+z43(mi+1);
+w8(a+88,ji+1);
+Zh=0;
+ai=1;
+bi=3;
+ci=1;
 goto L52;
 default:break;}
-if(wh){
-bi=r8(a+88);
-if(bi==0){
-ci=0;
-di=0;
-ei=0;
-fi=1;}
+if(Ih){
+ni=r8(a+88);
+if(ni==0){
+oi=0;
+pi=0;
+qi=0;
+ri=1;}
 else{
-gi=rp(a+80);
-hi=bi*44;
-ii=gi+(i64)hi;
-switch(ii[-44]){
-case 5:if(ii[-28]==0){
-ci=0;
-di=0;
-ei=0;
-fi=1;
+si=rp(a+80);
+ti=ni*44;
+ui=si+(i64)ti;
+switch(ui[-44]){
+case 5:if(ui[-28]==0){
+oi=0;
+pi=0;
+qi=0;
+ri=1;
 goto L53;}
 break;
 case 7:break;
-case 0:case 1:case 2:case 3:case 4:case 6:case 8:case 9:case 10:case 11:case 12:case 13:case 14:case 15:case 16:case 17:case 18:case 19:case 20:case 21:case 22:case 23:case 24:case 25:case 26:case 27:case 28:case 29:ci=0;
-di=0;
-ei=0;
-fi=1;
+case 0:case 1:case 2:case 3:case 4:case 6:case 8:case 9:case 10:case 11:case 12:case 13:case 14:case 15:case 16:case 17:case 18:case 19:case 20:case 21:case 22:case 23:case 24:case 25:case 26:case 27:case 28:case 29:oi=0;
+pi=0;
+qi=0;
+ri=1;
 goto L53;
 default:NEVER;
 }
-ji=is_element_at_f4e(b,c,r8(a+176));
-if(ji){
-ci=0;
-di=0;
-ei=0;
-fi=1;}
+vi=is_element_at_f4e(b,c,r8(a+176));
+if(vi){
+oi=0;
+pi=0;
+qi=0;
+ri=1;}
 else{
-ki=r8(a+8);
-if(r8(a+112)>bi){
-li=hi;
-mi=gi;
-ni=bi;}
+wi=r8(a+8);
+if(r8(a+112)>ni){
+xi=ti;
+yi=si;
+zi=ni;}
 else{
-oi=make_ready_9a1(a+80);
-if(!(oi&1)){
-ci=0;
-di=0;
-ei=0;
-fi=0;
+Ai=make_ready_9a1(a+80);
+if(!(Ai&1)){
+oi=0;
+pi=0;
+qi=0;
+ri=0;
 goto L53;}
-pi=r8(a+88);
-li=pi*44;
-mi=rp(a+80);
-ni=pi;}
-qi=mi+li;
-*qi=25;
-qi[1]=0;
-x2(qi+2,0);
-x4(qi+4,ki);
-z36(qi+8);
-w8(a+88,ni+1);
-w4(wb,0);
-ri=r8(a+176);
-if(ri<c){
-if(*(b+ri)==88){
-begin_address_ef5(wb,a,b,c);
-si=wb[3];
-ti=wb[2];
-ui=wb[1];
-vi=*wb;}
-else{
-si=0;
-ti=0;
-ui=0;
-vi=1;}}
-else{
-si=0;
-ti=0;
-ui=0;
-vi=1;}
-ci=si;
-di=ti;
-ei=ui;
-fi=vi;}}
-L53:*Qb=fi;
-Qb[1]=ei;
-Qb[2]=di;
-Qb[3]=ci;
-goto L49;}
-Nh=0;
-Oh=0;
-Ph=0;
-Qh=1;
-L52:*Qb=Qh;
-Qb[1]=Ph;
-Qb[2]=Oh;
-Qb[3]=Nh;
-L49:break;
-case 4:w4(ub,0);
-z20(vb+20);
-if(!(a[136]&1)){
-wi=r4(a+120);
-xi=a[139];
-yi=r8(a+8);
-zi=r8(a+48);
-if(r8(a+72)>zi)Ai=zi;
-else{
-Bi=make_ready_17a(a+40);
-if(!(Bi&1)){
-w4(Qb,0);
-goto L54;}
-Ai=r8(a+48);}
-Ci=rp(a+40)+Ai*12;
-x4(Ci,wi);
-x4(Ci+4,yi);
-Ci[8]=0;
-Ci[9]=xi;
-x2(Ci+10,0);
-w8(a+48,Ai+1);}
+Bi=r8(a+88);
+xi=Bi*44;
+yi=rp(a+80);
+zi=Bi;}
+Ci=yi+xi;
+*Ci=25;
+Ci[1]=0;
+x2(Ci+2,0);
+x4(Ci+4,wi);
+z36(Ci+8);
+w8(a+88,zi+1);
+w4(Bb,0);
 Di=r8(a+176);
 if(Di<c){
-if(*(b+Di)==73){
-memcpy(vb,a+120,20);
-Ei=r8(a+8);
-if(r8(a+32)>Ei)Fi=Ei;
+if(*(b+Di)==88){
+begin_address_ef5(Bb,a,b,c);
+Ei=Bb[3];
+Fi=Bb[2];
+Gi=Bb[1];
+Hi=*Bb;}
 else{
-Gi=make_ready_8e3(a,1,16);
-if(!(Gi&1)){
-Hi=0;
-Ii=0;
+Ei=0;
+Fi=0;
+Gi=0;
+Hi=1;}}
+else{
+Ei=0;
+Fi=0;
+Gi=0;
+Hi=1;}
+oi=Ei;
+pi=Fi;
+qi=Gi;
+ri=Hi;}}
+L53:*Wb=ri;
+Wb[1]=qi;
+Wb[2]=pi;
+Wb[3]=oi;
+goto L49;}
+Zh=0;
+ai=0;
+bi=0;
+ci=1;
+L52:*Wb=ci;
+Wb[1]=bi;
+Wb[2]=ai;
+Wb[3]=Zh;
+L49:break;
+case 4:w4(zb,0);
+z20(Ab+20);
+if(!(a[136]&1)){
+Ii=r4(a+120);
+Ji=a[139];
+Ki=r8(a+8);
+Li=r8(a+48);
+if(r8(a+72)>Li)Mi=Li;
+else{
+Ni=make_ready_17a(a+40);
+if(!(Ni&1)){
+w4(Wb,0);
+goto L54;}
+Mi=r8(a+48);}
+Oi=rp(a+40)+Mi*12;
+x4(Oi,Ii);
+x4(Oi+4,Ki);
+Oi[8]=0;
+Oi[9]=Ji;
+x2(Oi+10,0);
+w8(a+48,Mi+1);}
+Pi=r8(a+176);
+if(Pi<c){
+if(*(b+Pi)==73){
+memcpy(Ab,a+120,20);
+Qi=r8(a+8);
+if(r8(a+32)>Qi)Ri=Qi;
+else{
+Si=make_ready_8e3(a,1,16);
+if(!(Si&1)){
+Ti=0;
+Ui=0;
 goto L55;}
-Fi=r8(a+8);}
-*(rp(a)+Fi)=60;
-w8(a+8,Fi+1);
-Ji=r8(a+176);
-if(Ji==18446744073709551615u){
-Hi=0;
-Ii=0;}
+Ri=r8(a+8);}
+*(rp(a)+Ri)=60;
+w8(a+8,Ri+1);
+Vi=r8(a+176);
+if(Vi==18446744073709551615u){
+Ti=0;
+Ui=0;}
 else{
-w8(a+176,Ji+1);
-Ki=r8(a+88);
-if(r8(a+112)>Ki)Li=Ki;
+w8(a+176,Vi+1);
+Wi=r8(a+88);
+if(r8(a+112)>Wi)Xi=Wi;
 else{
-Mi=make_ready_9a1(a+80);
-if(!(Mi&1)){
-Hi=0;
-Ii=0;
+Yi=make_ready_9a1(a+80);
+if(!(Yi&1)){
+Ti=0;
+Ui=0;
 goto L55;}
-Li=r8(a+88);}
-Ni=rp(a+80)+Li*44;
-*Ni=6;
-Ni[1]=0;
-x2(Ni+2,0);
-memcpy(Ni+4,vb,40);
-w8(a+88,Li+1);
-Hi=3;
-Ii=1;}
-L55:*Qb=Ii;
-Qb[1]=Hi;
-Qb[2]=Ii;
-Qb[3]=0;
+Xi=r8(a+88);}
+Zi=rp(a+80)+Xi*44;
+*Zi=6;
+Zi[1]=0;
+x2(Zi+2,0);
+memcpy(Zi+4,Ab,40);
+w8(a+88,Xi+1);
+Ti=3;
+Ui=1;}
+L55:*Wb=Ui;
+Wb[1]=Ti;
+Wb[2]=Ui;
+Wb[3]=0;
 goto L54;}}
-components_at_8f9(ub,a,b,c);
-*Qb=*ub;
-Qb[1]=ub[1];
-Qb[2]=ub[2];
-Qb[3]=ub[3];
+components_at_8f9(zb,a,b,c);
+*Wb=*zb;
+Wb[1]=zb[1];
+Wb[2]=zb[2];
+Wb[3]=zb[3];
 L54:break;
-case 5:w4(tb,0);
-Oi=r8(a+176);
-if(Oi<c){
-if(*(b+Oi)==69){
-nest_ended_32a(tb,a,b,c);
-*Qb=*tb;
-Qb[1]=tb[1];
-Qb[2]=tb[2];
-Qb[3]=tb[3];
+case 5:w4(yb,0);
+aj=r8(a+176);
+if(aj<c){
+if(*(b+aj)==69){
+nest_ended_32a(yb,a,b,c);
+*Wb=*yb;
+Wb[1]=yb[1];
+Wb[2]=yb[2];
+Wb[3]=yb[3];
 goto L56;}}
 if(!(a[136]&1)){
-Pi=r4(a+120);
-Qi=a[139];
-Ri=r8(a+8);
-Si=r8(a+48);
-if(r8(a+72)>Si)Ti=Si;
+bj=r4(a+120);
+cj=a[139];
+dj=r8(a+8);
+ej=r8(a+48);
+if(r8(a+72)>ej)fj=ej;
 else{
-Ui=make_ready_17a(a+40);
-if(!(Ui&1)){
-w4(Qb,0);
+gj=make_ready_17a(a+40);
+if(!(gj&1)){
+w4(Wb,0);
 goto L56;}
-Ti=r8(a+48);}
-Vi=rp(a+40)+Ti*12;
-x4(Vi,Pi);
-x4(Vi+4,Ri);
-Vi[8]=0;
-Vi[9]=Qi;
-x2(Vi+10,0);
-w8(a+48,Ti+1);}
-components_at_8f9(tb,a,b,c);
-*Qb=*tb;
-Qb[1]=tb[1];
-Qb[2]=tb[2];
-Qb[3]=tb[3];
+fj=r8(a+48);}
+hj=rp(a+40)+fj*12;
+x4(hj,bj);
+x4(hj+4,dj);
+hj[8]=0;
+hj[9]=cj;
+x2(hj+10,0);
+w8(a+48,fj+1);}
+components_at_8f9(yb,a,b,c);
+*Wb=*yb;
+Wb[1]=yb[1];
+Wb[2]=yb[2];
+Wb[3]=yb[3];
 L56:break;
-case 6:components_at_8f9(Qb,a,b,c);
+case 6:components_at_8f9(Wb,a,b,c);
 break;
 default:NEVER;
 }
-Wi=lg+1;
-if(*Qb!=1||Wi==kg)goto L1;
-lg=Wi;
-mg=Qb[3];
-ng=Qb[2];
-og=Qb[1];
+ij=ug+1;
+if(*Wb!=1||ij==tg)goto L1;
+ug=ij;
+vg=Wb[3];
+wg=Wb[2];
+xg=Wb[1];
 goto L44;}}}
 goto L1;
-case 1:if(Vb)goto L1;
+case 1:if(bc)goto L1;
 if(c<16){
-Xi=are_few_named_14c(b,c);
-if(!Xi)goto L1;}
+jj=are_few_named_14c(b,c);
+if(!jj)goto L1;}
 else{
-Yi=c-16;
-if(Yi==0)goto L57;
-Zi=0;
-L58:aj=v16_at(b+Zi);
-if((v16_ult(aj,splat(33))|v16_eq(aj,splat(127)))!=0)goto L1;
-bj=Zi+16;
-if(bj<Yi){
-Zi=bj;
+kj=c-16;
+if(kj==0)goto L57;
+lj=0;
+L58:mj=v16_at(b+lj);
+if((v16_ult(mj,splat(33))|v16_eq(mj,splat(127)))!=0)goto L1;
+nj=lj+16;
+if(nj<kj){
+lj=nj;
 goto L58;}
-L57:cj=v16_at(b+Yi);
-if((v16_ult(cj,splat(33))|v16_eq(cj,splat(127)))!=0)goto L1;}
-w4(qb,0);
-w4(rb,0);
+L57:oj=v16_at(b+kj);
+if((v16_ult(oj,splat(33))|v16_eq(oj,splat(127)))!=0)goto L1;}
+w4(vb,0);
+w4(wb,0);
 if(c!=0){
 if(c!=1&&*b==95){
 if(b[1]==90){
 if(c>=3){
-dj=b[2];
+pj=b[2];
 if(c<5){
-if(dj==90)goto L59;
-if((c!=3)&(dj==71)){
+if(pj==90)goto L59;
+if((c!=3)&(pj==71)){
 if(b[3]==86)goto L60;
 goto L61;}
-switch(dj){
+switch(pj){
 case 71:goto L61;
 case 84:if(c==3)goto L62;
 break;
 default:goto L63;
 }}
 else{
-switch(dj){
+switch(pj){
 case 90:goto L59;
 case 71:if(b[3]!=86)goto L61;
 if(b[4]!=90)goto L60;
-if(Tb<19){
-ej=make_ready_8e3(a,19,128);
-if(!(ej&1)){
-hj=0;
-ij=0;
-jj=0;
-kj=0;
+if(Zb<19){
+qj=make_ready_8e3(a,19,128);
+if(!(qj&1)){
+tj=0;
+uj=0;
+vj=0;
+wj=0;
 goto L64;}
-fj=r8(a+16);
-gj=r8(a+8);}
+rj=r8(a+16);
+sj=r8(a+8);}
 else{
-fj=Sb;
-gj=0;}
-if(fj-gj<19){
-lj=grow_amortized_68b(a,19);
-if(!lj){
-hj=0;
-ij=0;
-jj=0;
-kj=0;
+rj=Yb;
+sj=0;}
+if(rj-sj<19){
+xj=grow_amortized_68b(a,19);
+if(!xj){
+tj=0;
+uj=0;
+vj=0;
+wj=0;
 goto L64;}
-mj=r8(a+16);
-nj=r8(a+8);}
+yj=r8(a+16);
+zj=r8(a+8);}
 else{
-mj=fj;
-nj=gj;}
-oj=nj+19;
-pj=rp(a);
+yj=rj;
+zj=sj;}
+Aj=zj+19;
+Bj=rp(a);
 z16(a+8);
-qj=pj+(i64)nj;
-if((u64)qj-(u64)(u8*)t_c270<19)copy_bits_4f4((u8*)t_c270,qj,19);
-else memcpy(qj,(u8*)t_c270,19);
-wp(a,pj);
-w8(a+8,oj);
-w8(a+16,mj);
+Cj=Bj+(i64)zj;
+if((u64)Cj-(u64)(u8*)t_c270<19)copy_bits_4f4((u8*)t_c270,Cj,19);
+else memcpy(Cj,(u8*)t_c270,19);
+wp(a,Bj);
+w8(a+8,Aj);
+w8(a+16,yj);
 w8(a+176,5);
-begin_encoding_a64(ob,a,b,c);
-hj=ob[3];
-ij=ob[2];
-jj=ob[1];
-kj=*ob;
-L64:rj=hj;
-sj=ij;
-tj=jj;
-uj=kj;
+begin_encoding_a64(tb,a,b,c);
+tj=tb[3];
+uj=tb[2];
+vj=tb[1];
+wj=*tb;
+L64:Dj=tj;
+Ej=uj;
+Fj=vj;
+Gj=wj;
 goto L65;
 case 84:break;
 default:goto L63;
 }}
 switch(b[3]){
-case 104:begin_thunk_50d(rb,a,b,c);
+case 104:begin_thunk_50d(wb,a,b,c);
 goto L66;
-case 118:begin_virtual_thunk_1ab(rb,a,b,c);
+case 118:begin_virtual_thunk_1ab(wb,a,b,c);
 goto L66;
-case 67:begin_table_89f(rb,a);
+case 67:begin_table_89f(wb,a);
 goto L66;
 default:break;}
-L62:begin_special_44d(rb,a,b,c);
-L66:vj=rb[3];
-wj=rb[2];
-xj=rb[1];
-yj=*rb;
+L62:begin_special_44d(wb,a,b,c);
+L66:Hj=wb[3];
+Ij=wb[2];
+Jj=wb[1];
+Kj=*wb;
 goto L67;
-L61:begin_clone_906(qb,a,b,c);
-vj=qb[3];
-wj=qb[2];
-xj=qb[1];
-yj=*qb;
+L61:begin_clone_906(vb,a,b,c);
+Hj=vb[3];
+Ij=vb[2];
+Jj=vb[1];
+Kj=*vb;
 goto L67;
-L60:begin_object_4cd(qb,a,b,c);
-vj=qb[3];
-wj=qb[2];
-xj=qb[1];
-yj=*qb;
+L60:begin_object_4cd(vb,a,b,c);
+Hj=vb[3];
+Ij=vb[2];
+Jj=vb[1];
+Kj=*vb;
 goto L67;
 L59:w8(a+176,3);
-begin_encoding_a64(pb,a,b,c);
-rj=pb[3];
-sj=pb[2];
-tj=pb[1];
-uj=*pb;
-L65:vj=rj;
-wj=sj;
-xj=tj;
-yj=uj;
+begin_encoding_a64(ub,a,b,c);
+Dj=ub[3];
+Ej=ub[2];
+Fj=ub[1];
+Gj=*ub;
+L65:Hj=Dj;
+Ij=Ej;
+Jj=Fj;
+Kj=Gj;
 goto L67;}
 L63:w8(a+176,2);
-begin_encoding_a64(qb,a,b,c);
-vj=qb[3];
-wj=qb[2];
-xj=qb[1];
-yj=*qb;
-L67:if(yj!=1)goto L1;
-zj=c<<3;
-Aj=0;
-Bj=vj;
-Cj=wj;
-Dj=xj;
-L68:if(Dj==7){
-Ej=r8(a+8);
-if(Ej>Rb)goto L14;
-Fj=rp(a);
-if(Ej==0)goto L15;
-Gj=0;
-Hj=0;
-Ij=0;
-L69:Jj=Gj;
-L70:if(Ej-Jj>15){
-Kj=cttz(v16_ult(v16_at(Fj+Jj),splat(3)),16);
-Lj=Jj+Kj;
-if(Kj>=16){
-Jj=Lj;
-goto L70;}
-Mj=Lj;}
-else{
-if(Jj>=Ej){
-Mj=Jj;
-goto L71;}
-Nj=Jj;
-L72:if(*(Fj+Nj)>2){
-Oj=Nj+1;
-if(Oj!=Ej){
-Nj=Oj;
-goto L72;}
-Mj=Ej;}
-else Mj=Nj;}
-L71:if(Ij==0){
-if(Hj<Gj){
-if(Mj!=Gj){
-Pj=Mj-Gj;
-Qj=Fj+(i64)Gj;
-Rj=Fj+(i64)Hj;
+begin_encoding_a64(vb,a,b,c);
+Hj=vb[3];
+Ij=vb[2];
+Jj=vb[1];
+Kj=*vb;
+L67:if(Kj!=1)goto L1;
+Lj=c<<3;
+Mj=0;
+Nj=Hj;
+Oj=Ij;
+Pj=Jj;
+L68:if(Pj==7){
+Qj=r8(a+8);
+if(Qj>Xb)goto L14;
+Rj=rp(a);
+if(Qj==0)goto L15;
 Sj=0;
-L73:*(Rj+(i64)Sj)=*(Qj+(i64)Sj);
-Tj=Sj+1;
-if(Tj!=Pj){
-Sj=Tj;
+Tj=0;
+Uj=0;
+L69:Vj=Sj;
+L70:if(Qj-Vj>15){
+Wj=cttz(v16_ult(v16_at(Rj+Vj),splat(3)),16);
+Xj=Vj+Wj;
+if(Wj>=16){
+Vj=Xj;
+goto L70;}
+Yj=Xj;}
+else{
+if(Vj>=Qj){
+Yj=Vj;
+goto L71;}
+Zj=Vj;
+L72:if(*(Rj+Zj)>2){
+ak=Zj+1;
+if(ak!=Qj){
+Zj=ak;
+goto L72;}
+Yj=Qj;}
+else Yj=Zj;}
+L71:if(Uj==0){
+if(Tj<Sj){
+if(Yj!=Sj){
+bk=Yj-Sj;
+ck=Rj+(i64)Sj;
+dk=Rj+(i64)Tj;
+ek=0;
+L73:*(dk+(i64)ek)=*(ck+(i64)ek);
+fk=ek+1;
+if(fk!=bk){
+ek=fk;
 goto L73;}}}
-Uj=Hj-Gj+Mj;}
-else Uj=Hj;
-if(Mj!=Ej){
-switch(*(Fj+Mj)){
-case 1:Vj=Ij+1;
+gk=Tj-Sj+Yj;}
+else gk=Tj;
+if(Yj!=Qj){
+switch(*(Rj+Yj)){
+case 1:hk=Uj+1;
 break;
-case 2:Vj=usub64(Ij,1);
+case 2:hk=usub64(Uj,1);
 break;
 default:goto L1;
 }
-Wj=Mj+1;
-if(Wj<Ej){
-Gj=Wj;
-Hj=Uj;
-Ij=Vj;
+ik=Yj+1;
+if(ik<Qj){
+Sj=ik;
+Tj=gk;
+Uj=hk;
 goto L69;}}
-if(r8(a+8)<=Uj)goto L15;
-Wc=Uj;
+if(r8(a+8)<=gk)goto L15;
+cd=gk;
 break;}
 w8(a+184,r8(a+184)+1);
-w4(sb,0);
-switch(Dj){
-case 0:type_at_d83(sb,a,b,c,0);
+w4(xb,0);
+switch(Pj){
+case 0:type_at_d83(xb,a,b,c,0);
 break;
-case 1:type_at_d83(sb,a,b,c,1);
+case 1:type_at_d83(xb,a,b,c,1);
 break;
-case 2:w4(kb,0);
-w4(lb,0);
-z32(mb);
-z32(nb);
-Xj=r8(a+88);
-if(Xj==0)w4(sb,0);
+case 2:w4(pb,0);
+w4(qb,0);
+z32(rb);
+z32(sb);
+jk=r8(a+88);
+if(jk==0)w4(xb,0);
 else{
-Yj=Cj&1;
-Zj=rp(a+80)+(i64)(Xj*44);
-ak=Zj[-44];
-bk=Zj[-43];
-ck=q4(Zj-40);
-dk=q4(Zj-36);
-ek=q2(Zj-32);
-switch(ak){
-case 29:case 28:case 27:case 26:case 4:case 5:case 6:case 7:case 8:case 11:case 12:case 13:case 14:case 15:case 16:case 17:case 18:case 19:case 20:case 21:case 22:case 23:case 24:case 25:if(Bj&1){
-pass_dependent_123(kb,a,b,c);
-*sb=*kb;
-sb[1]=kb[1];
-sb[2]=kb[2];
-sb[3]=kb[3];
+kk=Oj&1;
+lk=rp(a+80)+(i64)(jk*44);
+mk=lk[-44];
+nk=lk[-43];
+ok=q4(lk-40);
+pk=q4(lk-36);
+qk=q2(lk-32);
+switch(mk){
+case 29:case 28:case 27:case 26:case 4:case 5:case 6:case 7:case 8:case 11:case 12:case 13:case 14:case 15:case 16:case 17:case 18:case 19:case 20:case 21:case 22:case 23:case 24:case 25:if(Nj&1){
+pass_dependent_123(pb,a,b,c);
+*xb=*pb;
+xb[1]=pb[1];
+xb[2]=pb[2];
+xb[3]=pb[3];
 goto L74;}
-fk=q4(Zj-4);
-gk=dk;
-hk=dk>>16;
-w4(jb,0);
-switch(ak){
-case 22:returned_087(jb,a,b,c,bk&1);
+rk=q4(lk-4);
+w4(ob,0);
+switch(mk){
+case 22:returned_087(ob,a,b,c,nk&1);
 break;
-case 23:parameter_at_d02(jb,a,b,c,bk&1,0);
+case 23:parameter_at_d02(ob,a,b,c,nk&1,0);
 break;
-case 24:array_ended_a11(jb,a,b,c,bk,ck,dk);
+case 24:array_ended_a11(ob,a,b,c,nk,ok,pk);
 break;
-case 12:enclosing_parameter_d72(jb,a,b,c,bk,ck);
+case 12:enclosing_parameter_d72(ob,a,b,c,nk,ok);
 break;
-case 13:instance_parameter_e2a(jb,a,b,c,bk,ck,dk);
+case 13:instance_parameter_e2a(ob,a,b,c,nk,ok,pk);
 break;
-case 11:w2(db,ek);
-memcpy(db+2,Zj-30,26);
-x4(db+28,fk);
-enclosing_front_fa8(jb,a,bk,ck,dk,db);
+case 11:w2(lb,qk);
+memcpy(lb+2,lk-30,26);
+x4(lb+28,rk);
+enclosing_front_fa8(ob,a,nk,ok,pk,lb);
 break;
-case 17:w4(eb,dk);
-w2(eb+4,ek);
-lambda_parameter_f9a(jb,a,b,c,ck,eb);
+case 17:w4(mb,pk);
+w2(mb+4,qk);
+lambda_parameter_f9a(ob,a,b,c,ok,mb);
 break;
-case 18:member_parameter_678(jb,a,b,c,bk);
+case 18:member_parameter_678(ob,a,b,c,nk);
 break;
-case 15:w4(fb,dk);
-w2(fb+4,ek);
-memcpy(fb+6,Zj-30,26);
-addressed_front_4c5(jb,a,b,c,bk,ck,fb);
+case 15:w4(nb,pk);
+w2(nb+4,qk);
+memcpy(nb+6,lk-30,26);
+addressed_front_4c5(ob,a,b,c,nk,ok,nb);
 break;
-case 16:addressed_parameter_41c(jb,a,b,c,bk);
+case 16:addressed_parameter_41c(ob,a,b,c,nk);
 break;
-case 14:*jb=0;
+case 14:*ob=0;
 break;
-case 19:finish_8cd(jb,a,b,c);
+case 19:finish_8cd(ob,a,b,c);
 break;
-case 20:derived_ended_aef(jb,a,b,c);
+case 20:derived_ended_aef(ob,a,b,c);
 break;
-case 21:base_ended_299(jb,a,b,c,ck);
+case 21:base_ended_299(ob,a,b,c,ok);
 break;
-case 29:enumerator_21c(jb,a,b,c);
+case 29:enumerator_21c(ob,a,b,c);
 break;
-case 26:w2(gb,hk);
-w2(gb+2,ek);
-memcpy(gb+4,Zj-30,26);
-w2(gb+30,fk);
-argument_enumerator_071(jb,a,b,c,ck,gk,gb);
+case 26:case 25:case 28:sk=pk;
+tk=rk;
+w4(kb,0);
+switch(mk){
+case 26:w2(hb,pk>>16);
+w2(hb+2,qk);
+memcpy(hb+4,lk-30,26);
+w2(hb+30,tk);
+argument_enumerator_071(kb,a,b,c,ok,sk,hb);
 break;
-case 25:w2(hb,hk);
-w2(hb+2,ek);
-memcpy(hb+4,Zj-30,26);
-w2(hb+30,fk);
-argument_ended_c7c(jb,a,b,c,ck,gk,hb,Yj);
+case 25:w2(ib,pk>>16);
+w2(ib+2,qk);
+memcpy(ib+4,lk-30,26);
+w2(ib+30,tk);
+argument_ended_c7c(kb,a,b,c,ok,sk,ib,kk);
 break;
-case 28:w2(ib,hk);
-w2(ib+2,ek);
-memcpy(ib+4,Zj-30,26);
-w2(ib+30,fk);
-element_ended_c50(jb,a,b,c,ck,gk,ib,Yj);
+case 28:w2(jb,pk>>16);
+w2(jb+2,qk);
+memcpy(jb+4,lk-30,26);
+w2(jb+30,tk);
+element_ended_c50(kb,a,b,c,ok,sk,jb,kk);
 break;
-case 27:case 10:case 9:case 8:case 4:case 5:case 6:case 7:*jb=1;
-jb[1]=3;
-jb[2]=0;
-jb[3]=0;
+case 27:*kb=0;
 break;
 default:NEVER;
 }
-ik=jb[1];
-jk=jb[2];
-kk=jb[3];
-*lb=*jb;
-lb[1]=ik;
-lb[2]=jk;
-lb[3]=kk;
-goto L75;
-case 10:w4(mb,dk);
-w2(mb+4,ek);
-memcpy(mb+6,Zj-30,26);
-parameter_ended_06e(lb,a,b,c,bk,ck,mb);
-goto L75;
-case 9:w4(nb,dk);
-w2(nb+4,ek);
-memcpy(nb+6,Zj-30,26);
-front_ended_ee9(lb,a,b,c,bk,ck,nb);
-goto L75;
-case 0:w8(a+88,Xj-1);
-lk=r8(a+8);
-if(r8(a+32)>lk)mk=lk;
-else{
-nk=make_ready_8e3(a,1,16);
-if(!(nk&1)){
-ok=0;
-pk=0;
-qk=0;
-rk=0;
-goto L76;}
-mk=r8(a+8);}
-*(rp(a)+mk)=42;
-sk=mk+1;
-w8(a+8,sk);
-tk=sk;
-uk=Bj&1;
-vk=r8(a+48);
-if(r8(a+72)>vk){
-wk=vk;
-xk=tk;
-yk=0;
-zk=uk;
-goto L77;}
-Ak=make_ready_17a(a+40);
-if(!(Ak&1)){
-ok=0;
-pk=0;
-qk=0;
-rk=0;
-goto L76;}
-Bk=tk;
-Ck=0;
-Dk=uk;
+uk=kb[1];
+vk=kb[2];
+wk=kb[3];
+*ob=*kb;
+ob[1]=uk;
+ob[2]=vk;
+ob[3]=wk;
 break;
-case 1:if(Yj)goto L75;
-w8(a+88,Xj-1);
-Ek=r8(a+8);
-if(r8(a+32)>Ek)Fk=Ek;
+case 27:case 10:case 9:case 8:case 4:case 5:case 6:case 7:*ob=1;
+ob[1]=3;
+ob[2]=0;
+ob[3]=0;
+break;
+default:NEVER;
+}
+xk=ob[1];
+yk=ob[2];
+zk=ob[3];
+*qb=*ob;
+qb[1]=xk;
+qb[2]=yk;
+qb[3]=zk;
+goto L75;
+case 10:w4(rb,pk);
+w2(rb+4,qk);
+memcpy(rb+6,lk-30,26);
+parameter_ended_06e(qb,a,b,c,nk,ok,rb);
+goto L75;
+case 9:w4(sb,pk);
+w2(sb+4,qk);
+memcpy(sb+6,lk-30,26);
+front_ended_ee9(qb,a,b,c,nk,ok,sb);
+goto L75;
+case 0:w8(a+88,jk-1);
+Ak=r8(a+8);
+if(r8(a+32)>Ak)Bk=Ak;
 else{
-Gk=make_ready_8e3(a,1,16);
-if(!(Gk&1)){
-ok=0;
-pk=0;
-qk=0;
-rk=0;
+Ck=make_ready_8e3(a,1,16);
+if(!(Ck&1)){
+Dk=0;
+Ek=0;
+Fk=0;
+Gk=0;
 goto L76;}
-Fk=r8(a+8);}
-*(rp(a)+Fk)=38;
-Hk=Fk+1;
+Bk=r8(a+8);}
+*(rp(a)+Bk)=42;
+Hk=Bk+1;
 w8(a+8,Hk);
 Ik=Hk;
-Jk=Bj&1;
+Jk=Nj&1;
 Kk=r8(a+48);
 if(r8(a+72)>Kk){
-wk=Kk;
-xk=Ik;
-yk=1;
-zk=Jk;
+Lk=Kk;
+Mk=Ik;
+Nk=0;
+Ok=Jk;
 goto L77;}
-Lk=make_ready_17a(a+40);
-if(!(Lk&1)){
-ok=0;
-pk=0;
-qk=0;
-rk=0;
+Pk=make_ready_17a(a+40);
+if(!(Pk&1)){
+Dk=0;
+Ek=0;
+Fk=0;
+Gk=0;
 goto L76;}
-Bk=Ik;
-Ck=1;
-Dk=Jk;
+Qk=Ik;
+Rk=0;
+Sk=Jk;
 break;
-case 2:if(Yj)goto L75;
-w8(a+88,Xj-1);
-Mk=r8(a+8);
-if(r8(a+32)-Mk<2){
-Nk=make_ready_8e3(a,2,128);
-if(!(Nk&1)){
-ok=0;
-pk=0;
-qk=0;
-rk=0;
+case 1:if(kk)goto L75;
+w8(a+88,jk-1);
+Tk=r8(a+8);
+if(r8(a+32)>Tk)Uk=Tk;
+else{
+Vk=make_ready_8e3(a,1,16);
+if(!(Vk&1)){
+Dk=0;
+Ek=0;
+Fk=0;
+Gk=0;
 goto L76;}
-Ok=r8(a+8);}
-else Ok=Mk;
-*(rp(a)+Ok)=38;
-*(rp(a)+(i64)Ok+1)=38;
-Pk=Ok+2;
-w8(a+8,Pk);
-Qk=Pk;
-Rk=Bj&1;
-Sk=r8(a+48);
-if(r8(a+72)>Sk){
-wk=Sk;
-xk=Qk;
-yk=1;
-zk=Rk;
+Uk=r8(a+8);}
+*(rp(a)+Uk)=38;
+Wk=Uk+1;
+w8(a+8,Wk);
+Xk=Wk;
+Yk=Nj&1;
+Zk=r8(a+48);
+if(r8(a+72)>Zk){
+Lk=Zk;
+Mk=Xk;
+Nk=1;
+Ok=Yk;
 goto L77;}
-Tk=make_ready_17a(a+40);
-if(!(Tk&1)){
-ok=0;
-pk=0;
-qk=0;
-rk=0;
+al=make_ready_17a(a+40);
+if(!(al&1)){
+Dk=0;
+Ek=0;
+Fk=0;
+Gk=0;
 goto L76;}
-Bk=Qk;
-Ck=1;
-Dk=Rk;
+Qk=Xk;
+Rk=1;
+Sk=Yk;
 break;
-case 3:if(Yj)goto L75;
-w8(a+88,Xj-1);
+case 2:if(kk)goto L75;
+w8(a+88,jk-1);
+bl=r8(a+8);
+if(r8(a+32)-bl<2){
+cl=make_ready_8e3(a,2,128);
+if(!(cl&1)){
+Dk=0;
+Ek=0;
+Fk=0;
+Gk=0;
+goto L76;}
+dl=r8(a+8);}
+else dl=bl;
+*(rp(a)+dl)=38;
+*(rp(a)+(i64)dl+1)=38;
+el=dl+2;
+w8(a+8,el);
+fl=el;
+gl=Nj&1;
+hl=r8(a+48);
+if(r8(a+72)>hl){
+Lk=hl;
+Mk=fl;
+Nk=1;
+Ok=gl;
+goto L77;}
+il=make_ready_17a(a+40);
+if(!(il&1)){
+Dk=0;
+Ek=0;
+Fk=0;
+Gk=0;
+goto L76;}
+Qk=fl;
+Rk=1;
+Sk=gl;
+break;
+case 3:if(kk)goto L75;
+w8(a+88,jk-1);
 if(r8(a+32)-r8(a+8)<6){
-Uk=make_ready_8e3(a,6,128);
-if(!(Uk&1)){
-ok=0;
-pk=0;
-qk=0;
-rk=0;
+jl=make_ready_8e3(a,6,128);
+if(!(jl&1)){
+Dk=0;
+Ek=0;
+Fk=0;
+Gk=0;
 goto L76;}}
-Vk=extend_from_slice_674(a,(u8*)t_f603,6);
-if(Vk&1){
-ok=0;
-pk=0;
-qk=0;
-rk=0;
+kl=extend_from_slice_674(a,(u8*)t_f603,6);
+if(kl&1){
+Dk=0;
+Ek=0;
+Fk=0;
+Gk=0;
 goto L76;}
-Wk=r8(a+8);
-Xk=Bj&1;
-Yk=r8(a+48);
-if(r8(a+72)>Yk){
-wk=Yk;
-xk=Wk;
-yk=0;
-zk=Xk;
+ll=r8(a+8);
+ml=Nj&1;
+nl=r8(a+48);
+if(r8(a+72)>nl){
+Lk=nl;
+Mk=ll;
+Nk=0;
+Ok=ml;
 goto L77;}
-Zk=make_ready_17a(a+40);
-if(!(Zk&1)){
-ok=0;
-pk=0;
-qk=0;
-rk=0;
+ol=make_ready_17a(a+40);
+if(!(ol&1)){
+Dk=0;
+Ek=0;
+Fk=0;
+Gk=0;
 goto L76;}
-Bk=Wk;
-Ck=0;
-Dk=Xk;
+Qk=ll;
+Rk=0;
+Sk=ml;
 break;
 default:NEVER;
 }
-wk=r8(a+48);
-xk=Bk;
-yk=Ck;
-zk=Dk;
-L77:al=rp(a+40)+wk*12;
-x4(al,ck);
-x4(al+4,xk);
-al[8]=yk;
-al[9]=zk;
-x2(al+10,0);
-w8(a+48,wk+1);
-ok=zk;
-pk=yk;
-qk=2;
-rk=1;
-L76:*lb=rk;
-lb[1]=qk;
-lb[2]=pk;
-lb[3]=ok;
-L75:bl=lb[1];
-cl=lb[2];
-dl=lb[3];
-*sb=*lb;
-sb[1]=bl;
-sb[2]=cl;
-sb[3]=dl;}
+Lk=r8(a+48);
+Mk=Qk;
+Nk=Rk;
+Ok=Sk;
+L77:pl=rp(a+40)+Lk*12;
+x4(pl,ok);
+x4(pl+4,Mk);
+pl[8]=Nk;
+pl[9]=Ok;
+x2(pl+10,0);
+w8(a+48,Lk+1);
+Dk=Ok;
+Ek=Nk;
+Fk=2;
+Gk=1;
+L76:*qb=Gk;
+qb[1]=Fk;
+qb[2]=Ek;
+qb[3]=Dk;
+L75:ql=qb[1];
+rl=qb[2];
+sl=qb[3];
+*xb=*qb;
+xb[1]=ql;
+xb[2]=rl;
+xb[3]=sl;}
 L74:break;
-case 3:el=Cj&1;
-w4(bb,0);
-fl=r8(a+176);
-if(fl<c){
-gl=*(b+fl);
-switch(gl){
-case 69:w4(Za,0);
-w8(a+176,fl+1);
-hl=r8(a+88);
-if(hl==0){
-il=0;
-jl=0;
-kl=0;
-ll=0;}
-else{
-if(*(rp(a+80)+(i64)(hl*44)-44)==27){
-if(el){
-il=0;
-jl=0;
-kl=0;
-ll=0;}
-else{
-w8(a+88,hl-1);
-il=0;
-jl=0;
-kl=3;
-ll=1;}}
-else{
-z32(ab);
-close_list_148(Za,a,b,c,ab);
-il=Za[3];
-jl=Za[2];
-kl=Za[1];
-ll=*Za;}}
-*sb=ll;
-sb[1]=kl;
-sb[2]=jl;
-sb[3]=il;
-goto L78;
-case 74:ml=fl+1;
-if(ml<c){
-if(*(b+ml)==69){
-empty_pack_c74(bb,a,b,c,el);
-*sb=*bb;
-sb[1]=bb[1];
-sb[2]=bb[2];
-sb[3]=bb[3];
-goto L78;}}
-if(!el){
-nl=74;
-goto L79;}
-first_pack_117(bb,a,b,c);
-*sb=*bb;
-sb[1]=bb[1];
-sb[2]=bb[2];
-sb[3]=bb[3];
-goto L78;
-default:ol=gl;
-break;}}
-else ol=0;
-if(el){
-pl=ol;
-goto L80;}
-nl=ol;
-L79:ql=r8(a+8);
-if(r8(a+32)-ql<2){
-rl=make_ready_8e3(a,2,128);
-if(!(rl&1)){
-w4(sb,0);
-goto L78;}
-sl=r8(a+8);}
-else sl=ql;
-*(rp(a)+sl)=44;
-*(rp(a)+(i64)sl+1)=32;
-w8(a+8,sl+2);
-pl=nl;
-L80:switch(pl){
-case 88:tl=r8(a+176);
-if(tl==18446744073709551615u){
-w4(sb,0);
-goto L78;}
-ul=tl+1;
+case 3:tl=Oj&1;
+w4(fb,0);
+ul=r8(a+176);
 if(ul<c){
-switch(*(b+ul)){
-case 115:begin_level_398(bb,a,b,c);
-*sb=*bb;
-sb[1]=bb[1];
-sb[2]=bb[2];
-sb[3]=bb[3];
+vl=*(b+ul);
+switch(vl){
+case 69:w4(db,0);
+w8(a+176,ul+1);
+wl=r8(a+88);
+if(wl==0){
+xl=0;
+yl=0;
+zl=0;
+Al=0;}
+else{
+if(*(rp(a+80)+(i64)(wl*44)-44)==27){
+if(tl){
+xl=0;
+yl=0;
+zl=0;
+Al=0;}
+else{
+w8(a+88,wl-1);
+xl=0;
+yl=0;
+zl=3;
+Al=1;}}
+else{
+z32(eb);
+close_list_148(db,a,b,c,eb);
+xl=db[3];
+yl=db[2];
+zl=db[1];
+Al=*db;}}
+*xb=Al;
+xb[1]=zl;
+xb[2]=yl;
+xb[3]=xl;
 goto L78;
-case 84:parameter_argument_7c8(bb,a,b,c);
-*sb=*bb;
-sb[1]=bb[1];
-sb[2]=bb[2];
-sb[3]=bb[3];
+case 74:Bl=ul+1;
+if(Bl<c){
+if(*(b+Bl)==69){
+empty_pack_c74(fb,a,b,c,tl);
+*xb=*fb;
+xb[1]=fb[1];
+xb[2]=fb[2];
+xb[3]=fb[3];
+goto L78;}}
+if(!tl){
+Cl=74;
+goto L79;}
+first_pack_117(fb,a,b,c);
+*xb=*fb;
+xb[1]=fb[1];
+xb[2]=fb[2];
+xb[3]=fb[3];
+goto L78;
+default:Dl=vl;
+break;}}
+else Dl=0;
+if(tl){
+El=Dl;
+goto L80;}
+Cl=Dl;
+L79:Fl=r8(a+8);
+if(r8(a+32)-Fl<2){
+Gl=make_ready_8e3(a,2,128);
+if(!(Gl&1)){
+w4(xb,0);
+goto L78;}
+Hl=r8(a+8);}
+else Hl=Fl;
+*(rp(a)+Hl)=44;
+*(rp(a)+(i64)Hl+1)=32;
+w8(a+8,Hl+2);
+El=Cl;
+L80:switch(El){
+case 88:Il=r8(a+176);
+if(Il==18446744073709551615u){
+w4(xb,0);
+goto L78;}
+Jl=Il+1;
+if(Jl<c){
+switch(*(b+Jl)){
+case 115:begin_level_398(fb,a,b,c);
+*xb=*fb;
+xb[1]=fb[1];
+xb[2]=fb[2];
+xb[3]=fb[3];
+goto L78;
+case 84:parameter_argument_7c8(fb,a,b,c);
+*xb=*fb;
+xb[1]=fb[1];
+xb[2]=fb[2];
+xb[3]=fb[3];
 goto L78;
 default:break;}}
 break;
-case 76:if(el){
-first_literal_898(bb,a,b,c);
-*sb=*bb;
-sb[1]=bb[1];
-sb[2]=bb[2];
-sb[3]=bb[3];
+case 76:if(tl){
+first_literal_898(fb,a,b,c);
+*xb=*fb;
+xb[1]=fb[1];
+xb[2]=fb[2];
+xb[3]=fb[3];
 goto L78;}
-literal_47f(cb,a,b,c);
-vl=cb[3];
-wl=cb[2];
-xl=cb[1];
-yl=*cb;
+literal_47f(gb,a,b,c);
+Kl=gb[3];
+Ll=gb[2];
+Ml=gb[1];
+Nl=*gb;
 goto L81;
-case 74:zl=r8(a+88);
-if(zl==0){
-vl=0;
-wl=0;
-xl=0;
-yl=0;
-goto L81;}
-Al=rp(a+80);
-Bl=zl*44;
-if(*(Al+(i64)Bl-44)==27){
-vl=0;
-wl=0;
-xl=0;
-yl=0;
-goto L81;}
-Cl=r8(a+176);
-if(Cl==18446744073709551615u){
-vl=0;
-wl=0;
-xl=0;
-yl=0;
-goto L81;}
-w8(a+176,Cl+1);
-if(r8(a+112)>zl){
-Dl=Bl;
-El=Al;
-Fl=zl;}
-else{
-Gl=make_ready_9a1(a+80);
-if(!(Gl&1)){
-vl=0;
-wl=0;
-xl=0;
-yl=0;
-goto L81;}
-Hl=r8(a+88);
-Dl=Hl*44;
-El=rp(a+80);
-Fl=Hl;}
-Il=El+Dl;
-*Il=27;
-z43(Il+1);
-w8(a+88,Fl+1);
-vl=0;
-wl=1;
-xl=3;
-yl=1;
-goto L81;
-default:break;}
-if(el){
-Jl=r8(a+88);
-if(Jl==0){
-Kl=0;
-Ll=0;
-Ml=0;
-Nl=1;}
-else{
-Ol=rp(a+80);
-Pl=Jl*44;
-Ql=Ol+(i64)Pl;
-switch(Ql[-44]){
-case 5:if(Ql[-28]==0){
-Kl=0;
-Ll=0;
-Ml=0;
-Nl=1;
-goto L82;}
-break;
-case 7:break;
-case 0:case 1:case 2:case 3:case 4:case 6:case 8:case 9:case 10:case 11:case 12:case 13:case 14:case 15:case 16:case 17:case 18:case 19:case 20:case 21:case 22:case 23:case 24:case 25:case 26:case 27:case 28:case 29:Kl=0;
-Ll=0;
-Ml=0;
-Nl=1;
-goto L82;
-default:NEVER;
-}
-Rl=is_element_at_f4e(b,c,r8(a+176));
-if(Rl){
-Kl=0;
-Ll=0;
-Ml=0;
-Nl=1;}
-else{
-Sl=r8(a+8);
-if(r8(a+112)>Jl){
-Tl=Pl;
-Ul=Ol;
-Vl=Jl;}
-else{
-Wl=make_ready_9a1(a+80);
-if(!(Wl&1)){
+case 74:Ol=r8(a+88);
+if(Ol==0){
 Kl=0;
 Ll=0;
 Ml=0;
 Nl=0;
+goto L81;}
+Pl=rp(a+80);
+Ql=Ol*44;
+if(*(Pl+(i64)Ql-44)==27){
+Kl=0;
+Ll=0;
+Ml=0;
+Nl=0;
+goto L81;}
+Rl=r8(a+176);
+if(Rl==18446744073709551615u){
+Kl=0;
+Ll=0;
+Ml=0;
+Nl=0;
+goto L81;}
+w8(a+176,Rl+1);
+if(r8(a+112)>Ol){
+Sl=Ql;
+Tl=Pl;
+Ul=Ol;}
+else{
+Vl=make_ready_9a1(a+80);
+if(!(Vl&1)){
+Kl=0;
+Ll=0;
+Ml=0;
+Nl=0;
+goto L81;}
+Wl=r8(a+88);
+Sl=Wl*44;
+Tl=rp(a+80);
+Ul=Wl;}
+Xl=Tl+Sl;
+*Xl=27;
+z43(Xl+1);
+w8(a+88,Ul+1);
+Kl=0;
+Ll=1;
+Ml=3;
+Nl=1;
+goto L81;
+default:break;}
+if(tl){
+Yl=r8(a+88);
+if(Yl==0){
+Zl=0;
+am=0;
+bm=0;
+cm=1;}
+else{
+dm=rp(a+80);
+em=Yl*44;
+fm=dm+(i64)em;
+switch(fm[-44]){
+case 5:if(fm[-28]==0){
+Zl=0;
+am=0;
+bm=0;
+cm=1;
 goto L82;}
-Xl=r8(a+88);
-Tl=Xl*44;
-Ul=rp(a+80);
-Vl=Xl;}
-Yl=Ul+Tl;
-*Yl=25;
-Yl[1]=0;
-x2(Yl+2,0);
-x4(Yl+4,Sl);
-z36(Yl+8);
-w8(a+88,Vl+1);
-w4(Ya,0);
-Zl=r8(a+176);
-if(Zl<c){
-if(*(b+Zl)==88){
-begin_address_731(Ya,a,b,c);
-am=Ya[3];
-bm=Ya[2];
-cm=Ya[1];
-dm=*Ya;}
+break;
+case 7:break;
+case 0:case 1:case 2:case 3:case 4:case 6:case 8:case 9:case 10:case 11:case 12:case 13:case 14:case 15:case 16:case 17:case 18:case 19:case 20:case 21:case 22:case 23:case 24:case 25:case 26:case 27:case 28:case 29:Zl=0;
+am=0;
+bm=0;
+cm=1;
+goto L82;
+default:NEVER;
+}
+gm=is_element_at_f4e(b,c,r8(a+176));
+if(gm){
+Zl=0;
+am=0;
+bm=0;
+cm=1;}
 else{
+hm=r8(a+8);
+if(r8(a+112)>Yl){
+im=em;
+jm=dm;
+km=Yl;}
+else{
+lm=make_ready_9a1(a+80);
+if(!(lm&1)){
+Zl=0;
 am=0;
 bm=0;
 cm=0;
-dm=1;}}
+goto L82;}
+mm=r8(a+88);
+im=mm*44;
+jm=rp(a+80);
+km=mm;}
+nm=jm+im;
+*nm=25;
+nm[1]=0;
+x2(nm+2,0);
+x4(nm+4,hm);
+z36(nm+8);
+w8(a+88,km+1);
+w4(cb,0);
+om=r8(a+176);
+if(om<c){
+if(*(b+om)==88){
+begin_address_731(cb,a,b,c);
+pm=cb[3];
+qm=cb[2];
+rm=cb[1];
+sm=*cb;}
 else{
-am=0;
-bm=0;
-cm=0;
-dm=1;}
-Kl=am;
-Ll=bm;
-Ml=cm;
-Nl=dm;}}
-L82:*sb=Nl;
-sb[1]=Ml;
-sb[2]=Ll;
-sb[3]=Kl;
+pm=0;
+qm=0;
+rm=0;
+sm=1;}}
+else{
+pm=0;
+qm=0;
+rm=0;
+sm=1;}
+Zl=pm;
+am=qm;
+bm=rm;
+cm=sm;}}
+L82:*xb=cm;
+xb[1]=bm;
+xb[2]=am;
+xb[3]=Zl;
 goto L78;}
-vl=0;
-wl=0;
-xl=0;
-yl=1;
-L81:*sb=yl;
-sb[1]=xl;
-sb[2]=wl;
-sb[3]=vl;
+Kl=0;
+Ll=0;
+Ml=0;
+Nl=1;
+L81:*xb=Nl;
+xb[1]=Ml;
+xb[2]=Ll;
+xb[3]=Kl;
 L78:break;
-case 4:w4(Wa,0);
-z20(Xa+20);
+case 4:w4(ab,0);
+z20(bb+20);
 if(!(a[136]&1)){
-em=r4(a+120);
-fm=a[139];
-gm=r8(a+8);
-hm=r8(a+48);
-if(r8(a+72)>hm)im=hm;
+tm=r4(a+120);
+um=a[139];
+vm=r8(a+8);
+wm=r8(a+48);
+if(r8(a+72)>wm)xm=wm;
 else{
-jm=make_ready_17a(a+40);
-if(!(jm&1)){
-w4(sb,0);
+ym=make_ready_17a(a+40);
+if(!(ym&1)){
+w4(xb,0);
 goto L83;}
-im=r8(a+48);}
-km=rp(a+40)+im*12;
-x4(km,em);
-x4(km+4,gm);
-km[8]=0;
-km[9]=fm;
-x2(km+10,0);
-w8(a+48,im+1);}
-lm=r8(a+176);
-if(lm<c){
-if(*(b+lm)==73){
-memcpy(Xa,a+120,20);
-mm=r8(a+8);
-if(r8(a+32)>mm)nm=mm;
+xm=r8(a+48);}
+zm=rp(a+40)+xm*12;
+x4(zm,tm);
+x4(zm+4,vm);
+zm[8]=0;
+zm[9]=um;
+x2(zm+10,0);
+w8(a+48,xm+1);}
+Am=r8(a+176);
+if(Am<c){
+if(*(b+Am)==73){
+memcpy(bb,a+120,20);
+Bm=r8(a+8);
+if(r8(a+32)>Bm)Cm=Bm;
 else{
-om=make_ready_8e3(a,1,16);
-if(!(om&1)){
-pm=0;
-qm=0;
+Dm=make_ready_8e3(a,1,16);
+if(!(Dm&1)){
+Em=0;
+Fm=0;
 goto L84;}
-nm=r8(a+8);}
-*(rp(a)+nm)=1;
-w8(a+8,nm+1);
-rm=r8(a+176);
-if(rm==18446744073709551615u){
-pm=0;
-qm=0;}
+Cm=r8(a+8);}
+*(rp(a)+Cm)=1;
+w8(a+8,Cm+1);
+Gm=r8(a+176);
+if(Gm==18446744073709551615u){
+Em=0;
+Fm=0;}
 else{
-w8(a+176,rm+1);
-sm=r8(a+88);
-if(r8(a+112)>sm)tm=sm;
+w8(a+176,Gm+1);
+Hm=r8(a+88);
+if(r8(a+112)>Hm)Im=Hm;
 else{
-um=make_ready_9a1(a+80);
-if(!(um&1)){
-pm=0;
-qm=0;
+Jm=make_ready_9a1(a+80);
+if(!(Jm&1)){
+Em=0;
+Fm=0;
 goto L84;}
-tm=r8(a+88);}
-vm=rp(a+80)+tm*44;
-*vm=6;
-vm[1]=0;
-x2(vm+2,0);
-memcpy(vm+4,Xa,40);
-w8(a+88,tm+1);
-pm=3;
-qm=1;}
-L84:*sb=qm;
-sb[1]=pm;
-sb[2]=qm;
-sb[3]=0;
+Im=r8(a+88);}
+Km=rp(a+80)+Im*44;
+*Km=6;
+Km[1]=0;
+x2(Km+2,0);
+memcpy(Km+4,bb,40);
+w8(a+88,Im+1);
+Em=3;
+Fm=1;}
+L84:*xb=Fm;
+xb[1]=Em;
+xb[2]=Fm;
+xb[3]=0;
 goto L83;}}
-components_at_b1b(Wa,a,b,c);
-*sb=*Wa;
-sb[1]=Wa[1];
-sb[2]=Wa[2];
-sb[3]=Wa[3];
+components_at_b1b(ab,a,b,c);
+*xb=*ab;
+xb[1]=ab[1];
+xb[2]=ab[2];
+xb[3]=ab[3];
 L83:break;
-case 5:w4(Va,0);
-wm=r8(a+176);
-if(wm<c){
-if(*(b+wm)==69){
-nest_ended_003(Va,a,b,c);
-*sb=*Va;
-sb[1]=Va[1];
-sb[2]=Va[2];
-sb[3]=Va[3];
+case 5:w4(Za,0);
+Lm=r8(a+176);
+if(Lm<c){
+if(*(b+Lm)==69){
+nest_ended_003(Za,a,b,c);
+*xb=*Za;
+xb[1]=Za[1];
+xb[2]=Za[2];
+xb[3]=Za[3];
 goto L85;}}
 if(!(a[136]&1)){
-xm=r4(a+120);
-ym=a[139];
-zm=r8(a+8);
-Am=r8(a+48);
-if(r8(a+72)>Am)Bm=Am;
+Mm=r4(a+120);
+Nm=a[139];
+Om=r8(a+8);
+Pm=r8(a+48);
+if(r8(a+72)>Pm)Qm=Pm;
 else{
-Cm=make_ready_17a(a+40);
-if(!(Cm&1)){
-w4(sb,0);
+Rm=make_ready_17a(a+40);
+if(!(Rm&1)){
+w4(xb,0);
 goto L85;}
-Bm=r8(a+48);}
-Dm=rp(a+40)+Bm*12;
-x4(Dm,xm);
-x4(Dm+4,zm);
-Dm[8]=0;
-Dm[9]=ym;
-x2(Dm+10,0);
-w8(a+48,Bm+1);}
-components_at_b1b(Va,a,b,c);
-*sb=*Va;
-sb[1]=Va[1];
-sb[2]=Va[2];
-sb[3]=Va[3];
+Qm=r8(a+48);}
+Sm=rp(a+40)+Qm*12;
+x4(Sm,Mm);
+x4(Sm+4,Om);
+Sm[8]=0;
+Sm[9]=Nm;
+x2(Sm+10,0);
+w8(a+48,Qm+1);}
+components_at_b1b(Za,a,b,c);
+*xb=*Za;
+xb[1]=Za[1];
+xb[2]=Za[2];
+xb[3]=Za[3];
 L85:break;
-case 6:components_at_b1b(sb,a,b,c);
+case 6:components_at_b1b(xb,a,b,c);
 break;
 default:NEVER;
 }
-Em=Aj+1;
-if(*sb!=1||Em==zj)goto L1;
-Aj=Em;
-Bj=sb[3];
-Cj=sb[2];
-Dj=sb[1];
+Tm=Mj+1;
+if(*xb!=1||Tm==Lj)goto L1;
+Mj=Tm;
+Nj=xb[3];
+Oj=xb[2];
+Pj=xb[1];
 goto L68;}}}
 goto L1;
 default:NEVER;
 }}
 else{
 switch(f){
-case 3:if(Vb)goto L1;
+case 3:if(bc)goto L1;
 if(c<16){
-Fm=are_few_named_14c(b,c);
-if(!Fm)goto L1;}
+Um=are_few_named_14c(b,c);
+if(!Um)goto L1;}
 else{
-Gm=c-16;
-if(Gm==0)goto L86;
-Hm=0;
-L87:Im=v16_at(b+Hm);
-if((v16_ult(Im,splat(33))|v16_eq(Im,splat(127)))!=0)goto L1;
-Jm=Hm+16;
-if(Jm<Gm){
-Hm=Jm;
+Vm=c-16;
+if(Vm==0)goto L86;
+Wm=0;
+L87:Xm=v16_at(b+Wm);
+if((v16_ult(Xm,splat(33))|v16_eq(Xm,splat(127)))!=0)goto L1;
+Ym=Wm+16;
+if(Ym<Vm){
+Wm=Ym;
 goto L87;}
-L86:Km=v16_at(b+Gm);
-if((v16_ult(Km,splat(33))|v16_eq(Km,splat(127)))!=0)goto L1;}
-w4(A,0);
+L86:Zm=v16_at(b+Vm);
+if((v16_ult(Zm,splat(33))|v16_eq(Zm,splat(127)))!=0)goto L1;}
 w4(B,0);
+w4(C,0);
 if(c!=0){
 if(c!=1&&*b==95){
 if(b[1]==90){
 if(c>=3){
-Lm=b[2];
+an=b[2];
 if(c<5){
-if(Lm==90)goto L88;
-if((c!=3)&(Lm==71)){
+if(an==90)goto L88;
+if((c!=3)&(an==71)){
 if(b[3]==86)goto L89;
 goto L90;}
-switch(Lm){
+switch(an){
 case 71:goto L90;
 case 84:if(c==3)goto L91;
 break;
 default:goto L92;
 }}
 else{
-switch(Lm){
+switch(an){
 case 90:goto L88;
 case 71:if(b[3]!=86)goto L90;
 if(b[4]!=90)goto L89;
-if(Tb<19){
-Mm=make_ready_8e3(a,19,128);
-if(!(Mm&1)){
-Pm=0;
-Qm=0;
-Rm=0;
-Sm=0;
+if(Zb<19){
+bn=make_ready_8e3(a,19,128);
+if(!(bn&1)){
+en=0;
+fn=0;
+gn=0;
+hn=0;
 goto L93;}
-Nm=r8(a+16);
-Om=r8(a+8);}
+cn=r8(a+16);
+dn=r8(a+8);}
 else{
-Nm=Sb;
-Om=0;}
-if(Nm-Om<19){
-Tm=grow_amortized_68b(a,19);
-if(!Tm){
-Pm=0;
-Qm=0;
-Rm=0;
-Sm=0;
+cn=Yb;
+dn=0;}
+if(cn-dn<19){
+in=grow_amortized_68b(a,19);
+if(!in){
+en=0;
+fn=0;
+gn=0;
+hn=0;
 goto L93;}
-Um=r8(a+16);
-Vm=r8(a+8);}
+jn=r8(a+16);
+kn=r8(a+8);}
 else{
-Um=Nm;
-Vm=Om;}
-Wm=Vm+19;
-Xm=rp(a);
+jn=cn;
+kn=dn;}
+ln=kn+19;
+mn=rp(a);
 z16(a+8);
-Ym=Xm+(i64)Vm;
-if((u64)Ym-(u64)(u8*)t_c270<19)copy_bits_4f4((u8*)t_c270,Ym,19);
-else memcpy(Ym,(u8*)t_c270,19);
-wp(a,Xm);
-w8(a+8,Wm);
-w8(a+16,Um);
+nn=mn+(i64)kn;
+if((u64)nn-(u64)(u8*)t_c270<19)copy_bits_4f4((u8*)t_c270,nn,19);
+else memcpy(nn,(u8*)t_c270,19);
+wp(a,mn);
+w8(a+8,ln);
+w8(a+16,jn);
 w8(a+176,5);
-begin_encoding_33e(y,a,b,c);
-Pm=y[3];
-Qm=y[2];
-Rm=y[1];
-Sm=*y;
-L93:Zm=Pm;
-an=Qm;
-bn=Rm;
-cn=Sm;
+begin_encoding_33e(z,a,b,c);
+en=z[3];
+fn=z[2];
+gn=z[1];
+hn=*z;
+L93:on=en;
+pn=fn;
+qn=gn;
+rn=hn;
 goto L94;
 case 84:break;
 default:goto L92;
 }}
 switch(b[3]){
-case 104:begin_thunk_481(B,a,b,c);
+case 104:begin_thunk_481(C,a,b,c);
 goto L95;
-case 118:begin_virtual_thunk_f37(B,a,b,c);
+case 118:begin_virtual_thunk_f37(C,a,b,c);
 goto L95;
-case 67:begin_clone_893(B);
+case 67:begin_clone_893(C);
 goto L95;
 default:break;}
-L91:begin_special_44d(B,a,b,c);
-L95:dn=B[3];
-en=B[2];
-fn=B[1];
-gn=*B;
+L91:begin_special_44d(C,a,b,c);
+L95:sn=C[3];
+tn=C[2];
+un=C[1];
+vn=*C;
 goto L96;
-L90:begin_clone_893(A);
-dn=A[3];
-en=A[2];
-fn=A[1];
-gn=*A;
+L90:begin_clone_893(B);
+sn=B[3];
+tn=B[2];
+un=B[1];
+vn=*B;
 goto L96;
-L89:begin_object_056(A,a,b,c);
-dn=A[3];
-en=A[2];
-fn=A[1];
-gn=*A;
+L89:begin_object_056(B,a,b,c);
+sn=B[3];
+tn=B[2];
+un=B[1];
+vn=*B;
 goto L96;
 L88:w8(a+176,3);
-begin_encoding_33e(z,a,b,c);
-Zm=z[3];
-an=z[2];
-bn=z[1];
-cn=*z;
-L94:dn=Zm;
-en=an;
-fn=bn;
-gn=cn;
+begin_encoding_33e(A,a,b,c);
+on=A[3];
+pn=A[2];
+qn=A[1];
+rn=*A;
+L94:sn=on;
+tn=pn;
+un=qn;
+vn=rn;
 goto L96;}
 L92:w8(a+176,2);
-begin_encoding_33e(A,a,b,c);
-dn=A[3];
-en=A[2];
-fn=A[1];
-gn=*A;
-L96:if(gn!=1)goto L1;
-hn=c<<3;
-in=0;
-jn=dn;
-kn=en;
-ln=fn;
-L97:if(ln==7){
-mn=r8(a+8);
-if(mn>Rb)goto L14;
-nn=rp(a);
-if(mn==0)goto L15;
-on=0;
-pn=0;
-qn=0;
-L98:rn=on;
-L99:if(mn-rn>15){
-sn=cttz(v16_ult(v16_at(nn+rn),splat(3)),16);
-tn=rn+sn;
-if(sn>=16){
-rn=tn;
+begin_encoding_33e(B,a,b,c);
+sn=B[3];
+tn=B[2];
+un=B[1];
+vn=*B;
+L96:if(vn!=1)goto L1;
+wn=c<<3;
+xn=0;
+yn=sn;
+zn=tn;
+An=un;
+L97:if(An==7){
+Bn=r8(a+8);
+if(Bn>Xb)goto L14;
+Cn=rp(a);
+if(Bn==0)goto L15;
+Dn=0;
+En=0;
+Fn=0;
+L98:Gn=Dn;
+L99:if(Bn-Gn>15){
+Hn=cttz(v16_ult(v16_at(Cn+Gn),splat(3)),16);
+In=Gn+Hn;
+if(Hn>=16){
+Gn=In;
 goto L99;}
-un=tn;}
+Jn=In;}
 else{
-if(rn>=mn){
-un=rn;
+if(Gn>=Bn){
+Jn=Gn;
 goto L100;}
-vn=rn;
-L101:if(*(nn+vn)>2){
-wn=vn+1;
-if(wn!=mn){
-vn=wn;
+Kn=Gn;
+L101:if(*(Cn+Kn)>2){
+Ln=Kn+1;
+if(Ln!=Bn){
+Kn=Ln;
 goto L101;}
-un=mn;}
-else un=vn;}
-L100:if(qn==0){
-if(pn<on){
-if(un!=on){
-xn=un-on;
-yn=nn+(i64)on;
-zn=nn+(i64)pn;
-An=0;
-L102:*(zn+(i64)An)=*(yn+(i64)An);
-Bn=An+1;
-if(Bn!=xn){
-An=Bn;
+Jn=Bn;}
+else Jn=Kn;}
+L100:if(Fn==0){
+if(En<Dn){
+if(Jn!=Dn){
+Mn=Jn-Dn;
+Nn=Cn+(i64)Dn;
+On=Cn+(i64)En;
+Pn=0;
+L102:*(On+(i64)Pn)=*(Nn+(i64)Pn);
+Qn=Pn+1;
+if(Qn!=Mn){
+Pn=Qn;
 goto L102;}}}
-Cn=pn-on+un;}
-else Cn=pn;
-if(un!=mn){
-switch(*(nn+un)){
-case 1:Dn=qn+1;
+Rn=En-Dn+Jn;}
+else Rn=En;
+if(Jn!=Bn){
+switch(*(Cn+Jn)){
+case 1:Sn=Fn+1;
 break;
-case 2:Dn=usub64(qn,1);
+case 2:Sn=usub64(Fn,1);
 break;
 default:goto L1;
 }
-En=un+1;
-if(En<mn){
-on=En;
-pn=Cn;
-qn=Dn;
+Tn=Jn+1;
+if(Tn<Bn){
+Dn=Tn;
+En=Rn;
+Fn=Sn;
 goto L98;}}
-if(r8(a+8)<=Cn)goto L15;
-Wc=Cn;
+if(r8(a+8)<=Rn)goto L15;
+cd=Rn;
 break;}
 w8(a+184,r8(a+184)+1);
-w4(C,0);
-switch(ln){
-case 0:type_at_77f(C,a,b,c,0);
+w4(D,0);
+switch(An){
+case 0:type_at_77f(D,a,b,c,0);
 break;
-case 1:type_at_77f(C,a,b,c,1);
+case 1:type_at_77f(D,a,b,c,1);
 break;
-case 2:w4(u,0);
-w4(v,0);
-z32(w);
+case 2:w4(v,0);
+w4(w,0);
 z32(x);
-Fn=r8(a+88);
-if(Fn==0)w4(C,0);
+z32(y);
+Un=r8(a+88);
+if(Un==0)w4(D,0);
 else{
-Gn=kn&1;
-Hn=rp(a+80)+(i64)(Fn*44);
-In=Hn[-44];
-Jn=Hn[-43];
-Kn=q4(Hn-40);
-Ln=q4(Hn-36);
-Mn=q2(Hn-32);
-switch(In){
-case 29:case 28:case 27:case 26:case 4:case 5:case 6:case 7:case 8:case 11:case 12:case 13:case 14:case 15:case 16:case 17:case 18:case 19:case 20:case 21:case 22:case 23:case 24:case 25:if(jn&1){
-pass_dependent_3d7(u,a,b,c);
-*C=*u;
-C[1]=u[1];
-C[2]=u[2];
-C[3]=u[3];
+Vn=zn&1;
+Wn=rp(a+80)+(i64)(Un*44);
+Xn=Wn[-44];
+Yn=Wn[-43];
+Zn=q4(Wn-40);
+ao=q4(Wn-36);
+bo=q2(Wn-32);
+switch(Xn){
+case 29:case 28:case 27:case 26:case 4:case 5:case 6:case 7:case 8:case 11:case 12:case 13:case 14:case 15:case 16:case 17:case 18:case 19:case 20:case 21:case 22:case 23:case 24:case 25:if(yn&1){
+pass_dependent_3d7(v,a,b,c);
+*D=*v;
+D[1]=v[1];
+D[2]=v[2];
+D[3]=v[3];
 goto L103;}
-Nn=q4(Hn-4);
-On=Ln;
-Pn=Ln>>16;
-w4(t,0);
-switch(In){
-case 22:returned_07a(t,a,b,c,Jn&1);
+co=q4(Wn-4);
+w4(u,0);
+switch(Xn){
+case 22:returned_07a(u,a,b,c,Yn&1);
 break;
-case 23:parameter_at_257(t,a,b,c,Jn&1,0);
+case 23:parameter_at_257(u,a,b,c,Yn&1,0);
 break;
-case 24:array_ended_b9c(t,a,b,c,Jn,Kn,Ln);
+case 24:array_ended_b9c(u,a,b,c,Yn,Zn,ao);
 break;
-case 12:enclosing_parameter_fc1(t,a,b,c,Kn,Ln);
+case 12:enclosing_parameter_fc1(u,a,b,c,Zn,ao);
 break;
-case 13:instance_parameter_240(t,a,b,c,Jn,Kn,Ln);
+case 13:instance_parameter_240(u,a,b,c,Yn,Zn,ao);
 break;
-case 11:w2(n,Mn);
-memcpy(n+2,Hn-30,26);
-x4(n+28,Nn);
-enclosing_front_fa8(t,a,Jn,Kn,Ln,n);
+case 11:w2(r,bo);
+memcpy(r+2,Wn-30,26);
+x4(r+28,co);
+enclosing_front_fa8(u,a,Yn,Zn,ao,r);
 break;
-case 17:w4(o,Ln);
-w2(o+4,Mn);
-lambda_parameter_383(t,a,b,c,Kn,o);
+case 17:w4(s,ao);
+w2(s+4,bo);
+lambda_parameter_383(u,a,b,c,Zn,s);
 break;
-case 18:member_parameter_7e4(t,a,b,c,Kn);
+case 18:member_parameter_7e4(u,a,b,c,Zn);
 break;
-case 15:w4(p,Ln);
-w2(p+4,Mn);
-memcpy(p+6,Hn-30,26);
-addressed_front_54d(t,a,b,c,Jn,Kn,p);
+case 15:w4(t,ao);
+w2(t+4,bo);
+memcpy(t+6,Wn-30,26);
+addressed_front_54d(u,a,b,c,Yn,Zn,t);
 break;
-case 16:addressed_parameter_2cf(t,a,b,c,Kn);
+case 16:addressed_parameter_2cf(u,a,b,c,Zn);
 break;
-case 14:*t=0;
+case 14:*u=0;
 break;
-case 19:finish_8cd(t,a,b,c);
+case 19:finish_8cd(u,a,b,c);
 break;
-case 20:derived_ended_aef(t,a,b,c);
+case 20:derived_ended_aef(u,a,b,c);
 break;
-case 21:base_ended_299(t,a,b,c,Kn);
+case 21:base_ended_299(u,a,b,c,Zn);
 break;
-case 29:enumerator_21c(t,a,b,c);
+case 29:enumerator_21c(u,a,b,c);
 break;
-case 26:w2(q,Pn);
-w2(q+2,Mn);
-memcpy(q+4,Hn-30,26);
-w2(q+30,Nn);
-argument_enumerator_2d4(t,a,b,c,Kn,On,q);
+case 26:case 25:case 28:eo=ao;
+fo=co;
+w4(q,0);
+switch(Xn){
+case 26:w2(n,ao>>16);
+w2(n+2,bo);
+memcpy(n+4,Wn-30,26);
+w2(n+30,fo);
+argument_enumerator_2d4(q,a,b,c,Zn,eo,n);
 break;
-case 25:w2(r,Pn);
-w2(r+2,Mn);
-memcpy(r+4,Hn-30,26);
-w2(r+30,Nn);
-argument_ended_1bb(t,a,b,c,Kn,On,r,Gn);
+case 25:w2(o,ao>>16);
+w2(o+2,bo);
+memcpy(o+4,Wn-30,26);
+w2(o+30,fo);
+argument_ended_1bb(q,a,b,c,Zn,eo,o,Vn);
 break;
-case 28:w2(s,Pn);
-w2(s+2,Mn);
-memcpy(s+4,Hn-30,26);
-w2(s+30,Nn);
-element_ended_20b(t,a,b,c,Kn,On,s,Gn);
+case 28:w2(p,ao>>16);
+w2(p+2,bo);
+memcpy(p+4,Wn-30,26);
+w2(p+30,fo);
+element_ended_20b(q,a,b,c,Zn,eo,p,Vn);
 break;
-case 27:case 10:case 9:case 8:case 4:case 5:case 6:case 7:*t=1;
-t[1]=3;
-t[2]=0;
-t[3]=0;
+case 27:*q=0;
 break;
 default:NEVER;
 }
-Qn=t[1];
-Rn=t[2];
-Sn=t[3];
-*v=*t;
-v[1]=Qn;
-v[2]=Rn;
-v[3]=Sn;
+go=q[1];
+ho=q[2];
+io=q[3];
+*u=*q;
+u[1]=go;
+u[2]=ho;
+u[3]=io;
+break;
+case 27:case 10:case 9:case 8:case 4:case 5:case 6:case 7:*u=1;
+u[1]=3;
+u[2]=0;
+u[3]=0;
+break;
+default:NEVER;
+}
+jo=u[1];
+ko=u[2];
+lo=u[3];
+*w=*u;
+w[1]=jo;
+w[2]=ko;
+w[3]=lo;
 goto L104;
-case 10:w4(w,Ln);
-w2(w+4,Mn);
-memcpy(w+6,Hn-30,26);
-parameter_ended_d3f(v,a,b,c,Kn,w);
+case 10:w4(x,ao);
+w2(x+4,bo);
+memcpy(x+6,Wn-30,26);
+parameter_ended_d3f(w,a,b,c,Zn,x);
 goto L104;
-case 9:w4(x,Ln);
-w2(x+4,Mn);
-memcpy(x+6,Hn-30,26);
-front_ended_665(v,a,b,c,Jn,Kn,x);
+case 9:w4(y,ao);
+w2(y+4,bo);
+memcpy(y+6,Wn-30,26);
+front_ended_665(w,a,b,c,Yn,Zn,y);
 goto L104;
-case 0:w8(a+88,Fn-1);
-Tn=r8(a+8);
-if(r8(a+32)>Tn)Un=Tn;
+case 0:w8(a+88,Un-1);
+mo=r8(a+8);
+if(r8(a+32)>mo)no=mo;
 else{
-Vn=make_ready_8e3(a,1,16);
-if(!(Vn&1)){
-Wn=0;
-Xn=0;
-Yn=0;
-Zn=0;
+oo=make_ready_8e3(a,1,16);
+if(!(oo&1)){
+po=0;
+qo=0;
+ro=0;
+so=0;
 goto L105;}
-Un=r8(a+8);}
-*(rp(a)+Un)=42;
-ao=Un+1;
-w8(a+8,ao);
-bo=ao;
-co=jn&1;
-eo=r8(a+48);
-if(r8(a+72)>eo){
-fo=eo;
-go=bo;
-ho=0;
-io=co;
+no=r8(a+8);}
+*(rp(a)+no)=42;
+to=no+1;
+w8(a+8,to);
+uo=to;
+vo=yn&1;
+wo=r8(a+48);
+if(r8(a+72)>wo){
+xo=wo;
+yo=uo;
+zo=0;
+Ao=vo;
 goto L106;}
-jo=make_ready_17a(a+40);
-if(!(jo&1)){
-Wn=0;
-Xn=0;
-Yn=0;
-Zn=0;
+Bo=make_ready_17a(a+40);
+if(!(Bo&1)){
+po=0;
+qo=0;
+ro=0;
+so=0;
 goto L105;}
-ko=bo;
-lo=0;
-mo=co;
+Co=uo;
+Do=0;
+Eo=vo;
 break;
-case 1:if(Gn)goto L104;
-w8(a+88,Fn-1);
-no=r8(a+8);
-if(r8(a+32)>no)oo=no;
-else{
-po=make_ready_8e3(a,1,16);
-if(!(po&1)){
-Wn=0;
-Xn=0;
-Yn=0;
-Zn=0;
-goto L105;}
-oo=r8(a+8);}
-*(rp(a)+oo)=38;
-qo=oo+1;
-w8(a+8,qo);
-ro=qo;
-so=jn&1;
-to=r8(a+48);
-if(r8(a+72)>to){
-fo=to;
-go=ro;
-ho=1;
-io=so;
-goto L106;}
-uo=make_ready_17a(a+40);
-if(!(uo&1)){
-Wn=0;
-Xn=0;
-Yn=0;
-Zn=0;
-goto L105;}
-ko=ro;
-lo=1;
-mo=so;
-break;
-case 2:if(Gn)goto L104;
-w8(a+88,Fn-1);
-vo=r8(a+8);
-if(r8(a+32)-vo<2){
-wo=make_ready_8e3(a,2,128);
-if(!(wo&1)){
-Wn=0;
-Xn=0;
-Yn=0;
-Zn=0;
-goto L105;}
-xo=r8(a+8);}
-else xo=vo;
-*(rp(a)+xo)=38;
-*(rp(a)+(i64)xo+1)=38;
-yo=xo+2;
-w8(a+8,yo);
-zo=yo;
-Ao=jn&1;
-Bo=r8(a+48);
-if(r8(a+72)>Bo){
-fo=Bo;
-go=zo;
-ho=1;
-io=Ao;
-goto L106;}
-Co=make_ready_17a(a+40);
-if(!(Co&1)){
-Wn=0;
-Xn=0;
-Yn=0;
-Zn=0;
-goto L105;}
-ko=zo;
-lo=1;
-mo=Ao;
-break;
-case 3:if(Gn)goto L104;
-w8(a+88,Fn-1);
-if(r8(a+32)-r8(a+8)<6){
-Do=make_ready_8e3(a,6,128);
-if(!(Do&1)){
-Wn=0;
-Xn=0;
-Yn=0;
-Zn=0;
-goto L105;}}
-Eo=extend_from_slice_674(a,(u8*)t_f603,6);
-if(Eo&1){
-Wn=0;
-Xn=0;
-Yn=0;
-Zn=0;
-goto L105;}
+case 1:if(Vn)goto L104;
+w8(a+88,Un-1);
 Fo=r8(a+8);
-Go=jn&1;
-Ho=r8(a+48);
-if(r8(a+72)>Ho){
-fo=Ho;
-go=Fo;
-ho=0;
-io=Go;
-goto L106;}
-Io=make_ready_17a(a+40);
-if(!(Io&1)){
-Wn=0;
-Xn=0;
-Yn=0;
-Zn=0;
+if(r8(a+32)>Fo)Go=Fo;
+else{
+Ho=make_ready_8e3(a,1,16);
+if(!(Ho&1)){
+po=0;
+qo=0;
+ro=0;
+so=0;
 goto L105;}
-ko=Fo;
-lo=0;
-mo=Go;
+Go=r8(a+8);}
+*(rp(a)+Go)=38;
+Io=Go+1;
+w8(a+8,Io);
+Jo=Io;
+Ko=yn&1;
+Lo=r8(a+48);
+if(r8(a+72)>Lo){
+xo=Lo;
+yo=Jo;
+zo=1;
+Ao=Ko;
+goto L106;}
+Mo=make_ready_17a(a+40);
+if(!(Mo&1)){
+po=0;
+qo=0;
+ro=0;
+so=0;
+goto L105;}
+Co=Jo;
+Do=1;
+Eo=Ko;
+break;
+case 2:if(Vn)goto L104;
+w8(a+88,Un-1);
+No=r8(a+8);
+if(r8(a+32)-No<2){
+Oo=make_ready_8e3(a,2,128);
+if(!(Oo&1)){
+po=0;
+qo=0;
+ro=0;
+so=0;
+goto L105;}
+Po=r8(a+8);}
+else Po=No;
+*(rp(a)+Po)=38;
+*(rp(a)+(i64)Po+1)=38;
+Qo=Po+2;
+w8(a+8,Qo);
+Ro=Qo;
+So=yn&1;
+To=r8(a+48);
+if(r8(a+72)>To){
+xo=To;
+yo=Ro;
+zo=1;
+Ao=So;
+goto L106;}
+Uo=make_ready_17a(a+40);
+if(!(Uo&1)){
+po=0;
+qo=0;
+ro=0;
+so=0;
+goto L105;}
+Co=Ro;
+Do=1;
+Eo=So;
+break;
+case 3:if(Vn)goto L104;
+w8(a+88,Un-1);
+if(r8(a+32)-r8(a+8)<6){
+Vo=make_ready_8e3(a,6,128);
+if(!(Vo&1)){
+po=0;
+qo=0;
+ro=0;
+so=0;
+goto L105;}}
+Wo=extend_from_slice_674(a,(u8*)t_f603,6);
+if(Wo&1){
+po=0;
+qo=0;
+ro=0;
+so=0;
+goto L105;}
+Xo=r8(a+8);
+Yo=yn&1;
+Zo=r8(a+48);
+if(r8(a+72)>Zo){
+xo=Zo;
+yo=Xo;
+zo=0;
+Ao=Yo;
+goto L106;}
+ap=make_ready_17a(a+40);
+if(!(ap&1)){
+po=0;
+qo=0;
+ro=0;
+so=0;
+goto L105;}
+Co=Xo;
+Do=0;
+Eo=Yo;
 break;
 default:NEVER;
 }
-fo=r8(a+48);
-go=ko;
-ho=lo;
-io=mo;
-L106:Jo=rp(a+40)+fo*12;
-x4(Jo,Kn);
-x4(Jo+4,go);
-Jo[8]=ho;
-Jo[9]=io;
-x2(Jo+10,0);
-w8(a+48,fo+1);
-Wn=io;
-Xn=ho;
-Yn=2;
-Zn=1;
-L105:*v=Zn;
-v[1]=Yn;
-v[2]=Xn;
-v[3]=Wn;
-L104:Ko=v[1];
-Lo=v[2];
-Mo=v[3];
-*C=*v;
-C[1]=Ko;
-C[2]=Lo;
-C[3]=Mo;}
+xo=r8(a+48);
+yo=Co;
+zo=Do;
+Ao=Eo;
+L106:bp=rp(a+40)+xo*12;
+x4(bp,Zn);
+x4(bp+4,yo);
+bp[8]=zo;
+bp[9]=Ao;
+x2(bp+10,0);
+w8(a+48,xo+1);
+po=Ao;
+qo=zo;
+ro=2;
+so=1;
+L105:*w=so;
+w[1]=ro;
+w[2]=qo;
+w[3]=po;
+L104:cp=w[1];
+dp=w[2];
+ep=w[3];
+*D=*w;
+D[1]=cp;
+D[2]=dp;
+D[3]=ep;}
 L103:break;
-case 3:No=kn&1;
+case 3:fp=zn&1;
 w4(l,0);
-Oo=r8(a+176);
-if(Oo<c){
-Po=*(b+Oo);
-switch(Po){
+gp=r8(a+176);
+if(gp<c){
+hp=*(b+gp);
+switch(hp){
 case 69:w4(j,0);
-w8(a+176,Oo+1);
-Qo=r8(a+88);
-if(Qo==0){
-Ro=0;
-So=0;
-To=0;
-Uo=0;}
+w8(a+176,gp+1);
+ip=r8(a+88);
+if(ip==0){
+jp=0;
+kp=0;
+lp=0;
+np=0;}
 else{
-if(*(rp(a+80)+(i64)(Qo*44)-44)==27){
-if(No){
-Ro=0;
-So=0;
-To=0;
-Uo=0;}
+if(*(rp(a+80)+(i64)(ip*44)-44)==27){
+if(fp){
+jp=0;
+kp=0;
+lp=0;
+np=0;}
 else{
-w8(a+88,Qo-1);
-Ro=0;
-So=0;
-To=3;
-Uo=1;}}
+w8(a+88,ip-1);
+jp=0;
+kp=0;
+lp=3;
+np=1;}}
 else{
 z32(k);
 close_list_3c2(j,a,b,c,k);
-Ro=j[3];
-So=j[2];
-To=j[1];
-Uo=*j;}}
-*C=Uo;
-C[1]=To;
-C[2]=So;
-C[3]=Ro;
+jp=j[3];
+kp=j[2];
+lp=j[1];
+np=*j;}}
+*D=np;
+D[1]=lp;
+D[2]=kp;
+D[3]=jp;
 goto L107;
-case 74:Vo=Oo+1;
-if(Vo<c){
-if(*(b+Vo)==69){
-empty_pack_ea9(l,a,b,c,No);
-*C=*l;
-C[1]=l[1];
-C[2]=l[2];
-C[3]=l[3];
+case 74:op=gp+1;
+if(op<c){
+if(*(b+op)==69){
+empty_pack_ea9(l,a,b,c,fp);
+*D=*l;
+D[1]=l[1];
+D[2]=l[2];
+D[3]=l[3];
 goto L107;}}
-if(!No){
-Wo=74;
+if(!fp){
+pp=74;
 goto L108;}
 first_pack_117(l,a,b,c);
-*C=*l;
-C[1]=l[1];
-C[2]=l[2];
-C[3]=l[3];
+*D=*l;
+D[1]=l[1];
+D[2]=l[2];
+D[3]=l[3];
 goto L107;
-default:Xo=Po;
+default:sp=hp;
 break;}}
-else Xo=0;
-if(No){
-Yo=Xo;
+else sp=0;
+if(fp){
+tp=sp;
 goto L109;}
-Wo=Xo;
-L108:Zo=r8(a+8);
-if(r8(a+32)-Zo<2){
-ap=make_ready_8e3(a,2,128);
-if(!(ap&1)){
-w4(C,0);
+pp=sp;
+L108:up=r8(a+8);
+if(r8(a+32)-up<2){
+vp=make_ready_8e3(a,2,128);
+if(!(vp&1)){
+w4(D,0);
 goto L107;}
-bp=r8(a+8);}
-else bp=Zo;
-*(rp(a)+bp)=44;
-*(rp(a)+(i64)bp+1)=32;
-w8(a+8,bp+2);
-Yo=Wo;
-L109:switch(Yo){
-case 76:if(No){
+yp=r8(a+8);}
+else yp=up;
+*(rp(a)+yp)=44;
+*(rp(a)+(i64)yp+1)=32;
+w8(a+8,yp+2);
+tp=pp;
+L109:switch(tp){
+case 76:if(fp){
 first_literal_f44(l,a,b,c);
-*C=*l;
-C[1]=l[1];
-C[2]=l[2];
-C[3]=l[3];
+*D=*l;
+D[1]=l[1];
+D[2]=l[2];
+D[3]=l[3];
 goto L107;}
 literal_43d(m,a,b,c);
-cp=m[3];
-dp=m[2];
-ep=m[1];
-fp=*m;
+zp=m[3];
+Ap=m[2];
+Bp=m[1];
+Cp=*m;
 break;
-case 74:gp=r8(a+88);
-if(gp==0){
-cp=0;
-dp=0;
-ep=0;
-fp=0;}
+case 74:Dp=r8(a+88);
+if(Dp==0){
+zp=0;
+Ap=0;
+Bp=0;
+Cp=0;}
 else{
-hp=rp(a+80);
-ip=gp*44;
-if(*(hp+(i64)ip-44)==27){
-cp=0;
-dp=0;
-ep=0;
-fp=0;}
+Ep=rp(a+80);
+Fp=Dp*44;
+if(*(Ep+(i64)Fp-44)==27){
+zp=0;
+Ap=0;
+Bp=0;
+Cp=0;}
 else{
-jp=r8(a+176);
-if(jp==18446744073709551615u){
-cp=0;
-dp=0;
-ep=0;
-fp=0;}
+Gp=r8(a+176);
+if(Gp==18446744073709551615u){
+zp=0;
+Ap=0;
+Bp=0;
+Cp=0;}
 else{
-w8(a+176,jp+1);
-if(r8(a+112)>gp){
-kp=ip;
-lp=hp;
-np=gp;}
+w8(a+176,Gp+1);
+if(r8(a+112)>Dp){
+Hp=Fp;
+Ip=Ep;
+Jp=Dp;}
 else{
-op=make_ready_9a1(a+80);
-if(!(op&1)){
-cp=0;
-dp=0;
-ep=0;
-fp=0;
+Kp=make_ready_9a1(a+80);
+if(!(Kp&1)){
+zp=0;
+Ap=0;
+Bp=0;
+Cp=0;
 break;}
-pp=r8(a+88);
-kp=pp*44;
-lp=rp(a+80);
-np=pp;}
-sp=lp+kp;
-*sp=27;
-z43(sp+1);
-w8(a+88,np+1);
-cp=0;
-dp=1;
-ep=3;
-fp=1;}}}
+Lp=r8(a+88);
+Hp=Lp*44;
+Ip=rp(a+80);
+Jp=Lp;}
+Mp=Ip+Hp;
+*Mp=27;
+z43(Mp+1);
+w8(a+88,Jp+1);
+zp=0;
+Ap=1;
+Bp=3;
+Cp=1;}}}
 break;
-default:if(No){
-tp=r8(a+88);
-if(tp==0)up=1;
+default:if(fp){
+Np=r8(a+88);
+if(Np==0)Op=1;
 else{
-vp=rp(a+80);
-yp=tp*44;
-zp=vp+(i64)yp;
-switch(zp[-44]){
-case 5:if(zp[-28]==0){
-up=1;
+Pp=rp(a+80);
+Qp=Np*44;
+Rp=Pp+(i64)Qp;
+switch(Rp[-44]){
+case 5:if(Rp[-28]==0){
+Op=1;
 goto L110;}
 break;
 case 7:break;
-case 0:case 1:case 2:case 3:case 4:case 6:case 8:case 9:case 10:case 11:case 12:case 13:case 14:case 15:case 16:case 17:case 18:case 19:case 20:case 21:case 22:case 23:case 24:case 25:case 26:case 27:case 28:case 29:up=1;
+case 0:case 1:case 2:case 3:case 4:case 6:case 8:case 9:case 10:case 11:case 12:case 13:case 14:case 15:case 16:case 17:case 18:case 19:case 20:case 21:case 22:case 23:case 24:case 25:case 26:case 27:case 28:case 29:Op=1;
 goto L110;
 default:NEVER;
 }
-Ap=r8(a+176);
-if(Ap<c){
-Bp=b+(i64)Ap;
-switch(*Bp){
-case 65:case 70:up=1;
+Sp=r8(a+176);
+if(Sp<c){
+Tp=b+(i64)Sp;
+switch(*Tp){
+case 65:case 70:Op=1;
 goto L110;
-case 80:case 82:if(usub64(c,Ap)>=2){
-switch(Bp[1]){
-case 70:case 65:up=1;
+case 80:case 82:if(usub64(c,Sp)>=2){
+switch(Tp[1]){
+case 70:case 65:Op=1;
 goto L110;
 default:break;}}
 break;
 default:break;}}
-Cp=r8(a+8);
-if(r8(a+112)>tp){
-Dp=yp;
-Ep=vp;
-Fp=tp;}
+Up=r8(a+8);
+if(r8(a+112)>Np){
+Vp=Qp;
+Wp=Pp;
+Xp=Np;}
 else{
-Gp=make_ready_9a1(a+80);
-if(!(Gp&1)){
-up=0;
+Yp=make_ready_9a1(a+80);
+if(!(Yp&1)){
+Op=0;
 goto L110;}
-Hp=r8(a+88);
-Dp=Hp*44;
-Ep=rp(a+80);
-Fp=Hp;}
-Ip=Ep+Dp;
-*Ip=25;
-Ip[1]=0;
-x2(Ip+2,0);
-x4(Ip+4,Cp);
-z36(Ip+8);
-w8(a+88,Fp+1);
-up=1;}
-L110:*C=up;
-C[1]=0;
-C[2]=0;
-C[3]=0;
+Zp=r8(a+88);
+Vp=Zp*44;
+Wp=rp(a+80);
+Xp=Zp;}
+aq=Wp+Vp;
+*aq=25;
+aq[1]=0;
+x2(aq+2,0);
+x4(aq+4,Up);
+z36(aq+8);
+w8(a+88,Xp+1);
+Op=1;}
+L110:*D=Op;
+D[1]=0;
+D[2]=0;
+D[3]=0;
 goto L107;}
-cp=0;
-dp=0;
-ep=0;
-fp=1;
+zp=0;
+Ap=0;
+Bp=0;
+Cp=1;
 break;}
-*C=fp;
-C[1]=ep;
-C[2]=dp;
-C[3]=cp;
+*D=Cp;
+D[1]=Bp;
+D[2]=Ap;
+D[3]=zp;
 L107:break;
 case 4:w4(h,0);
 z20(i+20);
 if(!(a[136]&1)){
-Jp=r4(a+120);
-Kp=a[139];
-Lp=r8(a+8);
-Mp=r8(a+48);
-if(r8(a+72)>Mp)Np=Mp;
+bq=r4(a+120);
+cq=a[139];
+dq=r8(a+8);
+eq=r8(a+48);
+if(r8(a+72)>eq)fq=eq;
 else{
-Op=make_ready_17a(a+40);
-if(!(Op&1)){
-w4(C,0);
+gq=make_ready_17a(a+40);
+if(!(gq&1)){
+w4(D,0);
 goto L111;}
-Np=r8(a+48);}
-Pp=rp(a+40)+Np*12;
-x4(Pp,Jp);
-x4(Pp+4,Lp);
-Pp[8]=0;
-Pp[9]=Kp;
-x2(Pp+10,0);
-w8(a+48,Np+1);}
-Qp=r8(a+176);
-if(Qp<c){
-if(*(b+Qp)==73){
+fq=r8(a+48);}
+hq=rp(a+40)+fq*12;
+x4(hq,bq);
+x4(hq+4,dq);
+hq[8]=0;
+hq[9]=cq;
+x2(hq+10,0);
+w8(a+48,fq+1);}
+iq=r8(a+176);
+if(iq<c){
+if(*(b+iq)==73){
 memcpy(i,a+120,20);
-Rp=r8(a+8);
-if(r8(a+32)>Rp)Sp=Rp;
+jq=r8(a+8);
+if(r8(a+32)>jq)kq=jq;
 else{
-Tp=make_ready_8e3(a,1,16);
-if(!(Tp&1)){
-Up=0;
-Vp=0;
+lq=make_ready_8e3(a,1,16);
+if(!(lq&1)){
+mq=0;
+nq=0;
 goto L112;}
-Sp=r8(a+8);}
-*(rp(a)+Sp)=1;
-w8(a+8,Sp+1);
-Wp=r8(a+176);
-if(Wp==18446744073709551615u){
-Up=0;
-Vp=0;}
+kq=r8(a+8);}
+*(rp(a)+kq)=1;
+w8(a+8,kq+1);
+oq=r8(a+176);
+if(oq==18446744073709551615u){
+mq=0;
+nq=0;}
 else{
-w8(a+176,Wp+1);
-Xp=r8(a+88);
-if(r8(a+112)>Xp)Yp=Xp;
+w8(a+176,oq+1);
+pq=r8(a+88);
+if(r8(a+112)>pq)qq=pq;
 else{
-Zp=make_ready_9a1(a+80);
-if(!(Zp&1)){
-Up=0;
-Vp=0;
+rq=make_ready_9a1(a+80);
+if(!(rq&1)){
+mq=0;
+nq=0;
 goto L112;}
-Yp=r8(a+88);}
-aq=rp(a+80)+Yp*44;
-*aq=6;
-aq[1]=0;
-x2(aq+2,0);
-memcpy(aq+4,i,40);
-w8(a+88,Yp+1);
-Up=3;
-Vp=1;}
-L112:*C=Vp;
-C[1]=Up;
-C[2]=Vp;
-C[3]=0;
+qq=r8(a+88);}
+sq=rp(a+80)+qq*44;
+*sq=6;
+sq[1]=0;
+x2(sq+2,0);
+memcpy(sq+4,i,40);
+w8(a+88,qq+1);
+mq=3;
+nq=1;}
+L112:*D=nq;
+D[1]=mq;
+D[2]=nq;
+D[3]=0;
 goto L111;}}
 components_at_7bd(h,a,b,c);
-*C=*h;
-C[1]=h[1];
-C[2]=h[2];
-C[3]=h[3];
+*D=*h;
+D[1]=h[1];
+D[2]=h[2];
+D[3]=h[3];
 L111:break;
 case 5:w4(g,0);
-bq=r8(a+176);
-if(bq<c){
-if(*(b+bq)==69){
+tq=r8(a+176);
+if(tq<c){
+if(*(b+tq)==69){
 nest_ended_32a(g,a,b,c);
-*C=*g;
-C[1]=g[1];
-C[2]=g[2];
-C[3]=g[3];
+*D=*g;
+D[1]=g[1];
+D[2]=g[2];
+D[3]=g[3];
 goto L113;}}
 if(!(a[136]&1)){
-cq=r4(a+120);
-dq=a[139];
-eq=r8(a+8);
-fq=r8(a+48);
-if(r8(a+72)>fq)gq=fq;
+uq=r4(a+120);
+vq=a[139];
+wq=r8(a+8);
+xq=r8(a+48);
+if(r8(a+72)>xq)yq=xq;
 else{
-hq=make_ready_17a(a+40);
-if(!(hq&1)){
-w4(C,0);
+zq=make_ready_17a(a+40);
+if(!(zq&1)){
+w4(D,0);
 goto L113;}
-gq=r8(a+48);}
-iq=rp(a+40)+gq*12;
-x4(iq,cq);
-x4(iq+4,eq);
-iq[8]=0;
-iq[9]=dq;
-x2(iq+10,0);
-w8(a+48,gq+1);}
+yq=r8(a+48);}
+Aq=rp(a+40)+yq*12;
+x4(Aq,uq);
+x4(Aq+4,wq);
+Aq[8]=0;
+Aq[9]=vq;
+x2(Aq+10,0);
+w8(a+48,yq+1);}
 components_at_7bd(g,a,b,c);
-*C=*g;
-C[1]=g[1];
-C[2]=g[2];
-C[3]=g[3];
+*D=*g;
+D[1]=g[1];
+D[2]=g[2];
+D[3]=g[3];
 L113:break;
-case 6:components_at_7bd(C,a,b,c);
+case 6:components_at_7bd(D,a,b,c);
 break;
 default:NEVER;
 }
-jq=in+1;
-if(*C!=1||jq==hn)goto L1;
-in=jq;
-jn=C[3];
-kn=C[2];
-ln=C[1];
+Bq=xn+1;
+if(*D!=1||Bq==wn)goto L1;
+xn=Bq;
+yn=D[3];
+zn=D[2];
+An=D[1];
 goto L97;}}}
 goto L1;
-case 2:if(Vb)goto L1;
+case 2:if(bc)goto L1;
 if(c<16){
-kq=are_few_named_14c(b,c);
-if(!kq)goto L1;}
+Cq=are_few_named_14c(b,c);
+if(!Cq)goto L1;}
 else{
-lq=c-16;
-if(lq==0)goto L114;
-mq=0;
-L115:nq=v16_at(b+mq);
-if((v16_ult(nq,splat(33))|v16_eq(nq,splat(127)))!=0)goto L1;
-oq=mq+16;
-if(oq<lq){
-mq=oq;
+Dq=c-16;
+if(Dq==0)goto L114;
+Eq=0;
+L115:Fq=v16_at(b+Eq);
+if((v16_ult(Fq,splat(33))|v16_eq(Fq,splat(127)))!=0)goto L1;
+Gq=Eq+16;
+if(Gq<Dq){
+Eq=Gq;
 goto L115;}
-L114:pq=v16_at(b+lq);
-if((v16_ult(pq,splat(33))|v16_eq(pq,splat(127)))!=0)goto L1;}
-w4(ua,0);
-w4(va,0);
+L114:Hq=v16_at(b+Dq);
+if((v16_ult(Hq,splat(33))|v16_eq(Hq,splat(127)))!=0)goto L1;}
+w4(xa,0);
+w4(ya,0);
 if(c!=0){
 if(c!=1&&*b==95){
 if(b[1]==90){
 if(c>=3){
-qq=b[2];
+Iq=b[2];
 if(c<5){
-if(qq==90)goto L116;
-if((c!=3)&(qq==71)){
+if(Iq==90)goto L116;
+if((c!=3)&(Iq==71)){
 if(b[3]==86)goto L117;
 goto L118;}
-switch(qq){
+switch(Iq){
 case 71:goto L118;
 case 84:if(c==3)goto L119;
 break;
 default:goto L120;
 }}
 else{
-switch(qq){
+switch(Iq){
 case 90:goto L116;
 case 71:if(b[3]!=86)goto L118;
 if(b[4]!=90)goto L117;
-if(Tb<19){
-rq=make_ready_8e3(a,19,128);
-if(!(rq&1)){
-uq=0;
-vq=0;
-wq=0;
-xq=0;
+if(Zb<19){
+Jq=make_ready_8e3(a,19,128);
+if(!(Jq&1)){
+Mq=0;
+Nq=0;
+Oq=0;
+Pq=0;
 goto L121;}
-sq=r8(a+16);
-tq=r8(a+8);}
+Kq=r8(a+16);
+Lq=r8(a+8);}
 else{
-sq=Sb;
-tq=0;}
-if(sq-tq<19){
-yq=grow_amortized_68b(a,19);
-if(!yq){
-uq=0;
-vq=0;
-wq=0;
-xq=0;
+Kq=Yb;
+Lq=0;}
+if(Kq-Lq<19){
+Qq=grow_amortized_68b(a,19);
+if(!Qq){
+Mq=0;
+Nq=0;
+Oq=0;
+Pq=0;
 goto L121;}
-zq=r8(a+16);
-Aq=r8(a+8);}
+Rq=r8(a+16);
+Sq=r8(a+8);}
 else{
-zq=sq;
-Aq=tq;}
-Bq=Aq+19;
-Cq=rp(a);
+Rq=Kq;
+Sq=Lq;}
+Tq=Sq+19;
+Uq=rp(a);
 z16(a+8);
-Dq=Cq+(i64)Aq;
-if((u64)Dq-(u64)(u8*)t_c270<19)copy_bits_4f4((u8*)t_c270,Dq,19);
-else memcpy(Dq,(u8*)t_c270,19);
-wp(a,Cq);
-w8(a+8,Bq);
-w8(a+16,zq);
+Vq=Uq+(i64)Sq;
+if((u64)Vq-(u64)(u8*)t_c270<19)copy_bits_4f4((u8*)t_c270,Vq,19);
+else memcpy(Vq,(u8*)t_c270,19);
+wp(a,Uq);
+w8(a+8,Tq);
+w8(a+16,Rq);
 w8(a+176,5);
-begin_encoding_e5c(sa,a,b,c);
-uq=sa[3];
-vq=sa[2];
-wq=sa[1];
-xq=*sa;
-L121:Eq=uq;
-Fq=vq;
-Gq=wq;
-Hq=xq;
+begin_encoding_e5c(va,a,b,c);
+Mq=va[3];
+Nq=va[2];
+Oq=va[1];
+Pq=*va;
+L121:Wq=Mq;
+Xq=Nq;
+Yq=Oq;
+Zq=Pq;
 goto L122;
 case 84:break;
 default:goto L120;
 }}
 switch(b[3]){
-case 104:begin_thunk_a5d(va,a,b,c);
+case 104:begin_thunk_a5d(ya,a,b,c);
 goto L123;
-case 118:begin_virtual_thunk_603(va,a,b,c);
+case 118:begin_virtual_thunk_603(ya,a,b,c);
 goto L123;
-case 67:begin_clone_893(va);
+case 67:begin_clone_893(ya);
 goto L123;
 default:break;}
-L119:begin_special_44d(va,a,b,c);
-L123:Iq=va[3];
-Jq=va[2];
-Kq=va[1];
-Lq=*va;
+L119:begin_special_44d(ya,a,b,c);
+L123:ar=ya[3];
+br=ya[2];
+cr=ya[1];
+dr=*ya;
 goto L124;
-L118:begin_clone_893(ua);
-Iq=ua[3];
-Jq=ua[2];
-Kq=ua[1];
-Lq=*ua;
+L118:begin_clone_893(xa);
+ar=xa[3];
+br=xa[2];
+cr=xa[1];
+dr=*xa;
 goto L124;
-L117:begin_object_103(ua,a,b,c);
-Iq=ua[3];
-Jq=ua[2];
-Kq=ua[1];
-Lq=*ua;
+L117:begin_object_103(xa,a,b,c);
+ar=xa[3];
+br=xa[2];
+cr=xa[1];
+dr=*xa;
 goto L124;
 L116:w8(a+176,3);
-begin_encoding_e5c(ta,a,b,c);
-Eq=ta[3];
-Fq=ta[2];
-Gq=ta[1];
-Hq=*ta;
-L122:Iq=Eq;
-Jq=Fq;
-Kq=Gq;
-Lq=Hq;
+begin_encoding_e5c(wa,a,b,c);
+Wq=wa[3];
+Xq=wa[2];
+Yq=wa[1];
+Zq=*wa;
+L122:ar=Wq;
+br=Xq;
+cr=Yq;
+dr=Zq;
 goto L124;}
 L120:w8(a+176,2);
-begin_encoding_e5c(ua,a,b,c);
-Iq=ua[3];
-Jq=ua[2];
-Kq=ua[1];
-Lq=*ua;
-L124:if(Lq!=1)goto L1;
-Mq=c<<3;
-Nq=0;
-Oq=Iq;
-Pq=Jq;
-Qq=Kq;
-L125:if(Qq==7){
-if(r8(a+8)>Rb)goto L14;
+begin_encoding_e5c(xa,a,b,c);
+ar=xa[3];
+br=xa[2];
+cr=xa[1];
+dr=*xa;
+L124:if(dr!=1)goto L1;
+er=c<<3;
+fr=0;
+gr=ar;
+hr=br;
+ir=cr;
+L125:if(ir==7){
+if(r8(a+8)>Xb)goto L14;
 goto L15;}
 w8(a+184,r8(a+184)+1);
-w4(wa,0);
-switch(Qq){
-case 0:type_at_925(wa,a,b,c,0);
+w4(za,0);
+switch(ir){
+case 0:type_at_925(za,a,b,c,0);
 break;
-case 1:type_at_925(wa,a,b,c,1);
+case 1:type_at_925(za,a,b,c,1);
 break;
-case 2:w4(oa,0);
-w4(pa,0);
-z32(qa);
-z32(ra);
-Rq=r8(a+88);
-if(Rq==0)w4(wa,0);
+case 2:w4(ra,0);
+w4(sa,0);
+z32(ta);
+z32(ua);
+jr=r8(a+88);
+if(jr==0)w4(za,0);
 else{
-Sq=Pq&1;
-Tq=rp(a+80)+(i64)(Rq*44);
-Uq=Tq[-44];
-Vq=Tq[-43];
-Wq=q4(Tq-40);
-Xq=q4(Tq-36);
-Yq=q2(Tq-32);
-switch(Uq){
-case 29:case 28:case 27:case 26:case 4:case 5:case 6:case 7:case 8:case 11:case 12:case 13:case 14:case 15:case 16:case 17:case 18:case 19:case 20:case 21:case 22:case 23:case 24:case 25:if(Oq&1){
-pass_dependent_3d7(oa,a,b,c);
-*wa=*oa;
-wa[1]=oa[1];
-wa[2]=oa[2];
-wa[3]=oa[3];
+kr=hr&1;
+lr=rp(a+80)+(i64)(jr*44);
+mr=lr[-44];
+nr=lr[-43];
+or=q4(lr-40);
+pr=q4(lr-36);
+qr=q2(lr-32);
+switch(mr){
+case 29:case 28:case 27:case 26:case 4:case 5:case 6:case 7:case 8:case 11:case 12:case 13:case 14:case 15:case 16:case 17:case 18:case 19:case 20:case 21:case 22:case 23:case 24:case 25:if(gr&1){
+pass_dependent_3d7(ra,a,b,c);
+*za=*ra;
+za[1]=ra[1];
+za[2]=ra[2];
+za[3]=ra[3];
 goto L126;}
-Zq=q4(Tq-4);
-ar=Xq;
-br=Xq>>16;
-w4(na,0);
-switch(Uq){
-case 22:returned_322(na,a,b,c,Vq&1);
+rr=q4(lr-4);
+w4(qa,0);
+switch(mr){
+case 22:returned_322(qa,a,b,c,nr&1);
 break;
-case 23:parameter_at_3ac(na,a,b,c,Vq&1,0);
+case 23:parameter_at_3ac(qa,a,b,c,nr&1,0);
 break;
-case 24:array_ended_1b3(na,a,b,c,Vq,Wq,Xq);
+case 24:array_ended_1b3(qa,a,b,c,nr,or,pr);
 break;
-case 12:enclosing_parameter_fc1(na,a,b,c,Wq,Xq);
+case 12:enclosing_parameter_fc1(qa,a,b,c,or,pr);
 break;
-case 13:instance_parameter_240(na,a,b,c,Vq,Wq,Xq);
+case 13:instance_parameter_240(qa,a,b,c,nr,or,pr);
 break;
-case 11:w2(ha,Yq);
-memcpy(ha+2,Tq-30,26);
-x4(ha+28,Zq);
-enclosing_front_fa8(na,a,Vq,Wq,Xq,ha);
+case 11:w2(na,qr);
+memcpy(na+2,lr-30,26);
+x4(na+28,rr);
+enclosing_front_fa8(qa,a,nr,or,pr,na);
 break;
-case 17:w4(ia,Xq);
-w2(ia+4,Yq);
-lambda_parameter_383(na,a,b,c,Wq,ia);
+case 17:w4(oa,pr);
+w2(oa+4,qr);
+lambda_parameter_383(qa,a,b,c,or,oa);
 break;
-case 18:member_parameter_7e4(na,a,b,c,Wq);
+case 18:member_parameter_7e4(qa,a,b,c,or);
 break;
-case 15:w4(ja,Xq);
-w2(ja+4,Yq);
-memcpy(ja+6,Tq-30,26);
-addressed_front_54d(na,a,b,c,Vq,Wq,ja);
+case 15:w4(pa,pr);
+w2(pa+4,qr);
+memcpy(pa+6,lr-30,26);
+addressed_front_54d(qa,a,b,c,nr,or,pa);
 break;
-case 16:addressed_parameter_2cf(na,a,b,c,Wq);
+case 16:addressed_parameter_2cf(qa,a,b,c,or);
 break;
-case 14:*na=0;
+case 14:*qa=0;
 break;
-case 19:finish_8cd(na,a,b,c);
+case 19:finish_8cd(qa,a,b,c);
 break;
-case 20:derived_ended_aef(na,a,b,c);
+case 20:derived_ended_aef(qa,a,b,c);
 break;
-case 21:base_ended_299(na,a,b,c,Wq);
+case 21:base_ended_299(qa,a,b,c,or);
 break;
-case 29:enumerator_21c(na,a,b,c);
+case 29:enumerator_21c(qa,a,b,c);
 break;
-case 26:w2(ka,br);
-w2(ka+2,Yq);
-memcpy(ka+4,Tq-30,26);
-w2(ka+30,Zq);
-argument_enumerator_5cf(na,a,b,c,Wq,ar,ka);
+case 26:case 25:case 28:sr=pr;
+tr=rr;
+w4(ma,0);
+switch(mr){
+case 26:w2(ja,pr>>16);
+w2(ja+2,qr);
+memcpy(ja+4,lr-30,26);
+w2(ja+30,tr);
+argument_enumerator_5cf(ma,a,b,c,or,sr,ja);
 break;
-case 25:w2(la,br);
-w2(la+2,Yq);
-memcpy(la+4,Tq-30,26);
-w2(la+30,Zq);
-argument_ended_d25(na,a,b,c,Wq,ar,la,Sq);
+case 25:w2(ka,pr>>16);
+w2(ka+2,qr);
+memcpy(ka+4,lr-30,26);
+w2(ka+30,tr);
+argument_ended_d25(ma,a,b,c,or,sr,ka,kr);
 break;
-case 28:w2(ma,br);
-w2(ma+2,Yq);
-memcpy(ma+4,Tq-30,26);
-w2(ma+30,Zq);
-element_ended_6b8(na,a,b,c,Wq,ar,ma,Sq);
+case 28:w2(la,pr>>16);
+w2(la+2,qr);
+memcpy(la+4,lr-30,26);
+w2(la+30,tr);
+element_ended_6b8(ma,a,b,c,or,sr,la,kr);
 break;
-case 27:case 10:case 9:case 8:case 4:case 5:case 6:case 7:*na=1;
-na[1]=3;
-na[2]=0;
-na[3]=0;
+case 27:*ma=0;
 break;
 default:NEVER;
 }
-cr=na[1];
-dr=na[2];
-er=na[3];
-*pa=*na;
-pa[1]=cr;
-pa[2]=dr;
-pa[3]=er;
+ur=ma[1];
+vr=ma[2];
+wr=ma[3];
+*qa=*ma;
+qa[1]=ur;
+qa[2]=vr;
+qa[3]=wr;
+break;
+case 27:case 10:case 9:case 8:case 4:case 5:case 6:case 7:*qa=1;
+qa[1]=3;
+qa[2]=0;
+qa[3]=0;
+break;
+default:NEVER;
+}
+xr=qa[1];
+yr=qa[2];
+zr=qa[3];
+*sa=*qa;
+sa[1]=xr;
+sa[2]=yr;
+sa[3]=zr;
 goto L127;
-case 10:w4(qa,Xq);
-w2(qa+4,Yq);
-memcpy(qa+6,Tq-30,26);
-parameter_ended_d3f(pa,a,b,c,Wq,qa);
+case 10:w4(ta,pr);
+w2(ta+4,qr);
+memcpy(ta+6,lr-30,26);
+parameter_ended_d3f(sa,a,b,c,or,ta);
 goto L127;
-case 9:w4(ra,Xq);
-w2(ra+4,Yq);
-memcpy(ra+6,Tq-30,26);
-front_ended_665(pa,a,b,c,Vq,Wq,ra);
+case 9:w4(ua,pr);
+w2(ua+4,qr);
+memcpy(ua+6,lr-30,26);
+front_ended_665(sa,a,b,c,nr,or,ua);
 goto L127;
-case 0:w8(a+88,Rq-1);
-fr=r8(a+8);
-if(r8(a+32)>fr)gr=fr;
+case 0:w8(a+88,jr-1);
+Ar=r8(a+8);
+if(r8(a+32)>Ar)Br=Ar;
 else{
-hr=make_ready_8e3(a,1,16);
-if(!(hr&1)){
-ir=0;
-jr=0;
-kr=0;
-lr=0;
+Cr=make_ready_8e3(a,1,16);
+if(!(Cr&1)){
+Dr=0;
+Er=0;
+Fr=0;
+Gr=0;
 goto L128;}
-gr=r8(a+8);}
-*(rp(a)+gr)=42;
-mr=gr+1;
-w8(a+8,mr);
-nr=mr;
-or=Oq&1;
-pr=r8(a+48);
-if(r8(a+72)>pr){
-qr=pr;
-rr=nr;
-sr=0;
-tr=or;
+Br=r8(a+8);}
+*(rp(a)+Br)=42;
+Hr=Br+1;
+w8(a+8,Hr);
+Ir=Hr;
+Jr=gr&1;
+Kr=r8(a+48);
+if(r8(a+72)>Kr){
+Lr=Kr;
+Mr=Ir;
+Nr=0;
+Or=Jr;
 goto L129;}
-ur=make_ready_17a(a+40);
-if(!(ur&1)){
-ir=0;
-jr=0;
-kr=0;
-lr=0;
+Pr=make_ready_17a(a+40);
+if(!(Pr&1)){
+Dr=0;
+Er=0;
+Fr=0;
+Gr=0;
 goto L128;}
-vr=nr;
-wr=0;
-xr=or;
+Qr=Ir;
+Rr=0;
+Sr=Jr;
 break;
-case 1:if(Sq)goto L127;
-w8(a+88,Rq-1);
-yr=r8(a+8);
-if(r8(a+32)>yr)zr=yr;
+case 1:if(kr)goto L127;
+w8(a+88,jr-1);
+Tr=r8(a+8);
+if(r8(a+32)>Tr)Ur=Tr;
 else{
-Ar=make_ready_8e3(a,1,16);
-if(!(Ar&1)){
-ir=0;
-jr=0;
-kr=0;
-lr=0;
+Vr=make_ready_8e3(a,1,16);
+if(!(Vr&1)){
+Dr=0;
+Er=0;
+Fr=0;
+Gr=0;
 goto L128;}
-zr=r8(a+8);}
-*(rp(a)+zr)=38;
-Br=zr+1;
-w8(a+8,Br);
-Cr=Br;
-Dr=Oq&1;
-Er=r8(a+48);
-if(r8(a+72)>Er){
-qr=Er;
-rr=Cr;
-sr=1;
-tr=Dr;
+Ur=r8(a+8);}
+*(rp(a)+Ur)=38;
+Wr=Ur+1;
+w8(a+8,Wr);
+Xr=Wr;
+Yr=gr&1;
+Zr=r8(a+48);
+if(r8(a+72)>Zr){
+Lr=Zr;
+Mr=Xr;
+Nr=1;
+Or=Yr;
 goto L129;}
-Fr=make_ready_17a(a+40);
-if(!(Fr&1)){
-ir=0;
-jr=0;
-kr=0;
-lr=0;
+as=make_ready_17a(a+40);
+if(!(as&1)){
+Dr=0;
+Er=0;
+Fr=0;
+Gr=0;
 goto L128;}
-vr=Cr;
-wr=1;
-xr=Dr;
+Qr=Xr;
+Rr=1;
+Sr=Yr;
 break;
-case 2:if(Sq)goto L127;
-w8(a+88,Rq-1);
-Gr=r8(a+8);
-if(r8(a+32)-Gr<2){
-Hr=make_ready_8e3(a,2,128);
-if(!(Hr&1)){
-ir=0;
-jr=0;
-kr=0;
-lr=0;
+case 2:if(kr)goto L127;
+w8(a+88,jr-1);
+bs=r8(a+8);
+if(r8(a+32)-bs<2){
+cs=make_ready_8e3(a,2,128);
+if(!(cs&1)){
+Dr=0;
+Er=0;
+Fr=0;
+Gr=0;
 goto L128;}
-Ir=r8(a+8);}
-else Ir=Gr;
-*(rp(a)+Ir)=38;
-*(rp(a)+(i64)Ir+1)=38;
-Jr=Ir+2;
-w8(a+8,Jr);
-Kr=Jr;
-Lr=Oq&1;
-Mr=r8(a+48);
-if(r8(a+72)>Mr){
-qr=Mr;
-rr=Kr;
-sr=1;
-tr=Lr;
+ds=r8(a+8);}
+else ds=bs;
+*(rp(a)+ds)=38;
+*(rp(a)+(i64)ds+1)=38;
+es=ds+2;
+w8(a+8,es);
+fs=es;
+gs=gr&1;
+hs=r8(a+48);
+if(r8(a+72)>hs){
+Lr=hs;
+Mr=fs;
+Nr=1;
+Or=gs;
 goto L129;}
-Nr=make_ready_17a(a+40);
-if(!(Nr&1)){
-ir=0;
-jr=0;
-kr=0;
-lr=0;
+is=make_ready_17a(a+40);
+if(!(is&1)){
+Dr=0;
+Er=0;
+Fr=0;
+Gr=0;
 goto L128;}
-vr=Kr;
-wr=1;
-xr=Lr;
+Qr=fs;
+Rr=1;
+Sr=gs;
 break;
-case 3:if(Sq)goto L127;
-w8(a+88,Rq-1);
+case 3:if(kr)goto L127;
+w8(a+88,jr-1);
 if(r8(a+32)-r8(a+8)<6){
-Or=make_ready_8e3(a,6,128);
-if(!(Or&1)){
-ir=0;
-jr=0;
-kr=0;
-lr=0;
+js=make_ready_8e3(a,6,128);
+if(!(js&1)){
+Dr=0;
+Er=0;
+Fr=0;
+Gr=0;
 goto L128;}}
-Pr=extend_from_slice_674(a,(u8*)t_f603,6);
-if(Pr&1){
-ir=0;
-jr=0;
-kr=0;
-lr=0;
+ks=extend_from_slice_674(a,(u8*)t_f603,6);
+if(ks&1){
+Dr=0;
+Er=0;
+Fr=0;
+Gr=0;
 goto L128;}
-Qr=r8(a+8);
-Rr=Oq&1;
-Sr=r8(a+48);
-if(r8(a+72)>Sr){
-qr=Sr;
-rr=Qr;
-sr=0;
-tr=Rr;
+ls=r8(a+8);
+ms=gr&1;
+ns=r8(a+48);
+if(r8(a+72)>ns){
+Lr=ns;
+Mr=ls;
+Nr=0;
+Or=ms;
 goto L129;}
-Tr=make_ready_17a(a+40);
-if(!(Tr&1)){
-ir=0;
-jr=0;
-kr=0;
-lr=0;
+os=make_ready_17a(a+40);
+if(!(os&1)){
+Dr=0;
+Er=0;
+Fr=0;
+Gr=0;
 goto L128;}
-vr=Qr;
-wr=0;
-xr=Rr;
+Qr=ls;
+Rr=0;
+Sr=ms;
 break;
 default:NEVER;
 }
-qr=r8(a+48);
-rr=vr;
-sr=wr;
-tr=xr;
-L129:Ur=rp(a+40)+qr*12;
-x4(Ur,Wq);
-x4(Ur+4,rr);
-Ur[8]=sr;
-Ur[9]=tr;
-x2(Ur+10,0);
-w8(a+48,qr+1);
-ir=tr;
-jr=sr;
-kr=2;
-lr=1;
-L128:*pa=lr;
-pa[1]=kr;
-pa[2]=jr;
-pa[3]=ir;
-L127:Vr=pa[1];
-Wr=pa[2];
-Xr=pa[3];
-*wa=*pa;
-wa[1]=Vr;
-wa[2]=Wr;
-wa[3]=Xr;}
+Lr=r8(a+48);
+Mr=Qr;
+Nr=Rr;
+Or=Sr;
+L129:ps=rp(a+40)+Lr*12;
+x4(ps,or);
+x4(ps+4,Mr);
+ps[8]=Nr;
+ps[9]=Or;
+x2(ps+10,0);
+w8(a+48,Lr+1);
+Dr=Or;
+Er=Nr;
+Fr=2;
+Gr=1;
+L128:*sa=Gr;
+sa[1]=Fr;
+sa[2]=Er;
+sa[3]=Dr;
+L127:qs=sa[1];
+rs=sa[2];
+ss=sa[3];
+*za=*sa;
+za[1]=qs;
+za[2]=rs;
+za[3]=ss;}
 L126:break;
-case 3:Yr=Pq&1;
-w4(fa,0);
-Zr=r8(a+176);
-if(Zr<c){
-as=*(b+Zr);
-switch(as){
-case 69:w4(da,0);
-w8(a+176,Zr+1);
-bs=r8(a+88);
-if(bs==0){
-cs=0;
-ds=0;
-es=0;
-fs=0;}
-else{
-if(*(rp(a+80)+(i64)(bs*44)-44)==27){
-if(Yr){
-cs=0;
-ds=0;
-es=0;
-fs=0;}
-else{
-w8(a+88,bs-1);
-cs=0;
-ds=0;
-es=3;
-fs=1;}}
-else{
-z32(ea);
-close_list_299(da,a,b,c,ea);
-cs=da[3];
-ds=da[2];
-es=da[1];
-fs=*da;}}
-*wa=fs;
-wa[1]=es;
-wa[2]=ds;
-wa[3]=cs;
-goto L130;
-case 74:gs=Zr+1;
-if(gs<c){
-if(*(b+gs)==69){
-empty_pack_079(fa,a,b,c,Yr);
-*wa=*fa;
-wa[1]=fa[1];
-wa[2]=fa[2];
-wa[3]=fa[3];
-goto L130;}}
-if(!Yr){
-hs=74;
-goto L131;}
-first_pack_117(fa,a,b,c);
-*wa=*fa;
-wa[1]=fa[1];
-wa[2]=fa[2];
-wa[3]=fa[3];
-goto L130;
-default:is=as;
-break;}}
-else is=0;
-if(Yr){
-js=is;
-goto L132;}
-hs=is;
-L131:ks=r8(a+8);
-if(r8(a+32)-ks<2){
-ls=make_ready_8e3(a,2,128);
-if(!(ls&1)){
-w4(wa,0);
-goto L130;}
-ms=r8(a+8);}
-else ms=ks;
-*(rp(a)+ms)=44;
-*(rp(a)+(i64)ms+1)=32;
-w8(a+8,ms+2);
-js=hs;
-L132:switch(js){
-case 76:if(Yr){
-first_literal_8ab(fa,a,b,c);
-*wa=*fa;
-wa[1]=fa[1];
-wa[2]=fa[2];
-wa[3]=fa[3];
-goto L130;}
-literal_9c1(ga,a,b,c);
-ns=ga[3];
-os=ga[2];
-ps=ga[1];
-qs=*ga;
-break;
-case 74:rs=r8(a+88);
-if(rs==0){
-ns=0;
-os=0;
-ps=0;
-qs=0;}
-else{
-ss=rp(a+80);
-ts=rs*44;
-if(*(ss+(i64)ts-44)==27){
-ns=0;
-os=0;
-ps=0;
-qs=0;}
-else{
+case 3:ts=hr&1;
+w4(ha,0);
 us=r8(a+176);
-if(us==18446744073709551615u){
-ns=0;
-os=0;
-ps=0;
-qs=0;}
-else{
+if(us<c){
+vs=*(b+us);
+switch(vs){
+case 69:w4(fa,0);
 w8(a+176,us+1);
-if(r8(a+112)>rs){
-vs=ts;
-ws=ss;
-xs=rs;}
+ws=r8(a+88);
+if(ws==0){
+xs=0;
+ys=0;
+zs=0;
+As=0;}
 else{
-ys=make_ready_9a1(a+80);
-if(!(ys&1)){
-ns=0;
-os=0;
-ps=0;
-qs=0;
-break;}
-zs=r8(a+88);
-vs=zs*44;
-ws=rp(a+80);
-xs=zs;}
-As=ws+vs;
-*As=27;
-z43(As+1);
-w8(a+88,xs+1);
-ns=0;
-os=1;
-ps=3;
-qs=1;}}}
+if(*(rp(a+80)+(i64)(ws*44)-44)==27){
+if(ts){
+xs=0;
+ys=0;
+zs=0;
+As=0;}
+else{
+w8(a+88,ws-1);
+xs=0;
+ys=0;
+zs=3;
+As=1;}}
+else{
+z32(ga);
+close_list_299(fa,a,b,c,ga);
+xs=fa[3];
+ys=fa[2];
+zs=fa[1];
+As=*fa;}}
+*za=As;
+za[1]=zs;
+za[2]=ys;
+za[3]=xs;
+goto L130;
+case 74:Bs=us+1;
+if(Bs<c){
+if(*(b+Bs)==69){
+empty_pack_079(ha,a,b,c,ts);
+*za=*ha;
+za[1]=ha[1];
+za[2]=ha[2];
+za[3]=ha[3];
+goto L130;}}
+if(!ts){
+Cs=74;
+goto L131;}
+first_pack_117(ha,a,b,c);
+*za=*ha;
+za[1]=ha[1];
+za[2]=ha[2];
+za[3]=ha[3];
+goto L130;
+default:Ds=vs;
+break;}}
+else Ds=0;
+if(ts){
+Es=Ds;
+goto L132;}
+Cs=Ds;
+L131:Fs=r8(a+8);
+if(r8(a+32)-Fs<2){
+Gs=make_ready_8e3(a,2,128);
+if(!(Gs&1)){
+w4(za,0);
+goto L130;}
+Hs=r8(a+8);}
+else Hs=Fs;
+*(rp(a)+Hs)=44;
+*(rp(a)+(i64)Hs+1)=32;
+w8(a+8,Hs+2);
+Es=Cs;
+L132:switch(Es){
+case 76:if(ts){
+first_literal_8ab(ha,a,b,c);
+*za=*ha;
+za[1]=ha[1];
+za[2]=ha[2];
+za[3]=ha[3];
+goto L130;}
+literal_9c1(ia,a,b,c);
+Is=ia[3];
+Js=ia[2];
+Ks=ia[1];
+Ls=*ia;
 break;
-default:if(Yr){
-Bs=r8(a+88);
-if(Bs==0)Cs=1;
+case 74:Ms=r8(a+88);
+if(Ms==0){
+Is=0;
+Js=0;
+Ks=0;
+Ls=0;}
 else{
-Ds=rp(a+80);
-Es=Bs*44;
-Fs=Ds+(i64)Es;
-switch(Fs[-44]){
-case 5:if(Fs[-28]==0){
-Cs=1;
+Ns=rp(a+80);
+Os=Ms*44;
+if(*(Ns+(i64)Os-44)==27){
+Is=0;
+Js=0;
+Ks=0;
+Ls=0;}
+else{
+Ps=r8(a+176);
+if(Ps==18446744073709551615u){
+Is=0;
+Js=0;
+Ks=0;
+Ls=0;}
+else{
+w8(a+176,Ps+1);
+if(r8(a+112)>Ms){
+Qs=Os;
+Rs=Ns;
+Ss=Ms;}
+else{
+Ts=make_ready_9a1(a+80);
+if(!(Ts&1)){
+Is=0;
+Js=0;
+Ks=0;
+Ls=0;
+break;}
+Us=r8(a+88);
+Qs=Us*44;
+Rs=rp(a+80);
+Ss=Us;}
+Vs=Rs+Qs;
+*Vs=27;
+z43(Vs+1);
+w8(a+88,Ss+1);
+Is=0;
+Js=1;
+Ks=3;
+Ls=1;}}}
+break;
+default:if(ts){
+Ws=r8(a+88);
+if(Ws==0)Xs=1;
+else{
+Ys=rp(a+80);
+Zs=Ws*44;
+at=Ys+(i64)Zs;
+switch(at[-44]){
+case 5:if(at[-28]==0){
+Xs=1;
 goto L133;}
 break;
 case 7:break;
-case 0:case 1:case 2:case 3:case 4:case 6:case 8:case 9:case 10:case 11:case 12:case 13:case 14:case 15:case 16:case 17:case 18:case 19:case 20:case 21:case 22:case 23:case 24:case 25:case 26:case 27:case 28:case 29:Cs=1;
+case 0:case 1:case 2:case 3:case 4:case 6:case 8:case 9:case 10:case 11:case 12:case 13:case 14:case 15:case 16:case 17:case 18:case 19:case 20:case 21:case 22:case 23:case 24:case 25:case 26:case 27:case 28:case 29:Xs=1;
 goto L133;
 default:NEVER;
 }
-Gs=r8(a+176);
-if(Gs<c){
-Hs=b+(i64)Gs;
-switch(*Hs){
-case 65:case 70:Cs=1;
+bt=r8(a+176);
+if(bt<c){
+ct=b+(i64)bt;
+switch(*ct){
+case 65:case 70:Xs=1;
 goto L133;
-case 80:case 82:if(usub64(c,Gs)>=2){
-switch(Hs[1]){
-case 70:case 65:Cs=1;
+case 80:case 82:if(usub64(c,bt)>=2){
+switch(ct[1]){
+case 70:case 65:Xs=1;
 goto L133;
 default:break;}}
 break;
 default:break;}}
-Is=r8(a+8);
-if(r8(a+112)>Bs){
-Js=Es;
-Ks=Ds;
-Ls=Bs;}
+dt=r8(a+8);
+if(r8(a+112)>Ws){
+et=Zs;
+ft=Ys;
+gt=Ws;}
 else{
-Ms=make_ready_9a1(a+80);
-if(!(Ms&1)){
-Cs=0;
+ht=make_ready_9a1(a+80);
+if(!(ht&1)){
+Xs=0;
 goto L133;}
-Ns=r8(a+88);
-Js=Ns*44;
-Ks=rp(a+80);
-Ls=Ns;}
-Os=Ks+Js;
-*Os=25;
-Os[1]=0;
-x2(Os+2,0);
-x4(Os+4,Is);
-z36(Os+8);
-w8(a+88,Ls+1);
-Cs=1;}
-L133:*wa=Cs;
-wa[1]=0;
-wa[2]=0;
-wa[3]=0;
+it=r8(a+88);
+et=it*44;
+ft=rp(a+80);
+gt=it;}
+jt=ft+et;
+*jt=25;
+jt[1]=0;
+x2(jt+2,0);
+x4(jt+4,dt);
+z36(jt+8);
+w8(a+88,gt+1);
+Xs=1;}
+L133:*za=Xs;
+za[1]=0;
+za[2]=0;
+za[3]=0;
 goto L130;}
-ns=0;
-os=0;
-ps=0;
-qs=1;
+Is=0;
+Js=0;
+Ks=0;
+Ls=1;
 break;}
-*wa=qs;
-wa[1]=ps;
-wa[2]=os;
-wa[3]=ns;
+*za=Ls;
+za[1]=Ks;
+za[2]=Js;
+za[3]=Is;
 L130:break;
-case 4:w4(ba,0);
-z20(ca+20);
+case 4:w4(da,0);
+z20(ea+20);
 if(!(a[136]&1)){
-Ps=r4(a+120);
-Qs=a[139];
-Rs=r8(a+8);
-Ss=r8(a+48);
-if(r8(a+72)>Ss)Ts=Ss;
+kt=r4(a+120);
+lt=a[139];
+mt=r8(a+8);
+nt=r8(a+48);
+if(r8(a+72)>nt)ot=nt;
 else{
-Us=make_ready_17a(a+40);
-if(!(Us&1)){
-w4(wa,0);
+pt=make_ready_17a(a+40);
+if(!(pt&1)){
+w4(za,0);
 goto L134;}
-Ts=r8(a+48);}
-Vs=rp(a+40)+Ts*12;
-x4(Vs,Ps);
-x4(Vs+4,Rs);
-Vs[8]=0;
-Vs[9]=Qs;
-x2(Vs+10,0);
-w8(a+48,Ts+1);}
-Ws=r8(a+176);
-if(Ws<c){
-if(*(b+Ws)==73){
-memcpy(ca,a+120,20);
-Xs=r8(a+8);
-if(r8(a+32)>Xs)Ys=Xs;
+ot=r8(a+48);}
+qt=rp(a+40)+ot*12;
+x4(qt,kt);
+x4(qt+4,mt);
+qt[8]=0;
+qt[9]=lt;
+x2(qt+10,0);
+w8(a+48,ot+1);}
+rt=r8(a+176);
+if(rt<c){
+if(*(b+rt)==73){
+memcpy(ea,a+120,20);
+st=r8(a+8);
+if(r8(a+32)>st)tt=st;
 else{
-Zs=make_ready_8e3(a,1,16);
-if(!(Zs&1)){
-at=0;
-bt=0;
+ut=make_ready_8e3(a,1,16);
+if(!(ut&1)){
+vt=0;
+wt=0;
 goto L135;}
-Ys=r8(a+8);}
-*(rp(a)+Ys)=60;
-w8(a+8,Ys+1);
-ct=r8(a+176);
-if(ct==18446744073709551615u){
-at=0;
-bt=0;}
+tt=r8(a+8);}
+*(rp(a)+tt)=60;
+w8(a+8,tt+1);
+xt=r8(a+176);
+if(xt==18446744073709551615u){
+vt=0;
+wt=0;}
 else{
-w8(a+176,ct+1);
-dt=r8(a+88);
-if(r8(a+112)>dt)et=dt;
+w8(a+176,xt+1);
+yt=r8(a+88);
+if(r8(a+112)>yt)zt=yt;
 else{
-ft=make_ready_9a1(a+80);
-if(!(ft&1)){
-at=0;
-bt=0;
+At=make_ready_9a1(a+80);
+if(!(At&1)){
+vt=0;
+wt=0;
 goto L135;}
-et=r8(a+88);}
-gt=rp(a+80)+et*44;
-*gt=6;
-gt[1]=0;
-x2(gt+2,0);
-memcpy(gt+4,ca,40);
-w8(a+88,et+1);
-at=3;
-bt=1;}
-L135:*wa=bt;
-wa[1]=at;
-wa[2]=bt;
-wa[3]=0;
+zt=r8(a+88);}
+Bt=rp(a+80)+zt*44;
+*Bt=6;
+Bt[1]=0;
+x2(Bt+2,0);
+memcpy(Bt+4,ea,40);
+w8(a+88,zt+1);
+vt=3;
+wt=1;}
+L135:*za=wt;
+za[1]=vt;
+za[2]=wt;
+za[3]=0;
 goto L134;}}
-components_at_ca9(ba,a,b,c);
-*wa=*ba;
-wa[1]=ba[1];
-wa[2]=ba[2];
-wa[3]=ba[3];
+components_at_ca9(da,a,b,c);
+*za=*da;
+za[1]=da[1];
+za[2]=da[2];
+za[3]=da[3];
 L134:break;
-case 5:w4(aa,0);
-ht=r8(a+176);
-if(ht<c){
-if(*(b+ht)==69){
-nest_ended_32a(aa,a,b,c);
-*wa=*aa;
-wa[1]=aa[1];
-wa[2]=aa[2];
-wa[3]=aa[3];
+case 5:w4(ca,0);
+Ct=r8(a+176);
+if(Ct<c){
+if(*(b+Ct)==69){
+nest_ended_32a(ca,a,b,c);
+*za=*ca;
+za[1]=ca[1];
+za[2]=ca[2];
+za[3]=ca[3];
 goto L136;}}
 if(!(a[136]&1)){
-it=r4(a+120);
-jt=a[139];
-kt=r8(a+8);
-lt=r8(a+48);
-if(r8(a+72)>lt)mt=lt;
+Dt=r4(a+120);
+Et=a[139];
+Ft=r8(a+8);
+Gt=r8(a+48);
+if(r8(a+72)>Gt)Ht=Gt;
 else{
-nt=make_ready_17a(a+40);
-if(!(nt&1)){
-w4(wa,0);
+It=make_ready_17a(a+40);
+if(!(It&1)){
+w4(za,0);
 goto L136;}
-mt=r8(a+48);}
-ot=rp(a+40)+mt*12;
-x4(ot,it);
-x4(ot+4,kt);
-ot[8]=0;
-ot[9]=jt;
-x2(ot+10,0);
-w8(a+48,mt+1);}
-components_at_ca9(aa,a,b,c);
-*wa=*aa;
-wa[1]=aa[1];
-wa[2]=aa[2];
-wa[3]=aa[3];
+Ht=r8(a+48);}
+Jt=rp(a+40)+Ht*12;
+x4(Jt,Dt);
+x4(Jt+4,Ft);
+Jt[8]=0;
+Jt[9]=Et;
+x2(Jt+10,0);
+w8(a+48,Ht+1);}
+components_at_ca9(ca,a,b,c);
+*za=*ca;
+za[1]=ca[1];
+za[2]=ca[2];
+za[3]=ca[3];
 L136:break;
-case 6:components_at_ca9(wa,a,b,c);
+case 6:components_at_ca9(za,a,b,c);
 break;
 default:NEVER;
 }
-pt=Nq+1;
-if(*wa!=1||pt==Mq)goto L1;
-Nq=pt;
-Oq=wa[3];
-Pq=wa[2];
-Qq=wa[1];
+Kt=fr+1;
+if(*za!=1||Kt==er)goto L1;
+fr=Kt;
+gr=za[3];
+hr=za[2];
+ir=za[1];
 goto L125;}}}
 goto L1;
-case 1:if(Vb)goto L1;
+case 1:if(bc)goto L1;
 if(c<16){
-qt=are_few_named_14c(b,c);
-if(!qt)goto L1;}
+Lt=are_few_named_14c(b,c);
+if(!Lt)goto L1;}
 else{
-rt=c-16;
-if(rt==0)goto L137;
-st=0;
-L138:tt=v16_at(b+st);
-if((v16_ult(tt,splat(33))|v16_eq(tt,splat(127)))!=0)goto L1;
-ut=st+16;
-if(ut<rt){
-st=ut;
+Mt=c-16;
+if(Mt==0)goto L137;
+Nt=0;
+L138:Ot=v16_at(b+Nt);
+if((v16_ult(Ot,splat(33))|v16_eq(Ot,splat(127)))!=0)goto L1;
+Pt=Nt+16;
+if(Pt<Mt){
+Nt=Pt;
 goto L138;}
-L137:vt=v16_at(b+rt);
-if((v16_ult(vt,splat(33))|v16_eq(vt,splat(127)))!=0)goto L1;}
-w4(X,0);
-w4(Y,0);
+L137:Qt=v16_at(b+Mt);
+if((v16_ult(Qt,splat(33))|v16_eq(Qt,splat(127)))!=0)goto L1;}
+w4(Z,0);
+w4(aa,0);
 if(c!=0){
 if(c!=1&&*b==95){
 if(b[1]==90){
 if(c>=3){
-wt=b[2];
+Rt=b[2];
 if(c<5){
-if(wt==90)goto L139;
-if((c!=3)&(wt==71)){
+if(Rt==90)goto L139;
+if((c!=3)&(Rt==71)){
 if(b[3]==86)goto L140;
 goto L141;}
-switch(wt){
+switch(Rt){
 case 71:goto L141;
 case 84:if(c==3)goto L142;
 break;
 default:goto L143;
 }}
 else{
-switch(wt){
+switch(Rt){
 case 90:goto L139;
 case 71:if(b[3]!=86)goto L141;
 if(b[4]!=90)goto L140;
-if(Tb<19){
-xt=make_ready_8e3(a,19,128);
-if(!(xt&1)){
-At=0;
-Bt=0;
-Ct=0;
-Dt=0;
+if(Zb<19){
+St=make_ready_8e3(a,19,128);
+if(!(St&1)){
+Vt=0;
+Wt=0;
+Xt=0;
+Yt=0;
 goto L144;}
-yt=r8(a+16);
-zt=r8(a+8);}
+Tt=r8(a+16);
+Ut=r8(a+8);}
 else{
-yt=Sb;
-zt=0;}
-if(yt-zt<19){
-Et=grow_amortized_68b(a,19);
-if(!Et){
-At=0;
-Bt=0;
-Ct=0;
-Dt=0;
+Tt=Yb;
+Ut=0;}
+if(Tt-Ut<19){
+Zt=grow_amortized_68b(a,19);
+if(!Zt){
+Vt=0;
+Wt=0;
+Xt=0;
+Yt=0;
 goto L144;}
-Ft=r8(a+16);
-Gt=r8(a+8);}
+au=r8(a+16);
+bu=r8(a+8);}
 else{
-Ft=yt;
-Gt=zt;}
-Ht=Gt+19;
-It=rp(a);
+au=Tt;
+bu=Ut;}
+cu=bu+19;
+du=rp(a);
 z16(a+8);
-Jt=It+(i64)Gt;
-if((u64)Jt-(u64)(u8*)t_c270<19)copy_bits_4f4((u8*)t_c270,Jt,19);
-else memcpy(Jt,(u8*)t_c270,19);
-wp(a,It);
-w8(a+8,Ht);
-w8(a+16,Ft);
+eu=du+(i64)bu;
+if((u64)eu-(u64)(u8*)t_c270<19)copy_bits_4f4((u8*)t_c270,eu,19);
+else memcpy(eu,(u8*)t_c270,19);
+wp(a,du);
+w8(a+8,cu);
+w8(a+16,au);
 w8(a+176,5);
-begin_encoding_a26(V,a,b,c);
-At=V[3];
-Bt=V[2];
-Ct=V[1];
-Dt=*V;
-L144:Kt=At;
-Lt=Bt;
-Mt=Ct;
-Nt=Dt;
+begin_encoding_a26(X,a,b,c);
+Vt=X[3];
+Wt=X[2];
+Xt=X[1];
+Yt=*X;
+L144:fu=Vt;
+gu=Wt;
+hu=Xt;
+iu=Yt;
 goto L145;
 case 84:break;
 default:goto L143;
 }}
 switch(b[3]){
-case 104:begin_thunk_acc(Y,a,b,c);
+case 104:begin_thunk_acc(aa,a,b,c);
 goto L146;
-case 118:begin_virtual_thunk_3f7(Y,a,b,c);
+case 118:begin_virtual_thunk_3f7(aa,a,b,c);
 goto L146;
-case 67:begin_clone_893(Y);
+case 67:begin_clone_893(aa);
 goto L146;
 default:break;}
-L142:begin_special_44d(Y,a,b,c);
-L146:Ot=Y[3];
-Pt=Y[2];
-Qt=Y[1];
-Rt=*Y;
+L142:begin_special_44d(aa,a,b,c);
+L146:ju=aa[3];
+ku=aa[2];
+lu=aa[1];
+mu=*aa;
 goto L147;
-L141:begin_clone_893(X);
-Ot=X[3];
-Pt=X[2];
-Qt=X[1];
-Rt=*X;
+L141:begin_clone_893(Z);
+ju=Z[3];
+ku=Z[2];
+lu=Z[1];
+mu=*Z;
 goto L147;
-L140:begin_object_056(X,a,b,c);
-Ot=X[3];
-Pt=X[2];
-Qt=X[1];
-Rt=*X;
+L140:begin_object_056(Z,a,b,c);
+ju=Z[3];
+ku=Z[2];
+lu=Z[1];
+mu=*Z;
 goto L147;
 L139:w8(a+176,3);
-begin_encoding_a26(W,a,b,c);
-Kt=W[3];
-Lt=W[2];
-Mt=W[1];
-Nt=*W;
-L145:Ot=Kt;
-Pt=Lt;
-Qt=Mt;
-Rt=Nt;
+begin_encoding_a26(Y,a,b,c);
+fu=Y[3];
+gu=Y[2];
+hu=Y[1];
+iu=*Y;
+L145:ju=fu;
+ku=gu;
+lu=hu;
+mu=iu;
 goto L147;}
 L143:w8(a+176,2);
-begin_encoding_a26(X,a,b,c);
-Ot=X[3];
-Pt=X[2];
-Qt=X[1];
-Rt=*X;
-L147:if(Rt!=1)goto L1;
-St=c<<3;
-Tt=0;
-Ut=Ot;
-Vt=Pt;
-Wt=Qt;
-L148:if(Wt==7){
-Xt=r8(a+8);
-if(Xt>Rb)goto L14;
-Yt=rp(a);
-if(Xt==0)goto L15;
-Zt=0;
-au=0;
-bu=0;
-L149:cu=Zt;
-L150:if(Xt-cu>15){
-du=cttz(v16_ult(v16_at(Yt+cu),splat(3)),16);
-eu=cu+du;
-if(du>=16){
-cu=eu;
+begin_encoding_a26(Z,a,b,c);
+ju=Z[3];
+ku=Z[2];
+lu=Z[1];
+mu=*Z;
+L147:if(mu!=1)goto L1;
+nu=c<<3;
+ou=0;
+pu=ju;
+qu=ku;
+ru=lu;
+L148:if(ru==7){
+su=r8(a+8);
+if(su>Xb)goto L14;
+tu=rp(a);
+if(su==0)goto L15;
+uu=0;
+vu=0;
+wu=0;
+L149:xu=uu;
+L150:if(su-xu>15){
+yu=cttz(v16_ult(v16_at(tu+xu),splat(3)),16);
+zu=xu+yu;
+if(yu>=16){
+xu=zu;
 goto L150;}
-fu=eu;}
+Au=zu;}
 else{
-if(cu>=Xt){
-fu=cu;
+if(xu>=su){
+Au=xu;
 goto L151;}
-gu=cu;
-L152:if(*(Yt+gu)>2){
-hu=gu+1;
-if(hu!=Xt){
-gu=hu;
+Bu=xu;
+L152:if(*(tu+Bu)>2){
+Cu=Bu+1;
+if(Cu!=su){
+Bu=Cu;
 goto L152;}
-fu=Xt;}
-else fu=gu;}
-L151:if(bu==0){
-if(au<Zt){
-if(fu!=Zt){
-iu=fu-Zt;
-ju=Yt+(i64)Zt;
-ku=Yt+(i64)au;
-lu=0;
-L153:*(ku+(i64)lu)=*(ju+(i64)lu);
-mu=lu+1;
-if(mu!=iu){
-lu=mu;
+Au=su;}
+else Au=Bu;}
+L151:if(wu==0){
+if(vu<uu){
+if(Au!=uu){
+Du=Au-uu;
+Eu=tu+(i64)uu;
+Fu=tu+(i64)vu;
+Gu=0;
+L153:*(Fu+(i64)Gu)=*(Eu+(i64)Gu);
+Hu=Gu+1;
+if(Hu!=Du){
+Gu=Hu;
 goto L153;}}}
-nu=au-Zt+fu;}
-else nu=au;
-if(fu!=Xt){
-switch(*(Yt+fu)){
-case 1:ou=bu+1;
+Iu=vu-uu+Au;}
+else Iu=vu;
+if(Au!=su){
+switch(*(tu+Au)){
+case 1:Ju=wu+1;
 break;
-case 2:ou=usub64(bu,1);
+case 2:Ju=usub64(wu,1);
 break;
 default:goto L1;
 }
-pu=fu+1;
-if(pu<Xt){
-Zt=pu;
-au=nu;
-bu=ou;
+Ku=Au+1;
+if(Ku<su){
+uu=Ku;
+vu=Iu;
+wu=Ju;
 goto L149;}}
-if(r8(a+8)<=nu)goto L15;
-Wc=nu;
+if(r8(a+8)<=Iu)goto L15;
+cd=Iu;
 break;}
 w8(a+184,r8(a+184)+1);
-w4(Z,0);
-switch(Wt){
-case 0:type_at_225(Z,a,b,c,0);
+w4(ba,0);
+switch(ru){
+case 0:type_at_225(ba,a,b,c,0);
 break;
-case 1:type_at_225(Z,a,b,c,1);
+case 1:type_at_225(ba,a,b,c,1);
 break;
-case 2:w4(R,0);
-w4(S,0);
-z32(T);
-z32(U);
-qu=r8(a+88);
-if(qu==0)w4(Z,0);
+case 2:w4(T,0);
+w4(U,0);
+z32(V);
+z32(W);
+Lu=r8(a+88);
+if(Lu==0)w4(ba,0);
 else{
-ru=Vt&1;
-su=rp(a+80)+(i64)(qu*44);
-tu=su[-44];
-uu=su[-43];
-vu=q4(su-40);
-wu=q4(su-36);
-xu=q2(su-32);
-switch(tu){
-case 29:case 28:case 27:case 26:case 4:case 5:case 6:case 7:case 8:case 11:case 12:case 13:case 14:case 15:case 16:case 17:case 18:case 19:case 20:case 21:case 22:case 23:case 24:case 25:if(Ut&1){
-pass_dependent_123(R,a,b,c);
-*Z=*R;
-Z[1]=R[1];
-Z[2]=R[2];
-Z[3]=R[3];
+Mu=qu&1;
+Nu=rp(a+80)+(i64)(Lu*44);
+Ou=Nu[-44];
+Pu=Nu[-43];
+Qu=q4(Nu-40);
+Ru=q4(Nu-36);
+Su=q2(Nu-32);
+switch(Ou){
+case 29:case 28:case 27:case 26:case 4:case 5:case 6:case 7:case 8:case 11:case 12:case 13:case 14:case 15:case 16:case 17:case 18:case 19:case 20:case 21:case 22:case 23:case 24:case 25:if(pu&1){
+pass_dependent_123(T,a,b,c);
+*ba=*T;
+ba[1]=T[1];
+ba[2]=T[2];
+ba[3]=T[3];
 goto L154;}
-yu=q4(su-4);
-zu=wu;
-Au=wu>>16;
-w4(Q,0);
-switch(tu){
-case 22:returned_087(Q,a,b,c,uu&1);
+Tu=q4(Nu-4);
+w4(S,0);
+switch(Ou){
+case 22:returned_087(S,a,b,c,Pu&1);
 break;
-case 23:parameter_at_d02(Q,a,b,c,uu&1,0);
+case 23:parameter_at_d02(S,a,b,c,Pu&1,0);
 break;
-case 24:array_ended_a11(Q,a,b,c,uu,vu,wu);
+case 24:array_ended_a11(S,a,b,c,Pu,Qu,Ru);
 break;
-case 12:enclosing_parameter_d72(Q,a,b,c,uu,vu);
+case 12:enclosing_parameter_d72(S,a,b,c,Pu,Qu);
 break;
-case 13:instance_parameter_e2a(Q,a,b,c,uu,vu,wu);
+case 13:instance_parameter_e2a(S,a,b,c,Pu,Qu,Ru);
 break;
-case 11:w2(K,xu);
-memcpy(K+2,su-30,26);
-x4(K+28,yu);
-enclosing_front_fa8(Q,a,uu,vu,wu,K);
+case 11:w2(P,Su);
+memcpy(P+2,Nu-30,26);
+x4(P+28,Tu);
+enclosing_front_fa8(S,a,Pu,Qu,Ru,P);
 break;
-case 17:w4(L,wu);
-w2(L+4,xu);
-lambda_parameter_f9a(Q,a,b,c,vu,L);
+case 17:w4(Q,Ru);
+w2(Q+4,Su);
+lambda_parameter_f9a(S,a,b,c,Qu,Q);
 break;
-case 18:member_parameter_678(Q,a,b,c,uu);
+case 18:member_parameter_678(S,a,b,c,Pu);
 break;
-case 15:w4(M,wu);
-w2(M+4,xu);
-memcpy(M+6,su-30,26);
-addressed_front_4c5(Q,a,b,c,uu,vu,M);
+case 15:w4(R,Ru);
+w2(R+4,Su);
+memcpy(R+6,Nu-30,26);
+addressed_front_4c5(S,a,b,c,Pu,Qu,R);
 break;
-case 16:addressed_parameter_41c(Q,a,b,c,uu);
+case 16:addressed_parameter_41c(S,a,b,c,Pu);
 break;
-case 14:*Q=0;
+case 14:*S=0;
 break;
-case 19:finish_8cd(Q,a,b,c);
+case 19:finish_8cd(S,a,b,c);
 break;
-case 20:derived_ended_aef(Q,a,b,c);
+case 20:derived_ended_aef(S,a,b,c);
 break;
-case 21:base_ended_299(Q,a,b,c,vu);
+case 21:base_ended_299(S,a,b,c,Qu);
 break;
-case 29:enumerator_21c(Q,a,b,c);
+case 29:enumerator_21c(S,a,b,c);
 break;
-case 26:w2(N,Au);
-w2(N+2,xu);
-memcpy(N+4,su-30,26);
-w2(N+30,yu);
-argument_enumerator_61d(Q,a,b,c,vu,zu,N);
+case 26:case 25:case 28:Uu=Ru;
+Vu=Tu;
+w4(O,0);
+switch(Ou){
+case 26:w2(L,Ru>>16);
+w2(L+2,Su);
+memcpy(L+4,Nu-30,26);
+w2(L+30,Vu);
+argument_enumerator_61d(O,a,b,c,Qu,Uu,L);
 break;
-case 25:w2(O,Au);
-w2(O+2,xu);
-memcpy(O+4,su-30,26);
-w2(O+30,yu);
-argument_ended_605(Q,a,b,c,vu,zu,O,ru);
+case 25:w2(M,Ru>>16);
+w2(M+2,Su);
+memcpy(M+4,Nu-30,26);
+w2(M+30,Vu);
+argument_ended_605(O,a,b,c,Qu,Uu,M,Mu);
 break;
-case 28:w2(P,Au);
-w2(P+2,xu);
-memcpy(P+4,su-30,26);
-w2(P+30,yu);
-element_ended_c50(Q,a,b,c,vu,zu,P,ru);
+case 28:w2(N,Ru>>16);
+w2(N+2,Su);
+memcpy(N+4,Nu-30,26);
+w2(N+30,Vu);
+element_ended_c50(O,a,b,c,Qu,Uu,N,Mu);
 break;
-case 27:case 10:case 9:case 8:case 4:case 5:case 6:case 7:*Q=1;
-Q[1]=3;
-Q[2]=0;
-Q[3]=0;
+case 27:*O=0;
 break;
 default:NEVER;
 }
-Bu=Q[1];
-Cu=Q[2];
-Du=Q[3];
-*S=*Q;
-S[1]=Bu;
-S[2]=Cu;
-S[3]=Du;
-goto L155;
-case 10:w4(T,wu);
-w2(T+4,xu);
-memcpy(T+6,su-30,26);
-parameter_ended_06e(S,a,b,c,uu,vu,T);
-goto L155;
-case 9:w4(U,wu);
-w2(U+4,xu);
-memcpy(U+6,su-30,26);
-front_ended_ee9(S,a,b,c,uu,vu,U);
-goto L155;
-case 0:w8(a+88,qu-1);
-Eu=r8(a+8);
-if(r8(a+32)>Eu)Fu=Eu;
-else{
-Gu=make_ready_8e3(a,1,16);
-if(!(Gu&1)){
-Hu=0;
-Iu=0;
-Ju=0;
-Ku=0;
-goto L156;}
-Fu=r8(a+8);}
-*(rp(a)+Fu)=42;
-Lu=Fu+1;
-w8(a+8,Lu);
-Mu=Lu;
-Nu=Ut&1;
-Ou=r8(a+48);
-if(r8(a+72)>Ou){
-Pu=Ou;
-Qu=Mu;
-Ru=0;
-Su=Nu;
-goto L157;}
-Tu=make_ready_17a(a+40);
-if(!(Tu&1)){
-Hu=0;
-Iu=0;
-Ju=0;
-Ku=0;
-goto L156;}
-Uu=Mu;
-Vu=0;
-Wu=Nu;
+Wu=O[1];
+Xu=O[2];
+Yu=O[3];
+*S=*O;
+S[1]=Wu;
+S[2]=Xu;
+S[3]=Yu;
 break;
-case 1:if(ru)goto L155;
-w8(a+88,qu-1);
-Xu=r8(a+8);
-if(r8(a+32)>Xu)Yu=Xu;
+case 27:case 10:case 9:case 8:case 4:case 5:case 6:case 7:*S=1;
+S[1]=3;
+S[2]=0;
+S[3]=0;
+break;
+default:NEVER;
+}
+Zu=S[1];
+av=S[2];
+bv=S[3];
+*U=*S;
+U[1]=Zu;
+U[2]=av;
+U[3]=bv;
+goto L155;
+case 10:w4(V,Ru);
+w2(V+4,Su);
+memcpy(V+6,Nu-30,26);
+parameter_ended_06e(U,a,b,c,Pu,Qu,V);
+goto L155;
+case 9:w4(W,Ru);
+w2(W+4,Su);
+memcpy(W+6,Nu-30,26);
+front_ended_ee9(U,a,b,c,Pu,Qu,W);
+goto L155;
+case 0:w8(a+88,Lu-1);
+cv=r8(a+8);
+if(r8(a+32)>cv)dv=cv;
 else{
-Zu=make_ready_8e3(a,1,16);
-if(!(Zu&1)){
-Hu=0;
-Iu=0;
-Ju=0;
-Ku=0;
-goto L156;}
-Yu=r8(a+8);}
-*(rp(a)+Yu)=38;
-av=Yu+1;
-w8(a+8,av);
-bv=av;
-cv=Ut&1;
-dv=r8(a+48);
-if(r8(a+72)>dv){
-Pu=dv;
-Qu=bv;
-Ru=1;
-Su=cv;
-goto L157;}
-ev=make_ready_17a(a+40);
+ev=make_ready_8e3(a,1,16);
 if(!(ev&1)){
-Hu=0;
-Iu=0;
-Ju=0;
-Ku=0;
+fv=0;
+gv=0;
+hv=0;
+iv=0;
 goto L156;}
-Uu=bv;
-Vu=1;
-Wu=cv;
-break;
-case 2:if(ru)goto L155;
-w8(a+88,qu-1);
-fv=r8(a+8);
-if(r8(a+32)-fv<2){
-gv=make_ready_8e3(a,2,128);
-if(!(gv&1)){
-Hu=0;
-Iu=0;
-Ju=0;
-Ku=0;
-goto L156;}
-hv=r8(a+8);}
-else hv=fv;
-*(rp(a)+hv)=38;
-*(rp(a)+(i64)hv+1)=38;
-iv=hv+2;
-w8(a+8,iv);
-jv=iv;
-kv=Ut&1;
-lv=r8(a+48);
-if(r8(a+72)>lv){
-Pu=lv;
-Qu=jv;
-Ru=1;
-Su=kv;
+dv=r8(a+8);}
+*(rp(a)+dv)=42;
+jv=dv+1;
+w8(a+8,jv);
+kv=jv;
+lv=pu&1;
+mv=r8(a+48);
+if(r8(a+72)>mv){
+nv=mv;
+ov=kv;
+pv=0;
+qv=lv;
 goto L157;}
-mv=make_ready_17a(a+40);
-if(!(mv&1)){
-Hu=0;
-Iu=0;
-Ju=0;
-Ku=0;
+rv=make_ready_17a(a+40);
+if(!(rv&1)){
+fv=0;
+gv=0;
+hv=0;
+iv=0;
 goto L156;}
-Uu=jv;
-Vu=1;
-Wu=kv;
+sv=kv;
+tv=0;
+uv=lv;
 break;
-case 3:if(ru)goto L155;
-w8(a+88,qu-1);
+case 1:if(Mu)goto L155;
+w8(a+88,Lu-1);
+vv=r8(a+8);
+if(r8(a+32)>vv)wv=vv;
+else{
+xv=make_ready_8e3(a,1,16);
+if(!(xv&1)){
+fv=0;
+gv=0;
+hv=0;
+iv=0;
+goto L156;}
+wv=r8(a+8);}
+*(rp(a)+wv)=38;
+yv=wv+1;
+w8(a+8,yv);
+zv=yv;
+Av=pu&1;
+Bv=r8(a+48);
+if(r8(a+72)>Bv){
+nv=Bv;
+ov=zv;
+pv=1;
+qv=Av;
+goto L157;}
+Cv=make_ready_17a(a+40);
+if(!(Cv&1)){
+fv=0;
+gv=0;
+hv=0;
+iv=0;
+goto L156;}
+sv=zv;
+tv=1;
+uv=Av;
+break;
+case 2:if(Mu)goto L155;
+w8(a+88,Lu-1);
+Dv=r8(a+8);
+if(r8(a+32)-Dv<2){
+Ev=make_ready_8e3(a,2,128);
+if(!(Ev&1)){
+fv=0;
+gv=0;
+hv=0;
+iv=0;
+goto L156;}
+Fv=r8(a+8);}
+else Fv=Dv;
+*(rp(a)+Fv)=38;
+*(rp(a)+(i64)Fv+1)=38;
+Gv=Fv+2;
+w8(a+8,Gv);
+Hv=Gv;
+Iv=pu&1;
+Jv=r8(a+48);
+if(r8(a+72)>Jv){
+nv=Jv;
+ov=Hv;
+pv=1;
+qv=Iv;
+goto L157;}
+Kv=make_ready_17a(a+40);
+if(!(Kv&1)){
+fv=0;
+gv=0;
+hv=0;
+iv=0;
+goto L156;}
+sv=Hv;
+tv=1;
+uv=Iv;
+break;
+case 3:if(Mu)goto L155;
+w8(a+88,Lu-1);
 if(r8(a+32)-r8(a+8)<6){
-nv=make_ready_8e3(a,6,128);
-if(!(nv&1)){
-Hu=0;
-Iu=0;
-Ju=0;
-Ku=0;
+Lv=make_ready_8e3(a,6,128);
+if(!(Lv&1)){
+fv=0;
+gv=0;
+hv=0;
+iv=0;
 goto L156;}}
-ov=extend_from_slice_674(a,(u8*)t_f603,6);
-if(ov&1){
-Hu=0;
-Iu=0;
-Ju=0;
-Ku=0;
+Mv=extend_from_slice_674(a,(u8*)t_f603,6);
+if(Mv&1){
+fv=0;
+gv=0;
+hv=0;
+iv=0;
 goto L156;}
-pv=r8(a+8);
-qv=Ut&1;
-rv=r8(a+48);
-if(r8(a+72)>rv){
-Pu=rv;
-Qu=pv;
-Ru=0;
-Su=qv;
+Nv=r8(a+8);
+Ov=pu&1;
+Pv=r8(a+48);
+if(r8(a+72)>Pv){
+nv=Pv;
+ov=Nv;
+pv=0;
+qv=Ov;
 goto L157;}
-sv=make_ready_17a(a+40);
-if(!(sv&1)){
-Hu=0;
-Iu=0;
-Ju=0;
-Ku=0;
+Qv=make_ready_17a(a+40);
+if(!(Qv&1)){
+fv=0;
+gv=0;
+hv=0;
+iv=0;
 goto L156;}
-Uu=pv;
-Vu=0;
-Wu=qv;
+sv=Nv;
+tv=0;
+uv=Ov;
 break;
 default:NEVER;
 }
-Pu=r8(a+48);
-Qu=Uu;
-Ru=Vu;
-Su=Wu;
-L157:tv=rp(a+40)+Pu*12;
-x4(tv,vu);
-x4(tv+4,Qu);
-tv[8]=Ru;
-tv[9]=Su;
-x2(tv+10,0);
-w8(a+48,Pu+1);
-Hu=Su;
-Iu=Ru;
-Ju=2;
-Ku=1;
-L156:*S=Ku;
-S[1]=Ju;
-S[2]=Iu;
-S[3]=Hu;
-L155:uv=S[1];
-vv=S[2];
-wv=S[3];
-*Z=*S;
-Z[1]=uv;
-Z[2]=vv;
-Z[3]=wv;}
+nv=r8(a+48);
+ov=sv;
+pv=tv;
+qv=uv;
+L157:Rv=rp(a+40)+nv*12;
+x4(Rv,Qu);
+x4(Rv+4,ov);
+Rv[8]=pv;
+Rv[9]=qv;
+x2(Rv+10,0);
+w8(a+48,nv+1);
+fv=qv;
+gv=pv;
+hv=2;
+iv=1;
+L156:*U=iv;
+U[1]=hv;
+U[2]=gv;
+U[3]=fv;
+L155:Sv=U[1];
+Tv=U[2];
+Uv=U[3];
+*ba=*U;
+ba[1]=Sv;
+ba[2]=Tv;
+ba[3]=Uv;}
 L154:break;
-case 3:xv=Vt&1;
-w4(I,0);
-yv=r8(a+176);
-if(yv<c){
-zv=*(b+yv);
-switch(zv){
-case 69:w4(G,0);
-w8(a+176,yv+1);
-Av=r8(a+88);
-if(Av==0){
-Bv=0;
-Cv=0;
-Dv=0;
-Ev=0;}
-else{
-if(*(rp(a+80)+(i64)(Av*44)-44)==27){
-if(xv){
-Bv=0;
-Cv=0;
-Dv=0;
-Ev=0;}
-else{
-w8(a+88,Av-1);
-Bv=0;
-Cv=0;
-Dv=3;
-Ev=1;}}
-else{
-z32(H);
-close_list_148(G,a,b,c,H);
-Bv=G[3];
-Cv=G[2];
-Dv=G[1];
-Ev=*G;}}
-*Z=Ev;
-Z[1]=Dv;
-Z[2]=Cv;
-Z[3]=Bv;
-goto L158;
-case 74:Fv=yv+1;
-if(Fv<c){
-if(*(b+Fv)==69){
-empty_pack_c74(I,a,b,c,xv);
-*Z=*I;
-Z[1]=I[1];
-Z[2]=I[2];
-Z[3]=I[3];
-goto L158;}}
-if(!xv){
-Gv=74;
-goto L159;}
-first_pack_117(I,a,b,c);
-*Z=*I;
-Z[1]=I[1];
-Z[2]=I[2];
-Z[3]=I[3];
-goto L158;
-default:Hv=zv;
-break;}}
-else Hv=0;
-if(xv){
-Iv=Hv;
-goto L160;}
-Gv=Hv;
-L159:Jv=r8(a+8);
-if(r8(a+32)-Jv<2){
-Kv=make_ready_8e3(a,2,128);
-if(!(Kv&1)){
-w4(Z,0);
-goto L158;}
-Lv=r8(a+8);}
-else Lv=Jv;
-*(rp(a)+Lv)=44;
-*(rp(a)+(i64)Lv+1)=32;
-w8(a+8,Lv+2);
-Iv=Gv;
-L160:switch(Iv){
-case 76:if(xv){
-first_literal_d00(I,a,b,c);
-*Z=*I;
-Z[1]=I[1];
-Z[2]=I[2];
-Z[3]=I[3];
-goto L158;}
-literal_8fc(J,a,b,c);
-Mv=J[3];
-Nv=J[2];
-Ov=J[1];
-Pv=*J;
-break;
-case 74:Qv=r8(a+88);
-if(Qv==0){
-Mv=0;
-Nv=0;
-Ov=0;
-Pv=0;}
-else{
-Rv=rp(a+80);
-Sv=Qv*44;
-if(*(Rv+(i64)Sv-44)==27){
-Mv=0;
-Nv=0;
-Ov=0;
-Pv=0;}
-else{
-Tv=r8(a+176);
-if(Tv==18446744073709551615u){
-Mv=0;
-Nv=0;
-Ov=0;
-Pv=0;}
-else{
-w8(a+176,Tv+1);
-if(r8(a+112)>Qv){
-Uv=Sv;
-Vv=Rv;
-Wv=Qv;}
-else{
-Xv=make_ready_9a1(a+80);
-if(!(Xv&1)){
-Mv=0;
-Nv=0;
-Ov=0;
-Pv=0;
-break;}
+case 3:Vv=qu&1;
+w4(J,0);
+Wv=r8(a+176);
+if(Wv<c){
+Xv=*(b+Wv);
+switch(Xv){
+case 69:w4(H,0);
+w8(a+176,Wv+1);
 Yv=r8(a+88);
-Uv=Yv*44;
-Vv=rp(a+80);
-Wv=Yv;}
-Zv=Vv+Uv;
-*Zv=27;
-z43(Zv+1);
-w8(a+88,Wv+1);
-Mv=0;
-Nv=1;
-Ov=3;
-Pv=1;}}}
-break;
-default:if(xv){
-aw=r8(a+88);
-if(aw==0)bw=1;
+if(Yv==0){
+Zv=0;
+aw=0;
+bw=0;
+cw=0;}
 else{
-cw=rp(a+80);
-dw=aw*44;
-ew=cw+(i64)dw;
-switch(ew[-44]){
-case 5:if(ew[-28]==0){
-bw=1;
+if(*(rp(a+80)+(i64)(Yv*44)-44)==27){
+if(Vv){
+Zv=0;
+aw=0;
+bw=0;
+cw=0;}
+else{
+w8(a+88,Yv-1);
+Zv=0;
+aw=0;
+bw=3;
+cw=1;}}
+else{
+z32(I);
+close_list_148(H,a,b,c,I);
+Zv=H[3];
+aw=H[2];
+bw=H[1];
+cw=*H;}}
+*ba=cw;
+ba[1]=bw;
+ba[2]=aw;
+ba[3]=Zv;
+goto L158;
+case 74:dw=Wv+1;
+if(dw<c){
+if(*(b+dw)==69){
+empty_pack_c74(J,a,b,c,Vv);
+*ba=*J;
+ba[1]=J[1];
+ba[2]=J[2];
+ba[3]=J[3];
+goto L158;}}
+if(!Vv){
+ew=74;
+goto L159;}
+first_pack_117(J,a,b,c);
+*ba=*J;
+ba[1]=J[1];
+ba[2]=J[2];
+ba[3]=J[3];
+goto L158;
+default:fw=Xv;
+break;}}
+else fw=0;
+if(Vv){
+gw=fw;
+goto L160;}
+ew=fw;
+L159:hw=r8(a+8);
+if(r8(a+32)-hw<2){
+iw=make_ready_8e3(a,2,128);
+if(!(iw&1)){
+w4(ba,0);
+goto L158;}
+jw=r8(a+8);}
+else jw=hw;
+*(rp(a)+jw)=44;
+*(rp(a)+(i64)jw+1)=32;
+w8(a+8,jw+2);
+gw=ew;
+L160:switch(gw){
+case 76:if(Vv){
+first_literal_d00(J,a,b,c);
+*ba=*J;
+ba[1]=J[1];
+ba[2]=J[2];
+ba[3]=J[3];
+goto L158;}
+literal_8fc(K,a,b,c);
+kw=K[3];
+lw=K[2];
+mw=K[1];
+nw=*K;
+break;
+case 74:ow=r8(a+88);
+if(ow==0){
+kw=0;
+lw=0;
+mw=0;
+nw=0;}
+else{
+pw=rp(a+80);
+qw=ow*44;
+if(*(pw+(i64)qw-44)==27){
+kw=0;
+lw=0;
+mw=0;
+nw=0;}
+else{
+rw=r8(a+176);
+if(rw==18446744073709551615u){
+kw=0;
+lw=0;
+mw=0;
+nw=0;}
+else{
+w8(a+176,rw+1);
+if(r8(a+112)>ow){
+sw=qw;
+tw=pw;
+uw=ow;}
+else{
+vw=make_ready_9a1(a+80);
+if(!(vw&1)){
+kw=0;
+lw=0;
+mw=0;
+nw=0;
+break;}
+ww=r8(a+88);
+sw=ww*44;
+tw=rp(a+80);
+uw=ww;}
+xw=tw+sw;
+*xw=27;
+z43(xw+1);
+w8(a+88,uw+1);
+kw=0;
+lw=1;
+mw=3;
+nw=1;}}}
+break;
+default:if(Vv){
+yw=r8(a+88);
+if(yw==0)zw=1;
+else{
+Aw=rp(a+80);
+Bw=yw*44;
+Cw=Aw+(i64)Bw;
+switch(Cw[-44]){
+case 5:if(Cw[-28]==0){
+zw=1;
 goto L161;}
 break;
 case 7:break;
-case 0:case 1:case 2:case 3:case 4:case 6:case 8:case 9:case 10:case 11:case 12:case 13:case 14:case 15:case 16:case 17:case 18:case 19:case 20:case 21:case 22:case 23:case 24:case 25:case 26:case 27:case 28:case 29:bw=1;
+case 0:case 1:case 2:case 3:case 4:case 6:case 8:case 9:case 10:case 11:case 12:case 13:case 14:case 15:case 16:case 17:case 18:case 19:case 20:case 21:case 22:case 23:case 24:case 25:case 26:case 27:case 28:case 29:zw=1;
 goto L161;
 default:NEVER;
 }
-fw=r8(a+176);
-if(fw<c){
-gw=b+(i64)fw;
-switch(*gw){
-case 65:case 70:bw=1;
+Dw=r8(a+176);
+if(Dw<c){
+Ew=b+(i64)Dw;
+switch(*Ew){
+case 65:case 70:zw=1;
 goto L161;
-case 80:case 82:if(usub64(c,fw)>=2){
-switch(gw[1]){
-case 70:case 65:bw=1;
+case 80:case 82:if(usub64(c,Dw)>=2){
+switch(Ew[1]){
+case 70:case 65:zw=1;
 goto L161;
 default:break;}}
 break;
 default:break;}}
-hw=r8(a+8);
-if(r8(a+112)>aw){
-iw=dw;
-jw=cw;
-kw=aw;}
+Fw=r8(a+8);
+if(r8(a+112)>yw){
+Gw=Bw;
+Hw=Aw;
+Iw=yw;}
 else{
-lw=make_ready_9a1(a+80);
-if(!(lw&1)){
-bw=0;
+Jw=make_ready_9a1(a+80);
+if(!(Jw&1)){
+zw=0;
 goto L161;}
-mw=r8(a+88);
-iw=mw*44;
-jw=rp(a+80);
-kw=mw;}
-nw=jw+iw;
-*nw=25;
-nw[1]=0;
-x2(nw+2,0);
-x4(nw+4,hw);
-z36(nw+8);
-w8(a+88,kw+1);
-bw=1;}
-L161:*Z=bw;
-Z[1]=0;
-Z[2]=0;
-Z[3]=0;
+Kw=r8(a+88);
+Gw=Kw*44;
+Hw=rp(a+80);
+Iw=Kw;}
+Lw=Hw+Gw;
+*Lw=25;
+Lw[1]=0;
+x2(Lw+2,0);
+x4(Lw+4,Fw);
+z36(Lw+8);
+w8(a+88,Iw+1);
+zw=1;}
+L161:*ba=zw;
+ba[1]=0;
+ba[2]=0;
+ba[3]=0;
 goto L158;}
-Mv=0;
-Nv=0;
-Ov=0;
-Pv=1;
+kw=0;
+lw=0;
+mw=0;
+nw=1;
 break;}
-*Z=Pv;
-Z[1]=Ov;
-Z[2]=Nv;
-Z[3]=Mv;
+*ba=nw;
+ba[1]=mw;
+ba[2]=lw;
+ba[3]=kw;
 L158:break;
-case 4:w4(E,0);
-z20(F+20);
+case 4:w4(F,0);
+z20(G+20);
 if(!(a[136]&1)){
-ow=r4(a+120);
-pw=a[139];
-qw=r8(a+8);
-rw=r8(a+48);
-if(r8(a+72)>rw)sw=rw;
+Mw=r4(a+120);
+Nw=a[139];
+Ow=r8(a+8);
+Pw=r8(a+48);
+if(r8(a+72)>Pw)Qw=Pw;
 else{
-tw=make_ready_17a(a+40);
-if(!(tw&1)){
-w4(Z,0);
+Rw=make_ready_17a(a+40);
+if(!(Rw&1)){
+w4(ba,0);
 goto L162;}
-sw=r8(a+48);}
-uw=rp(a+40)+sw*12;
-x4(uw,ow);
-x4(uw+4,qw);
-uw[8]=0;
-uw[9]=pw;
-x2(uw+10,0);
-w8(a+48,sw+1);}
-vw=r8(a+176);
-if(vw<c){
-if(*(b+vw)==73){
-memcpy(F,a+120,20);
-ww=r8(a+8);
-if(r8(a+32)>ww)xw=ww;
+Qw=r8(a+48);}
+Sw=rp(a+40)+Qw*12;
+x4(Sw,Mw);
+x4(Sw+4,Ow);
+Sw[8]=0;
+Sw[9]=Nw;
+x2(Sw+10,0);
+w8(a+48,Qw+1);}
+Tw=r8(a+176);
+if(Tw<c){
+if(*(b+Tw)==73){
+memcpy(G,a+120,20);
+Uw=r8(a+8);
+if(r8(a+32)>Uw)Vw=Uw;
 else{
-yw=make_ready_8e3(a,1,16);
-if(!(yw&1)){
-zw=0;
-Aw=0;
+Ww=make_ready_8e3(a,1,16);
+if(!(Ww&1)){
+Xw=0;
+Yw=0;
 goto L163;}
-xw=r8(a+8);}
-*(rp(a)+xw)=1;
-w8(a+8,xw+1);
-Bw=r8(a+176);
-if(Bw==18446744073709551615u){
-zw=0;
-Aw=0;}
+Vw=r8(a+8);}
+*(rp(a)+Vw)=1;
+w8(a+8,Vw+1);
+Zw=r8(a+176);
+if(Zw==18446744073709551615u){
+Xw=0;
+Yw=0;}
 else{
-w8(a+176,Bw+1);
-Cw=r8(a+88);
-if(r8(a+112)>Cw)Dw=Cw;
+w8(a+176,Zw+1);
+ax=r8(a+88);
+if(r8(a+112)>ax)bx=ax;
 else{
-Ew=make_ready_9a1(a+80);
-if(!(Ew&1)){
-zw=0;
-Aw=0;
+cx=make_ready_9a1(a+80);
+if(!(cx&1)){
+Xw=0;
+Yw=0;
 goto L163;}
-Dw=r8(a+88);}
-Fw=rp(a+80)+Dw*44;
-*Fw=6;
-Fw[1]=0;
-x2(Fw+2,0);
-memcpy(Fw+4,F,40);
-w8(a+88,Dw+1);
-zw=3;
-Aw=1;}
-L163:*Z=Aw;
-Z[1]=zw;
-Z[2]=Aw;
-Z[3]=0;
+bx=r8(a+88);}
+dx=rp(a+80)+bx*44;
+*dx=6;
+dx[1]=0;
+x2(dx+2,0);
+memcpy(dx+4,G,40);
+w8(a+88,bx+1);
+Xw=3;
+Yw=1;}
+L163:*ba=Yw;
+ba[1]=Xw;
+ba[2]=Yw;
+ba[3]=0;
 goto L162;}}
-components_at_91b(E,a,b,c);
-*Z=*E;
-Z[1]=E[1];
-Z[2]=E[2];
-Z[3]=E[3];
+components_at_91b(F,a,b,c);
+*ba=*F;
+ba[1]=F[1];
+ba[2]=F[2];
+ba[3]=F[3];
 L162:break;
-case 5:w4(D,0);
-Gw=r8(a+176);
-if(Gw<c){
-if(*(b+Gw)==69){
-nest_ended_003(D,a,b,c);
-*Z=*D;
-Z[1]=D[1];
-Z[2]=D[2];
-Z[3]=D[3];
+case 5:w4(E,0);
+ex=r8(a+176);
+if(ex<c){
+if(*(b+ex)==69){
+nest_ended_003(E,a,b,c);
+*ba=*E;
+ba[1]=E[1];
+ba[2]=E[2];
+ba[3]=E[3];
 goto L164;}}
 if(!(a[136]&1)){
-Hw=r4(a+120);
-Iw=a[139];
-Jw=r8(a+8);
-Kw=r8(a+48);
-if(r8(a+72)>Kw)Lw=Kw;
+fx=r4(a+120);
+gx=a[139];
+hx=r8(a+8);
+ix=r8(a+48);
+if(r8(a+72)>ix)jx=ix;
 else{
-Mw=make_ready_17a(a+40);
-if(!(Mw&1)){
-w4(Z,0);
+kx=make_ready_17a(a+40);
+if(!(kx&1)){
+w4(ba,0);
 goto L164;}
-Lw=r8(a+48);}
-Nw=rp(a+40)+Lw*12;
-x4(Nw,Hw);
-x4(Nw+4,Jw);
-Nw[8]=0;
-Nw[9]=Iw;
-x2(Nw+10,0);
-w8(a+48,Lw+1);}
-components_at_91b(D,a,b,c);
-*Z=*D;
-Z[1]=D[1];
-Z[2]=D[2];
-Z[3]=D[3];
+jx=r8(a+48);}
+lx=rp(a+40)+jx*12;
+x4(lx,fx);
+x4(lx+4,hx);
+lx[8]=0;
+lx[9]=gx;
+x2(lx+10,0);
+w8(a+48,jx+1);}
+components_at_91b(E,a,b,c);
+*ba=*E;
+ba[1]=E[1];
+ba[2]=E[2];
+ba[3]=E[3];
 L164:break;
-case 6:components_at_91b(Z,a,b,c);
+case 6:components_at_91b(ba,a,b,c);
 break;
 default:NEVER;
 }
-Ow=Tt+1;
-if(*Z!=1||Ow==St)goto L1;
-Tt=Ow;
-Ut=Z[3];
-Vt=Z[2];
-Wt=Z[1];
+mx=ou+1;
+if(*ba!=1||mx==nu)goto L1;
+ou=mx;
+pu=ba[3];
+qu=ba[2];
+ru=ba[1];
 goto L148;}}}
 goto L1;
 default:NEVER;
 }}
-w8(a+8,Wc);
+w8(a+8,cd);
 L15:if(r8(a+48)!=0)w8(a+48,0);
 z16(a+64);
 if(r8(a+88)==0){
-Pw=1;
+nx=1;
 goto L165;}
 w8(a+88,0);
-Pw=1;
+nx=1;
 goto L165;
 L1:if(r8(a+8)==0)goto L166;
 L14:w8(a+8,0);
@@ -80191,9 +80149,9 @@ if(r8(a+48)!=0)w8(a+48,0);
 if(r8(a+88)!=0)w8(a+88,0);
 a[172]=0;
 z16(a+64);
-Pw=0;
+nx=0;
 L165:z16(a+104);
-return Pw;
+return nx;
 }
 
 /* cpp_direct::names::are_few_named */
@@ -87330,6 +87288,433 @@ a[3]=q;}
 L1:return;
 }
 
+/* cpp_direct::direct::Direct::element_ended */
+static void element_ended_d46(u8* a,u8* b,u8* c,u64 d,u32 e,u8 f,u8* g,u8 h)
+{
+u8 i[32],j[32],k[16],l[32],n[16],o[32];
+A16 u8 m[4];
+u64 p,q,r,s,x,E,M,U,X,Z,ca,da;
+u16 t,u,v,w,C,D,I,K,L;
+u8 y,z,A,B,F,G,H,J,N,O,P,R,S,T,V,W,Y,ba,ea;
+u8 *Q,*fa;
+u32 aa;
+w4(m,0);
+z16(n);
+z32(o);
+memcpy(l,g,32);
+p=r8(b+88);
+if(p==0)q=0;
+else{
+r=p-1;
+w8(b+88,r);
+q=r;}
+s=r8(b+8);
+memcpy(i,l,32);
+if((e|(u32)s)>65535||(f>7||f!=i[28])){
+t=r2(l);
+u=r2(l+2);
+memcpy(k,l+4,16);
+v=t;
+w=u;
+x=q8(l+20);
+y=l[28];
+z=l[29];
+A=l[30];
+B=l[31];}
+else{
+C=r2(i);
+D=r2(i+2);
+E=q8(i+20);
+F=i[29];
+G=i[30];
+H=i[31];
+memcpy(j+4,l+4,16);
+x8(j+20,E);
+j[28]=f+1;
+j[29]=F;
+j[30]=G;
+j[31]=H;
+w2(j+4+((u64)f<<1),s);
+*(j+20+f)=h;
+if(f==0){
+memcpy(k,j+4,16);
+v=C;
+w=e;
+x=q8(j+20);
+y=j[28];
+z=j[29];
+A=j[30];
+B=j[31];}
+else{
+I=r2(i+4+(i64)((u64)(u8)(f-1)<<1));
+J=(I<65534)&(e==(u16)(0-usub16(65534,I)));
+K=J?C:r2(l);
+L=J?D:r2(l+2);
+memcpy(k,J?j+4:l+4,16);
+v=K;
+w=L;
+x=J?q8(j+20):q8(l+20);
+y=J?j[28]:l[28];
+z=J?j[29]:l[29];
+A=J?j[30]:l[30];
+B=J?j[31]:l[31];}}
+memcpy(n,k,16);
+M=r8(b+176);
+N=M>=d;
+if(N)O=0;
+else{
+P=*(c+M);
+if(P==76)goto L1;
+O=P;}
+Q=c+(i64)M;
+R=usub64(d,M)<2;
+if(!(d<M||R)){
+if(*Q==82){
+S=Q[1];
+if(N|(S==65))goto L2;
+T=S;
+goto L3;}}
+if(N)goto L2;
+switch(*Q){
+case 65:case 70:goto L1;
+case 80:case 82:if(R)goto L2;
+T=Q[1];
+break;
+default:goto L2;
+}
+L3:switch(T){
+case 70:case 65:goto L1;
+default:break;}
+L2:if(O==69){
+if(M==18446744073709551615u){
+x4(a,0);
+goto L4;}
+U=M+1;
+if(U<d){
+if(*(c+U)==69){
+if(q!=0)w8(b+88,q-1);
+w8(b+176,M+2);
+if(f==255){
+x4(a,0);
+goto L4;}
+V=f+1;
+if(V<A){
+x4(a,0);
+goto L4;}
+w2(o,v);
+w2(o+2,w);
+memcpy(o+4,n,16);
+x8(o+20,x);
+o[28]=y;
+o[29]=1;
+o[30]=A;
+o[31]=V-A;
+close_list_0b3(m,b,c,d,o);
+*a=*m;
+a[1]=m[1];
+a[2]=m[2];
+a[3]=m[3];
+goto L4;}}
+*a=1;
+a[1]=3;
+a[2]=0;
+a[3]=0;
+goto L4;}
+if(r8(b+32)-s<2){
+W=make_ready_8e3(b,2,128);
+if(!(W&1)){
+Y=0;
+goto L5;}
+X=r8(b+8);}
+else X=s;
+*(rp(b)+X)=44;
+*(rp(b)+(i64)X+1)=32;
+Z=X+2;
+w8(b+8,Z);
+if(f==255)Y=0;
+else{
+aa=Z;
+ba=f+1;
+ca=r8(b+88);
+if(r8(b+112)>ca)da=ca;
+else{
+ea=make_ready_9a1(b+80);
+if(!(ea&1)){
+Y=0;
+goto L5;}
+da=r8(b+88);}
+fa=rp(b+80)+da*44;
+*fa=28;
+fa[1]=0;
+x2(fa+2,0);
+x4(fa+4,aa);
+fa[8]=ba;
+fa[9]=0;
+x2(fa+10,v);
+x2(fa+12,w);
+memcpy(fa+14,n,16);
+x8(fa+30,x);
+fa[38]=y;
+fa[39]=z;
+fa[40]=A;
+fa[41]=B;
+x2(fa+42,0);
+w8(b+88,da+1);
+Y=1;}
+L5:*a=Y;
+a[1]=0;
+a[2]=0;
+a[3]=0;
+goto L4;
+L1:*a=1;
+a[1]=3;
+a[2]=0;
+a[3]=0;
+L4:return;
+}
+
+/* cpp_direct::known::is_element_at */
+static u8 is_element_at_f4e(u8* a,u64 b,u64 c)
+{
+u8 *d;
+u8 e,f;
+if(c<b){
+d=a+(i64)c;
+switch(*d){
+case 65:case 70:e=1;
+goto L1;
+case 80:case 82:if(usub64(b,c)<2){
+e=0;
+goto L1;}
+f=d[1];
+e=(f==70)|(f==65);
+goto L1;
+default:break;}}
+e=0;
+L1:return e;
+}
+
+/* cpp_direct::direct::Direct::close_list */
+static void close_list_0b3(u8* a,u8* b,u8* c,u64 d,u8* e)
+{
+u8 f[32];
+A16 u8 g[4];
+u64 h,i,k,l,m,y,z,I,J;
+u8 j,p,r,s,u,v,x,A,E,F,H,K,M,N,O;
+u8 *n,*B,*L;
+u32 o,q,w,C,D,G;
+u16 t;
+memcpy(f,e,32);
+w4(g,0);
+h=r8(b+8);
+if(r8(b+32)>h)i=h;
+else{
+j=make_ready_8e3(b,1,16);
+if(!(j&1)){
+x4(a,0);
+goto L1;}
+i=r8(b+8);}
+*(rp(b)+i)=62;
+k=i+1;
+w8(b+8,k);
+memcpy(b+140,f,32);
+l=r8(b+88);
+if(l==0)x4(a,0);
+else{
+m=l-1;
+w8(b+88,m);
+n=rp(b+80)+m*44;
+o=q4(n+4);
+p=n[8];
+q=q4(n+12);
+r=n[16];
+s=n[17];
+t=q2(n+18);
+u=n[21];
+v=n[23];
+switch(*n){
+case 4:w=k;
+x=p&1;
+y=r8(b+48);
+if(r8(b+72)>y)z=y;
+else{
+A=make_ready_17a(b+40);
+if(!(A&1)){
+x4(a,0);
+goto L1;}
+z=r8(b+48);}
+B=rp(b+40)+z*12;
+x4(B,o);
+x4(B+4,w);
+B[8]=0;
+B[9]=x;
+x2(B+10,0);
+w8(b+48,z+1);
+*g=1;
+g[1]=2;
+g[2]=0;
+g[3]=x;
+break;
+case 5:C=q4(n+8);
+x4(b+120,o);
+x4(b+124,C);
+x4(b+128,q);
+b[132]=r;
+b[133]=s;
+x2(b+134,t);
+b[136]=0;
+b[137]=u&1;
+b[138]=1;
+b[139]=v&1;
+*g=1;
+g[1]=5;
+g[2]=0;
+g[3]=0;
+break;
+case 6:D=q3(n+9);
+E=n[20];
+F=n[22];
+G=k;
+H=v&1;
+I=r8(b+48);
+if(r8(b+72)>I)J=I;
+else{
+K=make_ready_17a(b+40);
+if(!(K&1)){
+x4(a,0);
+goto L1;}
+J=r8(b+48);}
+L=rp(b+40)+J*12;
+x4(L,o);
+x4(L+4,G);
+L[8]=0;
+L[9]=H;
+x2(L+10,0);
+w8(b+48,J+1);
+w4(b+120,o);
+b[124]=p;
+x3(b+125,D);
+w4(b+128,q);
+b[132]=r;
+b[133]=s;
+w2(b+134,t);
+b[136]=E;
+b[137]=u;
+b[138]=F;
+b[139]=v;
+*g=1;
+g[1]=6;
+g[2]=0;
+g[3]=0;
+break;
+case 7:name_ended_fde(g,b,c,d,0,1,f,o);
+break;
+case 8:level_ended_5bf(g,b,c,d,n[1]&1);
+break;
+case 0:case 1:case 2:case 3:case 9:case 10:case 11:case 12:case 13:case 14:case 15:case 16:case 17:case 18:case 19:case 20:case 21:case 22:case 23:case 24:case 25:case 26:case 27:case 28:case 29:*g=0;
+break;
+default:NEVER;
+}
+M=g[1];
+N=g[2];
+O=g[3];
+*a=*g;
+a[1]=M;
+a[2]=N;
+a[3]=O;}
+L1:return;
+}
+
+/* cpp_direct::direct::Direct::level_ended */
+static void level_ended_5bf(u8* a,u8* b,u8* c,u64 d,u8 e)
+{
+A16 u8 f[24];
+u64 g,h,j,k,l,n,p,q,r,s,t,u,x,D,G;
+u8 i,m,o,v,y,E,F;
+u8 *w,*C;
+s_p_64 z,A,B;
+g=r8(b+176);
+if(g<d){
+if(*(c+g)==69){
+w8(b+176,g+1);
+h=r8(b+8);
+if(r8(b+32)-h<2){
+i=make_ready_8e3(b,2,128);
+if(!(i&1)){
+x4(a,0);
+goto L1;}
+j=r8(b+8);}
+else j=h;
+*(rp(b)+j)=58;
+*(rp(b)+(i64)j+1)=58;
+k=j+2;
+w8(b+8,k);
+l=r8(b+176);
+z24(f);
+if(l<d){
+m=*(c+l);
+if((u8)(m-58)>=247){
+n=l+1;
+if(n<d){
+o=*(c+n)-48;
+if(o<10){
+p=l+2;
+if(p<d){
+if((u8)(*(c+p)-48)<10){
+long_name_at_8ad(f,c,d,l);
+if(*f!=1)goto L2;
+q=r8(f+16);
+r=r8(f+8);
+goto L3;}}
+s=(u64)o+(u8)((u8)(m*10)+32);
+if(d-p<s)goto L4;
+if((u8)(*(c+(i64)p)-48)<10)goto L4;
+t=p;
+u=s+p;
+goto L5;}}
+v=m-48;
+if(d-n<v)goto L4;
+if((u8)(*(c+(i64)n)-48)<10)goto L4;
+t=n;
+u=n+v;
+L5:q=u;
+r=t;
+L3:w8(b+176,q);
+w=c+(i64)r;
+x=q-r;
+if(q!=r){
+if(!(x<10||*w!=95)){
+y=parts_equal_58b((u8*)t_35ad,10,w,10);
+if(y){
+z=(s_p_64){(u8*)t_62ff,21};
+goto L6;}}}
+A=(s_p_64){0};A.f0=w;
+B=A;B.f1=x;
+z=B;
+L6:C=z.f0;
+D=z.f1;
+if(r8(b+32)-k<D){
+E=make_ready_8e3(b,D,128);
+if(!(E&1))goto L2;}
+F=extend_from_slice_674(b,C,D);
+if(F&1)goto L2;
+G=r8(b+176);
+if(G<d){
+if(*(c+G)==69){
+w8(b+176,G+1);
+*a=1;
+a[1]=2;
+a[2]=0;
+a[3]=e;
+goto L1;}}
+x4(a,0);
+goto L1;}}
+L4:L2:x4(a,0);
+goto L1;}}
+x4(a,0);
+L1:return;
+}
+
 /* cpp_direct::direct::Direct::parameter_at */
 static void parameter_at_c04(u8* a,u8* b,u8* c,u64 d,u8 e,u8 f)
 {
@@ -88612,27 +88997,6 @@ a[3]=g[3];}}
 L1:return;
 }
 
-/* cpp_direct::known::is_element_at */
-static u8 is_element_at_f4e(u8* a,u64 b,u64 c)
-{
-u8 *d;
-u8 e,f;
-if(c<b){
-d=a+(i64)c;
-switch(*d){
-case 65:case 70:e=1;
-goto L1;
-case 80:case 82:if(usub64(b,c)<2){
-e=0;
-goto L1;}
-f=d[1];
-e=(f==70)|(f==65);
-goto L1;
-default:break;}}
-e=0;
-L1:return e;
-}
-
 /* cpp_direct::direct::Direct::next_pack */
 static void next_pack_bbb(u8* a,u8* b,u8* c,u64 d,u8 e,u8* f)
 {
@@ -88884,227 +89248,6 @@ a[3]=e[3];
 goto L4;}
 L1:x4(a,0);}
 L4:return;
-}
-
-/* cpp_direct::direct::Direct::close_list */
-static void close_list_0b3(u8* a,u8* b,u8* c,u64 d,u8* e)
-{
-u8 f[32];
-A16 u8 g[4];
-u64 h,i,k,l,m,y,z,I,J;
-u8 j,p,r,s,u,v,x,A,E,F,H,K,M,N,O;
-u8 *n,*B,*L;
-u32 o,q,w,C,D,G;
-u16 t;
-memcpy(f,e,32);
-w4(g,0);
-h=r8(b+8);
-if(r8(b+32)>h)i=h;
-else{
-j=make_ready_8e3(b,1,16);
-if(!(j&1)){
-x4(a,0);
-goto L1;}
-i=r8(b+8);}
-*(rp(b)+i)=62;
-k=i+1;
-w8(b+8,k);
-memcpy(b+140,f,32);
-l=r8(b+88);
-if(l==0)x4(a,0);
-else{
-m=l-1;
-w8(b+88,m);
-n=rp(b+80)+m*44;
-o=q4(n+4);
-p=n[8];
-q=q4(n+12);
-r=n[16];
-s=n[17];
-t=q2(n+18);
-u=n[21];
-v=n[23];
-switch(*n){
-case 4:w=k;
-x=p&1;
-y=r8(b+48);
-if(r8(b+72)>y)z=y;
-else{
-A=make_ready_17a(b+40);
-if(!(A&1)){
-x4(a,0);
-goto L1;}
-z=r8(b+48);}
-B=rp(b+40)+z*12;
-x4(B,o);
-x4(B+4,w);
-B[8]=0;
-B[9]=x;
-x2(B+10,0);
-w8(b+48,z+1);
-*g=1;
-g[1]=2;
-g[2]=0;
-g[3]=x;
-break;
-case 5:C=q4(n+8);
-x4(b+120,o);
-x4(b+124,C);
-x4(b+128,q);
-b[132]=r;
-b[133]=s;
-x2(b+134,t);
-b[136]=0;
-b[137]=u&1;
-b[138]=1;
-b[139]=v&1;
-*g=1;
-g[1]=5;
-g[2]=0;
-g[3]=0;
-break;
-case 6:D=q3(n+9);
-E=n[20];
-F=n[22];
-G=k;
-H=v&1;
-I=r8(b+48);
-if(r8(b+72)>I)J=I;
-else{
-K=make_ready_17a(b+40);
-if(!(K&1)){
-x4(a,0);
-goto L1;}
-J=r8(b+48);}
-L=rp(b+40)+J*12;
-x4(L,o);
-x4(L+4,G);
-L[8]=0;
-L[9]=H;
-x2(L+10,0);
-w8(b+48,J+1);
-w4(b+120,o);
-b[124]=p;
-x3(b+125,D);
-w4(b+128,q);
-b[132]=r;
-b[133]=s;
-w2(b+134,t);
-b[136]=E;
-b[137]=u;
-b[138]=F;
-b[139]=v;
-*g=1;
-g[1]=6;
-g[2]=0;
-g[3]=0;
-break;
-case 7:name_ended_fde(g,b,c,d,0,1,f,o);
-break;
-case 8:level_ended_5bf(g,b,c,d,n[1]&1);
-break;
-case 0:case 1:case 2:case 3:case 9:case 10:case 11:case 12:case 13:case 14:case 15:case 16:case 17:case 18:case 19:case 20:case 21:case 22:case 23:case 24:case 25:case 26:case 27:case 28:case 29:*g=0;
-break;
-default:NEVER;
-}
-M=g[1];
-N=g[2];
-O=g[3];
-*a=*g;
-a[1]=M;
-a[2]=N;
-a[3]=O;}
-L1:return;
-}
-
-/* cpp_direct::direct::Direct::level_ended */
-static void level_ended_5bf(u8* a,u8* b,u8* c,u64 d,u8 e)
-{
-A16 u8 f[24];
-u64 g,h,j,k,l,n,p,q,r,s,t,u,x,D,G;
-u8 i,m,o,v,y,E,F;
-u8 *w,*C;
-s_p_64 z,A,B;
-g=r8(b+176);
-if(g<d){
-if(*(c+g)==69){
-w8(b+176,g+1);
-h=r8(b+8);
-if(r8(b+32)-h<2){
-i=make_ready_8e3(b,2,128);
-if(!(i&1)){
-x4(a,0);
-goto L1;}
-j=r8(b+8);}
-else j=h;
-*(rp(b)+j)=58;
-*(rp(b)+(i64)j+1)=58;
-k=j+2;
-w8(b+8,k);
-l=r8(b+176);
-z24(f);
-if(l<d){
-m=*(c+l);
-if((u8)(m-58)>=247){
-n=l+1;
-if(n<d){
-o=*(c+n)-48;
-if(o<10){
-p=l+2;
-if(p<d){
-if((u8)(*(c+p)-48)<10){
-long_name_at_8ad(f,c,d,l);
-if(*f!=1)goto L2;
-q=r8(f+16);
-r=r8(f+8);
-goto L3;}}
-s=(u64)o+(u8)((u8)(m*10)+32);
-if(d-p<s)goto L4;
-if((u8)(*(c+(i64)p)-48)<10)goto L4;
-t=p;
-u=s+p;
-goto L5;}}
-v=m-48;
-if(d-n<v)goto L4;
-if((u8)(*(c+(i64)n)-48)<10)goto L4;
-t=n;
-u=n+v;
-L5:q=u;
-r=t;
-L3:w8(b+176,q);
-w=c+(i64)r;
-x=q-r;
-if(q!=r){
-if(!(x<10||*w!=95)){
-y=parts_equal_58b((u8*)t_35ad,10,w,10);
-if(y){
-z=(s_p_64){(u8*)t_62ff,21};
-goto L6;}}}
-A=(s_p_64){0};A.f0=w;
-B=A;B.f1=x;
-z=B;
-L6:C=z.f0;
-D=z.f1;
-if(r8(b+32)-k<D){
-E=make_ready_8e3(b,D,128);
-if(!(E&1))goto L2;}
-F=extend_from_slice_674(b,C,D);
-if(F&1)goto L2;
-G=r8(b+176);
-if(G<d){
-if(*(c+G)==69){
-w8(b+176,G+1);
-*a=1;
-a[1]=2;
-a[2]=0;
-a[3]=e;
-goto L1;}}
-x4(a,0);
-goto L1;}}
-L4:L2:x4(a,0);
-goto L1;}}
-x4(a,0);
-L1:return;
 }
 
 /* cpp_direct::direct::Direct::next_literal */
@@ -89511,191 +89654,6 @@ default:y=0;
 break;}}
 else y=0;
 return y;
-}
-
-/* cpp_direct::direct::Direct::element_ended */
-static void element_ended_d46(u8* a,u8* b,u8* c,u64 d,u32 e,u8 f,u8* g,u8 h)
-{
-u8 i[32],j[32],k[16],l[32],n[16],o[32];
-A16 u8 m[4];
-u64 p,q,r,s,x,E,M,U,X,Z,ca,da;
-u16 t,u,v,w,C,D,I,K,L;
-u8 y,z,A,B,F,G,H,J,N,O,P,R,S,T,V,W,Y,ba,ea;
-u8 *Q,*fa;
-u32 aa;
-w4(m,0);
-z16(n);
-z32(o);
-memcpy(l,g,32);
-p=r8(b+88);
-if(p==0)q=0;
-else{
-r=p-1;
-w8(b+88,r);
-q=r;}
-s=r8(b+8);
-memcpy(i,l,32);
-if((e|(u32)s)>65535||(f>7||f!=i[28])){
-t=r2(l);
-u=r2(l+2);
-memcpy(k,l+4,16);
-v=t;
-w=u;
-x=q8(l+20);
-y=l[28];
-z=l[29];
-A=l[30];
-B=l[31];}
-else{
-C=r2(i);
-D=r2(i+2);
-E=q8(i+20);
-F=i[29];
-G=i[30];
-H=i[31];
-memcpy(j+4,l+4,16);
-x8(j+20,E);
-j[28]=f+1;
-j[29]=F;
-j[30]=G;
-j[31]=H;
-w2(j+4+((u64)f<<1),s);
-*(j+20+f)=h;
-if(f==0){
-memcpy(k,j+4,16);
-v=C;
-w=e;
-x=q8(j+20);
-y=j[28];
-z=j[29];
-A=j[30];
-B=j[31];}
-else{
-I=r2(i+4+(i64)((u64)(u8)(f-1)<<1));
-J=(I<65534)&(e==(u16)(0-usub16(65534,I)));
-K=J?C:r2(l);
-L=J?D:r2(l+2);
-memcpy(k,J?j+4:l+4,16);
-v=K;
-w=L;
-x=J?q8(j+20):q8(l+20);
-y=J?j[28]:l[28];
-z=J?j[29]:l[29];
-A=J?j[30]:l[30];
-B=J?j[31]:l[31];}}
-memcpy(n,k,16);
-M=r8(b+176);
-N=M>=d;
-if(N)O=0;
-else{
-P=*(c+M);
-if(P==76)goto L1;
-O=P;}
-Q=c+(i64)M;
-R=usub64(d,M)<2;
-if(!(d<M||R)){
-if(*Q==82){
-S=Q[1];
-if(N|(S==65))goto L2;
-T=S;
-goto L3;}}
-if(N)goto L2;
-switch(*Q){
-case 65:case 70:goto L1;
-case 80:case 82:if(R)goto L2;
-T=Q[1];
-break;
-default:goto L2;
-}
-L3:switch(T){
-case 70:case 65:goto L1;
-default:break;}
-L2:if(O==69){
-if(M==18446744073709551615u){
-x4(a,0);
-goto L4;}
-U=M+1;
-if(U<d){
-if(*(c+U)==69){
-if(q!=0)w8(b+88,q-1);
-w8(b+176,M+2);
-if(f==255){
-x4(a,0);
-goto L4;}
-V=f+1;
-if(V<A){
-x4(a,0);
-goto L4;}
-w2(o,v);
-w2(o+2,w);
-memcpy(o+4,n,16);
-x8(o+20,x);
-o[28]=y;
-o[29]=1;
-o[30]=A;
-o[31]=V-A;
-close_list_0b3(m,b,c,d,o);
-*a=*m;
-a[1]=m[1];
-a[2]=m[2];
-a[3]=m[3];
-goto L4;}}
-*a=1;
-a[1]=3;
-a[2]=0;
-a[3]=0;
-goto L4;}
-if(r8(b+32)-s<2){
-W=make_ready_8e3(b,2,128);
-if(!(W&1)){
-Y=0;
-goto L5;}
-X=r8(b+8);}
-else X=s;
-*(rp(b)+X)=44;
-*(rp(b)+(i64)X+1)=32;
-Z=X+2;
-w8(b+8,Z);
-if(f==255)Y=0;
-else{
-aa=Z;
-ba=f+1;
-ca=r8(b+88);
-if(r8(b+112)>ca)da=ca;
-else{
-ea=make_ready_9a1(b+80);
-if(!(ea&1)){
-Y=0;
-goto L5;}
-da=r8(b+88);}
-fa=rp(b+80)+da*44;
-*fa=28;
-fa[1]=0;
-x2(fa+2,0);
-x4(fa+4,aa);
-fa[8]=ba;
-fa[9]=0;
-x2(fa+10,v);
-x2(fa+12,w);
-memcpy(fa+14,n,16);
-x8(fa+30,x);
-fa[38]=y;
-fa[39]=z;
-fa[40]=A;
-fa[41]=B;
-x2(fa+42,0);
-w8(b+88,da+1);
-Y=1;}
-L5:*a=Y;
-a[1]=0;
-a[2]=0;
-a[3]=0;
-goto L4;
-L1:*a=1;
-a[1]=3;
-a[2]=0;
-a[3]=0;
-L4:return;
 }
 
 /* cpp_direct::direct::Direct::empty_pack */
@@ -96339,6 +96297,322 @@ a[3]=p;}
 L1:return;
 }
 
+/* cpp_direct::direct::Direct::element_ended */
+static void element_ended_6b8(u8* a,u8* b,u8* c,u64 d,u32 e,u8 f,u8* g,u8 h)
+{
+u8 i[32],j[32],k[16],l[32],n[16],o[32];
+A16 u8 m[4];
+u64 p,q,r,s,x,E,M,U,X,Z,ca,da;
+u16 t,u,v,w,C,D,I,K,L;
+u8 y,z,A,B,F,G,H,J,N,O,P,R,S,T,V,W,Y,ba,ea;
+u8 *Q,*fa;
+u32 aa;
+w4(m,0);
+z16(n);
+z32(o);
+memcpy(l,g,32);
+p=r8(b+88);
+if(p==0)q=0;
+else{
+r=p-1;
+w8(b+88,r);
+q=r;}
+s=r8(b+8);
+memcpy(i,l,32);
+if((e|(u32)s)>65535||(f>7||f!=i[28])){
+t=r2(l);
+u=r2(l+2);
+memcpy(k,l+4,16);
+v=t;
+w=u;
+x=q8(l+20);
+y=l[28];
+z=l[29];
+A=l[30];
+B=l[31];}
+else{
+C=r2(i);
+D=r2(i+2);
+E=q8(i+20);
+F=i[29];
+G=i[30];
+H=i[31];
+memcpy(j+4,l+4,16);
+x8(j+20,E);
+j[28]=f+1;
+j[29]=F;
+j[30]=G;
+j[31]=H;
+w2(j+4+((u64)f<<1),s);
+*(j+20+f)=h;
+if(f==0){
+memcpy(k,j+4,16);
+v=C;
+w=e;
+x=q8(j+20);
+y=j[28];
+z=j[29];
+A=j[30];
+B=j[31];}
+else{
+I=r2(i+4+(i64)((u64)(u8)(f-1)<<1));
+J=(I<65534)&(e==(u16)(0-usub16(65534,I)));
+K=J?C:r2(l);
+L=J?D:r2(l+2);
+memcpy(k,J?j+4:l+4,16);
+v=K;
+w=L;
+x=J?q8(j+20):q8(l+20);
+y=J?j[28]:l[28];
+z=J?j[29]:l[29];
+A=J?j[30]:l[30];
+B=J?j[31]:l[31];}}
+memcpy(n,k,16);
+M=r8(b+176);
+N=M>=d;
+if(N)O=0;
+else{
+P=*(c+M);
+if(P==76)goto L1;
+O=P;}
+Q=c+(i64)M;
+R=usub64(d,M)<2;
+if(!(d<M||R)){
+if(*Q==82){
+S=Q[1];
+if(N|(S==65))goto L2;
+T=S;
+goto L3;}}
+if(N)goto L2;
+switch(*Q){
+case 65:case 70:goto L1;
+case 80:case 82:if(R)goto L2;
+T=Q[1];
+break;
+default:goto L2;
+}
+L3:switch(T){
+case 70:case 65:goto L1;
+default:break;}
+L2:if(O==69){
+if(M==18446744073709551615u){
+x4(a,0);
+goto L4;}
+U=M+1;
+if(U<d){
+if(*(c+U)==69){
+if(q!=0)w8(b+88,q-1);
+w8(b+176,M+2);
+if(f==255){
+x4(a,0);
+goto L4;}
+V=f+1;
+if(V<A){
+x4(a,0);
+goto L4;}
+w2(o,v);
+w2(o+2,w);
+memcpy(o+4,n,16);
+x8(o+20,x);
+o[28]=y;
+o[29]=1;
+o[30]=A;
+o[31]=V-A;
+close_list_299(m,b,c,d,o);
+*a=*m;
+a[1]=m[1];
+a[2]=m[2];
+a[3]=m[3];
+goto L4;}}
+*a=1;
+a[1]=3;
+a[2]=0;
+a[3]=0;
+goto L4;}
+if(r8(b+32)-s<2){
+W=make_ready_8e3(b,2,128);
+if(!(W&1)){
+Y=0;
+goto L5;}
+X=r8(b+8);}
+else X=s;
+*(rp(b)+X)=44;
+*(rp(b)+(i64)X+1)=32;
+Z=X+2;
+w8(b+8,Z);
+if(f==255)Y=0;
+else{
+aa=Z;
+ba=f+1;
+ca=r8(b+88);
+if(r8(b+112)>ca)da=ca;
+else{
+ea=make_ready_9a1(b+80);
+if(!(ea&1)){
+Y=0;
+goto L5;}
+da=r8(b+88);}
+fa=rp(b+80)+da*44;
+*fa=28;
+fa[1]=0;
+x2(fa+2,0);
+x4(fa+4,aa);
+fa[8]=ba;
+fa[9]=0;
+x2(fa+10,v);
+x2(fa+12,w);
+memcpy(fa+14,n,16);
+x8(fa+30,x);
+fa[38]=y;
+fa[39]=z;
+fa[40]=A;
+fa[41]=B;
+x2(fa+42,0);
+w8(b+88,da+1);
+Y=1;}
+L5:*a=Y;
+a[1]=0;
+a[2]=0;
+a[3]=0;
+goto L4;
+L1:*a=1;
+a[1]=3;
+a[2]=0;
+a[3]=0;
+L4:return;
+}
+
+/* cpp_direct::direct::Direct::close_list */
+static void close_list_299(u8* a,u8* b,u8* c,u64 d,u8* e)
+{
+u8 f[32];
+A16 u8 g[4];
+u64 h,i,k,l,m,y,z,I,J;
+u8 j,p,r,s,u,v,x,A,E,F,H,K,M,N,O;
+u8 *n,*B,*L;
+u32 o,q,w,C,D,G;
+u16 t;
+memcpy(f,e,32);
+w4(g,0);
+h=r8(b+8);
+if(r8(b+32)>h)i=h;
+else{
+j=make_ready_8e3(b,1,16);
+if(!(j&1)){
+x4(a,0);
+goto L1;}
+i=r8(b+8);}
+*(rp(b)+i)=62;
+k=i+1;
+w8(b+8,k);
+memcpy(b+140,f,32);
+l=r8(b+88);
+if(l==0)x4(a,0);
+else{
+m=l-1;
+w8(b+88,m);
+n=rp(b+80)+m*44;
+o=q4(n+4);
+p=n[8];
+q=q4(n+12);
+r=n[16];
+s=n[17];
+t=q2(n+18);
+u=n[21];
+v=n[23];
+switch(*n){
+case 4:w=k;
+x=p&1;
+y=r8(b+48);
+if(r8(b+72)>y)z=y;
+else{
+A=make_ready_17a(b+40);
+if(!(A&1)){
+x4(a,0);
+goto L1;}
+z=r8(b+48);}
+B=rp(b+40)+z*12;
+x4(B,o);
+x4(B+4,w);
+B[8]=0;
+B[9]=x;
+x2(B+10,0);
+w8(b+48,z+1);
+*g=1;
+g[1]=2;
+g[2]=0;
+g[3]=x;
+break;
+case 5:C=q4(n+8);
+x4(b+120,o);
+x4(b+124,C);
+x4(b+128,q);
+b[132]=r;
+b[133]=s;
+x2(b+134,t);
+b[136]=0;
+b[137]=u&1;
+b[138]=1;
+b[139]=v&1;
+*g=1;
+g[1]=5;
+g[2]=0;
+g[3]=0;
+break;
+case 6:D=q3(n+9);
+E=n[20];
+F=n[22];
+G=k;
+H=v&1;
+I=r8(b+48);
+if(r8(b+72)>I)J=I;
+else{
+K=make_ready_17a(b+40);
+if(!(K&1)){
+x4(a,0);
+goto L1;}
+J=r8(b+48);}
+L=rp(b+40)+J*12;
+x4(L,o);
+x4(L+4,G);
+L[8]=0;
+L[9]=H;
+x2(L+10,0);
+w8(b+48,J+1);
+w4(b+120,o);
+b[124]=p;
+x3(b+125,D);
+w4(b+128,q);
+b[132]=r;
+b[133]=s;
+w2(b+134,t);
+b[136]=E;
+b[137]=u;
+b[138]=F;
+b[139]=v;
+*g=1;
+g[1]=6;
+g[2]=0;
+g[3]=0;
+break;
+case 7:name_ended_a18(g,b,c,d,0,1,f,o);
+break;
+case 8:level_ended_5bf(g,b,c,d,n[1]&1);
+break;
+case 0:case 1:case 2:case 3:case 9:case 10:case 11:case 12:case 13:case 14:case 15:case 16:case 17:case 18:case 19:case 20:case 21:case 22:case 23:case 24:case 25:case 26:case 27:case 28:case 29:*g=0;
+break;
+default:NEVER;
+}
+M=g[1];
+N=g[2];
+O=g[3];
+*a=*g;
+a[1]=M;
+a[2]=N;
+a[3]=O;}
+L1:return;
+}
+
 /* cpp_direct::direct::Direct::parameter_at */
 static void parameter_at_3ac(u8* a,u8* b,u8* c,u64 d,u8 e,u8 f)
 {
@@ -97417,322 +97691,6 @@ a[2]=e[2];
 a[3]=e[3];
 goto L4;}
 L1:x4(a,0);}
-L4:return;
-}
-
-/* cpp_direct::direct::Direct::close_list */
-static void close_list_299(u8* a,u8* b,u8* c,u64 d,u8* e)
-{
-u8 f[32];
-A16 u8 g[4];
-u64 h,i,k,l,m,y,z,I,J;
-u8 j,p,r,s,u,v,x,A,E,F,H,K,M,N,O;
-u8 *n,*B,*L;
-u32 o,q,w,C,D,G;
-u16 t;
-memcpy(f,e,32);
-w4(g,0);
-h=r8(b+8);
-if(r8(b+32)>h)i=h;
-else{
-j=make_ready_8e3(b,1,16);
-if(!(j&1)){
-x4(a,0);
-goto L1;}
-i=r8(b+8);}
-*(rp(b)+i)=62;
-k=i+1;
-w8(b+8,k);
-memcpy(b+140,f,32);
-l=r8(b+88);
-if(l==0)x4(a,0);
-else{
-m=l-1;
-w8(b+88,m);
-n=rp(b+80)+m*44;
-o=q4(n+4);
-p=n[8];
-q=q4(n+12);
-r=n[16];
-s=n[17];
-t=q2(n+18);
-u=n[21];
-v=n[23];
-switch(*n){
-case 4:w=k;
-x=p&1;
-y=r8(b+48);
-if(r8(b+72)>y)z=y;
-else{
-A=make_ready_17a(b+40);
-if(!(A&1)){
-x4(a,0);
-goto L1;}
-z=r8(b+48);}
-B=rp(b+40)+z*12;
-x4(B,o);
-x4(B+4,w);
-B[8]=0;
-B[9]=x;
-x2(B+10,0);
-w8(b+48,z+1);
-*g=1;
-g[1]=2;
-g[2]=0;
-g[3]=x;
-break;
-case 5:C=q4(n+8);
-x4(b+120,o);
-x4(b+124,C);
-x4(b+128,q);
-b[132]=r;
-b[133]=s;
-x2(b+134,t);
-b[136]=0;
-b[137]=u&1;
-b[138]=1;
-b[139]=v&1;
-*g=1;
-g[1]=5;
-g[2]=0;
-g[3]=0;
-break;
-case 6:D=q3(n+9);
-E=n[20];
-F=n[22];
-G=k;
-H=v&1;
-I=r8(b+48);
-if(r8(b+72)>I)J=I;
-else{
-K=make_ready_17a(b+40);
-if(!(K&1)){
-x4(a,0);
-goto L1;}
-J=r8(b+48);}
-L=rp(b+40)+J*12;
-x4(L,o);
-x4(L+4,G);
-L[8]=0;
-L[9]=H;
-x2(L+10,0);
-w8(b+48,J+1);
-w4(b+120,o);
-b[124]=p;
-x3(b+125,D);
-w4(b+128,q);
-b[132]=r;
-b[133]=s;
-w2(b+134,t);
-b[136]=E;
-b[137]=u;
-b[138]=F;
-b[139]=v;
-*g=1;
-g[1]=6;
-g[2]=0;
-g[3]=0;
-break;
-case 7:name_ended_a18(g,b,c,d,0,1,f,o);
-break;
-case 8:level_ended_5bf(g,b,c,d,n[1]&1);
-break;
-case 0:case 1:case 2:case 3:case 9:case 10:case 11:case 12:case 13:case 14:case 15:case 16:case 17:case 18:case 19:case 20:case 21:case 22:case 23:case 24:case 25:case 26:case 27:case 28:case 29:*g=0;
-break;
-default:NEVER;
-}
-M=g[1];
-N=g[2];
-O=g[3];
-*a=*g;
-a[1]=M;
-a[2]=N;
-a[3]=O;}
-L1:return;
-}
-
-/* cpp_direct::direct::Direct::element_ended */
-static void element_ended_6b8(u8* a,u8* b,u8* c,u64 d,u32 e,u8 f,u8* g,u8 h)
-{
-u8 i[32],j[32],k[16],l[32],n[16],o[32];
-A16 u8 m[4];
-u64 p,q,r,s,x,E,M,U,X,Z,ca,da;
-u16 t,u,v,w,C,D,I,K,L;
-u8 y,z,A,B,F,G,H,J,N,O,P,R,S,T,V,W,Y,ba,ea;
-u8 *Q,*fa;
-u32 aa;
-w4(m,0);
-z16(n);
-z32(o);
-memcpy(l,g,32);
-p=r8(b+88);
-if(p==0)q=0;
-else{
-r=p-1;
-w8(b+88,r);
-q=r;}
-s=r8(b+8);
-memcpy(i,l,32);
-if((e|(u32)s)>65535||(f>7||f!=i[28])){
-t=r2(l);
-u=r2(l+2);
-memcpy(k,l+4,16);
-v=t;
-w=u;
-x=q8(l+20);
-y=l[28];
-z=l[29];
-A=l[30];
-B=l[31];}
-else{
-C=r2(i);
-D=r2(i+2);
-E=q8(i+20);
-F=i[29];
-G=i[30];
-H=i[31];
-memcpy(j+4,l+4,16);
-x8(j+20,E);
-j[28]=f+1;
-j[29]=F;
-j[30]=G;
-j[31]=H;
-w2(j+4+((u64)f<<1),s);
-*(j+20+f)=h;
-if(f==0){
-memcpy(k,j+4,16);
-v=C;
-w=e;
-x=q8(j+20);
-y=j[28];
-z=j[29];
-A=j[30];
-B=j[31];}
-else{
-I=r2(i+4+(i64)((u64)(u8)(f-1)<<1));
-J=(I<65534)&(e==(u16)(0-usub16(65534,I)));
-K=J?C:r2(l);
-L=J?D:r2(l+2);
-memcpy(k,J?j+4:l+4,16);
-v=K;
-w=L;
-x=J?q8(j+20):q8(l+20);
-y=J?j[28]:l[28];
-z=J?j[29]:l[29];
-A=J?j[30]:l[30];
-B=J?j[31]:l[31];}}
-memcpy(n,k,16);
-M=r8(b+176);
-N=M>=d;
-if(N)O=0;
-else{
-P=*(c+M);
-if(P==76)goto L1;
-O=P;}
-Q=c+(i64)M;
-R=usub64(d,M)<2;
-if(!(d<M||R)){
-if(*Q==82){
-S=Q[1];
-if(N|(S==65))goto L2;
-T=S;
-goto L3;}}
-if(N)goto L2;
-switch(*Q){
-case 65:case 70:goto L1;
-case 80:case 82:if(R)goto L2;
-T=Q[1];
-break;
-default:goto L2;
-}
-L3:switch(T){
-case 70:case 65:goto L1;
-default:break;}
-L2:if(O==69){
-if(M==18446744073709551615u){
-x4(a,0);
-goto L4;}
-U=M+1;
-if(U<d){
-if(*(c+U)==69){
-if(q!=0)w8(b+88,q-1);
-w8(b+176,M+2);
-if(f==255){
-x4(a,0);
-goto L4;}
-V=f+1;
-if(V<A){
-x4(a,0);
-goto L4;}
-w2(o,v);
-w2(o+2,w);
-memcpy(o+4,n,16);
-x8(o+20,x);
-o[28]=y;
-o[29]=1;
-o[30]=A;
-o[31]=V-A;
-close_list_299(m,b,c,d,o);
-*a=*m;
-a[1]=m[1];
-a[2]=m[2];
-a[3]=m[3];
-goto L4;}}
-*a=1;
-a[1]=3;
-a[2]=0;
-a[3]=0;
-goto L4;}
-if(r8(b+32)-s<2){
-W=make_ready_8e3(b,2,128);
-if(!(W&1)){
-Y=0;
-goto L5;}
-X=r8(b+8);}
-else X=s;
-*(rp(b)+X)=44;
-*(rp(b)+(i64)X+1)=32;
-Z=X+2;
-w8(b+8,Z);
-if(f==255)Y=0;
-else{
-aa=Z;
-ba=f+1;
-ca=r8(b+88);
-if(r8(b+112)>ca)da=ca;
-else{
-ea=make_ready_9a1(b+80);
-if(!(ea&1)){
-Y=0;
-goto L5;}
-da=r8(b+88);}
-fa=rp(b+80)+da*44;
-*fa=28;
-fa[1]=0;
-x2(fa+2,0);
-x4(fa+4,aa);
-fa[8]=ba;
-fa[9]=0;
-x2(fa+10,v);
-x2(fa+12,w);
-memcpy(fa+14,n,16);
-x8(fa+30,x);
-fa[38]=y;
-fa[39]=z;
-fa[40]=A;
-fa[41]=B;
-x2(fa+42,0);
-w8(b+88,da+1);
-Y=1;}
-L5:*a=Y;
-a[1]=0;
-a[2]=0;
-a[3]=0;
-goto L4;
-L1:*a=1;
-a[1]=3;
-a[2]=0;
-a[3]=0;
 L4:return;
 }
 
@@ -102246,6 +102204,322 @@ a[3]=q;}
 L1:return;
 }
 
+/* cpp_direct::direct::Direct::element_ended */
+static void element_ended_c50(u8* a,u8* b,u8* c,u64 d,u32 e,u8 f,u8* g,u8 h)
+{
+u8 i[32],j[32],k[16],l[32],n[16],o[32];
+A16 u8 m[4];
+u64 p,q,r,s,x,E,M,U,X,Z,ca,da;
+u16 t,u,v,w,C,D,I,K,L;
+u8 y,z,A,B,F,G,H,J,N,O,P,R,S,T,V,W,Y,ba,ea;
+u8 *Q,*fa;
+u32 aa;
+w4(m,0);
+z16(n);
+z32(o);
+memcpy(l,g,32);
+p=r8(b+88);
+if(p==0)q=0;
+else{
+r=p-1;
+w8(b+88,r);
+q=r;}
+s=r8(b+8);
+memcpy(i,l,32);
+if((e|(u32)s)>65535||(f>7||f!=i[28])){
+t=r2(l);
+u=r2(l+2);
+memcpy(k,l+4,16);
+v=t;
+w=u;
+x=q8(l+20);
+y=l[28];
+z=l[29];
+A=l[30];
+B=l[31];}
+else{
+C=r2(i);
+D=r2(i+2);
+E=q8(i+20);
+F=i[29];
+G=i[30];
+H=i[31];
+memcpy(j+4,l+4,16);
+x8(j+20,E);
+j[28]=f+1;
+j[29]=F;
+j[30]=G;
+j[31]=H;
+w2(j+4+((u64)f<<1),s);
+*(j+20+f)=h;
+if(f==0){
+memcpy(k,j+4,16);
+v=C;
+w=e;
+x=q8(j+20);
+y=j[28];
+z=j[29];
+A=j[30];
+B=j[31];}
+else{
+I=r2(i+4+(i64)((u64)(u8)(f-1)<<1));
+J=(I<65534)&(e==(u16)(0-usub16(65534,I)));
+K=J?C:r2(l);
+L=J?D:r2(l+2);
+memcpy(k,J?j+4:l+4,16);
+v=K;
+w=L;
+x=J?q8(j+20):q8(l+20);
+y=J?j[28]:l[28];
+z=J?j[29]:l[29];
+A=J?j[30]:l[30];
+B=J?j[31]:l[31];}}
+memcpy(n,k,16);
+M=r8(b+176);
+N=M>=d;
+if(N)O=0;
+else{
+P=*(c+M);
+if(P==76)goto L1;
+O=P;}
+Q=c+(i64)M;
+R=usub64(d,M)<2;
+if(!(d<M||R)){
+if(*Q==82){
+S=Q[1];
+if(N|(S==65))goto L2;
+T=S;
+goto L3;}}
+if(N)goto L2;
+switch(*Q){
+case 65:case 70:goto L1;
+case 80:case 82:if(R)goto L2;
+T=Q[1];
+break;
+default:goto L2;
+}
+L3:switch(T){
+case 70:case 65:goto L1;
+default:break;}
+L2:if(O==69){
+if(M==18446744073709551615u){
+x4(a,0);
+goto L4;}
+U=M+1;
+if(U<d){
+if(*(c+U)==69){
+if(q!=0)w8(b+88,q-1);
+w8(b+176,M+2);
+if(f==255){
+x4(a,0);
+goto L4;}
+V=f+1;
+if(V<A){
+x4(a,0);
+goto L4;}
+w2(o,v);
+w2(o+2,w);
+memcpy(o+4,n,16);
+x8(o+20,x);
+o[28]=y;
+o[29]=1;
+o[30]=A;
+o[31]=V-A;
+close_list_148(m,b,c,d,o);
+*a=*m;
+a[1]=m[1];
+a[2]=m[2];
+a[3]=m[3];
+goto L4;}}
+*a=1;
+a[1]=3;
+a[2]=0;
+a[3]=0;
+goto L4;}
+if(r8(b+32)-s<2){
+W=make_ready_8e3(b,2,128);
+if(!(W&1)){
+Y=0;
+goto L5;}
+X=r8(b+8);}
+else X=s;
+*(rp(b)+X)=44;
+*(rp(b)+(i64)X+1)=32;
+Z=X+2;
+w8(b+8,Z);
+if(f==255)Y=0;
+else{
+aa=Z;
+ba=f+1;
+ca=r8(b+88);
+if(r8(b+112)>ca)da=ca;
+else{
+ea=make_ready_9a1(b+80);
+if(!(ea&1)){
+Y=0;
+goto L5;}
+da=r8(b+88);}
+fa=rp(b+80)+da*44;
+*fa=28;
+fa[1]=0;
+x2(fa+2,0);
+x4(fa+4,aa);
+fa[8]=ba;
+fa[9]=0;
+x2(fa+10,v);
+x2(fa+12,w);
+memcpy(fa+14,n,16);
+x8(fa+30,x);
+fa[38]=y;
+fa[39]=z;
+fa[40]=A;
+fa[41]=B;
+x2(fa+42,0);
+w8(b+88,da+1);
+Y=1;}
+L5:*a=Y;
+a[1]=0;
+a[2]=0;
+a[3]=0;
+goto L4;
+L1:*a=1;
+a[1]=3;
+a[2]=0;
+a[3]=0;
+L4:return;
+}
+
+/* cpp_direct::direct::Direct::close_list */
+static void close_list_148(u8* a,u8* b,u8* c,u64 d,u8* e)
+{
+u8 f[32];
+A16 u8 g[4];
+u64 h,i,k,l,m,y,z,I,J;
+u8 j,p,r,s,u,v,x,A,E,F,H,K,M,N,O;
+u8 *n,*B,*L;
+u32 o,q,w,C,D,G;
+u16 t;
+memcpy(f,e,32);
+w4(g,0);
+h=r8(b+8);
+if(r8(b+32)>h)i=h;
+else{
+j=make_ready_8e3(b,1,16);
+if(!(j&1)){
+x4(a,0);
+goto L1;}
+i=r8(b+8);}
+*(rp(b)+i)=2;
+k=i+1;
+w8(b+8,k);
+memcpy(b+140,f,32);
+l=r8(b+88);
+if(l==0)x4(a,0);
+else{
+m=l-1;
+w8(b+88,m);
+n=rp(b+80)+m*44;
+o=q4(n+4);
+p=n[8];
+q=q4(n+12);
+r=n[16];
+s=n[17];
+t=q2(n+18);
+u=n[21];
+v=n[23];
+switch(*n){
+case 4:w=k;
+x=p&1;
+y=r8(b+48);
+if(r8(b+72)>y)z=y;
+else{
+A=make_ready_17a(b+40);
+if(!(A&1)){
+x4(a,0);
+goto L1;}
+z=r8(b+48);}
+B=rp(b+40)+z*12;
+x4(B,o);
+x4(B+4,w);
+B[8]=0;
+B[9]=x;
+x2(B+10,0);
+w8(b+48,z+1);
+*g=1;
+g[1]=2;
+g[2]=0;
+g[3]=x;
+break;
+case 5:C=q4(n+8);
+x4(b+120,o);
+x4(b+124,C);
+x4(b+128,q);
+b[132]=r;
+b[133]=s;
+x2(b+134,t);
+b[136]=0;
+b[137]=u&1;
+b[138]=1;
+b[139]=v&1;
+*g=1;
+g[1]=5;
+g[2]=0;
+g[3]=0;
+break;
+case 6:D=q3(n+9);
+E=n[20];
+F=n[22];
+G=k;
+H=v&1;
+I=r8(b+48);
+if(r8(b+72)>I)J=I;
+else{
+K=make_ready_17a(b+40);
+if(!(K&1)){
+x4(a,0);
+goto L1;}
+J=r8(b+48);}
+L=rp(b+40)+J*12;
+x4(L,o);
+x4(L+4,G);
+L[8]=0;
+L[9]=H;
+x2(L+10,0);
+w8(b+48,J+1);
+w4(b+120,o);
+b[124]=p;
+x3(b+125,D);
+w4(b+128,q);
+b[132]=r;
+b[133]=s;
+w2(b+134,t);
+b[136]=E;
+b[137]=u;
+b[138]=F;
+b[139]=v;
+*g=1;
+g[1]=6;
+g[2]=0;
+g[3]=0;
+break;
+case 7:name_ended_fde(g,b,c,d,0,1,f,o);
+break;
+case 8:level_ended_5bf(g,b,c,d,n[1]&1);
+break;
+case 0:case 1:case 2:case 3:case 9:case 10:case 11:case 12:case 13:case 14:case 15:case 16:case 17:case 18:case 19:case 20:case 21:case 22:case 23:case 24:case 25:case 26:case 27:case 28:case 29:*g=0;
+break;
+default:NEVER;
+}
+M=g[1];
+N=g[2];
+O=g[3];
+*a=*g;
+a[1]=M;
+a[2]=N;
+a[3]=O;}
+L1:return;
+}
+
 /* cpp_direct::direct::Direct::parameter_at */
 static void parameter_at_d02(u8* a,u8* b,u8* c,u64 d,u8 e,u8 f)
 {
@@ -103045,322 +103319,6 @@ a[2]=e[2];
 a[3]=e[3];
 goto L4;}
 L1:x4(a,0);}
-L4:return;
-}
-
-/* cpp_direct::direct::Direct::close_list */
-static void close_list_148(u8* a,u8* b,u8* c,u64 d,u8* e)
-{
-u8 f[32];
-A16 u8 g[4];
-u64 h,i,k,l,m,y,z,I,J;
-u8 j,p,r,s,u,v,x,A,E,F,H,K,M,N,O;
-u8 *n,*B,*L;
-u32 o,q,w,C,D,G;
-u16 t;
-memcpy(f,e,32);
-w4(g,0);
-h=r8(b+8);
-if(r8(b+32)>h)i=h;
-else{
-j=make_ready_8e3(b,1,16);
-if(!(j&1)){
-x4(a,0);
-goto L1;}
-i=r8(b+8);}
-*(rp(b)+i)=2;
-k=i+1;
-w8(b+8,k);
-memcpy(b+140,f,32);
-l=r8(b+88);
-if(l==0)x4(a,0);
-else{
-m=l-1;
-w8(b+88,m);
-n=rp(b+80)+m*44;
-o=q4(n+4);
-p=n[8];
-q=q4(n+12);
-r=n[16];
-s=n[17];
-t=q2(n+18);
-u=n[21];
-v=n[23];
-switch(*n){
-case 4:w=k;
-x=p&1;
-y=r8(b+48);
-if(r8(b+72)>y)z=y;
-else{
-A=make_ready_17a(b+40);
-if(!(A&1)){
-x4(a,0);
-goto L1;}
-z=r8(b+48);}
-B=rp(b+40)+z*12;
-x4(B,o);
-x4(B+4,w);
-B[8]=0;
-B[9]=x;
-x2(B+10,0);
-w8(b+48,z+1);
-*g=1;
-g[1]=2;
-g[2]=0;
-g[3]=x;
-break;
-case 5:C=q4(n+8);
-x4(b+120,o);
-x4(b+124,C);
-x4(b+128,q);
-b[132]=r;
-b[133]=s;
-x2(b+134,t);
-b[136]=0;
-b[137]=u&1;
-b[138]=1;
-b[139]=v&1;
-*g=1;
-g[1]=5;
-g[2]=0;
-g[3]=0;
-break;
-case 6:D=q3(n+9);
-E=n[20];
-F=n[22];
-G=k;
-H=v&1;
-I=r8(b+48);
-if(r8(b+72)>I)J=I;
-else{
-K=make_ready_17a(b+40);
-if(!(K&1)){
-x4(a,0);
-goto L1;}
-J=r8(b+48);}
-L=rp(b+40)+J*12;
-x4(L,o);
-x4(L+4,G);
-L[8]=0;
-L[9]=H;
-x2(L+10,0);
-w8(b+48,J+1);
-w4(b+120,o);
-b[124]=p;
-x3(b+125,D);
-w4(b+128,q);
-b[132]=r;
-b[133]=s;
-w2(b+134,t);
-b[136]=E;
-b[137]=u;
-b[138]=F;
-b[139]=v;
-*g=1;
-g[1]=6;
-g[2]=0;
-g[3]=0;
-break;
-case 7:name_ended_fde(g,b,c,d,0,1,f,o);
-break;
-case 8:level_ended_5bf(g,b,c,d,n[1]&1);
-break;
-case 0:case 1:case 2:case 3:case 9:case 10:case 11:case 12:case 13:case 14:case 15:case 16:case 17:case 18:case 19:case 20:case 21:case 22:case 23:case 24:case 25:case 26:case 27:case 28:case 29:*g=0;
-break;
-default:NEVER;
-}
-M=g[1];
-N=g[2];
-O=g[3];
-*a=*g;
-a[1]=M;
-a[2]=N;
-a[3]=O;}
-L1:return;
-}
-
-/* cpp_direct::direct::Direct::element_ended */
-static void element_ended_c50(u8* a,u8* b,u8* c,u64 d,u32 e,u8 f,u8* g,u8 h)
-{
-u8 i[32],j[32],k[16],l[32],n[16],o[32];
-A16 u8 m[4];
-u64 p,q,r,s,x,E,M,U,X,Z,ca,da;
-u16 t,u,v,w,C,D,I,K,L;
-u8 y,z,A,B,F,G,H,J,N,O,P,R,S,T,V,W,Y,ba,ea;
-u8 *Q,*fa;
-u32 aa;
-w4(m,0);
-z16(n);
-z32(o);
-memcpy(l,g,32);
-p=r8(b+88);
-if(p==0)q=0;
-else{
-r=p-1;
-w8(b+88,r);
-q=r;}
-s=r8(b+8);
-memcpy(i,l,32);
-if((e|(u32)s)>65535||(f>7||f!=i[28])){
-t=r2(l);
-u=r2(l+2);
-memcpy(k,l+4,16);
-v=t;
-w=u;
-x=q8(l+20);
-y=l[28];
-z=l[29];
-A=l[30];
-B=l[31];}
-else{
-C=r2(i);
-D=r2(i+2);
-E=q8(i+20);
-F=i[29];
-G=i[30];
-H=i[31];
-memcpy(j+4,l+4,16);
-x8(j+20,E);
-j[28]=f+1;
-j[29]=F;
-j[30]=G;
-j[31]=H;
-w2(j+4+((u64)f<<1),s);
-*(j+20+f)=h;
-if(f==0){
-memcpy(k,j+4,16);
-v=C;
-w=e;
-x=q8(j+20);
-y=j[28];
-z=j[29];
-A=j[30];
-B=j[31];}
-else{
-I=r2(i+4+(i64)((u64)(u8)(f-1)<<1));
-J=(I<65534)&(e==(u16)(0-usub16(65534,I)));
-K=J?C:r2(l);
-L=J?D:r2(l+2);
-memcpy(k,J?j+4:l+4,16);
-v=K;
-w=L;
-x=J?q8(j+20):q8(l+20);
-y=J?j[28]:l[28];
-z=J?j[29]:l[29];
-A=J?j[30]:l[30];
-B=J?j[31]:l[31];}}
-memcpy(n,k,16);
-M=r8(b+176);
-N=M>=d;
-if(N)O=0;
-else{
-P=*(c+M);
-if(P==76)goto L1;
-O=P;}
-Q=c+(i64)M;
-R=usub64(d,M)<2;
-if(!(d<M||R)){
-if(*Q==82){
-S=Q[1];
-if(N|(S==65))goto L2;
-T=S;
-goto L3;}}
-if(N)goto L2;
-switch(*Q){
-case 65:case 70:goto L1;
-case 80:case 82:if(R)goto L2;
-T=Q[1];
-break;
-default:goto L2;
-}
-L3:switch(T){
-case 70:case 65:goto L1;
-default:break;}
-L2:if(O==69){
-if(M==18446744073709551615u){
-x4(a,0);
-goto L4;}
-U=M+1;
-if(U<d){
-if(*(c+U)==69){
-if(q!=0)w8(b+88,q-1);
-w8(b+176,M+2);
-if(f==255){
-x4(a,0);
-goto L4;}
-V=f+1;
-if(V<A){
-x4(a,0);
-goto L4;}
-w2(o,v);
-w2(o+2,w);
-memcpy(o+4,n,16);
-x8(o+20,x);
-o[28]=y;
-o[29]=1;
-o[30]=A;
-o[31]=V-A;
-close_list_148(m,b,c,d,o);
-*a=*m;
-a[1]=m[1];
-a[2]=m[2];
-a[3]=m[3];
-goto L4;}}
-*a=1;
-a[1]=3;
-a[2]=0;
-a[3]=0;
-goto L4;}
-if(r8(b+32)-s<2){
-W=make_ready_8e3(b,2,128);
-if(!(W&1)){
-Y=0;
-goto L5;}
-X=r8(b+8);}
-else X=s;
-*(rp(b)+X)=44;
-*(rp(b)+(i64)X+1)=32;
-Z=X+2;
-w8(b+8,Z);
-if(f==255)Y=0;
-else{
-aa=Z;
-ba=f+1;
-ca=r8(b+88);
-if(r8(b+112)>ca)da=ca;
-else{
-ea=make_ready_9a1(b+80);
-if(!(ea&1)){
-Y=0;
-goto L5;}
-da=r8(b+88);}
-fa=rp(b+80)+da*44;
-*fa=28;
-fa[1]=0;
-x2(fa+2,0);
-x4(fa+4,aa);
-fa[8]=ba;
-fa[9]=0;
-x2(fa+10,v);
-x2(fa+12,w);
-memcpy(fa+14,n,16);
-x8(fa+30,x);
-fa[38]=y;
-fa[39]=z;
-fa[40]=A;
-fa[41]=B;
-x2(fa+42,0);
-w8(b+88,da+1);
-Y=1;}
-L5:*a=Y;
-a[1]=0;
-a[2]=0;
-a[3]=0;
-goto L4;
-L1:*a=1;
-a[1]=3;
-a[2]=0;
-a[3]=0;
 L4:return;
 }
 
@@ -106767,6 +106725,322 @@ a[3]=p;}
 L1:return;
 }
 
+/* cpp_direct::direct::Direct::element_ended */
+static void element_ended_20b(u8* a,u8* b,u8* c,u64 d,u32 e,u8 f,u8* g,u8 h)
+{
+u8 i[32],j[32],k[16],l[32],n[16],o[32];
+A16 u8 m[4];
+u64 p,q,r,s,x,E,M,U,X,Z,ca,da;
+u16 t,u,v,w,C,D,I,K,L;
+u8 y,z,A,B,F,G,H,J,N,O,P,R,S,T,V,W,Y,ba,ea;
+u8 *Q,*fa;
+u32 aa;
+w4(m,0);
+z16(n);
+z32(o);
+memcpy(l,g,32);
+p=r8(b+88);
+if(p==0)q=0;
+else{
+r=p-1;
+w8(b+88,r);
+q=r;}
+s=r8(b+8);
+memcpy(i,l,32);
+if((e|(u32)s)>65535||(f>7||f!=i[28])){
+t=r2(l);
+u=r2(l+2);
+memcpy(k,l+4,16);
+v=t;
+w=u;
+x=q8(l+20);
+y=l[28];
+z=l[29];
+A=l[30];
+B=l[31];}
+else{
+C=r2(i);
+D=r2(i+2);
+E=q8(i+20);
+F=i[29];
+G=i[30];
+H=i[31];
+memcpy(j+4,l+4,16);
+x8(j+20,E);
+j[28]=f+1;
+j[29]=F;
+j[30]=G;
+j[31]=H;
+w2(j+4+((u64)f<<1),s);
+*(j+20+f)=h;
+if(f==0){
+memcpy(k,j+4,16);
+v=C;
+w=e;
+x=q8(j+20);
+y=j[28];
+z=j[29];
+A=j[30];
+B=j[31];}
+else{
+I=r2(i+4+(i64)((u64)(u8)(f-1)<<1));
+J=(I<65534)&(e==(u16)(0-usub16(65534,I)));
+K=J?C:r2(l);
+L=J?D:r2(l+2);
+memcpy(k,J?j+4:l+4,16);
+v=K;
+w=L;
+x=J?q8(j+20):q8(l+20);
+y=J?j[28]:l[28];
+z=J?j[29]:l[29];
+A=J?j[30]:l[30];
+B=J?j[31]:l[31];}}
+memcpy(n,k,16);
+M=r8(b+176);
+N=M>=d;
+if(N)O=0;
+else{
+P=*(c+M);
+if(P==76)goto L1;
+O=P;}
+Q=c+(i64)M;
+R=usub64(d,M)<2;
+if(!(d<M||R)){
+if(*Q==82){
+S=Q[1];
+if(N|(S==65))goto L2;
+T=S;
+goto L3;}}
+if(N)goto L2;
+switch(*Q){
+case 65:case 70:goto L1;
+case 80:case 82:if(R)goto L2;
+T=Q[1];
+break;
+default:goto L2;
+}
+L3:switch(T){
+case 70:case 65:goto L1;
+default:break;}
+L2:if(O==69){
+if(M==18446744073709551615u){
+x4(a,0);
+goto L4;}
+U=M+1;
+if(U<d){
+if(*(c+U)==69){
+if(q!=0)w8(b+88,q-1);
+w8(b+176,M+2);
+if(f==255){
+x4(a,0);
+goto L4;}
+V=f+1;
+if(V<A){
+x4(a,0);
+goto L4;}
+w2(o,v);
+w2(o+2,w);
+memcpy(o+4,n,16);
+x8(o+20,x);
+o[28]=y;
+o[29]=1;
+o[30]=A;
+o[31]=V-A;
+close_list_3c2(m,b,c,d,o);
+*a=*m;
+a[1]=m[1];
+a[2]=m[2];
+a[3]=m[3];
+goto L4;}}
+*a=1;
+a[1]=3;
+a[2]=0;
+a[3]=0;
+goto L4;}
+if(r8(b+32)-s<2){
+W=make_ready_8e3(b,2,128);
+if(!(W&1)){
+Y=0;
+goto L5;}
+X=r8(b+8);}
+else X=s;
+*(rp(b)+X)=44;
+*(rp(b)+(i64)X+1)=32;
+Z=X+2;
+w8(b+8,Z);
+if(f==255)Y=0;
+else{
+aa=Z;
+ba=f+1;
+ca=r8(b+88);
+if(r8(b+112)>ca)da=ca;
+else{
+ea=make_ready_9a1(b+80);
+if(!(ea&1)){
+Y=0;
+goto L5;}
+da=r8(b+88);}
+fa=rp(b+80)+da*44;
+*fa=28;
+fa[1]=0;
+x2(fa+2,0);
+x4(fa+4,aa);
+fa[8]=ba;
+fa[9]=0;
+x2(fa+10,v);
+x2(fa+12,w);
+memcpy(fa+14,n,16);
+x8(fa+30,x);
+fa[38]=y;
+fa[39]=z;
+fa[40]=A;
+fa[41]=B;
+x2(fa+42,0);
+w8(b+88,da+1);
+Y=1;}
+L5:*a=Y;
+a[1]=0;
+a[2]=0;
+a[3]=0;
+goto L4;
+L1:*a=1;
+a[1]=3;
+a[2]=0;
+a[3]=0;
+L4:return;
+}
+
+/* cpp_direct::direct::Direct::close_list */
+static void close_list_3c2(u8* a,u8* b,u8* c,u64 d,u8* e)
+{
+u8 f[32];
+A16 u8 g[4];
+u64 h,i,k,l,m,y,z,I,J;
+u8 j,p,r,s,u,v,x,A,E,F,H,K,M,N,O;
+u8 *n,*B,*L;
+u32 o,q,w,C,D,G;
+u16 t;
+memcpy(f,e,32);
+w4(g,0);
+h=r8(b+8);
+if(r8(b+32)>h)i=h;
+else{
+j=make_ready_8e3(b,1,16);
+if(!(j&1)){
+x4(a,0);
+goto L1;}
+i=r8(b+8);}
+*(rp(b)+i)=2;
+k=i+1;
+w8(b+8,k);
+memcpy(b+140,f,32);
+l=r8(b+88);
+if(l==0)x4(a,0);
+else{
+m=l-1;
+w8(b+88,m);
+n=rp(b+80)+m*44;
+o=q4(n+4);
+p=n[8];
+q=q4(n+12);
+r=n[16];
+s=n[17];
+t=q2(n+18);
+u=n[21];
+v=n[23];
+switch(*n){
+case 4:w=k;
+x=p&1;
+y=r8(b+48);
+if(r8(b+72)>y)z=y;
+else{
+A=make_ready_17a(b+40);
+if(!(A&1)){
+x4(a,0);
+goto L1;}
+z=r8(b+48);}
+B=rp(b+40)+z*12;
+x4(B,o);
+x4(B+4,w);
+B[8]=0;
+B[9]=x;
+x2(B+10,0);
+w8(b+48,z+1);
+*g=1;
+g[1]=2;
+g[2]=0;
+g[3]=x;
+break;
+case 5:C=q4(n+8);
+x4(b+120,o);
+x4(b+124,C);
+x4(b+128,q);
+b[132]=r;
+b[133]=s;
+x2(b+134,t);
+b[136]=0;
+b[137]=u&1;
+b[138]=1;
+b[139]=v&1;
+*g=1;
+g[1]=5;
+g[2]=0;
+g[3]=0;
+break;
+case 6:D=q3(n+9);
+E=n[20];
+F=n[22];
+G=k;
+H=v&1;
+I=r8(b+48);
+if(r8(b+72)>I)J=I;
+else{
+K=make_ready_17a(b+40);
+if(!(K&1)){
+x4(a,0);
+goto L1;}
+J=r8(b+48);}
+L=rp(b+40)+J*12;
+x4(L,o);
+x4(L+4,G);
+L[8]=0;
+L[9]=H;
+x2(L+10,0);
+w8(b+48,J+1);
+w4(b+120,o);
+b[124]=p;
+x3(b+125,D);
+w4(b+128,q);
+b[132]=r;
+b[133]=s;
+w2(b+134,t);
+b[136]=E;
+b[137]=u;
+b[138]=F;
+b[139]=v;
+*g=1;
+g[1]=6;
+g[2]=0;
+g[3]=0;
+break;
+case 7:name_ended_a18(g,b,c,d,0,1,f,o);
+break;
+case 8:level_ended_5bf(g,b,c,d,n[1]&1);
+break;
+case 0:case 1:case 2:case 3:case 9:case 10:case 11:case 12:case 13:case 14:case 15:case 16:case 17:case 18:case 19:case 20:case 21:case 22:case 23:case 24:case 25:case 26:case 27:case 28:case 29:*g=0;
+break;
+default:NEVER;
+}
+M=g[1];
+N=g[2];
+O=g[3];
+*a=*g;
+a[1]=M;
+a[2]=N;
+a[3]=O;}
+L1:return;
+}
+
 /* cpp_direct::direct::Direct::parameter_at */
 static void parameter_at_257(u8* a,u8* b,u8* c,u64 d,u8 e,u8 f)
 {
@@ -107466,322 +107740,6 @@ a[1]=3;
 a[2]=0;
 a[3]=0;}
 L1:return;
-}
-
-/* cpp_direct::direct::Direct::close_list */
-static void close_list_3c2(u8* a,u8* b,u8* c,u64 d,u8* e)
-{
-u8 f[32];
-A16 u8 g[4];
-u64 h,i,k,l,m,y,z,I,J;
-u8 j,p,r,s,u,v,x,A,E,F,H,K,M,N,O;
-u8 *n,*B,*L;
-u32 o,q,w,C,D,G;
-u16 t;
-memcpy(f,e,32);
-w4(g,0);
-h=r8(b+8);
-if(r8(b+32)>h)i=h;
-else{
-j=make_ready_8e3(b,1,16);
-if(!(j&1)){
-x4(a,0);
-goto L1;}
-i=r8(b+8);}
-*(rp(b)+i)=2;
-k=i+1;
-w8(b+8,k);
-memcpy(b+140,f,32);
-l=r8(b+88);
-if(l==0)x4(a,0);
-else{
-m=l-1;
-w8(b+88,m);
-n=rp(b+80)+m*44;
-o=q4(n+4);
-p=n[8];
-q=q4(n+12);
-r=n[16];
-s=n[17];
-t=q2(n+18);
-u=n[21];
-v=n[23];
-switch(*n){
-case 4:w=k;
-x=p&1;
-y=r8(b+48);
-if(r8(b+72)>y)z=y;
-else{
-A=make_ready_17a(b+40);
-if(!(A&1)){
-x4(a,0);
-goto L1;}
-z=r8(b+48);}
-B=rp(b+40)+z*12;
-x4(B,o);
-x4(B+4,w);
-B[8]=0;
-B[9]=x;
-x2(B+10,0);
-w8(b+48,z+1);
-*g=1;
-g[1]=2;
-g[2]=0;
-g[3]=x;
-break;
-case 5:C=q4(n+8);
-x4(b+120,o);
-x4(b+124,C);
-x4(b+128,q);
-b[132]=r;
-b[133]=s;
-x2(b+134,t);
-b[136]=0;
-b[137]=u&1;
-b[138]=1;
-b[139]=v&1;
-*g=1;
-g[1]=5;
-g[2]=0;
-g[3]=0;
-break;
-case 6:D=q3(n+9);
-E=n[20];
-F=n[22];
-G=k;
-H=v&1;
-I=r8(b+48);
-if(r8(b+72)>I)J=I;
-else{
-K=make_ready_17a(b+40);
-if(!(K&1)){
-x4(a,0);
-goto L1;}
-J=r8(b+48);}
-L=rp(b+40)+J*12;
-x4(L,o);
-x4(L+4,G);
-L[8]=0;
-L[9]=H;
-x2(L+10,0);
-w8(b+48,J+1);
-w4(b+120,o);
-b[124]=p;
-x3(b+125,D);
-w4(b+128,q);
-b[132]=r;
-b[133]=s;
-w2(b+134,t);
-b[136]=E;
-b[137]=u;
-b[138]=F;
-b[139]=v;
-*g=1;
-g[1]=6;
-g[2]=0;
-g[3]=0;
-break;
-case 7:name_ended_a18(g,b,c,d,0,1,f,o);
-break;
-case 8:level_ended_5bf(g,b,c,d,n[1]&1);
-break;
-case 0:case 1:case 2:case 3:case 9:case 10:case 11:case 12:case 13:case 14:case 15:case 16:case 17:case 18:case 19:case 20:case 21:case 22:case 23:case 24:case 25:case 26:case 27:case 28:case 29:*g=0;
-break;
-default:NEVER;
-}
-M=g[1];
-N=g[2];
-O=g[3];
-*a=*g;
-a[1]=M;
-a[2]=N;
-a[3]=O;}
-L1:return;
-}
-
-/* cpp_direct::direct::Direct::element_ended */
-static void element_ended_20b(u8* a,u8* b,u8* c,u64 d,u32 e,u8 f,u8* g,u8 h)
-{
-u8 i[32],j[32],k[16],l[32],n[16],o[32];
-A16 u8 m[4];
-u64 p,q,r,s,x,E,M,U,X,Z,ca,da;
-u16 t,u,v,w,C,D,I,K,L;
-u8 y,z,A,B,F,G,H,J,N,O,P,R,S,T,V,W,Y,ba,ea;
-u8 *Q,*fa;
-u32 aa;
-w4(m,0);
-z16(n);
-z32(o);
-memcpy(l,g,32);
-p=r8(b+88);
-if(p==0)q=0;
-else{
-r=p-1;
-w8(b+88,r);
-q=r;}
-s=r8(b+8);
-memcpy(i,l,32);
-if((e|(u32)s)>65535||(f>7||f!=i[28])){
-t=r2(l);
-u=r2(l+2);
-memcpy(k,l+4,16);
-v=t;
-w=u;
-x=q8(l+20);
-y=l[28];
-z=l[29];
-A=l[30];
-B=l[31];}
-else{
-C=r2(i);
-D=r2(i+2);
-E=q8(i+20);
-F=i[29];
-G=i[30];
-H=i[31];
-memcpy(j+4,l+4,16);
-x8(j+20,E);
-j[28]=f+1;
-j[29]=F;
-j[30]=G;
-j[31]=H;
-w2(j+4+((u64)f<<1),s);
-*(j+20+f)=h;
-if(f==0){
-memcpy(k,j+4,16);
-v=C;
-w=e;
-x=q8(j+20);
-y=j[28];
-z=j[29];
-A=j[30];
-B=j[31];}
-else{
-I=r2(i+4+(i64)((u64)(u8)(f-1)<<1));
-J=(I<65534)&(e==(u16)(0-usub16(65534,I)));
-K=J?C:r2(l);
-L=J?D:r2(l+2);
-memcpy(k,J?j+4:l+4,16);
-v=K;
-w=L;
-x=J?q8(j+20):q8(l+20);
-y=J?j[28]:l[28];
-z=J?j[29]:l[29];
-A=J?j[30]:l[30];
-B=J?j[31]:l[31];}}
-memcpy(n,k,16);
-M=r8(b+176);
-N=M>=d;
-if(N)O=0;
-else{
-P=*(c+M);
-if(P==76)goto L1;
-O=P;}
-Q=c+(i64)M;
-R=usub64(d,M)<2;
-if(!(d<M||R)){
-if(*Q==82){
-S=Q[1];
-if(N|(S==65))goto L2;
-T=S;
-goto L3;}}
-if(N)goto L2;
-switch(*Q){
-case 65:case 70:goto L1;
-case 80:case 82:if(R)goto L2;
-T=Q[1];
-break;
-default:goto L2;
-}
-L3:switch(T){
-case 70:case 65:goto L1;
-default:break;}
-L2:if(O==69){
-if(M==18446744073709551615u){
-x4(a,0);
-goto L4;}
-U=M+1;
-if(U<d){
-if(*(c+U)==69){
-if(q!=0)w8(b+88,q-1);
-w8(b+176,M+2);
-if(f==255){
-x4(a,0);
-goto L4;}
-V=f+1;
-if(V<A){
-x4(a,0);
-goto L4;}
-w2(o,v);
-w2(o+2,w);
-memcpy(o+4,n,16);
-x8(o+20,x);
-o[28]=y;
-o[29]=1;
-o[30]=A;
-o[31]=V-A;
-close_list_3c2(m,b,c,d,o);
-*a=*m;
-a[1]=m[1];
-a[2]=m[2];
-a[3]=m[3];
-goto L4;}}
-*a=1;
-a[1]=3;
-a[2]=0;
-a[3]=0;
-goto L4;}
-if(r8(b+32)-s<2){
-W=make_ready_8e3(b,2,128);
-if(!(W&1)){
-Y=0;
-goto L5;}
-X=r8(b+8);}
-else X=s;
-*(rp(b)+X)=44;
-*(rp(b)+(i64)X+1)=32;
-Z=X+2;
-w8(b+8,Z);
-if(f==255)Y=0;
-else{
-aa=Z;
-ba=f+1;
-ca=r8(b+88);
-if(r8(b+112)>ca)da=ca;
-else{
-ea=make_ready_9a1(b+80);
-if(!(ea&1)){
-Y=0;
-goto L5;}
-da=r8(b+88);}
-fa=rp(b+80)+da*44;
-*fa=28;
-fa[1]=0;
-x2(fa+2,0);
-x4(fa+4,aa);
-fa[8]=ba;
-fa[9]=0;
-x2(fa+10,v);
-x2(fa+12,w);
-memcpy(fa+14,n,16);
-x8(fa+30,x);
-fa[38]=y;
-fa[39]=z;
-fa[40]=A;
-fa[41]=B;
-x2(fa+42,0);
-w8(b+88,da+1);
-Y=1;}
-L5:*a=Y;
-a[1]=0;
-a[2]=0;
-a[3]=0;
-goto L4;
-L1:*a=1;
-a[1]=3;
-a[2]=0;
-a[3]=0;
-L4:return;
 }
 
 /* cpp_direct::direct::Direct::empty_pack */
@@ -133235,1085 +133193,1272 @@ L2:return;
 /* sym_link::driver::Driver::run */
 static void run_f2d(u8* a,u8* b,u8* c,u8* d,u64 e,u8* f,u64 g)
 {
-A16 u8 h[24],i[20],j[16],k[12],l[24],m[24],n[12],o[12],p[12],q[12],r[24],s[16],t[12],u[16],v[12],w[40],x[12],y[12],z[12],A[24],B[16],C[12],D[40],E[12],F[12],G[12],H[24];
-u8 I,S,U,W,Z,ea,fa,ha,ka,pa,xa,Ea,Fa,Ja,Ka,Pa,bb,mb,tb,ub,Fb,Mb,Rb,Tb,Wb,ac,gc,hc;
-u32 J,K,L,M,Q,R,T,da,ga,la,ma,Da,La,Ma,Na,Oa,Qa,Za,ab,kb,lb,nb,ob,pb,qb,rb,vb,yb,zb,Ib,Jb,Kb,Lb,Ob,fc;
-u8 *N,*ba,*ia,*na,*za,*Ha,*db,*xb,*Ab,*Pb,*cc;
-u64 O,V,X,Y,aa,ca,ja,qa,ra,sa,ta,wa,ya,Aa,Ba,Ga,Sa,Ta,Ua,Va,Wa,Ya,cb,eb,fb,hb,ib,jb,wb,Bb,Cb,Db,Eb,Gb,Hb,Nb,Qb,Sb,Ub,Vb,Xb,Yb,Zb,bc,dc,ec;
-u16 P,oa,ua,va,Ca,Ia,Ra,Xa,gb,sb;
+A16 u8 h[20],i[16],j[24],k[24],l[24],m[20],n[24],o[12],p[24],q[20],r[12],s[12],t[12],u[24],v[24],w[16],x[12],y[16],z[12],A[40],B[12],C[12],D[12],E[24],F[24],G[16],H[12],I[40],J[12],K[12],L[12],M[24],N[24],O[20];
+u8 P,Z,ba,fa,ia,ja,ma,sa,ta,va,ya,Da,Ja,Ma,Na,Oa,Ta,Va,db,eb,wb,zb,Ab,Bb,Gb,Ib,Vb,Xb,Yb,Zb,dc,ec,jc,mc,uc,vc,wc,Bc,Cc,Oc,Uc,Xc,Zc,ed,id,jd,md,od,xd,yd;
+u32 Q,R,S,T,X,Y,aa,ka,la,ra,ua,za,Aa,Pa,Qa,Sa,Ua,cb,jb,kb,lb,mb,nb,ob,Cb,Db,Fb,Hb,ac,bc,fc,gc,kc,lc,nc,oc,pc,qc,rc,sc,xc,yc,zc,Dc,Ec,Hc,Ic,Rc,Tc,kd,ld,nd,vd;
+u8 *U,*ea,*oa,*wa,*Ba,*Ka,*Xa,*gb,*xb,*Kb,*Ob,*Pb,*Sb,*Wb,*ic,*Gc,*Jc,*Vc,*dd,*qd;
+u64 V,ca,da,ga,ha,na,pa,qa,xa,Ea,Fa,Ga,Ha,La,Ra,Wa,Ya,Za,fb,qb,rb,sb,tb,ub,yb,Eb,Jb,Lb,Mb,Rb,Tb,Ub,hc,Fc,Kc,Lc,Mc,Nc,Pc,Qc,Sc,Wc,Yc,ad,bd,cd,fd,gd,hd,pd,sd,td,ud;
+u16 W,Ca,Ia,ab,bb,hb,ib,pb,vb,Nb,Qb,cc,tc,Ac;
 if(b[56]!=1){
-L=r4(b+48);
-M=r4(b+52);
-L1:N=rp(b);
-O=r8(b+8);
-if(O==0){
-if(L!=0){
-w4(b+48,L);
-w4(b+52,M);
-I=0;
-J=0;
-K=0;
+S=r4(b+48);
+T=r4(b+52);
+L1:U=rp(b);
+V=r8(b+8);
+if(V==0){
+if(S!=0){
+w4(b+48,S);
+w4(b+52,T);
+P=0;
+Q=0;
+R=0;
 goto L2;}
-P=q2(f);
-Q=q4(f+12);
-R=q4(f+4);
-w8(D,0);
-w4(D+8,R);
-w4(D+12,Q);
-z20(D+16);
-w2(D+36,P);
-w2(D+38,0);
-switch(Q){
+W=q2(f);
+X=q4(f+12);
+Y=q4(f+4);
+w8(I,0);
+w4(I+8,Y);
+w4(I+12,X);
+z20(I+16);
+w2(I+36,W);
+w2(I+38,0);
+switch(X){
 case 2:if(r2(f+16)!=65535)goto L3;
-memcpy(B,f+16,16);
-z12(C);
-token_by_f9d(C,c,d,D,b+24,B);
-if(*C!=0){
-S=C[4];
-T=r4(C+8);
+memcpy(G,f+16,16);
+z12(H);
+token_by_f9d(H,c,d,I,b+24,G);
+if(*H!=0){
+Z=H[4];
+aa=r4(H+8);
 goto L4;}
 break;
 case 1:break;
 default:goto L3;
 }
-if(P<270){
-U=*((u8*)t_4ada+(i64)P);
-V=r8(b+32);
-if(V<U){
-W=*((u8*)t_79dc+(i64)P);
-X=V;
-L5:z24(A);
-if(X<W)Y=X;
+if(W<270){
+ba=*((u8*)t_4ada+(i64)W);
+ca=r8(b+32);
+if(ca<ba){
+da=(u64)W<<1;
+ea=(u8*)t_558a+(i64)da;
+fa=*((u8*)t_79dc+(i64)W);
+ga=ca;
+L5:if(ga<fa)ha=ga;
 else{
-between_by_step_e69(A,c,d,D,b+24);
-if(*A!=0){
-S=r4(A+4);
-T=r4(A+8);
+z24(F);
+ia=steps_apart_3af(*ea,I+16,ga);
+if(ia){
+before_apart_b65(F,c,d,I,b+24);
+ja=*F;
+ka=r4(F+4);
+la=r4(F+8);}
+else{
+z24(E);
+before_by_step_fe5(E,c,d,I,b+24);
+ja=*E;
+ka=r4(E+4);
+la=r4(E+8);}
+if(ja!=0){
+Z=ka;
+aa=la;
 goto L4;}
-Y=r8(b+32);}
-if(r8(b+40)==Y){
-Z=grow_amortized_a22(b+24);
-if(!Z){
-S=4;
-T=0;
+ha=r8(b+32);}
+if(r8(b+40)==ha){
+ma=grow_amortized_a22(b+24);
+if(!ma){
+Z=4;
+aa=0;
 goto L4;}
-aa=r8(b+32);}
-else aa=Y;
-ba=rp(b+24)+(aa<<5);
-*ba=0;
-ba[1]=0;
-z28(ba+4);
-ca=aa+1;
-w8(b+32,ca);
-if(ca<U){
-X=ca;
-goto L5;}}
-z12(z);
-switch(*((u8*)t_558a+(i64)((u64)P<<1))){
-case 79:finish_substitution_b8a(z,c,d,D,b+24);
+na=r8(b+32);}
+else na=ha;
+oa=rp(b+24)+(na<<5);
+*oa=0;
+oa[1]=0;
+z28(oa+4);
+pa=na+1;
+w8(b+32,pa);
+if(pa<ba){
+ga=pa;
+goto L5;}
+z12(D);
+qa=da;}
+else{
+z12(D);
+qa=(u64)W<<1;}
+switch(*((u8*)t_558a+(i64)qa)){
+case 79:finish_substitution_b8a(D,c,d,I,b+24);
 goto L6;
-case 85:finish_lambda_240(z,c,d,e,D,b+24);
+case 85:finish_lambda_240(D,c,d,e,I,b+24);
 goto L6;
-case 246:finish_inheriting_8c9(z,c,d,e,D,b+24);
+case 246:finish_inheriting_8c9(D,c,d,e,I,b+24);
 goto L6;
-case 47:z12(y);
-finish_rule_396(y,c,d,e,D,b+24);
-da=r4(y+8);
-ea=y[4];
-fa=*y;
+case 47:z12(C);
+finish_rule_396(C,c,d,e,I,b+24);
+ra=r4(C+8);
+sa=C[4];
+ta=*C;
 goto L7;
-case 130:z12(x);
-finish_rule_396(x,c,d,e,D,b+24);
-da=r4(x+8);
-ea=x[4];
-fa=*x;
+case 130:z12(B);
+finish_rule_396(B,c,d,e,I,b+24);
+ra=r4(B+8);
+sa=B[4];
+ta=*B;
 goto L7;
 case 0:case 1:case 2:case 3:case 4:case 5:case 6:case 7:case 8:case 9:case 10:case 11:case 12:case 13:case 14:case 15:case 16:case 17:case 18:case 19:case 20:case 21:case 22:case 23:case 24:case 25:case 26:case 27:case 28:case 29:case 30:case 31:case 32:case 33:case 34:case 35:case 36:case 37:case 38:case 39:case 40:case 41:case 42:case 43:case 44:case 45:case 46:case 48:case 49:case 50:case 51:case 52:case 53:case 54:case 55:case 56:case 57:case 58:case 59:case 60:case 61:case 62:case 63:case 64:case 65:case 66:case 67:case 68:case 69:case 70:case 71:case 72:case 73:case 74:case 75:case 76:case 77:case 78:case 80:case 81:case 82:case 83:case 84:case 86:case 87:case 88:case 89:case 90:case 91:case 92:case 93:case 94:case 95:case 96:case 97:case 98:case 99:case 100:case 101:case 102:case 103:case 104:case 105:case 106:case 107:case 108:case 109:case 110:case 111:case 112:case 113:case 114:case 115:case 116:case 117:case 118:case 119:case 120:case 121:case 122:case 123:case 124:case 125:case 126:case 127:case 128:case 129:case 131:case 132:case 133:case 134:case 135:case 136:case 137:case 138:case 139:case 140:case 141:case 142:case 143:case 144:case 145:case 146:case 147:case 148:case 149:case 150:case 151:case 152:case 153:case 154:case 155:case 156:case 157:case 158:case 159:case 160:case 161:case 162:case 163:case 164:case 165:case 166:case 167:case 168:case 169:case 170:case 171:case 172:case 173:case 174:case 175:case 176:case 177:case 178:case 179:case 180:case 181:case 182:case 183:case 184:case 185:case 186:case 187:case 188:case 189:case 190:case 191:case 192:case 193:case 194:case 195:case 196:case 197:case 198:case 199:case 200:case 201:case 202:case 203:case 204:case 205:case 206:case 207:case 208:case 209:case 210:case 211:case 212:case 213:case 214:case 215:case 216:case 217:case 218:case 219:case 220:case 221:case 222:case 223:case 224:case 225:case 226:case 227:case 228:case 229:case 230:case 231:case 232:case 233:case 234:case 235:case 236:case 237:case 238:case 239:case 240:case 241:case 242:case 243:case 244:case 245:case 247:case 248:case 249:case 250:case 251:case 252:break;
 default:NEVER;
 }}
-else z12(z);
-finish_rule_396(z,c,d,e,D,b+24);
-L6:da=r4(z+8);
-ea=z[4];
-fa=*z;
-L7:if(fa==0){
-ga=Q;
+else z12(D);
+finish_rule_396(D,c,d,e,I,b+24);
+L6:ra=r4(D+8);
+sa=D[4];
+ta=*D;
+L7:if(ta==0){
+ua=X;
 goto L8;}
-S=ea;
-T=da;
+Z=sa;
+aa=ra;
 goto L4;
 L3:if(r8(b+16)==0){
-ha=grow_amortized_934(b);
-if(!ha){
-S=4;
-T=0;
+va=grow_amortized_934(b);
+if(!va){
+Z=4;
+aa=0;
 goto L4;}
-ia=rp(b);
-ja=r8(b+8);}
+wa=rp(b);
+xa=r8(b+8);}
 else{
-ia=N;
-ja=0;}
-memcpy(ia+ja*40,D,40);
-w8(b+8,ja+1);
-ga=1;
+wa=U;
+xa=0;}
+memcpy(wa+xa*40,I,40);
+w8(b+8,xa+1);
+ua=1;
 goto L8;
-L4:ka=S;
-la=T;
+L4:ya=Z;
+za=aa;
 goto L9;
-L8:ma=ga;
+L8:Aa=ua;
 goto L10;}
-na=N+(i64)(O*40);
-if(r4(na-28)!=L){
-Ha=f+((u64)L<<4);
-Ia=q2(Ha);
-Ja=Ha[2];
-Ka=Ha[3];
-La=q4(Ha+4);
-Ma=q4(Ha+8);
-Na=q4(Ha+12);
-if(Ia==65535){
-w2(s,65535);
-s[2]=Ja;
-s[3]=Ka;
-w4(s+4,La);
-w4(s+8,Ma);
-w4(s+12,Na);
-z12(t);
-token_by_f9d(t,c,d,na-40,b+24,s);
-if(*t==0){
-Oa=L+1;
+Ba=U+(i64)(V*40);
+if(r4(Ba-28)!=S){
+gb=f+((u64)S<<4);
+hb=q2(gb);
+ib=q2(gb+2);
+jb=q4(gb+4);
+kb=q4(gb+8);
+lb=q4(gb+12);
+if(hb==65535){
+w2(w,65535);
+w2(w+2,ib);
+w4(w+4,jb);
+w4(w+8,kb);
+w4(w+12,lb);
+z12(x);
+token_by_f9d(x,c,d,Ba-40,b+24,w);
+if(*x==0){
+mb=S+1;
 goto L11;}
-Pa=t[4];
-Qa=r4(t+8);}
+nb=x[4];
+ob=r4(x+8);}
 else{
-Ra=r2(na-4);
-Sa=r8(b+32);
-Ta=Sa-r8(na-40);
-if(Ra<270){
-if(*((u8*)t_607e+(i64)Ra)&1){
-Ua=usub64(*((u8*)t_4ada+(i64)Ra),(u64)Ja+1);
-if(Ta>=Ua)goto L12;
-Va=Sa;
-Wa=Ta;
-L13:z24(m);
-Xa=r2(na-4);
-if(Xa<270){
-if(Wa<*((u8*)t_79dc+(i64)Xa))goto L14;}
-else {
-if(Wa<5)goto L14;}
-between_by_step_e69(m,c,d,na-40,b+24);
-if(*m==0){
-Ya=r8(b+32);
-goto L15;}
-Za=r4(m+4);
-ab=r4(m+8);
-goto L16;
-L14:Ya=Va;
-L15:if(r8(b+40)==Ya){
-bb=grow_amortized_a22(b+24);
-if(!bb){
-Za=4;
-ab=0;
-goto L16;}
-cb=r8(b+32);}
-else cb=Ya;
-db=rp(b+24)+(cb<<5);
-*db=0;
-db[1]=0;
-z28(db+4);
-eb=cb+1;
-w8(b+32,eb);
-fb=eb-r8(na-40);
-if(fb<Ua){
-Va=eb;
-Wa=fb;
+pb=r2(Ba-4);
+qb=r8(b+32);
+rb=qb-r8(Ba-40);
+if(pb<270){
+if(*((u8*)t_607e+(i64)pb)&1){
+sb=usub64(*((u8*)t_4ada+(i64)pb),(u16)((ib&255)+1));
+if(rb<sb){
+tb=qb;
+ub=rb;
+L12:vb=r2(Ba-4);
+wb=vb<270;
+xb=(u8*)t_79dc+(i64)vb;
+if(wb){
+if(ub<*xb){
+yb=tb;
 goto L13;}
-gb=r2(na-4);
 z24(l);
-if(gb>=270){
-jb=fb;
+zb=*((u8*)t_558a+(i64)((u64)vb<<1));}
+else{
+if(ub<5){
+yb=tb;
+goto L13;}
+z24(l);
+zb=30;}
+memcpy(m,Ba-24,20);
+Ab=steps_apart_3af(zb,m,ub);
+if(Ab){
+before_apart_b65(l,c,d,Ba-40,b+24);
+Bb=*l;
+Cb=r4(l+4);
+Db=r4(l+8);}
+else{
+z24(k);
+if(wb)Eb=*xb;
+else Eb=5;
+if(ub<Eb){
+Fb=q4(Ba-24);
+Gb=0;
+Hb=q4(Ba-20);}
+else{
+before_by_step_fe5(k,c,d,Ba-40,b+24);
+Fb=r4(k+4);
+Gb=*k;
+Hb=r4(k+8);}
+Bb=Gb;
+Cb=Fb;
+Db=Hb;}
+if(Bb!=0){
+nb=Cb;
+ob=Db;
+goto L14;}
+yb=r8(b+32);
+L13:if(r8(b+40)==yb){
+Ib=grow_amortized_a22(b+24);
+if(!Ib){
+nb=4;
+ob=0;
+goto L14;}
+Jb=r8(b+32);}
+else Jb=yb;
+Kb=rp(b+24)+(Jb<<5);
+*Kb=0;
+Kb[1]=0;
+z28(Kb+4);
+Lb=Jb+1;
+w8(b+32,Lb);
+Mb=Lb-r8(Ba-40);
+if(Mb<sb){
+tb=Lb;
+ub=Mb;
+goto L12;}
+Nb=r2(Ba-4);
+Ob=(u8*)t_79dc+(i64)Nb;
+if(Nb>=270){
+Sb=Ob;
+Tb=Mb;
+goto L15;}
+Pb=Ob;
+Qb=Nb;
+Rb=Mb;}
+else{
+Pb=(u8*)t_79dc+(i64)pb;
+Qb=pb;
+Rb=rb;}}
+else{
+Pb=(u8*)t_79dc+(i64)pb;
+Qb=pb;
+Rb=rb;}
+if(Rb<*Pb)goto L16;
+z24(p);
+Ub=Rb;
+Vb=1;
+Wb=Pb;
+Xb=*((u8*)t_558a+(i64)((u64)Qb<<1));
 goto L17;}
-hb=gb;
-ib=fb;
-goto L18;}
-L12:z24(l);
-hb=Ra;
-ib=Ta;
-L18:if(ib<*((u8*)t_79dc+(i64)hb))goto L19;
-goto L20;}
-z24(l);
-jb=Ta;
-L17:if(jb<5)goto L19;
-L20:between_by_step_e69(l,c,d,na-40,b+24);
-kb=r4(l+4);
-lb=r4(l+8);
-mb=*l;
-memcpy(n,l+12,12);
-if(mb==0){
-nb=lb;
-ob=kb;
-goto L21;}
-Za=kb;
-ab=lb;
-goto L16;
-L19:memcpy(l+4,na-24,20);
-pb=r4(l+8);
-qb=r4(l+4);
-memcpy(n,na-16,12);
-nb=pb;
-ob=qb;
-L21:w4(i,ob);
-w4(i+4,nb);
-memcpy(i+8,n,12);
-w2(j,Ia);
-j[2]=Ja;
-j[3]=Ka;
-w4(j+4,La);
-w4(j+8,Ma);
-w4(j+12,Na);
-z24(h);
+Sb=(u8*)t_79dc+(i64)pb;
+Tb=rb;
+L15:if(Tb<5)goto L16;
+z24(p);
+Ub=Tb;
+Vb=0;
+Wb=Sb;
+Xb=30;
+L17:memcpy(q,Ba-24,20);
+Yb=steps_apart_3af(Xb,q,Ub);
+if(Yb){
+before_apart_b65(p,c,d,Ba-40,b+24);
+Zb=*p;
+ac=r4(p+12);
+bc=r4(p+16);
+cc=r2(p+20);
+dc=p[22];
+ec=p[23];
+fc=r4(p+4);
+gc=r4(p+8);}
+else{
+z24(n);
+z12(o);
+if(Vb)hc=*Wb;
+else hc=5;
+if(Ub<hc){
+ic=Ba-16;
+jc=0;
+kc=q4(Ba-20);
+lc=q4(Ba-24);}
+else{
+before_by_step_fe5(n,c,d,Ba-40,b+24);
+mc=*n;
+if(mc==0){
+nc=r4(n+4);
+oc=r4(n+8);
+memcpy(o,n+12,12);
+ic=o;
+jc=0;
+kc=oc;
+lc=nc;}
+else{
+ic=o;
+jc=mc;
+kc=r4(n+8);
+lc=n[4];}}
+memcpy(p+12,ic,12);
+Zb=jc;
+ac=r4(p+12);
+bc=r4(p+16);
+cc=r2(p+20);
+dc=p[22];
+ec=p[23];
+fc=lc;
+gc=kc;}
+if(Zb!=0){
+nb=fc;
+ob=gc;
+goto L14;}
+pc=fc;
+qc=gc;
+rc=ac;
+sc=bc;
+tc=cc;
+uc=dc;
+vc=ec;
+goto L18;
+L16:pc=q4(Ba-24);
+qc=q4(Ba-20);
+rc=q4(Ba-16);
+sc=q4(Ba-12);
+tc=q2(Ba-8);
+uc=Ba[-6];
+vc=Ba[-5];
+L18:z24(j);
 if(c[88]==0){
-rb=r4(i+8);
-sb=r2(i+16);
-tb=i[19];
-ub=c[96];
-vb=ub==1?q4(c+100):r4(i+12);
-if(Ia<270){
-if(!((u8)(*((u8*)t_558a+(i64)((u64)Ia<<1))-87)<254||La==0)){
-wb=usub64(Na,1);
-if(wb<g){
-xb=f+(i64)(wb<<4);
-yb=r4(xb+4);
-zb=r4(xb+8);
-if((zb>=yb)&(e>=zb)){
-Ab=d+(i64)yb;
-Bb=(u64)zb-yb;
-if(zb==yb)goto L22;
-Cb=0;
-Db=0;
-L23:if(Cb<0x199999999999999au){
-Eb=Cb*10;
-Fb=usub8(*(Ab+(i64)Db),48);
-if(Eb<=(Fb^18446744073709551615u)){
-Gb=Eb+Fb;
-Hb=Db+1;
-if(Bb!=Hb){
-Cb=Gb;
-Db=Hb;
+wc=c[96];
+xc=wc==1?q4(c+100):sc;
+if(hb<270){
+if(!((u8)(*((u8*)t_558a+(i64)((u64)hb<<1))-87)<254||jb==0)){
+Fc=usub64(lb,1);
+if(Fc<g){
+Gc=f+(i64)(Fc<<4);
+Hc=r4(Gc+4);
+Ic=r4(Gc+8);
+if((Ic>=Hc)&(e>=Ic)){
+Jc=d+(i64)Hc;
+Kc=(u64)Ic-Hc;
+if(Ic==Hc){
+yc=rc;
+zc=xc;
+Ac=tc;
+Bc=wc;
+Cc=vc;
+Dc=pc;
+Ec=qc;
+goto L19;}
+Lc=0;
+Mc=0;
+L20:if(Lc<0x199999999999999au){
+Nc=Lc*10;
+Oc=usub8(*(Jc+(i64)Mc),48);
+if(Nc<=(Oc^18446744073709551615u)){
+Pc=Nc+Oc;
+Qc=Mc+1;
+if(Kc!=Qc){
+Lc=Pc;
+Mc=Qc;
+goto L20;}
+if(Pc<0xfffffffffffffffeu){
+yc=rc;
+zc=xc;
+Ac=tc;
+Bc=wc;
+Cc=vc;
+Dc=pc;
+Ec=qc;
+goto L19;}}}}}
+nb=2;
+ob=usub32(jb,1);
+goto L14;}
+yc=rc;
+zc=xc;
+Ac=tc;
+Bc=wc;
+Cc=vc;
+Dc=pc;
+Ec=qc;}
+else{
+yc=rc;
+zc=xc;
+Ac=tc;
+Bc=wc;
+Cc=vc;
+Dc=pc;
+Ec=qc;}}
+else{
+w4(h,pc);
+w4(h+4,qc);
+w4(h+8,rc);
+w4(h+12,sc);
+w2(h+16,tc);
+h[18]=uc;
+h[19]=vc;
+w2(i,hb);
+w2(i+2,ib);
+w4(i+4,jb);
+w4(i+8,kb);
+w4(i+12,lb);
+begin_apart_c9a(j,c,d,e,f,g,h,i);
+Rc=r4(j+8);
+if(*j!=0){
+nb=j[4];
+ob=Rc;
+goto L14;}
+yc=r4(j+12);
+zc=r4(j+16);
+Ac=r2(j+20);
+Bc=j[22];
+Cc=j[23];
+Dc=r4(j+4);
+Ec=Rc;}
+L19:Sc=r8(b+32);
+Tc=S+1;
+w8(A,Sc);
+w4(A+8,jb);
+w4(A+12,lb);
+w4(A+16,Dc);
+w4(A+20,Ec);
+w4(A+24,yc);
+w4(A+28,zc);
+w2(A+32,Ac);
+A[34]=Bc;
+A[35]=Cc;
+w2(A+36,hb);
+w2(A+38,0);
+Uc=Ac;
+if(lb==S+2){
+Vc=f+((u64)Tc<<4);
+if(r2(Vc)==65535){
+memcpy(y,Vc,16);
+z12(z);
+token_by_f9d(z,c,d,A,b+24,y);
+if(*z==0)goto L21;
+nb=z[4];
+ob=r4(z+8);
+goto L14;}}
+if(lb!=Tc){
+Wc=r8(b+8);
+if(r8(b+16)==Wc){
+Xc=grow_amortized_934(b);
+if(!Xc){
+nb=4;
+ob=0;
+goto L14;}
+Yc=r8(b+8);}
+else Yc=Wc;
+memcpy(rp(b)+Yc*40,A,40);
+w8(b+8,Yc+1);
+mb=Tc;
+goto L11;}
+L21:if(hb<270){
+Zc=*((u8*)t_4ada+(i64)hb);
+ad=r8(b+32);
+bd=ad-Sc;
+if(bd<Zc){
+cd=(u64)hb<<1;
+dd=(u8*)t_558a+(i64)cd;
+ed=*((u8*)t_79dc+(i64)hb);
+fd=ad;
+gd=bd;
+L22:if(gd<ed)hd=fd;
+else{
+z24(v);
+id=steps_apart_3af(*dd,A+16,gd);
+if(id){
+before_apart_b65(v,c,d,A,b+24);
+jd=*v;
+kd=r4(v+4);
+ld=r4(v+8);}
+else{
+z24(u);
+before_by_step_fe5(u,c,d,A,b+24);
+jd=*u;
+kd=r4(u+4);
+ld=r4(u+8);}
+if(jd!=0){
+md=kd;
+nd=ld;
 goto L23;}
-if(Gb<0xfffffffffffffffeu)goto L22;}}}}
-Za=2;
-ab=usub32(La,1);
-goto L16;}}
-L22:w4(h+12,rb);
-w4(h+16,vb);
-w2(h+20,sb);
-h[22]=ub;
-h[23]=tb;
-memcpy(k,h+12,12);
-memcpy(n,k,12);
-Ib=ob;
-Jb=nb;}
+hd=r8(b+32);}
+if(r8(b+40)==hd){
+od=grow_amortized_a22(b+24);
+if(!od){
+md=4;
+nd=0;
+goto L23;}
+pd=r8(b+32);}
+else pd=hd;
+qd=rp(b+24)+(pd<<5);
+*qd=0;
+qd[1]=0;
+z28(qd+4);
+sd=pd+1;
+w8(b+32,sd);
+td=sd-Sc;
+if(td<Zc){
+fd=sd;
+gd=td;
+goto L22;}
+z12(t);
+ud=cd;}
 else{
-begin_apart_c9a(h,c,d,e,f,g,i,j);
-Kb=r4(h+4);
-Lb=r4(h+8);
-Mb=*h==0;
-memcpy(k,h+12,12);
-memcpy(n,k,12);
-if(!Mb){
-Za=Kb;
-ab=Lb;
-goto L16;}
-Ib=Kb;
-Jb=Lb;}
-memcpy(w+24,n,12);
-Nb=r8(b+32);
-Ob=L+1;
-w8(w,Nb);
-w4(w+8,La);
-w4(w+12,Na);
-w4(w+16,Ib);
-w4(w+20,Jb);
-w2(w+36,Ia);
-w2(w+38,0);
-if(Na==L+2){
-Pb=f+((u64)Ob<<4);
-if(r2(Pb)==65535){
-memcpy(u,Pb,16);
-z12(v);
-token_by_f9d(v,c,d,w,b+24,u);
-if(*v==0)goto L24;
-Pa=v[4];
-Qa=r4(v+8);
-goto L25;}}
-if(Na!=Ob){
-Qb=r8(b+8);
-if(r8(b+16)==Qb){
-Rb=grow_amortized_934(b);
-if(!Rb){
-Pa=4;
-Qa=0;
-goto L25;}
-Sb=r8(b+8);}
-else Sb=Qb;
-memcpy(rp(b)+Sb*40,w,40);
-w8(b+8,Sb+1);
-Oa=Ob;
-goto L11;}
-L24:if(Ia<270){
-Tb=*((u8*)t_4ada+(i64)Ia);
-Ub=r8(b+32);
-Vb=Ub-Nb;
-if(Vb<Tb){
-Wb=*((u8*)t_79dc+(i64)Ia);
-Xb=Ub;
-Yb=Vb;
-L26:z24(r);
-if(Yb<Wb)Zb=Xb;
-else{
-between_by_step_e69(r,c,d,w,b+24);
-if(*r!=0){
-Pa=r4(r+4);
-Qa=r4(r+8);
-goto L25;}
-Zb=r8(b+32);}
-if(r8(b+40)==Zb){
-ac=grow_amortized_a22(b+24);
-if(!ac){
-Pa=4;
-Qa=0;
-goto L25;}
-bc=r8(b+32);}
-else bc=Zb;
-cc=rp(b+24)+(bc<<5);
-*cc=0;
-cc[1]=0;
-z28(cc+4);
-dc=bc+1;
-w8(b+32,dc);
-ec=dc-Nb;
-if(ec<Tb){
-Xb=dc;
-Yb=ec;
-goto L26;}}
-z12(q);
-switch(*((u8*)t_558a+(i64)((u64)Ia<<1))){
-case 79:finish_substitution_b8a(q,c,d,w,b+24);
-goto L27;
-case 85:finish_lambda_240(q,c,d,e,w,b+24);
-goto L27;
-case 246:finish_inheriting_8c9(q,c,d,e,w,b+24);
-goto L27;
-case 47:z12(p);
-if(w[32]==3)finish_passed_over_5f8(p,c,w,b+24);
-else finish_rule_396(p,c,d,e,w,b+24);
-fc=r4(p+8);
-gc=p[4];
-hc=*p;
-goto L28;
-case 130:z12(o);
-if(w[32]==2)finish_unseen_87d(o,c,d,e,w,b+24);
-else finish_rule_396(o,c,d,e,w,b+24);
-fc=r4(o+8);
-gc=o[4];
-hc=*o;
-goto L28;
-case 0:case 1:case 2:case 3:case 4:case 5:case 6:case 7:case 8:case 9:case 10:case 11:case 12:case 13:case 14:case 15:case 16:case 17:case 18:case 19:case 20:case 21:case 22:case 23:case 24:case 25:case 26:case 27:case 28:case 29:case 30:case 31:case 32:case 33:case 34:case 35:case 36:case 37:case 38:case 39:case 40:case 41:case 42:case 43:case 44:case 45:case 46:case 48:case 49:case 50:case 51:case 52:case 53:case 54:case 55:case 56:case 57:case 58:case 59:case 60:case 61:case 62:case 63:case 64:case 65:case 66:case 67:case 68:case 69:case 70:case 71:case 72:case 73:case 74:case 75:case 76:case 77:case 78:case 80:case 81:case 82:case 83:case 84:case 86:case 87:case 88:case 89:case 90:case 91:case 92:case 93:case 94:case 95:case 96:case 97:case 98:case 99:case 100:case 101:case 102:case 103:case 104:case 105:case 106:case 107:case 108:case 109:case 110:case 111:case 112:case 113:case 114:case 115:case 116:case 117:case 118:case 119:case 120:case 121:case 122:case 123:case 124:case 125:case 126:case 127:case 128:case 129:case 131:case 132:case 133:case 134:case 135:case 136:case 137:case 138:case 139:case 140:case 141:case 142:case 143:case 144:case 145:case 146:case 147:case 148:case 149:case 150:case 151:case 152:case 153:case 154:case 155:case 156:case 157:case 158:case 159:case 160:case 161:case 162:case 163:case 164:case 165:case 166:case 167:case 168:case 169:case 170:case 171:case 172:case 173:case 174:case 175:case 176:case 177:case 178:case 179:case 180:case 181:case 182:case 183:case 184:case 185:case 186:case 187:case 188:case 189:case 190:case 191:case 192:case 193:case 194:case 195:case 196:case 197:case 198:case 199:case 200:case 201:case 202:case 203:case 204:case 205:case 206:case 207:case 208:case 209:case 210:case 211:case 212:case 213:case 214:case 215:case 216:case 217:case 218:case 219:case 220:case 221:case 222:case 223:case 224:case 225:case 226:case 227:case 228:case 229:case 230:case 231:case 232:case 233:case 234:case 235:case 236:case 237:case 238:case 239:case 240:case 241:case 242:case 243:case 244:case 245:case 247:case 248:case 249:case 250:case 251:case 252:break;
-default:NEVER;
-}}
-else z12(q);
-finish_rule_396(q,c,d,e,w,b+24);
-L27:fc=r4(q+8);
-gc=q[4];
-hc=*q;
-L28:if(hc==0){
-Oa=Na;
-goto L11;}
-Pa=gc;
-Qa=fc;
+z12(t);
+ud=(u64)hb<<1;}
+switch(*((u8*)t_558a+(i64)ud)){
+case 79:finish_substitution_b8a(t,c,d,A,b+24);
+goto L24;
+case 85:finish_lambda_240(t,c,d,e,A,b+24);
+goto L24;
+case 246:finish_inheriting_8c9(t,c,d,e,A,b+24);
+goto L24;
+case 47:z12(s);
+if(Uc==3)finish_passed_over_5f8(s,c,A,b+24);
+else finish_rule_396(s,c,d,e,A,b+24);
+vd=r4(s+8);
+xd=s[4];
+yd=*s;
 goto L25;
-L16:Pa=Za;
-Qa=ab;}
-L25:ka=Pa;
-la=Qa;
-goto L9;
-L11:ma=Oa;
-goto L10;}
-oa=r2(na-4);
-if(oa<270){
-pa=*((u8*)t_4ada+(i64)oa);
-qa=r8(b+32);
-ra=qa-r8(na-40);
-if(ra>=pa){
-z12(G);
-ua=oa;
-goto L29;}
-sa=qa;
-ta=ra;
-L30:z24(H);
-va=r2(na-4);
-if(va<270){
-if(ta<*((u8*)t_79dc+(i64)va))goto L31;}
-else {
-if(ta<5)goto L31;}
-between_by_step_e69(H,c,d,na-40,b+24);
-if(*H==0){
-wa=r8(b+32);
-goto L32;}
-ka=r4(H+4);
-la=r4(H+8);
-goto L9;
-L31:wa=sa;
-L32:if(r8(b+40)==wa){
-xa=grow_amortized_a22(b+24);
-if(!xa){
-ka=4;
-la=0;
-goto L9;}
-ya=r8(b+32);}
-else ya=wa;
-za=rp(b+24)+(ya<<5);
-*za=0;
-za[1]=0;
-z28(za+4);
-Aa=ya+1;
-w8(b+32,Aa);
-Ba=Aa-r8(na-40);
-if(Ba<pa){
-sa=Aa;
-ta=Ba;
-goto L30;}
-Ca=r2(na-4);
-z12(G);
-if(Ca>=270)goto L33;
-ua=Ca;
-L29:switch(*((u8*)t_558a+(i64)((u64)ua<<1))){
-case 79:finish_substitution_b8a(G,c,d,na-40,b+24);
-goto L34;
-case 85:finish_lambda_240(G,c,d,e,na-40,b+24);
-goto L34;
-case 246:finish_inheriting_8c9(G,c,d,e,na-40,b+24);
-goto L34;
-case 47:z12(F);
-if(na[-8]==3)finish_passed_over_5f8(F,c,na-40,b+24);
-else finish_rule_396(F,c,d,e,na-40,b+24);
-Da=r4(F+8);
-Ea=F[4];
-Fa=*F;
-goto L35;
-case 130:z12(E);
-if(na[-8]==2)finish_unseen_87d(E,c,d,e,na-40,b+24);
-else finish_rule_396(E,c,d,e,na-40,b+24);
-Da=r4(E+8);
-Ea=E[4];
-Fa=*E;
-goto L35;
+case 130:z12(r);
+if(Uc==2)finish_unseen_87d(r,c,d,e,A,b+24);
+else finish_rule_396(r,c,d,e,A,b+24);
+vd=r4(r+8);
+xd=r[4];
+yd=*r;
+goto L25;
 case 0:case 1:case 2:case 3:case 4:case 5:case 6:case 7:case 8:case 9:case 10:case 11:case 12:case 13:case 14:case 15:case 16:case 17:case 18:case 19:case 20:case 21:case 22:case 23:case 24:case 25:case 26:case 27:case 28:case 29:case 30:case 31:case 32:case 33:case 34:case 35:case 36:case 37:case 38:case 39:case 40:case 41:case 42:case 43:case 44:case 45:case 46:case 48:case 49:case 50:case 51:case 52:case 53:case 54:case 55:case 56:case 57:case 58:case 59:case 60:case 61:case 62:case 63:case 64:case 65:case 66:case 67:case 68:case 69:case 70:case 71:case 72:case 73:case 74:case 75:case 76:case 77:case 78:case 80:case 81:case 82:case 83:case 84:case 86:case 87:case 88:case 89:case 90:case 91:case 92:case 93:case 94:case 95:case 96:case 97:case 98:case 99:case 100:case 101:case 102:case 103:case 104:case 105:case 106:case 107:case 108:case 109:case 110:case 111:case 112:case 113:case 114:case 115:case 116:case 117:case 118:case 119:case 120:case 121:case 122:case 123:case 124:case 125:case 126:case 127:case 128:case 129:case 131:case 132:case 133:case 134:case 135:case 136:case 137:case 138:case 139:case 140:case 141:case 142:case 143:case 144:case 145:case 146:case 147:case 148:case 149:case 150:case 151:case 152:case 153:case 154:case 155:case 156:case 157:case 158:case 159:case 160:case 161:case 162:case 163:case 164:case 165:case 166:case 167:case 168:case 169:case 170:case 171:case 172:case 173:case 174:case 175:case 176:case 177:case 178:case 179:case 180:case 181:case 182:case 183:case 184:case 185:case 186:case 187:case 188:case 189:case 190:case 191:case 192:case 193:case 194:case 195:case 196:case 197:case 198:case 199:case 200:case 201:case 202:case 203:case 204:case 205:case 206:case 207:case 208:case 209:case 210:case 211:case 212:case 213:case 214:case 215:case 216:case 217:case 218:case 219:case 220:case 221:case 222:case 223:case 224:case 225:case 226:case 227:case 228:case 229:case 230:case 231:case 232:case 233:case 234:case 235:case 236:case 237:case 238:case 239:case 240:case 241:case 242:case 243:case 244:case 245:case 247:case 248:case 249:case 250:case 251:case 252:break;
 default:NEVER;
 }}
-else z12(G);
-L33:finish_rule_396(G,c,d,e,na-40,b+24);
-L34:Da=r4(G+8);
-Ea=G[4];
-Fa=*G;
-L35:if(Fa==0){
-Ga=r8(b+8);
-if(Ga==0){
-ma=L;
+else z12(t);
+finish_rule_396(t,c,d,e,A,b+24);
+L24:vd=r4(t+8);
+xd=t[4];
+yd=*t;
+L25:if(yd==0){
+mb=lb;
+goto L11;}
+md=xd;
+nd=vd;
+L23:nb=md;
+ob=nd;}
+L14:ya=nb;
+za=ob;
+goto L9;
+L11:Aa=mb;
 goto L10;}
-w8(b+8,Ga-1);
-ma=L;
+Ca=r2(Ba-4);
+if(Ca<270){
+Da=*((u8*)t_4ada+(i64)Ca);
+Ea=r8(b+32);
+Fa=Ea-r8(Ba-40);
+if(Fa<Da){
+Ga=Ea;
+Ha=Fa;
+L26:Ia=r2(Ba-4);
+Ja=Ia<270;
+Ka=(u8*)t_79dc+(i64)Ia;
+if(Ja){
+if(Ha<*Ka){
+La=Ga;
+goto L27;}
+z24(N);
+Ma=*((u8*)t_558a+(i64)((u64)Ia<<1));}
+else{
+if(Ha<5){
+La=Ga;
+goto L27;}
+z24(N);
+Ma=30;}
+memcpy(O,Ba-24,20);
+Na=steps_apart_3af(Ma,O,Ha);
+if(Na){
+before_apart_b65(N,c,d,Ba-40,b+24);
+Oa=*N;
+Pa=r4(N+4);
+Qa=r4(N+8);}
+else{
+z24(M);
+if(Ja)Ra=*Ka;
+else Ra=5;
+if(Ha<Ra){
+Sa=q4(Ba-24);
+Ta=0;
+Ua=q4(Ba-20);}
+else{
+before_by_step_fe5(M,c,d,Ba-40,b+24);
+Sa=r4(M+4);
+Ta=*M;
+Ua=r4(M+8);}
+Oa=Ta;
+Pa=Sa;
+Qa=Ua;}
+if(Oa!=0){
+ya=Pa;
+za=Qa;
+goto L9;}
+La=r8(b+32);
+L27:if(r8(b+40)==La){
+Va=grow_amortized_a22(b+24);
+if(!Va){
+ya=4;
+za=0;
+goto L9;}
+Wa=r8(b+32);}
+else Wa=La;
+Xa=rp(b+24)+(Wa<<5);
+*Xa=0;
+Xa[1]=0;
+z28(Xa+4);
+Ya=Wa+1;
+w8(b+32,Ya);
+Za=Ya-r8(Ba-40);
+if(Za<Da){
+Ga=Ya;
+Ha=Za;
+goto L26;}
+ab=r2(Ba-4);
+z12(L);
+if(ab>=270)goto L28;
+bb=ab;}
+else{
+z12(L);
+bb=Ca;}
+switch(*((u8*)t_558a+(i64)((u64)bb<<1))){
+case 79:finish_substitution_b8a(L,c,d,Ba-40,b+24);
+goto L29;
+case 85:finish_lambda_240(L,c,d,e,Ba-40,b+24);
+goto L29;
+case 246:finish_inheriting_8c9(L,c,d,e,Ba-40,b+24);
+goto L29;
+case 47:z12(K);
+if(Ba[-8]==3)finish_passed_over_5f8(K,c,Ba-40,b+24);
+else finish_rule_396(K,c,d,e,Ba-40,b+24);
+cb=r4(K+8);
+db=K[4];
+eb=*K;
+goto L30;
+case 130:z12(J);
+if(Ba[-8]==2)finish_unseen_87d(J,c,d,e,Ba-40,b+24);
+else finish_rule_396(J,c,d,e,Ba-40,b+24);
+cb=r4(J+8);
+db=J[4];
+eb=*J;
+goto L30;
+case 0:case 1:case 2:case 3:case 4:case 5:case 6:case 7:case 8:case 9:case 10:case 11:case 12:case 13:case 14:case 15:case 16:case 17:case 18:case 19:case 20:case 21:case 22:case 23:case 24:case 25:case 26:case 27:case 28:case 29:case 30:case 31:case 32:case 33:case 34:case 35:case 36:case 37:case 38:case 39:case 40:case 41:case 42:case 43:case 44:case 45:case 46:case 48:case 49:case 50:case 51:case 52:case 53:case 54:case 55:case 56:case 57:case 58:case 59:case 60:case 61:case 62:case 63:case 64:case 65:case 66:case 67:case 68:case 69:case 70:case 71:case 72:case 73:case 74:case 75:case 76:case 77:case 78:case 80:case 81:case 82:case 83:case 84:case 86:case 87:case 88:case 89:case 90:case 91:case 92:case 93:case 94:case 95:case 96:case 97:case 98:case 99:case 100:case 101:case 102:case 103:case 104:case 105:case 106:case 107:case 108:case 109:case 110:case 111:case 112:case 113:case 114:case 115:case 116:case 117:case 118:case 119:case 120:case 121:case 122:case 123:case 124:case 125:case 126:case 127:case 128:case 129:case 131:case 132:case 133:case 134:case 135:case 136:case 137:case 138:case 139:case 140:case 141:case 142:case 143:case 144:case 145:case 146:case 147:case 148:case 149:case 150:case 151:case 152:case 153:case 154:case 155:case 156:case 157:case 158:case 159:case 160:case 161:case 162:case 163:case 164:case 165:case 166:case 167:case 168:case 169:case 170:case 171:case 172:case 173:case 174:case 175:case 176:case 177:case 178:case 179:case 180:case 181:case 182:case 183:case 184:case 185:case 186:case 187:case 188:case 189:case 190:case 191:case 192:case 193:case 194:case 195:case 196:case 197:case 198:case 199:case 200:case 201:case 202:case 203:case 204:case 205:case 206:case 207:case 208:case 209:case 210:case 211:case 212:case 213:case 214:case 215:case 216:case 217:case 218:case 219:case 220:case 221:case 222:case 223:case 224:case 225:case 226:case 227:case 228:case 229:case 230:case 231:case 232:case 233:case 234:case 235:case 236:case 237:case 238:case 239:case 240:case 241:case 242:case 243:case 244:case 245:case 247:case 248:case 249:case 250:case 251:case 252:break;
+default:NEVER;
+}}
+else z12(L);
+L28:finish_rule_396(L,c,d,e,Ba-40,b+24);
+L29:cb=r4(L+8);
+db=L[4];
+eb=*L;
+L30:if(eb==0){
+fb=r8(b+8);
+if(fb==0){
+Aa=S;
 goto L10;}
-ka=Ea;
-la=Da;
-L9:w4(b+52,M+1);
+w8(b+8,fb-1);
+Aa=S;
+goto L10;}
+ya=db;
+za=cb;
+L9:w4(b+52,T+1);
 w4(b+56,1);
-w4(b+60,ka);
-w4(b+64,la);
-I=1;
-J=ka;
-K=la;
+w4(b+60,ya);
+w4(b+64,za);
+P=1;
+Q=ya;
+R=za;
 goto L2;
-L10:L=ma;
-M=M+1;
+L10:S=Aa;
+T=T+1;
 goto L1;}
-I=1;
-J=b[60];
-K=q4(b+64);
-L2:*a=I;
-x4(a+4,J);
-x4(a+8,K);
+P=1;
+Q=b[60];
+R=q4(b+64);
+L2:*a=P;
+x4(a+4,Q);
+x4(a+8,R);
 return;
 }
 
 /* sym_link::threads::token_by */
 static void token_by_f9d(u8* a,u8* b,u8* c,u8* d,u8* e,u8* f)
 {
-A16 u8 g[24],h[24];
-u32 i,j,t,u;
-u16 k,q,A;
-u64 l,m,n,o,p,r,w,y,z,B,C,D,E,F,G,H,J;
-u8 s,v,I;
-u8 *x,*K;
-i=q4(f+4);
-j=q4(f+8);
-k=r2(d+36);
-l=r8(e+8);
-m=l-r8(d);
-if(k<270){
-if(*((u8*)t_607e+(i64)k)&1){
-n=usub64(*((u8*)t_4ada+(i64)k),(u64)f[2]+1);
-if(m<n){
-o=l;
-p=m;
-L1:z24(h);
-q=r2(d+36);
-if(q<270){
-if(p<*((u8*)t_79dc+(i64)q))goto L2;}
-else {
-if(p<5)goto L2;}
-between_by_step_e69(h,b,c,d,e);
-if(*h==0){
-r=r8(e+8);
+A16 u8 g[24],h[24],i[20],j[24],k[24],l[20];
+u32 m,n,B,C,E,G,I,K,L,ca,da,ga,ha,ja;
+u16 o,u,R,U;
+u64 p,q,r,s,t,x,D,N,P,Q,V,Y,ea,ka,ma;
+u8 v,y,z,A,F,H,J,M,X,Z,aa,ba,fa,ia,la;
+u8 *w,*O,*S,*T,*W,*na;
+m=q4(f+4);
+n=q4(f+8);
+o=r2(d+36);
+p=r8(e+8);
+q=p-r8(d);
+if(o<270){
+if(*((u8*)t_607e+(i64)o)&1){
+r=usub64(*((u8*)t_4ada+(i64)o),(u64)f[2]+1);
+if(q<r){
+s=p;
+t=q;
+L1:u=r2(d+36);
+v=u<270;
+w=(u8*)t_79dc+(i64)u;
+if(v){
+if(t<*w){
+x=s;
+goto L2;}
+z24(h);
+y=*((u8*)t_558a+(i64)((u64)u<<1));}
+else{
+if(t<5){
+x=s;
+goto L2;}
+z24(h);
+y=30;}
+memcpy(i,d+16,20);
+z=steps_apart_3af(y,i,t);
+if(z){
+before_apart_b65(h,b,c,d,e);
+A=*h;
+B=r4(h+4);
+C=r4(h+8);}
+else{
+z24(g);
+if(v)D=*w;
+else D=5;
+if(t<D){
+E=q4(d+16);
+F=0;
+G=q4(d+20);}
+else{
+before_by_step_fe5(g,b,c,d,e);
+H=*g;
+I=r4(g+4);
+E=H==0?I:I&255;
+F=H;
+G=r4(g+8);}
+A=F;
+B=E;
+C=G;}
+if(A!=0){
+J=1;
+K=B&255;
+L=C;
 goto L3;}
-s=1;
-t=r4(h+4)&255;
-u=r4(h+8);
-goto L4;
-L2:r=o;
-L3:if(r8(e+16)==r){
-v=grow_amortized_a22(e);
-if(!v){
-s=1;
-t=4;
-u=0;
-goto L4;}
-w=r8(e+8);}
-else w=r;
-x=rp(e)+(w<<5);
-*x=0;
-x[1]=0;
-z28(x+4);
-y=w+1;
-w8(e+8,y);
-z=y-r8(d);
-if(z<n){
-o=y;
-p=z;
+x=r8(e+8);
+L2:if(r8(e+16)==x){
+M=grow_amortized_a22(e);
+if(!M){
+J=1;
+K=4;
+L=0;
+goto L3;}
+N=r8(e+8);}
+else N=x;
+O=rp(e)+(N<<5);
+*O=0;
+O[1]=0;
+z28(O+4);
+P=N+1;
+w8(e+8,P);
+Q=P-r8(d);
+if(Q<r){
+s=P;
+t=Q;
 goto L1;}
-A=r2(d+36);
-z24(g);
-if(A>=270){
-E=y;
-F=z;
+R=r2(d+36);
+S=(u8*)t_79dc+(i64)R;
+if(R>=270){
+if(Q<5)goto L4;
+z24(k);
+W=S;
+X=0;
+Y=Q;
+Z=30;
 goto L5;}
-B=y;
-C=A;
-D=z;
-goto L6;}}
-z24(g);
-B=l;
-C=k;
-D=m;
-L6:if(D>=*((u8*)t_79dc+(i64)C))goto L7;
-G=B;
-goto L8;}
-z24(g);
-E=l;
-F=m;
-L5:if(F<5){
-G=E;
-goto L8;}
-L7:between_by_step_e69(g,b,c,d,e);
-if(*g==0){
-H=r8(e+8);
-goto L9;}
-s=1;
-t=r4(g+4)&255;
-u=r4(g+8);
-goto L4;
-L8:H=G;
-L9:if(r8(e+16)==H){
-I=grow_amortized_a22(e);
-if(!I){
-s=1;
-t=4;
-u=0;
-goto L4;}
-J=r8(e+8);}
-else J=H;
-K=rp(e)+(J<<5);
-*K=2;
-K[1]=0;
-x4(K+4,i);
-x4(K+8,j);
-z20(K+12);
-w8(e+8,J+1);
-s=0;
-t=0;
-u=0;
-L4:*a=s;
-x4(a+4,t);
-x4(a+8,u);
+T=S;
+U=R;
+V=Q;}
+else{
+T=(u8*)t_79dc+(i64)o;
+U=o;
+V=q;}}
+else{
+T=(u8*)t_79dc+(i64)o;
+U=o;
+V=q;}
+if(V<*T)goto L4;
+z24(k);
+W=T;
+X=1;
+Y=V;
+Z=*((u8*)t_558a+(i64)((u64)U<<1));}
+else{
+if(q<5)goto L4;
+z24(k);
+W=(u8*)t_79dc+(i64)o;
+X=0;
+Y=q;
+Z=30;}
+L5:memcpy(l,d+16,20);
+aa=steps_apart_3af(Z,l,Y);
+if(aa){
+before_apart_b65(k,b,c,d,e);
+ba=*k;
+ca=r4(k+4);
+da=r4(k+8);}
+else{
+z24(j);
+if(X)ea=*W;
+else ea=5;
+if(Y<ea){
+fa=0;
+ga=q4(d+20);
+ha=q4(d+16);}
+else{
+before_by_step_fe5(j,b,c,d,e);
+ia=*j;
+ja=r4(j+4);
+fa=ia;
+ga=r4(j+8);
+ha=ia==0?ja:ja&255;}
+ba=fa;
+ca=ha;
+da=ga;}
+if(ba!=0){
+J=1;
+K=ca&255;
+L=da;
+goto L3;}
+L4:ka=r8(e+8);
+if(r8(e+16)==ka){
+la=grow_amortized_a22(e);
+if(!la){
+J=1;
+K=4;
+L=0;
+goto L3;}
+ma=r8(e+8);}
+else ma=ka;
+na=rp(e)+(ma<<5);
+*na=2;
+na[1]=0;
+x4(na+4,m);
+x4(na+8,n);
+z20(na+12);
+w8(e+8,ma+1);
+J=0;
+K=0;
+L=0;
+L3:*a=J;
+x4(a+4,K);
+x4(a+8,L);
 return;
 }
 
-/* cpp_link::rescoping::Rescoping::between_by_step */
-static void between_by_step_e69(u8* a,u8* b,u8* c,u8* d,u8* e)
+/* cpp_link::wide_language::steps_apart */
+static u8 steps_apart_3af(u8 a,u8* b,u64 c)
 {
-A16 u8 f[20],g[20],h[12],i[24],j[24];
-u64 k,l,m,r,s,L,ha,ia,ja,ka,ma,na,za,Ca,Ka,Ua,Xa,Za,ab,gb,ib,lb;
-u16 n,A,I,K,ca,sa,ub;
-u8 o,p,z,J,M,S,aa,ba,la,qa,ra,wa,ya,Aa,Ba,Fa,Ha,Ja,Pa,Ra,Ta,Va,Wa,cb,eb,fb,jb,kb,sb,tb;
-u8 *q,*t,*C,*D,*ga,*Da,*Ea,*Ga,*Ia,*La,*Ya,*bb,*db,*hb,*mb;
-u32 u,v,w,x,y,B,E,F,G,H,N,O,P,Q,R,U,V,W,X,Y,Z,da,ea,fa,oa,pa,ta,ua,va,xa,Ma,Na,Oa,Qa,Sa,nb,ob,pb,qb,rb;
-s_8_32 T;
-k=r8(e+8);
-l=r8(d);
-m=k-l;
-n=r2(d+36);
-if(n<270){
-o=*((u8*)t_558a+(i64)((u64)n<<1));
-p=d[32];
-switch(o){
-case 105:if((m==1)&((u8)(p-1)<3))goto L1;
+u8 d,e;
+d=b[16];
+switch(a){
+case 105:e=(c==1)&((u8)(d-1)<3);
 break;
-case 63:if((m==1)&((u8)(p-1)<3))goto L1;
+case 63:e=(c==1)&((u8)(d-1)<3);
 break;
-case 172:if((m==1)&((u8)(p-1)<3))goto L1;
+case 172:e=(c==1)&((u8)(d-1)<3);
 break;
-case 219:if((m==1)&((u8)(p-1)<3))goto L1;
+case 219:e=(c==1)&((u8)(d-1)<3);
 break;
-case 248:if(m==1)goto L1;
+case 248:e=c==1;
 break;
-case 161:if(k==l)goto L1;
+case 161:e=c==0;
 break;
-case 155:if(m==1)goto L1;
+case 155:e=c==1;
 break;
-case 227:if(k==l)goto L1;
+case 227:e=c==0;
 break;
-case 239:if(k==l)goto L1;
+case 239:e=c==0;
 break;
-case 130:if((m==1)&((u8)(p-1)<3))goto L1;
+case 130:e=(c==1)&((u8)(d-1)<3);
 break;
-case 47:if((m<2)&((u8)(p-1)<3))goto L1;
+case 47:e=(c<2)&((u8)(d-1)<3);
 break;
-case 0:case 1:case 2:case 3:case 4:case 5:case 6:case 7:case 8:case 9:case 10:case 11:case 12:case 13:case 14:case 15:case 16:case 17:case 18:case 19:case 20:case 21:case 22:case 23:case 24:case 25:case 26:case 27:case 28:case 29:case 30:case 31:case 32:case 33:case 34:case 35:case 36:case 37:case 38:case 39:case 40:case 41:case 42:case 43:case 44:case 45:case 46:case 48:case 49:case 50:case 51:case 52:case 53:case 54:case 55:case 56:case 57:case 58:case 59:case 60:case 61:case 62:case 64:case 65:case 66:case 67:case 68:case 69:case 70:case 71:case 72:case 73:case 74:case 75:case 76:case 77:case 78:case 79:case 80:case 81:case 82:case 83:case 84:case 85:case 86:case 87:case 88:case 89:case 90:case 91:case 92:case 93:case 94:case 95:case 96:case 97:case 98:case 99:case 100:case 101:case 102:case 103:case 104:case 106:case 107:case 108:case 109:case 110:case 111:case 112:case 113:case 114:case 115:case 116:case 117:case 118:case 119:case 120:case 121:case 122:case 123:case 124:case 125:case 126:case 127:case 128:case 129:case 131:case 132:case 133:case 134:case 135:case 136:case 137:case 138:case 139:case 140:case 141:case 142:case 143:case 144:case 145:case 146:case 147:case 148:case 149:case 150:case 151:case 152:case 153:case 154:case 156:case 157:case 158:case 159:case 160:case 162:case 163:case 164:case 165:case 166:case 167:case 168:case 169:case 170:case 171:case 173:case 174:case 175:case 176:case 177:case 178:case 179:case 180:case 181:case 182:case 183:case 184:case 185:case 186:case 187:case 188:case 189:case 190:case 191:case 192:case 193:case 194:case 195:case 196:case 197:case 198:case 199:case 200:case 201:case 202:case 203:case 204:case 205:case 206:case 207:case 208:case 209:case 210:case 211:case 212:case 213:case 214:case 215:case 216:case 217:case 218:case 220:case 221:case 222:case 223:case 224:case 225:case 226:case 228:case 229:case 230:case 231:case 232:case 233:case 234:case 235:case 236:case 237:case 238:case 240:case 241:case 242:case 243:case 244:case 245:case 246:case 247:case 249:case 250:case 251:case 252:break;
+case 0:case 1:case 2:case 3:case 4:case 5:case 6:case 7:case 8:case 9:case 10:case 11:case 12:case 13:case 14:case 15:case 16:case 17:case 18:case 19:case 20:case 21:case 22:case 23:case 24:case 25:case 26:case 27:case 28:case 29:case 30:case 31:case 32:case 33:case 34:case 35:case 36:case 37:case 38:case 39:case 40:case 41:case 42:case 43:case 44:case 45:case 46:case 48:case 49:case 50:case 51:case 52:case 53:case 54:case 55:case 56:case 57:case 58:case 59:case 60:case 61:case 62:case 64:case 65:case 66:case 67:case 68:case 69:case 70:case 71:case 72:case 73:case 74:case 75:case 76:case 77:case 78:case 79:case 80:case 81:case 82:case 83:case 84:case 85:case 86:case 87:case 88:case 89:case 90:case 91:case 92:case 93:case 94:case 95:case 96:case 97:case 98:case 99:case 100:case 101:case 102:case 103:case 104:case 106:case 107:case 108:case 109:case 110:case 111:case 112:case 113:case 114:case 115:case 116:case 117:case 118:case 119:case 120:case 121:case 122:case 123:case 124:case 125:case 126:case 127:case 128:case 129:case 131:case 132:case 133:case 134:case 135:case 136:case 137:case 138:case 139:case 140:case 141:case 142:case 143:case 144:case 145:case 146:case 147:case 148:case 149:case 150:case 151:case 152:case 153:case 154:case 156:case 157:case 158:case 159:case 160:case 162:case 163:case 164:case 165:case 166:case 167:case 168:case 169:case 170:case 171:case 173:case 174:case 175:case 176:case 177:case 178:case 179:case 180:case 181:case 182:case 183:case 184:case 185:case 186:case 187:case 188:case 189:case 190:case 191:case 192:case 193:case 194:case 195:case 196:case 197:case 198:case 199:case 200:case 201:case 202:case 203:case 204:case 205:case 206:case 207:case 208:case 209:case 210:case 211:case 212:case 213:case 214:case 215:case 216:case 217:case 218:case 220:case 221:case 222:case 223:case 224:case 225:case 226:case 228:case 229:case 230:case 231:case 232:case 233:case 234:case 235:case 236:case 237:case 238:case 240:case 241:case 242:case 243:case 244:case 245:case 246:case 247:case 249:case 250:case 251:case 252:e=0;
+break;
 default:NEVER;
 }
-z24(j);
-q=d+16;
-r=*((u8*)t_79dc+(i64)n);
-goto L2;
-L1:s=l<<5;
-t=rp(e)+(i64)s;
-u=r4(d+8);
-v=r4(d+16);
-w=r4(d+20);
-x=r4(d+24);
-y=r4(d+28);
-z=d[33];
-A=r2(d+34);
-w4(f,v);
-w4(f+4,w);
-w4(f+8,x);
-w4(f+12,y);
-f[16]=p;
-f[17]=z;
-w2(f+18,A);
+return e;
+}
+
+/* cpp_link::linked::Linked::before_apart */
+static void before_apart_b65(u8* a,u8* b,u8* c,u8* d,u8* e)
+{
+A16 u8 f[20],g[20],h[12],i[24];
+u64 j,k,l,n,I,da,ea,fa,ga,ia,ja,va,ya,Ia,eb,ib,kb,nb;
+u8 *m,*z,*A,*ca,*Ba,*Ca,*Ea,*Ga,*Ja,*ab,*bb,*jb,*ob;
+u16 o,x,F,H,U,oa;
+u8 p,v,w,G,J,P,V,W,ha,ma,na,sa,ua,wa,xa,Da,Fa,Ha,Na,Oa,Qa,Sa,Ua,Va,Wa,cb,db,fb,gb,hb,lb,mb;
+u32 q,r,s,t,u,y,B,C,D,E,K,L,M,N,O,R,S,T,X,Y,Z,aa,ba,ka,la,pa,qa,ra,ta,za,Aa,Ka,La,Ma,Pa,Ra,Ta,Xa,Ya,Za;
+s_8_32 Q;
+j=r8(e+8);
+k=r8(d);
+l=k<<5;
+m=rp(e)+(i64)l;
+n=j-k;
+o=r2(d+36);
+if(o<270)p=*((u8*)t_558a+(i64)((u64)o<<1));
+else p=30;
+q=r4(d+8);
+r=r4(d+16);
+s=r4(d+20);
+t=r4(d+24);
+u=r4(d+28);
+v=d[32];
+w=d[33];
+x=r2(d+34);
+w4(f,r);
+w4(f+4,s);
+w4(f+8,t);
+w4(f+12,u);
+f[16]=v;
+f[17]=w;
+w2(f+18,x);
 z20(g);
-switch(o){
-case 248:B=z==0?0:x;
-C=rp(b);
-D=C+(i64)((u64)B*48);
-if(*(C+(i64)((u64)(*D==47?q4(D+4):B)*48))==12){
-E=u;
-goto L3;}
-F=B;
-G=0;
-H=256;
-I=14;
-goto L4;
-case 161:J=0;
-K=A;
-L=q8(f+8);
-M=p;
-N=v;
-O=w;
+switch(p){
+case 248:y=w==0?0:t;
+z=rp(b);
+A=z+(i64)((u64)y*48);
+if(*(z+(i64)((u64)(*A==47?q4(A+4):y)*48))==12){
+B=q;
+goto L1;}
+C=y;
+D=0;
+E=256;
+F=14;
+goto L2;
+case 161:G=0;
+H=x;
+I=q8(f+8);
+J=v;
+K=r;
+L=s;
 break;
-case 227:J=z;
-K=A;
-L=q8(f+8);
-M=p;
-N=v;
-O=w;
+case 227:G=w;
+H=x;
+I=q8(f+8);
+J=v;
+K=r;
+L=s;
 break;
-case 239:J=0;
-K=A;
-L=q8(f+8);
-M=2;
-N=v;
-O=w;
+case 239:G=0;
+H=x;
+I=q8(f+8);
+J=2;
+K=r;
+L=s;
 break;
-case 130:J=z;
-K=A;
-L=q8(f+8);
-M=p==2?3:p;
-N=v;
-O=w;
+case 130:G=w;
+H=x;
+I=q8(f+8);
+J=v==2?3:v;
+K=r;
+L=s;
 break;
-case 47:in_encoding_apart_919(g,b,u,f,t,m);
-J=g[17];
-K=r2(g+18);
-L=q8(g+8);
-M=g[16];
-N=r4(g);
-O=r4(g+4);
+case 47:in_encoding_apart_919(g,b,q,f,m,n);
+G=g[17];
+H=r2(g+18);
+I=q8(g+8);
+J=g[16];
+K=r4(g);
+L=r4(g+4);
 break;
-case 155:P=usub32(u,1);
-if(k==l){
-Q=0;
-R=0;}
+case 155:M=usub32(q,1);
+if(j==k){
+N=0;
+O=0;}
 else{
-S=*t==2;
-Q=S?q4(t+4):0;
-R=S?q4(t+8):0;}
-T=named_module_027(b,c,Q,R);
-if(T.f0!=1){
-E=P;
-goto L3;}
-U=T.f1;
-*t=5;
-t[1]=0;
-x4(t+4,U);
-t[8]=1;
-z23(t+9);
-V=0;
+P=*m==2;
+N=P?q4(m+4):0;
+O=P?q4(m+8):0;}
+Q=named_module_027(b,c,N,O);
+if(Q.f0!=1){
+B=M;
+goto L1;}
+R=Q.f1;
+*m=5;
+m[1]=0;
+x4(m+4,R);
+m[8]=1;
+z23(m+9);
+S=s;
+T=r;
+U=x;
+V=2;
 W=v;
-X=w;
-Y=U;
-Z=y;
-aa=p;
-ba=2;
-ca=A;
-goto L5;
-case 219:case 172:case 105:case 63:if(k==l)da=0;
+X=u;
+Y=R;
+goto L3;
+case 0:case 1:case 2:case 3:case 4:case 5:case 6:case 7:case 8:case 9:case 10:case 11:case 12:case 13:case 14:case 15:case 16:case 17:case 18:case 19:case 20:case 21:case 22:case 23:case 24:case 25:case 26:case 27:case 28:case 29:case 30:case 31:case 32:case 33:case 34:case 35:case 36:case 37:case 38:case 39:case 40:case 41:case 42:case 43:case 44:case 45:case 46:case 48:case 49:case 50:case 51:case 52:case 53:case 54:case 55:case 56:case 57:case 58:case 59:case 60:case 61:case 62:case 63:case 64:case 65:case 66:case 67:case 68:case 69:case 70:case 71:case 72:case 73:case 74:case 75:case 76:case 77:case 78:case 79:case 80:case 81:case 82:case 83:case 84:case 85:case 86:case 87:case 88:case 89:case 90:case 91:case 92:case 93:case 94:case 95:case 96:case 97:case 98:case 99:case 100:case 101:case 102:case 103:case 104:case 105:case 106:case 107:case 108:case 109:case 110:case 111:case 112:case 113:case 114:case 115:case 116:case 117:case 118:case 119:case 120:case 121:case 122:case 123:case 124:case 125:case 126:case 127:case 128:case 129:case 131:case 132:case 133:case 134:case 135:case 136:case 137:case 138:case 139:case 140:case 141:case 142:case 143:case 144:case 145:case 146:case 147:case 148:case 149:case 150:case 151:case 152:case 153:case 154:case 156:case 157:case 158:case 159:case 160:case 162:case 163:case 164:case 165:case 166:case 167:case 168:case 169:case 170:case 171:case 172:case 173:case 174:case 175:case 176:case 177:case 178:case 179:case 180:case 181:case 182:case 183:case 184:case 185:case 186:case 187:case 188:case 189:case 190:case 191:case 192:case 193:case 194:case 195:case 196:case 197:case 198:case 199:case 200:case 201:case 202:case 203:case 204:case 205:case 206:case 207:case 208:case 209:case 210:case 211:case 212:case 213:case 214:case 215:case 216:case 217:case 218:case 219:case 220:case 221:case 222:case 223:case 224:case 225:case 226:case 228:case 229:case 230:case 231:case 232:case 233:case 234:case 235:case 236:case 237:case 238:case 240:case 241:case 242:case 243:case 244:case 245:case 246:case 247:case 249:case 250:case 251:case 252:if(j==k)Z=0;
 else{
-if(*t==2){
-ea=q4(t+8);
-fa=q4(t+4);
-ga=c+(i64)fa;
-ha=(u64)ea-fa;
-if(ea==fa){
-da=0;
-goto L6;}
-ia=0;
-ja=0;
-L7:if(ia<0x199999999999999au){
-ka=ia*10;
-la=usub8(*(ga+(i64)ja),48);
-if(ka>(la^18446744073709551615u))da=4294967295u;
+if(*m==2){
+aa=q4(m+8);
+ba=q4(m+4);
+ca=c+(i64)ba;
+da=(u64)aa-ba;
+if(aa==ba){
+Z=0;
+goto L4;}
+ea=0;
+fa=0;
+L5:if(ea<0x199999999999999au){
+ga=ea*10;
+ha=usub8(*(ca+(i64)fa),48);
+if(ga>(ha^18446744073709551615u))Z=4294967295u;
 else{
-ma=ka+la;
-na=ja+1;
-if(na!=ha){
-ia=ma;
-ja=na;
-goto L7;}
-da=ma==18446744073709551615u?4294967295u:(u32)umin64(ma+1,4294967295u);}}
-else da=4294967295u;}
-else da=0;}
-L6:F=da;
-G=3;
-H=n==236?0:65792;
-I=18;
-goto L4;
+ia=ga+ha;
+ja=fa+1;
+if(ja!=da){
+ea=ia;
+fa=ja;
+goto L5;}
+Z=ia==18446744073709551615u?4294967295u:(u32)umin64(ia+1,4294967295u);}}
+else Z=4294967295u;}
+else Z=0;}
+L4:C=Z;
+D=3;
+E=p==219?0:65792;
+F=18;
+goto L2;
 default:NEVER;
 }
 x4(b+96,b[96]);
-oa=L;
-pa=L>>32;
-qa=M;
-ra=J;
-sa=K;
-ta=N;
-ua=O;
-goto L8;
-L4:va=q4(b+100);
-wa=b[96];
-w2(i,I);
+ka=I;
+la=I>>32;
+ma=J;
+na=G;
+oa=H;
+pa=K;
+qa=L;
+goto L6;
+L2:ra=q4(b+100);
+sa=b[96];
+w2(i,F);
 w2(i+2,0);
-w4(i+4,F);
-w4(i+8,G);
+w4(i+4,C);
+w4(i+8,D);
 z12(i+12);
 z12(h);
 push_674(h,b,i);
-xa=r4(h+4);
-if(*h!=0){
-V=1;
-W=xa&255;
-X=r4(h+8);
-Y=0;
-Z=0;
-aa=0;
-ba=0;
-ca=0;
-goto L5;}
-ya=(H&256)==0;
-if(H>65535){
-za=r8(b+56);
-Aa=(u8)(p-1)<3;
-if(r8(b+64)==za){
-Ba=grow_amortized_a22(b+48);
-if(!Ba){
-V=1;
-W=4;
-X=0;
-Y=0;
-Z=0;
-aa=0;
-ba=0;
-ca=0;
-goto L5;}
-Ca=r8(b+56);}
-else Ca=za;
-Da=rp(b+48)+(Ca<<5);
-x4(Da,xa);
-x4(Da+4,w);
-x8(Da+8,za);
-x8(Da+16,za);
-Da[24]=Aa;
-z7(Da+25);
-w8(b+56,Ca+1);
+ta=r4(h+4);
+if(*h==0){
+ua=(E&256)==0;
+if(E>65535){
+va=r8(b+56);
+wa=(u8)(v-1)<3;
+if(r8(b+64)==va){
+xa=grow_amortized_a22(b+48);
+if(!xa){
+za=4;
+Aa=0;
+goto L7;}
+ya=r8(b+56);}
+else ya=va;
+Ba=rp(b+48)+(ya<<5);
+x4(Ba,ta);
+x4(Ba+4,s);
+x8(Ba+8,va);
+x8(Ba+16,va);
+Ba[24]=wa;
+z7(Ba+25);
+w8(b+56,ya+1);
 if(b[88]!=0){
-Ea=rp(b+48)+(i64)((za-r8(b+72))<<5);
+Ca=rp(b+48)+(i64)((va-r8(b+72))<<5);
+Da=Ca[24]&1;
+x8(Ca+8,va);
+Ca[24]=Da;
+z6(Ca+26);
+Ea=rp(b+48)+(i64)((va-r8(b+80))<<5);
 Fa=Ea[24]&1;
-x8(Ea+8,za);
+x8(Ea+16,va);
 Ea[24]=Fa;
-z6(Ea+26);
-Ga=rp(b+48)+(i64)((za-r8(b+80))<<5);
-Ha=Ga[24]&1;
-x8(Ga+16,za);
-Ga[24]=Ha;
-z6(Ga+26);}}
-x4(b+96,wa);
-x4(b+100,va);
-Ia=rp(e)+(i64)s;
-*Ia=5;
-Ia[1]=0;
-x4(Ia+4,xa);
-Ia[8]=1;
-z23(Ia+9);
-oa=ya?x:xa;
-pa=y;
-qa=p;
-ra=ya?z:2;
-sa=A;
-ta=v;
-ua=w;
-L8:Ja=d[33];
-switch(o){
-case 248:Ka=r8(d);
-if(r8(e+8)!=Ka){
-La=rp(e)+(i64)(Ka<<5);
-Ma=q4(La+4);
-switch(*La){
-case 5:case 7:case 8:case 9:Na=Ma;
+z6(Ea+26);}}
+x4(b+96,sa);
+x4(b+100,ra);
+Ga=rp(e)+(i64)l;
+*Ga=5;
+Ga[1]=0;
+x4(Ga+4,ta);
+Ga[8]=1;
+z23(Ga+9);
+ka=ua?t:ta;
+la=u;
+ma=v;
+na=ua?w:2;
+oa=x;
+pa=r;
+qa=s;
+goto L6;}
+za=ta&255;
+Aa=r4(h+8);
+L7:x4(a,1);
+x4(a+4,za);
+x4(a+8,Aa);
+z12(a+12);
+goto L8;
+L6:Ha=d[33];
+switch(p){
+case 248:Ia=r8(d);
+if(r8(e+8)!=Ia){
+Ja=rp(e)+(i64)(Ia<<5);
+Ka=q4(Ja+4);
+switch(*Ja){
+case 5:case 7:case 8:case 9:La=Ka;
 goto L9;
 case 0:case 1:case 2:case 3:case 4:case 6:break;
 default:NEVER;
 }}
-Na=0;
-L9:Oa=q4(d+20);
-Pa=d[32];
-if(Ja!=1){
-Ua=r8(b+56);
-Va=(u8)(Pa-1)<3;
-if(r8(b+64)==Ua){
-Wa=grow_amortized_a22(b+48);
-if(!Wa){
-V=1;
-W=4;
-X=0;
-Y=0;
-Z=0;
-aa=0;
-ba=0;
-ca=0;
-goto L5;}
-Xa=r8(b+56);}
-else Xa=Ua;
-Ya=rp(b+48)+(Xa<<5);
-x4(Ya,Na);
-x4(Ya+4,Oa);
-x8(Ya+8,Ua);
-x8(Ya+16,Ua);
-Ya[24]=Va;
-Za=Xa+1;
-z7(Ya+25);
-w8(b+56,Za);
-if(b[88]==0)ab=Za;
-else{
-bb=rp(b+48)+(i64)((Ua-r8(b+72))<<5);
-cb=bb[24]&1;
-x8(bb+8,Ua);
-bb[24]=cb;
-z6(bb+26);
-db=rp(b+48)+(i64)((Ua-r8(b+80))<<5);
-eb=db[24]&1;
-x8(db+16,Ua);
-db[24]=eb;
-z6(db+26);
-ab=r8(b+56);}
-if(r8(b+64)==ab){
-fb=grow_amortized_a22(b+48);
-if(!fb){
-V=1;
-W=4;
-X=0;
-Y=0;
-Z=0;
-aa=0;
-ba=0;
-ca=0;
-goto L5;}
-gb=r8(b+56);}
-else gb=ab;
-hb=rp(b+48)+(gb<<5);
-x4(hb,Na);
-x4(hb+4,Oa);
-x8(hb+8,ab);
-x8(hb+16,ab);
-hb[24]=Va;
-hb[25]=1;
-z6(hb+26);
-w8(b+56,gb+1);
-number_apart_74b(b+48,ab,1);
-V=0;
-W=ta;
-X=ua;
-Y=oa;
-Z=pa;
-aa=qa;
-ba=ra;
-ca=sa;
-goto L5;}
-Qa=Na;
-Ra=1;
-Sa=Oa;
-Ta=Pa;
+La=0;
+L9:Ma=q4(d+20);
+Na=d[32];
+if(Ha==1){
+Oa=Na-1;
+Pa=La;
+Qa=1;
+Ra=Ma;
+goto L10;}
+Sa=Na;
+Ta=Ma;
+Ua=0;
+Va=0;
+Wa=1;
+Xa=La;
+Ya=La;
 break;
-case 161:if(Ja!=1){
-V=0;
-W=ta;
-X=ua;
-Y=oa;
-Z=pa;
-aa=qa;
-ba=ra;
-ca=sa;
-goto L5;}
-Qa=q4(d+24);
-Ra=3;
-Sa=q4(d+20);
-Ta=d[32];
+case 161:if(Ha!=1){
+S=qa;
+T=pa;
+U=oa;
+V=na;
+W=ma;
+X=la;
+Y=ka;
+goto L3;}
+Za=q4(d+24);
+ab=rp(b);
+bb=ab+(i64)((u64)Za*48);
+switch(*(ab+(i64)((u64)(*bb==47?q4(bb+4):Za)*48))){
+case 11:case 12:cb=2;
+db=0;
 break;
-case 0:case 1:case 2:case 3:case 4:case 5:case 6:case 7:case 8:case 9:case 10:case 11:case 12:case 13:case 14:case 15:case 16:case 17:case 18:case 19:case 20:case 21:case 22:case 23:case 24:case 25:case 26:case 27:case 28:case 29:case 30:case 31:case 32:case 33:case 34:case 35:case 36:case 37:case 38:case 39:case 40:case 41:case 42:case 43:case 44:case 45:case 46:case 47:case 48:case 49:case 50:case 51:case 52:case 53:case 54:case 55:case 56:case 57:case 58:case 59:case 60:case 61:case 62:case 63:case 64:case 65:case 66:case 67:case 68:case 69:case 70:case 71:case 72:case 73:case 74:case 75:case 76:case 77:case 78:case 79:case 80:case 81:case 82:case 83:case 84:case 85:case 86:case 87:case 88:case 89:case 90:case 91:case 92:case 93:case 94:case 95:case 96:case 97:case 98:case 99:case 100:case 101:case 102:case 103:case 104:case 105:case 106:case 107:case 108:case 109:case 110:case 111:case 112:case 113:case 114:case 115:case 116:case 117:case 118:case 119:case 120:case 121:case 122:case 123:case 124:case 125:case 126:case 127:case 128:case 129:case 130:case 131:case 132:case 133:case 134:case 135:case 136:case 137:case 138:case 139:case 140:case 141:case 142:case 143:case 144:case 145:case 146:case 147:case 148:case 149:case 150:case 151:case 152:case 153:case 154:case 155:case 156:case 157:case 158:case 159:case 160:case 162:case 163:case 164:case 165:case 166:case 167:case 168:case 169:case 170:case 171:case 172:case 173:case 174:case 175:case 176:case 177:case 178:case 179:case 180:case 181:case 182:case 183:case 184:case 185:case 186:case 187:case 188:case 189:case 190:case 191:case 192:case 193:case 194:case 195:case 196:case 197:case 198:case 199:case 200:case 201:case 202:case 203:case 204:case 205:case 206:case 207:case 208:case 209:case 210:case 211:case 212:case 213:case 214:case 215:case 216:case 217:case 218:case 219:case 220:case 221:case 222:case 223:case 224:case 225:case 226:case 227:case 228:case 229:case 230:case 231:case 232:case 233:case 234:case 235:case 236:case 237:case 238:case 239:case 240:case 241:case 242:case 243:case 244:case 245:case 246:case 247:case 249:case 250:case 251:case 252:V=0;
-W=ta;
-X=ua;
-Y=oa;
-Z=pa;
-aa=qa;
-ba=ra;
-ca=sa;
-goto L5;
+case 9:case 10:cb=3;
+db=1;
+break;
+case 0:case 1:case 2:case 3:case 4:case 5:case 6:case 7:case 8:case 13:case 14:case 15:case 16:case 17:case 18:case 19:case 20:case 21:case 22:case 23:case 24:case 25:case 26:case 27:case 28:case 29:case 30:case 31:case 32:case 33:case 34:case 35:case 36:case 37:case 38:case 39:case 40:case 41:case 42:case 43:case 44:case 45:case 46:case 47:cb=4;
+db=1;
+break;
 default:NEVER;
 }
-ib=r8(b+56);
-jb=(u8)(Ta-1)<3;
-if(r8(b+64)==ib){
-kb=grow_amortized_a22(b+48);
-if(!kb){
-V=1;
-W=4;
-X=0;
-Y=0;
-Z=0;
-aa=0;
-ba=0;
-ca=0;
-goto L5;}
-lb=r8(b+56);}
-else lb=ib;
-mb=rp(b+48)+(lb<<5);
-x4(mb,Qa);
-x4(mb+4,Sa);
-x8(mb+8,ib);
-x8(mb+16,ib);
-mb[24]=jb;
-mb[25]=Ra;
-z6(mb+26);
-w8(b+56,lb+1);
-number_apart_74b(b+48,ib,Ra);
-V=0;
-W=ta;
-X=ua;
-Y=oa;
-Z=pa;
-aa=qa;
-ba=ra;
-ca=sa;
-goto L5;
-L3:V=1;
-W=1;
-X=E;
-Y=0;
-Z=0;
-aa=0;
-ba=0;
-ca=0;
-goto L5;}
-z24(j);
-q=d+16;
-r=5;
-L2:if(m<r){
-memcpy(j+4,q,20);
-nb=0;
-ob=r4(j+4);
-pb=r4(j+8);
-qb=r4(j+12);
-rb=r4(j+16);
-sb=j[20];
-tb=j[21];
-ub=r2(j+22);}
-else{
-before_by_step_fe5(j,b,c,d,e);
-nb=*j;
-ob=r4(j+4);
-pb=r4(j+8);
-qb=r4(j+12);
-rb=r4(j+16);
-sb=j[20];
-tb=j[21];
-ub=r2(j+22);}
-V=nb;
-W=ob;
-X=pb;
-Y=qb;
-Z=rb;
-aa=sb;
-ba=tb;
-ca=ub;
-L5:x4(a,V);
-x4(a+4,W);
-x4(a+8,X);
+Sa=d[32];
+Ta=q4(d+20);
+Ua=db;
+Va=cb;
+Wa=2;
+Xa=0;
+Ya=Za;
+break;
+case 0:case 1:case 2:case 3:case 4:case 5:case 6:case 7:case 8:case 9:case 10:case 11:case 12:case 13:case 14:case 15:case 16:case 17:case 18:case 19:case 20:case 21:case 22:case 23:case 24:case 25:case 26:case 27:case 28:case 29:case 30:case 31:case 32:case 33:case 34:case 35:case 36:case 37:case 38:case 39:case 40:case 41:case 42:case 43:case 44:case 45:case 46:case 47:case 48:case 49:case 50:case 51:case 52:case 53:case 54:case 55:case 56:case 57:case 58:case 59:case 60:case 61:case 62:case 63:case 64:case 65:case 66:case 67:case 68:case 69:case 70:case 71:case 72:case 73:case 74:case 75:case 76:case 77:case 78:case 79:case 80:case 81:case 82:case 83:case 84:case 85:case 86:case 87:case 88:case 89:case 90:case 91:case 92:case 93:case 94:case 95:case 96:case 97:case 98:case 99:case 100:case 101:case 102:case 103:case 104:case 105:case 106:case 107:case 108:case 109:case 110:case 111:case 112:case 113:case 114:case 115:case 116:case 117:case 118:case 119:case 120:case 121:case 122:case 123:case 124:case 125:case 126:case 127:case 128:case 129:case 130:case 131:case 132:case 133:case 134:case 135:case 136:case 137:case 138:case 139:case 140:case 141:case 142:case 143:case 144:case 145:case 146:case 147:case 148:case 149:case 150:case 151:case 152:case 153:case 154:case 155:case 156:case 157:case 158:case 159:case 160:case 162:case 163:case 164:case 165:case 166:case 167:case 168:case 169:case 170:case 171:case 172:case 173:case 174:case 175:case 176:case 177:case 178:case 179:case 180:case 181:case 182:case 183:case 184:case 185:case 186:case 187:case 188:case 189:case 190:case 191:case 192:case 193:case 194:case 195:case 196:case 197:case 198:case 199:case 200:case 201:case 202:case 203:case 204:case 205:case 206:case 207:case 208:case 209:case 210:case 211:case 212:case 213:case 214:case 215:case 216:case 217:case 218:case 219:case 220:case 221:case 222:case 223:case 224:case 225:case 226:case 227:case 228:case 229:case 230:case 231:case 232:case 233:case 234:case 235:case 236:case 237:case 238:case 239:case 240:case 241:case 242:case 243:case 244:case 245:case 246:case 247:case 249:case 250:case 251:case 252:S=qa;
+T=pa;
+U=oa;
+V=na;
+W=ma;
+X=la;
+Y=ka;
+goto L3;
+default:NEVER;
+}
+eb=r8(b+56);
+fb=Sa-1;
+gb=fb<3;
+if(r8(b+64)==eb){
+hb=grow_amortized_a22(b+48);
+if(!hb)goto L11;
+ib=r8(b+56);}
+else ib=eb;
+jb=rp(b+48)+(ib<<5);
+x4(jb,Ya);
+x4(jb+4,Ta);
+x8(jb+8,eb);
+x8(jb+16,eb);
+jb[24]=gb;
+jb[25]=Va;
+z6(jb+26);
+w8(b+56,ib+1);
+if(Va==0){
+if(b[88]==0)goto L12;}
+number_apart_74b(b+48,eb,Va);
+L12:if(Ua){
+S=qa;
+T=pa;
+U=oa;
+V=na;
+W=ma;
+X=la;
+Y=ka;
+goto L3;}
+Oa=fb;
+Pa=Xa;
+Qa=Wa;
+Ra=Ta;
+L10:kb=r8(b+56);
+lb=Oa<3;
+if(r8(b+64)==kb){
+mb=grow_amortized_a22(b+48);
+if(!mb)goto L11;
+nb=r8(b+56);}
+else nb=kb;
+ob=rp(b+48)+(nb<<5);
+x4(ob,Pa);
+x4(ob+4,Ra);
+x8(ob+8,kb);
+x8(ob+16,kb);
+ob[24]=lb;
+ob[25]=Qa;
+z6(ob+26);
+w8(b+56,nb+1);
+number_apart_74b(b+48,kb,Qa);
+S=qa;
+T=pa;
+U=oa;
+V=na;
+W=ma;
+X=la;
+Y=ka;
+goto L3;
+L11:x4(a,1);
+x4(a+4,4);
+z16(a+8);
+goto L8;
+L3:x4(a,0);
+x4(a+4,T);
+x4(a+8,S);
 x4(a+12,Y);
-x4(a+16,Z);
-a[20]=aa;
-a[21]=ba;
-x2(a+22,ca);
-return;
+x4(a+16,X);
+a[20]=W;
+a[21]=V;
+x2(a+22,U);
+goto L8;
+L1:x4(a,1);
+x4(a+4,1);
+x4(a+8,B);
+z12(a+12);
+L8:return;
 }
 
 /* cpp_link::linked::Linked::in_encoding_apart */
@@ -134528,7 +134673,7 @@ else{
 z40(k);
 ga=0;
 ha=k+8;}
-if(V==3){
+if(V==4){
 ba=0;
 ca=0;
 da=0;
@@ -134545,19 +134690,19 @@ ja=ia;}
 else ja=0;
 w8(l,ja);
 memcpy(l+8,h,32);
-ka=can_be_named_d49(b,s,l);
-la=b[104];
-switch(la){
-case 0:ma=can_be_named_d49(b,s,k);
-if(ma){
-if(!ka)goto L6;
+ka=can_be_named_d49(b,s,k);
+la=can_be_named_d49(b,s,l);
+ma=b[104];
+switch(ma){
+case 0:if(ka){
+if(!la)goto L6;
 ba=0;
 ca=0;
 da=0;
 ea=0;
 fa=3;
 goto L5;}
-if(!ka){
+if(!la){
 ba=0;
 ca=0;
 da=0;
@@ -134565,13 +134710,26 @@ ea=0;
 fa=3;
 goto L5;}
 break;
-case 1:goto L6;
-case 2:break;
+case 1:if(ka)goto L6;
+ba=0;
+ca=0;
+da=0;
+ea=0;
+fa=3;
+goto L5;
+case 2:if(!la){
+ba=0;
+ca=0;
+da=0;
+ea=0;
+fa=3;
+goto L5;}
+break;
 case 3:ba=0;
 ca=0;
 da=0;
 ea=0;
-fa=la;
+fa=ma;
 goto L5;
 default:NEVER;
 }
@@ -134807,7 +134965,7 @@ return;
 static u8 can_be_named_d49(u8* a,u32 b,u8* c)
 {
 u32 d;
-u8 e,f,g,j,k;
+u8 e,f,g,j;
 u8 *h,*i;
 if(*c==1){
 d=q4(c+8);
@@ -134816,20 +134974,21 @@ f=q4(a+112)==b;
 g=e==2&&f;
 h=rp(a);
 i=h+(i64)((u64)d*48);
-j=e==1&&f;
 switch(*(h+(i64)((u64)(*i==47?q4(i+4):d)*48))){
-case 14:k=j;
+case 0:j=0;
 break;
-case 26:k=!g;
+case 14:j=e==1&&f;
 break;
-case 27:k=!g;
+case 26:j=!g;
 break;
-case 0:case 1:case 2:case 3:case 4:case 5:case 6:case 7:case 8:case 9:case 10:case 11:case 12:case 13:case 15:case 16:case 17:case 18:case 19:case 20:case 21:case 22:case 23:case 24:case 25:case 28:case 29:case 30:case 31:case 32:case 33:case 34:case 35:case 36:case 37:case 38:case 39:case 40:case 41:case 42:case 43:case 44:case 45:case 46:case 47:k=1;
+case 27:j=!g;
+break;
+case 1:case 2:case 3:case 4:case 5:case 6:case 7:case 8:case 9:case 10:case 11:case 12:case 13:case 15:case 16:case 17:case 18:case 19:case 20:case 21:case 22:case 23:case 24:case 25:case 28:case 29:case 30:case 31:case 32:case 33:case 34:case 35:case 36:case 37:case 38:case 39:case 40:case 41:case 42:case 43:case 44:case 45:case 46:case 47:j=1;
 break;
 default:NEVER;
 }}
-else k=0;
-return k;
+else j=0;
+return j;
 }
 
 /* cpp_link::linked::Linked::finish_lambda */
@@ -135176,7 +135335,7 @@ fa[24]=ca;
 fa[25]=2;
 z6(fa+26);
 w8(b+56,ea+1);
-b[88]=(u32)50463490>>((u32)b[88]<<3);
+b[88]=0x404020402u>>(((u64)b[88]<<3)&0xffffffffffu);
 w8(b+80,r8(b+80)+1);
 ga=rp(b+48)+(i64)((ba-r8(b+72))<<5);
 ha=ga[24]&1;
@@ -135747,863 +135906,877 @@ return;
 /* sym_languages::languages::LanguagesDemangler::append */
 static void append_6a1(u8* a,u8* b,u8* c,u8 d,u8* e,u64 f,u8* g)
 {
-u8 m[32],o[4],p[32],s[32],t[32],u[32],A[4],B[4];
-A16 u8 h[4],i[4],j[40],k[4],l[4],n[4],q[6],r[32],v[4],w[4],x[4],y[32],z[32],C[4],D[4],E[4],F[12],G[12],H[12],I[96],J[88],K[12],L[84];
-u32 M,Ia,Ra,Sa,Ua,ib,mb,qb,xb,Fb,Lb,Hc,Tc,Vc,md,od,Od,Td,Wd,Xd,ge,he,se;
-u8 N,S,Y,Z,ca,da,ea,fa,ga,ma,na,oa,pa,qa,ra,sa,ta,wa,xa,ya,Da,Ga,Ha,Na,Pa,Qa,Va,Xa,Ya,Za,cb,db,eb,fb,gb,jb,nb,ob,pb,rb,sb,vb,yb,Ab,Cb,Gb,Ib,Jb,Kb,Mb,Ob,Qb,Rb,Sb,Tb,Vb,Xb,Yb,Zb,ac,cc,dc,ec,gc,kc,lc,mc,nc,vc,zc,Ac,Bc,Cc,Gc,Lc,Pc,Qc,Rc,Sc,Uc,Yc,dd,ed,fd,jd,nd,sd,vd,Bd,Id,Kd,Nd,Sd,Ud,Vd,Yd,Zd,ie,je,ke,pe,te,ue;
-u64 O,P,Q,R,T,U,W,aa,ba,ha,ia,ja,ua,va,za,Ba,Ca,Ea,Fa,Ja,Ma,ab,bb,hb,kb,lb,tb,ub,wb,zb,Bb,Db,Eb,Hb,Nb,Ub,Wb,bc,fc,hc,ic,jc,oc,qc,rc,sc,uc,wc,yc,Ec,Ic,Kc,Mc,Oc,Wc,Xc,ad,bd,cd,gd,hd,id,ld,pd,qd,ud,yd,zd,Ad,Cd,Dd,Ed,Hd,Jd,Ld,Md,Pd,ce,de,fe,me,ne,oe,qe,re,ve;
-v16 V,X;
-u8 *ka,*la,*Aa,*Ka,*La,*Oa,*Pb,*pc,*tc,*xc,*Dc,*Fc,*Jc,*Nc,*Zc,*kd,*td,*xd,*Fd,*Gd,*Qd,*Rd,*ae,*be,*ee,*le,*we,*xe;
-u16 Ta,Wa;
+u8 m[32],o[4],p[32],q[32],r[32],t[32],B[4],C[4];
+A16 u8 h[4],i[4],j[40],k[4],l[4],n[4],s[4],u[6],v[32],w[4],x[4],y[4],z[32],A[32],D[4],E[4],F[4],G[12],H[12],I[12],J[96],K[88],L[12],M[84];
+u32 N,Ja,Sa,Ta,Va,mb,qb,ub,Bb,Jb,Pb,Lc,Xc,Zc,qd,td,Sd,Xd,ae,be,ke,le,we;
+u8 O,T,Z,aa,da,ea,fa,ga,ha,na,oa,pa,qa,ra,sa,ta,ua,xa,ya,za,Ea,Ha,Ia,Oa,Qa,Ra,Wa,Ya,Za,ab,bb,cb,db,gb,hb,ib,jb,kb,nb,rb,sb,tb,vb,wb,zb,Cb,Eb,Gb,Kb,Mb,Nb,Ob,Qb,Sb,Ub,Vb,Wb,Xb,Zb,bc,cc,dc,ec,gc,hc,ic,kc,oc,pc,qc,rc,zc,Dc,Ec,Fc,Gc,Kc,Pc,Tc,Uc,Vc,Wc,Yc,cd,hd,id,jd,nd,sd,xd,Ad,Fd,Md,Od,Rd,Wd,Yd,Zd,ce,de,me,ne,oe,te,xe,ye;
+u64 P,Q,R,S,U,V,X,ba,ca,ia,ja,ka,va,wa,Aa,Ca,Da,Fa,Ga,Ka,Na,eb,fb,lb,ob,pb,xb,yb,Ab,Db,Fb,Hb,Ib,Lb,Rb,Yb,ac,fc,jc,lc,mc,nc,sc,uc,vc,wc,yc,Ac,Cc,Ic,Mc,Oc,Qc,Sc,ad,bd,ed,fd,gd,kd,ld,md,pd,ud,vd,zd,Cd,Dd,Ed,Gd,Hd,Id,Ld,Nd,Pd,Qd,Td,ge,he,je,qe,re,se,ue,ve,ze;
+v16 W,Y;
+u8 *la,*ma,*Ba,*La,*Ma,*Pa,*Tb,*tc,*xc,*Bc,*Hc,*Jc,*Nc,*Rc,*dd,*od,*yd,*Bd,*Jd,*Kd,*Ud,*Vd,*ee,*fe,*ie,*pe,*Ae,*Be;
+u16 Ua,Xa;
 if(d==0){
-M=r4(b);
-N=b[4];
-if(N==0){
-O=umin64(M>>2,(f<<5)+1024);
+N=r4(b);
+O=b[4];
+if(O==0){
+P=umin64(N>>2,(f<<5)+1024);
 if(r8(c+472)!=0)w8(c+472,0);
-w8(c+488,O);
-P=r8(c+480);
-Q=umin64(P,O);
-w8(c+496,Q);
+w8(c+488,P);
+Q=r8(c+480);
+R=umin64(Q,P);
+w8(c+496,R);
 if(r8(c+512)!=0)w8(c+512,0);
-R=f&4294967295u;
-w8(c+528,R);
-w8(c+536,umin64(r8(c+520),R));
+S=f&4294967295u;
+w8(c+528,S);
+w8(c+536,umin64(r8(c+520),S));
 if(r8(c+552)!=0)w8(c+552,0);
-w8(c+568,R);
-w8(c+576,umin64(r8(c+560),R));
+w8(c+568,S);
+w8(c+576,umin64(r8(c+560),S));
 c[636]=0;
 if(f<=65536){
 if(f<16){
-S=are_few_named_14c(e,f);
-if(!S)goto L1;}
+T=are_few_named_14c(e,f);
+if(!T)goto L1;}
 else{
-T=f-16;
-if(T==0)goto L2;
-U=0;
-L3:V=v16_at(e+U);
-if((v16_ult(V,splat(33))|v16_eq(V,splat(127)))!=0)goto L1;
-W=U+16;
-if(W<T){
-U=W;
+U=f-16;
+if(U==0)goto L2;
+V=0;
+L3:W=v16_at(e+V);
+if((v16_ult(W,splat(33))|v16_eq(W,splat(127)))!=0)goto L1;
+X=V+16;
+if(X<U){
+V=X;
 goto L3;}
-L2:X=v16_at(e+T);
-if((v16_ult(X,splat(33))|v16_eq(X,splat(127)))!=0)goto L1;}
-w4(C,0);
+L2:Y=v16_at(e+U);
+if((v16_ult(Y,splat(33))|v16_eq(Y,splat(127)))!=0)goto L1;}
 w4(D,0);
+w4(E,0);
 if(f!=0){
 if(f!=1&&*e==95){
 if(e[1]==90){
 if(f>=3){
-Y=e[2];
+Z=e[2];
 if(f<5){
-if(Y==90)goto L4;
-if((f!=3)&(Y==71)){
+if(Z==90)goto L4;
+if((f!=3)&(Z==71)){
 if(e[3]==86)goto L5;
 goto L6;}
-switch(Y){
+switch(Z){
 case 71:goto L6;
 case 84:if(f==3)goto L7;
 break;
 default:goto L8;
 }}
 else{
-switch(Y){
+switch(Z){
 case 90:goto L4;
 case 71:if(e[3]!=86)goto L6;
 if(e[4]!=90)goto L5;
-if(Q<19){
-Z=make_ready_8e3(c+464,19,128);
-if(!(Z&1)){
-ca=0;
+if(R<19){
+aa=make_ready_8e3(c+464,19,128);
+if(!(aa&1)){
 da=0;
 ea=0;
 fa=0;
+ga=0;
 goto L9;}
-aa=r8(c+480);
-ba=r8(c+472);}
+ba=r8(c+480);
+ca=r8(c+472);}
 else{
-aa=P;
-ba=0;}
-if(aa-ba<19){
-ga=grow_amortized_68b(c+464,19);
-if(!ga){
-ca=0;
+ba=Q;
+ca=0;}
+if(ba-ca<19){
+ha=grow_amortized_68b(c+464,19);
+if(!ha){
 da=0;
 ea=0;
 fa=0;
+ga=0;
 goto L9;}
-ha=r8(c+480);
-ia=r8(c+472);}
+ia=r8(c+480);
+ja=r8(c+472);}
 else{
-ha=aa;
-ia=ba;}
-ja=ia+19;
-ka=rp(c+464);
+ia=ba;
+ja=ca;}
+ka=ja+19;
+la=rp(c+464);
 z16(c+472);
-la=ka+(i64)ia;
-if((u64)la-(u64)(u8*)t_c270<19)copy_bits_4f4((u8*)t_c270,la,19);
-else memcpy(la,(u8*)t_c270,19);
-wp(c+464,ka);
-w8(c+472,ja);
-w8(c+480,ha);
+ma=la+(i64)ja;
+if((u64)ma-(u64)(u8*)t_c270<19)copy_bits_4f4((u8*)t_c270,ma,19);
+else memcpy(ma,(u8*)t_c270,19);
+wp(c+464,la);
+w8(c+472,ka);
+w8(c+480,ia);
 w8(c+640,5);
-begin_encoding_254(A,c+464,e,f);
-ca=A[3];
-da=A[2];
-ea=A[1];
-fa=*A;
-L9:ma=ca;
-na=da;
+begin_encoding_254(B,c+464,e,f);
+da=B[3];
+ea=B[2];
+fa=B[1];
+ga=*B;
+L9:na=da;
 oa=ea;
 pa=fa;
+qa=ga;
 goto L10;
 case 84:break;
 default:goto L8;
 }}
 switch(e[3]){
-case 104:begin_thunk_2c0(D,c+464,e,f);
+case 104:begin_thunk_2c0(E,c+464,e,f);
 goto L11;
-case 118:begin_virtual_thunk_979(D,c+464,e,f);
+case 118:begin_virtual_thunk_979(E,c+464,e,f);
 goto L11;
-case 67:begin_table_89f(D,c+464);
+case 67:begin_table_89f(E,c+464);
 goto L11;
 default:break;}
-L7:begin_special_44d(D,c+464,e,f);
-L11:qa=D[3];
-ra=D[2];
-sa=D[1];
-ta=*D;
+L7:begin_special_44d(E,c+464,e,f);
+L11:ra=E[3];
+sa=E[2];
+ta=E[1];
+ua=*E;
 goto L12;
-L6:begin_clone_783(C,c+464,e,f);
-qa=C[3];
-ra=C[2];
-sa=C[1];
-ta=*C;
+L6:begin_clone_783(D,c+464,e,f);
+ra=D[3];
+sa=D[2];
+ta=D[1];
+ua=*D;
 goto L12;
-L5:begin_object_8f6(C,c+464,e,f);
-qa=C[3];
-ra=C[2];
-sa=C[1];
-ta=*C;
+L5:begin_object_8f6(D,c+464,e,f);
+ra=D[3];
+sa=D[2];
+ta=D[1];
+ua=*D;
 goto L12;
 L4:w8(c+640,3);
-begin_encoding_254(B,c+464,e,f);
-ma=B[3];
-na=B[2];
-oa=B[1];
-pa=*B;
-L10:qa=ma;
-ra=na;
+begin_encoding_254(C,c+464,e,f);
+na=C[3];
+oa=C[2];
+pa=C[1];
+qa=*C;
+L10:ra=na;
 sa=oa;
 ta=pa;
+ua=qa;
 goto L12;}
 L8:w8(c+640,2);
-begin_encoding_254(C,c+464,e,f);
-qa=C[3];
-ra=C[2];
-sa=C[1];
-ta=*C;
-L12:if(ta!=1)goto L1;
-ua=f<<3;
-va=0;
-wa=qa;
+begin_encoding_254(D,c+464,e,f);
+ra=D[3];
+sa=D[2];
+ta=D[1];
+ua=*D;
+L12:if(ua!=1)goto L1;
+va=f<<3;
+wa=0;
 xa=ra;
 ya=sa;
-L13:if(ya==7){
-za=r8(c+472);
-if(za>O)goto L14;
+za=ta;
+L13:if(za==7){
+Aa=r8(c+472);
+if(Aa>P)goto L14;
 if(r8(c+512)!=0)w8(c+512,0);
 z16(c+528);
 if(r8(c+552)!=0)w8(c+552,0);
 z16(c+568);
-Aa=rp(c+464);
-Ba=r8(g+16);
-Ca=r8(g+8);
-if(za>Ba-Ca){
-Da=grow_amortized_68b(g,za);
-if(!Da){
-Ga=1;
-Ha=4;
-Ia=0;
+Ba=rp(c+464);
+Ca=r8(g+16);
+Da=r8(g+8);
+if(Aa>Ca-Da){
+Ea=grow_amortized_68b(g,Aa);
+if(!Ea){
+Ha=1;
+Ia=4;
+Ja=0;
 goto L15;}
-Ea=r8(g+16);
-Fa=r8(g+8);}
+Fa=r8(g+16);
+Ga=r8(g+8);}
 else{
-Ea=Ba;
-Fa=Ca;}
-Ja=Fa+za;
-Ka=rp(g);
+Fa=Ca;
+Ga=Da;}
+Ka=Ga+Aa;
+La=rp(g);
 z16(g+8);
-La=Ka+(i64)Fa;
-if((u64)La-(u64)Aa<za)copy_bits_4f4(Aa,La,za);
-else memmove(La,Aa,za);
-wp(g,Ka);
-w8(g+8,Ja);
-w8(g+16,Ea);
-Ga=0;
+Ma=La+(i64)Ga;
+if((u64)Ma-(u64)Ba<Aa)copy_bits_4f4(Ba,Ma,Aa);
+else memmove(Ma,Ba,Aa);
+wp(g,La);
+w8(g+8,Ka);
+w8(g+16,Fa);
 Ha=0;
 Ia=0;
+Ja=0;
 goto L15;}
 w8(c+648,r8(c+648)+1);
-w4(E,0);
-switch(ya){
-case 0:type_at_188(E,c+464,e,f,0);
+w4(F,0);
+switch(za){
+case 0:type_at_188(F,c+464,e,f,0);
 break;
-case 1:type_at_188(E,c+464,e,f,1);
+case 1:type_at_188(F,c+464,e,f,1);
 break;
-case 2:w4(w,0);
-w4(x,0);
-z32(y);
+case 2:w4(x,0);
+w4(y,0);
 z32(z);
-Ma=r8(c+552);
-if(Ma==0)w4(E,0);
+z32(A);
+Na=r8(c+552);
+if(Na==0)w4(F,0);
 else{
-Na=xa&1;
-Oa=rp(c+544)+(i64)(Ma*44);
-Pa=Oa[-44];
-Qa=Oa[-43];
-Ra=q4(Oa-40);
-Sa=q4(Oa-36);
-Ta=q2(Oa-32);
-switch(Pa){
-case 29:case 28:case 27:case 26:case 4:case 5:case 6:case 7:case 8:case 11:case 12:case 13:case 14:case 15:case 16:case 17:case 18:case 19:case 20:case 21:case 22:case 23:case 24:case 25:if(wa&1){
-pass_dependent_123(w,c+464,e,f);
-*E=*w;
-E[1]=w[1];
-E[2]=w[2];
-E[3]=w[3];
+Oa=ya&1;
+Pa=rp(c+544)+(i64)(Na*44);
+Qa=Pa[-44];
+Ra=Pa[-43];
+Sa=q4(Pa-40);
+Ta=q4(Pa-36);
+Ua=q2(Pa-32);
+switch(Qa){
+case 29:case 28:case 27:case 26:case 4:case 5:case 6:case 7:case 8:case 11:case 12:case 13:case 14:case 15:case 16:case 17:case 18:case 19:case 20:case 21:case 22:case 23:case 24:case 25:if(xa&1){
+pass_dependent_123(x,c+464,e,f);
+*F=*x;
+F[1]=x[1];
+F[2]=x[2];
+F[3]=x[3];
 goto L16;}
-Ua=q4(Oa-4);
-Va=Sa;
-Wa=Sa>>16;
-w4(v,0);
-switch(Pa){
-case 22:returned_acd(v,c+464,e,f,Qa&1);
+Va=q4(Pa-4);
+w4(w,0);
+switch(Qa){
+case 22:returned_acd(w,c+464,e,f,Ra&1);
 break;
-case 23:parameter_at_c04(v,c+464,e,f,Qa&1,0);
+case 23:parameter_at_c04(w,c+464,e,f,Ra&1,0);
 break;
-case 24:array_ended_08d(v,c+464,e,f,Qa,Ra,Sa);
+case 24:array_ended_08d(w,c+464,e,f,Ra,Sa,Ta);
 break;
-case 12:enclosing_parameter_d72(v,c+464,e,f,Qa,Ra);
+case 12:enclosing_parameter_d72(w,c+464,e,f,Ra,Sa);
 break;
-case 13:instance_parameter_e2a(v,c+464,e,f,Qa,Ra,Sa);
+case 13:instance_parameter_e2a(w,c+464,e,f,Ra,Sa,Ta);
 break;
-case 11:w2(p,Ta);
-memcpy(p+2,Oa-30,26);
-x4(p+28,Ua);
-enclosing_front_fa8(v,c+464,Qa,Ra,Sa,p);
+case 11:w2(t,Ua);
+memcpy(t+2,Pa-30,26);
+x4(t+28,Va);
+enclosing_front_fa8(w,c+464,Ra,Sa,Ta,t);
 break;
-case 17:w4(q,Sa);
-w2(q+4,Ta);
-lambda_parameter_f9a(v,c+464,e,f,Ra,q);
+case 17:w4(u,Ta);
+w2(u+4,Ua);
+lambda_parameter_f9a(w,c+464,e,f,Sa,u);
 break;
-case 18:member_parameter_678(v,c+464,e,f,Qa);
+case 18:member_parameter_678(w,c+464,e,f,Ra);
 break;
-case 15:w4(r,Sa);
-w2(r+4,Ta);
-memcpy(r+6,Oa-30,26);
-addressed_front_4c5(v,c+464,e,f,Qa,Ra,r);
+case 15:w4(v,Ta);
+w2(v+4,Ua);
+memcpy(v+6,Pa-30,26);
+addressed_front_4c5(w,c+464,e,f,Ra,Sa,v);
 break;
-case 16:addressed_parameter_41c(v,c+464,e,f,Qa);
+case 16:addressed_parameter_41c(w,c+464,e,f,Ra);
 break;
-case 14:*v=0;
+case 14:*w=0;
 break;
-case 19:finish_8cd(v,c+464,e,f);
+case 19:finish_8cd(w,c+464,e,f);
 break;
-case 20:derived_ended_aef(v,c+464,e,f);
+case 20:derived_ended_aef(w,c+464,e,f);
 break;
-case 21:base_ended_299(v,c+464,e,f,Ra);
+case 21:base_ended_299(w,c+464,e,f,Sa);
 break;
-case 29:enumerator_21c(v,c+464,e,f);
+case 29:enumerator_21c(w,c+464,e,f);
 break;
-case 26:w2(s,Wa);
-w2(s+2,Ta);
-memcpy(s+4,Oa-30,26);
-w2(s+30,Ua);
-argument_enumerator_c0e(v,c+464,e,f,Ra,Va,s);
+case 26:case 25:case 28:Wa=Ta;
+Xa=Va;
+w4(s,0);
+switch(Qa){
+case 26:w2(p,Ta>>16);
+w2(p+2,Ua);
+memcpy(p+4,Pa-30,26);
+w2(p+30,Xa);
+argument_enumerator_c0e(s,c+464,e,f,Sa,Wa,p);
 break;
-case 25:w2(t,Wa);
-w2(t+2,Ta);
-memcpy(t+4,Oa-30,26);
-w2(t+30,Ua);
-argument_ended_2ff(v,c+464,e,f,Ra,Va,t,Na);
+case 25:w2(q,Ta>>16);
+w2(q+2,Ua);
+memcpy(q+4,Pa-30,26);
+w2(q+30,Xa);
+argument_ended_2ff(s,c+464,e,f,Sa,Wa,q,Oa);
 break;
-case 28:w2(u,Wa);
-w2(u+2,Ta);
-memcpy(u+4,Oa-30,26);
-w2(u+30,Ua);
-element_ended_d46(v,c+464,e,f,Ra,Va,u,Na);
+case 28:w2(r,Ta>>16);
+w2(r+2,Ua);
+memcpy(r+4,Pa-30,26);
+w2(r+30,Xa);
+element_ended_d46(s,c+464,e,f,Sa,Wa,r,Oa);
 break;
-case 27:case 10:case 9:case 8:case 4:case 5:case 6:case 7:*v=1;
-v[1]=3;
-v[2]=0;
-v[3]=0;
+case 27:*s=0;
 break;
 default:NEVER;
 }
-Xa=v[1];
-Ya=v[2];
-Za=v[3];
-*x=*v;
-x[1]=Xa;
-x[2]=Ya;
-x[3]=Za;
+Ya=s[1];
+Za=s[2];
+ab=s[3];
+*w=*s;
+w[1]=Ya;
+w[2]=Za;
+w[3]=ab;
+break;
+case 27:case 10:case 9:case 8:case 4:case 5:case 6:case 7:*w=1;
+w[1]=3;
+w[2]=0;
+w[3]=0;
+break;
+default:NEVER;
+}
+bb=w[1];
+cb=w[2];
+db=w[3];
+*y=*w;
+y[1]=bb;
+y[2]=cb;
+y[3]=db;
 goto L17;
-case 10:w4(y,Sa);
-w2(y+4,Ta);
-memcpy(y+6,Oa-30,26);
-parameter_ended_06e(x,c+464,e,f,Qa,Ra,y);
+case 10:w4(z,Ta);
+w2(z+4,Ua);
+memcpy(z+6,Pa-30,26);
+parameter_ended_06e(y,c+464,e,f,Ra,Sa,z);
 goto L17;
-case 9:w4(z,Sa);
-w2(z+4,Ta);
-memcpy(z+6,Oa-30,26);
-front_ended_ee9(x,c+464,e,f,Qa,Ra,z);
+case 9:w4(A,Ta);
+w2(A+4,Ua);
+memcpy(A+6,Pa-30,26);
+front_ended_ee9(y,c+464,e,f,Ra,Sa,A);
 goto L17;
-case 0:w8(c+552,Ma-1);
-ab=r8(c+472);
-if(r8(c+496)>ab)bb=ab;
+case 0:w8(c+552,Na-1);
+eb=r8(c+472);
+if(r8(c+496)>eb)fb=eb;
 else{
-cb=make_ready_8e3(c+464,1,16);
-if(!(cb&1)){
-db=0;
-eb=0;
-fb=0;
-gb=0;
+gb=make_ready_8e3(c+464,1,16);
+if(!(gb&1)){
+hb=0;
+ib=0;
+jb=0;
+kb=0;
 goto L18;}
-bb=r8(c+472);}
-*(rp(c+464)+bb)=42;
-hb=bb+1;
-w8(c+472,hb);
-ib=hb;
-jb=wa&1;
-kb=r8(c+512);
-if(r8(c+536)>kb){
-lb=kb;
-mb=ib;
-nb=0;
-ob=jb;
-goto L19;}
-pb=make_ready_17a(c+504);
-if(!(pb&1)){
-db=0;
-eb=0;
-fb=0;
-gb=0;
-goto L18;}
-qb=ib;
+fb=r8(c+472);}
+*(rp(c+464)+fb)=42;
+lb=fb+1;
+w8(c+472,lb);
+mb=lb;
+nb=xa&1;
+ob=r8(c+512);
+if(r8(c+536)>ob){
+pb=ob;
+qb=mb;
 rb=0;
-sb=jb;
+sb=nb;
+goto L19;}
+tb=make_ready_17a(c+504);
+if(!(tb&1)){
+hb=0;
+ib=0;
+jb=0;
+kb=0;
+goto L18;}
+ub=mb;
+vb=0;
+wb=nb;
 break;
-case 1:if(Na)goto L17;
-w8(c+552,Ma-1);
-tb=r8(c+472);
-if(r8(c+496)>tb)ub=tb;
+case 1:if(Oa)goto L17;
+w8(c+552,Na-1);
+xb=r8(c+472);
+if(r8(c+496)>xb)yb=xb;
 else{
-vb=make_ready_8e3(c+464,1,16);
-if(!(vb&1)){
-db=0;
-eb=0;
-fb=0;
-gb=0;
+zb=make_ready_8e3(c+464,1,16);
+if(!(zb&1)){
+hb=0;
+ib=0;
+jb=0;
+kb=0;
 goto L18;}
-ub=r8(c+472);}
-*(rp(c+464)+ub)=38;
-wb=ub+1;
-w8(c+472,wb);
-xb=wb;
-yb=wa&1;
-zb=r8(c+512);
-if(r8(c+536)>zb){
-lb=zb;
-mb=xb;
-nb=1;
-ob=yb;
-goto L19;}
-Ab=make_ready_17a(c+504);
-if(!(Ab&1)){
-db=0;
-eb=0;
-fb=0;
-gb=0;
-goto L18;}
-qb=xb;
+yb=r8(c+472);}
+*(rp(c+464)+yb)=38;
+Ab=yb+1;
+w8(c+472,Ab);
+Bb=Ab;
+Cb=xa&1;
+Db=r8(c+512);
+if(r8(c+536)>Db){
+pb=Db;
+qb=Bb;
 rb=1;
-sb=yb;
-break;
-case 2:if(Na)goto L17;
-w8(c+552,Ma-1);
-Bb=r8(c+472);
-if(r8(c+496)-Bb<2){
-Cb=make_ready_8e3(c+464,2,128);
-if(!(Cb&1)){
-db=0;
-eb=0;
-fb=0;
-gb=0;
-goto L18;}
-Db=r8(c+472);}
-else Db=Bb;
-*(rp(c+464)+Db)=38;
-*(rp(c+464)+(i64)Db+1)=38;
-Eb=Db+2;
-w8(c+472,Eb);
-Fb=Eb;
-Gb=wa&1;
-Hb=r8(c+512);
-if(r8(c+536)>Hb){
-lb=Hb;
-mb=Fb;
-nb=1;
-ob=Gb;
+sb=Cb;
 goto L19;}
-Ib=make_ready_17a(c+504);
-if(!(Ib&1)){
-db=0;
-eb=0;
-fb=0;
-gb=0;
+Eb=make_ready_17a(c+504);
+if(!(Eb&1)){
+hb=0;
+ib=0;
+jb=0;
+kb=0;
 goto L18;}
-qb=Fb;
-rb=1;
-sb=Gb;
+ub=Bb;
+vb=1;
+wb=Cb;
 break;
-case 3:if(Na)goto L17;
-w8(c+552,Ma-1);
+case 2:if(Oa)goto L17;
+w8(c+552,Na-1);
+Fb=r8(c+472);
+if(r8(c+496)-Fb<2){
+Gb=make_ready_8e3(c+464,2,128);
+if(!(Gb&1)){
+hb=0;
+ib=0;
+jb=0;
+kb=0;
+goto L18;}
+Hb=r8(c+472);}
+else Hb=Fb;
+*(rp(c+464)+Hb)=38;
+*(rp(c+464)+(i64)Hb+1)=38;
+Ib=Hb+2;
+w8(c+472,Ib);
+Jb=Ib;
+Kb=xa&1;
+Lb=r8(c+512);
+if(r8(c+536)>Lb){
+pb=Lb;
+qb=Jb;
+rb=1;
+sb=Kb;
+goto L19;}
+Mb=make_ready_17a(c+504);
+if(!(Mb&1)){
+hb=0;
+ib=0;
+jb=0;
+kb=0;
+goto L18;}
+ub=Jb;
+vb=1;
+wb=Kb;
+break;
+case 3:if(Oa)goto L17;
+w8(c+552,Na-1);
 if(r8(c+496)-r8(c+472)<6){
-Jb=make_ready_8e3(c+464,6,128);
-if(!(Jb&1)){
-db=0;
-eb=0;
-fb=0;
-gb=0;
+Nb=make_ready_8e3(c+464,6,128);
+if(!(Nb&1)){
+hb=0;
+ib=0;
+jb=0;
+kb=0;
 goto L18;}}
-Kb=extend_from_slice_674(c+464,(u8*)t_f603,6);
-if(Kb&1){
-db=0;
-eb=0;
-fb=0;
-gb=0;
+Ob=extend_from_slice_674(c+464,(u8*)t_f603,6);
+if(Ob&1){
+hb=0;
+ib=0;
+jb=0;
+kb=0;
 goto L18;}
-Lb=r8(c+472);
-Mb=wa&1;
-Nb=r8(c+512);
-if(r8(c+536)>Nb){
-lb=Nb;
-mb=Lb;
-nb=0;
-ob=Mb;
-goto L19;}
-Ob=make_ready_17a(c+504);
-if(!(Ob&1)){
-db=0;
-eb=0;
-fb=0;
-gb=0;
-goto L18;}
-qb=Lb;
+Pb=r8(c+472);
+Qb=xa&1;
+Rb=r8(c+512);
+if(r8(c+536)>Rb){
+pb=Rb;
+qb=Pb;
 rb=0;
-sb=Mb;
+sb=Qb;
+goto L19;}
+Sb=make_ready_17a(c+504);
+if(!(Sb&1)){
+hb=0;
+ib=0;
+jb=0;
+kb=0;
+goto L18;}
+ub=Pb;
+vb=0;
+wb=Qb;
 break;
 default:NEVER;
 }
-lb=r8(c+512);
-mb=qb;
-nb=rb;
-ob=sb;
-L19:Pb=rp(c+504)+lb*12;
-x4(Pb,Ra);
-x4(Pb+4,mb);
-Pb[8]=nb;
-Pb[9]=ob;
-x2(Pb+10,0);
-w8(c+512,lb+1);
-db=ob;
-eb=nb;
-fb=2;
-gb=1;
-L18:*x=gb;
-x[1]=fb;
-x[2]=eb;
-x[3]=db;
-L17:Qb=x[1];
-Rb=x[2];
-Sb=x[3];
-*E=*x;
-E[1]=Qb;
-E[2]=Rb;
-E[3]=Sb;}
+pb=r8(c+512);
+qb=ub;
+rb=vb;
+sb=wb;
+L19:Tb=rp(c+504)+pb*12;
+x4(Tb,Sa);
+x4(Tb+4,qb);
+Tb[8]=rb;
+Tb[9]=sb;
+x2(Tb+10,0);
+w8(c+512,pb+1);
+hb=sb;
+ib=rb;
+jb=2;
+kb=1;
+L18:*y=kb;
+y[1]=jb;
+y[2]=ib;
+y[3]=hb;
+L17:Ub=y[1];
+Vb=y[2];
+Wb=y[3];
+*F=*y;
+F[1]=Ub;
+F[2]=Vb;
+F[3]=Wb;}
 L16:break;
-case 3:Tb=xa&1;
+case 3:Xb=ya&1;
 w4(n,0);
-Ub=r8(c+640);
-if(Ub<f){
-Vb=*(e+Ub);
-switch(Vb){
+Yb=r8(c+640);
+if(Yb<f){
+Zb=*(e+Yb);
+switch(Zb){
 case 69:w4(l,0);
-w8(c+640,Ub+1);
-Wb=r8(c+552);
-if(Wb==0){
-Xb=0;
-Yb=0;
-Zb=0;
-ac=0;}
+w8(c+640,Yb+1);
+ac=r8(c+552);
+if(ac==0){
+bc=0;
+cc=0;
+dc=0;
+ec=0;}
 else{
-if(*(rp(c+544)+(i64)(Wb*44)-44)==27){
-if(Tb){
-Xb=0;
-Yb=0;
-Zb=0;
-ac=0;}
+if(*(rp(c+544)+(i64)(ac*44)-44)==27){
+if(Xb){
+bc=0;
+cc=0;
+dc=0;
+ec=0;}
 else{
-w8(c+552,Wb-1);
-Xb=0;
-Yb=0;
-Zb=3;
-ac=1;}}
+w8(c+552,ac-1);
+bc=0;
+cc=0;
+dc=3;
+ec=1;}}
 else{
 z32(m);
 close_list_0b3(l,c+464,e,f,m);
-Xb=l[3];
-Yb=l[2];
-Zb=l[1];
-ac=*l;}}
-*E=ac;
-E[1]=Zb;
-E[2]=Yb;
-E[3]=Xb;
+bc=l[3];
+cc=l[2];
+dc=l[1];
+ec=*l;}}
+*F=ec;
+F[1]=dc;
+F[2]=cc;
+F[3]=bc;
 goto L20;
-case 74:bc=Ub+1;
-if(bc<f){
-if(*(e+bc)==69){
-empty_pack_06f(n,c+464,e,f,Tb);
-*E=*n;
-E[1]=n[1];
-E[2]=n[2];
-E[3]=n[3];
+case 74:fc=Yb+1;
+if(fc<f){
+if(*(e+fc)==69){
+empty_pack_06f(n,c+464,e,f,Xb);
+*F=*n;
+F[1]=n[1];
+F[2]=n[2];
+F[3]=n[3];
 goto L20;}}
-if(!Tb){
-cc=74;
+if(!Xb){
+gc=74;
 goto L21;}
 first_pack_117(n,c+464,e,f);
-*E=*n;
-E[1]=n[1];
-E[2]=n[2];
-E[3]=n[3];
+*F=*n;
+F[1]=n[1];
+F[2]=n[2];
+F[3]=n[3];
 goto L20;
-default:dc=Vb;
+default:hc=Zb;
 break;}}
-else dc=0;
-if(Tb){
-ec=dc;
+else hc=0;
+if(Xb){
+ic=hc;
 goto L22;}
-cc=dc;
-L21:fc=r8(c+472);
-if(r8(c+496)-fc<2){
-gc=make_ready_8e3(c+464,2,128);
-if(!(gc&1)){
-w4(E,0);
+gc=hc;
+L21:jc=r8(c+472);
+if(r8(c+496)-jc<2){
+kc=make_ready_8e3(c+464,2,128);
+if(!(kc&1)){
+w4(F,0);
 goto L20;}
-hc=r8(c+472);}
-else hc=fc;
-*(rp(c+464)+hc)=44;
-*(rp(c+464)+(i64)hc+1)=32;
-w8(c+472,hc+2);
-ec=cc;
-L22:switch(ec){
-case 88:ic=r8(c+640);
-if(ic==18446744073709551615u){
-w4(E,0);
+lc=r8(c+472);}
+else lc=jc;
+*(rp(c+464)+lc)=44;
+*(rp(c+464)+(i64)lc+1)=32;
+w8(c+472,lc+2);
+ic=gc;
+L22:switch(ic){
+case 88:mc=r8(c+640);
+if(mc==18446744073709551615u){
+w4(F,0);
 goto L20;}
-jc=ic+1;
-if(jc<f){
-switch(*(e+jc)){
+nc=mc+1;
+if(nc<f){
+switch(*(e+nc)){
 case 115:begin_level_d05(n,c+464,e,f);
-*E=*n;
-E[1]=n[1];
-E[2]=n[2];
-E[3]=n[3];
+*F=*n;
+F[1]=n[1];
+F[2]=n[2];
+F[3]=n[3];
 goto L20;
 case 84:parameter_argument_7c8(n,c+464,e,f);
-*E=*n;
-E[1]=n[1];
-E[2]=n[2];
-E[3]=n[3];
+*F=*n;
+F[1]=n[1];
+F[2]=n[2];
+F[3]=n[3];
 goto L20;
 default:break;}}
 break;
-case 76:if(Tb){
+case 76:if(Xb){
 first_literal_618(n,c+464,e,f);
-*E=*n;
-E[1]=n[1];
-E[2]=n[2];
-E[3]=n[3];
+*F=*n;
+F[1]=n[1];
+F[2]=n[2];
+F[3]=n[3];
 goto L20;}
 literal_9d0(o,c+464,e,f);
-kc=o[3];
-lc=o[2];
-mc=o[1];
-nc=*o;
+oc=o[3];
+pc=o[2];
+qc=o[1];
+rc=*o;
 goto L23;
-case 74:oc=r8(c+552);
-if(oc==0){
-kc=0;
-lc=0;
-mc=0;
-nc=0;
+case 74:sc=r8(c+552);
+if(sc==0){
+oc=0;
+pc=0;
+qc=0;
+rc=0;
 goto L23;}
-pc=rp(c+544);
-qc=oc*44;
-if(*(pc+(i64)qc-44)==27){
-kc=0;
-lc=0;
-mc=0;
-nc=0;
-goto L23;}
-rc=r8(c+640);
-if(rc==18446744073709551615u){
-kc=0;
-lc=0;
-mc=0;
-nc=0;
-goto L23;}
-w8(c+640,rc+1);
-if(r8(c+576)>oc){
-sc=qc;
-tc=pc;
-uc=oc;}
-else{
-vc=make_ready_9a1(c+544);
-if(!(vc&1)){
-kc=0;
-lc=0;
-mc=0;
-nc=0;
-goto L23;}
-wc=r8(c+552);
-sc=wc*44;
 tc=rp(c+544);
-uc=wc;}
-xc=tc+sc;
-*xc=27;
-z43(xc+1);
-w8(c+552,uc+1);
-kc=0;
-lc=1;
-mc=3;
-nc=1;
+uc=sc*44;
+if(*(tc+(i64)uc-44)==27){
+oc=0;
+pc=0;
+qc=0;
+rc=0;
+goto L23;}
+vc=r8(c+640);
+if(vc==18446744073709551615u){
+oc=0;
+pc=0;
+qc=0;
+rc=0;
+goto L23;}
+w8(c+640,vc+1);
+if(r8(c+576)>sc){
+wc=uc;
+xc=tc;
+yc=sc;}
+else{
+zc=make_ready_9a1(c+544);
+if(!(zc&1)){
+oc=0;
+pc=0;
+qc=0;
+rc=0;
+goto L23;}
+Ac=r8(c+552);
+wc=Ac*44;
+xc=rp(c+544);
+yc=Ac;}
+Bc=xc+wc;
+*Bc=27;
+z43(Bc+1);
+w8(c+552,yc+1);
+oc=0;
+pc=1;
+qc=3;
+rc=1;
 goto L23;
 default:break;}
-if(Tb){
-yc=r8(c+552);
-if(yc==0){
-zc=0;
-Ac=0;
-Bc=0;
-Cc=1;}
+if(Xb){
+Cc=r8(c+552);
+if(Cc==0){
+Dc=0;
+Ec=0;
+Fc=0;
+Gc=1;}
 else{
-Dc=rp(c+544);
-Ec=yc*44;
-Fc=Dc+(i64)Ec;
-switch(Fc[-44]){
-case 5:if(Fc[-28]==0){
-zc=0;
-Ac=0;
-Bc=0;
-Cc=1;
+Hc=rp(c+544);
+Ic=Cc*44;
+Jc=Hc+(i64)Ic;
+switch(Jc[-44]){
+case 5:if(Jc[-28]==0){
+Dc=0;
+Ec=0;
+Fc=0;
+Gc=1;
 goto L24;}
 break;
 case 7:break;
-case 0:case 1:case 2:case 3:case 4:case 6:case 8:case 9:case 10:case 11:case 12:case 13:case 14:case 15:case 16:case 17:case 18:case 19:case 20:case 21:case 22:case 23:case 24:case 25:case 26:case 27:case 28:case 29:zc=0;
-Ac=0;
-Bc=0;
-Cc=1;
+case 0:case 1:case 2:case 3:case 4:case 6:case 8:case 9:case 10:case 11:case 12:case 13:case 14:case 15:case 16:case 17:case 18:case 19:case 20:case 21:case 22:case 23:case 24:case 25:case 26:case 27:case 28:case 29:Dc=0;
+Ec=0;
+Fc=0;
+Gc=1;
 goto L24;
 default:NEVER;
 }
-Gc=is_element_at_f4e(e,f,r8(c+640));
-if(Gc){
-zc=0;
-Ac=0;
-Bc=0;
-Cc=1;}
+Kc=is_element_at_f4e(e,f,r8(c+640));
+if(Kc){
+Dc=0;
+Ec=0;
+Fc=0;
+Gc=1;}
 else{
-Hc=r8(c+472);
-if(r8(c+576)>yc){
-Ic=Ec;
-Jc=Dc;
-Kc=yc;}
+Lc=r8(c+472);
+if(r8(c+576)>Cc){
+Mc=Ic;
+Nc=Hc;
+Oc=Cc;}
 else{
-Lc=make_ready_9a1(c+544);
-if(!(Lc&1)){
-zc=0;
-Ac=0;
-Bc=0;
-Cc=0;
+Pc=make_ready_9a1(c+544);
+if(!(Pc&1)){
+Dc=0;
+Ec=0;
+Fc=0;
+Gc=0;
 goto L24;}
-Mc=r8(c+552);
-Ic=Mc*44;
-Jc=rp(c+544);
-Kc=Mc;}
-Nc=Jc+Ic;
-*Nc=25;
-Nc[1]=0;
-x2(Nc+2,0);
-x4(Nc+4,Hc);
-z36(Nc+8);
-w8(c+552,Kc+1);
+Qc=r8(c+552);
+Mc=Qc*44;
+Nc=rp(c+544);
+Oc=Qc;}
+Rc=Nc+Mc;
+*Rc=25;
+Rc[1]=0;
+x2(Rc+2,0);
+x4(Rc+4,Lc);
+z36(Rc+8);
+w8(c+552,Oc+1);
 w4(k,0);
-Oc=r8(c+640);
-if(Oc<f){
-if(*(e+Oc)==88){
+Sc=r8(c+640);
+if(Sc<f){
+if(*(e+Sc)==88){
 begin_address_4df(k,c+464,e,f);
-Pc=k[3];
-Qc=k[2];
-Rc=k[1];
-Sc=*k;}
+Tc=k[3];
+Uc=k[2];
+Vc=k[1];
+Wc=*k;}
 else{
-Pc=0;
-Qc=0;
-Rc=0;
-Sc=1;}}
+Tc=0;
+Uc=0;
+Vc=0;
+Wc=1;}}
 else{
-Pc=0;
-Qc=0;
-Rc=0;
-Sc=1;}
-zc=Pc;
-Ac=Qc;
-Bc=Rc;
-Cc=Sc;}}
-L24:*E=Cc;
-E[1]=Bc;
-E[2]=Ac;
-E[3]=zc;
+Tc=0;
+Uc=0;
+Vc=0;
+Wc=1;}
+Dc=Tc;
+Ec=Uc;
+Fc=Vc;
+Gc=Wc;}}
+L24:*F=Gc;
+F[1]=Fc;
+F[2]=Ec;
+F[3]=Dc;
 goto L20;}
-kc=0;
-lc=0;
-mc=0;
-nc=1;
-L23:*E=nc;
-E[1]=mc;
-E[2]=lc;
-E[3]=kc;
+oc=0;
+pc=0;
+qc=0;
+rc=1;
+L23:*F=rc;
+F[1]=qc;
+F[2]=pc;
+F[3]=oc;
 L20:break;
 case 4:w4(i,0);
 z20(j+20);
 if(!(c[600]&1)){
-Tc=r4(c+584);
-Uc=c[603];
-Vc=r8(c+472);
-Wc=r8(c+512);
-if(r8(c+536)>Wc)Xc=Wc;
+Xc=r4(c+584);
+Yc=c[603];
+Zc=r8(c+472);
+ad=r8(c+512);
+if(r8(c+536)>ad)bd=ad;
 else{
-Yc=make_ready_17a(c+504);
-if(!(Yc&1)){
-w4(E,0);
+cd=make_ready_17a(c+504);
+if(!(cd&1)){
+w4(F,0);
 goto L25;}
-Xc=r8(c+512);}
-Zc=rp(c+504)+Xc*12;
-x4(Zc,Tc);
-x4(Zc+4,Vc);
-Zc[8]=0;
-Zc[9]=Uc;
-x2(Zc+10,0);
-w8(c+512,Xc+1);}
-ad=r8(c+640);
-if(ad<f){
-if(*(e+ad)==73){
+bd=r8(c+512);}
+dd=rp(c+504)+bd*12;
+x4(dd,Xc);
+x4(dd+4,Zc);
+dd[8]=0;
+dd[9]=Yc;
+x2(dd+10,0);
+w8(c+512,bd+1);}
+ed=r8(c+640);
+if(ed<f){
+if(*(e+ed)==73){
 memcpy(j,c+584,20);
-bd=r8(c+472);
-if(r8(c+496)>bd)cd=bd;
+fd=r8(c+472);
+if(r8(c+496)>fd)gd=fd;
 else{
-dd=make_ready_8e3(c+464,1,16);
-if(!(dd&1)){
-ed=0;
-fd=0;
+hd=make_ready_8e3(c+464,1,16);
+if(!(hd&1)){
+id=0;
+jd=0;
 goto L26;}
-cd=r8(c+472);}
-*(rp(c+464)+cd)=60;
-w8(c+472,cd+1);
-gd=r8(c+640);
-if(gd==18446744073709551615u){
-ed=0;
-fd=0;}
+gd=r8(c+472);}
+*(rp(c+464)+gd)=60;
+w8(c+472,gd+1);
+kd=r8(c+640);
+if(kd==18446744073709551615u){
+id=0;
+jd=0;}
 else{
-w8(c+640,gd+1);
-hd=r8(c+552);
-if(r8(c+576)>hd)id=hd;
+w8(c+640,kd+1);
+ld=r8(c+552);
+if(r8(c+576)>ld)md=ld;
 else{
-jd=make_ready_9a1(c+544);
-if(!(jd&1)){
-ed=0;
-fd=0;
+nd=make_ready_9a1(c+544);
+if(!(nd&1)){
+id=0;
+jd=0;
 goto L26;}
-id=r8(c+552);}
-kd=rp(c+544)+id*44;
-*kd=6;
-kd[1]=0;
-x2(kd+2,0);
-memcpy(kd+4,j,40);
-w8(c+552,id+1);
-ed=3;
-fd=1;}
-L26:*E=fd;
-E[1]=ed;
-E[2]=fd;
-E[3]=0;
+md=r8(c+552);}
+od=rp(c+544)+md*44;
+*od=6;
+od[1]=0;
+x2(od+2,0);
+memcpy(od+4,j,40);
+w8(c+552,md+1);
+id=3;
+jd=1;}
+L26:*F=jd;
+F[1]=id;
+F[2]=jd;
+F[3]=0;
 goto L25;}}
 components_at_af8(i,c+464,e,f);
-*E=*i;
-E[1]=i[1];
-E[2]=i[2];
-E[3]=i[3];
+*F=*i;
+F[1]=i[1];
+F[2]=i[2];
+F[3]=i[3];
 L25:break;
 case 5:w4(h,0);
-ld=r8(c+640);
-if(ld<f){
-if(*(e+ld)==69){
+pd=r8(c+640);
+if(pd<f){
+if(*(e+pd)==69){
 nest_ended_003(h,c+464,e,f);
-*E=*h;
-E[1]=h[1];
-E[2]=h[2];
-E[3]=h[3];
+*F=*h;
+F[1]=h[1];
+F[2]=h[2];
+F[3]=h[3];
 goto L27;}}
 if(!(c[600]&1)){
-md=r4(c+584);
-nd=c[603];
-od=r8(c+472);
-pd=r8(c+512);
-if(r8(c+536)>pd)qd=pd;
+qd=r4(c+584);
+sd=c[603];
+td=r8(c+472);
+ud=r8(c+512);
+if(r8(c+536)>ud)vd=ud;
 else{
-sd=make_ready_17a(c+504);
-if(!(sd&1)){
-w4(E,0);
+xd=make_ready_17a(c+504);
+if(!(xd&1)){
+w4(F,0);
 goto L27;}
-qd=r8(c+512);}
-td=rp(c+504)+qd*12;
-x4(td,md);
-x4(td+4,od);
-td[8]=0;
-td[9]=nd;
-x2(td+10,0);
-w8(c+512,qd+1);}
+vd=r8(c+512);}
+yd=rp(c+504)+vd*12;
+x4(yd,qd);
+x4(yd+4,td);
+yd[8]=0;
+yd[9]=sd;
+x2(yd+10,0);
+w8(c+512,vd+1);}
 components_at_af8(h,c+464,e,f);
-*E=*h;
-E[1]=h[1];
-E[2]=h[2];
-E[3]=h[3];
+*F=*h;
+F[1]=h[1];
+F[2]=h[2];
+F[3]=h[3];
 L27:break;
-case 6:components_at_af8(E,c+464,e,f);
+case 6:components_at_af8(F,c+464,e,f);
 break;
 default:NEVER;
 }
-ud=va+1;
-if(*E!=1||ud==ua)goto L1;
-va=ud;
-wa=E[3];
-xa=E[2];
-ya=E[1];
+zd=wa+1;
+if(*F!=1||zd==va)goto L1;
+wa=zd;
+xa=F[3];
+ya=F[2];
+za=F[1];
 goto L13;}}}
 ;}
 L1:if(r8(c+472)==0)goto L28;
@@ -136615,178 +136788,178 @@ c[636]=0;
 z16(c+528);
 z16(c+568);}
 else{
-vd=write_less_2c7(c+1504,e,f,M,1,N);
-if(vd){
-xd=rp(c+1504);
-yd=r8(c+1512);
-zd=r8(g+16);
-Ad=r8(g+8);
-if(yd>zd-Ad){
-Bd=grow_amortized_68b(g,yd);
-if(!Bd){
-Ga=1;
-Ha=4;
-Ia=0;
+Ad=write_less_2c7(c+1504,e,f,N,1,O);
+if(Ad){
+Bd=rp(c+1504);
+Cd=r8(c+1512);
+Dd=r8(g+16);
+Ed=r8(g+8);
+if(Cd>Dd-Ed){
+Fd=grow_amortized_68b(g,Cd);
+if(!Fd){
+Ha=1;
+Ia=4;
+Ja=0;
 goto L15;}
-Cd=r8(g+16);
-Dd=r8(g+8);}
+Gd=r8(g+16);
+Hd=r8(g+8);}
 else{
-Cd=zd;
-Dd=Ad;}
-Ed=Dd+yd;
-Fd=rp(g);
+Gd=Dd;
+Hd=Ed;}
+Id=Hd+Cd;
+Jd=rp(g);
 z16(g+8);
-Gd=Fd+(i64)Dd;
-if((u64)Gd-(u64)xd<yd)copy_bits_4f4(xd,Gd,yd);
-else memmove(Gd,xd,yd);
-wp(g,Fd);
-w8(g+8,Ed);
-w8(g+16,Cd);
-Ga=0;
+Kd=Jd+(i64)Hd;
+if((u64)Kd-(u64)Bd<Cd)copy_bits_4f4(Bd,Kd,Cd);
+else memmove(Kd,Bd,Cd);
+wp(g,Jd);
+w8(g+8,Id);
+w8(g+16,Gd);
 Ha=0;
 Ia=0;
+Ja=0;
 goto L15;}}
-z12(K);
-z96(I);
-Hd=r8(c+664);
-if(!((f<Hd)|((Hd&4294967295u)==0))){
-Id=parts_equal_58b(e,Hd,rp(c+656),Hd);
-if(Id){
-read_on_afe(I,c,e+(i64)Hd,f-Hd);
+z12(L);
+z96(J);
+Ld=r8(c+664);
+if(!((f<Ld)|((Ld&4294967295u)==0))){
+Md=parts_equal_58b(e,Ld,rp(c+656),Ld);
+if(Md){
+read_on_afe(J,c,e+(i64)Ld,f-Ld);
 goto L29;}}
-z12(H);
+z12(I);
 x4(c+24,0);
 x4(c+28,0);
 if(r8(c+40)!=0)w8(c+40,0);
 if(r8(c+64)!=0)w8(c+64,0);
 w8(c+80,0);
 w4(c+88,0);
-run_888(H,c+24,e,f,1);
-if(*H==0){
+run_888(I,c+24,e,f,1);
+if(*I==0){
 if(r8(c+8)!=0)w8(c+8,0);
-Jd=r8(c+16);
-if(f>Jd){
-Kd=grow_amortized_68b(c,f);
-if(!Kd){
-Nd=4;
-Od=0;
+Nd=r8(c+16);
+if(f>Nd){
+Od=grow_amortized_68b(c,f);
+if(!Od){
+Rd=4;
+Sd=0;
 goto L30;}
-Ld=r8(c+16);
-Md=r8(c+8);}
+Pd=r8(c+16);
+Qd=r8(c+8);}
 else{
-Ld=Jd;
-Md=0;}
-Pd=Md+f;
-Qd=rp(c);
+Pd=Nd;
+Qd=0;}
+Td=Qd+f;
+Ud=rp(c);
 z16(c+8);
-Rd=Qd+(i64)Md;
-if((u64)Rd-(u64)e<f)copy_bits_4f4(e,Rd,f);
-else memmove(Rd,e,f);
-wp(c,Qd);
-w8(c+8,Pd);
-w8(c+16,Ld);
-link_ba9(I,c);
+Vd=Ud+(i64)Qd;
+if((u64)Vd-(u64)e<f)copy_bits_4f4(e,Vd,f);
+else memmove(Vd,e,f);
+wp(c,Ud);
+w8(c+8,Td);
+w8(c+16,Pd);
+link_ba9(J,c);
 goto L29;}
-Sd=H[4];
-Td=r4(H+8);
+Wd=I[4];
+Xd=r4(I+8);
 x4(c+24,0);
 x4(c+28,0);
 if(r8(c+40)!=0)w8(c+40,0);
 if(r8(c+64)!=0)w8(c+64,0);
 w8(c+80,0);
 w4(c+88,0);
-Nd=Sd;
-Od=Td;
-L30:Ud=1;
-Vd=Nd;
-Wd=Od;
+Rd=Wd;
+Sd=Xd;
+L30:Yd=1;
+Zd=Rd;
+ae=Sd;
 goto L31;
-L29:Xd=r4(I+8);
-Yd=*I;
-Zd=I[4];
-memcpy(L,I+12,84);
-if(Yd==0){
-w4(J,Xd);
-memcpy(J+4,L,84);
-print_07f(K,c,J,M,N,g);
-ae=qp(c+96);
-be=qp(c+120);
-ce=q8(c+136);
-de=q8(c+112);
-memcpy(c+96,L+20,48);
-if(de!=0)port_rattle_dealloc(ae);
-if(ce!=0)port_rattle_dealloc(be);
-ee=qp(c);
-fe=q8(c+16);
-memcpy(c,J,24);
-if(fe!=0)port_rattle_dealloc(ee);
-Ud=*K;
-Vd=K[4];
-Wd=r4(K+8);}
+L29:be=r4(J+8);
+ce=*J;
+de=J[4];
+memcpy(M,J+12,84);
+if(ce==0){
+w4(K,be);
+memcpy(K+4,M,84);
+print_07f(L,c,K,N,O,g);
+ee=qp(c+96);
+fe=qp(c+120);
+ge=q8(c+136);
+he=q8(c+112);
+memcpy(c+96,M+20,48);
+if(he!=0)port_rattle_dealloc(ee);
+if(ge!=0)port_rattle_dealloc(fe);
+ie=qp(c);
+je=q8(c+16);
+memcpy(c,K,24);
+if(je!=0)port_rattle_dealloc(ie);
+Yd=*L;
+Zd=L[4];
+ae=r4(L+8);}
 else{
-Ud=1;
-Vd=Zd;
-Wd=Xd;}
-L31:Ga=Ud;
-Ha=Vd;
-Ia=Wd;}
+Yd=1;
+Zd=de;
+ae=be;}
+L31:Ha=Yd;
+Ia=Zd;
+Ja=ae;}
 else{
-ge=r4(b);
+ke=r4(b);
 switch(b[4]){
-case 0:case 2:z12(G);
-append_in_c46(G,c+768,e,f,ge,0,g);
-he=r4(G+8);
-ie=G[4];
-je=*G;
+case 0:case 2:z12(H);
+append_in_c46(H,c+768,e,f,ke,0,g);
+le=r4(H+8);
+me=H[4];
+ne=*H;
 break;
-case 1:case 3:z12(F);
-ke=write_brief_939(c+1696,e,f,ge);
-if(ke){
-le=rp(c+1696);
-me=r8(c+1704);
-ne=r8(g+16);
-oe=r8(g+8);
-if(me>ne-oe){
-pe=grow_amortized_68b(g,me);
-if(!pe){
-se=0;
-te=4;
-ue=1;
+case 1:case 3:z12(G);
+oe=write_brief_939(c+1696,e,f,ke);
+if(oe){
+pe=rp(c+1696);
+qe=r8(c+1704);
+re=r8(g+16);
+se=r8(g+8);
+if(qe>re-se){
+te=grow_amortized_68b(g,qe);
+if(!te){
+we=0;
+xe=4;
+ye=1;
 goto L32;}
-qe=r8(g+16);
-re=r8(g+8);}
+ue=r8(g+16);
+ve=r8(g+8);}
 else{
-qe=ne;
-re=oe;}
-ve=re+me;
-we=rp(g);
+ue=re;
+ve=se;}
+ze=ve+qe;
+Ae=rp(g);
 z16(g+8);
-xe=we+(i64)re;
-if((u64)xe-(u64)le<me)copy_bits_4f4(le,xe,me);
-else memmove(xe,le,me);
-wp(g,we);
-w8(g+8,ve);
-w8(g+16,qe);
-se=0;
-te=0;
-ue=0;}
+Be=Ae+(i64)ve;
+if((u64)Be-(u64)pe<qe)copy_bits_4f4(pe,Be,qe);
+else memmove(Be,pe,qe);
+wp(g,Ae);
+w8(g+8,ze);
+w8(g+16,ue);
+we=0;
+xe=0;
+ye=0;}
 else{
-append_in_c46(F,c+768,e,f,ge,1,g);
-se=r4(F+8);
-te=F[4];
-ue=*F;}
-L32:he=se;
-ie=te;
-je=ue;
+append_in_c46(G,c+768,e,f,ke,1,g);
+we=r4(G+8);
+xe=G[4];
+ye=*G;}
+L32:le=we;
+me=xe;
+ne=ye;
 break;
 default:NEVER;
 }
-Ga=je;
-Ha=ie;
-Ia=he;}
-L15:*a=Ga;
-x4(a+4,Ha);
-x4(a+8,Ia);
+Ha=ne;
+Ia=me;
+Ja=le;}
+L15:*a=Ha;
+x4(a+4,Ia);
+x4(a+8,Ja);
 return;
 }
 

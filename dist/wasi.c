@@ -22,6 +22,7 @@ IMPORT(fd_read) uint32_t fd_read(uint32_t stream, uint32_t parts, uint32_t count
 IMPORT(fd_write) uint32_t fd_write(uint32_t stream, uint32_t parts, uint32_t count, uint32_t done);
 IMPORT(fd_seek) uint32_t fd_seek(uint32_t stream, int64_t by, uint32_t from, uint32_t place);
 IMPORT(fd_close) uint32_t fd_close(uint32_t stream);
+IMPORT(fd_fdstat_get) uint32_t fd_fdstat_get(uint32_t stream, uint32_t found);
 IMPORT(path_open) uint32_t path_open(uint32_t folder, uint32_t follows, uint32_t path, uint32_t length, uint32_t how, uint64_t rights,
                                      uint64_t more_rights, uint32_t flags, uint32_t stream);
 IMPORT(path_filestat_get) uint32_t path_filestat_get(uint32_t folder, uint32_t follows, uint32_t path, uint32_t length, uint32_t found);
@@ -334,6 +335,18 @@ uint32_t port_statx(uint32_t folder, uint8_t *path, uint32_t flags, uint32_t mas
     memset(to, 0, 256);
     memcpy(to + 28, &mode, sizeof mode);
     return 0;
+}
+
+/* A terminal is a device of characters in which nothing can be sought. */
+uint32_t port_isatty(uint32_t stream)
+{
+    static struct {
+        uint8_t sort; /* 2: a device of characters */
+        uint16_t flags;
+        uint64_t rights, more_rights;
+    } found;
+    const uint64_t seek_or_tell = 4 | 32;
+    return !fd_fdstat_get(stream, at(&found)) && found.sort == 2 && !(found.rights & seek_or_tell);
 }
 
 uint64_t port___sysv_signal(uint32_t number, uint64_t handler)

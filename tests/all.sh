@@ -156,6 +156,11 @@ if [ -n "$cargo" ] && nm "$cargo" 2>/dev/null | grep -q '_ZN.*17h[0-9a-f]\{16\}E
 else
     leave legacy "cargo isn't installed, or has no legacy Rust names"
 fi
+if compgen -c llvm-config >/dev/null; then
+    try partial tests/partial.py "$demangle"
+else
+    leave partial "LLVM's library (llvm-config) isn't installed"
+fi
 if compgen -c llvm-dwarfdump >/dev/null; then
     try truth tests/truth.py "$symfilt"
 else

@@ -127,6 +127,8 @@ cmp "$work"/again/*.whl "$work"/again/again/*.whl
 python3 -m venv "$work/venv"
 "$work/venv/bin/pip" install --quiet --no-index --disable-pip-version-check "$work"/wheels/*.whl
 (cd "$work" && "$work/venv/bin/python" "$OLDPWD/callers/python/tests/calls.py" 2>"$work/out") || { cat "$work/out"; exit 1; }
+"$work/venv/bin/python" tests/parts.py crates/check_rows/stdin "$work/symbols" ${files[@]+"${files[@]}"} >"$work/out" || { cat "$work/out"; exit 1; }
+echo "parts: $(tail -n 1 "$work/out")"
 echo "python: $(basename "$work"/wheels/*.whl): ok"
 
 # The package for Go, as it was installed, over the library, which pkg-config finds

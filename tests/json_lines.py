@@ -5,7 +5,8 @@
 
 The names are of each sort, some that can't be in a text of JSON as they are, and some of any bytes, as arguments and in a text.
 Each line has to be UTF-8 without control characters and one object by both readers; jq is left out where it isn't installed.
-What the object of a name says is compared with what the program says of the name without `--json`. The status is 1 where something
+What the object of a name says is compared with what the program says of the name without `--json`. Each part is a stretch of its
+text, they are in the order of their starts, and of two one is within the other, or they are apart. The status is 1 where something
 comes out otherwise, 2 where the program can't be run.
 """
 
@@ -26,32 +27,48 @@ CPP_LEGACY = "demo::main::h0123456789abcdef"
 LONG = b"_Z" + b"9" * 65_535
 
 
-def text(words, mangling):
-    return {"text": words, **mangling}
+def text(words, mangling, kind=None, parts=""):
+    """What an object says of a text; a part is its role, start and length, as `base:0+1`."""
+    if kind is None:
+        return {"text": words, **mangling}
+    listed = [re.fullmatch(r"(\w+):(\d+)\+(\d+)", part).groups() for part in parts.split()]
+    return {"text": words, **mangling, "kind": kind, "parts": [{"role": role, "start": int(start), "length": int(length)} for role, start, length in listed]}
 
 
 def error(reason, at=None):
     return {"error": reason} if at is None else {"error": reason, "at": at}
 
 
+F = "base:0+1 parameters:1+2"
+FOO_BAR = "scope:0+3 crate:0+3 base:5+3"
+DEMO_MAIN = "scope:0+4 crate:0+4 base:6+4"
+LITERAL = "base:0+13 parameters:13+13 parameter:14+11"
+
 # options, names and what each one's object has to say beside the name
 NAMES = [
-    ([], b"_Z1fv", text("f()", ITANIUM)),
-    ([], b"__Z1fv", text("f()", ITANIUM)),
-    ([], b"_RNvC3foo3bar", text("foo::bar", V0)),
-    ([], b"__RNvC3foo3bar", text("foo::bar", V0)),
-    ([], LEGACY_NAME, text("demo::main", LEGACY)),
-    ([], LEGACY_NAME + b".llvm.123", text("demo::main (.llvm.123)", LEGACY)),
-    (["-s", "gnu-v3"], LEGACY_NAME, text(CPP_LEGACY, ITANIUM)),
-    (["-s", "rust"], LEGACY_NAME, text("demo::main", LEGACY)),
+    ([], b"_Z1fv", text("f()", ITANIUM, "function", F)),
+    ([], b"__Z1fv", text("f()", ITANIUM, "function", F)),
+    ([], b"_RNvC3foo3bar", text("foo::bar", V0, "value", FOO_BAR)),
+    ([], b"__RNvC3foo3bar", text("foo::bar", V0, "value", FOO_BAR)),
+    ([], b"_RINvC3foo3barRL_hE", text("foo::bar::<&u8>", V0, "value", FOO_BAR + " generic_arguments:10+5 generic_argument:11+3")),
+    ([], b"_RNvXC3fooNtC3foo1ANtC3foo1B3baz", text("<foo::A as foo::B>::baz", V0, "value", "scope:0+18 impl:0+18 self_type:1+6 trait:11+6 base:20+3")),
+    ([], LEGACY_NAME, text("demo::main", LEGACY, "value", DEMO_MAIN)),
+    ([], LEGACY_NAME + b".llvm.123", text("demo::main (.llvm.123)", LEGACY, "value", DEMO_MAIN + " suffix:12+9")),
+    (["-s", "gnu-v3"], LEGACY_NAME, text(CPP_LEGACY, ITANIUM, "variable", "scope:0+10 base:12+17")),
+    (["-s", "rust"], LEGACY_NAME, text("demo::main", LEGACY, "value", DEMO_MAIN)),
     (["-s", "rust"], b"_Z1fv", error("malformed", 0)),
-    ([], b"_Zli2_sPKc", text('operator"" _s(char const*)', ITANIUM)),
-    (["--escape"], b"_Zli2_sPKc", text('operator"" _s(char const*)', ITANIUM)),
-    ([], "_Z7größei".encode(), text("größe(int)", ITANIUM)),
-    (["--no-params"], b"_ZNK1A1fEv", text("A::f", ITANIUM)),
-    (["--brief"], b"_ZN1A1fIiEEvT_", text("void A::f(int)", ITANIUM)),
+    ([], b"_Zli2_sPKc", text('operator"" _s(char const*)', ITANIUM, "literal_operator", LITERAL)),
+    (["--escape"], b"_Zli2_sPKc", text('operator"" _s(char const*)', ITANIUM, "literal_operator", LITERAL)),
+    (["--color=always"], b"_Z1fv", text("f()", ITANIUM, "function", F)),
+    ([], "_Z7größei".encode(), text("größe(int)", ITANIUM, "function", "base:0+7 parameters:7+5 parameter:8+3")),
+    (["--no-params"], b"_ZNK1A1fEv", text("A::f", ITANIUM, "function", "scope:0+1 base:3+1")),
+    (["--brief"], b"_ZN1A1fIiEEvT_", text("void A::f(int)", ITANIUM, "function", "return_type:0+4 scope:5+1 base:8+1 parameters:9+5 parameter:10+3")),
+    ([], b"_ZN1A1fIiEEvT_", text("void A::f<int>(int)", ITANIUM, "function", "return_type:0+4 scope:5+1 base:8+1 generic_arguments:9+5 generic_argument:10+3 parameters:14+5 parameter:15+3")),
+    ([], b"_ZTV1A", text("vtable for A", ITANIUM, "vtable", "special:0+10 object:11+1")),
+    (["--short"], b"_Z1fv", text("f()", ITANIUM)),
+    (["--spelling=gnu"], b"_Z1fv", text("f()", ITANIUM)),
     (["--types"], b"PKc", text("char const*", ITANIUM)),
-    (["--types"], b"_Z1fv", text("f()", ITANIUM)),
+    (["--types"], b"_Z1fv", text("f()", ITANIUM, "function", F)),
     ([], b"PKc", error("not-a-symbol")),
     ([], b"_Z1fY", error("malformed", 4)),
     ([], b"__RNvC3fo", error("malformed", 8)),
@@ -65,7 +82,7 @@ NAMES = [
     ([], b"_Z1fv\n", error("malformed", 5)),
     ([], b"\x01\x1b\x7f\t\r\n", error("not-a-symbol")),
     ([], b"\xff\xfe", error("not-a-symbol")),
-    ([], b"_Z1\xff", text("\ufffd", ITANIUM)),
+    ([], b"_Z1\xff", text("\ufffd", ITANIUM, "variable", "base:0+1")),
     ([], b"_Z1fv\xff", error("malformed", 5)),
     ([], b"\xe2\x82", error("not-a-symbol")),
     ([], b"\xed\xa0\x80", error("not-a-symbol")),
@@ -76,13 +93,13 @@ NAMES = [
 # a text, and the lines, names and words of its objects
 TEXT = b"""a _Z1fv _Z1fY\n{"at":"_Zli2_sPKc"}\xff\n\n\xe2\x80\x98_Z1fv\xe2\x80\x99 .text._ZN1A1fEv. \x1b[31m_RNvC3foo3bar\x1b[0m\x00_ZL5caf\xc3\xa9\nno name _Z\xff"""
 OBJECTS = [
-    (1, "_Z1fv", text("f()", ITANIUM)),
+    (1, "_Z1fv", text("f()", ITANIUM, "function", F)),
     (1, "_Z1fY", error("malformed", 4)),
-    (2, "_Zli2_sPKc", text('operator"" _s(char const*)', ITANIUM)),
-    (4, "_Z1fv", text("f()", ITANIUM)),
-    (4, "_ZN1A1fEv", text("A::f()", ITANIUM)),
-    (4, "_RNvC3foo3bar", text("foo::bar", V0)),
-    (4, "_ZL5café", text("café", ITANIUM)),
+    (2, "_Zli2_sPKc", text('operator"" _s(char const*)', ITANIUM, "literal_operator", LITERAL)),
+    (4, "_Z1fv", text("f()", ITANIUM, "function", F)),
+    (4, "_ZN1A1fEv", text("A::f()", ITANIUM, "function", "scope:0+1 base:3+1 parameters:4+2")),
+    (4, "_RNvC3foo3bar", text("foo::bar", V0, "value", FOO_BAR)),
+    (4, "_ZL5café", text("café", ITANIUM, "variable", "base:0+5")),
     (5, "_Z\ufffd", error("malformed", 2)),
 ]
 
@@ -162,6 +179,7 @@ class Checks:
         for name, found in zip(names, objects):
             self.require(found.get("symbol") == shown(name), "%r: %r" % (name, found))
             said = found.get("text")
+            self.check_details(found)
             if said is not None:
                 # without objects a name is a line of text, where no symbol has a byte of no word
                 out, _, _ = self.with_names([], [name])
@@ -174,10 +192,24 @@ class Checks:
                 _, err, _ = self.with_names(["--why"], [name])
                 self.require(err in (b"", b"demangle: " + name + b": " + reason.encode() + b"\n"), "%r: %r, not %r" % (name, reason, err))
 
+    def check_details(self, found):
+        """A name's object has details exactly where it has a text, and the parts are in order within it."""
+        self.require(("kind" in found, "parts" in found) == ("text" in found, "text" in found), "no details: %r" % found)
+        size = len(found.get("text", "").encode())
+        before = []
+        for part in found.get("parts", []):
+            start, end = part["start"], part["start"] + part["length"]
+            # a byte that isn't UTF-8 is three in the string
+            self.require(0 <= start <= end <= size, "no stretch: %r" % found)
+            self.require(all(other <= start and (end <= last or last <= start) for other, last in before), "out of order: %r" % found)
+            before.append((start, end))
+
     def check_any_text(self, text_):
         """A text of any bytes: an object for each word that `--why` counts, and the lines are those of the words left."""
         out, _, _ = self.run(["--json"], text_)
         objects = self.objects(out)
+        for found in objects:
+            self.check_details(found)
         _, err, _ = self.run(["--why"], text_)
         counted = re.search(rb"demangle: (\d+) of (\d+) symbols stay\n\Z", err)
         self.require(counted is not None and len(objects) == int(counted[2]), "%d objects: %r" % (len(objects), err[-80:]))

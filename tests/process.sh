@@ -2,7 +2,7 @@
 # What only a process of demangle shows: tests/process.sh DEMANGLE.
 #
 # Its statuses where a stream fails, with why; a reader that has gone; arguments of any bytes; files of arguments, devices among
-# them; what is said where a file is given in the place of a name. The status is 1 where one comes out otherwise.
+# them; what is said where a file is given in the place of a name; colours on a terminal. The status is 1 where one comes out otherwise.
 set -u
 [ $# -eq 1 ] || { echo "usage: $0 DEMANGLE" >&2; exit 2; }
 demangle=$(realpath "$(command -v "$1")") || { echo "$0: there is no $1" >&2; exit 2; }
@@ -75,5 +75,21 @@ ends 'a file' 0 'crash.log\n' 'demangle: crash.log is not a name; for a file: de
 ends 'a file, strictly' 1 'x\n./names\n' 'demangle: ./names is not a name; for a file: demangle < ./names\n' --strict x ./names
 ends 'a file beside a name' 0 'crash.log\nf()\n' '' crash.log _Z1fv
 ends 'no file' 0 '.\nnames\nnone.log\n' '' . names none.log
+
+# Colours, where standard output is a terminal, if they are asked for.
+on_terminal() { python3 -c 'import pty, sys; pty.spawn(sys.argv[1:])' "$demangle" "$@" </dev/null | tr -d '\r'; }
+colors() { # colors NAME WANTED WORD..: what the program writes to a terminal
+    local name=$1 wanted got && wanted=$(printf "$2")
+    shift 2
+    got=$(on_terminal "$@")
+    [ "$got" = "$wanted" ] || { echo "FAILED $name: $(printf %q "$got")"; failed=1; }
+}
+if command -v python3 >/dev/null; then
+    colors 'on a terminal' '\033[1mf\033[0m\033[2m()\033[0m' --color=auto _Z1fv
+    colors 'on a terminal, without a word' '\033[1mf\033[0m\033[2m()\033[0m' _Z1fv --color
+    colors 'never' 'f()' --color=never _Z1fv
+    colors 'without the option' 'f()' _Z1fv
+fi
+ends 'no terminal' 0 'f()\n' '' --color=auto _Z1fv
 [ $failed -ne 0 ] || echo 'process.sh: ok'
 exit $failed

@@ -274,6 +274,7 @@ def full(text):
 FORMS = {"std::less<%0>", "std::allocator<%0>", "std::char_traits<%0>", "std::char_traits<%1>", "std::hash<%0>", "std::equal_to<%0>", "std::default_delete<%0>",
          "std::default_accessor<%0>", "std::regex_traits<%0>", "std::allocator<std::sub_match<%0>>", "std::allocator<std::pair<%0 const, %1>>", "std::layout_right",
          "std::unreachable_sentinel_t", "long", "char", "void", "false", "1l", "18446744073709551615ul", "%1*", "%1&"}
+INNER_FORMS = {"std::deque<%0>", "std::vector<%0>", "std::vector<%1>", "std::istreambuf_iterator<%0>", "std::ostreambuf_iterator<%0>", "std::ratio<1l>"}
 WITH_ALIAS = {template for _, template, _ in ALIASES}
 
 
@@ -282,7 +283,7 @@ class NotMade(Exception):
 
 
 def is_simple(name):
-    return name not in WITH_ALIAS and all(not pattern or pattern in FORMS for pattern in DEFAULTS[name])
+    return all(not pattern or pattern in FORMS | INNER_FORMS for pattern in DEFAULTS[name])
 
 
 def pass_other(run):
@@ -292,14 +293,52 @@ def pass_other(run):
         raise NotMade
 
 
+def instance(name):
+    """The list that a usual name is for, and its template; none where it is no usual name."""
+    std = std_name(name)
+    for alias, template, arguments in ALIASES if std else ():
+        if std[1] == alias:
+            return f"{name[:len(name) - len(alias)]}{template}<{filled(arguments, '', '', std[0])}>", template
+    return None
+
+
+@lru_cache(maxsize=None)
+def is_usual(name):
+    std = std_name(name)
+    others = [alias for alias, _, _ in ALIASES if std and std[1].startswith(alias) and len(alias) != len(std[1]) and not LETTER.match(std[1], len(alias))]
+    return instance(name) is not None and not others and not named(name) and not pmr_in(name) and full_to(4, instance(name)[0]) == full_to(3, instance(name)[0])
+
+
+def pass_free(text, at):
+    """Neither a name nor a list is in a place."""
+    if at < len(text) and (text[at] == "<" or RUN.match(text, at)):
+        raise NotMade
+    return at
+
+
+def pass_list(text, at):
+    """Where a list ends that is in a place, as it is or by its usual name; none where there is none."""
+    run = RUN.match(text, at)
+    if run and text.startswith("<", run.end()) and named(run[0]):
+        name = named(run[0])[1]
+        if not is_simple(name):
+            raise NotMade
+        end = pass_elements(text, run.end() + 1, run[0])
+        return pass_free(text, end) if name in WITH_ALIAS else end
+    if run and instance(run[0]):
+        if not is_usual(run[0]) or not is_simple(instance(run[0])[1]):
+            raise NotMade
+        return pass_free(text, run.end())
+    return None
+
+
 def pass_parts(text, at, in_list):
     """Where parts within brackets end."""
     while at < len(text):
         run = RUN.match(text, at)
-        if run and text.startswith("<", run.end()) and named(run[0]):
-            if not is_simple(named(run[0])[1]):
-                raise NotMade
-            at = pass_elements(text, run.end() + 1, run[0])
+        end = pass_list(text, at)
+        if end is not None:
+            at = end
         elif run:
             if re.search(r"(?<![\w$.\x80-\xff])operator\Z", run[0], re.ASCII):
                 raise NotMade
@@ -334,41 +373,49 @@ def pass_elements(text, at, run):
         pattern = polymorphic(name)
         if len(elements) == len(DEFAULTS[name]) and pattern and elements[-1] == filled_for(whole, elements, pattern):
             raise NotMade
+        left = left_of(whole, name, elements, len(elements)) if len(elements) <= len(DEFAULTS[name]) else len(elements)
+        called = short_list(run, elements, "")[0]
+        if called != listed(run, elements[:left]) and not (is_usual(called) and instance(called)[0] == listed(run, elements[:left])):
+            raise NotMade
     return at
 
 
 @lru_cache(maxsize=None)
 def list_of(name):
     """The list in full that a usual name is for; none where it isn't one."""
-    std = std_name(name)
-    for alias, template, _ in ALIASES if std else ():
-        if std[1] == alias:
-            run = name[:len(name) - len(alias)] + template
-            return full(name)[0] if pass_elements(full(name)[0], len(run) + 1, "") == len(full(name)[0]) else None
-    return None
+    if not instance(name):
+        return None
+    front = len(instance(name)[0].split("<", 1)[0]) + 1
+    return full(name)[0] if pass_elements(full(name)[0], front, "") == len(full(name)[0]) else None
 
 
-def goes_on(behind, alias, template):
-    """A text goes on with neither a name nor a list, or with the name of a member that is no constructor."""
+def behind_usual(behind, alias, template, is_list):
+    """How long the name of a member, constructor or destructor after a usual name or its list is; none where it goes on otherwise."""
+    own, usual = last_part(template), class_of(alias, template)
+    front = constructs(behind, own if is_list else usual)
+    if front and own != usual:
+        size = len(front) + len(own if is_list else usual)
+        return None if RUN.match(behind, size) else size
     member = RUN.match(behind)
     if not member:
-        return not behind.startswith("<")
-    own = (last_part(template), class_of(alias, template))
-    return member[0].startswith("::") and len(member[0]) > 2 and not member[0][2:].startswith(own)
+        return None if behind.startswith("<") else 0
+    return len(member[0]) if member[0].startswith("::") and len(member[0]) > 2 and not member[0][2:].startswith((own, usual)) else None
 
 
 def pass_usual(text, at):
-    """Where a usual name or its list ends that a text has in a place; none where there is neither."""
+    """Where a usual name or its list ends that a text has in a place, with a member after it; none where there is neither."""
     run = RUN.match(text, at)[0]
     std = std_name(run)
     for alias, template, _ in ALIASES if std else ():
-        if std[1] == alias or std[1].startswith(alias + "::"):
-            name = run[:len(run) - len(std[1]) + len(alias)]
-            return at + len(name) if list_of(name) and goes_on(text[at + len(name):], alias, template) else None
-        front = run[:len(run) - len(template)]
-        if std[1] == template and list_of(front + alias) and text.startswith(list_of(front + alias), at):
-            behind = at + len(list_of(front + alias))
-            return behind if goes_on(text[behind:], alias, template) else None
+        front, is_list = None, std[1] == template
+        if std[1].startswith(alias) and not LETTER.match(std[1], len(alias)):
+            front = run[:len(run) - len(std[1])]
+        elif is_list and list_of(run[:len(run) - len(template)] + alias):
+            front = run[:len(run) - len(template)]
+        item = front is not None and (list_of(front + alias) if is_list else front + alias)
+        if item and list_of(front + alias) and text.startswith(item, at):
+            size = behind_usual(text[at + len(item):], alias, template, is_list)
+            return None if size is None else at + len(item) + size
     return None
 
 
@@ -382,11 +429,8 @@ def is_made(text):
                 at += 1
             elif pass_usual(text, at):
                 at = pass_usual(text, at)
-                at += len(RUN.match(text, at)[0]) if RUN.match(text, at) else 0
-            elif text.startswith("<", run.end()) and named(run[0]):
-                if not is_simple(named(run[0])[1]):
-                    return False
-                at = pass_elements(text, run.end() + 1, run[0])
+            elif pass_list(text, at) is not None:
+                at = pass_list(text, at)
             else:
                 pass_other(run[0])
                 at = run.end()

@@ -35,7 +35,7 @@ def git(folder, *words):
 
 def copied(folder):
     """Copies what the scripts read and write, as a repository of its own."""
-    for name in ("crates", "docs", "tools"):
+    for name in ("callers", "crates", "docs", "tools"):
         shutil.copytree(f"{ROOT}/{name}", f"{folder}/{name}", ignore=shutil.ignore_patterns("out", "__pycache__"))
     shutil.copy(f"{ROOT}/crates.txt", folder)
     git(folder, "init", "-q")

@@ -31,9 +31,9 @@ from truth.entries import Entries
 from truth.spelling import Speller, answer, names_of
 
 HERE = pathlib.Path(__file__).resolve().parent
-# A source that needs a newer standard begins with its name.
-STANDARDS = {"// C++23": "-std=c++2b"}
-USUAL_STANDARD = "-std=c++20"
+# A source that needs a newer standard, or is a module's interface, begins with a line that says so.
+STANDARDS = {"// C++23": ["-std=c++2b"], "// C++20 module": ["-std=c++20", "-fmodules-ts"]}
+USUAL_STANDARD = ["-std=c++20"]
 COMPILER = re.compile(r"(g|clang)\+\+(-\d+)?")
 DUMPER = re.compile(r"llvm-dwarfdump(-\d+)?")
 # A symbol of the wide grammar: a program that leaves it mangled reads it with an option.
@@ -68,11 +68,15 @@ def command_of(program):
 def entries_of(compiler, source, dwarfdump):
     """The entries of a source's debug information, or None where the compiler refuses the source."""
     with tempfile.TemporaryDirectory() as folder, source.open() as lines:
-        standard = next((it for begin, it in STANDARDS.items() if next(lines, "").startswith(begin)), USUAL_STANDARD)
+        first = next(lines, "")
+        standard = next((it for begin, it in STANDARDS.items() if first.startswith(begin)), USUAL_STANDARD)
         whole = ["-fstandalone-debug"] if "clang" in os.path.basename(compiler) else []
+        if "-fmodules-ts" in standard and whole:
+            standard = ["-std=c++20", "-x", "c++-module"]
         made = f"{folder}/made.o"
-        command = [compiler, standard, "-g", "-O0", "-w", "-fPIC", *whole, "-c", str(source), "-o", made]
-        ran = subprocess.run(command, stderr=subprocess.PIPE, text=True, errors="replace")
+        command = [compiler, *standard, "-g", "-O0", "-w", "-fPIC", *whole, "-c", str(source.resolve()), "-o", made]
+        # g++ writes a module's interface into the folder that it runs in.
+        ran = subprocess.run(command, cwd=folder, stderr=subprocess.PIPE, text=True, errors="replace")
         if ran.returncode:
             error = next((it for it in ran.stderr.splitlines() if "error" in it), ran.stderr.strip() or "it fails")
             print(f"{compiler}: {source.name} isn't tested: {error}")

@@ -8,6 +8,7 @@ written. A row of a word longer than those that the filter takes is skipped, and
 hold, 2 where the program can't be run or there is no row.
 """
 
+import json
 import os
 import subprocess
 import sys
@@ -252,6 +253,17 @@ def check_demangle(program, status, words, text, out, err):
     return [] if same else [f"{found!r}, not {wanted!r}"]
 
 
+def check_parts(program, word, kind, text, parts):
+    """The program gives a name's parts as an object of JSON, whose texts have U+FFFD for bytes that aren't UTF-8."""
+    if program.other is None:
+        raise Skipped("a row of the program demangle, which wasn't given")
+    out, err, status = program.other.run(["--json", unescaped(word).decode()])
+    found = json.loads(out) if status == 0 and not err else {}
+    spelled = " ".join("{role}:{start}+{length}".format(**part) for part in found.get("parts", ()))
+    wanted = (kind.decode(), unescaped(text).decode("utf-8", "replace"), parts.decode())
+    return [] if (found.get("kind"), found.get("text"), spelled) == wanted else [f"{(out, err, status)!r}"]
+
+
 CHECKS = {
     b"text": check_text,
     b"long": check_long,
@@ -268,6 +280,7 @@ CHECKS = {
     b"press": check_press,
     b"wide press": check_wide_press,
     b"tree": check_tree,
+    b"parts": check_parts,
     b"way": check_way,
     b"filter": check_filter,
     b"command": check_command,

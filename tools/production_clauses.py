@@ -164,7 +164,7 @@ def arms(function, productions):
         yield from [line] if len(line) <= 100 else [f"            Production::{name} => self.{function}(", *given, "            ),"]
 
 def may_leave(crates):
-    """What may leave a tree that is no candidate yet: what begins the kinds whose trees become candidates later, but for names."""
+    """What may leave a tree that is no candidate yet: what begins the kinds whose trees become candidates later, names aside."""
     text = read(f"{crates}/cpp_link/proofs/CandidatesFew.antt")
     kinds = set(re.findall(r"nat_eq k (\w+)", re.search(r"^becomes_candidate k =\n((?:    .*\n)+)", text, re.M)[1]))
     names = set(re.findall(r"^makes_name Production\.(\w+) = true$", text, re.M))

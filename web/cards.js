@@ -77,6 +77,32 @@ export function card(name, number, options, { asksDetails, changes }) {
 /** Whether a name that stands alone shows its details at once. */
 export const opensAtOnce = (name) => name.length < OPEN_AT_ONCE;
 
+const inWords = (word) => word.replaceAll("_", " ");
+
+/** A piece of a text, with an entry of the list for each part: what is pointed at or has the focus in one is lit in the other. */
+function shownPiece(piece, list) {
+    if (typeof piece === "string") return visible(piece);
+    const entry = element("li", "", element("span", "role", inWords(piece.role)));
+    list.append(entry);
+    const span = element("span", `part ${piece.role}`, ...piece.inside.map((it) => shownPiece(it, list)));
+    entry.append(" ", element("code", "", span.textContent));
+    entry.tabIndex = 0;
+    const lights = (isLit) => { for (const it of [span, entry]) it.classList.toggle("lit", isLit); };
+    for (const [event, isLit] of [["pointerenter", true], ["focus", true], ["pointerleave", false], ["blur", false]]) entry.addEventListener(event, () => lights(isLit));
+    span.addEventListener("pointerover", (event) => { event.stopPropagation(); lights(true); });
+    span.addEventListener("pointerout", () => lights(false));
+    return span;
+}
+
+/** Tells the parts of a card's text apart, and lists them. */
+export function showParts(card, { kind, pieces }) {
+    const list = element("ul");
+    card.querySelector(".said").replaceChildren(...pieces.map((it) => shownPiece(it, list)));
+    const place = card.querySelector(".parts");
+    place.replaceChildren(element("p", "", "What it names: ", element("strong", "", inWords(kind))), list);
+    place.hidden = false;
+}
+
 /** Puts the counts and the pressed spelling in their place. */
 export function showDetails(place, { counts, pressed, why: reason, length }, word) {
     const rows = [];

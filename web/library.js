@@ -1,7 +1,7 @@
 // The calls of callers/c/symdemangle.h over the WebAssembly module. It runs in a worker, and in Node for the tests.
 //
-// What is lent to a call lies after the module's own data, laid anew for each call: its result, its bytes, its buffer, and the
-// block from which its lists come. A call gives back all memory by its end. Where the buffer or the block is too small, it is
+// What is lent to a call lies after the module's own data, laid anew for each call: its result, its bytes, its buffer, its parts, and
+// the block from which its lists come. A call gives back all memory by its end. Where the buffer or the block is too small, it is
 // made larger and the call is repeated.
 
 export const STATUS = {
@@ -20,8 +20,10 @@ const PAGE = 65_536; // the unit of a WebAssembly memory
 const LEAST_BLOCK = 1 << 20;
 const MOST_BLOCK = 1 << 28;
 const MOST_BUFFER = 1 << 26;
-const SIZE_OF_RESULT = 16;
+const SIZE_OF_RESULT = 32; // a name's; a text's has 16
 const SIZE_OF_FIGURES = 32; // a tally or counts
+const SIZE_OF_PART = 12;
+const MOST_PARTS = 1 << 20;
 const up = (count, to) => Math.ceil(count / to) * to;
 
 export class Library {
@@ -29,6 +31,7 @@ export class Library {
     #calls;
     #base;
     #capacity = PAGE;
+    #partCapacity = 256;
     #block = LEAST_BLOCK;
 
     /** @param {WebAssembly.Module} module */
@@ -56,14 +59,16 @@ export class Library {
         }
     }
 
-    /** Lays out what a call is lent, `call`s with the places, and answers its status, offset, bytes and figures. */
-    #run(given, call) {
+    /** Lays out what a call is lent, `call`s with the places, and answers its status, offset, bytes and figures; of a call for the parts of
+     *  a name how many there are, too. */
+    #run(given, call, hasParts = false) {
         for (;;) {
             const result = this.#base;
             const figures = result + SIZE_OF_RESULT;
             const bytes = figures + SIZE_OF_FIGURES;
             const buffer = up(bytes + given.length + 1, 16);
-            const block = buffer + up(this.#capacity, 16);
+            const parts = buffer + up(this.#capacity, 16);
+            const block = parts + up(this.#partCapacity * SIZE_OF_PART, 16);
             if (!this.#reaches(block + this.#block)) return { status: STATUS.MEMORY };
             const memory = this.#calls.memory.buffer;
             new Uint8Array(memory).fill(0, result, bytes).set(given, bytes);
@@ -72,7 +77,7 @@ export class Library {
                 this.#calls.symdemangle_arena_set(BigInt(block), BigInt(this.#block));
                 status = call(this.#calls, {
                     result: BigInt(result), figures: BigInt(figures), bytes: BigInt(bytes), length: BigInt(given.length),
-                    buffer: BigInt(buffer), capacity: BigInt(this.#capacity),
+                    buffer: BigInt(buffer), capacity: BigInt(this.#capacity), parts: BigInt(parts), partCapacity: BigInt(this.#partCapacity),
                 });
             } catch (error) {
                 this.#start(); // a trap, which no proved call has: the memory may be half written
@@ -80,9 +85,12 @@ export class Library {
             }
             const view = new DataView(memory);
             const length = Number(view.getBigUint64(result, true));
-            if (status === STATUS.BUFFER && length <= MOST_BUFFER) this.#capacity = up(length, PAGE);
-            else if (status === STATUS.MEMORY && this.#block < MOST_BLOCK) this.#block *= 4;
-            else return { status, length, offset: view.getUint32(result + 8, true), memory, view, buffer, figures };
+            const count = hasParts ? Number(view.getBigUint64(result + 8, true)) : 0;
+            if (status === STATUS.BUFFER && length <= MOST_BUFFER && count <= MOST_PARTS) {
+                this.#capacity = Math.max(this.#capacity, up(length, PAGE));
+                this.#partCapacity = Math.max(this.#partCapacity, count);
+            } else if (status === STATUS.MEMORY && this.#block < MOST_BLOCK) this.#block *= 4;
+            else return { status, length, count, offset: view.getUint32(result + 8, true), memory, view, result, buffer, parts, figures };
         }
     }
 
@@ -94,6 +102,20 @@ export class Library {
     text(name, limit, flags) {
         return this.#bytes(this.#run(name, (calls, at) =>
             calls.symdemangle_text(at.bytes, at.length, limit, flags, at.buffer, at.capacity, at.result)));
+    }
+
+    /** The text of a name, with what the name is and the parts of its text: the role of each, and the bytes of the text that it is. */
+    parts(name, limit, flags) {
+        const answer = this.#run(name, (calls, at) => calls.symdemangle_parts(
+            at.bytes, at.length, limit, flags, at.buffer, at.capacity, at.parts, at.partCapacity, at.result), true);
+        const { status, count, view, result } = answer;
+        if (status !== STATUS.OK) return { status, offset: view?.getUint32(result + 16, true) };
+        const kind = this.#word("kind", view.getUint32(result + 24, true));
+        const parts = Array.from({ length: count }, (_, number) => {
+            const [role, start, length] = [0, 4, 8].map((i) => view.getUint32(answer.parts + number * SIZE_OF_PART + i, true));
+            return { role: this.#word("role", role), start, length };
+        });
+        return { ...this.#bytes(answer), kind, parts };
     }
 
     /** A text with each word that is a name replaced, and how many words, replaced and refused ones there were. */
@@ -122,7 +144,12 @@ export class Library {
 
     /** What a status says, in the library's words. */
     message(status) {
-        const from = Number(this.#calls.symdemangle_message(status));
+        return this.#word("message", status);
+    }
+
+    /** The library's words for a number of a kind: a message, a role or a kind. */
+    #word(of, number) {
+        const from = Number(this.#calls[`symdemangle_${of}`](number));
         const memory = new Uint8Array(this.#calls.memory.buffer);
         return new TextDecoder().decode(memory.slice(from, memory.indexOf(0, from)));
     }

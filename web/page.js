@@ -1,6 +1,6 @@
 // The page: what is typed, pasted or dropped goes to the worker, and its answers are shown.
 import { fromAddress } from "./address.js";
-import { card, opensAtOnce, showDetails, why } from "./cards.js";
+import { card, opensAtOnce, showDetails, showParts, why } from "./cards.js";
 import { endJob, failJob, finishJob, isCurrent, showProgress, startJob } from "./job.js";
 import { DEFAULT_LIMIT, GREATEST_LIMIT, STATUS } from "./library.js";
 import { $, SHOWN_TEXT, copy, cut, element, inTime, many, n, save, visible } from "./show.js";
@@ -8,6 +8,7 @@ import { $, SHOWN_TEXT, copy, cut, element, inTime, many, n, save, visible } fro
 const SHOWN_WHOLE = 100_000; // characters of the whole text that are laid out
 const SHOWN_NAMES = 100;
 const MORE_NAMES = 400;
+const TOLD_APART = 4096; // characters of a text whose parts are told apart
 const LONG_PASTE = 1_000_000; // characters from which a paste is filtered as a file is, since laying it out takes long
 const MOST_ROWS = 18;
 const PATIENCE = 300; // ms after which work is reported
@@ -32,7 +33,7 @@ let asked = 0; // the id of the newest question
 let answered = 0;
 let shown; // the last view
 let isStopped = false; // a person ended the work, so it isn't begun again by itself
-const waiting = new Map(); // details that were asked: where they go, and of what name, by id
+const waiting = new Map(); // details that were asked: where they go, and of what name, by id; and parts: of which view, and which names
 
 function start() {
     worker = new Worker("worker.js", { type: "module" });
@@ -60,6 +61,12 @@ const answers = {
         if (!place) return;
         showDetails(place, data, word);
         if (!$("halt").hidden && answered === asked) tells(shown);
+    },
+    parts({ id, found }) {
+        const { view, numbers } = waiting.get(id) ?? {};
+        waiting.delete(id);
+        if (view !== shown) return;
+        for (const [i, it] of found.entries()) if (it) showParts($(`name-${numbers[i]}`), it);
     },
     progress: showProgress,
     file: finishJob,
@@ -212,13 +219,25 @@ function showNames(most) {
             tellsIfLong(() => waiting.has(id));
         },
     };
+    const numbers = [];
     while (list.children.length < Math.min(most, names.length)) {
         const number = list.children.length;
         list.append(card(names[number], number, options, asks));
+        if (names[number].text?.length <= TOLD_APART) numbers.push(number);
     }
+    asksParts(numbers);
     const left = names.length - list.children.length;
     $("more").hidden = !left;
     $("more").textContent = `Show ${n(Math.min(left, MORE_NAMES))} more of ${n(left)}`;
+}
+
+/** Asks for the parts of the texts of names; a short text has none. */
+function asksParts(numbers) {
+    const { names, options } = shown;
+    if (!numbers.length || options.short) return;
+    const id = `parts ${Math.random()}`;
+    waiting.set(id, { view: shown, numbers });
+    worker.postMessage({ kind: "parts", id, words: numbers.map((it) => names[it].word), options });
 }
 
 /** Leads from a name in the text to its card. */

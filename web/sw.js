@@ -4,7 +4,7 @@
 
 const KEPT = "symdemangle";
 const FILES = [
-    "./", "style.css", "page.js", "address.js", "cards.js", "job.js", "library.js", "show.js", "words.js", "worker.js",
+    "./", "style.css", "page.js", "address.js", "cards.js", "job.js", "library.js", "pieces.js", "show.js", "words.js", "worker.js",
     "symdemangle.wasm", "module.json", "manifest.webmanifest", "icon.svg",
 ];
 

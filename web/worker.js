@@ -1,11 +1,13 @@
 // All work of the page that may take long. It answers by `id` what it is asked, and gives up what a newer question replaces.
 import { FLAG, LONGEST_WORD, Library, STATUS } from "./library.js";
+import { piecesOf, textOf } from "./pieces.js";
 import { PieceFilter, flagsOf, namesOf } from "./words.js";
 
 const encoder = new TextEncoder();
 const decoder = new TextDecoder();
 const SLICE = 30; // ms of work between two looks at what was asked since
 const KEPT = 20_000; // names whose answers are kept
+const MOST_PARTS = 500; // of a text that are told apart
 const IN_MEMORY = 1 << 24; // bytes of a filtered file, before they are put into a blob, which the browser may keep on disk
 
 let library;
@@ -105,6 +107,19 @@ function details({ id, word, options }) {
     });
 }
 
+/** What a name is, and its text in pieces, where its text has parts: a short one has none. */
+function piecesFor(word, options) {
+    const { status, bytes, kind, parts } = library.parts(encoder.encode(word), options.limit, flagsOf(options));
+    if (status !== STATUS.OK || parts.length > MOST_PARTS) return null;
+    const pieces = piecesOf(bytes, parts);
+    return textOf(pieces) === decoder.decode(bytes) ? { kind, pieces } : null;
+}
+
+/** The pieces of the texts of names. */
+function parts({ id, words, options }) {
+    postMessage({ id, kind: "parts", found: words.map((word) => piecesFor(word, options)) });
+}
+
 async function file({ id, blob, options }) {
     const began = performance.now();
     const filter = new PieceFilter(library, options.limit, flagsOf(options));
@@ -148,6 +163,7 @@ onmessage = async ({ data }) => {
         if (data.kind === "start") start(data);
         else if (data.kind === "view") { newest = data.id; await view(data); }
         else if (data.kind === "details") details(data);
+        else if (data.kind === "parts") parts(data);
         else if (data.kind === "file") await file(data);
         else if (data.kind === "cancel") cancelled = data.id;
     } catch (error) {

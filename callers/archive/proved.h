@@ -7,6 +7,14 @@
 
 void symdemangle_text_of(const char *name, size_t name_length, uint32_t limit, uint32_t flags, char *buffer, size_t capacity,
                          symdemangle_result *result);
+/* What a name has beside its text: how many parts that has, and the numbers of its kind and its mangling. */
+struct symdemangle_found {
+    size_t count;
+    uint32_t kind, mangling;
+};
+void symdemangle_parts_of(const char *name, size_t name_length, uint32_t limit, uint32_t flags, char *buffer, size_t capacity,
+                          symdemangle_part *parts, size_t part_capacity, struct symdemangle_found *found,
+                          symdemangle_result *result);
 uint32_t symdemangle_texts_of(const char *names, size_t names_length, const size_t *ends, size_t count, uint32_t limit,
                               uint32_t flags, char *buffer, size_t capacity, symdemangle_result *results,
                               size_t results_count);

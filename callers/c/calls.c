@@ -276,6 +276,64 @@ static void counted(void)
     check(symdemangle_count("_ZN1AC4Ev", 9, SYMDEMANGLE_WIDE, &counts, &result) == SYMDEMANGLE_OK, "wide counts", "_ZN1AC4Ev");
 }
 
+/* The parts of a name, as "role:start+length" with blanks between, and its kind. */
+static void has_parts(const char *name, uint32_t flags, const char *kind, uint32_t mangling, const char *text, const char *wanted)
+{
+    symdemangle_part parts[16];
+    symdemangle_name told;
+    char shown[512] = "";
+    size_t k, used = 0;
+    memset(buffer, '#', sizeof buffer);
+    check(symdemangle_parts(name, strlen(name), 999, flags, buffer, sizeof buffer, parts, 16, &told) == SYMDEMANGLE_OK && told.status == 0 &&
+          told.offset == 0, "status of parts", name);
+    check(told.length == strlen(text) && memcmp(buffer, text, told.length) == 0 && is_kept(told.length), "text with parts", name);
+    check(symdemangle_kind(told.kind) && strcmp(symdemangle_kind(told.kind), kind) == 0 && told.mangling == mangling, "kind", name);
+    for (k = 0; k < told.count && used < sizeof shown; k++)
+        used += (size_t)snprintf(shown + used, sizeof shown - used, "%s%s:%u+%u", k ? " " : "", symdemangle_role(parts[k].role),
+                                 (unsigned)parts[k].start, (unsigned)parts[k].length);
+    check(strcmp(shown, wanted) == 0, "parts", name);
+    memset(buffer, '#', sizeof buffer);
+    check(symdemangle_parts(name, strlen(name), 999, flags, buffer, sizeof buffer, parts, told.count - 1, &told) == SYMDEMANGLE_BUFFER &&
+          told.length == strlen(text) && is_kept(0), "too few parts", name);
+    k = told.count;
+    check(symdemangle_parts(name, strlen(name), 999, flags, buffer, strlen(text) - 1, parts, 16, &told) == SYMDEMANGLE_BUFFER &&
+          told.count == k && told.length == strlen(text) && is_kept(0), "a buffer that is too small for parts", name);
+    check(symdemangle_parts(name, strlen(name), 999, flags, NULL, 0, NULL, 0, &told) == SYMDEMANGLE_BUFFER && told.count == k, "no parts", name);
+}
+
+static void has_no_parts(const char *name, uint32_t limit, uint32_t flags, uint32_t status, uint32_t offset)
+{
+    symdemangle_part parts[4];
+    symdemangle_name told;
+    memset(buffer, '#', sizeof buffer);
+    check(symdemangle_parts(name, strlen(name), limit, flags, buffer, sizeof buffer, parts, 4, &told) == status && told.status == status &&
+          told.offset == offset && told.length == 0 && told.count == 0 && told.kind == 0 && told.mangling == 0 && is_kept(0), "no parts", name);
+}
+
+static void parts_of_texts(void)
+{
+    symdemangle_part part;
+    symdemangle_name told;
+    has_parts("_ZTV1A", 0, "vtable", SYMDEMANGLE_ITANIUM, "vtable for A", "special:0+10 object:11+1");
+    has_parts("_ZNK1A1fIiEEvT_", 0, "function", SYMDEMANGLE_ITANIUM, "void A::f<int>(int) const",
+              "return_type:0+4 scope:5+1 base:8+1 generic_arguments:9+5 generic_argument:10+3 parameters:14+5 parameter:15+3 qualifiers:19+6");
+    has_parts("_ZNK1A1fIiEEvT_", SYMDEMANGLE_BRIEF + SYMDEMANGLE_NO_PARAMETERS, "function", SYMDEMANGLE_ITANIUM, "A::f", "scope:0+1 base:3+1");
+    has_parts("__ZN1AC4Ev", SYMDEMANGLE_WIDE + SYMDEMANGLE_UNDERSCORE, "constructor", SYMDEMANGLE_ITANIUM, "A::A()",
+              "scope:0+1 base:3+1 parameters:4+2");
+    has_parts("_ZN3foo3bar17h0123456789abcdefE", SYMDEMANGLE_LEGACY, "value", SYMDEMANGLE_RUST_LEGACY, "foo::bar", "scope:0+3 crate:0+3 base:5+3");
+    has_no_parts("_Z1fv", 5, 0, SYMDEMANGLE_TOO_LONG, 0);
+    has_no_parts("_Z1fY", 99, 0, SYMDEMANGLE_MALFORMED, 4);
+    has_no_parts("main", 99, 0, SYMDEMANGLE_NO_SYMBOL, 0);
+    has_no_parts("_Z1fv", 99, SYMDEMANGLE_SHORT, SYMDEMANGLE_FLAGS, 0);
+    has_no_parts("_Z1fv", 99, SYMDEMANGLE_TYPES, SYMDEMANGLE_FLAGS, 0);
+    has_no_parts("_Z1fv", 99, 1024, SYMDEMANGLE_FLAGS, 0);
+    check(symdemangle_parts("_Z1fv", 5, 99, 0, buffer, 9, NULL, 1, &told) == SYMDEMANGLE_NULL && told.status == SYMDEMANGLE_NULL, "null parts", "");
+    check(symdemangle_parts(NULL, 5, 99, 0, buffer, 9, &part, 1, &told) == SYMDEMANGLE_NULL && told.count == 0, "null name with parts", "");
+    check(symdemangle_parts("_Z1fv", 5, 99, 0, buffer, 9, &part, 1, NULL) == SYMDEMANGLE_NULL, "null result of parts", "");
+    check(!symdemangle_role(0) && !symdemangle_kind(0) && !symdemangle_role(1000) && !symdemangle_kind(1000), "no words", "");
+    check(strcmp(symdemangle_role(SYMDEMANGLE_ROLE_BASE), "base") == 0 && strcmp(symdemangle_kind(SYMDEMANGLE_KIND_CRATE), "crate") == 0, "words", "");
+}
+
 static void presses_to(const char *repeated, uint32_t flags, const char *pressed)
 {
     symdemangle_result result;
@@ -379,6 +437,7 @@ int main(void)
     many();
     many_of_other_kinds();
     filtered_texts();
+    parts_of_texts();
     counted();
     pressed_spellings();
     bad_arguments();

@@ -72,6 +72,14 @@ int main()
         is(pressed("_Z1fIiEDTstT_ES0_", symdemangle::options{}, &why), std::nullopt, "read, and no pressed spelling yet");
         is(why.status, static_cast<unsigned>(SYMDEMANGLE_NO_SPELLING), "why it has none");
     }
+    auto parsed = symdemangle::parts("_ZNK1A1fIiEEvT_");
+    is(parsed && parsed->text == "void A::f<int>(int) const" && parsed->base() == "f" && parsed->scope() == "A", true, "parts");
+    is(parsed && parsed->kind == SYMDEMANGLE_KIND_FUNCTION && parsed->parts.size() == 8, true, "kind");
+    is(parsed && parsed->first(SYMDEMANGLE_ROLE_PARAMETERS) == "(int)" && parsed->first(SYMDEMANGLE_ROLE_OBJECT).empty(), true, "a part");
+    parsed = symdemangle::parts("_Z5000" + name + "v");
+    is(parsed && parsed->base().size() == 5000, true, "parts of a long text");
+    is(symdemangle::parts("_Z1fY", {}, &why).has_value(), false, "no parts");
+    is(why.offset, 4u, "why it has no parts");
     auto work = counted("_RNvMC3fooINtB2_1AhE3baz");
     is(work && work->rows == 18 && work->nodes == 11 && work->steps == 56, true, "counts");
     is(counted("_R").has_value(), false, "no counts");

@@ -82,6 +82,15 @@ static uint32_t count(void)
     return symdemangle_count(symbol, strlen(symbol), 0, &counts, &result);
 }
 
+static uint32_t parts(void)
+{
+    symdemangle_part some[16];
+    symdemangle_name told;
+    uint32_t status = symdemangle_parts(cpp_symbol, strlen(cpp_symbol), 99, SYMDEMANGLE_WIDE, buffer, sizeof buffer, some, 16, &told);
+    result.length = told.length;
+    return status;
+}
+
 static uint32_t press(void)
 {
     return symdemangle_press(symbol, strlen(symbol), 0, buffer, sizeof buffer, &result);
@@ -122,7 +131,7 @@ static int each_refused(const char *name, uint32_t (*call)(void))
 int main(void)
 {
     int failed = each_refused("text", text) | each_refused("wide text", wide_text) | each_refused("string", string) | each_refused("texts", texts) |
-                 each_refused("filter", filter) | each_refused("count", count) | each_refused("press", press) | each_refused("press, C++", press_cpp);
+                 each_refused("filter", filter) | each_refused("count", count) | each_refused("parts", parts) | each_refused("press", press) | each_refused("press, C++", press_cpp);
     puts(failed ? "FAILED" : "ok");
     return failed;
 }

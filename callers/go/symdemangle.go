@@ -133,6 +133,80 @@ func (o Options) Filter(text string) (string, error) {
 	})
 }
 
+// Part is a part of a text: what it is, as "base" or "generic_argument", how many bytes of the text are before it, and these bytes.
+type Part struct {
+	Role  string
+	Start int
+	Text  string
+}
+
+// Parsed is a text, what its name is, as "function", how the name is mangled ("itanium", "rust-v0", "rust-legacy"), and the parts of the
+// text in the order of their starts: of two, one is within the other, or they are apart. A newer library may tell more roles and kinds.
+type Parsed struct {
+	Text     string
+	Kind     string
+	Mangling string
+	Parts    []Part
+}
+
+// Of is the first part of a role, or an empty string where there is none.
+func (p *Parsed) Of(role string) string {
+	for _, part := range p.Parts {
+		if part.Role == role {
+			return part.Text
+		}
+	}
+	return ""
+}
+
+// Base is the name itself, without its scope and its arguments.
+func (p *Parsed) Base() string { return p.Of("base") }
+
+// Scope is what the name is in.
+func (p *Parsed) Scope() string { return p.Of("scope") }
+
+var manglings = map[C.uint32_t]string{
+	C.SYMDEMANGLE_ITANIUM: "itanium", C.SYMDEMANGLE_RUST_V0: "rust-v0", C.SYMDEMANGLE_RUST_LEGACY: "rust-legacy",
+}
+
+// wordOf is a constant string of the library, or the number that has none.
+func wordOf(word *C.char, number C.uint32_t) string {
+	if word == nil {
+		return fmt.Sprint(number)
+	}
+	return C.GoString(word)
+}
+
+// Parts is the text of a name with its parts, if it has one. Short texts and types have none: Short and Types are refused. An installed
+// library that is older than this call doesn't have it, and ends a program that makes it.
+func (o Options) Parts(name string) (*Parsed, error) {
+	told := C.symdemangle_name{length: 4096, count: 32}
+	for {
+		text, found := make([]byte, told.length+1), make([]C.symdemangle_part, told.count+1)
+		C.symdemangle_parts(bytesOf(name), C.size_t(len(name)), o.limit(), C.uint32_t(o.Flags), (*C.char)(unsafe.Pointer(&text[0])),
+			C.size_t(len(text)), &found[0], C.size_t(len(found)), &told)
+		switch told.status {
+		case C.SYMDEMANGLE_BUFFER:
+		case C.SYMDEMANGLE_OK:
+			return parsed(string(text[:told.length]), found[:told.count], &told), nil
+		default:
+			return nil, &Error{uint32(told.status), uint32(told.offset)}
+		}
+	}
+}
+
+func parsed(text string, found []C.symdemangle_part, told *C.symdemangle_name) *Parsed {
+	mangling, known := manglings[told.mangling]
+	if !known {
+		mangling = fmt.Sprint(told.mangling)
+	}
+	parts := make([]Part, len(found))
+	for i, part := range found {
+		parts[i] = Part{wordOf(C.symdemangle_role(part.role), part.role), int(part.start), text[part.start : part.start+part.length]}
+	}
+	return &Parsed{text, wordOf(C.symdemangle_kind(told.kind), told.kind), mangling, parts}
+}
+
 // Texts are the texts of many names, by one call of the library: the name where it has none, and then an error that says why.
 func (o Options) Texts(names []string) ([]string, []error) {
 	texts, errs := append([]string(nil), names...), make([]error, len(names))
@@ -186,6 +260,11 @@ func (o Options) textsInto(all string, ends []C.size_t, buffer []byte, results [
 // Text is the text of a name, if it has one that costs at most DefaultLimit.
 func Text(name string, flags Flags) (string, error) {
 	return Options{Flags: flags}.Text(name)
+}
+
+// Parts is the text of a name with its parts, if that costs at most DefaultLimit.
+func Parts(name string, flags Flags) (*Parsed, error) {
+	return Options{Flags: flags}.Parts(name)
 }
 
 // Filter is a text with each word that is a symbol replaced by its text, if that costs at most DefaultLimit.

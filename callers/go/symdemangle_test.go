@@ -147,6 +147,51 @@ func TestShort(t *testing.T) {
 	}
 }
 
+func TestParts(t *testing.T) {
+	if isOlder {
+		t.Skip("the library has no such call")
+	}
+	parsed, err := Parts("_ZNK1A1fIicEEvi", Wide)
+	if err != nil || parsed.Text != "void A::f<int, char>(int) const" || parsed.Kind != "function" || parsed.Mangling != "itanium" {
+		t.Fatal(parsed, err)
+	}
+	if parsed.Base() != "f" || parsed.Scope() != "A" || parsed.Of("qualifiers") != " const" || parsed.Of("suffix") != "" {
+		t.Error(parsed)
+	}
+	arguments := 0
+	for _, part := range parsed.Parts {
+		if parsed.Text[part.Start:part.Start+len(part.Text)] != part.Text {
+			t.Error(part)
+		}
+		if part.Role == "generic_argument" {
+			arguments++
+		}
+	}
+	if arguments != 2 {
+		t.Error(parsed)
+	}
+	if parsed, err := Parts("_RNvC3foo3bar", 0); err != nil || parsed.Kind != "value" || parsed.Mangling != "rust-v0" || parsed.Of("crate") != "foo" {
+		t.Error(parsed, err)
+	}
+	long := "_Z1f" + strings.Repeat("PKc", 4000)
+	if parsed, err := Parts(long, 0); err != nil || len(parsed.Text) <= 4096 || len(parsed.Parts) != 4002 {
+		t.Error(err)
+	}
+	for name, wanted := range map[string]Error{"_Z1fY": {1, 4}, "main": {11, 0}, "": {11, 0}} {
+		if _, err := Parts(name, 0); err == nil || *err.(*Error) != wanted {
+			t.Error(name, err)
+		}
+	}
+	for _, flags := range []Flags{Short, Types, 1 << 31} {
+		if _, err := Parts("_Z1fv", flags); err == nil || err.(*Error).Status != 8 {
+			t.Error(flags, err)
+		}
+	}
+	if _, err := (Options{Limit: 5}).Parts("_Z1fv"); err == nil || err.(*Error).Status != 4 {
+		t.Error(err)
+	}
+}
+
 func TestFilter(t *testing.T) {
 	if text, err := Filter("at _Z1fv. _Z1fY", 0); err != nil || text != "at f(). _Z1fY" {
 		t.Error(text, err)

@@ -84,6 +84,13 @@ export function filterText(text, options = {}) {
     return decoder.decode(filterBytes(text, options).bytes);
 }
 
+/** The text of a name, what the name is, and the parts of its text: how many bytes of the text are before each, and how many it has.
+ *  Refused says why there is none. */
+export function parts(name, options = {}) {
+    const { bytes, kind, parts } = answered(library.parts(bytesOf(name), limitOf(options), flagsOf(options)));
+    return { text: decoder.decode(bytes), kind, parts };
+}
+
 /** The spelling of a name in which each part that repeats is a reference; Refused says why there is none. */
 export function press(name, { wide = false } = {}) {
     return decoder.decode(answered(library.press(bytesOf(name), FLAG.UNDERSCORE | (wide ? FLAG.WIDE : 0))).bytes);

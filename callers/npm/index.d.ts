@@ -33,6 +33,26 @@ export interface Counts {
     steps: number;
 }
 
+/** What a part of a text is. Later versions may have more. */
+export type Role =
+    | "special" | "return_type" | "scope" | "base" | "abi_tag" | "generic_arguments" | "generic_argument" | "parameters" | "parameter"
+    | "qualifiers" | "object" | "suffix" | "crate" | "impl" | "self_type" | "trait";
+
+/** A part of a text: what it is, how many bytes of the text are before it, and how many it has. */
+export interface Part {
+    role: Role;
+    start: number;
+    length: number;
+}
+
+/** A name's text, what the name is (as "function", "constructor" or "vtable"), and the parts of the text: each is within another or after it,
+ *  and none starts before the one before it. */
+export interface Parsed {
+    text: string;
+    kind: string;
+    parts: Part[];
+}
+
 /** Why a name has no text. */
 export class Refused extends Error {
     /** One of the numbers of symdemangle_status. */
@@ -51,6 +71,8 @@ export function demangleAll(names: Iterable<string | Uint8Array>, options?: Opti
 export function filterText(text: string, options?: Options): string;
 /** The same of bytes, and how many such words there were. */
 export function filterBytes(text: string | Uint8Array, options?: Options): { bytes: Uint8Array; tally: Tally };
+/** The text of a name with its parts; throws Refused where it has none. Short texts have no parts. */
+export function parts(name: string | Uint8Array, options?: Options): Parsed;
 /** The spelling of a name in which each part that repeats is a reference, so that different spellings of the same symbol become equal;
  *  throws Refused where there is none. With `wide` newer and rarer C++ forms are spelled, too, as far as they have a spelling. */
 export function press(name: string | Uint8Array, options?: { wide?: boolean }): string;

@@ -15,12 +15,16 @@ def without_last_arguments(tokens):
 
 
 def with_gaps(tokens):
-    """Tokens with a gap for each name that is a member of an instance, each `auto` (with its concept) and `decltype`, with the marks after it."""
+    """Tokens with a gap for each name that is a member of an instance, each `auto` (with its concept), `decltype` and type trait of the compiler
+    (`__decay<T>`), with the marks after it."""
     left, place = [], 0
     partners = partners_of(tokens)
     while place < len(tokens):
         token = tokens[place]
-        if token in ("auto", "decltype"):
+        if token.startswith("__") and tokens[place + 1:place + 2] == ["<"] and left[-1:] != ["::"]:
+            place = partners[place + 1]
+            left.append(ANYTHING)
+        elif token in ("auto", "decltype"):
             place = partners.get(place + 1, place) if token == "decltype" else place
             has_concept = left and left[-1] not in OPENING and left[-1] != ","
             left = [*left[:begin_of_name(left) if has_concept else len(left)], ANYTHING]
@@ -130,9 +134,9 @@ def is_of_linkage_block(case, difference):
 
 
 def is_vtable(case, difference):
-    """A table of virtual functions is a member `__clang_vtable` in Clang's debug information."""
+    """A table of virtual functions is a member `__clang_vtable` (`_vtable$` by Clang 22) in Clang's debug information."""
     shown, (told_scope, told_own) = tokens_of(difference.shown), scope_and_own(tokens_of(difference.told))
-    return told_own == ["__clang_vtable"] and shown[:2] == ["vtable", "for"] and matches(told_scope, shown[2:])
+    return "".join(told_own) in ("__clang_vtable", "_vtable$") and shown[:2] == ["vtable", "for"] and matches(told_scope, shown[2:])
 
 
 def is_inherited(case, difference):

@@ -1,4 +1,4 @@
-"""Whether two rows of tokens are the same, but for their gaps."""
+"""Whether two rows of tokens are the same, gaps aside."""
 from .texts import ANYTHING, MORE, partners_of
 
 

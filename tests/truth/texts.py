@@ -33,9 +33,9 @@ def with_plain_operators(text):
 
 
 def without_marks(text):
-    """A text of a demangler without tags, the suffix of a clone, constraints, `noexcept`, `this` before an object parameter, and the
-    tagged namespace."""
-    text = re.sub(r" \(\.[^()]*\)$", "", re.sub(r"\[abi:[^\]]*\]", "", text))
+    """A text of a demangler without tags, modules (`f@shop.prices`), the suffix of a clone, constraints, `noexcept`, `this` before an object
+    parameter, and the tagged namespace."""
+    text = re.sub(r" \(\.[^()]*\)$", "", re.sub(r"(?<=\w)(?<!\boperator)@[\w.]+(?::(?!:)[\w.]+)?|\[abi:[^\]]*\]", "", text))
     return re.sub(r" noexcept\b", "", text).replace("(this ", "(").replace("std::__cxx11::", "std::")
 
 

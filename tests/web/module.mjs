@@ -1,6 +1,7 @@
 // node module.mjs PAGE_FOLDER ROWS DEMANGLE SYMBOLS: the page's module against the rows of check_rows, and against the program
 //
-// Each row's text at its cost, too long at one less; each refusal with its offset; each pressed spelling. Then the symbols of a
+// Each row's text at its cost, too long at one less; each refusal with its offset; each pressed spelling; of each row `parts` what the
+// name is, its text and the parts of that. Then the symbols of a
 // file, filtered in pieces of several sizes in each detail, have to be the program's bytes. The page's words have to be the library's,
 // and a text in pieces has to come out as the whole does.
 import { execFileSync } from "node:child_process";
@@ -11,6 +12,7 @@ import { pathToFileURL } from "node:url";
 const [folder, rows, program, symbols] = process.argv.slice(2);
 const from = (name) => import(pathToFileURL(path.resolve(folder, name)));
 const { FLAG, GREATEST_LIMIT, LONGEST_WORD, Library, MOST, STATUS } = await from("library.js");
+const { piecesOf, textOf: joined } = await from("pieces.js");
 const { PieceFilter, flagsOf, namesOf } = await from("words.js");
 const code = new WebAssembly.Module(fs.readFileSync(path.join(folder, "symdemangle.wasm")));
 if (WebAssembly.Module.imports(code).length) throw new Error("the module imports something");
@@ -72,6 +74,13 @@ const known = {
         if (isName(word.replace(/^__/, "_")) && words in REASONS) holds(kind, status === REASONS[words] && offset === Number(wanted), word, status, offset);
         else holds(kind, status === STATUS.OK && bytesOf(spelling).equals(Buffer.from(bytes)), word);
     },
+    parts(flags, [symbol, what, text, parts], kind) {
+        const found = library.parts(bytesOf(symbol), 1_000_000, flags | FLAG.WIDE | FLAG.LEGACY);
+        const spelled = found.parts?.map(({ role, start, length }) => `${role}:${start}+${length}`).join(" ");
+        holds(kind, found.status === STATUS.OK && found.kind === what && bytesOf(plain(text)).equals(Buffer.from(found.bytes)) && spelled === parts, symbol, found.kind, spelled);
+        const pieces = piecesOf(found.bytes, found.parts);
+        holds("pieces", joined(pieces) === new TextDecoder().decode(found.bytes), symbol);
+    },
     nameless(flags, [word], kind) {
         holds(kind, library.text(bytesOf(word), 100, flags).status === STATUS.NO_SYMBOL, word);
     },
@@ -82,7 +91,7 @@ for (const line of fs.readFileSync(rows, "latin1").split("\n")) {
     const [, by = "", name] = /^(?:(wide|legacy) )?(\S*)$/.exec(kind) ?? [];
     for (const flags of GRAMMARS[by]) known[name]?.(FLAG.UNDERSCORE | flags, fields, kind);
 }
-for (const kind of ["text", "refused", "wide text", "wide refused", "legacy text", "legacy refused", "press", "counts"]) holds("kinds", tried[kind] > 50, `too few rows ${kind}:`, tried[kind]);
+for (const kind of ["text", "refused", "wide text", "wide refused", "legacy text", "legacy refused", "press", "parts", "counts"]) holds("kinds", tried[kind] > 50, `too few rows ${kind}:`, tried[kind]);
 console.log(`rows: ${Object.entries(tried).map(([kind, count]) => `${kind} ${count}`).join(", ")}`);
 
 const all = fs.readFileSync(symbols);

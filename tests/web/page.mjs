@@ -176,6 +176,38 @@ const steps = {
         await picture("pressed");
     },
 
+    async "parts of a text"() {
+        const PARTS = [["scope", "demo::cache<char const*>"], ["base", "lookup"], ["parameters", /^\(std::.* const&\)$/], ["parameter", /^std::.* const&$/]];
+        await puts(NAME);
+        await until(async () => (await said(".parts li")).length === PARTS.length, "the parts of a name are listed");
+        const listed = await browser.run(() => [...document.querySelectorAll(".parts li")].map((it) => [it.querySelector(".role").textContent, it.querySelector("code").textContent]));
+        for (const [i, [role, part]] of PARTS.entries()) wants(listed[i][0] === role && (part.test?.(listed[i][1]) ?? listed[i][1] === part), "a part:", listed[i]);
+        await shows(".parts strong", ["function"]);
+        await shows(".said", [TEXT]);
+        await shows(".part.base", ["lookup"]);
+        const lit = () => browser.run(() => [...document.querySelectorAll(".part.lit")].map((it) => it.textContent));
+        await browser.run(() => document.querySelectorAll(".parts li")[1].focus());
+        wants(JSON.stringify(await lit()) === '["lookup"]', "the part with the focus is lit:", await lit());
+        await browser.run(() => document.querySelector(".part.base").dispatchEvent(new PointerEvent("pointerover", { bubbles: true })));
+        wants((await browser.run(() => document.querySelector(".parts li.lit").textContent)) === "base lookup", "the entry of a part that is pointed at is lit");
+        await picture("parts");
+        await puts("_Z2\u00fcRKi.cold");
+        await shows(".part.base", ["\u00fc"]);
+        await shows(".part.suffix", [".cold"]);
+        await puts("_ZTV1A");
+        await shows(".parts strong", ["vtable"]);
+        await tick("short");
+        await shows(".part", []);
+        await shows(".said", ["vtable for A"]);
+        await tick("short");
+        await puts("_RNvMs_NtCs1234_4demo5queueINtB4_5QueuejE4push");
+        await shows(".part.base", ["push"]);
+        await puts(`_Z1f${"i".repeat(600)}`);
+        await until(async () => (await said(".said"))[0]?.startsWith("f(int"), "a text of many parts");
+        await sleep(200);
+        wants(!(await said(".part")).length, "600 parts aren't told apart");
+    },
+
     async "by keys alone"() {
         await click("#example");
         await until(async () => (await said(".card")).length === 6, "six names");

@@ -9,7 +9,7 @@ from operands import BITS_16, BITS_64, BYTES_16, BYTES_64, Number, Struct, bits,
 MOST_ZEROED = 128  # bytes that are made 0 without a call
 # How tightly C binds an expression.
 PRIMARY, POSTFIX, UNARY, TIMES, PLUS, SHIFT, ORDER, EQUAL, AND, XOR, OR, BOTH, EITHER, CHOICE = range(16, 2, -1)
-# The C type of an expression, beside 4, 8, 16 for an unsigned integer of so many bytes: SMALL is an int that isn't negative,
+# The C type of an expression, beside 4, 8, 16 for an unsigned integer of that size in bytes: SMALL is an int that isn't negative,
 # SIGNED an integer with a sign; the others are an address, a struct and a double.
 SMALL, SIGNED, POINTER, WHOLE, REAL = "small", "signed", "pointer", "whole", "real"
 SIZE = {SMALL: 0, 4: 4, 8: 8, 16: 16}

@@ -51,7 +51,7 @@ for file in callers/archive/functions.c callers/archive/arena.c web/module/int12
 done
 
 calls=(__heap_base symdemangle_arena_set)
-for call in text filter count press message version; do calls+=("symdemangle_$call"); done
+for call in text parts filter count press message role kind version; do calls+=("symdemangle_$call"); done
 "$tools/ld.lld" -flavor wasm -mwasm64 --no-entry --stack-first -z stack-size=1048576 --fatal-warnings --gc-sections \
     --strip-all "${calls[@]/#/--export=}" -o "$work/symdemangle64.wasm" "$work"/{library,functions,arena,int128}.o
 wasm-opt --enable-memory64 --enable-bulk-memory --enable-sign-ext --enable-mutable-globals \

@@ -2,7 +2,7 @@
 import assert from "node:assert/strict";
 import test from "node:test";
 import {
-    DEFAULT_LIMIT, Refused, counts, demangle, demangleAll, filterBytes, filterText, press, tryDemangle, version,
+    DEFAULT_LIMIT, Refused, counts, demangle, demangleAll, filterBytes, filterText, parts, press, tryDemangle, version,
 } from "symdemangle";
 
 const refused = (name, status, offset, options) =>
@@ -63,6 +63,23 @@ test("texts with names", () => {
     assert.equal(new TextDecoder().decode(bytes.subarray(2)), "f() _Z1fY g()");
     assert.deepEqual(tally, { words: 3, replaced: 2, refused: 1 });
     assert.equal(filterText("_Z1fv _ZN1A1fEv", { limit: 6 }), "f() _ZN1A1fEv");
+});
+
+test("parts", () => {
+    const { text, kind, parts: found } = parts("_ZN1A1fIiEEvT_.cold");
+    assert.equal(text, "void A::f<int>(int) (.cold)");
+    assert.equal(kind, "function");
+    assert.deepEqual(found.map(({ role, start, length }) => [role, text.slice(start, start + length)]), [
+        ["return_type", "void"], ["scope", "A"], ["base", "f"], ["generic_arguments", "<int>"], ["generic_argument", "int"],
+        ["parameters", "(int)"], ["parameter", "int"], ["suffix", ".cold"],
+    ]);
+    assert.equal(parts("_ZTV1A").kind, "vtable");
+    assert.deepEqual(parts("_Z1fv", { noParameters: true }).parts, [{ role: "base", start: 0, length: 1 }]);
+    assert.equal(parts("_Z2\u00fcv").parts[0].length, 2);
+    assert.equal(parts("_RNvC3foo3bar").kind, "value");
+    assert.equal(parts(`_Z1f${"i".repeat(1000)}`).parts.length, 1002);
+    assert.throws(() => parts("_Z1fY"), /^Refused: malformed symbol at 4$/);
+    assert.throws(() => parts("_Z1fv", { short: true }), Refused);
 });
 
 test("pressed spellings, counts and the version", () => {

@@ -58,8 +58,8 @@ if TYPE_CHECKING:
 
 __version__ = "0.1.0"
 __all__ = [
-    "Counts", "DEFAULT_LIMIT", "Options", "Refused", "Tally", "counts", "demangle", "demangle_all", "filter_bytes", "filter_stream",
-    "filter_text", "library_version", "press", "try_demangle",
+    "Counts", "DEFAULT_LIMIT", "Options", "Parsed", "Part", "Refused", "Tally", "counts", "demangle", "demangle_all", "filter_bytes",
+    "filter_stream", "filter_text", "library_version", "parts", "press", "try_demangle",
 ]
 
 DEFAULT_LIMIT = 1_000_000
@@ -88,6 +88,39 @@ class Counts(NamedTuple):
     rows: int
     nodes: int
     steps: int
+
+
+class Part(NamedTuple):
+    """A part of a text: what it is, as "base" or "generic_argument", how many bytes of the text are before it, how many it has, and these."""
+
+    role: str
+    start: int
+    length: int
+    text: str
+
+
+class Parsed(NamedTuple):
+    """A text, what its name is, as "function", how the name is mangled ("itanium", "rust-v0", "rust-legacy"), and the parts of the text in
+    the order of their starts: of two, one is within the other, or they are apart. A newer library may tell more roles and kinds."""
+
+    text: str
+    kind: str
+    mangling: str
+    parts: tuple[Part, ...]
+
+    def of(self, role: str) -> str:
+        """The first part of a role; an empty string where there is none."""
+        return next((part.text for part in self.parts if part.role == role), "")
+
+    @property
+    def base(self) -> str:
+        """The name itself, without its scope and its arguments."""
+        return self.of("base")
+
+    @property
+    def scope(self) -> str:
+        """What the name is in."""
+        return self.of("scope")
 
 
 class Tally(NamedTuple):
@@ -151,6 +184,17 @@ class _Counts(ctypes.Structure):
     _fields_ = [("rows", ctypes.c_uint32), ("nodes", ctypes.c_uint32), ("steps", ctypes.c_uint32)]
 
 
+class _Part(ctypes.Structure):
+    _fields_ = [("role", ctypes.c_uint32), ("start", ctypes.c_uint32), ("length", ctypes.c_uint32)]
+
+
+class _Name(ctypes.Structure):
+    _fields_ = [
+        ("length", ctypes.c_size_t), ("count", ctypes.c_size_t), ("offset", ctypes.c_uint32), ("status", ctypes.c_uint32),
+        ("kind", ctypes.c_uint32), ("mangling", ctypes.c_uint32),
+    ]
+
+
 class _Tally(ctypes.Structure):
     _fields_ = [("words", ctypes.c_uint64), ("replaced", ctypes.c_uint64), ("refused", ctypes.c_uint64)]
 
@@ -180,7 +224,10 @@ def _load() -> ctypes.CDLL:
     for name, arguments in calls.items():
         call = getattr(library, f"symdemangle_{name}")
         call.argtypes, call.restype = arguments, number
-    library.symdemangle_message.argtypes, library.symdemangle_message.restype = [number], text
+    for name in ("message", "role", "kind"):
+        word = getattr(library, f"symdemangle_{name}", None)
+        if word is not None:  # the first library had no parts
+            word.argtypes, word.restype = [number], text
     return library
 
 
@@ -446,6 +493,45 @@ def filter_stream(source: BinaryIO, sink: BinaryIO, **options: Unpack[Keywords])
             pieces.end()
             return total
         pieces.push(piece)
+
+
+_MANGLINGS = {1: "itanium", 2: "rust-v0", 3: "rust-legacy"}
+
+
+def _word(word: Callable[[int], Union[bytes, None]], number: int) -> str:
+    """The word for a number; the number where there is none."""
+    said = word(number)
+    return said.decode() if said else str(number)
+
+
+def parts(name: Name, **options: Unpack[Keywords]) -> Parsed:
+    """The text of a name with its parts; Refused says why it has none. Short texts and types have no parts. NotImplementedError over a
+    library that is older than this call."""
+    given, asked, told = _name(name), _asked(options), _Name()
+    call = getattr(_library, "symdemangle_parts", None)
+    if call is None:
+        raise NotImplementedError("the library is older than parts")
+    told.length, told.count = 4096, 32
+    while True:
+        size, count = told.length, told.count
+        buffer, found = ctypes.create_string_buffer(size or 1), (_Part * (count or 1))()
+        status = call(
+            ctypes.c_char_p(given), ctypes.c_size_t(len(given)), ctypes.c_uint32(asked.limit), ctypes.c_uint32(asked.flags), buffer,
+            ctypes.c_size_t(size), found, ctypes.c_size_t(count), ctypes.byref(told),
+        )
+        if status != _BUFFER:
+            break
+    if status == _MEMORY:
+        raise MemoryError
+    if status != _OK:
+        raise Refused(status, told.offset)
+    text = buffer.raw[: told.length]
+    named = tuple(
+        Part(_word(_library.symdemangle_role, part.role), part.start, part.length, _string(text[part.start : part.start + part.length]))
+        for part in found[: told.count]
+    )
+    kind = _word(_library.symdemangle_kind, told.kind)
+    return Parsed(_string(text), kind, _MANGLINGS.get(told.mangling, str(told.mangling)), named)
 
 
 def press(name: Name, *, wide: bool = False) -> str:

@@ -273,6 +273,18 @@ class Calls(unittest.TestCase):
                 pass
             self.assertEqual((ran.stderr.read(), ran.wait()), (b"", 141))
 
+    def test_parts(self):
+        parsed = symdemangle.parts("_ZNK1A1fIiEEvT_")
+        self.assertEqual((parsed.text, parsed.kind, parsed.mangling), ("void A::f<int>(int) const", "function", "itanium"))
+        self.assertEqual((parsed.scope, parsed.base, parsed.of("parameters"), parsed.of("object")), ("A", "f", "(int)", ""))
+        self.assertEqual(parsed.parts[0], symdemangle.Part("return_type", 0, 4, "void"))
+        long = symdemangle.parts("_Z5000" + "a" * 5000 + "v")
+        self.assertEqual((len(long.base), long.of("parameters")), (5000, "()"))
+        with self.assertRaisesRegex(Refused, " at 4$"):
+            symdemangle.parts("_Z1fY")
+        with self.assertRaises(Refused):
+            symdemangle.parts("_Z1fv", short=True)
+
     def test_the_rest(self):
         self.assertEqual(symdemangle.press("_ZN3foo3barEN3foo3bazE"), "_ZN3foo3barENS_3bazE")
         with self.assertRaises(Refused):

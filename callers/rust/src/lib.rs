@@ -49,12 +49,15 @@
 extern crate alloc;
 
 mod library;
+mod words;
 
 use alloc::borrow::Cow;
 use alloc::string::String;
 use alloc::vec::Vec;
 use core::fmt;
-use library::{Outcome, Status};
+use core::ops::Range;
+use library::{NamePart, Outcome, Status};
+pub use words::{NameKind, Role};
 
 /// What a text may cost where nothing else is said: its bytes, and 1 for each item that it is put together from.
 pub const DEFAULT_LIMIT: u32 = 1_000_000;
@@ -379,6 +382,95 @@ fn write_into(
 /// Every [`Error`].
 pub fn demangle_into(name: &[u8], options: Options, buffer: &mut Vec<u8>) -> Result<(), Error> {
     write_into(buffer, |buffer| library::text(name, options, buffer))
+}
+
+/// How a name is mangled.
+#[derive(Clone, Copy, Debug, PartialEq, Eq, Hash)]
+#[non_exhaustive]
+pub enum Mangling {
+    /// C++, by the Itanium ABI.
+    Itanium,
+    /// Rust, by RFC 2603.
+    RustV0,
+    /// Rust's older names, with [`Options::legacy`].
+    RustLegacy,
+    /// What a newer library tells, by its number.
+    Other(u32),
+}
+
+/// A part of a text.
+#[derive(Clone, Debug, PartialEq, Eq, Hash)]
+pub struct Part {
+    /// What it is.
+    pub role: Role,
+    /// The stretch of the text's bytes that it is.
+    pub bytes: Range<usize>,
+}
+
+/// A text, what its name is, and the parts of the text.
+#[derive(Clone, Debug, PartialEq, Eq, Hash)]
+pub struct Parsed {
+    /// The bytes of the text.
+    pub text: Vec<u8>,
+    /// What the name is.
+    pub kind: NameKind,
+    /// How the name is mangled.
+    pub mangling: Mangling,
+    /// In the order of their starts; of two, one is within the other, or they are apart.
+    pub parts: Vec<Part>,
+}
+
+impl Parsed {
+    /// The bytes of the first part of a role, if there is one.
+    #[must_use]
+    pub fn first(&self, role: Role) -> Option<&[u8]> {
+        let part = self.parts.iter().find(|part| part.role == role)?;
+        Some(&self.text[part.bytes.clone()])
+    }
+}
+
+/// The text of a name with its parts: what stretches of it are, as the name's scope, its base, and each of its arguments and parameters.
+/// Texts are whole, and types aren't read: [`Options::short`] and [`Options::types`] have no effect.
+///
+/// ```
+/// use symdemangle::{NameKind, Options, Role};
+/// let parsed = symdemangle::parts(b"_ZN1A1fIiEEvT_", Options::default()).unwrap();
+/// assert_eq!(parsed.text, b"void A::f<int>(int)");
+/// assert_eq!(parsed.kind, NameKind::Function);
+/// assert_eq!(parsed.first(Role::Scope), Some(&b"A"[..]));
+/// assert_eq!(parsed.first(Role::Parameters), Some(&b"(int)"[..]));
+/// ```
+///
+/// # Errors
+///
+/// Every [`Error`].
+pub fn parts(name: &[u8], options: Options) -> Result<Parsed, Error> {
+    let (mut text, mut parts) = (Vec::new(), Vec::new());
+    let (mut length, mut count) = (256, 16);
+    let told = loop {
+        text.resize(length, 0);
+        parts.resize(count, NamePart::default());
+        let told = library::parts(name, options, &mut text, &mut parts);
+        if told.status != Status::BUFFER {
+            break told;
+        }
+        (length, count) = (told.length, told.count);
+    };
+    told.status.answer(told.offset)?;
+    text.truncate(told.length);
+    parts.truncate(told.count);
+    let range = |part: &NamePart| part.start as usize..(part.start + part.length) as usize;
+    Ok(Parsed {
+        text,
+        kind: NameKind::of_number(told.kind),
+        mangling: match told.mangling {
+            1 => Mangling::Itanium,
+            2 => Mangling::RustV0,
+            3 => Mangling::RustLegacy,
+            other => Mangling::Other(other),
+        },
+        parts: parts.iter().map(|part| Part { role: Role::of_number(part.role), bytes: range(part) }).collect(),
+    })
 }
 
 /// Puts a text into `buffer` with each word that is a symbol replaced by its text, as the program `demangle` does, and says how

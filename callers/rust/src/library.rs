@@ -2,6 +2,27 @@
 
 use crate::{Counts, Error, Options, Tally};
 
+/// A part of a text, by numbers.
+#[repr(C)]
+#[derive(Clone, Copy, Default)]
+pub struct NamePart {
+    pub role: u32,
+    pub start: u32,
+    pub length: u32,
+}
+
+/// What a name is, beside its text.
+#[repr(C)]
+#[derive(Clone, Copy, Default)]
+pub struct Told {
+    pub length: usize,
+    pub count: usize,
+    pub offset: u32,
+    pub status: Status,
+    pub kind: u32,
+    pub mangling: u32,
+}
+
 /// What comes with a status.
 #[repr(C)]
 #[derive(Clone, Copy, Default)]
@@ -57,6 +78,17 @@ unsafe extern "C" {
         buffer: *mut u8,
         capacity: usize,
         result: *mut Outcome,
+    ) -> Status;
+    fn symdemangle_parts(
+        name: *const u8,
+        name_length: usize,
+        limit: u32,
+        flags: u32,
+        buffer: *mut u8,
+        capacity: usize,
+        parts: *mut NamePart,
+        part_capacity: usize,
+        result: *mut Told,
     ) -> Status;
     fn symdemangle_texts(
         names: *const u8,
@@ -153,6 +185,25 @@ pub fn text(name: &[u8], options: Options, buffer: &mut [u8]) -> Outcome {
         )
     });
     outcome
+}
+
+/// Texts are whole, and types aren't read, since these have no parts.
+pub fn parts(name: &[u8], options: Options, buffer: &mut [u8], parts: &mut [NamePart]) -> Told {
+    let mut told = Told::default();
+    unsafe {
+        symdemangle_parts(
+            name.as_ptr(),
+            name.len(),
+            options.limit,
+            flags(options.short(false).types(false)),
+            buffer.as_mut_ptr(),
+            buffer.len(),
+            parts.as_mut_ptr(),
+            parts.len(),
+            &mut told,
+        )
+    };
+    told
 }
 
 /// `ends` go up to the length of `names`, and are as many as the outcomes.

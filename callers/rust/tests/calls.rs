@@ -1,6 +1,6 @@
 use symdemangle::{
-    Counts, Error, Options, Tally, counts, demangle, demangle_bytes, demangle_into, filter_into, for_each_text, press_into, press_wide_into,
-    try_demangle,
+    Counts, Error, Mangling, NameKind, Options, Part, Role, Tally, counts, demangle, demangle_bytes, demangle_into, filter_into, for_each_text,
+    parts, press_into, press_wide_into, try_demangle,
 };
 
 /// Whether the library is one that doesn't know types and words within runs (tests/callers/older.c).
@@ -227,6 +227,21 @@ fn as_rustc_demangle() {
     assert_eq!(try_demangle("_RNvC3foo3bar").unwrap().to_string(), "foo::bar");
     assert_eq!(try_demangle("__RNvC3foo3bar").unwrap().to_string(), "foo::bar");
     assert_eq!(try_demangle("__Z1fv").unwrap().as_str(), "__Z1fv");
+}
+
+#[test]
+fn parts_of_texts() {
+    let parsed = parts(b"_ZNK1A1fIiEEvT_", Options::default()).unwrap();
+    assert_eq!(parsed.text, b"void A::f<int>(int) const");
+    assert_eq!((parsed.kind, parsed.mangling), (NameKind::Function, Mangling::Itanium));
+    assert_eq!(parsed.kind.name(), "function");
+    assert_eq!(parsed.parts[0], Part { role: Role::ReturnType, bytes: 0..4 });
+    assert_eq!(parsed.first(Role::Base), Some(&b"f"[..]));
+    assert_eq!(parsed.first(Role::Object), None);
+    let long = format!("_Z5000{}v", "a".repeat(5000));
+    assert_eq!(parts(long.as_bytes(), Options::default()).unwrap().first(Role::Base).unwrap().len(), 5000);
+    assert_eq!(parts(b"_Z1fY", Options::default()), Err(Error::Malformed { at: 4 }));
+    assert_eq!(parts(b"_Z1fv", plain(5)), Err(Error::TooLong));
 }
 
 #[test]

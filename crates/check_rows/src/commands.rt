@@ -97,7 +97,7 @@ fn run_demangle(verdict: &mut Verdict, words: &[&[u8]], input: &[u8], wanted: En
     let mut reader = ReaderSource::new(input);
     let mut out = ListSink::new(Vec::new(alloc));
     let mut err = ListSink::new(Vec::new(alloc));
-    let status = demangle_command::run_over(alloc, words, &mut reader, &mut out, &mut err);
+    let status = demangle_command::run_over(alloc, words, false, &mut reader, &mut out, &mut err);
     ended(verdict, status, &out.into_list(), &err.into_list(), wanted);
 }
 

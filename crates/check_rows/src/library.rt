@@ -19,10 +19,10 @@ use sym_filter::{Demangled, Letters};
 use sym_print::Detail;
 
 /// What is in a buffer before a call writes to it.
-const UNWRITTEN: u8 = 0xa5;
+pub const UNWRITTEN: u8 = 0xa5;
 
 /// The value of each number before a call sets it.
-const UNTOLD: u32 = 0xa5a5_a5a5;
+pub const UNTOLD: u32 = 0xa5a5_a5a5;
 
 /// What a row has where a name is no symbol and can't be a type.
 const NO_NAME: &[u8] = b"not a symbol";
@@ -75,7 +75,7 @@ fn flags_of(detail: Detail, wide: bool, legacy: bool) -> u32 {
 }
 
 /// Whether nothing was written to a buffer.
-fn is_unwritten(buffer: &[u8]) -> bool {
+pub fn is_unwritten(buffer: &[u8]) -> bool {
     buffer.iter().all(|byte| *byte == UNWRITTEN)
 }
 

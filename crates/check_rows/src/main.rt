@@ -12,6 +12,8 @@ mod languages;
 mod library;
 mod linking;
 mod mangling;
+mod named;
+mod parsing;
 mod printing;
 mod row;
 mod rows;

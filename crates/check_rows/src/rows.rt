@@ -14,6 +14,7 @@ use crate::library::{
     ask_library_for_type, ask_library_to_press, ask_library_to_press_wide, ask_library_unspelled,
     ask_nameless, ask_oversize,
 };
+use crate::parsing::ask_parts;
 use crate::row::{LIMIT, Row, TOO_LONG};
 use crate::streams::ask_long_word;
 use crate::trees::ask_tree;
@@ -399,6 +400,18 @@ fn of_tree(verdict: &mut Verdict, fields: &[&[u8]]) {
     }
 }
 
+/// Asks what a row `parts` says.
+fn of_parts(verdict: &mut Verdict, fields: &[&[u8]]) {
+    let [word, kind, text, parts] = fields else {
+        verdict.require(false);
+        return;
+    };
+    match row_of(word) {
+        Some(row) => ask_parts(verdict, word, row.with(LIMIT, text), kind, parts),
+        None => verdict.require(false),
+    }
+}
+
 /// Asks what a row `way` says. Its last field names the form of the symbol, for the page.
 fn of_way(verdict: &mut Verdict, fields: &[&[u8]]) {
     let [grammar, detail, word, way, _form] = fields else {
@@ -516,6 +529,7 @@ fn of_other(
         b"wide press" => of_wide_press(verdict, &mut lists.wide, fields),
         b"tree" => of_tree(verdict, fields),
         b"way" => of_way(verdict, fields),
+        b"parts" => of_parts(verdict, fields),
         _ => of_program(verdict, what, fields)?,
     }
     Ok(())

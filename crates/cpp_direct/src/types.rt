@@ -311,6 +311,26 @@ impl Direct {
             Open::Derived => self.derived_ended::<G>(s),
             Open::Base { to } => self.base_ended::<G>(s, to),
             Open::Enumerator => self.enumerator::<G>(s),
+            Open::ArgumentEnumerator { .. } | Open::Argument { .. } | Open::Element { .. } =>
+                self.pass_to_argument::<G>(s, entry, is_reference),
+            _ => Some(Step::List { is_first: false }),
+        }
+    }
+
+    /// Forwards such a type to the argument of a name, or the element of a pack, that waits for it.
+    #[inline(always)]
+    fn pass_to_argument<G: Grammar>(
+        &mut self,
+        s: &[u8],
+        entry: Open,
+        is_reference: bool,
+    ) -> Option<Step>
+        requires fits { IsReadable s.now }
+        requires writing { IsWriting (symbol_by G.IS_WIDE G.IS_BARE G.IS_BRIEF s.now) self.old (steps.Value is_reference false) }
+        requires waits { slice_get self.old.waiting.list.items (length self.old.waiting.list.items - 1) ≡ Some entry }
+        ensures { IfSome result (IsWriting (symbol_by G.IS_WIDE G.IS_BARE G.IS_BRIEF s.now) self.new) }
+    {
+        match entry {
             Open::ArgumentEnumerator {
                 from,
                 number,
@@ -326,7 +346,7 @@ impl Direct {
                 number,
                 known,
             } => self.element_ended::<G>(s, from, number, known, is_reference),
-            _ => Some(Step::List { is_first: false }),
+            _ => None,
         }
     }
 

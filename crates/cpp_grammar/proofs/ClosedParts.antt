@@ -6,10 +6,10 @@ use Rattle.sym_core.specs.Value.{counted_value}
 use Rattle.std.proofs.lemmas.Bool.{true≢false, false≢true}
 use Rattle.sym_link.specs.Reading.{Next, ◌>>=◌}
 use Rattle.cpp_grammar.specs.declared.production.Production.{Production}
-use Rattle.cpp_grammar.specs.Rescoping.{in_constraint_of, is_unseen, in_literal, generic_number, generic_so_far, parameter_here, argument_here, with_holder, is_instance, holder_so_far, counted_unless, place_in, named_in, named_by_both, module_of, module_named, module_so_far, between_wide}
+use Rattle.cpp_grammar.specs.Rescoping.{in_constraint_of, is_unseen, in_literal, generic_number, generic_so_far, parameter_here, argument_here, with_holder, is_instance, holder_so_far, with_held, place_in, named_in, named_by_both, module_of, module_named, module_so_far, between_wide}
 use Rattle.cpp_grammar.specs.Term.{Term, holder, parameter}
 use Rattle.cpp_grammar.specs.Scope.{is_open}
-use Rattle.cpp_grammar.specs.Values.{by_some, Candidate, State, Around, prefix_tree, prefix_listed, Value, nothing_there, tree, tree_of, text_of, part}
+use Rattle.cpp_grammar.specs.Values.{Candidate, State, Around, prefix_tree, prefix_listed, Value, nothing_there, tree, tree_of, text_of, part}
 use Rattle.cpp_grammar.specs.References.{appended, is_module, parameter_named}
 use Rattle.cpp_grammar.specs.Between.{in_signature, under_expansion, after, inside, Continuation, listed_so_far, parameter_so_far, argument_so_far, index_of, next, between}
 use Rattle.cpp_grammar.specs.Row.{Where, as_before, in_its_name, in_its_types, in_a_signature, under_it, nameless, after_part, after_the_name, Action, quiet, goes, becomes, tests, holds, unread, before_part}
@@ -20,7 +20,7 @@ use Rattle.cpp_grammar.proofs.Chosen.{either}
 use Rattle.cpp_grammar.proofs.Steps.{second_of_both, all_pass, step_passes, is_here, goes_here}
 use Rattle.cpp_grammar.proofs.ClosedValues.{all_where, Good, AllGood, GoodPrefix, held, good_nothing, good_part, good_prefix, made_tree_good}
 use Rattle.cpp_grammar.proofs.Declared.{read_of, read_abi}
-use Rattle.cpp_grammar.proofs.ClosedStates.{Bare, Within, IsOld, AllOld, old_get, Grows, grows_same, grows_one, grows_held, grows_packs, unless_grows, gained_grows, parameter_good, parameter_grows, ok_same, behind_bind}
+use Rattle.cpp_grammar.proofs.ClosedStates.{Bare, Within, IsOld, AllOld, old_get, Grows, grows_same, grows_one, grows_held, grows_packs, before_arguments_grow, gained_grows, parameter_good, parameter_grows, ok_same, behind_bind}
 
 -- what surrounds a part, which is in the same encoding
 pub record Fits (own : Bool) (around inner : Around) : Type 0 where
@@ -262,11 +262,11 @@ module_goes around place number at state n old e = found_ (named_by_both state.c
         (λ none g. let clash : ◌≡◌ {A = Continuation} (Err (BadReference place)) (Ok n) = g in absurd cc) h
 
 base_goes : (around : Around) (at : ℕ) (state : State) (n : Next Value State Around) → GoodPrefix (Bare true around) around.prefix →
-    ◌≡◌ {A = Continuation} (next [] (inside around) (counted_unless (prefix_listed around.prefix) by_some around (prefix_tree around.prefix) state)) (Ok n) → GoesOn true around at state n
+    ◌≡◌ {A = Continuation} (next [] (inside around) (with_held (prefix_listed around.prefix) around (prefix_tree around.prefix) state)) (Ok n) → GoesOn true around at state n
 base_goes around at state n pre e =
     let listed = prefix_listed around.prefix in
     let t = prefix_tree around.prefix in
-    goes_to true around at state [] (inside around) (counted_unless listed by_some around t state) n tt (unless_grows around at listed by_some t state (good_prefix (Bare true around) around.prefix pre)) (fits_inside true around) e
+    goes_to true around at state [] (inside around) (with_held listed around t state) n tt (before_arguments_grow around at listed t state (good_prefix (Bare true around) around.prefix pre)) (fits_inside true around) e
 
 pub wide_goes : (production : Production) (around : Around) (place : ℕ) (vs : List Value) (state : State) (n : Next Value State Around) (at : ℕ) → StaysInside production →
     GoodPrefix (Bare true around) around.prefix → AllOld true around at state.candidates → AllGood (Within true production around) vs → between_wide production around place vs state ≡ Ok n → Goes true (Within true production around) around at state n

@@ -7,14 +7,14 @@ use Rattle.sym_core.specs.declared.refusal.Refusal.TheVariants.{BadReference}
 use Rattle.sym_link.specs.Reading.{Found, ◌>>=◌}
 use Rattle.sym_link.specs.Unfold.{found}
 use Rattle.cpp_grammar.specs.declared.production.Production.{Production}
-use Rattle.cpp_grammar.specs.Term.{Term, parameter, lambda, generic_lambda, list}
+use Rattle.cpp_grammar.specs.Term.{Term, parameter, lambda, generic_lambda, list, absent}
 use Rattle.cpp_grammar.specs.Scope.{count, element, is_list, has_pack, length_if_pack, is_open, pack_length, Free, none_free, one_free, several_free, free_in}
 use Rattle.cpp_grammar.specs.Closed.{ScopesAreClosed}
 use Rattle.sym_core.specs.declared.NumberKind.TheVariants.{Seq36}
 use Rattle.sym_core.specs.Value.{counted_value}
 use Rattle.cpp_grammar.specs.Values.{Counted, by_all, by_newer, by_gcc, Candidate, Lists, both_lists, longer_list, shorter_list, no_list, State, Around, prefix_tree, prefix_listed, Value, nothing_there, tree, piece, pair, is_listed, text_of, local_number, part, tree_of}
 use Rattle.cpp_grammar.specs.References.{appended, appended_by, is_function_type, with_type, with_unqualified, with_prefix, with_packs, packs_in, is_module, substituted, parameter_named}
-use Rattle.cpp_grammar.specs.Rescoping.{is_unseen, is_passed_over, name_if, is_declaring, lambda_with, as_generic_lambda, with_holder, counted_unless, counted_base, place_in, named_in, left_at, with_lists, listed_by, is_foreign, in_scope, under_scope, with_free, restated, substituted_wide, numbered, close_wide}
+use Rattle.cpp_grammar.specs.Rescoping.{is_unseen, is_passed_over, name_if, is_declaring, lambda_with, as_generic_lambda, with_holder, counted_unless, counted_base, counted_held, with_constructor, with_held, place_in, named_in, left_at, with_lists, listed_by, is_foreign, in_scope, under_scope, with_free, restated, substituted_wide, numbered, close_wide}
 use Rattle.cpp_grammar.specs.Meaning.{parameters, signature_with, meaning}
 use Rattle.cpp_grammar.specs.Unfolding as unfolding_
 use Rattle.cpp_grammar.specs.Unfolding.{close}
@@ -423,10 +423,23 @@ lambda_comes byte around vs state r end pre all e =
     found_comes around state (piece (lambda_with t number)) r end (lambda_good (Bare true around) t number (good.scopes tt)) e
 
 -- a base class or a concept's name is counted
-pub unless_grows : (around : Around) (end : ℕ) (listed : Bool) (counted : Counted) (t : Term) (state : State) → Good (Bare true around) t → Grows true around end state (counted_unless listed counted around t state)
+unless_grows : (around : Around) (end : ℕ) (listed : Bool) (counted : Counted) (t : Term) (state : State) → Good (Bare true around) t → Grows true around end state (counted_unless listed counted around t state)
 unfolding counted_unless
 unless_grows around end true counted t state good = grows_same true around end state state refl
 unless_grows around end false counted t state good = grows_by counted true around end t state good
+
+-- before arguments the constructor may be counted after its base class
+constructor_grows : (around : Around) (end : ℕ) (listed : Bool) (counted : Counted) (state : State) → Grows true around end state (with_constructor listed counted around state)
+unfolding with_constructor
+constructor_grows around end false by_gcc state = grows_by by_gcc true around end absent state (good_nothing (Bare true around))
+constructor_grows around end listed counted state = grows_same true around end state state refl
+
+pub before_arguments_grow : (around : Around) (end : ℕ) (listed : Bool) (t : Term) (state : State) → Good (Bare true around) t → Grows true around end state (with_held listed around t state)
+unfolding with_held
+before_arguments_grow around end listed t state good =
+    let mid = counted_unless listed (counted_held t) around t state in
+    grows_then true around end end state mid (with_constructor listed (counted_held t) around mid) (omega arith) (unless_grows around end listed (counted_held t) t state good)
+    (constructor_grows around end listed (counted_held t) mid)
 
 counted_grows : (around : Around) (end : ℕ) (base : Value) (state : State) → Good (Bare true around) (held base) → Grows true around end state (counted_base around base state)
 unfolding counted_base

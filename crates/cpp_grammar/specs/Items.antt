@@ -65,7 +65,7 @@ indexed index t = t
 abbrev pub auto : Term
 auto = builtin (68 ∷ 97 ∷ [])
 
--- what stands for each parameter of a lambda's own: the signature that declares them, if one does
+-- what denotes each parameter of a lambda's own: the signature that declares them, if one does
 unfoldable pub own_argument : Signature → Term
 own_argument in_none = absent
 own_argument undeclared = auto

@@ -11,9 +11,9 @@ use Rattle.sym_shape.specs.Tree.{Tree, Forest}
 use Rattle.sym_link.specs.Reading.{Found, Reading, ◌>>=◌}
 use Rattle.sym_link.specs.Unfold.{found, unfold_tree}
 use Rattle.cpp_grammar.specs.declared.production.Production.{Production}
-use Rattle.cpp_grammar.specs.Term.{Term, instance, holder, lvalue, rvalue, parameter, lambda, generic_lambda, declaring}
+use Rattle.cpp_grammar.specs.Term.{Term, alone, in_std, within, instance, holder, lvalue, rvalue, parameter, lambda, generic_lambda, declaring, absent}
 use Rattle.cpp_grammar.specs.Scope.{count, element, is_list, has_pack, is_open, Free, none_free, one_free, several_free, free_in, pack_length}
-use Rattle.cpp_grammar.specs.Values.{Counted, by_all, by_newer, by_gcc, by_some, Candidate, Lists, both_lists, longer_list, shorter_list, no_list, Expected, prefix_at, qualified_at, outermost, Showing, shown, in_constraint, at_literal, is_in_constraint, is_at_literal, State, Around, prefix_tree, prefix_listed, Value, nothing_there, tree, piece, pair, text, tree_of, is_listed, text_of, part}
+use Rattle.cpp_grammar.specs.Values.{Counted, by_all, by_newer, by_gcc, by_clang, by_some, Candidate, Lists, both_lists, longer_list, shorter_list, no_list, Expected, prefix_at, qualified_at, outermost, Showing, shown, in_constraint, at_literal, is_in_constraint, is_at_literal, State, Around, prefix_tree, prefix_listed, Value, nothing_there, tree, piece, pair, text, tree_of, is_listed, text_of, part}
 use Rattle.cpp_grammar.specs.References.{appended, appended_by, is_module, with_packs, substituted}
 use Rattle.cpp_grammar.specs.Between.{Continuation, next, in_name, in_types, inside, listed_so_far, parameter_so_far, argument_so_far, index_of, between}
 use Rattle.cpp_grammar.specs.Meaning.{meaning}
@@ -123,8 +123,24 @@ unfoldable pub counted_base : Around → (base : Value) → State → State
 counted_base around (pair letter own base) state = state
 counted_base around base state = counted_unless (is_listed base) by_gcc around (tree_of base) state
 
--- Before arguments that may be the constructor's own some also count the constructor, and some count the name of a concept before
--- its arguments. Which of these it is the reading doesn't know: the name before the arguments is counted by some.
+-- Before a constructor's own arguments GCC alone counts the base class, and then the constructor. Before the arguments of a concept
+-- Clang alone counts its name. A base class is nested or has arguments there. The name of a concept, unless a number names it, is one
+-- piece; one in N has another production.
+unfoldable pub counted_held : Term → Counted
+counted_held (within prefix last) = by_gcc
+counted_held (instance template arguments) = by_gcc
+counted_held (alone name) = by_clang
+counted_held (in_std name) = by_clang
+counted_held _ = by_some
+
+-- No S names the constructor: its candidate is absent.
+unfoldable pub with_constructor : (listed : Bool) → Counted → Around → State → State
+with_constructor false by_gcc around state = appended_by by_gcc around absent state
+with_constructor listed counted around state = state
+
+-- before such arguments, after a base class or the name of a concept
+unfoldable pub with_held : (listed : Bool) → Around → Term → State → State
+with_held listed around t state = with_constructor listed (counted_held t) around (counted_unless listed (counted_held t) around t state)
 
 -- ## Two lists
 
@@ -164,6 +180,8 @@ joined by_newer by_newer = by_newer
 joined by_newer by_all = by_newer
 joined by_gcc by_gcc = by_gcc
 joined by_gcc by_all = by_gcc
+joined by_clang by_clang = by_clang
+joined by_clang by_all = by_clang
 joined _ _ = by_some
 
 unfoldable pub counted_so_far : (before : Counted) → List Candidate → Counted
@@ -184,8 +202,9 @@ unfoldable pub is_qualified_at : (place : ℕ) → Expected → Bool
 is_qualified_at place (qualified_at at) = nat_eq at place
 is_qualified_at place _ = false
 
--- A name with its M is no type. No compiler writes qualifiers before a reference.
+-- A name with its M is no type. No compiler writes qualifiers before a reference. Nothing names a constructor.
 unfoldable pub fits : (is_prefix is_qualified : Bool) → Term → Bool
+fits is_prefix is_qualified absent = false
 fits is_prefix is_qualified (holder name) = is_prefix
 fits is_prefix is_qualified (lvalue t) = not is_qualified
 fits is_prefix is_qualified (rvalue t) = not is_qualified
@@ -198,12 +217,13 @@ can_be_named expected place (Some c) = fits (is_prefix_at place expected) (is_qu
 
 -- ## The list that is left
 
--- Where both lists are left, and only one has a candidate that fits, that list is left from there on.
+-- Where both lists are left, and only one has a candidate that fits, that list is left from there on. A list in which none fits isn't.
 unfoldable pub left : Lists → (longer_fits shorter_fits : Bool) → Lists
 left both_lists true false = longer_list
 left both_lists false true = shorter_list
-left both_lists _ _ = no_list
-left lists longer_fits shorter_fits = lists
+left longer_list true shorter_fits = longer_list
+left shorter_list longer_fits true = shorter_list
+left _ longer_fits shorter_fits = no_list
 
 -- the lists that are left by the S at this place with this number, by which the lists name two candidates
 unfoldable pub left_at : (place number : ℕ) → State → Lists
@@ -319,7 +339,7 @@ between_wide Production.Parameter around place (v ∷ []) state = parameter_here
 between_wide Production.NestParameter around place (v ∷ []) state = parameter_here around place (index_of v) [] state
 between_wide Production.ParameterArgument around place (v ∷ []) state = parameter_here around (place - 1) (index_of v) [] state
 between_wide Production.ParameterExpression around place (v ∷ []) state = argument_here around (place - 1) (index_of v) state
-between_wide Production.HeldArguments around place [] state = next [] (inside around) (counted_unless (prefix_listed around.prefix) by_some around (prefix_tree around.prefix) state)
+between_wide Production.HeldArguments around place [] state = next [] (inside around) (with_held (prefix_listed around.prefix) around (prefix_tree around.prefix) state)
 between_wide Production.DeclaredFirst around place [] state = next [] around state
 between_wide Production.Holder around place (v ∷ []) state = holder_so_far around place state
 between_wide Production.Constraint around place [] state = next [] (in_constraint_of around) state

@@ -4,12 +4,13 @@ use Rattle.sym_core.specs.declared.NumberKind.TheVariants.{Decimal}
 use Rattle.sym_core.specs.Value.{counted_value}
 use Rattle.cpp_grammar.specs.Term.{Qualifiers, RefQualifier, any_value, lvalue_only, rvalue_only, explicit_object, Signed, Adjustment, non_virtual, Term, destructor, absent}
 
--- By which compilers a candidate is counted: by all, by those since GCC 13 and Clang 13, by GCC alone, or by some of which the
--- reading doesn't know.
+-- By which compilers a candidate is counted: by all, by those since GCC 13 and Clang 13, by GCC alone, by Clang alone, or by some
+-- of which the reading doesn't know.
 pub data Counted : Type 0 where
   by_all : Counted
   by_newer : Counted
   by_gcc : Counted
+  by_clang : Counted
   by_some : Counted
 
 -- a tree that a substitution may name, the place where the encoding begins in which it was made, whether it was made in a

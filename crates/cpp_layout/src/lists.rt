@@ -16,6 +16,7 @@ use sym_print::PartList;
 
 impl Symbol {
     /// The parts of a list's elements from the first one on: an element that prints nothing is skipped.
+    #[inline]
     pub(crate) fn fill_first<S: PartList<Context>>(
         &self,
         parts: &mut S,
@@ -41,6 +42,7 @@ impl Symbol {
     }
 
     /// The parts of a list's elements after others.
+    #[inline]
     pub(crate) fn fill_more<S: PartList<Context>>(
         &self,
         parts: &mut S,
@@ -96,6 +98,7 @@ impl Symbol {
     }
 
     /// The parts of a node in the form of a list's elements.
+    #[inline]
     pub(crate) fn fill_first_of<S: PartList<Context>>(&self, parts: &mut S, node: u32, ctx: Context)
         requires context { IsAliasBelow (length self.now.table.nodes) ctx.argument }
         requires own { is_again (entry_at self.now.table.nodes node).node ≡ false }
@@ -112,6 +115,7 @@ impl Symbol {
     }
 
     /// The parts of a node in the form of elements after others.
+    #[inline]
     pub(crate) fn fill_more_of<S: PartList<Context>>(&self, parts: &mut S, node: u32, ctx: Context)
         requires context { IsAliasBelow (length self.now.table.nodes) ctx.argument }
         requires own { is_again (entry_at self.now.table.nodes node).node ≡ false }

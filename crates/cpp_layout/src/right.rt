@@ -44,6 +44,7 @@ impl Symbol {
     }
 
     /// The right parts of a type.
+    #[inline]
     pub(crate) fn fill_right<S: PartList<Context>>(&self, parts: &mut S, node: u32, ctx: Context)
         requires context { IsAliasBelow (length self.now.table.nodes) ctx.argument }
         requires own { is_again (entry_at self.now.table.nodes node).node ≡ false }

@@ -1,6 +1,5 @@
 -- One more candidate.
-use Rattle.std.proofs.Common.{◌≡◌, refl, ◌∙◌, ap, subst, ℕ, suc, ◌<◌, List, [], ◌∷◌, ◌++◌, length, Bool, true, false, Option, Some, None}
-use Rattle.std.proofs.lemmas.Bool.{false≢true}
+use Rattle.std.proofs.Common.{◌≡◌, refl, ◌∙◌, ap, subst, ℕ, suc, ◌<◌, List, [], ◌∷◌, ◌++◌, length, Some, None}
 use Rattle.cpp_grammar.specs.Values as plain
 use Rattle.cpp_term.specs.Term.{Term}
 use Rattle.cpp_term.specs.References.{appended}
@@ -12,7 +11,8 @@ use Rattle.cpp_references.specs.Around.{counted_of}
 use Rattle.cpp_link.specs.Counting.{candidate_by}
 use Rattle.cpp_tree.specs.Nodes.{Stored}
 use Rattle.cpp_link.specs.Parts.{trees_in, around_of, candidate_of, candidates_of, AreNodesThere}
-use Rattle.cpp_link.specs.Reads.{with_candidate, with_candidates}
+use Rattle.cpp_link.specs.declared.part.Marks.{Marks}
+use Rattle.cpp_link.specs.Reads.{with_candidate, with_marks}
 
 pub candidates_push : (ts : List Term) (cs : List Candidate) (c : Candidate) → candidates_of ts (cs ++ c ∷ []) ≡ candidates_of ts cs ++ candidate_of ts c ∷ []
 candidates_push ts [] c = refl
@@ -33,19 +33,19 @@ unfolding with_candidate appended around_of counted_of
 one_noted Counted.ByAll ts kept node before = refl
 one_noted Counted.ByNewer ts kept node before = refl
 one_noted Counted.ByGcc ts kept node before = refl
+one_noted Counted.ByClang ts kept node before = refl
 one_noted Counted.BySome ts kept node before = refl
 
 pub none_noted : (counted : plain.Counted) (ts : List Term) (kept : Surroundings) (before : State) → with_candidate counted (around_of ts kept) ts None before ≡ before
 unfolding with_candidate
 none_noted counted ts kept before = refl
 
--- a tree becomes a candidate twice
-pub noted_again : (again : Bool) (counted : plain.Counted) (s : List ℕ) (y z : Stored) (kept : Surroundings) (candidate : Option ℕ) (cs ds es : List Candidate) (state : State) → again ≡ true → z ≡ y
-    → with_candidate plain.by_all (around_of (trees_in s y) kept) (trees_in s y) candidate (record state { candidates = candidates_of (trees_in s y) cs }) ≡ record state { candidates = candidates_of (trees_in s y) ds }
-    → with_candidate counted (around_of (trees_in s z) kept) (trees_in s z) candidate (record state { candidates = candidates_of (trees_in s z) ds }) ≡ record state { candidates = candidates_of (trees_in s z) es }
-    → with_candidates again counted (around_of (trees_in s y) kept) (trees_in s y) candidate (record state { candidates = candidates_of (trees_in s y) cs }) ≡ record state { candidates = candidates_of (trees_in s y) es }
-unfolding with_candidates
-noted_again false counted s y z kept candidate cs ds es state is same first second = absurd (false≢true is)
-noted_again true counted s y z kept candidate cs ds es state is same first second =
-    ap (λ x. with_candidate counted (around_of (trees_in s y) kept) (trees_in s y) candidate x) first
-    ∙ subst (λ x. with_candidate counted (around_of (trees_in s x) kept) (trees_in s x) candidate (record state { candidates = candidates_of (trees_in s x) ds }) ≡ record state { candidates = candidates_of (trees_in s x) es }) same second
+-- two trees, or fewer, become candidates
+pub noted_marks : (marks : Marks) (s : List ℕ) (y z : Stored) (kept : Surroundings) (cs ds es : List Candidate) (state : State) → z ≡ y
+    → with_candidate (counted_of marks.first_by) (around_of (trees_in s y) kept) (trees_in s y) marks.first (record state { candidates = candidates_of (trees_in s y) cs }) ≡ record state { candidates = candidates_of (trees_in s y) ds }
+    → with_candidate (counted_of marks.second_by) (around_of (trees_in s z) kept) (trees_in s z) marks.second (record state { candidates = candidates_of (trees_in s z) ds }) ≡ record state { candidates = candidates_of (trees_in s z) es }
+    → with_marks (around_of (trees_in s y) kept) (trees_in s y) marks (record state { candidates = candidates_of (trees_in s y) cs }) ≡ record state { candidates = candidates_of (trees_in s y) es }
+unfolding with_marks
+noted_marks marks s y z kept cs ds es state same first second =
+    ap (λ x. with_candidate (counted_of marks.second_by) (around_of (trees_in s y) kept) (trees_in s y) marks.second x) first
+    ∙ subst (λ x. with_candidate (counted_of marks.second_by) (around_of (trees_in s x) kept) (trees_in s x) marks.second (record state { candidates = candidates_of (trees_in s x) ds }) ≡ record state { candidates = candidates_of (trees_in s x) es }) same second

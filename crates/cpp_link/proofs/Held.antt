@@ -1,24 +1,28 @@
 -- What is done with a name with its M, and with numbers of candidates, is what the wide reading says.
-use Rattle.std.proofs.Common.{◌≡◌, refl, sym, ◌∙◌, ap, arith, ℕ, List, [], ◌∷◌, length, Bool, true, false, nat_eq, Option, Some, None, Result, Ok, Err}
+use Rattle.std.proofs.Common.{◌≡◌, refl, sym, ◌∙◌, ap, subst, arith, ℕ, ◌<◌, List, [], ◌∷◌, length, Bool, true, false, nat_eq, Option, Some, None, Result, Ok, Err}
 use Rattle.std.proofs.lemmas.Bool.{true≢false, false≢true, eqb-true}
 use Rattle.sym_core.specs.declared.refusal.Refusal.{Refusal}
 use Rattle.sym_core.specs.declared.refusal.Refusal.TheVariants.{BadReference}
 use Rattle.sym_link.specs.Reading.{Found}
 use Rattle.cpp_grammar.specs.declared.production.Production.{Production}
-use Rattle.cpp_grammar.specs.Values.{Counted, Lists, both_lists, longer_list, shorter_list, no_list, by_newer}
-use Rattle.cpp_term.specs.Term.{Term, holder}
-use Rattle.cpp_term.specs.Values.{State, Around, Value, tree, tree_of, part, prefix_tree}
+use Rattle.cpp_grammar.specs.Values.{Counted, by_all, by_newer, by_gcc, by_clang, by_some, Lists, both_lists, longer_list, shorter_list, no_list}
+use Rattle.cpp_term.specs.Term.{Term, holder, absent}
+use Rattle.cpp_term.specs.Values.{State, Around, Value, tree, tree_of, part, behind, prefix_tree, prefix_listed}
 use Rattle.cpp_term.specs.Between.{Continuation, inside, after, listed_so_far}
 use Rattle.cpp_term.specs.References.{appended, appended_by}
-use Rattle.cpp_term.specs.Rescoping.{with_holder, is_instance, holder_so_far, place_in, named_in, left_at, with_lists, listed_by, substituted_wide, numbered, between_wide}
+use Rattle.cpp_term.proofs.Notes.{both}
+use Rattle.cpp_term.specs.Rescoping.{with_holder, counted_unless, counted_held, with_constructor, with_held, is_instance, holder_so_far, place_in, named_in, left_at, with_lists, listed_by, substituted_wide, numbered, between_wide}
 use Rattle.cpp_tree.specs.Nodes as nodes
-use Rattle.cpp_tree.specs.Nodes.{Stored, tree_at}
+use Rattle.cpp_tree.specs.Nodes.{Stored, tree_at, IsAliasBelow}
 use Rattle.cpp_tree.specs.declared.node.Node.{Node}
 use Rattle.cpp_references.specs.declared.around.Surroundings.{Surroundings}
 use Rattle.cpp_link.specs.declared.part.Step.{Step}
 use Rattle.cpp_link.specs.LinkRescoping.{steps_apart, with_mark, going_marked, lists_after, named_left, named_after}
-use Rattle.cpp_link.specs.Parts.{trees_in, prefix_of, name_of, around_of}
-use Rattle.cpp_link.specs.Reads.{goes_on, with_candidate, with_candidates, behind_first, named_if, appended_if}
+use Rattle.cpp_references.specs.declared.around.Naming.{Naming}
+use Rattle.cpp_references.specs.Around.{counted_of}
+use Rattle.cpp_link.specs.Parts.{trees_in, prefix_in, prefix_of, name_of, around_of, IsPrefixThere}
+use Rattle.cpp_link.specs.declared.part.Marks.{Marks}
+use Rattle.cpp_link.specs.Reads.{goes_on, with_candidate, constructor_by, with_marks, behind_first, named_if, appended_if}
 use Rattle.cpp_link.specs.NodeCount.{makes_before}
 use Rattle.cpp_link.specs.Owed.{made_before}
 use Rattle.cpp_link.specs.Stepping.{IsStepOf}
@@ -116,17 +120,83 @@ held_step before node packs one = rw one (omega arith, refl)
 
 -- ## What becomes a candidate
 
--- a name with its M, once or twice
-pub held_noted : (again : Bool) (around : Around) (ts : List Term) (node : ℕ) (state : State)
-    → with_candidates again by_newer around ts (Some node) state ≡ appended_by by_newer around (tree_at ts node) (elim again [ true ↦ appended around (tree_at ts node) state | false ↦ state ])
-unfolding with_candidates with_candidate
-held_noted true around ts node state = refl
-held_noted false around ts node state = refl
+pub no_marks : (around : Around) (ts : List Term) (marks : Marks) (state : State) → marks.first ≡ None → marks.second ≡ None → with_marks around ts marks state ≡ state
+unfolding with_marks with_candidate
+no_marks around ts marks state first second = rw (first, second) refl
 
-pub none_again : (again : Bool) (counted : Counted) (around : Around) (ts : List Term) (state : State) → with_candidates again counted around ts None state ≡ state
-unfolding with_candidates with_candidate
-none_again true counted around ts state = refl
-none_again false counted around ts state = refl
+-- a name with its M, once or twice
+pub twice_noted : (again : Bool) (around : Around) (ts : List Term) (node : ℕ) (state : State) (marks : Marks) → prefix_listed around.prefix ≡ again
+    → marks.first ≡ elim again as (λ _. Option ℕ) [ true ↦ Some node | false ↦ None ] → counted_of marks.first_by ≡ by_all → marks.second ≡ Some node → counted_of marks.second_by ≡ by_newer
+    → with_marks around ts marks state ≡ with_holder around (tree_at ts node) state
+unfolding with_marks with_candidate with_holder
+twice_noted again around ts node state marks listed first all second newer =
+    both (λ b o. with_candidate b around ts o (with_candidate (counted_of marks.first_by) around ts marks.first state)) newer second
+    ∙ ap (λ x. with_candidate by_newer around ts (Some node) x) (both (λ b o. with_candidate b around ts o state) all first) ∙ go again
+    ∙ sym (ap (λ l. appended_by by_newer around (tree_at ts node) (elim l as (λ _. State) [ true ↦ appended around (tree_at ts node) state | false ↦ state ])) listed)
+  where
+    go : (b : Bool) → with_candidate by_newer around ts (Some node) (with_candidate by_all around ts (elim b as (λ _. Option ℕ) [ true ↦ Some node | false ↦ None ]) state)
+        ≡ appended_by by_newer around (tree_at ts node) (elim b as (λ _. State) [ true ↦ appended around (tree_at ts node) state | false ↦ state ])
+    go true = refl
+    go false = refl
+
+-- a constructor, after its base class
+pub constructor_noted : (counted : Counted) (around : Around) (ts : List Term) (state : State) → tree_at ts 0 ≡ absent → with_constructor false counted around state ≡ with_candidate by_gcc around ts (constructor_by counted) state
+unfolding with_constructor with_candidate constructor_by
+constructor_noted by_gcc around ts state is = ap (λ t. appended_by by_gcc around t state) (sym is)
+constructor_noted by_all around ts state is = refl
+constructor_noted by_newer around ts state is = refl
+constructor_noted by_clang around ts state is = refl
+constructor_noted by_some around ts state is = refl
+
+-- a base class or the name of a concept
+pub held_noted : (counted : Counted) (around : Around) (ts : List Term) (node : ℕ) (state : State) → counted_unless false counted around (tree_at ts node) state ≡ with_candidate counted around ts (Some node) state
+unfolding counted_unless with_candidate appended
+held_noted by_all around ts node state = refl
+held_noted by_newer around ts node state = refl
+held_noted by_gcc around ts node state = refl
+held_noted by_clang around ts node state = refl
+held_noted by_some around ts node state = refl
+
+pub marks_held : (marks : Marks) (around : Around) (ts : List Term) (node : ℕ) (state : State) → around.prefix ≡ behind (tree_at ts node) false → tree_at ts 0 ≡ absent
+    → marks.first ≡ Some node → counted_of marks.first_by ≡ counted_held (tree_at ts node) → marks.second ≡ constructor_by (counted_held (tree_at ts node)) → counted_of marks.second_by ≡ by_gcc
+    → with_marks around ts marks state ≡ with_held (prefix_listed around.prefix) around (prefix_tree around.prefix) state
+unfolding with_marks with_held prefix_listed prefix_tree
+marks_held marks around ts node state prefix none first by second gcc =
+    let c = counted_held (tree_at ts node) in
+    both (λ b o. with_candidate b around ts o (with_candidate (counted_of marks.first_by) around ts marks.first state)) gcc second
+    ∙ ap (λ x. with_candidate by_gcc around ts (constructor_by c) x) (both (λ b o. with_candidate b around ts o state) by first ∙ sym (held_noted c around ts node state))
+    ∙ sym (constructor_noted c around ts (counted_unless false c around (tree_at ts node) state) none)
+    ∙ sym (ap (λ p. with_held (prefix_listed p) around (prefix_tree p) state) prefix)
+
+pub constructor_below : (n : ℕ) (o : Option ℕ) (counted : Counted) → o ≡ constructor_by counted → 3 < n → IsAliasBelow n o
+unfolding constructor_by
+constructor_below n o by_gcc is fixed = rw is (omega (arith, fixed))
+constructor_below n o by_all is fixed = rw is tt
+constructor_below n o by_newer is fixed = rw is tt
+constructor_below n o by_clang is fixed = rw is tt
+constructor_below n o by_some is fixed = rw is tt
+
+pub is_listed_prefix : (ts : List Term) (kept : Surroundings) (n : Naming) (listed : Bool) → kept.naming ≡ n → prefix_listed (prefix_of ts (prefix_in n kept.name)) ≡ listed → prefix_listed (around_of ts kept).prefix ≡ listed
+unfolding around_of
+is_listed_prefix ts kept n listed is so = ap (λ n. prefix_listed (prefix_of ts (prefix_in n kept.name))) is ∙ so
+
+-- the name before the arguments
+pub unlisted_prefix : (ts : List Term) (kept : Surroundings) → kept.naming ≡ Naming.Unlisted → (around_of ts kept).prefix ≡ behind (tree_at ts kept.name) false
+unfolding around_of prefix_of prefix_in
+unlisted_prefix ts kept is = ap (λ n. prefix_of ts (prefix_in n kept.name)) is
+
+pub unlisted_below : (n : ℕ) (kept : Surroundings) → kept.naming ≡ Naming.Unlisted → IsPrefixThere n (name_of kept) → kept.name < n
+unfolding prefix_in
+unlisted_below n kept is there = subst (λ m. IsPrefixThere n (prefix_in m kept.name)) is there
+
+-- no name, or one that is listed
+pub outermost_prefix : (ts : List Term) (kept : Surroundings) (state : State) → kept.naming ≡ Naming.Outermost → with_held (prefix_listed (around_of ts kept).prefix) (around_of ts kept) (prefix_tree (around_of ts kept).prefix) state ≡ state
+unfolding around_of prefix_of prefix_in prefix_listed with_held with_constructor counted_unless
+outermost_prefix ts kept state is = ap (λ n. with_held (prefix_listed (prefix_of ts (prefix_in n kept.name))) (around_of ts kept) (prefix_tree (prefix_of ts (prefix_in n kept.name))) state) is
+
+pub listed_prefix : (ts : List Term) (kept : Surroundings) (state : State) → kept.naming ≡ Naming.Listed → with_held (prefix_listed (around_of ts kept).prefix) (around_of ts kept) (prefix_tree (around_of ts kept).prefix) state ≡ state
+unfolding around_of prefix_of prefix_in prefix_listed with_held with_constructor counted_unless
+listed_prefix ts kept state is = ap (λ n. with_held (prefix_listed (prefix_of ts (prefix_in n kept.name))) (around_of ts kept) (prefix_tree (prefix_of ts (prefix_in n kept.name))) state) is
 
 -- ## Numbers
 

@@ -4,7 +4,7 @@ use Rattle.std.specs.Prelude.{slice_set}
 use Rattle.std.proofs.lemmas.Bool.{false≢true, cases_lt}
 use Rattle.std.proofs.lemmas.List.{get_or_append_left}
 use Rattle.std.proofs.Math.Seq.{get_or-append_seam}
-use Rattle.cpp_grammar.specs.Values.{Counted, by_all, by_newer, by_gcc, by_some}
+use Rattle.cpp_grammar.specs.Values.{Counted, by_all, by_newer, by_gcc, by_clang, by_some}
 use Rattle.cpp_grammar.specs.Rescoping.{is_by_all, is_by_newer, joined}
 use Rattle.cpp_term.specs.Term.{Term}
 use Rattle.cpp_term.specs.Values as values
@@ -23,11 +23,18 @@ joined_all by_all y is = (refl, is)
 joined_all by_newer by_all is = absurd cc
 joined_all by_newer by_newer is = absurd cc
 joined_all by_newer by_gcc is = absurd cc
+joined_all by_newer by_clang is = absurd cc
 joined_all by_newer by_some is = absurd cc
 joined_all by_gcc by_all is = absurd cc
 joined_all by_gcc by_newer is = absurd cc
 joined_all by_gcc by_gcc is = absurd cc
+joined_all by_gcc by_clang is = absurd cc
 joined_all by_gcc by_some is = absurd cc
+joined_all by_clang by_all is = absurd cc
+joined_all by_clang by_newer is = absurd cc
+joined_all by_clang by_gcc is = absurd cc
+joined_all by_clang by_clang is = absurd cc
+joined_all by_clang by_some is = absurd cc
 joined_all by_some y is = absurd cc
 
 all_is : (x : Counted) → is_by_all x ≡ true → x ≡ by_all
@@ -35,6 +42,7 @@ unfolding is_by_all
 all_is by_all is = refl
 all_is by_newer is = absurd (false≢true is)
 all_is by_gcc is = absurd (false≢true is)
+all_is by_clang is = absurd (false≢true is)
 all_is by_some is = absurd (false≢true is)
 
 all_before : (x : Counted) (cs : List values.Candidate) → is_by_all (counted_so_far x cs) ≡ true → x ≡ by_all

@@ -2,7 +2,7 @@
 use Rattle.std.proofs.Common.{◌≡◌, refl, sym, ◌∙◌, ap, subst, arith, ℕ, zero, suc, ◌+◌, ◌-◌, ◌<◌, ◌≤◌, List, [], ◌∷◌, ◌++◌, length, get_or, Bool, true, false}
 use Rattle.std.specs.Prelude.{vec_capacity}
 use Rattle.std.proofs.lemmas.Bool.{false≢true}
-use Rattle.cpp_grammar.specs.Values.{Counted, by_all, by_newer, by_gcc, by_some}
+use Rattle.cpp_grammar.specs.Values.{Counted, by_all, by_newer, by_gcc, by_clang, by_some}
 use Rattle.cpp_grammar.specs.Rescoping.{is_by_all, is_by_newer, joined}
 use Rattle.cpp_term.specs.Rescoping.{is_before_holder, is_in_list, place_in, counted_so_far}
 use Rattle.cpp_references.specs.declared.candidates.Candidate.{Candidate}
@@ -32,6 +32,7 @@ unfolding joined
 joined_none by_all = refl
 joined_none by_newer = refl
 joined_none by_gcc = refl
+joined_none by_clang = refl
 joined_none by_some = refl
 
 with_both : (cs : List Candidate) (i p j q : ℕ) → with_place true (with_place false cs i p) j q ≡ with_place false (with_place true cs j q) i p
@@ -148,6 +149,7 @@ unfolding is_by_all counted_of
 noted_all noted.ByAll is = refl
 noted_all noted.ByNewer is = absurd (false≢true is)
 noted_all noted.ByGcc is = absurd (false≢true is)
+noted_all noted.ByClang is = absurd (false≢true is)
 noted_all noted.BySome is = absurd (false≢true is)
 
 pub none_listed : AreListed 0 0 noted.ByAll []

@@ -9,7 +9,7 @@ use Rattle.cpp_term.specs.Term as term
 use Rattle.cpp_term.specs.Term.{Term, absent}
 use Rattle.cpp_term.specs.Scope.{has_return_type, is_structor}
 use Rattle.cpp_term.specs.Meaning.{is_void, is_nil, parameters, encoding_of}
-use Rattle.cpp_term.specs.Rescoping.{is_instance, fits}
+use Rattle.cpp_term.specs.Rescoping.{is_instance, counted_held, fits}
 use Rattle.cpp_term.specs.Values.{Value, tree_of, qualifiers_of, ref_of}
 use Rattle.cpp_tree.specs.Nodes as nodes
 use Rattle.cpp_tree.specs.Nodes.{tree_at, tree_if_there, is_again, IsBelow, IsAliasBelow}
@@ -22,7 +22,7 @@ use Rattle.cpp_tree.specs.declared.node.Node.{Node}
 use Rattle.cpp_tree.specs.declared.node.Piece.{Piece}
 use Rattle.cpp_tree.specs.Notes.{is_structor_node, is_structor_piece}
 use Rattle.cpp_tree.specs.declared.node.Thunk.{Thunk}
-use Rattle.cpp_link.specs.Reads.{void_node, nil_node, instance_node, node_fits, cell_under, parameters_by, encoding_by, IsSplitThere}
+use Rattle.cpp_link.specs.Reads.{void_node, nil_node, instance_node, held_node, node_fits, cell_under, parameters_by, encoding_by, IsSplitThere}
 
 -- ## Productions by their numbers
 
@@ -115,6 +115,12 @@ unfolding is_instance nodes.tree_of instance_node reargued is_again
 instance_is s us ts given (Node.Reargued t a) own = absurd (true≢false own)
 instance_is s us ts given Node.Absent own = refl
 instance_is s us ts given _ own = refl
+
+pub held_node_is : (s : List ℕ) (us : List Thunk) (ts : List Term) (given : Option Term) (node : Node) → is_again node ≡ false → counted_held (reargued given (nodes.tree_of s us ts node)) ≡ held_node node
+unfolding counted_held nodes.tree_of held_node reargued is_again
+held_node_is s us ts given (Node.Reargued t a) own = absurd (true≢false own)
+held_node_is s us ts given Node.Absent own = refl
+held_node_is s us ts given _ own = refl
 
 pub fits_is : (p q : Bool) (s : List ℕ) (us : List Thunk) (ts : List Term) (given : Option Term) (node : Node) → is_again node ≡ false → fits p q (reargued given (nodes.tree_of s us ts node)) ≡ node_fits node p q
 unfolding fits nodes.tree_of node_fits reargued is_again

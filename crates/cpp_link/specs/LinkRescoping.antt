@@ -9,14 +9,14 @@ use Rattle.sym_link.specs.Unfold.{found, unfold_tree}
 use Rattle.sym_link.specs.Linking.{View}
 use Rattle.sym_link.specs.Tally.{Tally, tally, Makes, tallied, tallied_view}
 use Rattle.cpp_grammar.specs.declared.production.Production.{Production}
-use Rattle.cpp_grammar.specs.Values.{Counted, by_newer, by_some, Lists, longer_list, shorter_list, prefix_at, qualified_at}
+use Rattle.cpp_grammar.specs.Values.{Lists, longer_list, shorter_list, prefix_at, qualified_at}
 use Rattle.cpp_grammar.specs.Rescoping.{generic_number}
 use Rattle.cpp_grammar.specs.Unfolding.{production_at, byte_of}
 use Rattle.cpp_term.specs.Term.{Term, parameter}
 use Rattle.cpp_term.specs.Items.{auto}
 use Rattle.cpp_term.specs.Values.{Candidate, State, Around, Value, tree, tree_of, prefix_tree, prefix_listed, text_of, part}
 use Rattle.cpp_term.specs.Unfolding.{first_around, first_state}
-use Rattle.cpp_term.specs.Rescoping.{generic_so_far, with_holder, counted_unless, is_foreign, as_generic_lambda, counted_base, is_unseen, is_passed_over, name_if, place_in, named_in, left_at, expecting, close_wide, cpp_wide}
+use Rattle.cpp_term.specs.Rescoping.{generic_so_far, with_holder, with_held, is_foreign, as_generic_lambda, counted_base, is_unseen, is_passed_over, name_if, place_in, named_in, left_at, expecting, close_wide, cpp_wide}
 use Rattle.cpp_term.specs.Scope.{is_open}
 use Rattle.cpp_term.specs.Between.{Continuation, next}
 use Rattle.cpp_tree.specs.Nodes.{tree_at}
@@ -75,7 +75,7 @@ is_parameter_argument _ = false
 
 -- Before the part after n others of a production the wide reading does something of its own: in a lambda's signature a
 -- parameter is named, or what the lambda declares is read; a name becomes a candidate with its M; or the base class of an
--- inherited constructor or the name of a concept is counted.
+-- inherited constructor, with the constructor, or the name of a concept is counted.
 unfoldable pub steps_apart : Production → (in_lambda : Bool) → (before : ℕ) → Bool
 steps_apart Production.Parameter in_lambda before = in_lambda && nat_eq before 1
 steps_apart Production.NestParameter in_lambda before = in_lambda && nat_eq before 1
@@ -90,20 +90,11 @@ steps_apart Production.EncodingLiteral in_lambda before = in_lambda && nat_eq be
 steps_apart Production.Encoding in_lambda before = in_lambda && nat_lt before 2
 steps_apart _ in_lambda before = false
 
--- by which compilers the tree is counted that becomes a candidate then
-unfoldable pub counted_before : Production → Counted
-counted_before Production.Holder = by_newer
-counted_before _ = by_some
-
--- whether it becomes one before that, which all count: the name before an M, unless it's one by now
-unfoldable pub counts_again : Production → (listed : Bool) → Bool
-counts_again Production.Holder listed = listed
-counts_again _ listed = false
-
--- What becomes a candidate then, once the parts denote these values: a name with its M, a base class, or a concept's name.
+-- What becomes a candidate then, once the parts denote these values: a name with its M, a base class and the constructor, or a
+-- concept's name.
 unfoldable pub with_mark : Production → Around → List Value → State → State
 with_mark Production.Holder around vs state = with_holder around (tree_of (part vs 0)) state
-with_mark Production.HeldArguments around vs state = counted_unless (prefix_listed around.prefix) by_some around (prefix_tree around.prefix) state
+with_mark Production.HeldArguments around vs state = with_held (prefix_listed around.prefix) around (prefix_tree around.prefix) state
 with_mark _ around vs state = state
 
 -- what is done, and what becomes a candidate then

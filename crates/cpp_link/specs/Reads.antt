@@ -5,18 +5,21 @@ use Rattle.cpp_term.specs.Term as term
 use Rattle.cpp_term.specs.Term.{Term, absent, nil}
 use Rattle.cpp_term.specs.Scope.{has_return_type}
 use Rattle.cpp_term.specs.Meaning.{is_void, is_nil, parameters}
-use Rattle.cpp_grammar.specs.Values.{Counted, by_all}
+use Rattle.cpp_grammar.specs.Values as plain
+use Rattle.cpp_grammar.specs.Values.{by_all, by_gcc, by_clang, by_some}
 use Rattle.cpp_term.specs.References.{appended, appended_by}
 use Rattle.cpp_term.specs.Values as values
 use Rattle.cpp_term.specs.Values.{State, Value, Around, tree_of, qualifiers_of, ref_of}
 use Rattle.cpp_tree.specs.Nodes.{Stored, tree_at, tree_if_there, IsAliasBelow}
 use Rattle.cpp_term.specs.Between.{Continuation, after}
 use Rattle.cpp_link.specs.declared.part.Step.{Step}
+use Rattle.cpp_link.specs.declared.part.Marks.{Marks}
 use Rattle.cpp_references.specs.declared.around.Surroundings.{Surroundings}
 use Rattle.cpp_tree.specs.declared.node.Node.{Node}
 use Rattle.cpp_references.specs.declared.again.OpenedNode.{OpenedNode}
 use Rattle.cpp_link.specs.declared.signatures.Split.{Split}
 use Rattle.cpp_term.specs.Reargued.{reargued}
+use Rattle.cpp_references.specs.Around.{counted_of}
 use Rattle.cpp_link.specs.Parts.{trees_in, tree_of_node, around_of}
 unfoldable pub use Rattle.cpp_references.specs.References.{packs_read, maybe_candidate, node_read, parameter_read}
 
@@ -34,8 +37,22 @@ unfoldable pub instance_node : Node → Bool
 instance_node (Node.Instance template arguments) = true
 instance_node _ = false
 
+-- by whom a name is counted that arguments follow, of an inherited constructor or of a concept
+unfoldable pub held_node : Node → plain.Counted
+held_node (Node.Within prefix piece) = by_gcc
+held_node (Node.Instance template arguments) = by_gcc
+held_node (Node.Alone piece) = by_clang
+held_node (Node.InStd piece) = by_clang
+held_node _ = by_some
+
+-- the node of an inherited constructor, which is counted with its base class: it is absent
+unfoldable pub constructor_by : plain.Counted → Option ℕ
+constructor_by by_gcc = Some 0
+constructor_by counted = None
+
 -- whether it fits as what an S names, before a nested name or under qualifiers
 unfoldable pub node_fits : Node → (is_prefix is_qualified : Bool) → Bool
+node_fits Node.Absent is_prefix is_qualified = false
 node_fits (Node.Holder name) is_prefix is_qualified = is_prefix
 node_fits (Node.Lvalue inner) is_prefix is_qualified = not is_qualified
 node_fits (Node.Rvalue inner) is_prefix is_qualified = not is_qualified
@@ -76,17 +93,14 @@ encoding_by ts name (Some l) items = elim (has_return_type (tree_of name)) [
 ]
 
 -- a tree more or less among the candidates, which is counted by these compilers
-unfoldable pub with_candidate : Counted → Around → List Term → Option ℕ → State → State
+unfoldable pub with_candidate : plain.Counted → Around → List Term → Option ℕ → State → State
 with_candidate counted around ts None state = state
 with_candidate by_all around ts (Some n) state = appended around (tree_at ts n) state
 with_candidate counted around ts (Some n) state = appended_by counted around (tree_at ts n) state
 
--- likewise, and before that as one that all compilers count
-unfoldable pub with_candidates : (again : Bool) → Counted → Around → List Term → Option ℕ → State → State
-with_candidates again counted around ts candidate state = elim again [
-  | true ↦ with_candidate counted around ts candidate (with_candidate by_all around ts candidate state)
-  | false ↦ with_candidate counted around ts candidate state
-]
+-- two trees, or fewer, one after the other
+unfoldable pub with_marks : Around → List Term → Marks → State → State
+with_marks around ts marks state = with_candidate (counted_of marks.second_by) around ts marks.second (with_candidate (counted_of marks.first_by) around ts marks.first state)
 
 -- ## Steps
 

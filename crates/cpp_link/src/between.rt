@@ -322,6 +322,10 @@ impl Linked {
         if parts.len() - frame.base < quiet_parts(frame.rule) {
             return Ok(frame.kept);
         }
-        self.before_by_step(symbol, frame, parts)
+        // taken apart here, so that only this outcome goes through memory
+        match self.before_by_step(symbol, frame, parts) {
+            Ok(then) => Ok(then),
+            Err(refusal) => Err(refusal),
+        }
     }
 }

@@ -141,6 +141,7 @@ impl Candidates {
             Counted::ByAll => self.number_in_both(own),
             Counted::ByNewer => self.number_holder(own),
             Counted::ByGcc => self.number_in_longer(own, Counted::ByGcc),
+            Counted::ByClang => self.number_in_longer(own, Counted::ByClang),
             Counted::BySome => self.number_in_longer(own, Counted::BySome),
         }
     }

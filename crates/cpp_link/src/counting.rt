@@ -81,8 +81,18 @@ pub fn left(lists: Lists, longer_fits: bool, shorter_fits: bool) -> Lists
             }
             Lists::Neither
         }
-        Lists::Longer => Lists::Longer,
-        Lists::Shorter => Lists::Shorter,
+        Lists::Longer => {
+            if longer_fits {
+                return Lists::Longer;
+            }
+            Lists::Neither
+        }
+        Lists::Shorter => {
+            if shorter_fits {
+                return Lists::Shorter;
+            }
+            Lists::Neither
+        }
         Lists::Neither => Lists::Neither,
     }
 }

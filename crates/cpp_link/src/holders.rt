@@ -58,6 +58,7 @@ fn node_fits(node: Node, is_prefix: bool, is_qualified: bool) -> bool
     ensures { result ≡ node_fits node is_prefix is_qualified }
 {
     match node {
+        Node::Absent => false,
         Node::Holder(_) => is_prefix,
         Node::Lvalue(_) => !is_qualified,
         Node::Rvalue(_) => !is_qualified,

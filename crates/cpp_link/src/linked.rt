@@ -10,13 +10,13 @@ ghost use Rattle.cpp_term.specs.Values.{State};
 ghost use Rattle.cpp_references.specs.Around.{counted_of};
 ghost use Rattle.cpp_link.specs.Counting.{candidate_by};
 ghost use Rattle.cpp_link.specs.Parts.{trees_in, around_of, candidates_of, AreCandidatesThere};
-ghost use Rattle.cpp_link.specs.Reads.{with_candidate, with_candidates};
+ghost use Rattle.cpp_link.specs.Reads.{with_candidate, with_marks};
 ghost use Rattle.cpp_link.specs.View.{Holds, IsPaid, cpp_view};
 ghost use Rattle.cpp_link.specs.Room.{KeepsRoom, LacksRoom};
 
 use crate::candidates::Candidates;
 use crate::counting::{Counted, Counting, NOTHING_COUNTED};
-use crate::part::{Part, Surroundings};
+use crate::part::{Marks, Part, Surroundings};
 use cpp_tree::Nodes;
 use std::alloc::Global;
 use sym_core::{Refusal, Span};
@@ -123,39 +123,34 @@ impl Linked {
         }
     }
 
-    /// A tree becomes a candidate, which is counted by these compilers, or none does. It may become one before that which all count.
+    /// Two trees, or fewer, become candidates one after the other.
     ///
     /// # Errors
     ///
     /// `Memory` where the candidates couldn't grow.
-    #[tactic(auto, unfolding(crate::specs::Reads::with_candidates))]
-    pub(crate) fn append_again(
+    #[tactic(auto, unfolding(crate::specs::Reads::with_marks))]
+    pub(crate) fn append_marks(
         &mut self,
         symbol: &[u8],
         kept: Surroundings,
-        candidate: Option<u32>,
-        again: bool,
-        counted: Counted,
+        marks: Marks,
     ) -> Result<(), Refusal>
-        requires candidate { IsAliasBelow (length self.old.nodes.nodes) candidate }
+        requires first { IsAliasBelow (length self.old.nodes.nodes) marks.first }
+        requires second { IsAliasBelow (length self.old.nodes.nodes) marks.second }
         requires there { AreCandidatesThere (length self.old.nodes.nodes) self.old.candidates }
         ensures nodes { self.new.nodes ≡ self.old.nodes }
         ensures packs { self.new.packs ≡ self.old.packs }
         ensures counting { self.new.counting ≡ self.old.counting }
         ensures there { OnOk result (AreCandidatesThere (length self.old.nodes.nodes) self.new.candidates) }
-        ensures is { OnOk result ((state : State) → with_candidates again (counted_of counted) (around_of (trees_in symbol.now self.old.nodes) kept) (trees_in symbol.now self.old.nodes) candidate
+        ensures is { OnOk result ((state : State) → with_marks (around_of (trees_in symbol.now self.old.nodes) kept) (trees_in symbol.now self.old.nodes) marks
             (record state { candidates = candidates_of (trees_in symbol.now self.old.nodes) self.old.candidates.list.items })
             ≡ record state { candidates = candidates_of (trees_in symbol.now self.old.nodes) self.new.candidates.list.items }) }
         ensures memory { IfErr result (λ e. e ≡ refusals.Memory) }
         ensures keeps { KeepsRoom self.old self.new }
         ensures full { OnErr result (LacksRoom self.old self.new) }
     {
-        if !again {
-            self.append(symbol, kept, candidate, counted)?;
-            return Ok(());
-        }
-        self.append(symbol, kept, candidate, Counted::ByAll)?;
-        self.append(symbol, kept, candidate, counted)?;
+        self.append(symbol, kept, marks.first, marks.first_by)?;
+        self.append(symbol, kept, marks.second, marks.second_by)?;
         Ok(())
     }
 

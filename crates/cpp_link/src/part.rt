@@ -2,6 +2,7 @@
 
 pub use cpp_references::around::{Naming, Prefix, Scope, Surroundings};
 pub use cpp_references::candidates::Candidate;
+use cpp_references::candidates::Counted;
 use cpp_tree::node::{Adjustment, Mark, Node, Piece, Qualifiers, Signed, Thunk};
 use sym_core::Span;
 
@@ -34,6 +35,23 @@ pub enum Part {
         right: u32,
     },
 }
+
+/// Two trees, or fewer, that become candidates one after the other, and by which compilers each is counted.
+#[derive(Clone, Copy)]
+pub struct Marks {
+    pub first: Option<u32>,
+    pub first_by: Counted,
+    pub second: Option<u32>,
+    pub second_by: Counted,
+}
+
+/// None.
+pub const NO_MARKS: Marks = Marks {
+    first: None,
+    first_by: Counted::ByAll,
+    second: None,
+    second_by: Counted::ByAll,
+};
 
 /// What a production denotes: a part, or one whose node isn't made yet.
 #[derive(Clone, Copy)]

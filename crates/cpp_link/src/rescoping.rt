@@ -14,10 +14,10 @@ ghost use Rattle.cpp_grammar.specs.declared.production.Production.{Production as
 ghost use Rattle.cpp_grammar.specs.Rescoping.{is_by_all, generic_number};
 ghost use Rattle.cpp_grammar.specs.Unfolding.{production_at};
 ghost use Rattle.cpp_term.specs.Values as values;
-ghost use Rattle.cpp_term.specs.Rescoping.{name_around, types_around, is_foreign, module_named, restated, numbered, is_declaring, as_generic_lambda, between_wide};
+ghost use Rattle.cpp_term.specs.Rescoping.{name_around, types_around, is_foreign, module_named, restated, numbered, is_declaring, as_generic_lambda, with_holder, counted_held, with_held, between_wide};
 ghost use Rattle.cpp_tree.specs.Nodes.{over, tree_at, bytes_at, piece_of, IsAliasBelow, IsPieceBelow, IsWithin, IsTable};
 ghost use Rattle.cpp_link.specs.Grows.{HasPlace};
-ghost use Rattle.cpp_link.specs.LinkRescoping.{IsOpenName, name_or, is_parameter, is_parameter_argument, steps_apart, counted_before, counts_again, with_mark, going_marked, generic_read, number_in, named_by, substituted_nodes, wide_ends, wide_view};
+ghost use Rattle.cpp_link.specs.LinkRescoping.{IsOpenName, name_or, is_parameter, is_parameter_argument, steps_apart, with_mark, going_marked, generic_read, number_in, named_by, substituted_nodes, wide_ends, wide_view};
 ghost use Rattle.cpp_link.specs.Making.{state_of};
 ghost use Rattle.cpp_link.specs.NodeCount.{makes_before};
 ghost use Rattle.cpp_link.specs.Parts.{trees_in, value_of, value_in, values_in, is_lambda, is_constraint, is_literal, around_of, candidate_of, candidates_of, IsClosed, IsThere, AreThere, AreCandidatesThere, IsKeptThere, IsStepThere};
@@ -26,22 +26,22 @@ ghost use Rattle.cpp_references.specs.Around.{counted_of};
 ghost use Rattle.cpp_term.specs.References.{is_module};
 ghost use Rattle.cpp_term.specs.Scope.{is_open};
 ghost use Rattle.cpp_term.specs.Term.{Term};
-ghost use Rattle.cpp_term.specs.Values.{prefix_listed, tree_of};
-ghost use Rattle.cpp_link.specs.Reads.{with_candidates, goes_on};
+ghost use Rattle.cpp_term.specs.Values.{prefix_tree, prefix_listed, tree_of};
+ghost use Rattle.cpp_link.specs.Reads.{held_node, constructor_by, with_marks, goes_on};
 ghost use Rattle.cpp_link.specs.Stepping.{IsStepOf, nodes_of_step};
 ghost use Rattle.cpp_link.specs.View.{IsPaid, IsWhole, cpp_view};
 
 use crate::counting::{Counted, Expected};
 use crate::dispatch::production_of;
 use crate::linked::Linked;
-use crate::part::{Candidate, Naming, Part, Step, Surroundings};
+use crate::part::{Candidate, Marks, NO_MARKS, Naming, Part, Step, Surroundings};
 use cpp_grammar::production::Production;
 use cpp_references::again::opened;
 use cpp_references::candidates::{is_module, substituted};
 use cpp_references::elsewhere::argument_here;
 use cpp_references::parameters::closed_arguments;
 use cpp_tree::node::{Node, Piece};
-use cpp_tree::nodes::AUTO;
+use cpp_tree::nodes::{ABSENT, AUTO};
 use std::alloc::Global;
 use sym_core::{Refusal, Span, value10};
 use sym_link::language::Frame;
@@ -63,30 +63,59 @@ impl Rescoping {
     }
 }
 
-/// By which compilers the tree is counted that becomes a candidate: a name with its `M`, or the name before arguments that may be
-/// those of an inherited constructor, or of a concept.
-#[tactic(auto, unfolding(crate::specs::LinkRescoping::counted_before, cpp_references::specs::Around::counted_of))]
-fn counted_before(production: Production) -> Counted
-    ensures { counted_of result ≡ counted_before production }
+/// By whom a name is counted that arguments follow: a base class, where it is nested or has arguments of its own, or a concept's name.
+#[tactic(auto, unfolding(crate::specs::Reads::held_node, cpp_references::specs::Around::counted_of))]
+fn held_node(node: Node) -> Counted
+    ensures { counted_of result ≡ held_node node }
 {
-    match production {
-        Production::Holder => Counted::ByNewer,
+    match node {
+        Node::Within { .. } => Counted::ByGcc,
+        Node::Instance { .. } => Counted::ByGcc,
+        Node::Alone(_) => Counted::ByClang,
+        Node::InStd(_) => Counted::ByClang,
         _ => Counted::BySome,
     }
 }
 
-/// Whether the tree becomes a candidate before that which all count: the name before an `M`, unless it has become one as a prefix.
-#[tactic(auto, unfolding(crate::specs::LinkRescoping::counts_again, crate::specs::Parts::around_of, crate::specs::Parts::prefix_in, crate::specs::Parts::prefix_of, cpp_term::specs::Values::prefix_listed))]
-fn counts_again(production: Production, kept: Surroundings) -> bool
-    ensures { (ts : List Term) → result ≡ counts_again production (prefix_listed (around_of ts kept).prefix) }
+/// The node of an inherited constructor among the candidates, where its base class is counted by GCC.
+#[tactic(auto, unfolding(crate::specs::Reads::constructor_by, cpp_references::specs::Around::counted_of))]
+fn constructor_by(by: Counted) -> Option<u32>
+    ensures { result ≡ constructor_by (counted_of by) }
 {
-    match production {
-        Production::Holder => match kept.naming {
-            Naming::Outermost => true,
-            Naming::Unlisted => false,
-            Naming::Listed => true,
+    match by {
+        Counted::ByAll => None,
+        Counted::ByNewer => None,
+        Counted::ByGcc => Some(ABSENT),
+        Counted::ByClang => None,
+        Counted::BySome => None,
+    }
+}
+
+/// The marks of a name with its `M`, which becomes a candidate before that unless it has become one as a prefix.
+fn holder_marks(kept: Surroundings, name: u32) -> Marks
+    ensures is { (ts : List Term) (state : values.State) → with_marks (around_of ts kept) ts result state ≡ with_holder (around_of ts kept) (tree_at ts name) state }
+    ensures first { (n : ℕ) → name < n → IsAliasBelow n result.first }
+    ensures second { (n : ℕ) → name < n → IsAliasBelow n result.second }
+{
+    match kept.naming {
+        Naming::Outermost => Marks {
+            first: Some(name),
+            first_by: Counted::ByAll,
+            second: Some(name),
+            second_by: Counted::ByNewer,
         },
-        _ => false,
+        Naming::Unlisted => Marks {
+            first: None,
+            first_by: Counted::ByAll,
+            second: Some(name),
+            second_by: Counted::ByNewer,
+        },
+        Naming::Listed => Marks {
+            first: Some(name),
+            first_by: Counted::ByAll,
+            second: Some(name),
+            second_by: Counted::ByNewer,
+        },
     }
 }
 
@@ -184,7 +213,13 @@ impl Linked {
         if self.candidates.is_one_list() {
             return self.begin_rule(symbol, rows, context, row);
         }
-        self.begin_apart(symbol, rows, context, row)
+        // copies for the call, and its outcome taken apart, so that only these go through memory
+        let around = context;
+        let own = row;
+        match self.begin_apart(symbol, rows, around, own) {
+            Ok(kept) => Ok(kept),
+            Err(refusal) => Err(refusal),
+        }
     }
 
     /// A lambda's own parameter, in its signature, with these digits (ABI 5.1.8). It may be passed as an argument.
@@ -259,9 +294,8 @@ impl Linked {
         self.in_encoding(kept, place, closed_arguments(&self.nodes, symbol, name))
     }
 
-    /// What is done before the next part where the wide reading does something of its own, except for the mark: a parameter of
-    /// a lambda is named, what a lambda declares is read, a constraint or an encoding in it is read, a name has its `M`, or the
-    /// base class of an inherited constructor or the name of a concept becomes a candidate.
+    /// What the wide reading does of its own before the next part, except for the mark: at a parameter, what a lambda declares, a
+    /// constraint, an encoding, a name with its `M`, arguments after a base class or a concept's name, or a module.
     ///
     /// # Errors
     ///
@@ -356,38 +390,74 @@ impl Linked {
         }
     }
 
-    /// The tree that is marked among the candidates before the next part, after these parts: a name with its `M`, a base class, or the
-    /// name of a concept.
+    /// The marks of a name that arguments follow: a base class, with the constructor that is inherited from it, or a concept's name.
+    fn held_marks(&self, symbol: &[u8], kept: Surroundings) -> Marks
+        requires table { IsTable (over symbol.now self.now.nodes) }
+        requires kept { IsKeptThere (length self.now.nodes.nodes) kept }
+        ensures is { (state : values.State) → with_marks (around_of (trees_in symbol.now self.now.nodes) kept) (trees_in symbol.now self.now.nodes) result state
+            ≡ with_held (prefix_listed (around_of (trees_in symbol.now self.now.nodes) kept).prefix) (around_of (trees_in symbol.now self.now.nodes) kept) (prefix_tree (around_of (trees_in symbol.now self.now.nodes) kept).prefix) state }
+        ensures first { IsAliasBelow (length self.now.nodes.nodes) result.first }
+        ensures second { IsAliasBelow (length self.now.nodes.nodes) result.second }
+    {
+        match kept.naming {
+            Naming::Outermost => NO_MARKS,
+            Naming::Unlisted => {
+                let by = self.held_by(symbol, kept.name);
+                Marks {
+                    first: Some(kept.name),
+                    first_by: by,
+                    second: constructor_by(by),
+                    second_by: Counted::ByGcc,
+                }
+            }
+            Naming::Listed => NO_MARKS,
+        }
+    }
+
+    /// By whom a name is counted that arguments follow.
+    fn held_by(&self, symbol: &[u8], node: u32) -> Counted
+        requires table { IsTable (over symbol.now self.now.nodes) }
+        requires below { node < length self.now.nodes.nodes }
+        ensures { counted_of result ≡ counted_held (tree_at (trees_in symbol.now self.now.nodes) node) }
+    {
+        held_node(opened(&self.nodes, symbol, node).node)
+    }
+
+    /// What becomes a candidate before the next part: a name with its `M`, a base class with its constructor, or a concept's name.
     fn marked(
         &self,
         symbol: &[u8],
         production: Production,
         kept: Surroundings,
         parts: &[Part],
-    ) -> Option<u32>
+    ) -> Marks
         requires table { IsTable (over symbol.now self.now.nodes) }
         requires kept { IsKeptThere (length self.now.nodes.nodes) kept }
         requires there { AreThere symbol.now (length self.now.nodes.nodes) parts.now }
-        ensures is { (state : values.State) → with_candidates (counts_again production (prefix_listed (around_of (trees_in symbol.now self.now.nodes) kept).prefix)) (counted_before production) (around_of (trees_in symbol.now self.now.nodes) kept) (trees_in symbol.now self.now.nodes) result state
+        ensures is { (state : values.State) → with_marks (around_of (trees_in symbol.now self.now.nodes) kept) (trees_in symbol.now self.now.nodes) result state
             ≡ with_mark production (around_of (trees_in symbol.now self.now.nodes) kept) (values_in symbol.now self.now.nodes parts.now) state }
-        ensures there { IsAliasBelow (length self.now.nodes.nodes) result }
+        ensures first { IsAliasBelow (length self.now.nodes.nodes) result.first }
+        ensures second { IsAliasBelow (length self.now.nodes.nodes) result.second }
     {
         match production {
             // <data-member-prefix> ::= <prefix> M
-            Production::Holder => Some(self.node(symbol, self.given(symbol, parts, 0))),
+            Production::Holder => {
+                let name = self.node(symbol, self.given(symbol, parts, 0));
+                holder_marks(kept, name)
+            }
             // <template-args> ::= I <template-arg>* E, of a constructor that is inherited, or of a concept
-            Production::HeldArguments => self.prefix_candidate(symbol, kept),
-            _ => None,
+            Production::HeldArguments => self.held_marks(symbol, kept),
+            _ => NO_MARKS,
         }
     }
 
-    /// What is done before the next part of the frame's rule where the wide reading does something of its own, and the
-    /// surroundings of that part.
+    /// What the wide reading does of its own before the next part of the frame's rule, and the surroundings of that part.
     ///
     /// # Errors
     ///
     /// Those of `step_apart`, and `Memory` where a list couldn't grow.
     #[tactic(auto, using(crate::proofs::Viewing::own_there, crate::proofs::Viewing::open_kept))]
+    #[inline(never)]
     pub(crate) fn before_apart(
         &mut self,
         symbol: &[u8],
@@ -404,10 +474,8 @@ impl Linked {
         let production = production_of(frame.rule);
         let step = self.step_apart(symbol, production, frame.place, frame.kept, own)?;
         let then = self.take_step(symbol, frame.kept, frame.base, step, parts)?;
-        let mark = self.marked(symbol, production, frame.kept, &parts[frame.base..]);
-        let again = counts_again(production, frame.kept);
-        let counted = counted_before(production);
-        self.append_again(symbol, frame.kept, mark, again, counted)?;
+        let marks = self.marked(symbol, production, frame.kept, &parts[frame.base..]);
+        self.append_marks(symbol, frame.kept, marks)?;
         Ok(then)
     }
 

@@ -6,7 +6,7 @@ ghost use Rattle.sym_link.specs.Driving.{Fails};
 ghost use Rattle.cpp_term.specs.Term as term;
 ghost use Rattle.cpp_grammar.specs.declared.production.Production.TheVariants as productions;
 ghost use Rattle.cpp_term.specs.Values as values;
-ghost use Rattle.cpp_term.specs.Values.{State, tree_of, piece_of, text_of, prefix_tree, prefix_listed};
+ghost use Rattle.cpp_term.specs.Values.{State, tree_of, piece_of, text_of, prefix_tree};
 ghost use Rattle.cpp_term.specs.Scope.{is_structor};
 ghost use Rattle.cpp_term.specs.Between.{between, no_items, applied, named_so_far, with_tag};
 ghost use Rattle.cpp_term.specs.References.{with_prefix, with_type};
@@ -16,8 +16,7 @@ ghost use Rattle.cpp_references.specs.declared.around.Surroundings.{Surroundings
 ghost use Rattle.cpp_link.specs.declared.part.Part.TheVariants as variants;
 ghost use Rattle.cpp_link.specs.declared.part.Step.{Step};
 ghost use Rattle.cpp_link.specs.Parts.{trees_in, tree_of_node, value_in, values_in, prefix_of, name_of, around_of, IsClosed, IsThere, AreThere, IsPrefixThere, IsKeptThere, IsStepThere};
-ghost use Rattle.cpp_grammar.specs.Values.{by_all, by_some};
-ghost use Rattle.cpp_term.specs.Rescoping.{counted_unless};
+ghost use Rattle.cpp_grammar.specs.Values.{by_all};
 ghost use Rattle.cpp_link.specs.Reads.{with_candidate, goes_on};
 ghost use Rattle.cpp_link.specs.Stepping.{IsStepOf, nodes_of_step};
 ghost use Rattle.cpp_link.specs.Closes.{pack_makes};
@@ -33,10 +32,9 @@ use cpp_tree::nodes::{ABSENT, NO_ELEMENTS};
 use sym_core::{Refusal, Span};
 
 /// The candidate that the name so far becomes.
-#[tactic(auto, unfolding(crate::specs::Parts::around_of, crate::specs::Parts::prefix_in, crate::specs::Parts::prefix_of, crate::specs::Reads::with_candidate, cpp_term::specs::Rescoping::counted_unless, cpp_term::specs::References::with_prefix, cpp_term::specs::Values::prefix_tree, cpp_term::specs::Values::prefix_listed))]
+#[tactic(auto, unfolding(crate::specs::Parts::around_of, crate::specs::Parts::prefix_in, crate::specs::Parts::prefix_of, crate::specs::Reads::with_candidate, cpp_term::specs::References::with_prefix, cpp_term::specs::Values::prefix_tree, cpp_term::specs::Values::prefix_listed))]
 fn prefix_candidate(kept: Surroundings) -> Option<u32>
     ensures is { (ts : List term.Term) (state : State) → with_prefix (around_of ts kept) state ≡ with_candidate by_all (around_of ts kept) ts result state }
-    ensures some { (ts : List term.Term) (state : State) → counted_unless (prefix_listed (around_of ts kept).prefix) by_some (around_of ts kept) (prefix_tree (around_of ts kept).prefix) state ≡ with_candidate by_some (around_of ts kept) ts result state }
     ensures there { (n : ℕ) → IsPrefixThere n (name_of kept) → IsAliasBelow n result }
 {
     match kept.naming {
@@ -103,8 +101,6 @@ impl Linked {
     pub(crate) fn prefix_candidate(&self, symbol: &[u8], kept: Surroundings) -> Option<u32>
         requires kept { IsKeptThere (length self.now.nodes.nodes) kept }
         ensures is { (state : State) → with_prefix (around_of (trees_in symbol.now self.now.nodes) kept) state ≡ with_candidate by_all (around_of (trees_in symbol.now self.now.nodes) kept) (trees_in symbol.now self.now.nodes) result state }
-        ensures some { (state : State) → counted_unless (prefix_listed (around_of (trees_in symbol.now self.now.nodes) kept).prefix) by_some (around_of (trees_in symbol.now self.now.nodes) kept) (prefix_tree (around_of (trees_in symbol.now self.now.nodes) kept).prefix) state
-            ≡ with_candidate by_some (around_of (trees_in symbol.now self.now.nodes) kept) (trees_in symbol.now self.now.nodes) result state }
         ensures there { IsAliasBelow (length self.now.nodes.nodes) result }
     {
         prefix_candidate(kept)

@@ -53,7 +53,7 @@ impl Rescoping {
     /// # Errors
     ///
     /// Those of `before_part`.
-    #[inline(never)]
+    #[inline(always)]
     fn between_by_step(
         &mut self,
         symbol: &[u8],
@@ -124,7 +124,11 @@ impl Threading for Rescoping {
         if parts.len() - frame.base < quiet_parts(frame.rule) {
             return self.linked.before_part(symbol, frame, parts);
         }
-        self.between_by_step(symbol, frame, parts)
+        // taken apart here, so that only this outcome goes through memory
+        match self.between_by_step(symbol, frame, parts) {
+            Ok(then) => Ok(then),
+            Err(refusal) => Err(refusal),
+        }
     }
 
     fn begin(

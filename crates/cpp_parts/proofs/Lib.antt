@@ -6,3 +6,4 @@ mod Sorting
 mod Splitting
 mod Texts
 mod Walking
+mod Kinding

@@ -1,3 +1,5 @@
 pub mod Roles
 pub mod Tasks
 pub mod Sorts
+pub mod Kinds
+pub mod KindNumbers

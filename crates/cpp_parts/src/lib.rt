@@ -2,6 +2,7 @@
 #![tactic(auto)]
 
 mod encodings;
+mod kinds;
 mod laws;
 mod lengths;
 mod lists;
@@ -12,6 +13,7 @@ mod split;
 mod task;
 mod walk;
 
+pub use kinds::kind_of;
 pub use laws::{marks_change_no_text, parts_are_placed};
-pub use sym_parts::{Part, Role};
+pub use sym_parts::{NameKind, Part, Role};
 pub use walk::{parts, parts_as};

@@ -86,6 +86,7 @@ unfoldable pub counted_of : Counted → plain.Counted
 counted_of Counted.ByAll = plain.by_all
 counted_of Counted.ByNewer = plain.by_newer
 counted_of Counted.ByGcc = plain.by_gcc
+counted_of Counted.ByClang = plain.by_clang
 counted_of Counted.BySome = plain.by_some
 
 abbrev pub candidate_of : List Term → Candidate → values.Candidate

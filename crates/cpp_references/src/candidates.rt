@@ -28,6 +28,8 @@ pub enum Counted {
     ByNewer,
     /// By GCC alone.
     ByGcc,
+    /// By Clang alone.
+    ByClang,
     /// By some of which the reading doesn't know.
     BySome,
 }
@@ -57,6 +59,7 @@ impl Counted {
             Counted::ByAll => true,
             Counted::ByNewer => false,
             Counted::ByGcc => false,
+            Counted::ByClang => false,
             Counted::BySome => false,
         }
     }
@@ -70,6 +73,7 @@ impl Counted {
             Counted::ByAll => false,
             Counted::ByNewer => true,
             Counted::ByGcc => false,
+            Counted::ByClang => false,
             Counted::BySome => false,
         }
     }
@@ -83,6 +87,7 @@ impl Counted {
             Counted::ByAll => false,
             Counted::ByNewer => false,
             Counted::ByGcc => false,
+            Counted::ByClang => false,
             Counted::BySome => true,
         }
     }
@@ -98,12 +103,21 @@ impl Counted {
                 Counted::ByAll => Counted::ByNewer,
                 Counted::ByNewer => Counted::ByNewer,
                 Counted::ByGcc => Counted::BySome,
+                Counted::ByClang => Counted::BySome,
                 Counted::BySome => Counted::BySome,
             },
             Counted::ByGcc => match other {
                 Counted::ByAll => Counted::ByGcc,
                 Counted::ByNewer => Counted::BySome,
                 Counted::ByGcc => Counted::ByGcc,
+                Counted::ByClang => Counted::BySome,
+                Counted::BySome => Counted::BySome,
+            },
+            Counted::ByClang => match other {
+                Counted::ByAll => Counted::ByClang,
+                Counted::ByNewer => Counted::BySome,
+                Counted::ByGcc => Counted::BySome,
+                Counted::ByClang => Counted::ByClang,
                 Counted::BySome => Counted::BySome,
             },
             Counted::BySome => Counted::BySome,

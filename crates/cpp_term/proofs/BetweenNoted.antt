@@ -8,11 +8,11 @@ use Rattle.sym_link.specs.Unfold.{found}
 use Rattle.sym_core.specs.declared.NumberKind.TheVariants.{Decimal, Seq36}
 use Rattle.sym_core.specs.Value.{counted_value}
 use Rattle.cpp_grammar.specs.declared.production.Production.{Production}
-use Rattle.cpp_grammar.specs.Rescoping.{generic_number, generic_so_far, parameter_here, argument_here, is_declaring, lambda_with, as_generic_lambda, with_holder, is_instance, holder_so_far, named_by_both, module_of, module_named, module_so_far, numbered, counted_unless, counted_base, in_constraint_of, is_unseen, in_literal, name_if, between_wide, close_wide}
+use Rattle.cpp_grammar.specs.Rescoping.{generic_number, generic_so_far, parameter_here, argument_here, is_declaring, lambda_with, as_generic_lambda, with_holder, is_instance, holder_so_far, named_by_both, module_of, module_named, module_so_far, numbered, counted_unless, counted_base, counted_held, with_constructor, with_held, in_constraint_of, is_unseen, in_literal, name_if, between_wide, close_wide}
 use Rattle.cpp_grammar.specs.Scope.{count, element, is_open, length_if_pack}
-use Rattle.cpp_grammar.specs.Term.{Term, list, holder, parameter}
+use Rattle.cpp_grammar.specs.Term.{Term, list, holder, parameter, absent}
 use Rattle.cpp_grammar.specs.Values as leaf_
-use Rattle.cpp_grammar.specs.Values.{Counted, by_gcc, by_some, Around, prefix_tree, prefix_listed, Value, State, Candidate, local_number, tree_of, text_of, is_listed, part}
+use Rattle.cpp_grammar.specs.Values.{Counted, by_gcc, Around, prefix_tree, prefix_listed, Value, State, Candidate, local_number, tree_of, text_of, is_listed, part}
 use Rattle.cpp_grammar.specs.References.{appended, with_type, with_unqualified, with_packs, is_module, substituted, parameter_named}
 use Rattle.cpp_grammar.specs.Between.{in_signature, under_expansion, after, inside, no_items, listed_so_far, next, parameter_so_far, argument_so_far, index_of, between}
 use Rattle.cpp_grammar.specs.Meaning.{parameters, meaning, signature_with}
@@ -37,9 +37,9 @@ use Rattle.cpp_term.specs.Unfolding as unfolded_
 use Rattle.cpp_term.specs.Rescoping as wide_
 use Rattle.cpp_term.specs.Annotated.{Place, nowhere, around_place, place_in, in_own, argument_in, annotate, noted_scope, noted_value, noted_values, noted_prefix, noted_around}
 use Rattle.cpp_term.proofs.Notes.{both, or_right, choose, choose_cond, open_noted, closed_noted}
-use Rattle.cpp_term.proofs.SeenNoted.{is_instance_noted, is_declaring_noted}
+use Rattle.cpp_term.proofs.SeenNoted.{is_instance_noted, counted_held_noted, is_declaring_noted}
 use Rattle.cpp_term.proofs.MeaningNoted.{part_noted, tree_part, tree_noted, text_noted, text_part, prefix_tree_noted, prefix_listed_noted, Inside, Shut, lambda_noted, takes_encodings, is_of_none, made_inside, made_noted, listing_noted, listed_noted, meaning_noted}
-use Rattle.cpp_term.proofs.StatesNoted.{Alongside, IsOutside, Settled, own_place, Alike, alike_bind, Same, Moves, moves_none, one_moves, type_moves, unqualified_moves, prefix_moves, Comes, AreNoted, get_noted, module_noted, substituted_noted, both_named_noted, wide_numbered_noted, held_moves, more_moves, parameter_noted}
+use Rattle.cpp_term.proofs.StatesNoted.{Alongside, IsOutside, Settled, own_place, Alike, alike_bind, Same, Moves, moves_none, moves_then, one_moves, type_moves, unqualified_moves, prefix_moves, Comes, AreNoted, get_noted, module_noted, substituted_noted, both_named_noted, wide_numbered_noted, held_moves, more_moves, parameter_noted}
 
 -- what is inside has the same scope, or none
 abbrev pub InScope : Around → Around → Type 0
@@ -367,9 +367,31 @@ unfolding counted_unless wide_.counted_unless
 unless_moves around listed other counted t u x y packs alike e =
     choose (Moves true around x y) listed other _ _ _ _ alike (λ h. moves_none true around x x y y refl refl packs) (λ h. more_moves counted true around t u x y packs e)
 
+constructor_moves : (around : Around) (listed other : Bool) (counted : Counted) (x : State) (y : value_.State) → Alongside x y → other ≡ listed →
+    Moves true around x y (with_constructor listed counted around x) (wide_.with_constructor other counted (noted_around true around) y)
+unfolding with_constructor wide_.with_constructor annotate
+constructor_moves around listed other counted x y packs same =
+    subst (λ o. Moves true around x y (with_constructor listed counted around x) (wide_.with_constructor o counted (noted_around true around) y)) (sym same) (go listed counted)
+  where
+    go : (l : Bool) (c : Counted) → Moves true around x y (with_constructor l c around x) (wide_.with_constructor l c (noted_around true around) y)
+    go false by_gcc = more_moves by_gcc true around absent term_.absent x y packs refl
+    go l c = moves_none true around x x y y refl refl packs
+
+before_arguments_move : (around : Around) (listed other : Bool) (t : Term) (u : term_.Term) (x : State) (y : value_.State) → Alongside x y → other ≡ listed → u ≡ annotate (around_place true around) t →
+    Moves true around x y (with_held listed around t x) (wide_.with_held other (noted_around true around) u y)
+unfolding with_held wide_.with_held
+before_arguments_move around listed other t u x y packs same is =
+    let by = counted_held t in
+    let first = unless_moves around listed other by t u x y packs same is in
+    subst (λ k. Moves true around x y (with_held listed around t x) (wide_.with_constructor other k (noted_around true around) (wide_.counted_unless other k (noted_around true around) u y)))
+    (sym (ap wide_.counted_held is ∙ counted_held_noted (around_place true around) t))
+    (moves_then true around x (counted_unless listed by around t x) (with_held listed around t x) y (wide_.counted_unless other by (noted_around true around) u y)
+    (wide_.with_constructor other by (noted_around true around) (wide_.counted_unless other by (noted_around true around) u y)) first
+    (constructor_moves around listed other by (counted_unless listed by around t x) (wide_.counted_unless other by (noted_around true around) u y) first.packs same))
+
 base_goes : (around : Around) (x : State) (y : value_.State) → Alongside x y →
-    Alike {A = Next Value State Around} (Goes true (around_place true around) around x y) (next [] (inside around) (counted_unless (prefix_listed around.prefix) by_some around (prefix_tree around.prefix) x))
-    (between_.next [] (between_.inside (noted_around true around)) (wide_.counted_unless (value_.prefix_listed (noted_prefix (around_place true around) around.prefix)) by_some (noted_around true around)
+    Alike {A = Next Value State Around} (Goes true (around_place true around) around x y) (next [] (inside around) (with_held (prefix_listed around.prefix) around (prefix_tree around.prefix) x))
+    (between_.next [] (between_.inside (noted_around true around)) (wide_.with_held (value_.prefix_listed (noted_prefix (around_place true around) around.prefix)) (noted_around true around)
     (value_.prefix_tree (noted_prefix (around_place true around) around.prefix)) y))
 unfolding inside between_.inside noted_around noted_prefix noted_values
 base_goes around x y packs =
@@ -377,7 +399,7 @@ base_goes around x y packs =
     record {
       values = refl;
       context = refl;
-      moves = unless_moves around (prefix_listed around.prefix) (value_.prefix_listed (noted_prefix s around.prefix)) by_some (prefix_tree around.prefix) (value_.prefix_tree (noted_prefix s around.prefix)) x y packs
+      moves = before_arguments_move around (prefix_listed around.prefix) (value_.prefix_listed (noted_prefix s around.prefix)) (prefix_tree around.prefix) (value_.prefix_tree (noted_prefix s around.prefix)) x y packs
           (prefix_listed_noted s around.prefix) (prefix_tree_noted s around.prefix);
       scope = inl (refl, refl);
       place = inl refl;

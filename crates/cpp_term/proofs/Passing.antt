@@ -6,13 +6,13 @@ use Rattle.sym_core.specs.Value.{counted_value}
 use Rattle.sym_link.specs.Reading.{Next}
 use Rattle.cpp_grammar.specs.declared.production.Production.{Production}
 use Rattle.cpp_grammar.specs.Term.{Term, holder, parameter}
-use Rattle.cpp_grammar.specs.Values.{by_some, is_at_literal, State, Around, prefix_tree, prefix_listed, Value, tree, tree_of, text_of, part}
+use Rattle.cpp_grammar.specs.Values.{is_at_literal, State, Around, prefix_tree, prefix_listed, Value, tree, tree_of, text_of, part}
 use Rattle.cpp_grammar.specs.References.{appended, parameter_named}
 use Rattle.cpp_grammar.specs.Between.{Continuation, in_name, in_types, in_signature, under_expansion, after, inside, next, listed_so_far, parameter_so_far, argument_so_far, index_of, between}
 use Rattle.cpp_grammar.specs.Row.{Where, in_its_name, in_its_types, Action, quiet, goes, becomes, tests, holds, unread, before_part}
 use Rattle.cpp_grammar.specs.Meant.{made, around_part, packs_within, gained, replaced, tested, done}
 use Rattle.cpp_grammar.specs.Rows.{row_of}
-use Rattle.cpp_grammar.specs.Rescoping.{generic_number, generic_so_far, parameter_here, argument_here, with_holder, is_instance, holder_so_far, counted_unless, module_named, module_so_far, in_constraint_of, is_unseen, in_literal, is_passed_over, passed_over, name_around, types_around, between_wide}
+use Rattle.cpp_grammar.specs.Rescoping.{generic_number, generic_so_far, parameter_here, argument_here, with_holder, is_instance, holder_so_far, with_held, module_named, module_so_far, in_constraint_of, is_unseen, in_literal, is_passed_over, passed_over, name_around, types_around, between_wide}
 use Rattle.cpp_grammar.specs.Scope.{is_open}
 use Rattle.cpp_grammar.proofs.Chosen.{either, if_there}
 use Rattle.cpp_grammar.proofs.ClosedStates.{ok_same, behind_bind}
@@ -116,7 +116,7 @@ wide_goes_seen Production.NestParameter around place (v ∷ []) state n seen e =
 wide_goes_seen Production.ParameterArgument around place (v ∷ []) state n seen e = inl (here_seen around (place - 1) (index_of v) state n seen e)
 wide_goes_seen Production.ParameterExpression around place (v ∷ []) state n seen e = inl (argument_seen around (place - 1) (index_of v) state n seen e)
 wide_goes_seen Production.HeldArguments around place [] state n seen e =
-    inl (next_seen [] (inside around) (counted_unless (prefix_listed around.prefix) by_some around (prefix_tree around.prefix) state) n seen e)
+    inl (next_seen [] (inside around) (with_held (prefix_listed around.prefix) around (prefix_tree around.prefix) state) n seen e)
 wide_goes_seen Production.DeclaredFirst around place [] state n seen e = inl (next_seen [] around state n seen e)
 wide_goes_seen Production.Holder around place (v ∷ []) state n seen e = inl (holder_seen around place state n seen e)
 wide_goes_seen Production.Constraint around place [] state n seen e = inl (next_seen [] (in_constraint_of around) state n refl e)

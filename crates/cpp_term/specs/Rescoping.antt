@@ -11,11 +11,11 @@ use Rattle.sym_shape.specs.Tree.{Tree, Forest}
 use Rattle.sym_link.specs.Reading.{Found, Reading, ◌>>=◌}
 use Rattle.sym_link.specs.Unfold.{found, unfold_tree}
 use Rattle.cpp_grammar.specs.declared.production.Production.{Production}
-use Rattle.cpp_term.specs.Term.{Term, instance, holder, lvalue, rvalue, parameter, lambda, generic_lambda, declaring}
+use Rattle.cpp_term.specs.Term.{Term, alone, in_std, within, instance, holder, lvalue, rvalue, parameter, lambda, generic_lambda, declaring, absent}
 use Rattle.cpp_term.specs.Scope.{count, element, is_list, has_pack, is_open, free_in, pack_length}
 use Rattle.cpp_grammar.specs.Scope.{Free, none_free, one_free, several_free}
 use Rattle.cpp_term.specs.Values.{Candidate, outermost, State, Around, prefix_tree, prefix_listed, Value, nothing_there, tree, piece, pair, text, tree_of, is_listed, text_of, part}
-use Rattle.cpp_grammar.specs.Values.{Counted, by_all, by_newer, by_gcc, by_some, Lists, longer_list, shorter_list, no_list, Expected, prefix_at, qualified_at, in_constraint, at_literal, is_in_constraint, is_at_literal}
+use Rattle.cpp_grammar.specs.Values.{Counted, by_all, by_newer, by_gcc, by_clang, by_some, Lists, longer_list, shorter_list, no_list, Expected, prefix_at, qualified_at, in_constraint, at_literal, is_in_constraint, is_at_literal}
 use Rattle.cpp_term.specs.References.{appended, appended_by, is_module, with_packs, substituted}
 use Rattle.cpp_term.specs.Between.{Continuation, next, in_name, in_types, inside, listed_so_far, parameter_so_far, argument_so_far, index_of, between}
 use Rattle.cpp_term.specs.Meaning.{meaning}
@@ -125,8 +125,24 @@ unfoldable pub counted_base : Around → (base : Value) → State → State
 counted_base around (pair letter own base) state = state
 counted_base around base state = counted_unless (is_listed base) by_gcc around (tree_of base) state
 
--- Before arguments that may be the constructor's own some also count the constructor, and some count the name of a concept before
--- its arguments. Which of these it is the reading doesn't know: the name before the arguments is counted by some.
+-- Before a constructor's own arguments GCC alone counts the base class, and then the constructor. Before the arguments of a concept
+-- Clang alone counts its name. A base class is nested or has arguments there. The name of a concept, unless a number names it, is one
+-- piece; one in N has another production.
+unfoldable pub counted_held : Term → Counted
+counted_held (within prefix last) = by_gcc
+counted_held (instance template arguments) = by_gcc
+counted_held (alone name) = by_clang
+counted_held (in_std name) = by_clang
+counted_held _ = by_some
+
+-- No S names the constructor: its candidate is absent.
+unfoldable pub with_constructor : (listed : Bool) → Counted → Around → State → State
+with_constructor false by_gcc around state = appended_by by_gcc around absent state
+with_constructor listed counted around state = state
+
+-- before such arguments, after a base class or the name of a concept
+unfoldable pub with_held : (listed : Bool) → Around → Term → State → State
+with_held listed around t state = with_constructor listed (counted_held t) around (counted_unless listed (counted_held t) around t state)
 
 -- ## Two lists
 
@@ -157,8 +173,9 @@ counted_so_far before (c ∷ cs) = counted_so_far (joined before c.counted) cs
 
 -- ## What may be named by its form
 
--- A name with its M is no type. No compiler writes qualifiers before a reference.
+-- A name with its M is no type. No compiler writes qualifiers before a reference. Nothing names a constructor.
 unfoldable pub fits : (is_prefix is_qualified : Bool) → Term → Bool
+fits is_prefix is_qualified absent = false
 fits is_prefix is_qualified (holder name) = is_prefix
 fits is_prefix is_qualified (lvalue t) = not is_qualified
 fits is_prefix is_qualified (rvalue t) = not is_qualified
@@ -285,7 +302,7 @@ between_wide Production.Parameter around place (v ∷ []) state = parameter_here
 between_wide Production.NestParameter around place (v ∷ []) state = parameter_here around place (index_of v) [] state
 between_wide Production.ParameterArgument around place (v ∷ []) state = parameter_here around (place - 1) (index_of v) [] state
 between_wide Production.ParameterExpression around place (v ∷ []) state = argument_here around (place - 1) (index_of v) state
-between_wide Production.HeldArguments around place [] state = next [] (inside around) (counted_unless (prefix_listed around.prefix) by_some around (prefix_tree around.prefix) state)
+between_wide Production.HeldArguments around place [] state = next [] (inside around) (with_held (prefix_listed around.prefix) around (prefix_tree around.prefix) state)
 between_wide Production.DeclaredFirst around place [] state = next [] around state
 between_wide Production.Holder around place (v ∷ []) state = holder_so_far around place state
 between_wide Production.Constraint around place [] state = next [] (in_constraint_of around) state

@@ -15,6 +15,7 @@ use crate::nodes::Nodes;
 
 impl Nodes {
     /// The class of the head of a type.
+    #[inline(always)]
     fn class(&self, symbol: &[u8], ty: Placed) -> HeadClass
         requires table { IsTable (over symbol.now self.now) }
         requires ty { IsPlacedBelow (length self.now.nodes) ty }

@@ -2,8 +2,9 @@
 #![tactic(auto)]
 
 use demangle_command::program;
+use std::io::IsTerminal;
 use std::process::ExitCode;
 
 fn main(rt: HostRuntime) -> ExitCode {
-    ExitCode::from(program(&rt, &rt.stderr()))
+    ExitCode::from(program(&rt, &rt.stderr(), rt.stdout().is_terminal()))
 }

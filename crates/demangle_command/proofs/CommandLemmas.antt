@@ -1,6 +1,6 @@
 -- What a command line's parts did, as what the command line did.
-use Rattle.std.proofs.Common.{◌≡◌, ◌≢◌, ◌⊎◌, ℕ, Bool, true, false, List, [], ◌∷◌, ◌++◌, Option, Result, Ok, Err, codes, refl, sym, ap, ap₂, subst, inl, inr, ◌∙◌}
-use Rattle.std.specs.Prelude.{IfOk, OnErr, None}
+use Rattle.std.proofs.Common.{◌≡◌, ◌≢◌, ◌⊎◌, ℕ, Bool, true, false, not, ◌&&◌, List, [], ◌∷◌, ◌++◌, Option, Result, Ok, Err, codes, refl, sym, ap, ap₂, subst, inl, inr, ◌∙◌}
+use Rattle.std.specs.Prelude.{IfOk, OnErr, None, if◌then◌else◌}
 use Rattle.std.specs.Fmt.{decimal}
 use Rattle.std.specs.Io.KnownBytes.{Appends}
 use Rattle.clap.specs.Words.{Row, Text, IsAmong}
@@ -15,13 +15,15 @@ use Rattle.sym_filter.proofs.StreamLemmas.{Appends-none}
 use Rattle.sym_command.specs.Command.{Took, Says}
 use Rattle.sym_command.proofs.CommandLemmas.{faulty}
 use Rattle.sym_command.proofs.PageLemmas.{Took-as, Took-said, OnErr-anyway}
-use Rattle.demangle_command.specs.Command.{answers_of, ByObjects, ByObjectsFront, EndsOf, FiltersInput, FiltersInputFront, IsEndedOf, IsStoppedOf, IsTold, StopsOf, Stops, is_request, summary_if, unescaped_of, unspelled_of}
+use Rattle.demangle_command.specs.Command.{answers_of, are_whole, ByObjects, ByObjectsFront, details_as, details_of, EndsOf, FiltersInput, FiltersInputFront, IsEndedOf, IsStoppedOf, IsTold, StopsOf, Stops, is_request, shown_of, shows_colors, summary_if, unescaped_of, unspelled_details, unspelled_of}
 use Rattle.demangle_command.specs.CommandLine.{AreGiven, AreOptions, faults_in, names_of}
 use Rattle.demangle_names.specs.Names.{AnswersNames, NamesFront, status_of}
 use Rattle.demangle_names.specs.declared.options.Options.{Options}
 use Rattle.demangle_names.specs.Style.{reads_paths}
 use Rattle.demangle_names.specs.declared.style.Style.{Style}
-use Rattle.demangle_command.specs.Styled.{styled_answer}
+use Rattle.demangle_command.specs.Styled.{styled_answer, styled_details}
+use Rattle.text_details.specs.Details.{Detailing, no_details}
+use Rattle.text_colours.specs.Answers.{colored_answers}
 use Rattle.gnu_texts.specs.Spelling.{gnu_text}
 use Rattle.demangle_names.specs.Spelling.{is_gnu}
 use Rattle.demangle_names.specs.declared.spelling.Spelling.{Spelling}
@@ -66,27 +68,27 @@ turned : (words : List Text) (kind : ErrorKind) (lines said : List ℕ) → (kin
 turned words kind lines said fails (inl known) = inl (faulty (faults_in words) kind known fails)
 turned words kind lines said fails (inr nothing) = inr nothing
 
-pub told-stops : (words : List Text) (kind : ErrorKind) (coming out out' err err' : Option (List ℕ)) (result : Result ℕ FilterFault) → (kind ≡ OutOfMemory) ⊎ IsAmong kind (faults_in words)
-    → OnErr result (Took out out' err err' (Untold kind)) → OnErr result (Stops words coming coming out out' err err')
-told-stops words kind coming out out' err err' (Ok status) fails told = tt
-told-stops words kind coming out out' err err' (Err fault) fails told =
+pub told-stops : (words : List Text) (terminal : Bool) (kind : ErrorKind) (coming out out' err err' : Option (List ℕ)) (result : Result ℕ FilterFault) → (kind ≡ OutOfMemory) ⊎ IsAmong kind (faults_in words)
+    → OnErr result (Took out out' err err' (Untold kind)) → OnErr result (Stops words terminal coming coming out out' err err')
+told-stops words terminal kind coming out out' err err' (Ok status) fails told = tt
+told-stops words terminal kind coming out out' err err' (Err fault) fails told =
     inr (refl, Took-as out out' err err' (Untold kind) (λ lines said. (faults_in words ≢ []) ⊎ ((lines ≡ []) × (said ≡ []))) told (λ lines said held. turned words kind lines said fails held))
 
 -- ## Words that it takes
 
 -- a style that isn't one
-pub refused-ends : (rows : List Row) (coming out err err' : Option (List ℕ)) (result : Result ℕ FilterFault) → AreOptions rows None → IfOk result (λ status. status ≡ 2) → Says err err'
-    → IfOk result (EndsOf rows coming coming out out err err')
-refused-ends rows coming out err err' (Ok status) refused is says = inl (refl, Took-said out err err' (IsEndedOf rows status) says (λ said. inr (is, refl, refused)))
-refused-ends rows coming out err err' (Err fault) refused is says = tt
+pub refused-ends : (rows : List Row) (terminal : Bool) (coming out err err' : Option (List ℕ)) (result : Result ℕ FilterFault) → AreOptions rows terminal None → IfOk result (λ status. status ≡ 2) → Says err err'
+    → IfOk result (EndsOf rows terminal coming coming out out err err')
+refused-ends rows terminal coming out err err' (Ok status) refused is says = inl (refl, Took-said out err err' (IsEndedOf rows terminal status) says (λ said. inr (is, refl, refused)))
+refused-ends rows terminal coming out err err' (Err fault) refused is says = tt
 
-pub refused-stops : (rows : List Row) (coming out err err' : Option (List ℕ)) (result : Result ℕ FilterFault) → Says err err' → OnErr result (StopsOf rows coming coming out out err err')
-refused-stops rows coming out err err' result says = OnErr-anyway result _ (inl (refl, Took-said out err err' (IsStoppedOf rows) says (λ said. inr refl)))
+pub refused-stops : (rows : List Row) (terminal : Bool) (coming out err err' : Option (List ℕ)) (result : Result ℕ FilterFault) → Says err err' → OnErr result (StopsOf rows terminal coming coming out out err err')
+refused-stops rows terminal coming out err err' result says = OnErr-anyway result _ (inl (refl, Took-said out err err' (IsStoppedOf rows terminal) says (λ said. inr refl)))
 
 -- ## What the options ask
 
 module _ (style : Style) (limit : ℕ) (detail : Detail) (options : Options) (s : style ≡ options.style) (l : limit ≡ options.limit) (d : detail ≡ options.detail) where
-  styled-are : styled_answer style limit detail ≡ styled_answer options.style options.limit options.detail
+  pub styled-are : styled_answer style limit detail ≡ styled_answer options.style options.limit options.detail
   styled-are =
       ap (λ (x : Style). styled_answer x limit detail) s ∙ ap (λ (x : ℕ). styled_answer options.style x detail) l
       ∙ ap (λ (x : Detail). styled_answer options.style options.limit x) d
@@ -115,20 +117,87 @@ gnu-are answers options are paths reads is =
     ∙ ap (λ (p : Bool). rewritten_answers gnu_text p (unspelled_of options)) reads
     ∙ ap (λ (s : Spelling). spelled_answers (is_gnu s) (reads_paths options.style) (unspelled_of options)) (sym is)
 
--- nothing was read or written
-pub stops-unbegun : (rows : List Row) (coming out err : Option (List ℕ)) → StopsOf rows coming coming out out err err
-stops-unbegun rows coming out err = inl (refl, record { lines = []; said = []; to_out = Appends-none out; to_err = Appends-none err; held = inr refl })
+-- ## Their details
 
-pub stops-unparsed : (words : List Text) (coming out err : Option (List ℕ)) → Stops words coming coming out out err err
-stops-unparsed words coming out err = inr (refl, record { lines = []; said = []; to_out = Appends-none out; to_err = Appends-none err; held = inr (refl, refl) })
+module _ (style : Style) (limit : ℕ) (detail : Detail) (options : Options) (s : style ≡ options.style) (l : limit ≡ options.limit) (d : detail ≡ options.detail) where
+  pub styled-details : styled_details style limit detail ≡ styled_details options.style options.limit options.detail
+  styled-details =
+      ap (λ (x : Style). styled_details x limit detail) s ∙ ap (λ (x : ℕ). styled_details options.style x detail) l
+      ∙ ap (λ (x : Detail). styled_details options.style options.limit x) d
+
+  -- of whole texts
+  pub whole-details : options.texts ≡ texts.Whole → styled_details style limit detail ≡ unspelled_details options
+  whole-details is = styled-details ∙ ap (λ (t : Texts). details_as t spelling.Plain (styled_details options.style options.limit options.detail)) (sym is)
+
+-- of short ones
+pub short-details : (keeps_inline : Bool) (options : Options) → options.texts ≡ texts.Short keeps_inline → no_details ≡ unspelled_details options
+short-details keeps_inline options is = ap (λ (t : Texts). details_as t spelling.Plain (styled_details options.style options.limit options.detail)) (sym is)
+
+-- of texts as they are
+pub plain-details : (details : Detailing) (options : Options) → details ≡ unspelled_details options → options.spelling ≡ spelling.Plain → details ≡ details_of options
+plain-details details options are is = are ∙ ap (λ (s : Spelling). details_as options.texts s (styled_details options.style options.limit options.detail)) (sym is)
+
+-- and as GNU's demangler spells them
+no-details : (shown : Texts) (details : Detailing) → no_details ≡ details_as shown spelling.Gnu details
+no-details texts.Whole details = refl
+no-details (texts.Short keeps_inline) details = refl
+
+pub gnu-details : (options : Options) → options.spelling ≡ spelling.Gnu → no_details ≡ details_of options
+gnu-details options is =
+    no-details options.texts (styled_details options.style options.limit options.detail)
+    ∙ ap (λ (s : Spelling). details_as options.texts s (styled_details options.style options.limit options.detail)) (sym is)
+
+-- ## Colours
+
+-- texts that aren't coloured
+pub uncolored-are : (answers : Answering) (options : Options) → shows_colors options ≡ false → answers ≡ unescaped_of options → answers ≡ shown_of options
+uncolored-are answers options plain are =
+    are ∙ sym (ap (λ (b : Bool). if b then colored_answers (details_of options) (unescaped_of options) else unescaped_of options) plain)
+
+-- those that are
+colored-texts : (shown : Texts) (by : Spelling) (paths : Bool) (details : Detailing) (answers : Answering) → (are_whole shown && not (is_gnu by)) ≡ true
+    → colored_answers details answers ≡ colored_answers (details_as shown by details) (spelled_answers (is_gnu by) paths (answers_as shown paths answers))
+colored-texts texts.Whole spelling.Plain paths details answers is = refl
+colored-texts texts.Whole spelling.Gnu paths details answers is = cc
+colored-texts (texts.Short keeps_inline) by paths details answers is = cc
+
+-- whole texts that are spelled as they are
+of-plain : (colors whole gnu escape json : Bool) → (colors && (whole && (not gnu && (not escape && not json)))) ≡ true → (whole && not gnu) ≡ true
+of-plain true true false escape json is = refl
+of-plain true true true escape json is = is
+of-plain true false gnu escape json is = is
+of-plain false whole gnu escape json is = cc
+
+pub no-objects : (colors whole gnu escape json : Bool) → (colors && (whole && (not gnu && (not escape && not json)))) ≡ true → json ≡ false
+no-objects true true false false false is = refl
+no-objects true true false false true is = cc
+no-objects true true false true json is = cc
+no-objects true true true escape json is = cc
+no-objects true false gnu escape json is = cc
+no-objects false whole gnu escape json is = cc
+
+pub colored-are : (details : Detailing) (answers : Answering) (options : Options) → shows_colors options ≡ true → details ≡ styled_details options.style options.limit options.detail
+    → answers ≡ styled_answer options.style options.limit options.detail → colored_answers details answers ≡ shown_of options
+colored-are details answers options shows known are =
+    ap₂ colored_answers known are
+    ∙ colored-texts options.texts options.spelling (reads_paths options.style) (styled_details options.style options.limit options.detail) (styled_answer options.style options.limit options.detail)
+    (of-plain options.colors (are_whole options.texts) (is_gnu options.spelling) options.escape options.json shows)
+    ∙ sym (ap (λ (b : Bool). if b then colored_answers (details_of options) (unescaped_of options) else unescaped_of options) shows)
+
+-- nothing was read or written
+pub stops-unbegun : (rows : List Row) (terminal : Bool) (coming out err : Option (List ℕ)) → StopsOf rows terminal coming coming out out err err
+stops-unbegun rows terminal coming out err = inl (refl, record { lines = []; said = []; to_out = Appends-none out; to_err = Appends-none err; held = inr refl })
+
+pub stops-unparsed : (words : List Text) (terminal : Bool) (coming out err : Option (List ℕ)) → Stops words terminal coming coming out out err err
+stops-unparsed words terminal coming out err = inr (refl, record { lines = []; said = []; to_out = Appends-none out; to_err = Appends-none err; held = inr (refl, refl) })
 
 -- names
-pub names-end : (rows : List Row) (options : Options) (answers : Answering) (names : List (List ℕ)) (one_stays : Bool) (status : ℕ) (coming out out' err err' : Option (List ℕ)) → AreGiven rows options → options.json ≡ false → answers ≡ answers_of options
-    → names ≡ names_of rows → names ≢ [] → Took out out' err err' (AnswersNames answers options.types options.why names one_stays) → status ≡ status_of options.strict one_stays → EndsOf rows coming coming out out' err err' status
-names-end rows options answers names one_stays status coming out out' err err' given plain same are some took ends =
+pub names-end : (rows : List Row) (terminal : Bool) (options : Options) (answers : Answering) (names : List (List ℕ)) (one_stays : Bool) (status : ℕ) (coming out out' err err' : Option (List ℕ)) → AreGiven rows terminal options → options.json ≡ false → answers ≡ answers_of options
+    → names ≡ names_of rows → names ≢ [] → Took out out' err err' (AnswersNames answers options.types options.why names one_stays) → status ≡ status_of options.strict one_stays → EndsOf rows terminal coming coming out out' err err' status
+names-end rows terminal options answers names one_stays status coming out out' err err' given plain same are some took ends =
     inl (
       refl,
-      Took-as out out' err err' (AnswersNames answers options.types options.why names one_stays) (IsEndedOf rows status) took (λ lines said held. inl (record {
+      Took-as out out' err err' (AnswersNames answers options.types options.why names one_stays) (IsEndedOf rows terminal status) took (λ lines said held. inl (record {
         options = options;
         given = given;
         no_objects = plain;
@@ -139,12 +208,12 @@ names-end rows options answers names one_stays status coming out out' err err' g
       })),
     )
 
-pub names-stop : (rows : List Row) (options : Options) (answers : Answering) (names : List (List ℕ)) (coming out out' err err' : Option (List ℕ)) → AreGiven rows options → options.json ≡ false → answers ≡ answers_of options
-    → names ≡ names_of rows → Took out out' err err' (NamesFront answers options.types options.why names) → StopsOf rows coming coming out out' err err'
-names-stop rows options answers names coming out out' err err' given plain same are took =
+pub names-stop : (rows : List Row) (terminal : Bool) (options : Options) (answers : Answering) (names : List (List ℕ)) (coming out out' err err' : Option (List ℕ)) → AreGiven rows terminal options → options.json ≡ false → answers ≡ answers_of options
+    → names ≡ names_of rows → Took out out' err err' (NamesFront answers options.types options.why names) → StopsOf rows terminal coming coming out out' err err'
+names-stop rows terminal options answers names coming out out' err err' given plain same are took =
     inl (
       refl,
-      Took-as out out' err err' (NamesFront answers options.types options.why names) (IsStoppedOf rows) took (λ lines said held. inl (record {
+      Took-as out out' err err' (NamesFront answers options.types options.why names) (IsStoppedOf rows terminal) took (λ lines said held. inl (record {
         options = options;
         given = given;
         no_objects = plain;
@@ -153,9 +222,9 @@ names-stop rows options answers names coming out out' err err' given plain same 
     )
 
 -- an input
-pub input-ends : (rows : List Row) (options : Options) (answers : Answering) (names : List (List ℕ)) (status : ℕ) (coming coming' out out' err err' : Option (List ℕ)) → AreGiven rows options → options.json ≡ false → answers ≡ answers_of options
-    → names ≡ names_of rows → names ≡ [] → FiltersInput answers options.why options.strict coming coming' out out' err err' status → EndsOf rows coming coming' out out' err err' status
-input-ends rows options answers names status coming coming' out out' err err' given plain same are none filtered = inr (inl (record {
+pub input-ends : (rows : List Row) (terminal : Bool) (options : Options) (answers : Answering) (names : List (List ℕ)) (status : ℕ) (coming coming' out out' err err' : Option (List ℕ)) → AreGiven rows terminal options → options.json ≡ false → answers ≡ answers_of options
+    → names ≡ names_of rows → names ≡ [] → FiltersInput answers options.why options.strict coming coming' out out' err err' status → EndsOf rows terminal coming coming' out out' err err' status
+input-ends rows terminal options answers names status coming coming' out out' err err' given plain same are none filtered = inr (inl (record {
   options = options;
   given = given;
   no_objects = plain;
@@ -163,9 +232,9 @@ input-ends rows options answers names status coming coming' out out' err err' gi
   filtered = subst (λ (a : Answering). FiltersInput a options.why options.strict coming coming' out out' err err' status) same filtered;
 }))
 
-pub input-stops : (rows : List Row) (options : Options) (answers : Answering) (names : List (List ℕ)) (coming coming' out out' err err' : Option (List ℕ)) → AreGiven rows options → options.json ≡ false → answers ≡ answers_of options
-    → names ≡ names_of rows → names ≡ [] → FiltersInputFront answers options.why coming coming' out out' err err' → StopsOf rows coming coming' out out' err err'
-input-stops rows options answers names coming coming' out out' err err' given plain same are none filtered = inr (inl (record {
+pub input-stops : (rows : List Row) (terminal : Bool) (options : Options) (answers : Answering) (names : List (List ℕ)) (coming coming' out out' err err' : Option (List ℕ)) → AreGiven rows terminal options → options.json ≡ false → answers ≡ answers_of options
+    → names ≡ names_of rows → names ≡ [] → FiltersInputFront answers options.why coming coming' out out' err err' → StopsOf rows terminal coming coming' out out' err err'
+input-stops rows terminal options answers names coming coming' out out' err err' given plain same are none filtered = inr (inl (record {
   options = options;
   given = given;
   no_objects = plain;
@@ -175,25 +244,27 @@ input-stops rows options answers names coming coming' out out' err err' given pl
 
 -- ## Objects
 
-pub objects-end : {E : Type 0} (rows : List Row) (options : Options) (answers : Answering) (names : List (List ℕ)) (result : Result ℕ E) (coming coming' out out' err : Option (List ℕ)) → AreGiven rows options → options.json ≡ true → answers ≡ unescaped_of options
-    → names ≡ names_of rows → IfOk result (ByObjects answers options names coming coming' out out') → IfOk result (EndsOf rows coming coming' out out' err err)
-objects-end rows options answers names (Err fault) coming coming' out out' err given asked same are told = tt
-objects-end rows options answers names (Ok status) coming coming' out out' err given asked same are told = inr (inr (record {
+pub objects-end : {E : Type 0} (rows : List Row) (terminal : Bool) (options : Options) (answers : Answering) (details : Detailing) (names : List (List ℕ)) (result : Result ℕ E) (coming coming' out out' err : Option (List ℕ)) → AreGiven rows terminal options → options.json ≡ true → answers ≡ unescaped_of options → details ≡ details_of options
+    → names ≡ names_of rows → IfOk result (ByObjects answers details options names coming coming' out out') → IfOk result (EndsOf rows terminal coming coming' out out' err err)
+objects-end rows terminal options answers details names (Err fault) coming coming' out out' err given asked same known are told = tt
+objects-end rows terminal options answers details names (Ok status) coming coming' out out' err given asked same known are told = inr (inr (record {
   options = options;
   given = given;
   objects = asked;
-  told = subst (λ (a : Answering). ByObjects a options (names_of rows) coming coming' out out' status) same (subst (λ (ns : List (List ℕ)). ByObjects answers options ns coming coming' out out' status) are told);
+  told = subst (λ (d : Detailing). ByObjects (unescaped_of options) d options (names_of rows) coming coming' out out' status) known
+      (subst (λ (a : Answering). ByObjects a details options (names_of rows) coming coming' out out' status) same (subst (λ (ns : List (List ℕ)). ByObjects answers details options ns coming coming' out out' status) are told));
   silent = Appends-none err;
 }))
 
-pub objects-stop : {E : Type 0} (rows : List Row) (options : Options) (answers : Answering) (names : List (List ℕ)) (result : Result ℕ E) (coming coming' out out' err : Option (List ℕ)) → AreGiven rows options → options.json ≡ true → answers ≡ unescaped_of options
-    → names ≡ names_of rows → OnErr result (ByObjectsFront answers options names coming coming' out out') → OnErr result (StopsOf rows coming coming' out out' err err)
-objects-stop rows options answers names (Ok status) coming coming' out out' err given asked same are told = tt
-objects-stop rows options answers names (Err fault) coming coming' out out' err given asked same are told = inr (inr (record {
+pub objects-stop : {E : Type 0} (rows : List Row) (terminal : Bool) (options : Options) (answers : Answering) (details : Detailing) (names : List (List ℕ)) (result : Result ℕ E) (coming coming' out out' err : Option (List ℕ)) → AreGiven rows terminal options → options.json ≡ true → answers ≡ unescaped_of options → details ≡ details_of options
+    → names ≡ names_of rows → OnErr result (ByObjectsFront answers details options names coming coming' out out') → OnErr result (StopsOf rows terminal coming coming' out out' err err)
+objects-stop rows terminal options answers details names (Ok status) coming coming' out out' err given asked same known are told = tt
+objects-stop rows terminal options answers details names (Err fault) coming coming' out out' err given asked same known are told = inr (inr (record {
   options = options;
   given = given;
   objects = asked;
-  told = subst (λ (a : Answering). ByObjectsFront a options (names_of rows) coming coming' out out') same (subst (λ (ns : List (List ℕ)). ByObjectsFront answers options ns coming coming' out out') are told);
+  told = subst (λ (d : Detailing). ByObjectsFront (unescaped_of options) d options (names_of rows) coming coming' out out') known
+      (subst (λ (a : Answering). ByObjectsFront a details options (names_of rows) coming coming' out out') same (subst (λ (ns : List (List ℕ)). ByObjectsFront answers details options ns coming coming' out out') are told));
   silent = Appends-none err;
 }))
 

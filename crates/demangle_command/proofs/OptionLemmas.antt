@@ -3,8 +3,11 @@ use Rattle.std.proofs.Common.{◌≡◌, ◌∙◌, ap, refl, subst, map, Bor, [
 use Rattle.std.proofs.lemmas.List.{map-append}
 use Rattle.clap.specs.Words.{AddsAliases, AddsShortAliases, Rule, Text, is_simple, is_simple_and_free, rule_of}
 use Rattle.clap.specs.declared.builder.arg.Arg.{Arg}
-use Rattle.demangle_command.specs.CommandLine.{IsAsked, IsSpelled, command_line}
+use Rattle.demangle_command.specs.CommandLine.{IsAsked, IsColored, IsSpelled, command_line}
+use Rattle.demangle_names.specs.Coloring.{IsColoring}
 use Rattle.demangle_names.specs.Spelling.{IsSpelling}
+use Rattle.demangle_names.specs.declared.coloring.Coloring.{Coloring}
+use Rattle.demangle_names.specs.declared.coloring.Coloring.TheVariants.{Never}
 use Rattle.demangle_names.specs.Style.{IsStyle}
 use Rattle.demangle_names.specs.declared.spelling.Spelling.{Spelling}
 use Rattle.demangle_names.specs.declared.spelling.Spelling.TheVariants.{Plain}
@@ -52,3 +55,10 @@ spelled-none text none = subst (λ t. IsSpelled t (Some Plain)) none refl
 
 pub spelled-some : (text : Option Text) (name : Text) (asked : Option Spelling) → Some name ≡ text → IsSpelling name asked → IsSpelled text asked
 spelled-some text name asked some named = subst (λ t. IsSpelled t asked) some named
+
+-- and the colouring
+pub colored-none : (text : Option Text) → None ≡ text → IsColored text (Some Never)
+colored-none text none = subst (λ t. IsColored t (Some Never)) none refl
+
+pub colored-some : (text : Option Text) (name : Text) (asked : Option Coloring) → Some name ≡ text → IsColoring name asked → IsColored text asked
+colored-some text name asked some named = subst (λ t. IsColored t asked) some named

@@ -1,12 +1,13 @@
--- What is answered by a style.
+-- What is answered by a style, and which details are known of it.
 use Rattle.std.proofs.Common.{◌≡◌, ◌∙◌, ap, ℕ, Bool, List, true, false}
-use Rattle.std.specs.Prelude.{Err}
+use Rattle.std.specs.Prelude.{Err, None}
 use Rattle.std.proofs.lemmas.Bool.{cond-true, cond-false}
 use Rattle.sym_core.specs.declared.refusal.Refusal.TheVariants.{Malformed}
 use Rattle.sym_print.specs.declared.detail.Detail.{Detail}
 use Rattle.sym_languages.specs.Languages.{answers_by, cpp_by}
 use Rattle.sym_filter.specs.declared.kinds.Kind.{Kind}
-use Rattle.demangle_command.specs.Styled.{styled_answer}
+use Rattle.symbol_parts.specs.Parsed.{cpp_marking, parsed_by}
+use Rattle.demangle_command.specs.Styled.{details_found, styled_answer, styled_details}
 use Rattle.demangle_names.specs.Style.{leaves_out, reads_paths}
 use Rattle.demangle_names.specs.declared.style.Style.{Style}
 
@@ -19,3 +20,14 @@ module _ (style : Style) (limit : ℕ) (detail : Detail) (kind : Kind) (symbol :
 
   pub as-symbol : leaves_out style kind.lang symbol ≡ false → reads_paths style ≡ false → styled_answer style limit detail kind symbol ≡ answers_by (cpp_by true) false limit detail kind symbol
   as-symbol read symbols = cond-false (leaves_out style kind.lang symbol) _ _ read ∙ ap (λ (b : Bool). answers_by (cpp_by true) b limit detail kind symbol) symbols
+
+  -- ## Details
+
+  pub details-left-out : leaves_out style kind.lang symbol ≡ true → styled_details style limit detail kind symbol ≡ None
+  details-left-out out = cond-true (leaves_out style kind.lang symbol) _ _ out
+
+  pub details-as-path : leaves_out style kind.lang symbol ≡ false → reads_paths style ≡ true → styled_details style limit detail kind symbol ≡ details_found (parsed_by (cpp_by true) cpp_marking true limit detail kind symbol)
+  details-as-path read paths = cond-false (leaves_out style kind.lang symbol) _ _ read ∙ ap (λ (b : Bool). details_found (parsed_by (cpp_by true) cpp_marking b limit detail kind symbol)) paths
+
+  pub details-as-symbol : leaves_out style kind.lang symbol ≡ false → reads_paths style ≡ false → styled_details style limit detail kind symbol ≡ details_found (parsed_by (cpp_by true) cpp_marking false limit detail kind symbol)
+  details-as-symbol read symbols = cond-false (leaves_out style kind.lang symbol) _ _ read ∙ ap (λ (b : Bool). details_found (parsed_by (cpp_by true) cpp_marking b limit detail kind symbol)) symbols

@@ -1,5 +1,5 @@
 -- What a command line did to an input and two outputs.
-use Rattle.std.specs.Prelude.{◌≡◌, ◌≢◌, ◌⊎◌, ℕ, List, [], ◌∷◌, ◌++◌, Bool, true, false, not, ◌==◌, Option, None, codes}
+use Rattle.std.specs.Prelude.{◌≡◌, ◌≢◌, ◌⊎◌, ℕ, List, [], ◌∷◌, ◌++◌, Bool, true, false, not, ◌&&◌, ◌==◌, Option, None, codes, if◌then◌else◌}
 use Rattle.std.specs.Fmt.{decimal}
 use Rattle.std.specs.Io.KnownBytes.{Appends, Consumes, IsAtEnd}
 use Rattle.clap.specs.Words.{Row, Text, IsAmong}
@@ -11,16 +11,22 @@ use Rattle.sym_filter.specs.declared.kinds.Letters.TheVariants.{Within}
 use Rattle.sym_filter.specs.Streams.{PutsFront}
 use Rattle.sym_filter.specs.declared.words.Tally.{Tally}
 use Rattle.sym_short.specs.Rewriting.{answers_as, spelled_answers}
+use Rattle.sym_short.specs.declared.texts.Texts.{Texts}
+use Rattle.sym_short.specs.declared.texts.Texts.TheVariants as texts
+use Rattle.text_details.specs.Details.{Detailing, no_details}
+use Rattle.text_colours.specs.Answers.{colored_answers}
 use Rattle.sym_command.specs.Command.{Took}
 use Rattle.demangle_command.specs.CommandLine.{AreGiven, AreOptions, names_of, found_in, faults_in}
 use Rattle.demangle_command.specs.Escaping.{answer_by}
 use Rattle.demangle_names.specs.Names.{AnswersNames, NamesFront, status_of}
 use Rattle.demangle_names.specs.Reasons.{reasons_of}
 use Rattle.demangle_names.specs.Saying.{said_of_words}
-use Rattle.demangle_command.specs.Styled.{styled_answer}
+use Rattle.demangle_command.specs.Styled.{styled_answer, styled_details}
 use Rattle.demangle_names.specs.Spelling.{is_gnu}
 use Rattle.demangle_names.specs.Style.{reads_paths}
 use Rattle.demangle_names.specs.declared.options.Options.{Options}
+use Rattle.demangle_names.specs.declared.spelling.Spelling.{Spelling}
+use Rattle.demangle_names.specs.declared.spelling.Spelling.TheVariants as spelling
 use Rattle.json_lines.specs.Objects.{name_lines, names_stay}
 use Rattle.json_lines.specs.Texts.{TellsObjects, TellsObjectsFront}
 
@@ -32,12 +38,39 @@ unspelled_of options = answers_as options.texts (reads_paths options.style) (sty
 abbrev pub unescaped_of : Options → Answering
 unescaped_of options = spelled_answers (is_gnu options.spelling) (reads_paths options.style) (unspelled_of options)
 
+-- Details are known of whole texts that are spelled as they are.
+abbrev pub details_as : Texts → Spelling → Detailing → Detailing
+details_as texts.Whole spelling.Plain details = details
+details_as texts.Whole spelling.Gnu details = no_details
+details_as (texts.Short keeps_inline) spelling details = no_details
+
+-- those of texts as they are
+abbrev pub unspelled_details : Options → Detailing
+unspelled_details options = details_as options.texts spelling.Plain (styled_details options.style options.limit options.detail)
+
+-- those of texts as options ask
+abbrev pub details_of : Options → Detailing
+details_of options = details_as options.texts options.spelling (styled_details options.style options.limit options.detail)
+
+-- whether texts are whole
+abbrev pub are_whole : Texts → Bool
+are_whole texts.Whole = true
+are_whole (texts.Short keeps_inline) = false
+
+-- Texts are coloured where that is asked and they have details, and where they go neither into strings of JSON nor into objects.
+abbrev pub shows_colors : Options → Bool
+shows_colors options = options.colors && (are_whole options.texts && (not (is_gnu options.spelling) && (not options.escape && not options.json)))
+
+-- the same texts, with their parts in colours where that is asked
+abbrev pub shown_of : Options → Answering
+shown_of options = if shows_colors options then colored_answers (details_of options) (unescaped_of options) else unescaped_of options
+
 -- the same, escaped where that is asked
 abbrev pub escaped_by : (escapes : Bool) → Answering → Answering
 escaped_by escapes answers kind symbol = answer_by escapes (answers kind symbol)
 
 abbrev pub answers_of : Options → Answering
-answers_of options = escaped_by options.escape (unescaped_of options)
+answers_of options = escaped_by options.escape (shown_of options)
 
 -- ## An input
 
@@ -84,32 +117,32 @@ FiltersInputFront answers why coming coming' out out' err err' =
 -- ## A command line that its parser takes, by what it found
 
 -- its names are answered as its options ask
-pub record Answered (rows : List Row) (status : ℕ) (lines said : List ℕ) : Type 0 where
+pub record Answered (rows : List Row) (terminal : Bool) (status : ℕ) (lines said : List ℕ) : Type 0 where
   pub options : Options
-  pub given : AreGiven rows options
+  pub given : AreGiven rows terminal options
   pub no_objects : options.json ≡ false
   pub some : names_of rows ≢ []
   pub one_stays : Bool
   pub answered : AnswersNames (answers_of options) options.types options.why (names_of rows) one_stays lines said
   pub ends : status ≡ status_of options.strict one_stays
 
-pub record AnsweredFront (rows : List Row) (lines said : List ℕ) : Type 0 where
+pub record AnsweredFront (rows : List Row) (terminal : Bool) (lines said : List ℕ) : Type 0 where
   pub options : Options
-  pub given : AreGiven rows options
+  pub given : AreGiven rows terminal options
   pub no_objects : options.json ≡ false
   pub front : NamesFront (answers_of options) options.types options.why (names_of rows) lines said
 
 -- it has no names, and the input was filtered as its options ask
-pub record Filtered (rows : List Row) (coming coming' out out' err err' : Option (List ℕ)) (status : ℕ) : Type 0 where
+pub record Filtered (rows : List Row) (terminal : Bool) (coming coming' out out' err err' : Option (List ℕ)) (status : ℕ) : Type 0 where
   pub options : Options
-  pub given : AreGiven rows options
+  pub given : AreGiven rows terminal options
   pub no_objects : options.json ≡ false
   pub none : names_of rows ≡ []
   pub filtered : FiltersInput (answers_of options) options.why options.strict coming coming' out out' err err' status
 
-pub record FilteredFront (rows : List Row) (coming coming' out out' err err' : Option (List ℕ)) : Type 0 where
+pub record FilteredFront (rows : List Row) (terminal : Bool) (coming coming' out out' err err' : Option (List ℕ)) : Type 0 where
   pub options : Options
-  pub given : AreGiven rows options
+  pub given : AreGiven rows terminal options
   pub no_objects : options.json ≡ false
   pub none : names_of rows ≡ []
   pub filtered : FiltersInputFront (answers_of options) options.why coming coming' out out' err err'
@@ -117,65 +150,65 @@ pub record FilteredFront (rows : List Row) (coming coming' out out' err err' : O
 -- ## Objects
 
 -- Names have objects, and the input wasn't read.
-pub record NamesByObjects (answers : Answering) (options : Options) (names : List (List ℕ)) (coming coming' out out' : Option (List ℕ)) (status : ℕ) : Type 0 where
+pub record NamesByObjects (answers : Answering) (details : Detailing) (options : Options) (names : List (List ℕ)) (coming coming' out out' : Option (List ℕ)) (status : ℕ) : Type 0 where
   pub some : names ≢ []
   pub unread : coming' ≡ coming
-  pub writes : Appends out out' (name_lines options.types (reads_paths options.style) answers names)
-  pub ends : status ≡ status_of options.strict (names_stay options.types (reads_paths options.style) answers names)
+  pub writes : Appends out out' (name_lines options.types (reads_paths options.style) answers details names)
+  pub ends : status ≡ status_of options.strict (names_stay options.types (reads_paths options.style) answers details names)
 
 -- There is no name, and the words of the input have objects.
-pub record InputByObjects (answers : Answering) (options : Options) (names : List (List ℕ)) (coming coming' out out' : Option (List ℕ)) (status : ℕ) : Type 0 where
+pub record InputByObjects (answers : Answering) (details : Detailing) (options : Options) (names : List (List ℕ)) (coming coming' out out' : Option (List ℕ)) (status : ℕ) : Type 0 where
   pub none : names ≡ []
   pub one_stays : Bool
-  pub told : TellsObjects (reads_paths options.style) answers coming coming' out out' one_stays
+  pub told : TellsObjects (reads_paths options.style) answers details coming coming' out out' one_stays
   pub ends : status ≡ status_of options.strict one_stays
 
-abbrev pub ByObjects : Answering → Options → List (List ℕ) → (coming coming' out out' : Option (List ℕ)) → ℕ → Type 0
-ByObjects answers options names coming coming' out out' status =
-    NamesByObjects answers options names coming coming' out out' status ⊎ InputByObjects answers options names coming coming' out out' status
+abbrev pub ByObjects : Answering → Detailing → Options → List (List ℕ) → (coming coming' out out' : Option (List ℕ)) → ℕ → Type 0
+ByObjects answers details options names coming coming' out out' status =
+    NamesByObjects answers details options names coming coming' out out' status ⊎ InputByObjects answers details options names coming coming' out out' status
 
 -- a beginning of that
-abbrev pub ByObjectsFront : Answering → Options → List (List ℕ) → (coming coming' out out' : Option (List ℕ)) → Type 0
-ByObjectsFront answers options names coming coming' out out' =
-    ((coming' ≡ coming) × PutsFront out out' [] (name_lines options.types (reads_paths options.style) answers names))
-    ⊎ ((names ≡ []) × TellsObjectsFront (reads_paths options.style) answers coming coming' out out')
+abbrev pub ByObjectsFront : Answering → Detailing → Options → List (List ℕ) → (coming coming' out out' : Option (List ℕ)) → Type 0
+ByObjectsFront answers details options names coming coming' out out' =
+    ((coming' ≡ coming) × PutsFront out out' [] (name_lines options.types (reads_paths options.style) answers details names))
+    ⊎ ((names ≡ []) × TellsObjectsFront (reads_paths options.style) answers details coming coming' out out')
 
 -- Its names, or the words of the input, have objects of JSON, as its options ask; texts in them aren't escaped twice. Nothing is
 -- said on standard error.
-pub record Objects (rows : List Row) (coming coming' out out' err err' : Option (List ℕ)) (status : ℕ) : Type 0 where
+pub record Objects (rows : List Row) (terminal : Bool) (coming coming' out out' err err' : Option (List ℕ)) (status : ℕ) : Type 0 where
   pub options : Options
-  pub given : AreGiven rows options
+  pub given : AreGiven rows terminal options
   pub objects : options.json ≡ true
-  pub told : ByObjects (unescaped_of options) options (names_of rows) coming coming' out out' status
+  pub told : ByObjects (unescaped_of options) (details_of options) options (names_of rows) coming coming' out out' status
   pub silent : Appends err err' []
 
-pub record ObjectsFront (rows : List Row) (coming coming' out out' err err' : Option (List ℕ)) : Type 0 where
+pub record ObjectsFront (rows : List Row) (terminal : Bool) (coming coming' out out' err err' : Option (List ℕ)) : Type 0 where
   pub options : Options
-  pub given : AreGiven rows options
+  pub given : AreGiven rows terminal options
   pub objects : options.json ≡ true
-  pub told : ByObjectsFront (unescaped_of options) options (names_of rows) coming coming' out out'
+  pub told : ByObjectsFront (unescaped_of options) (details_of options) options (names_of rows) coming coming' out out'
   pub silent : Appends err err' []
 
 -- ## What it did
 
 -- its names are answered; or no style has the name that is given, and no line was written
-abbrev pub IsEndedOf : List Row → ℕ → List ℕ → List ℕ → Type 0
-IsEndedOf rows status lines said = Answered rows status lines said ⊎ ((status ≡ 2) × (lines ≡ []) × AreOptions rows None)
+abbrev pub IsEndedOf : List Row → (terminal : Bool) → ℕ → List ℕ → List ℕ → Type 0
+IsEndedOf rows terminal status lines said = Answered rows terminal status lines said ⊎ ((status ≡ 2) × (lines ≡ []) × AreOptions rows terminal None)
 
 -- without a whole answer: beginnings, or no line
-abbrev pub IsStoppedOf : List Row → List ℕ → List ℕ → Type 0
-IsStoppedOf rows lines said = AnsweredFront rows lines said ⊎ (lines ≡ [])
+abbrev pub IsStoppedOf : List Row → (terminal : Bool) → List ℕ → List ℕ → Type 0
+IsStoppedOf rows terminal lines said = AnsweredFront rows terminal lines said ⊎ (lines ≡ [])
 
 -- the same of the whole command line, which may filter the input, or write objects
-abbrev pub EndsOf : List Row → (coming coming' out out' err err' : Option (List ℕ)) → ℕ → Type 0
-EndsOf rows coming coming' out out' err err' status =
-    ((coming' ≡ coming) × Took out out' err err' (IsEndedOf rows status)) ⊎ Filtered rows coming coming' out out' err err' status
-    ⊎ Objects rows coming coming' out out' err err' status
+abbrev pub EndsOf : List Row → (terminal : Bool) → (coming coming' out out' err err' : Option (List ℕ)) → ℕ → Type 0
+EndsOf rows terminal coming coming' out out' err err' status =
+    ((coming' ≡ coming) × Took out out' err err' (IsEndedOf rows terminal status)) ⊎ Filtered rows terminal coming coming' out out' err err' status
+    ⊎ Objects rows terminal coming coming' out out' err err' status
 
-abbrev pub StopsOf : List Row → (coming coming' out out' err err' : Option (List ℕ)) → Type 0
-StopsOf rows coming coming' out out' err err' =
-    ((coming' ≡ coming) × Took out out' err err' (IsStoppedOf rows)) ⊎ FilteredFront rows coming coming' out out' err err'
-    ⊎ ObjectsFront rows coming coming' out out' err err'
+abbrev pub StopsOf : List Row → (terminal : Bool) → (coming coming' out out' err err' : Option (List ℕ)) → Type 0
+StopsOf rows terminal coming coming' out out' err err' =
+    ((coming' ≡ coming) × Took out out' err err' (IsStoppedOf rows terminal)) ⊎ FilteredFront rows terminal coming coming' out out' err err'
+    ⊎ ObjectsFront rows terminal coming coming' out out' err err'
 
 -- ## One that it doesn't take
 
@@ -196,13 +229,13 @@ IsUntaken words status lines said = (kind : ErrorKind) × IsAmong kind (faults_i
 -- ## The words of a command line
 
 -- Its parser takes them, and they did what it found; or it doesn't.
-abbrev pub Ends : List Text → (coming coming' out out' err err' : Option (List ℕ)) → ℕ → Type 0
-Ends words coming coming' out out' err err' status =
-    ((faults_in words ≡ []) × EndsOf (found_in words) coming coming' out out' err err' status)
+abbrev pub Ends : List Text → (terminal : Bool) → (coming coming' out out' err err' : Option (List ℕ)) → ℕ → Type 0
+Ends words terminal coming coming' out out' err err' status =
+    ((faults_in words ≡ []) × EndsOf (found_in words) terminal coming coming' out out' err err' status)
     ⊎ ((coming' ≡ coming) × Took out out' err err' (IsUntaken words status))
 
 -- Up to a fault: before it is known what the parser finds, nothing was written but what it says.
-abbrev pub Stops : List Text → (coming coming' out out' err err' : Option (List ℕ)) → Type 0
-Stops words coming coming' out out' err err' =
-    StopsOf (found_in words) coming coming' out out' err err'
+abbrev pub Stops : List Text → (terminal : Bool) → (coming coming' out out' err err' : Option (List ℕ)) → Type 0
+Stops words terminal coming coming' out out' err err' =
+    StopsOf (found_in words) terminal coming coming' out out' err err'
     ⊎ ((coming' ≡ coming) × Took out out' err err' (λ lines said. (faults_in words ≢ []) ⊎ ((lines ≡ []) × (said ≡ []))))

@@ -5,9 +5,12 @@ use Rattle.clap.specs.Words.{Text, Rule, Row, App, Kinds, new_rule, new_app, wit
 use Rattle.clap.specs.declared.builder.action.ArgAction.TheVariants.{Append, Version}
 use Rattle.sym_short.specs.Rewriting.{texts_by}
 use Rattle.sym_command.specs.CommandLine.{flag, limit, detail_by, with_short, IsFlag, IsLimit}
+use Rattle.demangle_names.specs.Coloring.{IsColoring, colors}
 use Rattle.demangle_names.specs.Spelling.{IsSpelling}
 use Rattle.demangle_names.specs.Style.{IsStyle}
 use Rattle.demangle_command.specs.Texts.{bytes_of}
+use Rattle.demangle_names.specs.declared.coloring.Coloring.{Coloring}
+use Rattle.demangle_names.specs.declared.coloring.Coloring.TheVariants.{Never}
 use Rattle.demangle_names.specs.declared.spelling.Spelling.{Spelling}
 use Rattle.demangle_names.specs.declared.spelling.Spelling.TheVariants.{Plain}
 use Rattle.demangle_names.specs.declared.style.Style.{Style}
@@ -31,6 +34,15 @@ style_option = record (new_rule (codes "format")) { long = Some (codes "format")
 -- `--spelling`, with the name of a spelling
 abbrev pub spelling_option : Rule
 spelling_option = record (new_rule (codes "spelling")) { long = Some (codes "spelling"); value_names = 1 }
+
+-- `--color`, which may have the name of a colouring; without a value it is `auto`
+abbrev pub color_option : Rule
+color_option = record (new_rule (codes "color")) {
+  long = Some (codes "color");
+  range = Some (record { start_inclusive = 0; end_inclusive = 1 });
+  value_names = 1;
+  missing = codes "auto" ∷ [];
+}
 
 -- `-v`, `-V`, `--version`
 abbrev pub version_flag : Rule
@@ -65,7 +77,7 @@ with_texts app =
 -- with those on how texts are written, and on what is said of names that are left
 abbrev pub with_reports : App → App
 with_reports app =
-    with_rule (with_rule (with_rule (with_rule app (flag (codes "escape"))) (flag (codes "json"))) (flag (codes "why"))) (flag (codes "strict"))
+    with_rule (with_rule (with_rule (with_rule (with_rule app color_option) (flag (codes "escape"))) (flag (codes "json"))) (flag (codes "why"))) (flag (codes "strict"))
 
 -- The program's command line. Its parser adds help. An option may be given again.
 unfoldable pub command_line : App
@@ -74,7 +86,7 @@ command_line = record {
     has_version = true;
     disable_version_flag = true;
     args_override_self = true;
-    rules = no_params ∷ flag (codes "brief") ∷ flag (codes "short") ∷ flag (codes "keep-inline") ∷ types ∷ limit ∷ spelling_option ∷ style_option ∷ flag (codes "escape")
+    rules = no_params ∷ flag (codes "brief") ∷ flag (codes "short") ∷ flag (codes "keep-inline") ∷ types ∷ limit ∷ spelling_option ∷ style_option ∷ color_option ∷ flag (codes "escape")
         ∷ flag (codes "json") ∷ flag (codes "why") ∷ flag (codes "strict") ∷ version_option ∷ taken_options ∷ name_arguments ∷ [];
   };
   subs = [];
@@ -98,8 +110,16 @@ IsSpelled (Some name) asked = IsSpelling name asked
 abbrev pub IsAskedSpelling : List Row → Option Spelling → Type 0
 IsAskedSpelling rows asked = IsSpelled (first_of (codes "spelling") rows) asked
 
--- options as the parser found them
-pub record AreGiven (rows : List Row) (options : Options) : Type 0 where
+-- the colouring that `--color` names, `never` where it isn't given; none of another name
+abbrev pub IsColored : Option Text → Option Coloring → Type 0
+IsColored None asked = asked ≡ Some Never
+IsColored (Some name) asked = IsColoring name asked
+
+abbrev pub IsAskedColoring : List Row → Option Coloring → Type 0
+IsAskedColoring rows asked = IsColored (first_of (codes "color") rows) asked
+
+-- options as the parser found them, where texts are written to a terminal or to something else
+pub record AreGiven (rows : List Row) (terminal : Bool) (options : Options) : Type 0 where
   pub brief : Bool
   pub no_params : Bool
   pub short : Bool
@@ -113,16 +133,19 @@ pub record AreGiven (rows : List Row) (options : Options) : Type 0 where
   pub limit : IsLimit rows options.limit
   pub style : IsAskedStyle rows (Some options.style)
   pub spelling : IsAskedSpelling rows (Some options.spelling)
+  pub coloring : Coloring
+  pub is_coloring : IsAskedColoring rows (Some coloring)
+  pub colors : options.colors ≡ colors coloring terminal
   pub escape : IsFlag rows (codes "escape") options.escape
   pub json : IsFlag rows (codes "json") options.json
   pub types : IsFlag rows (codes "types") options.types
   pub why : IsFlag rows (codes "why") options.why
   pub strict : IsFlag rows (codes "strict") options.strict
 
--- the options, or none where no style or no spelling has the name that is given
-abbrev pub AreOptions : List Row → Option Options → Type 0
-AreOptions rows (Some options) = AreGiven rows options
-AreOptions rows None = IsAskedStyle rows None ⊎ IsAskedSpelling rows None
+-- the options, or none where no style, no spelling or no colouring has the name that is given
+abbrev pub AreOptions : List Row → (terminal : Bool) → Option Options → Type 0
+AreOptions rows terminal (Some options) = AreGiven rows terminal options
+AreOptions rows terminal None = IsAskedStyle rows None ⊎ (IsAskedSpelling rows None ⊎ IsAskedColoring rows None)
 
 -- the texts of the names, as the parser found them
 abbrev pub name_texts : List Row → List Text

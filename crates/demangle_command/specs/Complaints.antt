@@ -22,6 +22,10 @@ unknown_style name = quoted (codes "unknown style") name ++ codes "; known: auto
 abbrev pub unknown_spelling : List ℕ → List ℕ
 unknown_spelling name = quoted (codes "unknown spelling") name ++ codes "; known: plain, gnu"
 
+-- no colouring has the name that is given
+abbrev pub unknown_coloring : List ℕ → List ℕ
+unknown_coloring name = quoted (codes "unknown color") name ++ codes "; known: auto, always, never"
+
 -- what is said where no argument is a symbol, and one is a file
 abbrev pub hint_of : List ℕ → List ℕ
 hint_of word = codes "demangle: " ++ word ++ codes " is not a name; for a file: demangle < " ++ word ++ 10 ∷ []

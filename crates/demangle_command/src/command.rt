@@ -1,25 +1,26 @@
 // The command line.
-ghost use Rattle.std.specs.Prelude.{◌≡◌, ◌≢◌, ◌⊎◌, ◌+◌, ◌-◌, ◌^◌, ◌<◌, [], not, ◌==◌, IfOk, OnOk, OnErr, IfErr, map, true};
+ghost use Rattle.std.specs.Prelude.{◌≡◌, ◌≢◌, ◌⊎◌, ◌+◌, ◌-◌, ◌^◌, ◌<◌, [], not, ◌==◌, IfOk, OnOk, OnErr, IfErr, map, false, true};
 ghost use Rattle.std.specs.Io.KnownBytes.{Appends};
 ghost use Rattle.clap.specs.Words.{found_of, kind_of, rows_of};
 ghost use Rattle.clap.specs.declared.error.kind.ErrorKind.{ErrorKind as ErrorKind-type};
 ghost use Rattle.sym_filter.specs.Streams.{PutsFront, reader_faults, writer_faults};
 ghost use Rattle.sym_command.specs.Command.{Took, Says};
-ghost use Rattle.demangle_command.specs.Command.{ByObjects, ByObjectsFront, unescaped_of, unspelled_of, Ends, Stops, EndsOf, StopsOf, FiltersInput, FiltersInputFront, IsTold, TellsInput, TellsInputFront, is_request, summary_if};
+ghost use Rattle.demangle_command.specs.Command.{ByObjects, ByObjectsFront, are_whole, details_of, shown_of, shows_colors, unescaped_of, unspelled_details, unspelled_of, Ends, Stops, EndsOf, StopsOf, FiltersInput, FiltersInputFront, IsTold, TellsInput, TellsInputFront, is_request, summary_if};
 ghost use Rattle.demangle_command.specs.CommandLine.{AreGiven};
 ghost use Rattle.demangle_command.specs.Texts.{bytes_of, texts_of};
 ghost use Rattle.demangle_names.specs.Names.{status_of};
+ghost use Rattle.demangle_names.specs.Spelling.{is_gnu};
 
-use crate::complaints::{complaint, spelling_complaint, style_complaint};
+use crate::complaints::{coloring_complaint, complaint, spelling_complaint, style_complaint};
 use crate::escaping::Escaping;
-use crate::options::{asked_style, found_in, names_of, options_of};
+use crate::options::{asked_spelling, asked_style, found_in, names_of, options_of};
 use crate::styled::Styled;
 use crate::texts::{lent_texts, lent_words, texts_of, words_of};
 use clap::error::ErrorKind;
 use clap::{ArgMatches, Error};
 use demangle_names::{DONE, Options, Reasons, Spelling, WordReport, answer_names, status_of};
 use json_lines::{answer_objects, tell_objects};
-use std::alloc::Global;
+use std::alloc::{AllocError, Global};
 use sym_command::WRONG_USE;
 use sym_filter::{
     Demangler, FilterFault, Letters, Sink, Source, Tally, filter_telling, filter_words, write_all,
@@ -27,9 +28,12 @@ use sym_filter::{
 use sym_languages::{Languages, Wide};
 use sym_recent::{Alike, Recent};
 use sym_short::{Gnu, Rewriting, Shortening, Texts};
+use text_colours::Colored;
+use text_details::Detailed;
 
 /// Runs the program over an input and two outputs: writes the line of each name with its symbols replaced, or filters the input where
-/// there is no name. The words are those of the command line, the program's name first, each of any bytes, and the result is the status.
+/// there is no name. The words are those of the command line, the program's name first, each of any bytes; whether the first output is
+/// a terminal decides for `--color=auto`. The result is the status.
 ///
 /// # Errors
 ///
@@ -37,6 +41,7 @@ use sym_short::{Gnu, Rewriting, Shortening, Texts};
 pub fn run_over<S: Source, W: Sink, E: Sink>(
     alloc: Global,
     words: &[&[u8]],
+    terminal: bool,
     input: &mut S,
     out: &mut W,
     err: &mut E,
@@ -44,9 +49,9 @@ pub fn run_over<S: Source, W: Sink, E: Sink>(
     requires in_failures { S.failure_count input.old < 2 ^ 64 - 1 }
     requires out_failures { W.failure_count out.old < 2 ^ 64 - 1 }
     requires err_failures { E.failure_count err.old < 2 ^ 64 - 1 }
-    ensures ok { IfOk result (Ends (texts_of (map (λ word. word.now) words.now)) (S.coming input.old) (S.coming input.new)
+    ensures ok { IfOk result (Ends (texts_of (map (λ word. word.now) words.now)) terminal (S.coming input.old) (S.coming input.new)
         (W.taken out.old) (W.taken out.new) (E.taken err.old) (E.taken err.new)) }
-    ensures err { OnErr result (Stops (texts_of (map (λ word. word.now) words.now)) (S.coming input.old) (S.coming input.new)
+    ensures err { OnErr result (Stops (texts_of (map (λ word. word.now) words.now)) terminal (S.coming input.old) (S.coming input.new)
         (W.taken out.old) (W.taken out.new) (E.taken err.old) (E.taken err.new)) }
     ensures read_failed { S.failure_count input.new ≡ S.failure_count input.old + reader_faults result }
     ensures write_failed { W.failure_count out.new + E.failure_count err.new
@@ -54,7 +59,7 @@ pub fn run_over<S: Source, W: Sink, E: Sink>(
 {
     let texts = texts_of(alloc, words)?;
     let lent = lent_texts(alloc, &texts)?;
-    match run_texts(alloc, &lent, input, out, err) {
+    match run_texts(alloc, &lent, terminal, input, out, err) {
         Ok(status) => Ok(status),
         Err(fault) => Err(fault),
     }
@@ -64,6 +69,7 @@ pub fn run_over<S: Source, W: Sink, E: Sink>(
 fn run_texts<S: Source, W: Sink, E: Sink>(
     alloc: Global,
     texts: &[&str],
+    terminal: bool,
     input: &mut S,
     out: &mut W,
     err: &mut E,
@@ -71,16 +77,16 @@ fn run_texts<S: Source, W: Sink, E: Sink>(
     requires in_failures { S.failure_count input.old < 2 ^ 64 - 1 }
     requires out_failures { W.failure_count out.old < 2 ^ 64 - 1 }
     requires err_failures { E.failure_count err.old < 2 ^ 64 - 1 }
-    ensures ok { IfOk result (Ends (map (λ text. text.now) texts.now) (S.coming input.old) (S.coming input.new)
+    ensures ok { IfOk result (Ends (map (λ text. text.now) texts.now) terminal (S.coming input.old) (S.coming input.new)
         (W.taken out.old) (W.taken out.new) (E.taken err.old) (E.taken err.new)) }
-    ensures err { OnErr result (Stops (map (λ text. text.now) texts.now) (S.coming input.old) (S.coming input.new)
+    ensures err { OnErr result (Stops (map (λ text. text.now) texts.now) terminal (S.coming input.old) (S.coming input.new)
         (W.taken out.old) (W.taken out.new) (E.taken err.old) (E.taken err.new)) }
     ensures read_failed { S.failure_count input.new ≡ S.failure_count input.old + reader_faults result }
     ensures write_failed { W.failure_count out.new + E.failure_count err.new
         ≡ W.failure_count out.old + E.failure_count err.old + writer_faults result }
 {
     match found_in(alloc, texts) {
-        Ok(matches) => run_found(alloc, &matches, input, out, err),
+        Ok(matches) => run_found(alloc, &matches, terminal, input, out, err),
         Err(error) => tell(alloc, &error, texts, out, err),
     }
 }
@@ -144,6 +150,7 @@ fn end_with<S: Sink>(sink: &mut S, text: &[u8], status: u8) -> Result<u8, Filter
 fn run_found<S: Source, W: Sink, E: Sink>(
     alloc: Global,
     matches: &ArgMatches<'_>,
+    terminal: bool,
     input: &mut S,
     out: &mut W,
     err: &mut E,
@@ -151,38 +158,78 @@ fn run_found<S: Source, W: Sink, E: Sink>(
     requires in_failures { S.failure_count input.old < 2 ^ 64 - 1 }
     requires out_failures { W.failure_count out.old < 2 ^ 64 - 1 }
     requires err_failures { E.failure_count err.old < 2 ^ 64 - 1 }
-    ensures ok { IfOk result (EndsOf (rows_of (found_of matches.now)) (S.coming input.old) (S.coming input.new)
+    ensures ok { IfOk result (EndsOf (rows_of (found_of matches.now)) terminal (S.coming input.old) (S.coming input.new)
         (W.taken out.old) (W.taken out.new) (E.taken err.old) (E.taken err.new)) }
-    ensures err { OnErr result (StopsOf (rows_of (found_of matches.now)) (S.coming input.old) (S.coming input.new)
+    ensures err { OnErr result (StopsOf (rows_of (found_of matches.now)) terminal (S.coming input.old) (S.coming input.new)
         (W.taken out.old) (W.taken out.new) (E.taken err.old) (E.taken err.new)) }
     ensures read_failed { S.failure_count input.new ≡ S.failure_count input.old + reader_faults result }
     ensures write_failed { W.failure_count out.new + E.failure_count err.new
         ≡ W.failure_count out.old + E.failure_count err.old + writer_faults result }
 {
-    let Some(options) = options_of(matches) else {
+    let Some(options) = options_of(matches, terminal) else {
         return refuse_options(alloc, matches, err);
     };
     let styled = styled_of(options);
+    if shows_colors(options) {
+        let colored = Colored { demangler: styled };
+        return run_lines(alloc, colored, options, matches, terminal, input, out, err);
+    }
     match options.texts {
-        Texts::Whole => run_spelled(alloc, styled, options, matches, input, out, err),
+        Texts::Whole => run_spelled(alloc, styled, options, matches, terminal, input, out, err),
         Texts::Short { keeps_inline } => {
             let short = Rewriting {
                 demangler: styled,
                 rewrite: Shortening { keeps_inline },
                 reads_paths: options.style.reads_paths(),
             };
-            run_spelled(alloc, short, options, matches, input, out, err)
+            run_spelled(alloc, short, options, matches, terminal, input, out, err)
         }
+    }
+}
+
+/// Whether texts are coloured.
+fn shows_colors(options: Options) -> bool
+    ensures { result ≡ shows_colors options }
+{
+    let Options {
+        colors,
+        texts,
+        spelling,
+        escape,
+        json,
+        ..
+    } = options;
+    colors && (are_whole(texts) && (!is_gnu(spelling) && (!escape && !json)))
+}
+
+/// Whether texts are whole.
+fn are_whole(texts: Texts) -> bool
+    ensures { result ≡ are_whole texts }
+{
+    match texts {
+        Texts::Whole => true,
+        Texts::Short { .. } => false,
+    }
+}
+
+/// Whether texts are spelled as GNU's demangler spells them.
+fn is_gnu(spelling: Spelling) -> bool
+    ensures { result ≡ is_gnu spelling }
+{
+    match spelling {
+        Spelling::Plain => false,
+        Spelling::Gnu => true,
     }
 }
 
 /// Does what the command line's parser found, with the demangler that its options ask for. Spellings and
 /// escapes aren't among these options.
-fn run_spelled<D: Alike + Copy + Drop, S: Source, W: Sink, E: Sink>(
+fn run_spelled<D: Alike + Detailed + Copy + Drop, S: Source, W: Sink, E: Sink>(
     alloc: Global,
     demangler: D,
     options: Options,
     matches: &ArgMatches<'_>,
+    terminal: bool,
     input: &mut S,
     out: &mut W,
     err: &mut E,
@@ -190,25 +237,29 @@ fn run_spelled<D: Alike + Copy + Drop, S: Source, W: Sink, E: Sink>(
     requires in_failures { S.failure_count input.old < 2 ^ 64 - 1 }
     requires out_failures { W.failure_count out.old < 2 ^ 64 - 1 }
     requires err_failures { E.failure_count err.old < 2 ^ 64 - 1 }
-    requires given { AreGiven (rows_of (found_of matches.now)) options }
+    requires given { AreGiven (rows_of (found_of matches.now)) terminal options }
+    requires uncolored { shows_colors options ≡ false }
     requires texts { D.answer demangler ≡ unspelled_of options }
-    ensures ok { IfOk result (EndsOf (rows_of (found_of matches.now)) (S.coming input.old) (S.coming input.new)
+    requires details { D.details demangler ≡ unspelled_details options }
+    ensures ok { IfOk result (EndsOf (rows_of (found_of matches.now)) terminal (S.coming input.old) (S.coming input.new)
         (W.taken out.old) (W.taken out.new) (E.taken err.old) (E.taken err.new)) }
-    ensures err { OnErr result (StopsOf (rows_of (found_of matches.now)) (S.coming input.old) (S.coming input.new)
+    ensures err { OnErr result (StopsOf (rows_of (found_of matches.now)) terminal (S.coming input.old) (S.coming input.new)
         (W.taken out.old) (W.taken out.new) (E.taken err.old) (E.taken err.new)) }
     ensures read_failed { S.failure_count input.new ≡ S.failure_count input.old + reader_faults result }
     ensures write_failed { W.failure_count out.new + E.failure_count err.new
         ≡ W.failure_count out.old + E.failure_count err.old + writer_faults result }
 {
     match options.spelling {
-        Spelling::Plain => run_with(alloc, demangler, options, matches, input, out, err),
+        Spelling::Plain => run_with(
+            alloc, demangler, options, matches, terminal, input, out, err,
+        ),
         Spelling::Gnu => {
             let spelled = Rewriting {
                 demangler,
                 rewrite: Gnu,
                 reads_paths: options.style.reads_paths(),
             };
-            run_with(alloc, spelled, options, matches, input, out, err)
+            run_with(alloc, spelled, options, matches, terminal, input, out, err)
         }
     }
 }
@@ -235,11 +286,12 @@ fn styled_of(options: Options) -> Styled
 
 /// Does what the command line's parser found, with the demangler that its options ask for. Escapes aren't
 /// among these options.
-fn run_with<D: Alike + Copy + Drop, S: Source, W: Sink, E: Sink>(
+fn run_with<D: Alike + Detailed + Copy + Drop, S: Source, W: Sink, E: Sink>(
     alloc: Global,
     demangler: D,
     options: Options,
     matches: &ArgMatches<'_>,
+    terminal: bool,
     input: &mut S,
     out: &mut W,
     err: &mut E,
@@ -247,20 +299,53 @@ fn run_with<D: Alike + Copy + Drop, S: Source, W: Sink, E: Sink>(
     requires in_failures { S.failure_count input.old < 2 ^ 64 - 1 }
     requires out_failures { W.failure_count out.old < 2 ^ 64 - 1 }
     requires err_failures { E.failure_count err.old < 2 ^ 64 - 1 }
-    requires given { AreGiven (rows_of (found_of matches.now)) options }
+    requires given { AreGiven (rows_of (found_of matches.now)) terminal options }
+    requires uncolored { shows_colors options ≡ false }
     requires texts { D.answer demangler ≡ unescaped_of options }
-    ensures ok { IfOk result (EndsOf (rows_of (found_of matches.now)) (S.coming input.old) (S.coming input.new)
+    requires details { D.details demangler ≡ details_of options }
+    ensures ok { IfOk result (EndsOf (rows_of (found_of matches.now)) terminal (S.coming input.old) (S.coming input.new)
         (W.taken out.old) (W.taken out.new) (E.taken err.old) (E.taken err.new)) }
-    ensures err { OnErr result (StopsOf (rows_of (found_of matches.now)) (S.coming input.old) (S.coming input.new)
+    ensures err { OnErr result (StopsOf (rows_of (found_of matches.now)) terminal (S.coming input.old) (S.coming input.new)
+        (W.taken out.old) (W.taken out.new) (E.taken err.old) (E.taken err.new)) }
+    ensures read_failed { S.failure_count input.new ≡ S.failure_count input.old + reader_faults result }
+    ensures write_failed { W.failure_count out.new + E.failure_count err.new
+        ≡ W.failure_count out.old + E.failure_count err.old + writer_faults result }
+{
+    if options.json {
+        return write_objects(alloc, &demangler, options, names_of(matches), input, out);
+    }
+    run_lines(
+        alloc, demangler, options, matches, terminal, input, out, err,
+    )
+}
+
+/// Does what the command line's parser found, except objects, with the demangler that its options ask for. Escapes aren't
+/// among these options.
+fn run_lines<D: Alike + Copy + Drop, S: Source, W: Sink, E: Sink>(
+    alloc: Global,
+    demangler: D,
+    options: Options,
+    matches: &ArgMatches<'_>,
+    terminal: bool,
+    input: &mut S,
+    out: &mut W,
+    err: &mut E,
+) -> Result<u8, FilterFault>
+    requires in_failures { S.failure_count input.old < 2 ^ 64 - 1 }
+    requires out_failures { W.failure_count out.old < 2 ^ 64 - 1 }
+    requires err_failures { E.failure_count err.old < 2 ^ 64 - 1 }
+    requires given { AreGiven (rows_of (found_of matches.now)) terminal options }
+    requires no_objects { options.json ≡ false }
+    requires texts { D.answer demangler ≡ shown_of options }
+    ensures ok { IfOk result (EndsOf (rows_of (found_of matches.now)) terminal (S.coming input.old) (S.coming input.new)
+        (W.taken out.old) (W.taken out.new) (E.taken err.old) (E.taken err.new)) }
+    ensures err { OnErr result (StopsOf (rows_of (found_of matches.now)) terminal (S.coming input.old) (S.coming input.new)
         (W.taken out.old) (W.taken out.new) (E.taken err.old) (E.taken err.new)) }
     ensures read_failed { S.failure_count input.new ≡ S.failure_count input.old + reader_faults result }
     ensures write_failed { W.failure_count out.new + E.failure_count err.new
         ≡ W.failure_count out.old + E.failure_count err.old + writer_faults result }
 {
     let texts = names_of(matches);
-    if options.json {
-        return write_objects(alloc, &demangler, options, texts, input, out);
-    }
     let escaping = Escaping {
         demangler,
         escapes: options.escape,
@@ -283,7 +368,7 @@ fn run_with<D: Alike + Copy + Drop, S: Source, W: Sink, E: Sink>(
 }
 
 /// Writes the objects of names, or of the input's words where there is no name, and answers the status.
-fn write_objects<D: Demangler, S: Source, W: Sink>(
+fn write_objects<D: Detailed, S: Source, W: Sink>(
     alloc: Global,
     demangler: &D,
     options: Options,
@@ -293,9 +378,9 @@ fn write_objects<D: Demangler, S: Source, W: Sink>(
 ) -> Result<u8, FilterFault>
     requires in_failures { S.failure_count input.old < 2 ^ 64 - 1 }
     requires out_failures { W.failure_count out.old < 2 ^ 64 - 1 }
-    ensures ok { IfOk result (ByObjects (D.answer demangler.now) options (map bytes_of (map (λ text. text.now) texts.now))
+    ensures ok { IfOk result (ByObjects (D.answer demangler.now) (D.details demangler.now) options (map bytes_of (map (λ text. text.now) texts.now))
         (S.coming input.old) (S.coming input.new) (W.taken out.old) (W.taken out.new)) }
-    ensures err { OnErr result (ByObjectsFront (D.answer demangler.now) options (map bytes_of (map (λ text. text.now) texts.now))
+    ensures err { OnErr result (ByObjectsFront (D.answer demangler.now) (D.details demangler.now) options (map bytes_of (map (λ text. text.now) texts.now))
         (S.coming input.old) (S.coming input.new) (W.taken out.old) (W.taken out.new)) }
     ensures read_failed { S.failure_count input.new ≡ S.failure_count input.old + reader_faults result }
     ensures write_failed { W.failure_count out.new ≡ W.failure_count out.old + writer_faults result }
@@ -314,7 +399,7 @@ fn write_objects<D: Demangler, S: Source, W: Sink>(
     }
 }
 
-/// Says that no style, or no spelling, has the name that is given.
+/// Says that no style, no spelling or no colouring has the name that is given.
 fn refuse_options<E: Sink>(
     alloc: Global,
     matches: &ArgMatches<'_>,
@@ -326,12 +411,19 @@ fn refuse_options<E: Sink>(
     ensures fault { IfErr result (λ fault. fault ≢ FilterFault.Read) }
     ensures failures { E.failure_count err.new ≡ E.failure_count err.old + writer_faults result }
 {
-    let line = if asked_style(matches).is_none() {
-        style_complaint(alloc, matches.get_str("format").unwrap_or_default())?
-    } else {
-        spelling_complaint(alloc, matches.get_str("spelling").unwrap_or_default())?
-    };
+    let line = refusal_line(alloc, matches)?;
     end_with(err, &line, WRONG_USE)
+}
+
+/// The line that says so.
+fn refusal_line(alloc: Global, matches: &ArgMatches<'_>) -> Result<Vec<u8>, AllocError> {
+    if asked_style(matches).is_none() {
+        return style_complaint(alloc, matches.get_str("format").unwrap_or_default());
+    }
+    if asked_spelling(matches).is_none() {
+        return spelling_complaint(alloc, matches.get_str("spelling").unwrap_or_default());
+    }
+    coloring_complaint(alloc, matches.get_str("color").unwrap_or_default())
 }
 
 /// Filters an input, says how much of it stays where that is asked, and answers the status.

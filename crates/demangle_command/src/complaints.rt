@@ -1,6 +1,6 @@
 // What is said of a command line that its parser doesn't take.
 ghost use Rattle.std.specs.Prelude.{◌≡◌, ◌++◌, List, ℕ, IfOk, OnOk};
-ghost use Rattle.demangle_command.specs.Complaints.{IsComplaint, complaint_of, quoted, unknown_spelling, unknown_style};
+ghost use Rattle.demangle_command.specs.Complaints.{IsComplaint, complaint_of, quoted, unknown_coloring, unknown_spelling, unknown_style};
 
 use crate::options::found_in;
 use crate::texts::bytes_of;
@@ -44,6 +44,15 @@ pub(crate) fn spelling_complaint(alloc: Global, name: &str) -> Result<Vec<u8>, A
 {
     let mut reason = quoted(alloc, b"unknown spelling", name)?;
     reason.extend_from_slice(b"; known: plain, gnu")?;
+    line_of(alloc, &reason)
+}
+
+/// Says that no colouring has the name that is given.
+pub(crate) fn coloring_complaint(alloc: Global, name: &str) -> Result<Vec<u8>, AllocError>
+    ensures { IfOk result (λ line. line.items ≡ complaint_of (unknown_coloring name.now)) }
+{
+    let mut reason = quoted(alloc, b"unknown color", name)?;
+    reason.extend_from_slice(b"; known: auto, always, never")?;
     line_of(alloc, &reason)
 }
 

@@ -1,10 +1,10 @@
 // The options of a command line, and its names.
 ghost use Rattle.std.specs.Prelude.{◌≡◌, IfOk, false, map};
 ghost use Rattle.clap.specs.Words.{FailsBy, found_of, rows_of, matches_of, fault_of, app_of, rule_of, with_rule};
-ghost use Rattle.demangle_command.specs.CommandLine.{command_line, no_params, spelling_option, style_option, types, version_flag, version_option, taken_option, taken_options, name_arguments, with_reports, with_texts, AreOptions, IsAskedSpelling, IsAskedStyle, name_texts};
+ghost use Rattle.demangle_command.specs.CommandLine.{color_option, command_line, no_params, spelling_option, style_option, types, version_flag, version_option, taken_option, taken_options, name_arguments, with_reports, with_texts, AreOptions, IsAskedColoring, IsAskedSpelling, IsAskedStyle, name_texts};
 
 use clap::{Arg, ArgAction, ArgMatches, Command, Error};
-use demangle_names::{Options, Spelling, Style, spelling_of, style_of};
+use demangle_names::{Coloring, Options, Spelling, Style, coloring_of, spelling_of, style_of};
 use std::alloc::{AllocError, Global};
 use sym_command::{detail_of, flag, has_flag, limit, limit_of, with_flag, with_short};
 use sym_short::texts_of;
@@ -90,7 +90,8 @@ fn with_texts<'a>(alloc: Global, command: Command<'a>) -> Result<Command<'a>, Al
 fn with_reports<'a>(alloc: Global, command: Command<'a>) -> Result<Command<'a>, AllocError>
     ensures { IfOk result (λ with_them. app_of with_them ≡ with_reports (app_of command.entry)) }
 {
-    let escape = with_flag(alloc, command, "escape", ESCAPE)?;
+    let color = command.arg(color_option(alloc))?;
+    let escape = with_flag(alloc, color, "escape", ESCAPE)?;
     let json = with_flag(alloc, escape, "json", JSON)?;
     let why = with_flag(alloc, json, "why", WHY)?;
     with_flag(alloc, why, "strict", STRICT)
@@ -153,6 +154,19 @@ fn spelling_option<'a>(alloc: Global) -> Arg<'a>
         .long("spelling")
         .value_name("SPELLING")
         .help("How C++ names are spelled: plain, or gnu (as by c++filt) [default: plain]")
+}
+
+/// The option that names a colouring.
+fn color_option<'a>(alloc: Global) -> Arg<'a>
+    ensures rule { rule_of result ≡ color_option }
+    ensures local { result.global ≡ false }
+{
+    Arg::new(alloc, "color")
+        .long("color")
+        .value_name("WHEN")
+        .num_args(..=1)
+        .default_missing_value("auto")
+        .help("Tell parts of names apart: auto, always, never [default: never]")
 }
 
 /// The option for the version.
@@ -223,7 +237,7 @@ pub(crate) fn asked_style(matches: &ArgMatches<'_>) -> Option<Style>
 }
 
 /// The spelling that is asked for; none where no spelling has the name that is given.
-fn asked_spelling(matches: &ArgMatches<'_>) -> Option<Spelling>
+pub(crate) fn asked_spelling(matches: &ArgMatches<'_>) -> Option<Spelling>
     ensures { IsAskedSpelling (rows_of (found_of matches.now)) result }
 {
     match matches.get_str("spelling") {
@@ -232,18 +246,31 @@ fn asked_spelling(matches: &ArgMatches<'_>) -> Option<Spelling>
     }
 }
 
-/// The options of a command line; none where no style or no spelling has the name that is given.
-pub(crate) fn options_of(matches: &ArgMatches<'_>) -> Option<Options>
-    ensures { AreOptions (rows_of (found_of matches.now)) result }
+/// The colouring that is asked for; none where no colouring has the name that is given.
+fn asked_coloring(matches: &ArgMatches<'_>) -> Option<Coloring>
+    ensures { IsAskedColoring (rows_of (found_of matches.now)) result }
+{
+    match matches.get_str("color") {
+        None => Some(Coloring::Never),
+        Some(name) => coloring_of(name),
+    }
+}
+
+/// The options of a command line whose texts are written to a terminal, or to something else; none where no style, no spelling or no
+/// colouring has the name that is given.
+pub(crate) fn options_of(matches: &ArgMatches<'_>, terminal: bool) -> Option<Options>
+    ensures { AreOptions (rows_of (found_of matches.now)) terminal result }
 {
     let style = asked_style(matches)?;
     let spelling = asked_spelling(matches)?;
+    let coloring = asked_coloring(matches)?;
     Some(Options {
         limit: limit_of(matches),
         detail: detail_of(has_flag(matches, "brief"), has_flag(matches, "no-params")),
         style,
         texts: texts_of(has_flag(matches, "short"), has_flag(matches, "keep-inline")),
         spelling,
+        colors: coloring.colors(terminal),
         escape: has_flag(matches, "escape"),
         json: has_flag(matches, "json"),
         types: has_flag(matches, "types"),

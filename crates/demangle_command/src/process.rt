@@ -16,13 +16,18 @@ use sym_filter::{FilterFault, ReaderSource, Sink, Source, WriterSink};
 /// The status where the reader of the output has gone: what a shell gives for a program that SIGPIPE has ended.
 const READER_GONE: u8 = 141;
 
-/// Runs the program over standard input and output, and answers its exit status.
-pub fn program<R: Env + Files + Input + Print + AllocGlobal, E: Print>(rt: &R, errors: &E) -> u8 {
+/// Runs the program over standard input and output, which may be a terminal, and answers its exit status.
+pub fn program<R: Env + Files + Input + Print + AllocGlobal, E: Print>(
+    rt: &R,
+    errors: &E,
+    terminal: bool,
+) -> u8 {
     let mut input = Noted::new(rt.reader());
     let mut out = Noted::new(io::writer(rt));
     let mut err = Noted::new(io::writer(errors));
     let ended = run_on_streams(
         rt,
+        terminal,
         &mut ReaderSource::new(&mut input),
         &mut WriterSink::new(&mut out),
         &mut WriterSink::new(&mut err),
@@ -37,6 +42,7 @@ pub fn program<R: Env + Files + Input + Print + AllocGlobal, E: Print>(rt: &R, e
 /// Runs the program on the words that it was called with, and on its streams.
 fn run_on_streams<R: Env + Files + AllocGlobal, S: Source, W: Sink, E: Sink>(
     rt: &R,
+    terminal: bool,
     input: &mut S,
     out: &mut W,
     err: &mut E,
@@ -51,7 +57,7 @@ fn run_on_streams<R: Env + Files + AllocGlobal, S: Source, W: Sink, E: Sink>(
         Words::TooLong(argument) => return refuse_file(alloc, &argument, err),
     };
     let lent = lent_words(alloc, &words)?;
-    let status = run_over(alloc, &lent, input, out, err)?;
+    let status = run_over(alloc, &lent, terminal, input, out, err)?;
     if status != WRONG_USE {
         if let Some(word) = file_among(rt, &lent) {
             say_hint(alloc, word, err)?;

@@ -1,5 +1,8 @@
 // The demangler over both manglings, where a style may leave symbols out.
-ghost use Rattle.demangle_command.specs.Styled.{styled_answer};
+ghost use Rattle.std.specs.Prelude.{◌≡◌, IfOk};
+ghost use Rattle.sym_core.specs.Number.{FitsSymbol};
+ghost use Rattle.demangle_command.specs.Styled.{details_found, styled_answer, styled_details};
+ghost use Rattle.text_details.specs.Details.{details_in};
 ghost use Rattle.sym_languages.specs.Languages.{AreWideCountsOf};
 
 use demangle_names::Style;
@@ -9,6 +12,8 @@ use sym_filter::{Demangled, Demangler, Kind, Lang};
 use sym_languages::languages::Lists;
 use sym_languages::{Languages, Legacy, Wide};
 use sym_recent::Alike;
+use symbol_parts::{Parsed, Parser};
+use text_details::{Detailed, Details};
 
 /// The answer to a symbol that a style leaves out: no symbol of the style begins so.
 const LEFT_OUT: Refusal = Refusal::Malformed { at: 0 };
@@ -68,6 +73,52 @@ impl Demangler for Styled {
             return Legacy { languages }.append(lists, kind, symbol, out);
         }
         languages.append(lists, kind, symbol, out)
+    }
+}
+
+impl Detailed for Styled {
+    ghost details = { λ styled. styled_details styled.style styled.languages.limit styled.languages.detail };
+
+    fn find_details(
+        &self,
+        alloc: Global,
+        kind: Kind,
+        symbol: &[u8],
+    ) -> Result<Option<Details>, AllocError> {
+        if self.style.leaves_out(kind.lang, symbol) {
+            return Ok(None);
+        }
+        let languages = self.languages;
+        if self.style.reads_paths() {
+            return details_by(&Legacy { languages }, alloc, kind, symbol);
+        }
+        details_by(&languages, alloc, kind, symbol)
+    }
+}
+
+/// The details of the text of a word's symbol, where it has one.
+fn details_by<P: Parser>(
+    parser: &P,
+    alloc: Global,
+    kind: Kind,
+    symbol: &[u8],
+) -> Result<Option<Details>, AllocError>
+    requires { FitsSymbol symbol.now }
+    ensures { IfOk result (λ found. details_in found ≡ details_found (P.parsed parser.now kind symbol.now)) }
+{
+    match parser.parse(alloc, kind, symbol) {
+        Ok(parsed) => {
+            let Parsed {
+                text: _,
+                kind,
+                parts,
+            } = parsed;
+            Ok(Some(Details { kind, parts }))
+        }
+        Err(refusal) => match refusal {
+            Refusal::Memory => Err(AllocError),
+            _ => Ok(None),
+        },
     }
 }
 

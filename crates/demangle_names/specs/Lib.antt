@@ -1,3 +1,4 @@
+pub mod Coloring
 pub mod Escaped
 pub mod Names
 pub mod Reasons

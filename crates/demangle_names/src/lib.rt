@@ -2,6 +2,7 @@
 //! manglings that a style reads, and the statuses.
 #![tactic(auto)]
 
+mod coloring;
 mod escaping;
 mod names;
 mod options;
@@ -11,6 +12,7 @@ mod spelling;
 mod status;
 mod style;
 
+pub use coloring::{Coloring, coloring_of};
 pub use escaping::{
     escaped_reads_back, escaped_stays_within, push_escaped, replaced_keeps_strings,
 };

@@ -15,6 +15,8 @@ pub struct Options {
     pub texts: Texts,
     /// How texts of C++ symbols are spelled.
     pub spelling: Spelling,
+    /// Whether the parts of texts are coloured.
+    pub colors: bool,
     /// Whether texts are escaped for strings of JSON.
     pub escape: bool,
     /// Whether names are answered by objects of JSON.

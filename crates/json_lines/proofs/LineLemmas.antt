@@ -1,20 +1,25 @@
 -- The tokens of objects, and their lines.
-use Rattle.std.proofs.Common.{◌≡◌, ◌∙◌, ◌≤◌, refl, ap, sym, ℕ, arith, Bool, true, false, List, [], ◌∷◌, ◌++◌, append_assoc, append-nil, Option, Some, None, is_some, cond}
+use Rattle.std.proofs.Common.{◌≡◌, ◌∙◌, ◌≤◌, refl, ap, sym, ℕ, suc, arith, Bool, true, false, List, [], ◌∷◌, ◌++◌, append_assoc, append-nil, Option, Some, None, is_some, cond}
 use Rattle.std.specs.Fmt.{decimal}
-use Rattle.json.specs.Json.{Members, no_members, member, number, object, string, max_depth}
+use Rattle.std.specs.List.{All, flat_map}
+use Rattle.json.specs.Json.{Members, no_members, member, array, number, object, string, max_depth}
 use Rattle.std.specs.Str.Lossy.{utf8_lossy}
 use Rattle.json.specs.Print.{ends, print, print_from, quoted}
 use Rattle.json.specs.Token.{Token}
-use Rattle.json.specs.Tree.{json_tokens, members_tokens, depth, HasNumbers, MembersHaveNumbers}
+use Rattle.json.specs.Tree.{json_tokens, items_tokens, members_tokens, depth, items_depth, HasNumbers, ItemsHaveNumbers, MembersHaveNumbers}
 use Rattle.json.proofs.Printed.Decimals.{IsNumber-decimal}
 use Rattle.json.proofs.Printed.Tokens.{print_from-append}
 use Rattle.json.proofs.Printed.Trees.{document-print}
 use Rattle.sym_core.specs.declared.refusal.Refusal.{Refusal}
 use Rattle.sym_core.specs.declared.refusal.Refusal.TheVariants.{Malformed, BadReference, BadValue, TooLong, Memory}
 use Rattle.std.specs.Prelude.{codes, fold}
-use Rattle.json_lines.specs.Meanings.{Meaning, has_text, refused, no_symbol}
-use Rattle.json_lines.specs.Objects.{HasPlace, IsLine, IsMeaning, LinesAreObjects, line_members, meaning_members, name_members, object_of, refusal_members, text_of}
-use Rattle.json_lines.specs.Tokens.{front_of, members_text}
+use Rattle.json_lines.specs.declared.manglings.Mangling.{Mangling}
+use Rattle.text_details.specs.Details.{Details}
+use Rattle.json_lines.specs.Meanings.{Meaning, has_text, refused, no_symbol, language_of, mangling_name}
+use Rattle.sym_parts.specs.Words.{role_name}
+use Rattle.sym_parts.specs.declared.part.Part.{Part}
+use Rattle.json_lines.specs.Objects.{AreDetails, HasPlace, IsLine, IsMeaning, IsPart, LinesAreObjects, detail_members, line_members, mangling_members, meaning_members, name_members, object_of, part_items, part_object, refusal_members, text_of}
+use Rattle.json_lines.specs.Tokens.{front_of, later_part, members_text, parts_text}
 
 pub tokens-front : (members : Members) → members_tokens members ≡ front_of members ++ Token.end_object ∷ []
 tokens-front no_members = refl
@@ -59,6 +64,41 @@ pub name-first : (name : List ℕ) → print_from false (Token.key name ∷ []) 
 unfolding print_from
 name-first name = append-nil (quoted name ++ 58 ∷ [])
 
+-- those that say how a name is mangled, and others
+pub text-mangling : (mangling : Mangling) (members : Members) → members_text true (mangling_members mangling members) ≡ members_text true (mangling_members mangling no_members) ++ members_text true members
+text-mangling mangling members =
+    let language = members_text true (member (codes "language") (string (language_of mangling)) no_members) in
+    let named : Members → Members = λ others. member (codes "mangling") (string (mangling_name mangling)) others in
+    text-word true (codes "language") (language_of mangling) (named members) ∙ ap (λ (t : List ℕ). language ++ t) (text-word true (codes "mangling") (mangling_name mangling) members)
+    ∙ sym (append_assoc language (members_text true (named no_members)) (members_text true members))
+    ∙ ap (λ (t : List ℕ). t ++ members_text true members) (sym (text-word true (codes "language") (language_of mangling) (named no_members)))
+
+-- ## The text of parts
+
+-- after others
+later-text : (parts : List Part) → print_from true (items_tokens (part_items parts)) ≡ flat_map later_part parts ++ 93 ∷ []
+unfolding print_from
+later-text [] = refl
+later-text (part ∷ parts) =
+    print_from-append true (json_tokens (part_object part)) (items_tokens (part_items parts)) ∙ ap (λ (t : List ℕ). later_part part ++ t) (later-text parts)
+    ∙ sym (append_assoc (later_part part) (flat_map later_part parts) (93 ∷ []))
+
+items-text : (parts : List Part) → print_from false (items_tokens (part_items parts)) ≡ parts_text parts ++ 93 ∷ []
+unfolding print_from
+items-text [] = refl
+items-text (part ∷ parts) =
+    let first = print (json_tokens (part_object part)) in
+    print_from-append false (json_tokens (part_object part)) (items_tokens (part_items parts)) ∙ ap (λ (t : List ℕ). first ++ t) (later-text parts)
+    ∙ sym (append_assoc first (flat_map later_part parts) (93 ∷ []))
+
+-- a name and the parts
+pub parts-member : (name : List ℕ) (parts : List Part) → members_text true (member name (array (part_items parts)) no_members) ≡ print_from true (Token.key name ∷ []) ++ 91 ∷ (parts_text parts ++ 93 ∷ [])
+unfolding print_from
+parts-member name parts =
+    print_from-append true (Token.key name ∷ []) (json_tokens (array (part_items parts)) ++ [])
+    ∙ ap (λ (ts : List Token). print_from true (Token.key name ∷ []) ++ print_from false ts) (append-nil (json_tokens (array (part_items parts))))
+    ∙ ap (λ (t : List ℕ). print_from true (Token.key name ∷ []) ++ 91 ∷ t) (items-text parts)
+
 -- ## Bytes that are appended in turn
 
 pub put-two : (old mid new first second both : List ℕ) → mid ≡ old ++ first → new ≡ mid ++ second → both ≡ first ++ second → new ≡ old ++ both
@@ -68,6 +108,24 @@ put-two old mid new first second both e f is = f ∙ ap (λ (t : List ℕ). t ++
 pub put-word : (has_some : Bool) (name word bytes old mid new : List ℕ) → bytes ≡ word → mid ≡ old ++ print_from has_some (Token.key name ∷ []) → new ≡ mid ++ quoted bytes → new ≡ old ++ members_text has_some (member name (string word) no_members)
 put-word has_some name word bytes old mid new is named pushed =
     put-two old mid new (print_from has_some (Token.key name ∷ [])) (quoted word) (members_text has_some (member name (string word) no_members)) named (pushed ∙ ap (λ (t : List ℕ). mid ++ quoted t) is) (word-text has_some name word)
+
+-- a name and parts
+pub put-parts : (name : List ℕ) (parts : List Part) (old mid begun all new : List ℕ) → mid ≡ old ++ print_from true (Token.key name ∷ []) → begun ≡ mid ++ 91 ∷ [] → all ≡ begun ++ parts_text parts → new ≡ all ++ 93 ∷ []
+    → new ≡ old ++ members_text true (member name (array (part_items parts)) no_members)
+put-parts name parts old mid begun all new d e f g =
+    let key = print_from true (Token.key name ∷ []) in
+    let text = parts_text parts in
+    g ∙ ap (λ (t : List ℕ). t ++ 93 ∷ []) (f ∙ ap (λ (t : List ℕ). t ++ text) (e ∙ ap (λ (t : List ℕ). t ++ 91 ∷ []) d))
+    ∙ append_assoc ((old ++ key) ++ 91 ∷ []) text (93 ∷ []) ∙ append_assoc (old ++ key) (91 ∷ []) (text ++ 93 ∷ []) ∙ append_assoc old key (91 ∷ (text ++ 93 ∷ []))
+    ∙ ap (λ (t : List ℕ). old ++ t) (sym (parts-member name parts))
+
+-- the members of a part's object
+pub put-part : (role start length old begun with_role with_start with_length new : List ℕ) → begun ≡ old ++ 123 ∷ [] → with_role ≡ begun ++ role → with_start ≡ with_role ++ start → with_length ≡ with_start ++ length → new ≡ with_length ++ 125 ∷ []
+    → new ≡ old ++ (123 ∷ (((role ++ start) ++ length) ++ 125 ∷ []))
+put-part role start length old begun with_role with_start with_length new d e f g h =
+    let first = old ++ 123 ∷ [] in
+    h ∙ ap (λ (t : List ℕ). t ++ 125 ∷ []) (g ∙ ap (λ (t : List ℕ). t ++ length) (f ∙ ap (λ (t : List ℕ). t ++ start) (e ∙ ap (λ (t : List ℕ). t ++ role) d) ∙ append_assoc first role start) ∙ append_assoc first (role ++ start) length)
+    ∙ append_assoc first ((role ++ start) ++ length) (125 ∷ []) ∙ append_assoc old (123 ∷ []) (((role ++ start) ++ length) ++ 125 ∷ [])
 
 -- a name, after a comma or not
 pub put-name : (has_some : Bool) (name old begun mid new : List ℕ) → begun ≡ old ++ cond has_some (44 ∷ []) [] → mid ≡ begun ++ quoted name → new ≡ mid ++ 58 ∷ [] → new ≡ old ++ print_from has_some (Token.key name ∷ [])
@@ -91,6 +149,18 @@ object-text members =
     ap (λ (ts : List Token). 123 ∷ print_from false ts) (tokens-front members)
     ∙ ap (λ (t : List ℕ). 123 ∷ t) (print_from-append false (front_of members) (Token.end_object ∷ []) ∙ ap (λ (t : List ℕ). members_text false members ++ t) (end-text (fold (λ _ u. ends u) false (front_of members))))
 
+-- a part's
+pub part-text : (part : Part) → print (json_tokens (part_object part)) ≡ 123 ∷ (((members_text false (member (codes "role") (string (role_name part.role)) no_members)
+    ++ members_text true (member (codes "start") (number (decimal part.start)) no_members)) ++ members_text true (member (codes "length") (number (decimal part.length)) no_members)) ++ 125 ∷ [])
+part-text part =
+    let last : Members = member (codes "length") (number (decimal part.length)) no_members in
+    let later : Members = member (codes "start") (number (decimal part.start)) last in
+    let role = members_text false (member (codes "role") (string (role_name part.role)) no_members) in
+    let start = members_text true (member (codes "start") (number (decimal part.start)) no_members) in
+    object-text (member (codes "role") (string (role_name part.role)) later)
+    ∙ ap (λ (t : List ℕ). 123 ∷ (t ++ 125 ∷ [])) (text-word false (codes "role") (role_name part.role) later
+    ∙ ap (λ (t : List ℕ). role ++ t) (text-number true (codes "start") (decimal part.start) last) ∙ sym (append_assoc role start (members_text true last)))
+
 -- the members of a name after those of its line
 pub all-members : (line : Option ℕ) (name : List ℕ) (meaning : Meaning) → print (json_tokens (object_of line name meaning))
     ≡ 123 ∷ (((members_text false (line_members line) ++ members_text (is_some line) (member (codes "symbol") (text_of name) no_members)) ++ members_text true (meaning_members meaning)) ++ 125 ∷ [])
@@ -113,8 +183,20 @@ refusal-numbers (BadValue at) fits = (tt, (IsNumber-decimal at fits, tt))
 refusal-numbers TooLong fits = (tt, tt)
 refusal-numbers Memory fits = tt
 
+part-numbers : (parts : List Part) → All IsPart parts → ItemsHaveNumbers (part_items parts)
+part-numbers [] all = tt
+part-numbers (part ∷ parts) all =
+    let first = all 0 part (omega arith) in (
+      (tt, (IsNumber-decimal part.start first.0, (IsNumber-decimal part.length first.1, tt))),
+      part-numbers parts (λ k d lt. all (suc k) d (omega (arith, lt))),
+    )
+
+detail-numbers : (details : Option Details) → AreDetails details → MembersHaveNumbers (detail_members details)
+detail-numbers None fits = tt
+detail-numbers (Some details) fits = (tt, (part-numbers details.parts fits, tt))
+
 meaning-numbers : (meaning : Meaning) → IsMeaning meaning → MembersHaveNumbers (meaning_members meaning)
-meaning-numbers (has_text mangling text) fits = (tt, (tt, (tt, tt)))
+meaning-numbers (has_text mangling text details) fits = (tt, (tt, (tt, detail-numbers details fits)))
 meaning-numbers (refused refusal) fits = refusal-numbers refusal fits
 meaning-numbers no_symbol fits = (tt, tt)
 
@@ -122,15 +204,21 @@ object-numbers : (line : Option ℕ) (name : List ℕ) (meaning : Meaning) → I
 object-numbers None name meaning fits is = (tt, meaning-numbers meaning is)
 object-numbers (Some line) name meaning fits is = (IsNumber-decimal line fits, (tt, meaning-numbers meaning is))
 
+parts-shallow : (parts : List Part) → items_depth (part_items parts) ≤ 1
+parts-shallow [] = omega arith
+parts-shallow (part ∷ parts) = omega (arith, parts-shallow parts)
+
 object-shallow : (line : Option ℕ) (name : List ℕ) (meaning : Meaning) → depth (object_of line name meaning) ≤ max_depth
-object-shallow None name (has_text mangling text) = omega arith
+object-shallow None name (has_text mangling text None) = omega arith
+object-shallow None name (has_text mangling text (Some details)) = omega (arith, parts-shallow details.parts)
 object-shallow None name (refused (Malformed at)) = omega arith
 object-shallow None name (refused (BadReference at)) = omega arith
 object-shallow None name (refused (BadValue at)) = omega arith
 object-shallow None name (refused TooLong) = omega arith
 object-shallow None name (refused Memory) = omega arith
 object-shallow None name no_symbol = omega arith
-object-shallow (Some line) name (has_text mangling text) = omega arith
+object-shallow (Some line) name (has_text mangling text None) = omega arith
+object-shallow (Some line) name (has_text mangling text (Some details)) = omega (arith, parts-shallow details.parts)
 object-shallow (Some line) name (refused (Malformed at)) = omega arith
 object-shallow (Some line) name (refused (BadReference at)) = omega arith
 object-shallow (Some line) name (refused (BadValue at)) = omega arith

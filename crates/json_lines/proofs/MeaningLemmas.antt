@@ -7,32 +7,35 @@ use Rattle.sym_filter.specs.Kinds.{kind_of, symbol_of}
 use Rattle.sym_filter.specs.Runs.{Answering, text_for, trimmed}
 use Rattle.sym_filter.specs.declared.kinds.Kind.{Kind}
 use Rattle.json_lines.specs.declared.manglings.Mangling.{Mangling}
+use Rattle.text_details.specs.Details.{Details, Detailing}
 use Rattle.json_lines.specs.Meanings.{no_symbol, answered, mangling_of, meaning_by, named_by, stays, symbol_meaning}
 
-pub unnamed : (reads_paths : Bool) (answers : Answering) (name : List ℕ) → kind_of name ≡ None → no_symbol ≡ symbol_meaning reads_paths answers name
+pub unnamed : (reads_paths : Bool) (answers : Answering) (details : Detailing) (name : List ℕ) → kind_of name ≡ None → no_symbol ≡ symbol_meaning reads_paths answers details name
 unfolding symbol_meaning
-unnamed reads_paths answers name none = sym (ap (meaning_by reads_paths answers name) none)
+unnamed reads_paths answers details name none = sym (ap (meaning_by reads_paths answers details name) none)
 
-pub named : (reads_paths : Bool) (answers : Answering) (name symbol : List ℕ) (kind : Kind) (mangling : Mangling) (answer : Result (List ℕ) Refusal) → kind_of name ≡ Some kind → symbol ≡ symbol_of kind name
-    → mangling ≡ mangling_of reads_paths kind.lang symbol → answers kind symbol ≡ answer → answered mangling answer ≡ symbol_meaning reads_paths answers name
+pub named : (reads_paths : Bool) (answers : Answering) (details : Detailing) (name symbol : List ℕ) (kind : Kind) (mangling : Mangling) (found : Option Details) (answer : Result (List ℕ) Refusal) → kind_of name ≡ Some kind → symbol ≡ symbol_of kind name
+    → mangling ≡ mangling_of reads_paths kind.lang symbol → found ≡ details kind symbol → answers kind symbol ≡ answer → answered mangling found answer ≡ symbol_meaning reads_paths answers details name
 unfolding symbol_meaning
-named reads_paths answers name symbol kind mangling answer kind_is same is given =
-    ap₂ answered (is ∙ ap (mangling_of reads_paths kind.lang) same) (sym given ∙ ap (answers kind) same) ∙ sym (ap (meaning_by reads_paths answers name) kind_is)
+named reads_paths answers details name symbol kind mangling found answer kind_is same is known given =
+    ap (λ (m : Mangling). answered m found answer) (is ∙ ap (mangling_of reads_paths kind.lang) same)
+    ∙ ap₂ (answered (mangling_of reads_paths kind.lang (symbol_of kind name))) (known ∙ ap (details kind) same) (sym given ∙ ap (answers kind) same)
+    ∙ sym (ap (meaning_by reads_paths answers details name) kind_is)
 
 -- ## Whether a word has a text
 
-known : (mangling : Mangling) (answer : Result (List ℕ) Refusal) → not (stays (answered mangling answer)) ≡ is_some (result_ok answer)
-known mangling (Ok text) = refl
-known mangling (Err refusal) = refl
+known : (mangling : Mangling) (details : Option Details) (answer : Result (List ℕ) Refusal) → not (stays (answered mangling details answer)) ≡ is_some (result_ok answer)
+known mangling details (Ok text) = refl
+known mangling details (Err refusal) = refl
 
-known-by : (reads_paths : Bool) (answers : Answering) (word : List ℕ) (kind : Option Kind)
-    → not (stays (meaning_by reads_paths answers word kind)) ≡ is_some (option_and_then (λ kind. result_ok (answers kind (symbol_of kind word))) kind)
-known-by reads_paths answers word None = refl
-known-by reads_paths answers word (Some kind) = known (mangling_of reads_paths kind.lang (symbol_of kind word)) (answers kind (symbol_of kind word))
+known-by : (reads_paths : Bool) (answers : Answering) (details : Detailing) (word : List ℕ) (kind : Option Kind)
+    → not (stays (meaning_by reads_paths answers details word kind)) ≡ is_some (option_and_then (λ kind. result_ok (answers kind (symbol_of kind word))) kind)
+known-by reads_paths answers details word None = refl
+known-by reads_paths answers details word (Some kind) = known (mangling_of reads_paths kind.lang (symbol_of kind word)) (details kind (symbol_of kind word)) (answers kind (symbol_of kind word))
 
-pub text-known : (reads_paths : Bool) (answers : Answering) (word : List ℕ) → not (stays (symbol_meaning reads_paths answers word)) ≡ is_some (text_for answers word)
+pub text-known : (reads_paths : Bool) (answers : Answering) (details : Detailing) (word : List ℕ) → not (stays (symbol_meaning reads_paths answers details word)) ≡ is_some (text_for answers word)
 unfolding symbol_meaning text_for
-text-known reads_paths answers word = known-by reads_paths answers word (kind_of word)
+text-known reads_paths answers details word = known-by reads_paths answers details word (kind_of word)
 
 -- ## The name that a word is
 

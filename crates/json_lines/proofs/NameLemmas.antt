@@ -9,33 +9,34 @@ use Rattle.sym_filter.specs.Runs.{Answering}
 use Rattle.sym_filter.specs.Streams.{PutsFront}
 use Rattle.sym_filter.proofs.StreamLemmas.{Appends-none, Appends-join}
 use Rattle.demangle_names.proofs.NameLemmas.{flat-more}
+use Rattle.text_details.specs.Details.{Detailing}
 use Rattle.json_lines.specs.Objects.{name_line, name_lines, name_stays, names_stay}
 
 -- the lines of the names so far
-pub record SoFar (types reads_paths : Bool) (answers : Answering) (names : List (List ℕ)) (one_stays : Bool) (out out' : Option (List ℕ)) : Type 0 where
-  pub to_out : Appends out out' (name_lines types reads_paths answers names)
-  pub stay : one_stays ≡ names_stay types reads_paths answers names
+pub record SoFar (types reads_paths : Bool) (answers : Answering) (details : Detailing) (names : List (List ℕ)) (one_stays : Bool) (out out' : Option (List ℕ)) : Type 0 where
+  pub to_out : Appends out out' (name_lines types reads_paths answers details names)
+  pub stay : one_stays ≡ names_stay types reads_paths answers details names
 
-module _ (types reads_paths : Bool) (answers : Answering) where
-  pub SoFar-begin : (out : Option (List ℕ)) → SoFar types reads_paths answers [] false out out
+module _ (types reads_paths : Bool) (answers : Answering) (details : Detailing) where
+  pub SoFar-begin : (out : Option (List ℕ)) → SoFar types reads_paths answers details [] false out out
   SoFar-begin out = record { to_out = Appends-none out; stay = refl }
 
   -- one name more
-  pub SoFar-more : (names all : List (List ℕ)) (name : List ℕ) (old new left : Bool) (out mid out' : Option (List ℕ)) → SoFar types reads_paths answers names old out mid → all ≡ names ++ name ∷ []
-      → Appends mid out' (name_line types reads_paths answers name) → left ≡ name_stays types reads_paths answers name → new ≡ (old || left) → SoFar types reads_paths answers all new out out'
+  pub SoFar-more : (names all : List (List ℕ)) (name : List ℕ) (old new left : Bool) (out mid out' : Option (List ℕ)) → SoFar types reads_paths answers details names old out mid → all ≡ names ++ name ∷ []
+      → Appends mid out' (name_line types reads_paths answers details name) → left ≡ name_stays types reads_paths answers details name → new ≡ (old || left) → SoFar types reads_paths answers details all new out out'
   SoFar-more names all name old new left out mid out' so_far e wrote is chosen =
-      let line = name_line types reads_paths answers in
-      let stay = name_stays types reads_paths answers in record {
+      let line = name_line types reads_paths answers details in
+      let stay = name_stays types reads_paths answers details in record {
         to_out = subst (λ (t : List ℕ). Appends out out' t) (sym (flat-more line names all name e)) (Appends-join out mid out' (flat_map line names) (line name) so_far.to_out wrote);
         stay =
             chosen ∙ ap₂ (λ (a b : Bool). a || b) so_far.stay (is ∙ sym (or-false (stay name))) ∙ sym (ap (list_any stay) e ∙ list_any-append stay names (name ∷ []));
       }
 
   -- a part of one name more
-  pub SoFar-stopped : (names rest all : List (List ℕ)) (name : List ℕ) (one_stays : Bool) (out mid out' : Option (List ℕ)) → SoFar types reads_paths answers names one_stays out mid → all ≡ names ++ name ∷ rest
-      → PutsFront mid out' [] (name_line types reads_paths answers name) → PutsFront out out' [] (name_lines types reads_paths answers all)
+  pub SoFar-stopped : (names rest all : List (List ℕ)) (name : List ℕ) (one_stays : Bool) (out mid out' : Option (List ℕ)) → SoFar types reads_paths answers details names one_stays out mid → all ≡ names ++ name ∷ rest
+      → PutsFront mid out' [] (name_line types reads_paths answers details name) → PutsFront out out' [] (name_lines types reads_paths answers details all)
   SoFar-stopped names rest all name one_stays out mid out' so_far e front =
-      let line = name_line types reads_paths answers in
+      let line = name_line types reads_paths answers details in
       let first = flat_map line names in
       let later = flat_map line rest in record {
         gone = first ++ front.gone;

@@ -7,6 +7,7 @@ use Rattle.sym_filter.specs.Runs.{Answering, text_for, trimmed}
 use Rattle.sym_filter.specs.declared.kinds.Kind.{Kind}
 use Rattle.sym_filter.specs.declared.kinds.Lang.{Lang}
 use Rattle.sym_filter.specs.declared.kinds.Lang.TheVariants.{Cpp, Rust}
+use Rattle.text_details.specs.Details.{Details, Detailing, details_in}
 use Rattle.type_names.specs.Types.{type_for}
 use Rattle.json_lines.specs.declared.manglings.Mangling.{Mangling}
 use Rattle.json_lines.specs.declared.manglings.Mangling.TheVariants.{Itanium, RustV0, RustLegacy}
@@ -32,44 +33,45 @@ mangling_of reads_paths Rust symbol = RustV0
 
 -- ## Meanings
 
--- a symbol or a type with a text, a symbol that has none, and why, or no symbol
+-- a symbol or a type with a text, and maybe its details; a symbol that has none, and why; or no symbol
 pub data Meaning : Type 0 where
-  has_text : Mangling → List ℕ → Meaning
+  has_text : Mangling → List ℕ → Option Details → Meaning
   refused : Refusal → Meaning
   no_symbol : Meaning
 
 -- by what is answered for a symbol
-abbrev pub answered : Mangling → Result (List ℕ) Refusal → Meaning
-answered mangling (Ok text) = has_text mangling text
-answered mangling (Err refusal) = refused refusal
+abbrev pub answered : Mangling → Option Details → Result (List ℕ) Refusal → Meaning
+answered mangling details (Ok text) = has_text mangling text details
+answered mangling details (Err refusal) = refused refusal
 
 -- of a name as a symbol, by its kind
-abbrev pub meaning_by : (reads_paths : Bool) → Answering → List ℕ → Option Kind → Meaning
-meaning_by reads_paths answers name None = no_symbol
-meaning_by reads_paths answers name (Some kind) =
-    answered (mangling_of reads_paths kind.lang (symbol_of kind name)) (answers kind (symbol_of kind name))
+abbrev pub meaning_by : (reads_paths : Bool) → Answering → Detailing → List ℕ → Option Kind → Meaning
+meaning_by reads_paths answers details name None = no_symbol
+meaning_by reads_paths answers details name (Some kind) =
+    answered (mangling_of reads_paths kind.lang (symbol_of kind name)) (details kind (symbol_of kind name)) (answers kind (symbol_of kind name))
 
-unfoldable pub symbol_meaning : (reads_paths : Bool) → Answering → List ℕ → Meaning
-symbol_meaning reads_paths answers name = meaning_by reads_paths answers name (kind_of name)
+unfoldable pub symbol_meaning : (reads_paths : Bool) → Answering → Detailing → List ℕ → Meaning
+symbol_meaning reads_paths answers details name = meaning_by reads_paths answers details name (kind_of name)
 
 -- of a name that may be a type
 abbrev pub meaning_or : Option (List ℕ) → Meaning → Meaning
-meaning_or (Some text) meaning = has_text Itanium text
+meaning_or (Some text) meaning = has_text Itanium text None
 meaning_or None meaning = meaning
 
--- What a name is: a type, where types are read and it is one, or else what is answered for it as a symbol.
-abbrev pub meaning_of : (types reads_paths : Bool) → Answering → List ℕ → Meaning
-meaning_of types reads_paths answers name = meaning_or (type_for types answers name) (symbol_meaning reads_paths answers name)
+-- What a name is: a type, where types are read and it is one, or else what is answered for it as a symbol. No details are known of
+-- types.
+abbrev pub meaning_of : (types reads_paths : Bool) → Answering → Detailing → List ℕ → Meaning
+meaning_of types reads_paths answers details name = meaning_or (type_for types answers name) (symbol_meaning reads_paths answers details name)
 
 -- a name stays that has no text
 abbrev pub stays : Meaning → Bool
-stays (has_text mangling text) = false
+stays (has_text mangling text details) = false
 stays (refused refusal) = true
 stays no_symbol = true
 
 -- what code has of it
 abbrev pub meaning_in : Meaning-type → Meaning
-meaning_in (meanings.Text text mangling) = has_text mangling text.items
+meaning_in (meanings.Text text mangling details) = has_text mangling text.items (details_in details)
 meaning_in (meanings.Refused refusal) = refused refusal
 meaning_in meanings.NoSymbol = no_symbol
 

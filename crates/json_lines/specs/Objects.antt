@@ -3,15 +3,18 @@ use Rattle.std.specs.Prelude.{◌≡◌, ◌<◌, ◌^◌, ℕ, List, [], ◌∷
 use Rattle.std.specs.Fmt.{decimal}
 use Rattle.std.specs.List.{All, flat_map, list_any}
 use Rattle.std.specs.Str.Lossy.{utf8_lossy}
-use Rattle.json.specs.Json.{Json, string, number, object, Members, no_members, member, document}
+use Rattle.json.specs.Json.{Json, string, number, array, object, Items, no_items, item, Members, no_members, member, document}
 use Rattle.json.specs.Print.{escape, print}
 use Rattle.json.specs.Tree.{json_tokens}
 use Rattle.sym_core.specs.declared.refusal.Refusal.{Refusal}
 use Rattle.sym_core.specs.declared.refusal.Refusal.TheVariants.{Malformed, BadReference, BadValue, TooLong, Memory}
 use Rattle.sym_filter.specs.Runs.{Answering}
+use Rattle.sym_parts.specs.Words.{kind_name, role_name}
+use Rattle.sym_parts.specs.declared.part.Part.{Part}
 use Rattle.demangle_names.specs.Escaped.{escaped}
 use Rattle.demangle_names.specs.Saying.{Saying}
 use Rattle.json_lines.specs.declared.manglings.Mangling.{Mangling}
+use Rattle.text_details.specs.Details.{Details, Detailing}
 use Rattle.json_lines.specs.Meanings.{Meaning, has_text, refused, no_symbol, language_of, mangling_name, meaning_of, named_by, stays, symbol_meaning}
 
 -- ## Objects
@@ -34,14 +37,28 @@ refusal_members (BadValue at) = at_place (codes "bad-value") at
 refusal_members TooLong = without_place (codes "too-long")
 refusal_members Memory = no_members
 
--- the members that say how a name is mangled
-abbrev pub mangling_members : Mangling → Members
-mangling_members mangling =
-    member (codes "language") (string (language_of mangling)) (member (codes "mangling") (string (mangling_name mangling)) no_members)
+-- a part of a text: its role, and the stretch of the text's bytes that it is
+abbrev pub part_object : Part → Json
+part_object part =
+    object (member (codes "role") (string (role_name part.role)) (member (codes "start") (number (decimal part.start)) (member (codes "length") (number (decimal part.length)) no_members)))
+
+abbrev pub part_items : List Part → Items
+part_items [] = no_items
+part_items (part ∷ parts) = item (part_object part) (part_items parts)
+
+-- the members that say what a symbol is and which parts its text has, where that is known
+abbrev pub detail_members : Option Details → Members
+detail_members None = no_members
+detail_members (Some details) = member (codes "kind") (string (kind_name details.kind)) (member (codes "parts") (array (part_items details.parts)) no_members)
+
+-- the members that say how a name is mangled, before others
+abbrev pub mangling_members : Mangling → Members → Members
+mangling_members mangling others =
+    member (codes "language") (string (language_of mangling)) (member (codes "mangling") (string (mangling_name mangling)) others)
 
 -- the members that say what a name is
 abbrev pub meaning_members : Meaning → Members
-meaning_members (has_text mangling text) = member (codes "text") (text_of text) (mangling_members mangling)
+meaning_members (has_text mangling text details) = member (codes "text") (text_of text) (mangling_members mangling (detail_members details))
 meaning_members (refused refusal) = refusal_members refusal
 meaning_members no_symbol = without_place (codes "not-a-symbol")
 
@@ -66,31 +83,31 @@ abbrev pub json_line : Json → List ℕ
 json_line json = print (json_tokens json) ++ 10 ∷ []
 
 -- the line of a name
-abbrev pub name_line : (types reads_paths : Bool) → Answering → List ℕ → List ℕ
-name_line types reads_paths answers name = json_line (object_of None name (meaning_of types reads_paths answers name))
+abbrev pub name_line : (types reads_paths : Bool) → Answering → Detailing → List ℕ → List ℕ
+name_line types reads_paths answers details name = json_line (object_of None name (meaning_of types reads_paths answers details name))
 
 -- whether it has no text
-abbrev pub name_stays : (types reads_paths : Bool) → Answering → List ℕ → Bool
-name_stays types reads_paths answers name = stays (meaning_of types reads_paths answers name)
+abbrev pub name_stays : (types reads_paths : Bool) → Answering → Detailing → List ℕ → Bool
+name_stays types reads_paths answers details name = stays (meaning_of types reads_paths answers details name)
 
 -- the lines of names, one after the other
-abbrev pub name_lines : (types reads_paths : Bool) → Answering → List (List ℕ) → List ℕ
-name_lines types reads_paths answers names = flat_map (name_line types reads_paths answers) names
+abbrev pub name_lines : (types reads_paths : Bool) → Answering → Detailing → List (List ℕ) → List ℕ
+name_lines types reads_paths answers details names = flat_map (name_line types reads_paths answers details) names
 
 -- whether one of them has no text
-abbrev pub names_stay : (types reads_paths : Bool) → Answering → List (List ℕ) → Bool
-names_stay types reads_paths answers names = list_any (name_stays types reads_paths answers) names
+abbrev pub names_stay : (types reads_paths : Bool) → Answering → Detailing → List (List ℕ) → Bool
+names_stay types reads_paths answers details names = list_any (name_stays types reads_paths answers details) names
 
 -- What is said of a word of a text: the line of the name that it is, which has the number of the text's line, too.
-abbrev pub objects_of : (reads_paths : Bool) → Answering → Saying
-objects_of reads_paths answers = record {
-  says = λ line word. json_line (object_of (Some line) (named_by answers word) (symbol_meaning reads_paths answers (named_by answers word)));
-  stays = λ word. stays (symbol_meaning reads_paths answers (named_by answers word));
+abbrev pub objects_of : (reads_paths : Bool) → Answering → Detailing → Saying
+objects_of reads_paths answers details = record {
+  says = λ line word. json_line (object_of (Some line) (named_by answers word) (symbol_meaning reads_paths answers details (named_by answers word)));
+  stays = λ word. stays (symbol_meaning reads_paths answers details (named_by answers word));
 }
 
 -- ## Laws
 
--- a place and a line's number take at most 64 bits, as those of the program do
+-- a place, a part's bytes and a line's number take at most 64 bits, as those of the program do
 abbrev pub FitsWord : ℕ → Type 0
 FitsWord n = n < 2 ^ 64
 
@@ -101,8 +118,15 @@ HasPlace (BadValue at) = FitsWord at
 HasPlace TooLong = Unit {0}
 HasPlace Memory = Unit {0}
 
+abbrev pub IsPart : Part → Type 0
+IsPart part = FitsWord part.start × FitsWord part.length
+
+abbrev pub AreDetails : Option Details → Type 0
+AreDetails None = Unit {0}
+AreDetails (Some details) = All IsPart details.parts
+
 abbrev pub IsMeaning : Meaning → Type 0
-IsMeaning (has_text mangling text) = Unit {0}
+IsMeaning (has_text mangling text details) = AreDetails details
 IsMeaning (refused refusal) = HasPlace refusal
 IsMeaning no_symbol = Unit {0}
 

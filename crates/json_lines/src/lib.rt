@@ -5,6 +5,7 @@ mod lines;
 mod manglings;
 mod meanings;
 mod names;
+mod parts;
 mod strings;
 mod texts;
 mod unanswered;

@@ -10,6 +10,7 @@ ghost use Rattle.json_lines.specs.Tokens.{members_text};
 
 use crate::manglings::Mangling;
 use crate::meanings::Meaning;
+use crate::parts::push_details;
 use crate::strings::push_string;
 use std::alloc::{AllocError, Global};
 use sym_core::Refusal;
@@ -46,9 +47,14 @@ fn push_meaning(alloc: Global, meaning: &Meaning, out: &mut Vec<u8>) -> Result<(
     ensures { OnOk result (out.new.items ≡ out.old.items ++ members_text true (meaning_members (meaning_in meaning.now))) }
 {
     match meaning {
-        Meaning::Text { text, mangling } => {
+        Meaning::Text {
+            text,
+            mangling,
+            details,
+        } => {
             push_text(alloc, true, "text", text, out)?;
-            push_mangling(*mangling, out)
+            push_mangling(*mangling, out)?;
+            push_details(details, out)
         }
         Meaning::Refused(refusal) => push_refusal(*refusal, out),
         Meaning::NoSymbol => push_word("error", "not-a-symbol", out),
@@ -57,7 +63,7 @@ fn push_meaning(alloc: Global, meaning: &Meaning, out: &mut Vec<u8>) -> Result<(
 
 /// Appends the members that say how a name is mangled.
 fn push_mangling(mangling: Mangling, out: &mut Vec<u8>) -> Result<(), AllocError>
-    ensures { OnOk result (out.new.items ≡ out.old.items ++ members_text true (mangling_members mangling)) }
+    ensures { OnOk result (out.new.items ≡ out.old.items ++ members_text true (mangling_members mangling no_members)) }
 {
     push_word("language", mangling.language(), out)?;
     push_word("mangling", mangling.name(), out)
@@ -100,7 +106,7 @@ fn push_text(
 }
 
 /// Appends a member that is a word, where members come before it.
-fn push_word(name: &str, word: &str, out: &mut Vec<u8>) -> Result<(), AllocError>
+pub(crate) fn push_word(name: &str, word: &str, out: &mut Vec<u8>) -> Result<(), AllocError>
     ensures { OnOk result (out.new.items ≡ out.old.items ++ members_text true (member name.now (string word.now) no_members)) }
 {
     push_name(true, name, out)?;
@@ -108,7 +114,12 @@ fn push_word(name: &str, word: &str, out: &mut Vec<u8>) -> Result<(), AllocError
 }
 
 /// Appends a member that is a number, where members come before it or none.
-fn push_number(has_some: bool, name: &str, value: u64, out: &mut Vec<u8>) -> Result<(), AllocError>
+pub(crate) fn push_number(
+    has_some: bool,
+    name: &str,
+    value: u64,
+    out: &mut Vec<u8>,
+) -> Result<(), AllocError>
     ensures { OnOk result (out.new.items ≡ out.old.items ++ members_text has_some (member name.now (number (decimal value)) no_members)) }
 {
     push_name(has_some, name, out)?;
@@ -118,7 +129,7 @@ fn push_number(has_some: bool, name: &str, value: u64, out: &mut Vec<u8>) -> Res
 }
 
 /// Appends the name of a member, after a comma where members come before it.
-fn push_name(has_some: bool, name: &str, out: &mut Vec<u8>) -> Result<(), AllocError>
+pub(crate) fn push_name(has_some: bool, name: &str, out: &mut Vec<u8>) -> Result<(), AllocError>
     ensures { OnOk result (out.new.items ≡ out.old.items ++ print_from has_some (key name.now ∷ [])) }
 {
     if has_some {

@@ -5,14 +5,19 @@ ghost use Rattle.json_lines.specs.Meanings.{meaning_in, meaning_of, stays, symbo
 use crate::manglings::{Mangling, mangling_of};
 use std::alloc::{AllocError, Global};
 use sym_core::Refusal;
-use sym_filter::{Demangler, kind_of};
+use sym_filter::kind_of;
+use text_details::{Detailed, Details};
 use type_names::type_for;
 
 /// What a name is.
 #[derive(Drop)]
 pub enum Meaning {
-    /// A symbol or a type, and its text.
-    Text { text: Vec<u8>, mangling: Mangling },
+    /// A symbol or a type, its text, and the details of the text, where they are known.
+    Text {
+        text: Vec<u8>,
+        mangling: Mangling,
+        details: Option<Details>,
+    },
     /// A symbol that has no text, and why.
     Refused(Refusal),
     /// No symbol.
@@ -33,32 +38,33 @@ impl Meaning {
 }
 
 /// What a name is: a type, where types are read and it is one, or else what is answered for it as a symbol.
-pub(crate) fn meaning_of<D: Demangler>(
+pub(crate) fn meaning_of<D: Detailed>(
     alloc: Global,
     demangler: &D,
     types: bool,
     reads_paths: bool,
     name: &[u8],
 ) -> Result<Meaning, AllocError>
-    ensures { IfOk result (λ meaning. meaning_in meaning ≡ meaning_of types reads_paths (D.answer demangler.now) name.now) }
+    ensures { IfOk result (λ meaning. meaning_in meaning ≡ meaning_of types reads_paths (D.answer demangler.now) (D.details demangler.now) name.now) }
 {
     match type_for(alloc, demangler, types, name)? {
         Some(text) => Ok(Meaning::Text {
             text,
             mangling: Mangling::Itanium,
+            details: None,
         }),
         None => symbol_meaning(alloc, demangler, reads_paths, name),
     }
 }
 
 /// What a name is as a symbol.
-pub(crate) fn symbol_meaning<D: Demangler>(
+pub(crate) fn symbol_meaning<D: Detailed>(
     alloc: Global,
     demangler: &D,
     reads_paths: bool,
     name: &[u8],
 ) -> Result<Meaning, AllocError>
-    ensures { IfOk result (λ meaning. meaning_in meaning ≡ symbol_meaning reads_paths (D.answer demangler.now) name.now) }
+    ensures { IfOk result (λ meaning. meaning_in meaning ≡ symbol_meaning reads_paths (D.answer demangler.now) (D.details demangler.now) name.now) }
 {
     let Some(kind) = kind_of(name) else {
         return Ok(Meaning::NoSymbol);
@@ -69,7 +75,12 @@ pub(crate) fn symbol_meaning<D: Demangler>(
     match demangler.append(&mut lists, kind, symbol, &mut text) {
         Ok(()) => {
             let mangling = mangling_of(reads_paths, kind.lang, symbol);
-            Ok(Meaning::Text { text, mangling })
+            let details = demangler.find_details(alloc, kind, symbol)?;
+            Ok(Meaning::Text {
+                text,
+                mangling,
+                details,
+            })
         }
         Err(refusal) => match refusal {
             Refusal::Memory => Err(AllocError),

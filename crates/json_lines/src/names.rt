@@ -9,14 +9,15 @@ use crate::lines::line_of;
 use crate::meanings::meaning_of;
 use demangle_names::Options;
 use std::alloc::Global;
-use sym_filter::{Demangler, FilterFault, Sink, write_all};
+use sym_filter::{FilterFault, Sink, write_all};
+use text_details::Detailed;
 
 /// Writes the line of each name, and answers whether one of them has no text.
 ///
 /// # Errors
 ///
 /// `Write` and `Memory`. What was written is a beginning of these lines.
-pub fn answer_objects<D: Demangler, W: Sink>(
+pub fn answer_objects<D: Detailed, W: Sink>(
     alloc: Global,
     demangler: &D,
     options: Options,
@@ -25,11 +26,11 @@ pub fn answer_objects<D: Demangler, W: Sink>(
 ) -> Result<bool, FilterFault>
     requires out_failures { W.failure_count out.old < 2 ^ 64 - 1 }
     ensures lines { OnOk result (Appends (W.taken out.old) (W.taken out.new)
-        (name_lines options.types (reads_paths options.style) (D.answer demangler.now) (map (λ name. name.now) names.now))) }
+        (name_lines options.types (reads_paths options.style) (D.answer demangler.now) (D.details demangler.now) (map (λ name. name.now) names.now))) }
     ensures stays { IfOk result (λ one_stays. one_stays
-        ≡ names_stay options.types (reads_paths options.style) (D.answer demangler.now) (map (λ name. name.now) names.now)) }
+        ≡ names_stay options.types (reads_paths options.style) (D.answer demangler.now) (D.details demangler.now) (map (λ name. name.now) names.now)) }
     ensures err { OnErr result (PutsFront (W.taken out.old) (W.taken out.new) []
-        (name_lines options.types (reads_paths options.style) (D.answer demangler.now) (map (λ name. name.now) names.now))) }
+        (name_lines options.types (reads_paths options.style) (D.answer demangler.now) (D.details demangler.now) (map (λ name. name.now) names.now))) }
     ensures fault { IfErr result (λ fault. fault ≢ FilterFault.Read) }
     ensures failures { W.failure_count out.new ≡ W.failure_count out.old + writer_faults result }
 {
@@ -44,7 +45,7 @@ pub fn answer_objects<D: Demangler, W: Sink>(
 }
 
 /// Writes the line of a name, and answers whether it has no text.
-fn answer_object<D: Demangler, W: Sink>(
+fn answer_object<D: Detailed, W: Sink>(
     alloc: Global,
     demangler: &D,
     options: Options,
@@ -53,10 +54,10 @@ fn answer_object<D: Demangler, W: Sink>(
 ) -> Result<bool, FilterFault>
     requires out_failures { W.failure_count out.old < 2 ^ 64 - 1 }
     ensures line { OnOk result (Appends (W.taken out.old) (W.taken out.new)
-        (name_line options.types (reads_paths options.style) (D.answer demangler.now) name.now)) }
-    ensures stays { IfOk result (λ left. left ≡ name_stays options.types (reads_paths options.style) (D.answer demangler.now) name.now) }
+        (name_line options.types (reads_paths options.style) (D.answer demangler.now) (D.details demangler.now) name.now)) }
+    ensures stays { IfOk result (λ left. left ≡ name_stays options.types (reads_paths options.style) (D.answer demangler.now) (D.details demangler.now) name.now) }
     ensures err { OnErr result (PutsFront (W.taken out.old) (W.taken out.new) []
-        (name_line options.types (reads_paths options.style) (D.answer demangler.now) name.now)) }
+        (name_line options.types (reads_paths options.style) (D.answer demangler.now) (D.details demangler.now) name.now)) }
     ensures fault { IfErr result (λ fault. fault ≢ FilterFault.Read) }
     ensures failures { W.failure_count out.new ≡ W.failure_count out.old + writer_faults result }
 {

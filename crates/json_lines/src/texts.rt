@@ -10,20 +10,21 @@ use crate::meanings::symbol_meaning;
 use crate::unanswered::{Nowhere, Unanswered};
 use demangle_names::{Said, Says, WordReport};
 use std::alloc::{AllocError, Global};
-use sym_filter::{Demangler, FilterFault, Letters, Sink, Source, filter_telling};
+use sym_filter::{FilterFault, Letters, Sink, Source, filter_telling};
+use text_details::Detailed;
 
 /// Says of each word what it is, by an object.
 #[derive(Clone, Copy, Drop)]
-pub struct Objects<'r, D: Demangler> {
+pub struct Objects<'r, D: Detailed> {
     pub demangler: &'r D,
     /// Whether legacy Rust names are read as paths.
     pub reads_paths: bool,
 }
 
-impl<'r, D: Demangler> Says for Objects<'r, D> {
+impl<'r, D: Detailed> Says for Objects<'r, D> {
     ghost use Rattle.json_lines.specs.Objects.{objects_of};
 
-    ghost saying = { λ objects. objects_of objects.reads_paths (D.answer objects.demangler.now) };
+    ghost saying = { λ objects. objects_of objects.reads_paths (D.answer objects.demangler.now) (D.details objects.demangler.now) };
 
     fn say(&self, alloc: Global, line: u64, word: &[u8]) -> Result<Said, AllocError> {
         let name = named_by(alloc, self.demangler, word)?;
@@ -37,7 +38,7 @@ impl<'r, D: Demangler> Says for Objects<'r, D> {
 }
 
 /// The name that a word of a text is: without its last bytes that are dots or aren't ASCII where that has a text, or else the word.
-fn named_by<'w, D: Demangler>(
+fn named_by<'w, D: Detailed>(
     alloc: Global,
     demangler: &D,
     word: &'w [u8],
@@ -56,7 +57,7 @@ fn named_by<'w, D: Demangler>(
 }
 
 /// Whether a word has a text.
-fn has_text<D: Demangler>(alloc: Global, demangler: &D, word: &[u8]) -> Result<bool, AllocError>
+fn has_text<D: Detailed>(alloc: Global, demangler: &D, word: &[u8]) -> Result<bool, AllocError>
     ensures { IfOk result (λ has. has ≡ is_some (text_for (D.answer demangler.now) word.now)) }
 {
     // whether legacy Rust names are paths changes no answer
@@ -85,7 +86,7 @@ fn trimmed_end(word: &[u8]) -> usize
 /// # Errors
 ///
 /// `Read` and `Write` where a stream failed, `Memory`. What was written is a beginning of these lines.
-pub fn tell_objects<D: Demangler, S: Source, W: Sink>(
+pub fn tell_objects<D: Detailed, S: Source, W: Sink>(
     alloc: Global,
     demangler: &D,
     reads_paths: bool,
@@ -94,8 +95,8 @@ pub fn tell_objects<D: Demangler, S: Source, W: Sink>(
 ) -> Result<bool, FilterFault>
     requires in_failures { S.failure_count input.old < 2 ^ 64 - 1 }
     requires out_failures { W.failure_count out.old < 2 ^ 64 - 1 }
-    ensures ok { IfOk result (TellsObjects reads_paths (D.answer demangler.now) (S.coming input.old) (S.coming input.new) (W.taken out.old) (W.taken out.new)) }
-    ensures err { OnErr result (TellsObjectsFront reads_paths (D.answer demangler.now) (S.coming input.old) (S.coming input.new) (W.taken out.old) (W.taken out.new)) }
+    ensures ok { IfOk result (TellsObjects reads_paths (D.answer demangler.now) (D.details demangler.now) (S.coming input.old) (S.coming input.new) (W.taken out.old) (W.taken out.new)) }
+    ensures err { OnErr result (TellsObjectsFront reads_paths (D.answer demangler.now) (D.details demangler.now) (S.coming input.old) (S.coming input.new) (W.taken out.old) (W.taken out.new)) }
     ensures read_failed { S.failure_count input.new ≡ S.failure_count input.old + reader_faults result }
     ensures write_failed { W.failure_count out.new ≡ W.failure_count out.old + writer_faults result }
 {

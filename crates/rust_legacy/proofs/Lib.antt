@@ -9,3 +9,4 @@ pub mod Legacy
 pub mod Reading
 pub mod Bounds
 pub mod Short
+pub mod Measuring

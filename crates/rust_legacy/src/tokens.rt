@@ -35,7 +35,7 @@ pub fn write(left: u32, bytes: &[u8], out: &mut Vec<u8>) -> Result<u32, Refusal>
 }
 
 /// How many of the first bytes are neither dots nor dollars.
-fn plain_in(bytes: &[u8]) -> usize
+pub fn plain_in(bytes: &[u8]) -> usize
     ensures count { result ≡ prefix_len is_plain bytes.now }
     ensures within { result ≤ length bytes.now }
 {

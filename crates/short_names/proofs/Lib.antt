@@ -3,6 +3,7 @@ pub mod BracketLemmas
 pub mod ChangeLemmas
 pub mod CloseLemmas
 pub mod ClosingLemmas
+pub mod ConstructorSteps
 pub mod ElementLemmas
 pub mod EndLemmas
 pub mod FindingLemmas
@@ -25,6 +26,7 @@ pub mod PartLaws
 pub mod PartLists
 pub mod PartRules
 pub mod PartSteps
+pub mod PartTexts
 pub mod PartWalks
 pub mod PatternLemmas
 pub mod PlainLemmas
@@ -37,5 +39,6 @@ pub mod StringLemmas
 pub mod TemplateLemmas
 pub mod UsualLaws
 pub mod UsualNames
+pub mod UsualRows
 pub mod UsualSteps
 pub mod WalkLemmas

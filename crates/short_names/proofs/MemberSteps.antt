@@ -27,7 +27,7 @@ name-at [] k all less = absurd (omega (arith, less))
 name-at (byte ∷ name) zero all less = (and_parts (is_name_byte byte) _ all).0
 name-at (byte ∷ name) (suc k) all less = name-at name k (and_parts (is_name_byte byte) _ all).1 (omega (arith, less))
 
-get-behind : (x r : List ℕ) → get_or (x ++ r) (length x) 0 ≡ get_or r 0 0
+pub get-behind : (x r : List ℕ) → get_or (x ++ r) (length x) 0 ≡ get_or r 0 0
 get-behind [] r = refl
 get-behind (b ∷ x) r = get-behind x r
 
@@ -197,7 +197,7 @@ module _ (rest : List ℕ) (behind : IsBehind rest) (usual_name list member_name
       ∙ ap₂ (λ t k. Some (record { bytes = t ++ []; size = k + 0 })) goes_on.list_is goes_on.size_is
       ∙ ap₂ (λ t k. Some (record { bytes = t; size = k })) (append-nil list) (omega arith))
 
-  -- a member by itself, behind a list
+  -- a member by itself, after a list
   pub short-alone : (last : List ℕ) → written_for short_rules 0 (member_name ++ rest) (at [] last) ≡ written_for short_rules 0 rest (at [] (last ++ member_name))
   short-alone before =
       let left = short-leaves member_name rest goes_on.is_member in

@@ -11,35 +11,81 @@ use Rattle.short_names.specs.declared.table.Place.{Place}
 use Rattle.short_names.specs.declared.table.TheConstants.{DEFAULTS}
 use Rattle.short_names.specs.Elements.{element, filled_for, defaults_of, default_pattern, pattern_at, is_default, is_given, left, left_of, is_polymorphic, aliases_of}
 use Rattle.short_names.specs.Full.{with_defaults}
-use Rattle.short_names.specs.Parts.{differ_early, has_form, is_empty, is_simple}
+use Rattle.short_names.specs.Parts.{Parts, differ_early, form_in, forms, has_default, has_form, inner_forms, inner_in, is_empty, is_no_hole, is_plain, is_simple, is_some_default, is_some_form, is_template}
 use Rattle.short_names.specs.Patterns.{bit, filled, ticks}
 use Rattle.short_names.specs.Texts.{text_of}
 use Rattle.short_names.proofs.FrontLemmas.{false-from}
-use Rattle.short_names.proofs.PartForms.{literal}
-use Rattle.short_names.proofs.PartLists.{HaveForms, HasForm, form-of}
+use Rattle.short_names.proofs.PartForms.{and-both, literal}
+use Rattle.short_names.proofs.PartLists.{HasAny, HaveEach, HaveForms, any-of}
 use Rattle.short_names.proofs.PartWalks.{not-true}
 
 -- ## What is known of a template
 
+-- each pattern that isn't empty has one of the forms
+abbrev pub HaveAny : Named → List Place → Type 0
+HaveAny named places = HaveEach (has_default (text_of named.whole)) places
+
 pub record IsSimple (named : Named) : Type 0 where
-  pub no_usual : aliases_of named ≡ []
-  pub have_forms : HaveForms named (defaults_of named.template)
+  pub no_holes : list_all (λ (row : Alias). list_all is_no_hole (text_of row.arguments)) (aliases_of named) ≡ true
+  pub have_forms : HaveAny named (defaults_of named.template)
   pub none_first : (length (default_pattern named 0) == 0) ≡ true
   pub not_itself : list_all (λ byte. not (byte == 1)) (default_pattern named 1) ≡ true
   pub apart : (length (text_of named.template.polymorphic) == 0 || differ_early (default_pattern named (named.template.count - 1)) (text_of named.template.polymorphic)) ≡ true
+
+pub simple-parts : (named : Named) → is_simple (Some named) ≡ true → IsSimple named
+unfolding is_simple
+simple-parts named h =
+    let a = and_parts (list_all (λ (row : Alias). list_all is_no_hole (text_of row.arguments)) (aliases_of named)) _ h in
+    let b = and_parts (list_all (λ (place : Place). has_default (text_of named.whole) (text_of place)) (defaults_of named.template)) _ a.1 in
+    let c = and_parts (length (default_pattern named 0) == 0) _ b.1 in
+    let d = and_parts (list_all (λ byte. not (byte == 1)) (default_pattern named 1)) _ c.1 in
+    record { no_holes = a.0; have_forms = b.0; none_first = c.0; not_itself = d.0; apart = d.1 }
+
+-- a pattern of a form has one of all forms
+form-default : (whole pattern : List ℕ) → has_form whole pattern ≡ true → has_default whole pattern ≡ true
+unfolding has_form has_default
+form-default whole pattern h = by (length pattern == 0) (form_in forms pattern) h
+  where
+    by : (b : Bool) (f : Option Parts) → (b || is_some_form whole f) ≡ true → (b || is_some_default whole f (inner_in inner_forms pattern)) ≡ true
+    by true f h = refl
+    by false None h = absurd (true≢false (sym h))
+    by false (Some form) h = h
+
+each-default : (whole : List ℕ) (places : List Place) → list_all (λ (place : Place). has_form whole (text_of place)) places ≡ true → HaveEach (has_default whole) places
+each-default whole [] h = refl
+each-default whole (place ∷ places) h =
+    let a = and_parts (has_form whole (text_of place)) _ h in
+    and-both _ _ (form-default whole (text_of place) a.0) (each-default whole places a.1)
+
+pub template-default : (named : Named) → is_template has_form named ≡ true → is_template has_default named ≡ true
+template-default named h =
+    let a = and_parts (list_all (λ (row : Alias). list_all is_no_hole (text_of row.arguments)) (aliases_of named)) _ h in
+    let b = and_parts (list_all (λ (place : Place). has_form (text_of named.whole) (text_of place)) (defaults_of named.template)) _ a.1 in
+    and-both _ _ a.0 (and-both _ _ (each-default (text_of named.whole) (defaults_of named.template) b.0) b.1)
+
+-- What is known of a template whose lists are defaults.
+pub record IsPlain (named : Named) : Type 0 where
+  pub simple : IsSimple named
+  pub have_forms : HaveForms named (defaults_of named.template)
+  pub no_usual : aliases_of named ≡ []
+  pub more : (named.template.count == 1) ≡ false
 
 empty-is : (rows : List Alias) → is_empty rows ≡ true → rows ≡ []
 empty-is [] h = refl
 empty-is (row ∷ rows) h = absurd (true≢false (sym h))
 
-pub simple-parts : (named : Named) → is_simple (Some named) ≡ true → IsSimple named
-unfolding is_simple
-simple-parts named h =
-    let a = and_parts (is_empty (aliases_of named)) _ h in
-    let b = and_parts (list_all (λ (place : Place). has_form (text_of named.whole) (text_of place)) (defaults_of named.template)) _ a.1 in
-    let c = and_parts (length (default_pattern named 0) == 0) _ b.1 in
-    let d = and_parts (list_all (λ byte. not (byte == 1)) (default_pattern named 1)) _ c.1 in
-    record { no_usual = empty-is (aliases_of named) a.0; have_forms = b.0; none_first = c.0; not_itself = d.0; apart = d.1 }
+pub plain-parts : (named : Named) → is_plain (Some named) ≡ true → IsPlain named
+unfolding is_plain is_simple
+plain-parts named h =
+    let a = and_parts (is_template has_form named) _ h in
+    let b = and_parts (is_empty (aliases_of named)) _ a.1 in
+    let c = and_parts (list_all (λ (row : Alias). list_all is_no_hole (text_of row.arguments)) (aliases_of named)) _ a.0 in
+    record {
+      simple = simple-parts named (template-default named a.0);
+      have_forms = (and_parts (list_all (λ (place : Place). has_form (text_of named.whole) (text_of place)) (defaults_of named.template)) _ c.1).0;
+      no_usual = empty-is (aliases_of named) b.0;
+      more = not-true (named.template.count == 1) b.1;
+    }
 
 -- ## Patterns without the second hole
 
@@ -71,9 +117,13 @@ drop-all-forms p zero places all = all
 drop-all-forms p (suc n) [] all = all
 drop-all-forms p (suc n) (place ∷ places) all = drop-all-forms p n places (and_parts (p place) _ all).1
 
-pub lacks-forms : (named : Named) (n : ℕ) → IsSimple named → HaveForms named (lacks named n)
+pub lacks-forms : (named : Named) (n : ℕ) → IsSimple named → HaveAny named (lacks named n)
 unfolding lacks
-lacks-forms named n simple = drop-all-forms (λ (place : Place). has_form (text_of named.whole) (text_of place)) n (defaults_of named.template) simple.have_forms
+lacks-forms named n simple = drop-all-forms (λ (place : Place). has_default (text_of named.whole) (text_of place)) n (defaults_of named.template) simple.have_forms
+
+pub lacks-plain : (named : Named) (n : ℕ) → IsPlain named → HaveForms named (lacks named n)
+unfolding lacks
+lacks-plain named n plain = drop-all-forms (λ (place : Place). has_form (text_of named.whole) (text_of place)) n (defaults_of named.template) plain.have_forms
 
 drop-here : (n : ℕ) (places : List Place) (place : Place) (others : List Place) → drop n places ≡ place ∷ others → slice_get places n ≡ Some place
 drop-here zero [] place others e = absurd (cc)
@@ -298,7 +348,7 @@ module _ (named : Named) (simple : IsSimple named) where
 
   -- defaults are put in place one after the other
   module _ (full : List ℕ → List ℕ) (xs ys : List (List ℕ))
-      (again : (k : ℕ) → k < length ys → HasForm named (default_pattern named k) → element xs k ≡ filled_for named xs (default_pattern named k) → element ys k ≡ full (filled_for named ys (default_pattern named k))) where
+      (again : (k : ℕ) → k < length ys → HasAny named (default_pattern named k) → element xs k ≡ filled_for named xs (default_pattern named k) → element ys k ≡ full (filled_for named ys (default_pattern named k))) where
     take-next : (k : ℕ) (zs : List (List ℕ)) → k < length zs → take k zs ++ element zs k ∷ [] ≡ take (suc k) zs
     take-next k [] h = absurd (omega (arith, h))
     take-next zero (z ∷ zs) h = refl
@@ -313,8 +363,8 @@ module _ (named : Named) (simple : IsSimple named) where
         let place : Place = found.0 in
         let first = lacks-first named k place found.1 found.2 in
         let filled_in : (length (text_of place) == 0) ≡ false = ap (λ p. length p == 0) (sym first.0) ∙ default.0 in
-        let forms : has_form (text_of named.whole) (text_of place) ≡ true = (and_parts (has_form (text_of named.whole) (text_of place)) _ (subst (λ ps. HaveForms named ps) found.2 (lacks-forms named k simple))).0 in
-        let form : HasForm named (default_pattern named k) = subst (HasForm named) (sym first.0) (form-of named (text_of place) forms filled_in) in
+        let forms : has_default (text_of named.whole) (text_of place) ≡ true = (and_parts (has_default (text_of named.whole) (text_of place)) _ (subst (λ ps. HaveAny named ps) found.2 (lacks-forms named k simple))).0 in
+        let form : HasAny named (default_pattern named k) = subst (HasAny named) (sym first.0) (any-of named (text_of place) forms filled_in) in
         let holes : filled_for named (take k ys) (default_pattern named k) ≡ filled_for named ys (default_pattern named k) =
         first-holes k (take k ys) ys (default_pattern named k) refl some (omega (arith, less)) (λ one. subst (λ j. list_all (λ byte. not (byte == 1)) (default_pattern named j) ≡ true) (sym one) simple.not_itself) in
         let here : full (filled_for named (take k ys) (text_of place)) ≡ element ys k =

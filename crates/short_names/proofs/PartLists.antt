@@ -8,7 +8,7 @@ use Rattle.short_names.specs.declared.names.Named.{Named}
 use Rattle.short_names.specs.declared.table.Place.{Place}
 use Rattle.short_names.specs.Elements.{listed, element, filled_for}
 use Rattle.short_names.specs.Full.{with_defaults}
-use Rattle.short_names.specs.Parts.{Parts, ends, Elements, no_more, element_then, written, each_written, text_from, has_some, are_apart, each_apart, all_lists, all_lists_in, forms, form_in, is_form, is_some_form, has_form}
+use Rattle.short_names.specs.Parts.{Parts, ends, Elements, no_more, element_then, written, each_written, text_from, has_some, are_apart, each_apart, all_lists, all_lists_in, Inner, inner_forms, inner_in, inner_part, is_no_hole, is_plain_list, is_some_default, has_default, list_then, forms, form_in, is_form, is_some_form, has_form}
 use Rattle.short_names.specs.Patterns.{filled}
 use Rattle.short_names.specs.Texts.{text_of}
 use Rattle.short_names.proofs.PartForms.{and-both, in_holes, form-written, form-apart, form-all}
@@ -20,7 +20,7 @@ part_at no_more place = ends
 part_at (element_then part others) zero = part
 part_at (element_then part others) (suc place) = part_at others place
 
-pub part-written : (for_list : List ℕ → List (List ℕ) → List ℕ) (elements : Elements) (place : ℕ) → written for_list (part_at elements place) ≡ element (each_written for_list elements) place
+pub part-written : (for_list : List ℕ → List ℕ → List (List ℕ) → List ℕ) (elements : Elements) (place : ℕ) → written for_list (part_at elements place) ≡ element (each_written for_list elements) place
 unfolding written part_at
 part-written f no_more place = refl
 part-written f (element_then part others) zero = refl
@@ -32,7 +32,7 @@ part-apart lists no_more place good = refl
 part-apart lists (element_then part others) zero good = (and_parts (are_apart lists true part) _ good).0
 part-apart lists (element_then part others) (suc place) good = part-apart lists others place (and_parts (are_apart lists true part) _ good).1
 
-pub part-all : (test : List ℕ → Elements → Bool) (elements : Elements) (place : ℕ) → all_lists_in test elements ≡ true → all_lists test (part_at elements place) ≡ true
+pub part-all : (test : List ℕ → List ℕ → Elements → Bool) (elements : Elements) (place : ℕ) → all_lists_in test elements ≡ true → all_lists test (part_at elements place) ≡ true
 unfolding all_lists part_at
 part-all test no_more place good = refl
 part-all test (element_then part others) zero good = (and_parts (all_lists test part) _ good).0
@@ -44,7 +44,7 @@ unfoldable pub count : Elements → ℕ
 count no_more = 0
 count (element_then part others) = suc (count others)
 
-pub count-is : (for_list : List ℕ → List (List ℕ) → List ℕ) (elements : Elements) → length (each_written for_list elements) ≡ count elements
+pub count-is : (for_list : List ℕ → List ℕ → List (List ℕ) → List ℕ) (elements : Elements) → length (each_written for_list elements) ≡ count elements
 unfolding written count
 count-is f no_more = refl
 count-is f (element_then part others) = ap suc (count-is f others)
@@ -53,7 +53,7 @@ pub and_one : Elements → Parts → Elements
 and_one no_more part = element_then part no_more
 and_one (element_then first others) part = element_then first (and_one others part)
 
-pub one-written : (for_list : List ℕ → List (List ℕ) → List ℕ) (elements : Elements) (part : Parts) → each_written for_list (and_one elements part) ≡ each_written for_list elements ++ written for_list part ∷ []
+pub one-written : (for_list : List ℕ → List ℕ → List (List ℕ) → List ℕ) (elements : Elements) (part : Parts) → each_written for_list (and_one elements part) ≡ each_written for_list elements ++ written for_list part ∷ []
 unfolding written and_one
 one-written f no_more part = refl
 one-written f (element_then first others) part = ap (λ t. written f first ∷ t) (one-written f others part)
@@ -75,7 +75,7 @@ one-apart lists (element_then first others) part good is =
     let a = and_parts (are_apart lists true first) _ good in
     and-both _ _ a.0 (one-apart lists others part a.1 is)
 
-pub one-all : (test : List ℕ → Elements → Bool) (elements : Elements) (part : Parts) → all_lists_in test elements ≡ true → all_lists test part ≡ true → all_lists_in test (and_one elements part) ≡ true
+pub one-all : (test : List ℕ → List ℕ → Elements → Bool) (elements : Elements) (part : Parts) → all_lists_in test elements ≡ true → all_lists test part ≡ true → all_lists_in test (and_one elements part) ≡ true
 unfolding all_lists and_one
 one-all test no_more part good is = and-both _ _ is refl
 one-all test (element_then first others) part good is =
@@ -89,7 +89,7 @@ taken zero elements = no_more
 taken (suc n) no_more = no_more
 taken (suc n) (element_then part others) = element_then part (taken n others)
 
-pub taken-written : (for_list : List ℕ → List (List ℕ) → List ℕ) (n : ℕ) (elements : Elements) → each_written for_list (taken n elements) ≡ take n (each_written for_list elements)
+pub taken-written : (for_list : List ℕ → List ℕ → List (List ℕ) → List ℕ) (n : ℕ) (elements : Elements) → each_written for_list (taken n elements) ≡ take n (each_written for_list elements)
 unfolding written taken
 taken-written f zero elements = refl
 taken-written f (suc n) no_more = refl
@@ -108,6 +108,14 @@ taken-apart lists (suc n) no_more good = refl
 taken-apart lists (suc n) (element_then part others) good =
     let a = and_parts (are_apart lists true part) _ good in
     and-both _ _ a.0 (taken-apart lists n others a.1)
+
+pub taken-all : (test : List ℕ → List ℕ → Elements → Bool) (n : ℕ) (elements : Elements) → all_lists_in test elements ≡ true → all_lists_in test (taken n elements) ≡ true
+unfolding all_lists taken
+taken-all test zero elements all = refl
+taken-all test (suc n) no_more all = refl
+taken-all test (suc n) (element_then part others) all =
+    let a = and_parts (all_lists test part) _ all in
+    and-both _ _ a.0 (taken-all test n others a.1)
 
 -- ## A default
 
@@ -145,7 +153,7 @@ module _ (named : Named) (elements : Elements) (pattern : List ℕ) (has : HasFo
   form : Parts
   form = form_or (form_in forms pattern)
 
-  pub default-written : (for_list : List ℕ → List (List ℕ) → List ℕ) → ((es : List (List ℕ)) → for_list [] es ≡ listed es)
+  pub default-written : (for_list : List ℕ → List ℕ → List (List ℕ) → List ℕ) → ((es : List (List ℕ)) → for_list [] [] es ≡ listed es)
       → written for_list (default_part named elements pattern) ≡ filled_for named (each_written for_list elements) pattern
   unfolding default_part form whole
   default-written f bare_is =
@@ -158,10 +166,135 @@ module _ (named : Named) (elements : Elements) (pattern : List ℕ) (has : HasFo
   default-apart lists good =
       form-apart lists (part_at elements 0) (part_at elements 1) whole (part-apart lists elements 0 good) (part-apart lists elements 1 good) form (some-form whole (form_in forms pattern) has)
 
-  pub default-all : (test : List ℕ → Elements → Bool) → ((es : Elements) → test [] es ≡ true) → all_lists_in test elements ≡ true → all_lists test (default_part named elements pattern) ≡ true
+  pub default-all : (test : List ℕ → List ℕ → Elements → Bool) → ((es : Elements) → test [] [] es ≡ true) → all_lists_in test elements ≡ true → all_lists test (default_part named elements pattern) ≡ true
   unfolding default_part form whole
   default-all test bare good =
       form-all test bare (part_at elements 0) (part_at elements 1) whole (part-all test elements 0 good) (part-all test elements 1 good) form (some-form whole (form_in forms pattern) has)
+
+-- ## Defaults one after the other
+
+unfoldable pub added : (default : Elements → List ℕ → Parts) → Elements → List Place → Elements
+added default elements [] = elements
+added default elements (place ∷ places) = if length (text_of place) == 0 then elements else added default (and_one elements (default elements (text_of place))) places
+
+-- each pattern passes a test
+abbrev pub HaveEach : (has : List ℕ → Bool) → List Place → Type 0
+HaveEach has places = list_all (λ (place : Place). has (text_of place)) places ≡ true
+
+module _ (default : Elements → List ℕ → Parts) (has : List ℕ → Bool) where
+  pub added-some : (elements : Elements) (places : List Place) → has_some elements ≡ true → has_some (added default elements places) ≡ true
+  unfolding added
+  added-some elements [] some = some
+  added-some elements (place ∷ places) some = by (length (text_of place) == 0) (added-some (and_one elements (default elements (text_of place))) places (one-some elements (default elements (text_of place))))
+    where
+      by : (b : Bool) → has_some (added default (and_one elements (default elements (text_of place))) places) ≡ true
+          → has_some (if b then elements else added default (and_one elements (default elements (text_of place))) places) ≡ true
+      by true again = some
+      by false again = again
+
+  pub added-apart : (lists : List ℕ → Bool)
+      → ((es : Elements) (pattern : List ℕ) → has pattern ≡ true → (length pattern == 0) ≡ false → each_apart lists es ≡ true → are_apart lists true (default es pattern) ≡ true)
+      → (elements : Elements) (places : List Place) → HaveEach has places → each_apart lists elements ≡ true → each_apart lists (added default elements places) ≡ true
+  unfolding added
+  added-apart lists one elements [] have good = good
+  added-apart lists one elements (place ∷ places) have good =
+      let a = and_parts (has (text_of place)) _ have in
+      by (length (text_of place) == 0) refl a.0 (λ es is. added-apart lists one es places a.1 is)
+    where
+      by : (b : Bool) → (length (text_of place) == 0) ≡ b → has (text_of place) ≡ true
+          → ((es : Elements) → each_apart lists es ≡ true → each_apart lists (added default es places) ≡ true)
+          → each_apart lists (if b then elements else added default (and_one elements (default elements (text_of place))) places) ≡ true
+      by true e is again = good
+      by false e is again =
+          again (and_one elements (default elements (text_of place))) (one-apart lists elements (default elements (text_of place)) good (one elements (text_of place) is e good))
+
+  pub added-all : (test : List ℕ → List ℕ → Elements → Bool)
+      → ((es : Elements) (pattern : List ℕ) → has pattern ≡ true → (length pattern == 0) ≡ false → all_lists_in test es ≡ true → all_lists test (default es pattern) ≡ true)
+      → (elements : Elements) (places : List Place) → HaveEach has places → all_lists_in test elements ≡ true → all_lists_in test (added default elements places) ≡ true
+  unfolding added
+  added-all test one elements [] have good = good
+  added-all test one elements (place ∷ places) have good =
+      let a = and_parts (has (text_of place)) _ have in
+      by (length (text_of place) == 0) refl a.0 (λ es is. added-all test one es places a.1 is)
+    where
+      by : (b : Bool) → (length (text_of place) == 0) ≡ b → has (text_of place) ≡ true
+          → ((es : Elements) → all_lists_in test es ≡ true → all_lists_in test (added default es places) ≡ true)
+          → all_lists_in test (if b then elements else added default (and_one elements (default elements (text_of place))) places) ≡ true
+      by true e is again = good
+      by false e is again =
+          again (and_one elements (default elements (text_of place))) (one-all test elements (default elements (text_of place)) good (one elements (text_of place) is e good))
+
+  pub added-written : (f : List ℕ → List ℕ → List (List ℕ) → List ℕ) (full : List ℕ → List ℕ) (named : Named) (Good : Elements → Type 0)
+      → ((es : Elements) (pattern : List ℕ) → has pattern ≡ true → (length pattern == 0) ≡ false → Good es
+      → (written f (default es pattern) ≡ full (filled_for named (each_written f es) pattern)) × Good (and_one es (default es pattern)))
+      → (elements : Elements) (places : List Place) → HaveEach has places → Good elements
+      → each_written f (added default elements places) ≡ with_defaults full named (each_written f elements) places
+  unfolding added with_defaults
+  added-written f full named Good one elements [] have good = refl
+  added-written f full named Good one elements (place ∷ places) have good =
+      let a = and_parts (has (text_of place)) _ have in
+      by (length (text_of place) == 0) refl a.0 (λ es g. added-written f full named Good one es places a.1 g)
+    where
+      by : (b : Bool) → (length (text_of place) == 0) ≡ b → has (text_of place) ≡ true
+          → ((es : Elements) → Good es → each_written f (added default es places) ≡ with_defaults full named (each_written f es) places)
+          → each_written f (if b then elements else added default (and_one elements (default elements (text_of place))) places)
+          ≡ (if b then each_written f elements else with_defaults full named (each_written f elements ++ full (filled_for named (each_written f elements) (text_of place)) ∷ []) places)
+      by true e is again = refl
+      by false e is again =
+          let this = one elements (text_of place) is e good in
+          again (and_one elements (default elements (text_of place))) this.1
+          ∙ ap (λ es. with_defaults full named es places) (one-written f elements (default elements (text_of place)) ∙ ap (λ t. each_written f elements ++ t ∷ []) this.0)
+
+-- ## Defaults that may be lists of the table
+
+inner-text : (rows : List Inner) (pattern : List ℕ) (inner : Inner) → inner_in rows pattern ≡ Some inner → text_from (inner_part inner) ≡ pattern
+unfolding inner_in
+inner-text [] pattern inner e = absurd (nothing e)
+  where
+    nothing : {A : Type 0} → {x : A} → None ≡ Some x → ⊥
+    nothing same = cc
+inner-text (row ∷ rows) pattern inner e = by (pointwise nat_eq (text_from (inner_part row)) pattern) refl e (inner-text rows pattern inner)
+  where
+    by : (b : Bool) → pointwise nat_eq (text_from (inner_part row)) pattern ≡ b → (if b then Some row else inner_in rows pattern) ≡ Some inner → (inner_in rows pattern ≡ Some inner → text_from (inner_part inner) ≡ pattern) → text_from (inner_part inner) ≡ pattern
+    by true h same again = let is : row ≡ inner = cc in ap (λ (i : Inner). text_from (inner_part i)) (sym is) ∙ (bytes_decides (text_from (inner_part row)) pattern).0 h
+    by false h same again = again same
+
+-- the pattern's part, and that in full, where the elements of its list are others
+unfoldable pub any_by : (List ℕ → Elements → Elements) → Named → Elements → Option Parts → Option Inner → Parts
+any_by elements_of named elements (Some form) inner = in_holes (part_at elements 0) (part_at elements 1) (text_of named.whole) form
+any_by elements_of named elements None None = ends
+any_by elements_of named elements None (Some inner) =
+    list_then [] (filled [] [] (text_of named.whole) inner.name)
+    (elements_of (filled [] [] (text_of named.whole) inner.name) (element_then (in_holes (part_at elements 0) (part_at elements 1) (text_of named.whole) inner.argument) no_more)) ends
+
+unfoldable pub any_part : (List ℕ → Elements → Elements) → Named → Elements → (pattern : List ℕ) → Parts
+any_part elements_of named elements pattern = any_by elements_of named elements (form_in forms pattern) (inner_in inner_forms pattern)
+
+-- a pattern that isn't empty has one of the forms
+abbrev pub HasAny : Named → (pattern : List ℕ) → Type 0
+HasAny named pattern = is_some_default (text_of named.whole) (form_in forms pattern) (inner_in inner_forms pattern) ≡ true
+
+pub any-of : (named : Named) (pattern : List ℕ) → has_default (text_of named.whole) pattern ≡ true → (length pattern == 0) ≡ false → HasAny named pattern
+unfolding has_default
+any-of named pattern has some = rw some at has
+
+-- by its form
+pub by-any : (elements_of : List ℕ → Elements → Elements) (named : Named) (elements : Elements) (pattern : List ℕ) (P : Parts → Type 0) → HasAny named pattern
+    → ((form : Parts) → is_form (text_of named.whole) form ≡ true → text_from form ≡ pattern → P (in_holes (part_at elements 0) (part_at elements 1) (text_of named.whole) form))
+    → ((inner : Inner) → list_all is_no_hole inner.name ≡ true → is_plain_list (filled [] [] (text_of named.whole) inner.name) ≡ true → is_form (text_of named.whole) inner.argument ≡ true → text_from (inner_part inner) ≡ pattern
+    → P (any_by elements_of named elements None (Some inner)))
+    → P (any_part elements_of named elements pattern)
+unfolding any_part any_by form_or
+by-any elements_of named elements pattern P has a_form an_inner = by (form_in forms pattern) (inner_in inner_forms pattern) refl refl has
+  where
+    by : (f : Option Parts) (i : Option Inner) → form_in forms pattern ≡ f → inner_in inner_forms pattern ≡ i → is_some_default (text_of named.whole) f i ≡ true → P (any_by elements_of named elements f i)
+    by (Some form) i f-is i-is is =
+        a_form form is (ap (λ f. text_from (form_or f)) (sym f-is) ∙ form-text forms pattern (text_of named.whole) (ap (is_some_form (text_of named.whole)) f-is ∙ is))
+    by None None f-is i-is is = absurd (true≢false (sym is))
+    by None (Some inner) f-is i-is is =
+        let a = and_parts (list_all is_no_hole inner.name) _ is in
+        let b = and_parts (is_plain_list (filled [] [] (text_of named.whole) inner.name)) _ a.1 in
+        an_inner inner a.0 b.0 b.1 (inner-text inner_forms pattern inner i-is)
 
 -- ## The defaults that a list lacks
 
@@ -177,7 +310,7 @@ pub form-of : (named : Named) (pattern : List ℕ) → has_form (text_of named.w
 unfolding has_form
 form-of named pattern has some = rw some at has
 
-pub defaults-written : (for_list : List ℕ → List (List ℕ) → List ℕ) → ((es : List (List ℕ)) → for_list [] es ≡ listed es)
+pub defaults-written : (for_list : List ℕ → List ℕ → List (List ℕ) → List ℕ) → ((es : List (List ℕ)) → for_list [] [] es ≡ listed es)
     → (named : Named) (elements : Elements) (places : List Place) → HaveForms named places
     → each_written for_list (part_defaults named elements places) ≡ with_defaults (λ t. t) named (each_written for_list elements) places
 unfolding part_defaults with_defaults
@@ -221,7 +354,7 @@ defaults-apart lists named elements (place ∷ places) have good =
         again (and_one elements (default_part named elements (text_of place)))
         (one-apart lists elements (default_part named elements (text_of place)) good (default-apart named elements (text_of place) (form-of named (text_of place) is e) lists good))
 
-pub defaults-all : (test : List ℕ → Elements → Bool) → ((es : Elements) → test [] es ≡ true) → (named : Named) (elements : Elements) (places : List Place) → HaveForms named places
+pub defaults-all : (test : List ℕ → List ℕ → Elements → Bool) → ((es : Elements) → test [] [] es ≡ true) → (named : Named) (elements : Elements) (places : List Place) → HaveForms named places
     → all_lists_in test elements ≡ true → all_lists_in test (part_defaults named elements places) ≡ true
 unfolding part_defaults
 defaults-all test bare named elements [] have good = good

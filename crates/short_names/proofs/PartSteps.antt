@@ -36,6 +36,14 @@ over rules byte others text w next size is step =
 abbrev pub IsBehind : List ℕ → Type 0
 IsBehind text = is_name_byte (get_or text 0 0) ≡ false
 
+-- neither a byte of a name nor a list comes first
+abbrev pub IsFree : List ℕ → Type 0
+IsFree text = IsBehind text × (get_or text 0 0 ≡ 60 → ⊥)
+
+pub free-nothing : IsFree []
+unfolding is_name_byte is_letter
+free-nothing = (refl, λ e. absurd (omega (arith, e)))
+
 pub run-is : (name text : List ℕ) → list_all is_name_byte name ≡ true → IsBehind text → run_of (name ++ text) ≡ name
 unfolding run_of
 run-is [] [] all other = refl
@@ -52,7 +60,7 @@ within bracket name before elements = record { bracket = bracket; name = name; b
 
 -- ## Names
 
-no-sign : (opened : List Opened) (run rest : List ℕ) → ends_operator run ≡ false → sign_of opened run rest ≡ []
+pub no-sign : (opened : List Opened) (run rest : List ℕ) → ends_operator run ≡ false → sign_of opened run rest ≡ []
 no-sign [] run rest other = refl
 no-sign (top ∷ around) run rest other = rw other refl
 
@@ -79,15 +87,15 @@ name-stays rules (byte ∷ others) text opened last some all behind shut none no
     ∙ ap (λ t. keeps (name ++ t) w) no_sign
     ∙ ap (λ t. keeps t w) (append-nil name))
 
--- a name with an answer, outside of brackets
-pub name-answers : (rules : Rules) (name text last bytes : List ℕ) → 0 < length name → list_all is_name_byte name ≡ true → IsBehind text → rules.opens name ≡ false
+-- a name with an answer
+pub name-answers : (rules : Rules) (name text : List ℕ) (opened : List Opened) (last bytes : List ℕ) → 0 < length name → list_all is_name_byte name ≡ true → IsBehind text → rules.opens name ≡ false
     → rules.for_name name text ≡ Some (record { bytes = bytes; size = length name })
-    → written_for rules 0 (name ++ text) (at [] last) ≡ written_for rules 0 text (at [] (last ++ bytes))
-name-answers rules [] text last bytes some all behind shut answer = absurd (omega (arith, some))
-name-answers rules (byte ∷ others) text last bytes some all behind shut answer =
+    → written_for rules 0 (name ++ text) (at opened last) ≡ written_for rules 0 text (at opened (last ++ bytes))
+name-answers rules [] text opened last bytes some all behind shut answer = absurd (omega (arith, some))
+name-answers rules (byte ∷ others) text opened last bytes some all behind shut answer =
     let name : List ℕ = byte ∷ others in
-    let w : Written = at [] last in
-    over rules byte others text w (at [] (last ++ bytes)) (0 + length name) (omega arith) (
+    let w : Written = at opened last in
+    over rules byte others text w (at opened (last ++ bytes)) (0 + length name) (omega arith) (
     name-step rules byte others text w all behind
     ∙ ap (λ b. if starts_with nat_eq text (codes "<") && b then opens 60 name w else at_plain name text w (rules.for_name name text)) shut
     ∙ ap (λ b. if b then opens 60 name w else at_plain name text w (rules.for_name name text)) (and_false (starts_with nat_eq text (codes "<")))
@@ -108,6 +116,23 @@ name-goes-on rules (byte ∷ others) member text last bytes some all behind shut
     ∙ ap (λ b. if starts_with nat_eq text (codes "<") && b then opens 60 name w else at_plain name text w (rules.for_name name text)) shut
     ∙ ap (λ b. if b then opens 60 name w else at_plain name text w (rules.for_name name text)) (and_false (starts_with nat_eq text (codes "<")))
     ∙ ap (at_plain name text w) answer
+    )
+
+-- a name with an answer that has some bytes after it, outside of brackets
+pub name-answers-over : (rules : Rules) (name more text last bytes : List ℕ) → 0 < length name → list_all is_name_byte name ≡ true → IsBehind (more ++ text) → rules.opens name ≡ false
+    → rules.for_name name (more ++ text) ≡ Some (record { bytes = bytes; size = length (name ++ more) })
+    → written_for rules 0 (name ++ (more ++ text)) (at [] last) ≡ written_for rules 0 text (at [] (last ++ bytes))
+name-answers-over rules [] more text last bytes some all behind shut answer = absurd (omega (arith, some))
+name-answers-over rules (byte ∷ others) more text last bytes some all behind shut answer =
+    let name : List ℕ = byte ∷ others in
+    let w : Written = at [] last in
+    ap (λ t. written_for rules 0 (byte ∷ t) w) (sym (append_assoc others more text))
+    ∙ over rules byte (others ++ more) text w (at [] (last ++ bytes)) (0 + length (name ++ more)) (omega arith) (
+    ap (λ t. stepped rules byte t w) (append_assoc others more text)
+    ∙ name-step rules byte others (more ++ text) w all behind
+    ∙ ap (λ b. if starts_with nat_eq (more ++ text) (codes "<") && b then opens 60 name w else at_plain name (more ++ text) w (rules.for_name name (more ++ text))) shut
+    ∙ ap (λ b. if b then opens 60 name w else at_plain name (more ++ text) w (rules.for_name name (more ++ text))) (and_false (starts_with nat_eq (more ++ text) (codes "<")))
+    ∙ ap (at_plain name (more ++ text) w) answer
     )
 
 pub inner-name : (rules : Rules) (name text : List ℕ) (opened : List Opened) (last : List ℕ) → 0 < length name → list_all is_name_byte name ≡ true → IsBehind text
@@ -165,12 +190,13 @@ unfolding at_sign
 group-closes rules byte text top around last other no_opening no_list closing no_top =
     byte-step rules byte text (at (top ∷ around) last) (at around ((top.before ++ top.bracket ∷ last) ++ byte ∷ [])) other (rw (no_opening, no_list, closing, no_top) refl)
 
-pub list-closes : (rules : Rules) (text name before : List ℕ) (elements : List (List ℕ)) (around : List Opened) (last bytes : List ℕ)
-    → rules.for_list name (elements ++ last ∷ []) text ≡ record { bytes = bytes; size = 0 }
-    → written_for rules 0 (62 ∷ text) (at (within 60 name before elements ∷ around) last) ≡ written_for rules 0 text (at around (before ++ bytes))
-unfolding at_sign is_name_byte is_letter
-list-closes rules text name before elements around last bytes answer =
-    byte-step rules 62 text (at (within 60 name before elements ∷ around) last) (at around (before ++ bytes)) refl
+-- some bytes after the list are written with it
+pub list-closes-over : (rules : Rules) (more text name before : List ℕ) (elements : List (List ℕ)) (around : List Opened) (last bytes : List ℕ)
+    → rules.for_list name (elements ++ last ∷ []) (more ++ text) ≡ record { bytes = bytes; size = length more }
+    → written_for rules 0 (62 ∷ (more ++ text)) (at (within 60 name before elements ∷ around) last) ≡ written_for rules 0 text (at around (before ++ bytes))
+unfolding at_sign is_name_byte is_letter stepped
+list-closes-over rules more text name before elements around last bytes answer =
+    over rules 62 more text (at (within 60 name before elements ∷ around) last) (at around (before ++ bytes)) (1 + length more) (omega arith)
     (ap (λ (a : Answer). Some (record { size = 1 + a.size; written = at around (before ++ a.bytes) })) answer)
 
 pub element-ends : (rules : Rules) (text name before : List ℕ) (elements : List (List ℕ)) (around : List Opened) (last : List ℕ)

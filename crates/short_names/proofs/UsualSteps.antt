@@ -1,54 +1,99 @@
 -- Usual names and the lists that they are for, outside of lists.
-use Rattle.std.proofs.Common.{◌≡◌, ◌==◌, ◌<◌, ◌+◌, ◌-◌, ◌&&◌, ◌||◌, not, refl, sym, ap, ap₂, subst, ◌∙◌, eqb-true, ne_eqb, ℕ, arith, Bool, true, false, List, [], ◌∷◌, ◌++◌, length, take, drop, get_or, nat_eq, codes, Option, None, Some, is_some, if◌then◌else◌, append-nil, append_assoc}
+use Rattle.std.proofs.Common.{◌≡◌, ◌==◌, ◌<◌, ◌+◌, ◌-◌, ◌&&◌, ◌||◌, not, refl, sym, ap, ap₂, subst, ◌∙◌, eqb-true, ℕ, arith, Bool, true, false, List, [], ◌∷◌, ◌++◌, length, take, drop, get_or, nat_eq, codes, Option, None, Some, is_some, if◌then◌else◌, append-nil, append_assoc}
 use Rattle.std.proofs.lemmas.Bool.{and_parts, true≢false}
 use Rattle.std.specs.List.{list_all, starts_with}
+use lib.Pointwise.{bytes_decides}
 use Rattle.short_names.specs.declared.names.Named.{Named}
 use Rattle.short_names.specs.declared.table.Alias.{Alias}
 use Rattle.short_names.specs.declared.table.TheConstants.{ALIASES}
 use Rattle.short_names.specs.Elements.{joined, listed, left, left_of, is_polymorphic}
 use Rattle.short_names.specs.Full.{full_to, full_rules, usual, usual_in, instance, pmr_in}
 use Rattle.short_names.specs.Full as of_full
-use Rattle.short_names.specs.Names.{named_in, last_part, class_of, front_size, is_constructor, ends_name, member_in}
-use Rattle.short_names.specs.Parts.{each_written, as_it_is, is_bare, has_some, each_apart, is_simple_list, short_bytes, full_bytes}
-use Rattle.short_names.specs.Runs.{is_letter, is_name_byte}
+use Rattle.short_names.specs.Names.{StdName, std_name, named_in, last_part, class_of, front_size, is_constructor, ends_name, member_in}
+use Rattle.short_names.specs.Parts.{alias_of, each_written, as_it_is, instance_by, instance_of, is_bare, is_only, is_row, is_std, is_usual, usual_instance, has_some, each_apart, is_simple_list, short_bytes, full_bytes}
+use Rattle.short_names.specs.Runs.{ends_operator, is_letter, is_name_byte}
 use Rattle.short_names.specs.Short.{short_rules, short_list, if_read_back, is_read_back, member}
 use Rattle.short_names.specs.Short as of_short
 use Rattle.short_names.specs.Texts.{text_of}
-use Rattle.short_names.specs.Usual.{IsUsual, is_only}
-use Rattle.short_names.specs.Walk.{Answer, written_for}
-use Rattle.short_names.proofs.FrontLemmas.{differs}
-use Rattle.short_names.proofs.PartRules.{no-constructor, no-end, short-obeys, full-obeys}
-use Rattle.short_names.proofs.PartSteps.{IsBehind, at, behind-all, name-answers, name-opens, name-stays}
-use Rattle.short_names.proofs.PartWalks.{each-goes}
+use Rattle.short_names.specs.Usual.{IsUsual, is_listed}
+use Rattle.short_names.specs.Walk.{Answer, Opened, Rules, sign_of, written_for}
+use Rattle.short_names.proofs.PartRules.{free-constructor, free-end, no-constructor, no-end, short-obeys, full-obeys}
+use Rattle.short_names.proofs.PartSteps.{IsFree, at, behind-all, name-answers, name-opens, name-stays}
+use Rattle.short_names.proofs.PartWalks.{Calls, bare-calls, each-goes, not-true}
 
 pub name-parts : (name : List ℕ) → (not (is_bare name) && list_all is_name_byte name) ≡ true → (0 < length name) × (list_all is_name_byte name ≡ true)
 name-parts [] h = absurd (true≢false (sym h))
 name-parts (byte ∷ name) h = (omega arith, h)
 
--- neither a byte of a name nor a list comes first
-abbrev pub IsFree : List ℕ → Type 0
-IsFree rest = IsBehind rest × (get_or rest 0 0 ≡ 60 → ⊥)
+-- A usual name, and what full texts have for it.
+pub record IsFor (name list : List ℕ) : Type 0 where
+  pub std : StdName
+  pub alias : Alias
+  pub std_is : std_name name ≡ Some std
+  pub bytes : (not (is_bare name) && list_all is_name_byte name) ≡ true
+  pub none_named : (is_some (named_in name) || is_some (pmr_in name)) ≡ false
+  pub only : is_only ALIASES std.name ≡ true
+  pub alias_is : usual_in ALIASES std.name (std.name ++ []) ≡ Some alias
+  pub size_is : length name - length std.name + length (text_of alias.name) ≡ length name
+  pub list_is : full_to 3 (take (length name - length std.name) name ++ instance std alias) ≡ list
+
+pub for-list : (name list : List ℕ) → IsUsual name list → IsFor name list
+for-list name list is = record {
+  std = is.std;
+  alias = is.alias;
+  std_is = is.std_is;
+  bytes = is.bytes;
+  none_named = is.none_named;
+  only = is.only;
+  alias_is = is.alias_is;
+  size_is = is.size_is;
+  list_is = is.list_is;
+}
+
+-- what a test of a name says
+pub record IsTested (name : List ℕ) : Type 0 where
+  pub is : IsFor name (full_to 3 (usual_instance name))
+  pub some : is_bare name ≡ false
+  pub quiet : ends_operator name ≡ false
+  pub whole : full_to 4 (usual_instance name) ≡ full_to 3 (usual_instance name)
+
+row-for : (name : List ℕ) (std : StdName) → std_name name ≡ Some std → (not (is_bare name) && list_all is_name_byte name) ≡ true → (is_some (named_in name) || is_some (pmr_in name)) ≡ false → is_only ALIASES std.name ≡ true
+    → (found : Option Alias) → alias_of std ≡ found → is_row name std found ≡ true → IsFor name (full_to 3 (instance_of name std found))
+row-for name std std_is bytes none_named only None alias_is row = absurd (true≢false (sym row))
+row-for name std std_is bytes none_named only (Some alias) alias_is row = record {
+  std = std;
+  alias = alias;
+  std_is = std_is;
+  bytes = bytes;
+  none_named = none_named;
+  only = only;
+  alias_is = alias_is;
+  size_is = eqb-true _ _ row;
+  list_is = refl;
+}
+
+std-for : (name : List ℕ) → (not (is_bare name) && list_all is_name_byte name) ≡ true → (is_some (named_in name) || is_some (pmr_in name)) ≡ false
+    → (o : Option StdName) → std_name name ≡ o → is_std name o ≡ true → IsFor name (full_to 3 (instance_by name o))
+std-for name bytes none_named None std_is is = absurd (true≢false (sym is))
+std-for name bytes none_named (Some std) std_is is =
+    let a = and_parts (is_only ALIASES std.name) (is_row name std (alias_of std)) is in
+    row-for name std std_is bytes none_named a.0 (alias_of std) refl a.1
+
+pub tested : (name : List ℕ) → is_usual name ≡ true → IsTested name
+unfolding is_usual usual_instance
+tested name h =
+    let a = and_parts (not (is_bare name) && list_all is_name_byte name) _ h in
+    let b = and_parts (not (is_some (named_in name) || is_some (pmr_in name))) _ a.1 in
+    let c = and_parts (not (ends_operator name)) _ b.1 in
+    let d = and_parts (is_std name (std_name name)) _ c.1 in
+    record {
+      is = std-for name a.0 (not-true (is_some (named_in name) || is_some (pmr_in name)) b.0) (std_name name) refl d.0;
+      some = not-true (is_bare name) (and_parts (not (is_bare name)) _ a.0).0;
+      quiet = not-true (ends_operator name) c.0;
+      whole = (bytes_decides (full_to 4 (instance_by name (std_name name))) (full_to 3 (instance_by name (std_name name)))).0 d.1;
+    }
 
 module _ (rest : List ℕ) (free : IsFree rest) where
-  colons : starts_with nat_eq rest (codes "::") ≡ false
-  unfolding is_name_byte
-  colons = differs rest (codes "::") 0 (omega arith) (λ e. true≢false (sym (ap is_name_byte e) ∙ free.0))
-
-  pub free-constructor : (class : List ℕ) → is_constructor rest class ≡ false
-  unfolding is_constructor
-  free-constructor class = rw colons refl
-
-  pub free-end : ends_name rest ≡ true
-  unfolding ends_name
-  free-end = by rest refl
-    where
-      by : (t : List ℕ) → rest ≡ t → ends_name t ≡ true
-      by [] e = refl
-      by (byte ∷ t) e =
-          let other : is_name_byte byte ≡ false = sym (ap (λ t. is_name_byte (get_or t 0 0)) e) ∙ free.0 in
-          let shut : (byte == 60) ≡ false = ne_eqb byte 60 (λ same. free.1 (ap (λ t. get_or t 0 0) e ∙ same)) in
-          rw (sym (ap (λ t. starts_with nat_eq t (codes "::")) e) ∙ colons, other, shut) refl
-
   same-usual : (rows : List Alias) (name : List ℕ) → is_only rows name ≡ true
       → (usual_in rows name (name ++ rest) ≡ usual_in rows name (name ++ [])) × (member_in rows name (name ++ rest) ≡ None)
   unfolding is_only usual_in member_in ends_name
@@ -71,14 +116,14 @@ module _ (rest : List ℕ) (free : IsFree rest) where
           let k = length (text_of row.name) in
           let same : k ≡ length name = sym (eqb-true (length name) k is-d) in
           let here : (t : List ℕ) → drop k (name ++ t) ≡ t = λ t. ap (λ j. drop j (name ++ t)) same ∙ behind-all name t in (
-            ap (λ t. if ends_name t then Some row else usual_in rows name (name ++ rest)) (here rest) ∙ ap (λ (b : Bool). if b then Some row else usual_in rows name (name ++ rest)) free-end
+            ap (λ t. if ends_name t then Some row else usual_in rows name (name ++ rest)) (here rest) ∙ ap (λ (b : Bool). if b then Some row else usual_in rows name (name ++ rest)) (free-end rest free)
                 ∙ sym (ap (λ t. if ends_name t then Some row else usual_in rows name (name ++ [])) (here [])),
             ap (λ t. if is_constructor t (last_part (text_of row.template)) then Some row else member_in rows name (name ++ rest)) (here rest)
-                ∙ ap (λ (b : Bool). if b then Some row else member_in rows name (name ++ rest)) (free-constructor (last_part (text_of row.template))) ∙ two,
+                ∙ ap (λ (b : Bool). if b then Some row else member_in rows name (name ++ rest)) (free-constructor rest free (last_part (text_of row.template))) ∙ two,
           )
       by true false false is-c is-d h one two = absurd (true≢false (sym h))
 
-  module _ (name list : List ℕ) (is : IsUsual name list) (last : List ℕ) where
+  module _ (name list : List ℕ) (is : IsFor name list) (opened : List Opened) (last : List ℕ) where
     bytes : (0 < length name) × (list_all is_name_byte name ≡ true)
     bytes = name-parts name is.bytes
 
@@ -90,13 +135,13 @@ module _ (rest : List ℕ) (free : IsFree rest) where
         by false b h = (refl, h)
 
     -- short texts leave the name
-    pub short-name : written_for short_rules 0 (name ++ rest) (at [] last) ≡ written_for short_rules 0 rest (at [] (last ++ name))
-    short-name =
-        name-stays short_rules name rest [] last bytes.0 bytes.1 free.0 nowhere.0
-        (ap (of_short.for_name name rest) is.std_is ∙ ap (member name rest is.std.name) (same-usual ALIASES is.std.name is.only).1) refl
+    pub short-name : sign_of opened name rest ≡ [] → written_for short_rules 0 (name ++ rest) (at opened last) ≡ written_for short_rules 0 rest (at opened (last ++ name))
+    short-name quiet =
+        name-stays short_rules name rest opened last bytes.0 bytes.1 free.0 nowhere.0
+        (ap (of_short.for_name name rest) is.std_is ∙ ap (member name rest is.std.name) (same-usual ALIASES is.std.name is.only).1) quiet
 
     -- full texts have the list for the name
-    pub full-name : written_for (full_rules (full_to 3)) 0 (name ++ rest) (at [] last) ≡ written_for (full_rules (full_to 3)) 0 rest (at [] (last ++ list))
+    pub full-name : written_for (full_rules (full_to 3)) 0 (name ++ rest) (at opened last) ≡ written_for (full_rules (full_to 3)) 0 rest (at opened (last ++ list))
     full-name =
         let inner : List ℕ → List ℕ = full_to 3 in
         let from : ℕ = length name - length is.std.name in
@@ -106,8 +151,8 @@ module _ (rest : List ℕ) (free : IsFree rest) where
         ∙ ap (λ (b : Bool). if b then record {
           bytes = take (front_size rest) rest ++ last_part (text_of is.alias.template);
           size = front_size rest + length (class_of is.alias);
-        } else record { bytes = []; size = 0 }) (free-constructor (class_of is.alias)) in
-        name-answers (full_rules inner) name rest last list bytes.0 bytes.1 free.0 is.none_named (
+        } else record { bytes = []; size = 0 }) (free-constructor rest free (class_of is.alias)) in
+        name-answers (full_rules inner) name rest opened last list bytes.0 bytes.1 free.0 is.none_named (
         ap (of_full.for_name inner name rest) is.std_is
         ∙ ap (usual inner is.std name rest) ((same-usual ALIASES is.std.name is.only).0 ∙ is.alias_is)
         ∙ ap (λ (a : Answer). Some (record { bytes = inner (take from name ++ instance is.std is.alias) ++ a.bytes; size = behind + a.size })) none
@@ -115,6 +160,10 @@ module _ (rest : List ℕ) (free : IsFree rest) where
         ∙ ap₂ (λ t k. Some (record { bytes = t; size = k })) (append-nil list) (omega arith))
 
 -- ## The list of a usual name
+
+pub listed-calls : (rules : Rules) (for_list : List ℕ → List ℕ → List (List ℕ) → List ℕ) → Calls rules for_list is_listed
+unfolding is_listed
+listed-calls rules for_list = bare-calls rules for_list is_listed (λ usual name elements is. is)
 
 -- no name goes on, and no constructor follows
 pub record IsAfter (alias : Alias) (rest : List ℕ) : Type 0 where
@@ -130,10 +179,10 @@ free-after alias rest free = record {
 }
 
 module _ (rest name list : List ℕ) (is : IsUsual name list) (last : List ℕ) where
-  run_parts : (0 < length is.run) × (list_all is_name_byte is.run ≡ true)
+  pub run_parts : (0 < length is.run) × (list_all is_name_byte is.run ≡ true)
   run_parts = name-parts is.run is.run_bytes
 
-  list-text : list ++ rest ≡ is.run ++ 60 ∷ (joined (each_written as_it_is is.elements) ++ 62 ∷ rest)
+  pub list-text : list ++ rest ≡ is.run ++ 60 ∷ (joined (each_written as_it_is is.elements) ++ 62 ∷ rest)
   list-text =
       ap (λ t. t ++ rest) is.list_from ∙ append_assoc is.run (listed (each_written as_it_is is.elements)) rest
       ∙ ap (λ t. is.run ++ 60 ∷ t) (append_assoc (joined (each_written as_it_is is.elements)) (62 ∷ []) rest)
@@ -169,7 +218,7 @@ module _ (rest name list : List ℕ) (is : IsUsual name list) (last : List ℕ) 
       ∙ ap (λ t. record { bytes = t; size = 0 }) (append-nil before ∙ is.short) in
       ap (λ t. written_for short_rules 0 t (at [] last)) list-text
       ∙ name-opens short_rules is.run (joined (each_written as_it_is is.elements) ++ 62 ∷ rest) [] last run_parts.0 run_parts.1 (ap is_some is.named_is)
-      ∙ each-goes short_rules short_bytes is_simple_list short-obeys is.elements a.1 a.0 is.run last [] [] rest name (ap (λ o. of_short.for_list o is.run xs rest) is.named_is ∙ answer)
+      ∙ each-goes short_rules short_bytes is_simple_list short-obeys is_listed (listed-calls short_rules short_bytes) is.elements a.1 is.plain a.0 is.run last [] [] [] rest name (ap (λ o. of_short.for_list o is.run xs rest) is.named_is ∙ answer)
 
   -- full texts leave the list
   pub full-list : written_for (full_rules (full_to 3)) 0 (list ++ rest) (at [] last) ≡ written_for (full_rules (full_to 3)) 0 rest (at [] (last ++ list))
@@ -183,5 +232,5 @@ module _ (rest name list : List ℕ) (is : IsUsual name list) (last : List ℕ) 
       λ o e. subst (λ o. of_full.for_list inner is.run ys o ≡ record { bytes = (of_full.for_list inner is.run ys o).bytes; size = 0 }) (sym e) refl in
       ap (λ t. written_for (full_rules inner) 0 t (at [] last)) list-text
       ∙ name-opens (full_rules inner) is.run (joined (each_written as_it_is is.elements) ++ 62 ∷ rest) [] last run_parts.0 run_parts.1 (ap (λ b. b || is_some (pmr_in is.run)) opening)
-      ∙ each-goes (full_rules inner) (full_bytes inner) is_simple_list (full-obeys inner) is.elements a.1 a.0 is.run last [] [] rest list
+      ∙ each-goes (full_rules inner) (full_bytes inner) is_simple_list (full-obeys inner) is_listed (listed-calls (full_rules inner) (full_bytes inner)) is.elements a.1 is.plain a.0 is.run last [] [] [] rest list
       (sized (named_in is.run) is.named_is ∙ ap (λ t. record { bytes = t; size = 0 }) is.whole)

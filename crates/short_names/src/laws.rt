@@ -3,10 +3,12 @@ ghost use Rattle.std.specs.List.{list_all};
 ghost use Rattle.std.specs.Prelude.{◌≡◌, ◌++◌, ◌&&◌, ℕ, Bool, true, List, codes};
 ghost use Rattle.short_names.specs.Full.{full, full_rules, full_to};
 ghost use Rattle.short_names.specs.Laws.{AreAlike, HasNoRow, HasNoStd, IsNoLonger, KeepsFull, KeepsShort};
-ghost use Rattle.short_names.specs.Parts.{IsMade, is_simple_list, simple_names};
+ghost use Rattle.short_names.specs.Parts.{IsMade, is_simple_list, is_usual, simple_names};
 ghost use Rattle.short_names.specs.Short.{short};
-ghost use Rattle.short_names.specs.Usual.{GoesOn, IsUsual, IsWhole};
+ghost use Rattle.short_names.specs.Texts.{text_of};
+ghost use Rattle.short_names.specs.Usual.{GoesOn, IsConstructed, IsUsual, IsWhole};
 ghost use Rattle.short_names.specs.Walk.{Pairs};
+ghost use Rattle.short_names.specs.declared.table.TheConstants.{ALIASES};
 
 /// No short text is longer than its text.
 pub fn short_texts_are_no_longer()
@@ -34,22 +36,32 @@ pub fn texts_without_rows_stay()
     ensures laws { (text : List ℕ) → HasNoRow text → KeepsFull text × KeepsShort text }
 {}
 
-/// In a text that is made of parts of which each list is one of a template without usual names, by no allocator of `std::pmr`, short texts keep
-/// full ones, and full texts keep short ones.
+/// In a text that is made of parts of which each list is one of a template of the table, by no allocator of `std::pmr`, or its usual name, short
+/// texts keep full ones, and full texts keep short ones. Where a list may have a usual name, neither a name nor a list comes after it. So two
+/// such texts have one short text exactly where they have one full text.
 pub fn texts_of_lists_keep()
     ensures laws { (text : List ℕ) → IsMade text → KeepsFull text × KeepsShort text }
+    ensures alike { (text other : List ℕ) → IsMade text → IsMade other → AreAlike text other }
     ensures templates { list_all (λ name. is_simple_list (codes "std::" ++ name) && is_simple_list (codes "std::__1::" ++ name)) simple_names ≡ true }
+    ensures usual_names { list_all (λ row. is_usual (codes "std::" ++ text_of row.name) && is_usual (codes "std::__1::" ++ text_of row.name)) ALIASES ≡ true }
     ensures example { IsMade (codes "f(std::map<int, std::vector<g<long>>>&)") }
+    ensures usual { IsMade (codes "std::vector<std::string>") }
+    ensures adaptor { IsMade (codes "std::stack<int, std::deque<int, std::allocator<int>>>") }
+    ensures full { IsMade (codes "std::vector<std::__cxx11::basic_string<char, std::char_traits<char>, std::allocator<char>>>") }
 {}
 
 /// So they do in a text that has usual names, or the lists in full that those are for, outside of its other lists, where neither a list comes
-/// after them nor a name, but one of a member that is no constructor. So two such texts have one short text exactly where they have one full text.
+/// after them nor a name, but that of a member, or of a constructor or destructor: that of the class after a usual name, and that of the template
+/// after its list. So two such texts have one short text exactly where they have one full text.
 pub fn texts_of_usual_names_keep()
     ensures laws { (text : List ℕ) → IsWhole text → KeepsFull text × KeepsShort text }
     ensures alike { (text other : List ℕ) → IsWhole text → IsWhole other → AreAlike text other }
     ensures string { IsUsual (codes "std::string") (codes "std::basic_string<char, std::char_traits<char>, std::allocator<char>>") }
     ensures member { (is : IsUsual (codes "std::string") (codes "std::basic_string<char, std::char_traits<char>, std::allocator<char>>"))
         × GoesOn (codes "std::string") (codes "std::basic_string<char, std::char_traits<char>, std::allocator<char>>") (codes "::append") is.alias }
+    ensures constructors { (is : IsUsual (codes "std::string") (codes "std::basic_string<char, std::char_traits<char>, std::allocator<char>>"))
+        × ((destructor : Bool) → IsConstructed destructor (codes "std::string") (codes "std::basic_string<char, std::char_traits<char>, std::allocator<char>>")
+        (codes "string") (codes "basic_string") is.alias) }
     ensures inlined { IsUsual (codes "std::__cxx11::string") (codes "std::__cxx11::basic_string<char, std::char_traits<char>, std::allocator<char>>") }
     ensures stream { IsUsual (codes "std::ostream") (codes "std::basic_ostream<char, std::char_traits<char>>") }
 {}

@@ -2,3 +2,4 @@ pub mod Ending
 pub mod Kept
 pub mod Telling
 pub mod Typed
+mod Parting

@@ -1,5 +1,5 @@
-//! The calls of the static library as plain functions: a name's text, the texts of many names, a filtered text, a pressed
-//! spelling, and the work of reading a symbol, each with an outcome and into a buffer that the caller has.
+//! The calls of the static library as plain functions: a name's text, the same with its parts, the texts of many names, a filtered
+//! text, a pressed spelling, and the work of reading a symbol, each with an outcome and into a buffer that the caller has.
 //!
 //! `symdemangle` exports each of them to C.
 #![tactic(auto)]
@@ -9,11 +9,13 @@ mod counting;
 mod filtering;
 pub mod flags;
 pub mod outcome;
+pub mod parts;
 mod text;
 mod texts;
 
 pub use counting::{SymbolCounts, counts_of};
 pub use filtering::{TextTally, filter_of};
 pub use outcome::Outcome;
+pub use parts::{NameFound, NamePart, parts_of};
 pub use text::{press_of, text_of};
 pub use texts::texts_of;

@@ -19,7 +19,7 @@ use Rattle.wide_press.specs.Kept.{kept}
 use Rattle.sym_languages.specs.Languages.{with_front}
 use Rattle.sym_languages.specs.Pressed.{pressed_answer}
 
--- the most bytes of a spelling that is answered for a symbol of so many
+-- the most bytes of a spelling that is answered for a symbol of n bytes
 abbrev pub most_pressed : ℕ → ℕ
 most_pressed n = min (pressed_a_byte * n) MOST_BYTES
 

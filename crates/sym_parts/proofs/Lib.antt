@@ -1,3 +1,6 @@
 pub mod Marks
 pub mod Placing
 pub mod Turns
+pub mod Splitting
+pub mod Growing
+pub mod Walking

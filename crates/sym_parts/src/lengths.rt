@@ -1,10 +1,13 @@
-// How long the text of a part of a layout's item is.
+// How long the texts of parts of a layout's item are.
 #![tactic(auto)]
 
 ghost use Rattle.std.specs.Prelude.{◌≡◌, ◌<◌, ◌≤◌, ◌⊎◌, length, Err, IfErr, IfOk, OnOk};
 ghost use Rattle.sym_core.specs.declared.refusal.Refusal.{Refusal};
-ghost use Rattle.sym_print.specs.Joined.{text_of_part, cost_of_part};
+ghost use Rattle.sym_print.specs.Joined.{joined, text_of_part, cost_of_part};
+ghost use Rattle.sym_print.specs.Unshared.{text_of};
+ghost use Rattle.sym_parts.specs.Split.{ArePayable};
 
+use crate::split::{Split, first_of};
 use std::alloc::Global;
 use sym_core::Refusal;
 use sym_print::{Layout, Part, Printer};
@@ -39,6 +42,57 @@ pub fn length_of_part<Y: Layout>(
                 return Err(Refusal::TooLong);
             }
             Ok(length as u32)
+        }
+    }
+}
+
+/// How many bytes a part has that costs at most this much.
+///
+/// # Errors
+///
+/// `Memory`.
+pub fn length_of<Y: Layout>(
+    y: &Y,
+    alloc: Global,
+    part: &Part<Y::Ctx>,
+    most: u32,
+) -> Result<u32, Refusal>
+    requires may_come { Y.may_come y.now part.now }
+    requires paid { cost_of_part (Y.unshared y.now) (Y.bytes_of y.now) part.now ≤ most }
+    ensures length { IfOk result (λ n. n ≡ length (text_of_part (Y.unshared y.now) (Y.bytes_of y.now) part.now)) }
+    ensures refusals { IfErr result (λ refusal. refusal ≡ Refusal.Memory) }
+{
+    length_of_part(alloc, y, part, most)
+}
+
+/// How many bytes parts have that cost at most this much.
+///
+/// # Errors
+///
+/// `Memory`.
+pub fn length_of_all<Y: Layout>(
+    y: &Y,
+    alloc: Global,
+    parts: &[Part<Y::Ctx>],
+    most: u32,
+) -> Result<u32, Refusal>
+    requires { ArePayable (Y.unshared y.now) (Y.bytes_of y.now) (Y.may_come y.now) most parts.now }
+    ensures length { IfOk result (λ n. n ≡ length (text_of (joined (Y.unshared y.now) (Y.bytes_of y.now) parts.now))) }
+    ensures refusals { IfErr result (λ refusal. refusal ≡ Refusal.Memory) }
+{
+    let mut length = 0;
+    let mut left = parts;
+    'parts: loop {
+        match first_of(y, left, most) {
+            Split::Nothing => return Ok(length),
+            Split::Text(text, rest) => {
+                length += length_of(y, alloc, text, most)?;
+                left = rest;
+            }
+            Split::Item(item, rest) => {
+                length += length_of(y, alloc, &Part::Sub(*item), most)?;
+                left = rest;
+            }
         }
     }
 }

@@ -24,6 +24,10 @@ rows_0 =
     prints "_ZN1AcvDk1CEv" "A::operator C auto()" 28 ∷
     prints "_ZN1AF1fB1tEv" "A::f[abi:t]()" 19 ∷
     prints "_ZN1ACI1St1BEi" "A::A(int)" 17 ∷
+    prints "_ZN1ACI1N1C1BEIcEET_S3_" "A::A<char>(char, char)" 41 ∷
+    prints "_ZN1ACI1N1C1BEIcEEPT_S2_" "A::A<char>(char*, char*)" 47 ∷
+    refers_badly "_ZN1ACI1N1C1BEIcEEPT_S1_" 21 ∷
+    prints "_Z1fITk2IsIiEiTkS0_IiEcEvT_T0_" "void f<int, char>(int, char)" 50 ∷
     prints "_ZTCN1AM1bE0_1C" "construction vtable for C-in-A::b" 41 ∷
     prints "_Z1fIiEDTilEET_" "decltype({}) f<int>(int)" 39 ∷
     prints "_Z1fIiEDTtiT_ET_" "decltype(typeid (int)) f<int>(int)" 53 ∷

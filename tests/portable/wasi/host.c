@@ -18,6 +18,7 @@
 #define port_close wasi_close
 #define port_open wasi_open
 #define port_statx wasi_statx
+#define port_isatty wasi_isatty
 #define port___sysv_signal wasi_signal
 #include "wasi.c"
 

@@ -86,6 +86,12 @@ uint32_t port_statx(uint32_t folder, uint8_t *path, uint32_t flags, uint32_t mas
     return (uint32_t)-1;
 }
 
+uint32_t port_isatty(uint32_t stream)
+{
+    (void)stream;
+    return 0;
+}
+
 uint64_t port___sysv_signal(uint32_t number, uint64_t handler)
 {
     (void)number;

@@ -66,7 +66,7 @@ pub record EncodingRead (around : Around) (v : Value) (old new : State) : Type 0
   pub value : v ≡ tree (tree_of v) true
   pub fits : WholeFits around (tree_of v) old new
 
--- an encoding after a T, but for the T
+-- an encoding after a T, without the T
 abbrev pub SpecialRead : Around → Value → (old new : State) → Type 0
 SpecialRead around v old new =
     ((l : ℕ) × (type : Term) × (v ≡ tree (special l type) true) × (l < 256) × (choose Kind.Special l ≡ Some Production.SpecialType)
@@ -77,7 +77,7 @@ SpecialRead around v old new =
 abbrev pub OwnNameRead : Around → Value → (old new : State) → Type 0
 OwnNameRead around v old new = OwnNameFits around (tree_of v) (qualifiers_of v) (ref_of v) old new × IsAbiMark (ref_of v)
 
--- a guard variable, but for the G
+-- a guard variable, without the G
 abbrev pub GuardRead : Around → Value → (old new : State) → Type 0
 GuardRead around v old new =
     (name : Value) × (v ≡ tree (of_name 86 (tree_of name) (qualifiers_of name) (ref_of name)) true) × OwnNameRead around name old new

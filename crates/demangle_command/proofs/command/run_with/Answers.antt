@@ -1,77 +1,22 @@
-use Rattle.std.proofs.Common.{◌≡◌, ◌∙◌, ap, sym, map, Bor, List, ℕ, Vec, Global}
+use Rattle.std.proofs.Common.{ap, map, Bor, List, ℕ}
 use Rattle.clap.specs.Words.{found_of, rows_of}
-use Rattle.sym_command.proofs.CommandLemmas.{no-words}
-use Rattle.sym_command.proofs.PageLemmas.{OnErr-anyway}
-use Rattle.demangle_command.specs.Command.{escaped_by}
 use Rattle.demangle_command.specs.Texts.{bytes_of}
-use Rattle.demangle_command.proofs.CommandLemmas.{input-ends, input-stops, names-end, names-stop, objects-end, objects-stop, stops-unbegun}
-use Rattle.demangle_command.proofs.TextLemmas.{some-words}
+use Rattle.demangle_command.proofs.CommandLemmas.{objects-end, objects-stop, uncolored-are}
 use Rattle.demangle_command.proofs.command.run_with.Goals as goal
 
 pub returns-then-options-clause-ok : goal.returns-then-options-clause-ok
 returns-then-options-clause-ok g c =
-    let texts = c.names_of-texts.result.now in
-    objects-end (rows_of (found_of c.args.matches.now)) c.args.options (g.D.Demangler.answer c.args.demangler) (map bytes_of (map (λ (text : Bor (List ℕ)). text.now) texts)) c.write_objects.result
+    let texts = c.names_of.result.now in
+    objects-end (rows_of (found_of c.args.matches.now)) c.args.terminal c.args.options (g.D.Demangler.answer c.args.demangler) (g.D.Detailed.details c.args.demangler) (map bytes_of (map (λ (text : Bor (List ℕ)). text.now) texts)) c.write_objects.result
     (g.S.Source.coming c.args.input.now) (g.S.Source.coming c.write_objects.new.input) (g.W.Sink.taken c.args.out.now) (g.W.Sink.taken c.write_objects.new.out) (g.E.Sink.taken c.args.err.now)
-    c.requires.given c.if-options.true c.requires.texts (ap (map bytes_of) c.names_of-texts.ensures) c.write_objects.ensures.ok
+    c.requires.given c.if-options.true c.requires.texts c.requires.details (ap (map bytes_of) c.names_of.ensures) c.write_objects.ensures.ok
 
 pub returns-then-options-clause-err : goal.returns-then-options-clause-err
 returns-then-options-clause-err g c =
-    let texts = c.names_of-texts.result.now in
-    objects-stop (rows_of (found_of c.args.matches.now)) c.args.options (g.D.Demangler.answer c.args.demangler) (map bytes_of (map (λ (text : Bor (List ℕ)). text.now) texts)) c.write_objects.result
+    let texts = c.names_of.result.now in
+    objects-stop (rows_of (found_of c.args.matches.now)) c.args.terminal c.args.options (g.D.Demangler.answer c.args.demangler) (g.D.Detailed.details c.args.demangler) (map bytes_of (map (λ (text : Bor (List ℕ)). text.now) texts)) c.write_objects.result
     (g.S.Source.coming c.args.input.now) (g.S.Source.coming c.write_objects.new.input) (g.W.Sink.taken c.args.out.now) (g.W.Sink.taken c.write_objects.new.out) (g.E.Sink.taken c.args.err.now)
-    c.requires.given c.if-options.true c.requires.texts (ap (map bytes_of) c.names_of-texts.ensures) c.write_objects.ensures.err
+    c.requires.given c.if-options.true c.requires.texts c.requires.details (ap (map bytes_of) c.names_of.ensures) c.write_objects.ensures.err
 
-pub returns-in-Ok-clause-ok : goal.returns-in-Ok-clause-ok
-returns-in-Ok-clause-ok g c =
-    let options = c.args.options in
-    let answers = escaped_by options.escape (g.D.Demangler.answer c.args.demangler) in
-    let same = ap (escaped_by options.escape) c.requires.texts in
-    let texts = c.names_of-texts.result.now in
-    let names = map bytes_of (map (λ (text : Bor (List ℕ)). text.now) texts) in
-    let rows = rows_of (found_of c.args.matches.now) in
-    input-ends rows options answers names c.in-Ok.status (g.S.Source.coming c.args.input.now) (g.S.Source.coming c.filter_input.new.input) (g.W.Sink.taken c.args.out.now) (g.W.Sink.taken c.filter_input.new.out)
-    (g.E.Sink.taken c.args.err.now) (g.E.Sink.taken c.filter_input.new.err) c.requires.given c.if-options.false same (ap (map bytes_of) c.names_of-texts.ensures) (ap (map bytes_of) (no-words texts (sym c.is_empty.ensures ∙ c.if-is_empty.true))) c.in-Ok.ensures.ok
-
-pub returns-in-Err-clause-err : goal.returns-in-Err-clause-err
-returns-in-Err-clause-err g c =
-    let options = c.args.options in
-    let answers = escaped_by options.escape (g.D.Demangler.answer c.args.demangler) in
-    let same = ap (escaped_by options.escape) c.requires.texts in
-    let texts = c.names_of-texts.result.now in
-    let names = map bytes_of (map (λ (text : Bor (List ℕ)). text.now) texts) in
-    let rows = rows_of (found_of c.args.matches.now) in
-    input-stops rows options answers names (g.S.Source.coming c.args.input.now) (g.S.Source.coming c.filter_input.new.input) (g.W.Sink.taken c.args.out.now) (g.W.Sink.taken c.filter_input.new.out)
-    (g.E.Sink.taken c.args.err.now) (g.E.Sink.taken c.filter_input.new.err) c.requires.given c.if-options.false same (ap (map bytes_of) c.names_of-texts.ensures) (ap (map bytes_of) (no-words texts (sym c.is_empty.ensures ∙ c.if-is_empty.true))) c.in-Err.ensures.err
-
-pub returns-in-Ok-answer_names-clause-ok : goal.returns-in-Ok-answer_names-clause-ok
-returns-in-Ok-answer_names-clause-ok g c =
-    let options = c.args.options in
-    let answers = escaped_by options.escape (g.D.Demangler.answer c.args.demangler) in
-    let same = ap (escaped_by options.escape) c.requires.texts in
-    let texts = c.names_of-texts.result.now in
-    let names = map (λ (name : Bor (List ℕ)). name.now) c.deref-2.result.now in
-    let are : names ≡ map bytes_of (map (λ (text : Bor (List ℕ)). text.now) texts) = ap (map (λ (name : Bor (List ℕ)). name.now)) c.deref-2.ensures.value ∙ c.in_ok-lent.ensures ∙ ap (map (λ (word : Vec ℕ Global). word.items)) c.deref.ensures.value ∙ c.in_ok-names.ensures in
-    let rows = rows_of (found_of c.args.matches.now) in
-    names-end rows options answers names c.in-Ok-answer_names.one_stays c.status_of.result (g.S.Source.coming c.args.input.now) (g.W.Sink.taken c.args.out.now) (g.W.Sink.taken c.answer_names.new.out)
-    (g.E.Sink.taken c.args.err.now) (g.E.Sink.taken c.answer_names.new.err) c.requires.given c.if-options.false same (are ∙ ap (map bytes_of) c.names_of-texts.ensures) (λ none. some-words texts (sym c.is_empty.ensures ∙ c.if-is_empty.false) (sym are ∙ none)) c.in-Ok-answer_names.ensures.ok c.status_of.ensures
-
-pub returns-clause-err : goal.returns-clause-err
-returns-clause-err g c =
-    let options = c.args.options in
-    let answers = escaped_by options.escape (g.D.Demangler.answer c.args.demangler) in
-    let same = ap (escaped_by options.escape) c.requires.texts in
-    let texts = c.names_of-texts.result.now in
-    let names = map (λ (name : Bor (List ℕ)). name.now) c.deref-2.result.now in
-    let are : names ≡ map bytes_of (map (λ (text : Bor (List ℕ)). text.now) texts) = ap (map (λ (name : Bor (List ℕ)). name.now)) c.deref-2.ensures.value ∙ c.in_ok-lent.ensures ∙ ap (map (λ (word : Vec ℕ Global). word.items)) c.deref.ensures.value ∙ c.in_ok-names.ensures in
-    let rows = rows_of (found_of c.args.matches.now) in
-    names-stop rows options answers names (g.S.Source.coming c.args.input.now) (g.W.Sink.taken c.args.out.now) (g.W.Sink.taken c.answer_names.new.out)
-    (g.E.Sink.taken c.args.err.now) (g.E.Sink.taken c.answer_names.new.err) c.requires.given c.if-options.false same (are ∙ ap (map bytes_of) c.names_of-texts.ensures) c.in-Err-answer_names.ensures.err
-
-pub returns-in_err-names-clause-err : goal.returns-in_err-names-clause-err
-returns-in_err-names-clause-err g c =
-    OnErr-anyway c.from_residual.result _ (stops-unbegun (rows_of (found_of c.args.matches.now)) (g.S.Source.coming c.args.input.now) (g.W.Sink.taken c.args.out.now) (g.E.Sink.taken c.args.err.now))
-
-pub returns-in_err-lent-clause-err : goal.returns-in_err-lent-clause-err
-returns-in_err-lent-clause-err g c =
-    OnErr-anyway c.from_residual-in_err-lent.result _ (stops-unbegun (rows_of (found_of c.args.matches.now)) (g.S.Source.coming c.args.input.now) (g.W.Sink.taken c.args.out.now) (g.E.Sink.taken c.args.err.now))
+pub run_lines-requires-clause-texts : goal.run_lines-requires-clause-texts
+run_lines-requires-clause-texts g c = uncolored-are (g.D.Demangler.answer c.args.demangler) c.args.options c.requires.uncolored c.requires.texts

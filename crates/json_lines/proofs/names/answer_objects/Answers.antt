@@ -7,13 +7,14 @@ use Rattle.json_lines.proofs.names.answer_objects.Goals as goal
 
 pub names-init : goal.names-init
 names-init g c = record {
-  so_far = SoFar-begin c.args.options.types (reads_paths c.args.options.style) (g.D.Demangler.answer c.args.demangler.now) (g.W.Sink.taken c.args.out.now);
+  so_far = SoFar-begin c.args.options.types (reads_paths c.args.options.style) (g.D.Demangler.answer c.args.demangler.now) (g.D.Detailed.details c.args.demangler.now) (g.W.Sink.taken c.args.out.now);
   out_fails = refl;
 }
 
 pub names-preserved : goal.names-preserved
 names-preserved g c =
     let answers = g.D.Demangler.answer c.args.demangler.now in
+    let details = g.D.Detailed.details c.args.demangler.now in
     let now : Bor (List ℕ) → List ℕ = λ name. name.now in
     let names = c.args.names.now in
     let i = c.names.name-index in
@@ -21,7 +22,7 @@ names-preserved g c =
     let name = (get_or names i none).now in
     let before = c.names.invariant in
     let done = c.in-Ok.ensures in record {
-      so_far = SoFar-more c.args.options.types (reads_paths c.args.options.style) answers (map now (take i names)) (map now (take (i + 1) names)) name c.names.one_stays _ c.in-Ok.stays
+      so_far = SoFar-more c.args.options.types (reads_paths c.args.options.style) answers details (map now (take i names)) (map now (take (i + 1) names)) name c.names.one_stays _ c.in-Ok.stays
           (g.W.Sink.taken c.args.out.now) (g.W.Sink.taken c.names.out) (g.W.Sink.taken c.answer_object.new.out) before.so_far (words-more names i none c.names-test.true) done.line done.stays refl;
       out_fails = omega (arith, done.failures, before.out_fails);
     }
@@ -29,6 +30,7 @@ names-preserved g c =
 pub returns-in-Err-clause-err : goal.returns-in-Err-clause-err
 returns-in-Err-clause-err g c =
     let answers = g.D.Demangler.answer c.args.demangler.now in
+    let details = g.D.Detailed.details c.args.demangler.now in
     let now : Bor (List ℕ) → List ℕ = λ name. name.now in
     let names = c.args.names.now in
     let i = c.names.name-index in
@@ -36,6 +38,6 @@ returns-in-Err-clause-err g c =
     let name = (get_or names i none).now in
     let more = words-more names i none c.names-test.true in
     let rest = map now (drop (i + 1) names) in
-    SoFar-stopped c.args.options.types (reads_paths c.args.options.style) answers (map now (take i names)) rest (map now names) name c.names.one_stays
+    SoFar-stopped c.args.options.types (reads_paths c.args.options.style) answers details (map now (take i names)) rest (map now names) name c.names.one_stays
     (g.W.Sink.taken c.args.out.now) (g.W.Sink.taken c.names.out) (g.W.Sink.taken c.answer_object.new.out)
     c.names.invariant.so_far (words-split names (i + 1) ∙ ap (λ (t : List (List ℕ)). t ++ rest) more ∙ append_assoc (map now (take i names)) (name ∷ []) rest) c.in-Err.ensures.err

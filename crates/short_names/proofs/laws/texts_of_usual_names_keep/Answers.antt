@@ -2,7 +2,7 @@ use Rattle.std.proofs.Common.{◌∙◌, sym, ap}
 use Rattle.short_names.specs.Full.{full}
 use Rattle.short_names.specs.Short.{short}
 use Rattle.short_names.proofs.UsualLaws.{whole-keeps-full, whole-keeps-short}
-use Rattle.short_names.proofs.UsualNames.{inlined-string, std-stream, std-string, string-member}
+use Rattle.short_names.proofs.UsualNames.{inlined-string, std-stream, std-string, string-constructors, string-member}
 use Rattle.short_names.proofs.laws.texts_of_usual_names_keep.Goals as goal
 
 pub returns-clause-laws : goal.returns-clause-laws
@@ -17,6 +17,9 @@ returns-clause-string c = std-string
 
 pub returns-clause-member : goal.returns-clause-member
 returns-clause-member c = (std-string, string-member)
+
+pub returns-clause-constructors : goal.returns-clause-constructors
+returns-clause-constructors c = (std-string, string-constructors)
 
 pub returns-clause-inlined : goal.returns-clause-inlined
 returns-clause-inlined c = inlined-string

@@ -4,7 +4,6 @@ use Rattle.cpp_direct.proofs.Handed.{value-element, value-returned, value-signat
 use Rattle.cpp_direct.proofs.FunctionsWithin.{front-read, parameter-read-within, type-led}
 use Rattle.cpp_direct.proofs.LambdasRead.{lambda-parameter-read}
 use Rattle.cpp_direct.proofs.MemberFunctions.{member-parameter-read}
-use Rattle.cpp_direct.proofs.Arguments.{value-argument, value-argument-enumerator}
 use Rattle.cpp_direct.proofs.Signatures.{value-array}
 use Rattle.cpp_direct.proofs.direct.Direct.pass_closed.Goals as goal
 
@@ -77,21 +76,6 @@ base_ended-requires-clause-read g c =
 pub enumerator-requires-clause-awaits : goal.enumerator-requires-clause-awaits
 enumerator-requires-clause-awaits g c =
     value-enumerator _ c.args.self.now c.args.is_reference c.requires.writing (c.requires.waits ∙ ap (λ o. Some o) c.in-Enumerator.is)
-
-pub argument_enumerator-requires-clause-awaits : goal.argument_enumerator-requires-clause-awaits
-argument_enumerator-requires-clause-awaits g c =
-    value-argument-enumerator _ c.args.self.now c.args.is_reference c.in-ArgumentEnumerator.from c.in-ArgumentEnumerator.number c.in-ArgumentEnumerator.known
-    c.requires.writing (c.requires.waits ∙ ap (λ o. Some o) c.in-ArgumentEnumerator.is)
-
-pub argument_ended-requires-clause-read : goal.argument_ended-requires-clause-read
-argument_ended-requires-clause-read g c =
-    value-argument _ c.args.self.now false c.args.is_reference c.in-Argument.from c.in-Argument.number c.in-Argument.known
-    c.requires.writing (c.requires.waits ∙ ap (λ o. Some o) c.in-Argument.is)
-
-pub element_ended-requires-clause-read : goal.element_ended-requires-clause-read
-element_ended-requires-clause-read g c =
-    value-argument _ c.args.self.now true c.args.is_reference c.in-Element.from c.in-Element.number c.in-Element.known
-    c.requires.writing (c.requires.waits ∙ ap (λ o. Some o) c.in-Element.is)
 
 pub returns-in_default : goal.returns-in_default
 returns-in_default g c =

@@ -11,6 +11,14 @@ pub number_in_longer-requires-clause-other : goal.number_in_longer-requires-clau
 unfolding is_by_newer counted_of
 number_in_longer-requires-clause-other c = refl
 
+pub number_in_longer-requires-in-ByClang-clause-some : goal.number_in_longer-requires-in-ByClang-clause-some
+unfolding is_by_all counted_of
+number_in_longer-requires-in-ByClang-clause-some c = refl
+
+pub number_in_longer-requires-in-ByClang-clause-other : goal.number_in_longer-requires-in-ByClang-clause-other
+unfolding is_by_newer counted_of
+number_in_longer-requires-in-ByClang-clause-other c = refl
+
 pub number_in_longer-requires-in-BySome-clause-some : goal.number_in_longer-requires-in-BySome-clause-some
 unfolding is_by_all counted_of
 number_in_longer-requires-in-BySome-clause-some c = refl

@@ -8,7 +8,6 @@ use Rattle.cpp_link.specs.LinkRescoping.{linked_wide, steps_apart, with_mark, go
 use Rattle.cpp_link.specs.Making.{state_of}
 use Rattle.cpp_link.specs.Parts.{trees_in, values_in, is_lambda, around_of}
 use Rattle.cpp_link.specs.Progress.{Advances}
-use Rattle.cpp_link.specs.Reads.{with_candidates}
 use Rattle.cpp_link.specs.Room.{KeepsRoom}
 use Rattle.cpp_link.specs.Staying.{around_stays, kept_more}
 use Rattle.cpp_term.specs.Values.{Around}
@@ -69,33 +68,33 @@ returns-in_err-then c =
     (λ is none. absurd (no_pack (production_at frame.rule) _ _ c.requires.apart is))))
     c.in_err-then.ensures.full
 
-pub marked-mark-requires-clause-kept : goal.marked-mark-requires-clause-kept
-marked-mark-requires-clause-kept c =
+pub marked-marks-requires-clause-kept : goal.marked-marks-requires-clause-kept
+marked-marks-requires-clause-kept c =
     kept_more (length c.args.self.now.nodes.nodes) (length c.take_step.new.self.nodes.nodes) c.args.frame.now.kept c.in_ok-then.ensures.takes.grows.least c.requires.open.at.kept.surrounds.there
 
-pub marked-mark-requires-clause-there : goal.marked-mark-requires-clause-there
-marked-mark-requires-clause-there c = rw c.deref-2.ensures.value (rw (rest_all c.take_step.new.parts.items c.args.frame.now.base) c.in_ok-then.ensures.takes.there)
+pub marked-marks-requires-clause-there : goal.marked-marks-requires-clause-there
+marked-marks-requires-clause-there c = rw c.deref-2.ensures.value (rw (rest_all c.take_step.new.parts.items c.args.frame.now.base) c.in_ok-then.ensures.takes.there)
 
-pub returns-in_err-append_again : goal.returns-in_err-append_again
-returns-in_err-append_again c =
+pub returns-in_err-append_marks : goal.returns-in_err-append_marks
+returns-in_err-append_marks c =
     let s = c.args.symbol.now in
     let old = c.args.self.now in
     let mid = c.take_step.new.self in
-    let new = c.append_again.new.self in
+    let new = c.append_marks.new.self in
     let frame = c.args.frame.now in
     let parts = c.args.parts.now.items in
     let of = step_of_rule frame parts c.deref.result.now c.production_of-production.result c.in_ok-step.step c.deref.ensures.value c.production_of-production.ensures c.in_ok-step.ensures.of in
     let few = c.in_ok-then.ensures.few (production_at frame.rule) of (λ is none. absurd (no_pack (production_at frame.rule) _ _ c.requires.apart is)) in
-    lacking_advances (wide_view s) s old new frame c.args.parts.now c.take_step.new.parts (keeps_on old mid new c.take_step.ensures.keeps c.append_again.ensures.keeps) c.take_step.ensures.capacity
-    c.from_residual-in_err-append_again.result _ c.from_residual-in_err-append_again.ensures.1 c.in_err-append_again.ensures.memory
-    (refused_few s old new frame parts c.requires.room.paid (omega (arith, ap (λ y. length y.nodes) c.append_again.ensures.nodes, few))) (lacks_on old mid new c.take_step.ensures.keeps c.in_err-append_again.ensures.full)
+    lacking_advances (wide_view s) s old new frame c.args.parts.now c.take_step.new.parts (keeps_on old mid new c.take_step.ensures.keeps c.append_marks.ensures.keeps) c.take_step.ensures.capacity
+    c.from_residual-in_err-append_marks.result _ c.from_residual-in_err-append_marks.ensures.1 c.in_err-append_marks.ensures.memory
+    (refused_few s old new frame parts c.requires.room.paid (omega (arith, ap (λ y. length y.nodes) c.append_marks.ensures.nodes, few))) (lacks_on old mid new c.take_step.ensures.keeps c.in_err-append_marks.ensures.full)
 
 pub returns : goal.returns
 returns c =
     let s = c.args.symbol.now in
     let old = c.args.self.now in
     let mid = c.take_step.new.self in
-    let new = c.append_again.new.self in
+    let new = c.append_marks.new.self in
     let frame = c.args.frame.now in
     let parts = c.args.parts.now.items in
     let new_parts = c.take_step.new.parts.items in
@@ -107,13 +106,13 @@ returns c =
     let with_mark_in = λ (a : Around) (ps : List Part). with_mark production a (values_in s mid.nodes ps) (state_of s mid) in
     let marked = both with_mark_in (sym (around_stays s old.nodes mid.nodes takes.grows.stays frame.kept c.requires.open.at.kept.surrounds.there))
     (sym (rest_all c.deref-2.result.now frame.base ∙ ap (λ ps. drop frame.base ps) c.deref-2.ensures.value))
-    ∙ sym (both (λ b x. with_candidates b x (around_of (trees_in s mid.nodes) frame.kept) (trees_in s mid.nodes) c.marked-mark.result (state_of s mid)) (c.counts_again-again.ensures (trees_in s mid.nodes)) c.counted_before-counted.ensures ∙ c.marked-mark.ensures.is (state_of s mid)) ∙ c.in_ok-append_again.ensures.is (state_of s mid) in
-    let added : new ≡ record mid { candidates = new.candidates } = both (λ y p. record new { nodes = y; packs = p }) c.append_again.ensures.nodes c.append_again.ensures.packs ∙ ap (λ x. record mid { candidates = new.candidates; counting = x }) c.append_again.ensures.counting in
-    let keeps = subst (λ l. KeepsRoom old l) added (keeps_on old mid new c.take_step.ensures.keeps c.append_again.ensures.keeps) in
+    ∙ sym (c.marked-marks.ensures.is (state_of s mid)) ∙ c.in_ok-append_marks.ensures.is (state_of s mid) in
+    let added : new ≡ record mid { candidates = new.candidates } = both (λ y p. record new { nodes = y; packs = p }) c.append_marks.ensures.nodes c.append_marks.ensures.packs ∙ ap (λ x. record mid { candidates = new.candidates; counting = x }) c.append_marks.ensures.counting in
+    let keeps = subst (λ l. KeepsRoom old l) added (keeps_on old mid new c.take_step.ensures.keeps c.append_marks.ensures.keeps) in
     subst (λ l. Advances (wide_view s) s old l frame c.args.parts.now c.take_step.new.parts (Ok c.in_ok-then.then)) (sym added)
     (taken_advances (wide_view s) s old mid new.candidates frame c.args.parts.now c.take_step.new.parts keeps c.take_step.ensures.capacity c.in_ok-step.step c.in_ok-then.then of c.requires.room.paid takes
     (c.in_ok-then.ensures.few (production_at frame.rule) of (λ is none. absurd (no_pack (production_at frame.rule) _ _ c.requires.apart is))) c.in_ok-then.ensures.more
     (made_before_part s old frame parts own production (nodes_of_step c.in_ok-step.step) same c.production_of-production.ensures c.in_ok-step.ensures.makes)
     (goes_right (linked_wide s) between_wide (wide_reads s) s old frame parts own production same c.production_of-production.ensures mid new.candidates new_parts c.in_ok-step.step c.in_ok-then.then
-    (going_marked production (around_of (trees_in s old.nodes) frame.kept)) (wide_between_closed production _ _ _ _) (c.in_ok-step.ensures.is (state_of s old) refl) takes c.in_ok-append_again.ensures.there
+    (going_marked production (around_of (trees_in s old.nodes) frame.kept)) (wide_between_closed production _ _ _ _) (c.in_ok-step.ensures.is (state_of s old) refl) takes c.in_ok-append_marks.ensures.there
     (marking_is production (around_of (trees_in s old.nodes) frame.kept) _ _ marked)))

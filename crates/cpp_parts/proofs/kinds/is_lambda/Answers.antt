@@ -1,0 +1,14 @@
+use Rattle.std.proofs.Common.{◌∙◌, sym, ap}
+use Rattle.cpp_tree.specs.Views.{plain_tree}
+use Rattle.cpp_layout.specs.Layout.{table_of}
+use Rattle.cpp_parts.specs.Kinds.{is_lambda_piece, piece_of}
+use Rattle.cpp_parts.specs.KindNumbers.{is_lambda_by}
+use Rattle.cpp_parts.proofs.Kinding.{piece-by}
+use Rattle.cpp_parts.proofs.kinds.is_lambda.Goals as goal
+
+pub returns : goal.returns
+returns c =
+    c.is_lambda_name.ensures
+    ∙ ap is_lambda_by c.node.ensures.fields.production
+    ∙ sym (piece-by (plain_tree (table_of c.args.y.now) c.own_node.result)).2
+    ∙ ap (λ t. is_lambda_piece (piece_of t)) c.own_node.ensures.is

@@ -1,0 +1,14 @@
+use Rattle.std.proofs.Common.{◌∙◌, sym, ap}
+use Rattle.cpp_tree.specs.Views.{plain_tree}
+use Rattle.cpp_layout.specs.Layout.{table_of}
+use Rattle.cpp_parts.specs.Kinds.{is_string, piece_of}
+use Rattle.cpp_parts.specs.KindNumbers.{is_string_by}
+use Rattle.cpp_parts.proofs.Kinding.{piece-by}
+use Rattle.cpp_parts.proofs.kinds.is_string_name.Goals as goal
+
+pub returns : goal.returns
+returns c =
+    c.is_string.ensures
+    ∙ ap is_string_by c.node.ensures.fields.production
+    ∙ sym (piece-by (plain_tree (table_of c.args.y.now) c.own_node.result)).1
+    ∙ ap (λ t. is_string (piece_of t)) c.own_node.ensures.is

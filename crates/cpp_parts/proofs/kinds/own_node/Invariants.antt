@@ -1,0 +1,13 @@
+use Rattle.std.proofs.Common.{◌≡◌, ◌<◌, length, ℕ}
+use Rattle.cpp_layout.specs.Layout.{table_of}
+use Rattle.cpp_tree.specs.Views.{plain_tree}
+use Rattle.cpp_parts.specs.Kinds.{own_name}
+use Rattle.cpp_parts.proofs.kinds.own_node.Given as goal
+
+abbrev pub invariant-names : goal.invariant-names
+invariant-names l =
+    (own_name (plain_tree (table_of l.y) l.at) ≡ own_name (plain_tree (table_of l.y) l.fn.node))
+    × (l.at < length l.y.table.nodes)
+
+abbrev pub decreases-names : goal.decreases-names
+decreases-names l = l.at

@@ -1,0 +1,6 @@
+pub mod Texts
+pub mod Marking
+pub mod Sizes
+pub mod Whole
+pub mod Answering
+pub mod Rows

@@ -1,0 +1,53 @@
+-- The definitions, computed on symbols.
+use Rattle.std.specs.Prelude.{◌≡◌, ℕ, List, [], ◌∷◌, codes, length, Some, None}
+use Prim.Native.String.{String}
+use Rattle.std.proofs.Common.{refl}
+use Rattle.rust_legacy.specs.Path.{legacy_of}
+use Rattle.sym_parts.specs.Marked.{◌before◌, parts_from, parts_of, text_of}
+use Rattle.sym_parts.specs.Plain.{suffixed}
+use Rattle.sym_parts.specs.declared.kind.NameKind.{NameKind}
+use Rattle.sym_parts.specs.declared.kind.NameKind.TheVariants as kind
+use Rattle.sym_parts.specs.declared.part.Part.{Part}
+use Rattle.sym_parts.specs.declared.role.Role.{Role}
+use Rattle.sym_parts.specs.declared.role.Role.TheVariants as role
+use Rattle.legacy_parts.specs.Kinds.{kind_of_path}
+use Rattle.legacy_parts.specs.Roles.{before_last, names_marked, path_marked, root_role}
+
+abbrev part : Role → (start length : ℕ) → Part
+part r start length = record { role = r; start = start; length = length }
+
+-- the parts of a symbol's text, if it is a legacy name
+abbrev parts_in : String → List Part
+parts_in symbol = elim (legacy_of (codes symbol)) [ Some path ↦ parts_of (path_marked path) | None ↦ [] ]
+
+abbrev kind_in : String → NameKind
+kind_in symbol = elim (legacy_of (codes symbol)) [ Some path ↦ kind_of_path path | None ↦ kind.Item ]
+
+-- main
+row-alone : parts_in "_ZN4main17h0123456789abcdefE" ≡ part role.Base 0 4 ∷ []
+unfolding legacy_of before_last names_marked path_marked root_role parts_from text_of ◌before◌ suffixed
+row-alone = refl
+
+-- core::mem::swap
+row-crate : parts_in "_ZN4core3mem4swap17h0123456789abcdefE" ≡ part role.Scope 0 9 ∷ part role.Crate 0 4 ∷ part role.Base 11 4 ∷ []
+unfolding legacy_of before_last names_marked path_marked root_role parts_from text_of ◌before◌ suffixed
+row-crate = refl
+
+-- <a::B>::new (.cold)
+row-suffix : parts_in "_ZN13_$LT$a..B$GT$3new17h0123456789abcdefE.cold" ≡ part role.Scope 0 6 ∷ part role.Impl 0 6 ∷ part role.Base 8 3 ∷ part role.Suffix 13 5 ∷ []
+unfolding legacy_of before_last names_marked path_marked root_role parts_from text_of ◌before◌ suffixed lib.Utf8.encode
+row-suffix = refl
+
+-- a::b::{{closure}}
+row-closure : parts_in "_ZN1a1b28_$u7b$$u7b$closure$u7d$$u7d$17h0123456789abcdefE" ≡ part role.Scope 0 4 ∷ part role.Crate 0 1 ∷ part role.Base 6 11 ∷ []
+unfolding legacy_of before_last names_marked path_marked root_role parts_from text_of ◌before◌ suffixed lib.Utf8.encode
+row-closure = refl
+
+kind-of_closure : kind_in "_ZN1a1b28_$u7b$$u7b$closure$u7d$$u7d$17h0123456789abcdefE" ≡ kind.Closure
+unfolding legacy_of kind_of_path lib.Utf8.encode
+kind-of_closure = refl
+
+-- a::{{closure}}::b
+kind-of_value : kind_in "_ZN1a28_$u7b$$u7b$closure$u7d$$u7d$1b17h0123456789abcdefE" ≡ kind.Value
+unfolding legacy_of kind_of_path lib.Utf8.encode
+kind-of_value = refl

@@ -1,0 +1,14 @@
+-- What a legacy Rust name is.
+use Rattle.std.specs.Prelude.{ℕ, List, Bool, codes, length, ◌==◌, ◌&&◌, if◌then◌else◌}
+use Rattle.rust_legacy.specs.Path.{Path, begins_with}
+use Rattle.sym_parts.specs.declared.kind.NameKind.{NameKind}
+use Rattle.sym_parts.specs.declared.kind.NameKind.TheVariants as kind
+use Rattle.legacy_parts.specs.Roles.{last_of, shown}
+
+-- the text is {{closure}}
+abbrev pub is_closure : (shown : List ℕ) → Bool
+is_closure shown = begins_with (codes "{{closure}}") shown && (length shown == 11)
+
+-- a closure by the text of its last name; any other is a function, a constant or a static, which names don't tell apart
+unfoldable pub kind_of_path : Path → NameKind
+kind_of_path path = if is_closure (shown (last_of path.names)) then kind.Closure else kind.Value

@@ -1,0 +1,107 @@
+// The parts of a legacy name's text.
+#![tactic(auto)]
+
+ghost use Rattle.std.specs.Prelude.{◌≡◌, ◌+◌, ◌<◌, ◌≤◌, ◌⊎◌, ◌^◌, ◌++◌, ◌∷◌, [], Some, IfErr, IfOk, OnOk, List, codes, length, ℕ};
+ghost use Rattle.sym_core.specs.declared.refusal.Refusal.{Refusal};
+ghost use Rattle.rust_legacy.specs.Path.{IsPlaced, Path, legacy_of};
+ghost use Rattle.sym_parts.specs.Marked.{parts_of};
+ghost use Rattle.sym_parts.specs.declared.role.Role.TheVariants as roles;
+ghost use Rattle.legacy_parts.specs.Measures.{IsTextOf, parts_by, suffix_part};
+ghost use Rattle.legacy_parts.specs.Roles.{path_marked, root_role};
+
+use crate::names::{Names, measured};
+use rust_legacy::PathPlace;
+use std::alloc::Global;
+use sym_core::Refusal;
+use sym_parts::{Part, Parts, Role};
+
+/// The bytes of two colons.
+const COLONS: u32 = 2;
+
+/// What the first name of a scope is, by the text.
+fn root_of(text: &[u8]) -> Role
+    ensures { result ≡ root_role text.now }
+{
+    if text.starts_with(b"<") {
+        return Role::Impl;
+    }
+    Role::Crate
+}
+
+/// Adds the part that the last name is.
+///
+/// # Errors
+///
+/// `Memory`.
+fn push_base(found: &mut Parts, length: u32) -> Result<(), Refusal>
+    requires { found.old.place + length < 2 ^ 32 }
+    ensures parts { OnOk result (found.new.parts ≡ found.old.parts ++ record { role = roles.Base; start = found.old.place; length = length } ∷ []) }
+    ensures place { OnOk result (found.new.place ≡ found.old.place + length) }
+    ensures refusals { IfErr result (λ refusal. refusal ≡ Refusal.Memory) }
+{
+    found.begin(Role::Base, length)?;
+    found.skip(length);
+    Ok(())
+}
+
+/// Adds the parts of names that were measured to none.
+///
+/// # Errors
+///
+/// `Memory`.
+fn push_names(found: &mut Parts, root: Role, names: Names) -> Result<(), Refusal>
+    requires begins { found.old ≡ record { parts = []; place = 0 } }
+    requires colons { names.place ≡ 0 ⊎ 2 ≤ names.place }
+    requires fits { names.place + names.last < 2 ^ 32 }
+    ensures parts { OnOk result (found.new.parts ≡ parts_by root names) }
+    ensures place { OnOk result (found.new.place ≡ names.place + names.last) }
+    ensures refusals { IfErr result (λ refusal. refusal ≡ Refusal.Memory) }
+{
+    if names.place == 0 {
+        return push_base(found, names.last);
+    }
+    found.begin(Role::Scope, names.place - COLONS)?;
+    found.begin(root, names.first)?;
+    found.skip(names.place);
+    push_base(found, names.last)
+}
+
+/// Adds the part of a suffix of this many bytes, if there is one.
+///
+/// # Errors
+///
+/// `Memory`.
+fn push_suffix(found: &mut Parts, count: u32) -> Result<(), Refusal>
+    requires { count ≡ 0 ⊎ found.old.place + 2 < 2 ^ 32 }
+    ensures parts { OnOk result (found.new.parts ≡ found.old.parts ++ suffix_part found.old.place count) }
+    ensures refusals { IfErr result (λ refusal. refusal ≡ Refusal.Memory) }
+{
+    if count == 0 {
+        return Ok(());
+    }
+    found.skip(2);
+    found.begin(Role::Suffix, count)
+}
+
+/// The parts of the text of a legacy name, whose path is at a place that `path_of` found.
+///
+/// # Errors
+///
+/// `Memory` where the list couldn't grow.
+pub(crate) fn parts_in(
+    alloc: Global,
+    symbol: &[u8],
+    place: PathPlace,
+    text: &[u8],
+) -> Result<Vec<Part>, Refusal>
+    requires placed { IsPlaced symbol.now place }
+    requires text { IsTextOf symbol.now text.now }
+    requires fits { length text.now < 2 ^ 32 }
+    ensures parts { (path : Path) → legacy_of symbol.now ≡ Some path → IfOk result (λ parts. parts.items ≡ parts_of (path_marked path)) }
+    ensures refusals { IfErr result (λ refusal. refusal ≡ Refusal.Memory) }
+{
+    let mut found = Parts::new(alloc);
+    push_names(&mut found, root_of(text), measured(symbol, place.hash))?;
+    push_suffix(&mut found, (symbol.len() - place.end) as u32)?;
+    Ok(found.into_list())
+}

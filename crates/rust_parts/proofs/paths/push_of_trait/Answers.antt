@@ -1,0 +1,30 @@
+use Rattle.std.proofs.lemmas.Result.{on_ok_weaker}
+use Rattle.std.proofs.Common.{arith}
+use Rattle.sym_print.specs.Unshared.{text_of}
+use Rattle.sym_parts.specs.Marked.{◌before◌}
+use Rattle.rust_tree.specs.Layout.{unshared_of, bytes_of_part}
+use Rattle.rust_parts.specs.Tasks.{printed_by}
+use Rattle.rust_parts.proofs.Growing.{grow-same, grow-then, grow-plain, as-plain, grow-after}
+use Rattle.rust_parts.proofs.Standing.{trait-nothing, trait-item, trait-text-nothing, trait-text-text, trait-text-item}
+use Rattle.rust_parts.proofs.paths.push_of_trait.Goals as goal
+
+pub returns-in-Nothing-clause-grows : goal.returns-in-Nothing-clause-grows
+returns-in-Nothing-clause-grows c =
+    on_ok_weaker c.push_plain.result (λ is. as-plain c.args.y.now c.args.most _ _ (printed_by c.args.y.now c.args.parts.now) _ _ is (trait-nothing _ c.in-Nothing.ensures) (omega arith)) c.push_plain.ensures.tasks
+
+pub returns-in-Item-clause-grows : goal.returns-in-Item-clause-grows
+returns-in-Item-clause-grows c =
+    on_ok_weaker c.push_plain-in-Item.result (λ is. as-plain c.args.y.now c.args.most _ _ (printed_by c.args.y.now c.args.parts.now) _ _ is (trait-item _ _ _ c.in-Item.ensures.0) (omega arith)) c.push_plain-in-Item.ensures.tasks
+
+pub returns-in-Nothing-first_of-clause-grows : goal.returns-in-Nothing-first_of-clause-grows
+returns-in-Nothing-first_of-clause-grows c =
+    on_ok_weaker c.push_plain-in-Nothing-first_of.result (λ is. as-plain c.args.y.now c.args.most _ _ (printed_by c.args.y.now c.args.parts.now) _ _ is (trait-text-nothing _ _ _ c.in-Text.ensures.0 c.in-Nothing-first_of.ensures) (omega arith)) c.push_plain-in-Nothing-first_of.ensures.tasks
+
+pub returns-in-Text-first_of-clause-grows : goal.returns-in-Text-first_of-clause-grows
+returns-in-Text-first_of-clause-grows c =
+    on_ok_weaker c.push_plain-in-Text-first_of.result (λ is. as-plain c.args.y.now c.args.most _ _ (printed_by c.args.y.now c.args.parts.now) _ _ is (trait-text-text _ _ _ _ _ c.in-Text.ensures.0 c.in-Text-first_of.ensures.0) (omega arith)) c.push_plain-in-Text-first_of.ensures.tasks
+
+pub returns-in_ok-push_plain-in-Item-first_of-clause-grows : goal.returns-in_ok-push_plain-in-Item-first_of-clause-grows
+unfolding ◌before◌
+returns-in_ok-push_plain-in-Item-first_of-clause-grows c =
+    on_ok_weaker c.push_after.result (λ is. grow-same c.args.y.now c.args.most _ _ _ _ _ _ (grow-then c.args.y.now c.args.most _ _ _ _ _ _ _ (grow-plain c.args.y.now c.args.most _ _ (printed_by c.args.y.now c.in-Item-first_of.others.now) c.in_ok-push_plain-in-Item-first_of.ensures.tasks) (grow-after c.args.y.now c.args.most _ _ _ (bytes_of_part c.args.y.now c.in-Text.between.now) (text_of (unshared_of c.args.y.now c.in-Item-first_of.implemented.now)) is)) (trait-text-item _ _ _ _ _ c.in-Text.ensures.0 c.in-Item-first_of.ensures.0) (omega arith)) c.push_after.ensures.tasks

@@ -1,0 +1,24 @@
+use Rattle.std.proofs.lemmas.Result.{on_ok_weaker}
+use Rattle.std.proofs.Common.{sym, ap, arith, ◌∙◌}
+use Rattle.sym_print.specs.Unshared.{steps_of_parts}
+use Rattle.rust_tree.specs.Layout.{MayCome}
+use Rattle.rust_parts.specs.Tasks.{printed_by}
+use Rattle.rust_parts.proofs.Growing.{grow-same}
+use Rattle.rust_parts.proofs.Sorting.{name-by, sort-below}
+use Rattle.rust_parts.proofs.Taking.{parts-payable}
+use Rattle.rust_parts.specs.Sorts.{path_at}
+use Rattle.std.proofs.lemmas.List.Elements.{All-same}
+use Rattle.rust_parts.specs.Roles.{name}
+use Rattle.rust_parts.proofs.walk.take_name.Goals as goal
+
+pub push_name-requires-clause-below : goal.push_name-requires-clause-below
+push_name-requires-clause-below c =
+    sort-below c.args.y.now c.args.node _ c.path_sort-sort.result c.path_sort-sort.ensures c.requires.node
+
+pub push_name-requires-clause-paid : goal.push_name-requires-clause-paid
+push_name-requires-clause-paid c =
+    parts-payable c.args.y.now c.args.most c.args.item _ c.requires.item (c.parts-parts.ensures.parts ∙ ap (printed_by c.args.y.now) (sym c.deref.ensures.0)) (All-same (MayCome c.args.y.now) _ _ c.deref.ensures.0 c.parts-parts.ensures.may_come)
+
+pub returns-clause-grows : goal.returns-clause-grows
+returns-clause-grows c =
+    on_ok_weaker c.push_name.result (λ g. grow-same c.args.y.now c.args.most _ _ _ _ _ _ g (name-by c.args.y.now c.args.node c.path_sort-sort.result c.path_sort-sort.ensures _ ∙ sym (ap (name (path_at c.args.y.now c.args.node)) (c.parts-parts.ensures.parts ∙ ap (printed_by c.args.y.now) (sym c.deref.ensures.0)))) (omega (arith, ap steps_of_parts (c.parts-parts.ensures.parts ∙ ap (printed_by c.args.y.now) (sym c.deref.ensures.0))))) c.push_name.ensures.grows

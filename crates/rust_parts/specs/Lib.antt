@@ -1,0 +1,4 @@
+pub mod Roles
+pub mod Kinds
+pub mod Sorts
+pub mod Tasks

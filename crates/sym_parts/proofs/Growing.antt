@@ -1,0 +1,113 @@
+-- Tasks that are added before others, and the marks that they lead to.
+use Rattle.std.proofs.Common.{◌≡◌, ℕ, ◌+◌, ◌≤◌, List, ◌∷◌, ◌++◌, length, refl, sym, ap, ◌∙◌, arith, append_assoc, append-nil, subst}
+use Rattle.std.specs.List.{All}
+use Rattle.std.proofs.lemmas.List.Elements.{All-cons}
+use Rattle.sym_print.specs.Unshared.{Unshared}
+use Rattle.sym_print.specs.Unshared as printed
+use Rattle.sym_parts.specs.declared.role.Role.{Role}
+use Rattle.sym_parts.specs.Marked.{Marked, text, marked, text_of, ◌before◌}
+use Rattle.sym_parts.specs.Marked as marks
+use Rattle.sym_parts.specs.Marks.{skip, begin, marks_of}
+use Rattle.sym_parts.specs.Plain.{plain, whole, alone}
+use Rattle.sym_parts.proofs.Turns.{marks_of-before}
+use Rattle.sym_parts.specs.Tasks.{marks_of_task, marks_of_tasks, IsTask, weight_of_task, weight_of_tasks, Grows}
+use Rattle.sym_parts.specs.declared.task.Task.{Task}
+use Rattle.sym_parts.specs.declared.task.Task.TheVariants as task
+
+-- one marked text before another, before a third
+pub before-assoc : (m n o : Marked) → (m before n) before o ≡ m before (n before o)
+unfolding ◌before◌
+before-assoc marks.done n o = refl
+before-assoc (text b rest) n o = ap (text b) (before-assoc rest n o)
+before-assoc (marked r inside rest) n o = ap (marked r inside) (before-assoc rest n o)
+
+-- before nothing
+pub before-done : (m : Marked) → m before marks.done ≡ m
+unfolding ◌before◌
+before-done marks.done = refl
+before-done (text b rest) = ap (text b) (before-done rest)
+before-done (marked r inside rest) = ap (marked r inside) (before-done rest)
+
+module _ {T : Type 0} (marked_of : T → Marked) (IsLater : T → Type 0) (weight_of : T → ℕ) where
+  -- the same marks, in no more steps
+  pub grow-same : (old new : List (Task T)) (m n : Marked) (s t : ℕ) → Grows marked_of IsLater weight_of old new m s → m ≡ n → s ≤ t → Grows marked_of IsLater weight_of old new n t
+  grow-same old new m n s t grows same few = record {
+    adds = λ others behind taken adds.
+        let one = grows.adds others behind taken adds in
+        record {
+          marks = one.marks ∙ ap (λ p. marks_of (p before behind) ++ marks_of_tasks marked_of others) same;
+          all = one.all;
+          weight = omega (arith, one.weight, few);
+        };
+  }
+
+  -- one after the other: what is added later comes first
+  pub grow-then : (old between new : List (Task T)) (m n : Marked) (s t : ℕ) → Grows marked_of IsLater weight_of old between m s → Grows marked_of IsLater weight_of between new n t → Grows marked_of IsLater weight_of old new (n before m) (s + t)
+  grow-then old between new m n s t first second = record {
+    adds = λ others behind taken adds.
+        let one = second.adds others (m before behind) (taken + s) (first.adds others behind taken adds) in
+        record {
+          marks = one.marks ∙ ap (λ p. marks_of p ++ marks_of_tasks marked_of others) (sym (before-assoc n m behind));
+          all = one.all;
+          weight = omega (arith, one.weight);
+        };
+  }
+
+  -- this many bytes
+  pub grow-skip : (old new : List (Task T)) (n : ℕ) (b : List ℕ) → new ≡ task.Skip n ∷ old → n ≡ length b → Grows marked_of IsLater weight_of old new (text b marks.done) 1
+  unfolding marks_of ◌before◌ marks_of_tasks marks_of_task IsTask weight_of_tasks weight_of_task
+  grow-skip old new n b is long = record {
+    adds = λ others behind taken adds. record {
+      marks = ap (marks_of_tasks marked_of) is ∙ ap (λ ms. skip n ∷ ms) adds.marks ∙ ap (λ l. skip l ∷ (marks_of behind ++ marks_of_tasks marked_of others)) long;
+      all = λ h. subst (All (IsTask IsLater)) (sym is) (All-cons (IsTask IsLater) (task.Skip n) old tt (adds.all h));
+      weight = omega (arith, ap (weight_of_tasks weight_of) is, adds.weight);
+    };
+  }
+
+  -- the beginning of a part, before what is in it
+  pub grow-begin : (old between new : List (Task T)) (role : Role) (n : ℕ) (inside : Marked) (s : ℕ) → new ≡ task.Begin role n ∷ between → n ≡ length (text_of inside)
+      → Grows marked_of IsLater weight_of old between inside s → Grows marked_of IsLater weight_of old new (marked role inside marks.done) (s + 1)
+  unfolding marks_of ◌before◌ marks_of_tasks marks_of_task IsTask weight_of_tasks weight_of_task
+  grow-begin old between new role n inside s is long grows = record {
+    adds = λ others behind taken adds.
+        let one = grows.adds others behind taken adds in
+        record {
+          marks =
+              ap (marks_of_tasks marked_of) is
+              ∙ ap (λ ms. begin role n ∷ ms) (one.marks ∙ ap (λ ms. ms ++ marks_of_tasks marked_of others) (marks_of-before inside behind))
+              ∙ ap (λ l. begin role l ∷ ((marks_of inside ++ marks_of behind) ++ marks_of_tasks marked_of others)) long;
+          all = λ h. subst (All (IsTask IsLater)) (sym is) (All-cons (IsTask IsLater) (task.Begin role n) between tt (one.all h));
+          weight = omega (arith, ap (weight_of_tasks weight_of) is, one.weight);
+        };
+  }
+
+  -- what is taken apart later
+  pub grow-later : (old new : List (Task T)) (next : T) → new ≡ task.Later next ∷ old → IsLater next → Grows marked_of IsLater weight_of old new (marked_of next) (weight_of next)
+  unfolding marks_of_tasks marks_of_task IsTask weight_of_tasks weight_of_task
+  grow-later old new next is may = record {
+    adds = λ others behind taken adds. record {
+      marks =
+          ap (marks_of_tasks marked_of) is
+          ∙ ap (λ ms. marks_of (marked_of next) ++ ms) adds.marks
+          ∙ sym (append_assoc (marks_of (marked_of next)) (marks_of behind) (marks_of_tasks marked_of others))
+          ∙ ap (λ ms. ms ++ marks_of_tasks marked_of others) (sym (marks_of-before (marked_of next) behind));
+      all = λ h. subst (All (IsTask IsLater)) (sym is) (All-cons (IsTask IsLater) (task.Later next) old may (adds.all h));
+      weight = omega (arith, ap (weight_of_tasks weight_of) is, adds.weight);
+    };
+  }
+
+  -- what is printed, without a mark
+  pub grow-plain : (old new : List (Task T)) (u : Unshared) → new ≡ task.Skip (length (printed.text_of u)) ∷ old → Grows marked_of IsLater weight_of old new (plain u) 1
+  grow-plain old new u is = grow-skip old new (length (printed.text_of u)) (printed.text_of u) is refl
+
+  -- one part of this many bytes
+  pub grow-alone : (old new : List (Task T)) (role : Role) (n : ℕ) (b : List ℕ) → new ≡ task.Begin role n ∷ task.Skip n ∷ old → n ≡ length b
+      → Grows marked_of IsLater weight_of old new (alone role b marks.done) 2
+  unfolding text_of
+  grow-alone old new role n b is long =
+      grow-begin old (task.Skip n ∷ old) new role n (text b marks.done) 1 is (long ∙ ap length (sym (append-nil b))) (grow-skip old (task.Skip n ∷ old) n b refl long)
+
+  -- one part of all that is printed
+  pub grow-whole : (old new : List (Task T)) (role : Role) (u : Unshared) → new ≡ task.Begin role (length (printed.text_of u)) ∷ task.Skip (length (printed.text_of u)) ∷ old
+      → Grows marked_of IsLater weight_of old new (whole role u) 2
+  grow-whole old new role u is = grow-alone old new role (length (printed.text_of u)) (printed.text_of u) is refl

@@ -1,0 +1,24 @@
+-- What is printed, without a mark or as one part; and the suffix of a symbol.
+use Rattle.std.specs.Prelude.{ℕ, List}
+use Rattle.sym_print.specs.Unshared.{Unshared, bytes}
+use Rattle.sym_print.specs.Unshared as printed
+use Rattle.sym_parts.specs.Marked.{Marked, done, text, marked}
+use Rattle.sym_parts.specs.declared.role.Role.{Role}
+use Rattle.sym_parts.specs.declared.role.Role.TheVariants as role
+
+-- what is printed, without a mark
+abbrev pub plain : Unshared → Marked
+plain u = text (printed.text_of u) done
+
+-- all of it is one part
+abbrev pub whole : Role → Unshared → Marked
+whole r u = marked r (plain u) done
+
+-- a text before others
+abbrev pub alone : Role → List ℕ → (rest : Marked) → Marked
+alone r b rest = marked r (text b done) rest
+
+-- the suffix of a clone, which has parentheses around it
+unfoldable pub suffixed : Unshared → Marked
+suffixed (bytes opening (bytes suffix rest)) = text opening (alone role.Suffix suffix (plain rest))
+suffixed u = plain u

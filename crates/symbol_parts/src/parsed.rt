@@ -1,0 +1,12 @@
+// The text of a symbol with its parts.
+
+use sym_parts::{NameKind, Part};
+
+/// The text of a symbol, what the symbol is, and the parts of the text.
+#[derive(Drop)]
+pub struct Parsed {
+    pub text: Vec<u8>,
+    pub kind: NameKind,
+    /// In the order of their starts; of two, one is within the other, or they are apart.
+    pub parts: Vec<Part>,
+}

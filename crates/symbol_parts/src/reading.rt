@@ -1,0 +1,38 @@
+// Reading a symbol of a mangling, and taking its text apart.
+
+ghost use Rattle.std.specs.Prelude.{◌≡◌, ◌⊎◌, Err, IfErr, IfOk, Ok};
+ghost use Rattle.sym_core.specs.Number.{FitsSymbol};
+ghost use Rattle.sym_core.specs.declared.refusal.Refusal.TheVariants.{Memory};
+ghost use Rattle.symbol_parts.specs.Parsed.{found, parsed};
+
+use crate::marked::Marked;
+use crate::parsed::Parsed;
+use std::alloc::Global;
+use sym_core::Refusal;
+use sym_demangle::read;
+use sym_print::{Detail, print};
+
+/// The text of a symbol in a detail with its parts, if that costs at most the limit.
+///
+/// # Errors
+///
+/// Those of `sym_demangle::read`, and `TooLong` exactly where the text costs more.
+pub(crate) fn parse_as<M: Marked>(
+    alloc: Global,
+    symbol: &[u8],
+    limit: u32,
+    detail: Detail,
+) -> Result<Parsed, Refusal>
+    requires { FitsSymbol symbol.now }
+    ensures ok { IfOk result (λ p. parsed M.over M.marking detail symbol.now limit ≡ Ok (found p)) }
+    ensures err { IfErr result (λ e. (e ≡ Memory) ⊎ (parsed M.over M.marking detail symbol.now limit ≡ Err e)) }
+{
+    let read = read::<M>(alloc, symbol)?;
+    let text = print(alloc, &read, M::root(&read, detail), limit)?;
+    let parts = M::parts_as(alloc, &read, limit, detail)?;
+    Ok(Parsed {
+        text,
+        kind: M::kind_of(&read),
+        parts,
+    })
+}

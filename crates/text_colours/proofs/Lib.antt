@@ -1,0 +1,4 @@
+mod SliceLemmas
+mod MarkLemmas
+mod SequenceLemmas
+mod AnswerLemmas

@@ -1,0 +1,4 @@
+pub mod Styles
+pub mod Colored
+pub mod Shown
+pub mod Answers

@@ -1,0 +1,31 @@
+-- A marked text as it is shown, and a text for a terminal without its sequences.
+use Rattle.std.specs.Prelude.{◌≢◌, ℕ, ◌==◌, List, [], ◌∷◌, ◌++◌, Bool, true, false, not, if◌then◌else◌}
+use Rattle.sym_parts.specs.Marked.{Marked, done, text, marked, text_of}
+use Rattle.text_colours.specs.Styles.{plain, style_of}
+
+-- a marked stretch: its text in the style, where there is one and the text isn't empty, or else what it is shown as without
+abbrev pub shown_in : (style bytes without : List ℕ) → List ℕ
+shown_in [] bytes without = without
+shown_in (first ∷ style) [] without = without
+shown_in (first ∷ style) (byte ∷ bytes) without = (first ∷ style) ++ ((byte ∷ bytes) ++ plain)
+
+-- a marked text, with what each outermost mark that has a style surrounds in that style
+unfoldable pub colored_marked : Marked → List ℕ
+colored_marked done = []
+colored_marked (text bytes rest) = bytes ++ colored_marked rest
+colored_marked (marked role inside rest) = shown_in (style_of role) (text_of inside) (colored_marked inside) ++ colored_marked rest
+
+-- ## Without the sequences
+
+-- a byte that isn't ESC, with which a sequence begins
+abbrev pub IsPrinted : ℕ → Type 0
+IsPrinted byte = byte ≢ 27
+
+-- what is left of bytes, the first of which are in a sequence or not; a sequence ends with an m
+abbrev pub left_of : (in_sequence : Bool) → List ℕ → List ℕ
+left_of in_sequence [] = []
+left_of true (byte ∷ bytes) = left_of (not (byte == 109)) bytes
+left_of false (byte ∷ bytes) = if byte == 27 then left_of true bytes else byte ∷ left_of false bytes
+
+abbrev pub without_sequences : List ℕ → List ℕ
+without_sequences bytes = left_of false bytes

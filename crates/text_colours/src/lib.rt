@@ -1,0 +1,11 @@
+//! Texts of names whose parts a terminal tells apart: the name itself is bold, arguments and parameters are dim.
+#![tactic(auto)]
+
+mod coloring;
+mod demangler;
+mod laws;
+mod styles;
+
+pub use coloring::colored;
+pub use demangler::Colored;
+pub use laws::{colors_are_those_of_marks, colors_change_no_text};
