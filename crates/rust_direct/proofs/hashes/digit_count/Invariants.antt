@@ -1,7 +1,7 @@
 -- the bytes so far are digits
 use Rattle.std.proofs.Common.{◌≤◌, ◌-◌}
 use Rattle.rust_direct.specs.Hashes.{ReachesDigits}
-use Rattle.rust_direct.proofs.hashes.are_digits.Given as goal
+use Rattle.rust_direct.proofs.hashes.digit_count.Given as goal
 
 abbrev pub invariant-digits : goal.invariant-digits
 invariant-digits l =
