@@ -2,7 +2,7 @@ use Rattle.std.proofs.Common.{◌∙◌, sym, ap, arith}
 use Rattle.sym_print.specs.Unshared.{cost_of}
 use Rattle.cpp_parts.specs.Tasks.{printed_by}
 use Rattle.cpp_parts.proofs.Walking.{begins, first-task, other-tasks, fits-next, smaller, goes-on, ended}
-use Rattle.cpp_parts.proofs.walk.parts_as.Goals as goal
+use Rattle.cpp_parts.proofs.walk.stretches_as.Goals as goal
 
 pub tasks-init : goal.tasks-init
 tasks-init c =
@@ -27,5 +27,5 @@ tasks-preserved c =
     let next = goes-on c.args.y.now _ _ _ _ _ _ _ c.args.limit c.in-Some.ensures c.in_ok-take.ensures.lists c.tasks.invariant.1 c.tasks.invariant.2 in
     (c.in_ok-take.ensures.tasks, next.0, next.1)
 
-pub returns-clause-parts : goal.returns-clause-parts
-returns-clause-parts c = c.into_list.ensures ∙ ended c.args.y.now _ _ _ c.in_default.ensures c.tasks.invariant.1
+pub returns-clause-stretches : goal.returns-clause-stretches
+returns-clause-stretches c = c.into_list.ensures ∙ ended c.args.y.now _ _ _ c.in_default.ensures c.tasks.invariant.1

@@ -3,7 +3,7 @@ use Rattle.sym_print.specs.Unshared.{cost_of}
 use Rattle.rust_parts.specs.Tasks.{printed_by, marked_of, IsApart, weight_of}
 use Rattle.rust_parts.proofs.Taking.{begins-symbol}
 use Rattle.sym_parts.proofs.Walking.{first-task, other-tasks, fits-next, smaller, goes-on, ended}
-use Rattle.rust_parts.proofs.walk.parts_as.Goals as goal
+use Rattle.rust_parts.proofs.walk.stretches_as.Goals as goal
 
 pub tasks-init : goal.tasks-init
 tasks-init c =
@@ -29,6 +29,6 @@ pub tasks-preserved : goal.tasks-preserved
 tasks-preserved c =
     let next = goes-on (marked_of c.args.y.now) (IsApart c.args.y.now c.args.limit) (weight_of c.args.y.now) _ _ _ _ _ _ _ c.args.limit c.in-Some.ensures c.in_ok-take.ensures.lists c.tasks.invariant.1 c.tasks.invariant.2 in (c.in_ok-take.ensures.tasks, next.0, next.1)
 
-pub returns-clause-parts : goal.returns-clause-parts
-returns-clause-parts c =
+pub returns-clause-stretches : goal.returns-clause-stretches
+returns-clause-stretches c =
     c.into_list.ensures ∙ ended (marked_of c.args.y.now) (IsApart c.args.y.now c.args.limit) (weight_of c.args.y.now) _ _ _ c.in_default.ensures c.tasks.invariant.1
