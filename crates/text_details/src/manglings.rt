@@ -1,7 +1,7 @@
 // How symbols are mangled.
 ghost use Rattle.std.specs.Prelude.{◌≡◌, is_some};
 ghost use Rattle.rust_legacy.specs.Path.{legacy_of};
-ghost use Rattle.json_lines.specs.Meanings.{language_of, mangling_name, mangling_of};
+ghost use Rattle.text_details.specs.Manglings.{language_of, mangling_name, mangling_number, mangling_of};
 
 use rust_legacy::path_of;
 use sym_filter::Lang;
@@ -39,10 +39,21 @@ impl Mangling {
             Mangling::RustLegacy => "rust-legacy",
         }
     }
+
+    /// Its number, from 1 on. It stays from one version to the next.
+    pub fn number(self) -> u32
+        ensures { result ≡ mangling_number self }
+    {
+        match self {
+            Mangling::Itanium => 1,
+            Mangling::RustV0 => 2,
+            Mangling::RustLegacy => 3,
+        }
+    }
 }
 
 /// The mangling of a symbol. A legacy Rust name is one of C++, too, and of Rust only where it is read as a path.
-pub(crate) fn mangling_of(reads_paths: bool, lang: Lang, symbol: &[u8]) -> Mangling
+pub fn mangling_of(reads_paths: bool, lang: Lang, symbol: &[u8]) -> Mangling
     ensures { result ≡ mangling_of reads_paths lang symbol.now }
 {
     match lang {
